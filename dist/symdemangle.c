@@ -190,6 +190,7 @@ typedef struct{u8 f0;u32 f1;}s_8_32;
 typedef struct{u8 f0;u64 f1;}s_8_64;
 typedef struct{u8 f0;u8 f1;}s_8_8;
 typedef struct{u8* f0;u64 f1;}s_p_64;
+typedef struct{u32 f0;u32 f1;}s_32_32;
 static s_64_64 port_rattle_realloc(u8*,u64,u64,u64);
 static s_64_64 port_rattle_alloc(u64,u64);
 static void port_rattle_dealloc(u8*);
@@ -482,6 +483,11 @@ static const u8 t_0d4d[16]="const restrict ";
 static const u8 t_0db5[2089]="                                                           Z                                                         HC     I   MN         XY                                                               HC     I   MN         XY                                           .                                                                            \?         \? \?\?\?\?\?\?\?\?\?\?       \?\?\?\?\?\?\?\?\?\?\?\?\?\?\?\?\?\?\?\?\?\?\?\?\?\?    \? \?\?\?\?\?\?\?\?\?\?\?\?\?\?\?\?\?\?\?\?\?\?\?\?\?\?@         @ @@@@@@@@@@       @@@@@@@@@@@@@@@@@@@@@@@@@@    @ @@@@@@@@@@@@@@@@@@@@@@@@@@                             //////////////////////////      //////////////////////////                                                                               :                   2222222222                                                         ; 3                 2222222222                                                           3                                  ,,,, ,  , K<,,,,,,,,   ,,       ,,,,,, ,,, ,,,,,  ,,,, ,,,                             ABCD F  I   MNOPQRST   XY       444444 444 44444  4444 444                             ++++E+  +   ++++++++   ++       ++++++ +++ +++++  ++++ +++                                        L                                                                                      L                                                                                 G                                                                                                    U                                                                            V                                                           2222222222         W                                                 3                                   >> [   >   >>         >>                                                                                                             =                                        J                              578    656 56569  56   56                                                                           -                        01                                                                         ";
 static const u8 t_0e39[12]="operator<<=";
 static const u8 t_0ead[6]="new[]";
+static const u8 t_0ef9[270]={0,0,0,0,0,0,0,0,0,0,0,0,0,0,0,0,0,0,0,0,0,0,0,0,0,0,0,0,0,0,0,0,2,0,10,10,10,10,10,0,0,0,4,4,8,4,1,0,5,5,6,2,4,4,4,2,0,0,
+0,0,9,7,11,12,0,9,9,9,9,9,11,12,4,4,15,10,10,10,10,4,0,0,0,0,10,0,0,0,0,0,0,0,0,0,0,0,0,0,0,0,0,0,0,0,0,0,0,0,0,0,0,0,0,0,
+0,0,0,0,0,0,0,0,0,0,0,0,18,14,16,16,16,17,17,0,0,0,0,0,0,0,0,0,0,0,0,0,0,0,0,0,0,0,0,0,0,0,14,0,0,0,0,0,0,4,0,0,0,0,0,0,0,
+0,0,0,0,0,0,0,0,0,0,0,0,0,0,0,0,0,0,0,0,0,0,0,0,0,0,0,0,0,0,0,0,0,0,0,0,0,0,0,0,0,0,0,0,0,0,0,0,0,0,0,0,0,0,0,0,0,0,0,0,0,
+0,0,0,0,0,0,0,0,0,0,0,0,0,0,0,4,2,3,0,0,0,0,0,13,0,0,0,0,0,0,4,0,10,4,4,9,9,2};
 static const u8 t_0f44[6]="std::";
 static const u8 t_0f6a[22]=" restrict && noexcept";
 static const u8 t_0f6e[22]=" volatile && noexcept";
@@ -1652,6 +1658,7 @@ static const u8 t_e97f[11]="{lambda()#";
 static const u8 t_e9c6[6]=" long";
 static const u8 t_eab6[5]=" == ";
 static const u8 t_ead1[5]=" >> ";
+static const u8 t_eb43[257]="\0\0\0\0\0\0\0\0\0\0\0\0\0\0\0\0\0\0\0\0\0\0\0\0\0\0\0\0\0\0\0\0\0\0\0\0\0\0\0\0\0\0\0\0\0\0\0\0\0\0\0\0\0\0\0\0\0\0\0\0\0\0\0\0\0\1\1\1\1\1\1\1\1\1\1\1\1\1\1\1\1\1\1\1\1\1\1\1\1\1\1\0\0\0\0\0\0\1\1\1\1\1\1\1\1\1\1\1\1\1\1\1\1\1\1\1\1\1\1\1\1\1\1\0\0\0\0\0\0\0\0\0\0\0\0\0\0\0\0\0\0\0\0\0\0\0\0\0\0\0\0\0\0\0\0\0\0\0\0\0\0\0\0\0\0\0\0\0\0\0\0\0\0\0\0\0\0\0\0\0\0\0\0\0\0\0\0\0\0\0\0\0\0\0\0\0\0\0\0\0\0\0\0\0\0\0\0\0\0\0\0\0\0\0\0\0\0\0\0\0\0\0\0\0\0\0\0\0\0\0\0\0\0\0\0\0\0\0\0\0\0\0\0\0\0\0\0\0\0\0\0\0\0\0\0\0";
 static const u8 t_eb70[5]="'\\''";
 static const u8 t_ec4f[3]="> ";
 static const u8 t_ed42[11]={3,3,2,3,5,5,3,3,3,3,3};
@@ -1676,6 +1683,7 @@ static const u8 t_f9e0[3]="ll";
 static const u8 t_fa21[5]=" as ";
 static const u8 t_fa32[6]=" (&)[";
 static const u8 t_faca[6]="\" fn(";
+static const u8 t_facb[257]="\0\0\0\0\0\0\0\0\0\0\0\0\0\0\0\0\0\0\0\0\0\0\0\0\0\0\0\0\0\0\0\0\0\0\0\0\0\0\0\0\0\0\0\0\0\0\0\0\1\1\1\1\1\1\1\1\1\1\0\0\0\0\0\0\0\0\0\0\0\0\0\0\0\0\0\0\0\0\0\0\0\0\0\0\0\0\0\0\0\0\0\0\0\0\0\1\0\0\0\0\0\0\0\0\0\0\0\0\0\0\0\0\0\0\0\0\0\0\0\0\0\0\0\0\0\0\0\0\0\0\0\0\0\0\0\0\0\0\0\0\0\0\0\0\0\0\0\0\0\0\0\0\0\0\0\0\0\0\0\0\0\0\0\0\0\0\0\0\0\0\0\0\0\0\0\0\0\0\0\0\0\0\0\0\0\0\0\0\0\0\0\0\0\0\0\0\0\0\0\0\0\0\0\0\0\0\0\0\0\0\0\0\0\0\0\0\0\0\0\0\0\0\0\0\0\0\0\0\0\0\0\0\0\0\0\0\0\0\0\0\0\0\0\0\0\0\0\0\0\0\0\0\0\0\0\0";
 static const u8 t_fc07[3]="}'";
 static const u8 t_fc66[5]="long";
 static const u8 t_fcbc[6]="false";
@@ -2182,13 +2190,13 @@ static s_8_64 constant_at_b72(u8* a,u8* b,u64 c,u64 d);
 static s_8_64 integer_at_209(u8* a,u8* b,u64 c,u64 d,u8 e);
 static u8 push_decimal_701(u8* a,u64 b);
 static s_8_64 any_disambiguator_end_f9c(u8* a,u64 b,u64 c);
+static void any_number_at_3d4(u8* a,u8* b,u64 c,u64 d);
 static void any_name_span_9bc(u8* a,u8* b,u64 c,u64 d);
 static void begin_impl_c72(u8* a,u8* b,u8* c,u64 d);
 static void begin_inner_impl_f25(u8* a,u8* b,u64 c);
 static void begin_trait_impl_220(u8* a,u8* b,u8* c,u64 d);
 static void begin_inner_trait_impl_a3f(u8* a,u8* b,u64 c);
 static void begin_trait_f9f(u8* a,u8* b);
-static u8 repeat_2ff(u8* a,u8* b);
 static u8 unnamed_ended_c46(u8* a,u8* b,u64 c,u64 d,u64 e,u8 f);
 static void push_suffix_49c(u8* a,u8* b,u8* c,u64 d);
 static void special_named_1bc(u8* a,u8* b,u8* c,u64 d,u64 e,u8 f,u64 g,u8* h,u64 i);
@@ -2250,9 +2258,9 @@ static void end_within_b20(u8* a,u8* b,u8* c,u8* d,u8* e);
 static void append_a0b_2(u8* a,u8* b,u8* c,u8 d,u8* e,u64 f,u8* g);
 static s_8_8 append_parts_3bf(u8* a,u8* b,u8* c,u64 d,u8* e);
 static u8 end_segment_f08(u8* a,u8* b,u8* c,u8* d,u8* e);
-static void parse_fb3(u8* a,u8* b,u8 c,u8* d,u64 e);
+static void parse_fb3(u8* a,u8* b,u8 c,u32 d,u8* e,u64 f);
 static COLD void link_eb4(u8* a,u8* b,u8* c);
-static void parts_as_fdd(u8* a,u8* b,u32 c,u8 d);
+static void stretches_as_7c3(u8* a,u8* b,u32 c,u8 d);
 static void length_of_part_030(u8* a,u8* b,u8* c,u32 d);
 static void parts_7a7(u8* a,u8* b,u8* c);
 static void fill_rare_piece_d06(u8* a,u8* b,u8* c,u8* d);
@@ -2284,7 +2292,7 @@ static void push_bare_edb(u8* a,u8* b,u32 c,u8* d,u8 e,u32 f,u32 g,u8 h);
 static void mirror_517(u8* a,u8* b,u64 c);
 static void view_of_own_62c(u8* a,u8* b,u8* c);
 static u32 part_74e(u8* a,u32 b,u32 c);
-static void push_alone_0dc(u8* a,u8* b,u8 c,u32 d);
+static void push_alone_0dc(u8* a,u8* b,u8 c,u32 d,u32 e);
 static void push_bd8(u8* a,u8* b,u8* c);
 static void push_plain_069(u8* a,u8* b,u8* c,u8* d,u64 e,u32 f);
 static void push_called_f56(u8* a,u8* b,u8* c,u32 d,u32 e,u8* f,u64 g,u32 h);
@@ -2292,16 +2300,20 @@ static void push_brackets_287(u8* a,u8* b,u8* c,u8 d,u8 e,u32 f,u32 g,u8* h,u64 
 static void push_behind_d5c(u8* a,u8* b,u8* c,u8* d,u64 e,u32 f);
 static void push_returned_86a(u8* a,u8* b,u8* c,u8* d,u64 e,u32 f);
 static void push_unlisted_200(u8* a,u8* b,u8* c,u32 d,u8* e,u64 f,u32 g);
-static void push_words_147(u8* a,u8* b,u32 c);
-static void push_special_629(u8* a,u8* b,u8* c,u8* d,u64 e,u32 f);
-static void push_whole_733(u8* a,u8* b,u8* c,u8 d,u8* e,u64 f,u32 g);
+static void push_words_147(u8* a,u8* b,u32 c,u32 d);
+static void push_special_629(u8* a,u8* b,u8* c,u32 d,u8* e,u64 f,u32 g);
+static void push_whole_733(u8* a,u8* b,u8* c,u8 d,u32 e,u8* f,u64 g,u32 h);
 static u32 entity_node_809(u8* a,u32 b);
 static void push_named_0bb(u8* a,u8* b,u8* c,u8* d,u64 e,u32 f);
-static void push_elements_here_c77(u8* a,u8* b,u8* c,u8 d,u32 e,u8* f,u64 g,u32 h);
+static void push_elements_here_c77(u8* a,u8* b,u8* c,u8 d,u8* e,u32 f,u8* g,u64 h,u32 i);
 static u32 rest_node_d20(u8* a,u32 b);
-static void push_lone_16a(u8* a,u8* b,u8* c,u8 d,u8* e,u8* f,u32 g);
+static void push_lone_16a(u8* a,u8* b,u8* c,u8 d,u32 e,u32 f,u8* g,u8* h,u32 i);
+static void spelling_0e2(u8* a,u8* b,u64 c,u8 d);
+static void mirror_9e2(u8* a,u8* b,u64 c);
+static void with_bytes_5d7(u8* a,u8* b,u64 c,u8* d,u32 e);
 static u8 kind_of_a3d(u8* a);
 static u32 own_node_089(u8* a,u32 b);
+static void drop_be4(u8* a);
 static void parse_as_add(u8* a,u8* b,u64 c,u32 d,u8 e);
 static void length_of_part_5fe(u8* a,u8* b,u8* c,u32 d);
 static void parts_4fe(u8* a,u8* b,u8* c);
@@ -2317,21 +2329,28 @@ static void push_escaped_6a1(u8* a,u32 b);
 static void fill_bindings_da9(u8* a,u8* b,u32 c,u8 d,u64 e,u8 f);
 static void mirror_77d(u8* a,u8* b,u64 c);
 static void push_plain_fc3(u8* a,u8* b,u8* c,u8* d,u64 e,u32 f);
-static void push_alone_829(u8* a,u8* b,u8 c,u32 d);
+static void push_alone_829(u8* a,u8* b,u8 c,u32 d,u32 e,u32 f);
 static void view_at_138(u8* a,u8* b,u32 c);
 static void push_634(u8* a,u8* b,u8* c);
 static s_8_32 path_sort_162(u8* a,u32 b);
-static void push_scope_91a(u8* a,u8* b,u8* c,u8 d,u32 e,u8* f,u64 g,u32 h);
+static void push_scope_91a(u8* a,u8* b,u8* c,u32 d,u8 e,u32 f,u8* g,u64 h,u32 i);
 static void push_implementation_f83(u8* a,u8* b,u8* c,u8* d,u64 e,u32 f);
-static void push_after_b93(u8* a,u8* b,u8* c,u8* d,u8 e,u8* f,u32 g);
-static void push_arguments_35b(u8* a,u8* b,u8* c,u8* d,u64 e,u32 f);
-static void push_listed_6df(u8* a,u8* b,u8* c,u8* d,u64 e,u32 f);
-static void parse_4db(u8* a,u8* b,u64 c,u64 d,u64 e,u32 f);
+static void push_after_b93(u8* a,u8* b,u8* c,u8* d,u8 e,u32 f,u32 g,u8* h,u32 i);
+static void push_arguments_35b(u8* a,u8* b,u8* c,u32 d,u8* e,u64 f,u32 g);
+static void push_listed_6df(u8* a,u8* b,u8* c,u32 d,u32 e,u8* f,u64 g,u32 h);
+static void spelling_of_e02(u8* a,u8* b,u64 c,u8* d,u64 e);
+static void push_part_226(u8* a,u8* b,u32 c,u32 d);
+static void push_impl_of_type_75c(u8* a,u8* b,u8* c,u64 d,u64 e,u64 f);
+static void push_impl_of_trait_ec7(u8* a,u8* b,u8* c,u64 d,u64 e,u64 f);
+static u8 kind_of_54a(u8* a);
+static void parse_path_8bf(u8* a,u8* b,u64 c,u64 d,u64 e,u32 f);
 static void measured_ab2(u8* a,u8* b,u64 c,u64 d);
 static u64 text_length_c08(u8* a,u64 b);
+static void parsed_behind_fcd(u8* a,u32 b,u8* c);
+static COLD u8 grow_amortized_efd(u8* a,u64 b);
 static void write_both_976(u8* a,u8* b,u32 c,u8* d,u64 e,u8* f,u64 g,u8* h);
 static COLD void copy_bits_128(u8* a,u8* b,u64 c);
-static void parse_be6(u8* a,u8* b,u8 c,u8* d,u64 e);
+static void parse_be6(u8* a,u8* b,u8 c,u32 d,u8* e,u64 f);
 static COLD void link_bb1(u8* a,u8* b,u8* c);
 static void press_cpp_a22(u8* a,u8* b);
 static void firsts_after_8f2(u8* a,u8* b,u8* c,u32 d);
@@ -50262,53 +50281,92 @@ L4:return;
 /* sym_direct::bounded::Bounded+u8::repeat */
 static u8 repeat_28b(u8* a,u64 b,u64 c)
 {
-u64 d,e,g,i,j,l,m,n,o;
-u8 f,h,k;
-u8 *p,*q,*r,*s;
-d=c-b;
+u8 d[32];
+u64 e,f,g,i,j,k,m,n,p,s,v,w,x,z,A,B,C;
+u8 *h,*q,*r,*D,*E,*F,*G;
+u8 l,o,t,u,y;
 e=r8(a+8);
-if(r8(a+32)-e<d){
-f=make_ready_8e3(a,d,128);
-if(!(f&1)){
-h=0;
-goto L1;}
-g=r8(a+8);}
-else g=e;
-if(g>(d^18446744073709551615u))h=0;
+f=c-b;
+g=r8(a+32)-e;
+if((f<33)&(e-b>31)&&g>31){
+z32(d);
+h=rp(a)+(i64)b;
+i=(u64)d;
+if(i-(u64)h<32){
+copy_bits_4f4(h,d,32);
+j=r8(a+8);}
 else{
-i=g+d;
-if(i>g){
-j=r8(a+16);
-if(d>j-g){
-k=grow_amortized_2b6(a,d);
-if(!k){
-h=0;
+memcpy(d,h,32);
+j=e;}
+k=r8(a+16);
+if(k-j<32){
+l=grow_amortized_2b6(a,32);
+if(!l){
+o=0;
 goto L1;}
-l=r8(a+8);
-m=l+d;
-n=r8(a+16);
-o=l;}
+m=r8(a+16);
+n=r8(a+8);}
 else{
-m=i;
-n=j;
-o=g;}
-p=rp(a);
-if(o<m)memset(p+(i64)o,0,d);
-wp(a,p);
-w8(a+8,m);
-w8(a+16,n);}
-else {
-if(g>i)w8(a+8,i);}
+m=k;
+n=j;}
+p=n+32;
 q=rp(a);
-r=q+(i64)g;
-s=q+(i64)b;
-if(g-b<d){
-copy_bits_4f4(s,r,d);
-h=1;}
+z16(a+8);
+r=q+(i64)n;
+if((u64)r-i<32)copy_bits_4f4(d,r,32);
+else memcpy(r,d,32);
+wp(a,q);
+w8(a+8,p);
+w8(a+16,m);
+s=e+f;
+if(p>s){
+w8(a+8,s);
+o=1;}
+else o=1;
+L1:t=o;}
 else{
-memmove(r,s,d);
-h=1;}}
-L1:return h;
+if(g<f){
+u=make_ready_8e3(a,f,128);
+if(!(u&1)){
+t=0;
+goto L2;}
+v=r8(a+8);}
+else v=e;
+if(v>(f^18446744073709551615u))t=0;
+else{
+w=v+f;
+if(w>v){
+x=r8(a+16);
+if(f>x-v){
+y=grow_amortized_2b6(a,f);
+if(!y){
+t=0;
+goto L2;}
+z=r8(a+8);
+A=z+f;
+B=r8(a+16);
+C=z;}
+else{
+A=w;
+B=x;
+C=v;}
+D=rp(a);
+if(C<A)memset(D+(i64)C,0,f);
+wp(a,D);
+w8(a+8,A);
+w8(a+16,B);}
+else {
+if(v>w)w8(a+8,w);}
+E=rp(a);
+F=E+(i64)v;
+G=E+(i64)b;
+if(v-b<f){
+copy_bits_4f4(G,F,f);
+t=1;}
+else{
+memmove(F,G,f);
+t=1;}}}
+L2:return t;
 }
 
 /* cpp_direct::direct::Direct::begin_clone */
@@ -91290,11 +91348,11 @@ static u8 run_80f(u8* a,u8* b,u64 c,u32 d)
 {
 u8 h[1];
 A16 u8 e[40],f[40],g[32],i[40],j[32],k[40],l[32],m[12],n[12],o[12],p[24],q[12],r[12],s[12],t[32],u[24],v[12],w[12],x[12],y[32];
-u64 z,A,B,D,E,G,I,J,M,N,P,S,U,V,W,X,Z,aa,ba,ca,da,ga,ha,ia,ja,ka,ma,oa,pa,ra,sa,ua,va,xa,ya,Ba,Fa,Ha,Ia,Ka,Ma,Pa,Qa,Sa,Ta,Ua,Wa,Za,bb,cb,db,eb,gb,hb,ib,kb,lb,mb,ob,rb,vb,wb,xb,yb,zb,Cb,Db,Eb,Hb,Jb,Kb,Lb,Ob,Pb,Qb,Rb,Tb,Ub,Vb,Wb,ac,bc,cc,dc,fc,gc,hc,ic,kc,nc,oc,qc,rc,tc,wc,yc,zc,Fc,Hc,Ic,Jc,Kc,Mc,Oc,Pc,Rc,Sc,Tc,Wc,Xc,ad,bd,cd,dd,fd,hd,id,kd,ld,md,pd,qd,ud,vd,yd,zd,Bd,Dd,Ed,Fd,Id,Jd,Md,Nd,Pd,Qd,Sd,Ud,Vd,Wd,Zd,ae,de,ee,ge,he,je,le,me,ne,qe,re,ue,ve,xe,ye,Ae,Ce,De,Ee,He,Ie,Le,Me,Ne,Oe,Pe,Qe,Re,Te,Ve,We,Xe,Ye,af,bf,cf,df,ef,gf,hf,jf,lf,mf,nf,pf,tf,uf,wf,zf,Af,Cf,Ef,Ff,If,Jf,Lf,Mf,Nf,Pf,Qf,Rf,Uf,Vf,Yf,ag,cg,dg,fg,gg,hg,kg,lg,ng,qg,vg,zg,Bg,Cg,Eg,Fg,Lg,Ng,Pg,Qg,Rg,Sg,Tg,Wg,Xg,Yg,bh,dh,eh,fh,ih,jh,kh,lh,nh,oh,ph,qh,uh,vh,wh,xh,zh,Ah,Bh,Ch,Eh,Hh,Ih,Kh,Lh,Nh,Qh,Rh,Sh,Th,Uh,Vh,Wh,Yh,ai,bi,ci,di,fi,gi,hi,ii,ji,li,mi,ni,pi,qi,ri,ti,xi,yi,Ai,Di,Fi,Gi,Ii,Li,Mi,Ri,Wi,Yi,Zi,aj,dj,ej,fj,ij,kj,lj,mj,pj,rj,sj,uj,wj,xj,yj,zj,Dj,Fj,Gj,Hj,Jj,Kj,Lj,Mj,Oj,Qj,Rj,Tj,Vj,Wj,Yj,Zj,ak,dk,gk,ik,lk,mk,nk,pk,rk,wk,Bk,Dk,Fk,Hk,Jk,Kk,Mk,Nk,Ok,Rk,Tk,Wk,Yk,Zk,al,el,fl,il,jl,nl,pl,rl,tl,ul,wl,xl,Al,Bl,Dl,Gl,Hl,Jl,Kl,Ml,Pl,Ql,Sl,Tl,Vl,Yl,Zl,am,bm,cm,em,hm,jm,km,mm,nm,om,rm,sm,vm,wm,ym,zm,Bm,Cm,Dm,Fm,Im,Jm,Lm,Mm,Om,Rm,Sm,Um,Vm,Ym,Zm,bn,cn,fn,gn,in,jn,mn,on,pn,rn,sn,tn,wn,xn,An,Bn,Dn,En,Gn,Jn;
-u8 C,F,K,O,Q,R,la,na,ta,wa,za,Aa,Ca,Ea,Ga,Ja,La,Na,Oa,Va,Xa,ab,fb,nb,pb,sb,tb,ub,Bb,Gb,Ib,Nb,Xb,Zb,lc,mc,pc,sc,uc,xc,Ac,Bc,Cc,Dc,Ec,Gc,Lc,Nc,Qc,Yc,ed,gd,jd,sd,xd,Ad,Cd,Kd,Od,Rd,Td,be,fe,ie,ke,se,we,ze,Be,Je,Se,Ue,ff,kf,rf,sf,vf,xf,Bf,Df,Gf,Kf,Of,Wf,bg,eg,mg,og,pg,rg,ug,wg,xg,yg,Ag,Dg,Gg,Hg,Ig,Jg,Kg,Mg,Vg,ah,ch,hh,rh,th,Fh,Gh,Jh,Mh,Oh,Xh,Zh,ki,oi,vi,wi,zi,Bi,Ei,Ki,Ni,Oi,Pi,Qi,Si,Ti,Ui,Vi,Xi,cj,hj,jj,oj,qj,tj,Aj,Cj,Ej,Nj,Pj,Uj,Xj,fk,hk,jk,qk,tk,uk,vk,xk,yk,zk,Ak,Ck,Ek,Ik,Lk,Sk,Uk,Xk,bl,dl,gl,hl,kl,ml,ql,vl,yl,Cl,El,Il,Ll,Nl,Rl,Ul,Wl,dm,fm,im,lm,tm,xm,Em,Gm,Km,Nm,Pm,Tm,Wm,an,dn,hn,kn,nn,qn,yn,Cn,Fn,Hn;
-u8 *H,*L,*T,*ea,*fa,*qa,*Da,*Ya,*qb,*Ab,*Mb,*Sb,*Yb,*ec,*jc,*vc,*Uc,*Vc,*Zc,*nd,*od,*td,*Gd,*Hd,*Ld,*Xd,*Yd,*ce,*oe,*pe,*te,*Fe,*Ge,*Ke,*Ze,*qf,*yf,*Hf,*Sf,*Tf,*Xf,*Zf,*ig,*jg,*sg,*tg,*Og,*Ug,*gh,*mh,*sh,*yh,*Dh,*Ph,*ei,*ui,*Ci,*Hi,*Ji,*bj,*nj,*vj,*Bj,*Ij,*Sj,*bk,*ck,*ek,*kk,*ok,*sk,*Gk,*Pk,*Qk,*Vk,*cl,*ll,*ol,*sl,*zl,*Fl,*Ol,*Xl,*gm,*pm,*qm,*um,*Hm,*Qm,*Xm,*en,*ln,*un,*vn,*zn,*In;
-u16 Y,of,si;
-s_8_64 Ra,jb,Fb,Zg,gj,Am;
+u64 z,A,B,D,E,G,I,J,M,N,P,S,U,V,W,X,Z,aa,ba,ca,da,ga,ha,ia,ja,ka,ma,oa,pa,ra,sa,ua,va,xa,ya,Ba,Fa,Ha,Ia,Ka,Ma,Pa,Qa,Sa,Ta,Ua,Wa,Za,bb,cb,db,eb,gb,hb,ib,kb,lb,mb,ob,rb,vb,wb,xb,yb,Ab,Bb,Db,Eb,Fb,Ib,Kb,Lb,Mb,Ob,Pb,Qb,Rb,Tb,Ub,Vb,Wb,Zb,ac,bc,dc,ec,fc,gc,hc,ic,jc,oc,pc,qc,sc,tc,vc,yc,Ac,Bc,Hc,Jc,Kc,Lc,Mc,Oc,Qc,Rc,Tc,Uc,Vc,Yc,Zc,cd,dd,ed,fd,hd,jd,kd,md,nd,od,sd,td,xd,yd,Ad,Bd,Dd,Fd,Gd,Hd,Kd,Ld,Od,Pd,Rd,Sd,Ud,Wd,Xd,Yd,be,ce,fe,ge,ie,je,le,ne,oe,pe,se,te,we,xe,ze,Ae,Ce,Ee,Fe,Ge,Je,Ke,Ne,Oe,Qe,Se,Te,Ue,Ve,Xe,af,df,ef,ff,gf,hf,of,qf,rf,tf,wf,xf,zf,Bf,Cf,Ff,Gf,If,Jf,Kf,Mf,Nf,Of,Rf,Sf,Vf,Xf,Zf,ag,cg,dg,eg,hg,ig,kg,ng,sg,wg,yg,zg,Bg,Cg,Ig,Kg,Mg,Ng,Og,Pg,Rg,Sg,Ug,Vg,Wg,Zg,bh,ch,dh,fh,gh,hh,ih,kh,lh,mh,nh,qh,rh,sh,uh,vh,wh,xh,yh,zh,Ah,Fh,Gh,Hh,Jh,Kh,Mh,Ph,Qh,Sh,Uh,Vh,Wh,Xh,Zh,ci,ei,fi,hi,ii,ji,pi,ri,si,ui,xi,zi,Ai,Ci,Fi,Gi,Li,Qi,Si,Ti,Vi,Wi,Yi,Zi,aj,dj,fj,gj,hj,jj,kj,mj,nj,qj,rj,sj,tj,wj,xj,yj,Aj,Bj,Cj,Dj,Fj,Hj,Jj,Kj,Lj,Mj,Pj,Qj,Sj,Tj,Uj,Xj,Yj,ak,bk,ck,fk,gk,jk,lk,ok,pk,qk,sk,uk,zk,Ek,Gk,Ik,Kk,Mk,Nk,Pk,Qk,Rk,Uk,Wk,Zk,bl,cl,dl,hl,il,ll,ml,ql,sl,ul,wl,xl,zl,Al,Dl,El,Gl,Jl,Kl,Ml,Nl,Pl,Sl,Tl,Vl,Wl,Yl,bm,cm,dm,em,fm,hm,km,mm,nm,pm,qm,rm,um,vm,ym,zm,Bm,Cm,Em,Fm,Gm,Im,Lm,Mm,Om,Pm,Rm,Um,Vm,Xm,Ym,bn,cn,en,fn,in,jn,ln,mn,pn,rn,sn,un,vn,wn,zn,An,Dn,En,Gn,Hn,Jn,Mn;
+u8 C,F,K,O,Q,R,la,na,ta,wa,za,Aa,Ca,Ea,Ga,Ja,La,Na,Oa,Va,Xa,ab,fb,nb,pb,sb,tb,ub,Cb,Hb,Jb,Xb,lc,mc,nc,rc,uc,wc,zc,Cc,Dc,Ec,Fc,Gc,Ic,Nc,Pc,Sc,ad,gd,id,ld,ud,zd,Cd,Ed,Md,Qd,Td,Vd,de,he,ke,me,ue,ye,Be,De,Le,Pe,Re,We,Ye,cf,kf,lf,mf,nf,pf,sf,uf,yf,Af,Df,Hf,Lf,Tf,Yf,bg,jg,lg,mg,og,rg,tg,ug,vg,xg,Ag,Dg,Eg,Fg,Gg,Hg,Jg,Tg,Yg,ah,oh,Ch,Dh,Eh,Ih,Lh,Nh,Rh,Th,Yh,ai,gi,li,mi,ni,oi,qi,ti,vi,yi,Ei,Hi,Ii,Ji,Ki,Mi,Ni,Oi,Pi,Ri,Xi,cj,ej,lj,oj,uj,Ej,Gj,Ij,Oj,Rj,Zj,ik,kk,mk,tk,wk,xk,yk,Ak,Bk,Ck,Dk,Fk,Hk,Lk,Ok,Vk,Xk,al,el,gl,jl,kl,nl,pl,tl,yl,Bl,Fl,Hl,Ll,Ol,Ql,Ul,Xl,Zl,gm,im,lm,om,wm,Am,Hm,Jm,Nm,Qm,Sm,Wm,Zm,dn,gn,kn,nn,qn,tn,Bn,Fn,In,Kn;
+u8 *H,*L,*T,*ea,*fa,*qa,*Da,*Ya,*qb,*zb,*Nb,*Sb,*Yb,*cc,*kc,*xc,*Wc,*Xc,*bd,*pd,*qd,*vd,*Id,*Jd,*Nd,*Zd,*ae,*ee,*qe,*re,*ve,*He,*Ie,*Me,*bf,*jf,*vf,*Ef,*Pf,*Qf,*Uf,*Wf,*fg,*gg,*pg,*qg,*Lg,*Qg,*eh,*jh,*ph,*th,*Bh,*Oh,*di,*ki,*wi,*Bi,*Di,*Ui,*ij,*pj,*vj,*zj,*Nj,*Vj,*Wj,*dk,*ek,*hk,*nk,*rk,*vk,*Jk,*Sk,*Tk,*Yk,*fl,*ol,*rl,*vl,*Cl,*Il,*Rl,*am,*jm,*sm,*tm,*xm,*Km,*Tm,*an,*hn,*on,*xn,*yn,*Cn,*Ln;
+u16 Y,Ze,bi;
+s_8_64 Ra,jb,Gb,Xg,bj,Dm;
 if(c-1<65536){
 if(*b==95&&c>1){
 if(b[1]==82){
@@ -91630,961 +91688,953 @@ if(xb<c){
 if(*(b+xb)==115){
 yb=vb+2;
 if(c-yb>=12){
-zb=vb+13;
-Ab=b+(i64)yb;
-Bb=*Ab;
-if(!((Bb<58)|((u8)(Bb-97)<11)))goto L11;
-Cb=0;
-L12:if(*((u8*)t_9eba+*(Ab+Cb))==0){
-Db=Cb+1;
-if(Db!=11){
-Cb=Db;
-goto L12;}
-if(zb<c){
-if(*(b+zb)==95){
-Eb=vb+14;
-goto L13;}}}}
-L11:Fb=any_disambiguator_end_f9c(b,c,xb);
-if(Fb.f0!=1)goto L14;
-Eb=Fb.f1;}
-else Eb=xb;}
-else Eb=xb;
-L13:if(Eb<c){
-Gb=*(b+Eb);
-if((u8)(Gb-58)>=247){
-Hb=Eb+1;
-if(Hb<c){
-Ib=*(b+Hb)-48;
-if(Ib<10){
-Jb=Eb+2;
-Kb=(u64)Ib+(u8)((u8)(Gb*10)+32);
-if(c-Jb<Kb)goto L15;
-Lb=Kb+Jb;
-Mb=b+(i64)Jb;
-Nb=*Mb;
-if((Nb==95)|((u8)(Nb-48)<10)){
+zb=b+(i64)yb;
+Ab=0;
+L11:if(*((u8*)t_9eba+*(zb+Ab))==0){
+Bb=Ab+1;
+if(Bb!=11){
+Ab=Bb;
+goto L11;}
+Cb=*zb;
+if(!((Cb<58)|((u8)(Cb-97)<11)))goto L12;
+Db=11;}
+else Db=Ab;
+Eb=Db+yb;
+if(Eb<c){
+if(*(b+Eb)==95){
+Fb=Eb+1;
+goto L13;}}}
+L12:Gb=any_disambiguator_end_f9c(b,c,xb);
+if(Gb.f0!=1)goto L14;
+Fb=Gb.f1;}
+else Fb=xb;}
+else Fb=xb;
+L13:if(Fb<c){
+Hb=*(b+Fb);
+if((u8)(Hb-58)>=247){
+Ib=Fb+1;
+if(Ib<c){
+Jb=*(b+Ib)-48;
+if(Jb<10){
+Kb=Fb+2;
+Lb=(u64)Jb+(u8)((u8)(Hb*10)+32);
+if(c-Kb<Lb)goto L14;
+Mb=Lb+Kb;
+Nb=b+(i64)Kb;
+if(*((u8*)t_facb+*Nb)!=0){
 z12(w);
-any_name_span_9bc(w,b,c,Eb);
-Ob=q8(w+4);
-if(*w!=1)goto L15;
-Pb=Ob>>32;
-Qb=Ob&4294967295u;
-goto L16;}
-Rb=0;
-L17:Sb=Mb+Rb;
+any_name_span_9bc(w,b,c,Fb);
+Pb=q8(w+4);
+if(*w!=1)goto L14;
+Qb=Pb>>32;
+Rb=Pb&4294967295u;
+goto L15;}
+Ob=0;
+L16:Sb=Nb+Ob;
 if((u8)((u8)(*((u8*)t_4efc+Sb[1])+*((u8*)t_4efc+*Sb))+*((u8*)t_4efc+Sb[2]))==(u8)(0-*((u8*)t_4efc+Sb[3]))){
-Tb=Rb+4;
-if(Kb-Tb>3){
-Rb=Tb;
-goto L17;}
+Tb=Ob+4;
+if(Lb-Tb>3){
+Ob=Tb;
+goto L16;}
 Ub=Tb;}
-else Ub=Rb;
-if(Ub>=Kb){
-Pb=Lb;
-Qb=Jb;
-goto L16;}
+else Ub=Ob;
+if(Ub>=Lb){
+Qb=Mb;
+Rb=Kb;
+goto L15;}
 Vb=Ub;
-L18:if(*((u8*)t_4efc+*(Mb+Vb))!=0)goto L15;
+L17:if(*((u8*)t_4efc+*(Nb+Vb))!=0)goto L14;
 Wb=Vb+1;
-if(Wb<Kb){
+if(Wb<Lb){
 Vb=Wb;
-goto L18;}
-Pb=Lb;
-Qb=Jb;
-goto L16;}}
-Xb=Gb-48;
-if(c-Hb<Xb)goto L15;
-Yb=b+(i64)Hb;
-Zb=*Yb;
-if((Zb==95)|((u8)(Zb-48)<10)){
+goto L17;}
+Qb=Mb;
+Rb=Kb;
+goto L15;}}
+Xb=Hb-48;
+if(c-Ib<Xb)goto L14;
+Yb=b+(i64)Ib;
+if(*((u8*)t_facb+*Yb)!=0){
 z12(v);
-any_name_span_9bc(v,b,c,Eb);
-ac=q8(v+4);
-if(*v!=1)goto L15;
-Pb=ac>>32;
-Qb=ac&4294967295u;
-goto L16;}
-bc=Hb+Xb;
-if(Gb<=51){
-dc=0;
+any_name_span_9bc(v,b,c,Fb);
+gc=q8(v+4);
+if(*v!=1)goto L14;
+Qb=gc>>32;
+Rb=gc&4294967295u;
+goto L15;}
+Zb=Ib+Xb;
+if(Hb<=51){
+bc=0;
+goto L18;}
+ac=0;
+L19:cc=Yb+ac;
+if((u8)((u8)(*((u8*)t_4efc+cc[1])+*((u8*)t_4efc+*cc))+*((u8*)t_4efc+cc[2]))==(u8)(0-*((u8*)t_4efc+cc[3]))){
+dc=ac+4;
+if(Xb-dc>3){
+ac=dc;
 goto L19;}
-cc=0;
-L20:ec=Yb+cc;
-if((u8)((u8)(*((u8*)t_4efc+ec[1])+*((u8*)t_4efc+*ec))+*((u8*)t_4efc+ec[2]))==(u8)(0-*((u8*)t_4efc+ec[3]))){
-fc=cc+4;
-if(Xb-fc>3){
-cc=fc;
+bc=dc;}
+else bc=ac;
+L18:if(bc>=Xb){
+Qb=Zb;
+Rb=Ib;
+goto L15;}
+ec=bc;
+L20:if(*((u8*)t_4efc+*(Yb+ec))!=0)goto L14;
+fc=ec+1;
+if(fc!=Xb){
+ec=fc;
 goto L20;}
-dc=fc;}
-else dc=cc;
-L19:if(dc>=Xb){
-Pb=bc;
-Qb=Hb;
-goto L16;}
-gc=dc;
-L21:if(*((u8*)t_4efc+*(Yb+gc))!=0)goto L15;
-hc=gc+1;
-if(hc!=Xb){
-gc=hc;
-goto L21;}
-Pb=bc;
-Qb=Hb;
-goto L16;}}
+Qb=Zb;
+Rb=Ib;
+goto L15;}}
 z12(x);
-any_name_span_9bc(x,b,c,Eb);
-ic=q8(x+4);
-if(*x!=1)goto L15;
-Pb=ic>>32;
-Qb=ic&4294967295u;
-L16:if(Pb<=Qb)goto L15;
-jc=b+(i64)Qb;
-kc=Pb-Qb;
-if(r8(a+32)-wb<kc){
-lc=make_ready_8e3(a,kc,128);
-if(!(lc&1))goto L15;}
-mc=extend_from_slice_169(a,jc,kc);
-if(mc&1)goto L15;
-w8(a+192,Pb);
+any_name_span_9bc(x,b,c,Fb);
+hc=q8(x+4);
+if(*x!=1)goto L14;
+Qb=hc>>32;
+Rb=hc&4294967295u;
+L15:if(Qb<=Rb)goto L14;
+ic=Qb-Rb;
+jc=r8(a+32)-wb;
+kc=b+(i64)Rb;
+if((c-Rb<16)|(ic>16)||jc<16){
+if(jc<ic){
+lc=make_ready_8e3(a,ic,128);
+if(!(lc&1))goto L14;}
+mc=extend_from_slice_169(a,kc,ic);
+if(mc&1)goto L14;}
+else{
+nc=extend_from_slice_169(a,kc,16);
+if(nc&1)goto L14;
+oc=ic+wb;
+if(r8(a+8)>oc)w8(a+8,oc);}
+w8(a+192,Qb);
 if(r8(a+136)>vb){
-nc=r8(a+96);
-if(nc>65534){
-oc=0;
-pc=0;
-qc=0;}
-else{
-rc=r8(a+8);
-sc=a[80];
-if(r8(a+120)>nc)tc=nc;
-else{
-uc=make_ready_b73(a+88);
-if(!(uc&1)){
-oc=0;
-pc=0;
+pc=r8(a+96);
+if(pc>65534){
 qc=0;
-goto L22;}
-tc=r8(a+96);}
-vc=rp(a+88)+tc*24;
-x8(vc,wb);
-x8(vc+8,rc);
-vc[16]=0;
-vc[17]=sc;
-z6(vc+18);
-w8(a+96,tc+1);
-w2(rp(a+128)+(i64)(vb<<1),(u16)nc+1);
-oc=1;
-pc=2;
-qc=wb;}}
+rc=0;
+sc=0;}
 else{
-oc=0;
-pc=0;
-qc=0;}
-L22:w8(y,oc);
-y[8]=pc;
+tc=r8(a+8);
+uc=a[80];
+if(r8(a+120)>pc)vc=pc;
+else{
+wc=make_ready_b73(a+88);
+if(!(wc&1)){
+qc=0;
+rc=0;
+sc=0;
+goto L21;}
+vc=r8(a+96);}
+xc=rp(a+88)+vc*24;
+x8(xc,wb);
+x8(xc+8,tc);
+xc[16]=0;
+xc[17]=uc;
+z6(xc+18);
+w8(a+96,vc+1);
+w2(rp(a+128)+(i64)(vb<<1),(u16)pc+1);
+qc=1;
+rc=2;
+sc=wb;}}
+else{
+qc=0;
+rc=0;
+sc=0;}
+L21:w8(y,qc);
+y[8]=rc;
 y[9]=0;
-w8(y+16,qc);
+w8(y+16,sc);
 y[24]=0;
-goto L14;
-case 78:wc=vb+1;
-if(wc>=c)goto L23;
-xc=*(b+wc);
-if(xc<65)goto L23;
-if(!((xc<91)|((u8)(xc-97)<26)))goto L23;
+goto L22;
+case 78:yc=vb+1;
+if(yc<c)zc=*(b+yc);
+else zc=0;
+if(yc==18446744073709551615u||*((u8*)t_eb43+zc)==0)goto L23;
 w8(a+192,vb+2);
-yc=r8(a+160);
-if(r8(a+184)>yc){
-zc=yc;
-Ac=2;
-Bc=xc;
+Ac=r8(a+160);
+if(r8(a+184)>Ac){
+Bc=Ac;
+Cc=2;
+Dc=zc;
 goto L24;}
-Cc=make_ready_e3c(a+152);
-if(!(Cc&1))goto L23;
-Dc=2;
-Ec=xc;
+Ec=make_ready_e3c(a+152);
+if(!(Ec&1))goto L23;
+Fc=2;
+Gc=zc;
 goto L25;
 case 73:w8(a+192,vb+1);
-Fc=r8(a+160);
-if(r8(a+184)>Fc){
-zc=Fc;
-Ac=3;
-Bc=0;
+Hc=r8(a+160);
+if(r8(a+184)>Hc){
+Bc=Hc;
+Cc=3;
+Dc=0;
 goto L24;}
-Gc=make_ready_e3c(a+152);
-if(!(Gc&1))goto L23;
-Dc=3;
-Ec=0;
+Ic=make_ready_e3c(a+152);
+if(!(Ic&1))goto L23;
+Fc=3;
+Gc=0;
 goto L25;
 case 77:begin_impl_c72(y,a,b,c);
-goto L14;
+goto L22;
 case 88:begin_trait_impl_220(y,a,b,c);
-goto L14;
+goto L22;
 case 89:begin_trait_f9f(y,a);
-goto L14;
-case 82:Hc=vb+1;
-if(Hc<c){
-if(*(b+Hc)==76){
-Ic=vb+2;
-if(Ic>=c){
-Kc=0;
-Lc=0;
+goto L22;
+case 82:Jc=vb+1;
+if(Jc<c){
+if(*(b+Jc)==76){
+Kc=vb+2;
+if(Kc>=c){
+Mc=0;
+Nc=0;
 goto L26;}
-if(*(b+Ic)!=95){
-Kc=0;
-Lc=0;
+if(*(b+Kc)!=95){
+Mc=0;
+Nc=0;
 goto L26;}
-Jc=vb+3;}
-else Jc=Hc;}
-else Jc=Hc;
-Mc=r8(a+8);
-if(r8(a+32)==Mc){
-Nc=make_ready_8e3(a,1,128);
-if(!(Nc&1)){
-Kc=0;
-Lc=0;
+Lc=vb+3;}
+else Lc=Jc;}
+else Lc=Jc;
+Oc=r8(a+8);
+if(r8(a+32)==Oc){
+Pc=make_ready_8e3(a,1,128);
+if(!(Pc&1)){
+Mc=0;
+Nc=0;
 goto L26;}
-Oc=r8(a+8);}
-else Oc=Mc;
-Pc=r8(a+16);
-if(Pc==Oc){
-Qc=grow_amortized_2b6(a,1);
-if(!Qc){
-Kc=0;
-Lc=0;
-goto L26;}
+Qc=r8(a+8);}
+else Qc=Oc;
 Rc=r8(a+16);
-Sc=r8(a+8);}
-else{
-Rc=Pc;
-Sc=Oc;}
-Tc=Sc+1;
-Uc=rp(a);
-z16(a+8);
-Vc=Uc+(i64)Sc;
-if((u64)Vc==(u64)(u8*)t_951d)copy_bits_4f4((u8*)t_951d,Vc,1);
-else *Vc=38;
-wp(a,Uc);
-w8(a+8,Tc);
-w8(a+16,Rc);
-Wc=r8(a+160);
-if(r8(a+184)>Wc)Xc=Wc;
-else{
-Yc=make_ready_e3c(a+152);
-if(!(Yc&1)){
-Kc=0;
-Lc=0;
+if(Rc==Qc){
+Sc=grow_amortized_2b6(a,1);
+if(!Sc){
+Mc=0;
+Nc=0;
 goto L26;}
-Xc=r8(a+160);}
-Zc=rp(a+152)+(Xc<<5);
-*Zc=9;
-Zc[1]=0;
-x8(Zc+8,vb);
-x8(Zc+16,Mc);
-Zc[24]=0;
-w8(a+160,Xc+1);
-w8(a+192,Jc);
-Kc=1;
-Lc=1;
-L26:w8(y,Kc);
-y[8]=Lc;
+Tc=r8(a+16);
+Uc=r8(a+8);}
+else{
+Tc=Rc;
+Uc=Qc;}
+Vc=Uc+1;
+Wc=rp(a);
+z16(a+8);
+Xc=Wc+(i64)Uc;
+if((u64)Xc==(u64)(u8*)t_951d)copy_bits_4f4((u8*)t_951d,Xc,1);
+else *Xc=38;
+wp(a,Wc);
+w8(a+8,Vc);
+w8(a+16,Tc);
+Yc=r8(a+160);
+if(r8(a+184)>Yc)Zc=Yc;
+else{
+ad=make_ready_e3c(a+152);
+if(!(ad&1)){
+Mc=0;
+Nc=0;
+goto L26;}
+Zc=r8(a+160);}
+bd=rp(a+152)+(Zc<<5);
+*bd=9;
+bd[1]=0;
+x8(bd+8,vb);
+x8(bd+16,Oc);
+bd[24]=0;
+w8(a+160,Zc+1);
+w8(a+192,Lc);
+Mc=1;
+Nc=1;
+L26:w8(y,Mc);
+y[8]=Nc;
 y[9]=0;
 w8(y+16,0);
 y[24]=0;
-goto L14;
-case 81:ad=vb+1;
-if(ad<c){
-if(*(b+ad)==76){
-bd=vb+2;
-if(bd>=c){
-dd=0;
-ed=0;
+goto L22;
+case 81:cd=vb+1;
+if(cd<c){
+if(*(b+cd)==76){
+dd=vb+2;
+if(dd>=c){
+fd=0;
+gd=0;
 goto L27;}
-if(*(b+bd)!=95){
-dd=0;
-ed=0;
+if(*(b+dd)!=95){
+fd=0;
+gd=0;
 goto L27;}
-cd=vb+3;}
-else cd=ad;}
-else cd=ad;
-fd=r8(a+8);
-if(r8(a+32)-fd<5){
-gd=make_ready_8e3(a,5,128);
-if(!(gd&1)){
-dd=0;
-ed=0;
+ed=vb+3;}
+else ed=cd;}
+else ed=cd;
+hd=r8(a+8);
+if(r8(a+32)-hd<5){
+id=make_ready_8e3(a,5,128);
+if(!(id&1)){
+fd=0;
+gd=0;
 goto L27;}
-hd=r8(a+8);}
-else hd=fd;
-id=r8(a+16);
-if(id-hd<5){
-jd=grow_amortized_2b6(a,5);
-if(!jd){
-dd=0;
-ed=0;
-goto L27;}
+jd=r8(a+8);}
+else jd=hd;
 kd=r8(a+16);
-ld=r8(a+8);}
-else{
-kd=id;
-ld=hd;}
-md=ld+5;
-nd=rp(a);
-z16(a+8);
-od=nd+(i64)ld;
-if((u64)od-(u64)(u8*)t_d821<5)copy_bits_4f4((u8*)t_d821,od,5);
-else memcpy(od,(u8*)t_d821,5);
-wp(a,nd);
-w8(a+8,md);
-w8(a+16,kd);
-pd=r8(a+160);
-if(r8(a+184)>pd)qd=pd;
-else{
-sd=make_ready_e3c(a+152);
-if(!(sd&1)){
-dd=0;
-ed=0;
+if(kd-jd<5){
+ld=grow_amortized_2b6(a,5);
+if(!ld){
+fd=0;
+gd=0;
 goto L27;}
-qd=r8(a+160);}
-td=rp(a+152)+(qd<<5);
-*td=9;
-td[1]=0;
-x8(td+8,vb);
-x8(td+16,fd);
-td[24]=0;
-w8(a+160,qd+1);
-w8(a+192,cd);
-dd=1;
-ed=1;
-L27:w8(y,dd);
-y[8]=ed;
+md=r8(a+16);
+nd=r8(a+8);}
+else{
+md=kd;
+nd=jd;}
+od=nd+5;
+pd=rp(a);
+z16(a+8);
+qd=pd+(i64)nd;
+if((u64)qd-(u64)(u8*)t_d821<5)copy_bits_4f4((u8*)t_d821,qd,5);
+else memcpy(qd,(u8*)t_d821,5);
+wp(a,pd);
+w8(a+8,od);
+w8(a+16,md);
+sd=r8(a+160);
+if(r8(a+184)>sd)td=sd;
+else{
+ud=make_ready_e3c(a+152);
+if(!(ud&1)){
+fd=0;
+gd=0;
+goto L27;}
+td=r8(a+160);}
+vd=rp(a+152)+(td<<5);
+*vd=9;
+vd[1]=0;
+x8(vd+8,vb);
+x8(vd+16,hd);
+vd[24]=0;
+w8(a+160,td+1);
+w8(a+192,ed);
+fd=1;
+gd=1;
+L27:w8(y,fd);
+y[8]=gd;
 y[9]=0;
 w8(y+16,0);
 y[24]=0;
-goto L14;
-case 80:ud=vb+1;
-vd=r8(a+8);
-if(r8(a+32)-vd<7){
-xd=make_ready_8e3(a,7,128);
-if(!(xd&1)){
-zd=0;
-Ad=0;
+goto L22;
+case 80:xd=vb+1;
+yd=r8(a+8);
+if(r8(a+32)-yd<7){
+zd=make_ready_8e3(a,7,128);
+if(!(zd&1)){
+Bd=0;
+Cd=0;
 goto L28;}
-yd=r8(a+8);}
-else yd=vd;
-Bd=r8(a+16);
-if(Bd-yd<7){
-Cd=grow_amortized_2b6(a,7);
-if(!Cd){
-zd=0;
-Ad=0;
-goto L28;}
+Ad=r8(a+8);}
+else Ad=yd;
 Dd=r8(a+16);
-Ed=r8(a+8);}
-else{
-Dd=Bd;
-Ed=yd;}
-Fd=Ed+7;
-Gd=rp(a);
-z16(a+8);
-Hd=Gd+(i64)Ed;
-if((u64)Hd-(u64)(u8*)t_ff67<7)copy_bits_4f4((u8*)t_ff67,Hd,7);
-else memcpy(Hd,(u8*)t_ff67,7);
-wp(a,Gd);
-w8(a+8,Fd);
-w8(a+16,Dd);
-Id=r8(a+160);
-if(r8(a+184)>Id)Jd=Id;
-else{
-Kd=make_ready_e3c(a+152);
-if(!(Kd&1)){
-zd=0;
-Ad=0;
+if(Dd-Ad<7){
+Ed=grow_amortized_2b6(a,7);
+if(!Ed){
+Bd=0;
+Cd=0;
 goto L28;}
-Jd=r8(a+160);}
-Ld=rp(a+152)+(Jd<<5);
-*Ld=9;
-Ld[1]=0;
-x8(Ld+8,vb);
-x8(Ld+16,vd);
-Ld[24]=0;
-w8(a+160,Jd+1);
-w8(a+192,ud);
-zd=1;
-Ad=1;
-L28:w8(y,zd);
-y[8]=Ad;
+Fd=r8(a+16);
+Gd=r8(a+8);}
+else{
+Fd=Dd;
+Gd=Ad;}
+Hd=Gd+7;
+Id=rp(a);
+z16(a+8);
+Jd=Id+(i64)Gd;
+if((u64)Jd-(u64)(u8*)t_ff67<7)copy_bits_4f4((u8*)t_ff67,Jd,7);
+else memcpy(Jd,(u8*)t_ff67,7);
+wp(a,Id);
+w8(a+8,Hd);
+w8(a+16,Fd);
+Kd=r8(a+160);
+if(r8(a+184)>Kd)Ld=Kd;
+else{
+Md=make_ready_e3c(a+152);
+if(!(Md&1)){
+Bd=0;
+Cd=0;
+goto L28;}
+Ld=r8(a+160);}
+Nd=rp(a+152)+(Ld<<5);
+*Nd=9;
+Nd[1]=0;
+x8(Nd+8,vb);
+x8(Nd+16,yd);
+Nd[24]=0;
+w8(a+160,Ld+1);
+w8(a+192,xd);
+Bd=1;
+Cd=1;
+L28:w8(y,Bd);
+y[8]=Cd;
 y[9]=0;
 w8(y+16,0);
 y[24]=0;
-goto L14;
-case 79:Md=vb+1;
-Nd=r8(a+8);
-if(r8(a+32)-Nd<5){
-Od=make_ready_8e3(a,5,128);
-if(!(Od&1)){
-Qd=0;
-Rd=0;
+goto L22;
+case 79:Od=vb+1;
+Pd=r8(a+8);
+if(r8(a+32)-Pd<5){
+Qd=make_ready_8e3(a,5,128);
+if(!(Qd&1)){
+Sd=0;
+Td=0;
 goto L29;}
-Pd=r8(a+8);}
-else Pd=Nd;
-Sd=r8(a+16);
-if(Sd-Pd<5){
-Td=grow_amortized_2b6(a,5);
-if(!Td){
-Qd=0;
-Rd=0;
-goto L29;}
+Rd=r8(a+8);}
+else Rd=Pd;
 Ud=r8(a+16);
-Vd=r8(a+8);}
-else{
-Ud=Sd;
-Vd=Pd;}
-Wd=Vd+5;
-Xd=rp(a);
-z16(a+8);
-Yd=Xd+(i64)Vd;
-if((u64)Yd-(u64)(u8*)t_b2e2<5)copy_bits_4f4((u8*)t_b2e2,Yd,5);
-else memcpy(Yd,(u8*)t_b2e2,5);
-wp(a,Xd);
-w8(a+8,Wd);
-w8(a+16,Ud);
-Zd=r8(a+160);
-if(r8(a+184)>Zd)ae=Zd;
-else{
-be=make_ready_e3c(a+152);
-if(!(be&1)){
-Qd=0;
-Rd=0;
+if(Ud-Rd<5){
+Vd=grow_amortized_2b6(a,5);
+if(!Vd){
+Sd=0;
+Td=0;
 goto L29;}
-ae=r8(a+160);}
-ce=rp(a+152)+(ae<<5);
-*ce=9;
-ce[1]=0;
-x8(ce+8,vb);
-x8(ce+16,Nd);
-ce[24]=0;
-w8(a+160,ae+1);
-w8(a+192,Md);
-Qd=1;
-Rd=1;
-L29:w8(y,Qd);
-y[8]=Rd;
+Wd=r8(a+16);
+Xd=r8(a+8);}
+else{
+Wd=Ud;
+Xd=Rd;}
+Yd=Xd+5;
+Zd=rp(a);
+z16(a+8);
+ae=Zd+(i64)Xd;
+if((u64)ae-(u64)(u8*)t_b2e2<5)copy_bits_4f4((u8*)t_b2e2,ae,5);
+else memcpy(ae,(u8*)t_b2e2,5);
+wp(a,Zd);
+w8(a+8,Yd);
+w8(a+16,Wd);
+be=r8(a+160);
+if(r8(a+184)>be)ce=be;
+else{
+de=make_ready_e3c(a+152);
+if(!(de&1)){
+Sd=0;
+Td=0;
+goto L29;}
+ce=r8(a+160);}
+ee=rp(a+152)+(ce<<5);
+*ee=9;
+ee[1]=0;
+x8(ee+8,vb);
+x8(ee+16,Pd);
+ee[24]=0;
+w8(a+160,ce+1);
+w8(a+192,Od);
+Sd=1;
+Td=1;
+L29:w8(y,Sd);
+y[8]=Td;
 y[9]=0;
 w8(y+16,0);
 y[24]=0;
-goto L14;
-case 83:de=vb+1;
-ee=r8(a+8);
-if(r8(a+32)==ee){
-fe=make_ready_8e3(a,1,128);
-if(!(fe&1)){
-he=0;
-ie=0;
+goto L22;
+case 83:fe=vb+1;
+ge=r8(a+8);
+if(r8(a+32)==ge){
+he=make_ready_8e3(a,1,128);
+if(!(he&1)){
+je=0;
+ke=0;
 goto L30;}
-ge=r8(a+8);}
-else ge=ee;
-je=r8(a+16);
-if(je==ge){
-ke=grow_amortized_2b6(a,1);
-if(!ke){
-he=0;
-ie=0;
-goto L30;}
+ie=r8(a+8);}
+else ie=ge;
 le=r8(a+16);
-me=r8(a+8);}
-else{
-le=je;
-me=ge;}
-ne=me+1;
-oe=rp(a);
-z16(a+8);
-pe=oe+(i64)me;
-if((u64)pe==(u64)(u8*)t_2458)copy_bits_4f4((u8*)t_2458,pe,1);
-else *pe=91;
-wp(a,oe);
-w8(a+8,ne);
-w8(a+16,le);
-qe=r8(a+160);
-if(r8(a+184)>qe)re=qe;
-else{
-se=make_ready_e3c(a+152);
-if(!(se&1)){
-he=0;
-ie=0;
+if(le==ie){
+me=grow_amortized_2b6(a,1);
+if(!me){
+je=0;
+ke=0;
 goto L30;}
-re=r8(a+160);}
-te=rp(a+152)+(re<<5);
-*te=9;
-te[1]=0;
-x8(te+8,vb);
-x8(te+16,ee);
-te[24]=1;
-w8(a+160,re+1);
-w8(a+192,de);
-he=1;
-ie=1;
-L30:w8(y,he);
-y[8]=ie;
-y[9]=0;
-w8(y+16,0);
-y[24]=0;
-goto L14;
-case 84:ue=r8(a+8);
-ve=vb+1;
-if(r8(a+32)==ue){
-we=make_ready_8e3(a,1,128);
-if(!(we&1)){
-ye=0;
-ze=0;
-goto L31;}
-xe=r8(a+8);}
-else xe=ue;
-Ae=r8(a+16);
-if(Ae==xe){
-Be=grow_amortized_2b6(a,1);
-if(!Be){
-ye=0;
-ze=0;
-goto L31;}
-Ce=r8(a+16);
-De=r8(a+8);}
+ne=r8(a+16);
+oe=r8(a+8);}
 else{
-Ce=Ae;
-De=xe;}
-Ee=De+1;
-Fe=rp(a);
+ne=le;
+oe=ie;}
+pe=oe+1;
+qe=rp(a);
 z16(a+8);
-Ge=Fe+(i64)De;
-if((u64)Ge==(u64)(u8*)t_32eb)copy_bits_4f4((u8*)t_32eb,Ge,1);
-else *Ge=40;
-wp(a,Fe);
-w8(a+8,Ee);
-w8(a+16,Ce);
-He=r8(a+160);
-if(r8(a+184)>He)Ie=He;
+re=qe+(i64)oe;
+if((u64)re==(u64)(u8*)t_2458)copy_bits_4f4((u8*)t_2458,re,1);
+else *re=91;
+wp(a,qe);
+w8(a+8,pe);
+w8(a+16,ne);
+se=r8(a+160);
+if(r8(a+184)>se)te=se;
 else{
-Je=make_ready_e3c(a+152);
-if(!(Je&1)){
-ye=0;
-ze=0;
-goto L31;}
-Ie=r8(a+160);}
-Ke=rp(a+152)+(Ie<<5);
-*Ke=12;
-Ke[1]=0;
-x8(Ke+8,vb);
-x8(Ke+16,ue);
-Ke[24]=1;
-w8(a+160,Ie+1);
-w8(a+192,ve);
-ye=1;
-ze=1;
-L31:w8(y,ye);
-y[8]=ze;
+ue=make_ready_e3c(a+152);
+if(!(ue&1)){
+je=0;
+ke=0;
+goto L30;}
+te=r8(a+160);}
+ve=rp(a+152)+(te<<5);
+*ve=9;
+ve[1]=0;
+x8(ve+8,vb);
+x8(ve+16,ge);
+ve[24]=1;
+w8(a+160,te+1);
+w8(a+192,fe);
+je=1;
+ke=1;
+L30:w8(y,je);
+y[8]=ke;
 y[9]=0;
 w8(y+16,0);
 y[24]=0;
-goto L14;
-case 66:Le=r8(a+8);
-Me=vb+1;
-Ne=umin64(c-Me,11)+Me;
-if(Me>=Ne){
-Pe=Me;
-goto L32;}
-Oe=Me;
-L33:if(*((u8*)t_84dd+*(b+Oe))<62){
-Qe=Oe+1;
-if(Qe!=Ne){
-Oe=Qe;
+goto L22;
+case 84:we=r8(a+8);
+xe=vb+1;
+if(r8(a+32)==we){
+ye=make_ready_8e3(a,1,128);
+if(!(ye&1)){
+Ae=0;
+Be=0;
+goto L31;}
+ze=r8(a+8);}
+else ze=we;
+Ce=r8(a+16);
+if(Ce==ze){
+De=grow_amortized_2b6(a,1);
+if(!De){
+Ae=0;
+Be=0;
+goto L31;}
+Ee=r8(a+16);
+Fe=r8(a+8);}
+else{
+Ee=Ce;
+Fe=ze;}
+Ge=Fe+1;
+He=rp(a);
+z16(a+8);
+Ie=He+(i64)Fe;
+if((u64)Ie==(u64)(u8*)t_32eb)copy_bits_4f4((u8*)t_32eb,Ie,1);
+else *Ie=40;
+wp(a,He);
+w8(a+8,Ge);
+w8(a+16,Ee);
+Je=r8(a+160);
+if(r8(a+184)>Je)Ke=Je;
+else{
+Le=make_ready_e3c(a+152);
+if(!(Le&1)){
+Ae=0;
+Be=0;
+goto L31;}
+Ke=r8(a+160);}
+Me=rp(a+152)+(Ke<<5);
+*Me=12;
+Me[1]=0;
+x8(Me+8,vb);
+x8(Me+16,we);
+Me[24]=1;
+w8(a+160,Ke+1);
+w8(a+192,xe);
+Ae=1;
+Be=1;
+L31:w8(y,Ae);
+y[8]=Be;
+y[9]=0;
+w8(y+16,0);
+y[24]=0;
+goto L22;
+case 66:Ne=r8(a+8);
+Oe=vb+1;
+z24(u);
+Pe=Oe!=18446744073709551615u;
+Qe=vb+2;
+if(Pe&((Pe?Qe:0)<c)){
+if(*(b+Qe)==95){
+Re=*((u8*)t_84dd+*(b+(i64)Oe));
+if(Re<62){
+Se=Re+3;
+Te=vb+3;
+goto L32;}}}
+any_number_at_3d4(u,b,c,Oe);
+Ue=r8(u+8);
+if(!(*u==1&&Ue<0xfffffffffffffffeu)){
+Ve=0;
+We=0;
+Xe=0;
+Ye=0;
 goto L33;}
-Pe=Ne;}
-else Pe=Oe;
-L32:if(Pe==c){
-Re=0;
-Se=0;
-Te=0;
-Ue=0;}
+Se=Ue+2;
+Te=r8(u+16);
+L32:if(Se<r8(a+136)){
+Ze=r2(rp(a+128)+(i64)(Se<<1));
+if(Ze==0){
+Ve=0;
+We=0;
+Xe=0;
+Ye=0;}
 else{
-if(*(b+Pe)==95){
-Ve=Me&4294967295u;
-We=Pe&4294967295u;
-Xe=We+1;
-if(We==Ve)Ye=2;
+af=(u64)Ze-1;
+if(af<r8(a+96)){
+bf=rp(a+88)+(i64)(af*24);
+cf=bf[16];
+switch(cf){
+case 0:case 2:case 3:df=q8(bf);
+ef=q8(bf+8);
+if(ef<df){
+Ve=0;
+We=0;
+Xe=0;
+Ye=0;}
 else{
-Ze=b+(i64)Ve;
-af=We-Ve;
-if(af>10){
-bf=0;
-cf=0;
-goto L34;}
-df=0;
-ef=0;
-L35:ff=*((u8*)t_84dd+*(Ze+(i64)ef));
-if(ff>=62){
-Re=0;
-Se=0;
-Te=0;
-Ue=0;
-goto L36;}
-gf=df*62+ff;
-hf=ef+1;
-if(hf==af){
-jf=gf;
-goto L37;}
-df=gf;
-ef=hf;
-goto L35;
-L34:kf=*((u8*)t_84dd+*(Ze+(i64)cf));
-if(!((bf<0x421084210842109u)&(kf<62))){
-Re=0;
-Se=0;
-Te=0;
-Ue=0;
-goto L36;}
-lf=bf*62;
-if(lf>(kf^18446744073709551615u)){
-Re=0;
-Se=0;
-Te=0;
-Ue=0;
-goto L36;}
-mf=lf+kf;
-nf=cf+1;
-if(nf!=af){
-bf=mf;
-cf=nf;
-goto L34;}
-jf=mf;
-L37:if(jf>0xfffffffffffffffcu){
-Re=0;
-Se=0;
-Te=0;
-Ue=0;
-goto L36;}
-Ye=jf+3;}
-if(Ye<r8(a+136)){
-of=r2(rp(a+128)+(i64)(Ye<<1));
-if(of==0){
-Re=0;
-Se=0;
-Te=0;
-Ue=0;}
-else{
-pf=(u64)of-1;
-if(pf<r8(a+96)){
-qf=rp(a+88)+(i64)(pf*24);
-rf=qf[16];
-switch(rf){
-case 0:case 2:case 3:memcpy(u,qf,16);
-u[16]=rf;
-memcpy(u+17,qf+17,7);
-sf=repeat_2ff(a,u);
-if(sf&1){
-w8(a+192,Xe);
-if(r8(a+136)>vb){
-tf=r8(a+96);
-if(tf>65534){
-Re=0;
-Se=0;
-Te=0;
-Ue=0;}
-else{
-uf=r8(a+8);
-vf=a[80];
-if(r8(a+120)>tf)wf=tf;
-else{
-xf=make_ready_b73(a+88);
-if(!(xf&1)){
-Re=0;
-Se=0;
-Te=0;
-Ue=0;
+if((u8)(a[80]^bf[17])&1){
+ff=r8(a+48);
+if(ff<ef){
+Ve=0;
+We=0;
+Xe=0;
+Ye=0;
 break;}
-wf=r8(a+96);}
-yf=rp(a+88)+wf*24;
-x8(yf,Le);
-x8(yf+8,uf);
-yf[16]=rf;
-yf[17]=vf;
-z6(yf+18);
-w8(a+96,wf+1);
-w2(rp(a+128)+(i64)(vb<<1),(u16)tf+1);
-Re=1;
-Se=2;
-Te=Le;
-Ue=3;}}
+gf=ef-df;
+hf=r8(a+32)-Ne;
+jf=rp(a+40)+(i64)df;
+if(!((gf>16)|(ff-df<16)||hf<16)){
+nf=extend_from_slice_169(a,jf,16);
+if(!(nf&1)){
+of=gf+Ne;
+if(r8(a+8)<=of)goto L34;
+w8(a+8,of);
+goto L34;}
+Ve=0;
+We=0;
+Xe=0;
+Ye=0;
+break;}
+if(hf<gf){
+kf=make_ready_8e3(a,gf,128);
+if(!(kf&1)){
+Ve=0;
+We=0;
+Xe=0;
+Ye=0;
+break;}}
+lf=extend_from_slice_169(a,jf,gf);
+mf=lf;}
 else{
-Re=0;
-Se=0;
-Te=0;
-Ue=0;}}
+if(Ne<ef){
+Ve=0;
+We=0;
+Xe=0;
+Ye=0;
+break;}
+pf=repeat_28b(a,df,ef);
+mf=pf^1;}
+if(mf&1){
+Ve=0;
+We=0;
+Xe=0;
+Ye=0;
+break;}
+L34:w8(a+192,Te);
+if(r8(a+136)>vb){
+qf=r8(a+96);
+if(qf>65534){
+Ve=0;
+We=0;
+Xe=0;
+Ye=0;}
 else{
-Re=0;
-Se=0;
-Te=0;
-Ue=0;}
+rf=r8(a+8);
+sf=a[80];
+if(r8(a+120)>qf)tf=qf;
+else{
+uf=make_ready_b73(a+88);
+if(!(uf&1)){
+Ve=0;
+We=0;
+Xe=0;
+Ye=0;
+break;}
+tf=r8(a+96);}
+vf=rp(a+88)+tf*24;
+x8(vf,Ne);
+x8(vf+8,rf);
+vf[16]=cf;
+vf[17]=sf;
+z6(vf+18);
+w8(a+96,tf+1);
+w2(rp(a+128)+(i64)(vb<<1),(u16)qf+1);
+Ve=1;
+We=2;
+Xe=Ne;
+Ye=3;}}
+else{
+Ve=0;
+We=0;
+Xe=0;
+Ye=0;}}
 break;
-case 1:case 4:Re=0;
-Se=0;
-Te=0;
-Ue=0;
+case 1:case 4:Ve=0;
+We=0;
+Xe=0;
+Ye=0;
 break;
 default:NEVER;
 }}
 else{
-Re=0;
-Se=0;
-Te=0;
-Ue=0;}}}
+Ve=0;
+We=0;
+Xe=0;
+Ye=0;}}}
 else{
-Re=0;
-Se=0;
-Te=0;
-Ue=0;}}
-else{
-Re=0;
-Se=0;
-Te=0;
-Ue=0;}}
-L36:w8(y,Re);
-y[8]=Se;
+Ve=0;
+We=0;
+Xe=0;
+Ye=0;}
+L33:w8(y,Ve);
+y[8]=We;
 y[9]=0;
-w8(y+16,Te);
-y[24]=Ue;
-goto L14;
-case 65:zf=r8(a+8);
+w8(y+16,Xe);
+y[24]=Ye;
+goto L22;
+case 65:wf=r8(a+8);
 w8(a+192,vb+1);
-if(r8(a+32)>zf)Af=zf;
+if(r8(a+32)>wf)xf=wf;
 else{
-Bf=make_ready_8e3(a,1,16);
-if(!(Bf&1)){
-Cf=0;
-Df=0;
-goto L38;}
-Af=r8(a+8);}
-*(rp(a)+Af)=91;
-w8(a+8,Af+1);
-Ef=r8(a+160);
-if(r8(a+184)>Ef)Ff=Ef;
+yf=make_ready_8e3(a,1,16);
+if(!(yf&1)){
+zf=0;
+Af=0;
+goto L35;}
+xf=r8(a+8);}
+*(rp(a)+xf)=91;
+w8(a+8,xf+1);
+Bf=r8(a+160);
+if(r8(a+184)>Bf)Cf=Bf;
 else{
-Gf=make_ready_e3c(a+152);
-if(!(Gf&1)){
-Cf=0;
-Df=0;
-goto L38;}
-Ff=r8(a+160);}
-Hf=rp(a+152)+(Ff<<5);
-*Hf=14;
-Hf[1]=0;
-x8(Hf+8,vb);
-x8(Hf+16,zf);
-Hf[24]=0;
-w8(a+160,Ff+1);
-Cf=1;
-Df=1;
-L38:w8(y,Cf);
-y[8]=Df;
+Df=make_ready_e3c(a+152);
+if(!(Df&1)){
+zf=0;
+Af=0;
+goto L35;}
+Cf=r8(a+160);}
+Ef=rp(a+152)+(Cf<<5);
+*Ef=14;
+Ef[1]=0;
+x8(Ef+8,vb);
+x8(Ef+16,wf);
+Ef[24]=0;
+w8(a+160,Cf+1);
+zf=1;
+Af=1;
+L35:w8(y,zf);
+y[8]=Af;
 y[9]=0;
 w8(y+16,0);
 y[24]=0;
-goto L14;
-case 68:If=r8(a+8);
-Jf=vb+1;
-if(r8(a+32)-If<4){
-Kf=make_ready_8e3(a,4,128);
-if(!(Kf&1)){
-Mf=0;
-goto L39;}
-Lf=r8(a+8);}
-else Lf=If;
-Nf=r8(a+16);
-if(Nf-Lf<4){
-Of=grow_amortized_2b6(a,4);
-if(!Of){
-Mf=0;
-goto L39;}
-Pf=r8(a+16);
-Qf=r8(a+8);}
+goto L22;
+case 68:Ff=r8(a+8);
+Gf=vb+1;
+if(r8(a+32)-Ff<4){
+Hf=make_ready_8e3(a,4,128);
+if(!(Hf&1)){
+Jf=0;
+goto L36;}
+If=r8(a+8);}
+else If=Ff;
+Kf=r8(a+16);
+if(Kf-If<4){
+Lf=grow_amortized_2b6(a,4);
+if(!Lf){
+Jf=0;
+goto L36;}
+Mf=r8(a+16);
+Nf=r8(a+8);}
 else{
-Pf=Nf;
-Qf=Lf;}
-Rf=Qf+4;
-Sf=rp(a);
+Mf=Kf;
+Nf=If;}
+Of=Nf+4;
+Pf=rp(a);
 z16(a+8);
-Tf=Sf+(i64)Qf;
-if((u64)Tf-(u64)(u8*)t_f616<4)copy_bits_4f4((u8*)t_f616,Tf,4);
-else x4(Tf,544110948);
-wp(a,Sf);
-w8(a+8,Rf);
-w8(a+16,Pf);
-Uf=r8(a+160);
-if(r8(a+184)>Uf)Vf=Uf;
+Qf=Pf+(i64)Nf;
+if((u64)Qf-(u64)(u8*)t_f616<4)copy_bits_4f4((u8*)t_f616,Qf,4);
+else x4(Qf,544110948);
+wp(a,Pf);
+w8(a+8,Of);
+w8(a+16,Mf);
+Rf=r8(a+160);
+if(r8(a+184)>Rf)Sf=Rf;
 else{
-Wf=make_ready_e3c(a+152);
-if(!(Wf&1)){
-Mf=0;
-goto L39;}
-Vf=r8(a+160);}
-Xf=rp(a+152)+(Vf<<5);
-*Xf=13;
-Xf[1]=0;
-x8(Xf+8,vb);
-x8(Xf+16,If);
-Xf[24]=0;
-w8(a+160,Vf+1);
-w8(a+192,Jf);
-Mf=1;
-L39:w8(y,Mf);
+Tf=make_ready_e3c(a+152);
+if(!(Tf&1)){
+Jf=0;
+goto L36;}
+Sf=r8(a+160);}
+Uf=rp(a+152)+(Sf<<5);
+*Uf=13;
+Uf[1]=0;
+x8(Uf+8,vb);
+x8(Uf+16,Ff);
+Uf[24]=0;
+w8(a+160,Sf+1);
+w8(a+192,Gf);
+Jf=1;
+L36:w8(y,Jf);
 y[8]=0;
 y[9]=0;
 w8(y+16,0);
 y[24]=0;
-goto L14;
-case 97:Yf=2;
-Zf=(u8*)t_4c1d;
+goto L22;
+case 97:Vf=2;
+Wf=(u8*)t_4c1d;
 break;
-case 98:Yf=4;
-Zf=(u8*)t_b760;
+case 98:Vf=4;
+Wf=(u8*)t_b760;
 break;
-case 99:Yf=4;
-Zf=(u8*)t_411b;
+case 99:Vf=4;
+Wf=(u8*)t_411b;
 break;
-case 100:Yf=3;
-Zf=(u8*)t_6a3e;
+case 100:Vf=3;
+Wf=(u8*)t_6a3e;
 break;
-case 101:Yf=3;
-Zf=(u8*)t_8c25;
+case 101:Vf=3;
+Wf=(u8*)t_8c25;
 break;
-case 102:Yf=3;
-Zf=(u8*)t_16b5;
+case 102:Vf=3;
+Wf=(u8*)t_16b5;
 break;
-case 104:Yf=2;
-Zf=(u8*)t_c899;
+case 104:Vf=2;
+Wf=(u8*)t_c899;
 break;
-case 105:Yf=5;
-Zf=(u8*)t_db3b;
+case 105:Vf=5;
+Wf=(u8*)t_db3b;
 break;
-case 106:Yf=5;
-Zf=(u8*)t_f417;
+case 106:Vf=5;
+Wf=(u8*)t_f417;
 break;
-case 108:Yf=3;
-Zf=(u8*)t_579a;
+case 108:Vf=3;
+Wf=(u8*)t_579a;
 break;
-case 109:Yf=3;
-Zf=(u8*)t_d764;
+case 109:Vf=3;
+Wf=(u8*)t_d764;
 break;
-case 110:Yf=4;
-Zf=(u8*)t_9cf5;
+case 110:Vf=4;
+Wf=(u8*)t_9cf5;
 break;
-case 111:Yf=4;
-Zf=(u8*)t_fcd0;
+case 111:Vf=4;
+Wf=(u8*)t_fcd0;
 break;
-case 112:Yf=1;
-Zf=(u8*)t_d2e2;
+case 112:Vf=1;
+Wf=(u8*)t_d2e2;
 break;
-case 115:Yf=3;
-Zf=(u8*)t_7daa;
+case 115:Vf=3;
+Wf=(u8*)t_7daa;
 break;
-case 116:Yf=3;
-Zf=(u8*)t_2988;
+case 116:Vf=3;
+Wf=(u8*)t_2988;
 break;
-case 117:Yf=2;
-Zf=(u8*)t_2e38;
+case 117:Vf=2;
+Wf=(u8*)t_2e38;
 break;
-case 118:Yf=3;
-Zf=(u8*)t_ab5d;
+case 118:Vf=3;
+Wf=(u8*)t_ab5d;
 break;
-case 120:Yf=3;
-Zf=(u8*)t_1a91;
+case 120:Vf=3;
+Wf=(u8*)t_1a91;
 break;
-case 121:Yf=3;
-Zf=(u8*)t_1506;
+case 121:Vf=3;
+Wf=(u8*)t_1506;
 break;
-case 122:Yf=1;
-Zf=(u8*)t_bb72;
+case 122:Vf=1;
+Wf=(u8*)t_bb72;
 break;
-default:goto L14;
+default:goto L22;
 }
-ag=r8(a+8);
+Xf=r8(a+8);
 w8(a+192,vb+1);
-if(r8(a+32)-ag<Yf){
-bg=make_ready_8e3(a,Yf,128);
-if(!(bg&1))goto L15;
-cg=r8(a+8);}
-else cg=ag;
-dg=r8(a+16);
-if(Yf>dg-cg){
-eg=grow_amortized_2b6(a,Yf);
-if(!eg)goto L15;
-fg=r8(a+16);
-gg=r8(a+8);}
+if(r8(a+32)-Xf<Vf){
+Yf=make_ready_8e3(a,Vf,128);
+if(!(Yf&1))goto L14;
+Zf=r8(a+8);}
+else Zf=Xf;
+ag=r8(a+16);
+if(Vf>ag-Zf){
+bg=grow_amortized_2b6(a,Vf);
+if(!bg)goto L14;
+cg=r8(a+16);
+dg=r8(a+8);}
 else{
-fg=dg;
-gg=cg;}
-hg=gg+Yf;
-ig=rp(a);
+cg=ag;
+dg=Zf;}
+eg=dg+Vf;
+fg=rp(a);
 z16(a+8);
-jg=ig+(i64)gg;
-if((u64)jg-(u64)Zf<Yf)copy_bits_4f4(Zf,jg,Yf);
-else memmove(jg,Zf,Yf);
-wp(a,ig);
-w8(a+8,hg);
-w8(a+16,fg);
+gg=fg+(i64)dg;
+if((u64)gg-(u64)Wf<Vf)copy_bits_4f4(Wf,gg,Vf);
+else memmove(gg,Wf,Vf);
+wp(a,fg);
+w8(a+8,eg);
+w8(a+16,cg);
 if(r8(a+136)>vb){
-kg=r8(a+96);
-if(kg>65534){
-lg=0;
-mg=0;
-ng=0;
-og=0;}
+hg=r8(a+96);
+if(hg>65534){
+ig=0;
+jg=0;
+kg=0;
+lg=0;}
 else{
-pg=a[80];
-if(r8(a+120)>kg)qg=kg;
+mg=a[80];
+if(r8(a+120)>hg)ng=hg;
 else{
-rg=make_ready_b73(a+88);
-if(!(rg&1)){
+og=make_ready_b73(a+88);
+if(!(og&1)){
+ig=0;
+jg=0;
+kg=0;
 lg=0;
-mg=0;
-ng=0;
-og=0;
-goto L40;}
-qg=r8(a+96);}
-sg=rp(a+88)+qg*24;
-x8(sg,ag);
-x8(sg+8,hg);
-sg[16]=3;
-sg[17]=pg;
-z6(sg+18);
-w8(a+96,qg+1);
-w2(rp(a+128)+(i64)(vb<<1),(u16)kg+1);
-lg=1;
-mg=2;
-ng=ag;
-og=3;}}
+goto L37;}
+ng=r8(a+96);}
+pg=rp(a+88)+ng*24;
+x8(pg,Xf);
+x8(pg+8,eg);
+pg[16]=3;
+pg[17]=mg;
+z6(pg+18);
+w8(a+96,ng+1);
+w2(rp(a+128)+(i64)(vb<<1),(u16)hg+1);
+ig=1;
+jg=2;
+kg=Xf;
+lg=3;}}
 else{
-lg=0;
-mg=0;
-ng=0;
-og=0;}
-L40:w8(y,lg);
-y[8]=mg;
+ig=0;
+jg=0;
+kg=0;
+lg=0;}
+L37:w8(y,ig);
+y[8]=jg;
 y[9]=0;
-w8(y+16,ng);
-y[24]=og;
-goto L14;
-L25:zc=r8(a+160);
-Ac=Dc;
-Bc=Ec;
-L24:tg=rp(a+152)+(zc<<5);
-*tg=Ac;
-tg[1]=Bc;
-x8(tg+8,vb);
-x8(tg+16,0);
-tg[24]=0;
-w8(a+160,zc+1);
-ug=0;
-goto L41;
+w8(y+16,kg);
+y[24]=lg;
+goto L22;
+L25:Bc=r8(a+160);
+Cc=Fc;
+Dc=Gc;
+L24:qg=rp(a+152)+(Bc<<5);
+*qg=Cc;
+qg[1]=Dc;
+x8(qg+8,vb);
+x8(qg+16,0);
+qg[24]=0;
+w8(a+160,Bc+1);
+rg=0;
+goto L38;
 L23:F=0;
 goto L1;
-L14:if(*y!=1){
+L22:if(*y!=1){
 F=0;
 goto L1;}
 rb=r8(y+16);
@@ -92592,397 +92642,383 @@ sb=y[8];
 tb=y[9];
 ub=y[24];
 goto L10;}
-L15:F=0;
+L14:F=0;
 goto L1;
 L10:if(sb!=0){
-vg=rb;
-wg=sb;
-xg=tb;
-yg=ub;
-goto L42;}
+sg=rb;
+tg=sb;
 ug=tb;
-L41:z32(t);
-zg=r8(a+192);
-if(zg<c){
-Ag=ug&1;
-Bg=zg;
-L43:switch(*(b+Bg)){
-case 78:Cg=Bg+1;
-if(Cg>=c)goto L44;
-Dg=*(b+Cg);
-if(Dg<65)goto L44;
-if(!((Dg<91)|((u8)(Dg-97)<26)))goto L44;
-w8(a+192,Bg+2);
-Eg=r8(a+160);
-if(r8(a+184)>Eg){
-Fg=Eg;
+vg=ub;
+goto L39;}
+rg=tb;
+L38:z32(t);
+wg=r8(a+192);
+if(wg<c){
+xg=rg&1;
+yg=wg;
+L40:switch(*(b+yg)){
+case 78:zg=yg+1;
+if(zg<c)Ag=*(b+zg);
+else Ag=0;
+if(zg==18446744073709551615u||*((u8*)t_eb43+Ag)==0)goto L41;
+w8(a+192,yg+2);
+Bg=r8(a+160);
+if(r8(a+184)>Bg){
+Cg=Bg;
+Dg=2;
+Eg=Ag;
+goto L42;}
+Fg=make_ready_e3c(a+152);
+if(!(Fg&1))goto L41;
 Gg=2;
-Hg=Dg;
-goto L45;}
-Ig=make_ready_e3c(a+152);
-if(!(Ig&1))goto L44;
-Jg=2;
-Kg=Dg;
-break;
-case 73:w8(a+192,Bg+1);
-Lg=r8(a+160);
-if(r8(a+184)>Lg){
-Fg=Lg;
-Gg=3;
 Hg=Ag;
-goto L45;}
-Mg=make_ready_e3c(a+152);
-if(!(Mg&1))goto L44;
-Jg=3;
-Kg=Ag;
 break;
-default:Ng=Bg;
-goto L46;
+case 73:w8(a+192,yg+1);
+Ig=r8(a+160);
+if(r8(a+184)>Ig){
+Cg=Ig;
+Dg=3;
+Eg=xg;
+goto L42;}
+Jg=make_ready_e3c(a+152);
+if(!(Jg&1))goto L41;
+Gg=3;
+Hg=xg;
+break;
+default:Kg=yg;
+goto L43;
 }
-Fg=r8(a+160);
-Gg=Jg;
-Hg=Kg;
-L45:Og=rp(a+152)+(Fg<<5);
-*Og=Gg;
-Og[1]=Hg;
-x8(Og+8,Bg);
-x8(Og+16,0);
-Og[24]=0;
-w8(a+160,Fg+1);
-Pg=r8(a+192);
-if(Pg<c){
-Bg=Pg;
-goto L43;}
-Ng=Pg;
-goto L46;
-L44:F=0;
+Cg=r8(a+160);
+Dg=Gg;
+Eg=Hg;
+L42:Lg=rp(a+152)+(Cg<<5);
+*Lg=Dg;
+Lg[1]=Eg;
+x8(Lg+8,yg);
+x8(Lg+16,0);
+Lg[24]=0;
+w8(a+160,Cg+1);
+Mg=r8(a+192);
+if(Mg<c){
+yg=Mg;
+goto L40;}
+Kg=Mg;
+goto L43;
+L41:F=0;
 goto L1;}
-Ng=zg;
-L46:if(Ng<c){
-switch(*(b+Ng)){
-case 67:Qg=r8(a+8);
-Rg=Ng+1;
-if(Rg<c){
-if(*(b+Rg)==115){
-Sg=Ng+2;
-if(c-Sg>=12){
-Tg=Ng+13;
-Ug=b+(i64)Sg;
-Vg=*Ug;
-if(!((Vg<58)|((u8)(Vg-97)<11)))goto L47;
-Wg=0;
-L48:if(*((u8*)t_9eba+*(Ug+Wg))==0){
-Xg=Wg+1;
-if(Xg!=11){
-Wg=Xg;
-goto L48;}
-if(Tg<c){
-if(*(b+Tg)==95){
-Yg=Ng+14;
-goto L49;}}}}
-L47:Zg=any_disambiguator_end_f9c(b,c,Rg);
-if(Zg.f0!=1)goto L50;
-Yg=Zg.f1;}
-else Yg=Rg;}
-else Yg=Rg;
-L49:if(Yg<c){
-ah=*(b+Yg);
-if((u8)(ah-58)>=247){
-bh=Yg+1;
-if(bh<c){
-ch=*(b+bh)-48;
-if(ch<10){
-dh=Yg+2;
-eh=(u64)ch+(u8)((u8)(ah*10)+32);
-if(c-dh<eh)goto L50;
-fh=eh+dh;
-gh=b+(i64)dh;
-hh=*gh;
-if((hh==95)|((u8)(hh-48)<10)){
+Kg=wg;
+L43:if(Kg<c){
+switch(*(b+Kg)){
+case 67:Ng=r8(a+8);
+Og=Kg+1;
+if(Og<c){
+if(*(b+Og)==115){
+Pg=Kg+2;
+if(c-Pg>=12){
+Qg=b+(i64)Pg;
+Rg=0;
+L44:if(*((u8*)t_9eba+*(Qg+Rg))==0){
+Sg=Rg+1;
+if(Sg!=11){
+Rg=Sg;
+goto L44;}
+Tg=*Qg;
+if(!((Tg<58)|((u8)(Tg-97)<11)))goto L45;
+Ug=11;}
+else Ug=Rg;
+Vg=Ug+Pg;
+if(Vg<c){
+if(*(b+Vg)==95){
+Wg=Vg+1;
+goto L46;}}}
+L45:Xg=any_disambiguator_end_f9c(b,c,Og);
+if(Xg.f0!=1)goto L47;
+Wg=Xg.f1;}
+else Wg=Og;}
+else Wg=Og;
+L46:if(Wg<c){
+Yg=*(b+Wg);
+if((u8)(Yg-58)>=247){
+Zg=Wg+1;
+if(Zg<c){
+ah=*(b+Zg)-48;
+if(ah<10){
+bh=Wg+2;
+ch=(u64)ah+(u8)((u8)(Yg*10)+32);
+if(c-bh<ch)goto L47;
+dh=ch+bh;
+eh=b+(i64)bh;
+if(*((u8*)t_facb+*eh)!=0){
 z12(r);
-any_name_span_9bc(r,b,c,Yg);
-ih=q8(r+4);
-if(*r!=1)goto L50;
-jh=ih>>32;
-kh=ih&4294967295u;
-goto L51;}
-lh=0;
-L52:mh=gh+lh;
-if((u8)((u8)(*((u8*)t_4efc+mh[1])+*((u8*)t_4efc+*mh))+*((u8*)t_4efc+mh[2]))==(u8)(0-*((u8*)t_4efc+mh[3]))){
-nh=lh+4;
-if(eh-nh>3){
-lh=nh;
-goto L52;}
-oh=nh;}
-else oh=lh;
-if(oh>=eh){
-jh=fh;
-kh=dh;
-goto L51;}
-ph=oh;
-L53:if(*((u8*)t_4efc+*(gh+ph))!=0)goto L50;
-qh=ph+1;
-if(qh<eh){
-ph=qh;
-goto L53;}
-jh=fh;
-kh=dh;
-goto L51;}}
-rh=ah-48;
-if(c-bh<rh)goto L50;
-sh=b+(i64)bh;
-th=*sh;
-if((th==95)|((u8)(th-48)<10)){
+any_name_span_9bc(r,b,c,Wg);
+gh=q8(r+4);
+if(*r!=1)goto L47;
+hh=gh>>32;
+ih=gh&4294967295u;
+goto L48;}
+fh=0;
+L49:jh=eh+fh;
+if((u8)((u8)(*((u8*)t_4efc+jh[1])+*((u8*)t_4efc+*jh))+*((u8*)t_4efc+jh[2]))==(u8)(0-*((u8*)t_4efc+jh[3]))){
+kh=fh+4;
+if(ch-kh>3){
+fh=kh;
+goto L49;}
+lh=kh;}
+else lh=fh;
+if(lh>=ch){
+hh=dh;
+ih=bh;
+goto L48;}
+mh=lh;
+L50:if(*((u8*)t_4efc+*(eh+mh))!=0)goto L47;
+nh=mh+1;
+if(nh<ch){
+mh=nh;
+goto L50;}
+hh=dh;
+ih=bh;
+goto L48;}}
+oh=Yg-48;
+if(c-Zg<oh)goto L47;
+ph=b+(i64)Zg;
+if(*((u8*)t_facb+*ph)!=0){
 z12(q);
-any_name_span_9bc(q,b,c,Yg);
-uh=q8(q+4);
-if(*q!=1)goto L50;
-jh=uh>>32;
-kh=uh&4294967295u;
+any_name_span_9bc(q,b,c,Wg);
+xh=q8(q+4);
+if(*q!=1)goto L47;
+hh=xh>>32;
+ih=xh&4294967295u;
+goto L48;}
+qh=Zg+oh;
+if(Yg<=51){
+sh=0;
 goto L51;}
-vh=bh+rh;
-if(ah<=51){
-xh=0;
-goto L54;}
-wh=0;
-L55:yh=sh+wh;
-if((u8)((u8)(*((u8*)t_4efc+yh[1])+*((u8*)t_4efc+*yh))+*((u8*)t_4efc+yh[2]))==(u8)(0-*((u8*)t_4efc+yh[3]))){
-zh=wh+4;
-if(rh-zh>3){
-wh=zh;
-goto L55;}
-xh=zh;}
-else xh=wh;
-L54:if(xh>=rh){
-jh=vh;
-kh=bh;
-goto L51;}
-Ah=xh;
-L56:if(*((u8*)t_4efc+*(sh+Ah))!=0)goto L50;
-Bh=Ah+1;
-if(Bh!=rh){
-Ah=Bh;
-goto L56;}
-jh=vh;
-kh=bh;
-goto L51;}}
+rh=0;
+L52:th=ph+rh;
+if((u8)((u8)(*((u8*)t_4efc+th[1])+*((u8*)t_4efc+*th))+*((u8*)t_4efc+th[2]))==(u8)(0-*((u8*)t_4efc+th[3]))){
+uh=rh+4;
+if(oh-uh>3){
+rh=uh;
+goto L52;}
+sh=uh;}
+else sh=rh;
+L51:if(sh>=oh){
+hh=qh;
+ih=Zg;
+goto L48;}
+vh=sh;
+L53:if(*((u8*)t_4efc+*(ph+vh))!=0)goto L47;
+wh=vh+1;
+if(wh!=oh){
+vh=wh;
+goto L53;}
+hh=qh;
+ih=Zg;
+goto L48;}}
 z12(s);
-any_name_span_9bc(s,b,c,Yg);
-Ch=q8(s+4);
-if(*s!=1)goto L50;
-jh=Ch>>32;
-kh=Ch&4294967295u;
-L51:if(jh<=kh)goto L50;
-Dh=b+(i64)kh;
-Eh=jh-kh;
-if(r8(a+32)-Qg<Eh){
-Fh=make_ready_8e3(a,Eh,128);
-if(!(Fh&1))goto L50;}
-Gh=extend_from_slice_169(a,Dh,Eh);
-if(Gh&1)goto L50;
-w8(a+192,jh);
-if(r8(a+136)>Ng){
-Hh=r8(a+96);
-if(Hh>65534){
+any_name_span_9bc(s,b,c,Wg);
+yh=q8(s+4);
+if(*s!=1)goto L47;
+hh=yh>>32;
+ih=yh&4294967295u;
+L48:if(hh<=ih)goto L47;
+zh=hh-ih;
+Ah=r8(a+32)-Ng;
+Bh=b+(i64)ih;
+if((c-ih<16)|(zh>16)||Ah<16){
+if(Ah<zh){
+Ch=make_ready_8e3(a,zh,128);
+if(!(Ch&1))goto L47;}
+Dh=extend_from_slice_169(a,Bh,zh);
+if(Dh&1)goto L47;}
+else{
+Eh=extend_from_slice_169(a,Bh,16);
+if(Eh&1)goto L47;
+Fh=zh+Ng;
+if(r8(a+8)>Fh)w8(a+8,Fh);}
+w8(a+192,hh);
+if(r8(a+136)>Kg){
+Gh=r8(a+96);
+if(Gh>65534){
+Hh=0;
+Ih=0;
+Jh=0;}
+else{
+Kh=r8(a+8);
+Lh=a[80];
+if(r8(a+120)>Gh)Mh=Gh;
+else{
+Nh=make_ready_b73(a+88);
+if(!(Nh&1)){
+Hh=0;
 Ih=0;
 Jh=0;
-Kh=0;}
+goto L54;}
+Mh=r8(a+96);}
+Oh=rp(a+88)+Mh*24;
+x8(Oh,Ng);
+x8(Oh+8,Kh);
+Oh[16]=0;
+Oh[17]=Lh;
+z6(Oh+18);
+w8(a+96,Mh+1);
+w2(rp(a+128)+(i64)(Kg<<1),(u16)Gh+1);
+Hh=1;
+Ih=2;
+Jh=Ng;}}
 else{
-Lh=r8(a+8);
-Mh=a[80];
-if(r8(a+120)>Hh)Nh=Hh;
-else{
-Oh=make_ready_b73(a+88);
-if(!(Oh&1)){
+Hh=0;
 Ih=0;
-Jh=0;
-Kh=0;
-goto L57;}
-Nh=r8(a+96);}
-Ph=rp(a+88)+Nh*24;
-x8(Ph,Qg);
-x8(Ph+8,Lh);
-Ph[16]=0;
-Ph[17]=Mh;
-z6(Ph+18);
-w8(a+96,Nh+1);
-w2(rp(a+128)+(i64)(Ng<<1),(u16)Hh+1);
-Ih=1;
-Jh=2;
-Kh=Qg;}}
-else{
-Ih=0;
-Jh=0;
-Kh=0;}
-L57:w8(t,Ih);
-t[8]=Jh;
+Jh=0;}
+L54:w8(t,Hh);
+t[8]=Ih;
 t[9]=0;
-w8(t+16,Kh);
+w8(t+16,Jh);
 t[24]=0;
 break;
-case 66:Qh=r8(a+8);
-Rh=Ng+1;
-Sh=umin64(c-Rh,11)+Rh;
-if(Rh>=Sh){
-Uh=Rh;
-goto L58;}
-Th=Rh;
-L59:if(*((u8*)t_84dd+*(b+Th))<62){
-Vh=Th+1;
-if(Vh!=Sh){
-Th=Vh;
-goto L59;}
-Uh=Sh;}
-else Uh=Th;
-L58:if(Uh==c){
-Wh=0;
-Xh=0;
-Yh=0;
-Zh=0;}
-else{
-if(*(b+Uh)==95){
-ai=Rh&4294967295u;
-bi=Uh&4294967295u;
-ci=bi+1;
-if(bi==ai)di=2;
-else{
-ei=b+(i64)ai;
-fi=bi-ai;
-if(fi>10){
-gi=0;
-hi=0;
-goto L60;}
-ii=0;
-ji=0;
-L61:ki=*((u8*)t_84dd+*(ei+(i64)ji));
-if(ki>=62){
-Wh=0;
+case 66:Ph=r8(a+8);
+Qh=Kg+1;
+z24(p);
+Rh=Qh!=18446744073709551615u;
+Sh=Kg+2;
+if(Rh&((Rh?Sh:0)<c)){
+if(*(b+Sh)==95){
+Th=*((u8*)t_84dd+*(b+(i64)Qh));
+if(Th<62){
+Uh=Th+3;
+Vh=Kg+3;
+goto L55;}}}
+any_number_at_3d4(p,b,c,Qh);
+Wh=r8(p+8);
+if(!(*p==1&&Wh<0xfffffffffffffffeu)){
 Xh=0;
 Yh=0;
 Zh=0;
-goto L62;}
-li=ii*62+ki;
-mi=ji+1;
-if(mi==fi){
-ni=li;
-goto L63;}
-ii=li;
-ji=mi;
-goto L61;
-L60:oi=*((u8*)t_84dd+*(ei+(i64)hi));
-if(!((gi<0x421084210842109u)&(oi<62))){
-Wh=0;
+ai=0;
+goto L56;}
+Uh=Wh+2;
+Vh=r8(p+16);
+L55:if(Uh<r8(a+136)){
+bi=r2(rp(a+128)+(i64)(Uh<<1));
+if(bi==0){
 Xh=0;
 Yh=0;
 Zh=0;
-goto L62;}
-pi=gi*62;
-if(pi>(oi^18446744073709551615u)){
-Wh=0;
+ai=0;}
+else{
+ci=(u64)bi-1;
+if(ci<r8(a+96)){
+di=rp(a+88)+(i64)(ci*24);
+ei=q8(di);
+fi=q8(di+8);
+gi=di[16];
+if(gi>2||fi<ei){
 Xh=0;
 Yh=0;
 Zh=0;
-goto L62;}
-qi=pi+oi;
-ri=hi+1;
-if(ri!=fi){
-gi=qi;
-hi=ri;
-goto L60;}
-ni=qi;
-L63:if(ni>0xfffffffffffffffcu){
-Wh=0;
+ai=0;}
+else{
+if((u8)(a[80]^di[17])&1){
+hi=r8(a+48);
+if(hi<fi){
 Xh=0;
 Yh=0;
 Zh=0;
-goto L62;}
-di=ni+3;}
-if(di<r8(a+136)){
-si=r2(rp(a+128)+(i64)(di<<1));
-if(si==0){
-Wh=0;
-Xh=0;
-Yh=0;
-Zh=0;}
-else{
-ti=(u64)si-1;
-if(ti<r8(a+96)){
-ui=rp(a+88)+(i64)(ti*24);
-vi=ui[16];
-if(vi<3){
-memcpy(p,ui,16);
-p[16]=vi;
-memcpy(p+17,ui+17,7);
-wi=repeat_2ff(a,p);
-if(wi&1){
-w8(a+192,ci);
-if(r8(a+136)>Ng){
-xi=r8(a+96);
-if(xi>65534){
-Wh=0;
-Xh=0;
-Yh=0;
-Zh=0;}
-else{
-yi=r8(a+8);
-zi=a[80];
-if(r8(a+120)>xi)Ai=xi;
-else{
-Bi=make_ready_b73(a+88);
-if(!(Bi&1)){
-Wh=0;
+ai=0;
+goto L56;}
+ii=fi-ei;
+ji=r8(a+32)-Ph;
+ki=rp(a+40)+(i64)ei;
+if(!((ii>16)|(hi-ei<16)||ji<16)){
+oi=extend_from_slice_169(a,ki,16);
+if(!(oi&1)){
+pi=ii+Ph;
+if(r8(a+8)<=pi)goto L57;
+w8(a+8,pi);
+goto L57;}
 Xh=0;
 Yh=0;
 Zh=0;
-goto L62;}
-Ai=r8(a+96);}
-Ci=rp(a+88)+Ai*24;
-x8(Ci,Qh);
-x8(Ci+8,yi);
-Ci[16]=vi;
-Ci[17]=zi;
-z6(Ci+18);
-w8(a+96,Ai+1);
-w2(rp(a+128)+(i64)(Ng<<1),(u16)xi+1);
-Wh=1;
-Xh=2;
-Yh=Qh;
-Zh=vi;}}
-else{
-Wh=0;
+ai=0;
+goto L56;}
+if(ji<ii){
+li=make_ready_8e3(a,ii,128);
+if(!(li&1)){
 Xh=0;
 Yh=0;
-Zh=0;}}
+Zh=0;
+ai=0;
+goto L56;}}
+mi=extend_from_slice_169(a,ki,ii);
+ni=mi;}
 else{
-Wh=0;
+if(Ph<fi){
 Xh=0;
 Yh=0;
-Zh=0;}}
-else{
-Wh=0;
+Zh=0;
+ai=0;
+goto L56;}
+qi=repeat_28b(a,ei,fi);
+ni=qi^1;}
+if(ni&1){
 Xh=0;
 Yh=0;
-Zh=0;}}
-else{
-Wh=0;
+Zh=0;
+ai=0;
+goto L56;}
+L57:w8(a+192,Vh);
+if(r8(a+136)>Kg){
+ri=r8(a+96);
+if(ri>65534){
 Xh=0;
 Yh=0;
-Zh=0;}}}
+Zh=0;
+ai=0;}
 else{
-Wh=0;
+si=r8(a+8);
+ti=a[80];
+if(r8(a+120)>ri)ui=ri;
+else{
+vi=make_ready_b73(a+88);
+if(!(vi&1)){
 Xh=0;
 Yh=0;
-Zh=0;}}
+Zh=0;
+ai=0;
+goto L56;}
+ui=r8(a+96);}
+wi=rp(a+88)+ui*24;
+x8(wi,Ph);
+x8(wi+8,si);
+wi[16]=gi;
+wi[17]=ti;
+z6(wi+18);
+w8(a+96,ui+1);
+w2(rp(a+128)+(i64)(Kg<<1),(u16)ri+1);
+Xh=1;
+Yh=2;
+Zh=Ph;
+ai=gi;}}
 else{
-Wh=0;
 Xh=0;
 Yh=0;
-Zh=0;}}
-L62:w8(t,Wh);
-t[8]=Xh;
+Zh=0;
+ai=0;}}}
+else{
+Xh=0;
+Yh=0;
+Zh=0;
+ai=0;}}}
+else{
+Xh=0;
+Yh=0;
+Zh=0;
+ai=0;}
+L56:w8(t,Xh);
+t[8]=Yh;
 t[9]=0;
-w8(t+16,Yh);
-t[24]=Zh;
+w8(t+16,Zh);
+t[24]=ai;
 break;
 case 77:begin_impl_c72(t,a,b,c);
 break;
@@ -92990,285 +93026,314 @@ case 88:begin_trait_impl_220(t,a,b,c);
 break;
 case 89:begin_trait_f9f(t,a);
 break;
-default:goto L50;
+default:goto L47;
 }
 if(*t!=1){
 F=0;
 goto L1;}
-vg=r8(t+16);
-wg=t[8];
-xg=t[9];
-yg=t[24];
-goto L42;}
-L50:F=0;
+sg=r8(t+16);
+tg=t[8];
+ug=t[9];
+vg=t[24];
+goto L39;}
+L47:F=0;
 goto L1;
-L42:if(wg!=2){
-La=yg;
-Ma=vg;
-Na=xg;
-Oa=wg;
+L39:if(tg!=2){
+La=vg;
+Ma=sg;
+Na=ug;
+Oa=tg;
 goto L9;}
-Ea=yg;
-Fa=vg;
-L8:Di=r8(a+160);
-if(Di==0){
+Ea=vg;
+Fa=sg;
+L8:xi=r8(a+160);
+if(xi==0){
 F=0;
 goto L1;}
-Ei=Ea<3;
-Fi=Di;
-L64:Gi=Fi-1;
-w8(a+160,Gi);
-Hi=rp(a+152);
-Ii=Gi<<5;
-Ji=Hi+Ii;
-Ki=Ji[1];
-Li=q8(Ji+8);
-Mi=q8(Ji+16);
-Ni=Ji[24];
-switch(*Ji){
-case 2:if(Ki>=97){
-if(!Ei){
+yi=Ea<3;
+zi=xi;
+L58:Ai=zi-1;
+w8(a+160,Ai);
+Bi=rp(a+152);
+Ci=Ai<<5;
+Di=Bi+Ci;
+Ei=Di[1];
+Fi=q8(Di+8);
+Gi=q8(Di+16);
+Hi=Di[24];
+switch(*Di){
+case 2:if(Ei>=97){
+if(!yi){
 F=0;
 goto L1;}
-Yi=r8(a+192);
-if(Yi<c){
-if(*(b+Yi)==115){
-Zi=Yi+1;
-if(c-Zi>=12){
-aj=Yi+12;
-bj=b+(i64)Zi;
-cj=*bj;
-if(!((cj<58)|((u8)(cj-97)<11)))goto L65;
-dj=0;
-L66:if(*((u8*)t_9eba+*(bj+dj))==0){
-ej=dj+1;
-if(ej!=11){
-dj=ej;
-goto L66;}
-if(aj<c){
-if(*(b+aj)==95){
-fj=Yi+13;
-goto L67;}}}}
-L65:gj=any_disambiguator_end_f9c(b,c,Yi);
-if(gj.f0!=1){
+Si=r8(a+192);
+if(Si<c){
+if(*(b+Si)==115){
+Ti=Si+1;
+if(c-Ti>=12){
+Ui=b+(i64)Ti;
+Vi=0;
+L59:if(*((u8*)t_9eba+*(Ui+Vi))==0){
+Wi=Vi+1;
+if(Wi!=11){
+Vi=Wi;
+goto L59;}
+Xi=*Ui;
+if(!((Xi<58)|((u8)(Xi-97)<11)))goto L60;
+Yi=11;}
+else Yi=Vi;
+Zi=Yi+Ti;
+if(Zi<c){
+if(*(b+Zi)==95){
+aj=Zi+1;
+goto L61;}}}
+L60:bj=any_disambiguator_end_f9c(b,c,Si);
+if(bj.f0!=1){
 F=0;
 goto L1;}
-fj=gj.f1;}
-else fj=Yi;}
-else fj=Yi;
-L67:if(fj<c){
-hj=*(b+fj);
-if((u8)(hj-58)>=247){
-ij=fj+1;
-if(ij<c){
-jj=*(b+ij)-48;
-if(jj<10){
-kj=fj+2;
-lj=(u64)jj+(u8)((u8)(hj*10)+32);
-if(c-kj<lj){
+aj=bj.f1;}
+else aj=Si;}
+else aj=Si;
+L61:if(aj<c){
+cj=*(b+aj);
+if((u8)(cj-58)>=247){
+dj=aj+1;
+if(dj<c){
+ej=*(b+dj)-48;
+if(ej<10){
+fj=aj+2;
+gj=(u64)ej+(u8)((u8)(cj*10)+32);
+if(c-fj<gj){
 F=0;
 goto L1;}
-mj=lj+kj;
-nj=b+(i64)kj;
-oj=*nj;
-if((oj==95)|((u8)(oj-48)<10)){
+hj=gj+fj;
+ij=b+(i64)fj;
+if(*((u8*)t_facb+*ij)!=0){
 z12(n);
-any_name_span_9bc(n,b,c,fj);
-pj=q8(n+4);
-qj=*n==1;
-rj=qj?pj&4294967295u:0;
-sj=qj?pj>>32:0;
-tj=qj;
-goto L68;}
-uj=0;
-L69:vj=nj+uj;
-if((u8)((u8)(*((u8*)t_4efc+vj[1])+*((u8*)t_4efc+*vj))+*((u8*)t_4efc+vj[2]))==(u8)(0-*((u8*)t_4efc+vj[3]))){
-wj=uj+4;
-if(lj-wj>3){
-uj=wj;
-goto L69;}
-xj=wj;}
-else xj=uj;
-if(xj>=lj){
-rj=kj;
-sj=mj;
-tj=1;
-goto L68;}
-yj=xj;
-L70:if(*((u8*)t_4efc+*(nj+yj))!=0){
+any_name_span_9bc(n,b,c,aj);
+kj=q8(n+4);
+lj=*n==1;
+mj=lj?kj&4294967295u:0;
+nj=lj?kj>>32:0;
+oj=lj;
+goto L62;}
+jj=0;
+L63:pj=ij+jj;
+if((u8)((u8)(*((u8*)t_4efc+pj[1])+*((u8*)t_4efc+*pj))+*((u8*)t_4efc+pj[2]))==(u8)(0-*((u8*)t_4efc+pj[3]))){
+qj=jj+4;
+if(gj-qj>3){
+jj=qj;
+goto L63;}
+rj=qj;}
+else rj=jj;
+if(rj>=gj){
+mj=fj;
+nj=hj;
+oj=1;
+goto L62;}
+sj=rj;
+L64:if(*((u8*)t_4efc+*(ij+sj))!=0){
 F=0;
 goto L1;}
-zj=yj+1;
-if(zj<lj){
-yj=zj;
-goto L70;}
-rj=kj;
-sj=mj;
-tj=1;
-goto L68;}}
-Aj=hj-48;
-if(c-ij<Aj){
+tj=sj+1;
+if(tj<gj){
+sj=tj;
+goto L64;}
+mj=fj;
+nj=hj;
+oj=1;
+goto L62;}}
+uj=cj-48;
+if(c-dj<uj){
 F=0;
 goto L1;}
-Bj=b+(i64)ij;
-Cj=*Bj;
-if((Cj==95)|((u8)(Cj-48)<10)){
+vj=b+(i64)dj;
+if(*((u8*)t_facb+*vj)!=0){
 z12(m);
-any_name_span_9bc(m,b,c,fj);
+any_name_span_9bc(m,b,c,aj);
 Dj=q8(m+4);
 Ej=*m==1;
-rj=Ej?Dj&4294967295u:0;
-sj=Ej?Dj>>32:0;
-tj=Ej;
-goto L68;}
-Fj=ij+Aj;
-if(hj<=51){
-Hj=0;
-goto L71;}
-Gj=0;
-L72:Ij=Bj+Gj;
-if((u8)((u8)(*((u8*)t_4efc+Ij[1])+*((u8*)t_4efc+*Ij))+*((u8*)t_4efc+Ij[2]))==(u8)(0-*((u8*)t_4efc+Ij[3]))){
-Jj=Gj+4;
-if(Aj-Jj>3){
-Gj=Jj;
-goto L72;}
-Hj=Jj;}
-else Hj=Gj;
-L71:if(Hj>=Aj){
-rj=ij;
-sj=Fj;
-tj=1;
-goto L68;}
-Kj=Hj;
-L73:if(*((u8*)t_4efc+*(Bj+Kj))!=0){
+mj=Ej?Dj&4294967295u:0;
+nj=Ej?Dj>>32:0;
+oj=Ej;
+goto L62;}
+wj=dj+uj;
+if(cj<=51){
+yj=0;
+goto L65;}
+xj=0;
+L66:zj=vj+xj;
+if((u8)((u8)(*((u8*)t_4efc+zj[1])+*((u8*)t_4efc+*zj))+*((u8*)t_4efc+zj[2]))==(u8)(0-*((u8*)t_4efc+zj[3]))){
+Aj=xj+4;
+if(uj-Aj>3){
+xj=Aj;
+goto L66;}
+yj=Aj;}
+else yj=xj;
+L65:if(yj>=uj){
+mj=dj;
+nj=wj;
+oj=1;
+goto L62;}
+Bj=yj;
+L67:if(*((u8*)t_4efc+*(vj+Bj))!=0){
 F=0;
 goto L1;}
-Lj=Kj+1;
-if(Lj!=Aj){
-Kj=Lj;
-goto L73;}
-rj=ij;
-sj=Fj;
-tj=1;
-goto L68;}}
+Cj=Bj+1;
+if(Cj!=uj){
+Bj=Cj;
+goto L67;}
+mj=dj;
+nj=wj;
+oj=1;
+goto L62;}}
 z12(o);
-any_name_span_9bc(o,b,c,fj);
-Mj=q8(o+4);
-Nj=*o==1;
-rj=Nj?Mj&4294967295u:0;
-sj=Nj?Mj>>32:0;
-tj=Nj;
-L68:if(!(tj&&sj>rj)){
+any_name_span_9bc(o,b,c,aj);
+Fj=q8(o+4);
+Gj=*o==1;
+mj=Gj?Fj&4294967295u:0;
+nj=Gj?Fj>>32:0;
+oj=Gj;
+L62:if(!(oj&&nj>mj)){
 F=0;
 goto L1;}
-Oj=r8(a+8);
-if(r8(a+32)-Oj<2){
-Pj=make_ready_8e3(a,2,128);
-if(!(Pj&1)){
+Hj=r8(a+8);
+if(r8(a+32)-Hj<2){
+Ij=make_ready_8e3(a,2,128);
+if(!(Ij&1)){
 F=0;
 goto L1;}
-Qj=r8(a+8);}
-else Qj=Oj;
-*(rp(a)+Qj)=58;
-*(rp(a)+(i64)Qj+1)=58;
-Rj=Qj+2;
-w8(a+8,Rj);
-Sj=b+(i64)rj;
-Tj=sj-rj;
-if(r8(a+32)-Rj<Tj){
-Uj=make_ready_8e3(a,Tj,128);
-if(!(Uj&1)){
+Jj=r8(a+8);}
+else Jj=Hj;
+*(rp(a)+Jj)=58;
+*(rp(a)+(i64)Jj+1)=58;
+Kj=Jj+2;
+w8(a+8,Kj);
+Lj=nj-mj;
+Mj=r8(a+32)-Kj;
+Nj=b+(i64)mj;
+if((c-mj<16)|(Lj>16)||Mj<16){
+if(Mj<Lj){
+Oj=make_ready_8e3(a,Lj,128);
+if(!(Oj&1)){
 F=0;
 goto L1;}
-Vj=r8(a+8);}
-else Vj=Rj;
-Wj=r8(a+16);
-if(Tj>Wj-Vj){
-Xj=grow_amortized_2b6(a,Tj);
-if(!Xj){
+Pj=r8(a+8);}
+else Pj=Kj;
+Qj=r8(a+16);
+if(Lj>Qj-Pj){
+Rj=grow_amortized_2b6(a,Lj);
+if(!Rj){
 F=0;
 goto L1;}
-Yj=r8(a+16);
-Zj=r8(a+8);}
+Sj=r8(a+16);
+Tj=r8(a+8);}
 else{
-Yj=Wj;
-Zj=Vj;}
-ak=Zj+Tj;
-bk=rp(a);
+Sj=Qj;
+Tj=Pj;}
+Uj=Tj+Lj;
+Vj=rp(a);
 z16(a+8);
-ck=bk+(i64)Zj;
-if((u64)ck-(u64)Sj<Tj)copy_bits_4f4(Sj,ck,Tj);
-else memmove(ck,Sj,Tj);
-wp(a,bk);
-w8(a+8,ak);
-w8(a+16,Yj);
-w8(a+192,sj);
-if(sj<c){
-if(*(b+sj)==48){
-dk=r8(a+160);
-if(dk!=0){
-ek=rp(a+152)+(i64)(dk<<5);
-if(ek[-32]==2){
-if(ek[-31]>96){
-fk=unnamed_ended_c46(a,b,c,Li,Fa,Ea);
-if(fk&1)goto L74;
+Wj=Vj+(i64)Tj;
+if((u64)Wj-(u64)Nj<Lj)copy_bits_4f4(Nj,Wj,Lj);
+else memmove(Wj,Nj,Lj);
+wp(a,Vj);
+w8(a+8,Uj);
+w8(a+16,Sj);
+Xj=Uj;}
+else{
+Yj=r8(a+16);
+if(Yj-Kj<16){
+Zj=grow_amortized_2b6(a,16);
+if(!Zj){
+F=0;
+goto L1;}
+ak=r8(a+16);
+bk=r8(a+8);}
+else{
+ak=Yj;
+bk=Kj;}
+ck=bk+16;
+dk=rp(a);
+z16(a+8);
+ek=dk+(i64)bk;
+if((u64)ek-(u64)Nj<16)copy_bits_4f4(Nj,ek,16);
+else memmove(ek,Nj,16);
+wp(a,dk);
+w8(a+8,ck);
+w8(a+16,ak);
+fk=Kj+Lj;
+if(ck>fk){
+w8(a+8,fk);
+Xj=fk;}
+else Xj=ck;}
+w8(a+192,nj);
+if(nj<c){
+if(*(b+nj)==48){
+gk=r8(a+160);
+if(gk!=0){
+hk=rp(a+152)+(i64)(gk<<5);
+if(hk[-32]==2){
+if(hk[-31]>96){
+ik=unnamed_ended_c46(a,b,c,Fi,Fa,Ea);
+if(ik&1)goto L68;
 F=0;
 goto L1;}}}}}
-if(r8(a+136)<=Li){
+if(r8(a+136)<=Fi){
 F=0;
 goto L1;}
-gk=r8(a+96);
-if(gk>65534){
+jk=r8(a+96);
+if(jk>65534){
 F=0;
 goto L1;}
-hk=a[80];
-if(r8(a+120)>gk)ik=gk;
+kk=a[80];
+if(r8(a+120)>jk)lk=jk;
 else{
-jk=make_ready_b73(a+88);
-if(!(jk&1)){
+mk=make_ready_b73(a+88);
+if(!(mk&1)){
 F=0;
 goto L1;}
-ik=r8(a+96);}
-kk=rp(a+88)+ik*24;
-x8(kk,Fa);
-x8(kk+8,ak);
-kk[16]=Ea;
-kk[17]=hk;
-z6(kk+18);
-w8(a+96,ik+1);
-w2(rp(a+128)+(i64)(Li<<1),(u16)gk+1);
-L74:lk=r8(a+160);
-if(lk==0){
+lk=r8(a+96);}
+nk=rp(a+88)+lk*24;
+x8(nk,Fa);
+x8(nk+8,Xj);
+nk[16]=Ea;
+nk[17]=kk;
+z6(nk+18);
+w8(a+96,lk+1);
+w2(rp(a+128)+(i64)(Fi<<1),(u16)jk+1);
+L68:ok=r8(a+160);
+if(ok==0){
 F=0;
 goto L1;}
-Fi=lk;
-goto L64;}
+zi=ok;
+goto L58;}
 z32(g);
-if(Ei&(Ki>64)){
-switch(Ki){
-case 67:special_named_1bc(g,a,b,c,Fa,Ea,Li,(u8*)t_6d4c,7);
+if(yi&(Ei>64)){
+switch(Ei){
+case 67:special_named_1bc(g,a,b,c,Fa,Ea,Fi,(u8*)t_6d4c,7);
 break;
-case 83:special_named_1bc(g,a,b,c,Fa,Ea,Li,(u8*)t_04e6,4);
+case 83:special_named_1bc(g,a,b,c,Fa,Ea,Fi,(u8*)t_04e6,4);
 break;
-default:*h=Ki;
-special_named_1bc(g,a,b,c,Fa,Ea,Li,h,1);
+default:*h=Ei;
+special_named_1bc(g,a,b,c,Fa,Ea,Fi,h,1);
 break;}
-Oi=*g;
-Pi=g[8];
-Qi=g[9];
-Ri=r8(g+16);
-Si=g[24];}
+Ii=*g;
+Ji=g[8];
+Ki=g[9];
+Li=r8(g+16);
+Mi=g[24];}
 else{
-Oi=0;
-Pi=0;
-Qi=0;
-Ri=0;
-Si=0;}
-Ti=Oi;
-Ui=Pi;
-Vi=Qi;
-Wi=Ri;
-Xi=Si;
+Ii=0;
+Ji=0;
+Ki=0;
+Li=0;
+Mi=0;}
+Ni=Ii;
+Oi=Ji;
+Pi=Ki;
+Qi=Li;
+Ri=Mi;
 break;
 case 0:if(Ea>=2){
 F=0;
@@ -93276,27 +93341,27 @@ goto L1;}
 if(a[80]&1){
 F=0;
 goto L1;}
-mk=r8(a+192);
-if(mk<c){
-if((u8)(*(b+mk)-65)<26){
-if(r8(a+184)>Gi){
-nk=Ii;
-ok=Hi;
-pk=Fi;}
+pk=r8(a+192);
+if(pk<c){
+if((u8)(*(b+pk)-65)<26){
+if(r8(a+184)>Ai){
+qk=Ci;
+rk=Bi;
+sk=zi;}
 else{
-qk=make_ready_e3c(a+152);
-if(!(qk&1)){
+tk=make_ready_e3c(a+152);
+if(!(tk&1)){
 F=0;
 goto L1;}
-rk=r8(a+160);
-nk=rk<<5;
-ok=rp(a+152);
-pk=rk+1;}
-sk=ok+nk;
-*sk=1;
-sk[1]=0;
-z17(sk+8);
-w8(a+160,pk);
+uk=r8(a+160);
+qk=uk<<5;
+rk=rp(a+152);
+sk=uk+1;}
+vk=rk+qk;
+*vk=1;
+vk[1]=0;
+z17(vk+8);
+w8(a+160,sk);
 memcpy(k,a,40);
 memcpy(a,a+40,40);
 memcpy(a+40,k,40);
@@ -93307,26 +93372,26 @@ Na=0;
 Oa=0;
 goto L9;}}
 z32(l);
-if(mk==c){
-tk=1;
-uk=4;
-vk=0;
-wk=0;
-xk=0;}
+if(pk==c){
+wk=1;
+xk=4;
+yk=0;
+zk=0;
+Ak=0;}
 else{
 push_suffix_49c(l,a,b,c);
-tk=*l;
-uk=l[8];
-vk=l[9];
-wk=r8(l+16);
-xk=l[24];}
-Ti=tk;
-Ui=uk;
-Vi=vk;
-Wi=wk;
-Xi=xk;
+wk=*l;
+xk=l[8];
+yk=l[9];
+zk=r8(l+16);
+Ak=l[24];}
+Ni=wk;
+Oi=xk;
+Pi=yk;
+Qi=zk;
+Ri=Ak;
 break;
-case 1:if(!Ei){
+case 1:if(!yi){
 F=0;
 goto L1;}
 if(!(a[80]&1)){
@@ -93338,117 +93403,117 @@ memcpy(a+40,i,40);
 a[80]=0;
 z32(j);
 if(r8(a+192)==c){
-yk=1;
-zk=4;
-Ak=0;
-Bk=0;
-Ck=0;}
+Bk=1;
+Ck=4;
+Dk=0;
+Ek=0;
+Fk=0;}
 else{
 push_suffix_49c(j,a,b,c);
-yk=*j;
-zk=j[8];
-Ak=j[9];
-Bk=r8(j+16);
-Ck=j[24];}
-Ti=yk;
-Ui=zk;
-Vi=Ak;
-Wi=Bk;
-Xi=Ck;
+Bk=*j;
+Ck=j[8];
+Dk=j[9];
+Ek=r8(j+16);
+Fk=j[24];}
+Ni=Bk;
+Oi=Ck;
+Pi=Dk;
+Qi=Ek;
+Ri=Fk;
 break;
 case 12:switch(Ea){
-case 0:case 2:case 3:Dk=r8(a+192);
-if(Dk<c){
-if(*(b+Dk)==69){
+case 0:case 2:case 3:Gk=r8(a+192);
+if(Gk<c){
+if(*(b+Gk)==69){
 if(Ea==1){
 F=0;
 goto L1;}
-Ek=Ni&1;
-w8(a+192,Dk+1);
-Fk=Ek?2:1;
-Gk=Ek?(u8*)t_b4da:(u8*)t_ba5e;
-Hk=r8(a+8);
-if(r8(a+32)-Hk<Fk){
-Ik=make_ready_8e3(a,Fk,128);
-if(!(Ik&1)){
+Hk=Hi&1;
+w8(a+192,Gk+1);
+Ik=Hk?2:1;
+Jk=Hk?(u8*)t_b4da:(u8*)t_ba5e;
+Kk=r8(a+8);
+if(r8(a+32)-Kk<Ik){
+Lk=make_ready_8e3(a,Ik,128);
+if(!(Lk&1)){
 F=0;
 goto L1;}
-Jk=r8(a+8);}
-else Jk=Hk;
-Kk=r8(a+16);
-if(Fk>Kk-Jk){
-Lk=grow_amortized_2b6(a,Fk);
-if(!Lk){
+Mk=r8(a+8);}
+else Mk=Kk;
+Nk=r8(a+16);
+if(Ik>Nk-Mk){
+Ok=grow_amortized_2b6(a,Ik);
+if(!Ok){
 F=0;
 goto L1;}
-Mk=r8(a+16);
-Nk=r8(a+8);}
+Pk=r8(a+16);
+Qk=r8(a+8);}
 else{
-Mk=Kk;
-Nk=Jk;}
-Ok=Nk+Fk;
-Pk=rp(a);
+Pk=Nk;
+Qk=Mk;}
+Rk=Qk+Ik;
+Sk=rp(a);
 z16(a+8);
-Qk=Pk+(i64)Nk;
-if((u64)Qk-(u64)Gk<Fk)copy_bits_4f4(Gk,Qk,Fk);
-else memcpy(Qk,Gk,Fk);
-wp(a,Pk);
-w8(a+8,Ok);
-w8(a+16,Mk);
-if(r8(a+136)<=Li){
+Tk=Sk+(i64)Qk;
+if((u64)Tk-(u64)Jk<Ik)copy_bits_4f4(Jk,Tk,Ik);
+else memcpy(Tk,Jk,Ik);
+wp(a,Sk);
+w8(a+8,Rk);
+w8(a+16,Pk);
+if(r8(a+136)<=Fi){
 F=0;
 goto L1;}
-Rk=r8(a+96);
-if(Rk>65534){
+Uk=r8(a+96);
+if(Uk>65534){
 F=0;
 goto L1;}
-Sk=a[80];
-if(r8(a+120)>Rk)Tk=Rk;
+Vk=a[80];
+if(r8(a+120)>Uk)Wk=Uk;
 else{
-Uk=make_ready_b73(a+88);
-if(!(Uk&1)){
-F=0;
-goto L1;}
-Tk=r8(a+96);}
-Vk=rp(a+88)+Tk*24;
-x8(Vk,Mi);
-x8(Vk+8,Ok);
-Vk[16]=3;
-Vk[17]=Sk;
-z6(Vk+18);
-w8(a+96,Tk+1);
-w2(rp(a+128)+(i64)(Li<<1),(u16)Rk+1);
-La=3;
-Ma=Mi;
-Na=0;
-Oa=2;
-goto L9;}}
-Wk=r8(a+8);
-if(r8(a+32)-Wk<2){
-Xk=make_ready_8e3(a,2,128);
+Xk=make_ready_b73(a+88);
 if(!(Xk&1)){
 F=0;
 goto L1;}
-Yk=r8(a+8);}
-else Yk=Wk;
-*(rp(a)+Yk)=44;
-*(rp(a)+(i64)Yk+1)=32;
-w8(a+8,Yk+2);
-Zk=r8(a+160);
-if(r8(a+184)>Zk)al=Zk;
-else{
-bl=make_ready_e3c(a+152);
-if(!(bl&1)){
+Wk=r8(a+96);}
+Yk=rp(a+88)+Wk*24;
+x8(Yk,Gi);
+x8(Yk+8,Rk);
+Yk[16]=3;
+Yk[17]=Vk;
+z6(Yk+18);
+w8(a+96,Wk+1);
+w2(rp(a+128)+(i64)(Fi<<1),(u16)Uk+1);
+La=3;
+Ma=Gi;
+Na=0;
+Oa=2;
+goto L9;}}
+Zk=r8(a+8);
+if(r8(a+32)-Zk<2){
+al=make_ready_8e3(a,2,128);
+if(!(al&1)){
 F=0;
 goto L1;}
-al=r8(a+160);}
-cl=rp(a+152)+(al<<5);
-*cl=12;
-cl[1]=0;
-x8(cl+8,Li);
-x8(cl+16,Mi);
-cl[24]=0;
-w8(a+160,al+1);
+bl=r8(a+8);}
+else bl=Zk;
+*(rp(a)+bl)=44;
+*(rp(a)+(i64)bl+1)=32;
+w8(a+8,bl+2);
+cl=r8(a+160);
+if(r8(a+184)>cl)dl=cl;
+else{
+el=make_ready_e3c(a+152);
+if(!(el&1)){
+F=0;
+goto L1;}
+dl=r8(a+160);}
+fl=rp(a+152)+(dl<<5);
+*fl=12;
+fl[1]=0;
+x8(fl+8,Fi);
+x8(fl+16,Gi);
+fl[24]=0;
+w8(a+160,dl+1);
 La=0;
 Ma=0;
 Na=0;
@@ -93459,14 +93524,14 @@ goto L1;
 default:NEVER;
 }
 break;
-case 3:dl=Ki&1;
+case 3:gl=Ei&1;
 switch(Ea){
 case 0:break;
-case 1:if(!dl){
+case 1:if(!gl){
 F=0;
 goto L1;}
 break;
-case 2:if(dl){
+case 2:if(gl){
 F=0;
 goto L1;}
 break;
@@ -93474,59 +93539,59 @@ case 3:case 4:F=0;
 goto L1;
 default:NEVER;
 }
-el=r8(a+8);
-if(r8(a+32)>el)fl=el;
+hl=r8(a+8);
+if(r8(a+32)>hl)il=hl;
 else{
-gl=make_ready_8e3(a,1,16);
-if(!(gl&1)){
+jl=make_ready_8e3(a,1,16);
+if(!(jl&1)){
 F=0;
 goto L1;}
-fl=r8(a+8);}
-*(rp(a)+fl)=1;
-w8(a+8,fl+1);
-hl=Ki&1;
-il=r8(a+160);
-if(r8(a+184)>il)jl=il;
+il=r8(a+8);}
+*(rp(a)+il)=1;
+w8(a+8,il+1);
+kl=Ei&1;
+ll=r8(a+160);
+if(r8(a+184)>ll)ml=ll;
 else{
-kl=make_ready_e3c(a+152);
-if(!(kl&1)){
+nl=make_ready_e3c(a+152);
+if(!(nl&1)){
 F=0;
 goto L1;}
-jl=r8(a+160);}
-ll=rp(a+152)+(jl<<5);
-*ll=4;
-ll[1]=0;
-x8(ll+8,Li);
-x8(ll+16,Fa);
-ll[24]=hl;
-w8(a+160,jl+1);
+ml=r8(a+160);}
+ol=rp(a+152)+(ml<<5);
+*ol=4;
+ol[1]=0;
+x8(ol+8,Fi);
+x8(ol+16,Fa);
+ol[24]=kl;
+w8(a+160,ml+1);
 La=0;
 Ma=0;
 Na=1;
 Oa=3;
 goto L9;
 case 4:switch(Ea){
-case 0:case 2:case 3:ml=Ni&1;
-if(r8(a+184)>Gi){
-nl=Ii;
-ol=Hi;
-pl=Fi;}
+case 0:case 2:case 3:pl=Hi&1;
+if(r8(a+184)>Ai){
+ql=Ci;
+rl=Bi;
+sl=zi;}
 else{
-ql=make_ready_e3c(a+152);
-if(!(ql&1)){
+tl=make_ready_e3c(a+152);
+if(!(tl&1)){
 F=0;
 goto L1;}
-rl=r8(a+160);
-nl=rl<<5;
-ol=rp(a+152);
-pl=rl+1;}
-sl=ol+nl;
-*sl=4;
-sl[1]=0;
-x8(sl+8,Li);
-x8(sl+16,Mi);
-sl[24]=ml;
-w8(a+160,pl);
+ul=r8(a+160);
+ql=ul<<5;
+rl=rp(a+152);
+sl=ul+1;}
+vl=rl+ql;
+*vl=4;
+vl[1]=0;
+x8(vl+8,Fi);
+x8(vl+16,Gi);
+vl[24]=pl;
+w8(a+160,sl);
 La=0;
 Ma=0;
 Na=0;
@@ -93537,7 +93602,7 @@ goto L1;
 default:NEVER;
 }
 break;
-case 5:if(!Ei){
+case 5:if(!yi){
 F=0;
 goto L1;}
 if(!(a[80]&1)){
@@ -93547,64 +93612,64 @@ memcpy(f,a,40);
 memcpy(a,a+40,40);
 memcpy(a+40,f,40);
 a[80]=0;
-tl=r8(a+8);
-if(r8(a+32)>tl)ul=tl;
+wl=r8(a+8);
+if(r8(a+32)>wl)xl=wl;
 else{
-vl=make_ready_8e3(a,1,16);
-if(!(vl&1)){
-F=0;
-goto L1;}
-ul=r8(a+8);}
-*(rp(a)+ul)=60;
-w8(a+8,ul+1);
-wl=r8(a+160);
-if(r8(a+184)>wl)xl=wl;
-else{
-yl=make_ready_e3c(a+152);
+yl=make_ready_8e3(a,1,16);
 if(!(yl&1)){
 F=0;
 goto L1;}
-xl=r8(a+160);}
-zl=rp(a+152)+(xl<<5);
-*zl=9;
-zl[1]=0;
-x8(zl+8,Li);
-x8(zl+16,tl);
-zl[24]=2;
-w8(a+160,xl+1);
+xl=r8(a+8);}
+*(rp(a)+xl)=60;
+w8(a+8,xl+1);
+zl=r8(a+160);
+if(r8(a+184)>zl)Al=zl;
+else{
+Bl=make_ready_e3c(a+152);
+if(!(Bl&1)){
+F=0;
+goto L1;}
+Al=r8(a+160);}
+Cl=rp(a+152)+(Al<<5);
+*Cl=9;
+Cl[1]=0;
+x8(Cl+8,Fi);
+x8(Cl+16,wl);
+Cl[24]=2;
+w8(a+160,Al+1);
 La=0;
 Ma=0;
 Na=0;
 Oa=1;
 goto L9;
-case 9:switch(Ni){
+case 9:switch(Hi){
 case 0:switch(Ea){
-case 0:case 2:case 3:if(r8(a+136)<=Li){
+case 0:case 2:case 3:if(r8(a+136)<=Fi){
 F=0;
 goto L1;}
-Al=r8(a+96);
-if(Al>65534){
+Dl=r8(a+96);
+if(Dl>65534){
 F=0;
 goto L1;}
-Bl=r8(a+8);
-Cl=a[80];
-if(r8(a+120)>Al)Dl=Al;
+El=r8(a+8);
+Fl=a[80];
+if(r8(a+120)>Dl)Gl=Dl;
 else{
-El=make_ready_b73(a+88);
-if(!(El&1)){
+Hl=make_ready_b73(a+88);
+if(!(Hl&1)){
 F=0;
 goto L1;}
-Dl=r8(a+96);}
-Fl=rp(a+88)+Dl*24;
-x8(Fl,Mi);
-x8(Fl+8,Bl);
-Fl[16]=3;
-Fl[17]=Cl;
-z6(Fl+18);
-w8(a+96,Dl+1);
-w2(rp(a+128)+(i64)(Li<<1),(u16)Al+1);
+Gl=r8(a+96);}
+Il=rp(a+88)+Gl*24;
+x8(Il,Gi);
+x8(Il+8,El);
+Il[16]=3;
+Il[17]=Fl;
+z6(Il+18);
+w8(a+96,Gl+1);
+w2(rp(a+128)+(i64)(Fi<<1),(u16)Dl+1);
 La=3;
-Ma=Mi;
+Ma=Gi;
 Na=0;
 Oa=2;
 goto L9;
@@ -93614,42 +93679,42 @@ default:NEVER;
 }
 break;
 case 1:switch(Ea){
-case 0:case 2:case 3:Gl=r8(a+8);
-if(r8(a+32)>Gl)Hl=Gl;
+case 0:case 2:case 3:Jl=r8(a+8);
+if(r8(a+32)>Jl)Kl=Jl;
 else{
-Il=make_ready_8e3(a,1,16);
-if(!(Il&1)){
+Ll=make_ready_8e3(a,1,16);
+if(!(Ll&1)){
 F=0;
 goto L1;}
-Hl=r8(a+8);}
-*(rp(a)+Hl)=93;
-Jl=Hl+1;
-w8(a+8,Jl);
-if(r8(a+136)<=Li){
+Kl=r8(a+8);}
+*(rp(a)+Kl)=93;
+Ml=Kl+1;
+w8(a+8,Ml);
+if(r8(a+136)<=Fi){
 F=0;
 goto L1;}
-Kl=r8(a+96);
-if(Kl>65534){
+Nl=r8(a+96);
+if(Nl>65534){
 F=0;
 goto L1;}
-Ll=a[80];
-if(r8(a+120)>Kl)Ml=Kl;
+Ol=a[80];
+if(r8(a+120)>Nl)Pl=Nl;
 else{
-Nl=make_ready_b73(a+88);
-if(!(Nl&1)){
+Ql=make_ready_b73(a+88);
+if(!(Ql&1)){
 F=0;
 goto L1;}
-Ml=r8(a+96);}
-Ol=rp(a+88)+Ml*24;
-x8(Ol,Mi);
-x8(Ol+8,Jl);
-Ol[16]=3;
-Ol[17]=Ll;
-z6(Ol+18);
-w8(a+96,Ml+1);
-w2(rp(a+128)+(i64)(Li<<1),(u16)Kl+1);
+Pl=r8(a+96);}
+Rl=rp(a+88)+Pl*24;
+x8(Rl,Gi);
+x8(Rl+8,Ml);
+Rl[16]=3;
+Rl[17]=Ol;
+z6(Rl+18);
+w8(a+96,Pl+1);
+w2(rp(a+128)+(i64)(Fi<<1),(u16)Nl+1);
 La=3;
-Ma=Mi;
+Ma=Gi;
 Na=0;
 Oa=2;
 goto L9;
@@ -93659,42 +93724,42 @@ default:NEVER;
 }
 break;
 case 2:switch(Ea){
-case 0:case 2:case 3:Pl=r8(a+8);
-if(r8(a+32)>Pl)Ql=Pl;
+case 0:case 2:case 3:Sl=r8(a+8);
+if(r8(a+32)>Sl)Tl=Sl;
 else{
-Rl=make_ready_8e3(a,1,16);
-if(!(Rl&1)){
+Ul=make_ready_8e3(a,1,16);
+if(!(Ul&1)){
 F=0;
 goto L1;}
-Ql=r8(a+8);}
-*(rp(a)+Ql)=62;
-Sl=Ql+1;
-w8(a+8,Sl);
-if(r8(a+136)<=Li){
+Tl=r8(a+8);}
+*(rp(a)+Tl)=62;
+Vl=Tl+1;
+w8(a+8,Vl);
+if(r8(a+136)<=Fi){
 F=0;
 goto L1;}
-Tl=r8(a+96);
-if(Tl>65534){
+Wl=r8(a+96);
+if(Wl>65534){
 F=0;
 goto L1;}
-Ul=a[80];
-if(r8(a+120)>Tl)Vl=Tl;
+Xl=a[80];
+if(r8(a+120)>Wl)Yl=Wl;
 else{
-Wl=make_ready_b73(a+88);
-if(!(Wl&1)){
+Zl=make_ready_b73(a+88);
+if(!(Zl&1)){
 F=0;
 goto L1;}
-Vl=r8(a+96);}
-Xl=rp(a+88)+Vl*24;
-x8(Xl,Mi);
-x8(Xl+8,Sl);
-Xl[16]=0;
-Xl[17]=Ul;
-z6(Xl+18);
-w8(a+96,Vl+1);
-w2(rp(a+128)+(i64)(Li<<1),(u16)Tl+1);
+Yl=r8(a+96);}
+am=rp(a+88)+Yl*24;
+x8(am,Gi);
+x8(am+8,Vl);
+am[16]=0;
+am[17]=Xl;
+z6(am+18);
+w8(a+96,Yl+1);
+w2(rp(a+128)+(i64)(Fi<<1),(u16)Wl+1);
 La=0;
-Ma=Mi;
+Ma=Gi;
 Na=0;
 Oa=2;
 goto L9;
@@ -93707,96 +93772,96 @@ default:NEVER;
 }
 break;
 case 13:switch(Ea){
-case 0:case 2:Yl=r8(a+192);
-if(Yl<c){
-if(*(b+Yl)==69){
-Zl=Yl+1;
-if(Zl>=c){
+case 0:case 2:bm=r8(a+192);
+if(bm<c){
+if(*(b+bm)==69){
+cm=bm+1;
+if(cm>=c){
 F=0;
 goto L1;}
-if(*(b+Zl)!=76){
+if(*(b+cm)!=76){
 F=0;
 goto L1;}
-am=Yl+2;
-if(am>=c){
+dm=bm+2;
+if(dm>=c){
 F=0;
 goto L1;}
-if(*(b+am)!=95){
+if(*(b+dm)!=95){
 F=0;
 goto L1;}
-w8(a+192,Yl+3);
-if(r8(a+136)<=Li){
+w8(a+192,bm+3);
+if(r8(a+136)<=Fi){
 F=0;
 goto L1;}
-bm=r8(a+96);
-if(bm>65534){
+em=r8(a+96);
+if(em>65534){
 F=0;
 goto L1;}
-cm=r8(a+8);
-dm=a[80];
-if(r8(a+120)>bm)em=bm;
+fm=r8(a+8);
+gm=a[80];
+if(r8(a+120)>em)hm=em;
 else{
-fm=make_ready_b73(a+88);
-if(!(fm&1)){
-F=0;
-goto L1;}
-em=r8(a+96);}
-gm=rp(a+88)+em*24;
-x8(gm,Mi);
-x8(gm+8,cm);
-gm[16]=3;
-gm[17]=dm;
-z6(gm+18);
-w8(a+96,em+1);
-w2(rp(a+128)+(i64)(Li<<1),(u16)bm+1);
-La=3;
-Ma=Mi;
-Na=0;
-Oa=2;
-goto L9;}}
-hm=r8(a+8);
-if(r8(a+32)-hm<3){
-im=make_ready_8e3(a,3,128);
+im=make_ready_b73(a+88);
 if(!(im&1)){
 F=0;
 goto L1;}
-jm=r8(a+8);}
-else jm=hm;
-km=r8(a+16);
-if(km-jm<3){
-lm=grow_amortized_2b6(a,3);
-if(!lm){
+hm=r8(a+96);}
+jm=rp(a+88)+hm*24;
+x8(jm,Gi);
+x8(jm+8,fm);
+jm[16]=3;
+jm[17]=gm;
+z6(jm+18);
+w8(a+96,hm+1);
+w2(rp(a+128)+(i64)(Fi<<1),(u16)em+1);
+La=3;
+Ma=Gi;
+Na=0;
+Oa=2;
+goto L9;}}
+km=r8(a+8);
+if(r8(a+32)-km<3){
+lm=make_ready_8e3(a,3,128);
+if(!(lm&1)){
 F=0;
 goto L1;}
-mm=r8(a+16);
-nm=r8(a+8);}
+mm=r8(a+8);}
+else mm=km;
+nm=r8(a+16);
+if(nm-mm<3){
+om=grow_amortized_2b6(a,3);
+if(!om){
+F=0;
+goto L1;}
+pm=r8(a+16);
+qm=r8(a+8);}
 else{
-mm=km;
-nm=jm;}
-om=nm+3;
-pm=rp(a);
+pm=nm;
+qm=mm;}
+rm=qm+3;
+sm=rp(a);
 z16(a+8);
-qm=pm+(i64)nm;
-if((u64)qm-(u64)(u8*)t_4620<3)copy_bits_4f4((u8*)t_4620,qm,3);
-else memcpy(qm,(u8*)t_4620,3);
-wp(a,pm);
-w8(a+8,om);
-w8(a+16,mm);
-rm=r8(a+160);
-if(r8(a+184)>rm)sm=rm;
+tm=sm+(i64)qm;
+if((u64)tm-(u64)(u8*)t_4620<3)copy_bits_4f4((u8*)t_4620,tm,3);
+else memcpy(tm,(u8*)t_4620,3);
+wp(a,sm);
+w8(a+8,rm);
+w8(a+16,pm);
+um=r8(a+160);
+if(r8(a+184)>um)vm=um;
 else{
-tm=make_ready_e3c(a+152);
-if(!(tm&1)){
+wm=make_ready_e3c(a+152);
+if(!(wm&1)){
 F=0;
 goto L1;}
-sm=r8(a+160);}
-um=rp(a+152)+(sm<<5);
-*um=13;
-um[1]=0;
-x8(um+8,Li);
-x8(um+16,Mi);
-um[24]=0;
-w8(a+160,sm+1);
+vm=r8(a+160);}
+xm=rp(a+152)+(vm<<5);
+*xm=13;
+xm[1]=0;
+x8(xm+8,Fi);
+x8(xm+16,Gi);
+xm[24]=0;
+w8(a+160,vm+1);
 La=0;
 Ma=0;
 Na=0;
@@ -93808,85 +93873,85 @@ default:NEVER;
 }
 break;
 case 14:switch(Ea){
-case 0:case 2:case 3:vm=r8(a+192);
-wm=r8(a+8);
-if(r8(a+32)-wm<2){
-xm=make_ready_8e3(a,2,128);
-if(!(xm&1)){
+case 0:case 2:case 3:ym=r8(a+192);
+zm=r8(a+8);
+if(r8(a+32)-zm<2){
+Am=make_ready_8e3(a,2,128);
+if(!(Am&1)){
 F=0;
 goto L1;}
-ym=r8(a+8);}
-else ym=wm;
-*(rp(a)+ym)=59;
-*(rp(a)+(i64)ym+1)=32;
-zm=ym+2;
-w8(a+8,zm);
-Am=constant_at_b72(a,b,c,vm);
-if(Am.f0!=1){
+Bm=r8(a+8);}
+else Bm=zm;
+*(rp(a)+Bm)=59;
+*(rp(a)+(i64)Bm+1)=32;
+Cm=Bm+2;
+w8(a+8,Cm);
+Dm=constant_at_b72(a,b,c,ym);
+if(Dm.f0!=1){
 F=0;
 goto L1;}
-if(r8(a+136)<=vm){
+if(r8(a+136)<=ym){
 F=0;
 goto L1;}
-Bm=r8(a+96);
-if(Bm>65534){
+Em=r8(a+96);
+if(Em>65534){
 F=0;
 goto L1;}
-Cm=Am.f1;
-Dm=r8(a+8);
-Em=a[80];
-if(r8(a+120)>Bm)Fm=Bm;
+Fm=Dm.f1;
+Gm=r8(a+8);
+Hm=a[80];
+if(r8(a+120)>Em)Im=Em;
 else{
-Gm=make_ready_b73(a+88);
-if(!(Gm&1)){
+Jm=make_ready_b73(a+88);
+if(!(Jm&1)){
 F=0;
 goto L1;}
-Fm=r8(a+96);}
-Hm=rp(a+88)+Fm*24;
-x8(Hm,zm);
-x8(Hm+8,Dm);
-Hm[16]=4;
-Hm[17]=Em;
-z6(Hm+18);
-w8(a+96,Fm+1);
-w2(rp(a+128)+(i64)(vm<<1),(u16)Bm+1);
-w8(a+192,Cm);
-Im=r8(a+8);
-if(r8(a+32)>Im)Jm=Im;
+Im=r8(a+96);}
+Km=rp(a+88)+Im*24;
+x8(Km,Cm);
+x8(Km+8,Gm);
+Km[16]=4;
+Km[17]=Hm;
+z6(Km+18);
+w8(a+96,Im+1);
+w2(rp(a+128)+(i64)(ym<<1),(u16)Em+1);
+w8(a+192,Fm);
+Lm=r8(a+8);
+if(r8(a+32)>Lm)Mm=Lm;
 else{
-Km=make_ready_8e3(a,1,16);
-if(!(Km&1)){
+Nm=make_ready_8e3(a,1,16);
+if(!(Nm&1)){
 F=0;
 goto L1;}
-Jm=r8(a+8);}
-*(rp(a)+Jm)=93;
-Lm=Jm+1;
-w8(a+8,Lm);
-if(r8(a+136)<=Li){
+Mm=r8(a+8);}
+*(rp(a)+Mm)=93;
+Om=Mm+1;
+w8(a+8,Om);
+if(r8(a+136)<=Fi){
 F=0;
 goto L1;}
-Mm=r8(a+96);
-if(Mm>65534){
+Pm=r8(a+96);
+if(Pm>65534){
 F=0;
 goto L1;}
-Nm=a[80];
-if(r8(a+120)>Mm)Om=Mm;
+Qm=a[80];
+if(r8(a+120)>Pm)Rm=Pm;
 else{
-Pm=make_ready_b73(a+88);
-if(!(Pm&1)){
+Sm=make_ready_b73(a+88);
+if(!(Sm&1)){
 F=0;
 goto L1;}
-Om=r8(a+96);}
-Qm=rp(a+88)+Om*24;
-x8(Qm,Mi);
-x8(Qm+8,Lm);
-Qm[16]=3;
-Qm[17]=Nm;
-z6(Qm+18);
-w8(a+96,Om+1);
-w2(rp(a+128)+(i64)(Li<<1),(u16)Mm+1);
+Rm=r8(a+96);}
+Tm=rp(a+88)+Rm*24;
+x8(Tm,Gi);
+x8(Tm+8,Om);
+Tm[16]=3;
+Tm[17]=Qm;
+z6(Tm+18);
+w8(a+96,Rm+1);
+w2(rp(a+128)+(i64)(Fi<<1),(u16)Pm+1);
 La=3;
-Ma=Mi;
+Ma=Gi;
 Na=0;
 Oa=2;
 goto L9;
@@ -93895,7 +93960,7 @@ goto L1;
 default:NEVER;
 }
 break;
-case 6:if(!Ei){
+case 6:if(!yi){
 F=0;
 goto L1;}
 if(!(a[80]&1)){
@@ -93905,146 +93970,146 @@ memcpy(e,a,40);
 memcpy(a,a+40,40);
 memcpy(a+40,e,40);
 a[80]=0;
-Rm=r8(a+8);
-if(r8(a+32)>Rm)Sm=Rm;
+Um=r8(a+8);
+if(r8(a+32)>Um)Vm=Um;
 else{
-Tm=make_ready_8e3(a,1,16);
-if(!(Tm&1)){
-F=0;
-goto L1;}
-Sm=r8(a+8);}
-*(rp(a)+Sm)=60;
-w8(a+8,Sm+1);
-Um=r8(a+160);
-if(r8(a+184)>Um)Vm=Um;
-else{
-Wm=make_ready_e3c(a+152);
+Wm=make_ready_8e3(a,1,16);
 if(!(Wm&1)){
 F=0;
 goto L1;}
-Vm=r8(a+160);}
-Xm=rp(a+152)+(Vm<<5);
-*Xm=10;
-Xm[1]=0;
-x8(Xm+8,Li);
-x8(Xm+16,Rm);
-Xm[24]=0;
-w8(a+160,Vm+1);
+Vm=r8(a+8);}
+*(rp(a)+Vm)=60;
+w8(a+8,Vm+1);
+Xm=r8(a+160);
+if(r8(a+184)>Xm)Ym=Xm;
+else{
+Zm=make_ready_e3c(a+152);
+if(!(Zm&1)){
+F=0;
+goto L1;}
+Ym=r8(a+160);}
+an=rp(a+152)+(Ym<<5);
+*an=10;
+an[1]=0;
+x8(an+8,Fi);
+x8(an+16,Um);
+an[24]=0;
+w8(a+160,Ym+1);
 La=0;
 Ma=0;
 Na=0;
 Oa=1;
 goto L9;
-case 7:if(!Ei){
+case 7:if(!yi){
 F=0;
 goto L1;}
-Ym=r8(a+8);
-if(r8(a+32)>Ym)Zm=Ym;
+bn=r8(a+8);
+if(r8(a+32)>bn)cn=bn;
 else{
-an=make_ready_8e3(a,1,16);
-if(!(an&1)){
-F=0;
-goto L1;}
-Zm=r8(a+8);}
-*(rp(a)+Zm)=60;
-w8(a+8,Zm+1);
-bn=r8(a+160);
-if(r8(a+184)>bn)cn=bn;
-else{
-dn=make_ready_e3c(a+152);
+dn=make_ready_8e3(a,1,16);
 if(!(dn&1)){
 F=0;
 goto L1;}
-cn=r8(a+160);}
-en=rp(a+152)+(cn<<5);
-*en=9;
-en[1]=0;
-x8(en+8,Li);
-x8(en+16,Ym);
-en[24]=2;
-w8(a+160,cn+1);
+cn=r8(a+8);}
+*(rp(a)+cn)=60;
+w8(a+8,cn+1);
+en=r8(a+160);
+if(r8(a+184)>en)fn=en;
+else{
+gn=make_ready_e3c(a+152);
+if(!(gn&1)){
+F=0;
+goto L1;}
+fn=r8(a+160);}
+hn=rp(a+152)+(fn<<5);
+*hn=9;
+hn[1]=0;
+x8(hn+8,Fi);
+x8(hn+16,bn);
+hn[24]=2;
+w8(a+160,fn+1);
 La=0;
 Ma=0;
 Na=0;
 Oa=1;
 goto L9;
-case 8:if(!Ei){
+case 8:if(!yi){
 F=0;
 goto L1;}
-fn=r8(a+8);
-if(r8(a+32)>fn)gn=fn;
+in=r8(a+8);
+if(r8(a+32)>in)jn=in;
 else{
-hn=make_ready_8e3(a,1,16);
-if(!(hn&1)){
-F=0;
-goto L1;}
-gn=r8(a+8);}
-*(rp(a)+gn)=60;
-w8(a+8,gn+1);
-in=r8(a+160);
-if(r8(a+184)>in)jn=in;
-else{
-kn=make_ready_e3c(a+152);
+kn=make_ready_8e3(a,1,16);
 if(!(kn&1)){
 F=0;
 goto L1;}
-jn=r8(a+160);}
-ln=rp(a+152)+(jn<<5);
-*ln=10;
-ln[1]=0;
-x8(ln+8,Li);
-x8(ln+16,fn);
-ln[24]=0;
-w8(a+160,jn+1);
+jn=r8(a+8);}
+*(rp(a)+jn)=60;
+w8(a+8,jn+1);
+ln=r8(a+160);
+if(r8(a+184)>ln)mn=ln;
+else{
+nn=make_ready_e3c(a+152);
+if(!(nn&1)){
+F=0;
+goto L1;}
+mn=r8(a+160);}
+on=rp(a+152)+(mn<<5);
+*on=10;
+on[1]=0;
+x8(on+8,Fi);
+x8(on+16,in);
+on[24]=0;
+w8(a+160,mn+1);
 La=0;
 Ma=0;
 Na=0;
 Oa=1;
 goto L9;
 case 10:switch(Ea){
-case 0:case 2:case 3:mn=r8(a+8);
-if(r8(a+32)-mn<4){
-nn=make_ready_8e3(a,4,128);
-if(!(nn&1)){
+case 0:case 2:case 3:pn=r8(a+8);
+if(r8(a+32)-pn<4){
+qn=make_ready_8e3(a,4,128);
+if(!(qn&1)){
 F=0;
 goto L1;}
-on=r8(a+8);}
-else on=mn;
-pn=r8(a+16);
-if(pn-on<4){
-qn=grow_amortized_2b6(a,4);
-if(!qn){
+rn=r8(a+8);}
+else rn=pn;
+sn=r8(a+16);
+if(sn-rn<4){
+tn=grow_amortized_2b6(a,4);
+if(!tn){
 F=0;
 goto L1;}
-rn=r8(a+16);
-sn=r8(a+8);}
+un=r8(a+16);
+vn=r8(a+8);}
 else{
-rn=pn;
-sn=on;}
-tn=sn+4;
-un=rp(a);
+un=sn;
+vn=rn;}
+wn=vn+4;
+xn=rp(a);
 z16(a+8);
-vn=un+(i64)sn;
-if((u64)vn-(u64)(u8*)t_fa21<4)copy_bits_4f4((u8*)t_fa21,vn,4);
-else x4(vn,544432416);
-wp(a,un);
-w8(a+8,tn);
-w8(a+16,rn);
-wn=r8(a+160);
-if(r8(a+184)>wn)xn=wn;
+yn=xn+(i64)vn;
+if((u64)yn-(u64)(u8*)t_fa21<4)copy_bits_4f4((u8*)t_fa21,yn,4);
+else x4(yn,544432416);
+wp(a,xn);
+w8(a+8,wn);
+w8(a+16,un);
+zn=r8(a+160);
+if(r8(a+184)>zn)An=zn;
 else{
-yn=make_ready_e3c(a+152);
-if(!(yn&1)){
+Bn=make_ready_e3c(a+152);
+if(!(Bn&1)){
 F=0;
 goto L1;}
-xn=r8(a+160);}
-zn=rp(a+152)+(xn<<5);
-*zn=11;
-zn[1]=0;
-x8(zn+8,Li);
-x8(zn+16,Mi);
-zn[24]=0;
-w8(a+160,xn+1);
+An=r8(a+160);}
+Cn=rp(a+152)+(An<<5);
+*Cn=11;
+Cn[1]=0;
+x8(Cn+8,Fi);
+x8(Cn+16,Gi);
+Cn[24]=0;
+w8(a+160,An+1);
 La=0;
 Ma=0;
 Na=0;
@@ -94056,42 +94121,42 @@ default:NEVER;
 }
 break;
 case 11:switch(Ea){
-case 0:case 2:An=r8(a+8);
-if(r8(a+32)>An)Bn=An;
+case 0:case 2:Dn=r8(a+8);
+if(r8(a+32)>Dn)En=Dn;
 else{
-Cn=make_ready_8e3(a,1,16);
-if(!(Cn&1)){
+Fn=make_ready_8e3(a,1,16);
+if(!(Fn&1)){
 F=0;
 goto L1;}
-Bn=r8(a+8);}
-*(rp(a)+Bn)=62;
-Dn=Bn+1;
-w8(a+8,Dn);
-if(r8(a+136)<=Li){
+En=r8(a+8);}
+*(rp(a)+En)=62;
+Gn=En+1;
+w8(a+8,Gn);
+if(r8(a+136)<=Fi){
 F=0;
 goto L1;}
-En=r8(a+96);
-if(En>65534){
+Hn=r8(a+96);
+if(Hn>65534){
 F=0;
 goto L1;}
-Fn=a[80];
-if(r8(a+120)>En)Gn=En;
+In=a[80];
+if(r8(a+120)>Hn)Jn=Hn;
 else{
-Hn=make_ready_b73(a+88);
-if(!(Hn&1)){
+Kn=make_ready_b73(a+88);
+if(!(Kn&1)){
 F=0;
 goto L1;}
-Gn=r8(a+96);}
-In=rp(a+88)+Gn*24;
-x8(In,Mi);
-x8(In+8,Dn);
-In[16]=0;
-In[17]=Fn;
-z6(In+18);
-w8(a+96,Gn+1);
-w2(rp(a+128)+(i64)(Li<<1),(u16)En+1);
+Jn=r8(a+96);}
+Ln=rp(a+88)+Jn*24;
+x8(Ln,Gi);
+x8(Ln+8,Gn);
+Ln[16]=0;
+Ln[17]=In;
+z6(Ln+18);
+w8(a+96,Jn+1);
+w2(rp(a+128)+(i64)(Fi<<1),(u16)Hn+1);
 La=0;
-Ma=Mi;
+Ma=Gi;
 Na=0;
 Oa=2;
 goto L9;
@@ -94102,16 +94167,16 @@ default:NEVER;
 break;
 default:NEVER;
 }
-if(Ti!=1){
+if(Ni!=1){
 F=0;
 goto L1;}
-La=Xi;
-Ma=Wi;
-Na=Vi;
-Oa=Ui;
-L9:Jn=N+1;
-if(Jn!=M){
-N=Jn;
+La=Ri;
+Ma=Qi;
+Na=Pi;
+Oa=Oi;
+L9:Mn=N+1;
+if(Mn!=M){
+N=Mn;
 O=La;
 P=Ma;
 Q=Na;
@@ -94571,78 +94636,103 @@ L3:return L;
 /* rust_direct::hashes::any_disambiguator_end */
 static s_8_64 any_disambiguator_end_f9c(u8* a,u64 b,u64 c)
 {
-u64 d,e,f,g,h,i,j,k,l,o,p,q,r,s,u,v,w,y,z,A;
-u8 m,t,x;
-u8 *n;
-s_8_64 B,C;
+A16 u8 d[24];
+u64 e,f,g;
+u8 h,i;
+s_8_64 j,k;
 if(c<b){
 if(*(a+c)==115){
-d=c+1;
-e=umin64(b-d,11)+d;
+e=c+1;
+z24(d);
+f=c+2;
+if(e!=18446744073709551615u&&f<b){
+if(*(a+f)==95){
+if(*((u8*)t_84dd+*(a+(i64)e))<62){
+g=c+3;
+h=1;
+goto L1;}}}
+any_number_at_3d4(d,a,b,e);
+i=*d==1&&r8(d+8)!=18446744073709551615u;
+g=i?r8(d+16):0;
+h=i;}
+else{
+g=c;
+h=1;}}
+else{
+g=c;
+h=1;}
+L1:j=(s_8_64){0};j.f0=h;
+k=j;k.f1=g;
+return k;
+}
+
+/* rust_direct::tokens::any_number_at */
+static void any_number_at_3d4(u8* a,u8* b,u64 c,u64 d)
+{
+u64 e,f,g,h,i,j,k,l,n,o,p,q,r,t,u,v,x,y,z;
+u8 *m;
+u8 s,w;
+if(c<d)z24(a);
+else{
+e=umin64(c-d,11)+d;
 if(d>=e){
 g=d;
 goto L1;}
 f=d;
-L2:if(*((u8*)t_84dd+*(a+f))<62){
+L2:if(*((u8*)t_84dd+*(b+f))<62){
 h=f+1;
 if(h!=e){
 f=h;
 goto L2;}
 g=e;}
 else g=f;
-L1:if(g!=b){
-if(*(a+g)==95){
+L1:if(g!=c){
+if(*(b+g)==95){
 i=d&4294967295u;
 j=g&4294967295u;
 k=j+1;
-if(j==i){
-l=k;
-m=1;
-goto L3;}
-n=a+(i64)i;
-o=j-i;
-if(o>10){
+if(j!=i){
+m=b+(i64)i;
+n=j-i;
+if(n>10){
+o=0;
 p=0;
+goto L3;}
 q=0;
-goto L4;}
 r=0;
-s=0;
-L5:t=*((u8*)t_84dd+*(n+(i64)s));
-if(t>=62)goto L6;
-u=r*62+t;
-v=s+1;
-if(v==o){
-w=u;
-goto L7;}
+L4:s=*((u8*)t_84dd+*(m+(i64)r));
+if(s>=62)goto L5;
+t=q*62+s;
+u=r+1;
+if(u==n){
+v=t;
+goto L6;}
+q=t;
 r=u;
-s=v;
-goto L5;
-L4:x=*((u8*)t_84dd+*(n+(i64)q));
-if(!((p<0x421084210842109u)&(x<62)))goto L6;
-y=p*62;
-if(y>(x^18446744073709551615u))goto L6;
-z=y+x;
-A=q+1;
-if(A!=o){
+goto L4;
+L3:w=*((u8*)t_84dd+*(m+(i64)p));
+if(!((o<0x421084210842109u)&(w<62)))goto L5;
+x=o*62;
+if(x>(w^18446744073709551615u))goto L5;
+y=x+w;
+z=p+1;
+if(z!=n){
+o=y;
 p=z;
-q=A;
-goto L4;}
-w=z;
-L7:if(w<=0xfffffffffffffffdu){
-l=k;
-m=1;
-goto L3;}}}
-L6:l=0;
-m=0;}
-else{
-l=c;
-m=1;}}
-else{
-l=c;
-m=1;}
-L3:B=(s_8_64){0};B.f0=m;
-C=B;C.f1=l;
-return C;
+goto L3;}
+v=y;
+L6:if(v!=18446744073709551615u){
+l=v+1;
+goto L7;}
+L5:z24(a);
+goto L8;}
+l=0;
+L7:x8(a,1);
+x8(a+8,l);
+x8(a+16,k);
+goto L8;}}
+z24(a);}
+L8:return;
 }
 
 /* rust_direct::names::any_name_span */
@@ -94751,10 +94841,10 @@ return;
 static void begin_impl_c72(u8* a,u8* b,u8* c,u64 d)
 {
 A16 u8 e[40],f[32];
-u64 g,h,i,j,m,n,o,q,r;
-u8 *k,*t;
-u8 l,s;
-s_8_64 p;
+u64 g,h,i,k,l,n,o,p,r,s;
+u8 *j,*u;
+u8 m,t;
+s_8_64 q;
 z32(f);
 g=r8(b+192);
 if(g==18446744073709551615u){
@@ -94769,59 +94859,61 @@ if(h<d){
 if(*(c+h)==115){
 i=g+2;
 if(!(d<i||d-i<12)){
-j=g+13;
-k=c+(i64)i;
-l=*k;
-if(!((l<58)|((u8)(l-97)<11)))goto L1;
-m=0;
-L2:if(*((u8*)t_9eba+*(k+m))==0){
-n=m+1;
-if(n!=11){
-m=n;
-goto L2;}
-if(j<d){
-if(*(c+j)==95){
-o=g+14;
-goto L3;}}}}
-L1:p=any_disambiguator_end_f9c(c,d,h);
-if(p.f0!=1){
+j=c+(i64)i;
+k=0;
+L1:if(*((u8*)t_9eba+*(j+k))==0){
+l=k+1;
+if(l!=11){
+k=l;
+goto L1;}
+m=*j;
+if(!((m<58)|((u8)(m-97)<11)))goto L2;
+n=11;}
+else n=k;
+o=n+i;
+if(o<d){
+if(*(c+o)==95){
+p=o+1;
+goto L3;}}}
+L2:q=any_disambiguator_end_f9c(c,d,h);
+if(q.f0!=1){
 x8(a,0);
 a[8]=0;
 a[9]=0;
 x8(a+16,0);
 a[24]=0;
 goto L4;}
-o=p.f1;}
-else o=h;}
-else o=h;
+p=q.f1;}
+else p=h;}
+else p=h;
 L3:if(b[80]&1){
-begin_inner_impl_f25(f,b,o);
+begin_inner_impl_f25(f,b,p);
 x8(a,*f);
 a[8]=f[8];
 a[9]=f[9];
 x8(a+16,r8(f+16));
 a[24]=f[24];}
 else{
-w8(b+192,o);
-q=r8(b+160);
-if(r8(b+184)>q)r=q;
+w8(b+192,p);
+r=r8(b+160);
+if(r8(b+184)>r)s=r;
 else{
-s=make_ready_e3c(b+152);
-if(!(s&1)){
+t=make_ready_e3c(b+152);
+if(!(t&1)){
 x8(a,0);
 a[8]=0;
 a[9]=0;
 x8(a+16,0);
 a[24]=0;
 goto L4;}
-r=r8(b+160);}
-t=rp(b+152)+(r<<5);
-*t=5;
-t[1]=0;
-x8(t+8,g);
-x8(t+16,0);
-t[24]=0;
-w8(b+160,r+1);
+s=r8(b+160);}
+u=rp(b+152)+(s<<5);
+*u=5;
+u[1]=0;
+x8(u+8,g);
+x8(u+16,0);
+u[24]=0;
+w8(b+160,s+1);
 memcpy(e,b,40);
 memcpy(b,b+40,40);
 memcpy(b+40,e,40);
@@ -94890,10 +94982,10 @@ return;
 static void begin_trait_impl_220(u8* a,u8* b,u8* c,u64 d)
 {
 A16 u8 e[40],f[32];
-u64 g,h,i,j,m,n,o,q,r;
-u8 *k,*t;
-u8 l,s;
-s_8_64 p;
+u64 g,h,i,k,l,n,o,p,r,s;
+u8 *j,*u;
+u8 m,t;
+s_8_64 q;
 z32(f);
 g=r8(b+192);
 if(g==18446744073709551615u){
@@ -94908,59 +95000,61 @@ if(h<d){
 if(*(c+h)==115){
 i=g+2;
 if(!(d<i||d-i<12)){
-j=g+13;
-k=c+(i64)i;
-l=*k;
-if(!((l<58)|((u8)(l-97)<11)))goto L1;
-m=0;
-L2:if(*((u8*)t_9eba+*(k+m))==0){
-n=m+1;
-if(n!=11){
-m=n;
-goto L2;}
-if(j<d){
-if(*(c+j)==95){
-o=g+14;
-goto L3;}}}}
-L1:p=any_disambiguator_end_f9c(c,d,h);
-if(p.f0!=1){
+j=c+(i64)i;
+k=0;
+L1:if(*((u8*)t_9eba+*(j+k))==0){
+l=k+1;
+if(l!=11){
+k=l;
+goto L1;}
+m=*j;
+if(!((m<58)|((u8)(m-97)<11)))goto L2;
+n=11;}
+else n=k;
+o=n+i;
+if(o<d){
+if(*(c+o)==95){
+p=o+1;
+goto L3;}}}
+L2:q=any_disambiguator_end_f9c(c,d,h);
+if(q.f0!=1){
 x8(a,0);
 a[8]=0;
 a[9]=0;
 x8(a+16,0);
 a[24]=0;
 goto L4;}
-o=p.f1;}
-else o=h;}
-else o=h;
+p=q.f1;}
+else p=h;}
+else p=h;
 L3:if(b[80]&1){
-begin_inner_trait_impl_a3f(f,b,o);
+begin_inner_trait_impl_a3f(f,b,p);
 x8(a,*f);
 a[8]=f[8];
 a[9]=f[9];
 x8(a+16,r8(f+16));
 a[24]=f[24];}
 else{
-w8(b+192,o);
-q=r8(b+160);
-if(r8(b+184)>q)r=q;
+w8(b+192,p);
+r=r8(b+160);
+if(r8(b+184)>r)s=r;
 else{
-s=make_ready_e3c(b+152);
-if(!(s&1)){
+t=make_ready_e3c(b+152);
+if(!(t&1)){
 x8(a,0);
 a[8]=0;
 a[9]=0;
 x8(a+16,0);
 a[24]=0;
 goto L4;}
-r=r8(b+160);}
-t=rp(b+152)+(r<<5);
-*t=6;
-t[1]=0;
-x8(t+8,g);
-x8(t+16,0);
-t[24]=0;
-w8(b+160,r+1);
+s=r8(b+160);}
+u=rp(b+152)+(s<<5);
+*u=6;
+u[1]=0;
+x8(u+8,g);
+x8(u+16,0);
+u[24]=0;
+w8(b+160,s+1);
 memcpy(e,b,40);
 memcpy(b,b+40,40);
 memcpy(b+40,e,40);
@@ -95094,65 +95188,13 @@ a[24]=0;
 return;
 }
 
-/* rust_direct::direct::Direct::repeat */
-static u8 repeat_2ff(u8* a,u8* b)
-{
-u64 c,d,f,g,i,k,m,n,o;
-u8 *e,*p,*q;
-u8 h,j,l,r;
-c=q8(b);
-d=q8(b+8);
-if((u8)(a[80]^b[17])&1){
-if(d>=c&&r8(a+48)>=d){
-e=rp(a+40)+(i64)c;
-f=d-c;
-g=r8(a+8);
-if(r8(a+32)-g<f){
-h=make_ready_8e3(a,f,128);
-if(!(h&1)){
-j=0;
-goto L1;}
-i=r8(a+8);}
-else i=g;
-k=r8(a+16);
-if(f>k-i){
-l=grow_amortized_2b6(a,f);
-if(!l){
-j=0;
-goto L1;}
-m=r8(a+16);
-n=r8(a+8);}
-else{
-m=k;
-n=i;}
-o=n+f;
-p=rp(a);
-z16(a+8);
-q=p+(i64)n;
-if((u64)q-(u64)e<f)copy_bits_4f4(e,q,f);
-else memmove(q,e,f);
-wp(a,p);
-w8(a+8,o);
-w8(a+16,m);
-j=1;}
-else j=0;}
-else{
-if(d<c)j=0;
-else{
-if(r8(a+8)<d)j=0;
-else{
-r=repeat_28b(a,c,d);
-j=r;}}}
-L1:return j;
-}
-
 /* rust_direct::direct::Direct::unnamed_ended */
 static u8 unnamed_ended_c46(u8* a,u8* b,u64 c,u64 d,u64 e,u8 f)
 {
 A16 u8 g[12],h[12],i[12];
-u64 j,l,n,q,r,t,u,w,y,z,A,D,F,G,I,K,L,M,N,R,T,U,V,X,Y,Z,aa,ca,da,fa;
-u8 k,m,o,v,x,C,E,H,O,Q,S,ba,ea,ga;
-u8 *p,*s,*B,*J,*P,*W,*ha;
+u64 j,l,n,q,r,t,u,w,y,z,A,C,D,F,G,J,K,L,M,P,Q,R,T,U,V,W,Y,aa,ba,da;
+u8 k,m,o,v,x,E,H,N,X,Z,ca,ea;
+u8 *p,*s,*B,*I,*O,*S,*fa;
 if(r8(a+136)>d){
 j=r8(a+96);
 if(j>65534)k=0;
@@ -95198,8 +95240,7 @@ k=0;
 goto L1;}
 A=z+y;
 B=b+(i64)y;
-C=*B;
-if((C==95)|((u8)(C-48)<10)){
+if(*((u8*)t_facb+*B)!=0){
 z12(h);
 any_name_span_9bc(h,b,c,u);
 D=q8(h+4);
@@ -95208,107 +95249,106 @@ F=E?D&4294967295u:0;
 G=E?D>>32:0;
 H=E;
 goto L2;}
-I=0;
-L3:J=B+I;
-if((u8)((u8)(*((u8*)t_4efc+J[1])+*((u8*)t_4efc+*J))+*((u8*)t_4efc+J[2]))==(u8)(0-*((u8*)t_4efc+J[3]))){
-K=I+4;
-if(z-K>3){
-I=K;
+C=0;
+L3:I=B+C;
+if((u8)((u8)(*((u8*)t_4efc+I[1])+*((u8*)t_4efc+*I))+*((u8*)t_4efc+I[2]))==(u8)(0-*((u8*)t_4efc+I[3]))){
+J=C+4;
+if(z-J>3){
+C=J;
 goto L3;}
-L=K;}
-else L=I;
-if(L>=z){
+K=J;}
+else K=C;
+if(K>=z){
 F=y;
 G=A;
 H=1;
 goto L2;}
-M=L;
-L4:if(*((u8*)t_4efc+*(B+M))!=0){
+L=K;
+L4:if(*((u8*)t_4efc+*(B+L))!=0){
 k=0;
 goto L1;}
-N=M+1;
-if(N<z){
-M=N;
+M=L+1;
+if(M<z){
+L=M;
 goto L4;}
 F=y;
 G=A;
 H=1;
 goto L2;}}
-O=v-48;
-if(c-w<O){
+N=v-48;
+if(c-w<N){
 k=0;
 goto L1;}
-P=b+(i64)w;
-Q=*P;
-if((Q==95)|((u8)(Q-48)<10)){
+O=b+(i64)w;
+if(*((u8*)t_facb+*O)!=0){
 z12(g);
 any_name_span_9bc(g,b,c,u);
-R=q8(g+4);
-S=*g==1;
-F=S?R&4294967295u:0;
-G=S?R>>32:0;
-H=S;
+W=q8(g+4);
+X=*g==1;
+F=X?W&4294967295u:0;
+G=X?W>>32:0;
+H=X;
 goto L2;}
-T=w+O;
+P=w+N;
 if(v<=51){
-V=0;
+R=0;
 goto L5;}
-U=0;
-L6:W=P+U;
-if((u8)((u8)(*((u8*)t_4efc+W[1])+*((u8*)t_4efc+*W))+*((u8*)t_4efc+W[2]))==(u8)(0-*((u8*)t_4efc+W[3]))){
-X=U+4;
-if(O-X>3){
-U=X;
+Q=0;
+L6:S=O+Q;
+if((u8)((u8)(*((u8*)t_4efc+S[1])+*((u8*)t_4efc+*S))+*((u8*)t_4efc+S[2]))==(u8)(0-*((u8*)t_4efc+S[3]))){
+T=Q+4;
+if(N-T>3){
+Q=T;
 goto L6;}
-V=X;}
-else V=U;
-L5:if(V>=O){
+R=T;}
+else R=Q;
+L5:if(R>=N){
 F=w;
-G=T;
+G=P;
 H=1;
 goto L2;}
-Y=V;
-L7:if(*((u8*)t_4efc+*(P+Y))!=0){
+U=R;
+L7:if(*((u8*)t_4efc+*(O+U))!=0){
 k=0;
 goto L1;}
-Z=Y+1;
-if(Z!=O){
-Y=Z;
+V=U+1;
+if(V!=N){
+U=V;
 goto L7;}
 F=w;
-G=T;
+G=P;
 H=1;
 goto L2;}}
 z12(i);
 any_name_span_9bc(i,b,c,u);
-aa=q8(i+4);
-ba=*i==1;
-F=ba?aa&4294967295u:0;
-G=ba?aa>>32:0;
-H=ba;
+Y=q8(i+4);
+Z=*i==1;
+F=Z?Y&4294967295u:0;
+G=Z?Y>>32:0;
+H=Z;
 L2:if(H&&F>=G){
 w8(a+192,G);
 if(r8(a+136)>t){
-ca=r8(a+96);
-if(ca>65534)k=0;
+aa=r8(a+96);
+if(aa>65534)k=0;
 else{
-da=r8(a+8);
-ea=a[80];
-if(r8(a+120)>ca)fa=ca;
+ba=r8(a+8);
+ca=a[80];
+if(r8(a+120)>aa)da=aa;
 else{
-ga=make_ready_b73(a+88);
-if(!(ga&1)){
+ea=make_ready_b73(a+88);
+if(!(ea&1)){
 k=0;
 goto L1;}
-fa=r8(a+96);}
-ha=rp(a+88)+fa*24;
-x8(ha,e);
-x8(ha+8,da);
-ha[16]=f;
-ha[17]=ea;
-z6(ha+18);
-w8(a+96,fa+1);
-w2(rp(a+128)+(i64)(t<<1),(u16)ca+1);
+da=r8(a+96);}
+fa=rp(a+88)+da*24;
+x8(fa,e);
+x8(fa+8,ba);
+fa[16]=f;
+fa[17]=ca;
+z6(fa+18);
+w8(a+96,da+1);
+w2(rp(a+128)+(i64)(t<<1),(u16)aa+1);
 k=1;}}
 else k=0;}
 else k=0;}}}}
@@ -95463,277 +95503,209 @@ return;
 /* rust_direct::direct::Direct::special_named */
 static void special_named_1bc(u8* a,u8* b,u8* c,u64 d,u64 e,u8 f,u64 g,u8* h,u64 i)
 {
-A16 u8 j[12],k[12],l[12];
-u64 m,n,o,p,q,r,s,u,w,x,y,z,C,D,E,F,G,I,J,K,M,N,O,P,Q,S,U,V,W,Z,aa,ba,ca,ea,fa,ga,ha,la,ma,na,oa,qa,ra,sa,ta,va,wa,ya;
-u8 t,v,A,H,L,R,T,Y,ia,ka,ua,xa,za;
-u8 *B,*X,*da,*ja,*pa,*Aa;
-m=r8(b+192);
-if(m<d){
-if(*(c+m)==115){
-n=m+1;
-o=umin64(d-n,11)+n;
-if(n>=o){
-q=n;
-goto L1;}
-p=n;
-L2:if(*((u8*)t_84dd+*(c+p))<62){
-r=p+1;
-if(r!=o){
-p=r;
+A16 u8 j[12],k[12],l[12],m[24];
+u64 n,o,p,r,s,t,u,w,z,B,C,D,F,G,H,I,K,L,M,N,Q,R,S,U,V,W,X,Y,aa,ba,da;
+u8 q,v,x,y,A,O,Z,ca,ea;
+u8 *E,*J,*P,*T,*fa;
+n=r8(b+192);
+if(n<d){
+if(*(c+n)==115){
+o=n+1;
+z24(m);
+p=n+2;
+if(o!=18446744073709551615u&&p<d){
+if(*(c+p)==95){
+q=*((u8*)t_84dd+*(c+(i64)o));
+if(q<62){
+r=q+2;
+s=n+3;
+goto L1;}}}
+any_number_at_3d4(m,c,d,o);
+t=r8(m+8);
+if(*m!=1||t==18446744073709551615u){
+u=0;
+v=0;
+w=0;
+x=0;
 goto L2;}
-q=o;}
-else q=p;
-L1:if(q==d){
-s=0;
-t=0;
-u=0;
-v=0;
-goto L3;}
-if(*(c+q)!=95){
-s=0;
-t=0;
-u=0;
-v=0;
-goto L3;}
-w=n&4294967295u;
-x=q&4294967295u;
-y=x+1;
-if(x==w){
-z=0;
-A=0;}
+r=t+1;
+s=r8(m+16);}
 else{
-B=c+(i64)w;
-C=x-w;
-if(C>10){
-D=0;
-E=0;
-goto L4;}
-F=0;
-G=0;
-L5:H=*((u8*)t_84dd+*(B+(i64)G));
-if(H>=62){
-s=0;
-t=0;
-u=0;
-v=0;
-goto L3;}
-I=F*62+H;
-J=G+1;
-if(J==C){
-K=I;
-goto L6;}
-F=I;
-G=J;
-goto L5;
-L4:L=*((u8*)t_84dd+*(B+(i64)E));
-if(!((D<0x421084210842109u)&(L<62))){
-s=0;
-t=0;
-u=0;
-v=0;
-goto L3;}
-M=D*62;
-if(M>(L^18446744073709551615u)){
-s=0;
-t=0;
-u=0;
-v=0;
-goto L3;}
-N=M+L;
-O=E+1;
-if(O!=C){
-D=N;
-E=O;
-goto L4;}
-K=N;
-L6:z=K+1;
-A=K==18446744073709551615u;}
-if(A||z==18446744073709551615u){
-s=0;
-t=0;
-u=0;
-v=0;
-goto L3;}
-P=z+1;
-Q=y;}
+r=0;
+s=n;}}
 else{
-P=0;
-Q=m;}}
-else{
-P=0;
-Q=m;}
-if(Q<d){
-R=*(c+Q);
-if((u8)(R-58)>=247){
-S=Q+1;
-if(S<d){
-T=*(c+S)-48;
-if(T<10){
-U=Q+2;
-V=(u64)T+(u8)((u8)(R*10)+32);
-if(d-U<V){
-s=0;
-t=0;
+r=0;
+s=n;}
+L1:if(s<d){
+y=*(c+s);
+if((u8)(y-58)>=247){
+z=s+1;
+if(z<d){
+A=*(c+z)-48;
+if(A<10){
+B=s+2;
+C=(u64)A+(u8)((u8)(y*10)+32);
+if(d-B<C){
 u=0;
 v=0;
-goto L3;}
-W=V+U;
-X=c+(i64)U;
-Y=*X;
-if((Y==95)|((u8)(Y-48)<10)){
+w=0;
+x=0;
+goto L2;}
+D=C+B;
+E=c+(i64)B;
+if(*((u8*)t_facb+*E)!=0){
 z12(k);
-any_name_span_9bc(k,c,d,Q);
-Z=q8(k+4);
+any_name_span_9bc(k,c,d,s);
+G=q8(k+4);
 if(*k==1){
-aa=Z>>32;
-ba=Z&4294967295u;
-goto L7;}
-s=0;
-t=0;
+H=G>>32;
+I=G&4294967295u;
+goto L3;}
 u=0;
 v=0;
+w=0;
+x=0;
+goto L2;}
+F=0;
+L4:J=E+F;
+if((u8)((u8)(*((u8*)t_4efc+J[1])+*((u8*)t_4efc+*J))+*((u8*)t_4efc+J[2]))==(u8)(0-*((u8*)t_4efc+J[3]))){
+K=F+4;
+if(C-K>3){
+F=K;
+goto L4;}
+L=K;}
+else L=F;
+if(L>=C){
+H=D;
+I=B;
 goto L3;}
-ca=0;
-L8:da=X+ca;
-if((u8)((u8)(*((u8*)t_4efc+da[1])+*((u8*)t_4efc+*da))+*((u8*)t_4efc+da[2]))==(u8)(0-*((u8*)t_4efc+da[3]))){
-ea=ca+4;
-if(V-ea>3){
-ca=ea;
-goto L8;}
-fa=ea;}
-else fa=ca;
-if(fa>=V){
-aa=W;
-ba=U;
-goto L7;}
-ga=fa;
-L9:if(*((u8*)t_4efc+*(X+ga))!=0){
-s=0;
-t=0;
+M=L;
+L5:if(*((u8*)t_4efc+*(E+M))!=0){
 u=0;
 v=0;
-goto L3;}
-ha=ga+1;
-if(ha<V){
-ga=ha;
-goto L9;}
-aa=W;
-ba=U;
-goto L7;}}
-ia=R-48;
-if(d-S<ia){
-s=0;
-t=0;
+w=0;
+x=0;
+goto L2;}
+N=M+1;
+if(N<C){
+M=N;
+goto L5;}
+H=D;
+I=B;
+goto L3;}}
+O=y-48;
+if(d-z<O){
 u=0;
 v=0;
-goto L3;}
-ja=c+(i64)S;
-ka=*ja;
-if((ka==95)|((u8)(ka-48)<10)){
+w=0;
+x=0;
+goto L2;}
+P=c+(i64)z;
+if(*((u8*)t_facb+*P)!=0){
 z12(j);
-any_name_span_9bc(j,c,d,Q);
-la=q8(j+4);
+any_name_span_9bc(j,c,d,s);
+X=q8(j+4);
 if(*j==1){
-aa=la>>32;
-ba=la&4294967295u;
-goto L7;}
-s=0;
-t=0;
+H=X>>32;
+I=X&4294967295u;
+goto L3;}
 u=0;
 v=0;
-goto L3;}
-ma=S+ia;
-if(R<=51){
-oa=0;
-goto L10;}
-na=0;
-L11:pa=ja+na;
-if((u8)((u8)(*((u8*)t_4efc+pa[1])+*((u8*)t_4efc+*pa))+*((u8*)t_4efc+pa[2]))==(u8)(0-*((u8*)t_4efc+pa[3]))){
-qa=na+4;
-if(ia-qa>3){
-na=qa;
-goto L11;}
-oa=qa;}
-else oa=na;
-L10:if(oa>=ia){
-aa=ma;
-ba=S;
+w=0;
+x=0;
+goto L2;}
+Q=z+O;
+if(y<=51){
+S=0;
+goto L6;}
+R=0;
+L7:T=P+R;
+if((u8)((u8)(*((u8*)t_4efc+T[1])+*((u8*)t_4efc+*T))+*((u8*)t_4efc+T[2]))==(u8)(0-*((u8*)t_4efc+T[3]))){
+U=R+4;
+if(O-U>3){
+R=U;
 goto L7;}
-ra=oa;
-L12:if(*((u8*)t_4efc+*(ja+ra))!=0){
-s=0;
-t=0;
+S=U;}
+else S=R;
+L6:if(S>=O){
+H=Q;
+I=z;
+goto L3;}
+V=S;
+L8:if(*((u8*)t_4efc+*(P+V))!=0){
 u=0;
 v=0;
-goto L3;}
-sa=ra+1;
-if(sa!=ia){
-ra=sa;
-goto L12;}
-aa=ma;
-ba=S;
-goto L7;}}
+w=0;
+x=0;
+goto L2;}
+W=V+1;
+if(W!=O){
+V=W;
+goto L8;}
+H=Q;
+I=z;
+goto L3;}}
 z12(l);
-any_name_span_9bc(l,c,d,Q);
-ta=q8(l+4);
+any_name_span_9bc(l,c,d,s);
+Y=q8(l+4);
 if(*l!=1){
-s=0;
-t=0;
 u=0;
 v=0;
-goto L3;}
-aa=ta>>32;
-ba=ta&4294967295u;
-L7:ua=push_special_c7d(b,h,i,c+(i64)ba,aa-ba,P);
-if(ua&1){
-w8(b+192,aa);
+w=0;
+x=0;
+goto L2;}
+H=Y>>32;
+I=Y&4294967295u;
+L3:Z=push_special_c7d(b,h,i,c+(i64)I,H-I,r);
+if(Z&1){
+w8(b+192,H);
 if(r8(b+136)>g){
-va=r8(b+96);
-if(va>65534){
-s=0;
-t=0;
-u=0;
-v=0;}
-else{
-wa=r8(b+8);
-xa=b[80];
-if(r8(b+120)>va)ya=va;
-else{
-za=make_ready_b73(b+88);
-if(!(za&1)){
-s=0;
-t=0;
+aa=r8(b+96);
+if(aa>65534){
 u=0;
 v=0;
-goto L3;}
-ya=r8(b+96);}
-Aa=rp(b+88)+ya*24;
-x8(Aa,e);
-x8(Aa+8,wa);
-Aa[16]=f;
-Aa[17]=xa;
-z6(Aa+18);
-w8(b+96,ya+1);
-w2(rp(b+128)+(i64)(g<<1),(u16)va+1);
-s=1;
-t=2;
-u=e;
-v=f;}}
+w=0;
+x=0;}
 else{
-s=0;
-t=0;
-u=0;
-v=0;}}
+ba=r8(b+8);
+ca=b[80];
+if(r8(b+120)>aa)da=aa;
 else{
-s=0;
-t=0;
+ea=make_ready_b73(b+88);
+if(!(ea&1)){
 u=0;
-v=0;}
-L3:x8(a,s);
-a[8]=t;
+v=0;
+w=0;
+x=0;
+goto L2;}
+da=r8(b+96);}
+fa=rp(b+88)+da*24;
+x8(fa,e);
+x8(fa+8,ba);
+fa[16]=f;
+fa[17]=ca;
+z6(fa+18);
+w8(b+96,da+1);
+w2(rp(b+128)+(i64)(g<<1),(u16)aa+1);
+u=1;
+v=2;
+w=e;
+x=f;}}
+else{
+u=0;
+v=0;
+w=0;
+x=0;}}
+else{
+u=0;
+v=0;
+w=0;
+x=0;}
+L2:x8(a,u);
+a[8]=v;
 a[9]=0;
-x8(a+16,u);
-a[24]=v;
+x8(a+16,w);
+a[24]=x;
 return;
 }
 
@@ -96047,11 +96019,11 @@ static u8 run_41f(u8* a,u8* b,u64 c,u32 d)
 {
 u8 h[1];
 A16 u8 e[40],f[40],g[32],i[40],j[32],k[40],l[32],m[12],n[12],o[12],p[24],q[12],r[12],s[12],t[32],u[24],v[12],w[12],x[12],y[32];
-u64 z,A,B,D,E,G,I,J,M,N,P,T,V,W,Y,Z,ba,ca,ea,fa,ia,ma,oa,pa,ra,ta,wa,xa,za,Aa,Ba,Da,Ga,Ia,Ja,Ka,La,Na,Oa,Pa,Ra,Sa,Ta,Va,Ya,cb,db,eb,fb,gb,jb,kb,lb,ob,qb,rb,sb,vb,wb,xb,yb,Ab,Bb,Cb,Db,Hb,Ib,Jb,Kb,Mb,Nb,Ob,Pb,Rb,Ub,Vb,Xb,Yb,ac,dc,fc,gc,mc,oc,pc,qc,rc,tc,vc,wc,yc,zc,Ac,Dc,Ec,Hc,Ic,Jc,Kc,Mc,Oc,Pc,Rc,Sc,Tc,Wc,Xc,ad,bd,dd,ed,gd,id,jd,kd,nd,od,sd,td,vd,xd,zd,Bd,Cd,Dd,Gd,Hd,Kd,Ld,Nd,Od,Qd,Sd,Td,Ud,Xd,Yd,be,ce,ee,fe,he,je,ke,le,oe,pe,se,te,ue,ve,we,xe,ye,Ae,Ce,De,Ee,Fe,He,Ie,Je,Ke,Le,Ne,Oe,Pe,Re,Se,Te,Ve,Ze,af,cf,ff,gf,jf,lf,mf,pf,qf,sf,tf,uf,wf,xf,yf,Bf,Cf,Ff,Hf,Jf,Kf,Mf,Nf,Of,Rf,Sf,Uf,Xf,cg,gg,ig,jg,lg,mg,sg,ug,wg,xg,yg,zg,Ag,Dg,Eg,Fg,Ig,Kg,Lg,Mg,Pg,Qg,Rg,Sg,Ug,Vg,Wg,Xg,bh,ch,dh,eh,gh,hh,ih,jh,lh,oh,ph,rh,sh,uh,xh,yh,zh,Ah,Bh,Ch,Dh,Fh,Hh,Ih,Jh,Kh,Mh,Nh,Oh,Ph,Qh,Sh,Th,Uh,Wh,Xh,Yh,ai,ei,fi,hi,ki,mi,ni,pi,si,ti,yi,Di,Fi,Gi,Hi,Ki,Li,Mi,Pi,Ri,Si,Ti,Wi,Yi,Zi,bj,dj,ej,fj,gj,kj,mj,nj,oj,qj,rj,sj,tj,vj,xj,yj,Aj,Cj,Dj,Fj,Gj,Hj,Kj,Nj,Pj,Sj,Tj,Uj,Wj,Yj,dk,ik,kk,mk,ok,qk,rk,tk,uk,vk,yk,Ak,Dk,Fk,Gk,Hk,Lk,Mk,Ok,Qk,Rk,Tk,Uk,Vk,Zk,al,el,gl,il,kl,ll,nl,ol,rl,sl,ul,xl,yl,Al,Bl,Dl,Gl,Hl,Jl,Kl,Ml,Pl,Ql,Rl,Sl,Tl,Vl,Yl,am,bm,dm,em,fm,im,jm,mm,nm,pm,qm,sm,tm,um,wm,zm,Am,Cm,Dm,Fm,Im,Jm,Lm,Mm,Pm,Qm,Sm,Tm,Wm,Xm,Zm,an,dn,fn,gn,in,jn,kn,nn,on,rn,sn,un,vn,xn,An;
-u8 C,F,K,O,Q,R,S,U,aa,da,ga,ha,ja,la,na,qa,sa,ua,va,Ca,Ea,Ha,Ma,Ua,Wa,Za,ab,bb,ib,nb,pb,ub,Eb,Gb,Sb,Tb,Wb,Zb,bc,ec,hc,ic,jc,kc,lc,nc,sc,uc,xc,Fc,Lc,Nc,Qc,Yc,cd,fd,hd,pd,ud,yd,Ad,Id,Md,Pd,Rd,Zd,de,ge,ie,qe,ze,Be,Me,Qe,Xe,Ye,bf,df,hf,kf,nf,rf,vf,Df,If,Lf,Tf,Vf,Wf,Yf,bg,dg,eg,fg,hg,kg,ng,og,pg,qg,rg,tg,Cg,Hg,Jg,Og,Yg,ah,mh,nh,qh,th,vh,Eh,Gh,Rh,Vh,ci,di,gi,ii,li,ri,ui,vi,wi,xi,zi,Ai,Bi,Ci,Ei,Ji,Oi,Qi,Vi,Xi,aj,hj,jj,lj,uj,wj,Bj,Ej,Mj,Oj,Qj,Xj,ak,bk,ck,ek,fk,gk,hk,jk,lk,pk,sk,zk,Bk,Ek,Ik,Kk,Nk,Pk,Sk,Yk,bl,dl,hl,ml,pl,tl,vl,zl,Cl,El,Il,Ll,Nl,Ul,Wl,Zl,cm,km,om,vm,xm,Bm,Em,Gm,Km,Nm,Rm,Um,Ym,bn,en,hn,pn,tn,wn,yn;
-u8 *H,*L,*X,*ka,*Fa,*Xa,*hb,*tb,*zb,*Fb,*Lb,*Qb,*cc,*Bc,*Cc,*Gc,*Uc,*Vc,*Zc,*ld,*md,*qd,*Ed,*Fd,*Jd,*Vd,*Wd,*ae,*me,*ne,*re,*Ge,*We,*ef,*of,*zf,*Af,*Ef,*Gf,*Pf,*Qf,*Zf,*ag,*vg,*Bg,*Ng,*Tg,*Zg,*fh,*kh,*wh,*Lh,*bi,*ji,*oi,*qi,*Ii,*Ui,*cj,*ij,*pj,*zj,*Ij,*Jj,*Lj,*Rj,*Vj,*Zj,*nk,*wk,*xk,*Ck,*Jk,*Wk,*Xk,*cl,*fl,*jl,*ql,*wl,*Fl,*Ol,*Xl,*gm,*hm,*lm,*ym,*Hm,*Om,*Vm,*cn,*ln,*mn,*qn,*zn;
-s_8_64 ya,Qa,mb,Gg,Ni,rm;
-u16 Ue,Zh;
+u64 z,A,B,D,E,G,I,J,M,N,P,T,V,W,Y,Z,ba,ca,ea,fa,ia,ma,oa,pa,ra,ta,wa,xa,za,Aa,Ba,Da,Ga,Ia,Ja,Ka,La,Na,Oa,Pa,Ra,Sa,Ta,Va,Ya,cb,db,eb,fb,hb,ib,kb,lb,mb,pb,rb,sb,tb,vb,wb,xb,yb,Ab,Bb,Cb,Db,Gb,Hb,Ib,Kb,Lb,Mb,Nb,Ob,Pb,Qb,Vb,Wb,Xb,Zb,ac,cc,fc,hc,ic,oc,qc,rc,sc,tc,vc,xc,yc,Ac,Bc,Cc,Fc,Gc,Jc,Kc,Lc,Mc,Oc,Qc,Rc,Tc,Uc,Vc,Yc,Zc,cd,dd,fd,gd,id,kd,ld,md,pd,qd,ud,vd,yd,zd,Bd,Dd,Ed,Fd,Id,Jd,Md,Nd,Pd,Qd,Sd,Ud,Vd,Wd,Zd,ae,de,ee,ge,he,je,le,me,ne,qe,re,ue,ve,xe,ze,Ae,Be,Ce,Ee,He,Ke,Le,Me,Ne,Oe,Ue,We,Xe,Ze,cf,df,ff,hf,jf,mf,nf,pf,qf,rf,tf,uf,vf,yf,zf,Cf,Ef,Gf,Hf,Jf,Kf,Lf,Of,Pf,Rf,Uf,Zf,dg,fg,gg,ig,jg,pg,rg,tg,ug,vg,wg,yg,zg,Bg,Cg,Dg,Gg,Ig,Jg,Kg,Mg,Ng,Og,Pg,Rg,Sg,Tg,Ug,Xg,Yg,Zg,bh,ch,dh,eh,fh,gh,hh,mh,nh,oh,qh,rh,th,wh,xh,zh,Bh,Ch,Dh,Eh,Gh,Jh,Lh,Mh,Oh,Ph,Qh,Wh,Yh,Zh,bi,ei,gi,hi,ji,mi,ni,si,xi,zi,Ai,Ci,Di,Fi,Gi,Hi,Ki,Mi,Ni,Oi,Qi,Ri,Ti,Ui,Xi,Yi,Zi,aj,dj,ej,fj,hj,ij,jj,kj,mj,oj,qj,rj,sj,tj,wj,xj,zj,Aj,Bj,Ej,Fj,Hj,Ij,Jj,Mj,Nj,Qj,Sj,Vj,Wj,Xj,Zj,bk,gk,lk,nk,pk,rk,tk,uk,wk,xk,yk,Bk,Dk,Gk,Ik,Jk,Kk,Ok,Pk,Rk,Tk,Uk,Wk,Xk,Yk,cl,dl,hl,jl,ll,nl,ol,ql,rl,ul,vl,xl,Al,Bl,Dl,El,Gl,Jl,Kl,Ml,Nl,Pl,Sl,Tl,Ul,Vl,Wl,Yl,bm,dm,em,gm,hm,im,lm,mm,pm,qm,sm,tm,vm,wm,xm,zm,Cm,Dm,Fm,Gm,Im,Lm,Mm,Om,Pm,Sm,Tm,Vm,Wm,Zm,an,cn,dn,gn,in,jn,ln,mn,nn,qn,rn,un,vn,xn,yn,An,Dn;
+u8 C,F,K,O,Q,R,S,U,aa,da,ga,ha,ja,la,na,qa,sa,ua,va,Ca,Ea,Ha,Ma,Ua,Wa,Za,ab,bb,jb,ob,qb,Eb,Sb,Tb,Ub,Yb,bc,dc,gc,jc,kc,lc,mc,nc,pc,uc,wc,zc,Hc,Nc,Pc,Sc,ad,ed,hd,jd,sd,xd,Ad,Cd,Kd,Od,Rd,Td,be,fe,ie,ke,se,we,ye,De,Fe,Je,Qe,Re,Se,Te,Ve,Ye,af,ef,gf,kf,of,sf,Af,Ff,If,Qf,Sf,Tf,Vf,Yf,ag,bg,cg,eg,hg,kg,lg,mg,ng,og,qg,Ag,Fg,Hg,Vg,jh,kh,lh,ph,sh,uh,yh,Ah,Fh,Hh,Nh,Sh,Th,Uh,Vh,Xh,ai,ci,fi,li,oi,pi,qi,ri,ti,ui,vi,wi,yi,Ei,Ji,Li,Si,Vi,bj,lj,nj,pj,vj,yj,Gj,Pj,Rj,Tj,ak,dk,ek,fk,hk,ik,jk,kk,mk,ok,sk,vk,Ck,Ek,Hk,Lk,Nk,Qk,Sk,Vk,bl,el,gl,kl,pl,sl,wl,yl,Cl,Fl,Hl,Ll,Ol,Ql,Xl,Zl,cm,fm,nm,rm,ym,Am,Em,Hm,Jm,Nm,Qm,Um,Xm,bn,en,hn,kn,sn,wn,zn,Bn;
+u8 *H,*L,*X,*ka,*Fa,*Xa,*gb,*ub,*zb,*Fb,*Jb,*Rb,*ec,*Dc,*Ec,*Ic,*Wc,*Xc,*bd,*nd,*od,*td,*Gd,*Hd,*Ld,*Xd,*Yd,*ce,*oe,*pe,*te,*Ie,*Pe,*bf,*lf,*wf,*xf,*Bf,*Df,*Mf,*Nf,*Wf,*Xf,*sg,*xg,*Lg,*Qg,*Wg,*ah,*ih,*vh,*Kh,*Rh,*di,*ii,*ki,*Bi,*Pi,*Wi,*cj,*gj,*uj,*Cj,*Dj,*Kj,*Lj,*Oj,*Uj,*Yj,*ck,*qk,*zk,*Ak,*Fk,*Mk,*Zk,*al,*fl,*il,*ml,*tl,*zl,*Il,*Rl,*am,*jm,*km,*om,*Bm,*Km,*Rm,*Ym,*fn,*on,*pn,*tn,*Cn;
+s_8_64 ya,Qa,nb,Eg,Ii,um;
+u16 Ge,Ih;
 if(c-1<65536){
 if(*b==95&&c>1){
 if(b[1]==82){
@@ -96324,961 +96296,953 @@ if(eb<c){
 if(*(b+eb)==115){
 fb=cb+2;
 if(c-fb>=12){
-gb=cb+13;
-hb=b+(i64)fb;
-ib=*hb;
-if(!((ib<58)|((u8)(ib-97)<11)))goto L6;
-jb=0;
-L7:if(*((u8*)t_9eba+*(hb+jb))==0){
-kb=jb+1;
-if(kb!=11){
-jb=kb;
-goto L7;}
-if(gb<c){
-if(*(b+gb)==95){
-lb=cb+14;
-goto L8;}}}}
-L6:mb=any_disambiguator_end_f9c(b,c,eb);
-if(mb.f0!=1)goto L9;
-lb=mb.f1;}
-else lb=eb;}
-else lb=eb;
-L8:if(lb<c){
-nb=*(b+lb);
-if((u8)(nb-58)>=247){
-ob=lb+1;
-if(ob<c){
-pb=*(b+ob)-48;
-if(pb<10){
-qb=lb+2;
-rb=(u64)pb+(u8)((u8)(nb*10)+32);
-if(c-qb<rb)goto L10;
-sb=rb+qb;
-tb=b+(i64)qb;
-ub=*tb;
-if((ub==95)|((u8)(ub-48)<10)){
+gb=b+(i64)fb;
+hb=0;
+L6:if(*((u8*)t_9eba+*(gb+hb))==0){
+ib=hb+1;
+if(ib!=11){
+hb=ib;
+goto L6;}
+jb=*gb;
+if(!((jb<58)|((u8)(jb-97)<11)))goto L7;
+kb=11;}
+else kb=hb;
+lb=kb+fb;
+if(lb<c){
+if(*(b+lb)==95){
+mb=lb+1;
+goto L8;}}}
+L7:nb=any_disambiguator_end_f9c(b,c,eb);
+if(nb.f0!=1)goto L9;
+mb=nb.f1;}
+else mb=eb;}
+else mb=eb;
+L8:if(mb<c){
+ob=*(b+mb);
+if((u8)(ob-58)>=247){
+pb=mb+1;
+if(pb<c){
+qb=*(b+pb)-48;
+if(qb<10){
+rb=mb+2;
+sb=(u64)qb+(u8)((u8)(ob*10)+32);
+if(c-rb<sb)goto L9;
+tb=sb+rb;
+ub=b+(i64)rb;
+if(*((u8*)t_facb+*ub)!=0){
 z12(w);
-any_name_span_9bc(w,b,c,lb);
-vb=q8(w+4);
-if(*w!=1)goto L10;
-wb=vb>>32;
-xb=vb&4294967295u;
-goto L11;}
-yb=0;
-L12:zb=tb+yb;
+any_name_span_9bc(w,b,c,mb);
+wb=q8(w+4);
+if(*w!=1)goto L9;
+xb=wb>>32;
+yb=wb&4294967295u;
+goto L10;}
+vb=0;
+L11:zb=ub+vb;
 if((u8)((u8)(*((u8*)t_4efc+zb[1])+*((u8*)t_4efc+*zb))+*((u8*)t_4efc+zb[2]))==(u8)(0-*((u8*)t_4efc+zb[3]))){
-Ab=yb+4;
-if(rb-Ab>3){
-yb=Ab;
-goto L12;}
+Ab=vb+4;
+if(sb-Ab>3){
+vb=Ab;
+goto L11;}
 Bb=Ab;}
-else Bb=yb;
-if(Bb>=rb){
-wb=sb;
-xb=qb;
-goto L11;}
+else Bb=vb;
+if(Bb>=sb){
+xb=tb;
+yb=rb;
+goto L10;}
 Cb=Bb;
-L13:if(*((u8*)t_4efc+*(tb+Cb))!=0)goto L10;
+L12:if(*((u8*)t_4efc+*(ub+Cb))!=0)goto L9;
 Db=Cb+1;
-if(Db<rb){
+if(Db<sb){
 Cb=Db;
-goto L13;}
-wb=sb;
-xb=qb;
-goto L11;}}
-Eb=nb-48;
-if(c-ob<Eb)goto L10;
-Fb=b+(i64)ob;
-Gb=*Fb;
-if((Gb==95)|((u8)(Gb-48)<10)){
+goto L12;}
+xb=tb;
+yb=rb;
+goto L10;}}
+Eb=ob-48;
+if(c-pb<Eb)goto L9;
+Fb=b+(i64)pb;
+if(*((u8*)t_facb+*Fb)!=0){
 z12(v);
-any_name_span_9bc(v,b,c,lb);
-Hb=q8(v+4);
-if(*v!=1)goto L10;
-wb=Hb>>32;
-xb=Hb&4294967295u;
-goto L11;}
-Ib=ob+Eb;
-if(nb<=51){
-Kb=0;
+any_name_span_9bc(v,b,c,mb);
+Nb=q8(v+4);
+if(*v!=1)goto L9;
+xb=Nb>>32;
+yb=Nb&4294967295u;
+goto L10;}
+Gb=pb+Eb;
+if(ob<=51){
+Ib=0;
+goto L13;}
+Hb=0;
+L14:Jb=Fb+Hb;
+if((u8)((u8)(*((u8*)t_4efc+Jb[1])+*((u8*)t_4efc+*Jb))+*((u8*)t_4efc+Jb[2]))==(u8)(0-*((u8*)t_4efc+Jb[3]))){
+Kb=Hb+4;
+if(Eb-Kb>3){
+Hb=Kb;
 goto L14;}
-Jb=0;
-L15:Lb=Fb+Jb;
-if((u8)((u8)(*((u8*)t_4efc+Lb[1])+*((u8*)t_4efc+*Lb))+*((u8*)t_4efc+Lb[2]))==(u8)(0-*((u8*)t_4efc+Lb[3]))){
-Mb=Jb+4;
-if(Eb-Mb>3){
-Jb=Mb;
+Ib=Kb;}
+else Ib=Hb;
+L13:if(Ib>=Eb){
+xb=Gb;
+yb=pb;
+goto L10;}
+Lb=Ib;
+L15:if(*((u8*)t_4efc+*(Fb+Lb))!=0)goto L9;
+Mb=Lb+1;
+if(Mb!=Eb){
+Lb=Mb;
 goto L15;}
-Kb=Mb;}
-else Kb=Jb;
-L14:if(Kb>=Eb){
-wb=Ib;
-xb=ob;
-goto L11;}
-Nb=Kb;
-L16:if(*((u8*)t_4efc+*(Fb+Nb))!=0)goto L10;
-Ob=Nb+1;
-if(Ob!=Eb){
-Nb=Ob;
-goto L16;}
-wb=Ib;
-xb=ob;
-goto L11;}}
+xb=Gb;
+yb=pb;
+goto L10;}}
 z12(x);
-any_name_span_9bc(x,b,c,lb);
-Pb=q8(x+4);
-if(*x!=1)goto L10;
-wb=Pb>>32;
-xb=Pb&4294967295u;
-L11:if(wb<=xb)goto L10;
-Qb=b+(i64)xb;
-Rb=wb-xb;
-if(r8(a+32)-db<Rb){
-Sb=make_ready_8e3(a,Rb,128);
-if(!(Sb&1))goto L10;}
-Tb=extend_from_slice_169(a,Qb,Rb);
-if(Tb&1)goto L10;
-w8(a+192,wb);
+any_name_span_9bc(x,b,c,mb);
+Ob=q8(x+4);
+if(*x!=1)goto L9;
+xb=Ob>>32;
+yb=Ob&4294967295u;
+L10:if(xb<=yb)goto L9;
+Pb=xb-yb;
+Qb=r8(a+32)-db;
+Rb=b+(i64)yb;
+if((c-yb<16)|(Pb>16)||Qb<16){
+if(Qb<Pb){
+Sb=make_ready_8e3(a,Pb,128);
+if(!(Sb&1))goto L9;}
+Tb=extend_from_slice_169(a,Rb,Pb);
+if(Tb&1)goto L9;}
+else{
+Ub=extend_from_slice_169(a,Rb,16);
+if(Ub&1)goto L9;
+Vb=Pb+db;
+if(r8(a+8)>Vb)w8(a+8,Vb);}
+w8(a+192,xb);
 if(r8(a+136)>cb){
-Ub=r8(a+96);
-if(Ub>65534){
-Vb=0;
-Wb=0;
-Xb=0;}
-else{
-Yb=r8(a+8);
-Zb=a[80];
-if(r8(a+120)>Ub)ac=Ub;
-else{
-bc=make_ready_b73(a+88);
-if(!(bc&1)){
-Vb=0;
-Wb=0;
+Wb=r8(a+96);
+if(Wb>65534){
 Xb=0;
-goto L17;}
-ac=r8(a+96);}
-cc=rp(a+88)+ac*24;
-x8(cc,db);
-x8(cc+8,Yb);
-cc[16]=0;
-cc[17]=Zb;
-z6(cc+18);
-w8(a+96,ac+1);
-w2(rp(a+128)+(i64)(cb<<1),(u16)Ub+1);
-Vb=1;
-Wb=2;
-Xb=db;}}
+Yb=0;
+Zb=0;}
 else{
-Vb=0;
-Wb=0;
-Xb=0;}
-L17:w8(y,Vb);
-y[8]=Wb;
+ac=r8(a+8);
+bc=a[80];
+if(r8(a+120)>Wb)cc=Wb;
+else{
+dc=make_ready_b73(a+88);
+if(!(dc&1)){
+Xb=0;
+Yb=0;
+Zb=0;
+goto L16;}
+cc=r8(a+96);}
+ec=rp(a+88)+cc*24;
+x8(ec,db);
+x8(ec+8,ac);
+ec[16]=0;
+ec[17]=bc;
+z6(ec+18);
+w8(a+96,cc+1);
+w2(rp(a+128)+(i64)(cb<<1),(u16)Wb+1);
+Xb=1;
+Yb=2;
+Zb=db;}}
+else{
+Xb=0;
+Yb=0;
+Zb=0;}
+L16:w8(y,Xb);
+y[8]=Yb;
 y[9]=0;
-w8(y+16,Xb);
+w8(y+16,Zb);
 y[24]=0;
-goto L9;
-case 78:dc=cb+1;
-if(dc>=c)goto L18;
-ec=*(b+dc);
-if(ec<65)goto L18;
-if(!((ec<91)|((u8)(ec-97)<26)))goto L18;
+goto L17;
+case 78:fc=cb+1;
+if(fc<c)gc=*(b+fc);
+else gc=0;
+if(fc==18446744073709551615u||*((u8*)t_eb43+gc)==0)goto L18;
 w8(a+192,cb+2);
-fc=r8(a+160);
-if(r8(a+184)>fc){
-gc=fc;
-hc=2;
-ic=ec;
+hc=r8(a+160);
+if(r8(a+184)>hc){
+ic=hc;
+jc=2;
+kc=gc;
 goto L19;}
-jc=make_ready_e3c(a+152);
-if(!(jc&1))goto L18;
-kc=2;
-lc=ec;
+lc=make_ready_e3c(a+152);
+if(!(lc&1))goto L18;
+mc=2;
+nc=gc;
 goto L20;
 case 73:w8(a+192,cb+1);
-mc=r8(a+160);
-if(r8(a+184)>mc){
-gc=mc;
-hc=3;
-ic=0;
+oc=r8(a+160);
+if(r8(a+184)>oc){
+ic=oc;
+jc=3;
+kc=0;
 goto L19;}
-nc=make_ready_e3c(a+152);
-if(!(nc&1))goto L18;
-kc=3;
-lc=0;
+pc=make_ready_e3c(a+152);
+if(!(pc&1))goto L18;
+mc=3;
+nc=0;
 goto L20;
 case 77:begin_impl_c72(y,a,b,c);
-goto L9;
+goto L17;
 case 88:begin_trait_impl_220(y,a,b,c);
-goto L9;
+goto L17;
 case 89:begin_trait_f9f(y,a);
-goto L9;
-case 82:oc=cb+1;
-if(oc<c){
-if(*(b+oc)==76){
-pc=cb+2;
-if(pc>=c){
-rc=0;
-sc=0;
+goto L17;
+case 82:qc=cb+1;
+if(qc<c){
+if(*(b+qc)==76){
+rc=cb+2;
+if(rc>=c){
+tc=0;
+uc=0;
 goto L21;}
-if(*(b+pc)!=95){
-rc=0;
-sc=0;
+if(*(b+rc)!=95){
+tc=0;
+uc=0;
 goto L21;}
-qc=cb+3;}
-else qc=oc;}
-else qc=oc;
-tc=r8(a+8);
-if(r8(a+32)==tc){
-uc=make_ready_8e3(a,1,128);
-if(!(uc&1)){
-rc=0;
-sc=0;
+sc=cb+3;}
+else sc=qc;}
+else sc=qc;
+vc=r8(a+8);
+if(r8(a+32)==vc){
+wc=make_ready_8e3(a,1,128);
+if(!(wc&1)){
+tc=0;
+uc=0;
 goto L21;}
-vc=r8(a+8);}
-else vc=tc;
-wc=r8(a+16);
-if(wc==vc){
-xc=grow_amortized_2b6(a,1);
-if(!xc){
-rc=0;
-sc=0;
-goto L21;}
+xc=r8(a+8);}
+else xc=vc;
 yc=r8(a+16);
-zc=r8(a+8);}
-else{
-yc=wc;
-zc=vc;}
-Ac=zc+1;
-Bc=rp(a);
-z16(a+8);
-Cc=Bc+(i64)zc;
-if((u64)Cc==(u64)(u8*)t_951d)copy_bits_4f4((u8*)t_951d,Cc,1);
-else *Cc=38;
-wp(a,Bc);
-w8(a+8,Ac);
-w8(a+16,yc);
-Dc=r8(a+160);
-if(r8(a+184)>Dc)Ec=Dc;
-else{
-Fc=make_ready_e3c(a+152);
-if(!(Fc&1)){
-rc=0;
-sc=0;
+if(yc==xc){
+zc=grow_amortized_2b6(a,1);
+if(!zc){
+tc=0;
+uc=0;
 goto L21;}
-Ec=r8(a+160);}
-Gc=rp(a+152)+(Ec<<5);
-*Gc=9;
-Gc[1]=0;
-x8(Gc+8,cb);
-x8(Gc+16,tc);
-Gc[24]=0;
-w8(a+160,Ec+1);
-w8(a+192,qc);
-rc=1;
-sc=1;
-L21:w8(y,rc);
-y[8]=sc;
+Ac=r8(a+16);
+Bc=r8(a+8);}
+else{
+Ac=yc;
+Bc=xc;}
+Cc=Bc+1;
+Dc=rp(a);
+z16(a+8);
+Ec=Dc+(i64)Bc;
+if((u64)Ec==(u64)(u8*)t_951d)copy_bits_4f4((u8*)t_951d,Ec,1);
+else *Ec=38;
+wp(a,Dc);
+w8(a+8,Cc);
+w8(a+16,Ac);
+Fc=r8(a+160);
+if(r8(a+184)>Fc)Gc=Fc;
+else{
+Hc=make_ready_e3c(a+152);
+if(!(Hc&1)){
+tc=0;
+uc=0;
+goto L21;}
+Gc=r8(a+160);}
+Ic=rp(a+152)+(Gc<<5);
+*Ic=9;
+Ic[1]=0;
+x8(Ic+8,cb);
+x8(Ic+16,vc);
+Ic[24]=0;
+w8(a+160,Gc+1);
+w8(a+192,sc);
+tc=1;
+uc=1;
+L21:w8(y,tc);
+y[8]=uc;
 y[9]=0;
 w8(y+16,0);
 y[24]=0;
-goto L9;
-case 81:Hc=cb+1;
-if(Hc<c){
-if(*(b+Hc)==76){
-Ic=cb+2;
-if(Ic>=c){
-Kc=0;
-Lc=0;
+goto L17;
+case 81:Jc=cb+1;
+if(Jc<c){
+if(*(b+Jc)==76){
+Kc=cb+2;
+if(Kc>=c){
+Mc=0;
+Nc=0;
 goto L22;}
-if(*(b+Ic)!=95){
-Kc=0;
-Lc=0;
+if(*(b+Kc)!=95){
+Mc=0;
+Nc=0;
 goto L22;}
-Jc=cb+3;}
-else Jc=Hc;}
-else Jc=Hc;
-Mc=r8(a+8);
-if(r8(a+32)-Mc<5){
-Nc=make_ready_8e3(a,5,128);
-if(!(Nc&1)){
-Kc=0;
-Lc=0;
+Lc=cb+3;}
+else Lc=Jc;}
+else Lc=Jc;
+Oc=r8(a+8);
+if(r8(a+32)-Oc<5){
+Pc=make_ready_8e3(a,5,128);
+if(!(Pc&1)){
+Mc=0;
+Nc=0;
 goto L22;}
-Oc=r8(a+8);}
-else Oc=Mc;
-Pc=r8(a+16);
-if(Pc-Oc<5){
-Qc=grow_amortized_2b6(a,5);
-if(!Qc){
-Kc=0;
-Lc=0;
-goto L22;}
+Qc=r8(a+8);}
+else Qc=Oc;
 Rc=r8(a+16);
-Sc=r8(a+8);}
-else{
-Rc=Pc;
-Sc=Oc;}
-Tc=Sc+5;
-Uc=rp(a);
-z16(a+8);
-Vc=Uc+(i64)Sc;
-if((u64)Vc-(u64)(u8*)t_d821<5)copy_bits_4f4((u8*)t_d821,Vc,5);
-else memcpy(Vc,(u8*)t_d821,5);
-wp(a,Uc);
-w8(a+8,Tc);
-w8(a+16,Rc);
-Wc=r8(a+160);
-if(r8(a+184)>Wc)Xc=Wc;
-else{
-Yc=make_ready_e3c(a+152);
-if(!(Yc&1)){
-Kc=0;
-Lc=0;
+if(Rc-Qc<5){
+Sc=grow_amortized_2b6(a,5);
+if(!Sc){
+Mc=0;
+Nc=0;
 goto L22;}
-Xc=r8(a+160);}
-Zc=rp(a+152)+(Xc<<5);
-*Zc=9;
-Zc[1]=0;
-x8(Zc+8,cb);
-x8(Zc+16,Mc);
-Zc[24]=0;
-w8(a+160,Xc+1);
-w8(a+192,Jc);
-Kc=1;
-Lc=1;
-L22:w8(y,Kc);
-y[8]=Lc;
+Tc=r8(a+16);
+Uc=r8(a+8);}
+else{
+Tc=Rc;
+Uc=Qc;}
+Vc=Uc+5;
+Wc=rp(a);
+z16(a+8);
+Xc=Wc+(i64)Uc;
+if((u64)Xc-(u64)(u8*)t_d821<5)copy_bits_4f4((u8*)t_d821,Xc,5);
+else memcpy(Xc,(u8*)t_d821,5);
+wp(a,Wc);
+w8(a+8,Vc);
+w8(a+16,Tc);
+Yc=r8(a+160);
+if(r8(a+184)>Yc)Zc=Yc;
+else{
+ad=make_ready_e3c(a+152);
+if(!(ad&1)){
+Mc=0;
+Nc=0;
+goto L22;}
+Zc=r8(a+160);}
+bd=rp(a+152)+(Zc<<5);
+*bd=9;
+bd[1]=0;
+x8(bd+8,cb);
+x8(bd+16,Oc);
+bd[24]=0;
+w8(a+160,Zc+1);
+w8(a+192,Lc);
+Mc=1;
+Nc=1;
+L22:w8(y,Mc);
+y[8]=Nc;
 y[9]=0;
 w8(y+16,0);
 y[24]=0;
-goto L9;
-case 80:ad=cb+1;
-bd=r8(a+8);
-if(r8(a+32)-bd<7){
-cd=make_ready_8e3(a,7,128);
-if(!(cd&1)){
-ed=0;
-fd=0;
+goto L17;
+case 80:cd=cb+1;
+dd=r8(a+8);
+if(r8(a+32)-dd<7){
+ed=make_ready_8e3(a,7,128);
+if(!(ed&1)){
+gd=0;
+hd=0;
 goto L23;}
-dd=r8(a+8);}
-else dd=bd;
-gd=r8(a+16);
-if(gd-dd<7){
-hd=grow_amortized_2b6(a,7);
-if(!hd){
-ed=0;
-fd=0;
-goto L23;}
+fd=r8(a+8);}
+else fd=dd;
 id=r8(a+16);
-jd=r8(a+8);}
-else{
-id=gd;
-jd=dd;}
-kd=jd+7;
-ld=rp(a);
-z16(a+8);
-md=ld+(i64)jd;
-if((u64)md-(u64)(u8*)t_ff67<7)copy_bits_4f4((u8*)t_ff67,md,7);
-else memcpy(md,(u8*)t_ff67,7);
-wp(a,ld);
-w8(a+8,kd);
-w8(a+16,id);
-nd=r8(a+160);
-if(r8(a+184)>nd)od=nd;
-else{
-pd=make_ready_e3c(a+152);
-if(!(pd&1)){
-ed=0;
-fd=0;
+if(id-fd<7){
+jd=grow_amortized_2b6(a,7);
+if(!jd){
+gd=0;
+hd=0;
 goto L23;}
-od=r8(a+160);}
-qd=rp(a+152)+(od<<5);
-*qd=9;
-qd[1]=0;
-x8(qd+8,cb);
-x8(qd+16,bd);
-qd[24]=0;
-w8(a+160,od+1);
-w8(a+192,ad);
-ed=1;
-fd=1;
-L23:w8(y,ed);
-y[8]=fd;
+kd=r8(a+16);
+ld=r8(a+8);}
+else{
+kd=id;
+ld=fd;}
+md=ld+7;
+nd=rp(a);
+z16(a+8);
+od=nd+(i64)ld;
+if((u64)od-(u64)(u8*)t_ff67<7)copy_bits_4f4((u8*)t_ff67,od,7);
+else memcpy(od,(u8*)t_ff67,7);
+wp(a,nd);
+w8(a+8,md);
+w8(a+16,kd);
+pd=r8(a+160);
+if(r8(a+184)>pd)qd=pd;
+else{
+sd=make_ready_e3c(a+152);
+if(!(sd&1)){
+gd=0;
+hd=0;
+goto L23;}
+qd=r8(a+160);}
+td=rp(a+152)+(qd<<5);
+*td=9;
+td[1]=0;
+x8(td+8,cb);
+x8(td+16,dd);
+td[24]=0;
+w8(a+160,qd+1);
+w8(a+192,cd);
+gd=1;
+hd=1;
+L23:w8(y,gd);
+y[8]=hd;
 y[9]=0;
 w8(y+16,0);
 y[24]=0;
-goto L9;
-case 79:sd=cb+1;
-td=r8(a+8);
-if(r8(a+32)-td<5){
-ud=make_ready_8e3(a,5,128);
-if(!(ud&1)){
-xd=0;
-yd=0;
+goto L17;
+case 79:ud=cb+1;
+vd=r8(a+8);
+if(r8(a+32)-vd<5){
+xd=make_ready_8e3(a,5,128);
+if(!(xd&1)){
+zd=0;
+Ad=0;
 goto L24;}
-vd=r8(a+8);}
-else vd=td;
-zd=r8(a+16);
-if(zd-vd<5){
-Ad=grow_amortized_2b6(a,5);
-if(!Ad){
-xd=0;
-yd=0;
-goto L24;}
+yd=r8(a+8);}
+else yd=vd;
 Bd=r8(a+16);
-Cd=r8(a+8);}
-else{
-Bd=zd;
-Cd=vd;}
-Dd=Cd+5;
-Ed=rp(a);
-z16(a+8);
-Fd=Ed+(i64)Cd;
-if((u64)Fd-(u64)(u8*)t_b2e2<5)copy_bits_4f4((u8*)t_b2e2,Fd,5);
-else memcpy(Fd,(u8*)t_b2e2,5);
-wp(a,Ed);
-w8(a+8,Dd);
-w8(a+16,Bd);
-Gd=r8(a+160);
-if(r8(a+184)>Gd)Hd=Gd;
-else{
-Id=make_ready_e3c(a+152);
-if(!(Id&1)){
-xd=0;
-yd=0;
+if(Bd-yd<5){
+Cd=grow_amortized_2b6(a,5);
+if(!Cd){
+zd=0;
+Ad=0;
 goto L24;}
-Hd=r8(a+160);}
-Jd=rp(a+152)+(Hd<<5);
-*Jd=9;
-Jd[1]=0;
-x8(Jd+8,cb);
-x8(Jd+16,td);
-Jd[24]=0;
-w8(a+160,Hd+1);
-w8(a+192,sd);
-xd=1;
-yd=1;
-L24:w8(y,xd);
-y[8]=yd;
+Dd=r8(a+16);
+Ed=r8(a+8);}
+else{
+Dd=Bd;
+Ed=yd;}
+Fd=Ed+5;
+Gd=rp(a);
+z16(a+8);
+Hd=Gd+(i64)Ed;
+if((u64)Hd-(u64)(u8*)t_b2e2<5)copy_bits_4f4((u8*)t_b2e2,Hd,5);
+else memcpy(Hd,(u8*)t_b2e2,5);
+wp(a,Gd);
+w8(a+8,Fd);
+w8(a+16,Dd);
+Id=r8(a+160);
+if(r8(a+184)>Id)Jd=Id;
+else{
+Kd=make_ready_e3c(a+152);
+if(!(Kd&1)){
+zd=0;
+Ad=0;
+goto L24;}
+Jd=r8(a+160);}
+Ld=rp(a+152)+(Jd<<5);
+*Ld=9;
+Ld[1]=0;
+x8(Ld+8,cb);
+x8(Ld+16,vd);
+Ld[24]=0;
+w8(a+160,Jd+1);
+w8(a+192,ud);
+zd=1;
+Ad=1;
+L24:w8(y,zd);
+y[8]=Ad;
 y[9]=0;
 w8(y+16,0);
 y[24]=0;
-goto L9;
-case 83:Kd=cb+1;
-Ld=r8(a+8);
-if(r8(a+32)==Ld){
-Md=make_ready_8e3(a,1,128);
-if(!(Md&1)){
-Od=0;
-Pd=0;
+goto L17;
+case 83:Md=cb+1;
+Nd=r8(a+8);
+if(r8(a+32)==Nd){
+Od=make_ready_8e3(a,1,128);
+if(!(Od&1)){
+Qd=0;
+Rd=0;
 goto L25;}
-Nd=r8(a+8);}
-else Nd=Ld;
-Qd=r8(a+16);
-if(Qd==Nd){
-Rd=grow_amortized_2b6(a,1);
-if(!Rd){
-Od=0;
-Pd=0;
-goto L25;}
+Pd=r8(a+8);}
+else Pd=Nd;
 Sd=r8(a+16);
-Td=r8(a+8);}
-else{
-Sd=Qd;
-Td=Nd;}
-Ud=Td+1;
-Vd=rp(a);
-z16(a+8);
-Wd=Vd+(i64)Td;
-if((u64)Wd==(u64)(u8*)t_2458)copy_bits_4f4((u8*)t_2458,Wd,1);
-else *Wd=91;
-wp(a,Vd);
-w8(a+8,Ud);
-w8(a+16,Sd);
-Xd=r8(a+160);
-if(r8(a+184)>Xd)Yd=Xd;
-else{
-Zd=make_ready_e3c(a+152);
-if(!(Zd&1)){
-Od=0;
-Pd=0;
+if(Sd==Pd){
+Td=grow_amortized_2b6(a,1);
+if(!Td){
+Qd=0;
+Rd=0;
 goto L25;}
-Yd=r8(a+160);}
-ae=rp(a+152)+(Yd<<5);
-*ae=9;
-ae[1]=0;
-x8(ae+8,cb);
-x8(ae+16,Ld);
-ae[24]=1;
-w8(a+160,Yd+1);
-w8(a+192,Kd);
-Od=1;
-Pd=1;
-L25:w8(y,Od);
-y[8]=Pd;
-y[9]=0;
-w8(y+16,0);
-y[24]=0;
-goto L9;
-case 84:be=r8(a+8);
-ce=cb+1;
-if(r8(a+32)==be){
-de=make_ready_8e3(a,1,128);
-if(!(de&1)){
-fe=0;
-ge=0;
-goto L26;}
-ee=r8(a+8);}
-else ee=be;
-he=r8(a+16);
-if(he==ee){
-ie=grow_amortized_2b6(a,1);
-if(!ie){
-fe=0;
-ge=0;
-goto L26;}
-je=r8(a+16);
-ke=r8(a+8);}
+Ud=r8(a+16);
+Vd=r8(a+8);}
 else{
-je=he;
-ke=ee;}
-le=ke+1;
-me=rp(a);
+Ud=Sd;
+Vd=Pd;}
+Wd=Vd+1;
+Xd=rp(a);
 z16(a+8);
-ne=me+(i64)ke;
-if((u64)ne==(u64)(u8*)t_32eb)copy_bits_4f4((u8*)t_32eb,ne,1);
-else *ne=40;
-wp(a,me);
-w8(a+8,le);
-w8(a+16,je);
-oe=r8(a+160);
-if(r8(a+184)>oe)pe=oe;
+Yd=Xd+(i64)Vd;
+if((u64)Yd==(u64)(u8*)t_2458)copy_bits_4f4((u8*)t_2458,Yd,1);
+else *Yd=91;
+wp(a,Xd);
+w8(a+8,Wd);
+w8(a+16,Ud);
+Zd=r8(a+160);
+if(r8(a+184)>Zd)ae=Zd;
 else{
-qe=make_ready_e3c(a+152);
-if(!(qe&1)){
-fe=0;
-ge=0;
-goto L26;}
-pe=r8(a+160);}
-re=rp(a+152)+(pe<<5);
-*re=12;
-re[1]=0;
-x8(re+8,cb);
-x8(re+16,be);
-re[24]=1;
-w8(a+160,pe+1);
-w8(a+192,ce);
-fe=1;
-ge=1;
-L26:w8(y,fe);
-y[8]=ge;
+be=make_ready_e3c(a+152);
+if(!(be&1)){
+Qd=0;
+Rd=0;
+goto L25;}
+ae=r8(a+160);}
+ce=rp(a+152)+(ae<<5);
+*ce=9;
+ce[1]=0;
+x8(ce+8,cb);
+x8(ce+16,Nd);
+ce[24]=1;
+w8(a+160,ae+1);
+w8(a+192,Md);
+Qd=1;
+Rd=1;
+L25:w8(y,Qd);
+y[8]=Rd;
 y[9]=0;
 w8(y+16,0);
 y[24]=0;
-goto L9;
-case 66:se=r8(a+8);
-te=cb+1;
-ue=umin64(c-te,11)+te;
-if(te>=ue){
-we=te;
-goto L27;}
-ve=te;
-L28:if(*((u8*)t_84dd+*(b+ve))<62){
-xe=ve+1;
-if(xe!=ue){
-ve=xe;
+goto L17;
+case 84:de=r8(a+8);
+ee=cb+1;
+if(r8(a+32)==de){
+fe=make_ready_8e3(a,1,128);
+if(!(fe&1)){
+he=0;
+ie=0;
+goto L26;}
+ge=r8(a+8);}
+else ge=de;
+je=r8(a+16);
+if(je==ge){
+ke=grow_amortized_2b6(a,1);
+if(!ke){
+he=0;
+ie=0;
+goto L26;}
+le=r8(a+16);
+me=r8(a+8);}
+else{
+le=je;
+me=ge;}
+ne=me+1;
+oe=rp(a);
+z16(a+8);
+pe=oe+(i64)me;
+if((u64)pe==(u64)(u8*)t_32eb)copy_bits_4f4((u8*)t_32eb,pe,1);
+else *pe=40;
+wp(a,oe);
+w8(a+8,ne);
+w8(a+16,le);
+qe=r8(a+160);
+if(r8(a+184)>qe)re=qe;
+else{
+se=make_ready_e3c(a+152);
+if(!(se&1)){
+he=0;
+ie=0;
+goto L26;}
+re=r8(a+160);}
+te=rp(a+152)+(re<<5);
+*te=12;
+te[1]=0;
+x8(te+8,cb);
+x8(te+16,de);
+te[24]=1;
+w8(a+160,re+1);
+w8(a+192,ee);
+he=1;
+ie=1;
+L26:w8(y,he);
+y[8]=ie;
+y[9]=0;
+w8(y+16,0);
+y[24]=0;
+goto L17;
+case 66:ue=r8(a+8);
+ve=cb+1;
+z24(u);
+we=ve!=18446744073709551615u;
+xe=cb+2;
+if(we&((we?xe:0)<c)){
+if(*(b+xe)==95){
+ye=*((u8*)t_84dd+*(b+(i64)ve));
+if(ye<62){
+ze=ye+3;
+Ae=cb+3;
+goto L27;}}}
+any_number_at_3d4(u,b,c,ve);
+Be=r8(u+8);
+if(!(*u==1&&Be<0xfffffffffffffffeu)){
+Ce=0;
+De=0;
+Ee=0;
+Fe=0;
 goto L28;}
-we=ue;}
-else we=ve;
-L27:if(we==c){
-ye=0;
-ze=0;
-Ae=0;
-Be=0;}
+ze=Be+2;
+Ae=r8(u+16);
+L27:if(ze<r8(a+136)){
+Ge=r2(rp(a+128)+(i64)(ze<<1));
+if(Ge==0){
+Ce=0;
+De=0;
+Ee=0;
+Fe=0;}
 else{
-if(*(b+we)==95){
-Ce=te&4294967295u;
-De=we&4294967295u;
-Ee=De+1;
-if(De==Ce)Fe=2;
+He=(u64)Ge-1;
+if(He<r8(a+96)){
+Ie=rp(a+88)+(i64)(He*24);
+Je=Ie[16];
+switch(Je){
+case 0:case 2:case 3:Ke=q8(Ie);
+Le=q8(Ie+8);
+if(Le<Ke){
+Ce=0;
+De=0;
+Ee=0;
+Fe=0;}
 else{
-Ge=b+(i64)Ce;
-He=De-Ce;
-if(He>10){
-Ie=0;
-Je=0;
-goto L29;}
-Ke=0;
-Le=0;
-L30:Me=*((u8*)t_84dd+*(Ge+(i64)Le));
-if(Me>=62){
-ye=0;
-ze=0;
-Ae=0;
-Be=0;
-goto L31;}
-Ne=Ke*62+Me;
-Oe=Le+1;
-if(Oe==He){
-Pe=Ne;
-goto L32;}
-Ke=Ne;
-Le=Oe;
-goto L30;
-L29:Qe=*((u8*)t_84dd+*(Ge+(i64)Je));
-if(!((Ie<0x421084210842109u)&(Qe<62))){
-ye=0;
-ze=0;
-Ae=0;
-Be=0;
-goto L31;}
-Re=Ie*62;
-if(Re>(Qe^18446744073709551615u)){
-ye=0;
-ze=0;
-Ae=0;
-Be=0;
-goto L31;}
-Se=Re+Qe;
-Te=Je+1;
-if(Te!=He){
-Ie=Se;
-Je=Te;
-goto L29;}
-Pe=Se;
-L32:if(Pe>0xfffffffffffffffcu){
-ye=0;
-ze=0;
-Ae=0;
-Be=0;
-goto L31;}
-Fe=Pe+3;}
-if(Fe<r8(a+136)){
-Ue=r2(rp(a+128)+(i64)(Fe<<1));
-if(Ue==0){
-ye=0;
-ze=0;
-Ae=0;
-Be=0;}
-else{
-Ve=(u64)Ue-1;
-if(Ve<r8(a+96)){
-We=rp(a+88)+(i64)(Ve*24);
-Xe=We[16];
-switch(Xe){
-case 0:case 2:case 3:memcpy(u,We,16);
-u[16]=Xe;
-memcpy(u+17,We+17,7);
-Ye=repeat_2ff(a,u);
-if(Ye&1){
-w8(a+192,Ee);
-if(r8(a+136)>cb){
-Ze=r8(a+96);
-if(Ze>65534){
-ye=0;
-ze=0;
-Ae=0;
-Be=0;}
-else{
-af=r8(a+8);
-bf=a[80];
-if(r8(a+120)>Ze)cf=Ze;
-else{
-df=make_ready_b73(a+88);
-if(!(df&1)){
-ye=0;
-ze=0;
-Ae=0;
-Be=0;
+if((u8)(a[80]^Ie[17])&1){
+Me=r8(a+48);
+if(Me<Le){
+Ce=0;
+De=0;
+Ee=0;
+Fe=0;
 break;}
-cf=r8(a+96);}
-ef=rp(a+88)+cf*24;
-x8(ef,se);
-x8(ef+8,af);
-ef[16]=Xe;
-ef[17]=bf;
-z6(ef+18);
-w8(a+96,cf+1);
-w2(rp(a+128)+(i64)(cb<<1),(u16)Ze+1);
-ye=1;
-ze=2;
-Ae=se;
-Be=3;}}
+Ne=Le-Ke;
+Oe=r8(a+32)-ue;
+Pe=rp(a+40)+(i64)Ke;
+if(!((Ne>16)|(Me-Ke<16)||Oe<16)){
+Te=extend_from_slice_169(a,Pe,16);
+if(!(Te&1)){
+Ue=Ne+ue;
+if(r8(a+8)<=Ue)goto L29;
+w8(a+8,Ue);
+goto L29;}
+Ce=0;
+De=0;
+Ee=0;
+Fe=0;
+break;}
+if(Oe<Ne){
+Qe=make_ready_8e3(a,Ne,128);
+if(!(Qe&1)){
+Ce=0;
+De=0;
+Ee=0;
+Fe=0;
+break;}}
+Re=extend_from_slice_169(a,Pe,Ne);
+Se=Re;}
 else{
-ye=0;
-ze=0;
-Ae=0;
-Be=0;}}
+if(ue<Le){
+Ce=0;
+De=0;
+Ee=0;
+Fe=0;
+break;}
+Ve=repeat_28b(a,Ke,Le);
+Se=Ve^1;}
+if(Se&1){
+Ce=0;
+De=0;
+Ee=0;
+Fe=0;
+break;}
+L29:w8(a+192,Ae);
+if(r8(a+136)>cb){
+We=r8(a+96);
+if(We>65534){
+Ce=0;
+De=0;
+Ee=0;
+Fe=0;}
 else{
-ye=0;
-ze=0;
-Ae=0;
-Be=0;}
+Xe=r8(a+8);
+Ye=a[80];
+if(r8(a+120)>We)Ze=We;
+else{
+af=make_ready_b73(a+88);
+if(!(af&1)){
+Ce=0;
+De=0;
+Ee=0;
+Fe=0;
+break;}
+Ze=r8(a+96);}
+bf=rp(a+88)+Ze*24;
+x8(bf,ue);
+x8(bf+8,Xe);
+bf[16]=Je;
+bf[17]=Ye;
+z6(bf+18);
+w8(a+96,Ze+1);
+w2(rp(a+128)+(i64)(cb<<1),(u16)We+1);
+Ce=1;
+De=2;
+Ee=ue;
+Fe=3;}}
+else{
+Ce=0;
+De=0;
+Ee=0;
+Fe=0;}}
 break;
-case 1:case 4:ye=0;
-ze=0;
-Ae=0;
-Be=0;
+case 1:case 4:Ce=0;
+De=0;
+Ee=0;
+Fe=0;
 break;
 default:NEVER;
 }}
 else{
-ye=0;
-ze=0;
-Ae=0;
-Be=0;}}}
+Ce=0;
+De=0;
+Ee=0;
+Fe=0;}}}
 else{
-ye=0;
-ze=0;
-Ae=0;
-Be=0;}}
-else{
-ye=0;
-ze=0;
-Ae=0;
-Be=0;}}
-L31:w8(y,ye);
-y[8]=ze;
+Ce=0;
+De=0;
+Ee=0;
+Fe=0;}
+L28:w8(y,Ce);
+y[8]=De;
 y[9]=0;
-w8(y+16,Ae);
-y[24]=Be;
-goto L9;
-case 65:ff=r8(a+8);
+w8(y+16,Ee);
+y[24]=Fe;
+goto L17;
+case 65:cf=r8(a+8);
 w8(a+192,cb+1);
-if(r8(a+32)>ff)gf=ff;
+if(r8(a+32)>cf)df=cf;
 else{
-hf=make_ready_8e3(a,1,16);
-if(!(hf&1)){
-jf=0;
-kf=0;
-goto L33;}
-gf=r8(a+8);}
-*(rp(a)+gf)=91;
-w8(a+8,gf+1);
-lf=r8(a+160);
-if(r8(a+184)>lf)mf=lf;
+ef=make_ready_8e3(a,1,16);
+if(!(ef&1)){
+ff=0;
+gf=0;
+goto L30;}
+df=r8(a+8);}
+*(rp(a)+df)=91;
+w8(a+8,df+1);
+hf=r8(a+160);
+if(r8(a+184)>hf)jf=hf;
 else{
-nf=make_ready_e3c(a+152);
-if(!(nf&1)){
-jf=0;
-kf=0;
-goto L33;}
-mf=r8(a+160);}
-of=rp(a+152)+(mf<<5);
-*of=14;
-of[1]=0;
-x8(of+8,cb);
-x8(of+16,ff);
-of[24]=0;
-w8(a+160,mf+1);
-jf=1;
-kf=1;
-L33:w8(y,jf);
-y[8]=kf;
+kf=make_ready_e3c(a+152);
+if(!(kf&1)){
+ff=0;
+gf=0;
+goto L30;}
+jf=r8(a+160);}
+lf=rp(a+152)+(jf<<5);
+*lf=14;
+lf[1]=0;
+x8(lf+8,cb);
+x8(lf+16,cf);
+lf[24]=0;
+w8(a+160,jf+1);
+ff=1;
+gf=1;
+L30:w8(y,ff);
+y[8]=gf;
 y[9]=0;
 w8(y+16,0);
 y[24]=0;
-goto L9;
-case 68:pf=r8(a+8);
-qf=cb+1;
-if(r8(a+32)-pf<4){
-rf=make_ready_8e3(a,4,128);
-if(!(rf&1)){
-tf=0;
-goto L34;}
-sf=r8(a+8);}
-else sf=pf;
-uf=r8(a+16);
-if(uf-sf<4){
-vf=grow_amortized_2b6(a,4);
-if(!vf){
-tf=0;
-goto L34;}
-wf=r8(a+16);
-xf=r8(a+8);}
+goto L17;
+case 68:mf=r8(a+8);
+nf=cb+1;
+if(r8(a+32)-mf<4){
+of=make_ready_8e3(a,4,128);
+if(!(of&1)){
+qf=0;
+goto L31;}
+pf=r8(a+8);}
+else pf=mf;
+rf=r8(a+16);
+if(rf-pf<4){
+sf=grow_amortized_2b6(a,4);
+if(!sf){
+qf=0;
+goto L31;}
+tf=r8(a+16);
+uf=r8(a+8);}
 else{
-wf=uf;
-xf=sf;}
-yf=xf+4;
-zf=rp(a);
+tf=rf;
+uf=pf;}
+vf=uf+4;
+wf=rp(a);
 z16(a+8);
-Af=zf+(i64)xf;
-if((u64)Af-(u64)(u8*)t_f616<4)copy_bits_4f4((u8*)t_f616,Af,4);
-else x4(Af,544110948);
-wp(a,zf);
-w8(a+8,yf);
-w8(a+16,wf);
-Bf=r8(a+160);
-if(r8(a+184)>Bf)Cf=Bf;
+xf=wf+(i64)uf;
+if((u64)xf-(u64)(u8*)t_f616<4)copy_bits_4f4((u8*)t_f616,xf,4);
+else x4(xf,544110948);
+wp(a,wf);
+w8(a+8,vf);
+w8(a+16,tf);
+yf=r8(a+160);
+if(r8(a+184)>yf)zf=yf;
 else{
-Df=make_ready_e3c(a+152);
-if(!(Df&1)){
-tf=0;
-goto L34;}
-Cf=r8(a+160);}
-Ef=rp(a+152)+(Cf<<5);
-*Ef=13;
-Ef[1]=0;
-x8(Ef+8,cb);
-x8(Ef+16,pf);
-Ef[24]=0;
-w8(a+160,Cf+1);
-w8(a+192,qf);
-tf=1;
-L34:w8(y,tf);
+Af=make_ready_e3c(a+152);
+if(!(Af&1)){
+qf=0;
+goto L31;}
+zf=r8(a+160);}
+Bf=rp(a+152)+(zf<<5);
+*Bf=13;
+Bf[1]=0;
+x8(Bf+8,cb);
+x8(Bf+16,mf);
+Bf[24]=0;
+w8(a+160,zf+1);
+w8(a+192,nf);
+qf=1;
+L31:w8(y,qf);
 y[8]=0;
 y[9]=0;
 w8(y+16,0);
 y[24]=0;
-goto L9;
-case 97:Ff=2;
-Gf=(u8*)t_4c1d;
+goto L17;
+case 97:Cf=2;
+Df=(u8*)t_4c1d;
 break;
-case 98:Ff=4;
-Gf=(u8*)t_b760;
+case 98:Cf=4;
+Df=(u8*)t_b760;
 break;
-case 99:Ff=4;
-Gf=(u8*)t_411b;
+case 99:Cf=4;
+Df=(u8*)t_411b;
 break;
-case 100:Ff=3;
-Gf=(u8*)t_6a3e;
+case 100:Cf=3;
+Df=(u8*)t_6a3e;
 break;
-case 101:Ff=3;
-Gf=(u8*)t_8c25;
+case 101:Cf=3;
+Df=(u8*)t_8c25;
 break;
-case 102:Ff=3;
-Gf=(u8*)t_16b5;
+case 102:Cf=3;
+Df=(u8*)t_16b5;
 break;
-case 104:Ff=2;
-Gf=(u8*)t_c899;
+case 104:Cf=2;
+Df=(u8*)t_c899;
 break;
-case 105:Ff=5;
-Gf=(u8*)t_db3b;
+case 105:Cf=5;
+Df=(u8*)t_db3b;
 break;
-case 106:Ff=5;
-Gf=(u8*)t_f417;
+case 106:Cf=5;
+Df=(u8*)t_f417;
 break;
-case 108:Ff=3;
-Gf=(u8*)t_579a;
+case 108:Cf=3;
+Df=(u8*)t_579a;
 break;
-case 109:Ff=3;
-Gf=(u8*)t_d764;
+case 109:Cf=3;
+Df=(u8*)t_d764;
 break;
-case 110:Ff=4;
-Gf=(u8*)t_9cf5;
+case 110:Cf=4;
+Df=(u8*)t_9cf5;
 break;
-case 111:Ff=4;
-Gf=(u8*)t_fcd0;
+case 111:Cf=4;
+Df=(u8*)t_fcd0;
 break;
-case 112:Ff=1;
-Gf=(u8*)t_d2e2;
+case 112:Cf=1;
+Df=(u8*)t_d2e2;
 break;
-case 115:Ff=3;
-Gf=(u8*)t_7daa;
+case 115:Cf=3;
+Df=(u8*)t_7daa;
 break;
-case 116:Ff=3;
-Gf=(u8*)t_2988;
+case 116:Cf=3;
+Df=(u8*)t_2988;
 break;
-case 117:Ff=2;
-Gf=(u8*)t_2e38;
+case 117:Cf=2;
+Df=(u8*)t_2e38;
 break;
-case 118:Ff=3;
-Gf=(u8*)t_ab5d;
+case 118:Cf=3;
+Df=(u8*)t_ab5d;
 break;
-case 120:Ff=3;
-Gf=(u8*)t_1a91;
+case 120:Cf=3;
+Df=(u8*)t_1a91;
 break;
-case 121:Ff=3;
-Gf=(u8*)t_1506;
+case 121:Cf=3;
+Df=(u8*)t_1506;
 break;
-case 122:Ff=1;
-Gf=(u8*)t_bb72;
+case 122:Cf=1;
+Df=(u8*)t_bb72;
 break;
-default:goto L9;
+default:goto L17;
 }
-Hf=r8(a+8);
+Ef=r8(a+8);
 w8(a+192,cb+1);
-if(r8(a+32)-Hf<Ff){
-If=make_ready_8e3(a,Ff,128);
-if(!(If&1))goto L10;
-Jf=r8(a+8);}
-else Jf=Hf;
-Kf=r8(a+16);
-if(Ff>Kf-Jf){
-Lf=grow_amortized_2b6(a,Ff);
-if(!Lf)goto L10;
-Mf=r8(a+16);
-Nf=r8(a+8);}
+if(r8(a+32)-Ef<Cf){
+Ff=make_ready_8e3(a,Cf,128);
+if(!(Ff&1))goto L9;
+Gf=r8(a+8);}
+else Gf=Ef;
+Hf=r8(a+16);
+if(Cf>Hf-Gf){
+If=grow_amortized_2b6(a,Cf);
+if(!If)goto L9;
+Jf=r8(a+16);
+Kf=r8(a+8);}
 else{
-Mf=Kf;
-Nf=Jf;}
-Of=Nf+Ff;
-Pf=rp(a);
+Jf=Hf;
+Kf=Gf;}
+Lf=Kf+Cf;
+Mf=rp(a);
 z16(a+8);
-Qf=Pf+(i64)Nf;
-if((u64)Qf-(u64)Gf<Ff)copy_bits_4f4(Gf,Qf,Ff);
-else memmove(Qf,Gf,Ff);
-wp(a,Pf);
-w8(a+8,Of);
-w8(a+16,Mf);
+Nf=Mf+(i64)Kf;
+if((u64)Nf-(u64)Df<Cf)copy_bits_4f4(Df,Nf,Cf);
+else memmove(Nf,Df,Cf);
+wp(a,Mf);
+w8(a+8,Lf);
+w8(a+16,Jf);
 if(r8(a+136)>cb){
-Rf=r8(a+96);
-if(Rf>65534){
-Sf=0;
-Tf=0;
-Uf=0;
-Vf=0;}
+Of=r8(a+96);
+if(Of>65534){
+Pf=0;
+Qf=0;
+Rf=0;
+Sf=0;}
 else{
-Wf=a[80];
-if(r8(a+120)>Rf)Xf=Rf;
+Tf=a[80];
+if(r8(a+120)>Of)Uf=Of;
 else{
-Yf=make_ready_b73(a+88);
-if(!(Yf&1)){
+Vf=make_ready_b73(a+88);
+if(!(Vf&1)){
+Pf=0;
+Qf=0;
+Rf=0;
 Sf=0;
-Tf=0;
-Uf=0;
-Vf=0;
-goto L35;}
-Xf=r8(a+96);}
-Zf=rp(a+88)+Xf*24;
-x8(Zf,Hf);
-x8(Zf+8,Of);
-Zf[16]=3;
-Zf[17]=Wf;
-z6(Zf+18);
-w8(a+96,Xf+1);
-w2(rp(a+128)+(i64)(cb<<1),(u16)Rf+1);
-Sf=1;
-Tf=2;
-Uf=Hf;
-Vf=3;}}
+goto L32;}
+Uf=r8(a+96);}
+Wf=rp(a+88)+Uf*24;
+x8(Wf,Ef);
+x8(Wf+8,Lf);
+Wf[16]=3;
+Wf[17]=Tf;
+z6(Wf+18);
+w8(a+96,Uf+1);
+w2(rp(a+128)+(i64)(cb<<1),(u16)Of+1);
+Pf=1;
+Qf=2;
+Rf=Ef;
+Sf=3;}}
 else{
-Sf=0;
-Tf=0;
-Uf=0;
-Vf=0;}
-L35:w8(y,Sf);
-y[8]=Tf;
+Pf=0;
+Qf=0;
+Rf=0;
+Sf=0;}
+L32:w8(y,Pf);
+y[8]=Qf;
 y[9]=0;
-w8(y+16,Uf);
-y[24]=Vf;
-goto L9;
-L20:gc=r8(a+160);
-hc=kc;
-ic=lc;
-L19:ag=rp(a+152)+(gc<<5);
-*ag=hc;
-ag[1]=ic;
-x8(ag+8,cb);
-x8(ag+16,0);
-ag[24]=0;
-w8(a+160,gc+1);
-bg=0;
-goto L36;
+w8(y+16,Rf);
+y[24]=Sf;
+goto L17;
+L20:ic=r8(a+160);
+jc=mc;
+kc=nc;
+L19:Xf=rp(a+152)+(ic<<5);
+*Xf=jc;
+Xf[1]=kc;
+x8(Xf+8,cb);
+x8(Xf+16,0);
+Xf[24]=0;
+w8(a+160,ic+1);
+Yf=0;
+goto L33;
 L18:F=0;
 goto L1;
-L9:if(*y!=1){
+L17:if(*y!=1){
 F=0;
 goto L1;}
 Ya=r8(y+16);
@@ -97286,397 +97250,383 @@ Za=y[8];
 ab=y[9];
 bb=y[24];
 goto L5;}
-L10:F=0;
+L9:F=0;
 goto L1;
 L5:if(Za!=0){
-cg=Ya;
-dg=Za;
-eg=ab;
-fg=bb;
-goto L37;}
+Zf=Ya;
+ag=Za;
 bg=ab;
-L36:z32(t);
-gg=r8(a+192);
-if(gg<c){
-hg=bg&1;
-ig=gg;
-L38:switch(*(b+ig)){
-case 78:jg=ig+1;
-if(jg>=c)goto L39;
-kg=*(b+jg);
-if(kg<65)goto L39;
-if(!((kg<91)|((u8)(kg-97)<26)))goto L39;
-w8(a+192,ig+2);
-lg=r8(a+160);
-if(r8(a+184)>lg){
-mg=lg;
+cg=bb;
+goto L34;}
+Yf=ab;
+L33:z32(t);
+dg=r8(a+192);
+if(dg<c){
+eg=Yf&1;
+fg=dg;
+L35:switch(*(b+fg)){
+case 78:gg=fg+1;
+if(gg<c)hg=*(b+gg);
+else hg=0;
+if(gg==18446744073709551615u||*((u8*)t_eb43+hg)==0)goto L36;
+w8(a+192,fg+2);
+ig=r8(a+160);
+if(r8(a+184)>ig){
+jg=ig;
+kg=2;
+lg=hg;
+goto L37;}
+mg=make_ready_e3c(a+152);
+if(!(mg&1))goto L36;
 ng=2;
-og=kg;
-goto L40;}
-pg=make_ready_e3c(a+152);
-if(!(pg&1))goto L39;
-qg=2;
-rg=kg;
-break;
-case 73:w8(a+192,ig+1);
-sg=r8(a+160);
-if(r8(a+184)>sg){
-mg=sg;
-ng=3;
 og=hg;
-goto L40;}
-tg=make_ready_e3c(a+152);
-if(!(tg&1))goto L39;
-qg=3;
-rg=hg;
 break;
-default:ug=ig;
-goto L41;
+case 73:w8(a+192,fg+1);
+pg=r8(a+160);
+if(r8(a+184)>pg){
+jg=pg;
+kg=3;
+lg=eg;
+goto L37;}
+qg=make_ready_e3c(a+152);
+if(!(qg&1))goto L36;
+ng=3;
+og=eg;
+break;
+default:rg=fg;
+goto L38;
 }
-mg=r8(a+160);
-ng=qg;
-og=rg;
-L40:vg=rp(a+152)+(mg<<5);
-*vg=ng;
-vg[1]=og;
-x8(vg+8,ig);
-x8(vg+16,0);
-vg[24]=0;
-w8(a+160,mg+1);
-wg=r8(a+192);
-if(wg<c){
-ig=wg;
-goto L38;}
-ug=wg;
-goto L41;
-L39:F=0;
+jg=r8(a+160);
+kg=ng;
+lg=og;
+L37:sg=rp(a+152)+(jg<<5);
+*sg=kg;
+sg[1]=lg;
+x8(sg+8,fg);
+x8(sg+16,0);
+sg[24]=0;
+w8(a+160,jg+1);
+tg=r8(a+192);
+if(tg<c){
+fg=tg;
+goto L35;}
+rg=tg;
+goto L38;
+L36:F=0;
 goto L1;}
-ug=gg;
-L41:if(ug<c){
-switch(*(b+ug)){
-case 67:xg=r8(a+8);
-yg=ug+1;
-if(yg<c){
-if(*(b+yg)==115){
-zg=ug+2;
-if(c-zg>=12){
-Ag=ug+13;
-Bg=b+(i64)zg;
-Cg=*Bg;
-if(!((Cg<58)|((u8)(Cg-97)<11)))goto L42;
-Dg=0;
-L43:if(*((u8*)t_9eba+*(Bg+Dg))==0){
-Eg=Dg+1;
-if(Eg!=11){
-Dg=Eg;
-goto L43;}
-if(Ag<c){
-if(*(b+Ag)==95){
-Fg=ug+14;
-goto L44;}}}}
-L42:Gg=any_disambiguator_end_f9c(b,c,yg);
-if(Gg.f0!=1)goto L45;
-Fg=Gg.f1;}
-else Fg=yg;}
-else Fg=yg;
-L44:if(Fg<c){
-Hg=*(b+Fg);
-if((u8)(Hg-58)>=247){
-Ig=Fg+1;
-if(Ig<c){
-Jg=*(b+Ig)-48;
-if(Jg<10){
-Kg=Fg+2;
-Lg=(u64)Jg+(u8)((u8)(Hg*10)+32);
-if(c-Kg<Lg)goto L45;
-Mg=Lg+Kg;
-Ng=b+(i64)Kg;
-Og=*Ng;
-if((Og==95)|((u8)(Og-48)<10)){
+rg=dg;
+L38:if(rg<c){
+switch(*(b+rg)){
+case 67:ug=r8(a+8);
+vg=rg+1;
+if(vg<c){
+if(*(b+vg)==115){
+wg=rg+2;
+if(c-wg>=12){
+xg=b+(i64)wg;
+yg=0;
+L39:if(*((u8*)t_9eba+*(xg+yg))==0){
+zg=yg+1;
+if(zg!=11){
+yg=zg;
+goto L39;}
+Ag=*xg;
+if(!((Ag<58)|((u8)(Ag-97)<11)))goto L40;
+Bg=11;}
+else Bg=yg;
+Cg=Bg+wg;
+if(Cg<c){
+if(*(b+Cg)==95){
+Dg=Cg+1;
+goto L41;}}}
+L40:Eg=any_disambiguator_end_f9c(b,c,vg);
+if(Eg.f0!=1)goto L42;
+Dg=Eg.f1;}
+else Dg=vg;}
+else Dg=vg;
+L41:if(Dg<c){
+Fg=*(b+Dg);
+if((u8)(Fg-58)>=247){
+Gg=Dg+1;
+if(Gg<c){
+Hg=*(b+Gg)-48;
+if(Hg<10){
+Ig=Dg+2;
+Jg=(u64)Hg+(u8)((u8)(Fg*10)+32);
+if(c-Ig<Jg)goto L42;
+Kg=Jg+Ig;
+Lg=b+(i64)Ig;
+if(*((u8*)t_facb+*Lg)!=0){
 z12(r);
-any_name_span_9bc(r,b,c,Fg);
-Pg=q8(r+4);
-if(*r!=1)goto L45;
-Qg=Pg>>32;
-Rg=Pg&4294967295u;
-goto L46;}
-Sg=0;
-L47:Tg=Ng+Sg;
-if((u8)((u8)(*((u8*)t_4efc+Tg[1])+*((u8*)t_4efc+*Tg))+*((u8*)t_4efc+Tg[2]))==(u8)(0-*((u8*)t_4efc+Tg[3]))){
-Ug=Sg+4;
-if(Lg-Ug>3){
-Sg=Ug;
-goto L47;}
-Vg=Ug;}
-else Vg=Sg;
-if(Vg>=Lg){
-Qg=Mg;
-Rg=Kg;
-goto L46;}
-Wg=Vg;
-L48:if(*((u8*)t_4efc+*(Ng+Wg))!=0)goto L45;
-Xg=Wg+1;
-if(Xg<Lg){
-Wg=Xg;
-goto L48;}
-Qg=Mg;
-Rg=Kg;
-goto L46;}}
-Yg=Hg-48;
-if(c-Ig<Yg)goto L45;
-Zg=b+(i64)Ig;
-ah=*Zg;
-if((ah==95)|((u8)(ah-48)<10)){
+any_name_span_9bc(r,b,c,Dg);
+Ng=q8(r+4);
+if(*r!=1)goto L42;
+Og=Ng>>32;
+Pg=Ng&4294967295u;
+goto L43;}
+Mg=0;
+L44:Qg=Lg+Mg;
+if((u8)((u8)(*((u8*)t_4efc+Qg[1])+*((u8*)t_4efc+*Qg))+*((u8*)t_4efc+Qg[2]))==(u8)(0-*((u8*)t_4efc+Qg[3]))){
+Rg=Mg+4;
+if(Jg-Rg>3){
+Mg=Rg;
+goto L44;}
+Sg=Rg;}
+else Sg=Mg;
+if(Sg>=Jg){
+Og=Kg;
+Pg=Ig;
+goto L43;}
+Tg=Sg;
+L45:if(*((u8*)t_4efc+*(Lg+Tg))!=0)goto L42;
+Ug=Tg+1;
+if(Ug<Jg){
+Tg=Ug;
+goto L45;}
+Og=Kg;
+Pg=Ig;
+goto L43;}}
+Vg=Fg-48;
+if(c-Gg<Vg)goto L42;
+Wg=b+(i64)Gg;
+if(*((u8*)t_facb+*Wg)!=0){
 z12(q);
-any_name_span_9bc(q,b,c,Fg);
-bh=q8(q+4);
-if(*q!=1)goto L45;
-Qg=bh>>32;
-Rg=bh&4294967295u;
+any_name_span_9bc(q,b,c,Dg);
+eh=q8(q+4);
+if(*q!=1)goto L42;
+Og=eh>>32;
+Pg=eh&4294967295u;
+goto L43;}
+Xg=Gg+Vg;
+if(Fg<=51){
+Zg=0;
 goto L46;}
-ch=Ig+Yg;
-if(Hg<=51){
-eh=0;
-goto L49;}
-dh=0;
-L50:fh=Zg+dh;
-if((u8)((u8)(*((u8*)t_4efc+fh[1])+*((u8*)t_4efc+*fh))+*((u8*)t_4efc+fh[2]))==(u8)(0-*((u8*)t_4efc+fh[3]))){
-gh=dh+4;
-if(Yg-gh>3){
-dh=gh;
-goto L50;}
-eh=gh;}
-else eh=dh;
-L49:if(eh>=Yg){
-Qg=ch;
-Rg=Ig;
-goto L46;}
-hh=eh;
-L51:if(*((u8*)t_4efc+*(Zg+hh))!=0)goto L45;
-ih=hh+1;
-if(ih!=Yg){
-hh=ih;
-goto L51;}
-Qg=ch;
-Rg=Ig;
-goto L46;}}
+Yg=0;
+L47:ah=Wg+Yg;
+if((u8)((u8)(*((u8*)t_4efc+ah[1])+*((u8*)t_4efc+*ah))+*((u8*)t_4efc+ah[2]))==(u8)(0-*((u8*)t_4efc+ah[3]))){
+bh=Yg+4;
+if(Vg-bh>3){
+Yg=bh;
+goto L47;}
+Zg=bh;}
+else Zg=Yg;
+L46:if(Zg>=Vg){
+Og=Xg;
+Pg=Gg;
+goto L43;}
+ch=Zg;
+L48:if(*((u8*)t_4efc+*(Wg+ch))!=0)goto L42;
+dh=ch+1;
+if(dh!=Vg){
+ch=dh;
+goto L48;}
+Og=Xg;
+Pg=Gg;
+goto L43;}}
 z12(s);
-any_name_span_9bc(s,b,c,Fg);
-jh=q8(s+4);
-if(*s!=1)goto L45;
-Qg=jh>>32;
-Rg=jh&4294967295u;
-L46:if(Qg<=Rg)goto L45;
-kh=b+(i64)Rg;
-lh=Qg-Rg;
-if(r8(a+32)-xg<lh){
-mh=make_ready_8e3(a,lh,128);
-if(!(mh&1))goto L45;}
-nh=extend_from_slice_169(a,kh,lh);
-if(nh&1)goto L45;
-w8(a+192,Qg);
-if(r8(a+136)>ug){
-oh=r8(a+96);
-if(oh>65534){
+any_name_span_9bc(s,b,c,Dg);
+fh=q8(s+4);
+if(*s!=1)goto L42;
+Og=fh>>32;
+Pg=fh&4294967295u;
+L43:if(Og<=Pg)goto L42;
+gh=Og-Pg;
+hh=r8(a+32)-ug;
+ih=b+(i64)Pg;
+if((c-Pg<16)|(gh>16)||hh<16){
+if(hh<gh){
+jh=make_ready_8e3(a,gh,128);
+if(!(jh&1))goto L42;}
+kh=extend_from_slice_169(a,ih,gh);
+if(kh&1)goto L42;}
+else{
+lh=extend_from_slice_169(a,ih,16);
+if(lh&1)goto L42;
+mh=gh+ug;
+if(r8(a+8)>mh)w8(a+8,mh);}
+w8(a+192,Og);
+if(r8(a+136)>rg){
+nh=r8(a+96);
+if(nh>65534){
+oh=0;
+ph=0;
+qh=0;}
+else{
+rh=r8(a+8);
+sh=a[80];
+if(r8(a+120)>nh)th=nh;
+else{
+uh=make_ready_b73(a+88);
+if(!(uh&1)){
+oh=0;
 ph=0;
 qh=0;
-rh=0;}
+goto L49;}
+th=r8(a+96);}
+vh=rp(a+88)+th*24;
+x8(vh,ug);
+x8(vh+8,rh);
+vh[16]=0;
+vh[17]=sh;
+z6(vh+18);
+w8(a+96,th+1);
+w2(rp(a+128)+(i64)(rg<<1),(u16)nh+1);
+oh=1;
+ph=2;
+qh=ug;}}
 else{
-sh=r8(a+8);
-th=a[80];
-if(r8(a+120)>oh)uh=oh;
-else{
-vh=make_ready_b73(a+88);
-if(!(vh&1)){
+oh=0;
 ph=0;
-qh=0;
-rh=0;
-goto L52;}
-uh=r8(a+96);}
-wh=rp(a+88)+uh*24;
-x8(wh,xg);
-x8(wh+8,sh);
-wh[16]=0;
-wh[17]=th;
-z6(wh+18);
-w8(a+96,uh+1);
-w2(rp(a+128)+(i64)(ug<<1),(u16)oh+1);
-ph=1;
-qh=2;
-rh=xg;}}
-else{
-ph=0;
-qh=0;
-rh=0;}
-L52:w8(t,ph);
-t[8]=qh;
+qh=0;}
+L49:w8(t,oh);
+t[8]=ph;
 t[9]=0;
-w8(t+16,rh);
+w8(t+16,qh);
 t[24]=0;
 break;
-case 66:xh=r8(a+8);
-yh=ug+1;
-zh=umin64(c-yh,11)+yh;
-if(yh>=zh){
-Bh=yh;
-goto L53;}
-Ah=yh;
-L54:if(*((u8*)t_84dd+*(b+Ah))<62){
-Ch=Ah+1;
-if(Ch!=zh){
-Ah=Ch;
-goto L54;}
-Bh=zh;}
-else Bh=Ah;
-L53:if(Bh==c){
-Dh=0;
-Eh=0;
-Fh=0;
-Gh=0;}
-else{
-if(*(b+Bh)==95){
-Hh=yh&4294967295u;
-Ih=Bh&4294967295u;
-Jh=Ih+1;
-if(Ih==Hh)Kh=2;
-else{
-Lh=b+(i64)Hh;
-Mh=Ih-Hh;
-if(Mh>10){
-Nh=0;
-Oh=0;
-goto L55;}
-Ph=0;
-Qh=0;
-L56:Rh=*((u8*)t_84dd+*(Lh+(i64)Qh));
-if(Rh>=62){
-Dh=0;
+case 66:wh=r8(a+8);
+xh=rg+1;
+z24(p);
+yh=xh!=18446744073709551615u;
+zh=rg+2;
+if(yh&((yh?zh:0)<c)){
+if(*(b+zh)==95){
+Ah=*((u8*)t_84dd+*(b+(i64)xh));
+if(Ah<62){
+Bh=Ah+3;
+Ch=rg+3;
+goto L50;}}}
+any_number_at_3d4(p,b,c,xh);
+Dh=r8(p+8);
+if(!(*p==1&&Dh<0xfffffffffffffffeu)){
 Eh=0;
 Fh=0;
 Gh=0;
-goto L57;}
-Sh=Ph*62+Rh;
-Th=Qh+1;
-if(Th==Mh){
-Uh=Sh;
-goto L58;}
-Ph=Sh;
-Qh=Th;
-goto L56;
-L55:Vh=*((u8*)t_84dd+*(Lh+(i64)Oh));
-if(!((Nh<0x421084210842109u)&(Vh<62))){
-Dh=0;
+Hh=0;
+goto L51;}
+Bh=Dh+2;
+Ch=r8(p+16);
+L50:if(Bh<r8(a+136)){
+Ih=r2(rp(a+128)+(i64)(Bh<<1));
+if(Ih==0){
 Eh=0;
 Fh=0;
 Gh=0;
-goto L57;}
-Wh=Nh*62;
-if(Wh>(Vh^18446744073709551615u)){
-Dh=0;
+Hh=0;}
+else{
+Jh=(u64)Ih-1;
+if(Jh<r8(a+96)){
+Kh=rp(a+88)+(i64)(Jh*24);
+Lh=q8(Kh);
+Mh=q8(Kh+8);
+Nh=Kh[16];
+if(Nh>2||Mh<Lh){
 Eh=0;
 Fh=0;
 Gh=0;
-goto L57;}
-Xh=Wh+Vh;
-Yh=Oh+1;
-if(Yh!=Mh){
-Nh=Xh;
-Oh=Yh;
-goto L55;}
-Uh=Xh;
-L58:if(Uh>0xfffffffffffffffcu){
-Dh=0;
+Hh=0;}
+else{
+if((u8)(a[80]^Kh[17])&1){
+Oh=r8(a+48);
+if(Oh<Mh){
 Eh=0;
 Fh=0;
 Gh=0;
-goto L57;}
-Kh=Uh+3;}
-if(Kh<r8(a+136)){
-Zh=r2(rp(a+128)+(i64)(Kh<<1));
-if(Zh==0){
-Dh=0;
-Eh=0;
-Fh=0;
-Gh=0;}
-else{
-ai=(u64)Zh-1;
-if(ai<r8(a+96)){
-bi=rp(a+88)+(i64)(ai*24);
-ci=bi[16];
-if(ci<3){
-memcpy(p,bi,16);
-p[16]=ci;
-memcpy(p+17,bi+17,7);
-di=repeat_2ff(a,p);
-if(di&1){
-w8(a+192,Jh);
-if(r8(a+136)>ug){
-ei=r8(a+96);
-if(ei>65534){
-Dh=0;
-Eh=0;
-Fh=0;
-Gh=0;}
-else{
-fi=r8(a+8);
-gi=a[80];
-if(r8(a+120)>ei)hi=ei;
-else{
-ii=make_ready_b73(a+88);
-if(!(ii&1)){
-Dh=0;
+Hh=0;
+goto L51;}
+Ph=Mh-Lh;
+Qh=r8(a+32)-wh;
+Rh=rp(a+40)+(i64)Lh;
+if(!((Ph>16)|(Oh-Lh<16)||Qh<16)){
+Vh=extend_from_slice_169(a,Rh,16);
+if(!(Vh&1)){
+Wh=Ph+wh;
+if(r8(a+8)<=Wh)goto L52;
+w8(a+8,Wh);
+goto L52;}
 Eh=0;
 Fh=0;
 Gh=0;
-goto L57;}
-hi=r8(a+96);}
-ji=rp(a+88)+hi*24;
-x8(ji,xh);
-x8(ji+8,fi);
-ji[16]=ci;
-ji[17]=gi;
-z6(ji+18);
-w8(a+96,hi+1);
-w2(rp(a+128)+(i64)(ug<<1),(u16)ei+1);
-Dh=1;
-Eh=2;
-Fh=xh;
-Gh=ci;}}
-else{
-Dh=0;
+Hh=0;
+goto L51;}
+if(Qh<Ph){
+Sh=make_ready_8e3(a,Ph,128);
+if(!(Sh&1)){
 Eh=0;
 Fh=0;
-Gh=0;}}
+Gh=0;
+Hh=0;
+goto L51;}}
+Th=extend_from_slice_169(a,Rh,Ph);
+Uh=Th;}
 else{
-Dh=0;
+if(wh<Mh){
 Eh=0;
 Fh=0;
-Gh=0;}}
-else{
-Dh=0;
+Gh=0;
+Hh=0;
+goto L51;}
+Xh=repeat_28b(a,Lh,Mh);
+Uh=Xh^1;}
+if(Uh&1){
 Eh=0;
 Fh=0;
-Gh=0;}}
-else{
-Dh=0;
+Gh=0;
+Hh=0;
+goto L51;}
+L52:w8(a+192,Ch);
+if(r8(a+136)>rg){
+Yh=r8(a+96);
+if(Yh>65534){
 Eh=0;
 Fh=0;
-Gh=0;}}}
+Gh=0;
+Hh=0;}
 else{
-Dh=0;
+Zh=r8(a+8);
+ai=a[80];
+if(r8(a+120)>Yh)bi=Yh;
+else{
+ci=make_ready_b73(a+88);
+if(!(ci&1)){
 Eh=0;
 Fh=0;
-Gh=0;}}
+Gh=0;
+Hh=0;
+goto L51;}
+bi=r8(a+96);}
+di=rp(a+88)+bi*24;
+x8(di,wh);
+x8(di+8,Zh);
+di[16]=Nh;
+di[17]=ai;
+z6(di+18);
+w8(a+96,bi+1);
+w2(rp(a+128)+(i64)(rg<<1),(u16)Yh+1);
+Eh=1;
+Fh=2;
+Gh=wh;
+Hh=Nh;}}
 else{
-Dh=0;
 Eh=0;
 Fh=0;
-Gh=0;}}
-L57:w8(t,Dh);
-t[8]=Eh;
+Gh=0;
+Hh=0;}}}
+else{
+Eh=0;
+Fh=0;
+Gh=0;
+Hh=0;}}}
+else{
+Eh=0;
+Fh=0;
+Gh=0;
+Hh=0;}
+L51:w8(t,Eh);
+t[8]=Fh;
 t[9]=0;
-w8(t+16,Fh);
-t[24]=Gh;
+w8(t+16,Gh);
+t[24]=Hh;
 break;
 case 77:begin_impl_c72(t,a,b,c);
 break;
@@ -97684,285 +97634,314 @@ case 88:begin_trait_impl_220(t,a,b,c);
 break;
 case 89:begin_trait_f9f(t,a);
 break;
-default:goto L45;
+default:goto L42;
 }
 if(*t!=1){
 F=0;
 goto L1;}
-cg=r8(t+16);
-dg=t[8];
-eg=t[9];
-fg=t[24];
-goto L37;}
-L45:F=0;
+Zf=r8(t+16);
+ag=t[8];
+bg=t[9];
+cg=t[24];
+goto L34;}
+L42:F=0;
 goto L1;
-L37:if(dg!=2){
-sa=fg;
-ta=cg;
-ua=eg;
-va=dg;
+L34:if(ag!=2){
+sa=cg;
+ta=Zf;
+ua=bg;
+va=ag;
 goto L4;}
-la=fg;
-ma=cg;
-L3:ki=r8(a+160);
-if(ki==0){
+la=cg;
+ma=Zf;
+L3:ei=r8(a+160);
+if(ei==0){
 F=0;
 goto L1;}
-li=la<3;
-mi=ki;
-L59:ni=mi-1;
-w8(a+160,ni);
-oi=rp(a+152);
-pi=ni<<5;
-qi=oi+pi;
-ri=qi[1];
-si=q8(qi+8);
-ti=q8(qi+16);
-ui=qi[24];
-switch(*qi){
-case 2:if(ri>=97){
-if(!li){
+fi=la<3;
+gi=ei;
+L53:hi=gi-1;
+w8(a+160,hi);
+ii=rp(a+152);
+ji=hi<<5;
+ki=ii+ji;
+li=ki[1];
+mi=q8(ki+8);
+ni=q8(ki+16);
+oi=ki[24];
+switch(*ki){
+case 2:if(li>=97){
+if(!fi){
 F=0;
 goto L1;}
-Fi=r8(a+192);
-if(Fi<c){
-if(*(b+Fi)==115){
-Gi=Fi+1;
-if(c-Gi>=12){
-Hi=Fi+12;
-Ii=b+(i64)Gi;
-Ji=*Ii;
-if(!((Ji<58)|((u8)(Ji-97)<11)))goto L60;
-Ki=0;
-L61:if(*((u8*)t_9eba+*(Ii+Ki))==0){
-Li=Ki+1;
-if(Li!=11){
-Ki=Li;
-goto L61;}
-if(Hi<c){
-if(*(b+Hi)==95){
-Mi=Fi+13;
-goto L62;}}}}
-L60:Ni=any_disambiguator_end_f9c(b,c,Fi);
-if(Ni.f0!=1){
+zi=r8(a+192);
+if(zi<c){
+if(*(b+zi)==115){
+Ai=zi+1;
+if(c-Ai>=12){
+Bi=b+(i64)Ai;
+Ci=0;
+L54:if(*((u8*)t_9eba+*(Bi+Ci))==0){
+Di=Ci+1;
+if(Di!=11){
+Ci=Di;
+goto L54;}
+Ei=*Bi;
+if(!((Ei<58)|((u8)(Ei-97)<11)))goto L55;
+Fi=11;}
+else Fi=Ci;
+Gi=Fi+Ai;
+if(Gi<c){
+if(*(b+Gi)==95){
+Hi=Gi+1;
+goto L56;}}}
+L55:Ii=any_disambiguator_end_f9c(b,c,zi);
+if(Ii.f0!=1){
 F=0;
 goto L1;}
-Mi=Ni.f1;}
-else Mi=Fi;}
-else Mi=Fi;
-L62:if(Mi<c){
-Oi=*(b+Mi);
-if((u8)(Oi-58)>=247){
-Pi=Mi+1;
-if(Pi<c){
-Qi=*(b+Pi)-48;
-if(Qi<10){
-Ri=Mi+2;
-Si=(u64)Qi+(u8)((u8)(Oi*10)+32);
-if(c-Ri<Si){
+Hi=Ii.f1;}
+else Hi=zi;}
+else Hi=zi;
+L56:if(Hi<c){
+Ji=*(b+Hi);
+if((u8)(Ji-58)>=247){
+Ki=Hi+1;
+if(Ki<c){
+Li=*(b+Ki)-48;
+if(Li<10){
+Mi=Hi+2;
+Ni=(u64)Li+(u8)((u8)(Ji*10)+32);
+if(c-Mi<Ni){
 F=0;
 goto L1;}
-Ti=Si+Ri;
-Ui=b+(i64)Ri;
-Vi=*Ui;
-if((Vi==95)|((u8)(Vi-48)<10)){
+Oi=Ni+Mi;
+Pi=b+(i64)Mi;
+if(*((u8*)t_facb+*Pi)!=0){
 z12(n);
-any_name_span_9bc(n,b,c,Mi);
-Wi=q8(n+4);
-Xi=*n==1;
-Yi=Xi?Wi&4294967295u:0;
-Zi=Xi?Wi>>32:0;
-aj=Xi;
-goto L63;}
-bj=0;
-L64:cj=Ui+bj;
-if((u8)((u8)(*((u8*)t_4efc+cj[1])+*((u8*)t_4efc+*cj))+*((u8*)t_4efc+cj[2]))==(u8)(0-*((u8*)t_4efc+cj[3]))){
-dj=bj+4;
-if(Si-dj>3){
-bj=dj;
-goto L64;}
-ej=dj;}
-else ej=bj;
-if(ej>=Si){
-Yi=Ri;
-Zi=Ti;
-aj=1;
-goto L63;}
-fj=ej;
-L65:if(*((u8*)t_4efc+*(Ui+fj))!=0){
+any_name_span_9bc(n,b,c,Hi);
+Ri=q8(n+4);
+Si=*n==1;
+Ti=Si?Ri&4294967295u:0;
+Ui=Si?Ri>>32:0;
+Vi=Si;
+goto L57;}
+Qi=0;
+L58:Wi=Pi+Qi;
+if((u8)((u8)(*((u8*)t_4efc+Wi[1])+*((u8*)t_4efc+*Wi))+*((u8*)t_4efc+Wi[2]))==(u8)(0-*((u8*)t_4efc+Wi[3]))){
+Xi=Qi+4;
+if(Ni-Xi>3){
+Qi=Xi;
+goto L58;}
+Yi=Xi;}
+else Yi=Qi;
+if(Yi>=Ni){
+Ti=Mi;
+Ui=Oi;
+Vi=1;
+goto L57;}
+Zi=Yi;
+L59:if(*((u8*)t_4efc+*(Pi+Zi))!=0){
 F=0;
 goto L1;}
-gj=fj+1;
-if(gj<Si){
-fj=gj;
-goto L65;}
-Yi=Ri;
-Zi=Ti;
-aj=1;
-goto L63;}}
-hj=Oi-48;
-if(c-Pi<hj){
+aj=Zi+1;
+if(aj<Ni){
+Zi=aj;
+goto L59;}
+Ti=Mi;
+Ui=Oi;
+Vi=1;
+goto L57;}}
+bj=Ji-48;
+if(c-Ki<bj){
 F=0;
 goto L1;}
-ij=b+(i64)Pi;
-jj=*ij;
-if((jj==95)|((u8)(jj-48)<10)){
+cj=b+(i64)Ki;
+if(*((u8*)t_facb+*cj)!=0){
 z12(m);
-any_name_span_9bc(m,b,c,Mi);
+any_name_span_9bc(m,b,c,Hi);
 kj=q8(m+4);
 lj=*m==1;
-Yi=lj?kj&4294967295u:0;
-Zi=lj?kj>>32:0;
-aj=lj;
-goto L63;}
-mj=Pi+hj;
-if(Oi<=51){
-oj=0;
-goto L66;}
-nj=0;
-L67:pj=ij+nj;
-if((u8)((u8)(*((u8*)t_4efc+pj[1])+*((u8*)t_4efc+*pj))+*((u8*)t_4efc+pj[2]))==(u8)(0-*((u8*)t_4efc+pj[3]))){
-qj=nj+4;
-if(hj-qj>3){
-nj=qj;
-goto L67;}
-oj=qj;}
-else oj=nj;
-L66:if(oj>=hj){
-Yi=Pi;
-Zi=mj;
-aj=1;
-goto L63;}
-rj=oj;
-L68:if(*((u8*)t_4efc+*(ij+rj))!=0){
+Ti=lj?kj&4294967295u:0;
+Ui=lj?kj>>32:0;
+Vi=lj;
+goto L57;}
+dj=Ki+bj;
+if(Ji<=51){
+fj=0;
+goto L60;}
+ej=0;
+L61:gj=cj+ej;
+if((u8)((u8)(*((u8*)t_4efc+gj[1])+*((u8*)t_4efc+*gj))+*((u8*)t_4efc+gj[2]))==(u8)(0-*((u8*)t_4efc+gj[3]))){
+hj=ej+4;
+if(bj-hj>3){
+ej=hj;
+goto L61;}
+fj=hj;}
+else fj=ej;
+L60:if(fj>=bj){
+Ti=Ki;
+Ui=dj;
+Vi=1;
+goto L57;}
+ij=fj;
+L62:if(*((u8*)t_4efc+*(cj+ij))!=0){
 F=0;
 goto L1;}
-sj=rj+1;
-if(sj!=hj){
-rj=sj;
-goto L68;}
-Yi=Pi;
-Zi=mj;
-aj=1;
-goto L63;}}
+jj=ij+1;
+if(jj!=bj){
+ij=jj;
+goto L62;}
+Ti=Ki;
+Ui=dj;
+Vi=1;
+goto L57;}}
 z12(o);
-any_name_span_9bc(o,b,c,Mi);
-tj=q8(o+4);
-uj=*o==1;
-Yi=uj?tj&4294967295u:0;
-Zi=uj?tj>>32:0;
-aj=uj;
-L63:if(!(aj&&Zi>Yi)){
+any_name_span_9bc(o,b,c,Hi);
+mj=q8(o+4);
+nj=*o==1;
+Ti=nj?mj&4294967295u:0;
+Ui=nj?mj>>32:0;
+Vi=nj;
+L57:if(!(Vi&&Ui>Ti)){
 F=0;
 goto L1;}
-vj=r8(a+8);
-if(r8(a+32)-vj<2){
-wj=make_ready_8e3(a,2,128);
-if(!(wj&1)){
+oj=r8(a+8);
+if(r8(a+32)-oj<2){
+pj=make_ready_8e3(a,2,128);
+if(!(pj&1)){
 F=0;
 goto L1;}
-xj=r8(a+8);}
-else xj=vj;
-*(rp(a)+xj)=58;
-*(rp(a)+(i64)xj+1)=58;
-yj=xj+2;
-w8(a+8,yj);
-zj=b+(i64)Yi;
-Aj=Zi-Yi;
-if(r8(a+32)-yj<Aj){
-Bj=make_ready_8e3(a,Aj,128);
-if(!(Bj&1)){
+qj=r8(a+8);}
+else qj=oj;
+*(rp(a)+qj)=58;
+*(rp(a)+(i64)qj+1)=58;
+rj=qj+2;
+w8(a+8,rj);
+sj=Ui-Ti;
+tj=r8(a+32)-rj;
+uj=b+(i64)Ti;
+if((c-Ti<16)|(sj>16)||tj<16){
+if(tj<sj){
+vj=make_ready_8e3(a,sj,128);
+if(!(vj&1)){
 F=0;
 goto L1;}
-Cj=r8(a+8);}
-else Cj=yj;
-Dj=r8(a+16);
-if(Aj>Dj-Cj){
-Ej=grow_amortized_2b6(a,Aj);
-if(!Ej){
+wj=r8(a+8);}
+else wj=rj;
+xj=r8(a+16);
+if(sj>xj-wj){
+yj=grow_amortized_2b6(a,sj);
+if(!yj){
 F=0;
 goto L1;}
-Fj=r8(a+16);
-Gj=r8(a+8);}
+zj=r8(a+16);
+Aj=r8(a+8);}
 else{
-Fj=Dj;
-Gj=Cj;}
-Hj=Gj+Aj;
-Ij=rp(a);
+zj=xj;
+Aj=wj;}
+Bj=Aj+sj;
+Cj=rp(a);
 z16(a+8);
-Jj=Ij+(i64)Gj;
-if((u64)Jj-(u64)zj<Aj)copy_bits_4f4(zj,Jj,Aj);
-else memmove(Jj,zj,Aj);
-wp(a,Ij);
-w8(a+8,Hj);
-w8(a+16,Fj);
-w8(a+192,Zi);
-if(Zi<c){
-if(*(b+Zi)==48){
-Kj=r8(a+160);
-if(Kj!=0){
-Lj=rp(a+152)+(i64)(Kj<<5);
-if(Lj[-32]==2){
-if(Lj[-31]>96){
-Mj=unnamed_ended_c46(a,b,c,si,ma,la);
-if(Mj&1)goto L69;
+Dj=Cj+(i64)Aj;
+if((u64)Dj-(u64)uj<sj)copy_bits_4f4(uj,Dj,sj);
+else memmove(Dj,uj,sj);
+wp(a,Cj);
+w8(a+8,Bj);
+w8(a+16,zj);
+Ej=Bj;}
+else{
+Fj=r8(a+16);
+if(Fj-rj<16){
+Gj=grow_amortized_2b6(a,16);
+if(!Gj){
+F=0;
+goto L1;}
+Hj=r8(a+16);
+Ij=r8(a+8);}
+else{
+Hj=Fj;
+Ij=rj;}
+Jj=Ij+16;
+Kj=rp(a);
+z16(a+8);
+Lj=Kj+(i64)Ij;
+if((u64)Lj-(u64)uj<16)copy_bits_4f4(uj,Lj,16);
+else memmove(Lj,uj,16);
+wp(a,Kj);
+w8(a+8,Jj);
+w8(a+16,Hj);
+Mj=rj+sj;
+if(Jj>Mj){
+w8(a+8,Mj);
+Ej=Mj;}
+else Ej=Jj;}
+w8(a+192,Ui);
+if(Ui<c){
+if(*(b+Ui)==48){
+Nj=r8(a+160);
+if(Nj!=0){
+Oj=rp(a+152)+(i64)(Nj<<5);
+if(Oj[-32]==2){
+if(Oj[-31]>96){
+Pj=unnamed_ended_c46(a,b,c,mi,ma,la);
+if(Pj&1)goto L63;
 F=0;
 goto L1;}}}}}
-if(r8(a+136)<=si){
+if(r8(a+136)<=mi){
 F=0;
 goto L1;}
-Nj=r8(a+96);
-if(Nj>65534){
+Qj=r8(a+96);
+if(Qj>65534){
 F=0;
 goto L1;}
-Oj=a[80];
-if(r8(a+120)>Nj)Pj=Nj;
+Rj=a[80];
+if(r8(a+120)>Qj)Sj=Qj;
 else{
-Qj=make_ready_b73(a+88);
-if(!(Qj&1)){
+Tj=make_ready_b73(a+88);
+if(!(Tj&1)){
 F=0;
 goto L1;}
-Pj=r8(a+96);}
-Rj=rp(a+88)+Pj*24;
-x8(Rj,ma);
-x8(Rj+8,Hj);
-Rj[16]=la;
-Rj[17]=Oj;
-z6(Rj+18);
-w8(a+96,Pj+1);
-w2(rp(a+128)+(i64)(si<<1),(u16)Nj+1);
-L69:Sj=r8(a+160);
-if(Sj==0){
+Sj=r8(a+96);}
+Uj=rp(a+88)+Sj*24;
+x8(Uj,ma);
+x8(Uj+8,Ej);
+Uj[16]=la;
+Uj[17]=Rj;
+z6(Uj+18);
+w8(a+96,Sj+1);
+w2(rp(a+128)+(i64)(mi<<1),(u16)Qj+1);
+L63:Vj=r8(a+160);
+if(Vj==0){
 F=0;
 goto L1;}
-mi=Sj;
-goto L59;}
+gi=Vj;
+goto L53;}
 z32(g);
-if(li&(ri>64)){
-switch(ri){
-case 67:special_named_1bc(g,a,b,c,ma,la,si,(u8*)t_6d4c,7);
+if(fi&(li>64)){
+switch(li){
+case 67:special_named_1bc(g,a,b,c,ma,la,mi,(u8*)t_6d4c,7);
 break;
-case 83:special_named_1bc(g,a,b,c,ma,la,si,(u8*)t_04e6,4);
+case 83:special_named_1bc(g,a,b,c,ma,la,mi,(u8*)t_04e6,4);
 break;
-default:*h=ri;
-special_named_1bc(g,a,b,c,ma,la,si,h,1);
+default:*h=li;
+special_named_1bc(g,a,b,c,ma,la,mi,h,1);
 break;}
-vi=*g;
-wi=g[8];
-xi=g[9];
-yi=r8(g+16);
-zi=g[24];}
+pi=*g;
+qi=g[8];
+ri=g[9];
+si=r8(g+16);
+ti=g[24];}
 else{
-vi=0;
-wi=0;
-xi=0;
-yi=0;
-zi=0;}
-Ai=vi;
-Bi=wi;
-Ci=xi;
-Di=yi;
-Ei=zi;
+pi=0;
+qi=0;
+ri=0;
+si=0;
+ti=0;}
+ui=pi;
+vi=qi;
+wi=ri;
+xi=si;
+yi=ti;
 break;
 case 0:if(la>=2){
 F=0;
@@ -97970,27 +97949,27 @@ goto L1;}
 if(a[80]&1){
 F=0;
 goto L1;}
-Tj=r8(a+192);
-if(Tj<c){
-if((u8)(*(b+Tj)-65)<26){
-if(r8(a+184)>ni){
-Uj=pi;
-Vj=oi;
-Wj=mi;}
+Wj=r8(a+192);
+if(Wj<c){
+if((u8)(*(b+Wj)-65)<26){
+if(r8(a+184)>hi){
+Xj=ji;
+Yj=ii;
+Zj=gi;}
 else{
-Xj=make_ready_e3c(a+152);
-if(!(Xj&1)){
+ak=make_ready_e3c(a+152);
+if(!(ak&1)){
 F=0;
 goto L1;}
-Yj=r8(a+160);
-Uj=Yj<<5;
-Vj=rp(a+152);
-Wj=Yj+1;}
-Zj=Vj+Uj;
-*Zj=1;
-Zj[1]=0;
-z17(Zj+8);
-w8(a+160,Wj);
+bk=r8(a+160);
+Xj=bk<<5;
+Yj=rp(a+152);
+Zj=bk+1;}
+ck=Yj+Xj;
+*ck=1;
+ck[1]=0;
+z17(ck+8);
+w8(a+160,Zj);
 memcpy(k,a,40);
 memcpy(a,a+40,40);
 memcpy(a+40,k,40);
@@ -98001,26 +97980,26 @@ ua=0;
 va=0;
 goto L4;}}
 z32(l);
-if(Tj==c){
-ak=1;
-bk=4;
-ck=0;
-dk=0;
-ek=0;}
+if(Wj==c){
+dk=1;
+ek=4;
+fk=0;
+gk=0;
+hk=0;}
 else{
 push_suffix_49c(l,a,b,c);
-ak=*l;
-bk=l[8];
-ck=l[9];
-dk=r8(l+16);
-ek=l[24];}
-Ai=ak;
-Bi=bk;
-Ci=ck;
-Di=dk;
-Ei=ek;
+dk=*l;
+ek=l[8];
+fk=l[9];
+gk=r8(l+16);
+hk=l[24];}
+ui=dk;
+vi=ek;
+wi=fk;
+xi=gk;
+yi=hk;
 break;
-case 1:if(!li){
+case 1:if(!fi){
 F=0;
 goto L1;}
 if(!(a[80]&1)){
@@ -98032,117 +98011,117 @@ memcpy(a+40,i,40);
 a[80]=0;
 z32(j);
 if(r8(a+192)==c){
-fk=1;
-gk=4;
-hk=0;
-ik=0;
-jk=0;}
+ik=1;
+jk=4;
+kk=0;
+lk=0;
+mk=0;}
 else{
 push_suffix_49c(j,a,b,c);
-fk=*j;
-gk=j[8];
-hk=j[9];
-ik=r8(j+16);
-jk=j[24];}
-Ai=fk;
-Bi=gk;
-Ci=hk;
-Di=ik;
-Ei=jk;
+ik=*j;
+jk=j[8];
+kk=j[9];
+lk=r8(j+16);
+mk=j[24];}
+ui=ik;
+vi=jk;
+wi=kk;
+xi=lk;
+yi=mk;
 break;
 case 12:switch(la){
-case 0:case 2:case 3:kk=r8(a+192);
-if(kk<c){
-if(*(b+kk)==69){
+case 0:case 2:case 3:nk=r8(a+192);
+if(nk<c){
+if(*(b+nk)==69){
 if(la==1){
 F=0;
 goto L1;}
-lk=ui&1;
-w8(a+192,kk+1);
-mk=lk?2:1;
-nk=lk?(u8*)t_b4da:(u8*)t_ba5e;
-ok=r8(a+8);
-if(r8(a+32)-ok<mk){
-pk=make_ready_8e3(a,mk,128);
-if(!(pk&1)){
+ok=oi&1;
+w8(a+192,nk+1);
+pk=ok?2:1;
+qk=ok?(u8*)t_b4da:(u8*)t_ba5e;
+rk=r8(a+8);
+if(r8(a+32)-rk<pk){
+sk=make_ready_8e3(a,pk,128);
+if(!(sk&1)){
 F=0;
 goto L1;}
-qk=r8(a+8);}
-else qk=ok;
-rk=r8(a+16);
-if(mk>rk-qk){
-sk=grow_amortized_2b6(a,mk);
-if(!sk){
+tk=r8(a+8);}
+else tk=rk;
+uk=r8(a+16);
+if(pk>uk-tk){
+vk=grow_amortized_2b6(a,pk);
+if(!vk){
 F=0;
 goto L1;}
-tk=r8(a+16);
-uk=r8(a+8);}
+wk=r8(a+16);
+xk=r8(a+8);}
 else{
-tk=rk;
-uk=qk;}
-vk=uk+mk;
-wk=rp(a);
+wk=uk;
+xk=tk;}
+yk=xk+pk;
+zk=rp(a);
 z16(a+8);
-xk=wk+(i64)uk;
-if((u64)xk-(u64)nk<mk)copy_bits_4f4(nk,xk,mk);
-else memcpy(xk,nk,mk);
-wp(a,wk);
-w8(a+8,vk);
-w8(a+16,tk);
-if(r8(a+136)<=si){
+Ak=zk+(i64)xk;
+if((u64)Ak-(u64)qk<pk)copy_bits_4f4(qk,Ak,pk);
+else memcpy(Ak,qk,pk);
+wp(a,zk);
+w8(a+8,yk);
+w8(a+16,wk);
+if(r8(a+136)<=mi){
 F=0;
 goto L1;}
-yk=r8(a+96);
-if(yk>65534){
+Bk=r8(a+96);
+if(Bk>65534){
 F=0;
 goto L1;}
-zk=a[80];
-if(r8(a+120)>yk)Ak=yk;
+Ck=a[80];
+if(r8(a+120)>Bk)Dk=Bk;
 else{
-Bk=make_ready_b73(a+88);
-if(!(Bk&1)){
-F=0;
-goto L1;}
-Ak=r8(a+96);}
-Ck=rp(a+88)+Ak*24;
-x8(Ck,ti);
-x8(Ck+8,vk);
-Ck[16]=3;
-Ck[17]=zk;
-z6(Ck+18);
-w8(a+96,Ak+1);
-w2(rp(a+128)+(i64)(si<<1),(u16)yk+1);
-sa=3;
-ta=ti;
-ua=0;
-va=2;
-goto L4;}}
-Dk=r8(a+8);
-if(r8(a+32)-Dk<2){
-Ek=make_ready_8e3(a,2,128);
+Ek=make_ready_b73(a+88);
 if(!(Ek&1)){
 F=0;
 goto L1;}
-Fk=r8(a+8);}
-else Fk=Dk;
-*(rp(a)+Fk)=44;
-*(rp(a)+(i64)Fk+1)=32;
-w8(a+8,Fk+2);
-Gk=r8(a+160);
-if(r8(a+184)>Gk)Hk=Gk;
-else{
-Ik=make_ready_e3c(a+152);
-if(!(Ik&1)){
+Dk=r8(a+96);}
+Fk=rp(a+88)+Dk*24;
+x8(Fk,ni);
+x8(Fk+8,yk);
+Fk[16]=3;
+Fk[17]=Ck;
+z6(Fk+18);
+w8(a+96,Dk+1);
+w2(rp(a+128)+(i64)(mi<<1),(u16)Bk+1);
+sa=3;
+ta=ni;
+ua=0;
+va=2;
+goto L4;}}
+Gk=r8(a+8);
+if(r8(a+32)-Gk<2){
+Hk=make_ready_8e3(a,2,128);
+if(!(Hk&1)){
 F=0;
 goto L1;}
-Hk=r8(a+160);}
-Jk=rp(a+152)+(Hk<<5);
-*Jk=12;
-Jk[1]=0;
-x8(Jk+8,si);
-x8(Jk+16,ti);
-Jk[24]=0;
-w8(a+160,Hk+1);
+Ik=r8(a+8);}
+else Ik=Gk;
+*(rp(a)+Ik)=44;
+*(rp(a)+(i64)Ik+1)=32;
+w8(a+8,Ik+2);
+Jk=r8(a+160);
+if(r8(a+184)>Jk)Kk=Jk;
+else{
+Lk=make_ready_e3c(a+152);
+if(!(Lk&1)){
+F=0;
+goto L1;}
+Kk=r8(a+160);}
+Mk=rp(a+152)+(Kk<<5);
+*Mk=12;
+Mk[1]=0;
+x8(Mk+8,mi);
+x8(Mk+16,ni);
+Mk[24]=0;
+w8(a+160,Kk+1);
 sa=0;
 ta=0;
 ua=0;
@@ -98153,14 +98132,14 @@ goto L1;
 default:NEVER;
 }
 break;
-case 3:Kk=ri&1;
+case 3:Nk=li&1;
 switch(la){
-case 0:if(Kk)goto L70;
+case 0:if(Nk)goto L64;
 break;
-case 1:if(Kk)goto L70;
+case 1:if(Nk)goto L64;
 F=0;
 goto L1;
-case 2:if(Kk){
+case 2:if(Nk){
 F=0;
 goto L1;}
 break;
@@ -98168,88 +98147,88 @@ case 3:case 4:F=0;
 goto L1;
 default:NEVER;
 }
-Lk=r8(a+8);
-if(r8(a+32)>Lk)Mk=Lk;
+Ok=r8(a+8);
+if(r8(a+32)>Ok)Pk=Ok;
 else{
-Nk=make_ready_8e3(a,1,16);
-if(!(Nk&1)){
+Qk=make_ready_8e3(a,1,16);
+if(!(Qk&1)){
 F=0;
 goto L1;}
-Mk=r8(a+8);}
-*(rp(a)+Mk)=60;
-w8(a+8,Mk+1);
-goto L71;
-L70:Ok=r8(a+8);
-if(r8(a+32)-Ok<3){
-Pk=make_ready_8e3(a,3,128);
-if(!(Pk&1)){
+Pk=r8(a+8);}
+*(rp(a)+Pk)=60;
+w8(a+8,Pk+1);
+goto L65;
+L64:Rk=r8(a+8);
+if(r8(a+32)-Rk<3){
+Sk=make_ready_8e3(a,3,128);
+if(!(Sk&1)){
 F=0;
 goto L1;}
-Qk=r8(a+8);}
-else Qk=Ok;
-Rk=r8(a+16);
-if(Rk-Qk<3){
-Sk=grow_amortized_2b6(a,3);
-if(!Sk){
+Tk=r8(a+8);}
+else Tk=Rk;
+Uk=r8(a+16);
+if(Uk-Tk<3){
+Vk=grow_amortized_2b6(a,3);
+if(!Vk){
 F=0;
 goto L1;}
-Tk=r8(a+16);
-Uk=r8(a+8);}
+Wk=r8(a+16);
+Xk=r8(a+8);}
 else{
-Tk=Rk;
-Uk=Qk;}
-Vk=Uk+3;
-Wk=rp(a);
+Wk=Uk;
+Xk=Tk;}
+Yk=Xk+3;
+Zk=rp(a);
 z16(a+8);
-Xk=Wk+(i64)Uk;
-if((u64)Xk-(u64)(u8*)t_c207<3)copy_bits_4f4((u8*)t_c207,Xk,3);
-else memcpy(Xk,(u8*)t_c207,3);
-wp(a,Wk);
-w8(a+8,Vk);
-w8(a+16,Tk);
-L71:Yk=ri&1;
-Zk=r8(a+160);
-if(r8(a+184)>Zk)al=Zk;
+al=Zk+(i64)Xk;
+if((u64)al-(u64)(u8*)t_c207<3)copy_bits_4f4((u8*)t_c207,al,3);
+else memcpy(al,(u8*)t_c207,3);
+wp(a,Zk);
+w8(a+8,Yk);
+w8(a+16,Wk);
+L65:bl=li&1;
+cl=r8(a+160);
+if(r8(a+184)>cl)dl=cl;
 else{
-bl=make_ready_e3c(a+152);
-if(!(bl&1)){
+el=make_ready_e3c(a+152);
+if(!(el&1)){
 F=0;
 goto L1;}
-al=r8(a+160);}
-cl=rp(a+152)+(al<<5);
-*cl=4;
-cl[1]=0;
-x8(cl+8,si);
-x8(cl+16,ma);
-cl[24]=Yk;
-w8(a+160,al+1);
+dl=r8(a+160);}
+fl=rp(a+152)+(dl<<5);
+*fl=4;
+fl[1]=0;
+x8(fl+8,mi);
+x8(fl+16,ma);
+fl[24]=bl;
+w8(a+160,dl+1);
 sa=0;
 ta=0;
 ua=1;
 va=3;
 goto L4;
 case 4:switch(la){
-case 0:case 2:case 3:dl=ui&1;
-if(r8(a+184)>ni){
-el=pi;
-fl=oi;
-gl=mi;}
+case 0:case 2:case 3:gl=oi&1;
+if(r8(a+184)>hi){
+hl=ji;
+il=ii;
+jl=gi;}
 else{
-hl=make_ready_e3c(a+152);
-if(!(hl&1)){
+kl=make_ready_e3c(a+152);
+if(!(kl&1)){
 F=0;
 goto L1;}
-il=r8(a+160);
-el=il<<5;
-fl=rp(a+152);
-gl=il+1;}
-jl=fl+el;
-*jl=4;
-jl[1]=0;
-x8(jl+8,si);
-x8(jl+16,ti);
-jl[24]=dl;
-w8(a+160,gl);
+ll=r8(a+160);
+hl=ll<<5;
+il=rp(a+152);
+jl=ll+1;}
+ml=il+hl;
+*ml=4;
+ml[1]=0;
+x8(ml+8,mi);
+x8(ml+16,ni);
+ml[24]=gl;
+w8(a+160,jl);
 sa=0;
 ta=0;
 ua=0;
@@ -98260,7 +98239,7 @@ goto L1;
 default:NEVER;
 }
 break;
-case 5:if(!li){
+case 5:if(!fi){
 F=0;
 goto L1;}
 if(!(a[80]&1)){
@@ -98270,64 +98249,64 @@ memcpy(f,a,40);
 memcpy(a,a+40,40);
 memcpy(a+40,f,40);
 a[80]=0;
-kl=r8(a+8);
-if(r8(a+32)>kl)ll=kl;
+nl=r8(a+8);
+if(r8(a+32)>nl)ol=nl;
 else{
-ml=make_ready_8e3(a,1,16);
-if(!(ml&1)){
-F=0;
-goto L1;}
-ll=r8(a+8);}
-*(rp(a)+ll)=60;
-w8(a+8,ll+1);
-nl=r8(a+160);
-if(r8(a+184)>nl)ol=nl;
-else{
-pl=make_ready_e3c(a+152);
+pl=make_ready_8e3(a,1,16);
 if(!(pl&1)){
 F=0;
 goto L1;}
-ol=r8(a+160);}
-ql=rp(a+152)+(ol<<5);
-*ql=9;
-ql[1]=0;
-x8(ql+8,si);
-x8(ql+16,kl);
-ql[24]=2;
-w8(a+160,ol+1);
+ol=r8(a+8);}
+*(rp(a)+ol)=60;
+w8(a+8,ol+1);
+ql=r8(a+160);
+if(r8(a+184)>ql)rl=ql;
+else{
+sl=make_ready_e3c(a+152);
+if(!(sl&1)){
+F=0;
+goto L1;}
+rl=r8(a+160);}
+tl=rp(a+152)+(rl<<5);
+*tl=9;
+tl[1]=0;
+x8(tl+8,mi);
+x8(tl+16,nl);
+tl[24]=2;
+w8(a+160,rl+1);
 sa=0;
 ta=0;
 ua=0;
 va=1;
 goto L4;
-case 9:switch(ui){
+case 9:switch(oi){
 case 0:switch(la){
-case 0:case 2:case 3:if(r8(a+136)<=si){
+case 0:case 2:case 3:if(r8(a+136)<=mi){
 F=0;
 goto L1;}
-rl=r8(a+96);
-if(rl>65534){
+ul=r8(a+96);
+if(ul>65534){
 F=0;
 goto L1;}
-sl=r8(a+8);
-tl=a[80];
-if(r8(a+120)>rl)ul=rl;
+vl=r8(a+8);
+wl=a[80];
+if(r8(a+120)>ul)xl=ul;
 else{
-vl=make_ready_b73(a+88);
-if(!(vl&1)){
+yl=make_ready_b73(a+88);
+if(!(yl&1)){
 F=0;
 goto L1;}
-ul=r8(a+96);}
-wl=rp(a+88)+ul*24;
-x8(wl,ti);
-x8(wl+8,sl);
-wl[16]=3;
-wl[17]=tl;
-z6(wl+18);
-w8(a+96,ul+1);
-w2(rp(a+128)+(i64)(si<<1),(u16)rl+1);
+xl=r8(a+96);}
+zl=rp(a+88)+xl*24;
+x8(zl,ni);
+x8(zl+8,vl);
+zl[16]=3;
+zl[17]=wl;
+z6(zl+18);
+w8(a+96,xl+1);
+w2(rp(a+128)+(i64)(mi<<1),(u16)ul+1);
 sa=3;
-ta=ti;
+ta=ni;
 ua=0;
 va=2;
 goto L4;
@@ -98337,42 +98316,42 @@ default:NEVER;
 }
 break;
 case 1:switch(la){
-case 0:case 2:case 3:xl=r8(a+8);
-if(r8(a+32)>xl)yl=xl;
+case 0:case 2:case 3:Al=r8(a+8);
+if(r8(a+32)>Al)Bl=Al;
 else{
-zl=make_ready_8e3(a,1,16);
-if(!(zl&1)){
+Cl=make_ready_8e3(a,1,16);
+if(!(Cl&1)){
 F=0;
 goto L1;}
-yl=r8(a+8);}
-*(rp(a)+yl)=93;
-Al=yl+1;
-w8(a+8,Al);
-if(r8(a+136)<=si){
+Bl=r8(a+8);}
+*(rp(a)+Bl)=93;
+Dl=Bl+1;
+w8(a+8,Dl);
+if(r8(a+136)<=mi){
 F=0;
 goto L1;}
-Bl=r8(a+96);
-if(Bl>65534){
+El=r8(a+96);
+if(El>65534){
 F=0;
 goto L1;}
-Cl=a[80];
-if(r8(a+120)>Bl)Dl=Bl;
+Fl=a[80];
+if(r8(a+120)>El)Gl=El;
 else{
-El=make_ready_b73(a+88);
-if(!(El&1)){
+Hl=make_ready_b73(a+88);
+if(!(Hl&1)){
 F=0;
 goto L1;}
-Dl=r8(a+96);}
-Fl=rp(a+88)+Dl*24;
-x8(Fl,ti);
-x8(Fl+8,Al);
-Fl[16]=3;
-Fl[17]=Cl;
-z6(Fl+18);
-w8(a+96,Dl+1);
-w2(rp(a+128)+(i64)(si<<1),(u16)Bl+1);
+Gl=r8(a+96);}
+Il=rp(a+88)+Gl*24;
+x8(Il,ni);
+x8(Il+8,Dl);
+Il[16]=3;
+Il[17]=Fl;
+z6(Il+18);
+w8(a+96,Gl+1);
+w2(rp(a+128)+(i64)(mi<<1),(u16)El+1);
 sa=3;
-ta=ti;
+ta=ni;
 ua=0;
 va=2;
 goto L4;
@@ -98382,42 +98361,42 @@ default:NEVER;
 }
 break;
 case 2:switch(la){
-case 0:case 2:case 3:Gl=r8(a+8);
-if(r8(a+32)>Gl)Hl=Gl;
+case 0:case 2:case 3:Jl=r8(a+8);
+if(r8(a+32)>Jl)Kl=Jl;
 else{
-Il=make_ready_8e3(a,1,16);
-if(!(Il&1)){
+Ll=make_ready_8e3(a,1,16);
+if(!(Ll&1)){
 F=0;
 goto L1;}
-Hl=r8(a+8);}
-*(rp(a)+Hl)=62;
-Jl=Hl+1;
-w8(a+8,Jl);
-if(r8(a+136)<=si){
+Kl=r8(a+8);}
+*(rp(a)+Kl)=62;
+Ml=Kl+1;
+w8(a+8,Ml);
+if(r8(a+136)<=mi){
 F=0;
 goto L1;}
-Kl=r8(a+96);
-if(Kl>65534){
+Nl=r8(a+96);
+if(Nl>65534){
 F=0;
 goto L1;}
-Ll=a[80];
-if(r8(a+120)>Kl)Ml=Kl;
+Ol=a[80];
+if(r8(a+120)>Nl)Pl=Nl;
 else{
-Nl=make_ready_b73(a+88);
-if(!(Nl&1)){
+Ql=make_ready_b73(a+88);
+if(!(Ql&1)){
 F=0;
 goto L1;}
-Ml=r8(a+96);}
-Ol=rp(a+88)+Ml*24;
-x8(Ol,ti);
-x8(Ol+8,Jl);
-Ol[16]=0;
-Ol[17]=Ll;
-z6(Ol+18);
-w8(a+96,Ml+1);
-w2(rp(a+128)+(i64)(si<<1),(u16)Kl+1);
+Pl=r8(a+96);}
+Rl=rp(a+88)+Pl*24;
+x8(Rl,ni);
+x8(Rl+8,Ml);
+Rl[16]=0;
+Rl[17]=Ol;
+z6(Rl+18);
+w8(a+96,Pl+1);
+w2(rp(a+128)+(i64)(mi<<1),(u16)Nl+1);
 sa=0;
-ta=ti;
+ta=ni;
 ua=0;
 va=2;
 goto L4;
@@ -98430,96 +98409,96 @@ default:NEVER;
 }
 break;
 case 13:switch(la){
-case 0:case 2:Pl=r8(a+192);
-if(Pl<c){
-if(*(b+Pl)==69){
-Ql=Pl+1;
-if(Ql>=c){
+case 0:case 2:Sl=r8(a+192);
+if(Sl<c){
+if(*(b+Sl)==69){
+Tl=Sl+1;
+if(Tl>=c){
 F=0;
 goto L1;}
-if(*(b+Ql)!=76){
+if(*(b+Tl)!=76){
 F=0;
 goto L1;}
-Rl=Pl+2;
-if(Rl>=c){
+Ul=Sl+2;
+if(Ul>=c){
 F=0;
 goto L1;}
-if(*(b+Rl)!=95){
+if(*(b+Ul)!=95){
 F=0;
 goto L1;}
-w8(a+192,Pl+3);
-if(r8(a+136)<=si){
+w8(a+192,Sl+3);
+if(r8(a+136)<=mi){
 F=0;
 goto L1;}
-Sl=r8(a+96);
-if(Sl>65534){
+Vl=r8(a+96);
+if(Vl>65534){
 F=0;
 goto L1;}
-Tl=r8(a+8);
-Ul=a[80];
-if(r8(a+120)>Sl)Vl=Sl;
+Wl=r8(a+8);
+Xl=a[80];
+if(r8(a+120)>Vl)Yl=Vl;
 else{
-Wl=make_ready_b73(a+88);
-if(!(Wl&1)){
-F=0;
-goto L1;}
-Vl=r8(a+96);}
-Xl=rp(a+88)+Vl*24;
-x8(Xl,ti);
-x8(Xl+8,Tl);
-Xl[16]=3;
-Xl[17]=Ul;
-z6(Xl+18);
-w8(a+96,Vl+1);
-w2(rp(a+128)+(i64)(si<<1),(u16)Sl+1);
-sa=3;
-ta=ti;
-ua=0;
-va=2;
-goto L4;}}
-Yl=r8(a+8);
-if(r8(a+32)-Yl<3){
-Zl=make_ready_8e3(a,3,128);
+Zl=make_ready_b73(a+88);
 if(!(Zl&1)){
 F=0;
 goto L1;}
-am=r8(a+8);}
-else am=Yl;
-bm=r8(a+16);
-if(bm-am<3){
-cm=grow_amortized_2b6(a,3);
-if(!cm){
+Yl=r8(a+96);}
+am=rp(a+88)+Yl*24;
+x8(am,ni);
+x8(am+8,Wl);
+am[16]=3;
+am[17]=Xl;
+z6(am+18);
+w8(a+96,Yl+1);
+w2(rp(a+128)+(i64)(mi<<1),(u16)Vl+1);
+sa=3;
+ta=ni;
+ua=0;
+va=2;
+goto L4;}}
+bm=r8(a+8);
+if(r8(a+32)-bm<3){
+cm=make_ready_8e3(a,3,128);
+if(!(cm&1)){
 F=0;
 goto L1;}
-dm=r8(a+16);
-em=r8(a+8);}
+dm=r8(a+8);}
+else dm=bm;
+em=r8(a+16);
+if(em-dm<3){
+fm=grow_amortized_2b6(a,3);
+if(!fm){
+F=0;
+goto L1;}
+gm=r8(a+16);
+hm=r8(a+8);}
 else{
-dm=bm;
-em=am;}
-fm=em+3;
-gm=rp(a);
+gm=em;
+hm=dm;}
+im=hm+3;
+jm=rp(a);
 z16(a+8);
-hm=gm+(i64)em;
-if((u64)hm-(u64)(u8*)t_4620<3)copy_bits_4f4((u8*)t_4620,hm,3);
-else memcpy(hm,(u8*)t_4620,3);
-wp(a,gm);
-w8(a+8,fm);
-w8(a+16,dm);
-im=r8(a+160);
-if(r8(a+184)>im)jm=im;
+km=jm+(i64)hm;
+if((u64)km-(u64)(u8*)t_4620<3)copy_bits_4f4((u8*)t_4620,km,3);
+else memcpy(km,(u8*)t_4620,3);
+wp(a,jm);
+w8(a+8,im);
+w8(a+16,gm);
+lm=r8(a+160);
+if(r8(a+184)>lm)mm=lm;
 else{
-km=make_ready_e3c(a+152);
-if(!(km&1)){
+nm=make_ready_e3c(a+152);
+if(!(nm&1)){
 F=0;
 goto L1;}
-jm=r8(a+160);}
-lm=rp(a+152)+(jm<<5);
-*lm=13;
-lm[1]=0;
-x8(lm+8,si);
-x8(lm+16,ti);
-lm[24]=0;
-w8(a+160,jm+1);
+mm=r8(a+160);}
+om=rp(a+152)+(mm<<5);
+*om=13;
+om[1]=0;
+x8(om+8,mi);
+x8(om+16,ni);
+om[24]=0;
+w8(a+160,mm+1);
 sa=0;
 ta=0;
 ua=0;
@@ -98531,85 +98510,85 @@ default:NEVER;
 }
 break;
 case 14:switch(la){
-case 0:case 2:case 3:mm=r8(a+192);
-nm=r8(a+8);
-if(r8(a+32)-nm<2){
-om=make_ready_8e3(a,2,128);
-if(!(om&1)){
+case 0:case 2:case 3:pm=r8(a+192);
+qm=r8(a+8);
+if(r8(a+32)-qm<2){
+rm=make_ready_8e3(a,2,128);
+if(!(rm&1)){
 F=0;
 goto L1;}
-pm=r8(a+8);}
-else pm=nm;
-*(rp(a)+pm)=59;
-*(rp(a)+(i64)pm+1)=32;
-qm=pm+2;
-w8(a+8,qm);
-rm=constant_at_b72(a,b,c,mm);
-if(rm.f0!=1){
+sm=r8(a+8);}
+else sm=qm;
+*(rp(a)+sm)=59;
+*(rp(a)+(i64)sm+1)=32;
+tm=sm+2;
+w8(a+8,tm);
+um=constant_at_b72(a,b,c,pm);
+if(um.f0!=1){
 F=0;
 goto L1;}
-if(r8(a+136)<=mm){
+if(r8(a+136)<=pm){
 F=0;
 goto L1;}
-sm=r8(a+96);
-if(sm>65534){
+vm=r8(a+96);
+if(vm>65534){
 F=0;
 goto L1;}
-tm=rm.f1;
-um=r8(a+8);
-vm=a[80];
-if(r8(a+120)>sm)wm=sm;
+wm=um.f1;
+xm=r8(a+8);
+ym=a[80];
+if(r8(a+120)>vm)zm=vm;
 else{
-xm=make_ready_b73(a+88);
-if(!(xm&1)){
+Am=make_ready_b73(a+88);
+if(!(Am&1)){
 F=0;
 goto L1;}
-wm=r8(a+96);}
-ym=rp(a+88)+wm*24;
-x8(ym,qm);
-x8(ym+8,um);
-ym[16]=4;
-ym[17]=vm;
-z6(ym+18);
-w8(a+96,wm+1);
-w2(rp(a+128)+(i64)(mm<<1),(u16)sm+1);
-w8(a+192,tm);
-zm=r8(a+8);
-if(r8(a+32)>zm)Am=zm;
+zm=r8(a+96);}
+Bm=rp(a+88)+zm*24;
+x8(Bm,tm);
+x8(Bm+8,xm);
+Bm[16]=4;
+Bm[17]=ym;
+z6(Bm+18);
+w8(a+96,zm+1);
+w2(rp(a+128)+(i64)(pm<<1),(u16)vm+1);
+w8(a+192,wm);
+Cm=r8(a+8);
+if(r8(a+32)>Cm)Dm=Cm;
 else{
-Bm=make_ready_8e3(a,1,16);
-if(!(Bm&1)){
+Em=make_ready_8e3(a,1,16);
+if(!(Em&1)){
 F=0;
 goto L1;}
-Am=r8(a+8);}
-*(rp(a)+Am)=93;
-Cm=Am+1;
-w8(a+8,Cm);
-if(r8(a+136)<=si){
+Dm=r8(a+8);}
+*(rp(a)+Dm)=93;
+Fm=Dm+1;
+w8(a+8,Fm);
+if(r8(a+136)<=mi){
 F=0;
 goto L1;}
-Dm=r8(a+96);
-if(Dm>65534){
+Gm=r8(a+96);
+if(Gm>65534){
 F=0;
 goto L1;}
-Em=a[80];
-if(r8(a+120)>Dm)Fm=Dm;
+Hm=a[80];
+if(r8(a+120)>Gm)Im=Gm;
 else{
-Gm=make_ready_b73(a+88);
-if(!(Gm&1)){
+Jm=make_ready_b73(a+88);
+if(!(Jm&1)){
 F=0;
 goto L1;}
-Fm=r8(a+96);}
-Hm=rp(a+88)+Fm*24;
-x8(Hm,ti);
-x8(Hm+8,Cm);
-Hm[16]=3;
-Hm[17]=Em;
-z6(Hm+18);
-w8(a+96,Fm+1);
-w2(rp(a+128)+(i64)(si<<1),(u16)Dm+1);
+Im=r8(a+96);}
+Km=rp(a+88)+Im*24;
+x8(Km,ni);
+x8(Km+8,Fm);
+Km[16]=3;
+Km[17]=Hm;
+z6(Km+18);
+w8(a+96,Im+1);
+w2(rp(a+128)+(i64)(mi<<1),(u16)Gm+1);
 sa=3;
-ta=ti;
+ta=ni;
 ua=0;
 va=2;
 goto L4;
@@ -98618,7 +98597,7 @@ goto L1;
 default:NEVER;
 }
 break;
-case 6:if(!li){
+case 6:if(!fi){
 F=0;
 goto L1;}
 if(!(a[80]&1)){
@@ -98628,146 +98607,146 @@ memcpy(e,a,40);
 memcpy(a,a+40,40);
 memcpy(a+40,e,40);
 a[80]=0;
-Im=r8(a+8);
-if(r8(a+32)>Im)Jm=Im;
+Lm=r8(a+8);
+if(r8(a+32)>Lm)Mm=Lm;
 else{
-Km=make_ready_8e3(a,1,16);
-if(!(Km&1)){
-F=0;
-goto L1;}
-Jm=r8(a+8);}
-*(rp(a)+Jm)=60;
-w8(a+8,Jm+1);
-Lm=r8(a+160);
-if(r8(a+184)>Lm)Mm=Lm;
-else{
-Nm=make_ready_e3c(a+152);
+Nm=make_ready_8e3(a,1,16);
 if(!(Nm&1)){
 F=0;
 goto L1;}
-Mm=r8(a+160);}
-Om=rp(a+152)+(Mm<<5);
-*Om=10;
-Om[1]=0;
-x8(Om+8,si);
-x8(Om+16,Im);
-Om[24]=0;
-w8(a+160,Mm+1);
+Mm=r8(a+8);}
+*(rp(a)+Mm)=60;
+w8(a+8,Mm+1);
+Om=r8(a+160);
+if(r8(a+184)>Om)Pm=Om;
+else{
+Qm=make_ready_e3c(a+152);
+if(!(Qm&1)){
+F=0;
+goto L1;}
+Pm=r8(a+160);}
+Rm=rp(a+152)+(Pm<<5);
+*Rm=10;
+Rm[1]=0;
+x8(Rm+8,mi);
+x8(Rm+16,Lm);
+Rm[24]=0;
+w8(a+160,Pm+1);
 sa=0;
 ta=0;
 ua=0;
 va=1;
 goto L4;
-case 7:if(!li){
+case 7:if(!fi){
 F=0;
 goto L1;}
-Pm=r8(a+8);
-if(r8(a+32)>Pm)Qm=Pm;
+Sm=r8(a+8);
+if(r8(a+32)>Sm)Tm=Sm;
 else{
-Rm=make_ready_8e3(a,1,16);
-if(!(Rm&1)){
-F=0;
-goto L1;}
-Qm=r8(a+8);}
-*(rp(a)+Qm)=60;
-w8(a+8,Qm+1);
-Sm=r8(a+160);
-if(r8(a+184)>Sm)Tm=Sm;
-else{
-Um=make_ready_e3c(a+152);
+Um=make_ready_8e3(a,1,16);
 if(!(Um&1)){
 F=0;
 goto L1;}
-Tm=r8(a+160);}
-Vm=rp(a+152)+(Tm<<5);
-*Vm=9;
-Vm[1]=0;
-x8(Vm+8,si);
-x8(Vm+16,Pm);
-Vm[24]=2;
-w8(a+160,Tm+1);
+Tm=r8(a+8);}
+*(rp(a)+Tm)=60;
+w8(a+8,Tm+1);
+Vm=r8(a+160);
+if(r8(a+184)>Vm)Wm=Vm;
+else{
+Xm=make_ready_e3c(a+152);
+if(!(Xm&1)){
+F=0;
+goto L1;}
+Wm=r8(a+160);}
+Ym=rp(a+152)+(Wm<<5);
+*Ym=9;
+Ym[1]=0;
+x8(Ym+8,mi);
+x8(Ym+16,Sm);
+Ym[24]=2;
+w8(a+160,Wm+1);
 sa=0;
 ta=0;
 ua=0;
 va=1;
 goto L4;
-case 8:if(!li){
+case 8:if(!fi){
 F=0;
 goto L1;}
-Wm=r8(a+8);
-if(r8(a+32)>Wm)Xm=Wm;
+Zm=r8(a+8);
+if(r8(a+32)>Zm)an=Zm;
 else{
-Ym=make_ready_8e3(a,1,16);
-if(!(Ym&1)){
-F=0;
-goto L1;}
-Xm=r8(a+8);}
-*(rp(a)+Xm)=60;
-w8(a+8,Xm+1);
-Zm=r8(a+160);
-if(r8(a+184)>Zm)an=Zm;
-else{
-bn=make_ready_e3c(a+152);
+bn=make_ready_8e3(a,1,16);
 if(!(bn&1)){
 F=0;
 goto L1;}
-an=r8(a+160);}
-cn=rp(a+152)+(an<<5);
-*cn=10;
-cn[1]=0;
-x8(cn+8,si);
-x8(cn+16,Wm);
-cn[24]=0;
-w8(a+160,an+1);
+an=r8(a+8);}
+*(rp(a)+an)=60;
+w8(a+8,an+1);
+cn=r8(a+160);
+if(r8(a+184)>cn)dn=cn;
+else{
+en=make_ready_e3c(a+152);
+if(!(en&1)){
+F=0;
+goto L1;}
+dn=r8(a+160);}
+fn=rp(a+152)+(dn<<5);
+*fn=10;
+fn[1]=0;
+x8(fn+8,mi);
+x8(fn+16,Zm);
+fn[24]=0;
+w8(a+160,dn+1);
 sa=0;
 ta=0;
 ua=0;
 va=1;
 goto L4;
 case 10:switch(la){
-case 0:case 2:case 3:dn=r8(a+8);
-if(r8(a+32)-dn<4){
-en=make_ready_8e3(a,4,128);
-if(!(en&1)){
+case 0:case 2:case 3:gn=r8(a+8);
+if(r8(a+32)-gn<4){
+hn=make_ready_8e3(a,4,128);
+if(!(hn&1)){
 F=0;
 goto L1;}
-fn=r8(a+8);}
-else fn=dn;
-gn=r8(a+16);
-if(gn-fn<4){
-hn=grow_amortized_2b6(a,4);
-if(!hn){
+in=r8(a+8);}
+else in=gn;
+jn=r8(a+16);
+if(jn-in<4){
+kn=grow_amortized_2b6(a,4);
+if(!kn){
 F=0;
 goto L1;}
-in=r8(a+16);
-jn=r8(a+8);}
+ln=r8(a+16);
+mn=r8(a+8);}
 else{
-in=gn;
-jn=fn;}
-kn=jn+4;
-ln=rp(a);
+ln=jn;
+mn=in;}
+nn=mn+4;
+on=rp(a);
 z16(a+8);
-mn=ln+(i64)jn;
-if((u64)mn-(u64)(u8*)t_fa21<4)copy_bits_4f4((u8*)t_fa21,mn,4);
-else x4(mn,544432416);
-wp(a,ln);
-w8(a+8,kn);
-w8(a+16,in);
-nn=r8(a+160);
-if(r8(a+184)>nn)on=nn;
+pn=on+(i64)mn;
+if((u64)pn-(u64)(u8*)t_fa21<4)copy_bits_4f4((u8*)t_fa21,pn,4);
+else x4(pn,544432416);
+wp(a,on);
+w8(a+8,nn);
+w8(a+16,ln);
+qn=r8(a+160);
+if(r8(a+184)>qn)rn=qn;
 else{
-pn=make_ready_e3c(a+152);
-if(!(pn&1)){
+sn=make_ready_e3c(a+152);
+if(!(sn&1)){
 F=0;
 goto L1;}
-on=r8(a+160);}
-qn=rp(a+152)+(on<<5);
-*qn=11;
-qn[1]=0;
-x8(qn+8,si);
-x8(qn+16,ti);
-qn[24]=0;
-w8(a+160,on+1);
+rn=r8(a+160);}
+tn=rp(a+152)+(rn<<5);
+*tn=11;
+tn[1]=0;
+x8(tn+8,mi);
+x8(tn+16,ni);
+tn[24]=0;
+w8(a+160,rn+1);
 sa=0;
 ta=0;
 ua=0;
@@ -98779,42 +98758,42 @@ default:NEVER;
 }
 break;
 case 11:switch(la){
-case 0:case 2:rn=r8(a+8);
-if(r8(a+32)>rn)sn=rn;
+case 0:case 2:un=r8(a+8);
+if(r8(a+32)>un)vn=un;
 else{
-tn=make_ready_8e3(a,1,16);
-if(!(tn&1)){
+wn=make_ready_8e3(a,1,16);
+if(!(wn&1)){
 F=0;
 goto L1;}
-sn=r8(a+8);}
-*(rp(a)+sn)=62;
-un=sn+1;
-w8(a+8,un);
-if(r8(a+136)<=si){
+vn=r8(a+8);}
+*(rp(a)+vn)=62;
+xn=vn+1;
+w8(a+8,xn);
+if(r8(a+136)<=mi){
 F=0;
 goto L1;}
-vn=r8(a+96);
-if(vn>65534){
+yn=r8(a+96);
+if(yn>65534){
 F=0;
 goto L1;}
-wn=a[80];
-if(r8(a+120)>vn)xn=vn;
+zn=a[80];
+if(r8(a+120)>yn)An=yn;
 else{
-yn=make_ready_b73(a+88);
-if(!(yn&1)){
+Bn=make_ready_b73(a+88);
+if(!(Bn&1)){
 F=0;
 goto L1;}
-xn=r8(a+96);}
-zn=rp(a+88)+xn*24;
-x8(zn,ti);
-x8(zn+8,un);
-zn[16]=0;
-zn[17]=wn;
-z6(zn+18);
-w8(a+96,xn+1);
-w2(rp(a+128)+(i64)(si<<1),(u16)vn+1);
+An=r8(a+96);}
+Cn=rp(a+88)+An*24;
+x8(Cn,ni);
+x8(Cn+8,xn);
+Cn[16]=0;
+Cn[17]=zn;
+z6(Cn+18);
+w8(a+96,An+1);
+w2(rp(a+128)+(i64)(mi<<1),(u16)yn+1);
 sa=0;
-ta=ti;
+ta=ni;
 ua=0;
 va=2;
 goto L4;
@@ -98825,16 +98804,16 @@ default:NEVER;
 break;
 default:NEVER;
 }
-if(Ai!=1){
+if(ui!=1){
 F=0;
 goto L1;}
-sa=Ei;
-ta=Di;
-ua=Ci;
-va=Bi;
-L4:An=N+1;
-if(An!=M){
-N=An;
+sa=yi;
+ta=xi;
+ua=wi;
+va=vi;
+L4:Dn=N+1;
+if(Dn!=M){
+N=Dn;
 O=sa;
 P=ta;
 Q=ua;
@@ -111074,231 +111053,357 @@ L8:return G;
 }
 
 /* symbol_parts::languages::LanguagesParser::parse */
-static void parse_fb3(u8* a,u8* b,u8 c,u8* d,u64 e)
+static void parse_fb3(u8* a,u8* b,u8 c,u32 d,u8* e,u64 f)
 {
-u8 r[7];
-A16 u8 f[32],g[176],h[12],i[12],j[72],k[96],l[16],m[24],n[72],o[88],p[84],q[20],s[64];
-u32 t,G,J,aa,oa,xa,Da,Ga,Ia;
-u8 u,C,H,I,Z,ba,ca,ha,ia,pa,wa,Ea,Fa,Ha,La,Ma;
-u64 v,x,y,A,B,D,E,L,N,P,R,T,V,W,X,ea,ga,la,na,ra,ta,va,Aa,Ca,Ka;
-u8 *w,*z,*F,*M,*O,*Q,*S,*U,*Y,*da,*fa,*ja,*ka,*ma,*qa,*sa,*ua,*ya,*za,*Ba,*Ja;
-s_64_64 K;
-z64(s);
-t=r4(b);
-u=b[4];
+u8 x[7];
+A16 u8 g[184],h[12],i[72],j[32],k[176],l[12],m[12],n[72],o[96],p[16],q[24],r[72],s[88],t[176],u[84],v[172],w[32],y[64],z[52],A[64],B[56];
+u32 C,P,S,ma,wa,ya,Aa,Ha,Va,eb,kb,nb,pb,sb,vb;
+u8 D,L,Q,R,ua,va,xa,za,Ba,Ca,Da,Ga,Pa,Wa,db,lb,mb,ob,tb,ub;
+u64 E,G,H,J,K,M,N,U,W,Y,aa,ca,ea,fa,ga,ia,ja,ka,oa,qa,ra,ta,Ja,Ma,Oa,Sa,Ua,Ya,ab,cb,hb,jb,rb;
+u8 *F,*I,*O,*V,*X,*Z,*ba,*da,*ha,*la,*na,*pa,*sa,*Ea,*Fa,*Ia,*Ka,*La,*Na,*Qa,*Ra,*Ta,*Xa,*Za,*bb,*fb,*gb,*ib,*qb;
+s_64_64 T;
+z52(z);
+z64(A);
+z56(B);
+C=r4(b);
+D=b[4];
+z64(y);
 if(c==0){
-z88(o);
-z84(p);
-z20(q);
-z7(r);
-z96(k);
-z72(n);
-wp(j+8,(u8*)65536);
-w8(j+24,0);
-wp(j+32,(u8*)65536);
-z24(j+48);
-z12(i);
-w4(j,0);
-w4(j+4,0);
-w8(j+16,0);
-w8(j+40,0);
-w8(j+56,0);
-w4(j+64,0);
-run_888(i,j,d,e,1);
-if(*i==0){
-v=r8(j);
-w=rp(j+8);
-x=r8(j+16);
-y=r8(j+24);
-z=rp(j+32);
-A=r8(j+40);
-B=r8(j+48);
-memcpy(l,j+56,16);
-wp(m,(u8*)65536);
-z16(m+8);
-C=grow_amortized_2b6(m,e);
-if(C){
-D=r8(m+8);
-E=D+e;
-F=rp(m)+(i64)D;
-if((u64)F-(u64)d<e)copy_bits_4f4(d,F,e);
-else memmove(F,d,e);
-w8(m+8,E);
-w8(n,v);
-wp(n+8,w);
-w8(n+16,x);
-w8(n+24,y);
-wp(n+32,z);
-w8(n+40,A);
-w8(n+48,B);
-memcpy(n+56,l,16);
-link_eb4(k,m,n);
-G=r4(k+8);
-H=*k;
-I=k[4];
-memcpy(p,k+12,84);
-if(H!=0){
-Da=G;
-Ea=I;
+z88(s);
+zero_all(t,176);
+z84(u);
+zero_all(v,172);
+z32(w);
+z7(x);
+z96(o);
+z72(r);
+wp(n+8,(u8*)65536);
+w8(n+24,0);
+wp(n+32,(u8*)65536);
+z24(n+48);
+z12(m);
+w4(n,0);
+w4(n+4,0);
+w8(n+16,0);
+w8(n+40,0);
+w8(n+56,0);
+w4(n+64,0);
+run_888(m,n,e,f,1);
+if(*m==0){
+E=r8(n);
+F=rp(n+8);
+G=r8(n+16);
+H=r8(n+24);
+I=rp(n+32);
+J=r8(n+40);
+K=r8(n+48);
+memcpy(p,n+56,16);
+wp(q,(u8*)65536);
+z16(q+8);
+L=grow_amortized_2b6(q,f);
+if(L){
+M=r8(q+8);
+N=M+f;
+O=rp(q)+(i64)M;
+if((u64)O-(u64)e<f)copy_bits_4f4(e,O,f);
+else memmove(O,e,f);
+w8(q+8,N);
+w8(r,E);
+wp(r+8,F);
+w8(r+16,G);
+w8(r+24,H);
+wp(r+32,I);
+w8(r+40,J);
+w8(r+48,K);
+memcpy(r+56,p,16);
+link_eb4(o,q,r);
+P=r4(o+8);
+Q=*o;
+R=o[4];
+memcpy(u,o+12,84);
+if(Q!=0){
+kb=P;
+lb=R;
 goto L1;}
-w4(o,G);
-memcpy(o+4,p,84);
-J=r4(o+72);
-z12(h);
-K=port_rattle_alloc(288,4);
-if((u8)(K.f0&1)){
-L=K.f1;
-M=(u8*)L;
-x4(M,0);
-x4(M+4,J);
-x4(M+8,9);
-x4(M+12,0);
-x4(M+16,0);
-x4(M+20,0);
-M[24]=u;
-z11(M+25);
-w8(g,L);
-w8(g+8,1);
-w8(g+16,8);
-wp(g+24,(u8*)65536);
-z16(g+32);
-wp(g+48,(u8*)65536);
-z16(g+56);
-wp(g+72,(u8*)65536);
-z16(g+80);
-wp(g+96,(u8*)65536);
-z16(g+104);
-wp(g+120,(u8*)65536);
-z20(g+128);
-w4(g+148,t);
-z24(g+152);
-run_610(h,g,o);
-if(*h==0){
-N=r8(g+24);
-O=rp(g+48);
-P=r8(g+64);
-Q=rp(g+72);
-R=r8(g+88);
-S=rp(g+96);
-T=r8(g+112);
-U=rp(g+120);
-V=r8(g+136);
-W=r8(g+32);
-X=r8(g+40);
-if(r8(g+16)!=0)port_rattle_dealloc(rp(g));
-if(P!=0)port_rattle_dealloc(O);
-if(R!=0)port_rattle_dealloc(Q);
-if(T!=0)port_rattle_dealloc(S);
-if(V!=0)port_rattle_dealloc(U);
-Y=(u8*)N;
-z32(f);
-parts_as_fdd(f,o,t,u);
-Z=f[4];
-aa=r4(f+8);
-ba=*f;
-memcpy(q,f+12,20);
-if(ba!=0){
-ja=(u8*)(u64)aa;
-if(X!=0)port_rattle_dealloc(Y);
-ka=rp(o+24);
-la=r8(o+40);
-ma=rp(o+48);
-na=r8(o+64);
-if(r8(o+16)!=0)port_rattle_dealloc(rp(o));
-if(la!=0)port_rattle_dealloc(ka);
-if(na!=0)port_rattle_dealloc(ma);
-wp(s+8,ja);
-z48(s+16);
-ha=Z;
-ia=1;
-goto L2;}
-ca=kind_of_a3d(o);
-da=rp(o+24);
-ea=r8(o+40);
-fa=rp(o+48);
-ga=r8(o+64);
-if(r8(o+16)!=0)port_rattle_dealloc(rp(o));
+w4(s,P);
+memcpy(s+4,u,84);
+S=r4(s+72);
+z12(l);
+T=port_rattle_alloc(288,4);
+if((u8)(T.f0&1)){
+U=T.f1;
+V=(u8*)U;
+x4(V,0);
+x4(V+4,S);
+x4(V+8,9);
+x4(V+12,0);
+x4(V+16,0);
+x4(V+20,0);
+V[24]=D;
+z11(V+25);
+w8(k,U);
+w8(k+8,1);
+w8(k+16,8);
+wp(k+24,(u8*)65536);
+z16(k+32);
+wp(k+48,(u8*)65536);
+z16(k+56);
+wp(k+72,(u8*)65536);
+z16(k+80);
+wp(k+96,(u8*)65536);
+z16(k+104);
+wp(k+120,(u8*)65536);
+z20(k+128);
+w4(k+148,C);
+z24(k+152);
+run_610(l,k,s);
+if(*l==0){
+W=r8(k+24);
+X=rp(k+48);
+Y=r8(k+64);
+Z=rp(k+72);
+aa=r8(k+88);
+ba=rp(k+96);
+ca=r8(k+112);
+da=rp(k+120);
+ea=r8(k+136);
+fa=r8(k+32);
+ga=r8(k+40);
+if(r8(k+16)!=0)port_rattle_dealloc(rp(k));
+if(Y!=0)port_rattle_dealloc(X);
+if(aa!=0)port_rattle_dealloc(Z);
+if(ca!=0)port_rattle_dealloc(ba);
 if(ea!=0)port_rattle_dealloc(da);
-if(ga!=0)port_rattle_dealloc(fa);
-wp(s+8,Y);
-w8(s+16,W);
-w8(s+24,X);
-s[32]=ca;
-memcpy(s+33,r,7);
-w4(s+40,aa);
-memcpy(s+44,q,20);
-ha=0;
-ia=0;
+ha=(u8*)W;
+z32(j);
+stretches_as_7c3(j,s,C,D);
+ia=r8(j+8);
+if(*j!=0){
+Pa=j[4];
+Qa=(u8*)(ia&4294967295u);
+if(ga!=0)port_rattle_dealloc(ha);
+Ra=rp(s+24);
+Sa=r8(s+40);
+Ta=rp(s+48);
+Ua=r8(s+64);
+if(r8(s+16)!=0)port_rattle_dealloc(rp(s));
+if(Sa!=0)port_rattle_dealloc(Ra);
+if(Ua!=0)port_rattle_dealloc(Ta);
+wp(y+8,Qa);
+z48(y+16);
+Aa=ia;
+Ba=Pa;
+Ca=1;
 goto L2;}
-oa=r4(h+8);
-pa=h[4];
-if(r8(g+16)!=0)port_rattle_dealloc(rp(g));
-if(r8(g+40)!=0)port_rattle_dealloc(rp(g+24));
-qa=rp(g+72);
-ra=r8(g+88);
-sa=rp(g+96);
-ta=r8(g+112);
-ua=rp(g+120);
-va=r8(g+136);
-if(r8(g+64)!=0)port_rattle_dealloc(rp(g+48));
-if(ra!=0)port_rattle_dealloc(qa);
-if(ta!=0)port_rattle_dealloc(sa);
-if(va==0){
-wa=pa;
-xa=oa;}
-else{
-port_rattle_dealloc(ua);
-wa=pa;
-xa=oa;}}
-else{
-wa=4;
-xa=0;}
-ya=(u8*)(u64)xa;
-za=rp(o+24);
-Aa=r8(o+40);
-Ba=rp(o+48);
-Ca=r8(o+64);
-if(r8(o+16)!=0)port_rattle_dealloc(rp(o));
-if(Aa!=0)port_rattle_dealloc(za);
-if(Ca!=0)port_rattle_dealloc(Ba);
-wp(s+8,ya);
-z48(s+16);
-ha=wa;
-ia=1;
+ja=r8(j+16);
+ka=r8(j+24);
+la=(u8*)ia;
+wp(i+8,(u8*)65536);
+w8(i+24,0);
+wp(i+32,(u8*)65536);
+z24(i+48);
+z12(h);
+w4(i,0);
+w4(i+4,0);
+w8(i+16,0);
+w8(i+40,0);
+w8(i+56,0);
+w4(i+64,0);
+run_888(h,i,e,f,1);
+if(*h!=0){
+Ga=h[4];
+Ha=r4(h+8);
+Ia=rp(i+32);
+Ja=r8(i+48);
+if(r8(i+24)!=0)port_rattle_dealloc(rp(i+8));
+if(Ja!=0)port_rattle_dealloc(Ia);
+Ka=(u8*)(u64)Ha;
+if(ka!=0)port_rattle_dealloc(la);
+if(ga!=0)port_rattle_dealloc(ha);
+La=rp(s+24);
+Ma=r8(s+40);
+Na=rp(s+48);
+Oa=r8(s+64);
+if(r8(s+16)!=0)port_rattle_dealloc(rp(s));
+if(Ma!=0)port_rattle_dealloc(La);
+if(Oa!=0)port_rattle_dealloc(Na);
+wp(y+8,Ka);
+z48(y+16);
+Aa=Ha;
+Ba=Ga;
+Ca=1;
 goto L2;}
-if(r8(m+16)!=0)port_rattle_dealloc(rp(m));
-if(y!=0)port_rattle_dealloc(w);
-if(B==0){
-Fa=4;
-Ga=0;}
+ma=fa;
+na=rp(i+8);
+oa=r8(i+24);
+pa=rp(i+32);
+qa=r8(i+40);
+ra=r8(i+48);
+zero_all(g,184);
+sa=la;
+ta=ja;
+L3:ua=ta!=0;
+if(ua){
+if(*sa!=1){
+sa=sa+20;
+ta=ta-1;
+goto L3;}}
+spelling_0e2(g,pa,qa,ua);
+va=g[4];
+wa=r4(g+8);
+xa=*g;
+memcpy(v,g+12,172);
+if(xa!=0){
+Fa=(u8*)(u64)wa;
+if(oa!=0)port_rattle_dealloc(na);
+if(ra!=0)port_rattle_dealloc(pa);
+if(ka!=0)port_rattle_dealloc(la);
+if(ga!=0)port_rattle_dealloc(ha);
+drop_be4(s);
+wp(y+8,Fa);
+z48(y+16);
+Aa=wa;
+Ba=va;
+Ca=1;
+goto L2;}
+w4(t,wa);
+memcpy(t+4,v,172);
+with_bytes_5d7(w,la,ja,t,ma);
+ya=r4(w+8);
+if(*w!=0){
+Da=w[4];
+Ea=(u8*)(u64)ya;
+if(r8(t+24)!=0)port_rattle_dealloc(rp(t+8));
+if(r8(t+48)!=0)port_rattle_dealloc(rp(t+32));
+if(r8(t+72)!=0)port_rattle_dealloc(rp(t+56));
+if(r8(t+96)!=0)port_rattle_dealloc(rp(t+80));
+if(r8(t+120)!=0)port_rattle_dealloc(rp(t+104));
+if(r8(t+144)!=0)port_rattle_dealloc(rp(t+128));
+if(r8(t+168)!=0)port_rattle_dealloc(rp(t+152));
+if(oa!=0)port_rattle_dealloc(na);
+if(ra!=0)port_rattle_dealloc(pa);
+if(ka!=0)port_rattle_dealloc(la);
+if(ga!=0)port_rattle_dealloc(ha);
+drop_be4(s);
+wp(y+8,Ea);
+z48(y+16);
+Aa=ya;
+Ba=Da;
+Ca=1;
+goto L2;}
+za=kind_of_a3d(s);
+if(r8(t+24)!=0)port_rattle_dealloc(rp(t+8));
+if(r8(t+48)!=0)port_rattle_dealloc(rp(t+32));
+if(r8(t+72)!=0)port_rattle_dealloc(rp(t+56));
+if(r8(t+96)!=0)port_rattle_dealloc(rp(t+80));
+if(r8(t+120)!=0)port_rattle_dealloc(rp(t+104));
+if(r8(t+144)!=0)port_rattle_dealloc(rp(t+128));
+if(r8(t+168)!=0)port_rattle_dealloc(rp(t+152));
+if(oa!=0)port_rattle_dealloc(na);
+if(ra!=0)port_rattle_dealloc(pa);
+if(ka!=0)port_rattle_dealloc(la);
+drop_be4(s);
+wp(y+8,ha);
+w8(y+16,fa);
+w8(y+24,ga);
+y[32]=za;
+memcpy(y+33,x,7);
+w4(y+40,ya);
+memcpy(y+44,w+12,20);
+Aa=W;
+Ba=0;
+Ca=0;
+goto L2;}
+Va=r4(l+8);
+Wa=l[4];
+if(r8(k+16)!=0)port_rattle_dealloc(rp(k));
+if(r8(k+40)!=0)port_rattle_dealloc(rp(k+24));
+Xa=rp(k+72);
+Ya=r8(k+88);
+Za=rp(k+96);
+ab=r8(k+112);
+bb=rp(k+120);
+cb=r8(k+136);
+if(r8(k+64)!=0)port_rattle_dealloc(rp(k+48));
+if(Ya!=0)port_rattle_dealloc(Xa);
+if(ab!=0)port_rattle_dealloc(Za);
+if(cb==0){
+db=Wa;
+eb=Va;}
 else{
-port_rattle_dealloc(z);
-Fa=4;
-Ga=0;}}
+port_rattle_dealloc(bb);
+db=Wa;
+eb=Va;}}
 else{
-Ha=i[4];
-Ia=r4(i+8);
-Ja=rp(j+32);
-Ka=r8(j+48);
-if(r8(j+24)!=0)port_rattle_dealloc(rp(j+8));
-if(Ka!=0)port_rattle_dealloc(Ja);
-Fa=Ha;
-Ga=Ia;}
-Da=Ga;
-Ea=Fa;
-L1:wp(s+8,(u8*)(u64)Da);
-z48(s+16);
-ha=Ea;
-ia=1;
-L2:La=ha;
-Ma=ia;}
+db=4;
+eb=0;}
+fb=(u8*)(u64)eb;
+gb=rp(s+24);
+hb=r8(s+40);
+ib=rp(s+48);
+jb=r8(s+64);
+if(r8(s+16)!=0)port_rattle_dealloc(rp(s));
+if(hb!=0)port_rattle_dealloc(gb);
+if(jb!=0)port_rattle_dealloc(ib);
+wp(y+8,fb);
+z48(y+16);
+Aa=eb;
+Ba=db;
+Ca=1;
+goto L2;}
+if(r8(q+16)!=0)port_rattle_dealloc(rp(q));
+if(H!=0)port_rattle_dealloc(F);
+if(K==0){
+mb=4;
+nb=0;}
 else{
-parse_as_add(s,d,e,t,u);
-La=s[4];
-Ma=*s;}
-x4(a,Ma);
-x4(a+4,La);
-memcpy(a+8,s+8,56);
+port_rattle_dealloc(I);
+mb=4;
+nb=0;}}
+else{
+ob=m[4];
+pb=r4(m+8);
+qb=rp(n+32);
+rb=r8(n+48);
+if(r8(n+24)!=0)port_rattle_dealloc(rp(n+8));
+if(rb!=0)port_rattle_dealloc(qb);
+mb=ob;
+nb=pb;}
+kb=nb;
+lb=mb;
+L1:wp(y+8,(u8*)(u64)kb);
+z48(y+16);
+Aa=kb;
+Ba=lb;
+Ca=1;
+L2:sb=Aa;
+tb=Ba;
+ub=Ca;}
+else{
+parse_as_add(y,e,f,C,D);
+sb=r4(y+8);
+tb=y[4];
+ub=*y;}
+memcpy(z,y+12,52);
+if(ub==0){
+w4(B,sb);
+memcpy(B+4,z,52);
+parsed_behind_fcd(A,d,B);
+if(*A==0){
+vb=r4(A+8);
+x4(a,0);
+x4(a+4,0);
+x4(a+8,vb);
+memcpy(a+12,A+12,52);}
+else{
+x4(a,1);
+x4(a+4,4);
+z56(a+8);}}
+else{
+x4(a,1);
+x4(a+4,tb);
+x4(a+8,sb);
+z52(a+12);}
 return;
 }
 
@@ -111561,1644 +111666,1672 @@ z84(a+12);}
 L2:return;
 }
 
-/* cpp_parts::walk::parts_as */
-static void parts_as_fdd(u8* a,u8* b,u32 c,u8 d)
+/* cpp_parts::walk::stretches_as */
+static void stretches_as_7c3(u8* a,u8* b,u32 c,u8 d)
 {
-u8 ta[31],rb[31],Bb[35];
-A16 u8 e[64],f[24],g[24],h[64],i[64],j[24],k[24],l[64],m[64],n[24],o[24],p[64],q[64],r[24],s[24],t[64],u[64],v[24],w[24],x[64],y[64],z[24],A[24],B[64],C[64],D[24],E[24],F[64],G[64],H[24],I[24],J[64],K[64],L[24],M[24],N[64],O[64],P[24],Q[24],R[64],S[64],T[24],U[24],V[64],W[64],X[24],Y[24],Z[64],aa[12],ba[36],ca[12],da[12],ea[32],fa[296],ga[12],ha[12],ia[36],ja[36],ka[12],la[12],ma[36],na[12],oa[40],pa[12],qa[36],ra[12],sa[12],ua[12],va[12],wa[12],xa[64],ya[24],za[24],Aa[64],Ba[12],Ca[12],Da[32],Ea[296],Fa[296],Ga[12],Ha[36],Ia[12],Ja[12],Ka[12],La[40],Ma[12],Na[12],Oa[12],Pa[12],Qa[36],Ra[12],Sa[36],Ta[12],Ua[40],Va[12],Wa[12],Xa[64],Ya[24],Za[24],ab[64],bb[64],cb[24],db[24],eb[64],fb[12],gb[32],hb[296],ib[296],jb[12],kb[12],lb[36],mb[36],nb[12],ob[12],pb[12],qb[40],sb[12],tb[64],ub[24],vb[24],wb[64],xb[12],yb[32],zb[24],Ab[12],Cb[36],Db[296],Eb[296];
-u32 Fb,Lb,Pb,Tb,Yb,zc,Bc,Cc,Dc,Ec,Fc,Rc,Xc,ed,fd,ld,qd,ud,Ed,Id,Od,Td,Xd,Yd,ce,de,se,te,ue,we,xe,ye,Be,Fe,Ke,ef,jf,of,yf,Af,Df,Jf,Nf,Rf,Sf,Yf,Zf,ag,eg,ig,jg,ng,og,tg,Ng,Og,Pg,Rg,dh,hh,th,Fh,Oh,Ph,Qh,Rh,Xh,Yh,Zh,ai,bi,ci,di,gi,hi,ii,ji,ki,Ki,Ui,Vi,jj;
-u64 Gb,Ub,Vb,Zb,fc,hc,jc,kc,lc,rc,tc,uc,Gc,Hc,Nc,Sc,Uc,Vc,Wc,Yc,Zc,bd,gd,hd,jd,md,xd,zd,ge,he,ie,oe,Ge,He,Le,Re,Ue,Ve,We,cf,kf,lf,pf,vf,Ef,vg,yg,zg,Ag,Gg,Ig,Kg,Sg,Tg,Ug,ah,eh,fh,ih,oh,qh,rh,uh,Ah,Ch,Dh,Gh,Mh,Th,Uh,li,mi,ni,ti,vi,wi,xi,Di,Fi,Gi,Hi,Li,Ri,Wi,Xi,Yi,ej,hj;
-u8 *Hb,*Ib,*Mb,*Nb,*Qb,*Rb,*dc,*ec,*gc,*pc,*qc,*sc,*wc,*xc,*yc,*Lc,*Mc,*Oc,*Tc,*ad,*cd,*id,*pd,*td,*vd,*yd,*Ad,*Bd,*Fd,*Gd,*Jd,*Kd,*Md,*Pd,*Qd,*Ud,*Vd,*Zd,*ae,*me,*ne,*pe,*Ce,*De,*Pe,*Qe,*Se,*af,*bf,*df,*ff,*gf,*tf,*uf,*wf,*Ff,*Gf,*Kf,*Lf,*Of,*Pf,*Tf,*Uf,*bg,*cg,*fg,*gg,*kg,*lg,*pg,*qg,*Eg,*Fg,*Hg,*Yg,*Zg,*bh,*mh,*nh,*ph,*yh,*zh,*Bh,*Kh,*Lh,*Nh,*Sh,*ri,*si,*ui,*Bi,*Ci,*Ei,*Pi,*Qi,*Si,*cj,*dj,*fj,*gj,*ij,*kj;
-u8 Jb,Kb,Ob,Sb,Wb,Xb,ic,vc,Ac,Pc,Qc,dd,kd,Cd,Dd,Hd,Ld,Nd,Rd,Sd,Wd,be,ee,fe,qe,re,ve,ze,Ae,Ee,Ie,Je,Te,hf,mf,nf,xf,zf,Bf,Cf,Hf,If,Mf,Qf,Vf,Wf,Xf,dg,hg,mg,rg,sg,ug,wg,xg,Jg,Lg,Mg,Qg,ch,gh,sh,Eh,Vh,Wh,ei,fi,Ii,Ji,Ti;
-s_64_64 ac,bc,cc,mc,nc,oc,Ic,Jc,Kc,nd,od,sd,je,ke,le,Me,Ne,Oe,Xe,Ye,Ze,qf,rf,sf,Bg,Cg,Dg,Vg,Wg,Xg,jh,kh,lh,vh,wh,xh,Hh,Ih,Jh,oi,pi,qi,yi,zi,Ai,Mi,Ni,Oi,Zi,aj,bj;
-z24(zb);
-z12(Ab);
-z3(Bb);
-zero_all(Db,296);
-w4(yb,r4(b+72));
-w4(yb+4,9);
-w4(yb+8,0);
-w4(yb+12,0);
-w4(yb+16,0);
-yb[20]=d;
-z11(yb+21);
-memcpy(Bb+3,yb,32);
-*Cb=0;
-memcpy(Cb+1,Bb,35);
-length_of_part_030(Ab,b,Cb,c);
-if(*Ab==0){
-wp(zb,(u8*)65536);
-z16(zb+8);
-Fb=r4(b+72);
-parts_7a7(Db,b,yb);
-memcpy(Eb,Db,296);
-Gb=r8(Eb+288);
-z12(xb);
-Hb=rp(b+24);
-Ib=Hb+(i64)((u64)Fb*48);
-Jb=*Ib;
-memcpy(vb+1,Ib+1,3);
-memcpy(vb+4,Ib+4,20);
-*vb=Jb;
-z64(wb);
-Kb=Jb==47;
-if(Kb){
-Lb=r4(vb+4);
-z64(tb);
-Mb=Hb+(i64)((u64)Lb*48);
-Nb=Hb+(i64)((u64)(*Mb==47?q4(Mb+4):Lb)*48);
-Ob=*Nb;
-memcpy(ub+1,Nb+1,3);
-memcpy(ub+4,Nb+4,20);
-*ub=Ob;
-view_of_own_62c(tb,b+24,ub);
-memcpy(wb,tb,64);}
-else view_of_own_62c(wb,b+24,vb);
-if(r2(wb)==3){
-memcpy(Y+1,Ib+1,3);
-memcpy(Y+4,Ib+4,20);
-*Y=Jb;
+u8 ua[31],sb[31],Cb[35];
+A16 u8 e[64],f[24],g[24],h[64],i[64],j[24],k[24],l[64],m[64],n[24],o[24],p[64],q[64],r[24],s[24],t[64],u[64],v[24],w[24],x[64],y[64],z[24],A[24],B[64],C[64],D[24],E[24],F[64],G[64],H[24],I[24],J[64],K[64],L[24],M[24],N[64],O[64],P[24],Q[24],R[64],S[64],T[24],U[24],V[64],W[64],X[24],Y[24],Z[64],aa[12],ba[12],ca[36],da[12],ea[12],fa[32],ga[296],ha[12],ia[12],ja[36],ka[36],la[12],ma[12],na[36],oa[12],pa[52],qa[12],ra[36],sa[12],ta[12],va[12],wa[12],xa[12],ya[64],za[24],Aa[24],Ba[64],Ca[12],Da[12],Ea[32],Fa[296],Ga[296],Ha[12],Ia[36],Ja[12],Ka[12],La[12],Ma[52],Na[12],Oa[12],Pa[12],Qa[12],Ra[36],Sa[12],Ta[36],Ua[12],Va[52],Wa[12],Xa[12],Ya[64],Za[24],ab[24],bb[64],cb[64],db[24],eb[24],fb[64],gb[12],hb[32],ib[296],jb[296],kb[12],lb[12],mb[36],nb[36],ob[12],pb[12],qb[12],rb[52],tb[12],ub[64],vb[24],wb[24],xb[64],yb[12],zb[32],Ab[24],Bb[12],Db[36],Eb[296],Fb[296];
+u32 Gb,Mb,Qb,Ub,Zb,Ac,Cc,Dc,Ec,Fc,Gc,Sc,Yc,fd,hd,id,jd,nd,qd,xd,Ad,Jd,Nd,Td,Yd,ce,de,he,ie,xe,ye,ze,Be,Ce,De,Ge,Ke,Pe,kf,of,tf,Df,Ff,If,Of,Sf,Wf,Xf,dg,eg,fg,jg,ng,og,sg,tg,yg,Sg,Tg,Ug,Wg,ih,mh,vh,zh,Lh,Uh,Vh,Wh,Xh,di,ei,fi,gi,hi,ii,ji,mi,ni,oi,pi,qi,Qi,aj,bj,pj;
+u64 Hb,Vb,Wb,ac,gc,ic,kc,lc,mc,sc,uc,vc,Hc,Ic,Oc,Tc,Vc,Wc,Xc,Zc,ad,cd,gd,kd,ld,od,sd,Cd,Ed,le,me,ne,te,Le,Me,Qe,We,Ze,af,bf,hf,pf,qf,uf,Af,Jf,Ag,Dg,Eg,Fg,Lg,Ng,Pg,Xg,Yg,Zg,fh,jh,kh,nh,th,wh,xh,Ah,Gh,Ih,Jh,Mh,Sh,Zh,ai,ri,si,ti,zi,Bi,Ci,Di,Ji,Li,Mi,Ni,Ri,Xi,cj,dj,ej,kj,nj;
+u8 *Ib,*Jb,*Nb,*Ob,*Rb,*Sb,*ec,*fc,*hc,*qc,*rc,*tc,*xc,*yc,*zc,*Mc,*Nc,*Pc,*Uc,*bd,*dd,*md,*vd,*zd,*Bd,*Dd,*Fd,*Gd,*Kd,*Ld,*Od,*Pd,*Rd,*Ud,*Vd,*Zd,*ae,*ee,*fe,*re,*se,*ue,*He,*Ie,*Ue,*Ve,*Xe,*ff,*gf,*jf,*lf,*mf,*yf,*zf,*Bf,*Kf,*Lf,*Pf,*Qf,*Tf,*Uf,*Yf,*Zf,*gg,*hg,*kg,*lg,*pg,*qg,*ug,*vg,*Jg,*Kg,*Mg,*dh,*eh,*gh,*rh,*sh,*uh,*Eh,*Fh,*Hh,*Qh,*Rh,*Th,*Yh,*xi,*yi,*Ai,*Hi,*Ii,*Ki,*Vi,*Wi,*Yi,*ij,*jj,*lj,*mj,*oj,*qj;
+u8 Kb,Lb,Pb,Tb,Xb,Yb,jc,wc,Bc,Qc,Rc,ed,pd,Hd,Id,Md,Qd,Sd,Wd,Xd,be,ge,je,ke,ve,we,Ae,Ee,Fe,Je,Ne,Oe,Ye,nf,rf,sf,Cf,Ef,Gf,Hf,Mf,Nf,Rf,Vf,ag,bg,cg,ig,mg,rg,wg,xg,zg,Bg,Cg,Og,Qg,Rg,Vg,hh,lh,yh,Kh,bi,ci,ki,li,Oi,Pi,Zi;
+s_64_64 bc,cc,dc,nc,oc,pc,Jc,Kc,Lc,td,ud,yd,oe,pe,qe,Re,Se,Te,cf,df,ef,vf,wf,xf,Gg,Hg,Ig,ah,bh,ch,oh,ph,qh,Bh,Ch,Dh,Nh,Oh,Ph,ui,vi,wi,Ei,Fi,Gi,Si,Ti,Ui,fj,gj,hj;
+z24(Ab);
+z12(Bb);
+z3(Cb);
+zero_all(Eb,296);
+w4(zb,r4(b+72));
+w4(zb+4,9);
+w4(zb+8,0);
+w4(zb+12,0);
+w4(zb+16,0);
+zb[20]=d;
+z11(zb+21);
+memcpy(Cb+3,zb,32);
+*Db=0;
+memcpy(Db+1,Cb,35);
+length_of_part_030(Bb,b,Db,c);
+if(*Bb==0){
+wp(Ab,(u8*)65536);
+z16(Ab+8);
+Gb=r4(b+72);
+parts_7a7(Eb,b,zb);
+memcpy(Fb,Eb,296);
+Hb=r8(Fb+288);
+z12(yb);
+Ib=rp(b+24);
+Jb=Ib+(i64)((u64)Gb*48);
+Kb=*Jb;
+memcpy(wb+1,Jb+1,3);
+memcpy(wb+4,Jb+4,20);
+*wb=Kb;
+z64(xb);
+Lb=Kb==47;
+if(Lb){
+Mb=r4(wb+4);
+z64(ub);
+Nb=Ib+(i64)((u64)Mb*48);
+Ob=Ib+(i64)((u64)(*Nb==47?q4(Nb+4):Mb)*48);
+Pb=*Ob;
+memcpy(vb+1,Ob+1,3);
+memcpy(vb+4,Ob+4,20);
+*vb=Pb;
+view_of_own_62c(ub,b+24,vb);
+memcpy(xb,ub,64);}
+else view_of_own_62c(xb,b+24,wb);
+if(r2(xb)==3){
+memcpy(Y+1,Jb+1,3);
+memcpy(Y+4,Jb+4,20);
+*Y=Kb;
 z64(Z);
-if(Kb){
-Pb=r4(Y+4);
+if(Lb){
+Qb=r4(Y+4);
 z64(W);
-Qb=Hb+(i64)((u64)Pb*48);
-Rb=Hb+(i64)((u64)(*Qb==47?q4(Qb+4):Pb)*48);
-Sb=*Rb;
-memcpy(X+1,Rb+1,3);
-memcpy(X+4,Rb+4,20);
-*X=Sb;
+Rb=Ib+(i64)((u64)Qb*48);
+Sb=Ib+(i64)((u64)(*Rb==47?q4(Rb+4):Qb)*48);
+Tb=*Sb;
+memcpy(X+1,Sb+1,3);
+memcpy(X+4,Sb+4,20);
+*X=Tb;
 view_of_own_62c(W,b+24,X);
 memcpy(Z,W,64);}
 else view_of_own_62c(Z,b+24,Y);
-Tb=r4(Z+48);
-z12(sb);
-if(Gb==0){
-Ub=r8(zb+8);
-if(r8(zb+16)==Ub){
-Vb=umax64(Ub,8);
-if(Vb>(Ub^18446744073709551615u)){
-Wb=1;
-Xb=4;
-Yb=0;
+Ub=r4(Z+48);
+z12(tb);
+if(Hb==0){
+Vb=r8(Ab+8);
+if(r8(Ab+16)==Vb){
+Wb=umax64(Vb,8);
+if(Wb>(Vb^18446744073709551615u)){
+Xb=1;
+Yb=4;
+Zb=0;
 goto L1;}
-Zb=Vb+Ub;
-if(Zb>=0x333333333333334u){
-Wb=1;
-Xb=4;
-Yb=0;
+ac=Wb+Vb;
+if(ac>=0x276276276276277u){
+Xb=1;
+Yb=4;
+Zb=0;
 goto L1;}
-if(Ub==0){
-ac=port_rattle_alloc(Zb*40,4);
-if(!(u8)(ac.f0&1)){
-Wb=1;
-Xb=4;
-Yb=0;
+if(Vb==0){
+bc=port_rattle_alloc(ac*52,4);
+if(!(u8)(bc.f0&1)){
+Xb=1;
+Yb=4;
+Zb=0;
 goto L1;}
-bc=ac;}
+cc=bc;}
 else{
-cc=port_rattle_realloc(rp(zb),Ub*40,Zb*40,4);
-if(!(u8)(cc.f0&1)){
-Wb=1;
-Xb=4;
-Yb=0;
+dc=port_rattle_realloc(rp(Ab),Vb*52,ac*52,4);
+if(!(u8)(dc.f0&1)){
+Xb=1;
+Yb=4;
+Zb=0;
 goto L1;}
-bc=cc;}
-dc=(u8*)bc.f1;
-wp(zb,dc);
-w8(zb+16,Zb);
-ec=dc;
-fc=r8(zb+8);}
+cc=dc;}
+ec=(u8*)cc.f1;
+wp(Ab,ec);
+w8(Ab+16,ac);
+fc=ec;
+gc=r8(Ab+8);}
 else{
-ec=rp(zb);
-fc=Ub;}
-gc=ec+fc*40;
-*gc=0;
-gc[1]=0;
-z36(gc+4);
-w8(zb+8,fc+1);
-Wb=0;
+fc=rp(Ab);
+gc=Vb;}
+hc=fc+gc*52;
+*hc=0;
+hc[1]=0;
+z48(hc+4);
+w8(Ab+8,gc+1);
 Xb=0;
-Yb=0;}
+Yb=0;
+Zb=0;}
 else{
-if(*Eb==0){
-hc=Gb-1;
-ic=Eb[4];
-memcpy(rb,Db+5,31);
-z12(nb);
+if(*Fb==0){
+ic=Hb-1;
+jc=Fb[4];
+memcpy(sb,Eb+5,31);
 z12(ob);
 z12(pb);
-z40(qb);
-if(hc==0){
-jc=r8(zb+8);
-if(r8(zb+16)==jc){
-kc=umax64(jc,8);
-if(kc<=(jc^18446744073709551615u)){
-lc=kc+jc;
-if(lc<0x333333333333334u){
-if(jc==0){
-mc=port_rattle_alloc(lc*40,4);
-if(!(u8)(mc.f0&1))goto L2;
-nc=mc;}
+z12(qb);
+z52(rb);
+if(ic==0){
+kc=r8(Ab+8);
+if(r8(Ab+16)==kc){
+lc=umax64(kc,8);
+if(lc<=(kc^18446744073709551615u)){
+mc=lc+kc;
+if(mc<0x276276276276277u){
+if(kc==0){
+nc=port_rattle_alloc(mc*52,4);
+if(!(u8)(nc.f0&1))goto L2;
+oc=nc;}
 else{
-oc=port_rattle_realloc(rp(zb),jc*40,lc*40,4);
-if(!(u8)(oc.f0&1))goto L2;
-nc=oc;}
-pc=(u8*)nc.f1;
-wp(zb,pc);
-w8(zb+16,lc);
-qc=pc;
-rc=r8(zb+8);
+pc=port_rattle_realloc(rp(Ab),kc*52,mc*52,4);
+if(!(u8)(pc.f0&1))goto L2;
+oc=pc;}
+qc=(u8*)oc.f1;
+wp(Ab,qc);
+w8(Ab+16,mc);
+rc=qc;
+sc=r8(Ab+8);
 goto L3;}}
-L2:Wb=1;
-Xb=4;
-Yb=0;
+L2:Xb=1;
+Yb=4;
+Zb=0;
 goto L1;}
-qc=rp(zb);
-rc=jc;
-L3:sc=qc+rc*40;
-*sc=0;
-sc[1]=0;
-tc=rc+1;
-z36(sc+4);
-w8(zb+8,tc);
-uc=tc;}
+rc=rp(Ab);
+sc=kc;
+L3:tc=rc+sc*52;
+*tc=0;
+tc[1]=0;
+uc=sc+1;
+z48(tc+4);
+w8(Ab+8,uc);
+vc=uc;}
 else{
-vc=Eb[36];
-if(vc==0){
-push_plain_069(nb,b,zb,Eb+36,hc,c);
-wc=nb+4;
-xc=nb+8;
-yc=nb;}
+wc=Fb[36];
+if(wc==0){
+push_plain_069(ob,b,Ab,Fb+36,ic,c);
+xc=ob+4;
+yc=ob+8;
+zc=ob;}
 else{
-zc=r4(Eb+68);
-*lb=vc;
-memcpy(lb+1,Db+37,31);
-w4(lb+32,zc);
-if(hc==1){
-push_plain_069(ob,b,zb,Eb+36,1,c);
-wc=ob+4;
-xc=ob+8;
-yc=ob;}
+Ac=r4(Fb+68);
+*mb=wc;
+memcpy(mb+1,Eb+37,31);
+w4(mb+32,Ac);
+if(ic==1){
+push_plain_069(pb,b,Ab,Fb+36,1,c);
+xc=pb+4;
+yc=pb+8;
+zc=pb;}
 else{
-Ac=Eb[72];
-if(Ac!=0){
-Bc=r4(Eb+104);
-*mb=Ac;
-memcpy(mb+1,Db+73,31);
-w4(mb+32,Bc);
+Bc=Fb[72];
+if(Bc!=0){
+Cc=r4(Fb+104);
+*nb=Bc;
+memcpy(nb+1,Eb+73,31);
+w4(nb+32,Cc);
+z12(lb);
+length_of_part_030(lb,b,mb,c);
+Dc=r4(lb+4);
+if(*lb==0){
 z12(kb);
-length_of_part_030(kb,b,lb,c);
-Cc=r4(kb+4);
+length_of_part_030(kb,b,nb,c);
+Ec=r4(kb+4);
 if(*kb==0){
-z12(jb);
-length_of_part_030(jb,b,mb,c);
-Dc=r4(jb+4);
-if(*jb==0){
-push_plain_069(pb,b,zb,Eb+108,Gb-3,c);
-if(*pb==0){
-push_alone_0dc(pb,zb,11,Dc);
-if(*pb==0){
-*qb=0;
-w4(qb+4,Cc);
-push_bd8(ob,zb,qb);
-wc=ob+4;
-xc=ob+8;
-yc=ob;
+push_plain_069(qb,b,Ab,Fb+108,Hb-3,c);
+if(*qb==0){
+push_alone_0dc(qb,Ab,11,0,Ec);
+if(*qb==0){
+*rb=0;
+w4(rb+4,Dc);
+push_bd8(pb,Ab,rb);
+xc=pb+4;
+yc=pb+8;
+zc=pb;
 goto L4;}
-Ec=pb[4];
-Fc=r4(pb+8);}
+Fc=qb[4];
+Gc=r4(qb+8);}
 else{
-Ec=pb[4];
-Fc=r4(pb+8);}}
+Fc=qb[4];
+Gc=r4(qb+8);}}
 else{
-Ec=Dc;
-Fc=r4(jb+8);}}
+Fc=Ec;
+Gc=r4(kb+8);}}
 else{
-Ec=Cc;
-Fc=r4(kb+8);}
-Wb=1;
-Xb=Ec;
+Fc=Dc;
+Gc=r4(lb+8);}
+Xb=1;
 Yb=Fc;
+Zb=Gc;
 goto L1;}
-push_plain_069(ob,b,zb,Eb+36,hc,c);
-wc=ob+4;
-xc=ob+8;
-yc=ob;}}
-L4:if(*yc!=0){
-Wb=1;
-Xb=*wc;
-Yb=r4(xc);
+push_plain_069(pb,b,Ab,Fb+36,ic,c);
+xc=pb+4;
+yc=pb+8;
+zc=pb;}}
+L4:if(*zc!=0){
+Xb=1;
+Yb=*xc;
+Zb=r4(yc);
 goto L1;}
-uc=r8(zb+8);}
-if(r8(zb+16)==uc){
-Gc=umax64(uc,8);
-if(Gc>(uc^18446744073709551615u)){
-Wb=1;
-Xb=4;
-Yb=0;
+vc=r8(Ab+8);}
+if(r8(Ab+16)==vc){
+Hc=umax64(vc,8);
+if(Hc>(vc^18446744073709551615u)){
+Xb=1;
+Yb=4;
+Zb=0;
 goto L1;}
-Hc=Gc+uc;
-if(Hc>=0x333333333333334u){
-Wb=1;
-Xb=4;
-Yb=0;
+Ic=Hc+vc;
+if(Ic>=0x276276276276277u){
+Xb=1;
+Yb=4;
+Zb=0;
 goto L1;}
-if(uc==0){
-Ic=port_rattle_alloc(Hc*40,4);
-if(!(u8)(Ic.f0&1)){
-Wb=1;
-Xb=4;
-Yb=0;
+if(vc==0){
+Jc=port_rattle_alloc(Ic*52,4);
+if(!(u8)(Jc.f0&1)){
+Xb=1;
+Yb=4;
+Zb=0;
 goto L1;}
-Jc=Ic;}
+Kc=Jc;}
 else{
-Kc=port_rattle_realloc(rp(zb),uc*40,Hc*40,4);
-if(!(u8)(Kc.f0&1)){
-Wb=1;
-Xb=4;
-Yb=0;
+Lc=port_rattle_realloc(rp(Ab),vc*52,Ic*52,4);
+if(!(u8)(Lc.f0&1)){
+Xb=1;
+Yb=4;
+Zb=0;
 goto L1;}
-Jc=Kc;}
-Lc=(u8*)Jc.f1;
-wp(zb,Lc);
-w8(zb+16,Hc);
-Mc=Lc;
-Nc=r8(zb+8);}
+Kc=Lc;}
+Mc=(u8*)Kc.f1;
+wp(Ab,Mc);
+w8(Ab+16,Ic);
+Nc=Mc;
+Oc=r8(Ab+8);}
 else{
-Mc=rp(zb);
-Nc=uc;}
-Oc=Mc+Nc*40;
-*Oc=2;
-Oc[1]=0;
-x4(Oc+4,Tb);
-Oc[8]=ic;
-memcpy(Oc+9,rb,31);
-w8(zb+8,Nc+1);
-Wb=0;
+Nc=rp(Ab);
+Oc=vc;}
+Pc=Nc+Oc*52;
+*Pc=2;
+Pc[1]=0;
+x4(Pc+4,0);
+x4(Pc+8,Ub);
+Pc[12]=jc;
+memcpy(Pc+13,sb,31);
+x8(Pc+44,0);
+w8(Ab+8,Oc+1);
 Xb=0;
-Yb=0;}
+Yb=0;
+Zb=0;}
 else{
-push_plain_069(sb,b,zb,Db,Gb,c);
-Wb=*sb;
-Xb=sb[4];
-Yb=r4(sb+8);}}
-L1:Pc=Wb;
-Qc=Xb;
-Rc=Yb;}
+push_plain_069(tb,b,Ab,Eb,Hb,c);
+Xb=*tb;
+Yb=tb[4];
+Zb=r4(tb+8);}}
+L1:Qc=Xb;
+Rc=Yb;
+Sc=Zb;}
 else{
-push_plain_069(xb,b,zb,Db,Gb,c);
-Pc=*xb;
-Qc=xb[4];
-Rc=r4(xb+8);}
-if(Pc==0){
-Sc=r8(zb+8);
-if(Sc==0){
-Tc=(u8*)65536;
-Uc=0;
-Vc=0;}
+push_plain_069(yb,b,Ab,Eb,Hb,c);
+Qc=*yb;
+Rc=yb[4];
+Sc=r4(yb+8);}
+if(Qc==0){
+Tc=r8(Ab+8);
+if(Tc==0){
+Uc=(u8*)65536;
+Vc=0;
+Wc=0;}
 else{
-Wc=Sc;
-Xc=0;
+Xc=Tc;
 Yc=0;
 Zc=0;
-ad=(u8*)65536;
-L5:bd=Wc-1;
-w8(zb+8,bd);
-cd=rp(zb)+bd*40;
-dd=cd[1];
-ed=q4(cd+4);
-switch(*cd){
-case 0:fd=ed+Xc;
-gd=Yc;
-hd=Zc;
-id=ad;
+ad=0;
+bd=(u8*)65536;
+L5:cd=Xc-1;
+w8(Ab+8,cd);
+dd=rp(Ab)+cd*52;
+ed=dd[1];
+fd=q4(dd+4);
+gd=q8(dd+8);
+hd=q4(dd+16);
+id=gd>>32;
+switch(*dd){
+case 0:jd=fd+Yc;
+kd=Zc;
+ld=ad;
+md=bd;
 goto L6;
-case 1:if(Yc==Zc){
-jd=umax64(Yc,8);
-if(jd>(Yc^18446744073709551615u)){
-kd=4;
-ld=0;
+case 1:nd=gd;
+if(Zc==ad){
+od=umax64(Zc,8);
+if(od>(Zc^18446744073709551615u)){
+pd=4;
+qd=0;
 goto L7;}
-md=jd+Yc;
-if(md>=0xaaaaaaaaaaaaaabu){
-kd=4;
-ld=0;
+sd=od+Zc;
+if(sd>=0x666666666666667u){
+pd=4;
+qd=0;
 goto L7;}
-if(Yc==0){
-nd=port_rattle_alloc(md*12,4);
-if(!(u8)(nd.f0&1)){
-pd=0;
-qd=4;
+if(Zc==0){
+td=port_rattle_alloc(sd*20,4);
+if(!(u8)(td.f0&1)){
+vd=0;
+xd=4;
 goto L8;}
-od=nd;}
+ud=td;}
 else{
-sd=port_rattle_realloc(ad,Yc*12,md*12,4);
-if(!(u8)(sd.f0&1)){
-td=0;
-ud=4;
+yd=port_rattle_realloc(bd,Zc*20,sd*20,4);
+if(!(u8)(yd.f0&1)){
+zd=0;
+Ad=4;
 goto L9;}
-od=sd;}
-vd=(u8*)od.f1;
-xd=md;}
+ud=yd;}
+Bd=(u8*)ud.f1;
+Cd=sd;}
 else{
-vd=ad;
-xd=Yc;}
-yd=vd+Zc*12;
-*yd=dd;
-z3(yd+1);
-x4(yd+4,Xc);
-x4(yd+8,ed);
-fd=Xc;
-gd=xd;
-hd=Zc+1;
-id=vd;
+Bd=bd;
+Cd=Zc;}
+Dd=Bd+ad*20;
+*Dd=ed;
+z3(Dd+1);
+x4(Dd+4,fd);
+x4(Dd+8,nd);
+x4(Dd+12,Yc);
+x4(Dd+16,id);
+jd=Yc;
+kd=Cd;
+ld=ad+1;
+md=Bd;
 goto L6;
-case 2:memcpy(gb,cd+8,32);
-zero_all(ib,296);
-parts_7a7(ib,b,gb);
-memcpy(hb,ib,296);
-zd=r8(hb+288);
-z12(fb);
-Ad=rp(b+24);
-Bd=Ad+(i64)((u64)ed*48);
-Cd=*Bd;
-memcpy(db+1,Bd+1,3);
-memcpy(db+4,Bd+4,20);
-*db=Cd;
-z64(eb);
-Dd=Cd==47;
-if(Dd){
-Ed=r4(db+4);
-z64(bb);
-Fd=Ad+(i64)((u64)Ed*48);
-Gd=Ad+(i64)((u64)(*Fd==47?q4(Fd+4):Ed)*48);
+case 2:w4(hb,id);
+w4(hb+4,hd);
+memcpy(hb+8,dd+20,24);
+zero_all(jb,296);
+parts_7a7(jb,b,hb);
+memcpy(ib,jb,296);
+Ed=r8(ib+288);
+z12(gb);
+Fd=rp(b+24);
+Gd=Fd+(i64)((gd&4294967295u)*48);
 Hd=*Gd;
-memcpy(cb+1,Gd+1,3);
-memcpy(cb+4,Gd+4,20);
-*cb=Hd;
-view_of_own_62c(bb,b+24,cb);
-memcpy(eb,bb,64);}
-else view_of_own_62c(eb,b+24,db);
-switch(r2(eb)){
-case 4:memcpy(U+1,Bd+1,3);
-memcpy(U+4,Bd+4,20);
-*U=Cd;
+memcpy(eb+1,Gd+1,3);
+memcpy(eb+4,Gd+4,20);
+*eb=Hd;
+z64(fb);
+Id=Hd==47;
+if(Id){
+Jd=r4(eb+4);
+z64(cb);
+Kd=Fd+(i64)((u64)Jd*48);
+Ld=Fd+(i64)((u64)(*Kd==47?q4(Kd+4):Jd)*48);
+Md=*Ld;
+memcpy(db+1,Ld+1,3);
+memcpy(db+4,Ld+4,20);
+*db=Md;
+view_of_own_62c(cb,b+24,db);
+memcpy(fb,cb,64);}
+else view_of_own_62c(fb,b+24,eb);
+switch(r2(fb)){
+case 4:memcpy(U+1,Gd+1,3);
+memcpy(U+4,Gd+4,20);
+*U=Hd;
 z64(V);
-if(Dd){
-Id=r4(U+4);
+if(Id){
+Nd=r4(U+4);
 z64(S);
-Jd=Ad+(i64)((u64)Id*48);
-Kd=Ad+(i64)((u64)(*Jd==47?q4(Jd+4):Id)*48);
-Ld=*Kd;
-memcpy(T+1,Kd+1,3);
-memcpy(T+4,Kd+4,20);
-*T=Ld;
+Od=Fd+(i64)((u64)Nd*48);
+Pd=Fd+(i64)((u64)(*Od==47?q4(Od+4):Nd)*48);
+Qd=*Pd;
+memcpy(T+1,Pd+1,3);
+memcpy(T+4,Pd+4,20);
+*T=Qd;
 view_of_own_62c(S,b+24,T);
 memcpy(V,S,64);}
 else view_of_own_62c(V,b+24,U);
-Md=Ad+(i64)((u64)r4(V+52)*48);
-Nd=*Md;
-memcpy(Za+1,Md+1,3);
-memcpy(Za+4,Md+4,20);
-*Za=Nd;
-z64(ab);
-if(Nd==47){
-Od=r4(Za+4);
-z64(Xa);
-Pd=Ad+(i64)((u64)Od*48);
-Qd=Ad+(i64)((u64)(*Pd==47?q4(Pd+4):Od)*48);
-Rd=*Qd;
-memcpy(Ya+1,Qd+1,3);
-memcpy(Ya+4,Qd+4,20);
-*Ya=Rd;
-view_of_own_62c(Xa,b+24,Ya);
-memcpy(ab,Xa,64);}
-else view_of_own_62c(ab,b+24,Za);
-Sd=r2(ab)==0;
-memcpy(Q+1,Bd+1,3);
-memcpy(Q+4,Bd+4,20);
-*Q=Cd;
-z64(R);
-if(Dd){
-Td=r4(Q+4);
-z64(O);
-Ud=Ad+(i64)((u64)Td*48);
-Vd=Ad+(i64)((u64)(*Ud==47?q4(Ud+4):Td)*48);
+Rd=Fd+(i64)((u64)r4(V+52)*48);
+Sd=*Rd;
+memcpy(ab+1,Rd+1,3);
+memcpy(ab+4,Rd+4,20);
+*ab=Sd;
+z64(bb);
+if(Sd==47){
+Td=r4(ab+4);
+z64(Ya);
+Ud=Fd+(i64)((u64)Td*48);
+Vd=Fd+(i64)((u64)(*Ud==47?q4(Ud+4):Td)*48);
 Wd=*Vd;
-memcpy(P+1,Vd+1,3);
-memcpy(P+4,Vd+4,20);
-*P=Wd;
+memcpy(Za+1,Vd+1,3);
+memcpy(Za+4,Vd+4,20);
+*Za=Wd;
+view_of_own_62c(Ya,b+24,Za);
+memcpy(bb,Ya,64);}
+else view_of_own_62c(bb,b+24,ab);
+Xd=r2(bb)==0;
+memcpy(Q+1,Gd+1,3);
+memcpy(Q+4,Gd+4,20);
+*Q=Hd;
+z64(R);
+if(Id){
+Yd=r4(Q+4);
+z64(O);
+Zd=Fd+(i64)((u64)Yd*48);
+ae=Fd+(i64)((u64)(*Zd==47?q4(Zd+4):Yd)*48);
+be=*ae;
+memcpy(P+1,ae+1,3);
+memcpy(P+4,ae+4,20);
+*P=be;
 view_of_own_62c(O,b+24,P);
 memcpy(R,O,64);}
 else view_of_own_62c(R,b+24,Q);
-Xd=r4(R+48);
-memcpy(M+1,Bd+1,3);
-memcpy(M+4,Bd+4,20);
-*M=Cd;
+ce=r4(R+48);
+memcpy(M+1,Gd+1,3);
+memcpy(M+4,Gd+4,20);
+*M=Hd;
 z64(N);
-if(Dd){
-Yd=r4(M+4);
+if(Id){
+de=r4(M+4);
 z64(K);
-Zd=Ad+(i64)((u64)Yd*48);
-ae=Ad+(i64)((u64)(*Zd==47?q4(Zd+4):Yd)*48);
-be=*ae;
-memcpy(L+1,ae+1,3);
-memcpy(L+4,ae+4,20);
-*L=be;
+ee=Fd+(i64)((u64)de*48);
+fe=Fd+(i64)((u64)(*ee==47?q4(ee+4):de)*48);
+ge=*fe;
+memcpy(L+1,fe+1,3);
+memcpy(L+4,fe+4,20);
+*L=ge;
 view_of_own_62c(K,b+24,L);
 memcpy(N,K,64);}
 else view_of_own_62c(N,b+24,M);
-ce=r4(N+56);
-z12(Va);
+he=r4(N+56);
 z12(Wa);
-if(Sd){
-push_called_f56(Va,b,zb,Xd,ce,ib,zd,c);
-de=r4(Va+8);
-ee=Va[4];
-fe=*Va;}
+z12(Xa);
+if(Xd){
+push_called_f56(Wa,b,Ab,ce,he,jb,Ed,c);
+ie=r4(Wa+8);
+je=Wa[4];
+ke=*Wa;}
 else{
-if(zd==0){
-ge=r8(zb+8);
-if(r8(zb+16)==ge){
-he=umax64(ge,8);
-if(he>(ge^18446744073709551615u)){
-de=0;
-ee=4;
-fe=1;
+if(Ed==0){
+le=r8(Ab+8);
+if(r8(Ab+16)==le){
+me=umax64(le,8);
+if(me>(le^18446744073709551615u)){
+ie=0;
+je=4;
+ke=1;
 goto L10;}
-ie=he+ge;
-if(ie>=0x333333333333334u){
-de=0;
-ee=4;
-fe=1;
+ne=me+le;
+if(ne>=0x276276276276277u){
+ie=0;
+je=4;
+ke=1;
 goto L10;}
-if(ge==0){
-je=port_rattle_alloc(ie*40,4);
-if(!(u8)(je.f0&1)){
-de=0;
-ee=4;
-fe=1;
+if(le==0){
+oe=port_rattle_alloc(ne*52,4);
+if(!(u8)(oe.f0&1)){
+ie=0;
+je=4;
+ke=1;
 goto L10;}
-ke=je;}
+pe=oe;}
 else{
-le=port_rattle_realloc(rp(zb),ge*40,ie*40,4);
-if(!(u8)(le.f0&1)){
-de=0;
-ee=4;
-fe=1;
+qe=port_rattle_realloc(rp(Ab),le*52,ne*52,4);
+if(!(u8)(qe.f0&1)){
+ie=0;
+je=4;
+ke=1;
 goto L10;}
-ke=le;}
-me=(u8*)ke.f1;
-wp(zb,me);
-w8(zb+16,ie);
-ne=me;
-oe=r8(zb+8);}
+pe=qe;}
+re=(u8*)pe.f1;
+wp(Ab,re);
+w8(Ab+16,ne);
+se=re;
+te=r8(Ab+8);}
 else{
-ne=rp(zb);
-oe=ge;}
-pe=ne+oe*40;
-*pe=0;
-pe[1]=0;
-z36(pe+4);
-w8(zb+8,oe+1);
-de=0;
-ee=0;
-fe=0;}
+se=rp(Ab);
+te=le;}
+ue=se+te*52;
+*ue=0;
+ue[1]=0;
+z48(ue+4);
+w8(Ab+8,te+1);
+ie=0;
+je=0;
+ke=0;}
 else{
-if(*hb==0){
-qe=hb[4];
-z12(Ra);
-z12(Ta);
-z40(Ua);
-if(zd==1)push_called_f56(Ra,b,zb,Xd,ce,ib,1,c);
+if(*ib==0){
+ve=ib[4];
+z12(Sa);
+z12(Ua);
+z52(Va);
+if(Ed==1)push_called_f56(Sa,b,Ab,ce,he,jb,1,c);
 else{
-re=hb[36];
-if(re==0)push_called_f56(Ra,b,zb,Xd,ce,ib,zd,c);
+we=ib[36];
+if(we==0)push_called_f56(Sa,b,Ab,ce,he,jb,Ed,c);
 else{
-se=r4(hb+68);
-*Qa=re;
-memcpy(Qa+1,ib+37,31);
-w4(Qa+32,se);
-memcpy(Sa+5,ib+5,31);
-w4(Sa,0);
-Sa[4]=qe;
+xe=r4(ib+68);
+*Ra=we;
+memcpy(Ra+1,jb+37,31);
+w4(Ra+32,xe);
+memcpy(Ta+5,jb+5,31);
+w4(Ta,0);
+Ta[4]=ve;
+z12(Qa);
+length_of_part_030(Qa,b,Ta,c);
+ye=r4(Qa+4);
+if(*Qa!=0){
+Ae=1;
+Be=ye;
+Ce=r4(Qa+8);
+goto L11;}
 z12(Pa);
-length_of_part_030(Pa,b,Sa,c);
-te=r4(Pa+4);
+length_of_part_030(Pa,b,Ra,c);
+ze=r4(Pa+4);
 if(*Pa!=0){
-ve=1;
-we=te;
-xe=r4(Pa+8);
+Ae=1;
+Be=ze;
+Ce=r4(Pa+8);
 goto L11;}
-z12(Oa);
-length_of_part_030(Oa,b,Qa,c);
-ue=r4(Oa+4);
-if(*Oa!=0){
-ve=1;
-we=ue;
-xe=r4(Oa+8);
+push_called_f56(Ua,b,Ab,ce,he,ib+72,Ed-2,c);
+if(*Ua!=0){
+Ae=1;
+Be=Ua[4];
+Ce=r4(Ua+8);
 goto L11;}
-push_called_f56(Ta,b,zb,Xd,ce,hb+72,zd-2,c);
-if(*Ta!=0){
-ve=1;
-we=Ta[4];
-xe=r4(Ta+8);
+*Va=0;
+w4(Va+4,ze);
+push_bd8(Ua,Ab,Va);
+if(*Ua!=0){
+Ae=1;
+Be=Ua[4];
+Ce=r4(Ua+8);
 goto L11;}
-*Ua=0;
-w4(Ua+4,ue);
-push_bd8(Ta,zb,Ua);
-if(*Ta!=0){
-ve=1;
-we=Ta[4];
-xe=r4(Ta+8);
-goto L11;}
-push_alone_0dc(Ra,zb,1,te);}}
-ve=*Ra;
-we=Ra[4];
-xe=r4(Ra+8);
-L11:de=xe;
-ee=we;
-fe=ve;}
+push_alone_0dc(Sa,Ab,1,0,ye);}}
+Ae=*Sa;
+Be=Sa[4];
+Ce=r4(Sa+8);
+L11:ie=Ce;
+je=Be;
+ke=Ae;}
 else{
-push_called_f56(Wa,b,zb,Xd,ce,ib,zd,c);
-de=r4(Wa+8);
-ee=Wa[4];
-fe=*Wa;}}}
-L10:ye=de;
-ze=ee;
-Ae=fe;
+push_called_f56(Xa,b,Ab,ce,he,jb,Ed,c);
+ie=r4(Xa+8);
+je=Xa[4];
+ke=*Xa;}}}
+L10:De=ie;
+Ee=je;
+Fe=ke;
 break;
-case 5:memcpy(I+1,Bd+1,3);
-memcpy(I+4,Bd+4,20);
-*I=Cd;
+case 5:memcpy(I+1,Gd+1,3);
+memcpy(I+4,Gd+4,20);
+*I=Hd;
 z64(J);
-if(Dd){
-Be=r4(I+4);
+if(Id){
+Ge=r4(I+4);
 z64(G);
-Ce=Ad+(i64)((u64)Be*48);
-De=Ad+(i64)((u64)(*Ce==47?q4(Ce+4):Be)*48);
-Ee=*De;
-memcpy(H+1,De+1,3);
-memcpy(H+4,De+4,20);
-*H=Ee;
+He=Fd+(i64)((u64)Ge*48);
+Ie=Fd+(i64)((u64)(*He==47?q4(He+4):Ge)*48);
+Je=*Ie;
+memcpy(H+1,Ie+1,3);
+memcpy(H+4,Ie+4,20);
+*H=Je;
 view_of_own_62c(G,b+24,H);
 memcpy(J,G,64);}
 else view_of_own_62c(J,b+24,I);
-Fe=r4(J+48);
-z12(Ma);
+Ke=r4(J+48);
 z12(Na);
-if(zd==0){
-Ge=r8(zb+8);
-if(r8(zb+16)==Ge){
-He=umax64(Ge,8);
-if(He>(Ge^18446744073709551615u)){
-Ie=1;
-Je=4;
-Ke=0;
+z12(Oa);
+if(Ed==0){
+Le=r8(Ab+8);
+if(r8(Ab+16)==Le){
+Me=umax64(Le,8);
+if(Me>(Le^18446744073709551615u)){
+Ne=1;
+Oe=4;
+Pe=0;
 goto L12;}
-Le=He+Ge;
-if(Le>=0x333333333333334u){
-Ie=1;
-Je=4;
-Ke=0;
+Qe=Me+Le;
+if(Qe>=0x276276276276277u){
+Ne=1;
+Oe=4;
+Pe=0;
 goto L12;}
-if(Ge==0){
-Me=port_rattle_alloc(Le*40,4);
-if(!(u8)(Me.f0&1)){
-Ie=1;
-Je=4;
-Ke=0;
+if(Le==0){
+Re=port_rattle_alloc(Qe*52,4);
+if(!(u8)(Re.f0&1)){
+Ne=1;
+Oe=4;
+Pe=0;
 goto L12;}
-Ne=Me;}
+Se=Re;}
 else{
-Oe=port_rattle_realloc(rp(zb),Ge*40,Le*40,4);
-if(!(u8)(Oe.f0&1)){
-Ie=1;
-Je=4;
-Ke=0;
+Te=port_rattle_realloc(rp(Ab),Le*52,Qe*52,4);
+if(!(u8)(Te.f0&1)){
+Ne=1;
+Oe=4;
+Pe=0;
 goto L12;}
-Ne=Oe;}
-Pe=(u8*)Ne.f1;
-wp(zb,Pe);
-w8(zb+16,Le);
-Qe=Pe;
-Re=r8(zb+8);}
+Se=Te;}
+Ue=(u8*)Se.f1;
+wp(Ab,Ue);
+w8(Ab+16,Qe);
+Ve=Ue;
+We=r8(Ab+8);}
 else{
-Qe=rp(zb);
-Re=Ge;}
-Se=Qe+Re*40;
-*Se=0;
-Se[1]=0;
-z36(Se+4);
-w8(zb+8,Re+1);
-Ie=0;
-Je=0;
-Ke=0;}
+Ve=rp(Ab);
+We=Le;}
+Xe=Ve+We*52;
+*Xe=0;
+Xe[1]=0;
+z48(Xe+4);
+w8(Ab+8,We+1);
+Ne=0;
+Oe=0;
+Pe=0;}
 else{
-if(*hb==0){
-Te=hb[4];
-push_behind_d5c(Na,b,zb,hb+36,zd-1,c);
-if(*Na==0){
-Ue=r8(zb+8);
-if(r8(zb+16)==Ue){
-Ve=umax64(Ue,8);
-if(Ve>(Ue^18446744073709551615u)){
-Ie=1;
-Je=4;
-Ke=0;
+if(*ib==0){
+Ye=ib[4];
+push_behind_d5c(Oa,b,Ab,ib+36,Ed-1,c);
+if(*Oa==0){
+Ze=r8(Ab+8);
+if(r8(Ab+16)==Ze){
+af=umax64(Ze,8);
+if(af>(Ze^18446744073709551615u)){
+Ne=1;
+Oe=4;
+Pe=0;
 goto L12;}
-We=Ve+Ue;
-if(We>=0x333333333333334u){
-Ie=1;
-Je=4;
-Ke=0;
+bf=af+Ze;
+if(bf>=0x276276276276277u){
+Ne=1;
+Oe=4;
+Pe=0;
 goto L12;}
-if(Ue==0){
-Xe=port_rattle_alloc(We*40,4);
-if(!(u8)(Xe.f0&1)){
-Ie=1;
-Je=4;
-Ke=0;
+if(Ze==0){
+cf=port_rattle_alloc(bf*52,4);
+if(!(u8)(cf.f0&1)){
+Ne=1;
+Oe=4;
+Pe=0;
 goto L12;}
-Ye=Xe;}
+df=cf;}
 else{
-Ze=port_rattle_realloc(rp(zb),Ue*40,We*40,4);
-if(!(u8)(Ze.f0&1)){
-Ie=1;
-Je=4;
-Ke=0;
+ef=port_rattle_realloc(rp(Ab),Ze*52,bf*52,4);
+if(!(u8)(ef.f0&1)){
+Ne=1;
+Oe=4;
+Pe=0;
 goto L12;}
-Ye=Ze;}
-af=(u8*)Ye.f1;
-wp(zb,af);
-w8(zb+16,We);
-bf=af;
-cf=r8(zb+8);}
+df=ef;}
+ff=(u8*)df.f1;
+wp(Ab,ff);
+w8(Ab+16,bf);
+gf=ff;
+hf=r8(Ab+8);}
 else{
-bf=rp(zb);
-cf=Ue;}
-df=bf+cf*40;
-*df=3;
-df[1]=0;
-x4(df+4,Fe);
-df[8]=Te;
-memcpy(df+9,ib+5,31);
-w8(zb+8,cf+1);
-Ie=0;
-Je=0;
-Ke=0;}
+gf=rp(Ab);
+hf=Ze;}
+jf=gf+hf*52;
+*jf=3;
+jf[1]=0;
+x4(jf+4,0);
+x4(jf+8,Ke);
+jf[12]=Ye;
+memcpy(jf+13,jb+5,31);
+x8(jf+44,0);
+w8(Ab+8,hf+1);
+Ne=0;
+Oe=0;
+Pe=0;}
 else{
-Ie=1;
-Je=Na[4];
-Ke=r4(Na+8);}}
+Ne=1;
+Oe=Oa[4];
+Pe=r4(Oa+8);}}
 else{
-push_special_629(Ma,b,zb,ib,zd,c);
-Ie=*Ma;
-Je=Ma[4];
-Ke=r4(Ma+8);}}
-L12:ye=Ke;
-ze=Je;
-Ae=Ie;
+push_special_629(Na,b,Ab,fd,jb,Ed,c);
+Ne=*Na;
+Oe=Na[4];
+Pe=r4(Na+8);}}
+L12:De=Pe;
+Ee=Oe;
+Fe=Ne;
 break;
-case 8:case 9:case 10:case 11:case 72:memcpy(E+1,Bd+1,3);
-memcpy(E+4,Bd+4,20);
-*E=Cd;
+case 8:case 9:case 10:case 11:case 72:memcpy(E+1,Gd+1,3);
+memcpy(E+4,Gd+4,20);
+*E=Hd;
 z64(F);
-if(Dd){
-ef=r4(E+4);
+if(Id){
+kf=r4(E+4);
 z64(C);
-ff=Ad+(i64)((u64)ef*48);
-gf=Ad+(i64)((u64)(*ff==47?q4(ff+4):ef)*48);
-hf=*gf;
-memcpy(D+1,gf+1,3);
-memcpy(D+4,gf+4,20);
-*D=hf;
+lf=Fd+(i64)((u64)kf*48);
+mf=Fd+(i64)((u64)(*lf==47?q4(lf+4):kf)*48);
+nf=*mf;
+memcpy(D+1,mf+1,3);
+memcpy(D+4,mf+4,20);
+*D=nf;
 view_of_own_62c(C,b+24,D);
 memcpy(F,C,64);}
 else view_of_own_62c(F,b+24,E);
-jf=r4(F+48);
-z12(Ia);
+of=r4(F+48);
 z12(Ja);
 z12(Ka);
-w4(La,2);
-if(zd==0){
-kf=r8(zb+8);
-if(r8(zb+16)==kf){
-lf=umax64(kf,8);
-if(lf>(kf^18446744073709551615u)){
-mf=1;
-nf=4;
-of=0;
+z12(La);
+z52(Ma);
+if(Ed==0){
+pf=r8(Ab+8);
+if(r8(Ab+16)==pf){
+qf=umax64(pf,8);
+if(qf>(pf^18446744073709551615u)){
+rf=1;
+sf=4;
+tf=0;
 goto L13;}
-pf=lf+kf;
-if(pf>=0x333333333333334u){
-mf=1;
-nf=4;
-of=0;
+uf=qf+pf;
+if(uf>=0x276276276276277u){
+rf=1;
+sf=4;
+tf=0;
 goto L13;}
-if(kf==0){
-qf=port_rattle_alloc(pf*40,4);
-if(!(u8)(qf.f0&1)){
-mf=1;
-nf=4;
-of=0;
+if(pf==0){
+vf=port_rattle_alloc(uf*52,4);
+if(!(u8)(vf.f0&1)){
+rf=1;
+sf=4;
+tf=0;
 goto L13;}
-rf=qf;}
+wf=vf;}
 else{
-sf=port_rattle_realloc(rp(zb),kf*40,pf*40,4);
-if(!(u8)(sf.f0&1)){
-mf=1;
-nf=4;
-of=0;
+xf=port_rattle_realloc(rp(Ab),pf*52,uf*52,4);
+if(!(u8)(xf.f0&1)){
+rf=1;
+sf=4;
+tf=0;
 goto L13;}
-rf=sf;}
-tf=(u8*)rf.f1;
-wp(zb,tf);
-w8(zb+16,pf);
-uf=tf;
-vf=r8(zb+8);}
+wf=xf;}
+yf=(u8*)wf.f1;
+wp(Ab,yf);
+w8(Ab+16,uf);
+zf=yf;
+Af=r8(Ab+8);}
 else{
-uf=rp(zb);
-vf=kf;}
-wf=uf+vf*40;
-*wf=0;
-wf[1]=0;
-z36(wf+4);
-w8(zb+8,vf+1);
-mf=0;
-nf=0;
-of=0;}
+zf=rp(Ab);
+Af=pf;}
+Bf=zf+Af*52;
+*Bf=0;
+Bf[1]=0;
+z48(Bf+4);
+w8(Ab+8,Af+1);
+rf=0;
+sf=0;
+tf=0;}
 else{
-xf=*hb;
-if(xf==0){
-push_special_629(Ia,b,zb,ib,zd,c);
-mf=*Ia;
-nf=Ia[4];
-of=r4(Ia+8);}
+Cf=*ib;
+if(Cf==0){
+push_special_629(Ja,b,Ab,fd,jb,Ed,c);
+rf=*Ja;
+sf=Ja[4];
+tf=r4(Ja+8);}
 else{
-yf=r4(hb+32);
-*Ha=xf;
-memcpy(Ha+1,ib+1,31);
-w4(Ha+32,yf);
-if(zd==1)push_special_629(Ja,b,zb,ib,1,c);
+Df=r4(ib+32);
+*Ia=Cf;
+memcpy(Ia+1,jb+1,31);
+w4(Ia+32,Df);
+if(Ed==1)push_special_629(Ka,b,Ab,fd,jb,1,c);
 else{
-if(hb[36]==0){
-zf=hb[40];
-z12(Ga);
-length_of_part_030(Ga,b,Ha,c);
-Af=r4(Ga+4);
-if(*Ga!=0){
-mf=1;
-nf=Af;
-of=r4(Ga+8);
+if(ib[36]==0){
+Ef=ib[40];
+z12(Ha);
+length_of_part_030(Ha,b,Ia,c);
+Ff=r4(Ha+4);
+if(*Ha!=0){
+rf=1;
+sf=Ff;
+tf=r4(Ha+8);
 goto L13;}
-push_plain_069(Ka,b,zb,hb+72,zd-2,c);
-if(*Ka!=0){
-mf=1;
-nf=Ka[4];
-of=r4(Ka+8);
+push_plain_069(La,b,Ab,ib+72,Ed-2,c);
+if(*La!=0){
+rf=1;
+sf=La[4];
+tf=r4(La+8);
 goto L13;}
-w4(La+4,jf);
-La[8]=zf;
-memcpy(La+9,ib+41,31);
-push_bd8(Ka,zb,La);
-if(*Ka!=0){
-mf=1;
-nf=Ka[4];
-of=r4(Ka+8);
+*Ma=2;
+w4(Ma+4,fd+1);
+w4(Ma+8,of);
+Ma[12]=Ef;
+memcpy(Ma+13,jb+41,31);
+push_bd8(La,Ab,Ma);
+if(*La!=0){
+rf=1;
+sf=La[4];
+tf=r4(La+8);
 goto L13;}
-push_words_147(Ja,zb,Af);}
-else push_special_629(Ja,b,zb,ib,zd,c);}
-mf=*Ja;
-nf=Ja[4];
-of=r4(Ja+8);}}
-L13:ye=of;
-ze=nf;
-Ae=mf;
+push_words_147(Ka,Ab,fd,Ff);}
+else push_special_629(Ka,b,Ab,fd,jb,Ed,c);}
+rf=*Ka;
+sf=Ka[4];
+tf=r4(Ka+8);}}
+L13:De=tf;
+Ee=sf;
+Fe=rf;
 break;
-default:push_special_629(fb,b,zb,ib,zd,c);
-ye=r4(fb+8);
-ze=fb[4];
-Ae=*fb;
+default:push_special_629(gb,b,Ab,fd,jb,Ed,c);
+De=r4(gb+8);
+Ee=gb[4];
+Fe=*gb;
 break;}
-Bf=Ae;
-Cf=ze;
-Df=ye;
+Gf=Fe;
+Hf=Ee;
+If=De;
 break;
-case 3:memcpy(Da,cd+8,32);
-zero_all(Fa,296);
-parts_7a7(Fa,b,Da);
-memcpy(Ea,Fa,296);
-Ef=r8(Ea+288);
-z12(Ba);
+case 3:w4(Ea,id);
+w4(Ea+4,hd);
+memcpy(Ea+8,dd+20,24);
+zero_all(Ga,296);
+parts_7a7(Ga,b,Ea);
+memcpy(Fa,Ga,296);
+Jf=r8(Fa+288);
 z12(Ca);
-Ff=rp(b+24);
-Gf=Ff+(i64)((u64)ed*48);
-Hf=*Gf;
-memcpy(za+1,Gf+1,3);
-memcpy(za+4,Gf+4,20);
-*za=Hf;
-z64(Aa);
-If=Hf==47;
-if(If){
-Jf=r4(za+4);
-z64(xa);
-Kf=Ff+(i64)((u64)Jf*48);
-Lf=Ff+(i64)((u64)(*Kf==47?q4(Kf+4):Jf)*48);
+z12(Da);
+Kf=rp(b+24);
+Lf=Kf+(i64)((gd&4294967295u)*48);
 Mf=*Lf;
-memcpy(ya+1,Lf+1,3);
-memcpy(ya+4,Lf+4,20);
-*ya=Mf;
-view_of_own_62c(xa,b+24,ya);
-memcpy(Aa,xa,64);}
-else view_of_own_62c(Aa,b+24,za);
-switch(r2(Aa)){
-case 12:memcpy(A+1,Gf+1,3);
-memcpy(A+4,Gf+4,20);
-*A=Hf;
+memcpy(Aa+1,Lf+1,3);
+memcpy(Aa+4,Lf+4,20);
+*Aa=Mf;
+z64(Ba);
+Nf=Mf==47;
+if(Nf){
+Of=r4(Aa+4);
+z64(ya);
+Pf=Kf+(i64)((u64)Of*48);
+Qf=Kf+(i64)((u64)(*Pf==47?q4(Pf+4):Of)*48);
+Rf=*Qf;
+memcpy(za+1,Qf+1,3);
+memcpy(za+4,Qf+4,20);
+*za=Rf;
+view_of_own_62c(ya,b+24,za);
+memcpy(Ba,ya,64);}
+else view_of_own_62c(Ba,b+24,Aa);
+switch(r2(Ba)){
+case 12:memcpy(A+1,Lf+1,3);
+memcpy(A+4,Lf+4,20);
+*A=Mf;
 z64(B);
-if(If){
-Nf=r4(A+4);
+if(Nf){
+Sf=r4(A+4);
 z64(y);
-Of=Ff+(i64)((u64)Nf*48);
-Pf=Ff+(i64)((u64)(*Of==47?q4(Of+4):Nf)*48);
-Qf=*Pf;
-memcpy(z+1,Pf+1,3);
-memcpy(z+4,Pf+4,20);
-*z=Qf;
+Tf=Kf+(i64)((u64)Sf*48);
+Uf=Kf+(i64)((u64)(*Tf==47?q4(Tf+4):Sf)*48);
+Vf=*Uf;
+memcpy(z+1,Uf+1,3);
+memcpy(z+4,Uf+4,20);
+*z=Vf;
 view_of_own_62c(y,b+24,z);
 memcpy(B,y,64);}
 else view_of_own_62c(B,b+24,A);
-Rf=r4(B+48);
-memcpy(w+1,Gf+1,3);
-memcpy(w+4,Gf+4,20);
-*w=Hf;
+Wf=r4(B+48);
+memcpy(w+1,Lf+1,3);
+memcpy(w+4,Lf+4,20);
+*w=Mf;
 z64(x);
-if(If){
-Sf=r4(w+4);
+if(Nf){
+Xf=r4(w+4);
 z64(u);
-Tf=Ff+(i64)((u64)Sf*48);
-Uf=Ff+(i64)((u64)(*Tf==47?q4(Tf+4):Sf)*48);
-Vf=*Uf;
-memcpy(v+1,Uf+1,3);
-memcpy(v+4,Uf+4,20);
-*v=Vf;
+Yf=Kf+(i64)((u64)Xf*48);
+Zf=Kf+(i64)((u64)(*Yf==47?q4(Yf+4):Xf)*48);
+ag=*Zf;
+memcpy(v+1,Zf+1,3);
+memcpy(v+4,Zf+4,20);
+*v=ag;
 view_of_own_62c(u,b+24,v);
 memcpy(x,u,64);}
 else view_of_own_62c(x,b+24,w);
-Wf=0;
-Xf=0;
-Yf=Rf;
-Zf=r4(x+52);
+bg=0;
+cg=0;
+dg=Wf;
+eg=r4(x+52);
 break;
-case 68:memcpy(s+1,Gf+1,3);
-memcpy(s+4,Gf+4,20);
-*s=Hf;
+case 68:memcpy(s+1,Lf+1,3);
+memcpy(s+4,Lf+4,20);
+*s=Mf;
 z64(t);
-if(If){
-ag=r4(s+4);
+if(Nf){
+fg=r4(s+4);
 z64(q);
-bg=Ff+(i64)((u64)ag*48);
-cg=Ff+(i64)((u64)(*bg==47?q4(bg+4):ag)*48);
-dg=*cg;
-memcpy(r+1,cg+1,3);
-memcpy(r+4,cg+4,20);
-*r=dg;
+gg=Kf+(i64)((u64)fg*48);
+hg=Kf+(i64)((u64)(*gg==47?q4(gg+4):fg)*48);
+ig=*hg;
+memcpy(r+1,hg+1,3);
+memcpy(r+4,hg+4,20);
+*r=ig;
 view_of_own_62c(q,b+24,r);
 memcpy(t,q,64);}
 else view_of_own_62c(t,b+24,s);
-Wf=0;
-Xf=1;
-Yf=r4(t+48);
-Zf=0;
+bg=0;
+cg=1;
+dg=r4(t+48);
+eg=0;
 break;
-case 13:memcpy(o+1,Gf+1,3);
-memcpy(o+4,Gf+4,20);
-*o=Hf;
+case 13:memcpy(o+1,Lf+1,3);
+memcpy(o+4,Lf+4,20);
+*o=Mf;
 z64(p);
-if(If){
-eg=r4(o+4);
+if(Nf){
+jg=r4(o+4);
 z64(m);
-fg=Ff+(i64)((u64)eg*48);
-gg=Ff+(i64)((u64)(*fg==47?q4(fg+4):eg)*48);
-hg=*gg;
-memcpy(n+1,gg+1,3);
-memcpy(n+4,gg+4,20);
-*n=hg;
+kg=Kf+(i64)((u64)jg*48);
+lg=Kf+(i64)((u64)(*kg==47?q4(kg+4):jg)*48);
+mg=*lg;
+memcpy(n+1,lg+1,3);
+memcpy(n+4,lg+4,20);
+*n=mg;
 view_of_own_62c(m,b+24,n);
 memcpy(p,m,64);}
 else view_of_own_62c(p,b+24,o);
-ig=entity_node_809(b,r4(p+52));
-Wf=0;
-Xf=2;
-Yf=ig;
-Zf=0;
+ng=entity_node_809(b,r4(p+52));
+bg=0;
+cg=2;
+dg=ng;
+eg=0;
 break;
-case 14:memcpy(k+1,Gf+1,3);
-memcpy(k+4,Gf+4,20);
-*k=Hf;
+case 14:memcpy(k+1,Lf+1,3);
+memcpy(k+4,Lf+4,20);
+*k=Mf;
 z64(l);
-if(If){
-jg=r4(k+4);
+if(Nf){
+og=r4(k+4);
 z64(i);
-kg=Ff+(i64)((u64)jg*48);
-lg=Ff+(i64)((u64)(*kg==47?q4(kg+4):jg)*48);
-mg=*lg;
-memcpy(j+1,lg+1,3);
-memcpy(j+4,lg+4,20);
-*j=mg;
+pg=Kf+(i64)((u64)og*48);
+qg=Kf+(i64)((u64)(*pg==47?q4(pg+4):og)*48);
+rg=*qg;
+memcpy(j+1,qg+1,3);
+memcpy(j+4,qg+4,20);
+*j=rg;
 view_of_own_62c(i,b+24,j);
 memcpy(l,i,64);}
 else view_of_own_62c(l,b+24,k);
-ng=entity_node_809(b,r4(l+52));
-Wf=0;
-Xf=2;
-Yf=ng;
-Zf=0;
+sg=entity_node_809(b,r4(l+52));
+bg=0;
+cg=2;
+dg=sg;
+eg=0;
 break;
-case 66:memcpy(g+1,Gf+1,3);
-memcpy(g+4,Gf+4,20);
-*g=Hf;
+case 66:memcpy(g+1,Lf+1,3);
+memcpy(g+4,Lf+4,20);
+*g=Mf;
 z64(h);
-if(If){
-og=r4(g+4);
+if(Nf){
+tg=r4(g+4);
 z64(e);
-pg=Ff+(i64)((u64)og*48);
-qg=Ff+(i64)((u64)(*pg==47?q4(pg+4):og)*48);
-rg=*qg;
-memcpy(f+1,qg+1,3);
-memcpy(f+4,qg+4,20);
-*f=rg;
+ug=Kf+(i64)((u64)tg*48);
+vg=Kf+(i64)((u64)(*ug==47?q4(ug+4):tg)*48);
+wg=*vg;
+memcpy(f+1,vg+1,3);
+memcpy(f+4,vg+4,20);
+*f=wg;
 view_of_own_62c(e,b+24,f);
 memcpy(h,e,64);}
 else view_of_own_62c(h,b+24,g);
-Wf=0;
-Xf=2;
-Yf=r4(h+48);
-Zf=0;
+bg=0;
+cg=2;
+dg=r4(h+48);
+eg=0;
 break;
-case 15:Wf=1;
-Xf=3;
-Yf=0;
-Zf=0;
+case 15:bg=1;
+cg=3;
+dg=0;
+eg=0;
 break;
-default:Wf=0;
-Xf=4;
-Yf=0;
-Zf=0;
+default:bg=0;
+cg=4;
+dg=0;
+eg=0;
 break;}
-if(Ef==0){
-push_whole_733(Ba,b,zb,3,Fa,0,c);
-sg=Ba[4];
-tg=r4(Ba+8);
-ug=*Ba;}
+if(Jf==0){
+push_whole_733(Ca,b,Ab,3,0,Ga,0,c);
+xg=Ca[4];
+yg=r4(Ca+8);
+zg=*Ca;}
 else{
-vg=Ef-1;
-wg=*Ea;
-if(wg==0){
-xg=Ea[4];
-memcpy(ta,Fa+5,31);
-z12(ua);
+Ag=Jf-1;
+Bg=*Fa;
+if(Bg==0){
+Cg=Fa[4];
+memcpy(ua,Ga+5,31);
 z12(va);
 z12(wa);
-switch(Xf){
-case 0:z12(ra);
-z12(sa);
-if(vg!=0){
-Jg=Ea[36];
-if(Jg==0){
-push_plain_069(ra,b,zb,Ea+36,vg,c);
-if(*ra==0){
-Kg=r8(zb+8);
-goto L14;}
-Lg=1;
-Mg=ra[4];
-Ng=r4(ra+8);
-goto L15;}
-Og=r4(Ea+68);
-*qa=Jg;
-memcpy(qa+1,Fa+37,31);
-w4(qa+32,Og);
-z12(pa);
-length_of_part_030(pa,b,qa,c);
-Pg=r4(pa+4);
-if(*pa==0){
-Qg=Pg!=0;
-push_brackets_287(sa,b,zb,5,6,Zf,Qg,Ea+72,Ef-2,c);
+z12(xa);
+switch(cg){
+case 0:z12(sa);
+z12(ta);
+if(Ag!=0){
+Og=Fa[36];
+if(Og==0){
+push_plain_069(sa,b,Ab,Fa+36,Ag,c);
 if(*sa==0){
-Rg=Pg-Qg;
-Sg=r8(zb+8);
-if(r8(zb+16)==Sg){
-Tg=umax64(Sg,8);
-if(Tg>(Sg^18446744073709551615u))goto L16;
-Ug=Tg+Sg;
-if(Ug>=0x333333333333334u)goto L16;
-if(Sg==0){
-Vg=port_rattle_alloc(Ug*40,4);
-if(!(u8)(Vg.f0&1))goto L16;
-Wg=Vg;}
+Pg=r8(Ab+8);
+goto L14;}
+Qg=1;
+Rg=sa[4];
+Sg=r4(sa+8);
+goto L15;}
+Tg=r4(Fa+68);
+*ra=Og;
+memcpy(ra+1,Ga+37,31);
+w4(ra+32,Tg);
+z12(qa);
+length_of_part_030(qa,b,ra,c);
+Ug=r4(qa+4);
+if(*qa==0){
+Vg=Ug!=0;
+push_brackets_287(ta,b,Ab,5,6,eg,Vg,Fa+72,Jf-2,c);
+if(*ta==0){
+Wg=Ug-Vg;
+Xg=r8(Ab+8);
+if(r8(Ab+16)==Xg){
+Yg=umax64(Xg,8);
+if(Yg>(Xg^18446744073709551615u))goto L16;
+Zg=Yg+Xg;
+if(Zg>=0x276276276276277u)goto L16;
+if(Xg==0){
+ah=port_rattle_alloc(Zg*52,4);
+if(!(u8)(ah.f0&1))goto L16;
+bh=ah;}
 else{
-Xg=port_rattle_realloc(rp(zb),Sg*40,Ug*40,4);
-if(!(u8)(Xg.f0&1))goto L16;
-Wg=Xg;}
-Yg=(u8*)Wg.f1;
-wp(zb,Yg);
-w8(zb+16,Ug);
-Zg=Yg;
-ah=r8(zb+8);}
+ch=port_rattle_realloc(rp(Ab),Xg*52,Zg*52,4);
+if(!(u8)(ch.f0&1))goto L16;
+bh=ch;}
+dh=(u8*)bh.f1;
+wp(Ab,dh);
+w8(Ab+16,Zg);
+eh=dh;
+fh=r8(Ab+8);}
 else{
-Zg=rp(zb);
-ah=Sg;}
-bh=Zg+ah*40;
-*bh=0;
-bh[1]=0;
-x4(bh+4,Rg);
-z32(bh+8);
-Ig=ah;
+eh=rp(Ab);
+fh=Xg;}
+gh=eh+fh*52;
+*gh=0;
+gh[1]=0;
+x4(gh+4,Wg);
+z44(gh+8);
+Ng=fh;
 goto L17;}
-ch=sa[4];
-dh=r4(sa+8);}
+hh=ta[4];
+ih=r4(ta+8);}
 else{
-ch=Pg;
-dh=r4(pa+8);}
-Lg=1;
-Mg=ch;
-Ng=dh;
+hh=Ug;
+ih=r4(qa+8);}
+Qg=1;
+Rg=hh;
+Sg=ih;
 goto L15;}
-yg=r8(zb+8);
-if(r8(zb+16)==yg){
-zg=umax64(yg,8);
-if(zg>(yg^18446744073709551615u))goto L16;
-Ag=zg+yg;
-if(Ag>=0x333333333333334u)goto L16;
-if(yg==0){
-Bg=port_rattle_alloc(Ag*40,4);
-if(!(u8)(Bg.f0&1))goto L16;
-Cg=Bg;}
+Dg=r8(Ab+8);
+if(r8(Ab+16)==Dg){
+Eg=umax64(Dg,8);
+if(Eg>(Dg^18446744073709551615u))goto L16;
+Fg=Eg+Dg;
+if(Fg>=0x276276276276277u)goto L16;
+if(Dg==0){
+Gg=port_rattle_alloc(Fg*52,4);
+if(!(u8)(Gg.f0&1))goto L16;
+Hg=Gg;}
 else{
-Dg=port_rattle_realloc(rp(zb),yg*40,Ag*40,4);
-if(!(u8)(Dg.f0&1))goto L16;
-Cg=Dg;}
-Eg=(u8*)Cg.f1;
-wp(zb,Eg);
-w8(zb+16,Ag);
-Fg=Eg;
-Gg=r8(zb+8);}
+Ig=port_rattle_realloc(rp(Ab),Dg*52,Fg*52,4);
+if(!(u8)(Ig.f0&1))goto L16;
+Hg=Ig;}
+Jg=(u8*)Hg.f1;
+wp(Ab,Jg);
+w8(Ab+16,Fg);
+Kg=Jg;
+Lg=r8(Ab+8);}
 else{
-Fg=rp(zb);
-Gg=yg;}
-Hg=Fg+Gg*40;
-*Hg=0;
-Hg[1]=0;
-z36(Hg+4);
-Ig=Gg;
-L17:eh=Ig+1;
-w8(zb+8,eh);
-Kg=eh;
-L14:if(r8(zb+16)==Kg){
-fh=umax64(Kg,8);
-if(fh>(Kg^18446744073709551615u)){
-gh=1;
-hh=4;
+Kg=rp(Ab);
+Lg=Dg;}
+Mg=Kg+Lg*52;
+*Mg=0;
+Mg[1]=0;
+z48(Mg+4);
+Ng=Lg;
+L17:jh=Ng+1;
+w8(Ab+8,jh);
+Pg=jh;
+L14:if(r8(Ab+16)==Pg){
+kh=umax64(Pg,8);
+if(kh>(Pg^18446744073709551615u)){
+lh=1;
+mh=4;
 goto L18;}
-ih=fh+Kg;
-if(ih>=0x333333333333334u){
-gh=1;
-hh=4;
+nh=kh+Pg;
+if(nh>=0x276276276276277u){
+lh=1;
+mh=4;
 goto L18;}
-if(Kg==0){
-jh=port_rattle_alloc(ih*40,4);
-if(!(u8)(jh.f0&1)){
-gh=1;
-hh=4;
+if(Pg==0){
+oh=port_rattle_alloc(nh*52,4);
+if(!(u8)(oh.f0&1)){
+lh=1;
+mh=4;
 goto L18;}
-kh=jh;}
+ph=oh;}
 else{
-lh=port_rattle_realloc(rp(zb),Kg*40,ih*40,4);
-if(!(u8)(lh.f0&1)){
-gh=1;
-hh=4;
+qh=port_rattle_realloc(rp(Ab),Pg*52,nh*52,4);
+if(!(u8)(qh.f0&1)){
+lh=1;
+mh=4;
 goto L18;}
-kh=lh;}
-mh=(u8*)kh.f1;
-wp(zb,mh);
-w8(zb+16,ih);
-nh=mh;
-oh=r8(zb+8);}
+ph=qh;}
+rh=(u8*)ph.f1;
+wp(Ab,rh);
+w8(Ab+16,nh);
+sh=rh;
+th=r8(Ab+8);}
 else{
-nh=rp(zb);
-oh=Kg;}
-ph=nh+oh*40;
-*ph=3;
-ph[1]=0;
-x4(ph+4,Yf);
-ph[8]=xg;
-memcpy(ph+9,ta,31);
-w8(zb+8,oh+1);
-gh=0;
-hh=0;
-L18:*ua=gh;
-w4(ua+4,hh);
-w4(ua+8,0);
+sh=rp(Ab);
+th=Pg;}
+uh=sh+th*52;
+*uh=3;
+uh[1]=0;
+x4(uh+4,fd);
+x4(uh+8,dg);
+uh[12]=Cg;
+memcpy(uh+13,ua,31);
+x8(uh+44,0);
+w8(Ab+8,th+1);
+lh=0;
+mh=0;
+L18:*va=lh;
+w4(va+4,mh);
+w4(va+8,0);
 break;
-L16:Lg=1;
-Mg=4;
-Ng=0;
+L16:Qg=1;
+Rg=4;
+Sg=0;
 goto L15;
-case 1:push_whole_733(va,b,zb,4,Ea+36,vg,c);
-if(*va!=0){
-Lg=1;
-Mg=va[4];
-Ng=r4(va+8);
-goto L15;}
-qh=r8(zb+8);
-if(r8(zb+16)==qh){
-rh=umax64(qh,8);
-if(rh>(qh^18446744073709551615u)){
-sh=1;
-th=4;
-goto L19;}
-uh=rh+qh;
-if(uh>=0x333333333333334u){
-sh=1;
-th=4;
-goto L19;}
-if(qh==0){
-vh=port_rattle_alloc(uh*40,4);
-if(!(u8)(vh.f0&1)){
-sh=1;
-th=4;
-goto L19;}
-wh=vh;}
-else{
-xh=port_rattle_realloc(rp(zb),qh*40,uh*40,4);
-if(!(u8)(xh.f0&1)){
-sh=1;
-th=4;
-goto L19;}
-wh=xh;}
-yh=(u8*)wh.f1;
-wp(zb,yh);
-w8(zb+16,uh);
-zh=yh;
-Ah=r8(zb+8);}
-else{
-zh=rp(zb);
-Ah=qh;}
-Bh=zh+Ah*40;
-*Bh=3;
-Bh[1]=0;
-x4(Bh+4,Yf);
-Bh[8]=xg;
-memcpy(Bh+9,Fa+5,31);
-w8(zb+8,Ah+1);
-sh=0;
-th=0;
-L19:*ua=sh;
-w4(ua+4,th);
-w4(ua+8,0);
-break;
-case 2:push_plain_069(wa,b,zb,Ea+36,vg,c);
+case 1:push_whole_733(wa,b,Ab,4,fd,Fa+36,Ag,c);
 if(*wa!=0){
-Lg=1;
-Mg=wa[4];
-Ng=r4(wa+8);
+Qg=1;
+Rg=wa[4];
+Sg=r4(wa+8);
 goto L15;}
-Ch=r8(zb+8);
-if(r8(zb+16)==Ch){
-Dh=umax64(Ch,8);
-if(Dh>(Ch^18446744073709551615u)){
-Eh=1;
-Fh=4;
-goto L20;}
-Gh=Dh+Ch;
-if(Gh>=0x333333333333334u){
-Eh=1;
-Fh=4;
-goto L20;}
-if(Ch==0){
-Hh=port_rattle_alloc(Gh*40,4);
-if(!(u8)(Hh.f0&1)){
-Eh=1;
-Fh=4;
-goto L20;}
-Ih=Hh;}
+vh=fd+1;
+wh=r8(Ab+8);
+if(r8(Ab+16)==wh){
+xh=umax64(wh,8);
+if(xh>(wh^18446744073709551615u)){
+yh=1;
+zh=4;
+goto L19;}
+Ah=xh+wh;
+if(Ah>=0x276276276276277u){
+yh=1;
+zh=4;
+goto L19;}
+if(wh==0){
+Bh=port_rattle_alloc(Ah*52,4);
+if(!(u8)(Bh.f0&1)){
+yh=1;
+zh=4;
+goto L19;}
+Ch=Bh;}
 else{
-Jh=port_rattle_realloc(rp(zb),Ch*40,Gh*40,4);
-if(!(u8)(Jh.f0&1)){
-Eh=1;
-Fh=4;
-goto L20;}
-Ih=Jh;}
-Kh=(u8*)Ih.f1;
-wp(zb,Kh);
-w8(zb+16,Gh);
-Lh=Kh;
-Mh=r8(zb+8);}
+Dh=port_rattle_realloc(rp(Ab),wh*52,Ah*52,4);
+if(!(u8)(Dh.f0&1)){
+yh=1;
+zh=4;
+goto L19;}
+Ch=Dh;}
+Eh=(u8*)Ch.f1;
+wp(Ab,Eh);
+w8(Ab+16,Ah);
+Fh=Eh;
+Gh=r8(Ab+8);}
 else{
-Lh=rp(zb);
-Mh=Ch;}
-Nh=Lh+Mh*40;
-*Nh=3;
-Nh[1]=0;
-x4(Nh+4,Yf);
-Nh[8]=xg;
-memcpy(Nh+9,Fa+5,31);
-w8(zb+8,Mh+1);
-Eh=0;
-Fh=0;
-L20:*ua=Eh;
-w4(ua+4,Fh);
-w4(ua+8,0);
+Fh=rp(Ab);
+Gh=wh;}
+Hh=Fh+Gh*52;
+*Hh=3;
+Hh[1]=0;
+x4(Hh+4,vh);
+x4(Hh+8,dg);
+Hh[12]=Cg;
+memcpy(Hh+13,Ga+5,31);
+x8(Hh+44,0);
+w8(Ab+8,Gh+1);
+yh=0;
+zh=0;
+L19:*va=yh;
+w4(va+4,zh);
+w4(va+8,0);
 break;
-case 3:push_whole_733(ua,b,zb,3,Fa,Ef,c);
+case 2:push_plain_069(xa,b,Ab,Fa+36,Ag,c);
+if(*xa!=0){
+Qg=1;
+Rg=xa[4];
+Sg=r4(xa+8);
+goto L15;}
+Ih=r8(Ab+8);
+if(r8(Ab+16)==Ih){
+Jh=umax64(Ih,8);
+if(Jh>(Ih^18446744073709551615u)){
+Kh=1;
+Lh=4;
+goto L20;}
+Mh=Jh+Ih;
+if(Mh>=0x276276276276277u){
+Kh=1;
+Lh=4;
+goto L20;}
+if(Ih==0){
+Nh=port_rattle_alloc(Mh*52,4);
+if(!(u8)(Nh.f0&1)){
+Kh=1;
+Lh=4;
+goto L20;}
+Oh=Nh;}
+else{
+Ph=port_rattle_realloc(rp(Ab),Ih*52,Mh*52,4);
+if(!(u8)(Ph.f0&1)){
+Kh=1;
+Lh=4;
+goto L20;}
+Oh=Ph;}
+Qh=(u8*)Oh.f1;
+wp(Ab,Qh);
+w8(Ab+16,Mh);
+Rh=Qh;
+Sh=r8(Ab+8);}
+else{
+Rh=rp(Ab);
+Sh=Ih;}
+Th=Rh+Sh*52;
+*Th=3;
+Th[1]=0;
+x4(Th+4,fd);
+x4(Th+8,dg);
+Th[12]=Cg;
+memcpy(Th+13,Ga+5,31);
+x8(Th+44,0);
+w8(Ab+8,Sh+1);
+Kh=0;
+Lh=0;
+L20:*va=Kh;
+w4(va+4,Lh);
+w4(va+8,0);
 break;
-case 4:push_named_0bb(ua,b,zb,Fa,Ef,c);
+case 3:push_whole_733(va,b,Ab,3,0,Ga,Jf,c);
+break;
+case 4:push_named_0bb(va,b,Ab,Ga,Jf,c);
 break;
 default:NEVER;
 }
-Lg=*ua;
-Mg=ua[4];
-Ng=r4(ua+8);
-L15:sg=Mg;
-tg=Ng;
-ug=Lg;}
+Qg=*va;
+Rg=va[4];
+Sg=r4(va+8);
+L15:xg=Rg;
+yg=Sg;
+zg=Qg;}
 else{
-if(Wf){
-Oh=r4(Ea+32);
+if(bg){
+Uh=r4(Fa+32);
+z12(ma);
+z12(oa);
+z52(pa);
+*na=Bg;
+memcpy(na+1,Ga+1,31);
+w4(na+32,Uh);
 z12(la);
-z12(na);
-z40(oa);
-*ma=wg;
-memcpy(ma+1,Fa+1,31);
-w4(ma+32,Oh);
-z12(ka);
-length_of_part_030(ka,b,ma,c);
-Ph=r4(ka+4);
-if(*ka==0){
-if(vg==0){
-Qh=0;
+length_of_part_030(la,b,na,c);
+Vh=r4(la+4);
+if(*la==0){
+if(Ag==0){
+Wh=0;
 goto L21;}
-Rh=0;
-Sh=Ea+36;
-Th=vg;
-L22:Uh=Th-1;
-Vh=*Sh;
-if(Vh==0){
-Wh=Sh[4];
-w4(ja,0);
-ja[4]=Wh;
-memcpy(ja+5,Sh+5,31);
-z12(ga);
-length_of_part_030(ga,b,ja,c);
-Xh=r4(ga+4);
-if(*ga==0){
-Yh=Xh;
-goto L23;}
-Zh=Xh;
-ai=r4(ga+8);}
-else{
-bi=q4(Sh+32);
-*ia=Vh;
-memcpy(ia+1,Sh+1,31);
-w4(ia+32,bi);
+Xh=0;
+Yh=Fa+36;
+Zh=Ag;
+L22:ai=Zh-1;
+bi=*Yh;
+if(bi==0){
+ci=Yh[4];
+w4(ka,0);
+ka[4]=ci;
+memcpy(ka+5,Yh+5,31);
 z12(ha);
-length_of_part_030(ha,b,ia,c);
-ci=r4(ha+4);
+length_of_part_030(ha,b,ka,c);
+di=r4(ha+4);
 if(*ha==0){
-Yh=ci;
+ei=di;
 goto L23;}
-Zh=ci;
-ai=r4(ha+8);}
-di=ai;
-ei=Zh;
-fi=1;
+fi=di;
+gi=r4(ha+8);}
+else{
+hi=q4(Yh+32);
+*ja=bi;
+memcpy(ja+1,Yh+1,31);
+w4(ja+32,hi);
+z12(ia);
+length_of_part_030(ia,b,ja,c);
+ii=r4(ia+4);
+if(*ia==0){
+ei=ii;
+goto L23;}
+fi=ii;
+gi=r4(ia+8);}
+ji=gi;
+ki=fi;
+li=1;
 goto L24;
-L23:gi=Yh+Rh;
-if(Uh!=0){
-Rh=gi;
-Sh=Sh+36;
-Th=Uh;
+L23:mi=ei+Xh;
+if(ai!=0){
+Xh=mi;
+Yh=Yh+36;
+Zh=ai;
 goto L22;}
-Qh=gi;
-L21:hi=umin32(Ph,3);
-ii=Ph-hi;
-ji=umin32(ii,2);
-ki=ii-ji;
-li=r8(zb+8);
-if(r8(zb+16)==li){
-mi=umax64(li,8);
-if(mi>(li^18446744073709551615u)){
-di=0;
-ei=4;
-fi=1;
+Wh=mi;
+L21:ni=umin32(Vh,3);
+oi=Vh-ni;
+pi=umin32(oi,2);
+qi=oi-pi;
+*pa=0;
+w4(pa+4,Wh);
+ri=r8(Ab+8);
+if(r8(Ab+16)==ri){
+si=umax64(ri,8);
+if(si>(ri^18446744073709551615u)){
+ji=0;
+ki=4;
+li=1;
 goto L24;}
-ni=mi+li;
-if(ni>=0x333333333333334u){
-di=0;
-ei=4;
-fi=1;
+ti=si+ri;
+if(ti>=0x276276276276277u){
+ji=0;
+ki=4;
+li=1;
 goto L24;}
-if(li==0){
-oi=port_rattle_alloc(ni*40,4);
-if(!(u8)(oi.f0&1)){
-di=0;
-ei=4;
-fi=1;
+if(ri==0){
+ui=port_rattle_alloc(ti*52,4);
+if(!(u8)(ui.f0&1)){
+ji=0;
+ki=4;
+li=1;
 goto L24;}
-pi=oi;}
+vi=ui;}
 else{
-qi=port_rattle_realloc(rp(zb),li*40,ni*40,4);
-if(!(u8)(qi.f0&1)){
-di=0;
-ei=4;
-fi=1;
+wi=port_rattle_realloc(rp(Ab),ri*52,ti*52,4);
+if(!(u8)(wi.f0&1)){
+ji=0;
+ki=4;
+li=1;
 goto L24;}
-pi=qi;}
-ri=(u8*)pi.f1;
-wp(zb,ri);
-w8(zb+16,ni);
-si=ri;
-ti=r8(zb+8);}
+vi=wi;}
+xi=(u8*)vi.f1;
+wp(Ab,xi);
+w8(Ab+16,ti);
+yi=xi;
+zi=r8(Ab+8);}
 else{
-si=rp(zb);
-ti=li;}
-ui=si+ti*40;
-*ui=0;
-ui[1]=0;
-x4(ui+4,Qh);
-z32(ui+8);
-vi=ti+1;
-w8(zb+8,vi);
-if(r8(zb+16)==vi){
-wi=umax64(vi,8);
-if(wi>0xfffffffffffffffeu-ti){
-di=0;
-ei=4;
-fi=1;
+yi=rp(Ab);
+zi=ri;}
+Ai=yi+zi*52;
+*Ai=0;
+Ai[1]=0;
+memcpy(Ai+4,pa+4,48);
+Bi=zi+1;
+w8(Ab+8,Bi);
+w4(pa+4,qi);
+if(r8(Ab+16)==Bi){
+Ci=umax64(Bi,8);
+if(Ci>0xfffffffffffffffeu-zi){
+ji=0;
+ki=4;
+li=1;
 goto L24;}
-xi=wi+vi;
-if(xi>=0x333333333333334u){
-di=0;
-ei=4;
-fi=1;
+Di=Ci+Bi;
+if(Di>=0x276276276276277u){
+ji=0;
+ki=4;
+li=1;
 goto L24;}
-if(vi==0){
-yi=port_rattle_alloc(xi*40,4);
-if(!(u8)(yi.f0&1)){
-di=0;
-ei=4;
-fi=1;
+if(Bi==0){
+Ei=port_rattle_alloc(Di*52,4);
+if(!(u8)(Ei.f0&1)){
+ji=0;
+ki=4;
+li=1;
 goto L24;}
-zi=yi;}
+Fi=Ei;}
 else{
-Ai=port_rattle_realloc(rp(zb),vi*40,xi*40,4);
-if(!(u8)(Ai.f0&1)){
-di=0;
-ei=4;
-fi=1;
+Gi=port_rattle_realloc(rp(Ab),Bi*52,Di*52,4);
+if(!(u8)(Gi.f0&1)){
+ji=0;
+ki=4;
+li=1;
 goto L24;}
-zi=Ai;}
-Bi=(u8*)zi.f1;
-wp(zb,Bi);
-w8(zb+16,xi);
-Ci=Bi;
-Di=r8(zb+8);}
+Fi=Gi;}
+Hi=(u8*)Fi.f1;
+wp(Ab,Hi);
+w8(Ab+16,Di);
+Ii=Hi;
+Ji=r8(Ab+8);}
 else{
-Ci=rp(zb);
-Di=vi;}
-Ei=Ci+Di*40;
-*Ei=0;
-Ei[1]=0;
-x4(Ei+4,ki);
-z32(Ei+8);
-w8(zb+8,Di+1);
-w4(na+4,0);
-w4(na+8,0);
-*oa=1;
-oa[1]=3;
-w4(oa+4,Qh+ki);
-push_bd8(na,zb,oa);
-if(*na==0){
-*oa=0;
-w4(oa+4,ji);
-push_bd8(na,zb,oa);
-if(*na==0){
-push_alone_0dc(la,zb,2,hi);
-di=r4(la+8);
-ei=la[4];
-fi=*la;}
+Ii=rp(Ab);
+Ji=Bi;}
+Ki=Ii+Ji*52;
+*Ki=0;
+Ki[1]=0;
+memcpy(Ki+4,pa+4,48);
+w8(Ab+8,Ji+1);
+w4(oa+4,0);
+w4(oa+8,0);
+*pa=1;
+pa[1]=3;
+w4(pa+4,0);
+w4(pa+8,0);
+w4(pa+12,Wh+qi);
+push_bd8(oa,Ab,pa);
+if(*oa==0){
+*pa=0;
+w4(pa+4,pi);
+push_bd8(oa,Ab,pa);
+if(*oa==0){
+push_alone_0dc(ma,Ab,2,0,ni);
+ji=r4(ma+8);
+ki=ma[4];
+li=*ma;}
 else{
-di=r4(na+8);
-ei=na[4];
-fi=1;}}
+ji=r4(oa+8);
+ki=oa[4];
+li=1;}}
 else{
-di=r4(na+8);
-ei=na[4];
-fi=1;}}
+ji=r4(oa+8);
+ki=oa[4];
+li=1;}}
 else{
-di=r4(ka+8);
-ei=Ph;
-fi=1;}
-L24:sg=ei;
-tg=di;
-ug=fi;}
+ji=r4(la+8);
+ki=Vh;
+li=1;}
+L24:xg=ki;
+yg=ji;
+zg=li;}
 else{
-push_named_0bb(Ca,b,zb,Fa,Ef,c);
-sg=Ca[4];
-tg=r4(Ca+8);
-ug=*Ca;}}}
-Bf=ug;
-Cf=sg;
-Df=tg;
+push_named_0bb(Da,b,Ab,Ga,Jf,c);
+xg=Da[4];
+yg=r4(Da+8);
+zg=*Da;}}}
+Gf=zg;
+Hf=xg;
+If=yg;
 break;
-case 4:memcpy(ea,cd+8,32);
-zero_all(fa,296);
-parts_7a7(fa,b,ea);
-Fi=r8(fa+288);
-z12(ca);
+case 4:memcpy(fa,dd+20,32);
+zero_all(ga,296);
+parts_7a7(ga,b,fa);
+Li=r8(ga+288);
+w4(ba,fd&255);
+x8(ba+4,gd);
 z12(da);
-if(Fi==0){
-Gi=r8(zb+8);
-if(r8(zb+16)==Gi){
-Hi=umax64(Gi,8);
-if(Hi>(Gi^18446744073709551615u)){
-Ii=1;
-Ji=4;
-Ki=0;
+z12(ea);
+if(Li==0){
+Mi=r8(Ab+8);
+if(r8(Ab+16)==Mi){
+Ni=umax64(Mi,8);
+if(Ni>(Mi^18446744073709551615u)){
+Oi=1;
+Pi=4;
+Qi=0;
 goto L25;}
-Li=Hi+Gi;
-if(Li>=0x333333333333334u){
-Ii=1;
-Ji=4;
-Ki=0;
+Ri=Ni+Mi;
+if(Ri>=0x276276276276277u){
+Oi=1;
+Pi=4;
+Qi=0;
 goto L25;}
-if(Gi==0){
-Mi=port_rattle_alloc(Li*40,4);
-if(!(u8)(Mi.f0&1)){
-Ii=1;
-Ji=4;
-Ki=0;
+if(Mi==0){
+Si=port_rattle_alloc(Ri*52,4);
+if(!(u8)(Si.f0&1)){
+Oi=1;
+Pi=4;
+Qi=0;
 goto L25;}
-Ni=Mi;}
+Ti=Si;}
 else{
-Oi=port_rattle_realloc(rp(zb),Gi*40,Li*40,4);
-if(!(u8)(Oi.f0&1)){
-Ii=1;
-Ji=4;
-Ki=0;
+Ui=port_rattle_realloc(rp(Ab),Mi*52,Ri*52,4);
+if(!(u8)(Ui.f0&1)){
+Oi=1;
+Pi=4;
+Qi=0;
 goto L25;}
-Ni=Oi;}
-Pi=(u8*)Ni.f1;
-wp(zb,Pi);
-w8(zb+16,Li);
-Qi=Pi;
-Ri=r8(zb+8);}
+Ti=Ui;}
+Vi=(u8*)Ti.f1;
+wp(Ab,Vi);
+w8(Ab+16,Ri);
+Wi=Vi;
+Xi=r8(Ab+8);}
 else{
-Qi=rp(zb);
-Ri=Gi;}
-Si=Qi+Ri*40;
-*Si=0;
-Si[1]=0;
-z36(Si+4);
-w8(zb+8,Ri+1);
-Ii=0;
-Ji=0;
-Ki=0;}
+Wi=rp(Ab);
+Xi=Mi;}
+Yi=Wi+Xi*52;
+*Yi=0;
+Yi[1]=0;
+z48(Yi+4);
+w8(Ab+8,Xi+1);
+Oi=0;
+Pi=0;
+Qi=0;}
 else{
-Ti=*fa;
-if(Ti==0){
-push_elements_here_c77(ca,b,zb,dd,ed,fa,Fi,c);
-Ii=*ca;
-Ji=ca[4];
-Ki=r4(ca+8);}
+Zi=*ga;
+if(Zi==0){
+push_elements_here_c77(da,b,Ab,ed,ba,hd,ga,Li,c);
+Oi=*da;
+Pi=da[4];
+Qi=r4(da+8);}
 else{
-Ui=r4(fa+32);
-*ba=Ti;
-memcpy(ba+1,fa+1,31);
-w4(ba+32,Ui);
-push_elements_here_c77(da,b,zb,dd,ed,fa+36,Fi-1,c);
-if(*da==0){
+aj=r4(ga+32);
+*ca=Zi;
+memcpy(ca+1,ga+1,31);
+w4(ca+32,aj);
+push_elements_here_c77(ea,b,Ab,ed,ba,hd,ga+36,Li-1,c);
+if(*ea==0){
 z12(aa);
-length_of_part_030(aa,b,ba,c);
-Vi=r4(aa+4);
+length_of_part_030(aa,b,ca,c);
+bj=r4(aa+4);
 if(*aa==0){
-Wi=r8(zb+8);
-if(r8(zb+16)==Wi){
-Xi=umax64(Wi,8);
-if(Xi>(Wi^18446744073709551615u)){
-Ii=1;
-Ji=4;
-Ki=0;
+cj=r8(Ab+8);
+if(r8(Ab+16)==cj){
+dj=umax64(cj,8);
+if(dj>(cj^18446744073709551615u)){
+Oi=1;
+Pi=4;
+Qi=0;
 goto L25;}
-Yi=Xi+Wi;
-if(Yi>=0x333333333333334u){
-Ii=1;
-Ji=4;
-Ki=0;
+ej=dj+cj;
+if(ej>=0x276276276276277u){
+Oi=1;
+Pi=4;
+Qi=0;
 goto L25;}
-if(Wi==0){
-Zi=port_rattle_alloc(Yi*40,4);
-if(!(u8)(Zi.f0&1)){
-Ii=1;
-Ji=4;
-Ki=0;
+if(cj==0){
+fj=port_rattle_alloc(ej*52,4);
+if(!(u8)(fj.f0&1)){
+Oi=1;
+Pi=4;
+Qi=0;
 goto L25;}
-aj=Zi;}
+gj=fj;}
 else{
-bj=port_rattle_realloc(rp(zb),Wi*40,Yi*40,4);
-if(!(u8)(bj.f0&1)){
-Ii=1;
-Ji=4;
-Ki=0;
+hj=port_rattle_realloc(rp(Ab),cj*52,ej*52,4);
+if(!(u8)(hj.f0&1)){
+Oi=1;
+Pi=4;
+Qi=0;
 goto L25;}
-aj=bj;}
-cj=(u8*)aj.f1;
-wp(zb,cj);
-w8(zb+16,Yi);
-dj=cj;
-ej=r8(zb+8);}
+gj=hj;}
+ij=(u8*)gj.f1;
+wp(Ab,ij);
+w8(Ab+16,ej);
+jj=ij;
+kj=r8(Ab+8);}
 else{
-dj=rp(zb);
-ej=Wi;}
-fj=dj+ej*40;
-*fj=0;
-fj[1]=0;
-x4(fj+4,Vi);
-z32(fj+8);
-w8(zb+8,ej+1);
-Ii=0;
-Ji=0;
-Ki=0;}
+jj=rp(Ab);
+kj=cj;}
+lj=jj+kj*52;
+*lj=0;
+lj[1]=0;
+x4(lj+4,bj);
+z44(lj+8);
+w8(Ab+8,kj+1);
+Oi=0;
+Pi=0;
+Qi=0;}
 else{
-Ii=1;
-Ji=Vi;
-Ki=r4(aa+8);}}
+Oi=1;
+Pi=bj;
+Qi=r4(aa+8);}}
 else{
-Ii=1;
-Ji=da[4];
-Ki=r4(da+8);}}}
-L25:Bf=Ii;
-Cf=Ji;
-Df=Ki;
+Oi=1;
+Pi=ea[4];
+Qi=r4(ea+8);}}}
+L25:Gf=Oi;
+Hf=Pi;
+If=Qi;
 break;
 default:NEVER;
 }
-if(Bf==0){
-fd=Xc;
-gd=Yc;
-hd=Zc;
-id=ad;
+if(Gf==0){
+jd=Yc;
+kd=Zc;
+ld=ad;
+md=bd;
 goto L6;}
-kd=Cf;
-ld=Df;
-L7:gj=(u8*)(u64)ld;
-if(Yc==0){
-pd=gj;
-qd=kd;
+pd=Hf;
+qd=If;
+L7:mj=(u8*)(u64)qd;
+if(Zc==0){
+vd=mj;
+xd=pd;
 goto L8;}
-td=gj;
-ud=kd;
-L9:port_rattle_dealloc(ad);
-pd=td;
-qd=ud;
-L8:if(r8(zb+16)!=0)port_rattle_dealloc(rp(zb));
+zd=mj;
+Ad=pd;
+L9:port_rattle_dealloc(bd);
+vd=zd;
+xd=Ad;
+L8:if(r8(Ab+16)!=0)port_rattle_dealloc(rp(Ab));
 x4(a,1);
-x4(a+4,qd);
-xp(a+8,pd);
+x4(a+4,xd);
+xp(a+8,vd);
 z16(a+16);
 goto L26;
-L6:hj=r8(zb+8);
-if(hj!=0){
-Wc=hj;
-Xc=fd;
-Yc=gd;
-Zc=hd;
-ad=id;
+L6:nj=r8(Ab+8);
+if(nj!=0){
+Xc=nj;
+Yc=jd;
+Zc=kd;
+ad=ld;
+bd=md;
 goto L5;}
-Tc=id;
-Uc=hd;
-Vc=gd;}
-if(r8(zb+16)!=0)port_rattle_dealloc(rp(zb));
+Uc=md;
+Vc=ld;
+Wc=kd;}
+if(r8(Ab+16)!=0)port_rattle_dealloc(rp(Ab));
 x4(a,0);
 x4(a+4,0);
-xp(a+8,Tc);
-x8(a+16,Uc);
-x8(a+24,Vc);}
+xp(a+8,Uc);
+x8(a+16,Vc);
+x8(a+24,Wc);}
 else{
-ij=(u8*)(u64)Rc;
-if(r8(zb+16)!=0)port_rattle_dealloc(rp(zb));
+oj=(u8*)(u64)Sc;
+if(r8(Ab+16)!=0)port_rattle_dealloc(rp(Ab));
 x4(a,1);
-x4(a+4,Qc);
-xp(a+8,ij);
+x4(a+4,Rc);
+xp(a+8,oj);
 z16(a+16);}}
 else{
-jj=r4(Ab+4)&255;
-kj=(u8*)(u64)r4(Ab+8);
+pj=r4(Bb+4)&255;
+qj=(u8*)(u64)r4(Bb+8);
 x4(a,1);
-x4(a+4,jj);
-xp(a+8,kj);
+x4(a+4,pj);
+xp(a+8,qj);
 z16(a+16);}
 L26:return;
 }
@@ -118353,97 +118486,99 @@ return r4(h+48+((u64)c<<2));
 }
 
 /* cpp_parts::plain::push_alone */
-static void push_alone_0dc(u8* a,u8* b,u8 c,u32 d)
+static void push_alone_0dc(u8* a,u8* b,u8 c,u32 d,u32 e)
 {
-u64 e,f,i,o,q,r,s,y;
-u8 g;
-u32 h;
-s_64_64 j,k,l,t,u,v;
-u8 *m,*n,*p,*w,*x,*z;
-e=r8(b+8);
-if(r8(b+16)==e){
-f=umax64(e,8);
-if(f>(e^18446744073709551615u)){
-g=1;
-h=4;
+u64 f,g,j,p,r,s,t,z;
+u8 h;
+u32 i;
+s_64_64 k,l,m,u,v,w;
+u8 *n,*o,*q,*x,*y,*A;
+f=r8(b+8);
+if(r8(b+16)==f){
+g=umax64(f,8);
+if(g>(f^18446744073709551615u)){
+h=1;
+i=4;
 goto L1;}
-i=f+e;
-if(i>=0x333333333333334u){
-g=1;
-h=4;
+j=g+f;
+if(j>=0x276276276276277u){
+h=1;
+i=4;
 goto L1;}
-if(e==0){
-j=port_rattle_alloc(i*40,4);
-if(!(u8)(j.f0&1)){
-g=1;
-h=4;
+if(f==0){
+k=port_rattle_alloc(j*52,4);
+if(!(u8)(k.f0&1)){
+h=1;
+i=4;
 goto L1;}
-k=j;}
+l=k;}
 else{
-l=port_rattle_realloc(rp(b),e*40,i*40,4);
-if(!(u8)(l.f0&1)){
-g=1;
-h=4;
+m=port_rattle_realloc(rp(b),f*52,j*52,4);
+if(!(u8)(m.f0&1)){
+h=1;
+i=4;
 goto L1;}
-k=l;}
-m=(u8*)k.f1;
-wp(b,m);
-w8(b+16,i);
-n=m;
-o=r8(b+8);}
+l=m;}
+n=(u8*)l.f1;
+wp(b,n);
+w8(b+16,j);
+o=n;
+p=r8(b+8);}
 else{
-n=rp(b);
-o=e;}
-p=n+o*40;
-*p=0;
-p[1]=0;
-x4(p+4,d);
-z32(p+8);
-q=o+1;
-w8(b+8,q);
-if(r8(b+16)==q){
-r=umax64(q,8);
-if(r>0xfffffffffffffffeu-o){
-g=1;
-h=4;
+o=rp(b);
+p=f;}
+q=o+p*52;
+*q=0;
+q[1]=0;
+x4(q+4,e);
+r=p+1;
+z44(q+8);
+w8(b+8,r);
+if(r8(b+16)==r){
+s=umax64(r,8);
+if(s>0xfffffffffffffffeu-p){
+h=1;
+i=4;
 goto L1;}
-s=r+q;
-if(s>=0x333333333333334u){
-g=1;
-h=4;
+t=s+r;
+if(t>=0x276276276276277u){
+h=1;
+i=4;
 goto L1;}
-if(q==0){
-t=port_rattle_alloc(s*40,4);
-if(!(u8)(t.f0&1)){
-g=1;
-h=4;
+if(r==0){
+u=port_rattle_alloc(t*52,4);
+if(!(u8)(u.f0&1)){
+h=1;
+i=4;
 goto L1;}
-u=t;}
+v=u;}
 else{
-v=port_rattle_realloc(rp(b),q*40,s*40,4);
-if(!(u8)(v.f0&1)){
-g=1;
-h=4;
+w=port_rattle_realloc(rp(b),r*52,t*52,4);
+if(!(u8)(w.f0&1)){
+h=1;
+i=4;
 goto L1;}
-u=v;}
-w=(u8*)u.f1;
-wp(b,w);
-w8(b+16,s);
-x=w;
-y=r8(b+8);}
+v=w;}
+x=(u8*)v.f1;
+wp(b,x);
+w8(b+16,t);
+y=x;
+z=r8(b+8);}
 else{
-x=rp(b);
-y=q;}
-z=x+y*40;
-*z=1;
-z[1]=c;
-x4(z+4,d);
-z32(z+8);
-w8(b+8,y+1);
-g=0;
+y=rp(b);
+z=r;}
+A=y+z*52;
+*A=1;
+A[1]=c;
+x4(A+4,d);
+x4(A+8,0);
+x4(A+12,e);
+z36(A+16);
+w8(b+8,z+1);
 h=0;
-L1:*a=g;
-x4(a+4,h);
+i=0;
+L1:*a=h;
+x4(a+4,i);
 x4(a+8,0);
 return;
 }
@@ -118451,60 +118586,58 @@ return;
 /* cpp_parts::task::Tasks::push */
 static void push_bd8(u8* a,u8* b,u8* c)
 {
-A16 u8 d[32];
-u8 e,f,j;
-u32 g,k;
-u64 h,i,l,r;
-s_64_64 m,n,o;
-u8 *p,*q,*s;
+u8 d[50];
+u8 e,f,i;
+u64 g,h,k,q;
+u32 j;
+s_64_64 l,m,n;
+u8 *o,*p,*r;
 e=*c;
 f=c[1];
-g=q4(c+4);
-memcpy(d,c+8,32);
-h=r8(b+8);
-if(r8(b+16)==h){
-i=umax64(h,8);
-if(i>(h^18446744073709551615u)){
-j=1;
-k=4;
+memcpy(d+2,c+4,48);
+g=r8(b+8);
+if(r8(b+16)==g){
+h=umax64(g,8);
+if(h>(g^18446744073709551615u)){
+i=1;
+j=4;
 goto L1;}
-l=i+h;
-if(l>=0x333333333333334u){
-j=1;
-k=4;
+k=h+g;
+if(k>=0x276276276276277u){
+i=1;
+j=4;
 goto L1;}
-if(h==0){
-m=port_rattle_alloc(l*40,4);
-if(!(u8)(m.f0&1)){
-j=1;
-k=4;
+if(g==0){
+l=port_rattle_alloc(k*52,4);
+if(!(u8)(l.f0&1)){
+i=1;
+j=4;
 goto L1;}
-n=m;}
+m=l;}
 else{
-o=port_rattle_realloc(rp(b),h*40,l*40,4);
-if(!(u8)(o.f0&1)){
-j=1;
-k=4;
+n=port_rattle_realloc(rp(b),g*52,k*52,4);
+if(!(u8)(n.f0&1)){
+i=1;
+j=4;
 goto L1;}
-n=o;}
-p=(u8*)n.f1;
-wp(b,p);
-w8(b+16,l);
-q=p;
-r=r8(b+8);}
+m=n;}
+o=(u8*)m.f1;
+wp(b,o);
+w8(b+16,k);
+p=o;
+q=r8(b+8);}
 else{
-q=rp(b);
-r=h;}
-s=q+r*40;
-*s=e;
-s[1]=f;
-x4(s+4,g);
-memcpy(s+8,d,32);
-w8(b+8,r+1);
+p=rp(b);
+q=g;}
+r=p+q*52;
+*r=e;
+r[1]=f;
+memcpy(r+4,d+2,48);
+w8(b+8,q+1);
+i=0;
 j=0;
-k=0;
-L1:*a=j;
-x4(a+4,k);
+L1:*a=i;
+x4(a+4,j);
 x4(a+8,0);
 return;
 }
@@ -118571,13 +118704,13 @@ y=4;
 z=0;
 goto L3;}
 D=C+B;
-if(D>=0x333333333333334u){
+if(D>=0x276276276276277u){
 x=1;
 y=4;
 z=0;
 goto L3;}
 if(B==0){
-E=port_rattle_alloc(D*40,4);
+E=port_rattle_alloc(D*52,4);
 if(!(u8)(E.f0&1)){
 x=1;
 y=4;
@@ -118585,7 +118718,7 @@ z=0;
 goto L3;}
 F=E;}
 else{
-G=port_rattle_realloc(rp(c),B*40,D*40,4);
+G=port_rattle_realloc(rp(c),B*52,D*52,4);
 if(!(u8)(G.f0&1)){
 x=1;
 y=4;
@@ -118600,11 +118733,11 @@ J=r8(c+8);}
 else{
 I=rp(c);
 J=B;}
-K=I+J*40;
+K=I+J*52;
 *K=0;
 K[1]=0;
 x4(K+4,k);
-z32(K+8);
+z44(K+8);
 w8(c+8,J+1);
 x=0;
 y=0;
@@ -118636,13 +118769,13 @@ q=4;
 r=0;
 goto L1;}
 s=o+n;
-if(s>=0x333333333333334u){
+if(s>=0x276276276276277u){
 p=1;
 q=4;
 r=0;
 goto L1;}
 if(n==0){
-t=port_rattle_alloc(s*40,4);
+t=port_rattle_alloc(s*52,4);
 if(!(u8)(t.f0&1)){
 p=1;
 q=4;
@@ -118650,7 +118783,7 @@ r=0;
 goto L1;}
 u=t;}
 else{
-v=port_rattle_realloc(rp(c),n*40,s*40,4);
+v=port_rattle_realloc(rp(c),n*52,s*52,4);
 if(!(u8)(v.f0&1)){
 p=1;
 q=4;
@@ -118665,10 +118798,10 @@ y=r8(c+8);}
 else{
 x=rp(c);
 y=n;}
-z=x+y*40;
+z=x+y*52;
 *z=0;
 z[1]=0;
-z36(z+4);
+z48(z+4);
 w8(c+8,y+1);
 p=0;
 q=0;
@@ -118685,13 +118818,13 @@ if(r8(c+16)==C){
 D=umax64(C,8);
 if(D<=(C^18446744073709551615u)){
 E=D+C;
-if(E<0x333333333333334u){
+if(E<0x276276276276277u){
 if(C==0){
-F=port_rattle_alloc(E*40,4);
+F=port_rattle_alloc(E*52,4);
 if(!(u8)(F.f0&1))goto L2;
 G=F;}
 else{
-H=port_rattle_realloc(rp(c),C*40,E*40,4);
+H=port_rattle_realloc(rp(c),C*52,E*52,4);
 if(!(u8)(H.f0&1))goto L2;
 G=H;}
 I=(u8*)G.f1;
@@ -118706,11 +118839,11 @@ r=0;
 goto L1;}
 J=rp(c);
 K=C;
-L3:L=J+K*40;
+L3:L=J+K*52;
 *L=0;
 L[1]=0;
 M=K+1;
-z36(L+4);
+z48(L+4);
 w8(c+8,M);
 N=M;}
 else{
@@ -118744,13 +118877,13 @@ q=4;
 r=0;
 goto L1;}
 S=R+N;
-if(S>=0x333333333333334u){
+if(S>=0x276276276276277u){
 p=1;
 q=4;
 r=0;
 goto L1;}
 if(N==0){
-T=port_rattle_alloc(S*40,4);
+T=port_rattle_alloc(S*52,4);
 if(!(u8)(T.f0&1)){
 p=1;
 q=4;
@@ -118758,7 +118891,7 @@ r=0;
 goto L1;}
 U=T;}
 else{
-V=port_rattle_realloc(rp(c),N*40,S*40,4);
+V=port_rattle_realloc(rp(c),N*52,S*52,4);
 if(!(u8)(V.f0&1)){
 p=1;
 q=4;
@@ -118773,12 +118906,14 @@ Y=r8(c+8);}
 else{
 X=rp(c);
 Y=N;}
-Z=X+Y*40;
+Z=X+Y*52;
 *Z=3;
 Z[1]=0;
-x4(Z+4,d);
-Z[8]=B;
-memcpy(Z+9,l,31);
+x4(Z+4,0);
+x4(Z+8,d);
+Z[12]=B;
+memcpy(Z+13,l,31);
+x8(Z+44,0);
 w8(c+8,Y+1);
 p=0;
 q=0;
@@ -118798,7 +118933,7 @@ return;
 static void push_brackets_287(u8* a,u8* b,u8* c,u8 d,u8 e,u32 f,u32 g,u8* h,u64 i,u32 j)
 {
 u8 n[31];
-A16 u8 k[12],l[12],m[12],o[36],p[36],q[12],r[40],s[12],t[12],u[36],v[12],w[40],x[12],y[12];
+A16 u8 k[12],l[12],m[12],o[36],p[36],q[12],r[52],s[12],t[12],u[36],v[12],w[52],x[12],y[12];
 u32 z,G,H,I,T,V,X,Z,aa,ba,ca,fa;
 u8 A,B,D,E,F,U,W,Y,ga,ha;
 u64 C,J,K,L,R,da,ea,ia,oa,qa,ra,sa,ya;
@@ -118826,7 +118961,7 @@ memcpy(n,h+5,31);
 z12(m);
 z3(p+1);
 z12(q);
-z40(r);
+z52(r);
 *o=E;
 memcpy(o+1,h+37,31);
 w4(o+32,G);
@@ -118843,18 +118978,19 @@ I=r4(k+4);
 if(*k==0){
 push_behind_d5c(q,b,c,h+72,i-2,j);
 if(*q==0){
+w4(r+4,I);
 J=r8(c+8);
 if(r8(c+16)==J){
 K=umax64(J,8);
 if(K<=(J^18446744073709551615u)){
 L=K+J;
-if(L<0x333333333333334u){
+if(L<0x276276276276277u){
 if(J==0){
-M=port_rattle_alloc(L*40,4);
+M=port_rattle_alloc(L*52,4);
 if(!(u8)(M.f0&1))goto L1;
 N=M;}
 else{
-O=port_rattle_realloc(rp(c),J*40,L*40,4);
+O=port_rattle_realloc(rp(c),J*52,L*52,4);
 if(!(u8)(O.f0&1))goto L1;
 N=O;}
 P=(u8*)N.f1;
@@ -118869,19 +119005,21 @@ w4(y+8,0);
 goto L3;}
 Q=rp(c);
 R=J;
-L2:S=Q+R*40;
+L2:S=Q+R*52;
 *S=0;
 S[1]=0;
-x4(S+4,I);
-z32(S+8);
+memcpy(S+4,r+4,48);
 w8(c+8,R+1);
 w4(q+4,0);
 w4(q+8,0);
 *r=4;
 r[1]=e;
-w4(r+4,f);
-r[8]=F;
-memcpy(r+9,n,31);
+w4(r+4,0);
+w4(r+8,0);
+w4(r+12,0);
+w4(r+16,f);
+r[20]=F;
+memcpy(r+21,n,31);
 push_bd8(q,c,r);
 if(*q==0){
 *r=0;
@@ -118890,7 +119028,9 @@ push_bd8(q,c,r);
 if(*q==0){
 *r=1;
 r[1]=d;
-w4(r+4,H+g+I);
+w4(r+4,0);
+w4(r+8,0);
+w4(r+12,H+g+I);
 push_bd8(m,c,r);
 *y=*m;
 w4(y+4,m[4]);
@@ -118931,7 +119071,7 @@ else{
 ba=q4(h+32);
 z12(t);
 z12(v);
-z40(w);
+z52(w);
 *u=D;
 memcpy(u+1,h+1,31);
 w4(u+32,ba);
@@ -118941,6 +119081,8 @@ ca=r4(s+4);
 if(*s==0){
 push_behind_d5c(v,b,c,h+36,C,j);
 if(*v==0){
+*w=0;
+w4(w+4,ca);
 da=r8(c+8);
 if(r8(c+16)==da){
 ea=umax64(da,8);
@@ -118950,13 +119092,13 @@ ga=4;
 ha=1;
 goto L4;}
 ia=ea+da;
-if(ia>=0x333333333333334u){
+if(ia>=0x276276276276277u){
 fa=0;
 ga=4;
 ha=1;
 goto L4;}
 if(da==0){
-ja=port_rattle_alloc(ia*40,4);
+ja=port_rattle_alloc(ia*52,4);
 if(!(u8)(ja.f0&1)){
 fa=0;
 ga=4;
@@ -118964,7 +119106,7 @@ ha=1;
 goto L4;}
 ka=ja;}
 else{
-la=port_rattle_realloc(rp(c),da*40,ia*40,4);
+la=port_rattle_realloc(rp(c),da*52,ia*52,4);
 if(!(u8)(la.f0&1)){
 fa=0;
 ga=4;
@@ -118979,13 +119121,13 @@ oa=r8(c+8);}
 else{
 na=rp(c);
 oa=da;}
-pa=na+oa*40;
+pa=na+oa*52;
 *pa=0;
 pa[1]=0;
-x4(pa+4,ca);
-z32(pa+8);
+memcpy(pa+4,w+4,48);
 qa=oa+1;
 w8(c+8,qa);
+w4(w+4,g);
 if(r8(c+16)==qa){
 ra=umax64(qa,8);
 if(ra>0xfffffffffffffffeu-oa){
@@ -118994,13 +119136,13 @@ ga=4;
 ha=1;
 goto L4;}
 sa=ra+qa;
-if(sa>=0x333333333333334u){
+if(sa>=0x276276276276277u){
 fa=0;
 ga=4;
 ha=1;
 goto L4;}
 if(qa==0){
-ta=port_rattle_alloc(sa*40,4);
+ta=port_rattle_alloc(sa*52,4);
 if(!(u8)(ta.f0&1)){
 fa=0;
 ga=4;
@@ -119008,7 +119150,7 @@ ha=1;
 goto L4;}
 ua=ta;}
 else{
-va=port_rattle_realloc(rp(c),qa*40,sa*40,4);
+va=port_rattle_realloc(rp(c),qa*52,sa*52,4);
 if(!(u8)(va.f0&1)){
 fa=0;
 ga=4;
@@ -119023,15 +119165,16 @@ ya=r8(c+8);}
 else{
 xa=rp(c);
 ya=qa;}
-za=xa+ya*40;
+za=xa+ya*52;
 *za=0;
 za[1]=0;
-x4(za+4,g);
-z32(za+8);
+memcpy(za+4,w+4,48);
 w8(c+8,ya+1);
 *w=1;
 w[1]=d;
-w4(w+4,ca+g);
+w4(w+4,0);
+w4(w+8,0);
+w4(w+12,ca+g);
 push_bd8(t,c,w);
 fa=r4(t+8);
 ga=t[4];
@@ -119073,19 +119216,19 @@ m=1;
 n=4;
 goto L1;}
 o=l+k;
-if(o>=0x333333333333334u){
+if(o>=0x276276276276277u){
 m=1;
 n=4;
 goto L1;}
 if(k==0){
-p=port_rattle_alloc(o*40,4);
+p=port_rattle_alloc(o*52,4);
 if(!(u8)(p.f0&1)){
 m=1;
 n=4;
 goto L1;}
 q=p;}
 else{
-r=port_rattle_realloc(rp(c),k*40,o*40,4);
+r=port_rattle_realloc(rp(c),k*52,o*52,4);
 if(!(u8)(r.f0&1)){
 m=1;
 n=4;
@@ -119099,10 +119242,10 @@ u=r8(c+8);}
 else{
 t=rp(c);
 u=k;}
-v=t+u*40;
+v=t+u*52;
 *v=0;
 v[1]=0;
-z36(v+4);
+z48(v+4);
 w8(c+8,u+1);
 m=0;
 n=0;
@@ -119131,7 +119274,7 @@ z=1;
 A=y&255;
 B=r4(g+8);
 goto L2;}
-push_alone_0dc(i,c,9,y);}}
+push_alone_0dc(i,c,9,0,y);}}
 z=*i;
 A=i[4];
 B=r4(i+8);
@@ -119161,19 +119304,19 @@ m=1;
 n=4;
 goto L1;}
 o=l+k;
-if(o>=0x333333333333334u){
+if(o>=0x276276276276277u){
 m=1;
 n=4;
 goto L1;}
 if(k==0){
-p=port_rattle_alloc(o*40,4);
+p=port_rattle_alloc(o*52,4);
 if(!(u8)(p.f0&1)){
 m=1;
 n=4;
 goto L1;}
 q=p;}
 else{
-r=port_rattle_realloc(rp(c),k*40,o*40,4);
+r=port_rattle_realloc(rp(c),k*52,o*52,4);
 if(!(u8)(r.f0&1)){
 m=1;
 n=4;
@@ -119187,10 +119330,10 @@ u=r8(c+8);}
 else{
 t=rp(c);
 u=k;}
-v=t+u*40;
+v=t+u*52;
 *v=0;
 v[1]=0;
-z36(v+4);
+z48(v+4);
 w8(c+8,u+1);
 m=0;
 n=0;
@@ -119222,7 +119365,7 @@ y=0;
 z=0;
 A=0;
 goto L2;}
-push_alone_0dc(h,c,1,x);}
+push_alone_0dc(h,c,1,0,x);}
 else push_plain_069(h,b,c,d,e,f);}
 y=*h;
 z=h[4];
@@ -119254,13 +119397,13 @@ l=4;
 m=0;
 goto L1;}
 n=j+i;
-if(n>=0x333333333333334u){
+if(n>=0x276276276276277u){
 k=1;
 l=4;
 m=0;
 goto L1;}
 if(i==0){
-o=port_rattle_alloc(n*40,4);
+o=port_rattle_alloc(n*52,4);
 if(!(u8)(o.f0&1)){
 k=1;
 l=4;
@@ -119268,7 +119411,7 @@ m=0;
 goto L1;}
 p=o;}
 else{
-q=port_rattle_realloc(rp(c),i*40,n*40,4);
+q=port_rattle_realloc(rp(c),i*52,n*52,4);
 if(!(u8)(q.f0&1)){
 k=1;
 l=4;
@@ -119283,11 +119426,11 @@ t=r8(c+8);}
 else{
 s=rp(c);
 t=i;}
-u=s+t*40;
+u=s+t*52;
 *u=0;
 u[1]=0;
 x4(u+4,d);
-z32(u+8);
+z44(u+8);
 w8(c+8,t+1);
 k=0;
 l=0;
@@ -119303,289 +119446,291 @@ return;
 }
 
 /* cpp_parts::plain::push_words */
-static void push_words_147(u8* a,u8* b,u32 c)
+static void push_words_147(u8* a,u8* b,u32 c,u32 d)
 {
-A16 u8 d[12];
-u8 e;
-u64 f,g,h,n;
-s_64_64 i,j,k;
-u8 *l,*m,*o;
-z12(d);
-e=c!=0;
-f=r8(b+8);
-if(r8(b+16)==f){
-g=umax64(f,8);
-if(g<=(f^18446744073709551615u)){
-h=g+f;
-if(h<0x333333333333334u){
-if(f==0){
-i=port_rattle_alloc(h*40,4);
-if(!(u8)(i.f0&1))goto L1;
-j=i;}
+A16 u8 e[12];
+u8 f;
+u64 g,h,i,o;
+s_64_64 j,k,l;
+u8 *m,*n,*p;
+z12(e);
+f=d!=0;
+g=r8(b+8);
+if(r8(b+16)==g){
+h=umax64(g,8);
+if(h<=(g^18446744073709551615u)){
+i=h+g;
+if(i<0x276276276276277u){
+if(g==0){
+j=port_rattle_alloc(i*52,4);
+if(!(u8)(j.f0&1))goto L1;
+k=j;}
 else{
-k=port_rattle_realloc(rp(b),f*40,h*40,4);
-if(!(u8)(k.f0&1))goto L1;
-j=k;}
-l=(u8*)j.f1;
-wp(b,l);
-w8(b+16,h);
-m=l;
-n=r8(b+8);
+l=port_rattle_realloc(rp(b),g*52,i*52,4);
+if(!(u8)(l.f0&1))goto L1;
+k=l;}
+m=(u8*)k.f1;
+wp(b,m);
+w8(b+16,i);
+n=m;
+o=r8(b+8);
 goto L2;}}
 L1:*a=1;
 x4(a+4,4);
 x4(a+8,0);
 goto L3;}
-m=rp(b);
-n=f;
-L2:o=m+n*40;
-*o=0;
-o[1]=0;
-x4(o+4,e);
-z32(o+8);
-w8(b+8,n+1);
-push_alone_0dc(d,b,0,c-e);
-*a=*d;
-x4(a+4,d[4]);
-x4(a+8,r4(d+8));
+n=rp(b);
+o=g;
+L2:p=n+o*52;
+*p=0;
+p[1]=0;
+x4(p+4,f);
+z44(p+8);
+w8(b+8,o+1);
+push_alone_0dc(e,b,0,c,d-f);
+*a=*e;
+x4(a+4,e[4]);
+x4(a+8,r4(e+8));
 L3:return;
 }
 
 /* cpp_parts::encodings::push_special */
-static void push_special_629(u8* a,u8* b,u8* c,u8* d,u64 e,u32 f)
+static void push_special_629(u8* a,u8* b,u8* c,u32 d,u8* e,u64 f,u32 g)
 {
-A16 u8 g[12],h[36],i[12],j[12];
-u64 k,l,o,u;
-u8 m,w,z;
-u32 n,x,y,A,B;
-s_64_64 p,q,r;
-u8 *s,*t,*v;
-z12(i);
+A16 u8 h[12],i[36],j[12],k[12];
+u64 l,m,p,v;
+u8 n,x,A;
+u32 o,y,z,B,C;
+s_64_64 q,r,s;
+u8 *t,*u,*w;
 z12(j);
-if(e==0){
-k=r8(c+8);
-if(r8(c+16)==k){
-l=umax64(k,8);
-if(l>(k^18446744073709551615u)){
-m=1;
-n=4;
+z12(k);
+if(f==0){
+l=r8(c+8);
+if(r8(c+16)==l){
+m=umax64(l,8);
+if(m>(l^18446744073709551615u)){
+n=1;
+o=4;
 goto L1;}
-o=l+k;
-if(o>=0x333333333333334u){
-m=1;
-n=4;
+p=m+l;
+if(p>=0x276276276276277u){
+n=1;
+o=4;
 goto L1;}
-if(k==0){
-p=port_rattle_alloc(o*40,4);
-if(!(u8)(p.f0&1)){
-m=1;
-n=4;
+if(l==0){
+q=port_rattle_alloc(p*52,4);
+if(!(u8)(q.f0&1)){
+n=1;
+o=4;
 goto L1;}
-q=p;}
+r=q;}
 else{
-r=port_rattle_realloc(rp(c),k*40,o*40,4);
-if(!(u8)(r.f0&1)){
-m=1;
-n=4;
+s=port_rattle_realloc(rp(c),l*52,p*52,4);
+if(!(u8)(s.f0&1)){
+n=1;
+o=4;
 goto L1;}
-q=r;}
-s=(u8*)q.f1;
-wp(c,s);
-w8(c+16,o);
-t=s;
-u=r8(c+8);}
+r=s;}
+t=(u8*)r.f1;
+wp(c,t);
+w8(c+16,p);
+u=t;
+v=r8(c+8);}
 else{
-t=rp(c);
-u=k;}
-v=t+u*40;
-*v=0;
-v[1]=0;
-z36(v+4);
-w8(c+8,u+1);
-m=0;
+u=rp(c);
+v=l;}
+w=u+v*52;
+*w=0;
+w[1]=0;
+z48(w+4);
+w8(c+8,v+1);
 n=0;
-L1:*i=m;
-w4(i+4,n);
-w4(i+8,0);}
+o=0;
+L1:*j=n;
+w4(j+4,o);
+w4(j+8,0);}
 else{
-w=*d;
-if(w==0)push_plain_069(i,b,c,d,e,f);
+x=*e;
+if(x==0)push_plain_069(j,b,c,e,f,g);
 else{
-x=q4(d+32);
-*h=w;
-memcpy(h+1,d+1,31);
-w4(h+32,x);
-z12(g);
-length_of_part_030(g,b,h,f);
-y=r4(g+4);
-if(*g!=0){
-z=1;
-A=y&255;
-B=r4(g+8);
+y=q4(e+32);
+*i=x;
+memcpy(i+1,e+1,31);
+w4(i+32,y);
+z12(h);
+length_of_part_030(h,b,i,g);
+z=r4(h+4);
+if(*h!=0){
+A=1;
+B=z&255;
+C=r4(h+8);
 goto L2;}
-push_whole_733(j,b,c,10,d+36,e-1,f);
-if(*j!=0){
-z=1;
-A=j[4];
-B=r4(j+8);
+push_whole_733(k,b,c,10,0,e+36,f-1,g);
+if(*k!=0){
+A=1;
+B=k[4];
+C=r4(k+8);
 goto L2;}
-push_words_147(i,c,y);}}
-z=*i;
-A=i[4];
-B=r4(i+8);
-L2:*a=z;
-x4(a+4,A);
-x4(a+8,B);
+push_words_147(j,c,d,z);}}
+A=*j;
+B=j[4];
+C=r4(j+8);
+L2:*a=A;
+x4(a+4,B);
+x4(a+8,C);
 return;
 }
 
 /* cpp_parts::plain::push_whole */
-static void push_whole_733(u8* a,u8* b,u8* c,u8 d,u8* e,u64 f,u32 g)
+static void push_whole_733(u8* a,u8* b,u8* c,u8 d,u32 e,u8* f,u64 g,u32 h)
 {
-A16 u8 h[12],i[12],j[36],k[36];
-u32 l,m,s,t,u,v,w,x,z,A,B;
-u8 *n,*I,*J,*L,*S,*T,*V;
-u64 o,p,C,D,E,K,M,N,O,U;
-u8 q,r,y;
-s_64_64 F,G,H,P,Q,R;
-if(f==0)l=0;
+A16 u8 i[12],j[12],k[36],l[36];
+u32 m,n,t,u,v,w,x,y,A,B,C;
+u8 *o,*J,*K,*M,*T,*U,*W;
+u64 p,q,D,E,F,L,N,O,P,V;
+u8 r,s,z;
+s_64_64 G,H,I,Q,R,S;
+if(g==0)m=0;
 else{
-m=0;
-n=e;
+n=0;
 o=f;
-L1:p=o-1;
-q=*n;
-if(q==0){
-r=n[4];
-w4(k,0);
-k[4]=r;
-memcpy(k+5,n+5,31);
-z12(h);
-length_of_part_030(h,b,k,g);
-s=r4(h+4);
-if(*h==0){
-t=s;
-goto L2;}
-u=s;
-v=r4(h+8);}
-else{
-w=q4(n+32);
-*j=q;
-memcpy(j+1,n+1,31);
-w4(j+32,w);
+p=g;
+L1:q=p-1;
+r=*o;
+if(r==0){
+s=o[4];
+w4(l,0);
+l[4]=s;
+memcpy(l+5,o+5,31);
 z12(i);
-length_of_part_030(i,b,j,g);
-x=r4(i+4);
+length_of_part_030(i,b,l,h);
+t=r4(i+4);
 if(*i==0){
-t=x;
+u=t;
 goto L2;}
-u=x;
-v=r4(i+8);}
-y=1;
-z=u&255;
-A=v;
+v=t;
+w=r4(i+8);}
+else{
+x=q4(o+32);
+*k=r;
+memcpy(k+1,o+1,31);
+w4(k+32,x);
+z12(j);
+length_of_part_030(j,b,k,h);
+y=r4(j+4);
+if(*j==0){
+u=y;
+goto L2;}
+v=y;
+w=r4(j+8);}
+z=1;
+A=v&255;
+B=w;
 goto L3;
-L2:B=t+m;
-if(p!=0){
-m=B;
-n=n+36;
-o=p;
+L2:C=u+n;
+if(q!=0){
+n=C;
+o=o+36;
+p=q;
 goto L1;}
-l=B;}
-C=r8(c+8);
-if(r8(c+16)==C){
-D=umax64(C,8);
-if(D>(C^18446744073709551615u)){
-y=1;
-z=4;
-A=0;
+m=C;}
+D=r8(c+8);
+if(r8(c+16)==D){
+E=umax64(D,8);
+if(E>(D^18446744073709551615u)){
+z=1;
+A=4;
+B=0;
 goto L3;}
-E=D+C;
-if(E>=0x333333333333334u){
-y=1;
-z=4;
-A=0;
+F=E+D;
+if(F>=0x276276276276277u){
+z=1;
+A=4;
+B=0;
 goto L3;}
-if(C==0){
-F=port_rattle_alloc(E*40,4);
-if(!(u8)(F.f0&1)){
-y=1;
-z=4;
-A=0;
+if(D==0){
+G=port_rattle_alloc(F*52,4);
+if(!(u8)(G.f0&1)){
+z=1;
+A=4;
+B=0;
 goto L3;}
-G=F;}
+H=G;}
 else{
-H=port_rattle_realloc(rp(c),C*40,E*40,4);
-if(!(u8)(H.f0&1)){
-y=1;
-z=4;
-A=0;
+I=port_rattle_realloc(rp(c),D*52,F*52,4);
+if(!(u8)(I.f0&1)){
+z=1;
+A=4;
+B=0;
 goto L3;}
-G=H;}
-I=(u8*)G.f1;
-wp(c,I);
-w8(c+16,E);
-J=I;
-K=r8(c+8);}
+H=I;}
+J=(u8*)H.f1;
+wp(c,J);
+w8(c+16,F);
+K=J;
+L=r8(c+8);}
 else{
-J=rp(c);
-K=C;}
-L=J+K*40;
-*L=0;
-L[1]=0;
-x4(L+4,l);
-z32(L+8);
-M=K+1;
-w8(c+8,M);
-if(r8(c+16)==M){
-N=umax64(M,8);
-if(N>0xfffffffffffffffeu-K){
-y=1;
-z=4;
-A=0;
+K=rp(c);
+L=D;}
+M=K+L*52;
+*M=0;
+M[1]=0;
+x4(M+4,m);
+N=L+1;
+z44(M+8);
+w8(c+8,N);
+if(r8(c+16)==N){
+O=umax64(N,8);
+if(O>0xfffffffffffffffeu-L){
+z=1;
+A=4;
+B=0;
 goto L3;}
-O=N+M;
-if(O>=0x333333333333334u){
-y=1;
-z=4;
-A=0;
+P=O+N;
+if(P>=0x276276276276277u){
+z=1;
+A=4;
+B=0;
 goto L3;}
-if(M==0){
-P=port_rattle_alloc(O*40,4);
-if(!(u8)(P.f0&1)){
-y=1;
-z=4;
-A=0;
+if(N==0){
+Q=port_rattle_alloc(P*52,4);
+if(!(u8)(Q.f0&1)){
+z=1;
+A=4;
+B=0;
 goto L3;}
-Q=P;}
+R=Q;}
 else{
-R=port_rattle_realloc(rp(c),M*40,O*40,4);
-if(!(u8)(R.f0&1)){
-y=1;
-z=4;
-A=0;
+S=port_rattle_realloc(rp(c),N*52,P*52,4);
+if(!(u8)(S.f0&1)){
+z=1;
+A=4;
+B=0;
 goto L3;}
-Q=R;}
-S=(u8*)Q.f1;
-wp(c,S);
-w8(c+16,O);
-T=S;
-U=r8(c+8);}
+R=S;}
+T=(u8*)R.f1;
+wp(c,T);
+w8(c+16,P);
+U=T;
+V=r8(c+8);}
 else{
-T=rp(c);
-U=M;}
-V=T+U*40;
-*V=1;
-V[1]=d;
-x4(V+4,l);
-z32(V+8);
-w8(c+8,U+1);
-y=0;
+U=rp(c);
+V=N;}
+W=U+V*52;
+*W=1;
+W[1]=d;
+x4(W+4,e);
+x4(W+8,0);
+x4(W+12,m);
+z36(W+16);
+w8(c+8,V+1);
 z=0;
 A=0;
-L3:*a=y;
-x4(a+4,z);
-x4(a+8,A);
+B=0;
+L3:*a=z;
+x4(a+4,A);
+x4(a+8,B);
 return;
 }
 
@@ -119642,7 +119787,7 @@ return w;
 static void push_named_0bb(u8* a,u8* b,u8* c,u8* d,u64 e,u32 f)
 {
 u8 x[1];
-A16 u8 g[12],h[12],i[36],j[12],k[12],l[12],m[12],n[12],o[36],p[36],q[12],r[12],s[12],t[36],u[36],v[12],w[40],y[12];
+A16 u8 g[12],h[12],i[36],j[12],k[12],l[12],m[12],n[12],o[36],p[36],q[12],r[12],s[12],t[36],u[36],v[12],w[52],y[12];
 u64 z,D,K,V,W,ka,la,ma,sa,Fa,Ga,Ka,Qa;
 u8 A,B,C,E,I,X,Y,fa,ga,va,wa,za,Aa,Ia,Ja,Ta,Ua;
 u16 F,N,O,P;
@@ -119911,7 +120056,7 @@ L1:if(*M==58){
 z12(s);
 z3(u+1);
 z12(v);
-z40(w);
+z52(w);
 *t=C;
 t[1]=E;
 w2(t+2,F);
@@ -119977,6 +120122,7 @@ V=W;
 goto L3;}
 S=ia;}
 ja=umin32(R,2);
+w4(w+4,S);
 ka=r8(c+8);
 if(r8(c+16)==ka){
 la=umax64(ka,8);
@@ -119986,13 +120132,13 @@ ga=4;
 ha=0;
 goto L5;}
 ma=la+ka;
-if(ma>=0x333333333333334u){
+if(ma>=0x276276276276277u){
 fa=1;
 ga=4;
 ha=0;
 goto L5;}
 if(ka==0){
-na=port_rattle_alloc(ma*40,4);
+na=port_rattle_alloc(ma*52,4);
 if(!(u8)(na.f0&1)){
 fa=1;
 ga=4;
@@ -120000,7 +120146,7 @@ ha=0;
 goto L5;}
 oa=na;}
 else{
-pa=port_rattle_realloc(rp(c),ka*40,ma*40,4);
+pa=port_rattle_realloc(rp(c),ka*52,ma*52,4);
 if(!(u8)(pa.f0&1)){
 fa=1;
 ga=4;
@@ -120015,11 +120161,10 @@ sa=r8(c+8);}
 else{
 ra=rp(c);
 sa=ka;}
-ta=ra+sa*40;
+ta=ra+sa*52;
 *ta=0;
 ta[1]=0;
-x4(ta+4,S);
-z32(ta+8);
+memcpy(ta+4,w+4,48);
 w8(c+8,sa+1);
 w4(v+4,0);
 w4(v+8,0);
@@ -120030,14 +120175,16 @@ push_bd8(v,c,w);
 if(*v==0){
 *w=1;
 w[1]=3;
-w4(w+4,S+ua);
+w4(w+4,0);
+w4(w+8,0);
+w4(w+12,S+ua);
 push_bd8(v,c,w);
 if(*v==0){
 *w=0;
 w4(w+4,ja);
 push_bd8(v,c,w);
 if(*v==0){
-push_alone_0dc(s,c,2,Q);
+push_alone_0dc(s,c,2,0,Q);
 fa=*s;
 ga=s[4];
 ha=r4(s+8);}
@@ -120065,7 +120212,7 @@ L5:va=ga;
 wa=fa;
 xa=ha;
 goto L6;}}}
-L2:push_whole_733(y,b,c,3,d,e,f);
+L2:push_whole_733(y,b,c,3,0,d,e,f);
 va=y[4];
 wa=*y;
 xa=r4(y+8);
@@ -120076,7 +120223,7 @@ else{
 Ba=q4(d+32);
 z12(k);
 z12(l);
-if(z==0)push_whole_733(k,b,c,3,d,e,f);
+if(z==0)push_whole_733(k,b,c,3,0,d,e,f);
 else{
 if(d[36]==0){
 if(z==1){
@@ -120089,7 +120236,7 @@ z12(g);
 length_of_part_030(g,b,i,f);
 Ca=r4(g+4);
 if(*g==0){
-push_whole_733(j,b,c,3,d+36,1,f);
+push_whole_733(j,b,c,3,0,d+36,1,f);
 if(*j==0){
 Da=umin32(Ca,3);
 Ea=Ca-Da;
@@ -120102,13 +120249,13 @@ Ia=4;
 Ja=1;
 goto L7;}
 Ka=Ga+Fa;
-if(Ka>=0x333333333333334u){
+if(Ka>=0x276276276276277u){
 Ha=0;
 Ia=4;
 Ja=1;
 goto L7;}
 if(Fa==0){
-La=port_rattle_alloc(Ka*40,4);
+La=port_rattle_alloc(Ka*52,4);
 if(!(u8)(La.f0&1)){
 Ha=0;
 Ia=4;
@@ -120116,7 +120263,7 @@ Ja=1;
 goto L7;}
 Ma=La;}
 else{
-Na=port_rattle_realloc(rp(c),Fa*40,Ka*40,4);
+Na=port_rattle_realloc(rp(c),Fa*52,Ka*52,4);
 if(!(u8)(Na.f0&1)){
 Ha=0;
 Ia=4;
@@ -120131,13 +120278,13 @@ Qa=r8(c+8);}
 else{
 Pa=rp(c);
 Qa=Fa;}
-Ra=Pa+Qa*40;
+Ra=Pa+Qa*52;
 *Ra=0;
 Ra[1]=0;
 x4(Ra+4,Ea);
-z32(Ra+8);
+z44(Ra+8);
 w8(c+8,Qa+1);
-push_alone_0dc(h,c,2,Da);
+push_alone_0dc(h,c,2,0,Da);
 Ha=r4(h+8);
 Ia=h[4];
 Ja=*h;}
@@ -120153,14 +120300,14 @@ L7:Sa=Ha;
 Ta=Ia;
 Ua=Ja;}
 else{
-push_whole_733(l,b,c,3,d,e,f);
+push_whole_733(l,b,c,3,0,d,e,f);
 Sa=r4(l+8);
 Ta=l[4];
 Ua=*l;}
 *k=Ua;
 w4(k+4,Ta);
 w4(k+8,Sa);}
-else push_whole_733(k,b,c,3,d,e,f);}
+else push_whole_733(k,b,c,3,0,d,e,f);}
 ya=r4(k+8);
 za=k[4];
 Aa=*k;}
@@ -120171,390 +120318,457 @@ return;
 }
 
 /* cpp_parts::lists::push_elements_here */
-static void push_elements_here_c77(u8* a,u8* b,u8* c,u8 d,u32 e,u8* f,u64 g,u32 h)
+static void push_elements_here_c77(u8* a,u8* b,u8* c,u8 d,u8* e,u32 f,u8* g,u64 h,u32 i)
 {
-u8 i[3],j[3],k[3],l[3],m[3],n[3],o[3],p[3],E[31],I[31];
-A16 u8 q[296],r[12],s[12],t[12],u[64],v[24],w[24],x[64],y[32],z[12],A[64],B[24],C[24],D[64],F[12],G[12],H[32],J[12],K[12];
-u64 L,M,Q,W,Z,aa,ea,ka,ma,pa,qa,ra,xa,Aa,Ba,Ca,Ia,La,Ua,Wa,ob,pb,qb,ub,Ab;
-u32 N,Y,da,oa,Oa,Sa,Ya,ab,eb,sb,Db;
-u8 O,P,ba,ca,na,za,Na,Ra,Va,db,fb,gb,hb,ib,jb,kb,lb,mb,nb,rb,tb,Cb,Eb;
-s_64_64 R,S,T,fa,ga,ha,sa,ta,ua,Da,Ea,Fa,vb,wb,xb;
-u8 *U,*V,*X,*ia,*ja,*la,*va,*wa,*ya,*Ga,*Ha,*Ja,*Ka,*Ma,*Pa,*Qa,*Ta,*Xa,*Za,*bb,*cb,*yb,*zb,*Bb;
+u8 j[3],k[3],l[3],m[3],n[3],o[3],p[3],q[3],J[31],N[31];
+A16 u8 r[296],s[12],t[12],u[12],v[64],w[24],x[24],y[64],z[64],A[24],B[24],C[64],D[32],E[12],F[64],G[24],H[24],I[64],K[12],L[12],M[32],O[12],P[12];
+u8 Q,V,W,ma,na,ya,Pa,eb,ib,mb,ub,yb,Cb,Db,Ib,Jb,Kb,Lb,Mb,Nb,Ob,Pb,Qb,Ub,Wb,fc,hc;
+u64 R,S,T,X,da,fa,ga,ha,ia,ka,la,pa,va,xa,Aa,Ca,Da,Fa,Ga,Ha,Na,Qa,Ra,Sa,Ta,Za,cb,lb,nb,Eb,Hb,Rb,Sb,Tb,Xb,dc;
+u32 U,ja,oa,za,Ba,Ea,fb,jb,pb,rb,vb,zb,Fb,Gb,Vb,gc;
+s_64_64 Y,Z,aa,qa,ra,sa,Ia,Ja,Ka,Ua,Va,Wa,Yb,Zb,ac;
+u8 *ba,*ca,*ea,*ta,*ua,*wa,*La,*Ma,*Oa,*Xa,*Ya,*ab,*bb,*db,*gb,*hb,*kb,*ob,*qb,*sb,*tb,*wb,*xb,*Ab,*Bb,*bc,*cc,*ec;
+Q=*e;
+R=q8(e+4);
+z12(P);
+if(h==0){
+S=r8(c+8);
+if(r8(c+16)==S){
+T=umax64(S,8);
+if(T>(S^18446744073709551615u)){
+U=0;
+V=4;
+W=1;
+goto L1;}
+X=T+S;
+if(X>=0x276276276276277u){
+U=0;
+V=4;
+W=1;
+goto L1;}
+if(S==0){
+Y=port_rattle_alloc(X*52,4);
+if(!(u8)(Y.f0&1)){
+U=0;
+V=4;
+W=1;
+goto L1;}
+Z=Y;}
+else{
+aa=port_rattle_realloc(rp(c),S*52,X*52,4);
+if(!(u8)(aa.f0&1)){
+U=0;
+V=4;
+W=1;
+goto L1;}
+Z=aa;}
+ba=(u8*)Z.f1;
+wp(c,ba);
+w8(c+16,X);
+ca=ba;
+da=r8(c+8);}
+else{
+ca=rp(c);
+da=S;}
+ea=ca+da*52;
+*ea=0;
+ea[1]=0;
+z48(ea+4);
+w8(c+8,da+1);
+U=0;
+V=0;
+W=0;}
+else{
+if(*g==0){
+*M=g[4];
+memcpy(M+1,g+5,31);
+z12(O);
+if(h==1){
+fa=R>>32;
+switch(Q){
+case 0:ga=R+1;
+ha=0;
+break;
+case 1:ga=R;
+ha=(fa+1)&4294967295u;
+break;
+case 2:ga=R;
+ha=fa;
+break;
+default:NEVER;
+}
+ia=(ha<<32)|(ga&4294967295u);
+ja=rest_node_d20(b,f);
+ka=r8(c+8);
+if(r8(c+16)==ka){
+la=umax64(ka,8);
+if(la>(ka^18446744073709551615u)){
+ma=4;
+na=1;
+oa=0;
+goto L2;}
+pa=la+ka;
+if(pa>=0x276276276276277u){
+ma=4;
+na=1;
+oa=0;
+goto L2;}
+if(ka==0){
+qa=port_rattle_alloc(pa*52,4);
+if(!(u8)(qa.f0&1)){
+ma=4;
+na=1;
+oa=0;
+goto L2;}
+ra=qa;}
+else{
+sa=port_rattle_realloc(rp(c),ka*52,pa*52,4);
+if(!(u8)(sa.f0&1)){
+ma=4;
+na=1;
+oa=0;
+goto L2;}
+ra=sa;}
+ta=(u8*)ra.f1;
+wp(c,ta);
+w8(c+16,pa);
+ua=ta;
+va=r8(c+8);}
+else{
+ua=rp(c);
+va=ka;}
+wa=ua+va*52;
+*wa=4;
+wa[1]=d;
+x4(wa+4,Q);
+x8(wa+8,ia);
+x4(wa+16,ja);
+memcpy(wa+20,M,32);
+w8(c+8,va+1);
+ma=0;
+na=0;
+oa=0;}
+else{
+if(g[36]==0){
+xa=h-2;
+ya=g[40];
+memcpy(N,g+41,31);
+za=R;
+Aa=R>>32;
+Ba=Aa;
+switch(Q){
+case 0:Ca=R+1;
+Da=0;
+break;
+case 1:Ca=R;
+Da=(Aa+1)&4294967295u;
+break;
+case 2:Ca=R;
+Da=Aa;
+break;
+default:NEVER;
+}
+Ea=rest_node_d20(b,f);
 z12(K);
-if(g==0){
-L=r8(c+8);
-if(r8(c+16)==L){
-M=umax64(L,8);
-if(M>(L^18446744073709551615u)){
-N=0;
-O=4;
-P=1;
-goto L1;}
-Q=M+L;
-if(Q>=0x333333333333334u){
-N=0;
-O=4;
-P=1;
-goto L1;}
-if(L==0){
-R=port_rattle_alloc(Q*40,4);
-if(!(u8)(R.f0&1)){
-N=0;
-O=4;
-P=1;
-goto L1;}
-S=R;}
+z12(L);
+if(xa==0){
+Fa=r8(c+8);
+if(r8(c+16)==Fa){
+Ga=umax64(Fa,8);
+if(Ga>(Fa^18446744073709551615u))goto L3;
+Ha=Ga+Fa;
+if(Ha>=0x276276276276277u)goto L3;
+if(Fa==0){
+Ia=port_rattle_alloc(Ha*52,4);
+if(!(u8)(Ia.f0&1))goto L3;
+Ja=Ia;}
 else{
-T=port_rattle_realloc(rp(c),L*40,Q*40,4);
-if(!(u8)(T.f0&1)){
-N=0;
-O=4;
-P=1;
-goto L1;}
-S=T;}
-U=(u8*)S.f1;
-wp(c,U);
-w8(c+16,Q);
-V=U;
-W=r8(c+8);}
+Ka=port_rattle_realloc(rp(c),Fa*52,Ha*52,4);
+if(!(u8)(Ka.f0&1))goto L3;
+Ja=Ka;}
+La=(u8*)Ja.f1;
+wp(c,La);
+w8(c+16,Ha);
+Ma=La;
+Na=r8(c+8);}
 else{
-V=rp(c);
-W=L;}
-X=V+W*40;
-*X=0;
-X[1]=0;
-z36(X+4);
-w8(c+8,W+1);
-N=0;
-O=0;
-P=0;}
+Ma=rp(c);
+Na=Fa;}
+Oa=Ma+Na*52;
+*Oa=0;
+Oa[1]=0;
+z48(Oa+4);
+w8(c+8,Na+1);}
 else{
-if(*f==0){
-*H=f[4];
-memcpy(H+1,f+5,31);
-z12(J);
-if(g==1){
-Y=rest_node_d20(b,e);
-Z=r8(c+8);
-if(r8(c+16)==Z){
-aa=umax64(Z,8);
-if(aa>(Z^18446744073709551615u)){
-ba=4;
-ca=1;
-da=0;
+if(g[72]!=0){
+push_plain_069(K,b,c,g+72,xa,i);
+if(*K==0)goto L4;
+ma=K[4];
+na=1;
+oa=r4(K+8);
 goto L2;}
-ea=aa+Z;
-if(ea>=0x333333333333334u){
-ba=4;
-ca=1;
-da=0;
+Pa=g[76];
+memcpy(J,g+77,31);
+push_plain_069(L,b,c,g+108,h-3,i);
+if(*L!=0){
+ma=L[4];
+na=1;
+oa=r4(L+8);
 goto L2;}
-if(Z==0){
-fa=port_rattle_alloc(ea*40,4);
-if(!(u8)(fa.f0&1)){
-ba=4;
-ca=1;
-da=0;
-goto L2;}
-ga=fa;}
+Qa=(Da<<32)|(Ca&4294967295u);
+Ra=r8(c+8);
+if(r8(c+16)==Ra){
+Sa=umax64(Ra,8);
+if(Sa>(Ra^18446744073709551615u))goto L3;
+Ta=Sa+Ra;
+if(Ta>=0x276276276276277u)goto L3;
+if(Ra==0){
+Ua=port_rattle_alloc(Ta*52,4);
+if(!(u8)(Ua.f0&1))goto L3;
+Va=Ua;}
 else{
-ha=port_rattle_realloc(rp(c),Z*40,ea*40,4);
-if(!(u8)(ha.f0&1)){
-ba=4;
-ca=1;
-da=0;
-goto L2;}
-ga=ha;}
-ia=(u8*)ga.f1;
-wp(c,ia);
-w8(c+16,ea);
-ja=ia;
-ka=r8(c+8);}
+Wa=port_rattle_realloc(rp(c),Ra*52,Ta*52,4);
+if(!(u8)(Wa.f0&1))goto L3;
+Va=Wa;}
+Xa=(u8*)Va.f1;
+wp(c,Xa);
+w8(c+16,Ta);
+Ya=Xa;
+Za=r8(c+8);}
 else{
-ja=rp(c);
-ka=Z;}
-la=ja+ka*40;
-*la=4;
-la[1]=d;
-x4(la+4,Y);
-memcpy(la+8,H,32);
-w8(c+8,ka+1);
-ba=0;
-ca=0;
-da=0;}
+Ya=rp(c);
+Za=Ra;}
+ab=Ya+Za*52;
+*ab=4;
+ab[1]=d;
+x4(ab+4,Q);
+x8(ab+8,Qa);
+x4(ab+16,Ea);
+ab[20]=Pa;
+memcpy(ab+21,J,31);
+w8(c+8,Za+1);}
+L4:bb=rp(b+24);
+cb=(u64)f*48;
+db=bb+(i64)cb;
+eb=*db;
+memcpy(H+1,db+1,3);
+memcpy(H+4,db+4,20);
+*H=eb;
+z64(I);
+if(eb==47){
+fb=r4(H+4);
+z64(F);
+gb=bb+(i64)((u64)fb*48);
+hb=bb+(i64)((u64)(*gb==47?q4(gb+4):fb)*48);
+ib=*hb;
+memcpy(G+1,hb+1,3);
+memcpy(G+4,hb+4,20);
+*G=ib;
+view_of_own_62c(F,b+24,G);
+memcpy(I,F,64);}
+else view_of_own_62c(I,b+24,H);
+if(r2(I)==2){
+jb=part_74e(b,f,0);
+kb=rp(b+24);
+lb=(u64)jb*48;
+mb=*(kb+(i64)lb);
+nb=lb;
+ob=kb;
+pb=jb;}
 else{
-if(f[36]==0){
-ma=g-2;
-na=f[40];
-memcpy(I,f+41,31);
-oa=rest_node_d20(b,e);
-z12(F);
-z12(G);
-if(ma==0){
-pa=r8(c+8);
-if(r8(c+16)==pa){
-qa=umax64(pa,8);
-if(qa>(pa^18446744073709551615u))goto L3;
-ra=qa+pa;
-if(ra>=0x333333333333334u)goto L3;
-if(pa==0){
-sa=port_rattle_alloc(ra*40,4);
-if(!(u8)(sa.f0&1))goto L3;
-ta=sa;}
+mb=eb;
+nb=cb;
+ob=bb;
+pb=f;}
+*D=ya;
+memcpy(D+1,N,31);
+z12(E);
+qb=ob+(i64)nb;
+memcpy(B+1,qb+1,3);
+memcpy(B+4,qb+4,20);
+*B=mb;
+z64(C);
+if(mb==47){
+rb=r4(B+4);
+z64(z);
+sb=ob+(i64)((u64)rb*48);
+tb=ob+(i64)((u64)(*sb==47?q4(sb+4):rb)*48);
+ub=*tb;
+memcpy(A+1,tb+1,3);
+memcpy(A+4,tb+4,20);
+*A=ub;
+view_of_own_62c(z,b+24,A);
+memcpy(C,z,64);}
+else view_of_own_62c(C,b+24,B);
+switch(r2(C)){
+case 35:case 29:vb=part_74e(b,pb,0);
+if(Q==0){
+wb=rp(b+24);
+xb=wb+(i64)nb;
+yb=*xb;
+memcpy(x+1,xb+1,3);
+memcpy(x+4,xb+4,20);
+*x=yb;
+z64(y);
+if(yb==47){
+zb=r4(x+4);
+z64(v);
+Ab=wb+(i64)((u64)zb*48);
+Bb=wb+(i64)((u64)(*Ab==47?q4(Ab+4):zb)*48);
+Cb=*Bb;
+memcpy(w+1,Bb+1,3);
+memcpy(w+4,Bb+4,20);
+*w=Cb;
+view_of_own_62c(v,b+24,w);
+memcpy(y,v,64);}
+else view_of_own_62c(y,b+24,x);
+Db=r2(y)==35;
+Eb=R&4294967295u;
+Fb=0;
+Gb=Db?1:2;
+Hb=Db?Eb|0x100000000u:Eb;}
 else{
-ua=port_rattle_realloc(rp(c),pa*40,ra*40,4);
-if(!(u8)(ua.f0&1))goto L3;
-ta=ua;}
-va=(u8*)ta.f1;
-wp(c,va);
-w8(c+16,ra);
-wa=va;
-xa=r8(c+8);}
-else{
-wa=rp(c);
-xa=pa;}
-ya=wa+xa*40;
-*ya=0;
-ya[1]=0;
-z36(ya+4);
-w8(c+8,xa+1);}
-else{
-if(f[72]!=0){
-push_plain_069(F,b,c,f+72,ma,h);
-if(*F==0)goto L4;
-ba=F[4];
-ca=1;
-da=r4(F+8);
-goto L2;}
-za=f[76];
-memcpy(E,f+77,31);
-push_plain_069(G,b,c,f+108,g-3,h);
-if(*G!=0){
-ba=G[4];
-ca=1;
-da=r4(G+8);
-goto L2;}
-Aa=r8(c+8);
-if(r8(c+16)==Aa){
-Ba=umax64(Aa,8);
-if(Ba>(Aa^18446744073709551615u))goto L3;
-Ca=Ba+Aa;
-if(Ca>=0x333333333333334u)goto L3;
-if(Aa==0){
-Da=port_rattle_alloc(Ca*40,4);
-if(!(u8)(Da.f0&1))goto L3;
-Ea=Da;}
-else{
-Fa=port_rattle_realloc(rp(c),Aa*40,Ca*40,4);
-if(!(u8)(Fa.f0&1))goto L3;
-Ea=Fa;}
-Ga=(u8*)Ea.f1;
-wp(c,Ga);
-w8(c+16,Ca);
-Ha=Ga;
-Ia=r8(c+8);}
-else{
-Ha=rp(c);
-Ia=Aa;}
-Ja=Ha+Ia*40;
-*Ja=4;
-Ja[1]=d;
-x4(Ja+4,oa);
-Ja[8]=za;
-memcpy(Ja+9,E,31);
-w8(c+8,Ia+1);}
-L4:Ka=rp(b+24);
-La=(u64)e*48;
-Ma=Ka+(i64)La;
-Na=*Ma;
-memcpy(C+1,Ma+1,3);
-memcpy(C+4,Ma+4,20);
-*C=Na;
-z64(D);
-if(Na==47){
-Oa=r4(C+4);
-z64(A);
-Pa=Ka+(i64)((u64)Oa*48);
-Qa=Ka+(i64)((u64)(*Pa==47?q4(Pa+4):Oa)*48);
-Ra=*Qa;
-memcpy(B+1,Qa+1,3);
-memcpy(B+4,Qa+4,20);
-*B=Ra;
-view_of_own_62c(A,b+24,B);
-memcpy(D,A,64);}
-else view_of_own_62c(D,b+24,C);
-if(r2(D)==2){
-Sa=part_74e(b,e,0);
-Ta=rp(b+24);
-Ua=(u64)Sa*48;
-Va=*(Ta+(i64)Ua);
-Wa=Ua;
-Xa=Ta;
-Ya=Sa;}
-else{
-Va=Na;
-Wa=La;
-Xa=Ka;
-Ya=e;}
-*y=na;
-memcpy(y+1,I,31);
-z12(z);
-Za=Xa+(i64)Wa;
-memcpy(w+1,Za+1,3);
-memcpy(w+4,Za+4,20);
-*w=Va;
-z64(x);
-if(Va==47){
-ab=r4(w+4);
-z64(u);
-bb=Xa+(i64)((u64)ab*48);
-cb=Xa+(i64)((u64)(*bb==47?q4(bb+4):ab)*48);
-db=*cb;
-memcpy(v+1,cb+1,3);
-memcpy(v+4,cb+4,20);
-*v=db;
-view_of_own_62c(u,b+24,v);
-memcpy(x,u,64);}
-else view_of_own_62c(x,b+24,w);
-switch(r2(x)){
-case 35:case 29:eb=part_74e(b,Ya,0);
-zero_all(q,296);
-z12(r);
+Fb=Ba;
+Gb=2;
+Hb=R;}
+zero_all(r,296);
 z12(s);
 z12(t);
-parts_7a7(q,b,H);
-fb=*q;
-gb=q[4];
-memcpy(i,q+5,3);
-hb=q[8];
-memcpy(j,q+9,3);
-ib=q[12];
-memcpy(k,q+13,3);
-jb=q[16];
-memcpy(l,q+17,3);
-kb=q[20];
-memcpy(m,q+21,3);
-lb=q[24];
-memcpy(n,q+25,3);
-mb=q[28];
-memcpy(o,q+29,3);
-nb=q[32];
-memcpy(p,q+33,3);
-ob=r8(q+288);
-parts_7a7(q,b,y);
-if(ob==0)push_lone_16a(r,b,c,d,H,y,h);
+z12(u);
+parts_7a7(r,b,M);
+Ib=*r;
+Jb=r[4];
+memcpy(j,r+5,3);
+Kb=r[8];
+memcpy(k,r+9,3);
+Lb=r[12];
+memcpy(l,r+13,3);
+Mb=r[16];
+memcpy(m,r+17,3);
+Nb=r[20];
+memcpy(n,r+21,3);
+Ob=r[24];
+memcpy(o,r+25,3);
+Pb=r[28];
+memcpy(p,r+29,3);
+Qb=r[32];
+memcpy(q,r+33,3);
+Rb=r8(r+288);
+parts_7a7(r,b,D);
+if(Rb==0)push_lone_16a(s,b,c,d,za,Fb,M,D,i);
 else{
-if(fb==0){
-if(ob==1){
-if(r8(q+288)==0){
-pb=r8(c+8);
-if(r8(c+16)==pb){
-qb=umax64(pb,8);
-if(qb>(pb^18446744073709551615u)){
-rb=4;
-sb=0;
-tb=1;
+if(Ib==0){
+if(Rb==1){
+if(r8(r+288)==0){
+Sb=r8(c+8);
+if(r8(c+16)==Sb){
+Tb=umax64(Sb,8);
+if(Tb>(Sb^18446744073709551615u)){
+Ub=4;
+Vb=0;
+Wb=1;
 goto L5;}
-ub=qb+pb;
-if(ub>=0x333333333333334u){
-rb=4;
-sb=0;
-tb=1;
+Xb=Tb+Sb;
+if(Xb>=0x276276276276277u){
+Ub=4;
+Vb=0;
+Wb=1;
 goto L5;}
-if(pb==0){
-vb=port_rattle_alloc(ub*40,4);
-if(!(u8)(vb.f0&1)){
-rb=4;
-sb=0;
-tb=1;
+if(Sb==0){
+Yb=port_rattle_alloc(Xb*52,4);
+if(!(u8)(Yb.f0&1)){
+Ub=4;
+Vb=0;
+Wb=1;
 goto L5;}
-wb=vb;}
+Zb=Yb;}
 else{
-xb=port_rattle_realloc(rp(c),pb*40,ub*40,4);
-if(!(u8)(xb.f0&1)){
-rb=4;
-sb=0;
-tb=1;
+ac=port_rattle_realloc(rp(c),Sb*52,Xb*52,4);
+if(!(u8)(ac.f0&1)){
+Ub=4;
+Vb=0;
+Wb=1;
 goto L5;}
-wb=xb;}
-yb=(u8*)wb.f1;
-wp(c,yb);
-w8(c+16,ub);
-zb=yb;
-Ab=r8(c+8);}
+Zb=ac;}
+bc=(u8*)Zb.f1;
+wp(c,bc);
+w8(c+16,Xb);
+cc=bc;
+dc=r8(c+8);}
 else{
-zb=rp(c);
-Ab=pb;}
-Bb=zb+Ab*40;
-*Bb=4;
-Bb[1]=d;
-x4(Bb+4,eb);
-Bb[8]=gb;
-memcpy(Bb+9,i,3);
-Bb[12]=hb;
-memcpy(Bb+13,j,3);
-Bb[16]=ib;
-memcpy(Bb+17,k,3);
-Bb[20]=jb;
-memcpy(Bb+21,l,3);
-Bb[24]=kb;
-memcpy(Bb+25,m,3);
-Bb[28]=lb;
-memcpy(Bb+29,n,3);
-Bb[32]=mb;
-memcpy(Bb+33,o,3);
-Bb[36]=nb;
-memcpy(Bb+37,p,3);
-w8(c+8,Ab+1);
-rb=0;
-sb=0;
-tb=0;}
+cc=rp(c);
+dc=Sb;}
+ec=cc+dc*52;
+*ec=4;
+ec[1]=d;
+x4(ec+4,Gb);
+x8(ec+8,Hb);
+x4(ec+16,vb);
+ec[20]=Jb;
+memcpy(ec+21,j,3);
+ec[24]=Kb;
+memcpy(ec+25,k,3);
+ec[28]=Lb;
+memcpy(ec+29,l,3);
+ec[32]=Mb;
+memcpy(ec+33,m,3);
+ec[36]=Nb;
+memcpy(ec+37,n,3);
+ec[40]=Ob;
+memcpy(ec+41,o,3);
+ec[44]=Pb;
+memcpy(ec+45,p,3);
+ec[48]=Qb;
+memcpy(ec+49,q,3);
+w8(c+8,dc+1);
+Ub=0;
+Vb=0;
+Wb=0;}
 else{
-push_lone_16a(t,b,c,d,H,y,h);
-rb=t[4];
-sb=r4(t+8);
-tb=*t;}}
+push_lone_16a(u,b,c,d,za,Fb,M,D,i);
+Ub=u[4];
+Vb=r4(u+8);
+Wb=*u;}}
 else{
-push_lone_16a(s,b,c,d,H,y,h);
-rb=s[4];
-sb=r4(s+8);
-tb=*s;}
-L5:*r=tb;
-w4(r+4,rb);
-w4(r+8,sb);}
-else push_lone_16a(r,b,c,d,H,y,h);}
-Cb=r[4];
-Db=r4(r+8);
-Eb=*r;
+push_lone_16a(t,b,c,d,za,Fb,M,D,i);
+Ub=t[4];
+Vb=r4(t+8);
+Wb=*t;}
+L5:*s=Wb;
+w4(s+4,Ub);
+w4(s+8,Vb);}
+else push_lone_16a(s,b,c,d,za,Fb,M,D,i);}
+fc=s[4];
+gc=r4(s+8);
+hc=*s;
 break;
-default:push_lone_16a(z,b,c,d,H,y,h);
-Cb=z[4];
-Db=r4(z+8);
-Eb=*z;
+default:push_lone_16a(E,b,c,d,za,Q==0?0:Ba,M,D,i);
+fc=E[4];
+gc=r4(E+8);
+hc=*E;
 break;}
-ba=Cb;
-ca=Eb;
-da=Db;
+ma=fc;
+na=hc;
+oa=gc;
 goto L2;
-L3:ba=4;
-ca=1;
-da=0;}
+L3:ma=4;
+na=1;
+oa=0;}
 else{
-push_plain_069(J,b,c,f,g,h);
-ba=J[4];
-ca=*J;
-da=r4(J+8);}}
-L2:N=da;
-O=ba;
-P=ca;}
+push_plain_069(O,b,c,g,h,i);
+ma=O[4];
+na=*O;
+oa=r4(O+8);}}
+L2:U=oa;
+V=ma;
+W=na;}
 else{
-push_plain_069(K,b,c,f,g,h);
-N=r4(K+8);
-O=K[4];
-P=*K;}}
-L1:*a=P;
-x4(a+4,O);
-x4(a+8,N);
+push_plain_069(P,b,c,g,h,i);
+U=r4(P+8);
+V=P[4];
+W=*P;}}
+L1:*a=W;
+x4(a+4,V);
+x4(a+8,U);
 return;
 }
 
@@ -120608,153 +120822,1428 @@ return w;
 }
 
 /* cpp_parts::lists::push_lone */
-static void push_lone_16a(u8* a,u8* b,u8* c,u8 d,u8* e,u8* f,u32 g)
+static void push_lone_16a(u8* a,u8* b,u8* c,u8 d,u32 e,u32 f,u8* g,u8* h,u32 i)
 {
-u8 k[35];
-A16 u8 h[12],i[12],j[32],l[36],m[36];
-u32 n,o,y,L,O,X,Y;
-u64 p,q,r,x,A,B,C,I,K,M,P,V;
-s_64_64 s,t,u,D,E,F,Q,R,S;
-u8 *v,*w,*z,*G,*H,*J,*T,*U,*W;
-u8 N;
-memcpy(j,f,32);
-z3(k);
-memcpy(k+3,e,32);
-*l=0;
-memcpy(l+1,k,35);
-z12(i);
-length_of_part_030(i,b,l,g);
-n=r4(i+4);
-if(*i==0){
-memcpy(k+3,j,32);
-*m=0;
-memcpy(m+1,k,35);
-z12(h);
-length_of_part_030(h,b,m,g);
-o=r4(h+4);
-if(*h==0){
-p=r8(c+8);
-if(r8(c+16)==p){
-q=umax64(p,8);
-if(q<=(p^18446744073709551615u)){
-r=q+p;
-if(r<0x333333333333334u){
-if(p==0){
-s=port_rattle_alloc(r*40,4);
-if(!(u8)(s.f0&1))goto L1;
-t=s;}
-else{
-u=port_rattle_realloc(rp(c),p*40,r*40,4);
+u8 m[35];
+A16 u8 j[12],k[12],l[32],n[36],o[36];
+u32 p,q,A,N,Q,Z,aa;
+u64 r,s,t,z,C,D,E,K,M,O,R,X;
+s_64_64 u,v,w,F,G,H,S,T,U;
+u8 *x,*y,*B,*I,*J,*L,*V,*W,*Y;
+u8 P;
+memcpy(l,h,32);
+z3(m);
+memcpy(m+3,g,32);
+*n=0;
+memcpy(n+1,m,35);
+z12(k);
+length_of_part_030(k,b,n,i);
+p=r4(k+4);
+if(*k==0){
+memcpy(m+3,l,32);
+*o=0;
+memcpy(o+1,m,35);
+z12(j);
+length_of_part_030(j,b,o,i);
+q=r4(j+4);
+if(*j==0){
+r=r8(c+8);
+if(r8(c+16)==r){
+s=umax64(r,8);
+if(s<=(r^18446744073709551615u)){
+t=s+r;
+if(t<0x276276276276277u){
+if(r==0){
+u=port_rattle_alloc(t*52,4);
 if(!(u8)(u.f0&1))goto L1;
-t=u;}
-v=(u8*)t.f1;
-wp(c,v);
-w8(c+16,r);
-w=v;
-x=r8(c+8);
+v=u;}
+else{
+w=port_rattle_realloc(rp(c),r*52,t*52,4);
+if(!(u8)(w.f0&1))goto L1;
+v=w;}
+x=(u8*)v.f1;
+wp(c,x);
+w8(c+16,t);
+y=x;
+z=r8(c+8);
 goto L2;}}
 L1:*a=1;
 x4(a+4,4);
-y=0;
+A=0;
 goto L3;}
-w=rp(c);
-x=p;
-L2:z=w+x*40;
-*z=0;
-z[1]=0;
-x4(z+4,o);
-z32(z+8);
-A=x+1;
-w8(c+8,A);
-if(r8(c+16)==A){
-B=umax64(A,8);
-if(B<=0xfffffffffffffffeu-x){
-C=B+A;
-if(C<0x333333333333334u){
-if(A==0){
-D=port_rattle_alloc(C*40,4);
-if(!(u8)(D.f0&1))goto L4;
-E=D;}
-else{
-F=port_rattle_realloc(rp(c),A*40,C*40,4);
+y=rp(c);
+z=r;
+L2:B=y+z*52;
+*B=0;
+B[1]=0;
+x4(B+4,q);
+C=z+1;
+z44(B+8);
+w8(c+8,C);
+if(r8(c+16)==C){
+D=umax64(C,8);
+if(D<=0xfffffffffffffffeu-z){
+E=D+C;
+if(E<0x276276276276277u){
+if(C==0){
+F=port_rattle_alloc(E*52,4);
 if(!(u8)(F.f0&1))goto L4;
-E=F;}
-G=(u8*)E.f1;
-wp(c,G);
-w8(c+16,C);
-H=G;
-I=r8(c+8);
+G=F;}
+else{
+H=port_rattle_realloc(rp(c),C*52,E*52,4);
+if(!(u8)(H.f0&1))goto L4;
+G=H;}
+I=(u8*)G.f1;
+wp(c,I);
+w8(c+16,E);
+J=I;
+K=r8(c+8);
 goto L5;}}
 L4:*a=1;
 x4(a+4,4);
-y=0;
+A=0;
 goto L3;}
-H=rp(c);
-I=A;
-L5:J=H+I*40;
-*J=0;
-J[1]=0;
-x4(J+4,n);
-z32(J+8);
-K=I+1;
-w8(c+8,K);
-L=o+n;
-if(r8(c+16)==K){
-M=umax64(K,8);
-if(M>0xfffffffffffffffeu-I){
-N=1;
-O=4;
+J=rp(c);
+K=C;
+L5:L=J+K*52;
+*L=0;
+L[1]=0;
+x4(L+4,p);
+M=K+1;
+z44(L+8);
+w8(c+8,M);
+N=q+p;
+if(r8(c+16)==M){
+O=umax64(M,8);
+if(O>0xfffffffffffffffeu-K){
+P=1;
+Q=4;
 goto L6;}
-P=M+K;
-if(P>=0x333333333333334u){
-N=1;
-O=4;
+R=O+M;
+if(R>=0x276276276276277u){
+P=1;
+Q=4;
 goto L6;}
-if(K==0){
-Q=port_rattle_alloc(P*40,4);
-if(!(u8)(Q.f0&1)){
-N=1;
-O=4;
-goto L6;}
-R=Q;}
-else{
-S=port_rattle_realloc(rp(c),K*40,P*40,4);
+if(M==0){
+S=port_rattle_alloc(R*52,4);
 if(!(u8)(S.f0&1)){
-N=1;
-O=4;
+P=1;
+Q=4;
 goto L6;}
-R=S;}
-T=(u8*)R.f1;
-wp(c,T);
-w8(c+16,P);
-U=T;
-V=r8(c+8);}
+T=S;}
 else{
-U=rp(c);
-V=K;}
-W=U+V*40;
-*W=1;
-W[1]=d;
-x4(W+4,L);
-z32(W+8);
-w8(c+8,V+1);
-N=0;
-O=0;
-L6:*a=N;
-x4(a+4,O);
-y=0;}
+U=port_rattle_realloc(rp(c),M*52,R*52,4);
+if(!(u8)(U.f0&1)){
+P=1;
+Q=4;
+goto L6;}
+T=U;}
+V=(u8*)T.f1;
+wp(c,V);
+w8(c+16,R);
+W=V;
+X=r8(c+8);}
 else{
-X=r4(h+8);
+W=rp(c);
+X=M;}
+Y=W+X*52;
+*Y=1;
+Y[1]=d;
+x4(Y+4,e);
+x4(Y+8,f);
+x4(Y+12,N);
+z36(Y+16);
+w8(c+8,X+1);
+P=0;
+Q=0;
+L6:*a=P;
+x4(a+4,Q);
+A=0;}
+else{
+Z=r4(j+8);
 *a=1;
-x4(a+4,o&255);
-y=X;}}
+x4(a+4,q&255);
+A=Z;}}
 else{
-Y=r4(i+8);
+aa=r4(k+8);
 *a=1;
-x4(a+4,n&255);
-y=Y;}
-L3:x4(a+8,y);
+x4(a+4,p&255);
+A=aa;}
+L3:x4(a+8,A);
 return;
+}
+
+/* cpp_spelled::spelled::spelling */
+static void spelling_0e2(u8* a,u8* b,u64 c,u8 d)
+{
+u8 f[3],g[3];
+A16 u8 e[44];
+u32 h,i,j,p,q,z,A,J,K,L,S,T,U,X,Y,Z,aa,ba,ca,ga,ha,ia,ja,Ra,cb,gb,hb,Bb,qc,rc,tc,uc,wc,xc,yc,zc,Dc,Jc,Kc,Oc,Pc,Tc,Uc,Vc,Xc,Yc,cd,gd,hd,jd,kd,nd,Ld,Pd,Qd,ze,Ge,He,Le,Ye;
+u8 *k,*n,*r,*v,*E,*F,*O,*ta,*va,*za,*Ba,*Ga,*Ia,*Ma,*Na,*Oa,*Sa,*Ua,*Ya,*ib,*mb,*ub,*wb,*zb,*Fb,*Gb,*Kb,*Sb,*Ub,*ec,*fc,*ic,*jc,*mc,*oc,*Bc,*Ec,*Nc,*Rc,*Zc,*ld,*vd,*xd,*Bd,*Cd,*Fd,*Jd,*Md,*Wd,*Yd,*ce,*fe,*ie,*me,*ue,*we,*Ae,*Ee,*Ie,*Se,*Ue,*Ve,*Ze,*bf,*ff,*nf,*pf,*rf,*uf,*yf,*Gf,*If;
+u64 l,m,o,s,w,x,y,B,C,D,N,oa,pa,ua,wa,xa,Aa,Ca,Da,Fa,Ja,Ka,La,Pa,Qa,Ta,Va,Za,fb,jb,kb,lb,nb,ob,pb,qb,vb,xb,yb,Ab,Cb,Db,Eb,Hb,Ib,Jb,Lb,Mb,Nb,Ob,Tb,Vb,Wb,Xb,Yb,Zb,ac,bc,cc,dc,gc,hc,kc,nc,pc,vc,Cc,Fc,Gc,Hc,Mc,Sc,Wc,ad,fd,id,md,od,pd,qd,ud,yd,zd,Ad,Dd,Ed,Gd,Hd,Id,Kd,Nd,Od,Rd,Sd,Xd,Zd,ae,de,ee,ge,he,je,ke,le,ne,oe,pe,qe,ve,xe,ye,Be,Ce,De,Fe,Je,Ke,Me,Ne,Oe,Te,We,Xe,af,cf,df,ef,gf,hf,jf,of,qf,sf,tf,vf,wf,xf,zf,Af,Bf,Cf,Hf,Jf,Kf,Lf;
+u8 t,u,H,I,M,Q,R,W,da,ea,ka,la,na,ya,Ea,Ha,bb,lc,sc,Ac,Ic,Lc,bd,td,be;
+u16 G,P,V,fa,ma;
+s_64_64 qa,ra,sa,rb,sb,tb,Pb,Qb,Rb,sd,Td,Ud,Vd,re,se,te,Pe,Qe,Re,kf,lf,mf,Df,Ef,Ff;
+s_32_32 Wa,Xa,ab,db,eb,Qc,dd,ed;
+if(c==0){
+h=0;
+i=0;
+j=0;
+k=(u8*)65536;
+l=0;
+m=0;
+n=(u8*)t_z0;
+o=0;
+p=0;
+q=0;
+r=(u8*)65536;
+s=0;
+t=1;
+u=1;
+v=(u8*)65536;
+w=0;
+x=0;
+y=0;
+z=0;
+A=0;
+goto L1;}
+B=0;
+C=0;
+D=0;
+E=(u8*)65536;
+L2:F=b+(i64)(B<<4);
+G=q2(F);
+H=F[2];
+I=F[3];
+J=q4(F+4);
+K=q4(F+8);
+L=q4(F+12);
+if(G<270)M=*((u8*)t_0ef9+(i64)G);
+else M=0;
+N=B+1;
+if(N<c){
+O=b+(i64)(N<<4);
+P=q2(O);
+Q=O[2];
+R=O[3];
+S=q4(O+4);
+T=q4(O+8);
+U=q4(O+12);
+if(N<L){
+if(Q==0){
+V=P;
+W=R;
+X=S;
+Y=T;
+Z=U;
+goto L3;}
+if(L<=U){
+aa=U;
+ba=T;
+ca=S;
+da=R;
+ea=Q;
+fa=P;
+ga=umax32(J,K);
+goto L4;}
+if(c>U){
+aa=U;
+ba=T;
+ca=S;
+da=R;
+ea=Q;
+fa=P;
+ga=umax32(J,q4(b+(i64)((u64)U<<4)+4));
+goto L4;}
+aa=U;
+ba=T;
+ca=S;
+da=R;
+ea=Q;
+fa=P;
+ga=J;
+goto L4;}
+ha=U;
+ia=T;
+ja=S;
+ka=R;
+la=Q;
+ma=P;}
+else{
+if(N<L){
+V=65535;
+W=0;
+X=0;
+Y=0;
+Z=0;
+goto L3;}
+ha=0;
+ia=0;
+ja=0;
+ka=0;
+la=0;
+ma=65535;}
+aa=ha;
+ba=ia;
+ca=ja;
+da=ka;
+ea=la;
+fa=ma;
+ga=umax32(J,K);
+goto L4;
+L3:aa=Z;
+ba=Y;
+ca=X;
+da=W;
+ea=0;
+fa=V;
+ga=umax32(J,X);
+L4:na=((u8)(M-5)<2&&H>1)?0:M;
+z3(f);
+z3(g);
+if(C==D){
+oa=umax64(C,8);
+if(oa<=(C^18446744073709551615u)){
+pa=oa+C;
+if(pa<0x2e8ba2e8ba2e8bbu){
+if(C==0){
+qa=port_rattle_alloc(pa*44,4);
+if(!(u8)(qa.f0&1))goto L5;
+ra=qa;}
+else{
+sa=port_rattle_realloc(E,C*44,pa*44,4);
+if(!(u8)(sa.f0&1))goto L6;
+ra=sa;}
+ta=(u8*)ra.f1;
+ua=pa;
+goto L7;}}
+if(C==0)goto L5;
+L6:port_rattle_dealloc(E);
+goto L5;}
+ta=E;
+ua=C;
+L7:memcpy(g,f,3);
+va=ta+D*44;
+*va=na;
+memcpy(va+1,g,3);
+x2(va+4,G);
+va[6]=H;
+va[7]=I;
+x4(va+8,J);
+x4(va+12,K);
+x4(va+16,L);
+x2(va+20,fa);
+va[22]=ea;
+va[23]=da;
+x4(va+24,ca);
+x4(va+28,ba);
+x4(va+32,aa);
+x4(va+36,J);
+x4(va+40,ga);
+wa=D+1;
+xa=na<4?umax64(L,N):N;
+if(xa<c){
+B=xa;
+C=ua;
+D=wa;
+E=ta;
+goto L2;}
+ya=ua==0;
+if(wa==0){
+h=0;
+i=0;
+j=0;
+k=(u8*)65536;
+l=0;
+m=0;
+n=(u8*)t_z0;
+o=0;
+p=0;
+q=0;
+r=ta;
+s=0;
+t=ya;
+u=1;
+v=(u8*)65536;
+w=0;
+x=0;
+y=0;
+z=0;
+A=0;
+goto L1;}
+za=ta;
+Aa=wa;
+Ba=(u8*)t_z0;
+Ca=0;
+L8:Da=Aa-1;
+Ea=(u8)(*za-10)<3;
+Fa=Ea?Aa:Ca;
+Ga=Ea?za:Ba;
+if(Da!=0){
+za=za+44;
+Aa=Da;
+Ba=Ga;
+Ca=Fa;
+goto L8;}
+Ha=Fa==0;
+if(!Ha){
+Ka=Fa-1;
+La=usub64(Fa,1);
+Ma=Ga+(i64)(u64)(Ha?0:44);
+switch(*Ga){
+case 11:Na=Ga+24;
+goto L9;
+case 12:Oa=ta;
+Pa=wa;
+break;
+default:Na=Ga+8;
+goto L9;
+}
+L10:if(*Oa==9)Na=Oa+8;
+else{
+Qa=Pa-1;
+if(Qa!=0){
+Oa=Oa+44;
+Pa=Qa;
+goto L10;}
+Na=Ga+8;}
+L9:Ra=r4(Na);
+if(Ka==0)goto L11;
+Sa=Ga;
+Ta=Ka;
+L12:if((u8)(Sa[44]-13)<3){
+Ua=Sa+52;
+goto L13;}
+Va=Ta-1;
+if(Va!=0){
+Sa=Sa+44;
+Ta=Va;
+goto L12;}
+L11:Ua=Ga+12;
+L13:Wa=(s_32_32){0};Wa.f0=Ra;
+Xa=Wa;Xa.f1=umax32(Ra,r4(Ua));
+Ya=Ma;
+Za=La;
+ab=Xa;
+goto L14;}
+Ia=ta;
+Ja=wa;
+L15:bb=*Ia;
+if((bb&254)==2){
+cb=r4(Ia+24);
+db=(s_32_32){0};db.f0=cb;
+eb=db;eb.f1=umax32(cb,r4(Ia+(i64)(u64)(bb==3?28:12)));
+Ya=Ga;
+Za=0;
+ab=eb;}
+else{
+fb=Ja-1;
+if(fb!=0){
+Ia=Ia+44;
+Ja=fb;
+goto L15;}
+Ya=Ga;
+Za=0;
+ab=(s_32_32){0};}
+L14:gb=ab.f0;
+hb=ab.f1;
+ib=ta;
+jb=wa;
+kb=0;
+lb=0;
+mb=(u8*)65536;
+L16:nb=jb-1;
+if(*ib==18){
+ob=q8(ib+36);
+if(kb==lb){
+pb=umax64(kb,8);
+if(pb<=(kb^18446744073709551615u)){
+qb=pb+kb;
+if(qb<0x1000000000000000u){
+if(kb==0){
+rb=port_rattle_alloc(64,4);
+if(!(u8)(rb.f0&1))goto L17;
+sb=rb;}
+else{
+tb=port_rattle_realloc(mb,kb<<3,qb<<3,4);
+if(!(u8)(tb.f0&1))goto L18;
+sb=tb;}
+ub=(u8*)sb.f1;
+vb=qb;
+goto L19;}}
+if(kb==0)goto L17;
+L18:port_rattle_dealloc(mb);
+if(ya)goto L5;
+goto L20;
+L17:if(ya)goto L5;
+L20:port_rattle_dealloc(ta);
+goto L5;}
+ub=mb;
+vb=kb;
+L19:x8(ub+(lb<<3),ob);
+wb=ub;
+xb=lb+1;
+yb=vb;}
+else{
+wb=mb;
+xb=lb;
+yb=kb;}
+if(nb!=0){
+ib=ib+44;
+jb=nb;
+kb=yb;
+lb=xb;
+mb=wb;
+goto L16;}
+zb=ta;
+Ab=wa;
+L21:if((*zb&254)==2)Bb=r4(zb+24);
+else{
+Cb=Ab-1;
+if(Cb!=0){
+zb=zb+44;
+Ab=Cb;
+goto L21;}
+Bb=0;}
+if(Za==0){
+Db=0;
+Eb=0;
+Fb=(u8*)65536;
+goto L22;}
+Gb=Ya;
+Hb=Za;
+Ib=0;
+Jb=0;
+Kb=(u8*)65536;
+L23:Lb=Hb-1;
+if(*Gb==13){
+Mb=q8(Gb+36);
+if(Ib==Jb){
+Nb=umax64(Ib,8);
+if(Nb<=(Ib^18446744073709551615u)){
+Ob=Nb+Ib;
+if(Ob<0x1000000000000000u){
+if(Ib==0){
+Pb=port_rattle_alloc(64,4);
+if(!(u8)(Pb.f0&1))goto L24;
+Qb=Pb;}
+else{
+Rb=port_rattle_realloc(Kb,Ib<<3,Ob<<3,4);
+if(!(u8)(Rb.f0&1))goto L25;
+Qb=Rb;}
+Sb=(u8*)Qb.f1;
+Tb=Ob;
+goto L26;}}
+if(Ib==0)goto L24;
+L25:port_rattle_dealloc(Kb);
+L24:if(yb!=0)port_rattle_dealloc(wb);
+if(ya)goto L5;
+port_rattle_dealloc(ta);
+goto L5;}
+Sb=Kb;
+Tb=Ib;
+L26:x8(Sb+(Jb<<3),Mb);
+Ub=Sb;
+Vb=Jb+1;
+Wb=Tb;}
+else{
+Ub=Kb;
+Vb=Jb;
+Wb=Ib;}
+if(Lb!=0){
+Gb=Gb+44;
+Hb=Lb;
+Ib=Wb;
+Jb=Vb;
+Kb=Ub;
+goto L23;}
+if(Vb>15){
+Xb=Vb>>1;
+mirror_9e2(Ub,Ub+(i64)((Vb-Xb)<<3),Xb);
+Db=Vb;
+Eb=Wb;
+Fb=Ub;}
+else{
+if(Vb>1){
+Yb=(Vb-2)>>1;
+Zb=0;
+ac=Vb;
+L27:bc=ac-1;
+if(Zb<bc){
+cc=Zb;
+dc=bc;}
+else{
+if(bc>=Zb)goto L28;
+cc=bc;
+dc=Zb;}
+ec=Ub+(cc<<3);
+fc=Ub+(dc<<3);
+gc=q8(ec);
+x8(ec,q8(fc));
+x8(fc,gc);
+L28:if(Zb!=Yb){
+Zb=Zb+1;
+ac=bc;
+goto L27;}
+Db=Vb;
+Eb=Wb;
+Fb=Ub;}
+else{
+Db=Vb;
+Eb=Wb;
+Fb=Ub;}}
+L22:hc=((u64)hb<<32)|gb;
+ic=ta+(i64)(wa*44);
+jc=ta;
+kc=wa;
+L29:lc=*jc==9;
+if(lc)mc=jc;
+else{
+nc=kc-1;
+if(nc!=0){
+jc=jc+44;
+kc=nc;
+goto L29;}
+mc=ic;}
+oc=ta;
+pc=wa;
+L30:if(*oc==7){
+qc=r4(oc+24);
+if(lc)rc=gb;
+else rc=r4(oc+28);
+sc=rc>qc;
+tc=sc?qc:gb;
+uc=sc?umax32(qc,rc):hb;}
+else{
+vc=pc-1;
+if(vc!=0){
+oc=oc+44;
+pc=vc;
+goto L30;}
+if(lc){
+wc=r4(mc+8);
+if(Ha){
+xc=wc;
+yc=gb;
+goto L31;}
+zc=wc;}
+else{
+if(Ha){
+xc=gb;
+yc=gb;
+goto L31;}
+zc=gb;}
+if(*Ga!=12){
+tc=umin32(gb,zc);
+uc=gb>zc?umax32(zc,gb):hb;
+goto L32;}
+xc=zc;
+yc=hb;
+L31:Ac=yc>xc;
+tc=Ac?xc:gb;
+uc=Ac?umax32(xc,yc):hb;}
+L32:Bc=ta;
+Cc=wa;
+L33:if(*Bc==8){
+Dc=r4(Bc+24);
+Ec=ta;
+Fc=wa;
+L34:if(*Ec==9){
+h=tc;
+i=uc;
+j=Bb;
+k=wb;
+l=yb;
+m=xb;
+n=Ya;
+o=Za;
+p=gb;
+q=hb;
+r=ta;
+s=wa;
+t=ya;
+u=0;
+v=Fb;
+w=Eb;
+x=Db;
+y=hc;
+z=Dc;
+A=umax32(Dc,r4(Ec+8));}
+else{
+Gc=Fc-1;
+if(Gc!=0){
+Ec=Ec+44;
+Fc=Gc;
+goto L34;}
+h=tc;
+i=uc;
+j=Bb;
+k=wb;
+l=yb;
+m=xb;
+n=Ya;
+o=Za;
+p=gb;
+q=hb;
+r=ta;
+s=wa;
+t=ya;
+u=0;
+v=Fb;
+w=Eb;
+x=Db;
+y=hc;
+z=Dc;
+A=Dc;}}
+else{
+Hc=Cc-1;
+if(Hc!=0){
+Bc=Bc+44;
+Cc=Hc;
+goto L33;}
+h=tc;
+i=uc;
+j=Bb;
+k=wb;
+l=yb;
+m=xb;
+n=Ya;
+o=Za;
+p=gb;
+q=hb;
+r=ta;
+s=wa;
+t=ya;
+u=0;
+v=Fb;
+w=Eb;
+x=Db;
+y=hc;
+z=gb;
+A=hb;}
+L1:Ic=z<A;
+Jc=Ic?A:q;
+Kc=Ic?z:p;
+Lc=d&(m!=0);
+Mc=m+(0-(u64)Lc);
+Nc=k+(i64)(u64)(Lc?8:0);
+switch(Mc){
+case 0:if(u){
+Oc=p;
+Pc=q;
+Qc=(s_32_32){0};
+goto L35;}
+Rc=r;
+Sc=s;
+L36:if(*Rc==6){
+Tc=r4(Rc+12);
+Uc=Tc;
+Vc=Tc;}
+else{
+Wc=Sc-1;
+if(Wc!=0){
+Rc=Rc+44;
+Sc=Wc;
+goto L36;}
+Uc=p;
+Vc=q;}
+break;
+case 1:Xc=r4(Nc);
+Uc=Xc;
+Vc=umax32(Xc,r4(Nc+4));
+break;
+default:Yc=r4(Nc);
+Uc=Yc;
+Vc=umax32(Yc,r4(Nc+(i64)(Mc<<3)-4));
+break;}
+if(u){
+Oc=Uc;
+Pc=Vc;
+Qc=(s_32_32){0};
+goto L35;}
+Zc=r;
+ad=s;
+L37:bd=*Zc;
+if((bd&254)==2){
+cd=r4(Zc+24);
+dd=(s_32_32){0};dd.f0=cd;
+ed=dd;ed.f1=umax32(cd,r4(Zc+(i64)(u64)(bd==3?28:12)));
+Oc=Uc;
+Pc=Vc;
+Qc=ed;}
+else{
+fd=ad-1;
+if(fd!=0){
+Zc=Zc+44;
+ad=fd;
+goto L37;}
+Oc=Uc;
+Pc=Vc;
+Qc=(s_32_32){0};}
+L35:gd=Qc.f0;
+hd=Qc.f1;
+if(m==0)id=y;
+else id=q8(k);
+if(u){
+jd=p;
+kd=q;
+goto L38;}
+ld=r;
+md=s;
+L39:if(*ld==1){
+nd=r4(ld+8);
+jd=nd;
+kd=umax32(nd,r4(ld+12));}
+else{
+od=md-1;
+if(od!=0){
+ld=ld+44;
+md=od;
+goto L39;}
+jd=p;
+kd=q;}
+L38:pd=((u64)h<<32)|2;
+qd=i|0x900000000u;
+sd=port_rattle_alloc(72,4);
+td=sd.f0&1;
+if(td){
+ud=sd.f1;
+vd=(u8*)ud;
+x4(vd,1);
+xp(vd+4,(u8*)id);
+x8(vd+12,pd);
+x8(vd+20,qd);
+xd=vd+28;
+yd=ud;
+zd=6;
+Ad=6;}
+else{
+xd=e;
+yd=id;
+zd=pd;
+Ad=qd;}
+x4(xd,Kc);
+x4(xd+4,Jc);
+xd[8]=7;
+z3(xd+9);
+x4(xd+12,Oc);
+x4(xd+16,Pc);
+xd[20]=10;
+z3(xd+21);
+x4(xd+24,gd);
+x4(xd+28,hd);
+xd[32]=11;
+z3(xd+33);
+x4(xd+36,jd);
+x4(xd+40,kd);
+if(td){
+Bd=(u8*)yd;
+if(s==0){
+Cd=(u8*)65536;
+Dd=0;
+Ed=0;
+goto L40;}
+Fd=r;
+Gd=s;
+Hd=0;
+Id=0;
+Jd=(u8*)65536;
+L41:Kd=Gd-1;
+if(*Fd==5){
+if(Kd==0){
+Ld=j;
+goto L42;}
+Md=Fd+44;
+Nd=Kd;
+L43:if((u8)(*Md-5)<2)Ld=r4(Md+8);
+else{
+Od=Nd-1;
+if(Od!=0){
+Md=Md+44;
+Nd=Od;
+goto L43;}
+Ld=j;}
+L42:Pd=r4(Fd+8);
+Qd=umax32(Pd,Ld);
+if(Hd==Id){
+Rd=umax64(Hd,8);
+if(Rd<=(Hd^18446744073709551615u)){
+Sd=Rd+Hd;
+if(Sd<0x1000000000000000u){
+if(Hd==0){
+Td=port_rattle_alloc(64,4);
+if(!(u8)(Td.f0&1))goto L44;
+Ud=Td;}
+else{
+Vd=port_rattle_realloc(Jd,Hd<<3,Sd<<3,4);
+if(!(u8)(Vd.f0&1))goto L45;
+Ud=Vd;}
+Wd=(u8*)Ud.f1;
+Xd=Sd;
+goto L46;}}
+if(Hd==0)goto L44;
+L45:port_rattle_dealloc(Jd);
+L44:port_rattle_dealloc(Bd);
+if(w!=0)port_rattle_dealloc(v);
+if(l!=0)port_rattle_dealloc(k);
+if(t)goto L5;
+port_rattle_dealloc(r);
+goto L5;}
+Wd=Jd;
+Xd=Hd;
+L46:x8(Wd+(Id<<3),((u64)Qd<<32)|Pd);
+Yd=Wd;
+Zd=Id+1;
+ae=Xd;}
+else{
+Yd=Jd;
+Zd=Id;
+ae=Hd;}
+if(Kd!=0){
+Fd=Fd+44;
+Gd=Kd;
+Hd=ae;
+Id=Zd;
+Jd=Yd;
+goto L41;}
+Cd=Yd;
+Dd=Zd;
+Ed=ae;
+L40:be=o==0;
+if(be){
+ce=(u8*)65536;
+de=0;
+ee=0;
+fe=(u8*)65536;
+ge=0;
+he=0;
+goto L47;}
+ie=n;
+je=o;
+ke=0;
+le=0;
+me=(u8*)65536;
+L48:ne=je-1;
+if(*ie==14){
+oe=q8(ie+36);
+if(ke==le){
+pe=umax64(ke,8);
+if(pe<=(ke^18446744073709551615u)){
+qe=pe+ke;
+if(qe<0x1000000000000000u){
+if(ke==0){
+re=port_rattle_alloc(64,4);
+if(!(u8)(re.f0&1))goto L49;
+se=re;}
+else{
+te=port_rattle_realloc(me,ke<<3,qe<<3,4);
+if(!(u8)(te.f0&1))goto L50;
+se=te;}
+ue=(u8*)se.f1;
+ve=qe;
+goto L51;}}
+if(ke==0)goto L49;
+L50:port_rattle_dealloc(me);
+L49:if(w!=0)port_rattle_dealloc(v);
+if(Ed!=0)port_rattle_dealloc(Cd);
+port_rattle_dealloc(Bd);
+if(l!=0)port_rattle_dealloc(k);
+if(t)goto L5;
+port_rattle_dealloc(r);
+goto L5;}
+ue=me;
+ve=ke;
+L51:x8(ue+(le<<3),oe);
+we=ue;
+xe=le+1;
+ye=ve;}
+else{
+we=me;
+xe=le;
+ye=ke;}
+if(ne!=0){
+ie=ie+44;
+je=ne;
+ke=ye;
+le=xe;
+me=we;
+goto L48;}
+ze=0;
+Ae=n;
+Be=o;
+Ce=0;
+De=0;
+Ee=(u8*)65536;
+L52:Fe=Be-1;
+switch(*Ae){
+case 16:if(Fe==0){
+Ge=0;
+goto L53;}
+He=0;
+Ie=Ae+44;
+Je=Fe;
+L54:Ke=Je-1;
+switch(*Ie){
+case 16:Ge=He;
+goto L53;
+case 17:if(He==4294967295u){
+if(Ce==0)goto L55;
+goto L56;}
+Le=He+1;
+break;
+default:Le=He;
+break;}
+if(Ke!=0){
+He=Le;
+Ie=Ie+44;
+Je=Ke;
+goto L54;}
+Ge=Le;
+L53:Me=q8(Ae+36);
+if(Ce==De){
+Ne=umax64(Ce,8);
+if(Ne<=(Ce^18446744073709551615u)){
+Oe=Ne+Ce;
+if(Oe<0x800000000000000u){
+if(Ce==0){
+Pe=port_rattle_alloc(128,4);
+if(!(u8)(Pe.f0&1))goto L55;
+Qe=Pe;}
+else{
+Re=port_rattle_realloc(Ee,Ce<<4,Oe<<4,4);
+if(!(u8)(Re.f0&1))break;
+Qe=Re;}
+Se=(u8*)Qe.f1;
+Te=Oe;
+goto L57;}}
+if(Ce==0)goto L55;
+break;}
+Se=Ee;
+Te=Ce;
+L57:Ue=Se+(De<<4);
+x8(Ue,Me);
+x4(Ue+8,ze);
+x4(Ue+12,Ge);
+Ve=Se;
+We=De+1;
+Xe=Te;
+Ye=ze;
+goto L58;
+case 17:if(ze!=4294967295u){
+Ve=Ee;
+We=De;
+Xe=Ce;
+Ye=ze+1;
+goto L58;}
+if(Ce==0)goto L55;
+break;
+default:Ve=Ee;
+We=De;
+Xe=Ce;
+Ye=ze;
+goto L58;
+}
+L56:port_rattle_dealloc(Ee);
+L55:if(ye!=0)port_rattle_dealloc(we);
+if(w!=0)port_rattle_dealloc(v);
+if(Ed!=0)port_rattle_dealloc(Cd);
+port_rattle_dealloc(Bd);
+if(l!=0)port_rattle_dealloc(k);
+if(t)goto L5;
+port_rattle_dealloc(r);
+goto L5;
+L58:if(Fe!=0){
+ze=Ye;
+Ae=Ae+44;
+Be=Fe;
+Ce=Xe;
+De=We;
+Ee=Ve;
+goto L52;}
+ce=we;
+de=ye;
+ee=xe;
+fe=Ve;
+ge=We;
+he=Xe;
+L47:if(Mc==0){
+Ze=(u8*)65536;
+af=0;
+goto L59;}
+bf=Nc;
+cf=Mc;
+df=0;
+ef=0;
+ff=(u8*)65536;
+L60:gf=q8(bf);
+if(df==ef){
+hf=umax64(df,8);
+if(hf<=(df^18446744073709551615u)){
+jf=hf+df;
+if(jf<0x800000000000000u){
+if(df==0){
+kf=port_rattle_alloc(128,4);
+if(!(u8)(kf.f0&1))goto L61;
+lf=kf;}
+else{
+mf=port_rattle_realloc(ff,df<<4,jf<<4,4);
+if(!(u8)(mf.f0&1))goto L62;
+lf=mf;}
+nf=(u8*)lf.f1;
+of=jf;
+goto L63;}}
+if(df==0)goto L61;
+L62:port_rattle_dealloc(ff);
+L61:if(he!=0)port_rattle_dealloc(fe);
+if(de!=0)port_rattle_dealloc(ce);
+if(w!=0)port_rattle_dealloc(v);
+if(Ed!=0)port_rattle_dealloc(Cd);
+port_rattle_dealloc(Bd);
+if(l!=0)port_rattle_dealloc(k);
+if(t)goto L5;
+port_rattle_dealloc(r);
+goto L5;}
+nf=ff;
+of=df;
+L63:pf=nf+(ef<<4);
+x8(pf,gf);
+x4(pf+8,0);
+x4(pf+12,0);
+qf=cf-1;
+if(qf!=0){
+bf=bf+8;
+cf=qf;
+df=of;
+ef=ef+1;
+ff=nf;
+goto L60;}
+Ze=nf;
+af=of;
+L59:if(be){
+rf=(u8*)65536;
+sf=0;
+tf=0;
+goto L64;}
+uf=n;
+vf=o;
+wf=0;
+xf=0;
+yf=(u8*)65536;
+L65:zf=vf-1;
+if(*uf==17){
+Af=q8(uf+36);
+if(wf==xf){
+Bf=umax64(wf,8);
+if(Bf<=(wf^18446744073709551615u)){
+Cf=Bf+wf;
+if(Cf<0x1000000000000000u){
+if(wf==0){
+Df=port_rattle_alloc(64,4);
+if(!(u8)(Df.f0&1))goto L66;
+Ef=Df;}
+else{
+Ff=port_rattle_realloc(yf,wf<<3,Cf<<3,4);
+if(!(u8)(Ff.f0&1))goto L67;
+Ef=Ff;}
+Gf=(u8*)Ef.f1;
+Hf=Cf;
+goto L68;}}
+if(wf==0)goto L66;
+L67:port_rattle_dealloc(yf);
+L66:if(af!=0)port_rattle_dealloc(Ze);
+if(he!=0)port_rattle_dealloc(fe);
+if(de!=0)port_rattle_dealloc(ce);
+if(w!=0)port_rattle_dealloc(v);
+if(Ed!=0)port_rattle_dealloc(Cd);
+port_rattle_dealloc(Bd);
+if(l!=0)port_rattle_dealloc(k);
+if(t)goto L5;
+port_rattle_dealloc(r);
+goto L5;}
+Gf=yf;
+Hf=wf;
+L68:x8(Gf+(xf<<3),Af);
+If=Gf;
+Jf=xf+1;
+Kf=Hf;}
+else{
+If=yf;
+Jf=xf;
+Kf=wf;}
+if(zf!=0){
+uf=uf+44;
+vf=zf;
+wf=Kf;
+xf=Jf;
+yf=If;
+goto L65;}
+rf=If;
+sf=Jf;
+tf=Kf;
+L64:Lf=(u64)rf;
+if(l!=0)port_rattle_dealloc(k);
+if(!t)port_rattle_dealloc(r);
+x4(a,0);
+x4(a+4,0);
+x8(a+8,y);
+xp(a+16,Bd);
+x8(a+24,zd);
+x8(a+32,Ad);
+xp(a+40,Cd);
+x8(a+48,Dd);
+x8(a+56,Ed);
+xp(a+64,v);
+x8(a+72,x);
+x8(a+80,w);
+xp(a+88,ce);
+x8(a+96,ee);
+x8(a+104,de);
+xp(a+112,fe);
+x8(a+120,ge);
+x8(a+128,he);
+xp(a+136,Ze);
+x8(a+144,Mc);
+x8(a+152,af);
+x8(a+160,Lf);
+x8(a+168,sf);
+x8(a+176,tf);
+goto L69;}
+if(w!=0)port_rattle_dealloc(v);
+if(l!=0)port_rattle_dealloc(k);
+if(!t)port_rattle_dealloc(r);
+L5:x4(a,1);
+x4(a+4,4);
+zero_all(a+8,176);
+L69:return;
+}
+
+/* core::slice::edits::mirror::<25'sym_parts::spelling::Span> */
+static void mirror_9e2(u8* a,u8* b,u64 c)
+{
+u64 d,g,h;
+u8 *e,*f;
+d=0;
+L1:e=a+(i64)(d<<3);
+f=b+(i64)((c+(d^18446744073709551615u))<<3);
+g=q8(e);
+x8(e,q8(f));
+x8(f,g);
+h=d+1;
+if(h==c)return;
+d=h;
+goto L1;
+}
+
+/* sym_parts::bytes::with_bytes */
+static void with_bytes_5d7(u8* a,u8* b,u64 c,u8* d,u32 e)
+{
+u8 *f,*h,*l,*A,*F,*K,*R,*T,*V,*Y,*ba,*fa,*pa,*ra;
+u64 g,i,j,k,m,s,v,y,z,B,C,E,G,H,J,L,M,N,S,U,W,X,Z,aa,ca,da,ga,ha,ka,la,qa;
+u8 n,ea;
+u32 o,p,q,r,t,u,w,x,D,I,ia,ja;
+s_64_64 O,P,Q,ma,na,oa;
+if(c==0){
+f=(u8*)65536;
+g=0;}
+else{
+h=(u8*)65536;
+i=0;
+j=0;
+k=c;
+l=b;
+L1:m=k-1;
+n=*l;
+o=q4(l+4);
+p=q4(l+8);
+q=q4(l+12);
+r=q4(l+16);
+s=q8(d);
+t=s;
+u=s>>32;
+switch(n){
+case 0:if(r8(d+40)>o){
+v=q8(rp(d+32)+(i64)((u64)o<<3));
+w=v;
+x=v>>32;}
+else{
+w=t;
+x=u;}
+break;
+case 4:if(r8(d+64)>o){
+y=q8(rp(d+56)+(i64)((u64)o<<3));
+w=y;
+x=y>>32;}
+else{
+w=t;
+x=u;}
+break;
+case 5:if(r8(d+88)>o){
+z=q8(rp(d+80)+(i64)((u64)o<<3));
+w=z;
+x=z>>32;}
+else{
+w=t;
+x=u;}
+break;
+case 6:if(r8(d+112)>o){
+A=rp(d+104)+(i64)((u64)o<<4);
+B=q8(A);
+if(p==0)C=B;
+else{
+D=p-1;
+if(D<q4(A+12)){
+E=(u64)q4(A+8)+D;
+if(E<r8(d+160))C=q8(rp(d+152)+(i64)(E<<3));
+else C=B;}
+else C=B;}
+w=C;
+x=C>>32;}
+else{
+w=t;
+x=u;}
+break;
+case 8:if(r8(d+136)>o){
+F=rp(d+128)+(i64)((u64)o<<4);
+G=q8(F);
+if(p==0)H=G;
+else{
+I=p-1;
+if(I<q4(F+12)){
+J=(u64)q4(F+8)+I;
+if(J<r8(d+160))H=q8(rp(d+152)+(i64)(J<<3));
+else H=G;}
+else H=G;}
+w=H;
+x=H>>32;}
+else{
+w=t;
+x=u;}
+break;
+case 1:case 2:case 3:case 7:case 9:case 10:case 11:case 12:case 13:case 14:case 15:case 16:case 17:K=rp(d+8);
+L=r8(d+16);
+L2:if(L==0){
+w=t;
+x=u;}
+else{
+if(*K!=n){
+K=K+12;
+L=L-1;
+goto L2;}
+w=q4(K+4);
+x=q4(K+8);}
+break;
+default:NEVER;
+}
+if(j==i){
+M=umax64(i,8);
+if(M<=(i^18446744073709551615u)){
+N=M+i;
+if(N<0x666666666666667u){
+if(i==0){
+O=port_rattle_alloc(N*20,4);
+if(!(u8)(O.f0&1))goto L3;
+P=O;}
+else{
+Q=port_rattle_realloc(h,i*20,N*20,4);
+if(!(u8)(Q.f0&1))goto L4;
+P=Q;}
+R=(u8*)P.f1;
+S=N;
+goto L5;}}
+if(i==0)goto L3;
+L4:port_rattle_dealloc(h);
+L3:x4(a,1);
+x4(a+4,4);
+z24(a+8);
+goto L6;}
+R=h;
+S=j;
+L5:T=R+i*20;
+*T=n;
+z3(T+1);
+x4(T+4,q);
+x4(T+8,r);
+x4(T+12,w);
+x4(T+16,x);
+if(m!=0){
+h=R;
+i=i+1;
+j=S;
+k=m;
+l=l+20;
+goto L1;}
+f=R;
+g=S;}
+U=r8(d+16);
+if(U==0){
+V=f;
+W=c;
+X=g;}
+else{
+Y=f;
+Z=c;
+aa=g;
+ba=rp(d+8);
+ca=U;
+L7:da=ca-1;
+ea=*ba;
+if(ea<16){
+fa=Y;
+ga=Z;
+ha=aa;}
+else{
+ia=r4(ba+4);
+ja=r4(ba+8);
+if(aa==Z){
+ka=umax64(Z,8);
+if(ka<=(Z^18446744073709551615u)){
+la=ka+Z;
+if(la<0x666666666666667u){
+if(Z==0){
+ma=port_rattle_alloc(la*20,4);
+if(!(u8)(ma.f0&1))goto L8;
+na=ma;}
+else{
+oa=port_rattle_realloc(Y,Z*20,la*20,4);
+if(!(u8)(oa.f0&1))goto L9;
+na=oa;}
+pa=(u8*)na.f1;
+qa=la;
+goto L10;}}
+if(Z==0)goto L8;
+L9:port_rattle_dealloc(Y);
+L8:x4(a,1);
+x4(a+4,4);
+z24(a+8);
+goto L6;}
+pa=Y;
+qa=aa;
+L10:ra=pa+Z*20;
+*ra=ea;
+z3(ra+1);
+x4(ra+4,e);
+x4(ra+8,0);
+x4(ra+12,ia);
+x4(ra+16,ja);
+fa=pa;
+ga=Z+1;
+ha=qa;}
+if(da!=0){
+Y=fa;
+Z=ga;
+aa=ha;
+ba=ba+12;
+ca=da;
+goto L7;}
+V=fa;
+W=ga;
+X=ha;}
+x4(a,0);
+x4(a+4,0);
+xp(a+8,V);
+x8(a+16,W);
+x8(a+24,X);
+L6:return;
 }
 
 /* cpp_parts::kinds::kind_of */
@@ -121083,142 +122572,160 @@ m=r4(g+48+u);
 goto L1;
 }
 
+/* sym_calls::itanium++wide_symbol++WideSymbol+Destruct::drop */
+/* sym_calls::cpp_layout++symbol++Symbol+Destruct::drop */
+/* symbol_parts::rust_tree++symbol++Symbol+Destruct::drop */
+static void drop_be4(u8* a)
+{
+u8 *b,*d;
+u64 c,e;
+b=qp(a+24);
+c=q8(a+40);
+d=qp(a+48);
+e=q8(a+64);
+if(q8(a+16)!=0)port_rattle_dealloc(qp(a));
+if(c!=0)port_rattle_dealloc(b);
+if(e!=0)port_rattle_dealloc(d);
+return;
+}
+
 /* symbol_parts::reading::parse_as */
 static void parse_as_add(u8* a,u8* b,u64 c,u32 d,u8 e)
 {
-u8 k[39],y[39],D[39],ba[39],Ka[7];
-A16 u8 f[64],g[64],h[64],i[12],j[12],l[40],m[12],n[12],o[12],p[32],q[328],r[12],s[32],t[328],u[12],v[12],w[12],x[12],z[40],A[12],B[12],C[12],E[40],F[12],G[48],H[12],I[12],J[12],K[12],L[12],M[12],N[32],O[328],P[328],Q[64],R[12],S[12],T[12],U[12],V[12],W[48],X[12],Y[32],Z[24],aa[12],ca[40],da[328],ea[328],fa[16],ga[16],ha[176],ia[16],ja[16],ka[12],la[20],ma[12],na[16],oa[72],pa[16],qa[48],ra[72],sa[12],ta[248],ua[16],va[72],wa[16],xa[48],ya[16],za[72],Aa[16],Ba[48],Ca[20],Da[12],Ea[72],Fa[20],Ga[16],Ha[24],Ia[88],Ja[20];
-u64 La,Na,Oa,Qa,Ra,Ta,Va,Wa,ab,bb,cb,db,fb,gb,ib,jb,ob,qb,tb,ub,vb,xb,yb,Ab,Bb,Eb,Jb,Kb,Mb,Rb,Sb,Ub,Vb,Xb,Yb,bc,ec,hc,ic,jc,oc,pc,tc,vc,xc,zc,Bc,Cc,Dc,Fc,Hc,Kc,Nc,Pc,Sc,Tc,ed,fd,ld,nd,ud,xd,yd,zd,Bd,Cd,Ed,Gd,Kd,Ld,Od,Rd,ae,fe,je,ke,oe,pe,ue,ve,xe,ze,Ae,Be,He,Je,Ke,Le,Re,Ve,Ze,af,mf,nf,of,uf,xf,yf,zf,Ff,Lf,Mf,Qf,Rf,Wf,Xf,Zf,bg,eg,fg,mg,og,rg,tg,xg,zg,Bg,Gg,Ig,Kg,Mg,Ug;
-u8 *Ma,*Pa,*Ua,*Xa,*eb,*hb,*kb,*nb,*pb,*wb,*zb,*Cb,*Hb,*Ib,*Lb,*Nb,*Qb,*Tb,*Wb,*fc,*kc,*qc,*uc,*wc,*yc,*Ac,*Ec,*Ic,*Jc,*Qc,*Rc,*Wc,*Xc,*Yc,*jd,*kd,*md,*qd,*td,*vd,*Dd,*Fd,*Hd,*Md,*Ud,*Xd,*Zd,*be,*te,*we,*ye,*Fe,*Ge,*Ie,*Pe,*Qe,*Se,*Ye,*sf,*tf,*vf,*Df,*Ef,*Gf,*Vf,*Yf,*ag,*dg,*lg,*ng,*pg,*qg,*sg,*wg,*yg,*Ag,*Eg,*Fg,*Hg,*Jg,*Lg,*Tg;
-u8 Sa,Ya,Za,mb,Db,Fb,dc,gc,sc,Lc,Uc,od,sd,Nd,Pd,Vd,Yd,ge,he,le,me,gf,hf,Hf,If,Nf,Of,kg,vg,Cg,Ng,Qg,Rg;
-u32 lb,rb,sb,Gb,Ob,Pb,Zb,ac,lc,mc,nc,rc,Mc,Vc,Zc,ad,bd,cd,dd,pd,Ad,Id,Jd,Qd,ce,ee,ie,ne,Te,Ue,We,Xe,bf,cf,df,ef,ff,jf,kf,lf,wf,Jf,Pf,cg,gg,hg,jg,ug,Dg,Og,Pg,Sg;
-s_64_64 cc,Gc,Oc,gd,hd,id,Sd,Td,Wd,qe,re,se,Ce,De,Ee,Me,Ne,Oe,pf,qf,rf,Af,Bf,Cf,Sf,Tf,Uf;
-s_8_32 de,Kf,ig;
-z88(Ia);
-z20(Ja);
-z7(Ka);
-z20(Fa);
-wp(Ea+8,(u8*)65536);
-w8(Ea+24,0);
-wp(Ea+32,(u8*)65536);
-z24(Ea+48);
-z12(Da);
-w4(Ea,0);
-w4(Ea+4,0);
-w8(Ea+16,0);
-w8(Ea+40,0);
-w8(Ea+56,0);
-w4(Ea+64,0);
-run_48d(Da,Ea,b,c,1);
-if(*Da==0){
-La=r8(Ea);
-Ma=rp(Ea+8);
-Na=r8(Ea+16);
-Oa=r8(Ea+24);
-Pa=rp(Ea+32);
-Qa=r8(Ea+40);
-Ra=r8(Ea+48);
-memcpy(Ga,Ea+56,16);
-wp(Ha,(u8*)65536);
-z16(Ha+8);
-Sa=grow_amortized_2b6(Ha,c);
-Ta=r8(Ha+16);
-if(Sa){
-Ua=rp(Ha);
-Va=r8(Ha+8);
-Wa=Va+c;
-Xa=Ua+(i64)Va;
-if((u64)Xa-(u64)b<c)copy_bits_4f4(b,Xa,c);
-else memmove(Xa,b,c);
-w8(Ha+8,Wa);
-zero_all(ta,248);
-z16(ua);
-z72(va);
-z16(wa);
-z48(xa);
-z20(Ca);
-z12(sa);
-wp(ra,(u8*)65536);
-z16(ra+8);
-wp(ra+24,(u8*)65536);
-z16(ra+32);
-wp(ra+48,(u8*)65536);
-z16(ra+56);
-restart_c41(sa,ra,Wa);
-Ya=*sa==0;
-if(Ya){
-memcpy(ya,Ga,16);
-memcpy(za,ra,72);
-z16(Aa);
-z48(Ba);
-Za=0;
-ab=(u64)Ua;
-bb=Wa;
-cb=Ta;
-db=La;
-eb=Ma;
-fb=Na;
-gb=Oa;
+u8 j[39],x[39],C[39],aa[39],Ha[7],Oa[7];
+A16 u8 f[12],g[72],h[12],i[12],k[40],l[12],m[12],n[12],o[32],p[328],q[12],r[32],s[328],t[12],u[12],v[12],w[12],y[40],z[12],A[12],B[12],D[40],E[12],F[56],G[12],H[12],I[12],J[12],K[12],L[12],M[32],N[328],O[328],P[64],Q[12],R[12],S[12],T[12],U[12],V[56],W[12],X[32],Y[24],Z[12],ba[40],ca[328],da[328],ea[16],fa[16],ga[176],ha[16],ia[16],ja[12],ka[20],la[12],ma[16],na[72],oa[16],pa[48],qa[72],ra[12],sa[248],ta[16],ua[72],va[16],wa[48],xa[16],ya[72],za[16],Aa[48],Ba[20],Ca[12],Da[72],Ea[20],Fa[16],Ga[24],Ia[20],Ja[88],Ka[176],La[20],Ma[184],Na[32];
+u64 Pa,Ra,Sa,Ua,Va,Xa,Za,ab,eb,fb,gb,hb,jb,kb,mb,nb,sb,ub,xb,yb,zb,Bb,Cb,Eb,Fb,Ib,Nb,Ob,Qb,Vb,Wb,Yb,Zb,bc,cc,fc,ic,lc,mc,nc,sc,tc,xc,zc,Bc,Dc,Fc,Gc,Hc,Kc,Mc,Pc,Sc,Uc,Xc,Yc,jd,kd,qd,td,Ad,Cd,Ed,Gd,Hd,Jd,Ld,Nd,Qd,Rd,Ud,Xd,ge,le,pe,qe,ue,ve,Ae,Be,De,Fe,Ge,He,Ne,Pe,Qe,Re,Xe,bf,ff,gf,sf,tf,uf,vf,Bf,Ff,Gf,Hf,Nf,Tf,Uf,Yf,Zf,eg,fg,hg,jg,mg,og,qg,Bg,Eg,Gg,Jg,Lg,Pg,Rg,Tg,Yg,ah,ch,eh,mh;
+u8 *Qa,*Ta,*Ya,*bb,*ib,*lb,*ob,*rb,*tb,*Ab,*Db,*Gb,*Lb,*Mb,*Pb,*Rb,*Ub,*Xb,*ac,*jc,*oc,*uc,*yc,*Ac,*Cc,*Ec,*Ic,*Nc,*Oc,*Vc,*Wc,*bd,*cd,*dd,*od,*pd,*sd,*xd,*zd,*Bd,*Id,*Kd,*Md,*Sd,*ae,*de,*fe,*he,*ze,*Ce,*Ee,*Le,*Me,*Oe,*Ve,*We,*Ye,*ef,*zf,*Af,*Cf,*Lf,*Mf,*Of,*dg,*gg,*ig,*lg,*ng,*pg,*vg,*xg,*Ag,*Cg,*Dg,*Fg,*Hg,*Ig,*Kg,*Og,*Qg,*Sg,*Wg,*Xg,*Zg,*bh,*dh,*lh;
+u8 Wa,cb,db,qb,Hb,Jb,hc,kc,wc,Qc,Zc,ud,yd,Dd,Td,Vd,be,ee,me,ne,re,se,nf,of,Pf,Qf,Vf,Wf,tg,ug,wg,yg,Ng,Ug,fh,ih,jh;
+u32 pb,vb,wb,Kb,Sb,Tb,dc,ec,pc,qc,rc,vc,Jc,Rc,ad,ed,fd,gd,hd,id,vd,Fd,Od,Pd,Wd,ie,ke,oe,te,Ze,af,cf,df,hf,jf,kf,lf,mf,pf,qf,rf,Df,Ef,Rf,Xf,kg,rg,sg,zg,Mg,Vg,gh,hh,kh;
+s_64_64 gc,Lc,Tc,ld,md,nd,Yd,Zd,ce,we,xe,ye,Ie,Je,Ke,Se,Te,Ue,wf,xf,yf,If,Jf,Kf,ag,bg,cg;
+s_8_32 je,Sf;
+z7(Ha);
+z20(Ia);
+z88(Ja);
+zero_all(Ka,176);
+z20(La);
+zero_all(Ma,184);
+z32(Na);
+z7(Oa);
+z20(Ea);
+wp(Da+8,(u8*)65536);
+w8(Da+24,0);
+wp(Da+32,(u8*)65536);
+z24(Da+48);
+z12(Ca);
+w4(Da,0);
+w4(Da+4,0);
+w8(Da+16,0);
+w8(Da+40,0);
+w8(Da+56,0);
+w4(Da+64,0);
+run_48d(Ca,Da,b,c,1);
+if(*Ca==0){
+Pa=r8(Da);
+Qa=rp(Da+8);
+Ra=r8(Da+16);
+Sa=r8(Da+24);
+Ta=rp(Da+32);
+Ua=r8(Da+40);
+Va=r8(Da+48);
+memcpy(Fa,Da+56,16);
+wp(Ga,(u8*)65536);
+z16(Ga+8);
+Wa=grow_amortized_2b6(Ga,c);
+Xa=r8(Ga+16);
+if(Wa){
+Ya=rp(Ga);
+Za=r8(Ga+8);
+ab=Za+c;
+bb=Ya+(i64)Za;
+if((u64)bb-(u64)b<c)copy_bits_4f4(b,bb,c);
+else memmove(bb,b,c);
+w8(Ga+8,ab);
+zero_all(sa,248);
+z16(ta);
+z72(ua);
+z16(va);
+z48(wa);
+z20(Ba);
+z12(ra);
+wp(qa,(u8*)65536);
+z16(qa+8);
+wp(qa+24,(u8*)65536);
+z16(qa+32);
+wp(qa+48,(u8*)65536);
+z16(qa+56);
+restart_c41(ra,qa,ab);
+cb=*ra==0;
+if(cb){
+memcpy(xa,Fa,16);
+memcpy(ya,qa,72);
+z16(za);
+z48(Aa);
+db=0;
+eb=(u64)Ya;
+fb=ab;
+gb=Xa;
 hb=Pa;
 ib=Qa;
 jb=Ra;
-kb=(u8*)65536;}
+kb=Sa;
+lb=Ta;
+mb=Ua;
+nb=Va;
+ob=(u8*)65536;}
 else{
-lb=r4(sa+8);
-mb=sa[4];
-nb=rp(ra+24);
-ob=r8(ra+40);
-pb=rp(ra+48);
-qb=r8(ra+64);
-if(r8(ra+16)!=0)port_rattle_dealloc(rp(ra));
-if(ob!=0)port_rattle_dealloc(nb);
-if(qb!=0)port_rattle_dealloc(pb);
-if(Oa!=0)port_rattle_dealloc(Ma);
-if(Ra!=0)port_rattle_dealloc(Pa);
-if(Ta!=0)port_rattle_dealloc(Ua);
-z16(ya);
-z72(za);
-z16(Aa);
-z48(Ba);
-Za=mb;
-ab=lb;
-bb=0;
-cb=0;
-db=0;
-eb=0;
+pb=r4(ra+8);
+qb=ra[4];
+rb=rp(qa+24);
+sb=r8(qa+40);
+tb=rp(qa+48);
+ub=r8(qa+64);
+if(r8(qa+16)!=0)port_rattle_dealloc(rp(qa));
+if(sb!=0)port_rattle_dealloc(rb);
+if(ub!=0)port_rattle_dealloc(tb);
+if(Sa!=0)port_rattle_dealloc(Qa);
+if(Va!=0)port_rattle_dealloc(Ta);
+if(Xa!=0)port_rattle_dealloc(Ya);
+z16(xa);
+z72(ya);
+z16(za);
+z48(Aa);
+db=qb;
+eb=pb;
 fb=0;
 gb=0;
 hb=0;
 ib=0;
 jb=0;
-kb=0;}
-rb=ab;
-z16(na);
-z72(oa);
-z16(pa);
-z48(qa);
-if(Ya){
-memcpy(na,ya,16);
-memcpy(oa,za,72);
-memcpy(pa,Aa,16);
-memcpy(qa,Ba,48);
-sb=ab>>32;
-tb=bb;
-ub=cb;
-vb=db;
-wb=eb;
+kb=0;
+lb=0;
+mb=0;
+nb=0;
+ob=0;}
+vb=eb;
+z16(ma);
+z72(na);
+z16(oa);
+z48(pa);
+if(cb){
+memcpy(ma,xa,16);
+memcpy(na,ya,72);
+memcpy(oa,za,16);
+memcpy(pa,Aa,48);
+wb=eb>>32;
 xb=fb;
 yb=gb;
 zb=hb;
 Ab=ib;
 Bb=jb;
 Cb=kb;
-Db=0;}
+Db=lb;
+Eb=mb;
+Fb=nb;
+Gb=ob;
+Hb=0;}
 else{
-sb=0;
-tb=0;
-ub=0;
-vb=0;
 wb=0;
 xb=0;
 yb=0;
@@ -121226,1162 +122733,1245 @@ zb=0;
 Ab=0;
 Bb=0;
 Cb=0;
-Db=Za;}
-memcpy(ua,na,16);
-memcpy(va,oa,72);
-memcpy(wa,pa,16);
-memcpy(xa,qa,48);
-if(Ya){
-w4(ta,rb);
-w4(ta+4,sb);
-w8(ta+8,tb);
-w8(ta+16,ub);
-w8(ta+24,vb);
-wp(ta+32,wb);
-w8(ta+40,xb);
-w8(ta+48,yb);
-wp(ta+56,zb);
-w8(ta+64,Ab);
-w8(ta+72,Bb);
-memcpy(ta+80,ua,16);
-memcpy(ta+96,va,72);
-wp(ta+168,Cb);
-memcpy(ta+176,wa,16);
-wp(ta+192,Cb);
-memcpy(ta+200,xa,48);
-z12(ma);
-if(ta[224]!=1){
-if(ta[240]&1){
-Hb=Cb;
-Ib=Cb;
-Jb=Bb;
-Kb=Ab;
-Lb=zb;
-Mb=yb;
-Nb=wb;
-Ob=rb;}
+Db=0;
+Eb=0;
+Fb=0;
+Gb=0;
+Hb=db;}
+memcpy(ta,ma,16);
+memcpy(ua,na,72);
+memcpy(va,oa,16);
+memcpy(wa,pa,48);
+if(cb){
+w4(sa,vb);
+w4(sa+4,wb);
+w8(sa+8,xb);
+w8(sa+16,yb);
+w8(sa+24,zb);
+wp(sa+32,Ab);
+w8(sa+40,Bb);
+w8(sa+48,Cb);
+wp(sa+56,Db);
+w8(sa+64,Eb);
+w8(sa+72,Fb);
+memcpy(sa+80,ta,16);
+memcpy(sa+96,ua,72);
+wp(sa+168,Gb);
+memcpy(sa+176,va,16);
+wp(sa+192,Gb);
+memcpy(sa+200,wa,48);
+z12(la);
+if(sa[224]!=1){
+if(sa[240]&1){
+Lb=Gb;
+Mb=Gb;
+Nb=Fb;
+Ob=Eb;
+Pb=Db;
+Qb=Cb;
+Rb=Ab;
+Sb=vb;}
 else{
-run_005(ma,ta+168,ta+96,rp(ta),tb,zb);
-if(*ma!=0){
-Eb=r8(ta+16);
-Fb=ma[4];
-Gb=r4(ma+8);
+run_005(la,sa+168,sa+96,rp(sa),xb,Db);
+if(*la!=0){
+Ib=r8(sa+16);
+Jb=la[4];
+Kb=r4(la+8);
 goto L1;}
-ta[240]=1;
-Hb=rp(ta+192);
-Ib=rp(ta+168);
-Jb=r8(ta+72);
-Kb=r8(ta+64);
-Lb=rp(ta+56);
-Mb=r8(ta+48);
-Nb=rp(ta+32);
-Ob=r4(ta);}
-if(r8(ta+200)==1){
-if(*Hb==21){
-Pb=r4(ta+88);
-Qb=rp(ta+96);
-Rb=r8(ta+104);
-Sb=r8(ta+112);
-Tb=rp(ta+120);
-Ub=r8(ta+128);
-Vb=r8(ta+136);
-Wb=rp(ta+144);
-Xb=r8(ta+160);
-Yb=r8(ta+208);
-Zb=r4(ta+220);
-ac=r4(Hb+4);
-bc=r8(ta+184);
-memcpy(la,ta+4,20);
-if(bc!=0)port_rattle_dealloc(Ib);
-if(Yb!=0)port_rattle_dealloc(Hb);
-if(Xb!=0)port_rattle_dealloc(Wb);
-if(Mb!=0)port_rattle_dealloc(Nb);
-if(Jb!=0)port_rattle_dealloc(Lb);
-memcpy(Ca,la,20);
-memcpy(Fa,Ca,20);
-memcpy(Ja,Fa,20);
-w4(Ia,Ob);
-memcpy(Ia+4,Ja,20);
-wp(Ia+24,Qb);
-w8(Ia+32,Rb);
-w8(Ia+40,Sb);
-wp(Ia+48,Tb);
-w8(Ia+56,Ub);
-w8(Ia+64,Vb);
-w4(Ia+72,ac);
-w4(Ia+76,Kb);
-w4(Ia+80,Zb+Pb);
-w4(Ia+84,0);
-zero_all(ha,176);
+sa[240]=1;
+Lb=rp(sa+192);
+Mb=rp(sa+168);
+Nb=r8(sa+72);
+Ob=r8(sa+64);
+Pb=rp(sa+56);
+Qb=r8(sa+48);
+Rb=rp(sa+32);
+Sb=r4(sa);}
+if(r8(sa+200)==1){
+if(*Lb==21){
+Tb=r4(sa+88);
+Ub=rp(sa+96);
+Vb=r8(sa+104);
+Wb=r8(sa+112);
+Xb=rp(sa+120);
+Yb=r8(sa+128);
+Zb=r8(sa+136);
+ac=rp(sa+144);
+bc=r8(sa+160);
+cc=r8(sa+208);
+dc=r4(sa+220);
+ec=r4(Lb+4);
+fc=r8(sa+184);
+memcpy(ka,sa+4,20);
+if(fc!=0)port_rattle_dealloc(Mb);
+if(cc!=0)port_rattle_dealloc(Lb);
+if(bc!=0)port_rattle_dealloc(ac);
+if(Qb!=0)port_rattle_dealloc(Rb);
+if(Nb!=0)port_rattle_dealloc(Pb);
+memcpy(Ba,ka,20);
+memcpy(Ea,Ba,20);
+memcpy(La,Ea,20);
+w4(Ja,Sb);
+memcpy(Ja+4,La,20);
+wp(Ja+24,Ub);
+w8(Ja+32,Vb);
+w8(Ja+40,Wb);
+wp(Ja+48,Xb);
+w8(Ja+56,Yb);
+w8(Ja+64,Zb);
+w4(Ja+72,ec);
+w4(Ja+76,Ob);
+w4(Ja+80,dc+Tb);
+w4(Ja+84,0);
+zero_all(ga,176);
+z16(ha);
 z16(ia);
-z16(ja);
-z12(ka);
-cc=port_rattle_alloc(320,8);
-dc=cc.f0&1;
-if(dc){
-ec=cc.f1;
-fc=(u8*)ec;
-x8(fc,0);
-x4(fc+8,ac);
-z20(fc+12);
-fc[32]=e;
-z7(fc+33);
-gc=0;
-hc=ec;
-ic=1;
-jc=8;
-kc=(u8*)65536;
-lc=d;}
-else{
-gc=4;
-hc=0;
-ic=0;
-jc=0;
+z12(ja);
+gc=port_rattle_alloc(320,8);
+hc=gc.f0&1;
+if(hc){
+ic=gc.f1;
+jc=(u8*)ic;
+x8(jc,0);
+x4(jc+8,ec);
+z20(jc+12);
+jc[32]=e;
+z7(jc+33);
 kc=0;
-lc=0;}
-mc=hc;
-z16(fa);
-z16(ga);
-if(dc){
-nc=hc>>32;
-oc=ic;
-pc=jc;
-qc=kc;
-rc=lc;
-sc=0;}
+lc=ic;
+mc=1;
+nc=8;
+oc=(u8*)65536;
+pc=d;}
 else{
+kc=4;
+lc=0;
+mc=0;
 nc=0;
 oc=0;
-pc=0;
-qc=0;
+pc=0;}
+qc=lc;
+z16(ea);
+z16(fa);
+if(hc){
+rc=lc>>32;
+sc=mc;
+tc=nc;
+uc=oc;
+vc=pc;
+wc=0;}
+else{
 rc=0;
-sc=gc;}
+sc=0;
+tc=0;
+uc=0;
+vc=0;
+wc=kc;}
+memcpy(ha,ea,16);
 memcpy(ia,fa,16);
-memcpy(ja,ga,16);
-if(dc){
-w4(ha,mc);
-w4(ha+4,nc);
-w8(ha+8,oc);
-w8(ha+16,pc);
-wp(ha+24,qc);
-z16(ha+32);
-wp(ha+48,qc);
-memcpy(ha+56,ia,16);
-wp(ha+72,qc);
-z16(ha+80);
-wp(ha+96,qc);
-memcpy(ha+104,ja,16);
-wp(ha+120,qc);
-z20(ha+128);
-w4(ha+148,rc);
-z24(ha+152);
-run_f48(ka,ha,Ia);
-if(*ka==0){
-tc=r8(ha+24);
-uc=rp(ha+48);
-vc=r8(ha+64);
-wc=rp(ha+72);
-xc=r8(ha+88);
-yc=rp(ha+96);
-zc=r8(ha+112);
-Ac=rp(ha+120);
-Bc=r8(ha+136);
-Cc=r8(ha+32);
-Dc=r8(ha+40);
-if(r8(ha+16)!=0)port_rattle_dealloc(rp(ha));
-if(vc!=0)port_rattle_dealloc(uc);
-if(xc!=0)port_rattle_dealloc(wc);
+if(hc){
+w4(ga,qc);
+w4(ga+4,rc);
+w8(ga+8,sc);
+w8(ga+16,tc);
+wp(ga+24,uc);
+z16(ga+32);
+wp(ga+48,uc);
+memcpy(ga+56,ha,16);
+wp(ga+72,uc);
+z16(ga+80);
+wp(ga+96,uc);
+memcpy(ga+104,ia,16);
+wp(ga+120,uc);
+z20(ga+128);
+w4(ga+148,vc);
+z24(ga+152);
+run_f48(ja,ga,Ja);
+if(*ja==0){
+xc=r8(ga+24);
+yc=rp(ga+48);
+zc=r8(ga+64);
+Ac=rp(ga+72);
+Bc=r8(ga+88);
+Cc=rp(ga+96);
+Dc=r8(ga+112);
+Ec=rp(ga+120);
+Fc=r8(ga+136);
+Gc=r8(ga+32);
+Hc=r8(ga+40);
+if(r8(ga+16)!=0)port_rattle_dealloc(rp(ga));
 if(zc!=0)port_rattle_dealloc(yc);
 if(Bc!=0)port_rattle_dealloc(Ac);
-Ec=(u8*)tc;
-z24(Z);
-z12(aa);
-z7(ba);
-zero_all(da,328);
-w4(Y,ac);
-z20(Y+4);
-Y[24]=e;
-z7(Y+25);
-memcpy(ba+7,Y,32);
-*ca=0;
-memcpy(ca+1,ba,39);
-length_of_part_5fe(aa,Ia,ca,d);
-if(*aa==0){
-wp(Z,(u8*)65536);
-z16(Z+8);
-parts_4fe(da,Ia,Y);
-memcpy(ea,da,328);
-Fc=r8(ea+320);
-z12(X);
-if(Fc!=0){
-if(*ea!=0){
-push_plain_fc3(X,Ia,Z,da,Fc,d);
-if(*X==0){
-nd=r8(Z+8);
+if(Dc!=0)port_rattle_dealloc(Cc);
+if(Fc!=0)port_rattle_dealloc(Ec);
+Ic=(u8*)xc;
+z24(Y);
+z12(Z);
+z7(aa);
+zero_all(ca,328);
+w4(X,ec);
+z20(X+4);
+X[24]=e;
+z7(X+25);
+memcpy(aa+7,X,32);
+*ba=0;
+memcpy(ba+1,aa,39);
+length_of_part_5fe(Z,Ja,ba,d);
+if(*Z==0){
+Jc=Gc;
+wp(Y,(u8*)65536);
+z16(Y+8);
+parts_4fe(ca,Ja,X);
+memcpy(da,ca,328);
+Kc=r8(da+320);
+z12(W);
+if(Kc!=0){
+if(*da!=0){
+push_plain_fc3(W,Ja,Y,ca,Kc,d);
+if(*W==0){
+td=r8(Y+8);
 goto L2;}
-od=X[4];
-pd=r4(X+8);
+ud=W[4];
+vd=r4(W+8);
 goto L3;}
-Nc=Fc-1;
+Sc=Kc-1;
+z12(S);
 z12(T);
 z12(U);
-z12(V);
-z48(W);
-if(Nc!=0){
-if(ea[40]==0){
-push_plain_fc3(T,Ia,Z,ea+40,Nc,d);
-Wc=T+4;
-Xc=T+8;
-Yc=T;}
+z56(V);
+if(Sc!=0){
+if(da[40]==0){
+push_plain_fc3(S,Ja,Y,da+40,Sc,d);
+bd=S+4;
+cd=S+8;
+dd=S;}
 else{
-if(Nc==1){
-push_plain_fc3(U,Ia,Z,ea+40,1,d);
-Wc=U+4;
-Xc=U+8;
-Yc=U;}
+if(Sc==1){
+push_plain_fc3(T,Ja,Y,da+40,1,d);
+bd=T+4;
+cd=T+8;
+dd=T;}
 else{
-if(ea[80]!=0){
-z12(S);
-length_of_part_5fe(S,Ia,ea+40,d);
-Zc=r4(S+4);
-if(*S==0){
+if(da[80]!=0){
 z12(R);
-length_of_part_5fe(R,Ia,ea+80,d);
-ad=r4(R+4);
+length_of_part_5fe(R,Ja,da+40,d);
+ed=r4(R+4);
 if(*R==0){
-push_plain_fc3(V,Ia,Z,ea+120,Fc-3,d);
-if(*V==0){
-push_alone_829(V,Z,11,ad);
-if(*V==0){
-*W=0;
-w4(W+4,Zc);
-push_634(U,Z,W);
-Wc=U+4;
-Xc=U+8;
-Yc=U;
+z12(Q);
+length_of_part_5fe(Q,Ja,da+80,d);
+fd=r4(Q+4);
+if(*Q==0){
+push_plain_fc3(U,Ja,Y,da+120,Kc-3,d);
+if(*U==0){
+push_alone_829(U,Y,11,0,0,fd);
+if(*U==0){
+*V=0;
+w4(V+4,ed);
+push_634(T,Y,V);
+bd=T+4;
+cd=T+8;
+dd=T;
 goto L4;}
-bd=V[4];
-cd=r4(V+8);}
+gd=U[4];
+hd=r4(U+8);}
 else{
-bd=V[4];
-cd=r4(V+8);}}
+gd=U[4];
+hd=r4(U+8);}}
 else{
-bd=ad;
-cd=r4(R+8);}}
+gd=fd;
+hd=r4(Q+8);}}
 else{
-bd=Zc;
-cd=r4(S+8);}
-Uc=bd;
-Vc=cd;
+gd=ed;
+hd=r4(R+8);}
+Zc=gd;
+ad=hd;
 goto L5;}
-push_plain_fc3(U,Ia,Z,ea+40,Nc,d);
-Wc=U+4;
-Xc=U+8;
-Yc=U;}}
-L4:if(*Yc==0){
-Tc=r8(Z+8);
+push_plain_fc3(T,Ja,Y,da+40,Sc,d);
+bd=T+4;
+cd=T+8;
+dd=T;}}
+L4:if(*dd==0){
+Yc=r8(Y+8);
 goto L6;}
-Lc=*Wc;
-Mc=r4(Xc);
+Qc=*bd;
+Rc=r4(cd);
 goto L7;}
-Oc=port_rattle_alloc(384,8);
-if((u8)(Oc.f0&1)){
-Pc=r8(Z+8);
-Qc=(u8*)Oc.f1;
-wp(Z,Qc);
-w8(Z+16,8);
-Rc=Qc+Pc*48;
-*Rc=0;
-Rc[1]=0;
-Sc=Pc+1;
-z44(Rc+4);
-w8(Z+8,Sc);
-Tc=Sc;
+Tc=port_rattle_alloc(448,8);
+if((u8)(Tc.f0&1)){
+Uc=r8(Y+8);
+Vc=(u8*)Tc.f1;
+wp(Y,Vc);
+w8(Y+16,8);
+Wc=Vc+Uc*56;
+*Wc=0;
+Wc[1]=0;
+z32(Wc+24);
+Xc=Uc+1;
+z16(Wc+4);
+w8(Y+8,Xc);
+Yc=Xc;
 goto L6;}
-Uc=4;
-Vc=0;
-L5:Lc=Uc;
-Mc=Vc;
+Zc=4;
+ad=0;
+L5:Qc=Zc;
+Rc=ad;
 goto L7;
-L6:z64(Q);
-view_at_138(Q,Ia,ac);
-dd=r4(Q+48);
-if(r8(Z+16)==Tc){
-ed=umax64(Tc,8);
-if(ed>(Tc^18446744073709551615u)){
-Lc=4;
-Mc=0;
+L6:z64(P);
+view_at_138(P,Ja,ec);
+id=r4(P+48);
+if(r8(Y+16)==Yc){
+jd=umax64(Yc,8);
+if(jd>(Yc^18446744073709551615u)){
+Qc=4;
+Rc=0;
 goto L7;}
-fd=ed+Tc;
-if(fd>=0x2aaaaaaaaaaaaabu){
-Lc=4;
-Mc=0;
+kd=jd+Yc;
+if(kd>=0x24924924924924au){
+Qc=4;
+Rc=0;
 goto L7;}
-if(Tc==0){
-gd=port_rattle_alloc(fd*48,8);
-if(!(u8)(gd.f0&1)){
-Lc=4;
-Mc=0;
+if(Yc==0){
+ld=port_rattle_alloc(kd*56,8);
+if(!(u8)(ld.f0&1)){
+Qc=4;
+Rc=0;
 goto L7;}
-hd=gd;}
+md=ld;}
 else{
-id=port_rattle_realloc(rp(Z),Tc*48,fd*48,8);
-if(!(u8)(id.f0&1)){
-Lc=4;
-Mc=0;
+nd=port_rattle_realloc(rp(Y),Yc*56,kd*56,8);
+if(!(u8)(nd.f0&1)){
+Qc=4;
+Rc=0;
 goto L7;}
-hd=id;}
-jd=(u8*)hd.f1;
-wp(Z,jd);
-w8(Z+16,fd);
-kd=jd;
-ld=r8(Z+8);}
+md=nd;}
+od=(u8*)md.f1;
+wp(Y,od);
+w8(Y+16,kd);
+pd=od;
+qd=r8(Y+8);}
 else{
-kd=rp(Z);
-ld=Tc;}
-md=kd+ld*48;
-*md=2;
-md[1]=0;
-x4(md+4,0);
-x4(md+8,0);
-x4(md+12,dd);
-memcpy(md+16,ea+8,32);
-Kc=ld;
+pd=rp(Y);
+qd=Yc;}
+sd=pd+qd*56;
+*sd=2;
+sd[1]=0;
+x8(sd+4,0);
+x4(sd+12,0);
+x4(sd+16,id);
+memcpy(sd+24,da+8,32);
+Pc=qd;
 goto L8;}
-Gc=port_rattle_alloc(384,8);
-if((u8)(Gc.f0&1)){
-Hc=r8(Z+8);
-Ic=(u8*)Gc.f1;
-wp(Z,Ic);
-w8(Z+16,8);
-Jc=Ic+Hc*48;
-*Jc=0;
-Jc[1]=0;
-z44(Jc+4);
-Kc=Hc;
+Lc=port_rattle_alloc(448,8);
+if((u8)(Lc.f0&1)){
+Mc=r8(Y+8);
+Nc=(u8*)Lc.f1;
+wp(Y,Nc);
+w8(Y+16,8);
+Oc=Nc+Mc*56;
+*Oc=0;
+Oc[1]=0;
+z32(Oc+24);
+z16(Oc+4);
+Pc=Mc;
 goto L8;}
-Lc=4;
-Mc=0;
-L7:od=Lc;
-pd=Mc;
-L3:qd=(u8*)(u64)pd;
-if(r8(Z+16)==0){
-sd=od;
-td=qd;
+Qc=4;
+Rc=0;
+L7:ud=Qc;
+vd=Rc;
+L3:xd=(u8*)(u64)vd;
+if(r8(Y+16)==0){
+yd=ud;
+zd=xd;
 goto L9;}
-port_rattle_dealloc(rp(Z));
-sd=od;
-td=qd;
+port_rattle_dealloc(rp(Y));
+yd=ud;
+zd=xd;
 goto L9;
-L8:ud=Kc+1;
-w8(Z+8,ud);
-nd=ud;
-L2:if(nd==0){
-vd=(u8*)65536;
-xd=0;
-yd=0;}
-else{
-zd=nd;
-Ad=0;
-Bd=0;
+L8:Ad=Pc+1;
+w8(Y+8,Ad);
+td=Ad;
+L2:if(td==0){
+Bd=(u8*)65536;
 Cd=0;
-Dd=(u8*)65536;
-L10:Ed=zd-1;
-w8(Z+8,Ed);
-Fd=rp(Z);
-Gd=Ed*48;
-Hd=Fd+Gd;
-Id=q4(Hd+4);
-switch(*Hd){
-case 0:Jd=Id+Ad;
-Kd=Bd;
-Ld=Cd;
-Md=Dd;
+Dd=1;}
+else{
+Ed=td;
+Fd=0;
+Gd=0;
+Hd=0;
+Id=(u8*)65536;
+L10:Jd=Ed-1;
+w8(Y+8,Jd);
+Kd=rp(Y);
+Ld=Jd*56;
+Md=Kd+Ld;
+Nd=q8(Md+4);
+Od=q4(Md+12);
+switch(*Md){
+case 0:Pd=Fd+(u32)Nd;
+Qd=Gd;
+Rd=Hd;
+Sd=Id;
 goto L11;
-case 1:Nd=Hd[1];
-if(Bd==Cd){
-Od=umax64(Bd,8);
-if(Od>(Bd^18446744073709551615u)){
-Pd=4;
-Qd=0;
-break;}
-Rd=Od+Bd;
-if(Rd>=0xaaaaaaaaaaaaaabu){
-Pd=4;
-Qd=0;
-break;}
-if(Bd==0){
-Sd=port_rattle_alloc(Rd*12,4);
-if(!(u8)(Sd.f0&1)){
-Ud=0;
+case 1:Td=Md[1];
+if(Gd==Hd){
+Ud=umax64(Gd,8);
+if(Ud>(Gd^18446744073709551615u)){
 Vd=4;
+Wd=0;
+break;}
+Xd=Ud+Gd;
+if(Xd>=0x666666666666667u){
+Vd=4;
+Wd=0;
+break;}
+if(Gd==0){
+Yd=port_rattle_alloc(Xd*20,4);
+if(!(u8)(Yd.f0&1)){
+ae=0;
+be=4;
 goto L12;}
-Td=Sd;}
+Zd=Yd;}
 else{
-Wd=port_rattle_realloc(Dd,Bd*12,Rd*12,4);
-if(!(u8)(Wd.f0&1)){
-Xd=0;
-Yd=4;
+ce=port_rattle_realloc(Id,Gd*20,Xd*20,4);
+if(!(u8)(ce.f0&1)){
+de=0;
+ee=4;
 goto L13;}
-Td=Wd;}
-Zd=(u8*)Td.f1;
-ae=Rd;}
+Zd=ce;}
+fe=(u8*)Zd.f1;
+ge=Xd;}
 else{
-Zd=Dd;
-ae=Bd;}
-be=Zd+Cd*12;
-*be=Nd;
-z3(be+1);
-x4(be+4,Ad);
-x4(be+8,Id);
-Jd=Ad;
-Kd=ae;
-Ld=Cd+1;
-Md=Zd;
+fe=Id;
+ge=Gd;}
+he=fe+Hd*20;
+*he=Td;
+z3(he+1);
+x8(he+4,Nd);
+x4(he+12,Fd);
+x4(he+16,Od);
+Pd=Fd;
+Qd=ge;
+Rd=Hd+1;
+Sd=fe;
 goto L11;
-case 2:ce=q4(Hd+12);
-switch(Hd[8]){
-case 0:memcpy(N,Hd+16,32);
-zero_all(P,328);
-parts_4fe(P,Ia,N);
-memcpy(O,P,328);
-de=path_sort_162(Ia,ce);
-ee=de.f1;
-fe=r8(O+320);
+case 2:ie=q4(Md+16);
+switch((u8)(Nd>>32)){
+case 0:memcpy(M,Md+24,32);
+zero_all(O,328);
+parts_4fe(O,Ja,M);
+memcpy(N,O,328);
+je=path_sort_162(Ja,ie);
+ke=je.f1;
+le=r8(N+320);
+z12(I);
 z12(J);
 z12(K);
 z12(L);
-z12(M);
-switch(de.f0){
-case 0:push_scope_91a(J,Ia,Z,0,ee,P,fe,d);
-ge=*J;
-he=J[4];
-ie=r4(J+8);
+switch(je.f0){
+case 0:push_scope_91a(I,Ja,Y,Od,0,ke,O,le,d);
+me=*I;
+ne=I[4];
+oe=r4(I+8);
 break;
-case 3:z12(I);
-push_implementation_f83(I,Ia,Z,P,fe,d);
-ge=*I;
-he=I[4];
-ie=r4(I+8);
+case 3:z12(H);
+push_implementation_f83(H,Ja,Y,O,le,d);
+me=*H;
+ne=H[4];
+oe=r4(H+8);
 break;
-case 1:if(fe==0){
-z12(u);
-push_implementation_f83(u,Ia,Z,P,0,d);
-ge=*u;
-he=u[4];
-ie=r4(u+8);}
+case 1:if(le==0){
+z12(t);
+push_implementation_f83(t,Ja,Y,O,0,d);
+me=*t;
+ne=t[4];
+oe=r4(t+8);}
 else{
-if(*O==0){
-je=fe-1;
-z12(H);
-if(je==0){
-if(r8(Z+16)==Ed){
-ke=umax64(Ed,8);
-if(ke>0-zd){
-le=4;
-me=1;
-ne=0;
+if(*N==0){
+pe=le-1;
+z12(G);
+if(pe==0){
+if(r8(Y+16)==Jd){
+qe=umax64(Jd,8);
+if(qe>0-Ed){
+re=4;
+se=1;
+te=0;
 goto L14;}
-oe=ke+Ed;
-if(oe>=0x2aaaaaaaaaaaaabu){
-le=4;
-me=1;
-ne=0;
+ue=qe+Jd;
+if(ue>=0x24924924924924au){
+re=4;
+se=1;
+te=0;
 goto L14;}
-pe=oe*48;
-if(Ed==0){
-qe=port_rattle_alloc(pe,8);
-if(!(u8)(qe.f0&1)){
-le=4;
-me=1;
-ne=0;
+ve=ue*56;
+if(Jd==0){
+we=port_rattle_alloc(ve,8);
+if(!(u8)(we.f0&1)){
+re=4;
+se=1;
+te=0;
 goto L14;}
-re=qe;}
+xe=we;}
 else{
-se=port_rattle_realloc(Fd,Gd,pe,8);
-if(!(u8)(se.f0&1)){
-le=4;
-me=1;
-ne=0;
+ye=port_rattle_realloc(Kd,Ld,ve,8);
+if(!(u8)(ye.f0&1)){
+re=4;
+se=1;
+te=0;
 goto L14;}
-re=se;}
-te=(u8*)re.f1;
-wp(Z,te);
-w8(Z+16,oe);
-ue=r8(Z+8);
-ve=ue*48;
-we=te;
-xe=ue;}
+xe=ye;}
+ze=(u8*)xe.f1;
+wp(Y,ze);
+w8(Y+16,ue);
+Ae=r8(Y+8);
+Be=Ae*56;
+Ce=ze;
+De=Ae;}
 else{
-ve=Gd;
-we=Fd;
-xe=Ed;}
-ye=we+ve;
-*ye=0;
-ye[1]=0;
-ze=xe+1;
-z44(ye+4);
-w8(Z+8,ze);
-if(r8(Z+16)==ze){
-Ae=umax64(ze,8);
-if(Ae>0xfffffffffffffffeu-xe){
-le=4;
-me=1;
-ne=0;
+Be=Ld;
+Ce=Kd;
+De=Jd;}
+Ee=Ce+Be;
+*Ee=0;
+Ee[1]=0;
+z32(Ee+24);
+Fe=De+1;
+z16(Ee+4);
+w8(Y+8,Fe);
+if(r8(Y+16)==Fe){
+Ge=umax64(Fe,8);
+if(Ge>0xfffffffffffffffeu-De){
+re=4;
+se=1;
+te=0;
 goto L14;}
-Be=Ae+ze;
-if(Be>=0x2aaaaaaaaaaaaabu){
-le=4;
-me=1;
-ne=0;
+He=Ge+Fe;
+if(He>=0x24924924924924au){
+re=4;
+se=1;
+te=0;
 goto L14;}
-if(ze==0){
-Ce=port_rattle_alloc(Be*48,8);
-if(!(u8)(Ce.f0&1)){
-le=4;
-me=1;
-ne=0;
+if(Fe==0){
+Ie=port_rattle_alloc(He*56,8);
+if(!(u8)(Ie.f0&1)){
+re=4;
+se=1;
+te=0;
 goto L14;}
-De=Ce;}
+Je=Ie;}
 else{
-Ee=port_rattle_realloc(rp(Z),ze*48,Be*48,8);
-if(!(u8)(Ee.f0&1)){
-le=4;
-me=1;
-ne=0;
+Ke=port_rattle_realloc(rp(Y),Fe*56,He*56,8);
+if(!(u8)(Ke.f0&1)){
+re=4;
+se=1;
+te=0;
 goto L14;}
-De=Ee;}
-Fe=(u8*)De.f1;
-wp(Z,Fe);
-w8(Z+16,Be);
-Ge=Fe;
-He=r8(Z+8);}
+Je=Ke;}
+Le=(u8*)Je.f1;
+wp(Y,Le);
+w8(Y+16,He);
+Me=Le;
+Ne=r8(Y+8);}
 else{
-Ge=rp(Z);
-He=ze;}
-Ie=Ge+He*48;
-*Ie=2;
-Ie[1]=0;
-x4(Ie+4,0);
-x4(Ie+8,0);
-x4(Ie+12,ee);
-memcpy(Ie+16,P+8,32);
-w8(Z+8,He+1);
-le=0;
-me=0;
-ne=0;}
+Me=rp(Y);
+Ne=Fe;}
+Oe=Me+Ne*56;
+*Oe=2;
+Oe[1]=0;
+x8(Oe+4,0);
+x4(Oe+12,Od);
+x4(Oe+16,ke);
+memcpy(Oe+24,O+8,32);
+w8(Y+8,Ne+1);
+re=0;
+se=0;
+te=0;}
 else{
-if(O[40]==0){
-push_plain_fc3(H,Ia,Z,O+40,je,d);
-if(*H==0){
-Je=r8(Z+8);
-if(r8(Z+16)==Je){
-Ke=umax64(Je,8);
-if(Ke>(Je^18446744073709551615u)){
-le=4;
-me=1;
-ne=0;
+if(N[40]==0){
+push_plain_fc3(G,Ja,Y,N+40,pe,d);
+if(*G==0){
+Pe=r8(Y+8);
+if(r8(Y+16)==Pe){
+Qe=umax64(Pe,8);
+if(Qe>(Pe^18446744073709551615u)){
+re=4;
+se=1;
+te=0;
 goto L14;}
-Le=Ke+Je;
-if(Le>=0x2aaaaaaaaaaaaabu){
-le=4;
-me=1;
-ne=0;
+Re=Qe+Pe;
+if(Re>=0x24924924924924au){
+re=4;
+se=1;
+te=0;
 goto L14;}
-if(Je==0){
-Me=port_rattle_alloc(Le*48,8);
-if(!(u8)(Me.f0&1)){
-le=4;
-me=1;
-ne=0;
+if(Pe==0){
+Se=port_rattle_alloc(Re*56,8);
+if(!(u8)(Se.f0&1)){
+re=4;
+se=1;
+te=0;
 goto L14;}
-Ne=Me;}
+Te=Se;}
 else{
-Oe=port_rattle_realloc(rp(Z),Je*48,Le*48,8);
-if(!(u8)(Oe.f0&1)){
-le=4;
-me=1;
-ne=0;
+Ue=port_rattle_realloc(rp(Y),Pe*56,Re*56,8);
+if(!(u8)(Ue.f0&1)){
+re=4;
+se=1;
+te=0;
 goto L14;}
-Ne=Oe;}
-Pe=(u8*)Ne.f1;
-wp(Z,Pe);
-w8(Z+16,Le);
-Qe=Pe;
-Re=r8(Z+8);}
+Te=Ue;}
+Ve=(u8*)Te.f1;
+wp(Y,Ve);
+w8(Y+16,Re);
+We=Ve;
+Xe=r8(Y+8);}
 else{
-Qe=rp(Z);
-Re=Je;}
-Se=Qe+Re*48;
-*Se=2;
-Se[1]=0;
-x4(Se+4,0);
-x4(Se+8,0);
-x4(Se+12,ee);
-memcpy(Se+16,P+8,32);
-w8(Z+8,Re+1);
-le=0;
-me=0;
-ne=0;}
+We=rp(Y);
+Xe=Pe;}
+Ye=We+Xe*56;
+*Ye=2;
+Ye[1]=0;
+x8(Ye+4,0);
+x4(Ye+12,Od);
+x4(Ye+16,ke);
+memcpy(Ye+24,O+8,32);
+w8(Y+8,Xe+1);
+re=0;
+se=0;
+te=0;}
 else{
-le=H[4];
-me=1;
-ne=r4(H+8);}}
+re=G[4];
+se=1;
+te=r4(G+8);}}
 else{
-z12(C);
-z7(D);
-z12(F);
-z48(G);
-memcpy(D+7,P+8,32);
-*E=0;
-memcpy(E+1,D,39);
 z12(B);
-length_of_part_5fe(B,Ia,E,d);
-Te=r4(B+4);
-if(*B==0){
+z7(C);
+z12(E);
+z56(F);
+memcpy(C+7,O+8,32);
+*D=0;
+memcpy(D+1,C,39);
 z12(A);
-length_of_part_5fe(A,Ia,O+40,d);
-Ue=r4(A+4);
+length_of_part_5fe(A,Ja,D,d);
+Ze=r4(A+4);
 if(*A==0){
-Ve=fe-2;
-z39(y);
-z40(z);
-if(Ve==0){
-We=0;
+z12(z);
+length_of_part_5fe(z,Ja,N+40,d);
+af=r4(z+4);
+if(*z==0){
+bf=le-2;
+z39(x);
+z40(y);
+if(bf==0){
+cf=0;
 goto L15;}
-Xe=0;
-Ye=O+40;
-Ze=Ve;
-L16:af=Ze-1;
-if(Ye[40]==0){
-memcpy(y+7,Ye+48,32);
-*z=0;
-memcpy(z+1,y,39);
+df=0;
+ef=N+40;
+ff=bf;
+L16:gf=ff-1;
+if(ef[40]==0){
+memcpy(x+7,ef+48,32);
+*y=0;
+memcpy(y+1,x,39);
+z12(v);
+length_of_part_5fe(v,Ja,y,d);
+hf=r4(v+4);
+if(*v==0){
+jf=hf;
+goto L17;}
+kf=hf;
+lf=r4(v+8);}
+else{
 z12(w);
-length_of_part_5fe(w,Ia,z,d);
-bf=r4(w+4);
+length_of_part_5fe(w,Ja,ef+40,d);
+mf=r4(w+4);
 if(*w==0){
-cf=bf;
+jf=mf;
 goto L17;}
-df=bf;
-ef=r4(w+8);}
-else{
-z12(x);
-length_of_part_5fe(x,Ia,Ye+40,d);
-ff=r4(x+4);
-if(*x==0){
-cf=ff;
-goto L17;}
-df=ff;
-ef=r4(x+8);}
-gf=1;
-hf=df;
-jf=ef;
+kf=mf;
+lf=r4(w+8);}
+nf=1;
+of=kf;
+pf=lf;
 goto L18;
-L17:kf=cf+Xe;
-if(af!=0){
-Xe=kf;
-Ye=Ye+40;
-Ze=af;
+L17:qf=jf+df;
+if(gf!=0){
+df=qf;
+ef=ef+40;
+ff=gf;
 goto L16;}
-We=kf;
-L15:lf=umin32(Ue,2);
-mf=r8(Z+8);
-if(r8(Z+16)==mf){
-nf=umax64(mf,8);
-if(nf>(mf^18446744073709551615u)){
-gf=1;
-hf=4;
-jf=0;
+cf=qf;
+L15:rf=umin32(af,2);
+w4(F+4,cf);
+sf=q8(F+4);
+tf=r8(Y+8);
+if(r8(Y+16)==tf){
+uf=umax64(tf,8);
+if(uf>(tf^18446744073709551615u)){
+nf=1;
+of=4;
+pf=0;
 goto L18;}
-of=nf+mf;
-if(of>=0x2aaaaaaaaaaaaabu){
-gf=1;
-hf=4;
-jf=0;
+vf=uf+tf;
+if(vf>=0x24924924924924au){
+nf=1;
+of=4;
+pf=0;
 goto L18;}
-if(mf==0){
-pf=port_rattle_alloc(of*48,8);
-if(!(u8)(pf.f0&1)){
-gf=1;
-hf=4;
-jf=0;
+if(tf==0){
+wf=port_rattle_alloc(vf*56,8);
+if(!(u8)(wf.f0&1)){
+nf=1;
+of=4;
+pf=0;
 goto L18;}
-qf=pf;}
+xf=wf;}
 else{
-rf=port_rattle_realloc(rp(Z),mf*48,of*48,8);
-if(!(u8)(rf.f0&1)){
-gf=1;
-hf=4;
-jf=0;
+yf=port_rattle_realloc(rp(Y),tf*56,vf*56,8);
+if(!(u8)(yf.f0&1)){
+nf=1;
+of=4;
+pf=0;
 goto L18;}
-qf=rf;}
-sf=(u8*)qf.f1;
-wp(Z,sf);
-w8(Z+16,of);
-tf=sf;
-uf=r8(Z+8);}
+xf=yf;}
+zf=(u8*)xf.f1;
+wp(Y,zf);
+w8(Y+16,vf);
+Af=zf;
+Bf=r8(Y+8);}
 else{
-tf=rp(Z);
-uf=mf;}
-vf=tf+uf*48;
-*vf=0;
-vf[1]=0;
-x4(vf+4,We);
-z40(vf+8);
-w8(Z+8,uf+1);
+Af=rp(Y);
+Bf=tf;}
+Cf=Af+Bf*56;
+*Cf=0;
+Cf[1]=0;
+x8(Cf+4,sf);
+x4(Cf+12,0);
+x4(Cf+16,0);
+z32(Cf+24);
+w8(Y+8,Bf+1);
+w4(E+4,0);
+w4(E+8,0);
+Df=af-rf;
+*F=0;
+w4(F+4,Df);
+push_634(E,Y,F);
+if(*E==0){
+*F=1;
+F[1]=3;
 w4(F+4,0);
 w4(F+8,0);
-wf=Ue-lf;
-*G=0;
-w4(G+4,wf);
-push_634(F,Z,G);
-if(*F==0){
-*G=1;
-G[1]=3;
-w4(G+4,We+wf);
-push_634(F,Z,G);
-if(*F==0){
-*G=0;
-w4(G+4,lf);
-push_634(F,Z,G);
-if(*F==0){
-*G=2;
-w4(G+8,1);
-w4(G+12,ee);
-memcpy(G+16,P+8,32);
-push_634(F,Z,G);
-if(*F==0){
-*G=1;
-G[1]=2;
-w4(G+4,Te);
-push_634(C,Z,G);
-gf=*C;
-hf=C[4];
-jf=r4(C+8);}
+w4(F+12,cf+Df);
+push_634(E,Y,F);
+if(*E==0){
+*F=0;
+w4(F+4,rf);
+push_634(E,Y,F);
+if(*E==0){
+*F=2;
+w4(F+8,1);
+w4(F+12,Od);
+w4(F+16,ke);
+memcpy(F+24,O+8,32);
+push_634(E,Y,F);
+if(*E==0){
+*F=1;
+F[1]=2;
+w4(F+4,0);
+w4(F+8,0);
+w4(F+12,Ze);
+push_634(B,Y,F);
+nf=*B;
+of=B[4];
+pf=r4(B+8);}
 else{
-gf=1;
-hf=F[4];
-jf=r4(F+8);}}
+nf=1;
+of=E[4];
+pf=r4(E+8);}}
 else{
-gf=1;
-hf=F[4];
-jf=r4(F+8);}}
+nf=1;
+of=E[4];
+pf=r4(E+8);}}
 else{
-gf=1;
-hf=F[4];
-jf=r4(F+8);}}
+nf=1;
+of=E[4];
+pf=r4(E+8);}}
 else{
-gf=1;
-hf=F[4];
-jf=r4(F+8);}}
+nf=1;
+of=E[4];
+pf=r4(E+8);}}
 else{
-gf=1;
-hf=Ue;
-jf=r4(A+8);}}
+nf=1;
+of=af;
+pf=r4(z+8);}}
 else{
-gf=1;
-hf=Te;
-jf=r4(B+8);}
-L18:le=hf;
-me=gf;
-ne=jf;}}
-L14:ge=me;
-he=le;
-ie=ne;}
+nf=1;
+of=Ze;
+pf=r4(A+8);}
+L18:re=of;
+se=nf;
+te=pf;}}
+L14:me=se;
+ne=re;
+oe=te;}
 else{
-push_scope_91a(K,Ia,Z,1,ee,P,fe,d);
-ge=*K;
-he=K[4];
-ie=r4(K+8);}}
+push_scope_91a(J,Ja,Y,Od,1,ke,O,le,d);
+me=*J;
+ne=J[4];
+oe=r4(J+8);}}
 break;
-case 2:if(fe==0){
-z12(v);
-push_implementation_f83(v,Ia,Z,P,0,d);
-ge=*v;
-he=v[4];
-ie=r4(v+8);}
+case 2:if(le==0){
+z12(u);
+push_implementation_f83(u,Ja,Y,O,0,d);
+me=*u;
+ne=u[4];
+oe=r4(u+8);}
 else{
-if(*O==0){
-push_arguments_35b(M,Ia,Z,O+40,fe-1,d);
-if(*M==0){
-xf=r8(Z+8);
-if(r8(Z+16)==xf){
-yf=umax64(xf,8);
-if(yf>(xf^18446744073709551615u)){
-ge=1;
-he=4;
-ie=0;
+if(*N==0){
+push_arguments_35b(L,Ja,Y,Od,N+40,le-1,d);
+if(*L==0){
+Ef=Od+1;
+Ff=r8(Y+8);
+if(r8(Y+16)==Ff){
+Gf=umax64(Ff,8);
+if(Gf>(Ff^18446744073709551615u)){
+me=1;
+ne=4;
+oe=0;
 break;}
-zf=yf+xf;
-if(zf>=0x2aaaaaaaaaaaaabu){
-ge=1;
-he=4;
-ie=0;
+Hf=Gf+Ff;
+if(Hf>=0x24924924924924au){
+me=1;
+ne=4;
+oe=0;
 break;}
-if(xf==0){
-Af=port_rattle_alloc(zf*48,8);
-if(!(u8)(Af.f0&1)){
-ge=1;
-he=4;
-ie=0;
+if(Ff==0){
+If=port_rattle_alloc(Hf*56,8);
+if(!(u8)(If.f0&1)){
+me=1;
+ne=4;
+oe=0;
 break;}
-Bf=Af;}
+Jf=If;}
 else{
-Cf=port_rattle_realloc(rp(Z),xf*48,zf*48,8);
-if(!(u8)(Cf.f0&1)){
-ge=1;
-he=4;
-ie=0;
+Kf=port_rattle_realloc(rp(Y),Ff*56,Hf*56,8);
+if(!(u8)(Kf.f0&1)){
+me=1;
+ne=4;
+oe=0;
 break;}
-Bf=Cf;}
-Df=(u8*)Bf.f1;
-wp(Z,Df);
-w8(Z+16,zf);
-Ef=Df;
-Ff=r8(Z+8);}
+Jf=Kf;}
+Lf=(u8*)Jf.f1;
+wp(Y,Lf);
+w8(Y+16,Hf);
+Mf=Lf;
+Nf=r8(Y+8);}
 else{
-Ef=rp(Z);
-Ff=xf;}
-Gf=Ef+Ff*48;
-*Gf=2;
-Gf[1]=0;
-x4(Gf+4,0);
-x4(Gf+8,0);
-x4(Gf+12,ee);
-memcpy(Gf+16,P+8,32);
-w8(Z+8,Ff+1);
-ge=0;
-he=0;
-ie=0;}
+Mf=rp(Y);
+Nf=Ff;}
+Of=Mf+Nf*56;
+*Of=2;
+Of[1]=0;
+x8(Of+4,0);
+x4(Of+12,Ef);
+x4(Of+16,ke);
+memcpy(Of+24,O+8,32);
+w8(Y+8,Nf+1);
+me=0;
+ne=0;
+oe=0;}
 else{
-ge=1;
-he=M[4];
-ie=r4(M+8);}}
+me=1;
+ne=L[4];
+oe=r4(L+8);}}
 else{
-push_scope_91a(L,Ia,Z,2,ee,P,fe,d);
-ge=*L;
-he=L[4];
-ie=r4(L+8);}}
+push_scope_91a(K,Ja,Y,Od,2,ke,O,le,d);
+me=*K;
+ne=K[4];
+oe=r4(K+8);}}
 break;
-default:goto L19;
+default:NEVER;
 }
-Hf=ge;
-If=he;
-Jf=ie;
+Pf=me;
+Qf=ne;
+Rf=oe;
 break;
-case 1:memcpy(s,Hd+16,32);
-z12(r);
-zero_all(t,328);
-parts_4fe(t,Ia,s);
-Kf=path_sort_162(Ia,ce);
-push_scope_91a(r,Ia,Z,Kf.f0,Kf.f1,t,r8(t+320),d);
-Hf=*r;
-If=r[4];
-Jf=r4(r+8);
+case 1:memcpy(r,Md+24,32);
+z12(q);
+zero_all(s,328);
+parts_4fe(s,Ja,r);
+Sf=path_sort_162(Ja,ie);
+push_scope_91a(q,Ja,Y,Od,Sf.f0,Sf.f1,s,r8(s+320),d);
+Pf=*q;
+Qf=q[4];
+Rf=r4(q+8);
 break;
-case 2:memcpy(p,Hd+16,32);
-zero_all(q,328);
-parts_4fe(q,Ia,p);
-Lf=r8(q+320);
-z12(j);
-z7(k);
+case 2:memcpy(o,Md+24,32);
+zero_all(p,328);
+parts_4fe(p,Ja,o);
+Tf=r8(p+320);
+z12(i);
+z7(j);
+z12(l);
 z12(m);
 z12(n);
-z12(o);
-if(Lf==0){
-if(r8(Z+16)==Ed){
-Mf=umax64(Ed,8);
-if(Mf>0-zd){
-Nf=1;
-Of=4;
-Pf=0;
-goto L20;}
-Qf=Mf+Ed;
-if(Qf>=0x2aaaaaaaaaaaaabu){
-Nf=1;
-Of=4;
-Pf=0;
-goto L20;}
-Rf=Qf*48;
-if(Ed==0){
-Sf=port_rattle_alloc(Rf,8);
-if(!(u8)(Sf.f0&1)){
-Nf=1;
-Of=4;
-Pf=0;
-goto L20;}
-Tf=Sf;}
+if(Tf==0){
+if(r8(Y+16)==Jd){
+Uf=umax64(Jd,8);
+if(Uf>0-Ed){
+Vf=1;
+Wf=4;
+Xf=0;
+goto L19;}
+Yf=Uf+Jd;
+if(Yf>=0x24924924924924au){
+Vf=1;
+Wf=4;
+Xf=0;
+goto L19;}
+Zf=Yf*56;
+if(Jd==0){
+ag=port_rattle_alloc(Zf,8);
+if(!(u8)(ag.f0&1)){
+Vf=1;
+Wf=4;
+Xf=0;
+goto L19;}
+bg=ag;}
 else{
-Uf=port_rattle_realloc(Fd,Gd,Rf,8);
-if(!(u8)(Uf.f0&1)){
-Nf=1;
-Of=4;
-Pf=0;
-goto L20;}
-Tf=Uf;}
-Vf=(u8*)Tf.f1;
-wp(Z,Vf);
-w8(Z+16,Qf);
-Wf=r8(Z+8);
-Xf=Wf*48;
-Yf=Vf;
-Zf=Wf+1;}
+cg=port_rattle_realloc(Kd,Ld,Zf,8);
+if(!(u8)(cg.f0&1)){
+Vf=1;
+Wf=4;
+Xf=0;
+goto L19;}
+bg=cg;}
+dg=(u8*)bg.f1;
+wp(Y,dg);
+w8(Y+16,Yf);
+eg=r8(Y+8);
+fg=eg*56;
+gg=dg;
+hg=eg+1;}
 else{
-Xf=Gd;
-Yf=Fd;
-Zf=zd;}
-ag=Yf+Xf;
-*ag=0;
-ag[1]=0;
-z44(ag+4);
-w8(Z+8,Zf);
-Nf=0;
-Of=0;
-Pf=0;}
+fg=Ld;
+gg=Kd;
+hg=Ed;}
+ig=gg+fg;
+*ig=0;
+ig[1]=0;
+z32(ig+24);
+z16(ig+4);
+w8(Y+8,hg);
+Vf=0;
+Wf=0;
+Xf=0;}
 else{
-bg=Lf-1;
-if(*q==0){
-memcpy(k+7,q+8,32);
-*l=0;
-memcpy(l+1,k,39);
-z12(i);
-length_of_part_5fe(i,Ia,l,d);
-cg=r4(i+4);
-if(*i==0){
-push_listed_6df(m,Ia,Z,q+40,bg,d);
-if(*m==0){
-push_alone_829(j,Z,6,cg);
-Nf=*j;
-Of=j[4];
-Pf=r4(j+8);}
+jg=Tf-1;
+if(*p==0){
+memcpy(j+7,p+8,32);
+*k=0;
+memcpy(k+1,j,39);
+z12(h);
+length_of_part_5fe(h,Ja,k,d);
+kg=r4(h+4);
+if(*h==0){
+push_listed_6df(l,Ja,Y,Od,ie+1,p+40,jg,d);
+if(*l==0){
+push_alone_829(i,Y,6,Od,ie,kg);
+Vf=*i;
+Wf=i[4];
+Xf=r4(i+8);}
 else{
-Nf=1;
-Of=m[4];
-Pf=r4(m+8);}}
+Vf=1;
+Wf=l[4];
+Xf=r4(l+8);}}
 else{
-Nf=1;
-Of=cg;
-Pf=r4(i+8);}}
+Vf=1;
+Wf=kg;
+Xf=r4(h+8);}}
 else{
-if(bg==0)push_plain_fc3(n,Ia,Z,q,Lf,d);
+if(jg==0)push_plain_fc3(m,Ja,Y,p,Tf,d);
 else{
-if(q[40]==0){
-push_listed_6df(o,Ia,Z,q+80,Lf-2,d);
-if(*o!=0){
-Nf=1;
-Of=o[4];
-Pf=r4(o+8);
-goto L20;}
-push_after_b93(n,Ia,Z,q,6,q+48,d);}
-else push_plain_fc3(n,Ia,Z,q,Lf,d);}
-Nf=*n;
-Of=n[4];
-Pf=r4(n+8);}}
-L20:Hf=Nf;
-If=Of;
-Jf=Pf;
+if(p[40]==0){
+push_listed_6df(n,Ja,Y,Od,ie+1,p+80,Tf-2,d);
+if(*n!=0){
+Vf=1;
+Wf=n[4];
+Xf=r4(n+8);
+goto L19;}
+push_after_b93(m,Ja,Y,p,6,Od,ie,p+48,d);}
+else push_plain_fc3(m,Ja,Y,p,Tf,d);}
+Vf=*m;
+Wf=m[4];
+Xf=r4(m+8);}}
+L19:Pf=Vf;
+Qf=Wf;
+Rf=Xf;
 break;
 default:NEVER;
 }
-if(Hf==0){
-Jd=Ad;
-Kd=Bd;
-Ld=Cd;
-Md=Dd;
+if(Pf==0){
+Pd=Fd;
+Qd=Gd;
+Rd=Hd;
+Sd=Id;
 goto L11;}
-Pd=If;
-Qd=Jf;
+Vd=Qf;
+Wd=Rf;
 break;
 default:NEVER;
 }
-dg=(u8*)(u64)Qd;
-if(Bd==0){
-Ud=dg;
-Vd=Pd;
+lg=(u8*)(u64)Wd;
+if(Gd==0){
+ae=lg;
+be=Vd;
 goto L12;}
-Xd=dg;
-Yd=Pd;
-L13:port_rattle_dealloc(Dd);
-Ud=Xd;
-Vd=Yd;
-L12:if(r8(Z+16)==0){
-sd=Vd;
-td=Ud;
+de=lg;
+ee=Vd;
+L13:port_rattle_dealloc(Id);
+ae=de;
+be=ee;
+L12:if(r8(Y+16)==0){
+yd=be;
+zd=ae;
 goto L9;}
-port_rattle_dealloc(rp(Z));
-sd=Vd;
-td=Ud;
+port_rattle_dealloc(rp(Y));
+yd=be;
+zd=ae;
 goto L9;
-L11:eg=r8(Z+8);
-if(eg!=0){
-zd=eg;
-Ad=Jd;
-Bd=Kd;
-Cd=Ld;
-Dd=Md;
+L11:mg=r8(Y+8);
+if(mg!=0){
+Ed=mg;
+Fd=Pd;
+Gd=Qd;
+Hd=Rd;
+Id=Sd;
 goto L10;}
-vd=Md;
-xd=Ld;
-yd=Kd;}
-if(r8(Z+16)!=0)port_rattle_dealloc(rp(Z));
-fg=(u64)vd;
-gg=r4(Ia+72);
-z64(h);
-view_at_138(h,Ia,gg);
-hg=r4(h+48);
-L21:ig=path_sort_162(Ia,hg);
-jg=ig.f1;
-switch(ig.f0){
-case 0:kg=30;
-goto L22;
-case 3:kg=29;
-goto L22;
-case 2:break;
-case 1:z64(g);
-view_at_138(g,Ia,hg);
-if(!(r8(g+8)>96&&r4(g+28)==r4(g+24))){
-z64(f);
-view_at_138(f,Ia,hg);
-switch(r8(f+8)){
-case 67:kg=26;
-goto L22;
-case 83:kg=27;
-goto L22;
-case 118:kg=24;
-goto L22;
-case 116:kg=25;
-goto L22;
-default:kg=28;
-goto L22;
-}}
-break;
-default:goto L19;
-}
-hg=jg;
-goto L21;
-L22:lg=rp(Ia+24);
-mg=r8(Ia+40);
-ng=rp(Ia+48);
-og=r8(Ia+64);
-if(r8(Ia+16)!=0)port_rattle_dealloc(rp(Ia));
-if(mg!=0)port_rattle_dealloc(lg);
+Bd=Sd;
+Cd=Rd;
+Dd=Qd==0;}
+if(r8(Y+16)!=0)port_rattle_dealloc(rp(Y));
+wp(g+8,(u8*)65536);
+w8(g+24,0);
+wp(g+32,(u8*)65536);
+z24(g+48);
+z12(f);
+w4(g,0);
+w4(g+4,0);
+w8(g+16,0);
+w8(g+40,0);
+w8(g+56,0);
+w4(g+64,0);
+run_48d(f,g,b,c,1);
+if(*f!=0){
+yg=f[4];
+zg=r4(f+8);
+Ag=rp(g+32);
+Bg=r8(g+48);
+if(r8(g+24)!=0)port_rattle_dealloc(rp(g+8));
+if(Bg!=0)port_rattle_dealloc(Ag);
+Cg=(u8*)(u64)zg;
+z7(Ha);
+z20(Ia);
+if(!Dd)port_rattle_dealloc(Bd);
+if(Hc!=0)port_rattle_dealloc(Ic);
+Dg=rp(Ja+24);
+Eg=r8(Ja+40);
+Fg=rp(Ja+48);
+Gg=r8(Ja+64);
+if(r8(Ja+16)!=0)port_rattle_dealloc(rp(Ja));
+if(Eg!=0)port_rattle_dealloc(Dg);
+if(Gg!=0)port_rattle_dealloc(Fg);
+x4(a,1);
+x4(a+4,yg);
+xp(a+8,Cg);
+z17(a+16);
+memcpy(a+33,Ha,7);
+x4(a+40,0);
+memcpy(a+44,Ia,20);
+goto L20;}
+ng=rp(g+8);
+og=r8(g+24);
+pg=rp(g+32);
+qg=r8(g+48);
+spelling_of_e02(Ma,b,c,pg,r8(g+40));
+rg=r4(Ma+8);
+if(*Ma!=0){
+wg=Ma[4];
+xg=(u8*)(u64)rg;
+z7(Ha);
+z20(Ia);
 if(og!=0)port_rattle_dealloc(ng);
+if(qg!=0)port_rattle_dealloc(pg);
+if(!Dd)port_rattle_dealloc(Bd);
+if(Hc!=0)port_rattle_dealloc(Ic);
+drop_be4(Ja);
+x4(a,1);
+x4(a+4,wg);
+xp(a+8,xg);
+z17(a+16);
+memcpy(a+33,Ha,7);
+x4(a+40,0);
+memcpy(a+44,Ia,20);
+goto L20;}
+w4(Ka,rg);
+memcpy(Ka+4,Ma+12,172);
+with_bytes_5d7(Na,Bd,Cd,Ka,Jc);
+sg=r4(Na+8);
+if(*Na==0){
+tg=kind_of_54a(Ja);
+memcpy(Ha,Oa,7);
+memcpy(Ia,Na+12,20);
+if(r8(Ka+24)!=0)port_rattle_dealloc(rp(Ka+8));
+if(r8(Ka+48)!=0)port_rattle_dealloc(rp(Ka+32));
+if(r8(Ka+72)!=0)port_rattle_dealloc(rp(Ka+56));
+if(r8(Ka+96)!=0)port_rattle_dealloc(rp(Ka+80));
+if(r8(Ka+120)!=0)port_rattle_dealloc(rp(Ka+104));
+if(r8(Ka+144)!=0)port_rattle_dealloc(rp(Ka+128));
+if(r8(Ka+168)!=0)port_rattle_dealloc(rp(Ka+152));
+if(og!=0)port_rattle_dealloc(ng);
+if(qg!=0)port_rattle_dealloc(pg);
+if(!Dd)port_rattle_dealloc(Bd);
+drop_be4(Ja);
 x4(a,0);
 x4(a+4,0);
-xp(a+8,Ec);
-x8(a+16,Cc);
-x8(a+24,Dc);
-a[32]=kg;
-memcpy(a+33,Ka,7);
-x8(a+40,fg);
-x8(a+48,xd);
-x8(a+56,yd);
-goto L23;
-L19:NEVER;}
-sd=r4(aa+4);
-td=(u8*)(u64)r4(aa+8);
-L9:pg=(u8*)((u64)td&4294967295u);
-if(Dc!=0)port_rattle_dealloc(Ec);
-qg=rp(Ia+24);
-rg=r8(Ia+40);
-sg=rp(Ia+48);
-tg=r8(Ia+64);
-if(r8(Ia+16)!=0)port_rattle_dealloc(rp(Ia));
-if(rg!=0)port_rattle_dealloc(qg);
-if(tg!=0)port_rattle_dealloc(sg);
+xp(a+8,Ic);
+x8(a+16,Gc);
+x8(a+24,Hc);
+a[32]=tg;
+memcpy(a+33,Ha,7);
+x4(a+40,sg);
+memcpy(a+44,Ia,20);
+goto L20;}
+ug=Na[4];
+vg=(u8*)(u64)sg;
+z7(Ha);
+z20(Ia);
+if(r8(Ka+24)!=0)port_rattle_dealloc(rp(Ka+8));
+if(r8(Ka+48)!=0)port_rattle_dealloc(rp(Ka+32));
+if(r8(Ka+72)!=0)port_rattle_dealloc(rp(Ka+56));
+if(r8(Ka+96)!=0)port_rattle_dealloc(rp(Ka+80));
+if(r8(Ka+120)!=0)port_rattle_dealloc(rp(Ka+104));
+if(r8(Ka+144)!=0)port_rattle_dealloc(rp(Ka+128));
+if(r8(Ka+168)!=0)port_rattle_dealloc(rp(Ka+152));
+if(og!=0)port_rattle_dealloc(ng);
+if(qg!=0)port_rattle_dealloc(pg);
+if(!Dd)port_rattle_dealloc(Bd);
+if(Hc!=0)port_rattle_dealloc(Ic);
+drop_be4(Ja);
 x4(a,1);
-x4(a+4,sd);
-xp(a+8,pg);
-z48(a+16);
-goto L23;}
-ug=r4(ka+8);
-vg=ka[4];
-if(r8(ha+16)!=0)port_rattle_dealloc(rp(ha));
-if(r8(ha+40)!=0)port_rattle_dealloc(rp(ha+24));
-wg=rp(ha+72);
-xg=r8(ha+88);
-yg=rp(ha+96);
-zg=r8(ha+112);
-Ag=rp(ha+120);
-Bg=r8(ha+136);
-if(r8(ha+64)!=0)port_rattle_dealloc(rp(ha+48));
-if(xg!=0)port_rattle_dealloc(wg);
-if(zg!=0)port_rattle_dealloc(yg);
-if(Bg==0){
-Cg=vg;
-Dg=ug;}
-else{
-port_rattle_dealloc(Ag);
-Cg=vg;
-Dg=ug;}}
-else{
-Cg=sc;
-Dg=mc;}
-Eg=(u8*)(u64)Dg;
-if(r8(Ia+16)!=0)port_rattle_dealloc(rp(Ia));
-if(Sb!=0)port_rattle_dealloc(Qb);
-if(Vb!=0)port_rattle_dealloc(Tb);
+x4(a+4,ug);
+xp(a+8,vg);
+z17(a+16);
+memcpy(a+33,Ha,7);
+x4(a+40,0);
+memcpy(a+44,Ia,20);
+goto L20;}
+yd=r4(Z+4);
+zd=(u8*)(u64)r4(Z+8);
+L9:Hg=(u8*)((u64)zd&4294967295u);
+if(Hc!=0)port_rattle_dealloc(Ic);
+Ig=rp(Ja+24);
+Jg=r8(Ja+40);
+Kg=rp(Ja+48);
+Lg=r8(Ja+64);
+if(r8(Ja+16)!=0)port_rattle_dealloc(rp(Ja));
+if(Jg!=0)port_rattle_dealloc(Ig);
+if(Lg!=0)port_rattle_dealloc(Kg);
 x4(a,1);
-x4(a+4,Cg);
-xp(a+8,Eg);
+x4(a+4,yd);
+xp(a+8,Hg);
 z48(a+16);
-goto L23;}}
+goto L20;}
+Mg=r4(ja+8);
+Ng=ja[4];
+if(r8(ga+16)!=0)port_rattle_dealloc(rp(ga));
+if(r8(ga+40)!=0)port_rattle_dealloc(rp(ga+24));
+Og=rp(ga+72);
+Pg=r8(ga+88);
+Qg=rp(ga+96);
+Rg=r8(ga+112);
+Sg=rp(ga+120);
+Tg=r8(ga+136);
+if(r8(ga+64)!=0)port_rattle_dealloc(rp(ga+48));
+if(Pg!=0)port_rattle_dealloc(Og);
+if(Rg!=0)port_rattle_dealloc(Qg);
+if(Tg==0){
+Ug=Ng;
+Vg=Mg;}
+else{
+port_rattle_dealloc(Sg);
+Ug=Ng;
+Vg=Mg;}}
+else{
+Ug=wc;
+Vg=qc;}
+Wg=(u8*)(u64)Vg;
+if(r8(Ja+16)!=0)port_rattle_dealloc(rp(Ja));
+if(Wb!=0)port_rattle_dealloc(Ub);
+if(Zb!=0)port_rattle_dealloc(Xb);
+x4(a,1);
+x4(a+4,Ug);
+xp(a+8,Wg);
+z48(a+16);
+goto L20;}}
 NEVER;}
-Eb=ub;
-Fb=ta[228];
-Gb=r4(ta+232);
-L1:if(Eb!=0)port_rattle_dealloc(rp(ta));
-Fg=rp(ta+56);
-Gg=r8(ta+72);
-if(r8(ta+48)!=0)port_rattle_dealloc(rp(ta+32));
-if(Gg!=0)port_rattle_dealloc(Fg);
-Hg=rp(ta+120);
-Ig=r8(ta+136);
-Jg=rp(ta+144);
-Kg=r8(ta+160);
-if(r8(ta+112)!=0)port_rattle_dealloc(rp(ta+96));
-if(Ig!=0)port_rattle_dealloc(Hg);
-if(Kg!=0)port_rattle_dealloc(Jg);
-Lg=rp(ta+192);
-Mg=r8(ta+208);
-if(r8(ta+184)!=0)port_rattle_dealloc(rp(ta+168));
-if(Mg==0){
-Ng=Fb;
-Og=Gb;}
+Ib=yb;
+Jb=sa[228];
+Kb=r4(sa+232);
+L1:if(Ib!=0)port_rattle_dealloc(rp(sa));
+Xg=rp(sa+56);
+Yg=r8(sa+72);
+if(r8(sa+48)!=0)port_rattle_dealloc(rp(sa+32));
+if(Yg!=0)port_rattle_dealloc(Xg);
+Zg=rp(sa+120);
+ah=r8(sa+136);
+bh=rp(sa+144);
+ch=r8(sa+160);
+if(r8(sa+112)!=0)port_rattle_dealloc(rp(sa+96));
+if(ah!=0)port_rattle_dealloc(Zg);
+if(ch!=0)port_rattle_dealloc(bh);
+dh=rp(sa+192);
+eh=r8(sa+208);
+if(r8(sa+184)!=0)port_rattle_dealloc(rp(sa+168));
+if(eh==0){
+fh=Jb;
+gh=Kb;}
 else{
-port_rattle_dealloc(Lg);
-Ng=Fb;
-Og=Gb;}}
+port_rattle_dealloc(dh);
+fh=Jb;
+gh=Kb;}}
 else{
-Ng=Db;
-Og=rb;}
-Pg=Og;
-Qg=Ng;}
+fh=Hb;
+gh=vb;}
+hh=gh;
+ih=fh;}
 else{
-if(Ta!=0)port_rattle_dealloc(rp(Ha));
-if(Oa!=0)port_rattle_dealloc(Ma);
-if(Ra==0){
-Pg=0;
-Qg=4;}
+if(Xa!=0)port_rattle_dealloc(rp(Ga));
+if(Sa!=0)port_rattle_dealloc(Qa);
+if(Va==0){
+hh=0;
+ih=4;}
 else{
-port_rattle_dealloc(Pa);
-Pg=0;
-Qg=4;}}}
+port_rattle_dealloc(Ta);
+hh=0;
+ih=4;}}}
 else{
-Rg=Da[4];
-Sg=r4(Da+8);
-Tg=rp(Ea+32);
-Ug=r8(Ea+48);
-if(r8(Ea+24)!=0)port_rattle_dealloc(rp(Ea+8));
-if(Ug!=0)port_rattle_dealloc(Tg);
-Pg=Sg;
-Qg=Rg;}
+jh=Ca[4];
+kh=r4(Ca+8);
+lh=rp(Da+32);
+mh=r8(Da+48);
+if(r8(Da+24)!=0)port_rattle_dealloc(rp(Da+8));
+if(mh!=0)port_rattle_dealloc(lh);
+hh=kh;
+ih=jh;}
 x4(a,1);
-x4(a+4,Qg);
-xp(a+8,(u8*)(u64)Pg);
+x4(a+4,ih);
+xp(a+8,(u8*)(u64)hh);
 z48(a+16);
-L23:return;
+L20:return;
 }
 
 /* sym_parts::lengths::length_of_part */
@@ -124682,9 +126272,9 @@ static void push_plain_fc3(u8* a,u8* b,u8* c,u8* d,u64 e,u32 f)
 {
 u8 i[39];
 A16 u8 g[12],h[12],j[40];
-u32 k,l,r,s,t,u,v,x,y,z;
+u64 k,n,o,A,B,C,I;
+u32 l,r,s,t,u,v,x,y,z;
 u8 *m,*q,*G,*H,*J;
-u64 n,o,A,B,C,I;
 u8 p,w;
 s_64_64 D,E,F;
 z39(i);
@@ -124738,13 +126328,13 @@ x=4;
 y=0;
 goto L3;}
 C=B+A;
-if(C>=0x2aaaaaaaaaaaaabu){
+if(C>=0x24924924924924au){
 w=1;
 x=4;
 y=0;
 goto L3;}
 if(A==0){
-D=port_rattle_alloc(C*48,8);
+D=port_rattle_alloc(C*56,8);
 if(!(u8)(D.f0&1)){
 w=1;
 x=4;
@@ -124752,7 +126342,7 @@ y=0;
 goto L3;}
 E=D;}
 else{
-F=port_rattle_realloc(rp(c),A*48,C*48,8);
+F=port_rattle_realloc(rp(c),A*56,C*56,8);
 if(!(u8)(F.f0&1)){
 w=1;
 x=4;
@@ -124767,11 +126357,13 @@ I=r8(c+8);}
 else{
 H=rp(c);
 I=A;}
-J=H+I*48;
+J=H+I*56;
 *J=0;
 J[1]=0;
-x4(J+4,k);
-z40(J+8);
+x8(J+4,k);
+x4(J+12,0);
+x4(J+16,0);
+z32(J+24);
 w8(c+8,I+1);
 w=0;
 x=0;
@@ -124783,97 +126375,102 @@ return;
 }
 
 /* sym_parts::plain::push_alone */
-static void push_alone_829(u8* a,u8* b,u8 c,u32 d)
+static void push_alone_829(u8* a,u8* b,u8 c,u32 d,u32 e,u32 f)
 {
-u64 e,f,i,o,q,r,s,y;
-u8 g;
-u32 h;
-s_64_64 j,k,l,t,u,v;
-u8 *m,*n,*p,*w,*x,*z;
-e=r8(b+8);
-if(r8(b+16)==e){
-f=umax64(e,8);
-if(f>(e^18446744073709551615u)){
-g=1;
-h=4;
+u64 g,h,k,q,s,t,u,v,B;
+u8 i;
+u32 j;
+s_64_64 l,m,n,w,x,y;
+u8 *o,*p,*r,*z,*A,*C;
+g=r8(b+8);
+if(r8(b+16)==g){
+h=umax64(g,8);
+if(h>(g^18446744073709551615u)){
+i=1;
+j=4;
 goto L1;}
-i=f+e;
-if(i>=0x2aaaaaaaaaaaaabu){
-g=1;
-h=4;
+k=h+g;
+if(k>=0x24924924924924au){
+i=1;
+j=4;
 goto L1;}
-if(e==0){
-j=port_rattle_alloc(i*48,8);
-if(!(u8)(j.f0&1)){
-g=1;
-h=4;
-goto L1;}
-k=j;}
-else{
-l=port_rattle_realloc(rp(b),e*48,i*48,8);
+if(g==0){
+l=port_rattle_alloc(k*56,8);
 if(!(u8)(l.f0&1)){
-g=1;
-h=4;
+i=1;
+j=4;
 goto L1;}
-k=l;}
-m=(u8*)k.f1;
-wp(b,m);
-w8(b+16,i);
-n=m;
-o=r8(b+8);}
+m=l;}
 else{
-n=rp(b);
-o=e;}
-p=n+o*48;
-*p=0;
-p[1]=0;
-x4(p+4,d);
-q=o+1;
-z40(p+8);
-w8(b+8,q);
-if(r8(b+16)==q){
-r=umax64(q,8);
-if(r>0xfffffffffffffffeu-o){
-g=1;
-h=4;
+n=port_rattle_realloc(rp(b),g*56,k*56,8);
+if(!(u8)(n.f0&1)){
+i=1;
+j=4;
 goto L1;}
-s=r+q;
-if(s>=0x2aaaaaaaaaaaaabu){
-g=1;
-h=4;
-goto L1;}
-if(q==0){
-t=port_rattle_alloc(s*48,8);
-if(!(u8)(t.f0&1)){
-g=1;
-h=4;
-goto L1;}
-u=t;}
+m=n;}
+o=(u8*)m.f1;
+wp(b,o);
+w8(b+16,k);
+p=o;
+q=r8(b+8);}
 else{
-v=port_rattle_realloc(rp(b),q*48,s*48,8);
-if(!(u8)(v.f0&1)){
-g=1;
-h=4;
+p=rp(b);
+q=g;}
+r=p+q*56;
+*r=0;
+r[1]=0;
+x8(r+4,f);
+x4(r+12,0);
+x4(r+16,0);
+z32(r+24);
+s=q+1;
+w8(b+8,s);
+t=((u64)e<<32)|d;
+if(r8(b+16)==s){
+u=umax64(s,8);
+if(u>0xfffffffffffffffeu-q){
+i=1;
+j=4;
 goto L1;}
-u=v;}
-w=(u8*)u.f1;
-wp(b,w);
-w8(b+16,s);
-x=w;
-y=r8(b+8);}
+v=u+s;
+if(v>=0x24924924924924au){
+i=1;
+j=4;
+goto L1;}
+if(s==0){
+w=port_rattle_alloc(v*56,8);
+if(!(u8)(w.f0&1)){
+i=1;
+j=4;
+goto L1;}
+x=w;}
 else{
-x=rp(b);
-y=q;}
-z=x+y*48;
-*z=1;
-z[1]=c;
-x4(z+4,d);
-z40(z+8);
-w8(b+8,y+1);
-g=0;
-h=0;
-L1:*a=g;
-x4(a+4,h);
+y=port_rattle_realloc(rp(b),s*56,v*56,8);
+if(!(u8)(y.f0&1)){
+i=1;
+j=4;
+goto L1;}
+x=y;}
+z=(u8*)x.f1;
+wp(b,z);
+w8(b+16,v);
+A=z;
+B=r8(b+8);}
+else{
+A=rp(b);
+B=s;}
+C=A+B*56;
+*C=1;
+C[1]=c;
+x8(C+4,t);
+x4(C+12,f);
+x4(C+16,0);
+z32(C+24);
+w8(b+8,B+1);
+i=0;
+j=0;
+L1:*a=i;
+x4(a+4,j);
 x4(a+8,0);
 return;
 }
@@ -125274,18 +126871,18 @@ return;
 /* sym_parts::task::Tasks::push */
 static void push_634(u8* a,u8* b,u8* c)
 {
-A16 u8 d[32];
-u8 e,f,h,l;
-u32 g,i,m;
-u64 j,k,n,t;
+A16 u8 d[36];
+u8 e,f,l;
+u64 g,j,k,n,t;
+u32 h,i,m;
 s_64_64 o,p,q;
 u8 *r,*s,*u;
 e=*c;
 f=c[1];
-g=q4(c+4);
-h=c[8];
-i=q4(c+12);
-memcpy(d,c+16,32);
+g=q8(c+4);
+h=q4(c+12);
+i=q4(c+16);
+memcpy(d+4,c+24,32);
 j=r8(b+8);
 if(r8(b+16)==j){
 k=umax64(j,8);
@@ -125294,19 +126891,19 @@ l=1;
 m=4;
 goto L1;}
 n=k+j;
-if(n>=0x2aaaaaaaaaaaaabu){
+if(n>=0x24924924924924au){
 l=1;
 m=4;
 goto L1;}
 if(j==0){
-o=port_rattle_alloc(n*48,8);
+o=port_rattle_alloc(n*56,8);
 if(!(u8)(o.f0&1)){
 l=1;
 m=4;
 goto L1;}
 p=o;}
 else{
-q=port_rattle_realloc(rp(b),j*48,n*48,8);
+q=port_rattle_realloc(rp(b),j*56,n*56,8);
 if(!(u8)(q.f0&1)){
 l=1;
 m=4;
@@ -125320,13 +126917,13 @@ t=r8(b+8);}
 else{
 s=rp(b);
 t=j;}
-u=s+t*48;
+u=s+t*56;
 *u=e;
 u[1]=f;
-x4(u+4,g);
-x4(u+8,h);
-x4(u+12,i);
-memcpy(u+16,d,32);
+x8(u+4,g);
+x4(u+12,h);
+x4(u+16,i);
+memcpy(u+24,d+4,32);
 w8(b+8,t+1);
 l=0;
 m=0;
@@ -125373,208 +126970,209 @@ return j;
 }
 
 /* rust_parts::paths::push_scope */
-static void push_scope_91a(u8* a,u8* b,u8* c,u8 d,u32 e,u8* f,u64 g,u32 h)
+static void push_scope_91a(u8* a,u8* b,u8* c,u32 d,u8 e,u32 f,u8* g,u64 h,u32 i)
 {
-u8 m[39];
-A16 u8 i[32],j[32],k[12],l[12],n[40],o[12],p[12],q[12],r[12],s[12],t[12];
-u32 u,v,B,C,D,E,F,G,J,M,R,ea;
-u8 *w,*A,*W,*X,*Z,*ja,*ka,*ma;
-u64 x,y,O,P,S,Y,ba,ca,fa,la;
-u8 z,H,I,K,L,N,Q,aa,da;
-s_64_64 T,U,V,ga,ha,ia;
-z12(p);
+u8 n[39];
+A16 u8 j[36],k[36],l[12],m[12],o[40],p[12],q[12],r[12],s[12],t[12],u[12];
+u32 v,w,C,D,E,F,G,H,K,N,S,ca,ga;
+u8 *x,*B,*X,*Y,*aa,*la,*ma,*oa;
+u64 y,z,P,Q,T,Z,da,ea,ha,na;
+u8 A,I,J,L,M,O,R,ba,fa;
+s_64_64 U,V,W,ia,ja,ka;
 z12(q);
 z12(r);
 z12(s);
 z12(t);
-switch(d){
-case 0:z12(o);
-z39(m);
-z40(n);
-if(g==0)u=0;
+z12(u);
+switch(e){
+case 0:z12(p);
+z39(n);
+z40(o);
+if(h==0)v=0;
 else{
-v=0;
-w=f;
+w=0;
 x=g;
-L1:y=x-1;
-z=*w==0;
-A=w+(i64)(u64)(z?8:0);
-if(z){
-memcpy(m+7,A,32);
-*n=0;
-memcpy(n+1,m,39);
-z12(k);
-length_of_part_5fe(k,b,n,h);
-B=r4(k+4);
-if(*k==0){
-C=B;
-goto L2;}
-D=B;
-E=r4(k+8);}
-else{
+y=h;
+L1:z=y-1;
+A=*x==0;
+B=x+(i64)(u64)(A?8:0);
+if(A){
+memcpy(n+7,B,32);
+*o=0;
+memcpy(o+1,n,39);
 z12(l);
-length_of_part_5fe(l,b,A,h);
-F=r4(l+4);
+length_of_part_5fe(l,b,o,i);
+C=r4(l+4);
 if(*l==0){
-C=F;
+D=C;
 goto L2;}
-D=F;
-E=r4(l+8);}
-G=E;
-H=D;
-I=1;
+E=C;
+F=r4(l+8);}
+else{
+z12(m);
+length_of_part_5fe(m,b,B,i);
+G=r4(m+4);
+if(*m==0){
+D=G;
+goto L2;}
+E=G;
+F=r4(m+8);}
+H=F;
+I=E;
+J=1;
 goto L3;
-L2:J=C+v;
-if(y!=0){
-v=J;
-w=w+40;
-x=y;
+L2:K=D+w;
+if(z!=0){
+w=K;
+x=x+40;
+y=z;
 goto L1;}
-u=J;}
-push_alone_829(o,c,12,u);
-G=r4(o+8);
-H=o[4];
-I=*o;
-L3:K=H;
-L=I;
-M=G;
+v=K;}
+push_alone_829(p,c,12,0,0,v);
+H=r4(p+8);
+I=p[4];
+J=*p;
+L3:L=I;
+M=J;
+N=H;
 break;
-case 3:push_implementation_f83(p,b,c,f,g,h);
-K=p[4];
-L=*p;
-M=r4(p+8);
+case 3:push_implementation_f83(q,b,c,g,h,i);
+L=q[4];
+M=*q;
+N=r4(q+8);
 break;
-case 1:if(g==0)push_implementation_f83(q,b,c,f,0,h);
+case 1:if(h==0)push_implementation_f83(r,b,c,g,0,i);
 else{
-N=*f==0;
-if(N){
-push_plain_fc3(r,b,c,f+40,g-1,h);
-if(*r!=0){
-K=r[4];
-L=1;
-M=r4(r+8);
+O=*g==0;
+if(O){
+push_plain_fc3(s,b,c,g+40,h-1,i);
+if(*s!=0){
+L=s[4];
+M=1;
+N=r4(s+8);
 break;}
-memcpy(j,f+(i64)(u64)(N?8:0),32);
-O=r8(c+8);
-if(r8(c+16)==O){
-P=umax64(O,8);
-if(P>(O^18446744073709551615u)){
-Q=1;
-R=4;
+memcpy(k+4,g+(i64)(u64)(O?8:0),32);
+P=r8(c+8);
+if(r8(c+16)==P){
+Q=umax64(P,8);
+if(Q>(P^18446744073709551615u)){
+R=1;
+S=4;
 goto L4;}
-S=P+O;
-if(S>=0x2aaaaaaaaaaaaabu){
-Q=1;
-R=4;
+T=Q+P;
+if(T>=0x24924924924924au){
+R=1;
+S=4;
 goto L4;}
-if(O==0){
-T=port_rattle_alloc(S*48,8);
-if(!(u8)(T.f0&1)){
-Q=1;
-R=4;
+if(P==0){
+U=port_rattle_alloc(T*56,8);
+if(!(u8)(U.f0&1)){
+R=1;
+S=4;
 goto L4;}
-U=T;}
+V=U;}
 else{
-V=port_rattle_realloc(rp(c),O*48,S*48,8);
-if(!(u8)(V.f0&1)){
-Q=1;
-R=4;
+W=port_rattle_realloc(rp(c),P*56,T*56,8);
+if(!(u8)(W.f0&1)){
+R=1;
+S=4;
 goto L4;}
-U=V;}
-W=(u8*)U.f1;
-wp(c,W);
-w8(c+16,S);
-X=W;
-Y=r8(c+8);}
+V=W;}
+X=(u8*)V.f1;
+wp(c,X);
+w8(c+16,T);
+Y=X;
+Z=r8(c+8);}
 else{
-X=rp(c);
-Y=O;}
-Z=X+Y*48;
-*Z=2;
-Z[1]=0;
-x4(Z+4,0);
-x4(Z+8,1);
-x4(Z+12,e);
-memcpy(Z+16,j,32);
-w8(c+8,Y+1);
-Q=0;
+Y=rp(c);
+Z=P;}
+aa=Y+Z*56;
+*aa=2;
+aa[1]=0;
+x8(aa+4,0x100000000u);
+x4(aa+12,d);
+x4(aa+16,f);
+memcpy(aa+24,k+4,32);
+w8(c+8,Z+1);
 R=0;
-L4:*q=Q;
-w4(q+4,R);
-w4(q+8,0);}
-else push_implementation_f83(q,b,c,f,g,h);}
-K=q[4];
-L=*q;
-M=r4(q+8);
+S=0;
+L4:*r=R;
+w4(r+4,S);
+w4(r+8,0);}
+else push_implementation_f83(r,b,c,g,h,i);}
+L=r[4];
+M=*r;
+N=r4(r+8);
 break;
-case 2:if(g==0)push_implementation_f83(s,b,c,f,0,h);
+case 2:if(h==0)push_implementation_f83(t,b,c,g,0,i);
 else{
-aa=*f==0;
-if(aa){
-push_arguments_35b(t,b,c,f+40,g-1,h);
-if(*t!=0){
-K=t[4];
-L=1;
-M=r4(t+8);
+ba=*g==0;
+if(ba){
+push_arguments_35b(u,b,c,d,g+40,h-1,i);
+if(*u!=0){
+L=u[4];
+M=1;
+N=r4(u+8);
 break;}
-memcpy(i,f+(i64)(u64)(aa?8:0),32);
-ba=r8(c+8);
-if(r8(c+16)==ba){
-ca=umax64(ba,8);
-if(ca>(ba^18446744073709551615u)){
-da=1;
-ea=4;
+ca=d+1;
+memcpy(j+4,g+(i64)(u64)(ba?8:0),32);
+da=r8(c+8);
+if(r8(c+16)==da){
+ea=umax64(da,8);
+if(ea>(da^18446744073709551615u)){
+fa=1;
+ga=4;
 goto L5;}
-fa=ca+ba;
-if(fa>=0x2aaaaaaaaaaaaabu){
-da=1;
-ea=4;
+ha=ea+da;
+if(ha>=0x24924924924924au){
+fa=1;
+ga=4;
 goto L5;}
-if(ba==0){
-ga=port_rattle_alloc(fa*48,8);
-if(!(u8)(ga.f0&1)){
-da=1;
-ea=4;
-goto L5;}
-ha=ga;}
-else{
-ia=port_rattle_realloc(rp(c),ba*48,fa*48,8);
+if(da==0){
+ia=port_rattle_alloc(ha*56,8);
 if(!(u8)(ia.f0&1)){
-da=1;
-ea=4;
+fa=1;
+ga=4;
 goto L5;}
-ha=ia;}
-ja=(u8*)ha.f1;
-wp(c,ja);
-w8(c+16,fa);
-ka=ja;
-la=r8(c+8);}
+ja=ia;}
 else{
-ka=rp(c);
-la=ba;}
-ma=ka+la*48;
-*ma=2;
-ma[1]=0;
-x4(ma+4,0);
-x4(ma+8,1);
-x4(ma+12,e);
-memcpy(ma+16,i,32);
-w8(c+8,la+1);
-da=0;
-ea=0;
-L5:*s=da;
-w4(s+4,ea);
-w4(s+8,0);}
-else push_implementation_f83(s,b,c,f,g,h);}
-K=s[4];
-L=*s;
-M=r4(s+8);
+ka=port_rattle_realloc(rp(c),da*56,ha*56,8);
+if(!(u8)(ka.f0&1)){
+fa=1;
+ga=4;
+goto L5;}
+ja=ka;}
+la=(u8*)ja.f1;
+wp(c,la);
+w8(c+16,ha);
+ma=la;
+na=r8(c+8);}
+else{
+ma=rp(c);
+na=da;}
+oa=ma+na*56;
+*oa=2;
+oa[1]=0;
+x8(oa+4,0x100000000u);
+x4(oa+12,ca);
+x4(oa+16,f);
+memcpy(oa+24,j+4,32);
+w8(c+8,na+1);
+fa=0;
+ga=0;
+L5:*t=fa;
+w4(t+4,ga);
+w4(t+8,0);}
+else push_implementation_f83(t,b,c,g,h,i);}
+L=t[4];
+M=*t;
+N=r4(t+8);
 break;
 default:NEVER;
 }
-*a=L;
-x4(a+4,K);
-x4(a+8,M);
+*a=M;
+x4(a+4,L);
+x4(a+8,N);
 return;
 }
 
@@ -125582,13 +127180,13 @@ return;
 static void push_implementation_f83(u8* a,u8* b,u8* c,u8* d,u64 e,u32 f)
 {
 u8 n[39];
-A16 u8 g[12],h[12],i[12],j[12],k[12],l[12],m[12],o[40],p[32];
+A16 u8 g[12],h[12],i[12],j[12],k[12],l[12],m[12],o[40],p[36];
 u64 q,r,u,A,C,D,H,I,aa,ca,da,ga,ma,va,wa,Ca;
 u8 s,J,Q,U,Y,ea,oa,sa,ta;
 u32 t,E,F,L,M,N,O,P,R,S,T,fa,ua;
 s_64_64 v,w,x,ha,ia,ja,xa,ya,za;
 u8 *y,*z,*B,*G,*K,*V,*W,*X,*Z,*ba,*ka,*la,*na,*pa,*qa,*ra,*Aa,*Ba,*Da;
-z32(p);
+z36(p);
 z39(n);
 z40(o);
 if(e==0){
@@ -125600,19 +127198,19 @@ s=4;
 t=0;
 goto L1;}
 u=r+q;
-if(u>=0x2aaaaaaaaaaaaabu){
+if(u>=0x24924924924924au){
 s=4;
 t=0;
 goto L1;}
 if(q==0){
-v=port_rattle_alloc(u*48,8);
+v=port_rattle_alloc(u*56,8);
 if(!(u8)(v.f0&1)){
 s=4;
 t=0;
 goto L1;}
 w=v;}
 else{
-x=port_rattle_realloc(rp(c),q*48,u*48,8);
+x=port_rattle_realloc(rp(c),q*56,u*56,8);
 if(!(u8)(x.f0&1)){
 s=4;
 t=0;
@@ -125626,11 +127224,12 @@ A=r8(c+8);}
 else{
 z=rp(c);
 A=q;}
-B=z+A*48;
+B=z+A*56;
 *B=0;
 B[1]=0;
+z32(B+24);
 C=A+1;
-z44(B+4);
+z16(B+4);
 w8(c+8,C);
 D=C;
 E=0;}
@@ -125704,19 +127303,19 @@ ea=4;
 fa=0;
 goto L5;}
 ga=da+ca;
-if(ga>=0x2aaaaaaaaaaaaabu){
+if(ga>=0x24924924924924au){
 ea=4;
 fa=0;
 goto L5;}
 if(ca==0){
-ha=port_rattle_alloc(ga*48,8);
+ha=port_rattle_alloc(ga*56,8);
 if(!(u8)(ha.f0&1)){
 ea=4;
 fa=0;
 goto L5;}
 ia=ha;}
 else{
-ja=port_rattle_realloc(rp(c),ca*48,ga*48,8);
+ja=port_rattle_realloc(rp(c),ca*56,ga*56,8);
 if(!(u8)(ja.f0&1)){
 ea=4;
 fa=0;
@@ -125730,10 +127329,11 @@ ma=r8(c+8);}
 else{
 la=rp(c);
 ma=ca;}
-na=la+ma*48;
+na=la+ma*56;
 *na=0;
 na[1]=0;
-z44(na+4);
+z32(na+24);
+z16(na+4);
 w8(c+8,ma+1);}
 else{
 oa=d[80]==0;
@@ -125756,7 +127356,7 @@ if(*i!=0){
 ea=i[4];
 fa=r4(i+8);
 goto L5;}
-push_after_b93(h,b,c,d+80+(i64)(u64)(oa?8:0),15,d+120+(i64)(u64)(sa?8:0),f);
+push_after_b93(h,b,c,d+80+(i64)(u64)(oa?8:0),15,0,0,d+120+(i64)(u64)(sa?8:0),f);
 pa=h+4;
 qa=h+8;
 ra=h;}
@@ -125769,7 +127369,7 @@ if(*ra!=0){
 s=*pa;
 t=r4(qa);
 goto L1;}}
-push_after_b93(k,b,c,Z,14,ba,f);
+push_after_b93(k,b,c,Z,14,0,0,ba,f);
 V=k+4;
 W=k+8;
 X=k;
@@ -125795,13 +127395,13 @@ R=4;
 S=0;
 goto L4;}
 wa=va+D;
-if(wa>=0x2aaaaaaaaaaaaabu){
+if(wa>=0x24924924924924au){
 Q=1;
 R=4;
 S=0;
 goto L4;}
 if(D==0){
-xa=port_rattle_alloc(wa*48,8);
+xa=port_rattle_alloc(wa*56,8);
 if(!(u8)(xa.f0&1)){
 Q=1;
 R=4;
@@ -125809,7 +127409,7 @@ S=0;
 goto L4;}
 ya=xa;}
 else{
-za=port_rattle_realloc(rp(c),D*48,wa*48,8);
+za=port_rattle_realloc(rp(c),D*56,wa*56,8);
 if(!(u8)(za.f0&1)){
 Q=1;
 R=4;
@@ -125824,13 +127424,13 @@ Ca=r8(c+8);}
 else{
 Ba=rp(c);
 Ca=D;}
-Da=Ba+Ca*48;
+Da=Ba+Ca*56;
 *Da=1;
 Da[1]=13;
-x4(Da+4,E);
-x4(Da+8,0);
-x4(Da+12,0);
-memcpy(Da+16,p,32);
+x8(Da+4,0);
+x4(Da+12,E);
+x4(Da+16,0);
+memcpy(Da+24,p+4,32);
 w8(c+8,Ca+1);
 Q=0;
 R=0;
@@ -125848,58 +127448,135 @@ return;
 }
 
 /* rust_parts::arguments::push_after */
-static void push_after_b93(u8* a,u8* b,u8* c,u8* d,u8 e,u8* f,u32 g)
+static void push_after_b93(u8* a,u8* b,u8* c,u8* d,u8 e,u32 f,u32 g,u8* h,u32 i)
+{
+u8 l[39];
+A16 u8 j[12],k[12],m[40],n[12];
+u32 o,p,t,u;
+u64 q,r,v,B;
+u8 s;
+s_64_64 w,x,y;
+u8 *z,*A,*C;
+z7(l);
+z12(n);
+z12(k);
+length_of_part_5fe(k,b,d,i);
+o=r4(k+4);
+if(*k==0){
+memcpy(l+7,h,32);
+*m=0;
+memcpy(m+1,l,39);
+z12(j);
+length_of_part_5fe(j,b,m,i);
+p=r4(j+4);
+if(*j==0){
+push_alone_829(n,c,e,f,g,p);
+if(*n==0){
+q=r8(c+8);
+if(r8(c+16)==q){
+r=umax64(q,8);
+if(r>(q^18446744073709551615u)){
+s=1;
+t=4;
+u=0;
+goto L1;}
+v=r+q;
+if(v>=0x24924924924924au){
+s=1;
+t=4;
+u=0;
+goto L1;}
+if(q==0){
+w=port_rattle_alloc(v*56,8);
+if(!(u8)(w.f0&1)){
+s=1;
+t=4;
+u=0;
+goto L1;}
+x=w;}
+else{
+y=port_rattle_realloc(rp(c),q*56,v*56,8);
+if(!(u8)(y.f0&1)){
+s=1;
+t=4;
+u=0;
+goto L1;}
+x=y;}
+z=(u8*)x.f1;
+wp(c,z);
+w8(c+16,v);
+A=z;
+B=r8(c+8);}
+else{
+A=rp(c);
+B=q;}
+C=A+B*56;
+*C=0;
+C[1]=0;
+x8(C+4,o);
+x4(C+12,0);
+x4(C+16,0);
+z32(C+24);
+w8(c+8,B+1);
+s=0;
+t=0;
+u=0;}
+else{
+s=1;
+t=n[4];
+u=r4(n+8);}}
+else{
+s=1;
+t=p&255;
+u=r4(j+8);}}
+else{
+s=1;
+t=o&255;
+u=r4(k+8);}
+L1:*a=s;
+x4(a+4,t);
+x4(a+8,u);
+return;
+}
+
+/* rust_parts::arguments::push_arguments */
+static void push_arguments_35b(u8* a,u8* b,u8* c,u32 d,u8* e,u64 f,u32 g)
 {
 u8 j[39];
-A16 u8 h[12],i[12],k[40],l[12];
-u32 m,n,r,s;
-u64 o,p,t,z;
-u8 q;
-s_64_64 u,v,w;
-u8 *x,*y,*A;
-z7(j);
-z12(l);
-z12(i);
-length_of_part_5fe(i,b,d,g);
-m=r4(i+4);
-if(*i==0){
-memcpy(j+7,f,32);
-*k=0;
-memcpy(k+1,j,39);
-z12(h);
-length_of_part_5fe(h,b,k,g);
-n=r4(h+4);
-if(*h==0){
-push_alone_829(l,c,e,n);
-if(*l==0){
-o=r8(c+8);
-if(r8(c+16)==o){
-p=umax64(o,8);
-if(p>(o^18446744073709551615u)){
-q=1;
-r=4;
-s=0;
+A16 u8 h[12],i[12],k[40],l[12],m[12],n[12],o[56];
+u64 p,q,t,z,C,G,H,V,W,X,Y,ea;
+u8 r,I,P;
+u32 s,B,D,E,K,L,M,N,O,Q,R,S,T,U;
+s_64_64 u,v,w,Z,aa,ba;
+u8 *x,*y,*A,*F,*J,*ca,*da,*fa;
+z12(m);
+z12(n);
+z56(o);
+if(f==0){
+p=r8(c+8);
+if(r8(c+16)==p){
+q=umax64(p,8);
+if(q>(p^18446744073709551615u)){
+r=1;
+s=4;
 goto L1;}
-t=p+o;
-if(t>=0x2aaaaaaaaaaaaabu){
-q=1;
-r=4;
-s=0;
+t=q+p;
+if(t>=0x24924924924924au){
+r=1;
+s=4;
 goto L1;}
-if(o==0){
-u=port_rattle_alloc(t*48,8);
+if(p==0){
+u=port_rattle_alloc(t*56,8);
 if(!(u8)(u.f0&1)){
-q=1;
-r=4;
-s=0;
+r=1;
+s=4;
 goto L1;}
 v=u;}
 else{
-w=port_rattle_realloc(rp(c),o*48,t*48,8);
+w=port_rattle_realloc(rp(c),p*56,t*56,8);
 if(!(u8)(w.f0&1)){
-q=1;
-r=4;
-s=0;
+r=1;
+s=4;
 goto L1;}
 v=w;}
 x=(u8*)v.f1;
@@ -125909,475 +127586,1716 @@ y=x;
 z=r8(c+8);}
 else{
 y=rp(c);
-z=o;}
-A=y+z*48;
+z=p;}
+A=y+z*56;
 *A=0;
 A[1]=0;
-x4(A+4,m);
-z40(A+8);
+z32(A+24);
+z16(A+4);
 w8(c+8,z+1);
-q=0;
 r=0;
-s=0;}
+s=0;
+L1:*m=r;
+w4(m+4,s);
+w4(m+8,0);}
 else{
-q=1;
-r=l[4];
-s=r4(l+8);}}
+if(*e==0)push_plain_fc3(m,b,c,e,f,g);
 else{
-q=1;
-r=n&255;
-s=r4(h+8);}}
-else{
-q=1;
-r=m&255;
-s=r4(i+8);}
-L1:*a=q;
-x4(a+4,r);
-x4(a+8,s);
-return;
-}
-
-/* rust_parts::arguments::push_arguments */
-static void push_arguments_35b(u8* a,u8* b,u8* c,u8* d,u64 e,u32 f)
-{
-u8 i[39];
-A16 u8 g[12],h[12],j[40],k[12],l[12],m[12],n[48];
-u64 o,p,s,y,B,F,G,U,V,W,ca;
-u8 q,H,O;
-u32 r,A,C,D,J,K,L,M,N,P,Q,R,S,T;
-s_64_64 t,u,v,X,Y,Z;
-u8 *w,*x,*z,*E,*I,*aa,*ba,*da;
 z12(l);
-z12(m);
-z48(n);
-if(e==0){
-o=r8(c+8);
-if(r8(c+16)==o){
-p=umax64(o,8);
-if(p>(o^18446744073709551615u)){
-q=1;
-r=4;
-goto L1;}
-s=p+o;
-if(s>=0x2aaaaaaaaaaaaabu){
-q=1;
-r=4;
-goto L1;}
-if(o==0){
-t=port_rattle_alloc(s*48,8);
-if(!(u8)(t.f0&1)){
-q=1;
-r=4;
-goto L1;}
-u=t;}
-else{
-v=port_rattle_realloc(rp(c),o*48,s*48,8);
-if(!(u8)(v.f0&1)){
-q=1;
-r=4;
-goto L1;}
-u=v;}
-w=(u8*)u.f1;
-wp(c,w);
-w8(c+16,s);
-x=w;
-y=r8(c+8);}
-else{
-x=rp(c);
-y=o;}
-z=x+y*48;
-*z=0;
-z[1]=0;
-z44(z+4);
-w8(c+8,y+1);
-q=0;
-r=0;
-L1:*l=q;
-w4(l+4,r);
-w4(l+8,0);}
-else{
-if(*d==0)push_plain_fc3(l,b,c,d,e,f);
-else{
-z12(k);
-length_of_part_5fe(k,b,d,f);
-A=r4(k+4);
-if(*k!=0){
-O=1;
-P=A&255;
-Q=r4(k+8);
+length_of_part_5fe(l,b,e,g);
+B=r4(l+4);
+if(*l!=0){
+P=1;
+Q=B&255;
+R=r4(l+8);
 goto L2;}
-B=e-1;
-z39(i);
-z40(j);
-if(B==0)C=0;
+C=f-1;
+z39(j);
+z40(k);
+if(C==0)D=0;
 else{
-D=0;
-E=d+40;
-F=B;
-L3:G=F-1;
-H=*E==0;
-I=E+(i64)(u64)(H?8:0);
-if(H){
-memcpy(i+7,I,32);
-*j=0;
-memcpy(j+1,i,39);
-z12(g);
-length_of_part_5fe(g,b,j,f);
-J=r4(g+4);
-if(*g==0){
-K=J;
-goto L4;}
-L=J;
-M=r4(g+8);}
-else{
+E=0;
+F=e+40;
+G=C;
+L3:H=G-1;
+I=*F==0;
+J=F+(i64)(u64)(I?8:0);
+if(I){
+memcpy(j+7,J,32);
+*k=0;
+memcpy(k+1,j,39);
 z12(h);
-length_of_part_5fe(h,b,I,f);
-N=r4(h+4);
+length_of_part_5fe(h,b,k,g);
+K=r4(h+4);
 if(*h==0){
-K=N;
+L=K;
 goto L4;}
-L=N;
-M=r4(h+8);}
-O=1;
-P=L&255;
-Q=M;
+M=K;
+N=r4(h+8);}
+else{
+z12(i);
+length_of_part_5fe(i,b,J,g);
+O=r4(i+4);
+if(*i==0){
+L=O;
+goto L4;}
+M=O;
+N=r4(i+8);}
+P=1;
+Q=M&255;
+R=N;
 goto L2;
-L4:R=K+D;
-if(G!=0){
-D=R;
-E=E+40;
-F=G;
+L4:S=L+E;
+if(H!=0){
+E=S;
+F=F+40;
+G=H;
 goto L3;}
-C=R;}
-push_listed_6df(m,b,c,d+40,B,f);
-if(*m!=0){
-O=1;
-P=m[4];
-Q=r4(m+8);
+D=S;}
+push_listed_6df(n,b,c,d,1,e+40,C,g);
+if(*n!=0){
+P=1;
+Q=n[4];
+R=r4(n+8);
 goto L2;}
-S=umin32(A,2);
-T=A-S;
-U=r8(c+8);
-if(r8(c+16)==U){
-V=umax64(U,8);
-if(V>(U^18446744073709551615u)){
-O=1;
-P=4;
-Q=0;
+T=umin32(B,2);
+U=B-T;
+w4(o+4,U);
+V=q8(o+4);
+W=r8(c+8);
+if(r8(c+16)==W){
+X=umax64(W,8);
+if(X>(W^18446744073709551615u)){
+P=1;
+Q=4;
+R=0;
 goto L2;}
-W=V+U;
-if(W>=0x2aaaaaaaaaaaaabu){
-O=1;
-P=4;
-Q=0;
+Y=X+W;
+if(Y>=0x24924924924924au){
+P=1;
+Q=4;
+R=0;
 goto L2;}
-if(U==0){
-X=port_rattle_alloc(W*48,8);
-if(!(u8)(X.f0&1)){
-O=1;
-P=4;
-Q=0;
-goto L2;}
-Y=X;}
-else{
-Z=port_rattle_realloc(rp(c),U*48,W*48,8);
+if(W==0){
+Z=port_rattle_alloc(Y*56,8);
 if(!(u8)(Z.f0&1)){
-O=1;
-P=4;
-Q=0;
+P=1;
+Q=4;
+R=0;
 goto L2;}
-Y=Z;}
-aa=(u8*)Y.f1;
-wp(c,aa);
-w8(c+16,W);
-ba=aa;
-ca=r8(c+8);}
+aa=Z;}
 else{
-ba=rp(c);
-ca=U;}
-da=ba+ca*48;
-*da=0;
-da[1]=0;
-x4(da+4,T);
-z40(da+8);
-w8(c+8,ca+1);
-w4(m+4,0);
-w4(m+8,0);
-*n=1;
-n[1]=5;
-w4(n+4,C+T);
-push_634(m,c,n);
-if(*m!=0){
-O=1;
-P=m[4];
-Q=r4(m+8);
+ba=port_rattle_realloc(rp(c),W*56,Y*56,8);
+if(!(u8)(ba.f0&1)){
+P=1;
+Q=4;
+R=0;
 goto L2;}
-*n=0;
-w4(n+4,S);
-push_634(l,c,n);}}
-O=*l;
-P=l[4];
-Q=r4(l+8);
-L2:*a=O;
-x4(a+4,P);
-x4(a+8,Q);
+aa=ba;}
+ca=(u8*)aa.f1;
+wp(c,ca);
+w8(c+16,Y);
+da=ca;
+ea=r8(c+8);}
+else{
+da=rp(c);
+ea=W;}
+fa=da+ea*56;
+*fa=0;
+fa[1]=0;
+x8(fa+4,V);
+x4(fa+12,0);
+x4(fa+16,0);
+z32(fa+24);
+w8(c+8,ea+1);
+w4(n+4,0);
+w4(n+8,0);
+*o=1;
+o[1]=5;
+w4(o+4,d);
+w4(o+8,0);
+w4(o+12,D+U);
+push_634(n,c,o);
+if(*n!=0){
+P=1;
+Q=n[4];
+R=r4(n+8);
+goto L2;}
+*o=0;
+w4(o+4,T);
+push_634(m,c,o);}}
+P=*m;
+Q=m[4];
+R=r4(m+8);
+L2:*a=P;
+x4(a+4,Q);
+x4(a+8,R);
 return;
 }
 
 /* rust_parts::arguments::push_listed */
-static void push_listed_6df(u8* a,u8* b,u8* c,u8* d,u64 e,u32 f)
+static void push_listed_6df(u8* a,u8* b,u8* c,u32 d,u32 e,u8* f,u64 g,u32 h)
 {
-A16 u8 g[32],h[12],i[12];
-u64 j,k,o,u,x,y,B,H;
-u8 l,m,w,z,A;
-u32 n;
-s_64_64 p,q,r,C,D,E;
-u8 *s,*t,*v,*F,*G,*I;
-z12(h);
-z12(i);
-if(e==0){
-j=r8(c+8);
-if(r8(c+16)==j){
-k=umax64(j,8);
-if(k>(j^18446744073709551615u)){
-l=1;
-m=4;
-n=0;
+A16 u8 i[36],j[12],k[12];
+u64 l,m,q,w,z,A,D,J;
+u8 n,o,y,B,C;
+u32 p;
+s_64_64 r,s,t,E,F,G;
+u8 *u,*v,*x,*H,*I,*K;
+z12(j);
+z12(k);
+if(g==0){
+l=r8(c+8);
+if(r8(c+16)==l){
+m=umax64(l,8);
+if(m>(l^18446744073709551615u)){
+n=1;
+o=4;
+p=0;
 goto L1;}
-o=k+j;
-if(o>=0x2aaaaaaaaaaaaabu){
-l=1;
-m=4;
-n=0;
+q=m+l;
+if(q>=0x24924924924924au){
+n=1;
+o=4;
+p=0;
 goto L1;}
-if(j==0){
-p=port_rattle_alloc(o*48,8);
-if(!(u8)(p.f0&1)){
-l=1;
-m=4;
-n=0;
-goto L1;}
-q=p;}
-else{
-r=port_rattle_realloc(rp(c),j*48,o*48,8);
+if(l==0){
+r=port_rattle_alloc(q*56,8);
 if(!(u8)(r.f0&1)){
-l=1;
-m=4;
-n=0;
+n=1;
+o=4;
+p=0;
 goto L1;}
-q=r;}
-s=(u8*)q.f1;
-wp(c,s);
-w8(c+16,o);
-t=s;
-u=r8(c+8);}
+s=r;}
 else{
-t=rp(c);
-u=j;}
-v=t+u*48;
-*v=0;
-v[1]=0;
-z44(v+4);
-w8(c+8,u+1);
-l=0;
-m=0;
-n=0;}
+t=port_rattle_realloc(rp(c),l*56,q*56,8);
+if(!(u8)(t.f0&1)){
+n=1;
+o=4;
+p=0;
+goto L1;}
+s=t;}
+u=(u8*)s.f1;
+wp(c,u);
+w8(c+16,q);
+v=u;
+w=r8(c+8);}
 else{
-w=*d==0;
-if(w){
-push_plain_fc3(i,b,c,d+40,e-1,f);
-if(*i==0){
-memcpy(g,d+(i64)(u64)(w?8:0),32);
-x=r8(c+8);
-if(r8(c+16)==x){
-y=umax64(x,8);
-if(y>(x^18446744073709551615u)){
-z=1;
-A=4;
-goto L2;}
-B=y+x;
-if(B>=0x2aaaaaaaaaaaaabu){
-z=1;
-A=4;
-goto L2;}
-if(x==0){
-C=port_rattle_alloc(B*48,8);
-if(!(u8)(C.f0&1)){
-z=1;
-A=4;
-goto L2;}
-D=C;}
+v=rp(c);
+w=l;}
+x=v+w*56;
+*x=0;
+x[1]=0;
+z32(x+24);
+z16(x+4);
+w8(c+8,w+1);
+n=0;
+o=0;
+p=0;}
 else{
-E=port_rattle_realloc(rp(c),x*48,B*48,8);
+y=*f==0;
+if(y){
+push_plain_fc3(k,b,c,f+40,g-1,h);
+if(*k==0){
+memcpy(i+4,f+(i64)(u64)(y?8:0),32);
+z=r8(c+8);
+if(r8(c+16)==z){
+A=umax64(z,8);
+if(A>(z^18446744073709551615u)){
+B=1;
+C=4;
+goto L2;}
+D=A+z;
+if(D>=0x24924924924924au){
+B=1;
+C=4;
+goto L2;}
+if(z==0){
+E=port_rattle_alloc(D*56,8);
 if(!(u8)(E.f0&1)){
-z=1;
-A=4;
+B=1;
+C=4;
 goto L2;}
-D=E;}
-F=(u8*)D.f1;
-wp(c,F);
-w8(c+16,B);
-G=F;
-H=r8(c+8);}
+F=E;}
 else{
-G=rp(c);
-H=x;}
-I=G+H*48;
-*I=2;
-I[1]=0;
-x4(I+4,0);
-x4(I+8,2);
-x4(I+12,0);
-memcpy(I+16,g,32);
-w8(c+8,H+1);
-z=0;
-A=0;
-L2:l=z;
-m=A;
-n=0;}
+G=port_rattle_realloc(rp(c),z*56,D*56,8);
+if(!(u8)(G.f0&1)){
+B=1;
+C=4;
+goto L2;}
+F=G;}
+H=(u8*)F.f1;
+wp(c,H);
+w8(c+16,D);
+I=H;
+J=r8(c+8);}
 else{
-l=1;
-m=i[4];
-n=r4(i+8);}}
+I=rp(c);
+J=z;}
+K=I+J*56;
+*K=2;
+K[1]=0;
+x8(K+4,0x200000000u);
+x4(K+12,d);
+x4(K+16,e);
+memcpy(K+24,i+4,32);
+w8(c+8,J+1);
+B=0;
+C=0;
+L2:n=B;
+o=C;
+p=0;}
 else{
-push_plain_fc3(h,b,c,d,e,f);
-l=*h;
-m=h[4];
-n=r4(h+8);}}
-L1:*a=l;
-x4(a+4,m);
-x4(a+8,n);
+n=1;
+o=k[4];
+p=r4(k+8);}}
+else{
+push_plain_fc3(j,b,c,f,g,h);
+n=*j;
+o=j[4];
+p=r4(j+8);}}
+L1:*a=n;
+x4(a+4,o);
+x4(a+8,p);
 return;
 }
 
-/* legacy_parts::parsing::parse */
-static void parse_4db(u8* a,u8* b,u64 c,u64 d,u64 e,u32 f)
+/* symbol_parts::marked::V0Marked::spelling_of */
+static void spelling_of_e02(u8* a,u8* b,u64 c,u8* d,u64 e)
 {
-A16 u8 g[12],h[12],i[24],j[12];
-u8 *k,*t,*u,*x,*A,*C;
-u64 l,v,z,B,E,H,J,K,M,O,P,R,T,U,W;
-u32 m,o,p,q,w,y,X;
-u8 n,s,D,F,G,I,L,N,Q,S,V,Y;
-s_64_64 r;
-z12(j);
-wp(i,(u8*)65536);
-z16(i+8);
-push_text_eb0(j,b,c,d,e,f,i);
-if(*j==0){
-k=rp(i);
-l=r8(i+8);
-z12(h);
-m=(u64)k;
-if(l==0)n=12;
-else n=*k==60?13:12;
-measured_ab2(h,b,c,d);
-o=r4(h);
-p=r4(h+4);
-q=r4(h+8);
-r=port_rattle_alloc(96,4);
-s=r.f0&1;
-if(q==0){
-if(s){
-t=(u8*)r.f1;
-*t=3;
-z7(t+1);
-x4(t+8,p);
-u=t;
+A16 u8 f[12],g[24],h[16],i[16],j[16],k[16],l[16],m[16];
+u8 n,p,t,Z,da,ga,oa,ra,za,Pa,Sa,Ua,Wa,qc;
+u8 *o,*r,*y,*E,*K,*N,*S,*ca,*fa,*ja,*qa,*ta,*xa,*Aa,*Ca,*Ga,*La,*Va,*Ya,*jb,*lb,*mb,*pb,*yb,*zb,*Ab,*Lb,*Mb,*Nb,*Qb,*Yb,*hc,*jc,*oc,*uc,*Hc,*Oc,*od,*qd,*Bd,*Dd,*Fd,*Ld,*Qd;
+u64 q,s,u,v,w,x,z,A,F,L,M,Q,R,T,U,V,W,X,aa,ba,ea,ha,ia,la,na,pa,sa,Ba,Fa,Ia,Ja,Ka,Na,Oa,Xa,bb,cb,db,eb,fb,kb,nb,tb,ub,Bb,Fb,Gb,Hb,Ob,Pb,Rb,Sb,Tb,Ub,Vb,Wb,Xb,Zb,ac,bc,cc,dc,ec,fc,gc,ic,kc,lc,mc,pc,rc,zc,Ac,Bc,Cc,Dc,Ec,Fc,Gc,Jc,Mc,Nc,Pc,Qc,Rc,Sc,Wc,Xc,Yc,Zc,ad,bd,cd,ed,fd,id,jd,kd,md,nd,pd,sd,td,vd,xd,Cd,Ed,Gd,Hd,Id,Jd,Kd,Md,Nd;
+s_64_64 B,C,D,wa,gb,hb,ib,vb,wb,xb,Ib,Jb,Kb,Tc,Uc,Vc,gd,hd,ld,yd,zd,Ad;
+u32 G,H,I,J,O,P,ma,ua,va,ya,Ea,Qa,Ra,Ta,Za,ab,ob,rb,sb,Db,Eb,sc,tc,vc,wc,xc,yc,Ic,Kc,Lc,dd,ud,Od,Pd,Sd,Td,Ud,Vd;
+u16 Y,ka,Da,Ha,Ma,qb,Cb,nc,Rd;
+z16(k);
+z16(l);
+z16(m);
+z16(h);
+z16(i);
+z16(j);
+if(e==0){
+wp(g,(u8*)65536);
+z16(g+8);
+n=1;
+o=g+8;
+p=1;
+q=0;
+r=(u8*)65536;
+s=0;
+goto L1;}
+t=1;
+u=e;
 v=1;
-w=p;
-goto L1;}}
+w=0;
+x=0;
+y=(u8*)65536;
+L2:if(t==1&&e>v){
+if(w==x){
+z=umax64(w,8);
+if(z<=(w^18446744073709551615u)){
+A=z+w;
+if(A<0x1000000000000000u){
+if(w==0){
+B=port_rattle_alloc(64,8);
+if(!(u8)(B.f0&1))goto L3;
+C=B;}
 else{
-if(s){
-x=(u8*)r.f1;
-*x=2;
-z7(x+1);
-x4(x+8,q-2);
-x[12]=n;
-z7(x+13);
-x4(x+20,o);
-x[24]=3;
-z3(x+25);
-x4(x+28,q);
-x4(x+32,p);
-u=x;
-v=3;
-w=q+p;
-goto L1;}}
-if(r8(i+16)!=0)port_rattle_dealloc(k);
-x4(a,1);
-x4(a+4,4);
-z56(a+8);
-goto L2;
-L1:y=c-e;
-if(y==0)z=v;
-else{
-A=u+v*12;
-*A=11;
-z3(A+1);
-x4(A+4,w+2);
-x4(A+8,y);
-z=v+1;}
-B=(u64)u;
-z12(g);
-measured_ab2(g,b,c,d);
-C=k+(i64)r4(g+8);
-if(r4(g+4)!=11){
-F=24;
-goto L3;}
-D=0;
-E=0;
-L4:G=D||*((u8*)t_079e+(i64)E)!=*(C+(i64)E);
-H=E+1;
-if(H!=8){
-D=G;
-E=H;
-goto L4;}
+D=port_rattle_realloc(y,w<<3,A<<3,8);
+if(!(u8)(D.f0&1))goto L4;
+C=D;}
+E=(u8*)C.f1;
+F=A;
+goto L5;}}
+if(w==0)goto L3;
+L4:port_rattle_dealloc(y);
+L3:z16(k);
+z16(l);
+z16(m);
+G=1;
+H=4;
 I=0;
 J=0;
-L5:K=J+3;
-L=I||*((u8*)t_079e+(i64)K)!=*(C+(i64)K);
-M=J+1;
-if(M!=8){
-I=L;
-J=M;
-goto L5;}
+K=0;
+L=0;
+M=0;
 N=0;
 O=0;
-L6:P=O+3;
-Q=N||*((u8*)t_079e+(i64)P)!=*(C+(i64)P);
-R=O+1;
-if(R!=8){
-N=Q;
-O=R;
-goto L6;}
+P=0;
+Q=0;
+R=0;
 S=0;
 T=0;
-L7:U=T+3;
-V=S||*((u8*)t_079e+(i64)U)!=*(C+(i64)U);
-W=T+1;
-if(W!=8){
-S=V;
-T=W;
-goto L7;}
-F=(((G|L)|Q)|V)?24:26;
-L3:x4(a,0);
-x4(a+4,0);
-x4(a+8,m);
-memcpy(a+12,i+4,20);
-a[32]=F;
-z7(a+33);
-x8(a+40,B);
-x8(a+48,z);
-x8(a+56,8);}
+U=0;
+V=0;
+W=0;
+goto L6;}
+E=y;
+F=w;
+L5:w8(E+(x<<3),v);
+X=x+1;
+Y=q2(d+(i64)(v<<4));
+if(Y<48){
+switch((u8)Y){
+case 6:Z=1;
+aa=v+2;
+break;
+case 7:Z=1;
+aa=v+1;
+break;
+case 0:case 1:case 2:case 3:case 4:case 5:case 8:case 9:case 10:case 11:case 12:case 13:case 14:case 15:case 16:case 17:case 18:case 19:case 20:case 21:case 22:case 23:case 24:case 25:case 26:case 27:case 28:case 29:case 30:case 31:case 32:case 33:case 34:case 35:case 36:case 37:case 38:case 39:case 40:case 41:case 42:case 43:case 44:case 45:case 46:case 47:Z=0;
+aa=0;
+break;
+default:goto L7;
+}}
 else{
-X=r4(j+8);
-Y=j[4];
-if(r8(i+16)!=0)port_rattle_dealloc(rp(i));
-x4(a,1);
-x4(a+4,Y);
-x4(a+8,X);
-z52(a+12);}
-L2:return;
+Z=0;
+aa=0;}
+ba=u-1;
+if(ba!=0){
+t=Z;
+u=ba;
+v=aa;
+w=F;
+x=X;
+y=E;
+goto L2;}
+wp(g,(u8*)65536);
+z16(g+8);
+ca=g+8;
+da=F==0;
+ea=e;
+fa=E;}
+else{
+ga=w==0;
+wp(g,(u8*)65536);
+z16(g+8);
+if(x==0){
+n=1;
+o=g+8;
+p=ga;
+q=0;
+r=y;
+s=0;
+goto L1;}
+ca=g+8;
+da=ga;
+ea=x;
+fa=y;}
+ha=0;
+L8:ia=r8(fa+(i64)(ha<<3));
+if(ia<e){
+ja=d+(i64)(ia<<4);
+ka=q2(ja);
+if((ka<48)&((ka&255)==6)){
+la=ia+1;
+if(la<e){
+ma=q4(d+(i64)(la<<4)+4);
+if(c<=ma){
+oa=1;
+goto L9;}
+na=ma;}
+else na=0;
+oa=*(b+(i64)na)<97;
+L9:pa=usub64(q4(ja+12),1);
+if(pa<e){
+qa=d+(i64)(pa<<4);
+ra=q4(qa+4)<q4(qa+8);}
+else ra=0;
+if(oa||ra){
+sa=ia+2;
+if(sa<e){
+ta=d+(i64)(sa<<4);
+ua=q4(ta+4);
+va=q4(ta+8);}
+else{
+ua=0;
+va=0;}
+wa=port_rattle_alloc(96,4);
+if(!(u8)(wa.f0&1)){
+za=da;
+Aa=fa;
+goto L10;}
+xa=(u8*)wa.f1;
+wp(g,xa);
+w8(g+16,8);
+*xa=2;
+z3(xa+1);
+x4(xa+4,ua);
+x4(xa+8,umax32(ua,va));
+ya=umax32(va,q4(ja+8));
+xa[12]=3;
+z3(xa+13);
+x4(xa+16,va);
+x4(xa+20,ya);
+w8(ca,2);
+goto L11;}}}
+Ba=ha+1;
+if(Ba!=ea){
+ha=Ba;
+goto L8;}
+L11:n=0;
+o=ca;
+p=da;
+q=ea;
+r=fa;
+s=r8(fa+(i64)(ea<<3)-8);
+L1:z12(f);
+if(s<e){
+Ca=d+(i64)(s<<4);
+Da=q2(Ca);
+if(Da<48){
+switch((u8)Da){
+case 2:Ea=q4(Ca+4);
+push_part_226(f,g,Ea,umax32(Ea,q4(Ca+8)));
+break;
+case 3:Fa=s+1;
+if(Fa<e){
+Ga=d+(i64)(Fa<<4);
+Ha=q2(Ga);
+if((Ha>47)|((Ha&255)!=11))Ia=Fa;
+else Ia=q4(Ga+12);}
+else Ia=Fa;
+if(Ia<e)Ja=q4(d+(i64)(Ia<<4)+12);
+else Ja=0;
+push_impl_of_type_75c(f,g,d,e,s,Ja);
+break;
+case 4:Ka=s+1;
+if(Ka<e){
+La=d+(i64)(Ka<<4);
+Ma=q2(La);
+if((Ma>47)|((Ma&255)!=11))Na=Ka;
+else Na=q4(La+12);}
+else Na=Ka;
+if(Na<e)Oa=q4(d+(i64)(Na<<4)+12);
+else Oa=0;
+push_impl_of_trait_ec7(f,g,d,e,s,Oa);
+break;
+case 5:push_impl_of_trait_ec7(f,g,d,e,s,s+1);
+break;
+case 0:case 1:case 6:case 7:case 8:case 9:case 10:case 11:case 12:case 13:case 14:case 15:case 16:case 17:case 18:case 19:case 20:case 21:case 22:case 23:case 24:case 25:case 26:case 27:case 28:case 29:case 30:case 31:case 32:case 33:case 34:case 35:case 36:case 37:case 38:case 39:case 40:case 41:case 42:case 43:case 44:case 45:case 46:case 47:break;
+default:goto L7;
+}}
+if(*f!=0){
+Pa=f[4];
+Qa=r4(f+8);
+if(r8(g+16)!=0)port_rattle_dealloc(rp(g));
+z16(h);
+z16(i);
+z16(j);
+if(p){
+Ra=Qa;
+Sa=Pa;
+goto L12;}
+Ta=Qa;
+Ua=Pa;
+Va=r;
+goto L13;}}
+Wa=e>1;
+if(Wa)Xa=q4(d+28);
+else Xa=0;
+if(Xa<e){
+Ya=d+(i64)(Xa<<4);
+if(Ya[2]!=1){
+Cb=q2(Ya);
+if(!((Cb<48)&((Cb&255)==8)))goto L14;
+Db=q4(Ya+4);
+Eb=umax32(Db,q4(Ya+8));
+Fb=r8(o);
+if(r8(g+16)==Fb){
+Gb=umax64(Fb,8);
+if(Gb>(Fb^18446744073709551615u)){
+eb=Fb;
+goto L15;}
+Hb=Gb+Fb;
+if(Hb>=0xaaaaaaaaaaaaaabu){
+eb=Fb;
+goto L15;}
+if(Fb==0){
+Ib=port_rattle_alloc(Hb*12,4);
+if(!(u8)(Ib.f0&1))goto L16;
+Jb=Ib;}
+else{
+Kb=port_rattle_realloc(rp(g),Fb*12,Hb*12,4);
+if(!(u8)(Kb.f0&1))goto L17;
+Jb=Kb;}
+Lb=(u8*)Jb.f1;
+wp(g,Lb);
+w8(g+16,Hb);
+Mb=Lb;}
+else Mb=rp(g);
+Nb=Mb+Fb*12;
+*Nb=11;
+z3(Nb+1);
+x4(Nb+4,Db);
+x4(Nb+8,Eb);
+Bb=Fb+1;
+goto L18;}
+Za=q4(Ya+4);
+ab=umax32(Za,q4(Ya+8));
+bb=r8(o);
+cb=r8(g+16);
+if(cb==bb){
+db=umax64(bb,8);
+if(db>(bb^18446744073709551615u)){
+eb=bb;
+goto L15;}
+fb=db+bb;
+if(fb>=0xaaaaaaaaaaaaaabu){
+eb=bb;
+goto L15;}
+if(bb==0){
+gb=port_rattle_alloc(fb*12,4);
+if(!(u8)(gb.f0&1))goto L16;
+hb=gb;}
+else{
+ib=port_rattle_realloc(rp(g),bb*12,fb*12,4);
+if(!(u8)(ib.f0&1))goto L17;
+hb=ib;}
+jb=(u8*)hb.f1;
+wp(g,jb);
+w8(g+16,fb);
+kb=fb;
+lb=jb;}
+else{
+kb=cb;
+lb=rp(g);}
+mb=lb+bb*12;
+*mb=17;
+z3(mb+1);
+x4(mb+4,Za);
+x4(mb+8,ab);
+nb=bb+1;
+w8(o,nb);
+ob=q4(Ya+12);
+if(e<=ob)goto L14;
+pb=d+(i64)((u64)ob<<4);
+qb=q2(pb);
+if(!((qb<48)&((qb&255)==8)))goto L14;
+rb=q4(pb+4);
+sb=umax32(rb,q4(pb+8));
+if(kb==nb){
+tb=umax64(kb,8);
+if(tb>0xfffffffffffffffeu-bb){
+eb=kb;
+goto L15;}
+ub=tb+kb;
+if(ub>=0xaaaaaaaaaaaaaabu){
+eb=kb;
+goto L15;}
+if(kb==0){
+vb=port_rattle_alloc(ub*12,4);
+if(!(u8)(vb.f0&1))goto L16;
+wb=vb;}
+else{
+xb=port_rattle_realloc(lb,kb*12,ub*12,4);
+if(!(u8)(xb.f0&1))goto L17;
+wb=xb;}
+yb=(u8*)wb.f1;
+wp(g,yb);
+w8(g+16,ub);
+zb=yb;}
+else zb=lb;
+Ab=zb+nb*12;
+*Ab=11;
+z3(Ab+1);
+x4(Ab+4,rb);
+x4(Ab+8,sb);
+Bb=bb+2;
+goto L18;
+L16:z16(h);
+z16(i);
+z16(j);
+if(p){
+Ra=0;
+Sa=4;
+goto L12;}
+Ta=0;
+Ua=4;
+Va=r;
+goto L13;
+L18:w8(o,Bb);
+goto L14;
+L15:if(eb==0){
+za=p;
+Aa=r;
+goto L10;}
+L17:port_rattle_dealloc(rp(g));
+z16(h);
+z16(i);
+z16(j);
+if(p){
+Ra=0;
+Sa=4;
+goto L12;}
+Ta=0;
+Ua=4;
+Va=r;
+goto L13;}
+L14:Ob=q8(o);
+Pb=r8(g+16);
+Qb=(u8*)r8(g);
+Rb=(u64)(u8*)65536;
+if(n){
+Sb=Rb;
+Tb=0;
+Ub=0;
+Vb=Rb;
+Wb=0;
+Xb=0;
+Yb=(u8*)65536;
+Zb=0;
+ac=0;
+goto L19;}
+bc=0;
+cc=0;
+dc=0;
+ec=Rb;
+fc=0;
+gc=0;
+hc=(u8*)65536;
+ic=0;
+jc=(u8*)65536;
+L20:kc=bc;
+L21:lc=r8(r+(i64)(kc<<3));
+if(lc<e){
+mc=lc<<4;
+nc=q2(d+(i64)mc);
+if((nc<48)&((nc&255)==7)){
+oc=d+(i64)mc;
+pc=lc+1;
+qc=pc<e;
+if(qc)rc=q4(d+(i64)(pc<<4)+12);
+else rc=0;
+sc=q4(oc+8);
+tc=q4(oc+12);
+if(rc<tc){
+if(rc<e){
+uc=d+(i64)(rc<<4);
+vc=q4(uc+4);
+wc=vc;
+xc=umax32(vc,q4(uc+8));}
+else{
+wc=0;
+xc=0;}}
+else{
+wc=sc;
+xc=sc;}
+yc=dc;
+zc=((u64)xc<<32)|wc;
+if(qc)Ac=q4(d+(i64)(pc<<4)+12);
+else Ac=0;
+Bc=ec;
+Cc=dc;
+Dc=cc;
+Ec=Ac;
+Fc=e;
+L22:if(Ec<tc){
+Gc=Ec+1;
+if(Gc<e){
+Hc=d+(i64)(Gc<<4);
+Ic=q4(Hc+8);
+Jc=q4(Hc+12);}
+else{
+Ic=0;
+Jc=0;}
+if(Ec<e)Kc=q4(d+(i64)(Ec<<4)+4);
+else Kc=0;
+Lc=umax32(Kc,Ic);
+if(Dc==Cc){
+Mc=umax64(Cc,8);
+if(Mc>(Cc^18446744073709551615u)){
+Nc=fc;
+Oc=jc;
+Pc=ic;
+Qc=Bc;
+Rc=Cc;
+goto L23;}
+Sc=Mc+Cc;
+if(Sc>=0x1000000000000000u){
+Nc=fc;
+Oc=jc;
+Pc=ic;
+Qc=Bc;
+Rc=Cc;
+goto L23;}
+if(Cc==0){
+Tc=port_rattle_alloc(64,4);
+if(!(u8)(Tc.f0&1)){
+Nc=fc;
+Oc=jc;
+Pc=ic;
+Qc=Bc;
+Rc=0;
+goto L23;}
+Uc=Tc;}
+else{
+Vc=port_rattle_realloc((u8*)Bc,Cc<<3,Sc<<3,4);
+if(!(u8)(Vc.f0&1)){
+Nc=fc;
+Oc=jc;
+Pc=ic;
+Qc=Bc;
+Rc=Cc;
+goto L23;}
+Uc=Vc;}
+Wc=Uc.f1;
+Xc=Sc;}
+else{
+Wc=Bc;
+Xc=Dc;}
+x8((u8*)Wc+(Cc<<3),((u64)Lc<<32)|Kc);
+Yc=Cc+1;
+Zc=Fc-1;
+if(Zc!=0){
+Bc=Wc;
+Cc=Yc;
+Dc=Xc;
+Ec=Jc;
+Fc=Zc;
+goto L22;}
+ad=Wc;
+bd=Yc;
+cd=Xc;}
+else{
+ad=Bc;
+bd=Cc;
+cd=Dc;}
+if(bd<0x100000000u){
+dd=bd;
+if(ic==gc){
+ed=umax64(gc,8);
+if(ed>(gc^18446744073709551615u)){
+Nc=fc;
+Oc=jc;
+Pc=gc;
+Qc=ad;
+Rc=cd;
+goto L23;}
+fd=ed+gc;
+if(fd>=0x1000000000000000u){
+Nc=fc;
+Oc=jc;
+Pc=gc;
+Qc=ad;
+Rc=cd;
+goto L23;}
+if(gc==0){
+gd=port_rattle_alloc(64,4);
+if(!(u8)(gd.f0&1)){
+id=cd;
+jd=ad;
+kd=fc;
+goto L24;}
+hd=gd;}
+else{
+ld=port_rattle_realloc(jc,gc<<3,fd<<3,4);
+if(!(u8)(ld.f0&1)){
+md=cd;
+nd=ad;
+od=jc;
+pd=fc;
+goto L25;}
+hd=ld;}
+qd=(u8*)hd.f1;
+sd=fd;}
+else{
+qd=jc;
+sd=ic;}
+x8(qd+(gc<<3),zc);
+td=gc+1;
+ud=dd-yc;
+if(fc==gc){
+vd=umax64(fc,8);
+if(vd>(fc^18446744073709551615u)){
+Nc=fc;
+Oc=qd;
+Pc=sd;
+Qc=ad;
+Rc=cd;
+goto L23;}
+xd=vd+fc;
+if(xd>=0x800000000000000u){
+Nc=fc;
+Oc=qd;
+Pc=sd;
+Qc=ad;
+Rc=cd;
+goto L23;}
+if(fc==0){
+yd=port_rattle_alloc(128,4);
+if(!(u8)(yd.f0&1)){
+Nc=0;
+Oc=qd;
+Pc=sd;
+Qc=ad;
+Rc=cd;
+goto L23;}
+zd=yd;}
+else{
+Ad=port_rattle_realloc(hc,fc<<4,xd<<4,4);
+if(!(u8)(Ad.f0&1)){
+Nc=fc;
+Oc=qd;
+Pc=sd;
+Qc=ad;
+Rc=cd;
+goto L23;}
+zd=Ad;}
+Bd=(u8*)zd.f1;
+Cd=xd;}
+else{
+Bd=hc;
+Cd=fc;}
+Dd=Bd+(gc<<4);
+x8(Dd,zc);
+x4(Dd+8,yc);
+x4(Dd+12,ud);
+Ed=kc+1;
+if(Ed>=q){
+Fd=qd;
+Gd=cd;
+Hd=bd;
+Id=ad;
+Jd=Cd;
+Kd=td;
+Ld=Bd;
+Md=sd;
+goto L26;}
+bc=Ed;
+cc=cd;
+dc=bd;
+ec=ad;
+fc=Cd;
+gc=td;
+hc=Bd;
+ic=sd;
+jc=qd;
+goto L20;}
+Nc=fc;
+Oc=jc;
+Pc=ic;
+Qc=ad;
+Rc=cd;
+L23:if(Pc==0){
+id=Rc;
+jd=Qc;
+kd=Nc;
+goto L24;}
+md=Rc;
+nd=Qc;
+od=Oc;
+pd=Nc;
+L25:port_rattle_dealloc(od);
+id=md;
+jd=nd;
+kd=pd;
+L24:if(kd!=0)port_rattle_dealloc(hc);
+if(id!=0)port_rattle_dealloc((u8*)jd);
+z16(h);
+z16(i);
+z16(j);
+if(Pb!=0)port_rattle_dealloc(Qb);
+if(!p)port_rattle_dealloc(r);
+memcpy(k,h,16);
+memcpy(l,i,16);
+memcpy(m,j,16);
+G=1;
+H=4;
+I=0;
+J=0;
+K=0;
+L=0;
+M=0;
+N=0;
+O=0;
+P=0;
+Q=0;
+R=0;
+S=0;
+T=0;
+U=0;
+V=0;
+W=0;
+goto L6;}}
+Nd=kc+1;
+if(Nd<q){
+kc=Nd;
+goto L21;}
+Fd=jc;
+Gd=cc;
+Hd=dc;
+Id=ec;
+Jd=fc;
+Kd=gc;
+Ld=hc;
+Md=ic;
+L26:Sb=(u64)Fd;
+Tb=Gd;
+Ub=Hd;
+Vb=Id;
+Wb=Jd;
+Xb=Kd;
+Yb=Ld;
+Zb=Md;
+ac=r8(r+(i64)(q<<3)-8);
+L19:Od=Sb;
+Pd=Sb>>32;
+if(ac<e){
+Qd=d+(i64)(ac<<4);
+Rd=q2(Qd);
+if((Rd<48)&((Rd&255)==1)){
+Sd=q4(Qd+4);
+Td=Sd;
+Ud=umax32(Sd,q4(Qd+8));
+goto L27;}}
+if(Wa){
+Vd=q4(d+20);
+Td=Vd;
+Ud=umax32(Vd,q4(d+24));}
+else{
+Td=0;
+Ud=0;}
+L27:z16(h);
+z16(i);
+z16(j);
+if(!p)port_rattle_dealloc(r);
+memcpy(k,h,16);
+memcpy(l,i,16);
+memcpy(m,j,16);
+G=0;
+H=0;
+I=Td;
+J=Ud;
+K=Qb;
+L=Ob;
+M=Pb;
+N=(u8*)65536;
+O=Od;
+P=Pd;
+Q=Xb;
+R=Zb;
+S=Yb;
+T=Wb;
+U=Vb;
+V=Ub;
+W=Tb;
+goto L6;
+L10:z16(h);
+z16(i);
+z16(j);
+if(za){
+Ra=0;
+Sa=4;
+goto L12;}
+Ta=0;
+Ua=4;
+Va=Aa;
+L13:port_rattle_dealloc(Va);
+Ra=Ta;
+Sa=Ua;
+L12:memcpy(k,h,16);
+memcpy(l,i,16);
+memcpy(m,j,16);
+G=1;
+H=Sa;
+I=Ra;
+J=0;
+K=0;
+L=0;
+M=0;
+N=0;
+O=0;
+P=0;
+Q=0;
+R=0;
+S=0;
+T=0;
+U=0;
+V=0;
+W=0;
+L6:x4(a,G);
+x4(a+4,H);
+x4(a+8,I);
+x4(a+12,J);
+xp(a+16,K);
+x8(a+24,L);
+x8(a+32,M);
+xp(a+40,N);
+memcpy(a+48,k,16);
+xp(a+64,N);
+memcpy(a+72,l,16);
+x4(a+88,O);
+x4(a+92,P);
+x8(a+96,Q);
+x8(a+104,R);
+xp(a+112,S);
+x8(a+120,Q);
+x8(a+128,T);
+xp(a+136,N);
+memcpy(a+144,m,16);
+x8(a+160,U);
+x8(a+168,V);
+x8(a+176,W);
+return;
+L7:NEVER;
+}
+
+/* rust_spelled::parts::push_part */
+static void push_part_226(u8* a,u8* b,u32 c,u32 d)
+{
+u64 e,f,i,o;
+u8 g;
+u32 h;
+s_64_64 j,k,l;
+u8 *m,*n,*p;
+e=r8(b+8);
+if(r8(b+16)==e){
+f=umax64(e,8);
+if(f>(e^18446744073709551615u)){
+g=1;
+h=4;
+goto L1;}
+i=f+e;
+if(i>=0xaaaaaaaaaaaaaabu){
+g=1;
+h=4;
+goto L1;}
+if(e==0){
+j=port_rattle_alloc(i*12,4);
+if(!(u8)(j.f0&1)){
+g=1;
+h=4;
+goto L1;}
+k=j;}
+else{
+l=port_rattle_realloc(rp(b),e*12,i*12,4);
+if(!(u8)(l.f0&1)){
+g=1;
+h=4;
+goto L1;}
+k=l;}
+m=(u8*)k.f1;
+wp(b,m);
+w8(b+16,i);
+n=m;
+o=r8(b+8);}
+else{
+n=rp(b);
+o=e;}
+p=n+o*12;
+*p=12;
+z3(p+1);
+x4(p+4,c);
+x4(p+8,d);
+w8(b+8,o+1);
+g=0;
+h=0;
+L1:*a=g;
+x4(a+4,h);
+x4(a+8,0);
+return;
+}
+
+/* rust_spelled::root::push_impl_of_type */
+static void push_impl_of_type_75c(u8* a,u8* b,u8* c,u64 d,u64 e,u64 f)
+{
+u8 *g,*s,*t,*v,*x,*G,*H,*J;
+u32 h,i,j,n,y,z,A;
+u64 k,l,o,u,w,B,C,I;
+u8 m;
+s_64_64 p,q,r,D,E,F;
+if(e<d){
+g=c+(i64)(e<<4);
+h=q4(g+4);
+i=h;
+j=umax32(h,q4(g+8));}
+else{
+i=0;
+j=0;}
+k=r8(b+8);
+if(r8(b+16)==k){
+l=umax64(k,8);
+if(l>(k^18446744073709551615u)){
+m=1;
+n=4;
+goto L1;}
+o=l+k;
+if(o>=0xaaaaaaaaaaaaaabu){
+m=1;
+n=4;
+goto L1;}
+if(k==0){
+p=port_rattle_alloc(o*12,4);
+if(!(u8)(p.f0&1)){
+m=1;
+n=4;
+goto L1;}
+q=p;}
+else{
+r=port_rattle_realloc(rp(b),k*12,o*12,4);
+if(!(u8)(r.f0&1)){
+m=1;
+n=4;
+goto L1;}
+q=r;}
+s=(u8*)q.f1;
+wp(b,s);
+w8(b+16,o);
+t=s;
+u=r8(b+8);}
+else{
+t=rp(b);
+u=k;}
+v=t+u*12;
+*v=13;
+z3(v+1);
+x4(v+4,i);
+x4(v+8,j);
+w=u+1;
+w8(b+8,w);
+if(f<d){
+x=c+(i64)(f<<4);
+y=q4(x+4);
+z=y;
+A=umax32(y,q4(x+8));}
+else{
+z=0;
+A=0;}
+if(r8(b+16)==w){
+B=umax64(w,8);
+if(B>0xfffffffffffffffeu-u){
+m=1;
+n=4;
+goto L1;}
+C=B+w;
+if(C>=0xaaaaaaaaaaaaaabu){
+m=1;
+n=4;
+goto L1;}
+if(w==0){
+D=port_rattle_alloc(C*12,4);
+if(!(u8)(D.f0&1)){
+m=1;
+n=4;
+goto L1;}
+E=D;}
+else{
+F=port_rattle_realloc(rp(b),w*12,C*12,4);
+if(!(u8)(F.f0&1)){
+m=1;
+n=4;
+goto L1;}
+E=F;}
+G=(u8*)E.f1;
+wp(b,G);
+w8(b+16,C);
+H=G;
+I=r8(b+8);}
+else{
+H=rp(b);
+I=w;}
+J=H+I*12;
+*J=14;
+z3(J+1);
+x4(J+4,z);
+x4(J+8,A);
+w8(b+8,I+1);
+m=0;
+n=0;
+L1:*a=m;
+x4(a+4,n);
+x4(a+8,0);
+return;
+}
+
+/* rust_spelled::root::push_impl_of_trait */
+static void push_impl_of_trait_ec7(u8* a,u8* b,u8* c,u64 d,u64 e,u64 f)
+{
+A16 u8 g[12];
+u64 h,m,n,r,x;
+u8 *i,*v,*w,*y;
+u32 j,k,l,p,q;
+u8 o;
+s_64_64 s,t,u;
+z12(g);
+push_impl_of_type_75c(g,b,c,d,e,f);
+if(*g==0){
+if(f<d)h=q4(c+(i64)(f<<4)+12);
+else h=0;
+if(h<d){
+i=c+(i64)(h<<4);
+j=q4(i+4);
+k=j;
+l=umax32(j,q4(i+8));}
+else{
+k=0;
+l=0;}
+m=r8(b+8);
+if(r8(b+16)==m){
+n=umax64(m,8);
+if(n>(m^18446744073709551615u)){
+o=1;
+p=4;
+q=0;
+goto L1;}
+r=n+m;
+if(r>=0xaaaaaaaaaaaaaabu){
+o=1;
+p=4;
+q=0;
+goto L1;}
+if(m==0){
+s=port_rattle_alloc(r*12,4);
+if(!(u8)(s.f0&1)){
+o=1;
+p=4;
+q=0;
+goto L1;}
+t=s;}
+else{
+u=port_rattle_realloc(rp(b),m*12,r*12,4);
+if(!(u8)(u.f0&1)){
+o=1;
+p=4;
+q=0;
+goto L1;}
+t=u;}
+v=(u8*)t.f1;
+wp(b,v);
+w8(b+16,r);
+w=v;
+x=r8(b+8);}
+else{
+w=rp(b);
+x=m;}
+y=w+x*12;
+*y=15;
+z3(y+1);
+x4(y+4,k);
+x4(y+8,l);
+w8(b+8,x+1);
+o=0;
+p=0;
+q=0;}
+else{
+o=1;
+p=g[4];
+q=r4(g+8);}
+L1:*a=o;
+x4(a+4,p);
+x4(a+8,q);
+return;
+}
+
+/* symbol_parts::marked::V0Marked::kind_of */
+static u8 kind_of_54a(u8* a)
+{
+A16 u8 b[64],c[64],d[64];
+u32 e,f,h;
+s_8_32 g;
+u8 i;
+e=r4(a+72);
+z64(d);
+view_at_138(d,a,e);
+f=r4(d+48);
+L1:g=path_sort_162(a,f);
+h=g.f1;
+switch(g.f0){
+case 0:i=30;
+goto L2;
+case 3:i=29;
+goto L2;
+case 2:break;
+case 1:z64(c);
+view_at_138(c,a,f);
+if(!(r8(c+8)>96&&r4(c+28)==r4(c+24))){
+z64(b);
+view_at_138(b,a,f);
+switch(r8(b+8)){
+case 67:i=26;
+goto L2;
+case 83:i=27;
+goto L2;
+case 118:i=24;
+goto L2;
+case 116:i=25;
+goto L2;
+default:i=28;
+goto L2;
+}}
+break;
+default:NEVER;
+}
+f=h;
+goto L1;
+L2:return i;
+}
+
+/* symbol_parts::legacy::parse_path */
+static void parse_path_8bf(u8* a,u8* b,u64 c,u64 d,u64 e,u32 f)
+{
+u8 w[7];
+A16 u8 g[12],h[16],i[16],j[16],k[12],l[20],m[20],n[24],o[176],p[12],q[16],r[16],s[16],t[32],u[20],v[20];
+u8 *x,*G,*H,*K,*N,*S,*ya,*Ba,*Ha,*Ia,*Ma,*Pa;
+u64 y,I,R,V,W,X,Z,aa,ba,ca,da,ea,ga,ia,ka,la,na,oa,pa,qa,ra,ta,ua,va,Ca,Da,Ja,Ka,Ra,Ua,Wa,Xa,Za,bb,cb,eb,gb,hb,jb;
+u32 z,B,C,D,J,M,P,Q,T,ha,za,Aa,Fa,Ga,La,Oa,kb,lb,mb,ob,qb;
+u8 A,F,L,O,U,Y,fa,ja,ma,sa,xa,Ea,Na,Qa,Sa,Ta,Va,Ya,ab,db,fb,ib,nb,pb,rb;
+s_64_64 E,wa;
+z20(u);
+z20(v);
+z7(w);
+z20(l);
+z20(m);
+zero_all(o,176);
+z12(p);
+z16(q);
+z16(r);
+z16(s);
+z32(t);
+wp(n,(u8*)65536);
+z16(n+8);
+push_text_eb0(p,b,c,d,e,f,n);
+if(*p==0){
+x=rp(n);
+y=r8(n+8);
+z12(k);
+z=(u64)x;
+if(y==0)A=12;
+else A=*x==60?13:12;
+measured_ab2(k,b,c,d);
+B=r4(k);
+C=r4(k+4);
+D=r4(k+8);
+E=port_rattle_alloc(160,4);
+F=E.f0&1;
+if(D==0){
+if(F){
+G=(u8*)E.f1;
+*G=3;
+z15(G+1);
+x4(G+16,C);
+H=G;
+I=1;
+J=C;
+goto L1;}}
+else{
+if(F){
+K=(u8*)E.f1;
+*K=2;
+z15(K+1);
+x4(K+16,D-2);
+K[20]=A;
+z15(K+21);
+x4(K+36,B);
+K[40]=3;
+z11(K+41);
+x4(K+52,D);
+x4(K+56,C);
+H=K;
+I=3;
+J=D+C;
+goto L1;}}
+if(r8(n+16)==0){
+L=4;
+M=0;
+goto L2;}
+N=x;
+O=4;
+P=0;
+goto L3;
+L1:Q=c-e;
+if(Q==0)R=I;
+else{
+S=H+I*20;
+*S=11;
+z11(S+1);
+x4(S+12,J+2);
+x4(S+16,Q);
+R=I+1;}
+if(c==3)T=3;
+else{
+U=b[3];
+if((u8)(U-49)<9){
+V=umin64(c-3,9);
+W=V+3;
+X=umax64(V,1)+2;
+Y=U-48;
+Z=0;
+aa=3;
+L4:ba=Z*10+Y;
+if(aa==X){
+ca=W;
+da=V;}
+else{
+ea=aa+1;
+fa=*(b+ea)-48;
+if(fa<10){
+Y=fa;
+Z=ba;
+aa=ea;
+goto L4;}
+ca=ea;
+da=aa-2;}
+if((ca<c)&(da==9)){
+if((u8)(*(b+ca)-48)<10||c-ca<ba){
+T=3;
+goto L5;}}
+else{
+if(c-ca<ba){
+T=3;
+goto L5;}}
+T=ca+ba;}
+else T=3;}
+L5:if(d<=3){
+ha=3;
+goto L6;}
+ga=3;
+L7:if(c==ga)ia=0;
+else{
+ja=*(b+ga);
+if((u8)(ja-49)<9){
+ka=umin64(c-ga,9);
+la=ka+ga;
+ma=ja-48;
+na=0;
+oa=ga;
+L8:pa=na*10+ma;
+qa=oa+1;
+ra=qa-ga;
+if(ra<ka){
+sa=*(b+qa)-48;
+if(sa<10){
+ma=sa;
+na=pa;
+oa=qa;
+goto L8;}
+ta=qa;
+ua=ra;}
+else{
+ta=la;
+ua=ka;}
+if((ta<c)&(ua==9)){
+if((u8)(*(b+ta)-48)<10||c-ta<pa){
+ia=0;
+goto L9;}}
+else{
+if(c-ta<pa){
+ia=0;
+goto L9;}}
+ia=pa-ga+ta;}
+else ia=0;}
+L9:va=ia+ga;
+if(va<d){
+ga=va;
+goto L7;}
+ha=ga;
+L6:wa=port_rattle_alloc(96,4);
+xa=wa.f0&1;
+if(xa){
+ya=(u8*)wa.f1;
+*ya=2;
+z3(ya+1);
+x4(ya+4,3);
+x4(ya+8,ha);
+ya[12]=12;
+z3(ya+13);
+x4(ya+16,3);
+x4(ya+20,T);
+ya[24]=13;
+z3(ya+25);
+x4(ya+28,3);
+x4(ya+32,T);
+za=d;
+ya[36]=3;
+z3(ya+37);
+x4(ya+40,ha);
+x4(ya+44,za);
+Aa=e;
+ya[48]=11;
+z3(ya+49);
+x4(ya+52,Aa);
+x4(ya+56,c);
+ya[60]=16;
+z3(ya+61);
+x4(ya+64,za);
+x4(ya+68,Aa-1);
+Ba=ya;
+Ca=6;
+Da=8;
+Ea=0;
+Fa=3;
+Ga=za;
+Ha=(u8*)65536;}
+else{
+Ba=0;
+Ca=0;
+Da=0;
+Ea=4;
+Fa=0;
+Ga=0;
+Ha=0;}
+z16(h);
+z16(i);
+z16(j);
+if(xa){
+z16(i);
+Ia=Ba;
+Ja=Ca;
+Ka=Da;
+La=Ga;
+Ma=Ha;
+Na=0;}
+else{
+Ia=0;
+Ja=0;
+Ka=0;
+La=0;
+Ma=0;
+Na=Ea;}
+memcpy(q,h,16);
+memcpy(r,i,16);
+memcpy(s,j,16);
+if(xa){
+w4(o,Fa);
+w4(o+4,La);
+wp(o+8,Ia);
+w8(o+16,Ja);
+w8(o+24,Ka);
+wp(o+32,Ma);
+z16(o+40);
+wp(o+56,Ma);
+memcpy(o+64,q,16);
+wp(o+80,Ma);
+z16(o+88);
+wp(o+104,Ma);
+memcpy(o+112,r,16);
+wp(o+128,Ma);
+z16(o+136);
+wp(o+152,Ma);
+memcpy(o+160,s,16);
+with_bytes_5d7(t,H,R,o,y);
+Oa=r4(t+8);
+if(*t==0){
+z12(g);
+measured_ab2(g,b,c,d);
+Pa=x+(i64)r4(g+8);
+if(r4(g+4)!=11){
+Sa=24;
+goto L10;}
+Qa=0;
+Ra=0;
+L11:Ta=Qa||*((u8*)t_079e+(i64)Ra)!=*(Pa+(i64)Ra);
+Ua=Ra+1;
+if(Ua!=8){
+Qa=Ta;
+Ra=Ua;
+goto L11;}
+Va=0;
+Wa=0;
+L12:Xa=Wa+3;
+Ya=Va||*((u8*)t_079e+(i64)Xa)!=*(Pa+(i64)Xa);
+Za=Wa+1;
+if(Za!=8){
+Va=Ya;
+Wa=Za;
+goto L12;}
+ab=0;
+bb=0;
+L13:cb=bb+3;
+db=ab||*((u8*)t_079e+(i64)cb)!=*(Pa+(i64)cb);
+eb=bb+1;
+if(eb!=8){
+ab=db;
+bb=eb;
+goto L13;}
+fb=0;
+gb=0;
+L14:hb=gb+3;
+ib=fb||*((u8*)t_079e+(i64)hb)!=*(Pa+(i64)hb);
+jb=gb+1;
+if(jb!=8){
+fb=ib;
+gb=jb;
+goto L14;}
+Sa=(((Ta|Ya)|db)|ib)?24:26;
+L10:memcpy(l,n+4,20);
+memcpy(m,t+12,20);
+if(Ka!=0)port_rattle_dealloc(Ia);
+if(r8(o+48)!=0)port_rattle_dealloc(Ma);
+if(r8(o+72)!=0)port_rattle_dealloc(rp(o+56));
+if(r8(o+96)!=0)port_rattle_dealloc(rp(o+80));
+if(r8(o+120)!=0)port_rattle_dealloc(rp(o+104));
+if(r8(o+144)!=0)port_rattle_dealloc(rp(o+128));
+if(r8(o+168)!=0)port_rattle_dealloc(rp(o+152));
+port_rattle_dealloc(H);
+memcpy(u,l,20);
+memcpy(v,m,20);
+memcpy(a+12,u,20);
+memcpy(a+33,w,7);
+memcpy(a+44,v,20);
+kb=z;
+lb=0;
+mb=0;
+nb=Sa;
+ob=Oa;
+goto L15;}
+pb=t[4];
+z20(l);
+z20(m);
+if(Ka!=0)port_rattle_dealloc(Ia);
+if(r8(o+48)!=0)port_rattle_dealloc(Ma);
+if(r8(o+72)!=0)port_rattle_dealloc(rp(o+56));
+if(r8(o+96)!=0)port_rattle_dealloc(rp(o+80));
+if(r8(o+120)!=0)port_rattle_dealloc(rp(o+104));
+if(r8(o+144)!=0)port_rattle_dealloc(rp(o+128));
+if(r8(o+168)!=0)port_rattle_dealloc(rp(o+152));
+port_rattle_dealloc(H);
+if(r8(n+16)==0){
+L=pb;
+M=Oa;
+goto L2;}
+N=rp(n);
+O=pb;
+P=Oa;}
+else{
+port_rattle_dealloc(H);
+if(r8(n+16)==0){
+L=Na;
+M=Fa;
+goto L2;}
+N=x;
+O=Na;
+P=Fa;}}
+else{
+qb=r4(p+8);
+rb=p[4];
+if(r8(n+16)==0){
+L=rb;
+M=qb;
+goto L2;}
+N=rp(n);
+O=rb;
+P=qb;}
+L3:port_rattle_dealloc(N);
+L=O;
+M=P;
+L2:z20(a+12);
+z7(a+33);
+z20(a+44);
+kb=M;
+lb=1;
+mb=L;
+nb=0;
+ob=0;
+L15:x4(a,lb);
+x4(a+4,mb);
+x4(a+8,kb);
+a[32]=nb;
+x4(a+40,ob);
+return;
 }
 
 /* legacy_parts::names::measured */
@@ -126595,14 +129513,169 @@ e=E;
 L1:return e;
 }
 
+/* symbol_parts::behind::parsed_behind */
+static void parsed_behind_fcd(u8* a,u32 b,u8* c)
+{
+u8 e[31],f[31],g[31],h[31];
+A16 u8 d[24];
+u8 *i,*m,*q,*s,*w,*A,*N,*O,*Q;
+u64 j,k,n,o,p,r,t,u,v,x,y,z,B,H,I,K,L,P,R;
+u8 l,C,J,M;
+u32 D,E,F,G;
+i=qp(c);
+j=q8(c+8);
+k=q8(c+16);
+l=c[24];
+m=qp(c+32);
+n=q8(c+40);
+o=q8(c+48);
+z31(g);
+z31(h);
+z31(f);
+z31(e);
+wp(d,(u8*)65536);
+z16(d+8);
+if(n==0){
+p=0;
+q=(u8*)65536;
+r=0;
+goto L1;}
+s=(u8*)65536;
+t=0;
+u=0;
+v=n;
+w=m;
+x=0;
+L2:y=x;
+z=v;
+A=w;
+L3:B=z-1;
+C=*A;
+D=r4(A+4);
+E=r4(A+8);
+F=uadd32(b,r4(A+12));
+G=uadd32(b,r4(A+16));
+if(y==t){
+wp(d,s);
+w8(d+8,t);
+w8(d+16,u);
+if(B<u-t){
+H=u;
+I=t;}
+else{
+J=grow_amortized_efd(d,z);
+K=r8(d+8);
+L=r8(d+16);
+if(J||L!=K){
+H=L;
+I=K;}
+else{
+M=grow_amortized_efd(d,1);
+if(!M){
+if(r8(d+16)!=0)port_rattle_dealloc(rp(d));
+if(o!=0)port_rattle_dealloc(m);
+if(k!=0)port_rattle_dealloc(i);
+*a=1;
+z56(a+8);
+goto L4;}
+H=r8(d+16);
+I=r8(d+8);}}
+N=rp(d);
+O=N+I*20;
+*O=C;
+z3(O+1);
+x4(O+4,D);
+x4(O+8,E);
+x4(O+12,F);
+x4(O+16,G);
+P=I+1;
+z16(d+8);
+if(B!=0){
+s=N;
+t=P==0?0:H;
+u=H;
+v=B;
+w=A+20;
+x=P;
+goto L2;}
+p=H;
+q=N;
+r=P;}
+else{
+Q=s+y*20;
+*Q=C;
+z3(Q+1);
+x4(Q+4,D);
+x4(Q+8,E);
+x4(Q+12,F);
+x4(Q+16,G);
+R=y+1;
+if(B!=0){
+y=R;
+z=B;
+A=A+20;
+goto L3;}
+p=u;
+q=s;
+r=R;}
+L1:wp(d,q);
+w8(d+8,r);
+w8(d+16,p);
+memcpy(e+7,d,24);
+memcpy(f+7,e+7,24);
+memcpy(g+7,f+7,24);
+memcpy(h+7,g+7,24);
+if(o!=0)port_rattle_dealloc(m);
+*a=0;
+xp(a+8,i);
+x8(a+16,j);
+x8(a+24,k);
+a[32]=l;
+memcpy(a+33,h,31);
+L4:return;
+}
+
+/* std_alloc::vec::Vec::grow_amortized */
+static COLD u8 grow_amortized_efd(u8* a,u64 b)
+{
+u64 c,e,f,g,h;
+u8 d;
+s_64_64 i,j,k;
+c=r8(a+8);
+if(b>(c^18446744073709551615u))d=0;
+else{
+e=r8(a+16);
+f=umax64(c+b,4);
+g=umax64(f,e<<1);
+h=e<0x4000000000000000u?g:f;
+if(h<0x666666666666667u){
+if(e==0){
+i=port_rattle_alloc(g*20,4);
+if(!(u8)(i.f0&1)){
+d=0;
+goto L1;}
+j=i;}
+else{
+k=port_rattle_realloc(rp(a),c*20,h*20,4);
+if(!(u8)(k.f0&1)){
+d=0;
+goto L1;}
+j=k;}
+wp(a,(u8*)j.f1);
+w8(a+16,h);
+d=1;}
+else d=0;}
+L1:return d;
+}
+
 /* sym_calls::parts::write_both */
 static void write_both_976(u8* a,u8* b,u32 c,u8* d,u64 e,u8* f,u64 g,u8* h)
 {
 A16 u8 i[24];
-u64 j,k,n,p,r,s,t,u,w,x,z,E,F,G,H,J,N,P,R,S;
-u32 l,A,B,C,K;
-u8 *m,*o,*q,*v,*y,*L,*M,*O,*Q;
-u8 D,I;
+u64 j,k,n,p,r,s,t,u,w,x,z,G,H,I,J,L,P,R,T,U;
+u32 l,A,B,C,D,E,M;
+u8 *m,*o,*q,*v,*y,*N,*O,*Q,*S;
+u8 F,K;
 j=r8(b+8);
 k=r8(b+40);
 l=(u32)b[24]+1;
@@ -126628,87 +129701,93 @@ L3:z=x-1;
 A=(u32)*y+1;
 B=r4(y+4);
 C=r4(y+8);
+D=r4(y+12);
+E=r4(y+16);
 if(w==r){
 wp(i,q);
 w8(i+8,r);
 w8(i+16,s);
 if(x>s-r){
-D=grow_amortized_53f(i,x);
-E=r8(i+8);
-F=r8(i+16);
-if(D||F!=E){
-G=F;
-H=E;}
+F=grow_amortized_efd(i,x);
+G=r8(i+8);
+H=r8(i+16);
+if(F||H!=G){
+I=H;
+J=G;}
 else{
-I=grow_amortized_53f(i,1);
-if(!I){
+K=grow_amortized_efd(i,1);
+if(!K){
 if(r8(i+16)!=0)port_rattle_dealloc(rp(i));
-J=0;
-K=5;
+L=0;
+M=5;
 goto L4;}
-G=r8(i+16);
-H=r8(i+8);}}
+I=r8(i+16);
+J=r8(i+8);}}
 else{
-G=s;
-H=r;}
-L=rp(i);
-M=L+H*12;
-x4(M,A);
-x4(M+4,B);
-x4(M+8,C);
-N=H+1;
-z16(i+8);
-if(z!=0){
-q=L;
-r=N==0?0:G;
-s=G;
-t=N;
-u=z;
-v=y+12;
-goto L2;}
-n=G;
-o=L;
-p=N;}
-else{
-O=q+w*12;
+I=s;
+J=r;}
+N=rp(i);
+O=N+J*20;
 x4(O,A);
 x4(O+4,B);
 x4(O+8,C);
-P=w+1;
+x4(O+12,D);
+x4(O+16,E);
+P=J+1;
+z16(i+8);
 if(z!=0){
-w=P;
+q=N;
+r=P==0?0:I;
+s=I;
+t=P;
+u=z;
+v=y+20;
+goto L2;}
+n=I;
+o=N;
+p=P;}
+else{
+Q=q+w*20;
+x4(Q,A);
+x4(Q+4,B);
+x4(Q+8,C);
+x4(Q+12,D);
+x4(Q+16,E);
+R=w+1;
+if(z!=0){
+w=R;
 x=z;
-y=y+12;
+y=y+20;
 goto L3;}
 n=s;
 o=q;
-p=P;}
-L1:Q=rp(b);
-R=r8(b+8);
-if((u64)d-(u64)Q<R)copy_bits_4f4(Q,d,R);
-else memmove(d,Q,R);
-S=p*12;
-if((u64)f-(u64)o<S)copy_bits_128(o,f,p);
-else memmove(f,o,S);
+p=R;}
+L1:S=rp(b);
+T=r8(b+8);
+if((u64)d-(u64)S<T)copy_bits_4f4(S,d,T);
+else memmove(d,S,T);
+U=p*20;
+if((u64)f-(u64)o<U)copy_bits_128(o,f,p);
+else memmove(f,o,U);
 x8(h,k);
 x4(h+8,l);
 x4(h+12,c);
 if(n==0){
-J=j;
-K=0;}
+L=j;
+M=0;}
 else{
 port_rattle_dealloc(o);
-J=j;
-K=0;}}
+L=j;
+M=0;}}
 else{
 x8(h,k);
 x4(h+8,l);
 x4(h+12,c);
-J=j;
-K=6;}
-L4:x8(a,J);
+L=j;
+M=6;}
+L4:x8(a,L);
 x4(a+8,0);
-x4(a+12,K);
+x4(a+12,M);
 return;
 }
 
@@ -126716,12 +129795,12 @@ return;
 static COLD void copy_bits_128(u8* a,u8* b,u64 c)
 {
 u64 d,e,f,g;
-d=c*12;
+d=c*20;
 if((u64)b-(u64)a<d){
 if(c==0)goto L1;
 e=0;
-L2:f=e*12;
-memmove(b+f,a+f,12);
+L2:f=e*20;
+memmove(b+f,a+f,20);
 g=e+1;
 if(g!=c){
 e=g;
@@ -126731,231 +129810,357 @@ L1:return;
 }
 
 /* symbol_parts::languages::LanguagesParser::parse */
-static void parse_be6(u8* a,u8* b,u8 c,u8* d,u64 e)
+static void parse_be6(u8* a,u8* b,u8 c,u32 d,u8* e,u64 f)
 {
-u8 r[7];
-A16 u8 f[32],g[176],h[12],i[12],j[72],k[96],l[16],m[24],n[72],o[88],p[84],q[20],s[64];
-u32 t,G,J,aa,oa,xa,Da,Ga,Ia;
-u8 u,C,H,I,Z,ba,ca,ha,ia,pa,wa,Ea,Fa,Ha,La,Ma;
-u64 v,x,y,A,B,D,E,L,N,P,R,T,V,W,X,ea,ga,la,na,ra,ta,va,Aa,Ca,Ka;
-u8 *w,*z,*F,*M,*O,*Q,*S,*U,*Y,*da,*fa,*ja,*ka,*ma,*qa,*sa,*ua,*ya,*za,*Ba,*Ja;
-s_64_64 K;
-z64(s);
-t=r4(b);
-u=b[4];
+u8 x[7];
+A16 u8 g[184],h[12],i[72],j[32],k[176],l[12],m[12],n[72],o[96],p[16],q[24],r[72],s[88],t[176],u[84],v[172],w[32],y[64],z[52],A[64],B[56];
+u32 C,P,S,ma,wa,ya,Aa,Ha,Va,eb,kb,nb,pb,sb,vb;
+u8 D,L,Q,R,ua,va,xa,za,Ba,Ca,Da,Ga,Pa,Wa,db,lb,mb,ob,tb,ub;
+u64 E,G,H,J,K,M,N,U,W,Y,aa,ca,ea,fa,ga,ia,ja,ka,oa,qa,ra,ta,Ja,Ma,Oa,Sa,Ua,Ya,ab,cb,hb,jb,rb;
+u8 *F,*I,*O,*V,*X,*Z,*ba,*da,*ha,*la,*na,*pa,*sa,*Ea,*Fa,*Ia,*Ka,*La,*Na,*Qa,*Ra,*Ta,*Xa,*Za,*bb,*fb,*gb,*ib,*qb;
+s_64_64 T;
+z52(z);
+z64(A);
+z56(B);
+C=r4(b);
+D=b[4];
+z64(y);
 if(c==0){
-z88(o);
-z84(p);
-z20(q);
-z7(r);
-z96(k);
-z72(n);
-wp(j+8,(u8*)65536);
-w8(j+24,0);
-wp(j+32,(u8*)65536);
-z24(j+48);
-z12(i);
-w4(j,0);
-w4(j+4,0);
-w8(j+16,0);
-w8(j+40,0);
-w8(j+56,0);
-w4(j+64,0);
-run_f89(i,j,d,e,1);
-if(*i==0){
-v=r8(j);
-w=rp(j+8);
-x=r8(j+16);
-y=r8(j+24);
-z=rp(j+32);
-A=r8(j+40);
-B=r8(j+48);
-memcpy(l,j+56,16);
-wp(m,(u8*)65536);
-z16(m+8);
-C=grow_amortized_2b6(m,e);
-if(C){
-D=r8(m+8);
-E=D+e;
-F=rp(m)+(i64)D;
-if((u64)F-(u64)d<e)copy_bits_4f4(d,F,e);
-else memmove(F,d,e);
-w8(m+8,E);
-w8(n,v);
-wp(n+8,w);
-w8(n+16,x);
-w8(n+24,y);
-wp(n+32,z);
-w8(n+40,A);
-w8(n+48,B);
-memcpy(n+56,l,16);
-link_bb1(k,m,n);
-G=r4(k+8);
-H=*k;
-I=k[4];
-memcpy(p,k+12,84);
-if(H!=0){
-Da=G;
-Ea=I;
+z88(s);
+zero_all(t,176);
+z84(u);
+zero_all(v,172);
+z32(w);
+z7(x);
+z96(o);
+z72(r);
+wp(n+8,(u8*)65536);
+w8(n+24,0);
+wp(n+32,(u8*)65536);
+z24(n+48);
+z12(m);
+w4(n,0);
+w4(n+4,0);
+w8(n+16,0);
+w8(n+40,0);
+w8(n+56,0);
+w4(n+64,0);
+run_f89(m,n,e,f,1);
+if(*m==0){
+E=r8(n);
+F=rp(n+8);
+G=r8(n+16);
+H=r8(n+24);
+I=rp(n+32);
+J=r8(n+40);
+K=r8(n+48);
+memcpy(p,n+56,16);
+wp(q,(u8*)65536);
+z16(q+8);
+L=grow_amortized_2b6(q,f);
+if(L){
+M=r8(q+8);
+N=M+f;
+O=rp(q)+(i64)M;
+if((u64)O-(u64)e<f)copy_bits_4f4(e,O,f);
+else memmove(O,e,f);
+w8(q+8,N);
+w8(r,E);
+wp(r+8,F);
+w8(r+16,G);
+w8(r+24,H);
+wp(r+32,I);
+w8(r+40,J);
+w8(r+48,K);
+memcpy(r+56,p,16);
+link_bb1(o,q,r);
+P=r4(o+8);
+Q=*o;
+R=o[4];
+memcpy(u,o+12,84);
+if(Q!=0){
+kb=P;
+lb=R;
 goto L1;}
-w4(o,G);
-memcpy(o+4,p,84);
-J=r4(o+72);
-z12(h);
-K=port_rattle_alloc(288,4);
-if((u8)(K.f0&1)){
-L=K.f1;
-M=(u8*)L;
-x4(M,0);
-x4(M+4,J);
-x4(M+8,9);
-x4(M+12,0);
-x4(M+16,0);
-x4(M+20,0);
-M[24]=u;
-z11(M+25);
-w8(g,L);
-w8(g+8,1);
-w8(g+16,8);
-wp(g+24,(u8*)65536);
-z16(g+32);
-wp(g+48,(u8*)65536);
-z16(g+56);
-wp(g+72,(u8*)65536);
-z16(g+80);
-wp(g+96,(u8*)65536);
-z16(g+104);
-wp(g+120,(u8*)65536);
-z20(g+128);
-w4(g+148,t);
-z24(g+152);
-run_610(h,g,o);
-if(*h==0){
-N=r8(g+24);
-O=rp(g+48);
-P=r8(g+64);
-Q=rp(g+72);
-R=r8(g+88);
-S=rp(g+96);
-T=r8(g+112);
-U=rp(g+120);
-V=r8(g+136);
-W=r8(g+32);
-X=r8(g+40);
-if(r8(g+16)!=0)port_rattle_dealloc(rp(g));
-if(P!=0)port_rattle_dealloc(O);
-if(R!=0)port_rattle_dealloc(Q);
-if(T!=0)port_rattle_dealloc(S);
-if(V!=0)port_rattle_dealloc(U);
-Y=(u8*)N;
-z32(f);
-parts_as_fdd(f,o,t,u);
-Z=f[4];
-aa=r4(f+8);
-ba=*f;
-memcpy(q,f+12,20);
-if(ba!=0){
-ja=(u8*)(u64)aa;
-if(X!=0)port_rattle_dealloc(Y);
-ka=rp(o+24);
-la=r8(o+40);
-ma=rp(o+48);
-na=r8(o+64);
-if(r8(o+16)!=0)port_rattle_dealloc(rp(o));
-if(la!=0)port_rattle_dealloc(ka);
-if(na!=0)port_rattle_dealloc(ma);
-wp(s+8,ja);
-z48(s+16);
-ha=Z;
-ia=1;
-goto L2;}
-ca=kind_of_a3d(o);
-da=rp(o+24);
-ea=r8(o+40);
-fa=rp(o+48);
-ga=r8(o+64);
-if(r8(o+16)!=0)port_rattle_dealloc(rp(o));
+w4(s,P);
+memcpy(s+4,u,84);
+S=r4(s+72);
+z12(l);
+T=port_rattle_alloc(288,4);
+if((u8)(T.f0&1)){
+U=T.f1;
+V=(u8*)U;
+x4(V,0);
+x4(V+4,S);
+x4(V+8,9);
+x4(V+12,0);
+x4(V+16,0);
+x4(V+20,0);
+V[24]=D;
+z11(V+25);
+w8(k,U);
+w8(k+8,1);
+w8(k+16,8);
+wp(k+24,(u8*)65536);
+z16(k+32);
+wp(k+48,(u8*)65536);
+z16(k+56);
+wp(k+72,(u8*)65536);
+z16(k+80);
+wp(k+96,(u8*)65536);
+z16(k+104);
+wp(k+120,(u8*)65536);
+z20(k+128);
+w4(k+148,C);
+z24(k+152);
+run_610(l,k,s);
+if(*l==0){
+W=r8(k+24);
+X=rp(k+48);
+Y=r8(k+64);
+Z=rp(k+72);
+aa=r8(k+88);
+ba=rp(k+96);
+ca=r8(k+112);
+da=rp(k+120);
+ea=r8(k+136);
+fa=r8(k+32);
+ga=r8(k+40);
+if(r8(k+16)!=0)port_rattle_dealloc(rp(k));
+if(Y!=0)port_rattle_dealloc(X);
+if(aa!=0)port_rattle_dealloc(Z);
+if(ca!=0)port_rattle_dealloc(ba);
 if(ea!=0)port_rattle_dealloc(da);
-if(ga!=0)port_rattle_dealloc(fa);
-wp(s+8,Y);
-w8(s+16,W);
-w8(s+24,X);
-s[32]=ca;
-memcpy(s+33,r,7);
-w4(s+40,aa);
-memcpy(s+44,q,20);
-ha=0;
-ia=0;
+ha=(u8*)W;
+z32(j);
+stretches_as_7c3(j,s,C,D);
+ia=r8(j+8);
+if(*j!=0){
+Pa=j[4];
+Qa=(u8*)(ia&4294967295u);
+if(ga!=0)port_rattle_dealloc(ha);
+Ra=rp(s+24);
+Sa=r8(s+40);
+Ta=rp(s+48);
+Ua=r8(s+64);
+if(r8(s+16)!=0)port_rattle_dealloc(rp(s));
+if(Sa!=0)port_rattle_dealloc(Ra);
+if(Ua!=0)port_rattle_dealloc(Ta);
+wp(y+8,Qa);
+z48(y+16);
+Aa=ia;
+Ba=Pa;
+Ca=1;
 goto L2;}
-oa=r4(h+8);
-pa=h[4];
-if(r8(g+16)!=0)port_rattle_dealloc(rp(g));
-if(r8(g+40)!=0)port_rattle_dealloc(rp(g+24));
-qa=rp(g+72);
-ra=r8(g+88);
-sa=rp(g+96);
-ta=r8(g+112);
-ua=rp(g+120);
-va=r8(g+136);
-if(r8(g+64)!=0)port_rattle_dealloc(rp(g+48));
-if(ra!=0)port_rattle_dealloc(qa);
-if(ta!=0)port_rattle_dealloc(sa);
-if(va==0){
-wa=pa;
-xa=oa;}
-else{
-port_rattle_dealloc(ua);
-wa=pa;
-xa=oa;}}
-else{
-wa=4;
-xa=0;}
-ya=(u8*)(u64)xa;
-za=rp(o+24);
-Aa=r8(o+40);
-Ba=rp(o+48);
-Ca=r8(o+64);
-if(r8(o+16)!=0)port_rattle_dealloc(rp(o));
-if(Aa!=0)port_rattle_dealloc(za);
-if(Ca!=0)port_rattle_dealloc(Ba);
-wp(s+8,ya);
-z48(s+16);
-ha=wa;
-ia=1;
+ja=r8(j+16);
+ka=r8(j+24);
+la=(u8*)ia;
+wp(i+8,(u8*)65536);
+w8(i+24,0);
+wp(i+32,(u8*)65536);
+z24(i+48);
+z12(h);
+w4(i,0);
+w4(i+4,0);
+w8(i+16,0);
+w8(i+40,0);
+w8(i+56,0);
+w4(i+64,0);
+run_f89(h,i,e,f,1);
+if(*h!=0){
+Ga=h[4];
+Ha=r4(h+8);
+Ia=rp(i+32);
+Ja=r8(i+48);
+if(r8(i+24)!=0)port_rattle_dealloc(rp(i+8));
+if(Ja!=0)port_rattle_dealloc(Ia);
+Ka=(u8*)(u64)Ha;
+if(ka!=0)port_rattle_dealloc(la);
+if(ga!=0)port_rattle_dealloc(ha);
+La=rp(s+24);
+Ma=r8(s+40);
+Na=rp(s+48);
+Oa=r8(s+64);
+if(r8(s+16)!=0)port_rattle_dealloc(rp(s));
+if(Ma!=0)port_rattle_dealloc(La);
+if(Oa!=0)port_rattle_dealloc(Na);
+wp(y+8,Ka);
+z48(y+16);
+Aa=Ha;
+Ba=Ga;
+Ca=1;
 goto L2;}
-if(r8(m+16)!=0)port_rattle_dealloc(rp(m));
-if(y!=0)port_rattle_dealloc(w);
-if(B==0){
-Fa=4;
-Ga=0;}
+ma=fa;
+na=rp(i+8);
+oa=r8(i+24);
+pa=rp(i+32);
+qa=r8(i+40);
+ra=r8(i+48);
+zero_all(g,184);
+sa=la;
+ta=ja;
+L3:ua=ta!=0;
+if(ua){
+if(*sa!=1){
+sa=sa+20;
+ta=ta-1;
+goto L3;}}
+spelling_0e2(g,pa,qa,ua);
+va=g[4];
+wa=r4(g+8);
+xa=*g;
+memcpy(v,g+12,172);
+if(xa!=0){
+Fa=(u8*)(u64)wa;
+if(oa!=0)port_rattle_dealloc(na);
+if(ra!=0)port_rattle_dealloc(pa);
+if(ka!=0)port_rattle_dealloc(la);
+if(ga!=0)port_rattle_dealloc(ha);
+drop_be4(s);
+wp(y+8,Fa);
+z48(y+16);
+Aa=wa;
+Ba=va;
+Ca=1;
+goto L2;}
+w4(t,wa);
+memcpy(t+4,v,172);
+with_bytes_5d7(w,la,ja,t,ma);
+ya=r4(w+8);
+if(*w!=0){
+Da=w[4];
+Ea=(u8*)(u64)ya;
+if(r8(t+24)!=0)port_rattle_dealloc(rp(t+8));
+if(r8(t+48)!=0)port_rattle_dealloc(rp(t+32));
+if(r8(t+72)!=0)port_rattle_dealloc(rp(t+56));
+if(r8(t+96)!=0)port_rattle_dealloc(rp(t+80));
+if(r8(t+120)!=0)port_rattle_dealloc(rp(t+104));
+if(r8(t+144)!=0)port_rattle_dealloc(rp(t+128));
+if(r8(t+168)!=0)port_rattle_dealloc(rp(t+152));
+if(oa!=0)port_rattle_dealloc(na);
+if(ra!=0)port_rattle_dealloc(pa);
+if(ka!=0)port_rattle_dealloc(la);
+if(ga!=0)port_rattle_dealloc(ha);
+drop_be4(s);
+wp(y+8,Ea);
+z48(y+16);
+Aa=ya;
+Ba=Da;
+Ca=1;
+goto L2;}
+za=kind_of_a3d(s);
+if(r8(t+24)!=0)port_rattle_dealloc(rp(t+8));
+if(r8(t+48)!=0)port_rattle_dealloc(rp(t+32));
+if(r8(t+72)!=0)port_rattle_dealloc(rp(t+56));
+if(r8(t+96)!=0)port_rattle_dealloc(rp(t+80));
+if(r8(t+120)!=0)port_rattle_dealloc(rp(t+104));
+if(r8(t+144)!=0)port_rattle_dealloc(rp(t+128));
+if(r8(t+168)!=0)port_rattle_dealloc(rp(t+152));
+if(oa!=0)port_rattle_dealloc(na);
+if(ra!=0)port_rattle_dealloc(pa);
+if(ka!=0)port_rattle_dealloc(la);
+drop_be4(s);
+wp(y+8,ha);
+w8(y+16,fa);
+w8(y+24,ga);
+y[32]=za;
+memcpy(y+33,x,7);
+w4(y+40,ya);
+memcpy(y+44,w+12,20);
+Aa=W;
+Ba=0;
+Ca=0;
+goto L2;}
+Va=r4(l+8);
+Wa=l[4];
+if(r8(k+16)!=0)port_rattle_dealloc(rp(k));
+if(r8(k+40)!=0)port_rattle_dealloc(rp(k+24));
+Xa=rp(k+72);
+Ya=r8(k+88);
+Za=rp(k+96);
+ab=r8(k+112);
+bb=rp(k+120);
+cb=r8(k+136);
+if(r8(k+64)!=0)port_rattle_dealloc(rp(k+48));
+if(Ya!=0)port_rattle_dealloc(Xa);
+if(ab!=0)port_rattle_dealloc(Za);
+if(cb==0){
+db=Wa;
+eb=Va;}
 else{
-port_rattle_dealloc(z);
-Fa=4;
-Ga=0;}}
+port_rattle_dealloc(bb);
+db=Wa;
+eb=Va;}}
 else{
-Ha=i[4];
-Ia=r4(i+8);
-Ja=rp(j+32);
-Ka=r8(j+48);
-if(r8(j+24)!=0)port_rattle_dealloc(rp(j+8));
-if(Ka!=0)port_rattle_dealloc(Ja);
-Fa=Ha;
-Ga=Ia;}
-Da=Ga;
-Ea=Fa;
-L1:wp(s+8,(u8*)(u64)Da);
-z48(s+16);
-ha=Ea;
-ia=1;
-L2:La=ha;
-Ma=ia;}
+db=4;
+eb=0;}
+fb=(u8*)(u64)eb;
+gb=rp(s+24);
+hb=r8(s+40);
+ib=rp(s+48);
+jb=r8(s+64);
+if(r8(s+16)!=0)port_rattle_dealloc(rp(s));
+if(hb!=0)port_rattle_dealloc(gb);
+if(jb!=0)port_rattle_dealloc(ib);
+wp(y+8,fb);
+z48(y+16);
+Aa=eb;
+Ba=db;
+Ca=1;
+goto L2;}
+if(r8(q+16)!=0)port_rattle_dealloc(rp(q));
+if(H!=0)port_rattle_dealloc(F);
+if(K==0){
+mb=4;
+nb=0;}
 else{
-parse_as_add(s,d,e,t,u);
-La=s[4];
-Ma=*s;}
-x4(a,Ma);
-x4(a+4,La);
-memcpy(a+8,s+8,56);
+port_rattle_dealloc(I);
+mb=4;
+nb=0;}}
+else{
+ob=m[4];
+pb=r4(m+8);
+qb=rp(n+32);
+rb=r8(n+48);
+if(r8(n+24)!=0)port_rattle_dealloc(rp(n+8));
+if(rb!=0)port_rattle_dealloc(qb);
+mb=ob;
+nb=pb;}
+kb=nb;
+lb=mb;
+L1:wp(y+8,(u8*)(u64)kb);
+z48(y+16);
+Aa=kb;
+Ba=lb;
+Ca=1;
+L2:sb=Aa;
+tb=Ba;
+ub=Ca;}
+else{
+parse_as_add(y,e,f,C,D);
+sb=r4(y+8);
+tb=y[4];
+ub=*y;}
+memcpy(z,y+12,52);
+if(ub==0){
+w4(B,sb);
+memcpy(B+4,z,52);
+parsed_behind_fcd(A,d,B);
+if(*A==0){
+vb=r4(A+8);
+x4(a,0);
+x4(a+4,0);
+x4(a+8,vb);
+memcpy(a+12,A+12,52);}
+else{
+x4(a,1);
+x4(a+4,4);
+z56(a+8);}}
+else{
+x4(a,1);
+x4(a+4,tb);
+x4(a+8,sb);
+z52(a+12);}
 return;
 }
 
@@ -138124,523 +141329,538 @@ return;
 /* symdemangle_parts_of */
 static void symdemangle_parts_of(u8* a,u64 b,u32 c,u32 d,u8* e,u64 f,u8* g,u64 h,u8* i,u8* j)
 {
-u8 q[31],C[31];
-A16 u8 k[64],l[16],m[24],n[64],o[24],p[64],r[56],s[52],t[16],u[8],v[8],w[64],x[16],y[24],z[64],A[24],B[64],D[56],E[52],F[16],G[8],H[8];
-u8 *I,*J,*K,*Z,*aa,*la,*Ia,*Ja,*Ua;
-u8 L,M,O,P,Q,U,W,X,ga,ia,ja,na,qa,sa,ta,Da,Fa,Ga,Pa,Ra,Sa,Wa,Za,bb,cb;
-u32 N,S,T,V,da,ea,fa,ha,ma,oa,pa,ra,ua,va,wa,ya,za,Ba,Ca,Ea,Ma,Na,Oa,Qa,Va,Xa,Ya,ab,db,eb,fb;
-u64 R,Y,ba,ca,ka,xa,Aa,Ha,Ka,La,Ta;
+A16 u8 k[64],l[16],m[24],n[64],o[24],p[64],q[64],r[56],s[56],t[52],u[16],v[8],w[8],x[64],y[16],z[24],A[64],B[24],C[64],D[64],E[56],F[56],G[52],H[16],I[8],J[8];
+u8 *K,*L,*M,*ba,*ca,*na,*Ma,*Na,*Ya;
+u8 N,O,Q,R,S,W,Y,Z,ia,ka,la,ra,ua,wa,xa,Ha,Ja,Ka,Ta,Va,Wa,cb,fb,hb,ib;
+u32 P,U,V,X,fa,ga,ha,ja,oa,pa,qa,sa,ta,va,ya,za,Aa,Ca,Da,Fa,Ga,Ia,Qa,Ra,Sa,Ua,Za,ab,bb,db,eb,gb,jb,kb,lb;
+u64 T,aa,da,ea,ma,Ba,Ea,La,Oa,Pa,Xa;
 z16(i);
 if(d<1024){
 if((((d>>7)&1)|(d&256))==0){
-I=a+(i64)(u64)(a==0?4096:0);
-J=e+(i64)(u64)(e==0?4096:0);
-K=g+(i64)(u64)(g==0?4096:0);
-L=d;
-M=L>>4;
-N=d&2;
-O=(d&1)==0?(u8)N:(N==0?1:3);
-P=(L&8)==0;
-Q=b<2;
-if((L&4)==0){
-if(P){
-w4(v,c);
-v[4]=O;
-z3(v+5);
-if(Q){
-R=0;
-S=0;
-T=11;}
+K=a+(i64)(u64)(a==0?4096:0);
+L=e+(i64)(u64)(e==0?4096:0);
+M=g+(i64)(u64)(g==0?4096:0);
+N=d;
+O=N>>4;
+P=d&2;
+Q=(d&1)==0?(u8)P:(P==0?1:3);
+R=(N&8)==0;
+S=b<2;
+if((N&4)==0){
+if(R){
+w4(w,c);
+w[4]=Q;
+z3(w+5);
+if(S){
+T=0;
+U=0;
+V=11;}
 else{
-U=*I==95;
+W=*K==95;
 if(b==2){
-if(!U){
-R=0;
-S=0;
-T=11;
+if(!W){
+T=0;
+U=0;
+V=11;
 goto L1;}
-switch(I[1]){
-case 90:V=0;
-W=0;
+switch(K[1]){
+case 90:X=0;
+Y=0;
 goto L2;
 case 82:break;
-default:R=0;
-S=0;
-T=11;
+default:T=0;
+U=0;
+V=11;
 goto L1;
 }}
 else{
-if(!U){
-R=0;
-S=0;
-T=11;
+if(!W){
+T=0;
+U=0;
+V=11;
 goto L1;}
-switch(I[1]){
-case 90:V=0;
-W=0;
+switch(K[1]){
+case 90:X=0;
+Y=0;
 goto L2;
 case 82:break;
-case 95:switch(I[2]){
-case 90:X=0;
+case 95:switch(K[2]){
+case 90:Z=0;
 break;
-case 82:X=1;
+case 82:Z=1;
 break;
-default:R=0;
-S=0;
-T=11;
+default:T=0;
+U=0;
+V=11;
 goto L1;
 }
-if((M&1)!=0){
-V=1;
-W=X;
+if((O&1)!=0){
+X=1;
+Y=Z;
 goto L2;}
-R=0;
-S=0;
-T=11;
+T=0;
+U=0;
+V=11;
 goto L1;
-default:R=0;
-S=0;
-T=11;
+default:T=0;
+U=0;
+V=11;
 goto L1;
 }}
-V=0;
-W=1;
-L2:Y=b-V;
-if(Y<16777217){
+X=0;
+Y=1;
+L2:aa=b-X;
+if(aa<16777217){
+z64(k);
 z16(l);
-parse_be6(k,v,W,I+(i64)V,Y);
+parse_be6(k,w,Y,X,K+(i64)X,aa);
 if(*k==0){
-Z=rp(k+8);
-aa=rp(k+40);
-ba=r8(k+56);
-ca=r8(k+24);
-write_both_976(l,k+8,W==0?1:2,J,f,K,h,i);
-if(ca!=0)port_rattle_dealloc(Z);
-if(ba!=0)port_rattle_dealloc(aa);}
+ba=rp(k+8);
+ca=rp(k+40);
+da=r8(k+56);
+ea=r8(k+24);
+write_both_976(l,k+8,Y+1,L,f,M,h,i);
+if(ea!=0)port_rattle_dealloc(ba);
+if(da!=0)port_rattle_dealloc(ca);}
 else{
-da=r4(k+8);
+fa=r4(k+8);
 switch(k[4]){
-case 0:ea=uadd32(V,da);
-fa=1;
+case 0:ga=uadd32(X,fa);
+ha=1;
 break;
-case 1:ea=uadd32(V,da);
-fa=2;
+case 1:ga=uadd32(X,fa);
+ha=2;
 break;
-case 2:ea=uadd32(V,da);
-fa=3;
+case 2:ga=uadd32(X,fa);
+ha=3;
 break;
-case 3:ea=0;
-fa=4;
+case 3:ga=0;
+ha=4;
 break;
-case 4:ea=0;
-fa=5;
+case 4:ga=0;
+ha=5;
 break;
 default:NEVER;
 }
 w8(l,0);
-w4(l+8,ea);
-w4(l+12,fa);}
-R=r8(l);
-S=r4(l+8);
-T=r4(l+12);}
+w4(l+8,ga);
+w4(l+12,ha);}
+T=r8(l);
+U=r4(l+8);
+V=r4(l+12);}
 else{
-R=0;
-S=0;
-T=7;}}}
+T=0;
+U=0;
+V=7;}}}
 else{
-w4(u,c);
-u[4]=O;
-z3(u+5);
-if(Q){
-R=0;
-S=0;
-T=11;}
+w4(v,c);
+v[4]=Q;
+z3(v+5);
+if(S){
+T=0;
+U=0;
+V=11;}
 else{
-ga=*I==95;
+ia=*K==95;
 if(b==2){
-if(!ga){
-R=0;
-S=0;
-T=11;
+if(!ia){
+T=0;
+U=0;
+V=11;
 goto L1;}
-switch(I[1]){
-case 90:ha=0;
-ia=0;
+switch(K[1]){
+case 90:ja=0;
+ka=0;
 goto L3;
 case 82:break;
-default:R=0;
-S=0;
-T=11;
+default:T=0;
+U=0;
+V=11;
 goto L1;
 }}
 else{
-if(!ga){
-R=0;
-S=0;
-T=11;
+if(!ia){
+T=0;
+U=0;
+V=11;
 goto L1;}
-switch(I[1]){
-case 90:ha=0;
-ia=0;
+switch(K[1]){
+case 90:ja=0;
+ka=0;
 goto L3;
 case 82:break;
-case 95:switch(I[2]){
-case 90:ja=0;
+case 95:switch(K[2]){
+case 90:la=0;
 break;
-case 82:ja=1;
+case 82:la=1;
 break;
-default:R=0;
-S=0;
-T=11;
+default:T=0;
+U=0;
+V=11;
 goto L1;
 }
-if((M&1)!=0){
-ha=1;
-ia=ja;
+if((O&1)!=0){
+ja=1;
+ka=la;
 goto L3;}
-R=0;
-S=0;
-T=11;
+T=0;
+U=0;
+V=11;
 goto L1;
-default:R=0;
-S=0;
-T=11;
+default:T=0;
+U=0;
+V=11;
 goto L1;
 }}
-ha=0;
-ia=1;
-L3:ka=b-ha;
-if(ka<16777217){
-la=I+(i64)ha;
-z56(r);
-z16(t);
+ja=0;
+ka=1;
+L3:ma=b-ja;
+if(ma<16777217){
+na=K+(i64)ja;
+z56(s);
+z16(u);
 z64(n);
 z24(o);
 z64(p);
-z7(q);
-path_of_ea7(o,la,ka);
+z64(q);
+path_of_ea7(o,na,ma);
 if(*o==1){
-parse_4db(p,la,ka,r8(o+8),r8(o+16),c);
-ma=r4(p+8);
+parse_path_8bf(p,na,ma,r8(o+8),r8(o+16),c);
+oa=r4(p+8);
 if(*p==0){
-na=p[32];
-memcpy(q+7,p+40,24);
-memcpy(n+12,p+12,20);
-n[32]=na;
-memcpy(n+33,q,31);
-memcpy(s,n+12,52);
-oa=ma;
+w4(r,oa);
+memcpy(r+4,p+12,52);
+parsed_behind_fcd(q,ja,r);
+if(*q==0){
+pa=r4(q+8);
+memcpy(t,q+12,52);
+qa=pa;
 goto L4;}
-pa=ma;
-qa=p[4];}
+ra=4;
+sa=0;}
 else{
-parse_be6(n,u,ia,la,ka);
-ra=r4(n+8);
-sa=*n;
-ta=n[4];
-memcpy(s,n+12,52);
-if(sa==0){
-oa=ra;
+ra=p[4];
+sa=oa;}
+ta=sa;
+ua=ra;}
+else{
+parse_be6(n,v,ka,ja,na,ma);
+va=r4(n+8);
+wa=*n;
+xa=n[4];
+memcpy(t,n+12,52);
+if(wa==0){
+qa=va;
 goto L4;}
-pa=ra;
-qa=ta;}
-switch(qa){
-case 0:ua=uadd32(ha,pa);
-va=1;
+ta=va;
+ua=xa;}
+switch(ua){
+case 0:ya=uadd32(ja,ta);
+za=1;
 break;
-case 1:ua=uadd32(ha,pa);
-va=2;
+case 1:ya=uadd32(ja,ta);
+za=2;
 break;
-case 2:ua=uadd32(ha,pa);
-va=3;
+case 2:ya=uadd32(ja,ta);
+za=3;
 break;
-case 3:ua=0;
-va=4;
+case 3:ya=0;
+za=4;
 break;
-case 4:ua=0;
-va=5;
+case 4:ya=0;
+za=5;
 break;
 default:NEVER;
 }
-w8(t,0);
-w4(t+8,ua);
-w4(t+12,va);
+w8(u,0);
+w4(u+8,ya);
+w4(u+12,za);
 goto L5;
-L4:w4(r,oa);
-memcpy(r+4,s,52);
-if(ia==0){
+L4:w4(s,qa);
+memcpy(s+4,t,52);
+if(ka==0){
 z24(m);
-path_of_ea7(m,la,ka);
-wa=(*m&1)?3:1;}
-else wa=2;
-write_both_976(t,r,wa,J,f,K,h,i);
-if(r8(r+16)!=0)port_rattle_dealloc(rp(r));
-if(r8(r+48)!=0)port_rattle_dealloc(rp(r+32));
-L5:R=r8(t);
-S=r4(t+8);
-T=r4(t+12);}
+path_of_ea7(m,na,ma);
+if(*m&1){
+Aa=3;
+goto L6;}}
+Aa=ka+1;
+L6:write_both_976(u,s,Aa,L,f,M,h,i);
+if(r8(s+16)!=0)port_rattle_dealloc(rp(s));
+if(r8(s+48)!=0)port_rattle_dealloc(rp(s+32));
+L5:T=r8(u);
+U=r4(u+8);
+V=r4(u+12);}
 else{
-R=0;
-S=0;
-T=7;}}}
-L1:xa=R;
-ya=S;
-za=T;}
+T=0;
+U=0;
+V=7;}}}
+L1:Ba=T;
+Ca=U;
+Da=V;}
 else{
-if(P){
-w4(H,c);
-H[4]=O;
-z3(H+5);
-if(Q){
-Aa=0;
-Ba=0;
-Ca=11;}
-else{
-Da=*I==95;
-if(b==2){
-if(!Da){
-Aa=0;
-Ba=0;
-Ca=11;
-goto L6;}
-switch(I[1]){
-case 90:Ea=0;
-Fa=0;
-goto L7;
-case 82:break;
-default:Aa=0;
-Ba=0;
-Ca=11;
-goto L6;
-}}
-else{
-if(!Da){
-Aa=0;
-Ba=0;
-Ca=11;
-goto L6;}
-switch(I[1]){
-case 90:Ea=0;
-Fa=0;
-goto L7;
-case 82:break;
-case 95:switch(I[2]){
-case 90:Ga=0;
-break;
-case 82:Ga=1;
-break;
-default:Aa=0;
-Ba=0;
-Ca=11;
-goto L6;
-}
-if((M&1)!=0){
-Ea=1;
-Fa=Ga;
-goto L7;}
-Aa=0;
-Ba=0;
-Ca=11;
-goto L6;
-default:Aa=0;
-Ba=0;
-Ca=11;
-goto L6;
-}}
+if(R){
+w4(J,c);
+J[4]=Q;
+z3(J+5);
+if(S){
 Ea=0;
-Fa=1;
-L7:Ha=b-Ea;
-if(Ha<16777217){
-z16(x);
-parse_fb3(w,H,Fa,I+(i64)Ea,Ha);
-if(*w==0){
-Ia=rp(w+8);
-Ja=rp(w+40);
-Ka=r8(w+56);
-La=r8(w+24);
-write_both_976(x,w+8,Fa==0?1:2,J,f,K,h,i);
-if(La!=0)port_rattle_dealloc(Ia);
-if(Ka!=0)port_rattle_dealloc(Ja);}
+Fa=0;
+Ga=11;}
 else{
-Ma=r4(w+8);
-switch(w[4]){
-case 0:Na=uadd32(Ea,Ma);
-Oa=1;
-break;
-case 1:Na=uadd32(Ea,Ma);
-Oa=2;
-break;
-case 2:Na=uadd32(Ea,Ma);
-Oa=3;
-break;
-case 3:Na=0;
-Oa=4;
-break;
-case 4:Na=0;
-Oa=5;
-break;
-default:NEVER;
-}
-w8(x,0);
-w4(x+8,Na);
-w4(x+12,Oa);}
-Aa=r8(x);
-Ba=r4(x+8);
-Ca=r4(x+12);}
-else{
-Aa=0;
-Ba=0;
-Ca=7;}}}
-else{
-w4(G,c);
-G[4]=O;
-z3(G+5);
-if(Q){
-Aa=0;
-Ba=0;
-Ca=11;}
-else{
-Pa=*I==95;
+Ha=*K==95;
 if(b==2){
-if(!Pa){
-Aa=0;
-Ba=0;
-Ca=11;
-goto L6;}
-switch(I[1]){
-case 90:Qa=0;
-Ra=0;
+if(!Ha){
+Ea=0;
+Fa=0;
+Ga=11;
+goto L7;}
+switch(K[1]){
+case 90:Ia=0;
+Ja=0;
 goto L8;
 case 82:break;
-default:Aa=0;
-Ba=0;
-Ca=11;
-goto L6;
+default:Ea=0;
+Fa=0;
+Ga=11;
+goto L7;
 }}
 else{
-if(!Pa){
-Aa=0;
-Ba=0;
-Ca=11;
-goto L6;}
-switch(I[1]){
-case 90:Qa=0;
-Ra=0;
+if(!Ha){
+Ea=0;
+Fa=0;
+Ga=11;
+goto L7;}
+switch(K[1]){
+case 90:Ia=0;
+Ja=0;
 goto L8;
 case 82:break;
-case 95:switch(I[2]){
-case 90:Sa=0;
+case 95:switch(K[2]){
+case 90:Ka=0;
 break;
-case 82:Sa=1;
+case 82:Ka=1;
 break;
-default:Aa=0;
-Ba=0;
-Ca=11;
-goto L6;
+default:Ea=0;
+Fa=0;
+Ga=11;
+goto L7;
 }
-if((M&1)!=0){
-Qa=1;
-Ra=Sa;
+if((O&1)!=0){
+Ia=1;
+Ja=Ka;
 goto L8;}
-Aa=0;
-Ba=0;
-Ca=11;
-goto L6;
-default:Aa=0;
-Ba=0;
-Ca=11;
-goto L6;
+Ea=0;
+Fa=0;
+Ga=11;
+goto L7;
+default:Ea=0;
+Fa=0;
+Ga=11;
+goto L7;
 }}
-Qa=0;
-Ra=1;
-L8:Ta=b-Qa;
-if(Ta<16777217){
-Ua=I+(i64)Qa;
-z56(D);
-z16(F);
-z64(z);
-z24(A);
-z64(B);
-z7(C);
-path_of_ea7(A,Ua,Ta);
-if(*A==1){
-parse_4db(B,Ua,Ta,r8(A+8),r8(A+16),c);
-Va=r4(B+8);
-if(*B==0){
-Wa=B[32];
-memcpy(C+7,B+40,24);
-memcpy(z+12,B+12,20);
-z[32]=Wa;
-memcpy(z+33,C,31);
-memcpy(E,z+12,52);
-Xa=Va;
-goto L9;}
-Ya=Va;
-Za=B[4];}
+Ia=0;
+Ja=1;
+L8:La=b-Ia;
+if(La<16777217){
+z64(x);
+z16(y);
+parse_fb3(x,J,Ja,Ia,K+(i64)Ia,La);
+if(*x==0){
+Ma=rp(x+8);
+Na=rp(x+40);
+Oa=r8(x+56);
+Pa=r8(x+24);
+write_both_976(y,x+8,Ja+1,L,f,M,h,i);
+if(Pa!=0)port_rattle_dealloc(Ma);
+if(Oa!=0)port_rattle_dealloc(Na);}
 else{
-parse_fb3(z,G,Ra,Ua,Ta);
-ab=r4(z+8);
-bb=*z;
-cb=z[4];
-memcpy(E,z+12,52);
-if(bb==0){
-Xa=ab;
-goto L9;}
-Ya=ab;
-Za=cb;}
-switch(Za){
-case 0:db=uadd32(Qa,Ya);
-eb=1;
+Qa=r4(x+8);
+switch(x[4]){
+case 0:Ra=uadd32(Ia,Qa);
+Sa=1;
 break;
-case 1:db=uadd32(Qa,Ya);
-eb=2;
+case 1:Ra=uadd32(Ia,Qa);
+Sa=2;
 break;
-case 2:db=uadd32(Qa,Ya);
-eb=3;
+case 2:Ra=uadd32(Ia,Qa);
+Sa=3;
 break;
-case 3:db=0;
-eb=4;
+case 3:Ra=0;
+Sa=4;
 break;
-case 4:db=0;
-eb=5;
+case 4:Ra=0;
+Sa=5;
 break;
 default:NEVER;
 }
-w8(F,0);
-w4(F+8,db);
-w4(F+12,eb);
-goto L10;
-L9:w4(D,Xa);
-memcpy(D+4,E,52);
-if(Ra==0){
-z24(y);
-path_of_ea7(y,Ua,Ta);
-fb=(*y&1)?3:1;}
-else fb=2;
-write_both_976(F,D,fb,J,f,K,h,i);
-if(r8(D+16)!=0)port_rattle_dealloc(rp(D));
-if(r8(D+48)!=0)port_rattle_dealloc(rp(D+32));
-L10:Aa=r8(F);
-Ba=r4(F+8);
-Ca=r4(F+12);}
+w8(y,0);
+w4(y+8,Ra);
+w4(y+12,Sa);}
+Ea=r8(y);
+Fa=r4(y+8);
+Ga=r4(y+12);}
 else{
-Aa=0;
+Ea=0;
+Fa=0;
+Ga=7;}}}
+else{
+w4(I,c);
+I[4]=Q;
+z3(I+5);
+if(S){
+Ea=0;
+Fa=0;
+Ga=11;}
+else{
+Ta=*K==95;
+if(b==2){
+if(!Ta){
+Ea=0;
+Fa=0;
+Ga=11;
+goto L7;}
+switch(K[1]){
+case 90:Ua=0;
+Va=0;
+goto L9;
+case 82:break;
+default:Ea=0;
+Fa=0;
+Ga=11;
+goto L7;
+}}
+else{
+if(!Ta){
+Ea=0;
+Fa=0;
+Ga=11;
+goto L7;}
+switch(K[1]){
+case 90:Ua=0;
+Va=0;
+goto L9;
+case 82:break;
+case 95:switch(K[2]){
+case 90:Wa=0;
+break;
+case 82:Wa=1;
+break;
+default:Ea=0;
+Fa=0;
+Ga=11;
+goto L7;
+}
+if((O&1)!=0){
+Ua=1;
+Va=Wa;
+goto L9;}
+Ea=0;
+Fa=0;
+Ga=11;
+goto L7;
+default:Ea=0;
+Fa=0;
+Ga=11;
+goto L7;
+}}
+Ua=0;
+Va=1;
+L9:Xa=b-Ua;
+if(Xa<16777217){
+Ya=K+(i64)Ua;
+z56(F);
+z16(H);
+z64(A);
+z24(B);
+z64(C);
+z64(D);
+path_of_ea7(B,Ya,Xa);
+if(*B==1){
+parse_path_8bf(C,Ya,Xa,r8(B+8),r8(B+16),c);
+Za=r4(C+8);
+if(*C==0){
+w4(E,Za);
+memcpy(E+4,C+12,52);
+parsed_behind_fcd(D,Ua,E);
+if(*D==0){
+ab=r4(D+8);
+memcpy(G,D+12,52);
+bb=ab;
+goto L10;}
+cb=4;
+db=0;}
+else{
+cb=C[4];
+db=Za;}
+eb=db;
+fb=cb;}
+else{
+parse_fb3(A,I,Va,Ua,Ya,Xa);
+gb=r4(A+8);
+hb=*A;
+ib=A[4];
+memcpy(G,A+12,52);
+if(hb==0){
+bb=gb;
+goto L10;}
+eb=gb;
+fb=ib;}
+switch(fb){
+case 0:jb=uadd32(Ua,eb);
+kb=1;
+break;
+case 1:jb=uadd32(Ua,eb);
+kb=2;
+break;
+case 2:jb=uadd32(Ua,eb);
+kb=3;
+break;
+case 3:jb=0;
+kb=4;
+break;
+case 4:jb=0;
+kb=5;
+break;
+default:NEVER;
+}
+w8(H,0);
+w4(H+8,jb);
+w4(H+12,kb);
+goto L11;
+L10:w4(F,bb);
+memcpy(F+4,G,52);
+if(Va==0){
+z24(z);
+path_of_ea7(z,Ya,Xa);
+if(*z&1){
+lb=3;
+goto L12;}}
+lb=Va+1;
+L12:write_both_976(H,F,lb,L,f,M,h,i);
+if(r8(F+16)!=0)port_rattle_dealloc(rp(F));
+if(r8(F+48)!=0)port_rattle_dealloc(rp(F+32));
+L11:Ea=r8(H);
+Fa=r4(H+8);
+Ga=r4(H+12);}
+else{
+Ea=0;
+Fa=0;
+Ga=7;}}}
+L7:Ba=Ea;
+Ca=Fa;
+Da=Ga;}}
+else{
 Ba=0;
-Ca=7;}}}
-L6:xa=Aa;
-ya=Ba;
-za=Ca;}}
+Ca=0;
+Da=8;}}
 else{
-xa=0;
-ya=0;
-za=8;}}
-else{
-xa=0;
-ya=0;
-za=8;}
-x8(j,xa);
-x4(j+8,ya);
-x4(j+12,za);
+Ba=0;
+Ca=0;
+Da=8;}
+x8(j,Ba);
+x4(j+8,Ca);
+x4(j+12,Da);
 return;
 }
 
@@ -144687,7 +147907,7 @@ uint32_t symdemangle_parts(const char *name, size_t name_length, uint32_t limit,
                            symdemangle_part *parts, size_t part_capacity, symdemangle_name *result)
 {
     char none = 0, nowhere = 0;
-    symdemangle_part no_part = {0, 0, 0};
+    symdemangle_part no_part = {0, 0, 0, 0, 0};
     symdemangle_result told = {0, 0, SYMDEMANGLE_NULL};
     struct symdemangle_found found = {0, 0, 0};
     if (!result)

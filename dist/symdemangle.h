@@ -204,11 +204,14 @@ enum symdemangle_manglings {
     SYMDEMANGLE_RUST_LEGACY = 3 /* Rust's older names, with SYMDEMANGLE_LEGACY */
 };
 
-/* A part of a text: which of symdemangle_roles it is, how many bytes of the text are before it, and how many it has. */
+/* A part of a text: which of symdemangle_roles it is, how many bytes of the text are before it, and how many it has; and how many
+   bytes of the name are before those that spell it, and before their end. An underscore that was dropped counts. */
 typedef struct {
     uint32_t role;
     uint32_t start;
     uint32_t length;
+    uint32_t from;
+    uint32_t to;
 } symdemangle_part;
 
 /* What symdemangle_parts tells of a name. Of SYMDEMANGLE_OK the bytes and parts that were written, of SYMDEMANGLE_BUFFER those that
@@ -245,10 +248,12 @@ uint32_t symdemangle_text(const char *name, size_t name_length, uint32_t limit, 
 
 /* Writes the text of a name as symdemangle_text does, and its parts to the front of `parts`: what stretches of the text are, as the
    name's scope, its base, each of its arguments and parameters. Each is a slice of the text; they are in the order of their starts,
-   and of two, one is within the other, or they are apart. 16 parts serve 99 names of 100. Where the text or the parts have no room,
-   neither is written (SYMDEMANGLE_BUFFER). `parts` may be null where `part_capacity` is 0. Short texts and types have no parts: with
-   SYMDEMANGLE_SHORT or _TYPES it answers SYMDEMANGLE_FLAGS. SYMDEMANGLE_OK, _MALFORMED, _BAD_REFERENCE, _BAD_VALUE, _TOO_LONG, _MEMORY,
-   _BUFFER, _SIZE, _FLAGS, _NULL, _NO_SYMBOL. */
+   and of two, one is within the other, or they are apart. Each has the bytes of the name that spell it; what a reference refers to is
+   spelled by the reference. Parts that the text doesn't have, as the hash of an older Rust name, come last: `start` is the text's length,
+   and `length` is 0. 16 parts serve 99 names of 100. Where the text or the parts have no room, neither is written (SYMDEMANGLE_BUFFER).
+   `parts` may be null where `part_capacity` is 0. Short texts and types have no parts: with SYMDEMANGLE_SHORT or _TYPES it answers
+   SYMDEMANGLE_FLAGS. SYMDEMANGLE_OK, _MALFORMED, _BAD_REFERENCE, _BAD_VALUE, _TOO_LONG, _MEMORY, _BUFFER, _SIZE, _FLAGS, _NULL,
+   _NO_SYMBOL. */
 uint32_t symdemangle_parts(const char *name, size_t name_length, uint32_t limit, uint32_t flags, char *buffer, size_t capacity,
                            symdemangle_part *parts, size_t part_capacity, symdemangle_name *result);
 

@@ -15,10 +15,12 @@
 #include "symdemangle.h"
 
 #include <cstdint>
+#include <memory>
 #include <new>
 #include <optional>
 #include <string>
 #include <string_view>
+#include <utility>
 #include <vector>
 
 namespace symdemangle {
@@ -36,25 +38,29 @@ struct refusal {
     const char *what() const noexcept { return symdemangle_message(status); }
 };
 
-// A part of a text: its role (symdemangle_roles), how many bytes of the text are before it, and how many it has.
-using part = symdemangle_part;
+// A part of a text: its role (symdemangle_roles), what the text has of it, and the bytes that spell it. `text` is a view of the text, and
+// `bytes` one of the name that was given, which has to be there as long as it is used. Parts that the text doesn't have, as the hash of an
+// older Rust name, have an empty `text`.
+struct part {
+    std::uint32_t role = 0;
+    std::string_view text;
+    std::string_view bytes;
+};
 
 // The text of a name, what the name is (symdemangle_kinds, symdemangle_manglings), and the parts of the text, in the order of their starts.
 struct parsed {
-    std::string text;
+    std::string_view text;
     std::uint32_t kind = 0;
     std::uint32_t mangling = 0;
     std::vector<part> parts;
+    std::shared_ptr<const char[]> held; // the text, which copies share
 
-    // The bytes of a part.
-    std::string_view of(const part &which) const { return std::string_view(text).substr(which.start, which.length); }
-
-    // The bytes of the first part of a role; none where there is no such part.
-    std::string_view first(std::uint32_t role) const
+    // What the text has of the first part of a role; none where there is no such part.
+    std::string_view first(std::uint32_t role) const noexcept
     {
         for (const part &which : parts)
             if (which.role == role)
-                return of(which);
+                return which.text;
         return {};
     }
 
@@ -119,27 +125,30 @@ inline std::optional<std::string> text(std::string_view name, options asked = {}
 // with their flags there is none.
 inline std::optional<parsed> parts(std::string_view name, options asked = {}, refusal *why = nullptr)
 {
-    char few[4096];
-    symdemangle_part some[32];
     symdemangle_name told;
-    parsed made;
-    const std::uint32_t flags = detail::of_names(asked.flags);
-    if (symdemangle_parts(name.data(), name.size(), asked.limit, flags, few, sizeof few, some, 32, &told) == SYMDEMANGLE_OK) {
-        made.text.assign(few, told.length);
-        made.parts.assign(some, some + told.count);
-    } else if (told.status == SYMDEMANGLE_BUFFER) {
-        made.text.resize(told.length);
-        made.parts.resize(told.count);
-        symdemangle_parts(name.data(), name.size(), asked.limit, flags, &made.text[0], made.text.size(), made.parts.data(),
-                          made.parts.size(), &told);
-    }
+    std::size_t length = 4096;
+    std::vector<symdemangle_part> found(32);
+    std::shared_ptr<char[]> held;
+    do {
+        held.reset(new char[length]);
+        symdemangle_parts(name.data(), name.size(), asked.limit, detail::of_names(asked.flags), held.get(), length, found.data(),
+                          found.size(), &told);
+        length = told.length;
+        found.resize(told.count);
+    } while (told.status == SYMDEMANGLE_BUFFER);
     if (told.status == SYMDEMANGLE_MEMORY)
         throw std::bad_alloc();
     detail::tell({told.length, told.offset, told.status}, why);
     if (told.status != SYMDEMANGLE_OK)
         return std::nullopt;
+    parsed made;
+    made.text = {held.get(), told.length};
     made.kind = told.kind;
     made.mangling = told.mangling;
+    made.parts.reserve(found.size());
+    for (const symdemangle_part &one : found)
+        made.parts.push_back({one.role, made.text.substr(one.start, one.length), name.substr(one.from, one.to - one.from)});
+    made.held = std::move(held);
     return made;
 }
 

@@ -2127,6 +2127,7 @@ static const u8 t_e992[4]="inf";
 static const u8 t_e9c6[6]=" long";
 static const u8 t_eab6[5]=" == ";
 static const u8 t_ead1[5]=" >> ";
+static const u8 t_eb43[257]="\0\0\0\0\0\0\0\0\0\0\0\0\0\0\0\0\0\0\0\0\0\0\0\0\0\0\0\0\0\0\0\0\0\0\0\0\0\0\0\0\0\0\0\0\0\0\0\0\0\0\0\0\0\0\0\0\0\0\0\0\0\0\0\0\0\1\1\1\1\1\1\1\1\1\1\1\1\1\1\1\1\1\1\1\1\1\1\1\1\1\1\0\0\0\0\0\0\1\1\1\1\1\1\1\1\1\1\1\1\1\1\1\1\1\1\1\1\1\1\1\1\1\1\0\0\0\0\0\0\0\0\0\0\0\0\0\0\0\0\0\0\0\0\0\0\0\0\0\0\0\0\0\0\0\0\0\0\0\0\0\0\0\0\0\0\0\0\0\0\0\0\0\0\0\0\0\0\0\0\0\0\0\0\0\0\0\0\0\0\0\0\0\0\0\0\0\0\0\0\0\0\0\0\0\0\0\0\0\0\0\0\0\0\0\0\0\0\0\0\0\0\0\0\0\0\0\0\0\0\0\0\0\0\0\0\0\0\0\0\0\0\0\0\0\0\0\0\0\0\0\0\0\0\0\0\0";
 static const u8 t_eb70[5]="'\\''";
 static const u8 t_ec4f[3]="> ";
 static const u8 t_ed42[11]={3,3,2,3,5,5,3,3,3,3,3};
@@ -2155,6 +2156,7 @@ static const u8 t_f9e0[3]="ll";
 static const u8 t_fa21[5]=" as ";
 static const u8 t_fa32[6]=" (&)[";
 static const u8 t_faca[6]="\" fn(";
+static const u8 t_facb[257]="\0\0\0\0\0\0\0\0\0\0\0\0\0\0\0\0\0\0\0\0\0\0\0\0\0\0\0\0\0\0\0\0\0\0\0\0\0\0\0\0\0\0\0\0\0\0\0\0\1\1\1\1\1\1\1\1\1\1\0\0\0\0\0\0\0\0\0\0\0\0\0\0\0\0\0\0\0\0\0\0\0\0\0\0\0\0\0\0\0\0\0\0\0\0\0\1\0\0\0\0\0\0\0\0\0\0\0\0\0\0\0\0\0\0\0\0\0\0\0\0\0\0\0\0\0\0\0\0\0\0\0\0\0\0\0\0\0\0\0\0\0\0\0\0\0\0\0\0\0\0\0\0\0\0\0\0\0\0\0\0\0\0\0\0\0\0\0\0\0\0\0\0\0\0\0\0\0\0\0\0\0\0\0\0\0\0\0\0\0\0\0\0\0\0\0\0\0\0\0\0\0\0\0\0\0\0\0\0\0\0\0\0\0\0\0\0\0\0\0\0\0\0\0\0\0\0\0\0\0\0\0\0\0\0\0\0\0\0\0\0\0\0\0\0\0\0\0\0\0\0\0\0\0\0\0\0";
 static const u8 t_fc07[3]="}'";
 static const u8 t_fc66[5]="long";
 static const u8 t_fc6b[33]="Print help for the subcommand(s)";
@@ -2807,13 +2809,13 @@ static s_8_64 constant_at_b72(u8* a,u8* b,u64 c,u64 d);
 static s_8_64 integer_at_209(u8* a,u8* b,u64 c,u64 d,u8 e);
 static u8 push_decimal_701(u8* a,u64 b);
 static s_8_64 any_disambiguator_end_f9c(u8* a,u64 b,u64 c);
+static void any_number_at_3d4(u8* a,u8* b,u64 c,u64 d);
 static void any_name_span_9bc(u8* a,u8* b,u64 c,u64 d);
 static void begin_impl_c72(u8* a,u8* b,u8* c,u64 d);
 static void begin_inner_impl_f25(u8* a,u8* b,u64 c);
 static void begin_trait_impl_220(u8* a,u8* b,u8* c,u64 d);
 static void begin_inner_trait_impl_a3f(u8* a,u8* b,u64 c);
 static void begin_trait_f9f(u8* a,u8* b);
-static u8 repeat_2ff(u8* a,u8* b);
 static u8 unnamed_ended_c46(u8* a,u8* b,u64 c,u64 d,u64 e,u8 f);
 static void push_suffix_49c(u8* a,u8* b,u8* c,u64 d);
 static void special_named_1bc(u8* a,u8* b,u8* c,u64 d,u64 e,u8 f,u64 g,u8* h,u64 i);
@@ -81385,53 +81387,92 @@ L4:return;
 /* sym_direct::bounded::Bounded+u8::repeat */
 static u8 repeat_28b(u8* a,u64 b,u64 c)
 {
-u64 d,e,g,i,j,l,m,n,o;
-u8 f,h,k;
-u8 *p,*q,*r,*s;
-d=c-b;
+u8 d[32];
+u64 e,f,g,i,j,k,m,n,p,s,v,w,x,z,A,B,C;
+u8 *h,*q,*r,*D,*E,*F,*G;
+u8 l,o,t,u,y;
 e=r8(a+8);
-if(r8(a+32)-e<d){
-f=make_ready_8e3(a,d,128);
-if(!(f&1)){
-h=0;
-goto L1;}
-g=r8(a+8);}
-else g=e;
-if(g>(d^18446744073709551615u))h=0;
+f=c-b;
+g=r8(a+32)-e;
+if((f<33)&(e-b>31)&&g>31){
+z32(d);
+h=rp(a)+(i64)b;
+i=(u64)d;
+if(i-(u64)h<32){
+copy_bits_4f4(h,d,32);
+j=r8(a+8);}
 else{
-i=g+d;
-if(i>g){
-j=r8(a+16);
-if(d>j-g){
-k=grow_amortized_68b(a,d);
-if(!k){
-h=0;
+memcpy(d,h,32);
+j=e;}
+k=r8(a+16);
+if(k-j<32){
+l=grow_amortized_68b(a,32);
+if(!l){
+o=0;
 goto L1;}
-l=r8(a+8);
-m=l+d;
-n=r8(a+16);
-o=l;}
+m=r8(a+16);
+n=r8(a+8);}
 else{
-m=i;
-n=j;
-o=g;}
-p=rp(a);
-if(o<m)memset(p+(i64)o,0,d);
-wp(a,p);
-w8(a+8,m);
-w8(a+16,n);}
-else {
-if(g>i)w8(a+8,i);}
+m=k;
+n=j;}
+p=n+32;
 q=rp(a);
-r=q+(i64)g;
-s=q+(i64)b;
-if(g-b<d){
-copy_bits_4f4(s,r,d);
-h=1;}
+z16(a+8);
+r=q+(i64)n;
+if((u64)r-i<32)copy_bits_4f4(d,r,32);
+else memcpy(r,d,32);
+wp(a,q);
+w8(a+8,p);
+w8(a+16,m);
+s=e+f;
+if(p>s){
+w8(a+8,s);
+o=1;}
+else o=1;
+L1:t=o;}
 else{
-memmove(r,s,d);
-h=1;}}
-L1:return h;
+if(g<f){
+u=make_ready_8e3(a,f,128);
+if(!(u&1)){
+t=0;
+goto L2;}
+v=r8(a+8);}
+else v=e;
+if(v>(f^18446744073709551615u))t=0;
+else{
+w=v+f;
+if(w>v){
+x=r8(a+16);
+if(f>x-v){
+y=grow_amortized_68b(a,f);
+if(!y){
+t=0;
+goto L2;}
+z=r8(a+8);
+A=z+f;
+B=r8(a+16);
+C=z;}
+else{
+A=w;
+B=x;
+C=v;}
+D=rp(a);
+if(C<A)memset(D+(i64)C,0,f);
+wp(a,D);
+w8(a+8,A);
+w8(a+16,B);}
+else {
+if(v>w)w8(a+8,w);}
+E=rp(a);
+F=E+(i64)v;
+G=E+(i64)b;
+if(v-b<f){
+copy_bits_4f4(G,F,f);
+t=1;}
+else{
+memmove(F,G,f);
+t=1;}}}
+L2:return t;
 }
 
 /* cpp_direct::direct::Direct::begin_clone */
@@ -121624,11 +121665,11 @@ static u8 run_80f(u8* a,u8* b,u64 c,u32 d)
 {
 u8 h[1];
 A16 u8 e[40],f[40],g[32],i[40],j[32],k[40],l[32],m[12],n[12],o[12],p[24],q[12],r[12],s[12],t[32],u[24],v[12],w[12],x[12],y[32];
-u64 z,A,B,D,E,G,I,J,M,N,P,S,U,V,W,X,Z,aa,ba,ca,da,ga,ha,ia,ja,ka,ma,oa,pa,ra,sa,ua,va,xa,ya,Ba,Fa,Ha,Ia,Ka,Ma,Pa,Qa,Sa,Ta,Ua,Wa,Za,bb,cb,db,eb,gb,hb,ib,kb,lb,mb,ob,rb,vb,wb,xb,yb,zb,Cb,Db,Eb,Hb,Jb,Kb,Lb,Ob,Pb,Qb,Rb,Tb,Ub,Vb,Wb,ac,bc,cc,dc,fc,gc,hc,ic,kc,nc,oc,qc,rc,tc,wc,yc,zc,Fc,Hc,Ic,Jc,Kc,Mc,Oc,Pc,Rc,Sc,Tc,Wc,Xc,ad,bd,cd,dd,fd,hd,id,kd,ld,md,pd,qd,ud,vd,yd,zd,Bd,Dd,Ed,Fd,Id,Jd,Md,Nd,Pd,Qd,Sd,Ud,Vd,Wd,Zd,ae,de,ee,ge,he,je,le,me,ne,qe,re,ue,ve,xe,ye,Ae,Ce,De,Ee,He,Ie,Le,Me,Ne,Oe,Pe,Qe,Re,Te,Ve,We,Xe,Ye,af,bf,cf,df,ef,gf,hf,jf,lf,mf,nf,pf,tf,uf,wf,zf,Af,Cf,Ef,Ff,If,Jf,Lf,Mf,Nf,Pf,Qf,Rf,Uf,Vf,Yf,ag,cg,dg,fg,gg,hg,kg,lg,ng,qg,vg,zg,Bg,Cg,Eg,Fg,Lg,Ng,Pg,Qg,Rg,Sg,Tg,Wg,Xg,Yg,bh,dh,eh,fh,ih,jh,kh,lh,nh,oh,ph,qh,uh,vh,wh,xh,zh,Ah,Bh,Ch,Eh,Hh,Ih,Kh,Lh,Nh,Qh,Rh,Sh,Th,Uh,Vh,Wh,Yh,ai,bi,ci,di,fi,gi,hi,ii,ji,li,mi,ni,pi,qi,ri,ti,xi,yi,Ai,Di,Fi,Gi,Ii,Li,Mi,Ri,Wi,Yi,Zi,aj,dj,ej,fj,ij,kj,lj,mj,pj,rj,sj,uj,wj,xj,yj,zj,Dj,Fj,Gj,Hj,Jj,Kj,Lj,Mj,Oj,Qj,Rj,Tj,Vj,Wj,Yj,Zj,ak,dk,gk,ik,lk,mk,nk,pk,rk,wk,Bk,Dk,Fk,Hk,Jk,Kk,Mk,Nk,Ok,Rk,Tk,Wk,Yk,Zk,al,el,fl,il,jl,nl,pl,rl,tl,ul,wl,xl,Al,Bl,Dl,Gl,Hl,Jl,Kl,Ml,Pl,Ql,Sl,Tl,Vl,Yl,Zl,am,bm,cm,em,hm,jm,km,mm,nm,om,rm,sm,vm,wm,ym,zm,Bm,Cm,Dm,Fm,Im,Jm,Lm,Mm,Om,Rm,Sm,Um,Vm,Ym,Zm,bn,cn,fn,gn,in,jn,mn,on,pn,rn,sn,tn,wn,xn,An,Bn,Dn,En,Gn,Jn;
-u8 C,F,K,O,Q,R,la,na,ta,wa,za,Aa,Ca,Ea,Ga,Ja,La,Na,Oa,Va,Xa,ab,fb,nb,pb,sb,tb,ub,Bb,Gb,Ib,Nb,Xb,Zb,lc,mc,pc,sc,uc,xc,Ac,Bc,Cc,Dc,Ec,Gc,Lc,Nc,Qc,Yc,ed,gd,jd,sd,xd,Ad,Cd,Kd,Od,Rd,Td,be,fe,ie,ke,se,we,ze,Be,Je,Se,Ue,ff,kf,rf,sf,vf,xf,Bf,Df,Gf,Kf,Of,Wf,bg,eg,mg,og,pg,rg,ug,wg,xg,yg,Ag,Dg,Gg,Hg,Ig,Jg,Kg,Mg,Vg,ah,ch,hh,rh,th,Fh,Gh,Jh,Mh,Oh,Xh,Zh,ki,oi,vi,wi,zi,Bi,Ei,Ki,Ni,Oi,Pi,Qi,Si,Ti,Ui,Vi,Xi,cj,hj,jj,oj,qj,tj,Aj,Cj,Ej,Nj,Pj,Uj,Xj,fk,hk,jk,qk,tk,uk,vk,xk,yk,zk,Ak,Ck,Ek,Ik,Lk,Sk,Uk,Xk,bl,dl,gl,hl,kl,ml,ql,vl,yl,Cl,El,Il,Ll,Nl,Rl,Ul,Wl,dm,fm,im,lm,tm,xm,Em,Gm,Km,Nm,Pm,Tm,Wm,an,dn,hn,kn,nn,qn,yn,Cn,Fn,Hn;
-u8 *H,*L,*T,*ea,*fa,*qa,*Da,*Ya,*qb,*Ab,*Mb,*Sb,*Yb,*ec,*jc,*vc,*Uc,*Vc,*Zc,*nd,*od,*td,*Gd,*Hd,*Ld,*Xd,*Yd,*ce,*oe,*pe,*te,*Fe,*Ge,*Ke,*Ze,*qf,*yf,*Hf,*Sf,*Tf,*Xf,*Zf,*ig,*jg,*sg,*tg,*Og,*Ug,*gh,*mh,*sh,*yh,*Dh,*Ph,*ei,*ui,*Ci,*Hi,*Ji,*bj,*nj,*vj,*Bj,*Ij,*Sj,*bk,*ck,*ek,*kk,*ok,*sk,*Gk,*Pk,*Qk,*Vk,*cl,*ll,*ol,*sl,*zl,*Fl,*Ol,*Xl,*gm,*pm,*qm,*um,*Hm,*Qm,*Xm,*en,*ln,*un,*vn,*zn,*In;
-u16 Y,of,si;
-s_8_64 Ra,jb,Fb,Zg,gj,Am;
+u64 z,A,B,D,E,G,I,J,M,N,P,S,U,V,W,X,Z,aa,ba,ca,da,ga,ha,ia,ja,ka,ma,oa,pa,ra,sa,ua,va,xa,ya,Ba,Fa,Ha,Ia,Ka,Ma,Pa,Qa,Sa,Ta,Ua,Wa,Za,bb,cb,db,eb,gb,hb,ib,kb,lb,mb,ob,rb,vb,wb,xb,yb,Ab,Bb,Db,Eb,Fb,Ib,Kb,Lb,Mb,Ob,Pb,Qb,Rb,Tb,Ub,Vb,Wb,Zb,ac,bc,dc,ec,fc,gc,hc,ic,jc,oc,pc,qc,sc,tc,vc,yc,Ac,Bc,Hc,Jc,Kc,Lc,Mc,Oc,Qc,Rc,Tc,Uc,Vc,Yc,Zc,cd,dd,ed,fd,hd,jd,kd,md,nd,od,sd,td,xd,yd,Ad,Bd,Dd,Fd,Gd,Hd,Kd,Ld,Od,Pd,Rd,Sd,Ud,Wd,Xd,Yd,be,ce,fe,ge,ie,je,le,ne,oe,pe,se,te,we,xe,ze,Ae,Ce,Ee,Fe,Ge,Je,Ke,Ne,Oe,Qe,Se,Te,Ue,Ve,Xe,af,df,ef,ff,gf,hf,of,qf,rf,tf,wf,xf,zf,Bf,Cf,Ff,Gf,If,Jf,Kf,Mf,Nf,Of,Rf,Sf,Vf,Xf,Zf,ag,cg,dg,eg,hg,ig,kg,ng,sg,wg,yg,zg,Bg,Cg,Ig,Kg,Mg,Ng,Og,Pg,Rg,Sg,Ug,Vg,Wg,Zg,bh,ch,dh,fh,gh,hh,ih,kh,lh,mh,nh,qh,rh,sh,uh,vh,wh,xh,yh,zh,Ah,Fh,Gh,Hh,Jh,Kh,Mh,Ph,Qh,Sh,Uh,Vh,Wh,Xh,Zh,ci,ei,fi,hi,ii,ji,pi,ri,si,ui,xi,zi,Ai,Ci,Fi,Gi,Li,Qi,Si,Ti,Vi,Wi,Yi,Zi,aj,dj,fj,gj,hj,jj,kj,mj,nj,qj,rj,sj,tj,wj,xj,yj,Aj,Bj,Cj,Dj,Fj,Hj,Jj,Kj,Lj,Mj,Pj,Qj,Sj,Tj,Uj,Xj,Yj,ak,bk,ck,fk,gk,jk,lk,ok,pk,qk,sk,uk,zk,Ek,Gk,Ik,Kk,Mk,Nk,Pk,Qk,Rk,Uk,Wk,Zk,bl,cl,dl,hl,il,ll,ml,ql,sl,ul,wl,xl,zl,Al,Dl,El,Gl,Jl,Kl,Ml,Nl,Pl,Sl,Tl,Vl,Wl,Yl,bm,cm,dm,em,fm,hm,km,mm,nm,pm,qm,rm,um,vm,ym,zm,Bm,Cm,Em,Fm,Gm,Im,Lm,Mm,Om,Pm,Rm,Um,Vm,Xm,Ym,bn,cn,en,fn,in,jn,ln,mn,pn,rn,sn,un,vn,wn,zn,An,Dn,En,Gn,Hn,Jn,Mn;
+u8 C,F,K,O,Q,R,la,na,ta,wa,za,Aa,Ca,Ea,Ga,Ja,La,Na,Oa,Va,Xa,ab,fb,nb,pb,sb,tb,ub,Cb,Hb,Jb,Xb,lc,mc,nc,rc,uc,wc,zc,Cc,Dc,Ec,Fc,Gc,Ic,Nc,Pc,Sc,ad,gd,id,ld,ud,zd,Cd,Ed,Md,Qd,Td,Vd,de,he,ke,me,ue,ye,Be,De,Le,Pe,Re,We,Ye,cf,kf,lf,mf,nf,pf,sf,uf,yf,Af,Df,Hf,Lf,Tf,Yf,bg,jg,lg,mg,og,rg,tg,ug,vg,xg,Ag,Dg,Eg,Fg,Gg,Hg,Jg,Tg,Yg,ah,oh,Ch,Dh,Eh,Ih,Lh,Nh,Rh,Th,Yh,ai,gi,li,mi,ni,oi,qi,ti,vi,yi,Ei,Hi,Ii,Ji,Ki,Mi,Ni,Oi,Pi,Ri,Xi,cj,ej,lj,oj,uj,Ej,Gj,Ij,Oj,Rj,Zj,ik,kk,mk,tk,wk,xk,yk,Ak,Bk,Ck,Dk,Fk,Hk,Lk,Ok,Vk,Xk,al,el,gl,jl,kl,nl,pl,tl,yl,Bl,Fl,Hl,Ll,Ol,Ql,Ul,Xl,Zl,gm,im,lm,om,wm,Am,Hm,Jm,Nm,Qm,Sm,Wm,Zm,dn,gn,kn,nn,qn,tn,Bn,Fn,In,Kn;
+u8 *H,*L,*T,*ea,*fa,*qa,*Da,*Ya,*qb,*zb,*Nb,*Sb,*Yb,*cc,*kc,*xc,*Wc,*Xc,*bd,*pd,*qd,*vd,*Id,*Jd,*Nd,*Zd,*ae,*ee,*qe,*re,*ve,*He,*Ie,*Me,*bf,*jf,*vf,*Ef,*Pf,*Qf,*Uf,*Wf,*fg,*gg,*pg,*qg,*Lg,*Qg,*eh,*jh,*ph,*th,*Bh,*Oh,*di,*ki,*wi,*Bi,*Di,*Ui,*ij,*pj,*vj,*zj,*Nj,*Vj,*Wj,*dk,*ek,*hk,*nk,*rk,*vk,*Jk,*Sk,*Tk,*Yk,*fl,*ol,*rl,*vl,*Cl,*Il,*Rl,*am,*jm,*sm,*tm,*xm,*Km,*Tm,*an,*hn,*on,*xn,*yn,*Cn,*Ln;
+u16 Y,Ze,bi;
+s_8_64 Ra,jb,Gb,Xg,bj,Dm;
 if(c-1<65536){
 if(*b==95&&c>1){
 if(b[1]==82){
@@ -121964,961 +122005,953 @@ if(xb<c){
 if(*(b+xb)==115){
 yb=vb+2;
 if(c-yb>=12){
-zb=vb+13;
-Ab=b+(i64)yb;
-Bb=*Ab;
-if(!((Bb<58)|((u8)(Bb-97)<11)))goto L11;
-Cb=0;
-L12:if(*((u8*)t_9eba+*(Ab+Cb))==0){
-Db=Cb+1;
-if(Db!=11){
-Cb=Db;
-goto L12;}
-if(zb<c){
-if(*(b+zb)==95){
-Eb=vb+14;
-goto L13;}}}}
-L11:Fb=any_disambiguator_end_f9c(b,c,xb);
-if(Fb.f0!=1)goto L14;
-Eb=Fb.f1;}
-else Eb=xb;}
-else Eb=xb;
-L13:if(Eb<c){
-Gb=*(b+Eb);
-if((u8)(Gb-58)>=247){
-Hb=Eb+1;
-if(Hb<c){
-Ib=*(b+Hb)-48;
-if(Ib<10){
-Jb=Eb+2;
-Kb=(u64)Ib+(u8)((u8)(Gb*10)+32);
-if(c-Jb<Kb)goto L15;
-Lb=Kb+Jb;
-Mb=b+(i64)Jb;
-Nb=*Mb;
-if((Nb==95)|((u8)(Nb-48)<10)){
+zb=b+(i64)yb;
+Ab=0;
+L11:if(*((u8*)t_9eba+*(zb+Ab))==0){
+Bb=Ab+1;
+if(Bb!=11){
+Ab=Bb;
+goto L11;}
+Cb=*zb;
+if(!((Cb<58)|((u8)(Cb-97)<11)))goto L12;
+Db=11;}
+else Db=Ab;
+Eb=Db+yb;
+if(Eb<c){
+if(*(b+Eb)==95){
+Fb=Eb+1;
+goto L13;}}}
+L12:Gb=any_disambiguator_end_f9c(b,c,xb);
+if(Gb.f0!=1)goto L14;
+Fb=Gb.f1;}
+else Fb=xb;}
+else Fb=xb;
+L13:if(Fb<c){
+Hb=*(b+Fb);
+if((u8)(Hb-58)>=247){
+Ib=Fb+1;
+if(Ib<c){
+Jb=*(b+Ib)-48;
+if(Jb<10){
+Kb=Fb+2;
+Lb=(u64)Jb+(u8)((u8)(Hb*10)+32);
+if(c-Kb<Lb)goto L14;
+Mb=Lb+Kb;
+Nb=b+(i64)Kb;
+if(*((u8*)t_facb+*Nb)!=0){
 z12(w);
-any_name_span_9bc(w,b,c,Eb);
-Ob=q8(w+4);
-if(*w!=1)goto L15;
-Pb=Ob>>32;
-Qb=Ob&4294967295u;
-goto L16;}
-Rb=0;
-L17:Sb=Mb+Rb;
+any_name_span_9bc(w,b,c,Fb);
+Pb=q8(w+4);
+if(*w!=1)goto L14;
+Qb=Pb>>32;
+Rb=Pb&4294967295u;
+goto L15;}
+Ob=0;
+L16:Sb=Nb+Ob;
 if((u8)((u8)(*((u8*)t_4efc+Sb[1])+*((u8*)t_4efc+*Sb))+*((u8*)t_4efc+Sb[2]))==(u8)(0-*((u8*)t_4efc+Sb[3]))){
-Tb=Rb+4;
-if(Kb-Tb>3){
-Rb=Tb;
-goto L17;}
+Tb=Ob+4;
+if(Lb-Tb>3){
+Ob=Tb;
+goto L16;}
 Ub=Tb;}
-else Ub=Rb;
-if(Ub>=Kb){
-Pb=Lb;
-Qb=Jb;
-goto L16;}
+else Ub=Ob;
+if(Ub>=Lb){
+Qb=Mb;
+Rb=Kb;
+goto L15;}
 Vb=Ub;
-L18:if(*((u8*)t_4efc+*(Mb+Vb))!=0)goto L15;
+L17:if(*((u8*)t_4efc+*(Nb+Vb))!=0)goto L14;
 Wb=Vb+1;
-if(Wb<Kb){
+if(Wb<Lb){
 Vb=Wb;
-goto L18;}
-Pb=Lb;
-Qb=Jb;
-goto L16;}}
-Xb=Gb-48;
-if(c-Hb<Xb)goto L15;
-Yb=b+(i64)Hb;
-Zb=*Yb;
-if((Zb==95)|((u8)(Zb-48)<10)){
+goto L17;}
+Qb=Mb;
+Rb=Kb;
+goto L15;}}
+Xb=Hb-48;
+if(c-Ib<Xb)goto L14;
+Yb=b+(i64)Ib;
+if(*((u8*)t_facb+*Yb)!=0){
 z12(v);
-any_name_span_9bc(v,b,c,Eb);
-ac=q8(v+4);
-if(*v!=1)goto L15;
-Pb=ac>>32;
-Qb=ac&4294967295u;
-goto L16;}
-bc=Hb+Xb;
-if(Gb<=51){
-dc=0;
+any_name_span_9bc(v,b,c,Fb);
+gc=q8(v+4);
+if(*v!=1)goto L14;
+Qb=gc>>32;
+Rb=gc&4294967295u;
+goto L15;}
+Zb=Ib+Xb;
+if(Hb<=51){
+bc=0;
+goto L18;}
+ac=0;
+L19:cc=Yb+ac;
+if((u8)((u8)(*((u8*)t_4efc+cc[1])+*((u8*)t_4efc+*cc))+*((u8*)t_4efc+cc[2]))==(u8)(0-*((u8*)t_4efc+cc[3]))){
+dc=ac+4;
+if(Xb-dc>3){
+ac=dc;
 goto L19;}
-cc=0;
-L20:ec=Yb+cc;
-if((u8)((u8)(*((u8*)t_4efc+ec[1])+*((u8*)t_4efc+*ec))+*((u8*)t_4efc+ec[2]))==(u8)(0-*((u8*)t_4efc+ec[3]))){
-fc=cc+4;
-if(Xb-fc>3){
-cc=fc;
+bc=dc;}
+else bc=ac;
+L18:if(bc>=Xb){
+Qb=Zb;
+Rb=Ib;
+goto L15;}
+ec=bc;
+L20:if(*((u8*)t_4efc+*(Yb+ec))!=0)goto L14;
+fc=ec+1;
+if(fc!=Xb){
+ec=fc;
 goto L20;}
-dc=fc;}
-else dc=cc;
-L19:if(dc>=Xb){
-Pb=bc;
-Qb=Hb;
-goto L16;}
-gc=dc;
-L21:if(*((u8*)t_4efc+*(Yb+gc))!=0)goto L15;
-hc=gc+1;
-if(hc!=Xb){
-gc=hc;
-goto L21;}
-Pb=bc;
-Qb=Hb;
-goto L16;}}
+Qb=Zb;
+Rb=Ib;
+goto L15;}}
 z12(x);
-any_name_span_9bc(x,b,c,Eb);
-ic=q8(x+4);
-if(*x!=1)goto L15;
-Pb=ic>>32;
-Qb=ic&4294967295u;
-L16:if(Pb<=Qb)goto L15;
-jc=b+(i64)Qb;
-kc=Pb-Qb;
-if(r8(a+32)-wb<kc){
-lc=make_ready_8e3(a,kc,128);
-if(!(lc&1))goto L15;}
-mc=extend_from_slice_674(a,jc,kc);
-if(mc&1)goto L15;
-w8(a+192,Pb);
+any_name_span_9bc(x,b,c,Fb);
+hc=q8(x+4);
+if(*x!=1)goto L14;
+Qb=hc>>32;
+Rb=hc&4294967295u;
+L15:if(Qb<=Rb)goto L14;
+ic=Qb-Rb;
+jc=r8(a+32)-wb;
+kc=b+(i64)Rb;
+if((c-Rb<16)|(ic>16)||jc<16){
+if(jc<ic){
+lc=make_ready_8e3(a,ic,128);
+if(!(lc&1))goto L14;}
+mc=extend_from_slice_674(a,kc,ic);
+if(mc&1)goto L14;}
+else{
+nc=extend_from_slice_674(a,kc,16);
+if(nc&1)goto L14;
+oc=ic+wb;
+if(r8(a+8)>oc)w8(a+8,oc);}
+w8(a+192,Qb);
 if(r8(a+136)>vb){
-nc=r8(a+96);
-if(nc>65534){
-oc=0;
-pc=0;
-qc=0;}
-else{
-rc=r8(a+8);
-sc=a[80];
-if(r8(a+120)>nc)tc=nc;
-else{
-uc=make_ready_b73(a+88);
-if(!(uc&1)){
-oc=0;
-pc=0;
+pc=r8(a+96);
+if(pc>65534){
 qc=0;
-goto L22;}
-tc=r8(a+96);}
-vc=rp(a+88)+tc*24;
-x8(vc,wb);
-x8(vc+8,rc);
-vc[16]=0;
-vc[17]=sc;
-z6(vc+18);
-w8(a+96,tc+1);
-w2(rp(a+128)+(i64)(vb<<1),(u16)nc+1);
-oc=1;
-pc=2;
-qc=wb;}}
+rc=0;
+sc=0;}
 else{
-oc=0;
-pc=0;
-qc=0;}
-L22:w8(y,oc);
-y[8]=pc;
+tc=r8(a+8);
+uc=a[80];
+if(r8(a+120)>pc)vc=pc;
+else{
+wc=make_ready_b73(a+88);
+if(!(wc&1)){
+qc=0;
+rc=0;
+sc=0;
+goto L21;}
+vc=r8(a+96);}
+xc=rp(a+88)+vc*24;
+x8(xc,wb);
+x8(xc+8,tc);
+xc[16]=0;
+xc[17]=uc;
+z6(xc+18);
+w8(a+96,vc+1);
+w2(rp(a+128)+(i64)(vb<<1),(u16)pc+1);
+qc=1;
+rc=2;
+sc=wb;}}
+else{
+qc=0;
+rc=0;
+sc=0;}
+L21:w8(y,qc);
+y[8]=rc;
 y[9]=0;
-w8(y+16,qc);
+w8(y+16,sc);
 y[24]=0;
-goto L14;
-case 78:wc=vb+1;
-if(wc>=c)goto L23;
-xc=*(b+wc);
-if(xc<65)goto L23;
-if(!((xc<91)|((u8)(xc-97)<26)))goto L23;
+goto L22;
+case 78:yc=vb+1;
+if(yc<c)zc=*(b+yc);
+else zc=0;
+if(yc==18446744073709551615u||*((u8*)t_eb43+zc)==0)goto L23;
 w8(a+192,vb+2);
-yc=r8(a+160);
-if(r8(a+184)>yc){
-zc=yc;
-Ac=2;
-Bc=xc;
+Ac=r8(a+160);
+if(r8(a+184)>Ac){
+Bc=Ac;
+Cc=2;
+Dc=zc;
 goto L24;}
-Cc=make_ready_e3c(a+152);
-if(!(Cc&1))goto L23;
-Dc=2;
-Ec=xc;
+Ec=make_ready_e3c(a+152);
+if(!(Ec&1))goto L23;
+Fc=2;
+Gc=zc;
 goto L25;
 case 73:w8(a+192,vb+1);
-Fc=r8(a+160);
-if(r8(a+184)>Fc){
-zc=Fc;
-Ac=3;
-Bc=0;
+Hc=r8(a+160);
+if(r8(a+184)>Hc){
+Bc=Hc;
+Cc=3;
+Dc=0;
 goto L24;}
-Gc=make_ready_e3c(a+152);
-if(!(Gc&1))goto L23;
-Dc=3;
-Ec=0;
+Ic=make_ready_e3c(a+152);
+if(!(Ic&1))goto L23;
+Fc=3;
+Gc=0;
 goto L25;
 case 77:begin_impl_c72(y,a,b,c);
-goto L14;
+goto L22;
 case 88:begin_trait_impl_220(y,a,b,c);
-goto L14;
+goto L22;
 case 89:begin_trait_f9f(y,a);
-goto L14;
-case 82:Hc=vb+1;
-if(Hc<c){
-if(*(b+Hc)==76){
-Ic=vb+2;
-if(Ic>=c){
-Kc=0;
-Lc=0;
+goto L22;
+case 82:Jc=vb+1;
+if(Jc<c){
+if(*(b+Jc)==76){
+Kc=vb+2;
+if(Kc>=c){
+Mc=0;
+Nc=0;
 goto L26;}
-if(*(b+Ic)!=95){
-Kc=0;
-Lc=0;
+if(*(b+Kc)!=95){
+Mc=0;
+Nc=0;
 goto L26;}
-Jc=vb+3;}
-else Jc=Hc;}
-else Jc=Hc;
-Mc=r8(a+8);
-if(r8(a+32)==Mc){
-Nc=make_ready_8e3(a,1,128);
-if(!(Nc&1)){
-Kc=0;
-Lc=0;
+Lc=vb+3;}
+else Lc=Jc;}
+else Lc=Jc;
+Oc=r8(a+8);
+if(r8(a+32)==Oc){
+Pc=make_ready_8e3(a,1,128);
+if(!(Pc&1)){
+Mc=0;
+Nc=0;
 goto L26;}
-Oc=r8(a+8);}
-else Oc=Mc;
-Pc=r8(a+16);
-if(Pc==Oc){
-Qc=grow_amortized_68b(a,1);
-if(!Qc){
-Kc=0;
-Lc=0;
-goto L26;}
+Qc=r8(a+8);}
+else Qc=Oc;
 Rc=r8(a+16);
-Sc=r8(a+8);}
-else{
-Rc=Pc;
-Sc=Oc;}
-Tc=Sc+1;
-Uc=rp(a);
-z16(a+8);
-Vc=Uc+(i64)Sc;
-if((u64)Vc==(u64)(u8*)t_951d)copy_bits_4f4((u8*)t_951d,Vc,1);
-else *Vc=38;
-wp(a,Uc);
-w8(a+8,Tc);
-w8(a+16,Rc);
-Wc=r8(a+160);
-if(r8(a+184)>Wc)Xc=Wc;
-else{
-Yc=make_ready_e3c(a+152);
-if(!(Yc&1)){
-Kc=0;
-Lc=0;
+if(Rc==Qc){
+Sc=grow_amortized_68b(a,1);
+if(!Sc){
+Mc=0;
+Nc=0;
 goto L26;}
-Xc=r8(a+160);}
-Zc=rp(a+152)+(Xc<<5);
-*Zc=9;
-Zc[1]=0;
-x8(Zc+8,vb);
-x8(Zc+16,Mc);
-Zc[24]=0;
-w8(a+160,Xc+1);
-w8(a+192,Jc);
-Kc=1;
-Lc=1;
-L26:w8(y,Kc);
-y[8]=Lc;
+Tc=r8(a+16);
+Uc=r8(a+8);}
+else{
+Tc=Rc;
+Uc=Qc;}
+Vc=Uc+1;
+Wc=rp(a);
+z16(a+8);
+Xc=Wc+(i64)Uc;
+if((u64)Xc==(u64)(u8*)t_951d)copy_bits_4f4((u8*)t_951d,Xc,1);
+else *Xc=38;
+wp(a,Wc);
+w8(a+8,Vc);
+w8(a+16,Tc);
+Yc=r8(a+160);
+if(r8(a+184)>Yc)Zc=Yc;
+else{
+ad=make_ready_e3c(a+152);
+if(!(ad&1)){
+Mc=0;
+Nc=0;
+goto L26;}
+Zc=r8(a+160);}
+bd=rp(a+152)+(Zc<<5);
+*bd=9;
+bd[1]=0;
+x8(bd+8,vb);
+x8(bd+16,Oc);
+bd[24]=0;
+w8(a+160,Zc+1);
+w8(a+192,Lc);
+Mc=1;
+Nc=1;
+L26:w8(y,Mc);
+y[8]=Nc;
 y[9]=0;
 w8(y+16,0);
 y[24]=0;
-goto L14;
-case 81:ad=vb+1;
-if(ad<c){
-if(*(b+ad)==76){
-bd=vb+2;
-if(bd>=c){
-dd=0;
-ed=0;
+goto L22;
+case 81:cd=vb+1;
+if(cd<c){
+if(*(b+cd)==76){
+dd=vb+2;
+if(dd>=c){
+fd=0;
+gd=0;
 goto L27;}
-if(*(b+bd)!=95){
-dd=0;
-ed=0;
+if(*(b+dd)!=95){
+fd=0;
+gd=0;
 goto L27;}
-cd=vb+3;}
-else cd=ad;}
-else cd=ad;
-fd=r8(a+8);
-if(r8(a+32)-fd<5){
-gd=make_ready_8e3(a,5,128);
-if(!(gd&1)){
-dd=0;
-ed=0;
+ed=vb+3;}
+else ed=cd;}
+else ed=cd;
+hd=r8(a+8);
+if(r8(a+32)-hd<5){
+id=make_ready_8e3(a,5,128);
+if(!(id&1)){
+fd=0;
+gd=0;
 goto L27;}
-hd=r8(a+8);}
-else hd=fd;
-id=r8(a+16);
-if(id-hd<5){
-jd=grow_amortized_68b(a,5);
-if(!jd){
-dd=0;
-ed=0;
-goto L27;}
+jd=r8(a+8);}
+else jd=hd;
 kd=r8(a+16);
-ld=r8(a+8);}
-else{
-kd=id;
-ld=hd;}
-md=ld+5;
-nd=rp(a);
-z16(a+8);
-od=nd+(i64)ld;
-if((u64)od-(u64)(u8*)t_d821<5)copy_bits_4f4((u8*)t_d821,od,5);
-else memcpy(od,(u8*)t_d821,5);
-wp(a,nd);
-w8(a+8,md);
-w8(a+16,kd);
-pd=r8(a+160);
-if(r8(a+184)>pd)qd=pd;
-else{
-sd=make_ready_e3c(a+152);
-if(!(sd&1)){
-dd=0;
-ed=0;
+if(kd-jd<5){
+ld=grow_amortized_68b(a,5);
+if(!ld){
+fd=0;
+gd=0;
 goto L27;}
-qd=r8(a+160);}
-td=rp(a+152)+(qd<<5);
-*td=9;
-td[1]=0;
-x8(td+8,vb);
-x8(td+16,fd);
-td[24]=0;
-w8(a+160,qd+1);
-w8(a+192,cd);
-dd=1;
-ed=1;
-L27:w8(y,dd);
-y[8]=ed;
+md=r8(a+16);
+nd=r8(a+8);}
+else{
+md=kd;
+nd=jd;}
+od=nd+5;
+pd=rp(a);
+z16(a+8);
+qd=pd+(i64)nd;
+if((u64)qd-(u64)(u8*)t_d821<5)copy_bits_4f4((u8*)t_d821,qd,5);
+else memcpy(qd,(u8*)t_d821,5);
+wp(a,pd);
+w8(a+8,od);
+w8(a+16,md);
+sd=r8(a+160);
+if(r8(a+184)>sd)td=sd;
+else{
+ud=make_ready_e3c(a+152);
+if(!(ud&1)){
+fd=0;
+gd=0;
+goto L27;}
+td=r8(a+160);}
+vd=rp(a+152)+(td<<5);
+*vd=9;
+vd[1]=0;
+x8(vd+8,vb);
+x8(vd+16,hd);
+vd[24]=0;
+w8(a+160,td+1);
+w8(a+192,ed);
+fd=1;
+gd=1;
+L27:w8(y,fd);
+y[8]=gd;
 y[9]=0;
 w8(y+16,0);
 y[24]=0;
-goto L14;
-case 80:ud=vb+1;
-vd=r8(a+8);
-if(r8(a+32)-vd<7){
-xd=make_ready_8e3(a,7,128);
-if(!(xd&1)){
-zd=0;
-Ad=0;
+goto L22;
+case 80:xd=vb+1;
+yd=r8(a+8);
+if(r8(a+32)-yd<7){
+zd=make_ready_8e3(a,7,128);
+if(!(zd&1)){
+Bd=0;
+Cd=0;
 goto L28;}
-yd=r8(a+8);}
-else yd=vd;
-Bd=r8(a+16);
-if(Bd-yd<7){
-Cd=grow_amortized_68b(a,7);
-if(!Cd){
-zd=0;
-Ad=0;
-goto L28;}
+Ad=r8(a+8);}
+else Ad=yd;
 Dd=r8(a+16);
-Ed=r8(a+8);}
-else{
-Dd=Bd;
-Ed=yd;}
-Fd=Ed+7;
-Gd=rp(a);
-z16(a+8);
-Hd=Gd+(i64)Ed;
-if((u64)Hd-(u64)(u8*)t_ff67<7)copy_bits_4f4((u8*)t_ff67,Hd,7);
-else memcpy(Hd,(u8*)t_ff67,7);
-wp(a,Gd);
-w8(a+8,Fd);
-w8(a+16,Dd);
-Id=r8(a+160);
-if(r8(a+184)>Id)Jd=Id;
-else{
-Kd=make_ready_e3c(a+152);
-if(!(Kd&1)){
-zd=0;
-Ad=0;
+if(Dd-Ad<7){
+Ed=grow_amortized_68b(a,7);
+if(!Ed){
+Bd=0;
+Cd=0;
 goto L28;}
-Jd=r8(a+160);}
-Ld=rp(a+152)+(Jd<<5);
-*Ld=9;
-Ld[1]=0;
-x8(Ld+8,vb);
-x8(Ld+16,vd);
-Ld[24]=0;
-w8(a+160,Jd+1);
-w8(a+192,ud);
-zd=1;
-Ad=1;
-L28:w8(y,zd);
-y[8]=Ad;
+Fd=r8(a+16);
+Gd=r8(a+8);}
+else{
+Fd=Dd;
+Gd=Ad;}
+Hd=Gd+7;
+Id=rp(a);
+z16(a+8);
+Jd=Id+(i64)Gd;
+if((u64)Jd-(u64)(u8*)t_ff67<7)copy_bits_4f4((u8*)t_ff67,Jd,7);
+else memcpy(Jd,(u8*)t_ff67,7);
+wp(a,Id);
+w8(a+8,Hd);
+w8(a+16,Fd);
+Kd=r8(a+160);
+if(r8(a+184)>Kd)Ld=Kd;
+else{
+Md=make_ready_e3c(a+152);
+if(!(Md&1)){
+Bd=0;
+Cd=0;
+goto L28;}
+Ld=r8(a+160);}
+Nd=rp(a+152)+(Ld<<5);
+*Nd=9;
+Nd[1]=0;
+x8(Nd+8,vb);
+x8(Nd+16,yd);
+Nd[24]=0;
+w8(a+160,Ld+1);
+w8(a+192,xd);
+Bd=1;
+Cd=1;
+L28:w8(y,Bd);
+y[8]=Cd;
 y[9]=0;
 w8(y+16,0);
 y[24]=0;
-goto L14;
-case 79:Md=vb+1;
-Nd=r8(a+8);
-if(r8(a+32)-Nd<5){
-Od=make_ready_8e3(a,5,128);
-if(!(Od&1)){
-Qd=0;
-Rd=0;
+goto L22;
+case 79:Od=vb+1;
+Pd=r8(a+8);
+if(r8(a+32)-Pd<5){
+Qd=make_ready_8e3(a,5,128);
+if(!(Qd&1)){
+Sd=0;
+Td=0;
 goto L29;}
-Pd=r8(a+8);}
-else Pd=Nd;
-Sd=r8(a+16);
-if(Sd-Pd<5){
-Td=grow_amortized_68b(a,5);
-if(!Td){
-Qd=0;
-Rd=0;
-goto L29;}
+Rd=r8(a+8);}
+else Rd=Pd;
 Ud=r8(a+16);
-Vd=r8(a+8);}
-else{
-Ud=Sd;
-Vd=Pd;}
-Wd=Vd+5;
-Xd=rp(a);
-z16(a+8);
-Yd=Xd+(i64)Vd;
-if((u64)Yd-(u64)(u8*)t_b2e2<5)copy_bits_4f4((u8*)t_b2e2,Yd,5);
-else memcpy(Yd,(u8*)t_b2e2,5);
-wp(a,Xd);
-w8(a+8,Wd);
-w8(a+16,Ud);
-Zd=r8(a+160);
-if(r8(a+184)>Zd)ae=Zd;
-else{
-be=make_ready_e3c(a+152);
-if(!(be&1)){
-Qd=0;
-Rd=0;
+if(Ud-Rd<5){
+Vd=grow_amortized_68b(a,5);
+if(!Vd){
+Sd=0;
+Td=0;
 goto L29;}
-ae=r8(a+160);}
-ce=rp(a+152)+(ae<<5);
-*ce=9;
-ce[1]=0;
-x8(ce+8,vb);
-x8(ce+16,Nd);
-ce[24]=0;
-w8(a+160,ae+1);
-w8(a+192,Md);
-Qd=1;
-Rd=1;
-L29:w8(y,Qd);
-y[8]=Rd;
+Wd=r8(a+16);
+Xd=r8(a+8);}
+else{
+Wd=Ud;
+Xd=Rd;}
+Yd=Xd+5;
+Zd=rp(a);
+z16(a+8);
+ae=Zd+(i64)Xd;
+if((u64)ae-(u64)(u8*)t_b2e2<5)copy_bits_4f4((u8*)t_b2e2,ae,5);
+else memcpy(ae,(u8*)t_b2e2,5);
+wp(a,Zd);
+w8(a+8,Yd);
+w8(a+16,Wd);
+be=r8(a+160);
+if(r8(a+184)>be)ce=be;
+else{
+de=make_ready_e3c(a+152);
+if(!(de&1)){
+Sd=0;
+Td=0;
+goto L29;}
+ce=r8(a+160);}
+ee=rp(a+152)+(ce<<5);
+*ee=9;
+ee[1]=0;
+x8(ee+8,vb);
+x8(ee+16,Pd);
+ee[24]=0;
+w8(a+160,ce+1);
+w8(a+192,Od);
+Sd=1;
+Td=1;
+L29:w8(y,Sd);
+y[8]=Td;
 y[9]=0;
 w8(y+16,0);
 y[24]=0;
-goto L14;
-case 83:de=vb+1;
-ee=r8(a+8);
-if(r8(a+32)==ee){
-fe=make_ready_8e3(a,1,128);
-if(!(fe&1)){
-he=0;
-ie=0;
+goto L22;
+case 83:fe=vb+1;
+ge=r8(a+8);
+if(r8(a+32)==ge){
+he=make_ready_8e3(a,1,128);
+if(!(he&1)){
+je=0;
+ke=0;
 goto L30;}
-ge=r8(a+8);}
-else ge=ee;
-je=r8(a+16);
-if(je==ge){
-ke=grow_amortized_68b(a,1);
-if(!ke){
-he=0;
-ie=0;
-goto L30;}
+ie=r8(a+8);}
+else ie=ge;
 le=r8(a+16);
-me=r8(a+8);}
-else{
-le=je;
-me=ge;}
-ne=me+1;
-oe=rp(a);
-z16(a+8);
-pe=oe+(i64)me;
-if((u64)pe==(u64)(u8*)t_2458)copy_bits_4f4((u8*)t_2458,pe,1);
-else *pe=91;
-wp(a,oe);
-w8(a+8,ne);
-w8(a+16,le);
-qe=r8(a+160);
-if(r8(a+184)>qe)re=qe;
-else{
-se=make_ready_e3c(a+152);
-if(!(se&1)){
-he=0;
-ie=0;
+if(le==ie){
+me=grow_amortized_68b(a,1);
+if(!me){
+je=0;
+ke=0;
 goto L30;}
-re=r8(a+160);}
-te=rp(a+152)+(re<<5);
-*te=9;
-te[1]=0;
-x8(te+8,vb);
-x8(te+16,ee);
-te[24]=1;
-w8(a+160,re+1);
-w8(a+192,de);
-he=1;
-ie=1;
-L30:w8(y,he);
-y[8]=ie;
-y[9]=0;
-w8(y+16,0);
-y[24]=0;
-goto L14;
-case 84:ue=r8(a+8);
-ve=vb+1;
-if(r8(a+32)==ue){
-we=make_ready_8e3(a,1,128);
-if(!(we&1)){
-ye=0;
-ze=0;
-goto L31;}
-xe=r8(a+8);}
-else xe=ue;
-Ae=r8(a+16);
-if(Ae==xe){
-Be=grow_amortized_68b(a,1);
-if(!Be){
-ye=0;
-ze=0;
-goto L31;}
-Ce=r8(a+16);
-De=r8(a+8);}
+ne=r8(a+16);
+oe=r8(a+8);}
 else{
-Ce=Ae;
-De=xe;}
-Ee=De+1;
-Fe=rp(a);
+ne=le;
+oe=ie;}
+pe=oe+1;
+qe=rp(a);
 z16(a+8);
-Ge=Fe+(i64)De;
-if((u64)Ge==(u64)(u8*)t_32eb)copy_bits_4f4((u8*)t_32eb,Ge,1);
-else *Ge=40;
-wp(a,Fe);
-w8(a+8,Ee);
-w8(a+16,Ce);
-He=r8(a+160);
-if(r8(a+184)>He)Ie=He;
+re=qe+(i64)oe;
+if((u64)re==(u64)(u8*)t_2458)copy_bits_4f4((u8*)t_2458,re,1);
+else *re=91;
+wp(a,qe);
+w8(a+8,pe);
+w8(a+16,ne);
+se=r8(a+160);
+if(r8(a+184)>se)te=se;
 else{
-Je=make_ready_e3c(a+152);
-if(!(Je&1)){
-ye=0;
-ze=0;
-goto L31;}
-Ie=r8(a+160);}
-Ke=rp(a+152)+(Ie<<5);
-*Ke=12;
-Ke[1]=0;
-x8(Ke+8,vb);
-x8(Ke+16,ue);
-Ke[24]=1;
-w8(a+160,Ie+1);
-w8(a+192,ve);
-ye=1;
-ze=1;
-L31:w8(y,ye);
-y[8]=ze;
+ue=make_ready_e3c(a+152);
+if(!(ue&1)){
+je=0;
+ke=0;
+goto L30;}
+te=r8(a+160);}
+ve=rp(a+152)+(te<<5);
+*ve=9;
+ve[1]=0;
+x8(ve+8,vb);
+x8(ve+16,ge);
+ve[24]=1;
+w8(a+160,te+1);
+w8(a+192,fe);
+je=1;
+ke=1;
+L30:w8(y,je);
+y[8]=ke;
 y[9]=0;
 w8(y+16,0);
 y[24]=0;
-goto L14;
-case 66:Le=r8(a+8);
-Me=vb+1;
-Ne=umin64(c-Me,11)+Me;
-if(Me>=Ne){
-Pe=Me;
-goto L32;}
-Oe=Me;
-L33:if(*((u8*)t_84dd+*(b+Oe))<62){
-Qe=Oe+1;
-if(Qe!=Ne){
-Oe=Qe;
+goto L22;
+case 84:we=r8(a+8);
+xe=vb+1;
+if(r8(a+32)==we){
+ye=make_ready_8e3(a,1,128);
+if(!(ye&1)){
+Ae=0;
+Be=0;
+goto L31;}
+ze=r8(a+8);}
+else ze=we;
+Ce=r8(a+16);
+if(Ce==ze){
+De=grow_amortized_68b(a,1);
+if(!De){
+Ae=0;
+Be=0;
+goto L31;}
+Ee=r8(a+16);
+Fe=r8(a+8);}
+else{
+Ee=Ce;
+Fe=ze;}
+Ge=Fe+1;
+He=rp(a);
+z16(a+8);
+Ie=He+(i64)Fe;
+if((u64)Ie==(u64)(u8*)t_32eb)copy_bits_4f4((u8*)t_32eb,Ie,1);
+else *Ie=40;
+wp(a,He);
+w8(a+8,Ge);
+w8(a+16,Ee);
+Je=r8(a+160);
+if(r8(a+184)>Je)Ke=Je;
+else{
+Le=make_ready_e3c(a+152);
+if(!(Le&1)){
+Ae=0;
+Be=0;
+goto L31;}
+Ke=r8(a+160);}
+Me=rp(a+152)+(Ke<<5);
+*Me=12;
+Me[1]=0;
+x8(Me+8,vb);
+x8(Me+16,we);
+Me[24]=1;
+w8(a+160,Ke+1);
+w8(a+192,xe);
+Ae=1;
+Be=1;
+L31:w8(y,Ae);
+y[8]=Be;
+y[9]=0;
+w8(y+16,0);
+y[24]=0;
+goto L22;
+case 66:Ne=r8(a+8);
+Oe=vb+1;
+z24(u);
+Pe=Oe!=18446744073709551615u;
+Qe=vb+2;
+if(Pe&((Pe?Qe:0)<c)){
+if(*(b+Qe)==95){
+Re=*((u8*)t_84dd+*(b+(i64)Oe));
+if(Re<62){
+Se=Re+3;
+Te=vb+3;
+goto L32;}}}
+any_number_at_3d4(u,b,c,Oe);
+Ue=r8(u+8);
+if(!(*u==1&&Ue<0xfffffffffffffffeu)){
+Ve=0;
+We=0;
+Xe=0;
+Ye=0;
 goto L33;}
-Pe=Ne;}
-else Pe=Oe;
-L32:if(Pe==c){
-Re=0;
-Se=0;
-Te=0;
-Ue=0;}
+Se=Ue+2;
+Te=r8(u+16);
+L32:if(Se<r8(a+136)){
+Ze=r2(rp(a+128)+(i64)(Se<<1));
+if(Ze==0){
+Ve=0;
+We=0;
+Xe=0;
+Ye=0;}
 else{
-if(*(b+Pe)==95){
-Ve=Me&4294967295u;
-We=Pe&4294967295u;
-Xe=We+1;
-if(We==Ve)Ye=2;
+af=(u64)Ze-1;
+if(af<r8(a+96)){
+bf=rp(a+88)+(i64)(af*24);
+cf=bf[16];
+switch(cf){
+case 0:case 2:case 3:df=q8(bf);
+ef=q8(bf+8);
+if(ef<df){
+Ve=0;
+We=0;
+Xe=0;
+Ye=0;}
 else{
-Ze=b+(i64)Ve;
-af=We-Ve;
-if(af>10){
-bf=0;
-cf=0;
-goto L34;}
-df=0;
-ef=0;
-L35:ff=*((u8*)t_84dd+*(Ze+(i64)ef));
-if(ff>=62){
-Re=0;
-Se=0;
-Te=0;
-Ue=0;
-goto L36;}
-gf=df*62+ff;
-hf=ef+1;
-if(hf==af){
-jf=gf;
-goto L37;}
-df=gf;
-ef=hf;
-goto L35;
-L34:kf=*((u8*)t_84dd+*(Ze+(i64)cf));
-if(!((bf<0x421084210842109u)&(kf<62))){
-Re=0;
-Se=0;
-Te=0;
-Ue=0;
-goto L36;}
-lf=bf*62;
-if(lf>(kf^18446744073709551615u)){
-Re=0;
-Se=0;
-Te=0;
-Ue=0;
-goto L36;}
-mf=lf+kf;
-nf=cf+1;
-if(nf!=af){
-bf=mf;
-cf=nf;
-goto L34;}
-jf=mf;
-L37:if(jf>0xfffffffffffffffcu){
-Re=0;
-Se=0;
-Te=0;
-Ue=0;
-goto L36;}
-Ye=jf+3;}
-if(Ye<r8(a+136)){
-of=r2(rp(a+128)+(i64)(Ye<<1));
-if(of==0){
-Re=0;
-Se=0;
-Te=0;
-Ue=0;}
-else{
-pf=(u64)of-1;
-if(pf<r8(a+96)){
-qf=rp(a+88)+(i64)(pf*24);
-rf=qf[16];
-switch(rf){
-case 0:case 2:case 3:memcpy(u,qf,16);
-u[16]=rf;
-memcpy(u+17,qf+17,7);
-sf=repeat_2ff(a,u);
-if(sf&1){
-w8(a+192,Xe);
-if(r8(a+136)>vb){
-tf=r8(a+96);
-if(tf>65534){
-Re=0;
-Se=0;
-Te=0;
-Ue=0;}
-else{
-uf=r8(a+8);
-vf=a[80];
-if(r8(a+120)>tf)wf=tf;
-else{
-xf=make_ready_b73(a+88);
-if(!(xf&1)){
-Re=0;
-Se=0;
-Te=0;
-Ue=0;
+if((u8)(a[80]^bf[17])&1){
+ff=r8(a+48);
+if(ff<ef){
+Ve=0;
+We=0;
+Xe=0;
+Ye=0;
 break;}
-wf=r8(a+96);}
-yf=rp(a+88)+wf*24;
-x8(yf,Le);
-x8(yf+8,uf);
-yf[16]=rf;
-yf[17]=vf;
-z6(yf+18);
-w8(a+96,wf+1);
-w2(rp(a+128)+(i64)(vb<<1),(u16)tf+1);
-Re=1;
-Se=2;
-Te=Le;
-Ue=3;}}
+gf=ef-df;
+hf=r8(a+32)-Ne;
+jf=rp(a+40)+(i64)df;
+if(!((gf>16)|(ff-df<16)||hf<16)){
+nf=extend_from_slice_674(a,jf,16);
+if(!(nf&1)){
+of=gf+Ne;
+if(r8(a+8)<=of)goto L34;
+w8(a+8,of);
+goto L34;}
+Ve=0;
+We=0;
+Xe=0;
+Ye=0;
+break;}
+if(hf<gf){
+kf=make_ready_8e3(a,gf,128);
+if(!(kf&1)){
+Ve=0;
+We=0;
+Xe=0;
+Ye=0;
+break;}}
+lf=extend_from_slice_674(a,jf,gf);
+mf=lf;}
 else{
-Re=0;
-Se=0;
-Te=0;
-Ue=0;}}
+if(Ne<ef){
+Ve=0;
+We=0;
+Xe=0;
+Ye=0;
+break;}
+pf=repeat_28b(a,df,ef);
+mf=pf^1;}
+if(mf&1){
+Ve=0;
+We=0;
+Xe=0;
+Ye=0;
+break;}
+L34:w8(a+192,Te);
+if(r8(a+136)>vb){
+qf=r8(a+96);
+if(qf>65534){
+Ve=0;
+We=0;
+Xe=0;
+Ye=0;}
 else{
-Re=0;
-Se=0;
-Te=0;
-Ue=0;}
+rf=r8(a+8);
+sf=a[80];
+if(r8(a+120)>qf)tf=qf;
+else{
+uf=make_ready_b73(a+88);
+if(!(uf&1)){
+Ve=0;
+We=0;
+Xe=0;
+Ye=0;
+break;}
+tf=r8(a+96);}
+vf=rp(a+88)+tf*24;
+x8(vf,Ne);
+x8(vf+8,rf);
+vf[16]=cf;
+vf[17]=sf;
+z6(vf+18);
+w8(a+96,tf+1);
+w2(rp(a+128)+(i64)(vb<<1),(u16)qf+1);
+Ve=1;
+We=2;
+Xe=Ne;
+Ye=3;}}
+else{
+Ve=0;
+We=0;
+Xe=0;
+Ye=0;}}
 break;
-case 1:case 4:Re=0;
-Se=0;
-Te=0;
-Ue=0;
+case 1:case 4:Ve=0;
+We=0;
+Xe=0;
+Ye=0;
 break;
 default:NEVER;
 }}
 else{
-Re=0;
-Se=0;
-Te=0;
-Ue=0;}}}
+Ve=0;
+We=0;
+Xe=0;
+Ye=0;}}}
 else{
-Re=0;
-Se=0;
-Te=0;
-Ue=0;}}
-else{
-Re=0;
-Se=0;
-Te=0;
-Ue=0;}}
-L36:w8(y,Re);
-y[8]=Se;
+Ve=0;
+We=0;
+Xe=0;
+Ye=0;}
+L33:w8(y,Ve);
+y[8]=We;
 y[9]=0;
-w8(y+16,Te);
-y[24]=Ue;
-goto L14;
-case 65:zf=r8(a+8);
+w8(y+16,Xe);
+y[24]=Ye;
+goto L22;
+case 65:wf=r8(a+8);
 w8(a+192,vb+1);
-if(r8(a+32)>zf)Af=zf;
+if(r8(a+32)>wf)xf=wf;
 else{
-Bf=make_ready_8e3(a,1,16);
-if(!(Bf&1)){
-Cf=0;
-Df=0;
-goto L38;}
-Af=r8(a+8);}
-*(rp(a)+Af)=91;
-w8(a+8,Af+1);
-Ef=r8(a+160);
-if(r8(a+184)>Ef)Ff=Ef;
+yf=make_ready_8e3(a,1,16);
+if(!(yf&1)){
+zf=0;
+Af=0;
+goto L35;}
+xf=r8(a+8);}
+*(rp(a)+xf)=91;
+w8(a+8,xf+1);
+Bf=r8(a+160);
+if(r8(a+184)>Bf)Cf=Bf;
 else{
-Gf=make_ready_e3c(a+152);
-if(!(Gf&1)){
-Cf=0;
-Df=0;
-goto L38;}
-Ff=r8(a+160);}
-Hf=rp(a+152)+(Ff<<5);
-*Hf=14;
-Hf[1]=0;
-x8(Hf+8,vb);
-x8(Hf+16,zf);
-Hf[24]=0;
-w8(a+160,Ff+1);
-Cf=1;
-Df=1;
-L38:w8(y,Cf);
-y[8]=Df;
+Df=make_ready_e3c(a+152);
+if(!(Df&1)){
+zf=0;
+Af=0;
+goto L35;}
+Cf=r8(a+160);}
+Ef=rp(a+152)+(Cf<<5);
+*Ef=14;
+Ef[1]=0;
+x8(Ef+8,vb);
+x8(Ef+16,wf);
+Ef[24]=0;
+w8(a+160,Cf+1);
+zf=1;
+Af=1;
+L35:w8(y,zf);
+y[8]=Af;
 y[9]=0;
 w8(y+16,0);
 y[24]=0;
-goto L14;
-case 68:If=r8(a+8);
-Jf=vb+1;
-if(r8(a+32)-If<4){
-Kf=make_ready_8e3(a,4,128);
-if(!(Kf&1)){
-Mf=0;
-goto L39;}
-Lf=r8(a+8);}
-else Lf=If;
-Nf=r8(a+16);
-if(Nf-Lf<4){
-Of=grow_amortized_68b(a,4);
-if(!Of){
-Mf=0;
-goto L39;}
-Pf=r8(a+16);
-Qf=r8(a+8);}
+goto L22;
+case 68:Ff=r8(a+8);
+Gf=vb+1;
+if(r8(a+32)-Ff<4){
+Hf=make_ready_8e3(a,4,128);
+if(!(Hf&1)){
+Jf=0;
+goto L36;}
+If=r8(a+8);}
+else If=Ff;
+Kf=r8(a+16);
+if(Kf-If<4){
+Lf=grow_amortized_68b(a,4);
+if(!Lf){
+Jf=0;
+goto L36;}
+Mf=r8(a+16);
+Nf=r8(a+8);}
 else{
-Pf=Nf;
-Qf=Lf;}
-Rf=Qf+4;
-Sf=rp(a);
+Mf=Kf;
+Nf=If;}
+Of=Nf+4;
+Pf=rp(a);
 z16(a+8);
-Tf=Sf+(i64)Qf;
-if((u64)Tf-(u64)(u8*)t_f616<4)copy_bits_4f4((u8*)t_f616,Tf,4);
-else x4(Tf,544110948);
-wp(a,Sf);
-w8(a+8,Rf);
-w8(a+16,Pf);
-Uf=r8(a+160);
-if(r8(a+184)>Uf)Vf=Uf;
+Qf=Pf+(i64)Nf;
+if((u64)Qf-(u64)(u8*)t_f616<4)copy_bits_4f4((u8*)t_f616,Qf,4);
+else x4(Qf,544110948);
+wp(a,Pf);
+w8(a+8,Of);
+w8(a+16,Mf);
+Rf=r8(a+160);
+if(r8(a+184)>Rf)Sf=Rf;
 else{
-Wf=make_ready_e3c(a+152);
-if(!(Wf&1)){
-Mf=0;
-goto L39;}
-Vf=r8(a+160);}
-Xf=rp(a+152)+(Vf<<5);
-*Xf=13;
-Xf[1]=0;
-x8(Xf+8,vb);
-x8(Xf+16,If);
-Xf[24]=0;
-w8(a+160,Vf+1);
-w8(a+192,Jf);
-Mf=1;
-L39:w8(y,Mf);
+Tf=make_ready_e3c(a+152);
+if(!(Tf&1)){
+Jf=0;
+goto L36;}
+Sf=r8(a+160);}
+Uf=rp(a+152)+(Sf<<5);
+*Uf=13;
+Uf[1]=0;
+x8(Uf+8,vb);
+x8(Uf+16,Ff);
+Uf[24]=0;
+w8(a+160,Sf+1);
+w8(a+192,Gf);
+Jf=1;
+L36:w8(y,Jf);
 y[8]=0;
 y[9]=0;
 w8(y+16,0);
 y[24]=0;
-goto L14;
-case 97:Yf=2;
-Zf=(u8*)t_4c1d;
+goto L22;
+case 97:Vf=2;
+Wf=(u8*)t_4c1d;
 break;
-case 98:Yf=4;
-Zf=(u8*)t_b760;
+case 98:Vf=4;
+Wf=(u8*)t_b760;
 break;
-case 99:Yf=4;
-Zf=(u8*)t_411b;
+case 99:Vf=4;
+Wf=(u8*)t_411b;
 break;
-case 100:Yf=3;
-Zf=(u8*)t_6a3e;
+case 100:Vf=3;
+Wf=(u8*)t_6a3e;
 break;
-case 101:Yf=3;
-Zf=(u8*)t_8c25;
+case 101:Vf=3;
+Wf=(u8*)t_8c25;
 break;
-case 102:Yf=3;
-Zf=(u8*)t_16b5;
+case 102:Vf=3;
+Wf=(u8*)t_16b5;
 break;
-case 104:Yf=2;
-Zf=(u8*)t_c899;
+case 104:Vf=2;
+Wf=(u8*)t_c899;
 break;
-case 105:Yf=5;
-Zf=(u8*)t_db3b;
+case 105:Vf=5;
+Wf=(u8*)t_db3b;
 break;
-case 106:Yf=5;
-Zf=(u8*)t_f417;
+case 106:Vf=5;
+Wf=(u8*)t_f417;
 break;
-case 108:Yf=3;
-Zf=(u8*)t_579a;
+case 108:Vf=3;
+Wf=(u8*)t_579a;
 break;
-case 109:Yf=3;
-Zf=(u8*)t_d764;
+case 109:Vf=3;
+Wf=(u8*)t_d764;
 break;
-case 110:Yf=4;
-Zf=(u8*)t_9cf5;
+case 110:Vf=4;
+Wf=(u8*)t_9cf5;
 break;
-case 111:Yf=4;
-Zf=(u8*)t_fcd0;
+case 111:Vf=4;
+Wf=(u8*)t_fcd0;
 break;
-case 112:Yf=1;
-Zf=(u8*)t_d2e2;
+case 112:Vf=1;
+Wf=(u8*)t_d2e2;
 break;
-case 115:Yf=3;
-Zf=(u8*)t_7daa;
+case 115:Vf=3;
+Wf=(u8*)t_7daa;
 break;
-case 116:Yf=3;
-Zf=(u8*)t_2988;
+case 116:Vf=3;
+Wf=(u8*)t_2988;
 break;
-case 117:Yf=2;
-Zf=(u8*)t_2e38;
+case 117:Vf=2;
+Wf=(u8*)t_2e38;
 break;
-case 118:Yf=3;
-Zf=(u8*)t_ab5d;
+case 118:Vf=3;
+Wf=(u8*)t_ab5d;
 break;
-case 120:Yf=3;
-Zf=(u8*)t_1a91;
+case 120:Vf=3;
+Wf=(u8*)t_1a91;
 break;
-case 121:Yf=3;
-Zf=(u8*)t_1506;
+case 121:Vf=3;
+Wf=(u8*)t_1506;
 break;
-case 122:Yf=1;
-Zf=(u8*)t_bb72;
+case 122:Vf=1;
+Wf=(u8*)t_bb72;
 break;
-default:goto L14;
+default:goto L22;
 }
-ag=r8(a+8);
+Xf=r8(a+8);
 w8(a+192,vb+1);
-if(r8(a+32)-ag<Yf){
-bg=make_ready_8e3(a,Yf,128);
-if(!(bg&1))goto L15;
-cg=r8(a+8);}
-else cg=ag;
-dg=r8(a+16);
-if(Yf>dg-cg){
-eg=grow_amortized_68b(a,Yf);
-if(!eg)goto L15;
-fg=r8(a+16);
-gg=r8(a+8);}
+if(r8(a+32)-Xf<Vf){
+Yf=make_ready_8e3(a,Vf,128);
+if(!(Yf&1))goto L14;
+Zf=r8(a+8);}
+else Zf=Xf;
+ag=r8(a+16);
+if(Vf>ag-Zf){
+bg=grow_amortized_68b(a,Vf);
+if(!bg)goto L14;
+cg=r8(a+16);
+dg=r8(a+8);}
 else{
-fg=dg;
-gg=cg;}
-hg=gg+Yf;
-ig=rp(a);
+cg=ag;
+dg=Zf;}
+eg=dg+Vf;
+fg=rp(a);
 z16(a+8);
-jg=ig+(i64)gg;
-if((u64)jg-(u64)Zf<Yf)copy_bits_4f4(Zf,jg,Yf);
-else memmove(jg,Zf,Yf);
-wp(a,ig);
-w8(a+8,hg);
-w8(a+16,fg);
+gg=fg+(i64)dg;
+if((u64)gg-(u64)Wf<Vf)copy_bits_4f4(Wf,gg,Vf);
+else memmove(gg,Wf,Vf);
+wp(a,fg);
+w8(a+8,eg);
+w8(a+16,cg);
 if(r8(a+136)>vb){
-kg=r8(a+96);
-if(kg>65534){
-lg=0;
-mg=0;
-ng=0;
-og=0;}
+hg=r8(a+96);
+if(hg>65534){
+ig=0;
+jg=0;
+kg=0;
+lg=0;}
 else{
-pg=a[80];
-if(r8(a+120)>kg)qg=kg;
+mg=a[80];
+if(r8(a+120)>hg)ng=hg;
 else{
-rg=make_ready_b73(a+88);
-if(!(rg&1)){
+og=make_ready_b73(a+88);
+if(!(og&1)){
+ig=0;
+jg=0;
+kg=0;
 lg=0;
-mg=0;
-ng=0;
-og=0;
-goto L40;}
-qg=r8(a+96);}
-sg=rp(a+88)+qg*24;
-x8(sg,ag);
-x8(sg+8,hg);
-sg[16]=3;
-sg[17]=pg;
-z6(sg+18);
-w8(a+96,qg+1);
-w2(rp(a+128)+(i64)(vb<<1),(u16)kg+1);
-lg=1;
-mg=2;
-ng=ag;
-og=3;}}
+goto L37;}
+ng=r8(a+96);}
+pg=rp(a+88)+ng*24;
+x8(pg,Xf);
+x8(pg+8,eg);
+pg[16]=3;
+pg[17]=mg;
+z6(pg+18);
+w8(a+96,ng+1);
+w2(rp(a+128)+(i64)(vb<<1),(u16)hg+1);
+ig=1;
+jg=2;
+kg=Xf;
+lg=3;}}
 else{
-lg=0;
-mg=0;
-ng=0;
-og=0;}
-L40:w8(y,lg);
-y[8]=mg;
+ig=0;
+jg=0;
+kg=0;
+lg=0;}
+L37:w8(y,ig);
+y[8]=jg;
 y[9]=0;
-w8(y+16,ng);
-y[24]=og;
-goto L14;
-L25:zc=r8(a+160);
-Ac=Dc;
-Bc=Ec;
-L24:tg=rp(a+152)+(zc<<5);
-*tg=Ac;
-tg[1]=Bc;
-x8(tg+8,vb);
-x8(tg+16,0);
-tg[24]=0;
-w8(a+160,zc+1);
-ug=0;
-goto L41;
+w8(y+16,kg);
+y[24]=lg;
+goto L22;
+L25:Bc=r8(a+160);
+Cc=Fc;
+Dc=Gc;
+L24:qg=rp(a+152)+(Bc<<5);
+*qg=Cc;
+qg[1]=Dc;
+x8(qg+8,vb);
+x8(qg+16,0);
+qg[24]=0;
+w8(a+160,Bc+1);
+rg=0;
+goto L38;
 L23:F=0;
 goto L1;
-L14:if(*y!=1){
+L22:if(*y!=1){
 F=0;
 goto L1;}
 rb=r8(y+16);
@@ -122926,397 +122959,383 @@ sb=y[8];
 tb=y[9];
 ub=y[24];
 goto L10;}
-L15:F=0;
+L14:F=0;
 goto L1;
 L10:if(sb!=0){
-vg=rb;
-wg=sb;
-xg=tb;
-yg=ub;
-goto L42;}
+sg=rb;
+tg=sb;
 ug=tb;
-L41:z32(t);
-zg=r8(a+192);
-if(zg<c){
-Ag=ug&1;
-Bg=zg;
-L43:switch(*(b+Bg)){
-case 78:Cg=Bg+1;
-if(Cg>=c)goto L44;
-Dg=*(b+Cg);
-if(Dg<65)goto L44;
-if(!((Dg<91)|((u8)(Dg-97)<26)))goto L44;
-w8(a+192,Bg+2);
-Eg=r8(a+160);
-if(r8(a+184)>Eg){
-Fg=Eg;
+vg=ub;
+goto L39;}
+rg=tb;
+L38:z32(t);
+wg=r8(a+192);
+if(wg<c){
+xg=rg&1;
+yg=wg;
+L40:switch(*(b+yg)){
+case 78:zg=yg+1;
+if(zg<c)Ag=*(b+zg);
+else Ag=0;
+if(zg==18446744073709551615u||*((u8*)t_eb43+Ag)==0)goto L41;
+w8(a+192,yg+2);
+Bg=r8(a+160);
+if(r8(a+184)>Bg){
+Cg=Bg;
+Dg=2;
+Eg=Ag;
+goto L42;}
+Fg=make_ready_e3c(a+152);
+if(!(Fg&1))goto L41;
 Gg=2;
-Hg=Dg;
-goto L45;}
-Ig=make_ready_e3c(a+152);
-if(!(Ig&1))goto L44;
-Jg=2;
-Kg=Dg;
-break;
-case 73:w8(a+192,Bg+1);
-Lg=r8(a+160);
-if(r8(a+184)>Lg){
-Fg=Lg;
-Gg=3;
 Hg=Ag;
-goto L45;}
-Mg=make_ready_e3c(a+152);
-if(!(Mg&1))goto L44;
-Jg=3;
-Kg=Ag;
 break;
-default:Ng=Bg;
-goto L46;
+case 73:w8(a+192,yg+1);
+Ig=r8(a+160);
+if(r8(a+184)>Ig){
+Cg=Ig;
+Dg=3;
+Eg=xg;
+goto L42;}
+Jg=make_ready_e3c(a+152);
+if(!(Jg&1))goto L41;
+Gg=3;
+Hg=xg;
+break;
+default:Kg=yg;
+goto L43;
 }
-Fg=r8(a+160);
-Gg=Jg;
-Hg=Kg;
-L45:Og=rp(a+152)+(Fg<<5);
-*Og=Gg;
-Og[1]=Hg;
-x8(Og+8,Bg);
-x8(Og+16,0);
-Og[24]=0;
-w8(a+160,Fg+1);
-Pg=r8(a+192);
-if(Pg<c){
-Bg=Pg;
-goto L43;}
-Ng=Pg;
-goto L46;
-L44:F=0;
+Cg=r8(a+160);
+Dg=Gg;
+Eg=Hg;
+L42:Lg=rp(a+152)+(Cg<<5);
+*Lg=Dg;
+Lg[1]=Eg;
+x8(Lg+8,yg);
+x8(Lg+16,0);
+Lg[24]=0;
+w8(a+160,Cg+1);
+Mg=r8(a+192);
+if(Mg<c){
+yg=Mg;
+goto L40;}
+Kg=Mg;
+goto L43;
+L41:F=0;
 goto L1;}
-Ng=zg;
-L46:if(Ng<c){
-switch(*(b+Ng)){
-case 67:Qg=r8(a+8);
-Rg=Ng+1;
-if(Rg<c){
-if(*(b+Rg)==115){
-Sg=Ng+2;
-if(c-Sg>=12){
-Tg=Ng+13;
-Ug=b+(i64)Sg;
-Vg=*Ug;
-if(!((Vg<58)|((u8)(Vg-97)<11)))goto L47;
-Wg=0;
-L48:if(*((u8*)t_9eba+*(Ug+Wg))==0){
-Xg=Wg+1;
-if(Xg!=11){
-Wg=Xg;
-goto L48;}
-if(Tg<c){
-if(*(b+Tg)==95){
-Yg=Ng+14;
-goto L49;}}}}
-L47:Zg=any_disambiguator_end_f9c(b,c,Rg);
-if(Zg.f0!=1)goto L50;
-Yg=Zg.f1;}
-else Yg=Rg;}
-else Yg=Rg;
-L49:if(Yg<c){
-ah=*(b+Yg);
-if((u8)(ah-58)>=247){
-bh=Yg+1;
-if(bh<c){
-ch=*(b+bh)-48;
-if(ch<10){
-dh=Yg+2;
-eh=(u64)ch+(u8)((u8)(ah*10)+32);
-if(c-dh<eh)goto L50;
-fh=eh+dh;
-gh=b+(i64)dh;
-hh=*gh;
-if((hh==95)|((u8)(hh-48)<10)){
+Kg=wg;
+L43:if(Kg<c){
+switch(*(b+Kg)){
+case 67:Ng=r8(a+8);
+Og=Kg+1;
+if(Og<c){
+if(*(b+Og)==115){
+Pg=Kg+2;
+if(c-Pg>=12){
+Qg=b+(i64)Pg;
+Rg=0;
+L44:if(*((u8*)t_9eba+*(Qg+Rg))==0){
+Sg=Rg+1;
+if(Sg!=11){
+Rg=Sg;
+goto L44;}
+Tg=*Qg;
+if(!((Tg<58)|((u8)(Tg-97)<11)))goto L45;
+Ug=11;}
+else Ug=Rg;
+Vg=Ug+Pg;
+if(Vg<c){
+if(*(b+Vg)==95){
+Wg=Vg+1;
+goto L46;}}}
+L45:Xg=any_disambiguator_end_f9c(b,c,Og);
+if(Xg.f0!=1)goto L47;
+Wg=Xg.f1;}
+else Wg=Og;}
+else Wg=Og;
+L46:if(Wg<c){
+Yg=*(b+Wg);
+if((u8)(Yg-58)>=247){
+Zg=Wg+1;
+if(Zg<c){
+ah=*(b+Zg)-48;
+if(ah<10){
+bh=Wg+2;
+ch=(u64)ah+(u8)((u8)(Yg*10)+32);
+if(c-bh<ch)goto L47;
+dh=ch+bh;
+eh=b+(i64)bh;
+if(*((u8*)t_facb+*eh)!=0){
 z12(r);
-any_name_span_9bc(r,b,c,Yg);
-ih=q8(r+4);
-if(*r!=1)goto L50;
-jh=ih>>32;
-kh=ih&4294967295u;
-goto L51;}
-lh=0;
-L52:mh=gh+lh;
-if((u8)((u8)(*((u8*)t_4efc+mh[1])+*((u8*)t_4efc+*mh))+*((u8*)t_4efc+mh[2]))==(u8)(0-*((u8*)t_4efc+mh[3]))){
-nh=lh+4;
-if(eh-nh>3){
-lh=nh;
-goto L52;}
-oh=nh;}
-else oh=lh;
-if(oh>=eh){
-jh=fh;
-kh=dh;
-goto L51;}
-ph=oh;
-L53:if(*((u8*)t_4efc+*(gh+ph))!=0)goto L50;
-qh=ph+1;
-if(qh<eh){
-ph=qh;
-goto L53;}
-jh=fh;
-kh=dh;
-goto L51;}}
-rh=ah-48;
-if(c-bh<rh)goto L50;
-sh=b+(i64)bh;
-th=*sh;
-if((th==95)|((u8)(th-48)<10)){
+any_name_span_9bc(r,b,c,Wg);
+gh=q8(r+4);
+if(*r!=1)goto L47;
+hh=gh>>32;
+ih=gh&4294967295u;
+goto L48;}
+fh=0;
+L49:jh=eh+fh;
+if((u8)((u8)(*((u8*)t_4efc+jh[1])+*((u8*)t_4efc+*jh))+*((u8*)t_4efc+jh[2]))==(u8)(0-*((u8*)t_4efc+jh[3]))){
+kh=fh+4;
+if(ch-kh>3){
+fh=kh;
+goto L49;}
+lh=kh;}
+else lh=fh;
+if(lh>=ch){
+hh=dh;
+ih=bh;
+goto L48;}
+mh=lh;
+L50:if(*((u8*)t_4efc+*(eh+mh))!=0)goto L47;
+nh=mh+1;
+if(nh<ch){
+mh=nh;
+goto L50;}
+hh=dh;
+ih=bh;
+goto L48;}}
+oh=Yg-48;
+if(c-Zg<oh)goto L47;
+ph=b+(i64)Zg;
+if(*((u8*)t_facb+*ph)!=0){
 z12(q);
-any_name_span_9bc(q,b,c,Yg);
-uh=q8(q+4);
-if(*q!=1)goto L50;
-jh=uh>>32;
-kh=uh&4294967295u;
+any_name_span_9bc(q,b,c,Wg);
+xh=q8(q+4);
+if(*q!=1)goto L47;
+hh=xh>>32;
+ih=xh&4294967295u;
+goto L48;}
+qh=Zg+oh;
+if(Yg<=51){
+sh=0;
 goto L51;}
-vh=bh+rh;
-if(ah<=51){
-xh=0;
-goto L54;}
-wh=0;
-L55:yh=sh+wh;
-if((u8)((u8)(*((u8*)t_4efc+yh[1])+*((u8*)t_4efc+*yh))+*((u8*)t_4efc+yh[2]))==(u8)(0-*((u8*)t_4efc+yh[3]))){
-zh=wh+4;
-if(rh-zh>3){
-wh=zh;
-goto L55;}
-xh=zh;}
-else xh=wh;
-L54:if(xh>=rh){
-jh=vh;
-kh=bh;
-goto L51;}
-Ah=xh;
-L56:if(*((u8*)t_4efc+*(sh+Ah))!=0)goto L50;
-Bh=Ah+1;
-if(Bh!=rh){
-Ah=Bh;
-goto L56;}
-jh=vh;
-kh=bh;
-goto L51;}}
+rh=0;
+L52:th=ph+rh;
+if((u8)((u8)(*((u8*)t_4efc+th[1])+*((u8*)t_4efc+*th))+*((u8*)t_4efc+th[2]))==(u8)(0-*((u8*)t_4efc+th[3]))){
+uh=rh+4;
+if(oh-uh>3){
+rh=uh;
+goto L52;}
+sh=uh;}
+else sh=rh;
+L51:if(sh>=oh){
+hh=qh;
+ih=Zg;
+goto L48;}
+vh=sh;
+L53:if(*((u8*)t_4efc+*(ph+vh))!=0)goto L47;
+wh=vh+1;
+if(wh!=oh){
+vh=wh;
+goto L53;}
+hh=qh;
+ih=Zg;
+goto L48;}}
 z12(s);
-any_name_span_9bc(s,b,c,Yg);
-Ch=q8(s+4);
-if(*s!=1)goto L50;
-jh=Ch>>32;
-kh=Ch&4294967295u;
-L51:if(jh<=kh)goto L50;
-Dh=b+(i64)kh;
-Eh=jh-kh;
-if(r8(a+32)-Qg<Eh){
-Fh=make_ready_8e3(a,Eh,128);
-if(!(Fh&1))goto L50;}
-Gh=extend_from_slice_674(a,Dh,Eh);
-if(Gh&1)goto L50;
-w8(a+192,jh);
-if(r8(a+136)>Ng){
-Hh=r8(a+96);
-if(Hh>65534){
+any_name_span_9bc(s,b,c,Wg);
+yh=q8(s+4);
+if(*s!=1)goto L47;
+hh=yh>>32;
+ih=yh&4294967295u;
+L48:if(hh<=ih)goto L47;
+zh=hh-ih;
+Ah=r8(a+32)-Ng;
+Bh=b+(i64)ih;
+if((c-ih<16)|(zh>16)||Ah<16){
+if(Ah<zh){
+Ch=make_ready_8e3(a,zh,128);
+if(!(Ch&1))goto L47;}
+Dh=extend_from_slice_674(a,Bh,zh);
+if(Dh&1)goto L47;}
+else{
+Eh=extend_from_slice_674(a,Bh,16);
+if(Eh&1)goto L47;
+Fh=zh+Ng;
+if(r8(a+8)>Fh)w8(a+8,Fh);}
+w8(a+192,hh);
+if(r8(a+136)>Kg){
+Gh=r8(a+96);
+if(Gh>65534){
+Hh=0;
+Ih=0;
+Jh=0;}
+else{
+Kh=r8(a+8);
+Lh=a[80];
+if(r8(a+120)>Gh)Mh=Gh;
+else{
+Nh=make_ready_b73(a+88);
+if(!(Nh&1)){
+Hh=0;
 Ih=0;
 Jh=0;
-Kh=0;}
+goto L54;}
+Mh=r8(a+96);}
+Oh=rp(a+88)+Mh*24;
+x8(Oh,Ng);
+x8(Oh+8,Kh);
+Oh[16]=0;
+Oh[17]=Lh;
+z6(Oh+18);
+w8(a+96,Mh+1);
+w2(rp(a+128)+(i64)(Kg<<1),(u16)Gh+1);
+Hh=1;
+Ih=2;
+Jh=Ng;}}
 else{
-Lh=r8(a+8);
-Mh=a[80];
-if(r8(a+120)>Hh)Nh=Hh;
-else{
-Oh=make_ready_b73(a+88);
-if(!(Oh&1)){
+Hh=0;
 Ih=0;
-Jh=0;
-Kh=0;
-goto L57;}
-Nh=r8(a+96);}
-Ph=rp(a+88)+Nh*24;
-x8(Ph,Qg);
-x8(Ph+8,Lh);
-Ph[16]=0;
-Ph[17]=Mh;
-z6(Ph+18);
-w8(a+96,Nh+1);
-w2(rp(a+128)+(i64)(Ng<<1),(u16)Hh+1);
-Ih=1;
-Jh=2;
-Kh=Qg;}}
-else{
-Ih=0;
-Jh=0;
-Kh=0;}
-L57:w8(t,Ih);
-t[8]=Jh;
+Jh=0;}
+L54:w8(t,Hh);
+t[8]=Ih;
 t[9]=0;
-w8(t+16,Kh);
+w8(t+16,Jh);
 t[24]=0;
 break;
-case 66:Qh=r8(a+8);
-Rh=Ng+1;
-Sh=umin64(c-Rh,11)+Rh;
-if(Rh>=Sh){
-Uh=Rh;
-goto L58;}
-Th=Rh;
-L59:if(*((u8*)t_84dd+*(b+Th))<62){
-Vh=Th+1;
-if(Vh!=Sh){
-Th=Vh;
-goto L59;}
-Uh=Sh;}
-else Uh=Th;
-L58:if(Uh==c){
-Wh=0;
-Xh=0;
-Yh=0;
-Zh=0;}
-else{
-if(*(b+Uh)==95){
-ai=Rh&4294967295u;
-bi=Uh&4294967295u;
-ci=bi+1;
-if(bi==ai)di=2;
-else{
-ei=b+(i64)ai;
-fi=bi-ai;
-if(fi>10){
-gi=0;
-hi=0;
-goto L60;}
-ii=0;
-ji=0;
-L61:ki=*((u8*)t_84dd+*(ei+(i64)ji));
-if(ki>=62){
-Wh=0;
+case 66:Ph=r8(a+8);
+Qh=Kg+1;
+z24(p);
+Rh=Qh!=18446744073709551615u;
+Sh=Kg+2;
+if(Rh&((Rh?Sh:0)<c)){
+if(*(b+Sh)==95){
+Th=*((u8*)t_84dd+*(b+(i64)Qh));
+if(Th<62){
+Uh=Th+3;
+Vh=Kg+3;
+goto L55;}}}
+any_number_at_3d4(p,b,c,Qh);
+Wh=r8(p+8);
+if(!(*p==1&&Wh<0xfffffffffffffffeu)){
 Xh=0;
 Yh=0;
 Zh=0;
-goto L62;}
-li=ii*62+ki;
-mi=ji+1;
-if(mi==fi){
-ni=li;
-goto L63;}
-ii=li;
-ji=mi;
-goto L61;
-L60:oi=*((u8*)t_84dd+*(ei+(i64)hi));
-if(!((gi<0x421084210842109u)&(oi<62))){
-Wh=0;
+ai=0;
+goto L56;}
+Uh=Wh+2;
+Vh=r8(p+16);
+L55:if(Uh<r8(a+136)){
+bi=r2(rp(a+128)+(i64)(Uh<<1));
+if(bi==0){
 Xh=0;
 Yh=0;
 Zh=0;
-goto L62;}
-pi=gi*62;
-if(pi>(oi^18446744073709551615u)){
-Wh=0;
+ai=0;}
+else{
+ci=(u64)bi-1;
+if(ci<r8(a+96)){
+di=rp(a+88)+(i64)(ci*24);
+ei=q8(di);
+fi=q8(di+8);
+gi=di[16];
+if(gi>2||fi<ei){
 Xh=0;
 Yh=0;
 Zh=0;
-goto L62;}
-qi=pi+oi;
-ri=hi+1;
-if(ri!=fi){
-gi=qi;
-hi=ri;
-goto L60;}
-ni=qi;
-L63:if(ni>0xfffffffffffffffcu){
-Wh=0;
+ai=0;}
+else{
+if((u8)(a[80]^di[17])&1){
+hi=r8(a+48);
+if(hi<fi){
 Xh=0;
 Yh=0;
 Zh=0;
-goto L62;}
-di=ni+3;}
-if(di<r8(a+136)){
-si=r2(rp(a+128)+(i64)(di<<1));
-if(si==0){
-Wh=0;
-Xh=0;
-Yh=0;
-Zh=0;}
-else{
-ti=(u64)si-1;
-if(ti<r8(a+96)){
-ui=rp(a+88)+(i64)(ti*24);
-vi=ui[16];
-if(vi<3){
-memcpy(p,ui,16);
-p[16]=vi;
-memcpy(p+17,ui+17,7);
-wi=repeat_2ff(a,p);
-if(wi&1){
-w8(a+192,ci);
-if(r8(a+136)>Ng){
-xi=r8(a+96);
-if(xi>65534){
-Wh=0;
-Xh=0;
-Yh=0;
-Zh=0;}
-else{
-yi=r8(a+8);
-zi=a[80];
-if(r8(a+120)>xi)Ai=xi;
-else{
-Bi=make_ready_b73(a+88);
-if(!(Bi&1)){
-Wh=0;
+ai=0;
+goto L56;}
+ii=fi-ei;
+ji=r8(a+32)-Ph;
+ki=rp(a+40)+(i64)ei;
+if(!((ii>16)|(hi-ei<16)||ji<16)){
+oi=extend_from_slice_674(a,ki,16);
+if(!(oi&1)){
+pi=ii+Ph;
+if(r8(a+8)<=pi)goto L57;
+w8(a+8,pi);
+goto L57;}
 Xh=0;
 Yh=0;
 Zh=0;
-goto L62;}
-Ai=r8(a+96);}
-Ci=rp(a+88)+Ai*24;
-x8(Ci,Qh);
-x8(Ci+8,yi);
-Ci[16]=vi;
-Ci[17]=zi;
-z6(Ci+18);
-w8(a+96,Ai+1);
-w2(rp(a+128)+(i64)(Ng<<1),(u16)xi+1);
-Wh=1;
-Xh=2;
-Yh=Qh;
-Zh=vi;}}
-else{
-Wh=0;
+ai=0;
+goto L56;}
+if(ji<ii){
+li=make_ready_8e3(a,ii,128);
+if(!(li&1)){
 Xh=0;
 Yh=0;
-Zh=0;}}
+Zh=0;
+ai=0;
+goto L56;}}
+mi=extend_from_slice_674(a,ki,ii);
+ni=mi;}
 else{
-Wh=0;
+if(Ph<fi){
 Xh=0;
 Yh=0;
-Zh=0;}}
-else{
-Wh=0;
+Zh=0;
+ai=0;
+goto L56;}
+qi=repeat_28b(a,ei,fi);
+ni=qi^1;}
+if(ni&1){
 Xh=0;
 Yh=0;
-Zh=0;}}
-else{
-Wh=0;
+Zh=0;
+ai=0;
+goto L56;}
+L57:w8(a+192,Vh);
+if(r8(a+136)>Kg){
+ri=r8(a+96);
+if(ri>65534){
 Xh=0;
 Yh=0;
-Zh=0;}}}
+Zh=0;
+ai=0;}
 else{
-Wh=0;
+si=r8(a+8);
+ti=a[80];
+if(r8(a+120)>ri)ui=ri;
+else{
+vi=make_ready_b73(a+88);
+if(!(vi&1)){
 Xh=0;
 Yh=0;
-Zh=0;}}
+Zh=0;
+ai=0;
+goto L56;}
+ui=r8(a+96);}
+wi=rp(a+88)+ui*24;
+x8(wi,Ph);
+x8(wi+8,si);
+wi[16]=gi;
+wi[17]=ti;
+z6(wi+18);
+w8(a+96,ui+1);
+w2(rp(a+128)+(i64)(Kg<<1),(u16)ri+1);
+Xh=1;
+Yh=2;
+Zh=Ph;
+ai=gi;}}
 else{
-Wh=0;
 Xh=0;
 Yh=0;
-Zh=0;}}
-L62:w8(t,Wh);
-t[8]=Xh;
+Zh=0;
+ai=0;}}}
+else{
+Xh=0;
+Yh=0;
+Zh=0;
+ai=0;}}}
+else{
+Xh=0;
+Yh=0;
+Zh=0;
+ai=0;}
+L56:w8(t,Xh);
+t[8]=Yh;
 t[9]=0;
-w8(t+16,Yh);
-t[24]=Zh;
+w8(t+16,Zh);
+t[24]=ai;
 break;
 case 77:begin_impl_c72(t,a,b,c);
 break;
@@ -123324,285 +123343,314 @@ case 88:begin_trait_impl_220(t,a,b,c);
 break;
 case 89:begin_trait_f9f(t,a);
 break;
-default:goto L50;
+default:goto L47;
 }
 if(*t!=1){
 F=0;
 goto L1;}
-vg=r8(t+16);
-wg=t[8];
-xg=t[9];
-yg=t[24];
-goto L42;}
-L50:F=0;
+sg=r8(t+16);
+tg=t[8];
+ug=t[9];
+vg=t[24];
+goto L39;}
+L47:F=0;
 goto L1;
-L42:if(wg!=2){
-La=yg;
-Ma=vg;
-Na=xg;
-Oa=wg;
+L39:if(tg!=2){
+La=vg;
+Ma=sg;
+Na=ug;
+Oa=tg;
 goto L9;}
-Ea=yg;
-Fa=vg;
-L8:Di=r8(a+160);
-if(Di==0){
+Ea=vg;
+Fa=sg;
+L8:xi=r8(a+160);
+if(xi==0){
 F=0;
 goto L1;}
-Ei=Ea<3;
-Fi=Di;
-L64:Gi=Fi-1;
-w8(a+160,Gi);
-Hi=rp(a+152);
-Ii=Gi<<5;
-Ji=Hi+Ii;
-Ki=Ji[1];
-Li=q8(Ji+8);
-Mi=q8(Ji+16);
-Ni=Ji[24];
-switch(*Ji){
-case 2:if(Ki>=97){
-if(!Ei){
+yi=Ea<3;
+zi=xi;
+L58:Ai=zi-1;
+w8(a+160,Ai);
+Bi=rp(a+152);
+Ci=Ai<<5;
+Di=Bi+Ci;
+Ei=Di[1];
+Fi=q8(Di+8);
+Gi=q8(Di+16);
+Hi=Di[24];
+switch(*Di){
+case 2:if(Ei>=97){
+if(!yi){
 F=0;
 goto L1;}
-Yi=r8(a+192);
-if(Yi<c){
-if(*(b+Yi)==115){
-Zi=Yi+1;
-if(c-Zi>=12){
-aj=Yi+12;
-bj=b+(i64)Zi;
-cj=*bj;
-if(!((cj<58)|((u8)(cj-97)<11)))goto L65;
-dj=0;
-L66:if(*((u8*)t_9eba+*(bj+dj))==0){
-ej=dj+1;
-if(ej!=11){
-dj=ej;
-goto L66;}
-if(aj<c){
-if(*(b+aj)==95){
-fj=Yi+13;
-goto L67;}}}}
-L65:gj=any_disambiguator_end_f9c(b,c,Yi);
-if(gj.f0!=1){
+Si=r8(a+192);
+if(Si<c){
+if(*(b+Si)==115){
+Ti=Si+1;
+if(c-Ti>=12){
+Ui=b+(i64)Ti;
+Vi=0;
+L59:if(*((u8*)t_9eba+*(Ui+Vi))==0){
+Wi=Vi+1;
+if(Wi!=11){
+Vi=Wi;
+goto L59;}
+Xi=*Ui;
+if(!((Xi<58)|((u8)(Xi-97)<11)))goto L60;
+Yi=11;}
+else Yi=Vi;
+Zi=Yi+Ti;
+if(Zi<c){
+if(*(b+Zi)==95){
+aj=Zi+1;
+goto L61;}}}
+L60:bj=any_disambiguator_end_f9c(b,c,Si);
+if(bj.f0!=1){
 F=0;
 goto L1;}
-fj=gj.f1;}
-else fj=Yi;}
-else fj=Yi;
-L67:if(fj<c){
-hj=*(b+fj);
-if((u8)(hj-58)>=247){
-ij=fj+1;
-if(ij<c){
-jj=*(b+ij)-48;
-if(jj<10){
-kj=fj+2;
-lj=(u64)jj+(u8)((u8)(hj*10)+32);
-if(c-kj<lj){
+aj=bj.f1;}
+else aj=Si;}
+else aj=Si;
+L61:if(aj<c){
+cj=*(b+aj);
+if((u8)(cj-58)>=247){
+dj=aj+1;
+if(dj<c){
+ej=*(b+dj)-48;
+if(ej<10){
+fj=aj+2;
+gj=(u64)ej+(u8)((u8)(cj*10)+32);
+if(c-fj<gj){
 F=0;
 goto L1;}
-mj=lj+kj;
-nj=b+(i64)kj;
-oj=*nj;
-if((oj==95)|((u8)(oj-48)<10)){
+hj=gj+fj;
+ij=b+(i64)fj;
+if(*((u8*)t_facb+*ij)!=0){
 z12(n);
-any_name_span_9bc(n,b,c,fj);
-pj=q8(n+4);
-qj=*n==1;
-rj=qj?pj&4294967295u:0;
-sj=qj?pj>>32:0;
-tj=qj;
-goto L68;}
-uj=0;
-L69:vj=nj+uj;
-if((u8)((u8)(*((u8*)t_4efc+vj[1])+*((u8*)t_4efc+*vj))+*((u8*)t_4efc+vj[2]))==(u8)(0-*((u8*)t_4efc+vj[3]))){
-wj=uj+4;
-if(lj-wj>3){
-uj=wj;
-goto L69;}
-xj=wj;}
-else xj=uj;
-if(xj>=lj){
-rj=kj;
-sj=mj;
-tj=1;
-goto L68;}
-yj=xj;
-L70:if(*((u8*)t_4efc+*(nj+yj))!=0){
+any_name_span_9bc(n,b,c,aj);
+kj=q8(n+4);
+lj=*n==1;
+mj=lj?kj&4294967295u:0;
+nj=lj?kj>>32:0;
+oj=lj;
+goto L62;}
+jj=0;
+L63:pj=ij+jj;
+if((u8)((u8)(*((u8*)t_4efc+pj[1])+*((u8*)t_4efc+*pj))+*((u8*)t_4efc+pj[2]))==(u8)(0-*((u8*)t_4efc+pj[3]))){
+qj=jj+4;
+if(gj-qj>3){
+jj=qj;
+goto L63;}
+rj=qj;}
+else rj=jj;
+if(rj>=gj){
+mj=fj;
+nj=hj;
+oj=1;
+goto L62;}
+sj=rj;
+L64:if(*((u8*)t_4efc+*(ij+sj))!=0){
 F=0;
 goto L1;}
-zj=yj+1;
-if(zj<lj){
-yj=zj;
-goto L70;}
-rj=kj;
-sj=mj;
-tj=1;
-goto L68;}}
-Aj=hj-48;
-if(c-ij<Aj){
+tj=sj+1;
+if(tj<gj){
+sj=tj;
+goto L64;}
+mj=fj;
+nj=hj;
+oj=1;
+goto L62;}}
+uj=cj-48;
+if(c-dj<uj){
 F=0;
 goto L1;}
-Bj=b+(i64)ij;
-Cj=*Bj;
-if((Cj==95)|((u8)(Cj-48)<10)){
+vj=b+(i64)dj;
+if(*((u8*)t_facb+*vj)!=0){
 z12(m);
-any_name_span_9bc(m,b,c,fj);
+any_name_span_9bc(m,b,c,aj);
 Dj=q8(m+4);
 Ej=*m==1;
-rj=Ej?Dj&4294967295u:0;
-sj=Ej?Dj>>32:0;
-tj=Ej;
-goto L68;}
-Fj=ij+Aj;
-if(hj<=51){
-Hj=0;
-goto L71;}
-Gj=0;
-L72:Ij=Bj+Gj;
-if((u8)((u8)(*((u8*)t_4efc+Ij[1])+*((u8*)t_4efc+*Ij))+*((u8*)t_4efc+Ij[2]))==(u8)(0-*((u8*)t_4efc+Ij[3]))){
-Jj=Gj+4;
-if(Aj-Jj>3){
-Gj=Jj;
-goto L72;}
-Hj=Jj;}
-else Hj=Gj;
-L71:if(Hj>=Aj){
-rj=ij;
-sj=Fj;
-tj=1;
-goto L68;}
-Kj=Hj;
-L73:if(*((u8*)t_4efc+*(Bj+Kj))!=0){
+mj=Ej?Dj&4294967295u:0;
+nj=Ej?Dj>>32:0;
+oj=Ej;
+goto L62;}
+wj=dj+uj;
+if(cj<=51){
+yj=0;
+goto L65;}
+xj=0;
+L66:zj=vj+xj;
+if((u8)((u8)(*((u8*)t_4efc+zj[1])+*((u8*)t_4efc+*zj))+*((u8*)t_4efc+zj[2]))==(u8)(0-*((u8*)t_4efc+zj[3]))){
+Aj=xj+4;
+if(uj-Aj>3){
+xj=Aj;
+goto L66;}
+yj=Aj;}
+else yj=xj;
+L65:if(yj>=uj){
+mj=dj;
+nj=wj;
+oj=1;
+goto L62;}
+Bj=yj;
+L67:if(*((u8*)t_4efc+*(vj+Bj))!=0){
 F=0;
 goto L1;}
-Lj=Kj+1;
-if(Lj!=Aj){
-Kj=Lj;
-goto L73;}
-rj=ij;
-sj=Fj;
-tj=1;
-goto L68;}}
+Cj=Bj+1;
+if(Cj!=uj){
+Bj=Cj;
+goto L67;}
+mj=dj;
+nj=wj;
+oj=1;
+goto L62;}}
 z12(o);
-any_name_span_9bc(o,b,c,fj);
-Mj=q8(o+4);
-Nj=*o==1;
-rj=Nj?Mj&4294967295u:0;
-sj=Nj?Mj>>32:0;
-tj=Nj;
-L68:if(!(tj&&sj>rj)){
+any_name_span_9bc(o,b,c,aj);
+Fj=q8(o+4);
+Gj=*o==1;
+mj=Gj?Fj&4294967295u:0;
+nj=Gj?Fj>>32:0;
+oj=Gj;
+L62:if(!(oj&&nj>mj)){
 F=0;
 goto L1;}
-Oj=r8(a+8);
-if(r8(a+32)-Oj<2){
-Pj=make_ready_8e3(a,2,128);
-if(!(Pj&1)){
+Hj=r8(a+8);
+if(r8(a+32)-Hj<2){
+Ij=make_ready_8e3(a,2,128);
+if(!(Ij&1)){
 F=0;
 goto L1;}
-Qj=r8(a+8);}
-else Qj=Oj;
-*(rp(a)+Qj)=58;
-*(rp(a)+(i64)Qj+1)=58;
-Rj=Qj+2;
-w8(a+8,Rj);
-Sj=b+(i64)rj;
-Tj=sj-rj;
-if(r8(a+32)-Rj<Tj){
-Uj=make_ready_8e3(a,Tj,128);
-if(!(Uj&1)){
+Jj=r8(a+8);}
+else Jj=Hj;
+*(rp(a)+Jj)=58;
+*(rp(a)+(i64)Jj+1)=58;
+Kj=Jj+2;
+w8(a+8,Kj);
+Lj=nj-mj;
+Mj=r8(a+32)-Kj;
+Nj=b+(i64)mj;
+if((c-mj<16)|(Lj>16)||Mj<16){
+if(Mj<Lj){
+Oj=make_ready_8e3(a,Lj,128);
+if(!(Oj&1)){
 F=0;
 goto L1;}
-Vj=r8(a+8);}
-else Vj=Rj;
-Wj=r8(a+16);
-if(Tj>Wj-Vj){
-Xj=grow_amortized_68b(a,Tj);
-if(!Xj){
+Pj=r8(a+8);}
+else Pj=Kj;
+Qj=r8(a+16);
+if(Lj>Qj-Pj){
+Rj=grow_amortized_68b(a,Lj);
+if(!Rj){
 F=0;
 goto L1;}
-Yj=r8(a+16);
-Zj=r8(a+8);}
+Sj=r8(a+16);
+Tj=r8(a+8);}
 else{
-Yj=Wj;
-Zj=Vj;}
-ak=Zj+Tj;
-bk=rp(a);
+Sj=Qj;
+Tj=Pj;}
+Uj=Tj+Lj;
+Vj=rp(a);
 z16(a+8);
-ck=bk+(i64)Zj;
-if((u64)ck-(u64)Sj<Tj)copy_bits_4f4(Sj,ck,Tj);
-else memmove(ck,Sj,Tj);
-wp(a,bk);
-w8(a+8,ak);
-w8(a+16,Yj);
-w8(a+192,sj);
-if(sj<c){
-if(*(b+sj)==48){
-dk=r8(a+160);
-if(dk!=0){
-ek=rp(a+152)+(i64)(dk<<5);
-if(ek[-32]==2){
-if(ek[-31]>96){
-fk=unnamed_ended_c46(a,b,c,Li,Fa,Ea);
-if(fk&1)goto L74;
+Wj=Vj+(i64)Tj;
+if((u64)Wj-(u64)Nj<Lj)copy_bits_4f4(Nj,Wj,Lj);
+else memmove(Wj,Nj,Lj);
+wp(a,Vj);
+w8(a+8,Uj);
+w8(a+16,Sj);
+Xj=Uj;}
+else{
+Yj=r8(a+16);
+if(Yj-Kj<16){
+Zj=grow_amortized_68b(a,16);
+if(!Zj){
+F=0;
+goto L1;}
+ak=r8(a+16);
+bk=r8(a+8);}
+else{
+ak=Yj;
+bk=Kj;}
+ck=bk+16;
+dk=rp(a);
+z16(a+8);
+ek=dk+(i64)bk;
+if((u64)ek-(u64)Nj<16)copy_bits_4f4(Nj,ek,16);
+else memmove(ek,Nj,16);
+wp(a,dk);
+w8(a+8,ck);
+w8(a+16,ak);
+fk=Kj+Lj;
+if(ck>fk){
+w8(a+8,fk);
+Xj=fk;}
+else Xj=ck;}
+w8(a+192,nj);
+if(nj<c){
+if(*(b+nj)==48){
+gk=r8(a+160);
+if(gk!=0){
+hk=rp(a+152)+(i64)(gk<<5);
+if(hk[-32]==2){
+if(hk[-31]>96){
+ik=unnamed_ended_c46(a,b,c,Fi,Fa,Ea);
+if(ik&1)goto L68;
 F=0;
 goto L1;}}}}}
-if(r8(a+136)<=Li){
+if(r8(a+136)<=Fi){
 F=0;
 goto L1;}
-gk=r8(a+96);
-if(gk>65534){
+jk=r8(a+96);
+if(jk>65534){
 F=0;
 goto L1;}
-hk=a[80];
-if(r8(a+120)>gk)ik=gk;
+kk=a[80];
+if(r8(a+120)>jk)lk=jk;
 else{
-jk=make_ready_b73(a+88);
-if(!(jk&1)){
+mk=make_ready_b73(a+88);
+if(!(mk&1)){
 F=0;
 goto L1;}
-ik=r8(a+96);}
-kk=rp(a+88)+ik*24;
-x8(kk,Fa);
-x8(kk+8,ak);
-kk[16]=Ea;
-kk[17]=hk;
-z6(kk+18);
-w8(a+96,ik+1);
-w2(rp(a+128)+(i64)(Li<<1),(u16)gk+1);
-L74:lk=r8(a+160);
-if(lk==0){
+lk=r8(a+96);}
+nk=rp(a+88)+lk*24;
+x8(nk,Fa);
+x8(nk+8,Xj);
+nk[16]=Ea;
+nk[17]=kk;
+z6(nk+18);
+w8(a+96,lk+1);
+w2(rp(a+128)+(i64)(Fi<<1),(u16)jk+1);
+L68:ok=r8(a+160);
+if(ok==0){
 F=0;
 goto L1;}
-Fi=lk;
-goto L64;}
+zi=ok;
+goto L58;}
 z32(g);
-if(Ei&(Ki>64)){
-switch(Ki){
-case 67:special_named_1bc(g,a,b,c,Fa,Ea,Li,(u8*)t_6d4c,7);
+if(yi&(Ei>64)){
+switch(Ei){
+case 67:special_named_1bc(g,a,b,c,Fa,Ea,Fi,(u8*)t_6d4c,7);
 break;
-case 83:special_named_1bc(g,a,b,c,Fa,Ea,Li,(u8*)t_04e6,4);
+case 83:special_named_1bc(g,a,b,c,Fa,Ea,Fi,(u8*)t_04e6,4);
 break;
-default:*h=Ki;
-special_named_1bc(g,a,b,c,Fa,Ea,Li,h,1);
+default:*h=Ei;
+special_named_1bc(g,a,b,c,Fa,Ea,Fi,h,1);
 break;}
-Oi=*g;
-Pi=g[8];
-Qi=g[9];
-Ri=r8(g+16);
-Si=g[24];}
+Ii=*g;
+Ji=g[8];
+Ki=g[9];
+Li=r8(g+16);
+Mi=g[24];}
 else{
-Oi=0;
-Pi=0;
-Qi=0;
-Ri=0;
-Si=0;}
-Ti=Oi;
-Ui=Pi;
-Vi=Qi;
-Wi=Ri;
-Xi=Si;
+Ii=0;
+Ji=0;
+Ki=0;
+Li=0;
+Mi=0;}
+Ni=Ii;
+Oi=Ji;
+Pi=Ki;
+Qi=Li;
+Ri=Mi;
 break;
 case 0:if(Ea>=2){
 F=0;
@@ -123610,27 +123658,27 @@ goto L1;}
 if(a[80]&1){
 F=0;
 goto L1;}
-mk=r8(a+192);
-if(mk<c){
-if((u8)(*(b+mk)-65)<26){
-if(r8(a+184)>Gi){
-nk=Ii;
-ok=Hi;
-pk=Fi;}
+pk=r8(a+192);
+if(pk<c){
+if((u8)(*(b+pk)-65)<26){
+if(r8(a+184)>Ai){
+qk=Ci;
+rk=Bi;
+sk=zi;}
 else{
-qk=make_ready_e3c(a+152);
-if(!(qk&1)){
+tk=make_ready_e3c(a+152);
+if(!(tk&1)){
 F=0;
 goto L1;}
-rk=r8(a+160);
-nk=rk<<5;
-ok=rp(a+152);
-pk=rk+1;}
-sk=ok+nk;
-*sk=1;
-sk[1]=0;
-z17(sk+8);
-w8(a+160,pk);
+uk=r8(a+160);
+qk=uk<<5;
+rk=rp(a+152);
+sk=uk+1;}
+vk=rk+qk;
+*vk=1;
+vk[1]=0;
+z17(vk+8);
+w8(a+160,sk);
 memcpy(k,a,40);
 memcpy(a,a+40,40);
 memcpy(a+40,k,40);
@@ -123641,26 +123689,26 @@ Na=0;
 Oa=0;
 goto L9;}}
 z32(l);
-if(mk==c){
-tk=1;
-uk=4;
-vk=0;
-wk=0;
-xk=0;}
+if(pk==c){
+wk=1;
+xk=4;
+yk=0;
+zk=0;
+Ak=0;}
 else{
 push_suffix_49c(l,a,b,c);
-tk=*l;
-uk=l[8];
-vk=l[9];
-wk=r8(l+16);
-xk=l[24];}
-Ti=tk;
-Ui=uk;
-Vi=vk;
-Wi=wk;
-Xi=xk;
+wk=*l;
+xk=l[8];
+yk=l[9];
+zk=r8(l+16);
+Ak=l[24];}
+Ni=wk;
+Oi=xk;
+Pi=yk;
+Qi=zk;
+Ri=Ak;
 break;
-case 1:if(!Ei){
+case 1:if(!yi){
 F=0;
 goto L1;}
 if(!(a[80]&1)){
@@ -123672,117 +123720,117 @@ memcpy(a+40,i,40);
 a[80]=0;
 z32(j);
 if(r8(a+192)==c){
-yk=1;
-zk=4;
-Ak=0;
-Bk=0;
-Ck=0;}
+Bk=1;
+Ck=4;
+Dk=0;
+Ek=0;
+Fk=0;}
 else{
 push_suffix_49c(j,a,b,c);
-yk=*j;
-zk=j[8];
-Ak=j[9];
-Bk=r8(j+16);
-Ck=j[24];}
-Ti=yk;
-Ui=zk;
-Vi=Ak;
-Wi=Bk;
-Xi=Ck;
+Bk=*j;
+Ck=j[8];
+Dk=j[9];
+Ek=r8(j+16);
+Fk=j[24];}
+Ni=Bk;
+Oi=Ck;
+Pi=Dk;
+Qi=Ek;
+Ri=Fk;
 break;
 case 12:switch(Ea){
-case 0:case 2:case 3:Dk=r8(a+192);
-if(Dk<c){
-if(*(b+Dk)==69){
+case 0:case 2:case 3:Gk=r8(a+192);
+if(Gk<c){
+if(*(b+Gk)==69){
 if(Ea==1){
 F=0;
 goto L1;}
-Ek=Ni&1;
-w8(a+192,Dk+1);
-Fk=Ek?2:1;
-Gk=Ek?(u8*)t_b4da:(u8*)t_ba5e;
-Hk=r8(a+8);
-if(r8(a+32)-Hk<Fk){
-Ik=make_ready_8e3(a,Fk,128);
-if(!(Ik&1)){
+Hk=Hi&1;
+w8(a+192,Gk+1);
+Ik=Hk?2:1;
+Jk=Hk?(u8*)t_b4da:(u8*)t_ba5e;
+Kk=r8(a+8);
+if(r8(a+32)-Kk<Ik){
+Lk=make_ready_8e3(a,Ik,128);
+if(!(Lk&1)){
 F=0;
 goto L1;}
-Jk=r8(a+8);}
-else Jk=Hk;
-Kk=r8(a+16);
-if(Fk>Kk-Jk){
-Lk=grow_amortized_68b(a,Fk);
-if(!Lk){
+Mk=r8(a+8);}
+else Mk=Kk;
+Nk=r8(a+16);
+if(Ik>Nk-Mk){
+Ok=grow_amortized_68b(a,Ik);
+if(!Ok){
 F=0;
 goto L1;}
-Mk=r8(a+16);
-Nk=r8(a+8);}
+Pk=r8(a+16);
+Qk=r8(a+8);}
 else{
-Mk=Kk;
-Nk=Jk;}
-Ok=Nk+Fk;
-Pk=rp(a);
+Pk=Nk;
+Qk=Mk;}
+Rk=Qk+Ik;
+Sk=rp(a);
 z16(a+8);
-Qk=Pk+(i64)Nk;
-if((u64)Qk-(u64)Gk<Fk)copy_bits_4f4(Gk,Qk,Fk);
-else memcpy(Qk,Gk,Fk);
-wp(a,Pk);
-w8(a+8,Ok);
-w8(a+16,Mk);
-if(r8(a+136)<=Li){
+Tk=Sk+(i64)Qk;
+if((u64)Tk-(u64)Jk<Ik)copy_bits_4f4(Jk,Tk,Ik);
+else memcpy(Tk,Jk,Ik);
+wp(a,Sk);
+w8(a+8,Rk);
+w8(a+16,Pk);
+if(r8(a+136)<=Fi){
 F=0;
 goto L1;}
-Rk=r8(a+96);
-if(Rk>65534){
+Uk=r8(a+96);
+if(Uk>65534){
 F=0;
 goto L1;}
-Sk=a[80];
-if(r8(a+120)>Rk)Tk=Rk;
+Vk=a[80];
+if(r8(a+120)>Uk)Wk=Uk;
 else{
-Uk=make_ready_b73(a+88);
-if(!(Uk&1)){
-F=0;
-goto L1;}
-Tk=r8(a+96);}
-Vk=rp(a+88)+Tk*24;
-x8(Vk,Mi);
-x8(Vk+8,Ok);
-Vk[16]=3;
-Vk[17]=Sk;
-z6(Vk+18);
-w8(a+96,Tk+1);
-w2(rp(a+128)+(i64)(Li<<1),(u16)Rk+1);
-La=3;
-Ma=Mi;
-Na=0;
-Oa=2;
-goto L9;}}
-Wk=r8(a+8);
-if(r8(a+32)-Wk<2){
-Xk=make_ready_8e3(a,2,128);
+Xk=make_ready_b73(a+88);
 if(!(Xk&1)){
 F=0;
 goto L1;}
-Yk=r8(a+8);}
-else Yk=Wk;
-*(rp(a)+Yk)=44;
-*(rp(a)+(i64)Yk+1)=32;
-w8(a+8,Yk+2);
-Zk=r8(a+160);
-if(r8(a+184)>Zk)al=Zk;
-else{
-bl=make_ready_e3c(a+152);
-if(!(bl&1)){
+Wk=r8(a+96);}
+Yk=rp(a+88)+Wk*24;
+x8(Yk,Gi);
+x8(Yk+8,Rk);
+Yk[16]=3;
+Yk[17]=Vk;
+z6(Yk+18);
+w8(a+96,Wk+1);
+w2(rp(a+128)+(i64)(Fi<<1),(u16)Uk+1);
+La=3;
+Ma=Gi;
+Na=0;
+Oa=2;
+goto L9;}}
+Zk=r8(a+8);
+if(r8(a+32)-Zk<2){
+al=make_ready_8e3(a,2,128);
+if(!(al&1)){
 F=0;
 goto L1;}
-al=r8(a+160);}
-cl=rp(a+152)+(al<<5);
-*cl=12;
-cl[1]=0;
-x8(cl+8,Li);
-x8(cl+16,Mi);
-cl[24]=0;
-w8(a+160,al+1);
+bl=r8(a+8);}
+else bl=Zk;
+*(rp(a)+bl)=44;
+*(rp(a)+(i64)bl+1)=32;
+w8(a+8,bl+2);
+cl=r8(a+160);
+if(r8(a+184)>cl)dl=cl;
+else{
+el=make_ready_e3c(a+152);
+if(!(el&1)){
+F=0;
+goto L1;}
+dl=r8(a+160);}
+fl=rp(a+152)+(dl<<5);
+*fl=12;
+fl[1]=0;
+x8(fl+8,Fi);
+x8(fl+16,Gi);
+fl[24]=0;
+w8(a+160,dl+1);
 La=0;
 Ma=0;
 Na=0;
@@ -123793,14 +123841,14 @@ goto L1;
 default:NEVER;
 }
 break;
-case 3:dl=Ki&1;
+case 3:gl=Ei&1;
 switch(Ea){
 case 0:break;
-case 1:if(!dl){
+case 1:if(!gl){
 F=0;
 goto L1;}
 break;
-case 2:if(dl){
+case 2:if(gl){
 F=0;
 goto L1;}
 break;
@@ -123808,59 +123856,59 @@ case 3:case 4:F=0;
 goto L1;
 default:NEVER;
 }
-el=r8(a+8);
-if(r8(a+32)>el)fl=el;
+hl=r8(a+8);
+if(r8(a+32)>hl)il=hl;
 else{
-gl=make_ready_8e3(a,1,16);
-if(!(gl&1)){
+jl=make_ready_8e3(a,1,16);
+if(!(jl&1)){
 F=0;
 goto L1;}
-fl=r8(a+8);}
-*(rp(a)+fl)=1;
-w8(a+8,fl+1);
-hl=Ki&1;
-il=r8(a+160);
-if(r8(a+184)>il)jl=il;
+il=r8(a+8);}
+*(rp(a)+il)=1;
+w8(a+8,il+1);
+kl=Ei&1;
+ll=r8(a+160);
+if(r8(a+184)>ll)ml=ll;
 else{
-kl=make_ready_e3c(a+152);
-if(!(kl&1)){
+nl=make_ready_e3c(a+152);
+if(!(nl&1)){
 F=0;
 goto L1;}
-jl=r8(a+160);}
-ll=rp(a+152)+(jl<<5);
-*ll=4;
-ll[1]=0;
-x8(ll+8,Li);
-x8(ll+16,Fa);
-ll[24]=hl;
-w8(a+160,jl+1);
+ml=r8(a+160);}
+ol=rp(a+152)+(ml<<5);
+*ol=4;
+ol[1]=0;
+x8(ol+8,Fi);
+x8(ol+16,Fa);
+ol[24]=kl;
+w8(a+160,ml+1);
 La=0;
 Ma=0;
 Na=1;
 Oa=3;
 goto L9;
 case 4:switch(Ea){
-case 0:case 2:case 3:ml=Ni&1;
-if(r8(a+184)>Gi){
-nl=Ii;
-ol=Hi;
-pl=Fi;}
+case 0:case 2:case 3:pl=Hi&1;
+if(r8(a+184)>Ai){
+ql=Ci;
+rl=Bi;
+sl=zi;}
 else{
-ql=make_ready_e3c(a+152);
-if(!(ql&1)){
+tl=make_ready_e3c(a+152);
+if(!(tl&1)){
 F=0;
 goto L1;}
-rl=r8(a+160);
-nl=rl<<5;
-ol=rp(a+152);
-pl=rl+1;}
-sl=ol+nl;
-*sl=4;
-sl[1]=0;
-x8(sl+8,Li);
-x8(sl+16,Mi);
-sl[24]=ml;
-w8(a+160,pl);
+ul=r8(a+160);
+ql=ul<<5;
+rl=rp(a+152);
+sl=ul+1;}
+vl=rl+ql;
+*vl=4;
+vl[1]=0;
+x8(vl+8,Fi);
+x8(vl+16,Gi);
+vl[24]=pl;
+w8(a+160,sl);
 La=0;
 Ma=0;
 Na=0;
@@ -123871,7 +123919,7 @@ goto L1;
 default:NEVER;
 }
 break;
-case 5:if(!Ei){
+case 5:if(!yi){
 F=0;
 goto L1;}
 if(!(a[80]&1)){
@@ -123881,64 +123929,64 @@ memcpy(f,a,40);
 memcpy(a,a+40,40);
 memcpy(a+40,f,40);
 a[80]=0;
-tl=r8(a+8);
-if(r8(a+32)>tl)ul=tl;
+wl=r8(a+8);
+if(r8(a+32)>wl)xl=wl;
 else{
-vl=make_ready_8e3(a,1,16);
-if(!(vl&1)){
-F=0;
-goto L1;}
-ul=r8(a+8);}
-*(rp(a)+ul)=60;
-w8(a+8,ul+1);
-wl=r8(a+160);
-if(r8(a+184)>wl)xl=wl;
-else{
-yl=make_ready_e3c(a+152);
+yl=make_ready_8e3(a,1,16);
 if(!(yl&1)){
 F=0;
 goto L1;}
-xl=r8(a+160);}
-zl=rp(a+152)+(xl<<5);
-*zl=9;
-zl[1]=0;
-x8(zl+8,Li);
-x8(zl+16,tl);
-zl[24]=2;
-w8(a+160,xl+1);
+xl=r8(a+8);}
+*(rp(a)+xl)=60;
+w8(a+8,xl+1);
+zl=r8(a+160);
+if(r8(a+184)>zl)Al=zl;
+else{
+Bl=make_ready_e3c(a+152);
+if(!(Bl&1)){
+F=0;
+goto L1;}
+Al=r8(a+160);}
+Cl=rp(a+152)+(Al<<5);
+*Cl=9;
+Cl[1]=0;
+x8(Cl+8,Fi);
+x8(Cl+16,wl);
+Cl[24]=2;
+w8(a+160,Al+1);
 La=0;
 Ma=0;
 Na=0;
 Oa=1;
 goto L9;
-case 9:switch(Ni){
+case 9:switch(Hi){
 case 0:switch(Ea){
-case 0:case 2:case 3:if(r8(a+136)<=Li){
+case 0:case 2:case 3:if(r8(a+136)<=Fi){
 F=0;
 goto L1;}
-Al=r8(a+96);
-if(Al>65534){
+Dl=r8(a+96);
+if(Dl>65534){
 F=0;
 goto L1;}
-Bl=r8(a+8);
-Cl=a[80];
-if(r8(a+120)>Al)Dl=Al;
+El=r8(a+8);
+Fl=a[80];
+if(r8(a+120)>Dl)Gl=Dl;
 else{
-El=make_ready_b73(a+88);
-if(!(El&1)){
+Hl=make_ready_b73(a+88);
+if(!(Hl&1)){
 F=0;
 goto L1;}
-Dl=r8(a+96);}
-Fl=rp(a+88)+Dl*24;
-x8(Fl,Mi);
-x8(Fl+8,Bl);
-Fl[16]=3;
-Fl[17]=Cl;
-z6(Fl+18);
-w8(a+96,Dl+1);
-w2(rp(a+128)+(i64)(Li<<1),(u16)Al+1);
+Gl=r8(a+96);}
+Il=rp(a+88)+Gl*24;
+x8(Il,Gi);
+x8(Il+8,El);
+Il[16]=3;
+Il[17]=Fl;
+z6(Il+18);
+w8(a+96,Gl+1);
+w2(rp(a+128)+(i64)(Fi<<1),(u16)Dl+1);
 La=3;
-Ma=Mi;
+Ma=Gi;
 Na=0;
 Oa=2;
 goto L9;
@@ -123948,42 +123996,42 @@ default:NEVER;
 }
 break;
 case 1:switch(Ea){
-case 0:case 2:case 3:Gl=r8(a+8);
-if(r8(a+32)>Gl)Hl=Gl;
+case 0:case 2:case 3:Jl=r8(a+8);
+if(r8(a+32)>Jl)Kl=Jl;
 else{
-Il=make_ready_8e3(a,1,16);
-if(!(Il&1)){
+Ll=make_ready_8e3(a,1,16);
+if(!(Ll&1)){
 F=0;
 goto L1;}
-Hl=r8(a+8);}
-*(rp(a)+Hl)=93;
-Jl=Hl+1;
-w8(a+8,Jl);
-if(r8(a+136)<=Li){
+Kl=r8(a+8);}
+*(rp(a)+Kl)=93;
+Ml=Kl+1;
+w8(a+8,Ml);
+if(r8(a+136)<=Fi){
 F=0;
 goto L1;}
-Kl=r8(a+96);
-if(Kl>65534){
+Nl=r8(a+96);
+if(Nl>65534){
 F=0;
 goto L1;}
-Ll=a[80];
-if(r8(a+120)>Kl)Ml=Kl;
+Ol=a[80];
+if(r8(a+120)>Nl)Pl=Nl;
 else{
-Nl=make_ready_b73(a+88);
-if(!(Nl&1)){
+Ql=make_ready_b73(a+88);
+if(!(Ql&1)){
 F=0;
 goto L1;}
-Ml=r8(a+96);}
-Ol=rp(a+88)+Ml*24;
-x8(Ol,Mi);
-x8(Ol+8,Jl);
-Ol[16]=3;
-Ol[17]=Ll;
-z6(Ol+18);
-w8(a+96,Ml+1);
-w2(rp(a+128)+(i64)(Li<<1),(u16)Kl+1);
+Pl=r8(a+96);}
+Rl=rp(a+88)+Pl*24;
+x8(Rl,Gi);
+x8(Rl+8,Ml);
+Rl[16]=3;
+Rl[17]=Ol;
+z6(Rl+18);
+w8(a+96,Pl+1);
+w2(rp(a+128)+(i64)(Fi<<1),(u16)Nl+1);
 La=3;
-Ma=Mi;
+Ma=Gi;
 Na=0;
 Oa=2;
 goto L9;
@@ -123993,42 +124041,42 @@ default:NEVER;
 }
 break;
 case 2:switch(Ea){
-case 0:case 2:case 3:Pl=r8(a+8);
-if(r8(a+32)>Pl)Ql=Pl;
+case 0:case 2:case 3:Sl=r8(a+8);
+if(r8(a+32)>Sl)Tl=Sl;
 else{
-Rl=make_ready_8e3(a,1,16);
-if(!(Rl&1)){
+Ul=make_ready_8e3(a,1,16);
+if(!(Ul&1)){
 F=0;
 goto L1;}
-Ql=r8(a+8);}
-*(rp(a)+Ql)=62;
-Sl=Ql+1;
-w8(a+8,Sl);
-if(r8(a+136)<=Li){
+Tl=r8(a+8);}
+*(rp(a)+Tl)=62;
+Vl=Tl+1;
+w8(a+8,Vl);
+if(r8(a+136)<=Fi){
 F=0;
 goto L1;}
-Tl=r8(a+96);
-if(Tl>65534){
+Wl=r8(a+96);
+if(Wl>65534){
 F=0;
 goto L1;}
-Ul=a[80];
-if(r8(a+120)>Tl)Vl=Tl;
+Xl=a[80];
+if(r8(a+120)>Wl)Yl=Wl;
 else{
-Wl=make_ready_b73(a+88);
-if(!(Wl&1)){
+Zl=make_ready_b73(a+88);
+if(!(Zl&1)){
 F=0;
 goto L1;}
-Vl=r8(a+96);}
-Xl=rp(a+88)+Vl*24;
-x8(Xl,Mi);
-x8(Xl+8,Sl);
-Xl[16]=0;
-Xl[17]=Ul;
-z6(Xl+18);
-w8(a+96,Vl+1);
-w2(rp(a+128)+(i64)(Li<<1),(u16)Tl+1);
+Yl=r8(a+96);}
+am=rp(a+88)+Yl*24;
+x8(am,Gi);
+x8(am+8,Vl);
+am[16]=0;
+am[17]=Xl;
+z6(am+18);
+w8(a+96,Yl+1);
+w2(rp(a+128)+(i64)(Fi<<1),(u16)Wl+1);
 La=0;
-Ma=Mi;
+Ma=Gi;
 Na=0;
 Oa=2;
 goto L9;
@@ -124041,96 +124089,96 @@ default:NEVER;
 }
 break;
 case 13:switch(Ea){
-case 0:case 2:Yl=r8(a+192);
-if(Yl<c){
-if(*(b+Yl)==69){
-Zl=Yl+1;
-if(Zl>=c){
+case 0:case 2:bm=r8(a+192);
+if(bm<c){
+if(*(b+bm)==69){
+cm=bm+1;
+if(cm>=c){
 F=0;
 goto L1;}
-if(*(b+Zl)!=76){
+if(*(b+cm)!=76){
 F=0;
 goto L1;}
-am=Yl+2;
-if(am>=c){
+dm=bm+2;
+if(dm>=c){
 F=0;
 goto L1;}
-if(*(b+am)!=95){
+if(*(b+dm)!=95){
 F=0;
 goto L1;}
-w8(a+192,Yl+3);
-if(r8(a+136)<=Li){
+w8(a+192,bm+3);
+if(r8(a+136)<=Fi){
 F=0;
 goto L1;}
-bm=r8(a+96);
-if(bm>65534){
+em=r8(a+96);
+if(em>65534){
 F=0;
 goto L1;}
-cm=r8(a+8);
-dm=a[80];
-if(r8(a+120)>bm)em=bm;
+fm=r8(a+8);
+gm=a[80];
+if(r8(a+120)>em)hm=em;
 else{
-fm=make_ready_b73(a+88);
-if(!(fm&1)){
-F=0;
-goto L1;}
-em=r8(a+96);}
-gm=rp(a+88)+em*24;
-x8(gm,Mi);
-x8(gm+8,cm);
-gm[16]=3;
-gm[17]=dm;
-z6(gm+18);
-w8(a+96,em+1);
-w2(rp(a+128)+(i64)(Li<<1),(u16)bm+1);
-La=3;
-Ma=Mi;
-Na=0;
-Oa=2;
-goto L9;}}
-hm=r8(a+8);
-if(r8(a+32)-hm<3){
-im=make_ready_8e3(a,3,128);
+im=make_ready_b73(a+88);
 if(!(im&1)){
 F=0;
 goto L1;}
-jm=r8(a+8);}
-else jm=hm;
-km=r8(a+16);
-if(km-jm<3){
-lm=grow_amortized_68b(a,3);
-if(!lm){
+hm=r8(a+96);}
+jm=rp(a+88)+hm*24;
+x8(jm,Gi);
+x8(jm+8,fm);
+jm[16]=3;
+jm[17]=gm;
+z6(jm+18);
+w8(a+96,hm+1);
+w2(rp(a+128)+(i64)(Fi<<1),(u16)em+1);
+La=3;
+Ma=Gi;
+Na=0;
+Oa=2;
+goto L9;}}
+km=r8(a+8);
+if(r8(a+32)-km<3){
+lm=make_ready_8e3(a,3,128);
+if(!(lm&1)){
 F=0;
 goto L1;}
-mm=r8(a+16);
-nm=r8(a+8);}
+mm=r8(a+8);}
+else mm=km;
+nm=r8(a+16);
+if(nm-mm<3){
+om=grow_amortized_68b(a,3);
+if(!om){
+F=0;
+goto L1;}
+pm=r8(a+16);
+qm=r8(a+8);}
 else{
-mm=km;
-nm=jm;}
-om=nm+3;
-pm=rp(a);
+pm=nm;
+qm=mm;}
+rm=qm+3;
+sm=rp(a);
 z16(a+8);
-qm=pm+(i64)nm;
-if((u64)qm-(u64)(u8*)t_4620<3)copy_bits_4f4((u8*)t_4620,qm,3);
-else memcpy(qm,(u8*)t_4620,3);
-wp(a,pm);
-w8(a+8,om);
-w8(a+16,mm);
-rm=r8(a+160);
-if(r8(a+184)>rm)sm=rm;
+tm=sm+(i64)qm;
+if((u64)tm-(u64)(u8*)t_4620<3)copy_bits_4f4((u8*)t_4620,tm,3);
+else memcpy(tm,(u8*)t_4620,3);
+wp(a,sm);
+w8(a+8,rm);
+w8(a+16,pm);
+um=r8(a+160);
+if(r8(a+184)>um)vm=um;
 else{
-tm=make_ready_e3c(a+152);
-if(!(tm&1)){
+wm=make_ready_e3c(a+152);
+if(!(wm&1)){
 F=0;
 goto L1;}
-sm=r8(a+160);}
-um=rp(a+152)+(sm<<5);
-*um=13;
-um[1]=0;
-x8(um+8,Li);
-x8(um+16,Mi);
-um[24]=0;
-w8(a+160,sm+1);
+vm=r8(a+160);}
+xm=rp(a+152)+(vm<<5);
+*xm=13;
+xm[1]=0;
+x8(xm+8,Fi);
+x8(xm+16,Gi);
+xm[24]=0;
+w8(a+160,vm+1);
 La=0;
 Ma=0;
 Na=0;
@@ -124142,85 +124190,85 @@ default:NEVER;
 }
 break;
 case 14:switch(Ea){
-case 0:case 2:case 3:vm=r8(a+192);
-wm=r8(a+8);
-if(r8(a+32)-wm<2){
-xm=make_ready_8e3(a,2,128);
-if(!(xm&1)){
+case 0:case 2:case 3:ym=r8(a+192);
+zm=r8(a+8);
+if(r8(a+32)-zm<2){
+Am=make_ready_8e3(a,2,128);
+if(!(Am&1)){
 F=0;
 goto L1;}
-ym=r8(a+8);}
-else ym=wm;
-*(rp(a)+ym)=59;
-*(rp(a)+(i64)ym+1)=32;
-zm=ym+2;
-w8(a+8,zm);
-Am=constant_at_b72(a,b,c,vm);
-if(Am.f0!=1){
+Bm=r8(a+8);}
+else Bm=zm;
+*(rp(a)+Bm)=59;
+*(rp(a)+(i64)Bm+1)=32;
+Cm=Bm+2;
+w8(a+8,Cm);
+Dm=constant_at_b72(a,b,c,ym);
+if(Dm.f0!=1){
 F=0;
 goto L1;}
-if(r8(a+136)<=vm){
+if(r8(a+136)<=ym){
 F=0;
 goto L1;}
-Bm=r8(a+96);
-if(Bm>65534){
+Em=r8(a+96);
+if(Em>65534){
 F=0;
 goto L1;}
-Cm=Am.f1;
-Dm=r8(a+8);
-Em=a[80];
-if(r8(a+120)>Bm)Fm=Bm;
+Fm=Dm.f1;
+Gm=r8(a+8);
+Hm=a[80];
+if(r8(a+120)>Em)Im=Em;
 else{
-Gm=make_ready_b73(a+88);
-if(!(Gm&1)){
+Jm=make_ready_b73(a+88);
+if(!(Jm&1)){
 F=0;
 goto L1;}
-Fm=r8(a+96);}
-Hm=rp(a+88)+Fm*24;
-x8(Hm,zm);
-x8(Hm+8,Dm);
-Hm[16]=4;
-Hm[17]=Em;
-z6(Hm+18);
-w8(a+96,Fm+1);
-w2(rp(a+128)+(i64)(vm<<1),(u16)Bm+1);
-w8(a+192,Cm);
-Im=r8(a+8);
-if(r8(a+32)>Im)Jm=Im;
+Im=r8(a+96);}
+Km=rp(a+88)+Im*24;
+x8(Km,Cm);
+x8(Km+8,Gm);
+Km[16]=4;
+Km[17]=Hm;
+z6(Km+18);
+w8(a+96,Im+1);
+w2(rp(a+128)+(i64)(ym<<1),(u16)Em+1);
+w8(a+192,Fm);
+Lm=r8(a+8);
+if(r8(a+32)>Lm)Mm=Lm;
 else{
-Km=make_ready_8e3(a,1,16);
-if(!(Km&1)){
+Nm=make_ready_8e3(a,1,16);
+if(!(Nm&1)){
 F=0;
 goto L1;}
-Jm=r8(a+8);}
-*(rp(a)+Jm)=93;
-Lm=Jm+1;
-w8(a+8,Lm);
-if(r8(a+136)<=Li){
+Mm=r8(a+8);}
+*(rp(a)+Mm)=93;
+Om=Mm+1;
+w8(a+8,Om);
+if(r8(a+136)<=Fi){
 F=0;
 goto L1;}
-Mm=r8(a+96);
-if(Mm>65534){
+Pm=r8(a+96);
+if(Pm>65534){
 F=0;
 goto L1;}
-Nm=a[80];
-if(r8(a+120)>Mm)Om=Mm;
+Qm=a[80];
+if(r8(a+120)>Pm)Rm=Pm;
 else{
-Pm=make_ready_b73(a+88);
-if(!(Pm&1)){
+Sm=make_ready_b73(a+88);
+if(!(Sm&1)){
 F=0;
 goto L1;}
-Om=r8(a+96);}
-Qm=rp(a+88)+Om*24;
-x8(Qm,Mi);
-x8(Qm+8,Lm);
-Qm[16]=3;
-Qm[17]=Nm;
-z6(Qm+18);
-w8(a+96,Om+1);
-w2(rp(a+128)+(i64)(Li<<1),(u16)Mm+1);
+Rm=r8(a+96);}
+Tm=rp(a+88)+Rm*24;
+x8(Tm,Gi);
+x8(Tm+8,Om);
+Tm[16]=3;
+Tm[17]=Qm;
+z6(Tm+18);
+w8(a+96,Rm+1);
+w2(rp(a+128)+(i64)(Fi<<1),(u16)Pm+1);
 La=3;
-Ma=Mi;
+Ma=Gi;
 Na=0;
 Oa=2;
 goto L9;
@@ -124229,7 +124277,7 @@ goto L1;
 default:NEVER;
 }
 break;
-case 6:if(!Ei){
+case 6:if(!yi){
 F=0;
 goto L1;}
 if(!(a[80]&1)){
@@ -124239,146 +124287,146 @@ memcpy(e,a,40);
 memcpy(a,a+40,40);
 memcpy(a+40,e,40);
 a[80]=0;
-Rm=r8(a+8);
-if(r8(a+32)>Rm)Sm=Rm;
+Um=r8(a+8);
+if(r8(a+32)>Um)Vm=Um;
 else{
-Tm=make_ready_8e3(a,1,16);
-if(!(Tm&1)){
-F=0;
-goto L1;}
-Sm=r8(a+8);}
-*(rp(a)+Sm)=60;
-w8(a+8,Sm+1);
-Um=r8(a+160);
-if(r8(a+184)>Um)Vm=Um;
-else{
-Wm=make_ready_e3c(a+152);
+Wm=make_ready_8e3(a,1,16);
 if(!(Wm&1)){
 F=0;
 goto L1;}
-Vm=r8(a+160);}
-Xm=rp(a+152)+(Vm<<5);
-*Xm=10;
-Xm[1]=0;
-x8(Xm+8,Li);
-x8(Xm+16,Rm);
-Xm[24]=0;
-w8(a+160,Vm+1);
+Vm=r8(a+8);}
+*(rp(a)+Vm)=60;
+w8(a+8,Vm+1);
+Xm=r8(a+160);
+if(r8(a+184)>Xm)Ym=Xm;
+else{
+Zm=make_ready_e3c(a+152);
+if(!(Zm&1)){
+F=0;
+goto L1;}
+Ym=r8(a+160);}
+an=rp(a+152)+(Ym<<5);
+*an=10;
+an[1]=0;
+x8(an+8,Fi);
+x8(an+16,Um);
+an[24]=0;
+w8(a+160,Ym+1);
 La=0;
 Ma=0;
 Na=0;
 Oa=1;
 goto L9;
-case 7:if(!Ei){
+case 7:if(!yi){
 F=0;
 goto L1;}
-Ym=r8(a+8);
-if(r8(a+32)>Ym)Zm=Ym;
+bn=r8(a+8);
+if(r8(a+32)>bn)cn=bn;
 else{
-an=make_ready_8e3(a,1,16);
-if(!(an&1)){
-F=0;
-goto L1;}
-Zm=r8(a+8);}
-*(rp(a)+Zm)=60;
-w8(a+8,Zm+1);
-bn=r8(a+160);
-if(r8(a+184)>bn)cn=bn;
-else{
-dn=make_ready_e3c(a+152);
+dn=make_ready_8e3(a,1,16);
 if(!(dn&1)){
 F=0;
 goto L1;}
-cn=r8(a+160);}
-en=rp(a+152)+(cn<<5);
-*en=9;
-en[1]=0;
-x8(en+8,Li);
-x8(en+16,Ym);
-en[24]=2;
-w8(a+160,cn+1);
+cn=r8(a+8);}
+*(rp(a)+cn)=60;
+w8(a+8,cn+1);
+en=r8(a+160);
+if(r8(a+184)>en)fn=en;
+else{
+gn=make_ready_e3c(a+152);
+if(!(gn&1)){
+F=0;
+goto L1;}
+fn=r8(a+160);}
+hn=rp(a+152)+(fn<<5);
+*hn=9;
+hn[1]=0;
+x8(hn+8,Fi);
+x8(hn+16,bn);
+hn[24]=2;
+w8(a+160,fn+1);
 La=0;
 Ma=0;
 Na=0;
 Oa=1;
 goto L9;
-case 8:if(!Ei){
+case 8:if(!yi){
 F=0;
 goto L1;}
-fn=r8(a+8);
-if(r8(a+32)>fn)gn=fn;
+in=r8(a+8);
+if(r8(a+32)>in)jn=in;
 else{
-hn=make_ready_8e3(a,1,16);
-if(!(hn&1)){
-F=0;
-goto L1;}
-gn=r8(a+8);}
-*(rp(a)+gn)=60;
-w8(a+8,gn+1);
-in=r8(a+160);
-if(r8(a+184)>in)jn=in;
-else{
-kn=make_ready_e3c(a+152);
+kn=make_ready_8e3(a,1,16);
 if(!(kn&1)){
 F=0;
 goto L1;}
-jn=r8(a+160);}
-ln=rp(a+152)+(jn<<5);
-*ln=10;
-ln[1]=0;
-x8(ln+8,Li);
-x8(ln+16,fn);
-ln[24]=0;
-w8(a+160,jn+1);
+jn=r8(a+8);}
+*(rp(a)+jn)=60;
+w8(a+8,jn+1);
+ln=r8(a+160);
+if(r8(a+184)>ln)mn=ln;
+else{
+nn=make_ready_e3c(a+152);
+if(!(nn&1)){
+F=0;
+goto L1;}
+mn=r8(a+160);}
+on=rp(a+152)+(mn<<5);
+*on=10;
+on[1]=0;
+x8(on+8,Fi);
+x8(on+16,in);
+on[24]=0;
+w8(a+160,mn+1);
 La=0;
 Ma=0;
 Na=0;
 Oa=1;
 goto L9;
 case 10:switch(Ea){
-case 0:case 2:case 3:mn=r8(a+8);
-if(r8(a+32)-mn<4){
-nn=make_ready_8e3(a,4,128);
-if(!(nn&1)){
+case 0:case 2:case 3:pn=r8(a+8);
+if(r8(a+32)-pn<4){
+qn=make_ready_8e3(a,4,128);
+if(!(qn&1)){
 F=0;
 goto L1;}
-on=r8(a+8);}
-else on=mn;
-pn=r8(a+16);
-if(pn-on<4){
-qn=grow_amortized_68b(a,4);
-if(!qn){
+rn=r8(a+8);}
+else rn=pn;
+sn=r8(a+16);
+if(sn-rn<4){
+tn=grow_amortized_68b(a,4);
+if(!tn){
 F=0;
 goto L1;}
-rn=r8(a+16);
-sn=r8(a+8);}
+un=r8(a+16);
+vn=r8(a+8);}
 else{
-rn=pn;
-sn=on;}
-tn=sn+4;
-un=rp(a);
+un=sn;
+vn=rn;}
+wn=vn+4;
+xn=rp(a);
 z16(a+8);
-vn=un+(i64)sn;
-if((u64)vn-(u64)(u8*)t_fa21<4)copy_bits_4f4((u8*)t_fa21,vn,4);
-else x4(vn,544432416);
-wp(a,un);
-w8(a+8,tn);
-w8(a+16,rn);
-wn=r8(a+160);
-if(r8(a+184)>wn)xn=wn;
+yn=xn+(i64)vn;
+if((u64)yn-(u64)(u8*)t_fa21<4)copy_bits_4f4((u8*)t_fa21,yn,4);
+else x4(yn,544432416);
+wp(a,xn);
+w8(a+8,wn);
+w8(a+16,un);
+zn=r8(a+160);
+if(r8(a+184)>zn)An=zn;
 else{
-yn=make_ready_e3c(a+152);
-if(!(yn&1)){
+Bn=make_ready_e3c(a+152);
+if(!(Bn&1)){
 F=0;
 goto L1;}
-xn=r8(a+160);}
-zn=rp(a+152)+(xn<<5);
-*zn=11;
-zn[1]=0;
-x8(zn+8,Li);
-x8(zn+16,Mi);
-zn[24]=0;
-w8(a+160,xn+1);
+An=r8(a+160);}
+Cn=rp(a+152)+(An<<5);
+*Cn=11;
+Cn[1]=0;
+x8(Cn+8,Fi);
+x8(Cn+16,Gi);
+Cn[24]=0;
+w8(a+160,An+1);
 La=0;
 Ma=0;
 Na=0;
@@ -124390,42 +124438,42 @@ default:NEVER;
 }
 break;
 case 11:switch(Ea){
-case 0:case 2:An=r8(a+8);
-if(r8(a+32)>An)Bn=An;
+case 0:case 2:Dn=r8(a+8);
+if(r8(a+32)>Dn)En=Dn;
 else{
-Cn=make_ready_8e3(a,1,16);
-if(!(Cn&1)){
+Fn=make_ready_8e3(a,1,16);
+if(!(Fn&1)){
 F=0;
 goto L1;}
-Bn=r8(a+8);}
-*(rp(a)+Bn)=62;
-Dn=Bn+1;
-w8(a+8,Dn);
-if(r8(a+136)<=Li){
+En=r8(a+8);}
+*(rp(a)+En)=62;
+Gn=En+1;
+w8(a+8,Gn);
+if(r8(a+136)<=Fi){
 F=0;
 goto L1;}
-En=r8(a+96);
-if(En>65534){
+Hn=r8(a+96);
+if(Hn>65534){
 F=0;
 goto L1;}
-Fn=a[80];
-if(r8(a+120)>En)Gn=En;
+In=a[80];
+if(r8(a+120)>Hn)Jn=Hn;
 else{
-Hn=make_ready_b73(a+88);
-if(!(Hn&1)){
+Kn=make_ready_b73(a+88);
+if(!(Kn&1)){
 F=0;
 goto L1;}
-Gn=r8(a+96);}
-In=rp(a+88)+Gn*24;
-x8(In,Mi);
-x8(In+8,Dn);
-In[16]=0;
-In[17]=Fn;
-z6(In+18);
-w8(a+96,Gn+1);
-w2(rp(a+128)+(i64)(Li<<1),(u16)En+1);
+Jn=r8(a+96);}
+Ln=rp(a+88)+Jn*24;
+x8(Ln,Gi);
+x8(Ln+8,Gn);
+Ln[16]=0;
+Ln[17]=In;
+z6(Ln+18);
+w8(a+96,Jn+1);
+w2(rp(a+128)+(i64)(Fi<<1),(u16)Hn+1);
 La=0;
-Ma=Mi;
+Ma=Gi;
 Na=0;
 Oa=2;
 goto L9;
@@ -124436,16 +124484,16 @@ default:NEVER;
 break;
 default:NEVER;
 }
-if(Ti!=1){
+if(Ni!=1){
 F=0;
 goto L1;}
-La=Xi;
-Ma=Wi;
-Na=Vi;
-Oa=Ui;
-L9:Jn=N+1;
-if(Jn!=M){
-N=Jn;
+La=Ri;
+Ma=Qi;
+Na=Pi;
+Oa=Oi;
+L9:Mn=N+1;
+if(Mn!=M){
+N=Mn;
 O=La;
 P=Ma;
 Q=Na;
@@ -124872,78 +124920,103 @@ L3:return L;
 /* rust_direct::hashes::any_disambiguator_end */
 static s_8_64 any_disambiguator_end_f9c(u8* a,u64 b,u64 c)
 {
-u64 d,e,f,g,h,i,j,k,l,o,p,q,r,s,u,v,w,y,z,A;
-u8 m,t,x;
-u8 *n;
-s_8_64 B,C;
+A16 u8 d[24];
+u64 e,f,g;
+u8 h,i;
+s_8_64 j,k;
 if(c<b){
 if(*(a+c)==115){
-d=c+1;
-e=umin64(b-d,11)+d;
+e=c+1;
+z24(d);
+f=c+2;
+if(e!=18446744073709551615u&&f<b){
+if(*(a+f)==95){
+if(*((u8*)t_84dd+*(a+(i64)e))<62){
+g=c+3;
+h=1;
+goto L1;}}}
+any_number_at_3d4(d,a,b,e);
+i=*d==1&&r8(d+8)!=18446744073709551615u;
+g=i?r8(d+16):0;
+h=i;}
+else{
+g=c;
+h=1;}}
+else{
+g=c;
+h=1;}
+L1:j=(s_8_64){0};j.f0=h;
+k=j;k.f1=g;
+return k;
+}
+
+/* rust_direct::tokens::any_number_at */
+static void any_number_at_3d4(u8* a,u8* b,u64 c,u64 d)
+{
+u64 e,f,g,h,i,j,k,l,n,o,p,q,r,t,u,v,x,y,z;
+u8 *m;
+u8 s,w;
+if(c<d)z24(a);
+else{
+e=umin64(c-d,11)+d;
 if(d>=e){
 g=d;
 goto L1;}
 f=d;
-L2:if(*((u8*)t_84dd+*(a+f))<62){
+L2:if(*((u8*)t_84dd+*(b+f))<62){
 h=f+1;
 if(h!=e){
 f=h;
 goto L2;}
 g=e;}
 else g=f;
-L1:if(g!=b){
-if(*(a+g)==95){
+L1:if(g!=c){
+if(*(b+g)==95){
 i=d&4294967295u;
 j=g&4294967295u;
 k=j+1;
-if(j==i){
-l=k;
-m=1;
-goto L3;}
-n=a+(i64)i;
-o=j-i;
-if(o>10){
+if(j!=i){
+m=b+(i64)i;
+n=j-i;
+if(n>10){
+o=0;
 p=0;
+goto L3;}
 q=0;
-goto L4;}
 r=0;
-s=0;
-L5:t=*((u8*)t_84dd+*(n+(i64)s));
-if(t>=62)goto L6;
-u=r*62+t;
-v=s+1;
-if(v==o){
-w=u;
-goto L7;}
+L4:s=*((u8*)t_84dd+*(m+(i64)r));
+if(s>=62)goto L5;
+t=q*62+s;
+u=r+1;
+if(u==n){
+v=t;
+goto L6;}
+q=t;
 r=u;
-s=v;
-goto L5;
-L4:x=*((u8*)t_84dd+*(n+(i64)q));
-if(!((p<0x421084210842109u)&(x<62)))goto L6;
-y=p*62;
-if(y>(x^18446744073709551615u))goto L6;
-z=y+x;
-A=q+1;
-if(A!=o){
+goto L4;
+L3:w=*((u8*)t_84dd+*(m+(i64)p));
+if(!((o<0x421084210842109u)&(w<62)))goto L5;
+x=o*62;
+if(x>(w^18446744073709551615u))goto L5;
+y=x+w;
+z=p+1;
+if(z!=n){
+o=y;
 p=z;
-q=A;
-goto L4;}
-w=z;
-L7:if(w<=0xfffffffffffffffdu){
-l=k;
-m=1;
-goto L3;}}}
-L6:l=0;
-m=0;}
-else{
-l=c;
-m=1;}}
-else{
-l=c;
-m=1;}
-L3:B=(s_8_64){0};B.f0=m;
-C=B;C.f1=l;
-return C;
+goto L3;}
+v=y;
+L6:if(v!=18446744073709551615u){
+l=v+1;
+goto L7;}
+L5:z24(a);
+goto L8;}
+l=0;
+L7:x8(a,1);
+x8(a+8,l);
+x8(a+16,k);
+goto L8;}}
+z24(a);}
+L8:return;
 }
 
 /* rust_direct::names::any_name_span */
@@ -125052,10 +125125,10 @@ return;
 static void begin_impl_c72(u8* a,u8* b,u8* c,u64 d)
 {
 A16 u8 e[40],f[32];
-u64 g,h,i,j,m,n,o,q,r;
-u8 *k,*t;
-u8 l,s;
-s_8_64 p;
+u64 g,h,i,k,l,n,o,p,r,s;
+u8 *j,*u;
+u8 m,t;
+s_8_64 q;
 z32(f);
 g=r8(b+192);
 if(g==18446744073709551615u){
@@ -125070,59 +125143,61 @@ if(h<d){
 if(*(c+h)==115){
 i=g+2;
 if(!(d<i||d-i<12)){
-j=g+13;
-k=c+(i64)i;
-l=*k;
-if(!((l<58)|((u8)(l-97)<11)))goto L1;
-m=0;
-L2:if(*((u8*)t_9eba+*(k+m))==0){
-n=m+1;
-if(n!=11){
-m=n;
-goto L2;}
-if(j<d){
-if(*(c+j)==95){
-o=g+14;
-goto L3;}}}}
-L1:p=any_disambiguator_end_f9c(c,d,h);
-if(p.f0!=1){
+j=c+(i64)i;
+k=0;
+L1:if(*((u8*)t_9eba+*(j+k))==0){
+l=k+1;
+if(l!=11){
+k=l;
+goto L1;}
+m=*j;
+if(!((m<58)|((u8)(m-97)<11)))goto L2;
+n=11;}
+else n=k;
+o=n+i;
+if(o<d){
+if(*(c+o)==95){
+p=o+1;
+goto L3;}}}
+L2:q=any_disambiguator_end_f9c(c,d,h);
+if(q.f0!=1){
 x8(a,0);
 a[8]=0;
 a[9]=0;
 x8(a+16,0);
 a[24]=0;
 goto L4;}
-o=p.f1;}
-else o=h;}
-else o=h;
+p=q.f1;}
+else p=h;}
+else p=h;
 L3:if(b[80]&1){
-begin_inner_impl_f25(f,b,o);
+begin_inner_impl_f25(f,b,p);
 x8(a,*f);
 a[8]=f[8];
 a[9]=f[9];
 x8(a+16,r8(f+16));
 a[24]=f[24];}
 else{
-w8(b+192,o);
-q=r8(b+160);
-if(r8(b+184)>q)r=q;
+w8(b+192,p);
+r=r8(b+160);
+if(r8(b+184)>r)s=r;
 else{
-s=make_ready_e3c(b+152);
-if(!(s&1)){
+t=make_ready_e3c(b+152);
+if(!(t&1)){
 x8(a,0);
 a[8]=0;
 a[9]=0;
 x8(a+16,0);
 a[24]=0;
 goto L4;}
-r=r8(b+160);}
-t=rp(b+152)+(r<<5);
-*t=5;
-t[1]=0;
-x8(t+8,g);
-x8(t+16,0);
-t[24]=0;
-w8(b+160,r+1);
+s=r8(b+160);}
+u=rp(b+152)+(s<<5);
+*u=5;
+u[1]=0;
+x8(u+8,g);
+x8(u+16,0);
+u[24]=0;
+w8(b+160,s+1);
 memcpy(e,b,40);
 memcpy(b,b+40,40);
 memcpy(b+40,e,40);
@@ -125191,10 +125266,10 @@ return;
 static void begin_trait_impl_220(u8* a,u8* b,u8* c,u64 d)
 {
 A16 u8 e[40],f[32];
-u64 g,h,i,j,m,n,o,q,r;
-u8 *k,*t;
-u8 l,s;
-s_8_64 p;
+u64 g,h,i,k,l,n,o,p,r,s;
+u8 *j,*u;
+u8 m,t;
+s_8_64 q;
 z32(f);
 g=r8(b+192);
 if(g==18446744073709551615u){
@@ -125209,59 +125284,61 @@ if(h<d){
 if(*(c+h)==115){
 i=g+2;
 if(!(d<i||d-i<12)){
-j=g+13;
-k=c+(i64)i;
-l=*k;
-if(!((l<58)|((u8)(l-97)<11)))goto L1;
-m=0;
-L2:if(*((u8*)t_9eba+*(k+m))==0){
-n=m+1;
-if(n!=11){
-m=n;
-goto L2;}
-if(j<d){
-if(*(c+j)==95){
-o=g+14;
-goto L3;}}}}
-L1:p=any_disambiguator_end_f9c(c,d,h);
-if(p.f0!=1){
+j=c+(i64)i;
+k=0;
+L1:if(*((u8*)t_9eba+*(j+k))==0){
+l=k+1;
+if(l!=11){
+k=l;
+goto L1;}
+m=*j;
+if(!((m<58)|((u8)(m-97)<11)))goto L2;
+n=11;}
+else n=k;
+o=n+i;
+if(o<d){
+if(*(c+o)==95){
+p=o+1;
+goto L3;}}}
+L2:q=any_disambiguator_end_f9c(c,d,h);
+if(q.f0!=1){
 x8(a,0);
 a[8]=0;
 a[9]=0;
 x8(a+16,0);
 a[24]=0;
 goto L4;}
-o=p.f1;}
-else o=h;}
-else o=h;
+p=q.f1;}
+else p=h;}
+else p=h;
 L3:if(b[80]&1){
-begin_inner_trait_impl_a3f(f,b,o);
+begin_inner_trait_impl_a3f(f,b,p);
 x8(a,*f);
 a[8]=f[8];
 a[9]=f[9];
 x8(a+16,r8(f+16));
 a[24]=f[24];}
 else{
-w8(b+192,o);
-q=r8(b+160);
-if(r8(b+184)>q)r=q;
+w8(b+192,p);
+r=r8(b+160);
+if(r8(b+184)>r)s=r;
 else{
-s=make_ready_e3c(b+152);
-if(!(s&1)){
+t=make_ready_e3c(b+152);
+if(!(t&1)){
 x8(a,0);
 a[8]=0;
 a[9]=0;
 x8(a+16,0);
 a[24]=0;
 goto L4;}
-r=r8(b+160);}
-t=rp(b+152)+(r<<5);
-*t=6;
-t[1]=0;
-x8(t+8,g);
-x8(t+16,0);
-t[24]=0;
-w8(b+160,r+1);
+s=r8(b+160);}
+u=rp(b+152)+(s<<5);
+*u=6;
+u[1]=0;
+x8(u+8,g);
+x8(u+16,0);
+u[24]=0;
+w8(b+160,s+1);
 memcpy(e,b,40);
 memcpy(b,b+40,40);
 memcpy(b+40,e,40);
@@ -125395,65 +125472,13 @@ a[24]=0;
 return;
 }
 
-/* rust_direct::direct::Direct::repeat */
-static u8 repeat_2ff(u8* a,u8* b)
-{
-u64 c,d,f,g,i,k,m,n,o;
-u8 *e,*p,*q;
-u8 h,j,l,r;
-c=q8(b);
-d=q8(b+8);
-if((u8)(a[80]^b[17])&1){
-if(d>=c&&r8(a+48)>=d){
-e=rp(a+40)+(i64)c;
-f=d-c;
-g=r8(a+8);
-if(r8(a+32)-g<f){
-h=make_ready_8e3(a,f,128);
-if(!(h&1)){
-j=0;
-goto L1;}
-i=r8(a+8);}
-else i=g;
-k=r8(a+16);
-if(f>k-i){
-l=grow_amortized_68b(a,f);
-if(!l){
-j=0;
-goto L1;}
-m=r8(a+16);
-n=r8(a+8);}
-else{
-m=k;
-n=i;}
-o=n+f;
-p=rp(a);
-z16(a+8);
-q=p+(i64)n;
-if((u64)q-(u64)e<f)copy_bits_4f4(e,q,f);
-else memmove(q,e,f);
-wp(a,p);
-w8(a+8,o);
-w8(a+16,m);
-j=1;}
-else j=0;}
-else{
-if(d<c)j=0;
-else{
-if(r8(a+8)<d)j=0;
-else{
-r=repeat_28b(a,c,d);
-j=r;}}}
-L1:return j;
-}
-
 /* rust_direct::direct::Direct::unnamed_ended */
 static u8 unnamed_ended_c46(u8* a,u8* b,u64 c,u64 d,u64 e,u8 f)
 {
 A16 u8 g[12],h[12],i[12];
-u64 j,l,n,q,r,t,u,w,y,z,A,D,F,G,I,K,L,M,N,R,T,U,V,X,Y,Z,aa,ca,da,fa;
-u8 k,m,o,v,x,C,E,H,O,Q,S,ba,ea,ga;
-u8 *p,*s,*B,*J,*P,*W,*ha;
+u64 j,l,n,q,r,t,u,w,y,z,A,C,D,F,G,J,K,L,M,P,Q,R,T,U,V,W,Y,aa,ba,da;
+u8 k,m,o,v,x,E,H,N,X,Z,ca,ea;
+u8 *p,*s,*B,*I,*O,*S,*fa;
 if(r8(a+136)>d){
 j=r8(a+96);
 if(j>65534)k=0;
@@ -125499,8 +125524,7 @@ k=0;
 goto L1;}
 A=z+y;
 B=b+(i64)y;
-C=*B;
-if((C==95)|((u8)(C-48)<10)){
+if(*((u8*)t_facb+*B)!=0){
 z12(h);
 any_name_span_9bc(h,b,c,u);
 D=q8(h+4);
@@ -125509,107 +125533,106 @@ F=E?D&4294967295u:0;
 G=E?D>>32:0;
 H=E;
 goto L2;}
-I=0;
-L3:J=B+I;
-if((u8)((u8)(*((u8*)t_4efc+J[1])+*((u8*)t_4efc+*J))+*((u8*)t_4efc+J[2]))==(u8)(0-*((u8*)t_4efc+J[3]))){
-K=I+4;
-if(z-K>3){
-I=K;
+C=0;
+L3:I=B+C;
+if((u8)((u8)(*((u8*)t_4efc+I[1])+*((u8*)t_4efc+*I))+*((u8*)t_4efc+I[2]))==(u8)(0-*((u8*)t_4efc+I[3]))){
+J=C+4;
+if(z-J>3){
+C=J;
 goto L3;}
-L=K;}
-else L=I;
-if(L>=z){
+K=J;}
+else K=C;
+if(K>=z){
 F=y;
 G=A;
 H=1;
 goto L2;}
-M=L;
-L4:if(*((u8*)t_4efc+*(B+M))!=0){
+L=K;
+L4:if(*((u8*)t_4efc+*(B+L))!=0){
 k=0;
 goto L1;}
-N=M+1;
-if(N<z){
-M=N;
+M=L+1;
+if(M<z){
+L=M;
 goto L4;}
 F=y;
 G=A;
 H=1;
 goto L2;}}
-O=v-48;
-if(c-w<O){
+N=v-48;
+if(c-w<N){
 k=0;
 goto L1;}
-P=b+(i64)w;
-Q=*P;
-if((Q==95)|((u8)(Q-48)<10)){
+O=b+(i64)w;
+if(*((u8*)t_facb+*O)!=0){
 z12(g);
 any_name_span_9bc(g,b,c,u);
-R=q8(g+4);
-S=*g==1;
-F=S?R&4294967295u:0;
-G=S?R>>32:0;
-H=S;
+W=q8(g+4);
+X=*g==1;
+F=X?W&4294967295u:0;
+G=X?W>>32:0;
+H=X;
 goto L2;}
-T=w+O;
+P=w+N;
 if(v<=51){
-V=0;
+R=0;
 goto L5;}
-U=0;
-L6:W=P+U;
-if((u8)((u8)(*((u8*)t_4efc+W[1])+*((u8*)t_4efc+*W))+*((u8*)t_4efc+W[2]))==(u8)(0-*((u8*)t_4efc+W[3]))){
-X=U+4;
-if(O-X>3){
-U=X;
+Q=0;
+L6:S=O+Q;
+if((u8)((u8)(*((u8*)t_4efc+S[1])+*((u8*)t_4efc+*S))+*((u8*)t_4efc+S[2]))==(u8)(0-*((u8*)t_4efc+S[3]))){
+T=Q+4;
+if(N-T>3){
+Q=T;
 goto L6;}
-V=X;}
-else V=U;
-L5:if(V>=O){
+R=T;}
+else R=Q;
+L5:if(R>=N){
 F=w;
-G=T;
+G=P;
 H=1;
 goto L2;}
-Y=V;
-L7:if(*((u8*)t_4efc+*(P+Y))!=0){
+U=R;
+L7:if(*((u8*)t_4efc+*(O+U))!=0){
 k=0;
 goto L1;}
-Z=Y+1;
-if(Z!=O){
-Y=Z;
+V=U+1;
+if(V!=N){
+U=V;
 goto L7;}
 F=w;
-G=T;
+G=P;
 H=1;
 goto L2;}}
 z12(i);
 any_name_span_9bc(i,b,c,u);
-aa=q8(i+4);
-ba=*i==1;
-F=ba?aa&4294967295u:0;
-G=ba?aa>>32:0;
-H=ba;
+Y=q8(i+4);
+Z=*i==1;
+F=Z?Y&4294967295u:0;
+G=Z?Y>>32:0;
+H=Z;
 L2:if(H&&F>=G){
 w8(a+192,G);
 if(r8(a+136)>t){
-ca=r8(a+96);
-if(ca>65534)k=0;
+aa=r8(a+96);
+if(aa>65534)k=0;
 else{
-da=r8(a+8);
-ea=a[80];
-if(r8(a+120)>ca)fa=ca;
+ba=r8(a+8);
+ca=a[80];
+if(r8(a+120)>aa)da=aa;
 else{
-ga=make_ready_b73(a+88);
-if(!(ga&1)){
+ea=make_ready_b73(a+88);
+if(!(ea&1)){
 k=0;
 goto L1;}
-fa=r8(a+96);}
-ha=rp(a+88)+fa*24;
-x8(ha,e);
-x8(ha+8,da);
-ha[16]=f;
-ha[17]=ea;
-z6(ha+18);
-w8(a+96,fa+1);
-w2(rp(a+128)+(i64)(t<<1),(u16)ca+1);
+da=r8(a+96);}
+fa=rp(a+88)+da*24;
+x8(fa,e);
+x8(fa+8,ba);
+fa[16]=f;
+fa[17]=ca;
+z6(fa+18);
+w8(a+96,da+1);
+w2(rp(a+128)+(i64)(t<<1),(u16)aa+1);
 k=1;}}
 else k=0;}
 else k=0;}}}}
@@ -125764,277 +125787,209 @@ return;
 /* rust_direct::direct::Direct::special_named */
 static void special_named_1bc(u8* a,u8* b,u8* c,u64 d,u64 e,u8 f,u64 g,u8* h,u64 i)
 {
-A16 u8 j[12],k[12],l[12];
-u64 m,n,o,p,q,r,s,u,w,x,y,z,C,D,E,F,G,I,J,K,M,N,O,P,Q,S,U,V,W,Z,aa,ba,ca,ea,fa,ga,ha,la,ma,na,oa,qa,ra,sa,ta,va,wa,ya;
-u8 t,v,A,H,L,R,T,Y,ia,ka,ua,xa,za;
-u8 *B,*X,*da,*ja,*pa,*Aa;
-m=r8(b+192);
-if(m<d){
-if(*(c+m)==115){
-n=m+1;
-o=umin64(d-n,11)+n;
-if(n>=o){
-q=n;
-goto L1;}
-p=n;
-L2:if(*((u8*)t_84dd+*(c+p))<62){
-r=p+1;
-if(r!=o){
-p=r;
+A16 u8 j[12],k[12],l[12],m[24];
+u64 n,o,p,r,s,t,u,w,z,B,C,D,F,G,H,I,K,L,M,N,Q,R,S,U,V,W,X,Y,aa,ba,da;
+u8 q,v,x,y,A,O,Z,ca,ea;
+u8 *E,*J,*P,*T,*fa;
+n=r8(b+192);
+if(n<d){
+if(*(c+n)==115){
+o=n+1;
+z24(m);
+p=n+2;
+if(o!=18446744073709551615u&&p<d){
+if(*(c+p)==95){
+q=*((u8*)t_84dd+*(c+(i64)o));
+if(q<62){
+r=q+2;
+s=n+3;
+goto L1;}}}
+any_number_at_3d4(m,c,d,o);
+t=r8(m+8);
+if(*m!=1||t==18446744073709551615u){
+u=0;
+v=0;
+w=0;
+x=0;
 goto L2;}
-q=o;}
-else q=p;
-L1:if(q==d){
-s=0;
-t=0;
-u=0;
-v=0;
-goto L3;}
-if(*(c+q)!=95){
-s=0;
-t=0;
-u=0;
-v=0;
-goto L3;}
-w=n&4294967295u;
-x=q&4294967295u;
-y=x+1;
-if(x==w){
-z=0;
-A=0;}
+r=t+1;
+s=r8(m+16);}
 else{
-B=c+(i64)w;
-C=x-w;
-if(C>10){
-D=0;
-E=0;
-goto L4;}
-F=0;
-G=0;
-L5:H=*((u8*)t_84dd+*(B+(i64)G));
-if(H>=62){
-s=0;
-t=0;
-u=0;
-v=0;
-goto L3;}
-I=F*62+H;
-J=G+1;
-if(J==C){
-K=I;
-goto L6;}
-F=I;
-G=J;
-goto L5;
-L4:L=*((u8*)t_84dd+*(B+(i64)E));
-if(!((D<0x421084210842109u)&(L<62))){
-s=0;
-t=0;
-u=0;
-v=0;
-goto L3;}
-M=D*62;
-if(M>(L^18446744073709551615u)){
-s=0;
-t=0;
-u=0;
-v=0;
-goto L3;}
-N=M+L;
-O=E+1;
-if(O!=C){
-D=N;
-E=O;
-goto L4;}
-K=N;
-L6:z=K+1;
-A=K==18446744073709551615u;}
-if(A||z==18446744073709551615u){
-s=0;
-t=0;
-u=0;
-v=0;
-goto L3;}
-P=z+1;
-Q=y;}
+r=0;
+s=n;}}
 else{
-P=0;
-Q=m;}}
-else{
-P=0;
-Q=m;}
-if(Q<d){
-R=*(c+Q);
-if((u8)(R-58)>=247){
-S=Q+1;
-if(S<d){
-T=*(c+S)-48;
-if(T<10){
-U=Q+2;
-V=(u64)T+(u8)((u8)(R*10)+32);
-if(d-U<V){
-s=0;
-t=0;
+r=0;
+s=n;}
+L1:if(s<d){
+y=*(c+s);
+if((u8)(y-58)>=247){
+z=s+1;
+if(z<d){
+A=*(c+z)-48;
+if(A<10){
+B=s+2;
+C=(u64)A+(u8)((u8)(y*10)+32);
+if(d-B<C){
 u=0;
 v=0;
-goto L3;}
-W=V+U;
-X=c+(i64)U;
-Y=*X;
-if((Y==95)|((u8)(Y-48)<10)){
+w=0;
+x=0;
+goto L2;}
+D=C+B;
+E=c+(i64)B;
+if(*((u8*)t_facb+*E)!=0){
 z12(k);
-any_name_span_9bc(k,c,d,Q);
-Z=q8(k+4);
+any_name_span_9bc(k,c,d,s);
+G=q8(k+4);
 if(*k==1){
-aa=Z>>32;
-ba=Z&4294967295u;
-goto L7;}
-s=0;
-t=0;
+H=G>>32;
+I=G&4294967295u;
+goto L3;}
 u=0;
 v=0;
+w=0;
+x=0;
+goto L2;}
+F=0;
+L4:J=E+F;
+if((u8)((u8)(*((u8*)t_4efc+J[1])+*((u8*)t_4efc+*J))+*((u8*)t_4efc+J[2]))==(u8)(0-*((u8*)t_4efc+J[3]))){
+K=F+4;
+if(C-K>3){
+F=K;
+goto L4;}
+L=K;}
+else L=F;
+if(L>=C){
+H=D;
+I=B;
 goto L3;}
-ca=0;
-L8:da=X+ca;
-if((u8)((u8)(*((u8*)t_4efc+da[1])+*((u8*)t_4efc+*da))+*((u8*)t_4efc+da[2]))==(u8)(0-*((u8*)t_4efc+da[3]))){
-ea=ca+4;
-if(V-ea>3){
-ca=ea;
-goto L8;}
-fa=ea;}
-else fa=ca;
-if(fa>=V){
-aa=W;
-ba=U;
-goto L7;}
-ga=fa;
-L9:if(*((u8*)t_4efc+*(X+ga))!=0){
-s=0;
-t=0;
+M=L;
+L5:if(*((u8*)t_4efc+*(E+M))!=0){
 u=0;
 v=0;
-goto L3;}
-ha=ga+1;
-if(ha<V){
-ga=ha;
-goto L9;}
-aa=W;
-ba=U;
-goto L7;}}
-ia=R-48;
-if(d-S<ia){
-s=0;
-t=0;
+w=0;
+x=0;
+goto L2;}
+N=M+1;
+if(N<C){
+M=N;
+goto L5;}
+H=D;
+I=B;
+goto L3;}}
+O=y-48;
+if(d-z<O){
 u=0;
 v=0;
-goto L3;}
-ja=c+(i64)S;
-ka=*ja;
-if((ka==95)|((u8)(ka-48)<10)){
+w=0;
+x=0;
+goto L2;}
+P=c+(i64)z;
+if(*((u8*)t_facb+*P)!=0){
 z12(j);
-any_name_span_9bc(j,c,d,Q);
-la=q8(j+4);
+any_name_span_9bc(j,c,d,s);
+X=q8(j+4);
 if(*j==1){
-aa=la>>32;
-ba=la&4294967295u;
-goto L7;}
-s=0;
-t=0;
+H=X>>32;
+I=X&4294967295u;
+goto L3;}
 u=0;
 v=0;
-goto L3;}
-ma=S+ia;
-if(R<=51){
-oa=0;
-goto L10;}
-na=0;
-L11:pa=ja+na;
-if((u8)((u8)(*((u8*)t_4efc+pa[1])+*((u8*)t_4efc+*pa))+*((u8*)t_4efc+pa[2]))==(u8)(0-*((u8*)t_4efc+pa[3]))){
-qa=na+4;
-if(ia-qa>3){
-na=qa;
-goto L11;}
-oa=qa;}
-else oa=na;
-L10:if(oa>=ia){
-aa=ma;
-ba=S;
+w=0;
+x=0;
+goto L2;}
+Q=z+O;
+if(y<=51){
+S=0;
+goto L6;}
+R=0;
+L7:T=P+R;
+if((u8)((u8)(*((u8*)t_4efc+T[1])+*((u8*)t_4efc+*T))+*((u8*)t_4efc+T[2]))==(u8)(0-*((u8*)t_4efc+T[3]))){
+U=R+4;
+if(O-U>3){
+R=U;
 goto L7;}
-ra=oa;
-L12:if(*((u8*)t_4efc+*(ja+ra))!=0){
-s=0;
-t=0;
+S=U;}
+else S=R;
+L6:if(S>=O){
+H=Q;
+I=z;
+goto L3;}
+V=S;
+L8:if(*((u8*)t_4efc+*(P+V))!=0){
 u=0;
 v=0;
-goto L3;}
-sa=ra+1;
-if(sa!=ia){
-ra=sa;
-goto L12;}
-aa=ma;
-ba=S;
-goto L7;}}
+w=0;
+x=0;
+goto L2;}
+W=V+1;
+if(W!=O){
+V=W;
+goto L8;}
+H=Q;
+I=z;
+goto L3;}}
 z12(l);
-any_name_span_9bc(l,c,d,Q);
-ta=q8(l+4);
+any_name_span_9bc(l,c,d,s);
+Y=q8(l+4);
 if(*l!=1){
-s=0;
-t=0;
 u=0;
 v=0;
-goto L3;}
-aa=ta>>32;
-ba=ta&4294967295u;
-L7:ua=push_special_c7d(b,h,i,c+(i64)ba,aa-ba,P);
-if(ua&1){
-w8(b+192,aa);
+w=0;
+x=0;
+goto L2;}
+H=Y>>32;
+I=Y&4294967295u;
+L3:Z=push_special_c7d(b,h,i,c+(i64)I,H-I,r);
+if(Z&1){
+w8(b+192,H);
 if(r8(b+136)>g){
-va=r8(b+96);
-if(va>65534){
-s=0;
-t=0;
-u=0;
-v=0;}
-else{
-wa=r8(b+8);
-xa=b[80];
-if(r8(b+120)>va)ya=va;
-else{
-za=make_ready_b73(b+88);
-if(!(za&1)){
-s=0;
-t=0;
+aa=r8(b+96);
+if(aa>65534){
 u=0;
 v=0;
-goto L3;}
-ya=r8(b+96);}
-Aa=rp(b+88)+ya*24;
-x8(Aa,e);
-x8(Aa+8,wa);
-Aa[16]=f;
-Aa[17]=xa;
-z6(Aa+18);
-w8(b+96,ya+1);
-w2(rp(b+128)+(i64)(g<<1),(u16)va+1);
-s=1;
-t=2;
-u=e;
-v=f;}}
+w=0;
+x=0;}
 else{
-s=0;
-t=0;
-u=0;
-v=0;}}
+ba=r8(b+8);
+ca=b[80];
+if(r8(b+120)>aa)da=aa;
 else{
-s=0;
-t=0;
+ea=make_ready_b73(b+88);
+if(!(ea&1)){
 u=0;
-v=0;}
-L3:x8(a,s);
-a[8]=t;
+v=0;
+w=0;
+x=0;
+goto L2;}
+da=r8(b+96);}
+fa=rp(b+88)+da*24;
+x8(fa,e);
+x8(fa+8,ba);
+fa[16]=f;
+fa[17]=ca;
+z6(fa+18);
+w8(b+96,da+1);
+w2(rp(b+128)+(i64)(g<<1),(u16)aa+1);
+u=1;
+v=2;
+w=e;
+x=f;}}
+else{
+u=0;
+v=0;
+w=0;
+x=0;}}
+else{
+u=0;
+v=0;
+w=0;
+x=0;}
+L2:x8(a,u);
+a[8]=v;
 a[9]=0;
-x8(a+16,u);
-a[24]=v;
+x8(a+16,w);
+a[24]=x;
 return;
 }
 
@@ -126338,11 +126293,11 @@ static u8 run_41f(u8* a,u8* b,u64 c,u32 d)
 {
 u8 h[1];
 A16 u8 e[40],f[40],g[32],i[40],j[32],k[40],l[32],m[12],n[12],o[12],p[24],q[12],r[12],s[12],t[32],u[24],v[12],w[12],x[12],y[32];
-u64 z,A,B,D,E,G,I,J,M,N,P,T,V,W,Y,Z,ba,ca,ea,fa,ia,ma,oa,pa,ra,ta,wa,xa,za,Aa,Ba,Da,Ga,Ia,Ja,Ka,La,Na,Oa,Pa,Ra,Sa,Ta,Va,Ya,cb,db,eb,fb,gb,jb,kb,lb,ob,qb,rb,sb,vb,wb,xb,yb,Ab,Bb,Cb,Db,Hb,Ib,Jb,Kb,Mb,Nb,Ob,Pb,Rb,Ub,Vb,Xb,Yb,ac,dc,fc,gc,mc,oc,pc,qc,rc,tc,vc,wc,yc,zc,Ac,Dc,Ec,Hc,Ic,Jc,Kc,Mc,Oc,Pc,Rc,Sc,Tc,Wc,Xc,ad,bd,dd,ed,gd,id,jd,kd,nd,od,sd,td,vd,xd,zd,Bd,Cd,Dd,Gd,Hd,Kd,Ld,Nd,Od,Qd,Sd,Td,Ud,Xd,Yd,be,ce,ee,fe,he,je,ke,le,oe,pe,se,te,ue,ve,we,xe,ye,Ae,Ce,De,Ee,Fe,He,Ie,Je,Ke,Le,Ne,Oe,Pe,Re,Se,Te,Ve,Ze,af,cf,ff,gf,jf,lf,mf,pf,qf,sf,tf,uf,wf,xf,yf,Bf,Cf,Ff,Hf,Jf,Kf,Mf,Nf,Of,Rf,Sf,Uf,Xf,cg,gg,ig,jg,lg,mg,sg,ug,wg,xg,yg,zg,Ag,Dg,Eg,Fg,Ig,Kg,Lg,Mg,Pg,Qg,Rg,Sg,Ug,Vg,Wg,Xg,bh,ch,dh,eh,gh,hh,ih,jh,lh,oh,ph,rh,sh,uh,xh,yh,zh,Ah,Bh,Ch,Dh,Fh,Hh,Ih,Jh,Kh,Mh,Nh,Oh,Ph,Qh,Sh,Th,Uh,Wh,Xh,Yh,ai,ei,fi,hi,ki,mi,ni,pi,si,ti,yi,Di,Fi,Gi,Hi,Ki,Li,Mi,Pi,Ri,Si,Ti,Wi,Yi,Zi,bj,dj,ej,fj,gj,kj,mj,nj,oj,qj,rj,sj,tj,vj,xj,yj,Aj,Cj,Dj,Fj,Gj,Hj,Kj,Nj,Pj,Sj,Tj,Uj,Wj,Yj,dk,ik,kk,mk,ok,qk,rk,tk,uk,vk,yk,Ak,Dk,Fk,Gk,Hk,Lk,Mk,Ok,Qk,Rk,Tk,Uk,Vk,Zk,al,el,gl,il,kl,ll,nl,ol,rl,sl,ul,xl,yl,Al,Bl,Dl,Gl,Hl,Jl,Kl,Ml,Pl,Ql,Rl,Sl,Tl,Vl,Yl,am,bm,dm,em,fm,im,jm,mm,nm,pm,qm,sm,tm,um,wm,zm,Am,Cm,Dm,Fm,Im,Jm,Lm,Mm,Pm,Qm,Sm,Tm,Wm,Xm,Zm,an,dn,fn,gn,in,jn,kn,nn,on,rn,sn,un,vn,xn,An;
-u8 C,F,K,O,Q,R,S,U,aa,da,ga,ha,ja,la,na,qa,sa,ua,va,Ca,Ea,Ha,Ma,Ua,Wa,Za,ab,bb,ib,nb,pb,ub,Eb,Gb,Sb,Tb,Wb,Zb,bc,ec,hc,ic,jc,kc,lc,nc,sc,uc,xc,Fc,Lc,Nc,Qc,Yc,cd,fd,hd,pd,ud,yd,Ad,Id,Md,Pd,Rd,Zd,de,ge,ie,qe,ze,Be,Me,Qe,Xe,Ye,bf,df,hf,kf,nf,rf,vf,Df,If,Lf,Tf,Vf,Wf,Yf,bg,dg,eg,fg,hg,kg,ng,og,pg,qg,rg,tg,Cg,Hg,Jg,Og,Yg,ah,mh,nh,qh,th,vh,Eh,Gh,Rh,Vh,ci,di,gi,ii,li,ri,ui,vi,wi,xi,zi,Ai,Bi,Ci,Ei,Ji,Oi,Qi,Vi,Xi,aj,hj,jj,lj,uj,wj,Bj,Ej,Mj,Oj,Qj,Xj,ak,bk,ck,ek,fk,gk,hk,jk,lk,pk,sk,zk,Bk,Ek,Ik,Kk,Nk,Pk,Sk,Yk,bl,dl,hl,ml,pl,tl,vl,zl,Cl,El,Il,Ll,Nl,Ul,Wl,Zl,cm,km,om,vm,xm,Bm,Em,Gm,Km,Nm,Rm,Um,Ym,bn,en,hn,pn,tn,wn,yn;
-u8 *H,*L,*X,*ka,*Fa,*Xa,*hb,*tb,*zb,*Fb,*Lb,*Qb,*cc,*Bc,*Cc,*Gc,*Uc,*Vc,*Zc,*ld,*md,*qd,*Ed,*Fd,*Jd,*Vd,*Wd,*ae,*me,*ne,*re,*Ge,*We,*ef,*of,*zf,*Af,*Ef,*Gf,*Pf,*Qf,*Zf,*ag,*vg,*Bg,*Ng,*Tg,*Zg,*fh,*kh,*wh,*Lh,*bi,*ji,*oi,*qi,*Ii,*Ui,*cj,*ij,*pj,*zj,*Ij,*Jj,*Lj,*Rj,*Vj,*Zj,*nk,*wk,*xk,*Ck,*Jk,*Wk,*Xk,*cl,*fl,*jl,*ql,*wl,*Fl,*Ol,*Xl,*gm,*hm,*lm,*ym,*Hm,*Om,*Vm,*cn,*ln,*mn,*qn,*zn;
-s_8_64 ya,Qa,mb,Gg,Ni,rm;
-u16 Ue,Zh;
+u64 z,A,B,D,E,G,I,J,M,N,P,T,V,W,Y,Z,ba,ca,ea,fa,ia,ma,oa,pa,ra,ta,wa,xa,za,Aa,Ba,Da,Ga,Ia,Ja,Ka,La,Na,Oa,Pa,Ra,Sa,Ta,Va,Ya,cb,db,eb,fb,hb,ib,kb,lb,mb,pb,rb,sb,tb,vb,wb,xb,yb,Ab,Bb,Cb,Db,Gb,Hb,Ib,Kb,Lb,Mb,Nb,Ob,Pb,Qb,Vb,Wb,Xb,Zb,ac,cc,fc,hc,ic,oc,qc,rc,sc,tc,vc,xc,yc,Ac,Bc,Cc,Fc,Gc,Jc,Kc,Lc,Mc,Oc,Qc,Rc,Tc,Uc,Vc,Yc,Zc,cd,dd,fd,gd,id,kd,ld,md,pd,qd,ud,vd,yd,zd,Bd,Dd,Ed,Fd,Id,Jd,Md,Nd,Pd,Qd,Sd,Ud,Vd,Wd,Zd,ae,de,ee,ge,he,je,le,me,ne,qe,re,ue,ve,xe,ze,Ae,Be,Ce,Ee,He,Ke,Le,Me,Ne,Oe,Ue,We,Xe,Ze,cf,df,ff,hf,jf,mf,nf,pf,qf,rf,tf,uf,vf,yf,zf,Cf,Ef,Gf,Hf,Jf,Kf,Lf,Of,Pf,Rf,Uf,Zf,dg,fg,gg,ig,jg,pg,rg,tg,ug,vg,wg,yg,zg,Bg,Cg,Dg,Gg,Ig,Jg,Kg,Mg,Ng,Og,Pg,Rg,Sg,Tg,Ug,Xg,Yg,Zg,bh,ch,dh,eh,fh,gh,hh,mh,nh,oh,qh,rh,th,wh,xh,zh,Bh,Ch,Dh,Eh,Gh,Jh,Lh,Mh,Oh,Ph,Qh,Wh,Yh,Zh,bi,ei,gi,hi,ji,mi,ni,si,xi,zi,Ai,Ci,Di,Fi,Gi,Hi,Ki,Mi,Ni,Oi,Qi,Ri,Ti,Ui,Xi,Yi,Zi,aj,dj,ej,fj,hj,ij,jj,kj,mj,oj,qj,rj,sj,tj,wj,xj,zj,Aj,Bj,Ej,Fj,Hj,Ij,Jj,Mj,Nj,Qj,Sj,Vj,Wj,Xj,Zj,bk,gk,lk,nk,pk,rk,tk,uk,wk,xk,yk,Bk,Dk,Gk,Ik,Jk,Kk,Ok,Pk,Rk,Tk,Uk,Wk,Xk,Yk,cl,dl,hl,jl,ll,nl,ol,ql,rl,ul,vl,xl,Al,Bl,Dl,El,Gl,Jl,Kl,Ml,Nl,Pl,Sl,Tl,Ul,Vl,Wl,Yl,bm,dm,em,gm,hm,im,lm,mm,pm,qm,sm,tm,vm,wm,xm,zm,Cm,Dm,Fm,Gm,Im,Lm,Mm,Om,Pm,Sm,Tm,Vm,Wm,Zm,an,cn,dn,gn,in,jn,ln,mn,nn,qn,rn,un,vn,xn,yn,An,Dn;
+u8 C,F,K,O,Q,R,S,U,aa,da,ga,ha,ja,la,na,qa,sa,ua,va,Ca,Ea,Ha,Ma,Ua,Wa,Za,ab,bb,jb,ob,qb,Eb,Sb,Tb,Ub,Yb,bc,dc,gc,jc,kc,lc,mc,nc,pc,uc,wc,zc,Hc,Nc,Pc,Sc,ad,ed,hd,jd,sd,xd,Ad,Cd,Kd,Od,Rd,Td,be,fe,ie,ke,se,we,ye,De,Fe,Je,Qe,Re,Se,Te,Ve,Ye,af,ef,gf,kf,of,sf,Af,Ff,If,Qf,Sf,Tf,Vf,Yf,ag,bg,cg,eg,hg,kg,lg,mg,ng,og,qg,Ag,Fg,Hg,Vg,jh,kh,lh,ph,sh,uh,yh,Ah,Fh,Hh,Nh,Sh,Th,Uh,Vh,Xh,ai,ci,fi,li,oi,pi,qi,ri,ti,ui,vi,wi,yi,Ei,Ji,Li,Si,Vi,bj,lj,nj,pj,vj,yj,Gj,Pj,Rj,Tj,ak,dk,ek,fk,hk,ik,jk,kk,mk,ok,sk,vk,Ck,Ek,Hk,Lk,Nk,Qk,Sk,Vk,bl,el,gl,kl,pl,sl,wl,yl,Cl,Fl,Hl,Ll,Ol,Ql,Xl,Zl,cm,fm,nm,rm,ym,Am,Em,Hm,Jm,Nm,Qm,Um,Xm,bn,en,hn,kn,sn,wn,zn,Bn;
+u8 *H,*L,*X,*ka,*Fa,*Xa,*gb,*ub,*zb,*Fb,*Jb,*Rb,*ec,*Dc,*Ec,*Ic,*Wc,*Xc,*bd,*nd,*od,*td,*Gd,*Hd,*Ld,*Xd,*Yd,*ce,*oe,*pe,*te,*Ie,*Pe,*bf,*lf,*wf,*xf,*Bf,*Df,*Mf,*Nf,*Wf,*Xf,*sg,*xg,*Lg,*Qg,*Wg,*ah,*ih,*vh,*Kh,*Rh,*di,*ii,*ki,*Bi,*Pi,*Wi,*cj,*gj,*uj,*Cj,*Dj,*Kj,*Lj,*Oj,*Uj,*Yj,*ck,*qk,*zk,*Ak,*Fk,*Mk,*Zk,*al,*fl,*il,*ml,*tl,*zl,*Il,*Rl,*am,*jm,*km,*om,*Bm,*Km,*Rm,*Ym,*fn,*on,*pn,*tn,*Cn;
+s_8_64 ya,Qa,nb,Eg,Ii,um;
+u16 Ge,Ih;
 if(c-1<65536){
 if(*b==95&&c>1){
 if(b[1]==82){
@@ -126615,961 +126570,953 @@ if(eb<c){
 if(*(b+eb)==115){
 fb=cb+2;
 if(c-fb>=12){
-gb=cb+13;
-hb=b+(i64)fb;
-ib=*hb;
-if(!((ib<58)|((u8)(ib-97)<11)))goto L6;
-jb=0;
-L7:if(*((u8*)t_9eba+*(hb+jb))==0){
-kb=jb+1;
-if(kb!=11){
-jb=kb;
-goto L7;}
-if(gb<c){
-if(*(b+gb)==95){
-lb=cb+14;
-goto L8;}}}}
-L6:mb=any_disambiguator_end_f9c(b,c,eb);
-if(mb.f0!=1)goto L9;
-lb=mb.f1;}
-else lb=eb;}
-else lb=eb;
-L8:if(lb<c){
-nb=*(b+lb);
-if((u8)(nb-58)>=247){
-ob=lb+1;
-if(ob<c){
-pb=*(b+ob)-48;
-if(pb<10){
-qb=lb+2;
-rb=(u64)pb+(u8)((u8)(nb*10)+32);
-if(c-qb<rb)goto L10;
-sb=rb+qb;
-tb=b+(i64)qb;
-ub=*tb;
-if((ub==95)|((u8)(ub-48)<10)){
+gb=b+(i64)fb;
+hb=0;
+L6:if(*((u8*)t_9eba+*(gb+hb))==0){
+ib=hb+1;
+if(ib!=11){
+hb=ib;
+goto L6;}
+jb=*gb;
+if(!((jb<58)|((u8)(jb-97)<11)))goto L7;
+kb=11;}
+else kb=hb;
+lb=kb+fb;
+if(lb<c){
+if(*(b+lb)==95){
+mb=lb+1;
+goto L8;}}}
+L7:nb=any_disambiguator_end_f9c(b,c,eb);
+if(nb.f0!=1)goto L9;
+mb=nb.f1;}
+else mb=eb;}
+else mb=eb;
+L8:if(mb<c){
+ob=*(b+mb);
+if((u8)(ob-58)>=247){
+pb=mb+1;
+if(pb<c){
+qb=*(b+pb)-48;
+if(qb<10){
+rb=mb+2;
+sb=(u64)qb+(u8)((u8)(ob*10)+32);
+if(c-rb<sb)goto L9;
+tb=sb+rb;
+ub=b+(i64)rb;
+if(*((u8*)t_facb+*ub)!=0){
 z12(w);
-any_name_span_9bc(w,b,c,lb);
-vb=q8(w+4);
-if(*w!=1)goto L10;
-wb=vb>>32;
-xb=vb&4294967295u;
-goto L11;}
-yb=0;
-L12:zb=tb+yb;
+any_name_span_9bc(w,b,c,mb);
+wb=q8(w+4);
+if(*w!=1)goto L9;
+xb=wb>>32;
+yb=wb&4294967295u;
+goto L10;}
+vb=0;
+L11:zb=ub+vb;
 if((u8)((u8)(*((u8*)t_4efc+zb[1])+*((u8*)t_4efc+*zb))+*((u8*)t_4efc+zb[2]))==(u8)(0-*((u8*)t_4efc+zb[3]))){
-Ab=yb+4;
-if(rb-Ab>3){
-yb=Ab;
-goto L12;}
+Ab=vb+4;
+if(sb-Ab>3){
+vb=Ab;
+goto L11;}
 Bb=Ab;}
-else Bb=yb;
-if(Bb>=rb){
-wb=sb;
-xb=qb;
-goto L11;}
+else Bb=vb;
+if(Bb>=sb){
+xb=tb;
+yb=rb;
+goto L10;}
 Cb=Bb;
-L13:if(*((u8*)t_4efc+*(tb+Cb))!=0)goto L10;
+L12:if(*((u8*)t_4efc+*(ub+Cb))!=0)goto L9;
 Db=Cb+1;
-if(Db<rb){
+if(Db<sb){
 Cb=Db;
-goto L13;}
-wb=sb;
-xb=qb;
-goto L11;}}
-Eb=nb-48;
-if(c-ob<Eb)goto L10;
-Fb=b+(i64)ob;
-Gb=*Fb;
-if((Gb==95)|((u8)(Gb-48)<10)){
+goto L12;}
+xb=tb;
+yb=rb;
+goto L10;}}
+Eb=ob-48;
+if(c-pb<Eb)goto L9;
+Fb=b+(i64)pb;
+if(*((u8*)t_facb+*Fb)!=0){
 z12(v);
-any_name_span_9bc(v,b,c,lb);
-Hb=q8(v+4);
-if(*v!=1)goto L10;
-wb=Hb>>32;
-xb=Hb&4294967295u;
-goto L11;}
-Ib=ob+Eb;
-if(nb<=51){
-Kb=0;
+any_name_span_9bc(v,b,c,mb);
+Nb=q8(v+4);
+if(*v!=1)goto L9;
+xb=Nb>>32;
+yb=Nb&4294967295u;
+goto L10;}
+Gb=pb+Eb;
+if(ob<=51){
+Ib=0;
+goto L13;}
+Hb=0;
+L14:Jb=Fb+Hb;
+if((u8)((u8)(*((u8*)t_4efc+Jb[1])+*((u8*)t_4efc+*Jb))+*((u8*)t_4efc+Jb[2]))==(u8)(0-*((u8*)t_4efc+Jb[3]))){
+Kb=Hb+4;
+if(Eb-Kb>3){
+Hb=Kb;
 goto L14;}
-Jb=0;
-L15:Lb=Fb+Jb;
-if((u8)((u8)(*((u8*)t_4efc+Lb[1])+*((u8*)t_4efc+*Lb))+*((u8*)t_4efc+Lb[2]))==(u8)(0-*((u8*)t_4efc+Lb[3]))){
-Mb=Jb+4;
-if(Eb-Mb>3){
-Jb=Mb;
+Ib=Kb;}
+else Ib=Hb;
+L13:if(Ib>=Eb){
+xb=Gb;
+yb=pb;
+goto L10;}
+Lb=Ib;
+L15:if(*((u8*)t_4efc+*(Fb+Lb))!=0)goto L9;
+Mb=Lb+1;
+if(Mb!=Eb){
+Lb=Mb;
 goto L15;}
-Kb=Mb;}
-else Kb=Jb;
-L14:if(Kb>=Eb){
-wb=Ib;
-xb=ob;
-goto L11;}
-Nb=Kb;
-L16:if(*((u8*)t_4efc+*(Fb+Nb))!=0)goto L10;
-Ob=Nb+1;
-if(Ob!=Eb){
-Nb=Ob;
-goto L16;}
-wb=Ib;
-xb=ob;
-goto L11;}}
+xb=Gb;
+yb=pb;
+goto L10;}}
 z12(x);
-any_name_span_9bc(x,b,c,lb);
-Pb=q8(x+4);
-if(*x!=1)goto L10;
-wb=Pb>>32;
-xb=Pb&4294967295u;
-L11:if(wb<=xb)goto L10;
-Qb=b+(i64)xb;
-Rb=wb-xb;
-if(r8(a+32)-db<Rb){
-Sb=make_ready_8e3(a,Rb,128);
-if(!(Sb&1))goto L10;}
-Tb=extend_from_slice_674(a,Qb,Rb);
-if(Tb&1)goto L10;
-w8(a+192,wb);
+any_name_span_9bc(x,b,c,mb);
+Ob=q8(x+4);
+if(*x!=1)goto L9;
+xb=Ob>>32;
+yb=Ob&4294967295u;
+L10:if(xb<=yb)goto L9;
+Pb=xb-yb;
+Qb=r8(a+32)-db;
+Rb=b+(i64)yb;
+if((c-yb<16)|(Pb>16)||Qb<16){
+if(Qb<Pb){
+Sb=make_ready_8e3(a,Pb,128);
+if(!(Sb&1))goto L9;}
+Tb=extend_from_slice_674(a,Rb,Pb);
+if(Tb&1)goto L9;}
+else{
+Ub=extend_from_slice_674(a,Rb,16);
+if(Ub&1)goto L9;
+Vb=Pb+db;
+if(r8(a+8)>Vb)w8(a+8,Vb);}
+w8(a+192,xb);
 if(r8(a+136)>cb){
-Ub=r8(a+96);
-if(Ub>65534){
-Vb=0;
-Wb=0;
-Xb=0;}
-else{
-Yb=r8(a+8);
-Zb=a[80];
-if(r8(a+120)>Ub)ac=Ub;
-else{
-bc=make_ready_b73(a+88);
-if(!(bc&1)){
-Vb=0;
-Wb=0;
+Wb=r8(a+96);
+if(Wb>65534){
 Xb=0;
-goto L17;}
-ac=r8(a+96);}
-cc=rp(a+88)+ac*24;
-x8(cc,db);
-x8(cc+8,Yb);
-cc[16]=0;
-cc[17]=Zb;
-z6(cc+18);
-w8(a+96,ac+1);
-w2(rp(a+128)+(i64)(cb<<1),(u16)Ub+1);
-Vb=1;
-Wb=2;
-Xb=db;}}
+Yb=0;
+Zb=0;}
 else{
-Vb=0;
-Wb=0;
-Xb=0;}
-L17:w8(y,Vb);
-y[8]=Wb;
+ac=r8(a+8);
+bc=a[80];
+if(r8(a+120)>Wb)cc=Wb;
+else{
+dc=make_ready_b73(a+88);
+if(!(dc&1)){
+Xb=0;
+Yb=0;
+Zb=0;
+goto L16;}
+cc=r8(a+96);}
+ec=rp(a+88)+cc*24;
+x8(ec,db);
+x8(ec+8,ac);
+ec[16]=0;
+ec[17]=bc;
+z6(ec+18);
+w8(a+96,cc+1);
+w2(rp(a+128)+(i64)(cb<<1),(u16)Wb+1);
+Xb=1;
+Yb=2;
+Zb=db;}}
+else{
+Xb=0;
+Yb=0;
+Zb=0;}
+L16:w8(y,Xb);
+y[8]=Yb;
 y[9]=0;
-w8(y+16,Xb);
+w8(y+16,Zb);
 y[24]=0;
-goto L9;
-case 78:dc=cb+1;
-if(dc>=c)goto L18;
-ec=*(b+dc);
-if(ec<65)goto L18;
-if(!((ec<91)|((u8)(ec-97)<26)))goto L18;
+goto L17;
+case 78:fc=cb+1;
+if(fc<c)gc=*(b+fc);
+else gc=0;
+if(fc==18446744073709551615u||*((u8*)t_eb43+gc)==0)goto L18;
 w8(a+192,cb+2);
-fc=r8(a+160);
-if(r8(a+184)>fc){
-gc=fc;
-hc=2;
-ic=ec;
+hc=r8(a+160);
+if(r8(a+184)>hc){
+ic=hc;
+jc=2;
+kc=gc;
 goto L19;}
-jc=make_ready_e3c(a+152);
-if(!(jc&1))goto L18;
-kc=2;
-lc=ec;
+lc=make_ready_e3c(a+152);
+if(!(lc&1))goto L18;
+mc=2;
+nc=gc;
 goto L20;
 case 73:w8(a+192,cb+1);
-mc=r8(a+160);
-if(r8(a+184)>mc){
-gc=mc;
-hc=3;
-ic=0;
+oc=r8(a+160);
+if(r8(a+184)>oc){
+ic=oc;
+jc=3;
+kc=0;
 goto L19;}
-nc=make_ready_e3c(a+152);
-if(!(nc&1))goto L18;
-kc=3;
-lc=0;
+pc=make_ready_e3c(a+152);
+if(!(pc&1))goto L18;
+mc=3;
+nc=0;
 goto L20;
 case 77:begin_impl_c72(y,a,b,c);
-goto L9;
+goto L17;
 case 88:begin_trait_impl_220(y,a,b,c);
-goto L9;
+goto L17;
 case 89:begin_trait_f9f(y,a);
-goto L9;
-case 82:oc=cb+1;
-if(oc<c){
-if(*(b+oc)==76){
-pc=cb+2;
-if(pc>=c){
-rc=0;
-sc=0;
+goto L17;
+case 82:qc=cb+1;
+if(qc<c){
+if(*(b+qc)==76){
+rc=cb+2;
+if(rc>=c){
+tc=0;
+uc=0;
 goto L21;}
-if(*(b+pc)!=95){
-rc=0;
-sc=0;
+if(*(b+rc)!=95){
+tc=0;
+uc=0;
 goto L21;}
-qc=cb+3;}
-else qc=oc;}
-else qc=oc;
-tc=r8(a+8);
-if(r8(a+32)==tc){
-uc=make_ready_8e3(a,1,128);
-if(!(uc&1)){
-rc=0;
-sc=0;
+sc=cb+3;}
+else sc=qc;}
+else sc=qc;
+vc=r8(a+8);
+if(r8(a+32)==vc){
+wc=make_ready_8e3(a,1,128);
+if(!(wc&1)){
+tc=0;
+uc=0;
 goto L21;}
-vc=r8(a+8);}
-else vc=tc;
-wc=r8(a+16);
-if(wc==vc){
-xc=grow_amortized_68b(a,1);
-if(!xc){
-rc=0;
-sc=0;
-goto L21;}
+xc=r8(a+8);}
+else xc=vc;
 yc=r8(a+16);
-zc=r8(a+8);}
-else{
-yc=wc;
-zc=vc;}
-Ac=zc+1;
-Bc=rp(a);
-z16(a+8);
-Cc=Bc+(i64)zc;
-if((u64)Cc==(u64)(u8*)t_951d)copy_bits_4f4((u8*)t_951d,Cc,1);
-else *Cc=38;
-wp(a,Bc);
-w8(a+8,Ac);
-w8(a+16,yc);
-Dc=r8(a+160);
-if(r8(a+184)>Dc)Ec=Dc;
-else{
-Fc=make_ready_e3c(a+152);
-if(!(Fc&1)){
-rc=0;
-sc=0;
+if(yc==xc){
+zc=grow_amortized_68b(a,1);
+if(!zc){
+tc=0;
+uc=0;
 goto L21;}
-Ec=r8(a+160);}
-Gc=rp(a+152)+(Ec<<5);
-*Gc=9;
-Gc[1]=0;
-x8(Gc+8,cb);
-x8(Gc+16,tc);
-Gc[24]=0;
-w8(a+160,Ec+1);
-w8(a+192,qc);
-rc=1;
-sc=1;
-L21:w8(y,rc);
-y[8]=sc;
+Ac=r8(a+16);
+Bc=r8(a+8);}
+else{
+Ac=yc;
+Bc=xc;}
+Cc=Bc+1;
+Dc=rp(a);
+z16(a+8);
+Ec=Dc+(i64)Bc;
+if((u64)Ec==(u64)(u8*)t_951d)copy_bits_4f4((u8*)t_951d,Ec,1);
+else *Ec=38;
+wp(a,Dc);
+w8(a+8,Cc);
+w8(a+16,Ac);
+Fc=r8(a+160);
+if(r8(a+184)>Fc)Gc=Fc;
+else{
+Hc=make_ready_e3c(a+152);
+if(!(Hc&1)){
+tc=0;
+uc=0;
+goto L21;}
+Gc=r8(a+160);}
+Ic=rp(a+152)+(Gc<<5);
+*Ic=9;
+Ic[1]=0;
+x8(Ic+8,cb);
+x8(Ic+16,vc);
+Ic[24]=0;
+w8(a+160,Gc+1);
+w8(a+192,sc);
+tc=1;
+uc=1;
+L21:w8(y,tc);
+y[8]=uc;
 y[9]=0;
 w8(y+16,0);
 y[24]=0;
-goto L9;
-case 81:Hc=cb+1;
-if(Hc<c){
-if(*(b+Hc)==76){
-Ic=cb+2;
-if(Ic>=c){
-Kc=0;
-Lc=0;
+goto L17;
+case 81:Jc=cb+1;
+if(Jc<c){
+if(*(b+Jc)==76){
+Kc=cb+2;
+if(Kc>=c){
+Mc=0;
+Nc=0;
 goto L22;}
-if(*(b+Ic)!=95){
-Kc=0;
-Lc=0;
+if(*(b+Kc)!=95){
+Mc=0;
+Nc=0;
 goto L22;}
-Jc=cb+3;}
-else Jc=Hc;}
-else Jc=Hc;
-Mc=r8(a+8);
-if(r8(a+32)-Mc<5){
-Nc=make_ready_8e3(a,5,128);
-if(!(Nc&1)){
-Kc=0;
-Lc=0;
+Lc=cb+3;}
+else Lc=Jc;}
+else Lc=Jc;
+Oc=r8(a+8);
+if(r8(a+32)-Oc<5){
+Pc=make_ready_8e3(a,5,128);
+if(!(Pc&1)){
+Mc=0;
+Nc=0;
 goto L22;}
-Oc=r8(a+8);}
-else Oc=Mc;
-Pc=r8(a+16);
-if(Pc-Oc<5){
-Qc=grow_amortized_68b(a,5);
-if(!Qc){
-Kc=0;
-Lc=0;
-goto L22;}
+Qc=r8(a+8);}
+else Qc=Oc;
 Rc=r8(a+16);
-Sc=r8(a+8);}
-else{
-Rc=Pc;
-Sc=Oc;}
-Tc=Sc+5;
-Uc=rp(a);
-z16(a+8);
-Vc=Uc+(i64)Sc;
-if((u64)Vc-(u64)(u8*)t_d821<5)copy_bits_4f4((u8*)t_d821,Vc,5);
-else memcpy(Vc,(u8*)t_d821,5);
-wp(a,Uc);
-w8(a+8,Tc);
-w8(a+16,Rc);
-Wc=r8(a+160);
-if(r8(a+184)>Wc)Xc=Wc;
-else{
-Yc=make_ready_e3c(a+152);
-if(!(Yc&1)){
-Kc=0;
-Lc=0;
+if(Rc-Qc<5){
+Sc=grow_amortized_68b(a,5);
+if(!Sc){
+Mc=0;
+Nc=0;
 goto L22;}
-Xc=r8(a+160);}
-Zc=rp(a+152)+(Xc<<5);
-*Zc=9;
-Zc[1]=0;
-x8(Zc+8,cb);
-x8(Zc+16,Mc);
-Zc[24]=0;
-w8(a+160,Xc+1);
-w8(a+192,Jc);
-Kc=1;
-Lc=1;
-L22:w8(y,Kc);
-y[8]=Lc;
+Tc=r8(a+16);
+Uc=r8(a+8);}
+else{
+Tc=Rc;
+Uc=Qc;}
+Vc=Uc+5;
+Wc=rp(a);
+z16(a+8);
+Xc=Wc+(i64)Uc;
+if((u64)Xc-(u64)(u8*)t_d821<5)copy_bits_4f4((u8*)t_d821,Xc,5);
+else memcpy(Xc,(u8*)t_d821,5);
+wp(a,Wc);
+w8(a+8,Vc);
+w8(a+16,Tc);
+Yc=r8(a+160);
+if(r8(a+184)>Yc)Zc=Yc;
+else{
+ad=make_ready_e3c(a+152);
+if(!(ad&1)){
+Mc=0;
+Nc=0;
+goto L22;}
+Zc=r8(a+160);}
+bd=rp(a+152)+(Zc<<5);
+*bd=9;
+bd[1]=0;
+x8(bd+8,cb);
+x8(bd+16,Oc);
+bd[24]=0;
+w8(a+160,Zc+1);
+w8(a+192,Lc);
+Mc=1;
+Nc=1;
+L22:w8(y,Mc);
+y[8]=Nc;
 y[9]=0;
 w8(y+16,0);
 y[24]=0;
-goto L9;
-case 80:ad=cb+1;
-bd=r8(a+8);
-if(r8(a+32)-bd<7){
-cd=make_ready_8e3(a,7,128);
-if(!(cd&1)){
-ed=0;
-fd=0;
+goto L17;
+case 80:cd=cb+1;
+dd=r8(a+8);
+if(r8(a+32)-dd<7){
+ed=make_ready_8e3(a,7,128);
+if(!(ed&1)){
+gd=0;
+hd=0;
 goto L23;}
-dd=r8(a+8);}
-else dd=bd;
-gd=r8(a+16);
-if(gd-dd<7){
-hd=grow_amortized_68b(a,7);
-if(!hd){
-ed=0;
-fd=0;
-goto L23;}
+fd=r8(a+8);}
+else fd=dd;
 id=r8(a+16);
-jd=r8(a+8);}
-else{
-id=gd;
-jd=dd;}
-kd=jd+7;
-ld=rp(a);
-z16(a+8);
-md=ld+(i64)jd;
-if((u64)md-(u64)(u8*)t_ff67<7)copy_bits_4f4((u8*)t_ff67,md,7);
-else memcpy(md,(u8*)t_ff67,7);
-wp(a,ld);
-w8(a+8,kd);
-w8(a+16,id);
-nd=r8(a+160);
-if(r8(a+184)>nd)od=nd;
-else{
-pd=make_ready_e3c(a+152);
-if(!(pd&1)){
-ed=0;
-fd=0;
+if(id-fd<7){
+jd=grow_amortized_68b(a,7);
+if(!jd){
+gd=0;
+hd=0;
 goto L23;}
-od=r8(a+160);}
-qd=rp(a+152)+(od<<5);
-*qd=9;
-qd[1]=0;
-x8(qd+8,cb);
-x8(qd+16,bd);
-qd[24]=0;
-w8(a+160,od+1);
-w8(a+192,ad);
-ed=1;
-fd=1;
-L23:w8(y,ed);
-y[8]=fd;
+kd=r8(a+16);
+ld=r8(a+8);}
+else{
+kd=id;
+ld=fd;}
+md=ld+7;
+nd=rp(a);
+z16(a+8);
+od=nd+(i64)ld;
+if((u64)od-(u64)(u8*)t_ff67<7)copy_bits_4f4((u8*)t_ff67,od,7);
+else memcpy(od,(u8*)t_ff67,7);
+wp(a,nd);
+w8(a+8,md);
+w8(a+16,kd);
+pd=r8(a+160);
+if(r8(a+184)>pd)qd=pd;
+else{
+sd=make_ready_e3c(a+152);
+if(!(sd&1)){
+gd=0;
+hd=0;
+goto L23;}
+qd=r8(a+160);}
+td=rp(a+152)+(qd<<5);
+*td=9;
+td[1]=0;
+x8(td+8,cb);
+x8(td+16,dd);
+td[24]=0;
+w8(a+160,qd+1);
+w8(a+192,cd);
+gd=1;
+hd=1;
+L23:w8(y,gd);
+y[8]=hd;
 y[9]=0;
 w8(y+16,0);
 y[24]=0;
-goto L9;
-case 79:sd=cb+1;
-td=r8(a+8);
-if(r8(a+32)-td<5){
-ud=make_ready_8e3(a,5,128);
-if(!(ud&1)){
-xd=0;
-yd=0;
+goto L17;
+case 79:ud=cb+1;
+vd=r8(a+8);
+if(r8(a+32)-vd<5){
+xd=make_ready_8e3(a,5,128);
+if(!(xd&1)){
+zd=0;
+Ad=0;
 goto L24;}
-vd=r8(a+8);}
-else vd=td;
-zd=r8(a+16);
-if(zd-vd<5){
-Ad=grow_amortized_68b(a,5);
-if(!Ad){
-xd=0;
-yd=0;
-goto L24;}
+yd=r8(a+8);}
+else yd=vd;
 Bd=r8(a+16);
-Cd=r8(a+8);}
-else{
-Bd=zd;
-Cd=vd;}
-Dd=Cd+5;
-Ed=rp(a);
-z16(a+8);
-Fd=Ed+(i64)Cd;
-if((u64)Fd-(u64)(u8*)t_b2e2<5)copy_bits_4f4((u8*)t_b2e2,Fd,5);
-else memcpy(Fd,(u8*)t_b2e2,5);
-wp(a,Ed);
-w8(a+8,Dd);
-w8(a+16,Bd);
-Gd=r8(a+160);
-if(r8(a+184)>Gd)Hd=Gd;
-else{
-Id=make_ready_e3c(a+152);
-if(!(Id&1)){
-xd=0;
-yd=0;
+if(Bd-yd<5){
+Cd=grow_amortized_68b(a,5);
+if(!Cd){
+zd=0;
+Ad=0;
 goto L24;}
-Hd=r8(a+160);}
-Jd=rp(a+152)+(Hd<<5);
-*Jd=9;
-Jd[1]=0;
-x8(Jd+8,cb);
-x8(Jd+16,td);
-Jd[24]=0;
-w8(a+160,Hd+1);
-w8(a+192,sd);
-xd=1;
-yd=1;
-L24:w8(y,xd);
-y[8]=yd;
+Dd=r8(a+16);
+Ed=r8(a+8);}
+else{
+Dd=Bd;
+Ed=yd;}
+Fd=Ed+5;
+Gd=rp(a);
+z16(a+8);
+Hd=Gd+(i64)Ed;
+if((u64)Hd-(u64)(u8*)t_b2e2<5)copy_bits_4f4((u8*)t_b2e2,Hd,5);
+else memcpy(Hd,(u8*)t_b2e2,5);
+wp(a,Gd);
+w8(a+8,Fd);
+w8(a+16,Dd);
+Id=r8(a+160);
+if(r8(a+184)>Id)Jd=Id;
+else{
+Kd=make_ready_e3c(a+152);
+if(!(Kd&1)){
+zd=0;
+Ad=0;
+goto L24;}
+Jd=r8(a+160);}
+Ld=rp(a+152)+(Jd<<5);
+*Ld=9;
+Ld[1]=0;
+x8(Ld+8,cb);
+x8(Ld+16,vd);
+Ld[24]=0;
+w8(a+160,Jd+1);
+w8(a+192,ud);
+zd=1;
+Ad=1;
+L24:w8(y,zd);
+y[8]=Ad;
 y[9]=0;
 w8(y+16,0);
 y[24]=0;
-goto L9;
-case 83:Kd=cb+1;
-Ld=r8(a+8);
-if(r8(a+32)==Ld){
-Md=make_ready_8e3(a,1,128);
-if(!(Md&1)){
-Od=0;
-Pd=0;
+goto L17;
+case 83:Md=cb+1;
+Nd=r8(a+8);
+if(r8(a+32)==Nd){
+Od=make_ready_8e3(a,1,128);
+if(!(Od&1)){
+Qd=0;
+Rd=0;
 goto L25;}
-Nd=r8(a+8);}
-else Nd=Ld;
-Qd=r8(a+16);
-if(Qd==Nd){
-Rd=grow_amortized_68b(a,1);
-if(!Rd){
-Od=0;
-Pd=0;
-goto L25;}
+Pd=r8(a+8);}
+else Pd=Nd;
 Sd=r8(a+16);
-Td=r8(a+8);}
-else{
-Sd=Qd;
-Td=Nd;}
-Ud=Td+1;
-Vd=rp(a);
-z16(a+8);
-Wd=Vd+(i64)Td;
-if((u64)Wd==(u64)(u8*)t_2458)copy_bits_4f4((u8*)t_2458,Wd,1);
-else *Wd=91;
-wp(a,Vd);
-w8(a+8,Ud);
-w8(a+16,Sd);
-Xd=r8(a+160);
-if(r8(a+184)>Xd)Yd=Xd;
-else{
-Zd=make_ready_e3c(a+152);
-if(!(Zd&1)){
-Od=0;
-Pd=0;
+if(Sd==Pd){
+Td=grow_amortized_68b(a,1);
+if(!Td){
+Qd=0;
+Rd=0;
 goto L25;}
-Yd=r8(a+160);}
-ae=rp(a+152)+(Yd<<5);
-*ae=9;
-ae[1]=0;
-x8(ae+8,cb);
-x8(ae+16,Ld);
-ae[24]=1;
-w8(a+160,Yd+1);
-w8(a+192,Kd);
-Od=1;
-Pd=1;
-L25:w8(y,Od);
-y[8]=Pd;
-y[9]=0;
-w8(y+16,0);
-y[24]=0;
-goto L9;
-case 84:be=r8(a+8);
-ce=cb+1;
-if(r8(a+32)==be){
-de=make_ready_8e3(a,1,128);
-if(!(de&1)){
-fe=0;
-ge=0;
-goto L26;}
-ee=r8(a+8);}
-else ee=be;
-he=r8(a+16);
-if(he==ee){
-ie=grow_amortized_68b(a,1);
-if(!ie){
-fe=0;
-ge=0;
-goto L26;}
-je=r8(a+16);
-ke=r8(a+8);}
+Ud=r8(a+16);
+Vd=r8(a+8);}
 else{
-je=he;
-ke=ee;}
-le=ke+1;
-me=rp(a);
+Ud=Sd;
+Vd=Pd;}
+Wd=Vd+1;
+Xd=rp(a);
 z16(a+8);
-ne=me+(i64)ke;
-if((u64)ne==(u64)(u8*)t_32eb)copy_bits_4f4((u8*)t_32eb,ne,1);
-else *ne=40;
-wp(a,me);
-w8(a+8,le);
-w8(a+16,je);
-oe=r8(a+160);
-if(r8(a+184)>oe)pe=oe;
+Yd=Xd+(i64)Vd;
+if((u64)Yd==(u64)(u8*)t_2458)copy_bits_4f4((u8*)t_2458,Yd,1);
+else *Yd=91;
+wp(a,Xd);
+w8(a+8,Wd);
+w8(a+16,Ud);
+Zd=r8(a+160);
+if(r8(a+184)>Zd)ae=Zd;
 else{
-qe=make_ready_e3c(a+152);
-if(!(qe&1)){
-fe=0;
-ge=0;
-goto L26;}
-pe=r8(a+160);}
-re=rp(a+152)+(pe<<5);
-*re=12;
-re[1]=0;
-x8(re+8,cb);
-x8(re+16,be);
-re[24]=1;
-w8(a+160,pe+1);
-w8(a+192,ce);
-fe=1;
-ge=1;
-L26:w8(y,fe);
-y[8]=ge;
+be=make_ready_e3c(a+152);
+if(!(be&1)){
+Qd=0;
+Rd=0;
+goto L25;}
+ae=r8(a+160);}
+ce=rp(a+152)+(ae<<5);
+*ce=9;
+ce[1]=0;
+x8(ce+8,cb);
+x8(ce+16,Nd);
+ce[24]=1;
+w8(a+160,ae+1);
+w8(a+192,Md);
+Qd=1;
+Rd=1;
+L25:w8(y,Qd);
+y[8]=Rd;
 y[9]=0;
 w8(y+16,0);
 y[24]=0;
-goto L9;
-case 66:se=r8(a+8);
-te=cb+1;
-ue=umin64(c-te,11)+te;
-if(te>=ue){
-we=te;
-goto L27;}
-ve=te;
-L28:if(*((u8*)t_84dd+*(b+ve))<62){
-xe=ve+1;
-if(xe!=ue){
-ve=xe;
+goto L17;
+case 84:de=r8(a+8);
+ee=cb+1;
+if(r8(a+32)==de){
+fe=make_ready_8e3(a,1,128);
+if(!(fe&1)){
+he=0;
+ie=0;
+goto L26;}
+ge=r8(a+8);}
+else ge=de;
+je=r8(a+16);
+if(je==ge){
+ke=grow_amortized_68b(a,1);
+if(!ke){
+he=0;
+ie=0;
+goto L26;}
+le=r8(a+16);
+me=r8(a+8);}
+else{
+le=je;
+me=ge;}
+ne=me+1;
+oe=rp(a);
+z16(a+8);
+pe=oe+(i64)me;
+if((u64)pe==(u64)(u8*)t_32eb)copy_bits_4f4((u8*)t_32eb,pe,1);
+else *pe=40;
+wp(a,oe);
+w8(a+8,ne);
+w8(a+16,le);
+qe=r8(a+160);
+if(r8(a+184)>qe)re=qe;
+else{
+se=make_ready_e3c(a+152);
+if(!(se&1)){
+he=0;
+ie=0;
+goto L26;}
+re=r8(a+160);}
+te=rp(a+152)+(re<<5);
+*te=12;
+te[1]=0;
+x8(te+8,cb);
+x8(te+16,de);
+te[24]=1;
+w8(a+160,re+1);
+w8(a+192,ee);
+he=1;
+ie=1;
+L26:w8(y,he);
+y[8]=ie;
+y[9]=0;
+w8(y+16,0);
+y[24]=0;
+goto L17;
+case 66:ue=r8(a+8);
+ve=cb+1;
+z24(u);
+we=ve!=18446744073709551615u;
+xe=cb+2;
+if(we&((we?xe:0)<c)){
+if(*(b+xe)==95){
+ye=*((u8*)t_84dd+*(b+(i64)ve));
+if(ye<62){
+ze=ye+3;
+Ae=cb+3;
+goto L27;}}}
+any_number_at_3d4(u,b,c,ve);
+Be=r8(u+8);
+if(!(*u==1&&Be<0xfffffffffffffffeu)){
+Ce=0;
+De=0;
+Ee=0;
+Fe=0;
 goto L28;}
-we=ue;}
-else we=ve;
-L27:if(we==c){
-ye=0;
-ze=0;
-Ae=0;
-Be=0;}
+ze=Be+2;
+Ae=r8(u+16);
+L27:if(ze<r8(a+136)){
+Ge=r2(rp(a+128)+(i64)(ze<<1));
+if(Ge==0){
+Ce=0;
+De=0;
+Ee=0;
+Fe=0;}
 else{
-if(*(b+we)==95){
-Ce=te&4294967295u;
-De=we&4294967295u;
-Ee=De+1;
-if(De==Ce)Fe=2;
+He=(u64)Ge-1;
+if(He<r8(a+96)){
+Ie=rp(a+88)+(i64)(He*24);
+Je=Ie[16];
+switch(Je){
+case 0:case 2:case 3:Ke=q8(Ie);
+Le=q8(Ie+8);
+if(Le<Ke){
+Ce=0;
+De=0;
+Ee=0;
+Fe=0;}
 else{
-Ge=b+(i64)Ce;
-He=De-Ce;
-if(He>10){
-Ie=0;
-Je=0;
-goto L29;}
-Ke=0;
-Le=0;
-L30:Me=*((u8*)t_84dd+*(Ge+(i64)Le));
-if(Me>=62){
-ye=0;
-ze=0;
-Ae=0;
-Be=0;
-goto L31;}
-Ne=Ke*62+Me;
-Oe=Le+1;
-if(Oe==He){
-Pe=Ne;
-goto L32;}
-Ke=Ne;
-Le=Oe;
-goto L30;
-L29:Qe=*((u8*)t_84dd+*(Ge+(i64)Je));
-if(!((Ie<0x421084210842109u)&(Qe<62))){
-ye=0;
-ze=0;
-Ae=0;
-Be=0;
-goto L31;}
-Re=Ie*62;
-if(Re>(Qe^18446744073709551615u)){
-ye=0;
-ze=0;
-Ae=0;
-Be=0;
-goto L31;}
-Se=Re+Qe;
-Te=Je+1;
-if(Te!=He){
-Ie=Se;
-Je=Te;
-goto L29;}
-Pe=Se;
-L32:if(Pe>0xfffffffffffffffcu){
-ye=0;
-ze=0;
-Ae=0;
-Be=0;
-goto L31;}
-Fe=Pe+3;}
-if(Fe<r8(a+136)){
-Ue=r2(rp(a+128)+(i64)(Fe<<1));
-if(Ue==0){
-ye=0;
-ze=0;
-Ae=0;
-Be=0;}
-else{
-Ve=(u64)Ue-1;
-if(Ve<r8(a+96)){
-We=rp(a+88)+(i64)(Ve*24);
-Xe=We[16];
-switch(Xe){
-case 0:case 2:case 3:memcpy(u,We,16);
-u[16]=Xe;
-memcpy(u+17,We+17,7);
-Ye=repeat_2ff(a,u);
-if(Ye&1){
-w8(a+192,Ee);
-if(r8(a+136)>cb){
-Ze=r8(a+96);
-if(Ze>65534){
-ye=0;
-ze=0;
-Ae=0;
-Be=0;}
-else{
-af=r8(a+8);
-bf=a[80];
-if(r8(a+120)>Ze)cf=Ze;
-else{
-df=make_ready_b73(a+88);
-if(!(df&1)){
-ye=0;
-ze=0;
-Ae=0;
-Be=0;
+if((u8)(a[80]^Ie[17])&1){
+Me=r8(a+48);
+if(Me<Le){
+Ce=0;
+De=0;
+Ee=0;
+Fe=0;
 break;}
-cf=r8(a+96);}
-ef=rp(a+88)+cf*24;
-x8(ef,se);
-x8(ef+8,af);
-ef[16]=Xe;
-ef[17]=bf;
-z6(ef+18);
-w8(a+96,cf+1);
-w2(rp(a+128)+(i64)(cb<<1),(u16)Ze+1);
-ye=1;
-ze=2;
-Ae=se;
-Be=3;}}
+Ne=Le-Ke;
+Oe=r8(a+32)-ue;
+Pe=rp(a+40)+(i64)Ke;
+if(!((Ne>16)|(Me-Ke<16)||Oe<16)){
+Te=extend_from_slice_674(a,Pe,16);
+if(!(Te&1)){
+Ue=Ne+ue;
+if(r8(a+8)<=Ue)goto L29;
+w8(a+8,Ue);
+goto L29;}
+Ce=0;
+De=0;
+Ee=0;
+Fe=0;
+break;}
+if(Oe<Ne){
+Qe=make_ready_8e3(a,Ne,128);
+if(!(Qe&1)){
+Ce=0;
+De=0;
+Ee=0;
+Fe=0;
+break;}}
+Re=extend_from_slice_674(a,Pe,Ne);
+Se=Re;}
 else{
-ye=0;
-ze=0;
-Ae=0;
-Be=0;}}
+if(ue<Le){
+Ce=0;
+De=0;
+Ee=0;
+Fe=0;
+break;}
+Ve=repeat_28b(a,Ke,Le);
+Se=Ve^1;}
+if(Se&1){
+Ce=0;
+De=0;
+Ee=0;
+Fe=0;
+break;}
+L29:w8(a+192,Ae);
+if(r8(a+136)>cb){
+We=r8(a+96);
+if(We>65534){
+Ce=0;
+De=0;
+Ee=0;
+Fe=0;}
 else{
-ye=0;
-ze=0;
-Ae=0;
-Be=0;}
+Xe=r8(a+8);
+Ye=a[80];
+if(r8(a+120)>We)Ze=We;
+else{
+af=make_ready_b73(a+88);
+if(!(af&1)){
+Ce=0;
+De=0;
+Ee=0;
+Fe=0;
+break;}
+Ze=r8(a+96);}
+bf=rp(a+88)+Ze*24;
+x8(bf,ue);
+x8(bf+8,Xe);
+bf[16]=Je;
+bf[17]=Ye;
+z6(bf+18);
+w8(a+96,Ze+1);
+w2(rp(a+128)+(i64)(cb<<1),(u16)We+1);
+Ce=1;
+De=2;
+Ee=ue;
+Fe=3;}}
+else{
+Ce=0;
+De=0;
+Ee=0;
+Fe=0;}}
 break;
-case 1:case 4:ye=0;
-ze=0;
-Ae=0;
-Be=0;
+case 1:case 4:Ce=0;
+De=0;
+Ee=0;
+Fe=0;
 break;
 default:NEVER;
 }}
 else{
-ye=0;
-ze=0;
-Ae=0;
-Be=0;}}}
+Ce=0;
+De=0;
+Ee=0;
+Fe=0;}}}
 else{
-ye=0;
-ze=0;
-Ae=0;
-Be=0;}}
-else{
-ye=0;
-ze=0;
-Ae=0;
-Be=0;}}
-L31:w8(y,ye);
-y[8]=ze;
+Ce=0;
+De=0;
+Ee=0;
+Fe=0;}
+L28:w8(y,Ce);
+y[8]=De;
 y[9]=0;
-w8(y+16,Ae);
-y[24]=Be;
-goto L9;
-case 65:ff=r8(a+8);
+w8(y+16,Ee);
+y[24]=Fe;
+goto L17;
+case 65:cf=r8(a+8);
 w8(a+192,cb+1);
-if(r8(a+32)>ff)gf=ff;
+if(r8(a+32)>cf)df=cf;
 else{
-hf=make_ready_8e3(a,1,16);
-if(!(hf&1)){
-jf=0;
-kf=0;
-goto L33;}
-gf=r8(a+8);}
-*(rp(a)+gf)=91;
-w8(a+8,gf+1);
-lf=r8(a+160);
-if(r8(a+184)>lf)mf=lf;
+ef=make_ready_8e3(a,1,16);
+if(!(ef&1)){
+ff=0;
+gf=0;
+goto L30;}
+df=r8(a+8);}
+*(rp(a)+df)=91;
+w8(a+8,df+1);
+hf=r8(a+160);
+if(r8(a+184)>hf)jf=hf;
 else{
-nf=make_ready_e3c(a+152);
-if(!(nf&1)){
-jf=0;
-kf=0;
-goto L33;}
-mf=r8(a+160);}
-of=rp(a+152)+(mf<<5);
-*of=14;
-of[1]=0;
-x8(of+8,cb);
-x8(of+16,ff);
-of[24]=0;
-w8(a+160,mf+1);
-jf=1;
-kf=1;
-L33:w8(y,jf);
-y[8]=kf;
+kf=make_ready_e3c(a+152);
+if(!(kf&1)){
+ff=0;
+gf=0;
+goto L30;}
+jf=r8(a+160);}
+lf=rp(a+152)+(jf<<5);
+*lf=14;
+lf[1]=0;
+x8(lf+8,cb);
+x8(lf+16,cf);
+lf[24]=0;
+w8(a+160,jf+1);
+ff=1;
+gf=1;
+L30:w8(y,ff);
+y[8]=gf;
 y[9]=0;
 w8(y+16,0);
 y[24]=0;
-goto L9;
-case 68:pf=r8(a+8);
-qf=cb+1;
-if(r8(a+32)-pf<4){
-rf=make_ready_8e3(a,4,128);
-if(!(rf&1)){
-tf=0;
-goto L34;}
-sf=r8(a+8);}
-else sf=pf;
-uf=r8(a+16);
-if(uf-sf<4){
-vf=grow_amortized_68b(a,4);
-if(!vf){
-tf=0;
-goto L34;}
-wf=r8(a+16);
-xf=r8(a+8);}
+goto L17;
+case 68:mf=r8(a+8);
+nf=cb+1;
+if(r8(a+32)-mf<4){
+of=make_ready_8e3(a,4,128);
+if(!(of&1)){
+qf=0;
+goto L31;}
+pf=r8(a+8);}
+else pf=mf;
+rf=r8(a+16);
+if(rf-pf<4){
+sf=grow_amortized_68b(a,4);
+if(!sf){
+qf=0;
+goto L31;}
+tf=r8(a+16);
+uf=r8(a+8);}
 else{
-wf=uf;
-xf=sf;}
-yf=xf+4;
-zf=rp(a);
+tf=rf;
+uf=pf;}
+vf=uf+4;
+wf=rp(a);
 z16(a+8);
-Af=zf+(i64)xf;
-if((u64)Af-(u64)(u8*)t_f616<4)copy_bits_4f4((u8*)t_f616,Af,4);
-else x4(Af,544110948);
-wp(a,zf);
-w8(a+8,yf);
-w8(a+16,wf);
-Bf=r8(a+160);
-if(r8(a+184)>Bf)Cf=Bf;
+xf=wf+(i64)uf;
+if((u64)xf-(u64)(u8*)t_f616<4)copy_bits_4f4((u8*)t_f616,xf,4);
+else x4(xf,544110948);
+wp(a,wf);
+w8(a+8,vf);
+w8(a+16,tf);
+yf=r8(a+160);
+if(r8(a+184)>yf)zf=yf;
 else{
-Df=make_ready_e3c(a+152);
-if(!(Df&1)){
-tf=0;
-goto L34;}
-Cf=r8(a+160);}
-Ef=rp(a+152)+(Cf<<5);
-*Ef=13;
-Ef[1]=0;
-x8(Ef+8,cb);
-x8(Ef+16,pf);
-Ef[24]=0;
-w8(a+160,Cf+1);
-w8(a+192,qf);
-tf=1;
-L34:w8(y,tf);
+Af=make_ready_e3c(a+152);
+if(!(Af&1)){
+qf=0;
+goto L31;}
+zf=r8(a+160);}
+Bf=rp(a+152)+(zf<<5);
+*Bf=13;
+Bf[1]=0;
+x8(Bf+8,cb);
+x8(Bf+16,mf);
+Bf[24]=0;
+w8(a+160,zf+1);
+w8(a+192,nf);
+qf=1;
+L31:w8(y,qf);
 y[8]=0;
 y[9]=0;
 w8(y+16,0);
 y[24]=0;
-goto L9;
-case 97:Ff=2;
-Gf=(u8*)t_4c1d;
+goto L17;
+case 97:Cf=2;
+Df=(u8*)t_4c1d;
 break;
-case 98:Ff=4;
-Gf=(u8*)t_b760;
+case 98:Cf=4;
+Df=(u8*)t_b760;
 break;
-case 99:Ff=4;
-Gf=(u8*)t_411b;
+case 99:Cf=4;
+Df=(u8*)t_411b;
 break;
-case 100:Ff=3;
-Gf=(u8*)t_6a3e;
+case 100:Cf=3;
+Df=(u8*)t_6a3e;
 break;
-case 101:Ff=3;
-Gf=(u8*)t_8c25;
+case 101:Cf=3;
+Df=(u8*)t_8c25;
 break;
-case 102:Ff=3;
-Gf=(u8*)t_16b5;
+case 102:Cf=3;
+Df=(u8*)t_16b5;
 break;
-case 104:Ff=2;
-Gf=(u8*)t_c899;
+case 104:Cf=2;
+Df=(u8*)t_c899;
 break;
-case 105:Ff=5;
-Gf=(u8*)t_db3b;
+case 105:Cf=5;
+Df=(u8*)t_db3b;
 break;
-case 106:Ff=5;
-Gf=(u8*)t_f417;
+case 106:Cf=5;
+Df=(u8*)t_f417;
 break;
-case 108:Ff=3;
-Gf=(u8*)t_579a;
+case 108:Cf=3;
+Df=(u8*)t_579a;
 break;
-case 109:Ff=3;
-Gf=(u8*)t_d764;
+case 109:Cf=3;
+Df=(u8*)t_d764;
 break;
-case 110:Ff=4;
-Gf=(u8*)t_9cf5;
+case 110:Cf=4;
+Df=(u8*)t_9cf5;
 break;
-case 111:Ff=4;
-Gf=(u8*)t_fcd0;
+case 111:Cf=4;
+Df=(u8*)t_fcd0;
 break;
-case 112:Ff=1;
-Gf=(u8*)t_d2e2;
+case 112:Cf=1;
+Df=(u8*)t_d2e2;
 break;
-case 115:Ff=3;
-Gf=(u8*)t_7daa;
+case 115:Cf=3;
+Df=(u8*)t_7daa;
 break;
-case 116:Ff=3;
-Gf=(u8*)t_2988;
+case 116:Cf=3;
+Df=(u8*)t_2988;
 break;
-case 117:Ff=2;
-Gf=(u8*)t_2e38;
+case 117:Cf=2;
+Df=(u8*)t_2e38;
 break;
-case 118:Ff=3;
-Gf=(u8*)t_ab5d;
+case 118:Cf=3;
+Df=(u8*)t_ab5d;
 break;
-case 120:Ff=3;
-Gf=(u8*)t_1a91;
+case 120:Cf=3;
+Df=(u8*)t_1a91;
 break;
-case 121:Ff=3;
-Gf=(u8*)t_1506;
+case 121:Cf=3;
+Df=(u8*)t_1506;
 break;
-case 122:Ff=1;
-Gf=(u8*)t_bb72;
+case 122:Cf=1;
+Df=(u8*)t_bb72;
 break;
-default:goto L9;
+default:goto L17;
 }
-Hf=r8(a+8);
+Ef=r8(a+8);
 w8(a+192,cb+1);
-if(r8(a+32)-Hf<Ff){
-If=make_ready_8e3(a,Ff,128);
-if(!(If&1))goto L10;
-Jf=r8(a+8);}
-else Jf=Hf;
-Kf=r8(a+16);
-if(Ff>Kf-Jf){
-Lf=grow_amortized_68b(a,Ff);
-if(!Lf)goto L10;
-Mf=r8(a+16);
-Nf=r8(a+8);}
+if(r8(a+32)-Ef<Cf){
+Ff=make_ready_8e3(a,Cf,128);
+if(!(Ff&1))goto L9;
+Gf=r8(a+8);}
+else Gf=Ef;
+Hf=r8(a+16);
+if(Cf>Hf-Gf){
+If=grow_amortized_68b(a,Cf);
+if(!If)goto L9;
+Jf=r8(a+16);
+Kf=r8(a+8);}
 else{
-Mf=Kf;
-Nf=Jf;}
-Of=Nf+Ff;
-Pf=rp(a);
+Jf=Hf;
+Kf=Gf;}
+Lf=Kf+Cf;
+Mf=rp(a);
 z16(a+8);
-Qf=Pf+(i64)Nf;
-if((u64)Qf-(u64)Gf<Ff)copy_bits_4f4(Gf,Qf,Ff);
-else memmove(Qf,Gf,Ff);
-wp(a,Pf);
-w8(a+8,Of);
-w8(a+16,Mf);
+Nf=Mf+(i64)Kf;
+if((u64)Nf-(u64)Df<Cf)copy_bits_4f4(Df,Nf,Cf);
+else memmove(Nf,Df,Cf);
+wp(a,Mf);
+w8(a+8,Lf);
+w8(a+16,Jf);
 if(r8(a+136)>cb){
-Rf=r8(a+96);
-if(Rf>65534){
-Sf=0;
-Tf=0;
-Uf=0;
-Vf=0;}
+Of=r8(a+96);
+if(Of>65534){
+Pf=0;
+Qf=0;
+Rf=0;
+Sf=0;}
 else{
-Wf=a[80];
-if(r8(a+120)>Rf)Xf=Rf;
+Tf=a[80];
+if(r8(a+120)>Of)Uf=Of;
 else{
-Yf=make_ready_b73(a+88);
-if(!(Yf&1)){
+Vf=make_ready_b73(a+88);
+if(!(Vf&1)){
+Pf=0;
+Qf=0;
+Rf=0;
 Sf=0;
-Tf=0;
-Uf=0;
-Vf=0;
-goto L35;}
-Xf=r8(a+96);}
-Zf=rp(a+88)+Xf*24;
-x8(Zf,Hf);
-x8(Zf+8,Of);
-Zf[16]=3;
-Zf[17]=Wf;
-z6(Zf+18);
-w8(a+96,Xf+1);
-w2(rp(a+128)+(i64)(cb<<1),(u16)Rf+1);
-Sf=1;
-Tf=2;
-Uf=Hf;
-Vf=3;}}
+goto L32;}
+Uf=r8(a+96);}
+Wf=rp(a+88)+Uf*24;
+x8(Wf,Ef);
+x8(Wf+8,Lf);
+Wf[16]=3;
+Wf[17]=Tf;
+z6(Wf+18);
+w8(a+96,Uf+1);
+w2(rp(a+128)+(i64)(cb<<1),(u16)Of+1);
+Pf=1;
+Qf=2;
+Rf=Ef;
+Sf=3;}}
 else{
-Sf=0;
-Tf=0;
-Uf=0;
-Vf=0;}
-L35:w8(y,Sf);
-y[8]=Tf;
+Pf=0;
+Qf=0;
+Rf=0;
+Sf=0;}
+L32:w8(y,Pf);
+y[8]=Qf;
 y[9]=0;
-w8(y+16,Uf);
-y[24]=Vf;
-goto L9;
-L20:gc=r8(a+160);
-hc=kc;
-ic=lc;
-L19:ag=rp(a+152)+(gc<<5);
-*ag=hc;
-ag[1]=ic;
-x8(ag+8,cb);
-x8(ag+16,0);
-ag[24]=0;
-w8(a+160,gc+1);
-bg=0;
-goto L36;
+w8(y+16,Rf);
+y[24]=Sf;
+goto L17;
+L20:ic=r8(a+160);
+jc=mc;
+kc=nc;
+L19:Xf=rp(a+152)+(ic<<5);
+*Xf=jc;
+Xf[1]=kc;
+x8(Xf+8,cb);
+x8(Xf+16,0);
+Xf[24]=0;
+w8(a+160,ic+1);
+Yf=0;
+goto L33;
 L18:F=0;
 goto L1;
-L9:if(*y!=1){
+L17:if(*y!=1){
 F=0;
 goto L1;}
 Ya=r8(y+16);
@@ -127577,397 +127524,383 @@ Za=y[8];
 ab=y[9];
 bb=y[24];
 goto L5;}
-L10:F=0;
+L9:F=0;
 goto L1;
 L5:if(Za!=0){
-cg=Ya;
-dg=Za;
-eg=ab;
-fg=bb;
-goto L37;}
+Zf=Ya;
+ag=Za;
 bg=ab;
-L36:z32(t);
-gg=r8(a+192);
-if(gg<c){
-hg=bg&1;
-ig=gg;
-L38:switch(*(b+ig)){
-case 78:jg=ig+1;
-if(jg>=c)goto L39;
-kg=*(b+jg);
-if(kg<65)goto L39;
-if(!((kg<91)|((u8)(kg-97)<26)))goto L39;
-w8(a+192,ig+2);
-lg=r8(a+160);
-if(r8(a+184)>lg){
-mg=lg;
+cg=bb;
+goto L34;}
+Yf=ab;
+L33:z32(t);
+dg=r8(a+192);
+if(dg<c){
+eg=Yf&1;
+fg=dg;
+L35:switch(*(b+fg)){
+case 78:gg=fg+1;
+if(gg<c)hg=*(b+gg);
+else hg=0;
+if(gg==18446744073709551615u||*((u8*)t_eb43+hg)==0)goto L36;
+w8(a+192,fg+2);
+ig=r8(a+160);
+if(r8(a+184)>ig){
+jg=ig;
+kg=2;
+lg=hg;
+goto L37;}
+mg=make_ready_e3c(a+152);
+if(!(mg&1))goto L36;
 ng=2;
-og=kg;
-goto L40;}
-pg=make_ready_e3c(a+152);
-if(!(pg&1))goto L39;
-qg=2;
-rg=kg;
-break;
-case 73:w8(a+192,ig+1);
-sg=r8(a+160);
-if(r8(a+184)>sg){
-mg=sg;
-ng=3;
 og=hg;
-goto L40;}
-tg=make_ready_e3c(a+152);
-if(!(tg&1))goto L39;
-qg=3;
-rg=hg;
 break;
-default:ug=ig;
-goto L41;
+case 73:w8(a+192,fg+1);
+pg=r8(a+160);
+if(r8(a+184)>pg){
+jg=pg;
+kg=3;
+lg=eg;
+goto L37;}
+qg=make_ready_e3c(a+152);
+if(!(qg&1))goto L36;
+ng=3;
+og=eg;
+break;
+default:rg=fg;
+goto L38;
 }
-mg=r8(a+160);
-ng=qg;
-og=rg;
-L40:vg=rp(a+152)+(mg<<5);
-*vg=ng;
-vg[1]=og;
-x8(vg+8,ig);
-x8(vg+16,0);
-vg[24]=0;
-w8(a+160,mg+1);
-wg=r8(a+192);
-if(wg<c){
-ig=wg;
-goto L38;}
-ug=wg;
-goto L41;
-L39:F=0;
+jg=r8(a+160);
+kg=ng;
+lg=og;
+L37:sg=rp(a+152)+(jg<<5);
+*sg=kg;
+sg[1]=lg;
+x8(sg+8,fg);
+x8(sg+16,0);
+sg[24]=0;
+w8(a+160,jg+1);
+tg=r8(a+192);
+if(tg<c){
+fg=tg;
+goto L35;}
+rg=tg;
+goto L38;
+L36:F=0;
 goto L1;}
-ug=gg;
-L41:if(ug<c){
-switch(*(b+ug)){
-case 67:xg=r8(a+8);
-yg=ug+1;
-if(yg<c){
-if(*(b+yg)==115){
-zg=ug+2;
-if(c-zg>=12){
-Ag=ug+13;
-Bg=b+(i64)zg;
-Cg=*Bg;
-if(!((Cg<58)|((u8)(Cg-97)<11)))goto L42;
-Dg=0;
-L43:if(*((u8*)t_9eba+*(Bg+Dg))==0){
-Eg=Dg+1;
-if(Eg!=11){
-Dg=Eg;
-goto L43;}
-if(Ag<c){
-if(*(b+Ag)==95){
-Fg=ug+14;
-goto L44;}}}}
-L42:Gg=any_disambiguator_end_f9c(b,c,yg);
-if(Gg.f0!=1)goto L45;
-Fg=Gg.f1;}
-else Fg=yg;}
-else Fg=yg;
-L44:if(Fg<c){
-Hg=*(b+Fg);
-if((u8)(Hg-58)>=247){
-Ig=Fg+1;
-if(Ig<c){
-Jg=*(b+Ig)-48;
-if(Jg<10){
-Kg=Fg+2;
-Lg=(u64)Jg+(u8)((u8)(Hg*10)+32);
-if(c-Kg<Lg)goto L45;
-Mg=Lg+Kg;
-Ng=b+(i64)Kg;
-Og=*Ng;
-if((Og==95)|((u8)(Og-48)<10)){
+rg=dg;
+L38:if(rg<c){
+switch(*(b+rg)){
+case 67:ug=r8(a+8);
+vg=rg+1;
+if(vg<c){
+if(*(b+vg)==115){
+wg=rg+2;
+if(c-wg>=12){
+xg=b+(i64)wg;
+yg=0;
+L39:if(*((u8*)t_9eba+*(xg+yg))==0){
+zg=yg+1;
+if(zg!=11){
+yg=zg;
+goto L39;}
+Ag=*xg;
+if(!((Ag<58)|((u8)(Ag-97)<11)))goto L40;
+Bg=11;}
+else Bg=yg;
+Cg=Bg+wg;
+if(Cg<c){
+if(*(b+Cg)==95){
+Dg=Cg+1;
+goto L41;}}}
+L40:Eg=any_disambiguator_end_f9c(b,c,vg);
+if(Eg.f0!=1)goto L42;
+Dg=Eg.f1;}
+else Dg=vg;}
+else Dg=vg;
+L41:if(Dg<c){
+Fg=*(b+Dg);
+if((u8)(Fg-58)>=247){
+Gg=Dg+1;
+if(Gg<c){
+Hg=*(b+Gg)-48;
+if(Hg<10){
+Ig=Dg+2;
+Jg=(u64)Hg+(u8)((u8)(Fg*10)+32);
+if(c-Ig<Jg)goto L42;
+Kg=Jg+Ig;
+Lg=b+(i64)Ig;
+if(*((u8*)t_facb+*Lg)!=0){
 z12(r);
-any_name_span_9bc(r,b,c,Fg);
-Pg=q8(r+4);
-if(*r!=1)goto L45;
-Qg=Pg>>32;
-Rg=Pg&4294967295u;
-goto L46;}
-Sg=0;
-L47:Tg=Ng+Sg;
-if((u8)((u8)(*((u8*)t_4efc+Tg[1])+*((u8*)t_4efc+*Tg))+*((u8*)t_4efc+Tg[2]))==(u8)(0-*((u8*)t_4efc+Tg[3]))){
-Ug=Sg+4;
-if(Lg-Ug>3){
-Sg=Ug;
-goto L47;}
-Vg=Ug;}
-else Vg=Sg;
-if(Vg>=Lg){
-Qg=Mg;
-Rg=Kg;
-goto L46;}
-Wg=Vg;
-L48:if(*((u8*)t_4efc+*(Ng+Wg))!=0)goto L45;
-Xg=Wg+1;
-if(Xg<Lg){
-Wg=Xg;
-goto L48;}
-Qg=Mg;
-Rg=Kg;
-goto L46;}}
-Yg=Hg-48;
-if(c-Ig<Yg)goto L45;
-Zg=b+(i64)Ig;
-ah=*Zg;
-if((ah==95)|((u8)(ah-48)<10)){
+any_name_span_9bc(r,b,c,Dg);
+Ng=q8(r+4);
+if(*r!=1)goto L42;
+Og=Ng>>32;
+Pg=Ng&4294967295u;
+goto L43;}
+Mg=0;
+L44:Qg=Lg+Mg;
+if((u8)((u8)(*((u8*)t_4efc+Qg[1])+*((u8*)t_4efc+*Qg))+*((u8*)t_4efc+Qg[2]))==(u8)(0-*((u8*)t_4efc+Qg[3]))){
+Rg=Mg+4;
+if(Jg-Rg>3){
+Mg=Rg;
+goto L44;}
+Sg=Rg;}
+else Sg=Mg;
+if(Sg>=Jg){
+Og=Kg;
+Pg=Ig;
+goto L43;}
+Tg=Sg;
+L45:if(*((u8*)t_4efc+*(Lg+Tg))!=0)goto L42;
+Ug=Tg+1;
+if(Ug<Jg){
+Tg=Ug;
+goto L45;}
+Og=Kg;
+Pg=Ig;
+goto L43;}}
+Vg=Fg-48;
+if(c-Gg<Vg)goto L42;
+Wg=b+(i64)Gg;
+if(*((u8*)t_facb+*Wg)!=0){
 z12(q);
-any_name_span_9bc(q,b,c,Fg);
-bh=q8(q+4);
-if(*q!=1)goto L45;
-Qg=bh>>32;
-Rg=bh&4294967295u;
+any_name_span_9bc(q,b,c,Dg);
+eh=q8(q+4);
+if(*q!=1)goto L42;
+Og=eh>>32;
+Pg=eh&4294967295u;
+goto L43;}
+Xg=Gg+Vg;
+if(Fg<=51){
+Zg=0;
 goto L46;}
-ch=Ig+Yg;
-if(Hg<=51){
-eh=0;
-goto L49;}
-dh=0;
-L50:fh=Zg+dh;
-if((u8)((u8)(*((u8*)t_4efc+fh[1])+*((u8*)t_4efc+*fh))+*((u8*)t_4efc+fh[2]))==(u8)(0-*((u8*)t_4efc+fh[3]))){
-gh=dh+4;
-if(Yg-gh>3){
-dh=gh;
-goto L50;}
-eh=gh;}
-else eh=dh;
-L49:if(eh>=Yg){
-Qg=ch;
-Rg=Ig;
-goto L46;}
-hh=eh;
-L51:if(*((u8*)t_4efc+*(Zg+hh))!=0)goto L45;
-ih=hh+1;
-if(ih!=Yg){
-hh=ih;
-goto L51;}
-Qg=ch;
-Rg=Ig;
-goto L46;}}
+Yg=0;
+L47:ah=Wg+Yg;
+if((u8)((u8)(*((u8*)t_4efc+ah[1])+*((u8*)t_4efc+*ah))+*((u8*)t_4efc+ah[2]))==(u8)(0-*((u8*)t_4efc+ah[3]))){
+bh=Yg+4;
+if(Vg-bh>3){
+Yg=bh;
+goto L47;}
+Zg=bh;}
+else Zg=Yg;
+L46:if(Zg>=Vg){
+Og=Xg;
+Pg=Gg;
+goto L43;}
+ch=Zg;
+L48:if(*((u8*)t_4efc+*(Wg+ch))!=0)goto L42;
+dh=ch+1;
+if(dh!=Vg){
+ch=dh;
+goto L48;}
+Og=Xg;
+Pg=Gg;
+goto L43;}}
 z12(s);
-any_name_span_9bc(s,b,c,Fg);
-jh=q8(s+4);
-if(*s!=1)goto L45;
-Qg=jh>>32;
-Rg=jh&4294967295u;
-L46:if(Qg<=Rg)goto L45;
-kh=b+(i64)Rg;
-lh=Qg-Rg;
-if(r8(a+32)-xg<lh){
-mh=make_ready_8e3(a,lh,128);
-if(!(mh&1))goto L45;}
-nh=extend_from_slice_674(a,kh,lh);
-if(nh&1)goto L45;
-w8(a+192,Qg);
-if(r8(a+136)>ug){
-oh=r8(a+96);
-if(oh>65534){
+any_name_span_9bc(s,b,c,Dg);
+fh=q8(s+4);
+if(*s!=1)goto L42;
+Og=fh>>32;
+Pg=fh&4294967295u;
+L43:if(Og<=Pg)goto L42;
+gh=Og-Pg;
+hh=r8(a+32)-ug;
+ih=b+(i64)Pg;
+if((c-Pg<16)|(gh>16)||hh<16){
+if(hh<gh){
+jh=make_ready_8e3(a,gh,128);
+if(!(jh&1))goto L42;}
+kh=extend_from_slice_674(a,ih,gh);
+if(kh&1)goto L42;}
+else{
+lh=extend_from_slice_674(a,ih,16);
+if(lh&1)goto L42;
+mh=gh+ug;
+if(r8(a+8)>mh)w8(a+8,mh);}
+w8(a+192,Og);
+if(r8(a+136)>rg){
+nh=r8(a+96);
+if(nh>65534){
+oh=0;
+ph=0;
+qh=0;}
+else{
+rh=r8(a+8);
+sh=a[80];
+if(r8(a+120)>nh)th=nh;
+else{
+uh=make_ready_b73(a+88);
+if(!(uh&1)){
+oh=0;
 ph=0;
 qh=0;
-rh=0;}
+goto L49;}
+th=r8(a+96);}
+vh=rp(a+88)+th*24;
+x8(vh,ug);
+x8(vh+8,rh);
+vh[16]=0;
+vh[17]=sh;
+z6(vh+18);
+w8(a+96,th+1);
+w2(rp(a+128)+(i64)(rg<<1),(u16)nh+1);
+oh=1;
+ph=2;
+qh=ug;}}
 else{
-sh=r8(a+8);
-th=a[80];
-if(r8(a+120)>oh)uh=oh;
-else{
-vh=make_ready_b73(a+88);
-if(!(vh&1)){
+oh=0;
 ph=0;
-qh=0;
-rh=0;
-goto L52;}
-uh=r8(a+96);}
-wh=rp(a+88)+uh*24;
-x8(wh,xg);
-x8(wh+8,sh);
-wh[16]=0;
-wh[17]=th;
-z6(wh+18);
-w8(a+96,uh+1);
-w2(rp(a+128)+(i64)(ug<<1),(u16)oh+1);
-ph=1;
-qh=2;
-rh=xg;}}
-else{
-ph=0;
-qh=0;
-rh=0;}
-L52:w8(t,ph);
-t[8]=qh;
+qh=0;}
+L49:w8(t,oh);
+t[8]=ph;
 t[9]=0;
-w8(t+16,rh);
+w8(t+16,qh);
 t[24]=0;
 break;
-case 66:xh=r8(a+8);
-yh=ug+1;
-zh=umin64(c-yh,11)+yh;
-if(yh>=zh){
-Bh=yh;
-goto L53;}
-Ah=yh;
-L54:if(*((u8*)t_84dd+*(b+Ah))<62){
-Ch=Ah+1;
-if(Ch!=zh){
-Ah=Ch;
-goto L54;}
-Bh=zh;}
-else Bh=Ah;
-L53:if(Bh==c){
-Dh=0;
-Eh=0;
-Fh=0;
-Gh=0;}
-else{
-if(*(b+Bh)==95){
-Hh=yh&4294967295u;
-Ih=Bh&4294967295u;
-Jh=Ih+1;
-if(Ih==Hh)Kh=2;
-else{
-Lh=b+(i64)Hh;
-Mh=Ih-Hh;
-if(Mh>10){
-Nh=0;
-Oh=0;
-goto L55;}
-Ph=0;
-Qh=0;
-L56:Rh=*((u8*)t_84dd+*(Lh+(i64)Qh));
-if(Rh>=62){
-Dh=0;
+case 66:wh=r8(a+8);
+xh=rg+1;
+z24(p);
+yh=xh!=18446744073709551615u;
+zh=rg+2;
+if(yh&((yh?zh:0)<c)){
+if(*(b+zh)==95){
+Ah=*((u8*)t_84dd+*(b+(i64)xh));
+if(Ah<62){
+Bh=Ah+3;
+Ch=rg+3;
+goto L50;}}}
+any_number_at_3d4(p,b,c,xh);
+Dh=r8(p+8);
+if(!(*p==1&&Dh<0xfffffffffffffffeu)){
 Eh=0;
 Fh=0;
 Gh=0;
-goto L57;}
-Sh=Ph*62+Rh;
-Th=Qh+1;
-if(Th==Mh){
-Uh=Sh;
-goto L58;}
-Ph=Sh;
-Qh=Th;
-goto L56;
-L55:Vh=*((u8*)t_84dd+*(Lh+(i64)Oh));
-if(!((Nh<0x421084210842109u)&(Vh<62))){
-Dh=0;
+Hh=0;
+goto L51;}
+Bh=Dh+2;
+Ch=r8(p+16);
+L50:if(Bh<r8(a+136)){
+Ih=r2(rp(a+128)+(i64)(Bh<<1));
+if(Ih==0){
 Eh=0;
 Fh=0;
 Gh=0;
-goto L57;}
-Wh=Nh*62;
-if(Wh>(Vh^18446744073709551615u)){
-Dh=0;
+Hh=0;}
+else{
+Jh=(u64)Ih-1;
+if(Jh<r8(a+96)){
+Kh=rp(a+88)+(i64)(Jh*24);
+Lh=q8(Kh);
+Mh=q8(Kh+8);
+Nh=Kh[16];
+if(Nh>2||Mh<Lh){
 Eh=0;
 Fh=0;
 Gh=0;
-goto L57;}
-Xh=Wh+Vh;
-Yh=Oh+1;
-if(Yh!=Mh){
-Nh=Xh;
-Oh=Yh;
-goto L55;}
-Uh=Xh;
-L58:if(Uh>0xfffffffffffffffcu){
-Dh=0;
+Hh=0;}
+else{
+if((u8)(a[80]^Kh[17])&1){
+Oh=r8(a+48);
+if(Oh<Mh){
 Eh=0;
 Fh=0;
 Gh=0;
-goto L57;}
-Kh=Uh+3;}
-if(Kh<r8(a+136)){
-Zh=r2(rp(a+128)+(i64)(Kh<<1));
-if(Zh==0){
-Dh=0;
-Eh=0;
-Fh=0;
-Gh=0;}
-else{
-ai=(u64)Zh-1;
-if(ai<r8(a+96)){
-bi=rp(a+88)+(i64)(ai*24);
-ci=bi[16];
-if(ci<3){
-memcpy(p,bi,16);
-p[16]=ci;
-memcpy(p+17,bi+17,7);
-di=repeat_2ff(a,p);
-if(di&1){
-w8(a+192,Jh);
-if(r8(a+136)>ug){
-ei=r8(a+96);
-if(ei>65534){
-Dh=0;
-Eh=0;
-Fh=0;
-Gh=0;}
-else{
-fi=r8(a+8);
-gi=a[80];
-if(r8(a+120)>ei)hi=ei;
-else{
-ii=make_ready_b73(a+88);
-if(!(ii&1)){
-Dh=0;
+Hh=0;
+goto L51;}
+Ph=Mh-Lh;
+Qh=r8(a+32)-wh;
+Rh=rp(a+40)+(i64)Lh;
+if(!((Ph>16)|(Oh-Lh<16)||Qh<16)){
+Vh=extend_from_slice_674(a,Rh,16);
+if(!(Vh&1)){
+Wh=Ph+wh;
+if(r8(a+8)<=Wh)goto L52;
+w8(a+8,Wh);
+goto L52;}
 Eh=0;
 Fh=0;
 Gh=0;
-goto L57;}
-hi=r8(a+96);}
-ji=rp(a+88)+hi*24;
-x8(ji,xh);
-x8(ji+8,fi);
-ji[16]=ci;
-ji[17]=gi;
-z6(ji+18);
-w8(a+96,hi+1);
-w2(rp(a+128)+(i64)(ug<<1),(u16)ei+1);
-Dh=1;
-Eh=2;
-Fh=xh;
-Gh=ci;}}
-else{
-Dh=0;
+Hh=0;
+goto L51;}
+if(Qh<Ph){
+Sh=make_ready_8e3(a,Ph,128);
+if(!(Sh&1)){
 Eh=0;
 Fh=0;
-Gh=0;}}
+Gh=0;
+Hh=0;
+goto L51;}}
+Th=extend_from_slice_674(a,Rh,Ph);
+Uh=Th;}
 else{
-Dh=0;
+if(wh<Mh){
 Eh=0;
 Fh=0;
-Gh=0;}}
-else{
-Dh=0;
+Gh=0;
+Hh=0;
+goto L51;}
+Xh=repeat_28b(a,Lh,Mh);
+Uh=Xh^1;}
+if(Uh&1){
 Eh=0;
 Fh=0;
-Gh=0;}}
-else{
-Dh=0;
+Gh=0;
+Hh=0;
+goto L51;}
+L52:w8(a+192,Ch);
+if(r8(a+136)>rg){
+Yh=r8(a+96);
+if(Yh>65534){
 Eh=0;
 Fh=0;
-Gh=0;}}}
+Gh=0;
+Hh=0;}
 else{
-Dh=0;
+Zh=r8(a+8);
+ai=a[80];
+if(r8(a+120)>Yh)bi=Yh;
+else{
+ci=make_ready_b73(a+88);
+if(!(ci&1)){
 Eh=0;
 Fh=0;
-Gh=0;}}
+Gh=0;
+Hh=0;
+goto L51;}
+bi=r8(a+96);}
+di=rp(a+88)+bi*24;
+x8(di,wh);
+x8(di+8,Zh);
+di[16]=Nh;
+di[17]=ai;
+z6(di+18);
+w8(a+96,bi+1);
+w2(rp(a+128)+(i64)(rg<<1),(u16)Yh+1);
+Eh=1;
+Fh=2;
+Gh=wh;
+Hh=Nh;}}
 else{
-Dh=0;
 Eh=0;
 Fh=0;
-Gh=0;}}
-L57:w8(t,Dh);
-t[8]=Eh;
+Gh=0;
+Hh=0;}}}
+else{
+Eh=0;
+Fh=0;
+Gh=0;
+Hh=0;}}}
+else{
+Eh=0;
+Fh=0;
+Gh=0;
+Hh=0;}
+L51:w8(t,Eh);
+t[8]=Fh;
 t[9]=0;
-w8(t+16,Fh);
-t[24]=Gh;
+w8(t+16,Gh);
+t[24]=Hh;
 break;
 case 77:begin_impl_c72(t,a,b,c);
 break;
@@ -127975,285 +127908,314 @@ case 88:begin_trait_impl_220(t,a,b,c);
 break;
 case 89:begin_trait_f9f(t,a);
 break;
-default:goto L45;
+default:goto L42;
 }
 if(*t!=1){
 F=0;
 goto L1;}
-cg=r8(t+16);
-dg=t[8];
-eg=t[9];
-fg=t[24];
-goto L37;}
-L45:F=0;
+Zf=r8(t+16);
+ag=t[8];
+bg=t[9];
+cg=t[24];
+goto L34;}
+L42:F=0;
 goto L1;
-L37:if(dg!=2){
-sa=fg;
-ta=cg;
-ua=eg;
-va=dg;
+L34:if(ag!=2){
+sa=cg;
+ta=Zf;
+ua=bg;
+va=ag;
 goto L4;}
-la=fg;
-ma=cg;
-L3:ki=r8(a+160);
-if(ki==0){
+la=cg;
+ma=Zf;
+L3:ei=r8(a+160);
+if(ei==0){
 F=0;
 goto L1;}
-li=la<3;
-mi=ki;
-L59:ni=mi-1;
-w8(a+160,ni);
-oi=rp(a+152);
-pi=ni<<5;
-qi=oi+pi;
-ri=qi[1];
-si=q8(qi+8);
-ti=q8(qi+16);
-ui=qi[24];
-switch(*qi){
-case 2:if(ri>=97){
-if(!li){
+fi=la<3;
+gi=ei;
+L53:hi=gi-1;
+w8(a+160,hi);
+ii=rp(a+152);
+ji=hi<<5;
+ki=ii+ji;
+li=ki[1];
+mi=q8(ki+8);
+ni=q8(ki+16);
+oi=ki[24];
+switch(*ki){
+case 2:if(li>=97){
+if(!fi){
 F=0;
 goto L1;}
-Fi=r8(a+192);
-if(Fi<c){
-if(*(b+Fi)==115){
-Gi=Fi+1;
-if(c-Gi>=12){
-Hi=Fi+12;
-Ii=b+(i64)Gi;
-Ji=*Ii;
-if(!((Ji<58)|((u8)(Ji-97)<11)))goto L60;
-Ki=0;
-L61:if(*((u8*)t_9eba+*(Ii+Ki))==0){
-Li=Ki+1;
-if(Li!=11){
-Ki=Li;
-goto L61;}
-if(Hi<c){
-if(*(b+Hi)==95){
-Mi=Fi+13;
-goto L62;}}}}
-L60:Ni=any_disambiguator_end_f9c(b,c,Fi);
-if(Ni.f0!=1){
+zi=r8(a+192);
+if(zi<c){
+if(*(b+zi)==115){
+Ai=zi+1;
+if(c-Ai>=12){
+Bi=b+(i64)Ai;
+Ci=0;
+L54:if(*((u8*)t_9eba+*(Bi+Ci))==0){
+Di=Ci+1;
+if(Di!=11){
+Ci=Di;
+goto L54;}
+Ei=*Bi;
+if(!((Ei<58)|((u8)(Ei-97)<11)))goto L55;
+Fi=11;}
+else Fi=Ci;
+Gi=Fi+Ai;
+if(Gi<c){
+if(*(b+Gi)==95){
+Hi=Gi+1;
+goto L56;}}}
+L55:Ii=any_disambiguator_end_f9c(b,c,zi);
+if(Ii.f0!=1){
 F=0;
 goto L1;}
-Mi=Ni.f1;}
-else Mi=Fi;}
-else Mi=Fi;
-L62:if(Mi<c){
-Oi=*(b+Mi);
-if((u8)(Oi-58)>=247){
-Pi=Mi+1;
-if(Pi<c){
-Qi=*(b+Pi)-48;
-if(Qi<10){
-Ri=Mi+2;
-Si=(u64)Qi+(u8)((u8)(Oi*10)+32);
-if(c-Ri<Si){
+Hi=Ii.f1;}
+else Hi=zi;}
+else Hi=zi;
+L56:if(Hi<c){
+Ji=*(b+Hi);
+if((u8)(Ji-58)>=247){
+Ki=Hi+1;
+if(Ki<c){
+Li=*(b+Ki)-48;
+if(Li<10){
+Mi=Hi+2;
+Ni=(u64)Li+(u8)((u8)(Ji*10)+32);
+if(c-Mi<Ni){
 F=0;
 goto L1;}
-Ti=Si+Ri;
-Ui=b+(i64)Ri;
-Vi=*Ui;
-if((Vi==95)|((u8)(Vi-48)<10)){
+Oi=Ni+Mi;
+Pi=b+(i64)Mi;
+if(*((u8*)t_facb+*Pi)!=0){
 z12(n);
-any_name_span_9bc(n,b,c,Mi);
-Wi=q8(n+4);
-Xi=*n==1;
-Yi=Xi?Wi&4294967295u:0;
-Zi=Xi?Wi>>32:0;
-aj=Xi;
-goto L63;}
-bj=0;
-L64:cj=Ui+bj;
-if((u8)((u8)(*((u8*)t_4efc+cj[1])+*((u8*)t_4efc+*cj))+*((u8*)t_4efc+cj[2]))==(u8)(0-*((u8*)t_4efc+cj[3]))){
-dj=bj+4;
-if(Si-dj>3){
-bj=dj;
-goto L64;}
-ej=dj;}
-else ej=bj;
-if(ej>=Si){
-Yi=Ri;
-Zi=Ti;
-aj=1;
-goto L63;}
-fj=ej;
-L65:if(*((u8*)t_4efc+*(Ui+fj))!=0){
+any_name_span_9bc(n,b,c,Hi);
+Ri=q8(n+4);
+Si=*n==1;
+Ti=Si?Ri&4294967295u:0;
+Ui=Si?Ri>>32:0;
+Vi=Si;
+goto L57;}
+Qi=0;
+L58:Wi=Pi+Qi;
+if((u8)((u8)(*((u8*)t_4efc+Wi[1])+*((u8*)t_4efc+*Wi))+*((u8*)t_4efc+Wi[2]))==(u8)(0-*((u8*)t_4efc+Wi[3]))){
+Xi=Qi+4;
+if(Ni-Xi>3){
+Qi=Xi;
+goto L58;}
+Yi=Xi;}
+else Yi=Qi;
+if(Yi>=Ni){
+Ti=Mi;
+Ui=Oi;
+Vi=1;
+goto L57;}
+Zi=Yi;
+L59:if(*((u8*)t_4efc+*(Pi+Zi))!=0){
 F=0;
 goto L1;}
-gj=fj+1;
-if(gj<Si){
-fj=gj;
-goto L65;}
-Yi=Ri;
-Zi=Ti;
-aj=1;
-goto L63;}}
-hj=Oi-48;
-if(c-Pi<hj){
+aj=Zi+1;
+if(aj<Ni){
+Zi=aj;
+goto L59;}
+Ti=Mi;
+Ui=Oi;
+Vi=1;
+goto L57;}}
+bj=Ji-48;
+if(c-Ki<bj){
 F=0;
 goto L1;}
-ij=b+(i64)Pi;
-jj=*ij;
-if((jj==95)|((u8)(jj-48)<10)){
+cj=b+(i64)Ki;
+if(*((u8*)t_facb+*cj)!=0){
 z12(m);
-any_name_span_9bc(m,b,c,Mi);
+any_name_span_9bc(m,b,c,Hi);
 kj=q8(m+4);
 lj=*m==1;
-Yi=lj?kj&4294967295u:0;
-Zi=lj?kj>>32:0;
-aj=lj;
-goto L63;}
-mj=Pi+hj;
-if(Oi<=51){
-oj=0;
-goto L66;}
-nj=0;
-L67:pj=ij+nj;
-if((u8)((u8)(*((u8*)t_4efc+pj[1])+*((u8*)t_4efc+*pj))+*((u8*)t_4efc+pj[2]))==(u8)(0-*((u8*)t_4efc+pj[3]))){
-qj=nj+4;
-if(hj-qj>3){
-nj=qj;
-goto L67;}
-oj=qj;}
-else oj=nj;
-L66:if(oj>=hj){
-Yi=Pi;
-Zi=mj;
-aj=1;
-goto L63;}
-rj=oj;
-L68:if(*((u8*)t_4efc+*(ij+rj))!=0){
+Ti=lj?kj&4294967295u:0;
+Ui=lj?kj>>32:0;
+Vi=lj;
+goto L57;}
+dj=Ki+bj;
+if(Ji<=51){
+fj=0;
+goto L60;}
+ej=0;
+L61:gj=cj+ej;
+if((u8)((u8)(*((u8*)t_4efc+gj[1])+*((u8*)t_4efc+*gj))+*((u8*)t_4efc+gj[2]))==(u8)(0-*((u8*)t_4efc+gj[3]))){
+hj=ej+4;
+if(bj-hj>3){
+ej=hj;
+goto L61;}
+fj=hj;}
+else fj=ej;
+L60:if(fj>=bj){
+Ti=Ki;
+Ui=dj;
+Vi=1;
+goto L57;}
+ij=fj;
+L62:if(*((u8*)t_4efc+*(cj+ij))!=0){
 F=0;
 goto L1;}
-sj=rj+1;
-if(sj!=hj){
-rj=sj;
-goto L68;}
-Yi=Pi;
-Zi=mj;
-aj=1;
-goto L63;}}
+jj=ij+1;
+if(jj!=bj){
+ij=jj;
+goto L62;}
+Ti=Ki;
+Ui=dj;
+Vi=1;
+goto L57;}}
 z12(o);
-any_name_span_9bc(o,b,c,Mi);
-tj=q8(o+4);
-uj=*o==1;
-Yi=uj?tj&4294967295u:0;
-Zi=uj?tj>>32:0;
-aj=uj;
-L63:if(!(aj&&Zi>Yi)){
+any_name_span_9bc(o,b,c,Hi);
+mj=q8(o+4);
+nj=*o==1;
+Ti=nj?mj&4294967295u:0;
+Ui=nj?mj>>32:0;
+Vi=nj;
+L57:if(!(Vi&&Ui>Ti)){
 F=0;
 goto L1;}
-vj=r8(a+8);
-if(r8(a+32)-vj<2){
-wj=make_ready_8e3(a,2,128);
-if(!(wj&1)){
+oj=r8(a+8);
+if(r8(a+32)-oj<2){
+pj=make_ready_8e3(a,2,128);
+if(!(pj&1)){
 F=0;
 goto L1;}
-xj=r8(a+8);}
-else xj=vj;
-*(rp(a)+xj)=58;
-*(rp(a)+(i64)xj+1)=58;
-yj=xj+2;
-w8(a+8,yj);
-zj=b+(i64)Yi;
-Aj=Zi-Yi;
-if(r8(a+32)-yj<Aj){
-Bj=make_ready_8e3(a,Aj,128);
-if(!(Bj&1)){
+qj=r8(a+8);}
+else qj=oj;
+*(rp(a)+qj)=58;
+*(rp(a)+(i64)qj+1)=58;
+rj=qj+2;
+w8(a+8,rj);
+sj=Ui-Ti;
+tj=r8(a+32)-rj;
+uj=b+(i64)Ti;
+if((c-Ti<16)|(sj>16)||tj<16){
+if(tj<sj){
+vj=make_ready_8e3(a,sj,128);
+if(!(vj&1)){
 F=0;
 goto L1;}
-Cj=r8(a+8);}
-else Cj=yj;
-Dj=r8(a+16);
-if(Aj>Dj-Cj){
-Ej=grow_amortized_68b(a,Aj);
-if(!Ej){
+wj=r8(a+8);}
+else wj=rj;
+xj=r8(a+16);
+if(sj>xj-wj){
+yj=grow_amortized_68b(a,sj);
+if(!yj){
 F=0;
 goto L1;}
-Fj=r8(a+16);
-Gj=r8(a+8);}
+zj=r8(a+16);
+Aj=r8(a+8);}
 else{
-Fj=Dj;
-Gj=Cj;}
-Hj=Gj+Aj;
-Ij=rp(a);
+zj=xj;
+Aj=wj;}
+Bj=Aj+sj;
+Cj=rp(a);
 z16(a+8);
-Jj=Ij+(i64)Gj;
-if((u64)Jj-(u64)zj<Aj)copy_bits_4f4(zj,Jj,Aj);
-else memmove(Jj,zj,Aj);
-wp(a,Ij);
-w8(a+8,Hj);
-w8(a+16,Fj);
-w8(a+192,Zi);
-if(Zi<c){
-if(*(b+Zi)==48){
-Kj=r8(a+160);
-if(Kj!=0){
-Lj=rp(a+152)+(i64)(Kj<<5);
-if(Lj[-32]==2){
-if(Lj[-31]>96){
-Mj=unnamed_ended_c46(a,b,c,si,ma,la);
-if(Mj&1)goto L69;
+Dj=Cj+(i64)Aj;
+if((u64)Dj-(u64)uj<sj)copy_bits_4f4(uj,Dj,sj);
+else memmove(Dj,uj,sj);
+wp(a,Cj);
+w8(a+8,Bj);
+w8(a+16,zj);
+Ej=Bj;}
+else{
+Fj=r8(a+16);
+if(Fj-rj<16){
+Gj=grow_amortized_68b(a,16);
+if(!Gj){
+F=0;
+goto L1;}
+Hj=r8(a+16);
+Ij=r8(a+8);}
+else{
+Hj=Fj;
+Ij=rj;}
+Jj=Ij+16;
+Kj=rp(a);
+z16(a+8);
+Lj=Kj+(i64)Ij;
+if((u64)Lj-(u64)uj<16)copy_bits_4f4(uj,Lj,16);
+else memmove(Lj,uj,16);
+wp(a,Kj);
+w8(a+8,Jj);
+w8(a+16,Hj);
+Mj=rj+sj;
+if(Jj>Mj){
+w8(a+8,Mj);
+Ej=Mj;}
+else Ej=Jj;}
+w8(a+192,Ui);
+if(Ui<c){
+if(*(b+Ui)==48){
+Nj=r8(a+160);
+if(Nj!=0){
+Oj=rp(a+152)+(i64)(Nj<<5);
+if(Oj[-32]==2){
+if(Oj[-31]>96){
+Pj=unnamed_ended_c46(a,b,c,mi,ma,la);
+if(Pj&1)goto L63;
 F=0;
 goto L1;}}}}}
-if(r8(a+136)<=si){
+if(r8(a+136)<=mi){
 F=0;
 goto L1;}
-Nj=r8(a+96);
-if(Nj>65534){
+Qj=r8(a+96);
+if(Qj>65534){
 F=0;
 goto L1;}
-Oj=a[80];
-if(r8(a+120)>Nj)Pj=Nj;
+Rj=a[80];
+if(r8(a+120)>Qj)Sj=Qj;
 else{
-Qj=make_ready_b73(a+88);
-if(!(Qj&1)){
+Tj=make_ready_b73(a+88);
+if(!(Tj&1)){
 F=0;
 goto L1;}
-Pj=r8(a+96);}
-Rj=rp(a+88)+Pj*24;
-x8(Rj,ma);
-x8(Rj+8,Hj);
-Rj[16]=la;
-Rj[17]=Oj;
-z6(Rj+18);
-w8(a+96,Pj+1);
-w2(rp(a+128)+(i64)(si<<1),(u16)Nj+1);
-L69:Sj=r8(a+160);
-if(Sj==0){
+Sj=r8(a+96);}
+Uj=rp(a+88)+Sj*24;
+x8(Uj,ma);
+x8(Uj+8,Ej);
+Uj[16]=la;
+Uj[17]=Rj;
+z6(Uj+18);
+w8(a+96,Sj+1);
+w2(rp(a+128)+(i64)(mi<<1),(u16)Qj+1);
+L63:Vj=r8(a+160);
+if(Vj==0){
 F=0;
 goto L1;}
-mi=Sj;
-goto L59;}
+gi=Vj;
+goto L53;}
 z32(g);
-if(li&(ri>64)){
-switch(ri){
-case 67:special_named_1bc(g,a,b,c,ma,la,si,(u8*)t_6d4c,7);
+if(fi&(li>64)){
+switch(li){
+case 67:special_named_1bc(g,a,b,c,ma,la,mi,(u8*)t_6d4c,7);
 break;
-case 83:special_named_1bc(g,a,b,c,ma,la,si,(u8*)t_04e6,4);
+case 83:special_named_1bc(g,a,b,c,ma,la,mi,(u8*)t_04e6,4);
 break;
-default:*h=ri;
-special_named_1bc(g,a,b,c,ma,la,si,h,1);
+default:*h=li;
+special_named_1bc(g,a,b,c,ma,la,mi,h,1);
 break;}
-vi=*g;
-wi=g[8];
-xi=g[9];
-yi=r8(g+16);
-zi=g[24];}
+pi=*g;
+qi=g[8];
+ri=g[9];
+si=r8(g+16);
+ti=g[24];}
 else{
-vi=0;
-wi=0;
-xi=0;
-yi=0;
-zi=0;}
-Ai=vi;
-Bi=wi;
-Ci=xi;
-Di=yi;
-Ei=zi;
+pi=0;
+qi=0;
+ri=0;
+si=0;
+ti=0;}
+ui=pi;
+vi=qi;
+wi=ri;
+xi=si;
+yi=ti;
 break;
 case 0:if(la>=2){
 F=0;
@@ -128261,27 +128223,27 @@ goto L1;}
 if(a[80]&1){
 F=0;
 goto L1;}
-Tj=r8(a+192);
-if(Tj<c){
-if((u8)(*(b+Tj)-65)<26){
-if(r8(a+184)>ni){
-Uj=pi;
-Vj=oi;
-Wj=mi;}
+Wj=r8(a+192);
+if(Wj<c){
+if((u8)(*(b+Wj)-65)<26){
+if(r8(a+184)>hi){
+Xj=ji;
+Yj=ii;
+Zj=gi;}
 else{
-Xj=make_ready_e3c(a+152);
-if(!(Xj&1)){
+ak=make_ready_e3c(a+152);
+if(!(ak&1)){
 F=0;
 goto L1;}
-Yj=r8(a+160);
-Uj=Yj<<5;
-Vj=rp(a+152);
-Wj=Yj+1;}
-Zj=Vj+Uj;
-*Zj=1;
-Zj[1]=0;
-z17(Zj+8);
-w8(a+160,Wj);
+bk=r8(a+160);
+Xj=bk<<5;
+Yj=rp(a+152);
+Zj=bk+1;}
+ck=Yj+Xj;
+*ck=1;
+ck[1]=0;
+z17(ck+8);
+w8(a+160,Zj);
 memcpy(k,a,40);
 memcpy(a,a+40,40);
 memcpy(a+40,k,40);
@@ -128292,26 +128254,26 @@ ua=0;
 va=0;
 goto L4;}}
 z32(l);
-if(Tj==c){
-ak=1;
-bk=4;
-ck=0;
-dk=0;
-ek=0;}
+if(Wj==c){
+dk=1;
+ek=4;
+fk=0;
+gk=0;
+hk=0;}
 else{
 push_suffix_49c(l,a,b,c);
-ak=*l;
-bk=l[8];
-ck=l[9];
-dk=r8(l+16);
-ek=l[24];}
-Ai=ak;
-Bi=bk;
-Ci=ck;
-Di=dk;
-Ei=ek;
+dk=*l;
+ek=l[8];
+fk=l[9];
+gk=r8(l+16);
+hk=l[24];}
+ui=dk;
+vi=ek;
+wi=fk;
+xi=gk;
+yi=hk;
 break;
-case 1:if(!li){
+case 1:if(!fi){
 F=0;
 goto L1;}
 if(!(a[80]&1)){
@@ -128323,117 +128285,117 @@ memcpy(a+40,i,40);
 a[80]=0;
 z32(j);
 if(r8(a+192)==c){
-fk=1;
-gk=4;
-hk=0;
-ik=0;
-jk=0;}
+ik=1;
+jk=4;
+kk=0;
+lk=0;
+mk=0;}
 else{
 push_suffix_49c(j,a,b,c);
-fk=*j;
-gk=j[8];
-hk=j[9];
-ik=r8(j+16);
-jk=j[24];}
-Ai=fk;
-Bi=gk;
-Ci=hk;
-Di=ik;
-Ei=jk;
+ik=*j;
+jk=j[8];
+kk=j[9];
+lk=r8(j+16);
+mk=j[24];}
+ui=ik;
+vi=jk;
+wi=kk;
+xi=lk;
+yi=mk;
 break;
 case 12:switch(la){
-case 0:case 2:case 3:kk=r8(a+192);
-if(kk<c){
-if(*(b+kk)==69){
+case 0:case 2:case 3:nk=r8(a+192);
+if(nk<c){
+if(*(b+nk)==69){
 if(la==1){
 F=0;
 goto L1;}
-lk=ui&1;
-w8(a+192,kk+1);
-mk=lk?2:1;
-nk=lk?(u8*)t_b4da:(u8*)t_ba5e;
-ok=r8(a+8);
-if(r8(a+32)-ok<mk){
-pk=make_ready_8e3(a,mk,128);
-if(!(pk&1)){
+ok=oi&1;
+w8(a+192,nk+1);
+pk=ok?2:1;
+qk=ok?(u8*)t_b4da:(u8*)t_ba5e;
+rk=r8(a+8);
+if(r8(a+32)-rk<pk){
+sk=make_ready_8e3(a,pk,128);
+if(!(sk&1)){
 F=0;
 goto L1;}
-qk=r8(a+8);}
-else qk=ok;
-rk=r8(a+16);
-if(mk>rk-qk){
-sk=grow_amortized_68b(a,mk);
-if(!sk){
+tk=r8(a+8);}
+else tk=rk;
+uk=r8(a+16);
+if(pk>uk-tk){
+vk=grow_amortized_68b(a,pk);
+if(!vk){
 F=0;
 goto L1;}
-tk=r8(a+16);
-uk=r8(a+8);}
+wk=r8(a+16);
+xk=r8(a+8);}
 else{
-tk=rk;
-uk=qk;}
-vk=uk+mk;
-wk=rp(a);
+wk=uk;
+xk=tk;}
+yk=xk+pk;
+zk=rp(a);
 z16(a+8);
-xk=wk+(i64)uk;
-if((u64)xk-(u64)nk<mk)copy_bits_4f4(nk,xk,mk);
-else memcpy(xk,nk,mk);
-wp(a,wk);
-w8(a+8,vk);
-w8(a+16,tk);
-if(r8(a+136)<=si){
+Ak=zk+(i64)xk;
+if((u64)Ak-(u64)qk<pk)copy_bits_4f4(qk,Ak,pk);
+else memcpy(Ak,qk,pk);
+wp(a,zk);
+w8(a+8,yk);
+w8(a+16,wk);
+if(r8(a+136)<=mi){
 F=0;
 goto L1;}
-yk=r8(a+96);
-if(yk>65534){
+Bk=r8(a+96);
+if(Bk>65534){
 F=0;
 goto L1;}
-zk=a[80];
-if(r8(a+120)>yk)Ak=yk;
+Ck=a[80];
+if(r8(a+120)>Bk)Dk=Bk;
 else{
-Bk=make_ready_b73(a+88);
-if(!(Bk&1)){
-F=0;
-goto L1;}
-Ak=r8(a+96);}
-Ck=rp(a+88)+Ak*24;
-x8(Ck,ti);
-x8(Ck+8,vk);
-Ck[16]=3;
-Ck[17]=zk;
-z6(Ck+18);
-w8(a+96,Ak+1);
-w2(rp(a+128)+(i64)(si<<1),(u16)yk+1);
-sa=3;
-ta=ti;
-ua=0;
-va=2;
-goto L4;}}
-Dk=r8(a+8);
-if(r8(a+32)-Dk<2){
-Ek=make_ready_8e3(a,2,128);
+Ek=make_ready_b73(a+88);
 if(!(Ek&1)){
 F=0;
 goto L1;}
-Fk=r8(a+8);}
-else Fk=Dk;
-*(rp(a)+Fk)=44;
-*(rp(a)+(i64)Fk+1)=32;
-w8(a+8,Fk+2);
-Gk=r8(a+160);
-if(r8(a+184)>Gk)Hk=Gk;
-else{
-Ik=make_ready_e3c(a+152);
-if(!(Ik&1)){
+Dk=r8(a+96);}
+Fk=rp(a+88)+Dk*24;
+x8(Fk,ni);
+x8(Fk+8,yk);
+Fk[16]=3;
+Fk[17]=Ck;
+z6(Fk+18);
+w8(a+96,Dk+1);
+w2(rp(a+128)+(i64)(mi<<1),(u16)Bk+1);
+sa=3;
+ta=ni;
+ua=0;
+va=2;
+goto L4;}}
+Gk=r8(a+8);
+if(r8(a+32)-Gk<2){
+Hk=make_ready_8e3(a,2,128);
+if(!(Hk&1)){
 F=0;
 goto L1;}
-Hk=r8(a+160);}
-Jk=rp(a+152)+(Hk<<5);
-*Jk=12;
-Jk[1]=0;
-x8(Jk+8,si);
-x8(Jk+16,ti);
-Jk[24]=0;
-w8(a+160,Hk+1);
+Ik=r8(a+8);}
+else Ik=Gk;
+*(rp(a)+Ik)=44;
+*(rp(a)+(i64)Ik+1)=32;
+w8(a+8,Ik+2);
+Jk=r8(a+160);
+if(r8(a+184)>Jk)Kk=Jk;
+else{
+Lk=make_ready_e3c(a+152);
+if(!(Lk&1)){
+F=0;
+goto L1;}
+Kk=r8(a+160);}
+Mk=rp(a+152)+(Kk<<5);
+*Mk=12;
+Mk[1]=0;
+x8(Mk+8,mi);
+x8(Mk+16,ni);
+Mk[24]=0;
+w8(a+160,Kk+1);
 sa=0;
 ta=0;
 ua=0;
@@ -128444,14 +128406,14 @@ goto L1;
 default:NEVER;
 }
 break;
-case 3:Kk=ri&1;
+case 3:Nk=li&1;
 switch(la){
-case 0:if(Kk)goto L70;
+case 0:if(Nk)goto L64;
 break;
-case 1:if(Kk)goto L70;
+case 1:if(Nk)goto L64;
 F=0;
 goto L1;
-case 2:if(Kk){
+case 2:if(Nk){
 F=0;
 goto L1;}
 break;
@@ -128459,88 +128421,88 @@ case 3:case 4:F=0;
 goto L1;
 default:NEVER;
 }
-Lk=r8(a+8);
-if(r8(a+32)>Lk)Mk=Lk;
+Ok=r8(a+8);
+if(r8(a+32)>Ok)Pk=Ok;
 else{
-Nk=make_ready_8e3(a,1,16);
-if(!(Nk&1)){
+Qk=make_ready_8e3(a,1,16);
+if(!(Qk&1)){
 F=0;
 goto L1;}
-Mk=r8(a+8);}
-*(rp(a)+Mk)=60;
-w8(a+8,Mk+1);
-goto L71;
-L70:Ok=r8(a+8);
-if(r8(a+32)-Ok<3){
-Pk=make_ready_8e3(a,3,128);
-if(!(Pk&1)){
+Pk=r8(a+8);}
+*(rp(a)+Pk)=60;
+w8(a+8,Pk+1);
+goto L65;
+L64:Rk=r8(a+8);
+if(r8(a+32)-Rk<3){
+Sk=make_ready_8e3(a,3,128);
+if(!(Sk&1)){
 F=0;
 goto L1;}
-Qk=r8(a+8);}
-else Qk=Ok;
-Rk=r8(a+16);
-if(Rk-Qk<3){
-Sk=grow_amortized_68b(a,3);
-if(!Sk){
+Tk=r8(a+8);}
+else Tk=Rk;
+Uk=r8(a+16);
+if(Uk-Tk<3){
+Vk=grow_amortized_68b(a,3);
+if(!Vk){
 F=0;
 goto L1;}
-Tk=r8(a+16);
-Uk=r8(a+8);}
+Wk=r8(a+16);
+Xk=r8(a+8);}
 else{
-Tk=Rk;
-Uk=Qk;}
-Vk=Uk+3;
-Wk=rp(a);
+Wk=Uk;
+Xk=Tk;}
+Yk=Xk+3;
+Zk=rp(a);
 z16(a+8);
-Xk=Wk+(i64)Uk;
-if((u64)Xk-(u64)(u8*)t_c207<3)copy_bits_4f4((u8*)t_c207,Xk,3);
-else memcpy(Xk,(u8*)t_c207,3);
-wp(a,Wk);
-w8(a+8,Vk);
-w8(a+16,Tk);
-L71:Yk=ri&1;
-Zk=r8(a+160);
-if(r8(a+184)>Zk)al=Zk;
+al=Zk+(i64)Xk;
+if((u64)al-(u64)(u8*)t_c207<3)copy_bits_4f4((u8*)t_c207,al,3);
+else memcpy(al,(u8*)t_c207,3);
+wp(a,Zk);
+w8(a+8,Yk);
+w8(a+16,Wk);
+L65:bl=li&1;
+cl=r8(a+160);
+if(r8(a+184)>cl)dl=cl;
 else{
-bl=make_ready_e3c(a+152);
-if(!(bl&1)){
+el=make_ready_e3c(a+152);
+if(!(el&1)){
 F=0;
 goto L1;}
-al=r8(a+160);}
-cl=rp(a+152)+(al<<5);
-*cl=4;
-cl[1]=0;
-x8(cl+8,si);
-x8(cl+16,ma);
-cl[24]=Yk;
-w8(a+160,al+1);
+dl=r8(a+160);}
+fl=rp(a+152)+(dl<<5);
+*fl=4;
+fl[1]=0;
+x8(fl+8,mi);
+x8(fl+16,ma);
+fl[24]=bl;
+w8(a+160,dl+1);
 sa=0;
 ta=0;
 ua=1;
 va=3;
 goto L4;
 case 4:switch(la){
-case 0:case 2:case 3:dl=ui&1;
-if(r8(a+184)>ni){
-el=pi;
-fl=oi;
-gl=mi;}
+case 0:case 2:case 3:gl=oi&1;
+if(r8(a+184)>hi){
+hl=ji;
+il=ii;
+jl=gi;}
 else{
-hl=make_ready_e3c(a+152);
-if(!(hl&1)){
+kl=make_ready_e3c(a+152);
+if(!(kl&1)){
 F=0;
 goto L1;}
-il=r8(a+160);
-el=il<<5;
-fl=rp(a+152);
-gl=il+1;}
-jl=fl+el;
-*jl=4;
-jl[1]=0;
-x8(jl+8,si);
-x8(jl+16,ti);
-jl[24]=dl;
-w8(a+160,gl);
+ll=r8(a+160);
+hl=ll<<5;
+il=rp(a+152);
+jl=ll+1;}
+ml=il+hl;
+*ml=4;
+ml[1]=0;
+x8(ml+8,mi);
+x8(ml+16,ni);
+ml[24]=gl;
+w8(a+160,jl);
 sa=0;
 ta=0;
 ua=0;
@@ -128551,7 +128513,7 @@ goto L1;
 default:NEVER;
 }
 break;
-case 5:if(!li){
+case 5:if(!fi){
 F=0;
 goto L1;}
 if(!(a[80]&1)){
@@ -128561,64 +128523,64 @@ memcpy(f,a,40);
 memcpy(a,a+40,40);
 memcpy(a+40,f,40);
 a[80]=0;
-kl=r8(a+8);
-if(r8(a+32)>kl)ll=kl;
+nl=r8(a+8);
+if(r8(a+32)>nl)ol=nl;
 else{
-ml=make_ready_8e3(a,1,16);
-if(!(ml&1)){
-F=0;
-goto L1;}
-ll=r8(a+8);}
-*(rp(a)+ll)=60;
-w8(a+8,ll+1);
-nl=r8(a+160);
-if(r8(a+184)>nl)ol=nl;
-else{
-pl=make_ready_e3c(a+152);
+pl=make_ready_8e3(a,1,16);
 if(!(pl&1)){
 F=0;
 goto L1;}
-ol=r8(a+160);}
-ql=rp(a+152)+(ol<<5);
-*ql=9;
-ql[1]=0;
-x8(ql+8,si);
-x8(ql+16,kl);
-ql[24]=2;
-w8(a+160,ol+1);
+ol=r8(a+8);}
+*(rp(a)+ol)=60;
+w8(a+8,ol+1);
+ql=r8(a+160);
+if(r8(a+184)>ql)rl=ql;
+else{
+sl=make_ready_e3c(a+152);
+if(!(sl&1)){
+F=0;
+goto L1;}
+rl=r8(a+160);}
+tl=rp(a+152)+(rl<<5);
+*tl=9;
+tl[1]=0;
+x8(tl+8,mi);
+x8(tl+16,nl);
+tl[24]=2;
+w8(a+160,rl+1);
 sa=0;
 ta=0;
 ua=0;
 va=1;
 goto L4;
-case 9:switch(ui){
+case 9:switch(oi){
 case 0:switch(la){
-case 0:case 2:case 3:if(r8(a+136)<=si){
+case 0:case 2:case 3:if(r8(a+136)<=mi){
 F=0;
 goto L1;}
-rl=r8(a+96);
-if(rl>65534){
+ul=r8(a+96);
+if(ul>65534){
 F=0;
 goto L1;}
-sl=r8(a+8);
-tl=a[80];
-if(r8(a+120)>rl)ul=rl;
+vl=r8(a+8);
+wl=a[80];
+if(r8(a+120)>ul)xl=ul;
 else{
-vl=make_ready_b73(a+88);
-if(!(vl&1)){
+yl=make_ready_b73(a+88);
+if(!(yl&1)){
 F=0;
 goto L1;}
-ul=r8(a+96);}
-wl=rp(a+88)+ul*24;
-x8(wl,ti);
-x8(wl+8,sl);
-wl[16]=3;
-wl[17]=tl;
-z6(wl+18);
-w8(a+96,ul+1);
-w2(rp(a+128)+(i64)(si<<1),(u16)rl+1);
+xl=r8(a+96);}
+zl=rp(a+88)+xl*24;
+x8(zl,ni);
+x8(zl+8,vl);
+zl[16]=3;
+zl[17]=wl;
+z6(zl+18);
+w8(a+96,xl+1);
+w2(rp(a+128)+(i64)(mi<<1),(u16)ul+1);
 sa=3;
-ta=ti;
+ta=ni;
 ua=0;
 va=2;
 goto L4;
@@ -128628,42 +128590,42 @@ default:NEVER;
 }
 break;
 case 1:switch(la){
-case 0:case 2:case 3:xl=r8(a+8);
-if(r8(a+32)>xl)yl=xl;
+case 0:case 2:case 3:Al=r8(a+8);
+if(r8(a+32)>Al)Bl=Al;
 else{
-zl=make_ready_8e3(a,1,16);
-if(!(zl&1)){
+Cl=make_ready_8e3(a,1,16);
+if(!(Cl&1)){
 F=0;
 goto L1;}
-yl=r8(a+8);}
-*(rp(a)+yl)=93;
-Al=yl+1;
-w8(a+8,Al);
-if(r8(a+136)<=si){
+Bl=r8(a+8);}
+*(rp(a)+Bl)=93;
+Dl=Bl+1;
+w8(a+8,Dl);
+if(r8(a+136)<=mi){
 F=0;
 goto L1;}
-Bl=r8(a+96);
-if(Bl>65534){
+El=r8(a+96);
+if(El>65534){
 F=0;
 goto L1;}
-Cl=a[80];
-if(r8(a+120)>Bl)Dl=Bl;
+Fl=a[80];
+if(r8(a+120)>El)Gl=El;
 else{
-El=make_ready_b73(a+88);
-if(!(El&1)){
+Hl=make_ready_b73(a+88);
+if(!(Hl&1)){
 F=0;
 goto L1;}
-Dl=r8(a+96);}
-Fl=rp(a+88)+Dl*24;
-x8(Fl,ti);
-x8(Fl+8,Al);
-Fl[16]=3;
-Fl[17]=Cl;
-z6(Fl+18);
-w8(a+96,Dl+1);
-w2(rp(a+128)+(i64)(si<<1),(u16)Bl+1);
+Gl=r8(a+96);}
+Il=rp(a+88)+Gl*24;
+x8(Il,ni);
+x8(Il+8,Dl);
+Il[16]=3;
+Il[17]=Fl;
+z6(Il+18);
+w8(a+96,Gl+1);
+w2(rp(a+128)+(i64)(mi<<1),(u16)El+1);
 sa=3;
-ta=ti;
+ta=ni;
 ua=0;
 va=2;
 goto L4;
@@ -128673,42 +128635,42 @@ default:NEVER;
 }
 break;
 case 2:switch(la){
-case 0:case 2:case 3:Gl=r8(a+8);
-if(r8(a+32)>Gl)Hl=Gl;
+case 0:case 2:case 3:Jl=r8(a+8);
+if(r8(a+32)>Jl)Kl=Jl;
 else{
-Il=make_ready_8e3(a,1,16);
-if(!(Il&1)){
+Ll=make_ready_8e3(a,1,16);
+if(!(Ll&1)){
 F=0;
 goto L1;}
-Hl=r8(a+8);}
-*(rp(a)+Hl)=62;
-Jl=Hl+1;
-w8(a+8,Jl);
-if(r8(a+136)<=si){
+Kl=r8(a+8);}
+*(rp(a)+Kl)=62;
+Ml=Kl+1;
+w8(a+8,Ml);
+if(r8(a+136)<=mi){
 F=0;
 goto L1;}
-Kl=r8(a+96);
-if(Kl>65534){
+Nl=r8(a+96);
+if(Nl>65534){
 F=0;
 goto L1;}
-Ll=a[80];
-if(r8(a+120)>Kl)Ml=Kl;
+Ol=a[80];
+if(r8(a+120)>Nl)Pl=Nl;
 else{
-Nl=make_ready_b73(a+88);
-if(!(Nl&1)){
+Ql=make_ready_b73(a+88);
+if(!(Ql&1)){
 F=0;
 goto L1;}
-Ml=r8(a+96);}
-Ol=rp(a+88)+Ml*24;
-x8(Ol,ti);
-x8(Ol+8,Jl);
-Ol[16]=0;
-Ol[17]=Ll;
-z6(Ol+18);
-w8(a+96,Ml+1);
-w2(rp(a+128)+(i64)(si<<1),(u16)Kl+1);
+Pl=r8(a+96);}
+Rl=rp(a+88)+Pl*24;
+x8(Rl,ni);
+x8(Rl+8,Ml);
+Rl[16]=0;
+Rl[17]=Ol;
+z6(Rl+18);
+w8(a+96,Pl+1);
+w2(rp(a+128)+(i64)(mi<<1),(u16)Nl+1);
 sa=0;
-ta=ti;
+ta=ni;
 ua=0;
 va=2;
 goto L4;
@@ -128721,96 +128683,96 @@ default:NEVER;
 }
 break;
 case 13:switch(la){
-case 0:case 2:Pl=r8(a+192);
-if(Pl<c){
-if(*(b+Pl)==69){
-Ql=Pl+1;
-if(Ql>=c){
+case 0:case 2:Sl=r8(a+192);
+if(Sl<c){
+if(*(b+Sl)==69){
+Tl=Sl+1;
+if(Tl>=c){
 F=0;
 goto L1;}
-if(*(b+Ql)!=76){
+if(*(b+Tl)!=76){
 F=0;
 goto L1;}
-Rl=Pl+2;
-if(Rl>=c){
+Ul=Sl+2;
+if(Ul>=c){
 F=0;
 goto L1;}
-if(*(b+Rl)!=95){
+if(*(b+Ul)!=95){
 F=0;
 goto L1;}
-w8(a+192,Pl+3);
-if(r8(a+136)<=si){
+w8(a+192,Sl+3);
+if(r8(a+136)<=mi){
 F=0;
 goto L1;}
-Sl=r8(a+96);
-if(Sl>65534){
+Vl=r8(a+96);
+if(Vl>65534){
 F=0;
 goto L1;}
-Tl=r8(a+8);
-Ul=a[80];
-if(r8(a+120)>Sl)Vl=Sl;
+Wl=r8(a+8);
+Xl=a[80];
+if(r8(a+120)>Vl)Yl=Vl;
 else{
-Wl=make_ready_b73(a+88);
-if(!(Wl&1)){
-F=0;
-goto L1;}
-Vl=r8(a+96);}
-Xl=rp(a+88)+Vl*24;
-x8(Xl,ti);
-x8(Xl+8,Tl);
-Xl[16]=3;
-Xl[17]=Ul;
-z6(Xl+18);
-w8(a+96,Vl+1);
-w2(rp(a+128)+(i64)(si<<1),(u16)Sl+1);
-sa=3;
-ta=ti;
-ua=0;
-va=2;
-goto L4;}}
-Yl=r8(a+8);
-if(r8(a+32)-Yl<3){
-Zl=make_ready_8e3(a,3,128);
+Zl=make_ready_b73(a+88);
 if(!(Zl&1)){
 F=0;
 goto L1;}
-am=r8(a+8);}
-else am=Yl;
-bm=r8(a+16);
-if(bm-am<3){
-cm=grow_amortized_68b(a,3);
-if(!cm){
+Yl=r8(a+96);}
+am=rp(a+88)+Yl*24;
+x8(am,ni);
+x8(am+8,Wl);
+am[16]=3;
+am[17]=Xl;
+z6(am+18);
+w8(a+96,Yl+1);
+w2(rp(a+128)+(i64)(mi<<1),(u16)Vl+1);
+sa=3;
+ta=ni;
+ua=0;
+va=2;
+goto L4;}}
+bm=r8(a+8);
+if(r8(a+32)-bm<3){
+cm=make_ready_8e3(a,3,128);
+if(!(cm&1)){
 F=0;
 goto L1;}
-dm=r8(a+16);
-em=r8(a+8);}
+dm=r8(a+8);}
+else dm=bm;
+em=r8(a+16);
+if(em-dm<3){
+fm=grow_amortized_68b(a,3);
+if(!fm){
+F=0;
+goto L1;}
+gm=r8(a+16);
+hm=r8(a+8);}
 else{
-dm=bm;
-em=am;}
-fm=em+3;
-gm=rp(a);
+gm=em;
+hm=dm;}
+im=hm+3;
+jm=rp(a);
 z16(a+8);
-hm=gm+(i64)em;
-if((u64)hm-(u64)(u8*)t_4620<3)copy_bits_4f4((u8*)t_4620,hm,3);
-else memcpy(hm,(u8*)t_4620,3);
-wp(a,gm);
-w8(a+8,fm);
-w8(a+16,dm);
-im=r8(a+160);
-if(r8(a+184)>im)jm=im;
+km=jm+(i64)hm;
+if((u64)km-(u64)(u8*)t_4620<3)copy_bits_4f4((u8*)t_4620,km,3);
+else memcpy(km,(u8*)t_4620,3);
+wp(a,jm);
+w8(a+8,im);
+w8(a+16,gm);
+lm=r8(a+160);
+if(r8(a+184)>lm)mm=lm;
 else{
-km=make_ready_e3c(a+152);
-if(!(km&1)){
+nm=make_ready_e3c(a+152);
+if(!(nm&1)){
 F=0;
 goto L1;}
-jm=r8(a+160);}
-lm=rp(a+152)+(jm<<5);
-*lm=13;
-lm[1]=0;
-x8(lm+8,si);
-x8(lm+16,ti);
-lm[24]=0;
-w8(a+160,jm+1);
+mm=r8(a+160);}
+om=rp(a+152)+(mm<<5);
+*om=13;
+om[1]=0;
+x8(om+8,mi);
+x8(om+16,ni);
+om[24]=0;
+w8(a+160,mm+1);
 sa=0;
 ta=0;
 ua=0;
@@ -128822,85 +128784,85 @@ default:NEVER;
 }
 break;
 case 14:switch(la){
-case 0:case 2:case 3:mm=r8(a+192);
-nm=r8(a+8);
-if(r8(a+32)-nm<2){
-om=make_ready_8e3(a,2,128);
-if(!(om&1)){
+case 0:case 2:case 3:pm=r8(a+192);
+qm=r8(a+8);
+if(r8(a+32)-qm<2){
+rm=make_ready_8e3(a,2,128);
+if(!(rm&1)){
 F=0;
 goto L1;}
-pm=r8(a+8);}
-else pm=nm;
-*(rp(a)+pm)=59;
-*(rp(a)+(i64)pm+1)=32;
-qm=pm+2;
-w8(a+8,qm);
-rm=constant_at_b72(a,b,c,mm);
-if(rm.f0!=1){
+sm=r8(a+8);}
+else sm=qm;
+*(rp(a)+sm)=59;
+*(rp(a)+(i64)sm+1)=32;
+tm=sm+2;
+w8(a+8,tm);
+um=constant_at_b72(a,b,c,pm);
+if(um.f0!=1){
 F=0;
 goto L1;}
-if(r8(a+136)<=mm){
+if(r8(a+136)<=pm){
 F=0;
 goto L1;}
-sm=r8(a+96);
-if(sm>65534){
+vm=r8(a+96);
+if(vm>65534){
 F=0;
 goto L1;}
-tm=rm.f1;
-um=r8(a+8);
-vm=a[80];
-if(r8(a+120)>sm)wm=sm;
+wm=um.f1;
+xm=r8(a+8);
+ym=a[80];
+if(r8(a+120)>vm)zm=vm;
 else{
-xm=make_ready_b73(a+88);
-if(!(xm&1)){
+Am=make_ready_b73(a+88);
+if(!(Am&1)){
 F=0;
 goto L1;}
-wm=r8(a+96);}
-ym=rp(a+88)+wm*24;
-x8(ym,qm);
-x8(ym+8,um);
-ym[16]=4;
-ym[17]=vm;
-z6(ym+18);
-w8(a+96,wm+1);
-w2(rp(a+128)+(i64)(mm<<1),(u16)sm+1);
-w8(a+192,tm);
-zm=r8(a+8);
-if(r8(a+32)>zm)Am=zm;
+zm=r8(a+96);}
+Bm=rp(a+88)+zm*24;
+x8(Bm,tm);
+x8(Bm+8,xm);
+Bm[16]=4;
+Bm[17]=ym;
+z6(Bm+18);
+w8(a+96,zm+1);
+w2(rp(a+128)+(i64)(pm<<1),(u16)vm+1);
+w8(a+192,wm);
+Cm=r8(a+8);
+if(r8(a+32)>Cm)Dm=Cm;
 else{
-Bm=make_ready_8e3(a,1,16);
-if(!(Bm&1)){
+Em=make_ready_8e3(a,1,16);
+if(!(Em&1)){
 F=0;
 goto L1;}
-Am=r8(a+8);}
-*(rp(a)+Am)=93;
-Cm=Am+1;
-w8(a+8,Cm);
-if(r8(a+136)<=si){
+Dm=r8(a+8);}
+*(rp(a)+Dm)=93;
+Fm=Dm+1;
+w8(a+8,Fm);
+if(r8(a+136)<=mi){
 F=0;
 goto L1;}
-Dm=r8(a+96);
-if(Dm>65534){
+Gm=r8(a+96);
+if(Gm>65534){
 F=0;
 goto L1;}
-Em=a[80];
-if(r8(a+120)>Dm)Fm=Dm;
+Hm=a[80];
+if(r8(a+120)>Gm)Im=Gm;
 else{
-Gm=make_ready_b73(a+88);
-if(!(Gm&1)){
+Jm=make_ready_b73(a+88);
+if(!(Jm&1)){
 F=0;
 goto L1;}
-Fm=r8(a+96);}
-Hm=rp(a+88)+Fm*24;
-x8(Hm,ti);
-x8(Hm+8,Cm);
-Hm[16]=3;
-Hm[17]=Em;
-z6(Hm+18);
-w8(a+96,Fm+1);
-w2(rp(a+128)+(i64)(si<<1),(u16)Dm+1);
+Im=r8(a+96);}
+Km=rp(a+88)+Im*24;
+x8(Km,ni);
+x8(Km+8,Fm);
+Km[16]=3;
+Km[17]=Hm;
+z6(Km+18);
+w8(a+96,Im+1);
+w2(rp(a+128)+(i64)(mi<<1),(u16)Gm+1);
 sa=3;
-ta=ti;
+ta=ni;
 ua=0;
 va=2;
 goto L4;
@@ -128909,7 +128871,7 @@ goto L1;
 default:NEVER;
 }
 break;
-case 6:if(!li){
+case 6:if(!fi){
 F=0;
 goto L1;}
 if(!(a[80]&1)){
@@ -128919,146 +128881,146 @@ memcpy(e,a,40);
 memcpy(a,a+40,40);
 memcpy(a+40,e,40);
 a[80]=0;
-Im=r8(a+8);
-if(r8(a+32)>Im)Jm=Im;
+Lm=r8(a+8);
+if(r8(a+32)>Lm)Mm=Lm;
 else{
-Km=make_ready_8e3(a,1,16);
-if(!(Km&1)){
-F=0;
-goto L1;}
-Jm=r8(a+8);}
-*(rp(a)+Jm)=60;
-w8(a+8,Jm+1);
-Lm=r8(a+160);
-if(r8(a+184)>Lm)Mm=Lm;
-else{
-Nm=make_ready_e3c(a+152);
+Nm=make_ready_8e3(a,1,16);
 if(!(Nm&1)){
 F=0;
 goto L1;}
-Mm=r8(a+160);}
-Om=rp(a+152)+(Mm<<5);
-*Om=10;
-Om[1]=0;
-x8(Om+8,si);
-x8(Om+16,Im);
-Om[24]=0;
-w8(a+160,Mm+1);
+Mm=r8(a+8);}
+*(rp(a)+Mm)=60;
+w8(a+8,Mm+1);
+Om=r8(a+160);
+if(r8(a+184)>Om)Pm=Om;
+else{
+Qm=make_ready_e3c(a+152);
+if(!(Qm&1)){
+F=0;
+goto L1;}
+Pm=r8(a+160);}
+Rm=rp(a+152)+(Pm<<5);
+*Rm=10;
+Rm[1]=0;
+x8(Rm+8,mi);
+x8(Rm+16,Lm);
+Rm[24]=0;
+w8(a+160,Pm+1);
 sa=0;
 ta=0;
 ua=0;
 va=1;
 goto L4;
-case 7:if(!li){
+case 7:if(!fi){
 F=0;
 goto L1;}
-Pm=r8(a+8);
-if(r8(a+32)>Pm)Qm=Pm;
+Sm=r8(a+8);
+if(r8(a+32)>Sm)Tm=Sm;
 else{
-Rm=make_ready_8e3(a,1,16);
-if(!(Rm&1)){
-F=0;
-goto L1;}
-Qm=r8(a+8);}
-*(rp(a)+Qm)=60;
-w8(a+8,Qm+1);
-Sm=r8(a+160);
-if(r8(a+184)>Sm)Tm=Sm;
-else{
-Um=make_ready_e3c(a+152);
+Um=make_ready_8e3(a,1,16);
 if(!(Um&1)){
 F=0;
 goto L1;}
-Tm=r8(a+160);}
-Vm=rp(a+152)+(Tm<<5);
-*Vm=9;
-Vm[1]=0;
-x8(Vm+8,si);
-x8(Vm+16,Pm);
-Vm[24]=2;
-w8(a+160,Tm+1);
+Tm=r8(a+8);}
+*(rp(a)+Tm)=60;
+w8(a+8,Tm+1);
+Vm=r8(a+160);
+if(r8(a+184)>Vm)Wm=Vm;
+else{
+Xm=make_ready_e3c(a+152);
+if(!(Xm&1)){
+F=0;
+goto L1;}
+Wm=r8(a+160);}
+Ym=rp(a+152)+(Wm<<5);
+*Ym=9;
+Ym[1]=0;
+x8(Ym+8,mi);
+x8(Ym+16,Sm);
+Ym[24]=2;
+w8(a+160,Wm+1);
 sa=0;
 ta=0;
 ua=0;
 va=1;
 goto L4;
-case 8:if(!li){
+case 8:if(!fi){
 F=0;
 goto L1;}
-Wm=r8(a+8);
-if(r8(a+32)>Wm)Xm=Wm;
+Zm=r8(a+8);
+if(r8(a+32)>Zm)an=Zm;
 else{
-Ym=make_ready_8e3(a,1,16);
-if(!(Ym&1)){
-F=0;
-goto L1;}
-Xm=r8(a+8);}
-*(rp(a)+Xm)=60;
-w8(a+8,Xm+1);
-Zm=r8(a+160);
-if(r8(a+184)>Zm)an=Zm;
-else{
-bn=make_ready_e3c(a+152);
+bn=make_ready_8e3(a,1,16);
 if(!(bn&1)){
 F=0;
 goto L1;}
-an=r8(a+160);}
-cn=rp(a+152)+(an<<5);
-*cn=10;
-cn[1]=0;
-x8(cn+8,si);
-x8(cn+16,Wm);
-cn[24]=0;
-w8(a+160,an+1);
+an=r8(a+8);}
+*(rp(a)+an)=60;
+w8(a+8,an+1);
+cn=r8(a+160);
+if(r8(a+184)>cn)dn=cn;
+else{
+en=make_ready_e3c(a+152);
+if(!(en&1)){
+F=0;
+goto L1;}
+dn=r8(a+160);}
+fn=rp(a+152)+(dn<<5);
+*fn=10;
+fn[1]=0;
+x8(fn+8,mi);
+x8(fn+16,Zm);
+fn[24]=0;
+w8(a+160,dn+1);
 sa=0;
 ta=0;
 ua=0;
 va=1;
 goto L4;
 case 10:switch(la){
-case 0:case 2:case 3:dn=r8(a+8);
-if(r8(a+32)-dn<4){
-en=make_ready_8e3(a,4,128);
-if(!(en&1)){
+case 0:case 2:case 3:gn=r8(a+8);
+if(r8(a+32)-gn<4){
+hn=make_ready_8e3(a,4,128);
+if(!(hn&1)){
 F=0;
 goto L1;}
-fn=r8(a+8);}
-else fn=dn;
-gn=r8(a+16);
-if(gn-fn<4){
-hn=grow_amortized_68b(a,4);
-if(!hn){
+in=r8(a+8);}
+else in=gn;
+jn=r8(a+16);
+if(jn-in<4){
+kn=grow_amortized_68b(a,4);
+if(!kn){
 F=0;
 goto L1;}
-in=r8(a+16);
-jn=r8(a+8);}
+ln=r8(a+16);
+mn=r8(a+8);}
 else{
-in=gn;
-jn=fn;}
-kn=jn+4;
-ln=rp(a);
+ln=jn;
+mn=in;}
+nn=mn+4;
+on=rp(a);
 z16(a+8);
-mn=ln+(i64)jn;
-if((u64)mn-(u64)(u8*)t_fa21<4)copy_bits_4f4((u8*)t_fa21,mn,4);
-else x4(mn,544432416);
-wp(a,ln);
-w8(a+8,kn);
-w8(a+16,in);
-nn=r8(a+160);
-if(r8(a+184)>nn)on=nn;
+pn=on+(i64)mn;
+if((u64)pn-(u64)(u8*)t_fa21<4)copy_bits_4f4((u8*)t_fa21,pn,4);
+else x4(pn,544432416);
+wp(a,on);
+w8(a+8,nn);
+w8(a+16,ln);
+qn=r8(a+160);
+if(r8(a+184)>qn)rn=qn;
 else{
-pn=make_ready_e3c(a+152);
-if(!(pn&1)){
+sn=make_ready_e3c(a+152);
+if(!(sn&1)){
 F=0;
 goto L1;}
-on=r8(a+160);}
-qn=rp(a+152)+(on<<5);
-*qn=11;
-qn[1]=0;
-x8(qn+8,si);
-x8(qn+16,ti);
-qn[24]=0;
-w8(a+160,on+1);
+rn=r8(a+160);}
+tn=rp(a+152)+(rn<<5);
+*tn=11;
+tn[1]=0;
+x8(tn+8,mi);
+x8(tn+16,ni);
+tn[24]=0;
+w8(a+160,rn+1);
 sa=0;
 ta=0;
 ua=0;
@@ -129070,42 +129032,42 @@ default:NEVER;
 }
 break;
 case 11:switch(la){
-case 0:case 2:rn=r8(a+8);
-if(r8(a+32)>rn)sn=rn;
+case 0:case 2:un=r8(a+8);
+if(r8(a+32)>un)vn=un;
 else{
-tn=make_ready_8e3(a,1,16);
-if(!(tn&1)){
+wn=make_ready_8e3(a,1,16);
+if(!(wn&1)){
 F=0;
 goto L1;}
-sn=r8(a+8);}
-*(rp(a)+sn)=62;
-un=sn+1;
-w8(a+8,un);
-if(r8(a+136)<=si){
+vn=r8(a+8);}
+*(rp(a)+vn)=62;
+xn=vn+1;
+w8(a+8,xn);
+if(r8(a+136)<=mi){
 F=0;
 goto L1;}
-vn=r8(a+96);
-if(vn>65534){
+yn=r8(a+96);
+if(yn>65534){
 F=0;
 goto L1;}
-wn=a[80];
-if(r8(a+120)>vn)xn=vn;
+zn=a[80];
+if(r8(a+120)>yn)An=yn;
 else{
-yn=make_ready_b73(a+88);
-if(!(yn&1)){
+Bn=make_ready_b73(a+88);
+if(!(Bn&1)){
 F=0;
 goto L1;}
-xn=r8(a+96);}
-zn=rp(a+88)+xn*24;
-x8(zn,ti);
-x8(zn+8,un);
-zn[16]=0;
-zn[17]=wn;
-z6(zn+18);
-w8(a+96,xn+1);
-w2(rp(a+128)+(i64)(si<<1),(u16)vn+1);
+An=r8(a+96);}
+Cn=rp(a+88)+An*24;
+x8(Cn,ni);
+x8(Cn+8,xn);
+Cn[16]=0;
+Cn[17]=zn;
+z6(Cn+18);
+w8(a+96,An+1);
+w2(rp(a+128)+(i64)(mi<<1),(u16)yn+1);
 sa=0;
-ta=ti;
+ta=ni;
 ua=0;
 va=2;
 goto L4;
@@ -129116,16 +129078,16 @@ default:NEVER;
 break;
 default:NEVER;
 }
-if(Ai!=1){
+if(ui!=1){
 F=0;
 goto L1;}
-sa=Ei;
-ta=Di;
-ua=Ci;
-va=Bi;
-L4:An=N+1;
-if(An!=M){
-N=An;
+sa=yi;
+ta=xi;
+ua=wi;
+va=vi;
+L4:Dn=N+1;
+if(Dn!=M){
+N=Dn;
 O=sa;
 P=ta;
 Q=ua;

@@ -28,43 +28,44 @@ LONG = b"_Z" + b"9" * 65_535
 
 
 def text(words, mangling, kind=None, parts=""):
-    """What an object says of a text; a part is its role, start and length, as `base:0+1`."""
+    """What an object says of a text; a part is its role, start, length and the bytes that spell it, as `base:0+1@2-4`."""
     if kind is None:
         return {"text": words, **mangling}
-    listed = [re.fullmatch(r"(\w+):(\d+)\+(\d+)", part).groups() for part in parts.split()]
-    return {"text": words, **mangling, "kind": kind, "parts": [{"role": role, "start": int(start), "length": int(length)} for role, start, length in listed]}
+    listed = [re.fullmatch(r"(\w+):(\d+)\+(\d+)@(\d+)-(\d+)", part).groups() for part in parts.split()]
+    numbers = ("start", "length", "from", "to")
+    return {"text": words, **mangling, "kind": kind, "parts": [{"role": role, **dict(zip(numbers, map(int, these)))} for role, *these in listed]}
 
 
 def error(reason, at=None):
     return {"error": reason} if at is None else {"error": reason, "at": at}
 
 
-F = "base:0+1 parameters:1+2"
-FOO_BAR = "scope:0+3 crate:0+3 base:5+3"
-DEMO_MAIN = "scope:0+4 crate:0+4 base:6+4"
-LITERAL = "base:0+13 parameters:13+13 parameter:14+11"
+F = "base:0+1@2-4 parameters:1+2@4-5"
+FOO_BAR = "scope:0+3@4-9 crate:0+3@4-9 base:5+3@9-13"
+DEMO_MAIN = "scope:0+4@3-8 crate:0+4@3-8 base:6+4@8-13"
+LITERAL = "base:0+13@2-7 parameters:13+13@7-10 parameter:14+11@7-10"
 
 # options, names and what each one's object has to say beside the name
 NAMES = [
     ([], b"_Z1fv", text("f()", ITANIUM, "function", F)),
-    ([], b"__Z1fv", text("f()", ITANIUM, "function", F)),
+    ([], b"__Z1fv", text("f()", ITANIUM, "function", "base:0+1@3-5 parameters:1+2@5-6")),
     ([], b"_RNvC3foo3bar", text("foo::bar", V0, "value", FOO_BAR)),
-    ([], b"__RNvC3foo3bar", text("foo::bar", V0, "value", FOO_BAR)),
-    ([], b"_RINvC3foo3barRL_hE", text("foo::bar::<&u8>", V0, "value", FOO_BAR + " generic_arguments:10+5 generic_argument:11+3")),
-    ([], b"_RNvXC3fooNtC3foo1ANtC3foo1B3baz", text("<foo::A as foo::B>::baz", V0, "value", "scope:0+18 impl:0+18 self_type:1+6 trait:11+6 base:20+3")),
-    ([], LEGACY_NAME, text("demo::main", LEGACY, "value", DEMO_MAIN)),
-    ([], LEGACY_NAME + b".llvm.123", text("demo::main (.llvm.123)", LEGACY, "value", DEMO_MAIN + " suffix:12+9")),
-    (["-s", "gnu-v3"], LEGACY_NAME, text(CPP_LEGACY, ITANIUM, "variable", "scope:0+10 base:12+17")),
-    (["-s", "rust"], LEGACY_NAME, text("demo::main", LEGACY, "value", DEMO_MAIN)),
+    ([], b"__RNvC3foo3bar", text("foo::bar", V0, "value", "scope:0+3@5-10 crate:0+3@5-10 base:5+3@10-14")),
+    ([], b"_RINvC3foo3barRL_hE", text("foo::bar::<&u8>", V0, "value", "scope:0+3@5-10 crate:0+3@5-10 base:5+3@10-14 generic_arguments:10+5@14-18 generic_argument:11+3@14-18")),
+    ([], b"_RNvXC3fooNtC3foo1ANtC3foo1B3baz", text("<foo::A as foo::B>::baz", V0, "value", "scope:0+18@4-28 impl:0+18@4-28 self_type:1+6@10-19 trait:11+6@19-28 base:20+3@28-32")),
+    ([], LEGACY_NAME, text("demo::main", LEGACY, "value", DEMO_MAIN + " hash:10+0@13-32")),
+    ([], LEGACY_NAME + b".llvm.123", text("demo::main (.llvm.123)", LEGACY, "value", DEMO_MAIN + " suffix:12+9@33-42 hash:22+0@13-32")),
+    (["-s", "gnu-v3"], LEGACY_NAME, text(CPP_LEGACY, ITANIUM, "variable", "scope:0+10@3-13 base:12+17@13-32")),
+    (["-s", "rust"], LEGACY_NAME, text("demo::main", LEGACY, "value", DEMO_MAIN + " hash:10+0@13-32")),
     (["-s", "rust"], b"_Z1fv", error("malformed", 0)),
     ([], b"_Zli2_sPKc", text('operator"" _s(char const*)', ITANIUM, "literal_operator", LITERAL)),
     (["--escape"], b"_Zli2_sPKc", text('operator"" _s(char const*)', ITANIUM, "literal_operator", LITERAL)),
     (["--color=always"], b"_Z1fv", text("f()", ITANIUM, "function", F)),
-    ([], "_Z7größei".encode(), text("größe(int)", ITANIUM, "function", "base:0+7 parameters:7+5 parameter:8+3")),
-    (["--no-params"], b"_ZNK1A1fEv", text("A::f", ITANIUM, "function", "scope:0+1 base:3+1")),
-    (["--brief"], b"_ZN1A1fIiEEvT_", text("void A::f(int)", ITANIUM, "function", "return_type:0+4 scope:5+1 base:8+1 parameters:9+5 parameter:10+3")),
-    ([], b"_ZN1A1fIiEEvT_", text("void A::f<int>(int)", ITANIUM, "function", "return_type:0+4 scope:5+1 base:8+1 generic_arguments:9+5 generic_argument:10+3 parameters:14+5 parameter:15+3")),
-    ([], b"_ZTV1A", text("vtable for A", ITANIUM, "vtable", "special:0+10 object:11+1")),
+    ([], "_Z7größei".encode(), text("größe(int)", ITANIUM, "function", "base:0+7@2-10 parameters:7+5@10-11 parameter:8+3@10-11")),
+    (["--no-params"], b"_ZNK1A1fEv", text("A::f", ITANIUM, "function", "scope:0+1@4-6 base:3+1@6-8")),
+    (["--brief"], b"_ZN1A1fIiEEvT_", text("void A::f(int)", ITANIUM, "function", "return_type:0+4@11-12 scope:5+1@3-5 base:8+1@5-7 parameters:9+5@12-14 parameter:10+3@12-14")),
+    ([], b"_ZN1A1fIiEEvT_", text("void A::f<int>(int)", ITANIUM, "function", "return_type:0+4@11-12 scope:5+1@3-5 base:8+1@5-7 generic_arguments:9+5@7-10 generic_argument:10+3@8-9 parameters:14+5@12-14 parameter:15+3@12-14")),
+    ([], b"_ZTV1A", text("vtable for A", ITANIUM, "vtable", "special:0+10@2-4 object:11+1@4-6")),
     (["--short"], b"_Z1fv", text("f()", ITANIUM)),
     (["--spelling=gnu"], b"_Z1fv", text("f()", ITANIUM)),
     (["--types"], b"PKc", text("char const*", ITANIUM)),
@@ -82,7 +83,7 @@ NAMES = [
     ([], b"_Z1fv\n", error("malformed", 5)),
     ([], b"\x01\x1b\x7f\t\r\n", error("not-a-symbol")),
     ([], b"\xff\xfe", error("not-a-symbol")),
-    ([], b"_Z1\xff", text("\ufffd", ITANIUM, "variable", "base:0+1")),
+    ([], b"_Z1\xff", text("\ufffd", ITANIUM, "variable", "base:0+1@2-4")),
     ([], b"_Z1fv\xff", error("malformed", 5)),
     ([], b"\xe2\x82", error("not-a-symbol")),
     ([], b"\xed\xa0\x80", error("not-a-symbol")),
@@ -97,9 +98,9 @@ OBJECTS = [
     (1, "_Z1fY", error("malformed", 4)),
     (2, "_Zli2_sPKc", text('operator"" _s(char const*)', ITANIUM, "literal_operator", LITERAL)),
     (4, "_Z1fv", text("f()", ITANIUM, "function", F)),
-    (4, "_ZN1A1fEv", text("A::f()", ITANIUM, "function", "scope:0+1 base:3+1 parameters:4+2")),
+    (4, "_ZN1A1fEv", text("A::f()", ITANIUM, "function", "scope:0+1@3-5 base:3+1@5-7 parameters:4+2@8-9")),
     (4, "_RNvC3foo3bar", text("foo::bar", V0, "value", FOO_BAR)),
-    (4, "_ZL5café", text("café", ITANIUM, "variable", "base:0+5")),
+    (4, "_ZL5café", text("café", ITANIUM, "variable", "base:0+5@2-9")),
     (5, "_Z\ufffd", error("malformed", 2)),
 ]
 
@@ -196,11 +197,13 @@ class Checks:
         """A name's object has details exactly where it has a text, and the parts are in order within it."""
         self.require(("kind" in found, "parts" in found) == ("text" in found, "text" in found), "no details: %r" % found)
         size = len(found.get("text", "").encode())
+        spelled = len(found["symbol"].encode())
         before = []
         for part in found.get("parts", []):
             start, end = part["start"], part["start"] + part["length"]
             # a byte that isn't UTF-8 is three in the string
             self.require(0 <= start <= end <= size, "no stretch: %r" % found)
+            self.require(0 <= part["from"] <= part["to"] <= spelled, "no bytes of the name: %r" % found)
             self.require(all(other <= start and (end <= last or last <= start) for other, last in before), "out of order: %r" % found)
             before.append((start, end))
 

@@ -5,8 +5,8 @@
 
 ROWS are those of `crates/check_rows/stdin`, of which the rows `parts` are taken. Each FILE has symbols, one a line. For each
 name the text is the one without parts; the parts are slices of it in the order of their starts, and of two, one is within the other, or
-they are apart. A function's text is put together from its outermost parts: what is between them is a blank, `::`, or the brackets of a
-suffix. SYMDEMANGLE_LIBRARY names the library where the package brings none. The status is 1 where something comes out otherwise.
+they are apart. The bytes that spell a part are in the name, and within those that spell the part around it. A function's text is put
+together from its outermost parts: what is between them is a blank, `::`, or the brackets of a suffix. SYMDEMANGLE_LIBRARY names the library where the package brings none. The status is 1 where something comes out otherwise.
 """
 
 import re
@@ -16,6 +16,8 @@ import symdemangle
 
 FUNCTIONS = {"function", "constructor", "destructor", "operator", "conversion", "literal_operator", "lambda"}
 BETWEEN = {b"", b" ", b"::", b" (", b")"}
+# parts that no text has
+HIDDEN = {"hash", "instantiating_crate"}
 MOST_FAULTS = 20
 
 
@@ -35,7 +37,7 @@ def rows_in(path):
 
 def spelled(parts):
     """Parts as a row has them."""
-    return " ".join(f"{part.role}:{part.start}+{part.length}" for part in parts)
+    return " ".join(f"{part.role}:{part.start}+{part.length}@{part.begin}-{part.end}" for part in parts)
 
 
 def end_of(part):
@@ -51,19 +53,25 @@ def outermost(parts):
     return found
 
 
-def misplaced(text, parts):
-    """Why parts of a text aren't placed as they have to be, or None."""
+def misplaced(name, text, parts):
+    """Why parts of a name's text aren't placed as they have to be, or None."""
     around = []
     for before, part in zip([None, *parts], parts):
         if end_of(part) > len(text):
             return "a part isn't in the text"
+        if not 0 <= part.begin <= part.end <= len(name):
+            return "what spells a part isn't in the name"
         if before and before.start > part.start:
             return "the starts go down"
-        while around and around[-1] <= part.start:
+        if part.role in HIDDEN and (part.length or part.start < len(text)) or before and before.role in HIDDEN and part.role not in HIDDEN:
+            return "a part that no text has is in it, or isn't last"
+        while around and end_of(around[-1]) <= part.start:
             around.pop()
-        if around and end_of(part) > around[-1]:
+        if around and end_of(part) > end_of(around[-1]):
             return "a part ends after the one that it begins in"
-        around.append(end_of(part))
+        if around and not around[-1].begin <= part.begin <= part.end <= around[-1].end:
+            return "a part is spelled outside of what spells the one that it is in"
+        around.append(part)
     return None
 
 
@@ -89,7 +97,7 @@ def fault_of(name):
     if found.text != symdemangle.try_demangle(name):
         return f"has the texts {found.text} and {symdemangle.try_demangle(name)}"
     text = found.text.encode("utf-8", "surrogateescape")
-    fault = misplaced(text, found.parts)
+    fault = misplaced(name if isinstance(name, bytes) else name.encode("utf-8", "surrogateescape"), text, found.parts)
     if fault:
         return f"{fault}: {spelled(found.parts)}"
     # what initializes a module has a special name

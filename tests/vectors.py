@@ -259,7 +259,7 @@ def check_parts(program, word, kind, text, parts):
         raise Skipped("a row of the program demangle, which wasn't given")
     out, err, status = program.other.run(["--json", unescaped(word).decode()])
     found = json.loads(out) if status == 0 and not err else {}
-    spelled = " ".join("{role}:{start}+{length}".format(**part) for part in found.get("parts", ()))
+    spelled = " ".join("{role}:{start}+{length}@{from}-{to}".format(**part) for part in found.get("parts", ()))
     wanted = (kind.decode(), unescaped(text).decode("utf-8", "replace"), parts.decode())
     return [] if (found.get("kind"), found.get("text"), spelled) == wanted else [f"{(out, err, status)!r}"]
 

@@ -1,5 +1,5 @@
 #!/usr/bin/env python3
-"""What nothing names: definitions and lemmas of specs/ and proofs/ that nothing else mentions, and names of crates.txt that no
+"""What nothing names: definitions and lemmas of specs/ and proofs/ that nothing else mentions (a re-export does not count), and names of crates.txt that no
 file of their crate has. Names what it finds, and ends with status 1 then.
 usage: unreached.py [ROOT]
 Names are compared as words, so a definition that shares its name with another that is used isn't found. Rows and limits are left out: they
@@ -14,7 +14,7 @@ WORD = re.compile(r"[^\s(){}\[\],;.|λ↦=\"]+")
 LEFT_OUT = re.compile(r"(Answers|Invariants|Proof|Lib)\.antt$|(Rows?|Limits|Presses|KindNumbers)\.antt$|/Rows/")
 
 def words(text):
-    return collections.Counter(w for line in text.split("\n") if not line.lstrip().startswith(("--", "//")) for w in WORD.findall(line))
+    return collections.Counter(w for line in text.split("\n") if not line.lstrip().startswith(("--", "//", "pub use ", "unfoldable pub use ")) for w in WORD.findall(line))
 
 def paragraph(text, start):
     """the declaration that begins here: up to a blank line before what isn't indented"""

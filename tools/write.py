@@ -24,6 +24,7 @@ import rust_grammar
 import rust_productions
 import short_names
 import short_ways
+import spelled
 import trees
 from files import read, sources
 
@@ -39,6 +40,7 @@ WHOLE = {
     "tools/rust_productions.py": lambda crates: rust_productions.whole_files(),
     "tools/short_names.py": short_names.files,
     "tools/part_words.py": part_words.files,
+    "tools/spelled.py": spelled.files,
     "tools/file_table.py": file_table.files,
     "tools/short_ways.py": short_ways.files,
 }

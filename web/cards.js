@@ -1,6 +1,7 @@
 // A card for each name: its text, or why it is refused and where; on request what reading it took, and its pressed spelling.
 import { addressOf } from "./address.js";
 import { GREATEST_LIMIT, MOST, STATUS } from "./library.js";
+import { textOf } from "./pieces.js";
 import { $, copy, cut, element, many, n, visible } from "./show.js";
 
 const NEAR = 600; // characters around a marked place that are shown
@@ -77,30 +78,99 @@ export function card(name, number, options, { asksDetails, changes }) {
 /** Whether a name that stands alone shows its details at once. */
 export const opensAtOnce = (name) => name.length < OPEN_AT_ONCE;
 
-const inWords = (word) => word.replaceAll("_", " ");
+/** A part in a few words: what it is, its text, and which bytes of the symbol spell it. */
+const inWords = ({ called, text, from, to }) => `${called}: ${text ? cut(text, NEAR) : "not in the text"}, bytes ${n(from)} to ${n(to)}`;
 
-/** A piece of a text, with an entry of the list for each part: what is pointed at or has the focus in one is lit in the other. */
-function shownPiece(piece, list) {
+/** The same beside the text, where the part is lit. */
+const beside = ({ called, text, from, to }) => `${called}: bytes ${n(from)} to ${n(to)}${text ? "" : ", not in the text"}`;
+
+/** A piece of a text; `spans` gets the element of each part, by its number. */
+function shownPiece(piece, spans) {
     if (typeof piece === "string") return visible(piece);
-    const entry = element("li", "", element("span", "role", inWords(piece.role)));
-    list.append(entry);
-    const span = element("span", `part ${piece.role}`, ...piece.inside.map((it) => shownPiece(it, list)));
-    entry.append(" ", element("code", "", span.textContent));
-    entry.tabIndex = 0;
-    const lights = (isLit) => { for (const it of [span, entry]) it.classList.toggle("lit", isLit); };
-    for (const [event, isLit] of [["pointerenter", true], ["focus", true], ["pointerleave", false], ["blur", false]]) entry.addEventListener(event, () => lights(isLit));
-    span.addEventListener("pointerover", (event) => { event.stopPropagation(); lights(true); });
-    span.addEventListener("pointerout", () => lights(false));
+    const span = element("span", `part ${piece.role}`, ...piece.inside.map((it) => shownPiece(it, spans)));
+    span.dataset.part = piece.number;
+    spans[piece.number] = span;
     return span;
 }
 
-/** Tells the parts of a card's text apart, and lists them. */
-export function showParts(card, { kind, pieces }) {
-    const list = element("ul");
-    card.querySelector(".said").replaceChildren(...pieces.map((it) => shownPiece(it, list)));
-    const place = card.querySelector(".parts");
-    place.replaceChildren(element("p", "", "What it names: ", element("strong", "", inWords(kind))), list);
-    place.hidden = false;
+/** A stretch of a symbol, which spells a part or none. */
+function shownStretch({ text, part }, parts) {
+    if (part === undefined) return element("span", "stretch", visible(text));
+    const span = element("span", `stretch ${parts[part].role}`, visible(text));
+    span.dataset.part = part;
+    return span;
+}
+
+/** An entry of the list of parts. */
+function shownEntry(part, number) {
+    const entry = element("li", "", element("span", "role", part.called), " ", element("code", "", part.text ? cut(part.text, NEAR) : "–"), " ");
+    entry.append(element("span", "bytes", `${n(part.from)}–${n(part.to)} `, element("code", "", cut(part.spelled, NEAR))));
+    entry.dataset.part = number;
+    entry.tabIndex = number ? -1 : 0;
+    entry.setAttribute("role", "option");
+    entry.setAttribute("aria-label", inWords(part));
+    return entry;
+}
+
+const STEPS = { ArrowDown: 1, ArrowRight: 1, ArrowUp: -1, ArrowLeft: -1, Home: -Infinity, End: Infinity };
+
+/** Tells the parts of a card's text apart, with the stretches of its symbol that spell them, and lists them; where the text is a short one, the
+ *  full text is below it, and has the parts. A part that is pointed at, chosen or has the focus in one of the three is lit in all. */
+export function showParts(card, { kind, parts, pieces, stretches }) {
+    const spans = [];
+    const of = (css) => card.querySelector(css);
+    const [said, symbol, place] = [of(".said"), of(".symbol"), of(".parts")];
+    const isShort = said.textContent !== textOf(pieces);
+    const words = isShort ? of(".full") : said;
+    words.replaceChildren(...pieces.map((it) => shownPiece(it, spans)));
+    words.hidden = false;
+    const cells = stretches.map((it) => shownStretch(it, parts));
+    symbol.replaceChildren(...cells);
+    const entries = parts.map(shownEntry);
+    const list = element("ul", "", ...entries);
+    list.setAttribute("role", "listbox");
+    list.setAttribute("aria-label", "Parts of the text");
+    place.replaceChildren(element("p", "", "What it names: ", element("strong", "", kind.replaceAll("_", " "))), list);
+    place.hidden = of(".told").hidden = false;
+
+    let chosen; // the part that is lit where none is pointed at
+    const lights = (number) => {
+        const { from, to } = parts[number] ?? { from: 0, to: 0 };
+        for (const it of [...spans, ...entries]) it?.classList.toggle("lit", Number(it.dataset.part) === number);
+        for (const [i, it] of cells.entries()) it.classList.toggle("lit", from <= stretches[i].from && stretches[i].to <= to);
+        of(".told").textContent = number === undefined ? "" : beside(parts[number]);
+    };
+    const chooses = (number) => {
+        chosen = number;
+        for (const [i, it] of entries.entries()) {
+            it.tabIndex = i === (number ?? 0) ? 0 : -1;
+            it.setAttribute("aria-selected", i === number);
+        }
+        lights(number);
+    };
+    const partAt = ({ target }) => {
+        const it = target.closest("[data-part]");
+        return it ? Number(it.dataset.part) : undefined;
+    };
+    for (const area of [words, symbol, list]) {
+        area.addEventListener("pointerover", (event) => lights(partAt(event) ?? chosen));
+        area.addEventListener("pointerleave", () => lights(chosen));
+        area.addEventListener("click", (event) => {
+            const number = partAt(event);
+            chooses(area !== list && number === chosen ? undefined : number);
+            if (area !== list) of(".spoken").textContent = chosen === undefined ? "" : inWords(parts[chosen]);
+        });
+    }
+    list.addEventListener("focusin", (event) => chooses(partAt(event)));
+    list.addEventListener("focusout", ({ relatedTarget }) => { if (!list.contains(relatedTarget)) chooses(); });
+    list.addEventListener("keydown", (event) => {
+        if (event.key === "Escape") return chooses();
+        const step = STEPS[event.key];
+        if (!step) return;
+        event.preventDefault();
+        entries[Math.min(entries.length - 1, Math.max(0, partAt(event) + step))].focus();
+    });
+    chooses();
 }
 
 /** Puts the counts and the pressed spelling in their place. */

@@ -22,7 +22,7 @@ const MOST_BLOCK = 1 << 28;
 const MOST_BUFFER = 1 << 26;
 const SIZE_OF_RESULT = 32; // a name's; a text's has 16
 const SIZE_OF_FIGURES = 32; // a tally or counts
-const SIZE_OF_PART = 12;
+const SIZE_OF_PART = 20;
 const MOST_PARTS = 1 << 20;
 const up = (count, to) => Math.ceil(count / to) * to;
 
@@ -104,7 +104,8 @@ export class Library {
             calls.symdemangle_text(at.bytes, at.length, limit, flags, at.buffer, at.capacity, at.result)));
     }
 
-    /** The text of a name, with what the name is and the parts of its text: the role of each, and the bytes of the text that it is. */
+    /** The text of a name, with what the name is and the parts of its text: the role of each, the bytes of the text that it is, and those of the
+     *  name that spell it. */
     parts(name, limit, flags) {
         const answer = this.#run(name, (calls, at) => calls.symdemangle_parts(
             at.bytes, at.length, limit, flags, at.buffer, at.capacity, at.parts, at.partCapacity, at.result), true);
@@ -112,8 +113,9 @@ export class Library {
         if (status !== STATUS.OK) return { status, offset: view?.getUint32(result + 16, true) };
         const kind = this.#word("kind", view.getUint32(result + 24, true));
         const parts = Array.from({ length: count }, (_, number) => {
-            const [role, start, length] = [0, 4, 8].map((i) => view.getUint32(answer.parts + number * SIZE_OF_PART + i, true));
-            return { role: this.#word("role", role), start, length };
+            const at = answer.parts + number * SIZE_OF_PART;
+            const [role, start, length, from, to] = [0, 4, 8, 12, 16].map((i) => view.getUint32(at + i, true));
+            return { role: this.#word("role", role), start, length, from, to };
         });
         return { ...this.#bytes(answer), kind, parts };
     }

@@ -231,13 +231,13 @@ function showNames(most) {
     $("more").textContent = `Show ${n(Math.min(left, MORE_NAMES))} more of ${n(left)}`;
 }
 
-/** Asks for the parts of the texts of names; a short text has none. */
+/** Asks for the parts of the full texts of names; a short text has none of its own. */
 function asksParts(numbers) {
     const { names, options } = shown;
-    if (!numbers.length || options.short) return;
+    if (!numbers.length) return;
     const id = `parts ${Math.random()}`;
     waiting.set(id, { view: shown, numbers });
-    worker.postMessage({ kind: "parts", id, words: numbers.map((it) => names[it].word), options });
+    worker.postMessage({ kind: "parts", id, words: numbers.map((it) => names[it].word), options: { ...options, short: false } });
 }
 
 /** Leads from a name in the text to its card. */

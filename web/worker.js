@@ -1,6 +1,6 @@
 // All work of the page that may take long. It answers by `id` what it is asked, and gives up what a newer question replaces.
 import { FLAG, LONGEST_WORD, Library, STATUS } from "./library.js";
-import { piecesOf, textOf } from "./pieces.js";
+import { listed, piecesOf, stretchesOf, textOf } from "./pieces.js";
 import { PieceFilter, flagsOf, namesOf } from "./words.js";
 
 const encoder = new TextEncoder();
@@ -107,12 +107,16 @@ function details({ id, word, options }) {
     });
 }
 
-/** What a name is, and its text in pieces, where its text has parts: a short one has none. */
+/** What a name is, and its parts, with its text and its symbol in pieces, where its text has parts: a short one has none. */
 function piecesFor(word, options) {
-    const { status, bytes, kind, parts } = library.parts(encoder.encode(word), options.limit, flagsOf(options));
+    const name = encoder.encode(word);
+    const { status, bytes, kind, parts } = library.parts(name, options.limit, flagsOf(options));
     if (status !== STATUS.OK || parts.length > MOST_PARTS) return null;
     const pieces = piecesOf(bytes, parts);
-    return textOf(pieces) === decoder.decode(bytes) ? { kind, pieces } : null;
+    const stretches = stretchesOf(name, parts);
+    // each piece is whole characters
+    const areWhole = textOf(pieces) === decoder.decode(bytes) && stretches.map((it) => it.text).join("") === word;
+    return areWhole ? { kind, pieces, stretches, parts: listed(bytes, name, parts) } : null;
 }
 
 /** The pieces of the texts of names. */

@@ -144,7 +144,7 @@ uint32_t symdemangle_parts(const char *name, size_t name_length, uint32_t limit,
                            symdemangle_part *parts, size_t part_capacity, symdemangle_name *result)
 {
     char none = 0, nowhere = 0;
-    symdemangle_part no_part = {0, 0, 0};
+    symdemangle_part no_part = {0, 0, 0, 0, 0};
     symdemangle_result told = {0, 0, SYMDEMANGLE_NULL};
     struct symdemangle_found found = {0, 0, 0};
     if (!result)

@@ -276,7 +276,7 @@ static void counted(void)
     check(symdemangle_count("_ZN1AC4Ev", 9, SYMDEMANGLE_WIDE, &counts, &result) == SYMDEMANGLE_OK, "wide counts", "_ZN1AC4Ev");
 }
 
-/* The parts of a name, as "role:start+length" with blanks between, and its kind. */
+/* The parts of a name, as "role:start+length@from-to" with blanks between, and its kind. */
 static void has_parts(const char *name, uint32_t flags, const char *kind, uint32_t mangling, const char *text, const char *wanted)
 {
     symdemangle_part parts[16];
@@ -289,8 +289,8 @@ static void has_parts(const char *name, uint32_t flags, const char *kind, uint32
     check(told.length == strlen(text) && memcmp(buffer, text, told.length) == 0 && is_kept(told.length), "text with parts", name);
     check(symdemangle_kind(told.kind) && strcmp(symdemangle_kind(told.kind), kind) == 0 && told.mangling == mangling, "kind", name);
     for (k = 0; k < told.count && used < sizeof shown; k++)
-        used += (size_t)snprintf(shown + used, sizeof shown - used, "%s%s:%u+%u", k ? " " : "", symdemangle_role(parts[k].role),
-                                 (unsigned)parts[k].start, (unsigned)parts[k].length);
+        used += (size_t)snprintf(shown + used, sizeof shown - used, "%s%s:%u+%u@%u-%u", k ? " " : "", symdemangle_role(parts[k].role),
+                                 (unsigned)parts[k].start, (unsigned)parts[k].length, (unsigned)parts[k].from, (unsigned)parts[k].to);
     check(strcmp(shown, wanted) == 0, "parts", name);
     memset(buffer, '#', sizeof buffer);
     check(symdemangle_parts(name, strlen(name), 999, flags, buffer, sizeof buffer, parts, told.count - 1, &told) == SYMDEMANGLE_BUFFER &&
@@ -314,13 +314,16 @@ static void parts_of_texts(void)
 {
     symdemangle_part part;
     symdemangle_name told;
-    has_parts("_ZTV1A", 0, "vtable", SYMDEMANGLE_ITANIUM, "vtable for A", "special:0+10 object:11+1");
+    has_parts("_ZTV1A", 0, "vtable", SYMDEMANGLE_ITANIUM, "vtable for A", "special:0+10@2-4 object:11+1@4-6");
     has_parts("_ZNK1A1fIiEEvT_", 0, "function", SYMDEMANGLE_ITANIUM, "void A::f<int>(int) const",
-              "return_type:0+4 scope:5+1 base:8+1 generic_arguments:9+5 generic_argument:10+3 parameters:14+5 parameter:15+3 qualifiers:19+6");
-    has_parts("_ZNK1A1fIiEEvT_", SYMDEMANGLE_BRIEF + SYMDEMANGLE_NO_PARAMETERS, "function", SYMDEMANGLE_ITANIUM, "A::f", "scope:0+1 base:3+1");
+              "return_type:0+4@12-13 scope:5+1@4-6 base:8+1@6-8 generic_arguments:9+5@8-11 generic_argument:10+3@9-10 parameters:14+5@13-15 "
+              "parameter:15+3@13-15 qualifiers:19+6@3-4");
+    has_parts("_ZNK1A1fIiEEvT_", SYMDEMANGLE_BRIEF + SYMDEMANGLE_NO_PARAMETERS, "function", SYMDEMANGLE_ITANIUM, "A::f",
+              "scope:0+1@4-6 base:3+1@6-8");
     has_parts("__ZN1AC4Ev", SYMDEMANGLE_WIDE + SYMDEMANGLE_UNDERSCORE, "constructor", SYMDEMANGLE_ITANIUM, "A::A()",
-              "scope:0+1 base:3+1 parameters:4+2");
-    has_parts("_ZN3foo3bar17h0123456789abcdefE", SYMDEMANGLE_LEGACY, "value", SYMDEMANGLE_RUST_LEGACY, "foo::bar", "scope:0+3 crate:0+3 base:5+3");
+              "scope:0+1@4-6 base:3+1@6-8 parameters:4+2@9-10");
+    has_parts("_ZN3foo3bar17h0123456789abcdefE", SYMDEMANGLE_LEGACY, "value", SYMDEMANGLE_RUST_LEGACY, "foo::bar",
+              "scope:0+3@3-7 crate:0+3@3-7 base:5+3@7-11 hash:8+0@11-30");
     has_no_parts("_Z1fv", 5, 0, SYMDEMANGLE_TOO_LONG, 0);
     has_no_parts("_Z1fY", 99, 0, SYMDEMANGLE_MALFORMED, 4);
     has_no_parts("main", 99, 0, SYMDEMANGLE_NO_SYMBOL, 0);

@@ -75,7 +75,13 @@ int main()
     auto parsed = symdemangle::parts("_ZNK1A1fIiEEvT_");
     is(parsed && parsed->text == "void A::f<int>(int) const" && parsed->base() == "f" && parsed->scope() == "A", true, "parts");
     is(parsed && parsed->kind == SYMDEMANGLE_KIND_FUNCTION && parsed->parts.size() == 8, true, "kind");
-    is(parsed && parsed->first(SYMDEMANGLE_ROLE_PARAMETERS) == "(int)" && parsed->first(SYMDEMANGLE_ROLE_OBJECT).empty(), true, "a part");
+    is(parsed && parsed->parts[1].text == "A" && parsed->parts[1].bytes == "1A" && parsed->parts[6].bytes == "T_", true, "bytes of parts");
+    const symdemangle::parsed copied = *parsed;
+    parsed.reset();
+    is(copied.base() == "f" && copied.text.substr(5, 4) == "A::f", true, "the parts of a copy");
+    parsed = symdemangle::parts("__RNvC3foo3bar");
+    is(parsed && parsed->parts[1].bytes == "C3foo" && parsed->parts[2].bytes == "3bar", true, "bytes after an underscore that is dropped");
+    is(copied.first(SYMDEMANGLE_ROLE_PARAMETERS) == "(int)" && copied.first(SYMDEMANGLE_ROLE_OBJECT).empty(), true, "a part");
     parsed = symdemangle::parts("_Z5000" + name + "v");
     is(parsed && parsed->base().size() == 5000, true, "parts of a long text");
     is(symdemangle::parts("_Z1fY", {}, &why).has_value(), false, "no parts");

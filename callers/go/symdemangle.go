@@ -133,11 +133,15 @@ func (o Options) Filter(text string) (string, error) {
 	})
 }
 
-// Part is a part of a text: what it is, as "base" or "generic_argument", how many bytes of the text are before it, and these bytes.
+// Part is a part of a text: what it is, as "base" or "generic_argument", how many bytes of the text are before it, its own bytes, and how many
+// bytes of the name are before those that spell it and before their end. An underscore that was dropped counts. A part that the text doesn't
+// have, as the hash of an older Rust name, is at the text's end, with no bytes of it.
 type Part struct {
 	Role  string
 	Start int
 	Text  string
+	From  int
+	To    int
 }
 
 // Parsed is a text, what its name is, as "function", how the name is mangled ("itanium", "rust-v0", "rust-legacy"), and the parts of the
@@ -202,7 +206,9 @@ func parsed(text string, found []C.symdemangle_part, told *C.symdemangle_name) *
 	}
 	parts := make([]Part, len(found))
 	for i, part := range found {
-		parts[i] = Part{wordOf(C.symdemangle_role(part.role), part.role), int(part.start), text[part.start : part.start+part.length]}
+		parts[i] = Part{
+			wordOf(C.symdemangle_role(part.role), part.role), int(part.start), text[part.start : part.start+part.length], int(part.from), int(part.to),
+		}
 	}
 	return &Parsed{text, wordOf(C.symdemangle_kind(told.kind), told.kind), mangling, parts}
 }

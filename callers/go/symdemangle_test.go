@@ -159,6 +159,9 @@ func TestParts(t *testing.T) {
 		t.Error(parsed)
 	}
 	arguments := 0
+	if scope := parsed.Parts[1]; scope.From != 4 || scope.To != 6 {
+		t.Error(scope)
+	}
 	for _, part := range parsed.Parts {
 		if parsed.Text[part.Start:part.Start+len(part.Text)] != part.Text {
 			t.Error(part)

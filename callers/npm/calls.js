@@ -84,8 +84,8 @@ export function filterText(text, options = {}) {
     return decoder.decode(filterBytes(text, options).bytes);
 }
 
-/** The text of a name, what the name is, and the parts of its text: how many bytes of the text are before each, and how many it has.
- *  Refused says why there is none. */
+/** The text of a name, what the name is, and the parts of its text: how many bytes of the text are before each, how many it has, and which
+ *  bytes of the name spell it. Refused says why there is none. */
 export function parts(name, options = {}) {
     const { bytes, kind, parts } = answered(library.parts(bytesOf(name), limitOf(options), flagsOf(options)));
     return { text: decoder.decode(bytes), kind, parts };

@@ -36,13 +36,17 @@ export interface Counts {
 /** What a part of a text is. Later versions may have more. */
 export type Role =
     | "special" | "return_type" | "scope" | "base" | "abi_tag" | "generic_arguments" | "generic_argument" | "parameters" | "parameter"
-    | "qualifiers" | "object" | "suffix" | "crate" | "impl" | "self_type" | "trait";
+    | "qualifiers" | "object" | "suffix" | "crate" | "impl" | "self_type" | "trait" | "hash" | "instantiating_crate";
 
-/** A part of a text: what it is, how many bytes of the text are before it, and how many it has. */
+/** A part of a text: what it is, how many bytes of the text are before it, and how many it has; and how many bytes of the name are before those
+ *  that spell it, and before their end. An underscore that was dropped counts. A part that the text doesn't have, as the hash of an older Rust
+ *  name, is at the text's end, with no bytes of it. */
 export interface Part {
     role: Role;
     start: number;
     length: number;
+    from: number;
+    to: number;
 }
 
 /** A name's text, what the name is (as "function", "constructor" or "vtable"), and the parts of the text: each is within another or after it,

@@ -16,7 +16,7 @@ import tempfile
 
 TYPES = {
     "symdemangle_result": ["length", "offset", "status"],
-    "symdemangle_part": ["role", "start", "length"],
+    "symdemangle_part": ["role", "start", "length", "from", "to"],
     "symdemangle_name": ["length", "count", "offset", "status", "kind", "mangling"],
     "symdemangle_counts": ["rows", "nodes", "steps"],
     "symdemangle_tally": ["words", "replaced", "refused"],

@@ -12,7 +12,7 @@ import { pathToFileURL } from "node:url";
 const [folder, rows, program, symbols] = process.argv.slice(2);
 const from = (name) => import(pathToFileURL(path.resolve(folder, name)));
 const { FLAG, GREATEST_LIMIT, LONGEST_WORD, Library, MOST, STATUS } = await from("library.js");
-const { piecesOf, textOf: joined } = await from("pieces.js");
+const { piecesOf, stretchesOf, textOf: joined } = await from("pieces.js");
 const { PieceFilter, flagsOf, namesOf } = await from("words.js");
 const code = new WebAssembly.Module(fs.readFileSync(path.join(folder, "symdemangle.wasm")));
 if (WebAssembly.Module.imports(code).length) throw new Error("the module imports something");
@@ -76,10 +76,14 @@ const known = {
     },
     parts(flags, [symbol, what, text, parts], kind) {
         const found = library.parts(bytesOf(symbol), 1_000_000, flags | FLAG.WIDE | FLAG.LEGACY);
-        const spelled = found.parts?.map(({ role, start, length }) => `${role}:${start}+${length}`).join(" ");
+        const spelled = found.parts?.map(({ role, start, length, from, to }) => `${role}:${start}+${length}@${from}-${to}`).join(" ");
         holds(kind, found.status === STATUS.OK && found.kind === what && bytesOf(plain(text)).equals(Buffer.from(found.bytes)) && spelled === parts, symbol, found.kind, spelled);
         const pieces = piecesOf(found.bytes, found.parts);
         holds("pieces", joined(pieces) === new TextDecoder().decode(found.bytes), symbol);
+        const stretches = stretchesOf(bytesOf(symbol), found.parts);
+        holds("pieces", stretches.every(({ from, to }, i) => from === (i ? stretches[i - 1].to : 0) && from < to) && stretches.at(-1).to === symbol.length, symbol);
+        const areSpelled = found.parts.every(({ from, to }) => from === to || (stretches.some((it) => it.from === from) && stretches.some((it) => it.to === to)));
+        holds("pieces", areSpelled && found.parts.every(({ from, to }, i) => from === to || stretches.some(({ part }) => found.parts[part]?.from >= from && found.parts[part]?.to <= to)), symbol);
     },
     nameless(flags, [word], kind) {
         holds(kind, library.text(bytesOf(word), 100, flags).status === STATUS.NO_SYMBOL, word);

@@ -53,6 +53,7 @@ async function downloaded(name) {
 
 const NAME = "_ZN4demo5cacheIPKcE6lookupERKNSt7__cxx1112basic_stringIcSt11char_traitsIcESaIcEEE";
 const TEXT = "demo::cache<char const*>::lookup(std::__cxx11::basic_string<char, std::char_traits<char>, std::allocator<char>> const&)";
+const SHORT = "demo::cache<char const*>::lookup(std::string const&)";
 
 const steps = {
     async "a first look"() {
@@ -61,7 +62,7 @@ const steps = {
         wants(await browser.run(() => document.activeElement.id === "input"), "the input has the focus");
         const pairs = await browser.run(() => [...document.querySelectorAll("#intro dl > div")].map((it) => [it.querySelector("button").textContent, it.querySelector("dd").textContent]));
         wants(pairs.length === 2, "two names and their texts:", pairs);
-        for (const [name, text] of pairs) wants(demangled([name]).toString() === `${text}\n`, "the text of an example:", name, text);
+        for (const [name, text] of pairs) wants(demangled(["--short", name]).toString() === `${text}\n`, "the text of an example:", name, text);
         await click("#intro button");
         await shows(".said", [pairs[0][1]]);
         wants(!(await said("#intro")).length, "the examples go when there is a text");
@@ -73,7 +74,12 @@ const steps = {
         await browser.type(NAME.slice(0, 20));
         await shows(".why", ["Incomplete. The name breaks off after 20 bytes: more has to follow."]);
         await browser.type(NAME.slice(20));
+        await shows(".said", [SHORT]);
+        await shows(".full", [TEXT]);
+        await picture("short");
+        await tick("short");
         await shows(".said", [TEXT]);
+        await shows(".full", []);
         await until(async () => (await said(".inside dt")).at(-1) === "Pressed spelling", "counts and the pressed spelling of one name");
         await picture("name");
     },
@@ -87,7 +93,7 @@ const steps = {
         await shows(".said", ["demo::cache<char const*>::lookup"]);
         await tick("noParameters");
         await tick("short");
-        await shows(".said", ["demo::cache<char const*>::lookup(std::string const&)"]);
+        await shows(".said", [SHORT]);
         await tick("short");
         await puts("100", "[name=limit]");
         await shows(".why", ["Too long. The text would cost more than the limit of 100."]);
@@ -177,7 +183,7 @@ const steps = {
     },
 
     async "parts of a text"() {
-        const PARTS = [["scope", "demo::cache<char const*>"], ["base", "lookup"], ["parameters", /^\(std::.* const&\)$/], ["parameter", /^std::.* const&$/]];
+        const PARTS = [["scope", "demo::cache<char const*>"], ["base", "lookup"], ["parameters", /^\(std::.* const&\)$/], ["parameter 1", /^std::.* const&$/]];
         await puts(NAME);
         await until(async () => (await said(".parts li")).length === PARTS.length, "the parts of a name are listed");
         const listed = await browser.run(() => [...document.querySelectorAll(".parts li")].map((it) => [it.querySelector(".role").textContent, it.querySelector("code").textContent]));
@@ -188,8 +194,6 @@ const steps = {
         const lit = () => browser.run(() => [...document.querySelectorAll(".part.lit")].map((it) => it.textContent));
         await browser.run(() => document.querySelectorAll(".parts li")[1].focus());
         wants(JSON.stringify(await lit()) === '["lookup"]', "the part with the focus is lit:", await lit());
-        await browser.run(() => document.querySelector(".part.base").dispatchEvent(new PointerEvent("pointerover", { bubbles: true })));
-        wants((await browser.run(() => document.querySelector(".parts li.lit").textContent)) === "base lookup", "the entry of a part that is pointed at is lit");
         await picture("parts");
         await puts("_Z2\u00fcRKi.cold");
         await shows(".part.base", ["\u00fc"]);
@@ -197,8 +201,14 @@ const steps = {
         await puts("_ZTV1A");
         await shows(".parts strong", ["vtable"]);
         await tick("short");
-        await shows(".part", []);
         await shows(".said", ["vtable for A"]);
+        await shows(".full", []);
+        await shows(".part.object", ["A"]);
+        await puts(NAME);
+        await shows(".said", [SHORT]);
+        await shows(".full .part.base", ["lookup"]);
+        await browser.run(() => document.querySelectorAll(".parts li")[1].focus());
+        wants(JSON.stringify(await lit()) === '["lookup"]', "a part of the full text is lit:", await lit());
         await tick("short");
         await puts("_RNvMs_NtCs1234_4demo5queueINtB4_5QueuejE4push");
         await shows(".part.base", ["push"]);
@@ -206,6 +216,65 @@ const steps = {
         await until(async () => (await said(".said"))[0]?.startsWith("f(int"), "a text of many parts");
         await sleep(200);
         wants(!(await said(".part")).length, "600 parts aren't told apart");
+    },
+
+    async "a part and the bytes that spell it"() {
+        const name = "_ZN3foo3bar1fIPKcSt3mapIiiEEEvT_S4_RS_RS3_S5_.cold";
+        await puts(name);
+        await until(async () => (await said(".stretch")).length, "the symbol's stretches");
+        wants((await said(".symbol"))[0] === name, "the stretches are the symbol:", await said(".symbol"));
+        const isAbove = await browser.run(() => document.querySelector(".symbol").getBoundingClientRect().bottom <= document.querySelector(".said").getBoundingClientRect().top);
+        wants(isAbove, "the symbol is above the text");
+        const lit = async (wanted, why) => {
+            const found = await browser.run(() => [".stretch", ".part", "li .role"].map((css) => [...document.querySelectorAll(css)].filter((it) => it.matches(".lit, .lit .role")).map((it) => it.textContent)));
+            wants(JSON.stringify(found) === JSON.stringify(wanted), why, found);
+        };
+        const points = (css, number, event) => browser.run((css, number, event) => {
+            document.querySelectorAll(css)[number].dispatchEvent(new PointerEvent(event, { bubbles: true }));
+        }, css, number, event);
+        const SECOND = [["S4_"], ["std::map"], ["parameter 2"]];
+        await points(".part.parameter", 1, "pointerover");
+        await lit(SECOND, "the bytes of a part that is pointed at");
+        await shows(".told", ["parameter 2: bytes 32 to 35"]);
+        await points(".stretch.base", 0, "pointerover");
+        await lit([["1f"], ["f"], ["base"]], "the part of bytes that are pointed at");
+        await points(".part.scope", 0, "pointerover");
+        await lit([["3foo3bar"], ["foo::bar"], ["scope"]], "the bytes of a scope");
+        await points(".stretch", 0, "pointerover");
+        await lit([[], [], []], "bytes that spell no part");
+        await points(".part.parameter", 1, "click");
+        await points(".said", 0, "pointerleave");
+        await lit(SECOND, "a part that is tapped stays lit");
+        wants((await browser.run(() => document.querySelector(".spoken").textContent)) === "parameter 2: std::map, bytes 32 to 35", "it is spoken");
+        await points(".part.parameter", 1, "click");
+        await lit([[], [], []], "it is tapped again");
+        const focused = () => browser.run(() => document.activeElement.getAttribute("aria-label"));
+        await browser.run(() => document.querySelector(".parts [tabindex='0']").focus());
+        wants((await focused()) === "return type: void, bytes 29 to 30", "the first part:", await focused());
+        for (let i = 0; i < 8; i += 1) await browser.press("ArrowDown", "ArrowDown", 40);
+        wants((await focused()) === "parameter 2: std::map, bytes 32 to 35", "by arrow keys:", await focused());
+        await lit(SECOND, "the bytes of the part with the focus");
+        await browser.press("End", "End", 35);
+        await lit([[".cold"], [".cold"], ["suffix"]], "the last part");
+        await browser.press("Home", "Home", 36);
+        await browser.press("ArrowUp", "ArrowUp", 38);
+        wants((await focused()) === "return type: void, bytes 29 to 30", "nothing is before the first part:", await focused());
+        wants((await browser.run(() => document.querySelectorAll(".parts [tabindex='0']").length)) === 1, "one stop of the Tab key");
+        const { nodes } = await browser.call("Accessibility.getFullAXTree");
+        const options = nodes.filter((it) => !it.ignored && it.role?.value === "option").map((it) => it.name?.value);
+        wants(options.length === 13 && options[8] === "parameter 2: std::map, bytes 32 to 35", "what a screen reader is told of parts:", options);
+        await browser.run(() => document.getElementById("input").focus());
+        await lit([[], [], []], "no part has the focus");
+        await picture("bytes");
+        await puts("_ZN3foo3bar17h0123456789abcdefE");
+        await until(async () => (await said(".parts li")).length === 4, "the parts of an older Rust name");
+        await browser.run(() => document.querySelectorAll(".parts li")[3].focus());
+        await lit([["17h0123456789abcdef"], [], ["hash"]], "a part that isn't in the text");
+        await shows(".told", ["hash: bytes 11 to 30, not in the text"]);
+        await puts("__Z1fi");
+        await until(async () => (await said(".parts li")).length === 3, "the parts of a name of macOS");
+        await points(".part.base", 0, "pointerover");
+        await lit([["1f"], ["f"], ["base"]], "an underscore that is dropped counts");
     },
 
     async "by keys alone"() {
@@ -393,18 +462,18 @@ const steps = {
     async "a link to a name, with its options"() {
         await open();
         await puts(NAME);
-        await shows(".said", [TEXT]);
+        await shows(".said", [SHORT]);
         wants((await browser.run(() => document.querySelector(".link").getAttribute("href"))) === `#${NAME}`, "the link has the name");
         await tick("short");
-        await shows(".said", ["demo::cache<char const*>::lookup(std::string const&)"]);
+        await shows(".said", [TEXT]);
         const link = await browser.run(() => document.querySelector(".link").getAttribute("href"));
-        wants(link === `#${NAME}&short`, "the link has the option", link);
+        wants(link === `#${NAME}&full`, "the link has the option", link);
         await open(link);
-        await shows(".said", ["demo::cache<char const*>::lookup(std::string const&)"]);
+        await shows(".said", [TEXT]);
         await browser.run((hash) => { location.hash = hash; }, `${NAME}&brief`);
-        await shows(".said", ["demo::cache::lookup(std::__cxx11::basic_string const&)"]);
-        await open(`#${encodeURIComponent("_Z1f&short")}`);
-        const isWhole = () => browser.run(() => document.getElementById("input").value === "_Z1f&short" && !document.querySelector("[name=short]").checked);
+        await shows(".said", [demangled(["--short", "--brief", NAME]).toString().trim()]);
+        await open(`#${encodeURIComponent("_Z1f&full")}`);
+        const isWhole = () => browser.run(() => document.getElementById("input").value === "_Z1f&full" && document.querySelector("[name=short]").checked);
         await until(isWhole, "a name with an & is one name");
     },
 
@@ -415,7 +484,7 @@ const steps = {
         server.cutOff(true);
         await open();
         await puts(NAME);
-        await shows(".said", [TEXT]);
+        await shows(".said", [SHORT]);
         server.cutOff(false);
     },
 

@@ -73,8 +73,11 @@ test("parts", () => {
         ["return_type", "void"], ["scope", "A"], ["base", "f"], ["generic_arguments", "<int>"], ["generic_argument", "int"],
         ["parameters", "(int)"], ["parameter", "int"], ["suffix", ".cold"],
     ]);
+    assert.deepEqual(found.map(({ from, to }) => [from, to]), [[11, 12], [3, 5], [5, 7], [7, 10], [8, 9], [12, 14], [12, 14], [14, 19]]);
     assert.equal(parts("_ZTV1A").kind, "vtable");
-    assert.deepEqual(parts("_Z1fv", { noParameters: true }).parts, [{ role: "base", start: 0, length: 1 }]);
+    assert.deepEqual(parts("__RNvC3foo3bar").parts[0], { role: "scope", start: 0, length: 3, from: 5, to: 10 });
+    assert.deepEqual(parts("_ZN3foo3bar17h0123456789abcdefE").parts.at(-1), { role: "hash", start: 8, length: 0, from: 11, to: 30 });
+    assert.deepEqual(parts("_Z1fv", { noParameters: true }).parts, [{ role: "base", start: 0, length: 1, from: 2, to: 4 }]);
     assert.equal(parts("_Z2\u00fcv").parts[0].length, 2);
     assert.equal(parts("_RNvC3foo3bar").kind, "value");
     assert.equal(parts(`_Z1f${"i".repeat(1000)}`).parts.length, 1002);

@@ -91,11 +91,15 @@ class Counts(NamedTuple):
 
 
 class Part(NamedTuple):
-    """A part of a text: what it is, as "base" or "generic_argument", how many bytes of the text are before it, how many it has, and these."""
+    """A part of a text: what it is, as "base" or "generic_argument", how many bytes of the text are before it, how many it has, how many bytes
+    of the name are before those that spell it and before their end, and the part's own text. The name is as it was given: an underscore that
+    was dropped counts. A part that the text doesn't have, as the hash of an older Rust name, is at the text's end, and has no bytes of it."""
 
     role: str
     start: int
     length: int
+    begin: int
+    end: int
     text: str
 
 
@@ -185,7 +189,7 @@ class _Counts(ctypes.Structure):
 
 
 class _Part(ctypes.Structure):
-    _fields_ = [("role", ctypes.c_uint32), ("start", ctypes.c_uint32), ("length", ctypes.c_uint32)]
+    _fields_ = [(name, ctypes.c_uint32) for name in ("role", "start", "length", "begin", "end")]
 
 
 class _Name(ctypes.Structure):
@@ -527,7 +531,10 @@ def parts(name: Name, **options: Unpack[Keywords]) -> Parsed:
         raise Refused(status, told.offset)
     text = buffer.raw[: told.length]
     named = tuple(
-        Part(_word(_library.symdemangle_role, part.role), part.start, part.length, _string(text[part.start : part.start + part.length]))
+        Part(
+            _word(_library.symdemangle_role, part.role), part.start, part.length, part.begin, part.end,
+            _string(text[part.start : part.start + part.length]),
+        )
         for part in found[: told.count]
     )
     kind = _word(_library.symdemangle_kind, told.kind)

@@ -277,7 +277,7 @@ class Calls(unittest.TestCase):
         parsed = symdemangle.parts("_ZNK1A1fIiEEvT_")
         self.assertEqual((parsed.text, parsed.kind, parsed.mangling), ("void A::f<int>(int) const", "function", "itanium"))
         self.assertEqual((parsed.scope, parsed.base, parsed.of("parameters"), parsed.of("object")), ("A", "f", "(int)", ""))
-        self.assertEqual(parsed.parts[0], symdemangle.Part("return_type", 0, 4, "void"))
+        self.assertEqual(parsed.parts[0], symdemangle.Part("return_type", 0, 4, 12, 13, "void"))
         long = symdemangle.parts("_Z5000" + "a" * 5000 + "v")
         self.assertEqual((len(long.base), long.of("parameters")), (5000, "()"))
         with self.assertRaisesRegex(Refused, " at 4$"):

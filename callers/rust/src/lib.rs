@@ -403,8 +403,11 @@ pub enum Mangling {
 pub struct Part {
     /// What it is.
     pub role: Role,
-    /// The stretch of the text's bytes that it is.
-    pub bytes: Range<usize>,
+    /// The stretch of the text's bytes that it is: empty, at the text's end, for what isn't in the text, as the hash of an older Rust name.
+    pub text: Range<usize>,
+    /// The bytes of the name that spell it, with those of an underscore that was dropped before them. What a reference refers to is
+    /// spelled by the reference.
+    pub symbol: Range<usize>,
 }
 
 /// A text, what its name is, and the parts of the text.
@@ -425,7 +428,7 @@ impl Parsed {
     #[must_use]
     pub fn first(&self, role: Role) -> Option<&[u8]> {
         let part = self.parts.iter().find(|part| part.role == role)?;
-        Some(&self.text[part.bytes.clone()])
+        Some(&self.text[part.text.clone()])
     }
 }
 
@@ -439,6 +442,7 @@ impl Parsed {
 /// assert_eq!(parsed.kind, NameKind::Function);
 /// assert_eq!(parsed.first(Role::Scope), Some(&b"A"[..]));
 /// assert_eq!(parsed.first(Role::Parameters), Some(&b"(int)"[..]));
+/// assert_eq!(parsed.parts[1].symbol, 3..5); // "1A" spells the scope
 /// ```
 ///
 /// # Errors
@@ -459,7 +463,11 @@ pub fn parts(name: &[u8], options: Options) -> Result<Parsed, Error> {
     told.status.answer(told.offset)?;
     text.truncate(told.length);
     parts.truncate(told.count);
-    let range = |part: &NamePart| part.start as usize..(part.start + part.length) as usize;
+    let part_of = |part: &NamePart| Part {
+        role: Role::of_number(part.role),
+        text: part.start as usize..(part.start + part.length) as usize,
+        symbol: part.from as usize..part.to as usize,
+    };
     Ok(Parsed {
         text,
         kind: NameKind::of_number(told.kind),
@@ -469,7 +477,7 @@ pub fn parts(name: &[u8], options: Options) -> Result<Parsed, Error> {
             3 => Mangling::RustLegacy,
             other => Mangling::Other(other),
         },
-        parts: parts.iter().map(|part| Part { role: Role::of_number(part.role), bytes: range(part) }).collect(),
+        parts: parts.iter().map(part_of).collect(),
     })
 }
 

@@ -9,6 +9,8 @@ pub struct NamePart {
     pub role: u32,
     pub start: u32,
     pub length: u32,
+    pub from: u32,
+    pub to: u32,
 }
 
 /// What a name is, beside its text.

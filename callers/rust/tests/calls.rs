@@ -235,7 +235,7 @@ fn parts_of_texts() {
     assert_eq!(parsed.text, b"void A::f<int>(int) const");
     assert_eq!((parsed.kind, parsed.mangling), (NameKind::Function, Mangling::Itanium));
     assert_eq!(parsed.kind.name(), "function");
-    assert_eq!(parsed.parts[0], Part { role: Role::ReturnType, bytes: 0..4 });
+    assert_eq!(parsed.parts[0], Part { role: Role::ReturnType, text: 0..4, symbol: 12..13 });
     assert_eq!(parsed.first(Role::Base), Some(&b"f"[..]));
     assert_eq!(parsed.first(Role::Object), None);
     let long = format!("_Z5000{}v", "a".repeat(5000));

@@ -14,17 +14,32 @@ fn unset() -> NamePart {
         role: UNTOLD,
         start: UNTOLD,
         length: UNTOLD,
+        from: UNTOLD,
+        to: UNTOLD,
     }
+}
+
+/// Whether no call has set a part.
+fn is_unset(part: &NamePart) -> bool {
+    part.role == UNTOLD
+        && part.start == UNTOLD
+        && part.length == UNTOLD
+        && part.from == UNTOLD
+        && part.to == UNTOLD
 }
 
 /// Whether no call has set parts.
 fn are_unset(parts: &[NamePart]) -> bool {
-    parts.iter().all(|part| part.role == UNTOLD && part.start == UNTOLD && part.length == UNTOLD)
+    parts.iter().all(is_unset)
 }
 
 /// Whether a call has set this part.
 fn is_set(told: NamePart, part: Part) -> bool {
-    told.role == part.role.number() && told.start == part.start && told.length == part.length
+    told.role == part.role.number()
+        && told.start == part.start
+        && told.length == part.length
+        && told.from == part.from
+        && told.to == part.to
 }
 
 /// Whether a call has set these parts at the front, and no others.

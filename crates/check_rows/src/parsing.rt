@@ -20,9 +20,11 @@ fn spelled_parts(alloc: Global, parts: &[Part]) -> Result<Vec<u8>, AllocError> {
             role,
             start,
             length,
+            from,
+            to,
         } = *part;
         spelled.extend_from_slice(role.name().as_bytes())?;
-        let stretch = format!(in alloc; ":{start}+{length}")?;
+        let stretch = format!(in alloc; ":{start}+{length}@{from}-{to}")?;
         spelled.extend_from_slice(stretch.as_bytes())?;
     }
     Ok(spelled)

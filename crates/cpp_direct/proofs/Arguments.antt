@@ -1,28 +1,10 @@
 -- The arguments of a name, as long as they are types, and packs of them.
-use Rattle.cpp_direct.specs.AllTerms.{Around, Detail, integer, Kind, list, nil, pack, signed_digits, Term, tree}
-use Rattle.std.proofs.Common.{arith, ◌≡◌, ◌≢◌, ℕ, zero, suc, ◌+◌, ◌-◌, ◌≤◌, ◌<◌, length, List, [], ◌∷◌, ◌++◌, reverse, slice_get, inr, inl, Bool, true, false, Some, refl, ap, sym, ◌∙◌, subst, codes, append_assoc, append-nil}
-use Rattle.std.proofs.lemmas.Bool.{false≢true}
-use Rattle.std.proofs.lemmas.Option.{slice_get_within}
-use Rattle.std.proofs.lemmas.List.{length-append}
-use Rattle.cpp_direct.specs.AllStates.{AreAmong, AreKnown, Argument, argument_around, argument_entry, Arguments, arguments_or_pack, ArgumentsGoOn, AwaitsArgument, AwaitsArgumentNumber, AwaitsArgumentOfName, AwaitsKnownArgument, AwaitsNamedType, Belongs, below, Closes, ComeBefore, detail_of, Direct, element_kind, EndsNamed, EndsOtherwise, extra_of, GoesOn, HasPack, in_front_of_next, is_noted, IsAmong, IsArgumentRead, IsElementAs, IsElementPassed, IsKnown, IsListEnded, IsLiteralRead, IsScoped, IsTemplate, IsTypeRead, IsWriting, Kept, KnowsMore, led_by, list_of, list_with, may_name, Names, nowhere, number_text, of_template, Open, opening_bracket, place_of, PrintAll, PrintAllBy, Prints, PrintsListed, Reads, Scope, scoped_in, sign_text, Stands, Symbol, Writes}
-use Rattle.cpp_direct.specs.AllHoles.{Comes, Opened, Expects, IsDigitsAt, StandsAt, TreeOpens, minus_sign}
-use Rattle.cpp_direct.proofs.Ending.{next-written}
-use Rattle.cpp_direct.proofs.Kept.{awaited-in, kept-grown, kept-same, kept-written, reverse-last, template-stays, none-known, kept-read}
+use Rattle.cpp_direct.proofs.AllGround.{Around, Detail, integer, Kind, list, nil, pack, signed_digits, Term, tree, arith, ◌≡◌, ◌≢◌, ℕ, zero, suc, ◌+◌, ◌-◌, ◌≤◌, ◌<◌, length, List, [], ◌∷◌, ◌++◌, reverse, slice_get, inr, inl, Bool, true, false, Some, refl, ap, sym, ◌∙◌, subst, codes, append_assoc, append-nil, false≢true, slice_get_within, length-append, AreAmong, AreKnown, Argument, argument_around, argument_entry, Arguments, arguments_or_pack, ArgumentsGoOn, AwaitsArgument, AwaitsArgumentNumber, AwaitsArgumentOfName, AwaitsKnownArgument, AwaitsNamedType, Belongs, below, Closes, ComeBefore, detail_of, Direct, element_kind, EndsNamed, EndsOtherwise, extra_of, GoesOn, HasPack, in_front_of_next, is_noted, IsAmong, IsArgumentRead, IsElementAs, IsElementPassed, IsKnown, IsListEnded, IsLiteralRead, IsScoped, IsTemplate, IsTypeRead, IsWriting, Kept, KnowsMore, led_by, list_of, list_with, may_name, Names, nowhere, number_text, of_template, Open, opening_bracket, place_of, PrintAll, PrintAllBy, Prints, PrintsListed, Reads, Scope, scoped_in, sign_text, Stands, Symbol, Writes, Comes, Opened, Expects, IsDigitsAt, StandsAt, TreeOpens, minus_sign, Step, awaited-in, kept-grown, kept-same, kept-written, reverse-last, template-stays, none-known, kept-read, any-argument, enumerator-opens, listed-awaits, enumerator-prints, normal-filled, normal-unmarked, not-integer, all-as, listed-element, next-prints, none-print, list-more, none-text, among-stay, element-there, none-scoped}
+use Rattle.cpp_direct.proofs.AllRead.{next-written}
 use Rattle.cpp_direct.proofs.Listed.{pack-ends, list-ends, empty-pack-ends, last-found, element-goes-on, element-kind, pack-goes-on, some-elements, template-listed}
-use Rattle.cpp_direct.proofs.Moves.{any-argument}
-use Rattle.cpp_direct.proofs.MovesOfLists.{enumerator-opens, listed-awaits}
 use Rattle.cpp_direct.proofs.Elements.{IsNumberRead, no-integer-type, number-unmarked}
-use Rattle.cpp_direct.proofs.PrintedNames.{enumerator-prints, normal-filled, normal-unmarked, not-integer}
-use Rattle.cpp_direct.proofs.PrintedLists.{all-as, listed-element, next-prints, none-print, list-more, none-text}
-use Rattle.cpp_direct.proofs.Scopes.{among-stay, element-there, none-scoped}
-use Rattle.cpp_direct.specs.declared.open.Open.TheVariants as opens
-use Rattle.cpp_direct.specs.declared.open.Step.TheVariants as steps
 
 -- ## What comes next
-
--- nothing precedes the first argument, or the first element of a pack that is the first argument
-none-before : (detail : Detail) (is_pack : Bool) → ComeBefore detail is_pack nowhere [] []
-none-before detail is_pack = record { none = λ e. refl; prints = none-print detail 3; count_is = λ e. refl; no_pack = refl }
 
 -- Arguments of a name were read, or elements of a pack among them, and the known ones were recorded. What precedes the next one is
 -- written.
@@ -47,14 +29,13 @@ pub record AwaitsNext (s : Symbol) (w : Direct) (is_pack : Bool) (place number :
   pub goes : GoesOn s (arguments_or_pack is_pack before before_text) owner (below s scope rest) front template ts place state
 
 -- nothing is read yet of the arguments of a name
-pub none-next : (s : Symbol) (w : Direct) → IsWriting s w (steps.List true) → EndsNamed (reverse w.waiting.list.items)
+pub none-next : (s : Symbol) (w : Direct) → IsWriting s w (Step.List true) → EndsNamed (reverse w.waiting.list.items)
     → (n : AwaitsNext s w false w.at 0 nowhere) × (reverse w.waiting.list.items ≡ n.owner ∷ n.rest)
 none-next s w p named =
     let place = p.is_before.0 in
     let ts_is : p.is_before.1 ≡ [] = p.is_before.5 refl in
     let a = template-listed s p.scope w p.state place.listing place.owner place.rest place.front place.template place.name p.is_before.1 p.is_before.2 p.is_before.2
-    (λ rest e. subst (λ ws. EndsNamed ws) e named) place.belongs p.is_before.3 p.is_before.4
-    p.is_before.7 in
+    (λ rest e. subst (λ ws. EndsNamed ws) e named) place.belongs p.is_before.3 p.is_before.4 p.is_before.7 in
     let by = IsElementAs (detail_of s) p.scope.names (is_noted place.owner) 3 in (
       record {
         kept = p.kept;
@@ -68,7 +49,7 @@ none-next s w p named =
         is_template = place.is_template;
         before = [];
         before_text = [];
-        come_before = none-before (detail_of s) false;
+        come_before = record { none = λ e. refl; prints = none-print (detail_of s) 3; count_is = λ e. refl; no_pack = refl };
         elements = none-print (detail_of s) 3;
         written = a.2 ∙ ap (λ l. place.front ++ place.name ++ opening_bracket (detail_of s) ++ l)
             (none-text by p.is_before.2 (subst (λ ts. PrintAllBy by ts p.is_before.2) ts_is a.1));
@@ -149,8 +130,8 @@ argument-stands s scope true from number known owner rest os text p = p
 
 argument-scoped : (scope : Scope) (around : Around) (is_pack : Bool) (from number : ℕ) (known : Arguments) (opened : List Open)
     → IsScoped scope around (argument_entry is_pack from number known ∷ opened)
-argument-scoped scope around false from number known opened = none-scoped scope around (opens.Argument from number known ∷ opened) refl
-argument-scoped scope around true from number known opened = none-scoped scope around (opens.Element from number known ∷ opened) refl
+argument-scoped scope around false from number known opened = none-scoped scope around (Open.Argument from number known ∷ opened) refl
+argument-scoped scope around true from number known opened = none-scoped scope around (Open.Element from number known ∷ opened) refl
 
 -- the entry of an argument is opened, or that of an element of the pack
 argument-next : (s : Symbol) (old new : Direct) (is_pack : Bool) (from number place : ℕ) (known : Arguments) (p : AwaitsNext s old is_pack place number known)
@@ -187,32 +168,32 @@ argument-next s old new is_pack from number place known p from_is opened text ca
     }
 
 -- it may be a type
-pub argument-type : (s : Symbol) (w : Direct) → AwaitsArgumentOfName s w → IsWriting s w steps.Type
+pub argument-type : (s : Symbol) (w : Direct) → AwaitsArgumentOfName s w → IsWriting s w Step.Type
 argument-type s w a = record { kept = a.kept; is_before = (a.awaited, inr (inl (any-argument s a.around a.os w.at a.state a.awaits))) }
 
 -- the first argument begins
-pub argument-begins : (s : Symbol) (old new : Direct) (from : ℕ) → IsWriting s old (steps.List true)
+pub argument-begins : (s : Symbol) (old new : Direct) (from : ℕ) → IsWriting s old (Step.List true)
     → EndsNamed (reverse old.waiting.list.items) → from ≡ length old.text.list.items
-    → new.waiting.list.items ≡ old.waiting.list.items ++ opens.Argument from 0 nowhere ∷ [] → new.text ≡ old.text → new.candidates ≡ old.candidates → new.has_scope ≡ old.has_scope → new.at ≡ old.at
+    → new.waiting.list.items ≡ old.waiting.list.items ++ Open.Argument from 0 nowhere ∷ [] → new.text ≡ old.text → new.candidates ≡ old.candidates → new.has_scope ≡ old.has_scope → new.at ≡ old.at
     → AwaitsArgumentOfName s new
 argument-begins s old new from p named from_is waits text candidates scope_same at =
     let n = none-next s old p named in
-    let entry = opens.Argument from 0 nowhere in
+    let entry = Open.Argument from 0 nowhere in
     argument-next s old new false from 0 old.at nowhere n.0 from_is
     (ap reverse waits ∙ reverse-last old.waiting.list.items entry ∙ ap (λ ws. entry ∷ ws) n.1) text candidates scope_same at
 
 -- or the first element of the pack
-pub element-begins : (s : Symbol) (old new : Direct) (from : ℕ) → IsWriting s old (steps.List true)
+pub element-begins : (s : Symbol) (old new : Direct) (from : ℕ) → IsWriting s old (Step.List true)
     → EndsNamed (reverse old.waiting.list.items) → StandsAt s.bytes old.at (74 ∷ []) → from ≡ length old.text.list.items
-    → new.waiting.list.items ≡ (old.waiting.list.items ++ opens.Pack ∷ []) ++ opens.Element from 0 nowhere ∷ [] → new.text ≡ old.text
-    → new.candidates ≡ old.candidates → new.has_scope ≡ old.has_scope → new.at ≡ old.at + 1 → IsWriting s new steps.Type
+    → new.waiting.list.items ≡ (old.waiting.list.items ++ Open.Pack ∷ []) ++ Open.Element from 0 nowhere ∷ [] → new.text ≡ old.text
+    → new.candidates ≡ old.candidates → new.has_scope ≡ old.has_scope → new.at ≡ old.at + 1 → IsWriting s new Step.Type
 element-begins s old new from p named letter from_is waits text candidates scope_same at =
     let n = none-next s old p named in
-    let entry = opens.Element from 0 nowhere in
+    let entry = Open.Element from 0 nowhere in
     argument-type s new
     (argument-next s old new true from 0 (old.at + 1) nowhere (pack-next s old old.at 0 nowhere n.0 letter) from_is
-    (ap reverse waits ∙ reverse-last (old.waiting.list.items ++ opens.Pack ∷ []) entry
-    ∙ ap (λ ws. entry ∷ ws) (reverse-last old.waiting.list.items opens.Pack ∙ ap (λ ws. opens.Pack ∷ ws) n.1)) text candidates scope_same at)
+    (ap reverse waits ∙ reverse-last (old.waiting.list.items ++ Open.Pack ∷ []) entry
+    ∙ ap (λ ws. entry ∷ ws) (reverse-last old.waiting.list.items Open.Pack ∙ ap (λ ws. Open.Pack ∷ ws) n.1)) text candidates scope_same at)
 
 -- or another one
 pub next-argument-begins : (s : Symbol) (old mid new : Direct) (is_pack : Bool) (last from number : ℕ) (known : Arguments) → AwaitsKnownArgument s old is_pack last known
@@ -228,16 +209,16 @@ next-argument-begins s old mid new is_pack last from number known p writes from_
 -- or the first element of a pack after other arguments
 pub pack-after : (s : Symbol) (old mid new : Direct) (last from number : ℕ) (known : Arguments) → AwaitsKnownArgument s old false last known
     → StandsAt s.bytes old.at (74 ∷ []) → Writes old mid (codes ", ") → from ≡ length mid.text.list.items → number ≡ last + 1
-    → new.waiting.list.items ≡ (mid.waiting.list.items ++ opens.Pack ∷ []) ++ opens.Element from number (record known { before = number }) ∷ []
-    → new.text ≡ mid.text → new.candidates ≡ mid.candidates → new.has_scope ≡ mid.has_scope → new.at ≡ old.at + 1 → IsWriting s new steps.Type
+    → new.waiting.list.items ≡ (mid.waiting.list.items ++ Open.Pack ∷ []) ++ Open.Element from number (record known { before = number }) ∷ []
+    → new.text ≡ mid.text → new.candidates ≡ mid.candidates → new.has_scope ≡ mid.has_scope → new.at ≡ old.at + 1 → IsWriting s new Step.Type
 pack-after s old mid new last from number known p letter writes from_is number_is waits text candidates scope_same at =
-    let entry = opens.Element from number (record known { before = number }) in
+    let entry = Open.Element from number (record known { before = number }) in
     argument-type s new
     (argument-next s mid new true from number (old.at + 1) (record known { before = number })
     (pack-next s mid old.at number known (known-next s old mid false last number known p writes number_is) letter) from_is
-    (ap reverse waits ∙ reverse-last (mid.waiting.list.items ++ opens.Pack ∷ []) entry
-    ∙ ap (λ ws. entry ∷ ws) (reverse-last mid.waiting.list.items opens.Pack
-    ∙ ap (λ ws. opens.Pack ∷ ws) (ap (λ v. reverse v.list.items) writes.waiting ∙ p.open_is))) text candidates scope_same at)
+    (ap reverse waits ∙ reverse-last (mid.waiting.list.items ++ Open.Pack ∷ []) entry
+    ∙ ap (λ ws. entry ∷ ws) (reverse-last mid.waiting.list.items Open.Pack
+    ∙ ap (λ ws. Open.Pack ∷ ws) (ap (λ v. reverse v.list.items) writes.waiting ∙ p.open_is))) text candidates scope_same at)
 
 -- ## What was read
 
@@ -285,7 +266,7 @@ argument-read s w kept is_pack is_reference from number known os t begun bytes g
         → Stands s kept.scope (argument_entry b from number known ∷ rest) os begun → IsArgumentRead s w b from number known is_reference
     go false [] is prints_ waits = absurd waits
     go false (owner ∷ rest) is prints_ waits = read false owner rest is prints_ waits
-    go true (opens.Pack ∷ owner ∷ rest) is prints_ waits = read true owner rest is prints_ waits
+    go true (Open.Pack ∷ owner ∷ rest) is prints_ waits = read true owner rest is prints_ waits
     go true _ is prints_ waits = absurd waits
 
 type-listed : {detail : Detail} (in_pack : Bool) (t : Term) (b : List ℕ) (r : Bool) → Prints detail t b r → PrintsListed in_pack detail t b r
@@ -293,7 +274,7 @@ type-listed false t b r p = p
 type-listed true t b r p = inl p
 
 -- which is a type
-pub value-argument : (s : Symbol) (w : Direct) (is_pack is_reference : Bool) (from number : ℕ) (known : Arguments) → IsWriting s w (steps.Value is_reference false)
+pub value-argument : (s : Symbol) (w : Direct) (is_pack is_reference : Bool) (from number : ℕ) (known : Arguments) → IsWriting s w (Step.Value is_reference false)
     → slice_get w.waiting.list.items (length w.waiting.list.items - 1) ≡ Some (argument_entry is_pack from number known)
     → IsArgumentRead s w is_pack from number known is_reference
 value-argument s w is_pack is_reference from number known p found =
@@ -303,7 +284,7 @@ value-argument s w is_pack is_reference from number known p found =
 
 -- or an element that is a reference with text on both sides of a name
 pub element-passed : (s : Symbol) (w : Direct) (from number : ℕ) (known : Arguments) → IsElementPassed s w true
-    → slice_get w.waiting.list.items (length w.waiting.list.items - 1) ≡ Some (opens.Element from number known) → IsArgumentRead s w true from number known true
+    → slice_get w.waiting.list.items (length w.waiting.list.items - 1) ≡ Some (Open.Element from number known) → IsArgumentRead s w true from number known true
 element-passed s w from number known p found =
     let v = p.read in
     argument-read s w v.kept true true from number known v.os v.own v.front v.bytes v.written (inr (refl, p.refers refl)) v.comes v.stands found
@@ -311,11 +292,11 @@ element-passed s w from number known p found =
 -- or a literal
 pub literal-read : (s : Symbol) (old begun new : Direct) (from number place : ℕ) (known : Arguments) (p : AwaitsNext s old false place number known)
     → reverse old.waiting.list.items ≡ p.owner ∷ p.rest → from ≡ length old.text.list.items
-    → begun.waiting.list.items ≡ old.waiting.list.items ++ opens.Argument from number known ∷ [] → begun.text ≡ old.text
+    → begun.waiting.list.items ≡ old.waiting.list.items ++ Open.Argument from number known ∷ [] → begun.text ≡ old.text
     → begun.candidates ≡ old.candidates → begun.has_scope ≡ old.has_scope → begun.at ≡ place → IsLiteralRead s begun new
     → IsArgumentRead s new false from number known false
 literal-read s old begun new from number place known p open_is from_is waits text candidates scope_same at l =
-    let entry = opens.Argument from number known in
+    let entry = Open.Argument from number known in
     let outer = below s p.scope p.rest in
     let here = old.text.list.items in
     let grown : new.text.list.items ≡ here ++ l.bytes = l.reads.text ∙ ap (λ v. v.list.items ++ l.bytes) text in
@@ -352,12 +333,12 @@ literal-read s old begun new from number place known p open_is from_is waits tex
 -- an enumerator comes next
 enumerator-begins : (s : Symbol) (mid pushed new : Direct) (from place number n : ℕ) (known : Arguments) (q : AwaitsNext s mid false place number known)
     → reverse mid.waiting.list.items ≡ q.owner ∷ q.rest → StandsAt s.bytes place (76 ∷ []) → from ≡ length mid.text.list.items → n ≡ place + 1
-    → Writes (record mid { at = n }) pushed (codes "(") → new.waiting.list.items ≡ pushed.waiting.list.items ++ opens.ArgumentEnumerator from number known ∷ []
+    → Writes (record mid { at = n }) pushed (codes "(") → new.waiting.list.items ≡ pushed.waiting.list.items ++ Open.ArgumentEnumerator from number known ∷ []
     → new.text ≡ pushed.text → new.candidates ≡ pushed.candidates → new.has_scope ≡ pushed.has_scope → new.at ≡ pushed.at → AwaitsNamedType s new
 enumerator-begins s mid pushed new from place number n known q opened letter from_is n_is two waits text candidates scope_same at =
     let none : q.before ≡ [] = q.come_before.none refl in
     let outer = below s q.scope q.rest in
-    let entry = opens.ArgumentEnumerator from number known in
+    let entry = Open.ArgumentEnumerator from number known in
     let e = enumerator-opens s Kind.ArgumentList q.goes.1 q.goes.0 place q.state tt q.goes.4 letter in
     let begun = mid.text.list.items in
     let written : new.text.list.items ≡ begun ++ codes "(" = ap (λ v. v.list.items) text ∙ two.text in
@@ -392,9 +373,9 @@ enumerator-begins s mid pushed new from place number n known q opened letter fro
     }
 
 -- the first argument
-pub first-enumerator-expected : (s : Symbol) (old pushed new : Direct) (from n : ℕ) → IsWriting s old (steps.List true) → EndsNamed (reverse old.waiting.list.items)
+pub first-enumerator-expected : (s : Symbol) (old pushed new : Direct) (from n : ℕ) → IsWriting s old (Step.List true) → EndsNamed (reverse old.waiting.list.items)
     → StandsAt s.bytes old.at (76 ∷ []) → from ≡ length old.text.list.items → n ≡ old.at + 1 → Writes (record old { at = n }) pushed (codes "(")
-    → new.waiting.list.items ≡ pushed.waiting.list.items ++ opens.ArgumentEnumerator from 0 nowhere ∷ [] → new.text ≡ pushed.text → new.candidates ≡ pushed.candidates
+    → new.waiting.list.items ≡ pushed.waiting.list.items ++ Open.ArgumentEnumerator from 0 nowhere ∷ [] → new.text ≡ pushed.text → new.candidates ≡ pushed.candidates
     → new.has_scope ≡ pushed.has_scope → new.at ≡ pushed.at → AwaitsNamedType s new
 first-enumerator-expected s old pushed new from n p named letter from_is n_is two waits text candidates scope_same at =
     let q = none-next s old p named in
@@ -403,25 +384,24 @@ first-enumerator-expected s old pushed new from n p named letter from_is n_is tw
 -- or another one
 pub argument-enumerator-expected : (s : Symbol) (old mid pushed new : Direct) (last from number n : ℕ) (known : Arguments) → AwaitsKnownArgument s old false last known
     → StandsAt s.bytes old.at (76 ∷ []) → Writes old mid (codes ", ") → from ≡ length mid.text.list.items → number ≡ last + 1 → n ≡ mid.at + 1
-    → Writes (record mid { at = n }) pushed (codes "(") → new.waiting.list.items ≡ pushed.waiting.list.items ++ opens.ArgumentEnumerator from number known ∷ []
+    → Writes (record mid { at = n }) pushed (codes "(") → new.waiting.list.items ≡ pushed.waiting.list.items ++ Open.ArgumentEnumerator from number known ∷ []
     → new.text ≡ pushed.text → new.candidates ≡ pushed.candidates → new.has_scope ≡ pushed.has_scope → new.at ≡ pushed.at → AwaitsNamedType s new
 argument-enumerator-expected s old mid pushed new last from number n known p letter one from_is number_is n_is two waits text candidates scope_same at =
     enumerator-begins s mid pushed new from old.at number n known (known-next s old mid false last number known p one number_is)
     (ap (λ v. reverse v.list.items) one.waiting ∙ p.open_is) letter from_is (n_is ∙ ap (λ k. k + 1) one.at) two waits text candidates scope_same at
 
 -- its type is read
-pub value-argument-enumerator : (s : Symbol) (w : Direct) (is_reference : Bool) (from number : ℕ) (known : Arguments) → IsWriting s w (steps.Value is_reference false)
-    → slice_get w.waiting.list.items (length w.waiting.list.items - 1) ≡ Some (opens.ArgumentEnumerator from number known) → AwaitsArgumentNumber s w from number known
+pub value-argument-enumerator : (s : Symbol) (w : Direct) (is_reference : Bool) (from number : ℕ) (known : Arguments) → IsWriting s w (Step.Value is_reference false)
+    → slice_get w.waiting.list.items (length w.waiting.list.items - 1) ≡ Some (Open.ArgumentEnumerator from number known) → AwaitsArgumentNumber s w from number known
 value-argument-enumerator s w is_reference from number known p found =
-    let entry = opens.ArgumentEnumerator from number known in
-    let last = last-found w.waiting.list.items entry found in
+    let last = last-found w.waiting.list.items (Open.ArgumentEnumerator from number known) found in
     go last.0 last.1 (subst (λ ws. Stands s p.scope ws v.os v.front) last.1 v.stands)
   where
     v : IsTypeRead s p.scope w p.state (reverse w.waiting.list.items) is_reference false
     v = p.is_before
 
-    go : (rest : List Open) → reverse w.waiting.list.items ≡ opens.ArgumentEnumerator from number known ∷ rest
-        → Stands s p.scope (opens.ArgumentEnumerator from number known ∷ rest) v.os v.front → AwaitsArgumentNumber s w from number known
+    go : (rest : List Open) → reverse w.waiting.list.items ≡ Open.ArgumentEnumerator from number known ∷ rest
+        → Stands s p.scope (Open.ArgumentEnumerator from number known ∷ rest) v.os v.front → AwaitsArgumentNumber s w from number known
     go [] is waits = absurd waits
     go (owner ∷ rest) is waits = record {
       kept = p.kept;
@@ -453,7 +433,7 @@ pub argument-enumerator-read : (s : Symbol) (old begun pushed middle ended new :
     → EndsOtherwise old.text.list.items → begun.text ≡ old.text → begun.candidates ≡ old.candidates → begun.has_scope ≡ old.has_scope → begun.at ≡ old.at
     → reverse begun.waiting.list.items ≡ a.owner ∷ a.rest → Writes begun pushed (codes ")") → (read : IsNumberRead s.bytes pushed middle)
     → StandsAt s.bytes middle.at (69 ∷ []) × (ended.at ≡ middle.at + 1) × Reads middle ended []
-    → new.waiting.list.items ≡ ended.waiting.list.items ++ opens.Argument from number known ∷ [] → new.text ≡ ended.text → new.candidates ≡ ended.candidates
+    → new.waiting.list.items ≡ ended.waiting.list.items ++ Open.Argument from number known ∷ [] → new.text ≡ ended.text → new.candidates ≡ ended.candidates
     → new.has_scope ≡ ended.has_scope → new.at ≡ ended.at → IsArgumentRead s new false from number known false
 unfolding signed_digits
 argument-enumerator-read s old begun pushed middle ended new from number known a other text candidates scope_same at opened writes read done waits same_text same_candidates same_scope same_at =
@@ -464,8 +444,7 @@ argument-enumerator-read s old begun pushed middle ended new from number known a
     let here : pushed.at ≡ old.at = writes.at ∙ at in
     let led = led_by (detail_of s) of_template a.front a.name ++ in_front_of_next a.ts a.texts in
     let more = codes ")" ++ number_text n in
-    let own = codes "(" ++ a.bytes ++ codes ")" ++ sign_text n ++ n.digits in
-    let entry = opens.Argument from number known in
+    let entry = Open.Argument from number known in
     let wrote : ended.text.list.items ≡ old.text.list.items ++ more =
     done.2.text ∙ append-nil middle.text.list.items ∙ read.4.text ∙ ap (λ l. l ++ number_text n) (writes.text ∙ ap (λ v. v.list.items ++ codes ")") text)
     ∙ append_assoc old.text.list.items (codes ")") (number_text n) in
@@ -484,7 +463,7 @@ argument-enumerator-read s old begun pushed middle ended new from number known a
       ts = a.ts;
       texts = a.texts;
       t = t;
-      bytes = own;
+      bytes = codes "(" ++ a.bytes ++ codes ")" ++ sign_text n ++ n.digits;
       is_template = subst (λ l. IsTemplate (detail_of s) a.scope.names a.owner a.front a.template a.name l) (sym grown)
           (template-stays (detail_of s) a.scope.names a.owner a.front a.template a.name old.text.list.items more a.is_template);
       before = [];
@@ -513,7 +492,7 @@ argument-belongs detail names true known opened owner rest before before_text co
 
 -- unknown arguments may follow
 pub known-passes : (s : Symbol) (w : Direct) (is_pack : Bool) (last : ℕ) (known : Arguments) → AwaitsKnownArgument s w is_pack last known
-    → IsWriting s w (steps.List false)
+    → IsWriting s w (Step.List false)
 known-passes s w is_pack last known p = let listing = arguments_or_pack is_pack p.before p.before_text in record {
   kept = p.kept;
   is_before = (
@@ -653,9 +632,9 @@ argument-awaits s old new is_pack from to number known more is_reference p waits
 
 -- the entry open around arguments is no pack
 no-pack-around : (s : Symbol) (w : Direct) (is_pack : Bool) (last : ℕ) (known : Arguments) (p : AwaitsKnownArgument s w is_pack last known) (opened : List Open)
-    → opened ≡ p.owner ∷ p.rest → (rest : List Open) → opened ≡ opens.Pack ∷ rest → ⊥
+    → opened ≡ p.owner ∷ p.rest → (rest : List Open) → opened ≡ Open.Pack ∷ rest → ⊥
 no-pack-around s w is_pack last known p opened is rest e =
-    let same : p.owner ≡ opens.Pack = cc (sym is ∙ e) in
+    let same : p.owner ≡ Open.Pack = cc (sym is ∙ e) in
     subst (λ o. IsTemplate (detail_of s) p.scope.names o p.front p.template p.name w.text.list.items) same p.is_template
 
 -- the arguments known so far
@@ -711,8 +690,7 @@ front-there (u ∷ us) es vs (suc k) t below e = front-there us es vs k t (omega
 behind-there : (us es : List Term) (k : ℕ) (t : Term) → length us ≤ k → slice_get (us ++ es) k ≡ Some t → slice_get es (k - length us) ≡ Some t
 behind-there [] es k t le e = subst (λ n. slice_get es n ≡ Some t) (omega arith) e
 behind-there (u ∷ us) es zero t le e = absurd (omega (arith, le))
-behind-there (u ∷ us) es (suc k) t le e =
-    subst (λ n. slice_get es n ≡ Some t) (omega arith) (behind-there us es k t (omega (arith, le)) e)
+behind-there (u ∷ us) es (suc k) t le e = subst (λ n. slice_get es n ≡ Some t) (omega arith) (behind-there us es k t (omega (arith, le)) e)
 
 -- what is known of a pack's elements, and of the arguments before it
 elements-known : (s : Symbol) (w : Direct) (last size : ℕ) (known : Arguments) (p : AwaitsKnownArgument s w true last known) → size ≡ last + 1 - known.before

@@ -1,18 +1,7 @@
 -- The beginnings of symbols, and their answers.
-use Rattle.std.proofs.Common.{◌≡◌, ◌≢◌, ◌≤◌, ◌⊎◌, ℕ, ◌+◌, inl, inr, length, List, [], ◌∷◌, ◌++◌, reverse, ◌||◌, Bool, true, false, None, nat_eq, refl, ap, sym, subst, ◌∙◌, arith, codes, cond}
-use Rattle.std.proofs.lemmas.Bool.{false≢true, ne_eqb}
-use Rattle.cpp_direct.specs.AllTerms.{adjusting, Adjustment, among, by_table, clone, clone_text, construction, encoding_of, first_around, first_state, in_name, in_types, Kind, look_up, may_be_empty, named, nil, no_items, non_virtual, normal, nothing_there, of_name, Production, qualifiers_of, ref_of, same_bytes, signed_digits, special, special_texts, State, Term, thunk, thunk_text, tree, tree_of, Value}
-use Rattle.cpp_direct.specs.AllStates.{argument_of, AwaitsEncoding, AwaitsItems, AwaitsName, AwaitsNest, below, called_on, detail_of, Direct, Encoded, EncodedBehind, EndsBehind, has_const, is_guard, is_local, is_object, is_special_letter, is_type, IsFresh, IsMarkPlace, IsScoped, IsWriting, Kept, MarkPlace, no_scope, Open, Purpose, qualifiers, Reads, Serves, Shows, special_letters, Stands, Symbol, TakesItems, Writes}
-use Rattle.cpp_direct.specs.declared.open.Purpose.TheVariants as purposes
-use Rattle.cpp_direct.specs.declared.open.Open.TheVariants as opens
-use Rattle.cpp_direct.specs.declared.open.Step.TheVariants as steps
-use Rattle.cpp_direct.specs.AllHoles.{BaseOpened, Comes, EncodingOpened, Expects, GuardOpened, IsOffsetAt, ItemsOpened, Opened, StandsAt, SymbolOpened, mark_letters}
-use Rattle.cpp_direct.proofs.Kept.{kept-same, none-kept}
-use Rattle.cpp_direct.proofs.NamePlaces.{reads-then}
+use Rattle.cpp_direct.proofs.AllGround.{◌≡◌, ◌≢◌, ◌≤◌, ◌⊎◌, ℕ, ◌+◌, inl, inr, length, List, [], ◌∷◌, ◌++◌, reverse, ◌||◌, Bool, true, false, None, nat_eq, refl, ap, sym, subst, ◌∙◌, arith, codes, cond, false≢true, ne_eqb, adjusting, Adjustment, among, by_table, clone, clone_text, construction, encoding_of, first_around, first_state, in_name, in_types, Kind, look_up, may_be_empty, named, nil, no_items, non_virtual, normal, nothing_there, of_name, Production, qualifiers_of, ref_of, same_bytes, signed_digits, special, special_texts, State, Term, thunk, thunk_text, tree, tree_of, Value, argument_of, AwaitsEncoding, AwaitsItems, AwaitsName, AwaitsNest, below, called_on, detail_of, Direct, Encoded, EncodedBehind, EndsBehind, has_const, is_guard, is_local, is_object, is_special_letter, is_type, IsFresh, IsMarkPlace, IsScoped, IsWriting, Kept, MarkPlace, no_scope, Open, Purpose, qualifiers, Reads, Serves, Shows, special_letters, Stands, Symbol, TakesItems, Writes, BaseOpened, Comes, EncodingOpened, Expects, GuardOpened, IsOffsetAt, ItemsOpened, Opened, StandsAt, SymbolOpened, mark_letters, Step, kept-same, none-kept, reads-then, never-explicit, thunk-filled, thunk-shows, clone-filled, clone-shows, guarded-shows, encoding-object, none-scoped}
 use Rattle.cpp_direct.proofs.Moves.{stands-join, is_eaten, expects-empty}
 use Rattle.cpp_direct.proofs.MovesOfEncodings.{symbol-starts, encoding-opens, special-opens, thunk-opens, virtual-thunk-opens, clone-opens, guard-opens, name-nested, table-opens}
-use Rattle.cpp_direct.proofs.PrintedSymbols.{never-explicit, thunk-filled, thunk-shows, clone-filled, clone-shows, guarded-shows, encoding-object}
-use Rattle.cpp_direct.proofs.Scopes.{none-scoped}
 use Rattle.cpp_direct.proofs.LettersTested.{codes_pass}
 use Rattle.cpp_direct.proofs.TypesRead.{code_in, letter-listed}
 
@@ -97,8 +86,7 @@ name-awaited s w p = record {
 base-awaited : (s : Symbol) (opened_ : SymbolOpened s) (made : Term → Term) (k : List ℕ) (w : Direct)
     → is_local s.bytes ≡ false → is_guard s.bytes ≡ false → BaseOpened s opened_.inner 2 made w.at first_state
     → w.text.list.items ≡ k → 1 ≤ length k → w.candidates.list.items ≡ []
-    → ((e : Term) (bytes : List ℕ) → Shows (detail_of s) e bytes → Shows (detail_of s) (made e) (k ++ bytes))
-    → AwaitsEncoding s w
+    → ((e : Term) (bytes : List ℕ) → Shows (detail_of s) e bytes → Shows (detail_of s) (made e) (k ++ bytes)) → AwaitsEncoding s w
 unfolding first_state
 base-awaited s opened_ made k w apart other base text_is filled no_candidate shows = record {
   kept = record { state = first_state; scope = no_scope; keeps = none-kept s w no_candidate (λ e. no-object s.bytes apart other) };
@@ -186,13 +174,12 @@ special-known letter of_type of_none there =
 pub special-stands : (s : List ℕ) (letter : ℕ) → look_up (letter ∷ []) special_texts ≢ [] → StandsAt s 2 (84 ∷ [])
     → (letter ≢ 0 → StandsAt s 3 (letter ∷ [])) → StandsAt s 2 (84 ∷ letter ∷ [])
 unfolding look_up special_texts same_bytes
-special-stands s letter filled first there =
-    stands-join s 2 (84 ∷ []) (letter ∷ []) first (there (λ e. filled (ap (λ l. look_up (l ∷ []) special_texts) e)))
+special-stands s letter filled first there = stands-join s 2 (84 ∷ []) (letter ∷ []) first (there (λ e. filled (ap (λ l. look_up (l ∷ []) special_texts) e)))
 
 -- the first type of a special symbol is expected
 type-begins : (s : Symbol) (w : Direct) (entry : Open) (os : List Opened) → is_local s.bytes ≡ false → is_guard s.bytes ≡ false → w.at ≡ 4
     → w.candidates.list.items ≡ [] → w.waiting.list.items ≡ entry ∷ [] → argument_of (entry ∷ []) ≡ None
-    → Stands s no_scope (entry ∷ []) os w.text.list.items → Expects s Kind.Type (in_name 2) os 4 first_state → IsWriting s w steps.Type
+    → Stands s no_scope (entry ∷ []) os w.text.list.items → Expects s Kind.Type (in_name 2) os 4 first_state → IsWriting s w Step.Type
 unfolding in_name first_state
 type-begins s w entry os apart other at_is none_ waiting none stands expects = record {
   kept = record { state = first_state; scope = no_scope; keeps = none-kept s w none_ (λ e. no-object s.bytes apart other) };
@@ -212,21 +199,21 @@ type-begins s w entry os apart other at_is none_ waiting none stands expects = r
 pub special-begins : (s : Symbol) (w : Direct) (letter : ℕ) → is_local s.bytes ≡ false → is_guard s.bytes ≡ false
     → StandsAt s.bytes 0 (95 ∷ 90 ∷ []) → StandsAt s.bytes 2 (84 ∷ letter ∷ []) → letter ≢ 65 → letter ≢ 77 → w.at ≡ 4
     → w.text.list.items ≡ look_up (letter ∷ []) special_texts → look_up (letter ∷ []) special_texts ≢ [] → w.candidates.list.items ≡ []
-    → w.waiting.list.items ≡ opens.Special ∷ [] → IsWriting s w steps.Type
+    → w.waiting.list.items ≡ Open.Special ∷ [] → IsWriting s w Step.Type
 special-begins s w letter apart other starts stands of_type of_none at_is written filled none_ waiting =
     let opened_ = symbol-starts s starts in
     let here = special-opens s opened_.inner first_around letter 2 first_state (special-known letter of_type of_none filled) opened_.awaits stands in
-    type-begins s w opens.Special here.inner apart other at_is none_ waiting refl
+    type-begins s w Open.Special here.inner apart other at_is none_ waiting refl
     (letter, written, (λ e. filled (sym written ∙ e)), λ t at st comes. encoded-whole s opened_ (special letter t) at st (here.onward t at st comes)) here.awaits
 
 -- a construction table does
 pub table-begins : (s : Symbol) (w : Direct) → s.is_wide ≡ true → is_local s.bytes ≡ false → is_guard s.bytes ≡ false
     → StandsAt s.bytes 0 (95 ∷ 90 ∷ []) → StandsAt s.bytes 2 (84 ∷ []) → StandsAt s.bytes 3 (67 ∷ []) → w.at ≡ 4
-    → w.text.list.items ≡ [] → w.candidates.list.items ≡ [] → w.waiting.list.items ≡ opens.Derived ∷ [] → IsWriting s w steps.Type
+    → w.text.list.items ≡ [] → w.candidates.list.items ≡ [] → w.waiting.list.items ≡ Open.Derived ∷ [] → IsWriting s w Step.Type
 table-begins s w wide apart other starts first second at_is no_text none_ waiting =
     let opened_ = symbol-starts s starts in
     let here = table-opens s opened_.inner first_around 2 first_state wide opened_.awaits (stands-join s.bytes 2 (84 ∷ []) (67 ∷ []) first second) in
-    type-begins s w opens.Derived here.inner apart other at_is none_ waiting refl (
+    type-begins s w Open.Derived here.inner apart other at_is none_ waiting refl (
       no_text,
       λ t at st comes digits end is line.
           let base = here.onward t at st comes digits end is line in
@@ -243,8 +230,7 @@ pub nest-awaited : (s : Symbol) (w : Direct) (kept : Kept s w) (purpose : Purpos
     → IsMarkPlace s.bytes first place → w.at ≡ place.end
     → ((outer : List Opened) → ((t : Term) (listed : Bool) (here : ℕ) (now : State) → Comes s outer (tree t listed) here now
     → Comes s inner (named t (qualifiers (has_const place.mark)) (called_on place.mark)) here now)
-    → Serves s purpose (below s kept.scope (reverse w.waiting.list.items)) outer w.text.list.items)
-    → AwaitsNest s w purpose
+    → Serves s purpose (below s kept.scope (reverse w.waiting.list.items)) outer w.text.list.items) → AwaitsNest s w purpose
 unfolding in_name
 nest-awaited s w kept purpose encoding inner at first place own expects letter next is here serves =
     let letters = mark_letters (has_const place.mark) (called_on place.mark) in
@@ -262,9 +248,9 @@ nest-awaited s w kept purpose encoding inner at first place own expects letter n
 
 -- the name of a symbol's encoding is expected
 pub nested-begins : (s : Symbol) (old : Direct) (first : ℕ) (place : MarkPlace) → AwaitsName s old → StandsAt s.bytes old.at (78 ∷ []) → first ≡ old.at + 1
-    → IsMarkPlace s.bytes first place → AwaitsNest s (record old { at = place.end }) (purposes.Name place.mark)
+    → IsMarkPlace s.bytes first place → AwaitsNest s (record old { at = place.end }) (Purpose.Name place.mark)
 nested-begins s old first place p letter next is =
-    nest-awaited s (record old { at = place.end }) (kept-same s old (record old { at = place.end }) refl refl refl p.kept) (purposes.Name place.mark) p.encoding p.outer
+    nest-awaited s (record old { at = place.end }) (kept-same s old (record old { at = place.end }) refl refl refl p.kept) (Purpose.Name place.mark) p.encoding p.outer
     old.at first place refl p.awaits letter next is refl
     (λ outer named_ t listed here now comes. p.onward (named t (qualifiers (has_const place.mark)) (called_on place.mark)) here now (named_ t listed here now comes))
 
@@ -277,8 +263,7 @@ unfolding first_state
 object-begins s old new fresh apart guard starts marks writes =
     let opened_ = symbol-starts s starts in
     let guard_ : GuardOpened s opened_.inner 2 4 first_state = guard-opens s opened_.inner first_around 2 first_state opened_.awaits marks in
-    let k = codes "guard variable for " in
-    let text_is : new.text.list.items ≡ k = writes.text ∙ ap (λ l. l ++ k) fresh.no_text in
+    let text_is : new.text.list.items ≡ codes "guard variable for " = writes.text ∙ ap (λ l. l ++ codes "guard variable for ") fresh.no_text in
     record {
       kept = record {
         state = first_state;

@@ -1,32 +1,11 @@
 -- A type that names an argument of a function's template is read, and so is what expands a pack.
-use Rattle.cpp_direct.specs.AllTerms.{after, appended, applied, argument_so_far, between, byte_of, close, Continuation, count, counted_value, Detail, element, enclosed_argument, ends_arguments, expansion, index_of, instance, is_code, is_function_type, is_void, Kind, length_if_pack, listed_so_far, listed_value, lvalue, may_be_empty, meaning, number_of_kind, parameter, parameter_named, parameter_so_far, parts_of, Production, rvalue, Term, types_of, under_expansion, with_packs, with_type}
-use Rattle.cpp_direct.specs.AllStates.{added, AreCandidates, AreExpanded, AreParametersRead, Argument, argument_of, Arguments, arguments_in, ArgumentsGoOn, AwaitsNextArgument, AwaitsType, below, Candidate, comma_text, detail_of, Direct, EncodedBehind, expansion_letters, hidden, in_front_of_next, IsFunctionEnded, IsKnown, IsDependentNow, IsMarkedBy, IsNamedAgain, IsNaming, IsPackOf, IsPackThere, IsPlaced, IsScope, IsScoped, IsSingle, IsTemplate, IsWriting, Kept, list_of, Lists, made_by, Mark, most_by_digit, Open, Owns, parameter_digits, ParametersGoOn, Pattern, pattern_letters, place_of, PrintAllBy, PrintsAs, PrintsGiven, PrintsMade, Scope, scoped_in, separator, Symbol, with_argument, Writes}
-use Rattle.cpp_direct.proofs.Kept.{reverse-last, template-stays, candidate-found, kept-argument, kept-grown, kept-same, kept-written, made-here, piece-found, placed-stays, value-added, value-comes, candidate-inside, kept-as, kept-with}
-use Rattle.cpp_direct.proofs.Listed.{element-goes-on, element-scoped, some-elements, template-listed}
+use Rattle.cpp_direct.proofs.AllGround.{after, appended, applied, argument_so_far, between, byte_of, close, Continuation, count, counted_value, Detail, element, enclosed_argument, ends_arguments, expansion, index_of, instance, is_code, is_function_type, is_void, Kind, length_if_pack, listed_so_far, listed_value, lvalue, may_be_empty, meaning, number_of_kind, parameter, parameter_named, parameter_so_far, parts_of, Production, rvalue, Term, types_of, under_expansion, with_packs, with_type, added, AreCandidates, AreExpanded, AreParametersRead, Argument, argument_of, Arguments, arguments_in, ArgumentsGoOn, AwaitsNextArgument, AwaitsType, below, Candidate, comma_text, detail_of, Direct, EncodedBehind, expansion_letters, hidden, in_front_of_next, IsFunctionEnded, IsKnown, IsDependentNow, IsMarkedBy, IsNamedAgain, IsNaming, IsPackOf, IsPackThere, IsPlaced, IsScope, IsScoped, IsSingle, IsTemplate, IsWriting, Kept, list_of, Lists, made_by, Mark, most_by_digit, Open, Owns, parameter_digits, ParametersGoOn, Pattern, pattern_letters, place_of, PrintAllBy, PrintsAs, PrintsGiven, PrintsMade, Scope, scoped_in, separator, Symbol, with_argument, Writes, Comes, Expects, IsReferable, IsTyped, Opened, StandsAt, TypeOpens, as_const, candidate, with_candidate, tree, State, Around, is_there, letter_of, part, piece_of, tree_of, is_listed, Bool, ◌≡◌, ◌≢◌, ℕ, zero, suc, ◌+◌, ◌-◌, ◌≤◌, ◌<◌, length, List, [], ◌∷◌, ◌++◌, take, drop, reverse, slice_get, get_or, true, false, replicate, Some, None, nat_le, ◌&&◌, refl, ap, sym, ◌∙◌, subst, arith, append_assoc, append-nil, Ok, codes, le-leb, lt-ltb, length-append, slice_get_within, get_or_from_slice_get, get_or-append_seam, Token, IsNumberToken, NumberKind, Step, reverse-last, template-stays, candidate-found, kept-argument, kept-grown, kept-same, kept-written, made-here, piece-found, placed-stays, value-added, value-comes, candidate-inside, kept-as, kept-with, const-opens, reference-type-opens, solid-opens, substitution-opens, parameter-given, rvalue-given, argument-awaits, element-awaits, all-more, next-prints-in, next-prints-by, parameters-as, pack-stays, unfolding_behind}
+use Rattle.cpp_direct.proofs.AllRead.{element-goes-on, element-scoped, some-elements, template-listed, again-substituted, named-here, next-separated, nothing-ended, parameter-goes_on}
 use Rattle.cpp_direct.proofs.Handed.{noted-added, noted-within}
 use Rattle.cpp_direct.proofs.Moves.{chain-opens, eats-widely, fixed-fills, is_eaten_widely, is_left, leaves, hole, eats, byte-opens, next-part, closes, none-fills, number-fills, is_eaten, stands-join, stands-split, expects-empty, open_at, fill, filled-at}
-use Rattle.cpp_direct.proofs.MovesOfTypes.{const-opens, reference-type-opens, solid-opens, substitution-opens}
 use Rattle.cpp_direct.proofs.PrintedExpansions.{expansion-element, expansion-empty}
-use Rattle.cpp_direct.proofs.PrintedTypes.{parameter-given, rvalue-given}
-use Rattle.cpp_direct.proofs.NamedArguments.{again-substituted, named-here}
-use Rattle.cpp_direct.specs.AllHoles.{Comes, Expects, IsReferable, IsTyped, Opened, StandsAt, TypeOpens, as_const, candidate, with_candidate}
-use Rattle.cpp_direct.specs.declared.open.Pattern.TheVariants as patterns
-use Rattle.cpp_grammar.specs.Values.{tree, State, Around, text_of, is_there, letter_of, part, piece_of, tree_of, is_listed}
-use Rattle.std.proofs.Common.{Bool, ◌≡◌, ◌≢◌, ℕ, zero, suc, ◌+◌, ◌-◌, ◌≤◌, ◌<◌, length, List, [], ◌∷◌, ◌++◌, take, drop, reverse, slice_get, get_or, true, false, replicate, Some, None, nat_le, ◌&&◌, refl, ap, sym, ◌∙◌, subst, arith, append_assoc, append-nil, Ok, codes}
-use Rattle.std.proofs.lemmas.Bool.{le-leb, lt-ltb}
-use Rattle.std.proofs.lemmas.List.{length-append}
-use Rattle.std.proofs.lemmas.Option.{slice_get_within, get_or_from_slice_get}
-use Rattle.std.proofs.Math.Seq.{get_or-append_seam}
-use Rattle.sym_core.specs.declared.NumberKind.TheVariants.{Seq36, Decimal}
-use Rattle.sym_core.specs.Token.{Token, IsNumberToken}
-use Rattle.cpp_direct.proofs.Ending.{next-separated, nothing-ended, parameter-goes_on}
-use Rattle.cpp_direct.proofs.MovesOfLists.{argument-awaits, element-awaits}
-use Rattle.cpp_direct.proofs.PrintedLists.{all-more, next-prints-in, next-prints-by}
-use Rattle.cpp_direct.proofs.Scopes.{parameters-as, pack-stays}
+use Rattle.cpp_grammar.specs.Values.{text_of}
 use Rattle.cpp_direct.proofs.Signatures.{one-hidden}
-use Rattle.cpp_grammar.specs.Unfolding as unfolding_
-use Rattle.cpp_direct.specs.declared.open.Open.TheVariants as opens
-use Rattle.cpp_direct.specs.declared.open.Step.TheVariants as steps
 use Rattle.cpp_grammar.specs.Values as values
 
 -- ## Moves
@@ -38,7 +17,7 @@ parameter_token k = record { before = []; own = parameter_digits k; behind = 95 
 digit-is : (k : ℕ) → k ≤ 9 → nat_le 48 (48 + k) && nat_le (48 + k) 57 ≡ true
 digit-is k few = ap (λ b. b && nat_le (48 + k) 57) (le-leb 48 (48 + k) (omega arith)) ∙ le-leb (48 + k) 57 (omega (arith, few))
 
-pub parameter-number : (k : ℕ) → k ≤ most_by_digit → IsNumberToken Decimal (parameter_token k)
+pub parameter-number : (k : ℕ) → k ≤ most_by_digit → IsNumberToken NumberKind.Decimal (parameter_token k)
 parameter-number zero few = record { bare = refl; digits = (tt, tt); ends = refl }
 parameter-number (suc k) few = record { bare = refl; digits = ((digit-is k (omega (arith, few)), tt), tt); ends = refl }
 
@@ -65,7 +44,7 @@ number-tested around k at st later few named =
 number-comes : (s : Symbol) (kind : Kind) (around : Around) (os : List Opened) (k at : ℕ) (st later : State) → IsTyped kind → k ≤ most_by_digit
     → ((place : ℕ) → parameter_named around place k st ≡ Ok later) → Expects s kind around os at st → StandsAt s.bytes at (84 ∷ (parameter_digits k ++ 95 ∷ []))
     → Comes s os (tree (parameter k) true) (at + 1 + length (parameter_digits k ++ 95 ∷ [])) later
-unfolding is_eaten number_of_kind parts_of may_be_empty between close unfolding_.behind meaning part byte_of tree_of text_of piece_of letter_of is_there applied is_function_type
+unfolding is_eaten number_of_kind parts_of may_be_empty between close unfolding_behind meaning part byte_of tree_of text_of piece_of letter_of is_there applied is_function_type
 number-comes s kind around os k at st later typed few named expects stands =
     let p = Production.Parameter in
     let both = stands-split s.bytes at (84 ∷ []) (parameter_digits k ++ 95 ∷ []) stands in
@@ -118,13 +97,11 @@ there-inside s w all k p kept around scoped found is single =
     (found.0, found.1)
 
 pub argument-inside : (s : Symbol) (w : Direct) (all : Arguments) (k : ℕ) (p : Argument) → AwaitsType s w
-    → argument_of (reverse w.waiting.list.items) ≡ Some all → p ≡ place_of all k → IsSingle all k
-    → (p.from ≤ p.to) × (p.to ≤ length w.text.list.items)
+    → argument_of (reverse w.waiting.list.items) ≡ Some all → p ≡ place_of all k → IsSingle all k → (p.from ≤ p.to) × (p.to ≤ length w.text.list.items)
 argument-inside s w all k p a found is single = there-inside s w all k p a.kept a.around a.scoped found is single
 
 pub operand-inside : (s : Symbol) (w : Direct) (all : Arguments) (k : ℕ) (p : Argument) → AwaitsNextArgument s w
-    → argument_of (reverse w.waiting.list.items) ≡ Some all → p ≡ place_of all k → IsSingle all k
-    → (p.from ≤ p.to) × (p.to ≤ length w.text.list.items)
+    → argument_of (reverse w.waiting.list.items) ≡ Some all → p ≡ place_of all k → IsSingle all k → (p.from ≤ p.to) × (p.to ≤ length w.text.list.items)
 operand-inside s w all k p a found is single = there-inside s w all k p a.kept a.goes.0 (element-scoped s w a) found is single
 
 -- a parameter may name it
@@ -140,23 +117,21 @@ pub parameter-done : (s : Symbol) (old mid new : Direct) (all : Arguments) (k : 
     → argument_of (reverse old.waiting.list.items) ≡ Some all → p ≡ place_of all k → IsSingle all k → all.encoding ≢ 0
     → Writes (record old { at = n }) mid (take (p.to - p.from) (drop p.from old.text.list.items)) → n ≡ old.at + 1 + length (parameter_digits k ++ 95 ∷ [])
     → new.candidates.list.items ≡ with_argument mid p → new.text ≡ mid.text → new.waiting ≡ mid.waiting → new.has_scope ≡ mid.has_scope
-    → new.at ≡ mid.at → IsWriting s new (steps.Value p.is_reference true)
+    → new.at ≡ mid.at → IsWriting s new (Step.Value p.is_reference true)
 parameter-done s old mid new all k p n a few letter line found is single real writes at more same_text same_waits same_scope same_at =
     let text = old.text.list.items in
     let h = named-placed s old all k p a found is single in
     let bytes = h.0 in
-    let grown : mid.text.list.items ≡ text ++ bytes =
-    writes.text ∙ ap (λ l. text ++ l) (piece-found text bytes p.from p.to h.2).2 in
+    let grown : mid.text.list.items ≡ text ++ bytes = writes.text ∙ ap (λ l. text ++ l) (piece-found text bytes p.from p.to h.2).2 in
     let prints = parameter-given a.scope.names k (record { bytes = bytes; reference = p.is_reference }) h.1 in
     let naming = named-here s old a.kept a.around all a.scoped found real in
-    let later = with_candidate a.around (parameter k) a.state in
     value-comes s new
     (kept-argument s mid new (kept-grown s old mid bytes grown writes.candidates writes.scope a.kept) p bytes (parameter k) a.around
     (subst (λ l. IsPlaced l p bytes) (sym grown) (placed-stays text bytes p bytes h.2)) prints
     (made-here a.scope a.around (reverse old.waiting.list.items) a.scoped naming) same_text more same_scope)
     a.os (parameter k) text bytes p.is_reference true (ap (λ v. v.list.items) same_text ∙ grown) prints (ap (λ v. reverse v.list.items) (same_waits ∙ writes.waiting))
     (λ e. naming)
-    (subst (λ n. Comes s a.os (tree (parameter k) true) n later) (sym (same_at ∙ writes.at ∙ at))
+    (subst (λ n. Comes s a.os (tree (parameter k) true) n (with_candidate a.around (parameter k) a.state)) (sym (same_at ∙ writes.at ∙ at))
     (parameter-comes s a.kind a.around a.os k old.at a.state a.typed few (scope-named s old all k a found single) a.awaits
     (stands-join s.bytes old.at (84 ∷ []) (parameter_digits k ++ 95 ∷ []) letter line))) a.stands
 
@@ -177,7 +152,7 @@ operand-comes : (s : Symbol) (around : Around) (os : List Opened) (k at : ℕ) (
     → Expects s Kind.Argument around os at st → StandsAt s.bytes at (88 ∷ []) → StandsAt s.bytes (at + 1) (84 ∷ [])
     → StandsAt s.bytes (at + 1 + 1) (parameter_digits k ++ 95 ∷ []) → StandsAt s.bytes (at + 1 + 1 + length (parameter_digits k ++ 95 ∷ [])) (69 ∷ [])
     → Comes s os (tree (parameter k) false) (at + 1 + 1 + length (parameter_digits k ++ 95 ∷ []) + 1) st
-unfolding is_eaten is_eaten_widely is_left number_of_kind parts_of may_be_empty between close unfolding_.behind meaning part byte_of tree_of text_of piece_of letter_of is_there applied enclosed_argument ends_arguments is_code
+unfolding is_eaten is_eaten_widely is_left number_of_kind parts_of may_be_empty between close unfolding_behind meaning part byte_of tree_of text_of piece_of letter_of is_there applied enclosed_argument ends_arguments is_code
 operand-comes s around os k at st wide few scope expects x letter line ends =
     let p = Production.ParameterExpression in
     let argument = byte-opens (eats s Kind.Argument Production.Expression 88 refl) (hole s Kind.Argument around os at st expects) x refl refl in
@@ -195,7 +170,7 @@ pub operand-done : (s : Symbol) (old mid new : Direct) (all : Arguments) (k : �
     → Writes (record old { at = n }) mid (take (p.to - p.from) (drop p.from old.text.list.items))
     → n ≡ old.at + 1 + 1 + length (parameter_digits k ++ 95 ∷ []) + 1 → mid.waiting.list.items ≡ ws ++ owner ∷ [] → IsDependentNow owner noted
     → new.waiting.list.items ≡ ws ++ noted ∷ [] → new.text ≡ mid.text → new.candidates ≡ mid.candidates → new.has_scope ≡ mid.has_scope → new.at ≡ mid.at
-    → IsWriting s new (steps.List false)
+    → IsWriting s new (Step.List false)
 operand-done s old mid new all k p n ws owner noted a wide few x letter line ends found is single real writes at waits now now_waits same_text same_candidates same_scope same_at =
     let text = old.text.list.items in
     let place = a.place in
@@ -203,8 +178,8 @@ operand-done s old mid new all k p n ws owner noted a wide few x letter line end
     let scoped = element-scoped s old a in
     let opened : reverse old.waiting.list.items ≡ owner ∷ reverse ws =
     ap (λ v. reverse v.list.items) (sym writes.waiting) ∙ ap reverse waits ∙ reverse-last ws owner in
-    let apart : (others : List Open) → reverse old.waiting.list.items ≡ opens.Pack ∷ others → ⊥
-    = λ others e. let same : owner ≡ opens.Pack = cc (sym opened ∙ e) in subst (λ o. IsDependentNow o noted) same now in
+    let apart : (others : List Open) → reverse old.waiting.list.items ≡ Open.Pack ∷ others → ⊥
+    = λ others e. let same : owner ≡ Open.Pack = cc (sym opened ∙ e) in subst (λ o. IsDependentNow o noted) same now in
     let l = template-listed s a.scope old a.state place.listing place.owner place.rest place.front place.template place.name a.ts a.texts (in_front_of_next a.ts a.texts)
     apart place.belongs a.elements a.written a.goes in
     let rest_is : place.rest ≡ reverse ws = cc (sym l.0 ∙ opened) in
@@ -215,8 +190,7 @@ operand-done s old mid new all k p n ws owner noted a wide few x letter line end
     subst (λ b. elim b [ true ↦ argument_of place.rest | false ↦ arguments_in place.owner ] ≡ Some all) within (subst (λ os. argument_of os ≡ Some all) l.0 found) in
     let h = placed-there s old all k p a.kept around scoped found is single in
     let bytes = h.0 in
-    let grown : mid.text.list.items ≡ text ++ bytes =
-    writes.text ∙ ap (λ l. text ++ l) (piece-found text bytes p.from p.to h.2).2 in
+    let grown : mid.text.list.items ≡ text ++ bytes = writes.text ∙ ap (λ l. text ++ l) (piece-found text bytes p.from p.to h.2).2 in
     let outer = below s a.scope place.rest in
     let element = argument-awaits s Kind.ArgumentList l.3.1 l.3.0 old.at a.state false tt l.3.4 in
     let end = old.at + 1 + 1 + length (parameter_digits k ++ 95 ∷ []) + 1 in
@@ -241,15 +215,14 @@ pub forwarded-done : (s : Symbol) (old mid one new : Direct) (all : Arguments) (
     → argument_of (reverse old.waiting.list.items) ≡ Some all → p ≡ place_of all k → IsSingle all k → all.encoding ≢ 0 → p.is_reference ≡ true
     → from ≡ length old.text.list.items → Writes (record old { at = n }) mid (take (p.to - p.from) (drop p.from old.text.list.items))
     → n ≡ old.at + 1 + 1 + length (parameter_digits k ++ 95 ∷ []) → Lists mid one (added mid from true true) → Lists one new (added one from true true)
-    → IsWriting s new (steps.Value true true)
+    → IsWriting s new (Step.Value true true)
 forwarded-done s old mid one new all k p n from a few referable mark letter line found is single real refers from_is writes at first second =
     let text = old.text.list.items in
     let h = named-placed s old all k p a found is single in
     let bytes = h.0 in
     let named : a.scope.names k ≡ Some (record { bytes = bytes; reference = true })
     = subst (λ r. a.scope.names k ≡ Some (record { bytes = bytes; reference = r })) refers h.1 in
-    let grown : mid.text.list.items ≡ text ++ bytes =
-    writes.text ∙ ap (λ l. text ++ l) (piece-found text bytes p.from p.to h.2).2 in
+    let grown : mid.text.list.items ≡ text ++ bytes = writes.text ∙ ap (λ l. text ++ l) (piece-found text bytes p.from p.to h.2).2 in
     let listed : one.text.list.items ≡ text ++ bytes = ap (λ v. v.list.items) first.text ∙ grown in
     let naming = named-here s old a.kept a.around all a.scoped found real in
     let here = made-here a.scope a.around (reverse old.waiting.list.items) a.scoped naming in
@@ -271,21 +244,19 @@ forwarded-done s old mid one new all k p n from a few referable mark letter line
 
 -- it is written once more
 pub again-inside : (s : Symbol) (w : Direct) (k : Candidate) → IsNamedAgain s w k → (k.from ≤ k.to) × (k.to ≤ length w.text.list.items)
-again-inside s w k p =
-    candidate-inside s (record w { at = p.before }) (counted_value Seq36 p.digits) k p.awaits.kept p.ordered p.found
+again-inside s w k p = candidate-inside s (record w { at = p.before }) (counted_value NumberKind.Seq36 p.digits) k p.awaits.kept p.ordered p.found
 
 pub dependent-again : (s : Symbol) (w new : Direct) (k : Candidate) (all : Arguments) → IsNamedAgain s w k
     → argument_of (reverse w.waiting.list.items) ≡ Some all → all.encoding ≢ 0 → Writes w new (take (k.to - k.from) (drop k.from w.text.list.items))
-    → IsWriting s new (steps.Value k.is_reference true)
+    → IsWriting s new (Step.Value k.is_reference true)
 unfolding may_be_empty
 dependent-again s w new k all p found real writes =
     let a = p.awaits in
     let text = w.text.list.items in
-    let c = candidate-found text w.candidates.list.items a.state.candidates (counted_value Seq36 p.digits) k a.keeps.candidates p.ordered p.found in
+    let c = candidate-found text w.candidates.list.items a.state.candidates (counted_value NumberKind.Seq36 p.digits) k a.keeps.candidates p.ordered p.found in
     let t = c.0.tree in
     let bytes = c.2.bytes in
-    let written : new.text.list.items ≡ text ++ bytes =
-    writes.text ∙ ap (λ l. text ++ l) (piece-found text bytes k.from k.to c.2.placed).2 in
+    let written : new.text.list.items ≡ text ++ bytes = writes.text ∙ ap (λ l. text ++ l) (piece-found text bytes k.from k.to c.2.placed).2 in
     let prints : PrintsGiven (detail_of s) a.scope.names t bytes k.is_reference
     = subst (λ d. PrintsAs (detail_of s) a.scope.names d t bytes k.is_reference) p.is c.2.prints in
     let open_ = reverse w.waiting.list.items in
@@ -324,10 +295,10 @@ pack-comes s kind around os k at st ts typed few there expects stands =
 
 -- the trees that a pattern makes of a parameter, one after the other
 abbrev trees_of : Pattern → Term → List Term
-trees_of patterns.Same t = t ∷ []
-trees_of patterns.Lvalue t = t ∷ lvalue t ∷ []
-trees_of patterns.ConstLvalue t = t ∷ as_const t ∷ lvalue (as_const t) ∷ []
-trees_of patterns.Rvalue t = t ∷ rvalue t ∷ []
+trees_of Pattern.Same t = t ∷ []
+trees_of Pattern.Lvalue t = t ∷ lvalue t ∷ []
+trees_of Pattern.ConstLvalue t = t ∷ as_const t ∷ lvalue (as_const t) ∷ []
+trees_of Pattern.Rvalue t = t ∷ rvalue t ∷ []
 
 -- they become candidates
 abbrev with_trees : Around → List Term → State → State
@@ -355,12 +326,12 @@ pattern-comes : (s : Symbol) (pattern : Pattern) (around : Around) (os : List Op
     → Comes s os (tree (made_by pattern (parameter k)) true) (at + length (pattern_letters pattern ++ 84 ∷ (parameter_digits k ++ 95 ∷ [])))
     (with_trees around (trees_of pattern (parameter k)) (named_many (count (list_of ts)) st))
 unfolding under_expansion
-pattern-comes s patterns.Same around os k at st ts few there expects stands =
+pattern-comes s Pattern.Same around os k at st ts few there expects stands =
     subst (λ n. Comes s os (tree (parameter k) true) n (with_candidate around (parameter k) (named_many (count (list_of ts)) st))) (omega arith)
     (pack-comes s Kind.Type around os k at st ts tt few there expects stands)
-pattern-comes s patterns.Lvalue around os k at st ts few there expects stands =
+pattern-comes s Pattern.Lvalue around os k at st ts few there expects stands =
     marked-comes s 82 lvalue around os k at st ts few there (λ first. reference-type-opens s Kind.Type true (under_expansion around) os at (begun st) tt expects first) stands
-pattern-comes s patterns.ConstLvalue around os k at st ts few there expects stands =
+pattern-comes s Pattern.ConstLvalue around os k at st ts few there expects stands =
     let letters = 84 ∷ (parameter_digits k ++ 95 ∷ []) in
     let both = stands-split s.bytes at (82 ∷ []) (75 ∷ letters) stands in
     let rest = stands-split s.bytes (at + 1) (75 ∷ []) letters both.1 in
@@ -372,7 +343,7 @@ pattern-comes s patterns.ConstLvalue around os k at st ts few there expects stan
     subst (λ n. Comes s os (tree (lvalue (as_const (parameter k))) true) n (with_candidate around (lvalue (as_const (parameter k))) const_)) (omega arith)
     (o.onward (as_const (parameter k)) end const_
     (c.onward (parameter k) end own (pack-comes s Kind.Plain around c.inner k (at + 1 + 1) st ts tt few there c.awaits rest.1)))
-pattern-comes s patterns.Rvalue around os k at st ts few there expects stands =
+pattern-comes s Pattern.Rvalue around os k at st ts few there expects stands =
     marked-comes s 79 rvalue around os k at st ts few there (λ first. reference-type-opens s Kind.Type false (under_expansion around) os at (begun st) tt expects first) stands
 
 -- the candidates after it
@@ -385,18 +356,16 @@ with_expansion pattern k size around st =
 pub expansion-comes : (s : Symbol) (pattern : Pattern) (around : Around) (os : List Opened) (k at : ℕ) (st : State) (ts : List Term) → k ≤ most_by_digit → IsPackThere around k ts
     → Expects s Kind.Item around os at st → StandsAt s.bytes at (expansion_letters pattern k)
     → Comes s os (tree (expansion (made_by pattern (parameter k))) true) (at + length (expansion_letters pattern k)) (with_expansion pattern k (count (list_of ts)) around st)
-unfolding is_eaten number_of_kind parts_of between close unfolding_.behind meaning part byte_of tree_of text_of piece_of letter_of is_there listed_value with_type is_listed appended under_expansion
+unfolding is_eaten number_of_kind parts_of between close unfolding_behind meaning part byte_of tree_of text_of piece_of letter_of is_there listed_value with_type is_listed appended under_expansion
 expansion-comes s pattern around os k at st ts few there expects stands =
     let letters = pattern_letters pattern ++ 84 ∷ (parameter_digits k ++ 95 ∷ []) in
-    let t = made_by pattern (parameter k) in
     let first = stands-split s.bytes at (68 ∷ []) (112 ∷ letters) stands in
     let second = stands-split s.bytes (at + 1) (112 ∷ []) letters first.1 in
     let item = byte-opens (eats s Kind.Item Production.ItemWithD 68 refl) (hole s Kind.Item around os at st expects) first.0 refl refl in
     let expanded = byte-opens (eats s Kind.ItemAfterD Production.Expansion 112 refl) item second.0 refl refl in
-    let end = at + 1 + 1 + length letters in
     let made = with_trees around (trees_of pattern (parameter k)) (named_many (count (list_of ts)) st) in
     let comes = pattern-comes s pattern around (open_at expanded) k (at + 1 + 1) st ts few there expanded.expects second.1 in
-    let refers = fill expanded (tree t true) end made comes in
+    let refers = fill expanded (tree (made_by pattern (parameter k)) true) (at + 1 + 1 + length letters) made comes in
     (filled-at (at + length (expansion_letters pattern k)) (closes Production.ItemWithD (closes Production.Expansion refers refl) refl) (omega arith)).comes
 
 -- its letters are side by side
@@ -410,31 +379,15 @@ letters-stand s pattern k at second third named digits d b p c letters e t f lin
     (stands-join s second (112 ∷ []) (pattern_letters pattern ++ 84 ∷ behind) p
     (subst (λ n. StandsAt s n (pattern_letters pattern ++ 84 ∷ behind)) c
     (stands-join s third (pattern_letters pattern) (84 ∷ behind) letters
-    (subst (λ n. StandsAt s n (84 ∷ behind)) e
-    (stands-join s named (84 ∷ []) behind t (subst (λ n. StandsAt s n behind) f line)))))))
+    (subst (λ n. StandsAt s n (84 ∷ behind)) e (stands-join s named (84 ∷ []) behind t (subst (λ n. StandsAt s n behind) f line)))))))
 
 -- nothing is written
 pub none-written : (w : Direct) → Writes w w []
-none-written w = record {
-  text = sym (append-nil w.text.list.items);
-  candidates = refl;
-  waiting = refl;
-  nest = refl;
-  scope = refl;
-  at = refl;
-}
+none-written w = record { text = sym (append-nil w.text.list.items); candidates = refl; waiting = refl; nest = refl; scope = refl; at = refl }
 
 -- no element is written yet
 pub none-expanded : {detail : Detail} (pattern : Pattern) (w : Direct) (ts : List Term) → AreExpanded detail pattern w w ts 0
-none-expanded pattern w ts = record {
-  done = [];
-  rest = ts;
-  all = refl;
-  count = refl;
-  bytes = [];
-  prints = ([], tt, refl);
-  writes = none-written w;
-}
+none-expanded pattern w ts = record { done = []; rest = ts; all = refl; count = refl; bytes = []; prints = ([], tt, refl); writes = none-written w }
 
 none-left : (l : List Term) → length l ≡ 0 → l ≡ []
 none-left [] e = refl
@@ -469,14 +422,7 @@ expanded-inside pattern before w one ts argument number place p f is known write
     let h = p.among number known in
     let inside = piece-found before.text.list.items h.bytes q.from q.to h.placed in (
       omega (arith, ap (λ (k : Argument). k.from) is, ap (λ (k : Argument). k.to) is, inside.0),
-      omega (
-        arith,
-        ap (λ (k : Argument). k.to) is,
-        inside.1,
-        ap length writes.text,
-        length-append {A = ℕ},
-        ap length f.writes.text,
-      ),
+      omega (arith, ap (λ (k : Argument). k.to) is, inside.1, ap length writes.text, length-append {A = ℕ}, ap length f.writes.text),
     )
 
 -- what the pattern makes of one more is written
@@ -497,13 +443,12 @@ expanded-more {detail} pattern before w one two new ts argument number place mar
     let own : take (place.to - place.from) (drop place.from one.text.list.items) ≡ h.bytes =
     ap (λ (k : Argument). take (k.to - k.from) (drop k.from one.text.list.items)) is ∙ ap (λ l. take (q.to - q.from) (drop q.from l)) one_is ∙ found.2 in
     let more = h.bytes ++ marks in
-    let all_bytes = in_front_of_next f.done f.bytes ++ more in
     record {
       done = f.done ++ h.own ∷ [];
       rest = next.0;
       all = f.all ∙ ap (λ l. f.done ++ l) next.1 ∙ sym (append_assoc f.done (h.own ∷ []) next.0);
       count = omega (arith, size, length-append f.done (h.own ∷ []));
-      bytes = all_bytes;
+      bytes = in_front_of_next f.done f.bytes ++ more;
       prints = next-prints-by (PrintsMade detail pattern) f.done f.bytes h.own more f.prints
           (h.bytes, q.is_reference, marks, h.prints, subst (λ (k : Argument). IsMarkedBy pattern k.is_reference marks) is marks_are, refl);
       writes = record {
@@ -531,16 +476,16 @@ trees-hidden s scope text around (t ∷ ts) ks st known =
 expansion-hidden : (s : Symbol) (scope : Scope) (text : List ℕ) (ks : List Candidate) (around : Around) (pattern : Pattern) (k size : ℕ) (st : State)
     → AreCandidates s scope text ks st.candidates
     → AreCandidates s scope text (ks ++ replicate (2 + length (pattern_letters pattern)) hidden) (with_expansion pattern k size around st).candidates
-expansion-hidden s scope text ks around patterns.Same k size st known =
+expansion-hidden s scope text ks around Pattern.Same k size st known =
     let p = parameter k in
     trees-hidden s scope text around (p ∷ expansion p ∷ []) ks st known
-expansion-hidden s scope text ks around patterns.Lvalue k size st known =
+expansion-hidden s scope text ks around Pattern.Lvalue k size st known =
     let p = parameter k in
     trees-hidden s scope text around (p ∷ lvalue p ∷ expansion (lvalue p) ∷ []) ks st known
-expansion-hidden s scope text ks around patterns.ConstLvalue k size st known =
+expansion-hidden s scope text ks around Pattern.ConstLvalue k size st known =
     let p = parameter k in
     trees-hidden s scope text around (p ∷ as_const p ∷ lvalue (as_const p) ∷ expansion (lvalue (as_const p)) ∷ []) ks st known
-expansion-hidden s scope text ks around patterns.Rvalue k size st known =
+expansion-hidden s scope text ks around Pattern.Rvalue k size st known =
     let p = parameter k in
     trees-hidden s scope text around (p ∷ rvalue p ∷ expansion (rvalue p) ∷ []) ks st known
 
@@ -640,7 +585,6 @@ nothing-read s pattern old new is_first mark start argument a has_pack none belo
     let packed = f.names.1 has_pack in
     let t = expansion (made_by pattern (parameter k)) in
     let goes = expansion-goes s pattern old is_first mark start argument a has_pack below stands in
-    let later = with_expansion pattern k goes.0 a.goes.around a.state in
     nothing-ended s old new is_first mark start argument a t (expansion-kept s old new a.goes.around pattern k goes.0 a.kept text candidates scope_) text
     (expansion-empty f.own packed.all k packed.elements pattern (packed.are.size ∙ none) packed.all_are packed.there.0) refl
-    (subst (λ j. ParametersGoOn s argument a.lead a.make (a.ts ++ t ∷ []) j later) (sym at) goes.1)
+    (subst (λ j. ParametersGoOn s argument a.lead a.make (a.ts ++ t ∷ []) j (with_expansion pattern k goes.0 a.goes.around a.state)) (sym at) goes.1)

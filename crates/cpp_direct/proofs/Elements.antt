@@ -1,23 +1,6 @@
 -- Numbers and literals that were read, and arguments that are literals.
-use Rattle.cpp_direct.specs.AllTerms.{among, boolean, builtin, builtin_texts, Detail, integer, is_plain_integer, is_zero, Kind, literal_endings, look_up, normal, Signed, signed_digits, Term}
-use Rattle.std.proofs.Common.{◌≡◌, ◌≢◌, ℕ, ◌+◌, ◌⊎◌, List, [], ◌∷◌, ◌++◌, length, reverse, nat_eq, Bool, true, false, cond, refl, ap, sym, subst, ◌∙◌, arith, codes, append_assoc, append-nil, drop, inl, inr, ◌<◌, ◌≤◌, get_or, not, ◌&&◌}
-use Rattle.std.proofs.lemmas.Bool.{false≢true, ne_eqb}
-use Rattle.cpp_direct.specs.AllStates.{AwaitsNamedType, AwaitsNextArgument, AwaitsNumber, below, Closes, detail_of, Direct, element_kind, EndsAsInteger, EndsOtherwise, extra_of, GoesOn, in_front_of_next, integer_text, is_integer_letter, IsElement, IsListing, IsLiteralRead, IsUnmarked, IsWriting, Kept, led_by, may_name, number_text, Open, PrintAllAs, Prints, Reads, scoped_in, sign_text, Symbol, truth_text, Writes}
-use Rattle.cpp_direct.specs.AllHoles.{IsDigitsAt, IsOffsetAt, ListGoesOn, StandsAt, TreeOpens, minus_sign}
-use Rattle.cpp_direct.proofs.Ending.{ends-so}
-use Rattle.cpp_direct.proofs.Scopes.{none-scoped}
-use Rattle.cpp_direct.proofs.Kept.{kept-grown, kept-read, reverse-last, awaited-in}
-use Rattle.cpp_direct.proofs.Listed.{element-kind, element-goes-on, enumerator-stands, some-elements, listing-stays}
-use Rattle.cpp_direct.proofs.Moves.{stands-join}
-use Rattle.cpp_direct.proofs.MovesOfLists.{bool-element, integer-element, enumerator-opens}
-use Rattle.cpp_direct.proofs.LettersTested.{integer-there}
-use Rattle.cpp_direct.proofs.PrintedLists.{element-as, next-prints-as, type-element}
-use Rattle.cpp_direct.proofs.Unmarked.{digits-unmarked}
-use Rattle.cpp_direct.proofs.PrintedNames.{boolean-prints, plain-integer-prints, cast-integer-prints, normal-filled, enumerator-prints, not-integer, normal-unmarked}
-use Rattle.cpp_direct.proofs.NamePlaces.{reads-then}
-use Rattle.std.proofs.lemmas.List.{length-drop, drop_more}
-use Rattle.cpp_direct.specs.declared.open.Open.TheVariants as opens
-use Rattle.cpp_direct.specs.declared.open.Step.TheVariants as steps
+use Rattle.cpp_direct.proofs.AllGround.{among, boolean, builtin, builtin_texts, Detail, integer, is_plain_integer, is_zero, Kind, literal_endings, look_up, normal, Signed, signed_digits, Term, ◌≡◌, ◌≢◌, ℕ, ◌+◌, ◌⊎◌, List, [], ◌∷◌, ◌++◌, length, reverse, nat_eq, Bool, true, false, cond, refl, ap, sym, subst, ◌∙◌, arith, codes, append_assoc, append-nil, drop, inl, inr, ◌<◌, ◌≤◌, get_or, not, ◌&&◌, false≢true, ne_eqb, AwaitsNamedType, AwaitsNextArgument, AwaitsNumber, below, Closes, detail_of, Direct, element_kind, EndsAsInteger, EndsOtherwise, extra_of, GoesOn, in_front_of_next, integer_text, is_integer_letter, IsElement, IsListing, IsLiteralRead, IsUnmarked, IsWriting, Kept, led_by, may_name, number_text, Open, PrintAllAs, Prints, Reads, scoped_in, sign_text, Symbol, truth_text, Writes, IsDigitsAt, IsOffsetAt, ListGoesOn, StandsAt, TreeOpens, minus_sign, length-drop, drop_more, Step, none-scoped, kept-grown, kept-read, reverse-last, awaited-in, stands-join, bool-element, integer-element, enumerator-opens, integer-there, element-as, next-prints-as, type-element, digits-unmarked, boolean-prints, plain-integer-prints, cast-integer-prints, normal-filled, enumerator-prints, not-integer, normal-unmarked, reads-then}
+use Rattle.cpp_direct.proofs.AllRead.{ends-so, element-kind, element-goes-on, enumerator-stands, some-elements, listing-stays}
 
 -- ## Digits
 
@@ -65,8 +48,7 @@ zero-digits ns ds n is e zero_there =
     ∙ ap (λ (b : Bool). cond (true && not b) (codes "-") [] ++ normal ds) (ap is_zero (sym is) ∙ sym zero_there))
 
 -- another negative number has one
-pub minus-digits : (ns ds : List ℕ) (n : Bool) → ns ≡ normal ds → n ≡ true → false ≡ is_zero ns
-    → codes "-" ++ ns ≡ number_text (signed_digits n ds)
+pub minus-digits : (ns ds : List ℕ) (n : Bool) → ns ≡ normal ds → n ≡ true → false ≡ is_zero ns → codes "-" ++ ns ≡ number_text (signed_digits n ds)
 unfolding signed_digits
 minus-digits ns ds n is e other =
     ap (λ l. codes "-" ++ l) is ∙ sym (ap (λ b. number_text (signed_digits b ds)) e
@@ -143,8 +125,7 @@ cast-text letter n e = rw (e, integer_text) refl
 -- an integer without its type was read
 pub plain-integer-read : (s : List ℕ) (old middle there new : Direct) (letter : ℕ) (ending : List ℕ) → (letter ≢ 0 → StandsAt s old.at (letter ∷ []))
     → true ≡ is_integer_letter letter → true ≡ is_plain_integer (builtin (letter ∷ [])) → middle.at ≡ old.at + 1 → Reads old middle []
-    → IsNumberRead s middle there → ending ≡ look_up (letter ∷ []) literal_endings → Reads there new ending → there.at ≡ new.at
-    → IsIntegerRead s old new
+    → IsNumberRead s middle there → ending ≡ look_up (letter ∷ []) literal_endings → Reads there new ending → there.at ≡ new.at → IsIntegerRead s old new
 plain-integer-read s old middle there new letter ending first is plain next begun read ends written same =
     let n = signed_digits read.0 read.1 in (
       letter,
@@ -161,8 +142,7 @@ plain-integer-read s old middle there new letter ending first is plain next begu
 -- an integer after its type was read
 pub cast-integer-read : (s : List ℕ) (old middle new : Direct) (letter : ℕ) → (letter ≢ 0 → StandsAt s old.at (letter ∷ []))
     → true ≡ is_integer_letter letter → false ≡ is_plain_integer (builtin (letter ∷ [])) → middle.at ≡ old.at + 1
-    → Reads old middle (codes "(" ++ look_up (letter ∷ []) builtin_texts ++ codes ")")
-    → IsNumberRead s middle new → IsIntegerRead s old new
+    → Reads old middle (codes "(" ++ look_up (letter ∷ []) builtin_texts ++ codes ")") → IsNumberRead s middle new → IsIntegerRead s old new
 cast-integer-read s old middle new letter first is cast next begun read =
     let n = signed_digits read.0 read.1 in
     let front = codes "(" ++ look_up (letter ∷ []) builtin_texts ++ codes ")" in (
@@ -183,7 +163,7 @@ pub element-added : (s : Symbol) (w : Direct) (kept : Kept s w) {opened : List O
     → PrintAllAs (detail_of s) kept.scope.names (may_name p.listing p.owner) (extra_of p.listing) ts texts → IsElement (detail_of s) (extra_of p.listing) t bytes
     → reverse w.waiting.list.items ≡ opened → w.text.list.items ≡ text ++ more
     → text ++ more ≡ led_by (detail_of s) p.listing p.front p.name ++ (in_front_of_next ts texts ++ bytes)
-    → GoesOn s p.listing p.owner (below s kept.scope p.rest) p.front p.template (ts ++ t ∷ []) w.at kept.state → IsWriting s w (steps.List false)
+    → GoesOn s p.listing p.owner (below s kept.scope p.rest) p.front p.template (ts ++ t ∷ []) w.at kept.state → IsWriting s w (Step.List false)
 element-added s w kept p more ts texts t bytes elements element open_is is written goes =
     let extra = extra_of p.listing in
     let noted = may_name p.listing p.owner in
@@ -202,7 +182,7 @@ element-added s w kept p more ts texts t bytes elements element open_is is writt
     }
 
 -- an element that is a literal
-pub literal-added : (s : Symbol) (old new : Direct) → AwaitsNextArgument s old → IsLiteralRead s old new → IsWriting s new (steps.List false)
+pub literal-added : (s : Symbol) (old new : Direct) → AwaitsNextArgument s old → IsLiteralRead s old new → IsWriting s new (Step.List false)
 literal-added s old new a l =
     let p = a.place in
     element-added s new (kept-read s old new l.bytes l.reads a.kept) p l.bytes a.ts a.texts l.own l.bytes a.elements
@@ -248,11 +228,10 @@ integer-prints : {detail : Detail} (letter : ℕ) (n : Bool) (ds : List ℕ) →
 unfolding is_integer_letter among signed_digits
 integer-prints {detail} letter n ds is filled plain = go (is_plain_integer (builtin (letter ∷ []))) refl
   where
-    go : (b : Bool) → is_plain_integer (builtin (letter ∷ [])) ≡ b
-        → Prints detail (integer (builtin (letter ∷ [])) (signed_digits n ds)) (elim b [
-          | true ↦ number_text (signed_digits n ds) ++ look_up (letter ∷ []) literal_endings
-          | false ↦ codes "(" ++ look_up (letter ∷ []) builtin_texts ++ codes ")" ++ number_text (signed_digits n ds)
-        ]) false
+    go : (b : Bool) → is_plain_integer (builtin (letter ∷ [])) ≡ b → Prints detail (integer (builtin (letter ∷ [])) (signed_digits n ds)) (elim b [
+      | true ↦ number_text (signed_digits n ds) ++ look_up (letter ∷ []) literal_endings
+      | false ↦ codes "(" ++ look_up (letter ∷ []) builtin_texts ++ codes ")" ++ number_text (signed_digits n ds)
+    ]) false
     go true e = plain-integer-prints letter e (signed_digits n ds) (normal-filled ds filled) (normal-unmarked ds plain)
     go false e = subst (λ l. Prints detail (integer (builtin (letter ∷ [])) (signed_digits n ds)) l false)
         (append_assoc (codes "(" ++ look_up (letter ∷ []) builtin_texts ++ codes ")") (sign_text (signed_digits n ds)) (normal ds))
@@ -288,18 +267,18 @@ integer-literal-read s old begun middle new first next nothing read ended =
 pub enumerator-expected : (s : Symbol) (old begun pushed new : Direct) (a : AwaitsNextArgument s old) → StandsAt s.bytes old.at (76 ∷ [])
     → begun.at ≡ old.at + 1 → Reads old begun [] → Writes begun pushed (codes "(")
     → new.text.list.items ≡ pushed.text.list.items → new.candidates ≡ pushed.candidates → new.has_scope ≡ pushed.has_scope
-    → new.waiting.list.items ≡ pushed.waiting.list.items ++ opens.Enumerator ∷ [] → new.at ≡ pushed.at → AwaitsNamedType s new
+    → new.waiting.list.items ≡ pushed.waiting.list.items ++ Open.Enumerator ∷ [] → new.at ≡ pushed.at → AwaitsNamedType s new
 enumerator-expected s old begun pushed new a stands next nothing writes text candidates scope_same waits at =
     let p = a.place in
     let e = enumerator-opens s (element_kind p.listing) a.goes.1 a.goes.0 old.at a.state (element-kind p.listing) a.goes.4 stands in
     let same : begun.text.list.items ≡ old.text.list.items = nothing.text ∙ append-nil old.text.list.items in
     let written : new.text.list.items ≡ old.text.list.items ++ codes "(" = text ∙ writes.text ∙ ap (λ l. l ++ codes "(") same in
-    let waiting : new.waiting.list.items ≡ old.waiting.list.items ++ opens.Enumerator ∷ [] =
-    waits ∙ ap (λ v. v.list.items ++ opens.Enumerator ∷ []) (writes.waiting ∙ nothing.waiting) in
+    let waiting : new.waiting.list.items ≡ old.waiting.list.items ++ Open.Enumerator ∷ [] =
+    waits ∙ ap (λ v. v.list.items ++ Open.Enumerator ∷ []) (writes.waiting ∙ nothing.waiting) in
     record {
       kept = kept-grown s old new (codes "(") written (candidates ∙ writes.candidates ∙ nothing.candidates)
           (scope_same ∙ writes.scope ∙ nothing.scope) a.kept;
-      awaited = awaited-in s a.scope new new a.goes.0 e.inner refl (ap reverse waiting ∙ reverse-last old.waiting.list.items opens.Enumerator) a.goes.2
+      awaited = awaited-in s a.scope new new a.goes.0 e.inner refl (ap reverse waiting ∙ reverse-last old.waiting.list.items Open.Enumerator) a.goes.2
           (enumerator-stands s a.scope (reverse old.waiting.list.items) new.text.list.items e.inner
           (listing-stays (reverse old.waiting.list.items) (codes "(") new.text.list.items p refl written)
           a.ts a.texts a.elements (written ∙ ap (λ l. l ++ codes "(") a.written)
@@ -307,7 +286,7 @@ enumerator-expected s old begun pushed new a stands next nothing writes text can
           element-goes-on s (element_kind p.listing) (scoped_in p.owner (below s a.scope p.rest))
           (λ l now then. Closes s p.listing p.owner (below s a.scope p.rest) p.front p.template l now then) a.ts (integer t (signed_digits negative digits)) old.at (end + 1) a.state now a.goes
           (e.onward t here now comes negative digits end minus digits_there ended)))
-          (none-scoped a.scope a.goes.0 (opens.Enumerator ∷ reverse old.waiting.list.items) refl);
+          (none-scoped a.scope a.goes.0 (Open.Enumerator ∷ reverse old.waiting.list.items) refl);
       kind = Kind.LiteralType;
       is_named = tt;
       begins = subst (λ k. TreeOpens s Kind.LiteralType e.inner a.goes.0 k a.state) (sym (at ∙ writes.at ∙ next)) e.opens;
@@ -332,9 +311,8 @@ no-integer-type text front bytes e other ending = go ending.1
 -- the number of an enumerator was read after its type, and an E
 pub enumerator-read : (s : Symbol) (old begun pushed middle new : Direct) (a : AwaitsNumber s old)
     → EndsOtherwise old.text.list.items → begun.text ≡ old.text → begun.candidates ≡ old.candidates → begun.has_scope ≡ old.has_scope → begun.at ≡ old.at
-    → reverse begun.waiting.list.items ≡ a.opened
-    → Writes begun pushed (codes ")") → (read : IsNumberRead s.bytes pushed middle)
-    → StandsAt s.bytes middle.at (69 ∷ []) × (new.at ≡ middle.at + 1) × Reads middle new [] → IsWriting s new (steps.List false)
+    → reverse begun.waiting.list.items ≡ a.opened → Writes begun pushed (codes ")") → (read : IsNumberRead s.bytes pushed middle)
+    → StandsAt s.bytes middle.at (69 ∷ []) × (new.at ≡ middle.at + 1) × Reads middle new [] → IsWriting s new (Step.List false)
 unfolding signed_digits
 enumerator-read s old begun pushed middle new a other text candidates scope_same at waits writes read ended =
     let negative = read.0 in
@@ -356,8 +334,7 @@ enumerator-read s old begun pushed middle new a other text candidates scope_same
     element-added s new
     (kept-grown s old new more wrote (ended.2.candidates ∙ read.4.candidates ∙ writes.candidates ∙ candidates)
     (ended.2.scope ∙ read.4.scope ∙ writes.scope ∙ scope_same) a.kept) p more a.ts a.texts t own a.elements (type-element (extra_of p.listing) t own false prints)
-    (ap (λ v. reverse v.list.items) (ended.2.waiting ∙ read.4.waiting ∙ writes.waiting) ∙ waits) wrote
-    (ap (λ l. l ++ more) a.written ∙ simp append_assoc)
+    (ap (λ v. reverse v.list.items) (ended.2.waiting ∙ read.4.waiting ∙ writes.waiting) ∙ waits) wrote (ap (λ l. l ++ more) a.written ∙ simp append_assoc)
     (subst (λ k. GoesOn s p.listing p.owner (below s a.scope p.rest) p.front p.template (a.ts ++ t ∷ []) k a.state) (sym ended.1)
     (a.goes negative ds middle.at (subst (λ k. StandsAt s.bytes k (minus_sign negative)) here read.2)
     (subst (λ k. IsDigitsAt s.bytes (k + length (minus_sign negative)) ds middle.at) here read.3) ended.0))

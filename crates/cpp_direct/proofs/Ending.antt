@@ -1,27 +1,7 @@
 -- How a symbol ends: its encoding's name, its return type, its parameters, and what follows them.
-use Rattle.cpp_direct.specs.AllTerms.{absent, among, arguments_of, Around, builtin, Detail, encoding_of, encoding_text, function, is_empty, is_void, Kind, list, may_be_empty, nil, no_items, nothing_there, parameters, qualifier_text, qualifiers_of, ref_of, ref_text, source_text, State, symbol, Term, tree, tree_of, types_of, Value}
-use Rattle.std.proofs.Common.{◌≡◌, ◌≢◌, ◌⊎◌, refl, ap, sym, ◌∙◌, subst, ℕ, ◌+◌, ◌-◌, ◌≤◌, List, [], ◌∷◌, ◌++◌, length, take, drop, reverse, inl, inr, Bool, true, false, nat_eq, arith, codes, append-nil, append_assoc}
-use Rattle.std.specs.List.{ends_with}
+use Rattle.cpp_direct.proofs.AllGround.{absent, among, arguments_of, Around, builtin, Detail, encoding_of, encoding_text, function, is_empty, is_void, Kind, list, may_be_empty, nil, no_items, nothing_there, parameters, qualifier_text, qualifiers_of, ref_of, ref_text, source_text, State, symbol, Term, tree, tree_of, types_of, Value, ◌≡◌, ◌≢◌, ◌⊎◌, refl, ap, sym, ◌∙◌, subst, ℕ, ◌+◌, ◌-◌, ◌≤◌, List, [], ◌∷◌, ◌++◌, length, take, drop, reverse, inl, inr, Bool, true, false, nat_eq, arith, codes, append-nil, append_assoc, ends_with, false≢true, length-append, length-drop, take_rest, drop-append_seam, take-append_seam, AreLeft, AreParametersRead, Arguments, AwaitsParameters, called_on, Cuts, detail_of, Direct, Encloses, Encoded, EncodedBehind, EndsBehind, Fronts, has_const, HasArguments, HasInstance, HasParameters, HasScope, in_front_of_next, is_builtin, is_local, is_object, IsEncodedAt, IsEncodingEnded, IsFrontRead, IsFunctionEnded, IsInstance, IsNamedSo, IsNameEnded, IsNameScoped, IsOwnName, IsScoped, IsSymbolEnded, IsWhole, IsWriting, ItemsGoOn, Keeps, Kept, list_of, list_with, Mark, mark_text, no_scope, Open, ParametersGoOn, plain_encoding, PrintsName, qualifiers, Scope, separator, Shows, Stands, Symbol, TakesItems, Writes, Comes, Expects, IsSuffix, ListGoesOn, Opened, StandsAt, Hiding, Step, suffix-unmarked, candidates-left, keeps-as, kept-same, kept-written, none-kept, none-named, none-single, reverse-last, type-comes, expects-empty, element-awaits, builtin-comes, PrintsItems, list-before, list-in, list-with-none, list-more, none-print-in, has-none, has-parameters, entry-scoped, parameters-as, name-stays, function-shows, mark-opens, object-encoded, encoding-plain, made-with, made-void, parameters-before, symbol-text, symbol-cost, suffix-text, suffix-cost, parameters-kept, encoding-returned, front-shows}
 use Rattle.std.specs.Cmp.Lexicographic.{pointwise}
-use Rattle.std.proofs.lemmas.Bool.{false≢true}
-use Rattle.std.proofs.lemmas.List.{length-append, length-drop, take_rest}
-use Rattle.std.proofs.Math.Seq.{drop-append_seam, take-append_seam}
-use Rattle.cpp_direct.specs.declared.open.Hiding.TheVariants as hidings
-use Rattle.cpp_direct.specs.AllStates.{AreLeft, AreParametersRead, Arguments, AwaitsParameters, called_on, Cuts, detail_of, Direct, Encloses, Encoded, EncodedBehind, EndsBehind, Fronts, has_const, HasArguments, HasInstance, HasParameters, HasScope, in_front_of_next, is_builtin, is_local, is_object, IsEncodedAt, IsEncodingEnded, IsFrontRead, IsFunctionEnded, IsInstance, IsNamedSo, IsNameEnded, IsNameScoped, IsOwnName, IsScoped, IsSymbolEnded, IsWhole, IsWriting, ItemsGoOn, Keeps, Kept, list_of, list_with, Mark, mark_text, no_scope, Open, ParametersGoOn, plain_encoding, PrintsName, qualifiers, Scope, separator, Shows, Stands, Symbol, TakesItems, Writes}
-use Rattle.cpp_direct.specs.AllHoles.{Comes, Expects, IsSuffix, ListGoesOn, Opened, StandsAt}
-use Rattle.cpp_direct.proofs.Unmarked.{suffix-unmarked}
-use Rattle.cpp_direct.proofs.Kept.{candidates-left, keeps-as, kept-same, kept-written, none-kept, none-named, none-single, reverse-last, type-comes}
-use Rattle.cpp_direct.proofs.Moves.{expects-empty}
-use Rattle.cpp_direct.proofs.MovesOfLists.{element-awaits}
-use Rattle.cpp_direct.proofs.MovesOfTypes.{builtin-comes}
-use Rattle.cpp_direct.proofs.PrintedLists.{PrintsItems, list-before, list-in, list-with-none, list-more, none-print-in}
-use Rattle.cpp_direct.proofs.PrintedParts.{has-none, has-parameters}
 use Rattle.cpp_direct.proofs.PrintedLocals.{object-enclosing, function-encloses, name-shows, returned-enclosing, returned-shows}
-use Rattle.cpp_direct.proofs.Scopes.{entry-scoped, parameters-as, name-stays}
-use Rattle.cpp_direct.proofs.PrintedSymbols.{function-shows, mark-opens, object-encoded, encoding-plain, made-with, made-void, parameters-before, symbol-text, symbol-cost, suffix-text, suffix-cost, parameters-kept, encoding-returned, front-shows}
-use Rattle.cpp_direct.specs.declared.open.Mark.TheVariants as marks
-use Rattle.cpp_direct.specs.declared.open.Open.TheVariants as opens
-use Rattle.cpp_direct.specs.declared.open.Step.TheVariants as steps
 
 -- ## The end
 
@@ -54,7 +34,7 @@ rest-stands s suffix at inside is =
 
 -- an encoding whose qualifiers are written
 pub marks-written : (s : Symbol) (old new : Direct) (mark : Mark) → IsEncodingEnded s old mark → Writes old new (mark_text mark)
-    → IsEncodingEnded s new marks.Plain
+    → IsEncodingEnded s new Mark.Plain
 marks-written s old new mark p writes = record {
   kept = kept-written s old new (mark_text mark) writes p.kept;
   e = p.e;
@@ -69,7 +49,7 @@ marks-written s old new mark p writes = record {
 }
 
 -- an encoding in which no entity is ends the symbol
-pub symbol-ended : (s : Symbol) (w : Direct) → IsEncodingEnded s w marks.Plain → is_local s.bytes ≡ false → IsSymbolEnded s w
+pub symbol-ended : (s : Symbol) (w : Direct) → IsEncodingEnded s w Mark.Plain → is_local s.bytes ≡ false → IsSymbolEnded s w
 symbol-ended s w p apart =
     let behind : EndsBehind s p.lead p.e w.at = p.behind.whole apart in
     record {
@@ -81,7 +61,7 @@ symbol-ended s w p apart =
 
 -- the symbol is written where it has no suffix
 pub ends-plain : (s : Symbol) (suffix : List ℕ) (w : Direct) → IsSymbolEnded s w → w.at ≤ length s.bytes → suffix ≡ take (length s.bytes - w.at) (drop w.at s.bytes)
-    → length suffix ≡ 0 → IsWriting s w steps.Ended
+    → length suffix ≡ 0 → IsWriting s w Step.Ended
 ends-plain s suffix w p inside is none = record {
   kept = p.kept;
   is_before = whole-plain s p.e w.at w.text.list.items p.encoded p.shows
@@ -91,7 +71,7 @@ ends-plain s suffix w p inside is none = record {
 -- and also where it has one
 pub ends-suffixed : (s : Symbol) (suffix : List ℕ) (w first second last : Direct) → IsSymbolEnded s w → w.at ≤ length s.bytes
     → suffix ≡ take (length s.bytes - w.at) (drop w.at s.bytes) → IsSuffix suffix
-    → Writes w first (codes " (") → Writes first second suffix → Writes second last (codes ")") → IsWriting s last steps.Ended
+    → Writes w first (codes " (") → Writes first second suffix → Writes second last (codes ")") → IsWriting s last Step.Ended
 ends-suffixed s suffix w first second last p inside is is_suffix one two three =
     let there = rest-stands s.bytes suffix w.at inside is in
     let text : last.text.list.items ≡ w.text.list.items ++ codes " (" ++ suffix ++ codes ")" =
@@ -100,8 +80,7 @@ ends-suffixed s suffix w first second last p inside is is_suffix one two three =
       kept = kept-written s second last (codes ")") three
           (kept-written s first second suffix two (kept-written s w first (codes " (") one p.kept));
       is_before = subst (λ l. IsWhole s l) (sym text)
-          (whole-suffixed s p.e w.at w.text.list.items suffix p.encoded p.shows
-          there.0 there.1 is_suffix);
+          (whole-suffixed s p.e w.at w.text.list.items suffix p.encoded p.shows there.0 there.1 is_suffix);
     }
 
 -- ## Names
@@ -109,12 +88,12 @@ ends-suffixed s suffix w first second last p inside is is_suffix one two three =
 -- what follows an encoding with these qualifiers
 pub plain-text : (mark : Mark) → encoding_text (qualifiers (has_const mark)) (called_on mark) ≡ mark_text mark
 unfolding encoding_text qualifier_text ref_text
-plain-text marks.Plain = refl
-plain-text marks.Const = refl
-plain-text marks.Lvalue = refl
-plain-text marks.ConstLvalue = refl
-plain-text marks.Rvalue = refl
-plain-text marks.ConstRvalue = refl
+plain-text Mark.Plain = refl
+plain-text Mark.Const = refl
+plain-text Mark.Lvalue = refl
+plain-text Mark.ConstLvalue = refl
+plain-text Mark.Rvalue = refl
+plain-text Mark.ConstRvalue = refl
 
 pub qualifiers-text : (v : Value) (mark : Mark) (own : Term) → IsNamedSo v own mark → encoding_text (qualifiers_of v) (ref_of v) ≡ mark_text mark
 qualifiers-text v mark own is = rw (is.qualifiers_are, is.mark_is) (plain-text mark)
@@ -186,8 +165,7 @@ pub item-comes : (s : Symbol) (old new : Direct) (kept : Kept s old) (argument :
     (goes : ItemsGoOn s argument becomes make ts at kept.state) (ws : List Open) → new.text ≡ old.text → new.candidates ≡ old.candidates → new.has_scope ≡ old.has_scope
     → new.at ≡ at → reverse new.waiting.list.items ≡ ws
     → ((os : List Opened) → ((t : Term) (here : ℕ) (now : State) → Comes s os (tree t true) here now → ItemsGoOn s argument becomes make (ts ++ t ∷ []) here now)
-    → Stands s kept.scope ws os old.text.list.items)
-    → IsScoped kept.scope goes.around ws → IsWriting s new steps.Type
+    → Stands s kept.scope ws os old.text.list.items) → IsScoped kept.scope goes.around ws → IsWriting s new Step.Type
 item-comes s old new kept argument becomes make ts at goes ws text candidates scope_same at_is waits stands scoped =
     let element = element-awaits s Kind.Items goes.inner goes.around at kept.state tt goes.awaits in
     type-comes s old new kept goes.around element.inner text candidates scope_same waits goes.outside
@@ -197,17 +175,17 @@ item-comes s old new kept argument becomes make ts at goes ws text candidates sc
 
 -- what precedes it is written
 pub parameter-expected : (s : Symbol) (w last : Direct) (is_first : Bool) (mark : Mark) (start : ℕ) (argument : Arguments)
-    → AreParametersRead s w 3 is_first mark start argument → Writes w last (separator is_first) → IsWriting s last steps.Type
+    → AreParametersRead s w 3 is_first mark start argument → Writes w last (separator is_first) → IsWriting s last Step.Type
 parameter-expected s w last is_first mark start argument a one =
     let between = separator is_first in
     item-comes s last last (kept-written s w last between one a.kept) argument (λ e there then_. EncodedBehind s a.lead e there then_) a.make a.ts w.at a.goes
-    (opens.Parameters mark start argument ∷ a.rest) refl refl refl one.at (ap (λ v. reverse v.list.items) one.waiting ∙ a.open_is) (λ os onward. (
+    (Open.Parameters mark start argument ∷ a.rest) refl refl refl one.at (ap (λ v. reverse v.list.items) one.waiting ∙ a.open_is) (λ os onward. (
       a.ts,
       a.texts,
       parameters-as s w.text.list.items last.text.list.items between mark start argument a.has one.text a.is_function.elements,
       next-separated s w is_first mark start argument a last.text.list.items one.text,
       onward,
-    )) (entry-scoped a.scope a.goes.around (opens.Parameters mark start argument) argument a.rest refl refl a.is_function.named a.goes.scoped)
+    )) (entry-scoped a.scope a.goes.around (Open.Parameters mark start argument) argument a.rest refl refl a.is_function.named a.goes.scoped)
 
 pub no-text : (l : List ℕ) (from : ℕ) → from ≡ length l → from ≡ 0 → l ≡ []
 no-text [] from is none = refl
@@ -265,14 +243,13 @@ parameters-begin s w mark is_instance argument from start scoped plain none all 
 pub first-expected : (s : Symbol) (w first last : Direct) (mark : Mark) (start : ℕ) (argument : Arguments)
     → AwaitsParameters s w mark start argument → Writes w first (codes "(")
     → last.text ≡ first.text → last.candidates ≡ first.candidates → last.has_scope ≡ first.has_scope → last.at ≡ first.at
-    → last.waiting.list.items ≡ first.waiting.list.items ++ opens.Parameters mark start argument ∷ []
-    → AreParametersRead s last 3 true mark start argument
+    → last.waiting.list.items ≡ first.waiting.list.items ++ Open.Parameters mark start argument ∷ [] → AreParametersRead s last 3 true mark start argument
 first-expected s w first last mark start argument p one text candidates scope_same at waiting =
     let grown : last.text.list.items ≡ w.text.list.items ++ codes "(" = ap (λ l. l.list.items) text ∙ one.text in
     record {
       kept = kept-same s first last text candidates scope_same (kept-written s w first (codes "(") one p.kept);
       rest = reverse first.waiting.list.items;
-      open_is = ap reverse waiting ∙ reverse-last first.waiting.list.items (opens.Parameters mark start argument);
+      open_is = ap reverse waiting ∙ reverse-last first.waiting.list.items (Open.Parameters mark start argument);
       ts = [];
       none = λ e. refl;
       some = λ e. cc e;
@@ -292,7 +269,7 @@ cut-kept s old new start cuts kept = go cuts.candidates
     known e = (refl, (kept.keeps.unknown (sym cuts.scope ∙ e)).1)
 
     go : ((start ≡ 0) × (new.candidates ≡ old.candidates)) ⊎ ((is_local s.bytes ≡ false) × (new.candidates.list.items ≡ []))
-        ⊎ AreLeft hidings.All old.candidates.list.items new.candidates.list.items → (k : Kept s new) × (is_local s.bytes ≡ true → kept.state ≡ k.state)
+        ⊎ AreLeft Hiding.All old.candidates.list.items new.candidates.list.items → (k : Kept s new) × (is_local s.bytes ≡ true → kept.state ≡ k.state)
     go (inl same) = (
       record {
         state = kept.state;
@@ -311,7 +288,7 @@ cut-kept s old new start cuts kept = go cuts.candidates
         state = kept.state;
         scope = no_scope;
         keeps = record {
-          candidates = candidates-left s hidings.All kept.scope no_scope old.text.list.items new.text.list.items (λ k c never own. absurd never)
+          candidates = candidates-left s Hiding.All kept.scope no_scope old.text.list.items new.text.list.items (λ k c never own. absurd never)
               old.candidates.list.items new.candidates.list.items kept.state.candidates are kept.keeps.candidates;
           named = none-named new.text.list.items;
           single = none-single;
@@ -333,7 +310,7 @@ cut-text old new start aside text cuts start_is written =
 pub front-begins : (s : Symbol) (w new : Direct) (mark : Mark) (argument : Arguments) (from start : ℕ) → IsNameScoped s w mark true argument from
     → (is_local s.bytes ≡ false → from ≡ 0) → start ≡ length w.text.list.items
     → new.text ≡ w.text → new.candidates ≡ w.candidates → new.has_scope ≡ w.has_scope → new.at ≡ w.at
-    → new.waiting.list.items ≡ w.waiting.list.items ++ opens.Front mark start argument ∷ [] → IsWriting s new steps.Type
+    → new.waiting.list.items ≡ w.waiting.list.items ++ Open.Front mark start argument ∷ [] → IsWriting s new Step.Type
 front-begins s w new mark argument from start scoped apart start_is text candidates scope_same at waiting =
     let p = scoped.ended in
     let has : HasInstance s p.scope w.text.list.items mark start argument = record {
@@ -353,9 +330,9 @@ front-begins s w new mark argument from start scoped apart start_is text candida
     let goes : ParametersGoOn s argument p.lead (λ l. encoding_of p.v l) [] w.at p.state =
     none-go_on s argument p.lead p.v w.at p.state scoped.items (name-scoped s w mark true argument from scoped) in
     let rest = reverse w.waiting.list.items in
-    item-comes s w new p.kept argument (λ e there then_. EncodedBehind s p.lead e there then_) (λ l. encoding_of p.v l) [] w.at goes (opens.Front mark start argument ∷ rest)
-    text candidates scope_same at (ap reverse waiting ∙ reverse-last w.waiting.list.items (opens.Front mark start argument)) (λ os onward. (has, onward))
-    (entry-scoped p.scope goes.around (opens.Front mark start argument) argument rest refl refl scoped.named goes.scoped)
+    item-comes s w new p.kept argument (λ e there then_. EncodedBehind s p.lead e there then_) (λ l. encoding_of p.v l) [] w.at goes (Open.Front mark start argument ∷ rest)
+    text candidates scope_same at (ap reverse waiting ∙ reverse-last w.waiting.list.items (Open.Front mark start argument)) (λ os onward. (has, onward))
+    (entry-scoped p.scope goes.around (Open.Front mark start argument) argument rest refl refl scoped.named goes.scoped)
 
 -- it is read still where something else changes
 pub front-same : (s : Symbol) (w new : Direct) (mark : Mark) (start : ℕ) (argument : Arguments) → IsFrontRead s w mark start argument
@@ -409,10 +386,8 @@ returned-behind s {mark = mark} {v = v} is r items at st lead front hidden shown
 front-leads : (s : Symbol) (w last : Direct) (mark : Mark) (start to : ℕ) (argument : Arguments) (p : IsFrontRead s w mark start argument) (front lead : List ℕ)
     → Keeps s p.scope last p.state.candidates
     → IsOwnName (detail_of s) p.scope last.text.list.items argument p.is_instance.own p.name → Fronts s.is_bare front to lead p.name → last.text.list.items ≡ front
-    → last.at ≡ w.at
-    → ((items : Term) (there : ℕ) (then_ : State) → EncodedBehind s p.lead (encoding_of p.v (list p.returned items)) there then_
-    → EncodedBehind s lead (plain_encoding mark p.is_instance.own items) there then_)
-    → AwaitsParameters s last mark to argument
+    → last.at ≡ w.at → ((items : Term) (there : ℕ) (then_ : State) → EncodedBehind s p.lead (encoding_of p.v (list p.returned items)) there then_
+    → EncodedBehind s lead (plain_encoding mark p.is_instance.own items) there then_) → AwaitsParameters s last mark to argument
 front-leads s w last mark start to argument p front lead keeps is_own fronts written at turns =
     let is = p.is_instance in
     record {
@@ -422,12 +397,7 @@ front-leads s w last mark start to argument p front lead keeps is_own fronts wri
         lead = lead;
         make = λ l. plain_encoding mark is.own l;
         name = p.name;
-        is_function = record {
-          own = is.own;
-          makes = λ t rest. refl;
-          is_own = is_own;
-          elements = none-print-in (detail_of s) (types_of is.own) 3;
-        };
+        is_function = record { own = is.own; makes = λ t rest. refl; is_own = is_own; elements = none-print-in (detail_of s) (types_of is.own) 3 };
         fronts = fronts;
       };
       written = written;
@@ -492,11 +462,9 @@ pub front-bare : (s : Symbol) (w last : Direct) (mark : Mark) (start : ℕ) (arg
 front-bare s w last mark start argument p bare text candidates scope_same at =
     let is = p.is_instance in
     let written : last.text.list.items ≡ p.front ++ p.bytes = ap (λ v. v.list.items) text ∙ p.written in
-    front-leads s w last mark start start argument p (p.front ++ p.bytes) p.lead
-    (kept-same s w last text candidates scope_same p.kept).keeps
+    front-leads s w last mark start start argument p (p.front ++ p.bytes) p.lead (kept-same s w last text candidates scope_same p.kept).keeps
     (name-stays p.front last.text.list.items p.bytes argument is.own p.name written is.is_own)
-    (subst (λ b. Fronts b (p.front ++ p.bytes) start p.lead p.name) (sym bare)
-    (p.bytes, ap (λ l. l ++ p.bytes) p.text_is, p.start_is ∙ ap length p.text_is))
+    (subst (λ b. Fronts b (p.front ++ p.bytes) start p.lead p.name) (sym bare) (p.bytes, ap (λ l. l ++ p.bytes) p.text_is, p.start_is ∙ ap length p.text_is))
     written at (λ items there then_ goes. returned-behind s is p.returned items there then_ p.lead p.lead (λ e. refl)
     (λ e bytes shows. (bytes, refl, returned-shows (has-none s bare) is.own (qualifiers (has_const mark)) (called_on mark) p.returned (parameters items) bytes shows)) goes)
 
@@ -543,8 +511,7 @@ items-ended s here mark start argument p shown e items written kept is printed b
 -- one with a lone void is a function without parameters
 pub void-ended : (s : Symbol) (w first here : Direct) (mark : Mark) (start : ℕ) (argument : Arguments) → AwaitsParameters s w mark start argument
     → StandsAt s.bytes w.at (118 ∷ [])
-    → Writes w first (codes "(") → here.text ≡ first.text → here.candidates ≡ first.candidates → here.has_scope ≡ first.has_scope
-    → here.at ≡ first.at + 1
+    → Writes w first (codes "(") → here.text ≡ first.text → here.candidates ≡ first.candidates → here.has_scope ≡ first.has_scope → here.at ≡ first.at + 1
     → IsFunctionEnded s here mark start
 void-ended s w first here mark start argument p stands one text candidates scope_same at =
     let f = p.is_function in
@@ -599,8 +566,7 @@ function-closed s w last new mark start p whole_ one cuts =
     let fronts = subst (λ bare. Fronts bare p.front start p.lead p.name) whole_ p.fronts in
     let left_over : new.text.list.items ≡ p.lead ++ b ++ codes "(" ++ l ++ codes ")" =
     cut-text last new start fronts.0 (p.lead ++ b ++ codes "(" ++ l ++ codes ")") cuts fronts.2
-    (one.text ∙ ap (λ x. x ++ codes ")") p.written ∙ ap (λ x. x ++ codes "(" ++ l ++ codes ")") fronts.1
-    ∙ simp append_assoc) in
+    (one.text ∙ ap (λ x. x ++ codes ")") p.written ∙ ap (λ x. x ++ codes "(" ++ l ++ codes ")") fronts.1 ∙ simp append_assoc) in
     let text = b ++ codes "(" ++ l ++ codes ")" ++ q in
     let left = cut-kept s last new start cuts (kept-written s w last (codes ")") one p.kept) in
     record {
@@ -621,13 +587,12 @@ function-closed s w last new mark start p whole_ one cuts =
 -- likewise where only the names of functions are shown, once what follows the name is removed: the name is written again, and
 -- the rest before it goes
 pub function-named : (s : Symbol) (w last new : Direct) (mark : Mark) (start end : ℕ) (p : IsFunctionEnded s w mark start) → s.is_bare ≡ true
-    → end ≡ length w.text.list.items → Writes w last (take (start - 0) (drop 0 w.text.list.items)) → Cuts s.bytes last new end → IsEncodingEnded s new marks.Plain
+    → end ≡ length w.text.list.items → Writes w last (take (start - 0) (drop 0 w.text.list.items)) → Cuts s.bytes last new end → IsEncodingEnded s new Mark.Plain
 function-named s w last new mark start end p bare end_is one cuts =
     let fronts = subst (λ b. Fronts b p.front start p.lead p.name) bare p.fronts in
     let named = p.lead ++ p.name in
     let behind_ = fronts.0 ++ codes "(" ++ p.texts in
-    let whole_ : w.text.list.items ≡ named ++ behind_ =
-    p.written ∙ ap (λ x. x ++ codes "(" ++ p.texts) fronts.1 ∙ simp append_assoc in
+    let whole_ : w.text.list.items ≡ named ++ behind_ = p.written ∙ ap (λ x. x ++ codes "(" ++ p.texts) fronts.1 ∙ simp append_assoc in
     let again : take (start - 0) (drop 0 w.text.list.items) ≡ named =
     ap (λ n. take n w.text.list.items) (omega (arith, fronts.2)) ∙ ap (λ l. take (length named) l) whole_ ∙ take-append_seam named behind_ in
     let left_over : new.text.list.items ≡ named =

@@ -1,36 +1,7 @@
 -- Functions within something else, a function that contains a type or one whose address is an argument: from their names to
 -- their ends.
-use Rattle.cpp_direct.proofs.Begins.{nest-awaited}
-use Rattle.cpp_direct.proofs.Ending.{no-void, item-comes, next-written, parameter-goes_on, qualifiers-text, types-scoped, plain-text, void-read}
-use Rattle.cpp_direct.proofs.Kept.{kept-read, kept-same, kept-written, reverse-last, value-added, front-left, kept-closed, kept-cut, value-comes}
-use Rattle.cpp_direct.proofs.Listed.{some-elements, last-found}
-use Rattle.cpp_direct.proofs.Moves.{expects-empty, stands-split}
-use Rattle.cpp_direct.proofs.MovesOfEncodings.{encoding-opens, name-source}
-use Rattle.cpp_direct.proofs.MovesOfLists.{element-awaits, address-opens}
-use Rattle.cpp_direct.proofs.MovesOfLocals.{local-type-opens, nowhere-scoped}
-use Rattle.cpp_direct.proofs.NamePlaces.{reads-of, reads-then}
-use Rattle.cpp_direct.proofs.NamedArguments.{arguments-given, named-there, scope_at, scope-kept}
-use Rattle.cpp_direct.proofs.Nesting.{nest-comes, closed-prints}
-use Rattle.cpp_direct.proofs.PrintedLists.{element-in, type-in, list-in, list-with-none, next-prints-in, none-print-in}
-use Rattle.cpp_direct.proofs.PrintedLocals.{object-enclosing, local-prints, address-prints, function-encloses, name-encloses, name-shows, returned-enclosing}
-use Rattle.cpp_direct.proofs.PrintedNames.{as-name, source-prints}
-use Rattle.cpp_direct.proofs.PrintedParts.{has-none, has-parameters}
-use Rattle.cpp_direct.proofs.PrintedSymbols.{encoding-plain, encoding-returned, object-encoded, function-shows, mark-opens, parameters-kept, void-shows, made-void, made-with}
-use Rattle.cpp_direct.proofs.PrintedTypes.{as-in}
-use Rattle.cpp_direct.proofs.Scopes.{has-member, has-plain, arguments-named, entry-scoped}
-use Rattle.cpp_direct.proofs.TypesRead.{builtin-item, popped}
-use Rattle.cpp_direct.proofs.Unmarked.{name-unmarked}
-use Rattle.cpp_direct.specs.AllHoles.{Comes, Discriminator, Expects, IsDiscriminatorAt, IsNameAt, IsPieceAt, Opened, StandsAt, local_in, with_candidate}
-use Rattle.cpp_direct.specs.AllStates.{added, AddressWithin, AreLeft, AreNamed, Arguments, AwaitsArgumentOfName, AwaitsFront, AwaitsLed, AwaitsLedParameters, AwaitsNamedType, AwaitsNest, AwaitsTypeName, below, called_on, detail_of, Direct, Encloses, has_const, HasArguments, HasLed, HasNameSo, HasScope, in_front_of_next, IsAddressed, IsAddressedRead, IsAddressNamed, IsBuiltinAt, IsElementIn, IsElementRead, IsEnclosingNamed, IsEnclosingParameterRead, IsEnclosingRead, IsGiven, IsInnerFrontRead, IsLedFunction, IsLedFunctionRead, IsLedParameterRead, IsMarkPlace, IsNesting, IsOwn, IsScoped, IsTypeRead, IsWriting, ItemsGoOn, ItemsOf, Kept, list_of, Mark, mark_text, MarkPlace, no_scope, nowhere, Open, PrintsName, PrintsPiece, qualifiers, Reads, Scope, Serves, Shows, Stands, Symbol, TypeWithin, Writes}
-use Rattle.cpp_direct.specs.AllTerms.{absent, address_of, after, alone, arguments_of, Around, builtin, encoding_of, function, has_return_type, in_name, in_types, is_function_type, Kind, list, may_be_empty, named, nil, no_items, nothing_there, parameters, source, source_text, State, Term, tree, tree_of, types_of, Value}
-use Rattle.std.specs.List.{ends_with}
-use Rattle.std.proofs.Common.{nat_eq, ◌≡◌, ◌≢◌, refl, ap, sym, ◌∙◌, subst, ℕ, ◌+◌, List, [], ◌∷◌, ◌++◌, length, reverse, true, false, arith, codes, append-nil, append_assoc, Bool, ◌-◌, take, slice_get, Some, ◌&&◌, ◌≤◌, length-append}
-use Rattle.std.proofs.lemmas.Bool.{false≢true}
-use Rattle.cpp_direct.specs.declared.open.Mark.TheVariants as marks
-use Rattle.cpp_direct.specs.declared.open.Open.TheVariants as opens
-use Rattle.cpp_direct.specs.declared.open.Purpose.TheVariants as purposes
-use Rattle.cpp_direct.specs.declared.open.Step.TheVariants as steps
-use Rattle.cpp_direct.specs.declared.open.Hiding.TheVariants as hidings
+use Rattle.cpp_direct.proofs.AllGround.{Comes, Discriminator, Expects, IsDiscriminatorAt, IsNameAt, IsPieceAt, Opened, StandsAt, local_in, with_candidate, added, AddressWithin, AreLeft, AreNamed, Arguments, AwaitsArgumentOfName, AwaitsFront, AwaitsLed, AwaitsLedParameters, AwaitsNamedType, AwaitsNest, AwaitsTypeName, below, called_on, detail_of, Direct, Encloses, has_const, HasArguments, HasLed, HasNameSo, HasScope, in_front_of_next, IsAddressed, IsAddressedRead, IsAddressNamed, IsBuiltinAt, IsElementIn, IsElementRead, IsEnclosingNamed, IsEnclosingParameterRead, IsEnclosingRead, IsGiven, IsInnerFrontRead, IsLedFunction, IsLedFunctionRead, IsLedParameterRead, IsMarkPlace, IsNesting, IsOwn, IsScoped, IsTypeRead, IsWriting, ItemsGoOn, ItemsOf, Kept, list_of, Mark, mark_text, MarkPlace, no_scope, nowhere, Open, PrintsName, PrintsPiece, qualifiers, Reads, Scope, Serves, Shows, Stands, Symbol, TypeWithin, Writes, absent, address_of, after, alone, arguments_of, Around, builtin, encoding_of, function, has_return_type, in_name, in_types, is_function_type, Kind, list, may_be_empty, named, nil, no_items, nothing_there, parameters, source, source_text, State, Term, tree, tree_of, types_of, Value, ends_with, nat_eq, ◌≡◌, ◌≢◌, refl, ap, sym, ◌∙◌, subst, ℕ, ◌+◌, List, [], ◌∷◌, ◌++◌, length, reverse, true, false, arith, codes, append-nil, append_assoc, Bool, ◌-◌, take, slice_get, Some, ◌&&◌, ◌≤◌, length-append, false≢true, Hiding, Purpose, Step, kept-read, kept-same, kept-written, reverse-last, value-added, front-left, kept-closed, kept-cut, value-comes, expects-empty, stands-split, element-awaits, address-opens, reads-of, reads-then, element-in, type-in, list-in, list-with-none, next-prints-in, none-print-in, as-name, source-prints, has-none, has-parameters, encoding-plain, encoding-returned, object-encoded, function-shows, mark-opens, parameters-kept, void-shows, made-void, made-with, as-in, has-member, has-plain, arguments-named, entry-scoped, name-unmarked}
+use Rattle.cpp_direct.proofs.AllRead.{nest-awaited, no-void, item-comes, next-written, parameter-goes_on, qualifiers-text, types-scoped, plain-text, void-read, some-elements, last-found, encoding-opens, name-source, local-type-opens, nowhere-scoped, arguments-given, named-there, scope_at, scope-kept, nest-comes, closed-prints, object-enclosing, local-prints, address-prints, function-encloses, name-encloses, name-shows, returned-enclosing, builtin-item, popped}
 
 -- what waits for a function that is read after a text
 abbrev pub WithinOpen : Type 1
@@ -100,8 +71,7 @@ now-scoped {s = s} old new to argument noted kept p items first now text candida
 -- its return type was read
 pub returned-first : {s : Symbol} {argument : Arguments} {becomes : Term → (at : ℕ) → State → Type 0} (make : Term → Term) (r : Term) (at : ℕ) (st : State)
     (p : ItemsGoOn s argument becomes make (r ∷ []) at st) → ItemsGoOn s argument becomes (λ l. make (list r l)) [] at st
-returned-first make r at st p =
-    record { around = p.around; inner = p.inner; outside = p.outside; scoped = p.scoped; awaits = p.awaits; onward = p.onward }
+returned-first make r at st p = record { around = p.around; inner = p.inner; outside = p.outside; scoped = p.scoped; awaits = p.awaits; onward = p.onward }
 
 -- ## Parameters
 
@@ -183,7 +153,7 @@ pub front-awaits : {s : Symbol} {mark : Mark} {from : ℕ} {argument : Arguments
     → new.waiting.list.items ≡ w.waiting.list.items ++ entry ∷ [] → new.text ≡ w.text → new.candidates ≡ w.candidates → new.has_scope ≡ w.has_scope → new.at ≡ w.at
     → ((os : List Opened) → AwaitsFront s mark argument (Leads kept.scope) (Within kept.scope (reverse w.waiting.list.items)) os w.text.list.items
     → Stands s kept.scope (entry ∷ reverse w.waiting.list.items) os w.text.list.items)
-    → IsScoped kept.scope goes.around (entry ∷ reverse w.waiting.list.items) → IsWriting s new steps.Type
+    → IsScoped kept.scope goes.around (entry ∷ reverse w.waiting.list.items) → IsWriting s new Step.Type
 front-awaits {s = s} {from = from} {argument = argument} Leads Within w new entry kept p leads returns goes waiting text candidates scope_same at stands scoped =
     let rest = reverse w.waiting.list.items in
     item-comes s w new kept argument (Within kept.scope rest p.lead) (λ l. encoding_of p.v l) [] w.at goes (entry ∷ rest) text candidates scope_same at
@@ -192,10 +162,9 @@ front-awaits {s = s} {from = from} {argument = argument} Leads Within w new entr
 
 -- it is read
 pub front-read : {s : Symbol} {mark : Mark} {argument : Arguments} {entry : Open} {Leads : LeadsSo} {Within : WithinOpen} (w : Direct) (is_reference is_dependent : Bool)
-    → IsWriting s w (steps.Value is_reference is_dependent) → slice_get w.waiting.list.items (length w.waiting.list.items - 1) ≡ Some entry
+    → IsWriting s w (Step.Value is_reference is_dependent) → slice_get w.waiting.list.items (length w.waiting.list.items - 1) ≡ Some entry
     → ((scope : Scope) (rest : List Open) (os : List Opened) (text : List ℕ) → Stands s scope (entry ∷ rest) os text
-    → AwaitsFront s mark argument (Leads scope) (Within scope rest) os text)
-    → IsInnerFrontRead s w mark argument entry Leads Within
+    → AwaitsFront s mark argument (Leads scope) (Within scope rest) os text) → IsInnerFrontRead s w mark argument entry Leads Within
 front-read {s = s} {entry = entry} w is_reference is_dependent p found awaits =
     let last = last-found w.waiting.list.items entry found in
     let v = subst (λ ws. IsTypeRead s p.scope w p.state ws is_reference is_dependent) last.1 p.is_before in
@@ -217,7 +186,7 @@ pub front-cut : {s : Symbol} {extra : ℕ} {mark : Mark} {argument : Arguments} 
     (p : IsInnerFrontRead s w mark argument entry Leads Within) → IsAddressed s p.scope to argument p.own p.lead p.name
     → shut.text ≡ w.text → shut.candidates ≡ w.candidates → shut.has_scope ≡ w.has_scope → shut.at ≡ w.at
     → shut.waiting.list.items ≡ take (length w.waiting.list.items - 1) w.waiting.list.items
-    → new.text.list.items ≡ take to shut.text.list.items → AreLeft (hidings.After to) shut.candidates.list.items new.candidates.list.items
+    → new.text.list.items ≡ take to shut.text.list.items → AreLeft (Hiding.After to) shut.candidates.list.items new.candidates.list.items
     → new.waiting ≡ shut.waiting → new.has_scope ≡ shut.has_scope → new.at ≡ shut.at → AwaitsLedParameters s new extra mark argument Leads Within
 unfolding no_items
 front-cut {s = s} {extra = extra} {mark = mark} {argument = argument} {entry = entry} {Within = Within} w shut new to p addressed same_text same_candidates same_scope same_at waits text are waiting scope_same at =
@@ -228,7 +197,7 @@ front-cut {s = s} {extra = extra} {mark = mark} {argument = argument} {entry = e
     let r = p.returned in
     record {
       kept = kept-cut s w new p.kept left p.bytes to whole_ addressed.to_is left_is
-          (subst (λ v. AreLeft (hidings.After to) v.list.items new.candidates.list.items) same_candidates are) (scope_same ∙ same_scope) addressed.there;
+          (subst (λ v. AreLeft (Hiding.After to) v.list.items new.candidates.list.items) same_candidates are) (scope_same ∙ same_scope) addressed.there;
       has = record {
         is_led = led-by s extra mark p.own r (λ l. encoding_of p.v (list r l)) p.lead p.name p.prints (λ e. absurd (false≢true (sym e ∙ p.returns)))
             (λ t rest. encoding-returned p.v mark p.own p.named_so p.returns r (list t rest));
@@ -250,7 +219,7 @@ led-expected : {s : Symbol} {extra : ℕ} {mark : Mark} {argument : Arguments} {
     → w.text.list.items ≡ h.front ++ h.name ++ codes "(" ++ in_front_of_next ts texts
     → ItemsGoOn s argument (Within kept.scope rest h.front) h.make ts w.at kept.state
     → ((os : List Opened) → AwaitsLed s extra mark argument Leads (Within kept.scope rest) os w.text.list.items → Stands s kept.scope (entry ∷ rest) os w.text.list.items)
-    → ((around : Around) → HasScope argument around → IsScoped kept.scope around (entry ∷ rest)) → IsWriting s w steps.Type
+    → ((around : Around) → HasScope argument around → IsScoped kept.scope around (entry ∷ rest)) → IsWriting s w Step.Type
 led-expected {s = s} {argument = argument} {entry = entry} {rest = rest} {ts = ts} {texts = texts} Within w kept h waits written goes stands scoped =
     item-comes s w w kept argument (Within kept.scope rest h.front) h.make ts w.at goes (entry ∷ rest) refl refl refl refl waits
     (λ os onward. stands os (ts, texts, h, written, onward)) (scoped goes.around goes.scoped)
@@ -262,7 +231,7 @@ pub first-led : {s : Symbol} {extra : ℕ} {mark : Mark} {argument : Arguments} 
     → last.has_scope ≡ first.has_scope → last.at ≡ first.at
     → ((os : List Opened) → AwaitsLed s extra mark argument Now (Within p.scope (reverse w.waiting.list.items)) os last.text.list.items
     → Stands s p.scope (entry ∷ reverse w.waiting.list.items) os last.text.list.items)
-    → ((around : Around) → HasScope argument around → IsScoped p.scope around (entry ∷ reverse w.waiting.list.items)) → IsWriting s last steps.Type
+    → ((around : Around) → HasScope argument around → IsScoped p.scope around (entry ∷ reverse w.waiting.list.items)) → IsWriting s last Step.Type
 first-led {s = s} {argument = argument} {Within = Within} Now w first last entry p leads one waiting text candidates scope_same at stands scoped =
     led-expected Within last (kept-same s first last text candidates scope_same (kept-written s w first (codes "(") one p.kept))
     (record { is_led = p.is_led; leads = leads })
@@ -274,7 +243,7 @@ first-led {s = s} {argument = argument} {Within = Within} Now w first last entry
 pub next-led : {s : Symbol} {extra : ℕ} {mark : Mark} {argument : Arguments} {entry : Open} {Leads : LeadsSo} {Within : WithinOpen} (w last : Direct)
     (p : IsLedParameterRead s w extra mark argument entry Leads Within) → Writes w last (codes ", ")
     → ((os : List Opened) → AwaitsLed s extra mark argument (Leads p.scope) (Within p.scope p.rest) os last.text.list.items → Stands s p.scope (entry ∷ p.rest) os last.text.list.items)
-    → ((around : Around) → HasScope argument around → IsScoped p.scope around (entry ∷ p.rest)) → IsWriting s last steps.Type
+    → ((around : Around) → HasScope argument around → IsScoped p.scope around (entry ∷ p.rest)) → IsWriting s last Step.Type
 next-led {s = s} {argument = argument} {Within = Within} w last p one stands scoped =
     let front = p.front ++ p.name ++ codes "(" in
     led-expected Within last (kept-written s w last (codes ", ") one p.kept) p.has (ap (λ l. reverse l.list.items) one.waiting ∙ p.open_is)
@@ -304,7 +273,7 @@ led-read {s = s} {rest = rest} w os kept t front bytes open_is written comes wai
 
 -- likewise a type that may name the function's arguments
 pub type-led : {s : Symbol} {extra : ℕ} {mark : Mark} {argument : Arguments} {entry : Open} {Leads : LeadsSo} {Within : WithinOpen} (w : Direct) (is_reference is_dependent : Bool)
-    → 3 ≤ extra → IsWriting s w (steps.Value is_reference is_dependent) → slice_get w.waiting.list.items (length w.waiting.list.items - 1) ≡ Some entry
+    → 3 ≤ extra → IsWriting s w (Step.Value is_reference is_dependent) → slice_get w.waiting.list.items (length w.waiting.list.items - 1) ≡ Some entry
     → ((scope : Scope) (rest : List Open) (os : List Opened) (text : List ℕ) → Stands s scope (entry ∷ rest) os text
     → AwaitsLed s extra mark argument (Leads scope) (Within scope rest) os text)
     → ((scope : Scope) (own : Term) (front name : List ℕ) → Leads scope own front name → IsGiven (detail_of s) scope.names (types_of own))
@@ -322,8 +291,7 @@ type-led {s = s} {extra = extra} {entry = entry} w is_reference is_dependent mos
 
 -- the name is within what is written
 pub name-inside : (text front name rest : List ℕ) (to : ℕ) → text ≡ front ++ name ++ rest → to ≡ length (front ++ name) → to ≤ length text
-name-inside text front name rest to written to_is =
-    omega (arith, to_is, ap length written, length-append (front ++ name) rest)
+name-inside text front name rest to written to_is = omega (arith, to_is, ap length written, length-append (front ++ name) rest)
 
 -- a function was read, and the open entry waits for it
 function-read : {s : Symbol} {Leads : Term → List ℕ → Type 0} {Within : WithinOpen} {rest : List Open} (w : Direct) (mark : Mark) (place : ℕ) (kept : Kept s w) (e own : Term) (front bytes : List ℕ)
@@ -374,9 +342,9 @@ void-shown {s = s} {Within = Within} {mark = mark} {argument = argument} w new n
 -- where only the names of functions are shown, nothing is written for it
 pub void-unshown : {s : Symbol} {Leads : LeadsSo} {Now : Term → List ℕ → Type 0} {Within : WithinOpen} {extra : ℕ} {mark : Mark} {argument : Arguments} (w : Direct) (n : ℕ)
     (p : AwaitsLedParameters s w extra mark argument Leads Within) → Now p.own p.front → StandsAt s.bytes w.at (118 ∷ []) → n ≡ w.at + 1 → s.is_bare ≡ true
-    → IsLedFunctionRead s (record w { at = n }) marks.Plain Now Within
+    → IsLedFunctionRead s (record w { at = n }) Mark.Plain Now Within
 void-unshown {s = s} {Within = Within} {mark = mark} {argument = argument} w n p leads stands at bare =
-    function-read (record w { at = n }) marks.Plain (w.at + 1) (kept-same s w (record w { at = n }) refl refl refl p.kept)
+    function-read (record w { at = n }) Mark.Plain (w.at + 1) (kept-same s w (record w { at = n }) refl refl refl p.kept)
     (p.make (list_of (builtin (118 ∷ []) ∷ []))) p.own p.front p.name leads (append-nil w.text.list.items ∙ p.written)
     (subst (λ t. Encloses (detail_of s) t p.name) (sym (made-void p.own p.returned mark p.make p.makes))
     (name-encloses (has-none s bare) p.own p.name p.prints (qualifiers (has_const mark)) (called_on mark) p.returned nil))
@@ -424,8 +392,7 @@ function-shown {s = s} {extra = extra} {mark = mark} w shut last p whole_text le
     (function-shows (has-parameters s whole) p.own b p.prints (list_of p.ts) p.texts (list-in (detail_of s) (types_of p.own) extra p.ts p.texts few p.elements)
     (qualifiers (has_const mark)) (called_on mark) (mark-opens mark (list_of p.ts))) in
     function-read last mark w.at (kept-written s shut last (codes ")") one (kept-same s w shut text candidates scope_same p.kept)) (p.make (list_of p.ts)) p.own p.front bytes leads
-    (ap (λ x. x ++ q) (one.text ∙ ap (λ v. v.list.items ++ codes ")") text ∙ ap (λ x. x ++ codes ")") p.written)
-    ∙ simp append_assoc)
+    (ap (λ x. x ++ q) (one.text ∙ ap (λ v. v.list.items ++ codes ")") text ∙ ap (λ x. x ++ codes ")") p.written) ∙ simp append_assoc)
     (subst (λ t. Encloses (detail_of s) t bytes) (sym end.0)
     (returned-enclosing (detail_of s) p.own (qualifiers (has_const mark)) (called_on mark) p.returned (list_of p.ts) bytes
     (function-encloses (detail_of s) p.own (qualifiers (has_const mark)) (called_on mark) (list_of p.ts) bytes shows)))
@@ -438,18 +405,17 @@ pub function-unshown : {s : Symbol} {Leads : LeadsSo} {Now : Term → List ℕ �
     → to ≡ length (p.front ++ p.name) → AreNamed (p.front ++ p.name) p.scope
     → shut.text ≡ w.text → shut.candidates ≡ w.candidates → shut.has_scope ≡ w.has_scope → shut.at ≡ w.at
     → shut.waiting.list.items ≡ take (length w.waiting.list.items - 1) w.waiting.list.items
-    → new.text.list.items ≡ take to shut.text.list.items → AreLeft (hidings.After to) shut.candidates.list.items new.candidates.list.items
-    → new.waiting ≡ shut.waiting → new.has_scope ≡ shut.has_scope → new.at ≡ shut.at → s.is_bare ≡ true → IsLedFunctionRead s new marks.Plain Now Within
+    → new.text.list.items ≡ take to shut.text.list.items → AreLeft (Hiding.After to) shut.candidates.list.items new.candidates.list.items
+    → new.waiting ≡ shut.waiting → new.has_scope ≡ shut.has_scope → new.at ≡ shut.at → s.is_bare ≡ true → IsLedFunctionRead s new Mark.Plain Now Within
 function-unshown {s = s} {mark = mark} w shut new to p whole_text leads same other to_is there same_text same_candidates same_scope same_at waits text are waiting scope_same at bare =
     let end = parameters-end p whole_text same other in
     let left = p.front ++ p.name in
     let behind = codes "(" ++ p.texts in
     let whole_ : w.text.list.items ≡ left ++ behind = p.written ∙ append_assoc left (codes "(") p.texts in
-    let left_is : new.text.list.items ≡ left =
-    text ∙ front-left shut.text.list.items left behind to (ap (λ v. v.list.items) same_text ∙ whole_) to_is in
+    let left_is : new.text.list.items ≡ left = text ∙ front-left shut.text.list.items left behind to (ap (λ v. v.list.items) same_text ∙ whole_) to_is in
     let kept_ = kept-cut s w new p.kept left behind to whole_ to_is left_is
-    (subst (λ v. AreLeft (hidings.After to) v.list.items new.candidates.list.items) same_candidates are) (scope_same ∙ same_scope) there in
-    function-read new marks.Plain w.at kept_ (p.make (list_of p.ts)) p.own p.front p.name leads (append-nil new.text.list.items ∙ left_is)
+    (subst (λ v. AreLeft (Hiding.After to) v.list.items new.candidates.list.items) same_candidates are) (scope_same ∙ same_scope) there in
+    function-read new Mark.Plain w.at kept_ (p.make (list_of p.ts)) p.own p.front p.name leads (append-nil new.text.list.items ∙ left_is)
     (subst (λ t. Encloses (detail_of s) t p.name) (sym end.0)
     (name-encloses (has-none s bare) p.own p.name p.prints (qualifiers (has_const mark)) (called_on mark) p.returned (list_of p.ts)))
     (λ none. subst (λ t. Shows (detail_of s) t p.name) (sym end.0)
@@ -458,9 +424,9 @@ function-unshown {s = s} {mark = mark} w shut new to p whole_text leads same oth
 
 -- its qualifiers are written
 pub marks-shown : {s : Symbol} {Leads : Term → List ℕ → Type 0} {Within : WithinOpen} (old new : Direct) (mark : Mark) → IsLedFunctionRead s old mark Leads Within
-    → Writes old new (mark_text mark) → IsLedFunctionRead s new marks.Plain Leads Within
+    → Writes old new (mark_text mark) → IsLedFunctionRead s new Mark.Plain Leads Within
 marks-shown {s = s} old new mark p writes =
-    function-read new marks.Plain old.at (kept-written s old new (mark_text mark) writes p.kept) p.e p.own p.front p.bytes p.leads
+    function-read new Mark.Plain old.at (kept-written s old new (mark_text mark) writes p.kept) p.e p.own p.front p.bytes p.leads
     (append-nil new.text.list.items ∙ writes.text ∙ p.written) p.encloses p.shows (ap (λ v. reverse v.list.items) writes.waiting) writes.at p.within
 
 -- ## Types in functions, from their Z to their end
@@ -489,10 +455,10 @@ enclosing-opens s w a letter =
 -- a nested one is expected, after an N and the qualifiers of a member function
 pub nest-within : (s : Symbol) (old : Direct) (first second : ℕ) (place : MarkPlace) → AwaitsNamedType s old → StandsAt s.bytes old.at (90 ∷ [])
     → first ≡ old.at + 1 → StandsAt s.bytes first (78 ∷ []) → second ≡ first + 1 → IsMarkPlace s.bytes second place
-    → AwaitsNest s (record old { at = place.end }) (purposes.Enclosing place.mark first)
+    → AwaitsNest s (record old { at = place.end }) (Purpose.Enclosing place.mark first)
 nest-within s old first second place a letter next nested then_ is =
     let e = enclosing-opens s old a letter in
-    nest-awaited s (record old { at = place.end }) (kept-same s old (record old { at = place.end }) refl refl refl a.kept) (purposes.Enclosing place.mark first) (old.at + 1)
+    nest-awaited s (record old { at = place.end }) (kept-same s old (record old { at = place.end }) refl refl refl a.kept) (Purpose.Enclosing place.mark first) (old.at + 1)
     e.inner (old.at + 1) second place refl e.awaits (subst (λ k. StandsAt s.bytes k (78 ∷ [])) next nested) (then_ ∙ ap (λ k. k + 1) next) is refl
     (λ outer named_ t listed here now comes.
     let v = named t (qualifiers (has_const place.mark)) (called_on place.mark) in
@@ -503,7 +469,7 @@ nest-within s old first second place a letter next nested then_ is =
 pub source-within : (s : Symbol) (old start new : Direct) (name : List ℕ) (from : ℕ) → AwaitsNamedType s old → StandsAt s.bytes old.at (90 ∷ [])
     → start.text ≡ old.text → start.candidates ≡ old.candidates → start.waiting ≡ old.waiting → start.has_scope ≡ old.has_scope
     → start.at ≡ old.at + 1 → IsNameAt s.bytes start.at name new.at → name ≢ [] → Reads start new (source_text name) → from ≡ length start.text.list.items
-    → IsEnclosingNamed s new marks.Plain false from
+    → IsEnclosingNamed s new Mark.Plain false from
 unfolding may_be_empty has_return_type arguments_of in_name
 source-within s old start new name from a letter same_text same_candidates same_waiting same_scope at_is is filled reads from_is =
     let own = alone (source false name) in
@@ -521,14 +487,13 @@ source-within s old start new name from a letter same_text same_candidates same_
           (as-name own (source_text name) false (source-prints false name filled (name-unmarked s.bytes start.at name new.at is)));
       returns = refl;
       goes = subst (λ v. ItemsGoOn s nowhere (TypeWithin s (below s a.scope (reverse v.list.items)) front) (λ l. encoding_of (tree own false) l) [] new.at a.state)
-          (sym (reads.waiting ∙ same_waiting))
-          (items-scoped nowhere (tree own false) new.at a.state items (nowhere-scoped items.around));
+          (sym (reads.waiting ∙ same_waiting)) (items-scoped nowhere (tree own false) new.at a.state items (nowhere-scoped items.around));
     }
 
 -- a nested one is read
 pub name-within : (s : Symbol) (old : Direct) (kept : Kept s old) (t : Term) (mark : Mark) (encoding : ℕ) (is_instance : Bool)
     → IsNesting s kept.scope Kind.NestTail old t kept.state → has_return_type t ≡ is_instance → StandsAt s.bytes old.at (69 ∷ [])
-    → old.nest.purpose ≡ purposes.Enclosing mark encoding → IsEnclosingNamed s (record old { at = old.at + 1 }) mark is_instance old.nest.from
+    → old.nest.purpose ≡ Purpose.Enclosing mark encoding → IsEnclosingNamed s (record old { at = old.at + 1 }) mark is_instance old.nest.from
 name-within s old kept t mark encoding is_instance n returns here is_name =
     let serves = subst (λ p. Serves s p (below s kept.scope (reverse old.waiting.list.items)) n.outer n.front) is_name n.serves in
     let items = serves t old.nest.is_listed (old.at + 1) kept.state (nest-comes s old kept.state t n here) in
@@ -541,7 +506,7 @@ name-within s old kept t mark encoding is_instance n returns here is_name =
     }
 
 -- one is read
-pub parameter-read-within : (s : Symbol) (w : Direct) (mark : Mark) (from to : ℕ) → IsElementRead s w (opens.Enclosing mark from to)
+pub parameter-read-within : (s : Symbol) (w : Direct) (mark : Mark) (from to : ℕ) → IsElementRead s w (Open.Enclosing mark from to)
     → IsEnclosingParameterRead s w mark from to
 parameter-read-within s w mark from to p =
     let read = p.read in
@@ -575,7 +540,7 @@ pub type-within : (s : Symbol) (old pushed read last new : Direct) (from : ℕ) 
     → (p : Term) (n : List ℕ) → IsPieceAt s pushed.at p read.at → PrintsPiece (detail_of s) p n → Reads pushed read n
     → (digit : Discriminator) → IsDiscriminatorAt s.bytes read.at digit last.at → Reads read last []
     → new.candidates.list.items ≡ added last from false false → new.text ≡ last.text → new.waiting ≡ last.waiting
-    → new.has_scope ≡ last.has_scope → new.at ≡ last.at → IsWriting s new (steps.Value false false)
+    → new.has_scope ≡ last.has_scope → new.at ≡ last.at → IsWriting s new (Step.Value false false)
 type-within s old pushed read last new from awaits one p n is prints two digit told three candidates text waiting scope here =
     let a = awaits.read in
     let whole = reads-then old read last (codes "::" ++ n) [] (reads-then old pushed read (codes "::") n (reads-of old pushed (codes "::") one) two) three in
@@ -613,18 +578,18 @@ address-opens-name s w a letters =
 -- after its first bytes and its qualifiers expects the first piece of a nested name
 pub address-nested : (s : Symbol) (old pushed opened_ : Direct) (encoding second : ℕ) (place : MarkPlace) → AwaitsArgumentOfName s old
     → StandsAt s.bytes old.at address_letters → encoding ≡ old.at + 6 → Writes old pushed (codes "&")
-    → opened_.waiting.list.items ≡ pushed.waiting.list.items ++ opens.Address encoding ∷ [] → opened_.text ≡ pushed.text
+    → opened_.waiting.list.items ≡ pushed.waiting.list.items ++ Open.Address encoding ∷ [] → opened_.text ≡ pushed.text
     → opened_.candidates ≡ pushed.candidates → opened_.has_scope ≡ pushed.has_scope → opened_.at ≡ place.end → second ≡ encoding + 1
-    → IsMarkPlace s.bytes second place → AwaitsNest s opened_ (purposes.Address place.mark)
+    → IsMarkPlace s.bytes second place → AwaitsNest s opened_ (Purpose.Address place.mark)
 address-nested s old pushed opened_ encoding second place a letters encoding_is one waiting text candidates scope_same at then_ is =
     let places = stands-split s.bytes old.at (codes "XadL_Z") (78 ∷ []) letters in
     let e = address-opens-name s old a places.0 in
     let grown : opened_.text.list.items ≡ old.text.list.items ++ codes "&" = ap (λ v. v.list.items) text ∙ one.text in
-    let waits : reverse opened_.waiting.list.items ≡ opens.Address (old.at + 6) ∷ reverse old.waiting.list.items =
-    ap reverse waiting ∙ reverse-last pushed.waiting.list.items (opens.Address encoding)
-    ∙ ap (λ k. opens.Address k ∷ reverse pushed.waiting.list.items) encoding_is ∙ ap (λ v. opens.Address (old.at + 6) ∷ reverse v.list.items) one.waiting in
-    let taken : Stands s a.scope (opens.Address (old.at + 6) ∷ reverse old.waiting.list.items) e.inner (old.text.list.items ++ codes "&") = e.onward in
-    nest-awaited s opened_ (kept-same s pushed opened_ text candidates scope_same (kept-written s old pushed (codes "&") one a.kept)) (purposes.Address place.mark) (old.at + 6)
+    let waits : reverse opened_.waiting.list.items ≡ Open.Address (old.at + 6) ∷ reverse old.waiting.list.items =
+    ap reverse waiting ∙ reverse-last pushed.waiting.list.items (Open.Address encoding)
+    ∙ ap (λ k. Open.Address k ∷ reverse pushed.waiting.list.items) encoding_is ∙ ap (λ v. Open.Address (old.at + 6) ∷ reverse v.list.items) one.waiting in
+    let taken : Stands s a.scope (Open.Address (old.at + 6) ∷ reverse old.waiting.list.items) e.inner (old.text.list.items ++ codes "&") = e.onward in
+    nest-awaited s opened_ (kept-same s pushed opened_ text candidates scope_same (kept-written s old pushed (codes "&") one a.kept)) (Purpose.Address place.mark) (old.at + 6)
     e.inner (old.at + 6) second place refl e.awaits places.1 (then_ ∙ ap (λ k. k + 1) encoding_is) is at (λ outer named_. (
       e.inner,
       named_,
@@ -637,7 +602,7 @@ pub name-addressed : (s : Symbol) (old : Direct) (kept : Kept s old) (t : Term) 
     → (IsOwn old.nest.purpose → old.nest.is_instance && old.nest.has_class ≡ false → has_return_type t ≡ false)
     → (old.nest.is_instance && old.nest.has_class ≡ true → has_return_type t ≡ true)
     → (old.nest.is_instance ≡ true → HasArguments (detail_of s) old.text.list.items old.argument t)
-    → StandsAt s.bytes old.at (69 ∷ []) → old.nest.purpose ≡ purposes.Address mark → IsAddressNamed s (record old { at = old.at + 1 }) mark
+    → StandsAt s.bytes old.at (69 ∷ []) → old.nest.purpose ≡ Purpose.Address mark → IsAddressNamed s (record old { at = old.at + 1 }) mark
 name-addressed s old kept t mark n no_return returns names here is_name =
     let serves = subst (λ p. Serves s p (below s kept.scope (reverse old.waiting.list.items)) n.outer n.front) is_name n.serves in
     let own : IsOwn old.nest.purpose = subst IsOwn (sym is_name) tt in
@@ -655,11 +620,11 @@ name-addressed s old kept t mark n no_return returns names here is_name =
 
 -- the open entry accepts its types
 pub address-items : (s : Symbol) (old new : Direct) (mark : Mark) (encoding : ℕ) (p : IsAddressNamed s old mark)
-    → old.waiting.list.items ≡ new.waiting.list.items ++ opens.Address encoding ∷ [] → old.has_scope ≡ false
+    → old.waiting.list.items ≡ new.waiting.list.items ++ Open.Address encoding ∷ [] → old.has_scope ≡ false
     → ItemsOf s encoding (AddressWithin s (below s no_scope (reverse new.waiting.list.items)) p.lead) p.v old.at p.state
 address-items s old new mark encoding p waiting first =
-    let all = opens.Address encoding ∷ reverse new.waiting.list.items in
-    let waits : reverse old.waiting.list.items ≡ all = ap reverse waiting ∙ reverse-last new.waiting.list.items (opens.Address encoding) in
+    let all = Open.Address encoding ∷ reverse new.waiting.list.items in
+    let waits : reverse old.waiting.list.items ≡ all = ap reverse waiting ∙ reverse-last new.waiting.list.items (Open.Address encoding) in
     let taken : Stands s no_scope all p.os p.lead =
     subst (λ (k : Scope). Stands s k all p.os p.lead) (p.keeps.unknown first).0 (subst (λ ws. Stands s p.scope ws p.os p.lead) waits p.stands) in
     taken p.v old.at p.state p.comes
@@ -668,16 +633,16 @@ address-items s old new mark encoding p waiting first =
 pub front-addressed : (s : Symbol) (w new : Direct) (mark : Mark) (from to : ℕ) (argument : Arguments) (kept : Kept s w) (p : HasNameSo s w.text.list.items mark from)
     → has_return_type p.own ≡ true → IsAddressed s kept.scope to argument p.own p.lead p.name
     → ItemsGoOn s argument (AddressWithin s (below s no_scope (reverse w.waiting.list.items)) p.lead) (λ l. encoding_of p.v l) [] w.at kept.state
-    → new.waiting.list.items ≡ w.waiting.list.items ++ opens.AddressedFront mark to argument ∷ [] → new.text ≡ w.text
-    → new.candidates ≡ w.candidates → new.has_scope ≡ w.has_scope → new.at ≡ w.at → IsWriting s new steps.Type
+    → new.waiting.list.items ≡ w.waiting.list.items ++ Open.AddressedFront mark to argument ∷ [] → new.text ≡ w.text
+    → new.candidates ≡ w.candidates → new.has_scope ≡ w.has_scope → new.at ≡ w.at → IsWriting s new Step.Type
 front-addressed s w new mark from to argument kept p returns addressed goes waiting text candidates scope_same at =
-    let entry = opens.AddressedFront mark to argument in
+    let entry = Open.AddressedFront mark to argument in
     front-awaits (λ scope. IsAddressed s scope to argument) (λ scope waits. AddressWithin s (below s no_scope waits)) w new entry kept p addressed returns goes
     waiting text candidates scope_same at (λ os h. h) (entry-scoped kept.scope goes.around entry argument (reverse w.waiting.list.items) refl refl addressed.named goes.scoped)
 
 -- Its E is read and that of its address, which is accepted like a type.
-pub address-ended : (s : Symbol) (w new : Direct) → IsAddressedRead s w marks.Plain → StandsAt s.bytes w.at (69 ∷ 69 ∷ []) → new.text ≡ w.text
-    → AreLeft hidings.Dependent w.candidates.list.items new.candidates.list.items → new.waiting ≡ w.waiting → new.at ≡ w.at + 2 → IsWriting s new (steps.Value false false)
+pub address-ended : (s : Symbol) (w new : Direct) → IsAddressedRead s w Mark.Plain → StandsAt s.bytes w.at (69 ∷ 69 ∷ []) → new.text ≡ w.text
+    → AreLeft Hiding.Dependent w.candidates.list.items new.candidates.list.items → new.waiting ≡ w.waiting → new.at ≡ w.at + 2 → IsWriting s new (Step.Value false false)
 address-ended s w new p letters text are waiting at =
     let within = p.within in
     let before = within.1 in

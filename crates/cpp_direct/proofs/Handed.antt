@@ -1,28 +1,16 @@
 -- A type was read, and is forwarded to the entry that waits for it.
-use Rattle.std.proofs.Common.{arith, ◌≡◌, ℕ, ◌-◌, length, List, [], ◌∷◌, ◌++◌, reverse, slice_get, Bool, true, false, Some, refl, ap, sym, ◌∙◌, subst, codes, append_assoc, ◌+◌}
-use Rattle.std.proofs.lemmas.Bool.{false≢true}
-use Rattle.cpp_direct.specs.AllTerms.{Detail, instance, no_items, special, State, Term, tree, types_of}
-use Rattle.cpp_direct.specs.AllStates.{Access, AreParametersRead, argument_of, Arguments, arguments_in, ArgumentsGoOn, AwaitsElementOf, AwaitsEnumerator, AwaitsMark, AwaitsNumber, AwaitsSignature, Belongs, below, detail_of, Direct, extra_of, FirstType, in_front_of_next, is_noted, is_type, is_within_type, IsDependentNow, IsElementIn, IsElementRead, IsFrontRead, IsNaming, IsNest, IsOwn, IsPassedClosed, IsReturned, IsSymbolEnded, IsTemplate, IsTypeRead, IsWriting, Kept, led_by, list_with, Listing, Mark, Marks, Names, Nest, of_pack, of_template, Open, opening_bracket, opening_text, Owns, PrintAllAs, PrintsGiven, PrintsAs, Purpose, Scope, Shows, Stands, Symbol, Holder}
-use Rattle.cpp_direct.specs.Holes.{Opened, Comes}
+use Rattle.cpp_direct.proofs.AllGround.{arith, ◌≡◌, ℕ, ◌-◌, length, List, [], ◌∷◌, ◌++◌, reverse, slice_get, Bool, true, false, Some, refl, ap, sym, ◌∙◌, subst, codes, append_assoc, ◌+◌, false≢true, Detail, instance, no_items, special, State, Term, tree, types_of, Access, AreParametersRead, argument_of, Arguments, arguments_in, ArgumentsGoOn, AwaitsElementOf, AwaitsEnumerator, AwaitsMark, AwaitsNumber, AwaitsSignature, Belongs, below, detail_of, Direct, extra_of, FirstType, in_front_of_next, is_noted, is_type, is_within_type, IsDependentNow, IsElementIn, IsElementRead, IsFrontRead, IsNaming, IsNest, IsOwn, IsPassedClosed, IsReturned, IsSymbolEnded, IsTemplate, IsTypeRead, IsWriting, Kept, led_by, list_with, Listing, Mark, Marks, Names, Nest, of_pack, of_template, Open, opening_bracket, Owns, PrintAllAs, PrintsGiven, PrintsAs, Purpose, Scope, Shows, Stands, Symbol, Holder, Opened, Comes, Step, element-in, next-prints, next-prints-in, type-element, type-in, all-given, next-prints-as, type-element-as, as-in, prints-as-given, special-shows, made-here, template-stays, kept-same, reverse-last, parameters-as}
+use Rattle.cpp_direct.proofs.AllRead.{TakesElements, last-found, list-waits, some-elements}
+use Rattle.cpp_direct.specs.AllStates.{opening_text}
 use Rattle.cpp_direct.proofs.Elements.{element-added}
-use Rattle.cpp_direct.proofs.Listed.{TakesElements, last-found, list-waits, some-elements}
-use Rattle.cpp_direct.proofs.PrintedLists.{element-in, next-prints, next-prints-in, type-element, type-in, all-given, next-prints-as, type-element-as}
-use Rattle.cpp_direct.proofs.PrintedTypes.{as-in, prints-as-given}
-use Rattle.cpp_direct.proofs.PrintedSymbols.{special-shows}
-use Rattle.cpp_direct.proofs.Kept.{made-here, template-stays, kept-same, reverse-last}
-use Rattle.cpp_direct.proofs.Scopes.{parameters-as}
-use Rattle.cpp_direct.specs.declared.open.Open.TheVariants as opens
-use Rattle.cpp_direct.specs.declared.open.Step.TheVariants as steps
-use Rattle.cpp_direct.specs.declared.open.Purpose.TheVariants as purposes
 
 -- it is marked
 pub value-marked : (s : Symbol) (w : Direct) (is_reference marked_reference is_dependent : Bool) (entry : Open) (from : ℕ) (made : Term → Term) (mark : List ℕ)
-    → IsWriting s w (steps.Value is_reference is_dependent) → slice_get w.waiting.list.items (length w.waiting.list.items - 1) ≡ Some entry
+    → IsWriting s w (Step.Value is_reference is_dependent) → slice_get w.waiting.list.items (length w.waiting.list.items - 1) ≡ Some entry
     → ((scope : Scope) (rest : List Open) (os : List Opened) (text : List ℕ) → Stands s scope (entry ∷ rest) os text → Marks s (below s scope rest) os text from made)
     → ((rest : List Open) → argument_of (entry ∷ rest) ≡ argument_of rest)
     → ((names : Names) (t : Term) (b : List ℕ) → PrintsAs (detail_of s) names is_dependent t b is_reference
-    → PrintsAs (detail_of s) names is_dependent (made t) (b ++ mark) marked_reference)
-    → AwaitsMark s w mark from marked_reference is_dependent
+    → PrintsAs (detail_of s) names is_dependent (made t) (b ++ mark) marked_reference) → AwaitsMark s w mark from marked_reference is_dependent
 value-marked s w is_reference marked_reference is_dependent entry from made mark p found stands_as argument_as prints_as =
     let last = last-found w.waiting.list.items entry found in
     let v = subst (λ ws. IsTypeRead s p.scope w p.state ws is_reference is_dependent) last.1 p.is_before in
@@ -48,11 +36,11 @@ value-marked s w is_reference marked_reference is_dependent entry from made mark
     }
 
 -- it is the first type in a function type or in an array
-abbrev pub first-type : (s : Symbol) (w : Direct) (is_reference : Bool) → IsWriting s w (steps.Value is_reference false) → FirstType s
+abbrev pub first-type : (s : Symbol) (w : Direct) (is_reference : Bool) → IsWriting s w (Step.Value is_reference false) → FirstType s
 first-type s w is_reference p = record { own = p.is_before.own; bytes = p.is_before.bytes; is_reference = is_reference; prints = p.is_before.prints }
 
 -- it is an element or a parameter
-abbrev pub value-element : (s : Symbol) (w : Direct) (is_reference : Bool) (o : Open) → IsWriting s w (steps.Value is_reference false)
+abbrev pub value-element : (s : Symbol) (w : Direct) (is_reference : Bool) (o : Open) → IsWriting s w (Step.Value is_reference false)
     → slice_get w.waiting.list.items (length w.waiting.list.items - 1) ≡ Some o → IsElementRead s w o
 value-element s w is_reference o p found =
     let v = p.is_before in
@@ -75,8 +63,8 @@ value-element s w is_reference o p found =
 
 -- a parameter was read
 pub parameter-got : (s : Symbol) (w : Direct) (mark : Mark) (start : ℕ) (argument : Arguments) (kept : Kept s w) (rest : List Open) (os : List Opened) (t : Term)
-    (front bytes : List ℕ) (waits : Stands s kept.scope (opens.Parameters mark start argument ∷ rest) os front)
-    → reverse w.waiting.list.items ≡ opens.Parameters mark start argument ∷ rest
+    (front bytes : List ℕ) (waits : Stands s kept.scope (Open.Parameters mark start argument ∷ rest) os front)
+    → reverse w.waiting.list.items ≡ Open.Parameters mark start argument ∷ rest
     → w.text.list.items ≡ front ++ bytes → Comes s os (tree t true) w.at kept.state → IsElementIn (detail_of s) (types_of waits.2.is_function.own) 3 t bytes
     → AreParametersRead s w 3 false mark start argument
 parameter-got s w mark start argument kept opened_ os t front bytes waits open_is written comes element =
@@ -96,7 +84,7 @@ parameter-got s w mark start argument kept opened_ os t front bytes waits open_i
       goes = waits.4 t w.at kept.state comes;
     }
 
-pub parameter-read : (s : Symbol) (w : Direct) (mark : Mark) (start : ℕ) (argument : Arguments) → IsElementRead s w (opens.Parameters mark start argument)
+pub parameter-read : (s : Symbol) (w : Direct) (mark : Mark) (start : ℕ) (argument : Arguments) → IsElementRead s w (Open.Parameters mark start argument)
     → AreParametersRead s w 3 false mark start argument
 parameter-read s w mark start argument p =
     parameter-got s w mark start argument p.read.kept p.rest p.read.os p.read.own p.read.front p.read.bytes p.read.stands p.open_is p.read.written p.read.comes
@@ -104,10 +92,10 @@ parameter-read s w mark start argument p =
 
 -- it is a type
 pub value-parameter : (s : Symbol) (w : Direct) (is_reference is_dependent : Bool) (mark : Mark) (start : ℕ) (argument : Arguments)
-    → IsWriting s w (steps.Value is_reference is_dependent)
-    → slice_get w.waiting.list.items (length w.waiting.list.items - 1) ≡ Some (opens.Parameters mark start argument) → AreParametersRead s w 3 false mark start argument
+    → IsWriting s w (Step.Value is_reference is_dependent)
+    → slice_get w.waiting.list.items (length w.waiting.list.items - 1) ≡ Some (Open.Parameters mark start argument) → AreParametersRead s w 3 false mark start argument
 value-parameter s w is_reference is_dependent mark start argument p found =
-    let last = last-found w.waiting.list.items (opens.Parameters mark start argument) found in
+    let last = last-found w.waiting.list.items (Open.Parameters mark start argument) found in
     let v = subst (λ ws. IsTypeRead s p.scope w p.state ws is_reference is_dependent) last.1 p.is_before in
     let f = v.stands.2.is_function in
     let types = types_of f.own in
@@ -115,31 +103,30 @@ value-parameter s w is_reference is_dependent mark start argument p found =
     (type-in types 3 v.own v.bytes is_reference (omega arith) (as-in (detail_of s) p.scope.names is_dependent types v.own v.bytes is_reference f.given v.prints))
 
 -- the type of a special object was read
-pub special-read : (s : Symbol) (w : Direct) → IsElementRead s w opens.Special → IsSymbolEnded s w
+pub special-read : (s : Symbol) (w : Direct) → IsElementRead s w Open.Special → IsSymbolEnded s w
 special-read s w p =
     let waits = p.read.stands in
     let letter = waits.0 in
     let front_is = waits.1 in
-    let filled = waits.2 in
     record {
       kept = p.read.kept;
       e = special letter p.read.own;
       encoded = waits.3 p.read.own w.at p.read.state p.read.comes;
       shows = subst (λ l. Shows (detail_of s) (special letter p.read.own) l) (sym (p.read.written ∙ ap (λ l. l ++ p.read.bytes) front_is))
-          (special-shows letter (λ e. filled (front_is ∙ e)) p.read.own p.read.bytes (p.read.element 0));
+          (special-shows letter (λ e. waits.2 (front_is ∙ e)) p.read.own p.read.bytes (p.read.element 0));
     }
 
 -- it is the type of an enumerator
-pub value-enumerator : (s : Symbol) (w : Direct) (is_reference : Bool) → IsWriting s w (steps.Value is_reference false)
-    → slice_get w.waiting.list.items (length w.waiting.list.items - 1) ≡ Some opens.Enumerator → AwaitsNumber s w
+pub value-enumerator : (s : Symbol) (w : Direct) (is_reference : Bool) → IsWriting s w (Step.Value is_reference false)
+    → slice_get w.waiting.list.items (length w.waiting.list.items - 1) ≡ Some Open.Enumerator → AwaitsNumber s w
 value-enumerator s w is_reference p found =
-    let last = last-found w.waiting.list.items opens.Enumerator found in
+    let last = last-found w.waiting.list.items Open.Enumerator found in
     go last.0 last.1 (subst (λ ws. Stands s p.scope ws v.os v.front) last.1 v.stands)
   where
     v : IsTypeRead s p.scope w p.state (reverse w.waiting.list.items) is_reference false
     v = p.is_before
 
-    number : (l : Listing) (opened : List Open) (owner : Open) (rest : List Open) → reverse w.waiting.list.items ≡ opens.Enumerator ∷ opened
+    number : (l : Listing) (opened : List Open) (owner : Open) (rest : List Open) → reverse w.waiting.list.items ≡ Open.Enumerator ∷ opened
         → Belongs (detail_of s) p.scope.names l opened owner rest → AwaitsEnumerator s p.scope.names l owner (below s p.scope rest) v.os v.front → AwaitsNumber s w
     number l opened owner rest is belongs waits = record {
       kept = p.kept;
@@ -167,62 +154,61 @@ value-enumerator s w is_reference p found =
       goes = waits.8 v.own w.at p.state v.comes;
     }
 
-    go : (rest : List Open) → reverse w.waiting.list.items ≡ opens.Enumerator ∷ rest
-        → Stands s p.scope (opens.Enumerator ∷ rest) v.os v.front → AwaitsNumber s w
+    go : (rest : List Open) → reverse w.waiting.list.items ≡ Open.Enumerator ∷ rest → Stands s p.scope (Open.Enumerator ∷ rest) v.os v.front → AwaitsNumber s w
     go [] is waits = absurd waits
-    go (opens.Pack ∷ []) is waits = absurd waits
-    go (opens.Pack ∷ owner ∷ rest) is waits = number (of_pack waits.0 waits.1) (opens.Pack ∷ owner ∷ rest) owner rest is (refl, waits.2) waits.3
+    go (Open.Pack ∷ []) is waits = absurd waits
+    go (Open.Pack ∷ owner ∷ rest) is waits = number (of_pack waits.0 waits.1) (Open.Pack ∷ owner ∷ rest) owner rest is (refl, waits.2) waits.3
     go (owner ∷ rest) is waits = number of_template (owner ∷ rest) owner rest is refl waits
 
 -- an entry that accepts a type which names no argument of the function's template
-pub passed-closed : (o : Open) → ((x : ℕ) → o ≡ opens.Pointer x → ⊥) → ((x : ℕ) → o ≡ opens.Lvalue x → ⊥) → ((x : ℕ) → o ≡ opens.Rvalue x → ⊥)
-    → ((x : ℕ) → o ≡ opens.Const x → ⊥) → ((x : Mark) (y : ℕ) (z : Arguments) → o ≡ opens.Parameters x y z → ⊥)
-    → ((x : Mark) (y : ℕ) (z : Arguments) → o ≡ opens.Front x y z → ⊥) → IsPassedClosed o
-passed-closed (opens.Pointer x) p l r c f k = absurd (p x refl)
-passed-closed (opens.Lvalue x) p l r c f k = absurd (l x refl)
-passed-closed (opens.Rvalue x) p l r c f k = absurd (r x refl)
-passed-closed (opens.Const x) p l r c f k = absurd (c x refl)
-passed-closed (opens.Parameters x y z) p l r c f k = absurd (f x y z refl)
-passed-closed (opens.Front x y z) p l r c f k = absurd (k x y z refl)
+pub passed-closed : (o : Open) → ((x : ℕ) → o ≡ Open.Pointer x → ⊥) → ((x : ℕ) → o ≡ Open.Lvalue x → ⊥) → ((x : ℕ) → o ≡ Open.Rvalue x → ⊥)
+    → ((x : ℕ) → o ≡ Open.Const x → ⊥) → ((x : Mark) (y : ℕ) (z : Arguments) → o ≡ Open.Parameters x y z → ⊥)
+    → ((x : Mark) (y : ℕ) (z : Arguments) → o ≡ Open.Front x y z → ⊥) → IsPassedClosed o
+passed-closed (Open.Pointer x) p l r c f k = absurd (p x refl)
+passed-closed (Open.Lvalue x) p l r c f k = absurd (l x refl)
+passed-closed (Open.Rvalue x) p l r c f k = absurd (r x refl)
+passed-closed (Open.Const x) p l r c f k = absurd (c x refl)
+passed-closed (Open.Parameters x y z) p l r c f k = absurd (f x y z refl)
+passed-closed (Open.Front x y z) p l r c f k = absurd (k x y z refl)
 passed-closed _ p l r c f k = tt
 
 -- an entry that isn't one of those that wait for something else
-pub takes-elements : (o : Open) → IsPassedClosed o → ((x : Bool) → o ≡ opens.Returned x → ⊥) → ((x : Bool) → o ≡ opens.Signature x → ⊥)
-    → (o ≡ opens.Special → ⊥) → (o ≡ opens.Derived → ⊥) → ((x : ℕ) → o ≡ opens.Base x → ⊥) → (o ≡ opens.Enumerator → ⊥) → ((x : Mark) (y z : ℕ) → o ≡ opens.Enclosing x y z → ⊥)
-    → ((x : Mark) (y t : ℕ) (z : Arguments) → o ≡ opens.EnclosingInstance x y t z → ⊥)
-    → ((x : Mark) (y t : ℕ) (z : Arguments) → o ≡ opens.EnclosingFront x y t z → ⊥)
-    → ((x y : ℕ) (z : Arguments) → o ≡ opens.Argument x y z → ⊥) → ((x : ℕ) (y : Holder) → o ≡ opens.Lambda x y → ⊥) → ((x : Mark) (y : ℕ) → o ≡ opens.Member x y → ⊥) → ((x y : ℕ) (z : Arguments) → o ≡ opens.Element x y z → ⊥)
-    → ((x : Access) (y z : ℕ) → o ≡ opens.Array x y z → ⊥) → ((x : ℕ) → o ≡ opens.Address x → ⊥)
-    → ((x : Mark) (y : ℕ) (z : Arguments) → o ≡ opens.AddressedFront x y z → ⊥) → ((x : Mark) (y : ℕ) (z : Arguments) → o ≡ opens.Addressed x y z → ⊥)
-    → ((x y : ℕ) (z : Arguments) → o ≡ opens.ArgumentEnumerator x y z → ⊥) → TakesElements o
-takes-elements (opens.Pointer x) w u g z k c n m i h a q r e j d f b p = absurd w
-takes-elements (opens.Lvalue x) w u g z k c n m i h a q r e j d f b p = absurd w
-takes-elements (opens.Rvalue x) w u g z k c n m i h a q r e j d f b p = absurd w
-takes-elements (opens.Const x) w u g z k c n m i h a q r e j d f b p = absurd w
-takes-elements (opens.Parameters x y v) w u g z k c n m i h a q r e j d f b p = absurd w
-takes-elements (opens.Front x y v) w u g z k c n m i h a q r e j d f b p = absurd w
-takes-elements (opens.Argument x y v) w u g z k c n m i h a q r e j d f b p = absurd (a x y v refl)
-takes-elements (opens.Returned x) w u g z k c n m i h a q r e j d f b p = absurd (u x refl)
-takes-elements (opens.Signature x) w u g z k c n m i h a q r e j d f b p = absurd (g x refl)
-takes-elements (opens.Enclosing x y v) w u g z k c n m i h a q r e j d f b p = absurd (m x y v refl)
-takes-elements (opens.EnclosingInstance x y t v) w u g z k c n m i h a q r e j d f b p = absurd (i x y t v refl)
-takes-elements (opens.EnclosingFront x y t v) w u g z k c n m i h a q r e j d f b p = absurd (h x y t v refl)
-takes-elements (opens.Lambda x y) w u g z k c n m i h a q r e j d f b p = absurd (q x y refl)
-takes-elements (opens.Member x y) w u g z k c n m i h a q r e j d f b p = absurd (r x y refl)
-takes-elements (opens.Array x y v) w u g z k c n m i h a q r e j d f b p = absurd (j x y v refl)
-takes-elements (opens.Element x y v) w u g z k c n m i h a q r e j d f b p = absurd (e x y v refl)
-takes-elements (opens.Address x) w u g z k c n m i h a q r e j d f b p = absurd (d x refl)
-takes-elements (opens.AddressedFront x y v) w u g z k c n m i h a q r e j d f b p = absurd (f x y v refl)
-takes-elements (opens.Addressed x y v) w u g z k c n m i h a q r e j d f b p = absurd (b x y v refl)
-takes-elements opens.Special w u g z k c n m i h a q r e j d f b p = absurd (z refl)
-takes-elements opens.Derived w u g z k c n m i h a q r e j d f b p = absurd (k refl)
-takes-elements (opens.Base x) w u g z k c n m i h a q r e j d f b p = absurd (c x refl)
-takes-elements (opens.ArgumentEnumerator x y v) w u g z k c n m i h a q r e j d f b p = absurd (p x y v refl)
-takes-elements opens.Enumerator w u g z k c n m i h a q r e j d f b p = absurd (n refl)
+pub takes-elements : (o : Open) → IsPassedClosed o → ((x : Bool) → o ≡ Open.Returned x → ⊥) → ((x : Bool) → o ≡ Open.Signature x → ⊥)
+    → (o ≡ Open.Special → ⊥) → (o ≡ Open.Derived → ⊥) → ((x : ℕ) → o ≡ Open.Base x → ⊥) → (o ≡ Open.Enumerator → ⊥) → ((x : Mark) (y z : ℕ) → o ≡ Open.Enclosing x y z → ⊥)
+    → ((x : Mark) (y t : ℕ) (z : Arguments) → o ≡ Open.EnclosingInstance x y t z → ⊥)
+    → ((x : Mark) (y t : ℕ) (z : Arguments) → o ≡ Open.EnclosingFront x y t z → ⊥)
+    → ((x y : ℕ) (z : Arguments) → o ≡ Open.Argument x y z → ⊥) → ((x : ℕ) (y : Holder) → o ≡ Open.Lambda x y → ⊥) → ((x : Mark) (y : ℕ) → o ≡ Open.Member x y → ⊥) → ((x y : ℕ) (z : Arguments) → o ≡ Open.Element x y z → ⊥)
+    → ((x : Access) (y z : ℕ) → o ≡ Open.Array x y z → ⊥) → ((x : ℕ) → o ≡ Open.Address x → ⊥)
+    → ((x : Mark) (y : ℕ) (z : Arguments) → o ≡ Open.AddressedFront x y z → ⊥) → ((x : Mark) (y : ℕ) (z : Arguments) → o ≡ Open.Addressed x y z → ⊥)
+    → ((x y : ℕ) (z : Arguments) → o ≡ Open.ArgumentEnumerator x y z → ⊥) → TakesElements o
+takes-elements (Open.Pointer x) w u g z k c n m i h a q r e j d f b p = absurd w
+takes-elements (Open.Lvalue x) w u g z k c n m i h a q r e j d f b p = absurd w
+takes-elements (Open.Rvalue x) w u g z k c n m i h a q r e j d f b p = absurd w
+takes-elements (Open.Const x) w u g z k c n m i h a q r e j d f b p = absurd w
+takes-elements (Open.Parameters x y v) w u g z k c n m i h a q r e j d f b p = absurd w
+takes-elements (Open.Front x y v) w u g z k c n m i h a q r e j d f b p = absurd w
+takes-elements (Open.Argument x y v) w u g z k c n m i h a q r e j d f b p = absurd (a x y v refl)
+takes-elements (Open.Returned x) w u g z k c n m i h a q r e j d f b p = absurd (u x refl)
+takes-elements (Open.Signature x) w u g z k c n m i h a q r e j d f b p = absurd (g x refl)
+takes-elements (Open.Enclosing x y v) w u g z k c n m i h a q r e j d f b p = absurd (m x y v refl)
+takes-elements (Open.EnclosingInstance x y t v) w u g z k c n m i h a q r e j d f b p = absurd (i x y t v refl)
+takes-elements (Open.EnclosingFront x y t v) w u g z k c n m i h a q r e j d f b p = absurd (h x y t v refl)
+takes-elements (Open.Lambda x y) w u g z k c n m i h a q r e j d f b p = absurd (q x y refl)
+takes-elements (Open.Member x y) w u g z k c n m i h a q r e j d f b p = absurd (r x y refl)
+takes-elements (Open.Array x y v) w u g z k c n m i h a q r e j d f b p = absurd (j x y v refl)
+takes-elements (Open.Element x y v) w u g z k c n m i h a q r e j d f b p = absurd (e x y v refl)
+takes-elements (Open.Address x) w u g z k c n m i h a q r e j d f b p = absurd (d x refl)
+takes-elements (Open.AddressedFront x y v) w u g z k c n m i h a q r e j d f b p = absurd (f x y v refl)
+takes-elements (Open.Addressed x y v) w u g z k c n m i h a q r e j d f b p = absurd (b x y v refl)
+takes-elements Open.Special w u g z k c n m i h a q r e j d f b p = absurd (z refl)
+takes-elements Open.Derived w u g z k c n m i h a q r e j d f b p = absurd (k refl)
+takes-elements (Open.Base x) w u g z k c n m i h a q r e j d f b p = absurd (c x refl)
+takes-elements (Open.ArgumentEnumerator x y v) w u g z k c n m i h a q r e j d f b p = absurd (p x y v refl)
+takes-elements Open.Enumerator w u g z k c n m i h a q r e j d f b p = absurd (n refl)
 takes-elements _ w u g z k c n m i h a q r e j d f b p = tt
 
 -- an element was read
-pub argument-read : (s : Symbol) (w : Direct) (o : Open) → IsElementRead s w o → TakesElements o → IsWriting s w (steps.List false)
+pub argument-read : (s : Symbol) (w : Direct) (o : Open) → IsElementRead s w o → TakesElements o → IsWriting s w (Step.List false)
 argument-read s w o p takes =
     let waits = list-waits s o p.rest p.read.os p.read.front takes p.read.stands in
     let place = waits.place in
@@ -234,21 +220,21 @@ argument-read s w o p takes =
 
 -- the open entry notes it
 noted-now : (o noted : Open) → IsDependentNow o noted → is_noted noted ≡ true
-noted-now (opens.TypeArguments from is_dependent) noted is = ap is_noted is
-noted-now (opens.NestArguments nest) noted is = ap is_noted is.1
-noted-now (opens.FirstArguments nest) noted is = ap is_noted is.1
-noted-now (opens.LevelArguments is_dependent) noted is = ap is_noted is
+noted-now (Open.TypeArguments from is_dependent) noted is = ap is_noted is
+noted-now (Open.NestArguments nest) noted is = ap is_noted is.1
+noted-now (Open.FirstArguments nest) noted is = ap is_noted is.1
+noted-now (Open.LevelArguments is_dependent) noted is = ap is_noted is
 noted-now _ noted is = absurd is
 
 -- and that entry is in a type
 pub noted-within : (o noted : Open) → IsDependentNow o noted → is_within_type o ≡ true
-noted-within (opens.TypeArguments from is_dependent) noted is = refl
-noted-within (opens.NestArguments nest) noted is = ap is_type is.0
-noted-within (opens.FirstArguments nest) noted is = ap is_type is.0
-noted-within (opens.LevelArguments is_dependent) noted is = refl
+noted-within (Open.TypeArguments from is_dependent) noted is = refl
+noted-within (Open.NestArguments nest) noted is = ap is_type is.0
+noted-within (Open.FirstArguments nest) noted is = ap is_type is.0
+noted-within (Open.LevelArguments is_dependent) noted is = refl
 noted-within _ noted is = absurd is
 
-noted-nest : {detail : Detail} {names : Names} (front name text : List ℕ) (nest : Nest) (t : Term) → nest.purpose ≡ purposes.Type
+noted-nest : {detail : Detail} {names : Names} (front name text : List ℕ) (nest : Nest) (t : Term) → nest.purpose ≡ Purpose.Type
     → IsNest detail names front name text nest t → IsNest detail names front name text (record nest { is_dependent = true }) t
 noted-nest {detail} {names} front name text nest t type p = record {
   back = p.back;
@@ -264,36 +250,36 @@ noted-nest {detail} {names} front name text nest t type p = record {
 -- the template before it stays
 noted-template : (detail : Detail) (names : Names) (o noted : Open) (front : List ℕ) (t : Term) (name text : List ℕ) → IsDependentNow o noted
     → IsTemplate detail names o front t name text → IsTemplate detail names noted front t name text
-noted-template detail names (opens.TypeArguments from is_dependent) noted front t name text is p =
+noted-template detail names (Open.TypeArguments from is_dependent) noted front t name text is p =
     subst (λ o. IsTemplate detail names o front t name text) (sym is) p
-noted-template detail names (opens.NestArguments nest) noted front t name text is p =
+noted-template detail names (Open.NestArguments nest) noted front t name text is p =
     subst (λ o. IsTemplate detail names o front t name text) (sym is.1) (noted-nest front name text nest t is.0 p.0, p.1, p.2)
-noted-template detail names (opens.FirstArguments nest) noted front t name text is p =
+noted-template detail names (Open.FirstArguments nest) noted front t name text is p =
     subst (λ o. IsTemplate detail names o front t name text) (sym is.1) (noted-nest front name text nest t is.0 p)
-noted-template detail names (opens.LevelArguments is_dependent) noted front t name text is p =
+noted-template detail names (Open.LevelArguments is_dependent) noted front t name text is p =
     subst (λ o. IsTemplate detail names o front t name text) (sym is) p
 noted-template detail names _ noted front t name text is p = absurd is
 
 -- it becomes the same instance
 noted-owns : (s : Symbol) (scope : Scope) (o noted : Open) (rest : List Open) (front : List ℕ) (u : Term) (at : ℕ) (st : State) → IsDependentNow o noted
     → IsNaming scope rest → Owns s o (below s scope rest) front u at st → Owns s noted (below s scope rest) front u at st
-noted-owns s scope (opens.TypeArguments from is_dependent) noted rest front u at st is naming p =
+noted-owns s scope (Open.TypeArguments from is_dependent) noted rest front u at st is naming p =
     subst (λ o. Owns s o (below s scope rest) front u at st) (sym is) (p.0, p.1, p.2, p.3, (λ named. naming), p.5)
-noted-owns s scope (opens.NestArguments nest) noted rest front u at st is naming p =
+noted-owns s scope (Open.NestArguments nest) noted rest front u at st is naming p =
     subst (λ o. Owns s o (below s scope rest) front u at st) (sym is.1) (p.0, p.1, p.2, p.3, (λ named. naming), p.5)
-noted-owns s scope (opens.FirstArguments nest) noted rest front u at st is naming p =
+noted-owns s scope (Open.FirstArguments nest) noted rest front u at st is naming p =
     subst (λ o. Owns s o (below s scope rest) front u at st) (sym is.1) (p.0, p.1, p.2, p.3, (λ named. naming), p.5)
-noted-owns s scope (opens.LevelArguments is_dependent) noted rest front u at st is naming p =
+noted-owns s scope (Open.LevelArguments is_dependent) noted rest front u at st is naming p =
     subst (λ o. Owns s o (below s scope rest) front u at st) (sym is) (p.0, p.1, (λ named. naming), p.3)
 noted-owns s scope _ noted rest front u at st is naming p = absurd is
 
 -- expects a type as an argument
 noted-awaits : (s : Symbol) (scope : Scope) (o noted : Open) (rest : List Open) (os : List Opened) (text : List ℕ) → IsDependentNow o noted
     → Stands s scope (o ∷ rest) os text → AwaitsElementOf s scope.names of_template o (below s scope rest) os text
-noted-awaits s scope (opens.TypeArguments from is_dependent) noted rest os text is p = p
-noted-awaits s scope (opens.NestArguments nest) noted rest os text is p = p
-noted-awaits s scope (opens.FirstArguments nest) noted rest os text is p = p
-noted-awaits s scope (opens.LevelArguments is_dependent) noted rest os text is p = p
+noted-awaits s scope (Open.TypeArguments from is_dependent) noted rest os text is p = p
+noted-awaits s scope (Open.NestArguments nest) noted rest os text is p = p
+noted-awaits s scope (Open.FirstArguments nest) noted rest os text is p = p
+noted-awaits s scope (Open.LevelArguments is_dependent) noted rest os text is p = p
 noted-awaits s scope _ noted rest os text is p = absurd is
 
 -- such an argument of the innermost entry was read, which notes it
@@ -303,7 +289,7 @@ pub noted-added : (s : Symbol) (w new : Direct) (kept : Kept s w) (ws : List Ope
     → w.text.list.items ≡ (front ++ name ++ opening_bracket (detail_of s) ++ in_front_of_next ts texts) ++ bytes → IsNaming kept.scope (owner ∷ reverse ws)
     → ArgumentsGoOn s owner (below s kept.scope (reverse ws)) front template (ts ++ t ∷ []) w.at kept.state → IsDependentNow owner noted
     → new.waiting.list.items ≡ ws ++ noted ∷ [] → new.text ≡ w.text → new.candidates ≡ w.candidates → new.has_scope ≡ w.has_scope → new.at ≡ w.at
-    → IsWriting s new (steps.List false)
+    → IsWriting s new (Step.List false)
 noted-added s w new kept ws owner noted front template name ts texts t bytes is_reference is_template elements prints written named goes is waits text candidates scope_same at =
     let scope = kept.scope in
     let rest = reverse ws in
@@ -345,14 +331,13 @@ noted-added s w new kept ws owner noted front template name ts texts t bytes is_
     }
 
 -- it is a type
-pub listed-noted : (s : Symbol) (w new : Direct) (is_reference : Bool) (ws : List Open) (owner noted : Open) → IsWriting s w (steps.Value is_reference true)
+pub listed-noted : (s : Symbol) (w new : Direct) (is_reference : Bool) (ws : List Open) (owner noted : Open) → IsWriting s w (Step.Value is_reference true)
     → w.waiting.list.items ≡ ws ++ owner ∷ [] → IsDependentNow owner noted → new.waiting.list.items ≡ ws ++ noted ∷ []
-    → new.text ≡ w.text → new.candidates ≡ w.candidates → new.has_scope ≡ w.has_scope → new.at ≡ w.at → IsWriting s new (steps.List false)
+    → new.text ≡ w.text → new.candidates ≡ w.candidates → new.has_scope ≡ w.has_scope → new.at ≡ w.at → IsWriting s new (Step.List false)
 listed-noted s w new is_reference ws owner noted p waits is now_waits text candidates scope_same at =
     let scope = p.scope in
-    let rest = reverse ws in
     let v = subst (λ os. IsTypeRead s scope w p.state os is_reference true) (ap reverse waits ∙ reverse-last ws owner) p.is_before in
-    let waits = noted-awaits s scope owner noted rest v.os v.front is v.stands in
+    let waits = noted-awaits s scope owner noted (reverse ws) v.os v.front is v.stands in
     noted-added s w new p.kept ws owner noted waits.0 waits.1 waits.2 waits.3 waits.4 v.own v.bytes is_reference
     (subst (λ l. IsTemplate (detail_of s) scope.names owner waits.0 waits.1 waits.2 l) (sym v.written)
     (template-stays (detail_of s) scope.names owner waits.0 waits.1 waits.2 v.front v.bytes waits.5))
@@ -362,10 +347,10 @@ listed-noted s w new is_reference ws owner noted p waits is now_waits text candi
 
 -- it is the return type of a function
 pub value-front : (s : Symbol) (w : Direct) (is_reference is_dependent : Bool) (mark : Mark) (start : ℕ) (argument : Arguments)
-    → IsWriting s w (steps.Value is_reference is_dependent)
-    → slice_get w.waiting.list.items (length w.waiting.list.items - 1) ≡ Some (opens.Front mark start argument) → IsFrontRead s w mark start argument
+    → IsWriting s w (Step.Value is_reference is_dependent)
+    → slice_get w.waiting.list.items (length w.waiting.list.items - 1) ≡ Some (Open.Front mark start argument) → IsFrontRead s w mark start argument
 value-front s w is_reference is_dependent mark start argument p found =
-    let last = last-found w.waiting.list.items (opens.Front mark start argument) found in
+    let last = last-found w.waiting.list.items (Open.Front mark start argument) found in
     let v = subst (λ ws. IsTypeRead s p.scope w p.state ws is_reference is_dependent) last.1 p.is_before in
     let is = v.stands.0.is_instance in
     record {
@@ -383,10 +368,10 @@ value-front s w is_reference is_dependent mark start argument p found =
 -- ## Function types
 
 -- it is the return type of a function type
-pub value-returned : (s : Symbol) (w : Direct) (is_reference is_pointer : Bool) → IsWriting s w (steps.Value is_reference false)
-    → slice_get w.waiting.list.items (length w.waiting.list.items - 1) ≡ Some (opens.Returned is_pointer) → IsReturned s w is_pointer
+pub value-returned : (s : Symbol) (w : Direct) (is_reference is_pointer : Bool) → IsWriting s w (Step.Value is_reference false)
+    → slice_get w.waiting.list.items (length w.waiting.list.items - 1) ≡ Some (Open.Returned is_pointer) → IsReturned s w is_pointer
 value-returned s w is_reference is_pointer p found =
-    let last = value-element s w is_reference (opens.Returned is_pointer) p found in
+    let last = value-element s w is_reference (Open.Returned is_pointer) p found in
     let waits = last.read.stands in
     record {
       kept = p.kept;
@@ -398,10 +383,10 @@ value-returned s w is_reference is_pointer p found =
     }
 
 -- it is a parameter of one
-pub value-signature : (s : Symbol) (w : Direct) (is_reference is_pointer : Bool) → IsWriting s w (steps.Value is_reference false)
-    → slice_get w.waiting.list.items (length w.waiting.list.items - 1) ≡ Some (opens.Signature is_pointer) → AwaitsSignature s w is_pointer false
+pub value-signature : (s : Symbol) (w : Direct) (is_reference is_pointer : Bool) → IsWriting s w (Step.Value is_reference false)
+    → slice_get w.waiting.list.items (length w.waiting.list.items - 1) ≡ Some (Open.Signature is_pointer) → AwaitsSignature s w is_pointer false
 value-signature s w is_reference is_pointer p found =
-    let last = value-element s w is_reference (opens.Signature is_pointer) p found in
+    let last = value-element s w is_reference (Open.Signature is_pointer) p found in
     let t = last.read.own in
     let b = last.read.bytes in
     let waits = last.read.stands in

@@ -1,20 +1,7 @@
 -- Instances of function templates that contain a type, whose parameters may name their arguments: from their names to their ends.
+use Rattle.cpp_direct.proofs.AllGround.{StandsAt, AreLeft, Arguments, AwaitsLedParameters, below, detail_of, Direct, HasArguments, IsAddressed, IsBuiltinAt, IsElementRead, IsEnclosingNamed, IsEnclosingParameterRead, IsInstanceNamed, IsInstanceParameterRead, IsNesting, IsOwn, IsScopedWithin, IsWriting, ItemsGoOn, ItemsOf, Kept, Mark, no_scope, nowhere, Scope, Serves, Symbol, TypeWithin, encoding_of, has_return_type, Kind, Term, types_of, ◌≡◌, refl, ap, sym, ◌∙◌, subst, ℕ, ◌+◌, ◌-◌, [], ◌∷◌, ◌++◌, length, reverse, take, Bool, true, false, ◌&&◌, Hiding, Open, Purpose, Step, kept-same, kept-closed, reverse-last, element-in, as-name, entry-scoped, has-member}
+use Rattle.cpp_direct.proofs.AllRead.{nowhere-scoped, nest-comes, closed-prints, popped}
 use Rattle.cpp_direct.proofs.FunctionsWithin.{front-awaits, items-scoped, led-read, now-scoped, returned-awaits}
-use Rattle.cpp_direct.proofs.Kept.{kept-same, kept-closed, reverse-last}
-use Rattle.cpp_direct.proofs.MovesOfLocals.{nowhere-scoped}
-use Rattle.cpp_direct.proofs.Nesting.{nest-comes, closed-prints}
-use Rattle.cpp_direct.proofs.PrintedLists.{element-in}
-use Rattle.cpp_direct.proofs.PrintedNames.{as-name}
-use Rattle.cpp_direct.proofs.Scopes.{entry-scoped, has-member}
-use Rattle.cpp_direct.proofs.TypesRead.{popped}
-use Rattle.cpp_direct.specs.AllHoles.{StandsAt}
-use Rattle.cpp_direct.specs.AllStates.{AreLeft, Arguments, AwaitsLedParameters, below, detail_of, Direct, HasArguments, IsAddressed, IsBuiltinAt, IsElementRead, IsEnclosingNamed, IsEnclosingParameterRead, IsInstanceNamed, IsInstanceParameterRead, IsNesting, IsOwn, IsScopedWithin, IsWriting, ItemsGoOn, ItemsOf, Kept, Mark, no_scope, nowhere, Scope, Serves, Symbol, TypeWithin}
-use Rattle.cpp_direct.specs.AllTerms.{encoding_of, has_return_type, Kind, Term, types_of}
-use Rattle.std.proofs.Common.{◌≡◌, refl, ap, sym, ◌∙◌, subst, ℕ, ◌+◌, ◌-◌, [], ◌∷◌, ◌++◌, length, reverse, take, Bool, true, false, ◌&&◌}
-use Rattle.cpp_direct.specs.declared.open.Open.TheVariants as opens
-use Rattle.cpp_direct.specs.declared.open.Purpose.TheVariants as purposes
-use Rattle.cpp_direct.specs.declared.open.Step.TheVariants as steps
-use Rattle.cpp_direct.specs.declared.open.Hiding.TheVariants as hidings
 
 -- its name ends in arguments
 pub has-arguments : (is_instance has_class : Bool) → is_instance && has_class ≡ true → is_instance ≡ true
@@ -24,7 +11,7 @@ has-arguments false has_class both = both
 -- its nested name is read
 pub instance-within : (s : Symbol) (old : Direct) (kept : Kept s old) (t : Term) (mark : Mark) (encoding : ℕ)
     → IsNesting s kept.scope Kind.NestTail old t kept.state → has_return_type t ≡ true → HasArguments (detail_of s) old.text.list.items old.argument t
-    → StandsAt s.bytes old.at (69 ∷ []) → old.nest.purpose ≡ purposes.Enclosing mark encoding
+    → StandsAt s.bytes old.at (69 ∷ []) → old.nest.purpose ≡ Purpose.Enclosing mark encoding
     → IsInstanceNamed s (record old { at = old.at + 1 }) mark encoding old.nest.from
 instance-within s old kept t mark encoding n returns names here is_name =
     let serves = subst (λ p. Serves s p (below s kept.scope (reverse old.waiting.list.items)) n.outer n.front) is_name n.serves in
@@ -59,11 +46,11 @@ instance-scoped s old mark from to argument p first same to_is =
 -- it expects its return type,
 pub instance-front : (s : Symbol) (old new : Direct) (mark : Mark) (from to : ℕ) (argument : Arguments) → IsInstanceNamed s old mark argument.encoding from
     → old.has_scope ≡ false → new.has_scope ≡ true → new.text ≡ old.text → new.candidates ≡ old.candidates
-    → new.waiting.list.items ≡ old.waiting.list.items ++ opens.EnclosingFront mark from to argument ∷ [] → new.at ≡ old.at
-    → argument ≡ record (old.argument) { encoding = argument.encoding } → to ≡ length old.text.list.items → IsWriting s new steps.Type
+    → new.waiting.list.items ≡ old.waiting.list.items ++ Open.EnclosingFront mark from to argument ∷ [] → new.at ≡ old.at
+    → argument ≡ record (old.argument) { encoding = argument.encoding } → to ≡ length old.text.list.items → IsWriting s new Step.Type
 instance-front s old new mark from to argument p first now text candidates waiting at same to_is =
     let q = instance-scoped s old mark from to argument p first same to_is in
-    let entry = opens.EnclosingFront mark from to argument in
+    let entry = Open.EnclosingFront mark from to argument in
     front-awaits (λ k. IsScopedWithin s k from to argument) (λ k waits. TypeWithin s (below s no_scope waits)) (record old { has_scope = true }) new entry q.0 p.has (p.from_is, q.1) p.returns q.2
     waiting text candidates now at (λ os h. h) (entry-scoped q.0.scope q.2.around entry argument (reverse old.waiting.list.items) refl refl q.1.named q.2.scoped)
 
@@ -76,7 +63,7 @@ instance-awaits s old mark from to end argument p first same to_is is =
     returned-awaits (record old { has_scope = true }) end q.0 p.has p.returns (p.from_is, q.1) q.2 is
 
 -- a parameter is read that prints on both sides of a name
-pub element-instance : (s : Symbol) (w : Direct) (mark : Mark) (from to : ℕ) (argument : Arguments) → IsElementRead s w (opens.EnclosingInstance mark from to argument)
+pub element-instance : (s : Symbol) (w : Direct) (mark : Mark) (from to : ℕ) (argument : Arguments) → IsElementRead s w (Open.EnclosingInstance mark from to argument)
     → IsInstanceParameterRead s w mark from to
 element-instance s w mark from to argument p =
     let read = p.read in (
@@ -88,16 +75,16 @@ element-instance s w mark from to argument p =
 -- its parameters are read, and its arguments can't be named any more
 pub instance-closed : (s : Symbol) (w shut new : Direct) (mark : Mark) (from to : ℕ) (p : IsInstanceParameterRead s w mark from to)
     → shut.waiting.list.items ≡ take (length w.waiting.list.items - 1) w.waiting.list.items
-    → new.waiting.list.items ≡ shut.waiting.list.items ++ opens.Enclosing mark from to ∷ [] → new.text ≡ w.text
-    → AreLeft hidings.Dependent w.candidates.list.items new.candidates.list.items → new.at ≡ w.at → IsEnclosingParameterRead s new mark from to
+    → new.waiting.list.items ≡ shut.waiting.list.items ++ Open.Enclosing mark from to ∷ [] → new.text ≡ w.text
+    → AreLeft Hiding.Dependent w.candidates.list.items new.candidates.list.items → new.at ≡ w.at → IsEnclosingParameterRead s new mark from to
 instance-closed s w shut new mark from to read waits waiting text are at =
     let p = read.1 in
-    let entry = opens.Enclosing mark from to in
+    let entry = Open.Enclosing mark from to in
     record {
       kept = kept-closed s w new p.kept are text p.leads.1.typed;
       rest = p.rest;
       open_is = ap reverse waiting ∙ reverse-last shut.waiting.list.items entry
-          ∙ ap (λ ws. entry ∷ ws) (popped w.waiting.list.items shut.waiting.list.items p.rest (opens.EnclosingInstance mark from to read.0) (length w.waiting.list.items) refl p.open_is waits);
+          ∙ ap (λ ws. entry ∷ ws) (popped w.waiting.list.items shut.waiting.list.items p.rest (Open.EnclosingInstance mark from to read.0) (length w.waiting.list.items) refl p.open_is waits);
       ts = p.ts;
       some = p.some;
       texts = p.texts;

@@ -1,17 +1,6 @@
 -- What a writer keeps while its text and its lists grow.
-use Rattle.cpp_direct.specs.AllTerms.{Around, Detail, outermost, State, Term, tree}
-use Rattle.std.proofs.Common.{◌≡◌, ℕ, zero, suc, ◌+◌, ◌-◌, ◌≤◌, length, List, [], ◌∷◌, ◌++◌, take, drop, reverse, slice_get, Bool, true, false, Option, Some, None, refl, ap, sym, ◌∙◌, subst, arith, append_assoc, append-nil, ◌<◌, inl, inr, get_or, length-append}
-use Rattle.std.specs.Option.{IfSome}
-use Rattle.std.proofs.lemmas.List.{reverse-append}
-use Rattle.std.proofs.Math.Seq.{drop-append_seam, take-append-add, take-append_seam}
-use Rattle.cpp_direct.specs.AllStates.{added, added_unless, AreCandidates, AreLeft, AreNamed, Argument, argument_of, arguments_in, ArgumentsGoOn, AwaitsTypeIn, below, Candidate, detail_of, Direct, ExpectsType, HasScope, HasSingles, Hiding, is_object, is_type, is_within_type, IsBetween, IsCandidate, IsKnown, IsLeft, IsMadeIn, IsNaming, IsNest, IsOwn, IsPlaced, IsScoped, IsTemplate, IsTypeRead, IsWriting, Keeps, Kept, Lists, Names, Nest, no_scope, nowhere, of_template, Open, opening_bracket, OpensArguments, PrintsAs, PrintsGiven, Purpose, Reads, Scope, Stands, Stays, Step, Symbol, with_argument, Writes}
-use Rattle.cpp_direct.specs.declared.open.Purpose.TheVariants as purposes
-use Rattle.cpp_direct.specs.Holes.{Comes, Opened, candidate, with_candidate, unless_listed}
-use Rattle.std.specs.Prelude.{slice_set}
+use Rattle.cpp_direct.proofs.Basics.{Around, Detail, outermost, State, Term, tree, ◌≡◌, ℕ, zero, suc, ◌+◌, ◌-◌, ◌≤◌, length, List, [], ◌∷◌, ◌++◌, take, drop, reverse, slice_get, Bool, true, false, Option, Some, None, refl, ap, sym, ◌∙◌, subst, arith, append_assoc, append-nil, ◌<◌, inl, inr, get_or, length-append, IfSome, reverse-append, drop-append_seam, take-append-add, take-append_seam, added, added_unless, AreCandidates, AreLeft, AreNamed, Argument, argument_of, arguments_in, ArgumentsGoOn, AwaitsTypeIn, below, Candidate, detail_of, Direct, ExpectsType, HasScope, HasSingles, Hiding, is_object, is_type, is_within_type, IsBetween, IsCandidate, IsKnown, IsLeft, IsMadeIn, IsNaming, IsNest, IsOwn, IsPlaced, IsScoped, IsTemplate, IsTypeRead, IsWriting, Keeps, Kept, Lists, Names, Nest, no_scope, nowhere, of_template, Open, opening_bracket, OpensArguments, PrintsAs, PrintsGiven, Purpose, Reads, Scope, Stands, Stays, Step, Symbol, with_argument, Writes, Comes, Opened, candidate, with_candidate, unless_listed, slice_set}
 use Rattle.cpp_grammar.specs.Values as values
-use Rattle.cpp_direct.specs.declared.open.Open.TheVariants as opens
-use Rattle.cpp_direct.specs.declared.open.Step.TheVariants as steps
-use Rattle.cpp_direct.specs.declared.open.Hiding.TheVariants as hidings
 
 -- ## Pieces of a text
 
@@ -227,7 +216,7 @@ awaited-in s scope old new around os {ws = ws} text waits outside stands scoped 
 pub type-comes : (s : Symbol) (old new : Direct) (kept : Kept s old) (around : Around) (os : List Opened) {ws : List Open}
     → new.text ≡ old.text → new.candidates ≡ old.candidates → new.has_scope ≡ old.has_scope → reverse new.waiting.list.items ≡ ws
     → around.prefix ≡ outermost → ExpectsType s around os new.at kept.state → Stands s kept.scope ws os old.text.list.items → IsScoped kept.scope around ws
-    → IsWriting s new steps.Type
+    → IsWriting s new Step.Type
 type-comes s old new kept around os text candidates scope_same waits outside expects stands scoped = record {
   kept = kept-same s old new text candidates scope_same kept;
   is_before = (awaited-in s kept.scope old new around os (ap (λ v. v.list.items) text) waits outside stands scoped, expects);
@@ -236,7 +225,7 @@ type-comes s old new kept around os text candidates scope_same waits outside exp
 -- a type was read
 pub value-comes : (s : Symbol) (w : Direct) (kept : Kept s w) (os : List Opened) (t : Term) (front bytes : List ℕ) (r d : Bool) {ws : List Open}
     → w.text.list.items ≡ front ++ bytes → PrintsAs (detail_of s) kept.scope.names d t bytes r → reverse w.waiting.list.items ≡ ws
-    → (d ≡ true → IsNaming kept.scope ws) → Comes s os (tree t true) w.at kept.state → Stands s kept.scope ws os front → IsWriting s w (steps.Value r d)
+    → (d ≡ true → IsNaming kept.scope ws) → Comes s os (tree t true) w.at kept.state → Stands s kept.scope ws os front → IsWriting s w (Step.Value r d)
 value-comes s w kept os t front bytes r d written prints waits naming comes stands = record {
   kept = kept;
   is_before = subst (λ ws. IsTypeRead s kept.scope w kept.state ws r d) (sym waits) (record {
@@ -257,7 +246,7 @@ pub value-added : (s : Symbol) (old new : Direct) (kept : Kept s old) (os : List
     {ws : List Open} → old.text.list.items ≡ front ++ bytes → from ≡ length front → PrintsAs (detail_of s) kept.scope.names d t bytes r
     → (d ≡ true → IsMadeIn kept.scope around.encoding) → new.text ≡ old.text → new.candidates.list.items ≡ added old from r d → new.has_scope ≡ old.has_scope
     → reverse new.waiting.list.items ≡ ws → (d ≡ true → IsNaming kept.scope ws) → Comes s os (tree t true) new.at (with_candidate around t kept.state)
-    → Stands s kept.scope ws os front → IsWriting s new (steps.Value r d)
+    → Stands s kept.scope ws os front → IsWriting s new (Step.Value r d)
 value-added s old new kept os around t front bytes from r d written from_is prints made_in text added_is scope_same waits naming comes stands =
     value-comes s new (kept-with s old new kept front bytes from t around r d written from_is prints made_in text added_is scope_same) os t front bytes r d
     (ap (λ v. v.list.items) text ∙ written) prints waits naming comes stands
@@ -309,10 +298,10 @@ reverse-last xs x = reverse-append xs (x ∷ [])
 
 -- the name of a function or of data names none
 pub type-named : (purpose : Purpose) (d : Bool) → (IsOwn purpose → d ≡ false) → d ≡ true → is_type purpose ≡ true
-type-named purposes.Type d closed e = refl
-type-named (purposes.Name mark) d closed e = cc (sym (closed tt) ∙ e)
-type-named (purposes.Enclosing mark encoding) d closed e = cc (sym (closed tt) ∙ e)
-type-named (purposes.Address mark) d closed e = cc (sym (closed tt) ∙ e)
+type-named Purpose.Type d closed e = refl
+type-named (Purpose.Name mark) d closed e = cc (sym (closed tt) ∙ e)
+type-named (Purpose.Enclosing mark encoding) d closed e = cc (sym (closed tt) ∙ e)
+type-named (Purpose.Address mark) d closed e = cc (sym (closed tt) ∙ e)
 
 -- a nested name stays one where more is written
 pub nest-stays : {detail : Detail} {names : Names} (front bytes text more : List ℕ) (nest : Nest) (t : Term) → IsNest detail names front bytes text nest t
@@ -331,11 +320,11 @@ nest-stays front bytes text more nest t p = record {
 -- and a template before its arguments
 pub template-stays : (detail : Detail) (names : Names) (owner : Open) (front : List ℕ) (t : Term) (name text more : List ℕ) → IsTemplate detail names owner front t name text
     → IsTemplate detail names owner front t name (text ++ more)
-template-stays detail names (opens.TypeArguments from is_dependent) front t name text more p = p
-template-stays detail names (opens.NestArguments nest) front t name text more p = (nest-stays front name text more nest t p.0, p.1, p.2)
-template-stays detail names (opens.FirstArguments nest) front t name text more p = nest-stays front name text more nest t p
-template-stays detail names (opens.NameArguments from) front t name text more p = p
-template-stays detail names (opens.LevelArguments is_dependent) front t name text more p = p
+template-stays detail names (Open.TypeArguments from is_dependent) front t name text more p = p
+template-stays detail names (Open.NestArguments nest) front t name text more p = (nest-stays front name text more nest t p.0, p.1, p.2)
+template-stays detail names (Open.FirstArguments nest) front t name text more p = nest-stays front name text more nest t p
+template-stays detail names (Open.NameArguments from) front t name text more p = p
+template-stays detail names (Open.LevelArguments is_dependent) front t name text more p = p
 template-stays detail names _ front t name text more p = p
 
 -- ## Lists
@@ -344,8 +333,7 @@ template-stays detail names _ front t name text more p = p
 pub list-begins : (s : Symbol) (old mid new : Direct) (ks : List Candidate) (kept : Kept s mid) (owner : Open) (front name : List ℕ) (t : Term)
     → Lists old mid ks → OpensArguments (detail_of s) mid new owner
     → IsTemplate (detail_of s) kept.scope.names owner front t name (old.text.list.items ++ opening_bracket (detail_of s)) → old.text.list.items ≡ front ++ name
-    → ArgumentsGoOn s owner (below s kept.scope (reverse old.waiting.list.items)) front t [] (old.at + 1) kept.state
-    → IsWriting s new (steps.List true)
+    → ArgumentsGoOn s owner (below s kept.scope (reverse old.waiting.list.items)) front t [] (old.at + 1) kept.state → IsWriting s new (Step.List true)
 list-begins s old mid new ks kept owner front name t lists opening_ template written goes =
     let bracket = opening_bracket (detail_of s) in
     let text_is : new.text.list.items ≡ old.text.list.items ++ bracket = cc (opening_.text, lists.text) in
@@ -425,13 +413,13 @@ candidates-left s hiding scope left text kept stay (k ∷ ks) (n ∷ ns) [] are 
 
 -- what a writer keeps where what follows this is removed, if the arguments that may be named are in what stays
 abbrev pub kept-cut : (s : Symbol) (old new : Direct) (kept : Kept s old) (left rest : List ℕ) (to : ℕ) → old.text.list.items ≡ left ++ rest → to ≡ length left
-    → new.text.list.items ≡ left → AreLeft (hidings.After to) old.candidates.list.items new.candidates.list.items → new.has_scope ≡ old.has_scope
+    → new.text.list.items ≡ left → AreLeft (Hiding.After to) old.candidates.list.items new.candidates.list.items → new.has_scope ≡ old.has_scope
     → AreNamed left kept.scope → Kept s new
 kept-cut s old new kept left rest to written to_is left_is are scope_same named = record {
   state = kept.state;
   scope = kept.scope;
   keeps = keeps-as s old new kept.state.candidates left_is refl scope_same
-      (candidates-left s (hidings.After to) kept.scope kept.scope old.text.list.items left
+      (candidates-left s (Hiding.After to) kept.scope kept.scope old.text.list.items left
       (λ k c within own. candidate-kept old.text.list.items left rest k c written own (omega (arith, within, to_is)))
       old.candidates.list.items new.candidates.list.items kept.state.candidates are kept.keeps.candidates) named kept.keeps.single kept.keeps.unknown;
 }
@@ -441,7 +429,7 @@ pub front-left : (text left rest : List ℕ) (to : ℕ) → text ≡ left ++ res
 front-left text left rest to written to_is = ap (λ n. take n text) to_is ∙ ap (λ l. take (length left) l) written ∙ take-append_seam left rest
 
 -- a candidate that names no arguments is one where none may be named
-pub closed-kept : (s : Symbol) (scope : Scope) (text : List ℕ) (k : Candidate) (c : values.Candidate) → Stays hidings.Dependent k → IsCandidate s scope text k c
+pub closed-kept : (s : Symbol) (scope : Scope) (text : List ℕ) (k : Candidate) (c : values.Candidate) → Stays Hiding.Dependent k → IsCandidate s scope text k c
     → IsCandidate s no_scope text k c
 closed-kept s scope text k c closed own = record {
   bytes = own.bytes;
@@ -452,14 +440,14 @@ closed-kept s scope text k c closed own = record {
 }
 
 -- what a writer keeps where arguments aren't named any more, and candidates that name them are nowhere
-abbrev pub kept-closed : (s : Symbol) (old new : Direct) (kept : Kept s old) → AreLeft hidings.Dependent old.candidates.list.items new.candidates.list.items
+abbrev pub kept-closed : (s : Symbol) (old new : Direct) (kept : Kept s old) → AreLeft Hiding.Dependent old.candidates.list.items new.candidates.list.items
     → new.text ≡ old.text → is_object s.bytes ≡ false → Kept s new
 kept-closed s old new kept are text typed = record {
   state = kept.state;
   scope = no_scope;
   keeps = record {
     candidates = subst (λ v. AreCandidates s no_scope v.list.items new.candidates.list.items kept.state.candidates) (sym text)
-        (candidates-left s hidings.Dependent kept.scope no_scope old.text.list.items old.text.list.items (closed-kept s kept.scope old.text.list.items)
+        (candidates-left s Hiding.Dependent kept.scope no_scope old.text.list.items old.text.list.items (closed-kept s kept.scope old.text.list.items)
         old.candidates.list.items new.candidates.list.items kept.state.candidates are kept.keeps.candidates);
     named = none-named new.text.list.items;
     single = none-single;

@@ -1,34 +1,14 @@
 -- Lambdas: types in functions, and components of nested names.
-use Rattle.std.proofs.Common.{◌≡◌, ◌≢◌, refl, ap, sym, ◌∙◌, subst, inl, inr, ℕ, ◌+◌, List, [], ◌∷◌, ◌++◌, length, reverse, true, false, Option, None, Some, arith, codes, append-nil, append_assoc}
-use Rattle.std.specs.Prelude.{decimal}
-use Rattle.std.proofs.lemmas.Bool.{false≢true}
+use Rattle.cpp_direct.proofs.AllGround.{◌≡◌, ◌≢◌, refl, ap, sym, ◌∙◌, subst, inl, inr, ℕ, ◌+◌, List, [], ◌∷◌, ◌++◌, length, reverse, true, false, Option, None, Some, arith, codes, append-nil, append_assoc, decimal, false≢true, after, arguments_of, closed, has_return_type, Kind, lambda, list, local_number, may_be_empty, nil, no_items, nothing_there, State, Term, tree, within, added, AwaitsFirst, AwaitsMemberFunction, AwaitsTypeName, below, detail_of, Direct, Holder, in_front_of_next, IsElementRead, IsLambdaOpened, IsLambdaParameterRead, IsLambdaRead, IsLed, IsNest, IsUnmarked, IsWriting, Kept, LambdaComes, LambdaWithin, list_of, Mark, nowhere, Prints, PrintsPiece, Purpose, Reads, Stands, Symbol, Writes, Comes, Discriminator, Expects, IsDiscriminatorAt, IsLambdaDigit, IsPieceAt, NestGoesOn, StandsAt, lambda_digits, lambda_ending, lambda_number, lambda_with, local_in, with_candidate, Open, Step, kept-grown, kept-read, kept-same, kept-written, reverse-last, type-comes, value-added, expects-empty, stands-join, list-with-none, all-in, next-prints, none-print, parameters-kept, none-scoped, is-no-mark, more-unmarked}
+use Rattle.cpp_direct.proofs.AllRead.{item-comes, next-written, some-elements, LambdaOpened, first-lambda-opens, lambda-opens, lambda-piece, lambda_bytes, number-is, classless-nest, closed-prints, enclosed-prints, lambda-list-prints, local-prints, component-prints}
 use Rattle.std.proofs.lemmas.Fmt.{decimal_digit}
-use Rattle.cpp_direct.specs.AllTerms.{after, arguments_of, closed, has_return_type, Kind, lambda, list, local_number, may_be_empty, nil, no_items, nothing_there, State, Term, tree, within}
-use Rattle.cpp_direct.specs.AllStates.{added, AwaitsFirst, AwaitsMemberFunction, AwaitsTypeName, below, detail_of, Direct, Holder, in_front_of_next, IsElementRead, IsLambdaOpened, IsLambdaParameterRead, IsLambdaRead, IsLed, IsNest, IsUnmarked, IsWriting, Kept, LambdaComes, LambdaWithin, list_of, Mark, nowhere, Prints, PrintsPiece, Purpose, Reads, Stands, Symbol, Writes}
-use Rattle.cpp_direct.specs.declared.open.Holder.TheVariants as holders
-use Rattle.cpp_direct.specs.declared.open.Open.TheVariants as opens
-use Rattle.cpp_direct.specs.declared.open.Step.TheVariants as steps
-use Rattle.cpp_direct.specs.AllHoles.{Comes, Discriminator, Expects, IsDiscriminatorAt, IsLambdaDigit, IsPieceAt, NestGoesOn, StandsAt, lambda_digits, lambda_ending, lambda_number, lambda_with, local_in, with_candidate}
-use Rattle.cpp_direct.proofs.Ending.{item-comes, next-written}
-use Rattle.cpp_direct.proofs.Kept.{kept-grown, kept-read, kept-same, kept-written, reverse-last, type-comes, value-added}
-use Rattle.cpp_direct.proofs.Listed.{some-elements}
-use Rattle.cpp_direct.proofs.Moves.{expects-empty, stands-join}
-use Rattle.cpp_direct.proofs.MovesOfLocals.{LambdaOpened, first-lambda-opens, lambda-opens, lambda-piece, lambda_bytes, number-is}
-use Rattle.cpp_direct.proofs.Nesting.{classless-nest, closed-prints}
-use Rattle.cpp_direct.proofs.PrintedLists.{list-with-none, all-in, next-prints, none-print}
-use Rattle.cpp_direct.proofs.PrintedLocals.{enclosed-prints, lambda-list-prints, local-prints, component-prints}
-use Rattle.cpp_direct.proofs.PrintedSymbols.{parameters-kept}
-use Rattle.cpp_direct.proofs.Scopes.{none-scoped}
-use Rattle.cpp_direct.proofs.Unmarked.{is-no-mark, more-unmarked}
 
 -- ## Their bytes
 
 number-text : (digit : Option ℕ) → IsLambdaDigit digit → decimal (local_number (lambda_digits digit)) ≡ lambda_number digit
 unfolding local_number
 number-text None is = decimal_digit 1 (omega arith)
-number-text (Some d) is =
-    let n = local_number (d ∷ []) in
-    decimal_digit n (number-is (Some d) is) ∙ ap (λ k. k ∷ []) (omega (arith, is.0))
+number-text (Some d) is = decimal_digit (local_number (d ∷ [])) (number-is (Some d) is) ∙ ap (λ k. k ∷ []) (omega (arith, is.0))
 
 lambda-unmarked : (digit : Option ℕ) → IsLambdaDigit digit → IsUnmarked (lambda_number digit)
 lambda-unmarked None is = refl
@@ -60,13 +40,13 @@ lambda-bracket f b l = simp append_assoc
 begun : (s : Symbol) (old new : Direct) (from : ℕ) (holder : Holder) (kept : Kept s old) (h : IsLed (detail_of s) holder from)
     → old.text.list.items ≡ h.front ++ h.bytes → (made : Term → (at : ℕ) → State → Type 0) → LambdaOpened s made (old.at + 1 + 1) kept.state
     → ((p : Term) (at : ℕ) (st : State) → made p at st → LambdaComes s holder (below s kept.scope (reverse old.waiting.list.items)) h.front h.e p at st)
-    → IsLambdaOpened s.bytes old new from holder → IsWriting s new steps.Type
+    → IsLambdaOpened s.bytes old new from holder → IsWriting s new Step.Type
 begun s old new from holder kept h written made first becomes entry =
     let rest = reverse old.waiting.list.items in
-    let waits = ap reverse entry.waiting ∙ reverse-last old.waiting.list.items (opens.Lambda from holder) in
+    let waits = ap reverse entry.waiting ∙ reverse-last old.waiting.list.items (Open.Lambda from holder) in
     let told : new.text.list.items ≡ h.front ++ (h.bytes ++ lambda_front) ++ [] =
     entry.text ∙ ap (λ l. l ++ lambda_front) written ∙ append_assoc h.front h.bytes lambda_front ∙ sym (append-nil (h.front ++ (h.bytes ++ lambda_front))) in
-    let stands_ : Stands s kept.scope (opens.Lambda from holder ∷ rest) first.inner new.text.list.items = (
+    let stands_ : Stands s kept.scope (Open.Lambda from holder ∷ rest) first.inner new.text.list.items = (
       h,
       [],
       [],
@@ -86,16 +66,16 @@ begun s old new from holder kept h written made first becomes entry =
     ) in
     type-comes s new new (kept-grown s old new lambda_front entry.text entry.candidates entry.scope kept) first.around first.inner refl refl refl waits
     first.outside (inr (inl (subst (λ k. Expects s Kind.Item first.around first.inner k kept.state) (omega (arith, entry.at)) first.awaits))) stands_
-    (none-scoped kept.scope first.around (opens.Lambda from holder ∷ rest) refl)
+    (none-scoped kept.scope first.around (Open.Lambda from holder ∷ rest) refl)
 
 -- of a lambda in a function,
-pub begun-in-function : (s : Symbol) (old new : Direct) (from : ℕ) → AwaitsTypeName s old from → IsLambdaOpened s.bytes old new from holders.Function
-    → IsWriting s new steps.Type
+pub begun-in-function : (s : Symbol) (old new : Direct) (from : ℕ) → AwaitsTypeName s old from → IsLambdaOpened s.bytes old new from Holder.Function
+    → IsWriting s new Step.Type
 begun-in-function s old new from a entry =
     let r = a.read in
     let w = r.within in
     let entity = w.2 a.letter in
-    begun s old new from holders.Function (kept-same s (record old { at = a.before }) old refl refl refl r.kept)
+    begun s old new from Holder.Function (kept-same s (record old { at = a.before }) old refl refl refl r.kept)
     (record { e = r.e; front = r.front; from_is = r.leads; bytes = r.bytes; leads = r.encloses })
     (sym (append-nil old.text.list.items) ∙ r.written) (λ p end now. Comes s entity.inner (tree (within r.e p) false) end now)
     (lambda-opens s Kind.TypeEntity entity.inner entity.around r.e true old.at r.state tt entry.short
@@ -103,30 +83,30 @@ begun-in-function s old new from a entry =
     (λ p at st comes. (w.0, w.1, λ digit last told. entity.onward p at st comes digit last told, w.3)) entry
 
 -- of one in a nested name,
-pub begun-in-name : (s : Symbol) (old new : Direct) → IsWriting s old steps.Component → old.nest.is_dependent ≡ false
-    → IsLambdaOpened s.bytes old new old.nest.from (holders.Name old.nest.purpose) → IsWriting s new steps.Type
+pub begun-in-name : (s : Symbol) (old new : Direct) → IsWriting s old Step.Component → old.nest.is_dependent ≡ false
+    → IsLambdaOpened s.bytes old new old.nest.from (Holder.Name old.nest.purpose) → IsWriting s new Step.Type
 begun-in-name s old new p closed_ entry =
     let t = p.is_before.0 in
     let n = p.is_before.1 in
     let a = p.is_before.2 in
-    begun s old new old.nest.from (holders.Name old.nest.purpose) p.kept
+    begun s old new old.nest.from (Holder.Name old.nest.purpose) p.kept
     (record { e = t; front = n.front; from_is = n.is_nest.from_is; bytes = n.bytes; leads = closed-prints p.scope.names closed_ n.is_nest.prints })
     n.written (λ u end now. Comes s a.inner (tree (within t u) false) end now)
     (lambda-opens s Kind.Component a.inner n.around t a.listed old.at p.state tt entry.short a.awaits entry.stands)
     (λ u at st comes. (n.outer, n.around, a.onward (within t u) at st comes, n.scoped.scoped, n.serves)) entry
 
 -- and of one that has a member function
-pub begun-in-member : (s : Symbol) (old new : Direct) (mark : Mark) → AwaitsFirst s old mark → IsLambdaOpened s.bytes old new 0 (holders.Member mark)
-    → IsWriting s new steps.Type
+pub begun-in-member : (s : Symbol) (old new : Direct) (mark : Mark) → AwaitsFirst s old mark → IsLambdaOpened s.bytes old new 0 (Holder.Member mark)
+    → IsWriting s new Step.Type
 begun-in-member s old new mark a entry =
     let f = a.first in
-    begun s old new 0 (holders.Member mark) a.kept (record { e = a.e; front = []; from_is = refl; bytes = old.text.list.items; leads = a.encloses }) refl
+    begun s old new 0 (Holder.Member mark) a.kept (record { e = a.e; front = []; from_is = refl; bytes = old.text.list.items; leads = a.encloses }) refl
     (λ p end now. NestGoesOn s Kind.NestRestAlone f.inner f.around (within a.e p) false end now)
     (first-lambda-opens s f.inner f.around a.e old.at a.state entry.short f.awaits entry.stands)
     (λ p at st goes. (refl, record { outer = f.inner; around = f.around; goes = goes; ends = f.onward })) entry
 
 -- a parameter is read
-pub lambda-parameter-read : (s : Symbol) (w : Direct) (from : ℕ) (holder : Holder) → IsElementRead s w (opens.Lambda from holder)
+pub lambda-parameter-read : (s : Symbol) (w : Direct) (from : ℕ) (holder : Holder) → IsElementRead s w (Open.Lambda from holder)
     → IsLambdaParameterRead s w from holder
 lambda-parameter-read s w from holder p =
     let waits = p.read.stands in
@@ -148,11 +128,11 @@ lambda-parameter-read s w from holder p =
 
 -- another one comes next
 pub lambda-next : (s : Symbol) (w last : Direct) (from : ℕ) (holder : Holder) → IsLambdaParameterRead s w from holder → Writes w last (codes ", ")
-    → IsWriting s last steps.Type
+    → IsWriting s last Step.Type
 lambda-next s w last from holder p one =
     let led = p.front ++ (p.bytes ++ lambda_front) in
     let becomes = LambdaWithin s holder (below s p.scope p.rest) p.front p.e in
-    let entry = opens.Lambda from holder in
+    let entry = Open.Lambda from holder in
     item-comes s last last (kept-written s w last (codes ", ") one p.kept) nowhere becomes (λ l. l) p.ts w.at p.goes (entry ∷ p.rest) refl refl refl one.at
     (ap (λ l. reverse l.list.items) one.waiting ∙ p.open_is) (λ os onward. (
       p.has,
@@ -194,17 +174,16 @@ lambda-ended s w next pushed numbered new from holder p apart ends at one number
       prints = subst (λ u. PrintsPiece (detail_of s) u name) same
           (lambda-list-prints p.ts p.texts p.elements n num (number-text number is) (lambda-unmarked number is));
       returns = refl;
-      written = ap (λ v. v.list.items) text ∙ two.text ∙ ap (λ l. l ++ (num ++ codes "}")) (one.text ∙ ap (λ l. l ++ codes ")#") p.written)
-          ∙ simp append_assoc;
+      written = ap (λ v. v.list.items) text ∙ two.text ∙ ap (λ l. l ++ (num ++ codes "}")) (one.text ∙ ap (λ l. l ++ codes ")#") p.written) ∙ simp append_assoc;
       comes = subst (λ o. LambdaComes s holder (below s p.scope o) p.front p.e (lambda_with items number) new.at p.state) (sym waits)
           (ended_ number new.at is ending (omega (arith, here, numbered_at, place)));
     }
 
 -- a lambda in a function is accepted as a type, after its discriminator
-pub ended-in-function : (s : Symbol) (old last new : Direct) (from : ℕ) → IsLambdaRead s old from holders.Function
+pub ended-in-function : (s : Symbol) (old last new : Direct) (from : ℕ) → IsLambdaRead s old from Holder.Function
     → (digit : Discriminator) → IsDiscriminatorAt s.bytes old.at digit last.at → Reads old last []
     → new.candidates.list.items ≡ added last from false false → new.text ≡ last.text → new.waiting ≡ last.waiting
-    → new.has_scope ≡ last.has_scope → new.at ≡ last.at → IsWriting s new (steps.Value false false)
+    → new.has_scope ≡ last.has_scope → new.at ≡ last.at → IsWriting s new (Step.Value false false)
 ended-in-function s old last new from p digit is read candidates text waiting scope here =
     let t = local_in p.e p.own digit in
     let w = p.comes in
@@ -214,8 +193,8 @@ ended-in-function s old last new from p digit is read candidates text waiting sc
     (subst (λ k. Comes s w.0 (tree t true) k (with_candidate w.1 t p.state)) (sym here) (w.2 digit last.at is)) w.3
 
 -- after a lambda in a nested name this continues
-pub ended-in-name : (s : Symbol) (w : Direct) (from : ℕ) (purpose : Purpose) → IsLambdaRead s w from (holders.Name purpose)
-    → IsWriting s (record w { nest = record { from = from; class_from = from; class_to = from; purpose = purpose; is_listed = false; has_class = false; is_instance = false; is_dependent = false } }) steps.Tail
+pub ended-in-name : (s : Symbol) (w : Direct) (from : ℕ) (purpose : Purpose) → IsLambdaRead s w from (Holder.Name purpose)
+    → IsWriting s (record w { nest = record { from = from; class_from = from; class_to = from; purpose = purpose; is_listed = false; has_class = false; is_instance = false; is_dependent = false } }) Step.Tail
 ended-in-name s w from purpose p =
     let bytes = p.bytes ++ codes "::" ++ p.name in
     let new : Direct = record w { nest = record { from = from; class_from = from; class_to = from; purpose = purpose; is_listed = false; has_class = false; is_instance = false; is_dependent = false } } in
@@ -245,7 +224,7 @@ ended-in-name s w from purpose p =
     }
 
 -- after one that has a member function expects that
-pub ended-in-member : (s : Symbol) (w : Direct) (from : ℕ) (mark : Mark) → IsLambdaRead s w from (holders.Member mark) → AwaitsMemberFunction s w mark
+pub ended-in-member : (s : Symbol) (w : Direct) (from : ℕ) (mark : Mark) → IsLambdaRead s w from (Holder.Member mark) → AwaitsMemberFunction s w mark
 ended-in-member s w from mark p = record {
   kept = p.kept;
   e = p.e;

@@ -1,12 +1,5 @@
 -- What is computed at each letter of a list holds at a letter among them: the letters that have texts, codes of two, and those of operators.
-use Rattle.std.proofs.Common.{◌≡◌, ℕ, ◌<◌, List, [], ◌∷◌, Bool, true, false, ◌||◌, ◌&&◌, nat_eq, slice_get, Option, Some, None, refl, ap, sym, subst, ◌∙◌, ltb, ◌≢◌, ◌⊎◌, inl, inr, Ok, arith}
-use Rattle.std.proofs.lemmas.Bool.{false≢true, eqb-true, ltb-true, and_parts}
-use Rattle.cpp_direct.specs.AllTerms.{alternatives, among, between, builtin_texts, choose, close, Continuation, Forest, found, in_ranges, is_chain, is_in, Kind, look_up, meaning, Naming, number_of, number_of_kind, opening, Operation, operator, operator_or_literal, operator_texts, parts_of, pick, Production, productions, same_bytes}
-use Rattle.cpp_direct.specs.Letters.{integer_letters}
-use Rattle.sym_shape.specs.declared.rule.Sym.TheVariants.{Kind as OfKind}
-use Rattle.cpp_grammar.specs.Values.{State, Around, letter, piece, letter_of, part}
-use Rattle.cpp_grammar.proofs.Growing.{same_choice, kept}
-use Rattle.cpp_grammar.specs.Unfolding as unfolding_
+use Rattle.cpp_direct.proofs.Basics.{◌≡◌, ℕ, ◌<◌, List, [], ◌∷◌, Bool, true, false, ◌||◌, ◌&&◌, nat_eq, slice_get, Option, Some, None, refl, ap, sym, subst, ◌∙◌, ltb, ◌≢◌, ◌⊎◌, inl, inr, Ok, arith, false≢true, eqb-true, ltb-true, and_parts, alternatives, among, between, builtin_texts, choose, close, Continuation, Forest, found, in_ranges, is_chain, is_in, Kind, look_up, meaning, Naming, number_of, number_of_kind, opening, Operation, operator, operator_or_literal, operator_texts, parts_of, pick, Production, productions, same_bytes, integer_letters, State, Around, letter, piece, letter_of, part, same_choice, kept, Sym, unfolding_behind}
 
 -- each of the bytes passes a test
 unfoldable pub each_passes : (ℕ → Bool) → List ℕ → Bool
@@ -64,8 +57,7 @@ filled (b ∷ bs) is = λ e. cc e
 -- The letter of an integer's type has a text.
 pub integer-there : (code : ℕ) → among integer_letters code ≡ true → look_up (code ∷ []) builtin_texts ≢ []
 unfolding look_up builtin_texts same_bytes each_passes is_filled
-integer-there code is =
-    filled (look_up (code ∷ []) builtin_texts) (tested integer_letters (λ b. is_filled (look_up (b ∷ []) builtin_texts)) refl code is)
+integer-there code is = filled (look_up (code ∷ []) builtin_texts) (tested integer_letters (λ b. is_filled (look_up (b ∷ []) builtin_texts)) refl code is)
 
 -- ## Codes of two letters
 
@@ -120,7 +112,7 @@ second_kind _ = None
 
 -- A production takes the first letter of an operator, and its one part is of the kind of the second.
 pub record TakesFirst (p : Production) (kind : Kind) : Type 0 where
-  pub parts : parts_of p ≡ OfKind (number_of_kind kind) ∷ []
+  pub parts : parts_of p ≡ Sym.Kind (number_of_kind kind) ∷ []
   pub chain : is_chain p ≡ false
   pub begins : (f : Forest) (at : ℕ) (st : State) → opening p f at st ≡ Ok st
   pub passes : (around : Around) (at : ℕ) (st : State)
@@ -128,9 +120,8 @@ pub record TakesFirst (p : Production) (kind : Kind) : Type 0 where
   pub closes : (first second : ℕ) (around : Around) (at : ℕ) (before st : State)
       → close p first around at before (letter second ∷ []) st ≡ Ok (found (piece (operator first second)) st)
 
-first-so : (p : Production) {kind other : Kind} → Some kind ≡ Some other → parts_of p ≡ OfKind (number_of_kind kind) ∷ [] → is_chain p ≡ false
-    → ((f : Forest) (at : ℕ) (st : State) → opening p f at st ≡ Ok st)
-    → ((around : Around) (at : ℕ) (st : State)
+first-so : (p : Production) {kind other : Kind} → Some kind ≡ Some other → parts_of p ≡ Sym.Kind (number_of_kind kind) ∷ [] → is_chain p ≡ false
+    → ((f : Forest) (at : ℕ) (st : State) → opening p f at st ≡ Ok st) → ((around : Around) (at : ℕ) (st : State)
     → ◌≡◌ {A = Continuation} (between p around at [] st) (Ok (record { context = around; values = []; state = st })))
     → ((first second : ℕ) (around : Around) (at : ℕ) (before st : State)
     → close p first around at before (letter second ∷ []) st ≡ Ok (found (piece (operator first second)) st)) → TakesFirst p other
@@ -138,7 +129,7 @@ first-so p {kind = kind} {other = other} same parts chain begins passes closes =
     subst (λ k. TakesFirst p k) (cc same) (record { parts = parts; chain = chain; begins = begins; passes = passes; closes = closes })
 
 takes-first : (p : Production) (kind : Kind) → second_kind p ≡ Some kind → TakesFirst p kind
-unfolding second_kind number_of_kind parts_of is_chain opening between close unfolding_.behind meaning operator_or_literal letter_of part
+unfolding second_kind number_of_kind parts_of is_chain opening between close unfolding_behind meaning operator_or_literal letter_of part
 takes-first Production.OperatorN kind is = first-so Production.OperatorN is refl refl (λ f at st. refl) (λ a at st. refl) (λ b c a at d st. refl)
 takes-first Production.OperatorD kind is = first-so Production.OperatorD is refl refl (λ f at st. refl) (λ a at st. refl) (λ b c a at d st. refl)
 takes-first Production.OperatorA kind is = first-so Production.OperatorA is refl refl (λ f at st. refl) (λ a at st. refl) (λ b c a at d st. refl)

@@ -1,9 +1,13 @@
+mod AllGround
+mod AllRead
 pub mod Arguments
+mod Basics
 pub mod Begins
 mod ConstructionTables
 pub mod DependentsRead
 pub mod Elements
 pub mod Ending
+mod ForAnswers
 mod FunctionsWithin
 mod InstancesWithin
 pub mod Handed

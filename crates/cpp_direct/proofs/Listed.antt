@@ -1,21 +1,6 @@
 -- A writer at the end of arguments or a pack, and between two elements.
-use Rattle.cpp_direct.specs.AllTerms.{arguments_of, Around, count, Detail, element, instance, Kind, list, may_be_empty, nil, no_items, nothing_there, pack, State, Term, tree, tree_of}
-use Rattle.std.proofs.Common.{◌≡◌, ◌≢◌, inl, inr, ℕ, ◌+◌, ◌-◌, ◌<◌, length, List, [], ◌∷◌, ◌++◌, reverse, slice_get, get_or, Bool, true, false, Some, None, refl, ap, sym, ◌∙◌, subst, arith, codes, append_assoc, append-nil}
-use Rattle.std.proofs.lemmas.List.{length-reverse, get_or-reverse}
-use Rattle.std.proofs.lemmas.Option.{slice_get_within, get_or_from_slice_get}
-use Rattle.cpp_direct.specs.declared.open.Mark.TheVariants as marks
-use Rattle.cpp_direct.specs.AllStates.{added, AreKnown, Arguments, arguments_in, ArgumentsGoOn, AwaitsElementOf, AwaitsEnumerator, AwaitsNextArgument, Belongs, Below, below, Closes, closing_bracket, detail_of, Direct, element_kind, ElementsGoOn, EnumeratorGoesOn, extra_of, GoesOn, HasArguments, HasPack, in_front_of_next, is_noted, IsListEnded, IsListing, IsNameEnded, IsNaming, IsNest, IsScoped, IsTail, IsTemplate, IsWriting, Kept, led_by, list_of, list_with, Listing, Lists, may_name, Names, Nest, nowhere, of_pack, of_template, Open, opening_bracket, OpensEntry, Owns, PrintAllAs, PrintsAs, Scope, scoped_in, Serves, Stands, Symbol, Writes}
-use Rattle.cpp_direct.specs.declared.open.Open.TheVariants as opens
-use Rattle.cpp_direct.specs.declared.open.Step.TheVariants as steps
-use Rattle.cpp_direct.specs.AllHoles.{AwaitsComponent, Comes, IsArgumentKind, IsListKind, ListGoesOn, Opened, StandsAt, with_candidate}
-use Rattle.cpp_direct.proofs.Moves.{expects-empty, stands-split}
-use Rattle.cpp_direct.proofs.MovesOfLists.{element-awaits, pack-opens}
-use Rattle.cpp_direct.proofs.PrintedLists.{element-as, list-more, list-with-none, next-prints-as, none-print, pack-element}
-use Rattle.cpp_direct.proofs.PrintedNames.{as-name}
+use Rattle.cpp_direct.proofs.AllGround.{arguments_of, Around, count, Detail, element, instance, Kind, list, may_be_empty, nil, no_items, nothing_there, pack, State, Term, tree, tree_of, ◌≡◌, ◌≢◌, inl, inr, ℕ, ◌+◌, ◌-◌, ◌<◌, length, List, [], ◌∷◌, ◌++◌, reverse, slice_get, get_or, Bool, true, false, Some, None, refl, ap, sym, ◌∙◌, subst, arith, codes, append_assoc, append-nil, length-reverse, get_or-reverse, slice_get_within, get_or_from_slice_get, added, AreKnown, Arguments, arguments_in, ArgumentsGoOn, AwaitsElementOf, AwaitsEnumerator, AwaitsNextArgument, Belongs, Below, below, Closes, closing_bracket, detail_of, Direct, element_kind, ElementsGoOn, EnumeratorGoesOn, extra_of, GoesOn, HasArguments, HasPack, in_front_of_next, is_noted, IsListEnded, IsListing, IsNameEnded, IsNaming, IsNest, IsScoped, IsTail, IsTemplate, IsWriting, Kept, led_by, list_of, list_with, Listing, Lists, may_name, Names, Nest, nowhere, of_pack, of_template, Open, opening_bracket, OpensEntry, Owns, PrintAllAs, PrintsAs, Scope, scoped_in, Serves, Stands, Symbol, Writes, AwaitsComponent, Comes, IsArgumentKind, IsListKind, ListGoesOn, Opened, StandsAt, with_candidate, Mark, Step, expects-empty, stands-split, element-awaits, pack-opens, element-as, list-more, list-with-none, next-prints-as, none-print, pack-element, as-name, prints-as, element-there, instance-returns, known-stay, none-scoped, structor-returns, has-plain, kept-grown, kept-same, made-here, scoped-within, template-stays, type-comes, value-added, reverse-last, type-named, none-known, kept-with}
 use Rattle.cpp_direct.proofs.PrintedNests.{instance-as, instance-prints, instance-class}
-use Rattle.cpp_direct.proofs.PrintedTypes.{prints-as}
-use Rattle.cpp_direct.proofs.Scopes.{element-there, instance-returns, known-stay, none-scoped, structor-returns, has-plain}
-use Rattle.cpp_direct.proofs.Kept.{kept-grown, kept-same, made-here, scoped-within, template-stays, type-comes, value-added, reverse-last, type-named, none-known, kept-with}
 
 -- ## What is open
 
@@ -36,14 +21,11 @@ last-found xs x found = go (reverse xs) refl
         )
 
 -- likewise, and what was open before it, where it is removed
-opened-last : (ws ps : List Open) (x owner : Open) (rest : List Open) → reverse ws ≡ owner ∷ rest → ws ≡ ps ++ x ∷ []
-    → (owner ≡ x) × (rest ≡ reverse ps)
-opened-last ws ps x owner rest turned is =
-    let e : owner ∷ rest ≡ x ∷ reverse ps = sym turned ∙ ap reverse is ∙ reverse-last ps x in (cc e, cc e)
+opened-last : (ws ps : List Open) (x owner : Open) (rest : List Open) → reverse ws ≡ owner ∷ rest → ws ≡ ps ++ x ∷ [] → (owner ≡ x) × (rest ≡ reverse ps)
+opened-last ws ps x owner rest turned is = let e : owner ∷ rest ≡ x ∷ reverse ps = sym turned ∙ ap reverse is ∙ reverse-last ps x in (cc e, cc e)
 
 -- it is this one
-pub waits-last : (items xs : List Open) (x y : Open) → xs ≡ items → Some x ≡ slice_get xs (length xs - 1) → x ≡ y
-    → slice_get items (length items - 1) ≡ Some y
+pub waits-last : (items xs : List Open) (x y : Open) → xs ≡ items → Some x ≡ slice_get xs (length xs - 1) → x ≡ y → slice_get items (length items - 1) ≡ Some y
 waits-last items xs x y same found is = ap (λ l. slice_get l (length l - 1)) (sym same) ∙ sym found ∙ ap (λ o. Some o) is
 
 -- ## Lists
@@ -97,8 +79,7 @@ abbrev pub comma : (is_first : Bool) → List ℕ
 comma true = []
 comma false = codes ", "
 
-pub in-front : (ts : List Term) (l : List ℕ) (first : Bool) → (first ≡ true → ts ≡ []) → (first ≡ false → ts ≢ [])
-    → in_front_of_next ts l ≡ l ++ comma first
+pub in-front : (ts : List Term) (l : List ℕ) (first : Bool) → (first ≡ true → ts ≡ []) → (first ≡ false → ts ≢ []) → in_front_of_next ts l ≡ l ++ comma first
 in-front [] l true none some = sym (append-nil l)
 in-front [] l false none some = absurd (some refl refl)
 in-front (t ∷ ts) l true none some = absurd (some-elements [] t (cc (none refl)))
@@ -172,8 +153,8 @@ closed-arguments s w owner p = (
 )
 
 -- the arguments of a type
-pub type-closed : (s : Symbol) (w new : Direct) (from : ℕ) (is_dependent : Bool) → IsClosed s w (opens.TypeArguments from is_dependent)
-    → Lists w new (added w from false is_dependent) → IsWriting s new (steps.Value false is_dependent)
+pub type-closed : (s : Symbol) (w new : Direct) (from : ℕ) (is_dependent : Bool) → IsClosed s w (Open.TypeArguments from is_dependent)
+    → Lists w new (added w from false is_dependent) → IsWriting s new (Step.Value false is_dependent)
 type-closed s w new from is_dependent p lists =
     let scope = p.scope in
     let t = instance p.template (list_with p.ts p.tail) in
@@ -204,15 +185,14 @@ instance-nest {detail} names front name text nest is_listed is_instance t ts tai
 }
 
 -- the arguments of a piece of a nested name
-pub nest-closed : (s : Symbol) (w : Direct) (nest : Nest) → IsClosed s w (opens.NestArguments nest)
-    → IsWriting s (record w { nest = record nest { is_listed = false; is_instance = true } }) steps.Tail
+pub nest-closed : (s : Symbol) (w : Direct) (nest : Nest) → IsClosed s w (Open.NestArguments nest)
+    → IsWriting s (record w { nest = record nest { is_listed = false; is_instance = true } }) Step.Tail
 nest-closed s w nest p =
     let new : Direct = record w { nest = record nest { is_listed = false; is_instance = true } } in
-    let t = instance p.template (list_with p.ts p.tail) in
     record {
       kept = kept-same s w new refl refl refl p.kept;
       is_before = (
-        t,
+        (instance p.template (list_with p.ts p.tail)),
         record {
           so_far = record {
             around = p.owns.0;
@@ -229,20 +209,19 @@ nest-closed s w nest p =
         },
         (λ own h. structor-returns p.template (list_with p.ts p.tail) (p.is_template.1 own h)),
         (λ h. instance-returns p.template (list_with p.ts p.tail) (p.is_template.2 h)),
-        λ h. closed-arguments s w (opens.NestArguments nest) p,
+        λ h. closed-arguments s w (Open.NestArguments nest) p,
       );
     }
 
 -- the arguments of the first piece of a nested name
-pub first-closed : (s : Symbol) (w new : Direct) (nest : Nest) → IsClosed s w (opens.FirstArguments nest)
-    → Lists w new (added w nest.from false nest.is_dependent) → IsWriting s (record new { nest = nest }) steps.Component
+pub first-closed : (s : Symbol) (w new : Direct) (nest : Nest) → IsClosed s w (Open.FirstArguments nest)
+    → Lists w new (added w nest.from false nest.is_dependent) → IsWriting s (record new { nest = nest }) Step.Component
 first-closed s w new nest p lists =
     let scope = p.scope in
     let t = instance p.template (list_with p.ts p.tail) in
     let bytes = p.name ++ opening_bracket (detail_of s) ++ p.arguments ++ closing_bracket (detail_of s) in
     let around = p.owns.0 in
     let outer = p.owns.1 in
-    let state = with_candidate around t p.state in
     let now : Direct = record new { nest = nest } in
     let is_nest : IsNest (detail_of s) scope.names p.front bytes w.text.list.items nest t
     = instance-nest scope.names p.front p.name w.text.list.items nest nest.is_listed nest.is_instance p.template p.ts p.tail p.arguments p.is_tail p.is_template
@@ -266,12 +245,12 @@ first-closed s w new nest p lists =
           };
           serves = subst (λ v. Serves s nest.purpose (below s scope (reverse v.list.items)) outer p.front) (sym lists.waiting) p.owns.5;
         },
-        subst (λ n. AwaitsComponent s outer around t n state) (sym lists.at) p.owns.2,
+        subst (λ n. AwaitsComponent s outer around t n (with_candidate around t p.state)) (sym lists.at) p.owns.2,
       );
     }
 
 -- the arguments of the name of an encoding
-pub name-closed : (s : Symbol) (w : Direct) (from : ℕ) → IsClosed s w (opens.NameArguments from) → IsNameEnded s w marks.Plain true w.argument from
+pub name-closed : (s : Symbol) (w : Direct) (from : ℕ) → IsClosed s w (Open.NameArguments from) → IsNameEnded s w Mark.Plain true w.argument from
 name-closed s w from p =
     let t = instance p.template (list_with p.ts p.tail) in
     let bytes = p.name ++ opening_bracket (detail_of s) ++ p.arguments ++ closing_bracket (detail_of s) in
@@ -281,7 +260,7 @@ name-closed s w from p =
           (as-name t bytes false (instance-prints p.template p.name p.is_template.1 p.ts p.tail p.arguments p.is_tail p.elements));
       no_return = λ h. cc h;
       returns = λ h. instance-returns p.template (list_with p.ts p.tail) p.is_template.2;
-      names = closed-arguments s w (opens.NameArguments from) p;
+      names = closed-arguments s w (Open.NameArguments from) p;
       awaits = p.owns;
     }
 
@@ -289,7 +268,7 @@ name-closed s w from p =
 
 -- What is read of a list is read of arguments, if the list is no pack.
 pub template-listed : (s : Symbol) (scope : Scope) (w : Direct) (st : State) (l : Listing) (owner : Open) (rest : List Open) (front : List ℕ) (template : Term)
-    (name : List ℕ) (ts : List Term) (texts text : List ℕ) → ((others : List Open) → reverse w.waiting.list.items ≡ opens.Pack ∷ others → ⊥)
+    (name : List ℕ) (ts : List Term) (texts text : List ℕ) → ((others : List Open) → reverse w.waiting.list.items ≡ Open.Pack ∷ others → ⊥)
     → Belongs (detail_of s) scope.names l (reverse w.waiting.list.items) owner rest → PrintAllAs (detail_of s) scope.names (may_name l owner) (extra_of l) ts texts
     → w.text.list.items ≡ led_by (detail_of s) l front name ++ text → GoesOn s l owner (below s scope rest) front template ts w.at st
     → (reverse w.waiting.list.items ≡ owner ∷ rest) × PrintAllAs (detail_of s) scope.names (is_noted owner) 3 ts texts
@@ -299,13 +278,13 @@ template-listed s scope w st (of_pack before more) owner rest front template nam
     absurd (no_pack (owner ∷ rest) belongs.0)
 
 -- the innermost entry is no pack
-pub no-pack : (w : Direct) (owner : Open) → slice_get w.waiting.list.items (length w.waiting.list.items - 1) ≡ Some owner → (owner ≡ opens.Pack → ⊥)
-    → (rest : List Open) → reverse w.waiting.list.items ≡ opens.Pack ∷ rest → ⊥
+pub no-pack : (w : Direct) (owner : Open) → slice_get w.waiting.list.items (length w.waiting.list.items - 1) ≡ Some owner → (owner ≡ Open.Pack → ⊥)
+    → (rest : List Open) → reverse w.waiting.list.items ≡ Open.Pack ∷ rest → ⊥
 no-pack w owner found other rest e = other (cc (sym (last-found w.waiting.list.items owner found).1 ∙ e))
 
 -- The arguments of a name end, which are no pack, with these after their elements.
-ended-so : (s : Symbol) (w : Direct) (first : Bool) (to : ℕ) (tail : Term) (argument : Arguments) → IsTail tail → (p : IsWriting s w (steps.List first))
-    → ((rest : List Open) → reverse w.waiting.list.items ≡ opens.Pack ∷ rest → ⊥)
+ended-so : (s : Symbol) (w : Direct) (first : Bool) (to : ℕ) (tail : Term) (argument : Arguments) → IsTail tail → (p : IsWriting s w (Step.List first))
+    → ((rest : List Open) → reverse w.waiting.list.items ≡ Open.Pack ∷ rest → ⊥)
     → ((o : Open) (rest : List Open) (front : List ℕ) (template : Term) → ArgumentsGoOn s o (below s p.scope rest) front template p.is_before.1 w.at p.state
     → Owns s o (below s p.scope rest) front (instance template (list_with p.is_before.1 tail)) to p.state)
     → AreKnown (detail_of s) w.text.list.items argument p.is_before.1 tail → IsListEnded s (record w { at = to }) argument
@@ -339,8 +318,8 @@ pub nothing-known : {detail : Detail} (text : List ℕ) (ts : List Term) (tail :
 nothing-known text ts tail = (λ k single. absurd (none-known k single.0), λ e. cc e)
 
 -- an E ends the arguments
-pub list-ends : (s : Symbol) (w : Direct) (first : Bool) (argument : Arguments) (p : IsWriting s w (steps.List first)) → StandsAt s.bytes w.at (69 ∷ [])
-    → ((rest : List Open) → reverse w.waiting.list.items ≡ opens.Pack ∷ rest → ⊥)
+pub list-ends : (s : Symbol) (w : Direct) (first : Bool) (argument : Arguments) (p : IsWriting s w (Step.List first)) → StandsAt s.bytes w.at (69 ∷ [])
+    → ((rest : List Open) → reverse w.waiting.list.items ≡ Open.Pack ∷ rest → ⊥)
     → AreKnown (detail_of s) w.text.list.items argument p.is_before.1 nil → IsListEnded s (record w { at = w.at + 1 }) argument
 unfolding no_items may_be_empty
 list-ends s w first argument p stands apart are_known =
@@ -348,8 +327,8 @@ list-ends s w first argument p stands apart are_known =
     goes.5 nothing_there w.at p.state (expects-empty s Kind.ArgumentList goes.0 goes.1 w.at p.state goes.4 refl) stands) are_known
 
 -- an empty pack and an E end them too
-pub empty-pack-ends : (s : Symbol) (w : Direct) (first : Bool) (argument : Arguments) (p : IsWriting s w (steps.List first))
-    → StandsAt s.bytes w.at (74 ∷ 69 ∷ 69 ∷ []) → ((rest : List Open) → reverse w.waiting.list.items ≡ opens.Pack ∷ rest → ⊥)
+pub empty-pack-ends : (s : Symbol) (w : Direct) (first : Bool) (argument : Arguments) (p : IsWriting s w (Step.List first))
+    → StandsAt s.bytes w.at (74 ∷ 69 ∷ 69 ∷ []) → ((rest : List Open) → reverse w.waiting.list.items ≡ Open.Pack ∷ rest → ⊥)
     → AreKnown (detail_of s) w.text.list.items argument p.is_before.1 (list (pack nil) nil) → IsListEnded s (record w { at = w.at + 3 }) argument
 unfolding no_items may_be_empty tree_of
 empty-pack-ends s w first argument p stands apart are_known =
@@ -381,18 +360,18 @@ none-packed text is_first ts none = (
 )
 
 -- an E ends a pack, which is an argument
-unfoldable pub pack-ends : (s : Symbol) (w new : Direct) → IsWriting s w (steps.List false) → StandsAt s.bytes w.at (69 ∷ [])
-    → (rest : List Open) → reverse w.waiting.list.items ≡ opens.Pack ∷ rest
+unfoldable pub pack-ends : (s : Symbol) (w new : Direct) → IsWriting s w (Step.List false) → StandsAt s.bytes w.at (69 ∷ [])
+    → (rest : List Open) → reverse w.waiting.list.items ≡ Open.Pack ∷ rest
     → new.text ≡ w.text → new.candidates ≡ w.candidates → new.has_scope ≡ w.has_scope → new.at ≡ w.at + 1
-    → reverse new.waiting.list.items ≡ rest → IsWriting s new (steps.List false)
+    → reverse new.waiting.list.items ≡ rest → IsWriting s new (Step.List false)
 unfolding no_items may_be_empty
 pack-ends s w new p stands rest last text candidates scope_same at now = go p.is_before.0.listing refl
   where
-    go : (l : Listing) → p.is_before.0.listing ≡ l → IsWriting s new (steps.List false)
+    go : (l : Listing) → p.is_before.0.listing ≡ l → IsWriting s new (Step.List false)
     go of_template is = absurd (no-template p.is_before.0.owner p.is_before.0.is_template
         (cc (sym last ∙ subst (λ l. Belongs (detail_of s) p.scope.names l (reverse w.waiting.list.items) p.is_before.0.owner p.is_before.0.rest) is p.is_before.0.belongs)))
       where
-        no-template : (o : Open) → IsTemplate (detail_of s) p.scope.names o p.is_before.0.front p.is_before.0.template p.is_before.0.name w.text.list.items → opens.Pack ≡ o → ⊥
+        no-template : (o : Open) → IsTemplate (detail_of s) p.scope.names o p.is_before.0.front p.is_before.0.template p.is_before.0.name w.text.list.items → Open.Pack ≡ o → ⊥
         no-template o t e = subst (λ x. IsTemplate (detail_of s) p.scope.names x p.is_before.0.front p.is_before.0.template p.is_before.0.name w.text.list.items) (sym e) t
     go (of_pack before written) is =
         let place = p.is_before.0 in
@@ -426,16 +405,14 @@ pack-ends s w new p stands rest last text candidates scope_same at now = go p.is
             λ e. some-elements before made,
             subst (λ n. ArgumentsGoOn s place.owner (below s p.scope place.rest) place.front place.template (before ++ made ∷ []) n p.state) (sym at)
                 (subst (λ l. ArgumentsGoOn s place.owner (below s p.scope place.rest) place.front place.template (before ++ pack l ∷ []) (w.at + 1) p.state)
-                (list-with-none us)
-                (goes.5 nothing_there w.at p.state (expects-empty s Kind.PackList goes.0 goes.1 w.at p.state goes.4 refl) stands)),
+                (list-with-none us) (goes.5 nothing_there w.at p.state (expects-empty s Kind.PackList goes.0 goes.1 w.at p.state goes.4 refl) stands)),
           );
         }
 
 -- expects one more element, with a comma before it except at the first
-pub argument-expected : (s : Symbol) (w new : Direct) (first : Bool) → IsWriting s w (steps.List first)
+pub argument-expected : (s : Symbol) (w new : Direct) (first : Bool) → IsWriting s w (Step.List first)
     → new.text.list.items ≡ w.text.list.items ++ comma first → new.candidates ≡ w.candidates → new.waiting ≡ w.waiting
-    → new.has_scope ≡ w.has_scope → new.at ≡ w.at
-    → AwaitsNextArgument s new
+    → new.has_scope ≡ w.has_scope → new.at ≡ w.at → AwaitsNextArgument s new
 argument-expected s w new first p text candidates waiting scope_same at =
     let place = p.is_before.0 in
     let ts = p.is_before.1 in
@@ -453,19 +430,17 @@ argument-expected s w new first p text candidates waiting scope_same at =
     }
 
 -- the comma is written
-pub another-expected : (s : Symbol) (w new self : Direct) (first : Bool) → IsWriting s w (steps.List first) → first ≡ false
+pub another-expected : (s : Symbol) (w new self : Direct) (first : Bool) → IsWriting s w (Step.List first) → first ≡ false
     → Writes w new (codes ", ") → self ≡ new → AwaitsNextArgument s self
 another-expected s w new self first p is writes same =
     subst (λ d. AwaitsNextArgument s d) (sym same)
-    (argument-expected s w new false (subst (λ f. IsWriting s w (steps.List f)) is p) writes.text
-    writes.candidates writes.waiting writes.scope writes.at)
+    (argument-expected s w new false (subst (λ f. IsWriting s w (Step.List f)) is p) writes.text writes.candidates writes.waiting writes.scope writes.at)
 
 -- none is written at the first
-pub first-expected : (s : Symbol) (w self : Direct) (first : Bool) → IsWriting s w (steps.List first) → first ≡ true
-    → self ≡ w → AwaitsNextArgument s self
+pub first-expected : (s : Symbol) (w self : Direct) (first : Bool) → IsWriting s w (Step.List first) → first ≡ true → self ≡ w → AwaitsNextArgument s self
 first-expected s w self first p is same =
     subst (λ d. AwaitsNextArgument s d) (sym same)
-    (argument-expected s w w true (subst (λ f. IsWriting s w (steps.List f)) is p) (sym (append-nil w.text.list.items)) refl refl refl refl)
+    (argument-expected s w w true (subst (λ f. IsWriting s w (Step.List f)) is p) (sym (append-nil w.text.list.items)) refl refl refl refl)
 
 -- a pack continues after its J
 pub pack-goes-on : (s : Symbol) (owner : Open) (below_ : Below) (front : List ℕ) (template : Term) (ts : List Term) (texts : List ℕ) (at : ℕ) (st : State)
@@ -484,8 +459,8 @@ pack-goes-on s owner below_ front template ts texts at st goes stands =
 
 -- a pack begins
 pub pack-begins : (s : Symbol) (old new : Direct) (owner : Open) → AwaitsNextArgument s old → StandsAt s.bytes old.at (74 ∷ [])
-    → slice_get old.waiting.list.items (length old.waiting.list.items - 1) ≡ Some owner → (owner ≡ opens.Pack → ⊥)
-    → OpensEntry old new opens.Pack → IsWriting s new (steps.List true)
+    → slice_get old.waiting.list.items (length old.waiting.list.items - 1) ≡ Some owner → (owner ≡ Open.Pack → ⊥)
+    → OpensEntry old new Open.Pack → IsWriting s new (Step.List true)
 pack-begins s old new owner a stands found other entered =
     let p = a.place in
     let last = last-found old.waiting.list.items owner found in
@@ -498,7 +473,7 @@ pack-begins s old new owner a stands found other entered =
           listing = of_pack a.ts a.texts;
           owner = p.owner;
           rest = p.rest;
-          belongs = (ap reverse entered.waiting ∙ reverse-last old.waiting.list.items opens.Pack ∙ ap (λ ws. opens.Pack ∷ ws) l.0, l.1);
+          belongs = (ap reverse entered.waiting ∙ reverse-last old.waiting.list.items Open.Pack ∙ ap (λ ws. Open.Pack ∷ ws) l.0, l.1);
           front = p.front;
           template = p.template;
           name = p.name;
@@ -527,25 +502,25 @@ pub record ListWaits (s : Symbol) (scope : Scope) (opened : List Open) (os : Lis
 
 -- the open entry accepts arguments
 abbrev pub TakesArguments : Open → Type 0
-TakesArguments (opens.TypeArguments from is_dependent) = Unit {0}
-TakesArguments (opens.NestArguments nest) = Unit {0}
-TakesArguments (opens.FirstArguments nest) = Unit {0}
-TakesArguments (opens.NameArguments from) = Unit {0}
-TakesArguments (opens.LevelArguments is_dependent) = Unit {0}
+TakesArguments (Open.TypeArguments from is_dependent) = Unit {0}
+TakesArguments (Open.NestArguments nest) = Unit {0}
+TakesArguments (Open.FirstArguments nest) = Unit {0}
+TakesArguments (Open.NameArguments from) = Unit {0}
+TakesArguments (Open.LevelArguments is_dependent) = Unit {0}
 TakesArguments _ = ⊥
 
 -- or is a pack of such types
 abbrev pub TakesElements : Open → Type 0
-TakesElements opens.Pack = Unit {0}
+TakesElements Open.Pack = Unit {0}
 TakesElements o = TakesArguments o
 
 template-takes : (detail : Detail) (names : Names) (o : Open) (front : List ℕ) (t : Term) (name text : List ℕ) → IsTemplate detail names o front t name text
     → TakesArguments o
-template-takes detail names (opens.TypeArguments from is_dependent) front t name text is = tt
-template-takes detail names (opens.NestArguments nest) front t name text is = tt
-template-takes detail names (opens.FirstArguments nest) front t name text is = tt
-template-takes detail names (opens.NameArguments from) front t name text is = tt
-template-takes detail names (opens.LevelArguments is_dependent) front t name text is = tt
+template-takes detail names (Open.TypeArguments from is_dependent) front t name text is = tt
+template-takes detail names (Open.NestArguments nest) front t name text is = tt
+template-takes detail names (Open.FirstArguments nest) front t name text is = tt
+template-takes detail names (Open.NameArguments from) front t name text is = tt
+template-takes detail names (Open.LevelArguments is_dependent) front t name text is = tt
 template-takes detail names _ front t name text is = absurd is
 
 -- an element of theirs is expected as the open entries have it; they have no arguments that types name, and the type of an
@@ -553,12 +528,12 @@ template-takes detail names _ front t name text is = absurd is
 arguments-stand : (s : Symbol) (scope : Scope) (owner : Open) (rest : List Open) (os : List Opened) (text : List ℕ) → TakesArguments owner
     → (AwaitsElementOf s scope.names of_template owner (below s scope rest) os text → Stands s scope (owner ∷ rest) os text)
     × (Stands s scope (owner ∷ rest) os text → AwaitsElementOf s scope.names of_template owner (below s scope rest) os text) × (arguments_in owner ≡ None)
-    × (AwaitsEnumerator s scope.names of_template owner (below s scope rest) os text → Stands s scope (opens.Enumerator ∷ owner ∷ rest) os text)
-arguments-stand s scope (opens.TypeArguments from is_dependent) rest os text takes = (λ p. p, λ p. p, refl, λ e. e)
-arguments-stand s scope (opens.NestArguments nest) rest os text takes = (λ p. p, λ p. p, refl, λ e. e)
-arguments-stand s scope (opens.FirstArguments nest) rest os text takes = (λ p. p, λ p. p, refl, λ e. e)
-arguments-stand s scope (opens.NameArguments from) rest os text takes = (λ p. p, λ p. p, refl, λ e. e)
-arguments-stand s scope (opens.LevelArguments is_dependent) rest os text takes = (λ p. p, λ p. p, refl, λ e. e)
+    × (AwaitsEnumerator s scope.names of_template owner (below s scope rest) os text → Stands s scope (Open.Enumerator ∷ owner ∷ rest) os text)
+arguments-stand s scope (Open.TypeArguments from is_dependent) rest os text takes = (λ p. p, λ p. p, refl, λ e. e)
+arguments-stand s scope (Open.NestArguments nest) rest os text takes = (λ p. p, λ p. p, refl, λ e. e)
+arguments-stand s scope (Open.FirstArguments nest) rest os text takes = (λ p. p, λ p. p, refl, λ e. e)
+arguments-stand s scope (Open.NameArguments from) rest os text takes = (λ p. p, λ p. p, refl, λ e. e)
+arguments-stand s scope (Open.LevelArguments is_dependent) rest os text takes = (λ p. p, λ p. p, refl, λ e. e)
 arguments-stand s scope _ rest os text takes = absurd takes
 
 -- in arguments types may name what they may name around them, and in a pack nothing
@@ -571,7 +546,7 @@ list-scoped s scope around opened text p scoped = go p.listing p.belongs
         subst (λ ws. IsScoped scope around ws) (sym is) (scoped-within scope around p.owner p.rest
         (arguments-stand s scope p.owner p.rest [] text (template-takes (detail_of s) scope.names p.owner p.front p.template p.name text p.is_template)).2 scoped)
     go (of_pack before written) is =
-        subst (λ ws. IsScoped scope around ws) (sym is.0) (none-scoped scope around (opens.Pack ∷ p.owner ∷ p.rest) refl)
+        subst (λ ws. IsScoped scope around ws) (sym is.0) (none-scoped scope around (Open.Pack ∷ p.owner ∷ p.rest) refl)
 
 -- the entry is open this way
 list-stands : (s : Symbol) (scope : Scope) (opened : List Open) (os : List Opened) (text : List ℕ) → ListWaits s scope opened os text
@@ -590,16 +565,7 @@ list-stands s scope opened os text w =
 waits-of : (s : Symbol) (scope : Scope) (owner : Open) (rest : List Open) (os : List Opened) (text : List ℕ)
     → AwaitsElementOf s scope.names of_template owner (below s scope rest) os text → ListWaits s scope (owner ∷ rest) os text
 waits-of s scope owner rest os text p = record {
-  place = record {
-    listing = of_template;
-    owner = owner;
-    rest = rest;
-    belongs = refl;
-    front = p.0;
-    template = p.1;
-    name = p.2;
-    is_template = p.5;
-  };
+  place = record { listing = of_template; owner = owner; rest = rest; belongs = refl; front = p.0; template = p.1; name = p.2; is_template = p.5 };
   ts = p.3;
   texts = p.4;
   elements = p.6;
@@ -610,8 +576,8 @@ waits-of s scope owner rest os text p = record {
 -- and an entry that is open this way is a list
 pub list-waits : (s : Symbol) {scope : Scope} (o : Open) (rest : List Open) (os : List Opened) (text : List ℕ) → TakesElements o
     → Stands s scope (o ∷ rest) os text → ListWaits s scope (o ∷ rest) os text
-list-waits s opens.Pack [] os text takes p = absurd p
-list-waits s opens.Pack (owner ∷ rest) os text takes p = record {
+list-waits s Open.Pack [] os text takes p = absurd p
+list-waits s Open.Pack (owner ∷ rest) os text takes p = record {
   place = record {
     listing = of_pack p.0 p.1;
     owner = owner;
@@ -654,7 +620,7 @@ pub element-scoped : (s : Symbol) (w : Direct) (a : AwaitsNextArgument s w) → 
 element-scoped s w a = list-scoped s a.scope a.goes.0 (reverse w.waiting.list.items) w.text.list.items a.place a.goes.3
 
 -- an element may be a type
-pub type-expected : (s : Symbol) (w : Direct) → AwaitsNextArgument s w → IsWriting s w steps.Type
+pub type-expected : (s : Symbol) (w : Direct) → AwaitsNextArgument s w → IsWriting s w Step.Type
 type-expected s w a =
     let element = element-awaits s (element_kind a.place.listing) a.goes.1 a.goes.0 w.at a.state (list-kind a.place.listing) a.goes.4 in
     type-comes s w w a.kept a.goes.0 element.inner refl refl refl refl a.goes.2 (inr (inl element.awaits)) (element-stands s w a element.inner element.onward)
@@ -667,15 +633,14 @@ pub enumerator-stands : (s : Symbol) (scope : Scope) (opened : List Open) (text 
     (ts : List Term) (texts : List ℕ) → PrintAllAs (detail_of s) scope.names (may_name p.listing p.owner) (extra_of p.listing) ts texts
     → text ≡ led_by (detail_of s) p.listing p.front p.name ++ in_front_of_next ts texts ++ codes "("
     → ((t : Term) (at : ℕ) (st : State) → Comes s os (tree t true) at st
-    → EnumeratorGoesOn s p.listing p.owner (below s scope p.rest) p.front p.template ts t at st)
-    → Stands s scope (opens.Enumerator ∷ opened) os text
+    → EnumeratorGoesOn s p.listing p.owner (below s scope p.rest) p.front p.template ts t at st) → Stands s scope (Open.Enumerator ∷ opened) os text
 enumerator-stands s scope opened text os p ts texts elements written onward =
     go p.listing p.belongs (p.front, p.template, p.name, ts, texts, p.is_template, elements, written, onward)
   where
     go : (l : Listing) → Belongs (detail_of s) scope.names l opened p.owner p.rest → AwaitsEnumerator s scope.names l p.owner (below s scope p.rest) os text
-        → Stands s scope (opens.Enumerator ∷ opened) os text
+        → Stands s scope (Open.Enumerator ∷ opened) os text
     go of_template is awaits =
-        subst (λ ws. Stands s scope (opens.Enumerator ∷ ws) os text) (sym is) ((arguments-stand s scope p.owner p.rest os text
+        subst (λ ws. Stands s scope (Open.Enumerator ∷ ws) os text) (sym is) ((arguments-stand s scope p.owner p.rest os text
         (template-takes (detail_of s) scope.names p.owner p.front p.template p.name text p.is_template)).3 awaits)
     go (of_pack before written) is awaits =
-        subst (λ ws. Stands s scope (opens.Enumerator ∷ ws) os text) (sym is.0) (before, written, is.1, awaits)
+        subst (λ ws. Stands s scope (Open.Enumerator ∷ ws) os text) (sym is.0) (before, written, is.1, awaits)

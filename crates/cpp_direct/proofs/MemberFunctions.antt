@@ -1,33 +1,14 @@
 -- Functions that are members of local entities: from the entity to the end of the symbol.
-use Rattle.std.proofs.Common.{◌≡◌, ◌≢◌, refl, ap, sym, ◌∙◌, subst, ℕ, ◌+◌, List, [], ◌∷◌, ◌++◌, false, true, arith, codes, append-nil, append_assoc}
-use Rattle.std.proofs.lemmas.Bool.{false≢true}
-use Rattle.cpp_grammar.specs.Meaning.{discriminator_of}
-use Rattle.cpp_direct.specs.AllTerms.{after, arguments_of, has_return_type, Kind, local, look_up, may_be_empty, nothing_there, opening_text, operator, operator_texts, same_bytes, source, source_text, Term, tree, types_of, within}
-use Rattle.cpp_direct.specs.AllStates.{added, AreLeft, AwaitsEntity, AwaitsFirst, AwaitsMemberFunction, AwaitsMemberParameters, called_on, detail_of, Direct, Encloses, Encoded, has_const, IsElementRead, IsMarkPlace, IsMemberParameterRead, IsMemberRead, ItemsOf, Lists, Mark, MarkPlace, nowhere, PrintsPiece, Prints, qualifiers, Reads, Shows, Symbol, Writes, IsSymbolEnded}
-use Rattle.cpp_direct.specs.declared.open.Hiding.TheVariants as hidings
-use Rattle.cpp_direct.specs.declared.open.Mark.TheVariants as marks
-use Rattle.cpp_direct.specs.declared.open.Open.TheVariants as opens
-use Rattle.cpp_direct.specs.AllHoles.{Expects, IsComponentAt, IsNameAt, IsPieceAt, Named, StandsAt, mark_letters, member_in, unnumbered, with_candidate}
+use Rattle.cpp_direct.proofs.AllGround.{◌≡◌, ◌≢◌, refl, ap, sym, ◌∙◌, subst, ℕ, ◌+◌, List, [], ◌∷◌, ◌++◌, false, true, arith, codes, append-nil, append_assoc, false≢true, discriminator_of, after, arguments_of, has_return_type, Kind, local, look_up, may_be_empty, nothing_there, opening_text, operator, operator_texts, same_bytes, source, source_text, Term, tree, types_of, within, added, AreLeft, AwaitsEntity, AwaitsFirst, AwaitsMemberFunction, AwaitsMemberParameters, called_on, detail_of, Direct, Encloses, Encoded, has_const, IsElementRead, IsMarkPlace, IsMemberParameterRead, IsMemberRead, ItemsOf, Lists, Mark, MarkPlace, nowhere, PrintsPiece, Prints, qualifiers, Reads, Shows, Symbol, Writes, IsSymbolEnded, Expects, IsComponentAt, IsNameAt, IsPieceAt, Named, StandsAt, mark_letters, member_in, unnumbered, with_candidate, Hiding, Open, kept-closed, kept-read, kept-same, kept-with, operator-listed, expects-empty, stands-join, component-awaits, component-operator, component-outside, component-source, nest-end, reads-of, reads-then, element-in, never-explicit, has-member, name-unmarked}
+use Rattle.cpp_direct.proofs.AllRead.{nowhere-scoped, enclosed-prints, member-prints, piece-prints, operator-piece, source-opening, source-piece}
 use Rattle.cpp_direct.proofs.FunctionsWithin.{items-scoped, led-read, plain-awaits}
-use Rattle.cpp_direct.proofs.Kept.{kept-closed, kept-read, kept-same, kept-with}
-use Rattle.cpp_direct.proofs.LettersTested.{operator-listed}
-use Rattle.cpp_direct.proofs.Moves.{expects-empty, stands-join}
-use Rattle.cpp_direct.proofs.MovesOfLocals.{nowhere-scoped}
-use Rattle.cpp_direct.proofs.MovesOfNests.{component-awaits, component-operator, component-outside, component-source, nest-end}
-use Rattle.cpp_direct.proofs.NamePlaces.{reads-of, reads-then}
-use Rattle.cpp_direct.proofs.PrintedLists.{element-in}
-use Rattle.cpp_direct.proofs.PrintedLocals.{enclosed-prints, member-prints, piece-prints}
-use Rattle.cpp_direct.proofs.PrintedNests.{operator-piece, source-opening, source-piece}
-use Rattle.cpp_direct.proofs.PrintedSymbols.{never-explicit}
-use Rattle.cpp_direct.proofs.Scopes.{has-member}
-use Rattle.cpp_direct.proofs.Unmarked.{name-unmarked}
 
 -- ## The entity
 
 -- after the qualifiers expects the entity
 pub member-begins : (s : Symbol) (old shut : Direct) (first : ℕ) (place : MarkPlace) → AwaitsEntity s old false → StandsAt s.bytes old.at (78 ∷ [])
     → StandsAt s.bytes 2 (90 ∷ []) → first ≡ old.at + 1 → IsMarkPlace s.bytes first place
-    → shut.text ≡ old.text → AreLeft hidings.Dependent old.candidates.list.items shut.candidates.list.items
+    → shut.text ≡ old.text → AreLeft Hiding.Dependent old.candidates.list.items shut.candidates.list.items
     → AwaitsFirst s (record shut { at = place.end }) place.mark
 member-begins s old shut first place p letter two next is text are =
     let e = p.ended in
@@ -37,7 +18,6 @@ member-begins s old shut first place p letter two next is text are =
     let f = m.opens (has_const place.mark) (called_on place.mark) (never-explicit place.mark) p.first
     (stands-join s.bytes (p.before + 1) (78 ∷ []) letters (subst (λ k. StandsAt s.bytes k (78 ∷ [])) here letter)
     (subst (λ k. StandsAt s.bytes k letters) (omega (arith, next, here)) is.stands)) in
-    let same = e.same p.is_entity in
     let whole : shut.text.list.items ≡ e.bytes =
     ap (λ v. v.list.items) text ∙ sym (append-nil old.text.list.items) ∙ e.written ∙ ap (λ l. l ++ e.bytes) m.none in
     record {
@@ -47,7 +27,7 @@ member-begins s old shut first place p letter two next is text are =
       first = record {
         around = f.around;
         inner = f.inner;
-        awaits = subst (λ st. Expects s Kind.Nest (after m.made true f.around) f.inner place.end st) same
+        awaits = subst (λ st. Expects s Kind.Nest (after m.made true f.around) f.inner place.end st) (e.same p.is_entity)
             (subst (λ k. Expects s Kind.Nest (after m.made true f.around) f.inner k e.now) (omega (arith, next, here, is.ends)) f.awaits);
         onward = f.onward;
       };
@@ -126,20 +106,19 @@ function-named s old kept_ pushed read end mark a lists one p n is prints two en
     (kept-with s old kept_ a.kept [] b 0 a.own g.around false false refl refl a.prints (λ e. absurd (false≢true e)) lists.text lists.candidates lists.scope)) in
     plain-awaits (record read { at = end }) kept
     (has-member s read.text.list.items mark 0 own [] (b ++ codes "::" ++ n) text refl (member-prints a.e a.own b a.prints p n prints unnumbered))
-    refl (refl, refl)
-    (items-scoped nowhere (member_in a.e name (qualifiers (has_const mark)) (called_on mark)) end st items (nowhere-scoped items.around))
+    refl (refl, refl) (items-scoped nowhere (member_in a.e name (qualifiers (has_const mark)) (called_on mark)) end st items (nowhere-scoped items.around))
 
 -- ## Its parameters, and its end
 
 -- one is read
-pub member-parameter-read : (s : Symbol) (w : Direct) (mark : Mark) (to : ℕ) → IsElementRead s w (opens.Member mark to) → IsMemberParameterRead s w mark to
+pub member-parameter-read : (s : Symbol) (w : Direct) (mark : Mark) (to : ℕ) → IsElementRead s w (Open.Member mark to) → IsMemberParameterRead s w mark to
 member-parameter-read s w mark to p =
     let read = p.read in
     led-read w read.os read.kept read.own read.front read.bytes p.open_is read.written read.comes read.stands
     (element-in (types_of read.stands.2.own) 6 read.own read.bytes (read.element 6))
 
 -- the function ends the symbol
-pub member-ends : (s : Symbol) (w : Direct) → IsMemberRead s w marks.Plain → IsSymbolEnded s w
+pub member-ends : (s : Symbol) (w : Direct) → IsMemberRead s w Mark.Plain → IsSymbolEnded s w
 member-ends s w p = record {
   kept = p.kept;
   e = p.e;

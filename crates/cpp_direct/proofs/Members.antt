@@ -1,27 +1,13 @@
 -- A writer in an argument that is a member of an instance of a template.
-use Rattle.std.proofs.Common.{◌≡◌, ◌≢◌, ℕ, ◌+◌, List, [], ◌∷◌, ◌++◌, reverse, Bool, true, false, refl, ap, sym, ◌∙◌, subst, codes, append_assoc, arith}
-use Rattle.std.proofs.lemmas.Bool.{false≢true}
-use Rattle.cpp_direct.specs.AllTerms.{inside, instance, source_text, tree}
-use Rattle.cpp_direct.specs.AllStates.{AwaitsMember, AwaitsNextArgument, closing_bracket, detail_of, Direct, element_kind, IsScoped, IsWriting, list_with, opening_bracket, OpensArguments, Reads, Stands, Symbol, Writes}
-use Rattle.cpp_direct.specs.declared.open.Open.TheVariants as opens
-use Rattle.cpp_direct.specs.declared.open.Step.TheVariants as steps
-use Rattle.cpp_direct.specs.AllHoles.{Comes, IsNameAt, StandsAt, member_of, template_named}
-use Rattle.cpp_direct.proofs.Kept.{kept-grown, kept-read, list-begins, value-comes}
-use Rattle.cpp_direct.proofs.Listed.{IsClosed, element-kind, element-scoped, element-stands}
-use Rattle.cpp_direct.proofs.Moves.{stands-moved}
-use Rattle.cpp_direct.proofs.MovesOfLists.{level-opens, listed-awaits}
+use Rattle.cpp_direct.proofs.AllGround.{◌≡◌, ◌≢◌, ℕ, ◌+◌, List, [], ◌∷◌, ◌++◌, reverse, Bool, true, false, refl, ap, sym, ◌∙◌, subst, codes, append_assoc, arith, false≢true, inside, instance, source_text, tree, AwaitsMember, AwaitsNextArgument, closing_bracket, detail_of, Direct, element_kind, IsScoped, IsWriting, list_with, opening_bracket, OpensArguments, Reads, Stands, Symbol, Writes, Comes, IsNameAt, StandsAt, member_of, template_named, Open, Step, kept-grown, kept-read, list-begins, value-comes, stands-moved, level-opens, listed-awaits, source-prints, prints-as, scoped-inside, name-unmarked}
+use Rattle.cpp_direct.proofs.AllRead.{IsClosed, element-kind, element-scoped, element-stands, instance-as}
 use Rattle.cpp_direct.proofs.PrintedLevels.{member-as}
-use Rattle.cpp_direct.proofs.PrintedNames.{source-prints}
-use Rattle.cpp_direct.proofs.PrintedNests.{instance-as}
-use Rattle.cpp_direct.proofs.PrintedTypes.{prints-as}
-use Rattle.cpp_direct.proofs.Scopes.{scoped-inside}
-use Rattle.cpp_direct.proofs.Unmarked.{name-unmarked}
 
 -- one begins: the name of the template is read, and its arguments are expected
 pub level-begins : (s : Symbol) (old named new : Direct) (first second at : ℕ) → AwaitsNextArgument s old → s.is_wide ≡ true → StandsAt s.bytes old.at (88 ∷ [])
     → first ≡ old.at + 1 → StandsAt s.bytes first (115 ∷ []) → second ≡ first + 1 → StandsAt s.bytes second (114 ∷ []) → at ≡ second + 1
     → (name : List ℕ) × IsNameAt s.bytes at name named.at × (name ≢ []) × Reads (record old { at = at }) named (source_text name)
-    → StandsAt s.bytes named.at (73 ∷ []) → OpensArguments (detail_of s) named new (opens.LevelArguments false) → IsWriting s new (steps.List true)
+    → StandsAt s.bytes named.at (73 ∷ []) → OpensArguments (detail_of s) named new (Open.LevelArguments false) → IsWriting s new (Step.List true)
 unfolding inside
 level-begins s old named new first second at a wide letter first_is first_letter second_is second_letter at_is read opening begins =
     let front = old.text.list.items in
@@ -41,7 +27,7 @@ level-begins s old named new first second at a wide letter first_is first_letter
     let o = level-opens s element.inner a.goes.0 old.at a.state name named.at wide a.goes.2 element.awaits letter
     (stands-moved s.bytes first (old.at + 1) (115 ∷ []) first_is first_letter)
     (stands-moved s.bytes second (old.at + 1 + 1) (114 ∷ []) behind second_letter) (subst (λ n. IsNameAt s.bytes n name named.at) here read.1) opening in
-    list-begins s named named new named.candidates.list.items (kept-read s old named bytes reads a.kept) (opens.LevelArguments false) front bytes
+    list-begins s named named new named.candidates.list.items (kept-read s old named bytes reads a.kept) (Open.LevelArguments false) front bytes
     (template_named name) (record { candidates = refl; text = refl; waiting = refl; nest = refl; scope = refl; at = refl }) begins
     (source-prints false name read.2 (name-unmarked s.bytes at name named.at read.1)) reads.text (
       inside a.goes.0,
@@ -59,7 +45,7 @@ level-begins s old named new first second at a wide letter first_is first_letter
     )
 
 -- its arguments are read
-pub level-closed : (s : Symbol) (w : Direct) (is_dependent : Bool) → IsClosed s w (opens.LevelArguments is_dependent) → AwaitsMember s w is_dependent
+pub level-closed : (s : Symbol) (w : Direct) (is_dependent : Bool) → IsClosed s w (Open.LevelArguments is_dependent) → AwaitsMember s w is_dependent
 level-closed s w is_dependent p = record {
   kept = p.kept;
   outer = p.owns.0;
@@ -78,7 +64,7 @@ level-closed s w is_dependent p = record {
 pub member-read : (s : Symbol) (old mid named : Direct) (is_dependent : Bool) (at end : ℕ) → AwaitsMember s old is_dependent → StandsAt s.bytes old.at (69 ∷ [])
     → at ≡ old.at + 1 → Writes (record old { at = at }) mid (codes "::")
     → (name : List ℕ) × IsNameAt s.bytes mid.at name named.at × (name ≢ []) × Reads mid named (source_text name) → StandsAt s.bytes named.at (69 ∷ [])
-    → end ≡ named.at + 1 → IsWriting s (record named { at = end }) (steps.Value false is_dependent)
+    → end ≡ named.at + 1 → IsWriting s (record named { at = end }) (Step.Value false is_dependent)
 member-read s old mid named is_dependent at end a begins at_is writes read ends end_is =
     let name = read.0 in
     let reads = read.3 in

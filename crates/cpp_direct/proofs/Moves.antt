@@ -1,16 +1,10 @@
 -- The moves of a reader that goes from left to right: a rule opens, its next part is expected, and it closes.
-use Rattle.std.proofs.Common.{◌≡◌, ℕ, ◌+◌, ◌<◌, List, [], ◌∷◌, ◌++◌, length, slice_get, true, not, Some, Result, Ok, Err, refl, ap, subst, ◌∙◌, Bool, false, ◌&&◌, Option, sym, arith}
-use Rattle.std.specs.Prelude.{if◌then◌else◌}
-use Rattle.cpp_direct.specs.AllTerms.{after, alone, alternatives, among, AreTrees, between, byte_of, choose, close, Continuation, cpp, extended, Forest, Found, found, grown, in_ranges, is_chain, is_in, IsTree, Kind, kinds, may_be_empty, named_so_far, Next, nothing, number_of, number_of_kind, NumberKind, opening, parts_of, pick, Production, Refusal, rule_of, spell_all, standing, Sym, symbols_of, TakesRule, Term, Tree, unfold_forest, unfold_tree, wide_alternatives, wide_choose, ◌>>=◌}
-use Rattle.sym_shape.specs.declared.rule.Sym.TheVariants.{Kind as OfKind, Name, Number, Byte}
-use Rattle.cpp_grammar.specs.Values.{State, Around, Value, nothing_there, text, tree, outermost}
+use Rattle.cpp_direct.proofs.Basics.{◌≡◌, ℕ, ◌+◌, ◌<◌, List, [], ◌∷◌, ◌++◌, length, slice_get, true, not, Some, Result, Ok, Err, refl, ap, subst, ◌∙◌, Bool, false, ◌&&◌, Option, sym, arith, if◌then◌else◌, after, alone, alternatives, among, AreTrees, between, byte_of, choose, close, Continuation, cpp, extended, Forest, Found, found, grown, in_ranges, is_chain, is_in, IsTree, Kind, kinds, may_be_empty, named_so_far, Next, nothing, number_of, number_of_kind, NumberKind, opening, parts_of, pick, Production, Refusal, rule_of, spell_all, standing, Sym, symbols_of, TakesRule, Term, Tree, unfold_forest, unfold_tree, wide_alternatives, wide_choose, ◌>>=◌, State, Around, Value, nothing_there, tree, outermost, Symbol, table_by, cpp_language, Awaits, Opened, opened, ReadsRest, StandsAt, Comes, Needs, ExpectsSym, Expects, IsNameAt, IsNumberAt, false≢true, and_parts, not-true, Token, bytes_of, IsNumberToken}
+use Rattle.cpp_grammar.specs.Values.{text}
 use Rattle.cpp_grammar.proofs.ClosedTrees.{at_number, its_symbols}
 use Rattle.cpp_direct.proofs.Tables.{takes-by, empty-by, names-by, arguments-by, tails-by, item-by, first-by}
-use Rattle.cpp_direct.specs.Symbol.{Symbol, table_by}
-use Rattle.cpp_direct.specs.Holes.{cpp_language, Awaits, Opened, opened, ReadsRest, StandsAt, Comes, Needs, ExpectsSym, Expects, IsNameAt, IsNumberAt}
-use Rattle.std.proofs.lemmas.Bool.{false≢true, and_parts, not-true}
-use Rattle.sym_core.specs.Token.{Token, bytes_of, IsNumberToken}
 use Rattle.cpp_direct.proofs.LettersTested.{is_small, small, takes, taken}
+use Rattle.sym_shape.specs.declared.rule.Sym.TheVariants.{Kind as OfKind, Name, Number, Byte}
 use Rattle.cpp_direct.proofs.Tables as tables
 use Rattle.sym_direct.specs.Holes as direct
 use Rattle.sym_direct.proofs.Moves as moves
@@ -54,8 +48,7 @@ begins-so p taken around at st begins f = ap (λ q. opening q f at st) (at_numbe
 -- a kind takes a production: the production's rule is open
 pub opens-by : (s : Symbol) (kind : Kind) (p : Production) (taken : List ℕ) (around : Around) (os : List Opened) (at : ℕ) (st : State)
     → TakesRule (table_by s.is_wide) (number_of_kind kind) (rule_of p) taken → ((f : Forest) → opening p f at st ≡ Ok st)
-    → Expects s kind around os at st → StandsAt s.bytes at taken
-    → Needs s os (standing (rule_of p) taken at around st) [] (parts_of p) (at + length taken) st
+    → Expects s kind around os at st → StandsAt s.bytes at taken → Needs s os (standing (rule_of p) taken at around st) [] (parts_of p) (at + length taken) st
 opens-by s kind p taken around os at st takes begins expects stands =
     subst (λ l. Needs s os (standing (rule_of p) taken at around st) [] l (at + length taken) st) (its_symbols p)
     (moves.opens (cpp_language s) s.bytes (number_of_kind kind) (rule_of p) taken around os at st st takes (begins-so p taken around at st begins) expects stands)
@@ -64,8 +57,7 @@ opens-by s kind p taken around os at st takes begins expects stands =
 pub opens-where : (s : Symbol) (kind : Kind) (p : Production) (byte : ℕ) (taken : List ℕ) (around : Around) (os : List Opened) (at : ℕ) (st : State)
     → choose kind byte ≡ Some p → byte < 256 → taken ≡ (if not (is_chain p) then byte ∷ [] else [])
     → ((f : Forest) → AreTrees (table_by s.is_wide) (parts_of p) f → StandsAt s.bytes (at + length taken) (spell_all f) → opening p f at st ≡ Ok st)
-    → Expects s kind around os at st → StandsAt s.bytes at taken
-    → Needs s os (standing (rule_of p) taken at around st) [] (parts_of p) (at + length taken) st
+    → Expects s kind around os at st → StandsAt s.bytes at taken → Needs s os (standing (rule_of p) taken at around st) [] (parts_of p) (at + length taken) st
 unfolding cpp
 opens-where s kind p byte taken around os at st chosen small takes begins expects stands =
     subst (λ l. Needs s os (standing (rule_of p) taken at around st) [] l (at + length taken) st) (its_symbols p)
@@ -82,13 +74,11 @@ unfoldable pub reads-rule : (s : Symbol) (kind : Kind) (p : Production) (byte : 
 unfolding cpp
 reads-rule s kind p byte taken around at st inner after bytes vs w chosen small takes rest begins closes =
     moves.reads-rule (cpp_language s) s.bytes (number_of_kind kind) (rule_of p) taken around at st st inner after bytes vs w
-    (takes-it s kind p byte taken chosen small takes) rest
-    (ap (λ q. opening q rest.forest at st) (at_number p) ∙ begins)
+    (takes-it s kind p byte taken chosen small takes) rest (ap (λ q. opening q rest.forest at st) (at_number p) ∙ begins)
     (ap (λ q. close q (byte_of taken) around at st vs inner) (at_number p) ∙ closes)
 
 pub goes-so : (p : Production) (taken : List ℕ) (at0 : ℕ) (around : Around) (before : State) (known : List Value) (st : State) (next : Next Value State Around)
-    → ◌≡◌ {A = Continuation} (between p around at0 known st) (Ok next)
-    → cpp.between (standing (rule_of p) taken at0 around before) known st ≡ Ok next
+    → ◌≡◌ {A = Continuation} (between p around at0 known st) (Ok next) → cpp.between (standing (rule_of p) taken at0 around before) known st ≡ Ok next
 unfolding cpp
 goes-so p taken at0 around before known st next goes = ap (λ q. between q around at0 known st) (at_number p) ∙ goes
 
@@ -264,8 +254,7 @@ is_left kind p byte = is_leaver (choose kind byte) p byte
 -- a production that begins well, at a byte that selects it
 pub chosen-byte : (s : Symbol) (kind : Kind) (p : Production) (byte : ℕ) → choose kind byte ≡ Some p → byte < 256 → is_chain p ≡ false
     → ((f : Forest) (at : ℕ) (st : State) → opening p f at st ≡ Ok st) → Taken s kind p (byte ∷ [])
-chosen-byte s kind p byte chosen below chain begun =
-    record { takes_rule = takes-it s kind p byte (byte ∷ []) chosen below (rw chain refl); begins = begun }
+chosen-byte s kind p byte chosen below chain begun = record { takes_rule = takes-it s kind p byte (byte ∷ []) chosen below (rw chain refl); begins = begun }
 
 -- so a production is taken and its byte consumed
 pub eats : (s : Symbol) (kind : Kind) (p : Production) (byte : ℕ) → is_eaten kind p byte ≡ true → Taken s kind p (byte ∷ [])
@@ -293,8 +282,7 @@ unfoldable pub is_eaten_widely : Kind → Production → ℕ → Bool
 unfolding is_eater takes is_small is_untested wide_choose wide_alternatives pick is_in in_ranges among is_chain number_of
 is_eaten_widely kind p byte = is_eater (wide_choose kind byte) p byte
 
-pub eats-widely : (s : Symbol) (kind : Kind) (p : Production) (byte : ℕ) → s.is_wide ≡ true → is_eaten_widely kind p byte ≡ true
-    → Taken s kind p (byte ∷ [])
+pub eats-widely : (s : Symbol) (kind : Kind) (p : Production) (byte : ℕ) → s.is_wide ≡ true → is_eaten_widely kind p byte ≡ true → Taken s kind p (byte ∷ [])
 unfolding is_eaten_widely is_eater takes is_small is_untested wide_choose wide_alternatives pick is_in in_ranges among is_chain number_of
 eats-widely s kind p byte wide is =
     let first = and_parts (takes p (wide_choose kind byte)) (is_small byte && (not (is_chain p) && is_untested p)) is in

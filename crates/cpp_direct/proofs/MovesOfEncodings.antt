@@ -1,30 +1,17 @@
 -- The moves in encodings and in whole symbols: a symbol begins and ends, with a suffix or without, an encoding has a name and items,
 -- and names are nested or not.
-use Rattle.std.proofs.Common.{◌≡◌, ◌≢◌, ℕ, ◌+◌, ◌<◌, length, List, [], ◌∷◌, take, ◌++◌, Bool, true, false, nat_le, ◌||◌, ◌&&◌, cond, None, Some, Ok, refl, ap, sym, subst, ◌∙◌, arith, codes, length-append}
-use Rattle.std.specs.List.{AllByRecursion}
-use Rattle.std.proofs.Math.Nat.{zero-add}
-use Rattle.std.proofs.Math.Seq.{take-append_seam}
-use Rattle.std.proofs.lemmas.Bool.Decides.{nat_tests}
-use Rattle.std.proofs.lemmas.List.{take_all}
-use Rattle.cpp_direct.specs.AllTerms.{adjusting, alone, alternatives, among, any_value, applied, between, by_table, byte_of, choose, clone, close, explicit_object, extended, first_around, first_state, first_tree, in_name, in_ranges, in_std, is_chain, is_in, Kind, lvalue_only, may_be_empty, meaning, named_so_far, non_virtual, number_of_kind, opening, operator, parts_of, pick, Production, RefQualifier, rule_of, rvalue_only, source, standing, StandsFor, Sym, SYMBOL, symbol, Term, thunk, unfold_cpp}
-use Rattle.sym_shape.specs.declared.rule.Sym.TheVariants.{Kind as OfKind}
-use Rattle.cpp_grammar.specs.Values.{State, outermost, Around, Value, nothing_there, letter, piece, text, tree, tree_of, text_of, qualifiers_of, ref_of, signed_of, signed_digits, is_there, mark_of, letter_of, part, piece_of}
-use Rattle.cpp_grammar.specs.Unfolding as unfolding_
-use Rattle.cpp_direct.specs.AllStates.{is_special_letter, is_suffix_byte, mangled_of, special_letters, Symbol}
-use Rattle.cpp_direct.specs.AllHoles.{BaseOpened, Comes, EncodingOpened, Expects, GuardOpened, IsNameAt, IsOffsetAt, IsSuffix, Named, NestOpened, Opened, SpecialOpened, StandsAt, SymbolOpened, TableOpened, const_letter, cpp_language, nest_marks, opened}
-use Rattle.sym_direct.specs.Holes as direct
+use Rattle.cpp_direct.proofs.AllGround.{◌≡◌, ◌≢◌, ℕ, ◌+◌, ◌<◌, length, List, [], ◌∷◌, take, ◌++◌, Bool, true, false, nat_le, ◌||◌, ◌&&◌, cond, None, Some, Ok, refl, ap, sym, subst, ◌∙◌, arith, codes, length-append, AllByRecursion, zero-add, take-append_seam, nat_tests, take_all, adjusting, alone, alternatives, among, any_value, applied, between, by_table, byte_of, choose, clone, close, explicit_object, extended, first_around, first_state, first_tree, in_name, in_ranges, in_std, is_chain, is_in, Kind, lvalue_only, may_be_empty, meaning, named_so_far, non_virtual, number_of_kind, opening, operator, parts_of, pick, Production, RefQualifier, rule_of, rvalue_only, source, standing, StandsFor, Sym, SYMBOL, symbol, Term, thunk, unfold_cpp, State, outermost, Around, Value, nothing_there, letter, piece, tree, tree_of, qualifiers_of, ref_of, signed_of, signed_digits, is_there, mark_of, letter_of, part, piece_of, is_special_letter, is_suffix_byte, mangled_of, special_letters, Symbol, BaseOpened, Comes, EncodingOpened, Expects, GuardOpened, IsNameAt, IsOffsetAt, IsSuffix, Named, NestOpened, Opened, SpecialOpened, StandsAt, SymbolOpened, TableOpened, const_letter, cpp_language, nest_marks, opened, named-by, named-outside, operator-fills, integer-fills, stands-by, unfolding_behind}
+use Rattle.cpp_grammar.specs.Values.{text, text_of}
 use Rattle.cpp_direct.proofs.Moves.{awaited, digits-fill, Hole, Filled, hole, open_at, fill, filled-at, hole-at, chosen-byte, eats, eats-widely, leaves, is_eaten, is_eaten_widely, byte-opens, chain-opens, byte-fills, next-part, closes, none-fills, fixed-fills, name-fills, first-named, is_left, stands-split}
 use Rattle.cpp_direct.proofs.LettersTested.{each_passes, tested, IsOperator}
-use Rattle.cpp_direct.proofs.MovesOfNests.{named-by, named-outside, operator-fills}
-use Rattle.cpp_direct.proofs.MovesOfLists.{integer-fills}
-use Rattle.cpp_direct.proofs.Tables.{stands-by}
+use Rattle.sym_direct.specs.Holes as direct
 
 -- ## Encodings
 
 -- an encoding begins with its name, after which its items are expected
 pub encoding-opens : (s : Symbol) (os : List Opened) (around : Around) (at : ℕ) (st : State)
     → Expects s Kind.Encoding around os at st → EncodingOpened s os at st
-unfolding is_eaten is_left number_of_kind parts_of between close unfolding_.behind meaning part byte_of tree_of text_of piece_of letter_of is_there
+unfolding is_eaten is_left number_of_kind parts_of between close unfolding_behind meaning part byte_of tree_of text_of piece_of letter_of is_there
 encoding-opens s os around at st expects =
     let p = Production.Encoding in
     let name = chain-opens (leaves s Kind.Encoding p 48 refl) (hole s Kind.Encoding around os at st expects) refl refl in
@@ -34,15 +21,15 @@ encoding-opens s os around at st expects =
 
 -- what follows the T of a special name
 special-expected : (s : Symbol) (os : List Opened) (around : Around) (at : ℕ) (st : State) → Expects s Kind.Encoding around os at st → StandsAt s.bytes at (84 ∷ [])
-    → Hole s (OfKind (number_of_kind Kind.Special)) (in_name at) (opened (standing (rule_of Production.Special) (84 ∷ []) at around st) [] [] ∷ os) (at + 1) st
-unfolding is_eaten number_of_kind parts_of between close unfolding_.behind meaning part byte_of tree_of text_of piece_of letter_of is_there
+    → Hole s (Sym.Kind (number_of_kind Kind.Special)) (in_name at) (opened (standing (rule_of Production.Special) (84 ∷ []) at around st) [] [] ∷ os) (at + 1) st
+unfolding is_eaten number_of_kind parts_of between close unfolding_behind meaning part byte_of tree_of text_of piece_of letter_of is_there
 special-expected s os around at st expects stands =
     byte-opens (eats s Kind.Encoding Production.Special 84 refl) (hole s Kind.Encoding around os at st expects) stands refl refl
 
 -- a special object begins with a T and its letter, and expects its type
 pub special-opens : (s : Symbol) (os : List Opened) (around : Around) (b at : ℕ) (st : State) → is_special_letter b ≡ true
     → Expects s Kind.Encoding around os at st → StandsAt s.bytes at (84 ∷ b ∷ []) → SpecialOpened s os at b (at + 2) st
-unfolding is_eaten number_of_kind parts_of between close unfolding_.behind meaning part byte_of tree_of text_of piece_of letter_of is_there is_special_letter each_passes
+unfolding is_eaten number_of_kind parts_of between close unfolding_behind meaning part byte_of tree_of text_of piece_of letter_of is_there is_special_letter each_passes
 special-opens s os around b at st is expects stands =
     let p = Production.SpecialType in
     let places = stands-split s.bytes at (84 ∷ []) (b ∷ []) stands in
@@ -53,7 +40,7 @@ special-opens s os around b at st is expects stands =
 -- in the wide grammar a construction table begins with TC, and expects its derived class
 pub table-opens : (s : Symbol) (os : List Opened) (around : Around) (at : ℕ) (st : State) → s.is_wide ≡ true
     → Expects s Kind.Encoding around os at st → StandsAt s.bytes at (84 ∷ 67 ∷ []) → TableOpened s os at (at + 2) st
-unfolding is_eaten is_eaten_widely number_of_kind parts_of between close unfolding_.behind meaning part byte_of tree_of text_of piece_of letter_of is_there
+unfolding is_eaten is_eaten_widely number_of_kind parts_of between close unfolding_behind meaning part byte_of tree_of text_of piece_of letter_of is_there
 table-opens s os around at st wide expects stands =
     let p = Production.ConstructionVtable in
     let places = stands-split s.bytes at (84 ∷ []) (67 ∷ []) stands in
@@ -69,20 +56,19 @@ table-opens s os around at st wide expects stands =
 pub thunk-opens : (s : Symbol) (os : List Opened) (around : Around) (at end : ℕ) (st : State) → Expects s Kind.Encoding around os at st
     → StandsAt s.bytes at (84 ∷ []) → StandsAt s.bytes (at + 1) (104 ∷ []) → (is : IsOffsetAt s.bytes (at + 1 + 1) end)
     → BaseOpened s os at (thunk (adjusting (non_virtual (signed_digits is.negative is.digits)))) end st
-unfolding is_eaten number_of_kind parts_of between close unfolding_.behind meaning part byte_of tree_of text_of piece_of letter_of is_there signed_of
+unfolding is_eaten number_of_kind parts_of between close unfolding_behind meaning part byte_of tree_of text_of piece_of letter_of is_there signed_of
 thunk-opens s os around at end st expects first second is =
     let p = Production.NonVirtualThunk in
     let number = byte-opens (eats s Kind.Special p 104 refl) (special-expected s os around at st expects first) second refl refl in
     let line = next-part p (integer-fills is.negative is.digits is.behind number is.minus is.number) refl in
     let encoding = next-part p (filled-at end (fixed-fills line is.line) (sym is.ends)) refl in
-    awaited encoding
-    (λ e here now comes. (closes Production.Special (closes p (fill encoding (tree e true) here now comes) refl) refl).comes)
+    awaited encoding (λ e here now comes. (closes Production.Special (closes p (fill encoding (tree e true) here now comes) refl) refl).comes)
 
 -- a virtual thunk begins with a T, a v and two offsets
 pub virtual-thunk-opens : (s : Symbol) (os : List Opened) (around : Around) (at middle end : ℕ) (st : State) → Expects s Kind.Encoding around os at st
     → StandsAt s.bytes at (84 ∷ []) → StandsAt s.bytes (at + 1) (118 ∷ []) → (is : IsOffsetAt s.bytes (at + 1 + 1) middle) (then_ : IsOffsetAt s.bytes middle end)
     → BaseOpened s os at (thunk (adjusting (by_table (signed_digits is.negative is.digits) (signed_digits then_.negative then_.digits)))) end st
-unfolding is_eaten number_of_kind parts_of between close unfolding_.behind meaning part byte_of tree_of text_of piece_of letter_of is_there signed_of
+unfolding is_eaten number_of_kind parts_of between close unfolding_behind meaning part byte_of tree_of text_of piece_of letter_of is_there signed_of
 virtual-thunk-opens s os around at middle end st expects first second is then_ =
     let p = Production.VirtualThunk in
     let number = byte-opens (eats s Kind.Special p 118 refl) (special-expected s os around at st expects first) second refl refl in
@@ -90,16 +76,15 @@ virtual-thunk-opens s os around at middle end st expects first second is then_ =
     let other = next-part p (filled-at middle (fixed-fills line is.line) (sym is.ends)) refl in
     let other_line = next-part p (integer-fills then_.negative then_.digits then_.behind other then_.minus then_.number) refl in
     let encoding = next-part p (filled-at end (fixed-fills other_line then_.line) (sym then_.ends)) refl in
-    awaited encoding
-    (λ e here now comes. (closes Production.Special (closes p (fill encoding (tree e true) here now comes) refl) refl).comes)
+    awaited encoding (λ e here now comes. (closes Production.Special (closes p (fill encoding (tree e true) here now comes) refl) refl).comes)
 
 -- ## After a G
 
 -- what follows the G of a special name
 other-expected : (s : Symbol) (os : List Opened) (around : Around) (at : ℕ) (st : State) → Expects s Kind.Encoding around os at st → StandsAt s.bytes at (71 ∷ [])
-    → Hole s (OfKind (number_of_kind Kind.SpecialAfterG)) (in_name at)
+    → Hole s (Sym.Kind (number_of_kind Kind.SpecialAfterG)) (in_name at)
     (opened (standing (rule_of Production.OtherSpecial) [] at around st) (letter 71 ∷ []) [] ∷ os) (at + 1) st
-unfolding is_eaten is_left number_of_kind parts_of between close unfolding_.behind meaning part byte_of tree_of text_of piece_of letter_of is_there
+unfolding is_eaten is_left number_of_kind parts_of between close unfolding_behind meaning part byte_of tree_of text_of piece_of letter_of is_there
 other-expected s os around at st expects stands =
     let p = Production.OtherSpecial in
     let mark = chain-opens (leaves s Kind.Encoding p 71 refl) (hole s Kind.Encoding around os at st expects) refl refl in
@@ -108,18 +93,17 @@ other-expected s os around at st expects stands =
 -- a guard variable begins with GV, and expects the name of what it guards
 pub guard-opens : (s : Symbol) (os : List Opened) (around : Around) (at : ℕ) (st : State)
     → Expects s Kind.Encoding around os at st → StandsAt s.bytes at (71 ∷ 86 ∷ []) → GuardOpened s os at (at + 2) st
-unfolding is_eaten number_of_kind parts_of between close unfolding_.behind meaning part byte_of tree_of text_of piece_of letter_of is_there qualifiers_of ref_of
+unfolding is_eaten number_of_kind parts_of between close unfolding_behind meaning part byte_of tree_of text_of piece_of letter_of is_there qualifiers_of ref_of
 guard-opens s os around at st expects stands =
     let q = Production.SpecialName in
     let places = stands-split s.bytes at (71 ∷ []) (86 ∷ []) stands in
     let name = byte-opens (eats s Kind.SpecialAfterG q 86 refl) (other-expected s os around at st expects places.0) places.1 refl refl in
-    awaited (hole-at (at + 2) name (omega arith))
-    (λ v here now comes. (closes Production.OtherSpecial (closes q (fill name v here now comes) refl) refl).comes)
+    awaited (hole-at (at + 2) name (omega arith)) (λ v here now comes. (closes Production.OtherSpecial (closes q (fill name v here now comes) refl) refl).comes)
 
 -- in the wide grammar a clone begins with GT and its letter, and expects the encoding that it is a clone of
 pub clone-opens : (s : Symbol) (os : List Opened) (around : Around) (b at : ℕ) (st : State) → s.is_wide ≡ true → is_eaten Kind.CloneLetter Production.Mark b ≡ true
     → Expects s Kind.Encoding around os at st → StandsAt s.bytes at (71 ∷ 84 ∷ b ∷ []) → BaseOpened s os at (clone b) (at + 3) st
-unfolding is_eaten is_eaten_widely number_of_kind parts_of between close unfolding_.behind meaning part byte_of tree_of text_of piece_of letter_of is_there
+unfolding is_eaten is_eaten_widely number_of_kind parts_of between close unfolding_behind meaning part byte_of tree_of text_of piece_of letter_of is_there
 clone-opens s os around b at st wide is expects stands =
     let q = Production.Clone in
     let places = stands-split s.bytes at (71 ∷ []) (84 ∷ b ∷ []) stands in
@@ -134,9 +118,9 @@ clone-opens s os around b at st wide is expects stands =
 -- the parts of a nested name: const where its third part is present, and called on what its fourth says
 nest-goes : (s : Symbol) (os : List Opened) (around : Around) (q r : Value) (at : ℕ) (st : State) (here : ℕ) (now : State)
     → Filled s (opened (standing (rule_of Production.NestedName) (78 ∷ []) at around st) (nothing_there ∷ nothing_there ∷ q ∷ [])
-    (OfKind (number_of_kind Kind.Nest) ∷ []) ∷ os) r here now
+    (Sym.Kind (number_of_kind Kind.Nest) ∷ []) ∷ os) r here now
     → NestOpened s os around (is_there q) (mark_of r) here now
-unfolding is_eaten number_of_kind parts_of between close unfolding_.behind meaning part byte_of tree_of text_of piece_of letter_of is_there mark_of
+unfolding is_eaten number_of_kind parts_of between close unfolding_behind meaning part byte_of tree_of text_of piece_of letter_of is_there mark_of
 nest-goes s os around q r at st here now f =
     let p = Production.NestedName in
     let nest = next-part p f refl in
@@ -156,11 +140,11 @@ quality-is false = refl
 nested-opens : (s : Symbol) (kind : Kind) (os : List Opened) (around : Around) (const : Bool) (on : RefQualifier) (at : ℕ) (st : State)
     → is_eaten kind Production.NestedName 78 ≡ true → on ≢ explicit_object → Expects s kind around os at st → StandsAt s.bytes at (nest_marks const on)
     → NestOpened s os around const on (at + length (nest_marks const on)) st
-unfolding is_eaten number_of_kind parts_of between close unfolding_.behind meaning part byte_of tree_of text_of piece_of letter_of is_there mark_of may_be_empty
+unfolding is_eaten number_of_kind parts_of between close unfolding_behind meaning part byte_of tree_of text_of piece_of letter_of is_there mark_of may_be_empty
 nested-opens s kind os around const on at st taken other expects stands = go on other stands
   where
     part_of : Kind → Sym
-    part_of k = OfKind (number_of_kind k)
+    part_of k = Sym.Kind (number_of_kind k)
 
     within : (known : List Value) → (todo : List Sym) → List Opened
     within known todo = opened (standing (rule_of Production.NestedName) (78 ∷ []) at around st) known todo ∷ os
@@ -217,7 +201,7 @@ entity-nested s os around const on at st other expects stands = nested-opens s K
 pub name-source : (s : Symbol) (os : List Opened) (around : Around) (at : ℕ) (name : List ℕ) (end : ℕ) (st : State)
     → Expects s Kind.CompleteName around os at st → around.prefix ≡ outermost → IsNameAt s.bytes at name end
     → Named s os around (alone (source false name)) end st
-unfolding is_eaten is_left number_of_kind parts_of between close unfolding_.behind meaning part byte_of tree_of text_of piece_of letter_of is_there named_so_far extended
+unfolding is_eaten is_left number_of_kind parts_of between close unfolding_behind meaning part byte_of tree_of text_of piece_of letter_of is_there named_so_far extended
 name-source s os around at name end st expects first is =
     let p = Production.SourceName in
     let own = chain-opens (leaves s Kind.CompleteName p 48 refl) (hole s Kind.CompleteName around os at st expects) refl refl in
@@ -227,7 +211,7 @@ name-source s os around at name end st expects first is =
 pub name-internal : (s : Symbol) (os : List Opened) (around : Around) (at : ℕ) (name : List ℕ) (end : ℕ) (st : State)
     → Expects s Kind.CompleteName around os at st → around.prefix ≡ outermost → StandsAt s.bytes at (76 ∷ []) → IsNameAt s.bytes (at + 1) name end
     → Named s os around (alone (source true name)) end st
-unfolding is_eaten number_of_kind parts_of between close unfolding_.behind meaning part byte_of tree_of text_of piece_of letter_of is_there named_so_far extended
+unfolding is_eaten number_of_kind parts_of between close unfolding_behind meaning part byte_of tree_of text_of piece_of letter_of is_there named_so_far extended
 name-internal s os around at name end st expects first stands is =
     let p = Production.InternalName in
     let own = byte-opens (eats s Kind.CompleteName p 76 refl) (hole s Kind.CompleteName around os at st expects) stands refl refl in
@@ -237,7 +221,7 @@ name-internal s os around at name end st expects first stands is =
 pub name-operator : (s : Symbol) (os : List Opened) (around : Around) (at : ℕ) (st : State) (first second : ℕ) → IsOperator first second
     → Expects s Kind.CompleteName around os at st → around.prefix ≡ outermost → StandsAt s.bytes at (first ∷ second ∷ [])
     → Named s os around (alone (operator first second)) (at + 2) st
-unfolding is_eaten is_left number_of_kind parts_of between close unfolding_.behind meaning part byte_of tree_of text_of piece_of letter_of is_there named_so_far extended
+unfolding is_eaten is_left number_of_kind parts_of between close unfolding_behind meaning part byte_of tree_of text_of piece_of letter_of is_there named_so_far extended
 name-operator s os around at st first second is expects outside stands =
     let p = Production.OperatorName in
     let code = chain-opens (leaves s Kind.CompleteName p 110 refl) (hole s Kind.CompleteName around os at st expects) refl refl in
@@ -247,7 +231,7 @@ name-operator s os around at st first second is expects outside stands =
 -- an operator as the name of an entity
 pub operator-piece-comes : (s : Symbol) (os : List Opened) (around : Around) (at : ℕ) (st : State) (first second : ℕ) → IsOperator first second
     → Expects s Kind.Unqualified around os at st → StandsAt s.bytes at (first ∷ second ∷ []) → Comes s os (piece (operator first second)) (at + 2) st
-unfolding is_eaten is_left number_of_kind parts_of between close unfolding_.behind meaning part byte_of tree_of text_of piece_of letter_of is_there
+unfolding is_eaten is_left number_of_kind parts_of between close unfolding_behind meaning part byte_of tree_of text_of piece_of letter_of is_there
 operator-piece-comes s os around at st first second is expects stands =
     let p = Production.OperatorPiece in
     let code = chain-opens (leaves s Kind.Unqualified p 110 refl) (hole s Kind.Unqualified around os at st expects) refl refl in
@@ -256,9 +240,8 @@ operator-piece-comes s os around at st first second is expects stands =
 -- an entity of std
 pub name-std : (s : Symbol) (os : List Opened) (around : Around) (at : ℕ) (q : Term) (end : ℕ) (st : State)
     → Expects s Kind.CompleteName around os at st → StandsAt s.bytes at (83 ∷ 116 ∷ [])
-    → ((inner : List Opened) → Expects s Kind.Unqualified around inner (at + 2) st → Comes s inner (piece q) end st)
-    → Named s os around (in_std q) end st
-unfolding is_eaten number_of_kind parts_of between close unfolding_.behind meaning part byte_of tree_of text_of piece_of letter_of is_there named_so_far applied
+    → ((inner : List Opened) → Expects s Kind.Unqualified around inner (at + 2) st → Comes s inner (piece q) end st) → Named s os around (in_std q) end st
+unfolding is_eaten number_of_kind parts_of between close unfolding_behind meaning part byte_of tree_of text_of piece_of letter_of is_there named_so_far applied
 name-std s os around at q end st expects here comes =
     let o = Production.NameWithS in
     let p = Production.StdName in
@@ -289,7 +272,7 @@ suffix-byte b is =
 more-comes : (s : Symbol) (bs : List ℕ) (os : List Opened) (around : Around) (at : ℕ) (st : State)
     → AllByRecursion (λ c. is_suffix_byte c ≡ true) bs → Expects s Kind.SuffixMore around os at st → StandsAt s.bytes at bs
     → (v : Value) × (text_of v ≡ bs) × Comes s os v (at + length bs) st
-unfolding is_eaten number_of_kind parts_of may_be_empty between opening close unfolding_.behind meaning part byte_of tree_of text_of piece_of letter_of is_there is_chain
+unfolding is_eaten number_of_kind parts_of may_be_empty between opening close unfolding_behind meaning part byte_of tree_of text_of piece_of letter_of is_there is_chain
 more-comes s [] os around at st each expects stands =
     (nothing_there, refl, (filled-at (at + 0) (none-fills Kind.SuffixMore (hole s Kind.SuffixMore around os at st expects) refl) (omega arith)).comes)
 more-comes s (b ∷ bs) os around at st each expects stands =
@@ -306,7 +289,7 @@ more-comes s (b ∷ bs) os around at st each expects stands =
 -- a suffix is read
 pub suffix-comes : (s : Symbol) (suffix : List ℕ) (os : List Opened) (around : Around) (at : ℕ) (st : State)
     → IsSuffix suffix → Expects s Kind.MaybeSuffix around os at st → StandsAt s.bytes at suffix → Comes s os (text suffix) (at + length suffix) st
-unfolding is_eaten number_of_kind parts_of between opening close unfolding_.behind meaning part byte_of tree_of text_of piece_of letter_of is_there is_chain
+unfolding is_eaten number_of_kind parts_of between opening close unfolding_behind meaning part byte_of tree_of text_of piece_of letter_of is_there is_chain
 suffix-comes s [] os around at st is expects stands = absurd is
 suffix-comes s (d ∷ []) os around at st is expects stands = absurd is
 suffix-comes s (d ∷ b ∷ bs) os around at st is expects stands =
@@ -329,7 +312,7 @@ unfolding number_of_kind
 symbol-expected s bytes vs end reads stands =
     let front : take (0 + length bytes) s.bytes ≡ bytes =
     ap (λ n. take n s.bytes) (zero-add (length bytes)) ∙ ap (take (length bytes)) stands.1 ∙ take-append_seam bytes stands.0 in
-    subst (λ l. direct.Reads (cpp_language s) s.bytes (OfKind SYMBOL) first_around 0 l first_state vs end) (sym front) reads
+    subst (λ l. direct.Reads (cpp_language s) s.bytes (Sym.Kind SYMBOL) first_around 0 l first_state vs end) (sym front) reads
 
 -- what was read is the symbol
 symbol-read : (s : Symbol) (t : Term) (end : State) → Comes s [] (tree t true) (length s.bytes) end → StandsFor (mangled_of s) s.bytes (Ok t)
@@ -339,7 +322,7 @@ symbol-read s t end reads =
 
 -- a symbol begins with _Z and its encoding, and ends there or with a suffix
 pub symbol-starts : (s : Symbol) → StandsAt s.bytes 0 (95 ∷ 90 ∷ []) → SymbolOpened s
-unfolding is_eaten number_of_kind parts_of may_be_empty between close unfolding_.behind meaning part byte_of tree_of text_of piece_of letter_of is_there
+unfolding is_eaten number_of_kind parts_of may_be_empty between close unfolding_behind meaning part byte_of tree_of text_of piece_of letter_of is_there
 symbol-starts s stands =
     let p = Production.Symbol in
     let places = stands-split s.bytes 0 (95 ∷ []) (90 ∷ []) stands in

@@ -1,13 +1,7 @@
 -- The moves in lists of arguments and of items: arguments are opened and closed, and a list continues after each of its
 -- elements, also after a member of an instance of a template.
-use Rattle.std.proofs.Common.{◌≡◌, ℕ, ◌+◌, ◌⊎◌, inl, inr, length, List, [], ◌∷◌, Bool, true, false, nat_eq, Ok, refl, ap, subst, arith}
-use Rattle.sym_shape.specs.declared.rule.Sym.TheVariants.{Kind as OfKind}
-use Rattle.cpp_direct.specs.AllTerms.{after, appended, applied, between, boolean, builtin, byte_of, close, Continuation, enclosed_argument, ends_arguments, extended, inside, integer, is_code, Kind, list, may_be_empty, meaning, no_items, number_of_kind, Operation, operation_by, operation_or_address, pack, parts_of, Production, rule_of, standing, Term, with_prefix, with_type}
-use Rattle.cpp_grammar.specs.Values.{State, Around, signed, tree, tree_of, is_listed, signed_of, signed_digits, prefix_tree, prefix_listed, part, Value, is_there, letter_of, piece_of, text_of, text, outermost}
-use Rattle.cpp_grammar.specs.Unfolding as unfolding_
-use Rattle.cpp_direct.specs.AllStates.{integer_letters, is_integer_letter, Symbol}
-use Rattle.cpp_direct.specs.Holes.{Awaits}
-use Rattle.cpp_direct.specs.AllHoles.{AddressOpened, ArgumentsOpened, AwaitsElement, AwaitsElementAs, Comes, EnumeratorOpened, Expects, IsArgumentKind, IsDigitsAt, IsListKind, ListGoesOn, LiteralOpened, Opened, PackOpened, StandsAt, minus_sign, opened, unless_listed, with_candidate, IsNameAt, LevelOpened, template_named}
+use Rattle.cpp_direct.proofs.Basics.{◌≡◌, ℕ, ◌+◌, ◌⊎◌, inl, inr, length, List, [], ◌∷◌, Bool, true, false, nat_eq, Ok, refl, ap, subst, arith, after, appended, applied, between, boolean, builtin, byte_of, close, Continuation, enclosed_argument, ends_arguments, extended, inside, integer, is_code, Kind, list, may_be_empty, meaning, no_items, number_of_kind, Operation, operation_by, operation_or_address, pack, parts_of, Production, rule_of, standing, Term, with_prefix, with_type, State, Around, signed, tree, tree_of, is_listed, signed_of, signed_digits, prefix_tree, prefix_listed, part, Value, is_there, letter_of, piece_of, outermost, integer_letters, is_integer_letter, Symbol, Awaits, AddressOpened, ArgumentsOpened, AwaitsElement, AwaitsElementAs, Comes, EnumeratorOpened, Expects, IsArgumentKind, IsDigitsAt, IsListKind, ListGoesOn, LiteralOpened, Opened, PackOpened, StandsAt, minus_sign, opened, unless_listed, with_candidate, IsNameAt, LevelOpened, template_named, Sym, unfolding_behind}
+use Rattle.cpp_grammar.specs.Values.{text_of, text}
 use Rattle.cpp_direct.proofs.LettersTested.{each_passes, tested}
 use Rattle.cpp_direct.proofs.Tables.{lists-by}
 use Rattle.cpp_direct.proofs.Moves.{any-argument, awaited, comes-alike, fewer, hole-of, Hole, Filled, hole, open_at, fill, eats, leaves, is_eaten, byte-opens, chain-opens, byte-fills, next-part, closes, fixed-fills, is_left, stands-split, digits-fill, filled-at, hole-at, came, eats-widely, is_eaten_widely, name-fills, none-fills}
@@ -25,7 +19,7 @@ prefix-listed t false around at st = refl
 pub arguments-open : (s : Symbol) (os : List Opened) (around : Around) (t : Term) (listed : Bool) (at : ℕ) (st : State)
     → Expects s Kind.ArgumentsAlone (after t listed around) os at st → StandsAt s.bytes at (73 ∷ [])
     → ArgumentsOpened s os around (at + 1) (unless_listed listed around t st)
-unfolding is_eaten number_of_kind parts_of between close unfolding_.behind meaning part byte_of tree_of text_of piece_of letter_of is_there
+unfolding is_eaten number_of_kind parts_of between close unfolding_behind meaning part byte_of tree_of text_of piece_of letter_of is_there
 arguments-open s os around t listed at st expects stands =
     let p = Production.Arguments in
     let first = byte-opens (eats s Kind.ArgumentsAlone p 73 refl) (hole s Kind.ArgumentsAlone (after t listed around) os at st expects) stands refl
@@ -37,7 +31,7 @@ arguments-open s os around t listed at st expects stands =
 
 -- a list continues where its rest is expected
 goes-on : {s : Symbol} {kind : Kind} {around : Around} {inner outer : List Opened} {at : ℕ} {st : State} (t : Term)
-    → Hole s (OfKind (number_of_kind kind)) around inner at st
+    → Hole s (Sym.Kind (number_of_kind kind)) around inner at st
     → ((l : Value) (to : ℕ) (now : State) → Filled s inner l to now → Filled s outer (tree (list t (no_items l)) true) to now)
     → ListGoesOn s kind outer around t at st
 goes-on t h closed = awaited h (λ l to now comes. (closed l to now (fill h l to now comes)).comes)
@@ -46,17 +40,15 @@ goes-on t h closed = awaited h (λ l to now comes. (closed l to now (fill h l to
 pub argument-awaits : (s : Symbol) (kind : Kind) (os : List Opened) (around : Around) (at : ℕ) (st : State) (listed : Bool)
     → IsArgumentKind kind → Expects s kind around os at st
     → Awaits s Kind.Argument around at st (λ inner. (t : Term) (at : ℕ) (st : State) → Comes s inner (tree t listed) at st → ListGoesOn s kind os around t at st)
-unfolding is_eaten is_left number_of_kind parts_of between close unfolding_.behind meaning part byte_of tree_of text_of piece_of letter_of is_there
+unfolding is_eaten is_left number_of_kind parts_of between close unfolding_behind meaning part byte_of tree_of text_of piece_of letter_of is_there
 argument-awaits s Kind.ArgumentList os around at st listed is expects =
     let p = Production.AnyArgument in
     let one = chain-opens (leaves s Kind.ArgumentList p 80 refl) (hole s Kind.ArgumentList around os at st expects) refl refl in
-    awaited one
-    (λ t here now comes. goes-on t (next-part p (fill one (tree t listed) here now comes) refl) (λ l to later last. closes p last refl))
+    awaited one (λ t here now comes. goes-on t (next-part p (fill one (tree t listed) here now comes) refl) (λ l to later last. closes p last refl))
 argument-awaits s Kind.PackList os around at st listed is expects =
     let p = Production.AnyElement in
     let one = chain-opens (leaves s Kind.PackList p 80 refl) (hole s Kind.PackList around os at st expects) refl refl in
-    awaited one
-    (λ t here now comes. goes-on t (next-part p (fill one (tree t listed) here now comes) refl) (λ l to later last. closes p last refl))
+    awaited one (λ t here now comes. goes-on t (next-part p (fill one (tree t listed) here now comes) refl) (λ l to later last. closes p last refl))
 argument-awaits s _ os around at st listed is expects = absurd is
 
 pub listed-awaits : (s : Symbol) (kind : Kind) (os : List Opened) (around : Around) (at : ℕ) (st : State)
@@ -71,7 +63,7 @@ type-awaits s kind os around at st e = record { inner = e.inner; awaits = any-ar
 -- expects an element of a list of arguments or items, which is a type
 pub element-awaits : (s : Symbol) (kind : Kind) (os : List Opened) (around : Around) (at : ℕ) (st : State)
     → IsListKind kind → Expects s kind around os at st → AwaitsElement s kind os around at st
-unfolding is_eaten is_left number_of_kind parts_of between close unfolding_.behind meaning part byte_of tree_of text_of piece_of letter_of is_there
+unfolding is_eaten is_left number_of_kind parts_of between close unfolding_behind meaning part byte_of tree_of text_of piece_of letter_of is_there
 element-awaits s Kind.ArgumentList os around at st list_kind expects =
     type-awaits s Kind.ArgumentList os around at st (listed-awaits s Kind.ArgumentList os around at st tt expects)
 element-awaits s Kind.PackList os around at st list_kind expects =
@@ -79,15 +71,13 @@ element-awaits s Kind.PackList os around at st list_kind expects =
 element-awaits s Kind.Items os around at st list_kind expects =
     let p = Production.Items in
     let one = chain-opens (leaves s Kind.Items p 80 refl) (hole s Kind.Items around os at st expects) refl refl in
-    awaited one
-    (λ t here now comes. goes-on t (next-part p (fill one (tree t true) here now comes) refl) (λ l to later last. closes p last refl))
+    awaited one (λ t here now comes. goes-on t (next-part p (fill one (tree t true) here now comes) refl) (λ l to later last. closes p last refl))
 element-awaits s _ os around at st list_kind expects = absurd list_kind
 
 -- an argument that is a literal begins with an L, and ends with an E
 pub literal-opens : (s : Symbol) (kind : Kind) (os : List Opened) (around : Around) (at : ℕ) (st : State) → IsArgumentKind kind
-    → Expects s kind around os at st → StandsAt s.bytes at (76 ∷ [])
-    → LiteralOpened s kind os around (at + 1) st
-unfolding is_eaten number_of_kind parts_of between close unfolding_.behind meaning part byte_of tree_of text_of piece_of letter_of is_there
+    → Expects s kind around os at st → StandsAt s.bytes at (76 ∷ []) → LiteralOpened s kind os around (at + 1) st
+unfolding is_eaten number_of_kind parts_of between close unfolding_behind meaning part byte_of tree_of text_of piece_of letter_of is_there
 literal-opens s Kind.ArgumentList os around at st is expects stands =
     let p = Production.LiteralArgument in
     let one = byte-opens (eats s Kind.ArgumentList p 76 refl) (hole s Kind.ArgumentList around os at st expects) stands refl refl in
@@ -103,7 +93,7 @@ literal-opens s _ os around at st is expects stands = absurd is
 -- an argument that is a pack begins with a J, and ends with an E
 pub pack-opens : (s : Symbol) (os : List Opened) (around : Around) (at : ℕ) (st : State)
     → Expects s Kind.ArgumentList around os at st → StandsAt s.bytes at (74 ∷ []) → PackOpened s os around (at + 1) st
-unfolding is_eaten number_of_kind parts_of between close unfolding_.behind meaning part byte_of tree_of text_of piece_of letter_of is_there
+unfolding is_eaten number_of_kind parts_of between close unfolding_behind meaning part byte_of tree_of text_of piece_of letter_of is_there
 pack-opens s os around at st expects stands =
     let p = Production.PackArgument in
     let one = byte-opens (eats s Kind.ArgumentList p 74 refl) (hole s Kind.ArgumentList around os at st expects) stands refl refl in
@@ -114,9 +104,8 @@ pack-opens s os around at st expects stands =
 
 -- an argument that is a boolean
 pub bool-element : (s : Symbol) (kind : Kind) (os : List Opened) (around : Around) (d at : ℕ) (st : State) → IsArgumentKind kind → (d ≡ 48) ⊎ (d ≡ 49)
-    → Expects s kind around os at st → StandsAt s.bytes at (76 ∷ 98 ∷ d ∷ 69 ∷ [])
-    → ListGoesOn s kind os around (boolean (nat_eq d 49)) (at + 4) st
-unfolding is_eaten number_of_kind parts_of between close unfolding_.behind meaning part byte_of tree_of text_of piece_of letter_of is_there
+    → Expects s kind around os at st → StandsAt s.bytes at (76 ∷ 98 ∷ d ∷ 69 ∷ []) → ListGoesOn s kind os around (boolean (nat_eq d 49)) (at + 4) st
+unfolding is_eaten number_of_kind parts_of between close unfolding_behind meaning part byte_of tree_of text_of piece_of letter_of is_there
 bool-element s kind os around d at st is bit expects stands =
     let p = Production.BoolLiteral in
     let first = stands-split s.bytes at (76 ∷ []) (98 ∷ d ∷ 69 ∷ []) stands in
@@ -133,9 +122,9 @@ bool-element s kind os around d at st is bit expects stands =
 
 -- an integer
 pub integer-fills : {s : Symbol} {around : Around} {os : List Opened} {at : ℕ} {st : State} (negative : Bool) (digits : List ℕ) (end : ℕ)
-    → Hole s (OfKind (number_of_kind Kind.Integer)) around os at st → StandsAt s.bytes at (minus_sign negative)
+    → Hole s (Sym.Kind (number_of_kind Kind.Integer)) around os at st → StandsAt s.bytes at (minus_sign negative)
     → IsDigitsAt s.bytes (at + length (minus_sign negative)) digits end → Filled s os (signed (signed_digits negative digits)) end st
-unfolding is_eaten is_left number_of_kind parts_of between close unfolding_.behind meaning part byte_of tree_of text_of piece_of letter_of is_there
+unfolding is_eaten is_left number_of_kind parts_of between close unfolding_behind meaning part byte_of tree_of text_of piece_of letter_of is_there
 integer-fills {s = s} true digits end h stands is =
     let p = Production.Negative in
     closes p (digits-fill digits end (byte-opens (eats s Kind.Integer p 110 refl) h stands refl refl) is) refl
@@ -149,7 +138,7 @@ pub integer-element : (s : Symbol) (kind : Kind) (os : List Opened) (around : Ar
     → IsArgumentKind kind → is_integer_letter b ≡ true → Expects s kind around os at st → StandsAt s.bytes at (76 ∷ b ∷ minus_sign negative)
     → IsDigitsAt s.bytes (at + length (76 ∷ b ∷ minus_sign negative)) digits end → StandsAt s.bytes end (69 ∷ [])
     → ListGoesOn s kind os around (integer (builtin (b ∷ [])) (signed_digits negative digits)) (end + 1) st
-unfolding is_eaten is_left number_of_kind parts_of between close unfolding_.behind meaning part byte_of tree_of text_of piece_of letter_of is_there with_type is_listed signed_of is_integer_letter each_passes
+unfolding is_eaten is_left number_of_kind parts_of between close unfolding_behind meaning part byte_of tree_of text_of piece_of letter_of is_there with_type is_listed signed_of is_integer_letter each_passes
 integer-element s kind os around b negative digits at end st kind_is letter_is expects stands is ended =
     let p = Production.IntegerLiteral in
     let first = stands-split s.bytes at (76 ∷ []) (b ∷ minus_sign negative) stands in
@@ -165,21 +154,21 @@ integer-element s kind os around b negative digits at end st kind_is letter_is e
 
 -- the type of an enumerator is accepted as a candidate, which it becomes unless it is one
 enumeration-passes : (s : Symbol) (os : List Opened) (around : Around) (place : ℕ) (before : State) (t : Term) (listed : Bool) (at : ℕ) (st : State)
-    → Comes s (opened (standing (rule_of Production.IntegerLiteral) [] place around before) [] (OfKind (number_of_kind Kind.Integer) ∷ []) ∷ os)
+    → Comes s (opened (standing (rule_of Production.IntegerLiteral) [] place around before) [] (Sym.Kind (number_of_kind Kind.Integer) ∷ []) ∷ os)
     (tree t listed) at st
-    → Comes s (opened (standing (rule_of Production.IntegerLiteral) [] place around before) [] (OfKind (number_of_kind Kind.Integer) ∷ []) ∷ os)
+    → Comes s (opened (standing (rule_of Production.IntegerLiteral) [] place around before) [] (Sym.Kind (number_of_kind Kind.Integer) ∷ []) ∷ os)
     (tree t true) at (unless_listed listed around t st)
-unfolding between close unfolding_.behind meaning part tree_of signed_of with_type is_listed appended byte_of
+unfolding between close unfolding_behind meaning part tree_of signed_of with_type is_listed appended byte_of
 enumeration-passes s os around place before t true at st comes = comes
 enumeration-passes s os around place before t false at st comes =
     let p = Production.IntegerLiteral in
-    comes-alike s os p p [] place around before (OfKind (number_of_kind Kind.Integer)) (tree t false) (tree t true) at st (with_candidate around t st) around
+    comes-alike s os p p [] place around before (Sym.Kind (number_of_kind Kind.Integer)) (tree t false) (tree t true) at st (with_candidate around t st) around
     (tree t false ∷ []) (tree t true ∷ []) (with_candidate around t st) refl refl (λ more end. refl) comes
 
 -- an argument begins that is an enumerator
 pub enumerator-opens : (s : Symbol) (kind : Kind) (os : List Opened) (around : Around) (at : ℕ) (st : State) → IsArgumentKind kind
     → Expects s kind around os at st → StandsAt s.bytes at (76 ∷ []) → EnumeratorOpened s kind os around (at + 1) st
-unfolding is_eaten is_left number_of_kind parts_of between close unfolding_.behind meaning part byte_of tree_of text_of piece_of letter_of is_there signed_of with_type is_listed
+unfolding is_eaten is_left number_of_kind parts_of between close unfolding_behind meaning part byte_of tree_of text_of piece_of letter_of is_there signed_of with_type is_listed
 enumerator-opens s kind os around at st is expects stands =
     let p = Production.IntegerLiteral in
     let literal = literal-opens s kind os around at st is expects stands in
@@ -197,7 +186,7 @@ enumerator-opens s kind os around at st is expects stands =
 -- an argument begins that is the address of what an encoding names
 pub address-opens : (s : Symbol) (os : List Opened) (around : Around) (at : ℕ) (st : State) → Expects s Kind.Argument around os at st
     → StandsAt s.bytes at (88 ∷ 97 ∷ 100 ∷ 76 ∷ 95 ∷ 90 ∷ []) → AddressOpened s os around (at + 6) st
-unfolding is_eaten number_of_kind parts_of between close unfolding_.behind meaning part byte_of tree_of text_of piece_of letter_of is_there operation_by operation_or_address is_code
+unfolding is_eaten number_of_kind parts_of between close unfolding_behind meaning part byte_of tree_of text_of piece_of letter_of is_there operation_by operation_or_address is_code
     enclosed_argument ends_arguments
 address-opens s os around at st expects stands =
     let x = Production.Expression in
@@ -236,7 +225,7 @@ pub level-opens : (s : Symbol) (os : List Opened) (around : Around) (at : ℕ) (
     → Expects s Kind.Argument around os at st → StandsAt s.bytes at (88 ∷ []) → StandsAt s.bytes (at + 1) (115 ∷ [])
     → StandsAt s.bytes (at + 1 + 1) (114 ∷ []) → IsNameAt s.bytes (at + 1 + 1 + 1) name end
     → StandsAt s.bytes end (73 ∷ []) → LevelOpened s os around name (end + 1) st
-unfolding is_eaten is_eaten_widely is_left may_be_empty number_of_kind parts_of between close unfolding_.behind meaning part byte_of tree_of text_of piece_of letter_of is_there applied operation_by enclosed_argument ends_arguments is_code
+unfolding is_eaten is_eaten_widely is_left may_be_empty number_of_kind parts_of between close unfolding_behind meaning part byte_of tree_of text_of piece_of letter_of is_there applied operation_by enclosed_argument ends_arguments is_code
 level-opens s os around at st name end wide first expects x e r is opening =
     let level = Production.Levels in
     let id = Production.SimpleId in

@@ -1,30 +1,19 @@
 -- The moves in the names of local entities and in guard variables.
-use Rattle.std.proofs.Common.{◌≡◌, ℕ, ◌+◌, ◌-◌, ◌<◌, ◌≤◌, Ok, List, [], ◌∷◌, ◌++◌, length, Bool, true, false, cond, Option, None, Some, refl, ap, sym, subst, arith, append-nil}
-use Rattle.std.proofs.lemmas.Bool.{le-leb}
-use Rattle.sym_core.specs.declared.NumberKind.TheVariants.{Decimal}
-use Rattle.cpp_direct.specs.AllTerms.{after, alternatives, among, applied, AreDigitsOf, between, builtin, byte_of, choose, close, cpp, empty, extended, fixed, in_ranges, in_signature, is_chain, is_in, is_nil, is_void, Kind, lambda, last_token, list, listed_value, may_be_empty, meaning, named_so_far, nil, no_items, number_of_kind, number_tested, opening, padded, parameters, parts_of, pick, Production, rule_of, signature_with, source, standing, Term, token, with_type, within}
-use Rattle.sym_core.specs.Token.{Token}
-use Rattle.sym_shape.specs.declared.rule.Sym.TheVariants.{Kind as OfKind, Number, Byte}
-use Rattle.cpp_grammar.specs.Values.{State, Around, outermost, named, nothing_there, text, tree, piece, tree_of, text_of, is_listed, qualifiers_of, ref_of, local_number, part, is_there, letter_of, piece_of}
-use Rattle.cpp_grammar.specs.Unfolding as unfolding_
-use Rattle.cpp_direct.specs.AllStates.{HasScope, ItemsGoOn, nowhere, short_numbers, Symbol}
-use Rattle.cpp_direct.specs.AllHoles.{Comes, Discriminator, Expects, IsDiscriminatorAt, IsLambdaDigit, IsNameAt, IsNamedKind, IsPieceAt, LambdaEnds, LocalOpened, LocalTypeOpened, NestGoesOn, Opened, StandsAt, by_digit, by_digits, cpp_language, discriminator_value, lambda_digits, lambda_with, opened, unnumbered}
-use Rattle.sym_direct.specs.Holes as direct
-use Rattle.sym_direct.proofs.Moves as moves
-use Rattle.cpp_direct.proofs.Kept.{none-known}
+use Rattle.cpp_direct.proofs.AllGround.{◌≡◌, ℕ, ◌+◌, ◌-◌, ◌<◌, ◌≤◌, Ok, List, [], ◌∷◌, ◌++◌, length, Bool, true, false, cond, Option, None, Some, refl, ap, sym, subst, arith, append-nil, le-leb, after, alternatives, among, applied, AreDigitsOf, between, builtin, byte_of, choose, close, cpp, empty, extended, fixed, in_ranges, in_signature, is_chain, is_in, is_nil, is_void, Kind, lambda, last_token, list, listed_value, may_be_empty, meaning, named_so_far, nil, no_items, number_of_kind, number_tested, opening, padded, parameters, parts_of, pick, Production, rule_of, signature_with, source, standing, Term, token, with_type, within, Token, State, Around, outermost, named, nothing_there, tree, piece, tree_of, is_listed, qualifiers_of, ref_of, local_number, part, is_there, letter_of, piece_of, HasScope, ItemsGoOn, nowhere, short_numbers, Symbol, Comes, Discriminator, Expects, IsDiscriminatorAt, IsLambdaDigit, IsNameAt, IsNamedKind, IsPieceAt, LambdaEnds, LocalOpened, LocalTypeOpened, NestGoesOn, Opened, StandsAt, by_digit, by_digits, cpp_language, discriminator_value, lambda_digits, lambda_with, opened, unnumbered, NumberKind, none-known, goes-on, named-taken, empty-by, names-by, rests-by, unfolding_behind}
+use Rattle.cpp_grammar.specs.Values.{text, text_of}
 use Rattle.cpp_direct.proofs.ShortNumbers.{lambda-begins, tested}
 use Rattle.cpp_direct.proofs.MovesOfEncodings.{entity-nested}
-use Rattle.cpp_direct.proofs.MovesOfNests.{goes-on}
-use Rattle.cpp_direct.proofs.MovesOfTypes.{named-taken}
 use Rattle.cpp_direct.proofs.Moves.{awaited, fewer, Filled, Hole, stands-split, kind-at, reads-rule, joins, none-left, opens-where, needs-next, hole, open_at, fill, filled-at, hole-at, eats, leaves, chosen-byte, is_left, byte-opens, chain-opens, byte-fills, next-part, closes, none-fills, fixed-fills, name-fills, number-fills, is_eaten, digits-fill, any-first}
-use Rattle.cpp_direct.proofs.Tables.{empty-by, names-by, rests-by}
+use Rattle.sym_shape.specs.declared.rule.Sym.TheVariants.{Kind as OfKind, Number, Byte}
+use Rattle.sym_direct.specs.Holes as direct
+use Rattle.sym_direct.proofs.Moves as moves
 
 -- ## Discriminators
 
 -- a discriminator is read, or none
 pub discriminator-comes : (s : Symbol) (os : List Opened) (around : Around) (at : ℕ) (digit : Discriminator) (end : ℕ) (st : State)
     → Expects s Kind.MaybeDiscriminator around os at st → IsDiscriminatorAt s.bytes at digit end → Comes s os (discriminator_value digit) end st
-unfolding is_eaten number_of_kind parts_of may_be_empty between opening close unfolding_.behind meaning part byte_of tree_of text_of piece_of letter_of is_there is_chain choose alternatives pick is_in in_ranges among
+unfolding is_eaten number_of_kind parts_of may_be_empty between opening close unfolding_behind meaning part byte_of tree_of text_of piece_of letter_of is_there is_chain choose alternatives pick is_in in_ranges among
 discriminator-comes s os around at unnumbered end st expects is =
     (filled-at end (none-fills Kind.MaybeDiscriminator (hole s Kind.MaybeDiscriminator around os at st expects) refl) (sym is)).comes
 discriminator-comes s os around at (by_digit digit) end st expects is =
@@ -50,7 +39,7 @@ discriminator-comes s os around at (by_digits digits) end st expects is =
 source-comes : (s : Symbol) (kind : Kind) (os : List Opened) (around : Around) (e : Term) (at : ℕ) (name : List ℕ) (end : ℕ) (st : State)
     → is_left kind Production.SourceName 48 ≡ true → Expects s kind (after e true around) os at st → IsNameAt s.bytes at name end
     → Comes s os (tree (within e (source false name)) false) end st
-unfolding is_eaten is_left number_of_kind parts_of may_be_empty between close unfolding_.behind meaning part byte_of tree_of text_of piece_of letter_of is_there named_so_far extended applied after
+unfolding is_eaten is_left number_of_kind parts_of may_be_empty between close unfolding_behind meaning part byte_of tree_of text_of piece_of letter_of is_there named_so_far extended applied after
 source-comes s kind os around e at name end st taken expects is =
     let p = Production.SourceName in
     let own = chain-opens (leaves s kind p 48 taken) (hole s kind (after e true around) os at st expects) refl refl in
@@ -60,7 +49,7 @@ source-comes s kind os around e at name end st taken expects is =
 internal-comes : (s : Symbol) (os : List Opened) (around : Around) (e : Term) (at : ℕ) (name : List ℕ) (end : ℕ) (st : State)
     → Expects s Kind.Entity (after e true around) os at st → StandsAt s.bytes at (76 ∷ []) → IsNameAt s.bytes (at + 1) name end
     → Comes s os (tree (within e (source true name)) false) end st
-unfolding is_eaten number_of_kind parts_of may_be_empty between close unfolding_.behind meaning part byte_of tree_of text_of piece_of letter_of is_there named_so_far extended applied after
+unfolding is_eaten number_of_kind parts_of may_be_empty between close unfolding_behind meaning part byte_of tree_of text_of piece_of letter_of is_there named_so_far extended applied after
 internal-comes s os around e at name end st expects stands is =
     let p = Production.InternalName in
     let own = byte-opens (eats s Kind.Entity p 76 refl) (hole s Kind.Entity (after e true around) os at st expects) stands refl refl in
@@ -81,7 +70,7 @@ name-comes s os around e at false name end st expects marked is =
 -- a local name begins with a Z and the encoding that contains its entity
 pub local-opens : (s : Symbol) (os : List Opened) (around : Around) (at : ℕ) (st : State)
     → Expects s Kind.CompleteName around os at st → StandsAt s.bytes at (90 ∷ []) → LocalOpened s os around (at + 1) st
-unfolding is_eaten number_of_kind parts_of between close unfolding_.behind meaning part byte_of tree_of text_of piece_of letter_of is_there qualifiers_of ref_of may_be_empty
+unfolding is_eaten number_of_kind parts_of between close unfolding_behind meaning part byte_of tree_of text_of piece_of letter_of is_there qualifiers_of ref_of may_be_empty
 local-opens s os around at st expects stands =
     let p = Production.LocalName in
     let encoding = byte-opens (eats s Kind.CompleteName p 90 refl) (hole s Kind.CompleteName around os at st expects) stands refl refl in
@@ -112,7 +101,7 @@ local-opens s os around at st expects stands =
 source-first : (s : Symbol) (os : List Opened) (around : Around) (e : Term) (at : ℕ) (name : List ℕ) (end : ℕ) (st : State)
     → Expects s Kind.Nest (after e true around) os at st → IsNameAt s.bytes at name end
     → NestGoesOn s Kind.NestRestAlone os around (within e (source false name)) false end st
-unfolding is_eaten is_left number_of_kind parts_of between close unfolding_.behind meaning part byte_of tree_of text_of piece_of letter_of is_there named_so_far extended after
+unfolding is_eaten is_left number_of_kind parts_of between close unfolding_behind meaning part byte_of tree_of text_of piece_of letter_of is_there named_so_far extended after
 source-first s os around e at name end st expects is =
     let p = Production.NestSource in
     let own = chain-opens (leaves s Kind.Nest p 48 refl) (hole s Kind.Nest (after e true around) os at st expects) refl refl in
@@ -122,14 +111,14 @@ source-first s os around e at name end st expects is =
 lambda-first : (s : Symbol) (os : List Opened) (around : Around) (e : Term) (at : ℕ) (st : State) → Expects s Kind.Nest (after e true around) os at st
     → StandsAt s.bytes at (85 ∷ []) → Hole s (OfKind (number_of_kind Kind.Anonymous)) (after e true around)
     (opened (standing (rule_of Production.NestLocalType) (85 ∷ []) at (after e true around) st) [] (OfKind (number_of_kind Kind.NestRest) ∷ []) ∷ os) (at + 1) st
-unfolding is_eaten number_of_kind parts_of between close unfolding_.behind meaning part byte_of tree_of text_of piece_of letter_of is_there after
+unfolding is_eaten number_of_kind parts_of between close unfolding_behind meaning part byte_of tree_of text_of piece_of letter_of is_there after
 lambda-first s os around e at st expects stands =
     byte-opens (eats s Kind.Nest Production.NestLocalType 85 refl) (hole s Kind.Nest (after e true around) os at st expects) stands refl refl
 
 lambda-goes : (s : Symbol) (os : List Opened) (around : Around) (e p : Term) (at0 : ℕ) (before : State) (at : ℕ) (st : State)
     → Filled s (opened (standing (rule_of Production.NestLocalType) (85 ∷ []) at0 (after e true around) before) [] (OfKind (number_of_kind Kind.NestRest) ∷ []) ∷ os) (piece p) at st
     → NestGoesOn s Kind.NestRestAlone os around (within e p) false at st
-unfolding is_eaten number_of_kind parts_of between close unfolding_.behind meaning part byte_of tree_of text_of piece_of letter_of is_there named_so_far extended after
+unfolding is_eaten number_of_kind parts_of between close unfolding_behind meaning part byte_of tree_of text_of piece_of letter_of is_there named_so_far extended after
 lambda-goes s os around e p at0 before at st f =
     let q = Production.NestLocalType in
     goes-on (fewer (rests-by s.is_wide) (next-part q f refl)) (λ v to later g. closes q g refl)
@@ -145,7 +134,7 @@ source-name-piece s at name end is = record {
 -- void is read as the first type of a lambda
 void-read : (s : Symbol) (around : Around) (at : ℕ) (st : State)
     → direct.Reads (cpp_language s) s.bytes (OfKind (number_of_kind Kind.FirstOfLambda)) around at (118 ∷ []) st (tree (builtin (118 ∷ [])) true ∷ []) st
-unfolding choose alternatives pick is_in in_ranges among is_chain parts_of rule_of padded number_of_kind between opening close unfolding_.behind meaning
+unfolding choose alternatives pick is_in in_ranges among is_chain parts_of rule_of padded number_of_kind between opening close unfolding_behind meaning
     with_type listed_value tree_of is_listed part byte_of
 void-read s around at st =
     let p = Production.PlainArgument in
@@ -154,19 +143,18 @@ void-read s around at st =
     reads-rule s Kind.FirstOfLambda p 118 [] around at st st st (118 ∷ []) (v ∷ []) v refl (omega arith) refl
     (joins s p [] at around st [] (OfKind (number_of_kind Kind.SolidButT)) [] (at + 0) st around [] st st st (v ∷ []) (118 ∷ []) [] (v ∷ []) refl
     (reads-rule s Kind.SolidButT q 118 (118 ∷ []) around (at + 0) st st st [] [] v refl (omega arith) refl
-    (none-left s q (118 ∷ []) (at + 0) around st [] (at + 0 + 1) st) refl refl)
-    (none-left s p [] at around st (v ∷ []) (at + 0 + 1) st)) refl refl
+    (none-left s q (118 ∷ []) (at + 0) around st [] (at + 0 + 1) st) refl refl) (none-left s p [] at around st (v ∷ []) (at + 0 + 1) st)) refl refl
 
 -- the bytes of a lambda without parameters
 abbrev pub lambda_bytes : (digits : List ℕ) → List ℕ
 lambda_bytes digits = 108 ∷ 118 ∷ 69 ∷ (digits ++ 95 ∷ [])
 
 -- it is read
-lambda-read : (s : Symbol) (around : Around) (at : ℕ) (digits : List ℕ) (st : State) → AreDigitsOf Decimal digits
+lambda-read : (s : Symbol) (around : Around) (at : ℕ) (digits : List ℕ) (st : State) → AreDigitsOf NumberKind.Decimal digits
     → number_tested (at - 1) digits st ≡ Ok st
     → direct.Reads (cpp_language s) s.bytes (OfKind (number_of_kind Kind.Anonymous)) around at (lambda_bytes digits ++ []) st
     (piece (lambda nil (local_number digits)) ∷ []) st
-unfolding choose alternatives pick is_in in_ranges among is_chain parts_of rule_of padded number_of_kind between opening close unfolding_.behind meaning
+unfolding choose alternatives pick is_in in_ranges among is_chain parts_of rule_of padded number_of_kind between opening close unfolding_behind meaning
     last_token void-read reads-rule joins none-left moves.reads-rule moves.joins moves.none-left may_be_empty parameters is_void is_nil
     signature_with no_items tree_of text_of part byte_of cpp
 lambda-read s around at digits st are small =
@@ -181,21 +169,20 @@ lambda-read s around at digits st are small =
     let four = v ∷ nothing_there ∷ nothing_there ∷ text digits ∷ [] in
     reads-rule s Kind.Anonymous p 108 (108 ∷ []) around at st st st (118 ∷ 69 ∷ ((digits ++ 95 ∷ []) ++ [])) four (piece (lambda nil (local_number digits)))
     refl (omega arith) refl
-    (joins s p (108 ∷ []) at around st [] (OfKind (number_of_kind Kind.FirstOfLambda)) (items ∷ Byte 69 ∷ Number Decimal ∷ []) (at + 1) st c [] st st st one
+    (joins s p (108 ∷ []) at around st [] (OfKind (number_of_kind Kind.FirstOfLambda)) (items ∷ Byte 69 ∷ Number NumberKind.Decimal ∷ []) (at + 1) st c [] st st st one
     (118 ∷ []) (69 ∷ ((digits ++ 95 ∷ []) ++ [])) four refl (void-read s c (at + 1) st)
-    (joins s p (108 ∷ []) at around st one items (Byte 69 ∷ Number Decimal ∷ []) (at + 1 + 1) st c one st st st (nothing_there ∷ [])
+    (joins s p (108 ∷ []) at around st one items (Byte 69 ∷ Number NumberKind.Decimal ∷ []) (at + 1 + 1) st c one st st st (nothing_there ∷ [])
     [] (69 ∷ ((digits ++ 95 ∷ []) ++ [])) four refl
     (record { shape = empty; shaped = empty-by s.is_wide (number_of_kind Kind.Items) Kind.Items (kind-at Kind.Items); spelled = refl; unfolds = refl })
-    (joins s p (108 ∷ []) at around st two (Byte 69) (Number Decimal ∷ []) (at + 1 + 1 + 0) st c two st st st (nothing_there ∷ [])
+    (joins s p (108 ∷ []) at around st two (Byte 69) (Number NumberKind.Decimal ∷ []) (at + 1 + 1 + 0) st c two st st st (nothing_there ∷ [])
     (69 ∷ []) ((digits ++ 95 ∷ []) ++ []) four refl
     (record { shape = fixed 69; shaped = refl; spelled = refl; unfolds = refl })
-    (joins s p (108 ∷ []) at around st three (Number Decimal) [] (at + 1 + 1 + 0 + 1) st c three st st st (text digits ∷ [])
+    (joins s p (108 ∷ []) at around st three (Number NumberKind.Decimal) [] (at + 1 + 1 + 0 + 1) st c three st st st (text digits ∷ [])
     (digits ++ 95 ∷ []) [] four refl
-    (record { shape = token t; shaped = names-by s.is_wide (Number Decimal) t (record { bare = refl; digits = are; ends = refl }); spelled = refl; unfolds = refl })
-    (none-left s p (108 ∷ []) at around st four (at + 1 + 1 + 0 + 1 + length (digits ++ 95 ∷ [])) st)))))
-    small refl
+    (record { shape = token t; shaped = names-by s.is_wide (Number NumberKind.Decimal) t (record { bare = refl; digits = are; ends = refl }); spelled = refl; unfolds = refl })
+    (none-left s p (108 ∷ []) at around st four (at + 1 + 1 + 0 + 1 + length (digits ++ 95 ∷ [])) st))))) small refl
 
-digits-of : (digit : Option ℕ) → IsLambdaDigit digit → AreDigitsOf Decimal (lambda_digits digit)
+digits-of : (digit : Option ℕ) → IsLambdaDigit digit → AreDigitsOf NumberKind.Decimal (lambda_digits digit)
 digits-of None is = (tt, tt)
 digits-of (Some d) is =
     let low : d ≤ 57 = omega (arith, is.1) in
@@ -210,7 +197,7 @@ number-is (Some d) is = omega (arith, is.0, is.1)
 -- a lambda without parameters is the name of a type
 pub lambda-piece : (s : Symbol) (at : ℕ) (digit : Option ℕ) (end : ℕ) → IsLambdaDigit digit → StandsAt s.bytes at (85 ∷ lambda_bytes (lambda_digits digit))
     → end ≡ at + length (85 ∷ lambda_bytes (lambda_digits digit)) → IsPieceAt s at (lambda nil (local_number (lambda_digits digit))) end
-unfolding is_eaten number_of_kind parts_of may_be_empty between close unfolding_.behind meaning part byte_of tree_of text_of piece_of letter_of is_there named_so_far extended applied after
+unfolding is_eaten number_of_kind parts_of may_be_empty between close unfolding_behind meaning part byte_of tree_of text_of piece_of letter_of is_there named_so_far extended applied after
 lambda-piece s at digit end is stands ends_ =
     let digits = lambda_digits digit in
     let bytes = lambda_bytes digits in
@@ -236,7 +223,7 @@ lambda-piece s at digit end is stands ends_ =
 -- such a type begins with a Z and the encoding that contains it
 pub local-type-opens : (s : Symbol) (kind : Kind) (os : List Opened) (around : Around) (at : ℕ) (st : State) → IsNamedKind kind
     → Expects s kind around os at st → StandsAt s.bytes at (90 ∷ []) → LocalTypeOpened s os around (at + 1) st
-unfolding is_eaten number_of_kind parts_of between close unfolding_.behind meaning part byte_of tree_of text_of piece_of letter_of is_there
+unfolding is_eaten number_of_kind parts_of between close unfolding_behind meaning part byte_of tree_of text_of piece_of letter_of is_there
 local-type-opens s kind os around at st named_ expects stands =
     let p = Production.LocalType in
     let encoding = byte-opens (eats s kind p 90 (named-taken kind named_).3) (hole s kind around os at st expects) stands refl refl in
@@ -282,16 +269,15 @@ piece-taken _ is = absurd is
 anonymous-opens : (s : Symbol) (here : Around) (above : List Opened) (at : ℕ) (st : State) (becomes : Term → (at : ℕ) → State → Type 0)
     → short_numbers 0 s.bytes ≡ true → Hole s (OfKind (number_of_kind Kind.Anonymous)) here above at st → StandsAt s.bytes at (108 ∷ [])
     → ((p : Term) (end : ℕ) (now : State) → Filled s above (piece p) end now → becomes p end now) → LambdaOpened s becomes (at + 1) st
-unfolding is_eaten number_of_kind parts_of may_be_empty between opening close unfolding_.behind meaning part byte_of tree_of text_of piece_of letter_of is_there in_signature signature_with
+unfolding is_eaten number_of_kind parts_of may_be_empty between opening close unfolding_behind meaning part byte_of tree_of text_of piece_of letter_of is_there in_signature signature_with
 anonymous-opens s here above at st becomes short anonymous stands then_ =
     let q = Production.Lambda in
     let c = in_signature here in
-    let item = OfKind (number_of_kind Kind.FirstOfLambda) in
-    let todo = OfKind (number_of_kind Kind.Items) ∷ Byte 69 ∷ Number Decimal ∷ [] in
+    let todo = OfKind (number_of_kind Kind.Items) ∷ Byte 69 ∷ Number NumberKind.Decimal ∷ [] in
     let needs = opens-where s Kind.Anonymous q 108 (108 ∷ []) here above at st refl (omega arith) refl
     (λ f shaped there. lambda-begins s.is_wide s.bytes (at + 1) at st short f shaped there) anonymous.expects stands in
     let first = hole s Kind.FirstOfLambda c (opened (standing (rule_of q) (108 ∷ []) at here st) [] todo ∷ above) (at + 1) st
-    (needs-next s q (108 ∷ []) at here st [] item todo above (at + 1) st c [] st refl needs) in
+    (needs-next s q (108 ∷ []) at here st [] (OfKind (number_of_kind Kind.FirstOfLambda)) todo above (at + 1) st c [] st refl needs) in
     record {
       around = c;
       outside = refl;
@@ -319,7 +305,7 @@ anonymous-opens s here above at st becomes short anonymous stands then_ =
 pub lambda-opens : (s : Symbol) (kind : Kind) (os : List Opened) (around : Around) (e : Term) (listed : Bool) (at : ℕ) (st : State) → IsPieceKind kind
     → short_numbers 0 s.bytes ≡ true → Expects s kind (after e listed around) os at st → StandsAt s.bytes at (85 ∷ 108 ∷ [])
     → LambdaOpened s (λ p end now. Comes s os (tree (within e p) false) end now) (at + 1 + 1) st
-unfolding is_eaten number_of_kind parts_of may_be_empty between opening close unfolding_.behind meaning part byte_of tree_of text_of piece_of letter_of is_there named_so_far extended applied after
+unfolding is_eaten number_of_kind parts_of may_be_empty between opening close unfolding_behind meaning part byte_of tree_of text_of piece_of letter_of is_there named_so_far extended applied after
 lambda-opens s kind os around e listed at st is_piece short expects stands =
     let p = Production.LocalTypeName in
     let here : Around = after e listed around in

@@ -1,25 +1,18 @@
 -- The parts of a nested name are read one after another, and their tags.
-use Rattle.std.proofs.Common.{◌≡◌, ℕ, ◌+◌, List, [], ◌∷◌, Ok, Some, true, false, refl, subst, arith, inl, inr, Bool, sym}
-use Rattle.std.specs.Prelude.{slice_get}
-use Rattle.sym_core.specs.declared.NumberKind.TheVariants.{Seq36}
-use Rattle.cpp_direct.specs.AllTerms.{abbreviation, after, alone, appended, applied, between, byte_of, choose, close, constructor, counted_value, destructor, extended, found, in_std, inside, instance, is_chain, Kind, listed_so_far, meaning, named_so_far, no_items, number_of_kind, opening, operator, parts_of, Production, rule_of, source, standing, substituted, Term, with_prefix, with_tag, within}
-use Rattle.sym_shape.specs.declared.rule.Sym.TheVariants.{Kind as OfKind, Byte}
-use Rattle.cpp_grammar.specs.Values.{Candidate, State, outermost, Around, Value, nothing_there, tree, piece, is_there, letter_of, part, piece_of, text_of, tree_of, prefix_tree, prefix_listed}
-use Rattle.cpp_grammar.specs.Unfolding as unfolding_
-use Rattle.cpp_direct.specs.AllStates.{is_abbreviated, IsConstructorDigit, IsDestructorDigit, Symbol}
-use Rattle.cpp_direct.specs.AllHoles.{AwaitsArguments, AwaitsComponent, AwaitsInstance, Comes, Expects, IsFirstRest, IsNameAt, IsRest, IsSeqAt, IsTagAt, Named, NestGoesOn, NestNamed, Opened, SamePasses, StandsAt, bare_name, opened, unless_listed, with_candidate}
+use Rattle.cpp_direct.proofs.Basics.{◌≡◌, ℕ, ◌+◌, List, [], ◌∷◌, Ok, Some, true, false, refl, subst, arith, inl, inr, Bool, sym, slice_get, abbreviation, after, alone, appended, applied, between, byte_of, choose, close, constructor, counted_value, destructor, extended, found, in_std, inside, instance, is_chain, Kind, listed_so_far, meaning, named_so_far, no_items, number_of_kind, opening, operator, parts_of, Production, rule_of, source, standing, substituted, Term, with_prefix, with_tag, within, State, outermost, Around, Value, nothing_there, tree, piece, is_there, letter_of, part, piece_of, tree_of, prefix_tree, prefix_listed, is_abbreviated, IsConstructorDigit, IsDestructorDigit, Symbol, AwaitsArguments, AwaitsComponent, AwaitsInstance, Comes, Expects, IsFirstRest, IsNameAt, IsRest, IsSeqAt, IsTagAt, Named, NestGoesOn, NestNamed, Opened, SamePasses, StandsAt, bare_name, opened, unless_listed, with_candidate, le-leb, lt-ltb, NumberKind, unfolding_behind}
+use Rattle.cpp_grammar.specs.Values.{Candidate, text_of}
 use Rattle.cpp_direct.proofs.Tables.{lists-by, rests-by}
 use Rattle.cpp_direct.proofs.Moves.{awaited, fewer, hole-of, stands-split, Hole, Filled, hole, open_at, fill, filled-at, eats, leaves, byte-opens, chain-opens, next-part, closes, name-fills, first-named, is_eaten, is_left, Taken, eats-widely, chosen-byte, byte-fills, fixed-fills, is_eaten_widely}
 use Rattle.cpp_direct.proofs.MovesOfTypes.{abbreviation-fills, substitution-fills}
-use Rattle.std.proofs.lemmas.Bool.{le-leb, lt-ltb}
 use Rattle.cpp_direct.proofs.LettersTested.{IsOperator}
+use Rattle.sym_shape.specs.declared.rule.Sym.TheVariants.{Kind as OfKind, Byte}
 
 -- ## Pieces
 
 -- the name of an entity
 pub piece-comes : (s : Symbol) (os : List Opened) (around : Around) (at : ℕ) (st : State) (name : List ℕ) (end : ℕ)
     → Expects s Kind.Unqualified around os at st → IsNameAt s.bytes at name end → Comes s os (piece (source false name)) end st
-unfolding is_eaten is_left number_of_kind parts_of between close unfolding_.behind meaning part byte_of tree_of text_of piece_of letter_of is_there
+unfolding is_eaten is_left number_of_kind parts_of between close unfolding_behind meaning part byte_of tree_of text_of piece_of letter_of is_there
 piece-comes s os around at st name end expects is =
     let p = Production.SourcePiece in
     (closes p (name-fills name end (chain-opens (leaves s Kind.Unqualified p 48 refl) (hole s Kind.Unqualified around os at st expects) refl refl) is) refl).comes
@@ -36,7 +29,7 @@ goes-on {inner = inner} h closed = record { inner = inner; awaits = h.expects; p
 pub nest-source : (s : Symbol) (os : List Opened) (around : Around) (at : ℕ) (st : State) (name : List ℕ) (end : ℕ)
     → around.prefix ≡ outermost → Expects s Kind.Nest around os at st → IsNameAt s.bytes at name end
     → NestGoesOn s Kind.NestRestAlone os around (alone (source false name)) false end st
-unfolding is_eaten is_left number_of_kind parts_of between close unfolding_.behind meaning part byte_of tree_of text_of piece_of letter_of is_there named_so_far extended
+unfolding is_eaten is_left number_of_kind parts_of between close unfolding_behind meaning part byte_of tree_of text_of piece_of letter_of is_there named_so_far extended
 nest-source s os around at st name end first expects is =
     let p = Production.NestSource in
     let own = chain-opens (leaves s Kind.Nest p 48 refl) (hole s Kind.Nest around os at st expects) refl refl in
@@ -44,19 +37,17 @@ nest-source s os around at st name end first expects is =
     goes-on (fewer (rests-by s.is_wide) rest) (λ v to later f. closes p f refl)
 
 -- what follows an S
-behind-s : (s : Symbol) (os : List Opened) (around : Around) (at : ℕ) (st : State)
-    → Expects s Kind.Nest around os at st → StandsAt s.bytes at (83 ∷ [])
+behind-s : (s : Symbol) (os : List Opened) (around : Around) (at : ℕ) (st : State) → Expects s Kind.Nest around os at st → StandsAt s.bytes at (83 ∷ [])
     → Hole s (OfKind (number_of_kind Kind.NestAfterS)) around (opened (standing (rule_of Production.NestWithS) (83 ∷ []) at around st) [] [] ∷ os) (at + 1) st
-unfolding is_eaten number_of_kind parts_of between close unfolding_.behind meaning part byte_of tree_of text_of piece_of letter_of is_there
-behind-s s os around at st expects here =
-    byte-opens (eats s Kind.Nest Production.NestWithS 83 refl) (hole s Kind.Nest around os at st expects) here refl refl
+unfolding is_eaten number_of_kind parts_of between close unfolding_behind meaning part byte_of tree_of text_of piece_of letter_of is_there
+behind-s s os around at st expects here = byte-opens (eats s Kind.Nest Production.NestWithS 83 refl) (hole s Kind.Nest around os at st expects) here refl refl
 
 -- a substituted name
 nest-known : (s : Symbol) (os : List Opened) (around : Around) (at : ℕ) (st : State) (t : Term) (end : ℕ)
     → Expects s Kind.Nest around os at st → StandsAt s.bytes at (83 ∷ [])
     → ((inner : List Opened) → Hole s (OfKind (number_of_kind Kind.Abbreviation)) around inner (at + 1) st → Filled s inner (tree t true) end st)
     → NestGoesOn s Kind.NestRestOrEnd os around t true end st
-unfolding is_eaten is_left number_of_kind parts_of between close unfolding_.behind meaning part byte_of tree_of text_of piece_of letter_of is_there listed_so_far
+unfolding is_eaten is_left number_of_kind parts_of between close unfolding_behind meaning part byte_of tree_of text_of piece_of letter_of is_there listed_so_far
 nest-known s os around at st t end expects here fills =
     let p = Production.NestTemplate in
     let short = chain-opens (leaves s Kind.NestAfterS p 97 refl) (behind-s s os around at st expects here) refl refl in
@@ -68,15 +59,13 @@ pub nest-abbreviation : (s : Symbol) (os : List Opened) (around : Around) (at : 
     → NestGoesOn s Kind.NestRestOrEnd os around (abbreviation code) true (at + 2) st
 nest-abbreviation s os around at st code expects here is =
     let two = stands-split s.bytes at (83 ∷ []) (code ∷ []) here in
-    nest-known s os around at st (abbreviation code) (at + 2) expects two.0
-    (λ inner h. filled-at (at + 2) (abbreviation-fills code is h two.1) (omega arith))
+    nest-known s os around at st (abbreviation code) (at + 2) expects two.0 (λ inner h. filled-at (at + 2) (abbreviation-fills code is h two.1) (omega arith))
 
 -- a reference at the front of a nested name
 pub nest-substitution : (s : Symbol) (os : List Opened) (around : Around) (at : ℕ) (st : State) (digits : List ℕ) (end : ℕ) (c : Candidate)
     → Expects s Kind.Nest around os at st → StandsAt s.bytes at (83 ∷ []) → IsSeqAt s.bytes (at + 1) digits end
-    → slice_get st.candidates (counted_value Seq36 digits) ≡ Some c
-    → ((place : ℕ) → substituted around place (Some c) st ≡ Ok (found (tree c.tree true) st))
-    → NestGoesOn s Kind.NestRestOrEnd os around c.tree true end st
+    → slice_get st.candidates (counted_value NumberKind.Seq36 digits) ≡ Some c
+    → ((place : ℕ) → substituted around place (Some c) st ≡ Ok (found (tree c.tree true) st)) → NestGoesOn s Kind.NestRestOrEnd os around c.tree true end st
 nest-substitution s os around at st digits end c expects here is there so =
     nest-known s os around at st c.tree end expects here (λ inner h. substitution-fills digits end c there so h is)
 
@@ -84,7 +73,7 @@ nest-substitution s os around at st digits end c expects here is there so =
 pub nest-std : (s : Symbol) (os : List Opened) (around : Around) (at : ℕ) (st : State) (name : List ℕ) (end : ℕ)
     → Expects s Kind.Nest around os at st → StandsAt s.bytes at (83 ∷ 116 ∷ []) → IsNameAt s.bytes (at + 2) name end
     → NestNamed s os around (in_std (source false name)) end st
-unfolding is_eaten number_of_kind parts_of between close unfolding_.behind meaning part byte_of tree_of text_of piece_of letter_of is_there named_so_far applied
+unfolding is_eaten number_of_kind parts_of between close unfolding_behind meaning part byte_of tree_of text_of piece_of letter_of is_there named_so_far applied
 nest-std s os around at st name end expects here is =
     let p = Production.NestStd in
     let two = stands-split s.bytes at (83 ∷ []) (116 ∷ []) here in
@@ -112,8 +101,7 @@ rest-left Kind.NestMoreOrEnd is = refl
 rest-left Kind.NestTail is = refl
 rest-left _ is = absurd is
 
-prefix-appended : (around : Around) (t : Term) (listed : Bool) (st : State)
-    → with_prefix (after t listed around) st ≡ unless_listed listed around t st
+prefix-appended : (around : Around) (t : Term) (listed : Bool) (st : State) → with_prefix (after t listed around) st ≡ unless_listed listed around t st
 unfolding with_prefix appended after prefix_tree prefix_listed
 prefix-appended around t true st = refl
 prefix-appended around t false st = refl
@@ -127,9 +115,8 @@ component-awaited {inner = inner} listed h onward = record { listed = listed; in
 
 -- a component follows, and the name so far is a candidate before it
 pub component-awaits : (s : Symbol) (kind : Kind) (os : List Opened) (around : Around) (t : Term) (listed : Bool) (at : ℕ) (st : State)
-    → IsRest kind → Expects s kind (after t listed around) os at st
-    → AwaitsComponent s os around t at (unless_listed listed around t st)
-unfolding is_eaten is_left number_of_kind parts_of between close unfolding_.behind meaning part byte_of tree_of text_of piece_of letter_of is_there after prefix_tree prefix_listed
+    → IsRest kind → Expects s kind (after t listed around) os at st → AwaitsComponent s os around t at (unless_listed listed around t st)
+unfolding is_eaten is_left number_of_kind parts_of between close unfolding_behind meaning part byte_of tree_of text_of piece_of letter_of is_there after prefix_tree prefix_listed
 component-awaits s kind os around t listed at st is expects =
     let p = Production.NestNext in
     let component : Hole s (OfKind (number_of_kind Kind.Component)) (after t listed around)
@@ -141,9 +128,8 @@ component-awaits s kind os around t listed at st is expects =
 
 -- arguments of the name so far
 first-arguments : (s : Symbol) (os : List Opened) (around : Around) (t : Term) (listed : Bool) (at : ℕ) (st : State)
-    → Expects s Kind.NestRestAlone (after t listed around) os at st → StandsAt s.bytes at (73 ∷ [])
-    → AwaitsArguments s os around t listed at st
-unfolding is_eaten number_of_kind parts_of between close unfolding_.behind meaning part byte_of tree_of text_of piece_of letter_of is_there appended after inside listed_so_far prefix_tree prefix_listed
+    → Expects s Kind.NestRestAlone (after t listed around) os at st → StandsAt s.bytes at (73 ∷ []) → AwaitsArguments s os around t listed at st
+unfolding is_eaten number_of_kind parts_of between close unfolding_behind meaning part byte_of tree_of text_of piece_of letter_of is_there appended after inside listed_so_far prefix_tree prefix_listed
 first-arguments s os around t listed at st expects stands =
     let p = Production.NestArguments in
     let component = OfKind (number_of_kind Kind.Component) in
@@ -158,9 +144,8 @@ first-arguments s os around t listed at st expects stands =
 
 -- arguments of a substituted name, after which it may end in the wide grammar
 pub instance-arguments : (s : Symbol) (os : List Opened) (around : Around) (t : Term) (listed : Bool) (at : ℕ) (st : State)
-    → Expects s Kind.NestRestOrEnd (after t listed around) os at st → StandsAt s.bytes at (73 ∷ [])
-    → AwaitsInstance s os around t listed at st
-unfolding is_eaten number_of_kind parts_of between close unfolding_.behind meaning part byte_of tree_of text_of piece_of letter_of is_there after inside named_so_far prefix_tree prefix_listed
+    → Expects s Kind.NestRestOrEnd (after t listed around) os at st → StandsAt s.bytes at (73 ∷ []) → AwaitsInstance s os around t listed at st
+unfolding is_eaten number_of_kind parts_of between close unfolding_behind meaning part byte_of tree_of text_of piece_of letter_of is_there after inside named_so_far prefix_tree prefix_listed
 instance-arguments s os around t listed at st expects stands =
     let p = Production.NestInstance in
     let arguments : Hole s (OfKind (number_of_kind Kind.ArgumentsFirst)) (inside around)
@@ -185,8 +170,7 @@ component-outside s inner outer around t at st passes a = record {
 
 -- and after which a component follows
 known-arguments : (s : Symbol) (os : List Opened) (around : Around) (t : Term) (listed : Bool) (at : ℕ) (st : State)
-    → Expects s Kind.NestRestOrEnd (after t listed around) os at st → StandsAt s.bytes at (73 ∷ [])
-    → AwaitsArguments s os around t listed at st
+    → Expects s Kind.NestRestOrEnd (after t listed around) os at st → StandsAt s.bytes at (73 ∷ []) → AwaitsArguments s os around t listed at st
 known-arguments s os around t listed at st expects stands =
     let begun = instance-arguments s os around t listed at st expects stands in
     awaited {os = begun.inner} (hole-of begun) (λ l to later comes ended.
@@ -210,7 +194,7 @@ first-is-rest _ is = absurd is
 -- the name ends
 pub nest-end : (s : Symbol) (os : List Opened) (around : Around) (t : Term) (listed : Bool) (at : ℕ) (st : State)
     → Expects s Kind.NestTail (after t listed around) os at st → StandsAt s.bytes at (69 ∷ []) → Comes s os (tree t listed) (at + 1) st
-unfolding is_eaten number_of_kind parts_of between close unfolding_.behind meaning part byte_of tree_of text_of piece_of letter_of is_there after prefix_tree prefix_listed
+unfolding is_eaten number_of_kind parts_of between close unfolding_behind meaning part byte_of tree_of text_of piece_of letter_of is_there after prefix_tree prefix_listed
 nest-end s os around t listed at st expects stands =
     (byte-fills (eats s Kind.NestTail Production.NestEnd 69 refl) (hole s Kind.NestTail (after t listed around) os at st expects) stands refl refl).comes
 
@@ -220,8 +204,7 @@ nest-end s os around t listed at st expects stands =
 pub named-by : {s : Symbol} {os : List Opened} (p : Production) {taken : List ℕ} {at0 : ℕ} {around outer : Around} {before : State} {u : Term} {at : ℕ} {st : State}
     → Hole s (OfKind (number_of_kind Kind.MaybeArguments)) (after u false outer) (opened (standing (rule_of p) taken at0 around before) (tree u false ∷ []) [] ∷ os) at st
     → ((byte : ℕ) (here : Around) (began later : State) (v : Value)
-    → close p byte here at0 began (tree u false ∷ v ∷ []) later ≡ Ok (found (tree (applied u v) false) later))
-    → Named s os outer u at st
+    → close p byte here at0 began (tree u false ∷ v ∷ []) later ≡ Ok (found (tree (applied u v) false) later)) → Named s os outer u at st
 unfolding applied is_there tree_of
 named-by p {taken = taken} {around = around} {before = before} {u = u} h closed = record {
   inner = open_at h;
@@ -233,9 +216,8 @@ named-by p {taken = taken} {around = around} {before = before} {u = u} h closed 
 
 -- a name
 pub component-source : (s : Symbol) (os : List Opened) (around : Around) (t : Term) (listed : Bool) (at : ℕ) (st : State) (name : List ℕ) (end : ℕ)
-    → Expects s Kind.Component (after t listed around) os at st → IsNameAt s.bytes at name end
-    → Named s os around (within t (source false name)) end st
-unfolding is_eaten is_left number_of_kind parts_of between close unfolding_.behind meaning part byte_of tree_of text_of piece_of letter_of is_there named_so_far extended after
+    → Expects s Kind.Component (after t listed around) os at st → IsNameAt s.bytes at name end → Named s os around (within t (source false name)) end st
+unfolding is_eaten is_left number_of_kind parts_of between close unfolding_behind meaning part byte_of tree_of text_of piece_of letter_of is_there named_so_far extended after
 component-source s os around t listed at st name end expects is =
     let p = Production.SourceName in
     let own = chain-opens (leaves s Kind.Component p 48 refl) (hole s Kind.Component (after t listed around) os at st expects) refl refl in
@@ -245,7 +227,7 @@ component-source s os around t listed at st name end expects is =
 pub component-internal : (s : Symbol) (os : List Opened) (around : Around) (t : Term) (listed : Bool) (at : ℕ) (st : State) (name : List ℕ) (end : ℕ)
     → Expects s Kind.Component (after t listed around) os at st → StandsAt s.bytes at (76 ∷ []) → IsNameAt s.bytes (at + 1) name end
     → Named s os around (within t (source true name)) end st
-unfolding is_eaten number_of_kind parts_of between close unfolding_.behind meaning part byte_of tree_of text_of piece_of letter_of is_there named_so_far extended after
+unfolding is_eaten number_of_kind parts_of between close unfolding_behind meaning part byte_of tree_of text_of piece_of letter_of is_there named_so_far extended after
 component-internal s os around t listed at st name end expects stands is =
     let p = Production.InternalName in
     let own = byte-opens (eats s Kind.Component p 76 refl) (hole s Kind.Component (after t listed around) os at st expects) stands refl refl in
@@ -255,7 +237,7 @@ component-internal s os around t listed at st name end expects stands is =
 pub operator-fills : {s : Symbol} {around : Around} {os : List Opened} {at : ℕ} {st : State} (kind : Kind) {first second : ℕ} (is : IsOperator first second)
     → choose kind first ≡ Some is.production → Hole s (OfKind (number_of_kind kind)) around os at st → StandsAt s.bytes at (first ∷ second ∷ [])
     → Filled s os (piece (operator first second)) (at + 2) st
-unfolding is_eaten number_of_kind parts_of between opening close unfolding_.behind meaning part byte_of tree_of text_of piece_of letter_of is_there is_chain
+unfolding is_eaten number_of_kind parts_of between opening close unfolding_behind meaning part byte_of tree_of text_of piece_of letter_of is_there is_chain
 operator-fills {s = s} {around = around} {at = at} {st = st} kind {first = first} {second = second} is chosen h stands =
     let two = stands-split s.bytes at (first ∷ []) (second ∷ []) stands in
     let begun = chosen-byte s kind is.production first chosen is.small is.takes.chain is.takes.begins in
@@ -267,7 +249,7 @@ operator-fills {s = s} {around = around} {at = at} {st = st} kind {first = first
 other-operator : (s : Symbol) (os : List Opened) (around : Around) (t : Term) (listed : Bool) (at : ℕ) (st : State) (first second : ℕ) (is : IsOperator first second)
     → choose Kind.OtherOperator first ≡ Some is.production → Expects s Kind.Component (after t listed around) os at st → StandsAt s.bytes at (first ∷ second ∷ [])
     → Named s os around (within t (operator first second)) (at + 2) st
-unfolding is_eaten is_left number_of_kind parts_of between close unfolding_.behind meaning part byte_of tree_of text_of piece_of letter_of is_there named_so_far extended after
+unfolding is_eaten is_left number_of_kind parts_of between close unfolding_behind meaning part byte_of tree_of text_of piece_of letter_of is_there named_so_far extended after
 other-operator s os around t listed at st first second is chosen expects stands =
     let p = Production.OtherOperatorName in
     let code = chain-opens (leaves s Kind.Component p 110 refl) (hole s Kind.Component (after t listed around) os at st expects) refl refl in
@@ -289,7 +271,7 @@ operator-behind-c : (s : Symbol) (os : List Opened) (around : Around) (t : Term)
     → Taken s Kind.OperatorAfterC Production.Mark (second ∷ [])
     → Expects s Kind.Component (after t listed around) os at st → StandsAt s.bytes at (99 ∷ second ∷ [])
     → Named s os around (within t (operator 99 second)) (at + 2) st
-unfolding is_eaten is_left number_of_kind parts_of between close unfolding_.behind meaning part byte_of tree_of text_of piece_of letter_of is_there named_so_far extended after
+unfolding is_eaten is_left number_of_kind parts_of between close unfolding_behind meaning part byte_of tree_of text_of piece_of letter_of is_there named_so_far extended after
 operator-behind-c s os around t listed at st second marked expects stands =
     let p = Production.OperatorNameWithC in
     let q = Production.ComponentWithC in
@@ -303,7 +285,7 @@ operator-behind-c s os around t listed at st second marked expects stands =
 pub component-operator : (s : Symbol) (os : List Opened) (around : Around) (t : Term) (listed : Bool) (at : ℕ) (st : State) (first second : ℕ)
     → IsOperator first second → Expects s Kind.Component (after t listed around) os at st → StandsAt s.bytes at (first ∷ second ∷ [])
     → Named s os around (within t (operator first second)) (at + 2) st
-unfolding is_eaten number_of_kind parts_of between opening close unfolding_.behind meaning part byte_of tree_of text_of piece_of letter_of is_there is_chain
+unfolding is_eaten number_of_kind parts_of between opening close unfolding_behind meaning part byte_of tree_of text_of piece_of letter_of is_there is_chain
 component-operator s os around t listed at st first second is expects stands = elim is.component [
   | inl c ↦ subst (λ f. Named s os around (within t (operator f second)) (at + 2) st) (sym c.0)
       (operator-behind-c s os around t listed at st second (chosen-byte s Kind.OperatorAfterC Production.Mark second c.1 is.small_second refl (λ f at st. refl)) expects (subst (λ f. StandsAt s.bytes at (f ∷ second ∷ [])) c.0 stands))
@@ -330,7 +312,7 @@ destructor-taken s digit (inr (wide, is)) =
 pub component-constructor : (s : Symbol) (os : List Opened) (around : Around) (t : Term) (listed : Bool) (at : ℕ) (st : State) (digit : ℕ)
     → Expects s Kind.Component (after t listed around) os at st → StandsAt s.bytes at (67 ∷ digit ∷ []) → IsConstructorDigit s.is_wide digit
     → Named s os around (within t (constructor digit)) (at + 2) st
-unfolding is_eaten is_left number_of_kind parts_of between close unfolding_.behind meaning part byte_of tree_of text_of piece_of letter_of is_there named_so_far extended after
+unfolding is_eaten is_left number_of_kind parts_of between close unfolding_behind meaning part byte_of tree_of text_of piece_of letter_of is_there named_so_far extended after
 component-constructor s os around t listed at st digit expects stands is =
     let p = Production.Constructor in
     let q = Production.AnyConstructor in
@@ -344,7 +326,7 @@ component-constructor s os around t listed at st digit expects stands is =
 pub component-destructor : (s : Symbol) (os : List Opened) (around : Around) (t : Term) (listed : Bool) (at : ℕ) (st : State) (digit : ℕ)
     → Expects s Kind.Component (after t listed around) os at st → StandsAt s.bytes at (68 ∷ digit ∷ []) → IsDestructorDigit s.is_wide digit
     → Named s os around (within t (destructor digit)) (at + 2) st
-unfolding is_eaten number_of_kind parts_of between close unfolding_.behind meaning part byte_of tree_of text_of piece_of letter_of is_there named_so_far extended after
+unfolding is_eaten number_of_kind parts_of between close unfolding_behind meaning part byte_of tree_of text_of piece_of letter_of is_there named_so_far extended after
 component-destructor s os around t listed at st digit expects stands is =
     let p = Production.Destructor in
     let two = stands-split s.bytes at (68 ∷ []) (digit ∷ []) stands in
@@ -364,7 +346,7 @@ pub record Tagged (s : Symbol) (outer : List Opened) (around : Around) (t : Term
 
 pub tag-follows : (s : Symbol) (os : List Opened) (around : Around) (t : Term) (at : ℕ) (st : State) (tag : List ℕ) (end : ℕ) → s.is_wide ≡ true
     → Expects s Kind.MaybeArguments (after t false around) os at st → IsTagAt s.bytes at tag end → Tagged s os around (with_tag t tag) end st
-unfolding is_eaten is_eaten_widely number_of_kind parts_of between close unfolding_.behind meaning part byte_of tree_of text_of piece_of letter_of is_there after named_so_far with_tag prefix_tree applied
+unfolding is_eaten is_eaten_widely number_of_kind parts_of between close unfolding_behind meaning part byte_of tree_of text_of piece_of letter_of is_there after named_so_far with_tag prefix_tree applied
 tag-follows s os around t at st tag end wide expects (stands, is) =
     let p = Production.Tag in
     let own = byte-opens (eats-widely s Kind.MaybeArguments p 66 wide refl) (hole s Kind.MaybeArguments (after t false around) os at st expects) stands refl refl in

@@ -1,41 +1,29 @@
 -- Moves within types, arrays and function types: a byte or a name is read, and a type opens, or is accepted.
-use Rattle.std.proofs.lemmas.Bool.{eq-eqb}
+use Rattle.cpp_direct.proofs.Basics.{eq-eqb, ◌≡◌, ℕ, ◌+◌, ◌-◌, List, [], ◌∷◌, slice_get, Bool, true, false, ◌&&◌, ◌||◌, not, nat_eq, Option, Some, None, Result, Ok, Err, refl, ap, subst, ◌∙◌, arith, length, abbreviation, after, alone, any_value, appended, applied, array, between, builtin, byte_of, close, Continuation, counted_value, extended, Found, found, in_std, instance, is_function_type, is_module, is_open, Kind, list, listed_value, may_be_empty, meaning, named_so_far, nil, number_of_kind, pack_length, packs_in, parts_of, pointer, Production, reference_to, Refusal, rule_of, signature_or, source, standing, substituted, Term, with_item, with_packs, with_type, with_unqualified, ◌>>=◌, State, outermost, Around, Value, nothing_there, tree, tree_of, is_listed, part, is_there, letter_of, piece_of, ref_of, signature, abbreviation_letters, builtin_letters, builtin_letters_with_d, is_abbreviated, is_builtin, is_builtin_with_d, Symbol, Awaits, ArrayOpened, Comes, Expects, FunctionOpened, IsNameAt, IsNamedKind, IsQualifiable, IsReferable, IsSeqAt, IsSizeAt, IsTyped, NameOpens, Opened, ParameterOpened, ReferenceOpened, SignatureGoesOn, StandsAt, TreeOpens, TreePasses, TypeNamed, TypeOpens, access_letters, as_const, opened, plain_function, reference, reference_letter, unless_listed, with_candidate, Access, NumberKind, Sym, unfolding_behind}
 use Rattle.std.proofs.Math.Bool.{and-false, and-true}
-use Rattle.std.proofs.Common.{◌≡◌, ℕ, ◌+◌, ◌-◌, List, [], ◌∷◌, slice_get, Bool, true, false, ◌&&◌, ◌||◌, not, nat_eq, Option, Some, None, Result, Ok, Err, refl, ap, subst, ◌∙◌, arith, length}
-use Rattle.cpp_direct.specs.AllTerms.{abbreviation, after, alone, any_value, appended, applied, array, between, builtin, byte_of, close, Continuation, counted_value, extended, Found, found, in_std, instance, is_function_type, is_module, is_open, Kind, list, listed_value, may_be_empty, meaning, named_so_far, nil, number_of_kind, pack_length, packs_in, parts_of, pointer, Production, reference_to, Refusal, rule_of, signature_or, source, standing, substituted, Term, with_item, with_packs, with_type, with_unqualified, ◌>>=◌}
-use Rattle.sym_core.specs.declared.refusal.Refusal.TheVariants.{BadReference}
-use Rattle.sym_core.specs.declared.NumberKind.TheVariants.{Seq36}
-use Rattle.sym_shape.specs.declared.rule.Sym.TheVariants.{Kind as OfKind}
-use Rattle.cpp_grammar.specs.Values.{Candidate, State, outermost, Around, Value, nothing_there, text, tree, tree_of, text_of, is_listed, part, is_there, letter_of, piece_of, ref_of, signature}
-use Rattle.cpp_direct.specs.AllStates.{abbreviation_letters, builtin_letters, builtin_letters_with_d, is_abbreviated, is_builtin, is_builtin_with_d, Symbol}
+use Rattle.cpp_grammar.specs.Values.{Candidate, text, text_of}
 use Rattle.cpp_direct.proofs.Moves.{alone-arguments, awaited, comes-alike, hole-of, stands-split, Hole, Filled, hole, open_at, fill, filled-at, eats, leaves, is_eaten, is_left, byte-opens, chain-opens, byte-fills, next-part, closes, none-fills, name-fills, first-named, came, digits-fill}
 use Rattle.cpp_direct.proofs.LettersTested.{each_passes, tested}
-use Rattle.cpp_direct.specs.Holes.{Awaits}
-use Rattle.cpp_direct.specs.AllHoles.{ArrayOpened, Comes, Expects, FunctionOpened, IsNameAt, IsNamedKind, IsQualifiable, IsReferable, IsSeqAt, IsSizeAt, IsTyped, NameOpens, Opened, ParameterOpened, ReferenceOpened, SignatureGoesOn, StandsAt, TreeOpens, TreePasses, TypeNamed, TypeOpens, access_letters, as_const, opened, plain_function, reference, reference_letter, unless_listed, with_candidate}
-use Rattle.cpp_direct.specs.declared.open.Access.{Access}
-use Rattle.cpp_grammar.specs.Unfolding as unfolding_
 use Rattle.cpp_grammar.specs.Values as values
-use Rattle.cpp_direct.specs.declared.open.Access.TheVariants as accesses
 
 -- ## Solid types
 
 plain-closes : (around : Around) (at : ℕ) (before : State) (t : Term) (listed : Bool) (st : State)
     → close Production.PlainType 0 around at before (tree t listed ∷ []) st
     ≡ Ok (found (tree t true) (unless_listed listed around t st))
-unfolding close unfolding_.behind meaning listed_value with_type tree_of is_listed part appended
+unfolding close unfolding_behind meaning listed_value with_type tree_of is_listed part appended
 plain-closes around at before t true st = refl
 plain-closes around at before t false st = refl
 
 qualified-closes : (around : Around) (at : ℕ) (before : State) (t : Term) (listed : Bool) (st : State) → is_function_type t ≡ false
     → close Production.QualifiedPlain 0 around at before (tree t listed ∷ []) st
     ≡ Ok (found (tree t true) (unless_listed listed around t st))
-unfolding close unfolding_.behind meaning listed_value with_type with_unqualified tree_of is_listed part appended is_function_type
+unfolding close unfolding_behind meaning listed_value with_type with_unqualified tree_of is_listed part appended is_function_type
 qualified-closes around at before t true st other = rw other refl
 qualified-closes around at before t false st other = rw other refl
 
 -- the alternatives of a type by its kind are chosen there
-whole-taken : (kind : Kind) → IsQualifiable kind
-    → (is_left kind Production.PlainType 80 ≡ true) × (is_eaten kind Production.ConstType 75 ≡ true)
+whole-taken : (kind : Kind) → IsQualifiable kind → (is_left kind Production.PlainType 80 ≡ true) × (is_eaten kind Production.ConstType 75 ≡ true)
 unfolding is_eaten is_left
 whole-taken Kind.Type whole = (refl, refl)
 whole-taken Kind.Item whole = (refl, refl)
@@ -57,12 +45,11 @@ WholeOpens s outer around at st = Awaits s Kind.Solid around at st (λ inner.
 
 pub whole-opens : (s : Symbol) (kind : Kind) (around : Around) (os : List Opened) (at : ℕ) (st : State) → IsQualifiable kind
     → Expects s kind around os at st → WholeOpens s os around at st
-unfolding is_eaten is_left number_of_kind parts_of between close unfolding_.behind meaning part byte_of tree_of text_of piece_of letter_of is_there
+unfolding is_eaten is_left number_of_kind parts_of between close unfolding_behind meaning part byte_of tree_of text_of piece_of letter_of is_there
 whole-opens s kind around os at st whole expects =
     let p = Production.PlainType in
     let solid = chain-opens (leaves s kind p 80 (whole-taken kind whole).0) (hole s kind around os at st expects) refl refl in
-    awaited solid
-    (λ t listed end now comes. (closes p (fill solid (tree t listed) end now comes) (plain-closes around at st t listed now)).comes)
+    awaited solid (λ t listed end now comes. (closes p (fill solid (tree t listed) end now comes) (plain-closes around at st t listed now)).comes)
 
 any-tree : (s : Symbol) (os : List Opened) (around : Around) (at : ℕ) (st : State) → WholeOpens s os around at st → TreeOpens s Kind.Solid os around at st
 any-tree s os around at st w = awaited {os = w.inner} (hole-of w) (λ t listed end now other comes. w.onward t listed end now comes)
@@ -70,7 +57,7 @@ any-tree s os around at st w = awaited {os = w.inner} (hole-of w) (λ t listed e
 -- a solid type is expected where a type is
 pub solid-opens : (s : Symbol) (kind : Kind) (around : Around) (os : List Opened) (at : ℕ) (st : State) → IsTyped kind
     → Expects s kind around os at st → TreeOpens s Kind.Solid os around at st
-unfolding is_eaten is_left number_of_kind parts_of between close unfolding_.behind meaning part byte_of tree_of text_of piece_of letter_of is_there
+unfolding is_eaten is_left number_of_kind parts_of between close unfolding_behind meaning part byte_of tree_of text_of piece_of letter_of is_there
 solid-opens s Kind.Plain around os at st typed expects =
     let p = Production.QualifiedPlain in
     let solid = chain-opens (leaves s Kind.Plain p 80 refl) (hole s Kind.Plain around os at st expects) refl refl in
@@ -86,7 +73,7 @@ solid-opens s _ around os at st typed expects = absurd typed
 -- a builtin type is accepted, which is no candidate
 pub builtin-comes : (s : Symbol) (kind : Kind) (around : Around) (os : List Opened) (at : ℕ) (st : State) (b : ℕ) → IsTyped kind
     → is_builtin b ≡ true → Expects s kind around os at st → StandsAt s.bytes at (b ∷ []) → Comes s os (tree (builtin (b ∷ [])) true) (at + 1) st
-unfolding is_eaten number_of_kind parts_of between close unfolding_.behind meaning part byte_of tree_of text_of piece_of letter_of is_there is_function_type is_builtin each_passes
+unfolding is_eaten number_of_kind parts_of between close unfolding_behind meaning part byte_of tree_of text_of piece_of letter_of is_there is_function_type is_builtin each_passes
 builtin-comes s kind around os at st b typed is expects stands =
     let solid = solid-opens s kind around os at st typed expects in
     solid.onward (builtin (b ∷ [])) true (at + 1) st refl
@@ -102,16 +89,16 @@ builtin-with-d-taken byte is = (
 
 -- one with a code of two letters is accepted after its D
 after-d-comes : {s : Symbol} {around : Around} {os : List Opened} {at : ℕ} {st : State} (b : ℕ) → is_builtin_with_d b ≡ true
-    → Hole s (OfKind (number_of_kind Kind.AfterD)) around os at st → StandsAt s.bytes at (b ∷ [])
+    → Hole s (Sym.Kind (number_of_kind Kind.AfterD)) around os at st → StandsAt s.bytes at (b ∷ [])
     → Filled s os (tree (builtin (68 ∷ b ∷ [])) true) (at + 1) st
-unfolding is_eaten number_of_kind parts_of between close unfolding_.behind meaning part byte_of tree_of text_of piece_of letter_of is_there
+unfolding is_eaten number_of_kind parts_of between close unfolding_behind meaning part byte_of tree_of text_of piece_of letter_of is_there
 after-d-comes {s = s} b is h stands = byte-fills (eats s Kind.AfterD Production.BuiltinWithD b (builtin-with-d-taken b is).0) h stands refl refl
 
 -- and where an item is expected
 item-after-d-comes : {s : Symbol} {around : Around} {os : List Opened} {at : ℕ} {st : State} (b : ℕ) → is_builtin_with_d b ≡ true
-    → Hole s (OfKind (number_of_kind Kind.ItemAfterD)) around os at st → StandsAt s.bytes at (b ∷ [])
+    → Hole s (Sym.Kind (number_of_kind Kind.ItemAfterD)) around os at st → StandsAt s.bytes at (b ∷ [])
     → Filled s os (tree (builtin (68 ∷ b ∷ [])) true) (at + 1) st
-unfolding is_eaten is_left number_of_kind parts_of between close unfolding_.behind meaning part byte_of tree_of text_of piece_of letter_of is_there
+unfolding is_eaten is_left number_of_kind parts_of between close unfolding_behind meaning part byte_of tree_of text_of piece_of letter_of is_there
 item-after-d-comes {s = s} b is h stands =
     let p = Production.ItemIsType in
     closes p (after-d-comes b is (chain-opens (leaves s Kind.ItemAfterD p b (builtin-with-d-taken b is).1) h refl refl) stands) refl
@@ -120,13 +107,13 @@ item-after-d-comes {s = s} b is h stands =
 pub builtin-with-d-comes : (s : Symbol) (kind : Kind) (around : Around) (os : List Opened) (at : ℕ) (st : State) (b : ℕ) → IsTyped kind
     → is_builtin_with_d b ≡ true → Expects s kind around os at st → StandsAt s.bytes at (68 ∷ b ∷ [])
     → Comes s os (tree (builtin (68 ∷ b ∷ [])) true) (at + 2) st
-unfolding is_eaten number_of_kind parts_of between close unfolding_.behind meaning part byte_of tree_of text_of piece_of letter_of is_there listed_value with_type with_unqualified is_listed is_function_type
+unfolding is_eaten number_of_kind parts_of between close unfolding_behind meaning part byte_of tree_of text_of piece_of letter_of is_there listed_value with_type with_unqualified is_listed is_function_type
 builtin-with-d-comes s kind around os at st b typed is expects stands = go kind typed (hole s kind around os at st expects)
   where
     both : StandsAt s.bytes at (68 ∷ []) × StandsAt s.bytes (at + 1) (b ∷ [])
     both = stands-split s.bytes at (68 ∷ []) (b ∷ []) stands
 
-    go : (k : Kind) → IsTyped k → Hole s (OfKind (number_of_kind k)) around os at st → Comes s os (tree (builtin (68 ∷ b ∷ [])) true) (at + 2) st
+    go : (k : Kind) → IsTyped k → Hole s (Sym.Kind (number_of_kind k)) around os at st → Comes s os (tree (builtin (68 ∷ b ∷ [])) true) (at + 2) st
     go Kind.Type is_typed h =
         let p = Production.TypeWithD in
         (filled-at (at + 2) (closes p (after-d-comes b is (byte-opens (eats s Kind.Type p 68 refl) h both.0 refl refl) both.1) refl) (omega arith)).comes
@@ -146,16 +133,14 @@ builtin-with-d-comes s kind around os at st b typed is expects stands = go kind 
 -- a type is expected after a P
 pub pointer-opens : (s : Symbol) (kind : Kind) (around : Around) (os : List Opened) (at : ℕ) (st : State) → IsTyped kind
     → Expects s kind around os at st → StandsAt s.bytes at (80 ∷ []) → TypeOpens s Kind.Type os around pointer (at + 1) st
-unfolding is_eaten number_of_kind parts_of between close unfolding_.behind meaning part byte_of tree_of text_of piece_of letter_of is_there is_function_type
+unfolding is_eaten number_of_kind parts_of between close unfolding_behind meaning part byte_of tree_of text_of piece_of letter_of is_there is_function_type
 pointer-opens s kind around os at st typed expects stands =
     let p = Production.Pointer in
     let solid = solid-opens s kind around os at st typed expects in
     let type = byte-opens (eats s Kind.Solid p 80 refl) (hole-of solid) stands refl refl in
-    awaited type
-    (λ t end now comes. solid.onward (pointer t) false end now refl (closes p (fill type (tree t true) end now comes) refl).comes)
+    awaited type (λ t end now comes. solid.onward (pointer t) false end now refl (closes p (fill type (tree t true) end now comes) refl).comes)
 
-reference-taken : (k : Kind) → IsReferable k
-    → (is_eaten k Production.ReferenceType 82 ≡ true) × (is_eaten k Production.ReferenceType 79 ≡ true)
+reference-taken : (k : Kind) → IsReferable k → (is_eaten k Production.ReferenceType 82 ≡ true) × (is_eaten k Production.ReferenceType 79 ≡ true)
 unfolding is_eaten
 reference-taken Kind.Type typed = (refl, refl)
 reference-taken Kind.Item typed = (refl, refl)
@@ -165,7 +150,7 @@ reference-taken _ typed = absurd typed
 -- a type is expected after an R, and after an O
 pub reference-type-opens : (s : Symbol) (kind : Kind) (is_lvalue : Bool) (around : Around) (os : List Opened) (at : ℕ) (st : State) → IsReferable kind
     → Expects s kind around os at st → StandsAt s.bytes at (reference_letter is_lvalue ∷ []) → TypeOpens s Kind.Type os around (reference is_lvalue) (at + 1) st
-unfolding is_eaten number_of_kind parts_of between close unfolding_.behind meaning part byte_of tree_of text_of piece_of letter_of is_there listed_value appended reference_to
+unfolding is_eaten number_of_kind parts_of between close unfolding_behind meaning part byte_of tree_of text_of piece_of letter_of is_there listed_value appended reference_to
 reference-type-opens s kind true around os at st typed expects stands =
     let p = Production.ReferenceType in
     let type = byte-opens (eats s kind p 82 (reference-taken kind typed).0) (hole s kind around os at st expects) stands refl refl in
@@ -178,7 +163,7 @@ reference-type-opens s kind false around os at st typed expects stands =
 -- a plain type is expected after a K
 pub const-opens : (s : Symbol) (kind : Kind) (around : Around) (os : List Opened) (at : ℕ) (st : State) → IsQualifiable kind
     → Expects s kind around os at st → StandsAt s.bytes at (75 ∷ []) → TypeOpens s Kind.Plain os around as_const (at + 1) st
-unfolding is_eaten number_of_kind parts_of between close unfolding_.behind meaning part byte_of tree_of text_of piece_of letter_of is_there listed_value appended
+unfolding is_eaten number_of_kind parts_of between close unfolding_behind meaning part byte_of tree_of text_of piece_of letter_of is_there listed_value appended
 const-opens s kind around os at st typed expects stands =
     let p = Production.ConstType in
     let type = byte-opens (eats s kind p 75 (whole-taken kind typed).1) (hole s kind around os at st expects) stands refl refl in
@@ -201,8 +186,7 @@ named-so s around os inner t listed at st solid passes awaits bare argued = reco
 }
 
 -- the names of types are chosen where one is expected: after an N, an S or a Z, or with their length
-pub named-taken : (kind : Kind) → IsNamedKind kind
-    → (is_left kind Production.SourceName 48 ≡ true) × (is_eaten kind Production.TypeWithS 83 ≡ true)
+pub named-taken : (kind : Kind) → IsNamedKind kind → (is_left kind Production.SourceName 48 ≡ true) × (is_eaten kind Production.TypeWithS 83 ≡ true)
     × (is_eaten kind Production.NestedType 78 ≡ true) × (is_eaten kind Production.LocalType 90 ≡ true)
 unfolding is_eaten is_left
 named-taken Kind.Solid is_named = (refl, refl, refl, refl)
@@ -213,21 +197,20 @@ named-taken _ is_named = absurd is_named
 pub source-opens : (s : Symbol) (kind : Kind) (around : Around) (os : List Opened) (at : ℕ) (st : State) (name : List ℕ) (end : ℕ) → IsNamedKind kind
     → around.prefix ≡ outermost → TreeOpens s kind os around at st → IsNameAt s.bytes at name end
     → TypeNamed s os around (alone (source false name)) false end st
-unfolding is_eaten is_left number_of_kind parts_of between close unfolding_.behind meaning part byte_of tree_of text_of piece_of letter_of is_there applied named_so_far after extended
+unfolding is_eaten is_left number_of_kind parts_of between close unfolding_behind meaning part byte_of tree_of text_of piece_of letter_of is_there applied named_so_far after extended
 source-opens s kind around os at st name end is_named first solid is =
     let p = Production.SourceName in
     let t = alone (source false name) in
     let own = chain-opens (leaves s kind p 48 (named-taken kind is_named).0) (hole s kind around solid.inner at st solid.awaits) refl refl in
     let rest = next-part p (name-fills name end own is) (first-named around (source false name) st first) in
-    named-so s around os (open_at rest) t false end st solid.inner solid.onward
-    (alone-arguments s (after t false around) (open_at rest) end st rest.expects)
+    named-so s around os (open_at rest) t false end st solid.inner solid.onward (alone-arguments s (after t false around) (open_at rest) end st rest.expects)
     (λ later now comes. (closes p (fill rest nothing_there later now comes) refl).comes)
     (λ a later now comes. (closes p (fill rest (tree a true) later now comes) refl).comes)
 
 -- a name after an S
 pub name-with-s-opens : (s : Symbol) (kind : Kind) (around : Around) (os : List Opened) (at : ℕ) (st : State) → IsNamedKind kind
     → TreeOpens s kind os around at st → StandsAt s.bytes at (83 ∷ []) → NameOpens s Kind.TypeAfterS os around (at + 1) st
-unfolding is_eaten number_of_kind parts_of between close unfolding_.behind meaning part byte_of tree_of text_of piece_of letter_of is_there is_listed applied
+unfolding is_eaten number_of_kind parts_of between close unfolding_behind meaning part byte_of tree_of text_of piece_of letter_of is_there is_listed applied
 name-with-s-opens s kind around os at st is_named solid stands =
     let p = Production.TypeWithS in
     let name = byte-opens (eats s kind p 83 (named-taken kind is_named).1) (hole s kind around solid.inner at st solid.awaits) stands refl refl in
@@ -241,7 +224,7 @@ name-with-s-opens s kind around os at st is_named solid stands =
 pub std-opens : (s : Symbol) (kind : Kind) (around : Around) (os : List Opened) (at : ℕ) (st : State) (name : List ℕ) (end : ℕ) → IsNamedKind kind
     → TreeOpens s kind os around at st → StandsAt s.bytes at (83 ∷ 116 ∷ []) → IsNameAt s.bytes (at + 2) name end
     → TypeNamed s os around (in_std (source false name)) false end st
-unfolding is_eaten is_left number_of_kind parts_of may_be_empty between close unfolding_.behind meaning part byte_of tree_of text_of piece_of letter_of is_there named_so_far after applied
+unfolding is_eaten is_left number_of_kind parts_of may_be_empty between close unfolding_behind meaning part byte_of tree_of text_of piece_of letter_of is_there named_so_far after applied
 std-opens s kind around os at st name end is_named solid stands is =
     let p = Production.TaggedStdType in
     let both = stands-split s.bytes at (83 ∷ []) (116 ∷ []) stands in
@@ -255,18 +238,18 @@ std-opens s kind around os at st name end is_named solid stands is =
 
 -- one of the letters after an S that denote a name of std
 pub abbreviation-fills : {s : Symbol} {around : Around} {os : List Opened} {at : ℕ} {st : State} (letter : ℕ) → is_abbreviated letter ≡ true
-    → Hole s (OfKind (number_of_kind Kind.Abbreviation)) around os at st → StandsAt s.bytes at (letter ∷ [])
+    → Hole s (Sym.Kind (number_of_kind Kind.Abbreviation)) around os at st → StandsAt s.bytes at (letter ∷ [])
     → Filled s os (tree (abbreviation letter) true) (at + 1) st
-unfolding is_eaten number_of_kind parts_of between close unfolding_.behind meaning part byte_of tree_of text_of piece_of letter_of is_there is_abbreviated each_passes
+unfolding is_eaten number_of_kind parts_of between close unfolding_behind meaning part byte_of tree_of text_of piece_of letter_of is_there is_abbreviated each_passes
 abbreviation-fills {s = s} letter is h stands =
     let p = Production.Abbreviation in
     byte-fills (eats s Kind.Abbreviation p letter (tested abbreviation_letters (λ c. is_eaten Kind.Abbreviation p c) refl letter is)) h stands refl refl
 
 -- an abbreviation or a substitution is the name of a type, after its S
 behind-s-named : (s : Symbol) (kind : Kind) (around : Around) (os : List Opened) (at : ℕ) (st : State) (t : Term) (end : ℕ) → IsNamedKind kind
-    → ((inner : List Opened) → Hole s (OfKind (number_of_kind Kind.Abbreviation)) around inner (at + 1) st → Filled s inner (tree t true) end st)
+    → ((inner : List Opened) → Hole s (Sym.Kind (number_of_kind Kind.Abbreviation)) around inner (at + 1) st → Filled s inner (tree t true) end st)
     → TreeOpens s kind os around at st → StandsAt s.bytes at (83 ∷ []) → TypeNamed s os around t true end st
-unfolding is_eaten is_left number_of_kind parts_of between close unfolding_.behind meaning part byte_of tree_of text_of piece_of letter_of is_there
+unfolding is_eaten is_left number_of_kind parts_of between close unfolding_behind meaning part byte_of tree_of text_of piece_of letter_of is_there
 behind-s-named s kind around os at st t end is_named fills solid stands =
     let p = Production.AbbreviatedType in
     let w = name-with-s-opens s kind around os at st is_named solid stands in
@@ -292,12 +275,11 @@ pub substituted-so : (around : Around) (place : ℕ) (c : Candidate) (st : State
     → ((scope : Term) → pack_length scope c.tree ≡ None) → substituted around place (Some c) st ≡ Ok (found (tree c.tree true) st)
 unfolding substituted with_packs
 substituted-so around place c st no_module closed none = ap (λ m. whole m (is_open c.tree) (packs_in around.scope c.tree)) no_module
-    ∙ ap (λ o. whole false o (packs_in around.scope c.tree)) closed
-    ∙ ap (whole false false) (no-pack-named around.scope c.tree (λ scope is. none scope))
+    ∙ ap (λ o. whole false o (packs_in around.scope c.tree)) closed ∙ ap (whole false false) (no-pack-named around.scope c.tree (λ scope is. none scope))
   where
     whole : (module_named names_open : Bool) → Option ℕ → Result (Found Value State) Refusal
     whole m o packs = elim (m || (o && (around.in_lambda || not (nat_eq c.encoding around.encoding)))) [
-      | true ↦ Err (BadReference place)
+      | true ↦ Err (Refusal.BadReference place)
       | false ↦ with_packs place around.in_expansion packs st >>= λ s. Ok (found (tree c.tree true) s)
     ]
 
@@ -313,7 +295,7 @@ substituted-open around place c st no_module made plain none =
   where
     gated : Bool → Option ℕ → Result (Found Value State) Refusal
     gated gate packs = elim gate [
-      | true ↦ Err (BadReference place)
+      | true ↦ Err (Refusal.BadReference place)
       | false ↦ with_packs place around.in_expansion packs st >>= λ s. Ok (found (tree c.tree true) s)
     ]
 
@@ -324,26 +306,25 @@ substituted-open around place c st no_module made plain none =
     refused m o lambda same packs = gated (m || (o && (lambda || not same))) packs
 
 substitution-closes : (around : Around) (place : ℕ) (before : State) (digits : List ℕ) (c : Candidate) (st : State)
-    → slice_get st.candidates (counted_value Seq36 digits) ≡ Some c
+    → slice_get st.candidates (counted_value NumberKind.Seq36 digits) ≡ Some c
     → ((at : ℕ) → substituted around at (Some c) st ≡ Ok (found (tree c.tree true) st))
     → close Production.Substitution 0 around place before (text digits ∷ []) st ≡ Ok (found (tree c.tree true) st)
 unfolding close part text_of
-substitution-closes around place before digits c st at so =
-    ap (λ o. substituted around (place - 1) o st) at ∙ so (place - 1)
+substitution-closes around place before digits c st at so = ap (λ o. substituted around (place - 1) o st) at ∙ so (place - 1)
 
 -- the number of a substitution that names a candidate
 pub substitution-fills : {s : Symbol} {around : Around} {os : List Opened} {at : ℕ} {st : State} (digits : List ℕ) (end : ℕ) (c : Candidate)
-    → slice_get st.candidates (counted_value Seq36 digits) ≡ Some c
+    → slice_get st.candidates (counted_value NumberKind.Seq36 digits) ≡ Some c
     → ((place : ℕ) → substituted around place (Some c) st ≡ Ok (found (tree c.tree true) st))
-    → Hole s (OfKind (number_of_kind Kind.Abbreviation)) around os at st → IsSeqAt s.bytes at digits end → Filled s os (tree c.tree true) end st
-unfolding is_eaten is_left number_of_kind parts_of between close unfolding_.behind meaning part byte_of tree_of text_of piece_of letter_of is_there
+    → Hole s (Sym.Kind (number_of_kind Kind.Abbreviation)) around os at st → IsSeqAt s.bytes at digits end → Filled s os (tree c.tree true) end st
+unfolding is_eaten is_left number_of_kind parts_of between close unfolding_behind meaning part byte_of tree_of text_of piece_of letter_of is_there
 substitution-fills {s = s} {around = around} {at = at} {st = st} digits end c names_it so h is =
     let p = Production.Substitution in
     closes p (digits-fill digits end (chain-opens (leaves s Kind.Abbreviation p 48 refl) h refl refl) is) (substitution-closes around at st digits c st names_it so)
 
 -- a substitution
 pub substitution-opens : (s : Symbol) (kind : Kind) (around : Around) (os : List Opened) (at : ℕ) (st : State) (digits : List ℕ) (end : ℕ)
-    (c : Candidate) → IsNamedKind kind → slice_get st.candidates (counted_value Seq36 digits) ≡ Some c
+    (c : Candidate) → IsNamedKind kind → slice_get st.candidates (counted_value NumberKind.Seq36 digits) ≡ Some c
     → ((place : ℕ) → substituted around place (Some c) st ≡ Ok (found (tree c.tree true) st))
     → TreeOpens s kind os around at st → StandsAt s.bytes at (83 ∷ []) → IsSeqAt s.bytes (at + 1) digits end → TypeNamed s os around c.tree true end st
 substitution-opens s kind around os at st digits end c is_named names_it so solid stands is =
@@ -352,19 +333,18 @@ substitution-opens s kind around os at st digits end c is_named names_it so soli
 -- a nested name is expected after an N
 pub nested-type-opens : (s : Symbol) (kind : Kind) (around : Around) (os : List Opened) (at : ℕ) (st : State) → IsNamedKind kind
     → TreeOpens s kind os around at st → StandsAt s.bytes at (78 ∷ []) → TreeOpens s Kind.Nest os around (at + 1) st
-unfolding is_eaten number_of_kind parts_of between close unfolding_.behind meaning part byte_of tree_of text_of piece_of letter_of is_there
+unfolding is_eaten number_of_kind parts_of between close unfolding_behind meaning part byte_of tree_of text_of piece_of letter_of is_there
 nested-type-opens s kind around os at st is_named solid stands =
     let p = Production.NestedType in
     let nest = byte-opens (eats s kind p 78 (named-taken kind is_named).2) (hole s kind around solid.inner at st solid.awaits) stands refl refl in
-    awaited nest
-    (λ t listed end now other comes. solid.onward t listed end now other (closes p (fill nest (tree t listed) end now comes) refl).comes)
+    awaited nest (λ t listed end now other comes. solid.onward t listed end now other (closes p (fill nest (tree t listed) end now comes) refl).comes)
 
 -- ## Arrays
 
 -- the type of an array's elements is expected after its size
 plain-array-opens : (s : Symbol) (kind : Kind) (os : List Opened) (around : Around) (at : ℕ) (st : State) (digits : List ℕ) (end : ℕ) → IsQualifiable kind
-    → Expects s kind around os at st → StandsAt s.bytes at (65 ∷ []) → IsSizeAt s.bytes (at + 1) digits end → ArrayOpened s os around accesses.Plain digits end st
-unfolding is_eaten is_left number_of_kind parts_of between close unfolding_.behind meaning part byte_of tree_of text_of piece_of letter_of is_there
+    → Expects s kind around os at st → StandsAt s.bytes at (65 ∷ []) → IsSizeAt s.bytes (at + 1) digits end → ArrayOpened s os around Access.Plain digits end st
+unfolding is_eaten is_left number_of_kind parts_of between close unfolding_behind meaning part byte_of tree_of text_of piece_of letter_of is_there
 plain-array-opens s kind os around at st digits end whole expects stands is =
     let p = Production.LengthArray in
     let w = whole-opens s kind around os at st whole expects in
@@ -376,11 +356,11 @@ plain-array-opens s kind os around at st digits end whole expects stands is =
 
 -- likewise where the array is behind a pointer or a reference
 pub array-opens : (s : Symbol) (access : Access) (kind : Kind) (os : List Opened) (around : Around) (at : ℕ) (st : State) (digits : List ℕ) (end : ℕ)
-    → IsQualifiable kind → (access ≡ accesses.Lvalue → IsReferable kind) → Expects s kind around os at st → StandsAt s.bytes at (access_letters access)
+    → IsQualifiable kind → (access ≡ Access.Lvalue → IsReferable kind) → Expects s kind around os at st → StandsAt s.bytes at (access_letters access)
     → IsSizeAt s.bytes (at + length (access_letters access)) digits end → ArrayOpened s os around access digits end st
-array-opens s accesses.Plain kind os around at st digits end whole referable expects stands is =
+array-opens s Access.Plain kind os around at st digits end whole referable expects stands is =
     plain-array-opens s kind os around at st digits end whole expects stands is
-array-opens s accesses.Pointer kind os around at st digits end whole referable expects stands is =
+array-opens s Access.Pointer kind os around at st digits end whole referable expects stands is =
     let both = stands-split s.bytes at (80 ∷ []) (65 ∷ []) stands in
     let o = pointer-opens s kind around os at st (typed kind whole) expects both.0 in
     let f = plain-array-opens s Kind.Type o.inner around (at + 1) st digits end tt o.awaits both.1
@@ -388,7 +368,7 @@ array-opens s accesses.Pointer kind os around at st digits end whole referable e
     awaited {os = f.inner} (hole-of f)
     (λ u here now comes. o.onward (array (values.normal digits) u) here (with_candidate around (array (values.normal digits) u) now)
     (f.onward u here now comes))
-array-opens s accesses.Lvalue kind os around at st digits end whole referable expects stands is =
+array-opens s Access.Lvalue kind os around at st digits end whole referable expects stands is =
     let both = stands-split s.bytes at (82 ∷ []) (65 ∷ []) stands in
     let o = reference-type-opens s kind true around os at st (referable refl) expects both.0 in
     let f = plain-array-opens s Kind.Type o.inner around (at + 1) st digits end tt o.awaits both.1
@@ -402,7 +382,7 @@ array-opens s accesses.Lvalue kind os around at st digits end whole referable ex
 -- the return type of a function type is expected after its F
 pub function-opens : (s : Symbol) (kind : Kind) (os : List Opened) (around : Around) (at : ℕ) (st : State) → IsQualifiable kind
     → around.prefix ≡ outermost → Expects s kind around os at st → StandsAt s.bytes at (70 ∷ []) → FunctionOpened s os around false (at + 1) st
-unfolding is_eaten number_of_kind parts_of may_be_empty between close unfolding_.behind meaning part byte_of tree_of text_of piece_of letter_of is_there ref_of
+unfolding is_eaten number_of_kind parts_of may_be_empty between close unfolding_behind meaning part byte_of tree_of text_of piece_of letter_of is_there ref_of
 function-opens s kind os around at st whole outside expects stands =
     let p = Production.Function in
     let w = whole-opens s kind around os at st whole expects in
@@ -441,7 +421,7 @@ pointed-function-opens s kind os around at st whole outside expects stands =
 -- parameters continue after one of them
 parameters-go-on : {s : Symbol} {outer : List Opened} {made_in : Around} {is_pointer : Bool} {made : Term → Term} {at : ℕ} {st : State} {t : Term}
     (g : SignatureGoesOn s outer made_in is_pointer made at st) {inner : List Opened} {here : ℕ} {now : State}
-    → Hole s (OfKind (number_of_kind Kind.FunctionRest)) g.around inner here now
+    → Hole s (Sym.Kind (number_of_kind Kind.FunctionRest)) g.around inner here now
     → ((l : Term) (there : ℕ) (then_ : State) → Filled s inner (signature l any_value) there then_ → Filled s g.inner (signature (list t l) any_value) there then_)
     → SignatureGoesOn s outer made_in is_pointer (λ l. made (list t l)) here now
 parameters-go-on {t = t} g {inner = inner} h passes = record {
@@ -455,7 +435,7 @@ parameters-go-on {t = t} g {inner = inner} h passes = record {
 -- a parameter is expected
 pub parameter-opens : (s : Symbol) (outer : List Opened) (made_in : Around) (is_pointer : Bool) (made : Term → Term) (at : ℕ) (st : State)
     → SignatureGoesOn s outer made_in is_pointer made at st → ParameterOpened s outer made_in is_pointer made at st
-unfolding is_eaten is_left number_of_kind parts_of between close unfolding_.behind meaning part byte_of tree_of text_of piece_of letter_of is_there with_item ref_of
+unfolding is_eaten is_left number_of_kind parts_of between close unfolding_behind meaning part byte_of tree_of text_of piece_of letter_of is_there with_item ref_of
 parameter-opens s outer made_in is_pointer made at st g =
     let p = Production.RestItem in
     let item = chain-opens (leaves s Kind.FunctionRest p 80 refl) (hole s Kind.FunctionRest g.around g.inner at st g.awaits) refl refl in
@@ -471,7 +451,7 @@ parameter-opens s outer made_in is_pointer made at st g =
 -- an E ends a function type
 pub signature-ends : (s : Symbol) (outer : List Opened) (made_in : Around) (is_pointer : Bool) (made : Term → Term) (at : ℕ) (st : State)
     → (g : SignatureGoesOn s outer made_in is_pointer made at st) → StandsAt s.bytes at (69 ∷ []) → Comes s g.inner (signature nil any_value) (at + 1) st
-unfolding is_eaten number_of_kind parts_of between close unfolding_.behind meaning part byte_of tree_of text_of piece_of letter_of is_there
+unfolding is_eaten number_of_kind parts_of between close unfolding_behind meaning part byte_of tree_of text_of piece_of letter_of is_there
 signature-ends s outer made_in is_pointer made at st g stands =
     (byte-fills (eats s Kind.FunctionRest Production.RestEnd 69 refl) (hole s Kind.FunctionRest g.around g.inner at st g.awaits) stands refl refl).comes
 
@@ -480,17 +460,17 @@ signature-ends s outer made_in is_pointer made at st g stands =
 -- After the letter of a reference expects the referenced type; parameters continue after it.
 referred : {s : Symbol} {outer : List Opened} {made_in : Around} {is_pointer : Bool} {made : Term → Term} {at : ℕ} {st : State}
     (g : SignatureGoesOn s outer made_in is_pointer made at st) (is_lvalue : Bool) (item : Production) {os : List Opened}
-    → Hole s (OfKind (number_of_kind Kind.Type)) g.around
-    (opened (standing (rule_of item) [] (at + 1) g.around st) [] (OfKind (number_of_kind Kind.FunctionRest) ∷ []) ∷ os) (at + 1) st
+    → Hole s (Sym.Kind (number_of_kind Kind.Type)) g.around
+    (opened (standing (rule_of item) [] (at + 1) g.around st) [] (Sym.Kind (number_of_kind Kind.FunctionRest) ∷ []) ∷ os) (at + 1) st
     → ((t : Term) (now : State) → ◌≡◌ {A = Continuation} (between item g.around (at + 1) (tree t true ∷ []) now)
     (Ok (record { values = tree (reference is_lvalue t) true ∷ []; context = g.around; state = with_candidate g.around (reference is_lvalue t) now })))
     → ((vs : List Value) (inner : State) → close item 0 g.around (at + 1) st vs inner ≡ close Production.RestItem 0 g.around (at + 1) st vs inner)
     → ((l : Term) (there : ℕ) (then_ : State) → Filled s os (signature l any_value) there then_ → Filled s g.inner (signature l any_value) there then_)
     → ReferenceOpened s outer made_in is_pointer is_lvalue made at st
-unfolding is_eaten number_of_kind parts_of between close unfolding_.behind meaning part byte_of tree_of text_of piece_of letter_of is_there with_item ref_of
+unfolding is_eaten number_of_kind parts_of between close unfolding_behind meaning part byte_of tree_of text_of piece_of letter_of is_there with_item ref_of
 referred {s = s} {at = at} {st = st} g is_lvalue item {os = os} type goes same ended =
     let p = Production.RestItem in
-    let rest = OfKind (number_of_kind Kind.FunctionRest) in
+    let rest = Sym.Kind (number_of_kind Kind.FunctionRest) in
     let whole = opened (standing (rule_of p) [] (at + 1) g.around st) [] (rest ∷ []) ∷ os in
     record {
       around = g.around;
@@ -511,7 +491,7 @@ referred {s = s} {at = at} {st = st} g is_lvalue item {os = os} type goes same e
 pub reference-opens : (s : Symbol) (outer : List Opened) (made_in : Around) (is_pointer is_lvalue : Bool) (made : Term → Term) (at : ℕ) (st : State)
     → SignatureGoesOn s outer made_in is_pointer made at st → StandsAt s.bytes at (reference_letter is_lvalue ∷ [])
     → ReferenceOpened s outer made_in is_pointer is_lvalue made at st
-unfolding is_eaten is_left number_of_kind parts_of between close unfolding_.behind meaning part byte_of tree_of text_of piece_of letter_of is_there with_item ref_of signature_or appended
+unfolding is_eaten is_left number_of_kind parts_of between close unfolding_behind meaning part byte_of tree_of text_of piece_of letter_of is_there with_item ref_of signature_or appended
 reference-opens s outer made_in is_pointer true made at st g stands =
     let mark = byte-opens (eats s Kind.FunctionRest Production.RestLvalue 82 refl) (hole s Kind.FunctionRest g.around g.inner at st g.awaits) stands refl refl in
     let type = chain-opens (leaves s Kind.AfterR Production.LvalueItem 80 refl) mark refl refl in

@@ -1,11 +1,6 @@
 -- Bytes that are examined together: none of sixteen is barred, by their mask.
-use Rattle.std.proofs.Common.{◌≡◌, ℕ, ◌+◌, ◌-◌, ◌%◌, ◌^◌, ◌<◌, ◌≤◌, Bool, true, false, not, ◌||◌, List, map, length, get_or, Fits, w8, refl, sym, ap, ◌∙◌, subst, arith, nat_lt}
-use Rattle.std.proofs.lemmas.Bool.{agree_below, agree_below_at, not-true, ltb-true, ltb-false}
-use Rattle.std.proofs.lemmas.Simd.{map-map, mask_l-mod, length-chunk, get_or-chunk, leading_from_mask_l}
-use Rattle.std.proofs.lemmas.List.{length-map}
+use Rattle.cpp_direct.proofs.Basics.{◌≡◌, ℕ, ◌+◌, ◌-◌, ◌%◌, ◌^◌, ◌<◌, ◌≤◌, Bool, true, false, not, ◌||◌, List, map, length, get_or, Fits, w8, refl, sym, ap, ◌∙◌, subst, arith, nat_lt, agree_below, agree_below_at, not-true, ltb-true, ltb-false, map-map, mask_l-mod, length-chunk, get_or-chunk, leading_from_mask_l, length-map, is_name_byte, ReachesNameBytes, NameClass}
 use Rattle.std.proofs.lemmas.List.Sums.{prefix_len_passes}
-use Rattle.sym_core.specs.declared.NameClass.TheVariants.{Cpp}
-use Rattle.cpp_direct.specs.AllTerms.{is_name_byte, ReachesNameBytes}
 use lib.Lanes.{chunk, mask_l, top}
 
 module _ (q : ℕ → Bool) (d : List ℕ) (i : ℕ) (z : List ℕ) (f : ℕ → ℕ) (room : i + 16 ≤ length d)
@@ -35,10 +30,10 @@ module _ (q : ℕ → Bool) (d : List ℕ) (i : ℕ) (z : List ℕ) (f : ℕ →
       ∙ agree_below_at (λ x. stops x || q x) (λ _. true) 256 (get_or d (i + n) 0) all (fits (i + n)).fits)
 
 -- the bytes before a place, and sixteen from one that isn't after it
-pub reached-on : (bytes : List ℕ) (at from : ℕ) → ReachesNameBytes Cpp bytes at → from ≤ at
-    → ((k : ℕ) → from ≤ k → k < from + 16 → is_name_byte Cpp (get_or bytes k 0) ≡ true) → ReachesNameBytes Cpp bytes (from + 16)
+pub reached-on : (bytes : List ℕ) (at from : ℕ) → ReachesNameBytes NameClass.Cpp bytes at → from ≤ at
+    → ((k : ℕ) → from ≤ k → k < from + 16 → is_name_byte NameClass.Cpp (get_or bytes k 0) ≡ true) → ReachesNameBytes NameClass.Cpp bytes (from + 16)
 reached-on bytes at from before low more k less = go (nat_lt k at) refl
   where
-    go : (d : Bool) → nat_lt k at ≡ d → is_name_byte Cpp (get_or bytes k 0) ≡ true
+    go : (d : Bool) → nat_lt k at ≡ d → is_name_byte NameClass.Cpp (get_or bytes k 0) ≡ true
     go true d = before k (ltb-true k at d)
     go false d = more k (omega (arith, low, ltb-false k at d)) less

@@ -1,29 +1,15 @@
 -- Names and numbers that were found, the bytes at a place, and where names are.
-use Rattle.std.proofs.Common.{◌≡◌, ◌≢◌, ℕ, ◌+◌, ◌-◌, ◌*◌, ◌≤◌, ◌<◌, suc, List, [], ◌∷◌, ◌++◌, length, take, drop, get_or, codes, Bool, true, false, ◌&&◌, not, nat_eq, nat_lt, refl, ap, sym, subst, ◌∙◌, arith, append_assoc, append-nil, slice_get, Option, Some, None, Result, Ok, Err}
-use Rattle.std.proofs.lemmas.List.{get_or-drop, get_or-take, length-append, length-drop, length-take-le, take-append-drop, drop-drop}
-use Rattle.std.proofs.lemmas.Bool.{and_parts, le-leb, ltb-false, ltb-true}
-use Rattle.std.proofs.lemmas.Bool.Decides.{nat_tests}
-use Rattle.std.proofs.Math.Seq.{drop-append_seam}
-use Rattle.sym_core.specs.declared.NameClass.TheVariants.{Cpp}
-use Rattle.cpp_direct.specs.AllTerms.{is_decimal_digit, NumberKind, ReachesNameBytes, signed_digits, source_text, TokenPlace}
-use Rattle.sym_core.specs.Token.{AreNameBytes, IsSeparator, IsName, HasToken, is_name_byte, Token, IsNumberToken, FindsToken}
-use Rattle.cpp_direct.specs.declared.direct.Direct.{Direct}
+use Rattle.cpp_direct.proofs.Basics.{◌≡◌, ◌≢◌, ℕ, ◌+◌, ◌-◌, ◌*◌, ◌≤◌, ◌<◌, suc, List, [], ◌∷◌, ◌++◌, length, take, drop, get_or, codes, Bool, true, false, ◌&&◌, not, nat_eq, nat_lt, refl, ap, sym, subst, ◌∙◌, arith, append_assoc, append-nil, slice_get, Option, Some, None, Result, Ok, Err, get_or-drop, get_or-take, length-append, length-drop, length-take-le, take-append-drop, drop-drop, and_parts, le-leb, ltb-false, ltb-true, nat_tests, drop-append_seam, is_decimal_digit, NumberKind, ReachesNameBytes, signed_digits, source_text, TokenPlace, AreNameBytes, IsSeparator, IsName, HasToken, is_name_byte, Token, IsNumberToken, FindsToken, Direct, IsDigitsAt, IsNameAt, IsNumberAt, IsTagAt, StandsAt, IsLengthRead, IsNamePlace, number_text, Reads, tag_text, Writes, slice_get_read, OnSome, NameClass}
 use Rattle.cpp_direct.specs.declared.names.NamePlace.{NamePlace}
 use Rattle.sym_direct.proofs.Moves.{stands-join}
 use Rattle.cpp_direct.proofs.Kept.{piece-found}
-use Rattle.cpp_direct.specs.AllHoles.{IsDigitsAt, IsNameAt, IsNumberAt, IsTagAt, StandsAt}
-use Rattle.cpp_direct.specs.AllStates.{IsLengthRead, IsNamePlace, number_text, Reads, tag_text, Writes}
-use Rattle.std.proofs.lemmas.Option.{slice_get_read}
-use Rattle.std.specs.Option.{OnSome}
 use Rattle.std.specs.Result.{result_ok}
-use Rattle.sym_core.specs.declared.NumberKind.TheVariants.{Digits}
 
 -- ## Tokens
 
 -- what is between two places after a third one
 pub piece-at : (s before own behind rest : List ℕ) (at from to : ℕ) → at ≤ length s → drop at s ≡ (before ++ own ++ behind) ++ rest
-    → from ≡ at + length before → to ≡ at + length before + length own
-    → (from ≤ to) × (to ≤ length s) × (take (to - from) (drop from s) ≡ own)
+    → from ≡ at + length before → to ≡ at + length before + length own → (from ≤ to) × (to ≤ length s) × (take (to - from) (drop from s) ≡ own)
 piece-at s before own behind rest at from to le e from_is to_is =
     let front = take at s ++ before in
     let size : length front ≡ at + length before = length-append (take at s) before ∙ ap (λ n. n + length before) (length-take-le at s le) in
@@ -49,19 +35,19 @@ pub own-found : (Is : Token → Type 0) (s : List ℕ) (at : ℕ) (place : Token
     → (place.from ≤ place.to) × (place.to ≤ length s) × (take (place.to - place.from) (drop place.from s) ≡ h.token.own)
 own-found Is s at place h le = piece-at s h.token.before h.token.own h.token.behind h.rest at place.from place.to le h.split h.from h.to
 
-own-there : (separator own : List ℕ) → IsSeparator Cpp separator own → own ≢ []
+own-there : (separator own : List ℕ) → IsSeparator NameClass.Cpp separator own → own ≢ []
 own-there [] [] is = absurd is
 own-there [] (b ∷ bs) is = λ e. cc e
 own-there (c ∷ cs) own is = absurd is
 
 -- a name that was found
-pub name-found : (s : List ℕ) (at : ℕ) (place : TokenPlace) → HasToken (IsName Cpp) (drop at s) at place → at ≤ length s
+pub name-found : (s : List ℕ) (at : ℕ) (place : TokenPlace) → HasToken (IsName NameClass.Cpp) (drop at s) at place → at ≤ length s
     → (name : List ℕ) × IsNameAt s at name place.end × (name ≢ []) × (take (place.to - place.from) (drop place.from s) ≡ name)
 name-found s at place h le = (
   h.token.own,
   record { token = h.token; is_name = h.is; own = refl; stands = (h.rest, h.split); ends = h.end },
   own-there h.is.separator h.token.own h.is.separated,
-  (own-found (IsName Cpp) s at place h le).2,
+  (own-found (IsName NameClass.Cpp) s at place h le).2,
 )
 
 -- a number that was found
@@ -85,10 +71,8 @@ some-by None h f = tt
 some-by (Some x) h f = f h
 
 -- a text was written after a place that was changed
-pub reads-written : (old middle new : Direct) (bytes text : List ℕ) → Writes middle new bytes → middle.text ≡ old.text
-    → middle.candidates ≡ old.candidates
-    → middle.waiting ≡ old.waiting → middle.nest ≡ old.nest → middle.has_scope ≡ old.has_scope → bytes ≡ text
-    → Reads old new text
+pub reads-written : (old middle new : Direct) (bytes text : List ℕ) → Writes middle new bytes → middle.text ≡ old.text → middle.candidates ≡ old.candidates
+    → middle.waiting ≡ old.waiting → middle.nest ≡ old.nest → middle.has_scope ≡ old.has_scope → bytes ≡ text → Reads old new text
 reads-written old middle new bytes text w same_text same_candidates same_waiting same_nest same_scope is = record {
   text = w.text ∙ ap (λ v. v.list.items ++ bytes) same_text ∙ ap (λ l. old.text.list.items ++ l) is;
   candidates = w.candidates ∙ same_candidates;
@@ -122,11 +106,11 @@ reads-of a b x w = record { text = w.text; candidates = w.candidates; waiting = 
 
 -- the digits of a number were read, and written after a sign
 pub digits-read : (s : List ℕ) (old new : Direct) (place : TokenPlace) (is_negative : Bool) (written : List ℕ)
-    → HasToken (IsNumberToken Digits) (drop old.at s) old.at place → old.at ≤ length s → new.at ≡ place.end → Reads old new written
+    → HasToken (IsNumberToken NumberKind.Digits) (drop old.at s) old.at place → old.at ≤ length s → new.at ≡ place.end → Reads old new written
     → written ≡ number_text (signed_digits is_negative (take (place.to - place.from) (drop place.from s)))
     → (digits : List ℕ) × IsDigitsAt s old.at digits new.at × Reads old new (number_text (signed_digits is_negative digits))
 digits-read s old new place is_negative written h le there reads is =
-    let n = number-found Digits s old.at place h le in (
+    let n = number-found NumberKind.Digits s old.at place h le in (
       n.0,
       subst (λ e. IsDigitsAt s old.at n.0 e) (sym there) n.1,
       subst (λ l. Reads old new l) (is ∙ ap (λ d. number_text (signed_digits is_negative d)) n.4) reads,
@@ -180,20 +164,20 @@ two-digits s at middle next a b low high digit first middle_is second next_is = 
   some = omega (arith, low);
 }
 
-pub all-reached : (own : List ℕ) → ReachesNameBytes Cpp own (length own) → AreNameBytes Cpp own
+pub all-reached : (own : List ℕ) → ReachesNameBytes NameClass.Cpp own (length own) → AreNameBytes NameClass.Cpp own
 all-reached [] h = tt
 all-reached (b ∷ bs) h = (h 0 (omega arith), all-reached bs (λ k less. h (suc k) (omega (arith, less))))
 
-begins-no-number : (own : List ℕ) → 0 < length own → is_decimal_digit (get_or own 0 0) ≡ false → IsSeparator Cpp [] own
+begins-no-number : (own : List ℕ) → 0 < length own → is_decimal_digit (get_or own 0 0) ≡ false → IsSeparator NameClass.Cpp [] own
 begins-no-number [] some bare = absurd (omega (arith, some))
 begins-no-number (b ∷ bs) some bare = bare
 
-byte-may : (b : ℕ) → b < 256 → nat_lt 32 b ≡ true → not (nat_eq b 127) ≡ true → is_name_byte Cpp b ≡ true
+byte-may : (b : ℕ) → b < 256 → nat_lt 32 b ≡ true → not (nat_eq b 127) ≡ true → is_name_byte NameClass.Cpp b ≡ true
 byte-may b small low other = grind (arith, nat_tests)
 
 -- one byte more may be in a name
-pub reached-more : (bytes : List ℕ) (at : ℕ) (are : Bool) → (are ≡ true → ReachesNameBytes Cpp bytes at) → get_or bytes at 0 < 256
-    → (are && nat_lt 32 (get_or bytes at 0) && not (nat_eq (get_or bytes at 0) 127)) ≡ true → ReachesNameBytes Cpp bytes (at + 1)
+pub reached-more : (bytes : List ℕ) (at : ℕ) (are : Bool) → (are ≡ true → ReachesNameBytes NameClass.Cpp bytes at) → get_or bytes at 0 < 256
+    → (are && nat_lt 32 (get_or bytes at 0) && not (nat_eq (get_or bytes at 0) 127)) ≡ true → ReachesNameBytes NameClass.Cpp bytes (at + 1)
 reached-more bytes at are before small e k less = go (nat_lt k at) refl
   where
     b : ℕ
@@ -205,22 +189,22 @@ reached-more bytes at are before small e k less = go (nat_lt k at) refl
     parts : (are ≡ true) × (nat_lt 32 b ≡ true)
     parts = and_parts are (nat_lt 32 b) both.0
 
-    go : (d : Bool) → nat_lt k at ≡ d → is_name_byte Cpp (get_or bytes k 0) ≡ true
+    go : (d : Bool) → nat_lt k at ≡ d → is_name_byte NameClass.Cpp (get_or bytes k 0) ≡ true
     go true d = before parts.0 k (ltb-true k at d)
-    go false d = subst (λ n. is_name_byte Cpp (get_or bytes n 0) ≡ true) (omega (arith, less, ltb-false k at d)) (byte-may b small parts.1 both.1)
+    go false d = subst (λ n. is_name_byte NameClass.Cpp (get_or bytes n 0) ≡ true) (omega (arith, less, ltb-false k at d)) (byte-may b small parts.1 both.1)
 
 -- what is cut out of bytes that may be in a name may be there as well
 pub own-each : (s : List ℕ) (from size : ℕ) (own : List ℕ) → from ≤ length s → size ≤ length s - from → own ≡ take size (drop from s)
-    → ReachesNameBytes Cpp s (length s) → ReachesNameBytes Cpp own (length own)
+    → ReachesNameBytes NameClass.Cpp s (length s) → ReachesNameBytes NameClass.Cpp own (length own)
 own-each s from size own within few own_is each k less =
     let counted : length own ≡ size = ap length own_is ∙ length-take-le size (drop from s) (omega (arith, few, length-drop from s)) in
-    subst (λ b. is_name_byte Cpp b ≡ true)
+    subst (λ b. is_name_byte NameClass.Cpp b ≡ true)
     (sym (ap (λ l. get_or l k 0) own_is ∙ get_or-take size (drop from s) k 0 (omega (arith, less, counted)) ∙ get_or-drop from s k 0))
     (each (from + k) (omega (arith, less, counted, within, few)))
 
 -- a name's own bytes follow its length
 pub own-placed : (s : List ℕ) (at from size : ℕ) (own : List ℕ) → IsLengthRead s at from size → from ≤ length s → size ≤ length s - from
-    → own ≡ take size (drop from s) → is_decimal_digit (get_or own 0 0) ≡ false → ReachesNameBytes Cpp own (length own)
+    → own ≡ take size (drop from s) → is_decimal_digit (get_or own 0 0) ≡ false → ReachesNameBytes NameClass.Cpp own (length own)
     → IsNamePlace s at (record { from = from; to = from + size })
 own-placed s at from size own r within few own_is bare each = record {
   name = own;
@@ -260,7 +244,7 @@ own-placed s at from size own r within few own_is bare each = record {
         ∙ ap (λ l. l ++ drop size (drop from s)) (sym (append-nil (r.digits ++ own)))
 
 -- a name that was found
-pub name-placed : (s : List ℕ) (at : ℕ) (place : TokenPlace) → HasToken (IsName Cpp) (drop at s) at place → at ≤ length s
+pub name-placed : (s : List ℕ) (at : ℕ) (place : TokenPlace) → HasToken (IsName NameClass.Cpp) (drop at s) at place → at ≤ length s
     → IsNamePlace s at (record { from = place.from; to = place.to })
 name-placed s at place h le = record {
   name = found.0;
@@ -275,7 +259,7 @@ name-placed s at place h le = record {
     found = name-found s at place h le
 
     own : (place.from ≤ place.to) × (place.to ≤ length s) × (take (place.to - place.from) (drop place.from s) ≡ h.token.own)
-    own = own-found (IsName Cpp) s at place h le
+    own = own-found (IsName NameClass.Cpp) s at place h le
 
     same : place.end ≡ place.to
     same = omega (arith, h.end, h.to, length-append {A = ℕ}, ap length h.is.ends)
@@ -296,8 +280,7 @@ name-read s old middle new place bytes n is there same_text same_candidates same
 -- a tag was read, and its text written
 pub tag-read : (s : List ℕ) (old first second third : Direct) (place : NamePlace) (at : ℕ) → StandsAt s old.at (66 ∷ []) → at ≡ old.at + 1
     → IsNamePlace s at place → Writes (record old { at = at }) first (codes "[abi:") → Writes first second (take (place.to - place.from) (drop place.from s))
-    → Writes second third (codes "]")
-    → (tag : List ℕ) × IsTagAt s old.at tag place.to × Reads old (record third { at = place.to }) (tag_text tag)
+    → Writes second third (codes "]") → (tag : List ℕ) × IsTagAt s old.at tag place.to × Reads old (record third { at = place.to }) (tag_text tag)
 tag-read s old first second third place at letter here n a b c =
     let named = reads-then old first second (codes "[abi:") n.name
     (reads-written old (record old { at = at }) first (codes "[abi:") (codes "[abi:") a refl refl refl refl refl refl)

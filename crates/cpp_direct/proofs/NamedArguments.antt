@@ -1,13 +1,7 @@
 -- The arguments of the symbol's own name, which its types may name from there on, and their texts.
-use Rattle.cpp_direct.specs.AllTerms.{arguments_of, Around, Detail, element, found, length_if_pack, State, substituted, Term, tree, types_of}
-use Rattle.std.proofs.Common.{◌≡◌, ◌≢◌, ℕ, ◌-◌, List, take, drop, reverse, Bool, Ok, true, false, Option, Some, None, is_some, nat_lt, not, ◌&&◌, ◌||◌, ◌<◌, refl, ap, sym, ◌∙◌, subst}
-use Rattle.std.proofs.lemmas.Bool.{false≢true, and_parts, lt-ltb, ltb-true}
+use Rattle.cpp_direct.proofs.AllGround.{arguments_of, Around, Detail, element, found, length_if_pack, State, substituted, Term, tree, types_of, ◌≡◌, ◌≢◌, ℕ, ◌-◌, List, take, drop, reverse, Bool, Ok, true, false, Option, Some, None, is_some, nat_lt, not, ◌&&◌, ◌||◌, ◌<◌, refl, ap, sym, ◌∙◌, subst, false≢true, and_parts, lt-ltb, ltb-true, AreCandidates, AreNamed, AreSingle, Argument, argument_of, Arguments, Candidate, detail_of, Direct, encoding_place, HasArguments, HasSingles, IsCandidate, IsGiven, IsMadeIn, IsNameEnded, IsNameScoped, IsNaming, IsPlaced, IsScoped, IsSingle, Keeps, Kept, Mark, Names, no_scope, Open, place_of, Prints, PrintsAs, PrintsGiven, Scope, Symbol, candidates-as, encoded-here, piece-found, no-pack-named, substituted-open, types-given, no-module, arguments-named}
+use Rattle.cpp_direct.specs.AllStates.{Named}
 use Rattle.cpp_grammar.specs.Values as values
-use Rattle.cpp_direct.specs.AllStates.{AreCandidates, AreNamed, AreSingle, Argument, argument_of, Arguments, Candidate, detail_of, Direct, encoding_place, HasArguments, HasSingles, IsCandidate, IsGiven, IsMadeIn, IsNameEnded, IsNameScoped, IsNaming, IsPlaced, IsScoped, IsSingle, Keeps, Kept, Mark, Named, Names, no_scope, Open, place_of, Prints, PrintsAs, PrintsGiven, Scope, Symbol}
-use Rattle.cpp_direct.proofs.Kept.{candidates-as, encoded-here, piece-found}
-use Rattle.cpp_direct.proofs.MovesOfTypes.{no-pack-named, substituted-open}
-use Rattle.cpp_direct.proofs.PrintedTypes.{types-given, no-module}
-use Rattle.cpp_direct.proofs.Scopes.{arguments-named}
 
 -- ## Their texts
 

@@ -1,18 +1,6 @@
 -- A component of a nested name is written: the state of the writer then.
-use Rattle.std.proofs.Common.{◌≡◌, ◌≢◌, ℕ, ◌+◌, ◌-◌, inl, inr, length, List, [], ◌∷◌, ◌++◌, take, drop, reverse, Bool, true, false, refl, ap, sym, ◌∙◌, subst, arith, codes, append_assoc, append-nil}
-use Rattle.std.proofs.lemmas.Bool.{false≢true}
-use Rattle.cpp_direct.specs.AllTerms.{arguments_of, Around, constructor, destructor, has_return_type, instance, is_structor, opening_text, operator, source, source_text, State, Term, within}
-use Rattle.cpp_direct.specs.AllStates.{AwaitsClass, below, detail_of, Direct, is_angle, IsConstructorDigit, IsDestructorDigit, IsNestNamed, IsNestSoFar, IsOperatorAt, IsOperatorRead, IsOwn, IsWriting, Kept, Nest, Open, operator_text, Prints, PrintsAs, Purpose, Reads, Scope, Serves, Symbol, Writes}
-use Rattle.cpp_direct.specs.declared.open.Step.TheVariants as steps
-use Rattle.cpp_direct.specs.Holes.{Opened, StandsAt, IsNameAt, Named, NestNamed, AwaitsComponent}
-use Rattle.cpp_direct.proofs.Unmarked.{name-unmarked}
-use Rattle.cpp_direct.proofs.Kept.{kept-grown, piece-found, placed-last, placed-moved}
-use Rattle.cpp_direct.proofs.Nesting.{closed-prints, nest-scoped, nest-further}
-use Rattle.cpp_direct.proofs.PrintedTypes.{prints-as}
-use Rattle.cpp_direct.proofs.Moves.{stands-join}
-use Rattle.cpp_direct.proofs.MovesOfNests.{component-source, component-internal, component-operator, component-constructor, component-destructor}
-use Rattle.cpp_direct.proofs.LettersTested.{IsOperator, operator-listed}
-use Rattle.cpp_direct.proofs.PrintedNests.{within-tagged, IsPiece, source-opening, source-piece, operator-opening, operator-piece, within-names, within-as, within-class, constructor-prints, destructor-prints}
+use Rattle.cpp_direct.proofs.AllGround.{◌≡◌, ◌≢◌, ℕ, ◌+◌, ◌-◌, inl, inr, length, List, [], ◌∷◌, ◌++◌, take, drop, reverse, Bool, true, false, refl, ap, sym, ◌∙◌, subst, arith, codes, append_assoc, append-nil, false≢true, arguments_of, Around, constructor, destructor, has_return_type, instance, is_structor, opening_text, operator, source, source_text, State, Term, within, AwaitsClass, below, detail_of, Direct, is_angle, IsConstructorDigit, IsDestructorDigit, IsNestNamed, IsNestSoFar, IsOperatorAt, IsOperatorRead, IsOwn, IsWriting, Kept, Nest, Open, operator_text, Prints, PrintsAs, Purpose, Reads, Scope, Serves, Symbol, Writes, Opened, StandsAt, IsNameAt, Named, NestNamed, AwaitsComponent, Step, name-unmarked, kept-grown, piece-found, placed-last, placed-moved, prints-as, stands-join, component-source, component-internal, component-operator, component-constructor, component-destructor, IsOperator, operator-listed, ◌⊎◌, ◌≤◌}
+use Rattle.cpp_direct.proofs.AllRead.{closed-prints, nest-scoped, nest-further, within-tagged, IsPiece, source-opening, source-piece, operator-opening, operator-piece, within-names, within-as, within-class, constructor-prints, destructor-prints}
 
 -- ## Pieces of a text
 
@@ -97,20 +85,16 @@ component-named s outer around t u at st a to end same n = subst (λ k. NestName
   renamed = λ v k later comes. a.onward v k later (n.renamed v k later comes);
 })
 
--- the digit of a constructor isn't 0
-pub constructor-digit-some : (is_wide : Bool) (digit : ℕ) → IsConstructorDigit is_wide digit → digit ≢ 0
-constructor-digit-some is_wide digit (inl (low, high)) e = omega (arith, low, e)
-constructor-digit-some is_wide digit (inr (wide, inl four)) e = omega (arith, four, e)
-constructor-digit-some is_wide digit (inr (wide, inr five)) e = omega (arith, five, e)
-
-pub destructor-digit-some : (is_wide : Bool) (digit : ℕ) → IsDestructorDigit is_wide digit → digit ≢ 0
-destructor-digit-some is_wide digit (inl (low, high)) e = omega (arith, low, e)
-destructor-digit-some is_wide digit (inr (wide, inl four)) e = omega (arith, four, e)
-destructor-digit-some is_wide digit (inr (wide, inr five)) e = omega (arith, five, e)
+-- the digit of a constructor or of a destructor isn't 0
+pub structor-digit-some : {is_wide : Bool} {digit most : ℕ} (least : ℕ) → 1 ≤ least → ((least ≤ digit) × (digit ≤ most)) ⊎ ((is_wide ≡ true) × ((digit ≡ 52) ⊎ (digit ≡ 53)))
+    → digit ≢ 0
+structor-digit-some least some (inl (low, high)) e = omega (arith, some, low, e)
+structor-digit-some least some (inr (wide, inl four)) e = omega (arith, four, e)
+structor-digit-some least some (inr (wide, inr five)) e = omega (arith, five, e)
 
 -- a constructor was read, and was written except for its class
 pub constructor-awaits : (s : Symbol) (old between new : Direct) (digit : ℕ) → Writes between new (codes "::") → Moves old between 2
-    → IsWriting s old steps.Component → StandsAt s.bytes old.at (67 ∷ []) → StandsAt s.bytes (old.at + 1) (digit ∷ []) → IsConstructorDigit s.is_wide digit
+    → IsWriting s old Step.Component → StandsAt s.bytes old.at (67 ∷ []) → StandsAt s.bytes (old.at + 1) (digit ∷ []) → IsConstructorDigit s.is_wide digit
     → old.nest.has_class ≡ true → old.nest.is_dependent ≡ false → AwaitsClass s new
 unfolding has_return_type is_structor arguments_of
 constructor-awaits s old between new digit w m p letter next is has closed =
@@ -125,7 +109,7 @@ constructor-awaits s old between new digit w m p letter next is has closed =
 
 -- likewise for a destructor
 pub destructor-awaits : (s : Symbol) (old between new : Direct) (digit : ℕ) → Writes between new (codes "::~") → Moves old between 2
-    → IsWriting s old steps.Component → StandsAt s.bytes old.at (68 ∷ []) → StandsAt s.bytes (old.at + 1) (digit ∷ []) → IsDestructorDigit s.is_wide digit
+    → IsWriting s old Step.Component → StandsAt s.bytes old.at (68 ∷ []) → StandsAt s.bytes (old.at + 1) (digit ∷ []) → IsDestructorDigit s.is_wide digit
     → old.nest.has_class ≡ true → old.nest.is_dependent ≡ false → AwaitsClass s new
 unfolding has_return_type is_structor arguments_of
 destructor-awaits s old between new digit w m p letter next is has closed =
@@ -142,8 +126,7 @@ destructor-awaits s old between new digit w m p letter next is has closed =
 named-again : (s : Symbol) (old new : Direct) (p : AwaitsClass s old) → Goes old new p.class → new.at ≡ old.at
     → new.nest ≡ record old.nest { is_listed = false; has_class = false; is_instance = false } → IsNestNamed s new
 named-again s old new p g at nest =
-    let written : new.text.list.items ≡ p.front ++ (p.bytes ++ p.class)
-    = g.text ∙ ap (λ l. l ++ p.class) p.written ∙ append_assoc p.front p.bytes p.class in
+    let written : new.text.list.items ≡ p.front ++ (p.bytes ++ p.class) = g.text ∙ ap (λ l. l ++ p.class) p.written ∙ append_assoc p.front p.bytes p.class in
     let classless : new.nest.has_class ≡ false = ap (λ (x : Nest). x.has_class) nest in
     record {
       kept = kept-go s old new p.class g p.kept;
@@ -254,7 +237,7 @@ moves-to old new at by same e =
     subst (λ (d : Direct). Moves old d by) (sym same) (record { text = refl; candidates = refl; waiting = refl; scope = refl; nest = refl; at = e })
 
 -- Likewise for a writer that continues.
-piece-follows : (s : Symbol) (old start marked read : Direct) (by from to : ℕ) (piece : Term) (x : List ℕ) (p : IsWriting s old steps.Component)
+piece-follows : (s : Symbol) (old start marked read : Direct) (by from to : ℕ) (piece : Term) (x : List ℕ) (p : IsWriting s old Step.Component)
     → IsPiece (detail_of s) piece x → opening_text piece ≡ codes "<" → Moves old start by → Writes start marked (codes "::") → Reads marked read x
     → NestNamed s p.is_before.1.outer p.is_before.1.around (within p.is_before.0 piece) read.at p.state
     → from ≡ length marked.text.list.items → to ≡ length read.text.list.items → IsNestNamed s (renamed read from to)
@@ -288,7 +271,7 @@ source-read s os around t at st a false name to from end letter is moved same =
     none e = omega (arith, e)
 
 -- A name follows the name so far.
-pub source-follows : (s : Symbol) (old start marked read : Direct) (from to : ℕ) (internal : Bool) → IsWriting s old steps.Component
+pub source-follows : (s : Symbol) (old start marked read : Direct) (from to : ℕ) (internal : Bool) → IsWriting s old Step.Component
     → (internal ≡ true → StandsAt s.bytes old.at (76 ∷ [])) → Moves old start (letters internal) → Writes start marked (codes "::")
     → (name : List ℕ) → IsNameAt s.bytes marked.at name read.at → name ≢ [] → Reads marked read (source_text name)
     → from ≡ length marked.text.list.items → to ≡ length read.text.list.items → IsNestNamed s (renamed read from to)
@@ -309,7 +292,7 @@ operator-read s os around t at st a first second to end there same =
     (component-operator s a.inner around t a.listed at st first second is a.awaits there.stands)
 
 -- An operator follows the name so far, and arguments may follow it.
-pub operator-follows : (s : Symbol) (old marked read : Direct) (from to first second : ℕ) → IsWriting s old steps.Component
+pub operator-follows : (s : Symbol) (old marked read : Direct) (from to first second : ℕ) → IsWriting s old Step.Component
     → Writes old marked (codes "::") → IsOperatorAt s.bytes marked.at first second read.at → is_angle first second ≡ false
     → Reads marked read (operator_text first second) → from ≡ length marked.text.list.items → to ≡ length read.text.list.items
     → IsNestNamed s (renamed read from to)
@@ -322,7 +305,7 @@ operator-follows s old marked read from to first second p w there plain r from_i
     from_is to_is
 
 -- An operator follows the name so far, and ends it.
-pub operator-last : (s : Symbol) (old marked read : Direct) (first second : ℕ) → IsWriting s old steps.Component
+pub operator-last : (s : Symbol) (old marked read : Direct) (first second : ℕ) → IsWriting s old Step.Component
     → Writes old marked (codes "::") → IsOperatorAt s.bytes marked.at first second read.at → Reads marked read (operator_text first second)
     → old.nest.is_dependent ≡ false → IsOperatorRead s read
 unfolding has_return_type arguments_of

@@ -1,28 +1,10 @@
 -- Nested names are read and written from left to right.
-use Rattle.cpp_direct.specs.AllTerms.{abbreviation, abbreviation_texts, after, alone, arguments_of, Around, counted_value, Detail, found, has_return_type, in_std, inside, instance, is_function_type, is_structor, Kind, look_up, may_be_empty, no_items, same_bytes, source, source_text, State, substituted, Term, tree, with_tag}
-use Rattle.cpp_direct.proofs.Unmarked.{name-unmarked}
-use Rattle.cpp_direct.proofs.Scopes.{no-arguments, scoped-inside, has-member}
-use Rattle.std.proofs.Common.{◌≡◌, ◌≢◌, ℕ, ◌+◌, ◌-◌, ◌≤◌, List, [], ◌∷◌, ◌++◌, length, take, drop, reverse, slice_get, Bool, true, false, Some, refl, ap, sym, ◌∙◌, subst, arith, codes, append-nil, append_assoc, length-append, nat_eq, ◌&&◌, Ok}
-use Rattle.std.proofs.lemmas.Bool.{false≢true, eqb-true}
-use Rattle.std.proofs.lemmas.List.{take-append-drop}
-use Rattle.sym_core.specs.declared.NumberKind.TheVariants.{Seq36}
-use Rattle.cpp_grammar.specs.Values as values
-use Rattle.cpp_direct.specs.declared.open.Purpose.TheVariants as purposes
-use Rattle.cpp_direct.specs.AllStates.{abbreviation_letters, added, added_unless, argument_of, Arguments, AwaitsNest, below, Candidate, detail_of, Direct, HasArguments, HasSingles, is_abbreviated, is_type, is_unmarked, IsMadeIn, IsNameEnded, IsNaming, IsNest, IsNesting, IsNestKnown, IsNestNamed, IsNestScoped, IsNestSoFar, IsOperatorRead, IsOwn, IsScoped, IsUnmarked, IsWriting, Kept, Lists, Mark, Names, NamesClass, Nest, nowhere, Open, opening_bracket, OpensArguments, Prints, PrintsAs, Purpose, Reads, Scope, Serves, Symbol, tag_text}
-use Rattle.cpp_direct.specs.declared.open.Open.TheVariants as opens
-use Rattle.cpp_direct.specs.declared.open.Step.TheVariants as steps
-use Rattle.cpp_direct.specs.AllHoles.{AwaitsComponent, Comes, IsFirstRest, IsNameAt, IsRest, IsSeqAt, IsTagAt, NestGoesOn, Opened, SamePasses, StandsAt, unless_listed, with_candidate}
+use Rattle.cpp_direct.proofs.AllGround.{abbreviation, abbreviation_texts, after, alone, arguments_of, Around, counted_value, Detail, found, has_return_type, in_std, inside, instance, is_function_type, is_structor, Kind, look_up, may_be_empty, no_items, same_bytes, source, source_text, State, substituted, Term, tree, with_tag, ◌≡◌, ◌≢◌, ℕ, ◌+◌, ◌-◌, ◌≤◌, List, [], ◌∷◌, ◌++◌, length, take, drop, reverse, slice_get, Bool, true, false, Some, refl, ap, sym, ◌∙◌, subst, arith, codes, append-nil, append_assoc, length-append, nat_eq, ◌&&◌, Ok, false≢true, eqb-true, take-append-drop, abbreviation_letters, added, added_unless, argument_of, Arguments, AwaitsNest, below, Candidate, detail_of, Direct, HasArguments, HasSingles, is_abbreviated, is_type, is_unmarked, IsMadeIn, IsNameEnded, IsNaming, IsNest, IsNesting, IsNestKnown, IsNestNamed, IsNestScoped, IsNestSoFar, IsOperatorRead, IsOwn, IsScoped, IsUnmarked, IsWriting, Kept, Lists, Mark, Names, NamesClass, Nest, nowhere, Open, opening_bracket, OpensArguments, Prints, PrintsAs, Purpose, Reads, Scope, Serves, Symbol, tag_text, AwaitsComponent, Comes, IsFirstRest, IsNameAt, IsRest, IsSeqAt, IsTagAt, NestGoesOn, Opened, SamePasses, StandsAt, unless_listed, with_candidate, NumberKind, Step, name-unmarked, no-arguments, scoped-inside, has-member, alone-arguments, any-tail, expects-empty, stands-join, comes-moved, kept-grown, kept-read, kept-same, made-here, candidate-found, piece-found, nest-stays, value-comes, list-begins, type-named, kept-unless, kept-with, placed-last, placed-moved, arguments-open, substituted-so, nest-source, nest-abbreviation, nest-substitution, nest-std, component-awaits, component-outside, any-arguments, instance-arguments, nest-end, tag-follows, as-name, source-prints, source-class, std-prints, std-class, abbreviation-prints, abbreviation-class, prints-as, no-module}
 use Rattle.cpp_direct.proofs.LettersTested.{each_passes, tested}
-use Rattle.cpp_direct.proofs.Moves.{alone-arguments, any-tail, expects-empty, stands-join, comes-moved}
-use Rattle.cpp_direct.proofs.Kept.{kept-grown, kept-read, kept-same, made-here, candidate-found, piece-found, nest-stays, value-comes, list-begins, type-named, kept-unless, kept-with, placed-last, placed-moved}
-use Rattle.cpp_direct.proofs.MovesOfLists.{arguments-open}
-use Rattle.cpp_direct.proofs.MovesOfTypes.{substituted-so}
 use Rattle.cpp_direct.proofs.NamedArguments.{again-substituted, named-here}
-use Rattle.cpp_direct.proofs.MovesOfNests.{nest-source, nest-abbreviation, nest-substitution, nest-std, component-awaits, component-outside, any-arguments, instance-arguments, nest-end, tag-follows}
-use Rattle.cpp_direct.proofs.PrintedNames.{as-name, source-prints, source-class, std-prints, std-class, abbreviation-prints, abbreviation-class}
 use Rattle.cpp_direct.proofs.PrintedNests.{tagged-as, std-tagged, again-tagged}
-use Rattle.cpp_direct.proofs.PrintedTypes.{prints-as, no-module}
 use Rattle.cpp_direct.proofs.TypesRead.{abbreviation-listed}
+use Rattle.cpp_grammar.specs.Values as values
 
 -- ## What types may name
 
@@ -77,7 +59,7 @@ no-function detail names false t bytes prints = prints.no_function
 -- ## A name with or without arguments
 
 -- no arguments follow a name
-pub named-goes-on : (s : Symbol) (w : Direct) → IsNestNamed s w → IsWriting s w steps.Tail
+pub named-goes-on : (s : Symbol) (w : Direct) → IsNestNamed s w → IsWriting s w Step.Tail
 unfolding may_be_empty
 named-goes-on s w n = record {
   kept = n.kept;
@@ -144,16 +126,16 @@ named-tagged s old new tag wide n is reads =
 
 -- arguments follow it
 pub named-opens : (s : Symbol) (old mid new : Direct) → IsNestNamed s old → StandsAt s.bytes old.at (73 ∷ [])
-    → Lists old mid (added old old.nest.from false old.nest.is_dependent) → OpensArguments (detail_of s) mid new (opens.NestArguments mid.nest)
-    → IsWriting s new (steps.List true)
+    → Lists old mid (added old old.nest.from false old.nest.is_dependent) → OpensArguments (detail_of s) mid new (Open.NestArguments mid.nest)
+    → IsWriting s new (Step.List true)
 unfolding inside
 named-opens s old mid new n here lists opening_ =
     let begun = arguments-open s n.named.inner n.around n.own false old.at n.state
     (alone-arguments s (after n.own false n.around) n.named.inner old.at n.state n.named.awaits) here in
     list-begins s old mid new (added old old.nest.from false old.nest.is_dependent)
     (kept-with s old mid n.kept n.front n.bytes old.nest.from n.own n.around false old.nest.is_dependent n.written n.is_nest.from_is n.is_nest.prints
-    (nest-here s old n.around n.scoped n.is_nest.closed) lists.text lists.candidates lists.scope) (opens.NestArguments old.nest) n.front n.bytes
-    n.own lists (subst (λ x. OpensArguments (detail_of s) mid new (opens.NestArguments x)) lists.nest opening_)
+    (nest-here s old n.around n.scoped n.is_nest.closed) lists.text lists.candidates lists.scope) (Open.NestArguments old.nest) n.front n.bytes
+    n.own lists (subst (λ x. OpensArguments (detail_of s) mid new (Open.NestArguments x)) lists.nest opening_)
     (nest-stays n.front n.bytes old.text.list.items (opening_bracket (detail_of s)) old.nest n.own n.is_nest, (λ own. n.structor), n.no_structor) n.written (
       inside n.around,
       begun.inner,
@@ -173,7 +155,7 @@ named-opens s old mid new n here lists opening_ =
 -- ## A substituted name
 
 -- what follows it is read
-pub known-goes-on : (s : Symbol) (w : Direct) → IsNestKnown s w → IsWriting s w steps.Rest
+pub known-goes-on : (s : Symbol) (w : Direct) → IsNestKnown s w → IsWriting s w Step.Rest
 known-goes-on s w n = record { kept = n.kept; is_before = (n.own, Kind.NestRestOrEnd, tt, n.nesting) }
 
 -- what is accepted inside is accepted outside
@@ -189,15 +171,15 @@ may-end s outer around t listed at st wide g =
     record { inner = g.inner; awaits = any-tail s (after t listed around) g.inner at st wide g.awaits; passes = g.passes }
 
 -- in the wide grammar arguments follow it, where it is a type
-pub known-opens : (s : Symbol) (old new : Direct) → IsNestKnown s old → s.is_wide ≡ true → old.nest.purpose ≡ purposes.Type → StandsAt s.bytes old.at (73 ∷ [])
-    → OpensArguments (detail_of s) old new (opens.NestArguments old.nest) → IsWriting s new (steps.List true)
+pub known-opens : (s : Symbol) (old new : Direct) → IsNestKnown s old → s.is_wide ≡ true → old.nest.purpose ≡ Purpose.Type → StandsAt s.bytes old.at (73 ∷ [])
+    → OpensArguments (detail_of s) old new (Open.NestArguments old.nest) → IsWriting s new (Step.List true)
 unfolding inside
 known-opens s old new n wide is_type here opening_ =
     let m = n.nesting in
     let g = subst (λ b. NestGoesOn s Kind.NestRestOrEnd m.outer m.around n.own b old.at n.state) n.listed m.goes in
     let begun = instance-arguments s g.inner m.around n.own true old.at n.state g.awaits here in
     let not_own : IsOwn old.nest.purpose → ⊥ = λ own. subst IsOwn is_type own in
-    list-begins s old old new old.candidates.list.items n.kept (opens.NestArguments old.nest) m.front m.bytes n.own
+    list-begins s old old new old.candidates.list.items n.kept (Open.NestArguments old.nest) m.front m.bytes n.own
     (record { candidates = refl; text = refl; waiting = refl; nest = refl; scope = refl; at = refl }) opening_ (
       nest-stays m.front m.bytes old.text.list.items (opening_bracket (detail_of s)) old.nest n.own m.is_nest,
       (λ own. absurd (not_own own)),
@@ -222,9 +204,8 @@ known-opens s old new n wide is_type here opening_ =
 -- ## After a name so far
 
 -- a component follows
-pub component-next : (s : Symbol) (kind : Kind) (old new : Direct) (kept : Kept s old) (t : Term) → IsRest kind
-    → IsNesting s kept.scope kind old t kept.state
-    → Lists old new (added_unless old old.nest.is_listed old.nest.from old.nest.is_dependent) → IsWriting s new steps.Component
+pub component-next : (s : Symbol) (kind : Kind) (old new : Direct) (kept : Kept s old) (t : Term) → IsRest kind → IsNesting s kept.scope kind old t kept.state
+    → Lists old new (added_unless old old.nest.is_listed old.nest.from old.nest.is_dependent) → IsWriting s new Step.Component
 component-next s kind old new kept t rest n lists =
     let listed = old.nest.is_listed in
     let text_is : new.text.list.items ≡ old.text.list.items = cc (lists.text) in
@@ -247,8 +228,8 @@ component-next s kind old new kept t rest n lists =
 -- arguments of the first piece follow
 pub first-opens : (s : Symbol) (kind : Kind) (old mid new : Direct) (kept : Kept s old) (t : Term) → IsFirstRest kind
     → IsNesting s kept.scope kind old t kept.state → StandsAt s.bytes old.at (73 ∷ [])
-    → Lists old mid (added_unless old old.nest.is_listed old.nest.from old.nest.is_dependent) → OpensArguments (detail_of s) mid new (opens.FirstArguments mid.nest)
-    → IsWriting s new (steps.List true)
+    → Lists old mid (added_unless old old.nest.is_listed old.nest.from old.nest.is_dependent) → OpensArguments (detail_of s) mid new (Open.FirstArguments mid.nest)
+    → IsWriting s new (Step.List true)
 unfolding inside
 first-opens s kind old mid new kept t first n here lists opening_ =
     let around = n.around in
@@ -256,8 +237,8 @@ first-opens s kind old mid new kept t first n here lists opening_ =
     let begun = any-arguments s kind n.goes.inner n.around t listed old.at kept.state first n.goes.awaits here in
     list-begins s old mid new (added_unless old listed old.nest.from old.nest.is_dependent)
     (kept-unless s old mid kept listed n.front n.bytes old.nest.from t around old.nest.is_dependent n.written n.is_nest.from_is (λ e. n.is_nest.prints)
-    (nest-here s old around n.scoped n.is_nest.closed) lists.text lists.candidates lists.scope) (opens.FirstArguments old.nest) n.front n.bytes t
-    lists (subst (λ x. OpensArguments (detail_of s) mid new (opens.FirstArguments x)) lists.nest opening_)
+    (nest-here s old around n.scoped n.is_nest.closed) lists.text lists.candidates lists.scope) (Open.FirstArguments old.nest) n.front n.bytes t
+    lists (subst (λ x. OpensArguments (detail_of s) mid new (Open.FirstArguments x)) lists.nest opening_)
     (nest-stays n.front n.bytes old.text.list.items (opening_bracket (detail_of s)) old.nest t n.is_nest) n.written (
       inside n.around,
       begun.inner,
@@ -285,9 +266,9 @@ nest-comes s old st t n here = n.goes.passes (tree t old.nest.is_listed) (old.at
 
 -- it is a type
 pub type-ended : (s : Symbol) (old new : Direct) (kept : Kept s old) (t : Term)
-    → IsNesting s kept.scope Kind.NestTail old t kept.state → StandsAt s.bytes old.at (69 ∷ []) → old.nest.purpose ≡ purposes.Type
+    → IsNesting s kept.scope Kind.NestTail old t kept.state → StandsAt s.bytes old.at (69 ∷ []) → old.nest.purpose ≡ Purpose.Type
     → Lists (record old { at = old.at + 1 }) new (added_unless old old.nest.is_listed old.nest.from old.nest.is_dependent)
-    → IsWriting s new (steps.Value false old.nest.is_dependent)
+    → IsWriting s new (Step.Value false old.nest.is_dependent)
 type-ended s old new kept t n here is_type lists =
     let listed = old.nest.is_listed in
     let d = old.nest.is_dependent in
@@ -295,13 +276,11 @@ type-ended s old new kept t n here is_type lists =
     let serves = subst (λ p. Serves s p (below s kept.scope open_) n.outer n.front) is_type n.serves in
     let text_is : new.text.list.items ≡ old.text.list.items = cc (lists.text) in
     let waiting_is : new.waiting.list.items ≡ old.waiting.list.items = cc (lists.waiting) in
-    let later = unless_listed listed serves.1 t kept.state in
     value-comes s new
     (kept-unless s old new kept listed n.front n.bytes old.nest.from t serves.1 d n.written n.is_nest.from_is (λ e. n.is_nest.prints)
     (λ e. made-here kept.scope serves.1 open_ serves.3 (n.scoped.naming e)) lists.text lists.candidates lists.scope)
-    serves.0 t n.front n.bytes false d (text_is ∙ n.written) n.is_nest.prints
-    (ap reverse waiting_is) n.scoped.naming
-    (comes-moved s serves.0 (tree t true) (old.at + 1) new.at later (sym lists.at)
+    serves.0 t n.front n.bytes false d (text_is ∙ n.written) n.is_nest.prints (ap reverse waiting_is) n.scoped.naming
+    (comes-moved s serves.0 (tree t true) (old.at + 1) new.at (unless_listed listed serves.1 t kept.state) (sym lists.at)
     (serves.2 t listed (old.at + 1) kept.state (no-function (detail_of s) kept.scope.names d t n.bytes n.is_nest.prints) (nest-comes s old kept.state t n here))) serves.4
 
 -- the arguments that it ends in were noted, or none are known
@@ -314,9 +293,8 @@ arguments-noted {detail} false text a r t known none has = subst (λ (k : Argume
 pub name-comes : (s : Symbol) (old : Direct) (kept : Kept s old) (t : Term) (mark : Mark) (is_function : Bool) (argument_ : Arguments)
     → IsNesting s kept.scope Kind.NestTail old t kept.state
     → (is_function ≡ false → has_return_type t ≡ false) → (is_function ≡ true → has_return_type t ≡ true)
-    → HasArguments (detail_of s) old.text.list.items argument_ t
-    → StandsAt s.bytes old.at (69 ∷ [])
-    → old.nest.purpose ≡ purposes.Name mark → IsNameEnded s (record old { at = old.at + 1 }) mark is_function argument_ old.nest.from
+    → HasArguments (detail_of s) old.text.list.items argument_ t → StandsAt s.bytes old.at (69 ∷ [])
+    → old.nest.purpose ≡ Purpose.Name mark → IsNameEnded s (record old { at = old.at + 1 }) mark is_function argument_ old.nest.from
 name-comes s old kept t mark is_function argument_ n no_return returns names here is_name =
     let serves = subst (λ p. Serves s p (below s kept.scope (reverse old.waiting.list.items)) n.outer n.front) is_name n.serves in
     record {
@@ -331,7 +309,7 @@ name-comes s old kept t mark is_function argument_ n no_return returns names her
 
 -- the E of a nested name that an operator ends
 pub operator-ends : (s : Symbol) (w : Direct) (mark : Mark) → IsOperatorRead s w → StandsAt s.bytes w.at (69 ∷ [])
-    → w.nest.purpose ≡ purposes.Name mark → IsNameEnded s (record w { at = w.at + 1 }) mark false nowhere w.nest.from
+    → w.nest.purpose ≡ Purpose.Name mark → IsNameEnded s (record w { at = w.at + 1 }) mark false nowhere w.nest.from
 unfolding may_be_empty
 operator-ends s w mark p here is_name =
     let t = p.own in
@@ -419,8 +397,7 @@ nest-begins : (s : Symbol) (old new : Direct) (purpose : Purpose) (a : AwaitsNes
     → new.text.list.items ≡ old.text.list.items ++ bytes → new.candidates ≡ old.candidates → new.waiting ≡ old.waiting → new.has_scope ≡ old.has_scope
     → new.nest.purpose ≡ purpose → new.nest.is_dependent ≡ false
     → IsNest (detail_of s) a.scope.names old.text.list.items bytes (old.text.list.items ++ bytes) new.nest t
-    → NestGoesOn s Kind.NestRestAlone a.outer a.around t new.nest.is_listed new.at a.state
-    → IsWriting s new steps.Rest
+    → NestGoesOn s Kind.NestRestAlone a.outer a.around t new.nest.is_listed new.at a.state → IsWriting s new Step.Rest
 nest-begins s old new purpose a t bytes text_is candidates_are waiting_is scope_same purpose_is closed is_nest goes = record {
   kept = kept-grown s old new bytes text_is candidates_are scope_same a.kept;
   is_before = (
@@ -463,7 +440,7 @@ nest_of from class_from class_to purpose is_listed has_class = record {
 pub source-begins : (s : Symbol) (old mid : Direct) (purpose : Purpose) (name : List ℕ) → AwaitsNest s old purpose
     → IsNameAt s.bytes old.at name mid.at → name ≢ [] → Reads old mid (source_text name) → (from to : ℕ)
     → from ≡ length old.text.list.items → to ≡ length mid.text.list.items
-    → IsWriting s (record mid { nest = nest_of from from to purpose false true }) steps.Rest
+    → IsWriting s (record mid { nest = nest_of from from to purpose false true }) Step.Rest
 source-begins s old mid purpose name a is filled reads from to from_is to_is =
     let nest = nest_of from from to purpose false true in
     let t : Term = alone (source false name) in
@@ -512,10 +489,10 @@ abbreviation-begins s old mid purpose letter a here behind there text_is candida
 -- only a type names arguments
 own-closed : (purpose : Purpose) (d : Bool) → (d ≡ true → is_type purpose ≡ true) → IsOwn purpose → d ≡ false
 own-closed purpose false typed own = refl
-own-closed purposes.Type true typed own = absurd own
-own-closed (purposes.Name mark) true typed own = absurd (false≢true (typed refl))
-own-closed (purposes.Enclosing mark encoding) true typed own = absurd (false≢true (typed refl))
-own-closed (purposes.Address mark) true typed own = absurd (false≢true (typed refl))
+own-closed Purpose.Type true typed own = absurd own
+own-closed (Purpose.Name mark) true typed own = absurd (false≢true (typed refl))
+own-closed (Purpose.Enclosing mark encoding) true typed own = absurd (false≢true (typed refl))
+own-closed (Purpose.Address mark) true typed own = absurd (false≢true (typed refl))
 
 -- what a reference denotes may be named here
 named-again : (s : Symbol) {scope : Scope} (around : Around) (open_ : List Open) (c : values.Candidate) (st : State) (bytes : List ℕ) (d : Bool)
@@ -529,7 +506,7 @@ named-again s around open_ c st bytes true prints own scoped naming made place =
 -- a reference begins a nested name
 pub reference-begins : (s : Symbol) (old mid : Direct) (purpose : Purpose) (digits : List ℕ) (k : Candidate) → AwaitsNest s old purpose
     → StandsAt s.bytes old.at (83 ∷ []) → IsSeqAt s.bytes (old.at + 1) digits mid.at
-    → k.from ≤ k.to → slice_get old.candidates.list.items (counted_value Seq36 digits) ≡ Some k → k.is_reference ≡ false
+    → k.from ≤ k.to → slice_get old.candidates.list.items (counted_value NumberKind.Seq36 digits) ≡ Some k → k.is_reference ≡ false
     → (k.is_dependent ≡ true → is_type purpose ≡ true)
     → (k.is_dependent ≡ true → (all : Arguments) × (argument_of (reverse old.waiting.list.items) ≡ Some all) × (all.encoding ≢ 0))
     → mid.text.list.items ≡ old.text.list.items ++ take (k.to - k.from) (drop k.from old.text.list.items) → mid.candidates ≡ old.candidates
@@ -537,7 +514,7 @@ pub reference-begins : (s : Symbol) (old mid : Direct) (purpose : Purpose) (digi
     → IsNestKnown s (record mid { nest = record (nest_of from from from purpose true false) { is_dependent = k.is_dependent } })
 reference-begins s old mid purpose digits k a here is ordered found_ plain typed known text_is candidates_are waiting_is scope_same from from_is =
     let nest = record (nest_of from from from purpose true false) { is_dependent = k.is_dependent } in
-    let one = candidate-found old.text.list.items old.candidates.list.items a.state.candidates (counted_value Seq36 digits) k a.keeps.candidates ordered found_ in
+    let one = candidate-found old.text.list.items old.candidates.list.items a.state.candidates (counted_value NumberKind.Seq36 digits) k a.keeps.candidates ordered found_ in
     let c = one.0 in
     let it = one.2 in
     let piece = piece-found old.text.list.items it.bytes k.from k.to it.placed in

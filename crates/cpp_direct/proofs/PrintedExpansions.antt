@@ -1,15 +1,6 @@
 -- What a parameter prints that expands a pack: what its pattern makes of each type of the pack.
-use Rattle.cpp_direct.specs.AllTerms.{argument, arguments_of, as_item, at_index, comma_before, Context, count, Detail, element, expand, expand_parts, expand_rest, expansion, expansion_parts, indexed, is_below, is_empty, is_none_of, is_void, left, left_parts, length_if_pack, lvalue, not_empty, pack, pack_length, packs_of, parameter, parts_in, qualified, right, right_parts, rvalue, says, Term, types_of}
-use Rattle.cpp_direct.specs.declared.open.Pattern.{Pattern}
-use Rattle.cpp_direct.specs.declared.open.Pattern.TheVariants as patterns
+use Rattle.cpp_direct.proofs.AllGround.{argument, arguments_of, as_item, at_index, comma_before, Context, count, Detail, element, expand, expand_parts, expand_rest, expansion, expansion_parts, indexed, is_below, is_empty, is_none_of, is_void, left, left_parts, length_if_pack, lvalue, not_empty, pack, pack_length, packs_of, parameter, parts_in, qualified, right, right_parts, rvalue, says, Term, types_of, Pattern, le-ltb, lt-ltb, Prints, PrintsAround, PrintsIn, PrintsListed, PrintsMade, IsMarkedBy, written_of, IsElementIn, PrintEachBy, PrintAllBy, joined, list_of, made_by, inl, inr, ◌≡◌, refl, ap, ◌∙◌, ℕ, ◌+◌, ◌*◌, ◌≤◌, List, [], ◌∷◌, ◌++◌, length, Bool, true, false, arith, codes, length-append, sym, subst, append-nil, append_assoc, ◌≢◌, slice_get, Some, zero, suc, ◌<◌, text_of, cost_of, further, joined-further, type-in, text_shown, cost_shown, shown_by, const-in, constant, lvalue-in, parameter-around, parameter-in, rvalue-again, rvalue-around, rvalue-in}
 use Rattle.std.proofs.Math.Dec.{eqb-suc-zero}
-use Rattle.std.proofs.lemmas.Bool.{le-ltb, lt-ltb}
-use Rattle.cpp_direct.specs.Prints.{Prints, PrintsAround, PrintsIn, PrintsListed, PrintsMade, IsMarkedBy, written_of, IsElementIn, PrintEachBy, PrintAllBy, joined, list_of, made_by}
-use Rattle.std.proofs.Common.{inl, inr, ◌≡◌, refl, ap, ◌∙◌, ℕ, ◌+◌, ◌*◌, ◌≤◌, List, [], ◌∷◌, ◌++◌, length, Bool, true, false, arith, codes, length-append, sym, subst, append-nil, append_assoc, ◌≢◌, slice_get, Some, zero, suc, ◌<◌}
-use Rattle.sym_print.specs.Unshared.{text_of, cost_of}
-use Rattle.cpp_direct.proofs.PrintedLists.{further, joined-further, type-in}
-use Rattle.cpp_direct.proofs.PrintedParts.{text_shown, cost_shown, shown_by}
-use Rattle.cpp_direct.proofs.PrintedTypes.{const-in, constant, lvalue-in, parameter-around, parameter-in, rvalue-again, rvalue-around, rvalue-in}
 
 -- where the argument with this number is a pack of these types
 record IsPacked (c : Context) (k : ℕ) (ts : List Term) : Type 0 where
@@ -42,39 +33,38 @@ argument-at c k i ts own p at = rw (p.scope_is, p.pack_is) (element-of ts i own 
 -- what a pattern makes of the type that a parameter names
 makes-in : {detail : Detail} (d : Context) (k : ℕ) (pattern : Pattern) (b marks : List ℕ) (r : Bool) → Prints detail (argument d k) b r → IsMarkedBy pattern r marks
     → (q : Bool) × PrintsIn detail d 3 (each pattern k) (b ++ marks) q
-makes-in {detail} d k patterns.Same b marks r p is = (
+makes-in {detail} d k Pattern.Same b marks r p is = (
   r,
   subst (λ m. PrintsIn detail d 3 (parameter k) (b ++ m) r) (sym is)
       (subst (λ l. PrintsIn detail d 3 (parameter k) l r) (sym (append-nil b)) (parameter-in d k b r p)),
 )
-makes-in {detail} d k patterns.Lvalue b marks r p is =
+makes-in {detail} d k Pattern.Lvalue b marks r p is =
     let own = subst (λ q. Prints detail (argument d k) b q) is.0 p in
     (true, subst (λ m. PrintsIn detail d 3 (lvalue (parameter k)) (b ++ m) true) (sym is.1) (lvalue-in d 3 (parameter k) b (parameter-in d k b false own)))
-makes-in {detail} d k patterns.ConstLvalue b marks r p is =
+makes-in {detail} d k Pattern.ConstLvalue b marks r p is =
     let own = subst (λ q. Prints detail (argument d k) b q) is.0 p in
-    let const_ = const-in d 3 (parameter k) b (parameter-in d k b false own) in
     let t = lvalue (qualified constant (parameter k)) in (
       true,
       subst (λ m. PrintsIn detail d 3 t (b ++ m) true) (sym is.1)
           (subst (λ l. PrintsIn detail d 3 t l true) (append_assoc b (codes " const") (codes "&"))
-          (lvalue-in d 3 (qualified constant (parameter k)) (b ++ codes " const") const_)),
+          (lvalue-in d 3 (qualified constant (parameter k)) (b ++ codes " const") (const-in d 3 (parameter k) b (parameter-in d k b false own)))),
     )
-makes-in {detail} d k patterns.Rvalue b marks true p is = (
+makes-in {detail} d k Pattern.Rvalue b marks true p is = (
   true,
   subst (λ m. PrintsIn detail d 3 (rvalue (parameter k)) (b ++ m) true) (sym is)
       (subst (λ l. PrintsIn detail d 3 (rvalue (parameter k)) l true) (sym (append-nil b)) (rvalue-again d k b p)),
 )
-makes-in {detail} d k patterns.Rvalue b marks false p is =
+makes-in {detail} d k Pattern.Rvalue b marks false p is =
     (true, subst (λ m. PrintsIn detail d 3 (rvalue (parameter k)) (b ++ m) true) (sym is) (rvalue-in d 3 (parameter k) b (parameter-in d k b false p)))
 
 -- what it makes of a reference with text on both sides of a name
 around-in : {detail : Detail} (d : Context) (k : ℕ) (pattern : Pattern) (b marks : List ℕ) → PrintsAround detail (argument d k) b → IsMarkedBy pattern true marks
     → IsElementIn detail d 3 (each pattern k) (b ++ marks)
-around-in {detail} d k patterns.Same b marks p is =
+around-in {detail} d k Pattern.Same b marks p is =
     subst (λ l. IsElementIn detail d 3 (parameter k) l) (sym (ap (λ m. b ++ m) is ∙ append-nil b)) (parameter-around d k b p)
-around-in {detail} d k patterns.Lvalue b marks p is = cc is.0
-around-in {detail} d k patterns.ConstLvalue b marks p is = cc is.0
-around-in {detail} d k patterns.Rvalue b marks p is =
+around-in {detail} d k Pattern.Lvalue b marks p is = cc is.0
+around-in {detail} d k Pattern.ConstLvalue b marks p is = cc is.0
+around-in {detail} d k Pattern.Rvalue b marks p is =
     subst (λ l. IsElementIn detail d 3 (rvalue (parameter k)) l) (sym (ap (λ m. b ++ m) is ∙ append-nil b)) (rvalue-around d k b p)
 
 listed-in : {detail : Detail} (d : Context) (k : ℕ) (pattern : Pattern) (b marks : List ℕ) (r : Bool) → PrintsListed true detail (argument d k) b r → IsMarkedBy pattern r marks
@@ -95,10 +85,10 @@ each-prints {detail} c k i ts pattern own b packed at p =
 
 packs-are : (c : Context) (k : ℕ) (ts : List Term) (pattern : Pattern) → IsPacked c k ts → packs_of c (each pattern k) ≡ Some (count (list_of ts))
 unfolding packs_of pack_length length_if_pack
-packs-are c k ts patterns.Same p = rw (p.scope_is, p.pack_is) refl
-packs-are c k ts patterns.Lvalue p = rw (p.scope_is, p.pack_is) refl
-packs-are c k ts patterns.ConstLvalue p = rw (p.scope_is, p.pack_is) refl
-packs-are c k ts patterns.Rvalue p = rw (p.scope_is, p.pack_is) refl
+packs-are c k ts Pattern.Same p = rw (p.scope_is, p.pack_is) refl
+packs-are c k ts Pattern.Lvalue p = rw (p.scope_is, p.pack_is) refl
+packs-are c k ts Pattern.ConstLvalue p = rw (p.scope_is, p.pack_is) refl
+packs-are c k ts Pattern.Rvalue p = rw (p.scope_is, p.pack_is) refl
 
 -- what follows the first ones
 rest-ends : (c : Context) (k : ℕ) (ts : List Term) (pattern : Pattern) (n : ℕ) → IsPacked c k ts → length ts ≤ n → expand_rest c (each pattern k) n ≡ []
@@ -127,14 +117,7 @@ one-more {detail} c k ts pattern m b l packed lt p n =
       ap (λ ps. text_of (shown_by detail ps)) goes ∙ append-nil (text_of (written_of detail (expand (suc m)) c t)) ∙ text_shown detail (expand (suc m)) c t qs refl refl
           ∙ ap (λ x. codes ", " ++ x) (sym (append_assoc (text_of (written_of detail left d t)) (text_of (written_of detail right d t)) (text_of (shown_by detail rest))))
           ∙ ap (λ x. codes ", " ++ (x ++ text_of (shown_by detail rest))) p.both_texts ∙ ap (λ x. codes ", " ++ (b ++ x)) n.0,
-      omega (
-        arith,
-        ap (λ ps. cost_of (shown_by detail ps)) goes,
-        cost_shown detail (expand (suc m)) c t qs refl refl,
-        p.cost,
-        n.1,
-        length-append {A = ℕ},
-      ),
+      omega (arith, ap (λ ps. cost_of (shown_by detail ps)) goes, cost_shown detail (expand (suc m)) c t qs refl refl, p.cost, n.1, length-append {A = ℕ}),
     )
 
 rest-prints : (detail : Detail) (c : Context) (k : ℕ) (ts : List Term) (pattern : Pattern) (rest : List Term) (m : ℕ) (texts : List (List ℕ)) → IsPacked c k ts
@@ -148,8 +131,7 @@ rest-prints detail c k ts pattern (t ∷ rest) m (b ∷ texts) packed there size
     let at : slice_get ts (suc m) ≡ Some t = subst (λ n. slice_get ts n ≡ Some t) (omega arith) (there 0 t refl) in
     let behind = rest-prints detail c k ts pattern rest (suc m) texts packed
     (λ i u e. subst (λ n. slice_get ts n ≡ Some u) (omega arith) (there (suc i) u e)) (omega (arith, size)) each_.1 in
-    let own = each-prints c k (suc m) ts pattern t b packed at each_.0 in
-    one-more c k ts pattern m b (further texts) packed (omega (arith, size)) own
+    one-more c k ts pattern m b (further texts) packed (omega (arith, size)) (each-prints c k (suc m) ts pattern t b packed at each_.0)
     (subst (λ n. next_parts detail c (each pattern k) n (further texts)) (omega arith) behind)
 rest-prints detail c k ts pattern [] m (b ∷ texts) packed there size each_ = absurd each_
 rest-prints detail c k ts pattern (t ∷ rest) m [] packed there size each_ = absurd each_

@@ -1,14 +1,6 @@
 -- Function types and arrays, and pointers and references to them, as elements of lists.
-use Rattle.cpp_direct.specs.AllTerms.{any_value, array, array_left, as_item, builtin, closed, closing_right, Context, Detail, first, first_of, function_right, function_type, head, head_with, is_empty, is_funarr, is_nil, is_open, is_reference, is_void, left, left_parts, list_part, lvalue, marked_parts, nil, not_empty, pack_length, parameters, parts_in, pointer, ref_text, reference_parts, right, right_parts, says, Term, text_part}
-use Rattle.std.proofs.Common.{◌≡◌, ◌≢◌, refl, ap, sym, ◌∙◌, ℕ, ◌+◌, ◌*◌, ◌≤◌, List, [], ◌∷◌, ◌++◌, length, Bool, true, false, None, arith, codes, length-append, append-nil, append_assoc, inl, subst}
-use Rattle.sym_print.specs.Unshared.{text_of, cost_of}
-use Rattle.cpp_direct.specs.AllStates.{IsElement, IsUnmarked, list_of, list_with, opening_text, PrintAll, Prints, PrintsAround, written_of}
-use Rattle.cpp_direct.specs.AllHoles.{accessed, array_opening, plain_function, pointed}
-use Rattle.cpp_direct.proofs.PrintedParts.{shown_by, text_shown, cost_shown, text_append, cost_append, part-text, part-cost}
-use Rattle.cpp_direct.proofs.PrintedLists.{all-in, around-element, list-with-none, list-text, list-cost, list-closed, list-packless, none-print}
-use Rattle.cpp_direct.proofs.PrintedSymbols.{parameters-kept}
-use Rattle.cpp_direct.specs.declared.open.Access.{Access}
-use Rattle.cpp_direct.specs.declared.open.Access.TheVariants as accesses
+use Rattle.cpp_direct.proofs.AllGround.{any_value, array, array_left, as_item, builtin, closed, closing_right, Context, Detail, first, first_of, function_right, function_type, head, head_with, is_empty, is_funarr, is_nil, is_open, is_reference, is_void, left, left_parts, list_part, lvalue, marked_parts, nil, not_empty, pack_length, parameters, parts_in, pointer, ref_text, reference_parts, right, right_parts, says, Term, text_part, ◌≡◌, ◌≢◌, refl, ap, sym, ◌∙◌, ℕ, ◌+◌, ◌*◌, ◌≤◌, List, [], ◌∷◌, ◌++◌, length, Bool, true, false, None, arith, codes, length-append, append-nil, append_assoc, inl, subst, text_of, cost_of, IsElement, IsUnmarked, list_of, list_with, PrintAll, Prints, PrintsAround, written_of, accessed, array_opening, plain_function, pointed, Access, shown_by, text_shown, cost_shown, text_append, cost_append, part-text, part-cost, all-in, around-element, list-with-none, list-text, list-cost, list-closed, list-packless, none-print, parameters-kept}
+use Rattle.cpp_direct.specs.AllStates.{opening_text}
 
 -- ## What a function type prints at the left and at the right
 
@@ -30,8 +22,7 @@ bracketed_text : (x y l : List ℕ) → x ≡ l → y ≡ [] → ((codes "(" ++ 
 bracketed_text x y l e f = rw (e, f) (append-nil (codes "(" ++ l ++ codes ")"))
 
 right-text : {detail : Detail} (c : Context) (r : Term) (b : List ℕ) (is_reference : Bool) (ts : List Term) (l : List ℕ) → Prints detail r b is_reference
-    → PrintAll detail 0 ts l
-    → text_of (written_of detail right c (plain r (list_of ts))) ≡ codes "(" ++ l ++ codes ")"
+    → PrintAll detail 0 ts l → text_of (written_of detail right c (plain r (list_of ts))) ≡ codes "(" ++ l ++ codes ")"
 unfolding parts_in right_parts function_right text_part ref_text not_empty
 right-text {detail} c r b is_reference ts l p all =
     let front = says "(" ∷ list_part first c (list_of ts) in
@@ -63,8 +54,7 @@ sections : (b s o l k : List ℕ) → (b ++ s) ++ (o ++ l ++ k) ≡ b ++ (s ++ o
 sections b s o l k = simp append_assoc
 
 around_text : (x y b l o e : List ℕ) → x ≡ b ++ codes " " → y ≡ o ++ l ++ e → x ++ y ≡ b ++ (codes " " ++ o) ++ l ++ e
-around_text x y b l o e left_is right_is =
-    ap (λ k. k ++ y) left_is ∙ ap (λ k. (b ++ codes " ") ++ k) right_is ∙ sections b (codes " ") o l e
+around_text x y b l o e left_is right_is = ap (λ k. k ++ y) left_is ∙ ap (λ k. (b ++ codes " ") ++ k) right_is ∙ sections b (codes " ") o l e
 
 marked_text : (x y b l m o e : List ℕ) → x ≡ b ++ codes " " → y ≡ o ++ l ++ e
     → (x ++ (codes "(" ++ m)) ++ (codes ")" ++ (y ++ [])) ≡ b ++ ((codes " (" ++ m) ++ (codes ")" ++ o)) ++ l ++ e
@@ -90,13 +80,7 @@ plain-element {detail} extra false r b is_reference ts l p all = record {
   both_texts = λ c. let f = plain r (list_of ts) in
       around_text (text_of (written_of detail left c f)) (text_of (written_of detail right c f)) b l (codes "(") (codes ")")
       (left-text c r b is_reference (list_of ts) p) (right-text c r b is_reference ts l p all);
-  cost = λ c. omega (
-    arith,
-    p.cost c,
-    left-cost detail c r (list_of ts),
-    right-cost detail c r ts l all,
-    text-length b (codes " (") l 41,
-  );
+  cost = λ c. omega (arith, p.cost c, left-cost detail c r (list_of ts), right-cost detail c r ts l all, text-length b (codes " (") l 41);
   filled = λ c. refl;
   is_closed = rw (p.is_closed, closed-list detail ts l all) refl;
   packless = λ scope. rw (p.packless scope, packless-list detail scope ts l all) refl;
@@ -175,18 +159,13 @@ unfolding parts_in right_parts not_empty
 array-right-cost detail c digits t =
     let front = says "[" ∷ text_part digits in
     let behind = says "]" ∷ as_item right c t ∷ [] in
-    omega (
-      arith,
-      cost_shown detail right c (array digits t) (front ++ behind) refl refl,
-      cost_append detail front behind,
-      part-cost detail digits,
-    )
+    omega (arith, cost_shown detail right c (array digits t) (front ++ behind) refl refl, cost_append detail front behind, part-cost detail digits)
 
 -- ## What an array is as an element
 
 -- A reference to an array prints its elements' type and its size, and a mark between them,
 pub array-around : {detail : Detail} (digits : List ℕ) → IsUnmarked digits → (t : Term) (b : List ℕ) (r : Bool) → Prints detail t b r
-    → PrintsAround detail (lvalue (array digits t)) (b ++ array_opening accesses.Lvalue ++ digits ++ codes "]")
+    → PrintsAround detail (lvalue (array digits t)) (b ++ array_opening Access.Lvalue ++ digits ++ codes "]")
 unfolding parts_in left_parts right_parts marked_parts reference_parts closing_right head head_with is_reference is_funarr not_empty is_empty is_open pack_length is_void
 array-around {detail} digits plain t b r p = let a = array digits t in record {
   both_texts = λ c.
@@ -214,21 +193,15 @@ array-around {detail} digits plain t b r p = let a = array digits t in record {
 pub array-element : {detail : Detail} (extra : ℕ) (access : Access) (digits : List ℕ) → IsUnmarked digits → (t : Term) (b : List ℕ) (r : Bool) → Prints detail t b r
     → IsElement detail extra (accessed access (array digits t)) (b ++ array_opening access ++ digits ++ codes "]")
 unfolding parts_in left_parts right_parts marked_parts reference_parts closing_right head head_with is_reference is_funarr not_empty is_empty is_open pack_length is_void
-array-element {detail} extra accesses.Plain digits plain t b r p = let a = array digits t in record {
+array-element {detail} extra Access.Plain digits plain t b r p = let a = array digits t in record {
   both_texts = λ c. around_text (text_of (written_of detail left c a)) (text_of (written_of detail right c a)) b digits (codes "[") (codes "]") (array-left-text c digits t b r p) (array-right-text c digits plain t b r p);
-  cost = λ c. omega (
-    arith,
-    p.cost c,
-    array-left-cost c digits t b r p,
-    array-right-cost detail c digits t,
-    text-length b (codes " [") digits 93,
-  );
+  cost = λ c. omega (arith, p.cost c, array-left-cost c digits t b r p, array-right-cost detail c digits t, text-length b (codes " [") digits 93);
   filled = λ c. refl;
   is_closed = p.is_closed;
   packless = p.packless;
   void = λ e. cc e;
 }
-array-element {detail} extra accesses.Pointer digits plain t b r p = let a = array digits t in record {
+array-element {detail} extra Access.Pointer digits plain t b r p = let a = array digits t in record {
   both_texts = λ c.
       ap (λ k. k ++ text_of (written_of detail right c (pointer a))) (text_shown detail left c (pointer a) (as_item left c a ∷ says "(*" ∷ []) refl refl)
       ∙ ap (λ k. (text_of (written_of detail left c a) ++ codes "(*") ++ k) (text_shown detail right c (pointer a) (says ")" ∷ as_item right c a ∷ []) refl refl)
@@ -247,5 +220,5 @@ array-element {detail} extra accesses.Pointer digits plain t b r p = let a = arr
   packless = p.packless;
   void = λ e. cc e;
 }
-array-element {detail} extra accesses.Lvalue digits plain t b r p =
-    around-element extra (lvalue (array digits t)) (b ++ array_opening accesses.Lvalue ++ digits ++ codes "]") (array-around digits plain t b r p)
+array-element {detail} extra Access.Lvalue digits plain t b r p =
+    around-element extra (lvalue (array digits t)) (b ++ array_opening Access.Lvalue ++ digits ++ codes "]") (array-around digits plain t b r p)

@@ -1,14 +1,7 @@
 -- What a member of an instance prints, whose names aren't looked up.
-use Rattle.cpp_direct.specs.AllTerms.{alone, Context, Detail, first_of, is_function_type, is_open, left, length_if_pack, operation_of_code, operations, pack_length, right, same_bytes, source, Term}
-use Rattle.std.proofs.Common.{◌≡◌, ◌≢◌, refl, ◌∙◌, ℕ, List, [], ◌∷◌, ◌++◌, Bool, true, false, arith, codes, length-append}
-use Rattle.sym_print.specs.Unshared.{text_of}
-use Rattle.cpp_grammar.specs.Parts.{as_item, says, source_text, prefix_item, component_parts, last_piece, opening_text, left_parts, right_parts, parts_in, not_empty, operation_parts, operand_parts, printed, text_part}
-use Rattle.cpp_direct.specs.HolesOfLevels.{member_of}
-use Rattle.cpp_direct.specs.Prints.{written_of, Prints, PrintsIn, PrintsAs, Names, IsUnmarked}
-use Rattle.cpp_direct.proofs.PrintedParts.{text_shown, cost_shown}
+use Rattle.cpp_direct.proofs.AllGround.{alone, Context, Detail, first_of, is_function_type, is_open, left, length_if_pack, operation_of_code, operations, pack_length, right, same_bytes, source, Term, ◌≡◌, ◌≢◌, refl, ◌∙◌, ℕ, List, [], ◌∷◌, ◌++◌, Bool, true, false, arith, codes, length-append, text_of, as_item, says, source_text, prefix_item, component_parts, last_piece, opening_text, left_parts, right_parts, parts_in, not_empty, operation_parts, operand_parts, printed, text_part, member_of, written_of, Prints, PrintsIn, PrintsAs, Names, IsUnmarked, text_shown, cost_shown, prints-in, made-given}
+use Rattle.cpp_direct.proofs.AllRead.{joins}
 use Rattle.cpp_direct.proofs.PrintedNames.{besides, own-in, own-prints, source-prints}
-use Rattle.cpp_direct.proofs.PrintedNests.{joins}
-use Rattle.cpp_direct.proofs.PrintedTypes.{prints-in, made-given}
 
 -- the instance, colons and the name
 member-parts : (detail : Detail) (c : Context) (u : Term) (name : List ℕ)
@@ -49,6 +42,5 @@ member-as detail names false u b p name filled plain =
       cost = λ c. omega (arith, (member-in c 0 u b (prints-in c 0 u b false p) name filled plain).cost);
     }) (rw p.is_closed refl) (λ scope. rw (p.packless scope) refl) refl (λ c. refl)
 member-as detail names true u b p name filled plain =
-    let m = member_of u name in
-    made-given names m (b ++ codes "::" ++ source_text name) false (λ c given. member-in c 3 u b (p.prints c given) name filled plain)
+    made-given names (member_of u name) (b ++ codes "::" ++ source_text name) false (λ c given. member-in c 3 u b (p.prints c given) name filled plain)
     (λ arguments single. rw (p.packless arguments single) refl) refl refl (λ c p. refl) refl

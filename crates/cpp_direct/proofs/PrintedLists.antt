@@ -1,8 +1,5 @@
 -- Lists of trees with known texts.
-use Rattle.cpp_direct.specs.AllTerms.{as_item, Context, Detail, first, first_of, first_parts, is_empty, is_open, is_void, left, left_parts, list, list_part, more, more_parts, nil, not_empty, pack, pack_length, parts_in, right, right_parts, says, Term}
-use Rattle.std.proofs.Common.{◌≡◌, ◌≢◌, inl, inr, refl, ap, sym, subst, ◌∙◌, ℕ, ◌+◌, ◌*◌, ◌≤◌, List, [], ◌∷◌, ◌++◌, length, Bool, true, false, None, arith, codes, length-append, append-nil, append_assoc}
-use Rattle.sym_print.specs.Unshared.{text_of, cost_of}
-use Rattle.cpp_direct.specs.AllStates.{AreSingle, in_front_of_next, IsElement, IsElementAs, IsElementGiven, IsElementIn, IsGiven, IsTail, joined, list_of, list_with, Names, PrintAll, PrintAllAs, PrintAllBy, PrintAllIn, PrintEach, PrintEachBy, PrintEachIn, Prints, PrintsAround, PrintsAs, PrintsIn, PrintsListed, written_of}
+use Rattle.cpp_direct.proofs.Basics.{as_item, Context, Detail, first, first_of, first_parts, is_empty, is_open, is_void, left, left_parts, list, list_part, more, more_parts, nil, not_empty, pack, pack_length, parts_in, right, right_parts, says, Term, ◌≡◌, ◌≢◌, inl, inr, refl, ap, sym, subst, ◌∙◌, ℕ, ◌+◌, ◌*◌, ◌≤◌, List, [], ◌∷◌, ◌++◌, length, Bool, true, false, None, arith, codes, length-append, append-nil, append_assoc, text_of, cost_of, AreSingle, in_front_of_next, IsElement, IsElementAs, IsElementGiven, IsElementIn, IsGiven, IsTail, joined, list_of, list_with, Names, PrintAll, PrintAllAs, PrintAllBy, PrintAllIn, PrintEach, PrintEachBy, PrintEachIn, Prints, PrintsAround, PrintsAs, PrintsIn, PrintsListed, written_of}
 use Rattle.cpp_direct.proofs.PrintedParts.{shown_by, text_shown, cost_shown}
 
 -- ## What a list prints
@@ -22,8 +19,7 @@ more-is : (c : Context) (e rest : Term) → is_empty c e ≡ false
 unfolding more_parts
 more-is c e rest filled = rw (filled, more_parts) refl
 
-first-is : (c : Context) (e rest : Term) → is_empty c e ≡ false
-    → first_parts c (list e rest) ≡ as_item left c e ∷ as_item right c e ∷ list_part more c rest
+first-is : (c : Context) (e rest : Term) → is_empty c e ≡ false → first_parts c (list e rest) ≡ as_item left c e ∷ as_item right c e ∷ list_part more c rest
 unfolding first_parts
 first-is c e rest filled = rw (filled, first_parts) refl
 
@@ -71,8 +67,7 @@ pub element-in : {detail : Detail} (c : Context) (extra : ℕ) (t : Term) (b : L
 element-in c extra t b p = record { both_texts = p.both_texts c; cost = p.cost c; filled = p.filled c; void = p.void }
 
 more-shown : {detail : Detail} (c : Context) (extra : ℕ) (ts : List Term) (tail : Term) (texts : List (List ℕ)) (most : ℕ) → EndsList detail c most tail
-    → PrintEachIn detail c extra ts texts
-    → (text_of (shown_by detail (list_part more c (list_with ts tail))) ≡ further texts)
+    → PrintEachIn detail c extra ts texts → (text_of (shown_by detail (list_part more c (list_with ts tail))) ≡ further texts)
     × (extra ≤ 6 → cost_of (shown_by detail (list_part more c (list_with ts tail))) ≤ 1 + most + 4 * length (further texts))
 unfolding list_part parts_in not_empty
 more-shown {detail} c extra [] tail [] most ends each = (ends.more_text, λ few. omega (arith, ends.more_cost))
@@ -84,21 +79,13 @@ more-shown {detail} c extra (t ∷ ts) tail (b ∷ bs) most ends each =
       append-nil (text_of (written_of detail more c l)) ∙ text_shown detail more c l parts is refl
           ∙ ap (λ s. codes ", " ++ s) (element-text (text_of (written_of detail left c t)) (text_of (written_of detail right c t))
           (text_of (shown_by detail (list_part more c (list_with ts tail)))) b (further bs) each.0.both_texts later.0),
-      λ few. omega (
-        arith,
-        later.1 few,
-        few,
-        each.0.cost,
-        length-append {A = ℕ},
-        cost_shown detail more c l parts is refl,
-      ),
+      λ few. omega (arith, later.1 few, few, each.0.cost, length-append {A = ℕ}, cost_shown detail more c l parts is refl),
     )
 more-shown {detail} c extra [] tail (b ∷ bs) most ends each = elim each [ ]
 more-shown {detail} c extra (t ∷ ts) tail [] most ends each = elim each [ ]
 
 first-shown : {detail : Detail} (c : Context) (extra : ℕ) (ts : List Term) (tail : Term) (texts : List (List ℕ)) (most : ℕ) → EndsList detail c most tail
-    → PrintEachIn detail c extra ts texts
-    → (text_of (shown_by detail (list_part first c (list_with ts tail))) ≡ joined texts)
+    → PrintEachIn detail c extra ts texts → (text_of (shown_by detail (list_part first c (list_with ts tail))) ≡ joined texts)
     × (extra ≤ 6 → cost_of (shown_by detail (list_part first c (list_with ts tail))) ≤ 1 + most + extra + 4 * length (joined texts))
 unfolding list_part parts_in not_empty
 first-shown {detail} c extra [] tail [] most ends each = (ends.first_text, λ few. omega (arith, ends.first_cost))
@@ -109,8 +96,7 @@ first-shown {detail} c extra (t ∷ ts) tail (b ∷ bs) most ends each =
     let later = more-shown c extra ts tail bs most ends each.1 in (
       append-nil (text_of (written_of detail first c l)) ∙ text_shown detail first c l parts is refl
           ∙ element-text (text_of (written_of detail left c t)) (text_of (written_of detail right c t))
-          (text_of (shown_by detail (list_part more c (list_with ts tail)))) b (further bs) each.0.both_texts later.0
-          ∙ sym (joined-further b bs),
+          (text_of (shown_by detail (list_part more c (list_with ts tail)))) b (further bs) each.0.both_texts later.0 ∙ sym (joined-further b bs),
       λ few. omega (
         arith,
         later.1 few,
@@ -205,8 +191,7 @@ list-cost detail c extra ts l few all = list-cost-in detail c extra ts l few (al
 
 -- ## What else is known of a list
 
-each-closed : (detail : Detail) (extra : ℕ) (ts : List Term) (tail : Term) (texts : List (List ℕ)) → is_open tail ≡ false
-    → PrintEach detail extra ts texts
+each-closed : (detail : Detail) (extra : ℕ) (ts : List Term) (tail : Term) (texts : List (List ℕ)) → is_open tail ≡ false → PrintEach detail extra ts texts
     → is_open (list_with ts tail) ≡ false
 unfolding is_open
 each-closed detail extra [] tail [] none each = none
@@ -313,10 +298,6 @@ none-text by l all = go all.0 all.1 all.2
     go [] each is = sym is
     go (b ∷ bs) each is = absurd each
 
--- One prints itself.
-one-prints : (by : Term → List ℕ → Type 0) (t : Term) (b : List ℕ) → by t b → PrintAllBy by (t ∷ []) b
-one-prints by t b p = (b ∷ [], (p, tt), refl)
-
 each-append : (by : Term → List ℕ → Type 0) (ts : List Term) (texts : List (List ℕ)) (t : Term) (b : List ℕ) → PrintEachBy by ts texts → by t b
     → PrintEachBy by (ts ++ t ∷ []) (texts ++ b ∷ [])
 each-append by [] [] t b each p = (p, tt)
@@ -342,7 +323,7 @@ pub next-prints-by : (by : Term → List ℕ → Type 0) (ts : List Term) (l : L
 next-prints-by by [] l t b all p = go all.0 all.1 all.2
   where
     go : (texts : List (List ℕ)) → PrintEachBy by [] texts → joined texts ≡ l → PrintAllBy by (t ∷ []) (l ++ b)
-    go [] each is = subst (λ m. PrintAllBy by (t ∷ []) (m ++ b)) is (one-prints by t b p)
+    go [] each is = subst (λ m. PrintAllBy by (t ∷ []) (m ++ b)) is (b ∷ [], (p, tt), refl)
     go (c ∷ texts) each is = absurd each
 next-prints-by by (u ∷ ts) l t b all p = another-prints by u ts l t b all p
 
@@ -353,8 +334,7 @@ next-prints {detail} extra ts l t b all p = next-prints-by (IsElement detail ext
 
 -- also in a context.
 pub next-prints-in : {detail : Detail} (c : Context) (extra : ℕ) (ts : List Term) (l : List ℕ) (t : Term) (b : List ℕ) → PrintAllIn detail c extra ts l
-    → IsElementIn detail c extra t b
-    → PrintAllIn detail c extra (ts ++ t ∷ []) (in_front_of_next ts l ++ b)
+    → IsElementIn detail c extra t b → PrintAllIn detail c extra (ts ++ t ∷ []) (in_front_of_next ts l ++ b)
 next-prints-in {detail} c extra ts l t b all p = next-prints-by (IsElementIn detail c extra) ts l t b all p
 
 -- ## Elements where parameters name arguments with these texts

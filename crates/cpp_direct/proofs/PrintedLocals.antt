@@ -1,19 +1,9 @@
 -- Entities and types in encodings, and guard variables.
-use Rattle.std.proofs.Common.{◌≡◌, ◌≢◌, refl, ap, sym, ◌∙◌, ℕ, List, [], ◌∷◌, ◌++◌, length, Bool, false, None, true, arith, codes, length-append, append-nil, subst, append_assoc}
-use Rattle.cpp_direct.specs.AllTerms.{absent, address_of, any_value, as_item, bare_parts, component_parts, Detail, encoding_of, encoding_text, entity_of, first_of, full_parts, function, function_bare, function_full, has_parameters, is_open, lambda, last_piece, left_parts, list_part, local, nil, not_empty, object, opening_text, pack_length, parts_in, piece_parts, prefix_item, qualifier_text, Qualifiers, qualifiers_of, ref_of, ref_text, RefQualifier, right_parts, says, source, source_text, Term, tree_of, unqualified, Value, within, within_parts}
-use Rattle.sym_print.specs.Unfold.{text}
-use Rattle.sym_print.specs.Unshared.{text_of, cost_of}
-use Rattle.cpp_grammar.specs.Items.{full, bare, left, piece, Context, closed, right, first}
-use Rattle.cpp_direct.specs.Prints.{written_of, PrintsName, Shows, Encloses, Prints, PrintsPiece, PrintAll, joined_to, list_of, IsUnmarked}
-use Rattle.cpp_direct.proofs.PrintedParts.{shown_by, writes_parts, text_shown, cost_shown, first_shown, first_cost_shown, text_append, cost_append}
+use Rattle.cpp_direct.proofs.AllGround.{◌≡◌, ◌≢◌, refl, ap, sym, ◌∙◌, ℕ, List, [], ◌∷◌, ◌++◌, length, Bool, false, None, true, arith, codes, length-append, append-nil, subst, append_assoc, absent, address_of, any_value, as_item, bare_parts, component_parts, Detail, encoding_of, encoding_text, entity_of, first_of, full_parts, function, function_bare, function_full, has_parameters, is_open, lambda, last_piece, left_parts, list_part, local, nil, not_empty, object, opening_text, pack_length, parts_in, piece_parts, prefix_item, qualifier_text, Qualifiers, qualifiers_of, ref_of, ref_text, RefQualifier, right_parts, says, source, source_text, Term, tree_of, unqualified, Value, within, within_parts, text, text_of, cost_of, full, bare, left, Context, closed, right, first, written_of, PrintsName, Shows, Encloses, Prints, PrintsPiece, PrintAll, joined_to, list_of, IsUnmarked, decimal, discriminator_of, Discriminator, discriminator_value, entity_in, local_in, shown_by, writes_parts, text_shown, cost_shown, first_shown, first_cost_shown, text_append, cost_append, encoding-object, object-shows, list-text, list-cost}
+use Rattle.cpp_grammar.specs.Items.{piece}
 use Rattle.cpp_direct.proofs.PrintedNames.{as-name, besides, own-prints}
 use Rattle.cpp_direct.proofs.PrintedNests.{IsPiece, source-opening, source-piece, within-cost, within-text}
-use Rattle.cpp_direct.proofs.PrintedSymbols.{encoding-object, object-shows}
-use Rattle.std.specs.Prelude.{decimal}
-use Rattle.cpp_grammar.specs.Meaning.{discriminator_of}
-use Rattle.cpp_direct.specs.HolesOfLocals.{Discriminator, discriminator_value, entity_in, local_in}
 use Rattle.cpp_direct.proofs.PrintedFunctions.{closed-list, packless-list}
-use Rattle.cpp_direct.proofs.PrintedLists.{list-text, list-cost}
 
 -- ## Types in functions
 
@@ -154,13 +144,7 @@ address-prints {detail} e b h =
     own-prints t (codes "&" ++ b) (record {
       left_text = λ c. text_shown detail left c t parts refl refl
           ∙ ap (λ l. codes "&" ++ l) (append-nil (text_of (written_of detail bare closed e)) ∙ h.bare_text);
-      cost = λ c. omega (
-        arith,
-        h.bare_cost,
-        cost_shown detail left c t parts refl refl,
-        cost_shown detail right c t [] refl refl,
-        length-append (codes "&") b,
-      );
+      cost = λ c. omega (arith, h.bare_cost, cost_shown detail left c t parts refl refl, cost_shown detail right c t [] refl refl, length-append (codes "&") b);
     }) refl (λ scope. refl) refl (λ c. refl)
 
 -- ## Encodings before an entity
@@ -254,8 +238,7 @@ returned-shows {detail} alone name q ref returned items b p =
 pub name-encloses : {detail : Detail} → has_parameters detail ≡ false → (name : Term) (b : List ℕ) → PrintsName detail name b → (q : Qualifiers) (ref : RefQualifier)
     (returned items : Term) → Encloses detail (function name q ref returned items) b
 name-encloses {detail} alone name b p q ref returned items =
-    returned-enclosing detail name q ref returned items b
-    (function-encloses detail name q ref items b (name-shows alone name b p q ref absent items))
+    returned-enclosing detail name q ref returned items b (function-encloses detail name q ref items b (name-shows alone name b p q ref absent items))
 
 -- ## Entities
 

@@ -1,11 +1,6 @@
 -- Names, types and arguments that are one text: source names, abbreviations, builtin types, booleans and integers.
-use Rattle.std.proofs.Common.{◌≡◌, ◌≢◌, refl, ap, Option, None, sym, ◌∙◌, ℕ, ◌+◌, ◌*◌, ◌≤◌, List, [], ◌∷◌, ◌++◌, length, drop, Bool, true, false, arith, codes, length-append, append-nil, subst, nat_eq, ◌||◌, inl, inr, cond, append_assoc}
-use Rattle.std.proofs.lemmas.Bool.{eqb-true, false≢true}
-use Rattle.cpp_direct.specs.AllTerms.{abbreviation, abbreviation_texts, alone, as_item, base_parts, boolean, builtin, builtin_code, builtin_texts, component_parts, Detail, has_arguments, in_std, integer, integer_parts, is_function_type, is_open, is_plain_integer, is_void, last_piece, left_parts, length_if_pack, literal_endings, look_up, normal, not_empty, opening_text, operator, operator_texts, pack_length, parts_in, piece_parts, prefix_item, right_parts, same_bytes, says, sign_part, Signed, source, source_text, Term, text_part}
-use Rattle.sym_print.specs.Unfold.{PartOf, text}
-use Rattle.sym_print.specs.Unshared.{text_of, cost_of}
-use Rattle.cpp_grammar.specs.Items.{Item, left, right, base, piece, closed, Context, head_with, head, is_reference, is_funarr, is_empty}
-use Rattle.cpp_direct.specs.AllStates.{EndsAsInteger, is_angle, IsUnmarked, joined_to, NamesClass, operator_text, Prints, PrintsIn, PrintsName, sign_text, unmarked_parts, written_in, written_of}
+use Rattle.cpp_direct.proofs.Basics.{◌≡◌, ◌≢◌, refl, ap, Option, None, sym, ◌∙◌, ℕ, ◌+◌, ◌*◌, ◌≤◌, List, [], ◌∷◌, ◌++◌, length, drop, Bool, true, false, arith, codes, length-append, append-nil, subst, nat_eq, ◌||◌, inl, inr, cond, append_assoc, eqb-true, false≢true, abbreviation, abbreviation_texts, alone, as_item, base_parts, boolean, builtin, builtin_code, builtin_texts, component_parts, Detail, has_arguments, in_std, integer, integer_parts, is_function_type, is_open, is_plain_integer, is_void, last_piece, left_parts, length_if_pack, literal_endings, look_up, normal, not_empty, opening_text, operator, operator_texts, pack_length, parts_in, piece_parts, prefix_item, right_parts, same_bytes, says, sign_part, Signed, source, source_text, Term, text_part, PartOf, text, text_of, cost_of, Item, left, right, base, closed, Context, head_with, head, is_reference, is_funarr, is_empty, EndsAsInteger, is_angle, IsUnmarked, joined_to, NamesClass, operator_text, Prints, PrintsIn, PrintsName, sign_text, unmarked_parts, written_in, written_of}
+use Rattle.cpp_grammar.specs.Items.{piece}
 use Rattle.cpp_direct.proofs.Unmarked.{source-unmarked, operator-unmarked, abbreviation-unmarked, builtin-unmarked, truth-unmarked, ending-unmarked, rest-unmarked}
 use Rattle.cpp_direct.proofs.PrintedParts.{text_shown, cost_shown, alone_shown, first_cost_shown, length-filled, shown_by, first_shown, text_append, cost_append, part-text, part-cost}
 use Rattle.cpp_direct.proofs.PrintedTypes.{made-prints}
@@ -224,8 +219,7 @@ operator-names {detail} a b =
 -- It prints that way, unless a blank is between it and arguments.
 pub operator-prints : {detail : Detail} (a b : ℕ) → is_angle a b ≡ false → Prints detail (alone (operator a b)) (operator_text a b) false
 unfolding parts_in left_parts right_parts piece_parts not_empty is_open pack_length last_piece opening_text besides
-operator-prints {detail} a b plain =
-    own-prints (alone (operator a b)) (operator_text a b) (operator-names a b) refl (λ scope. refl) (rw plain refl) (λ c. refl)
+operator-prints {detail} a b plain = own-prints (alone (operator a b)) (operator_text a b) (operator-names a b) refl (λ scope. refl) (rw plain refl) (λ c. refl)
 
 -- Likewise in std.
 pub std-operator-names : {detail : Detail} (a b : ℕ) → PrintsName detail (in_std (operator a b)) (codes "std::" ++ operator_text a b)

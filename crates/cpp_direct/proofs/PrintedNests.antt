@@ -1,15 +1,7 @@
 -- Names in other names, constructors and destructors, names with arguments, and names with tags.
-use Rattle.cpp_direct.specs.AllTerms.{as_item, base_parts, base_tagged, base_within, component_parts, constructor, destructor, Detail, first_of, has_arguments, in_std, instance, instance_parts, is_function_type, is_open, is_plain_integer, is_structor, last_piece, left_parts, length_if_pack, list_part, look_up, not_empty, opening_text, operator, operator_texts, own_piece, pack_length, parts_in, piece_parts, prefix_item, right_parts, says, source, source_text, tagged, Term, with_tag, within, within_parts, without_tags}
-use Rattle.std.proofs.Common.{◌≡◌, ◌≢◌, refl, ap, sym, ◌∙◌, ℕ, ◌+◌, ◌*◌, ◌≤◌, List, [], ◌∷◌, ◌++◌, length, Bool, true, false, None, arith, codes, length-append, append-nil, append_assoc}
-use Rattle.sym_print.specs.Unfold.{text}
-use Rattle.sym_print.specs.Unshared.{text_of, cost_of}
-use Rattle.cpp_grammar.specs.Items.{Form, left, right, base, piece, first, Context}
-use Rattle.cpp_direct.specs.AllStates.{closing_bracket, closing_byte, is_angle, IsTail, IsUnmarked, joined_to, list_with, Names, NamesClass, opening_bracket, opening_byte, operator_text, PrintAll, PrintAllAs, PrintAllIn, Prints, PrintsAs, PrintsIn, PrintsName, tag_text, written_instance, written_of}
-use Rattle.cpp_direct.proofs.PrintedParts.{printed_by, shown_by, text_shown, cost_shown, first_cost_shown, writes_parts, text-append, cost-append, list-unmarked, first_shown}
-use Rattle.cpp_direct.proofs.Unmarked.{source-unmarked, operator-unmarked}
+use Rattle.cpp_direct.proofs.AllGround.{as_item, base_parts, base_tagged, base_within, component_parts, constructor, destructor, Detail, first_of, has_arguments, in_std, instance, instance_parts, is_function_type, is_open, is_plain_integer, is_structor, last_piece, left_parts, length_if_pack, list_part, look_up, not_empty, opening_text, operator, operator_texts, own_piece, pack_length, parts_in, piece_parts, prefix_item, right_parts, says, source, source_text, tagged, Term, with_tag, within, within_parts, without_tags, ◌≡◌, ◌≢◌, refl, ap, sym, ◌∙◌, ℕ, ◌+◌, ◌*◌, ◌≤◌, List, [], ◌∷◌, ◌++◌, length, Bool, true, false, None, arith, codes, length-append, append-nil, append_assoc, text, text_of, cost_of, Form, left, right, base, first, Context, closing_bracket, closing_byte, is_angle, IsTail, IsUnmarked, joined_to, list_with, Names, NamesClass, opening_bracket, opening_byte, operator_text, PrintAll, PrintAllAs, PrintAllIn, Prints, PrintsAs, PrintsIn, PrintsName, tag_text, written_instance, written_of, printed_by, shown_by, text_shown, cost_shown, first_cost_shown, writes_parts, text-append, cost-append, list-unmarked, first_shown, source-unmarked, operator-unmarked, list-text-before, list-cost-before, list-closed, list-packless, list-packless-as, all-in, all-as-in, prints-in, made-prints, made-given}
+use Rattle.cpp_grammar.specs.Items.{piece}
 use Rattle.cpp_direct.proofs.PrintedNames.{besides, own-in, own-prints, source-filled, piece-text, piece-cost, operator-text, operator-cost, std-prints, as-name, base-names}
-use Rattle.cpp_direct.proofs.PrintedLists.{list-text-before, list-cost-before, list-closed, list-packless, list-packless-as, all-in, all-as-in}
-use Rattle.cpp_direct.proofs.PrintedTypes.{prints-in, made-prints, made-given}
 
 -- a text, a mark and a text
 pub joins : (x m y b n : List ℕ) → x ≡ b → y ≡ n → x ++ (m ++ (y ++ [])) ≡ b ++ m ++ n
@@ -132,8 +124,7 @@ within-as detail names true t b prints p x is opening =
 pub within-class : {detail : Detail} (t : Term) (b : List ℕ) → Prints detail t b false → (p : Term) (x : List ℕ) → IsPiece detail p x
     → NamesClass detail (within t p) x
 unfolding parts_in base_parts
-within-class t b prints p x is =
-    base-names (within t p) (b ++ codes "::" ++ x) x (within-names t b prints p x is) (λ c. is.base_is c t) (λ c. refl) is.plain
+within-class t b prints p x is = base-names (within t p) (b ++ codes "::" ++ x) x (within-names t b prints p x is) (λ c. is.base_is c t) (λ c. refl) is.plain
 
 -- ## Constructors and destructors
 
@@ -178,15 +169,13 @@ destructor-prints {detail} t b class p n digit =
 -- ## Names with arguments
 
 -- what is written of an instance
-written-is : (shown : Bool) (c : Context) (t arguments : Term) → opening_text (last_piece t) ≡ codes "<"
-    → written_instance shown c t arguments
+written-is : (shown : Bool) (c : Context) (t arguments : Term) → opening_text (last_piece t) ≡ codes "<" → written_instance shown c t arguments
     ≡ (as_item left c t ∷ text (opening_byte shown ∷ []) ∷ list_part first c arguments) ++ (text (closing_byte shown ∷ []) ∷ [])
 unfolding instance_parts
 written-is true c t arguments e = ap (λ o. (as_item left c t ∷ text o ∷ list_part first c arguments) ++ (says ">" ∷ [])) e
 written-is false c t arguments e = refl
 
-instance-is : (detail : Detail) (c : Context) (t arguments : Term) → opening_text (last_piece t) ≡ codes "<"
-    → written_of detail left c (instance t arguments)
+instance-is : (detail : Detail) (c : Context) (t arguments : Term) → opening_text (last_piece t) ≡ codes "<" → written_of detail left c (instance t arguments)
     ≡ printed_by detail ((as_item left c t ∷ text (opening_bracket detail) ∷ list_part first c arguments) ++ (text (closing_bracket detail) ∷ []))
 instance-is detail c t arguments e =
     writes_parts detail left c (instance t arguments) ∙ ap (λ ps. printed_by detail ps) (written-is (has_arguments detail) c t arguments e)
@@ -205,9 +194,8 @@ instance-text : (detail : Detail) (c : Context) (t : Term) (b : List ℕ) → te
 unfolding not_empty
 instance-text detail c t b text_is opening ts tail l is all =
     let arguments = list_part first c (list_with ts tail) in
-    let ps = as_item left c t ∷ text (opening_bracket detail) ∷ arguments in
     ap text_of (instance-is detail c t (list_with ts tail) opening)
-    ∙ text-append detail ps (text (closing_bracket detail) ∷ [])
+    ∙ text-append detail (as_item left c t ∷ text (opening_bracket detail) ∷ arguments) (text (closing_bracket detail) ∷ [])
     ∙ bracketed (opening_bracket detail) (closing_bracket detail) b l (text_of (written_of detail left c t)) (text_of (printed_by detail arguments)) text_is
     (sym (ap text_of (list-printed detail c (list_with ts tail))) ∙ list-text-before detail c 3 ts tail l is all)
 
@@ -266,8 +254,7 @@ instance-as detail names true t b p ts tail l is all =
 
 -- Its class is named without them.
 pub instance-class : {detail : Detail} (t : Term) (b class : List ℕ) → Prints detail t b false → NamesClass detail t class
-    → (ts : List Term) (tail : Term) (l : List ℕ) → IsTail tail → PrintAll detail 3 ts l
-    → NamesClass detail (instance t (list_with ts tail)) class
+    → (ts : List Term) (tail : Term) (l : List ℕ) → IsTail tail → PrintAll detail 3 ts l → NamesClass detail (instance t (list_with ts tail)) class
 unfolding parts_in right_parts base_parts not_empty
 instance-class {detail} t b class p n ts tail l is all = let i = instance t (list_with ts tail) in record {
   base_text = λ c. text_shown detail base c i (as_item base c t ∷ []) refl refl ∙ append-nil (text_of (written_of detail base c t)) ∙ n.base_text c;
@@ -295,12 +282,7 @@ unfolding not_empty
 behind-cost detail tag = omega (arith, first_cost_shown detail tag (says "]" ∷ []))
 
 tag-length : (b tag : List ℕ) → length (b ++ tag_text tag) ≡ length b + 6 + length tag
-tag-length b tag = omega (
-  arith,
-  length-append b (tag_text tag),
-  length-append (codes "[abi:" ++ tag) (codes "]"),
-  length-append (codes "[abi:") tag,
-)
+tag-length b tag = omega (arith, length-append b (tag_text tag), length-append (codes "[abi:" ++ tag) (codes "]"), length-append (codes "[abi:") tag)
 
 tagged-left : (detail : Detail) (of_structor : Bool) (t : Term) (b tag : List ℕ) → IsUnmarked tag → (c : Context) → text_of (written_of detail left c t) ≡ b
     → text_of (written_of detail left c (tagged of_structor t tag)) ≡ b ++ tag_text tag
@@ -339,9 +321,8 @@ pub tagged-prints : {detail : Detail} (of_structor : Bool) (t : Term) (b : List 
     → Prints detail (tagged of_structor t tag) (b ++ tag_text tag) false
 unfolding parts_in left_parts right_parts piece_parts not_empty is_open pack_length last_piece opening_text besides
 tagged-prints {detail} of_structor t b p tag plain =
-    let w = tagged of_structor t tag in
     let n = tagged-names of_structor t b (record { left_text = p.left_text; cost = p.cost }) tag plain in
-    own-prints w (b ++ tag_text tag) n p.is_closed p.packless refl (λ c. refl)
+    own-prints (tagged of_structor t tag) (b ++ tag_text tag) n p.is_closed p.packless refl (λ c. refl)
 
 -- also where parameters name arguments with these texts.
 pub tagged-as : (detail : Detail) (names : Names) (is_dependent of_structor : Bool) (t : Term) (b : List ℕ) → PrintsAs detail names is_dependent t b false
@@ -352,8 +333,7 @@ tagged-as detail names true of_structor t b p tag plain =
     let w = tagged of_structor t tag in
     made-given names w (b ++ tag_text tag) false
     (λ c given. own-in c 3 w (b ++ tag_text tag) (tagged-left detail of_structor t b tag plain c (p.prints c given).left_text)
-    (tagged-costs detail 3 of_structor t b tag c (p.prints c given).cost)
-    (omega (arith, (p.prints c given).some, length-append b (tag_text tag))) refl)
+    (tagged-costs detail 3 of_structor t b tag c (p.prints c given).cost) (omega (arith, (p.prints c given).some, length-append b (tag_text tag))) refl)
     p.packless refl refl (λ c p. refl) refl
 
 -- a tagged name in another name
@@ -402,8 +382,7 @@ again-by {detail} of_structor t b p before tag class first_plain plain n text_is
     }
 
 pub again-tagged : {detail : Detail} (of_structor : Bool) (t : Term) (b : List ℕ) → Prints detail t b false → (before tag class : List ℕ) → IsUnmarked before → IsUnmarked tag
-    → NamesClass detail (tagged of_structor t before) class
-    → NamesClass detail (with_tag (tagged of_structor t before) tag) class
+    → NamesClass detail (tagged of_structor t before) class → NamesClass detail (with_tag (tagged of_structor t before) tag) class
 unfolding with_tag parts_in base_parts base_tagged without_tags is_structor not_empty
 again-tagged {detail} true t b p before tag class first_plain plain n =
     let own : Term = tagged true t before in

@@ -1,12 +1,7 @@
 -- What an item prints is what its parts print.
-use Rattle.std.proofs.Common.{◌≡◌, Bool, true, false, refl, ap, sym, ◌∙◌, ℕ, ◌+◌, ◌≤◌, List, [], ◌∷◌, ◌++◌, length, arith, subst, append-nil, append_assoc, ◌≢◌}
-use Rattle.cpp_direct.specs.AllTerms.{closes, Context, Detail, first, Form, has_arguments, has_parameters, instance, instance_parts, Item, last_piece, left, left_parts, list_part, low, low_parts, nil, not_empty, opening_text, parts, parts_in, rank, rank_in, says, Term, text_part}
-use Rattle.sym_print.specs.declared.detail.Detail.TheVariants.{Full}
-use Rattle.sym_print.specs.Unfold.{PartOf, text, sub, printed_parts, RanksBelow}
-use Rattle.sym_print.specs.Unshared.{Unshared, text_of, cost_of}
+use Rattle.cpp_direct.proofs.Basics.{◌≡◌, Bool, true, false, refl, ap, sym, ◌∙◌, ℕ, ◌+◌, ◌≤◌, List, [], ◌∷◌, ◌++◌, length, arith, subst, append-nil, append_assoc, ◌≢◌, closes, Context, Detail, first, Form, has_arguments, has_parameters, instance, instance_parts, Item, last_piece, left, left_parts, list_part, low, low_parts, nil, not_empty, opening_text, parts, parts_in, rank, rank_in, says, Term, text_part, PartOf, text, sub, printed_parts, RanksBelow, Unshared, text_of, cost_of, detail_by, detail_of, IsUnmarked, Symbol, unmarked, unmarked_parts, written, written_in, written_instance, written_name, written_of, written_parts}
 use Rattle.sym_print.proofs.Unfolding.{printed-parts}
 use Rattle.cpp_grammar.proofs.RanksFall.{ranks_fall}
-use Rattle.cpp_direct.specs.AllStates.{detail_by, detail_of, IsUnmarked, Symbol, unmarked, unmarked_parts, written, written_in, written_instance, written_name, written_of, written_parts}
 use Rattle.cpp_direct.proofs.Unmarked.{unmarked-same, length-unmarked}
 
 whole-by : (is_brief : Bool) → has_parameters (detail_by false is_brief) ≡ true
@@ -69,21 +64,19 @@ instance-falls true n c t a below = below
 instance-falls false n c t a below =
     (below.0, last-falls n 62 closes (list_part first c a) (first-falls n (opening_text (last_piece t)) (list_part first c a ++ (says ">" ∷ [])) below.1))
 
-name-falls : (d : Detail) (c : Context) (form : Form) (t : Term)
-    → ((e : Detail) → RanksBelow rank (rank_in c form t) (not_empty (parts_in e c form t)))
-    → ((a b : Term) → t ≡ instance a b → parts_in Full c form t ≡ instance_parts true c a b)
+name-falls : (d : Detail) (c : Context) (form : Form) (t : Term) → ((e : Detail) → RanksBelow rank (rank_in c form t) (not_empty (parts_in e c form t)))
+    → ((a b : Term) → t ≡ instance a b → parts_in Detail.Full c form t ≡ instance_parts true c a b)
     → RanksBelow rank (rank_in c form t) (not_empty (written_name d c form t))
 name-falls d c form (instance a b) below is =
     instance-falls (has_arguments d) (rank_in c form (instance a b)) c a b
-    (subst (λ ps. RanksBelow rank (rank_in c form (instance a b)) (not_empty ps)) (is a b refl) (below Full))
+    (subst (λ ps. RanksBelow rank (rank_in c form (instance a b)) (not_empty ps)) (is a b refl) (below Detail.Full))
 name-falls d c form t below is = unmarked-falls (has_arguments d) (rank_in c form t) (parts_in d c form t) (below d)
 
-same-instance : (c : Context) (form : Form) (t a b : Term) → t ≡ instance a b → parts_in Full c form (instance a b) ≡ instance_parts true c a b
-    → parts_in Full c form t ≡ instance_parts true c a b
-same-instance c form t a b e is = subst (λ u. parts_in Full c form u ≡ instance_parts true c a b) (sym e) is
+same-instance : (c : Context) (form : Form) (t a b : Term) → t ≡ instance a b → parts_in Detail.Full c form (instance a b) ≡ instance_parts true c a b
+    → parts_in Detail.Full c form t ≡ instance_parts true c a b
+same-instance c form t a b e is = subst (λ u. parts_in Detail.Full c form u ≡ instance_parts true c a b) (sym e) is
 
-in-falls : (d : Detail) (c : Context) (form : Form) (t : Term)
-    → ((e : Detail) → RanksBelow rank (rank_in c form t) (not_empty (parts_in e c form t)))
+in-falls : (d : Detail) (c : Context) (form : Form) (t : Term) → ((e : Detail) → RanksBelow rank (rank_in c form t) (not_empty (parts_in e c form t)))
     → RanksBelow rank (rank_in c form t) (not_empty (written_in d c form t))
 unfolding parts_in left_parts low_parts
 in-falls d c left t below = name-falls d c left t below (λ a b e. same-instance c left t a b e refl)

@@ -1,12 +1,5 @@
 -- Encodings with a known text, and the symbols that they are.
-use Rattle.std.proofs.Common.{◌≡◌, ◌≢◌, refl, ap, sym, ◌∙◌, ℕ, ◌*◌, ◌≤◌, List, [], ◌∷◌, ◌++◌, length, Bool, true, false, ◌&&◌, arith, codes, nat_eq, length-append, append-nil, append_assoc, subst}
-use Rattle.cpp_direct.specs.AllTerms.{absent, adjusting, any_value, as_item, begins_parameters, builtin, by_table, clone, clone_text, closed, construction, Context, covariant, Detail, encoding_of, encoding_text, explicit_object, first, full, full_parts, function, function_bare, function_full, has_arguments, has_parameters, has_return_type, is_nil, is_void, left, left_parts, list, list_part, look_up, lvalue_only, named_special_texts, nil, non_virtual, not_empty, object, of_name, parameters, parts_in, Qualifiers, qualifiers_of, ref_of, RefQualifier, right, root, root_item, root_parts, rvalue_only, same_bytes, says, shown, special, special_texts, symbol, Term, text_part, Thunk, thunk, thunk_text, tree_of, types_of, Value}
-use Rattle.sym_print.specs.Unfold.{text}
-use Rattle.sym_print.specs.Unshared.{text_of, cost_of}
-use Rattle.cpp_direct.specs.declared.open.Mark.{Mark}
-use Rattle.cpp_direct.specs.declared.open.Mark.TheVariants as marks
-use Rattle.cpp_direct.specs.AllStates.{called_on, has_const, IsElement, IsNamedSo, IsUnmarked, joined, list_of, list_with, plain_encoding, PrintAllIn, PrintEachIn, PrintsIn, PrintsName, qualifiers, Shows, unmarked_parts, written, written_in, written_of}
-use Rattle.std.proofs.lemmas.Bool.{false≢true}
+use Rattle.cpp_direct.proofs.Basics.{◌≡◌, ◌≢◌, refl, ap, sym, ◌∙◌, ℕ, ◌*◌, ◌≤◌, List, [], ◌∷◌, ◌++◌, length, Bool, true, false, ◌&&◌, arith, codes, nat_eq, length-append, append-nil, append_assoc, subst, absent, adjusting, any_value, as_item, begins_parameters, builtin, by_table, clone, clone_text, closed, construction, Context, covariant, Detail, encoding_of, encoding_text, explicit_object, first, full, full_parts, function, function_bare, function_full, has_arguments, has_parameters, has_return_type, is_nil, is_void, left, left_parts, list, list_part, look_up, lvalue_only, named_special_texts, nil, non_virtual, not_empty, object, of_name, parameters, parts_in, Qualifiers, qualifiers_of, ref_of, RefQualifier, right, root, root_item, root_parts, rvalue_only, same_bytes, says, shown, special, special_texts, symbol, Term, text_part, Thunk, thunk, thunk_text, tree_of, types_of, Value, text, text_of, cost_of, Mark, called_on, has_const, IsElement, IsNamedSo, IsUnmarked, joined, list_of, list_with, plain_encoding, PrintAllIn, PrintEachIn, PrintsIn, PrintsName, qualifiers, Shows, unmarked_parts, written, written_in, written_of, false≢true}
 use Rattle.cpp_direct.proofs.Unmarked.{length-unmarked, qualifiers-unmarked, special-unmarked, thunk-unmarked, unmarked-same}
 use Rattle.cpp_direct.proofs.PrintedParts.{shown_by, text_shown, cost_shown, first_shown, first_cost_shown, text_append, cost_append, part-text, part-cost, length-filled}
 use Rattle.cpp_direct.proofs.PrintedLists.{PrintsItems, list-in, none-print-in}
@@ -38,26 +31,25 @@ nothing-opens explicit_object = refl
 
 -- no mark is that of a function with an explicit object, so a parenthesis begins the parameters
 pub never-explicit : (mark : Mark) → called_on mark ≢ explicit_object
-never-explicit marks.Plain e = cc e
-never-explicit marks.Const e = cc e
-never-explicit marks.Lvalue e = cc e
-never-explicit marks.ConstLvalue e = cc e
-never-explicit marks.Rvalue e = cc e
-never-explicit marks.ConstRvalue e = cc e
+never-explicit Mark.Plain e = cc e
+never-explicit Mark.Const e = cc e
+never-explicit Mark.Lvalue e = cc e
+never-explicit Mark.ConstLvalue e = cc e
+never-explicit Mark.Rvalue e = cc e
+never-explicit Mark.ConstRvalue e = cc e
 
 pub mark-opens : (mark : Mark) (items : Term) → begins_parameters (called_on mark) items ≡ codes "("
 unfolding begins_parameters
-mark-opens marks.Plain items = refl
-mark-opens marks.Const items = refl
-mark-opens marks.Lvalue items = refl
-mark-opens marks.ConstLvalue items = refl
-mark-opens marks.Rvalue items = refl
-mark-opens marks.ConstRvalue items = refl
+mark-opens Mark.Plain items = refl
+mark-opens Mark.Const items = refl
+mark-opens Mark.Lvalue items = refl
+mark-opens Mark.ConstLvalue items = refl
+mark-opens Mark.Rvalue items = refl
+mark-opens Mark.ConstRvalue items = refl
 
 -- A function that has no return type prints its name, its parameters and its qualifiers.
 pub function-shows : {detail : Detail} → has_parameters detail ≡ true → (name : Term) (b : List ℕ) → PrintsName detail name b → (items : Term) (l : List ℕ)
-    → PrintsItems detail (types_of name) items l
-    → (q : Qualifiers) (ref : RefQualifier) → begins_parameters ref items ≡ codes "("
+    → PrintsItems detail (types_of name) items l → (q : Qualifiers) (ref : RefQualifier) → begins_parameters ref items ≡ codes "("
     → Shows detail (function name q ref absent items) (b ++ codes "(" ++ l ++ codes ")" ++ encoding_text q ref)
 unfolding parts_in full_parts function_full not_empty
 function-shows {detail} shown name b p items l all q ref opens =
@@ -101,8 +93,7 @@ fronted_text x y z b l e f g = rw (e, f, g) (append-nil (b ++ codes " " ++ l))
 
 -- A function that has a return type prints it before what it prints without.
 pub front-shows : {detail : Detail} → has_parameters detail ≡ true → (name : Term) (q : Qualifiers) (ref : RefQualifier) (items : Term) (l : List ℕ)
-    → Shows detail (function name q ref absent items) l
-    → (r : Term) (b : List ℕ) (is_reference : Bool) → PrintsIn detail (types_of name) 3 r b is_reference
+    → Shows detail (function name q ref absent items) l → (r : Term) (b : List ℕ) (is_reference : Bool) → PrintsIn detail (types_of name) 3 r b is_reference
     → Shows detail (function name q ref r items) (b ++ codes " " ++ l)
 unfolding parts_in full_parts function_full not_empty
 front-shows {detail} shown name q ref items l shows r b is_reference p =
@@ -191,8 +182,7 @@ table-shows {detail} derived parent digits b c p q =
     let behind = base ++ (text m ∷ last) in
     record {
       shown_text = text_shown detail full closed t (text k ∷ behind) refl refl ∙ first_shown detail k behind refl
-          ∙ ap (λ l. k ++ l) (text_append detail base (text m ∷ last)
-          ∙ ap (λ l. text_of (shown_by detail base) ++ l) (first_shown detail m last refl))
+          ∙ ap (λ l. k ++ l) (text_append detail base (text m ∷ last) ∙ ap (λ l. text_of (shown_by detail base) ++ l) (first_shown detail m last refl))
           ∙ table_text k (text_of (written_of detail left closed parent)) (text_of (written_of detail right closed parent)) m
           (text_of (written_of detail left closed derived)) (text_of (written_of detail right closed derived)) b c (p.both_texts closed) (q.both_texts closed);
       shown_cost = omega (
@@ -224,14 +214,7 @@ led-shows d made k e b is same plain filled p =
     record {
       shown_text = text_shown d full closed made (text k ∷ behind) is same ∙ first_shown d k behind plain
           ∙ ap (λ s. k ++ s) (append-nil (text_of (written_of d full closed e)) ∙ p.shown_text);
-      shown_cost = omega (
-        arith,
-        p.shown_cost,
-        cost_shown d full closed made (text k ∷ behind) is same,
-        first_cost_shown d k behind,
-        filled,
-        length-append k b,
-      );
+      shown_cost = omega (arith, p.shown_cost, cost_shown d full closed made (text k ∷ behind) is same, first_cost_shown d k behind, filled, length-append k b);
     }
 
 -- A thunk prints what it is, and the encoding that it calls.
@@ -307,8 +290,7 @@ parameters-before (u ∷ v ∷ ts) t apart = parameters-same u (list_with (v ∷
 -- A name that has no return type makes a function without one of its items.
 pub encoding-plain : (v : Value) (mark : Mark) (own : Term) → IsNamedSo v own mark → has_return_type own ≡ false → (t rest : Term) → encoding_of v (list t rest) ≡ plain_encoding mark own (list t rest)
 unfolding encoding_of
-encoding-plain v mark own is none t rest =
-    rw (ap has_return_type is.tree_is ∙ none, encoding_of) (rw (is.tree_is, is.qualifiers_are, is.mark_is) refl)
+encoding-plain v mark own is none t rest = rw (ap has_return_type is.tree_is ∙ none, encoding_of) (rw (is.tree_is, is.qualifiers_are, is.mark_is) refl)
 
 -- The first item of a name that has one is the return type.
 pub encoding-returned : (v : Value) (mark : Mark) (own : Term) → IsNamedSo v own mark → has_return_type own ≡ true → (r items : Term)

@@ -1,12 +1,9 @@
 -- Types that are made of another type: pointers, references and constant types, and parameters that name one.
-use Rattle.cpp_direct.specs.AllTerms.{absent, arguments_of, as_item, attached_parts, before_piece, closing_right, component_parts, declaring, Detail, element, function_type, has_arguments, is_function_type, is_module, is_open, is_plain_integer, is_void, last_piece, left_parts, length_if_pack, lvalue, marked_parts, nil, not_empty, opening_text, operation, pack_length, parameter, parameter_parts, parts_in, piece_parts, pointer, prefix_item, qualified, qualified_left, qualified_right, qualifier_text, Qualifiers, reference_parts, right_parts, rvalue, says, Term, text_part, types_of}
-use Prim.Native.String.{String}
-use Rattle.sym_print.specs.Unfold.{text}
+use Rattle.cpp_direct.proofs.Basics.{absent, arguments_of, as_item, attached_parts, before_piece, closing_right, component_parts, declaring, Detail, element, function_type, has_arguments, is_function_type, is_module, is_open, is_plain_integer, is_void, last_piece, left_parts, length_if_pack, lvalue, marked_parts, nil, not_empty, opening_text, operation, pack_length, parameter, parameter_parts, parts_in, piece_parts, pointer, prefix_item, qualified, qualified_left, qualified_right, qualifier_text, Qualifiers, reference_parts, right_parts, rvalue, says, Term, text_part, types_of, text, IsElementIn, Prints, PrintsAround, PrintsIn, PrintsGiven, PrintsAs, Names, IsGiven, AreSingle, EndsAsInteger, joined_to, written_of, IsUnmarked, unmarked_parts, written_in, closed, Form, left, right, low, Context, Head, lref, collapsed, head_with, head, is_reference, is_funarr, is_empty, argument, head_closed, indexed, own_argument, ◌≡◌, refl, ap, ◌∙◌, ℕ, ◌+◌, ◌*◌, ◌≤◌, List, [], ◌∷◌, ◌++◌, length, Bool, true, false, nat_eq, None, arith, codes, length-append, sym, subst, append-nil, Some, text_of, cost_of}
 use Rattle.cpp_direct.proofs.PrintedParts.{text_shown, cost_shown, alone_shown, first_cost_shown}
-use Rattle.cpp_direct.specs.Prints.{IsElementIn, Prints, PrintsAround, PrintsIn, PrintsGiven, PrintsAs, Named, Names, IsGiven, AreSingle, EndsAsInteger, joined_to, written_of, IsUnmarked, unmarked_parts, written_in}
-use Rattle.cpp_grammar.specs.Items.{closed, Form, left, right, piece, low, Context, Head, lref, collapsed, head_with, head, is_reference, is_funarr, is_empty, argument, head_closed, indexed, own_argument}
-use Rattle.std.proofs.Common.{◌≡◌, refl, ap, ◌∙◌, ℕ, ◌+◌, ◌*◌, ◌≤◌, List, [], ◌∷◌, ◌++◌, length, Bool, true, false, nat_eq, None, arith, codes, length-append, sym, subst, append-nil, Some}
-use Rattle.sym_print.specs.Unshared.{text_of, cost_of}
+use Rattle.cpp_direct.specs.Prints.{Named}
+use Rattle.cpp_grammar.specs.Items.{piece}
+use Prim.Native.String.{String}
 
 marked : (c : Context) (t : Term) (mark : String) → is_funarr (head c t) ≡ false → marked_parts c t mark ≡ as_item left c t ∷ says mark ∷ []
 unfolding marked_parts
@@ -26,11 +23,10 @@ pub no-module : (t : Term) → ((c : Context) (p : Term) → component_parts c t
 unfolding is_module component_parts attached_parts before_piece
 no-module (operation a b x y) joined = go (nat_eq a 87) (nat_eq b 64) x (joined closed nil)
   where
-    go : (first second : Bool) (x : Term)
-        → elim first [
-          | true ↦ elim second [ true ↦ attached_parts closed x nil y | false ↦ attached_parts closed absent nil (operation a b x y) ]
-          | false ↦ prefix_item closed (operation a b x y) ∷ says "::" ∷ as_item piece closed nil ∷ []
-        ] ≡ joined_to left closed closed (operation a b x y) nil → first ≡ false
+    go : (first second : Bool) (x : Term) → elim first [
+      | true ↦ elim second [ true ↦ attached_parts closed x nil y | false ↦ attached_parts closed absent nil (operation a b x y) ]
+      | false ↦ prefix_item closed (operation a b x y) ∷ says "::" ∷ as_item piece closed nil ∷ []
+    ] ≡ joined_to left closed closed (operation a b x y) nil → first ≡ false
     go false second x e = refl
     go true false x e = cc e
     go true true absent e = cc e

@@ -1,27 +1,16 @@
 -- What a parameter of a template may name, and where it is.
-use Rattle.cpp_direct.specs.AllTerms.{arguments_of, Around, before_arguments, count, Detail, element, has_return_type, inside, instance, is_structor, qualifiers_of, ref_of, Term, tree, tree_of, types_of}
-use Rattle.std.proofs.Common.{Bool, ◌+◌, ◌≡◌, ℕ, zero, suc, ◌<◌, List, [], ◌∷◌, ◌++◌, length, slice_get, Some, None, is_some, arith, ap, sym, ◌∙◌, subst, refl, true, false}
-use Rattle.std.proofs.lemmas.Bool.{false≢true}
-use Rattle.cpp_grammar.specs.Values as values
-use Rattle.cpp_direct.specs.declared.open.Mark.TheVariants as marks
-use Rattle.cpp_direct.specs.AllStates.{AreAmong, AreKnown, Argument, argument_of, Arguments, arguments_in, called_on, detail_of, has_const, HasArguments, HasNameSo, HasParameters, HasScope, is_within_type, IsAmong, IsNamedSo, IsOwnName, IsPackOf, IsScoped, list_with, Mark, nowhere, Open, place_of, PrintAllIn, PrintsName, qualifiers, Scope, Symbol}
+use Rattle.cpp_direct.proofs.Basics.{arguments_of, Around, before_arguments, count, Detail, element, has_return_type, inside, instance, is_structor, qualifiers_of, ref_of, Term, tree, tree_of, types_of, Bool, ◌+◌, ◌≡◌, ℕ, zero, suc, ◌<◌, List, [], ◌∷◌, ◌++◌, length, slice_get, Some, None, is_some, arith, ap, sym, ◌∙◌, subst, refl, true, false, false≢true, AreAmong, AreKnown, Argument, argument_of, Arguments, arguments_in, called_on, detail_of, has_const, HasArguments, HasNameSo, HasParameters, HasScope, is_within_type, IsAmong, IsNamedSo, IsOwnName, IsPackOf, IsScoped, list_with, Mark, nowhere, Open, place_of, PrintAllIn, PrintsName, qualifiers, Scope, Symbol}
 use Rattle.cpp_direct.proofs.Kept.{none-known, placed-stays}
+use Rattle.cpp_grammar.specs.Values as values
 
 -- trees stay at their places where more is written
 
 one-stays : {detail : Detail} {in_pack : Bool} (text more : List ℕ) (p : Argument) (k : ℕ) (ts : List Term) → IsAmong in_pack detail text p k ts
     → IsAmong in_pack detail (text ++ more) p k ts
-one-stays text more p k ts h = record {
-  bytes = h.bytes;
-  placed = placed-stays text more p h.bytes h.placed;
-  own = h.own;
-  there = h.there;
-  prints = h.prints;
-}
+one-stays text more p k ts h = record { bytes = h.bytes; placed = placed-stays text more p h.bytes h.placed; own = h.own; there = h.there; prints = h.prints }
 
 pub pack-stays : {detail : Detail} (text more : List ℕ) (a : Arguments) (ts : List Term) → IsPackOf detail text a ts → IsPackOf detail (text ++ more) a ts
-pack-stays text more a ts h =
-    record { size = h.size; among = λ k known. one-stays text more (place_of a (a.before + k)) k ts (h.among k known) }
+pack-stays text more a ts h = record { size = h.size; among = λ k known. one-stays text more (place_of a (a.before + k)) k ts (h.among k known) }
 
 -- so do the arguments of a name
 pub arguments-stay : {detail : Detail} (text more : List ℕ) (a : Arguments) (name : Term) → HasArguments detail text a name
@@ -36,13 +25,7 @@ arguments-stay text more a name has = (
     there = h.there;
     prints = h.prints;
   },
-  λ o. let h = has.1 o in record {
-    all = h.all;
-    all_are = h.all_are;
-    elements = h.elements;
-    there = h.there;
-    are = pack-stays text more a h.elements h.are;
-  },
+  λ o. let h = has.1 o in record { all = h.all; all_are = h.all_are; elements = h.elements; there = h.there; are = pack-stays text more a h.elements h.are },
 )
 
 -- nothing is to be shown of unknown arguments
@@ -156,7 +139,7 @@ unfolding tree_of qualifiers_of ref_of
 member-named t mark = record { tree_is = refl; qualifiers_are = refl; mark_is = refl }
 
 -- and any other is read as it is
-pub plain-named : (t : Term) → IsNamedSo (tree t false) t marks.Plain
+pub plain-named : (t : Term) → IsNamedSo (tree t false) t Mark.Plain
 unfolding tree_of qualifiers_of ref_of
 plain-named t = record { tree_is = refl; qualifiers_are = refl; mark_is = refl }
 
@@ -175,7 +158,7 @@ has-member s text mark from t lead name written from_is prints = record {
 }
 
 abbrev pub has-plain : (s : Symbol) (text : List ℕ) (from : ℕ) (t : Term) (lead name : List ℕ) → text ≡ lead ++ name → from ≡ length lead
-    → PrintsName (detail_of s) t name → HasNameSo s text marks.Plain from
+    → PrintsName (detail_of s) t name → HasNameSo s text Mark.Plain from
 has-plain s text from t lead name written from_is prints = record {
   own = t;
   v = tree t false;

@@ -1,27 +1,10 @@
 -- A writer within a function type: where it begins, after its return type, between its parameters, and after it; and within an array.
-use Rattle.std.proofs.Common.{◌≡◌, ◌≢◌, inl, inr, ℕ, ◌+◌, ◌-◌, length, List, [], ◌∷◌, ◌++◌, reverse, Bool, true, false, refl, ap, sym, take, ◌∙◌, subst, arith, codes, append_assoc, append-nil, nat_eq, ◌≤◌, drop, slice_get, Some, if◌then◌else◌}
-use Rattle.std.specs.List.{ends_with}
-use Rattle.cpp_direct.specs.AllTerms.{among, Around, array, builtin, Detail, is_name_byte, Kind, list, lvalue, nil, outermost, pointer, State, Term, tree}
-use Rattle.cpp_direct.specs.AllStates.{Access, AreCandidates, Arguments, AwaitsParameter, AwaitsSignature, below, Candidate, detail_of, Direct, ElementOf, hidden, hidden_behind, is_builtin, IsArrayRead, IsElement, IsElementPassed, IsElementRead, IsFunctionRead, IsReadable, IsReturned, IsScoped, IsUnmarked, IsWriting, list_with, Mark, Marks, Open, opening_text, OpensEntry, PrintAll, Prints, PrintsAround, Scope, Stands, Symbol, TakesFunction, with_hidden, Writes}
-use Rattle.cpp_direct.specs.AllHoles.{Comes, Expects, FunctionOpened, IsQualifiable, IsReferable, IsSizeAt, NoReference, Opened, SignatureGoesOn, StandsAt, access_letters, accessed, array_opening, candidate, is_lvalue, is_marked, plain_function, pointed, reference, reference_letter, with_accessed, with_candidate, with_pointed}
-use Rattle.cpp_direct.proofs.Ending.{no-void}
+use Rattle.cpp_direct.proofs.AllGround.{◌≡◌, ◌≢◌, inl, inr, ℕ, ◌+◌, ◌-◌, length, List, [], ◌∷◌, ◌++◌, reverse, Bool, true, false, refl, ap, sym, take, ◌∙◌, subst, arith, codes, append_assoc, append-nil, nat_eq, ◌≤◌, drop, slice_get, Some, if◌then◌else◌, ends_with, among, Around, array, builtin, Detail, is_name_byte, Kind, list, lvalue, nil, outermost, pointer, State, Term, tree, Access, AreCandidates, Arguments, AwaitsParameter, AwaitsSignature, below, Candidate, detail_of, Direct, ElementOf, hidden, hidden_behind, is_builtin, IsArrayRead, IsElement, IsElementPassed, IsElementRead, IsFunctionRead, IsReadable, IsReturned, IsScoped, IsUnmarked, IsWriting, list_with, Mark, Marks, Open, OpensEntry, PrintAll, Prints, PrintsAround, Scope, Stands, Symbol, TakesFunction, with_hidden, Writes, Comes, Expects, FunctionOpened, IsQualifiable, IsReferable, IsSizeAt, NoReference, Opened, SignatureGoesOn, StandsAt, access_letters, accessed, array_opening, candidate, is_lvalue, is_marked, plain_function, pointed, reference, reference_letter, with_accessed, with_candidate, with_pointed, NameClass, Step, kept-grown, kept-same, kept-written, candidates-more, reverse-last, type-comes, kept-as, stands-split, parameter-opens, reference-opens, signature-ends, builtin-comes, function-opens, pointed-function-opens, array-opens, list-more, none-print, none-text, none-scoped, each-unmarked, name-byte, all-reached, own-each, normal-unmarked}
+use Rattle.cpp_direct.proofs.AllRead.{no-void, TakesElements, last-found, comma, in-front, popped, reference_entry, whole-awaited}
+use Rattle.cpp_direct.specs.AllStates.{opening_text}
 use Rattle.cpp_direct.proofs.Handed.{first-type, value-element}
-use Rattle.cpp_direct.proofs.Kept.{kept-grown, kept-same, kept-written, candidates-more, reverse-last, type-comes, kept-as}
-use Rattle.cpp_direct.proofs.Listed.{TakesElements, last-found, comma, in-front}
-use Rattle.cpp_direct.proofs.Moves.{stands-split}
-use Rattle.cpp_direct.proofs.MovesOfTypes.{parameter-opens, reference-opens, signature-ends, builtin-comes, function-opens, pointed-function-opens, array-opens}
 use Rattle.cpp_direct.proofs.PrintedFunctions.{function-element, void-function-element, array-around, array-element}
-use Rattle.cpp_direct.proofs.PrintedLists.{list-more, none-print, none-text}
-use Rattle.cpp_direct.proofs.Scopes.{none-scoped}
-use Rattle.cpp_direct.proofs.TypesRead.{popped, reference_entry, whole-awaited}
-use Rattle.sym_core.specs.declared.NameClass.TheVariants.{Cpp}
-use Rattle.cpp_direct.proofs.Unmarked.{each-unmarked, name-byte}
-use Rattle.cpp_direct.proofs.NamePlaces.{all-reached, own-each}
-use Rattle.cpp_direct.proofs.PrintedNames.{normal-unmarked}
 use Rattle.cpp_grammar.specs.Values as values
-use Rattle.cpp_direct.specs.declared.open.Open.TheVariants as opens
-use Rattle.cpp_direct.specs.declared.open.Step.TheVariants as steps
-use Rattle.cpp_direct.specs.declared.open.Access.TheVariants as accesses
 
 -- ## The return type
 
@@ -33,25 +16,25 @@ return-opens s true kind os around at st whole outside expects stands = pointed-
 return-opens s false kind os around at st whole outside expects stands = function-opens s kind os around at st whole outside expects stands
 
 -- a function type begins, where the innermost entry accepts one
-pub function-begins : (s : Symbol) (old new : Direct) (is_pointer : Bool) → IsWriting s old steps.Type
-    → StandsAt s.bytes old.at (if is_pointer then 80 ∷ 70 ∷ [] else 70 ∷ []) → TakesFunction (reverse old.waiting.list.items) → new.waiting.list.items ≡ old.waiting.list.items ++ opens.Returned is_pointer ∷ []
-    → new.at ≡ old.at + (if is_pointer then 2 else 1) → new.text ≡ old.text → new.candidates ≡ old.candidates → new.has_scope ≡ old.has_scope → IsWriting s new steps.Type
+pub function-begins : (s : Symbol) (old new : Direct) (is_pointer : Bool) → IsWriting s old Step.Type
+    → StandsAt s.bytes old.at (if is_pointer then 80 ∷ 70 ∷ [] else 70 ∷ []) → TakesFunction (reverse old.waiting.list.items) → new.waiting.list.items ≡ old.waiting.list.items ++ Open.Returned is_pointer ∷ []
+    → new.at ≡ old.at + (if is_pointer then 2 else 1) → new.text ≡ old.text → new.candidates ≡ old.candidates → new.has_scope ≡ old.has_scope → IsWriting s new Step.Type
 function-begins s old new is_pointer p letters takes waits at text candidates scope_same =
     let whole = whole-awaited s old p in
     let a = whole.0 in
     let f = return-opens s is_pointer a.kind a.os a.around old.at a.state whole.1 a.outside a.awaits letters in
     type-comes s old new a.kept a.around f.inner text candidates scope_same
-    (ap reverse waits ∙ reverse-last old.waiting.list.items (opens.Returned is_pointer)) a.outside
+    (ap reverse waits ∙ reverse-last old.waiting.list.items (Open.Returned is_pointer)) a.outside
     (inl (subst (λ k. Expects s Kind.Type a.around f.inner k a.state) (sym at) f.awaits))
     (record { outer = a.os; made_in = a.around; takes = takes; stands = a.stands }, f.onward)
-    (none-scoped a.scope a.around (opens.Returned is_pointer ∷ reverse old.waiting.list.items) refl)
+    (none-scoped a.scope a.around (Open.Returned is_pointer ∷ reverse old.waiting.list.items) refl)
 
 -- ## After the return type
 
 -- the parameters follow
 pub signature-begins : (s : Symbol) (old new : Direct) (is_pointer : Bool) (p : IsReturned s old is_pointer)
     → new.text.list.items ≡ old.text.list.items ++ opening_text is_pointer → new.candidates ≡ old.candidates → new.has_scope ≡ old.has_scope
-    → reverse new.waiting.list.items ≡ opens.Signature is_pointer ∷ p.taker.rest → new.at ≡ old.at → AwaitsSignature s new is_pointer true
+    → reverse new.waiting.list.items ≡ Open.Signature is_pointer ∷ p.taker.rest → new.at ≡ old.at → AwaitsSignature s new is_pointer true
 signature-begins s old new is_pointer p text candidates scope_same waits at =
     let opening = opening_text is_pointer in
     record {
@@ -100,15 +83,14 @@ one-more s outer made_in is_pointer returned ts t at st g = record {
   awaits = g.awaits;
   passes = λ l there then_ comes.
       subst (λ u. Comes s outer (tree (pointed is_pointer (plain_function returned u)) true) there
-      (with_pointed is_pointer made_in (plain_function returned u) then_))
-      (sym (list-more ts t l)) (g.passes l there then_ comes);
+      (with_pointed is_pointer made_in (plain_function returned u) then_)) (sym (list-more ts t l)) (g.passes l there then_ comes);
 }
 
 -- where a parameter is accepted, it is the signature's
 signature-stands : (s : Symbol) (w : Direct) (is_pointer : Bool) (a : AwaitsParameter s w is_pointer) (os : List Opened)
     → ((t : Term) (at : ℕ) (st : State) → Comes s os (tree t true) at st
     → SignatureGoesOn s a.taker.outer a.taker.made_in is_pointer (λ l. plain_function a.first.own (list_with a.ts (list t l))) at st)
-    → Stands s a.scope (opens.Signature is_pointer ∷ a.taker.rest) os w.text.list.items
+    → Stands s a.scope (Open.Signature is_pointer ∷ a.taker.rest) os w.text.list.items
 signature-stands s w is_pointer a os onward = (
   a.taker.front,
   a.taker.taken,
@@ -121,19 +103,18 @@ signature-stands s w is_pointer a os onward = (
 )
 
 -- accepts a parameter that is no reference
-pub parameter-comes : (s : Symbol) (w : Direct) (is_pointer : Bool) → AwaitsParameter s w is_pointer → NoReference s.bytes w.at → IsWriting s w steps.Type
+pub parameter-comes : (s : Symbol) (w : Direct) (is_pointer : Bool) → AwaitsParameter s w is_pointer → NoReference s.bytes w.at → IsWriting s w Step.Type
 parameter-comes s w is_pointer a none =
     let p = parameter-opens s a.taker.outer a.taker.made_in is_pointer (λ l. plain_function a.first.own (list_with a.ts l)) w.at a.state a.goes in
     type-comes s w w a.kept p.around p.inner refl refl refl a.open_is p.outside (inr (inr (p.awaits, none)))
-    (signature-stands s w is_pointer a p.inner p.onward) (none-scoped a.scope p.around (opens.Signature is_pointer ∷ a.taker.rest) refl)
+    (signature-stands s w is_pointer a p.inner p.onward) (none-scoped a.scope p.around (Open.Signature is_pointer ∷ a.taker.rest) refl)
 
 same-byte : (s : List ℕ) (at a b : ℕ) → StandsAt s at (a ∷ []) → StandsAt s at (b ∷ []) → a ≡ b
 same-byte s at a b p q = let e : a ∷ p.0 ≡ b ∷ q.0 = sym p.1 ∙ q.1 in cc e
 
 -- another byte than R and O begins no reference
 pub no-reference : (s : List ℕ) (at b : ℕ) → (b ≢ 0 → StandsAt s at (b ∷ [])) → b ≢ 0 → b ≢ 82 → b ≢ 79 → NoReference s at
-no-reference s at b stands some other another =
-    ((λ p. other (same-byte s at b 82 (stands some) p)), λ p. another (same-byte s at b 79 (stands some) p))
+no-reference s at b stands some other another = ((λ p. other (same-byte s at b 82 (stands some) p)), λ p. another (same-byte s at b 79 (stands some) p))
 
 -- the entry that waits for the referenced type is there
 reference-stands : (s : Symbol) (scope : Scope) (is_lvalue : Bool) (rest : List Open) (os : List Opened) (text : List ℕ) (from : ℕ)
@@ -143,24 +124,24 @@ reference-stands s scope false rest os text from marks = marks
 
 -- no parameter of a template is named there
 reference-scoped : (scope : Scope) (around : Around) (is_lvalue : Bool) (from : ℕ) (is_pointer : Bool) (rest : List Open)
-    → IsScoped scope around (reference_entry is_lvalue from ∷ opens.Signature is_pointer ∷ rest)
-reference-scoped scope around true from is_pointer rest = none-scoped scope around (opens.Lvalue from ∷ opens.Signature is_pointer ∷ rest) refl
-reference-scoped scope around false from is_pointer rest = none-scoped scope around (opens.Rvalue from ∷ opens.Signature is_pointer ∷ rest) refl
+    → IsScoped scope around (reference_entry is_lvalue from ∷ Open.Signature is_pointer ∷ rest)
+reference-scoped scope around true from is_pointer rest = none-scoped scope around (Open.Lvalue from ∷ Open.Signature is_pointer ∷ rest) refl
+reference-scoped scope around false from is_pointer rest = none-scoped scope around (Open.Rvalue from ∷ Open.Signature is_pointer ∷ rest) refl
 
 -- accepts a parameter that is a reference
 pub reference-comes : (s : Symbol) (old new : Direct) (is_pointer is_lvalue : Bool) (from : ℕ) → AwaitsParameter s old is_pointer
     → from ≡ length old.text.list.items → StandsAt s.bytes old.at (reference_letter is_lvalue ∷ [])
-    → OpensEntry old new (reference_entry is_lvalue from) → IsWriting s new steps.Type
+    → OpensEntry old new (reference_entry is_lvalue from) → IsWriting s new Step.Type
 reference-comes s old new is_pointer is_lvalue from a begins stands entered =
     let p = reference-opens s a.taker.outer a.taker.made_in is_pointer is_lvalue (λ l. plain_function a.first.own (list_with a.ts l)) old.at a.state a.goes stands in
     let entry = reference_entry is_lvalue from in
-    let turned : reverse new.waiting.list.items ≡ entry ∷ opens.Signature is_pointer ∷ a.taker.rest =
+    let turned : reverse new.waiting.list.items ≡ entry ∷ Open.Signature is_pointer ∷ a.taker.rest =
     ap reverse entered.waiting ∙ reverse-last old.waiting.list.items entry ∙ ap (λ ws. entry ∷ ws) a.open_is in
     let whole = signature-stands s old is_pointer a p.whole p.onward in
     type-comes s old new a.kept p.around p.inner entered.text entered.candidates entered.scope turned p.outside
     (inl (subst (λ n. Expects s Kind.Type p.around p.inner n a.state) (sym entered.at) p.awaits))
-    (reference-stands s a.scope is_lvalue (opens.Signature is_pointer ∷ a.taker.rest) p.inner old.text.list.items from
-    (p.whole, p.around, begins, p.passes, none-scoped a.scope p.around (opens.Signature is_pointer ∷ a.taker.rest) refl, whole))
+    (reference-stands s a.scope is_lvalue (Open.Signature is_pointer ∷ a.taker.rest) p.inner old.text.list.items from
+    (p.whole, p.around, begins, p.passes, none-scoped a.scope p.around (Open.Signature is_pointer ∷ a.taker.rest) refl, whole))
     (reference-scoped a.scope p.around is_lvalue from is_pointer a.taker.rest)
 
 -- ## The end
@@ -208,8 +189,7 @@ void-closed s old new is_pointer a stands text candidates scope_same waits at =
     let made = plain_function a.first.own (list v nil) in
     let start = subst (λ ts. SignatureGoesOn s a.taker.outer a.taker.made_in is_pointer (λ l. plain_function a.first.own (list_with ts l)) old.at a.state) none a.goes in
     let p = parameter-opens s a.taker.outer a.taker.made_in is_pointer (λ l. plain_function a.first.own l) old.at a.state start in
-    let g = p.onward v (old.at + 1) a.state
-    (builtin-comes s Kind.ItemButRef p.around p.inner old.at a.state 118 tt refl p.awaits both.0) in
+    let g = p.onward v (old.at + 1) a.state (builtin-comes s Kind.ItemButRef p.around p.inner old.at a.state 118 tt refl p.awaits both.0) in
     record {
       kept = kept-same s old new text candidates scope_same a.kept;
       taker = a.taker;
@@ -236,25 +216,25 @@ one-hidden s scope text ks cs c p = candidates-more text ks cs hidden c p (λ or
 hidden-accessed : (s : Symbol) (scope : Scope) (access : Access) (ks : List Candidate) (text : List ℕ) (made_in : Around) (t : Term) (st : State)
     → AreCandidates s scope text ks st.candidates
     → AreCandidates s scope text (hidden_behind (is_marked access) ks) (with_accessed access made_in t st).candidates
-hidden-accessed s scope accesses.Plain ks text made_in t st p = one-hidden s scope text ks st.candidates (candidate made_in t) p
-hidden-accessed s scope accesses.Pointer ks text made_in t st p =
+hidden-accessed s scope Access.Plain ks text made_in t st p = one-hidden s scope text ks st.candidates (candidate made_in t) p
+hidden-accessed s scope Access.Pointer ks text made_in t st p =
     one-hidden s scope text (ks ++ hidden ∷ []) (with_candidate made_in t st).candidates (candidate made_in (pointer t))
     (one-hidden s scope text ks st.candidates (candidate made_in t) p)
-hidden-accessed s scope accesses.Lvalue ks text made_in t st p =
+hidden-accessed s scope Access.Lvalue ks text made_in t st p =
     one-hidden s scope text (ks ++ hidden ∷ []) (with_candidate made_in t st).candidates (candidate made_in (lvalue t))
     (one-hidden s scope text ks st.candidates (candidate made_in t) p)
 
 hidden-candidates : (s : Symbol) (scope : Scope) (w : Direct) (is_pointer : Bool) (text : List ℕ) (made_in : Around) (t : Term) (st : State)
     → AreCandidates s scope text w.candidates.list.items st.candidates
     → AreCandidates s scope text (with_hidden w is_pointer) (with_pointed is_pointer made_in t st).candidates
-hidden-candidates s scope w true text made_in t st p = hidden-accessed s scope accesses.Pointer w.candidates.list.items text made_in t st p
-hidden-candidates s scope w false text made_in t st p = hidden-accessed s scope accesses.Plain w.candidates.list.items text made_in t st p
+hidden-candidates s scope w true text made_in t st p = hidden-accessed s scope Access.Pointer w.candidates.list.items text made_in t st p
+hidden-candidates s scope w false text made_in t st p = hidden-accessed s scope Access.Plain w.candidates.list.items text made_in t st p
 
 -- what waits for the function type, once its own entry is removed
 pub still-popped : (s : Symbol) (old new : Direct) (is_pointer : Bool) (p : IsFunctionRead s old is_pointer) (left : List Open) (size : ℕ)
     → new.waiting ≡ old.waiting → size ≡ length new.waiting.list.items → left ≡ take (size - 1) new.waiting.list.items → reverse left ≡ p.taker.rest
 still-popped s old new is_pointer p left size same length_is is =
-    popped old.waiting.list.items left p.taker.rest (opens.Signature is_pointer) size (length_is ∙ ap (λ v. length v.list.items) same) p.open_is
+    popped old.waiting.list.items left p.taker.rest (Open.Signature is_pointer) size (length_is ∙ ap (λ v. length v.list.items) same) p.open_is
     (is ∙ ap (λ v. take (size - 1) v.list.items) same)
 
 -- a function type is an element or a parameter
@@ -284,42 +264,40 @@ function-handed s old new is_pointer p text candidates scope_same waits at =
     }
 
 -- an entry that accepts a function type, and isn't parameters or a special object, accepts elements
-pub takes-as-element : (o : Open) (rest : List Open) → TakesFunction (o ∷ rest) → ((x : Mark) (y : ℕ) (z : Arguments) → o ≡ opens.Parameters x y z → ⊥)
-    → (o ≡ opens.Special → ⊥) → ((x : Mark) (y t : ℕ) → o ≡ opens.Enclosing x y t → ⊥)
-    → ((x : Mark) (y t : ℕ) (w : Arguments) → o ≡ opens.EnclosingInstance x y t w → ⊥) → ((x y : ℕ) (w : Arguments) → o ≡ opens.Element x y w → ⊥) → TakesElements o
-takes-as-element (opens.TypeArguments from is_dependent) rest takes apart z m i e = tt
-takes-as-element (opens.NestArguments nest) rest takes apart z m i e = tt
-takes-as-element (opens.FirstArguments nest) rest takes apart z m i e = tt
-takes-as-element (opens.NameArguments from) rest takes apart z m i e = tt
-takes-as-element (opens.LevelArguments is_dependent) rest takes apart z m i e = tt
-takes-as-element opens.Pack rest takes apart z m i e = tt
-takes-as-element (opens.Parameters x y w) rest takes apart z m i e = absurd (apart x y w refl)
-takes-as-element opens.Special rest takes apart z m i e = absurd (z refl)
-takes-as-element (opens.Enclosing x y t) rest takes apart z m i e = absurd (m x y t refl)
-takes-as-element (opens.EnclosingInstance x y t w) rest takes apart z m i e = absurd (i x y t w refl)
-takes-as-element (opens.Element x y w) rest takes apart z m i e = absurd (e x y w refl)
+pub takes-as-element : (o : Open) (rest : List Open) → TakesFunction (o ∷ rest) → ((x : Mark) (y : ℕ) (z : Arguments) → o ≡ Open.Parameters x y z → ⊥)
+    → (o ≡ Open.Special → ⊥) → ((x : Mark) (y t : ℕ) → o ≡ Open.Enclosing x y t → ⊥)
+    → ((x : Mark) (y t : ℕ) (w : Arguments) → o ≡ Open.EnclosingInstance x y t w → ⊥) → ((x y : ℕ) (w : Arguments) → o ≡ Open.Element x y w → ⊥) → TakesElements o
+takes-as-element (Open.TypeArguments from is_dependent) rest takes apart z m i e = tt
+takes-as-element (Open.NestArguments nest) rest takes apart z m i e = tt
+takes-as-element (Open.FirstArguments nest) rest takes apart z m i e = tt
+takes-as-element (Open.NameArguments from) rest takes apart z m i e = tt
+takes-as-element (Open.LevelArguments is_dependent) rest takes apart z m i e = tt
+takes-as-element Open.Pack rest takes apart z m i e = tt
+takes-as-element (Open.Parameters x y w) rest takes apart z m i e = absurd (apart x y w refl)
+takes-as-element Open.Special rest takes apart z m i e = absurd (z refl)
+takes-as-element (Open.Enclosing x y t) rest takes apart z m i e = absurd (m x y t refl)
+takes-as-element (Open.EnclosingInstance x y t w) rest takes apart z m i e = absurd (i x y t w refl)
+takes-as-element (Open.Element x y w) rest takes apart z m i e = absurd (e x y w refl)
 takes-as-element _ rest takes apart z m i e = absurd takes
 
 -- ## The beginning of an array
 
-referred : (s : Symbol) (access : Access) (at : ℕ) → access ≡ accesses.Lvalue → StandsAt s.bytes at (access_letters access) → StandsAt s.bytes at (82 ∷ [])
-referred s access at is stands =
-    (stands-split s.bytes at (82 ∷ []) (65 ∷ []) (subst (λ a. StandsAt s.bytes at (access_letters a)) is stands)).0
+referred : (s : Symbol) (access : Access) (at : ℕ) → access ≡ Access.Lvalue → StandsAt s.bytes at (access_letters access) → StandsAt s.bytes at (82 ∷ [])
+referred s access at is stands = (stands-split s.bytes at (82 ∷ []) (65 ∷ []) (subst (λ a. StandsAt s.bytes at (access_letters a)) is stands)).0
 
 -- an array begins, where the innermost entry accepts one
-pub array-begins : (s : Symbol) (old new : Direct) (access : Access) (digits : List ℕ) (from to : ℕ) → IsWriting s old steps.Type
+pub array-begins : (s : Symbol) (old new : Direct) (access : Access) (digits : List ℕ) (from to : ℕ) → IsWriting s old Step.Type
     → StandsAt s.bytes old.at (access_letters access) → TakesFunction (reverse old.waiting.list.items)
-    → IsSizeAt s.bytes (old.at + length (access_letters access)) digits new.at
-    → from ≤ to → to ≤ length s.bytes → take (to - from) (drop from s.bytes) ≡ digits
-    → new.waiting.list.items ≡ old.waiting.list.items ++ opens.Array access from to ∷ [] → new.text ≡ old.text → new.candidates ≡ old.candidates → new.has_scope ≡ old.has_scope
-    → IsWriting s new steps.Type
+    → IsSizeAt s.bytes (old.at + length (access_letters access)) digits new.at → from ≤ to → to ≤ length s.bytes → take (to - from) (drop from s.bytes) ≡ digits
+    → new.waiting.list.items ≡ old.waiting.list.items ++ Open.Array access from to ∷ [] → new.text ≡ old.text → new.candidates ≡ old.candidates → new.has_scope ≡ old.has_scope
+    → IsWriting s new Step.Type
 array-begins s old new access digits from to p letters takes is ordered inside size waits text candidates scope_same =
     let whole = whole-awaited s old p in
     let a = whole.0 in
-    let referable : access ≡ accesses.Lvalue → IsReferable a.kind =
+    let referable : access ≡ Access.Lvalue → IsReferable a.kind =
     λ e. elim a.referable [ inl may ↦ may | inr none ↦ absurd (none.0 (referred s access old.at e letters)) ] in
     let f = array-opens s access a.kind a.os a.around old.at a.state digits new.at whole.1 referable a.awaits letters is in
-    let entry = opens.Array access from to in
+    let entry = Open.Array access from to in
     type-comes s old new a.kept a.around f.inner text candidates scope_same (ap reverse waits ∙ reverse-last old.waiting.list.items entry) a.outside
     (inl f.awaits) (record { outer = a.os; made_in = a.around; takes = takes; stands = a.stands }, digits, ordered, inside, size, f.onward)
     (none-scoped a.scope a.around (entry ∷ reverse old.waiting.list.items) refl)
@@ -327,10 +305,10 @@ array-begins s old new access digits from to p letters takes is ordered inside s
 -- ## The end of an array
 
 -- the type of an array's elements was read
-pub value-array : (s : Symbol) (w : Direct) (is_reference : Bool) (access : Access) (from to : ℕ) → IsWriting s w (steps.Value is_reference false)
-    → slice_get w.waiting.list.items (length w.waiting.list.items - 1) ≡ Some (opens.Array access from to) → IsArrayRead s w access from to
+pub value-array : (s : Symbol) (w : Direct) (is_reference : Bool) (access : Access) (from to : ℕ) → IsWriting s w (Step.Value is_reference false)
+    → slice_get w.waiting.list.items (length w.waiting.list.items - 1) ≡ Some (Open.Array access from to) → IsArrayRead s w access from to
 value-array s w is_reference access from to p found =
-    let last = value-element s w is_reference (opens.Array access from to) p found in
+    let last = value-element s w is_reference (Open.Array access from to) p found in
     let waits = last.read.stands in
     record {
       kept = p.kept;
@@ -349,14 +327,14 @@ value-array s w is_reference access from to p found =
 size-unmarked : (s : List ℕ) (from to : ℕ) (digits : List ℕ) → IsReadable s → from ≤ to → to ≤ length s → take (to - from) (drop from s) ≡ digits
     → IsUnmarked digits
 size-unmarked s from to digits readable ordered inside is =
-    each-unmarked (λ b. is_name_byte Cpp b ≡ true) name-byte digits
+    each-unmarked (λ b. is_name_byte NameClass.Cpp b ≡ true) name-byte digits
     (all-reached digits (own-each s from (to - from) digits (omega (arith, ordered, inside)) (omega (arith, ordered, inside)) (sym is) readable.plain))
 
 refers-around : {detail : Detail} (access : Access) (digits : List ℕ) → IsUnmarked digits → (t : Term) (b : List ℕ) (r : Bool) → Prints detail t b r → is_lvalue access ≡ true
     → PrintsAround detail (accessed access (array digits t)) (b ++ array_opening access ++ digits ++ codes "]")
-refers-around accesses.Plain digits plain t b r p e = cc e
-refers-around accesses.Pointer digits plain t b r p e = cc e
-refers-around accesses.Lvalue digits plain t b r p e = array-around digits plain t b r p
+refers-around Access.Plain digits plain t b r p e = cc e
+refers-around Access.Pointer digits plain t b r p e = cc e
+refers-around Access.Lvalue digits plain t b r p e = array-around digits plain t b r p
 
 pub array-written : (s : Symbol) → IsReadable s.bytes → (w begun first second third last : Direct) (access : Access) (from to : ℕ) (p : IsArrayRead s w access from to) (size : List ℕ)
     → begun.text ≡ w.text → begun.candidates ≡ w.candidates → begun.has_scope ≡ w.has_scope → begun.at ≡ w.at → reverse begun.waiting.list.items ≡ p.taker.rest
@@ -373,16 +351,14 @@ array-written s readable w begun first second third last access from to p size t
     let bytes = p.first.bytes ++ opening ++ digits ++ codes "]" in
     let then_ = with_accessed access p.taker.made_in own p.state in
     let is : size ≡ digits = size_is ∙ ap (λ l. values.normal l) p.size in
-    let known = kept-same s w begun text candidates scope_same p.kept in
     let grown : third.text.list.items ≡ p.taker.front ++ bytes =
     three.text ∙ ap (λ l. l ++ codes "]") (two.text ∙ ap (λ l. first.text.list.items ++ l) is
-    ∙ ap (λ l. l ++ digits) (one.text ∙ ap (λ v. v.list.items ++ opening) text ∙ ap (λ l. l ++ opening) p.written))
-    ∙ simp append_assoc in
+    ∙ ap (λ l. l ++ digits) (one.text ∙ ap (λ v. v.list.items ++ opening) text ∙ ap (λ l. l ++ opening) p.written)) ∙ simp append_assoc in
     let written : last.text.list.items ≡ p.taker.front ++ bytes = ap (λ v. v.list.items) same_text ∙ grown in
     let open_is : reverse last.waiting.list.items ≡ p.taker.rest =
     ap (λ v. reverse v.list.items) (same_waits ∙ three.waiting ∙ two.waiting ∙ one.waiting) ∙ waits in
     let there = kept-written s second third (codes "]") three
-    (kept-written s first second size two (kept-written s begun first opening one known)) in
+    (kept-written s first second size two (kept-written s begun first opening one (kept-same s w begun text candidates scope_same p.kept))) in
     record {
       read = record {
         kept = kept-as s third last then_ there same_text more same_scope

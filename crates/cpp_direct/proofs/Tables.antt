@@ -1,16 +1,10 @@
 -- What holds of the tables of both grammars.
-use Rattle.std.proofs.Common.{◌≡◌, ℕ, ◌<◌, List, [], ◌∷◌, slice_get, Bool, true, false, not, Option, Some, None, refl, sym, ap, ◌∙◌}
-use Rattle.std.specs.Prelude.{Ok, if◌then◌else◌}
-use Rattle.sym_core.specs.declared.NameClass.TheVariants.{Cpp}
-use Rattle.sym_core.specs.Token.{Token}
-use Rattle.cpp_direct.specs.AllTerms.{abi, among, ARGUMENT, ARGUMENT_LIST, ARGUMENTS_ALONE, ARGUMENTS_FIRST, branch, choose, empty, FIRST_OF_LAMBDA, fixed, in_ranges, is_chain, is_in, IsToken, IsTree, ITEM, Kind, kinds, may_be_empty, MAYBE_ARGUMENTS, NEST_MORE_OR_END, NEST_REST, NEST_REST_ALONE, NEST_TAIL, number_of, pick, Production, Rule, rule_of, rule_taken, spell, StandsFor, Sym, SYMBOL, TakesRule, Term, token, Tree, unfold_cpp, wide, wide_alternatives, wide_choose}
-use Rattle.sym_shape.specs.declared.rule.Sym.TheVariants.{Kind as OfKind}
+use Rattle.cpp_direct.proofs.Basics.{◌≡◌, ℕ, ◌<◌, List, [], ◌∷◌, slice_get, Bool, true, false, not, Option, Some, None, refl, sym, ap, ◌∙◌, Ok, if◌then◌else◌, Token, abi, among, ARGUMENT, ARGUMENT_LIST, ARGUMENTS_ALONE, ARGUMENTS_FIRST, branch, choose, empty, FIRST_OF_LAMBDA, fixed, in_ranges, is_chain, is_in, IsToken, IsTree, ITEM, Kind, kinds, may_be_empty, MAYBE_ARGUMENTS, NEST_MORE_OR_END, NEST_REST, NEST_REST_ALONE, NEST_TAIL, number_of, pick, Production, Rule, rule_of, rule_taken, spell, StandsFor, Sym, SYMBOL, TakesRule, Term, token, Tree, unfold_cpp, wide, wide_alternatives, wide_choose, wide_kept, same_choice, each_below, kept, mangled_by, table_by, NameClass}
 use Rattle.cpp_grammar.proofs.Arguments.{Replaces, abi_argument, wide_argument, abi_first, wide_first}
 use Rattle.cpp_grammar.proofs.Alone.{arguments_maybe, rest_any, list_first}
 use Rattle.cpp_grammar.proofs.Choosing.{rule_at_kind, empty_at_kind, wide_rule_at, wide_empty_at}
-use Rattle.cpp_grammar.proofs.Growing.{wide_kept, same_choice, each_below, below, kept}
+use Rattle.cpp_grammar.proofs.Growing.{below}
 use Rattle.cpp_grammar.proofs.Staying.{meaning_stays}
-use Rattle.cpp_direct.specs.Symbol.{mangled_by, table_by}
 
 -- ## Choices
 
@@ -41,12 +35,12 @@ empty-by true k kind at = wide_empty_at k kind at
 empty-by false k kind at = empty_at_kind k kind at
 
 -- names and numbers are C++'s
-pub names-by : (is_wide : Bool) (x : Sym) (t : Token) → IsToken Cpp x t → IsToken (table_by is_wide).names x t
+pub names-by : (is_wide : Bool) (x : Sym) (t : Token) → IsToken NameClass.Cpp x t → IsToken (table_by is_wide).names x t
 unfolding abi wide
 names-by true x t is = is
 names-by false x t is = is
 
-pub names-are : (is_wide : Bool) (x : Sym) (t : Token) → IsToken (table_by is_wide).names x t → IsToken Cpp x t
+pub names-are : (is_wide : Bool) (x : Sym) (t : Token) → IsToken (table_by is_wide).names x t → IsToken NameClass.Cpp x t
 unfolding abi wide
 names-are true x t is = is
 names-are false x t is = is
@@ -61,13 +55,12 @@ rule-same (Some p) big rule same is = ap rule_taken (kept (Some p) big p same re
 -- a kind with more alternatives, in whichever order, has the trees of one that has fewer
 grows : (j k : ℕ) (small big : Kind) → slice_get kinds j ≡ Some small → slice_get kinds k ≡ Some big
     → each_below 256 (λ b. same_choice (wide_choose small b) (wide_choose big b)) ≡ true → may_be_empty small ≡ may_be_empty big → (t : Tree)
-    → IsTree wide (OfKind j) t → IsTree wide (OfKind k) t
+    → IsTree wide (Sym.Kind j) t → IsTree wide (Sym.Kind k) t
 grows j k small big at_small at_big same empties (branch rule taken parts) is = (
   record {
     byte = is.0.byte;
     is_byte = is.0.is_byte;
-    found = wide_rule_at k big is.0.byte at_big
-        ∙ rule-same (wide_choose small is.0.byte) (wide_choose big is.0.byte) rule
+    found = wide_rule_at k big is.0.byte at_big ∙ rule-same (wide_choose small is.0.byte) (wide_choose big is.0.byte) rule
         (below 256 (λ b. same_choice (wide_choose small b) (wide_choose big b)) is.0.byte same is.0.is_byte) (sym (wide_rule_at j small is.0.byte at_small) ∙ is.0.found);
     takes = is.0.takes;
   },
@@ -78,42 +71,42 @@ grows j k small big at_small at_big same empties (token t) is = absurd is
 grows j k small big at_small at_big same empties (fixed byte) is = absurd is
 
 -- what may follow a parameter or a substitution may follow any name
-pub arguments-by : (is_wide : Bool) (t : Tree) → IsTree (table_by is_wide) (OfKind ARGUMENTS_ALONE) t → IsTree (table_by is_wide) (OfKind MAYBE_ARGUMENTS) t
+pub arguments-by : (is_wide : Bool) (t : Tree) → IsTree (table_by is_wide) (Sym.Kind ARGUMENTS_ALONE) t → IsTree (table_by is_wide) (Sym.Kind MAYBE_ARGUMENTS) t
 unfolding kinds may_be_empty in_ranges among is_in pick number_of wide_choose wide_alternatives same_choice each_below
 arguments-by true t is = grows ARGUMENTS_ALONE MAYBE_ARGUMENTS Kind.ArgumentsAlone Kind.MaybeArguments refl refl refl refl t is
 arguments-by false t is = arguments_maybe t is
 
-pub rests-by : (is_wide : Bool) (t : Tree) → IsTree (table_by is_wide) (OfKind NEST_REST_ALONE) t → IsTree (table_by is_wide) (OfKind NEST_REST) t
+pub rests-by : (is_wide : Bool) (t : Tree) → IsTree (table_by is_wide) (Sym.Kind NEST_REST_ALONE) t → IsTree (table_by is_wide) (Sym.Kind NEST_REST) t
 unfolding kinds may_be_empty in_ranges among is_in pick number_of wide_choose wide_alternatives same_choice each_below
 rests-by true t is = grows NEST_REST_ALONE NEST_REST Kind.NestRestAlone Kind.NestRest refl refl refl refl t is
 rests-by false t is = rest_any t is
 
 -- arguments are a list of them from the first one on
-pub lists-by : (is_wide : Bool) (t : Tree) → IsTree (table_by is_wide) (OfKind ARGUMENT_LIST) t → IsTree (table_by is_wide) (OfKind ARGUMENTS_FIRST) t
+pub lists-by : (is_wide : Bool) (t : Tree) → IsTree (table_by is_wide) (Sym.Kind ARGUMENT_LIST) t → IsTree (table_by is_wide) (Sym.Kind ARGUMENTS_FIRST) t
 unfolding kinds may_be_empty in_ranges among is_in pick number_of wide_choose wide_alternatives same_choice each_below
 lists-by true t is = grows ARGUMENT_LIST ARGUMENTS_FIRST Kind.ArgumentList Kind.ArgumentsFirst refl refl refl refl t is
 lists-by false t is = list_first t is
 
 -- in the wide grammar a nested name may also end after the arguments of a substituted name
-pub tails-by : (is_wide : Bool) → is_wide ≡ true → (t : Tree) → IsTree (table_by is_wide) (OfKind NEST_TAIL) t → IsTree (table_by is_wide) (OfKind NEST_MORE_OR_END) t
+pub tails-by : (is_wide : Bool) → is_wide ≡ true → (t : Tree) → IsTree (table_by is_wide) (Sym.Kind NEST_TAIL) t → IsTree (table_by is_wide) (Sym.Kind NEST_MORE_OR_END) t
 unfolding kinds may_be_empty in_ranges among is_in pick number_of wide_choose wide_alternatives same_choice each_below
 tails-by true is t tree = grows NEST_TAIL NEST_MORE_OR_END Kind.NestTail Kind.NestMoreOrEnd refl refl refl refl t tree
 tails-by false is t tree = let clash : false ≡ true = is in absurd cc
 
 -- a type is an argument,
-pub item-by : (is_wide : Bool) (t : Tree) → IsTree (table_by is_wide) (OfKind ITEM) t → Replaces (table_by is_wide) ARGUMENT t
+pub item-by : (is_wide : Bool) (t : Tree) → IsTree (table_by is_wide) (Sym.Kind ITEM) t → Replaces (table_by is_wide) ARGUMENT t
 item-by true t is = wide_argument t is
 item-by false t is = abi_argument t is
 
 -- and the first type of a lambda
-pub first-by : (is_wide : Bool) (t : Tree) → IsTree (table_by is_wide) (OfKind ITEM) t → Replaces (table_by is_wide) FIRST_OF_LAMBDA t
+pub first-by : (is_wide : Bool) (t : Tree) → IsTree (table_by is_wide) (Sym.Kind ITEM) t → Replaces (table_by is_wide) FIRST_OF_LAMBDA t
 first-by true t is = wide_first t is
 first-by false t is = abi_first t is
 
 -- ## Symbols
 
 -- what a whole tree says, the symbol denotes
-pub stands-by : (is_wide : Bool) (s : List ℕ) (shape : Tree) (t : Term) → IsTree (table_by is_wide) (OfKind SYMBOL) shape → spell shape ≡ s
+pub stands-by : (is_wide : Bool) (s : List ℕ) (shape : Tree) (t : Term) → IsTree (table_by is_wide) (Sym.Kind SYMBOL) shape → spell shape ≡ s
     → unfold_cpp shape ≡ Ok t → StandsFor (mangled_by is_wide) s (Ok t)
 stands-by true s shape t shaped spelled is = (shape, shaped, spelled, sym (meaning_stays shape t shaped is))
 stands-by false s shape t shaped spelled is = (shape, shaped, spelled, sym is)

@@ -1,25 +1,6 @@
 -- A writer reads a type, or the first bytes of one.
-use Rattle.std.proofs.Common.{◌≡◌, ◌≢◌, inl, inr, ℕ, ◌+◌, ◌-◌, ◌≤◌, List, [], ◌∷◌, ◌++◌, length, take, drop, reverse, slice_get, Bool, true, false, Some, codes, refl, ap, sym, subst, ◌∙◌, arith, append_assoc, append-nil, if◌then◌else◌}
-use Rattle.std.proofs.lemmas.List.{length-append, reverse-append, reverse-reverse}
-use Rattle.std.proofs.Math.Seq.{take-append_seam}
-use Rattle.std.specs.Bool.{◌==◌}
-use Rattle.std.proofs.lemmas.Bool.{false≢true}
-use Rattle.sym_core.specs.declared.NumberKind.TheVariants.{Seq36}
-use Rattle.cpp_direct.specs.AllTerms.{abbreviation, abbreviation_texts, after, alone, among, Around, builtin, builtin_texts, counted_value, in_std, inside, Kind, look_up, lvalue, may_be_empty, Naming, no_items, pointer, rvalue, same_bytes, source, source_text, State, Term, tree}
-use Rattle.cpp_direct.specs.AllStates.{abbreviation_letters, added, added_unless, AwaitsMark, AwaitsNamedType, AwaitsNest, AwaitsType, below, builtin_letters, builtin_letters_with_d, Candidate, detail_of, Direct, is_abbreviated, is_builtin, is_builtin_with_d, IsBuiltinAt, IsNamedAgain, IsScoped, IsTypeNamed, IsWriting, Kept, Lists, Marks, Open, OpensArguments, OpensEntry, Prints, PrintsAs, Reads, Stands, Symbol, Writes}
-use Rattle.cpp_direct.specs.declared.open.Open.TheVariants as opens
-use Rattle.cpp_direct.specs.declared.open.Purpose.TheVariants as purposes
-use Rattle.cpp_direct.specs.declared.open.Step.TheVariants as steps
-use Rattle.cpp_direct.specs.AllHoles.{Comes, Expects, IsNameAt, IsQualifiable, IsReferable, IsSeqAt, Opened, StandsAt, TypeNamed, TypeOpens, reference_letter, unless_listed, with_candidate}
-use Rattle.cpp_direct.proofs.Unmarked.{name-unmarked}
-use Rattle.cpp_direct.proofs.Scopes.{scoped-inside}
-use Rattle.cpp_direct.proofs.Kept.{candidate-found, kept-grown, kept-same, piece-found, reverse-last, type-comes, value-added, value-comes, list-begins, kept-unless, awaited-in}
-use Rattle.cpp_direct.proofs.Moves.{expects-empty, stands-join}
-use Rattle.cpp_direct.proofs.MovesOfLists.{arguments-open}
-use Rattle.cpp_direct.proofs.MovesOfTypes.{solid-opens, builtin-comes, builtin-with-d-comes, pointer-opens, reference-type-opens, const-opens, source-opens, std-opens, abbreviation-opens, substitution-opens, substituted-so, nested-type-opens}
+use Rattle.cpp_direct.proofs.AllGround.{◌≡◌, ◌≢◌, inl, inr, ℕ, ◌+◌, ◌-◌, ◌≤◌, List, [], ◌∷◌, ◌++◌, length, take, drop, reverse, slice_get, Bool, true, false, Some, codes, refl, ap, sym, subst, ◌∙◌, arith, append_assoc, append-nil, if◌then◌else◌, length-append, reverse-append, reverse-reverse, take-append_seam, ◌==◌, false≢true, abbreviation, abbreviation_texts, after, alone, among, Around, builtin, builtin_texts, counted_value, in_std, inside, Kind, look_up, lvalue, may_be_empty, Naming, no_items, pointer, rvalue, same_bytes, source, source_text, State, Term, tree, abbreviation_letters, added, added_unless, AwaitsMark, AwaitsNamedType, AwaitsNest, AwaitsType, below, builtin_letters, builtin_letters_with_d, Candidate, detail_of, Direct, is_abbreviated, is_builtin, is_builtin_with_d, IsBuiltinAt, IsNamedAgain, IsScoped, IsTypeNamed, IsWriting, Kept, Lists, Marks, Open, OpensArguments, OpensEntry, Prints, PrintsAs, Reads, Stands, Symbol, Writes, Comes, Expects, IsNameAt, IsQualifiable, IsReferable, IsSeqAt, Opened, StandsAt, TypeNamed, TypeOpens, reference_letter, unless_listed, with_candidate, NumberKind, Purpose, Step, name-unmarked, scoped-inside, candidate-found, kept-grown, kept-same, piece-found, reverse-last, type-comes, value-added, value-comes, list-begins, kept-unless, awaited-in, expects-empty, stands-join, arguments-open, solid-opens, builtin-comes, builtin-with-d-comes, pointer-opens, reference-type-opens, const-opens, source-opens, std-opens, abbreviation-opens, substitution-opens, substituted-so, nested-type-opens, source-prints, std-prints, abbreviation-prints, builtin-prints, builtin-with-d-prints, no-module}
 use Rattle.cpp_direct.proofs.LettersTested.{code-listed, codes_pass, each_passes, tested, is_filled, filled}
-use Rattle.cpp_direct.proofs.PrintedNames.{source-prints, std-prints, abbreviation-prints, builtin-prints, builtin-with-d-prints}
-use Rattle.cpp_direct.proofs.PrintedTypes.{no-module}
 
 -- ## What calls give
 
@@ -50,8 +31,7 @@ popped xs ys rest x n size e is =
 -- a type ends with its mark
 pub mark-answer : (s : Symbol) (old mid new : Direct) (mark : List ℕ) (from : ℕ) (r d : Bool) (a : AwaitsMark s old mark from r d)
     → reverse mid.waiting.list.items ≡ a.rest → mid.text.list.items ≡ old.text.list.items ++ mark → mid.candidates ≡ old.candidates
-    → mid.has_scope ≡ old.has_scope → mid.at ≡ old.at
-    → Lists mid new (added mid from r d) → IsWriting s new (steps.Value r d)
+    → mid.has_scope ≡ old.has_scope → mid.at ≡ old.at → Lists mid new (added mid from r d) → IsWriting s new (Step.Value r d)
 mark-answer s old mid new mark from r d a waits text candidates scope at lists =
     let marked : mid.text.list.items ≡ a.front ++ (a.bytes ++ mark) = text ∙ ap (λ l. l ++ mark) a.written ∙ append_assoc a.front a.bytes mark in
     let open_is : reverse new.waiting.list.items ≡ a.rest = ap (λ v. reverse v.list.items) lists.waiting ∙ waits in
@@ -70,7 +50,7 @@ named-kept s old new from listed r a lists =
 
 -- nothing follows the name of a type
 pub bare-done : (s : Symbol) (old new : Direct) (from : ℕ) (listed r : Bool) → IsTypeNamed s old from listed r
-    → Lists old new (added_unless old listed from false) → IsWriting s new (steps.Value r false)
+    → Lists old new (added_unless old listed from false) → IsWriting s new (Step.Value r false)
 unfolding may_be_empty
 bare-done s old new from listed r a lists =
     let state : State = unless_listed listed a.around a.own a.state in
@@ -81,13 +61,13 @@ bare-done s old new from listed r a lists =
 
 -- and arguments do
 pub argued-done : (s : Symbol) (old mid new : Direct) (from : ℕ) (listed r : Bool) → IsTypeNamed s old from listed r → r ≡ false → StandsAt s.bytes mid.at (73 ∷ [])
-    → Lists old mid (added_unless old listed from false) → OpensArguments (detail_of s) mid new (opens.TypeArguments from false) → IsWriting s new (steps.List true)
+    → Lists old mid (added_unless old listed from false) → OpensArguments (detail_of s) mid new (Open.TypeArguments from false) → IsWriting s new (Step.List true)
 unfolding inside
 argued-done s old mid new from listed r named none stands lists opening_ =
     let a = subst (λ b. IsTypeNamed s old from listed b) none named in
     let o = arguments-open s a.named.inner a.around a.own listed old.at a.state a.named.awaits (subst (λ n. StandsAt s.bytes n (73 ∷ [])) lists.at stands) in
     list-begins s old mid new (added_unless old listed from false) (named-kept s old mid from listed false a lists)
-    (opens.TypeArguments from false) a.front a.bytes a.own lists opening_ (a.from_is, a.prints) a.written (
+    (Open.TypeArguments from false) a.front a.bytes a.own lists opening_ (a.from_is, a.prints) a.written (
       inside a.around,
       o.inner,
       refl,
@@ -141,18 +121,15 @@ no-abbreviation letter is none = let clash : false ≡ true = subst (λ l. is_ab
 -- ## Types
 
 -- where a type is, it may have a qualifier
-pub whole-awaited : (s : Symbol) (w : Direct) → IsWriting s w steps.Type → (a : AwaitsType s w) × IsQualifiable a.kind
+pub whole-awaited : (s : Symbol) (w : Direct) → IsWriting s w Step.Type → (a : AwaitsType s w) × IsQualifiable a.kind
 whole-awaited s w p = elim p.is_before.1 [
   | inl awaits ↦ (record { kept = p.kept; awaited = p.is_before.0; kind = Kind.Type; typed = tt; referable = inl tt; awaits = awaits }, tt)
   | inr (inl awaits) ↦ (record { kept = p.kept; awaited = p.is_before.0; kind = Kind.Item; typed = tt; referable = inl tt; awaits = awaits }, tt)
-  | inr (inr awaits) ↦ (
-    record { kept = p.kept; awaited = p.is_before.0; kind = Kind.ItemButRef; typed = tt; referable = inr awaits.1; awaits = awaits.0 },
-    tt,
-  )
+  | inr (inr awaits) ↦ (record { kept = p.kept; awaited = p.is_before.0; kind = Kind.ItemButRef; typed = tt; referable = inr awaits.1; awaits = awaits.0 }, tt)
 ]
 
 -- what is expected where a type is
-pub awaits-type : (s : Symbol) (w : Direct) (is_plain : Bool) → IsWriting s w (if is_plain then steps.Plain else steps.Type) → AwaitsType s w
+pub awaits-type : (s : Symbol) (w : Direct) (is_plain : Bool) → IsWriting s w (if is_plain then Step.Plain else Step.Type) → AwaitsType s w
 awaits-type s w true p =
     record { kept = p.kept; awaited = p.is_before.0; kind = Kind.Plain; typed = tt; referable = inl tt; awaits = p.is_before.1 }
 awaits-type s w false p = (whole-awaited s w p).0
@@ -160,7 +137,7 @@ awaits-type s w false p = (whole-awaited s w p).0
 -- a type is read that is no candidate
 value-done : (s : Symbol) (old new : Direct) (a : AwaitsType s old) (t : Term) (bytes : List ℕ) → Prints (detail_of s) t bytes false
     → new.text.list.items ≡ old.text.list.items ++ bytes → new.candidates ≡ old.candidates → new.waiting ≡ old.waiting → new.has_scope ≡ old.has_scope
-    → Comes s a.os (tree t true) new.at a.state → IsWriting s new (steps.Value false false)
+    → Comes s a.os (tree t true) new.at a.state → IsWriting s new (Step.Value false false)
 value-done s old new a t bytes prints text candidates waits scope comes =
     value-comes s new (kept-grown s old new bytes text candidates scope a.kept) a.os t old.text.list.items bytes false false text prints
     (ap (λ v. reverse v.list.items) waits) (λ e. cc e) comes a.stands
@@ -169,7 +146,7 @@ value-done s old new a t bytes prints text candidates waits scope comes =
 pub builtin-done : (s : Symbol) (old new : Direct) (letter : ℕ) → AwaitsType s old → (letter ≢ 0 → StandsAt s.bytes old.at (letter ∷ []))
     → look_up (letter ∷ []) builtin_texts ≢ [] → new.text.list.items ≡ old.text.list.items ++ look_up (letter ∷ []) builtin_texts
     → new.candidates ≡ old.candidates → new.waiting ≡ old.waiting → new.has_scope ≡ old.has_scope → new.at ≡ old.at + 1
-    → IsWriting s new (steps.Value false false)
+    → IsWriting s new (Step.Value false false)
 builtin-done s old new letter a stands has text candidates waits scope at =
     let is = builtin-listed letter has in
     let bytes : List ℕ = look_up (letter ∷ []) builtin_texts in
@@ -186,11 +163,10 @@ pub builtin-with-d-done : (s : Symbol) (old new : Direct) (letter : ℕ) → Awa
     → (letter ≢ 0 → StandsAt s.bytes (old.at + 1) (letter ∷ []))
     → is_builtin_with_d letter ≡ true → new.text.list.items ≡ old.text.list.items ++ look_up (68 ∷ letter ∷ []) builtin_texts
     → new.candidates ≡ old.candidates → new.waiting ≡ old.waiting → new.has_scope ≡ old.has_scope → new.at ≡ old.at + 1 + 1
-    → IsWriting s new (steps.Value false false)
+    → IsWriting s new (Step.Value false false)
 builtin-with-d-done s old new letter a first stands is text candidates waits scope at =
-    let has = builtin-with-d-text letter is in
     let bytes : List ℕ = look_up (68 ∷ letter ∷ []) builtin_texts in
-    value-done s old new a (builtin (68 ∷ letter ∷ [])) bytes (builtin-with-d-prints letter has) text candidates waits scope
+    value-done s old new a (builtin (68 ∷ letter ∷ [])) bytes (builtin-with-d-prints letter (builtin-with-d-text letter is)) text candidates waits scope
     (subst (λ k. Comes s a.os (tree (builtin (68 ∷ letter ∷ [])) true) k a.state) (omega (arith, at))
     (builtin-with-d-comes s a.kind a.around a.os old.at a.state letter a.typed is a.awaits
     (stands-join s.bytes old.at (68 ∷ []) (letter ∷ []) first (stands (no-builtin-with-d letter is)))))
@@ -259,8 +235,7 @@ pub std-named : (s : Symbol) (old mid new : Direct) (from : ℕ) (name : List �
 std-named s old mid new from name a s_stands t_stands text candidates waits scope at is some reads begins =
     named-from s old new from false false a (in_std (source false name)) (codes "std::" ++ source_text name)
     (std-opens s a.kind a.around a.os old.at a.state name new.at a.is_named a.begins (stands-join s.bytes old.at (83 ∷ []) (116 ∷ []) s_stands t_stands)
-    (subst (λ k. IsNameAt s.bytes k name new.at) (omega (arith, at)) is))
-    (reads.candidates ∙ candidates) (reads.scope ∙ scope)
+    (subst (λ k. IsNameAt s.bytes k name new.at) (omega (arith, at)) is)) (reads.candidates ∙ candidates) (reads.scope ∙ scope)
     (reads.text ∙ ap (λ l. l ++ source_text name) text ∙ append_assoc old.text.list.items (codes "std::") (source_text name))
     begins (std-prints false name some (name-unmarked s.bytes mid.at name new.at is)) (λ e. refl) (reads.waiting ∙ waits)
 
@@ -280,12 +255,12 @@ abbreviation-named s old new from letter a s_stands stands has text candidates w
 
 -- a substitution
 pub substitution-named : (s : Symbol) (old mid new : Direct) (n from : ℕ) (digits : List ℕ) (k : Candidate) → AwaitsNamedType s old → StandsAt s.bytes old.at (83 ∷ [])
-    → IsSeqAt s.bytes (old.at + 1) digits mid.at → k.from ≤ k.to → slice_get old.candidates.list.items (counted_value Seq36 digits) ≡ Some k
+    → IsSeqAt s.bytes (old.at + 1) digits mid.at → k.from ≤ k.to → slice_get old.candidates.list.items (counted_value NumberKind.Seq36 digits) ≡ Some k
     → Reads (record old { at = n }) mid [] → Writes mid new (take (k.to - k.from) (drop k.from mid.text.list.items)) → from ≡ length old.text.list.items
     → k.is_dependent ≡ false → IsTypeNamed s new from true k.is_reference
 substitution-named s old mid new n from digits k a stands is ordered found reads writes begins plain =
     let text = old.text.list.items in
-    let c = candidate-found text old.candidates.list.items a.state.candidates (counted_value Seq36 digits) k a.keeps.candidates ordered found in
+    let c = candidate-found text old.candidates.list.items a.state.candidates (counted_value NumberKind.Seq36 digits) k a.keeps.candidates ordered found in
     let piece = piece-found text c.2.bytes k.from k.to c.2.placed in
     let written : new.text.list.items ≡ text ++ c.2.bytes =
     writes.text ∙ ap (λ l. l ++ take (k.to - k.from) (drop k.from l)) (reads.text ∙ append-nil text) ∙ ap (λ l. text ++ l) piece.2 in
@@ -298,7 +273,7 @@ substitution-named s old mid new n from digits k a stands is ordered found reads
 
 -- a name of an argument
 pub named-again : (s : Symbol) (old new : Direct) (n : ℕ) (digits : List ℕ) (k : Candidate) → AwaitsNamedType s old → StandsAt s.bytes old.at (83 ∷ [])
-    → IsSeqAt s.bytes (old.at + 1) digits new.at → k.from ≤ k.to → slice_get old.candidates.list.items (counted_value Seq36 digits) ≡ Some k
+    → IsSeqAt s.bytes (old.at + 1) digits new.at → k.from ≤ k.to → slice_get old.candidates.list.items (counted_value NumberKind.Seq36 digits) ≡ Some k
     → Reads (record old { at = n }) new [] → k.is_dependent ≡ true → IsNamedAgain s new k
 named-again s old new n digits k a stands is ordered found reads dependent = record {
   before = old.at;
@@ -313,7 +288,7 @@ named-again s old new n digits k a stands is ordered found reads dependent = rec
   letter = stands;
   digits = digits;
   number = is;
-  found = subst (λ v. slice_get v.list.items (counted_value Seq36 digits) ≡ Some k) (sym reads.candidates) found;
+  found = subst (λ v. slice_get v.list.items (counted_value NumberKind.Seq36 digits) ≡ Some k) (sym reads.candidates) found;
   ordered = ordered;
   is = dependent;
 }
@@ -325,7 +300,7 @@ pub type-opened : (s : Symbol) (old new : Direct) (entry : Open) (from : ℕ) (m
     (t : TypeOpens s Kind.Type a.os a.around made (old.at + 1) a.state) → from ≡ length old.text.list.items
     → (Marks s (below s a.scope (reverse old.waiting.list.items)) t.inner old.text.list.items from made
     → Stands s a.scope (entry ∷ reverse old.waiting.list.items) t.inner old.text.list.items)
-    → IsScoped a.scope a.around (entry ∷ reverse old.waiting.list.items) → OpensEntry old new entry → IsWriting s new steps.Type
+    → IsScoped a.scope a.around (entry ∷ reverse old.waiting.list.items) → OpensEntry old new entry → IsWriting s new Step.Type
 type-opened s old new entry from made a t begins stands scoped entered =
     type-comes s old new a.kept a.around t.inner entered.text entered.candidates entered.scope
     (ap reverse entered.waiting ∙ reverse-last old.waiting.list.items entry) a.outside
@@ -334,37 +309,37 @@ type-opened s old new entry from made a t begins stands scoped entered =
 
 -- after a P
 pub pointer-opened : (s : Symbol) (old new : Direct) (from : ℕ) → AwaitsType s old → from ≡ length old.text.list.items
-    → StandsAt s.bytes old.at (80 ∷ []) → OpensEntry old new (opens.Pointer from) → IsWriting s new steps.Type
+    → StandsAt s.bytes old.at (80 ∷ []) → OpensEntry old new (Open.Pointer from) → IsWriting s new Step.Type
 pointer-opened s old new from a begins stands entered =
-    type-opened s old new (opens.Pointer from) from pointer a (pointer-opens s a.kind a.around a.os old.at a.state a.typed a.awaits stands) begins
+    type-opened s old new (Open.Pointer from) from pointer a (pointer-opens s a.kind a.around a.os old.at a.state a.typed a.awaits stands) begins
     (λ m. m) a.scoped entered
 
 -- the entry that waits for a referenced type
 abbrev pub reference_entry : (is_lvalue : Bool) → (from : ℕ) → Open
-reference_entry true from = opens.Lvalue from
-reference_entry false from = opens.Rvalue from
+reference_entry true from = Open.Lvalue from
+reference_entry false from = Open.Rvalue from
 
 -- after an R, and after an O
 pub reference-opened : (s : Symbol) (old new : Direct) (is_lvalue : Bool) (from : ℕ) (a : AwaitsType s old) → from ≡ length old.text.list.items
-    → StandsAt s.bytes old.at (reference_letter is_lvalue ∷ []) → OpensEntry old new (reference_entry is_lvalue from) → IsWriting s new steps.Type
+    → StandsAt s.bytes old.at (reference_letter is_lvalue ∷ []) → OpensEntry old new (reference_entry is_lvalue from) → IsWriting s new Step.Type
 reference-opened s old new true from a begins stands entered =
     let may : IsReferable a.kind = elim a.referable [ inl is_one ↦ is_one | inr none ↦ absurd (none.0 stands) ] in
-    type-opened s old new (opens.Lvalue from) from lvalue a (reference-type-opens s a.kind true a.around a.os old.at a.state may a.awaits stands) begins
+    type-opened s old new (Open.Lvalue from) from lvalue a (reference-type-opens s a.kind true a.around a.os old.at a.state may a.awaits stands) begins
     (λ m. m) a.scoped entered
 reference-opened s old new false from a begins stands entered =
     let may : IsReferable a.kind = elim a.referable [ inl is_one ↦ is_one | inr none ↦ absurd (none.1 stands) ] in
-    type-opened s old new (opens.Rvalue from) from rvalue a (reference-type-opens s a.kind false a.around a.os old.at a.state may a.awaits stands) begins
+    type-opened s old new (Open.Rvalue from) from rvalue a (reference-type-opens s a.kind false a.around a.os old.at a.state may a.awaits stands) begins
     (λ m. m) a.scoped entered
 
 -- expects a plain type after a K, where a whole one is expected
-pub const-opened : (s : Symbol) (old new : Direct) (from : ℕ) → IsWriting s old steps.Type → from ≡ length old.text.list.items
-    → StandsAt s.bytes old.at (75 ∷ []) → OpensEntry old new (opens.Const from) → IsWriting s new steps.Plain
+pub const-opened : (s : Symbol) (old new : Direct) (from : ℕ) → IsWriting s old Step.Type → from ≡ length old.text.list.items
+    → StandsAt s.bytes old.at (75 ∷ []) → OpensEntry old new (Open.Const from) → IsWriting s new Step.Plain
 const-opened s old new from p begins stands entered =
     let whole = whole-awaited s old p in
     let a = whole.0 in
     let t = const-opens s a.kind a.around a.os old.at a.state whole.1 a.awaits stands in
-    let open_is : reverse new.waiting.list.items ≡ opens.Const from ∷ reverse old.waiting.list.items
-    = ap reverse entered.waiting ∙ reverse-last old.waiting.list.items (opens.Const from) in
+    let open_is : reverse new.waiting.list.items ≡ Open.Const from ∷ reverse old.waiting.list.items
+    = ap reverse entered.waiting ∙ reverse-last old.waiting.list.items (Open.Const from) in
     record {
       kept = kept-same s old new entered.text entered.candidates entered.scope a.kept;
       is_before = (
@@ -375,7 +350,7 @@ const-opened s old new from p begins stands entered =
 
 -- a nested name is expected after an N
 pub nest-awaited : (s : Symbol) (old : Direct) (n : ℕ) → AwaitsNamedType s old → n ≡ old.at + 1 → StandsAt s.bytes old.at (78 ∷ [])
-    → AwaitsNest s (record old { at = n }) purposes.Type
+    → AwaitsNest s (record old { at = n }) Purpose.Type
 nest-awaited s old n a at stands =
     let t = nested-type-opens s a.kind a.around a.os old.at a.state a.is_named a.begins stands in
     record {

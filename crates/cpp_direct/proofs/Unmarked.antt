@@ -1,22 +1,14 @@
 -- Texts that have no marks.
-use Rattle.std.proofs.Common.{◌≡◌, refl, ap, sym, subst, ℕ, List, [], ◌∷◌, ◌++◌, length, Bool, true, false, arith, codes, cond}
-use Rattle.std.proofs.lemmas.Bool.{false≢true}
-use Rattle.std.specs.List.{AllByRecursion}
-use Rattle.sym_core.specs.declared.NameClass.TheVariants.{Cpp}
-use Rattle.cpp_direct.specs.AllTerms.{abbreviation_texts, adjusting, among, any_value, begins_with, builtin_texts, by_table, covariant, encoding_text, explicit_object, is_decimal_digit, is_name_byte, literal_endings, look_up, lvalue_only, Naming, non_virtual, operator_texts, qualifier_text, Qualifiers, ref_text, RefQualifier, rvalue_only, same_bytes, source_text, special_texts, Thunk, thunk_text}
+use Rattle.cpp_direct.proofs.Basics.{◌≡◌, refl, ap, sym, subst, ℕ, List, [], ◌∷◌, ◌++◌, length, Bool, true, false, arith, codes, cond, false≢true, AllByRecursion, abbreviation_texts, adjusting, among, any_value, begins_with, builtin_texts, by_table, covariant, encoding_text, explicit_object, is_decimal_digit, is_name_byte, literal_endings, look_up, lvalue_only, Naming, non_virtual, operator_texts, qualifier_text, Qualifiers, ref_text, RefQualifier, rvalue_only, same_bytes, source_text, special_texts, Thunk, thunk_text, first-unmarked, test-unmarked, IsNameAt, IsSuffix, is_suffix_byte, is_unmarked, IsUnmarked, operator_text, unmarked, unmarked_byte, NameClass}
 pub use Rattle.sym_direct.specs.Marked.{is_mark}
 pub use Rattle.sym_direct.proofs.Seen.{rest-unmarked, more-unmarked, unmarked-append, is-no-mark, each-unmarked}
-use Rattle.sym_direct.proofs.Seen.{first-unmarked, test-unmarked}
-use Rattle.cpp_direct.specs.AllHoles.{IsNameAt, IsSuffix}
-use Rattle.cpp_direct.specs.AllStates.{is_suffix_byte, is_unmarked, IsUnmarked, operator_text, unmarked, unmarked_byte}
 
 byte-same : (shown : Bool) (byte : ℕ) → is_mark byte ≡ false → unmarked_byte shown byte ≡ byte
 byte-same shown byte is = ap (λ b. elim b [ true ↦ elim shown [ true ↦ byte | false ↦ 0 ] | false ↦ byte ]) is
 
 pub unmarked-same : (shown : Bool) (bytes : List ℕ) → IsUnmarked bytes → unmarked shown bytes ≡ bytes
 unmarked-same shown [] plain = refl
-unmarked-same shown (byte ∷ bytes) plain =
-    let parts = first-unmarked byte bytes plain in cc (byte-same shown byte parts.0, unmarked-same shown bytes parts.1)
+unmarked-same shown (byte ∷ bytes) plain = let parts = first-unmarked byte bytes plain in cc (byte-same shown byte parts.0, unmarked-same shown bytes parts.1)
 
 pub length-unmarked : (shown : Bool) (bytes : List ℕ) → length (unmarked shown bytes) ≡ length bytes
 length-unmarked shown [] = refl
@@ -24,16 +16,15 @@ length-unmarked shown (byte ∷ bytes) = omega (arith, length-unmarked shown byt
 
 -- ## Names and digits
 
-pub name-byte : (byte : ℕ) → is_name_byte Cpp byte ≡ true → is_mark byte ≡ false
-name-byte byte is = test-unmarked (is_name_byte Cpp) refl refl byte is
+pub name-byte : (byte : ℕ) → is_name_byte NameClass.Cpp byte ≡ true → is_mark byte ≡ false
+name-byte byte is = test-unmarked (is_name_byte NameClass.Cpp) refl refl byte is
 
 digit-byte : (byte : ℕ) → is_decimal_digit byte ≡ true → is_mark byte ≡ false
 digit-byte byte is = test-unmarked is_decimal_digit refl refl byte is
 
 -- a name has none
 pub name-unmarked : (s : List ℕ) (at : ℕ) (name : List ℕ) (end : ℕ) → IsNameAt s at name end → IsUnmarked name
-name-unmarked s at name end is =
-    subst IsUnmarked is.own (each-unmarked (λ b. is_name_byte Cpp b ≡ true) name-byte is.token.own is.is_name.each)
+name-unmarked s at name end is = subst IsUnmarked is.own (each-unmarked (λ b. is_name_byte NameClass.Cpp b ≡ true) name-byte is.token.own is.is_name.each)
 
 -- nor have digits
 pub digits-unmarked : (digits : List ℕ) → AllByRecursion (λ b. is_decimal_digit b ≡ true) digits → IsUnmarked digits
@@ -70,8 +61,7 @@ looked-up [] all code = refl
 looked-up (n ∷ ns) all code = go (λ there. looked-up ns there code) (is_unmarked n.text) refl all (same_bytes code n.code)
   where
     go : (are_unmarked ns ≡ true → IsUnmarked (look_up code ns)) → (b : Bool) → is_unmarked n.text ≡ b
-        → elim b [ true ↦ are_unmarked ns | false ↦ false ] ≡ true → (same : Bool)
-        → IsUnmarked (elim same [ true ↦ n.text | false ↦ look_up code ns ])
+        → elim b [ true ↦ are_unmarked ns | false ↦ false ] ≡ true → (same : Bool) → IsUnmarked (elim same [ true ↦ n.text | false ↦ look_up code ns ])
     go rest false is there same = absurd (false≢true there)
     go rest true is there true = is
     go rest true is there false = rest there

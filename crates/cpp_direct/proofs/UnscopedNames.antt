@@ -1,29 +1,6 @@
 -- Names of encodings that are in no class, and of local entities: the state of the writer after them.
-use Rattle.cpp_direct.proofs.Unmarked.{name-unmarked}
-use Rattle.cpp_direct.proofs.Scopes.{no-arguments}
-use Rattle.std.proofs.Common.{◌≡◌, ◌≢◌, ℕ, ◌+◌, length, List, [], ◌∷◌, ◌++◌, Bool, true, false, not, cond, refl, ap, sym, subst, ◌∙◌, arith, append_assoc, codes, append-nil}
-use Rattle.std.proofs.lemmas.Bool.{false≢true}
-use Rattle.cpp_direct.specs.AllTerms.{after, alone, any_value, arguments_of, encoding_of, first_around, first_state, has_return_type, in_name, in_std, in_types, inside, instance, is_structor, Kind, may_be_empty, no_items, object, of_name, operator, source, source_text, State, Term, tree_of, Value, with_tag}
-use Rattle.cpp_grammar.specs.Values.{State, piece, tree, tree_of, qualifiers_of, ref_of, Value, nothing_there, named, unqualified}
-use Rattle.cpp_direct.specs.AllStates.{added, AwaitsEncoding, AwaitsEntity, AwaitsSource, detail_of, Direct, Encoded, encoding_place, EntityBehind, HasName, is_angle, is_local, IsFresh, IsNameEnded, IsOperatorAt, IsSymbolEnded, IsUnscoped, IsWriting, ItemsOf, Kept, Lists, no_scope, nowhere, OpensArguments, operator_text, Prints, PrintsName, Reads, Shows, Symbol, tag_text, Writes}
-use Rattle.cpp_direct.specs.AllHoles.{Comes, Discriminator, EncodingOpened, GuardOpened, IsDiscriminatorAt, IsEntityAt, IsNameAt, IsTagAt, LocalOpened, Named, Opened, StandsAt, SymbolOpened, entity_in}
-use Rattle.cpp_direct.proofs.Begins.{encoding-expected, items-await, encoded-whole}
-use Rattle.cpp_direct.proofs.Moves.{alone-arguments, expects-empty, stands-join, stands-split}
-use Rattle.cpp_direct.proofs.PrintedNests.{tagged-names, tagged-prints}
-use Rattle.cpp_direct.proofs.Kept.{kept-grown, kept-read, kept-same, none-kept, list-begins, kept-with}
-use Rattle.cpp_direct.proofs.NamePlaces.{reads-then, reads-of}
-use Rattle.cpp_direct.proofs.MovesOfEncodings.{name-source, name-internal, name-operator, name-std, operator-piece-comes, symbol-starts, encoding-opens, guard-opens}
-use Rattle.cpp_direct.proofs.MovesOfLists.{arguments-open}
-use Rattle.cpp_direct.proofs.MovesOfNests.{piece-comes, tag-follows}
-use Rattle.cpp_direct.proofs.LettersTested.{operator-listed}
-use Rattle.cpp_direct.proofs.PrintedNames.{as-name, source-prints, std-prints, operator-names, operator-prints, std-operator-names, std-operator-prints}
-use Rattle.cpp_direct.proofs.MovesOfLocals.{local-opens}
-use Rattle.cpp_direct.proofs.PrintedLocals.{entity-shows}
-use Rattle.cpp_direct.proofs.PrintedSymbols.{guarded-shows}
-use Rattle.cpp_direct.specs.declared.open.Mark.TheVariants as marks
-use Rattle.cpp_direct.specs.declared.open.Open.TheVariants as opens
-use Rattle.cpp_direct.specs.declared.open.Step.TheVariants as steps
-use Rattle.cpp_direct.proofs.Scopes.{has-plain}
+use Rattle.cpp_direct.proofs.AllGround.{◌≡◌, ◌≢◌, ℕ, ◌+◌, length, List, [], ◌∷◌, ◌++◌, Bool, true, false, not, cond, refl, ap, sym, subst, ◌∙◌, arith, append_assoc, codes, append-nil, false≢true, after, alone, any_value, arguments_of, encoding_of, first_around, first_state, has_return_type, in_name, in_std, in_types, inside, instance, is_structor, Kind, may_be_empty, no_items, object, of_name, operator, source, source_text, State, Term, tree_of, Value, with_tag, piece, tree, qualifiers_of, ref_of, nothing_there, named, unqualified, added, AwaitsEncoding, AwaitsEntity, AwaitsSource, detail_of, Direct, Encoded, encoding_place, EntityBehind, HasName, is_angle, is_local, IsFresh, IsNameEnded, IsOperatorAt, IsSymbolEnded, IsUnscoped, IsWriting, ItemsOf, Kept, Lists, no_scope, nowhere, OpensArguments, operator_text, Prints, PrintsName, Reads, Shows, Symbol, tag_text, Writes, Comes, Discriminator, EncodingOpened, GuardOpened, IsDiscriminatorAt, IsEntityAt, IsNameAt, IsTagAt, LocalOpened, Named, Opened, StandsAt, SymbolOpened, entity_in, Mark, Open, Step, name-unmarked, no-arguments, alone-arguments, expects-empty, stands-join, stands-split, kept-grown, kept-read, kept-same, none-kept, list-begins, kept-with, reads-then, reads-of, arguments-open, piece-comes, tag-follows, operator-listed, as-name, source-prints, std-prints, operator-names, operator-prints, std-operator-names, std-operator-prints, guarded-shows, has-plain}
+use Rattle.cpp_direct.proofs.AllRead.{encoding-expected, items-await, encoded-whole, tagged-names, tagged-prints, name-source, name-internal, name-operator, name-std, operator-piece-comes, symbol-starts, encoding-opens, guard-opens, local-opens, entity-shows}
 
 -- what isn't so
 pub not-so : (b other : Bool) → b ≡ other → not b ≡ true → other ≡ false
@@ -61,8 +38,7 @@ name-has s false w p at name end letter at_is is =
 unscoped-read : (s : Symbol) (old new : Direct) (takes : Bool) (own : Term) (bytes : List ℕ) (kept : Kept s old) (encoding : ℕ)
     → HasName s old.text.list.items encoding own new.at kept.state
     → Reads old new bytes → PrintsName (detail_of s) own bytes → (takes ≡ true → Prints (detail_of s) own bytes false) → has_return_type own ≡ false
-    → is_structor own ≡ false
-    → (from : ℕ) → from ≡ length old.text.list.items → IsUnscoped s new from takes
+    → is_structor own ≡ false → (from : ℕ) → from ≡ length old.text.list.items → IsUnscoped s new from takes
 unscoped-read s old new takes own bytes kept encoding has reads names prints no_return no_structor from from_is = record {
   kept = kept-read s old new bytes reads kept;
   encoding = encoding;
@@ -150,7 +126,7 @@ std-operator-unscoped s old marked read first second a b takes p letter next mar
 -- ## What comes after it
 
 -- no arguments
-pub unscoped-bare : (s : Symbol) (w : Direct) (from : ℕ) (takes : Bool) → IsUnscoped s w from takes → IsNameEnded s w marks.Plain false nowhere from
+pub unscoped-bare : (s : Symbol) (w : Direct) (from : ℕ) (takes : Bool) → IsUnscoped s w from takes → IsNameEnded s w Mark.Plain false nowhere from
 unfolding may_be_empty
 unscoped-bare s w from takes p = record {
   kept = p.kept;
@@ -193,7 +169,7 @@ unscoped-tagged s old new from takes tag wide p is reads =
 
 -- arguments
 pub unscoped-argued : (s : Symbol) (read kept new : Direct) (from : ℕ) (takes : Bool) → IsUnscoped s read from takes → takes ≡ true → StandsAt s.bytes read.at (73 ∷ [])
-    → Lists read kept (added read from false false) → OpensArguments (detail_of s) kept new (opens.NameArguments from) → IsWriting s new (steps.List true)
+    → Lists read kept (added read from false false) → OpensArguments (detail_of s) kept new (Open.NameArguments from) → IsWriting s new (Step.List true)
 unfolding in_name inside
 unscoped-argued s read kept new from takes p some there lists opening_ =
     let here = in_name p.encoding in
@@ -202,7 +178,7 @@ unscoped-argued s read kept new from takes p some there lists opening_ =
     let prints = p.prints some in
     list-begins s read kept new (added read from false false)
     (kept-with s read kept p.kept p.front p.bytes from p.own here false false p.written p.from_is prints (λ e. absurd (false≢true e))
-    lists.text lists.candidates lists.scope) (opens.NameArguments from) p.front p.bytes p.own lists opening_ (p.from_is, prints, p.no_structor) p.written (
+    lists.text lists.candidates lists.scope) (Open.NameArguments from) p.front p.bytes p.own lists opening_ (p.from_is, prints, p.no_structor) p.written (
       inside here,
       list.inner,
       refl,
@@ -215,8 +191,7 @@ unscoped-argued s read kept new from takes p some there lists opening_ =
 
 -- a name without items is the encoding of a symbol
 object-comes : (s : Symbol) (opened_ : SymbolOpened s) (encoding_ : EncodingOpened s opened_.inner 2 first_state) (v : Value) (at : ℕ) (st : State)
-    → Comes s encoding_.inner v at st
-    → Comes s opened_.inner (tree (object (tree_of v) (qualifiers_of v) (ref_of v)) true) at st
+    → Comes s encoding_.inner v at st → Comes s opened_.inner (tree (object (tree_of v) (qualifiers_of v) (ref_of v)) true) at st
 unfolding encoding_of no_items may_be_empty
 object-comes s opened_ encoding_ v at st comes =
     let items = encoding_.onward v at st comes in

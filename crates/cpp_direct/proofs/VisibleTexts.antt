@@ -1,13 +1,6 @@
 -- What is written of a tree is what it shows once what is between marks is left out.
-use Rattle.std.proofs.Common.{◌≡◌, ◌≢◌, ◌⊎◌, inl, inr, refl, ap, sym, subst, ◌∙◌, ℕ, zero, suc, ◌≤◌, List, [], ◌∷◌, ◌++◌, length, Bool, true, false, Option, Some, None, arith, append-nil, append_assoc}
-use Rattle.std.specs.Option.{OnSome}
-use Rattle.cpp_direct.specs.AllTerms.{closes, Context, Detail, first, Form, has_arguments, HasNoZero, instance, instance_parts, is_mark, Item, left, left_parts, list_part, low, low_parts, not_empty, opens, parts, parts_in, rank, root_item, shown, Term, visible}
-use Rattle.sym_print.specs.Unfold.{PartOf, text, sub, printed_parts, printed_to, printed}
-use Rattle.sym_print.specs.Unshared.{Unshared, text_of, cost_of}
-use Rattle.sym_direct.proofs.Seen.{more-unmarked, unmarked-hidden, unmarked-seen, stretch-left}
-use Rattle.cpp_direct.specs.AllStates.{detail_by, detail_of, IsShown, IsUnmarked, IsWhole, Symbol, unmarked, unmarked_byte, unmarked_parts, written, written_in, written_instance, written_parts}
-use Rattle.cpp_direct.proofs.PrintedParts.{parts-joined, list-unmarked}
-use Rattle.cpp_direct.proofs.Unmarked.{is_mark, more-unmarked, unmarked-same, length-unmarked}
+use Rattle.cpp_direct.proofs.AllGround.{◌≡◌, ◌≢◌, ◌⊎◌, inl, inr, refl, ap, sym, subst, ◌∙◌, ℕ, zero, suc, ◌≤◌, List, [], ◌∷◌, ◌++◌, length, Bool, true, false, Option, Some, None, arith, append-nil, append_assoc, OnSome, closes, Context, Detail, first, Form, has_arguments, HasNoZero, instance, instance_parts, is_mark, Item, left, left_parts, list_part, low, low_parts, not_empty, opens, parts, parts_in, rank, root_item, shown, Term, visible, PartOf, text, sub, printed_parts, printed_to, Unshared, text_of, cost_of, more-unmarked, unmarked-hidden, unmarked-seen, stretch-left, detail_by, detail_of, IsShown, IsUnmarked, IsWhole, Symbol, unmarked, unmarked_byte, unmarked_parts, written, written_in, written_instance, written_parts, parts-joined, list-unmarked, is_mark, more-unmarked, unmarked-same, length-unmarked}
+use Rattle.sym_print.specs.Unfold.{printed}
 
 -- ## Bytes
 
@@ -70,11 +63,6 @@ parts-seen f h each (sub i ∷ ps) rest =
 
 -- ## Instances
 
--- the text of an instance's arguments is hidden
-arguments-hidden : (f : Item → Unshared) → ((i : Item) → IsHidden (f i)) → (c : Context) (a : Term) → IsHidden (printed_parts f (not_empty (list_part first c a)))
-arguments-hidden f each c a =
-    subst (λ ps. IsHidden (printed_parts f (not_empty ps))) (list-unmarked false first c a) (parts-hidden f each (list_part first c a))
-
 -- so what follows the name of a template up to the last mark is left out
 abbrev marked_text : (f : Item → Unshared) (c : Context) (a : Term) → List ℕ
 marked_text f c a = text_of (printed_parts f (not_empty (list_part first c a ++ (text (closes ∷ []) ∷ []))))
@@ -86,7 +74,7 @@ arguments-left f each c a depth rest =
     let inner = text_of (printed_parts f (not_empty (list_part first c a))) in
     ap (λ l. visible depth (opens ∷ (l ++ rest))) (parts-joined f (list_part first c a) (text (closes ∷ []) ∷ []))
     ∙ ap (λ l. visible depth (opens ∷ l)) (append_assoc inner (closes ∷ []) rest)
-    ∙ stretch-left inner (arguments-hidden f each c a) depth rest
+    ∙ stretch-left inner (subst (λ ps. IsHidden (printed_parts f (not_empty ps))) (list-unmarked false first c a) (parts-hidden f each (list_part first c a))) depth rest
 
 instance-hidden : (f : Item → Unshared) → ((i : Item) → IsHidden (f i)) → (c : Context) (t a : Term)
     → IsHidden (printed_parts f (not_empty (written_instance false c t a)))
@@ -94,17 +82,14 @@ unfolding not_empty
 instance-hidden f each c t a depth rest =
     let own = text_of (f (record { tree = t; form = left; context = c })) in
     ap (visible (suc depth)) (append_assoc own (opens ∷ marked_text f c a) rest)
-    ∙ each (record { tree = t; form = left; context = c }) depth (opens ∷ (marked_text f c a ++ rest))
-    ∙ arguments-left f each c a (suc depth) rest
+    ∙ each (record { tree = t; form = left; context = c }) depth (opens ∷ (marked_text f c a ++ rest)) ∙ arguments-left f each c a (suc depth) rest
 
 instance-seen : (f h : Item → Unshared) → ((i : Item) → IsHidden (f i)) → ((i : Item) → IsSeen (f i) (h i)) → (c : Context) (t a : Term)
     → IsSeen (printed_parts f (not_empty (written_instance false c t a))) (printed_parts h (not_empty (instance_parts false c t a)))
 unfolding not_empty instance_parts
 instance-seen f h hidden each c t a rest =
     let i : Item = record { tree = t; form = left; context = c } in
-    let own = text_of (f i) in
-    ap (visible 0) (append_assoc own (opens ∷ marked_text f c a) rest)
-    ∙ each i (opens ∷ (marked_text f c a ++ rest))
+    ap (visible 0) (append_assoc (text_of (f i)) (opens ∷ marked_text f c a) rest) ∙ each i (opens ∷ (marked_text f c a ++ rest))
     ∙ ap (λ l. unmarked false (text_of (h i)) ++ l) (arguments-left f hidden c a 0 rest)
     ∙ ap (λ l. unmarked false l ++ visible 0 rest) (sym (append-nil (text_of (h i))))
 
@@ -187,8 +172,7 @@ cost-to d brief (suc n) i =
 visible-written : (d : Detail) → has_arguments d ≡ false → (i : Item) → visible 0 (text_of (written d i)) ≡ unmarked false (text_of (shown d i))
 unfolding printed visible
 visible-written d brief i =
-    let u = text_of (written d i) in
-    ap (visible 0) (sym (append-nil u)) ∙ seen-to d brief (suc (rank i)) i [] ∙ append-nil (unmarked false (text_of (shown d i)))
+    ap (visible 0) (sym (append-nil (text_of (written d i)))) ∙ seen-to d brief (suc (rank i)) i [] ∙ append-nil (unmarked false (text_of (shown d i)))
 
 -- It costs no more.
 shown-cost : (d : Detail) → has_arguments d ≡ false → (i : Item) → cost_of (shown d i) ≤ cost_of (written d i)
@@ -275,12 +259,7 @@ whole-shown s whole bytes p =
     let d = detail_of s in
     let i = root_item p.whole in
     let same : written d i ≡ shown d i = same-to d (ap (λ b. has_arguments (detail_by s.is_bare b)) whole ∙ whole-by s.is_bare) (suc (rank i)) i in
-    record {
-      whole = p.whole;
-      stands = p.stands;
-      text_is = ap text_of (sym same) ∙ p.text_is;
-      cost = omega (arith, p.cost, ap cost_of same);
-    }
+    record { whole = p.whole; stands = p.stands; text_is = ap text_of (sym same) ∙ p.text_is; cost = omega (arith, p.cost, ap cost_of same) }
 
 -- The same holds for what is left where something is.
 pub left-shown : {T : Type 0} (r : Option T) (s : Symbol) → s.is_brief ≡ true → (old new : List ℕ) → IsWhole s old → OnSome r (new ≡ visible 0 old)

@@ -6,30 +6,33 @@ use Rattle.cpp_layout.specs.declared.context.Context.{Context}
 use Rattle.cpp_layout.specs.Layout.{ReadSymbol, table_of, unshared_of}
 use Rattle.cpp_tree.specs.Views.{plain_tree}
 use Rattle.sym_print.specs.declared.layout.Item.{Item}
-use Rattle.sym_print.specs.Unshared.{steps_of}
+use Rattle.sym_print.specs.Unshared.{cost_of, steps_of}
 use Rattle.sym_parts.specs.declared.role.Role.{Role}
+use Rattle.sym_parts.specs.declared.spelling.Ordinal.{Ordinal}
+use Rattle.cpp_parts.specs.declared.numbering.Numbering.{Numbering}
 use Rattle.sym_parts.specs.Marked.{Marked, text, marked, text_of, ◌before◌}
 use Rattle.sym_parts.specs.Marked as marks
 use Rattle.sym_parts.specs.Marks.{skip, begin, marks_of}
 use Rattle.sym_parts.proofs.Turns.{marks_of-before}
-use Rattle.cpp_parts.specs.Roles.{elements, name, encoding, alone}
-use Rattle.cpp_parts.specs.Tasks.{marks_of_task, marks_of_tasks, IsTask, IsPayable, weight_of_task, weight_of_tasks, Grows}
+use Rattle.sym_parts.specs.Plain.{alone}
+use Rattle.cpp_parts.specs.Roles.{elements, name, encoding}
+use Rattle.cpp_parts.specs.Tasks.{count_of, marks_of_task, marks_of_tasks, IsTask, IsPayable, weight_of_task, weight_of_tasks, Grows}
 use Rattle.cpp_parts.specs.declared.task.Task.{Task}
 use Rattle.cpp_parts.specs.declared.task.Task.TheVariants as task
 
 -- one marked text before another, before a third
-pub before-assoc : (m n o : Marked) → (m before n) before o ≡ m before (n before o)
+pub before-assoc : (m n others : Marked) → (m before n) before others ≡ m before (n before others)
 unfolding ◌before◌
-before-assoc marks.done n o = refl
-before-assoc (text b rest) n o = ap (text b) (before-assoc rest n o)
-before-assoc (marked r inside rest) n o = ap (marked r inside) (before-assoc rest n o)
+before-assoc marks.done n others = refl
+before-assoc (text b rest) n others = ap (text b) (before-assoc rest n others)
+before-assoc (marked r o inside rest) n others = ap (marked r o inside) (before-assoc rest n others)
 
 -- before nothing
 pub before-done : (m : Marked) → m before marks.done ≡ m
 unfolding ◌before◌
 before-done marks.done = refl
 before-done (text b rest) = ap (text b) (before-done rest)
-before-done (marked r inside rest) = ap (marked r inside) (before-done rest)
+before-done (marked r o inside rest) = ap (marked r o inside) (before-done rest)
 
 module _ (y : ReadSymbol) (most : ℕ) where
   -- the same marks, in no more steps
@@ -67,19 +70,19 @@ module _ (y : ReadSymbol) (most : ℕ) where
     };
   }
 
-  -- the beginning of a part, before what is in it
-  pub grow-begin : (old between new : List Task) (role : Role) (n : ℕ) (inside : Marked) (s : ℕ) → new ≡ task.Begin role n ∷ between → n ≡ length (text_of inside)
-      → Grows y most old between inside s → Grows y most old new (marked role inside marks.done) (s + 1)
+  -- the beginning of a stretch, before what is in it
+  pub grow-begin : (old between new : List Task) (role : Role) (ordinal : Ordinal) (n : ℕ) (inside : Marked) (s : ℕ) → new ≡ task.Begin role ordinal n ∷ between → n ≡ length (text_of inside)
+      → Grows y most old between inside s → Grows y most old new (marked role ordinal inside marks.done) (s + 1)
   unfolding marks_of ◌before◌ marks_of_tasks marks_of_task IsTask weight_of_tasks weight_of_task
-  grow-begin old between new role n inside s is long grows = record {
+  grow-begin old between new role ordinal n inside s is long grows = record {
     adds = λ others behind taken adds.
         let one = grows.adds others behind taken adds in
         record {
           marks =
               ap (marks_of_tasks y) is
-              ∙ ap (λ ms. begin role n ∷ ms) (one.marks ∙ ap (λ ms. ms ++ marks_of_tasks y others) (marks_of-before inside behind))
-              ∙ ap (λ l. begin role l ∷ ((marks_of inside ++ marks_of behind) ++ marks_of_tasks y others)) long;
-          all = λ h. subst (All (IsTask y most)) (sym is) (All-cons (IsTask y most) (task.Begin role n) between tt (one.all h));
+              ∙ ap (λ ms. begin role ordinal n ∷ ms) (one.marks ∙ ap (λ ms. ms ++ marks_of_tasks y others) (marks_of-before inside behind))
+              ∙ ap (λ l. begin role ordinal l ∷ ((marks_of inside ++ marks_of behind) ++ marks_of_tasks y others)) long;
+          all = λ h. subst (All (IsTask y most)) (sym is) (All-cons (IsTask y most) (task.Begin role ordinal n) between tt (one.all h));
           weight = omega (arith, ap (weight_of_tasks y) is, one.weight);
         };
   }
@@ -100,26 +103,26 @@ module _ (y : ReadSymbol) (most : ℕ) where
     };
   }
 
-  pub grow-name : (old new : List Task) (node : ℕ) (i : Item Context) → new ≡ task.Name node i ∷ old → node < length y.table.nodes → IsPayable y most i
-      → Grows y most old new (name (plain_tree (table_of y) node) (unshared_of y i)) (4 * steps_of (unshared_of y i))
+  pub grow-name : (old new : List Task) (tags node : ℕ) (i : Item Context) → new ≡ task.Name tags node i ∷ old → node < length y.table.nodes → IsPayable y most i → tags + cost_of (unshared_of y i) ≤ most
+      → Grows y most old new (name tags (plain_tree (table_of y) node) (unshared_of y i)) (4 * steps_of (unshared_of y i))
   unfolding marks_of_task IsTask weight_of_task
-  grow-name old new node i is below payable = grow-task old new (task.Name node i) (name (plain_tree (table_of y) node) (unshared_of y i)) is refl (below, payable)
+  grow-name old new tags node i is below payable fits = grow-task old new (task.Name tags node i) (name tags (plain_tree (table_of y) node) (unshared_of y i)) is refl (below, payable, fits)
 
-  pub grow-encoding : (old new : List Task) (node : ℕ) (i : Item Context) → new ≡ task.Encoding node i ∷ old → node < length y.table.nodes → IsPayable y most i
-      → Grows y most old new (encoding (plain_tree (table_of y) node) (unshared_of y i)) (4 * steps_of (unshared_of y i))
+  pub grow-encoding : (old new : List Task) (specials node : ℕ) (i : Item Context) → new ≡ task.Encoding specials node i ∷ old → node < length y.table.nodes → IsPayable y most i → specials + cost_of (unshared_of y i) ≤ most
+      → Grows y most old new (encoding specials (plain_tree (table_of y) node) (unshared_of y i)) (4 * steps_of (unshared_of y i))
   unfolding marks_of_task IsTask weight_of_task
-  grow-encoding old new node i is below payable =
-      grow-task old new (task.Encoding node i) (encoding (plain_tree (table_of y) node) (unshared_of y i)) is refl (below, payable)
+  grow-encoding old new specials node i is below payable fits =
+      grow-task old new (task.Encoding specials node i) (encoding specials (plain_tree (table_of y) node) (unshared_of y i)) is refl (below, payable, fits)
 
-  pub grow-elements : (old new : List Task) (role : Role) (node : ℕ) (i : Item Context) → new ≡ task.Elements role node i ∷ old → node < length y.table.nodes → IsPayable y most i
-      → Grows y most old new (elements role (plain_tree (table_of y) node) (unshared_of y i)) (4 * steps_of (unshared_of y i))
+  pub grow-elements : (old new : List Task) (role : Role) (numbers : Numbering) (node : ℕ) (i : Item Context) → new ≡ task.Elements role numbers node i ∷ old → node < length y.table.nodes → IsPayable y most i → count_of numbers + cost_of (unshared_of y i) ≤ most
+      → Grows y most old new (elements role numbers (plain_tree (table_of y) node) (unshared_of y i)) (4 * steps_of (unshared_of y i))
   unfolding marks_of_task IsTask weight_of_task
-  grow-elements old new role node i is below payable =
-      grow-task old new (task.Elements role node i) (elements role (plain_tree (table_of y) node) (unshared_of y i)) is refl (below, payable)
+  grow-elements old new role numbers node i is below payable fits =
+      grow-task old new (task.Elements role numbers node i) (elements role numbers (plain_tree (table_of y) node) (unshared_of y i)) is refl (below, payable, fits)
 
   -- one part of this many bytes
-  pub grow-alone : (old between new : List Task) (role : Role) (n : ℕ) (b : List ℕ) → between ≡ task.Skip n ∷ old → new ≡ task.Begin role n ∷ between → n ≡ length b
-      → Grows y most old new (alone role b marks.done) 2
+  pub grow-alone : (old between new : List Task) (role : Role) (ordinal : Ordinal) (n : ℕ) (b : List ℕ) → between ≡ task.Skip n ∷ old → new ≡ task.Begin role ordinal n ∷ between → n ≡ length b
+      → Grows y most old new (alone role ordinal b marks.done) 2
   unfolding text_of
-  grow-alone old between new role n b first second long =
-      grow-begin old between new role n (text b marks.done) 1 second (long ∙ ap length (sym (append-nil b))) (grow-skip old between n b first long)
+  grow-alone old between new role ordinal n b first second long =
+      grow-begin old between new role ordinal n (text b marks.done) 1 second (long ∙ ap length (sym (append-nil b))) (grow-skip old between n b first long)

@@ -1,12 +1,11 @@
 -- What the production of a node says of what a symbol is.
-use Rattle.std.proofs.Common.{◌≡◌, ℕ, ◌<◌, List, [], ◌∷◌, length, get_or, slice_get, Option, Some, None, Bool, true, false, refl, sym, ap, ◌∙◌, arith}
+use Rattle.std.proofs.Common.{◌≡◌, ℕ, ◌<◌, List, [], ◌∷◌, length, get_or, slice_get, Option, Some, None, Bool, true, false, refl, ap, ◌∙◌, arith}
 use Rattle.std.specs.Prelude.{nat_eq, ◌+◌, ◌*◌, ◌==◌, if◌then◌else◌}
-use Rattle.cpp_grammar.specs.Term.{Term, symbol, function, object, special, thunk, of_name, construction, clone, alone, in_std, within, instance, local, holder, tagged, of_default, operator, builtin, absent, non_virtual, by_table, Thunk, adjusting, covariant, Qualifiers, RefQualifier}
+use Rattle.cpp_grammar.specs.Term.{Term, symbol, function, object, thunk, of_name, alone, in_std, within, instance, local, holder, tagged, of_default, operator, builtin, absent, non_virtual, by_table, Thunk, adjusting, covariant, Qualifiers, RefQualifier}
 use Rattle.cpp_tree.specs.Fields.{Fields, fields, fields_of, name_fields, named_fields, thunk_fields, local_fields, qualifiers_number, mark_number, tree_from, offsets_of}
 use Rattle.cpp_tree.specs.declared.tree_production.TheConstants.{FUNCTION, OBJECT, LOCAL, NUMBERED_LOCAL, GUARD, OF_NAME, NESTED_OPERATOR, SYMBOL}
-use Rattle.sym_parts.specs.declared.kind.NameKind.{NameKind}
 use Rattle.sym_parts.specs.declared.kind.NameKind.TheVariants as kind
-use Rattle.cpp_parts.specs.Kinds.{own_name, piece_of, is_lambda_piece, is_lambda, is_in_lambda, is_call, piece_kind, named_kind, is_string, object_kind, special_kind, of_name_kind, thunk_kind, encoding_kind, kind_of_symbol}
+use Rattle.cpp_parts.specs.Kinds.{own_name, piece_of, is_lambda_piece, is_lambda, is_in_lambda, is_call, piece_kind, named_kind, is_string, object_kind, of_name_kind, thunk_kind, encoding_kind, kind_of_symbol}
 use Rattle.cpp_parts.specs.KindNumbers.{is_any, is_string_by, is_lambda_by, is_constructor_by, is_operator_by, inner_part_by, called_kind, local_kind, piece_kind_by, other_kind_by}
 
 -- the first part of a tree

@@ -4,6 +4,7 @@ mod Measuring
 mod Standing
 mod Sorting
 mod Splitting
-mod Texts
+pub mod Texts
 mod Walking
 mod Kinding
+mod Rows

@@ -10,8 +10,10 @@ use Rattle.sym_print.specs.Unshared.{Unshared, text_of}
 use Rattle.sym_parts.specs.Marked.{Marked, text, marked, ◌before◌}
 use Rattle.sym_parts.specs.Marked as marks
 use Rattle.sym_parts.specs.declared.role.Role.{Role}
+use Rattle.cpp_parts.specs.declared.numbering.Numbering.{Numbering}
 use Rattle.sym_parts.proofs.Marks.{text_of-before}
-use Rattle.cpp_parts.specs.Roles.{plain, elements}
+use Rattle.sym_parts.specs.Plain.{plain}
+use Rattle.cpp_parts.specs.Roles.{elements}
 use Rattle.cpp_parts.proofs.Texts.{text-elements}
 
 -- the text of a part that is no item
@@ -37,18 +39,18 @@ unfolding marks.text_of
 length-two b c n m first second = omega (arith, first, second, length-append b (c ++ []), length-append c [])
 
 -- a list in brackets
-pub length-listed : (r : Role) (t : Term) (opening close : List ℕ) (u : Unshared) (n inside closing : ℕ) → length opening ≡ n → inside ≡ length (text_of u) → closing ≡ length close
-    → (n + inside) + closing ≡ length (marks.text_of (text opening (elements r t u before text close marks.done)))
+pub length-listed : (r : Role) (o : Numbering) (t : Term) (opening close : List ℕ) (u : Unshared) (n inside closing : ℕ) → length opening ≡ n → inside ≡ length (text_of u) → closing ≡ length close
+    → (n + inside) + closing ≡ length (marks.text_of (text opening (elements r o t u before text close marks.done)))
 unfolding marks.text_of
-length-listed r t opening close u n inside closing first list last =
+length-listed r o t opening close u n inside closing first list last =
     omega (
       arith,
       first,
       list,
       last,
-      length-append opening (marks.text_of (elements r t u before text close marks.done)),
-      ap length (text_of-before (elements r t u) (text close marks.done)),
-      length-append (marks.text_of (elements r t u)) (close ++ []),
-      ap length (text-elements r t u),
+      length-append opening (marks.text_of (elements r o t u before text close marks.done)),
+      ap length (text_of-before (elements r o t u) (text close marks.done)),
+      length-append (marks.text_of (elements r o t u)) (close ++ []),
+      ap length (text-elements r o t u),
       length-append close [],
     )

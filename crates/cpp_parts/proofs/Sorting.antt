@@ -8,9 +8,12 @@ use Rattle.cpp_tree.specs.Views.{plain_tree}
 use Rattle.cpp_tree.specs.Fields.{Fields, fields_of, thunk_fields, local_fields, tree_from, offsets_of}
 use Rattle.cpp_tree.specs.declared.tree_production.TheConstants.{ABSENT, LIST, SYMBOL, FUNCTION, OBJECT, CLONE, THUNK, TABLE_THUNK, COVARIANT_THUNK, WIDE_THUNK, INSTANCE, LOCAL, NUMBERED_LOCAL, HOLDER, TAGGED, OF_DEFAULT, ABBREVIATION, PACK, EXPANSION}
 use Rattle.sym_print.specs.Unshared.{Unshared, done, bytes, item}
-use Rattle.cpp_parts.specs.Roles.{name, named, encoding, special_name, is_absent, element_of, rest_of, within, returning, plain}
+use Rattle.sym_parts.specs.Plain.{plain}
+use Rattle.cpp_parts.specs.Roles.{name, named, encoding, special_name, is_absent, element_of, rest_of, within, inside, ordinal_of, returning}
 use Rattle.sym_parts.specs.Marked.{◌before◌}
 use Rattle.cpp_parts.specs.Sorts.{name_by, encoding_by}
+use Rattle.cpp_parts.specs.declared.numbering.Numbering.{Numbering}
+use Rattle.cpp_parts.specs.declared.numbering.Numbering.TheVariants as numbering
 use Rattle.cpp_parts.specs.declared.sorts.NameSort.TheVariants as names
 use Rattle.cpp_parts.specs.declared.sorts.EncodingSort.TheVariants as encodings
 
@@ -101,36 +104,36 @@ module _ (t : Term) (whole : t ≡ tree_from (fields_of t) (offsets_of t)) where
 
 -- ## What is none of these
 
-pub name-other : (t : Term) (u : Unshared) → ((fields_of t).production ≡ INSTANCE → ⊥) → ((fields_of t).production ≡ TAGGED → ⊥) → ((fields_of t).production ≡ LOCAL → ⊥)
-    → ((fields_of t).production ≡ NUMBERED_LOCAL → ⊥) → ((fields_of t).production ≡ HOLDER → ⊥) → ((fields_of t).production ≡ ABBREVIATION → ⊥) → name t u ≡ named u
+pub name-other : (tags : ℕ) (t : Term) (u : Unshared) → ((fields_of t).production ≡ INSTANCE → ⊥) → ((fields_of t).production ≡ TAGGED → ⊥) → ((fields_of t).production ≡ LOCAL → ⊥)
+    → ((fields_of t).production ≡ NUMBERED_LOCAL → ⊥) → ((fields_of t).production ≡ HOLDER → ⊥) → ((fields_of t).production ≡ ABBREVIATION → ⊥) → name tags t u ≡ named u
 unfolding name fields_of local_fields
-name-other (instance a b) u i g l n h r = absurd (i refl)
-name-other (tagged s a tag) u i g l n h r = absurd (g refl)
-name-other (local a b None) u i g l n h r = absurd (l refl)
-name-other (local a b (Some d)) u i g l n h r = absurd (n refl)
-name-other (holder a) u i g l n h r = absurd (h refl)
-name-other (abbreviation a) u i g l n h r = absurd (r refl)
-name-other t done i g l n h r = refl
-name-other t (bytes b rest) i g l n h r = refl
-name-other t (item one rest) i g l n h r = refl
+name-other tags (instance a b) u i g l n h r = absurd (i refl)
+name-other tags (tagged s a tag) u i g l n h r = absurd (g refl)
+name-other tags (local a b None) u i g l n h r = absurd (l refl)
+name-other tags (local a b (Some d)) u i g l n h r = absurd (n refl)
+name-other tags (holder a) u i g l n h r = absurd (h refl)
+name-other tags (abbreviation a) u i g l n h r = absurd (r refl)
+name-other tags t done i g l n h r = refl
+name-other tags t (bytes b rest) i g l n h r = refl
+name-other tags t (item one rest) i g l n h r = refl
 
-pub encoding-other : (t : Term) (u : Unshared) → ((fields_of t).production ≡ FUNCTION → ⊥) → ((fields_of t).production ≡ OBJECT → ⊥) → ((fields_of t).production ≡ THUNK → ⊥)
+pub encoding-other : (specials : ℕ) (t : Term) (u : Unshared) → ((fields_of t).production ≡ FUNCTION → ⊥) → ((fields_of t).production ≡ OBJECT → ⊥) → ((fields_of t).production ≡ THUNK → ⊥)
     → ((fields_of t).production ≡ TABLE_THUNK → ⊥) → ((fields_of t).production ≡ COVARIANT_THUNK → ⊥) → ((fields_of t).production ≡ WIDE_THUNK → ⊥) → ((fields_of t).production ≡ CLONE → ⊥)
-    → encoding t u ≡ special_name u
+    → encoding specials t u ≡ special_name specials u
 unfolding encoding fields_of thunk_fields
-encoding-other (function a q m b c) u f v k l n w r = absurd (f refl)
-encoding-other (object a q m) u f v k l n w r = absurd (v refl)
-encoding-other (thunk (adjusting (non_virtual a)) e) u f v k l n w r = absurd (k refl)
-encoding-other (thunk (adjusting (by_table a b)) e) u f v k l n w r = absurd (l refl)
-encoding-other (thunk (covariant (non_virtual a) (non_virtual b)) e) u f v k l n w r = absurd (n refl)
-encoding-other (thunk (covariant (non_virtual a) (by_table b c)) e) u f v k l n w r = absurd (w refl)
-encoding-other (thunk (covariant (by_table a b) c) e) u f v k l n w r = absurd (w refl)
-encoding-other (clone a e) u f v k l n w r = absurd (r refl)
-encoding-other t done f v k l n w r = refl
-encoding-other t (item one rest) f v k l n w r = refl
-encoding-other t (bytes b done) f v k l n w r = refl
-encoding-other t (bytes b (bytes c rest)) f v k l n w r = refl
-encoding-other t (bytes b (item one rest)) f v k l n w r = refl
+encoding-other specials (function a q m b c) u f v k l n w r = absurd (f refl)
+encoding-other specials (object a q m) u f v k l n w r = absurd (v refl)
+encoding-other specials (thunk (adjusting (non_virtual a)) e) u f v k l n w r = absurd (k refl)
+encoding-other specials (thunk (adjusting (by_table a b)) e) u f v k l n w r = absurd (l refl)
+encoding-other specials (thunk (covariant (non_virtual a) (non_virtual b)) e) u f v k l n w r = absurd (n refl)
+encoding-other specials (thunk (covariant (non_virtual a) (by_table b c)) e) u f v k l n w r = absurd (w refl)
+encoding-other specials (thunk (covariant (by_table a b) c) e) u f v k l n w r = absurd (w refl)
+encoding-other specials (clone a e) u f v k l n w r = absurd (r refl)
+encoding-other specials t done f v k l n w r = refl
+encoding-other specials t (item one rest) f v k l n w r = refl
+encoding-other specials t (bytes b done) f v k l n w r = refl
+encoding-other specials t (bytes b (bytes c rest)) f v k l n w r = refl
+encoding-other specials t (bytes b (item one rest)) f v k l n w r = refl
 
 pub element-other : (t : Term) → ((fields_of t).production ≡ LIST → ⊥) → element_of t ≡ t
 unfolding element_of fields_of
@@ -148,6 +151,25 @@ within-other (pack a) p e = absurd (p refl)
 within-other (expansion a) p e = absurd (e refl)
 within-other t p e = refl
 
+-- the numbers of the elements of an element
+
+pub inside-pack : (o : Numbering) (t e : Term) (n : ℕ) → o ≡ numbering.Items n → t ≡ pack e → numbering.Elements n 1 ≡ inside o t
+unfolding inside
+inside-pack o t e n numbers is = sym (ap (λ x. inside x t) numbers ∙ ap (inside (numbering.Items n)) is)
+
+pub inside-other : (o : Numbering) (t : Term) → ((fields_of t).production ≡ PACK → ⊥) → numbering.Alike (ordinal_of o) ≡ inside o t
+unfolding inside fields_of
+inside-other (numbering.Items n) (pack e) other = absurd (other refl)
+inside-other (numbering.Items n) t other = refl
+inside-other (numbering.Elements n e) t other = refl
+inside-other (numbering.Alike ordinal) t other = refl
+
+pub inside-counted : (o : Numbering) (t : Term) → ((n : ℕ) → o ≡ numbering.Items n → ⊥) → numbering.Alike (ordinal_of o) ≡ inside o t
+unfolding inside
+inside-counted (numbering.Items n) t other = absurd (other n refl)
+inside-counted (numbering.Elements n e) t other = refl
+inside-counted (numbering.Alike ordinal) t other = refl
+
 pub entity-other : (t : Term) → ((fields_of t).production ≡ OF_DEFAULT → ⊥) → entity_of t ≡ t
 unfolding entity_of fields_of
 entity-other (of_default a b) h = absurd (h refl)
@@ -160,108 +182,108 @@ absent-other t h = refl
 
 -- ## How what is one of these is marked
 
-instance-marks : (y : ReadSymbol) (n m : ℕ) (u : Unshared) → name (instance (plain_tree (table_of y) n) (plain_tree (table_of y) m)) u ≡ name_by y (names.Instance n m) u
+instance-marks : (tags : ℕ) (y : ReadSymbol) (n m : ℕ) (u : Unshared) → name tags (instance (plain_tree (table_of y) n) (plain_tree (table_of y) m)) u ≡ name_by y tags (names.Instance n m) u
 unfolding name name_by
-instance-marks y n m done = refl
-instance-marks y n m (bytes b rest) = refl
-instance-marks y n m (item one rest) = refl
+instance-marks tags y n m done = refl
+instance-marks tags y n m (bytes b rest) = refl
+instance-marks tags y n m (item one rest) = refl
 
-pub by-instance : (y : ReadSymbol) (t a b : Term) (n m : ℕ) → t ≡ instance a b → a ≡ plain_tree (table_of y) n → b ≡ plain_tree (table_of y) m → (u : Unshared) → name t u ≡ name_by y (names.Instance n m) u
-by-instance y t a b n m is one other u =
-    ap (λ x. name x u) (is ∙ ap (λ x. instance x b) one ∙ ap (λ x. instance (plain_tree (table_of y) n) x) other) ∙ instance-marks y n m u
+pub by-instance : (tags : ℕ) (y : ReadSymbol) (t a b : Term) (n m : ℕ) → t ≡ instance a b → a ≡ plain_tree (table_of y) n → b ≡ plain_tree (table_of y) m → (u : Unshared) → name tags t u ≡ name_by y tags (names.Instance n m) u
+by-instance tags y t a b n m is one other u =
+    ap (λ x. name tags x u) (is ∙ ap (λ x. instance x b) one ∙ ap (λ x. instance (plain_tree (table_of y) n) x) other) ∙ instance-marks tags y n m u
 
-tagged-marks : (y : ReadSymbol) (s : Bool) (tag : List ℕ) (n : ℕ) (u : Unshared) → name (tagged s (plain_tree (table_of y) n) tag) u ≡ name_by y (names.Tagged n) u
+tagged-marks : (tags : ℕ) (y : ReadSymbol) (s : Bool) (tag : List ℕ) (n : ℕ) (u : Unshared) → name tags (tagged s (plain_tree (table_of y) n) tag) u ≡ name_by y tags (names.Tagged n) u
 unfolding name name_by
-tagged-marks y s tag n done = refl
-tagged-marks y s tag n (bytes b rest) = refl
-tagged-marks y s tag n (item one rest) = refl
+tagged-marks tags y s tag n done = refl
+tagged-marks tags y s tag n (bytes b rest) = refl
+tagged-marks tags y s tag n (item one rest) = refl
 
-pub by-tagged : (y : ReadSymbol) (t a : Term) (s : Bool) (tag : List ℕ) (n : ℕ) → t ≡ tagged s a tag → a ≡ plain_tree (table_of y) n → (u : Unshared) → name t u ≡ name_by y (names.Tagged n) u
-by-tagged y t a s tag n is one u = ap (λ x. name x u) (is ∙ ap (λ x. tagged s x tag) one) ∙ tagged-marks y s tag n u
+pub by-tagged : (tags : ℕ) (y : ReadSymbol) (t a : Term) (s : Bool) (tag : List ℕ) (n : ℕ) → t ≡ tagged s a tag → a ≡ plain_tree (table_of y) n → (u : Unshared) → name tags t u ≡ name_by y tags (names.Tagged n) u
+by-tagged tags y t a s tag n is one u = ap (λ x. name tags x u) (is ∙ ap (λ x. tagged s x tag) one) ∙ tagged-marks tags y s tag n u
 
-local-marks : (y : ReadSymbol) (a b : Term) (d : Option (List ℕ)) (n : ℕ) → entity_of b ≡ plain_tree (table_of y) n → (u : Unshared) → name (local a b d) u ≡ name_by y (names.Inner n) u
+local-marks : (tags : ℕ) (y : ReadSymbol) (a b : Term) (d : Option (List ℕ)) (n : ℕ) → entity_of b ≡ plain_tree (table_of y) n → (u : Unshared) → name tags (local a b d) u ≡ name_by y tags (names.Inner n) u
 unfolding name name_by
-local-marks y a b d n is done = refl
-local-marks y a b d n is (bytes c rest) = refl
-local-marks y a b d n is (item one rest) = ap (λ x. name x one before plain rest) is
+local-marks tags y a b d n is done = refl
+local-marks tags y a b d n is (bytes c rest) = refl
+local-marks tags y a b d n is (item one rest) = ap (λ x. name tags x one before plain rest) is
 
-pub by-local : (y : ReadSymbol) (t a b : Term) (d : Option (List ℕ)) (e n : ℕ) → t ≡ local a b d → b ≡ plain_tree (table_of y) e → plain_tree (table_of y) n ≡ entity_of (plain_tree (table_of y) e)
-    → (u : Unshared) → name t u ≡ name_by y (names.Inner n) u
-by-local y t a b d e n is one entity u = ap (λ x. name x u) is ∙ local-marks y a b d n (ap entity_of one ∙ sym entity) u
+pub by-local : (tags : ℕ) (y : ReadSymbol) (t a b : Term) (d : Option (List ℕ)) (e n : ℕ) → t ≡ local a b d → b ≡ plain_tree (table_of y) e → plain_tree (table_of y) n ≡ entity_of (plain_tree (table_of y) e)
+    → (u : Unshared) → name tags t u ≡ name_by y tags (names.Inner n) u
+by-local tags y t a b d e n is one entity u = ap (λ x. name tags x u) is ∙ local-marks tags y a b d n (ap entity_of one ∙ sym entity) u
 
-holder-marks : (y : ReadSymbol) (n : ℕ) (u : Unshared) → name (holder (plain_tree (table_of y) n)) u ≡ name_by y (names.Inner n) u
+holder-marks : (tags : ℕ) (y : ReadSymbol) (n : ℕ) (u : Unshared) → name tags (holder (plain_tree (table_of y) n)) u ≡ name_by y tags (names.Inner n) u
 unfolding name name_by
-holder-marks y n done = refl
-holder-marks y n (bytes b rest) = refl
-holder-marks y n (item one rest) = refl
+holder-marks tags y n done = refl
+holder-marks tags y n (bytes b rest) = refl
+holder-marks tags y n (item one rest) = refl
 
-pub by-holder : (y : ReadSymbol) (t a : Term) (n : ℕ) → t ≡ holder a → a ≡ plain_tree (table_of y) n → (u : Unshared) → name t u ≡ name_by y (names.Inner n) u
-by-holder y t a n is one u = ap (λ x. name x u) (is ∙ ap holder one) ∙ holder-marks y n u
+pub by-holder : (tags : ℕ) (y : ReadSymbol) (t a : Term) (n : ℕ) → t ≡ holder a → a ≡ plain_tree (table_of y) n → (u : Unshared) → name tags t u ≡ name_by y tags (names.Inner n) u
+by-holder tags y t a n is one u = ap (λ x. name tags x u) (is ∙ ap holder one) ∙ holder-marks tags y n u
 
-abbreviation-marks : (y : ReadSymbol) (letter : ℕ) (u : Unshared) → name (abbreviation letter) u ≡ name_by y names.Abbreviation u
+abbreviation-marks : (tags : ℕ) (y : ReadSymbol) (letter : ℕ) (u : Unshared) → name tags (abbreviation letter) u ≡ name_by y tags names.Abbreviation u
 unfolding name name_by
-abbreviation-marks y letter done = refl
-abbreviation-marks y letter (bytes b rest) = refl
-abbreviation-marks y letter (item one rest) = refl
+abbreviation-marks tags y letter done = refl
+abbreviation-marks tags y letter (bytes b rest) = refl
+abbreviation-marks tags y letter (item one rest) = refl
 
-pub by-abbreviation : (y : ReadSymbol) (t : Term) (letter : ℕ) → t ≡ abbreviation letter → (u : Unshared) → name t u ≡ name_by y names.Abbreviation u
-by-abbreviation y t letter is u = ap (λ x. name x u) is ∙ abbreviation-marks y letter u
+pub by-abbreviation : (tags : ℕ) (y : ReadSymbol) (t : Term) (letter : ℕ) → t ≡ abbreviation letter → (u : Unshared) → name tags t u ≡ name_by y tags names.Abbreviation u
+by-abbreviation tags y t letter is u = ap (λ x. name tags x u) is ∙ abbreviation-marks tags y letter u
 
-pub by-no-name : (y : ReadSymbol) (u : Unshared) → named u ≡ name_by y names.Other u
+pub by-no-name : (tags : ℕ) (y : ReadSymbol) (u : Unshared) → named u ≡ name_by y tags names.Other u
 unfolding name_by
-by-no-name y done = refl
-by-no-name y (bytes b rest) = refl
-by-no-name y (item one rest) = refl
+by-no-name tags y done = refl
+by-no-name tags y (bytes b rest) = refl
+by-no-name tags y (item one rest) = refl
 
-pub by-function : (y : ReadSymbol) (t a r p : Term) (q : Qualifiers) (mark : RefQualifier) (n m : ℕ) (nothing : Bool) → t ≡ function a q mark r p → a ≡ plain_tree (table_of y) n → p ≡ plain_tree (table_of y) m
-    → is_absent r ≡ nothing → (u : Unshared) → encoding t u ≡ encoding_by y (encodings.Function n m nothing) u
+pub by-function : (specials : ℕ) (y : ReadSymbol) (t a r p : Term) (q : Qualifiers) (mark : RefQualifier) (n m : ℕ) (nothing : Bool) → t ≡ function a q mark r p → a ≡ plain_tree (table_of y) n → p ≡ plain_tree (table_of y) m
+    → is_absent r ≡ nothing → (u : Unshared) → encoding specials t u ≡ encoding_by y specials (encodings.Function n m nothing) u
 unfolding encoding encoding_by
-by-function y t a r p q mark n m nothing is one other none u =
-    ap (λ x. encoding x u) is
+by-function specials y t a r p q mark n m nothing is one other none u =
+    ap (λ x. encoding specials x u) is
     ∙ ap (λ x. returning x a p u) none
     ∙ ap (λ x. returning nothing x p u) one
     ∙ ap (λ x. returning nothing (plain_tree (table_of y) n) x u) other
 
-object-marks : (y : ReadSymbol) (q : Qualifiers) (mark : RefQualifier) (n : ℕ) (u : Unshared) → encoding (object (plain_tree (table_of y) n) q mark) u ≡ encoding_by y (encodings.Variable n) u
+object-marks : (specials : ℕ) (y : ReadSymbol) (q : Qualifiers) (mark : RefQualifier) (n : ℕ) (u : Unshared) → encoding specials (object (plain_tree (table_of y) n) q mark) u ≡ encoding_by y specials (encodings.Variable n) u
 unfolding encoding encoding_by
-object-marks y q mark n done = refl
-object-marks y q mark n (bytes b done) = refl
-object-marks y q mark n (bytes b (bytes c rest)) = refl
-object-marks y q mark n (bytes b (item one rest)) = refl
-object-marks y q mark n (item one rest) = refl
+object-marks specials y q mark n done = refl
+object-marks specials y q mark n (bytes b done) = refl
+object-marks specials y q mark n (bytes b (bytes c rest)) = refl
+object-marks specials y q mark n (bytes b (item one rest)) = refl
+object-marks specials y q mark n (item one rest) = refl
 
-pub by-object : (y : ReadSymbol) (t a : Term) (q : Qualifiers) (mark : RefQualifier) (n : ℕ) → t ≡ object a q mark → a ≡ plain_tree (table_of y) n → (u : Unshared) → encoding t u ≡ encoding_by y (encodings.Variable n) u
-by-object y t a q mark n is one u = ap (λ x. encoding x u) (is ∙ ap (λ x. object x q mark) one) ∙ object-marks y q mark n u
+pub by-object : (specials : ℕ) (y : ReadSymbol) (t a : Term) (q : Qualifiers) (mark : RefQualifier) (n : ℕ) → t ≡ object a q mark → a ≡ plain_tree (table_of y) n → (u : Unshared) → encoding specials t u ≡ encoding_by y specials (encodings.Variable n) u
+by-object specials y t a q mark n is one u = ap (λ x. encoding specials x u) (is ∙ ap (λ x. object x q mark) one) ∙ object-marks specials y q mark n u
 
-thunk-marks : (y : ReadSymbol) (kind : Thunk) (n : ℕ) (u : Unshared) → encoding (thunk kind (plain_tree (table_of y) n)) u ≡ encoding_by y (encodings.Target n) u
+thunk-marks : (specials : ℕ) (y : ReadSymbol) (kind : Thunk) (n : ℕ) (u : Unshared) → encoding specials (thunk kind (plain_tree (table_of y) n)) u ≡ encoding_by y specials (encodings.Target n) u
 unfolding encoding encoding_by
-thunk-marks y kind n done = refl
-thunk-marks y kind n (item one rest) = refl
-thunk-marks y kind n (bytes b done) = refl
-thunk-marks y kind n (bytes b (bytes c rest)) = refl
-thunk-marks y kind n (bytes b (item one rest)) = refl
+thunk-marks specials y kind n done = refl
+thunk-marks specials y kind n (item one rest) = refl
+thunk-marks specials y kind n (bytes b done) = refl
+thunk-marks specials y kind n (bytes b (bytes c rest)) = refl
+thunk-marks specials y kind n (bytes b (item one rest)) = refl
 
-pub by-thunk : (y : ReadSymbol) (t a : Term) (kind : Thunk) (n : ℕ) → t ≡ thunk kind a → a ≡ plain_tree (table_of y) n → (u : Unshared) → encoding t u ≡ encoding_by y (encodings.Target n) u
-by-thunk y t a kind n is one u = ap (λ x. encoding x u) (is ∙ ap (λ x. thunk kind x) one) ∙ thunk-marks y kind n u
+pub by-thunk : (specials : ℕ) (y : ReadSymbol) (t a : Term) (kind : Thunk) (n : ℕ) → t ≡ thunk kind a → a ≡ plain_tree (table_of y) n → (u : Unshared) → encoding specials t u ≡ encoding_by y specials (encodings.Target n) u
+by-thunk specials y t a kind n is one u = ap (λ x. encoding specials x u) (is ∙ ap (λ x. thunk kind x) one) ∙ thunk-marks specials y kind n u
 
-clone-marks : (y : ReadSymbol) (letter : ℕ) (n : ℕ) (u : Unshared) → encoding (clone letter (plain_tree (table_of y) n)) u ≡ encoding_by y (encodings.Target n) u
+clone-marks : (specials : ℕ) (y : ReadSymbol) (letter : ℕ) (n : ℕ) (u : Unshared) → encoding specials (clone letter (plain_tree (table_of y) n)) u ≡ encoding_by y specials (encodings.Target n) u
 unfolding encoding encoding_by
-clone-marks y letter n done = refl
-clone-marks y letter n (item one rest) = refl
-clone-marks y letter n (bytes b done) = refl
-clone-marks y letter n (bytes b (bytes c rest)) = refl
-clone-marks y letter n (bytes b (item one rest)) = refl
+clone-marks specials y letter n done = refl
+clone-marks specials y letter n (item one rest) = refl
+clone-marks specials y letter n (bytes b done) = refl
+clone-marks specials y letter n (bytes b (bytes c rest)) = refl
+clone-marks specials y letter n (bytes b (item one rest)) = refl
 
-pub by-clone : (y : ReadSymbol) (t a : Term) (letter n : ℕ) → t ≡ clone letter a → a ≡ plain_tree (table_of y) n → (u : Unshared) → encoding t u ≡ encoding_by y (encodings.Target n) u
-by-clone y t a letter n is one u = ap (λ x. encoding x u) (is ∙ ap (λ x. clone letter x) one) ∙ clone-marks y letter n u
+pub by-clone : (specials : ℕ) (y : ReadSymbol) (t a : Term) (letter n : ℕ) → t ≡ clone letter a → a ≡ plain_tree (table_of y) n → (u : Unshared) → encoding specials t u ≡ encoding_by y specials (encodings.Target n) u
+by-clone specials y t a letter n is one u = ap (λ x. encoding specials x u) (is ∙ ap (λ x. clone letter x) one) ∙ clone-marks specials y letter n u
 
-pub by-no-encoding : (y : ReadSymbol) (u : Unshared) → special_name u ≡ encoding_by y encodings.Other u
+pub by-no-encoding : (specials : ℕ) (y : ReadSymbol) (u : Unshared) → special_name specials u ≡ encoding_by y specials encodings.Other u
 unfolding encoding_by
-by-no-encoding y done = refl
-by-no-encoding y (item one rest) = refl
-by-no-encoding y (bytes b done) = refl
-by-no-encoding y (bytes b (bytes c rest)) = refl
-by-no-encoding y (bytes b (item one rest)) = refl
+by-no-encoding specials y done = refl
+by-no-encoding specials y (item one rest) = refl
+by-no-encoding specials y (bytes b done) = refl
+by-no-encoding specials y (bytes b (bytes c rest)) = refl
+by-no-encoding specials y (bytes b (item one rest)) = refl
 
 -- a thunk of any kind has one part
 pub thunk-parts : (t a : Term) (kind : Thunk) → t ≡ thunk kind a → length (fields_of t).parts ≡ 1

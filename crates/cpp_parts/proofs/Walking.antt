@@ -9,15 +9,17 @@ use Rattle.sym_print.specs.declared.layout.Item.{Item}
 use Rattle.sym_print.specs.declared.layout.Part.{Part}
 use Rattle.sym_print.specs.Unshared.{Unshared, steps_of, steps_of_parts, cost_of}
 use Rattle.sym_parts.specs.Found.{Found}
-use Rattle.sym_parts.specs.Marked.{Marked, ◌before◌, parts_of}
+use Rattle.sym_parts.specs.Marked.{Marked, ◌before◌, stretches_of}
 use Rattle.sym_parts.specs.Marked as marks
-use Rattle.sym_parts.specs.Marks.{Mark, marks_of, parts_at, skipped}
+use Rattle.sym_parts.specs.Marks.{Mark, marks_of, stretches_at, skipped}
 use Rattle.sym_parts.specs.declared.role.Role.{Role}
+use Rattle.sym_parts.specs.declared.spelling.Ordinal.{Ordinal}
+use Rattle.cpp_parts.specs.declared.numbering.Numbering.{Numbering}
 use Rattle.cpp_parts.specs.Roles.{encoding, name, elements, symbol_marked}
 use Rattle.cpp_parts.proofs.Texts.{text-symbol}
 use Rattle.sym_print.proofs.Noting.{length_of_text}
-use Rattle.sym_parts.proofs.Turns.{parts_at-marks_of, skipped-marks_of, skipped-append}
-use Rattle.sym_parts.specs.declared.part.Part.{Part as SymPart}
+use Rattle.sym_parts.proofs.Turns.{stretches_at-marks_of, skipped-marks_of, skipped-append}
+use Rattle.sym_parts.specs.declared.stretch.Stretch.{Stretch}
 use Rattle.cpp_parts.specs.Tasks.{marks_of_task, marks_of_tasks, IsTask, IsPayable, ArePayable, printed_by, weight_of_task, weight_of_tasks, Adds, Grows, Lists}
 use Rattle.cpp_parts.specs.declared.task.Task.{Task}
 use Rattle.cpp_parts.specs.declared.task.Task.TheVariants as task
@@ -32,27 +34,27 @@ grown y most old new m s grows =
     let one = grows.adds old marks.done 0 same in
     (one.marks ∙ ap (λ x. marks_of x ++ marks_of_tasks y old) (before-done m), one.all, omega (arith, one.weight))
 
-pub lists-skip : (y : ReadSymbol) (old new : Found) (n : ℕ) (rest : List Mark) → new.parts ≡ old.parts → new.place ≡ old.place + n → Lists old new (marks_of_task y (task.Skip n) ++ rest) rest
-unfolding marks_of_task parts_at skipped
+pub lists-skip : (y : ReadSymbol) (old new : Found) (n : ℕ) (rest : List Mark) → new.stretches ≡ old.stretches → new.place ≡ old.place + n → Lists old new (marks_of_task y (task.Skip n) ++ rest) rest
+unfolding marks_of_task stretches_at skipped
 lists-skip y old new n rest parts place = record {
-  parts = ap (λ p. old.parts ++ parts_at p rest) (sym place) ∙ ap (λ ps. ps ++ parts_at new.place rest) (sym parts);
+  stretches = ap (λ p. old.stretches ++ stretches_at p rest) (sym place) ∙ ap (λ ps. ps ++ stretches_at new.place rest) (sym parts);
   place = omega (arith, place);
 }
 
-pub lists-begin : (y : ReadSymbol) (old new : Found) (role : Role) (n : ℕ) (rest : List Mark) → new.parts ≡ old.parts ++ record { role = role; start = old.place; length = n } ∷ [] → new.place ≡ old.place
-    → Lists old new (marks_of_task y (task.Begin role n) ++ rest) rest
-unfolding marks_of_task parts_at skipped
-lists-begin y old new role n rest parts place = record {
-  parts =
-      sym (append_assoc old.parts (record { role = role; start = old.place; length = n } ∷ []) (parts_at old.place rest))
-      ∙ ap (λ p. (old.parts ++ record { role = role; start = old.place; length = n } ∷ []) ++ parts_at p rest) (sym place)
-      ∙ ap (λ ps. ps ++ parts_at new.place rest) (sym parts);
+pub lists-begin : (y : ReadSymbol) (old new : Found) (role : Role) (ordinal : Ordinal) (n : ℕ) (rest : List Mark) → new.stretches ≡ old.stretches ++ record { role = role; ordinal = ordinal; start = old.place; length = n } ∷ [] → new.place ≡ old.place
+    → Lists old new (marks_of_task y (task.Begin role ordinal n) ++ rest) rest
+unfolding marks_of_task stretches_at skipped
+lists-begin y old new role ordinal n rest parts place = record {
+  stretches =
+      sym (append_assoc old.stretches (record { role = role; ordinal = ordinal; start = old.place; length = n } ∷ []) (stretches_at old.place rest))
+      ∙ ap (λ p. (old.stretches ++ record { role = role; ordinal = ordinal; start = old.place; length = n } ∷ []) ++ stretches_at p rest) (sym place)
+      ∙ ap (λ ps. ps ++ stretches_at new.place rest) (sym parts);
   place = omega (arith, place);
 }
 
 pub lists-same : (old new : Found) (these those : List Mark) → new ≡ old → those ≡ these → Lists old new these those
 lists-same old new these those same marks = record {
-  parts = ap (λ ms. old.parts ++ parts_at old.place ms) (sym marks) ∙ ap (λ (f : Found). f.parts ++ parts_at f.place those) (sym same);
+  stretches = ap (λ ms. old.stretches ++ stretches_at old.place ms) (sym marks) ∙ ap (λ (f : Found). f.stretches ++ stretches_at f.place those) (sym same);
   place = ap (λ ms. old.place + skipped ms) (sym marks) ∙ ap (λ (f : Found). f.place + skipped those) (sym same);
 }
 
@@ -61,35 +63,35 @@ pub parts-payable : (y : ReadSymbol) (most : ℕ) (i : Item Context) (parts : Li
 parts-payable y most i parts payable is may = (may, omega (arith, payable.1, ap cost_of is))
 
 module _ (y : ReadSymbol) (most : ℕ) (old new : List Task) (node : ℕ) (i : Item Context) (u : Unshared) (is : unshared_of y i ≡ u) where
-  pub took-encoding : Grows y most old new (encoding (plain_tree (table_of y) node) u) (4 * steps_of_parts u + 3)
-      → (marks_of_tasks y new ≡ marks_of_task y (task.Encoding node i) ++ marks_of_tasks y old) × (All (IsTask y most) old → All (IsTask y most) new)
-      × (weight_of_tasks y new < weight_of_task y (task.Encoding node i) + weight_of_tasks y old)
+  pub took-encoding : (specials : ℕ) → Grows y most old new (encoding specials (plain_tree (table_of y) node) u) (4 * steps_of_parts u + 3)
+      → (marks_of_tasks y new ≡ marks_of_task y (task.Encoding specials node i) ++ marks_of_tasks y old) × (All (IsTask y most) old → All (IsTask y most) new)
+      × (weight_of_tasks y new < weight_of_task y (task.Encoding specials node i) + weight_of_tasks y old)
   unfolding marks_of_task weight_of_task
-  took-encoding grows =
+  took-encoding specials grows =
       let g = grown y most old new _ _ grows in
-      (g.0 ∙ ap (λ x. marks_of (encoding (plain_tree (table_of y) node) x) ++ marks_of_tasks y old) (sym is), g.1, omega (arith, g.2, ap steps_of is))
+      (g.0 ∙ ap (λ x. marks_of (encoding specials (plain_tree (table_of y) node) x) ++ marks_of_tasks y old) (sym is), g.1, omega (arith, g.2, ap steps_of is))
 
-  pub took-name : Grows y most old new (name (plain_tree (table_of y) node) u) (4 * steps_of_parts u + 3)
-      → (marks_of_tasks y new ≡ marks_of_task y (task.Name node i) ++ marks_of_tasks y old) × (All (IsTask y most) old → All (IsTask y most) new)
-      × (weight_of_tasks y new < weight_of_task y (task.Name node i) + weight_of_tasks y old)
+  pub took-name : (tags : ℕ) → Grows y most old new (name tags (plain_tree (table_of y) node) u) (4 * steps_of_parts u + 3)
+      → (marks_of_tasks y new ≡ marks_of_task y (task.Name tags node i) ++ marks_of_tasks y old) × (All (IsTask y most) old → All (IsTask y most) new)
+      × (weight_of_tasks y new < weight_of_task y (task.Name tags node i) + weight_of_tasks y old)
   unfolding marks_of_task weight_of_task
-  took-name grows =
+  took-name tags grows =
       let g = grown y most old new _ _ grows in
-      (g.0 ∙ ap (λ x. marks_of (name (plain_tree (table_of y) node) x) ++ marks_of_tasks y old) (sym is), g.1, omega (arith, g.2, ap steps_of is))
+      (g.0 ∙ ap (λ x. marks_of (name tags (plain_tree (table_of y) node) x) ++ marks_of_tasks y old) (sym is), g.1, omega (arith, g.2, ap steps_of is))
 
-  pub took-elements : (role : Role) → Grows y most old new (elements role (plain_tree (table_of y) node) u) (4 * steps_of_parts u + 3)
-      → (marks_of_tasks y new ≡ marks_of_task y (task.Elements role node i) ++ marks_of_tasks y old) × (All (IsTask y most) old → All (IsTask y most) new)
-      × (weight_of_tasks y new < weight_of_task y (task.Elements role node i) + weight_of_tasks y old)
+  pub took-elements : (role : Role) (numbers : Numbering) → Grows y most old new (elements role numbers (plain_tree (table_of y) node) u) (4 * steps_of_parts u + 3)
+      → (marks_of_tasks y new ≡ marks_of_task y (task.Elements role numbers node i) ++ marks_of_tasks y old) × (All (IsTask y most) old → All (IsTask y most) new)
+      × (weight_of_tasks y new < weight_of_task y (task.Elements role numbers node i) + weight_of_tasks y old)
   unfolding marks_of_task weight_of_task
-  took-elements role grows =
+  took-elements role numbers grows =
       let g = grown y most old new _ _ grows in
-      (g.0 ∙ ap (λ x. marks_of (elements role (plain_tree (table_of y) node) x) ++ marks_of_tasks y old) (sym is), g.1, omega (arith, g.2, ap steps_of is))
+      (g.0 ∙ ap (λ x. marks_of (elements role numbers (plain_tree (table_of y) node) x) ++ marks_of_tasks y old) (sym is), g.1, omega (arith, g.2, ap steps_of is))
 
 -- ## The loop
 
-pub begins : (y : ReadSymbol) (most : ℕ) (old new : List Task) (found : Found) (node : ℕ) (u whole : Unshared) (s : ℕ) → old ≡ [] → found ≡ record { parts = []; place = 0 }
+pub begins : (y : ReadSymbol) (most : ℕ) (old new : List Task) (found : Found) (node : ℕ) (u whole : Unshared) (s : ℕ) → old ≡ [] → found ≡ record { stretches = []; place = 0 }
     → Grows y most old new (symbol_marked (plain_tree (table_of y) node) u) s → node ≡ y.root → u ≡ whole → cost_of whole ≤ most
-    → All (IsTask y most) new × (found.parts ++ parts_at found.place (marks_of_tasks y new) ≡ parts_of (symbol_marked (whole_of y) whole)) × (found.place + skipped (marks_of_tasks y new) ≤ most)
+    → All (IsTask y most) new × (found.stretches ++ stretches_at found.place (marks_of_tasks y new) ≡ stretches_of (symbol_marked (whole_of y) whole)) × (found.place + skipped (marks_of_tasks y new) ≤ most)
 unfolding marks_of_tasks
 begins y most old new found node u whole s none start grows root is paid =
     let g = grown y most old new (symbol_marked (plain_tree (table_of y) node) u) s grows in
@@ -100,7 +102,7 @@ begins y most old new found node u whole s none start grows root is paid =
     ∙ ap (λ n. marks_of (symbol_marked (plain_tree (table_of y) n) u)) root
     ∙ ap (λ v. marks_of (symbol_marked (whole_of y) v)) is in (
       g.1 (All-same (IsTask y most) old [] none (All-nil (IsTask y most))),
-      ap (λ (f : Found). f.parts ++ parts_at f.place (marks_of_tasks y new)) start ∙ ap (parts_at 0) all ∙ parts_at-marks_of 0 (symbol_marked (whole_of y) whole),
+      ap (λ (f : Found). f.stretches ++ stretches_at f.place (marks_of_tasks y new)) start ∙ ap (stretches_at 0) all ∙ stretches_at-marks_of 0 (symbol_marked (whole_of y) whole),
       omega (
         arith,
         ap (λ (f : Found). f.place) start,
@@ -127,13 +129,13 @@ pub smaller : (y : ReadSymbol) (tasks rest new : List Task) (next : Task) → ta
 unfolding weight_of_tasks
 smaller y tasks rest new next is less = omega (arith, less, ap (weight_of_tasks y) is)
 
-pub goes-on : (y : ReadSymbol) (tasks rest new : List Task) (next : Task) (old found : Found) (all : List SymPart) (most : ℕ) → tasks ≡ next ∷ rest
-    → Lists old found (marks_of_task y next ++ marks_of_tasks y rest) (marks_of_tasks y new) → old.parts ++ parts_at old.place (marks_of_tasks y tasks) ≡ all → old.place + skipped (marks_of_tasks y tasks) ≤ most
-    → (found.parts ++ parts_at found.place (marks_of_tasks y new) ≡ all) × (found.place + skipped (marks_of_tasks y new) ≤ most)
+pub goes-on : (y : ReadSymbol) (tasks rest new : List Task) (next : Task) (old found : Found) (all : List Stretch) (most : ℕ) → tasks ≡ next ∷ rest
+    → Lists old found (marks_of_task y next ++ marks_of_tasks y rest) (marks_of_tasks y new) → old.stretches ++ stretches_at old.place (marks_of_tasks y tasks) ≡ all → old.place + skipped (marks_of_tasks y tasks) ≤ most
+    → (found.stretches ++ stretches_at found.place (marks_of_tasks y new) ≡ all) × (found.place + skipped (marks_of_tasks y new) ≤ most)
 unfolding marks_of_tasks
 goes-on y tasks rest new next old found all most is lists parts fits =
-    (sym lists.parts ∙ ap (λ ts. old.parts ++ parts_at old.place (marks_of_tasks y ts)) (sym is) ∙ parts, omega (arith, lists.place, fits, ap (λ ts. skipped (marks_of_tasks y ts)) is))
+    (sym lists.stretches ∙ ap (λ ts. old.stretches ++ stretches_at old.place (marks_of_tasks y ts)) (sym is) ∙ parts, omega (arith, lists.place, fits, ap (λ ts. skipped (marks_of_tasks y ts)) is))
 
-pub ended : (y : ReadSymbol) (tasks : List Task) (found : Found) (all : List SymPart) → tasks ≡ [] → found.parts ++ parts_at found.place (marks_of_tasks y tasks) ≡ all → found.parts ≡ all
-unfolding marks_of_tasks parts_at
-ended y tasks found all none parts = sym (append-nil found.parts) ∙ ap (λ ts. found.parts ++ parts_at found.place (marks_of_tasks y ts)) (sym none) ∙ parts
+pub ended : (y : ReadSymbol) (tasks : List Task) (found : Found) (all : List Stretch) → tasks ≡ [] → found.stretches ++ stretches_at found.place (marks_of_tasks y tasks) ≡ all → found.stretches ≡ all
+unfolding marks_of_tasks stretches_at
+ended y tasks found all none parts = sym (append-nil found.stretches) ∙ ap (λ ts. found.stretches ++ stretches_at found.place (marks_of_tasks y ts)) (sym none) ∙ parts

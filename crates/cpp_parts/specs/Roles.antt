@@ -1,35 +1,27 @@
 -- Which parts the text of a C++ symbol has: the text with marks, by the symbol's tree and by what its items print, part by part.
-use Rattle.std.specs.Prelude.{ℕ, ◌-◌, List, [], ◌∷◌, length, take, drop, Bool, true, false, nat_eq, Option, Some, None}
+use Rattle.std.specs.Prelude.{ℕ, ◌+◌, ◌-◌, List, [], ◌∷◌, length, take, drop, Bool, true, false, nat_eq, Option, Some, None}
 use Rattle.cpp_grammar.specs.Term.{Term, symbol, function, object, thunk, clone, instance, local, holder, tagged, abbreviation, expansion, pack, list, absent}
 use Rattle.cpp_grammar.specs.Parts.{entity_of}
 use Rattle.sym_print.specs.Unshared.{Unshared, done, bytes, item, text_of}
-use Rattle.sym_parts.specs.Marked.{Marked, text, marked, ◌before◌, parts_of}
+use Rattle.sym_parts.specs.Marked.{Marked, text, marked, ◌before◌}
 use Rattle.sym_parts.specs.Marked as marks
+use Rattle.sym_parts.specs.Plain.{alone, numbered, only, plain, suffixed, whole}
 use Rattle.sym_parts.specs.declared.role.Role.{Role}
 use Rattle.sym_parts.specs.declared.role.Role.TheVariants as role
+use Rattle.sym_parts.specs.declared.spelling.Ordinal.{Ordinal}
+use Rattle.cpp_parts.specs.declared.numbering.Numbering.{Numbering}
+use Rattle.cpp_parts.specs.declared.numbering.Numbering.TheVariants as numbering
 
 -- ## Without a tree
-
--- what is printed, without a mark
-abbrev pub plain : Unshared → Marked
-plain printed = text (text_of printed) marks.done
-
--- all of it is one part
-abbrev pub whole : Role → Unshared → Marked
-whole r printed = marked r (plain printed) marks.done
-
--- a text before others
-abbrev pub alone : Role → List ℕ → (rest : Marked) → Marked
-alone r b rest = marked r (text b marks.done) rest
 
 -- no part where it has no bytes
 unfoldable pub alone_if_any : Role → List ℕ → (rest : Marked) → Marked
 alone_if_any r [] rest = rest
-alone_if_any r (b ∷ bs) rest = alone r (b ∷ bs) rest
+alone_if_any r (b ∷ bs) rest = alone r only (b ∷ bs) rest
 
--- the words of a special name: without the blank after them
-unfoldable pub words : List ℕ → (rest : Marked) → Marked
-words b rest = alone role.Special (take (length b - 1) b) (text (drop (length b - 1) b) rest)
+-- the words of a special name, after this many others: without the blank after them
+unfoldable pub words : (specials : ℕ) → List ℕ → (rest : Marked) → Marked
+words specials b rest = alone role.Special (numbered specials) (take (length b - 1) b) (text (drop (length b - 1) b) rest)
 
 -- the rest of a return type, where it has one
 unfoldable pub returned : Unshared → Marked
@@ -38,23 +30,23 @@ returned printed = plain printed
 
 -- what is after the parameters of a function, or the name of a variable: its qualifiers, and the rest of the return type
 unfoldable pub behind : Unshared → Marked
-behind (bytes b rest) = alone role.Qualifiers b (returned rest)
+behind (bytes b rest) = alone role.Qualifiers only b (returned rest)
 behind printed = returned printed
 
 -- ## Names without arguments
 
 -- the scope, the two colons, and the rest, which is the base
 unfoldable pub scoped : (scope colons : List ℕ) → Unshared → Marked
-scoped scope colons rest = alone role.Scope scope (text (take 2 colons) (marked role.Base (text (drop 2 colons) (plain rest)) marks.done))
+scoped scope colons rest = alone role.Scope only scope (text (take 2 colons) (marked role.Base only (text (drop 2 colons) (plain rest)) marks.done))
 
 -- the text std::, and the rest, which is the base
 unfoldable pub in_std : (std : List ℕ) → Unshared → Marked
-in_std std rest = alone role.Scope (take 3 std) (text (drop 3 std) (whole role.Base rest))
+in_std std rest = alone role.Scope only (take 3 std) (text (drop 3 std) (whole role.Base only rest))
 
 -- an abbreviation, which has std:: before its base
 unfoldable pub abbreviated : Unshared → Marked
-abbreviated (bytes b rest) = alone role.Scope (take 3 b) (text (take 2 (drop 3 b)) (marked role.Base (text (drop 2 (drop 3 b)) (plain rest)) marks.done))
-abbreviated printed = whole role.Base printed
+abbreviated (bytes b rest) = alone role.Scope only (take 3 b) (text (take 2 (drop 3 b)) (marked role.Base only (text (drop 2 (drop 3 b)) (plain rest)) marks.done))
+abbreviated printed = whole role.Base only printed
 
 -- colons, with the ~ of a destructor or without it
 unfoldable pub are_colons : List ℕ → Bool
@@ -63,9 +55,9 @@ are_colons (b ∷ bs) = nat_eq b 58
 
 -- a name by what it prints: a scope, two colons and a base; std:: and a base; or a base alone
 unfoldable pub named : Unshared → Marked
-named (item scope (bytes b rest)) = elim (are_colons b) [ true ↦ scoped (text_of scope) b rest | false ↦ whole role.Base (item scope (bytes b rest)) ]
+named (item scope (bytes b rest)) = elim (are_colons b) [ true ↦ scoped (text_of scope) b rest | false ↦ whole role.Base only (item scope (bytes b rest)) ]
 named (bytes std (item piece done)) = in_std std (item piece done)
-named printed = whole role.Base printed
+named printed = whole role.Base only printed
 
 -- ## Lists
 
@@ -85,30 +77,52 @@ within (pack elements) = Some elements
 within (expansion pattern) = Some pattern
 within _ = None
 
+-- ## Numbers of elements
+
+-- which one the next element is
+unfoldable pub ordinal_of : Numbering → Ordinal
+ordinal_of (numbering.Items n) = numbered n
+ordinal_of (numbering.Elements n e) = record { item = n; element = e }
+ordinal_of (numbering.Alike ordinal) = ordinal
+
+-- the numbers of those after it
+unfoldable pub next : Numbering → Numbering
+next (numbering.Items n) = numbering.Items (n + 1)
+next (numbering.Elements n e) = numbering.Elements n (e + 1)
+next (numbering.Alike ordinal) = numbering.Alike ordinal
+
+-- The numbers of its own elements: those of a pack that is an item of the list are counted from 1 on, and any others are as it is.
+unfoldable pub inside : Numbering → Term → Numbering
+inside (numbering.Items n) (pack elements) = numbering.Elements n 1
+inside numbers t = numbering.Alike (ordinal_of numbers)
+
+-- ## Elements
+
 -- The elements from one on, each of this role. A comma is in none. One that prints nothing is skipped. The elements of a pack, and
 -- of an expansion, are elements of the list.
 unfoldable mutual
-  pub elements : Role → Term → Unshared → Marked
-  elements r t (item skipped done) = elements r (rest_of t) skipped
-  elements r t (item left (item right rest)) = element r (within (element_of t)) left right before elements_after r (rest_of t) rest
-  elements r t (bytes comma (item skipped done)) = text comma (elements r (rest_of t) skipped)
-  elements r t (bytes comma (item left (item right rest))) =
-      text comma (element r (within (element_of t)) left right before elements_after r (rest_of t) rest)
-  elements r t (bytes comma printed) = text comma (plain printed)
-  elements r t printed = plain printed
+  pub elements : Role → Numbering → Term → Unshared → Marked
+  elements r o t (item skipped done) = elements r (next o) (rest_of t) skipped
+  elements r o t (item left (item right rest)) =
+      element r o (inside o (element_of t)) (within (element_of t)) left right before elements_after r (next o) (rest_of t) rest
+  elements r o t (bytes comma (item skipped done)) = text comma (elements r (next o) (rest_of t) skipped)
+  elements r o t (bytes comma (item left (item right rest))) =
+      text comma (element r o (inside o (element_of t)) (within (element_of t)) left right before elements_after r (next o) (rest_of t) rest)
+  elements r o t (bytes comma printed) = text comma (plain printed)
+  elements r o t printed = plain printed
 
-  pub elements_after : Role → Term → Unshared → Marked
-  elements_after r t (item others rest) = elements r t others before plain rest
-  elements_after r t printed = plain printed
+  pub elements_after : Role → Numbering → Term → Unshared → Marked
+  elements_after r o t (item others rest) = elements r o t others before plain rest
+  elements_after r o t printed = plain printed
 
-  pub element : Role → Option Term → (left right : Unshared) → Marked
-  element r (Some t) (item inner done) done = elements r t inner
-  element r _ left right = marked r (text (text_of left) (text (text_of right) marks.done)) marks.done
+  pub element : Role → (own inner : Numbering) → Option Term → (left right : Unshared) → Marked
+  element r own inner (Some t) (item printed done) done = elements r inner t printed
+  element r own inner _ left right = marked r (ordinal_of own) (text (text_of left) (text (text_of right) marks.done)) marks.done
 
 -- a list in brackets, and what is after it
 unfoldable pub in_brackets : (of_list of_element : Role) → Term → (opening : List ℕ) → Unshared → Marked
-in_brackets r e t opening (item inner (bytes close rest)) = marked r (text opening (elements e t inner before text close marks.done)) (behind rest)
-in_brackets r e t opening (bytes close rest) = marked r (text opening (text close marks.done)) (behind rest)
+in_brackets r e t opening (item inner (bytes close rest)) = marked r only (text opening (elements e (numbering.Items 0) t inner before text close marks.done)) (behind rest)
+in_brackets r e t opening (bytes close rest) = marked r only (text opening (text close marks.done)) (behind rest)
 in_brackets r e t opening printed = text opening (plain printed)
 
 -- the parameters of a function
@@ -124,18 +138,19 @@ arguments t printed = plain printed
 
 -- ## Names and encodings
 
--- a name: of an instance that of its template and the arguments, of a tagged name the name and the tag
-unfoldable pub name : Term → Unshared → Marked
-name (instance template args) (item inner rest) = name template inner before arguments args rest
-name (tagged of_structor inner tag) (item printed rest) = name inner printed before whole role.AbiTag rest
-name (local encoding entity discriminator) (item printed rest) = name (entity_of entity) printed before plain rest
-name (holder inner) (item printed rest) = name inner printed before plain rest
-name (abbreviation letter) printed = abbreviated printed
-name t printed = named printed
+-- A name, before this many tags of the same name: of an instance that of its template and the arguments, of a tagged name the name
+-- and the tag.
+unfoldable pub name : (tags : ℕ) → Term → Unshared → Marked
+name tags (instance template args) (item inner rest) = name tags template inner before arguments args rest
+name tags (tagged of_structor inner tag) (item printed rest) = name (tags + 1) inner printed before whole role.AbiTag (numbered tags) rest
+name tags (local encoding entity discriminator) (item printed rest) = name tags (entity_of entity) printed before plain rest
+name tags (holder inner) (item printed rest) = name tags inner printed before plain rest
+name tags (abbreviation letter) printed = abbreviated printed
+name tags t printed = named printed
 
 -- the name of a function, and its parameters
 unfoldable pub called : (name_of params : Term) → Unshared → Marked
-called n params (item printed rest) = name n printed before parameters params rest
+called n params (item printed rest) = name 0 n printed before parameters params rest
 called n params printed = plain printed
 
 unfoldable pub is_absent : Term → Bool
@@ -144,28 +159,24 @@ is_absent t = false
 
 -- with the return type, if there is one
 unfoldable pub returning : (nothing : Bool) → (name_of params : Term) → Unshared → Marked
-returning false n params (item left (bytes blank rest)) = alone role.ReturnType (text_of left) (text blank (called n params rest))
+returning false n params (item left (bytes blank rest)) = alone role.ReturnType only (text_of left) (text blank (called n params rest))
 returning nothing n params printed = called n params printed
 
 -- what a special name is, and what it belongs to
-unfoldable pub special_name : Unshared → Marked
-special_name (bytes b rest) = words b (whole role.Object rest)
-special_name printed = plain printed
+unfoldable pub special_name : (specials : ℕ) → Unshared → Marked
+special_name specials (bytes b rest) = words specials b (whole role.Object only rest)
+special_name specials printed = plain printed
 
--- An encoding: a function, a variable or a special name. The target of a thunk, and of a clone, has its own parts.
-unfoldable pub encoding : Term → Unshared → Marked
-encoding (function n q mark returned params) printed = returning (is_absent returned) n params printed
-encoding (object n q mark) (item printed rest) = name n printed before behind rest
-encoding (thunk kind e) (bytes b (item printed rest)) = words b (encoding e printed before plain rest)
-encoding (clone letter e) (bytes b (item printed rest)) = words b (encoding e printed before plain rest)
-encoding t printed = special_name printed
-
--- the suffix of a clone, which has parentheses around it
-unfoldable pub suffixed : Unshared → Marked
-suffixed (bytes opening (bytes suffix rest)) = text opening (alone role.Suffix suffix (plain rest))
-suffixed printed = plain printed
+-- An encoding, after the words of this many special names: a function, a variable or a special name. The target of a thunk, and of
+-- a clone, has its own parts.
+unfoldable pub encoding : (specials : ℕ) → Term → Unshared → Marked
+encoding specials (function n q mark returned params) printed = returning (is_absent returned) n params printed
+encoding specials (object n q mark) (item printed rest) = name 0 n printed before behind rest
+encoding specials (thunk kind e) (bytes b (item printed rest)) = words specials b (encoding (specials + 1) e printed before plain rest)
+encoding specials (clone letter e) (bytes b (item printed rest)) = words specials b (encoding (specials + 1) e printed before plain rest)
+encoding specials t printed = special_name specials printed
 
 -- a whole symbol
 unfoldable pub symbol_marked : Term → Unshared → Marked
-symbol_marked (symbol e suffix) (item printed rest) = encoding e printed before suffixed rest
+symbol_marked (symbol e suffix) (item printed rest) = encoding 0 e printed before suffixed rest
 symbol_marked t printed = plain printed

@@ -1,4 +1,4 @@
--- What is still to be done: bytes to go on by, parts to begin, and items of which the parts are to be listed.
+-- What is still to be done: bytes to go on by, stretches to begin, and items of which the parts are to be listed.
 use Rattle.std.specs.Prelude.{◌≡◌, ℕ, ◌+◌, ◌*◌, ◌<◌, ◌≤◌, List, [], ◌∷◌, ◌++◌, length}
 use Rattle.std.specs.List.{All}
 use Rattle.cpp_layout.specs.declared.context.Context.{Context}
@@ -11,8 +11,10 @@ use Rattle.sym_print.specs.Joined.{joined, IsText}
 use Rattle.sym_print.specs.Unshared.{Unshared, done, bytes, item, cost_of, cost_of_parts, steps_of}
 use Rattle.sym_parts.specs.Marked.{Marked, ◌before◌}
 use Rattle.sym_parts.specs.Found.{Found}
-use Rattle.sym_parts.specs.Marks.{Mark, skip, begin, marks_of, parts_at, skipped}
+use Rattle.sym_parts.specs.Marks.{Mark, skip, begin, marks_of, stretches_at, skipped}
 use Rattle.cpp_parts.specs.Roles.{elements, name, encoding}
+use Rattle.cpp_parts.specs.declared.numbering.Numbering.{Numbering}
+use Rattle.cpp_parts.specs.declared.numbering.Numbering.TheVariants as numbering
 use Rattle.cpp_parts.specs.declared.task.Task.{Task}
 use Rattle.cpp_parts.specs.declared.task.Task.TheVariants as task
 use Rattle.cpp_parts.specs.declared.split.Split.{Split}
@@ -25,10 +27,10 @@ printed_by y parts = joined (unshared_of y) (bytes_of_part y) parts
 -- the marks that a task leads to
 unfoldable pub marks_of_task : ReadSymbol → Task → List Mark
 marks_of_task y (task.Skip n) = skip n ∷ []
-marks_of_task y (task.Begin role n) = begin role n ∷ []
-marks_of_task y (task.Encoding node i) = marks_of (encoding (plain_tree (table_of y) node) (unshared_of y i))
-marks_of_task y (task.Name node i) = marks_of (name (plain_tree (table_of y) node) (unshared_of y i))
-marks_of_task y (task.Elements role node i) = marks_of (elements role (plain_tree (table_of y) node) (unshared_of y i))
+marks_of_task y (task.Begin role ordinal n) = begin role ordinal n ∷ []
+marks_of_task y (task.Encoding specials node i) = marks_of (encoding specials (plain_tree (table_of y) node) (unshared_of y i))
+marks_of_task y (task.Name tags node i) = marks_of (name tags (plain_tree (table_of y) node) (unshared_of y i))
+marks_of_task y (task.Elements role numbers node i) = marks_of (elements role numbers (plain_tree (table_of y) node) (unshared_of y i))
 
 -- those of tasks in turn
 unfoldable pub marks_of_tasks : ReadSymbol → List Task → List Mark
@@ -39,18 +41,24 @@ marks_of_tasks y (first ∷ rest) = marks_of_task y first ++ marks_of_tasks y re
 abbrev pub IsPayable : ReadSymbol → (most : ℕ) → Item Context → Type 0
 IsPayable y most i = MayBeAsked y (Sub i) × (cost_of (unshared_of y i) ≤ most)
 
--- a task of the symbol, whose items cost at most this much
+-- the number up to which elements were counted
+unfoldable pub count_of : Numbering → ℕ
+count_of (numbering.Items n) = n
+count_of (numbering.Elements n e) = e
+count_of (numbering.Alike ordinal) = 0
+
+-- A task of the symbol, whose items cost at most this much. What is counted has room for all that its item prints.
 unfoldable pub IsTask : ReadSymbol → (most : ℕ) → Task → Type 0
-IsTask y most (task.Encoding node i) = (node < length y.table.nodes) × IsPayable y most i
-IsTask y most (task.Name node i) = (node < length y.table.nodes) × IsPayable y most i
-IsTask y most (task.Elements role node i) = (node < length y.table.nodes) × IsPayable y most i
+IsTask y most (task.Encoding specials node i) = (node < length y.table.nodes) × IsPayable y most i × (specials + cost_of (unshared_of y i) ≤ most)
+IsTask y most (task.Name tags node i) = (node < length y.table.nodes) × IsPayable y most i × (tags + cost_of (unshared_of y i) ≤ most)
+IsTask y most (task.Elements role numbers node i) = (node < length y.table.nodes) × IsPayable y most i × (count_of numbers + cost_of (unshared_of y i) ≤ most)
 IsTask y most _ = Unit {0}
 
 -- how many steps a task takes at most
 unfoldable pub weight_of_task : ReadSymbol → Task → ℕ
-weight_of_task y (task.Encoding node i) = 4 * steps_of (unshared_of y i)
-weight_of_task y (task.Name node i) = 4 * steps_of (unshared_of y i)
-weight_of_task y (task.Elements role node i) = 4 * steps_of (unshared_of y i)
+weight_of_task y (task.Encoding specials node i) = 4 * steps_of (unshared_of y i)
+weight_of_task y (task.Name tags node i) = 4 * steps_of (unshared_of y i)
+weight_of_task y (task.Elements role numbers node i) = 4 * steps_of (unshared_of y i)
 weight_of_task y _ = 1
 
 unfoldable pub weight_of_tasks : ReadSymbol → List Task → ℕ
@@ -69,7 +77,7 @@ pub record Grows (y : ReadSymbol) (most : ℕ) (old new : List Task) (m : Marked
 
 -- What was found together with these marks is what is found together with those, and they go on by as many bytes.
 pub record Lists (old new : Found) (these those : List Mark) : Type 0 where
-  pub parts : old.parts ++ parts_at old.place these ≡ new.parts ++ parts_at new.place those
+  pub stretches : old.stretches ++ stretches_at old.place these ≡ new.stretches ++ stretches_at new.place those
   pub place : old.place + skipped these ≡ new.place + skipped those
 
 -- parts that may be asked for, and cost at most this much

@@ -9,7 +9,8 @@ ghost use Rattle.sym_print.specs.Unshared.{Unshared, item, bytes, text_of, cost_
 ghost use Rattle.cpp_tree.specs.Views.{plain_tree};
 ghost use Rattle.cpp_layout.specs.Layout.{table_of, unshared_of, bytes_of_part, MayBeAsked};
 ghost use Rattle.sym_parts.specs.Marked.{Marked, text, marked, ◌before◌};
-ghost use Rattle.cpp_parts.specs.Roles.{called, returning, special_name, encoding, suffixed, symbol_marked};
+ghost use Rattle.sym_parts.specs.Plain.{suffixed};
+ghost use Rattle.cpp_parts.specs.Roles.{called, returning, special_name, encoding, symbol_marked};
 ghost use Rattle.cpp_grammar.specs.Term.{symbol};
 ghost use Rattle.cpp_parts.specs.Sorts.{encoding_by};
 ghost use Rattle.cpp_parts.specs.declared.sorts.EncodingSort.{EncodingSort};
@@ -23,7 +24,7 @@ use crate::split::{Split, first_of};
 use crate::task::{Task, Tasks};
 use cpp_layout::{Context, Symbol, tree_production};
 use sym_core::Refusal;
-use sym_parts::Role;
+use sym_parts::{ONLY, Role};
 use sym_print::{Item, Layout, Part};
 
 /// The name of a function, and its parameters.
@@ -50,7 +51,7 @@ pub(crate) fn push_called(
         Split::Text(_, _) => push_plain(y, tasks, parts, most),
         Split::Item(inner, rest) => {
             push_parameters(y, tasks, parameters, rest, most)?;
-            tasks.push(Task::Name(name, inner))
+            tasks.push(Task::Name(0, name, inner))
         }
     }
 }
@@ -87,7 +88,7 @@ pub(crate) fn push_returning(
             let between = length_of(y, tasks.allocator(), &blank, most)?;
             push_called(y, tasks, name, parameters, others, most)?;
             tasks.push(Task::Skip(between))?;
-            push_alone(y, tasks, Role::ReturnType, before, most)
+            push_alone(y, tasks, Role::ReturnType, ONLY, before, most)
         }
     }
 }
@@ -124,7 +125,7 @@ pub(crate) fn push_function(
     }
 }
 
-/// A special name: its words, and what it belongs to.
+/// A special name, after the words of this many others: its words, and what it belongs to.
 ///
 /// # Errors
 ///
@@ -132,11 +133,12 @@ pub(crate) fn push_function(
 pub(crate) fn push_special(
     y: &Symbol,
     tasks: &mut Tasks,
+    specials: u32,
     parts: &[Part<Context>],
     most: u32,
 ) -> Result<(), Refusal>
     requires { ArePayable y.now most parts.now }
-    ensures grows { OnOk result (Grows y.now most tasks.old tasks.new (special_name (printed_by y.now parts.now)) (4 * steps_of_parts (printed_by y.now parts.now) + 3)) }
+    ensures grows { OnOk result (Grows y.now most tasks.old tasks.new (special_name specials (printed_by y.now parts.now)) (4 * steps_of_parts (printed_by y.now parts.now) + 3)) }
     ensures refusals { IfErr result (λ refusal. refusal ≡ Refusal.Memory) }
 {
     match first_of(y, parts, most) {
@@ -144,8 +146,8 @@ pub(crate) fn push_special(
         Split::Item(_, _) => push_plain(y, tasks, parts, most),
         Split::Text(text, rest) => {
             let count = length_of(y, tasks.allocator(), &text, most)?;
-            push_whole(y, tasks, Role::Object, rest, most)?;
-            push_words(y, tasks, count, most)
+            push_whole(y, tasks, Role::Object, ONLY, rest, most)?;
+            push_words(y, tasks, specials, count, most)
         }
     }
 }
@@ -158,26 +160,27 @@ pub(crate) fn push_special(
 pub(crate) fn push_variable(
     y: &Symbol,
     tasks: &mut Tasks,
+    specials: u32,
     name: u32,
     parts: &[Part<Context>],
     most: u32,
 ) -> Result<(), Refusal>
     requires name { name < length y.now.table.nodes }
     requires paid { ArePayable y.now most parts.now }
-    ensures grows { OnOk result (Grows y.now most tasks.old tasks.new (encoding_by y.now (EncodingSort.Variable name) (printed_by y.now parts.now)) (4 * steps_of_parts (printed_by y.now parts.now) + 3)) }
+    ensures grows { OnOk result (Grows y.now most tasks.old tasks.new (encoding_by y.now specials (EncodingSort.Variable name) (printed_by y.now parts.now)) (4 * steps_of_parts (printed_by y.now parts.now) + 3)) }
     ensures refusals { IfErr result (λ refusal. refusal ≡ Refusal.Memory) }
 {
     match first_of(y, parts, most) {
-        Split::Nothing => push_special(y, tasks, parts, most),
-        Split::Text(_, _) => push_special(y, tasks, parts, most),
+        Split::Nothing => push_special(y, tasks, specials, parts, most),
+        Split::Text(_, _) => push_special(y, tasks, specials, parts, most),
         Split::Item(inner, rest) => {
             push_behind(y, tasks, rest, most)?;
-            tasks.push(Task::Name(name, inner))
+            tasks.push(Task::Name(0, name, inner))
         }
     }
 }
 
-/// A thunk or a clone: its words, and its target.
+/// A thunk or a clone, after the words of this many special names: its words, and its target.
 ///
 /// # Errors
 ///
@@ -185,32 +188,34 @@ pub(crate) fn push_variable(
 pub(crate) fn push_target(
     y: &Symbol,
     tasks: &mut Tasks,
+    specials: u32,
     target: u32,
     parts: &[Part<Context>],
     most: u32,
 ) -> Result<(), Refusal>
     requires target { target < length y.now.table.nodes }
+    requires specials { specials + cost_of_parts (printed_by y.now parts.now) < most }
     requires paid { ArePayable y.now most parts.now }
-    ensures grows { OnOk result (Grows y.now most tasks.old tasks.new (encoding_by y.now (EncodingSort.Target target) (printed_by y.now parts.now)) (4 * steps_of_parts (printed_by y.now parts.now) + 3)) }
+    ensures grows { OnOk result (Grows y.now most tasks.old tasks.new (encoding_by y.now specials (EncodingSort.Target target) (printed_by y.now parts.now)) (4 * steps_of_parts (printed_by y.now parts.now) + 3)) }
     ensures refusals { IfErr result (λ refusal. refusal ≡ Refusal.Memory) }
 {
     match first_of(y, parts, most) {
-        Split::Nothing => push_special(y, tasks, parts, most),
-        Split::Item(_, _) => push_special(y, tasks, parts, most),
+        Split::Nothing => push_special(y, tasks, specials, parts, most),
+        Split::Item(_, _) => push_special(y, tasks, specials, parts, most),
         Split::Text(text, rest) => match first_of(y, rest, most) {
-            Split::Nothing => push_special(y, tasks, parts, most),
-            Split::Text(_, _) => push_special(y, tasks, parts, most),
+            Split::Nothing => push_special(y, tasks, specials, parts, most),
+            Split::Text(_, _) => push_special(y, tasks, specials, parts, most),
             Split::Item(inner, others) => {
                 let count = length_of(y, tasks.allocator(), &text, most)?;
                 push_plain(y, tasks, others, most)?;
-                tasks.push(Task::Encoding(target, inner))?;
-                push_words(y, tasks, count, most)
+                tasks.push(Task::Encoding(specials + 1, target, inner))?;
+                push_words(y, tasks, specials, count, most)
             }
         },
     }
 }
 
-/// An encoding.
+/// An encoding, after the words of this many special names.
 ///
 /// # Errors
 ///
@@ -218,22 +223,24 @@ pub(crate) fn push_target(
 pub(crate) fn push_encoding(
     y: &Symbol,
     tasks: &mut Tasks,
+    specials: u32,
     node: u32,
     parts: &[Part<Context>],
     most: u32,
 ) -> Result<(), Refusal>
     requires node { node < length y.now.table.nodes }
+    requires specials { specials + cost_of_parts (printed_by y.now parts.now) < most }
     requires paid { ArePayable y.now most parts.now }
-    ensures grows { OnOk result (Grows y.now most tasks.old tasks.new (encoding (plain_tree (table_of y.now) node) (printed_by y.now parts.now)) (4 * steps_of_parts (printed_by y.now parts.now) + 3)) }
+    ensures grows { OnOk result (Grows y.now most tasks.old tasks.new (encoding specials (plain_tree (table_of y.now) node) (printed_by y.now parts.now)) (4 * steps_of_parts (printed_by y.now parts.now) + 3)) }
     ensures refusals { IfErr result (λ refusal. refusal ≡ Refusal.Memory) }
 {
     match encoding_sort(y, node) {
         EncodingSort::Function(name, parameters, nothing) => {
             push_function(y, tasks, name, parameters, nothing, parts, most)
         }
-        EncodingSort::Variable(name) => push_variable(y, tasks, name, parts, most),
-        EncodingSort::Target(target) => push_target(y, tasks, target, parts, most),
-        EncodingSort::Other => push_special(y, tasks, parts, most),
+        EncodingSort::Variable(name) => push_variable(y, tasks, specials, name, parts, most),
+        EncodingSort::Target(target) => push_target(y, tasks, specials, target, parts, most),
+        EncodingSort::Other => push_special(y, tasks, specials, parts, most),
     }
 }
 
@@ -262,7 +269,7 @@ pub(crate) fn push_suffixed(
                 let before = length_of(y, tasks.allocator(), &opening, most)?;
                 let length = length_of(y, tasks.allocator(), &suffix, most)?;
                 push_plain(y, tasks, others, most)?;
-                push_alone(y, tasks, Role::Suffix, length, most)?;
+                push_alone(y, tasks, Role::Suffix, ONLY, length, most)?;
                 tasks.push(Task::Skip(before))
             }
         },
@@ -293,7 +300,7 @@ pub(crate) fn push_root(
         Split::Text(_, _) => push_plain(y, tasks, parts, most),
         Split::Item(item, rest) => {
             push_suffixed(y, tasks, rest, most)?;
-            tasks.push(Task::Encoding(inner, item))
+            tasks.push(Task::Encoding(0, inner, item))
         }
     }
 }

@@ -7,6 +7,7 @@ mod laws;
 mod lengths;
 mod lists;
 mod names;
+mod numbering;
 mod plain;
 mod sorts;
 mod split;
@@ -14,6 +15,6 @@ mod task;
 mod walk;
 
 pub use kinds::kind_of;
-pub use laws::{marks_change_no_text, parts_are_placed};
-pub use sym_parts::{NameKind, Part, Role};
-pub use walk::{parts, parts_as};
+pub use laws::{marks_change_no_text, stretches_are_few, stretches_are_placed};
+pub use sym_parts::{NameKind, Role, Stretch};
+pub use walk::{stretches, stretches_as};

@@ -10,18 +10,21 @@ ghost use Rattle.cpp_tree.specs.Views.{plain_tree};
 ghost use Rattle.cpp_layout.specs.Layout.{table_of, unshared_of, bytes_of_part, MayBeAsked};
 ghost use Rattle.sym_parts.specs.Marked.{Marked, text, marked, ◌before◌};
 ghost use Rattle.sym_parts.specs.Marked as marks;
-ghost use Rattle.cpp_parts.specs.Roles.{plain, elements, elements_after, element, element_of, rest_of, within, in_brackets, parameters, arguments};
+ghost use Rattle.sym_parts.specs.Plain.{plain};
+ghost use Rattle.cpp_parts.specs.Roles.{elements, elements_after, element, element_of, rest_of, within, inside, ordinal_of, in_brackets, parameters, arguments};
 ghost use Rattle.cpp_parts.specs.Sorts.{elements_here};
+ghost use Rattle.cpp_parts.specs.Tasks.{count_of};
 ghost use Rattle.cpp_parts.specs.Tasks.{ArePayable, IsPayable, printed_by, Grows};
 
 use crate::lengths::length_of;
+use crate::numbering::{Numbering, next, ordinal_of};
 use crate::plain::{push_behind, push_plain};
-use crate::sorts::{element_node, node_within, rest_node};
+use crate::sorts::{element_node, node_within, numbering_within, rest_node};
 use crate::split::{Split, first_of};
 use crate::task::{Task, Tasks};
 use cpp_layout::{Context, Symbol};
 use sym_core::Refusal;
-use sym_parts::Role;
+use sym_parts::{ONLY, Ordinal, Role};
 use sym_print::{Item, Layout, Part};
 
 /// An element of a list, by what it prints left and right.
@@ -33,6 +36,7 @@ pub(crate) fn push_lone(
     y: &Symbol,
     tasks: &mut Tasks,
     role: Role,
+    ordinal: Ordinal,
     left: Item<Context>,
     right: Item<Context>,
     most: u32,
@@ -40,14 +44,14 @@ pub(crate) fn push_lone(
     requires left { IsPayable y.now most left }
     requires right { IsPayable y.now most right }
     requires paid { cost_of (unshared_of y.now left) + cost_of (unshared_of y.now right) ≤ most }
-    ensures grows { OnOk result (Grows y.now most tasks.old tasks.new (marked role (text (text_of (unshared_of y.now left)) (text (text_of (unshared_of y.now right)) marks.done)) marks.done) 3) }
+    ensures grows { OnOk result (Grows y.now most tasks.old tasks.new (marked role ordinal (text (text_of (unshared_of y.now left)) (text (text_of (unshared_of y.now right)) marks.done)) marks.done) 3) }
     ensures refusals { IfErr result (λ refusal. refusal ≡ Refusal.Memory) }
 {
     let before = length_of(y, tasks.allocator(), &Part::Sub(left), most)?;
     let after = length_of(y, tasks.allocator(), &Part::Sub(right), most)?;
     tasks.push(Task::Skip(after))?;
     tasks.push(Task::Skip(before))?;
-    tasks.push(Task::Begin(role, before + after))
+    tasks.push(Task::Begin(role, ordinal, before + after))
 }
 
 /// An element of a list that has elements of its own, where it prints only these.
@@ -59,30 +63,34 @@ pub(crate) fn push_element_within(
     y: &Symbol,
     tasks: &mut Tasks,
     role: Role,
+    own: Numbering,
+    inner: Numbering,
     node: u32,
     left: Item<Context>,
     right: Item<Context>,
     most: u32,
 ) -> Result<(), Refusal>
     requires node { node < length y.now.table.nodes }
+    requires few { count_of inner ≤ 1 }
     requires left { IsPayable y.now most left }
     requires right { IsPayable y.now most right }
     requires paid { cost_of (unshared_of y.now left) + cost_of (unshared_of y.now right) ≤ most }
-    ensures grows { OnOk result (Grows y.now most tasks.old tasks.new (element role (Some (plain_tree (table_of y.now) node)) (unshared_of y.now left) (unshared_of y.now right)) (4 * steps_of (unshared_of y.now left))) }
+    ensures grows { OnOk result (Grows y.now most tasks.old tasks.new (element role own inner (Some (plain_tree (table_of y.now) node)) (unshared_of y.now left) (unshared_of y.now right)) (4 * steps_of (unshared_of y.now left))) }
     ensures refusals { IfErr result (λ refusal. refusal ≡ Refusal.Memory) }
 {
+    let ordinal = ordinal_of(own);
     let parts = y.parts(left);
     let behind = y.parts(right);
     match first_of(y, &parts, most) {
-        Split::Nothing => push_lone(y, tasks, role, left, right, most),
-        Split::Text(_, _) => push_lone(y, tasks, role, left, right, most),
-        Split::Item(inner, rest) => match first_of(y, rest, most) {
-            Split::Text(_, _) => push_lone(y, tasks, role, left, right, most),
-            Split::Item(_, _) => push_lone(y, tasks, role, left, right, most),
+        Split::Nothing => push_lone(y, tasks, role, ordinal, left, right, most),
+        Split::Text(_, _) => push_lone(y, tasks, role, ordinal, left, right, most),
+        Split::Item(list, rest) => match first_of(y, rest, most) {
+            Split::Text(_, _) => push_lone(y, tasks, role, ordinal, left, right, most),
+            Split::Item(_, _) => push_lone(y, tasks, role, ordinal, left, right, most),
             Split::Nothing => match first_of(y, &behind, most) {
-                Split::Text(_, _) => push_lone(y, tasks, role, left, right, most),
-                Split::Item(_, _) => push_lone(y, tasks, role, left, right, most),
-                Split::Nothing => tasks.push(Task::Elements(role, node, inner)),
+                Split::Text(_, _) => push_lone(y, tasks, role, ordinal, left, right, most),
+                Split::Item(_, _) => push_lone(y, tasks, role, ordinal, left, right, most),
+                Split::Nothing => tasks.push(Task::Elements(role, inner, node, list)),
             },
         },
     }
@@ -97,6 +105,7 @@ pub(crate) fn push_element(
     y: &Symbol,
     tasks: &mut Tasks,
     role: Role,
+    numbering: Numbering,
     node: u32,
     left: Item<Context>,
     right: Item<Context>,
@@ -106,12 +115,15 @@ pub(crate) fn push_element(
     requires left { IsPayable y.now most left }
     requires right { IsPayable y.now most right }
     requires paid { cost_of (unshared_of y.now left) + cost_of (unshared_of y.now right) ≤ most }
-    ensures grows { OnOk result (Grows y.now most tasks.old tasks.new (element role (within (plain_tree (table_of y.now) node)) (unshared_of y.now left) (unshared_of y.now right)) (4 * steps_of (unshared_of y.now left))) }
+    ensures grows { OnOk result (Grows y.now most tasks.old tasks.new (element role numbering (inside numbering (plain_tree (table_of y.now) node)) (within (plain_tree (table_of y.now) node)) (unshared_of y.now left) (unshared_of y.now right)) (4 * steps_of (unshared_of y.now left))) }
     ensures refusals { IfErr result (λ refusal. refusal ≡ Refusal.Memory) }
 {
     match node_within(y, node) {
-        None => push_lone(y, tasks, role, left, right, most),
-        Some(inner) => push_element_within(y, tasks, role, inner, left, right, most),
+        None => push_lone(y, tasks, role, ordinal_of(numbering), left, right, most),
+        Some(inner) => {
+            let numbers = numbering_within(y, node, numbering);
+            push_element_within(y, tasks, role, numbering, numbers, inner, left, right, most)
+        }
     }
 }
 
@@ -124,13 +136,15 @@ pub(crate) fn push_elements_after(
     y: &Symbol,
     tasks: &mut Tasks,
     role: Role,
+    numbering: Numbering,
     node: u32,
     parts: &[Part<Context>],
     most: u32,
 ) -> Result<(), Refusal>
     requires node { node < length y.now.table.nodes }
+    requires numbers { count_of numbering + cost_of_parts (printed_by y.now parts.now) ≤ most }
     requires paid { ArePayable y.now most parts.now }
-    ensures grows { OnOk result (Grows y.now most tasks.old tasks.new (elements_after role (plain_tree (table_of y.now) node) (printed_by y.now parts.now)) (4 * steps_of_parts (printed_by y.now parts.now) + 3)) }
+    ensures grows { OnOk result (Grows y.now most tasks.old tasks.new (elements_after role numbering (plain_tree (table_of y.now) node) (printed_by y.now parts.now)) (4 * steps_of_parts (printed_by y.now parts.now) + 3)) }
     ensures refusals { IfErr result (λ refusal. refusal ≡ Refusal.Memory) }
 {
     match first_of(y, parts, most) {
@@ -138,7 +152,7 @@ pub(crate) fn push_elements_after(
         Split::Text(_, _) => push_plain(y, tasks, parts, most),
         Split::Item(others, rest) => {
             push_plain(y, tasks, rest, most)?;
-            tasks.push(Task::Elements(role, node, others))
+            tasks.push(Task::Elements(role, numbering, node, others))
         }
     }
 }
@@ -152,6 +166,7 @@ pub(crate) fn push_elements_from(
     y: &Symbol,
     tasks: &mut Tasks,
     role: Role,
+    numbering: Numbering,
     node: u32,
     left: Item<Context>,
     rest: &[Part<Context>],
@@ -163,16 +178,39 @@ pub(crate) fn push_elements_from(
     requires left { IsPayable y.now most left }
     requires fits { cost_of (unshared_of y.now left) + cost_of_parts (printed_by y.now rest.now) ≤ most }
     requires rest { ArePayable y.now most rest.now }
+    requires numbers { count_of numbering + cost_of_parts (printed_by y.now parts.now) < most }
     requires paid { ArePayable y.now most parts.now }
-    ensures grows { OnOk result (Grows y.now most tasks.old tasks.new (elements_here role (plain_tree (table_of y.now) node) (printed_by y.now parts.now)) (4 * steps_of_parts (printed_by y.now parts.now) + 3)) }
+    ensures grows { OnOk result (Grows y.now most tasks.old tasks.new (elements_here role numbering (plain_tree (table_of y.now) node) (printed_by y.now parts.now)) (4 * steps_of_parts (printed_by y.now parts.now) + 3)) }
     ensures refusals { IfErr result (λ refusal. refusal ≡ Refusal.Memory) }
 {
     match first_of(y, rest, most) {
-        Split::Nothing => tasks.push(Task::Elements(role, rest_node(y, node), left)),
+        Split::Nothing => tasks.push(Task::Elements(
+            role,
+            next(numbering),
+            rest_node(y, node),
+            left,
+        )),
         Split::Text(_, _) => push_plain(y, tasks, parts, most),
         Split::Item(right, others) => {
-            push_elements_after(y, tasks, role, rest_node(y, node), others, most)?;
-            push_element(y, tasks, role, element_node(y, node), left, right, most)
+            push_elements_after(
+                y,
+                tasks,
+                role,
+                next(numbering),
+                rest_node(y, node),
+                others,
+                most,
+            )?;
+            push_element(
+                y,
+                tasks,
+                role,
+                numbering,
+                element_node(y, node),
+                left,
+                right,
+                most,
+            )
         }
     }
 }
@@ -186,20 +224,22 @@ pub(crate) fn push_elements_here(
     y: &Symbol,
     tasks: &mut Tasks,
     role: Role,
+    numbering: Numbering,
     node: u32,
     parts: &[Part<Context>],
     most: u32,
 ) -> Result<(), Refusal>
     requires node { node < length y.now.table.nodes }
+    requires numbers { count_of numbering + cost_of_parts (printed_by y.now parts.now) < most }
     requires paid { ArePayable y.now most parts.now }
-    ensures grows { OnOk result (Grows y.now most tasks.old tasks.new (elements_here role (plain_tree (table_of y.now) node) (printed_by y.now parts.now)) (4 * steps_of_parts (printed_by y.now parts.now) + 3)) }
+    ensures grows { OnOk result (Grows y.now most tasks.old tasks.new (elements_here role numbering (plain_tree (table_of y.now) node) (printed_by y.now parts.now)) (4 * steps_of_parts (printed_by y.now parts.now) + 3)) }
     ensures refusals { IfErr result (λ refusal. refusal ≡ Refusal.Memory) }
 {
     match first_of(y, parts, most) {
         Split::Nothing => push_plain(y, tasks, parts, most),
         Split::Text(_, _) => push_plain(y, tasks, parts, most),
         Split::Item(left, rest) => {
-            push_elements_from(y, tasks, role, node, left, rest, parts, most)
+            push_elements_from(y, tasks, role, numbering, node, left, rest, parts, most)
         }
     }
 }
@@ -213,20 +253,22 @@ pub(crate) fn push_elements(
     y: &Symbol,
     tasks: &mut Tasks,
     role: Role,
+    numbering: Numbering,
     node: u32,
     parts: &[Part<Context>],
     most: u32,
 ) -> Result<(), Refusal>
     requires node { node < length y.now.table.nodes }
+    requires numbers { count_of numbering + cost_of_parts (printed_by y.now parts.now) < most }
     requires paid { ArePayable y.now most parts.now }
-    ensures grows { OnOk result (Grows y.now most tasks.old tasks.new (elements role (plain_tree (table_of y.now) node) (printed_by y.now parts.now)) (4 * steps_of_parts (printed_by y.now parts.now) + 3)) }
+    ensures grows { OnOk result (Grows y.now most tasks.old tasks.new (elements role numbering (plain_tree (table_of y.now) node) (printed_by y.now parts.now)) (4 * steps_of_parts (printed_by y.now parts.now) + 3)) }
     ensures refusals { IfErr result (λ refusal. refusal ≡ Refusal.Memory) }
 {
     match first_of(y, parts, most) {
         Split::Nothing => push_plain(y, tasks, parts, most),
-        Split::Item(_, _) => push_elements_here(y, tasks, role, node, parts, most),
+        Split::Item(_, _) => push_elements_here(y, tasks, role, numbering, node, parts, most),
         Split::Text(comma, rest) => {
-            push_elements_here(y, tasks, role, node, rest, most)?;
+            push_elements_here(y, tasks, role, numbering, node, rest, most)?;
             let length = length_of(y, tasks.allocator(), &comma, most)?;
             tasks.push(Task::Skip(length))
         }
@@ -263,9 +305,9 @@ pub(crate) fn push_listed(
     let closing = length_of(y, tasks.allocator(), &close, most)?;
     push_behind(y, tasks, parts, most)?;
     tasks.push(Task::Skip(closing))?;
-    tasks.push(Task::Elements(of_element, node, list))?;
+    tasks.push(Task::Elements(of_element, Numbering::Items(0), node, list))?;
     tasks.push(Task::Skip(count))?;
-    tasks.push(Task::Begin(of_list, count + inside + closing))
+    tasks.push(Task::Begin(of_list, ONLY, count + inside + closing))
 }
 
 /// Brackets without a list, the first of which has this many bytes.
@@ -295,7 +337,7 @@ pub(crate) fn push_empty(
     push_behind(y, tasks, parts, most)?;
     tasks.push(Task::Skip(closing))?;
     tasks.push(Task::Skip(count))?;
-    tasks.push(Task::Begin(of_list, count + closing))
+    tasks.push(Task::Begin(of_list, ONLY, count + closing))
 }
 
 /// Bytes, and what is printed after them, without a mark.

@@ -9,7 +9,8 @@ ghost use Rattle.sym_print.specs.Unshared.{Unshared, item, bytes, text_of, cost_
 ghost use Rattle.cpp_tree.specs.Views.{plain_tree};
 ghost use Rattle.cpp_layout.specs.Layout.{table_of, unshared_of, bytes_of_part, MayBeAsked};
 ghost use Rattle.sym_parts.specs.Marked.{Marked, text, marked, ◌before◌};
-ghost use Rattle.cpp_parts.specs.Roles.{are_colons, scoped, in_std, abbreviated, named, name, whole};
+ghost use Rattle.sym_parts.specs.Plain.{whole};
+ghost use Rattle.cpp_parts.specs.Roles.{are_colons, scoped, in_std, abbreviated, named, name};
 ghost use Rattle.cpp_parts.specs.Sorts.{name_by, AreNamesBelow};
 ghost use Rattle.cpp_parts.specs.Tasks.{ArePayable, IsPayable, printed_by, Grows};
 
@@ -21,7 +22,7 @@ use crate::split::{Split, first_of};
 use crate::task::{Task, Tasks};
 use cpp_layout::{Context, Symbol};
 use sym_core::Refusal;
-use sym_parts::Role;
+use sym_parts::{ONLY, Ordinal, Role};
 use sym_print::{Item, Layout, Part};
 
 /// Whether a text begins with a colon.
@@ -63,9 +64,9 @@ pub(crate) fn push_scoped(
     let front = between.min(2);
     tasks.push(Task::Skip(inner))?;
     tasks.push(Task::Skip(between - front))?;
-    tasks.push(Task::Begin(Role::Base, between - front + inner))?;
+    tasks.push(Task::Begin(Role::Base, ONLY, between - front + inner))?;
     tasks.push(Task::Skip(front))?;
-    push_alone(y, tasks, Role::Scope, outer, most)
+    push_alone(y, tasks, Role::Scope, ONLY, outer, most)
 }
 
 /// The text of std with its colons, and a base.
@@ -89,9 +90,9 @@ pub(crate) fn push_in_std(
 {
     let length = length_of(y, tasks.allocator(), &std, most)?;
     let front = length.min(3);
-    push_whole(y, tasks, Role::Base, parts, most)?;
+    push_whole(y, tasks, Role::Base, ONLY, parts, most)?;
     tasks.push(Task::Skip(length - front))?;
-    push_alone(y, tasks, Role::Scope, front, most)
+    push_alone(y, tasks, Role::Scope, ONLY, front, most)
 }
 
 /// An abbreviation, by its text and what is after it.
@@ -120,9 +121,9 @@ pub(crate) fn push_abbreviation(
     let back = length - front - between;
     tasks.push(Task::Skip(inner))?;
     tasks.push(Task::Skip(back))?;
-    tasks.push(Task::Begin(Role::Base, back + inner))?;
+    tasks.push(Task::Begin(Role::Base, ONLY, back + inner))?;
     tasks.push(Task::Skip(between))?;
-    push_alone(y, tasks, Role::Scope, front, most)
+    push_alone(y, tasks, Role::Scope, ONLY, front, most)
 }
 
 /// A name without arguments that begins with an item: with a scope, if a text with colons is next.
@@ -146,13 +147,13 @@ pub(crate) fn push_named_item(
     ensures refusals { IfErr result (λ refusal. refusal ≡ Refusal.Memory) }
 {
     match first_of(y, rest, most) {
-        Split::Nothing => push_whole(y, tasks, Role::Base, parts, most),
-        Split::Item(_, _) => push_whole(y, tasks, Role::Base, parts, most),
+        Split::Nothing => push_whole(y, tasks, Role::Base, ONLY, parts, most),
+        Split::Item(_, _) => push_whole(y, tasks, Role::Base, ONLY, parts, most),
         Split::Text(colons, others) => {
             if are_colons(y, &colons) {
                 return push_scoped(y, tasks, scope, colons, others, most);
             }
-            push_whole(y, tasks, Role::Base, parts, most)
+            push_whole(y, tasks, Role::Base, ONLY, parts, most)
         }
     }
 }
@@ -180,12 +181,12 @@ pub(crate) fn push_named_text(
     ensures refusals { IfErr result (λ refusal. refusal ≡ Refusal.Memory) }
 {
     match first_of(y, rest, most) {
-        Split::Nothing => push_whole(y, tasks, Role::Base, parts, most),
-        Split::Text(_, _) => push_whole(y, tasks, Role::Base, parts, most),
+        Split::Nothing => push_whole(y, tasks, Role::Base, ONLY, parts, most),
+        Split::Text(_, _) => push_whole(y, tasks, Role::Base, ONLY, parts, most),
         Split::Item(_, others) => match first_of(y, others, most) {
             Split::Nothing => push_in_std(y, tasks, std, rest, most),
-            Split::Text(_, _) => push_whole(y, tasks, Role::Base, parts, most),
-            Split::Item(_, _) => push_whole(y, tasks, Role::Base, parts, most),
+            Split::Text(_, _) => push_whole(y, tasks, Role::Base, ONLY, parts, most),
+            Split::Item(_, _) => push_whole(y, tasks, Role::Base, ONLY, parts, most),
         },
     }
 }
@@ -206,13 +207,13 @@ pub(crate) fn push_named(
     ensures refusals { IfErr result (λ refusal. refusal ≡ Refusal.Memory) }
 {
     match first_of(y, parts, most) {
-        Split::Nothing => push_whole(y, tasks, Role::Base, parts, most),
+        Split::Nothing => push_whole(y, tasks, Role::Base, ONLY, parts, most),
         Split::Item(scope, rest) => push_named_item(y, tasks, scope, rest, parts, most),
         Split::Text(std, rest) => push_named_text(y, tasks, std, rest, parts, most),
     }
 }
 
-/// A name of which an item comes first.
+/// A name of which an item comes first, before this many of its tags.
 ///
 /// # Errors
 ///
@@ -220,6 +221,7 @@ pub(crate) fn push_named(
 pub(crate) fn push_name_of(
     y: &Symbol,
     tasks: &mut Tasks,
+    tags: u32,
     sort: NameSort,
     inner: Item<Context>,
     rest: &[Part<Context>],
@@ -229,30 +231,35 @@ pub(crate) fn push_name_of(
     requires is { printed_by y.now parts.now ≡ item (unshared_of y.now inner) (printed_by y.now rest.now) }
     requires below { AreNamesBelow (length y.now.table.nodes) sort }
     requires inner { IsPayable y.now most inner }
+    requires tags { tags + cost_of_parts (printed_by y.now parts.now) < most }
     requires rest { ArePayable y.now most rest.now }
     requires paid { ArePayable y.now most parts.now }
-    ensures grows { OnOk result (Grows y.now most tasks.old tasks.new (name_by y.now sort (printed_by y.now parts.now)) (4 * steps_of_parts (printed_by y.now parts.now) + 3)) }
+    ensures grows { OnOk result (Grows y.now most tasks.old tasks.new (name_by y.now tags sort (printed_by y.now parts.now)) (4 * steps_of_parts (printed_by y.now parts.now) + 3)) }
     ensures refusals { IfErr result (λ refusal. refusal ≡ Refusal.Memory) }
 {
     match sort {
         NameSort::Instance(template, arguments) => {
             push_arguments(y, tasks, arguments, rest, most)?;
-            tasks.push(Task::Name(template, inner))
+            tasks.push(Task::Name(tags, template, inner))
         }
         NameSort::Tagged(node) => {
-            push_whole(y, tasks, Role::AbiTag, rest, most)?;
-            tasks.push(Task::Name(node, inner))
+            let ordinal = Ordinal {
+                item: tags,
+                element: 0,
+            };
+            push_whole(y, tasks, Role::AbiTag, ordinal, rest, most)?;
+            tasks.push(Task::Name(tags + 1, node, inner))
         }
         NameSort::Inner(node) => {
             push_plain(y, tasks, rest, most)?;
-            tasks.push(Task::Name(node, inner))
+            tasks.push(Task::Name(tags, node, inner))
         }
-        NameSort::Abbreviation => push_whole(y, tasks, Role::Base, parts, most),
+        NameSort::Abbreviation => push_whole(y, tasks, Role::Base, ONLY, parts, most),
         NameSort::Other => push_named(y, tasks, parts, most),
     }
 }
 
-/// A name.
+/// A name, before this many of its tags.
 ///
 /// # Errors
 ///
@@ -260,19 +267,21 @@ pub(crate) fn push_name_of(
 pub(crate) fn push_name(
     y: &Symbol,
     tasks: &mut Tasks,
+    tags: u32,
     node: u32,
     parts: &[Part<Context>],
     most: u32,
 ) -> Result<(), Refusal>
     requires node { node < length y.now.table.nodes }
+    requires tags { tags + cost_of_parts (printed_by y.now parts.now) < most }
     requires paid { ArePayable y.now most parts.now }
-    ensures grows { OnOk result (Grows y.now most tasks.old tasks.new (name (plain_tree (table_of y.now) node) (printed_by y.now parts.now)) (4 * steps_of_parts (printed_by y.now parts.now) + 3)) }
+    ensures grows { OnOk result (Grows y.now most tasks.old tasks.new (name tags (plain_tree (table_of y.now) node) (printed_by y.now parts.now)) (4 * steps_of_parts (printed_by y.now parts.now) + 3)) }
     ensures refusals { IfErr result (λ refusal. refusal ≡ Refusal.Memory) }
 {
     let sort = name_sort(y, node);
     match first_of(y, parts, most) {
-        Split::Item(inner, rest) => push_name_of(y, tasks, sort, inner, rest, parts, most),
-        Split::Nothing => push_whole(y, tasks, Role::Base, parts, most),
+        Split::Item(inner, rest) => push_name_of(y, tasks, tags, sort, inner, rest, parts, most),
+        Split::Nothing => push_whole(y, tasks, Role::Base, ONLY, parts, most),
         Split::Text(text, rest) => match sort {
             NameSort::Abbreviation => push_abbreviation(y, tasks, text, rest, most),
             _ => push_named(y, tasks, parts, most),

@@ -9,7 +9,8 @@ ghost use Rattle.sym_print.specs.Unshared.{Unshared, item, bytes, text_of, cost_
 ghost use Rattle.cpp_tree.specs.Views.{plain_tree};
 ghost use Rattle.cpp_layout.specs.Layout.{table_of, unshared_of, bytes_of_part, MayBeAsked};
 ghost use Rattle.sym_parts.specs.Marked as marks;
-ghost use Rattle.cpp_parts.specs.Roles.{plain, whole, alone, alone_if_any, words, returned, behind};
+ghost use Rattle.sym_parts.specs.Plain.{alone, plain, whole};
+ghost use Rattle.cpp_parts.specs.Roles.{alone_if_any, words, returned, behind};
 ghost use Rattle.cpp_parts.specs.Tasks.{ArePayable, IsPayable, printed_by, Grows};
 
 use crate::lengths::{length_of, length_of_all};
@@ -17,7 +18,7 @@ use crate::split::{Split, first_of};
 use crate::task::{Task, Tasks};
 use cpp_layout::{Context, Symbol};
 use sym_core::Refusal;
-use sym_parts::Role;
+use sym_parts::{ONLY, Ordinal, Role};
 use sym_print::{Item, Part};
 
 /// Goes on by what parts print.
@@ -48,16 +49,17 @@ pub(crate) fn push_whole(
     y: &Symbol,
     tasks: &mut Tasks,
     role: Role,
+    ordinal: Ordinal,
     parts: &[Part<Context>],
     most: u32,
 ) -> Result<(), Refusal>
     requires { ArePayable y.now most parts.now }
-    ensures grows { OnOk result (Grows y.now most tasks.old tasks.new (whole role (printed_by y.now parts.now)) 2) }
+    ensures grows { OnOk result (Grows y.now most tasks.old tasks.new (whole role ordinal (printed_by y.now parts.now)) 2) }
     ensures refusals { IfErr result (λ refusal. refusal ≡ Refusal.Memory) }
 {
     let length = length_of_all(y, tasks.allocator(), parts, most)?;
     tasks.push(Task::Skip(length))?;
-    tasks.push(Task::Begin(role, length))
+    tasks.push(Task::Begin(role, ordinal, length))
 }
 
 /// One part, of this many bytes.
@@ -69,17 +71,18 @@ pub(crate) fn push_alone(
     y: &Symbol,
     tasks: &mut Tasks,
     role: Role,
+    ordinal: Ordinal,
     count: u32,
     _most: u32,
 ) -> Result<(), Refusal>
-    ensures grows { OnOk result ((b : List ℕ) → length b ≡ count → Grows y.now _most tasks.old tasks.new (alone role b marks.done) 2) }
+    ensures grows { OnOk result ((b : List ℕ) → length b ≡ count → Grows y.now _most tasks.old tasks.new (alone role ordinal b marks.done) 2) }
     ensures refusals { IfErr result (λ refusal. refusal ≡ Refusal.Memory) }
 {
     tasks.push(Task::Skip(count))?;
-    tasks.push(Task::Begin(role, count))
+    tasks.push(Task::Begin(role, ordinal, count))
 }
 
-/// The words of a special name, which have this many bytes with the blank after them.
+/// The words of a special name, after this many others, which have this many bytes with the blank after them.
 ///
 /// # Errors
 ///
@@ -87,15 +90,20 @@ pub(crate) fn push_alone(
 pub(crate) fn push_words(
     y: &Symbol,
     tasks: &mut Tasks,
+    specials: u32,
     count: u32,
     most: u32,
 ) -> Result<(), Refusal>
-    ensures grows { OnOk result ((b : List ℕ) → length b ≡ count → Grows y.now most tasks.old tasks.new (words b marks.done) 3) }
+    ensures grows { OnOk result ((b : List ℕ) → length b ≡ count → Grows y.now most tasks.old tasks.new (words specials b marks.done) 3) }
     ensures refusals { IfErr result (λ refusal. refusal ≡ Refusal.Memory) }
 {
     let blank = count.min(1);
     tasks.push(Task::Skip(blank))?;
-    push_alone(y, tasks, Role::Special, count - blank, most)
+    let ordinal = Ordinal {
+        item: specials,
+        element: 0,
+    };
+    push_alone(y, tasks, Role::Special, ordinal, count - blank, most)
 }
 
 /// The rest of a return type, where it has one.
@@ -122,7 +130,7 @@ pub(crate) fn push_returned(
             if length == 0 {
                 return Ok(());
             }
-            push_alone(y, tasks, Role::ReturnType, length, most)
+            push_alone(y, tasks, Role::ReturnType, ONLY, length, most)
         }
     }
 }
@@ -148,7 +156,7 @@ pub(crate) fn push_behind(
         Split::Text(text, rest) => {
             push_returned(y, tasks, rest, most)?;
             let length = length_of(y, tasks.allocator(), &text, most)?;
-            push_alone(y, tasks, Role::Qualifiers, length, most)
+            push_alone(y, tasks, Role::Qualifiers, ONLY, length, most)
         }
     }
 }

@@ -1,14 +1,16 @@
 // The sorts of names, encodings and elements, by their nodes.
 #![tactic(auto)]
 
-ghost use Rattle.std.specs.Prelude.{◌≡◌, ◌<◌, length, MatchOption, Some, None};
+ghost use Rattle.std.specs.Prelude.{◌≡◌, ◌<◌, ◌≤◌, ℕ, length, MatchOption, Some, None};
 ghost use Rattle.sym_print.specs.Unshared.{Unshared};
 ghost use Rattle.cpp_tree.specs.Views.{plain_tree};
 ghost use Rattle.cpp_layout.specs.Layout.{table_of};
 ghost use Rattle.cpp_grammar.specs.Parts.{entity_of};
-ghost use Rattle.cpp_parts.specs.Roles.{is_absent, name, encoding, element_of, rest_of, within};
+ghost use Rattle.cpp_parts.specs.Roles.{is_absent, name, encoding, element_of, rest_of, within, inside};
+ghost use Rattle.cpp_parts.specs.Tasks.{count_of};
 ghost use Rattle.cpp_parts.specs.Sorts.{name_by, encoding_by, AreNamesBelow, AreTypesBelow};
 
+use crate::numbering::{Numbering, ordinal_of};
 use cpp_layout::{Symbol, tree_production as production};
 
 /// The sort of a name, with the nodes of what its parts are listed of.
@@ -51,7 +53,7 @@ fn entity_node(y: &Symbol, entity: u32) -> u32
 /// The sort of a name.
 pub(crate) fn name_sort(y: &Symbol, node: u32) -> NameSort
     requires { node < length y.now.table.nodes }
-    ensures is { (printed : Unshared) → name (plain_tree (table_of y.now) node) printed ≡ name_by y.now result printed }
+    ensures is { (tags : ℕ) (printed : Unshared) → name tags (plain_tree (table_of y.now) node) printed ≡ name_by y.now tags result printed }
     ensures below { AreNamesBelow (length y.now.table.nodes) result }
 {
     let found = y.node(node).production;
@@ -90,7 +92,7 @@ fn returns_nothing(y: &Symbol, returned: u32) -> bool
 /// The sort of an encoding.
 pub(crate) fn encoding_sort(y: &Symbol, node: u32) -> EncodingSort
     requires { node < length y.now.table.nodes }
-    ensures is { (printed : Unshared) → encoding (plain_tree (table_of y.now) node) printed ≡ encoding_by y.now result printed }
+    ensures is { (specials : ℕ) (printed : Unshared) → encoding specials (plain_tree (table_of y.now) node) printed ≡ encoding_by y.now specials result printed }
     ensures below { AreTypesBelow (length y.now.table.nodes) result }
 {
     let found = y.node(node).production;
@@ -157,4 +159,23 @@ pub(crate) fn node_within(y: &Symbol, node: u32) -> Option<u32>
         return Some(y.part(node, 0));
     }
     None
+}
+
+/// How the elements of an element are numbered, by how it is itself.
+#[tactic(auto, unfolding(crate::specs::Tasks::count_of))]
+pub(crate) fn numbering_within(y: &Symbol, node: u32, numbering: Numbering) -> Numbering
+    requires { node < length y.now.table.nodes }
+    ensures is { result ≡ inside numbering (plain_tree (table_of y.now) node) }
+    ensures few { count_of result ≤ 1 }
+{
+    let ordinal = ordinal_of(numbering);
+    match numbering {
+        Numbering::Items(item) => {
+            if y.node(node).production == production::PACK {
+                return Numbering::Elements(item, 1);
+            }
+            Numbering::Alike(ordinal)
+        }
+        _ => Numbering::Alike(ordinal),
+    }
 }

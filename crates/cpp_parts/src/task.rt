@@ -5,27 +5,28 @@ ghost use Rattle.std.specs.Prelude.{◌≡◌, ◌∷◌, [], OnOk, IfErr, Match
 ghost use Rattle.sym_core.specs.declared.refusal.Refusal.{Refusal};
 ghost use Rattle.cpp_parts.specs.declared.task.Task.{Task};
 
+use crate::numbering::Numbering;
 use cpp_layout::Context;
 use std::alloc::Global;
 use std::marker::Model;
 use sym_core::Refusal;
-use sym_parts::Role;
+use sym_parts::{Ordinal, Role};
 use sym_print::Item;
 use sym_room::push_within;
 
-/// Something to be done: to go on by bytes, to begin a part, or to list the parts of an item. With the item is the node of its tree.
+/// Something to be done: to go on by bytes, to begin a stretch, or to list the parts of an item. With the item is the node of its tree.
 #[derive(Clone, Copy)]
 pub(crate) enum Task {
     /// To go on by this many bytes.
     Skip(u32),
-    /// To begin a part of this role and length.
-    Begin(Role, u32),
-    /// To list the parts of an encoding.
-    Encoding(u32, Item<Context>),
-    /// To list the parts of a name.
-    Name(u32, Item<Context>),
+    /// To begin a stretch of this role, ordinal and length.
+    Begin(Role, Ordinal, u32),
+    /// To list the parts of an encoding, after the words of this many special names.
+    Encoding(u32, u32, Item<Context>),
+    /// To list the parts of a name, before this many of its tags.
+    Name(u32, u32, Item<Context>),
     /// To list the elements, each of this role, of a list or of a pattern that is expanded.
-    Elements(Role, u32, Item<Context>),
+    Elements(Role, Numbering, u32, Item<Context>),
 }
 
 /// Tasks, the next one first.

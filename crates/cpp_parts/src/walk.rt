@@ -1,4 +1,4 @@
-// The parts of a symbol's text.
+// The stretches of a symbol's text.
 #![tactic(auto)]
 
 ghost use Rattle.std.specs.Prelude.{◌≡◌, ◌+◌, ◌<◌, ◌≤◌, ◌^◌, ◌++◌, ◌⊎◌, Err, IfErr, IfOk, OnOk, length};
@@ -6,21 +6,22 @@ ghost use Rattle.std.specs.List.{All};
 ghost use Rattle.sym_core.specs.declared.refusal.Refusal.{Refusal};
 ghost use Rattle.sym_print.specs.declared.detail.Detail.{Detail};
 ghost use Rattle.sym_print.specs.Unshared.{cost_of};
-ghost use Rattle.sym_parts.specs.Marked.{parts_of};
-ghost use Rattle.cpp_layout.specs.Layout.{whole_of, shown_symbol};
+ghost use Rattle.sym_parts.specs.Marked.{stretches_of};
+ghost use Rattle.cpp_layout.specs.Layout.{whole_of, shown_symbol, unshared_of};
 ghost use Rattle.sym_parts.specs.Marks.{skipped};
 ghost use Rattle.cpp_parts.specs.Roles.{symbol_marked};
 ghost use Rattle.cpp_parts.specs.declared.task.Task.{Task};
-ghost use Rattle.cpp_parts.specs.Tasks.{IsTask, IsPayable, Lists, marks_of_task, marks_of_tasks, weight_of_task, weight_of_tasks};
+ghost use Rattle.cpp_parts.specs.Tasks.{count_of, IsTask, IsPayable, Lists, marks_of_task, marks_of_tasks, weight_of_task, weight_of_tasks};
 
 use crate::encodings::{push_encoding, push_symbol};
 use crate::lists::push_elements;
 use crate::names::push_name;
+use crate::numbering::Numbering;
 use crate::task::{Task, Tasks};
 use cpp_layout::{Context, Detail, Symbol};
 use std::alloc::Global;
 use sym_core::Refusal;
-use sym_parts::{Part, Parts, Role, length_of_part};
+use sym_parts::{Role, Stretch, Stretches, length_of_part};
 use sym_print::{Item, Layout};
 
 /// Lists the parts of an encoding.
@@ -31,19 +32,21 @@ use sym_print::{Item, Layout};
 fn take_encoding(
     y: &Symbol,
     tasks: &mut Tasks,
+    specials: u32,
     node: u32,
     item: Item<Context>,
     most: u32,
 ) -> Result<(), Refusal>
     requires node { node < length y.now.table.nodes }
     requires item { IsPayable y.now most item }
-    ensures marks { OnOk result (marks_of_tasks y.now tasks.new ≡ marks_of_task y.now (Task.Encoding node item) ++ marks_of_tasks y.now tasks.old) }
+    requires specials { specials + cost_of (unshared_of y.now item) ≤ most }
+    ensures marks { OnOk result (marks_of_tasks y.now tasks.new ≡ marks_of_task y.now (Task.Encoding specials node item) ++ marks_of_tasks y.now tasks.old) }
     ensures tasks { OnOk result (All (IsTask y.now most) tasks.old → All (IsTask y.now most) tasks.new) }
-    ensures weight { OnOk result (weight_of_tasks y.now tasks.new < weight_of_task y.now (Task.Encoding node item) + weight_of_tasks y.now tasks.old) }
+    ensures weight { OnOk result (weight_of_tasks y.now tasks.new < weight_of_task y.now (Task.Encoding specials node item) + weight_of_tasks y.now tasks.old) }
     ensures refusals { IfErr result (λ refusal. refusal ≡ Refusal.Memory) }
 {
     let parts = y.parts(item);
-    push_encoding(y, tasks, node, &parts, most)
+    push_encoding(y, tasks, specials, node, &parts, most)
 }
 
 /// Lists the parts of a name.
@@ -54,19 +57,21 @@ fn take_encoding(
 fn take_name(
     y: &Symbol,
     tasks: &mut Tasks,
+    tags: u32,
     node: u32,
     item: Item<Context>,
     most: u32,
 ) -> Result<(), Refusal>
     requires node { node < length y.now.table.nodes }
     requires item { IsPayable y.now most item }
-    ensures marks { OnOk result (marks_of_tasks y.now tasks.new ≡ marks_of_task y.now (Task.Name node item) ++ marks_of_tasks y.now tasks.old) }
+    requires tags { tags + cost_of (unshared_of y.now item) ≤ most }
+    ensures marks { OnOk result (marks_of_tasks y.now tasks.new ≡ marks_of_task y.now (Task.Name tags node item) ++ marks_of_tasks y.now tasks.old) }
     ensures tasks { OnOk result (All (IsTask y.now most) tasks.old → All (IsTask y.now most) tasks.new) }
-    ensures weight { OnOk result (weight_of_tasks y.now tasks.new < weight_of_task y.now (Task.Name node item) + weight_of_tasks y.now tasks.old) }
+    ensures weight { OnOk result (weight_of_tasks y.now tasks.new < weight_of_task y.now (Task.Name tags node item) + weight_of_tasks y.now tasks.old) }
     ensures refusals { IfErr result (λ refusal. refusal ≡ Refusal.Memory) }
 {
     let parts = y.parts(item);
-    push_name(y, tasks, node, &parts, most)
+    push_name(y, tasks, tags, node, &parts, most)
 }
 
 /// Lists the elements of a list.
@@ -78,26 +83,28 @@ fn take_elements(
     y: &Symbol,
     tasks: &mut Tasks,
     role: Role,
+    numbering: Numbering,
     node: u32,
     item: Item<Context>,
     most: u32,
 ) -> Result<(), Refusal>
     requires node { node < length y.now.table.nodes }
     requires item { IsPayable y.now most item }
-    ensures marks { OnOk result (marks_of_tasks y.now tasks.new ≡ marks_of_task y.now (Task.Elements role node item) ++ marks_of_tasks y.now tasks.old) }
+    requires numbers { count_of numbering + cost_of (unshared_of y.now item) ≤ most }
+    ensures marks { OnOk result (marks_of_tasks y.now tasks.new ≡ marks_of_task y.now (Task.Elements role numbering node item) ++ marks_of_tasks y.now tasks.old) }
     ensures tasks { OnOk result (All (IsTask y.now most) tasks.old → All (IsTask y.now most) tasks.new) }
-    ensures weight { OnOk result (weight_of_tasks y.now tasks.new < weight_of_task y.now (Task.Elements role node item) + weight_of_tasks y.now tasks.old) }
+    ensures weight { OnOk result (weight_of_tasks y.now tasks.new < weight_of_task y.now (Task.Elements role numbering node item) + weight_of_tasks y.now tasks.old) }
     ensures refusals { IfErr result (λ refusal. refusal ≡ Refusal.Memory) }
 {
     let parts = y.parts(item);
-    push_elements(y, tasks, role, node, &parts, most)
+    push_elements(y, tasks, role, numbering, node, &parts, most)
 }
 
 /// Does one task.
 fn take(
     y: &Symbol,
     tasks: &mut Tasks,
-    found: &mut Parts,
+    found: &mut Stretches,
     task: Task,
     most: u32,
 ) -> Result<(), Refusal>
@@ -114,20 +121,29 @@ fn take(
             found.skip(length);
             Ok(())
         }
-        Task::Begin(role, length) => found.begin(role, length),
-        Task::Encoding(node, item) => take_encoding(y, tasks, node, item, most),
-        Task::Name(node, item) => take_name(y, tasks, node, item, most),
-        Task::Elements(role, node, item) => take_elements(y, tasks, role, node, item, most),
+        Task::Begin(role, ordinal, length) => found.begin(role, ordinal, length),
+        Task::Encoding(specials, node, item) => {
+            take_encoding(y, tasks, specials, node, item, most)
+        }
+        Task::Name(tags, node, item) => take_name(y, tasks, tags, node, item, most),
+        Task::Elements(role, numbering, node, item) => {
+            take_elements(y, tasks, role, numbering, node, item, most)
+        }
     }
 }
 
-/// The parts of a symbol's text in a detail, if that costs at most the limit.
+/// The stretches of a symbol's text in a detail, if that costs at most the limit.
 ///
 /// # Errors
 ///
 /// `TooLong` exactly where it costs more, `Memory` where a list couldn't grow.
-pub fn parts_as(alloc: Global, y: &Symbol, limit: u32, detail: Detail) -> Result<Vec<Part>, Refusal>
-    ensures parts { IfOk result (λ parts. parts.items ≡ parts_of (symbol_marked (whole_of y.now) (shown_symbol detail y.now))) }
+pub fn stretches_as(
+    alloc: Global,
+    y: &Symbol,
+    limit: u32,
+    detail: Detail,
+) -> Result<Vec<Stretch>, Refusal>
+    ensures stretches { IfOk result (λ found. found.items ≡ stretches_of (symbol_marked (whole_of y.now) (shown_symbol detail y.now))) }
     ensures within { OnOk result (cost_of (shown_symbol detail y.now) ≤ limit) }
     ensures refusals { IfErr result (λ r. (r ≡ Refusal.TooLong) ⊎ (r ≡ Refusal.Memory)) }
     ensures too_long { result ≡ Err Refusal.TooLong → limit < cost_of (shown_symbol detail y.now) }
@@ -135,7 +151,7 @@ pub fn parts_as(alloc: Global, y: &Symbol, limit: u32, detail: Detail) -> Result
     let root = y.root_as(detail);
     length_of_part(alloc, y, &sym_print::Part::Sub(root), limit)?;
     let mut tasks = Tasks::new(alloc);
-    let mut found = Parts::new(alloc);
+    let mut found = Stretches::new(alloc);
     push_symbol(y, &mut tasks, y.root_node(), &y.parts(root), limit)?;
     'tasks: while let Some(task) = tasks.pop() {
         take(y, &mut tasks, &mut found, task, limit)?;
@@ -143,16 +159,16 @@ pub fn parts_as(alloc: Global, y: &Symbol, limit: u32, detail: Detail) -> Result
     Ok(found.into_list())
 }
 
-/// The parts of a symbol's text in full, if that costs at most the limit.
+/// The stretches of a symbol's text in full, if that costs at most the limit.
 ///
 /// # Errors
 ///
 /// `TooLong` exactly where it costs more, `Memory` where a list couldn't grow.
-pub fn parts(alloc: Global, y: &Symbol, limit: u32) -> Result<Vec<Part>, Refusal>
-    ensures parts { IfOk result (λ parts. parts.items ≡ parts_of (symbol_marked (whole_of y.now) (shown_symbol Detail.Full y.now))) }
+pub fn stretches(alloc: Global, y: &Symbol, limit: u32) -> Result<Vec<Stretch>, Refusal>
+    ensures stretches { IfOk result (λ found. found.items ≡ stretches_of (symbol_marked (whole_of y.now) (shown_symbol Detail.Full y.now))) }
     ensures within { OnOk result (cost_of (shown_symbol Detail.Full y.now) ≤ limit) }
     ensures refusals { IfErr result (λ r. (r ≡ Refusal.TooLong) ⊎ (r ≡ Refusal.Memory)) }
     ensures too_long { result ≡ Err Refusal.TooLong → limit < cost_of (shown_symbol Detail.Full y.now) }
 {
-    parts_as(alloc, y, limit, Detail::Full)
+    stretches_as(alloc, y, limit, Detail::Full)
 }

@@ -13,12 +13,13 @@ use Rattle.json.proofs.Printed.Trees.{document-print}
 use Rattle.sym_core.specs.declared.refusal.Refusal.{Refusal}
 use Rattle.sym_core.specs.declared.refusal.Refusal.TheVariants.{Malformed, BadReference, BadValue, TooLong, Memory}
 use Rattle.std.specs.Prelude.{codes, fold}
-use Rattle.json_lines.specs.declared.manglings.Mangling.{Mangling}
+use Rattle.text_details.specs.declared.manglings.Mangling.{Mangling}
 use Rattle.text_details.specs.Details.{Details}
-use Rattle.json_lines.specs.Meanings.{Meaning, has_text, refused, no_symbol, language_of, mangling_name}
+use Rattle.text_details.specs.Manglings.{language_of, mangling_name}
+use Rattle.json_lines.specs.Meanings.{Meaning, has_text, refused, no_symbol}
 use Rattle.sym_parts.specs.Words.{role_name}
 use Rattle.sym_parts.specs.declared.part.Part.{Part}
-use Rattle.json_lines.specs.Objects.{AreDetails, HasPlace, IsLine, IsMeaning, IsPart, LinesAreObjects, detail_members, line_members, mangling_members, meaning_members, name_members, object_of, part_items, part_object, refusal_members, text_of}
+use Rattle.json_lines.specs.Objects.{AreDetails, HasPlace, IsLine, IsMeaning, IsPart, LinesAreObjects, detail_members, line_members, mangling_members, meaning_members, name_members, object_of, part_items, part_object, refusal_members, text_of, two_numbers}
 use Rattle.json_lines.specs.Tokens.{front_of, later_part, members_text, parts_text}
 
 pub tokens-front : (members : Members) → members_tokens members ≡ front_of members ++ Token.end_object ∷ []
@@ -120,12 +121,22 @@ put-parts name parts old mid begun all new d e f g =
     ∙ ap (λ (t : List ℕ). old ++ t) (sym (parts-member name parts))
 
 -- the members of a part's object
-pub put-part : (role start length old begun with_role with_start with_length new : List ℕ) → begun ≡ old ++ 123 ∷ [] → with_role ≡ begun ++ role → with_start ≡ with_role ++ start → with_length ≡ with_start ++ length → new ≡ with_length ++ 125 ∷ []
-    → new ≡ old ++ (123 ∷ (((role ++ start) ++ length) ++ 125 ∷ []))
-put-part role start length old begun with_role with_start with_length new d e f g h =
+pub put-part : (role stretch spelling old begun with_role with_stretch all new : List ℕ) → begun ≡ old ++ 123 ∷ [] → with_role ≡ begun ++ role → with_stretch ≡ with_role ++ stretch → all ≡ with_stretch ++ spelling → new ≡ all ++ 125 ∷ []
+    → new ≡ old ++ (123 ∷ (((role ++ stretch) ++ spelling) ++ 125 ∷ []))
+put-part role stretch spelling old begun with_role with_stretch all new d e f g h =
     let first = old ++ 123 ∷ [] in
-    h ∙ ap (λ (t : List ℕ). t ++ 125 ∷ []) (g ∙ ap (λ (t : List ℕ). t ++ length) (f ∙ ap (λ (t : List ℕ). t ++ start) (e ∙ ap (λ (t : List ℕ). t ++ role) d) ∙ append_assoc first role start) ∙ append_assoc first (role ++ start) length)
-    ∙ append_assoc first ((role ++ start) ++ length) (125 ∷ []) ∙ append_assoc old (123 ∷ []) (((role ++ start) ++ length) ++ 125 ∷ [])
+    h ∙ ap (λ (t : List ℕ). t ++ 125 ∷ []) (g ∙ ap (λ (t : List ℕ). t ++ spelling) (f ∙ ap (λ (t : List ℕ). t ++ stretch) (e ∙ ap (λ (t : List ℕ). t ++ role) d) ∙ append_assoc first role stretch) ∙ append_assoc first (role ++ stretch) spelling)
+    ∙ append_assoc first ((role ++ stretch) ++ spelling) (125 ∷ []) ∙ append_assoc old (123 ∷ []) (((role ++ stretch) ++ spelling) ++ 125 ∷ [])
+
+-- two numbers
+pub put-numbers : (first : List ℕ) (one : ℕ) (second : List ℕ) (other : ℕ) (given also : ℕ) (old mid new : List ℕ) → given ≡ one → also ≡ other
+    → mid ≡ old ++ members_text true (member first (number (decimal given)) no_members) → new ≡ mid ++ members_text true (member second (number (decimal also)) no_members)
+    → new ≡ old ++ members_text true (two_numbers first one second other no_members)
+put-numbers first one second other given also old mid new is same e f =
+    let before : ℕ → List ℕ = λ n. members_text true (member first (number (decimal n)) no_members) in
+    let after : ℕ → List ℕ = λ n. members_text true (member second (number (decimal n)) no_members) in
+    put-two old mid new (before one) (after other) (members_text true (two_numbers first one second other no_members)) (e ∙ ap (λ n. old ++ before n) is) (f ∙ ap (λ n. mid ++ after n) same)
+    (text-number true first (decimal one) (member second (number (decimal other)) no_members))
 
 -- a name, after a comma or not
 pub put-name : (has_some : Bool) (name old begun mid new : List ℕ) → begun ≡ old ++ cond has_some (44 ∷ []) [] → mid ≡ begun ++ quoted name → new ≡ mid ++ 58 ∷ [] → new ≡ old ++ print_from has_some (Token.key name ∷ [])
@@ -149,17 +160,28 @@ object-text members =
     ap (λ (ts : List Token). 123 ∷ print_from false ts) (tokens-front members)
     ∙ ap (λ (t : List ℕ). 123 ∷ t) (print_from-append false (front_of members) (Token.end_object ∷ []) ∙ ap (λ (t : List ℕ). members_text false members ++ t) (end-text (fold (λ _ u. ends u) false (front_of members))))
 
+-- two numbers
+pub two-text : (first : List ℕ) (one : ℕ) (second : List ℕ) (other : ℕ) (others : Members)
+    → members_text true (two_numbers first one second other others) ≡ members_text true (two_numbers first one second other no_members) ++ members_text true others
+two-text first one second other others =
+    let before = members_text true (member first (number (decimal one)) no_members) in
+    let after = members_text true (member second (number (decimal other)) no_members) in
+    text-number true first (decimal one) (member second (number (decimal other)) others)
+    ∙ ap (λ (t : List ℕ). before ++ t) (text-number true second (decimal other) others) ∙ sym (append_assoc before after (members_text true others))
+    ∙ ap (λ (t : List ℕ). t ++ members_text true others) (sym (text-number true first (decimal one) (member second (number (decimal other)) no_members)))
+
 -- a part's
 pub part-text : (part : Part) → print (json_tokens (part_object part)) ≡ 123 ∷ (((members_text false (member (codes "role") (string (role_name part.role)) no_members)
-    ++ members_text true (member (codes "start") (number (decimal part.start)) no_members)) ++ members_text true (member (codes "length") (number (decimal part.length)) no_members)) ++ 125 ∷ [])
+    ++ members_text true (two_numbers (codes "start") part.start (codes "length") part.length no_members))
+    ++ members_text true (two_numbers (codes "from") part.from (codes "to") part.to no_members)) ++ 125 ∷ [])
 part-text part =
-    let last : Members = member (codes "length") (number (decimal part.length)) no_members in
-    let later : Members = member (codes "start") (number (decimal part.start)) last in
+    let last : Members = two_numbers (codes "from") part.from (codes "to") part.to no_members in
+    let later : Members = two_numbers (codes "start") part.start (codes "length") part.length last in
     let role = members_text false (member (codes "role") (string (role_name part.role)) no_members) in
-    let start = members_text true (member (codes "start") (number (decimal part.start)) no_members) in
+    let stretch = members_text true (two_numbers (codes "start") part.start (codes "length") part.length no_members) in
     object-text (member (codes "role") (string (role_name part.role)) later)
     ∙ ap (λ (t : List ℕ). 123 ∷ (t ++ 125 ∷ [])) (text-word false (codes "role") (role_name part.role) later
-    ∙ ap (λ (t : List ℕ). role ++ t) (text-number true (codes "start") (decimal part.start) last) ∙ sym (append_assoc role start (members_text true last)))
+    ∙ ap (λ (t : List ℕ). role ++ t) (two-text (codes "start") part.start (codes "length") part.length last) ∙ sym (append_assoc role stretch (members_text true last)))
 
 -- the members of a name after those of its line
 pub all-members : (line : Option ℕ) (name : List ℕ) (meaning : Meaning) → print (json_tokens (object_of line name meaning))
@@ -187,7 +209,7 @@ part-numbers : (parts : List Part) → All IsPart parts → ItemsHaveNumbers (pa
 part-numbers [] all = tt
 part-numbers (part ∷ parts) all =
     let first = all 0 part (omega arith) in (
-      (tt, (IsNumber-decimal part.start first.0, (IsNumber-decimal part.length first.1, tt))),
+      (tt, (IsNumber-decimal part.start first.0, (IsNumber-decimal part.length first.1, (IsNumber-decimal part.from first.2, (IsNumber-decimal part.to first.3, tt))))),
       part-numbers parts (λ k d lt. all (suc k) d (omega (arith, lt))),
     )
 

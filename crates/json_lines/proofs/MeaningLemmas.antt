@@ -6,9 +6,10 @@ use Rattle.sym_core.specs.declared.refusal.Refusal.{Refusal}
 use Rattle.sym_filter.specs.Kinds.{kind_of, symbol_of}
 use Rattle.sym_filter.specs.Runs.{Answering, text_for, trimmed}
 use Rattle.sym_filter.specs.declared.kinds.Kind.{Kind}
-use Rattle.json_lines.specs.declared.manglings.Mangling.{Mangling}
+use Rattle.text_details.specs.declared.manglings.Mangling.{Mangling}
 use Rattle.text_details.specs.Details.{Details, Detailing}
-use Rattle.json_lines.specs.Meanings.{no_symbol, answered, mangling_of, meaning_by, named_by, stays, symbol_meaning}
+use Rattle.text_details.specs.Manglings.{mangling_of}
+use Rattle.json_lines.specs.Meanings.{no_symbol, answered, meaning_by, named_by, stays, symbol_meaning}
 
 pub unnamed : (reads_paths : Bool) (answers : Answering) (details : Detailing) (name : List ℕ) → kind_of name ≡ None → no_symbol ≡ symbol_meaning reads_paths answers details name
 unfolding symbol_meaning

@@ -1,35 +1,16 @@
 -- What a name is.
-use Rattle.std.specs.Prelude.{ℕ, List, Bool, ◌&&◌, is_some, false, true, Option, Some, None, Result, Ok, Err, codes, if◌then◌else◌}
+use Rattle.std.specs.Prelude.{ℕ, List, Bool, is_some, false, true, Option, Some, None, Result, Ok, Err, if◌then◌else◌}
 use Rattle.sym_core.specs.declared.refusal.Refusal.{Refusal}
-use Rattle.rust_legacy.specs.Path.{legacy_of}
 use Rattle.sym_filter.specs.Kinds.{kind_of, symbol_of}
 use Rattle.sym_filter.specs.Runs.{Answering, text_for, trimmed}
 use Rattle.sym_filter.specs.declared.kinds.Kind.{Kind}
-use Rattle.sym_filter.specs.declared.kinds.Lang.{Lang}
-use Rattle.sym_filter.specs.declared.kinds.Lang.TheVariants.{Cpp, Rust}
 use Rattle.text_details.specs.Details.{Details, Detailing, details_in}
 use Rattle.type_names.specs.Types.{type_for}
-use Rattle.json_lines.specs.declared.manglings.Mangling.{Mangling}
-use Rattle.json_lines.specs.declared.manglings.Mangling.TheVariants.{Itanium, RustV0, RustLegacy}
+use Rattle.text_details.specs.Manglings.{mangling_of}
+use Rattle.text_details.specs.declared.manglings.Mangling.{Mangling}
+use Rattle.text_details.specs.declared.manglings.Mangling.TheVariants.{Itanium}
 use Rattle.json_lines.specs.declared.meanings.Meaning.{Meaning as Meaning-type}
 use Rattle.json_lines.specs.declared.meanings.Meaning.TheVariants as meanings
-
--- ## Manglings
-
-abbrev pub language_of : Mangling → List ℕ
-language_of Itanium = codes "c++"
-language_of RustV0 = codes "rust"
-language_of RustLegacy = codes "rust"
-
-abbrev pub mangling_name : Mangling → List ℕ
-mangling_name Itanium = codes "itanium"
-mangling_name RustV0 = codes "rust-v0"
-mangling_name RustLegacy = codes "rust-legacy"
-
--- a legacy Rust name is one of C++, too, and of Rust only where it is read as a path
-abbrev pub mangling_of : (reads_paths : Bool) → Lang → List ℕ → Mangling
-mangling_of reads_paths Cpp symbol = if reads_paths && is_some (legacy_of symbol) then RustLegacy else Itanium
-mangling_of reads_paths Rust symbol = RustV0
 
 -- ## Meanings
 

@@ -13,9 +13,10 @@ use Rattle.sym_parts.specs.Words.{kind_name, role_name}
 use Rattle.sym_parts.specs.declared.part.Part.{Part}
 use Rattle.demangle_names.specs.Escaped.{escaped}
 use Rattle.demangle_names.specs.Saying.{Saying}
-use Rattle.json_lines.specs.declared.manglings.Mangling.{Mangling}
+use Rattle.text_details.specs.declared.manglings.Mangling.{Mangling}
 use Rattle.text_details.specs.Details.{Details, Detailing}
-use Rattle.json_lines.specs.Meanings.{Meaning, has_text, refused, no_symbol, language_of, mangling_name, meaning_of, named_by, stays, symbol_meaning}
+use Rattle.text_details.specs.Manglings.{language_of, mangling_name}
+use Rattle.json_lines.specs.Meanings.{Meaning, has_text, refused, no_symbol, meaning_of, named_by, stays, symbol_meaning}
 
 -- ## Objects
 
@@ -37,10 +38,15 @@ refusal_members (BadValue at) = at_place (codes "bad-value") at
 refusal_members TooLong = without_place (codes "too-long")
 refusal_members Memory = no_members
 
--- a part of a text: its role, and the stretch of the text's bytes that it is
+-- two numbers before other members
+abbrev pub two_numbers : (first : List ℕ) → (one : ℕ) → (second : List ℕ) → (other : ℕ) → Members → Members
+two_numbers first one second other others = member first (number (decimal one)) (member second (number (decimal other)) others)
+
+-- a part of a text: its role, the stretch of the text's bytes that it is, and the bytes of the name that spell it
 abbrev pub part_object : Part → Json
 part_object part =
-    object (member (codes "role") (string (role_name part.role)) (member (codes "start") (number (decimal part.start)) (member (codes "length") (number (decimal part.length)) no_members)))
+    object (member (codes "role") (string (role_name part.role)) (two_numbers (codes "start") part.start (codes "length") part.length
+    (two_numbers (codes "from") part.from (codes "to") part.to no_members)))
 
 abbrev pub part_items : List Part → Items
 part_items [] = no_items
@@ -119,7 +125,7 @@ HasPlace TooLong = Unit {0}
 HasPlace Memory = Unit {0}
 
 abbrev pub IsPart : Part → Type 0
-IsPart part = FitsWord part.start × FitsWord part.length
+IsPart part = FitsWord part.start × FitsWord part.length × FitsWord part.from × FitsWord part.to
 
 abbrev pub AreDetails : Option Details → Type 0
 AreDetails None = Unit {0}

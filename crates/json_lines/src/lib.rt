@@ -2,7 +2,6 @@
 #![tactic(auto)]
 
 mod lines;
-mod manglings;
 mod meanings;
 mod names;
 mod parts;
@@ -11,7 +10,7 @@ mod texts;
 mod unanswered;
 
 pub use lines::{lines_are_objects, strings_are_escaped};
-pub use manglings::Mangling;
 pub use meanings::Meaning;
 pub use names::answer_objects;
+pub use text_details::Mangling;
 pub use texts::{Objects, tell_objects};

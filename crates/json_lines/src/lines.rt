@@ -8,12 +8,12 @@ ghost use Rattle.json_lines.specs.Meanings.{meaning_in};
 ghost use Rattle.json_lines.specs.Objects.{LinesAreObjects, StringsAreEscaped, at_place, json_line, line_members, mangling_members, meaning_members, object_of, refusal_members, text_of, without_place};
 ghost use Rattle.json_lines.specs.Tokens.{members_text};
 
-use crate::manglings::Mangling;
 use crate::meanings::Meaning;
 use crate::parts::push_details;
 use crate::strings::push_string;
 use std::alloc::{AllocError, Global};
 use sym_core::Refusal;
+use text_details::Mangling;
 
 /// The line of a name: its object and a newline. That of a word of a text has the number of its line.
 pub(crate) fn line_of(

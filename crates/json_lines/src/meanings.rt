@@ -2,11 +2,10 @@
 ghost use Rattle.std.specs.Prelude.{◌≡◌, IfOk};
 ghost use Rattle.json_lines.specs.Meanings.{meaning_in, meaning_of, stays, symbol_meaning};
 
-use crate::manglings::{Mangling, mangling_of};
 use std::alloc::{AllocError, Global};
 use sym_core::Refusal;
 use sym_filter::kind_of;
-use text_details::{Detailed, Details};
+use text_details::{Detailed, Details, Mangling, mangling_of};
 use type_names::type_for;
 
 /// What a name is.

@@ -6,7 +6,7 @@ ghost use Rattle.json.specs.Print.{print};
 ghost use Rattle.json.specs.Tree.{json_tokens};
 ghost use Rattle.sym_parts.specs.Words.{role_name};
 ghost use Rattle.text_details.specs.Details.{details_in};
-ghost use Rattle.json_lines.specs.Objects.{detail_members, part_items, part_object};
+ghost use Rattle.json_lines.specs.Objects.{detail_members, part_items, part_object, two_numbers};
 ghost use Rattle.json_lines.specs.Tokens.{later_part, members_text, parts_text};
 
 use crate::lines::{push_name, push_number, push_word};
@@ -76,10 +76,24 @@ fn push_part(part: Part, out: &mut Vec<u8>) -> Result<(), AllocError>
 {
     out.push(b'{')?;
     push_role(part.role, out)?;
-    push_number(true, "start", u64::from(part.start), out)?;
-    push_number(true, "length", u64::from(part.length), out)?;
+    push_two("start", part.start, "length", part.length, out)?;
+    push_two("from", part.from, "to", part.to, out)?;
     out.push(b'}')?;
     Ok(())
+}
+
+/// Appends two members that are numbers, where members come before them.
+fn push_two(
+    first: &str,
+    one: u32,
+    second: &str,
+    other: u32,
+    out: &mut Vec<u8>,
+) -> Result<(), AllocError>
+    ensures { OnOk result (out.new.items ≡ out.old.items ++ members_text true (two_numbers first.now one second.now other no_members)) }
+{
+    push_number(true, first, u64::from(one), out)?;
+    push_number(true, second, u64::from(other), out)
 }
 
 /// Appends the member for a part's role, before which there is none.

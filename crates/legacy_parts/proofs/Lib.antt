@@ -4,3 +4,6 @@ pub mod Sizes
 pub mod Whole
 pub mod Answering
 pub mod Rows
+mod Places
+mod Standing
+pub mod Within

@@ -7,9 +7,10 @@ use Rattle.rust_legacy.specs.Text.{names_parts, shown_path, suffix_parts}
 use Rattle.rust_legacy.proofs.Paths.{names_text-next}
 use Rattle.sym_parts.specs.Marked.{Marked, done, text, marked, ◌before◌}
 use Rattle.sym_parts.specs.Marked as marks
-use Rattle.sym_parts.specs.Plain.{plain, alone, suffixed}
+use Rattle.sym_parts.specs.Plain.{plain, alone, only, suffixed}
 use Rattle.sym_parts.proofs.Marks.{text_of-before}
 use Rattle.sym_parts.specs.declared.role.Role.{Role}
+use Rattle.sym_parts.specs.declared.spelling.Ordinal.{Ordinal}
 use Rattle.sym_parts.specs.declared.role.Role.TheVariants as role
 use Rattle.legacy_parts.specs.Measures.{place_of}
 use Rattle.legacy_parts.specs.Roles.{before_last, last_of, names_marked, path_marked, root_role, shown}
@@ -42,13 +43,13 @@ names-split name (next ∷ rest) =
 
 -- ## Marks
 
-pub text-alone : (r : Role) (b : List ℕ) (rest : Marked) → marks.text_of (alone r b rest) ≡ b ++ marks.text_of rest
+pub text-alone : (r : Role) (o : Ordinal) (b : List ℕ) (rest : Marked) → marks.text_of (alone r o b rest) ≡ b ++ marks.text_of rest
 unfolding marks.text_of
-text-alone r b rest = ap (λ t. t ++ marks.text_of rest) (append-nil b)
+text-alone r o b rest = ap (λ t. t ++ marks.text_of rest) (append-nil b)
 
-text-base : (b : List ℕ) → marks.text_of (alone role.Base b done) ≡ b
+text-base : (b : List ℕ) → marks.text_of (alone role.Base only b done) ≡ b
 unfolding marks.text_of
-text-base b = text-alone role.Base b done ∙ append-nil b
+text-base b = text-alone role.Base only b done ∙ append-nil b
 
 -- names except for the last one, and then that one after two colons
 pub text-before_last : (name : List ℕ) (rest : List (List ℕ))
@@ -67,7 +68,7 @@ text-names (name ∷ []) = text-base (shown name) ∙ sym (append-nil (shown nam
 text-names (name ∷ next ∷ rest) =
     let behind = before_last (next ∷ rest) in
     let base = shown (last_of (next ∷ rest)) in
-    ap (λ t. t ++ (codes "::" ++ marks.text_of (alone role.Base base done))) (text-alone (root_role (shown name)) (shown name) behind)
+    ap (λ t. t ++ (codes "::" ++ marks.text_of (alone role.Base only base done))) (text-alone (root_role (shown name)) only (shown name) behind)
     ∙ append_assoc (shown name) (marks.text_of behind) _
     ∙ ap (λ t. shown name ++ (marks.text_of behind ++ (codes "::" ++ t))) (text-base base)
     ∙ ap (λ t. shown name ++ t) (text-before_last next rest)

@@ -1,4 +1,5 @@
 pub mod Roles
 pub mod Kinds
 pub mod Measures
+pub mod Spelled
 pub mod Parsed

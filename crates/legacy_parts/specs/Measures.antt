@@ -3,7 +3,8 @@ use Rattle.std.specs.Prelude.{◌≡◌, ℕ, ◌+◌, ◌-◌, ◌<◌, ◌^◌
 use Rattle.rust_legacy.specs.Path.{Path, legacy_of}
 use Rattle.rust_legacy.specs.Text.{names_parts, shown_path}
 use Rattle.sym_print.specs.Unshared.{text_of}
-use Rattle.sym_parts.specs.declared.part.Part.{Part}
+use Rattle.sym_parts.specs.declared.stretch.Stretch.{Stretch}
+use Rattle.sym_parts.specs.Plain.{only}
 use Rattle.sym_parts.specs.declared.role.Role.{Role}
 use Rattle.sym_parts.specs.declared.role.Role.TheVariants as role
 use Rattle.legacy_parts.specs.Roles.{last_of, shown}
@@ -35,12 +36,12 @@ pub record AreMeasured (names : List (List ℕ)) (found : Names) : Type 0 where
   pub place : found.place ≡ place_of names
 
 -- the parts of names that were measured, by what the first one is
-unfoldable pub parts_by : Role → Names → List Part
+unfoldable pub parts_by : Role → Names → List Stretch
 parts_by root found =
-    let base : Part = record { role = role.Base; start = found.place; length = found.last } in
+    let base : Stretch = record { role = role.Base; ordinal = only; start = found.place; length = found.last } in
     if nat_eq found.place 0 then base ∷ []
-    else record { role = role.Scope; start = 0; length = found.place - 2 } ∷ record { role = root; start = 0; length = found.first } ∷ base ∷ []
+    else record { role = role.Scope; ordinal = only; start = 0; length = found.place - 2 } ∷ record { role = root; ordinal = only; start = 0; length = found.first } ∷ base ∷ []
 
 -- the part of a suffix of this many bytes after a place, with a blank and a bracket between
-unfoldable pub suffix_part : (place count : ℕ) → List Part
-suffix_part place count = if nat_eq count 0 then [] else record { role = role.Suffix; start = place + 2; length = count } ∷ []
+unfoldable pub suffix_part : (place count : ℕ) → List Stretch
+suffix_part place count = if nat_eq count 0 then [] else record { role = role.Suffix; ordinal = only; start = place + 2; length = count } ∷ []

@@ -4,7 +4,7 @@ use Rattle.rust_legacy.specs.Path.{Path, begins_with}
 use Rattle.rust_legacy.specs.Text.{shown_name, suffix_parts}
 use Rattle.sym_print.specs.Unshared.{text_of}
 use Rattle.sym_parts.specs.Marked.{Marked, done, text, marked, ◌before◌}
-use Rattle.sym_parts.specs.Plain.{alone, suffixed}
+use Rattle.sym_parts.specs.Plain.{alone, only, suffixed}
 use Rattle.sym_parts.specs.declared.role.Role.{Role}
 use Rattle.sym_parts.specs.declared.role.Role.TheVariants as role
 
@@ -31,10 +31,10 @@ before_last (name ∷ next ∷ rest) = text (codes "::") (text (shown name) (bef
 -- The names of a path: the last one is the base, and those before it are its scope, the first of which is a part.
 unfoldable pub names_marked : List (List ℕ) → Marked
 names_marked [] = done
-names_marked (name ∷ []) = alone role.Base (shown name) done
+names_marked (name ∷ []) = alone role.Base only (shown name) done
 names_marked (name ∷ next ∷ rest) =
-    marked role.Scope (alone (root_role (shown name)) (shown name) (before_last (next ∷ rest)))
-    (text (codes "::") (alone role.Base (shown (last_of (next ∷ rest))) done))
+    marked role.Scope only (alone (root_role (shown name)) only (shown name) (before_last (next ∷ rest)))
+    (text (codes "::") (alone role.Base only (shown (last_of (next ∷ rest))) done))
 
 -- a whole path, whose suffix has parentheses around it
 unfoldable pub path_marked : Path → Marked

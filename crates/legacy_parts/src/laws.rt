@@ -1,13 +1,15 @@
 // What holds of the marks of each path's text.
 #![tactic(auto)]
 
-ghost use Rattle.std.specs.Prelude.{◌≡◌, ◌≤◌, length};
-ghost use Rattle.rust_legacy.specs.Path.{Path};
+ghost use Rattle.std.specs.Prelude.{◌≡◌, ◌≤◌, List, Some, length, ℕ};
+ghost use Rattle.rust_legacy.specs.Path.{Path, legacy_of};
 ghost use Rattle.rust_legacy.specs.Text.{shown_path};
 ghost use Rattle.sym_print.specs.Unshared.{text_of};
 ghost use Rattle.sym_parts.specs.Marked as marks;
-ghost use Rattle.sym_parts.specs.Marked.{parts_of};
-ghost use Rattle.sym_parts.specs.Placed.{ArePlaced};
+ghost use Rattle.sym_parts.specs.Marked.{stretches_of};
+ghost use Rattle.sym_parts.specs.Placed.{AreStretchesPlaced};
+ghost use Rattle.sym_parts.specs.Within.{IsWithin};
+ghost use Rattle.legacy_parts.specs.Spelled.{spelling_of_path};
 ghost use Rattle.legacy_parts.specs.Roles.{path_marked};
 
 /// Without its marks the text is that of the path.
@@ -16,11 +18,16 @@ pub fn marks_change_no_text()
 {}
 
 /// The parts are slices of the text, in the order of their starts; of two, one is within the other, or they are apart.
-pub fn parts_are_placed()
-    ensures { (path : Path) → ArePlaced (length (text_of (shown_path path))) (parts_of (path_marked path)) }
+pub fn stretches_are_placed()
+    ensures { (path : Path) → AreStretchesPlaced (length (text_of (shown_path path))) (stretches_of (path_marked path)) }
 {}
 
 /// There are at most four parts.
-pub fn parts_are_few()
-    ensures { (path : Path) → length (parts_of (path_marked path)) ≤ 4 }
+pub fn stretches_are_few()
+    ensures { (path : Path) → length (stretches_of (path_marked path)) ≤ 4 }
+{}
+
+/// What spells the parts of a legacy name's text is within the symbol.
+pub fn spelling_is_within()
+    ensures { (symbol : List ℕ) (path : Path) → legacy_of symbol ≡ Some path → IsWithin (length symbol) (spelling_of_path symbol path) }
 {}

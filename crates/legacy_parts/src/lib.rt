@@ -6,7 +6,8 @@ mod laws;
 mod listing;
 mod names;
 mod parsing;
+mod spelled;
 
-pub use laws::{marks_change_no_text, parts_are_few, parts_are_placed};
+pub use laws::{marks_change_no_text, spelling_is_within, stretches_are_few, stretches_are_placed};
 pub use parsing::{LegacyName, parse};
 pub use sym_parts::{NameKind, Part, Role};

@@ -1,10 +1,11 @@
-// The parts of a legacy name's text.
+// The stretches of a legacy name's text that are parts of it.
 #![tactic(auto)]
 
 ghost use Rattle.std.specs.Prelude.{◌≡◌, ◌+◌, ◌<◌, ◌≤◌, ◌⊎◌, ◌^◌, ◌++◌, ◌∷◌, [], Some, IfErr, IfOk, OnOk, List, codes, length, ℕ};
 ghost use Rattle.sym_core.specs.declared.refusal.Refusal.{Refusal};
 ghost use Rattle.rust_legacy.specs.Path.{IsPlaced, Path, legacy_of};
-ghost use Rattle.sym_parts.specs.Marked.{parts_of};
+ghost use Rattle.sym_parts.specs.Marked.{stretches_of};
+ghost use Rattle.sym_parts.specs.Plain.{only};
 ghost use Rattle.sym_parts.specs.declared.role.Role.TheVariants as roles;
 ghost use Rattle.legacy_parts.specs.Measures.{IsTextOf, parts_by, suffix_part};
 ghost use Rattle.legacy_parts.specs.Roles.{path_marked, root_role};
@@ -13,7 +14,7 @@ use crate::names::{Names, measured};
 use rust_legacy::PathPlace;
 use std::alloc::Global;
 use sym_core::Refusal;
-use sym_parts::{Part, Parts, Role};
+use sym_parts::{ONLY, Role, Stretch, Stretches};
 
 /// The bytes of two colons.
 const COLONS: u32 = 2;
@@ -33,13 +34,13 @@ fn root_of(text: &[u8]) -> Role
 /// # Errors
 ///
 /// `Memory`.
-fn push_base(found: &mut Parts, length: u32) -> Result<(), Refusal>
+fn push_base(found: &mut Stretches, length: u32) -> Result<(), Refusal>
     requires { found.old.place + length < 2 ^ 32 }
-    ensures parts { OnOk result (found.new.parts ≡ found.old.parts ++ record { role = roles.Base; start = found.old.place; length = length } ∷ []) }
+    ensures parts { OnOk result (found.new.stretches ≡ found.old.stretches ++ record { role = roles.Base; ordinal = only; start = found.old.place; length = length } ∷ []) }
     ensures place { OnOk result (found.new.place ≡ found.old.place + length) }
     ensures refusals { IfErr result (λ refusal. refusal ≡ Refusal.Memory) }
 {
-    found.begin(Role::Base, length)?;
+    found.begin(Role::Base, ONLY, length)?;
     found.skip(length);
     Ok(())
 }
@@ -49,19 +50,19 @@ fn push_base(found: &mut Parts, length: u32) -> Result<(), Refusal>
 /// # Errors
 ///
 /// `Memory`.
-fn push_names(found: &mut Parts, root: Role, names: Names) -> Result<(), Refusal>
-    requires begins { found.old ≡ record { parts = []; place = 0 } }
+fn push_names(found: &mut Stretches, root: Role, names: Names) -> Result<(), Refusal>
+    requires begins { found.old ≡ record { stretches = []; place = 0 } }
     requires colons { names.place ≡ 0 ⊎ 2 ≤ names.place }
     requires fits { names.place + names.last < 2 ^ 32 }
-    ensures parts { OnOk result (found.new.parts ≡ parts_by root names) }
+    ensures parts { OnOk result (found.new.stretches ≡ parts_by root names) }
     ensures place { OnOk result (found.new.place ≡ names.place + names.last) }
     ensures refusals { IfErr result (λ refusal. refusal ≡ Refusal.Memory) }
 {
     if names.place == 0 {
         return push_base(found, names.last);
     }
-    found.begin(Role::Scope, names.place - COLONS)?;
-    found.begin(root, names.first)?;
+    found.begin(Role::Scope, ONLY, names.place - COLONS)?;
+    found.begin(root, ONLY, names.first)?;
     found.skip(names.place);
     push_base(found, names.last)
 }
@@ -71,36 +72,36 @@ fn push_names(found: &mut Parts, root: Role, names: Names) -> Result<(), Refusal
 /// # Errors
 ///
 /// `Memory`.
-fn push_suffix(found: &mut Parts, count: u32) -> Result<(), Refusal>
+fn push_suffix(found: &mut Stretches, count: u32) -> Result<(), Refusal>
     requires { count ≡ 0 ⊎ found.old.place + 2 < 2 ^ 32 }
-    ensures parts { OnOk result (found.new.parts ≡ found.old.parts ++ suffix_part found.old.place count) }
+    ensures parts { OnOk result (found.new.stretches ≡ found.old.stretches ++ suffix_part found.old.place count) }
     ensures refusals { IfErr result (λ refusal. refusal ≡ Refusal.Memory) }
 {
     if count == 0 {
         return Ok(());
     }
     found.skip(2);
-    found.begin(Role::Suffix, count)
+    found.begin(Role::Suffix, ONLY, count)
 }
 
-/// The parts of the text of a legacy name, whose path is at a place that `path_of` found.
+/// The stretches of the text of a legacy name, whose path is at a place that `path_of` found.
 ///
 /// # Errors
 ///
 /// `Memory` where the list couldn't grow.
-pub(crate) fn parts_in(
+pub(crate) fn stretches_in(
     alloc: Global,
     symbol: &[u8],
     place: PathPlace,
     text: &[u8],
-) -> Result<Vec<Part>, Refusal>
+) -> Result<Vec<Stretch>, Refusal>
     requires placed { IsPlaced symbol.now place }
     requires text { IsTextOf symbol.now text.now }
     requires fits { length text.now < 2 ^ 32 }
-    ensures parts { (path : Path) → legacy_of symbol.now ≡ Some path → IfOk result (λ parts. parts.items ≡ parts_of (path_marked path)) }
+    ensures stretches { (path : Path) → legacy_of symbol.now ≡ Some path → IfOk result (λ found. found.items ≡ stretches_of (path_marked path)) }
     ensures refusals { IfErr result (λ refusal. refusal ≡ Refusal.Memory) }
 {
-    let mut found = Parts::new(alloc);
+    let mut found = Stretches::new(alloc);
     push_names(&mut found, root_of(text), measured(symbol, place.hash))?;
     push_suffix(&mut found, (symbol.len() - place.end) as u32)?;
     Ok(found.into_list())

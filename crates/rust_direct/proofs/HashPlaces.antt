@@ -1,8 +1,8 @@
--- Where numbers of eleven digits are.
-use Rattle.std.proofs.Common.{◌≡◌, ℕ, ◌+◌, ◌-◌, ◌*◌, ◌^◌, ◌≤◌, ◌<◌, suc, List, [], ◌∷◌, ◌++◌, length, take, drop, get_or, true, refl, ap, sym, subst, ◌∙◌, arith, inr}
-use Rattle.std.proofs.lemmas.List.{length-append, length-drop, length-take-le, take-append-drop}
+-- Where numbers of at most eleven digits are.
+use Rattle.std.proofs.Common.{◌≡◌, ℕ, ◌+◌, ◌-◌, ◌*◌, ◌^◌, ◌≤◌, ◌<◌, ◌⊎◌, zero, suc, List, [], ◌∷◌, ◌++◌, length, take, drop, get_or, true, refl, ap, sym, subst, ◌∙◌, arith, inl, inr}
+use Rattle.std.proofs.lemmas.List.{get_or-take, length-append, length-drop, length-take-le, take-append-drop}
 use Rattle.std.proofs.lemmas.Bool.Decides.{nat_tests}
-use Rattle.std.proofs.Math.Nat.{pow-zero, pow-suc, mul_assoc, mul_comm, mul-le-mul_right}
+use Rattle.std.proofs.Math.Nat.{pow-zero, pow-suc, mul_assoc, mul_comm, mul-le-mul_right, pow-le-pow_right}
 use Rattle.sym_core.specs.declared.NumberKind.TheVariants.{Base62}
 use Rattle.sym_core.specs.Number.{is_digit_of, AreDigits}
 use Rattle.sym_core.specs.Value.{digit_value, value_onto, counted_value}
@@ -12,6 +12,12 @@ use Rattle.sym_direct.proofs.Moves.{stands-join}
 use Rattle.rust_direct.specs.Holes.{IsNumberAt, IsSmallNumberAt, HasDisambiguator}
 use Rattle.rust_direct.specs.Hashes.{ReachesDigits}
 use Rattle.rust_direct.proofs.NamePlaces.{own-is}
+
+lt-or-le : (m n : ℕ) → (m < n) ⊎ (n ≤ m)
+lt-or-le zero zero = inr (omega arith)
+lt-or-le zero (suc n) = inl (omega arith)
+lt-or-le (suc m) zero = inr (omega arith)
+lt-or-le (suc m) (suc n) = elim (lt-or-le m n) [ inl h ↦ inl (omega (arith, h)) | inr h ↦ inr (omega (arith, h)) ]
 
 digit-small : (b : ℕ) → is_digit_of Base62 b ≡ true → digit_value Base62 b < 62
 digit-small b h = grind (arith, nat_tests)
@@ -30,41 +36,77 @@ all-digits : (ds : List ℕ) → ReachesDigits ds (length ds) → AreDigits Base
 all-digits [] h = tt
 all-digits (d ∷ ds) h = (h 0 (omega arith), all-digits ds (λ k less. h (suc k) (omega (arith, less))))
 
--- eleven digits count less than the greatest number of 64 bits, if the first is at most 20
-counted-small : (ds : List ℕ) → length ds ≡ 11 → AreDigits Base62 ds → digit_value Base62 (get_or ds 0 0) ≤ 20 → counted_value Base62 ds + 1 ≤ greatest_u64
-counted-small [] eleven are low = absurd (omega (arith, eleven))
-counted-small (d ∷ ds) eleven are low =
-    let ten : length ds ≡ 10 = omega (arith, eleven) in
-    let less = below (0 * 62 + digit_value Base62 d) ds are.1 in
-    let most : (0 * 62 + digit_value Base62 d + 1) * 62 ^ length ds ≤ 21 * 62 ^ length ds = mul-le-mul_right (62 ^ length ds) (omega (arith, low)) in
-    omega (arith, less, most, ap (λ n. 62 ^ n) ten)
+-- up to eleven digits count less than the greatest number of 64 bits, if the first of eleven is at most 20
+counted-small : (ds : List ℕ) → length ds ≤ 11 → AreDigits Base62 ds → (length ds ≡ 11 → digit_value Base62 (get_or ds 0 0) ≤ 20)
+    → counted_value Base62 ds + 1 ≤ greatest_u64
+counted-small [] few are low = omega arith
+counted-small (d ∷ ds) few are low = elim (lt-or-le (length ds) 10) [ inl h ↦ short h | inr h ↦ long (omega (arith, few, h)) ]
+  where
+    less : value_onto Base62 (0 * 62 + digit_value Base62 d) ds < (0 * 62 + digit_value Base62 d + 1) * 62 ^ length ds
+    less = below (0 * 62 + digit_value Base62 d) ds are.1
 
--- eleven digits and the mark after them are a number
-pub hash-found : (s : List ℕ) (at : ℕ) (own : List ℕ) → at ≤ length s → 11 < length s - at → own ≡ take (at + 11 - at) (drop at s)
-    → digit_value Base62 (get_or own 0 0) ≤ 20 → ReachesDigits own 11 → StandsAt s (at + 11) (95 ∷ []) → IsSmallNumberAt s at (at + 11 + 1)
-hash-found s at own within long own_is low each mark = (
+    short : length ds < 10 → counted_value Base62 (d ∷ ds) + 1 ≤ greatest_u64
+    short h =
+        let most : (0 * 62 + digit_value Base62 d + 1) * 62 ^ length ds ≤ 62 * 62 ^ length ds = mul-le-mul_right (62 ^ length ds) (omega (arith, digit-small d are.0)) in
+        let small : length ds ≤ 9 = omega (arith, h) in
+        let nine : 62 ^ length ds ≤ 62 ^ 9 = pow-le-pow_right {n = 62} (omega arith) small in
+        omega (arith, less, most, nine)
+
+    long : length ds ≡ 10 → counted_value Base62 (d ∷ ds) + 1 ≤ greatest_u64
+    long ten =
+        let most : (0 * 62 + digit_value Base62 d + 1) * 62 ^ length ds ≤ 21 * 62 ^ length ds = mul-le-mul_right (62 ^ length ds) (omega (arith, low (omega (arith, ten)))) in
+        omega (arith, less, most, ap (λ n. 62 ^ n) ten)
+
+-- digits and the mark after them are a number
+pub number-found : (s : List ℕ) (at : ℕ) (own : List ℕ) → own ≡ take (length own) (drop at s) → AreDigits Base62 own → length own ≤ 11
+    → StandsAt s (at + length own) (95 ∷ []) → IsNumberAt s at (counted_value Base62 own) (at + length own + 1)
+number-found s at own own_is are few mark = record {
+  token = record { before = []; own = own; behind = 95 ∷ [] };
+  is_number = record { bare = refl; digits = (are, few); ends = refl };
+  counts = refl;
+  stands = stands-join s at own (95 ∷ []) (drop (length own) (drop at s), there) mark;
+  ends = omega (arith, length-append own (95 ∷ []));
+}
+  where
+    there : drop at s ≡ own ++ drop (length own) (drop at s)
+    there = sym (take-append-drop (length own) (drop at s)) ∙ ap (λ l. l ++ drop (length own) (drop at s)) (sym own_is)
+
+-- up to eleven digits and the mark after them are a number; these are the first of the bytes that were read
+pub hash-found : (s : List ℕ) (at count : ℕ) (bytes : List ℕ) → at ≤ length s → 11 < length s - at → bytes ≡ take (at + 11 - at) (drop at s)
+    → count ≤ 11 → (count ≡ 11 → digit_value Base62 (get_or bytes 0 0) ≤ 20) → ReachesDigits bytes count → StandsAt s (at + count) (95 ∷ [])
+    → IsSmallNumberAt s at (at + count + 1)
+hash-found s at count bytes within long bytes_are few low each mark = (
   counted_value Base62 own,
-  record {
-    token = record { before = []; own = own; behind = 95 ∷ [] };
-    is_number = record { bare = refl; digits = (are, omega (arith, size)); ends = refl };
-    counts = refl;
-    stands = stands-join s at own (95 ∷ []) (drop 11 (drop at s), there) (subst (λ n. StandsAt s (at + n) (95 ∷ [])) (sym size) mark);
-    ends = omega (arith, length-append own (95 ∷ []), size);
-  },
-  counted-small own size are low,
+  subst (λ n. IsNumberAt s at (counted_value Base62 own) (at + n + 1)) size
+      (number-found s at own (ap (λ n. take n (drop at s)) (sym size)) are (omega (arith, size, few)) (subst (λ n. StandsAt s (at + n) (95 ∷ [])) (sym size) mark)),
+  counted-small own (omega (arith, size, few)) are (λ all. subst (λ b. digit_value Base62 b ≤ 20) (first (omega (arith, size, all))) (low (omega (arith, size, all)))),
 )
   where
-    eleven : own ≡ take 11 (drop at s)
-    eleven = own_is ∙ own-is s at 11
+    own : List ℕ
+    own = take count (drop at s)
 
-    size : length own ≡ 11
-    size = ap length eleven ∙ length-take-le 11 (drop at s) (omega (arith, long, length-drop at s))
+    size : length own ≡ count
+    size = length-take-le count (drop at s) (omega (arith, few, long, length-drop at s))
+
+    same : (k : ℕ) → k < count → get_or bytes k 0 ≡ get_or own k 0
+    same k less =
+        ap (λ l. get_or l k 0) (bytes_are ∙ own-is s at 11) ∙ get_or-take 11 (drop at s) k 0 (omega (arith, less, few)) ∙ sym (get_or-take count (drop at s) k 0 less)
+
+    first : count ≡ 11 → get_or bytes 0 0 ≡ get_or own 0 0
+    first all = same 0 (omega (arith, all))
 
     are : AreDigits Base62 own
-    are = all-digits own (subst (λ n. ReachesDigits own n) (sym size) each)
+    are = all-digits own (λ k less. subst (λ b. is_digit_of Base62 b ≡ true) (same k (omega (arith, size, less))) (each k (omega (arith, size, less))))
 
-    there : drop at s ≡ own ++ drop 11 (drop at s)
-    there = sym (take-append-drop 11 (drop at s)) ∙ ap (λ l. l ++ drop 11 (drop at s)) (sym eleven)
+-- the digits between two places and the mark after them are a number
+pub digits-found : (s : List ℕ) (at mark value : ℕ) (own : List ℕ) → at ≤ mark → mark ≤ length s → mark - at ≤ 11 → own ≡ take (mark - at) (drop at s)
+    → AreDigits Base62 own → value ≡ counted_value Base62 own → StandsAt s mark (95 ∷ []) → IsNumberAt s at value (mark + 1)
+digits-found s at mark value own low within few own_is are counts stands =
+    let size : length own ≡ mark - at = ap length own_is ∙ length-take-le (mark - at) (drop at s) (omega (arith, low, within, length-drop at s)) in
+    let end : at + length own ≡ mark = omega (arith, size, low) in
+    subst (λ v. IsNumberAt s at v (mark + 1)) (sym counts)
+    (subst (λ m. IsNumberAt s at (counted_value Base62 own) (m + 1)) end
+    (number-found s at own (own_is ∙ ap (λ n. take n (drop at s)) (sym size)) are (omega (arith, size, few)) (subst (λ m. StandsAt s m (95 ∷ [])) (sym end) stands)))
 
 -- a disambiguator whose number is small
 pub hash-disambiguator : (s : List ℕ) (at behind end : ℕ) → StandsAt s at (115 ∷ []) → behind ≡ at + 1 → IsSmallNumberAt s behind end → HasDisambiguator s at end

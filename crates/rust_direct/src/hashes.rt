@@ -34,20 +34,18 @@ fn no_digit(byte: u8) -> u8
     NO_DIGITS[byte as usize]
 }
 
-/// Whether as many bytes as a hash has are digits in base 62.
+/// How many of the first bytes are digits in base 62, counted up to as many as a hash has.
 #[inline(always)]
-fn are_digits(bytes: &[u8]) -> bool
+fn digit_count(bytes: &[u8]) -> usize
     requires { 11 ≤ length bytes.now }
-    ensures { result ≡ true → ReachesDigits bytes.now 11 }
+    ensures few { result ≤ 11 }
+    ensures each { ReachesDigits bytes.now result }
 {
     let mut end = 0;
-    'digits: while end < HASH_DIGITS {
-        if no_digit(bytes[end]) != 0 {
-            return false;
-        }
+    'digits: while end < HASH_DIGITS && no_digit(bytes[end]) == 0 {
         end += 1;
     }
-    true
+    end
 }
 
 /// Whether a number with this first digit and as many digits as a hash has stays below 64 bits.
@@ -58,7 +56,15 @@ fn is_low(byte: u8) -> bool
     byte <= b'9' || (b'a' <= byte && byte <= b'k')
 }
 
-/// The place after a number that has as many digits as most hashes.
+/// Whether a number with so many digits, at most as many as a hash has, and this first one stays below 64 bits.
+#[inline(always)]
+fn is_small(count: usize, first: u8) -> bool
+    ensures { result ≡ true → count ≡ 11 → digit_value Base62 first ≤ 20 }
+{
+    count < HASH_DIGITS || is_low(first)
+}
+
+/// The place after a number that has no more digits than most hashes, if bytes for as many are there.
 // <base-62-number> = {<0-9a-zA-Z>} "_"
 #[inline(always)]
 fn hash_end(s: &[u8], at: usize) -> Option<usize>
@@ -70,14 +76,12 @@ fn hash_end(s: &[u8], at: usize) -> Option<usize>
     if s.len() - at <= HASH_DIGITS {
         return None;
     }
-    let mark = at + HASH_DIGITS;
-    let digits = &s[at..mark];
-    if !is_low(digits[0]) {
+    let digits = &s[at..at + HASH_DIGITS];
+    let count = digit_count(digits);
+    if !is_small(count, digits[0]) {
         return None;
     }
-    if !are_digits(digits) {
-        return None;
-    }
+    let mark = at + count;
     if byte_at(s, mark) != b'_' {
         return None;
     }

@@ -68,7 +68,7 @@ impl Direct {
         if name.from >= name.to {
             return None;
         }
-        self.push(&s[name.from..name.to])?;
+        self.push_part(s, name.from, name.to)?;
         self.at = name.end;
         self.ended::<S>(s, place, from, Forms::Alike, Forms::Alike)
     }
@@ -118,7 +118,7 @@ impl Direct {
             return None;
         }
         self.push_pair(b':', b':')?;
-        self.push(&s[name.from..name.to])?;
+        self.push_part(s, name.from, name.to)?;
         self.at = name.end;
         self.named_ended::<S>(s, place, from, forms)
     }

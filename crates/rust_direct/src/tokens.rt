@@ -25,17 +25,25 @@ fn is_suffix_byte(byte: u8) -> bool
     }
 }
 
+// For each byte 1 where it is a letter, else 0.
+static LETTERS: [u8; 256] = [
+    0, 0, 0, 0, 0, 0, 0, 0, 0, 0, 0, 0, 0, 0, 0, 0, 0, 0, 0, 0, 0, 0, 0, 0, 0, 0, 0, 0, 0, 0, 0, 0,
+    0, 0, 0, 0, 0, 0, 0, 0, 0, 0, 0, 0, 0, 0, 0, 0, 0, 0, 0, 0, 0, 0, 0, 0, 0, 0, 0, 0, 0, 0, 0, 0,
+    0, 1, 1, 1, 1, 1, 1, 1, 1, 1, 1, 1, 1, 1, 1, 1, 1, 1, 1, 1, 1, 1, 1, 1, 1, 1, 1, 0, 0, 0, 0, 0,
+    0, 1, 1, 1, 1, 1, 1, 1, 1, 1, 1, 1, 1, 1, 1, 1, 1, 1, 1, 1, 1, 1, 1, 1, 1, 1, 1, 0, 0, 0, 0, 0,
+    0, 0, 0, 0, 0, 0, 0, 0, 0, 0, 0, 0, 0, 0, 0, 0, 0, 0, 0, 0, 0, 0, 0, 0, 0, 0, 0, 0, 0, 0, 0, 0,
+    0, 0, 0, 0, 0, 0, 0, 0, 0, 0, 0, 0, 0, 0, 0, 0, 0, 0, 0, 0, 0, 0, 0, 0, 0, 0, 0, 0, 0, 0, 0, 0,
+    0, 0, 0, 0, 0, 0, 0, 0, 0, 0, 0, 0, 0, 0, 0, 0, 0, 0, 0, 0, 0, 0, 0, 0, 0, 0, 0, 0, 0, 0, 0, 0,
+    0, 0, 0, 0, 0, 0, 0, 0, 0, 0, 0, 0, 0, 0, 0, 0, 0, 0, 0, 0, 0, 0, 0, 0, 0, 0, 0, 0, 0, 0, 0, 0,
+];
+
 /// Whether a byte names a namespace.
 // <namespace> = "C" | "S" | <A-Z> | <a-z>
-#[tactic(auto, unfolding(crate::specs::Holes::is_namespace))]
+#[inline(always)]
 pub fn is_namespace(byte: u8) -> bool
     ensures { result ≡ is_namespace byte }
 {
-    match byte {
-        b'A'..=b'Z' => true,
-        b'a'..=b'z' => true,
-        _ => false,
-    }
+    LETTERS[byte as usize] != 0
 }
 
 /// Whether each byte may be in a suffix.
@@ -55,10 +63,28 @@ pub fn is_suffix(bytes: &[u8]) -> bool
     are_suffix_bytes(&bytes[1..])
 }
 
-/// The number in base 62 at a place, and the place after it.
+/// The number of one digit in base 62 at a place, and the place after it.
 // <base-62-number> = {<0-9a-zA-Z>} "_"
 #[inline(always)]
-pub fn number_at(s: &[u8], at: usize) -> Option<(u64, usize)>
+fn short_number_at(s: &[u8], at: usize) -> Option<(u64, usize)>
+    requires { FitsSymbol s.now }
+    ensures { IfSome result (λ found. IsNumberAt s.now at found.0 found.1) }
+{
+    let mark = at.checked_add(1)?;
+    if mark > s.len() {
+        return None;
+    }
+    if byte_at(s, mark) != b'_' {
+        return None;
+    }
+    let value = value62(&s[at..mark])?;
+    Some((value, mark + 1))
+}
+
+/// The number in base 62 at a place, and the place after it.
+// <base-62-number> = {<0-9a-zA-Z>} "_"
+#[inline(never)]
+fn any_number_at(s: &[u8], at: usize) -> Option<(u64, usize)>
     requires { FitsSymbol s.now }
     ensures { IfSome result (λ found. IsNumberAt s.now at found.0 found.1) }
 {
@@ -68,6 +94,19 @@ pub fn number_at(s: &[u8], at: usize) -> Option<(u64, usize)>
     let place = find_number(s, at, NumberKind::Base62).ok()?;
     let value = value62(&s[place.from..place.to])?;
     Some((value, place.end))
+}
+
+/// The number in base 62 at a place, and the place after it: most have one digit.
+// <base-62-number> = {<0-9a-zA-Z>} "_"
+#[inline(always)]
+pub fn number_at(s: &[u8], at: usize) -> Option<(u64, usize)>
+    requires { FitsSymbol s.now }
+    ensures { IfSome result (λ found. IsNumberAt s.now at found.0 found.1) }
+{
+    if let Some(found) = short_number_at(s, at) {
+        return Some(found);
+    }
+    any_number_at(s, at)
 }
 
 /// The number in base 16 at a place, of at most 64 bits, and the place after it.

@@ -20,6 +20,16 @@ impl Direct {
         self.text.push_all(text)
     }
 
+    /// Writes the bytes from a place to another one.
+    #[inline(always)]
+    pub(crate) fn push_part(&mut self, bytes: &[u8], from: usize, to: usize) -> Option<()>
+        requires from { from ≤ to }
+        requires to { to ≤ length bytes.now }
+        ensures { OnSome result (Writes self.old self.new (piece bytes.now from to)) }
+    {
+        self.text.push_part(bytes, from, to)
+    }
+
     /// Writes a byte.
     #[inline(always)]
     pub(crate) fn push_byte(&mut self, byte: u8) -> Option<()>
@@ -100,17 +110,24 @@ impl Direct {
     }
 
     /// Writes the text of a note once more.
+    #[inline(always)]
     pub(crate) fn repeat(&mut self, note: Note) -> Option<()>
         ensures { OnSome result (Writes self.old self.new
             (piece (home self.old.is_aside note.is_aside self.old.text.list.items self.old.aside.list.items) note.from note.to)) }
     {
+        if note.to < note.from {
+            return None;
+        }
         if note.is_aside == self.is_aside {
-            if note.to < note.from || note.to > self.text.len() {
+            if note.to > self.text.len() {
                 return None;
             }
             return self.text.repeat(note.from, note.to);
         }
-        let bytes = self.aside.as_slice().get(note.from..note.to)?;
-        self.text.push_all(bytes)
+        if note.to > self.aside.len() {
+            return None;
+        }
+        self.text
+            .push_part(self.aside.as_slice(), note.from, note.to)
     }
 }

@@ -19,13 +19,13 @@ unfolding marks.text_of
 length-base b u front n first rest = omega (arith, first, rest, length-append b (text_of u ++ []), length-append (text_of u) [])
 
 -- arguments after their bracket
-pub length-listed : (b : List ℕ) (u : Unshared) (front n : ℕ) → front ≡ length b → n ≡ length (text_of u) → front + n ≡ length (marks.text_of (text b (listed u)))
-length-listed b u front n first rest = length-first b (listed u) (text_of u) front n (text-listed u) first rest
+pub length-listed : (list number : ℕ) (b : List ℕ) (u : Unshared) (front n : ℕ) → front ≡ length b → n ≡ length (text_of u) → front + n ≡ length (marks.text_of (text b (listed list number u)))
+length-listed list number b u front n first rest = length-first b (listed list number u) (text_of u) front n (text-listed list number u) first rest
 
 -- what is in an implementation
 pub length-type : (u : Unshared) (n : ℕ) → n ≡ length (text_of u) → n ≡ length (marks.text_of (of_type u))
 length-type u n long = long ∙ ap length (sym (text-of_type u))
 
 -- what a name is in
-pub length-scope : (p : Path) (u : Unshared) (n : ℕ) → n ≡ length (text_of u) → n ≡ length (marks.text_of (scope p u))
-length-scope p u n long = long ∙ ap length (sym (text-scope p u))
+pub length-scope : (lists : ℕ) (p : Path) (u : Unshared) (n : ℕ) → n ≡ length (text_of u) → n ≡ length (marks.text_of (scope lists p u))
+length-scope lists p u n long = long ∙ ap length (sym (text-scope lists p u))

@@ -7,14 +7,14 @@ use Rattle.rust_tree.specs.Symbol.{Path, Identifier, Symbol, crate_root, trait_i
 use Rattle.rust_tree.specs.Shown.{basic_text, namespace_text, path_parts, symbol_parts}
 use Rattle.sym_print.specs.declared.detail.Detail.{Detail}
 use Rattle.sym_print.specs.declared.detail.Detail.TheVariants.{Full, Brief}
-use Rattle.sym_parts.specs.Marked.{text_of, parts_from, parts_of, ◌before◌}
-use Rattle.sym_parts.specs.Plain.{suffixed}
-use Rattle.sym_parts.specs.declared.part.Part.{Part}
+use Rattle.sym_parts.specs.Marked.{text_of, stretches_from, stretches_of, ◌before◌}
+use Rattle.sym_parts.specs.Plain.{only, suffixed}
+use Rattle.sym_parts.specs.declared.stretch.Stretch.{Stretch}
 use Rattle.sym_parts.specs.declared.role.Role.{Role}
 use Rattle.sym_parts.specs.declared.role.Role.TheVariants as role
 use Rattle.sym_parts.specs.declared.kind.NameKind.TheVariants as kind
 use Rattle.rust_parts.specs.Kinds.{kind_of_letter, kind_of_path, kind_of_symbol}
-use Rattle.rust_parts.specs.Roles.{elements, arguments, of_trait, of_type, scope, scoped, name, symbol_marked}
+use Rattle.rust_parts.specs.Roles.{argument, elements, arguments, of_trait, of_type, scope, scoped, name, symbol_marked}
 
 -- ## Symbols
 
@@ -49,49 +49,53 @@ closure_in path = nested 67 path (named "")
 
 -- ## Parts
 
-part : Role → (start length : ℕ) → Part
-part r start length = record { role = r; start = start; length = length }
+part : Role → (start length : ℕ) → Stretch
+part r start length = record { role = r; ordinal = only; start = start; length = length }
 
-parts_in : Detail → Symbol → List Part
-parts_in detail s = parts_of (symbol_marked s (symbol_parts detail s))
+-- an argument of the last list
+an_argument : (number start length : ℕ) → Stretch
+an_argument number start length = record { role = role.GenericArgument; ordinal = argument 0 number; start = start; length = length }
+
+parts_in : Detail → Symbol → List Stretch
+parts_in detail s = stretches_of (symbol_marked s (symbol_parts detail s))
 
 -- foo
 row-crate : parts_in Full (with_suffix foo "") ≡ part role.Crate 0 3 ∷ []
-unfolding foo named with_suffix part parts_in path_parts symbol_parts text_of parts_from ◌before◌ suffixed scope name symbol_marked
+unfolding foo named with_suffix part an_argument parts_in path_parts symbol_parts text_of stretches_from ◌before◌ suffixed scope name symbol_marked
 row-crate = refl
 
 -- foo::bar::<u32> (.cold)
 row-suffix : parts_in Full (with_suffix bar_of_u32 ".cold")
-    ≡ part role.Scope 0 3 ∷ part role.Crate 0 3 ∷ part role.Base 5 3 ∷ part role.GenericArguments 10 5 ∷ part role.GenericArgument 11 3 ∷ part role.Suffix 17 5 ∷ []
-unfolding foo bar bar_of_u32 named with_suffix part parts_in basic_text path_parts symbol_parts text_of parts_from ◌before◌ suffixed elements arguments scope scoped name symbol_marked
+    ≡ part role.Scope 0 3 ∷ part role.Crate 0 3 ∷ part role.Base 5 3 ∷ part role.GenericArguments 10 5 ∷ an_argument 1 11 3 ∷ part role.Suffix 17 5 ∷ []
+unfolding foo bar bar_of_u32 named with_suffix part an_argument parts_in basic_text path_parts symbol_parts text_of stretches_from ◌before◌ suffixed elements arguments scope scoped name symbol_marked
 row-suffix = refl
 
 -- foo::bar (.cold)
 row-brief : parts_in Brief (with_suffix bar_of_u32 ".cold") ≡ part role.Scope 0 3 ∷ part role.Crate 0 3 ∷ part role.Base 5 3 ∷ part role.Suffix 10 5 ∷ []
-unfolding foo bar bar_of_u32 named with_suffix part parts_in basic_text path_parts symbol_parts text_of parts_from ◌before◌ suffixed elements arguments scope scoped name symbol_marked
+unfolding foo bar bar_of_u32 named with_suffix part an_argument parts_in basic_text path_parts symbol_parts text_of stretches_from ◌before◌ suffixed elements arguments scope scoped name symbol_marked
 row-brief = refl
 
 -- foo::bar::<u32, u8>
 row-two : parts_in Full (with_suffix bar_of_two "")
-    ≡ part role.Scope 0 3 ∷ part role.Crate 0 3 ∷ part role.Base 5 3 ∷ part role.GenericArguments 10 9 ∷ part role.GenericArgument 11 3 ∷ part role.GenericArgument 16 2 ∷ []
-unfolding foo bar bar_of_two named with_suffix part parts_in basic_text path_parts symbol_parts text_of parts_from ◌before◌ suffixed elements arguments scope scoped name symbol_marked
+    ≡ part role.Scope 0 3 ∷ part role.Crate 0 3 ∷ part role.Base 5 3 ∷ part role.GenericArguments 10 9 ∷ an_argument 1 11 3 ∷ an_argument 2 16 2 ∷ []
+unfolding foo bar bar_of_two named with_suffix part an_argument parts_in basic_text path_parts symbol_parts text_of stretches_from ◌before◌ suffixed elements arguments scope scoped name symbol_marked
 row-two = refl
 
 -- foo::bar::<u32>::{closure#0}
 row-closure : parts_in Full (with_suffix (closure_in bar_of_u32) "")
-    ≡ part role.Scope 0 15 ∷ part role.Crate 0 3 ∷ part role.GenericArguments 10 5 ∷ part role.GenericArgument 11 3 ∷ part role.Base 17 11 ∷ []
-unfolding foo bar bar_of_u32 closure_in named with_suffix part parts_in digits basic_text namespace_text path_parts symbol_parts text_of parts_from ◌before◌ suffixed elements arguments scope scoped name symbol_marked
+    ≡ part role.Scope 0 15 ∷ part role.Crate 0 3 ∷ part role.GenericArguments 10 5 ∷ an_argument 1 11 3 ∷ part role.Base 17 11 ∷ []
+unfolding foo bar bar_of_u32 closure_in named with_suffix part an_argument parts_in digits basic_text namespace_text path_parts symbol_parts text_of stretches_from ◌before◌ suffixed elements arguments scope scoped name symbol_marked
 row-closure = refl
 
 -- <foo::Bar as std::Trait>::baz::{closure#0}
 row-trait : parts_in Full (with_suffix (closure_in baz) "")
     ≡ part role.Scope 0 29 ∷ part role.Impl 0 24 ∷ part role.SelfType 1 8 ∷ part role.Trait 13 10 ∷ part role.Base 31 11 ∷ []
-unfolding foo baz closure_in named with_suffix part parts_in digits basic_text namespace_text path_parts symbol_parts text_of parts_from ◌before◌ suffixed of_trait of_type scope scoped name symbol_marked
+unfolding foo baz closure_in named with_suffix part an_argument parts_in digits basic_text namespace_text path_parts symbol_parts text_of stretches_from ◌before◌ suffixed of_trait of_type scope scoped name symbol_marked
 row-trait = refl
 
 -- foo::bar, where a path without a name is around it
 row-unnamed : parts_in Full (with_suffix (nested 110 bar (named "")) "") ≡ part role.Scope 0 3 ∷ part role.Crate 0 3 ∷ part role.Base 5 3 ∷ []
-unfolding foo bar named with_suffix part parts_in path_parts symbol_parts text_of parts_from ◌before◌ suffixed scope scoped name symbol_marked
+unfolding foo bar named with_suffix part an_argument parts_in path_parts symbol_parts text_of stretches_from ◌before◌ suffixed scope scoped name symbol_marked
 row-unnamed = refl
 
 -- ## Kinds

@@ -91,73 +91,73 @@ is-crate (Some _) a b c d e g = (_, refl)
 
 -- ## Marks by the sort
 
-implementation-scope : (p : Path) → IsImplementation p → (u : Unshared) → scope p u ≡ implementation u
+implementation-scope : (lists : ℕ) (p : Path) → IsImplementation p → (u : Unshared) → scope lists p u ≡ implementation u
 unfolding scope
-implementation-scope (inherent_impl n p t) is u = refl
-implementation-scope (trait_impl n p t q) is u = refl
-implementation-scope (trait_definition t q) is u = refl
-implementation-scope _ is u = absurd is
+implementation-scope lists (inherent_impl n p t) is u = refl
+implementation-scope lists (trait_impl n p t q) is u = refl
+implementation-scope lists (trait_definition t q) is u = refl
+implementation-scope lists _ is u = absurd is
 
-implementation-name : (p : Path) → IsImplementation p → (u : Unshared) → name p u ≡ scope p u
+implementation-name : (lists : ℕ) (p : Path) → IsImplementation p → (u : Unshared) → name lists p u ≡ scope lists p u
 unfolding name
-implementation-name (inherent_impl n p t) is u = refl
-implementation-name (trait_impl n p t q) is u = refl
-implementation-name (trait_definition t q) is u = refl
-implementation-name _ is u = absurd is
+implementation-name lists (inherent_impl n p t) is u = refl
+implementation-name lists (trait_impl n p t q) is u = refl
+implementation-name lists (trait_definition t q) is u = refl
+implementation-name lists _ is u = absurd is
 
 module _ (y : ReadSymbol) where
-  nested-scope : (parent n : ℕ) (own : Identifier) (u : Unshared) → scope (nested n (path_at y parent) own) u ≡ scope_by y (sort.Nested parent) u
+  nested-scope : (lists : ℕ) (parent n : ℕ) (own : Identifier) (u : Unshared) → scope lists (nested n (path_at y parent) own) u ≡ scope_by y lists (sort.Nested parent) u
   unfolding scope scope_by
-  nested-scope parent n own done = refl
-  nested-scope parent n own (bytes b rest) = refl
-  nested-scope parent n own (item one rest) = refl
+  nested-scope lists parent n own done = refl
+  nested-scope lists parent n own (bytes b rest) = refl
+  nested-scope lists parent n own (item one rest) = refl
 
-  generic-scope : (parent : ℕ) (args : Arguments) (u : Unshared) → scope (generic (path_at y parent) args) u ≡ scope_by y (sort.Generic parent) u
+  generic-scope : (lists : ℕ) (parent : ℕ) (args : Arguments) (u : Unshared) → scope lists (generic (path_at y parent) args) u ≡ scope_by y lists (sort.Generic parent) u
   unfolding scope scope_by
-  generic-scope parent args done = refl
-  generic-scope parent args (bytes b rest) = refl
-  generic-scope parent args (item one rest) = refl
+  generic-scope lists parent args done = refl
+  generic-scope lists parent args (bytes b rest) = refl
+  generic-scope lists parent args (item one rest) = refl
 
-  nested-name : (parent n : ℕ) (own : Identifier) (u : Unshared) → name (nested n (path_at y parent) own) u ≡ name_by y (sort.Nested parent) u
+  nested-name : (lists : ℕ) (parent n : ℕ) (own : Identifier) (u : Unshared) → name lists (nested n (path_at y parent) own) u ≡ name_by y lists (sort.Nested parent) u
   unfolding name name_by scope scope_by
-  nested-name parent n own done = refl
-  nested-name parent n own (bytes b rest) = refl
-  nested-name parent n own (item one done) = refl
-  nested-name parent n own (item one (bytes b rest)) = refl
-  nested-name parent n own (item one (item other rest)) = refl
+  nested-name lists parent n own done = refl
+  nested-name lists parent n own (bytes b rest) = refl
+  nested-name lists parent n own (item one done) = refl
+  nested-name lists parent n own (item one (bytes b rest)) = refl
+  nested-name lists parent n own (item one (item other rest)) = refl
 
-  generic-name : (parent : ℕ) (args : Arguments) (u : Unshared) → name (generic (path_at y parent) args) u ≡ name_by y (sort.Generic parent) u
+  generic-name : (lists : ℕ) (parent : ℕ) (args : Arguments) (u : Unshared) → name lists (generic (path_at y parent) args) u ≡ name_by y lists (sort.Generic parent) u
   unfolding name name_by scope scope_by
-  generic-name parent args done = refl
-  generic-name parent args (bytes b rest) = refl
-  generic-name parent args (item one rest) = refl
+  generic-name lists parent args done = refl
+  generic-name lists parent args (bytes b rest) = refl
+  generic-name lists parent args (item one rest) = refl
 
-  crate-scope : (own : Identifier) (u : Unshared) → scope (crate_root own) u ≡ scope_by y sort.Crate u
+  crate-scope : (lists : ℕ) (own : Identifier) (u : Unshared) → scope lists (crate_root own) u ≡ scope_by y lists sort.Crate u
   unfolding scope scope_by
-  crate-scope own u = refl
+  crate-scope lists own u = refl
 
-  crate-name : (own : Identifier) (u : Unshared) → name (crate_root own) u ≡ name_by y sort.Crate u
+  crate-name : (lists : ℕ) (own : Identifier) (u : Unshared) → name lists (crate_root own) u ≡ name_by y lists sort.Crate u
   unfolding name name_by scope scope_by
-  crate-name own u = refl
+  crate-name lists own u = refl
 
-  implementation-by : (u : Unshared) → (implementation u ≡ scope_by y sort.Implementation u) × (scope_by y sort.Implementation u ≡ name_by y sort.Implementation u)
+  implementation-by : (lists : ℕ) (u : Unshared) → (implementation u ≡ scope_by y lists sort.Implementation u) × (scope_by y lists sort.Implementation u ≡ name_by y lists sort.Implementation u)
   unfolding scope_by name_by
-  implementation-by u = (refl, refl)
+  implementation-by lists u = (refl, refl)
 
   -- what a name is in
-  pub scope-by : (node : ℕ) (s : PathSort) → IsSort y node s → (u : Unshared) → scope_by y s u ≡ scope (path_at y node) u
-  scope-by node sort.Crate is u = sym (ap (λ p. scope p u) is.1 ∙ crate-scope is.0 u)
-  scope-by node sort.Implementation is u = sym (implementation-scope (path_at y node) is u ∙ (implementation-by u).0)
-  scope-by node (sort.Nested parent) is u = sym (ap (λ p. scope p u) is.1.2 ∙ nested-scope parent _ is.1.0 u)
-  scope-by node (sort.Generic parent) is u = sym (ap (λ p. scope p u) is.1.1 ∙ generic-scope parent is.1.0 u)
+  pub scope-by : (lists : ℕ) (node : ℕ) (s : PathSort) → IsSort y node s → (u : Unshared) → scope_by y lists s u ≡ scope lists (path_at y node) u
+  scope-by lists node sort.Crate is u = sym (ap (λ p. scope lists p u) is.1 ∙ crate-scope lists is.0 u)
+  scope-by lists node sort.Implementation is u = sym (implementation-scope lists (path_at y node) is u ∙ (implementation-by lists u).0)
+  scope-by lists node (sort.Nested parent) is u = sym (ap (λ p. scope lists p u) is.1.2 ∙ nested-scope lists parent _ is.1.0 u)
+  scope-by lists node (sort.Generic parent) is u = sym (ap (λ p. scope lists p u) is.1.1 ∙ generic-scope lists parent is.1.0 u)
 
   -- a name
-  pub name-by : (node : ℕ) (s : PathSort) → IsSort y node s → (u : Unshared) → name_by y s u ≡ name (path_at y node) u
-  name-by node sort.Crate is u = sym (ap (λ p. name p u) is.1 ∙ crate-name is.0 u)
-  name-by node sort.Implementation is u =
-      sym (implementation-name (path_at y node) is u ∙ implementation-scope (path_at y node) is u ∙ (implementation-by u).0 ∙ (implementation-by u).1)
-  name-by node (sort.Nested parent) is u = sym (ap (λ p. name p u) is.1.2 ∙ nested-name parent _ is.1.0 u)
-  name-by node (sort.Generic parent) is u = sym (ap (λ p. name p u) is.1.1 ∙ generic-name parent is.1.0 u)
+  pub name-by : (lists : ℕ) (node : ℕ) (s : PathSort) → IsSort y node s → (u : Unshared) → name_by y lists s u ≡ name lists (path_at y node) u
+  name-by lists node sort.Crate is u = sym (ap (λ p. name lists p u) is.1 ∙ crate-name lists is.0 u)
+  name-by lists node sort.Implementation is u =
+      sym (implementation-name lists (path_at y node) is u ∙ implementation-scope lists (path_at y node) is u ∙ (implementation-by lists u).0 ∙ (implementation-by lists u).1)
+  name-by lists node (sort.Nested parent) is u = sym (ap (λ p. name lists p u) is.1.2 ∙ nested-name lists parent _ is.1.0 u)
+  name-by lists node (sort.Generic parent) is u = sym (ap (λ p. name lists p u) is.1.1 ∙ generic-name lists parent is.1.0 u)
 
   pub sort-below : (node count : ℕ) (s : PathSort) → IsSort y node s → node < count → IsBelow count s
   sort-below node count sort.Crate is below = tt

@@ -1,64 +1,64 @@
 -- The clauses of the definition, for what an item prints in the shape that the code found.
-use Rattle.std.proofs.Common.{◌≡◌, ℕ, ◌-◌, ◌<◌, List, take, drop, length, min, sym, ap, ◌∙◌, arith, length-take, length-drop, subst}
+use Rattle.std.proofs.Common.{◌≡◌, ℕ, ◌+◌, ◌-◌, ◌<◌, List, take, drop, length, min, sym, ap, ◌∙◌, arith, length-take, length-drop, subst}
 use Rattle.rust_tree.specs.Layout.{ReadSymbol}
 use Rattle.rust_tree.specs.Symbol.{Path, Symbol}
 use Rattle.sym_print.specs.Unshared.{Unshared, done, bytes, item, text_of}
 use Rattle.sym_parts.specs.Marked.{Marked, text, marked, ◌before◌}
 use Rattle.sym_parts.specs.Marked as marks
-use Rattle.sym_parts.specs.Plain.{plain, whole, alone, suffixed}
+use Rattle.sym_parts.specs.Plain.{plain, whole, alone, numbered, only, suffixed}
 use Rattle.sym_parts.specs.declared.role.Role.TheVariants as role
-use Rattle.rust_parts.specs.Roles.{elements, listed, arguments, of_trait, of_type, implementation, scope, scoped, name, symbol_marked}
+use Rattle.rust_parts.specs.Roles.{argument, elements, listed, arguments, of_trait, of_type, implementation, scope, scoped, name, symbol_marked}
 use Rattle.rust_parts.specs.Sorts.{IsBelow, name_by, path_at, scope_by}
 use Rattle.rust_parts.specs.declared.sorts.PathSort.{PathSort}
 use Rattle.rust_parts.specs.declared.sorts.PathSort.TheVariants as sort
 
 -- ## Arguments
 
-pub listed-nothing : (u : Unshared) → u ≡ done → plain u ≡ listed u
+pub listed-nothing : (list number : ℕ) (u : Unshared) → u ≡ done → plain u ≡ listed list number u
 unfolding listed
-listed-nothing u is = ap plain is ∙ sym (ap listed is)
+listed-nothing list number u is = ap plain is ∙ sym (ap (listed list number) is)
 
-pub listed-text : (u : Unshared) (b : List ℕ) (rest : Unshared) → u ≡ bytes b rest → plain u ≡ listed u
+pub listed-text : (list number : ℕ) (u : Unshared) (b : List ℕ) (rest : Unshared) → u ≡ bytes b rest → plain u ≡ listed list number u
 unfolding listed
-listed-text u b rest is = ap plain is ∙ sym (ap listed is)
+listed-text list number u b rest is = ap plain is ∙ sym (ap (listed list number) is)
 
-pub listed-item : (u one rest : Unshared) → u ≡ item one rest → elements one before plain rest ≡ listed u
+pub listed-item : (list number : ℕ) (u one rest : Unshared) → u ≡ item one rest → elements list number one before plain rest ≡ listed list number u
 unfolding listed
-listed-item u one rest is = sym (ap listed is)
+listed-item list number u one rest is = sym (ap (listed list number) is)
 
-pub elements-nothing : (u : Unshared) → u ≡ done → plain u ≡ elements u
+pub elements-nothing : (list number : ℕ) (u : Unshared) → u ≡ done → plain u ≡ elements list number u
 unfolding elements
-elements-nothing u is = ap plain is ∙ sym (ap elements is)
+elements-nothing list number u is = ap plain is ∙ sym (ap (elements list number) is)
 
-pub elements-item : (u one rest : Unshared) → u ≡ item one rest → alone role.GenericArgument (text_of one) (listed rest) ≡ elements u
+pub elements-item : (list number : ℕ) (u one rest : Unshared) → u ≡ item one rest → alone role.GenericArgument (argument list number) (text_of one) (listed list (number + 1) rest) ≡ elements list number u
 unfolding elements
-elements-item u one rest is = sym (ap elements is)
+elements-item list number u one rest is = sym (ap (elements list number) is)
 
-pub elements-text-nothing : (u : Unshared) (b : List ℕ) (rest : Unshared) → u ≡ bytes b rest → rest ≡ done → plain u ≡ elements u
+pub elements-text-nothing : (list number : ℕ) (u : Unshared) (b : List ℕ) (rest : Unshared) → u ≡ bytes b rest → rest ≡ done → plain u ≡ elements list number u
 unfolding elements
-elements-text-nothing u b rest is next = ap plain (is ∙ ap (bytes b) next) ∙ sym (ap elements (is ∙ ap (bytes b) next))
+elements-text-nothing list number u b rest is next = ap plain (is ∙ ap (bytes b) next) ∙ sym (ap (elements list number) (is ∙ ap (bytes b) next))
 
-pub elements-text-text : (u : Unshared) (b : List ℕ) (rest : Unshared) (c : List ℕ) (others : Unshared) → u ≡ bytes b rest → rest ≡ bytes c others → plain u ≡ elements u
+pub elements-text-text : (list number : ℕ) (u : Unshared) (b : List ℕ) (rest : Unshared) (c : List ℕ) (others : Unshared) → u ≡ bytes b rest → rest ≡ bytes c others → plain u ≡ elements list number u
 unfolding elements
-elements-text-text u b rest c others is next = ap plain (is ∙ ap (bytes b) next) ∙ sym (ap elements (is ∙ ap (bytes b) next))
+elements-text-text list number u b rest c others is next = ap plain (is ∙ ap (bytes b) next) ∙ sym (ap (elements list number) (is ∙ ap (bytes b) next))
 
-pub elements-text-item : (u : Unshared) (b : List ℕ) (rest one others : Unshared) → u ≡ bytes b rest → rest ≡ item one others
-    → text b (alone role.GenericArgument (text_of one) (listed others)) ≡ elements u
+pub elements-text-item : (list number : ℕ) (u : Unshared) (b : List ℕ) (rest one others : Unshared) → u ≡ bytes b rest → rest ≡ item one others
+    → text b (alone role.GenericArgument (argument list number) (text_of one) (listed list (number + 1) others)) ≡ elements list number u
 unfolding elements
-elements-text-item u b rest one others is next = sym (ap elements (is ∙ ap (bytes b) next))
+elements-text-item list number u b rest one others is next = sym (ap (elements list number) (is ∙ ap (bytes b) next))
 
-pub arguments-nothing : (u : Unshared) → u ≡ done → plain u ≡ arguments u
+pub arguments-nothing : (list : ℕ) (u : Unshared) → u ≡ done → plain u ≡ arguments list u
 unfolding arguments
-arguments-nothing u is = ap plain is ∙ sym (ap arguments is)
+arguments-nothing list u is = ap plain is ∙ sym (ap (arguments list) is)
 
-pub arguments-item : (u one rest : Unshared) → u ≡ item one rest → plain u ≡ arguments u
+pub arguments-item : (list : ℕ) (u one rest : Unshared) → u ≡ item one rest → plain u ≡ arguments list u
 unfolding arguments
-arguments-item u one rest is = ap plain is ∙ sym (ap arguments is)
+arguments-item list u one rest is = ap plain is ∙ sym (ap (arguments list) is)
 
-pub arguments-text : (u : Unshared) (b : List ℕ) (rest : Unshared) → u ≡ bytes b rest
-    → text (take 2 b) (marked role.GenericArguments (text (drop 2 b) (listed rest)) marks.done) ≡ arguments u
+pub arguments-text : (list : ℕ) (u : Unshared) (b : List ℕ) (rest : Unshared) → u ≡ bytes b rest
+    → text (take 2 b) (marked role.GenericArguments (numbered list) (text (drop 2 b) (listed list 1 rest)) marks.done) ≡ arguments list u
 unfolding arguments
-arguments-text u b rest is = sym (ap arguments is)
+arguments-text list u b rest is = sym (ap (arguments list) is)
 
 -- the first two bytes of a text, and the others
 pub front-lengths : (b : List ℕ) (count front : ℕ) → count ≡ length b → front ≡ min count 2 → (front ≡ length (take 2 b)) × (count - front ≡ length (drop 2 b))
@@ -83,7 +83,7 @@ unfolding of_trait
 trait-text-text u b rest c others is next = ap plain (is ∙ ap (bytes b) next) ∙ sym (ap of_trait (is ∙ ap (bytes b) next))
 
 pub trait-text-item : (u : Unshared) (b : List ℕ) (rest one others : Unshared) → u ≡ bytes b rest → rest ≡ item one others
-    → text b (alone role.Trait (text_of one) (plain others)) ≡ of_trait u
+    → text b (alone role.Trait only (text_of one) (plain others)) ≡ of_trait u
 unfolding of_trait
 trait-text-item u b rest one others is next = sym (ap of_trait (is ∙ ap (bytes b) next))
 
@@ -104,89 +104,89 @@ unfolding of_type
 type-text-text u b rest c others is next = ap plain (is ∙ ap (bytes b) next) ∙ sym (ap of_type (is ∙ ap (bytes b) next))
 
 pub type-text-item : (u : Unshared) (b : List ℕ) (rest one others : Unshared) → u ≡ bytes b rest → rest ≡ item one others
-    → text b (alone role.SelfType (text_of one) (of_trait others)) ≡ of_type u
+    → text b (alone role.SelfType only (text_of one) (of_trait others)) ≡ of_type u
 unfolding of_type
 type-text-item u b rest one others is next = sym (ap of_type (is ∙ ap (bytes b) next))
 
 -- ## Paths by their sorts
 
-module _ (y : ReadSymbol) (u : Unshared) where
-  pub scope-crate : (s : PathSort) → s ≡ sort.Crate → whole role.Crate u ≡ scope_by y s u
+module _ (y : ReadSymbol) (lists : ℕ) (u : Unshared) where
+  pub scope-crate : (s : PathSort) → s ≡ sort.Crate → whole role.Crate only u ≡ scope_by y lists s u
   unfolding scope_by
-  scope-crate s e = sym (ap (λ x. scope_by y x u) e)
+  scope-crate s e = sym (ap (λ x. scope_by y lists x u) e)
 
-  pub scope-implementation : (s : PathSort) → s ≡ sort.Implementation → implementation u ≡ scope_by y s u
+  pub scope-implementation : (s : PathSort) → s ≡ sort.Implementation → implementation u ≡ scope_by y lists s u
   unfolding scope_by
-  scope-implementation s e = sym (ap (λ x. scope_by y x u) e)
+  scope-implementation s e = sym (ap (λ x. scope_by y lists x u) e)
 
-  pub scope-nested-nothing : (s : PathSort) (parent : ℕ) → s ≡ sort.Nested parent → u ≡ done → implementation u ≡ scope_by y s u
+  pub scope-nested-nothing : (s : PathSort) (parent : ℕ) → s ≡ sort.Nested parent → u ≡ done → implementation u ≡ scope_by y lists s u
   unfolding scope_by
-  scope-nested-nothing s parent e is = ap implementation is ∙ sym (ap (λ x. scope_by y x u) e ∙ ap (scope_by y (sort.Nested parent)) is)
+  scope-nested-nothing s parent e is = ap implementation is ∙ sym (ap (λ x. scope_by y lists x u) e ∙ ap (scope_by y lists (sort.Nested parent)) is)
 
-  pub scope-nested-text : (s : PathSort) (parent : ℕ) (b : List ℕ) (rest : Unshared) → s ≡ sort.Nested parent → u ≡ bytes b rest → implementation u ≡ scope_by y s u
+  pub scope-nested-text : (s : PathSort) (parent : ℕ) (b : List ℕ) (rest : Unshared) → s ≡ sort.Nested parent → u ≡ bytes b rest → implementation u ≡ scope_by y lists s u
   unfolding scope_by
-  scope-nested-text s parent b rest e is = ap implementation is ∙ sym (ap (λ x. scope_by y x u) e ∙ ap (scope_by y (sort.Nested parent)) is)
+  scope-nested-text s parent b rest e is = ap implementation is ∙ sym (ap (λ x. scope_by y lists x u) e ∙ ap (scope_by y lists (sort.Nested parent)) is)
 
-  pub scope-nested-item : (s : PathSort) (parent : ℕ) (one rest : Unshared) → s ≡ sort.Nested parent → u ≡ item one rest → scope (path_at y parent) one before plain rest ≡ scope_by y s u
+  pub scope-nested-item : (s : PathSort) (parent : ℕ) (one rest : Unshared) → s ≡ sort.Nested parent → u ≡ item one rest → scope lists (path_at y parent) one before plain rest ≡ scope_by y lists s u
   unfolding scope_by
-  scope-nested-item s parent one rest e is = sym (ap (λ x. scope_by y x u) e ∙ ap (scope_by y (sort.Nested parent)) is)
+  scope-nested-item s parent one rest e is = sym (ap (λ x. scope_by y lists x u) e ∙ ap (scope_by y lists (sort.Nested parent)) is)
 
-  pub scope-generic-nothing : (s : PathSort) (parent : ℕ) → s ≡ sort.Generic parent → u ≡ done → implementation u ≡ scope_by y s u
+  pub scope-generic-nothing : (s : PathSort) (parent : ℕ) → s ≡ sort.Generic parent → u ≡ done → implementation u ≡ scope_by y lists s u
   unfolding scope_by
-  scope-generic-nothing s parent e is = ap implementation is ∙ sym (ap (λ x. scope_by y x u) e ∙ ap (scope_by y (sort.Generic parent)) is)
+  scope-generic-nothing s parent e is = ap implementation is ∙ sym (ap (λ x. scope_by y lists x u) e ∙ ap (scope_by y lists (sort.Generic parent)) is)
 
-  pub scope-generic-text : (s : PathSort) (parent : ℕ) (b : List ℕ) (rest : Unshared) → s ≡ sort.Generic parent → u ≡ bytes b rest → implementation u ≡ scope_by y s u
+  pub scope-generic-text : (s : PathSort) (parent : ℕ) (b : List ℕ) (rest : Unshared) → s ≡ sort.Generic parent → u ≡ bytes b rest → implementation u ≡ scope_by y lists s u
   unfolding scope_by
-  scope-generic-text s parent b rest e is = ap implementation is ∙ sym (ap (λ x. scope_by y x u) e ∙ ap (scope_by y (sort.Generic parent)) is)
+  scope-generic-text s parent b rest e is = ap implementation is ∙ sym (ap (λ x. scope_by y lists x u) e ∙ ap (scope_by y lists (sort.Generic parent)) is)
 
-  pub scope-generic-item : (s : PathSort) (parent : ℕ) (one rest : Unshared) → s ≡ sort.Generic parent → u ≡ item one rest → scope (path_at y parent) one before arguments rest ≡ scope_by y s u
+  pub scope-generic-item : (s : PathSort) (parent : ℕ) (one rest : Unshared) → s ≡ sort.Generic parent → u ≡ item one rest → scope (lists + 1) (path_at y parent) one before arguments lists rest ≡ scope_by y lists s u
   unfolding scope_by
-  scope-generic-item s parent one rest e is = sym (ap (λ x. scope_by y x u) e ∙ ap (scope_by y (sort.Generic parent)) is)
+  scope-generic-item s parent one rest e is = sym (ap (λ x. scope_by y lists x u) e ∙ ap (scope_by y lists (sort.Generic parent)) is)
 
-  pub name-crate : (s : PathSort) → s ≡ sort.Crate → scope_by y s u ≡ name_by y s u
+  pub name-crate : (s : PathSort) → s ≡ sort.Crate → scope_by y lists s u ≡ name_by y lists s u
   unfolding name_by
-  name-crate s e = ap (λ x. scope_by y x u) e ∙ sym (ap (λ x. name_by y x u) e)
+  name-crate s e = ap (λ x. scope_by y lists x u) e ∙ sym (ap (λ x. name_by y lists x u) e)
 
-  pub name-implementation : (s : PathSort) → s ≡ sort.Implementation → scope_by y s u ≡ name_by y s u
+  pub name-implementation : (s : PathSort) → s ≡ sort.Implementation → scope_by y lists s u ≡ name_by y lists s u
   unfolding name_by
-  name-implementation s e = ap (λ x. scope_by y x u) e ∙ sym (ap (λ x. name_by y x u) e)
+  name-implementation s e = ap (λ x. scope_by y lists x u) e ∙ sym (ap (λ x. name_by y lists x u) e)
 
-  pub name-nested-nothing : (s : PathSort) (parent : ℕ) → s ≡ sort.Nested parent → u ≡ done → scope_by y (sort.Nested parent) u ≡ name_by y s u
+  pub name-nested-nothing : (s : PathSort) (parent : ℕ) → s ≡ sort.Nested parent → u ≡ done → scope_by y lists (sort.Nested parent) u ≡ name_by y lists s u
   unfolding name_by
-  name-nested-nothing s parent e is = ap (scope_by y (sort.Nested parent)) is ∙ sym (ap (λ x. name_by y x u) e ∙ ap (name_by y (sort.Nested parent)) is)
+  name-nested-nothing s parent e is = ap (scope_by y lists (sort.Nested parent)) is ∙ sym (ap (λ x. name_by y lists x u) e ∙ ap (name_by y lists (sort.Nested parent)) is)
 
-  pub name-nested-text : (s : PathSort) (parent : ℕ) (b : List ℕ) (rest : Unshared) → s ≡ sort.Nested parent → u ≡ bytes b rest → scope_by y (sort.Nested parent) u ≡ name_by y s u
+  pub name-nested-text : (s : PathSort) (parent : ℕ) (b : List ℕ) (rest : Unshared) → s ≡ sort.Nested parent → u ≡ bytes b rest → scope_by y lists (sort.Nested parent) u ≡ name_by y lists s u
   unfolding name_by
-  name-nested-text s parent b rest e is = ap (scope_by y (sort.Nested parent)) is ∙ sym (ap (λ x. name_by y x u) e ∙ ap (name_by y (sort.Nested parent)) is)
+  name-nested-text s parent b rest e is = ap (scope_by y lists (sort.Nested parent)) is ∙ sym (ap (λ x. name_by y lists x u) e ∙ ap (name_by y lists (sort.Nested parent)) is)
 
-  pub name-nested-item : (s : PathSort) (parent : ℕ) (one rest : Unshared) → s ≡ sort.Nested parent → u ≡ item one rest → name_by y (sort.Nested parent) (item one rest) ≡ name_by y s u
-  name-nested-item s parent one rest e is = sym (ap (λ x. name_by y x u) e ∙ ap (name_by y (sort.Nested parent)) is)
+  pub name-nested-item : (s : PathSort) (parent : ℕ) (one rest : Unshared) → s ≡ sort.Nested parent → u ≡ item one rest → name_by y lists (sort.Nested parent) (item one rest) ≡ name_by y lists s u
+  name-nested-item s parent one rest e is = sym (ap (λ x. name_by y lists x u) e ∙ ap (name_by y lists (sort.Nested parent)) is)
 
-  pub name-generic-nothing : (s : PathSort) (parent : ℕ) → s ≡ sort.Generic parent → u ≡ done → scope_by y (sort.Generic parent) u ≡ name_by y s u
+  pub name-generic-nothing : (s : PathSort) (parent : ℕ) → s ≡ sort.Generic parent → u ≡ done → scope_by y lists (sort.Generic parent) u ≡ name_by y lists s u
   unfolding name_by
-  name-generic-nothing s parent e is = ap (scope_by y (sort.Generic parent)) is ∙ sym (ap (λ x. name_by y x u) e ∙ ap (name_by y (sort.Generic parent)) is)
+  name-generic-nothing s parent e is = ap (scope_by y lists (sort.Generic parent)) is ∙ sym (ap (λ x. name_by y lists x u) e ∙ ap (name_by y lists (sort.Generic parent)) is)
 
-  pub name-generic-text : (s : PathSort) (parent : ℕ) (b : List ℕ) (rest : Unshared) → s ≡ sort.Generic parent → u ≡ bytes b rest → scope_by y (sort.Generic parent) u ≡ name_by y s u
+  pub name-generic-text : (s : PathSort) (parent : ℕ) (b : List ℕ) (rest : Unshared) → s ≡ sort.Generic parent → u ≡ bytes b rest → scope_by y lists (sort.Generic parent) u ≡ name_by y lists s u
   unfolding name_by
-  name-generic-text s parent b rest e is = ap (scope_by y (sort.Generic parent)) is ∙ sym (ap (λ x. name_by y x u) e ∙ ap (name_by y (sort.Generic parent)) is)
+  name-generic-text s parent b rest e is = ap (scope_by y lists (sort.Generic parent)) is ∙ sym (ap (λ x. name_by y lists x u) e ∙ ap (name_by y lists (sort.Generic parent)) is)
 
-  pub name-generic-item : (s : PathSort) (parent : ℕ) (one rest : Unshared) → s ≡ sort.Generic parent → u ≡ item one rest → name (path_at y parent) one before arguments rest ≡ name_by y s u
+  pub name-generic-item : (s : PathSort) (parent : ℕ) (one rest : Unshared) → s ≡ sort.Generic parent → u ≡ item one rest → name (lists + 1) (path_at y parent) one before arguments lists rest ≡ name_by y lists s u
   unfolding name_by
-  name-generic-item s parent one rest e is = sym (ap (λ x. name_by y x u) e ∙ ap (name_by y (sort.Generic parent)) is)
+  name-generic-item s parent one rest e is = sym (ap (λ x. name_by y lists x u) e ∙ ap (name_by y lists (sort.Generic parent)) is)
 
 -- a name after its parent, by what is after the parent's item
-module _ (y : ReadSymbol) (parent : ℕ) (one rest : Unshared) where
-  pub nested-text : (b : List ℕ) (others : Unshared) → rest ≡ bytes b others → scoped (scope (path_at y parent) one) b others ≡ name_by y (sort.Nested parent) (item one rest)
+module _ (y : ReadSymbol) (lists parent : ℕ) (one rest : Unshared) where
+  pub nested-text : (b : List ℕ) (others : Unshared) → rest ≡ bytes b others → scoped (scope lists (path_at y parent) one) b others ≡ name_by y lists (sort.Nested parent) (item one rest)
   unfolding name_by
-  nested-text b others next = sym (ap (λ x. name_by y (sort.Nested parent) (item one x)) next)
+  nested-text b others next = sym (ap (λ x. name_by y lists (sort.Nested parent) (item one x)) next)
 
-  pub nested-nothing : rest ≡ done → name (path_at y parent) one before plain rest ≡ name_by y (sort.Nested parent) (item one rest)
+  pub nested-nothing : rest ≡ done → name lists (path_at y parent) one before plain rest ≡ name_by y lists (sort.Nested parent) (item one rest)
   unfolding name_by
-  nested-nothing next = ap (λ x. name (path_at y parent) one before plain x) next ∙ sym (ap (λ x. name_by y (sort.Nested parent) (item one x)) next)
+  nested-nothing next = ap (λ x. name lists (path_at y parent) one before plain x) next ∙ sym (ap (λ x. name_by y lists (sort.Nested parent) (item one x)) next)
 
-  pub nested-item : (other others : Unshared) → rest ≡ item other others → name (path_at y parent) one before plain rest ≡ name_by y (sort.Nested parent) (item one rest)
+  pub nested-item : (other others : Unshared) → rest ≡ item other others → name lists (path_at y parent) one before plain rest ≡ name_by y lists (sort.Nested parent) (item one rest)
   unfolding name_by
-  nested-item other others next = ap (λ x. name (path_at y parent) one before plain x) next ∙ sym (ap (λ x. name_by y (sort.Nested parent) (item one x)) next)
+  nested-item other others next = ap (λ x. name lists (path_at y parent) one before plain x) next ∙ sym (ap (λ x. name_by y lists (sort.Nested parent) (item one x)) next)
 
 pub below-nested : (count : ℕ) (s : PathSort) (parent : ℕ) → s ≡ sort.Nested parent → IsBelow count s → parent < count
 below-nested count s parent e below = subst (IsBelow count) e below
@@ -212,7 +212,7 @@ pub suffix-text-item : (u : Unshared) (b : List ℕ) (rest one others : Unshared
 unfolding suffixed
 suffix-text-item u b rest one others is next = ap plain (is ∙ ap (bytes b) next) ∙ sym (ap suffixed (is ∙ ap (bytes b) next))
 
-pub suffix-text-text : (u : Unshared) (b : List ℕ) (rest : Unshared) (c : List ℕ) (others : Unshared) → u ≡ bytes b rest → rest ≡ bytes c others → text b (alone role.Suffix c (plain others)) ≡ suffixed u
+pub suffix-text-text : (u : Unshared) (b : List ℕ) (rest : Unshared) (c : List ℕ) (others : Unshared) → u ≡ bytes b rest → rest ≡ bytes c others → text b (alone role.Suffix only c (plain others)) ≡ suffixed u
 unfolding suffixed
 suffix-text-text u b rest c others is next = sym (ap suffixed (is ∙ ap (bytes b) next))
 
@@ -224,6 +224,6 @@ pub symbol-text : (s : Symbol) (u : Unshared) (b : List ℕ) (rest : Unshared) �
 unfolding symbol_marked
 symbol-text s u b rest is = ap plain is ∙ sym (ap (symbol_marked s) is)
 
-pub symbol-item : (s : Symbol) (p : Path) (u one rest : Unshared) → p ≡ s.path → u ≡ item one rest → name p one before suffixed rest ≡ symbol_marked s u
+pub symbol-item : (s : Symbol) (p : Path) (u one rest : Unshared) → p ≡ s.path → u ≡ item one rest → name 0 p one before suffixed rest ≡ symbol_marked s u
 unfolding symbol_marked
-symbol-item s p u one rest path is = ap (λ x. name x one before suffixed rest) path ∙ sym (ap (symbol_marked s) is)
+symbol-item s p u one rest path is = ap (λ x. name 0 x one before suffixed rest) path ∙ sym (ap (symbol_marked s) is)

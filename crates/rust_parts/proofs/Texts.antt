@@ -1,15 +1,16 @@
 -- The text of a symbol without its marks is what the symbol prints.
-use Rattle.std.proofs.Common.{◌≡◌, ℕ, List, ◌++◌, take, drop, sym, ap, ◌∙◌, append_assoc, append-nil}
+use Rattle.std.proofs.Common.{◌≡◌, ℕ, ◌+◌, List, ◌++◌, take, drop, sym, ap, ◌∙◌, append_assoc, append-nil}
 use Rattle.std.proofs.lemmas.List.{take-append-drop}
 use Rattle.rust_tree.specs.Symbol.{Path, Symbol, crate_root, inherent_impl, trait_impl, trait_definition, nested, generic}
 use Rattle.sym_print.specs.Unshared.{Unshared, done, bytes, item, text_of}
 use Rattle.sym_parts.specs.Marked.{Marked, text, marked, ◌before◌}
 use Rattle.sym_parts.specs.Marked as marks
-use Rattle.sym_parts.specs.Plain.{plain, whole, alone, suffixed}
+use Rattle.sym_parts.specs.Plain.{plain, whole, alone, numbered, only, suffixed}
 use Rattle.sym_parts.proofs.Marks.{text_of-before}
 use Rattle.sym_parts.specs.declared.role.Role.{Role}
+use Rattle.sym_parts.specs.declared.spelling.Ordinal.{Ordinal}
 use Rattle.sym_parts.specs.declared.role.Role.TheVariants as role
-use Rattle.rust_parts.specs.Roles.{elements, listed, arguments, of_trait, of_type, implementation, scope, scoped, name, symbol_marked}
+use Rattle.rust_parts.specs.Roles.{argument, elements, listed, arguments, of_trait, of_type, implementation, scope, scoped, name, symbol_marked}
 
 -- the text of a marked text
 abbrev shown : Marked → List ℕ
@@ -27,52 +28,52 @@ text-plain : (u : Unshared) → shown (plain u) ≡ text_of u
 unfolding marks.text_of
 text-plain u = append-nil (text_of u)
 
-text-whole : (r : Role) (u : Unshared) → shown (whole r u) ≡ text_of u
+text-whole : (r : Role) (o : Ordinal) (u : Unshared) → shown (whole r o u) ≡ text_of u
 unfolding marks.text_of
-text-whole r u = append-nil _ ∙ append-nil (text_of u)
+text-whole r o u = append-nil _ ∙ append-nil (text_of u)
 
-text-alone : (r : Role) (b : List ℕ) (rest : Marked) → shown (alone r b rest) ≡ b ++ shown rest
+text-alone : (r : Role) (o : Ordinal) (b : List ℕ) (rest : Marked) → shown (alone r o b rest) ≡ b ++ shown rest
 unfolding marks.text_of
-text-alone r b rest = ap (λ t. t ++ shown rest) (append-nil b)
+text-alone r o b rest = ap (λ t. t ++ shown rest) (append-nil b)
 
 text-first : (b : List ℕ) (m : Marked) (t : List ℕ) → shown m ≡ t → shown (text b m) ≡ b ++ t
 unfolding marks.text_of
 text-first b m t same = ap (λ x. b ++ x) same
 
 -- one part, after a text and before others
-text-after : (r : Role) (b c : List ℕ) (rest : Marked) (t : List ℕ) → shown rest ≡ t → shown (text b (alone r c rest)) ≡ b ++ (c ++ t)
-text-after r b c rest t same = text-first b (alone r c rest) (c ++ t) (text-alone r c rest ∙ ap (λ x. c ++ x) same)
+text-after : (r : Role) (o : Ordinal) (b c : List ℕ) (rest : Marked) (t : List ℕ) → shown rest ≡ t → shown (text b (alone r o c rest)) ≡ b ++ (c ++ t)
+text-after r o b c rest t same = text-first b (alone r o c rest) (c ++ t) (text-alone r o c rest ∙ ap (λ x. c ++ x) same)
 
 -- all of it in one part, after a text
-text-inside : (r : Role) (b : List ℕ) (m : Marked) (t : List ℕ) → shown m ≡ t → shown (marked r (text b m) marks.done) ≡ b ++ t
+text-inside : (r : Role) (o : Ordinal) (b : List ℕ) (m : Marked) (t : List ℕ) → shown m ≡ t → shown (marked r o (text b m) marks.done) ≡ b ++ t
 unfolding marks.text_of
-text-inside r b m t same = append-nil _ ∙ ap (λ x. b ++ x) same
+text-inside r o b m t same = append-nil _ ∙ ap (λ x. b ++ x) same
 
 mutual
   unfolding elements listed
 
-  pub text-elements : (u : Unshared) → shown (elements u) ≡ text_of u
-  text-elements done = text-plain done
-  text-elements (item argument rest) = text-alone role.GenericArgument (text_of argument) (listed rest) ∙ ap (λ x. text_of argument ++ x) (text-listed rest)
-  text-elements (bytes comma (item argument rest)) = text-after role.GenericArgument comma (text_of argument) (listed rest) (text_of rest) (text-listed rest)
-  text-elements (bytes comma done) = text-plain (bytes comma done)
-  text-elements (bytes comma (bytes b rest)) = text-plain (bytes comma (bytes b rest))
+  pub text-elements : (list number : ℕ) (u : Unshared) → shown (elements list number u) ≡ text_of u
+  text-elements list number done = text-plain done
+  text-elements list number (item one rest) = text-alone role.GenericArgument (argument list number) (text_of one) (listed list (number + 1) rest) ∙ ap (λ x. text_of one ++ x) (text-listed list (number + 1) rest)
+  text-elements list number (bytes comma (item one rest)) = text-after role.GenericArgument (argument list number) comma (text_of one) (listed list (number + 1) rest) (text_of rest) (text-listed list (number + 1) rest)
+  text-elements list number (bytes comma done) = text-plain (bytes comma done)
+  text-elements list number (bytes comma (bytes b rest)) = text-plain (bytes comma (bytes b rest))
 
-  pub text-listed : (u : Unshared) → shown (listed u) ≡ text_of u
-  text-listed done = text-plain done
-  text-listed (bytes b rest) = text-plain (bytes b rest)
-  text-listed (item list rest) = joins (elements list) (plain rest) _ _ (text-elements list) (text-plain rest)
+  pub text-listed : (list number : ℕ) (u : Unshared) → shown (listed list number u) ≡ text_of u
+  text-listed list number done = text-plain done
+  text-listed list number (bytes b rest) = text-plain (bytes b rest)
+  text-listed list number (item others rest) = joins (elements list number others) (plain rest) _ _ (text-elements list number others) (text-plain rest)
 
-text-arguments : (u : Unshared) → shown (arguments u) ≡ text_of u
+text-arguments : (list : ℕ) (u : Unshared) → shown (arguments list u) ≡ text_of u
 unfolding arguments
-text-arguments (bytes opening rest) =
-    text-first (take 2 opening) _ _ (text-inside role.GenericArguments (drop 2 opening) (listed rest) (text_of rest) (text-listed rest)) ∙ cut 2 opening (text_of rest)
-text-arguments done = text-plain done
-text-arguments (item one rest) = text-plain (item one rest)
+text-arguments list (bytes opening rest) =
+    text-first (take 2 opening) _ _ (text-inside role.GenericArguments (numbered list) (drop 2 opening) (listed list 1 rest) (text_of rest) (text-listed list 1 rest)) ∙ cut 2 opening (text_of rest)
+text-arguments list done = text-plain done
+text-arguments list (item one rest) = text-plain (item one rest)
 
 text-of_trait : (u : Unshared) → shown (of_trait u) ≡ text_of u
 unfolding of_trait
-text-of_trait (bytes between (item implemented rest)) = text-after role.Trait between (text_of implemented) (plain rest) (text_of rest) (text-plain rest)
+text-of_trait (bytes between (item implemented rest)) = text-after role.Trait only between (text_of implemented) (plain rest) (text_of rest) (text-plain rest)
 text-of_trait done = text-plain done
 text-of_trait (item one rest) = text-plain (item one rest)
 text-of_trait (bytes b done) = text-plain (bytes b done)
@@ -80,7 +81,7 @@ text-of_trait (bytes b (bytes c rest)) = text-plain (bytes b (bytes c rest))
 
 pub text-of_type : (u : Unshared) → shown (of_type u) ≡ text_of u
 unfolding of_type
-text-of_type (bytes opening (item self_type rest)) = text-after role.SelfType opening (text_of self_type) (of_trait rest) (text_of rest) (text-of_trait rest)
+text-of_type (bytes opening (item self_type rest)) = text-after role.SelfType only opening (text_of self_type) (of_trait rest) (text_of rest) (text-of_trait rest)
 text-of_type done = text-plain done
 text-of_type (item one rest) = text-plain (item one rest)
 text-of_type (bytes b done) = text-plain (bytes b done)
@@ -90,41 +91,41 @@ text-implementation : (u : Unshared) → shown (implementation u) ≡ text_of u
 unfolding marks.text_of
 text-implementation u = append-nil _ ∙ text-of_type u
 
-pub text-scope : (p : Path) (u : Unshared) → shown (scope p u) ≡ text_of u
+pub text-scope : (lists : ℕ) (p : Path) (u : Unshared) → shown (scope lists p u) ≡ text_of u
 unfolding scope
-text-scope (nested namespace parent own) (item one rest) = joins (scope parent one) (plain rest) _ _ (text-scope parent one) (text-plain rest)
-text-scope (generic parent args) (item one rest) = joins (scope parent one) (arguments rest) _ _ (text-scope parent one) (text-arguments rest)
-text-scope (crate_root own) u = text-whole role.Crate u
-text-scope path done = text-implementation done
-text-scope path (bytes b rest) = text-implementation (bytes b rest)
-text-scope path (item one rest) = text-implementation (item one rest)
+text-scope lists (nested namespace parent own) (item one rest) = joins (scope lists parent one) (plain rest) _ _ (text-scope lists parent one) (text-plain rest)
+text-scope lists (generic parent args) (item one rest) = joins (scope (lists + 1) parent one) (arguments lists rest) _ _ (text-scope (lists + 1) parent one) (text-arguments lists rest)
+text-scope lists (crate_root own) u = text-whole role.Crate only u
+text-scope lists path done = text-implementation done
+text-scope lists path (bytes b rest) = text-implementation (bytes b rest)
+text-scope lists path (item one rest) = text-implementation (item one rest)
 
 -- a base, after the colons
 text-scoped : (m : Marked) (b : List ℕ) (u : Unshared) (t : List ℕ) → shown m ≡ t → shown (scoped m b u) ≡ t ++ (b ++ text_of u)
 unfolding marks.text_of scoped
 text-scoped m b u t same =
-    ap (λ x. x ++ (take 2 b ++ shown (marked role.Base (text (drop 2 b) (plain u)) marks.done))) same
-    ∙ ap (λ x. t ++ (take 2 b ++ x)) (text-inside role.Base (drop 2 b) (plain u) (text_of u) (text-plain u))
+    ap (λ x. x ++ (take 2 b ++ shown (marked role.Base only (text (drop 2 b) (plain u)) marks.done))) same
+    ∙ ap (λ x. t ++ (take 2 b ++ x)) (text-inside role.Base only (drop 2 b) (plain u) (text_of u) (text-plain u))
     ∙ ap (λ x. t ++ x) (cut 2 b (text_of u))
 
-text-name : (p : Path) (u : Unshared) → shown (name p u) ≡ text_of u
+text-name : (lists : ℕ) (p : Path) (u : Unshared) → shown (name lists p u) ≡ text_of u
 unfolding name
-text-name (nested namespace parent own) (item one (bytes colons rest)) = text-scoped (scope parent one) colons rest (text_of one) (text-scope parent one)
-text-name (nested namespace parent own) (item one done) = joins (name parent one) (plain done) _ _ (text-name parent one) (text-plain done)
-text-name (nested namespace parent own) (item one (item other rest)) = joins (name parent one) (plain (item other rest)) _ _ (text-name parent one) (text-plain (item other rest))
-text-name (generic parent args) (item one rest) = joins (name parent one) (arguments rest) _ _ (text-name parent one) (text-arguments rest)
-text-name (nested namespace parent own) done = text-scope (nested namespace parent own) done
-text-name (nested namespace parent own) (bytes b rest) = text-scope (nested namespace parent own) (bytes b rest)
-text-name (generic parent args) done = text-scope (generic parent args) done
-text-name (generic parent args) (bytes b rest) = text-scope (generic parent args) (bytes b rest)
-text-name (crate_root own) u = text-scope (crate_root own) u
-text-name (inherent_impl n p t) u = text-scope (inherent_impl n p t) u
-text-name (trait_impl n p t q) u = text-scope (trait_impl n p t q) u
-text-name (trait_definition t q) u = text-scope (trait_definition t q) u
+text-name lists (nested namespace parent own) (item one (bytes colons rest)) = text-scoped (scope lists parent one) colons rest (text_of one) (text-scope lists parent one)
+text-name lists (nested namespace parent own) (item one done) = joins (name lists parent one) (plain done) _ _ (text-name lists parent one) (text-plain done)
+text-name lists (nested namespace parent own) (item one (item other rest)) = joins (name lists parent one) (plain (item other rest)) _ _ (text-name lists parent one) (text-plain (item other rest))
+text-name lists (generic parent args) (item one rest) = joins (name (lists + 1) parent one) (arguments lists rest) _ _ (text-name (lists + 1) parent one) (text-arguments lists rest)
+text-name lists (nested namespace parent own) done = text-scope lists (nested namespace parent own) done
+text-name lists (nested namespace parent own) (bytes b rest) = text-scope lists (nested namespace parent own) (bytes b rest)
+text-name lists (generic parent args) done = text-scope lists (generic parent args) done
+text-name lists (generic parent args) (bytes b rest) = text-scope lists (generic parent args) (bytes b rest)
+text-name lists (crate_root own) u = text-scope lists (crate_root own) u
+text-name lists (inherent_impl n p t) u = text-scope lists (inherent_impl n p t) u
+text-name lists (trait_impl n p t q) u = text-scope lists (trait_impl n p t q) u
+text-name lists (trait_definition t q) u = text-scope lists (trait_definition t q) u
 
 text-suffixed : (u : Unshared) → shown (suffixed u) ≡ text_of u
 unfolding suffixed
-text-suffixed (bytes opening (bytes suffix rest)) = text-after role.Suffix opening suffix (plain rest) (text_of rest) (text-plain rest)
+text-suffixed (bytes opening (bytes suffix rest)) = text-after role.Suffix only opening suffix (plain rest) (text_of rest) (text-plain rest)
 text-suffixed done = text-plain done
 text-suffixed (item one rest) = text-plain (item one rest)
 text-suffixed (bytes b done) = text-plain (bytes b done)
@@ -133,6 +134,6 @@ text-suffixed (bytes b (item one rest)) = text-plain (bytes b (item one rest))
 -- the text of a whole symbol
 pub text-symbol : (s : Symbol) (u : Unshared) → shown (symbol_marked s u) ≡ text_of u
 unfolding symbol_marked
-text-symbol s (item one rest) = joins (name s.path one) (suffixed rest) _ _ (text-name s.path one) (text-suffixed rest)
+text-symbol s (item one rest) = joins (name 0 s.path one) (suffixed rest) _ _ (text-name 0 s.path one) (text-suffixed rest)
 text-symbol s done = text-plain done
 text-symbol s (bytes b rest) = text-plain (bytes b rest)

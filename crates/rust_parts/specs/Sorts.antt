@@ -1,5 +1,5 @@
 -- What the sorts of paths say: which paths they are, and how their texts are marked.
-use Rattle.std.specs.Prelude.{◌≡◌, ℕ, ◌<◌, slice_get}
+use Rattle.std.specs.Prelude.{◌≡◌, ℕ, ◌+◌, ◌<◌, slice_get}
 use Rattle.rust_tree.specs.Symbol.{Path, Arguments, Identifier, crate_root, inherent_impl, trait_impl, trait_definition, nested, generic}
 use Rattle.rust_tree.specs.Nodes.{path_in}
 use Rattle.rust_tree.specs.Layout.{ReadSymbol, trees_of}
@@ -7,7 +7,7 @@ use Rattle.rust_tree.specs.Fields.{number_in, text_in}
 use Rattle.rust_tree.specs.Views.{fields_at}
 use Rattle.sym_print.specs.Unshared.{Unshared, item, bytes}
 use Rattle.sym_parts.specs.Marked.{Marked, ◌before◌}
-use Rattle.sym_parts.specs.Plain.{plain, whole}
+use Rattle.sym_parts.specs.Plain.{only, plain, whole}
 use Rattle.sym_parts.specs.declared.role.Role.TheVariants as role
 use Rattle.rust_parts.specs.Roles.{arguments, implementation, scope, scoped, name}
 use Rattle.rust_parts.specs.declared.sorts.PathSort.{PathSort}
@@ -32,19 +32,19 @@ IsSort y node (sort.Nested parent) =
     × ((own : Identifier) × (own.name.bytes ≡ text_in (fields_at y node)) × (path_at y node ≡ nested (number_in (fields_at y node) 0) (path_at y parent) own))
 IsSort y node (sort.Generic parent) = (parent < node) × ((args : Arguments) × (path_at y node ≡ generic (path_at y parent) args))
 
--- what a name is in, by the sort of its path
-unfoldable pub scope_by : ReadSymbol → PathSort → Unshared → Marked
-scope_by y (sort.Nested parent) (item one rest) = scope (path_at y parent) one before plain rest
-scope_by y (sort.Generic parent) (item one rest) = scope (path_at y parent) one before arguments rest
-scope_by y sort.Crate printed = whole role.Crate printed
-scope_by y path printed = implementation printed
+-- what a name is in, before this many lists of arguments, by the sort of its path
+unfoldable pub scope_by : ReadSymbol → (lists : ℕ) → PathSort → Unshared → Marked
+scope_by y lists (sort.Nested parent) (item one rest) = scope lists (path_at y parent) one before plain rest
+scope_by y lists (sort.Generic parent) (item one rest) = scope (lists + 1) (path_at y parent) one before arguments lists rest
+scope_by y lists sort.Crate printed = whole role.Crate only printed
+scope_by y lists path printed = implementation printed
 
--- a name, by the sort of its path
-unfoldable pub name_by : ReadSymbol → PathSort → Unshared → Marked
-name_by y (sort.Nested parent) (item one (bytes colons rest)) = scoped (scope (path_at y parent) one) colons rest
-name_by y (sort.Nested parent) (item one rest) = name (path_at y parent) one before plain rest
-name_by y (sort.Generic parent) (item one rest) = name (path_at y parent) one before arguments rest
-name_by y path printed = scope_by y path printed
+-- a name, before this many lists of arguments, by the sort of its path
+unfoldable pub name_by : ReadSymbol → (lists : ℕ) → PathSort → Unshared → Marked
+name_by y lists (sort.Nested parent) (item one (bytes colons rest)) = scoped (scope lists (path_at y parent) one) colons rest
+name_by y lists (sort.Nested parent) (item one rest) = name lists (path_at y parent) one before plain rest
+name_by y lists (sort.Generic parent) (item one rest) = name (lists + 1) (path_at y parent) one before arguments lists rest
+name_by y lists path printed = scope_by y lists path printed
 
 -- the sort names nodes of the table
 abbrev pub IsBelow : (count : ℕ) → PathSort → Type 0

@@ -1,11 +1,11 @@
 -- What of a Rust symbol is taken apart later, and which marks it leads to.
-use Rattle.std.specs.Prelude.{ℕ, ◌*◌, ◌<◌, List, length}
+use Rattle.std.specs.Prelude.{ℕ, ◌+◌, ◌*◌, ◌<◌, ◌≤◌, List, length}
 use Rattle.rust_tree.specs.declared.context.Context.{Context}
 use Rattle.rust_tree.specs.Layout.{ReadSymbol, unshared_of, bytes_of_part, MayCome}
 use Rattle.sym_print.specs.declared.layout.Item.{Item}
 use Rattle.sym_print.specs.declared.layout.Part.{Part}
 use Rattle.sym_print.specs.Joined.{joined}
-use Rattle.sym_print.specs.Unshared.{Unshared, steps_of}
+use Rattle.sym_print.specs.Unshared.{Unshared, cost_of, steps_of}
 use Rattle.sym_parts.specs.Marked.{Marked}
 use Rattle.sym_parts.specs.Split as split
 use Rattle.sym_parts.specs.Tasks as tasks
@@ -29,21 +29,21 @@ ArePayable y most parts = split.ArePayable (unshared_of y) (bytes_of_part y) (Ma
 
 -- the marks of what is taken apart later
 unfoldable pub marked_of : ReadSymbol → Apart → Marked
-marked_of y (apart.Name node i) = name (path_at y node) (unshared_of y i)
-marked_of y (apart.Scope node i) = scope (path_at y node) (unshared_of y i)
-marked_of y (apart.Elements i) = elements (unshared_of y i)
+marked_of y (apart.Name lists node i) = name lists (path_at y node) (unshared_of y i)
+marked_of y (apart.Scope lists node i) = scope lists (path_at y node) (unshared_of y i)
+marked_of y (apart.Elements list number i) = elements list number (unshared_of y i)
 
--- it is of the symbol, and its item costs at most this much
+-- It is of the symbol, and its item costs at most this much. What is counted has room for all that the item prints.
 unfoldable pub IsApart : ReadSymbol → (most : ℕ) → Apart → Type 0
-IsApart y most (apart.Name node i) = (node < length y.table.nodes) × IsPayable y most i
-IsApart y most (apart.Scope node i) = (node < length y.table.nodes) × IsPayable y most i
-IsApart y most (apart.Elements i) = IsPayable y most i
+IsApart y most (apart.Name lists node i) = (node < length y.table.nodes) × IsPayable y most i × (lists + cost_of (unshared_of y i) ≤ most)
+IsApart y most (apart.Scope lists node i) = (node < length y.table.nodes) × IsPayable y most i × (lists + cost_of (unshared_of y i) ≤ most)
+IsApart y most (apart.Elements list number i) = IsPayable y most i × (number + cost_of (unshared_of y i) ≤ most)
 
 -- how many steps it takes at most
 unfoldable pub weight_of : ReadSymbol → Apart → ℕ
-weight_of y (apart.Name node i) = 4 * steps_of (unshared_of y i)
-weight_of y (apart.Scope node i) = 4 * steps_of (unshared_of y i)
-weight_of y (apart.Elements i) = 4 * steps_of (unshared_of y i)
+weight_of y (apart.Name lists node i) = 4 * steps_of (unshared_of y i)
+weight_of y (apart.Scope lists node i) = 4 * steps_of (unshared_of y i)
+weight_of y (apart.Elements list number i) = 4 * steps_of (unshared_of y i)
 
 -- what was added before other tasks has grown by these marks, and by this many steps at most
 abbrev pub Grows : ReadSymbol → (most : ℕ) → (old new : List (Task Apart)) → Marked → (steps : ℕ) → Type 0

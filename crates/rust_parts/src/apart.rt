@@ -6,10 +6,10 @@ use sym_print::Item;
 /// What is taken apart later. With an item is the node of its path.
 #[derive(Clone, Copy)]
 pub(crate) enum Apart {
-    /// The path of a name.
-    Name(u32, Item<Context>),
-    /// The path that a name is in.
-    Scope(u32, Item<Context>),
-    /// The arguments from one on.
-    Elements(Item<Context>),
+    /// The path of a name, before this many lists of arguments.
+    Name(u32, u32, Item<Context>),
+    /// The path that a name is in, before this many lists of arguments.
+    Scope(u32, u32, Item<Context>),
+    /// The arguments of a list from one on, by the numbers of the list and of the argument.
+    Elements(u32, u32, Item<Context>),
 }

@@ -10,6 +10,6 @@ mod sorts;
 mod walk;
 
 pub use kinds::kind_of;
-pub use laws::{marks_change_no_text, parts_are_few, parts_are_placed};
-pub use sym_parts::{NameKind, Part, Role};
-pub use walk::{parts, parts_as};
+pub use laws::{marks_change_no_text, stretches_are_few, stretches_are_placed};
+pub use sym_parts::{NameKind, Role, Stretch};
+pub use walk::{stretches, stretches_as};

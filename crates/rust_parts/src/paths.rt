@@ -4,7 +4,7 @@
 ghost use Rattle.std.specs.Prelude.{◌≡◌, ◌+◌, ◌*◌, ◌<◌, ◌≤◌, length, OnOk, IfErr};
 ghost use Rattle.sym_core.specs.declared.refusal.Refusal.{Refusal};
 ghost use Rattle.sym_print.specs.Joined.{IsText};
-ghost use Rattle.sym_print.specs.Unshared.{bytes, cost_of_parts, item, steps_of, steps_of_parts};
+ghost use Rattle.sym_print.specs.Unshared.{bytes, cost_of, cost_of_parts, item, steps_of, steps_of_parts};
 ghost use Rattle.rust_tree.specs.Layout.{MayCome, bytes_of_part, unshared_of};
 ghost use Rattle.sym_parts.specs.Plain.{suffixed};
 ghost use Rattle.rust_parts.specs.Roles.{implementation, of_trait, of_type, scope, scoped, symbol_marked, whole_of};
@@ -18,7 +18,7 @@ use crate::sorts::{PathSort, root_path};
 use rust_tree::{Context, Symbol};
 use sym_core::Refusal;
 use sym_parts::{
-    Role, Split, Task, Tasks, first_of, length_of, length_of_all, push_alone, push_plain,
+    ONLY, Role, Split, Task, Tasks, first_of, length_of, length_of_all, push_alone, push_plain,
     push_whole,
 };
 use sym_print::{Item, Part};
@@ -46,7 +46,7 @@ fn push_of_trait(
             Split::Text(_, _) => push_plain(y, tasks, parts, most),
             Split::Item(implemented, others) => {
                 push_plain(y, tasks, others, most)?;
-                push_after(y, tasks, between, Role::Trait, implemented, most)
+                push_after(y, tasks, between, Role::Trait, ONLY, implemented, most)
             }
         },
     }
@@ -75,7 +75,7 @@ fn push_of_type(
             Split::Text(_, _) => push_plain(y, tasks, parts, most),
             Split::Item(self_type, others) => {
                 push_of_trait(y, tasks, others, most)?;
-                push_after(y, tasks, opening, Role::SelfType, self_type, most)
+                push_after(y, tasks, opening, Role::SelfType, ONLY, self_type, most)
             }
         },
     }
@@ -98,10 +98,10 @@ fn push_implementation(
 {
     let length = length_of_all(y, tasks.allocator(), parts, most)?;
     push_of_type(y, tasks, parts, most)?;
-    tasks.push(Task::Begin(Role::Impl, length))
+    tasks.push(Task::Begin(Role::Impl, ONLY, length))
 }
 
-/// The path that a name is in, by its sort.
+/// The path that a name is in, before this many lists of arguments, by its sort.
 ///
 /// # Errors
 ///
@@ -109,32 +109,34 @@ fn push_implementation(
 pub(crate) fn push_scope(
     y: &Symbol,
     tasks: &mut Tasks<Apart>,
+    lists: u32,
     sort: PathSort,
     parts: &[Part<Context>],
     most: u32,
 ) -> Result<(), Refusal>
     requires below { IsBelow (length y.now.table.nodes) sort }
+    requires lists { lists + cost_of_parts (printed_by y.now parts.now) < most }
     requires paid { ArePayable y.now most parts.now }
-    ensures grows { OnOk result (Grows y.now most tasks.old tasks.new (scope_by y.now sort (printed_by y.now parts.now)) (4 * steps_of_parts (printed_by y.now parts.now) + 3)) }
+    ensures grows { OnOk result (Grows y.now most tasks.old tasks.new (scope_by y.now lists sort (printed_by y.now parts.now)) (4 * steps_of_parts (printed_by y.now parts.now) + 3)) }
     ensures refusals { IfErr result (λ refusal. refusal ≡ Refusal.Memory) }
 {
     match sort {
-        PathSort::Crate => push_whole(y, tasks, Role::Crate, parts, most),
+        PathSort::Crate => push_whole(y, tasks, Role::Crate, ONLY, parts, most),
         PathSort::Implementation => push_implementation(y, tasks, parts, most),
         PathSort::Nested(parent) => match first_of(y, parts, most) {
             Split::Nothing => push_implementation(y, tasks, parts, most),
             Split::Text(_, _) => push_implementation(y, tasks, parts, most),
             Split::Item(inner, rest) => {
                 push_plain(y, tasks, rest, most)?;
-                tasks.push(Task::Later(Apart::Scope(parent, *inner)))
+                tasks.push(Task::Later(Apart::Scope(lists, parent, *inner)))
             }
         },
         PathSort::Generic(parent) => match first_of(y, parts, most) {
             Split::Nothing => push_implementation(y, tasks, parts, most),
             Split::Text(_, _) => push_implementation(y, tasks, parts, most),
             Split::Item(inner, rest) => {
-                push_arguments(y, tasks, rest, most)?;
-                tasks.push(Task::Later(Apart::Scope(parent, *inner)))
+                push_arguments(y, tasks, lists, rest, most)?;
+                tasks.push(Task::Later(Apart::Scope(lists + 1, parent, *inner)))
             }
         },
     }
@@ -148,6 +150,7 @@ pub(crate) fn push_scope(
 fn push_scoped(
     y: &Symbol,
     tasks: &mut Tasks<Apart>,
+    lists: u32,
     parent: u32,
     inner: Item<Context>,
     colons: &Part<Context>,
@@ -156,11 +159,12 @@ fn push_scoped(
 ) -> Result<(), Refusal>
     requires parent { parent < length y.now.table.nodes }
     requires inner { IsPayable y.now most inner }
+    requires lists { lists + cost_of (unshared_of y.now inner) ≤ most }
     requires colons { MayCome y.now colons.now }
     requires is_text { IsText colons.now }
     requires fits { length (bytes_of_part y.now colons.now) + cost_of_parts (printed_by y.now parts.now) ≤ most }
     requires paid { ArePayable y.now most parts.now }
-    ensures grows { OnOk result (Grows y.now most tasks.old tasks.new (scoped (scope (path_at y.now parent) (unshared_of y.now inner)) (bytes_of_part y.now colons.now) (printed_by y.now parts.now)) (4 * steps_of (unshared_of y.now inner) + 5)) }
+    ensures grows { OnOk result (Grows y.now most tasks.old tasks.new (scoped (scope lists (path_at y.now parent) (unshared_of y.now inner)) (bytes_of_part y.now colons.now) (printed_by y.now parts.now)) (4 * steps_of (unshared_of y.now inner) + 5)) }
     ensures refusals { IfErr result (λ refusal. refusal ≡ Refusal.Memory) }
 {
     let outer = length_of(y, tasks.allocator(), &Part::Sub(inner), most)?;
@@ -169,10 +173,10 @@ fn push_scoped(
     let front = between.min(2);
     tasks.push(Task::Skip(length))?;
     tasks.push(Task::Skip(between - front))?;
-    tasks.push(Task::Begin(Role::Base, between - front + length))?;
+    tasks.push(Task::Begin(Role::Base, ONLY, between - front + length))?;
     tasks.push(Task::Skip(front))?;
-    tasks.push(Task::Later(Apart::Scope(parent, inner)))?;
-    tasks.push(Task::Begin(Role::Scope, outer))
+    tasks.push(Task::Later(Apart::Scope(lists, parent, inner)))?;
+    tasks.push(Task::Begin(Role::Scope, ONLY, outer))
 }
 
 /// A name after its parent, by the item of its parent and what is after that.
@@ -183,6 +187,7 @@ fn push_scoped(
 fn push_nested(
     y: &Symbol,
     tasks: &mut Tasks<Apart>,
+    lists: u32,
     parent: u32,
     inner: Item<Context>,
     rest: &[Part<Context>],
@@ -190,24 +195,27 @@ fn push_nested(
 ) -> Result<(), Refusal>
     requires parent { parent < length y.now.table.nodes }
     requires inner { IsPayable y.now most inner }
+    requires lists { lists + cost_of (unshared_of y.now inner) ≤ most }
     requires rest { ArePayable y.now most rest.now }
-    ensures grows { OnOk result (Grows y.now most tasks.old tasks.new (name_by y.now (PathSort.Nested parent) (item (unshared_of y.now inner) (printed_by y.now rest.now))) (4 * (steps_of (unshared_of y.now inner) + steps_of_parts (printed_by y.now rest.now)) + 3)) }
+    ensures grows { OnOk result (Grows y.now most tasks.old tasks.new (name_by y.now lists (PathSort.Nested parent) (item (unshared_of y.now inner) (printed_by y.now rest.now))) (4 * (steps_of (unshared_of y.now inner) + steps_of_parts (printed_by y.now rest.now)) + 3)) }
     ensures refusals { IfErr result (λ refusal. refusal ≡ Refusal.Memory) }
 {
     match first_of(y, rest, most) {
-        Split::Text(colons, others) => push_scoped(y, tasks, parent, inner, colons, others, most),
+        Split::Text(colons, others) => push_scoped(
+            y, tasks, lists, parent, inner, colons, others, most,
+        ),
         Split::Nothing => {
             push_plain(y, tasks, rest, most)?;
-            tasks.push(Task::Later(Apart::Name(parent, inner)))
+            tasks.push(Task::Later(Apart::Name(lists, parent, inner)))
         }
         Split::Item(_, _) => {
             push_plain(y, tasks, rest, most)?;
-            tasks.push(Task::Later(Apart::Name(parent, inner)))
+            tasks.push(Task::Later(Apart::Name(lists, parent, inner)))
         }
     }
 }
 
-/// The path of a name, by its sort.
+/// The path of a name, before this many lists of arguments, by its sort.
 ///
 /// # Errors
 ///
@@ -215,29 +223,31 @@ fn push_nested(
 pub(crate) fn push_name(
     y: &Symbol,
     tasks: &mut Tasks<Apart>,
+    lists: u32,
     sort: PathSort,
     parts: &[Part<Context>],
     most: u32,
 ) -> Result<(), Refusal>
     requires below { IsBelow (length y.now.table.nodes) sort }
+    requires lists { lists + cost_of_parts (printed_by y.now parts.now) < most }
     requires paid { ArePayable y.now most parts.now }
-    ensures grows { OnOk result (Grows y.now most tasks.old tasks.new (name_by y.now sort (printed_by y.now parts.now)) (4 * steps_of_parts (printed_by y.now parts.now) + 3)) }
+    ensures grows { OnOk result (Grows y.now most tasks.old tasks.new (name_by y.now lists sort (printed_by y.now parts.now)) (4 * steps_of_parts (printed_by y.now parts.now) + 3)) }
     ensures refusals { IfErr result (λ refusal. refusal ≡ Refusal.Memory) }
 {
     match sort {
-        PathSort::Crate => push_scope(y, tasks, sort, parts, most),
-        PathSort::Implementation => push_scope(y, tasks, sort, parts, most),
+        PathSort::Crate => push_scope(y, tasks, lists, sort, parts, most),
+        PathSort::Implementation => push_scope(y, tasks, lists, sort, parts, most),
         PathSort::Nested(parent) => match first_of(y, parts, most) {
-            Split::Nothing => push_scope(y, tasks, sort, parts, most),
-            Split::Text(_, _) => push_scope(y, tasks, sort, parts, most),
-            Split::Item(inner, rest) => push_nested(y, tasks, parent, *inner, rest, most),
+            Split::Nothing => push_scope(y, tasks, lists, sort, parts, most),
+            Split::Text(_, _) => push_scope(y, tasks, lists, sort, parts, most),
+            Split::Item(inner, rest) => push_nested(y, tasks, lists, parent, *inner, rest, most),
         },
         PathSort::Generic(parent) => match first_of(y, parts, most) {
-            Split::Nothing => push_scope(y, tasks, sort, parts, most),
-            Split::Text(_, _) => push_scope(y, tasks, sort, parts, most),
+            Split::Nothing => push_scope(y, tasks, lists, sort, parts, most),
+            Split::Text(_, _) => push_scope(y, tasks, lists, sort, parts, most),
             Split::Item(inner, rest) => {
-                push_arguments(y, tasks, rest, most)?;
-                tasks.push(Task::Later(Apart::Name(parent, *inner)))
+                push_arguments(y, tasks, lists, rest, most)?;
+                tasks.push(Task::Later(Apart::Name(lists + 1, parent, *inner)))
             }
         },
     }
@@ -268,7 +278,7 @@ fn push_suffixed(
                 let front = length_of(y, tasks.allocator(), opening, most)?;
                 let length = length_of(y, tasks.allocator(), suffix, most)?;
                 push_plain(y, tasks, others, most)?;
-                push_alone(tasks, Role::Suffix, length)?;
+                push_alone(tasks, Role::Suffix, ONLY, length)?;
                 tasks.push(Task::Skip(front))
             }
         },
@@ -295,7 +305,7 @@ pub(crate) fn push_symbol(
         Split::Text(_, _) => push_plain(y, tasks, parts, most),
         Split::Item(inner, rest) => {
             push_suffixed(y, tasks, rest, most)?;
-            tasks.push(Task::Later(Apart::Name(root_path(y), *inner)))
+            tasks.push(Task::Later(Apart::Name(0, root_path(y), *inner)))
         }
     }
 }

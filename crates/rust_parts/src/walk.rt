@@ -1,4 +1,4 @@
-// The parts of a symbol's text.
+// The stretches of a symbol's text.
 #![tactic(auto)]
 
 ghost use Rattle.std.specs.Prelude.{◌≡◌, ◌+◌, ◌*◌, ◌-◌, ◌<◌, ◌≤◌, ◌^◌, ◌++◌, ◌⊎◌, Err, IfErr, IfOk, OnOk, length};
@@ -6,7 +6,7 @@ ghost use Rattle.std.specs.List.{All};
 ghost use Rattle.sym_core.specs.declared.refusal.Refusal.{Refusal};
 ghost use Rattle.sym_print.specs.declared.detail.Detail.{Detail};
 ghost use Rattle.sym_print.specs.Unshared.{cost_of, steps_of_parts};
-ghost use Rattle.sym_parts.specs.Marked.{parts_of};
+ghost use Rattle.sym_parts.specs.Marked.{stretches_of};
 ghost use Rattle.rust_tree.specs.Layout.{shown_symbol, unshared_of};
 ghost use Rattle.sym_parts.specs.Marks.{skipped};
 ghost use Rattle.sym_parts.specs.Tasks.{IsTask, Lists, marks_of_task, marks_of_tasks, weight_of_task, weight_of_tasks};
@@ -21,7 +21,7 @@ use crate::sorts::path_sort;
 use rust_tree::{Context, Detail, Symbol};
 use std::alloc::Global;
 use sym_core::Refusal;
-use sym_parts::{Part, Parts, Task, Tasks, length_of_part};
+use sym_parts::{Stretch, Stretches, Task, Tasks, length_of_part};
 use sym_print::{Item, Layout};
 
 /// Takes the path of a name apart.
@@ -32,18 +32,20 @@ use sym_print::{Item, Layout};
 fn take_name(
     y: &Symbol,
     tasks: &mut Tasks<Apart>,
+    lists: u32,
     node: u32,
     item: Item<Context>,
     most: u32,
 ) -> Result<(), Refusal>
     requires node { node < length y.now.table.nodes }
     requires item { IsPayable y.now most item }
-    ensures grows { OnOk result (Grows y.now most tasks.old tasks.new (name (path_at y.now node) (unshared_of y.now item)) (4 * steps_of_parts (unshared_of y.now item) + 3)) }
+    requires lists { lists + cost_of (unshared_of y.now item) ≤ most }
+    ensures grows { OnOk result (Grows y.now most tasks.old tasks.new (name lists (path_at y.now node) (unshared_of y.now item)) (4 * steps_of_parts (unshared_of y.now item) + 3)) }
     ensures refusals { IfErr result (λ refusal. refusal ≡ Refusal.Memory) }
 {
     let parts = y.parts(item);
     let sort = path_sort(y, node);
-    push_name(y, tasks, sort, &parts, most)
+    push_name(y, tasks, lists, sort, &parts, most)
 }
 
 /// Takes the path that a name is in apart.
@@ -54,18 +56,20 @@ fn take_name(
 fn take_scope(
     y: &Symbol,
     tasks: &mut Tasks<Apart>,
+    lists: u32,
     node: u32,
     item: Item<Context>,
     most: u32,
 ) -> Result<(), Refusal>
     requires node { node < length y.now.table.nodes }
     requires item { IsPayable y.now most item }
-    ensures grows { OnOk result (Grows y.now most tasks.old tasks.new (scope (path_at y.now node) (unshared_of y.now item)) (4 * steps_of_parts (unshared_of y.now item) + 3)) }
+    requires lists { lists + cost_of (unshared_of y.now item) ≤ most }
+    ensures grows { OnOk result (Grows y.now most tasks.old tasks.new (scope lists (path_at y.now node) (unshared_of y.now item)) (4 * steps_of_parts (unshared_of y.now item) + 3)) }
     ensures refusals { IfErr result (λ refusal. refusal ≡ Refusal.Memory) }
 {
     let parts = y.parts(item);
     let sort = path_sort(y, node);
-    push_scope(y, tasks, sort, &parts, most)
+    push_scope(y, tasks, lists, sort, &parts, most)
 }
 
 /// Takes the arguments from one on apart.
@@ -76,15 +80,18 @@ fn take_scope(
 fn take_elements(
     y: &Symbol,
     tasks: &mut Tasks<Apart>,
+    list: u32,
+    number: u32,
     item: Item<Context>,
     most: u32,
 ) -> Result<(), Refusal>
-    requires { IsPayable y.now most item }
-    ensures grows { OnOk result (Grows y.now most tasks.old tasks.new (elements (unshared_of y.now item)) (4 * steps_of_parts (unshared_of y.now item) + 3)) }
+    requires number { number + cost_of (unshared_of y.now item) ≤ most }
+    requires item { IsPayable y.now most item }
+    ensures grows { OnOk result (Grows y.now most tasks.old tasks.new (elements list number (unshared_of y.now item)) (4 * steps_of_parts (unshared_of y.now item) + 3)) }
     ensures refusals { IfErr result (λ refusal. refusal ≡ Refusal.Memory) }
 {
     let parts = y.parts(item);
-    push_elements(y, tasks, &parts, most)
+    push_elements(y, tasks, list, number, &parts, most)
 }
 
 /// Takes apart what was left for later.
@@ -98,9 +105,9 @@ fn take_apart(y: &Symbol, tasks: &mut Tasks<Apart>, next: Apart, most: u32) -> R
     ensures refusals { IfErr result (λ refusal. refusal ≡ Refusal.Memory) }
 {
     match next {
-        Apart::Name(node, item) => take_name(y, tasks, node, item, most),
-        Apart::Scope(node, item) => take_scope(y, tasks, node, item, most),
-        Apart::Elements(item) => take_elements(y, tasks, item, most),
+        Apart::Name(lists, node, item) => take_name(y, tasks, lists, node, item, most),
+        Apart::Scope(lists, node, item) => take_scope(y, tasks, lists, node, item, most),
+        Apart::Elements(list, number, item) => take_elements(y, tasks, list, number, item, most),
     }
 }
 
@@ -112,7 +119,7 @@ fn take_apart(y: &Symbol, tasks: &mut Tasks<Apart>, next: Apart, most: u32) -> R
 fn take(
     y: &Symbol,
     tasks: &mut Tasks<Apart>,
-    found: &mut Parts,
+    found: &mut Stretches,
     task: Task<Apart>,
     most: u32,
 ) -> Result<(), Refusal>
@@ -129,18 +136,23 @@ fn take(
             found.skip(length);
             Ok(())
         }
-        Task::Begin(role, length) => found.begin(role, length),
+        Task::Begin(role, ordinal, length) => found.begin(role, ordinal, length),
         Task::Later(next) => take_apart(y, tasks, next, most),
     }
 }
 
-/// The parts of a symbol's text in a detail, if that costs at most the limit.
+/// The stretches of a symbol's text in a detail, if that costs at most the limit.
 ///
 /// # Errors
 ///
 /// `TooLong` exactly where it costs more, `Memory` where a list couldn't grow.
-pub fn parts_as(alloc: Global, y: &Symbol, limit: u32, detail: Detail) -> Result<Vec<Part>, Refusal>
-    ensures parts { IfOk result (λ parts. parts.items ≡ parts_of (symbol_marked (whole_of y.now) (shown_symbol detail y.now))) }
+pub fn stretches_as(
+    alloc: Global,
+    y: &Symbol,
+    limit: u32,
+    detail: Detail,
+) -> Result<Vec<Stretch>, Refusal>
+    ensures stretches { IfOk result (λ found. found.items ≡ stretches_of (symbol_marked (whole_of y.now) (shown_symbol detail y.now))) }
     ensures within { OnOk result (cost_of (shown_symbol detail y.now) ≤ limit) }
     ensures refusals { IfErr result (λ r. (r ≡ Refusal.TooLong) ⊎ (r ≡ Refusal.Memory)) }
     ensures too_long { result ≡ Err Refusal.TooLong → limit < cost_of (shown_symbol detail y.now) }
@@ -148,7 +160,7 @@ pub fn parts_as(alloc: Global, y: &Symbol, limit: u32, detail: Detail) -> Result
     let root = y.root_as(detail);
     length_of_part(alloc, y, &sym_print::Part::Sub(root), limit)?;
     let mut tasks = Tasks::new(alloc);
-    let mut found = Parts::new(alloc);
+    let mut found = Stretches::new(alloc);
     push_symbol(y, &mut tasks, &y.parts(root), limit)?;
     'tasks: while let Some(task) = tasks.pop() {
         take(y, &mut tasks, &mut found, task, limit)?;
@@ -156,16 +168,16 @@ pub fn parts_as(alloc: Global, y: &Symbol, limit: u32, detail: Detail) -> Result
     Ok(found.into_list())
 }
 
-/// The parts of a symbol's text in full, if that costs at most the limit.
+/// The stretches of a symbol's text in full, if that costs at most the limit.
 ///
 /// # Errors
 ///
 /// `TooLong` exactly where it costs more, `Memory` where a list couldn't grow.
-pub fn parts(alloc: Global, y: &Symbol, limit: u32) -> Result<Vec<Part>, Refusal>
-    ensures parts { IfOk result (λ parts. parts.items ≡ parts_of (symbol_marked (whole_of y.now) (shown_symbol Detail.Full y.now))) }
+pub fn stretches(alloc: Global, y: &Symbol, limit: u32) -> Result<Vec<Stretch>, Refusal>
+    ensures stretches { IfOk result (λ found. found.items ≡ stretches_of (symbol_marked (whole_of y.now) (shown_symbol Detail.Full y.now))) }
     ensures within { OnOk result (cost_of (shown_symbol Detail.Full y.now) ≤ limit) }
     ensures refusals { IfErr result (λ r. (r ≡ Refusal.TooLong) ⊎ (r ≡ Refusal.Memory)) }
     ensures too_long { result ≡ Err Refusal.TooLong → limit < cost_of (shown_symbol Detail.Full y.now) }
 {
-    parts_as(alloc, y, limit, Detail::Full)
+    stretches_as(alloc, y, limit, Detail::Full)
 }

@@ -11,8 +11,9 @@ use Rattle.sym_filter.specs.Kinds.{symbol_of}
 use Rattle.sym_languages.specs.Languages.{cpp_by}
 use Rattle.sym_parts.specs.declared.part.Part.{Part}
 use Rattle.symbol_parts.specs.Parsed.{Marking, Parsed, Parsing, cpp_marking, parsed_by}
+use Rattle.text_details.specs.Manglings.{mangling_number, mangling_of}
 use Rattle.sym_calls.specs.Calls.{Ending, named, refused, status_alone}
-use Rattle.sym_calls.specs.Parts.{PartsEndAs, PartsEnding, both_written, is_whole, mangling_number, name_parts_told, none_found, numbered, parsed_told, parts_of_kind, parts_told, reported, without_text}
+use Rattle.sym_calls.specs.Parts.{PartsEndAs, PartsEnding, both_written, is_whole, name_parts_told, none_found, numbered, parsed_told, parts_of_kind, parts_told, reported, without_text}
 use Rattle.sym_calls.specs.declared.flags.Asked.{Asked}
 use Rattle.sym_calls.specs.declared.parts.NameFound.{NameFound}
 use Rattle.sym_calls.specs.declared.parts.NamePart.{NamePart}
@@ -123,7 +124,7 @@ parsed-refused answer e mangling skip buffer parts found ending (inr same) none 
 
 -- the symbol of a name
 pub name-parts-end : (parses : Parsing) (asked : Asked) (name buffer : List ℕ) (parts : List NamePart) (kind : Kind) (ended : PartsEnding) → named asked.underscore name ≡ Ok kind
-    → PartsEndAs (parsed_told (parses kind (symbol_of kind name)) (mangling_number asked.legacy kind.lang (symbol_of kind name)) kind.skip buffer parts) buffer parts ended
+    → PartsEndAs (parsed_told (parses kind (symbol_of kind name)) (mangling_number (mangling_of asked.legacy kind.lang (symbol_of kind name))) kind.skip buffer parts) buffer parts ended
     → PartsEndAs (name_parts_told parses asked name buffer parts) buffer parts ended
 unfolding parts_of_kind
 name-parts-end parses asked name buffer parts kind ended is ends =

@@ -1,16 +1,14 @@
 -- What the call for parts answers, and what it writes.
-use Rattle.std.specs.Prelude.{◌≡◌, ◌⊎◌, ◌≤◌, ℕ, List, drop, length, map, ◌++◌, Bool, true, false, Option, Some, None, Result, Ok, Err, ◌&&◌, not, nat_le, is_some, if◌then◌else◌}
+use Rattle.std.specs.Prelude.{◌≡◌, ◌⊎◌, ◌≤◌, ℕ, List, drop, length, map, ◌++◌, Bool, true, false, Option, Some, None, Result, Ok, Err, ◌&&◌, not, nat_le, if◌then◌else◌}
 use Rattle.sym_core.specs.declared.refusal.Refusal.{Refusal}
 use Rattle.sym_filter.specs.declared.kinds.Kind.{Kind}
-use Rattle.sym_filter.specs.declared.kinds.Lang.{Lang}
-use Rattle.sym_filter.specs.declared.kinds.Lang.TheVariants.{Cpp, Rust}
 use Rattle.sym_filter.specs.Kinds.{symbol_of}
 use Rattle.sym_parts.specs.Words.{kind_number, role_number}
 use Rattle.sym_parts.specs.declared.part.Part.{Part}
 use Rattle.sym_short.specs.declared.texts.Texts.{Texts}
 use Rattle.sym_short.specs.declared.texts.Texts.TheVariants as texts
 use Rattle.symbol_parts.specs.Parsed.{Parsed, Parsing, cpp_marking, parsed_by}
-use Rattle.rust_legacy.specs.Path.{legacy_of}
+use Rattle.text_details.specs.Manglings.{mangling_number, mangling_of}
 use Rattle.sym_languages.specs.Languages.{cpp_by}
 use Rattle.sym_calls.specs.Calls.{Ending, ending_of, named, refused, status_alone}
 use Rattle.sym_calls.specs.declared.flags.Asked.{Asked}
@@ -38,12 +36,7 @@ without_text ending parts = record { ending = ending; parts = parts; found = non
 
 -- a part, with its role as a number
 unfoldable pub numbered : Part → NamePart
-numbered part = record { role = role_number part.role; start = part.start; length = part.length }
-
--- how a name is mangled: 1 is C++, 2 Rust's v0, and 3 Rust's older names, where they are read as paths
-unfoldable pub mangling_number : (legacy : Bool) → Lang → (symbol : List ℕ) → ℕ
-mangling_number legacy Cpp symbol = if legacy && is_some (legacy_of symbol) then 3 else 1
-mangling_number legacy Rust symbol = 2
+numbered part = record { role = role_number part.role; start = part.start; length = part.length; from = part.from; to = part.to }
 
 -- what is reported of a name with a text
 abbrev pub reported : Parsed → (mangling : ℕ) → NameFound
@@ -67,7 +60,7 @@ parsed_told (Err refusal) mangling skip buffer parts = without_text (refused ref
 -- what is answered for the symbol of a name of a kind, or the status of one without
 unfoldable pub parts_of_kind : Parsing → (legacy : Bool) → Result Kind ℕ → (name buffer : List ℕ) → (parts : List NamePart) → PartsEnding
 parts_of_kind parses legacy (Ok kind) name buffer parts =
-    parsed_told (parses kind (symbol_of kind name)) (mangling_number legacy kind.lang (symbol_of kind name)) kind.skip buffer parts
+    parsed_told (parses kind (symbol_of kind name)) (mangling_number (mangling_of legacy kind.lang (symbol_of kind name))) kind.skip buffer parts
 parts_of_kind parses legacy (Err status) name buffer parts = without_text (status_alone status buffer) parts
 
 abbrev pub name_parts_told : Parsing → Asked → (name buffer : List ℕ) → (parts : List NamePart) → PartsEnding

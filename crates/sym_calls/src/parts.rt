@@ -1,33 +1,36 @@
 // The text of one name with its parts.
-ghost use Rattle.std.specs.Prelude.{◌≡◌, ◌≤◌, ◌&&◌, ◌++◌, IfOk, Some, drop, is_some, length, map, nat_le, not};
+ghost use Rattle.std.specs.Prelude.{◌≡◌, ◌≤◌, ◌&&◌, ◌++◌, IfOk, Some, drop, length, map, nat_le, not};
 ghost use Rattle.sym_core.specs.Number.{FitsSymbol};
-ghost use Rattle.rust_legacy.specs.Path.{legacy_of};
 ghost use Rattle.symbol_parts.specs.Parsed.{found as found_of, parsed_by};
+ghost use Rattle.text_details.specs.Manglings.{mangling_number, mangling_of};
 ghost use Rattle.sym_calls.specs.Calls.{asked_of};
-ghost use Rattle.sym_calls.specs.Parts.{PartsEndAs, both_written, is_whole, mangling_number, name_parts_told, none_found, numbered, parsed_told, parts_ending, parts_told, reported};
+ghost use Rattle.sym_calls.specs.Parts.{PartsEndAs, both_written, is_whole, name_parts_told, none_found, numbered, parsed_told, parts_ending, parts_told, reported};
 
 use crate::flags::{Asked, asked_of};
 use crate::outcome::{BUFFER, FLAGS, OK, Outcome, alone, no_memory, of_refusal};
-use rust_legacy::path_of;
 use std::alloc::{AllocError, Global};
-use sym_filter::{Kind, Lang};
+use sym_filter::Kind;
 use sym_languages::languages::Cpp;
 use sym_languages::{Abi, Wide};
 use sym_parts::Part;
 use sym_short::Texts;
 use symbol_parts::{Marked, Parsed, Parser};
+use text_details::mangling_of;
 
-/// A part of a text: the number of its role, and the stretch of the text's bytes that it is.
+/// A part of a text: the number of its role, the stretch of the text's bytes that it is, and the bytes of the name that spell it, from
+/// one place up to another.
 #[repr(C)]
 #[derive(Clone, Copy)]
 pub struct NamePart {
     pub role: u32,
     pub start: u32,
     pub length: u32,
+    pub from: u32,
+    pub to: u32,
 }
 
 /// What is reported of a name that has a text: how many parts that has, and the numbers of what the name is and of how it is
-/// mangled, which is `ITANIUM`, `RUST_V0` or `RUST_LEGACY`. Otherwise they are 0.
+/// mangled (those of `NameKind` and `Mangling`). Otherwise they are 0.
 #[repr(C)]
 #[derive(Clone, Copy)]
 pub struct NameFound {
@@ -35,13 +38,6 @@ pub struct NameFound {
     pub kind: u32,
     pub mangling: u32,
 }
-
-/// C++ by the Itanium ABI.
-pub const ITANIUM: u32 = 1;
-/// Rust by RFC 2603.
-pub const RUST_V0: u32 = 2;
-/// Rust's older names, read as paths.
-pub const RUST_LEGACY: u32 = 3;
 
 /// Nothing is reported.
 fn none_found() -> NameFound
@@ -54,32 +50,6 @@ fn none_found() -> NameFound
     }
 }
 
-/// Whether a symbol is a legacy Rust name.
-fn is_legacy(symbol: &[u8]) -> bool
-    ensures { result ≡ is_some (legacy_of symbol.now) }
-{
-    match path_of(symbol) {
-        Some(_) => true,
-        None => false,
-    }
-}
-
-/// How a symbol is mangled.
-#[tactic(auto, unfolding(crate::specs::Parts::mangling_number))]
-fn mangling_of(legacy: bool, lang: Lang, symbol: &[u8]) -> u32
-    ensures { result ≡ mangling_number legacy lang symbol.now }
-{
-    match lang {
-        Lang::Cpp => {
-            if legacy && is_legacy(symbol) {
-                return RUST_LEGACY;
-            }
-            ITANIUM
-        }
-        Lang::Rust => RUST_V0,
-    }
-}
-
 /// A part, with its role as a number.
 #[tactic(auto, unfolding(crate::specs::Parts::numbered))]
 fn numbered(part: &Part) -> NamePart
@@ -89,6 +59,8 @@ fn numbered(part: &Part) -> NamePart
         role: part.role.number(),
         start: part.start,
         length: part.length,
+        from: part.from,
+        to: part.to,
     }
 }
 
@@ -188,11 +160,11 @@ fn parts_of_symbol<P: Parser>(
 ) -> Outcome
     requires fits { FitsSymbol symbol.now }
     requires none { found.old ≡ none_found }
-    ensures { PartsEndAs (parsed_told (P.parsed parser.now kind symbol.now) (mangling_number legacy kind.lang symbol.now) kind.skip buffer.old parts.old) buffer.old parts.old (parts_ending result buffer.new parts.new found.new) }
+    ensures { PartsEndAs (parsed_told (P.parsed parser.now kind symbol.now) (mangling_number (mangling_of legacy kind.lang symbol.now)) kind.skip buffer.old parts.old) buffer.old parts.old (parts_ending result buffer.new parts.new found.new) }
 {
     match parser.parse(alloc, kind, symbol) {
         Ok(parsed) => {
-            let mangling = mangling_of(legacy, kind.lang, symbol);
+            let mangling = mangling_of(legacy, kind.lang, symbol).number();
             write_both(alloc, &parsed, mangling, buffer, parts, found)
         }
         Err(refusal) => of_refusal(refusal, kind.skip, buffer),

@@ -14,6 +14,12 @@ const ENTRIES_AT_ONCE: usize = 16;
 
 const BYTES_AT_ONCE: usize = 128;
 
+/// So many bytes are copied at once where no more are added: most names are no longer.
+const FEW_BYTES: usize = 16;
+
+/// So many bytes of the list itself are copied at once where no more are repeated.
+const SOME_BYTES: usize = 32;
+
 /// The mark before what is to be left out of a text.
 pub const OPENS: u8 = 1;
 
@@ -140,6 +146,26 @@ impl Bounded<u8> {
         self.list.extend_from_slice(bytes).ok()
     }
 
+    /// Adds the bytes from a place to another one, if there is room for them. Where they are few, bytes after them are copied
+    /// too, and removed again: so no call is made for a name of common length.
+    #[inline(always)]
+    pub fn push_part(&mut self, bytes: &[u8], from: usize, to: usize) -> Option<()>
+        requires from { from ≤ to }
+        requires to { to ≤ length bytes.now }
+        ensures items { OnSome result (self.new.list.items ≡ self.old.list.items ++ take (to - from) (drop from bytes.now)) }
+        ensures room { self.new.room ≡ self.old.room }
+    {
+        let end = self.list.len();
+        if to - from > FEW_BYTES || bytes.len() - from < FEW_BYTES || self.ready - end < FEW_BYTES {
+            return self.push_all(&bytes[from..to]);
+        }
+        self.list
+            .extend_from_slice(&bytes[from..from + FEW_BYTES])
+            .ok()?;
+        self.list.truncate(end + (to - from));
+        Some(())
+    }
+
     /// Adds two bytes, if there is room for them.
     #[inline(always)]
     pub fn push_pair(&mut self, first: u8, second: u8) -> Option<()>
@@ -161,7 +187,11 @@ impl Bounded<u8> {
         ensures items { OnSome result (self.new.list.items ≡ self.old.list.items ++ take (to - from) (drop from self.old.list.items)) }
         ensures room { self.new.room ≡ self.old.room }
     {
-        if to - from > self.ready - self.list.len() {
+        let end = self.list.len();
+        if to - from <= SOME_BYTES && end - from >= SOME_BYTES && self.ready - end >= SOME_BYTES {
+            return copy_some_to_end(&mut self.list, from, to);
+        }
+        if to - from > self.ready - end {
             self.make_ready(to - from, BYTES_AT_ONCE)?;
         }
         copy_to_end(&mut self.list, from, to)
@@ -205,6 +235,24 @@ fn copy_to_end(bytes: &mut Vec<u8>, from: usize, to: usize) -> Option<()>
     bytes.resize(longer, 0).ok()?;
     let (written, copied) = bytes.split_at_mut(end);
     copied.copy_from_slice(&written[from..to]);
+    Some(())
+}
+
+/// Adds a few bytes of a list to its end: bytes after them are copied with them, and removed again.
+#[inline(always)]
+fn copy_some_to_end(bytes: &mut Vec<u8>, from: usize, to: usize) -> Option<()>
+    requires from { from ≤ to }
+    requires few { to - from ≤ 32 }
+    requires within { from + 32 ≤ length bytes.old.items }
+    ensures items { OnSome result (bytes.new.items ≡ bytes.old.items ++ take (to - from) (drop from bytes.old.items)) }
+    ensures most { length bytes.new.items ≤ length bytes.old.items + (to - from) }
+    ensures capacity { vec_capacity bytes.old ≤ vec_capacity bytes.new }
+{
+    let end = bytes.len();
+    let mut copied = [0; SOME_BYTES];
+    copied.copy_from_slice(&bytes[from..from + SOME_BYTES]);
+    bytes.extend_from_slice(&copied).ok()?;
+    bytes.truncate(end + (to - from));
     Some(())
 }
 

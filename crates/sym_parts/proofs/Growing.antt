@@ -5,6 +5,7 @@ use Rattle.std.proofs.lemmas.List.Elements.{All-cons}
 use Rattle.sym_print.specs.Unshared.{Unshared}
 use Rattle.sym_print.specs.Unshared as printed
 use Rattle.sym_parts.specs.declared.role.Role.{Role}
+use Rattle.sym_parts.specs.declared.spelling.Ordinal.{Ordinal}
 use Rattle.sym_parts.specs.Marked.{Marked, text, marked, text_of, ◌before◌}
 use Rattle.sym_parts.specs.Marked as marks
 use Rattle.sym_parts.specs.Marks.{skip, begin, marks_of}
@@ -15,18 +16,18 @@ use Rattle.sym_parts.specs.declared.task.Task.{Task}
 use Rattle.sym_parts.specs.declared.task.Task.TheVariants as task
 
 -- one marked text before another, before a third
-pub before-assoc : (m n o : Marked) → (m before n) before o ≡ m before (n before o)
+pub before-assoc : (m n others : Marked) → (m before n) before others ≡ m before (n before others)
 unfolding ◌before◌
-before-assoc marks.done n o = refl
-before-assoc (text b rest) n o = ap (text b) (before-assoc rest n o)
-before-assoc (marked r inside rest) n o = ap (marked r inside) (before-assoc rest n o)
+before-assoc marks.done n others = refl
+before-assoc (text b rest) n others = ap (text b) (before-assoc rest n others)
+before-assoc (marked r o inside rest) n others = ap (marked r o inside) (before-assoc rest n others)
 
 -- before nothing
 pub before-done : (m : Marked) → m before marks.done ≡ m
 unfolding ◌before◌
 before-done marks.done = refl
 before-done (text b rest) = ap (text b) (before-done rest)
-before-done (marked r inside rest) = ap (marked r inside) (before-done rest)
+before-done (marked r o inside rest) = ap (marked r o inside) (before-done rest)
 
 module _ {T : Type 0} (marked_of : T → Marked) (IsLater : T → Type 0) (weight_of : T → ℕ) where
   -- the same marks, in no more steps
@@ -64,19 +65,19 @@ module _ {T : Type 0} (marked_of : T → Marked) (IsLater : T → Type 0) (weigh
     };
   }
 
-  -- the beginning of a part, before what is in it
-  pub grow-begin : (old between new : List (Task T)) (role : Role) (n : ℕ) (inside : Marked) (s : ℕ) → new ≡ task.Begin role n ∷ between → n ≡ length (text_of inside)
-      → Grows marked_of IsLater weight_of old between inside s → Grows marked_of IsLater weight_of old new (marked role inside marks.done) (s + 1)
+  -- the beginning of a stretch, before what is in it
+  pub grow-begin : (old between new : List (Task T)) (role : Role) (ordinal : Ordinal) (n : ℕ) (inside : Marked) (s : ℕ) → new ≡ task.Begin role ordinal n ∷ between → n ≡ length (text_of inside)
+      → Grows marked_of IsLater weight_of old between inside s → Grows marked_of IsLater weight_of old new (marked role ordinal inside marks.done) (s + 1)
   unfolding marks_of ◌before◌ marks_of_tasks marks_of_task IsTask weight_of_tasks weight_of_task
-  grow-begin old between new role n inside s is long grows = record {
+  grow-begin old between new role ordinal n inside s is long grows = record {
     adds = λ others behind taken adds.
         let one = grows.adds others behind taken adds in
         record {
           marks =
               ap (marks_of_tasks marked_of) is
-              ∙ ap (λ ms. begin role n ∷ ms) (one.marks ∙ ap (λ ms. ms ++ marks_of_tasks marked_of others) (marks_of-before inside behind))
-              ∙ ap (λ l. begin role l ∷ ((marks_of inside ++ marks_of behind) ++ marks_of_tasks marked_of others)) long;
-          all = λ h. subst (All (IsTask IsLater)) (sym is) (All-cons (IsTask IsLater) (task.Begin role n) between tt (one.all h));
+              ∙ ap (λ ms. begin role ordinal n ∷ ms) (one.marks ∙ ap (λ ms. ms ++ marks_of_tasks marked_of others) (marks_of-before inside behind))
+              ∙ ap (λ l. begin role ordinal l ∷ ((marks_of inside ++ marks_of behind) ++ marks_of_tasks marked_of others)) long;
+          all = λ h. subst (All (IsTask IsLater)) (sym is) (All-cons (IsTask IsLater) (task.Begin role ordinal n) between tt (one.all h));
           weight = omega (arith, ap (weight_of_tasks weight_of) is, one.weight);
         };
   }
@@ -101,13 +102,13 @@ module _ {T : Type 0} (marked_of : T → Marked) (IsLater : T → Type 0) (weigh
   grow-plain old new u is = grow-skip old new (length (printed.text_of u)) (printed.text_of u) is refl
 
   -- one part of this many bytes
-  pub grow-alone : (old new : List (Task T)) (role : Role) (n : ℕ) (b : List ℕ) → new ≡ task.Begin role n ∷ task.Skip n ∷ old → n ≡ length b
-      → Grows marked_of IsLater weight_of old new (alone role b marks.done) 2
+  pub grow-alone : (old new : List (Task T)) (role : Role) (ordinal : Ordinal) (n : ℕ) (b : List ℕ) → new ≡ task.Begin role ordinal n ∷ task.Skip n ∷ old → n ≡ length b
+      → Grows marked_of IsLater weight_of old new (alone role ordinal b marks.done) 2
   unfolding text_of
-  grow-alone old new role n b is long =
-      grow-begin old (task.Skip n ∷ old) new role n (text b marks.done) 1 is (long ∙ ap length (sym (append-nil b))) (grow-skip old (task.Skip n ∷ old) n b refl long)
+  grow-alone old new role ordinal n b is long =
+      grow-begin old (task.Skip n ∷ old) new role ordinal n (text b marks.done) 1 is (long ∙ ap length (sym (append-nil b))) (grow-skip old (task.Skip n ∷ old) n b refl long)
 
   -- one part of all that is printed
-  pub grow-whole : (old new : List (Task T)) (role : Role) (u : Unshared) → new ≡ task.Begin role (length (printed.text_of u)) ∷ task.Skip (length (printed.text_of u)) ∷ old
-      → Grows marked_of IsLater weight_of old new (whole role u) 2
-  grow-whole old new role u is = grow-alone old new role (length (printed.text_of u)) (printed.text_of u) is refl
+  pub grow-whole : (old new : List (Task T)) (role : Role) (ordinal : Ordinal) (u : Unshared) → new ≡ task.Begin role ordinal (length (printed.text_of u)) ∷ task.Skip (length (printed.text_of u)) ∷ old
+      → Grows marked_of IsLater weight_of old new (whole role ordinal u) 2
+  grow-whole old new role ordinal u is = grow-alone old new role ordinal (length (printed.text_of u)) (printed.text_of u) is refl

@@ -4,3 +4,5 @@ pub mod Turns
 pub mod Splitting
 pub mod Growing
 pub mod Walking
+pub mod Spans
+pub mod PartBytes

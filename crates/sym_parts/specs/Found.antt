@@ -1,7 +1,7 @@
--- The parts that were found in a text, in order, and the place up to which it was gone through.
+-- The stretches that were found in a text, in order, and the place up to which it was gone through.
 use Rattle.std.specs.Prelude.{ℕ, List}
-use Rattle.sym_parts.specs.declared.part.Part.{Part}
+use Rattle.sym_parts.specs.declared.stretch.Stretch.{Stretch}
 
 pub record Found : Type 0 where
-  pub parts : List Part
+  pub stretches : List Stretch
   pub place : ℕ

@@ -6,3 +6,5 @@ pub mod Words
 pub mod Plain
 pub mod Split
 pub mod Tasks
+pub mod Spelling
+pub mod Within

@@ -1,9 +1,9 @@
--- What is still to be done: bytes to go on by, parts to begin, and what is to be taken apart later.
+-- What is still to be done: bytes to go on by, stretches to begin, and what is to be taken apart later.
 use Rattle.std.specs.Prelude.{◌≡◌, ℕ, ◌+◌, ◌≤◌, List, [], ◌∷◌, ◌++◌}
 use Rattle.std.specs.List.{All}
 use Rattle.sym_parts.specs.Found.{Found}
 use Rattle.sym_parts.specs.Marked.{Marked, ◌before◌}
-use Rattle.sym_parts.specs.Marks.{Mark, skip, begin, marks_of, parts_at, skipped}
+use Rattle.sym_parts.specs.Marks.{Mark, skip, begin, marks_of, stretches_at, skipped}
 use Rattle.sym_parts.specs.declared.task.Task.{Task}
 use Rattle.sym_parts.specs.declared.task.Task.TheVariants as task
 
@@ -11,7 +11,7 @@ module _ {T : Type 0} (marked_of : T → Marked) where
   -- the marks that a task leads to
   unfoldable pub marks_of_task : Task T → List Mark
   marks_of_task (task.Skip n) = skip n ∷ []
-  marks_of_task (task.Begin role n) = begin role n ∷ []
+  marks_of_task (task.Begin role ordinal n) = begin role ordinal n ∷ []
   marks_of_task (task.Later t) = marks_of (marked_of t)
 
   -- those of tasks in turn
@@ -47,5 +47,5 @@ pub record Grows {T : Type 0} (marked_of : T → Marked) (IsLater : T → Type 0
 
 -- What was found together with these marks is what is found together with those, and they go on by as many bytes.
 pub record Lists (old new : Found) (these those : List Mark) : Type 0 where
-  pub parts : old.parts ++ parts_at old.place these ≡ new.parts ++ parts_at new.place those
+  pub stretches : old.stretches ++ stretches_at old.place these ≡ new.stretches ++ stretches_at new.place those
   pub place : old.place + skipped these ≡ new.place + skipped those

@@ -10,6 +10,7 @@ ghost use Rattle.sym_parts.specs.declared.task.Task.{Task};
 
 use crate::lengths::length_of_all;
 use crate::role::Role;
+use crate::spelling::Ordinal;
 use crate::task::{Task, Tasks};
 use sym_core::Refusal;
 use sym_print::{Layout, Part};
@@ -38,12 +39,17 @@ pub fn push_plain<Y: Layout, T: Copy>(
 /// # Errors
 ///
 /// `Memory`.
-pub fn push_alone<T: Copy>(tasks: &mut Tasks<T>, role: Role, count: u32) -> Result<(), Refusal>
-    ensures tasks { OnOk result (tasks.new ≡ Task.Begin role count ∷ Task.Skip count ∷ tasks.old) }
+pub fn push_alone<T: Copy>(
+    tasks: &mut Tasks<T>,
+    role: Role,
+    ordinal: Ordinal,
+    count: u32,
+) -> Result<(), Refusal>
+    ensures tasks { OnOk result (tasks.new ≡ Task.Begin role ordinal count ∷ Task.Skip count ∷ tasks.old) }
     ensures refusals { IfErr result (λ refusal. refusal ≡ Refusal.Memory) }
 {
     tasks.push(Task::Skip(count))?;
-    tasks.push(Task::Begin(role, count))
+    tasks.push(Task::Begin(role, ordinal, count))
 }
 
 /// One part of all that parts print.
@@ -55,13 +61,14 @@ pub fn push_whole<Y: Layout, T: Copy>(
     y: &Y,
     tasks: &mut Tasks<T>,
     role: Role,
+    ordinal: Ordinal,
     parts: &[Part<Y::Ctx>],
     most: u32,
 ) -> Result<(), Refusal>
     requires { ArePayable (Y.unshared y.now) (Y.bytes_of y.now) (Y.may_come y.now) most parts.now }
-    ensures tasks { OnOk result (tasks.new ≡ Task.Begin role (length (text_of (joined (Y.unshared y.now) (Y.bytes_of y.now) parts.now))) ∷ Task.Skip (length (text_of (joined (Y.unshared y.now) (Y.bytes_of y.now) parts.now))) ∷ tasks.old) }
+    ensures tasks { OnOk result (tasks.new ≡ Task.Begin role ordinal (length (text_of (joined (Y.unshared y.now) (Y.bytes_of y.now) parts.now))) ∷ Task.Skip (length (text_of (joined (Y.unshared y.now) (Y.bytes_of y.now) parts.now))) ∷ tasks.old) }
     ensures refusals { IfErr result (λ refusal. refusal ≡ Refusal.Memory) }
 {
     let length = length_of_all(y, tasks.allocator(), parts, most)?;
-    push_alone(tasks, role, length)
+    push_alone(tasks, role, ordinal, length)
 }

@@ -6,6 +6,7 @@ ghost use Rattle.sym_core.specs.declared.refusal.Refusal.{Refusal};
 ghost use Rattle.sym_parts.specs.declared.task.Task.{Task};
 
 use crate::role::Role;
+use crate::spelling::Ordinal;
 use std::alloc::Global;
 use std::marker::Model;
 use sym_core::Refusal;
@@ -16,8 +17,8 @@ use sym_room::push_within;
 pub enum Task<T> {
     /// To go on by this many bytes.
     Skip(u32),
-    /// To begin a part of this role and length.
-    Begin(Role, u32),
+    /// To begin a stretch of this role, ordinal and length.
+    Begin(Role, Ordinal, u32),
     /// To take something apart.
     Later(T),
 }

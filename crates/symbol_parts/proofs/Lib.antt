@@ -1,1 +1,2 @@
 mod Parsing
+mod Placed

@@ -1,6 +1,7 @@
 //! What C++ and Rust symbols are, with the parts of their texts.
 #![tactic(auto)]
 
+mod behind;
 mod languages;
 mod laws;
 mod legacy;
@@ -9,7 +10,7 @@ mod parsed;
 mod parser;
 mod reading;
 
-pub use laws::text_is_the_answer;
+pub use laws::{parts_are_placed, text_is_the_answer};
 pub use marked::Marked;
 pub use parsed::Parsed;
 pub use parser::Parser;

@@ -1,21 +1,27 @@
 // Manglings whose texts have parts.
 
-ghost use Rattle.std.specs.Prelude.{◌≡◌, ◌<◌, ◌≤◌, ◌⊎◌, Err, IfErr, IfOk, List, Ok, OnOk, ℕ};
+ghost use Rattle.std.specs.Prelude.{◌≡◌, ◌<◌, ◌≤◌, ◌⊎◌, Err, IfErr, IfOk, List, Ok, OnOk, length, ℕ};
 ghost use Rattle.sym_core.specs.declared.refusal.Refusal.{Refusal as Refusal-type};
 ghost use Rattle.sym_core.specs.declared.refusal.Refusal.TheVariants as refusals;
-ghost use Rattle.sym_print.specs.Unshared.{cost_of};
+ghost use Rattle.sym_print.specs.Unshared.{Unshared, cost_of, text_of};
 ghost use Rattle.sym_print.specs.declared.detail.Detail.{Detail as Detail-type};
 ghost use Rattle.sym_demangle.specs.Mangled.{IsReading, Mangled, answer};
-ghost use Rattle.sym_parts.specs.Marked.{parts_of};
-ghost use Rattle.symbol_parts.specs.Parsed.{Marking};
+ghost use Rattle.sym_parts.specs.Marked as marks;
+ghost use Rattle.sym_parts.specs.Marked.{stretches_of};
+ghost use Rattle.sym_parts.specs.Within.{IsWithin};
+ghost use Rattle.sym_parts.specs.declared.stretch.Stretch.{Stretch as Stretch-type};
+ghost use Rattle.sym_shape.specs.Tree.{AreRowsOf};
+ghost use Rattle.sym_shape.specs.declared.rule.Row.{Row};
+ghost use Rattle.symbol_parts.specs.Parsed.{Marking, returns};
 
 use itanium::{Abi, Wide, WideSymbol};
 use rust_v0::V0;
 use std::alloc::Global;
 use sym_core::Refusal;
 use sym_demangle::Mangling;
-use sym_parts::{NameKind, Part};
+use sym_parts::{NameKind, Role, Spelling, Stretch};
 use sym_print::Detail;
+use sym_shape::Row;
 
 /// A mangling whose texts have parts.
 pub trait Marked: Mangling {
@@ -26,30 +32,51 @@ pub trait Marked: Mangling {
 
     ghost over: { Mangled Tree };
 
-    // how what is printed is marked, and what a symbol is
+    // how what is printed is marked, what a symbol is, and which of its bytes spell which parts
     ghost marking: { Marking Tree };
 
     /// What a symbol is.
     fn kind_of(symbol: &Self::Symbol) -> NameKind
         ensures { result ≡ marking.kind (tree_of symbol.now) };
 
-    /// The parts of a symbol's text in a detail, if that costs at most the limit.
+    /// The stretches of a symbol's text in a detail that are its parts, if the text costs at most the limit.
     ///
     /// # Errors
     ///
     /// `TooLong` exactly where it costs more, `Memory` where a list couldn't grow.
-    fn parts_as(
+    fn stretches_as(
         alloc: Global,
         symbol: &Self::Symbol,
         limit: u32,
         detail: Detail,
-    ) -> Result<Vec<Part>, Refusal>
-        ensures parts { IfOk result (λ parts. parts.items ≡ parts_of (marking.marked (tree_of symbol.now) (over.shown detail (tree_of symbol.now)))) }
+    ) -> Result<Vec<Stretch>, Refusal>
+        ensures stretches { IfOk result (λ stretches. stretches.items ≡ stretches_of (marking.marked (tree_of symbol.now) (over.shown detail (tree_of symbol.now)))) }
         ensures within { OnOk result (cost_of (over.shown detail (tree_of symbol.now)) ≤ limit) }
         ensures refusals { IfErr result (λ r. (r ≡ refusals.TooLong) ⊎ (r ≡ refusals.Memory)) }
         ensures too_long { result ≡ Err refusals.TooLong → limit < cost_of (over.shown detail (tree_of symbol.now)) };
 
+    /// Which bytes of a symbol spell which parts of its text, by the rows of its shape and the stretches of the text.
+    ///
+    /// # Errors
+    ///
+    /// `Memory` where a list couldn't grow.
+    fn spelling_of(
+        alloc: Global,
+        symbol: &[u8],
+        rows: &[Row],
+        stretches: &[Stretch],
+    ) -> Result<Spelling, Refusal>
+        ensures spelling { IfOk result (λ spelling. spelling ≡ marking.spelled symbol.now rows.now stretches.now) }
+        ensures refusals { IfErr result (λ r. r ≡ refusals.Memory) };
+
+    // marks change no text, and what spells parts is within the symbol
+    ghost marks_only: { (tree : Tree) (printed : Unshared) → marks.text_of (marking.marked tree printed) ≡ text_of printed };
+
+    ghost spelled_within: { (s : List ℕ) (rows : List Row) → AreRowsOf over.table s rows → (stretches : List Stretch-type) → IsWithin (length s) (marking.spelled s rows stretches) };
+
     // it is the mangling: it reads, shows and answers the same
+    ghost same_table: { Self.mangled.table ≡ over.table };
+
     ghost reads: { (s : List ℕ) (symbol : Self.Symbol) → IsReading Self.mangled s (Ok (Self.whole_of symbol)) → IsReading over s (Ok (tree_of symbol)) };
 
     ghost refuses: { (s : List ℕ) (refusal : Refusal-type) → IsReading Self.mangled s (Err refusal) → IsReading over s (Err refusal) };
@@ -59,12 +86,20 @@ pub trait Marked: Mangling {
     ghost answers: { (detail : Detail-type) (s : List ℕ) (limit : ℕ) → answer over detail s limit ≡ answer Self.mangled detail s limit };
 }
 
+/// Whether one of the stretches is a return type.
+fn returns(stretches: &[Stretch]) -> bool
+    ensures { result ≡ returns stretches.now }
+{
+    stretches.iter().any(|stretch| stretch.role.number() == Role::ReturnType.number())
+}
+
 impl Marked for Abi {
     ghost use Rattle.std.specs.Prelude.{refl};
     ghost use Rattle.cpp_grammar.specs.Mangled.{cpp_mangled};
     ghost use Rattle.cpp_grammar.specs.Term.{Term};
     ghost use Rattle.cpp_layout.specs.Layout.{whole_of};
     ghost use Rattle.symbol_parts.specs.Parsed.{cpp_marking};
+    ghost use Rattle.symbol_parts.specs.Spellings.{cpp_marks_only, cpp_spelled_within};
 
     ghost Tree = { Term };
 
@@ -73,6 +108,12 @@ impl Marked for Abi {
     ghost over = { cpp_mangled };
 
     ghost marking = { cpp_marking };
+
+    ghost marks_only = { λ tree printed. cpp_marks_only tree printed };
+
+    ghost spelled_within = { λ s rows is stretches. cpp_spelled_within cpp_mangled.table s rows is stretches };
+
+    ghost same_table = { refl };
 
     ghost reads = { λ s symbol is. is };
 
@@ -86,13 +127,22 @@ impl Marked for Abi {
         cpp_parts::kind_of(symbol)
     }
 
-    fn parts_as(
+    fn stretches_as(
         alloc: Global,
         symbol: &itanium::Symbol,
         limit: u32,
         detail: Detail,
-    ) -> Result<Vec<Part>, Refusal> {
-        cpp_parts::parts_as(alloc, symbol, limit, detail)
+    ) -> Result<Vec<Stretch>, Refusal> {
+        cpp_parts::stretches_as(alloc, symbol, limit, detail)
+    }
+
+    fn spelling_of(
+        alloc: Global,
+        _symbol: &[u8],
+        rows: &[Row],
+        stretches: &[Stretch],
+    ) -> Result<Spelling, Refusal> {
+        cpp_spelled::spelling(alloc, rows, returns(stretches))
     }
 }
 
@@ -102,6 +152,7 @@ impl Marked for Wide {
     ghost use Rattle.cpp_grammar.specs.Term.{Term};
     ghost use Rattle.cpp_layout.specs.Layout.{whole_of};
     ghost use Rattle.symbol_parts.specs.Parsed.{cpp_marking};
+    ghost use Rattle.symbol_parts.specs.Spellings.{cpp_marks_only, cpp_spelled_within};
 
     ghost Tree = { Term };
 
@@ -110,6 +161,12 @@ impl Marked for Wide {
     ghost over = { wide_mangled };
 
     ghost marking = { cpp_marking };
+
+    ghost marks_only = { λ tree printed. cpp_marks_only tree printed };
+
+    ghost spelled_within = { λ s rows is stretches. cpp_spelled_within wide_mangled.table s rows is stretches };
+
+    ghost same_table = { refl };
 
     ghost reads = { λ s symbol is. is };
 
@@ -123,13 +180,22 @@ impl Marked for Wide {
         cpp_parts::kind_of(symbol.plain())
     }
 
-    fn parts_as(
+    fn stretches_as(
         alloc: Global,
         symbol: &WideSymbol,
         limit: u32,
         detail: Detail,
-    ) -> Result<Vec<Part>, Refusal> {
-        cpp_parts::parts_as(alloc, symbol.plain(), limit, detail)
+    ) -> Result<Vec<Stretch>, Refusal> {
+        cpp_parts::stretches_as(alloc, symbol.plain(), limit, detail)
+    }
+
+    fn spelling_of(
+        alloc: Global,
+        _symbol: &[u8],
+        rows: &[Row],
+        stretches: &[Stretch],
+    ) -> Result<Spelling, Refusal> {
+        cpp_spelled::spelling(alloc, rows, returns(stretches))
     }
 }
 
@@ -139,6 +205,7 @@ impl Marked for V0 {
     ghost use Rattle.rust_tree.specs.Symbol as tree;
     ghost use Rattle.rust_v0.specs.Whole.{whole_of};
     ghost use Rattle.symbol_parts.specs.Parsed.{v0_marking};
+    ghost use Rattle.symbol_parts.specs.Spellings.{v0_marks_only, v0_spelled_within};
 
     ghost Tree = { tree.Symbol };
 
@@ -147,6 +214,12 @@ impl Marked for V0 {
     ghost over = { v0_mangled };
 
     ghost marking = { v0_marking };
+
+    ghost marks_only = { λ tree printed. v0_marks_only tree printed };
+
+    ghost spelled_within = { λ s rows is stretches. v0_spelled_within v0_mangled.table s rows is stretches };
+
+    ghost same_table = { refl };
 
     ghost reads = { λ s symbol is. is };
 
@@ -160,12 +233,21 @@ impl Marked for V0 {
         rust_parts::kind_of(symbol)
     }
 
-    fn parts_as(
+    fn stretches_as(
         alloc: Global,
         symbol: &rust_v0::Symbol,
         limit: u32,
         detail: Detail,
-    ) -> Result<Vec<Part>, Refusal> {
-        rust_parts::parts_as(alloc, symbol, limit, detail)
+    ) -> Result<Vec<Stretch>, Refusal> {
+        rust_parts::stretches_as(alloc, symbol, limit, detail)
+    }
+
+    fn spelling_of(
+        alloc: Global,
+        symbol: &[u8],
+        rows: &[Row],
+        _stretches: &[Stretch],
+    ) -> Result<Spelling, Refusal> {
+        rust_spelled::spelling(alloc, symbol, rows)
     }
 }

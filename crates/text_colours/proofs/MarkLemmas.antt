@@ -1,26 +1,64 @@
--- A marked text with the parts that its marks make.
-use Rattle.std.proofs.Common.{◌≡◌, ◌≤◌, ◌∙◌, ◌+◌, ℕ, suc, true, false, List, [], ◌∷◌, ◌++◌, length, refl, ap, ap₂, sym, arith, append_assoc, append-nil, length-append, ◌&&◌, not, ◌==◌}
-use Rattle.std.specs.Prelude.{nat_le, nat_lt}
+-- A marked text with the parts that its marks make, whatever spells them.
+use Rattle.std.proofs.Common.{◌≡◌, ◌≤◌, ◌∙◌, ◌+◌, ℕ, suc, Bool, true, false, List, [], ◌∷◌, ◌++◌, length, map, refl, ap, ap₂, sym, arith, append_assoc, append-nil, length-append, ◌&&◌, not, ◌==◌}
+use Rattle.std.specs.Prelude.{nat_le, nat_lt, if◌then◌else◌}
 use Rattle.std.specs.List.{All}
-use Rattle.std.proofs.lemmas.List.{drop_all}
-use Rattle.std.proofs.lemmas.List.Elements.{All-append, All-nil, All-weaker}
+use Rattle.std.proofs.lemmas.List.{drop_all, map-append}
+use Rattle.std.proofs.lemmas.List.Elements.{All-append, All-cons, All-nil, All-weaker}
 use Rattle.std.proofs.lemmas.Bool.{and_left, and_right, and_from, le-leb, le-ltb, lt-ltb, ne_eqb}
-use Rattle.sym_parts.specs.Marked.{Marked, done, text, marked, parts_from, parts_of, text_of}
-use Rattle.sym_parts.specs.Placed.{end_of, IsSlice}
+use Rattle.sym_parts.specs.Marked.{Marked, done, text, marked, stretches_from, stretches_of, text_of}
+use Rattle.sym_parts.specs.Placed.{end_of}
+use Rattle.sym_parts.specs.Words.{role_number}
+use Rattle.sym_parts.specs.Spelling.{Spelling, part_of, parts_spelled, unprinted}
 use Rattle.sym_parts.specs.declared.part.Part.{Part}
 use Rattle.sym_parts.specs.declared.role.Role.{Role}
-use Rattle.sym_parts.proofs.Placing.{slices}
+use Rattle.sym_parts.specs.declared.role.Role.TheVariants as role
+use Rattle.sym_parts.specs.declared.spelling.Ordinal.{Ordinal}
+use Rattle.sym_parts.specs.declared.spelling.Spelled.{Spelled}
 use Rattle.text_colours.specs.Styles.{plain, style_of}
 use Rattle.text_colours.specs.Colored.{colored, colored_from, has_style, shows}
 use Rattle.text_colours.specs.Shown.{colored_marked, shown_in}
 use Rattle.text_colours.proofs.SliceLemmas.{advanced, all-passed, passed, shown, slice-within}
 
--- parts from a place on begin there or later, and end before the end of their text
-begin-from : (place low : ℕ) (m : Marked) → low ≤ place → All (λ part. low ≤ part.start) (parts_from place m)
-begin-from place low m h = All-weaker (IsSlice place (place + length (text_of m))) (λ part. low ≤ part.start) (λ part slice. omega (arith, slice.0, h)) (parts_from place m) (slices place m)
+-- ## Parts, by their marks
 
-end-before : (place high : ℕ) (m : Marked) → place + length (text_of m) ≤ high → All (λ part. end_of part ≤ high) (parts_from place m)
-end-before place high m h = All-weaker (IsSlice place (place + length (text_of m))) (λ part. end_of part ≤ high) (λ part slice. omega (arith, slice.1, h)) (parts_from place m) (slices place m)
+-- the part of a mark
+abbrev pub part_at : Spelling → (place : ℕ) → Role → Ordinal → (inside : Marked) → Part
+part_at s place role ordinal inside = part_of s (record { role = role; ordinal = ordinal; start = place; length = length (text_of inside) })
+
+-- those of a text's marks
+abbrev pub parts_from : Spelling → (place : ℕ) → Marked → List Part
+parts_from s place done = []
+parts_from s place (text bytes rest) = parts_from s (place + length bytes) rest
+parts_from s place (marked role ordinal inside rest) = part_at s place role ordinal inside ∷ (parts_from s place inside ++ parts_from s (place + length (text_of inside)) rest)
+
+are-parts : (s : Spelling) (place : ℕ) (m : Marked) → map (part_of s) (stretches_from place m) ≡ parts_from s place m
+unfolding stretches_from
+are-parts s place done = refl
+are-parts s place (text bytes rest) = are-parts s (place + length bytes) rest
+are-parts s place (marked role ordinal inside rest) =
+    let next = place + length (text_of inside) in
+    ap (λ ps. part_at s place role ordinal inside ∷ ps)
+    (map-append (part_of s) (stretches_from place inside) (stretches_from next rest) ∙ ap₂ (λ ps qs. ps ++ qs) (are-parts s place inside) (are-parts s next rest))
+
+-- parts from a place on begin there or later, and end before the end of their text
+begin-from : (s : Spelling) (place low : ℕ) (m : Marked) → low ≤ place → All (λ part. low ≤ part.start) (parts_from s place m)
+unfolding part_of
+begin-from s place low done h = All-nil (λ part. low ≤ part.start)
+begin-from s place low (text bytes rest) h = begin-from s (place + length bytes) low rest (omega (arith, h))
+begin-from s place low (marked role ordinal inside rest) h =
+    let next = place + length (text_of inside) in
+    All-cons (λ part. low ≤ part.start) (part_at s place role ordinal inside) (parts_from s place inside ++ parts_from s next rest) h
+    (All-append (λ part. low ≤ part.start) (parts_from s place inside) (parts_from s next rest) (begin-from s place low inside h) (begin-from s next low rest (omega (arith, h))))
+
+end-before : (s : Spelling) (place high : ℕ) (m : Marked) → place + length (text_of m) ≤ high → All (λ part. end_of part ≤ high) (parts_from s place m)
+unfolding part_of text_of
+end-before s place high done h = All-nil (λ part. end_of part ≤ high)
+end-before s place high (text bytes rest) h = end-before s (place + length bytes) high rest (omega (arith, h, length-append bytes (text_of rest)))
+end-before s place high (marked role ordinal inside rest) h =
+    let next = place + length (text_of inside) in
+    let both = length-append (text_of inside) (text_of rest) in
+    All-cons (λ part. end_of part ≤ high) (part_at s place role ordinal inside) (parts_from s place inside ++ parts_from s next rest) (omega (arith, h, both))
+    (All-append (λ part. end_of part ≤ high) (parts_from s place inside) (parts_from s next rest) (end-before s place high inside (omega (arith, h, both))) (end-before s next high rest (omega (arith, h, both))))
 
 begin-later : (low place : ℕ) (parts : List Part) → low ≤ place → All (λ part. place ≤ part.start) parts → All (λ part. low ≤ part.start) parts
 begin-later low place parts h after = All-weaker (λ part. place ≤ part.start) (λ part. low ≤ part.start) (λ part begins. omega (arith, begins, h)) parts after
@@ -43,85 +81,110 @@ with-style part first style length-1 has some =
 -- ## A mark
 
 -- what is written of a text with the parts of a mark, before that of the parts after it
-abbrev pub Writes : List ℕ → ℕ → Marked → List Part → Type 0
-Writes all place m more = colored_from all place (parts_from place m ++ more) ≡ colored_marked m ++ colored_from all (place + length (text_of m)) more
+abbrev pub Writes : Spelling → List ℕ → ℕ → Marked → List Part → Type 0
+Writes s all place m more = colored_from all place (parts_from s place m ++ more) ≡ colored_marked m ++ colored_from all (place + length (text_of m)) more
 
 -- without a style of its own it is written as its marks are
-unstyled : (all : List ℕ) (place : ℕ) (role : Role) (inside rest : Marked) (more : List Part) → let next = place + length (text_of inside) in
-    shows place (record { role = role; start = place; length = length (text_of inside) }) ≡ false → Writes all place inside (parts_from next rest ++ more) → Writes all next rest more
-    → colored_from all place (parts_from place (marked role inside rest) ++ more) ≡ colored_marked inside ++ (colored_marked rest ++ colored_from all (place + length (text_of inside ++ text_of rest)) more)
-unfolding parts_from text_of
-unstyled all place role inside rest more hidden first second =
+unstyled : (s : Spelling) (all : List ℕ) (place : ℕ) (role : Role) (ordinal : Ordinal) (inside rest : Marked) (more : List Part) → let next = place + length (text_of inside) in
+    shows place (part_at s place role ordinal inside) ≡ false → Writes s all place inside (parts_from s next rest ++ more) → Writes s all next rest more
+    → colored_from all place (parts_from s place (marked role ordinal inside rest) ++ more) ≡ colored_marked inside ++ (colored_marked rest ++ colored_from all (place + length (text_of inside ++ text_of rest)) more)
+unfolding part_of text_of
+unstyled s all place role ordinal inside rest more hidden first second =
     let next = place + length (text_of inside) in
-    passed all place (record { role = role; start = place; length = length (text_of inside) }) ((parts_from place inside ++ parts_from next rest) ++ more) hidden
-    ∙ ap (colored_from all place) (append_assoc (parts_from place inside) (parts_from next rest) more)
+    passed all place (part_at s place role ordinal inside) ((parts_from s place inside ++ parts_from s next rest) ++ more) hidden
+    ∙ ap (colored_from all place) (append_assoc (parts_from s place inside) (parts_from s next rest) more)
     ∙ first
     ∙ ap (λ (t : List ℕ). colored_marked inside ++ t) (second ∙ ap (λ (n : ℕ). colored_marked rest ++ colored_from all n more) (omega (arith, length-append (text_of inside) (text_of rest))))
 
 -- with one it is written in that
-styled : (all front back : List ℕ) (place : ℕ) (role : Role) (inside rest : Marked) (more : List Part) → let next = place + length (text_of inside) in
-    all ≡ front ++ (text_of inside ++ back) → place ≡ length front → shows place (record { role = role; start = place; length = length (text_of inside) }) ≡ true → Writes all next rest more
-    → colored_from all place (parts_from place (marked role inside rest) ++ more) ≡ (style_of role ++ (text_of inside ++ plain)) ++ (colored_marked rest ++ colored_from all (place + length (text_of inside ++ text_of rest)) more)
-unfolding parts_from text_of
-styled all front back place role inside rest more is begins is_shown second =
+styled : (s : Spelling) (all front back : List ℕ) (place : ℕ) (role : Role) (ordinal : Ordinal) (inside rest : Marked) (more : List Part) → let next = place + length (text_of inside) in
+    all ≡ front ++ (text_of inside ++ back) → place ≡ length front → shows place (part_at s place role ordinal inside) ≡ true → Writes s all next rest more
+    → colored_from all place (parts_from s place (marked role ordinal inside rest) ++ more) ≡ (style_of role ++ (text_of inside ++ plain)) ++ (colored_marked rest ++ colored_from all (place + length (text_of inside ++ text_of rest)) more)
+unfolding part_of text_of
+styled s all front back place role ordinal inside rest more is begins is_shown second =
     let next = place + length (text_of inside) in
-    let part : Part = record { role = role; start = place; length = length (text_of inside) } in
-    shown all place part ((parts_from place inside ++ parts_from next rest) ++ more) is_shown
-    ∙ ap₂ (λ (before within : List ℕ). (before ++ (style_of role ++ (within ++ plain))) ++ colored_from all next ((parts_from place inside ++ parts_from next rest) ++ more))
+    let part : Part = part_at s place role ordinal inside in
+    shown all place part ((parts_from s place inside ++ parts_from s next rest) ++ more) is_shown
+    ∙ ap₂ (λ (before within : List ℕ). (before ++ (style_of role ++ (within ++ plain))) ++ colored_from all next ((parts_from s place inside ++ parts_from s next rest) ++ more))
     (slice-within all front [] (text_of inside ++ back) place place is begins (omega arith)) (slice-within all front (text_of inside) back place next is begins refl)
     ∙ ap (λ (t : List ℕ). (style_of role ++ (text_of inside ++ plain)) ++ t)
-    (ap (colored_from all next) (append_assoc (parts_from place inside) (parts_from next rest) more)
-    ∙ all-passed all next (parts_from place inside) (parts_from next rest ++ more) (end-before place next inside (omega arith))
+    (ap (colored_from all next) (append_assoc (parts_from s place inside) (parts_from s next rest) more)
+    ∙ all-passed all next (parts_from s place inside) (parts_from s next rest ++ more) (end-before s place next inside (omega arith))
     ∙ second ∙ ap (λ (n : ℕ). colored_marked rest ++ colored_from all n more) (omega (arith, length-append (text_of inside) (text_of rest))))
 
 -- a mark, by its style and its text
-mark-writes : (all front back : List ℕ) (place : ℕ) (role : Role) (inside rest : Marked) (more : List Part) (style bytes : List ℕ) → let next = place + length (text_of inside) in
-    all ≡ front ++ (text_of inside ++ back) → place ≡ length front → style_of role ≡ style → text_of inside ≡ bytes → Writes all place inside (parts_from next rest ++ more) → Writes all next rest more
-    → colored_from all place (parts_from place (marked role inside rest) ++ more) ≡ shown_in style bytes (colored_marked inside) ++ (colored_marked rest ++ colored_from all (place + length (text_of inside ++ text_of rest)) more)
-mark-writes all front back place role inside rest more [] bytes is begins has within first second =
-    unstyled all place role inside rest more (no-style place (record { role = role; start = place; length = length (text_of inside) }) has) first second
-mark-writes all front back place role inside rest more (letter ∷ style) [] is begins has within first second =
-    unstyled all place role inside rest more (no-bytes place (record { role = role; start = place; length = length (text_of inside) }) (ap (λ (t : List ℕ). length t) within)) first second
-mark-writes all front back place role inside rest more (letter ∷ style) (byte ∷ bytes) is begins has within first second =
-    let part : Part = record { role = role; start = place; length = length (text_of inside) } in
-    styled all front back place role inside rest more is begins (with-style part letter style (length bytes) has (ap (λ (t : List ℕ). length t) within)) second
+mark-writes : (s : Spelling) (all front back : List ℕ) (place : ℕ) (role : Role) (ordinal : Ordinal) (inside rest : Marked) (more : List Part) (style bytes : List ℕ) → let next = place + length (text_of inside) in
+    all ≡ front ++ (text_of inside ++ back) → place ≡ length front → style_of role ≡ style → text_of inside ≡ bytes → Writes s all place inside (parts_from s next rest ++ more) → Writes s all next rest more
+    → colored_from all place (parts_from s place (marked role ordinal inside rest) ++ more) ≡ shown_in style bytes (colored_marked inside) ++ (colored_marked rest ++ colored_from all (place + length (text_of inside ++ text_of rest)) more)
+unfolding part_of
+mark-writes s all front back place role ordinal inside rest more [] bytes is begins has within first second =
+    unstyled s all place role ordinal inside rest more (no-style place (part_at s place role ordinal inside) has) first second
+mark-writes s all front back place role ordinal inside rest more (letter ∷ style) [] is begins has within first second =
+    unstyled s all place role ordinal inside rest more (no-bytes place (part_at s place role ordinal inside) (ap (λ (t : List ℕ). length t) within)) first second
+mark-writes s all front back place role ordinal inside rest more (letter ∷ style) (byte ∷ bytes) is begins has within first second =
+    let part : Part = part_at s place role ordinal inside in
+    styled s all front back place role ordinal inside rest more is begins (with-style part letter style (length bytes) has (ap (λ (t : List ℕ). length t) within)) second
     ∙ ap₂ (λ (s t : List ℕ). (s ++ (t ++ plain)) ++ (colored_marked rest ++ colored_from all (place + length (text_of inside ++ text_of rest)) more)) has within
 
 -- ## A marked text
 
-pub writes : (m : Marked) (all front back : List ℕ) (place : ℕ) (more : List Part) → all ≡ front ++ (text_of m ++ back) → place ≡ length front → All (λ part. place + length (text_of m) ≤ part.start) more → Writes all place m more
-unfolding parts_from text_of colored_marked
-writes done all front back place more is begins after = ap (λ (n : ℕ). colored_from all n more) (omega arith)
-writes (text bytes rest) all front back place more is begins after =
+pub writes : (s : Spelling) (m : Marked) (all front back : List ℕ) (place : ℕ) (more : List Part) → all ≡ front ++ (text_of m ++ back) → place ≡ length front → All (λ part. place + length (text_of m) ≤ part.start) more → Writes s all place m more
+unfolding part_of text_of colored_marked
+writes s done all front back place more is begins after = ap (λ (n : ℕ). colored_from all n more) (omega arith)
+writes s (text bytes rest) all front back place more is begins after =
     let next = place + length bytes in
     let both = length-append bytes (text_of rest) in
     let split : all ≡ front ++ (bytes ++ (text_of rest ++ back)) = is ∙ ap (λ (t : List ℕ). front ++ t) (append_assoc bytes (text_of rest) back) in
-    advanced all place next (parts_from next rest ++ more) (omega arith)
-    (All-append (λ part. next ≤ part.start) (parts_from next rest) more (begin-from next next rest (omega arith)) (begin-later next (place + length (bytes ++ text_of rest)) more (omega (arith, both)) after))
+    advanced all place next (parts_from s next rest ++ more) (omega arith)
+    (All-append (λ part. next ≤ part.start) (parts_from s next rest) more (begin-from s next next rest (omega arith)) (begin-later next (place + length (bytes ++ text_of rest)) more (omega (arith, both)) after))
     ∙ ap₂ (λ (s t : List ℕ). s ++ t) (slice-within all front bytes (text_of rest ++ back) place next split begins refl)
-    (writes rest all (front ++ bytes) back next more (split ∙ sym (append_assoc front bytes (text_of rest ++ back))) (omega (arith, begins, length-append front bytes))
+    (writes s rest all (front ++ bytes) back next more (split ∙ sym (append_assoc front bytes (text_of rest ++ back))) (omega (arith, begins, length-append front bytes))
     (begin-later (next + length (text_of rest)) (place + length (bytes ++ text_of rest)) more (omega (arith, both)) after)
     ∙ ap (λ (n : ℕ). colored_marked rest ++ colored_from all n more) (omega (arith, both)))
     ∙ sym (append_assoc bytes (colored_marked rest) (colored_from all (place + length (bytes ++ text_of rest)) more))
-writes (marked role inside rest) all front back place more is begins after =
+writes s (marked role ordinal inside rest) all front back place more is begins after =
     let next = place + length (text_of inside) in
     let both = length-append (text_of inside) (text_of rest) in
     let end = place + length (text_of inside ++ text_of rest) in
     let split : all ≡ front ++ (text_of inside ++ (text_of rest ++ back)) = is ∙ ap (λ (t : List ℕ). front ++ t) (append_assoc (text_of inside) (text_of rest) back) in
-    mark-writes all front (text_of rest ++ back) place role inside rest more (style_of role) (text_of inside) split begins refl refl
-    (writes inside all front (text_of rest ++ back) place (parts_from next rest ++ more) split begins
-    (All-append (λ part. next ≤ part.start) (parts_from next rest) more (begin-from next next rest (omega arith)) (begin-later next end more (omega (arith, both)) after)))
-    (writes rest all (front ++ text_of inside) back next more (split ∙ sym (append_assoc front (text_of inside) (text_of rest ++ back))) (omega (arith, begins, length-append front (text_of inside)))
+    mark-writes s all front (text_of rest ++ back) place role ordinal inside rest more (style_of role) (text_of inside) split begins refl refl
+    (writes s inside all front (text_of rest ++ back) place (parts_from s next rest ++ more) split begins
+    (All-append (λ part. next ≤ part.start) (parts_from s next rest) more (begin-from s next next rest (omega arith)) (begin-later next end more (omega (arith, both)) after)))
+    (writes s rest all (front ++ text_of inside) back next more (split ∙ sym (append_assoc front (text_of inside) (text_of rest ++ back))) (omega (arith, begins, length-append front (text_of inside)))
     (begin-later (next + length (text_of rest)) end more (omega (arith, both)) after))
     ∙ sym (append_assoc (shown_in (style_of role) (text_of inside) (colored_marked inside)) (colored_marked rest) (colored_from all end more))
 
--- nothing is left behind it
-nothing-left : (all : List ℕ) (place : ℕ) → length all ≤ place → colored_from all place [] ≡ []
-unfolding colored_from
-nothing-left all place h = drop_all place all h
+-- ## Parts that aren't in the text
 
-pub marks-shown : (m : Marked) → colored (text_of m) (parts_of m) ≡ colored_marked m
-marks-shown m =
-    ap (colored_from (text_of m) 0) (sym (append-nil (parts_of m)))
-    ∙ writes m (text_of m) [] [] 0 [] (sym (append-nil (text_of m))) refl (All-nil (λ part. 0 + length (text_of m) ≤ part.start))
-    ∙ ap (λ (t : List ℕ). colored_marked m ++ t) (nothing-left (text_of m) (0 + length (text_of m)) (omega arith)) ∙ append-nil (colored_marked m)
+-- one of them
+abbrev none_of : (end : ℕ) → Spelled → Part
+none_of end spelled = record { role = spelled.role; start = end; length = 0; from = spelled.span.from; to = spelled.span.to }
+
+-- nothing is left behind a text, and they aren't shown
+hidden-left : (all : List ℕ) (place : ℕ) (part : Part) (parts : List Part) (b : Bool) → part.length ≡ 0 → colored_from all place parts ≡ [] → colored_from all place (if b then part ∷ parts else parts) ≡ []
+hidden-left all place part parts true none rest = passed all place part parts (no-bytes place part none) ∙ rest
+hidden-left all place part parts false none rest = rest
+
+nothing-left : (all : List ℕ) (place end : ℕ) (spans : List Spelled) → length all ≤ place → colored_from all place (unprinted end spans) ≡ []
+unfolding colored_from unprinted
+nothing-left all place end [] h = drop_all place all h
+nothing-left all place end (spelled ∷ spans) h =
+    hidden-left all place (none_of end spelled) (unprinted end spans) (nat_le (role_number role.Hash) (role_number spelled.role)) refl (nothing-left all place end spans h)
+
+-- they begin where it ends
+hidden-begins : (end : ℕ) (part : Part) (parts : List Part) (b : Bool) → end ≤ part.start → All (λ part. end ≤ part.start) parts → All (λ part. end ≤ part.start) (if b then part ∷ parts else parts)
+hidden-begins end part parts true begins all = All-cons (λ part. end ≤ part.start) part parts begins all
+hidden-begins end part parts false begins all = all
+
+begin-after : (end : ℕ) (spans : List Spelled) → All (λ part. end ≤ part.start) (unprinted end spans)
+unfolding unprinted
+begin-after end [] = All-nil (λ part. end ≤ part.start)
+begin-after end (spelled ∷ spans) =
+    hidden-begins end (none_of end spelled) (unprinted end spans) (nat_le (role_number role.Hash) (role_number spelled.role)) (omega arith) (begin-after end spans)
+
+pub marks-shown : (s : Spelling) (m : Marked) → colored (text_of m) (parts_spelled s (length (text_of m)) (stretches_of m)) ≡ colored_marked m
+marks-shown s m =
+    let end = length (text_of m) in
+    ap (λ ps. colored_from (text_of m) 0 (ps ++ unprinted end s.spans)) (are-parts s 0 m)
+    ∙ writes s m (text_of m) [] [] 0 (unprinted end s.spans) (sym (append-nil (text_of m))) refl (begin-later (0 + end) end (unprinted end s.spans) (omega arith) (begin-after end s.spans))
+    ∙ ap (λ (t : List ℕ). colored_marked m ++ t) (nothing-left (text_of m) (0 + end) end s.spans (omega arith)) ∙ append-nil (colored_marked m)

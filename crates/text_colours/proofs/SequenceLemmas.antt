@@ -1,9 +1,10 @@
 -- A text for a terminal without its sequences.
-use Rattle.std.proofs.Common.{◌≡◌, ◌∙◌, ℕ, Bool, true, false, List, [], ◌∷◌, ◌++◌, cond, refl, ap, sym, append_assoc, append-nil}
+use Rattle.std.proofs.Common.{◌≡◌, ◌∙◌, ℕ, Bool, true, false, List, [], ◌∷◌, ◌++◌, length, cond, refl, ap, sym, append_assoc, append-nil}
 use Rattle.std.specs.List.{All}
 use Rattle.std.proofs.lemmas.List.Elements.{All-cons, All-head, All-nil, All-tail}
 use Rattle.std.proofs.lemmas.Bool.{ne_eqb}
-use Rattle.sym_parts.specs.Marked.{Marked, done, text, marked, parts_of, text_of}
+use Rattle.sym_parts.specs.Marked.{Marked, done, text, marked, stretches_of, text_of}
+use Rattle.sym_parts.specs.Spelling.{Spelling, parts_spelled}
 use Rattle.sym_parts.specs.declared.role.Role.{Role}
 use Rattle.sym_parts.specs.declared.role.Role.TheVariants.{Base, GenericArguments, Parameters}
 use Rattle.text_colours.specs.Styles.{plain, style_of}
@@ -58,13 +59,13 @@ marks-left done more printed = refl
 marks-left (text bytes rest) more printed =
     ap (left_of false) (append_assoc bytes (colored_marked rest) more) ∙ bytes-left bytes (colored_marked rest ++ more) (first-printed bytes (text_of rest) printed)
     ∙ ap (λ (t : List ℕ). bytes ++ t) (marks-left rest more (second-printed bytes (text_of rest) printed)) ∙ sym (append_assoc bytes (text_of rest) (left_of false more))
-marks-left (marked role inside rest) more printed =
+marks-left (marked role ordinal inside rest) more printed =
     let first = first-printed (text_of inside) (text_of rest) printed in
     ap (left_of false) (append_assoc (shown_in (style_of role) (text_of inside) (colored_marked inside)) (colored_marked rest) more)
     ∙ shown-left role (style_of role) (text_of inside) (colored_marked inside) (colored_marked rest ++ more) refl first (marks-left inside (colored_marked rest ++ more) first)
     ∙ ap (λ (t : List ℕ). text_of inside ++ t) (marks-left rest more (second-printed (text_of inside) (text_of rest) printed))
     ∙ sym (append_assoc (text_of inside) (text_of rest) (left_of false more))
 
-pub text-left : (m : Marked) → All IsPrinted (text_of m) → without_sequences (colored (text_of m) (parts_of m)) ≡ text_of m
-text-left m printed =
-    ap without_sequences (marks-shown m ∙ sym (append-nil (colored_marked m))) ∙ marks-left m [] printed ∙ append-nil (text_of m)
+pub text-left : (s : Spelling) (m : Marked) → All IsPrinted (text_of m) → without_sequences (colored (text_of m) (parts_spelled s (length (text_of m)) (stretches_of m))) ≡ text_of m
+text-left s m printed =
+    ap without_sequences (marks-shown s m ∙ sym (append-nil (colored_marked m))) ∙ marks-left m [] printed ∙ append-nil (text_of m)

@@ -13,7 +13,7 @@ shown_in (first ∷ style) (byte ∷ bytes) without = (first ∷ style) ++ ((byt
 unfoldable pub colored_marked : Marked → List ℕ
 colored_marked done = []
 colored_marked (text bytes rest) = bytes ++ colored_marked rest
-colored_marked (marked role inside rest) = shown_in (style_of role) (text_of inside) (colored_marked inside) ++ colored_marked rest
+colored_marked (marked role ordinal inside rest) = shown_in (style_of role) (text_of inside) (colored_marked inside) ++ colored_marked rest
 
 -- ## Without the sequences
 

@@ -1,17 +1,18 @@
 // What holds of coloured texts.
-ghost use Rattle.std.specs.Prelude.{◌≡◌};
+ghost use Rattle.std.specs.Prelude.{◌≡◌, length};
 ghost use Rattle.std.specs.List.{All};
-ghost use Rattle.sym_parts.specs.Marked.{Marked, parts_of, text_of};
+ghost use Rattle.sym_parts.specs.Marked.{Marked, stretches_of, text_of};
+ghost use Rattle.sym_parts.specs.Spelling.{Spelling, parts_spelled};
 ghost use Rattle.text_colours.specs.Colored.{colored};
 ghost use Rattle.text_colours.specs.Shown.{IsPrinted, colored_marked, without_sequences};
 
 /// A text with the parts that its marks make is shown as its marks say: what each outermost mark with a style surrounds is in that
-/// style, and all else is as it was.
+/// style, and all else is as it was, whatever spells the parts.
 pub fn colors_are_those_of_marks()
-    ensures { (m : Marked) → colored (text_of m) (parts_of m) ≡ colored_marked m }
+    ensures { (s : Spelling) (m : Marked) → colored (text_of m) (parts_spelled s (length (text_of m)) (stretches_of m)) ≡ colored_marked m }
 {}
 
 /// Without the sequences for a terminal the text is the one that it was.
 pub fn colors_change_no_text()
-    ensures { (m : Marked) → All IsPrinted (text_of m) → without_sequences (colored (text_of m) (parts_of m)) ≡ text_of m }
+    ensures { (s : Spelling) (m : Marked) → All IsPrinted (text_of m) → without_sequences (colored (text_of m) (parts_spelled s (length (text_of m)) (stretches_of m))) ≡ text_of m }
 {}

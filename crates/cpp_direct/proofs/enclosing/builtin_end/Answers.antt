@@ -1,7 +1,4 @@
-use Rattle.std.proofs.Common.{◌∷◌, [], arith, inl, inr, subst, sym}
-use Rattle.cpp_direct.specs.Holes.{StandsAt}
-use Rattle.cpp_direct.proofs.Moves.{stands-join}
-use Rattle.cpp_direct.proofs.TypesRead.{no-builtin-with-d, some-text, there}
+use Rattle.cpp_direct.proofs.ForAnswers.{◌∷◌, [], arith, inl, inr, subst, sym, StandsAt, stands-join, no-builtin-with-d, some-text, there}
 use Rattle.cpp_direct.proofs.enclosing.builtin_end.Goals as goal
 
 pub returns-then-letter-eq68 : goal.returns-then-letter-eq68

@@ -1,5 +1,5 @@
 -- Without leading zeros, the digits from the place on are those of the whole.
-use Rattle.std.proofs.Common.{◌≡◌, ◌≤◌, ◌-◌, length, drop}
+use Rattle.cpp_direct.proofs.ForAnswers.{◌≡◌, ◌≤◌, ◌-◌, length, drop}
 use Rattle.cpp_grammar.specs.Values as values
 use Rattle.cpp_direct.proofs.lists.normal.Given as goal
 

@@ -1,5 +1,4 @@
-use Rattle.std.proofs.Common.{◌∷◌, [], arith}
-use Rattle.cpp_direct.proofs.TypesRead.{then-there}
+use Rattle.cpp_direct.proofs.ForAnswers.{◌∷◌, [], arith, then-there}
 use Rattle.cpp_direct.proofs.marks.const_mark_at.Goals as goal
 
 pub returns-in_ok-checked_add-in-82 : goal.returns-in_ok-checked_add-in-82

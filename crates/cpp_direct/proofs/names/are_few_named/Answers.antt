@@ -1,5 +1,4 @@
-use Rattle.std.proofs.Common.{arith}
-use Rattle.cpp_direct.proofs.NamePlaces.{reached-more}
+use Rattle.cpp_direct.proofs.ForAnswers.{arith, reached-more}
 use Rattle.cpp_direct.proofs.names.are_few_named.Goals as goal
 
 pub bytes-preserved : goal.bytes-preserved

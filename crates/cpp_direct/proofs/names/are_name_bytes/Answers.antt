@@ -1,7 +1,4 @@
-use Rattle.std.proofs.Common.{◌-◌, length, subst, arith}
-use Rattle.sym_core.specs.declared.NameClass.TheVariants.{Cpp}
-use Rattle.sym_core.specs.Scan.{ReachesNameBytes}
-use Rattle.cpp_direct.proofs.NameLanes.{reached-on}
+use Rattle.cpp_direct.proofs.ForAnswers.{◌-◌, length, subst, arith, ReachesNameBytes, reached-on, NameClass}
 use Rattle.cpp_direct.proofs.names.are_name_bytes.Goals as goal
 
 pub lanes-preserved : goal.lanes-preserved
@@ -13,5 +10,5 @@ lanes-preserved c = record {
 pub returns : goal.returns
 returns c = λ is.
     let bytes = c.args.bytes.now in
-    subst (λ n. ReachesNameBytes Cpp bytes n) (omega (arith, c.if-bytes-lt-LANES.false))
+    subst (λ n. ReachesNameBytes NameClass.Cpp bytes n) (omega (arith, c.if-bytes-lt-LANES.false))
     (reached-on bytes c.lanes.at (length bytes - 16) c.lanes.invariant.each (omega (arith, c.lanes-test.false)) (c.are_lanes_named-2.ensures is))

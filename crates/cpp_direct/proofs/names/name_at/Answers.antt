@@ -1,5 +1,4 @@
-use Rattle.std.proofs.Common.{arith, sym, ◌∙◌}
-use Rattle.cpp_direct.proofs.NamePlaces.{one-digit, two-digits, digit-byte}
+use Rattle.cpp_direct.proofs.ForAnswers.{arith, sym, ◌∙◌, one-digit, two-digits, digit-byte}
 use Rattle.cpp_direct.proofs.names.name_at.Goals as goal
 
 pub own_at-requires-clause-read : goal.own_at-requires-clause-read

@@ -1,5 +1,4 @@
-use Rattle.std.proofs.Common.{◌-◌, ◌≤◌, length, sym, ◌∙◌, arith}
-use Rattle.cpp_direct.proofs.NamePlaces.{own-each, own-placed, own-is}
+use Rattle.cpp_direct.proofs.ForAnswers.{◌-◌, ◌≤◌, length, sym, ◌∙◌, arith, own-each, own-placed, own-is}
 use Rattle.cpp_direct.proofs.names.own_at.Goals as goal
 
 pub returns : goal.returns

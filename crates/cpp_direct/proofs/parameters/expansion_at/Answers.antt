@@ -1,6 +1,4 @@
-use Rattle.std.proofs.Common.{arith}
-use Rattle.cpp_direct.proofs.DependentsRead.{letters-stand}
-use Rattle.cpp_direct.proofs.TypesRead.{there}
+use Rattle.cpp_direct.proofs.ForAnswers.{arith, letters-stand, there}
 use Rattle.cpp_direct.proofs.parameters.expansion_at.Goals as goal
 
 pub returns-clause-stands : goal.returns-clause-stands

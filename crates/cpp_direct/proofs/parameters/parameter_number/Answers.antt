@@ -1,6 +1,4 @@
-use Rattle.std.proofs.Common.{arith, ◌-◌}
-use Rattle.cpp_direct.proofs.DependentsRead.{digit-stands}
-use Rattle.cpp_direct.proofs.TypesRead.{there}
+use Rattle.cpp_direct.proofs.ForAnswers.{arith, ◌-◌, digit-stands, there}
 use Rattle.cpp_direct.proofs.parameters.parameter_number.Goals as goal
 
 pub returns-clause-stands : goal.returns-clause-stands

@@ -1,5 +1,4 @@
-use Rattle.std.proofs.Common.{◌∷◌, [], arith}
-use Rattle.cpp_direct.proofs.TypesRead.{then-there, there}
+use Rattle.cpp_direct.proofs.ForAnswers.{◌∷◌, [], arith, then-there, there}
 use Rattle.cpp_direct.proofs.parameters.pattern_at.Goals as goal
 
 pub returns-in_ok-end-in-82-clause-stands : goal.returns-in_ok-end-in-82-clause-stands

@@ -1,15 +1,9 @@
 -- If the rest has short numbers, after the digits that are side by side before it, the whole has.
-use Rattle.std.proofs.Common.{◌≡◌, ◌≤◌, ◌-◌, length, drop, true}
-use Rattle.cpp_direct.specs.Bytes.{short_numbers}
+use Rattle.cpp_direct.proofs.ForAnswers.{◌≡◌, ◌≤◌, ◌-◌, length, drop, true, short_numbers}
 use Rattle.cpp_direct.proofs.tokens.are_numbers_short.Given as goal
 
 abbrev pub invariant-bytes : goal.invariant-bytes
-invariant-bytes l =
-    record {
-      high : l.at ≤ length l.s;
-      few : l.run ≤ 19;
-      left : short_numbers l.run (drop l.at l.s) ≡ true → short_numbers 0 l.s ≡ true;
-    }
+invariant-bytes l = record { high : l.at ≤ length l.s; few : l.run ≤ 19; left : short_numbers l.run (drop l.at l.s) ≡ true → short_numbers 0 l.s ≡ true }
 
 abbrev pub decreases-bytes : goal.decreases-bytes
 decreases-bytes l = length l.s - l.at

@@ -1,11 +1,5 @@
-use Rattle.std.proofs.Common.{suc, ◌≡◌, ◌+◌, ◌∙◌, inl, inr, refl, ap, sym, arith, false, get_or, subst}
-use Rattle.std.proofs.lemmas.List.{set-get_or}
-use Rattle.std.specs.Prelude.{slice_set}
-use Rattle.cpp_direct.specs.declared.open.Candidate.{Candidate}
-use Rattle.cpp_direct.specs.Written.{IsLeft, Stays, hidden}
-use Rattle.cpp_direct.proofs.Kept.{AreGoneOver, all-gone, one-gone}
+use Rattle.cpp_direct.proofs.ForAnswers.{suc, ◌≡◌, ◌+◌, ◌∙◌, inl, inr, refl, ap, sym, arith, false, get_or, subst, set-get_or, slice_set, Candidate, IsLeft, Stays, hidden, AreGoneOver, all-gone, one-gone}
 use Rattle.cpp_direct.proofs.writing.hide.Goals as goal
-use Rattle.cpp_direct.proofs.writing.hide.Goals.{then-not-stays, else-not-stays}
 
 pub candidates-init : goal.candidates-init
 candidates-init c = record { gone = refl }
@@ -22,10 +16,10 @@ candidates-preserved c =
     subst (λ k. AreGoneOver hiding k old (slice_set now at n)) next
     (one-gone hiding at old now n other c.candidates.invariant.gone (omega (arith, c.candidates-test.true, c.len.ensures)) is) in
     elim c.if-not-stays.branch [
-      | then-not-stays w ↦ record {
+      | goal.then-not-stays w ↦ record {
         gone = subst (λ l. AreGoneOver hiding (at + 1) old l) (sym (ap (λ v. v.list.items) w.candidates-is ∙ w.put.ensures.items)) (gone hidden (inr refl));
       }
-      | else-not-stays w ↦ record {
+      | goal.else-not-stays w ↦ record {
         gone = subst (λ l. AreGoneOver hiding (at + 1) old l) (set-get_or now at other ∙ sym (ap (λ v. v.list.items) w.candidates-is))
             (gone (get_or now at other) (inl (refl, subst (λ l. Stays hiding (get_or l at other)) c.as_slice.ensures (c.stays.ensures w.if-not-stays.false))));
       }

@@ -1,6 +1,5 @@
 -- The candidates up to a place were visited.
-use Rattle.std.proofs.Common.{◌-◌, length}
-use Rattle.cpp_direct.proofs.Kept.{AreGoneOver}
+use Rattle.cpp_direct.proofs.ForAnswers.{◌-◌, length, AreGoneOver}
 use Rattle.cpp_direct.proofs.writing.hide.Given as goal
 
 abbrev pub invariant-candidates : goal.invariant-candidates

@@ -16,6 +16,6 @@ returns-in-Text-clause-grows c =
 pub returns-in_ok-push_suffixed-in-Item-clause-grows : goal.returns-in_ok-push_suffixed-in-Item-clause-grows
 returns-in_ok-push_suffixed-in-Item-clause-grows c =
     on_ok_weaker c.push.result (λ is. grow-same c.args.y.now c.args.most _ _ _ _ _ _
-    (grow-then c.args.y.now c.args.most _ _ _ _ _ _ _ (c.in_ok-push_suffixed-in-Item.ensures.grows) (grow-encoding c.args.y.now c.args.most _ _ _ _ is c.requires.inner c.in-Item.ensures.1))
+    (grow-then c.args.y.now c.args.most _ _ _ _ _ _ _ (c.in_ok-push_suffixed-in-Item.ensures.grows) (grow-encoding c.args.y.now c.args.most _ _ _ _ _ is c.requires.inner c.in-Item.ensures.1 (omega (arith, c.in-Item.ensures.1.1))))
     (symbol-item _ _ _ _ _ _ _ c.requires.is.1 refl c.in-Item.ensures.0)
     (omega (arith, ap steps_of_parts c.in-Item.ensures.0))) c.push.ensures.tasks

@@ -1,4 +1,4 @@
-use Rattle.std.proofs.Common.{◌≡◌, ◌∙◌, sym, subst, ap, arith, Some, None}
+use Rattle.std.proofs.Common.{◌∙◌, sym, subst, ap}
 use Rattle.cpp_tree.specs.Views.{plain_tree}
 use Rattle.cpp_layout.specs.Layout.{table_of}
 use Rattle.cpp_parts.specs.KindNumbers.{inner_part_by}

@@ -1,4 +1,4 @@
-use Rattle.std.proofs.Common.{◌∙◌, sym, ap, refl, arith, get_or, None, Some}
+use Rattle.std.proofs.Common.{◌∙◌, sym, ap, refl, arith, None, Some}
 use Rattle.cpp_tree.specs.Fields.{fields_of, local_fields}
 use Rattle.cpp_tree.specs.Views.{plain_tree}
 use Rattle.cpp_layout.specs.Layout.{table_of}

@@ -1,4 +1,4 @@
-use Rattle.std.proofs.Common.{◌≡◌, ◌<◌, length, ℕ}
+use Rattle.std.proofs.Common.{◌≡◌, ◌<◌, length}
 use Rattle.cpp_layout.specs.Layout.{table_of}
 use Rattle.cpp_tree.specs.Views.{plain_tree}
 use Rattle.cpp_parts.specs.Kinds.{own_name}

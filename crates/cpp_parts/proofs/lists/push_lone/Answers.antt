@@ -23,7 +23,7 @@ pub returns-clause-grows : goal.returns-clause-grows
 unfolding ◌before◌
 returns-clause-grows c =
     on_ok_weaker c.push-3.result
-    (λ is. grow-begin c.args.y.now c.args.most _ _ _ _ _ _ _ is (length-two _ _ _ _ c.in_ok-before.ensures.length c.in_ok-after.ensures.length)
+    (λ is. grow-begin c.args.y.now c.args.most _ _ _ _ _ _ _ _ is (length-two _ _ _ _ c.in_ok-before.ensures.length c.in_ok-after.ensures.length)
     (grow-then c.args.y.now c.args.most _ _ _ _ _ _ _
     (grow-skip c.args.y.now c.args.most _ _ _ _ c.in_ok-push.ensures.tasks c.in_ok-after.ensures.length)
     (grow-skip c.args.y.now c.args.most _ _ _ _ c.in_ok-push-2.ensures.tasks c.in_ok-before.ensures.length)))

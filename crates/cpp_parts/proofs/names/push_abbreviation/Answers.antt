@@ -19,4 +19,4 @@ pub returns-clause-grows : goal.returns-clause-grows
 unfolding ◌before◌ abbreviated
 returns-clause-grows c =
     let cut = abbreviation-lengths (bytes_of_part c.args.y.now c.args.text) c.in_ok-length.length c.min-front.result c.min-between.result (length-of-text c.args.y.now _ _ c.requires.is_text c.in_ok-length.ensures.length) c.min-front.ensures c.min-between.ensures in
-    on_ok_weaker c.push_alone.result (λ g. grow-then c.args.y.now c.args.most _ _ _ _ _ _ _ (grow-then c.args.y.now c.args.most _ _ _ _ _ _ _ (grow-begin c.args.y.now c.args.most _ _ _ _ _ _ _ c.in_ok-push-3.ensures.tasks (length-base (drop 2 (drop 3 (bytes_of_part c.args.y.now c.args.text))) (printed_by c.args.y.now c.args.parts.now) _ _ cut.2 c.in_ok-inner.ensures.length) (grow-then c.args.y.now c.args.most _ _ _ _ _ _ _ (grow-skip c.args.y.now c.args.most _ _ _ (text_of (printed_by c.args.y.now c.args.parts.now)) c.in_ok-push.ensures.tasks (c.in_ok-inner.ensures.length)) (grow-skip c.args.y.now c.args.most _ _ _ (drop 2 (drop 3 (bytes_of_part c.args.y.now c.args.text))) c.in_ok-push-2.ensures.tasks (cut.2)))) (grow-skip c.args.y.now c.args.most _ _ _ (take 2 (drop 3 (bytes_of_part c.args.y.now c.args.text))) c.in_ok-push-4.ensures.tasks (cut.1))) (g (take 3 (bytes_of_part c.args.y.now c.args.text)) (sym cut.0))) c.push_alone.ensures.grows
+    on_ok_weaker c.push_alone.result (λ g. grow-then c.args.y.now c.args.most _ _ _ _ _ _ _ (grow-then c.args.y.now c.args.most _ _ _ _ _ _ _ (grow-begin c.args.y.now c.args.most _ _ _ _ _ _ _ _ c.in_ok-push-3.ensures.tasks (length-base (drop 2 (drop 3 (bytes_of_part c.args.y.now c.args.text))) (printed_by c.args.y.now c.args.parts.now) _ _ cut.2 c.in_ok-inner.ensures.length) (grow-then c.args.y.now c.args.most _ _ _ _ _ _ _ (grow-skip c.args.y.now c.args.most _ _ _ (text_of (printed_by c.args.y.now c.args.parts.now)) c.in_ok-push.ensures.tasks (c.in_ok-inner.ensures.length)) (grow-skip c.args.y.now c.args.most _ _ _ (drop 2 (drop 3 (bytes_of_part c.args.y.now c.args.text))) c.in_ok-push-2.ensures.tasks (cut.2)))) (grow-skip c.args.y.now c.args.most _ _ _ (take 2 (drop 3 (bytes_of_part c.args.y.now c.args.text))) c.in_ok-push-4.ensures.tasks (cut.1))) (g (take 3 (bytes_of_part c.args.y.now c.args.text)) (sym cut.0))) c.push_alone.ensures.grows

@@ -19,4 +19,4 @@ pub returns-clause-grows : goal.returns-clause-grows
 unfolding ◌before◌ scoped
 returns-clause-grows c =
     let cut = front-lengths 2 (bytes_of_part c.args.y.now c.args.colons) c.in_ok-between.between c.min-front.result (length-of-text c.args.y.now _ _ c.requires.is_text c.in_ok-between.ensures.length) c.min-front.ensures in
-    on_ok_weaker c.push_alone.result (λ g. grow-then c.args.y.now c.args.most _ _ _ _ _ _ _ (grow-then c.args.y.now c.args.most _ _ _ _ _ _ _ (grow-begin c.args.y.now c.args.most _ _ _ _ _ _ _ c.in_ok-push-3.ensures.tasks (length-base (drop 2 (bytes_of_part c.args.y.now c.args.colons)) (printed_by c.args.y.now c.args.parts.now) _ _ cut.1 c.in_ok-inner.ensures.length) (grow-then c.args.y.now c.args.most _ _ _ _ _ _ _ (grow-skip c.args.y.now c.args.most _ _ _ (text_of (printed_by c.args.y.now c.args.parts.now)) c.in_ok-push.ensures.tasks (c.in_ok-inner.ensures.length)) (grow-skip c.args.y.now c.args.most _ _ _ (drop 2 (bytes_of_part c.args.y.now c.args.colons)) c.in_ok-push-2.ensures.tasks (cut.1)))) (grow-skip c.args.y.now c.args.most _ _ _ (take 2 (bytes_of_part c.args.y.now c.args.colons)) c.in_ok-push-4.ensures.tasks (cut.0))) (g (text_of (unshared_of c.args.y.now c.args.scope)) (sym c.in_ok-outer.ensures.length))) c.push_alone.ensures.grows
+    on_ok_weaker c.push_alone.result (λ g. grow-then c.args.y.now c.args.most _ _ _ _ _ _ _ (grow-then c.args.y.now c.args.most _ _ _ _ _ _ _ (grow-begin c.args.y.now c.args.most _ _ _ _ _ _ _ _ c.in_ok-push-3.ensures.tasks (length-base (drop 2 (bytes_of_part c.args.y.now c.args.colons)) (printed_by c.args.y.now c.args.parts.now) _ _ cut.1 c.in_ok-inner.ensures.length) (grow-then c.args.y.now c.args.most _ _ _ _ _ _ _ (grow-skip c.args.y.now c.args.most _ _ _ (text_of (printed_by c.args.y.now c.args.parts.now)) c.in_ok-push.ensures.tasks (c.in_ok-inner.ensures.length)) (grow-skip c.args.y.now c.args.most _ _ _ (drop 2 (bytes_of_part c.args.y.now c.args.colons)) c.in_ok-push-2.ensures.tasks (cut.1)))) (grow-skip c.args.y.now c.args.most _ _ _ (take 2 (bytes_of_part c.args.y.now c.args.colons)) c.in_ok-push-4.ensures.tasks (cut.0))) (g (text_of (unshared_of c.args.y.now c.args.scope)) (sym c.in_ok-outer.ensures.length))) c.push_alone.ensures.grows

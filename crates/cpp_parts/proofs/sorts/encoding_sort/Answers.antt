@@ -21,7 +21,7 @@ part-requires-then-found-eq-FUNCTION-2-clause-part c =
 pub returns-then-found-eq-FUNCTION-clause-is : goal.returns-then-found-eq-FUNCTION-clause-is
 returns-then-found-eq-FUNCTION-clause-is c =
     let e = is-function (plain_tree (table_of c.args.y.now) c.args.node) c.node-found.ensures.tree (sym c.node-found.ensures.fields.production ∙ c.if-found-eq-FUNCTION.true) in
-    by-function c.args.y.now (plain_tree (table_of c.args.y.now) c.args.node) _ _ _ e.0 e.1 _ _ _ e.2 (first-is (plain_tree (table_of c.args.y.now) c.args.node) _ c.part-then-found-eq-FUNCTION.ensures.part) (third-is (plain_tree (table_of c.args.y.now) c.args.node) _ c.part-then-found-eq-FUNCTION-2.ensures.part) (ap is_absent (second-is (plain_tree (table_of c.args.y.now) c.args.node) _ c.part.ensures.part) ∙ sym c.returns_nothing-nothing.ensures)
+    λ specials. by-function specials c.args.y.now (plain_tree (table_of c.args.y.now) c.args.node) _ _ _ e.0 e.1 _ _ _ e.2 (first-is (plain_tree (table_of c.args.y.now) c.args.node) _ c.part-then-found-eq-FUNCTION.ensures.part) (third-is (plain_tree (table_of c.args.y.now) c.args.node) _ c.part-then-found-eq-FUNCTION-2.ensures.part) (ap is_absent (second-is (plain_tree (table_of c.args.y.now) c.args.node) _ c.part.ensures.part) ∙ sym c.returns_nothing-nothing.ensures)
 
 pub part-requires-then-found-eq-OBJECT-clause-part : goal.part-requires-then-found-eq-OBJECT-clause-part
 unfolding fields_of local_fields
@@ -32,7 +32,7 @@ part-requires-then-found-eq-OBJECT-clause-part c =
 pub returns-then-found-eq-OBJECT-clause-is : goal.returns-then-found-eq-OBJECT-clause-is
 returns-then-found-eq-OBJECT-clause-is c =
     let e = is-object (plain_tree (table_of c.args.y.now) c.args.node) c.node-found.ensures.tree (sym c.node-found.ensures.fields.production ∙ c.if-found-eq-OBJECT.true) in
-    by-object c.args.y.now (plain_tree (table_of c.args.y.now) c.args.node) _ e.0 e.1 _ e.2 (first-is (plain_tree (table_of c.args.y.now) c.args.node) _ c.part-then-found-eq-OBJECT.ensures.part)
+    λ specials. by-object specials c.args.y.now (plain_tree (table_of c.args.y.now) c.args.node) _ e.0 e.1 _ e.2 (first-is (plain_tree (table_of c.args.y.now) c.args.node) _ c.part-then-found-eq-OBJECT.ensures.part)
 
 pub part-requires-then-found-eq-THUNK-clause-part : goal.part-requires-then-found-eq-THUNK-clause-part
 part-requires-then-found-eq-THUNK-clause-part c =
@@ -42,7 +42,7 @@ part-requires-then-found-eq-THUNK-clause-part c =
 pub returns-then-found-eq-THUNK-clause-is : goal.returns-then-found-eq-THUNK-clause-is
 returns-then-found-eq-THUNK-clause-is c =
     let e = is-thunk (plain_tree (table_of c.args.y.now) c.args.node) c.node-found.ensures.tree (sym c.node-found.ensures.fields.production ∙ c.if-found-eq-THUNK.true) in
-    by-thunk c.args.y.now (plain_tree (table_of c.args.y.now) c.args.node) _ e.0 _ e.1 (first-is (plain_tree (table_of c.args.y.now) c.args.node) _ c.part-then-found-eq-THUNK.ensures.part)
+    λ specials. by-thunk specials c.args.y.now (plain_tree (table_of c.args.y.now) c.args.node) _ e.0 _ e.1 (first-is (plain_tree (table_of c.args.y.now) c.args.node) _ c.part-then-found-eq-THUNK.ensures.part)
 
 pub part-requires-then-found-eq-TABLE_THUNK-clause-part : goal.part-requires-then-found-eq-TABLE_THUNK-clause-part
 part-requires-then-found-eq-TABLE_THUNK-clause-part c =
@@ -52,7 +52,7 @@ part-requires-then-found-eq-TABLE_THUNK-clause-part c =
 pub returns-then-found-eq-TABLE_THUNK-clause-is : goal.returns-then-found-eq-TABLE_THUNK-clause-is
 returns-then-found-eq-TABLE_THUNK-clause-is c =
     let e = is-table_thunk (plain_tree (table_of c.args.y.now) c.args.node) c.node-found.ensures.tree (sym c.node-found.ensures.fields.production ∙ c.if-found-eq-TABLE_THUNK.true) in
-    by-thunk c.args.y.now (plain_tree (table_of c.args.y.now) c.args.node) _ e.0 _ e.1 (first-is (plain_tree (table_of c.args.y.now) c.args.node) _ c.part-then-found-eq-TABLE_THUNK.ensures.part)
+    λ specials. by-thunk specials c.args.y.now (plain_tree (table_of c.args.y.now) c.args.node) _ e.0 _ e.1 (first-is (plain_tree (table_of c.args.y.now) c.args.node) _ c.part-then-found-eq-TABLE_THUNK.ensures.part)
 
 pub part-requires-then-found-eq-COVARIANT_THUNK-clause-part : goal.part-requires-then-found-eq-COVARIANT_THUNK-clause-part
 part-requires-then-found-eq-COVARIANT_THUNK-clause-part c =
@@ -62,7 +62,7 @@ part-requires-then-found-eq-COVARIANT_THUNK-clause-part c =
 pub returns-then-found-eq-COVARIANT_THUNK-clause-is : goal.returns-then-found-eq-COVARIANT_THUNK-clause-is
 returns-then-found-eq-COVARIANT_THUNK-clause-is c =
     let e = is-covariant_thunk (plain_tree (table_of c.args.y.now) c.args.node) c.node-found.ensures.tree (sym c.node-found.ensures.fields.production ∙ c.if-found-eq-COVARIANT_THUNK.true) in
-    by-thunk c.args.y.now (plain_tree (table_of c.args.y.now) c.args.node) _ e.0 _ e.1 (first-is (plain_tree (table_of c.args.y.now) c.args.node) _ c.part-then-found-eq-COVARIANT_THUNK.ensures.part)
+    λ specials. by-thunk specials c.args.y.now (plain_tree (table_of c.args.y.now) c.args.node) _ e.0 _ e.1 (first-is (plain_tree (table_of c.args.y.now) c.args.node) _ c.part-then-found-eq-COVARIANT_THUNK.ensures.part)
 
 pub part-requires-then-found-eq-WIDE_THUNK-clause-part : goal.part-requires-then-found-eq-WIDE_THUNK-clause-part
 part-requires-then-found-eq-WIDE_THUNK-clause-part c =
@@ -72,7 +72,7 @@ part-requires-then-found-eq-WIDE_THUNK-clause-part c =
 pub returns-then-found-eq-WIDE_THUNK-clause-is : goal.returns-then-found-eq-WIDE_THUNK-clause-is
 returns-then-found-eq-WIDE_THUNK-clause-is c =
     let e = is-wide_thunk (plain_tree (table_of c.args.y.now) c.args.node) c.node-found.ensures.tree (sym c.node-found.ensures.fields.production ∙ c.if-found-eq-WIDE_THUNK.true) in
-    by-thunk c.args.y.now (plain_tree (table_of c.args.y.now) c.args.node) _ e.0 _ e.1 (first-is (plain_tree (table_of c.args.y.now) c.args.node) _ c.part-then-found-eq-WIDE_THUNK.ensures.part)
+    λ specials. by-thunk specials c.args.y.now (plain_tree (table_of c.args.y.now) c.args.node) _ e.0 _ e.1 (first-is (plain_tree (table_of c.args.y.now) c.args.node) _ c.part-then-found-eq-WIDE_THUNK.ensures.part)
 
 pub part-requires-then-found-eq-CLONE-clause-part : goal.part-requires-then-found-eq-CLONE-clause-part
 unfolding fields_of local_fields
@@ -83,8 +83,8 @@ part-requires-then-found-eq-CLONE-clause-part c =
 pub returns-then-found-eq-CLONE-clause-is : goal.returns-then-found-eq-CLONE-clause-is
 returns-then-found-eq-CLONE-clause-is c =
     let e = is-clone (plain_tree (table_of c.args.y.now) c.args.node) c.node-found.ensures.tree (sym c.node-found.ensures.fields.production ∙ c.if-found-eq-CLONE.true) in
-    by-clone c.args.y.now (plain_tree (table_of c.args.y.now) c.args.node) _ e.0 _ e.1 (first-is (plain_tree (table_of c.args.y.now) c.args.node) _ c.part-then-found-eq-CLONE.ensures.part)
+    λ specials. by-clone specials c.args.y.now (plain_tree (table_of c.args.y.now) c.args.node) _ e.0 _ e.1 (first-is (plain_tree (table_of c.args.y.now) c.args.node) _ c.part-then-found-eq-CLONE.ensures.part)
 
 pub returns-clause-is : goal.returns-clause-is
-returns-clause-is c u =
-    encoding-other (plain_tree (table_of c.args.y.now) c.args.node) u (λ p. c.if-found-eq-FUNCTION.false (c.node-found.ensures.fields.production ∙ p)) (λ p. c.if-found-eq-OBJECT.false (c.node-found.ensures.fields.production ∙ p)) (λ p. c.if-found-eq-THUNK.false (c.node-found.ensures.fields.production ∙ p)) (λ p. c.if-found-eq-TABLE_THUNK.false (c.node-found.ensures.fields.production ∙ p)) (λ p. c.if-found-eq-COVARIANT_THUNK.false (c.node-found.ensures.fields.production ∙ p)) (λ p. c.if-found-eq-WIDE_THUNK.false (c.node-found.ensures.fields.production ∙ p)) (λ p. c.if-found-eq-CLONE.false (c.node-found.ensures.fields.production ∙ p)) ∙ by-no-encoding c.args.y.now u
+returns-clause-is c k u =
+    encoding-other k (plain_tree (table_of c.args.y.now) c.args.node) u (λ p. c.if-found-eq-FUNCTION.false (c.node-found.ensures.fields.production ∙ p)) (λ p. c.if-found-eq-OBJECT.false (c.node-found.ensures.fields.production ∙ p)) (λ p. c.if-found-eq-THUNK.false (c.node-found.ensures.fields.production ∙ p)) (λ p. c.if-found-eq-TABLE_THUNK.false (c.node-found.ensures.fields.production ∙ p)) (λ p. c.if-found-eq-COVARIANT_THUNK.false (c.node-found.ensures.fields.production ∙ p)) (λ p. c.if-found-eq-WIDE_THUNK.false (c.node-found.ensures.fields.production ∙ p)) (λ p. c.if-found-eq-CLONE.false (c.node-found.ensures.fields.production ∙ p)) ∙ by-no-encoding k c.args.y.now u

@@ -36,7 +36,7 @@ take_elements-requires-clause-item c = (subst (IsTask c.args.y.now c.args.most) 
 pub returns-in-Skip-clause-lists : goal.returns-in-Skip-clause-lists
 returns-in-Skip-clause-lists c =
     subst (λ t. Lists c.args.found.now c.skip.new.self (marks_of_task c.args.y.now t ++ marks_of_tasks c.args.y.now c.args.tasks.now) (marks_of_tasks c.args.y.now c.args.tasks.now)) (sym c.in-Skip.is)
-    (lists-skip c.args.y.now c.args.found.now c.skip.new.self c.in-Skip.length (marks_of_tasks c.args.y.now c.args.tasks.now) c.skip.ensures.parts c.skip.ensures.place)
+    (lists-skip c.args.y.now c.args.found.now c.skip.new.self c.in-Skip.length (marks_of_tasks c.args.y.now c.args.tasks.now) c.skip.ensures.stretches c.skip.ensures.place)
 
 pub returns-in-Skip-clause-weight : goal.returns-in-Skip-clause-weight
 unfolding weight_of_task
@@ -46,9 +46,21 @@ pub returns-in-Begin-clause-lists : goal.returns-in-Begin-clause-lists
 returns-in-Begin-clause-lists c =
     on_ok_weaker c.begin.result
     (λ p. subst (λ t. Lists c.args.found.now c.begin.new.self (marks_of_task c.args.y.now t ++ marks_of_tasks c.args.y.now c.args.tasks.now) (marks_of_tasks c.args.y.now c.args.tasks.now)) (sym c.in-Begin.is)
-    (lists-begin c.args.y.now c.args.found.now c.begin.new.self c.in-Begin.role c.in-Begin.length (marks_of_tasks c.args.y.now c.args.tasks.now) p c.begin.ensures.place))
-    c.begin.ensures.parts
+    (lists-begin c.args.y.now c.args.found.now c.begin.new.self c.in-Begin.role c.in-Begin.ordinal c.in-Begin.length (marks_of_tasks c.args.y.now c.args.tasks.now) p c.begin.ensures.place))
+    c.begin.ensures.stretches
 
 pub returns-in-Begin-clause-weight : goal.returns-in-Begin-clause-weight
 unfolding weight_of_task
-returns-in-Begin-clause-weight c = on_ok_weaker c.begin.result (λ p. omega (arith, ap (weight_of_task c.args.y.now) c.in-Begin.is)) c.begin.ensures.parts
+returns-in-Begin-clause-weight c = on_ok_weaker c.begin.result (λ p. omega (arith, ap (weight_of_task c.args.y.now) c.in-Begin.is)) c.begin.ensures.stretches
+
+pub take_encoding-requires-clause-specials : goal.take_encoding-requires-clause-specials
+unfolding IsTask
+take_encoding-requires-clause-specials c = (subst (IsTask c.args.y.now c.args.most) c.in-Encoding.is c.requires.task).2
+
+pub take_name-requires-clause-tags : goal.take_name-requires-clause-tags
+unfolding IsTask
+take_name-requires-clause-tags c = (subst (IsTask c.args.y.now c.args.most) c.in-Name.is c.requires.task).2
+
+pub take_elements-requires-clause-numbers : goal.take_elements-requires-clause-numbers
+unfolding IsTask
+take_elements-requires-clause-numbers c = (subst (IsTask c.args.y.now c.args.most) c.in-Elements.is c.requires.task).2

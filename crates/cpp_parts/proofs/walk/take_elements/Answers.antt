@@ -1,3 +1,5 @@
+use Rattle.std.proofs.Common.{arith}
+use Rattle.sym_print.specs.Unshared.{cost_of}
 use Rattle.std.proofs.Common.{◌∙◌, sym, ap}
 use Rattle.std.proofs.lemmas.Result.{on_ok_weaker}
 use Rattle.std.proofs.lemmas.List.Elements.{All-same}
@@ -11,10 +13,14 @@ push_elements-requires-clause-paid c =
     parts-payable c.args.y.now c.args.most c.args.item _ c.requires.item (c.parts-parts.ensures.parts ∙ ap (printed_by c.args.y.now) (sym c.deref.ensures.0)) (All-same (MayBeAsked c.args.y.now) _ _ c.deref.ensures.0 c.parts-parts.ensures.may_come)
 
 pub returns-clause-marks : goal.returns-clause-marks
-returns-clause-marks c = on_ok_weaker c.push_elements.result (λ g. (took-elements c.args.y.now c.args.most _ _ c.args.node c.args.item _ (c.parts-parts.ensures.parts ∙ ap (printed_by c.args.y.now) (sym c.deref.ensures.0)) c.args.role g).0) c.push_elements.ensures.grows
+returns-clause-marks c = on_ok_weaker c.push_elements.result (λ g. (took-elements c.args.y.now c.args.most _ _ c.args.node c.args.item _ (c.parts-parts.ensures.parts ∙ ap (printed_by c.args.y.now) (sym c.deref.ensures.0)) c.args.role c.args.numbering g).0) c.push_elements.ensures.grows
 
 pub returns-clause-tasks : goal.returns-clause-tasks
-returns-clause-tasks c = on_ok_weaker c.push_elements.result (λ g. (took-elements c.args.y.now c.args.most _ _ c.args.node c.args.item _ (c.parts-parts.ensures.parts ∙ ap (printed_by c.args.y.now) (sym c.deref.ensures.0)) c.args.role g).1) c.push_elements.ensures.grows
+returns-clause-tasks c = on_ok_weaker c.push_elements.result (λ g. (took-elements c.args.y.now c.args.most _ _ c.args.node c.args.item _ (c.parts-parts.ensures.parts ∙ ap (printed_by c.args.y.now) (sym c.deref.ensures.0)) c.args.role c.args.numbering g).1) c.push_elements.ensures.grows
 
 pub returns-clause-weight : goal.returns-clause-weight
-returns-clause-weight c = on_ok_weaker c.push_elements.result (λ g. (took-elements c.args.y.now c.args.most _ _ c.args.node c.args.item _ (c.parts-parts.ensures.parts ∙ ap (printed_by c.args.y.now) (sym c.deref.ensures.0)) c.args.role g).2) c.push_elements.ensures.grows
+returns-clause-weight c = on_ok_weaker c.push_elements.result (λ g. (took-elements c.args.y.now c.args.most _ _ c.args.node c.args.item _ (c.parts-parts.ensures.parts ∙ ap (printed_by c.args.y.now) (sym c.deref.ensures.0)) c.args.role c.args.numbering g).2) c.push_elements.ensures.grows
+
+pub push_elements-requires-clause-numbers : goal.push_elements-requires-clause-numbers
+push_elements-requires-clause-numbers c =
+    omega (arith, c.requires.numbers, ap cost_of (c.parts-parts.ensures.parts ∙ ap (printed_by c.args.y.now) (sym c.deref.ensures.0)))

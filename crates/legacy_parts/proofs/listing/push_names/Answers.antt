@@ -13,6 +13,6 @@ returns-clause-parts c =
     let root = c.in_ok-begin-2.ensures in
     on_ok_weaker c.push_base-2.result (λ is.
     is ∙ listed-later c.args.found.now c.begin.new.self c.begin-2.new.self c.skip.new.self c.args.root c.args.names c.requires.begins
-    scope.parts scope.place root.parts root.place c.skip.ensures.parts c.skip.ensures.place
+    scope.stretches scope.place root.stretches root.place c.skip.ensures.stretches c.skip.ensures.place
     ∙ sym (more-names c.args.root c.args.names c.if-names-eq0.false))
     c.push_base-2.ensures.parts

@@ -27,4 +27,4 @@ returns-in-Text-first_of-clause-grows c =
 pub returns-in_ok-push_of_trait-in-Item-first_of-clause-grows : goal.returns-in_ok-push_of_trait-in-Item-first_of-clause-grows
 unfolding ◌before◌
 returns-in_ok-push_of_trait-in-Item-first_of-clause-grows c =
-    on_ok_weaker c.push_after.result (λ is. grow-same c.args.y.now c.args.most _ _ _ _ _ _ (grow-then c.args.y.now c.args.most _ _ _ _ _ _ _ c.in_ok-push_of_trait-in-Item-first_of.ensures.grows (grow-after c.args.y.now c.args.most _ _ _ (bytes_of_part c.args.y.now c.in-Text.opening.now) (text_of (unshared_of c.args.y.now c.in-Item-first_of.self_type.now)) is)) (type-text-item _ _ _ _ _ c.in-Text.ensures.0 c.in-Item-first_of.ensures.0) (omega (arith, ap steps_of_parts c.in-Text.ensures.0, ap steps_of_parts c.in-Item-first_of.ensures.0))) c.push_after.ensures.tasks
+    on_ok_weaker c.push_after.result (λ is. grow-same c.args.y.now c.args.most _ _ _ _ _ _ (grow-then c.args.y.now c.args.most _ _ _ _ _ _ _ c.in_ok-push_of_trait-in-Item-first_of.ensures.grows (grow-after c.args.y.now c.args.most _ _ _ _ (bytes_of_part c.args.y.now c.in-Text.opening.now) (text_of (unshared_of c.args.y.now c.in-Item-first_of.self_type.now)) is)) (type-text-item _ _ _ _ _ c.in-Text.ensures.0 c.in-Item-first_of.ensures.0) (omega (arith, ap steps_of_parts c.in-Text.ensures.0, ap steps_of_parts c.in-Item-first_of.ensures.0))) c.push_after.ensures.tasks

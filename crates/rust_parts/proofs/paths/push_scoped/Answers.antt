@@ -24,4 +24,4 @@ pub returns-clause-grows : goal.returns-clause-grows
 unfolding ◌before◌ scoped
 returns-clause-grows c =
     let cut = front-lengths (bytes_of_part c.args.y.now c.args.colons.now) c.in_ok-between.between c.min-front.result (length-of-text (unshared_of c.args.y.now) (bytes_of_part c.args.y.now) _ _ c.requires.is_text c.in_ok-between.ensures.length) c.min-front.ensures in
-    on_ok_weaker c.push-6.result (λ is. grow-same c.args.y.now c.args.most _ _ _ _ _ _ (grow-then c.args.y.now c.args.most _ _ _ _ _ _ _ (grow-then c.args.y.now c.args.most _ _ _ _ _ _ _ (grow-begin c.args.y.now c.args.most _ _ _ _ _ _ _ c.in_ok-push-3.ensures.tasks (length-base (drop 2 (bytes_of_part c.args.y.now c.args.colons.now)) (printed_by c.args.y.now c.args.parts.now) _ _ cut.1 c.in_ok-length.ensures.length) (grow-then c.args.y.now c.args.most _ _ _ _ _ _ _ (grow-skip c.args.y.now c.args.most _ _ _ (text_of (printed_by c.args.y.now c.args.parts.now)) c.in_ok-push.ensures.tasks c.in_ok-length.ensures.length) (grow-skip c.args.y.now c.args.most _ _ _ (drop 2 (bytes_of_part c.args.y.now c.args.colons.now)) c.in_ok-push-2.ensures.tasks cut.1))) (grow-skip c.args.y.now c.args.most _ _ _ (take 2 (bytes_of_part c.args.y.now c.args.colons.now)) c.in_ok-push-4.ensures.tasks cut.0)) (grow-begin c.args.y.now c.args.most _ _ _ _ _ _ _ is (length-scope _ _ _ c.in_ok-outer.ensures.length) (grow-scope c.args.y.now c.args.most _ _ _ _ c.in_ok-push-5.ensures.tasks c.requires.parent c.requires.inner))) refl (omega arith)) c.push-6.ensures.tasks
+    on_ok_weaker c.push-6.result (λ is. grow-same c.args.y.now c.args.most _ _ _ _ _ _ (grow-then c.args.y.now c.args.most _ _ _ _ _ _ _ (grow-then c.args.y.now c.args.most _ _ _ _ _ _ _ (grow-begin c.args.y.now c.args.most _ _ _ _ _ _ _ _ c.in_ok-push-3.ensures.tasks (length-base (drop 2 (bytes_of_part c.args.y.now c.args.colons.now)) (printed_by c.args.y.now c.args.parts.now) _ _ cut.1 c.in_ok-length.ensures.length) (grow-then c.args.y.now c.args.most _ _ _ _ _ _ _ (grow-skip c.args.y.now c.args.most _ _ _ (text_of (printed_by c.args.y.now c.args.parts.now)) c.in_ok-push.ensures.tasks c.in_ok-length.ensures.length) (grow-skip c.args.y.now c.args.most _ _ _ (drop 2 (bytes_of_part c.args.y.now c.args.colons.now)) c.in_ok-push-2.ensures.tasks cut.1))) (grow-skip c.args.y.now c.args.most _ _ _ (take 2 (bytes_of_part c.args.y.now c.args.colons.now)) c.in_ok-push-4.ensures.tasks cut.0)) (grow-begin c.args.y.now c.args.most _ _ _ _ _ _ _ _ is (length-scope _ _ _ _ c.in_ok-outer.ensures.length) (grow-scope c.args.y.now c.args.most _ _ _ _ _ c.in_ok-push-5.ensures.tasks c.requires.parent c.requires.inner c.requires.lists))) refl (omega arith)) c.push-6.ensures.tasks

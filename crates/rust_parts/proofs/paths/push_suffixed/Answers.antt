@@ -27,4 +27,4 @@ returns-in-Item-first_of-clause-grows c =
 pub returns-in_ok-push_alone-in-Text-first_of-clause-grows : goal.returns-in_ok-push_alone-in-Text-first_of-clause-grows
 unfolding ◌before◌
 returns-in_ok-push_alone-in-Text-first_of-clause-grows c =
-    on_ok_weaker c.push.result (λ is. grow-same c.args.y.now c.args.most _ _ _ _ _ _ (grow-then c.args.y.now c.args.most _ _ _ _ _ _ _ (grow-then c.args.y.now c.args.most _ _ _ _ _ _ _ (grow-plain c.args.y.now c.args.most _ _ (printed_by c.args.y.now c.in-Text-first_of.others.now) c.in_ok-push_plain-in-Text-first_of.ensures.tasks) (grow-alone c.args.y.now c.args.most _ _ _ _ (bytes_of_part c.args.y.now c.in-Text-first_of.suffix.now) c.in_ok-push_alone-in-Text-first_of.ensures.tasks (length-of-text (unshared_of c.args.y.now) (bytes_of_part c.args.y.now) _ _ c.in-Text-first_of.ensures.1 c.in_ok-length-in-Text-first_of.ensures.length))) (grow-skip c.args.y.now c.args.most _ _ _ (bytes_of_part c.args.y.now c.in-Text.opening.now) is (length-of-text (unshared_of c.args.y.now) (bytes_of_part c.args.y.now) _ _ c.in-Text.ensures.1 c.in_ok-front-in-Text-first_of.ensures.length))) (suffix-text-text _ _ _ _ _ c.in-Text.ensures.0 c.in-Text-first_of.ensures.0) (omega arith)) c.push.ensures.tasks
+    on_ok_weaker c.push.result (λ is. grow-same c.args.y.now c.args.most _ _ _ _ _ _ (grow-then c.args.y.now c.args.most _ _ _ _ _ _ _ (grow-then c.args.y.now c.args.most _ _ _ _ _ _ _ (grow-plain c.args.y.now c.args.most _ _ (printed_by c.args.y.now c.in-Text-first_of.others.now) c.in_ok-push_plain-in-Text-first_of.ensures.tasks) (grow-alone c.args.y.now c.args.most _ _ _ _ _ (bytes_of_part c.args.y.now c.in-Text-first_of.suffix.now) c.in_ok-push_alone-in-Text-first_of.ensures.tasks (length-of-text (unshared_of c.args.y.now) (bytes_of_part c.args.y.now) _ _ c.in-Text-first_of.ensures.1 c.in_ok-length-in-Text-first_of.ensures.length))) (grow-skip c.args.y.now c.args.most _ _ _ (bytes_of_part c.args.y.now c.in-Text.opening.now) is (length-of-text (unshared_of c.args.y.now) (bytes_of_part c.args.y.now) _ _ c.in-Text.ensures.1 c.in_ok-front-in-Text-first_of.ensures.length))) (suffix-text-text _ _ _ _ _ c.in-Text.ensures.0 c.in-Text-first_of.ensures.0) (omega arith)) c.push.ensures.tasks

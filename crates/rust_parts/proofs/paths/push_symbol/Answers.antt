@@ -17,4 +17,4 @@ returns-in-Text-clause-grows c =
 
 pub returns-in_ok-push_suffixed-in-Item-clause-grows : goal.returns-in_ok-push_suffixed-in-Item-clause-grows
 returns-in_ok-push_suffixed-in-Item-clause-grows c =
-    on_ok_weaker c.push.result (λ is. grow-same c.args.y.now c.args.most _ _ _ _ _ _ (grow-then c.args.y.now c.args.most _ _ _ _ _ _ _ c.in_ok-push_suffixed-in-Item.ensures.grows (grow-name c.args.y.now c.args.most _ _ _ _ is c.root_path.ensures.below c.in-Item.ensures.1)) (symbol-item _ _ _ _ _ c.root_path.ensures.path c.in-Item.ensures.0) (omega (arith, ap steps_of_parts c.in-Item.ensures.0))) c.push.ensures.tasks
+    on_ok_weaker c.push.result (λ is. grow-same c.args.y.now c.args.most _ _ _ _ _ _ (grow-then c.args.y.now c.args.most _ _ _ _ _ _ _ c.in_ok-push_suffixed-in-Item.ensures.grows (grow-name c.args.y.now c.args.most _ _ _ _ _ is c.root_path.ensures.below c.in-Item.ensures.1 (omega (arith, c.in-Item.ensures.1.1)))) (symbol-item _ _ _ _ _ c.root_path.ensures.path c.in-Item.ensures.0) (omega (arith, ap steps_of_parts c.in-Item.ensures.0))) c.push.ensures.tasks

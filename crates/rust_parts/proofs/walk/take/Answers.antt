@@ -19,7 +19,7 @@ take_apart-requires c =
 
 pub returns-in-Skip-clause-lists : goal.returns-in-Skip-clause-lists
 returns-in-Skip-clause-lists c =
-    subst (λ t. Lists c.args.found.now c.skip.new.self (marks_of_task (marked_of c.args.y.now) t ++ marks_of_tasks (marked_of c.args.y.now) c.args.tasks.now) (marks_of_tasks (marked_of c.args.y.now) c.args.tasks.now)) (sym c.in-Skip.is) (lists-skip (marked_of c.args.y.now) (IsApart c.args.y.now c.args.most) (weight_of c.args.y.now) c.args.found.now c.skip.new.self c.in-Skip.length (marks_of_tasks (marked_of c.args.y.now) c.args.tasks.now) c.skip.ensures.parts c.skip.ensures.place)
+    subst (λ t. Lists c.args.found.now c.skip.new.self (marks_of_task (marked_of c.args.y.now) t ++ marks_of_tasks (marked_of c.args.y.now) c.args.tasks.now) (marks_of_tasks (marked_of c.args.y.now) c.args.tasks.now)) (sym c.in-Skip.is) (lists-skip (marked_of c.args.y.now) (IsApart c.args.y.now c.args.most) (weight_of c.args.y.now) c.args.found.now c.skip.new.self c.in-Skip.length (marks_of_tasks (marked_of c.args.y.now) c.args.tasks.now) c.skip.ensures.stretches c.skip.ensures.place)
 
 pub returns-in-Skip-clause-weight : goal.returns-in-Skip-clause-weight
 unfolding weight_of_task
@@ -28,12 +28,12 @@ returns-in-Skip-clause-weight c =
 
 pub returns-in-Begin-clause-lists : goal.returns-in-Begin-clause-lists
 returns-in-Begin-clause-lists c =
-    on_ok_weaker c.begin.result (λ p. subst (λ t. Lists c.args.found.now c.begin.new.self (marks_of_task (marked_of c.args.y.now) t ++ marks_of_tasks (marked_of c.args.y.now) c.args.tasks.now) (marks_of_tasks (marked_of c.args.y.now) c.args.tasks.now)) (sym c.in-Begin.is) (lists-begin (marked_of c.args.y.now) (IsApart c.args.y.now c.args.most) (weight_of c.args.y.now) c.args.found.now c.begin.new.self c.in-Begin.role c.in-Begin.length (marks_of_tasks (marked_of c.args.y.now) c.args.tasks.now) p c.begin.ensures.place)) c.begin.ensures.parts
+    on_ok_weaker c.begin.result (λ p. subst (λ t. Lists c.args.found.now c.begin.new.self (marks_of_task (marked_of c.args.y.now) t ++ marks_of_tasks (marked_of c.args.y.now) c.args.tasks.now) (marks_of_tasks (marked_of c.args.y.now) c.args.tasks.now)) (sym c.in-Begin.is) (lists-begin (marked_of c.args.y.now) (IsApart c.args.y.now c.args.most) (weight_of c.args.y.now) c.args.found.now c.begin.new.self c.in-Begin.role c.in-Begin.ordinal c.in-Begin.length (marks_of_tasks (marked_of c.args.y.now) c.args.tasks.now) p c.begin.ensures.place)) c.begin.ensures.stretches
 
 pub returns-in-Begin-clause-weight : goal.returns-in-Begin-clause-weight
 unfolding weight_of_task
 returns-in-Begin-clause-weight c =
-    on_ok_weaker c.begin.result (λ p. omega (arith, ap (weight_of_task (weight_of c.args.y.now)) c.in-Begin.is)) c.begin.ensures.parts
+    on_ok_weaker c.begin.result (λ p. omega (arith, ap (weight_of_task (weight_of c.args.y.now)) c.in-Begin.is)) c.begin.ensures.stretches
 
 pub returns-in-Later-clause-tasks : goal.returns-in-Later-clause-tasks
 returns-in-Later-clause-tasks c =

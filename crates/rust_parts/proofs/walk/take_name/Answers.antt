@@ -1,6 +1,6 @@
 use Rattle.std.proofs.lemmas.Result.{on_ok_weaker}
 use Rattle.std.proofs.Common.{sym, ap, arith, ◌∙◌}
-use Rattle.sym_print.specs.Unshared.{steps_of_parts}
+use Rattle.sym_print.specs.Unshared.{cost_of, steps_of_parts}
 use Rattle.rust_tree.specs.Layout.{MayCome}
 use Rattle.rust_parts.specs.Tasks.{printed_by}
 use Rattle.rust_parts.proofs.Growing.{grow-same}
@@ -21,4 +21,8 @@ push_name-requires-clause-paid c =
 
 pub returns-clause-grows : goal.returns-clause-grows
 returns-clause-grows c =
-    on_ok_weaker c.push_name.result (λ g. grow-same c.args.y.now c.args.most _ _ _ _ _ _ g (name-by c.args.y.now c.args.node c.path_sort-sort.result c.path_sort-sort.ensures _ ∙ sym (ap (name (path_at c.args.y.now c.args.node)) (c.parts-parts.ensures.parts ∙ ap (printed_by c.args.y.now) (sym c.deref.ensures.0)))) (omega (arith, ap steps_of_parts (c.parts-parts.ensures.parts ∙ ap (printed_by c.args.y.now) (sym c.deref.ensures.0))))) c.push_name.ensures.grows
+    on_ok_weaker c.push_name.result (λ g. grow-same c.args.y.now c.args.most _ _ _ _ _ _ g (name-by c.args.y.now c.args.lists c.args.node c.path_sort-sort.result c.path_sort-sort.ensures _ ∙ sym (ap (name c.args.lists (path_at c.args.y.now c.args.node)) (c.parts-parts.ensures.parts ∙ ap (printed_by c.args.y.now) (sym c.deref.ensures.0)))) (omega (arith, ap steps_of_parts (c.parts-parts.ensures.parts ∙ ap (printed_by c.args.y.now) (sym c.deref.ensures.0))))) c.push_name.ensures.grows
+
+pub push_name-requires-clause-lists : goal.push_name-requires-clause-lists
+push_name-requires-clause-lists c =
+    omega (arith, c.requires.lists, ap cost_of (c.parts-parts.ensures.parts ∙ ap (printed_by c.args.y.now) (sym c.deref.ensures.0)))

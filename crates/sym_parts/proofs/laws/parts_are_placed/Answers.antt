@@ -1,5 +1,5 @@
-use Rattle.sym_parts.proofs.Placing.{placed}
+use Rattle.sym_parts.proofs.PartBytes.{parts-placed}
 use Rattle.sym_parts.proofs.laws.parts_are_placed.Goals as goal
 
 pub returns : goal.returns
-returns c = λ m. placed m
+returns c = λ s m. parts-placed s m

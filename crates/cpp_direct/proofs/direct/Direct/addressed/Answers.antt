@@ -1,6 +1,4 @@
-use Rattle.std.proofs.Common.{◌∷◌, [], arith}
-use Rattle.cpp_direct.proofs.FunctionsWithin.{address-ended}
-use Rattle.cpp_direct.proofs.TypesRead.{then-there, there}
+use Rattle.cpp_direct.proofs.ForAnswers.{◌∷◌, [], arith, address-ended, then-there, there}
 use Rattle.cpp_direct.proofs.direct.Direct.addressed.Goals as goal
 
 pub returns : goal.returns

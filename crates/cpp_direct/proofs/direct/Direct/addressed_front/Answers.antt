@@ -1,5 +1,4 @@
-use Rattle.std.proofs.Common.{◌++◌, ◌∙◌, ap, refl}
-use Rattle.cpp_direct.proofs.FunctionsWithin.{front-cut, name-inside}
+use Rattle.cpp_direct.proofs.ForAnswers.{◌++◌, ◌∙◌, ap, refl, front-cut, name-inside}
 use Rattle.cpp_direct.proofs.direct.Direct.addressed_front.Goals as goal
 
 pub leave_out-requires : goal.leave_out-requires

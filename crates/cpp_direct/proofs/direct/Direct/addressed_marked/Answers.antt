@@ -1,4 +1,4 @@
-use Rattle.cpp_direct.proofs.FunctionsWithin.{marks-shown}
+use Rattle.cpp_direct.proofs.ForAnswers.{marks-shown}
 use Rattle.cpp_direct.proofs.direct.Direct.addressed_marked.Goals as goal
 
 pub addressed-requires : goal.addressed-requires

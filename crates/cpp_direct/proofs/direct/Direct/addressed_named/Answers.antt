@@ -1,6 +1,4 @@
-use Rattle.std.proofs.Common.{true, refl, sym, ◌∙◌}
-use Rattle.cpp_direct.proofs.FunctionsWithin.{address-items, front-addressed, now-scoped, plain-awaits}
-use Rattle.cpp_direct.proofs.Nesting.{arguments-noted}
+use Rattle.cpp_direct.proofs.ForAnswers.{true, refl, sym, ◌∙◌, address-items, front-addressed, now-scoped, plain-awaits, arguments-noted}
 use Rattle.cpp_direct.proofs.direct.Direct.addressed_named.Goals as goal
 
 pub addressed_parameters-requires-clause-awaits : goal.addressed_parameters-requires-clause-awaits

@@ -1,14 +1,11 @@
-use Rattle.std.proofs.Common.{arith, refl, sym, ◌∙◌}
-use Rattle.cpp_direct.specs.declared.open.Open.TheVariants as opens
-use Rattle.cpp_direct.proofs.FunctionsWithin.{function-shown, function-unshown, led-inside, next-led}
-use Rattle.cpp_direct.proofs.Scopes.{entry-scoped}
+use Rattle.cpp_direct.proofs.ForAnswers.{arith, refl, sym, ◌∙◌, function-shown, function-unshown, led-inside, next-led, entry-scoped, Open}
 use Rattle.cpp_direct.proofs.direct.Direct.addressed_parameter.Goals as goal
 
 pub returns-then-byte_at-ne69 : goal.returns-then-byte_at-ne69
 returns-then-byte_at-ne69 g c =
     let p = c.requires.read.1 in
     next-led c.args.self.now c.push_pair.new.self p c.in_ok-push_pair.ensures (λ os h. h)
-    (λ around h. entry-scoped p.scope around (opens.Addressed c.args.mark c.args.to c.requires.read.0) c.requires.read.0 p.rest refl refl p.leads.named h)
+    (λ around h. entry-scoped p.scope around (Open.Addressed c.args.mark c.args.to c.requires.read.0) c.requires.read.0 p.rest refl refl p.leads.named h)
 
 pub leave_out-requires : goal.leave_out-requires
 leave_out-requires g c = record { within = led-inside c.args.self.now c.args.to c.requires.read.1 c.requires.read.1.leads.to_is }

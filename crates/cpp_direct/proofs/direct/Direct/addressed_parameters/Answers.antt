@@ -1,8 +1,4 @@
-use Rattle.std.proofs.Common.{arith, refl, reverse, sym, ◌∙◌}
-use Rattle.cpp_direct.specs.declared.open.Open.TheVariants as opens
-use Rattle.cpp_direct.proofs.FunctionsWithin.{first-led, void-shown, void-unshown}
-use Rattle.cpp_direct.proofs.Scopes.{entry-scoped}
-use Rattle.cpp_direct.proofs.TypesRead.{there}
+use Rattle.cpp_direct.proofs.ForAnswers.{arith, refl, reverse, sym, ◌∙◌, first-led, void-shown, void-unshown, entry-scoped, there, Open}
 use Rattle.cpp_direct.proofs.direct.Direct.addressed_parameters.Goals as goal
 
 pub addressed-requires : goal.addressed-requires
@@ -22,6 +18,6 @@ addressed_marked-requires g c = record {
 pub returns : goal.returns
 returns g c =
     let p = c.requires.awaits in
-    let entry = opens.Addressed c.args.mark c.args.to c.args.argument in
+    let entry = Open.Addressed c.args.mark c.args.to c.args.argument in
     first-led _ c.args.self.now c.push_byte.new.self _ entry p p.leads c.in_ok-push_byte.ensures
     c.in_ok-push.ensures.items refl refl refl refl (λ os h. h) (λ around h. entry-scoped p.scope around entry c.args.argument (reverse c.args.self.now.waiting.list.items) refl refl p.leads.named h)

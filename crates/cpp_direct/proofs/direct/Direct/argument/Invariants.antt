@@ -1,6 +1,5 @@
 -- The open entries have the arguments that their remainder has.
-use Rattle.std.proofs.Common.{◌≡◌, reverse}
-use Rattle.cpp_direct.specs.WriterInvariant.{argument_of}
+use Rattle.cpp_direct.proofs.ForAnswers.{◌≡◌, reverse, argument_of}
 use Rattle.cpp_direct.proofs.direct.Direct.argument.Given as goal
 
 abbrev pub invariant-levels : goal.invariant-levels

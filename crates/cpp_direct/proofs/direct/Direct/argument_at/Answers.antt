@@ -1,4 +1,4 @@
-use Rattle.cpp_direct.proofs.Arguments.{argument-type}
+use Rattle.cpp_direct.proofs.ForAnswers.{argument-type}
 use Rattle.cpp_direct.proofs.direct.Direct.argument_at.Goals as goal
 
 pub returns : goal.returns

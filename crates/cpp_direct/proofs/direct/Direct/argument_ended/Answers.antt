@@ -1,5 +1,4 @@
-use Rattle.std.proofs.Common.{false}
-use Rattle.cpp_direct.proofs.Arguments.{known-passes}
+use Rattle.cpp_direct.proofs.ForAnswers.{false, known-passes}
 use Rattle.cpp_direct.proofs.direct.Direct.argument_ended.Goals as goal
 
 pub returns : goal.returns

@@ -1,6 +1,4 @@
-use Rattle.std.proofs.Common.{refl}
-use Rattle.cpp_direct.proofs.Arguments.{argument-enumerator-read}
-use Rattle.cpp_direct.proofs.TypesRead.{popped}
+use Rattle.cpp_direct.proofs.ForAnswers.{refl, argument-enumerator-read, popped}
 use Rattle.cpp_direct.proofs.direct.Direct.argument_enumerator.Goals as goal
 
 pub argument_ended-requires-clause-read : goal.argument_ended-requires-clause-read

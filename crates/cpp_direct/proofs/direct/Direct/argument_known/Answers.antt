@@ -1,6 +1,4 @@
-use Rattle.std.proofs.Common.{arith, false}
-use Rattle.cpp_direct.proofs.Arguments.{argument-closes, known-passes}
-use Rattle.cpp_direct.proofs.TypesRead.{there}
+use Rattle.cpp_direct.proofs.ForAnswers.{arith, false, argument-closes, known-passes, there}
 use Rattle.cpp_direct.proofs.direct.Direct.argument_known.Goals as goal
 
 pub returns-then-is_element_at : goal.returns-then-is_element_at

@@ -1,4 +1,4 @@
-use Rattle.cpp_direct.proofs.ConstructionTables.{derived-inside, table-ended}
+use Rattle.cpp_direct.proofs.ForAnswers.{derived-inside, table-ended}
 use Rattle.cpp_direct.proofs.direct.Direct.base_ended.Goals as goal
 
 pub repeat-requires-clause-to : goal.repeat-requires-clause-to

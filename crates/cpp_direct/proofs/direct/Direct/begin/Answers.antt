@@ -1,6 +1,4 @@
-use Rattle.std.proofs.Common.{◌∷◌, [], arith, refl, sym, ◌∙◌}
-use Rattle.cpp_direct.proofs.Begins.{encoding-awaited}
-use Rattle.cpp_direct.proofs.TypesRead.{then-there, there}
+use Rattle.cpp_direct.proofs.ForAnswers.{◌∷◌, [], arith, refl, sym, ◌∙◌, encoding-awaited, then-there, there}
 use Rattle.cpp_direct.proofs.direct.Direct.begin.Goals as goal
 
 pub begin_encoding-requires-clause-awaits : goal.begin_encoding-requires-clause-awaits

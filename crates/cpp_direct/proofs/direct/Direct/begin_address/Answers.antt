@@ -1,5 +1,4 @@
-use Rattle.std.proofs.Common.{refl}
-use Rattle.cpp_direct.proofs.FunctionsWithin.{address-nested}
+use Rattle.cpp_direct.proofs.ForAnswers.{refl, address-nested}
 use Rattle.cpp_direct.proofs.direct.Direct.begin_address.Goals as goal
 
 pub nest_at-requires-clause-awaits : goal.nest_at-requires-clause-awaits

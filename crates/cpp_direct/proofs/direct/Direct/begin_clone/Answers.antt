@@ -1,7 +1,4 @@
-use Rattle.std.proofs.Common.{◌∷◌, [], arith, refl, sym, ◌∙◌, inl, inr}
-use Rattle.cpp_direct.proofs.Begins.{clone-begins}
-use Rattle.cpp_direct.proofs.Moves.{stands-join}
-use Rattle.cpp_direct.proofs.TypesRead.{then-there}
+use Rattle.cpp_direct.proofs.ForAnswers.{◌∷◌, [], arith, refl, sym, ◌∙◌, inl, inr, clone-begins, stands-join, then-there}
 use Rattle.cpp_direct.proofs.direct.Direct.begin_clone.Goals as goal
 
 pub begin_encoding-requires-clause-awaits : goal.begin_encoding-requires-clause-awaits

@@ -1,4 +1,4 @@
-use Rattle.cpp_direct.proofs.LambdasRead.{begun-in-name}
+use Rattle.cpp_direct.proofs.ForAnswers.{begun-in-name}
 use Rattle.cpp_direct.proofs.direct.Direct.begin_component.Goals as goal
 
 pub returns : goal.returns

@@ -1,6 +1,4 @@
-use Rattle.std.proofs.Common.{arith, refl}
-use Rattle.cpp_direct.proofs.FunctionsWithin.{nest-within, source-within}
-use Rattle.cpp_direct.proofs.TypesRead.{there}
+use Rattle.cpp_direct.proofs.ForAnswers.{arith, refl, nest-within, source-within, there}
 use Rattle.cpp_direct.proofs.direct.Direct.begin_enclosing.Goals as goal
 
 pub enclosing_named-requires-clause-named : goal.enclosing_named-requires-clause-named

@@ -1,5 +1,4 @@
-use Rattle.std.proofs.Common.{refl}
-use Rattle.cpp_direct.proofs.Ending.{front-begins}
+use Rattle.cpp_direct.proofs.ForAnswers.{refl, front-begins}
 use Rattle.cpp_direct.proofs.direct.Direct.begin_front.Goals as goal
 
 pub returns : goal.returns

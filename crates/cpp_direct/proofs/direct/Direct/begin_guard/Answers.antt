@@ -1,6 +1,4 @@
-use Rattle.std.proofs.Common.{◌∷◌, [], arith, refl}
-use Rattle.cpp_direct.proofs.UnscopedNames.{guard-begins}
-use Rattle.cpp_direct.proofs.TypesRead.{then-there, there}
+use Rattle.cpp_direct.proofs.ForAnswers.{◌∷◌, [], arith, refl, guard-begins, then-there, there}
 use Rattle.cpp_direct.proofs.direct.Direct.begin_guard.Goals as goal
 
 pub begin_encoding-requires-clause-awaits : goal.begin_encoding-requires-clause-awaits

@@ -1,6 +1,4 @@
-use Rattle.std.proofs.Common.{arith}
-use Rattle.cpp_direct.proofs.TypesRead.{there}
-use Rattle.cpp_direct.proofs.UnscopedNames.{std-operator-unscoped, std-source-unscoped}
+use Rattle.cpp_direct.proofs.ForAnswers.{arith, there, std-operator-unscoped, std-source-unscoped}
 use Rattle.cpp_direct.proofs.direct.Direct.begin_in_std.Goals as goal
 
 pub unscoped_named-requires-clause-named : goal.unscoped_named-requires-clause-named

@@ -1,4 +1,4 @@
-use Rattle.cpp_direct.proofs.LambdasRead.{begun-in-function}
+use Rattle.cpp_direct.proofs.ForAnswers.{begun-in-function}
 use Rattle.cpp_direct.proofs.direct.Direct.begin_lambda.Goals as goal
 
 pub returns : goal.returns

@@ -1,6 +1,4 @@
-use Rattle.std.proofs.Common.{arith}
-use Rattle.cpp_direct.proofs.UnscopedNames.{local-begins}
-use Rattle.cpp_direct.proofs.TypesRead.{there}
+use Rattle.cpp_direct.proofs.ForAnswers.{arith, local-begins, there}
 use Rattle.cpp_direct.proofs.direct.Direct.begin_local.Goals as goal
 
 pub begin_encoding-requires-clause-awaits : goal.begin_encoding-requires-clause-awaits

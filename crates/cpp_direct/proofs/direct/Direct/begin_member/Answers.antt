@@ -1,6 +1,4 @@
-use Rattle.std.proofs.Common.{arith}
-use Rattle.cpp_direct.proofs.MemberFunctions.{member-begins}
-use Rattle.cpp_direct.proofs.TypesRead.{there}
+use Rattle.cpp_direct.proofs.ForAnswers.{arith, member-begins, there}
 use Rattle.cpp_direct.proofs.direct.Direct.begin_member.Goals as goal
 
 pub member_entity-requires-clause-awaits : goal.member_entity-requires-clause-awaits

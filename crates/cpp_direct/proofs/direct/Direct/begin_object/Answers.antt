@@ -1,6 +1,4 @@
-use Rattle.std.proofs.Common.{◌∷◌, [], arith, refl}
-use Rattle.cpp_direct.proofs.Begins.{object-begins}
-use Rattle.cpp_direct.proofs.TypesRead.{then-there, there}
+use Rattle.cpp_direct.proofs.ForAnswers.{◌∷◌, [], arith, refl, object-begins, then-there, there}
 use Rattle.cpp_direct.proofs.direct.Direct.begin_object.Goals as goal
 
 pub begin_nested-requires-clause-awaits : goal.begin_nested-requires-clause-awaits

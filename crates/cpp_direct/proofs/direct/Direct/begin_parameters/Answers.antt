@@ -1,7 +1,4 @@
-use Rattle.std.proofs.Common.{subst, refl, arith, [], ◌∷◌}
-use Rattle.cpp_direct.specs.Symbol.{symbol_by}
-use Rattle.cpp_direct.specs.Holes.{StandsAt}
-use Rattle.cpp_direct.proofs.Ending.{void-ended, first-expected}
+use Rattle.cpp_direct.proofs.ForAnswers.{subst, refl, arith, [], ◌∷◌, symbol_by, StandsAt, void-ended, first-parameter-expected}
 use Rattle.cpp_direct.proofs.direct.Direct.begin_parameters.Goals as goal
 
 pub close-requires-clause-ended : goal.close-requires-clause-ended
@@ -14,6 +11,5 @@ close-requires-clause-ended g c =
 
 pub next_parameter-requires-clause-awaits : goal.next_parameter-requires-clause-awaits
 next_parameter-requires-clause-awaits g c =
-    let w = c.args.self.now in
-    first-expected _ w c.push_byte.new.self _ c.args.mark c.args.start c.args.argument c.requires.awaits
+    first-parameter-expected _ c.args.self.now c.push_byte.new.self _ c.args.mark c.args.start c.args.argument c.requires.awaits
     c.in_ok-push_byte.ensures refl refl refl refl c.in_ok-push.ensures.items

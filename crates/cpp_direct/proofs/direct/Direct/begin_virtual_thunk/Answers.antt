@@ -1,4 +1,4 @@
-use Rattle.cpp_direct.proofs.Begins.{virtual-thunk-begins}
+use Rattle.cpp_direct.proofs.ForAnswers.{virtual-thunk-begins}
 use Rattle.cpp_direct.proofs.direct.Direct.begin_virtual_thunk.Goals as goal
 
 pub begin_encoding-requires-clause-awaits : goal.begin_encoding-requires-clause-awaits

@@ -1,14 +1,12 @@
-use Rattle.std.proofs.Common.{sym, ◌∙◌}
-use Rattle.cpp_direct.proofs.Ending.{function-closed, function-named, name-within}
+use Rattle.cpp_direct.proofs.ForAnswers.{sym, ◌∙◌, function-closed, own-function-named, name-within-text}
 use Rattle.cpp_direct.proofs.direct.Direct.close.Goals as goal
 
 pub repeat-requires-clause-to : goal.repeat-requires-clause-to
-repeat-requires-clause-to g c =
-    name-within _ c.args.self.now c.args.mark c.args.start c.requires.ended (sym c.IS_BARE.ensures ∙ c.if-IS_BARE.true)
+repeat-requires-clause-to g c = name-within-text _ c.args.self.now c.args.mark c.args.start c.requires.ended (sym c.IS_BARE.ensures ∙ c.if-IS_BARE.true)
 
 pub encoded-requires-clause-ended : goal.encoded-requires-clause-ended
 encoded-requires-clause-ended g c =
-    function-named _ c.args.self.now c.repeat.new.self c.cut.new.self c.args.mark c.args.start c.end-end.result
+    own-function-named _ c.args.self.now c.repeat.new.self c.cut.new.self c.args.mark c.args.start c.end-end.result
     c.requires.ended (sym c.IS_BARE.ensures ∙ c.if-IS_BARE.true) c.end-end.ensures c.in_ok-repeat.ensures c.in_ok-cut.ensures
 
 pub end-requires-clause-ended : goal.end-requires-clause-ended

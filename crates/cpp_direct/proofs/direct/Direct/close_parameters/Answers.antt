@@ -1,5 +1,4 @@
-use Rattle.std.proofs.Common.{sym, ◌∙◌}
-use Rattle.cpp_direct.proofs.Ending.{function-ended, no-void}
+use Rattle.cpp_direct.proofs.ForAnswers.{sym, ◌∙◌, function-ended, no-void}
 use Rattle.cpp_direct.proofs.direct.Direct.close_parameters.Goals as goal
 
 pub close-requires-clause-ended : goal.close-requires-clause-ended

@@ -1,4 +1,4 @@
-use Rattle.cpp_direct.proofs.DependentsRead.{again-inside, dependent-again}
+use Rattle.cpp_direct.proofs.ForAnswers.{again-inside, dependent-again}
 use Rattle.cpp_direct.proofs.direct.Direct.dependent_again.Goals as goal
 
 pub repeat-requires : goal.repeat-requires

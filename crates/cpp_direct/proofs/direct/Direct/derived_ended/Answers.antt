@@ -1,5 +1,4 @@
-use Rattle.std.proofs.Common.{refl}
-use Rattle.cpp_direct.proofs.ConstructionTables.{base-expected}
+use Rattle.cpp_direct.proofs.ForAnswers.{refl, base-expected}
 use Rattle.cpp_direct.proofs.direct.Direct.derived_ended.Goals as goal
 
 pub returns : goal.returns

@@ -1,6 +1,4 @@
-use Rattle.std.proofs.Common.{◌+◌, ◌∷◌, [], refl, arith}
-use Rattle.cpp_direct.proofs.Moves.{stands-moved}
-use Rattle.cpp_direct.proofs.NestComponents.{destructor-awaits, destructor-digit-some}
+use Rattle.cpp_direct.proofs.ForAnswers.{◌+◌, ◌∷◌, [], refl, arith, stands-moved, destructor-awaits, structor-digit-some}
 use Rattle.cpp_direct.proofs.direct.Direct.destructor.Goals as goal
 
 pub class_again-requires-clause-awaits : goal.class_again-requires-clause-awaits
@@ -10,5 +8,4 @@ class_again-requires-clause-awaits g c =
     (record { text = refl; candidates = refl; waiting = refl; scope = refl; nest = refl; at = omega (arith, c.in_ok-self.ensures, c.in_ok-self-2.ensures) })
     c.requires.writing c.requires.letter
     (stands-moved c.args.s.now _ (c.args.self.now.at + 1) (c.byte_at-digit.result ∷ []) (omega (arith, c.in_ok-self.ensures))
-    (c.byte_at-digit.ensures (destructor-digit-some g.G.Grammar.IS_WIDE c.byte_at-digit.result is)))
-    is c.if-not-self.false c.if-self.false
+    (c.byte_at-digit.ensures (structor-digit-some 48 (omega arith) is))) is c.if-not-self.false c.if-self.false

@@ -1,8 +1,4 @@
-use Rattle.std.proofs.Common.{◌+◌, ◌≤◌, ◌∷◌, [], refl, arith, subst}
-use Rattle.cpp_direct.specs.AllHoles.{IsDigitsAt, by_digit, by_digits, unnumbered}
-use Rattle.cpp_direct.proofs.NamePlaces.{reads-begun, some-by}
-use Rattle.cpp_direct.proofs.Moves.{stands-join, stands-moved}
-use Rattle.cpp_direct.proofs.TypesRead.{then-there, there}
+use Rattle.cpp_direct.proofs.ForAnswers.{◌+◌, ◌≤◌, ◌∷◌, [], refl, arith, subst, IsDigitsAt, by_digit, by_digits, unnumbered, reads-begun, some-by, stands-join, stands-moved, then-there, there}
 use Rattle.cpp_direct.proofs.direct.Direct.discriminator.Goals as goal
 
 pub returns-then-byte_at-ne95 : goal.returns-then-byte_at-ne95

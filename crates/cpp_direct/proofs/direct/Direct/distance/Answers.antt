@@ -1,17 +1,13 @@
-use Rattle.std.proofs.Common.{arith, refl}
-use Rattle.sym_core.specs.declared.NumberKind.TheVariants.{Digits}
-use Rattle.sym_core.specs.Token.{IsNumberToken}
-use Rattle.cpp_direct.proofs.TypesRead.{there}
-use Rattle.cpp_direct.proofs.NamePlaces.{place-found, number-found, reads-begun}
+use Rattle.cpp_direct.proofs.ForAnswers.{arith, refl, IsNumberToken, there, place-found, number-found, reads-begun, NumberKind}
 use Rattle.cpp_direct.proofs.direct.Direct.distance.Goals as goal
 
 pub returns : goal.returns
 returns c =
     let s = c.args.s.now in
     let place = c.in_ok-place.place in
-    let h = place-found (IsNumberToken Digits) s c.args.self.now.at c.find_number.result c.ok.result place
+    let h = place-found (IsNumberToken NumberKind.Digits) s c.args.self.now.at c.find_number.result c.ok.result place
     c.find_number.ensures c.ok.ensures.value c.in_ok-place.was in
-    let found = number-found Digits s c.args.self.now.at place h (omega (arith, c.if-self-s.false)) in (
+    let found = number-found NumberKind.Digits s c.args.self.now.at place h (omega (arith, c.if-self-s.false)) in (
       found.0,
       place.end,
       found.1,

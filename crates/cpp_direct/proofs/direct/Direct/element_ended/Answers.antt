@@ -1,7 +1,4 @@
-use Rattle.std.proofs.Common.{arith, ap, refl, true, [], ◌∷◌, ◌∙◌, ◌+◌, ◌-◌}
-use Rattle.cpp_direct.proofs.Moves.{stands-moved}
-use Rattle.cpp_direct.proofs.Arguments.{known-passes, pack-closes}
-use Rattle.cpp_direct.proofs.TypesRead.{popped, there}
+use Rattle.cpp_direct.proofs.ForAnswers.{arith, ap, refl, true, [], ◌∷◌, ◌∙◌, ◌+◌, ◌-◌, stands-moved, known-passes, pack-closes, popped, there}
 use Rattle.cpp_direct.proofs.direct.Direct.element_ended.Goals as goal
 
 pub returns-then-byte-eq76 : goal.returns-then-byte-eq76

@@ -1,7 +1,4 @@
-use Rattle.std.proofs.Common.{◌≡◌, ◌+◌, ◌∷◌, [], arith, refl}
-use Rattle.cpp_direct.specs.WriterInvariant.{nowhere}
-use Rattle.cpp_direct.proofs.Listed.{waits-last, empty-pack-ends, no-pack, none-packed}
-use Rattle.cpp_direct.proofs.TypesRead.{then-there}
+use Rattle.cpp_direct.proofs.ForAnswers.{◌≡◌, ◌+◌, ◌∷◌, [], arith, refl, nowhere, waits-last, empty-pack-ends, no-pack, none-packed, then-there}
 use Rattle.cpp_direct.proofs.direct.Direct.empty_pack.Goals as goal
 
 pub close_list-requires-clause-ended : goal.close_list-requires-clause-ended

@@ -1,4 +1,4 @@
-use Rattle.cpp_direct.proofs.FunctionsWithin.{type-within}
+use Rattle.cpp_direct.proofs.ForAnswers.{type-within}
 use Rattle.cpp_direct.proofs.direct.Direct.enclosed_named.Goals as goal
 
 pub returns : goal.returns

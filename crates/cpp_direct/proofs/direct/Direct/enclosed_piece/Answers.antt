@@ -1,11 +1,4 @@
-use Rattle.cpp_direct.specs.AllTerms.{source, source_text}
-use Rattle.std.proofs.Common.{false}
-use Rattle.cpp_direct.specs.Symbol.{symbol_by}
-use Rattle.cpp_direct.proofs.Unmarked.{name-unmarked}
-use Rattle.cpp_direct.proofs.NamePlaces.{some-by}
-use Rattle.cpp_direct.proofs.MovesOfLocals.{source-name-piece}
-use Rattle.cpp_direct.proofs.PrintedNests.{source-opening, source-piece}
-use Rattle.cpp_direct.proofs.PrintedLocals.{piece-prints}
+use Rattle.cpp_direct.proofs.ForAnswers.{source, source_text, false, symbol_by, name-unmarked, some-by, source-name-piece, source-opening, source-piece, piece-prints}
 use Rattle.cpp_direct.proofs.direct.Direct.enclosed_piece.Goals as goal
 
 pub returns : goal.returns

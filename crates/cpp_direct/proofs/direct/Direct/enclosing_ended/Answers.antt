@@ -1,4 +1,4 @@
-use Rattle.cpp_direct.proofs.FunctionsWithin.{marks-shown}
+use Rattle.cpp_direct.proofs.ForAnswers.{marks-shown}
 use Rattle.cpp_direct.proofs.direct.Direct.enclosing_ended.Goals as goal
 
 pub enclosed-requires-clause-read : goal.enclosed-requires-clause-read

@@ -1,5 +1,4 @@
-use Rattle.cpp_direct.proofs.FunctionsWithin.{returned-awaits}
-use Rattle.cpp_direct.proofs.InstancesWithin.{instance-named}
+use Rattle.cpp_direct.proofs.ForAnswers.{returned-awaits, instance-named}
 use Rattle.cpp_direct.proofs.direct.Direct.enclosing_instance.Goals as goal
 
 pub enclosing_parameters-requires-clause-awaits : goal.enclosing_parameters-requires-clause-awaits

@@ -1,4 +1,4 @@
-use Rattle.cpp_direct.proofs.FunctionsWithin.{object-within, plain-awaits}
+use Rattle.cpp_direct.proofs.ForAnswers.{object-within, plain-awaits}
 use Rattle.cpp_direct.proofs.direct.Direct.enclosing_named.Goals as goal
 
 pub enclosing_ended-requires-clause-read : goal.enclosing_ended-requires-clause-read

@@ -1,4 +1,4 @@
-use Rattle.std.proofs.Common.{sym, ◌∙◌}
+use Rattle.cpp_direct.proofs.ForAnswers.{sym, ◌∙◌}
 use Rattle.cpp_direct.proofs.direct.Direct.ends_as_integer.Goals as goal
 
 pub returns : goal.returns

@@ -1,4 +1,4 @@
-use Rattle.cpp_direct.proofs.UnscopedNames.{entity-ended}
+use Rattle.cpp_direct.proofs.ForAnswers.{entity-ended}
 use Rattle.cpp_direct.proofs.direct.Direct.entity_name.Goals as goal
 
 pub finish-requires : goal.finish-requires

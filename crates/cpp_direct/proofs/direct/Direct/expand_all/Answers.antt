@@ -1,4 +1,4 @@
-use Rattle.cpp_direct.proofs.DependentsRead.{none-expanded}
+use Rattle.cpp_direct.proofs.ForAnswers.{none-expanded}
 use Rattle.cpp_direct.proofs.direct.Direct.expand_all.Goals as goal
 
 pub elements-init : goal.elements-init

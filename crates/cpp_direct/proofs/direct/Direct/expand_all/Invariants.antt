@@ -1,7 +1,5 @@
 -- What the pattern makes of this many elements of the pack is written.
-use Rattle.std.proofs.Common.{List}
-use Rattle.cpp_direct.specs.AllTerms.{Detail, Term}
-use Rattle.cpp_direct.specs.AllStates.{AreExpanded, IsPackOf}
+use Rattle.cpp_direct.proofs.ForAnswers.{List, Detail, Term, AreExpanded, IsPackOf}
 use Rattle.cpp_direct.proofs.direct.Direct.expand_all.Given as goal
 
 abbrev pub invariant-elements : goal.invariant-elements

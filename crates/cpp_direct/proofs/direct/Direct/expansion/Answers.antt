@@ -1,7 +1,4 @@
-use Rattle.std.proofs.Common.{arith, ◌∙◌, ◌≡◌}
-use Rattle.cpp_direct.specs.Symbol.{detail_by}
-use Rattle.cpp_direct.proofs.Ending.{parameter-expected}
-use Rattle.cpp_direct.proofs.DependentsRead.{expansion-read, nothing-read, pack-separated}
+use Rattle.cpp_direct.proofs.ForAnswers.{arith, ◌∙◌, ◌≡◌, detail_by, parameter-expected, expansion-read, nothing-read, pack-separated}
 use Rattle.cpp_direct.proofs.direct.Direct.expansion.Goals as goal
 
 pub returns-in_default : goal.returns-in_default
@@ -16,12 +13,10 @@ expand_all-requires g c =
 
 pub close-requires-clause-ended : goal.close-requires-clause-ended
 close-requires-clause-ended g c =
-    let old = c.args.self.now in
-    let pattern = c.in-Some.read.pattern in
     let number : c.in-Some.read.number ≡ c.args.argument.before = c.if-read-argument.false in
     let stands = rw number at c.in-Some.ensures.stands in
     let end = rw number at c.in-Some.ensures.end in
-    nothing-read _ pattern old c.add_expansion.new.self c.args.is_first c.args.mark c.args.start c.args.argument c.requires.awaits
+    nothing-read _ c.in-Some.read.pattern c.args.self.now c.add_expansion.new.self c.args.is_first c.args.mark c.args.start c.args.argument c.requires.awaits
     c.requires.has_pack c.if-argument-eq0.true (omega (arith, number, c.in-Some.ensures.few)) stands
     c.add_expansion.ensures.text c.in_ok-add_expansion.ensures.candidates c.add_expansion.ensures.scope (c.add_expansion.ensures.at ∙ end)
 

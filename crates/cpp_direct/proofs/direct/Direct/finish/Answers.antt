@@ -1,6 +1,4 @@
-use Rattle.std.proofs.Common.{sym, ◌∙◌}
-use Rattle.std.proofs.lemmas.Bool.{eqb-true}
-use Rattle.cpp_direct.proofs.Ending.{ends-plain, ends-suffixed}
+use Rattle.cpp_direct.proofs.ForAnswers.{sym, ◌∙◌, eqb-true, ends-plain, ends-suffixed}
 use Rattle.cpp_direct.proofs.direct.Direct.finish.Goals as goal
 
 pub returns-then-is_empty : goal.returns-then-is_empty

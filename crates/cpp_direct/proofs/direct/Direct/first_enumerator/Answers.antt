@@ -1,5 +1,4 @@
-use Rattle.std.proofs.Common.{refl}
-use Rattle.cpp_direct.proofs.Arguments.{first-enumerator-expected}
+use Rattle.cpp_direct.proofs.ForAnswers.{refl, first-enumerator-expected}
 use Rattle.cpp_direct.proofs.direct.Direct.first_enumerator.Goals as goal
 
 pub named_type-requires-clause-awaits : goal.named_type-requires-clause-awaits

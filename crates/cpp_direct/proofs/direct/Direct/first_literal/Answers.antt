@@ -1,6 +1,4 @@
-use Rattle.std.proofs.Common.{refl, true}
-use Rattle.cpp_direct.proofs.Arguments.{literal-read, none-next}
-use Rattle.cpp_direct.proofs.Listed.{first-expected}
+use Rattle.cpp_direct.proofs.ForAnswers.{refl, true, literal-read, none-next, first-expected}
 use Rattle.cpp_direct.proofs.direct.Direct.first_literal.Goals as goal
 
 pub literal-requires-clause-awaits : goal.literal-requires-clause-awaits

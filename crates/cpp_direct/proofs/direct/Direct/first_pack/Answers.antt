@@ -1,6 +1,4 @@
-use Rattle.std.proofs.Common.{refl, true}
-use Rattle.cpp_direct.proofs.Arguments.{element-begins}
-use Rattle.cpp_direct.proofs.Listed.{first-expected}
+use Rattle.cpp_direct.proofs.ForAnswers.{refl, true, element-begins, first-expected}
 use Rattle.cpp_direct.proofs.direct.Direct.first_pack.Goals as goal
 
 pub begin_pack-requires-clause-awaits : goal.begin_pack-requires-clause-awaits
@@ -12,5 +10,4 @@ begin_pack-requires-then-byte_at-eq76-clause-awaits g c = first-expected _ c.arg
 pub returns : goal.returns
 returns g c =
     element-begins _ c.args.self.now _ c.end-from.result c.requires.writing (c.is_named.ensures c.if-not-is_named.false) c.requires.letter
-    c.end-from.ensures (rw c.in_ok-push.ensures.items at c.in_ok-push-2.ensures.items) refl refl refl
-    c.in_ok-behind.ensures.1
+    c.end-from.ensures (rw c.in_ok-push.ensures.items at c.in_ok-push-2.ensures.items) refl refl refl c.in_ok-behind.ensures.1

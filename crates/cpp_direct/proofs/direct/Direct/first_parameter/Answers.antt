@@ -1,9 +1,4 @@
-use Rattle.std.proofs.Common.{◌∷◌, [], arith, refl, subst}
-use Rattle.cpp_direct.specs.Symbol.{symbol_by}
-use Rattle.cpp_direct.specs.Holes.{StandsAt}
-use Rattle.cpp_direct.proofs.Moves.{stands-join}
-use Rattle.cpp_direct.proofs.Signatures.{void-closed}
-use Rattle.cpp_direct.proofs.TypesRead.{there}
+use Rattle.cpp_direct.proofs.ForAnswers.{◌∷◌, [], arith, refl, subst, symbol_by, StandsAt, stands-join, void-closed, there}
 use Rattle.cpp_direct.proofs.direct.Direct.first_parameter.Goals as goal
 
 pub function_ended-requires-clause-ended : goal.function_ended-requires-clause-ended

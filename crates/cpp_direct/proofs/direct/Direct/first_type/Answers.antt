@@ -1,6 +1,4 @@
-use Rattle.std.proofs.Common.{refl, true}
-use Rattle.cpp_direct.proofs.Arguments.{argument-begins}
-use Rattle.cpp_direct.proofs.Listed.{first-expected, type-expected}
+use Rattle.cpp_direct.proofs.ForAnswers.{refl, true, argument-begins, first-expected, type-expected}
 use Rattle.cpp_direct.proofs.direct.Direct.first_type.Goals as goal
 
 pub returns-then-not-is_named : goal.returns-then-not-is_named

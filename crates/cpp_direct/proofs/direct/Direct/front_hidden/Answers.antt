@@ -1,4 +1,4 @@
-use Rattle.cpp_direct.proofs.Ending.{front-hidden}
+use Rattle.cpp_direct.proofs.ForAnswers.{front-hidden}
 use Rattle.cpp_direct.proofs.direct.Direct.front_hidden.Goals as goal
 
 pub begin_parameters-requires-clause-awaits : goal.begin_parameters-requires-clause-awaits

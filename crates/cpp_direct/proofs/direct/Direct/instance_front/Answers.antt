@@ -1,5 +1,4 @@
-use Rattle.std.proofs.Common.{refl}
-use Rattle.cpp_direct.proofs.InstancesWithin.{instance-front}
+use Rattle.cpp_direct.proofs.ForAnswers.{refl, instance-front}
 use Rattle.cpp_direct.proofs.direct.Direct.instance_front.Goals as goal
 
 pub returns : goal.returns

@@ -1,15 +1,11 @@
-use Rattle.std.proofs.Common.{ap, refl, ◌∙◌}
-use Rattle.cpp_direct.specs.declared.open.Open.TheVariants as opens
-use Rattle.cpp_direct.proofs.FunctionsWithin.{next-led}
-use Rattle.cpp_direct.proofs.InstancesWithin.{instance-closed}
-use Rattle.cpp_direct.proofs.Scopes.{entry-scoped}
+use Rattle.cpp_direct.proofs.ForAnswers.{ap, refl, ◌∙◌, next-led, instance-closed, entry-scoped, Open}
 use Rattle.cpp_direct.proofs.direct.Direct.instance_parameter.Goals as goal
 
 pub returns-then-byte_at-ne69 : goal.returns-then-byte_at-ne69
 returns-then-byte_at-ne69 g c =
     let p = c.requires.read.1 in
     next-led c.args.self.now c.push_pair.new.self p c.in_ok-push_pair.ensures (λ os h. h)
-    (λ around h. entry-scoped p.scope around (opens.EnclosingInstance c.args.mark c.args.from c.args.to c.requires.read.0) c.requires.read.0 p.rest refl refl p.leads.1.named h)
+    (λ around h. entry-scoped p.scope around (Open.EnclosingInstance c.args.mark c.args.from c.args.to c.requires.read.0) c.requires.read.0 p.rest refl refl p.leads.1.named h)
 
 pub enclosing_parameter-requires-clause-read : goal.enclosing_parameter-requires-clause-read
 enclosing_parameter-requires-clause-read g c =

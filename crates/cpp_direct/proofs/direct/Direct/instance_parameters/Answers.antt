@@ -1,5 +1,4 @@
-use Rattle.std.proofs.Common.{refl}
-use Rattle.cpp_direct.proofs.InstancesWithin.{instance-awaits}
+use Rattle.cpp_direct.proofs.ForAnswers.{refl, instance-awaits}
 use Rattle.cpp_direct.proofs.direct.Direct.instance_parameters.Goals as goal
 
 pub instance_opened-requires : goal.instance_opened-requires

@@ -1,15 +1,11 @@
-use Rattle.std.proofs.Common.{refl, sym, codes, ◌∷◌, [], ◌∙◌}
-use Rattle.cpp_grammar.specs.Texts.{look_up, builtin_texts}
-use Rattle.cpp_direct.proofs.NamePlaces.{some-by, reads-written, reads-then, reads-of, reads-begun}
-use Rattle.cpp_direct.proofs.Elements.{plain-integer-read, cast-integer-read}
+use Rattle.cpp_direct.proofs.ForAnswers.{refl, sym, codes, ◌∷◌, [], ◌∙◌, look_up, builtin_texts, some-by, reads-written, reads-then, reads-of, reads-begun, plain-integer-read, cast-integer-read}
 use Rattle.cpp_direct.proofs.direct.Direct.integer.Goals as goal
 
 pub returns-then-is_plain_letter : goal.returns-then-is_plain_letter
 returns-then-is_plain_letter c = some-by c.push.result c.push.ensures
     (λ w. plain-integer-read c.args.s.now c.args.self.now (record c.args.self.now { at = c.in_ok-self.field-0 }) c.number.new.self c.push.new.self
     c.byte_at-letter.result c.ending_text.result.now c.byte_at-letter.ensures c.if-not-is_integer_letter.ensures c.if-is_plain_letter.ensures
-    c.in_ok-self.ensures.1 (reads-begun c.args.self.now _ refl refl refl refl refl) c.in_ok-number.ensures c.ending_text.ensures
-    (reads-of _ _ _ w) (sym w.at))
+    c.in_ok-self.ensures.1 (reads-begun c.args.self.now _ refl refl refl refl refl) c.in_ok-number.ensures c.ending_text.ensures (reads-of _ _ _ w) (sym w.at))
 
 pub returns : goal.returns
 returns c =

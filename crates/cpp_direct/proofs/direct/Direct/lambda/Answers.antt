@@ -1,10 +1,4 @@
-use Rattle.std.proofs.Common.{◌+◌, ◌∷◌, ◌++◌, [], append_assoc, arith, codes, refl, sym, subst, ◌∙◌}
-use Rattle.cpp_direct.specs.HolesOfLocals.{lambda_digits, lambda_number}
-use Rattle.cpp_direct.specs.Written.{Reads}
-use Rattle.cpp_direct.proofs.LambdasRead.{lambda-told}
-use Rattle.cpp_direct.proofs.Moves.{stands-join, stands-moved}
-use Rattle.cpp_direct.proofs.NamePlaces.{reads-then, reads-written, some-by}
-use Rattle.cpp_direct.proofs.TypesRead.{then-there}
+use Rattle.cpp_direct.proofs.ForAnswers.{◌+◌, ◌∷◌, ◌++◌, [], append_assoc, arith, codes, refl, sym, subst, ◌∙◌, lambda_digits, lambda_number, Reads, lambda-told, stands-join, stands-moved, reads-then, reads-written, some-by, then-there}
 use Rattle.cpp_direct.proofs.direct.Direct.lambda.Goals as goal
 
 pub returns : goal.returns

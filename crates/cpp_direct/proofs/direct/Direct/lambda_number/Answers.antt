@@ -1,17 +1,14 @@
-use Rattle.std.proofs.Common.{◌≤◌, ◌∷◌, [], None, Some, arith, refl}
-use Rattle.cpp_direct.proofs.NamePlaces.{reads-written, some-by}
-use Rattle.cpp_direct.proofs.TypesRead.{then-there, there}
+use Rattle.cpp_direct.proofs.ForAnswers.{◌≤◌, ◌∷◌, [], None, Some, arith, refl, reads-written, some-by, then-there, there}
 use Rattle.cpp_direct.proofs.direct.Direct.lambda_number.Goals as goal
 
 pub returns-then-digit-eq95 : goal.returns-then-digit-eq95
 returns-then-digit-eq95 c =
-    let s = c.args.s.now in
     let old = c.args.self.now in
     some-by c.push.result c.push.ensures
     (λ w. (
       None,
       tt,
-      there s old.at c.byte_at-digit.result 95 c.if-digit-eq95.true (omega arith) c.byte_at-digit.ensures,
+      there c.args.s.now old.at c.byte_at-digit.result 95 c.if-digit-eq95.true (omega arith) c.byte_at-digit.ensures,
       omega (arith, w.at, c.in_ok-self.ensures.1),
       reads-written old _ c.push.new.self _ _ w refl refl refl refl refl refl,
     ))

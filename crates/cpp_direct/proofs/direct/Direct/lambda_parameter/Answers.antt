@@ -1,12 +1,8 @@
-use Rattle.std.proofs.Common.{◌++◌, reverse, ap, arith, codes, refl, sym, ◌∙◌}
-use Rattle.cpp_direct.proofs.LambdasRead.{lambda-bracket, lambda-ended, lambda-next}
-use Rattle.cpp_direct.proofs.Ending.{no-void}
-use Rattle.cpp_direct.proofs.TypesRead.{popped, there}
+use Rattle.cpp_direct.proofs.ForAnswers.{◌++◌, reverse, ap, arith, codes, refl, sym, ◌∙◌, lambda-bracket, lambda-ended, lambda-next, no-void, popped, there}
 use Rattle.cpp_direct.proofs.direct.Direct.lambda_parameter.Goals as goal
 
 pub returns-then-byte_at-ne69 : goal.returns-then-byte_at-ne69
-returns-then-byte_at-ne69 g c =
-    lambda-next _ c.args.self.now c.push_pair.new.self c.args.from c.args.holder c.requires.read c.in_ok-push_pair.ensures
+returns-then-byte_at-ne69 g c = lambda-next _ c.args.self.now c.push_pair.new.self c.args.from c.args.holder c.requires.read c.in_ok-push_pair.ensures
 
 pub lambda_ended-requires-clause-read : goal.lambda_ended-requires-clause-read
 lambda_ended-requires-clause-read g c =

@@ -1,6 +1,4 @@
-use Rattle.std.proofs.Common.{false, ◌∷◌, [], arith}
-use Rattle.cpp_direct.proofs.Arguments.{known-passes, pack-ends-empty}
-use Rattle.cpp_direct.proofs.TypesRead.{then-there}
+use Rattle.cpp_direct.proofs.ForAnswers.{false, ◌∷◌, [], arith, known-passes, pack-ends-empty, then-there}
 use Rattle.cpp_direct.proofs.direct.Direct.last_pack_empty.Goals as goal
 
 pub returns-then-byte_at-ne69 : goal.returns-then-byte_at-ne69

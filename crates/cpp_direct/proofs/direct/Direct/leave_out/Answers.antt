@@ -1,7 +1,4 @@
-use Rattle.std.proofs.Common.{◌-◌, ◌∙◌, ap, arith, drop, length, subst, take}
-use Rattle.std.proofs.Math.Seq.{drop-append_seam}
-use Rattle.cpp_direct.specs.Written.{AreLeft}
-use Rattle.cpp_direct.specs.declared.open.Hiding.TheVariants as hidings
+use Rattle.cpp_direct.proofs.ForAnswers.{◌-◌, ◌∙◌, ap, arith, drop, length, subst, take, drop-append_seam, AreLeft, Hiding}
 use Rattle.cpp_direct.proofs.direct.Direct.leave_out.Goals as goal
 
 pub returns : goal.returns
@@ -11,7 +8,7 @@ returns c =
     record {
       text = c.drop_first.ensures.items ∙ ap (λ n. drop n c.repeat.new.self.text.list.items) c.end-end.ensures
           ∙ ap (λ l. drop (length old) l) writes.text ∙ drop-append_seam old (take (c.args.to - 0) (drop 0 old)) ∙ ap (λ n. take n old) (omega arith);
-      candidates = subst (λ v. AreLeft (hidings.After c.args.to) v.list.items c.hide.new.candidates.list.items) writes.candidates c.hide.ensures;
+      candidates = subst (λ v. AreLeft (Hiding.After c.args.to) v.list.items c.hide.new.candidates.list.items) writes.candidates c.hide.ensures;
       «open» = writes.waiting;
       scope = writes.scope;
       at = writes.at;

@@ -1,6 +1,4 @@
-use Rattle.std.proofs.Common.{arith}
-use Rattle.cpp_direct.proofs.Members.{member-read}
-use Rattle.cpp_direct.proofs.TypesRead.{there}
+use Rattle.cpp_direct.proofs.ForAnswers.{arith, member-read, there}
 use Rattle.cpp_direct.proofs.direct.Direct.level_ended.Goals as goal
 
 pub returns : goal.returns

@@ -1,9 +1,5 @@
-use Rattle.std.proofs.Common.{◌∷◌, [], sym, ◌∙◌, arith}
-use Rattle.std.proofs.lemmas.Bool.{false≢true}
-use Rattle.cpp_direct.proofs.TypesRead.{then-there, there}
-use Rattle.cpp_direct.proofs.Listed.{another-expected, first-expected, type-expected}
+use Rattle.cpp_direct.proofs.ForAnswers.{◌∷◌, [], sym, ◌∙◌, arith, false≢true, then-there, there, another-expected, first-expected, type-expected}
 use Rattle.cpp_direct.proofs.direct.Direct.list_at.Goals as goal
-use Rattle.cpp_direct.proofs.direct.Direct.list_at.Goals.{then-not-is_first+in_ok-push_pair, else-not-is_first}
 
 pub empty_pack-requires-clause-letters : goal.empty_pack-requires-clause-letters
 empty_pack-requires-clause-letters g c =
@@ -13,53 +9,53 @@ empty_pack-requires-clause-letters g c =
 
 pub literal-requires-clause-awaits : goal.literal-requires-clause-awaits
 literal-requires-clause-awaits g c = elim c.if-not-is_first.branch [
-  | then-not-is_first+in_ok-push_pair w ↦
+  | goal.then-not-is_first+in_ok-push_pair w ↦
       another-expected _ c.args.self.now w.push_pair.new.self c.if-not-is_first.self c.args.is_first c.requires.writing w.if-not-is_first.true
       w.in_ok-push_pair.ensures w.self-is
-  | else-not-is_first w ↦
+  | goal.else-not-is_first w ↦
       first-expected _ c.args.self.now c.if-not-is_first.self c.args.is_first c.requires.writing w.if-not-is_first.false w.self-is
 ]
 
 pub begin_pack-requires-clause-awaits : goal.begin_pack-requires-clause-awaits
 begin_pack-requires-clause-awaits g c = elim c.if-not-is_first.branch [
-  | then-not-is_first+in_ok-push_pair w ↦
+  | goal.then-not-is_first+in_ok-push_pair w ↦
       another-expected _ c.args.self.now w.push_pair.new.self c.if-not-is_first.self c.args.is_first c.requires.writing w.if-not-is_first.true
       w.in_ok-push_pair.ensures w.self-is
-  | else-not-is_first w ↦
+  | goal.else-not-is_first w ↦
       first-expected _ c.args.self.now c.if-not-is_first.self c.args.is_first c.requires.writing w.if-not-is_first.false w.self-is
 ]
 
 pub begin_level-requires-clause-awaits : goal.begin_level-requires-clause-awaits
 begin_level-requires-clause-awaits g c = elim c.if-not-is_first.branch [
-  | then-not-is_first+in_ok-push_pair w ↦
+  | goal.then-not-is_first+in_ok-push_pair w ↦
       another-expected _ c.args.self.now w.push_pair.new.self c.if-not-is_first.self c.args.is_first c.requires.writing w.if-not-is_first.true
       w.in_ok-push_pair.ensures w.self-is
-  | else-not-is_first w ↦
+  | goal.else-not-is_first w ↦
       first-expected _ c.args.self.now c.if-not-is_first.self c.args.is_first c.requires.writing w.if-not-is_first.false w.self-is
 ]
 
 pub parameter_argument-requires-clause-awaits : goal.parameter_argument-requires-clause-awaits
 parameter_argument-requires-clause-awaits g c = elim c.if-not-is_first.branch [
-  | then-not-is_first+in_ok-push_pair w ↦
+  | goal.then-not-is_first+in_ok-push_pair w ↦
       another-expected _ c.args.self.now w.push_pair.new.self c.if-not-is_first.self c.args.is_first c.requires.writing w.if-not-is_first.true
       w.in_ok-push_pair.ensures w.self-is
-  | else-not-is_first w ↦
+  | goal.else-not-is_first w ↦
       first-expected _ c.args.self.now c.if-not-is_first.self c.args.is_first c.requires.writing w.if-not-is_first.false w.self-is
 ]
 
 pub returns-else-is_first-3 : goal.returns-else-is_first-3
 returns-else-is_first-3 g c = type-expected _ c.if-not-is_first.self (elim c.if-not-is_first.branch [
-  | then-not-is_first+in_ok-push_pair w ↦
+  | goal.then-not-is_first+in_ok-push_pair w ↦
       another-expected _ c.args.self.now w.push_pair.new.self c.if-not-is_first.self c.args.is_first c.requires.writing w.if-not-is_first.true
       w.in_ok-push_pair.ensures w.self-is
-  | else-not-is_first w ↦
+  | goal.else-not-is_first w ↦
       first-expected _ c.args.self.now c.if-not-is_first.self c.args.is_first c.requires.writing w.if-not-is_first.false w.self-is
 ])
 
 pub first_type-requires-clause-writing : goal.first_type-requires-clause-writing
 first_type-requires-clause-writing g c = elim c.if-not-is_first.branch [
-  | then-not-is_first+in_ok-push_pair w ↦ absurd (false≢true (sym w.if-not-is_first.true ∙ c.if-is_first-3.true))
-  | else-not-is_first w ↦ rw w.self-is (rw c.if-is_first-3.true at c.requires.writing)
+  | goal.then-not-is_first+in_ok-push_pair w ↦ absurd (false≢true (sym w.if-not-is_first.true ∙ c.if-is_first-3.true))
+  | goal.else-not-is_first w ↦ rw w.self-is (rw c.if-is_first-3.true at c.requires.writing)
 ]
 
 pub first_pack-requires-clause-writing : goal.first_pack-requires-clause-writing
@@ -67,6 +63,6 @@ first_pack-requires-clause-writing g c = rw c.if-is_first.true at c.requires.wri
 
 pub first_literal-requires-clause-writing : goal.first_literal-requires-clause-writing
 first_literal-requires-clause-writing g c = elim c.if-not-is_first.branch [
-  | then-not-is_first+in_ok-push_pair w ↦ absurd (false≢true (sym w.if-not-is_first.true ∙ c.if-is_first-2.true))
-  | else-not-is_first w ↦ rw w.self-is (rw c.if-is_first-2.true at c.requires.writing)
+  | goal.then-not-is_first+in_ok-push_pair w ↦ absurd (false≢true (sym w.if-not-is_first.true ∙ c.if-is_first-2.true))
+  | goal.else-not-is_first w ↦ rw w.self-is (rw c.if-is_first-2.true at c.requires.writing)
 ]

@@ -1,9 +1,4 @@
-use Rattle.std.proofs.Common.{refl}
-use Rattle.cpp_direct.specs.declared.open.Open.TheVariants as opens
-use Rattle.cpp_direct.specs.WriterInvariant.{nowhere}
-use Rattle.cpp_grammar.specs.Term.{nil}
-use Rattle.cpp_direct.proofs.Listed.{last-found, waits-last, list-ends, no-pack, nothing-known, pack-ends}
-use Rattle.cpp_direct.proofs.TypesRead.{popped}
+use Rattle.cpp_direct.proofs.ForAnswers.{refl, nowhere, nil, last-found, waits-last, list-ends, no-pack, nothing-known, pack-ends, popped, Open}
 use Rattle.cpp_direct.proofs.direct.Direct.list_ended.Goals as goal
 
 pub close_list-requires-clause-ended : goal.close_list-requires-clause-ended
@@ -18,7 +13,6 @@ pub returns-else-is_first : goal.returns-else-is_first
 returns-else-is_first g c =
     let old = c.args.self.now in
     let w = record old { waiting = c.pop-open.new.self; at = c.in_ok-self.field-0 } in
-    let last = last-found old.waiting.list.items opens.Pack (waits-last _ _ _ _ c.as_slice.ensures c.in_ok-last.ensures.value c.in-Pack.is) in
-    pack-ends _ old w (rw c.if-is_first.false at c.requires.writing) c.requires.letter
-    last.0 last.1 refl refl refl c.in_ok-self.ensures.1
-    (popped old.waiting.list.items c.pop-open.new.self.list.items last.0 opens.Pack _ refl last.1 c.pop-open.ensures.rest)
+    let last = last-found old.waiting.list.items Open.Pack (waits-last _ _ _ _ c.as_slice.ensures c.in_ok-last.ensures.value c.in-Pack.is) in
+    pack-ends _ old w (rw c.if-is_first.false at c.requires.writing) c.requires.letter last.0 last.1 refl refl refl c.in_ok-self.ensures.1
+    (popped old.waiting.list.items c.pop-open.new.self.list.items last.0 Open.Pack _ refl last.1 c.pop-open.ensures.rest)

@@ -1,10 +1,8 @@
-use Rattle.cpp_direct.proofs.LambdasRead.{begun-in-member}
-use Rattle.cpp_direct.proofs.MemberFunctions.{entity-read}
+use Rattle.cpp_direct.proofs.ForAnswers.{begun-in-member, entity-read}
 use Rattle.cpp_direct.proofs.direct.Direct.member_entity.Goals as goal
 
 pub returns-then-behind-ne118 : goal.returns-then-behind-ne118
-returns-then-behind-ne118 g c =
-    begun-in-member _ c.args.self.now c.open_lambda.new.self c.args.mark c.requires.awaits c.in_ok-open_lambda.ensures
+returns-then-behind-ne118 g c = begun-in-member _ c.args.self.now c.open_lambda.new.self c.args.mark c.requires.awaits c.in_ok-open_lambda.ensures
 
 pub member_function-requires-clause-awaits : goal.member_function-requires-clause-awaits
 member_function-requires-clause-awaits g c =

@@ -1,6 +1,4 @@
-use Rattle.std.proofs.Common.{arith}
-use Rattle.cpp_direct.proofs.MemberFunctions.{function-named}
-use Rattle.cpp_direct.proofs.TypesRead.{there}
+use Rattle.cpp_direct.proofs.ForAnswers.{arith, function-named, there}
 use Rattle.cpp_direct.proofs.direct.Direct.member_function.Goals as goal
 
 pub member_parameters-requires-clause-awaits : goal.member_parameters-requires-clause-awaits

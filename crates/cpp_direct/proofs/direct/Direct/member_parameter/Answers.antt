@@ -1,15 +1,11 @@
-use Rattle.std.proofs.Common.{◌++◌, ◌∷◌, arith, refl, sym, ◌∙◌}
-use Rattle.cpp_direct.specs.declared.open.Open.TheVariants as opens
-use Rattle.cpp_direct.proofs.FunctionsWithin.{function-shown, function-unshown, led-inside, next-led}
-use Rattle.cpp_direct.proofs.Kept.{none-named}
-use Rattle.cpp_direct.proofs.Scopes.{none-scoped}
+use Rattle.cpp_direct.proofs.ForAnswers.{◌++◌, ◌∷◌, arith, refl, sym, ◌∙◌, function-shown, function-unshown, led-inside, next-led, none-named, none-scoped, Open}
 use Rattle.cpp_direct.proofs.direct.Direct.member_parameter.Goals as goal
 
 pub returns-then-not-may_end : goal.returns-then-not-may_end
 returns-then-not-may_end g c =
     let p = c.requires.read in
     next-led c.args.self.now c.push_pair.new.self p c.in_ok-push_pair.ensures (λ os h. h)
-    (λ around h. none-scoped p.scope around (opens.Member c.args.mark c.args.to ∷ p.rest) refl)
+    (λ around h. none-scoped p.scope around (Open.Member c.args.mark c.args.to ∷ p.rest) refl)
 
 pub leave_out-requires : goal.leave_out-requires
 leave_out-requires g c = record { within = led-inside c.args.self.now c.args.to c.requires.read c.requires.read.leads.1 }

@@ -1,8 +1,4 @@
-use Rattle.std.proofs.Common.{◌∷◌, ap, arith, length, refl, reverse, sym, ◌∙◌}
-use Rattle.cpp_direct.specs.declared.open.Open.TheVariants as opens
-use Rattle.cpp_direct.proofs.FunctionsWithin.{first-led, void-shown, void-unshown}
-use Rattle.cpp_direct.proofs.Scopes.{none-scoped}
-use Rattle.cpp_direct.proofs.TypesRead.{there}
+use Rattle.cpp_direct.proofs.ForAnswers.{◌∷◌, ap, arith, length, refl, reverse, sym, ◌∙◌, first-led, void-shown, void-unshown, none-scoped, there, Open}
 use Rattle.cpp_direct.proofs.direct.Direct.member_parameters.Goals as goal
 
 pub member_ended-requires : goal.member_ended-requires
@@ -20,7 +16,7 @@ member_ended-requires-then-may_end g c =
 pub returns : goal.returns
 returns g c =
     let p = c.requires.awaits in
-    let entry = opens.Member c.args.mark c.end-to.result in
+    let entry = Open.Member c.args.mark c.end-to.result in
     first-led _ c.args.self.now c.push_byte.new.self _ entry p (p.leads.0, c.end-to.ensures ∙ ap length p.written, p.leads.1)
     c.in_ok-push_byte.ensures c.in_ok-push.ensures.items refl refl refl refl (λ os h. h)
     (λ around h. none-scoped p.scope around (entry ∷ reverse c.args.self.now.waiting.list.items) refl)

@@ -1,12 +1,8 @@
-use Rattle.std.proofs.Common.{subst}
-use Rattle.cpp_direct.specs.AllStates.{IsNameScoped, symbol_by}
-use Rattle.cpp_direct.proofs.Ending.{object-ended, parameters-begin}
-use Rattle.cpp_direct.proofs.NamedArguments.{scope-begins}
+use Rattle.cpp_direct.proofs.ForAnswers.{subst, IsNameScoped, symbol_by, object-ended, parameters-begin, scope-begins}
 use Rattle.cpp_direct.proofs.direct.Direct.name_ended.Goals as goal
 
 pub end-requires-clause-ended : goal.end-requires-clause-ended
-end-requires-clause-ended g c =
-    object-ended _ c.args.self.now c.args.mark c.args.is_instance c.args.argument c.args.from c.requires.ended
+end-requires-clause-ended g c = object-ended _ c.args.self.now c.args.mark c.args.is_instance c.args.argument c.args.from c.requires.ended
 
 pub begin_front-requires-clause-scoped : goal.begin_front-requires-clause-scoped
 begin_front-requires-clause-scoped g c =

@@ -1,9 +1,4 @@
-use Rattle.std.proofs.Common.{false, subst, sym, ◌∙◌}
-use Rattle.cpp_direct.specs.AllStates.{added_unless, IsAddressNamed, IsEnclosingNamed, IsInstanceNamed, IsNameEnded, IsOwn, IsWriting, Lists, symbol_by}
-use Rattle.cpp_direct.specs.declared.open.Step.TheVariants as steps
-use Rattle.cpp_direct.proofs.FunctionsWithin.{name-addressed, name-within}
-use Rattle.cpp_direct.proofs.InstancesWithin.{has-arguments, instance-within}
-use Rattle.cpp_direct.proofs.Nesting.{arguments-noted, type-ended, name-comes}
+use Rattle.cpp_direct.proofs.ForAnswers.{false, subst, sym, ◌∙◌, added_unless, IsAddressNamed, IsEnclosingNamed, IsInstanceNamed, IsNameEnded, IsOwn, IsWriting, Lists, symbol_by, name-addressed, name-within, has-arguments, instance-within, arguments-noted, type-ended, name-comes, Step}
 use Rattle.cpp_direct.proofs.direct.Direct.nest_ended.Goals as goal
 
 pub name_ended-requires-clause-ended : goal.name_ended-requires-clause-ended
@@ -49,6 +44,6 @@ returns-in_ok-add_unless-in-Type g c =
     let old = c.args.self.now in
     let added = c.in_ok-add_unless-in-Type.ensures in
     let s = symbol_by g.G.Grammar.IS_WIDE g.G.Grammar.IS_BARE g.G.Grammar.IS_BRIEF c.args.s.now in
-    subst (λ n. IsWriting s c.add_unless.new.self (steps.Value false n.is_dependent)) (sym added.nest)
+    subst (λ n. IsWriting s c.add_unless.new.self (Step.Value false n.is_dependent)) (sym added.nest)
     (type-ended s c.args.self.now c.add_unless.new.self c.requires.writing.kept before.0 before.1 c.requires.end c.in-Type.is
     (subst (λ n. Lists (record old { at = n }) c.add_unless.new.self (added_unless old old.nest.is_listed old.nest.from old.nest.is_dependent)) c.in_ok-self.ensures.1 added))

@@ -1,5 +1,4 @@
-use Rattle.std.proofs.Common.{sym}
-use Rattle.cpp_direct.proofs.Nesting.{named-tagged}
+use Rattle.cpp_direct.proofs.ForAnswers.{sym, named-tagged}
 use Rattle.cpp_direct.proofs.direct.Direct.nest_named.Goals as goal
 
 pub nest_tagged-requires : goal.nest_tagged-requires

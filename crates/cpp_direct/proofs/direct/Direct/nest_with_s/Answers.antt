@@ -1,18 +1,5 @@
-use Rattle.std.proofs.Common.{arith, ◌≡◌, ◌+◌, ◌-◌, ◌++◌, ◌∷◌, [], length, take, drop, subst, sym, ap, ◌∙◌, append-nil, reverse, true, Some, ◌≢◌}
-use Rattle.std.proofs.lemmas.Bool.{false≢true}
-use Rattle.std.specs.Bool.{◌==◌}
-use Rattle.sym_core.specs.declared.NumberKind.TheVariants.{Seq36}
-use Rattle.sym_core.specs.Value.{counted_value}
-use Rattle.cpp_direct.specs.AllStates.{argument_of, is_type, IsNestKnown, symbol_by}
-use Rattle.cpp_direct.specs.Holes.{StandsAt, IsSeqAt}
-use Rattle.cpp_direct.specs.declared.open.Arguments.{Arguments}
-use Rattle.cpp_direct.specs.declared.open.Nest.{Nest}
-use Rattle.cpp_direct.proofs.Moves.{stands-join}
-use Rattle.cpp_direct.proofs.Kept.{candidate-inside}
-use Rattle.cpp_direct.proofs.Nesting.{reference-begins, abbreviation-begins}
-use Rattle.cpp_direct.proofs.TypesRead.{there}
+use Rattle.cpp_direct.proofs.ForAnswers.{arith, ◌≡◌, ◌+◌, ◌-◌, ◌++◌, ◌∷◌, [], length, take, drop, subst, sym, ap, ◌∙◌, append-nil, reverse, true, Some, ◌≢◌, false≢true, ◌==◌, counted_value, argument_of, is_type, IsNestKnown, symbol_by, StandsAt, IsSeqAt, Arguments, Nest, stands-join, candidate-inside, reference-begins, abbreviation-begins, there, NumberKind}
 use Rattle.cpp_direct.proofs.direct.Direct.nest_with_s.Goals as goal
-use Rattle.cpp_direct.proofs.direct.Direct.nest_with_s.Goals.{else-candidate-2-via-then-candidate-2+else-not-may_depend, else-candidate-2-via-else-candidate-2}
 
 pub nest_in_std-requires-clause-awaits : goal.nest_in_std-requires-clause-awaits
 nest_in_std-requires-clause-awaits g c =
@@ -29,7 +16,7 @@ nest_in_std-requires-clause-awaits g c =
 pub repeat-requires : goal.repeat-requires
 repeat-requires g c =
     let got = c.in_ok-candidate.ensures.is in
-    let is = candidate-inside _ c.args.self.now (counted_value Seq36 got.0) c.in_ok-candidate.candidate c.requires.awaits.kept
+    let is = candidate-inside _ c.args.self.now (counted_value NumberKind.Seq36 got.0) c.in_ok-candidate.candidate c.requires.awaits.kept
     c.in_ok-candidate.ensures.ordered got.2 in
     record { from = is.0; to = omega (arith, is.1, ap length (c.in_ok-candidate.ensures.same.text ∙ append-nil c.args.self.now.text.list.items)) }
 
@@ -43,14 +30,14 @@ nest_known-requires g c =
     let wrote = c.in_ok-repeat.ensures in
     let plain : c.substitution.new.self.text.list.items ≡ old.text.list.items = same.text ∙ append-nil old.text.list.items in
     let typed : k.is_dependent ≡ true → is_type c.args.purpose ≡ true = λ e. elim c.else-candidate-2.branch [
-      | else-candidate-2-via-then-candidate-2+else-not-may_depend w ↦ w.may_depend.ensures.is_type w.if-not-may_depend.false
-      | else-candidate-2-via-else-candidate-2 w ↦ absurd (false≢true (sym w.if-candidate-2.false ∙ e))
+      | goal.else-candidate-2-via-then-candidate-2+else-not-may_depend w ↦ w.may_depend.ensures.is_type w.if-not-may_depend.false
+      | goal.else-candidate-2-via-else-candidate-2 w ↦ absurd (false≢true (sym w.if-candidate-2.false ∙ e))
     ] in
     let named : k.is_dependent ≡ true → (a : Arguments) × (argument_of (reverse old.waiting.list.items) ≡ Some a) × (a.encoding ≢ 0) = λ e. elim c.else-candidate-2.branch [
-      | else-candidate-2-via-then-candidate-2+else-not-may_depend w ↦
+      | goal.else-candidate-2-via-then-candidate-2+else-not-may_depend w ↦
           let n = w.may_depend.ensures.named w.if-not-may_depend.false in
           (n.0, ap (λ v. argument_of (reverse v.list.items)) (sym same.waiting) ∙ n.1, n.2)
-      | else-candidate-2-via-else-candidate-2 w ↦ absurd (false≢true (sym w.if-candidate-2.false ∙ e))
+      | goal.else-candidate-2-via-else-candidate-2 w ↦ absurd (false≢true (sym w.if-candidate-2.false ∙ e))
     ] in
     subst (λ n. IsNestKnown s (record c.repeat.new.self { nest = n })) (sym c.listed_nest-self.ensures)
     (reference-begins s old c.repeat.new.self c.args.purpose is.0 k c.requires.awaits c.requires.letter

@@ -1,5 +1,4 @@
-use Rattle.std.proofs.Common.{refl, false}
-use Rattle.cpp_direct.proofs.Arguments.{next-argument-begins}
+use Rattle.cpp_direct.proofs.ForAnswers.{refl, false, next-argument-begins}
 use Rattle.cpp_direct.proofs.direct.Direct.next_argument.Goals as goal
 
 pub argument_at-requires-clause-awaits : goal.argument_at-requires-clause-awaits

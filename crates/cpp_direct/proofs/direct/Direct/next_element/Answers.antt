@@ -1,5 +1,4 @@
-use Rattle.std.proofs.Common.{refl, true}
-use Rattle.cpp_direct.proofs.Arguments.{argument-type, next-argument-begins}
+use Rattle.cpp_direct.proofs.ForAnswers.{refl, true, argument-type, next-argument-begins}
 use Rattle.cpp_direct.proofs.direct.Direct.next_element.Goals as goal
 
 pub returns : goal.returns

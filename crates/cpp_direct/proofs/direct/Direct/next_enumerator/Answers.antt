@@ -1,5 +1,4 @@
-use Rattle.std.proofs.Common.{refl}
-use Rattle.cpp_direct.proofs.Arguments.{argument-enumerator-expected}
+use Rattle.cpp_direct.proofs.ForAnswers.{refl, argument-enumerator-expected}
 use Rattle.cpp_direct.proofs.direct.Direct.next_enumerator.Goals as goal
 
 pub named_type-requires-clause-awaits : goal.named_type-requires-clause-awaits

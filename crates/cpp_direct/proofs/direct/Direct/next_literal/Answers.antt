@@ -1,6 +1,4 @@
-use Rattle.std.proofs.Common.{◌∷◌, [], ◌∙◌, ap, refl, reverse, subst, sym, false}
-use Rattle.cpp_direct.specs.Holes.{StandsAt}
-use Rattle.cpp_direct.proofs.Arguments.{known-next, literal-read}
+use Rattle.cpp_direct.proofs.ForAnswers.{◌∷◌, [], ◌∙◌, ap, refl, reverse, subst, sym, false, StandsAt, known-next, literal-read}
 use Rattle.cpp_direct.proofs.direct.Direct.next_literal.Goals as goal
 
 pub plain_literal-requires-clause-letter : goal.plain_literal-requires-clause-letter

@@ -1,4 +1,4 @@
-use Rattle.cpp_direct.proofs.Ending.{parameter-expected}
+use Rattle.cpp_direct.proofs.ForAnswers.{parameter-expected}
 use Rattle.cpp_direct.proofs.direct.Direct.next_parameter.Goals as goal
 
 pub returns : goal.returns

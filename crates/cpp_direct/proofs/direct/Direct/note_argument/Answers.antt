@@ -1,6 +1,4 @@
-use Rattle.std.proofs.Common.{refl}
-use Rattle.cpp_direct.proofs.Arguments.{argument-awaits}
-use Rattle.cpp_direct.proofs.TypesRead.{popped}
+use Rattle.cpp_direct.proofs.ForAnswers.{refl, argument-awaits, popped}
 use Rattle.cpp_direct.proofs.direct.Direct.note_argument.Goals as goal
 
 pub returns : goal.returns

@@ -1,5 +1,4 @@
-use Rattle.std.proofs.Common.{refl}
-use Rattle.cpp_direct.proofs.Handed.{listed-noted}
+use Rattle.cpp_direct.proofs.ForAnswers.{refl, listed-noted}
 use Rattle.cpp_direct.proofs.direct.Direct.note_dependent.Goals as goal
 
 pub returns : goal.returns

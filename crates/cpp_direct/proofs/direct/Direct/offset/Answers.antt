@@ -1,8 +1,4 @@
-use Rattle.std.proofs.Common.{true, false, arith, refl}
-use Rattle.cpp_direct.proofs.TypesRead.{there}
-use Rattle.cpp_direct.proofs.NamePlaces.{some-by, reads-begun}
-use Rattle.cpp_direct.proofs.Elements.{offset-read}
-use Rattle.cpp_direct.proofs.Moves.{stands-none}
+use Rattle.cpp_direct.proofs.ForAnswers.{true, false, arith, refl, there, some-by, reads-begun, offset-read, stands-none}
 use Rattle.cpp_direct.proofs.direct.Direct.offset.Goals as goal
 
 pub returns-then-byte_at-eq110 : goal.returns-then-byte_at-eq110
@@ -19,5 +15,4 @@ returns c =
     let s = c.args.s.now in
     let old = c.args.self.now in
     some-by c.distance-2.result c.distance-2.ensures
-    (λ read. offset-read s old old c.distance-2.new.self false (stands-none s old.at) (omega arith)
-    (reads-begun old old refl refl refl refl refl) read)
+    (λ read. offset-read s old old c.distance-2.new.self false (stands-none s old.at) (omega arith) (reads-begun old old refl refl refl refl refl) read)

@@ -1,6 +1,4 @@
-use Rattle.std.proofs.Common.{◌∷◌, [], arith}
-use Rattle.cpp_direct.proofs.NamePlaces.{some-by}
-use Rattle.cpp_direct.proofs.TypesRead.{then-there}
+use Rattle.cpp_direct.proofs.ForAnswers.{◌∷◌, [], arith, some-by, then-there}
 use Rattle.cpp_direct.proofs.direct.Direct.open_lambda.Goals as goal
 
 pub returns : goal.returns

@@ -1,4 +1,4 @@
-use Rattle.cpp_direct.proofs.NestComponents.{operator-follows, operator-last}
+use Rattle.cpp_direct.proofs.ForAnswers.{operator-follows, operator-last}
 use Rattle.cpp_direct.proofs.direct.Direct.operator.Goals as goal
 
 pub operator_ended-requires-clause-read : goal.operator_ended-requires-clause-read

@@ -1,7 +1,4 @@
-use Rattle.std.proofs.Common.{arith, false, subst, sym}
-use Rattle.cpp_direct.specs.AllStates.{IsNameEnded, nowhere, symbol_by}
-use Rattle.cpp_direct.proofs.Nesting.{operator-ends}
-use Rattle.cpp_direct.proofs.TypesRead.{there}
+use Rattle.cpp_direct.proofs.ForAnswers.{arith, false, subst, sym, IsNameEnded, nowhere, symbol_by, operator-ends, there}
 use Rattle.cpp_direct.proofs.direct.Direct.operator_ended.Goals as goal
 
 pub name_ended-requires-clause-ended : goal.name_ended-requires-clause-ended

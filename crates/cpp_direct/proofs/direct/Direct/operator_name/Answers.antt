@@ -1,9 +1,4 @@
-use Rattle.std.proofs.Common.{◌≢◌, ◌+◌, ◌∷◌, ◌++◌, [], length, codes, refl, ap, ◌∙◌, arith}
-use Rattle.cpp_grammar.specs.Texts.{look_up, operator_texts}
-use Rattle.cpp_direct.proofs.NamePlaces.{reads-written}
-use Rattle.cpp_direct.proofs.Moves.{stands-join, stands-moved}
-use Rattle.cpp_direct.proofs.LettersTested.{operator-listed}
-use Rattle.cpp_direct.proofs.UnscopedNames.{not-so}
+use Rattle.cpp_direct.proofs.ForAnswers.{◌≢◌, ◌+◌, ◌∷◌, ◌++◌, [], length, codes, refl, ap, ◌∙◌, arith, look_up, operator_texts, reads-written, stands-join, stands-moved, operator-listed, not-so}
 use Rattle.cpp_direct.proofs.direct.Direct.operator_name.Goals as goal
 
 pub returns : goal.returns
@@ -14,8 +9,7 @@ returns c =
     let second = c.byte_at-second.result in
     let text = c.operator_text-text.ensures in
     let wrote = c.in_ok-push.ensures in
-    let known : look_up (first ∷ second ∷ []) operator_texts ≢ [] =
-    λ e. absurd (c.if-size-eq8.false (ap length (text ∙ ap (λ k. codes "operator" ++ k) e))) in
+    let known : look_up (first ∷ second ∷ []) operator_texts ≢ [] = λ e. absurd (c.if-size-eq8.false (ap length (text ∙ ap (λ k. codes "operator" ++ k) e))) in
     let is = operator-listed first second known in (
       first,
       second,

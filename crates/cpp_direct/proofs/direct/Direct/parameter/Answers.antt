@@ -1,21 +1,16 @@
-use Rattle.std.proofs.Common.{true, false, arith}
-use Rattle.cpp_direct.specs.WriterInvariant.{IsWriting}
-use Rattle.cpp_direct.specs.declared.open.Step.TheVariants as steps
-use Rattle.cpp_direct.proofs.Kept.{opened-so}
-use Rattle.cpp_direct.proofs.Signatures.{no-reference, parameter-comes, reference-comes}
-use Rattle.cpp_direct.proofs.TypesRead.{there}
+use Rattle.cpp_direct.proofs.ForAnswers.{true, false, arith, IsWriting, opened-so, no-reference, parameter-comes, reference-comes, there, Step}
 use Rattle.cpp_direct.proofs.direct.Direct.parameter.Goals as goal
 
 pub returns-then-byte-eq82 : goal.returns-then-byte-eq82
 returns-then-byte-eq82 g c =
-    opened-so c.open_type.result steps.Type _ (IsWriting _ c.open_type.new.self) c.open_type.ensures
+    opened-so c.open_type.result Step.Type _ (IsWriting _ c.open_type.new.self) c.open_type.ensures
     (reference-comes _ c.args.self.now c.open_type.new.self c.args._is_pointer true c.end-from.result c.requires c.end-from.ensures
     (there c.args.s.now c.args.self.now.at c.byte_at-byte.result 82 c.if-byte-eq82.true (omega arith) c.byte_at-byte.ensures))
 
 pub returns-then-byte-eq79 : goal.returns-then-byte-eq79
 returns-then-byte-eq79 g c =
     let opened = c.open_type-then-byte-eq79 in
-    opened-so opened.result steps.Type _ (IsWriting _ opened.new.self) opened.ensures
+    opened-so opened.result Step.Type _ (IsWriting _ opened.new.self) opened.ensures
     (reference-comes _ c.args.self.now opened.new.self c.args._is_pointer false c.end-from.result c.requires c.end-from.ensures
     (there c.args.s.now c.args.self.now.at c.byte_at-byte.result 79 c.if-byte-eq79.true (omega arith) c.byte_at-byte.ensures))
 

@@ -1,8 +1,4 @@
-use Rattle.std.proofs.Common.{◌≡◌, ◌+◌, ◌∷◌, ◌++◌, [], length, ap, ◌∙◌, arith, refl}
-use Rattle.cpp_direct.specs.MidStep.{parameter_digits}
-use Rattle.cpp_direct.proofs.Moves.{stands-moved}
-use Rattle.cpp_direct.proofs.DependentsRead.{operand-done, operand-inside}
-use Rattle.cpp_direct.proofs.TypesRead.{there}
+use Rattle.cpp_direct.proofs.ForAnswers.{◌≡◌, ◌+◌, ◌∷◌, ◌++◌, [], length, ap, ◌∙◌, arith, refl, parameter_digits, stands-moved, operand-done, operand-inside, there}
 use Rattle.cpp_direct.proofs.direct.Direct.parameter_argument.Goals as goal
 
 pub repeat-requires : goal.repeat-requires
@@ -22,8 +18,7 @@ returns g c =
     let second_is : second ≡ old.at + 1 + 1 = c.in_ok-checked_add.ensures.1 ∙ ap (λ n. n + 1) c.in_ok-behind.ensures.1 in
     let end_is : read.end ≡ old.at + 1 + 1 + length letters = c.in_ok-read.ensures.end ∙ ap (λ n. n + length letters) second_is in
     operand-done _ old c.repeat.new.self _ c.in_ok-named.named read.number c.in_ok-argument.argument c.in_ok-self.field-0 c.pop.new.self.list.items c.in_ok-pop.field-0
-    c.in_ok-entry.entry c.requires.awaits c.requires.wide
-    c.in_ok-read.ensures.few c.requires.letter
+    c.in_ok-entry.entry c.requires.awaits c.requires.wide c.in_ok-read.ensures.few c.requires.letter
     (stands-moved s first (old.at + 1) (84 ∷ []) c.in_ok-behind.ensures.1 (there s first c.byte_at.result 84 c.if-byte_at-ne84.false (omega arith) c.byte_at.ensures))
     (stands-moved s second (old.at + 1 + 1) letters second_is c.in_ok-read.ensures.stands)
     (stands-moved s read.end (old.at + 1 + 1 + length letters) (69 ∷ []) end_is

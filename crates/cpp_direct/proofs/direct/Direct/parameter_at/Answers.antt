@@ -1,10 +1,5 @@
-use Rattle.std.proofs.Common.{append-nil, arith, false, refl, sym, true, subst, ap, ◌∙◌, codes, nat_eq}
-use Rattle.std.specs.List.{ends_with}
-use Rattle.cpp_direct.specs.AllStates.{AwaitsParameter, AwaitsSignature, symbol_by}
-use Rattle.cpp_direct.proofs.Signatures.{parameter-next, signature-closed}
-use Rattle.cpp_direct.proofs.TypesRead.{there}
+use Rattle.cpp_direct.proofs.ForAnswers.{append-nil, arith, false, refl, sym, true, subst, ap, ◌∙◌, codes, nat_eq, ends_with, AwaitsParameter, AwaitsSignature, symbol_by, parameter-next, signature-closed, there}
 use Rattle.cpp_direct.proofs.direct.Direct.parameter_at.Goals as goal
-use Rattle.cpp_direct.proofs.direct.Direct.parameter_at.Goals.{then-not-is_first+in_ok-push_pair, else-not-is_first}
 
 pub function_ended-requires-clause-ended : goal.function_ended-requires-clause-ended
 function_ended-requires-clause-ended g c =
@@ -17,12 +12,12 @@ function_ended-requires-clause-ended g c =
 
 pub parameter-requires : goal.parameter-requires
 parameter-requires g c = elim c.if-not-is_first.branch [
-  | then-not-is_first+in_ok-push_pair w ↦
+  | goal.then-not-is_first+in_ok-push_pair w ↦
       subst (λ d. AwaitsParameter (symbol_by g.G.Grammar.IS_WIDE g.G.Grammar.IS_BARE g.G.Grammar.IS_BRIEF c.args.s.now) d c.args.is_pointer) (sym w.self-is)
       (parameter-next _ c.args.self.now w.push_pair.new.self c.args.is_pointer false
       (subst (λ b. AwaitsSignature (symbol_by g.G.Grammar.IS_WIDE g.G.Grammar.IS_BARE g.G.Grammar.IS_BRIEF c.args.s.now) c.args.self.now c.args.is_pointer b) w.if-not-is_first.true c.requires.awaits)
       w.in_ok-push_pair.ensures.text w.in_ok-push_pair.ensures.candidates w.in_ok-push_pair.ensures.waiting w.in_ok-push_pair.ensures.scope w.in_ok-push_pair.ensures.at)
-  | else-not-is_first w ↦
+  | goal.else-not-is_first w ↦
       subst (λ d. AwaitsParameter (symbol_by g.G.Grammar.IS_WIDE g.G.Grammar.IS_BARE g.G.Grammar.IS_BRIEF c.args.s.now) d c.args.is_pointer) (sym w.self-is)
       (parameter-next _ c.args.self.now c.args.self.now c.args.is_pointer true
       (subst (λ b. AwaitsSignature (symbol_by g.G.Grammar.IS_WIDE g.G.Grammar.IS_BARE g.G.Grammar.IS_BRIEF c.args.s.now) c.args.self.now c.args.is_pointer b) w.if-not-is_first.false c.requires.awaits)

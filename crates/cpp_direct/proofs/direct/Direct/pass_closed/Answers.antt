@@ -1,10 +1,4 @@
-use Rattle.std.proofs.Common.{Some, true, false, ap, arith, ◌∙◌}
-use Rattle.cpp_direct.specs.declared.open.Open.TheVariants as opens
-use Rattle.cpp_direct.proofs.Handed.{value-element, value-returned, value-signature, value-enumerator, argument-read, special-read, takes-elements}
-use Rattle.cpp_direct.proofs.FunctionsWithin.{front-read, parameter-read-within, type-led}
-use Rattle.cpp_direct.proofs.LambdasRead.{lambda-parameter-read}
-use Rattle.cpp_direct.proofs.MemberFunctions.{member-parameter-read}
-use Rattle.cpp_direct.proofs.Signatures.{value-array}
+use Rattle.cpp_direct.proofs.ForAnswers.{Some, true, false, ap, arith, ◌∙◌, value-element, value-returned, value-signature, value-enumerator, argument-read, special-read, takes-elements, front-read, parameter-read-within, type-led, lambda-parameter-read, member-parameter-read, value-array, Open}
 use Rattle.cpp_direct.proofs.direct.Direct.pass_closed.Goals as goal
 
 pub returned-requires-clause-returned : goal.returned-requires-clause-returned
@@ -23,7 +17,7 @@ array_ended-requires-clause-read g c =
 pub enclosing_parameter-requires-clause-read : goal.enclosing_parameter-requires-clause-read
 enclosing_parameter-requires-clause-read g c =
     parameter-read-within _ c.args.self.now c.in-Enclosing.mark c.in-Enclosing.from c.in-Enclosing.to
-    (value-element _ c.args.self.now c.args.is_reference (opens.Enclosing c.in-Enclosing.mark c.in-Enclosing.from c.in-Enclosing.to)
+    (value-element _ c.args.self.now c.args.is_reference (Open.Enclosing c.in-Enclosing.mark c.in-Enclosing.from c.in-Enclosing.to)
     c.requires.writing (c.requires.waits ∙ ap (λ o. Some o) c.in-Enclosing.is))
 
 pub instance_parameter-requires-clause-read : goal.instance_parameter-requires-clause-read
@@ -51,27 +45,27 @@ addressed_parameter-requires-clause-read g c = (
 pub lambda_parameter-requires-clause-read : goal.lambda_parameter-requires-clause-read
 lambda_parameter-requires-clause-read g c =
     lambda-parameter-read _ c.args.self.now c.in-Lambda.from c.in-Lambda.holder
-    (value-element _ c.args.self.now c.args.is_reference (opens.Lambda c.in-Lambda.from c.in-Lambda.holder) c.requires.writing
+    (value-element _ c.args.self.now c.args.is_reference (Open.Lambda c.in-Lambda.from c.in-Lambda.holder) c.requires.writing
     (c.requires.waits ∙ ap (λ o. Some o) c.in-Lambda.is))
 
 pub member_parameter-requires-clause-read : goal.member_parameter-requires-clause-read
 member_parameter-requires-clause-read g c =
     member-parameter-read _ c.args.self.now c.in-Member.mark c.in-Member.to
-    (value-element _ c.args.self.now c.args.is_reference (opens.Member c.in-Member.mark c.in-Member.to)
+    (value-element _ c.args.self.now c.args.is_reference (Open.Member c.in-Member.mark c.in-Member.to)
     c.requires.writing (c.requires.waits ∙ ap (λ o. Some o) c.in-Member.is))
 
 pub finish-requires : goal.finish-requires
 finish-requires g c =
     special-read _ c.args.self.now
-    (value-element _ c.args.self.now c.args.is_reference opens.Special c.requires.writing (c.requires.waits ∙ ap (λ o. Some o) c.in-Special.is))
+    (value-element _ c.args.self.now c.args.is_reference Open.Special c.requires.writing (c.requires.waits ∙ ap (λ o. Some o) c.in-Special.is))
 
 pub derived_ended-requires-clause-read : goal.derived_ended-requires-clause-read
 derived_ended-requires-clause-read g c =
-    value-element _ c.args.self.now c.args.is_reference opens.Derived c.requires.writing (c.requires.waits ∙ ap (λ o. Some o) c.in-Derived.is)
+    value-element _ c.args.self.now c.args.is_reference Open.Derived c.requires.writing (c.requires.waits ∙ ap (λ o. Some o) c.in-Derived.is)
 
 pub base_ended-requires-clause-read : goal.base_ended-requires-clause-read
 base_ended-requires-clause-read g c =
-    value-element _ c.args.self.now c.args.is_reference (opens.Base c.in-Base.to) c.requires.writing (c.requires.waits ∙ ap (λ o. Some o) c.in-Base.is)
+    value-element _ c.args.self.now c.args.is_reference (Open.Base c.in-Base.to) c.requires.writing (c.requires.waits ∙ ap (λ o. Some o) c.in-Base.is)
 
 pub enumerator-requires-clause-awaits : goal.enumerator-requires-clause-awaits
 enumerator-requires-clause-awaits g c =
@@ -79,8 +73,7 @@ enumerator-requires-clause-awaits g c =
 
 pub returns-in_default : goal.returns-in_default
 returns-in_default g c =
-    argument-read _ c.args.self.now c.args.entry
-    (value-element _ c.args.self.now c.args.is_reference c.args.entry c.requires.writing c.requires.waits)
+    argument-read _ c.args.self.now c.args.entry (value-element _ c.args.self.now c.args.is_reference c.args.entry c.requires.writing c.requires.waits)
     (takes-elements c.args.entry c.requires.others c.in_default.not-Returned c.in_default.not-Signature c.in_default.not-Special c.in_default.not-Derived c.in_default.not-Base c.in_default.not-Enumerator
     c.in_default.not-Enclosing c.in_default.not-EnclosingInstance c.in_default.not-EnclosingFront c.in_default.not-Argument c.in_default.not-Lambda c.in_default.not-Member c.in_default.not-Element c.in_default.not-Array
     c.in_default.not-Address c.in_default.not-AddressedFront c.in_default.not-Addressed c.in_default.not-ArgumentEnumerator)

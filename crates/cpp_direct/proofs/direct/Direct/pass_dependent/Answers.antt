@@ -1,6 +1,4 @@
-use Rattle.std.proofs.Common.{arith, true}
-use Rattle.cpp_direct.proofs.FunctionsWithin.{front-read, type-led}
-use Rattle.cpp_direct.proofs.Listed.{waits-last}
+use Rattle.cpp_direct.proofs.ForAnswers.{arith, true, front-read, type-led, waits-last}
 use Rattle.cpp_direct.proofs.direct.Direct.pass_dependent.Goals as goal
 
 pub instance_parameter-requires-clause-read : goal.instance_parameter-requires-clause-read

@@ -1,37 +1,27 @@
-use Rattle.std.proofs.Common.{refl, subst}
-use Rattle.cpp_direct.specs.declared.open.Open.TheVariants as opens
-use Rattle.cpp_direct.specs.MidStep.{IsElementPassed}
-use Rattle.cpp_direct.specs.Symbol.{symbol_by}
-use Rattle.cpp_direct.specs.WriterInvariant.{TakesFunction}
-use Rattle.cpp_direct.proofs.Arguments.{element-passed}
-use Rattle.cpp_direct.proofs.Signatures.{passed-on, takes-as-element}
-use Rattle.cpp_direct.proofs.FunctionsWithin.{parameter-read-within}
-use Rattle.cpp_direct.proofs.InstancesWithin.{element-instance}
-use Rattle.cpp_direct.proofs.Handed.{argument-read, parameter-read, special-read}
-use Rattle.cpp_direct.proofs.Listed.{waits-last}
+use Rattle.cpp_direct.proofs.ForAnswers.{refl, subst, IsElementPassed, symbol_by, TakesFunction, element-passed, passed-on, takes-as-element, parameter-read-within, element-instance, argument-read, parameter-read, special-read, waits-last, Open}
 use Rattle.cpp_direct.proofs.direct.Direct.pass_element.Goals as goal
 
 pub parameter_ended-requires-clause-ended : goal.parameter_ended-requires-clause-ended
 parameter_ended-requires-clause-ended g c =
     parameter-read _ c.args.self.now c.in-Parameters.mark c.in-Parameters.start c.in-Parameters.argument
-    (passed-on _ c.args.self.now (opens.Parameters c.in-Parameters.mark c.in-Parameters.start c.in-Parameters.argument) c.requires.passed
+    (passed-on _ c.args.self.now (Open.Parameters c.in-Parameters.mark c.in-Parameters.start c.in-Parameters.argument) c.requires.passed
     (waits-last _ _ _ _ c.as_slice.ensures c.in_ok-mark.ensures.value c.in-Parameters.is))
 
 pub enclosing_parameter-requires-clause-read : goal.enclosing_parameter-requires-clause-read
 enclosing_parameter-requires-clause-read g c =
     parameter-read-within _ c.args.self.now c.in-Enclosing.mark c.in-Enclosing.from c.in-Enclosing.to
-    (passed-on _ c.args.self.now (opens.Enclosing c.in-Enclosing.mark c.in-Enclosing.from c.in-Enclosing.to) c.requires.passed
+    (passed-on _ c.args.self.now (Open.Enclosing c.in-Enclosing.mark c.in-Enclosing.from c.in-Enclosing.to) c.requires.passed
     (waits-last _ _ _ _ c.as_slice.ensures c.in_ok-mark.ensures.value c.in-Enclosing.is))
 
 pub instance_parameter-requires-clause-read : goal.instance_parameter-requires-clause-read
 instance_parameter-requires-clause-read g c =
-    let o = opens.EnclosingInstance c.in-EnclosingInstance.mark c.in-EnclosingInstance.from c.in-EnclosingInstance.to c.in-EnclosingInstance.argument in
+    let o = Open.EnclosingInstance c.in-EnclosingInstance.mark c.in-EnclosingInstance.from c.in-EnclosingInstance.to c.in-EnclosingInstance.argument in
     element-instance _ c.args.self.now c.in-EnclosingInstance.mark c.in-EnclosingInstance.from c.in-EnclosingInstance.to c.in-EnclosingInstance.argument
     (passed-on _ c.args.self.now o c.requires.passed (waits-last _ _ _ _ c.as_slice.ensures c.in_ok-mark.ensures.value c.in-EnclosingInstance.is))
 
 pub finish-requires : goal.finish-requires
 finish-requires g c =
-    special-read _ c.args.self.now (passed-on _ c.args.self.now opens.Special c.requires.passed
+    special-read _ c.args.self.now (passed-on _ c.args.self.now Open.Special c.requires.passed
     (waits-last _ _ _ _ c.as_slice.ensures c.in_ok-mark.ensures.value c.in-Special.is))
 
 pub element_ended-requires-clause-read : goal.element_ended-requires-clause-read

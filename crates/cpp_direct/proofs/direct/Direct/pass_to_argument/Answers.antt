@@ -1,5 +1,4 @@
-use Rattle.std.proofs.Common.{Some, true, false, ap, ◌∙◌}
-use Rattle.cpp_direct.proofs.Arguments.{value-argument, value-argument-enumerator}
+use Rattle.cpp_direct.proofs.ForAnswers.{Some, true, false, ap, ◌∙◌, value-argument, value-argument-enumerator}
 use Rattle.cpp_direct.proofs.direct.Direct.pass_to_argument.Goals as goal
 
 pub argument_enumerator-requires-clause-awaits : goal.argument_enumerator-requires-clause-awaits

@@ -1,6 +1,4 @@
-use Rattle.std.proofs.Common.{refl}
-use Rattle.cpp_direct.proofs.NamePlaces.{reads-begun}
-use Rattle.cpp_direct.proofs.Elements.{boolean-literal-read, integer-literal-read}
+use Rattle.cpp_direct.proofs.ForAnswers.{refl, reads-begun, boolean-literal-read, integer-literal-read}
 use Rattle.cpp_direct.proofs.direct.Direct.plain_literal.Goals as goal
 
 pub returns-then-byte_at-eq98 : goal.returns-then-byte_at-eq98

@@ -1,11 +1,4 @@
-use Rattle.std.proofs.Common.{true, arith, ◌∷◌, [], subst}
-use Rattle.cpp_direct.specs.AllStates.{IsWriting, symbol_by}
-use Rattle.cpp_direct.specs.declared.open.Step.TheVariants as steps
-use Rattle.cpp_direct.specs.Holes.{StandsAt}
-use Rattle.cpp_direct.proofs.MovesOfNests.{first-is-rest}
-use Rattle.cpp_direct.proofs.Kept.{opened-so}
-use Rattle.cpp_direct.proofs.Nesting.{component-next, first-opens}
-use Rattle.cpp_direct.proofs.TypesRead.{there}
+use Rattle.cpp_direct.proofs.ForAnswers.{true, arith, ◌∷◌, [], subst, IsWriting, symbol_by, StandsAt, first-is-rest, opened-so, component-next, first-opens, there, Step}
 use Rattle.cpp_direct.proofs.direct.Direct.rest_at.Goals as goal
 
 pub returns-then-byte_at-eq73 : goal.returns-then-byte_at-eq73
@@ -14,7 +7,7 @@ returns-then-byte_at-eq73 g c =
     let mid = c.add_unless.new.self in
     let writing = c.requires.writing in
     let added = c.in_ok-add_unless.ensures in
-    opened-so c.open_arguments.result (steps.List true) _ (IsWriting s c.open_arguments.new.self) c.open_arguments.ensures
+    opened-so c.open_arguments.result (Step.List true) _ (IsWriting s c.open_arguments.new.self) c.open_arguments.ensures
     (first-opens s writing.is_before.1 c.args.self.now mid c.open_arguments.new.self writing.kept writing.is_before.0 writing.is_before.2 writing.is_before.3
     (subst (λ n. StandsAt s.bytes n (73 ∷ [])) added.at (there s.bytes mid.at c.byte_at.result 73 c.if-byte_at-eq73.true (omega arith) c.byte_at.ensures))
     added)
@@ -23,5 +16,4 @@ pub components_at-requires-clause-writing : goal.components_at-requires-clause-w
 components_at-requires-clause-writing g c =
     let writing = c.requires.writing in
     component-next _ writing.is_before.1 c.args.self.now c.add_unless.new.self writing.kept writing.is_before.0
-    (first-is-rest writing.is_before.1 writing.is_before.2) writing.is_before.3
-    c.in_ok-add_unless.ensures
+    (first-is-rest writing.is_before.1 writing.is_before.2) writing.is_before.3 c.in_ok-add_unless.ensures

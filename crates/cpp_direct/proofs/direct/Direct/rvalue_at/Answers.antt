@@ -1,21 +1,15 @@
-use Rattle.std.proofs.Common.{◌+◌, false, ◌∙◌, ap, arith, inl, inr}
-use Rattle.cpp_direct.specs.Holes.{IsReferable}
-use Rattle.cpp_direct.specs.WriterInvariant.{IsWriting}
-use Rattle.cpp_direct.specs.declared.open.Step.TheVariants as steps
-use Rattle.cpp_direct.proofs.Kept.{opened-so}
-use Rattle.cpp_direct.proofs.DependentsRead.{argument-inside, forwarded-done}
-use Rattle.cpp_direct.proofs.TypesRead.{reference-opened, there}
+use Rattle.cpp_direct.proofs.ForAnswers.{◌+◌, false, ◌∙◌, ap, arith, inl, inr, IsReferable, IsWriting, opened-so, argument-inside, forwarded-done, reference-opened, there, Step}
 use Rattle.cpp_direct.proofs.direct.Direct.rvalue_at.Goals as goal
 
 pub returns-then-byte_at-ne84 : goal.returns-then-byte_at-ne84
 returns-then-byte_at-ne84 g c =
-    opened-so c.open_type.result steps.Type _ (IsWriting _ c.open_type.new.self) c.open_type.ensures
+    opened-so c.open_type.result Step.Type _ (IsWriting _ c.open_type.new.self) c.open_type.ensures
     (reference-opened _ c.args.self.now c.open_type.new.self false c.end-from.result c.requires.awaits c.end-from.ensures c.requires.letter)
 
 pub returns-then-not-argument : goal.returns-then-not-argument
 returns-then-not-argument g c =
     let opened = c.open_type-then-not-argument in
-    opened-so opened.result steps.Type _ (IsWriting _ opened.new.self) opened.ensures
+    opened-so opened.result Step.Type _ (IsWriting _ opened.new.self) opened.ensures
     (reference-opened _ c.args.self.now opened.new.self false c.end-from.result c.requires.awaits c.end-from.ensures c.requires.letter)
 
 pub repeat-requires : goal.repeat-requires
@@ -39,5 +33,4 @@ returns g c =
     (rw here at (there c.args.s.now c.in_ok-behind.behind c.byte_at.result 84 c.if-byte_at-ne84.false (omega arith) c.byte_at.ensures))
     (rw line at c.in_ok-read.ensures.stands)
     c.in_ok-named.ensures c.in_ok-argument.ensures.is c.in_ok-argument.ensures.known c.if-named-eq0.false c.if-not-argument.false c.end-from.ensures
-    c.in_ok-repeat.ensures (rw line at c.in_ok-read.ensures.end)
-    c.in_ok-add_candidate.ensures c.in_ok-add_candidate-2.ensures
+    c.in_ok-repeat.ensures (rw line at c.in_ok-read.ensures.end) c.in_ok-add_candidate.ensures c.in_ok-add_candidate-2.ensures

@@ -1,4 +1,4 @@
-use Rattle.cpp_direct.proofs.DependentsRead.{none-written}
+use Rattle.cpp_direct.proofs.ForAnswers.{none-written}
 use Rattle.cpp_direct.proofs.direct.Direct.separate.Goals as goal
 
 pub returns-then-is_first : goal.returns-then-is_first

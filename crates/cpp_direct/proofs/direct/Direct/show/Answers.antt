@@ -1,5 +1,4 @@
-use Rattle.std.proofs.Common.{sym, ◌∙◌}
-use Rattle.cpp_direct.proofs.VisibleTexts.{left-shown, whole-shown}
+use Rattle.cpp_direct.proofs.ForAnswers.{sym, ◌∙◌, left-shown, whole-shown}
 use Rattle.cpp_direct.proofs.direct.Direct.show.Goals as goal
 
 pub returns-then-IS_BRIEF-clause-shown : goal.returns-then-IS_BRIEF-clause-shown
@@ -8,5 +7,4 @@ returns-then-IS_BRIEF-clause-shown g c =
     c.leave_out_marked.new.self.list.items c.requires c.leave_out_marked.ensures.items c.leave_out_marked.ensures.plain
 
 pub returns-clause-shown : goal.returns-clause-shown
-returns-clause-shown g c =
-    whole-shown _ (sym c.IS_BRIEF.ensures ∙ c.if-IS_BRIEF.false) c.args.self.now.text.list.items c.requires
+returns-clause-shown g c = whole-shown _ (sym c.IS_BRIEF.ensures ∙ c.if-IS_BRIEF.false) c.args.self.now.text.list.items c.requires

@@ -1,4 +1,4 @@
-use Rattle.cpp_direct.proofs.NamePlaces.{tag-read}
+use Rattle.cpp_direct.proofs.ForAnswers.{tag-read}
 use Rattle.cpp_direct.proofs.direct.Direct.tag.Goals as goal
 
 pub returns : goal.returns

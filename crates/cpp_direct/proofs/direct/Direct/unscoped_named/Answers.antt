@@ -1,5 +1,4 @@
-use Rattle.std.proofs.Common.{sym}
-use Rattle.cpp_direct.proofs.UnscopedNames.{unscoped-tagged}
+use Rattle.cpp_direct.proofs.ForAnswers.{sym, unscoped-tagged}
 use Rattle.cpp_direct.proofs.direct.Direct.unscoped_named.Goals as goal
 
 pub unscoped_tagged-requires-clause-named : goal.unscoped_tagged-requires-clause-named

@@ -1,21 +1,11 @@
-use Rattle.std.proofs.Common.{◌≡◌, ◌⊎◌, Err, Ok, subst, sym}
-use Rattle.std.specs.Prelude.{IfErr, IfOk}
-use Rattle.sym_core.specs.declared.refusal.Refusal.TheVariants.{Memory}
-use Rattle.symbol_parts.specs.Parsed.{found, language_parsed_by}
+use Rattle.std.proofs.lemmas.Result.{err_from_is_err_and}
+use Rattle.symbol_parts.specs.Parsed.{language_parsed_by}
+use Rattle.symbol_parts.proofs.Parsing.{behind-refused}
 use Rattle.symbol_parts.proofs.languages.LanguagesParser.parse.Goals as goal
 
-pub returns-in-Cpp-clause-ok : goal.returns-in-Cpp-clause-ok
-returns-in-Cpp-clause-ok g c =
-    subst (λ l. IfOk c.parse_as.result (λ p. language_parsed_by g.C.Marked.over g.C.Marked.marking c.args.self.now.limit c.args.self.now.detail l c.args.symbol.now ≡ Ok (found p))) (sym c.in-Cpp.is) c.parse_as.ensures.ok
-
-pub returns-in-Cpp-clause-err : goal.returns-in-Cpp-clause-err
-returns-in-Cpp-clause-err g c =
-    subst (λ l. IfErr c.parse_as.result (λ e. (e ≡ Memory) ⊎ (language_parsed_by g.C.Marked.over g.C.Marked.marking c.args.self.now.limit c.args.self.now.detail l c.args.symbol.now ≡ Err e))) (sym c.in-Cpp.is) c.parse_as.ensures.err
-
-pub returns-in-Rust-clause-ok : goal.returns-in-Rust-clause-ok
-returns-in-Rust-clause-ok g c =
-    subst (λ l. IfOk c.parse_as-in-Rust.result (λ p. language_parsed_by g.C.Marked.over g.C.Marked.marking c.args.self.now.limit c.args.self.now.detail l c.args.symbol.now ≡ Ok (found p))) (sym c.in-Rust.is) c.parse_as-in-Rust.ensures.ok
-
-pub returns-in-Rust-clause-err : goal.returns-in-Rust-clause-err
-returns-in-Rust-clause-err g c =
-    subst (λ l. IfErr c.parse_as-in-Rust.result (λ e. (e ≡ Memory) ⊎ (language_parsed_by g.C.Marked.over g.C.Marked.marking c.args.self.now.limit c.args.self.now.detail l c.args.symbol.now ≡ Err e))) (sym c.in-Rust.is) c.parse_as-in-Rust.ensures.err
+pub returns-in_err-parsed-clause-err : goal.returns-in_err-parsed-clause-err
+returns-in_err-parsed-clause-err g c =
+    let p = err_from_is_err_and c.from_residual.result c.from_residual.ensures.1 in
+    let languages = c.args.self.now in
+    rw (p.1, p.2) (behind-refused c.args.kind.skip (language_parsed_by g.C.Marked.over g.C.Marked.marking languages.limit languages.detail c.args.kind.lang c.args.symbol.now) c.in_err-parsed.field-0.0
+    c.in_err-parsed.ensures.err)

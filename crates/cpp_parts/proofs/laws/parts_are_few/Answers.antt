@@ -1,8 +1,0 @@
-use Rattle.std.proofs.Common.{arith}
-use Rattle.sym_parts.proofs.Marks.{length-parts_from}
-use Rattle.cpp_parts.specs.Roles.{symbol_marked}
-use Rattle.cpp_parts.proofs.Counts.{few-symbol}
-use Rattle.cpp_parts.proofs.laws.parts_are_few.Goals as goal
-
-pub returns : goal.returns
-returns c t printed = omega (arith, length-parts_from 0 (symbol_marked t printed), few-symbol t printed)

@@ -1,0 +1,8 @@
+use Rattle.std.proofs.Common.{arith}
+use Rattle.sym_parts.proofs.Marks.{length-stretches_from}
+use Rattle.cpp_parts.specs.Roles.{symbol_marked}
+use Rattle.cpp_parts.proofs.Counts.{few-symbol}
+use Rattle.cpp_parts.proofs.laws.stretches_are_few.Goals as goal
+
+pub returns : goal.returns
+returns c t printed = omega (arith, length-stretches_from 0 (symbol_marked t printed), few-symbol t printed)

@@ -1,0 +1,31 @@
+use Rattle.std.proofs.Common.{◌∙◌, sym, ap, arith}
+use Rattle.sym_print.specs.Unshared.{cost_of}
+use Rattle.cpp_parts.specs.Tasks.{printed_by}
+use Rattle.cpp_parts.proofs.Walking.{begins, first-task, other-tasks, fits-next, smaller, goes-on, ended}
+use Rattle.cpp_parts.proofs.walk.stretches_as.Goals as goal
+
+pub tasks-init : goal.tasks-init
+tasks-init c =
+    begins c.args.y.now c.args.limit c.new-tasks.result c.push_symbol.new.tasks c.new-found.result c.root_node.result _ _ _ c.new-tasks.ensures c.new-found.ensures c.in_ok-push_symbol.ensures.grows c.root_node.ensures.root
+    (ap (printed_by c.args.y.now) c.deref.ensures.0 ∙ sym c.parts.ensures.parts ∙ c.root_as-root.ensures.shows)
+    (omega (arith, c.in_ok-length_of_part.ensures.within, ap cost_of c.root_as-root.ensures.shows))
+
+pub take-requires-clause-task : goal.take-requires-clause-task
+take-requires-clause-task c = first-task c.args.y.now c.args.limit _ _ _ c.in-Some.ensures c.tasks.invariant.0
+
+pub take-requires-clause-tasks : goal.take-requires-clause-tasks
+take-requires-clause-tasks c = other-tasks c.args.y.now c.args.limit _ _ _ c.in-Some.ensures c.tasks.invariant.0
+
+pub take-requires-clause-fits : goal.take-requires-clause-fits
+take-requires-clause-fits c = omega (arith, fits-next c.args.y.now _ _ _ c.tasks.found.place c.args.limit c.in-Some.ensures c.tasks.invariant.2, c.ranges.limit.fits)
+
+pub tasks-smaller : goal.tasks-smaller
+tasks-smaller c = smaller c.args.y.now _ _ _ _ c.in-Some.ensures c.in_ok-take.ensures.weight
+
+pub tasks-preserved : goal.tasks-preserved
+tasks-preserved c =
+    let next = goes-on c.args.y.now _ _ _ _ _ _ _ c.args.limit c.in-Some.ensures c.in_ok-take.ensures.lists c.tasks.invariant.1 c.tasks.invariant.2 in
+    (c.in_ok-take.ensures.tasks, next.0, next.1)
+
+pub returns-clause-stretches : goal.returns-clause-stretches
+returns-clause-stretches c = c.into_list.ensures ∙ ended c.args.y.now _ _ _ c.in_default.ensures c.tasks.invariant.1

@@ -1,0 +1,17 @@
+use Rattle.std.proofs.Common.{◌≡◌, ◌+◌, ◌≤◌, ◌++◌}
+use Rattle.std.specs.List.{All}
+use Rattle.cpp_layout.specs.Layout.{whole_of, shown_symbol}
+use Rattle.sym_parts.specs.Marked.{stretches_of}
+use Rattle.sym_parts.specs.Marks.{stretches_at, skipped}
+use Rattle.cpp_parts.specs.Roles.{symbol_marked}
+use Rattle.cpp_parts.specs.Tasks.{IsTask, marks_of_tasks, weight_of_tasks}
+use Rattle.cpp_parts.proofs.walk.stretches_as.Given as goal
+
+abbrev pub invariant-tasks : goal.invariant-tasks
+invariant-tasks l =
+    All (IsTask l.y l.limit) l.tasks
+    × (l.found.stretches ++ stretches_at l.found.place (marks_of_tasks l.y l.tasks) ≡ stretches_of (symbol_marked (whole_of l.y) (shown_symbol l.fn.detail l.y)))
+    × (l.found.place + skipped (marks_of_tasks l.y l.tasks) ≤ l.limit)
+
+abbrev pub decreases-tasks : goal.decreases-tasks
+decreases-tasks l = weight_of_tasks l.y l.tasks

@@ -1,0 +1,5 @@
+mod Ends
+mod Listed
+mod Outlining
+mod Rows
+pub mod Bounded

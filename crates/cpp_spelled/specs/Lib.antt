@@ -1,0 +1,4 @@
+pub mod Sorts
+pub mod Outline
+pub mod Spelled
+pub mod Within

@@ -1,0 +1,30 @@
+-- The table is held against the definition at each of the 256 bytes, by computing.
+use Rattle.std.proofs.Common.{◌≡◌, ℕ, ◌<◌, Bool, true, false, map, cond, get_or, refl, ap, ◌∙◌, arith, not}
+use Rattle.std.specs.Prelude.{◌==◌}
+use Rattle.std.proofs.lemmas.List.FromFn.{get_or-map-range_with_len}
+use Rattle.std.specs.List.{range_with_len}
+use Rattle.rust_direct.specs.Names.{goes_on}
+use Rattle.rust_direct.specs.declared.names.TheConstants.{LENGTH_BYTES}
+use Rattle.rust_direct.proofs.names.goes_on.Goals as goal
+
+-- what is in the table for a byte that passes, or doesn't
+unfoldable entry : Bool → ℕ
+entry b = cond b 1 0
+
+abbrev mark : ℕ → ℕ
+mark byte = entry (goes_on byte)
+
+table_is : LENGTH_BYTES ≡ map mark (range_with_len 0 256)
+unfolding entry
+table_is = refl
+
+read : (byte : ℕ) → byte < 256 → get_or LENGTH_BYTES byte 0 ≡ mark byte
+read byte h = ap (λ t. get_or t byte 0) table_is ∙ get_or-map-range_with_len mark 0 256 byte byte 0 h (omega arith)
+
+some : (b : Bool) → not (entry b == 0) ≡ b
+unfolding entry
+some true = refl
+some false = refl
+
+pub returns : goal.returns
+returns c = ap (λ n. not (n == 0)) (read c.args.byte (omega arith)) ∙ some (goes_on c.args.byte)

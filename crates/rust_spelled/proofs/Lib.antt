@@ -1,0 +1,3 @@
+mod Walking
+pub mod Within
+mod Examples

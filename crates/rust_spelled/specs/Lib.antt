@@ -1,0 +1,5 @@
+pub mod Rows
+pub mod Paths
+pub mod Parts
+pub mod Arguments
+pub mod Spelling

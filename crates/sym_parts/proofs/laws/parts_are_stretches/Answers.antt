@@ -1,0 +1,7 @@
+use Rattle.std.proofs.Common.{refl}
+use Rattle.sym_parts.specs.Spelling.{part_of}
+use Rattle.sym_parts.proofs.laws.parts_are_stretches.Goals as goal
+
+pub returns : goal.returns
+unfolding part_of
+returns c = λ s stretch. record { role = refl; start = refl; length = refl }

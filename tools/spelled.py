@@ -1,0 +1,13 @@
+"""Writes cpp_spelled's table of what the row of each production is to the parts of a name, by the clauses of `sort_of` in its definitions."""
+import re
+
+from files import read, template
+from rules import P, build
+
+def files(crates):
+    """What is written: each file's path in the folder of the crates, and its text."""
+    build()
+    sorts = dict(re.findall(r"^sort_of Production\.(\w+) = sort\.(\w+)$", read(f"{crates}/cpp_spelled/specs/Sorts.antt"), re.MULTILINE))
+    assert not set(sorts) - set(P), f"no productions: {set(sorts) - set(P)}"
+    yield "cpp_spelled/src/sorts.rt", template("cpp_spelled/sorts.rt", count=len(P),
+            sorts=[f"    Sort::{sorts.get(production, 'Closed')}, // {production}" for production in P])
