@@ -6,7 +6,8 @@
 ROWS are those of `crates/check_rows/stdin`, of which the rows `parts` are taken. Each FILE has symbols, one a line. For each
 name the text is the one without parts; the parts are slices of it in the order of their starts, and of two, one is within the other, or
 they are apart. The bytes that spell a part are in the name, and within those that spell the part around it. A function's text is put
-together from its outermost parts: what is between them is a blank, `::`, or the brackets of a suffix. SYMDEMANGLE_LIBRARY names the library where the package brings none. The status is 1 where something comes out otherwise.
+together from its outermost parts: what is between them is a blank, `::`, or the brackets of a suffix. SYMDEMANGLE_LIBRARY names the
+library where the package brings none. The status is 1 where something comes out otherwise.
 """
 
 import re
