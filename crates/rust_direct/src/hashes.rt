@@ -56,7 +56,7 @@ fn is_low(byte: u8) -> bool
     byte <= b'9' || (b'a' <= byte && byte <= b'k')
 }
 
-/// Whether a number with so many digits, at most as many as a hash has, and this first one stays below 64 bits.
+/// Whether a number of `count` digits, at most those of a hash, stays below 64 bits by its first one.
 #[inline(always)]
 fn is_small(count: usize, first: u8) -> bool
     ensures { result ≡ true → count ≡ 11 → digit_value Base62 first ≤ 20 }

@@ -22,7 +22,7 @@ use Rattle.rust_spelled.specs.Spelling.{others_by, spans_of, spelling_of}
 
 -- ## Rows
 
--- a row's places are at most so many
+-- both places of a row are at most n
 abbrev pub IsRowWithin : (n : ℕ) → Row → Type 0
 IsRowWithin n row = (row.from ≤ n) × (row.to ≤ n)
 

@@ -19,7 +19,7 @@ arguments_from (suc most) rows argument end =
     then span (row_at rows argument).from (row_at rows (argument + 1)).to ∷ arguments_from most rows (behind rows (argument + 1)) end
     else []
 
--- the arguments of a generic path, which are behind its parent
+-- the arguments of a generic path, which follow its parent
 unfoldable pub arguments_of : List Row → (path : ℕ) → List Span
 arguments_of rows path = arguments_from (length rows) rows (behind rows (path + 1)) (behind rows path)
 

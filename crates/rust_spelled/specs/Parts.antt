@@ -15,7 +15,7 @@ spelled r bytes = record { role = r; span = bytes }
 
 -- ## The name
 
--- the name that a path adds: its parent is the scope, and what is behind that is the base
+-- the name that a path adds: its parent is the scope, and what follows that is the base
 unfoldable pub name_spelled : List Row → (named : Option ℕ) → List Spelled
 name_spelled rows None = []
 name_spelled rows (Some path) =
@@ -36,7 +36,7 @@ impl_type rows root = behind rows (impl_path_by (production_at rows (root + 1)) 
 unfoldable pub impl_of_type : List Row → (root type : ℕ) → List Spelled
 impl_of_type rows root type = spelled role.Impl (span_at rows root) ∷ spelled role.SelfType (span_at rows type) ∷ []
 
--- an impl of a trait, which is behind the type
+-- an impl of a trait, which follows the type
 unfoldable pub impl_of_trait : List Row → (root type : ℕ) → List Spelled
 impl_of_trait rows root type = impl_of_type rows root type ++ spelled role.Trait (span_at rows (behind rows type)) ∷ []
 

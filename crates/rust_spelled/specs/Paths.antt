@@ -5,7 +5,7 @@ use Rattle.rust_grammar.specs.declared.production.Production.{Production}
 use Rattle.rust_grammar.specs.declared.production.Production.TheVariants as rules
 use Rattle.rust_spelled.specs.Rows.{row_at, production_at}
 
--- the path that a path of this production is in, or whose arguments it has; there is none behind a crate, an impl or a reference
+-- the path that a path of this production is in, or whose arguments it has; a crate, an impl or a reference has none
 unfoldable pub parent_by : Option Production → (path : ℕ) → Option ℕ
 parent_by (Some rules.Nested) path = Some (path + 2)
 parent_by (Some rules.Generic) path = Some (path + 1)

@@ -11,7 +11,7 @@ use sym_parts::Span;
 use sym_room::push_within;
 use sym_shape::Row;
 
-/// Adds the arguments of a generic path, which are behind its parent (RFC 2603, `<generic-arg>`).
+/// Adds the arguments of a generic path, which follow its parent (RFC 2603, `<generic-arg>`).
 ///
 /// # Errors
 ///

@@ -26,7 +26,7 @@ pub(crate) fn push_part(parts: &mut Vec<Spelled>, role: Role, span: Span) -> Res
     Ok(())
 }
 
-/// Adds the scope and the base of a path that adds a name: its parent, and what is behind that.
+/// Adds the scope and the base of a path that adds a name: its parent, and what follows that.
 ///
 /// # Errors
 ///

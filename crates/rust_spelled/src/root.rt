@@ -26,7 +26,7 @@ fn impl_path(rows: &[Row], root: usize) -> usize
     }
 }
 
-/// The row of the type that an impl is of, which is behind the impl's path.
+/// The row of the type that an impl is of, which follows the impl's path.
 fn impl_type(rows: &[Row], root: usize) -> usize
     requires { root ≤ length rows.now }
     ensures { result ≡ impl_type rows.now root }
@@ -53,7 +53,7 @@ fn push_impl_of_type(
     push_part(parts, Role::SelfType, span_at(rows, self_type))
 }
 
-/// Adds an impl of a trait, which is behind the type.
+/// Adds an impl of a trait, which follows the type.
 ///
 /// # Errors
 ///
