@@ -55,7 +55,7 @@ words_of() {
 work=$(mktemp -d)
 trap 'rm -rf "$work"' EXIT
 
-# run_once FILTER FILE: seconds of the processor, and what the filter needed of memory
+# run_once FILTER FILE: seconds of the processor, and the memory that the filter needed
 run_once() {
     local TIMEFORMAT='%3U %3S' words
     words_of "$1"

@@ -63,7 +63,7 @@ run static cc -static -std=c11 "${warnings[@]}" callers/c/calls.c "${static[@]}"
 run 'refused' cc -std=c11 "${warnings[@]}" callers/c/out_of_memory.c "${static[@]}"
 cat "$work/out"
 
-# docs/callers/C.md says of the memory that a name takes what is measured, and the other pages say it, too.
+# docs/callers/C.md and the other pages give the measured memory that a name takes.
 said() { # said CALL : the figure in a row of the table of calls
     sed -n "s/^| \`symdemangle_$1\`[^|]*| \([0-9]*\) |.*/\1/p" docs/callers/C.md
 }

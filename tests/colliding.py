@@ -39,7 +39,7 @@ def usual_names(count):
 
 
 def names_of_one_mark(count):
-    """As many names of six letters with the same first, fourth and last one."""
+    """As many names of six letters with the same first, fourth and last letter."""
     letters = itertools.product(string.ascii_lowercase, repeat=3)
     return [f"a{one}{two}a{three}a" for one, two, three in itertools.islice(letters, count)]
 

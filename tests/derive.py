@@ -60,8 +60,8 @@ FAR = 10**6
 Node = collections.namedtuple("Node", "kind cls production byte parts")
 # a number or a name of such a class, in a production
 Token = collections.namedtuple("Token", "cls production")
-# of a tree that a substitution may name: its free parameters, whether it has packs, the encoding in which it was made, and whether in
-# the signature of a lambda
+# what is known of a tree that a substitution may name: its free parameters, whether it has packs, the encoding in which
+# it was made, and whether in the signature of a lambda
 Candidate = collections.namedtuple("Candidate", "parameters is_packed encoding in_lambda")
 # around a part: the encoding; which of the arguments that parameters name are packs, or None; where it is
 Around = collections.namedtuple("Around", "encoding scope in_lambda in_expansion")
@@ -87,7 +87,7 @@ class Table:
         return 1 + max((self.heights[part] for part in self.parts[production] if part in self.rules), default=0)
 
     def distances(self, target):
-        """How many rules lead from a kind to the target at least, of each kind that leads there."""
+        """The least number of rules from a kind to the target, for each kind that leads there."""
         if target not in self.kept_distances:
             reached = {target: 0}
             grown = True
@@ -245,7 +245,7 @@ def read(table, word):
 
 
 def repeated(rng, table, tree, times, kind=None):
-    """The tree, in which some kind, or the given one, is nested that many times more within itself; more often than not with
+    """The tree with some kind, or the given one, nested that many times more within itself; more often than not with
     a rule of the wide grammar's own each time."""
     nodes = [(way, part) for way, _, part in parts_within(table, tree) if part is not None]
     own = [way for way, node in nodes if table.is_own(node)]
@@ -265,7 +265,8 @@ def repeated(rng, table, tree, times, kind=None):
 
 
 class Spelling:
-    """The bytes of a tree. Each reference is given a number when it is its turn; one that there is nothing for is derived anew."""
+    """The bytes of a tree. Each reference is given a number when it is its turn; a reference with nothing to name is derived
+    anew."""
 
     def __init__(self, derivation, again, newest, anywhere):
         self.derivation, self.table, self.rng = derivation, derivation.table, derivation.rng
@@ -306,8 +307,9 @@ class Spelling:
         self.append(around)
 
     def can_be_named(self, named, around):
-        """Whether a candidate can. By the wide grammar one with free parameters can stand elsewhere than where it was made: in the
-        signature of a lambda, or where there are arguments for its parameters, which are no packs where it has several."""
+        """Whether a candidate can be named. By the wide grammar one with free parameters can be named elsewhere than
+        where it was made: in the signature of a lambda, or where there are arguments for its parameters, which are no packs where
+        it has several."""
         if not named.parameters:
             return around.in_expansion or not named.is_packed
         if named.encoding == around.encoding and not around.in_lambda and not named.in_lambda:
@@ -381,7 +383,7 @@ class Spelling:
     # ## Nodes
 
     def spell(self, part, around):
-        """Writes a part. Answers of a list of arguments which of them are packs."""
+        """Writes a part. For a list of arguments, answers which of them are packs."""
         if part is None:
             return ()
         if isinstance(part, bytes):
@@ -509,7 +511,7 @@ class Words:
 
 
 def answers(program, wide, words):
-    """Of each word whether a program answers it with a text, and else its reason."""
+    """For each word, whether a program answers it with a text, or else the reason."""
     command = [*command_of(program), *(["--wide"] if wide else []), "--", *words]
     done = subprocess.run(command, stdout=subprocess.DEVNULL, stderr=subprocess.PIPE)
     reasons = collections.deque(line for line in done.stderr.split(b"\n") if line)

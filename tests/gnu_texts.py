@@ -3,10 +3,11 @@
 
     tests/gnu_texts.py [--shown N] DEMANGLE [FILE..]
 
-Without files the symbols are those of `crates/check_rows/stdin` and of the lists in `bench`. Of each C++ symbol that DEMANGLE reads
-the text has to be the spelling, by this script, of what DEMANGLE prints without the option; of all else the line has to be the same.
-Where a `c++filt` of binutils is installed, its text has to be the same for 98 of 100 symbols of `bench/fresh_cpp.txt` that both read.
-The status is 1 where a text is wrong or the share is smaller, 2 where the program can't be run.
+Without files the symbols are those of `crates/check_rows/stdin` and of the lists in `bench`. For each C++ symbol that DEMANGLE
+reads, the text has to be the spelling, by this script, of what DEMANGLE prints without the option; for all else the line has to
+be the same. Where a `c++filt` of binutils is installed, its text has to be the same for 98 of 100 symbols of
+`bench/fresh_cpp.txt` that both read. The status is 1 where a text is wrong or the share is smaller, 2 where the program can't
+be run.
 """
 
 import argparse
@@ -89,7 +90,7 @@ def lines_of(command, symbols):
 
 
 def share(program):
-    """Of how many of 100 symbols that both read c++filt has the same text; none where it isn't there."""
+    """For how many of 100 symbols that both read c++filt has the same text; None where c++filt isn't there."""
     if shutil.which("c++filt") is None or b"GNU" not in subprocess.run(["c++filt", "--version"], capture_output=True, check=False).stdout:
         return None
     symbols = symbols_in(FRESH)

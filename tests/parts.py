@@ -3,7 +3,7 @@
 
     tests/parts.py ROWS [FILE..]
 
-ROWS are those of `crates/check_rows/stdin`, of which the rows `parts` are taken. Each FILE has symbols, one a line. For each
+ROWS is `crates/check_rows/stdin`, from which the rows `parts` are taken. Each FILE has symbols, one a line. For each
 name the text is the one without parts; the parts are slices of it in the order of their starts, and of two, one is within the other, or
 they are apart. The bytes that spell a part are in the name, and within those that spell the part around it. A function's text is put
 together from its outermost parts: what is between them is a blank, `::`, or the brackets of a suffix. SYMDEMANGLE_LIBRARY names the
@@ -77,7 +77,7 @@ def misplaced(name, text, parts):
 
 
 def loose(text, parts):
-    """What of a function's text is in no part and between none, or None."""
+    """A piece of a function's text that is in no part and between no two, or None."""
     place = 0
     for part in outermost(parts):
         if text[place : part.start] not in BETWEEN:

@@ -19,7 +19,7 @@ MOST_WORDS = 1000
 FRESH_NAMES = ("../bench/fresh_cpp.txt", "../bench/fresh_instances.txt")
 WIDE_TEXT = ["--wide", "--limit=4294967295"]
 NO_SPELLING = "no spelling yet"
-# the least share of the names that are read which have a spelling: of instances of templates it is 0.968
+# the least share of names with a spelling, among the names that are read; for instances of templates it is 0.968
 LEAST_SPELLED = 0.96
 
 

@@ -76,7 +76,7 @@ ends 'a file, strictly' 1 'x\n./names\n' 'demangle: ./names is not a name; for a
 ends 'a file beside a name' 0 'crash.log\nf()\n' '' crash.log _Z1fv
 ends 'no file' 0 '.\nnames\nnone.log\n' '' . names none.log
 
-# Colours, where standard output is a terminal, if they are asked for.
+# Colours, where standard output is a terminal, if they are requested.
 on_terminal() { python3 -c 'import pty, sys; pty.spawn(sys.argv[1:])' "$demangle" "$@" </dev/null | tr -d '\r'; }
 colors() { # colors NAME WANTED WORD..: what the program writes to a terminal
     local name=$1 wanted got && wanted=$(printf "$2")

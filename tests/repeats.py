@@ -3,10 +3,11 @@
 
     tests/repeats.py SYMFILT DEMANGLE
 
-A filter keeps texts of the symbols that came last. The names are those of the rows `text`, `refused` and `repeated` of check_rows,
-those of bench/fresh_cpp.txt, and C++ names that have one mark, by which texts are looked for. They come again at once, in the order
-of stacks, and in any order. The status is 1 where a line is another than that of a log in which each name comes once or of a name of
-the command line, where names of one mark take twice the time of names that come once, or where a log of many texts takes 4 MB more than a short one.
+A filter keeps texts of the symbols that came last. The names are those of the rows `text`, `refused` and `repeated` of
+check_rows, those of bench/fresh_cpp.txt, and C++ names that have one mark, by which texts are looked for. They come again at
+once, in the order of stacks, and in any order. The status is 1 where a line differs from that of a log in which each name comes
+once, or from that of the name on the command line, where names of one mark take twice the time of names that come once, or
+where a log of many texts takes 4 MB more than a short one.
 """
 import os
 import random
@@ -43,7 +44,7 @@ def fresh_names():
 
 
 def names_of_one_mark(count):
-    """C++ names of one mark, in two steps of 32 bytes: where two letters that are mixed into one byte both change, it stays."""
+    """C++ names of one mark, in two steps of 32 bytes: a byte stays where both letters that are mixed into it change."""
     pairs = [(at, at + 6) for at in (4, 5, 6, 7, 34, 35, 36, 37, 38, 39)]
     names = []
     for number in range(count):

@@ -3,12 +3,12 @@
 
     tests/short_texts.py [--seed N] [--made COUNT] [--shown N] SYMFILT [FILE..]
 
-Files have symbols, one a line; without files they are those of `crates/check_rows/stdin` and of `bench`. The definitions are those of
-`crates/short_names/specs`, by the table of `tools/tables/short_names.txt`: what SYMFILT prints with `--short`, with and without
-`--keep-inline`, is the short text of what it prints without, also of symbols of each template of the table. Of each of these texts, and of
-texts that are made of names of the table, arguments and members, with defaults and without: a short text has the full text of its text, a
-full text has the short text of its text, and no short text is longer. The status is 1 where one fails. It says of how many texts the laws are
-proved.
+Files have symbols, one a line; without files they are those of `crates/check_rows/stdin` and of `bench`. The definitions are
+those of `crates/short_names/specs`, by the table of `tools/tables/short_names.txt`: what SYMFILT prints with `--short`, with
+and without `--keep-inline`, is the short text of what it prints without, also of symbols of each template of the table. For
+each of these texts, and for texts made of names of the table, arguments and members, with defaults and without, three things
+have to hold: a short text has the full text of its text, a full text has the short text of its text, and no short text is
+longer. The status is 1 where one of these fails. It says for how many texts the laws are proved.
 """
 
 import argparse
@@ -63,7 +63,7 @@ AFTER = r"(?![\w$.\x80-\xff])"
 
 @lru_cache(maxsize=None)
 def std_name(run):
-    """The `std::` of a name of std, and what is behind it; none where it isn't one."""
+    """The `std::` of a name of std, and what follows it; none where it isn't one."""
     for inline in WHOLE:
         if run.startswith(f"std::{inline}::"):
             whole = f"std::{inline}::"
@@ -269,7 +269,7 @@ def full(text):
     return full_to(4, text)
 
 
-# ---- texts of which the laws are proved (specs/Parts, Usual)
+# ---- texts for which the laws are proved (specs/Parts, Usual)
 
 FORMS = {"std::less<%0>", "std::allocator<%0>", "std::char_traits<%0>", "std::char_traits<%1>", "std::hash<%0>", "std::equal_to<%0>", "std::default_delete<%0>",
          "std::default_accessor<%0>", "std::regex_traits<%0>", "std::allocator<std::sub_match<%0>>", "std::allocator<std::pair<%0 const, %1>>", "std::layout_right",
@@ -317,7 +317,7 @@ def pass_free(text, at):
 
 
 def pass_list(text, at):
-    """Where a list ends that is in a place, as it is or by its usual name; none where there is none."""
+    """Where the list at a place ends, as it is or by its usual name; none where there is no list."""
     run = RUN.match(text, at)
     if run and text.startswith("<", run.end()) and named(run[0]):
         name = named(run[0])[1]
@@ -360,7 +360,7 @@ def pass_parts(text, at, in_list):
 
 
 def pass_elements(text, at, run):
-    """Where a list ends, whose name is given if it is one of the table."""
+    """Where a list ends. Its name is given if that is one of the table."""
     elements = []
     while not elements or text[at - 1] != ">":
         end = pass_parts(text, at, True)
@@ -390,7 +390,8 @@ def list_of(name):
 
 
 def behind_usual(behind, alias, template, is_list):
-    """How long the name of a member, constructor or destructor after a usual name or its list is; none where it goes on otherwise."""
+    """The length of the name of a member, constructor or destructor after a usual name or its list; none where something else
+    follows."""
     own, usual = last_part(template), class_of(alias, template)
     front = constructs(behind, own if is_list else usual)
     if front and own != usual:
@@ -403,7 +404,7 @@ def behind_usual(behind, alias, template, is_list):
 
 
 def pass_usual(text, at):
-    """Where a usual name or its list ends that a text has in a place, with a member after it; none where there is neither."""
+    """Where the usual name or its list at a place of a text ends, with a member after it; none where there is neither."""
     run = RUN.match(text, at)[0]
     std = std_name(run)
     for alias, template, _ in ALIASES if std else ():
@@ -420,7 +421,7 @@ def pass_usual(text, at):
 
 
 def is_made(text):
-    """The laws are proved of a text."""
+    """Whether the laws are proved for a text."""
     at = 0
     try:
         while at < len(text):
@@ -502,7 +503,7 @@ def mangled(text):
 
 
 def elements_of(text):
-    """What `, ` outside of lists parts."""
+    """The elements that `, ` outside of lists separates."""
     found, depth = [""], 0
     for piece in re.split("(, |<|>)", text):
         depth += (piece == "<") - (piece == ">")

@@ -90,7 +90,7 @@ NAMES = {
     "_RNCNvC3foo3bar0": "foo::bar::{closure#0}",
     "_RNSNvC3foo3bar4call": "foo::bar::{shim:call#0}",
 }
-# The same of the wide grammar.
+# The same for the wide grammar.
 WIDE = {
     "_ZNK1AcvbEv": "A::operator bool() const",
     "_ZN1AcvPKcEv": "A::operator char const*()",
@@ -138,7 +138,7 @@ SAME = {
     "other languages": ("_TtC3foo3Bar ?f@@YAXXZ -[Foo bar] main.main\n", "_TtC3foo3Bar ?f@@YAXXZ -[Foo bar] main.main\n"),
 }
 
-# The same of one program each: options, what comes in and what has to come out.
+# The same for one program each: options, what comes in and what has to come out.
 SYMFILT = {
     "each sort of text of the wide grammar": (["--wide"], *names_of(WIDE)),
     "stacks": (["--no-params", "--brief"], f"main;{VECTOR};_ZN1A1fIiEEvT_ 42\n", "main;std::vector::push_back;A::f 42\n"),

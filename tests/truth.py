@@ -1,5 +1,5 @@
 #!/usr/bin/env python3
-"""Holds the texts of C++ functions and variables against what their compiler says of them.
+"""Compares the texts of C++ functions and variables with what their compiler says of them.
 
     tests/truth.py [--compiler NAME].. [--dwarfdump NAME] [--least N] [--shown N] PROGRAM [SOURCE..]
 
@@ -41,7 +41,7 @@ WIDE = "_Z1fB3tagv"
 
 
 def installed(pattern):
-    """The programs in PATH whose name is of a pattern, each once, by their names and numbers."""
+    """The programs in PATH whose names match a pattern, each once, by their names and numbers."""
     names = {it for folder in os.get_exec_path() if os.path.isdir(folder) for it in os.listdir(folder) if pattern.fullmatch(it)}
     by_program = {}
     for name in sorted(names, key=lambda it: (len(it), it)):
@@ -104,7 +104,7 @@ def add_source(entries, command, tally):
 
 
 def try_compiler(compiler, asked, command, sources):
-    """What the sources came to by a compiler."""
+    """The results for the sources by a compiler."""
     tally = Tally()
     for source in sources:
         entries = entries_of(compiler, source, asked.dwarfdump)

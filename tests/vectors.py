@@ -44,7 +44,7 @@ def unescaped(field):
 
 
 def is_text(word):
-    """Whether a word can stand on a command line."""
+    """Whether a word can be on a command line."""
     try:
         word.decode("utf-8")
     except UnicodeDecodeError:

@@ -1,4 +1,4 @@
-"""Writes the code of cpp_link for what rare productions stand for, a function for each family of productions, from their rows in
+"""Writes the code of cpp_link for what rare productions denote, a function for each family of productions, from their rows in
 grammar.py."""
 import re
 

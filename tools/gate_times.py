@@ -14,9 +14,9 @@ the logic has it, its goals, the rest (statements, ties, answers), and how many 
 times ways out. Then come the lemma files. A function above 15 s, or with more than 12 goals and no answers, is one to
 look at; docs/TESTING.md has the budget.
 
-With `--gate` it runs a command (`rt ci`, if none is named), passes on what that prints, and tells what each crate
-took: its proof, its tests, the proof that its edits begin with, its edits, and the builds of its program. It looks at the
-processes five times a second, so up to a second a hundred is in the last line alone. It ends with the command's status.
+With `--gate` it runs a command (`rt ci`, if none is named), passes on what that prints, and tells what each crate took: its
+proof, its tests, the proof that its edits begin with, its edits, and the builds of its program. It looks at the processes five
+times a second, so up to a second in a hundred is counted only in the last line. It ends with the command's status.
 
 The first two work on a copy of the crate and those below it, with the kept work that they have: check these before. A
 crate of 60 functions takes some five minutes, and `rt` (the toolchain's command) has to be on the path.

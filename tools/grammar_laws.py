@@ -100,7 +100,7 @@ def heights():
     return height
 
 def laws():
-    """The faults of the table, and of each kind what may follow it, its chains and its height."""
+    """The faults of the table, and for each kind what may follow it, its chains and its height."""
     bad = list(faults_of_rules())
     after, tokens = following()
     for kind in K:

@@ -1,5 +1,6 @@
-"""What is shown of cpp_layout's functions that have an arm for each of some nodes: the arms are read in the code. Of the nodes without an
-arm a lemma in proofs/Others.antt says what their parts are, and of those with one that what its call adds are the parts of the tree."""
+"""What is shown of cpp_layout's functions that have an arm for each of some nodes: the arms are read in the code. For the nodes
+without an arm a lemma in proofs/Others.antt says what their parts are; for those with one, that what the arm's call adds are
+the parts of the tree."""
 import os
 import re
 
@@ -50,7 +51,8 @@ def arms(body, begins="Node|Piece"):
     return [(start[1], body[start.end():after.start() if after else None]) for start, after in zip(starts, [*starts[1:], None]) if start[1]]
 
 def calls(body, begins="Node|Piece"):
-    """Of each arm: the function that is called last, and the step that this is, which has the arm's name from its second call on."""
+    """For each arm, the function that is called last, and the step that this is, which has the arm's name from its second call
+    on."""
     seen, steps = set(), {}
     for node, text in arms(body, begins):
         for call in re.findall(r"(?:self\.|=> )(\w+)\(", text):
@@ -102,7 +104,7 @@ class Function:
         return template("cpp_layout/other_record.antt", function=self.name, record=record_of(self.name), fields=fields).rstrip("\n")
 
     def lemma(self, lemma, variables, of_others, of_tree, by):
-        """That of such a node the tree has no parts of its own."""
+        """That the tree of such a node has no parts of its own."""
         says = f"{applied_to(of_others, '{0}')} ≡ {applied_to(of_tree, '{0}')}"
         return template("cpp_layout/other_lemma.antt", record_of_them=self.record(), lemma=lemma, record=record_of(self.name),
                         binders="".join(BINDERS[variable] for variable in variables), variables="".join(f"{v} " for v in variables),

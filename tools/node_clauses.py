@@ -128,7 +128,7 @@ def by_nodes(name, matched, functions):
     return [*(f"{name} {node_pattern(node, node.arguments)} = ⊥" for node in own), f"{name} _ = Unit {{0}}"]
 
 def noted_nodes():
-    """The nodes of which something is noted, each with its name, and its arguments with their types: numbers of nodes are i and j here."""
+    """The nodes with a note, each with its name, and its arguments with their types: numbers of nodes are i and j here."""
     for node in nodes():
         if node.tree in ("nil", "parameter", "again") or set(node.sorts) & set(SCOPED):
             letters = {sort: iter(own or "") for sort, (_, own) in TYPES.items()}
@@ -136,7 +136,7 @@ def noted_nodes():
             yield node.name, [(next(letters[sort] if TYPES[sort][1] else others), TYPES[sort][0]) for _, sort in node.arguments]
 
 def is_other():
-    """What is known of a node of which nothing is noted: it is none of those."""
+    """What is known of a node without a note: it is none of those."""
     def line(node, given):
         premise = "".join(f"({name} : {type}) " for name, type in given) + "→ " if given else ""
         return f"  pub not_{node.lower()} : {premise}n ≡ {applied('Node.' + node, [name for name, _ in given])} → ⊥"

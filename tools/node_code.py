@@ -30,7 +30,7 @@ class Node:
         return {field: fact for (field, _, _), (_, _, fact) in zip(self.fields, placed(self.arguments)) if fact}
 
     def view(self):
-        """What is seen of a node of which no more is seen: the code of its numbers, its texts and its parts."""
+        """What is seen of a node that shows no more: the code of its numbers, its texts and its parts."""
         numbers = [SORTS["number"][sort].format(name) for name, sort, _ in self.fields if sort in SORTS["number"]]
         said = self.said("numbers")
         texts = [SORTS["text"][sort].format(name) for name, sort, _ in self.fields if sort in SORTS["text"]]
@@ -128,7 +128,7 @@ TABLE, HELD = "(over c.args.symbol.now c.args.nodes.now)", "(length c.args.nodes
 UNFOLDING = "fields_of erase tree_of"
 
 def required(contract, given, known):
-    """What a call asks for: of what it is given, or of what its caller asks for."""
+    """What a call requires, of what it is given or of what its caller requires."""
     taken, facts = dict(zip(re.findall(r"(\w+): ", contract[1]), given.split(", "))), []
     for name, text in re.findall(r"requires (?:(\w+) )?{ (.*) }", contract[2]):
         of = next((word for word in re.findall(r"(?<![\w.])\w+", text) if word in taken and word != "symbol"), None)
@@ -166,7 +166,7 @@ class Steps:
         return f"c.{call}" + (f"-in-{arm}" if len(arms) > 1 else "") + (f"-{again}" if 1 < again < len(arms) else "")
 
 def told(node, shown, step):
-    """The answers of a node of which another call tells more: by which lemma, from what, and where that asks for a bound."""
+    """The answers for a node of which another call says more: by which lemma, from what, and where that requires a bound."""
     lemma, fields, others, *bound = node.said("told").split(" | ")
     call = node.said("seen").partition("(")[0]
     own = step(call, node.name)
@@ -179,7 +179,7 @@ def told(node, shown, step):
         f"{lemma} y c.in-{node.name}.is {fields} told.texts {others}"]), UNFOLDING)
 
 def viewed(node, shown, step):
-    """The answer of a node of which no more is seen than its numbers, a text and its parts."""
+    """The answer for a node that shows no more than its numbers, a text and its parts."""
     def fact_of(number):
         call = re.search(r"(\w+)\(", number)
         return f"{step(call[1], node.name)}.ensures{'' if call[1] == 'linkage_number' else '.is'}" if call else "refl"

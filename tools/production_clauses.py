@@ -17,7 +17,7 @@ READ_OF_VALUES = {name: f"is_{name}" if name in ("listed", "there") else f"{name
     "tree", "piece", "listed", "qualifiers", "ref", "letter", "there", "mark", "text", "signed", "adjustment")}
 
 def read_noted(names, module, sort, one, noted, listed_as, whole, first_of_them, public):
-    """That what is read of an annotated thing is what is read of it, and the same of one of a list."""
+    """That what is read of an annotated thing is what is read of it, and the same for one of a list."""
     for name, function in names.items():
         annotated = name.split("_")[0] in ("tree", "piece")
         there = name.replace("_in", "_there") if name in READ_OF_ARGUMENTS else f"{name}_part"
@@ -39,7 +39,7 @@ def by_production(function, values, others):
 SLACK_BASE = 10
 
 def slack():
-    """Of each kind, as few as its productions allow: cpp_link's Bound proves that these suffice."""
+    """For each kind, as few as its productions allow: cpp_link's Bound proves that these suffice."""
     kinds, productions, rows = grammar.wide()
     def needed(production, least):
         eats, symbols = productions[production]
@@ -139,7 +139,7 @@ def family_law(family, productions):
                     clauses=clauses).rstrip("\n")
 
 def family_laws():
-    """The same of each family."""
+    """The same for each family."""
     laws = [family_law(*family) for family in families().items()]
     return template("cpp_link/FamilyArms.antt", alike=imports(laws), laws=laws)
 
@@ -173,7 +173,7 @@ def may_leave(crates):
     return by_production("may_leave", {name: "true" for name in productions if name in begun}, "false")
 
 def makes_at_end():
-    """How many nodes a production makes at its end, of the values of its parts."""
+    """How many nodes a production makes at its end, by the values of its parts."""
     own = {word: counted[0] for word, _, *counted in TABLE["own"] if counted}
     def value(form):
         if form == "in_place" or form.startswith("a_name "):

@@ -39,7 +39,7 @@ def pressed_row(reference, symbol):
     return f"presses {quoted(symbol)} {quoted(reference.press(symbol))}"
 
 def chosen(symbols, most, seen):
-    """Those of these symbols that are new, plain and of 8 to so many bytes."""
+    """The symbols among these that are new, plain and of 8 to `most` bytes."""
     for symbol in symbols:
         is_plain = all(33 <= byte < 127 or 161 <= byte and byte != 173 for byte in symbol)
         if symbol not in seen and is_plain and symbol.startswith(b"_Z") and 8 <= len(symbol) <= most:
@@ -54,7 +54,7 @@ def listed(reference):
             yield text
 
 def generated(reference, generator):
-    """The rows of generated symbols, so many of each sort."""
+    """The rows of generated symbols, a given number of each sort."""
     seen = {}
     for seed, count, mode, size, wild, kinds, wanted in (
             (11, 4000, "valid", 8, 0.0, ("prints",), 130), (12, 4000, "valid", 14, 0.0, ("prints",), 60),
@@ -79,7 +79,7 @@ def listed_presses(reference):
             yield text
 
 def generated_presses(reference, generator):
-    """Symbols that were read: so many whose spelling changes, and so many whose spelling stays."""
+    """Symbols that were read: a given number whose spelling changes, and a given number whose spelling stays."""
     seen = {}
     for seed, count, size, changed, same in ((21, 8000, 8, 60, 20), (22, 8000, 14, 50, 10)):
         left = {True: changed, False: same}

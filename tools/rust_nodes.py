@@ -76,7 +76,7 @@ def need_grown(of, made):
     return f"{of}-needs {node_pattern(made)} h = {same}"
 
 def parts_grown(of, made):
-    """That what holds of its parts goes on to hold."""
+    """That what holds of its parts still holds."""
     forms = {"abi": "HasAbi-grown abi {1}", "binder": "{1}", **dict.fromkeys(NAMED, "HasName-grown name {1}")}
     held = [forms.get(part, f"{part}-grown all more {{0}} {{1}}").format(field, fact) for part, field, fact in conditions(made)]
     return broken(f"{of}_parts-grown {node_pattern(made)} h =", together(held), "  ")

@@ -24,7 +24,7 @@ def whole_files():
     yield from list_answers()
 
 def declarations():
-    """The paths of hand-written files, and the declarations that stand in them one after the other, once for each run of them."""
+    """The paths of hand-written files, and the declarations that are in them one after the other, once for each run of them."""
     yield "rust_grammar/specs/Productions.antt", [["\n".join([f"-- {WRITTEN}", "abbrev pub number_of : Production → ℕ",
             *[f"number_of {production} = {k}" for k, production in enumerate(rust_grammar.PRODUCTIONS)]])]]
     yield "rust_v0/src/semantics.rt", [[made_in_code(made) for made in NODES]]

@@ -52,7 +52,7 @@ def marks_of(groups, place):
     return textwrap.wrap(" ".join(f"{marks}," for marks in found), 99, initial_indent="    ", subsequent_indent="    ")
 
 def whole_list(arguments, defaults):
-    """The list of a template in `std` with the defaults behind some arguments."""
+    """The list of a template in `std` with the defaults after some arguments."""
     elements = [*arguments]
     for default in defaults[len(elements):]:
         for byte, text in {"\0": elements[0], "\2": "std::"}.items():

@@ -1,7 +1,7 @@
 #!/usr/bin/env python3
 """Writes docs/SHORT_WAYS.md, the forms of symbols that the short ways leave to the general one, from the rows `way` of check_rows.
 
-A row says of a symbol by which way its text is written, and names the form; `check_rows` asks the code. The page has a line for each
+A row says by which way a symbol's text is written, and names the form; `check_rows` asks the code. The page has a line for each
 form, in the order of the rows: symbols that are left, and symbols of nearly the form that aren't. `tools/write.py` runs this, and with
 `--check` it names the page if it isn't what the rows say."""
 import sys
@@ -14,7 +14,7 @@ TITLES = {"abi": "C++", "wide": "C++ by the wide grammar", "rust": "Rust"}
 WAYS = ("general", "short")
 
 def forms(crates):
-    """Of each grammar its forms in order, each with its symbols by their way."""
+    """For each grammar, its forms in order, each with its symbols by their way."""
     found = {grammar: {} for grammar in TITLES}
     for line in read(f"{crates}/{ROWS}").splitlines():
         what, *fields = line.split("\t")

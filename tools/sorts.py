@@ -165,12 +165,12 @@ def is_numbered(form):
     return "number_at" in form or form.startswith("own closure")
 
 def turned(fitting, text):
-    """A step, of which only what it does to the first part is of interest."""
+    """A step, by what it does to the first part; nothing else of it matters here."""
     if fitting.known and text.split()[0] in STEPS:
         fitting.known[0] = {"trees"}
 
 def kind_sorts(kinds, productions, table):
-    """The sorts of what each kind's productions stand for."""
+    """The sorts of what each kind's productions denote."""
     found, before = {kind: set() for kind in kinds}, None
     while before != found:
         before = {kind: set(sorts) for kind, sorts in found.items()}
@@ -193,7 +193,7 @@ def check(kinds, productions, table):
     return found
 
 def clauses(function, found, prefix=""):
-    """A definition by cases, of those that aren't trees alone."""
+    """A definition by cases, for those that aren't only trees."""
     return [f"{function} {prefix}{name} = {listed(sorted(sorts, key=ALL.index))}" for name, sorts in found.items()
             if set(sorts) != {"trees"}]
 

@@ -91,11 +91,11 @@ class Spelling:
             part.side = side if len(self.subtrees) > 1 else ""
 
     def by_sort(self, law, others, **forms):
-        """What is said by the sort, of the law of the parts if there are any."""
+        """What is said by the sort: the law of the parts, if there are any."""
         return forms.get(self.sort, others).format(own=self.shape, sort=self.sort, law=law(*self.parts) if self.parts else "")
 
 def spellings(trees):
-    """The spellings of those trees that have one."""
+    """The spellings of the trees that have one."""
     return [Spelling(tree) for tree in trees if tree[0] in SPELLED]
 
 def definition(of):
@@ -238,7 +238,7 @@ def content(of):
     return f"content n {of.shape} = {spelled(of.parts, 'n')}" if of.sort == "component" else None
 
 def of_sort(*sorts, least=1):
-    """Whether a spelling is of one of these sorts, with so many parts at least."""
+    """Whether a spelling is of one of these sorts, with at least this many parts."""
     return lambda of: of.sort in sorts and len(of.parts) >= least
 
 def compound(of):
@@ -269,7 +269,7 @@ def declarations_onto():
         clause = f"{law} {given}"
         yield proofs, law, rejoined(clause, wanted, rest), f"{clause.format('_')} = {others}"
 
-# ## Types before which are bytes
+# ## Types with bytes before them
 
 TYPES = {BYTES: "List ℕ", QUALIFIERS: "Qualifiers"}
 

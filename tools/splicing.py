@@ -121,7 +121,7 @@ def sections():
         yield mark, path, text.rstrip("\n")
 
 def with_names(text):
-    """The text, with what is named after each wrapper imported where that is which is named after the wrapper before."""
+    """The text, where what is named after each wrapper is imported beside what is named after the wrapper before it."""
     for (before, *_), (after, *_) in zip(WRAPPERS, WRAPPERS[1:]):
         text = re.sub(rf"^(use .*[{{ ])((?:\w+-)?){before}((?:-\w+)?)(?=[,}}])(?!.*[ -]{after}[-,}}])", rf"\1\2{before}\3, \2{after}\3",
                       text, flags=re.M)

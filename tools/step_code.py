@@ -1,5 +1,5 @@
-"""The code of cpp_link for what is done before the parts of a production, the facts that a function is asked with, and the answers of those
-that hand on what they have no arm for, from the rows of grammar.py. trees.py writes it."""
+"""The code of cpp_link for what is done before the parts of a production, the facts that a function is called with, and the
+answers of those that forward what they have no arm for, from the rows of grammar.py. trees.py writes it."""
 import re
 
 import grammar
@@ -77,16 +77,16 @@ def arms():
             lines += [f"            Production::{production} => {shown}"] if shown == ITS_TYPES else arm(production, shown)
         yield FILE, function, lines
 
-# the functions that are asked in turn, each with what the one before it hasn't done
+# the functions that are called in turn, each with what the one before it hasn't done
 ASKED = ["step_second", "step_second_of_name", "step_second_of_piece"]
 
 def others_than(function, found, functions):
-    """The productions that a function is never asked with, since what asks it has arms for them."""
+    """The productions that a function is never called with, since its caller has arms for them."""
     by_hand = [production for production, own in found.items() if own[1].text and is_by_hand(own[1])]
     return by_hand + [production for before in ASKED[:ASKED.index(function)] for production in functions[before]]
 
 def asked():
-    """Each function that is asked with what others haven't done, and the facts that the production is none of theirs."""
+    """Each function that is called with what others haven't done, and the facts that the production is none of theirs."""
     found = steps()
     for function in ASKED:
         others = others_than(function, found, of_function(found))
@@ -95,7 +95,7 @@ def asked():
 # ## Answers
 
 def passed_on(caller, callee, found, functions):
-    """That what is asked with may be asked, and that what it ensures is what is to be ensured: each as one record."""
+    """That a forwarding call meets its requirements, and that what it ensures is what is to be ensured: each as one record."""
     others = [f"  {snake(name)} = c.{f'in_default.not-{name}' if name in functions[caller] else f'requires.{snake(name)}'};"
               for name in others_than(callee, found, functions)]
     return template("cpp_link/passed_on.antt", caller=caller, callee=callee, others=others)
@@ -126,7 +126,7 @@ def pieces(done):
         yield template("cpp_link/piece.antt", production=production, piece=piece.format(part), tree=tree, same=same.format(part), **calls)
 
 def answers():
-    """The answers of each function that hands on, and of that which makes a name by a piece: their files, and their texts."""
+    """The answers of each function that forwards, and of the one that makes a name by a piece: their files, and their texts."""
     found = steps()
     functions, path = of_function(found), "cpp_link/proofs/linked/Linked/{}/Answers.antt".format
     for caller, callee in zip(ASKED, ASKED[1:]):
@@ -140,7 +140,8 @@ def symbol(part):
     return part if part in TOKENS else f"(OfKind {snake(part).upper()})"
 
 def flow(production, row, parts):
-    """How the candidates of a production flow, by its row: its lemma, with what it asks for; nothing where it is by hand, or as of most."""
+    """How the candidates of a production flow, by its row: its lemma, with what it requires; nothing where it is by hand, or as
+    for most."""
     before = row.before[1] if len(row.before) == 2 and row.before[0] == "quiet" and row.onward == "quiet" else ""
     name, first = f"Production.{production} refl around place", symbol(parts[0]) if parts else ""
     named = re.match(r"becomes .* (true|false) true false$", before)
@@ -162,7 +163,7 @@ def flow(production, row, parts):
     return None
 
 def flows():
-    """How candidates flow, for each production of which its row says it."""
+    """How candidates flow, for each production whose row says it."""
     _, productions, rows = grammar.wide()
     found = {name: flow(name, row, productions[name][1]) for name, row in rows.items()}
     return [f"flows Production.{name} around place = {lemma}" for name, lemma in found.items() if lemma]

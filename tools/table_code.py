@@ -21,7 +21,7 @@ def symbol_row(symbols, comment):
     return f"    [{', '.join([*symbols, *['NONE'] * (MOST_SYMBOLS - len(symbols))])}], // {comment}"
 
 def in_rows(numbers, size):
-    """The rows of an array, with so many numbers each."""
+    """The rows of an array, with this many numbers each."""
     return [f"    {', '.join(map(str, numbers[first:first + size]))}," for first in range(0, len(numbers), size)]
 
 def after_each(rules):

@@ -40,7 +40,7 @@ def cases(function, before, after, right, others=None, trees=TREES, crate=""):
     return [*lines, applied(function, [*before, "_", *after]) + f" = {others}"] if others is not None else lines
 
 def carried(lines):
-    """The same of trees whose parameters carry their arguments."""
+    """The same for trees whose parameters carry their arguments."""
     return [line.replace("(parameter k)", "(parameter k argument)") for line in lines]
 
 # ## Trees
@@ -167,7 +167,7 @@ def closed_packs():
     return cases("closed-packs", ["scope"], ["closed"], right, "refl", named(PRESSED))
 
 def reads():
-    """That each tree is read, of its arguments and of what is known of its subtrees."""
+    """That each tree is read, by its arguments and by what is known of its subtrees."""
     def right(tree):
         if cpp_trees.SPELLED.get(tree[0], ("",))[0].startswith("nowhere"):
             return f"reads-nowhere {pattern(tree)} _"
@@ -183,7 +183,7 @@ def itself_as(tree, name):
     return said.get(name, "" if dict(tree[1:])[name] == PIECE else "Itself")
 
 def inside_shut():
-    """Of a closed tree, what is inside is closed."""
+    """That what is inside a closed tree is closed."""
     def right(name, kind, closed, fact):
         below = f"inside-shut {name} x {closed}"
         return f"{kind.lower()}-shut {name} x (Inside {name} x) {closed} ({below}) {fact}" if kind else f"{below} {fact}"

@@ -74,7 +74,7 @@ GROUPS = {
     "OPERATION": OPERATION_TEXTS, "OPERATOR": ["operator" + text for _, text in words.OPERATORS], "COUNT": [],
 }
 BEGINS = dict(zip(GROUPS, accumulate([0, *map(len, GROUPS.values())])))
-# the functions of texts, each with its groups, in the order in which each leaves to the next one what is past its own
+# the functions of texts, each with its groups, in their order: each leaves what is past its own texts to the next one
 TEXT_FUNCTIONS = {
     "fixed_text": ["PLAIN"], "suffix_text": ["SUFFIX"], "builtin_text": ["BUILTIN"],
     "remaining_text": ["ABBREVIATION", "LAST_OF_ABBREVIATION", "SPECIAL", "NAMED_SPECIAL", "ENDING", "BLANKED", "OPERATOR_ALONE"],

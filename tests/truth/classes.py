@@ -67,7 +67,7 @@ def is_alias(case, difference):
 
 
 def is_variable_template(case, difference):
-    """Of a variable template g++ tells no arguments, and of one that is a member no class."""
+    """g++ gives no arguments of a variable template, and no class of one that is a member."""
     if difference.part != "variable" or not case.is_of_gcc:
         return False
     (scope, own), (told_scope, told_own) = scope_and_own(tokens_of(difference.shown)), scope_and_own(tokens_of(difference.told))
@@ -140,8 +140,8 @@ def is_vtable(case, difference):
 
 
 def is_inherited(case, difference):
-    """An inherited constructor (`CI2`) has the name of the class that inherits it. Clang tells the name of the class that it is of,
-    without arguments."""
+    """An inherited constructor (`CI2`) has the name of the class that inherits it. Clang gives the name of the class that it
+    belongs to, without arguments."""
     if difference.part != "name" or not re.search(r"CI[1-5]", case.symbol):
         return False
     (scope, own), (told_scope, told_own) = scope_and_own(case.shown.name), scope_and_own(tokens_of(difference.told))
@@ -149,8 +149,8 @@ def is_inherited(case, difference):
 
 
 def leaves_parameter_out(case, difference):
-    """Of a last parameter without a name that is an empty class by value (a tag that chooses an overload) Clang tells nothing in some
-    definitions. The parameters before it have to be the same. That the class is empty isn't looked at."""
+    """In some definitions Clang says nothing of a last parameter without a name that is an empty class by value (a tag that
+    chooses an overload). The parameters before it have to be the same. That the class is empty isn't looked at."""
     if case.is_of_gcc or difference.part != "number of parameters" or len(case.shown.parameters) != len(case.told.parameters) + 1:
         return False
     is_class = case.shown.parameters[-1][-1] in case.names

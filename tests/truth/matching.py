@@ -3,7 +3,7 @@ from .texts import ANYTHING, MORE, partners_of
 
 
 def ends_of_lists(tokens):
-    """Of each place, where the brackets that it is in end."""
+    """For each place, where the brackets around it end."""
     partners, ends, opened = partners_of(tokens), [], [len(tokens)]
     for place in range(len(tokens)):
         if partners.get(place, len(tokens)) < place:

@@ -235,7 +235,7 @@ class Speller:
                 if one.tag == "DW_TAG_formal_parameter" and not one.has("DW_AT_artificial"):
                     kind = self.entries.without(QUALIFIERS, self.entries.at(one))
                     found.append("".join((yield self.type(kind))))
-        # (of a lambda g++ tells an ellipsis twice, once before its parameters)
+        # (g++ gives the ellipsis of a lambda twice, once before its parameters)
         return found + ["..."] * has_ellipsis
 
     def function(self, entry):

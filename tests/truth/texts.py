@@ -71,7 +71,7 @@ def without_casts(tokens):
 
 
 def partners_of(tokens):
-    """Of each bracket its partner's place. A `<` or `>` without one is an operator."""
+    """For each bracket, the place of its partner. A `<` or `>` without one is an operator."""
     partners, opened = {}, []
     for place, token in enumerate(tokens):
         if token in OPENING:
@@ -97,7 +97,7 @@ def split(tokens):
 
 
 def begin_of_piece(tokens, partners, end):
-    """Where the piece of a scoped name begins that ends at a place: `f<int>(char) const` is one, `{lambda()#1}` another."""
+    """Where the piece of a scoped name that ends at a place begins: `f<int>(char) const` is one, `{lambda()#1}` another."""
     place = end
     while place > 1 and tokens[place - 1] in {*QUALIFIERS, "&"}:
         place -= 1

@@ -192,6 +192,10 @@ class Computing:
         one = self.operand(it.operands[0], it.type)
         return Expression(f"{one.at(POSTFIX)}.f{it.number}", kind(it.type.parts[it.number]), POSTFIX, reads=one.reads)
 
+    def byte_value(self, it):
+        one = self.operand(it.operands[0], it.type)
+        return Expression(f"{one.at(POSTFIX)}.b[{it.number}]", kind(it.type.of), POSTFIX, reads=one.reads)
+
     def quarter_value(self, it):
         one = self.operand(it.operands[0], it.type)
         return Expression(f"{one.at(POSTFIX)}.p[{it.number}]", WHOLE, POSTFIX, reads=one.reads)

@@ -133,7 +133,8 @@ class Function:
         self.place = place
 
     def find_dominators(self):
-        """Which block is the last that each way to a block goes through, and which blocks are so below each."""
+        """For each block, the last block that every way to it goes through, and the blocks that are below each in this
+        sense."""
         last = {self.entry: self.entry}
         changed = True
         while changed:

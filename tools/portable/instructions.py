@@ -152,6 +152,15 @@ def read_part(name, word, line):
     return Instruction(name, "part", type_, [operand], number=place), type_.parts[place]
 
 
+def read_byte_of_vector(name, word, line):
+    """A byte of sixteen."""
+    type_, operand = line.typed()
+    line.want(",")
+    if type_ != BYTES_16:
+        stop(line.whole)
+    return Instruction(name, "byte", type_, [operand], number=line.typed()[1].number), type_.of
+
+
 def read_insertion(name, word, line):
     type_, whole = line.typed()
     line.want(",")
@@ -209,6 +218,7 @@ READERS = [
     ({"ret"}, read_return),
     ({"unreachable"}, read_never),
     ({"extractvalue"}, read_part),
+    ({"extractelement"}, read_byte_of_vector),
     ({"insertvalue", "insertelement"}, read_insertion),
     ({"shufflevector"}, read_shuffle),
     ({"call"}, read_call),

@@ -12,7 +12,7 @@ from instructions import Instruction
 from operands import Name, Number, named
 
 # Instructions that have no effects; a struct with one part changed is written in two statements, and stays where it is.
-PURE = {"arithmetic", "comparison", "cast", "same", "step", "load", "choice", "part", "splat", "quarter"}
+PURE = {"arithmetic", "comparison", "cast", "same", "step", "load", "choice", "part", "byte", "splat", "quarter"}
 
 
 def is_computing(it):

@@ -1,4 +1,4 @@
-"""Which values of a function only stand for others, how often each is used, and what each is called in C:
+"""Which values of a function only denote others, how often each is used, and what each is called in C:
 
     Function  ->  Values: aliases, uses, names
 
@@ -97,7 +97,7 @@ class Values:
         return alias
 
     def resolved(self, operand):
-        """An operand without the names that only stand for another."""
+        """An operand without the names that only denote another."""
         if isinstance(operand, Name) and operand.name in self.aliases:
             return self.aliases[operand.name]
         return operand

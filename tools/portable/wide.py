@@ -134,7 +134,7 @@ class Widening:
         return (operand,), 0
 
     def comparisons(self, pairs):
-        """Instructions that compare more than one pair at once, and the operands that stand for all of the pairs."""
+        """Instructions that compare more than one pair at once, and the operands that represent all of the pairs."""
         more, operands, runs = [], [], {}
         for pair, operand in sorted(pairs, key=lambda it: it[0].one.distance):
             run = runs.setdefault(pair.group(), [[]])

@@ -1,5 +1,5 @@
 -- How a symbol ends: its encoding's name, its return type, its parameters, and what follows them.
-use Rattle.cpp_direct.proofs.AllGround.{absent, among, arguments_of, Around, builtin, Detail, encoding_of, encoding_text, function, is_empty, is_void, Kind, list, may_be_empty, nil, no_items, nothing_there, parameters, qualifier_text, qualifiers_of, ref_of, ref_text, source_text, State, symbol, Term, tree, tree_of, types_of, Value, ◌≡◌, ◌≢◌, ◌⊎◌, refl, ap, sym, ◌∙◌, subst, ℕ, ◌+◌, ◌-◌, ◌≤◌, List, [], ◌∷◌, ◌++◌, length, take, drop, reverse, inl, inr, Bool, true, false, nat_eq, arith, codes, append-nil, append_assoc, ends_with, false≢true, length-append, length-drop, take_rest, drop-append_seam, take-append_seam, AreLeft, AreParametersRead, Arguments, AwaitsParameters, called_on, Cuts, detail_of, Direct, Encloses, Encoded, EncodedBehind, EndsBehind, Fronts, has_const, HasArguments, HasInstance, HasParameters, HasScope, in_front_of_next, is_builtin, is_local, is_object, IsEncodedAt, IsEncodingEnded, IsFrontRead, IsFunctionEnded, IsInstance, IsNamedSo, IsNameEnded, IsNameScoped, IsOwnName, IsScoped, IsSymbolEnded, IsWhole, IsWriting, ItemsGoOn, Keeps, Kept, list_of, list_with, Mark, mark_text, no_scope, Open, ParametersGoOn, plain_encoding, PrintsName, qualifiers, Scope, separator, Shows, Stands, Symbol, TakesItems, Writes, Comes, Expects, IsSuffix, ListGoesOn, Opened, StandsAt, Hiding, Step, suffix-unmarked, candidates-left, keeps-as, kept-same, kept-written, none-kept, none-named, none-single, reverse-last, type-comes, expects-empty, element-awaits, builtin-comes, PrintsItems, list-before, list-in, list-with-none, list-more, none-print-in, has-none, has-parameters, entry-scoped, parameters-as, name-stays, function-shows, mark-opens, object-encoded, encoding-plain, made-with, made-void, parameters-before, symbol-text, symbol-cost, suffix-text, suffix-cost, parameters-kept, encoding-returned, front-shows}
+use Rattle.cpp_direct.proofs.AllGround.{absent, among, arguments_of, Around, builtin, Detail, encoding_of, encoding_text, function, is_empty, is_void, Kind, list, may_be_empty, nil, no_items, nothing_there, parameters, qualifier_text, qualifiers_of, ref_of, ref_text, source_text, State, symbol, Term, tree, tree_of, types_of, Value, ◌≡◌, ◌≢◌, ◌⊎◌, refl, ap, sym, ◌∙◌, subst, ℕ, ◌+◌, ◌-◌, ◌≤◌, List, [], ◌∷◌, ◌++◌, length, take, drop, reverse, inl, inr, Bool, true, false, nat_eq, arith, codes, append-nil, append_assoc, ends_with, false≢true, length-append, length-drop, take_rest, drop-append_seam, take-append_seam, AreLeft, AreParametersRead, Arguments, AwaitsParameters, called_on, Cuts, detail_of, Direct, Encloses, Encoded, EncodedBehind, EndsBehind, Fronts, has_const, HasArguments, HasInstance, HasParameters, HasScope, in_front_of_next, is_builtin, is_local, is_object, IsEncodedAt, IsEncodingEnded, IsFrontRead, IsFunctionEnded, IsInstance, IsNamedSo, IsNameEnded, IsNameScoped, IsOwnName, IsScoped, IsSymbolEnded, IsWhole, IsWriting, ItemsGoOn, Keeps, Kept, Leaves, list_of, list_with, Mark, mark_text, no_scope, Open, ParametersGoOn, plain_encoding, PrintsName, qualifiers, Scope, separator, Shows, Stands, Symbol, TakesItems, Writes, Comes, Expects, IsSuffix, ListGoesOn, Opened, StandsAt, Hiding, Step, suffix-unmarked, candidates-left, keeps-as, kept-same, kept-written, none-kept, none-named, none-single, reverse-last, type-comes, expects-empty, element-awaits, builtin-comes, PrintsItems, list-before, list-in, list-with-none, list-more, none-print-in, has-none, has-parameters, entry-scoped, parameters-as, name-stays, function-shows, mark-opens, object-encoded, encoding-plain, made-with, made-void, parameters-before, symbol-text, symbol-cost, suffix-text, suffix-cost, parameters-kept, encoding-returned, front-shows}
 use Rattle.std.specs.Cmp.Lexicographic.{pointwise}
 use Rattle.cpp_direct.proofs.PrintedLocals.{object-enclosing, function-encloses, name-shows, returned-enclosing, returned-shows}
 
@@ -261,29 +261,22 @@ first-expected s w first last mark start argument p one text candidates scope_sa
 
 -- ## What precedes an encoding's text
 
--- where that is removed, the remaining candidates are some of the old ones, and all of them before a local entity
-pub cut-kept : (s : Symbol) (old new : Direct) (start : ℕ) → Cuts s.bytes old new start → (kept : Kept s old) → (k : Kept s new) × (is_local s.bytes ≡ true → kept.state ≡ k.state)
-cut-kept s old new start cuts kept = go cuts.candidates
+-- where the candidates are gone, or before a local entity nowhere, the rest is kept
+pub left-kept : (s : Symbol) (old new : Direct)
+    → ((is_local s.bytes ≡ false) × (new.candidates.list.items ≡ [])) ⊎ AreLeft Hiding.All old.candidates.list.items new.candidates.list.items
+    → new.has_scope ≡ old.has_scope → (kept : Kept s old) → (k : Kept s new) × (is_local s.bytes ≡ true → kept.state ≡ k.state)
+left-kept s old new without scope_same kept = go without
   where
     known : new.has_scope ≡ false → (no_scope ≡ no_scope) × (is_object s.bytes ≡ false)
-    known e = (refl, (kept.keeps.unknown (sym cuts.scope ∙ e)).1)
+    known e = (refl, (kept.keeps.unknown (sym scope_same ∙ e)).1)
 
-    go : ((start ≡ 0) × (new.candidates ≡ old.candidates)) ⊎ ((is_local s.bytes ≡ false) × (new.candidates.list.items ≡ []))
-        ⊎ AreLeft Hiding.All old.candidates.list.items new.candidates.list.items → (k : Kept s new) × (is_local s.bytes ≡ true → kept.state ≡ k.state)
-    go (inl same) = (
-      record {
-        state = kept.state;
-        scope = kept.scope;
-        keeps = keeps-as s old new kept.state.candidates (cuts.text ∙ ap (λ n. drop n old.text.list.items) same.0) (ap (λ v. v.list.items) same.1) cuts.scope
-            kept.keeps.candidates kept.keeps.named kept.keeps.single kept.keeps.unknown;
-      },
-      λ e. refl,
-    )
-    go (inr (inl none)) = (
+    go : ((is_local s.bytes ≡ false) × (new.candidates.list.items ≡ [])) ⊎ AreLeft Hiding.All old.candidates.list.items new.candidates.list.items
+        → (k : Kept s new) × (is_local s.bytes ≡ true → kept.state ≡ k.state)
+    go (inl none) = (
       record { state = record kept.state { candidates = [] }; scope = no_scope; keeps = none-kept s new none.1 (λ e. (known e).1) },
       λ e. absurd (false≢true (sym none.0 ∙ e)),
     )
-    go (inr (inr are)) = (
+    go (inr are) = (
       record {
         state = kept.state;
         scope = no_scope;
@@ -297,6 +290,23 @@ cut-kept s old new start cuts kept = go cuts.candidates
       },
       λ e. refl,
     )
+
+-- where that is removed, the remaining candidates are some of the old ones, and all of them before a local entity
+pub cut-kept : (s : Symbol) (old new : Direct) (start : ℕ) → Cuts s.bytes old new start → (kept : Kept s old) → (k : Kept s new) × (is_local s.bytes ≡ true → kept.state ≡ k.state)
+cut-kept s old new start cuts kept = go cuts.candidates
+  where
+    go : ((start ≡ 0) × (new.candidates ≡ old.candidates)) ⊎ ((is_local s.bytes ≡ false) × (new.candidates.list.items ≡ []))
+        ⊎ AreLeft Hiding.All old.candidates.list.items new.candidates.list.items → (k : Kept s new) × (is_local s.bytes ≡ true → kept.state ≡ k.state)
+    go (inl same) = (
+      record {
+        state = kept.state;
+        scope = kept.scope;
+        keeps = keeps-as s old new kept.state.candidates (cuts.text ∙ ap (λ n. drop n old.text.list.items) same.0) (ap (λ v. v.list.items) same.1) cuts.scope
+            kept.keeps.candidates kept.keeps.named kept.keeps.single kept.keeps.unknown;
+      },
+      λ e. refl,
+    )
+    go (inr without) = left-kept s old new without cuts.scope kept
 
 -- and the text is what followed it
 pub cut-text : {s : List ℕ} (old new : Direct) (start : ℕ) (aside text : List ℕ) → Cuts s old new start → start ≡ length aside → old.text.list.items ≡ aside ++ text
@@ -584,20 +594,17 @@ function-closed s w last new mark start p whole_ one cuts =
       same = left.1;
     }
 
--- likewise where only the names of functions are shown, once what follows the name is removed: the name is written again, and
--- the rest before it goes
-pub function-named : (s : Symbol) (w last new : Direct) (mark : Mark) (start end : ℕ) (p : IsFunctionEnded s w mark start) → s.is_bare ≡ true
-    → end ≡ length w.text.list.items → Writes w last (take (start - 0) (drop 0 w.text.list.items)) → Cuts s.bytes last new end → IsEncodingEnded s new Mark.Plain
-function-named s w last new mark start end p bare end_is one cuts =
+-- likewise where only the names of functions are shown, once what follows the name is removed
+pub function-named : (s : Symbol) (w new : Direct) (mark : Mark) (start : ℕ) (p : IsFunctionEnded s w mark start) → s.is_bare ≡ true
+    → Leaves s.bytes w new start → IsEncodingEnded s new Mark.Plain
+function-named s w new mark start p bare leaves =
     let fronts = subst (λ b. Fronts b p.front start p.lead p.name) bare p.fronts in
     let named = p.lead ++ p.name in
     let behind_ = fronts.0 ++ codes "(" ++ p.texts in
     let whole_ : w.text.list.items ≡ named ++ behind_ = p.written ∙ ap (λ x. x ++ codes "(" ++ p.texts) fronts.1 ∙ simp append_assoc in
-    let again : take (start - 0) (drop 0 w.text.list.items) ≡ named =
-    ap (λ n. take n w.text.list.items) (omega (arith, fronts.2)) ∙ ap (λ l. take (length named) l) whole_ ∙ take-append_seam named behind_ in
     let left_over : new.text.list.items ≡ named =
-    cut-text last new end w.text.list.items named cuts end_is (one.text ∙ ap (λ l. w.text.list.items ++ l) again) in
-    let left = cut-kept s last new end cuts (kept-written s w last (take (start - 0) (drop 0 w.text.list.items)) one p.kept) in
+    leaves.text ∙ ap (λ n. take n w.text.list.items) fronts.2 ∙ ap (λ l. take (length named) l) whole_ ∙ take-append_seam named behind_ in
+    let left = left-kept s w new leaves.candidates leaves.scope p.kept in
     let made = function p.own (qualifiers (has_const mark)) (called_on mark) absent p.items in
     let shows : Shows (detail_of s) made p.name = name-shows (has-none s bare) p.own p.name p.prints (qualifiers (has_const mark)) (called_on mark) absent p.items in
     record {
@@ -610,7 +617,7 @@ function-named s w last new mark start end p bare end_is one cuts =
       encloses = subst (λ t. Encloses (detail_of s) t p.name) (sym p.e_is)
           (function-encloses (detail_of s) p.own (qualifiers (has_const mark)) (called_on mark) p.items p.name shows);
       now = p.state;
-      behind = subst (λ n. EncodedBehind s p.lead p.e n p.state) (sym (cuts.at ∙ one.at)) p.behind;
+      behind = subst (λ n. EncodedBehind s p.lead p.e n p.state) (sym leaves.at) p.behind;
       same = left.1;
     }
 

@@ -13,6 +13,6 @@ pub use Rattle.cpp_direct.specs.Symbol.{detail_by, detail_of, mangled_of, Symbol
 unfoldable pub use Rattle.cpp_direct.specs.WriterInvariant.{opening_text}
 pub use Rattle.cpp_direct.specs.WriterInvariant.{AddressWithin, AreAmong, AreCandidates, AreNamed, argument_of, arguments_in, arguments_or_pack, ArgumentsGoOn, AwaitsArgument, AwaitsArgumentEnumerator, AwaitsElementOf, AwaitsEnumerator, AwaitsFront, AwaitsItems, AwaitsLed, AwaitsTypeIn, Belongs, Below, below, Closes, ComeBefore, element_kind, ElementsGoOn, Encoded, EncodedBehind, encoding_place, EndsBehind, EndsNamed, EntityBehind, EnumeratorGoesOn, ExpectsType, extra_of, FirstType, Fronts, GoesOn, HasArguments, HasDerived, HasInnerFront, HasInstance, HasLed, HasNameSo, HasPack, HasParameters, HasScope, HasSingles, in_front_of_next, is_noted, is_type, is_within_type, IsAddressed, IsAmong, IsBetween, IsCandidate, IsEncodedAt, IsInstance, IsKnown, IsLedFunction, IsListing, IsMadeIn, IsMember, IsNamedSo, IsNaming, IsNest, IsNesting, IsNestScoped, IsNestSoFar, IsOwn, IsOwnName, IsPackOf, IsPackThere, IsPlaced, IsScope, IsScoped, IsScopedWithin, IsShown, IsSingle, IsTail, IsTemplate, IsTypeRead, IsWhole, IsWriting, ItemsGoOn, ItemsOf, Keeps, Kept, LambdaComes, LambdaWithin, led_by, list_with, Listing, Marks, may_name, MemberBehind, MemberGoesOn, no_scope, nowhere, of_pack, of_template, Owns, ParametersGoOn, place_of, plain_encoding, qualifiers, Scope, scoped_in, Serves, Stands, TakesFunction, TakesItems, TypeWithin}
 pub use Rattle.cpp_direct.specs.WriterTypes.{Access, Argument, Arguments, Candidate, detail_of, Direct, Hiding, Holder, Mark, MarkPlace, Nest, Open, Pattern, Purpose, Step, Symbol}
-pub use Rattle.cpp_direct.specs.Written.{added, added_unless, AreLeft, Cuts, hidden, hidden_behind, IsLeft, Lists, OpensArguments, OpensEntry, Reads, Stays, with_argument, with_hidden, Writes}
+pub use Rattle.cpp_direct.specs.Written.{AreLeft, Cuts, IsLeft, Leaves, Lists, OpensArguments, OpensEntry, Reads, Stays, Writes, added, added_unless, hidden, hidden_behind, with_argument, with_hidden}
 unfoldable pub use Rattle.cpp_direct.specs.WrittenParts.{written_parts}
 pub use Rattle.cpp_direct.specs.WrittenParts.{closing_bracket, is_unmarked, IsUnmarked, opening_bracket, unmarked, unmarked_byte, unmarked_parts, written, written_in, written_instance, written_name}

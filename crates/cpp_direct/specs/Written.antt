@@ -1,5 +1,5 @@
 -- What the small functions of a writer do to its lists.
-use Rattle.std.specs.Prelude.{◌≡◌, ◌⊎◌, ℕ, ◌+◌, List, [], ◌∷◌, ◌++◌, length, drop, Bool, true, false, ◌≤◌}
+use Rattle.std.specs.Prelude.{◌≡◌, ◌⊎◌, ℕ, ◌+◌, List, [], ◌∷◌, ◌++◌, length, drop, take, Bool, true, false, ◌≤◌}
 use Rattle.cpp_direct.specs.declared.open.Argument.{Argument}
 use Rattle.cpp_direct.specs.declared.open.Candidate.{Candidate}
 use Rattle.cpp_direct.specs.declared.open.Hiding.{Hiding}
@@ -103,5 +103,12 @@ pub record Cuts (s : List ℕ) (old new : Direct) (start : ℕ) : Type 0 where
   pub text : new.text.list.items ≡ drop start old.text.list.items
   pub candidates : ((start ≡ 0) × (new.candidates ≡ old.candidates)) ⊎ ((is_local s ≡ false) × (new.candidates.list.items ≡ []))
       ⊎ AreLeft hidings.All old.candidates.list.items new.candidates.list.items
+  pub scope : new.has_scope ≡ old.has_scope
+  pub at : new.at ≡ old.at
+
+-- What was written after a place was removed. There is no candidate then, or before a local entity each of them is nowhere.
+pub record Leaves (s : List ℕ) (old new : Direct) (end : ℕ) : Type 0 where
+  pub text : new.text.list.items ≡ take end old.text.list.items
+  pub candidates : ((is_local s ≡ false) × (new.candidates.list.items ≡ [])) ⊎ AreLeft hidings.All old.candidates.list.items new.candidates.list.items
   pub scope : new.has_scope ≡ old.has_scope
   pub at : new.at ≡ old.at

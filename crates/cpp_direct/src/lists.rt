@@ -216,7 +216,7 @@ impl Direct {
                     is_instance: true,
                     ..nest
                 };
-                Some(Step::Tail)
+                self.tail_at::<G>(s)
             }
             Open::FirstArguments { nest } => {
                 self.add_candidate(nest.from, false, nest.is_dependent)?;

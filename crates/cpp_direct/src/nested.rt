@@ -3,11 +3,14 @@
 ghost use Rattle.std.specs.Prelude.{◌≡◌, ℕ, ◌+◌, ◌∷◌, ◌&&◌, [], true, false};
 ghost use Rattle.std.specs.Option.{IfSome, OnSome};
 ghost use Rattle.cpp_direct.specs.Names.{IsConstructorDigit, IsDestructorDigit, IsReadable};
+ghost use Rattle.cpp_direct.specs.declared.open.Open.TheVariants as opens;
+ghost use Rattle.cpp_direct.specs.declared.open.Purpose.TheVariants as purposes;
 ghost use Rattle.cpp_direct.specs.declared.open.Step.TheVariants as steps;
 ghost use Rattle.cpp_direct.specs.Holes.{StandsAt};
 ghost use Rattle.cpp_direct.specs.WriterInvariant.{IsWriting, nowhere};
 ghost use Rattle.cpp_direct.specs.MidStep.{AwaitsNest, AwaitsClass, IsNestKnown, IsNestNamed, IsOperatorRead};
-ghost use Rattle.cpp_direct.specs.Symbol.{symbol_by};
+ghost use Rattle.cpp_direct.specs.Symbol.{detail_by, symbol_by};
+ghost use Rattle.cpp_direct.specs.Written.{OpensArguments};
 
 use crate::direct::Direct;
 use crate::grammar::Grammar;
@@ -91,7 +94,7 @@ impl Direct {
             is_instance: false,
             is_dependent: false,
         };
-        Some(Step::Rest)
+        self.rest_at::<G>(s)
     }
 
     // <substitution> ::= S <seq-id> _ | S_ | St | Sa | Ss | Sb | Si | So | Sd
@@ -135,16 +138,17 @@ impl Direct {
     // <nested-name> ::= N <substitution> <template-args> E
     #[inline(always)]
     fn nest_known<G: Grammar>(&mut self, s: &[u8]) -> Option<Step>
-        requires { IsNestKnown (symbol_by G.IS_WIDE G.IS_BARE G.IS_BRIEF s.now) self.old }
+        requires fits { IsReadable s.now }
+        requires known { IsNestKnown (symbol_by G.IS_WIDE G.IS_BARE G.IS_BRIEF s.now) self.old }
         ensures { IfSome result (IsWriting (symbol_by G.IS_WIDE G.IS_BARE G.IS_BRIEF s.now) self.new) }
     {
         if G::IS_WIDE
             && let Purpose::Type = self.nest.purpose
             && byte_at(s, self.at) == b'I'
         {
-            return self.open_arguments::<G>(Open::NestArguments { nest: self.nest });
+            return self.open_nest::<G>();
         }
-        Some(Step::Rest)
+        self.rest_at::<G>(s)
     }
 
     /// Reads a name in std at the front of a nested one, whose S has been read.
@@ -199,10 +203,28 @@ impl Direct {
             return Some(Step::Tail);
         }
         self.add_candidate(self.nest.from, false, self.nest.is_dependent)?;
+        self.open_nest::<G>()
+    }
+
+    /// Opens the arguments of a component, or of a name in std or a substitution.
+    // a function of its own: all that it is inlined in would clear the room of its entry, whether arguments follow or not
+    #[inline(always)]
+    fn open_nest<G: Grammar>(&mut self) -> Option<Step>
+        ensures { IfSome result (λ next. (next ≡ steps.List true) × OpensArguments (detail_by G.IS_BARE G.IS_BRIEF) self.old self.new (opens.NestArguments self.old.nest)) }
+    {
         self.open_arguments::<G>(Open::NestArguments { nest: self.nest })
     }
 
+    /// Opens the arguments of a nested name's first piece.
+    #[inline(always)]
+    fn open_first<G: Grammar>(&mut self) -> Option<Step>
+        ensures { IfSome result (λ next. (next ≡ steps.List true) × OpensArguments (detail_by G.IS_BARE G.IS_BRIEF) self.old self.new (opens.FirstArguments self.old.nest)) }
+    {
+        self.open_arguments::<G>(Open::FirstArguments { nest: self.nest })
+    }
+
     /// Reads what follows the first piece of a nested name.
+    #[inline(always)]
     pub(crate) fn rest_at<G: Grammar>(&mut self, s: &[u8]) -> Option<Step>
         requires fits { IsReadable s.now }
         requires writing { IsWriting (symbol_by G.IS_WIDE G.IS_BARE G.IS_BRIEF s.now) self.old steps.Rest }
@@ -210,12 +232,13 @@ impl Direct {
     {
         self.add_unless(self.nest.is_listed, self.nest.from, self.nest.is_dependent)?;
         if byte_at(s, self.at) == b'I' {
-            return self.open_arguments::<G>(Open::FirstArguments { nest: self.nest });
+            return self.open_first::<G>();
         }
         self.components_at::<G>(s)
     }
 
     /// Reads another component of a nested name, or its end.
+    #[inline(always)]
     pub(crate) fn tail_at<G: Grammar>(&mut self, s: &[u8]) -> Option<Step>
         requires fits { IsReadable s.now }
         requires writing { IsWriting (symbol_by G.IS_WIDE G.IS_BARE G.IS_BRIEF s.now) self.old steps.Tail }
@@ -278,7 +301,39 @@ impl Direct {
     }
 
     /// Reads the E of a nested name.
+    #[inline(always)]
     fn nest_ended<G: Grammar>(&mut self, s: &[u8]) -> Option<Step>
+        requires fits { IsReadable s.now }
+        requires end { StandsAt s.now self.old.at (69 ∷ []) }
+        requires writing { IsWriting (symbol_by G.IS_WIDE G.IS_BARE G.IS_BRIEF s.now) self.old steps.Tail }
+        ensures { IfSome result (IsWriting (symbol_by G.IS_WIDE G.IS_BARE G.IS_BRIEF s.now) self.new) }
+    {
+        match self.nest.purpose {
+            Purpose::Type => self.nest_type_ended::<G>(s),
+            _ => self.nest_name_ended::<G>(s),
+        }
+    }
+
+    /// Reads the E of a nested name that is a type.
+    // <class-enum-type> ::= <name>
+    #[inline(always)]
+    fn nest_type_ended<G: Grammar>(&mut self, _s: &[u8]) -> Option<Step>
+        requires end { StandsAt _s.now self.old.at (69 ∷ []) }
+        requires purpose { self.old.nest.purpose ≡ purposes.Type }
+        requires writing { IsWriting (symbol_by G.IS_WIDE G.IS_BARE G.IS_BRIEF _s.now) self.old steps.Tail }
+        ensures { IfSome result (IsWriting (symbol_by G.IS_WIDE G.IS_BARE G.IS_BRIEF _s.now) self.new) }
+    {
+        self.at = self.at.checked_add(1)?;
+        self.add_unless(self.nest.is_listed, self.nest.from, self.nest.is_dependent)?;
+        Some(Step::Value {
+            is_reference: false,
+            is_dependent: self.nest.is_dependent,
+        })
+    }
+
+    /// Reads the E of a nested name that is the name of a function or of data.
+    #[inline(always)]
+    fn nest_name_ended<G: Grammar>(&mut self, s: &[u8]) -> Option<Step>
         requires fits { IsReadable s.now }
         requires end { StandsAt s.now self.old.at (69 ∷ []) }
         requires writing { IsWriting (symbol_by G.IS_WIDE G.IS_BARE G.IS_BRIEF s.now) self.old steps.Tail }
@@ -286,13 +341,7 @@ impl Direct {
     {
         self.at = self.at.checked_add(1)?;
         match self.nest.purpose {
-            Purpose::Type => {
-                self.add_unless(self.nest.is_listed, self.nest.from, self.nest.is_dependent)?;
-                Some(Step::Value {
-                    is_reference: false,
-                    is_dependent: self.nest.is_dependent,
-                })
-            }
+            Purpose::Type => None,
             Purpose::Name { mark } => {
                 let argument = self.noted();
                 let is_function = self.is_function_instance();

@@ -72,18 +72,55 @@ impl Direct {
         requires writing { IsWriting (symbol_by G.IS_WIDE G.IS_BARE G.IS_BRIEF s.now) self.old step }
         ensures { IfSome result (IsWriting (symbol_by G.IS_WIDE G.IS_BARE G.IS_BRIEF s.now) self.new) }
     {
+        let read = self.read::<G>(s, step)?;
+        let passed = self.pass_on::<G>(s, read)?;
+        self.list_on::<G>(s, passed)
+    }
+
+    /// Reads a type or a part of a nested name, where that comes next.
+    #[inline(always)]
+    fn read<G: Grammar>(&mut self, s: &[u8], step: Step) -> Option<Step>
+        requires fits { IsReadable s.now }
+        requires writing { IsWriting (symbol_by G.IS_WIDE G.IS_BARE G.IS_BRIEF s.now) self.old step }
+        ensures { IfSome result (IsWriting (symbol_by G.IS_WIDE G.IS_BARE G.IS_BRIEF s.now) self.new) }
+    {
         match step {
             Step::Type => self.type_at::<G>(s, false),
             Step::Plain => self.type_at::<G>(s, true),
-            Step::Value {
-                is_reference,
-                is_dependent,
-            } => self.pass::<G>(s, is_reference, is_dependent),
-            Step::List { is_first } => self.list_at::<G>(s, is_first),
             Step::Rest => self.rest_at::<G>(s),
             Step::Tail => self.tail_at::<G>(s),
             Step::Component => self.components_at::<G>(s),
             Step::Ended => None,
+            _ => Some(step),
+        }
+    }
+
+    /// Forwards a type to the entry that waits for it, where one was read.
+    #[inline(always)]
+    fn pass_on<G: Grammar>(&mut self, s: &[u8], step: Step) -> Option<Step>
+        requires fits { IsReadable s.now }
+        requires writing { IsWriting (symbol_by G.IS_WIDE G.IS_BARE G.IS_BRIEF s.now) self.old step }
+        ensures { IfSome result (IsWriting (symbol_by G.IS_WIDE G.IS_BARE G.IS_BRIEF s.now) self.new) }
+    {
+        match step {
+            Step::Value {
+                is_reference,
+                is_dependent,
+            } => self.pass::<G>(s, is_reference, is_dependent),
+            _ => Some(step),
+        }
+    }
+
+    /// Reads an argument or an element of a pack, where one comes next, or the end of either.
+    #[inline(always)]
+    fn list_on<G: Grammar>(&mut self, s: &[u8], step: Step) -> Option<Step>
+        requires fits { IsReadable s.now }
+        requires writing { IsWriting (symbol_by G.IS_WIDE G.IS_BARE G.IS_BRIEF s.now) self.old step }
+        ensures { IfSome result (IsWriting (symbol_by G.IS_WIDE G.IS_BARE G.IS_BRIEF s.now) self.new) }
+    {
+        match step {
+            Step::List { is_first } => self.list_at::<G>(s, is_first),
+            _ => Some(step),
         }
     }
 
@@ -121,6 +158,7 @@ impl Direct {
 
     /// The first bytes of an encoding.
     // <encoding> ::= <function name> <bare-function-type> | <data name>
+    #[inline(always)]
     pub(crate) fn begin_encoding<G: Grammar>(&mut self, s: &[u8]) -> Option<Step>
         requires fits { IsReadable s.now }
         requires awaits { AwaitsEncoding (symbol_by G.IS_WIDE G.IS_BARE G.IS_BRIEF s.now) self.old }
@@ -387,9 +425,7 @@ impl Direct {
         ensures { IfSome result (IsWriting (symbol_by G.IS_WIDE G.IS_BARE G.IS_BRIEF s.now) self.new) }
     {
         if G::IS_BARE {
-            let end = self.text.end();
-            self.repeat(0, start)?;
-            self.cut(s, end)?;
+            self.keep(s, start);
             return self.encoded::<G>(s);
         }
         self.push_byte(b')')?;
@@ -398,6 +434,7 @@ impl Direct {
     }
 
     /// The end of an encoding, after its text without its qualifier: a local entity follows, or the end of the symbol.
+    #[inline(always)]
     pub(crate) fn end<G: Grammar>(&mut self, s: &[u8], mark: Mark) -> Option<Step>
         requires fits { IsReadable s.now }
         requires ended { IsEncodingEnded (symbol_by G.IS_WIDE G.IS_BARE G.IS_BRIEF s.now) self.old mark }

@@ -5,7 +5,7 @@ ghost use Rattle.std.specs.Option.{OnSome, IfSome};
 ghost use Rattle.cpp_direct.specs.declared.open.Step.TheVariants as steps;
 ghost use Rattle.cpp_direct.specs.Symbol.{detail_by};
 ghost use Rattle.cpp_direct.specs.WrittenParts.{closing_bracket};
-ghost use Rattle.cpp_direct.specs.Written.{Writes, Cuts, Lists, OpensEntry, OpensArguments, added, added_unless, with_argument, with_hidden, AreLeft, Stays};
+ghost use Rattle.cpp_direct.specs.Written.{Writes, Cuts, Leaves, Lists, OpensEntry, OpensArguments, added, added_unless, with_argument, with_hidden, AreLeft, Stays};
 ghost use Rattle.cpp_direct.specs.declared.open.Hiding.TheVariants as hidings;
 
 use crate::direct::Direct;
@@ -157,6 +157,20 @@ impl Direct {
         Some(())
     }
 
+    /// Removes what was written after a place. There are no candidates then, or before a local entity all of them are nowhere.
+    #[inline(always)]
+    pub(crate) fn keep(&mut self, s: &[u8], end: u32)
+        requires within { end ≤ length self.old.text.list.items }
+        ensures { Leaves s.now self.old self.new end }
+    {
+        self.text.keep_first(end as usize);
+        if is_local(s) {
+            self.hide_all();
+            return;
+        }
+        self.candidates.begin(0);
+    }
+
     /// All candidates are then nowhere.
     #[inline(never)]
     fn hide_all(&mut self)
@@ -177,9 +191,7 @@ impl Direct {
         ensures scope { OnSome result (self.new.has_scope ≡ self.old.has_scope) }
         ensures at { OnSome result (self.new.at ≡ self.old.at) }
     {
-        let end = self.text.end();
-        self.repeat(0, to)?;
-        self.text.drop_first(end as usize);
+        self.text.keep_first(to as usize);
         hide(&mut self.candidates, Hiding::After { to });
         Some(())
     }

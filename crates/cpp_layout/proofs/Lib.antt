@@ -9,3 +9,5 @@ pub mod Naming
 pub mod Declaring
 pub mod Typing
 pub mod Printing
+mod Pointing
+mod Heads

@@ -63,7 +63,8 @@ plain_texts =
     codes ">(" ∷
     codes "$T" ∷
     codes "$N" ∷
-    codes "$TT" ∷ []
+    codes "$TT" ∷
+    codes "****************************************************************" ∷ []
 
 -- what follows a function's parameters
 abbrev pub suffix_texts : List (List ℕ)

@@ -17,6 +17,7 @@ mod print;
 mod printed;
 mod qualified;
 mod right;
+mod runs;
 mod symbol;
 mod texts;
 mod types;

@@ -1,13 +1,14 @@
 // A symbol as a layout, and its text.
 #![tactic(auto)]
 
-ghost use Rattle.std.specs.Prelude.{◌≡◌, ◌+◌, ◌<◌, ◌≤◌, ◌^◌, ◌++◌, [], List, length, vec_len, vec_capacity, true, IfOk, IfErr, OnOk, ◌⊎◌, Err, false};
+ghost use Rattle.std.specs.Prelude.{◌≡◌, ◌+◌, ◌<◌, ◌≤◌, ◌^◌, ◌++◌, [], List, length, vec_len, vec_capacity, true, IfOk, IfErr, IfSome, OnOk, ◌⊎◌, Err, false};
 ghost use Rattle.std.specs.List.{All};
 ghost use Rattle.sym_core.specs.declared.Refusal.{Refusal};
 ghost use Rattle.sym_print.specs.declared.layout.Part.{Part};
 ghost use Rattle.sym_print.specs.declared.detail.Detail.{Detail};
 ghost use Rattle.sym_print.specs.Unshared.{text_of, cost_of};
 ghost use Rattle.sym_print.specs.Joined.{joined};
+ghost use Rattle.sym_print.specs.Runs.{IsRun};
 ghost use Rattle.sym_print.specs.Stacked.{Stacked};
 ghost use Rattle.sym_print.specs.Held.{Held};
 ghost use Rattle.sym_print.specs.Unfold.{PartOf};
@@ -23,7 +24,7 @@ use crate::{form, texts};
 use arrayvec::ArrayVec;
 use cpp_term::texts_are_the_same;
 use sym_core::Refusal;
-use sym_print::{Detail, Item, Layout, Part, PartList, print};
+use sym_print::{Detail, Item, Layout, Part, PartList, Run, print};
 
 /// Whether the packs have an element after this one.
 #[tactic(auto, unfolding(cpp_grammar::specs::Parts::is_below))]
@@ -177,6 +178,22 @@ impl Layout for Symbol {
             && one.form == other.form
             && one.at == other.at
             && one.ctx == other.ctx
+    }
+
+    #[inline(always)]
+    fn begins_run(&self, item: Item<Context>) -> bool
+        requires may_come { MayBeAsked self.now (Part.Sub item) }
+    {
+        self.is_long_run(item)
+    }
+
+    /// Pointers to pointers, and to constant pointers, are runs.
+    #[inline(always)]
+    fn run(&self, item: Item<Context>) -> Option<Run<Context>>
+        requires may_come { MayBeAsked self.now (Part.Sub item) }
+        ensures run { IfSome result (λ run. IsRun (unshared_of self.now) (bytes_of_part self.now) (MayBeAsked self.now) item run) }
+    {
+        self.run_of(item)
     }
 
     #[inline(always)]

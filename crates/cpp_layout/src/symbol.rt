@@ -1,25 +1,66 @@
 // A symbol that was read.
 #![tactic(auto)]
 
-ghost use Rattle.std.specs.Prelude.{◌≡◌, ℕ, ◌+◌, ◌<◌, ◌≤◌, ◌*◌, length, slice_get, Some, false};
+ghost use Rattle.std.specs.Prelude.{◌≡◌, ℕ, ◌+◌, ◌<◌, ◌≤◌, ◌*◌, length, slice_get, Some, false, true, IfSome};
 ghost use Rattle.std.specs.List.{All};
 ghost use Rattle.cpp_grammar.specs.Items as heads;
 ghost use Rattle.cpp_term.specs.Items as items;
+ghost use Rattle.cpp_term.specs.Term.{pointer, qualified};
 ghost use Rattle.cpp_term.specs.Reargued.{argument_or};
 ghost use Rattle.cpp_term.specs.Scope.{element, without_tags};
-ghost use Rattle.cpp_tree.specs.Nodes.{tree_at, trees, tree_of, tree_if_there, is_again, bytes_at, IsBelow, IsAliasBelow, IsTable, IsWithin, entry_at};
+ghost use Rattle.cpp_tree.specs.Nodes.{tree_at, trees, tree_of, tree_if_there, is_again, bytes_at, IsBelow, IsAliasBelow, IsTable, IsWithin, entry_at, head_of, qualifiers_of, tree_under, IsPlacedBelow};
+ghost use Rattle.cpp_layout.specs.Pointers.{just_const};
 ghost use Rattle.cpp_layout.specs.Layout.{table_of, context_of, printed_tree, node_shown, IsRead};
 ghost use Rattle.cpp_tree.specs.Fields.{offsets_of, tree_from};
 ghost use Rattle.cpp_tree.specs.Views.{plain_tree, fields_at, seen_fields, offsets_in, IsView, AreBelow, AreWithin, IsKnownThunk};
 
 use crate::context::{Context, Place};
-use cpp_tree::node::{Entry, Node, Placed, Thunk};
+use cpp_tree::node::{Entry, Head, HeadClass, Node, Placed, Qualifiers, Thunk};
 use cpp_tree::view::{NodeView, offsets_of, view_of};
 use cpp_tree::{Node as View, Nodes};
 use std::alloc::Global;
 use std::marker::Model;
 use sym_core::{Counts, Span};
 use sym_print::Detail;
+
+/// Whether const is the only qualifier.
+#[inline(always)]
+fn is_just_const(qualifiers: Qualifiers) -> bool
+    ensures { result ≡ true → qualifiers_of qualifiers ≡ just_const }
+{
+    if qualifiers.restrict {
+        return false;
+    }
+    if qualifiers.volatile {
+        return false;
+    }
+    qualifiers.const_
+}
+
+/// Whether the head is that of a function or an array.
+#[inline(always)]
+#[tactic(auto, unfolding(cpp_tree::specs::Nodes::head_of, cpp_grammar::specs::Items::is_funarr))]
+fn is_function(head: Head) -> bool
+    ensures { result ≡ heads.is_funarr (head_of head) }
+{
+    match head {
+        Head::FunctionOrArray => true,
+        _ => false,
+    }
+}
+
+/// Whether the head is that of a reference.
+#[inline(always)]
+#[tactic(auto, unfolding(cpp_tree::specs::Nodes::head_of, cpp_grammar::specs::Items::is_reference))]
+fn is_reference(head: Head) -> bool
+    ensures { result ≡ heads.is_reference (head_of head) }
+{
+    match head {
+        Head::Lvalue => true,
+        Head::Rvalue => true,
+        _ => false,
+    }
+}
 
 /// A symbol that was read: its bytes, its nodes, and what reading it took.
 #[derive(Drop)]
@@ -254,38 +295,104 @@ impl Symbol {
         &self.bytes[span.from as usize..span.to as usize]
     }
 
+    /// What a type points to, if it is a pointer. Of an alias it is not said.
+    // <type> ::= P <type>
+    #[inline(always)]
+    pub(crate) fn pointed(&self, ty: Placed) -> Option<Placed>
+        requires table { IsTable (table_of self.now) }
+        requires ty { IsPlacedBelow (length self.now.table.nodes) ty }
+        ensures below { IfSome result (λ to. IsPlacedBelow (length self.now.table.nodes) to) }
+        ensures tree { IfSome result (λ to. tree_under (trees (table_of self.now)) ty ≡ pointer (tree_under (trees (table_of self.now)) to)) }
+    {
+        match self.nodes.node(&self.bytes, ty.node) {
+            Node::Pointer(to) => Some(Placed {
+                node: to,
+                under: ty.under,
+            }),
+            _ => None,
+        }
+    }
+
+    /// The type that is const, if a type is that and nothing more. Of an alias it is not said.
+    // <type> ::= <CV-qualifiers> <type>
+    #[inline(always)]
+    pub(crate) fn constant(&self, ty: Placed) -> Option<Placed>
+        requires table { IsTable (table_of self.now) }
+        requires ty { IsPlacedBelow (length self.now.table.nodes) ty }
+        ensures below { IfSome result (λ to. IsPlacedBelow (length self.now.table.nodes) to) }
+        ensures tree { IfSome result (λ to. tree_under (trees (table_of self.now)) ty ≡ qualified just_const (tree_under (trees (table_of self.now)) to)) }
+    {
+        match self.nodes.node(&self.bytes, ty.node) {
+            Node::Qualified { qualifiers, ty: to } => {
+                if !is_just_const(qualifiers) {
+                    return None;
+                }
+                Some(Placed {
+                    node: to,
+                    under: ty.under,
+                })
+            }
+            _ => None,
+        }
+    }
+
+    /// The head of a type, if it is noted of the type itself: it isn't where the head is that of an element of a pack, or where the type
+    /// may be under an argument.
+    #[inline(always)]
+    fn noted_head(&self, node: u32, ctx: Context) -> Option<Head>
+        requires table { IsTable (table_of self.now) }
+        requires node { node < length self.now.table.nodes }
+        ensures { IfSome result (λ head. head_of head ≡ items.head (context_of ctx) (printed_tree self.now ctx node)) }
+    {
+        match ctx.argument {
+            None => match self.entry(node).class {
+                HeadClass::Known(head) => Some(head),
+                _ => None,
+            },
+            Some(_) => None,
+        }
+    }
+
     /// Whether a type is a function or an array.
+    #[inline(always)]
     pub(crate) fn is_function(&self, node: u32, ctx: Context) -> bool
         requires table { IsTable (table_of self.now) }
         requires node { node < length self.now.table.nodes }
         requires context { IsAliasBelow (length self.now.table.nodes) ctx.argument }
         ensures { result ≡ heads.is_funarr (items.head (context_of ctx) (printed_tree self.now ctx node)) }
     {
-        self.nodes.is_function(
-            &self.bytes,
-            Placed {
-                node,
-                under: ctx.argument,
-            },
-            ctx.index,
-        )
+        match self.noted_head(node, ctx) {
+            Some(head) => is_function(head),
+            None => self.nodes.is_function(
+                &self.bytes,
+                Placed {
+                    node,
+                    under: ctx.argument,
+                },
+                ctx.index,
+            ),
+        }
     }
 
     /// Whether a type is a reference.
+    #[inline(always)]
     pub(crate) fn is_reference(&self, node: u32, ctx: Context) -> bool
         requires table { IsTable (table_of self.now) }
         requires node { node < length self.now.table.nodes }
         requires context { IsAliasBelow (length self.now.table.nodes) ctx.argument }
         ensures { result ≡ heads.is_reference (items.head (context_of ctx) (printed_tree self.now ctx node)) }
     {
-        self.nodes.is_reference(
-            &self.bytes,
-            Placed {
-                node,
-                under: ctx.argument,
-            },
-            ctx.index,
-        )
+        match self.noted_head(node, ctx) {
+            Some(head) => is_reference(head),
+            None => self.nodes.is_reference(
+                &self.bytes,
+                Placed {
+                    node,
+                    under: ctx.argument,
+                },
+                ctx.index,
+            ),
+        }
     }
 
     /// Whether a node prints nothing: an expansion over empty packs, or a list of such.

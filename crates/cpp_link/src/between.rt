@@ -256,8 +256,8 @@ impl Linked {
     /// # Errors
     ///
     /// Those of `before_part`.
-    #[inline(never)]
-    fn before_by_step(
+    #[inline(always)]
+    pub(crate) fn before_by_step(
         &mut self,
         symbol: &[u8],
         frame: &Frame<Surroundings>,

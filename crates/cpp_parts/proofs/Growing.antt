@@ -27,7 +27,7 @@ before-assoc marks.done n others = refl
 before-assoc (text b rest) n others = ap (text b) (before-assoc rest n others)
 before-assoc (marked r o inside rest) n others = ap (marked r o inside) (before-assoc rest n others)
 
--- before nothing
+-- a marked text before nothing
 pub before-done : (m : Marked) → m before marks.done ≡ m
 unfolding ◌before◌
 before-done marks.done = refl

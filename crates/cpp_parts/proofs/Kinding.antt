@@ -1,4 +1,4 @@
--- What the production of a node says of what a symbol is.
+-- What a symbol is, by the productions of its nodes.
 use Rattle.std.proofs.Common.{◌≡◌, ℕ, ◌<◌, List, [], ◌∷◌, length, get_or, slice_get, Option, Some, None, Bool, true, false, refl, ap, ◌∙◌, arith}
 use Rattle.std.specs.Prelude.{nat_eq, ◌+◌, ◌*◌, ◌==◌, if◌then◌else◌}
 use Rattle.cpp_grammar.specs.Term.{Term, symbol, function, object, thunk, of_name, alone, in_std, within, instance, local, holder, tagged, of_default, operator, builtin, absent, non_virtual, by_table, Thunk, adjusting, covariant, Qualifiers, RefQualifier}

@@ -1,4 +1,4 @@
--- What the production of a node says of its tree, and so of how its text is marked.
+-- The tree of a node by the node's production, and so how its text is marked.
 use Rattle.std.proofs.Common.{◌≡◌, ℕ, List, length, get_or, slice_get, Option, Some, None, Bool, false, refl, sym, ap, ◌∙◌}
 use Rattle.std.proofs.lemmas.Option.{get_or_from_slice_get}
 use Rattle.cpp_grammar.specs.Term.{Term, symbol, function, object, thunk, clone, instance, local, holder, tagged, of_default, abbreviation, list, pack, expansion, absent, Qualifiers, RefQualifier, Thunk, adjusting, covariant, non_virtual, by_table}
@@ -40,7 +40,7 @@ second-is t p is = get_or_from_slice_get (fields_of t).parts 1 p absent is
 pub third-is : (t p : Term) → slice_get (fields_of t).parts 2 ≡ Some p → third t ≡ p
 third-is t p is = get_or_from_slice_get (fields_of t).parts 2 p absent is
 
--- how many parts a tree has that is another one
+-- how many parts a tree has, by an equal tree
 pub parts-of : (t s : Term) (n : ℕ) → t ≡ s → length (fields_of s).parts ≡ n → length (fields_of t).parts ≡ n
 parts-of t s n is count = ap (λ u. length (fields_of u).parts) is ∙ count
 
@@ -102,7 +102,7 @@ module _ (t : Term) (whole : t ≡ tree_from (fields_of t) (offsets_of t)) where
   pub is-symbol : (fields_of t).production ≡ SYMBOL → (suffix : List ℕ) × (t ≡ symbol (first t) suffix)
   is-symbol p = (_, whole ∙ read SYMBOL (fields_of t) (offsets_of t) p)
 
--- ## What is none of these
+-- ## Trees of no such sort
 
 pub name-other : (tags : ℕ) (t : Term) (u : Unshared) → ((fields_of t).production ≡ INSTANCE → ⊥) → ((fields_of t).production ≡ TAGGED → ⊥) → ((fields_of t).production ≡ LOCAL → ⊥)
     → ((fields_of t).production ≡ NUMBERED_LOCAL → ⊥) → ((fields_of t).production ≡ HOLDER → ⊥) → ((fields_of t).production ≡ ABBREVIATION → ⊥) → name tags t u ≡ named u
@@ -180,7 +180,7 @@ unfolding is_absent fields_of
 absent-other absent h = absurd (h refl)
 absent-other t h = refl
 
--- ## How what is one of these is marked
+-- ## How trees of these sorts are marked
 
 instance-marks : (tags : ℕ) (y : ReadSymbol) (n m : ℕ) (u : Unshared) → name tags (instance (plain_tree (table_of y) n) (plain_tree (table_of y) m)) u ≡ name_by y tags (names.Instance n m) u
 unfolding name name_by

@@ -21,7 +21,7 @@ printed-text : (y : ReadSymbol) (part : Part Context) (rest : List (Part Context
 printed-text y (Sub x) rest is_text = elim is_text [ ]
 printed-text y _ rest is_text = refl
 
--- what costs at most this much without what is before it
+-- what an item costs, and what the rest after it costs, of at most this much
 costs-item : (u : Unshared) (most : ℕ) (one rest : Unshared) → u ≡ item one rest → cost_of_parts u ≤ most → (1 + cost_of_parts one ≤ most) × ((1 + cost_of_parts one) + cost_of_parts rest ≤ most) × (cost_of_parts rest ≤ most)
 costs-item u most one rest is within =
     let costs : cost_of_parts u ≡ (1 + cost_of_parts one) + cost_of_parts rest = ap cost_of_parts is in

@@ -1,4 +1,4 @@
--- What is printed as it is, and parts in which there are no others.
+-- What is printed as it is, and parts without other parts in them.
 use Rattle.std.proofs.Common.{◌≡◌, ℕ, ◌+◌, ◌-◌, ◌<◌, subst, List, [], ◌∷◌, Option, Some, None, Bool, true, false, length, take, drop, min, refl, sym, ap, ◌∙◌, arith, length-take, length-drop}
 use Rattle.cpp_grammar.specs.Term.{Term, symbol}
 use Rattle.cpp_layout.specs.Layout.{ReadSymbol, table_of}
@@ -133,7 +133,7 @@ comma-here r o t b (item one (item other rest)) = refl
 pub elements-text : (r : Role) (o : Numbering) (t : Term) (u : Unshared) (b : List ℕ) (rest : Unshared) → u ≡ bytes b rest → text b (elements_here r o t rest) ≡ elements r o t u
 elements-text r o t u b rest is = comma-here r o t b rest ∙ sym (ap (elements r o t) is)
 
--- ## An element of which the elements are listed
+-- ## An element whose elements are listed
 
 abbrev pub lone : Role → Ordinal → (left right : Unshared) → Marked
 lone r o left right = marked r o (text (text_of left) (text (text_of right) marks.done)) marks.done

@@ -23,7 +23,7 @@ is_constructor_by p = is_any p CONSTRUCTOR STD_CONSTRUCTOR NESTED_CONSTRUCTOR ||
 unfoldable pub is_operator_by : (production : ℕ) → Bool
 is_operator_by p = is_any p OPERATOR STD_OPERATOR NESTED_OPERATOR
 
--- which part of a tree of this production has its own name, where the tree isn't that
+-- which part of a tree of this production has the tree's own name; none where the tree is an own name
 unfoldable pub inner_part_by : (production : ℕ) → Option ℕ
 inner_part_by p =
     if nat_eq p LOCAL || nat_eq p NUMBERED_LOCAL then Some 1
@@ -48,7 +48,7 @@ piece_kind_by p =
     else if is_any p CONVERSION STD_CONVERSION NESTED_CONVERSION then kind.Conversion
     else kind.Function
 
--- what is neither a function nor an object by the production of its encoding, and by the letter where it has one
+-- what is neither a function nor an object, by the production of its encoding, and by the letter where it has one
 unfoldable pub other_kind_by : (production letter : ℕ) → NameKind
 other_kind_by p letter =
     if nat_eq p SPECIAL then special_kind letter

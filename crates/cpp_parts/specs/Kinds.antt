@@ -87,7 +87,7 @@ thunk_kind (covariant this result) = kind.CovariantThunk
 
 -- ## Symbols
 
--- an encoding; what is none is no symbol's
+-- an encoding; no symbol has a tree that is none
 unfoldable pub encoding_kind : Term → NameKind
 encoding_kind (function name q mark returned parameters) = named_kind (own_name name)
 encoding_kind (object name q mark) = object_kind name

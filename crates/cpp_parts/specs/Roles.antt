@@ -14,7 +14,7 @@ use Rattle.cpp_parts.specs.declared.numbering.Numbering.TheVariants as numbering
 
 -- ## Without a tree
 
--- no part where it has no bytes
+-- one part, or none where it has no bytes
 unfoldable pub alone_if_any : Role → List ℕ → (rest : Marked) → Marked
 alone_if_any r [] rest = rest
 alone_if_any r (b ∷ bs) rest = alone r only (b ∷ bs) rest
@@ -91,15 +91,16 @@ next (numbering.Items n) = numbering.Items (n + 1)
 next (numbering.Elements n e) = numbering.Elements n (e + 1)
 next (numbering.Alike ordinal) = numbering.Alike ordinal
 
--- The numbers of its own elements: those of a pack that is an item of the list are counted from 1 on, and any others are as it is.
+-- The numbers of an element's own elements: those of a pack that is an item of the list are counted from 1 on, and all others
+-- are numbered as the element is.
 unfoldable pub inside : Numbering → Term → Numbering
 inside (numbering.Items n) (pack elements) = numbering.Elements n 1
 inside numbers t = numbering.Alike (ordinal_of numbers)
 
 -- ## Elements
 
--- The elements from one on, each of this role. A comma is in none. One that prints nothing is skipped. The elements of a pack, and
--- of an expansion, are elements of the list.
+-- The elements from one on, each of this role. A comma is in no element. An element that prints nothing is skipped. The
+-- elements of a pack, and of an expansion, are elements of the list.
 unfoldable mutual
   pub elements : Role → Numbering → Term → Unshared → Marked
   elements r o t (item skipped done) = elements r (next o) (rest_of t) skipped
@@ -138,8 +139,8 @@ arguments t printed = plain printed
 
 -- ## Names and encodings
 
--- A name, before this many tags of the same name: of an instance that of its template and the arguments, of a tagged name the name
--- and the tag.
+-- A name, before this many of its tags: for an instance, the name of its template and the arguments; for a tagged name, the
+-- name and the tag.
 unfoldable pub name : (tags : ℕ) → Term → Unshared → Marked
 name tags (instance template args) (item inner rest) = name tags template inner before arguments args rest
 name tags (tagged of_structor inner tag) (item printed rest) = name (tags + 1) inner printed before whole role.AbiTag (numbered tags) rest
@@ -157,7 +158,7 @@ unfoldable pub is_absent : Term → Bool
 is_absent absent = true
 is_absent t = false
 
--- with the return type, if there is one
+-- the name of a function and its parameters, with the return type if there is one
 unfoldable pub returning : (nothing : Bool) → (name_of params : Term) → Unshared → Marked
 returning false n params (item left (bytes blank rest)) = alone role.ReturnType only (text_of left) (text blank (called n params rest))
 returning nothing n params printed = called n params printed

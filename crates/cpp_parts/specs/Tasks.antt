@@ -1,4 +1,4 @@
--- What is still to be done: bytes to go on by, stretches to begin, and items of which the parts are to be listed.
+-- What is still to be done: bytes to advance by, stretches to begin, and items whose parts are to be listed.
 use Rattle.std.specs.Prelude.{◌≡◌, ℕ, ◌+◌, ◌*◌, ◌<◌, ◌≤◌, List, [], ◌∷◌, ◌++◌, length}
 use Rattle.std.specs.List.{All}
 use Rattle.cpp_layout.specs.declared.context.Context.{Context}
@@ -32,7 +32,7 @@ marks_of_task y (task.Encoding specials node i) = marks_of (encoding specials (p
 marks_of_task y (task.Name tags node i) = marks_of (name tags (plain_tree (table_of y) node) (unshared_of y i))
 marks_of_task y (task.Elements role numbers node i) = marks_of (elements role numbers (plain_tree (table_of y) node) (unshared_of y i))
 
--- those of tasks in turn
+-- the marks that tasks lead to in turn
 unfoldable pub marks_of_tasks : ReadSymbol → List Task → List Mark
 marks_of_tasks y [] = []
 marks_of_tasks y (first ∷ rest) = marks_of_task y first ++ marks_of_tasks y rest
@@ -47,7 +47,7 @@ count_of (numbering.Items n) = n
 count_of (numbering.Elements n e) = e
 count_of (numbering.Alike ordinal) = 0
 
--- A task of the symbol, whose items cost at most this much. What is counted has room for all that its item prints.
+-- A task of the symbol, whose items cost at most this much. Its count has room for all that the item prints.
 unfoldable pub IsTask : ReadSymbol → (most : ℕ) → Task → Type 0
 IsTask y most (task.Encoding specials node i) = (node < length y.table.nodes) × IsPayable y most i × (specials + cost_of (unshared_of y i) ≤ most)
 IsTask y most (task.Name tags node i) = (node < length y.table.nodes) × IsPayable y most i × (tags + cost_of (unshared_of y i) ≤ most)
@@ -71,11 +71,11 @@ pub record Adds (y : ReadSymbol) (most : ℕ) (others tasks : List Task) (m : Ma
   pub all : All (IsTask y most) others → All (IsTask y most) tasks
   pub weight : weight_of_tasks y tasks ≤ weight_of_tasks y others + steps
 
--- What was added before others has grown: these marks come first in it, and it takes at most this many steps more.
+-- The tasks that were added before others have grown: they lead to these marks first, and take at most this many steps more.
 pub record Grows (y : ReadSymbol) (most : ℕ) (old new : List Task) (m : Marked) (steps : ℕ) : Type 0 where
   pub adds : (others : List Task) (behind : Marked) (taken : ℕ) → Adds y most others old behind taken → Adds y most others new (m before behind) (taken + steps)
 
--- What was found together with these marks is what is found together with those, and they go on by as many bytes.
+-- What was found, together with these marks, is what is found now, together with those; and both advance by equally many bytes.
 pub record Lists (old new : Found) (these those : List Mark) : Type 0 where
   pub stretches : old.stretches ++ stretches_at old.place these ≡ new.stretches ++ stretches_at new.place those
   pub place : old.place + skipped these ≡ new.place + skipped those

@@ -56,7 +56,7 @@ pub(crate) fn push_called(
     }
 }
 
-/// A function with a return type, of which the item is first.
+/// A function with a return type, whose item comes first.
 ///
 /// # Errors
 ///

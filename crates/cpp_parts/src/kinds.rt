@@ -80,7 +80,7 @@ fn is_operator(found: u16) -> bool
     )
 }
 
-/// Which part of a tree of this production has its own name, where the tree isn't that.
+/// Which part of a tree of this production has the tree's own name; none where the tree is an own name.
 #[tactic(auto, unfolding(crate::specs::KindNumbers::inner_part_by))]
 fn inner_part(found: u16) -> Option<u32>
     ensures { result ≡ inner_part_by found }
@@ -138,7 +138,7 @@ fn is_call(first: u64, second: u64) -> bool
     first == 99 && second == 108
 }
 
-/// What an operator is that is in a prefix.
+/// What an operator in a prefix is.
 #[tactic(auto, unfolding(crate::specs::KindNumbers::called_kind))]
 fn called_kind(in_lambda: bool, is_call: bool) -> NameKind
     ensures { result ≡ called_kind in_lambda is_call }
@@ -149,7 +149,7 @@ fn called_kind(in_lambda: bool, is_call: bool) -> NameKind
     NameKind::Operator
 }
 
-/// What a function is whose own name has this production, and isn't that of a lambda's call.
+/// What a function is, by the production of its own name, which isn't that of a lambda's call.
 #[tactic(auto, unfolding(crate::specs::KindNumbers::piece_kind_by))]
 fn piece_kind(found: u16) -> NameKind
     ensures { result ≡ piece_kind_by found }

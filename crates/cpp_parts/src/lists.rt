@@ -157,7 +157,7 @@ pub(crate) fn push_elements_after(
     }
 }
 
-/// The elements from one on, of which an item comes first.
+/// The elements from one on, where an item comes first.
 ///
 /// # Errors
 ///
@@ -275,7 +275,7 @@ pub(crate) fn push_elements(
     }
 }
 
-/// A list in brackets, the first of which has this many bytes, by the item of the list and the bracket after it.
+/// A list in brackets, by the item of the list and the bracket after it. The first bracket has this many bytes.
 ///
 /// # Errors
 ///
@@ -310,7 +310,7 @@ pub(crate) fn push_listed(
     tasks.push(Task::Begin(of_list, ONLY, count + inside + closing))
 }
 
-/// Brackets without a list, the first of which has this many bytes.
+/// Brackets without a list. The first bracket has this many bytes.
 ///
 /// # Errors
 ///
@@ -360,7 +360,7 @@ pub(crate) fn push_unlisted(
     tasks.push(Task::Skip(count))
 }
 
-/// A list in brackets, the first of which has this many bytes.
+/// A list in brackets. The first bracket has this many bytes.
 ///
 /// # Errors
 ///

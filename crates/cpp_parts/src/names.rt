@@ -213,7 +213,7 @@ pub(crate) fn push_named(
     }
 }
 
-/// A name of which an item comes first, before this many of its tags.
+/// A name whose item comes first, before this many of its tags.
 ///
 /// # Errors
 ///

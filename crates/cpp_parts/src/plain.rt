@@ -1,4 +1,4 @@
-// Tasks for what is printed as it is, and for parts in which there are no others.
+// Tasks for what is printed as it is, and for parts without other parts in them.
 #![tactic(auto)]
 
 ghost use Rattle.std.specs.Prelude.{◌≡◌, ◌+◌, ◌*◌, ◌<◌, ◌≤◌, ◌-◌, ℕ, List, [], ◌∷◌, length, take, drop, OnOk, IfErr};
@@ -21,7 +21,7 @@ use sym_core::Refusal;
 use sym_parts::{ONLY, Ordinal, Role};
 use sym_print::{Item, Part};
 
-/// Goes on by what parts print.
+/// Advances by what parts print.
 ///
 /// # Errors
 ///

@@ -13,7 +13,7 @@ ghost use Rattle.cpp_parts.specs.Sorts.{name_by, encoding_by, AreNamesBelow, Are
 use crate::numbering::{Numbering, ordinal_of};
 use cpp_layout::{Symbol, tree_production as production};
 
-/// The sort of a name, with the nodes of what its parts are listed of.
+/// The sort of a name, with the nodes whose parts are listed.
 #[derive(Clone, Copy)]
 pub(crate) enum NameSort {
     /// A template and its arguments.
@@ -161,7 +161,7 @@ pub(crate) fn node_within(y: &Symbol, node: u32) -> Option<u32>
     None
 }
 
-/// How the elements of an element are numbered, by how it is itself.
+/// How the elements of an element are numbered, by how the element itself is.
 #[tactic(auto, unfolding(crate::specs::Tasks::count_of))]
 pub(crate) fn numbering_within(y: &Symbol, node: u32, numbering: Numbering) -> Numbering
     requires { node < length y.now.table.nodes }

@@ -14,10 +14,10 @@ use sym_parts::{Ordinal, Role};
 use sym_print::Item;
 use sym_room::push_within;
 
-/// Something to be done: to go on by bytes, to begin a stretch, or to list the parts of an item. With the item is the node of its tree.
+/// A task: to advance by bytes, to begin a stretch, or to list the parts of an item, which comes with the node of its tree.
 #[derive(Clone, Copy)]
 pub(crate) enum Task {
-    /// To go on by this many bytes.
+    /// To advance by this many bytes.
     Skip(u32),
     /// To begin a stretch of this role, ordinal and length.
     Begin(Role, Ordinal, u32),

@@ -22,7 +22,7 @@ like a b = nat_eq a.number b.number && nat_eq a.encoding b.encoding
 abbrev pub likeness_cmp : Likeness → Likeness → Ordering
 likeness_cmp a b = ordering_then (nat_cmp a.number b.number) (nat_cmp a.encoding b.encoding)
 
--- the number of the first component with a likeness. Likenesses of no encoding have it at a place, as far as there are
+-- the number of the first component with a likeness. For a likeness of no encoding it is at a place, as far as there are
 -- places.
 abbrev pub has_place : (closed : List (Option ℕ)) → Likeness → Bool
 has_place closed q = nat_eq q.encoding 0 && nat_lt q.number (length closed)

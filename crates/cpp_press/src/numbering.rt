@@ -20,9 +20,9 @@ use std::alloc::Global;
 use sym_core::Refusal;
 use sym_spell::{Firsts, Marked, Numbers, text_mark};
 
-/// The key of a node: what nodes with equal trees have alike. It has the node's details, and for each part one more
-/// than the first node that is equal to it, or 0 for no part. Keys are ordered by their parts first, so one key more
-/// mostly goes near the end.
+/// The key of a node: what nodes with equal trees have in common. It has the node's details, and for each part one more than
+/// the first node that is equal to it, or 0 for no part. Keys are ordered by their parts first, so one key more mostly goes
+/// near the end.
 #[derive(Clone, Copy, PartialEq, Eq, PartialOrd, Ord)]
 struct Key<'a> {
     first_part: u32,
@@ -36,7 +36,7 @@ struct Key<'a> {
     fourth_text: &'a [u8],
 }
 
-/// The mark of a key: a number that equal keys have alike, in few instructions.
+/// The mark of a key: a number that equal keys share, computed in few instructions.
 impl<'a> Marked for Key<'a> {
     ghost use Rattle.cpp_press.specs.Marks.{mark_of, marked-alike};
 
@@ -98,8 +98,8 @@ fn key_of<'a>(symbol: &'a Symbol, firsts: &[u32], node: u32) -> Key<'a>
     }
 }
 
-/// The first node that is equal to each node of a symbol: an earlier one, or the node itself. The symbol's nodes come
-/// after n others, whose first nodes the table has. The table has those of the symbol from now on.
+/// The first node that is equal to each node of a symbol: an earlier one, or the node itself. The symbol's nodes come after n
+/// others, whose first nodes the table has. From now on the table has those of the symbol, too.
 ///
 /// # Errors
 ///
@@ -144,8 +144,8 @@ pub(crate) fn first_nodes(alloc: Global, symbol: &Symbol) -> Result<Vec<u32>, Re
     Ok(firsts)
 }
 
-/// Numbers the nodes of a C++ symbol. A tree that no node before has gets the next number, counted from 0. Two look-ups are made for
-/// each node: one by what the node has alike with those that equal it, and one of the first of these in a table.
+/// Numbers the nodes of a C++ symbol. A tree that no earlier node has gets the next number, counted from 0. Each node takes two
+/// look-ups: one by what equal nodes have in common, and one of the first of them in a table.
 ///
 /// # Errors
 ///

@@ -1,5 +1,5 @@
--- Where a tree may be: what it is spelled as there, and whether it fits. The items of a function's first parameter on are of two sorts
--- (those of an encoding, and those of a function type).
+-- Where a tree may be: how it is spelled there, and whether it fits. The items from a function's first parameter on are of two
+-- sorts (those of an encoding, and those of a function type).
 
 pub data Spot : Type 0 where
   as_type : Spot

@@ -14,7 +14,7 @@ pub record Component : Type 0 where
   pub tree : Term
   pub encoding : ℕ
 
--- what a reader's candidates are as components
+-- the candidates of a reader, as components
 unfoldable pub components_of : List Candidate → List Component
 components_of [] = []
 components_of (c ∷ cs) = record { tree = c.tree; encoding = c.encoding } ∷ components_of cs

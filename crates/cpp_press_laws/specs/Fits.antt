@@ -31,15 +31,15 @@ pub record MayBeReferred (around : Around) (allowed : Option ℕ) (t : Term) : T
 
 -- ## Places
 
--- at a place after components
+-- what may hold at a place after components
 abbrev pub Standing : Type 1
 Standing = (place : ℕ) → List Component → Type 0
 
--- in surroundings, where packs may have a length
+-- what may hold in surroundings, where packs may have a length
 abbrev pub Fitting : Type 1
 Fitting = Around → (allowed : Option ℕ) → Standing
 
--- after what a spelling writes
+-- what holds after what a spelling writes
 abbrev pub Behind : Spelling → Standing → Standing
 Behind spelling stands place cs = stands (place + length (spelling place cs).bytes) (spelling place cs).components
 
@@ -56,8 +56,8 @@ as_component own spelled around allowed place cs = MayBeReferred around allowed 
 abbrev pub as_reference : Term → Fitting
 as_reference own = as_component own (λ around allowed place cs. ⊥)
 
--- Before arguments, a template name is a component: they come after a reference to it where an equal one comes before, or else
--- after its spelling, which ends a component.
+-- Before arguments, a template name is a component. Where an equal one comes before, the arguments follow a reference to it;
+-- else they follow its spelling, which ends a component.
 abbrev pub as_template : Term → Fitting → (front : ℕ → Spelling) → (arguments : Fitting) → Fitting
 as_template own spelled front arguments around allowed place cs =
     MayBeReferred around allowed own
@@ -65,7 +65,7 @@ as_template own spelled front arguments around allowed place cs =
     × (IsFirst around own cs → spelled around allowed place cs
     × Behind (front around.encoding and ended around.encoding own) (arguments around allowed) place cs)
 
--- after fixed bytes
+-- what fits after fixed bytes
 abbrev pub behind_bytes : List ℕ → Fitting → Fitting
 behind_bytes bytes fitting around allowed place cs = fitting around allowed (place + length bytes) cs
 
@@ -73,7 +73,7 @@ behind_bytes bytes fitting around allowed place cs = fitting around allowed (pla
 abbrev pub one_piece : Prefix → (may : Bool) → Fitting → Fitting
 one_piece prefix may piece around allowed place cs = (around.prefix ≡ prefix) × (may ≡ true) × piece around allowed place cs
 
--- the one where a test holds, or else the other
+-- one fact where a test holds, and another where it doesn't
 unfoldable pub either : Bool → (one other : Type 0) → Type 0
 either true one other = one
 either false one other = other
@@ -127,31 +127,31 @@ pub record NamesArgument (around : Around) (allowed : Option ℕ) (k : ℕ) : Ty
 
 -- ## Where pieces of names are
 
--- as a type's name, after St in a type, as the first of a name between N and E, or as a local type's
+-- the pieces that may be a type's name, come after St in a type, be the first of a name between N and E, or be a local type's
 unfoldable pub begins_name : Term → Bool
 begins_name (source internal name) = true
 begins_name (lambda parameters k) = true
 begins_name (unnamed k) = true
 begins_name _ = false
 
--- as a type: without the mark L
+-- the pieces that may be a type's name: those without the mark L
 unfoldable pub names_type : Term → Bool
 names_type (source internal name) = not internal
 names_type p = begins_name p
 
--- as an encoding's own name, or after St
+-- the pieces that may be an encoding's own name, or come after St
 unfoldable pub names_function : Term → Bool
 names_function (operator a b) = true
 names_function (literal_operator name) = true
 names_function p = begins_name p
 
--- after a prefix
+-- the pieces that may come after a prefix
 unfoldable pub names_member : Term → Bool
 names_member (constructor digit) = true
 names_member (destructor digit) = true
 names_member p = names_function p
 
--- as a local entity of an encoding
+-- the pieces that may be a local entity of an encoding
 unfoldable pub names_entity : Term → Bool
 names_entity string_literal = true
 names_entity p = begins_name p
@@ -379,7 +379,7 @@ fits_of (local e entity discriminator) =
     ((fits_of entity).as_entity role (after e true around) allowed) place cs
     × IsSpellableDiscriminator discriminator in
     record (type_fits (local e entity discriminator) (λ slot. spelled in_type)) { as_name = λ q ref. spelled (in_name_with q ref) }
--- tags are read by the wide grammar alone, but a reference to a name that has one may come where another does
+-- only the wide grammar reads tags, but a reference to a name with a tag may come where any other reference may
 fits_of (tagged of_structor name tag) = type_fits (tagged of_structor name tag) (λ slot. nowhere)
 fits_of (abbreviation l) =
     let lettered : Fitting = λ around allowed place cs. IsAbbreviation l in

@@ -9,7 +9,7 @@ use Rattle.cpp_press_laws.specs.Texts.{counted, ordinal, signed_text, qualifier_
 use Rattle.cpp_press_laws.specs.MarkedComponents.{compared, not_compared, Spelling, referred, component}
 use Rattle.cpp_press_laws.specs.Pressing.{is_operator, is_nested, is_one_piece}
 
--- How a tree is spelled depends on where it is. So each tree has these ways, of which those count that it can be in.
+-- How a tree is spelled depends on where it is. So each tree has these ways; only those count in which it can be.
 pub record Ways : Type 0 where
   -- a type; one right under qualifiers; a prefix; a name between N and E; a piece of a name
   pub as_type : Spelling
@@ -59,7 +59,7 @@ type_ways spelling = record no_ways {
   as_argument = spelling;
 }
 
--- of a function type its marks, the return type and the parameters (ABI 5.1, `<function-type>`)
+-- the marks, the return type and the parameters of a function type (ABI 5.1, `<function-type>`)
 unfoldable pub function_text : (c_linkage noexcept : Bool) → RefQualifier → (returned parameters : Spelling) → Spelling
 function_text c_linkage noexcept ref returned parameters =
     text (cond noexcept (codes "Do") [] ++ codes "F" ++ cond c_linkage (codes "Y") []) and returned and parameters and text (mark_letter ref ++ codes "E")
@@ -88,8 +88,8 @@ name_ways encoding name type own prefix between before =
       as_argument = typed;
     }
 
--- A template name and its arguments. Where the name can be a reference nothing needs an N; else the name is spelled out, between N
--- and E where it needs them.
+-- A template name and its arguments. Where the name can be a reference, nothing needs an N; else the name is spelled out,
+-- between N and E where it needs them.
 unfoldable pub template_before : (encoding : ℕ) → Term → (needs_N : Bool) → (between arguments : Spelling) → Spelling
 template_before encoding template needs_N between arguments =
     let whole = between and compared encoding template and arguments in
@@ -145,7 +145,7 @@ ways_of n (instance template arguments) =
 ways_of n (local e entity discriminator) =
     let spelling = local_text (ways_of n e).as_encoding entity (ways_of n entity).between_N_and_E discriminator in
     record (type_ways (component n (local e entity discriminator) (spelling []))) { as_name = spelling }
--- a tag comes after those before it and after its name, which is no component without it
+-- a tag comes after its name and the tags before it; the name without the tag is no component
 ways_of n (tagged of_structor name tag) =
     let between = (ways_of n name).between_N_and_E and text (codes "B" ++ counted tag) in
     let needs_N = is_nested (without_tags name) in
@@ -161,8 +161,9 @@ ways_of n (list first rest) =
     let r = ways_of n rest in
     let more = f.as_type and r.as_more_parameters in
     record no_ways { as_parameters = more; as_more_parameters = more; as_elements = f.as_argument and r.as_elements }
--- The others, each as its row of SPELLED. Of what the wide grammar alone reads these aren't pressed: local entities of
--- default arguments, constructors that are inherited, arrays whose length is an expression, placeholders of which a concept is asked, and expressions
+-- The others, each as its row of SPELLED. Of what the wide grammar alone reads these aren't
+-- pressed: local entities of default arguments, constructors that are inherited, arrays whose length is an expression,
+-- placeholders that a concept constrains, and expressions
 ways_of n (special l type) = encoding_ways (λ here. text (codes "T" ++ l ∷ []) and (ways_of here type).as_type)
 ways_of n (thunk kind e) = encoding_ways (λ here. text (thunk_text kind) and (ways_of here e).as_encoding)
 ways_of n (construction derived digits parent) = encoding_ways (λ here. says "TC" and (ways_of here derived).as_type and text (digits ++ codes "_") and (ways_of here parent).as_type)

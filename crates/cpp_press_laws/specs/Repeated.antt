@@ -15,7 +15,7 @@ unfoldable pub repeated : (before components : List Component) → List Componen
 repeated before [] = []
 repeated before (c ∷ cs) = elim (is_spelled c.tree before) [ true ↦ c ∷ repeated (before ++ c ∷ []) cs | false ↦ repeated (before ++ c ∷ []) cs ]
 
--- of a symbol's tree
+-- the repeated components of a symbol's tree
 abbrev pub repeated_components : Term → List Component
 repeated_components t = repeated [] (spelled_components t)
 

@@ -1,5 +1,5 @@
--- What holds of the parts of each tree as which some symbol is read: names, numbers, letters and bytes are those that
--- the grammar can spell.
+-- What holds of the parts of each tree that some symbol is read as: names, numbers, letters and bytes are those that the
+-- grammar can spell.
 use Rattle.std.specs.Prelude.{◌≡◌, ℕ, ◌<◌, ◌≤◌, List, [], ◌∷◌, length, true, false, slice_get, Some, Ok}
 use Rattle.sym_core.specs.declared.NumberKind.{NumberKind}
 use Rattle.sym_core.specs.declared.NumberKind.TheVariants.{Digits}

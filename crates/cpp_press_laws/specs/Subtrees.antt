@@ -43,7 +43,7 @@ pub record Reads (around : Around) (allowed : Option ℕ) (symbol : Sym) (Q : Va
   pub candidates : components_of state.candidates ≡ w.components
   pub packs : IsAllowed allowed state.packs
 
--- at a place after components, in any state there
+-- what is read at a place after components, in any state there
 abbrev pub ReadsAt : Around → Option ℕ → Sym → (Value → Type 0) → (place : ℕ) → List Component → Written → Type 0
 ReadsAt around allowed symbol Q place components w =
     (s : State) → components_of s.candidates ≡ components → IsAllowed allowed s.packs → Reads around allowed symbol Q place s w
@@ -63,7 +63,7 @@ pub record HasRoom (w : Written) : Type 0 where
   pub short : length w.bytes ≤ greatest
   pub few : length w.components ≤ greatest
 
--- so has the list of the arguments that parameters name
+-- the list of the arguments that parameters name has a length of 64 bits, too
 abbrev pub IsSmall : Around → Type 0
 IsSmall around = (arguments : Term) → around.scope ≡ Some arguments → count arguments ≤ greatest
 
@@ -83,6 +83,6 @@ TypesAreRead = (t : Term) → IsReadBehind Kind.Type t (λ n. (ways_of n t).as_t
 abbrev pub EncodingsAreRead : Type 0
 EncodingsAreRead = (t : Term) → IsReadBehind Kind.Encoding t (λ n. (ways_of n t).as_encoding) (λ around. (fits_of t).as_encoding)
 
--- what a symbol is read as fits from its first byte on, and with it each of its parts where it is
+-- the tree that a symbol is read as fits from the symbol's first byte on, and each of its parts fits where it is
 abbrev pub SymbolsFit : Type 0
 SymbolsFit = (shape : Shape) (t : Term) → IsReadFrom shape t → SymbolFits t

@@ -30,7 +30,7 @@ mark_letter lvalue_only = codes "R"
 mark_letter rvalue_only = codes "O"
 mark_letter explicit_object = codes "H"
 
--- what is said of a function after the N of its name (ABI 5.1, `<nested-name>`)
+-- the letters for a function after the N of its name (ABI 5.1, `<nested-name>`)
 unfoldable pub name_letters : Qualifiers → RefQualifier → List ℕ
 name_letters q ref = qualifier_letters q ++ mark_letter ref
 

@@ -22,8 +22,8 @@ pub fn pressed_once()
 {}
 
 /// Each type and each encoding is read as itself where it is pressed, at any place after any components, where it fits there
-/// (`fits_of`): each component comes before or can be spelled out. What a symbol is read as fits from its first byte on. The laws of
-/// whole symbols follow.
+/// (`fits_of`): each component comes before or can be spelled out. The tree that a symbol is read as fits from the symbol's
+/// first byte on. The laws of whole symbols follow.
 pub fn subtrees_are_read()
     ensures types { TypesAreRead }
     ensures encodings { EncodingsAreRead }

@@ -68,7 +68,7 @@ next_open n m row x rows b made test gone at =
     let closed : is PASSED_OVER (sort_in row) ≡ false = ap (λ s. is PASSED_OVER s) (sym (sort_is n row x rows made)) ∙ sym test ∙ gone in
     rw closed (omega (arith, at))
 
--- and where they are passed over
+-- the next row's number, where rows in a row are passed over
 pub next_closed : (n m : ℕ) (row : Row) (x : Reached) (rows : List Row) (b : Bool)
     → x ≡ outlined rows n row → b ≡ is PASSED_OVER x.sort → b ≡ true → m ≡ max (n + 1) x.row.end → m ≡ max (n + 1) (next_number n row)
 unfolding next_number outlined

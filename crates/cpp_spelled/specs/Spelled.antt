@@ -14,7 +14,7 @@ use Rattle.cpp_spelled.specs.declared.sought.TheConstants.{SUFFIX, OBJECT, TEMPO
 
 -- ## Special names
 
--- what a special name belongs to: of a temporary the name
+-- what a special name belongs to: for a temporary, the name
 unfoldable pub object_in : List Reached → Span
 object_in [] = span 0 0
 object_in (x ∷ xs) = span x.first.from (if is TEMPORARY x.sort then x.first.to else x.row.to)
@@ -35,7 +35,7 @@ base_begin x outline =
     else if is WHOLE x.sort then begin_or (from_first BEGIN outline) x.row.from
     else x.row.from
 
--- the base: the last component without its tags and arguments; of a special name what it belongs to
+-- the base: the last component without its tags and arguments; for a special name, what it belongs to
 unfoldable pub base_in : (outline : List Reached) → (name : List Reached) → Span
 base_in outline [] = object_in (from_first OBJECT outline)
 base_in outline (x ∷ xs) = span (base_begin x outline) (begin_or (from_first AFTER_BASE xs) x.row.to)
@@ -107,7 +107,7 @@ without_return _ ss = ss
 unfoldable pub or_base : Span → (base : Span) → Span
 or_base s base = if nat_lt s.from s.to then s else base
 
--- what a part is spelled by that comes once
+-- the bytes that spell a part that comes once
 abbrev spelled : Role → Span → Spelled
 spelled r s = record { role = r; span = s }
 
@@ -148,7 +148,7 @@ spelling_in outline name returns =
       elements = bytes_of_all ELEMENT (rest_of name);
     }
 
--- What spells the parts of the text of the symbol that has these rows. The function has a return type or none, which rows don't
--- tell of a name that ends in a substitution and arguments.
+-- What spells the parts of the text of the symbol that has these rows. `returns` says whether the function has a return type.
+-- Rows don't show this for a name that ends in a substitution and arguments.
 abbrev pub spelling_of : List Row → (returns : Bool) → Spelling
 spelling_of rows returns = spelling_in (outline_of rows) (from_last COMPONENT (outline_of rows)) returns

@@ -13,7 +13,7 @@ use sym_core::Refusal;
 use sym_parts::{Item, Span};
 use sym_room::push_within;
 
-/// The own bytes of each of these.
+/// The own bytes of each row that is sought.
 ///
 /// # Errors
 ///

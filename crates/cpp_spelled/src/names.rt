@@ -46,7 +46,7 @@ fn base_begin(row: &Reached, outline: &[Reached]) -> u32
     row.row.from
 }
 
-/// The base: the last component without its tags and arguments; of a special name what it belongs to.
+/// The base: the last component without its tags and arguments; for a special name, what it belongs to.
 #[tactic(auto, unfolding(crate::specs::Spelled::base_in))]
 pub(crate) fn base_in(outline: &[Reached], name: &[Reached]) -> Span
     ensures { result ≡ spelled.base_in outline.now name.now }
@@ -60,7 +60,7 @@ pub(crate) fn base_in(outline: &[Reached], name: &[Reached]) -> Span
     }
 }
 
-/// Where the scope of a name ends that isn't local.
+/// Where the scope of a name that isn't local ends.
 #[tactic(auto, unfolding(crate::specs::Spelled::scope_end))]
 fn scope_end(name: &[Reached], base: Span) -> u32
     ensures { result ≡ spelled.scope_end name.now base }
@@ -177,7 +177,7 @@ fn or_base(span: Span, base: Span) -> Span
     base
 }
 
-/// What a part of a role that comes once is spelled by.
+/// The bytes that spell a part whose role comes once.
 fn of_role(role: Role, span: Span) -> Spelled
     ensures { result ≡ record { role = role; span = span } }
 {

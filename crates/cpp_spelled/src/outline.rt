@@ -27,7 +27,7 @@ pub(crate) struct Reached {
     pub(crate) own: Span,
 }
 
-/// The bytes from one place up to another; none where that isn't after it.
+/// The bytes from one place up to another; none where the second isn't after the first.
 #[tactic(auto, unfolding(sym_parts::specs::Spelling::span))]
 pub(crate) fn span(from: u32, to: u32) -> Span
     ensures { result ≡ spellings.span from to }
@@ -99,7 +99,7 @@ fn outlined(rows: &[Row], number: usize, row: Row) -> Reached
     }
 }
 
-/// The outline of a symbol with these rows: each row that isn't in a row that is passed over.
+/// The outline of a symbol with these rows: all rows but those within a row that is passed over.
 ///
 /// # Errors
 ///

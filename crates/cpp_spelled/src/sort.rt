@@ -13,7 +13,7 @@ pub(crate) enum Sort {
     Suffix,
     /// A special name without its `T` or `G`, that belongs to a type, a name, an argument or a module.
     Object,
-    /// One that belongs to a temporary.
+    /// A special name that belongs to a temporary.
     Temporary,
     /// The symbol, a thunk, a clone, or another row around parts of the name.
     Opened,
@@ -27,7 +27,7 @@ pub(crate) enum Sort {
     Nested,
     /// What is after the qualifiers of a nested name, or an `<unscoped-name>` or a template that begins with an `S`.
     Begin,
-    /// A component, all of which but its tags and arguments is the base.
+    /// A component; without its tags and arguments it is the base.
     Component,
     /// An `St` and a component.
     InStd,

@@ -71,7 +71,7 @@ pub(crate) const BEGIN: Sought = Sought {
     last: Sort::Begin,
 };
 
-/// Components, the last of which has the base.
+/// Components; the last one has the base.
 pub(crate) const COMPONENT: Sought = Sought {
     first: Sort::Component,
     last: Sort::Whole,

@@ -27,7 +27,7 @@ node_tree y node = erase (tree_of y.bytes y.table.thunks (trees (table_of y)) no
 abbrev pub piece_tree : ReadSymbol → Piece → Term
 piece_tree y piece = erase (piece_of y.bytes (trees (table_of y)) piece)
 
--- the parts that they are made of exist
+-- the parts that a node or a piece is made of exist
 abbrev pub IsMade : ReadSymbol → Node → Type 0
 IsMade y node = IsBelow y.bytes (length y.table.thunks) (length y.table.nodes) node
 

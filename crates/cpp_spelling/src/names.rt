@@ -141,7 +141,7 @@ pub fn then_piece(symbol: &Symbol, piece: Piece, encoding: u64, tasks: &mut Vec<
         Piece::LiteralOperator(bytes) => then_text(symbol, Text::Counted(b"li", bytes), tasks),
         Piece::Constructor(digit) => then_text(symbol, Text::Pair(b'C', digit), tasks),
         Piece::Destructor(digit) => then_text(symbol, Text::Pair(b'D', digit), tasks),
-        // <ctor-dtor-name> ::= CI1 <base class type>: read by the ABI's grammar no symbol has one.
+        // <ctor-dtor-name> ::= CI1 <base class type>: no symbol that the ABI's grammar reads has one.
         Piece::Inheriting { .. } => {}
         // <unqualified-name> ::= DC <source-name>+ E: nor a structured binding.
         Piece::Bindings(_) => {}
@@ -214,7 +214,7 @@ pub fn then_within(symbol: &Symbol, prefix: u32, piece: Piece, encoding: u64, ta
     then_tree(symbol, prefix, Way::Prefix, encoding, tasks);
 }
 
-/// A name in which another one is (ABI 5.1.3, `<nested-name> ::= N .. <prefix> <unqualified-name> E`).
+/// A name in another one (ABI 5.1.3, `<nested-name> ::= N .. <prefix> <unqualified-name> E`).
 pub fn then_nested(symbol: &Symbol, prefix: u32, piece: Piece, encoding: u64, tasks: &mut Vec<Task>)
     requires prefix { prefix < length symbol.now.table.nodes }
     requires piece { IsPieceMade symbol.now piece }

@@ -24,15 +24,15 @@ use sym_core::Refusal;
 /// How a tree compares with the components before it.
 #[derive(Clone, Copy)]
 pub enum Standing {
-    /// It isn't compared where it is.
+    /// The tree isn't compared where it is.
     Apart,
-    /// It is equal to the component with this number, and to none before that.
+    /// The tree is equal to the component with this number, and to none before that.
     Known(u64),
-    /// It is equal to none.
+    /// The tree is equal to none.
     Fresh,
 }
 
-/// How a compared tree does, by the number of the first component that is equal to it.
+/// How a compared tree compares with the components, by the number of the first one that is equal to it.
 #[tactic(auto, unfolding(crate::specs::Standings::compared))]
 pub fn compared(first: Option<u64>) -> Standing
     ensures { result ≡ compared first }

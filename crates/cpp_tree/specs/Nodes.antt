@@ -26,12 +26,15 @@ use Rattle.cpp_tree.specs.declared.node.Free.{Free}
 use Rattle.cpp_tree.specs.declared.node.ByArgument.{ByArgument}
 use Rattle.cpp_tree.specs.declared.node.Entry.{Entry}
 
--- what is stored: the nodes, and what thunks adjust; and how many of each fit without taking memory
+-- what is stored: the nodes, and what thunks adjust; how many of each fit without taking memory; and the most of each
+-- that there were when the table was begun again
 pub record Stored : Type 0 where
   pub nodes : List Entry
   pub thunks : List Thunk
   pub node_room : ℕ
   pub thunk_room : ℕ
+  pub most : ℕ
+  pub most_thunks : ℕ
 
 -- a table: what is stored, and the bytes of the symbol that it is of
 pub record Table : Type 0 where

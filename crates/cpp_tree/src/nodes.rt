@@ -1,35 +1,44 @@
 // A table of nodes, and what is noted of their trees.
 #![tactic(auto)]
 
-ghost use Rattle.std.specs.Prelude.{◌≡◌, ℕ, ◌+◌, ◌<◌, ◌≤◌, ◌^◌, ◌++◌, ◌∷◌, [], List, length, slice_get, false, None, Some, Option, IfOk, IfErr, OnOk, OnErr};
+ghost use Rattle.std.specs.Prelude.{◌≡◌, ℕ, ◌+◌, ◌<◌, ◌≤◌, ◌^◌, ◌++◌, ◌∷◌, [], List, length, slice_get, false, None, Some, Option, IfOk, IfErr, OnOk, OnErr, max, vec_len, vec_capacity};
 ghost use Rattle.sym_core.specs.declared.Refusal.{Refusal};
 ghost use Rattle.cpp_term.specs.Scope.{without_tags};
 ghost use Rattle.cpp_term.specs.Reargued.{reargued};
 ghost use Rattle.cpp_tree.specs.Nodes.{over, tree_at, trees, tree_of, entry_at, tree_under, is_again, IsFlat, IsLone, IsSettled, IsPlacedBelow, IsBelow, IsThunkWithin, IsTable};
 ghost use Rattle.cpp_tree.specs.Notes.{resolved_at};
 ghost use Rattle.cpp_tree.specs.Compact.{entry_of};
+ghost use Rattle.sym_room.specs.Room.{IsGrown, most_for};
 
 use crate::compact::{Compact, bare};
 use crate::node::{Entry, HeadFrom, Node, Placed, Thunk};
-use std::alloc::Global;
+use std::alloc::{AllocError, Global};
 use std::marker::Model;
 use sym_core::Refusal;
+use sym_room::make_room;
 
 /// The nodes of a symbol, each after its parts, and what its thunks adjust.
 #[derive(Drop)]
 pub struct Nodes {
     pub(crate) entries: Vec<Compact>,
     pub(crate) thunks: Vec<Thunk>,
+    // The most nodes that there were when it was begun again, and the most thunks. With those that there are now they bound
+    // the memory of both lists.
+    most: usize,
+    most_thunks: usize,
 }
 
 impl Model for Nodes {
-    ghost use Rattle.std.specs.Prelude.{map, vec_capacity};
+    ghost use Rattle.std.specs.Prelude.{◌≤◌, map, max, vec_capacity, vec_len};
     ghost use Rattle.cpp_tree.specs.Compact.{entry_of};
     ghost use Rattle.cpp_tree.specs.Nodes.{Stored};
+    ghost use Rattle.sym_room.specs.Room.{most_for};
 
     ghost Value = { Stored };
 
-    ghost view = { λ t. record { nodes = map entry_of t.entries.items; thunks = t.thunks.items; node_room = vec_capacity t.entries; thunk_room = vec_capacity t.thunks } };
+    ghost view = { λ t. record { nodes = map entry_of t.entries.items; thunks = t.thunks.items; node_room = vec_capacity t.entries; thunk_room = vec_capacity t.thunks; most = t.most; most_thunks = t.most_thunks } };
+
+    ghost invariant = { λ t. (vec_capacity t.entries ≤ most_for (max t.most (vec_len t.entries))) × (vec_capacity t.thunks ≤ most_for (max t.most_thunks (vec_len t.thunks))) };
 }
 
 /// The node where no tree is.
@@ -44,15 +53,57 @@ pub const NO_ELEMENTS: u32 = 2;
 /// The builtin type auto, which is the argument of a lambda's own parameters.
 pub const AUTO: u32 = 3;
 
+/// Makes room for more nodes.
+///
+/// # Errors
+///
+/// `AllocError` where there is none; the list is unchanged then.
+// Apart from its caller, so that adding a node where there is room for it takes few registers.
+#[inline(never)]
+fn grow(entries: &mut Vec<Compact>) -> Result<(), AllocError>
+    ensures items { entries.new.items ≡ entries.old.items }
+    ensures len { vec_len entries.new ≡ vec_len entries.old }
+    ensures ok { OnOk result (vec_len entries.new + 1 ≤ vec_capacity entries.new) }
+    ensures grown { IsGrown (vec_capacity entries.old) (vec_capacity entries.new) (vec_len entries.old + 1) }
+    ensures full { OnErr result (vec_capacity entries.old < vec_len entries.old + 1) }
+    ensures err { OnErr result (vec_capacity entries.new ≡ vec_capacity entries.old) }
+{
+    make_room(entries, 1)
+}
+
+/// Makes room for one more node, where there is none.
+///
+/// # Errors
+///
+/// `AllocError` where it got none; the list is unchanged then.
+#[inline(always)]
+fn make_room_for_one(entries: &mut Vec<Compact>) -> Result<(), AllocError>
+    ensures items { entries.new.items ≡ entries.old.items }
+    ensures len { vec_len entries.new ≡ vec_len entries.old }
+    ensures ok { OnOk result (vec_len entries.new + 1 ≤ vec_capacity entries.new) }
+    ensures grown { IsGrown (vec_capacity entries.old) (vec_capacity entries.new) (vec_len entries.old + 1) }
+    ensures full { OnErr result (vec_capacity entries.old < vec_len entries.old + 1) }
+    ensures err { OnErr result (vec_capacity entries.new ≡ vec_capacity entries.old) }
+{
+    if entries.len() < entries.capacity() {
+        return Ok(());
+    }
+    grow(entries)
+}
+
 impl Nodes {
     /// A table without nodes.
     pub fn new(alloc: Global) -> Nodes
         ensures nodes { result.nodes ≡ [] }
         ensures thunks { result.thunks ≡ [] }
+        ensures most { result.most ≡ 0 }
+        ensures most_thunks { result.most_thunks ≡ 0 }
     {
         Nodes {
             entries: Vec::new(alloc),
             thunks: Vec::new(alloc),
+            most: 0,
+            most_thunks: 0,
         }
     }
 
@@ -69,10 +120,14 @@ impl Nodes {
         ensures full { OnErr result (self.old.node_room < 4) }
         ensures node_room { self.old.node_room ≤ self.new.node_room }
         ensures thunk_room { self.new.thunk_room ≡ self.old.thunk_room }
+        ensures most { self.new.most ≡ max self.old.most (length self.old.nodes) }
+        ensures most_thunks { self.new.most_thunks ≡ max self.old.most_thunks (length self.old.thunks) }
     {
+        self.most = self.most.max(self.entries.len());
+        self.most_thunks = self.most_thunks.max(self.thunks.len());
         self.entries.clear();
         self.thunks.clear();
-        if self.entries.reserve(4).is_err() {
+        if make_room(&mut self.entries, 4).is_err() {
             return Err(Refusal::Memory);
         }
         self.entries.push_reserved(bare(Node::Absent, false));
@@ -89,6 +144,23 @@ impl Nodes {
         ensures { result ≡ length self.now.nodes }
     {
         self.entries.len()
+    }
+
+    /// For how many nodes there is memory, of 48 bytes each: at most for twice the most that there were at once since the table
+    /// was made, and for 8 more.
+    pub fn room(&self) -> usize
+        ensures is { result ≡ self.now.node_room }
+        ensures bounded { result ≤ most_for (max self.now.most (length self.now.nodes)) }
+    {
+        self.entries.capacity()
+    }
+
+    /// For how many thunks there is memory, of 60 bytes each: at most for twice the most that there were at once, and for 8 more.
+    pub fn thunk_room(&self) -> usize
+        ensures is { result ≡ self.now.thunk_room }
+        ensures bounded { result ≤ most_for (max self.now.most_thunks (length self.now.thunks)) }
+    {
+        self.thunks.capacity()
     }
 
     /// A node and what is noted of it, in few bytes.
@@ -267,10 +339,16 @@ impl Nodes {
         ensures full { OnErr result (self.old.node_room < length self.old.nodes + 1) }
         ensures node_room { self.old.node_room ≤ self.new.node_room }
         ensures thunk_room { self.new.thunk_room ≡ self.old.thunk_room }
+        ensures most { self.new.most ≡ self.old.most }
+        ensures most_thunks { self.new.most_thunks ≡ self.old.most_thunks }
     {
         let number = self.len() as u32;
-        let compact = self.noted(symbol, self.flat(symbol, node));
-        if self.entries.reserve(1).is_err() {
+        let node = self.flat(symbol, node);
+        let noted = self.noted(symbol, node);
+        // It holds this node already. Written again here, the node isn't copied in the code for each sort of node: this takes 9 %
+        // fewer instructions.
+        let compact = Compact { node, ..noted };
+        if make_room_for_one(&mut self.entries).is_err() {
             return Err(Refusal::Memory);
         }
         self.entries.push_reserved(compact);
@@ -296,9 +374,11 @@ impl Nodes {
         ensures full { OnErr result (self.old.thunk_room < length self.old.thunks + 1) }
         ensures node_room { self.new.node_room ≡ self.old.node_room }
         ensures thunk_room { self.old.thunk_room ≤ self.new.thunk_room }
+        ensures most { self.new.most ≡ self.old.most }
+        ensures most_thunks { self.new.most_thunks ≡ self.old.most_thunks }
     {
         let number = self.thunks.len() as u32;
-        if self.thunks.reserve(1).is_err() {
+        if make_room(&mut self.thunks, 1).is_err() {
             return Err(Refusal::Memory);
         }
         self.thunks.push_reserved(thunk);

@@ -23,7 +23,7 @@ flat-more f names all name e = ap (flat_map f) e ∙ flat_map-append f names (na
 
 -- ## A name
 
--- what is known of a filtered line is known of the name that it is the line of
+-- what is known of a filtered line is known of the name on that line
 pub stays-line : (answers : Answering) (name line : List ℕ) (tally : Tally) (left : Bool) → line ≡ line_of name → tally ≡ tally_at Within answers line → left ≡ stays_by tally → left ≡ name_stays answers name
 stays-line answers name line tally left e counted is = is ∙ ap stays_by (counted ∙ ap (tally_at Within answers) e)
 
@@ -73,7 +73,7 @@ name-nothing answers why name out err = record {
   };
 }
 
--- why a name stays whose symbol is refused
+-- why a name stays, where its symbol is refused
 pub why-refused : {A E : Type 0} (bytes : A → List ℕ) (result : Result A E) (refusal : Refusal) (answer : Option (Result (List ℕ) Refusal)) → (refusal ≢ Memory → answer ≡ Some (Err refusal))
     → IfOk result (λ text. bytes text ≡ reason_of refusal) → OnOk result (refusal ≢ Memory) → IfOk result (λ text. bytes text ≡ reason_by answer)
 why-refused bytes (Ok text) refusal answer is said known = said ∙ ap reason_by (sym (is known))

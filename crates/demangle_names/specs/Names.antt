@@ -34,7 +34,7 @@ reason_by (Some (Err refusal)) = reason_of refusal
 abbrev pub said_line : List ℕ → List ℕ → List ℕ
 said_line name reason = codes "demangle: " ++ name ++ codes ": " ++ reason ++ 10 ∷ []
 
--- that line where it is requested, otherwise nothing
+-- the line that says why a name stays, where it is requested; otherwise nothing
 abbrev pub said_if : Bool → Answering → List ℕ → List ℕ
 said_if true answers name = said_line name (reason_by (answer_for answers name))
 said_if false answers name = []
@@ -64,7 +64,7 @@ stays_for types answers name = stays_by_type (type_for types answers name) answe
 abbrev pub said_for : (types why : Bool) → Answering → List ℕ → List ℕ
 said_for types why answers name = said_if (why && stays_for types answers name) answers name
 
--- Names are answered one by one, and for each name that stays it is said why, where that is requested.
+-- Names are answered one by one. For each name that stays a line says why, where that is requested.
 pub record AnswersNames (answers : Answering) (types why : Bool) (names : List (List ℕ)) (one_stays : Bool) (lines said : List ℕ) : Type 0 where
   pub are_lines : lines ≡ flat_map (written_for types answers) names
   pub is_said : said ≡ flat_map (said_for types why answers) names

@@ -34,13 +34,13 @@ one_stays saying (left_word word ∷ entries) = saying.stays word || one_stays s
 
 -- ## What a report did
 
--- It said what these entries call for, and noted whether a word stays.
+-- The report said what these entries call for, and noted whether a word stays.
 pub record Told (saying saying' : Saying) (line line' : ℕ) (left left' : Bool) (said said' : Option (List ℕ)) (entries : List Entry) : Type 0 where
   pub same : saying' ≡ saying
   pub reached : line' ≡ line_after line entries
   pub stay : left' ≡ (left || one_stays saying entries)
   pub says : Appends said said' (said_from saying line entries)
 
--- it said a beginning of that
+-- the report said a beginning of that
 abbrev pub Untold : Saying → (line : ℕ) → (said said' : Option (List ℕ)) → List Entry → Type 0
 Untold saying line said said' entries = PutsFront said said' [] (said_from saying line entries)

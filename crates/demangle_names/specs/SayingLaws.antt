@@ -87,7 +87,7 @@ silent saying (byte ∷ bytes) line = ap (said_from saying line) (newlines-cons 
     step true rest = rest (capped (line + 1))
     step false rest = rest line
 
--- and none of them stays
+-- no newline counts as a word that stays
 pub none-stays : (saying : Saying) (bytes : List ℕ) → one_stays saying (newlines_in bytes) ≡ false
 none-stays saying [] = refl
 none-stays saying (byte ∷ bytes) = ap (one_stays saying) (newlines-cons byte bytes) ∙ step (eqb byte 10) (none-stays saying bytes)
@@ -134,7 +134,7 @@ text-said saying other last line next left left' err err' before after entries s
     (subst (λ (a : Option (List ℕ)). Appends before a (said_of_words saying entries)) ends
     (subst (λ (t : List ℕ). Appends before after t) (ap₂ (λ (a : Saying) (n : ℕ). said_from a n entries) same first) told.says))
 
--- a beginning of that
+-- a beginning of what a report said of a text from its first line on
 pub text-begun : (saying other : Saying) (line : ℕ) (err err' before after : Option (List ℕ)) (entries : List Entry) → other ≡ saying → line ≡ 1 → before ≡ err → after ≡ err' → Untold other line before after entries
     → PutsFront err err' [] (said_of_words saying entries)
 text-begun saying other line err err' before after entries same first begins ends told =

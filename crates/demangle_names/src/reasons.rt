@@ -1,4 +1,4 @@
-// Why names stay: what is said of a name of the command line, and of each word of an input that is left.
+// Why names stay: the lines for names of the command line, and for words of an input that are left.
 ghost use Rattle.std.specs.Prelude.{◌≡◌, ◌≢◌, ◌+◌, ◌-◌, ◌^◌, ◌<◌, [], IfOk, OnOk, OnErr, IfErr, string_bytes};
 ghost use Rattle.std.specs.Io.KnownBytes.{Appends};
 ghost use Rattle.sym_filter.specs.Streams.{PutsFront, writer_faults};
@@ -11,7 +11,7 @@ use std::alloc::{AllocError, Global};
 use sym_command::reason;
 use sym_filter::{Demangler, FilterFault, Sink, kind_of};
 
-/// The reason why a name stays that is no symbol.
+/// The reason why a name stays, where it is no symbol.
 const NO_SYMBOL: &str = "not a symbol";
 
 /// Says why a name stays, if that is requested.

@@ -1,4 +1,4 @@
-// What is said of the words of a text: a report that writes it to a sink.
+// A report that writes what is said of a text's words to a sink.
 ghost use Rattle.std.specs.Prelude.{◌≡◌, ◌≢◌, ◌+◌, ◌-◌, ◌^◌, ◌<◌, [], false, IfOk, OnOk, OnErr, IfErr};
 ghost use Rattle.std.specs.Io.KnownBytes.{Appends};
 ghost use Rattle.sym_filter.specs.Entries.{newline_of, newlines_in};
@@ -57,7 +57,7 @@ impl<'r, S: Says, E: Sink> WordReport<'r, S, E> {
         }
     }
 
-    /// Whether a word stays, of those that it has taken.
+    /// Whether one of the words that it has taken stays.
     pub fn one_stays(&self) -> bool
         ensures { result ≡ self.now.one_stays }
     {

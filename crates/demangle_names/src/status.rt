@@ -8,7 +8,7 @@ pub const DONE: u8 = 0;
 /// The status where a name stays and none may.
 const LEFT: u8 = 1;
 
-/// The status where a name stays, or none does.
+/// The status, by whether a name stays.
 pub fn status_of(strict: bool, one_stays: bool) -> u8
     ensures { result ≡ status_of strict one_stays }
 {

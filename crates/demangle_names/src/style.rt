@@ -5,7 +5,8 @@ ghost use Rattle.demangle_names.specs.Style.{IsStyle, leaves_out, reads_paths};
 use rust_legacy::path_of;
 use sym_filter::Lang;
 
-/// Which mangled names are read. Rust's older names are names of C++, too: they are read by each style but `Nothing`, by `GnuV3` as those.
+/// Which mangled names are read. Rust's older names are names of C++, too: each style but `Nothing` reads them, and `GnuV3`
+/// reads them as names of C++.
 #[derive(Clone, Copy, Debug, PartialEq, Eq)]
 pub enum Style {
     /// `auto`: all.

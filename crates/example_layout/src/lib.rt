@@ -1,7 +1,7 @@
 //! A table of nodes that share their parts, printed as the tree that it denotes.
 #![tactic(auto)]
 
-ghost use Rattle.std.specs.Prelude.{◌≡◌, ◌+◌, ◌<◌, ◌≤◌, length, vec_len, vec_capacity, [], true, IfOk, IfErr};
+ghost use Rattle.std.specs.Prelude.{◌≡◌, ◌+◌, ◌<◌, ◌≤◌, length, vec_len, vec_capacity, [], true, IfOk, IfErr, IfSome};
 ghost use Rattle.std.specs.List.{All};
 ghost use Rattle.example_layout.specs.Dag.{IsLinked, doubled};
 ghost use Rattle.sym_core.specs.declared.Refusal.{Refusal};
@@ -9,7 +9,7 @@ ghost use Rattle.sym_core.specs.declared.Refusal.{Refusal};
 use arrayvec::ArrayVec;
 use std::alloc::Global;
 use sym_core::Refusal;
-use sym_print::{Item, Layout, Part, push_reversed};
+use sym_print::{Item, Layout, Part, Run, push_reversed};
 
 #[cfg(test)]
 mod tests;
@@ -57,6 +57,7 @@ impl Layout for Dag {
     ghost use Rattle.sym_print.specs.Unfold.{printed};
     ghost use Rattle.sym_print.specs.Joined.{joined};
     ghost use Rattle.sym_print.specs.Stacked.{Stacked};
+    ghost use Rattle.sym_print.specs.Runs.{IsRun};
 
     ghost may_come = { λ y part. IsLinked 0 y.nodes.items × MayCome y.nodes.items part };
 
@@ -115,6 +116,19 @@ impl Layout for Dag {
             && one.form == other.form
             && one.at == other.at
             && one.ctx == other.ctx
+    }
+
+    fn begins_run(&self, _item: Item<bool>) -> bool
+        requires may_come { IsLinked 0 self.now.nodes.items × MayCome self.now.nodes.items (Part.Sub _item) }
+    {
+        false
+    }
+
+    fn run(&self, _item: Item<bool>) -> Option<Run<bool>>
+        requires may_come { IsLinked 0 self.now.nodes.items × MayCome self.now.nodes.items (Part.Sub _item) }
+        ensures run { IfSome result (λ run. IsRun (λ item. printed parts_of rank (item_of self.now.nodes.items item)) bytes_of (λ part. IsLinked 0 self.now.nodes.items × MayCome self.now.nodes.items part) _item run) }
+    {
+        None
     }
 
     fn bytes<'a>(&'a self, part: &'a Part<bool>) -> &'a [u8] {

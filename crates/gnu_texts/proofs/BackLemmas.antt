@@ -77,7 +77,7 @@ no-blank last text = by (last == 62) (last == 41)
     by false true = refl
     by false false = refl
 
--- none after a byte that closes nothing
+-- no blank is written after a byte that closes nothing
 closes-nothing : (text : List ℕ) → (is_spaced 0 text ≡ false) × (is_spaced 32 text ≡ false)
 unfolding is_spaced
 closes-nothing text = (refl, refl)

@@ -29,7 +29,7 @@ no-shorter-by last zero (byte ∷ text) =
 pub no-shorter : (text : List ℕ) → IsNoShorter text
 no-shorter text = omega (arith, no-shorter-by 0 0 text)
 
--- a length and that of what is written: at most twice it, or at most ten times it less thirty
+-- the length of what is written: at most twice that of its text, or at most ten times that less thirty
 abbrev AreBounded : (size long : ℕ) → Type 0
 AreBounded size long = (long ≤ 2 * size) ⊎ (long + 30 ≤ 10 * size)
 

@@ -1,4 +1,4 @@
--- What it says of a text that it begins with another, or with a whole name.
+-- Texts that begin with another text, or with a whole name.
 use Rattle.std.proofs.Common.{◌≡◌, ◌≤◌, ◌<◌, ◌+◌, ◌-◌, ◌==◌, ℕ, Bool, true, false, true≢false, not, ◌&&◌, ◌||◌, if◌then◌else◌, None, List, [], ◌∷◌, ◌++◌, lit≤, length, take, drop, get_or, nat_eq, codes, refl, sym, ap, ap₂, ◌∙◌, arith, length-drop, length-append, append_assoc, take_all}
 use Rattle.std.specs.List.{starts_with}
 use Rattle.std.proofs.lemmas.List.{get_or_append_left, get_or_past}
@@ -46,7 +46,7 @@ other-front byte text p some other =
     false-from (starts_with nat_eq (byte ∷ text) p) (λ h.
     other (ap (λ t. get_or t 0 0) ((starts_is Decides-eqb (byte ∷ text) p (starts_with nat_eq (byte ∷ text) p) refl).0 h) ∙ get_or_append_left p (drop (length p) (byte ∷ text)) 0 0 some))
 
--- a plain byte begins no operator's name,
+-- a plain byte begins no operator's name
 pub no-operator : (last : ℕ) (text : List ℕ) → starts_with nat_eq text (codes "operator") ≡ false → operator_size last text ≡ 0
 unfolding operator_size
 no-operator last text starts = by (is_letter last) (starts_with nat_eq text (codes "operator")) (sign_size (drop 8 text) == 0) (8 + sign_size (drop 8 text)) starts
@@ -56,17 +56,17 @@ no-operator last text starts = by (is_letter last) (starts_with nat_eq text (cod
     by false false none size is = refl
     by false true none size is = cc
 
--- no name of std,
+-- a plain byte begins no name of std
 no-name : (last : ℕ) (text : List ℕ) → starts_with nat_eq text (codes "std::") ≡ false → name_at last text ≡ None
 unfolding name_at
 no-name last text starts = rw (starts) refl
 
--- no suffix,
+-- a plain byte begins no suffix
 no-suffix : (text : List ℕ) → starts_with nat_eq text (codes " (.") ≡ false → is_suffix text ≡ false
 unfolding is_suffix
 no-suffix text starts = rw (starts) refl
 
--- and no bracket before which a blank is written
+-- a plain byte is no bracket with a blank before it
 not-spaced : (last : ℕ) (text : List ℕ) → starts_with nat_eq text (codes ">") ≡ false → starts_with nat_eq text (codes "[") ≡ false → is_spaced last text ≡ false
 unfolding is_spaced
 not-spaced last text closes opens = by (last == 62) (starts_with nat_eq text (codes ">")) (last == 41) (starts_with nat_eq text (codes "[")) closes opens

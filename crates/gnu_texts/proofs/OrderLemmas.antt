@@ -49,7 +49,7 @@ in-both (byte ∷ text) (first ∷ bytes) more rest is also = by (first == byte)
     by true e again = again bytes e
     by false e again = again (first ∷ bytes) e
 
--- some bytes behind it
+-- some bytes after it
 pub in-ahead : (bytes text rest : List ℕ) → AreIn bytes text → AreIn bytes (text ++ rest)
 unfolding are_in
 in-ahead bytes text rest is = subst (λ t. AreIn t (text ++ rest)) (append-nil bytes) (in-both text bytes [] rest is refl)

@@ -11,7 +11,7 @@ spelled-skipped last zero text = refl
 spelled-skipped last (suc k) [] = refl
 spelled-skipped last (suc k) (byte ∷ text) = spelled-skipped last k text
 
--- what is behind a piece
+-- what follows a piece
 pub drop-less : (n byte : ℕ) (text : List ℕ) → 0 < n → drop (n - 1) text ≡ drop n (byte ∷ text)
 drop-less zero byte text h = absurd (omega (arith, h))
 drop-less (suc n) byte text h = ap (λ k. drop k text) (omega arith)

@@ -18,18 +18,18 @@ pub record HasNoNames (text : List ℕ) : Type 0 where
   pub string : HasNo (codes "std::string") text
   pub null_pointer : HasNo (codes "std::nullptr_t") text
 
--- It has none of these, and nothing that begins as a suffix does.
+-- A text has none of these names, and nothing that begins as a suffix does.
 pub record HasNoWords (text : List ℕ) : Type 0 where
   pub names : HasNoNames text
   pub suffix : HasNo (codes " (.") text
 
--- It has none of the places that are spelled otherwise.
+-- A text has none of the places that are spelled otherwise.
 pub record HasNoPlaces (text : List ℕ) : Type 0 where
   pub words : HasNoWords text
   pub closing : HasNo (codes ">>") text
   pub array : HasNo (codes ")[") text
 
--- It has no blank where the spelling writes one.
+-- A text has no blank where the spelling writes one.
 pub record HasNoBlanks (text : List ℕ) : Type 0 where
   pub closing : HasNo (codes "> >") text
   pub array : HasNo (codes ") [") text
@@ -40,7 +40,7 @@ pub record HasNoBlanks (text : List ℕ) : Type 0 where
 abbrev pub IsNoShorter : List ℕ → Type 0
 IsNoShorter text = length text ≤ length (gnu_text text)
 
--- It is at most ten times as long; of a text of four bytes or more, less thirty bytes.
+-- A spelled text is at most ten times as long as its text; for a text of four bytes or more, less thirty bytes.
 abbrev pub IsBounded : List ℕ → Type 0
 IsBounded text = (length (gnu_text text) ≤ 10 * length text) × (4 ≤ length text → length (gnu_text text) + 30 ≤ 10 * length text)
 
@@ -48,7 +48,7 @@ IsBounded text = (length (gnu_text text) ≤ 10 * length text) × (4 ≤ length 
 abbrev pub dots : (count : ℕ) → List ℕ
 dots count = codes " (" ++ replicate count 46 ++ codes ")"
 
--- It is so long for a suffix of dots, so for four bytes and each greater number there is no smaller bound.
+-- A suffix of dots reaches the bound, so there is no smaller one for four bytes or for any greater number.
 abbrev pub ReachesBound : (count : ℕ) → Type 0
 ReachesBound count = 0 < count → length (gnu_text (dots count)) + 30 ≡ 10 * length (dots count)
 

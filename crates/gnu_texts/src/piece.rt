@@ -136,7 +136,7 @@ fn append_name(name: Name, front: usize, text: &[u8], out: &mut Vec<u8>) -> Resu
 }
 
 impl Piece {
-    /// How many bytes of the text it is.
+    /// How many bytes of the text the piece has.
     #[inline(always)]
     #[tactic(auto, unfolding(crate::specs::Pieces::size_of, crate::specs::Pieces::IsPiece))]
     pub(crate) fn size(self, text: &[u8]) -> usize
@@ -172,7 +172,7 @@ impl Piece {
         }
     }
 
-    /// Appends what is written for it.
+    /// Appends what is written for the piece.
     #[inline(always)]
     #[tactic(auto, unfolding(crate::specs::Pieces::bytes_of, crate::specs::Pieces::IsPiece))]
     pub(crate) fn append(self, text: &[u8], out: &mut Vec<u8>) -> Result<(), AllocError>

@@ -1,12 +1,13 @@
 // A symbol that was read by the wide grammar.
 #![tactic(auto)]
 
-ghost use Rattle.std.specs.Prelude.{◌≡◌, ◌+◌, ◌*◌, ◌<◌, ◌≤◌, [], length, slice_get, vec_len, vec_capacity, Some, true, Err, IfOk, IfErr, OnOk, ◌⊎◌};
+ghost use Rattle.std.specs.Prelude.{◌≡◌, ◌+◌, ◌*◌, ◌<◌, ◌≤◌, [], length, slice_get, vec_len, vec_capacity, Some, true, Err, IfOk, IfErr, IfSome, OnOk, ◌⊎◌};
 ghost use Rattle.std.specs.List.{All};
 ghost use Rattle.sym_core.specs.declared.Refusal.{Refusal};
 ghost use Rattle.sym_print.specs.declared.layout.Part.{Part};
 ghost use Rattle.sym_print.specs.declared.detail.Detail.{Detail};
 ghost use Rattle.sym_print.specs.Joined.{joined, IsText};
+ghost use Rattle.sym_print.specs.Runs.{IsRun};
 ghost use Rattle.sym_print.specs.Stacked.{Stacked};
 ghost use Rattle.sym_print.specs.Unshared.{text_of, cost_of};
 ghost use Rattle.cpp_tree.specs.Fields.{offsets_of, tree_from};
@@ -19,7 +20,7 @@ use cpp_layout::{Context, Detail, Node, Symbol, Thunk};
 use cpp_tree::Nodes;
 use std::marker::Model;
 use sym_core::{Counts, Refusal, Span};
-use sym_print::{Item, Layout, Part};
+use sym_print::{Item, Layout, Part, Run};
 
 /// A symbol that was read by the wide grammar.
 ///
@@ -208,6 +209,21 @@ impl Layout for WideSymbol {
         ensures { result ≡ true → one.now ≡ other.now }
     {
         self.symbol.is_same(one, other)
+    }
+
+    #[inline(always)]
+    fn begins_run(&self, item: Item<Context>) -> bool
+        requires may_come { MayBeAsked self.now (Part.Sub item) }
+    {
+        self.symbol.begins_run(item)
+    }
+
+    #[inline(always)]
+    fn run(&self, item: Item<Context>) -> Option<Run<Context>>
+        requires may_come { MayBeAsked self.now (Part.Sub item) }
+        ensures run { IfSome result (λ run. IsRun (unshared_of self.now) (bytes_of_part self.now) (MayBeAsked self.now) item run) }
+    {
+        self.symbol.run(item)
     }
 
     #[inline(always)]

@@ -65,7 +65,7 @@ pub name-first : (name : List ℕ) → print_from false (Token.key name ∷ []) 
 unfolding print_from
 name-first name = append-nil (quoted name ++ 58 ∷ [])
 
--- those that say how a name is mangled, and others
+-- the members that say how a name is mangled, and others
 pub text-mangling : (mangling : Mangling) (members : Members) → members_text true (mangling_members mangling members) ≡ members_text true (mangling_members mangling no_members) ++ members_text true members
 text-mangling mangling members =
     let language = members_text true (member (codes "language") (string (language_of mangling)) no_members) in
@@ -76,7 +76,7 @@ text-mangling mangling members =
 
 -- ## The text of parts
 
--- after others
+-- the text of parts after other parts
 later-text : (parts : List Part) → print_from true (items_tokens (part_items parts)) ≡ flat_map later_part parts ++ 93 ∷ []
 unfolding print_from
 later-text [] = refl

@@ -43,7 +43,7 @@ control-code byte control b t n f r =
     (no-letter byte plain (ne_eqb byte 8 b) (ne_eqb byte 12 f) (ne_eqb byte 10 n) (ne_eqb byte 13 r) (ne_eqb byte 9 t))
     ∙ ap (λ (b : Bool). cond b (code_escape byte) (byte ∷ [])) (lt-ltb byte 32 control)
 
--- those with one
+-- control characters with a letter
 pub backspace : escape_byte 8 ≡ codes "\\b"
 unfolding escape_byte
 backspace = refl

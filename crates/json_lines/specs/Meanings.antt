@@ -20,12 +20,12 @@ pub data Meaning : Type 0 where
   refused : Refusal → Meaning
   no_symbol : Meaning
 
--- by what is answered for a symbol
+-- what a name is as a symbol, by the symbol's answer
 abbrev pub answered : Mangling → Option Details → Result (List ℕ) Refusal → Meaning
 answered mangling details (Ok text) = has_text mangling text details
 answered mangling details (Err refusal) = refused refusal
 
--- of a name as a symbol, by its kind
+-- what a name is as a symbol, by its kind
 abbrev pub meaning_by : (reads_paths : Bool) → Answering → Detailing → List ℕ → Option Kind → Meaning
 meaning_by reads_paths answers details name None = no_symbol
 meaning_by reads_paths answers details name (Some kind) =
@@ -34,23 +34,22 @@ meaning_by reads_paths answers details name (Some kind) =
 unfoldable pub symbol_meaning : (reads_paths : Bool) → Answering → Detailing → List ℕ → Meaning
 symbol_meaning reads_paths answers details name = meaning_by reads_paths answers details name (kind_of name)
 
--- of a name that may be a type
+-- what a name is that may be a type, by the type's text
 abbrev pub meaning_or : Option (List ℕ) → Meaning → Meaning
 meaning_or (Some text) meaning = has_text Itanium text None
 meaning_or None meaning = meaning
 
--- What a name is: a type, where types are read and it is one, or else what is answered for it as a symbol. No details are known of
--- types.
+-- What a name is: a type, where types are read and it is one, or else what it is as a symbol. No details are known of types.
 abbrev pub meaning_of : (types reads_paths : Bool) → Answering → Detailing → List ℕ → Meaning
 meaning_of types reads_paths answers details name = meaning_or (type_for types answers name) (symbol_meaning reads_paths answers details name)
 
--- a name stays that has no text
+-- a name without a text stays
 abbrev pub stays : Meaning → Bool
 stays (has_text mangling text details) = false
 stays (refused refusal) = true
 stays no_symbol = true
 
--- what code has of it
+-- what a name is, as code has it
 abbrev pub meaning_in : Meaning-type → Meaning
 meaning_in (meanings.Text text mangling details) = has_text mangling text.items (details_in details)
 meaning_in (meanings.Refused refusal) = refused refusal
@@ -58,7 +57,7 @@ meaning_in meanings.NoSymbol = no_symbol
 
 -- ## Names in a text
 
--- The name that a word of a text is: the word without its last bytes that are dots or aren't ASCII, where that has a text, and
--- else the word.
+-- The name that a word of a text is: the word without the dots and the bytes that aren't ASCII at its end, if that has a text;
+-- otherwise the word.
 unfoldable pub named_by : Answering → List ℕ → List ℕ
 named_by answers word = if is_some (text_for answers (trimmed word)) then trimmed word else word

@@ -149,6 +149,6 @@ LinesAreObjects = (line : Option ℕ) (name : List ℕ) (meaning : Meaning) → 
 abbrev pub IsPrinted : ℕ → Type 0
 IsPrinted byte = 31 < byte
 
--- Between the quotes of a string is what `--escape` makes of the text, where that has no control character.
+-- For a text without control characters, the bytes between the quotes of its string are those that `--escape` writes.
 abbrev pub StringsAreEscaped : Type 0
 StringsAreEscaped = (text : List ℕ) → All IsPrinted text → escape text ≡ escaped text

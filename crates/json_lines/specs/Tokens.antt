@@ -14,7 +14,7 @@ abbrev pub front_of : Members → List Token
 front_of no_members = []
 front_of (member name json members) = Token.key name ∷ (json_tokens json ++ front_of members)
 
--- their text, where the object has members before them or none
+-- the text of members, after others or as the first
 abbrev pub members_text : (has_some : Bool) → Members → List ℕ
 members_text has_some members = print_from has_some (front_of members)
 

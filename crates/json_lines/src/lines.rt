@@ -15,7 +15,7 @@ use std::alloc::{AllocError, Global};
 use sym_core::Refusal;
 use text_details::Mangling;
 
-/// The line of a name: its object and a newline. That of a word of a text has the number of its line.
+/// The line of a name: its object and a newline. The object of a word of a text has the number of the word's line.
 pub(crate) fn line_of(
     alloc: Global,
     line: Option<u64>,
@@ -90,7 +90,7 @@ fn push_error(reason: &str, at: u32, out: &mut Vec<u8>) -> Result<(), AllocError
     push_number(true, "at", u64::from(at), out)
 }
 
-/// Appends a member for some bytes, where members come before it or none.
+/// Appends a member for some bytes, after other members or as the first.
 fn push_text(
     alloc: Global,
     has_some: bool,
@@ -105,7 +105,7 @@ fn push_text(
     push_string(text.as_bytes(), out)
 }
 
-/// Appends a member that is a word, where members come before it.
+/// Appends a member that is a word, after other members.
 pub(crate) fn push_word(name: &str, word: &str, out: &mut Vec<u8>) -> Result<(), AllocError>
     ensures { OnOk result (out.new.items ≡ out.old.items ++ members_text true (member name.now (string word.now) no_members)) }
 {
@@ -113,7 +113,7 @@ pub(crate) fn push_word(name: &str, word: &str, out: &mut Vec<u8>) -> Result<(),
     push_string(word.as_bytes(), out)
 }
 
-/// Appends a member that is a number, where members come before it or none.
+/// Appends a member that is a number, after other members or as the first.
 pub(crate) fn push_number(
     has_some: bool,
     name: &str,

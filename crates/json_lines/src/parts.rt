@@ -28,7 +28,7 @@ pub(crate) fn push_details(details: &Option<Details>, out: &mut Vec<u8>) -> Resu
     }
 }
 
-/// Appends the member for the parts of a text, where members come before it.
+/// Appends the member for the parts of a text, after other members.
 fn push_parts(parts: &[Part], out: &mut Vec<u8>) -> Result<(), AllocError>
     ensures { OnOk result (out.new.items ≡ out.old.items ++ members_text true (member (codes "parts") (array (part_items parts.now)) no_members)) }
 {
@@ -82,7 +82,7 @@ fn push_part(part: Part, out: &mut Vec<u8>) -> Result<(), AllocError>
     Ok(())
 }
 
-/// Appends two members that are numbers, where members come before them.
+/// Appends two members that are numbers, after other members.
 fn push_two(
     first: &str,
     one: u32,
@@ -96,7 +96,7 @@ fn push_two(
     push_number(true, second, u64::from(other), out)
 }
 
-/// Appends the member for a part's role, before which there is none.
+/// Appends the member for a part's role, which is the first.
 fn push_role(role: Role, out: &mut Vec<u8>) -> Result<(), AllocError>
     ensures { OnOk result (out.new.items ≡ out.old.items ++ members_text false (member (codes "role") (string (role_name role)) no_members)) }
 {

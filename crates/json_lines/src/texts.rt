@@ -13,7 +13,7 @@ use std::alloc::{AllocError, Global};
 use sym_filter::{FilterFault, Letters, Sink, Source, filter_telling};
 use text_details::Detailed;
 
-/// Says of each word what it is, by an object.
+/// Says what each word is, by an object.
 #[derive(Clone, Copy, Drop)]
 pub struct Objects<'r, D: Detailed> {
     pub demangler: &'r D,
@@ -37,7 +37,8 @@ impl<'r, D: Detailed> Says for Objects<'r, D> {
     }
 }
 
-/// The name that a word of a text is: without its last bytes that are dots or aren't ASCII where that has a text, or else the word.
+/// The name that a word of a text is: the word without the dots and the bytes that aren't ASCII at its end, if that has a text;
+/// otherwise the word.
 fn named_by<'w, D: Detailed>(
     alloc: Global,
     demangler: &D,
@@ -60,12 +61,12 @@ fn named_by<'w, D: Detailed>(
 fn has_text<D: Detailed>(alloc: Global, demangler: &D, word: &[u8]) -> Result<bool, AllocError>
     ensures { IfOk result (λ has. has ≡ is_some (text_for (D.answer demangler.now) word.now)) }
 {
-    // whether legacy Rust names are paths changes no answer
+    // the answer doesn't depend on whether legacy Rust names are paths
     let meaning = symbol_meaning(alloc, demangler, false, word)?;
     Ok(!meaning.stays())
 }
 
-/// Where the last bytes of a word begin that are dots or aren't ASCII.
+/// Where the dots and the bytes that aren't ASCII at a word's end begin.
 fn trimmed_end(word: &[u8]) -> usize
     ensures within { result ≤ length word.now }
     ensures trimmed { take result word.now ≡ trimmed word.now }
@@ -80,8 +81,8 @@ fn trimmed_end(word: &[u8]) -> usize
     0
 }
 
-/// Reads a text to its end, and writes the line of each word that names a symbol, as soon as the word has ended. Answers whether any
-/// of them has no text. What is held of the text is a read and one word.
+/// Reads a text to its end, and writes the line of each word that names a symbol, as soon as the word has ended. Answers
+/// whether any of them has no text. It holds no more of the text than one read and one word.
 ///
 /// # Errors
 ///

@@ -1,4 +1,4 @@
-// What a filter is run with where only the words of its text are wanted: a demangler that gives no symbol a text, and a sink that keeps nothing.
+// For a filter that only finds the words of its text: a demangler that gives no symbol a text, and a sink that keeps nothing.
 ghost use Rattle.std.specs.Prelude.{Err, None};
 ghost use Rattle.sym_core.specs.declared.refusal.Refusal.TheVariants.{Malformed};
 

@@ -25,7 +25,7 @@ parts-alone : (place : ℕ) (r : Role) (b : List ℕ) (rest : Marked) → stretc
 unfolding stretches_from marks.text_of
 parts-alone place r b rest = ap (λ t. part_at r place (length t) ∷ stretches_from (place + length t) rest) (append-nil b)
 
--- there are none before the last name
+-- there are no parts before the last name
 none-before_last : (place : ℕ) (names : List (List ℕ)) → stretches_from place (before_last names) ≡ []
 unfolding stretches_from before_last
 none-before_last place [] = refl

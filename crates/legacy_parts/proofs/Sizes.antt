@@ -21,7 +21,7 @@ total (name ∷ rest) some =
     ap length (names-split name rest) ∙ length-append (front_of (name ∷ rest)) (shown (last_of (name ∷ rest)))
     ∙ ap (λ n. n + length (shown (last_of (name ∷ rest)))) (front-length (name ∷ rest))
 
--- after the first name has been measured
+-- what holds after the first name has been measured
 pub begun : (names : List (List ℕ)) (name : List ℕ) (rest : List (List ℕ)) → names ≡ name ∷ rest → AreFitting names
     → (length (shown name) < 2 ^ 32) × (0 + place_of (name ∷ rest) ≡ place_of names) × (last_of (name ∷ rest) ≡ last_of names)
 begun names name rest is fit =

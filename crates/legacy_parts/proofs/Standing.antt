@@ -45,7 +45,7 @@ all-names (suc depth) s at all is =
 
 -- ## The names before the hash
 
--- the names of which the last one is a hash
+-- names whose last one is a hash
 abbrev Before : (names front : List (List ℕ)) → Type 0
 Before names front = (last : List ℕ) × (names ≡ front ++ last ∷ [])
 

@@ -22,7 +22,7 @@ use Rattle.legacy_parts.proofs.Texts.{front-length, front_of, names-split}
 
 -- ## The first name
 
--- what precedes a text that begins otherwise decides how both begin
+-- before a text that doesn't begin with <, a text decides whether the two together do
 begins-before : (one other : List ℕ) → begins_with (codes "<") other ≡ false → begins_with (codes "<") (one ++ other) ≡ begins_with (codes "<") one
 begins-before [] other none = none
 begins-before (x ∷ one) other none = refl
@@ -35,7 +35,7 @@ no-later : (rest : List (List ℕ)) (suffix : List ℕ) → begins_with (codes "
 no-later [] suffix = no-suffix suffix
 no-later (name ∷ rest) suffix = ap (λ t. begins_with (codes "<") (t ++ text_of (suffix_parts suffix))) (names_text-next (codes "::") name rest)
 
--- what the first name is shows in the whole text
+-- the whole text shows what the first name is
 root-of : (names : List (List ℕ)) (suffix : List ℕ) → 0 < length names
     → root_role (text_of (names_parts [] names) ++ text_of (suffix_parts suffix)) ≡ root_role (shown (first_of names))
 unfolding root_role
@@ -48,7 +48,7 @@ root-of (name ∷ rest) suffix some =
 
 -- ## The last name
 
--- it is a stretch of the whole text
+-- the last name is a stretch of the whole text
 last-in : (names : List (List ℕ)) (suffix : List ℕ) → 0 < length names
     → take (length (shown (last_of names))) (drop (place_of names) (text_of (names_parts [] names) ++ text_of (suffix_parts suffix))) ≡ shown (last_of names)
 last-in [] suffix some = absurd (omega (arith, some))

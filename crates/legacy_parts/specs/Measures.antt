@@ -1,4 +1,4 @@
--- How long what the names of a path show is, and where parts of it are.
+-- The lengths of what the names of a path show, and where parts of it are.
 use Rattle.std.specs.Prelude.{◌≡◌, ℕ, ◌+◌, ◌-◌, ◌<◌, ◌^◌, List, [], ◌∷◌, length, Some, nat_eq, if◌then◌else◌}
 use Rattle.rust_legacy.specs.Path.{Path, legacy_of}
 use Rattle.rust_legacy.specs.Text.{names_parts, shown_path}
@@ -25,7 +25,7 @@ abbrev pub first_of : List (List ℕ) → List ℕ
 first_of [] = []
 first_of (name ∷ rest) = name
 
--- what the names show is shorter than 2^32 bytes
+-- the names show fewer than 2^32 bytes
 abbrev pub AreFitting : List (List ℕ) → Type 0
 AreFitting names = length (text_of (names_parts [] names)) < 2 ^ 32
 

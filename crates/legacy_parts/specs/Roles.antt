@@ -28,7 +28,7 @@ before_last [] = done
 before_last (name ∷ []) = done
 before_last (name ∷ next ∷ rest) = text (codes "::") (text (shown name) (before_last (next ∷ rest)))
 
--- The names of a path: the last one is the base, and those before it are its scope, the first of which is a part.
+-- The names of a path: the last one is the base, and those before it are its scope, whose first name is a part.
 unfoldable pub names_marked : List (List ℕ) → Marked
 names_marked [] = done
 names_marked (name ∷ []) = alone role.Base only (shown name) done

@@ -11,13 +11,13 @@ use Rattle.sym_parts.specs.declared.spelling.Span.{Span}
 unfoldable pub size_at : (symbol : List ℕ) → (at : ℕ) → ℕ
 size_at symbol at = elim (name_in (drop at symbol)) [ Some name ↦ name.size | None ↦ 0 ]
 
--- where the last of names begins, the first of which is at a place
+-- where the last of names begins, if the first is at a place
 unfoldable pub last_at : (symbol : List ℕ) → (at : ℕ) → List (List ℕ) → ℕ
 last_at symbol at [] = at
 last_at symbol at (name ∷ []) = at
 last_at symbol at (name ∷ next ∷ rest) = last_at symbol (at + size_at symbol at) (next ∷ rest)
 
--- where they end
+-- where names end, if the first is at a place
 unfoldable pub end_at : (symbol : List ℕ) → (at : ℕ) → List (List ℕ) → ℕ
 end_at symbol at [] = at
 end_at symbol at (name ∷ rest) = end_at symbol (at + size_at symbol at) rest
@@ -45,7 +45,7 @@ spelling_by first last hash suffix end = record {
   elements = [];
 }
 
--- those of a symbol's path
+-- the parts of a symbol's path
 unfoldable pub spelling_of_path : (symbol : List ℕ) → Path → Spelling
 spelling_of_path symbol path =
     spelling_by (3 + size_at symbol 3) (last_at symbol 3 path.names) (end_at symbol 3 path.names) (length symbol - length path.suffix) (length symbol)

@@ -45,7 +45,7 @@ fn push_base(found: &mut Stretches, length: u32) -> Result<(), Refusal>
     Ok(())
 }
 
-/// Adds the parts of names that were measured to none.
+/// Adds the parts of measured names to an empty list.
 ///
 /// # Errors
 ///

@@ -1,4 +1,4 @@
-// How long what the names of a path show is.
+// The lengths of what the names of a path show.
 #![tactic(auto)]
 
 ghost use Rattle.std.specs.Prelude.{◌≡◌, ◌<◌, ◌≤◌, ◌^◌, List, length, ℕ};

@@ -30,7 +30,7 @@ fn size_at(symbol: &[u8], at: usize) -> usize
     }
 }
 
-/// Where the last name of a path begins, whose names end at the length of its hash.
+/// Where the last name of a path begins. The names end at the length of the path's hash.
 fn last_at(symbol: &[u8], hash: usize) -> usize
     requires within { hash ≤ length symbol.now }
     requires names { (names : List (List ℕ)) × AreNames symbol.now 3 hash names }

@@ -1,6 +1,6 @@
 -- Names and numbers that were found, and the bytes at a place.
-use Rattle.std.proofs.Common.{◌≡◌, ◌≢◌, ℕ, ◌+◌, ◌-◌, ◌<◌, ◌≤◌, List, [], ◌∷◌, ◌++◌, length, take, drop, Bool, true, Option, Some, None, Result, Ok, Err, ap, sym, subst, ◌∙◌, arith, append_assoc}
-use Rattle.std.proofs.lemmas.List.{length-append, length-drop, length-take, drop-drop}
+use Rattle.std.proofs.Common.{◌≡◌, ◌≢◌, ℕ, ◌+◌, ◌-◌, ◌<◌, ◌≤◌, List, [], ◌∷◌, ◌++◌, length, take, drop, get_or, Bool, true, Option, Some, None, Result, Ok, Err, ap, sym, subst, ◌∙◌, arith, append_assoc, add-zero}
+use Rattle.std.proofs.lemmas.List.{get_or-drop, length-append, length-drop, length-take, drop-drop}
 use Rattle.std.proofs.Math.Seq.{drop-append_seam, take-append_seam}
 use Rattle.std.specs.Result.{result_ok}
 use Rattle.sym_core.specs.declared.NameClass.TheVariants.{Rust}
@@ -79,6 +79,18 @@ name-found s at place h le =
 -- a byte is where it was read
 pub there : (s : List ℕ) (at byte letter : ℕ) → byte ≡ letter → 0 < letter → (byte ≢ 0 → StandsAt s at (byte ∷ [])) → StandsAt s at (letter ∷ [])
 there s at byte letter is some stands = subst (λ b. StandsAt s at (b ∷ [])) is (stands (λ none. omega (arith, some, sym is ∙ none)))
+
+-- a byte that was read at a place is there
+pub read-there : (s : List ℕ) (at : ℕ) → at < length s → StandsAt s at (get_or s at 0 ∷ [])
+read-there s at less = front (drop at s) (get_or-drop at s 0 0 ∙ ap (λ n. get_or s n 0) (add-zero at)) (omega (arith, less, length-drop at s))
+  where
+    front : {b : ℕ} (l : List ℕ) → get_or l 0 0 ≡ b → 0 < length l → (rest : List ℕ) × (l ≡ (b ∷ []) ++ rest)
+    front [] e some = absurd (omega (arith, some))
+    front (x ∷ rest) e some = (rest, ap (λ y. y ∷ rest) e)
+
+-- and so is the letter that it is
+pub letter-there : (s : List ℕ) (at letter : ℕ) → at < length s → get_or s at 0 ≡ letter → StandsAt s at (letter ∷ [])
+letter-there s at letter less is = subst (λ b. StandsAt s at (b ∷ [])) is (read-there s at less)
 
 -- a piece is filled
 pub piece-filled : (s : List ℕ) (from to : ℕ) → from < to → to ≤ length s → 1 ≤ length (take (to - from) (drop from s))

@@ -1,6 +1,6 @@
 -- Where numbers of at most eleven digits are.
-use Rattle.std.proofs.Common.{◌≡◌, ℕ, ◌+◌, ◌-◌, ◌*◌, ◌^◌, ◌≤◌, ◌<◌, ◌⊎◌, zero, suc, List, [], ◌∷◌, ◌++◌, length, take, drop, get_or, true, refl, ap, sym, subst, ◌∙◌, arith, inl, inr}
-use Rattle.std.proofs.lemmas.List.{get_or-take, length-append, length-drop, length-take-le, take-append-drop}
+use Rattle.std.proofs.Common.{◌≡◌, ◌≢◌, ℕ, ◌+◌, ◌-◌, ◌*◌, ◌^◌, ◌≤◌, ◌<◌, suc, List, [], ◌∷◌, ◌++◌, length, take, drop, get_or, true, refl, ap, sym, subst, ◌∙◌, arith, add-zero, inl, inr}
+use Rattle.std.proofs.lemmas.List.{length-append, length-drop, length-take-le, take-append-drop}
 use Rattle.std.proofs.lemmas.Bool.Decides.{nat_tests}
 use Rattle.std.proofs.Math.Nat.{pow-zero, pow-suc, mul_assoc, mul_comm, mul-le-mul_right, pow-le-pow_right}
 use Rattle.sym_core.specs.declared.NumberKind.TheVariants.{Base62}
@@ -10,14 +10,8 @@ use Rattle.rust_grammar.specs.Unfold.{greatest_u64}
 use Rattle.sym_direct.specs.Holes.{StandsAt}
 use Rattle.sym_direct.proofs.Moves.{stands-join}
 use Rattle.rust_direct.specs.Holes.{IsNumberAt, IsSmallNumberAt, HasDisambiguator}
-use Rattle.rust_direct.specs.Hashes.{ReachesDigits}
-use Rattle.rust_direct.proofs.NamePlaces.{own-is}
-
-lt-or-le : (m n : ℕ) → (m < n) ⊎ (n ≤ m)
-lt-or-le zero zero = inr (omega arith)
-lt-or-le zero (suc n) = inl (omega arith)
-lt-or-le (suc m) zero = inr (omega arith)
-lt-or-le (suc m) (suc n) = elim (lt-or-le m n) [ inl h ↦ inl (omega (arith, h)) | inr h ↦ inr (omega (arith, h)) ]
+use Rattle.rust_direct.specs.Lanes.{EachPasses}
+use Rattle.rust_direct.proofs.LaneLemmas.{lt-or-le, piece-byte, piece-pass}
 
 digit-small : (b : ℕ) → is_digit_of Base62 b ≡ true → digit_value Base62 b < 62
 digit-small b h = grind (arith, nat_tests)
@@ -32,30 +26,52 @@ below v (d ∷ ds) are =
     let same : (v + 1) * 62 * 62 ^ length ds ≡ (v + 1) * 62 ^ suc (length ds) = mul_assoc (v + 1) 62 (62 ^ length ds) ∙ ap (λ p. (v + 1) * p) (mul_comm 62 (62 ^ length ds) ∙ sym (pow-suc 62 (length ds))) in
     omega (arith, later, one, same)
 
-all-digits : (ds : List ℕ) → ReachesDigits ds (length ds) → AreDigits Base62 ds
+-- a digit below the last two
+digit-lower : (b : ℕ) → is_digit_of Base62 b ≡ true → b ≢ 89 → b ≢ 90 → digit_value Base62 b ≤ 59
+digit-lower b h y z = grind (arith, nat_tests)
+
+all-digits : (ds : List ℕ) → ((k : ℕ) → k < length ds → is_digit_of Base62 (get_or ds k 0) ≡ true) → AreDigits Base62 ds
 all-digits [] h = tt
 all-digits (d ∷ ds) h = (h 0 (omega arith), all-digits ds (λ k less. h (suc k) (omega (arith, less))))
 
--- up to eleven digits count less than the greatest number of 64 bits, if the first of eleven is at most 20
-counted-small : (ds : List ℕ) → length ds ≤ 11 → AreDigits Base62 ds → (length ds ≡ 11 → digit_value Base62 (get_or ds 0 0) ≤ 20)
+-- what the first two of eleven digits of a small number are at most
+low-pair : (d e : ℕ) → is_digit_of Base62 e ≡ true → digit_value Base62 d ≤ 21 → (digit_value Base62 d ≡ 21 → (e ≢ 89) × (e ≢ 90))
+    → digit_value Base62 d * 62 + digit_value Base62 e ≤ 1361
+low-pair d e is low second =
+    elim (lt-or-le (digit_value Base62 d) 21) [
+      | inl less ↦ omega (arith, less, digit-small e is)
+      | inr most ↦
+          let same : digit_value Base62 d ≡ 21 = omega (arith, low, most) in
+          omega (arith, same, digit-lower e is (second same).0 (second same).1)
+    ]
+
+-- up to eleven digits count less than the greatest number of 64 bits, if the first two of eleven are small
+counted-small : (ds : List ℕ) → length ds ≤ 11 → AreDigits Base62 ds → (length ds ≡ 11 → digit_value Base62 (get_or ds 0 0) ≤ 21)
+    → (length ds ≡ 11 → digit_value Base62 (get_or ds 0 0) ≡ 21 → (get_or ds 1 0 ≢ 89) × (get_or ds 1 0 ≢ 90))
     → counted_value Base62 ds + 1 ≤ greatest_u64
-counted-small [] few are low = omega arith
-counted-small (d ∷ ds) few are low = elim (lt-or-le (length ds) 10) [ inl h ↦ short h | inr h ↦ long (omega (arith, few, h)) ]
+counted-small [] few are first second = omega arith
+counted-small (d ∷ []) few are first second = omega (arith, digit-small d are.0)
+counted-small (d ∷ e ∷ ds) few are first second = elim (lt-or-le (length ds) 9) [ inl h ↦ short h | inr h ↦ long (omega (arith, few, h)) ]
   where
-    less : value_onto Base62 (0 * 62 + digit_value Base62 d) ds < (0 * 62 + digit_value Base62 d + 1) * 62 ^ length ds
-    less = below (0 * 62 + digit_value Base62 d) ds are.1
+    pair : ℕ
+    pair = (0 * 62 + digit_value Base62 d) * 62 + digit_value Base62 e
 
-    short : length ds < 10 → counted_value Base62 (d ∷ ds) + 1 ≤ greatest_u64
+    less : value_onto Base62 pair ds < (pair + 1) * 62 ^ length ds
+    less = below pair ds are.1.1
+
+    short : length ds < 9 → counted_value Base62 (d ∷ e ∷ ds) + 1 ≤ greatest_u64
     short h =
-        let most : (0 * 62 + digit_value Base62 d + 1) * 62 ^ length ds ≤ 62 * 62 ^ length ds = mul-le-mul_right (62 ^ length ds) (omega (arith, digit-small d are.0)) in
-        let small : length ds ≤ 9 = omega (arith, h) in
-        let nine : 62 ^ length ds ≤ 62 ^ 9 = pow-le-pow_right {n = 62} (omega arith) small in
-        omega (arith, less, most, nine)
+        let most : (pair + 1) * 62 ^ length ds ≤ 3844 * 62 ^ length ds = mul-le-mul_right (62 ^ length ds) (omega (arith, digit-small d are.0, digit-small e are.1.0)) in
+        let small : length ds ≤ 8 = omega (arith, h) in
+        let eight : 62 ^ length ds ≤ 62 ^ 8 = pow-le-pow_right {n = 62} (omega arith) small in
+        omega (arith, less, most, eight)
 
-    long : length ds ≡ 10 → counted_value Base62 (d ∷ ds) + 1 ≤ greatest_u64
-    long ten =
-        let most : (0 * 62 + digit_value Base62 d + 1) * 62 ^ length ds ≤ 21 * 62 ^ length ds = mul-le-mul_right (62 ^ length ds) (omega (arith, low (omega (arith, ten)))) in
-        omega (arith, less, most, ap (λ n. 62 ^ n) ten)
+    long : length ds ≡ 9 → counted_value Base62 (d ∷ e ∷ ds) + 1 ≤ greatest_u64
+    long nine =
+        let all : length (d ∷ e ∷ ds) ≡ 11 = omega (arith, nine) in
+        let most : (pair + 1) * 62 ^ length ds ≤ 1362 * 62 ^ length ds =
+        mul-le-mul_right (62 ^ length ds) (omega (arith, low-pair d e are.1.0 (first all) (second all))) in
+        omega (arith, less, most, ap (λ n. 62 ^ n) nine)
 
 -- digits and the mark after them are a number
 pub number-found : (s : List ℕ) (at : ℕ) (own : List ℕ) → own ≡ take (length own) (drop at s) → AreDigits Base62 own → length own ≤ 11
@@ -71,15 +87,18 @@ number-found s at own own_is are few mark = record {
     there : drop at s ≡ own ++ drop (length own) (drop at s)
     there = sym (take-append-drop (length own) (drop at s)) ∙ ap (λ l. l ++ drop (length own) (drop at s)) (sym own_is)
 
--- up to eleven digits and the mark after them are a number; these are the first of the bytes that were read
-pub hash-found : (s : List ℕ) (at count : ℕ) (bytes : List ℕ) → at ≤ length s → 11 < length s - at → bytes ≡ take (at + 11 - at) (drop at s)
-    → count ≤ 11 → (count ≡ 11 → digit_value Base62 (get_or bytes 0 0) ≤ 20) → ReachesDigits bytes count → StandsAt s (at + count) (95 ∷ [])
-    → IsSmallNumberAt s at (at + count + 1)
-hash-found s at count bytes within long bytes_are few low each mark = (
+-- up to eleven digits and the mark after them are a number
+pub hash-found : (s : List ℕ) (at count : ℕ) → at ≤ length s → 16 ≤ length s - at → count ≤ 11
+    → (count ≡ 11 → digit_value Base62 (get_or s at 0) ≤ 21)
+    → (count ≡ 11 → digit_value Base62 (get_or s at 0) ≡ 21 → (get_or s (at + 1) 0 ≢ 89) × (get_or s (at + 1) 0 ≢ 90))
+    → EachPasses (is_digit_of Base62) s at count → StandsAt s (at + count) (95 ∷ []) → IsSmallNumberAt s at (at + count + 1)
+hash-found s at count within long few first second each mark = (
   counted_value Base62 own,
   subst (λ n. IsNumberAt s at (counted_value Base62 own) (at + n + 1)) size
       (number-found s at own (ap (λ n. take n (drop at s)) (sym size)) are (omega (arith, size, few)) (subst (λ n. StandsAt s (at + n) (95 ∷ [])) (sym size) mark)),
-  counted-small own (omega (arith, size, few)) are (λ all. subst (λ b. digit_value Base62 b ≤ 20) (first (omega (arith, size, all))) (low (omega (arith, size, all)))),
+  counted-small own (omega (arith, size, few)) are
+      (λ all. subst (λ b. digit_value Base62 b ≤ 21) (same-0 (eleven all)) (first (eleven all)))
+      (λ all is. subst (λ b. (b ≢ 89) × (b ≢ 90)) (same-1 (eleven all)) (second (eleven all) (ap (λ b. digit_value Base62 b) (same-0 (eleven all)) ∙ is))),
 )
   where
     own : List ℕ
@@ -88,15 +107,17 @@ hash-found s at count bytes within long bytes_are few low each mark = (
     size : length own ≡ count
     size = length-take-le count (drop at s) (omega (arith, few, long, length-drop at s))
 
-    same : (k : ℕ) → k < count → get_or bytes k 0 ≡ get_or own k 0
-    same k less =
-        ap (λ l. get_or l k 0) (bytes_are ∙ own-is s at 11) ∙ get_or-take 11 (drop at s) k 0 (omega (arith, less, few)) ∙ sym (get_or-take count (drop at s) k 0 less)
+    eleven : length own ≡ 11 → count ≡ 11
+    eleven all = omega (arith, size, all)
 
-    first : count ≡ 11 → get_or bytes 0 0 ≡ get_or own 0 0
-    first all = same 0 (omega (arith, all))
+    same-0 : count ≡ 11 → get_or s at 0 ≡ get_or own 0 0
+    same-0 all = sym (piece-byte s at count 0 (omega (arith, all)) ∙ ap (λ n. get_or s n 0) (add-zero at))
+
+    same-1 : count ≡ 11 → get_or s (at + 1) 0 ≡ get_or own 1 0
+    same-1 all = sym (piece-byte s at count 1 (omega (arith, all)))
 
     are : AreDigits Base62 own
-    are = all-digits own (λ k less. subst (λ b. is_digit_of Base62 b ≡ true) (same k (omega (arith, size, less))) (each k (omega (arith, size, less))))
+    are = all-digits own (λ k less. piece-pass (is_digit_of Base62) s at count each k (omega (arith, size, less)))
 
 -- the digits between two places and the mark after them are a number
 pub digits-found : (s : List ℕ) (at mark value : ℕ) (own : List ℕ) → at ≤ mark → mark ≤ length s → mark - at ≤ 11 → own ≡ take (mark - at) (drop at s)

@@ -14,6 +14,7 @@ pub mod MovesOfArguments
 pub mod MovesOfTypes
 pub mod Kept
 pub mod FoundTokens
+pub mod LaneLemmas
 pub mod NamePlaces
 pub mod HashPlaces
 pub mod PathsRead

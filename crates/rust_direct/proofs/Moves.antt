@@ -1,5 +1,5 @@
 -- The moves of a writer of Rust symbols, over those of any language: names, numbers and paths.
-use Rattle.std.proofs.Common.{◌≡◌, ◌≢◌, ℕ, zero, suc, ◌+◌, ◌<◌, ◌≤◌, List, [], ◌∷◌, length, inl, inr, true, false, nat_le, Some, None, Ok, refl, ap, sym, subst, arith}
+use Rattle.std.proofs.Common.{◌≡◌, ℕ, zero, suc, ◌+◌, ◌<◌, ◌≤◌, List, [], ◌∷◌, length, inl, inr, true, false, nat_le, Some, None, Ok, refl, ap, sym, subst, arith}
 use Rattle.std.specs.Prelude.{slice_index, if◌then◌else◌}
 use Rattle.std.proofs.lemmas.Bool.{le-leb, leb-true, and_parts, or_cases, false≢true}
 use Rattle.sym_core.specs.declared.NumberKind.TheVariants.{Base62}
@@ -159,11 +159,6 @@ namespace-small b is = elim (or_cases (in_range (range 65 90) b) (in_ranges (ran
     | inr none ↦ absurd (false≢true none)
   ]
 ]
-
--- no namespace is named by a byte that is 0
-pub namespace-there : (b : ℕ) → is_namespace b ≡ true → b ≢ 0
-unfolding is_namespace
-namespace-there b is none = false≢true (subst (λ k. is_namespace k ≡ true) none is)
 
 takes-namespace : (b : ℕ) → is_namespace b ≡ true → TakesRule v0_table NAMESPACE namespace_rule (b ∷ [])
 unfolding is_namespace

@@ -1,23 +1,21 @@
 -- Where names are.
-use Rattle.std.proofs.Common.{◌≡◌, ◌≢◌, ℕ, ◌+◌, ◌-◌, ◌*◌, ◌≤◌, ◌<◌, suc, List, [], ◌∷◌, ◌++◌, length, take, drop, get_or, Bool, true, false, refl, ap, sym, subst, ◌∙◌, arith, append_assoc, append-nil}
+use Rattle.std.proofs.Common.{◌≡◌, ◌≢◌, ℕ, ◌+◌, ◌-◌, ◌*◌, ◌≤◌, ◌<◌, suc, List, [], ◌∷◌, ◌++◌, length, take, drop, get_or, Bool, true, false, refl, ap, sym, subst, ◌∙◌, arith, append_assoc, append-nil, add-zero}
 use Rattle.std.specs.Prelude.{◌||◌, ◌==◌}
 use Rattle.std.proofs.lemmas.List.{length-append, length-drop, length-take-le, take-append-drop, drop-drop}
-use Rattle.std.proofs.lemmas.Bool.{le-leb, eq-eqb, false≢true}
+use Rattle.std.proofs.lemmas.Bool.{le-leb, eq-eqb, ne_eqb, false≢true}
 use Rattle.std.proofs.Math.Seq.{drop-append_seam}
 use Rattle.sym_core.specs.declared.NameClass.TheVariants.{Rust}
 use Rattle.sym_core.specs.Number.{is_decimal_digit}
 use Rattle.sym_core.specs.Scan.{ReachesNameBytes}
-use Rattle.sym_core.specs.Token.{AreNameBytes, IsSeparator}
+use Rattle.sym_core.specs.Token.{is_name_byte, AreNameBytes, IsSeparator}
 use Rattle.sym_direct.specs.Holes.{StandsAt}
 use Rattle.sym_direct.proofs.Moves.{stands-join}
+use Rattle.rust_direct.specs.Lanes.{EachPasses}
 use Rattle.rust_direct.specs.Names.{IsLengthRead, IsNamePlace, goes_on}
+use Rattle.rust_direct.proofs.LaneLemmas.{piece-byte, piece-pass, whole-pass}
 
 digit-is : (b : ℕ) → 48 ≤ b → b ≤ 57 → is_decimal_digit b ≡ true
 digit-is b low high = cc (le-leb 48 b low, le-leb b 57 high)
-
--- a digit is no zero byte
-pub digit-byte : (b : ℕ) → is_decimal_digit b ≡ true → b ≢ 0
-digit-byte b digit none = cc (digit, ap (λ n. is_decimal_digit n) none)
 
 -- the bytes between two places, as a slice of a slice
 pub own-is : (s : List ℕ) (from size : ℕ) → take (from + size - from) (drop from s) ≡ take size (drop from s)
@@ -100,3 +98,58 @@ own-placed s at from size own r within few own_is apart each = (
     whole : drop at s ≡ ((r.digits ++ own) ++ []) ++ drop size (drop from s)
     whole = r.stands.1 ∙ ap (λ l. r.digits ++ l) parts ∙ sym (append_assoc r.digits own (drop size (drop from s)))
         ∙ ap (λ l. l ++ drop size (drop from s)) (sym (append-nil (r.digits ++ own)))
+
+-- the same, with its own bytes where they are
+pub own-there : (s : List ℕ) (at from size : ℕ) → IsLengthRead s at from size → from ≤ length s → size ≤ length s - from
+    → goes_on (get_or s from 0) ≡ false → EachPasses (is_name_byte Rust) s from (from + size - from)
+    → IsNamePlace s at (record { from = from; to = from + size; end = from + size })
+own-there s at from size r within few apart each =
+    own-placed s at from size (take size (drop from s)) r within few refl (subst (λ b. goes_on b ≡ false) first apart)
+    (λ k less. piece-pass (is_name_byte Rust) s from size (subst (EachPasses (is_name_byte Rust) s from) (back from size) each) k (omega (arith, counted, less)))
+  where
+    counted : length (take size (drop from s)) ≡ size
+    counted = length-take-le size (drop from s) (omega (arith, few, length-drop from s))
+
+    back : (from size : ℕ) → from + size - from ≡ size
+    back from size = omega arith
+
+    first : get_or s from 0 ≡ get_or (take size (drop from s)) 0 0
+    first = sym (piece-byte s from size 0 r.some ∙ ap (λ n. get_or s n 0) (add-zero from))
+
+-- neither a digit nor an '_' belongs to a length, or separates it from the name
+pub goes-apart : (b : ℕ) → is_decimal_digit b ≡ false → b ≢ 95 → goes_on b ≡ false
+goes-apart b digit mark = cc (digit, ne_eqb b 95 mark)
+
+-- each byte of a piece of the symbol may be in a name
+pub few-pass : (s : List ℕ) (at to : ℕ) → at ≤ to → to ≤ length s → ReachesNameBytes Rust (take (to - at) (drop at s)) (length (take (to - at) (drop at s)))
+    → EachPasses (is_name_byte Rust) s at (to - at)
+few-pass s at to low within each = whole-pass (is_name_byte Rust) s at (to - at) (λ k less. each k (omega (arith, less, counted)))
+  where
+    counted : length (take (to - at) (drop at s)) ≡ to - at
+    counted = length-take-le (to - at) (drop at s) (omega (arith, low, within, length-drop at s))
+
+-- an empty name: its length is 0
+pub none-placed : (s : List ℕ) (at : ℕ) → at < length s → StandsAt s at (48 ∷ []) → IsNamePlace s at (record { from = at + 1; to = at + 1; end = at + 1 })
+none-placed s at less stands = (
+  omega arith,
+  omega (arith, less),
+  record {
+    token = record { before = 48 ∷ []; own = []; behind = [] };
+    is_name = record {
+      digits = 48 ∷ [];
+      separator = [];
+      split = refl;
+      length_is = ((refl, tt), tt);
+      separated = tt;
+      each = tt;
+      counted = omega arith;
+      ends = refl;
+    };
+    own = sym (ap (λ n. take n (drop (at + 1) s)) (nothing (at + 1)));
+    stands = stands;
+    ends = omega arith;
+  },
+)
+  where
+    nothing : (n : ℕ) → n - n ≡ 0
+    nothing n = omega arith

@@ -169,11 +169,11 @@ nested-rooms brief forms.Typed letter p bytes count name is lower filled h = abs
 nested-rooms brief forms.Unnamed letter p bytes count name is lower filled h = absurd (false≢true is)
 
 -- its name is read
-pub nest-named : (brief : Bool) (s : List ℕ) (old middle last : Direct) (letter place from : ℕ) (f : Forms) (count behind_ : ℕ) (name : List ℕ) (end : ℕ)
+pub nest-named : (brief : Bool) (s : List ℕ) (old last : Direct) (letter place from : ℕ) (f : Forms) (count behind_ : ℕ) (name : List ℕ) (end : ℕ)
     → Receives brief s old (opens.Nest letter place) from f → is_path f ≡ true → 97 ≤ letter → IsDisambiguatorAt s old.at count behind_
-    → IsNameAt s behind_ name end → 1 ≤ length name → Writes old middle (codes "::") → Writes middle last name
+    → IsNameAt s behind_ name end → 1 ≤ length name → Writes old last (codes "::" ++ name)
     → IsEndedWithRoom brief s (record last { at = end }) place from f
-nest-named brief s old middle last letter place from f count behind_ name end arrives is lower counted named filled first second =
+nest-named brief s old last letter place from f count behind_ name end arrives is lower counted named filled write =
     let r = arrives.read in
     let held = path-held brief f r.v r.bytes is r.holds in
     let p = held.0 in
@@ -185,19 +185,18 @@ nest-named brief s old middle last letter place from f count behind_ name end ar
     let told = path-says brief f made (r.bytes ++ codes "::" ++ name) is has in
     let ended : IsEnded brief s (record last { at = end }) place from f f = record {
       before = arrives.state;
-      keeps = keeps-written brief s middle last name arrives.state second
-          (keeps-written brief s old middle (codes "::") arrives.state first arrives.keeps);
+      keeps = keeps-written brief s old last (codes "::" ++ name) arrives.state write arrives.keeps;
       os = waits.0;
       v = a_path made;
       front = r.front;
       bytes = r.bytes ++ codes "::" ++ name;
-      written = second.text ∙ ap (λ l. l ++ name) (first.text ∙ ap (λ l. l ++ codes "::") r.written ∙ append_assoc r.front r.bytes (codes "::"))
-          ∙ append_assoc r.front (r.bytes ++ codes "::") name;
+      written = write.text ∙ ap (λ l. l ++ (codes "::" ++ name)) r.written ∙ sym (append_assoc (r.front ++ r.bytes) (codes "::") name)
+          ∙ ap (λ l. l ++ name) (append_assoc r.front r.bytes (codes "::")) ∙ append_assoc r.front (r.bytes ++ codes "::") name;
       from_is = r.from_is;
       says = told.0;
       holds = told.1;
       comes = goes.onward one.0 (identifier count name) end (behind (within Production.Nested arrives.state)) one.1 one.2;
-      stands = stands-written brief s middle last name waits.0 r.front second (stands-written brief s old middle (codes "::") waits.0 r.front first waits.2);
+      stands = stands-written brief s old last (codes "::" ++ name) waits.0 r.front write waits.2;
     } in
     record { ended = ended; p = made; is = refl; has = has; room = nested-rooms brief f letter p r.bytes count name is lower filled held.2 }
 

@@ -1,6 +1,6 @@
 pub mod Holes
 pub mod Names
-pub mod Hashes
+pub mod Lanes
 pub mod Prints
 pub mod PrintsInForm
 pub mod Notes

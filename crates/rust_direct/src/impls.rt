@@ -16,6 +16,7 @@ use crate::showing::Showing;
 
 impl Direct {
     // <path> = "M" <impl-path> <type>
+    #[inline(always)]
     pub(crate) fn begin_impl<S: Showing>(&mut self, s: &[u8]) -> Option<Step>
         requires fits { FitsSymbol s.now }
         requires letter { StandsAt s.now self.old.at (77 ∷ []) }
@@ -25,7 +26,8 @@ impl Direct {
         let place = self.at;
         let behind = disambiguator_end(s, place.checked_add(1)?)?;
         if self.is_aside {
-            return self.begin_inner_impl::<S>(s, behind);
+            self.begin_inner_impl::<S>(s, behind)?;
+            return Some(Step::Path { is_value: false });
         }
         self.at = behind;
         self.waiting.push(Open::Impl { place })?;

@@ -1,14 +1,15 @@
 // Impls within hidden text: their paths are written before it, while nothing of it is written yet.
 
-ghost use Rattle.std.specs.Prelude.{◌≡◌, ◌+◌, ◌∷◌, [], reverse, true};
-ghost use Rattle.std.specs.Option.{IfSome};
+ghost use Rattle.std.specs.Prelude.{◌≡◌, ◌+◌, ◌∷◌, [], reverse, true, false};
+ghost use Rattle.std.specs.Option.{OnSome};
 ghost use Rattle.sym_direct.specs.Holes.{StandsAt};
+ghost use Rattle.rust_direct.specs.declared.open.Step.TheVariants as steps;
 ghost use Rattle.rust_direct.specs.Holes.{HasDisambiguator};
 ghost use Rattle.rust_direct.specs.WriterInvariant.{IsWriting, IsUnbegun};
 ghost use Rattle.rust_direct.specs.Awaits.{AwaitsPath};
 
 use crate::direct::Direct;
-use crate::open::{Open, Step};
+use crate::open::Open;
 use crate::showing::Showing;
 
 impl Direct {
@@ -36,18 +37,18 @@ impl Direct {
     /// The path of an impl follows that isn't shown itself.
     // <path> = "M" <impl-path> <type>
     #[inline(never)]
-    pub(crate) fn begin_inner_impl<S: Showing>(&mut self, _s: &[u8], behind: usize) -> Option<Step>
+    pub(crate) fn begin_inner_impl<S: Showing>(&mut self, _s: &[u8], behind: usize) -> Option<()>
         requires letter { StandsAt _s.now self.old.at (77 ∷ []) }
         requires behind { HasDisambiguator _s.now (self.old.at + 1) behind }
         requires awaits { AwaitsPath S.IS_BRIEF _s.now self.old }
-        ensures { IfSome result (IsWriting S.IS_BRIEF _s.now self.new) }
+        ensures { OnSome result (IsWriting S.IS_BRIEF _s.now self.new (steps.Path false)) }
     {
         if !self.is_unbegun() {
             return None;
         }
         let place = self.at;
         self.push_open(b"", Open::InnerImpl { place }, behind)?;
-        Some(Step::Path { is_value: false })
+        Some(())
     }
 
     /// The path of an impl of a trait follows that isn't shown itself.
@@ -57,17 +58,17 @@ impl Direct {
         &mut self,
         _s: &[u8],
         behind: usize,
-    ) -> Option<Step>
+    ) -> Option<()>
         requires letter { StandsAt _s.now self.old.at (88 ∷ []) }
         requires behind { HasDisambiguator _s.now (self.old.at + 1) behind }
         requires awaits { AwaitsPath S.IS_BRIEF _s.now self.old }
-        ensures { IfSome result (IsWriting S.IS_BRIEF _s.now self.new) }
+        ensures { OnSome result (IsWriting S.IS_BRIEF _s.now self.new (steps.Path false)) }
     {
         if !self.is_unbegun() {
             return None;
         }
         let place = self.at;
         self.push_open(b"", Open::InnerTraitImpl { place }, behind)?;
-        Some(Step::Path { is_value: false })
+        Some(())
     }
 }

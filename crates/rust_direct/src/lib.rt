@@ -12,6 +12,7 @@ mod direct;
 mod hashes;
 mod impls;
 mod inner;
+mod lanes;
 mod names;
 mod open;
 mod paths;

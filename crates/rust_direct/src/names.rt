@@ -1,13 +1,15 @@
 // The places of names.
 
-ghost use Rattle.std.specs.Prelude.{◌≡◌, ◌≤◌, length, true};
+ghost use Rattle.std.specs.Prelude.{◌≡◌, ◌≤◌, ◌-◌, length, get_or, true, false};
 ghost use Rattle.std.specs.Option.{IfSome};
 ghost use Rattle.sym_core.specs.declared.NameClass.TheVariants.{Rust};
 ghost use Rattle.sym_core.specs.Number.{FitsSymbol, is_decimal_digit};
 ghost use Rattle.sym_core.specs.Scan.{ReachesNameBytes};
 ghost use Rattle.sym_core.specs.Token.{is_name_byte};
+ghost use Rattle.rust_direct.specs.Lanes.{EachPasses};
 ghost use Rattle.rust_direct.specs.Names.{IsLengthRead, IsNamePlace, IsNameSpan, goes_on};
 
+use crate::lanes::{LANES, are_name_lanes};
 use sym_core::{NameClass, Span, TokenPlace, find_name};
 use sym_direct::byte_at;
 
@@ -52,8 +54,7 @@ fn named_fours(bytes: &[u8]) -> usize
 }
 
 /// Whether each byte may be in a name.
-#[inline(always)]
-fn are_name_bytes(bytes: &[u8]) -> bool
+fn are_few_name_bytes(bytes: &[u8]) -> bool
     ensures { result ≡ true → ReachesNameBytes Rust bytes.now (length bytes.now) }
 {
     let mut end = named_fours(bytes);
@@ -64,6 +65,44 @@ fn are_name_bytes(bytes: &[u8]) -> bool
         end += 1;
     }
     true
+}
+
+/// Whether at most sixteen bytes between two places may be in a name, seen from those and the bytes before them: most bytes
+/// before a name are those of other names and of lengths.
+#[inline(always)]
+fn are_last_name_bytes(s: &[u8], from: usize, to: usize) -> bool
+    requires from { from ≤ to }
+    requires within { to ≤ length s.now }
+    ensures { result ≡ true → EachPasses (is_name_byte Rust) s.now from (to - from) }
+{
+    if to - from > LANES || to < LANES {
+        return false;
+    }
+    are_name_lanes(s, to - LANES)
+}
+
+/// Whether each of the bytes between two places may be in a name, however many they are.
+#[inline(never)]
+fn are_any_name_bytes(s: &[u8], from: usize, to: usize) -> bool
+    requires from { from ≤ to }
+    requires within { to ≤ length s.now }
+    ensures { result ≡ true → EachPasses (is_name_byte Rust) s.now from (to - from) }
+{
+    let mut at = from;
+    'lanes: while to - at >= LANES && are_name_lanes(s, at) {
+        at += LANES;
+    }
+    are_last_name_bytes(s, at, to) || are_few_name_bytes(&s[at..to])
+}
+
+/// Whether each of the bytes between two places may be in a name.
+#[inline(always)]
+fn are_name_bytes(s: &[u8], from: usize, to: usize) -> bool
+    requires from { from ≤ to }
+    requires within { to ≤ length s.now }
+    ensures { result ≡ true → EachPasses (is_name_byte Rust) s.now from (to - from) }
+{
+    are_last_name_bytes(s, from, to) || are_any_name_bytes(s, from, to)
 }
 
 /// Whether a byte is a decimal digit.
@@ -112,7 +151,7 @@ fn any_name_span(s: &[u8], at: usize) -> Option<Span>
 
 /// The name at a place; its length may have any number of digits.
 #[inline(always)]
-fn any_name_at(s: &[u8], at: usize) -> Option<TokenPlace>
+pub fn any_name_at(s: &[u8], at: usize) -> Option<TokenPlace>
     requires { FitsSymbol s.now }
     ensures { IfSome result (IsNamePlace s.now at) }
 {
@@ -125,28 +164,56 @@ fn any_name_at(s: &[u8], at: usize) -> Option<TokenPlace>
     })
 }
 
-/// The name at a place, once this much of its length is read.
+/// The name at a place, once its length is read.
 #[inline(always)]
-fn own_at(s: &[u8], at: usize, from: usize, size: usize) -> Option<TokenPlace>
+fn own_at(s: &[u8], _at: usize, from: usize, size: usize) -> Option<TokenPlace>
     requires fits { FitsSymbol s.now }
-    requires read { IsLengthRead s.now at from size }
-    ensures { IfSome result (IsNamePlace s.now at) }
+    requires read { IsLengthRead s.now _at from size }
+    requires within { from ≤ length s.now }
+    requires apart { goes_on (get_or s.now from 0) ≡ false }
+    ensures { IfSome result (IsNamePlace s.now _at) }
 {
-    if from > s.len() {
-        return None;
-    }
     if size > s.len() - from {
         return None;
     }
     let to = from + size;
-    let own = &s[from..to];
-    if goes_on(own[0]) {
-        return any_name_at(s, at);
-    }
-    if !are_name_bytes(own) {
+    if !are_name_bytes(s, from, to) {
         return None;
     }
     Some(TokenPlace { from, to, end: to })
+}
+
+/// The name at a place, if its length has one digit or two and nothing after it.
+// <undisambiguated-identifier> = <decimal-number> ["_"] <bytes>
+#[inline(always)]
+pub fn short_name_at(s: &[u8], at: usize) -> Option<TokenPlace>
+    requires { FitsSymbol s.now }
+    ensures { IfSome result (IsNamePlace s.now at) }
+{
+    let first = byte_at(s, at);
+    if first < b'1' || b'9' < first {
+        return None;
+    }
+    let behind = at.checked_add(1)?;
+    if behind >= s.len() {
+        return None;
+    }
+    let second = s[behind];
+    if second == b'_' {
+        return None;
+    }
+    if !is_digit(second) {
+        return own_at(s, at, behind, (first - b'0') as usize);
+    }
+    let from = behind + 1;
+    if from >= s.len() {
+        return None;
+    }
+    if goes_on(s[from]) {
+        return None;
+    }
+    let size = 10 * (first - b'0') as usize + (second - b'0') as usize;
+    own_at(s, at, from, size)
 }
 
 /// The name at a place: most have a length of one digit or two, and nothing after it.
@@ -156,16 +223,29 @@ pub fn name_at(s: &[u8], at: usize) -> Option<TokenPlace>
     requires { FitsSymbol s.now }
     ensures { IfSome result (IsNamePlace s.now at) }
 {
-    let first = byte_at(s, at);
-    if first < b'1' || b'9' < first {
-        return any_name_at(s, at);
+    if let Some(name) = short_name_at(s, at) {
+        return Some(name);
     }
-    let second_at = at.checked_add(1)?;
-    let second = byte_at(s, second_at);
-    if !is_digit(second) {
-        return own_at(s, at, second_at, (first - b'0') as usize);
+    any_name_at(s, at)
+}
+
+/// The name at a place where most are empty, as that of a closure.
+// <undisambiguated-identifier> = <decimal-number> ["_"] <bytes>
+#[inline(always)]
+pub fn special_name_at(s: &[u8], at: usize) -> Option<TokenPlace>
+    requires { FitsSymbol s.now }
+    ensures { IfSome result (IsNamePlace s.now at) }
+{
+    if at >= s.len() {
+        return None;
     }
-    let from = second_at.checked_add(1)?;
-    let size = 10 * (first - b'0') as usize + (second - b'0') as usize;
-    own_at(s, at, from, size)
+    if s[at] != b'0' {
+        return name_at(s, at);
+    }
+    let end = at + 1;
+    Some(TokenPlace {
+        from: end,
+        to: end,
+        end,
+    })
 }

@@ -1,20 +1,25 @@
 // Paths.
 
-ghost use Rattle.std.specs.Prelude.{◌≤◌, ◌<◌, ◌∷◌, [], length, false};
+ghost use Rattle.std.specs.Prelude.{◌≡◌, ◌≤◌, ◌<◌, ◌+◌, ◌∷◌, [], length, true, false};
 ghost use Rattle.std.specs.Option.{IfSome, OnSome};
 ghost use Rattle.sym_core.specs.Number.{FitsSymbol};
 ghost use Rattle.sym_direct.specs.Holes.{StandsAt};
 ghost use Rattle.rust_direct.specs.declared.open.Step.TheVariants as steps;
 ghost use Rattle.rust_direct.specs.declared.open.Open.TheVariants as opens;
+ghost use Rattle.rust_direct.specs.declared.open.Forms.TheVariants as looks;
+ghost use Rattle.rust_direct.specs.Holes.{HasDisambiguator};
+ghost use Rattle.rust_direct.specs.Names.{IsNamePlace};
+ghost use Rattle.rust_direct.specs.PrintsInForm.{is_path};
 ghost use Rattle.rust_direct.specs.WriterInvariant.{IsWriting};
-ghost use Rattle.rust_direct.specs.Awaits.{Awaits, AwaitsPath, Receives, IsEndedWithRoom};
+ghost use Rattle.rust_direct.specs.Awaits.{Awaits, AwaitsPath, Receives, IsEnded, IsEndedWithRoom};
 
 use crate::direct::Direct;
 use crate::hashes::disambiguator_end;
-use crate::names::name_at;
+use crate::names::{any_name_at, name_at, short_name_at};
 use crate::open::{Forms, Open, Step, is_path};
 use crate::showing::Showing;
 use crate::tokens::{is_namespace, number_at};
+use sym_core::TokenPlace;
 use sym_direct::byte_at;
 
 impl Direct {
@@ -64,13 +69,45 @@ impl Direct {
         let place = self.at;
         let from = self.text.len();
         let behind = disambiguator_end(s, place.checked_add(1)?)?;
-        let name = name_at(s, behind)?;
+        if let Some(name) = short_name_at(s, behind) {
+            self.crate_named::<S>(s, behind, name)?;
+            return self.ended::<S>(s, place, from, Forms::Alike, Forms::Alike);
+        }
+        self.crate_named_anyhow::<S>(s, behind)?;
+        self.ended::<S>(s, place, from, Forms::Alike, Forms::Alike)
+    }
+
+    /// Reads the name of a crate, whatever its length is.
+    // A call of its own: so a common name is written without another test of whether one was found.
+    // <path> = "C" <identifier>
+    #[inline(never)]
+    fn crate_named_anyhow<S: Showing>(&mut self, s: &[u8], behind: usize) -> Option<()>
+        requires fits { FitsSymbol s.now }
+        requires letter { StandsAt s.now self.old.at (67 ∷ []) }
+        requires awaits { AwaitsPath S.IS_BRIEF s.now self.old }
+        requires counted { HasDisambiguator s.now (self.old.at + 1) behind }
+        ensures { OnSome result (IsEnded S.IS_BRIEF s.now self.new self.old.at (length self.old.text.list.items) looks.Alike looks.Alike) }
+    {
+        let name = any_name_at(s, behind)?;
+        self.crate_named::<S>(s, behind, name)
+    }
+
+    /// Writes the name of a crate.
+    // <path> = "C" <identifier>
+    #[inline(always)]
+    fn crate_named<S: Showing>(&mut self, s: &[u8], _behind: usize, name: TokenPlace) -> Option<()>
+        requires letter { StandsAt s.now self.old.at (67 ∷ []) }
+        requires awaits { AwaitsPath S.IS_BRIEF s.now self.old }
+        requires counted { HasDisambiguator s.now (self.old.at + 1) _behind }
+        requires named { IsNamePlace s.now _behind name }
+        ensures { OnSome result (IsEnded S.IS_BRIEF s.now self.new self.old.at (length self.old.text.list.items) looks.Alike looks.Alike) }
+    {
         if name.from >= name.to {
             return None;
         }
         self.push_part(s, name.from, name.to)?;
         self.at = name.end;
-        self.ended::<S>(s, place, from, Forms::Alike, Forms::Alike)
+        Some(())
     }
 
     // <path> = "N" <namespace> <path> <identifier>
@@ -83,11 +120,14 @@ impl Direct {
     {
         let place = self.at;
         let behind = place.checked_add(1)?;
-        let letter = byte_at(s, behind);
+        if behind >= s.len() {
+            return None;
+        }
+        let letter = s[behind];
         if !is_namespace(letter) {
             return None;
         }
-        self.at = behind.checked_add(1)?;
+        self.at = behind + 1;
         self.waiting.push(Open::Nest { letter, place })?;
         Some(())
     }
@@ -113,12 +153,63 @@ impl Direct {
             return None;
         }
         let behind = disambiguator_end(s, self.at)?;
-        let name = name_at(s, behind)?;
+        if let Some(name) = short_name_at(s, behind) {
+            return self.nest_named::<S>(s, from, forms, letter, place, behind, name);
+        }
+        self.nest_named_anyhow::<S>(s, from, forms, letter, place, behind)
+    }
+
+    /// Reads the name after the parent of a path in a namespace, whatever its length is.
+    // A call of its own, for the same reason as the name of a crate.
+    // <path> = "N" <namespace> <path> <identifier>
+    #[inline(never)]
+    fn nest_named_anyhow<S: Showing>(
+        &mut self,
+        s: &[u8],
+        from: usize,
+        forms: Forms,
+        letter: u8,
+        place: usize,
+        behind: usize,
+    ) -> Option<()>
+        requires fits { FitsSymbol s.now }
+        requires lower { 97 ≤ letter }
+        requires path { is_path forms ≡ true }
+        requires arrives { Receives S.IS_BRIEF s.now self.old (opens.Nest letter place) from forms }
+        requires counted { HasDisambiguator s.now self.old.at behind }
+        ensures writing { OnSome result (IsWriting S.IS_BRIEF s.now self.new (steps.Value from forms)) }
+        ensures waiting { OnSome result (length self.new.waiting.list.items ≤ length self.old.waiting.list.items) }
+    {
+        let name = any_name_at(s, behind)?;
+        self.nest_named::<S>(s, from, forms, letter, place, behind, name)
+    }
+
+    /// Writes the name after the parent of a path in a namespace.
+    // <path> = "N" <namespace> <path> <identifier>
+    #[inline(always)]
+    fn nest_named<S: Showing>(
+        &mut self,
+        s: &[u8],
+        from: usize,
+        forms: Forms,
+        _letter: u8,
+        place: usize,
+        _behind: usize,
+        name: TokenPlace,
+    ) -> Option<()>
+        requires fits { FitsSymbol s.now }
+        requires lower { 97 ≤ _letter }
+        requires path { is_path forms ≡ true }
+        requires arrives { Receives S.IS_BRIEF s.now self.old (opens.Nest _letter place) from forms }
+        requires counted { HasDisambiguator s.now self.old.at _behind }
+        requires named { IsNamePlace s.now _behind name }
+        ensures writing { OnSome result (IsWriting S.IS_BRIEF s.now self.new (steps.Value from forms)) }
+        ensures waiting { OnSome result (length self.new.waiting.list.items ≤ length self.old.waiting.list.items) }
+    {
         if name.from >= name.to {
             return None;
         }
-        self.push_pair(b':', b':')?;
-        self.push_part(s, name.from, name.to)?;
+        self.push_name(s, name.from, name.to)?;
         self.at = name.end;
         self.named_ended::<S>(s, place, from, forms)
     }

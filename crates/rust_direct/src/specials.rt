@@ -12,7 +12,7 @@ ghost use Rattle.rust_direct.specs.WriterInvariant.{IsWriting};
 ghost use Rattle.rust_direct.specs.Awaits.{Receives};
 
 use crate::direct::Direct;
-use crate::names::name_at;
+use crate::names::special_name_at;
 use crate::open::{Forms, Step, is_path};
 use crate::showing::Showing;
 use crate::tokens::disambiguator_at;
@@ -64,7 +64,7 @@ impl Direct {
         ensures { IfSome result (IsWriting S.IS_BRIEF s.now self.new) }
     {
         let (count, behind) = disambiguator_at(s, self.at)?;
-        let name = name_at(s, behind)?;
+        let name = special_name_at(s, behind)?;
         self.push_special(namespace, &s[name.from..name.to], count)?;
         self.at = name.end;
         self.ended::<S>(s, place, from, forms, forms)
@@ -87,6 +87,9 @@ impl Direct {
     pub(crate) fn push_decimal(&mut self, value: u64) -> Option<()>
         ensures { OnSome result (Writes self.old self.new (decimal value)) }
     {
+        if value < 10 {
+            return self.push_byte(b'0' + value as u8);
+        }
         let mut buffer = Buffer::new();
         self.push(buffer.format(value).as_bytes())?;
         Some(())

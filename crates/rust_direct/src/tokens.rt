@@ -63,18 +63,22 @@ pub fn is_suffix(bytes: &[u8]) -> bool
     are_suffix_bytes(&bytes[1..])
 }
 
-/// The number of one digit in base 62 at a place, and the place after it.
+/// The number in base 62 at a place, if it has this many digits, and the place after it.
 // <base-62-number> = {<0-9a-zA-Z>} "_"
 #[inline(always)]
-fn short_number_at(s: &[u8], at: usize) -> Option<(u64, usize)>
-    requires { FitsSymbol s.now }
+fn short_number_at(s: &[u8], at: usize, count: usize) -> Option<(u64, usize)>
+    requires fits { FitsSymbol s.now }
+    requires few { count ≤ 11 }
     ensures { IfSome result (λ found. IsNumberAt s.now at found.0 found.1) }
 {
-    let mark = at.checked_add(1)?;
-    if mark > s.len() {
+    if at > s.len() {
         return None;
     }
-    if byte_at(s, mark) != b'_' {
+    if count >= s.len() - at {
+        return None;
+    }
+    let mark = at + count;
+    if s[mark] != b'_' {
         return None;
     }
     let value = value62(&s[at..mark])?;
@@ -96,14 +100,17 @@ fn any_number_at(s: &[u8], at: usize) -> Option<(u64, usize)>
     Some((value, place.end))
 }
 
-/// The number in base 62 at a place, and the place after it: most have one digit.
+/// The number in base 62 at a place, and the place after it: most have one digit or two.
 // <base-62-number> = {<0-9a-zA-Z>} "_"
 #[inline(always)]
 pub fn number_at(s: &[u8], at: usize) -> Option<(u64, usize)>
     requires { FitsSymbol s.now }
     ensures { IfSome result (λ found. IsNumberAt s.now at found.0 found.1) }
 {
-    if let Some(found) = short_number_at(s, at) {
+    if let Some(found) = short_number_at(s, at, 1) {
+        return Some(found);
+    }
+    if let Some(found) = short_number_at(s, at, 2) {
         return Some(found);
     }
     any_number_at(s, at)

@@ -15,6 +15,7 @@ use crate::showing::Showing;
 
 impl Direct {
     // <path> = "X" <impl-path> <type> <path>
+    #[inline(always)]
     pub(crate) fn begin_trait_impl<S: Showing>(&mut self, s: &[u8]) -> Option<Step>
         requires fits { FitsSymbol s.now }
         requires letter { StandsAt s.now self.old.at (88 ∷ []) }
@@ -24,7 +25,8 @@ impl Direct {
         let place = self.at;
         let behind = disambiguator_end(s, place.checked_add(1)?)?;
         if self.is_aside {
-            return self.begin_inner_trait_impl::<S>(s, behind);
+            self.begin_inner_trait_impl::<S>(s, behind)?;
+            return Some(Step::Path { is_value: false });
         }
         self.at = behind;
         self.waiting.push(Open::TraitImpl { place })?;
@@ -86,6 +88,7 @@ impl Direct {
     }
 
     // <path> = "Y" <type> <path>
+    #[inline(always)]
     pub(crate) fn begin_trait<S: Showing>(&mut self, s: &[u8]) -> Option<Step>
         requires letter { StandsAt s.now self.old.at (89 ∷ []) }
         requires awaits { AwaitsPath S.IS_BRIEF s.now self.old }

@@ -47,7 +47,8 @@ fn basic_text(letter: u8) -> &'static [u8]
 }
 
 impl Direct {
-    /// Reads a type, up to the first type in it.
+    /// Reads a type, up to the first type in it. A crate, an impl or a trait is no type of any program: as a type, it is left to
+    /// the general way.
     // <type> = <basic-type> | <path> | "S" <type> | "T" {<type>} "E" | "R" [<lifetime>] <type> | "Q" [<lifetime>] <type> | "P" <type>
     //        | "O" <type> | <backref> | ..
     pub(crate) fn type_at<S: Showing>(&mut self, s: &[u8]) -> Option<Step>
@@ -56,7 +57,6 @@ impl Direct {
         ensures { IfSome result (IsWriting S.IS_BRIEF s.now self.new) }
     {
         match byte_at(s, self.at) {
-            b'C' => self.crate_root::<S>(s),
             b'N' => {
                 self.begin_nest::<S>(s)?;
                 Some(Step::Path { is_value: false })
@@ -65,9 +65,6 @@ impl Direct {
                 self.begin_generic::<S>(s, false)?;
                 Some(Step::Path { is_value: false })
             }
-            b'M' => self.begin_impl::<S>(s),
-            b'X' => self.begin_trait_impl::<S>(s),
-            b'Y' => self.begin_trait::<S>(s),
             b'R' => self.begin_shared::<S>(s),
             b'Q' => self.begin_mutable::<S>(s),
             b'P' => self.begin_const::<S>(s),

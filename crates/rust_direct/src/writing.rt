@@ -30,6 +30,16 @@ impl Direct {
         self.text.push_part(bytes, from, to)
     }
 
+    /// Writes a name after colons: the bytes from a place to another one.
+    #[inline(always)]
+    pub(crate) fn push_name(&mut self, bytes: &[u8], from: usize, to: usize) -> Option<()>
+        requires from { from ≤ to }
+        requires to { to ≤ length bytes.now }
+        ensures { OnSome result (Writes self.old self.new (58 ∷ 58 ∷ piece bytes.now from to)) }
+    {
+        self.text.push_behind_pair(b':', b':', bytes, from, to)
+    }
+
     /// Writes a byte.
     #[inline(always)]
     pub(crate) fn push_byte(&mut self, byte: u8) -> Option<()>

@@ -1,4 +1,4 @@
--- What the production of a node says of its tree, and so of how its text is marked, and of what its name is.
+-- The tree of a node by the node's production, and so how its text is marked and what its name is.
 use Rattle.std.proofs.Common.{◌≡◌, ℕ, ◌<◌, length, slice_get, Option, Some, None, Bool, true, false, refl, sym, ap, ◌∙◌, arith, subst}
 use Rattle.std.specs.Prelude.{if◌then◌else◌, nat_le, ◌&&◌}
 use Rattle.std.proofs.lemmas.Bool.{ne_eqb}

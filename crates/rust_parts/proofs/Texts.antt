@@ -44,7 +44,7 @@ text-first b m t same = ap (λ x. b ++ x) same
 text-after : (r : Role) (o : Ordinal) (b c : List ℕ) (rest : Marked) (t : List ℕ) → shown rest ≡ t → shown (text b (alone r o c rest)) ≡ b ++ (c ++ t)
 text-after r o b c rest t same = text-first b (alone r o c rest) (c ++ t) (text-alone r o c rest ∙ ap (λ x. c ++ x) same)
 
--- all of it in one part, after a text
+-- a whole marked text in one part, after a text
 text-inside : (r : Role) (o : Ordinal) (b : List ℕ) (m : Marked) (t : List ℕ) → shown m ≡ t → shown (marked r o (text b m) marks.done) ≡ b ++ t
 unfolding marks.text_of
 text-inside r o b m t same = append-nil _ ∙ ap (λ x. b ++ x) same

@@ -17,7 +17,7 @@ abbrev pub argument : (list number : ℕ) → Ordinal
 argument list number = record { item = list; element = number }
 
 unfoldable mutual
-  -- the arguments of a list from one on, by their numbers; the comma before it is in none
+  -- the arguments of a list from one on, by their numbers; a comma is in no argument
   pub elements : (list number : ℕ) → Unshared → Marked
   elements list number (item one rest) = alone role.GenericArgument (argument list number) (text_of one) (listed list (number + 1) rest)
   elements list number (bytes comma (item one rest)) =

@@ -1,4 +1,4 @@
--- What of a Rust symbol is taken apart later, and which marks it leads to.
+-- The pieces of a Rust symbol that are taken apart later, and the marks that they lead to.
 use Rattle.std.specs.Prelude.{ℕ, ◌+◌, ◌*◌, ◌<◌, ◌≤◌, List, length}
 use Rattle.rust_tree.specs.declared.context.Context.{Context}
 use Rattle.rust_tree.specs.Layout.{ReadSymbol, unshared_of, bytes_of_part, MayCome}
@@ -27,19 +27,19 @@ IsPayable y most i = split.IsPayable (unshared_of y) (bytes_of_part y) (MayCome 
 abbrev pub ArePayable : ReadSymbol → (most : ℕ) → List (Part Context) → Type 0
 ArePayable y most parts = split.ArePayable (unshared_of y) (bytes_of_part y) (MayCome y) most parts
 
--- the marks of what is taken apart later
+-- the marks of a piece that is taken apart later
 unfoldable pub marked_of : ReadSymbol → Apart → Marked
 marked_of y (apart.Name lists node i) = name lists (path_at y node) (unshared_of y i)
 marked_of y (apart.Scope lists node i) = scope lists (path_at y node) (unshared_of y i)
 marked_of y (apart.Elements list number i) = elements list number (unshared_of y i)
 
--- It is of the symbol, and its item costs at most this much. What is counted has room for all that the item prints.
+-- A piece of the symbol, whose item costs at most this much. Its count has room for all that the item prints.
 unfoldable pub IsApart : ReadSymbol → (most : ℕ) → Apart → Type 0
 IsApart y most (apart.Name lists node i) = (node < length y.table.nodes) × IsPayable y most i × (lists + cost_of (unshared_of y i) ≤ most)
 IsApart y most (apart.Scope lists node i) = (node < length y.table.nodes) × IsPayable y most i × (lists + cost_of (unshared_of y i) ≤ most)
 IsApart y most (apart.Elements list number i) = IsPayable y most i × (number + cost_of (unshared_of y i) ≤ most)
 
--- how many steps it takes at most
+-- how many steps a piece takes at most
 unfoldable pub weight_of : ReadSymbol → Apart → ℕ
 weight_of y (apart.Name lists node i) = 4 * steps_of (unshared_of y i)
 weight_of y (apart.Scope lists node i) = 4 * steps_of (unshared_of y i)

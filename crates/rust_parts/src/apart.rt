@@ -1,9 +1,9 @@
-// What of a symbol is taken apart later.
+// The pieces of a symbol that are taken apart later.
 
 use rust_tree::Context;
 use sym_print::Item;
 
-/// What is taken apart later. With an item is the node of its path.
+/// A piece that is taken apart later. An item comes with the node of its path.
 #[derive(Clone, Copy)]
 pub(crate) enum Apart {
     /// The path of a name, before this many lists of arguments.

@@ -386,7 +386,7 @@ suffix-rest (branch rule taken (grown first rest)) (takes, are) = go (in_ranges 
         let eats : rule.eats ≡ true = ap (λ r. r.eats) (sym (same_Some _ _ is)) in
         rw (taken-byte rule.eats taken takes.byte takes.takes eats, none-spelled rest trees.1, append-nil (spell first)) ((takes.is_byte, inside), more trees.0)
 
--- its first byte
+-- the first byte of a suffix
 suffix-first : (tree : Shape) → IsTree v0_table (Kind 4) tree → (b : ℕ) × (spell tree ≡ b ∷ []) × (b < 256) × (in_ranges suffix_bytes b ≡ true)
 suffix-first empty is = cc
 suffix-first (token t) is = absurd is

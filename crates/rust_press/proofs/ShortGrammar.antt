@@ -1,4 +1,4 @@
--- How what each rule of the grammar makes is pressed, by how its parts are pressed.
+-- How the result of each rule of the grammar is pressed, by how the rule's parts are pressed.
 use Rattle.std.proofs.Common.{◌≡◌, ℕ, zero, suc, ◌+◌, ◌*◌, ◌≤◌, inl, inr, length, List, [], ◌∷◌, ◌++◌, Option, Some, None, Bool, true, false, Ok, refl, ap, arith, sym, ◌∙◌}
 use Rattle.std.specs.Prelude.{get_or, if◌then◌else◌, nat_le, nat_lt, ◌&&◌, Result, Err}
 use Rattle.sym_core.specs.declared.NumberKind.TheVariants.{Base62, Hex}

@@ -1,4 +1,4 @@
--- What pressing keeps: what is pressed is spelled by a shape of the grammar, which is read as what was pressed, after any
+-- What pressing keeps: pressed bytes are spelled by a shape of the grammar, which is read as what was pressed, after any
 -- spelled beginning.
 use Rattle.std.specs.Prelude.{◌≡◌, ℕ, ◌+◌, ◌<◌, ◌≤◌, List, [], ◌∷◌, ◌++◌, length, Bool, Option, Some, None, Ok}
 use Rattle.sym_shape.specs.declared.rule.Rule.{Rule}

@@ -141,7 +141,7 @@ pub record ArePushed (y : ReadSymbol) (parts : List Tree) (old new : List Task) 
   pub weight : weight_of_tasks y new ≡ weight_of_trees parts + weight_of_tasks y old
   pub nodes : AreTasks y old → AreTasks y new
 
--- The places are by number: where the first component begins that equals the tree of the number.
+-- The places by number: where the first component that equals the number's tree begins.
 abbrev pub ArePlaces : ReadSymbol → (numbers : List ℕ) → List (Option ℕ) → List Component → Type 0
 ArePlaces y numbers places cs =
     (i : ℕ) (t : Tree) → slice_get (trees_of y) i ≡ Some t → slice_get places (number_at numbers i) ≡ Some (first_place t cs)

@@ -12,8 +12,8 @@ use std::alloc::Global;
 use sym_core::Refusal;
 use sym_spell::{Firsts, Marked, Numbers, text_mark};
 
-/// The key of a node: what nodes with equal trees have alike. It has the first `count` parts, each by the first node
-/// that equals it.
+/// The key of a node: what nodes with equal trees have in common. It has the first `count` parts, each by the first node that
+/// equals it.
 #[derive(Clone, Copy, PartialEq, Eq, PartialOrd, Ord)]
 struct Key<'a> {
     production: u16,
@@ -24,7 +24,7 @@ struct Key<'a> {
     second_text: &'a [u8],
 }
 
-/// The mark of a key: a number that equal keys have alike, in few instructions.
+/// The mark of a key: a number that equal keys share, computed in few instructions.
 impl<'a> Marked for Key<'a> {
     ghost use Rattle.rust_press.specs.Marks.{mark_of, marked-alike};
 
@@ -98,8 +98,8 @@ pub(crate) fn first_nodes(alloc: Global, symbol: &Symbol) -> Result<Vec<u32>, Re
     Ok(firsts)
 }
 
-/// Numbers the nodes of a Rust symbol. A tree that no node before has gets the next number, counted from 0. Two look-ups are made for
-/// each node: one by what the node has alike with those that equal it, and one of the first of these in a table.
+/// Numbers the nodes of a Rust symbol. A tree that no earlier node has gets the next number, counted from 0. Each node takes
+/// two look-ups: one by what equal nodes have in common, and one of the first of them in a table.
 ///
 /// # Errors
 ///

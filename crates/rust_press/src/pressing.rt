@@ -51,7 +51,7 @@ fn first_of(firsts: &[u32], node: u32) -> u32
     firsts[node as usize]
 }
 
-/// Spells a node up to its parts, or writes a reference where one like it is spelled out already.
+/// Spells a node up to its parts, or writes a reference where an equal one is spelled out already.
 fn press_node(
     symbol: &Symbol,
     firsts: &[u32],

@@ -21,13 +21,14 @@ use Rattle.rust_tree.specs.declared.node.Constant.{Constant}
 use Rattle.rust_tree.specs.declared.node.Whole.{Whole}
 use Rattle.rust_tree.specs.declared.node.Entry.{Entry}
 
--- a table: its nodes, each with the number of lifetimes that it needs, and the text list; and how many nodes and bytes
--- fit without taking memory
+-- a table: its nodes, each with the number of lifetimes that it needs, and the text list; how many nodes and bytes fit
+-- without taking memory; and the most nodes that there were when it was cleared
 pub record Table : Type 0 where
   pub nodes : List Entry
   pub text : List ℕ
   pub node_room : ℕ
   pub text_room : ℕ
+  pub most : ℕ
 
 -- ## The tree of a node, over those of earlier nodes. A missing node is an empty tree.
 

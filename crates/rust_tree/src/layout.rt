@@ -1,13 +1,14 @@
 // A symbol as a layout, and its text.
 #![tactic(auto)]
 
-ghost use Rattle.std.specs.Prelude.{◌≡◌, ◌+◌, ◌<◌, ◌≤◌, [], true, vec_len, vec_capacity, IfOk, IfErr, OnOk, ◌⊎◌, Err};
+ghost use Rattle.std.specs.Prelude.{◌≡◌, ◌+◌, ◌<◌, ◌≤◌, [], true, vec_len, vec_capacity, IfOk, IfErr, IfSome, OnOk, ◌⊎◌, Err};
 ghost use Rattle.std.specs.List.{All};
 ghost use Rattle.sym_core.specs.declared.Refusal.{Refusal};
 ghost use Rattle.sym_print.specs.declared.layout.Part.{Part};
 ghost use Rattle.sym_print.specs.declared.detail.Detail.{Detail};
 ghost use Rattle.sym_print.specs.Unshared.{text_of, cost_of};
 ghost use Rattle.sym_print.specs.Joined.{joined};
+ghost use Rattle.sym_print.specs.Runs.{IsRun};
 ghost use Rattle.sym_print.specs.Stacked.{Stacked};
 ghost use Rattle.rust_tree.specs.Layout.{unshared_of, bytes_of_part, MayCome, Shows, shown_symbol};
 
@@ -17,7 +18,7 @@ use crate::symbol::Symbol;
 use crate::texts;
 use arrayvec::ArrayVec;
 use sym_core::Refusal;
-use sym_print::{Detail, Item, Layout, Part, PartList, print};
+use sym_print::{Detail, Item, Layout, Part, PartList, Run, print};
 
 impl Layout for Symbol {
     ghost use Rattle.std.proofs.Common.{lit≤};
@@ -68,6 +69,22 @@ impl Layout for Symbol {
             && one.form == other.form
             && one.at == other.at
             && one.ctx == other.ctx
+    }
+
+    /// No run is looked for.
+    #[inline(always)]
+    fn begins_run(&self, _item: Item<Context>) -> bool
+        requires may_come { MayCome self.now (Part.Sub _item) }
+    {
+        false
+    }
+
+    /// No items are taken at once: in a Rust symbol few items that lie within one another have one part each.
+    fn run(&self, _item: Item<Context>) -> Option<Run<Context>>
+        requires may_come { MayCome self.now (Part.Sub _item) }
+        ensures run { IfSome result (λ run. IsRun (unshared_of self.now) (bytes_of_part self.now) (MayCome self.now) _item run) }
+    {
+        None
     }
 
     #[inline(always)]

@@ -157,9 +157,11 @@ pub struct Whole {
     pub suffix: Span,
 }
 
-/// A node in a table, and how many enclosing bound lifetimes close its tree.
+/// A node in a table, and how many enclosing bound lifetimes close its tree, in 56 bytes.
 #[derive(Clone, Copy)]
 pub struct Entry {
     pub node: Node,
     pub need: u64,
 }
+
+const _: () = prove!(std::mem::size_of::<Entry>() == 56);

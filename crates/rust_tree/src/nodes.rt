@@ -1,7 +1,7 @@
 // A table of nodes, and the text list.
 #![tactic(auto)]
 
-ghost use Rattle.std.specs.Prelude.{◌≡◌, ℕ, ◌+◌, ◌*◌, ◌<◌, ◌≤◌, ◌^◌, ◌++◌, [], List, length, slice_get, Some, true, IfOk, IfErr, OnErr, OnOk, ◌⊎◌};
+ghost use Rattle.std.specs.Prelude.{◌≡◌, ℕ, ◌+◌, ◌*◌, ◌<◌, ◌≤◌, ◌^◌, ◌++◌, [], List, length, slice_get, Some, true, IfOk, IfErr, OnErr, OnOk, ◌⊎◌, max, vec_len, vec_capacity};
 ghost use Rattle.rust_tree.specs.Nodes.{Table, IsTable, Makes, Grows, trees, IsWithin, bytes_at};
 ghost use Rattle.rust_tree.specs.Needs.{need_at, path_needs, arguments_need, type_needs, types_need, bounds_need, bindings_need, symbol_needs, needs};
 ghost use Rattle.rust_tree.specs.Tree.{Tree, need_of_tree};
@@ -9,27 +9,72 @@ ghost use Rattle.sym_core.specs.declared.Refusal.{Refusal};
 ghost use Rattle.sym_core.specs.declared.NameClass.{NameClass};
 ghost use Rattle.sym_core.specs.Token.{AreNameBytes};
 ghost use Rattle.sym_core.specs.Printed.{printed_name, signed_text, IsDecoded};
+ghost use Rattle.sym_room.specs.Room.{IsGrown, most_for};
 
 use crate::node::{Arguments, Bindings, Bounds, Entry, Node, Path, Ty, Types, Whole};
 use rust_lifetimes::around_binder;
-use std::alloc::Global;
+use std::alloc::{AllocError, Global};
 use std::marker::Model;
 use sym_core::{Refusal, Span};
+use sym_room::make_room;
 
 /// The nodes of a symbol, each after its parts, and the text list, in which decoded names and decimals are.
 #[derive(Drop)]
 pub struct Nodes {
     entries: Vec<Entry>,
     text: Vec<u8>,
+    // The most nodes that there were when it was cleared. With those that there are now it bounds the memory of the nodes.
+    most: usize,
 }
 
 impl Model for Nodes {
-    ghost use Rattle.std.specs.Prelude.{vec_capacity};
+    ghost use Rattle.std.specs.Prelude.{◌≤◌, max, vec_capacity, vec_len};
     ghost use Rattle.rust_tree.specs.Nodes.{Table};
+    ghost use Rattle.sym_room.specs.Room.{most_for};
 
     ghost Value = { Table };
 
-    ghost view = { λ t. record { nodes = t.entries.items; text = t.text.items; node_room = vec_capacity t.entries; text_room = vec_capacity t.text } };
+    ghost view = { λ t. record { nodes = t.entries.items; text = t.text.items; node_room = vec_capacity t.entries; text_room = vec_capacity t.text; most = t.most } };
+
+    ghost invariant = { λ t. vec_capacity t.entries ≤ most_for (max t.most (vec_len t.entries)) };
+}
+
+/// Makes room for more nodes.
+///
+/// # Errors
+///
+/// `AllocError` where there is none; the list is unchanged then.
+// Apart from its caller, so that adding a node where there is room for it takes few registers.
+#[inline(never)]
+fn grow(entries: &mut Vec<Entry>) -> Result<(), AllocError>
+    ensures items { entries.new.items ≡ entries.old.items }
+    ensures len { vec_len entries.new ≡ vec_len entries.old }
+    ensures ok { OnOk result (vec_len entries.new + 1 ≤ vec_capacity entries.new) }
+    ensures grown { IsGrown (vec_capacity entries.old) (vec_capacity entries.new) (vec_len entries.old + 1) }
+    ensures full { OnErr result (vec_capacity entries.old < vec_len entries.old + 1) }
+    ensures err { OnErr result (vec_capacity entries.new ≡ vec_capacity entries.old) }
+{
+    make_room(entries, 1)
+}
+
+/// Makes room for one more node, where there is none.
+///
+/// # Errors
+///
+/// `AllocError` where it got none; the list is unchanged then.
+#[inline(always)]
+fn make_room_for_one(entries: &mut Vec<Entry>) -> Result<(), AllocError>
+    ensures items { entries.new.items ≡ entries.old.items }
+    ensures len { vec_len entries.new ≡ vec_len entries.old }
+    ensures ok { OnOk result (vec_len entries.new + 1 ≤ vec_capacity entries.new) }
+    ensures grown { IsGrown (vec_capacity entries.old) (vec_capacity entries.new) (vec_len entries.old + 1) }
+    ensures full { OnErr result (vec_capacity entries.old < vec_len entries.old + 1) }
+    ensures err { OnErr result (vec_capacity entries.new ≡ vec_capacity entries.old) }
+{
+    if entries.len() < entries.capacity() {
+        return Ok(());
+    }
+    grow(entries)
 }
 
 impl Nodes {
@@ -37,10 +82,12 @@ impl Nodes {
     pub fn new(alloc: Global) -> Nodes
         ensures nodes { result.nodes ≡ [] }
         ensures text { result.text ≡ [] }
+        ensures most { result.most ≡ 0 }
     {
         Nodes {
             entries: Vec::new(alloc),
             text: Vec::new(alloc),
+            most: 0,
         }
     }
 
@@ -49,6 +96,15 @@ impl Nodes {
         ensures { result ≡ length self.now.nodes }
     {
         self.entries.len()
+    }
+
+    /// For how many nodes there is memory, of 56 bytes each: at most for twice the most that there were at once since the table
+    /// was made, and for 8 more.
+    pub fn room(&self) -> usize
+        ensures is { result ≡ self.now.node_room }
+        ensures bounded { result ≤ most_for (max self.now.most (length self.now.nodes)) }
+    {
+        self.entries.capacity()
     }
 
     /// Bytes of the text list.
@@ -252,11 +308,12 @@ impl Nodes {
         ensures full { OnErr result (self.old.node_room < length self.old.nodes + 1) }
         ensures node_room { self.old.node_room ≤ self.new.node_room }
         ensures text_room { self.new.text_room ≡ self.old.text_room }
+        ensures most { self.new.most ≡ self.old.most }
     {
         let number = self.entries.len() as u32;
         let need = self.node_need(&node);
         let entry = Entry { node, need };
-        if self.entries.reserve(1).is_err() {
+        if make_room_for_one(&mut self.entries).is_err() {
             return Err(Refusal::Memory);
         }
         self.entries.push_reserved(entry);
@@ -284,6 +341,7 @@ impl Nodes {
         ensures full { OnErr result (IsDecoded true bytes.now ⊎ (self.old.text_room < length self.old.text + length (printed_name true bytes.now))) }
         ensures node_room { self.new.node_room ≡ self.old.node_room }
         ensures text_room { self.old.text_room ≤ self.new.text_room }
+        ensures most { self.new.most ≡ self.old.most }
     {
         let span = sym_core::push_name(alloc, bytes, true, &mut self.text)?;
         Ok(span)
@@ -309,6 +367,7 @@ impl Nodes {
         ensures full { OnErr result (self.old.text_room < length self.old.text + length (signed_text minus value)) }
         ensures node_room { self.new.node_room ≡ self.old.node_room }
         ensures text_room { self.old.text_room ≤ self.new.text_room }
+        ensures most { self.new.most ≡ self.old.most }
     {
         let span = sym_core::push_decimal(alloc, value, minus, &mut self.text)?;
         Ok(span)
@@ -320,7 +379,9 @@ impl Nodes {
         ensures text { self.new.text ≡ [] }
         ensures node_room { self.new.node_room ≡ self.old.node_room }
         ensures text_room { self.new.text_room ≡ self.old.text_room }
+        ensures most { self.new.most ≡ max self.old.most (length self.old.nodes) }
     {
+        self.most = self.most.max(self.entries.len());
         self.entries.clear();
         self.text.clear();
     }

@@ -121,7 +121,7 @@ module _ (items rest front : List ℕ) (alias : Alias) where
   long : is_constructor rest class ≡ true → front ≡ take (front_size rest) rest → length front ≡ front_size rest
   long is e = ap length e ∙ length-take-le (front_size rest) rest (front-within rest (colons-from rest class is))
 
-  -- where none follows, nothing is written
+  -- where no constructor follows, nothing is written
   pub none-answered : front ≡ front_for (is_constructor rest class) → (length front == 0) ≡ true → IsAnswered items items rest (constructor alias rest) 0
   none-answered front_is empty = by (is_constructor rest class) refl
     where
@@ -129,7 +129,7 @@ module _ (items rest front : List ℕ) (alias : Alias) where
       by true e = absurd (omega (arith, long e (front_is ∙ ap front_for e), eqb-true (length front) 0 empty, front-some rest))
       by false e = record { text_is = sym (append-nil items); size_is = refl; within = omega arith }
 
-  -- one that follows is written by the name of the class
+  -- a constructor that follows is written by the name of the class
   pub some-answered : (new : List ℕ) (size : ℕ) → front ≡ front_for (is_constructor rest class) → (length front == 0) ≡ false
       → new ≡ (items ++ front) ++ class_of alias → size ≡ length front + length class → IsAnswered new items rest (constructor alias rest) size
   some-answered new size front_is some new_is size_is = by (is_constructor rest class) refl
@@ -148,7 +148,7 @@ module _ {text : List ℕ} {named : Named} {bracket : ℕ} {starts before name :
   abbrev t : List ℕ
   t = text_of named.template.name
 
-  -- its elements
+  -- the elements of the list
   abbrev pub list-elements : AreElements text starts elements
   list-elements = record {
     before = before ++ name ++ 60 ∷ [];
@@ -157,7 +157,7 @@ module _ {text : List ℕ} {named : Named} {bracket : ℕ} {starts before name :
     some = is.some;
   }
 
-  -- the same in a slice of the text
+  -- the elements of the list in a slice of the text
   abbrev pub slice-elements : (slice : List ℕ) → slice ≡ text → AreElements slice starts elements
   slice-elements slice same = record {
     before = before ++ name ++ 60 ∷ [];
@@ -215,7 +215,7 @@ module _ {text : List ℕ} {named : Named} {bracket : ℕ} {starts before name :
     | None ↦ by_elements (is_polymorphic named elements)
   ]
 
-  -- by its usual name
+  -- a list that is written by its usual name
   pub usual-answer : (rest : List ℕ) (alias : Alias) (new : List ℕ) (size : ℕ) → if_read_back rest (alias_in (aliases_of named) named elements (left named elements)) ≡ Some alias
       → new ≡ (take (bracket - length t) text ++ text_of alias.name) ++ (constructor alias rest).bytes → size ≡ (constructor alias rest).size → size ≤ length rest
       → IsAnswered new before rest (short_list named name elements rest) size
@@ -233,7 +233,7 @@ module _ {text : List ℕ} {named : Named} {bracket : ℕ} {starts before name :
         within = within;
       }
 
-  -- in `std::pmr`
+  -- a list that is written in `std::pmr`
   pub polymorphic-answer : (rest new : List ℕ) (count end : ℕ) → if_read_back rest (alias_in (aliases_of named) named elements (left named elements)) ≡ None → is_polymorphic named elements ≡ true
       → count ≡ left_of named elements (length elements - 1) → end ≡ length (before ++ name ++ 60 ∷ []) + length (joined (take count elements))
       → new ≡ (take (bracket - length t) (take end text) ++ codes "pmr::" ++ drop (bracket - length t) (take end text)) ++ 62 ∷ []
@@ -258,7 +258,7 @@ module _ {text : List ℕ} {named : Named} {bracket : ℕ} {starts before name :
         within = omega arith;
       }
 
-  -- without what its template has by default
+  -- a list that is written without what its template has by default
   pub plain-answer : (rest new : List ℕ) (count end : ℕ) → if_read_back rest (alias_in (aliases_of named) named elements (left named elements)) ≡ None → is_polymorphic named elements ≡ false
       → count ≡ left named elements → end ≡ length (before ++ name ++ 60 ∷ []) + length (joined (take count elements)) → new ≡ take end text ++ 62 ∷ []
       → IsAnswered new before rest (short_list named name elements rest) 0

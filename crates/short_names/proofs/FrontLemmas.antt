@@ -1,4 +1,4 @@
--- What it says of bytes that a text begins with another.
+-- The bytes of a text that begins with another text.
 use Rattle.std.proofs.Common.{◌≡◌, ◌<◌, ◌≤◌, ◌-◌, ℕ, Bool, true, false, List, ◌++◌, length, take, drop, get_or, nat_eq, refl, ap, ◌∙◌, arith, length-append, length-drop, append_assoc, take_all, get_or-drop, add-zero}
 use Rattle.std.specs.List.{starts_with}
 use Rattle.std.proofs.lemmas.Slice.Eq.{starts_is}

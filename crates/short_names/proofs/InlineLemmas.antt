@@ -26,7 +26,7 @@ one-more : (rows : List Place) (byte : ℕ) (name : List ℕ) (next : ℕ) → s
 unfolding inlines_size
 one-more rows byte name next is = rw (is, inlines_size) refl
 
--- after one of them
+-- the size after one inline namespace
 pub size-behind : (rows : List Place) (name : List ℕ) (next : ℕ) → size_of (row_in rows name) ≡ next → inlines_size rows 0 name ≡ next + inlines_size rows 0 (drop next name)
 size-behind rows name zero is = omega arith
 size-behind rows [] (suc next) is = absurd (omega (arith, is, row-length rows []))
@@ -223,7 +223,7 @@ module _ (text : List ℕ) (run front inner nested : ℕ) (is : is_std_at text r
         ∙ append_assoc (out ++ a) b (from_on text next) ∙ append_assoc out a (b ++ from_on text next)
         ∙ ap (λ t. out ++ t) (sym to-name) ∙ so_far
 
-    -- where there are none
+    -- what is written where there are no inline namespaces
     pub none-left-out : front + nested ≡ 0 → (out first : List ℕ) → out ++ (piece text copied at ++ from_on text at) ≡ first
         → out ++ (piece text copied (run + 5 + front + inner + nested) ++ from_on text (run + 5 + front + inner + nested)) ≡ first
     none-left-out nothing out first so_far =
@@ -237,7 +237,7 @@ module _ (text : List ℕ) (run front inner nested : ℕ) (is : is_std_at text r
         ∙ ap (λ t. out ++ (a ++ (t ++ from_on text next))) (sym middle)
         ∙ ap (λ t. out ++ t) (sym to-name) ∙ so_far
 
--- where no name of std is left
+-- what is written where no name of std is left
 pub all-copied : (text : List ℕ) (copied at : ℕ) → copied ≤ at → at ≤ length text → ((k : ℕ) → at ≤ k → is_std_at text k ≡ false)
     → (out first : List ℕ) → out ++ (piece text copied at ++ from_on text at) ≡ first → out ++ drop copied text ≡ first
 unfolding without_inlines

@@ -187,7 +187,7 @@ module _ (rows : List Alias) (name text : List ℕ) (k : ℕ) (d : Alias) (withi
   unfolding member_in
   member-found is = at_drop_more (λ rs. member_in rs name text) rows k d within ∙ rw is refl
 
--- what it says that a row is found
+-- what is known once a row is found
 pub member-is : (rows : List Alias) (name text : List ℕ) (alias : Alias) → member_in rows name text ≡ Some alias
     → (starts_with nat_eq name (text_of alias.name) ≡ true) × (is_constructor (drop (length (text_of alias.name)) text) (last_part (text_of alias.template)) ≡ true)
 unfolding member_in

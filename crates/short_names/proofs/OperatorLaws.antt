@@ -1,4 +1,4 @@
--- Texts whose brackets pair, and of which a law doesn't hold.
+-- Texts whose brackets pair, but of which a law doesn't hold.
 use Rattle.std.proofs.Common.{◌≡◌, refl, sym, ap, ◌∙◌, ℕ, arith, List, length, codes}
 use Rattle.short_names.specs.Elements.{alias_in, joined, left_of}
 use Rattle.short_names.specs.Full.{full, full_to, full_rules, usual_in, with_defaults}

@@ -1,4 +1,4 @@
--- Texts without names of the table, which rules leave as they are that change such names alone.
+-- Texts without names of the table. Rules that change only such names leave these texts as they are.
 use Rattle.std.proofs.Common.{◌≡◌, ◌≤◌, ◌<◌, ◌+◌, ◌-◌, ◌&&◌, ◌||◌, refl, sym, ap, ap₂, subst, ◌∙◌, ℕ, zero, suc, arith, Bool, true, false, List, [], ◌∷◌, ◌++◌, length, take, drop, get_or, Option, None, Some, is_some, nat_eq, codes, append_assoc, append-nil, length-drop, if◌then◌else◌}
 use Rattle.std.proofs.lemmas.Bool.{true≢false}
 use Rattle.std.proofs.lemmas.List.{drop-drop, take-append-drop}

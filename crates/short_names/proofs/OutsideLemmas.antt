@@ -189,13 +189,13 @@ skips text now [] last to is none within plain end at at_is = record {
 skips text now (top ∷ around) last to is none within plain end at at_is =
     absurd (omega (arith, ap length none, ap length is.opened.brackets_are, length-append is.opened.around (is.opened.bracket ∷ [])))
 
--- to the first name that becomes shorter
+-- a step to the first name that becomes shorter
 pub skips_to : (text : List ℕ) (now : Writing) (written : Written) (found : Found) → IsAt text now written → now.brackets.items ≡ [] → IsFirst (drop now.at text) found
     → IsAt text (record now { at = now.at + found.at }) (record written { last = written.last ++ take found.at (drop now.at text) })
 skips_to text now written found is none first =
     skips text now written.opened written.last found.at is none (omega (arith, first.within)) first.plain (inl first.begins) (now.at + found.at) refl
 
--- to the end
+-- a step to the end of the text
 pub skips_all : (text : List ℕ) (now : Writing) (written : Written) → IsAt text now written → now.at < length text → now.brackets.items ≡ [] → IsPlain (drop now.at text) (length (drop now.at text))
     → Goes text now.at (record now { at = length text })
 skips_all text now written is less none plain = record {

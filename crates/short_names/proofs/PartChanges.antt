@@ -244,7 +244,7 @@ module _ (elements_of : List ℕ → Elements → Elements) (usual_of : List ℕ
         let t = at_list name (each_changed elements) (or-true lists name d.0) (each-changed-all elements c.0) in
         and-both _ _ t.0 (and-both _ _ t.1 (outside-all rest c.1))
 
-  -- rules write the same for the changed parts, of which every list passes another test
+  -- rules write the same for the changed parts, whose lists all pass another test
   module _ (lists : List ℕ → Bool) (test new_test : List ℕ → List ℕ → Elements → Bool) (for_list : List ℕ → List ℕ → List (List ℕ) → List ℕ)
       (at_list : (usual name : List ℕ) (elements : Elements) → (is_bare name || lists name) ≡ true → has_some elements ≡ true → each_apart lists elements ≡ true → test usual name elements ≡ true
       → all_lists_in test elements ≡ true → all_lists_in new_test (each_changed elements) ≡ true → each_written for_list (each_changed elements) ≡ each_written for_list elements

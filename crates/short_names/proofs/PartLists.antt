@@ -278,7 +278,7 @@ pub any-of : (named : Named) (pattern : List ℕ) → has_default (text_of named
 unfolding has_default
 any-of named pattern has some = rw some at has
 
--- by its form
+-- a default by its form
 pub by-any : (elements_of : List ℕ → Elements → Elements) (named : Named) (elements : Elements) (pattern : List ℕ) (P : Parts → Type 0) → HasAny named pattern
     → ((form : Parts) → is_form (text_of named.whole) form ≡ true → text_from form ≡ pattern → P (in_holes (part_at elements 0) (part_at elements 1) (text_of named.whole) form))
     → ((inner : Inner) → list_all is_no_hole inner.name ≡ true → is_plain_list (filled [] [] (text_of named.whole) inner.name) ≡ true → is_form (text_of named.whole) inner.argument ≡ true → text_from (inner_part inner) ≡ pattern

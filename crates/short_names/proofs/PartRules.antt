@@ -239,7 +239,7 @@ short-simple usual name named elements is none no_pmr =
     short-here usual name named elements is ∙ ap (λ o. (short_answer named name elements o).bytes) none
     ∙ ap (λ (b : Bool). (if b then plain (polymorphic_bytes named name elements) else plain (shortened_bytes named name elements)).bytes) no_pmr
 
--- and one with it
+-- a list with a usual name
 pub short-called : (usual name : List ℕ) (named : Named) (elements : List (List ℕ)) (alias : Alias) → named_in name ≡ Some named → alias_in (aliases_of named) named elements (left named elements) ≡ Some alias
     → short_bytes usual name elements ≡ of_short.before_name named name ++ text_of alias.name
 short-called usual name named elements alias is found = short-here usual name named elements is ∙ ap (λ o. (short_answer named name elements o).bytes) found

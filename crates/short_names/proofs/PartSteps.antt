@@ -102,7 +102,7 @@ name-answers rules (byte ∷ others) text opened last bytes some all behind shut
     ∙ ap (at_plain name text w) answer
     )
 
--- a name with an answer that goes on with what stays to be walked
+-- a name with an answer, after which the walk continues with what is left
 pub name-goes-on : (rules : Rules) (name member text last bytes : List ℕ) → 0 < length name → list_all is_name_byte (name ++ member) ≡ true → IsBehind text → rules.opens (name ++ member) ≡ false
     → rules.for_name (name ++ member) text ≡ Some (record { bytes = bytes; size = length name })
     → written_for rules 0 (name ++ (member ++ text)) (at [] last) ≡ written_for rules 0 (member ++ text) (at [] (last ++ bytes))

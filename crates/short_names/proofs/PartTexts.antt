@@ -324,7 +324,7 @@ pub bare-full : (elements : Elements) → is_full [] [] elements ≡ true
 unfolding is_full full_of
 bare-full elements = ap (λ o. full_of o (count elements)) bare-named
 
--- whatever the defaults are
+-- defaults that are added one after the other, whatever they are
 added-up : (default : Elements → List ℕ → Parts) (named : Named) (places : List Place) (elements : Elements) → lacks named (count elements) ≡ places → ends_there (lacks named (count (added default elements places))) ≡ true
 unfolding ends_there added
 added-up default named [] elements is = ap ends_there is

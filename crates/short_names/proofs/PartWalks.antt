@@ -28,7 +28,7 @@ pub record Calls (rules : Rules) (for_list : List ℕ → List ℕ → List (Lis
   pub calls : (usual name : List ℕ) (elements : Elements) → is_bare usual ≡ false → test usual name elements ≡ true → (opened : List Opened) (last rest : List ℕ) → IsFree rest
       → written_for rules 0 (usual ++ rest) (at opened last) ≡ written_for rules 0 rest (at opened (last ++ for_list usual name (each_written for_list elements)))
 
--- none of them is
+-- no list is written by its usual name
 pub bare-calls : (rules : Rules) (for_list : List ℕ → List ℕ → List (List ℕ) → List ℕ) (test : List ℕ → List ℕ → Elements → Bool)
     → ((usual name : List ℕ) (elements : Elements) → test usual name elements ≡ true → is_bare usual ≡ true) → Calls rules for_list test
 bare-calls rules for_list test bare = record {
@@ -138,7 +138,7 @@ free-outside lists (byte_then byte rest) text good first is =
 free-outside lists (group_then opening inner closing rest) text good first is = absurd (true≢false (sym good))
 free-outside lists (list_then usual name elements rest) text good first is = absurd (true≢false (sym first))
 
--- a list that may have a usual name comes before neither
+-- neither a name nor a list comes after a list that may have a usual name
 stands-free : (usual name : List ℕ) (rest : Parts) → stands usual name rest ≡ true → has_usual name ≡ true → begins_free rest true ≡ true
 stands-free usual name rest stood is = by (has_usual name) is stood
   where
@@ -192,7 +192,7 @@ unfolding ends_apart
 behind-more lists name rest text good first (inr h) = behind-outside lists rest text good first h.0
 behind-more lists name rest text good first (inl h) = some-behind lists rest text good first (not-true (is_end rest) (and_parts (not (is_end rest)) _ h).0)
 
--- after a list
+-- what comes after a list
 rest-of : (usual name : List ℕ) (elements : Elements) (rest : Parts) (text : List ℕ) → ends_apart (list_then usual name elements rest) ≡ true ⊎ IsFree text → ends_apart rest ≡ true ⊎ IsFree text
 unfolding ends_apart
 rest-of usual name elements rest text (inl h) = inl (and_parts (not (has_usual name) || not (is_end rest)) _ h).1
@@ -244,7 +244,7 @@ module _ (rules : Rules) (for_list : List ℕ → List ℕ → List (List ℕ) �
 
   -- ## Other brackets
 
-  -- it is written so in each place
+  -- these bytes are written for the text in each place
   abbrev Goes : (in_list : Bool) → (text bytes : List ℕ) → Type 0
   Goes in_list text bytes = (opened : List Opened) (last rest : List ℕ) → Around in_list opened → IsFree rest
       → written_for rules 0 (text ++ rest) (at opened last) ≡ written_for rules 0 rest (at opened (last ++ bytes))
@@ -459,7 +459,7 @@ module _ (rules : Rules) (for_list : List ℕ → List ℕ → List (List ℕ) �
         let t = and_parts (all_lists test element) _ all in
         outside-step others (text_from element) (written for_list element) (inner-goes element true a.0 t.0) last rest (λ l s. each-outside others a.1 t.1 s l rest)
 
-  -- outside of brackets, before more of a text
+  -- parts outside of brackets, before more of a text
   pub outer-goes : (p : Parts) (last text : List ℕ) → are_outside lists p ≡ true → all_lists test p ≡ true → ends_apart p ≡ true ⊎ IsFree text
       → written_for rules 0 (text_from p ++ text) (at [] last) ≡ written_for rules 0 text (at [] (last ++ written for_list p))
   unfolding written are_outside ends_apart all_lists

@@ -53,7 +53,7 @@ module _ (first second whole : List ℕ) where
               some (omega (arith, ap length all, ap length ((bytes_eq-Decides text (filled first second whole pattern)).0 same), length-append (filled first second whole pattern) rest))),
         )
 
-    -- after the whole pattern
+    -- the comparison after the whole pattern
     pub filled-ends : length pattern ≤ at → (length rest == 0) ≡ pointwise nat_eq text (filled first second whole pattern)
     filled-ends past = elim (cases_eq (length rest) 0) [
       | inl none ↦ eq-eqb (length rest) 0 none ∙ sym ((ends past).0 none)

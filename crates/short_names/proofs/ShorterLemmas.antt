@@ -57,7 +57,7 @@ filled-long first second whole (byte ∷ pattern) =
 fits : Template → Alias → Bool
 fits template row = nat_le (length (text_of row.name)) (length (text_of template.name) + 2 + literals (text_of row.arguments))
 
--- those of a template, and `pmr::` isn't longer than the allocator of `std::pmr`
+-- the same for each usual name of a template; and `pmr::` isn't longer than the allocator of `std::pmr`
 is_fit : Template → Bool
 is_fit template =
     list_all (fits template) (take (template.end_alias - template.first_alias) (drop template.first_alias ALIASES))

@@ -1,4 +1,4 @@
--- The list of `std::string`, which becomes that without being gone through.
+-- The list of `std::string`, which becomes that name without a walk through the list.
 use Rattle.std.proofs.Common.{◌≡◌, ◌≤◌, ◌<◌, ◌+◌, ◌-◌, ◌&&◌, refl, sym, ap, ◌∙◌, subst, ℕ, arith, true, false, List, [], ◌∷◌, ◌++◌, length, take, drop, get_or, slice_get, Option, None, Some, is_some, append_assoc, append-nil, length-drop, length-take, nat_eq, codes, if◌then◌else◌}
 use Rattle.std.proofs.lemmas.List.{drop-drop, drop_at, take-append-drop, take-take}
 use Rattle.std.specs.List.{starts_with}
@@ -29,7 +29,7 @@ use Rattle.short_names.proofs.WalkLemmas.{goes}
 pub place_is : (place other : Place) → place.from ≡ other.from → place.to ≡ other.to → place ≡ other
 place_is place other from to = rw (from, to) refl
 
--- its row
+-- the row of `std::string`
 abbrev pub string_row : Alias
 string_row = get_or ALIASES STRING (record { template = STD; arguments = STD; name = STD })
 

@@ -47,7 +47,7 @@ past k (row ∷ rows) name all le =
     let other : has_name row name ≡ false = false-from (has_name row name) (λ is. absurd (omega (arith, le, (where-it-fits k row name parts.0 is).1))) in
     rw other (past (k + 1) rows name parts.1 (omega (arith, le)))
 
--- nor does one before them
+-- no row before those of a name's size has the name
 before : (n k : ℕ) (rows : List Template) (name : List ℕ) → placed k rows ≡ true → k + n ≤ get_or FIRST (length name) 0 → template_in rows name ≡ template_in (drop n rows) name
 unfolding template_in placed
 before zero k rows name all le = refl
@@ -125,7 +125,7 @@ module _ (name : List ℕ) (row : ℕ) (d : Template) (within : row < length TEM
   slice-is : slice_get TEMPLATES row ≡ Some (get_or TEMPLATES row d)
   slice-is = slice_get-get_or TEMPLATES row d within
 
-  -- what says of each template that is in a row whether it has the name says so of the one there
+  -- a test that says of each template in a row whether it has the name says so of the one in this row
   pub named-here : (r : Bool) → ((template : Template) → slice_get TEMPLATES row ≡ Some template → r ≡ pointwise nat_eq (text_of template.name) name) → has_name (get_or TEMPLATES row d) name ≡ r
   named-here r told = sym (told (get_or TEMPLATES row d) slice-is)
 

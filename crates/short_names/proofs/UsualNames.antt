@@ -1,4 +1,4 @@
--- Names and texts of which the laws are proved.
+-- Names and texts for which the laws are proved.
 use Rattle.std.proofs.Common.{◌≡◌, ◌++◌, ◌&&◌, refl, Bool, true, false, [], codes}
 use Rattle.std.specs.List.{list_all}
 use Rattle.short_names.specs.declared.table.TheConstants.{STD}

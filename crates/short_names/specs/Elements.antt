@@ -47,7 +47,7 @@ abbrev pub AreHoles : Named → List (List ℕ) → Holes → Type 0
 AreHoles named elements holes =
     (holes.first.now ≡ element elements 0) × (holes.second.now ≡ element elements 1) × (holes.whole.now ≡ text_of named.whole)
 
--- it has a pattern, and a text is that
+-- there is a pattern, and a text is that with its holes filled
 abbrev pub is_given : Named → List (List ℕ) → (text pattern : List ℕ) → Bool
 is_given named elements text pattern = not (length pattern == 0) && pointwise nat_eq text (filled_for named elements pattern)
 
@@ -60,7 +60,7 @@ unfoldable pub left_of : Named → List (List ℕ) → ℕ → ℕ
 left_of named elements zero = zero
 left_of named elements (suc count) = if is_default named elements count then left_of named elements count else suc count
 
--- how many of all: none is left out where there are more than the template has
+-- how many of all elements are left: none is left out where there are more than the template has
 abbrev pub left : Named → List (List ℕ) → ℕ
 left named elements = if nat_le (length elements) named.template.count then left_of named elements (length elements) else length elements
 

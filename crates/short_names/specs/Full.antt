@@ -20,7 +20,7 @@ with_defaults full named elements (place ∷ places) =
     if length (text_of place) == 0 then elements
     else with_defaults full named (elements ++ full (filled_for named elements (text_of place)) ∷ []) places
 
--- up to a number of them
+-- the same, for the first `count` places
 abbrev pub defaulted : (full : List ℕ → List ℕ) → Named → ℕ → List (List ℕ) → List (List ℕ)
 defaulted full named count elements = with_defaults full named elements (drop (length elements) (take count (defaults_of named.template)))
 
@@ -38,8 +38,8 @@ if_polymorphic (Some named) = if length (text_of named.template.polymorphic) == 
 abbrev pub pmr_in : (run : List ℕ) → Option Named
 pmr_in run = if_polymorphic (table_name (without_pmr (std_name run)))
 
--- the elements of one with its allocator, and the name without `pmr::`; where the last of them is a default, the list stays, since no short
--- text has such a list
+-- the list of a name of `std::pmr`: the elements with its allocator, and the name without `pmr::`; where the last element is a
+-- default, the list stays, since no short text has such a list
 abbrev pub pmr_list : (full : List ℕ → List ℕ) → Named → (run : List ℕ) → List (List ℕ) → List ℕ
 pmr_list full named run elements =
     let all = defaulted full named (named.template.count - 1) elements in
@@ -58,7 +58,7 @@ for_list full run elements (Some named) = record { bytes = run ++ listed (defaul
 
 -- ## Usual names
 
--- the row of the usual name with which a name begins, and ends there; `text` is the name and what comes after it
+-- the row of the usual name that comes first in a name and ends there; `text` is the name and what comes after it
 unfoldable pub usual_in : List Alias → (name text : List ℕ) → Option Alias
 usual_in [] name text = None
 usual_in (row ∷ rows) name text =
@@ -97,7 +97,7 @@ full_rules full = record {
   for_list = λ run elements rest. for_list full run elements (named_in run);
 }
 
--- full texts, where those of what a rule writes are full to a depth
+-- full texts, in which what a rule writes is full to a depth
 unfoldable pub full_to : ℕ → List ℕ → List ℕ
 full_to zero text = text
 full_to (suc depth) text = by_rules (full_rules (full_to depth)) text

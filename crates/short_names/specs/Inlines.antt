@@ -10,7 +10,7 @@ use Rattle.short_names.specs.Texts.{text_of}
 abbrev pub begins_low : Place → Bool
 begins_low row = not (length (text_of row) == 0) && get_or (text_of row) 0 0 == 95
 
--- how long the inline namespaces are with which a name begins, after some bytes of one
+-- the size of the inline namespaces with which a name begins, after some bytes of one
 unfoldable pub inlines_size : List Place → (skipped : ℕ) → List ℕ → ℕ
 inlines_size rows skipped [] = 0
 inlines_size rows (suc skipped) (byte ∷ name) = suc (inlines_size rows skipped name)
@@ -19,7 +19,8 @@ inlines_size rows zero (byte ∷ name) = elim (size_of (row_in rows (byte ∷ na
   | suc size ↦ suc (inlines_size rows size name)
 ]
 
--- how long those at the front of a name after `std::` are, the namespace after them that has some of its own, and those
+-- of a name after `std::`: the size of the inline namespaces at its front, the namespace after them that has some of its own,
+-- and the size of those
 abbrev pub front : List ℕ → ℕ
 front name = inlines_size INLINES 0 name
 
@@ -29,7 +30,7 @@ inner name = size_of (row_in INNERS (drop (front name) name))
 abbrev pub nested : List ℕ → ℕ
 nested name = if inner name == 0 then 0 else inlines_size INNER_INLINES 0 (drop (front name + inner name) name)
 
--- whether there are any
+-- whether there are inline namespaces
 abbrev pub has_inlines : List ℕ → Bool
 has_inlines name = not (front name + nested name == 0)
 

@@ -1,5 +1,6 @@
--- What holds of short and full texts. `short_texts_are_no_longer` proves the first, and `alike_texts_are_alike` that the last follows from the
--- two before it. `texts_without_rows_stay`, `texts_of_lists_keep` and `texts_of_usual_names_keep` say of which texts these two are proved.
+-- What holds of short and full texts. `short_texts_are_no_longer` proves the first, and `alike_texts_are_alike` that the last
+-- follows from the two before it. `texts_without_rows_stay`, `texts_of_lists_keep` and `texts_of_usual_names_keep` say for
+-- which texts these two are proved.
 use Rattle.std.specs.Prelude.{◌≡◌, ◌≤◌, ◌++◌, ℕ, Bool, true, false, List, length, drop, Option, None, Some}
 use Rattle.short_names.specs.declared.table.TheConstants.{ALIASES}
 use Rattle.short_names.specs.Full.{full, full_to, full_rules, pmr_in, usual_in}

@@ -64,7 +64,7 @@ named_in run = table_name (std_name run)
 
 -- ## Constructors and destructors
 
--- the longest end of a text of which each byte passes a test
+-- the longest end of a text whose bytes all pass a test
 unfoldable pub end_by : (ℕ → Bool) → List ℕ → List ℕ
 end_by test [] = []
 end_by test (byte ∷ text) = if list_all test (byte ∷ text) then byte ∷ text else end_by test text
@@ -86,7 +86,8 @@ is_constructor text class =
     starts_with nat_eq text (codes "::") && starts_with nat_eq (drop (front_size text) text) class
     && not (is_letter (get_or text (front_size text + length class) 0))
 
--- The name of the constructors of a usual name's class: the last part of the usual name, unless that of the template's is shorter.
+-- The name of the constructors of a usual name's class: the last part of the usual name, unless the last part of the template's
+-- name is shorter.
 unfoldable pub class_of : Alias → List ℕ
 class_of alias =
     if nat_le (length (last_part (text_of alias.name))) (length (last_part (text_of alias.template))) then last_part (text_of alias.name)
@@ -99,8 +100,8 @@ ends_name (byte ∷ rest) = starts_with nat_eq (byte ∷ rest) (codes "::") || n
 
 -- ## A usual name that was written already
 
--- the row of the usual name with which a name begins, where a constructor or destructor follows by the template's name; `behind` is what
--- comes after the name in its text
+-- the row of the usual name that comes first in a name, where a constructor or destructor by the template's name follows;
+-- `behind` is what comes after the name in its text
 unfoldable pub member_in : List Alias → (name behind : List ℕ) → Option Alias
 member_in [] name text = None
 member_in (row ∷ rows) name text =

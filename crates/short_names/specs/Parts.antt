@@ -22,7 +22,8 @@ mutual
     name_then : (name : List ℕ) → (rest : Parts) → Parts
     byte_then : (byte : ℕ) → (rest : Parts) → Parts
     group_then : (opening : ℕ) → (inner : Parts) → (closing : ℕ) → (rest : Parts) → Parts
-    -- a list, with the name of the table before it, or with no bytes before it; and the usual name by which that is written, if it is by one
+    -- a list, with the name of the table before it, or with no bytes before it; and the usual name that is written for both, if
+    -- one is
     list_then : (usual name : List ℕ) → (elements : Elements) → (rest : Parts) → Parts
 
   pub data Elements : Type 0 where
@@ -57,7 +58,7 @@ abbrev pub is_bare : List ℕ → Bool
 is_bare [] = true
 is_bare (byte ∷ name) = false
 
--- it begins with no usual name, whatever follows it
+-- a name that begins with no usual name, whatever follows it
 unfoldable pub has_no_usual : List ℕ → Bool
 has_no_usual name = list_all (λ row. not (starts_with nat_eq name (text_of row.name)) || is_letter (get_or name (length (text_of row.name)) 0)) ALIASES
 
@@ -108,7 +109,7 @@ abbrev pub has_some : Elements → Bool
 has_some no_more = false
 has_some (element_then element others) = true
 
--- neither a byte of a name nor a list comes first; at their end, as is said
+-- neither a byte of a name nor a list comes first; `at_end` is the answer where there is no part
 abbrev pub begins_free : Parts → (at_end : Bool) → Bool
 begins_free ends at_end = at_end
 begins_free (name_then name rest) at_end = false
@@ -116,16 +117,16 @@ begins_free (byte_then byte rest) at_end = not (byte == 60)
 begins_free (group_then opening inner closing rest) at_end = true
 begins_free (list_then usual name elements rest) at_end = false
 
--- a list that may have a usual name comes before neither a name nor a list, and no other has one
+-- neither a name nor a list comes after a list that may have a usual name, and no other list has one
 abbrev pub stands : (usual name : List ℕ) → (rest : Parts) → Bool
 stands usual name rest = if has_usual name then begins_free rest true else is_bare usual
 
--- a list of no name has none
+-- a list without a name has no usual name
 abbrev pub is_placed : (is_list : List ℕ → Bool) → (usual name : List ℕ) → (rest : Parts) → Bool
 is_placed is_list usual [] rest = is_bare usual
 is_placed is_list usual (byte ∷ name) rest = is_list (byte ∷ name) && stands usual (byte ∷ name) rest
 
--- a bracket that opens none of a list
+-- an opening bracket other than a list's
 abbrev pub opens_group : ℕ → Bool
 opens_group byte = byte == 40 || (byte == 91 || byte == 123)
 
@@ -219,7 +220,7 @@ begins_hole (byte_then byte rest) = not (is_no_hole byte)
 begins_hole (group_then opening inner closing rest) = false
 begins_hole (list_then usual name elements rest) = false
 
--- The parts of a form stay apart, whatever is in its holes, where a `std::` is in its own.
+-- The parts of a form stay apart, whatever is in its holes, where a `std::` is in the hole for it.
 unfoldable mutual
   pub is_form : (whole : List ℕ) → Parts → Bool
   is_form whole ends = true
@@ -249,8 +250,9 @@ abbrev pub differ_early : (pattern other : List ℕ) → Bool
 differ_early (a ∷ b ∷ pattern) (c ∷ d ∷ other) = a == 2 && (c == 2 && (nat_le 4 b && (nat_le 4 d && not (b == d))))
 differ_early _ _ = false
 
--- A name of the table whose defaults pass a test. The first argument has no default, that of the second hasn't itself in it, and the last isn't the
--- allocator of `std::pmr`. No argument is asked for in the lists of its usual names.
+-- A name of the table whose defaults pass a test. The first argument has no default, the default of the second has no hole for
+-- the second itself, and that of the last isn't the allocator of `std::pmr`. The lists of its usual names have no hole for an
+-- argument.
 abbrev pub is_template : (has : (whole pattern : List ℕ) → Bool) → Named → Bool
 is_template has named =
     list_all (λ row. list_all is_no_hole (text_of row.arguments)) (aliases_of named)
@@ -259,7 +261,7 @@ is_template has named =
     && (list_all (λ byte. not (byte == 1)) (default_pattern named 1)
     && (length (text_of named.template.polymorphic) == 0 || differ_early (default_pattern named (named.template.count - 1)) (text_of named.template.polymorphic)))))
 
--- One without usual names that has more than an argument, and whose defaults have no list of the table within.
+-- A name of the table without usual names that has more than one argument, and whose defaults have no list of the table within.
 unfoldable pub is_plain : Option Named → Bool
 is_plain None = false
 is_plain (Some named) = is_template has_form named && (is_empty (aliases_of named) && not (named.template.count == 1))
@@ -282,7 +284,7 @@ inner_forms =
     ∷ record { name = 2 ∷ codes "istreambuf_iterator"; argument = first } ∷ record { name = 2 ∷ codes "ostreambuf_iterator"; argument = first }
     ∷ record { name = 2 ∷ codes "ratio"; argument = name_then (codes "1l") ends } ∷ []
 
--- the one whose text a pattern is; none where there is none
+-- the default whose text a pattern is; none where there is none
 unfoldable pub inner_in : List Inner → (pattern : List ℕ) → Option Inner
 inner_in [] pattern = None
 inner_in (inner ∷ others) pattern = if pointwise nat_eq (text_from (inner_part inner)) pattern then Some inner else inner_in others pattern
@@ -321,11 +323,11 @@ simple_names =
     codes "time_put" ∷ codes "time_put_byname" ∷ codes "unique_ptr" ∷ codes "unordered_map" ∷ codes "unordered_multimap" ∷
     codes "unordered_multiset" ∷ codes "unordered_set" ∷ codes "vector" ∷ []
 
--- what is written for a list in a short text, where nothing of what follows matters
+-- what is written for a list in a short text, where what follows doesn't matter
 unfoldable pub short_bytes : (usual name : List ℕ) → List (List ℕ) → List ℕ
 short_bytes usual name elements = (for_list (named_in name) name elements []).bytes
 
--- and in a full text
+-- what is written for a list in a full text
 unfoldable pub full_bytes : (inner : List ℕ → List ℕ) → (usual name : List ℕ) → List (List ℕ) → List ℕ
 full_bytes inner usual name elements = (whole.for_list inner name elements (named_in name)).bytes
 
@@ -398,8 +400,9 @@ is_known usual name elements =
     is_none_of_pmr (named_in name) (each_written short_bytes elements)
     && is_called (usual_for name (each_written short_bytes elements)) usual name (each_written short_bytes elements)
 
--- A text is made of parts of which each list is one of a template of the table, by another allocator than that of `std::pmr`, or its usual name;
--- within such a list any list may be, and other brackets. Its other names are none of the table.
+-- A text is made of these parts: each list is one of a template of the table, with another allocator than that of `std::pmr`,
+-- or is written as its usual name; any list, and other brackets, may be within such a list. The other names of the text are
+-- none of the table.
 pub record IsMade (text : List ℕ) : Type 0 where
   pub parts : Parts
   pub text_is : text ≡ text_from parts

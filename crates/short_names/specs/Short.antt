@@ -25,7 +25,7 @@ constructor alias rest =
 abbrev pub behind : List ℕ → Answer → Answer
 behind bytes answer = record { bytes = bytes ++ answer.bytes; size = answer.size }
 
--- no other member follows than the constructor by the name that is written for that
+-- no constructor or destructor by the class's name follows, unless the template has that name, too
 abbrev pub is_own : (rest : List ℕ) → Alias → Bool
 is_own rest alias = is_constructor rest (last_part (text_of alias.template)) || not (is_constructor rest (class_of alias))
 
@@ -37,7 +37,8 @@ abbrev pub if_read_back : (rest : List ℕ) → Option Alias → Option Alias
 if_read_back rest None = None
 if_read_back rest (Some alias) = if is_read_back rest alias then Some alias else None
 
--- A name of the table with a list: its usual name; or it in `std::pmr` without the allocator; or it without the defaults.
+-- What is written for a name of the table and its list: the usual name; or the name in `std::pmr`, and the list without the
+-- allocator; or the name, and the list without its defaults.
 unfoldable pub short_list : Named → (run : List ℕ) → (elements : List (List ℕ)) → (rest : List ℕ) → Answer
 short_list named run elements rest = elim (if_read_back rest (alias_in (aliases_of named) named elements (left named elements))) [
   | Some alias ↦ behind (before_name named run ++ text_of alias.name) (constructor alias rest)

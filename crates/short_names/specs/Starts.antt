@@ -7,7 +7,7 @@ unfoldable pub starts_of : (from : ℕ) → List (List ℕ) → List ℕ
 starts_of from [] = []
 starts_of from (element ∷ elements) = from ∷ starts_of (from + length element + 2) elements
 
--- A text ends with these elements, of which there is at least one, and they begin at these places.
+-- A text ends with these elements, at least one, which begin at these places.
 pub record AreElements (text starts : List ℕ) (elements : List (List ℕ)) : Type 0 where
   pub before : List ℕ
   pub text_is : text ≡ before ++ joined elements

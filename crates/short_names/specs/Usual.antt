@@ -46,13 +46,14 @@ pub record IsUsual (name list : List ℕ) : Type 0 where
 abbrev pub is_no_front : (name text : List ℕ) → Bool
 is_no_front name text = list_all is_name_byte name && not (starts_with nat_eq text name)
 
--- each usual name with which a name begins has the first bytes of it, a number of them, before a member that is no constructor, or a letter comes after it
+-- each usual name with which a name begins is its first `size` bytes, before a member that is no constructor, or a letter comes
+-- after it
 unfoldable pub is_only_before : List Alias → (size : ℕ) → List ℕ → Bool
 is_only_before rows size name =
     list_all (λ row. not (starts_with nat_eq name (text_of row.name))
     || (is_letter (get_or name (length (text_of row.name)) 0) || (length (text_of row.name) == size && is_no_front (last_part (text_of row.template)) (drop (size + 2) name)))) rows
 
--- A usual name goes on with the name of a member that is no constructor.
+-- The name of a member that is no constructor follows a usual name.
 pub record GoesOn (name list member : List ℕ) (alias : Alias) : Type 0 where
   pub std : StdName
   pub front : List ℕ
@@ -91,7 +92,7 @@ pub record IsConstructed (destructor : Bool) (name list class own : List ℕ) (a
   pub std : StdName
   pub class_is : class_of alias ≡ class
   pub own_is : last_part (text_of alias.template) ≡ own
-  -- after the usual name
+  -- what comes after the usual name
   pub class_other : is_other class ≡ true
   pub class_after : is_constructor (front_of destructor ++ class) class ≡ true
   pub class_front : front_size (front_of destructor ++ class) ≡ length (front_of destructor)
@@ -102,7 +103,7 @@ pub record IsConstructed (destructor : Bool) (name list class own : List ℕ) (a
   pub member_is : member_in ALIASES std.name (std.name ++ beyond destructor class) ≡ None
   pub size_is : length (run_with destructor name class) - length std.name + length (text_of alias.name) ≡ length name
   pub list_is : full_to 3 (take (length (run_with destructor name class) - length std.name) (run_with destructor name class) ++ instance std alias) ≡ list
-  -- after its list
+  -- what comes after the list
   pub own_other : is_other own ≡ true
   pub colons_other : is_other (codes "::") ≡ true
   pub both_other : is_other (codes "::" ++ own) ≡ true
@@ -118,7 +119,7 @@ pub data Whole : Type 0 where
   -- and a constructor or destructor after it, by the name of the class or of the template
   constructor_then : (parts : Parts) → (is_list destructor : Bool) → (name list class own : List ℕ) → (rest : Whole) → Whole
 
--- what is written for it
+-- what is written for parts and usual names
 unfoldable pub whole_written : (for_list : List ℕ → List ℕ → List (List ℕ) → List ℕ) → (usual : Bool → (name list : List ℕ) → List ℕ) → Whole → List ℕ
 whole_written for_list usual (last_parts parts) = written for_list parts
 whole_written for_list usual (usual_then parts is_list name list rest) = written for_list parts ++ (usual is_list name list ++ whole_written for_list usual rest)
@@ -144,7 +145,7 @@ comes_apart (usual_then parts is_list name list rest) = not (begins_name parts) 
 comes_apart (member_then parts is_list name list member rest) = not (begins_name parts) && not (is_end parts)
 comes_apart (constructor_then parts is_list destructor name list class own rest) = not (begins_name parts) && not (is_end parts)
 
--- The parts stay apart, and no usual name goes on but with the name of a member, a constructor's or a destructor's.
+-- The parts stay apart, and only the name of a member, a constructor or a destructor continues a usual name.
 unfoldable pub AreApart : Whole → Type 0
 AreApart (last_parts parts) = are_outside is_simple_list parts ≡ true
 AreApart (usual_then parts is_list name list rest) =

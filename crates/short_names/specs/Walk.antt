@@ -8,15 +8,16 @@ pub record Answer : Type 0 where
   pub bytes : List ℕ
   pub size : ℕ
 
--- Rules: which names have lists that are changed; what is written for another name, with the text after it, if it is changed, in
--- the place of how many bytes from the name's first on; and what is written for a name and its list, by the list's elements and the text after it. A list that is after no such name has none.
+-- Rules: which names have lists that are changed; what is written for any other name, by the text after it, if the name is
+-- changed, and how many bytes from the name's first on that replaces; and what is written for a name and its list, by the
+-- list's elements and the text after it. A list that is after no such name has no name.
 pub record Rules : Type 0 where
   pub opens : (run : List ℕ) → Bool
   pub for_name : (run rest : List ℕ) → Option Answer
   pub for_list : (run : List ℕ) → (elements : List (List ℕ)) → (rest : List ℕ) → Answer
 
--- A bracket that is open: which, the name before it if it is a list's, what was written before that in the element around it, and its own
--- elements that have ended.
+-- An open bracket: its byte, the name before it if it is a list's, what was written before that name in the element around it,
+-- and its own elements that have ended.
 pub record Opened : Type 0 where
   pub bracket : ℕ
   pub name : List ℕ
@@ -28,7 +29,7 @@ pub record Written : Type 0 where
   pub opened : List Opened
   pub last : List ℕ
 
--- With how many bytes of the text, and what was written then.
+-- A step: how many bytes of the text it took, and what was written after it.
 pub record Stepped : Type 0 where
   pub size : ℕ
   pub written : Written
@@ -59,7 +60,7 @@ abbrev pub sign_of : List Opened → (run rest : List ℕ) → List ℕ
 sign_of [] run rest = []
 sign_of (top ∷ around) run rest = take (operator_size run rest) rest
 
--- a name that has no list that is changed, with an operator's sign
+-- a name without a list that is changed, with an operator's sign
 abbrev pub at_plain : (run rest : List ℕ) → Written → Option Answer → Option Stepped
 at_plain run rest written None = keeps (run ++ sign_of written.opened run rest) written
 at_plain run rest written (Some answer) = answers 0 answer written
@@ -75,7 +76,7 @@ abbrev pub closes_list : Rules → Opened → List Opened → (last rest : List 
 closes_list rules list around last rest =
     answers 1 (rules.for_list list.name (list.elements ++ last ∷ []) rest) (record { opened = around; last = list.before })
 
--- another closing bracket closes it, if it is no list's
+-- another closing bracket closes the innermost one, if that is no list's
 abbrev pub closes_group : Opened → List Opened → ℕ → List ℕ → Option Stepped
 closes_group group around byte last = keeps (byte ∷ []) (record { opened = around; last = group.before ++ group.bracket ∷ last })
 
@@ -84,7 +85,7 @@ abbrev pub ends_element : Opened → List Opened → List ℕ → Option Stepped
 ends_element list around last =
     Some (record { size = 2; written = record { opened = record list { elements = list.elements ++ last ∷ [] } ∷ around; last = [] } })
 
--- the brackets that open one, `<`, `(`, `[`, `{`; and those that close one that is no list's
+-- the opening brackets, `<`, `(`, `[`, `{`; and the closing ones other than a list's
 abbrev pub is_opening : ℕ → Bool
 is_opening byte = byte == 60 || byte == 40 || byte == 91 || byte == 123
 
@@ -101,7 +102,7 @@ at_sign rules top around byte rest written =
     else (if starts_with nat_eq (byte ∷ rest) (codes "->") then keeps (codes "->") written
     else keeps (byte ∷ []) written))))
 
--- the same; outside of brackets it is written as it is
+-- a byte that isn't of a name; outside of brackets it is written as it is
 abbrev pub at_byte : Rules → List Opened → (byte : ℕ) → (rest : List ℕ) → Written → Option Stepped
 at_byte rules [] byte rest written = keeps (byte ∷ []) written
 at_byte rules (top ∷ around) byte rest written = at_sign rules top around byte rest written
@@ -136,7 +137,7 @@ abbrev pub text_or : List ℕ → Option Written → List ℕ
 text_or text None = text
 text_or text (Some written) = closed_text text written.opened written.last
 
--- A text by rules. One in which brackets don't pair stays as it is.
+-- A text by rules. A text whose brackets don't pair stays as it is.
 unfoldable pub by_rules : Rules → List ℕ → List ℕ
 by_rules rules text = text_or text (written_for rules 0 text start)
 

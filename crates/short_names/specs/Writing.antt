@@ -21,7 +21,7 @@ unfoldable pub ended : List (List ℕ) → List ℕ
 ended [] = []
 ended (element ∷ elements) = element ++ codes ", " ++ ended elements
 
--- what was written before the innermost element, and all that was
+-- what was written before the innermost element, and all that was written
 unfoldable pub before_last : List Opened → List ℕ
 before_last [] = []
 before_last (top ∷ around) = (before_last around ++ top.before ++ top.name) ++ top.bracket ∷ ended top.elements
@@ -58,7 +58,7 @@ abbrev pub AreOpen : List Opened → List Bracket → List ℕ → Type 0
 AreOpen [] brackets starts = (brackets ≡ []) × (starts ≡ [])
 AreOpen (top ∷ around) brackets starts = IsInnermost (AreOpen around) top (before_last around) brackets starts
 
--- What was written is so at a place of the text; what comes before that place and wasn't copied yet belongs to it.
+-- The lists have what was written at a place of the text. Bytes before that place that weren't copied yet belong to it.
 pub record IsAt (text : List ℕ) (now : Writing) (written : Written) : Type 0 where
   pub goes_on : written_for short_rules 0 (drop now.at text) written ≡ written_for short_rules 0 text start
   pub copied : now.copied ≤ now.at
@@ -80,7 +80,7 @@ Steps text from now false = written_for short_rules 0 text start ≡ None
 abbrev pub CanStep : (text : List ℕ) → Writing → Type 0
 CanStep text now = (written : Written) × IsAt text now written × (now.at < length text)
 
--- a run is at the place, with what becomes shorter there; outside of brackets something does
+-- a run is at the place, with what becomes shorter there; outside of brackets something becomes shorter
 abbrev pub CanChange : (text : List ℕ) → Writing → (size : ℕ) → Change → Type 0
 CanChange text now size change =
     CanStep text now × (is_name_byte (get_or text now.at 0) ≡ true) × (size ≡ length (run_of (drop now.at text)))
@@ -109,7 +109,7 @@ StepsFrom text old new result = (written : Written) → IsAt text old written �
 
 -- ## Closing
 
--- a bracket was closed, which was the innermost, and nothing was written
+-- the innermost bracket was closed, and nothing was written
 pub record IsClosed (old new : Writing) (around : List Bracket) (bracket : Bracket) : Type 0 where
   pub at_is : new.at ≡ old.at + 1
   pub copied_is : new.copied ≡ old.copied

@@ -9,8 +9,8 @@ use crate::patterns::text_at;
 use crate::table::{ALIASES, Alias, Place, STD, STRING, STRING_LIST, STRING_TEMPLATE};
 use std::alloc::AllocError;
 
-/// Closes a list of a name of the table, whose bracket is at a place of a text, and whose elements begin at others; answers how many of the
-/// bytes that follow it are written with it.
+/// Closes a list of a name of the table, by the places of a text where its bracket is and where its elements begin. Answers how
+/// many of the bytes that follow the list are written with it.
 pub(crate) fn close(
     text: &mut Vec<u8>,
     named: Named,
@@ -45,7 +45,7 @@ pub(crate) fn close(
     Ok(0)
 }
 
-/// A usual name where the text goes on, and it is read back as the same.
+/// A usual name, if it is one where the text goes on and is read back as the same; else none.
 fn read_back(alias: Option<Alias>, rest: &[u8]) -> Option<Alias>
     ensures { result ≡ if_read_back rest.now alias }
 {
@@ -78,7 +78,8 @@ pub(crate) fn is_string(whole: Place, row: usize, rest: &[u8]) -> bool
     }
 }
 
-/// Whether no other member follows a usual name than the constructor by the name that is written for that.
+/// Whether a usual name is read back as the same before what follows it: not where a constructor or destructor by the class's
+/// name follows, unless the template has that name, too.
 fn is_own(alias: Alias, rest: &[u8]) -> bool
     ensures { result ≡ is_own rest.now alias }
 {
@@ -91,7 +92,8 @@ fn is_own(alias: Alias, rest: &[u8]) -> bool
     !is_constructor(rest, class_of(alias))
 }
 
-/// Appends the name of a constructor or destructor that follows a usual name by the template's name; answers how long that was.
+/// If a constructor or destructor by the template's name follows a usual name, appends its name by the class's name. Answers
+/// how many bytes of the text it replaces.
 pub(crate) fn append_constructor(
     alias: Alias,
     rest: &[u8],

@@ -9,7 +9,8 @@ use crate::names::Named;
 use crate::patterns::{Holes, is_filled, text_at};
 use crate::table::{ALIASES, Alias, DEFAULTS};
 
-/// Elements, at least one, in a text that ends with the last of them: where each begins. `, ` is between two.
+/// Elements of a list in a text that ends with the last of them, by where each begins. There is at least one, and `, ` is
+/// between two.
 #[derive(Clone, Copy)]
 pub(crate) struct Elements<'a> {
     pub text: &'a [u8],
@@ -17,7 +18,7 @@ pub(crate) struct Elements<'a> {
 }
 
 impl<'a> Elements<'a> {
-    /// Where the first ones end.
+    /// Where the first `count` elements end.
     pub(crate) fn end(self, count: usize) -> usize
         requires { (elements : List (List ℕ)) × AreElements self.text.now self.starts.now elements }
         ensures { (elements : List (List ℕ)) → (e : AreElements self.entry.text.now self.entry.starts.now elements) →
@@ -43,7 +44,7 @@ impl<'a> Elements<'a> {
         &self.text[self.starts[place]..self.end(place + 1)]
     }
 
-    /// The first ones, with what is between them.
+    /// The first `count` elements, with what is between them.
     fn front(self, count: usize) -> &'a [u8]
         requires { (elements : List (List ℕ)) × AreElements self.text.now self.starts.now elements }
         ensures { (elements : List (List ℕ)) → AreElements self.entry.text.now self.entry.starts.now elements → result.now ≡ joined (take count elements) }
@@ -79,7 +80,7 @@ impl<'a> Elements<'a> {
         is_given(self.at(place), text_at(DEFAULTS[row]), holes)
     }
 
-    /// How many of the first elements are left without those at their end that are what a name has by default.
+    /// How many of the first `count` elements are left, without the defaults of a name at their end.
     pub(crate) fn without_defaults(self, named: Named, holes: Holes<'a>, count: usize) -> usize
         requires { (elements : List (List ℕ)) × (AreElements self.text.now self.starts.now elements) × (AreHoles named elements holes) }
         ensures { (elements : List (List ℕ)) → AreElements self.entry.text.now self.entry.starts.now elements → AreHoles named elements holes.entry →
@@ -95,8 +96,8 @@ impl<'a> Elements<'a> {
         left
     }
 
-    /// How many are left without those at the end that are what a name has by default. None is left out where there are more than the
-    /// name has.
+    /// How many elements are left, without the defaults of a name at their end. None is left out where there are more elements
+    /// than the name has.
     pub(crate) fn left(self, named: Named, holes: Holes<'a>) -> usize
         requires { (elements : List (List ℕ)) × (AreElements self.text.now self.starts.now elements) × (AreHoles named elements holes) }
         ensures { (elements : List (List ℕ)) → AreElements self.entry.text.now self.entry.starts.now elements → AreHoles named elements holes.entry →
@@ -109,7 +110,7 @@ impl<'a> Elements<'a> {
         self.without_defaults(named, holes, all)
     }
 
-    /// Whether they are all that a name has, and the last is the allocator of `std::pmr`.
+    /// Whether the elements are all that a name has, and the last is the allocator of `std::pmr`.
     pub(crate) fn is_polymorphic(self, named: Named, holes: Holes<'a>) -> bool
         requires { (elements : List (List ℕ)) × (AreElements self.text.now self.starts.now elements) × (AreHoles named elements holes) }
         ensures { (elements : List (List ℕ)) → AreElements self.entry.text.now self.entry.starts.now elements → AreHoles named elements holes.entry →

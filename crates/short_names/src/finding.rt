@@ -6,7 +6,7 @@ ghost use Rattle.short_names.specs.Changes.{is_nothing};
 use crate::names::{Change, change_at};
 use crate::runs::{run_at, std_run};
 
-/// A name that becomes shorter or may do so: where it is in a text, the size of its run, and what does so.
+/// A name that becomes shorter or may do so: where it is in a text, the size of its run, and what becomes shorter there.
 #[derive(Clone, Copy)]
 pub(crate) struct Found {
     pub at: usize,

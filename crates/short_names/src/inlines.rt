@@ -9,7 +9,7 @@ use crate::runs::std_run;
 use crate::table::{INLINE_FIRSTS, INLINE_THIRDS, INLINES, INNER_INLINES, INNERS, Place};
 use std::alloc::AllocError;
 
-/// How long the inline namespaces are with which a name begins.
+/// The size of the inline namespaces with which a name begins.
 fn inlines_size(rows: &[Place], name: &[u8]) -> usize
     requires { list_all begins_low rows.now ≡ true }
     ensures within { result ≤ length name.now }
@@ -49,7 +49,7 @@ struct Inlines {
     nested: usize,
 }
 
-/// None.
+/// No inline namespaces.
 const NO_INLINES: Inlines = Inlines {
     front: 0,
     inner: 0,
@@ -57,7 +57,7 @@ const NO_INLINES: Inlines = Inlines {
 };
 
 impl Inlines {
-    /// Those of a name.
+    /// The inline namespaces of a name.
     #[inline(always)]
     fn of(name: &[u8]) -> Inlines
         ensures within { result.front + result.inner + result.nested ≤ length name.now }
@@ -72,7 +72,7 @@ impl Inlines {
         }
     }
 
-    /// Those of a name that may have some.
+    /// The inline namespaces of a name that may have some.
     #[inline(never)]
     fn read(name: &[u8]) -> Inlines
         ensures within { result.front + result.inner + result.nested ≤ length name.now }
@@ -94,7 +94,7 @@ impl Inlines {
         }
     }
 
-    /// Whether there are any.
+    /// Whether there are inline namespaces.
     #[inline(always)]
     fn are_some(self) -> bool
         ensures { result ≡ not (self.front + self.nested == 0) }
@@ -111,7 +111,7 @@ pub(crate) fn has_inlines(name: &[u8]) -> bool
     Inlines::of(name).are_some()
 }
 
-/// Appends a text without them.
+/// Appends a text without its inline namespaces.
 pub(crate) fn append_without(text: &[u8], out: &mut Vec<u8>) -> Result<(), AllocError>
     ensures { OnOk result (out.new.items ≡ out.old.items ++ without_inlines false 0 text.now) }
 {

@@ -36,9 +36,9 @@ pub fn texts_without_rows_stay()
     ensures laws { (text : List ℕ) → HasNoRow text → KeepsFull text × KeepsShort text }
 {}
 
-/// In a text that is made of parts of which each list is one of a template of the table, by no allocator of `std::pmr`, or its usual name, short
-/// texts keep full ones, and full texts keep short ones. Where a list may have a usual name, neither a name nor a list comes after it. So two
-/// such texts have one short text exactly where they have one full text.
+/// Short texts keep full ones and full texts keep short ones in a text that is made of these parts: each list is one of a
+/// template of the table, without the allocator of `std::pmr`, or is written as its usual name. Where a list may have a usual
+/// name, neither a name nor a list comes after it. So two such texts have one short text exactly where they have one full text.
 pub fn texts_of_lists_keep()
     ensures laws { (text : List ℕ) → IsMade text → KeepsFull text × KeepsShort text }
     ensures alike { (text other : List ℕ) → IsMade text → IsMade other → AreAlike text other }
@@ -50,9 +50,9 @@ pub fn texts_of_lists_keep()
     ensures full { IsMade (codes "std::vector<std::__cxx11::basic_string<char, std::char_traits<char>, std::allocator<char>>>") }
 {}
 
-/// So they do in a text that has usual names, or the lists in full that those are for, outside of its other lists, where neither a list comes
-/// after them nor a name, but that of a member, or of a constructor or destructor: that of the class after a usual name, and that of the template
-/// after its list. So two such texts have one short text exactly where they have one full text.
+/// Likewise in a text that has usual names, or the full lists that these are for, outside of its other lists. No list comes
+/// after them, and no name but that of a member, or of a constructor or destructor: by the class's name after a usual name, and
+/// by the template's name after its list. So two such texts have one short text exactly where they have one full text.
 pub fn texts_of_usual_names_keep()
     ensures laws { (text : List ℕ) → IsWhole text → KeepsFull text × KeepsShort text }
     ensures alike { (text other : List ℕ) → IsWhole text → IsWhole other → AreAlike text other }
@@ -66,7 +66,8 @@ pub fn texts_of_usual_names_keep()
     ensures stream { IsUsual (codes "std::ostream") (codes "std::basic_ostream<char, std::char_traits<char>>") }
 {}
 
-/// Neither law is of every text whose brackets pair: an operator's name at the end of an element becomes another before the list's end.
+/// Neither law holds of every text whose brackets pair: an operator's name at the end of an element becomes another before the
+/// list's end.
 pub fn operators_keep_neither()
     ensures full { KeepsFull (codes "std::ratio<operator, 1l>") → ⊥ }
     ensures short { KeepsShort (codes "std::map<operator, int>") → ⊥ }

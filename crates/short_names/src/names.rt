@@ -25,7 +25,7 @@ pub(crate) struct Named {
 }
 
 impl Named {
-    /// The one with a template's row.
+    /// The name of the table with a template's row.
     pub(crate) fn of_row(whole: Place, row: usize) -> Named
         requires { row < length TEMPLATES }
         ensures { with_template whole (slice_get TEMPLATES row) ≡ Some result }
@@ -35,7 +35,7 @@ impl Named {
     }
 }
 
-/// Whether a text begins with one of the table.
+/// Whether a text begins with a text of the table.
 #[inline(always)]
 fn begins_with(text: &[u8], row: &[u8]) -> bool
     ensures { result ≡ starts_with nat_eq text.now row.now }
@@ -64,7 +64,7 @@ fn row_in(rows: &[Place], text: &[u8]) -> Option<Place>
     None
 }
 
-/// How long that is; 0 where there is none.
+/// The size of that text; 0 where there is none.
 pub(crate) fn row_size(rows: &[Place], text: &[u8]) -> usize
     ensures within { result ≤ length text.now }
     ensures size { result ≡ size_of (row_in rows.now text.now) }
@@ -87,7 +87,7 @@ fn mark_of(name: &[u8]) -> u16
     name[0] as u16 + name[name.len() - 3] as u16 * 256
 }
 
-/// Whether the template of a row has a name that has a mark.
+/// Whether the name of the template in a row has a mark.
 #[inline(always)]
 fn has_name(row: usize, mark: u16, name: &[u8]) -> bool
     requires within { row < length TEMPLATES }
@@ -135,7 +135,7 @@ struct StdName<'a> {
     name: &'a [u8],
 }
 
-/// The one that a run is in which an inline namespace may come after `std::`.
+/// The name of `std` that a run is, where an inline namespace may come after `std::`.
 #[inline(never)]
 fn inline_name(run: &[u8]) -> Option<StdName<'_>>
     ensures { MatchOption result (std_name run.now ≡ None) (λ it. std_name run.now ≡ Some (record { whole = it.whole; name = it.name.now })) }
@@ -150,7 +150,7 @@ fn inline_name(run: &[u8]) -> Option<StdName<'_>>
     }
 }
 
-/// The one that a run is that begins with `std::`.
+/// The name of `std` that a run is, where the run begins with `std::`.
 #[inline(always)]
 fn std_name(run: &[u8]) -> Option<StdName<'_>>
     requires { begins_std run.now ≡ true }
@@ -192,7 +192,7 @@ pub(crate) fn class_of(alias: Alias) -> &'static [u8]
     }
 }
 
-/// How long what comes before a member's name is, `::` or `::~`, in a text that begins with one of these.
+/// The size of what comes before a member's name, `::` or `::~`, in a text that begins with one of these.
 #[inline(always)]
 fn front_size(text: &[u8]) -> usize
     ensures within { starts_with nat_eq text.now (codes "::") ≡ true → result ≤ length text.now }
@@ -225,7 +225,7 @@ pub(crate) fn is_constructor(text: &[u8], class: &[u8]) -> bool
     !has_letter(text, size + class.len())
 }
 
-/// What comes before a constructor's or destructor's name in a text that begins with one of a class, `::` or `::~`; else nothing.
+/// What comes before the name of a class's constructor or destructor, `::` or `::~`, if a text begins with both; else nothing.
 pub(crate) fn before_constructor<'a>(text: &'a [u8], class: &[u8]) -> &'a [u8]
     ensures { result.now ≡ if is_constructor text.now class.now then take (front_size text.now) text.now else [] }
 {
@@ -252,11 +252,11 @@ pub(crate) fn ends_name(rest: &[u8]) -> bool
 /// What becomes shorter at a name of `std`, or may do so.
 #[derive(Clone, Copy)]
 pub(crate) enum Change {
-    /// Nothing does.
+    /// Nothing becomes shorter.
     Nothing,
-    /// The list does that follows a name of the table, by its `std::` and the row of its template.
+    /// The list that follows a name of the table, by the name's `std::` and the row of its template.
     List { whole: Place, row: usize },
-    /// A constructor or destructor does that follows a usual name, by the row of that, and how many bytes come before its end.
+    /// A constructor or destructor that follows a usual name, by the row of that name, and how many bytes come before its end.
     Member { row: usize, size: usize },
 }
 
@@ -271,8 +271,8 @@ fn may_have_member(name: &[u8]) -> bool
     }
 }
 
-/// Whether a name, the run with which a text begins, begins with a usual name, and a constructor or destructor follows that has the
-/// template's name.
+/// Whether a usual name comes first in a name, which is the run at a text's front, and a constructor or destructor by the
+/// template's name follows it.
 #[inline(always)]
 fn is_member(alias: Alias, name: &[u8], text: &[u8]) -> bool
     requires { name.now ≡ run_of text.now }
@@ -284,7 +284,7 @@ fn is_member(alias: Alias, name: &[u8], text: &[u8]) -> bool
         && is_constructor(&text[usual.len()..], last_part(text_at(alias.template)))
 }
 
-/// The row of the usual name of which that is so.
+/// The row of that usual name.
 fn member_row(name: &[u8], text: &[u8]) -> Option<usize>
     requires { name.now ≡ run_of text.now }
     ensures { MatchOption result (member_in ALIASES name.now text.now ≡ None)
@@ -316,7 +316,7 @@ fn list_row(name: &[u8], rest: &[u8]) -> Option<usize>
     }
 }
 
-/// What does so at a run that ends with a name of `std` that no list follows, in a text that begins with that run.
+/// What becomes shorter at a run that ends with a name of `std` without a list after it. The text begins with the run.
 fn member_change(text: &[u8], run: &[u8], name: &[u8]) -> Change
     requires std { (whole : PlaceRow) × (std_name run.now ≡ Some (record { whole = whole; name = name.now })) }
     requires run { run.now ≡ run_of text.now }
@@ -333,7 +333,7 @@ fn member_change(text: &[u8], run: &[u8], name: &[u8]) -> Change
     }
 }
 
-/// What does so at a run that is a name of `std`.
+/// What becomes shorter at a run that is a name of `std`.
 #[inline(always)]
 fn std_change(text: &[u8], run: &[u8], std: StdName<'_>) -> Change
     requires std { std_name run.now ≡ Some (record { whole = std.whole; name = std.name.now }) }
@@ -349,7 +349,7 @@ fn std_change(text: &[u8], run: &[u8], std: StdName<'_>) -> Change
     }
 }
 
-/// What does so at a run that begins with `std::`, in a text that begins with that run.
+/// What becomes shorter at a run that begins with `std::`. The text begins with the run.
 pub(crate) fn change_at(text: &[u8], run: &[u8]) -> Change
     requires { (begins_std run.now ≡ true) × (run.now ≡ run_of text.now) }
     ensures { IsChange run.now (drop (length run.now) text.now) result }

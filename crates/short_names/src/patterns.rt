@@ -58,7 +58,7 @@ fn filling<'a>(holes: Holes<'a>, hole: u8) -> &'a [u8]
     }
 }
 
-/// What is left of a text after what a byte of a pattern is; none where it doesn't begin with that.
+/// What is left of a text after the bytes that a byte of a pattern denotes; none where the text doesn't begin with them.
 #[inline(always)]
 fn behind<'a>(text: &'a [u8], holes: Holes<'_>, byte: u8) -> Option<&'a [u8]>
     ensures { MatchOption result ((rest : List ℕ) → text.now ≢ bit holes.entry.first.now holes.entry.second.now holes.entry.whole.now byte ++ rest)

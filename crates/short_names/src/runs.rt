@@ -1,4 +1,4 @@
-// Runs of bytes of names, and what else a text is parted into.
+// Runs of bytes of names, and the other pieces of a text.
 ghost use Rattle.std.specs.Prelude.{◌≡◌, ◌≤◌, ◌<◌, ◌^◌, ◌+◌, ◌-◌, ℕ, Bool, length, take, drop, get_or, true, false, MatchOption};
 ghost use Rattle.std.specs.List.{list_all};
 ghost use Rattle.std.specs.Int.{bit_at};
@@ -49,7 +49,7 @@ fn first_set(mask: u64) -> usize
     }
 }
 
-/// How many of the bytes from a place on, as far as they are looked at together, are of names.
+/// How many bytes from a place on are of names, among those that are looked at together.
 #[inline(always)]
 fn name_lanes(text: &[u8], at: usize) -> usize
     requires { at + 16 ≤ length text.now }
@@ -68,7 +68,7 @@ fn name_lanes(text: &[u8], at: usize) -> usize
     first_set(stops.to_bitmask())
 }
 
-/// How many bytes at the front of a text are of names, as far as they are looked at together.
+/// How many bytes at the front of a text are of names, among those that are looked at together.
 #[inline(always)]
 fn lanes_run(text: &[u8]) -> usize
     ensures within { result ≤ length text.now }
@@ -118,7 +118,7 @@ fn ends_operator(run: &[u8]) -> bool
     run.ends_with(b"operator") && (run.len() == 8 || !is_letter(run[run.len() - 9]))
 }
 
-/// How many bytes of an operator's sign, or of an arrow's, a text begins with that look like brackets of lists.
+/// How many bytes at the front of a text are of an operator's sign or of an arrow, and look like brackets of lists.
 #[tactic(auto, unfolding(crate::specs::Runs::sign_size))]
 fn sign_size(text: &[u8]) -> usize
     ensures { result ≡ sign_size text.now }
@@ -149,7 +149,7 @@ pub(crate) fn operator_size(run: &[u8], rest: &[u8]) -> usize
 /// How many places are looked at together for `std::`.
 const BLOCK: usize = 64;
 
-/// The last byte that is looked at for a place comes after this many.
+/// For a place, this many bytes come before the last one that is looked at.
 const REACH: usize = 3;
 
 /// The places from one on where `std::` may begin, as bits: `d:` comes after two bytes.
@@ -163,7 +163,7 @@ fn block_bits(text: &[u8], at: usize) -> u64
     (third & fourth).to_bitmask()
 }
 
-/// The same of fewer places.
+/// The same for fewer places.
 #[inline(always)]
 fn lane_bits(text: &[u8], at: usize) -> u64
     requires { at + 19 ≤ length text.now }
@@ -175,8 +175,8 @@ fn lane_bits(text: &[u8], at: usize) -> u64
     (third & fourth).to_bitmask()
 }
 
-/// The first place from one on, of some that were looked at together, where `std::` may begin; the place after them where it begins at
-/// none.
+/// The first of some places that were looked at together, from one on, where `std::` may begin; the place after them where
+/// there is none.
 #[inline(always)]
 fn first_place(bits: u64, from: usize, at: usize, count: usize) -> usize
     requires { (from ≤ at) × (at < from + count) × (count ≤ 64) × (from + count < 2 ^ 63) × (bits < 2 ^ count) }
@@ -191,7 +191,7 @@ fn first_place(bits: u64, from: usize, at: usize, count: usize) -> usize
     }
 }
 
-/// A place, from one on, before which `std::` begins at none.
+/// A place from one on: `std::` begins at none of the places before it.
 #[inline(always)]
 fn next_place(text: &[u8], at: usize) -> usize
     requires { at + 5 ≤ length text.now }

@@ -28,7 +28,7 @@ fn take_text(keeps_inline: bool, text: &[u8], out: &mut Vec<u8>) -> Result<(), A
 }
 
 impl Short {
-    /// One without memory so far.
+    /// A `Short` whose lists have no memory so far.
     pub fn new(alloc: Global) -> Short {
         Short {
             text: Vec::new(alloc),
@@ -36,7 +36,7 @@ impl Short {
         }
     }
 
-    /// Makes a text short that begins at a place of another and ends with that.
+    /// Makes a text short, which is the bytes of a list from a place on.
     pub fn shorten(
         &mut self,
         keeps_inline: bool,

@@ -14,22 +14,22 @@ use crate::runs::{is_name_byte, operator_size, run_at};
 use crate::table::{ALIASES, Place, STRING, STRING_LIST};
 use std::alloc::{AllocError, Global};
 
-/// Whether a byte is a bracket that opens one.
+/// Whether a byte is an opening bracket.
 fn is_opening(byte: u8) -> bool
     ensures { result ≡ is_opening byte }
 {
     byte == b'<' || byte == b'(' || byte == b'[' || byte == b'{'
 }
 
-/// Whether a byte is a bracket that closes one which isn't a list's.
+/// Whether a byte is a closing bracket other than a list's.
 fn is_closing(byte: u8) -> bool
     ensures { result ≡ is_closing byte }
 {
     byte == b')' || byte == b']' || byte == b'}'
 }
 
-/// A bracket that is open: whether it is that of an argument list, the name of the table before that, where it is in the text that is
-/// written, and how many elements began before it.
+/// An open bracket: whether it is that of an argument list, the name of the table before the list, where the bracket is in the
+/// text that is written, and how many elements began before it.
 #[derive(Clone, Copy)]
 pub(crate) struct Bracket {
     pub is_list: bool,
@@ -56,12 +56,12 @@ pub(crate) struct Writing {
     pub out: Vec<u8>,
     /// The brackets that are open, from that of the first list of a name of the table on.
     pub brackets: Vec<Bracket>,
-    /// Where the elements begin of what is open, in the text that is written.
+    /// Where the elements within open brackets begin, in the text that is written.
     pub starts: Vec<usize>,
 }
 
 impl Writing {
-    /// One without memory so far.
+    /// A short text without memory so far.
     pub(crate) fn new(alloc: Global) -> Writing {
         Writing {
             at: 0,
@@ -242,7 +242,7 @@ impl Writing {
         Ok(true)
     }
 
-    /// Opens a bracket, after the name of the table that is before it, if one is.
+    /// Opens a bracket, with the name of the table before it, if there is one.
     fn open_bracket(&mut self, is_list: bool, named: Option<Listed>) -> Result<(), AllocError>
         requires { (self.old.copied ≤ self.old.at) × (self.old.at < 2 ^ 63) }
         ensures brackets { OnOk result (self.new.brackets.items ≡ self.old.brackets.items ++ record { is_list = is_list; named = named; place = length self.old.out.items + (self.old.at - self.old.copied); first = length self.old.starts.items } ∷ []) }

@@ -29,7 +29,7 @@ limit = record (new_rule (codes "limit")) {
   parser = Some (parser.Signed (pos 0) (pos 4294967295));
 }
 
--- with the options on short texts
+-- a command line with the options on short texts
 abbrev pub with_short : App → App
 with_short app = with_rule (with_rule app (flag (codes "short"))) (flag (codes "keep-inline"))
 

@@ -65,8 +65,8 @@ reason_of (BadValue at) = codes "bad value at " ++ decimal at
 reason_of TooLong = codes "too long"
 reason_of Memory = []
 
--- Why it has no answer, by what was requested. Pressing has no limit: a symbol of the wide grammar that is read and refused has no
--- spelling that is read as the symbol.
+-- Why a symbol has no answer, by what was requested. Pressing has no limit: where a symbol of the wide grammar is read and
+-- refused, no spelling is read as that symbol.
 abbrev pub reason_for : Asked → Refusal → List ℕ
 reason_for WidePressed TooLong = codes "no spelling yet"
 reason_for asked refusal = reason_of refusal

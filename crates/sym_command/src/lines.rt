@@ -202,8 +202,8 @@ fn complaint(
     format!(in alloc; "symfilt: {word}: {reason}")
 }
 
-/// Why a symbol has no answer. Pressing has no limit: a symbol of the wide grammar that is read and refused has no spelling that is read as
-/// the symbol.
+/// Why a symbol has no answer. Pressing has no limit: where a symbol of the wide grammar is read and refused, no spelling is
+/// read as that symbol.
 fn reason_for(alloc: Global, asked: Asked, refusal: Refusal) -> Result<String, AllocError>
     ensures said { IfOk result (λ text. string_bytes text ≡ reason_for asked refusal) }
     ensures memory { OnOk result (refusal ≢ Refusal.Memory) }

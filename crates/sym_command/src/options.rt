@@ -102,7 +102,7 @@ fn command_line<'a>(alloc: Global) -> Result<Command<'a>, AllocError>
     command.arg(symbols(alloc))
 }
 
-/// A command line with the options on what is answered for a symbol.
+/// A command line with the options that choose a symbol's answer.
 fn with_answers<'a>(alloc: Global, command: Command<'a>) -> Result<Command<'a>, AllocError>
     ensures { IfOk result (λ with_them. app_of with_them
         ≡ with_rule (with_rule (with_rule (app_of command.entry) limit) (flag (codes "stats"))) (flag (codes "press"))) }
@@ -133,7 +133,7 @@ pub fn with_short<'a>(alloc: Global, command: Command<'a>) -> Result<Command<'a>
     with_flag(alloc, short, "keep-inline", KEEP_INLINE)
 }
 
-/// A command line with the options on what of a text is shown, and on the letters of words.
+/// A command line with the options on how much of a text is shown, and on the letters of words.
 fn with_details<'a>(alloc: Global, command: Command<'a>) -> Result<Command<'a>, AllocError>
     ensures { IfOk result (λ with_them. app_of with_them
         ≡ with_rule (with_rule (with_rule (app_of command.entry) (flag (codes "brief"))) (flag (codes "no-params"))) (flag (codes "ascii-words"))) }

@@ -17,6 +17,9 @@ const BYTES_AT_ONCE: usize = 128;
 /// So many bytes are copied at once where no more are added: most names are no longer.
 const FEW_BYTES: usize = 16;
 
+/// Two bytes more.
+const BEHIND_PAIR: usize = 18;
+
 /// So many bytes of the list itself are copied at once where no more are repeated.
 const SOME_BYTES: usize = 32;
 
@@ -180,7 +183,41 @@ impl Bounded<u8> {
         Some(())
     }
 
+    /// Adds two bytes, and after them the bytes from a place to another one, if there is room for all. Where they are few, bytes
+    /// after them are copied too, and removed again: so one write serves all.
+    #[inline(always)]
+    pub fn push_behind_pair(
+        &mut self,
+        first: u8,
+        second: u8,
+        bytes: &[u8],
+        from: usize,
+        to: usize,
+    ) -> Option<()>
+        requires from { from ≤ to }
+        requires to { to ≤ length bytes.now }
+        ensures items { OnSome result (self.new.list.items ≡ self.old.list.items ++ first ∷ second ∷ take (to - from) (drop from bytes.now)) }
+        ensures room { self.new.room ≡ self.old.room }
+    {
+        let end = self.list.len();
+        if to - from > FEW_BYTES
+            || bytes.len() - from < FEW_BYTES
+            || self.ready - end < BEHIND_PAIR
+        {
+            self.push_pair(first, second)?;
+            return self.push_part(bytes, from, to);
+        }
+        let mut copied = [0; BEHIND_PAIR];
+        copied[0] = first;
+        copied[1] = second;
+        copied[2..].copy_from_slice(&bytes[from..from + FEW_BYTES]);
+        self.list.extend_from_slice(&copied).ok()?;
+        self.list.truncate(end + 2 + (to - from));
+        Some(())
+    }
+
     /// Adds a copy of bytes that are in the list, if there is room for them.
+    #[inline(always)]
     pub fn repeat(&mut self, from: usize, to: usize) -> Option<()>
         requires from { from ≤ to }
         requires to { to ≤ length self.old.list.items }
@@ -191,6 +228,19 @@ impl Bounded<u8> {
         if to - from <= SOME_BYTES && end - from >= SOME_BYTES && self.ready - end >= SOME_BYTES {
             return copy_some_to_end(&mut self.list, from, to);
         }
+        self.repeat_any(from, to)
+    }
+
+    /// Likewise for any number of bytes.
+    // by itself, so that few bytes cost no saving of registers
+    #[inline(never)]
+    fn repeat_any(&mut self, from: usize, to: usize) -> Option<()>
+        requires from { from ≤ to }
+        requires to { to ≤ length self.old.list.items }
+        ensures items { OnSome result (self.new.list.items ≡ self.old.list.items ++ take (to - from) (drop from self.old.list.items)) }
+        ensures room { self.new.room ≡ self.old.room }
+    {
+        let end = self.list.len();
         if to - from > self.ready - end {
             self.make_ready(to - from, BYTES_AT_ONCE)?;
         }
@@ -207,6 +257,16 @@ impl Bounded<u8> {
         let kept = close_up(&mut self.list)?;
         self.list.truncate(kept);
         Some(())
+    }
+
+    /// Leaves only the first bytes of a list.
+    #[inline(always)]
+    pub fn keep_first(&mut self, count: usize)
+        requires within { count ≤ length self.old.list.items }
+        ensures items { self.new.list.items ≡ take count self.old.list.items }
+        ensures room { self.new.room ≡ self.old.room }
+    {
+        self.list.truncate(count);
     }
 
     /// Removes the first bytes of a list.

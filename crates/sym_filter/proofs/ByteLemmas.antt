@@ -1,4 +1,4 @@
--- The table of bytes is held against the definitions at each of the 256 bytes, by computing.
+-- The table of bytes agrees with the definitions at each of the 256 bytes, by computing.
 use Rattle.std.proofs.Common.{◌≡◌, ℕ, ◌<◌, Bool, true, false, ◌&&◌, not, map, cond, get_or, leb, refl, sym, ap, ◌∙◌, arith}
 use Rattle.std.proofs.lemmas.List.FromFn.{get_or-map-range_with_len}
 use Rattle.std.proofs.Math.Bool.{and-true}
@@ -46,7 +46,7 @@ is_any byte h = ap (leb 49) (read byte h) ∙ of_any (is_run_byte byte) (leb 128
 pub is_ascii : (byte : ℕ) → byte < 256 → leb 50 (get_or RUN_BYTES byte 0) ≡ is_byte_of Ascii byte
 is_ascii byte h = ap (leb 50) (read byte h) ∙ of_ascii (is_run_byte byte) (leb 128 byte) (is_divider byte)
 
--- where words are runs
+-- the table says which bytes close a word, where words are runs
 pub any_closes : (byte : ℕ) → byte < 256 → leb 49 (get_or RUN_BYTES byte 0) ≡ closes Any byte
 any_closes byte h = is_any byte h ∙ sym (and-true (is_byte_of Any byte))
 

@@ -122,7 +122,7 @@ named-are Within text =
     ap (flat_map (named_in_segment Within)) (segments-are text)
     ∙ flat_map-cons (named_in_segment Within) (segment_from Within Outside text) (segments_after Within Outside text)
 
--- where a text begins
+-- what is to be written where a text begins
 pub rest_of_text-start : (letters : Letters) (answers : Answering) (words : Words) (more : List ℕ) → words.letters ≡ letters → held_of words ≡ [] → words.past ≡ false → words.place ≡ START → rest_of_text answers words Outside more ≡ filtered_at letters answers more
 rest_of_text-start letters answers words more same nothing past start =
     ap (λ (l : Letters). rest_after answers words (segment_from l Outside more) ++ flat_map (filtered_segment l answers) (segments_after l Outside more)) same
@@ -139,7 +139,7 @@ tally_of_text-start letters answers words more same nothing past start counted =
     ∙ ap (λ (names : List (List ℕ)). tally_with texts (tally_with texts words.tally names) later) (sym (named_of-nothing letters words first same nothing past start))
     ∙ ap (λ (l : Letters). tally_with (answers_at l answers) (tally_with (answers_at l answers) words.tally (named_of words.letters (held_of words) words.past words.place (segment_from l Outside more))) (flat_map (named_in_segment l) (segments_after l Outside more))) (sym same)
 
--- where it ends
+-- what is to be written where a text ends
 pub rest_of_text-end : (answers : Answering) (words : Words) (escape : Escape) → rest_of_text answers words escape [] ≡ rest_after answers words []
 rest_of_text-end answers words escape = append-nil (rest_after answers words [])
 

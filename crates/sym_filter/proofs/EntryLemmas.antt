@@ -116,7 +116,7 @@ entries-ends letters answers run false place byte more h other =
     ap₂ (λ (a : List ℕ) (b : List Entry). left_of texts (find a) ++ b) (runs-end letters run byte more h other) (later-append letters answers run (byte ∷ more) h ∙ cond-false (is_byte_of letters byte) _ _ other)
     ∙ ap (λ (t : List Entry). t ++ rest) (sym (ap (λ (t : List Entry). word ++ t) none ∙ append-nil word))
 
--- where a run begins
+-- the entries in the rest of a text, where a run begins
 pub entries-start : (letters : Letters) (answers : Answering) (more : List ℕ) → entries_from letters answers [] false START more ≡ entries_in_segment letters answers more
 entries-start letters answers more =
     ap (λ (t : List Entry). t ++ later_entries letters answers more)
@@ -226,7 +226,7 @@ TakesEntries-past answers old new part same past past' in_run = record {
       ∙ ap (λ (t : List Entry). t ++ entries_after answers new more) (sym (newlines-run letters part in_run));
 }
 
--- such a run ends at a byte that belongs to no run
+-- a run that is passed on ends at a byte that belongs to no run
 TakesEntries-past_end : (answers : Answering) (old new : Words) (byte : ℕ) → new.letters ≡ old.letters → old.past ≡ true → new.past ≡ false → new.place ≡ START → held_of new ≡ [] → is_byte_of old.letters byte ≡ false → TakesEntries answers old new (byte ∷ []) (newlines_in (byte ∷ []))
 TakesEntries-past_end answers old new byte same past past' start nothing other = record {
   all = λ more.
@@ -236,7 +236,7 @@ TakesEntries-past_end answers old new byte same past past' start nothing other =
       ∙ ap₂ (λ (a b : List Entry). a ++ b) (sym (newlines-byte byte)) (sym (entries-nothing letters answers new more same nothing past' start));
 }
 
--- such a run ends at the first byte of a text
+-- a run that is passed on ends at the first byte of a text
 pub past-ends-entries : (answers : Answering) (old new : Words) (text : List ℕ) (count : ℕ) → new.letters ≡ old.letters → old.past ≡ true → new.past ≡ false → new.place ≡ START → held_of new ≡ [] → 0 < length text → count ≡ 0 → is_byte_of old.letters (get_or text count 0) ≡ false → TakesEntries answers old new (take 1 text) (newlines_in (take 1 text))
 past-ends-entries answers old new text count same past past' start nothing some none other =
     let first : take 1 text ≡ get_or text 0 0 ∷ [] = take_more text 0 0 some in

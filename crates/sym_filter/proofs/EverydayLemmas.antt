@@ -31,7 +31,7 @@ left-dots (byte ∷ bytes) h =
     let parts = or_parts (is_wide byte) (list_any is_wide bytes) h in
     ap₂ (λ (a b : Bool). (eqb byte 46 || a) && b) parts.0 (left-dots bytes parts.1) ∙ ap (λ (a : Bool). a && list_all is_dot bytes) (or_false (eqb byte 46))
 
--- a word is dots alone only where its run is
+-- if a word has only dots, its run has only dots
 dots-whole : (bytes : List ℕ) → list_all is_dot (word_of bytes) ≡ true → list_all is_dot bytes ≡ true
 dots-whole [] h = refl
 dots-whole (byte ∷ bytes) h = step (dots-whole bytes) (list_all is_dot (byte ∷ bytes)) refl h
@@ -86,7 +86,7 @@ front-none : (word : List ℕ) → starts_with nat_eq word (codes "__imp_") ≡ 
     → starts_with nat_eq word (codes "_GLOBAL__I_") ≡ false → starts_with nat_eq word (codes "_GLOBAL__D_") ≡ false → front_length word ≡ 0
 front-none word imp sub_i sub_d i d = rw (imp, sub_i, sub_d, i, d) refl
 
--- a symbol's first bytes begin no front: their second or third byte tells
+-- a word that begins like a symbol has no front before the symbol, as its second or third byte shows
 front-of : (word mark : List ℕ) (n : ℕ) → starts_with nat_eq word mark ≡ true → 1 < length mark → n < length mark → n < 6 → eqb (get_or mark n 0) (get_or (codes "__imp_") n 0) ≡ false → eqb (get_or mark 1 0) 71 ≡ false → front_length word ≡ 0
 front-of word mark n h long inside few imp global =
     let other = eqb-false (get_or mark 1 0) 71 global in
@@ -111,7 +111,7 @@ front-chosen word kind false false false false a b c d e = absurd (no_kind (sym 
 no-front : (word : List ℕ) (kind : Kind) → kind_by_beginning word ≡ Some kind → front_length word ≡ 0
 no-front word kind e = front-chosen word kind _ _ _ _ refl refl refl refl e
 
--- what a word's kind says of its length and its first bytes
+-- the length and the first bytes of a word, by the word's kind
 chosen : (b : Bool) (o : Option Kind) (kind : Kind) → cond b o None ≡ Some kind → (b ≡ true) × (o ≡ Some kind)
 chosen true o kind e = (refl, e)
 chosen false o kind e = cc

@@ -47,7 +47,7 @@ or-false : (a b : Bool) → (a || b) ≡ false → (a ≡ false) × (b ≡ false
 or-false true b h = cc
 or-false false b h = (refl, h)
 
--- a range that ends before another which begins with it
+-- a byte outside of a range is outside of each shorter range that begins at the same byte
 narrower : (low high wide byte : ℕ) (a b : Bool) → leb low byte ≡ a → leb byte wide ≡ b → high ≤ wide → (a && b) ≡ false → (a && leb byte high) ≡ false
 narrower low high wide byte true true e f h i = cc
 narrower low high wide byte true false e f h i = lt-leb byte high (omega (arith, h, leb-false byte wide f))
@@ -137,7 +137,7 @@ module _ (byte : ℕ) (other : is_in_escapes Within byte ≡ false) where
     last-after : (escape : Escape) → segments_after Within escape (byte ∷ more) ≡ segments_after Within Outside more
     last-after escape = cond-false (cuts_after Within escape byte) _ _ (ends-none escape) ∙ ap (λ (e : Escape). segments_after Within e more) (comes-outside escape)
 
-    -- after a front of a segment
+    -- joined texts, after a front of a segment
     text-joined : (front : List ℕ) (escape : Escape) (text : List ℕ) → change (front ++ segment_from Within escape (text ++ (byte ∷ more))) ++ after escape (text ++ (byte ∷ more))
         ≡ (change (front ++ segment_from Within escape text) ++ after escape text) ++ (byte ∷ (change (segment_from Within Outside more) ++ after Outside more))
     text-joined front escape [] =

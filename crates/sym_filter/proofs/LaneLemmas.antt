@@ -1,4 +1,4 @@
--- From the mask of sixteen bytes to those at the front that are of a class.
+-- From the mask of sixteen bytes to the bytes at the front that are of a class.
 use Rattle.std.proofs.Common.{◌≡◌, ℕ, ◌+◌, ◌%◌, ◌^◌, ◌<◌, ◌≤◌, Bool, true, false, not, ◌||◌, List, [], ◌∷◌, map, length, take, drop, get_or, replicate, Fits, w8, refl, sym, ap, ap₂, ◌∙◌, subst, arith, inl, inr}
 use Rattle.std.proofs.lemmas.Bool.{agree_below, agree_below_at, and_parts, and_from, not-true, cases_eq, eq-eqb, ne_eqb, cond-true, cond-false}
 use Rattle.std.proofs.lemmas.Simd.{map-map, mask_l-mod, length-chunk, get_or-chunk, leading_from_mask_l, trailing_mask_l}
@@ -72,11 +72,11 @@ module _ (q : ℕ → Bool) (d : List ℕ) (i r : ℕ) (z : List ℕ) (room : i 
 pub all-longer : (q : ℕ → Bool) (text : List ℕ) (i r : ℕ) → list_all q (take i text) ≡ true → list_all q (take r (drop i text)) ≡ true → list_all q (take (i + r) text) ≡ true
 all-longer q text i r front more = ap (list_all q) (take-add i r text) ∙ list_all-append q (take i text) (take r (drop i text)) ∙ and_from _ _ front more
 
--- and sixteen more after those from a place on
+-- bytes from a place on pass, and so do sixteen more after them
 pub all-next : (q : ℕ → Bool) (text : List ℕ) (at n : ℕ) → list_all q (take n (drop at text)) ≡ true → list_all q (take 16 (drop (at + n) text)) ≡ true → list_all q (take (n + 16) (drop at text)) ≡ true
 all-next q text at n front more = all-longer q (drop at text) n 16 front (subst (λ (t : List ℕ). list_all q (take 16 t) ≡ true) (sym (drop-drop n at text)) more)
 
--- what belongs to runs of ASCII letters belongs to those of any
+-- bytes of runs of ASCII letters are bytes of runs of any letters
 pub of_letters : (letters : Letters) (bytes : List ℕ) → list_all (is_byte_of Ascii) bytes ≡ true → list_all (is_byte_of letters) bytes ≡ true
 of_letters Ascii bytes h = h
 of_letters Any [] h = refl

@@ -1,4 +1,4 @@
--- What clauses name by a constant has this number.
+-- The number of the constant that clauses name.
 use Rattle.std.specs.Prelude.{◌≡◌}
 use Rattle.std.proofs.Common.{refl}
 use Rattle.sym_filter.specs.declared.kinds.TheConstants.{LONGEST_WORD}

@@ -113,7 +113,7 @@ pub after-held : (held : List ℕ) (dots : ℕ) → word_of held ≡ held → do
 after-held held dots h =
     ap (λ (w : List ℕ). drop (length w) (held ++ replicate dots 46)) (word_of-held held dots h) ∙ drop-append_seam held (replicate dots 46)
 
--- a part that isn't dots alone is in the word after the run, up to its last byte that is no dot
+-- a part with a byte that is no dot continues the run's word, up to the last such byte
 pub word_of-part : (run part : List ℕ) → list_all is_dot part ≡ false → word_of (run ++ part) ≡ run ++ word_of part
 word_of-part [] part h = refl
 word_of-part (byte ∷ run) part h =

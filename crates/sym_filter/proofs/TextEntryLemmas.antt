@@ -18,7 +18,7 @@ use Rattle.sym_filter.proofs.CarryLemmas.{no-segment, whole-segment}
 use Rattle.sym_filter.proofs.EntryLemmas.{entries-nothing}
 use Rattle.sym_filter.proofs.EscapeLemmas.{segments-are}
 
--- for all letters
+-- the entries of a text by segments, for all letters
 pub entries-are : (letters : Letters) (answers : Answering) (text : List ℕ) → entries_of letters answers text
     ≡ entries_in_segment letters answers (segment_from letters Outside text) ++ flat_map (entries_in_segment letters answers) (segments_after letters Outside text)
 entries-are Any answers text =
@@ -31,7 +31,7 @@ entries-are Within answers text =
     ap (flat_map (entries_in_segment Within answers)) (segments-are text)
     ∙ flat_map-cons (entries_in_segment Within answers) (segment_from Within Outside text) (segments_after Within Outside text)
 
--- where a text begins
+-- the entries still to come where a text begins
 pub rest-start : (letters : Letters) (answers : Answering) (words : Words) (more : List ℕ) → words.letters ≡ letters → held_of words ≡ [] → words.past ≡ false → words.place ≡ START → entries_in_rest answers words Outside more ≡ entries_of letters answers more
 rest-start letters answers words more same nothing past start =
     let later = flat_map (entries_in_segment letters answers) (segments_after letters Outside more) in
@@ -39,7 +39,7 @@ rest-start letters answers words more same nothing past start =
     ∙ ap (λ (t : List Entry). t ++ later) (entries-nothing letters answers words (segment_from letters Outside more) same nothing past start)
     ∙ sym (entries-are letters answers more)
 
--- where it ends
+-- the entries still to come where a text ends
 pub rest-end : (answers : Answering) (words : Words) (escape : Escape) → entries_in_rest answers words escape [] ≡ entries_after answers words []
 rest-end answers words escape = append-nil (entries_after answers words [])
 

@@ -258,7 +258,7 @@ Takes-past answers old new part same past past' in_run counted dots =
       letters = same;
     }
 
--- such a run ends at a byte that belongs to no run
+-- a run that is passed on ends at a byte that belongs to no run
 pub Takes-past_end : (answers : Answering) (old new : Words) (byte : ℕ) → new.letters ≡ old.letters → old.past ≡ true → new.past ≡ false → new.place ≡ START → held_of new ≡ [] → is_byte_of old.letters byte ≡ false → new.tally ≡ old.tally → new.dots ≡ old.dots → Takes answers old new (byte ∷ []) (byte ∷ [])
 Takes-past_end answers old new byte same past past' start nothing other counted dots =
     let letters = old.letters in
@@ -274,7 +274,7 @@ Takes-past_end answers old new byte same past past' start nothing other counted 
       letters = same;
     }
 
--- such a run ends at the first byte of a text
+-- a run that is passed on ends at the first byte of a text
 pub past-ends : (answers : Answering) (old new : Words) (text : List ℕ) (count : ℕ) → new.letters ≡ old.letters → old.past ≡ true → new.past ≡ false → new.place ≡ START → held_of new ≡ [] → 0 < length text → count ≡ 0 → is_byte_of old.letters (get_or text count 0) ≡ false → new.tally ≡ old.tally → new.dots ≡ old.dots → Takes answers old new (take 1 text) (take 1 text)
 past-ends answers old new text count same past past' start nothing some none other counted dots =
     let first : take 1 text ≡ get_or text 0 0 ∷ [] = take_more text 0 0 some in

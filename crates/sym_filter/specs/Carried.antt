@@ -60,7 +60,7 @@ ends_with other byte = false
 abbrev pub cuts_after : Letters → Escape → ℕ → Bool
 cuts_after letters escape byte = begins_within letters && ends_with escape byte
 
--- the segments of a text after a front of it, of which this much of an escape was read
+-- the rest of a segment, after a front that ends with this much of an escape
 abbrev pub segment_from : Letters → Escape → List ℕ → List ℕ
 segment_from letters escape [] = []
 segment_from letters escape (byte ∷ text) =

@@ -43,6 +43,6 @@ entries_of Any answers text = entries_in_segment Any answers text
 entries_of Ascii answers text = entries_in_segment Ascii answers text
 entries_of Within answers text = flat_map (entries_in_segment Within answers) (segments_of text)
 
--- the word that is left at the end of some bytes: the last ones, as many as are counted, or none
+-- the word that is left at the end of some bytes: the last `count` of them, or no word where `count` is 0
 abbrev pub left_at_end : ℕ → List ℕ → List Entry
 left_at_end count bytes = if count == 0 then [] else left_word (drop (length bytes - count) bytes) ∷ []

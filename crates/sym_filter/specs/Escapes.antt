@@ -47,7 +47,7 @@ are_digits [] bytes = is_empty bytes
 are_digits (digit ∷ esc) [] = false
 are_digits (digit ∷ esc) (byte ∷ bytes) = is_hex_digit byte && are_digits esc bytes
 
--- As many hexadecimal digits as these, which spell ESC. If the digits spell it, too, what may follow ESC may come after
+-- As many hexadecimal digits as `esc` has, which spells ESC. If these digits spell ESC, too, what may follow ESC may come after
 -- them.
 abbrev pub follows_hex : (esc : List ℕ) → List ℕ → Bool
 follows_hex [] bytes = is_empty bytes || follows_esc bytes

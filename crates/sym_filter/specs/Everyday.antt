@@ -1,4 +1,4 @@
--- What the filter whose words begin within runs has in common with the one whose words are runs.
+-- What two filters have in common: the one whose words begin within runs, and the one whose words are runs.
 use Rattle.std.specs.Prelude.{◌≡◌, ℕ, List, true, false}
 use Rattle.std.specs.List.{list_any}
 use Rattle.sym_filter.specs.declared.kinds.Letters.TheVariants.{Any, Within}

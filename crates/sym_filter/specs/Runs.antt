@@ -84,7 +84,7 @@ is_begun (byte ∷ bytes) = byte == 95
 
 -- ## The text for a word that begins within a run
 
--- a word without its last bytes, as far as these are dots or not ASCII
+-- a word without the dots and the bytes that aren't ASCII at its end
 abbrev pub trimmed : List ℕ → List ℕ
 trimmed [] = []
 trimmed (byte ∷ bytes) = if list_all (λ other. other == 46 || is_wide other) (byte ∷ bytes) then [] else byte ∷ trimmed bytes
@@ -98,7 +98,7 @@ abbrev pub followed_by : List ℕ → Option (List ℕ) → Option (List ℕ)
 followed_by rest None = None
 followed_by rest (Some text) = Some (text ++ rest)
 
--- The first try: the word without its last bytes that aren't ASCII or are dots, replaced by its text, and then those
+-- The first try: the word without the dots and the bytes that aren't ASCII at its end, replaced by its text, and then those
 -- bytes.
 abbrev pub text_of_front : Answering → List ℕ → Option (List ℕ)
 text_of_front answers word = followed_by (drop (length (trimmed word)) word) (text_for answers (trimmed word))

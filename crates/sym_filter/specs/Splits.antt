@@ -43,7 +43,7 @@ abbrev pub FilteredByJoinsAt : Letters → Type 0
 FilteredByJoinsAt letters = (answers : Answering) (text more : List ℕ) (byte : ℕ) → is_byte_of letters byte ≡ false → is_in_escapes letters byte ≡ false →
     filtered_at letters answers (text ++ (byte ∷ more)) ≡ filtered_at letters answers text ++ (byte ∷ filtered_at letters answers more)
 
--- the same, where words have any letters
+-- filtering by splits, where words have any letters
 abbrev pub FilteredBySplits : Type 0
 FilteredBySplits = FilteredBySplitsAt Any
 

@@ -1,4 +1,4 @@
-// What the filter and the command ask of the languages below them.
+// What the filter and the command require of the languages below them.
 ghost use Rattle.std.specs.Prelude.{List, ℕ, Result};
 ghost use Rattle.sym_core.specs.Number.{FitsSymbol};
 ghost use Rattle.sym_core.specs.declared.counts.Counts.{Counts as Counts-type};
@@ -14,11 +14,11 @@ use sym_core::{Counts, Refusal};
 /// What became of a symbol. One that is read has counts, whether its text keeps to the limit or not.
 #[derive(Clone, Copy, Debug, PartialEq, Eq)]
 pub enum Demangled {
-    /// Its text was appended.
+    /// The symbol's text was appended.
     Text(Counts),
-    /// It is read, and its text costs more than the limit.
+    /// The symbol is read, and its text costs more than the limit.
     TooLong(Counts),
-    /// It isn't read, or memory ran out.
+    /// The symbol isn't read, or memory ran out.
     Refused(Refusal),
 }
 

@@ -18,8 +18,8 @@ use crate::streams::{FilterFault, Sink, Source, write_out};
 use crate::words::{Taken, Tally, Words};
 use std::alloc::{AllocError, Global};
 
-/// How many bytes are read at a time, and from how many on they are written.
-// With four times as many a start took a quarter more instructions, since their room is cleared.
+/// How many bytes are read at a time. Bytes that wait are written once they are at least this many.
+// With four times as many, a start took a quarter more instructions, since the room for them is cleared.
 const READ_SIZE: usize = 16_384;
 
 /// Reads all that the source gives, and writes it with each word that names a symbol replaced by the text that a demangler gives it.
@@ -86,8 +86,8 @@ pub fn filter_telling<R: Source, W: Sink, D: Demangler, P: Report>(
     filter_promptly(alloc, reader, writer, demangler, letters, report)
 }
 
-/// The same over a source that may be read only where the filter is prompt: at each read all that is decided was written, and what
-/// waits is a front of one word, of at most 65,536 bytes, and a count of dots.
+/// The filter with a report, over a source that may be read only where the filter is prompt: at each read all that is decided
+/// was written, and what waits is a front of one word, of at most 65,536 bytes, and a count of dots.
 pub fn filter_promptly<R: PromptSource<W>, W: Sink, D: Demangler, P: Report>(
     alloc: Global,
     reader: &mut R,
@@ -109,7 +109,7 @@ pub fn filter_promptly<R: PromptSource<W>, W: Sink, D: Demangler, P: Report>(
     ensures same_failures { OnOk result (P.failure_count report.new ≡ P.failure_count report.old) }
     ensures write_failed { W.failure_count writer.new + P.failure_count report.new ≡ W.failure_count writer.old + P.failure_count report.old + writer_faults result }
 {
-    // Asked for its range: a u64, so the proof knows that the reads, and the dots that wait, are bounded.
+    // The call tells the proof that the count is a u64, so that the reads, and the dots that wait, are bounded.
     let _left = reader.left();
     let mut words = Words::new(alloc, letters);
     let mut escape = Escape::Outside;
@@ -291,7 +291,7 @@ fn take_words<W: Sink, D: Demangler, P: Report>(
     Ok(())
 }
 
-/// Puts the rest of a filtered segment, at the segment's end, after the bytes that wait to be written.
+/// At a segment's end, puts the rest of the filtered segment after the bytes that wait to be written.
 fn end_segment<W: Sink, D: Demangler, P: Report>(
     demangler: &D,
     lists: &mut D::Lists,

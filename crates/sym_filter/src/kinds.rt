@@ -13,8 +13,8 @@ pub enum Letters {
     Any,
     /// None, so that a word ends at a quote that isn't ASCII. A word is a run.
     Ascii,
-    /// All from 0x80. A word begins within a run, where one that names a symbol may, and goes on to the run's end; bytes from 0x80 in it
-    /// may belong to no symbol.
+    /// All from 0x80. A word begins within a run, where one that names a symbol may begin, and continues to the run's end;
+    /// bytes from 0x80 in it may belong to no symbol.
     Within,
 }
 

@@ -11,7 +11,7 @@ use std::simd::prelude::*;
 /// The number of bytes that are tested at once.
 pub(crate) const LANES: usize = 16;
 
-/// The number of bytes that are tested at once for whether any of them is of a class.
+/// The number of bytes in a block, which is tested at once for any byte of a class.
 pub(crate) const BLOCK: usize = 64;
 
 /// The place of the lowest bit that is set, or the number of lanes where no bit is.
@@ -26,7 +26,7 @@ fn first_set(mask: u64) -> usize
     }
 }
 
-/// The lanes that are `_`, as bits: of the sixteen bytes from a place on.
+/// Which of the sixteen bytes from a place on are `_`, as bits.
 #[inline(always)]
 fn marks(text: &[u8], at: usize) -> u64
     requires { at + 16 ≤ length text.now }
@@ -67,7 +67,7 @@ pub(crate) fn block_has_no_mark(text: &[u8], at: usize) -> bool
         & has_no_mark(text, at + 3 * LANES)
 }
 
-/// The lanes that are a backslash or ESC, as bits: of the sixteen bytes from a place on.
+/// Which of the sixteen bytes from a place on are a backslash or ESC, as bits.
 #[inline(always)]
 fn leads(text: &[u8], at: usize) -> u64
     requires { at + 16 ≤ length text.now }

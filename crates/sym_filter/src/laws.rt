@@ -27,8 +27,8 @@ pub fn tries_decide()
     ensures few { TriesAreFew }
 {}
 
-/// A law over the definitions alone: a run in ASCII whose word has a text is replaced by the same text where words begin within runs
-/// as where words are runs.
+/// A law over the definitions alone: where a run in ASCII has a word with a text, the same text replaces it whether words begin
+/// within runs or are runs.
 pub fn replaced_alike()
     ensures { ReplacedAlike }
 {}

@@ -209,7 +209,7 @@ fn place_at(letters: Letters, text: &[u8], at: usize, place: Place) -> Place
     place_in_stretch(letters, text, at, place)
 }
 
-/// The same, by the bytes of the last stretch alone.
+/// The place after a text that begins at a place, by the bytes of the last stretch alone.
 // out of line, so that all others pay nothing for it
 #[inline(never)]
 fn place_in_stretch(letters: Letters, text: &[u8], at: usize, place: Place) -> Place

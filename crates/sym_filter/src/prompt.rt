@@ -15,7 +15,7 @@ pub trait PromptSource<W: Sink> {
     ghost failure_count: { Self → ℕ };
     // the reads that it can still answer
     ghost reads_left: { Self → ℕ };
-    // it may be read beside a sink
+    // the source may be read beside a sink
     ghost MayRead: { Self → W → Type 0 };
 
     /// Reads at most 16,384 bytes, where the source may be read with the sink in this state.

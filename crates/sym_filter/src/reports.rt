@@ -9,9 +9,9 @@ use crate::streams::FilterFault;
 pub trait Report {
     // how often it has failed
     ghost failure_count: { Self → ℕ };
-    // it was given these entries
+    // the report was given these entries
     ghost Tells: { Self → Self → List Entry → Type 0 };
-    // it was given a beginning of these entries, the last of them maybe in part
+    // the report was given a beginning of these entries, the last of them maybe in part
     ghost Stops: { Self → Self → List Entry → Type 0 };
 
     /// Takes bytes of the text. The bytes that end a word come after the word, if it is left.

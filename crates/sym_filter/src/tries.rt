@@ -64,8 +64,8 @@ fn append_tries<D: Demangler>(
     Ok(part_read)
 }
 
-/// Appends the text of a word whose last byte is ASCII and no dot, by one of its tries, if any, and answers whether it
-/// has one. Its first two tries are one.
+/// Appends the text of a word whose last byte is ASCII and no dot, by one of its tries, if any, and answers whether it has one.
+/// Its first two tries are the same.
 #[inline(always)]
 fn append_whole<D: Demangler>(
     demangler: &D,
@@ -87,7 +87,7 @@ fn append_whole<D: Demangler>(
     Ok(part_read)
 }
 
-/// Where the last bytes of a word begin that are dots or aren't ASCII.
+/// Where the dots and the bytes that aren't ASCII at a word's end begin.
 fn trimmed_end(word: &[u8]) -> usize
     ensures within { result ≤ length word.now }
     ensures trimmed { take result word.now ≡ trimmed word.now }

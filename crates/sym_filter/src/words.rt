@@ -206,9 +206,8 @@ impl Words {
         }
     }
 
-    /// Takes bytes from the front of a text, appends what is known of the filtered text by them, and answers what
-    /// follows on that.
-    // as a call of its own, which it is where a program has it with two reports, it took a tenth of the filter's instructions over a log
+    /// Takes bytes from the front of a text, appends what they decide of the filtered text, and answers what follows it.
+    // in a program with two reports it was a call of its own, and took a tenth of the filter's instructions over a log
     #[inline(always)]
     pub fn take<D: Demangler>(
         &mut self,

@@ -3,6 +3,8 @@ pub mod Building
 pub mod Leading
 pub mod Noting
 pub mod Peak
+pub mod Running
+pub mod Sparing
 pub mod Stack
 pub mod Stacking
 pub mod Unfolding

@@ -14,8 +14,10 @@ use Rattle.sym_print.specs.declared.notes.Notes.{Notes}
 use Rattle.sym_print.specs.Unshared.{Unshared, bytes, item, done, text_of, cost_of_parts, cost_of, steps_of_parts, steps_of}
 use Rattle.sym_print.specs.Stacked.{Stacked}
 use Rattle.sym_print.specs.Joined.{IsNext, IsText, text_of_part, cost_of_part, steps_of_part, text_of_stack, cost_of_stack, steps_of_stack}
+use Rattle.sym_print.specs.Spare.{spare_of_part, spare_of_stack}
 use Rattle.sym_print.specs.Noted.{IsNote, IsBegun, AreNested, AreBelow, EndsAt, AreNoted}
 use Rattle.sym_print.proofs.Stack.{next_is_last, text_of_stack-append, cost_of_stack-append, steps_of_stack-append, text_of_stack-reverse, cost_of_stack-reverse, steps_of_stack-reverse, text_of_text, cost_of_text, steps_of_text, cost_of_next}
+use Rattle.sym_print.proofs.Sparing.{spare_of_stack-append, spare_of_text}
 
 -- a text costs at least its bytes
 pub length_of_text : (parts : Unshared) → length (text_of parts) ≤ cost_of_parts parts
@@ -59,6 +61,10 @@ joined-on : (d own up rest one whole : List ℕ) → own ++ up ≡ one → d ++ 
 joined-on d own up rest one whole e w =
     append_assoc d own (up ++ rest) ∙ ap (λ t. d ++ t) (sym (append_assoc own up rest)) ∙ ap (λ t. d ++ (t ++ rest)) e ∙ w
 
+-- steps that are paid stay so
+spare-on : (since begun spent paid taken counted old new : ℕ) → taken + begun ≤ since + spent + old → counted + spent + old ≤ taken + paid + new → counted + begun ≤ since + paid + new
+spare-on since begun spent paid taken counted old new before now = omega (arith, before, now)
+
 module _ {C : Type 0} (unshared : Item C → Unshared) (bytes_of : Part C → List ℕ) where
   shown : List (Part C) → List ℕ
   shown = text_of_stack unshared bytes_of
@@ -68,6 +74,9 @@ module _ {C : Type 0} (unshared : Item C → Unshared) (bytes_of : Part C → Li
 
   count : List (Part C) → ℕ
   count = steps_of_stack unshared bytes_of
+
+  spare : List (Part C) → ℕ
+  spare = spare_of_stack bytes_of
 
   -- One entry was taken: other entries are in its place, and what they don't print any more is written.
   pub record Moves (stack new : List (Part C)) (text written : List ℕ) (spent paid taken counted : ℕ) : Type 0 where
@@ -81,7 +90,7 @@ module _ {C : Type 0} (unshared : Item C → Unshared) (bytes_of : Part C → Li
     pub shows : own ++ text_of_stack unshared bytes_of above ≡ text_of_part unshared bytes_of next
     pub costs : paid + cost_of_stack unshared bytes_of above ≡ spent + cost_of_part unshared bytes_of next
     pub takes : counted + steps_of_stack unshared bytes_of above ≡ taken + steps_of_part unshared bytes_of next
-    pub few : counted + spent ≤ taken + paid
+    pub few : counted + spent + spare_of_part bytes_of next ≤ taken + paid + spare_of_stack bytes_of above
 
   -- the text and the stack together print the same as before
   pub text-moved : (stack new : List (Part C)) (text written : List ℕ) (spent paid taken counted : ℕ) → Moves stack new text written spent paid taken counted
@@ -120,6 +129,20 @@ module _ {C : Type 0} (unshared : Item C → Unshared) (bytes_of : Part C → Li
         m.takes,
       )
 
+  -- the steps are paid as before, or will be with the texts of the stack
+  pub spare-moved : (stack new : List (Part C)) (text written : List ℕ) (spent paid taken counted : ℕ) → Moves stack new text written spent paid taken counted
+      → counted + spent + spare_of_stack bytes_of stack ≤ taken + paid + spare_of_stack bytes_of new
+  unfolding spare
+  spare-moved stack new text written spent paid taken counted m =
+      omega (
+        arith,
+        ap spare m.is,
+        ap spare m.was,
+        spare_of_stack-append bytes_of m.left m.above,
+        spare_of_stack-append bytes_of m.left (m.next ∷ []),
+        m.few,
+      )
+
   -- the entries above a place that is below the entry taken move as the whole stack does
   moved-above : (stack new : List (Part C)) (text written : List ℕ) (spent paid taken counted below from : ℕ) → Moves stack new text written spent paid taken counted
       → below < length stack → from ≤ length text → Moves (drop below stack) (drop below new) (drop from text) (drop from written) spent paid taken counted
@@ -147,7 +170,7 @@ module _ {C : Type 0} (unshared : Item C → Unshared) (bytes_of : Part C → Li
         is = text-moved (drop b.below stack) (drop b.below new) (drop b.from text) (drop b.from written) spent paid taken counted up ∙ h.is;
         costs = cost-moved (drop b.below stack) (drop b.below new) (drop b.from text) (drop b.from written) spent paid taken counted up ∙ h.costs;
         takes = steps-moved (drop b.below stack) (drop b.below new) (drop b.from text) (drop b.from written) spent paid taken counted up ∙ h.takes;
-        few = omega (arith, m.few, h.few);
+        few = spare-on b.steps b.spent spent paid taken counted (spare_of_stack bytes_of (drop b.below stack)) (spare_of_stack bytes_of (drop b.below new)) h.few (spare-moved (drop b.below stack) (drop b.below new) (drop b.from text) (drop b.from written) spent paid taken counted up);
       }
 
   -- a note still holds once more is written
@@ -203,7 +226,7 @@ module _ {C : Type 0} (unshared : Item C → Unshared) (bytes_of : Part C → Li
     shows = append-nil (bytes_of next) ∙ sym (text_of_text unshared bytes_of next is_text);
     costs = omega (arith, pays, cost_of_text unshared bytes_of next is_text);
     takes = omega (arith, counts, steps_of_text unshared bytes_of next is_text);
-    few = omega (arith, pays, counts);
+    few = omega (arith, pays, counts, spare_of_text bytes_of next is_text, some);
   }
 
   -- the text of an item was written again and the item was removed
@@ -306,7 +329,7 @@ module _ {C : Type 0} (unshared : Item C → Unshared) (bytes_of : Part C → Li
         ends = omega (arith, to, from, h.within, ap length whole, length-drop b.from text, ap (λ x. length (text_of (unshared x))) same);
         costs = omega (arith, pays, h.costs, ap (cost_of_stack unshared bytes_of) none, ap (λ x. cost_of (unshared x)) same);
         takes = omega (arith, counts, h.takes, ap (steps_of_stack unshared bytes_of) none, ap (λ x. steps_of (unshared x)) same);
-        few = omega (arith, pays, counts, h.few);
+        few = omega (arith, pays, counts, h.few, ap (spare_of_stack bytes_of) none);
       } in record {
         known = All-weaker (λ x. (x ≡ n) ⊎ Contains old.known.items x) (IsNote unshared text)
             (λ x. ⊎_elim (λ e. subst (IsNote unshared text) (sym e) note) (λ c. All-contains (IsNote unshared text) old.known.items x noted.known c)) new.known.items adds;

@@ -1,5 +1,5 @@
 -- No entry that is taken from a stack raises the most entries that it has.
-use Rattle.std.proofs.Common.{◌≡◌, ℕ, suc, ◌+◌, ◌-◌, ◌*◌, ◌≤◌, List, [], ◌∷◌, ◌++◌, length, take, reverse, ap, subst, sym, arith, max}
+use Rattle.std.proofs.Common.{◌≡◌, ℕ, suc, ◌+◌, ◌-◌, ◌*◌, ◌≤◌, List, [], ◌∷◌, ◌++◌, length, take, reverse, ap, subst, sym, arith}
 use Rattle.std.proofs.lemmas.List.{reverse-append, length-append, length-reverse}
 use Rattle.sym_print.specs.declared.layout.Item.{Item}
 use Rattle.sym_print.specs.declared.layout.Part.{Part}
@@ -86,3 +86,15 @@ module _ {C : Type 0} (unshared : Item C → Unshared) (bytes_of : Part C → Li
       let high = peak_last most 0 left (Sub i) whole in
       let above : peak_above unshared (0 + length left) (reverse parts) ≤ most = omega (arith, peak_low (height_of (unshared i)) (0 + length left) (reverse parts) low, high, length-reverse parts, count) in
       omega (arith, ap (λ xs. peak_above unshared 0 xs) is, peak_both most 0 left (reverse parts) (peak_under most 0 left (Sub i) whole) above)
+
+  -- entries that are no higher than the next one come in its place
+  pub peak_of_turn : (stack new above : List (Part C)) (next : Part C) → IsNext stack next → new ≡ take (length stack - 1) stack ++ above
+      → peak_above unshared (length (take (length stack - 1) stack)) above ≤ length (take (length stack - 1) stack) + 1 + 7 * height_of_part unshared next
+      → peak_of_stack unshared new ≤ peak_of_stack unshared stack
+  peak_of_turn stack new above next is_next is low =
+      let most = peak_above unshared 0 stack in
+      let left = take (length stack - 1) stack in
+      let whole = same_peak stack (left ++ next ∷ []) (next_is_last stack next is_next) in
+      let high : peak_above unshared (0 + length left) above ≤ most =
+      peak_at most (length left) (0 + length left) above (omega arith) (omega (arith, low, peak_last most 0 left next whole)) in
+      omega (arith, ap (λ xs. peak_above unshared 0 xs) is, peak_both most 0 left above (peak_under most 0 left next whole) high)

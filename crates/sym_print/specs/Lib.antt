@@ -4,6 +4,8 @@ pub mod Answer
 pub mod Joined
 pub mod Peak
 pub mod Stacked
+pub mod Runs
+pub mod Spare
 pub mod Noted
 pub mod Held
 pub mod Progress

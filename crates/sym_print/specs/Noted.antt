@@ -8,6 +8,7 @@ use Rattle.sym_print.specs.declared.notes.Begun.{Begun}
 use Rattle.sym_print.specs.declared.notes.Notes.{Notes}
 use Rattle.sym_print.specs.Unshared.{Unshared, text_of, cost_of, steps_of}
 use Rattle.sym_print.specs.Joined.{text_of_stack, cost_of_stack, steps_of_stack}
+use Rattle.sym_print.specs.Spare.{spare_of_stack}
 
 -- A note says where the text of its item is, what the item costs and how many steps it takes.
 pub record IsNote {C : Type 0} (unshared : Item C → Unshared) (text : List ℕ) (note : Note C) : Type 0 where
@@ -19,14 +20,15 @@ pub record IsNote {C : Type 0} (unshared : Item C → Unshared) (text : List ℕ
   pub takes : note.steps ≡ steps_of (unshared note.item)
   pub few : note.steps ≤ note.cost
 
--- An item was begun: its text, its cost and its steps are those since then, and those of the entries above its place.
+-- An item was begun: its text, its cost and its steps are those since then, and those of the entries above its place. The steps are
+-- paid, or will be with the texts above its place.
 pub record IsBegun {C : Type 0} (unshared : Item C → Unshared) (bytes_of : Part C → List ℕ) (stack : List (Part C)) (text : List ℕ) (spent taken : ℕ) (begun : Begun C) : Type 0 where
   pub place : begun.below ≤ length stack
   pub within : begun.from ≤ length text
   pub is : drop begun.from text ++ text_of_stack unshared bytes_of (drop begun.below stack) ≡ text_of (unshared begun.item)
   pub costs : spent + cost_of_stack unshared bytes_of (drop begun.below stack) ≡ begun.spent + cost_of (unshared begun.item)
   pub takes : taken + steps_of_stack unshared bytes_of (drop begun.below stack) ≡ begun.steps + steps_of (unshared begun.item)
-  pub few : taken + begun.spent ≤ begun.steps + spent
+  pub few : taken + begun.spent ≤ begun.steps + spent + spare_of_stack bytes_of (drop begun.below stack)
 
 module _ {C : Type 0} where
   -- items that were begun one within the other: each has its place no lower than the item before

@@ -6,13 +6,15 @@ ghost use Rattle.std.specs.List.{All};
 ghost use Rattle.sym_print.specs.Joined.{text_of_stack, cost_of_stack, steps_of_stack, IsText, IsNext};
 ghost use Rattle.sym_print.specs.Noted.{IsNote, AreNoted, AreBelow, EndsAt};
 ghost use Rattle.sym_print.specs.Peak.{peak_of_stack};
+ghost use Rattle.sym_print.specs.Runs.{IsRun, entries_of_run, steps_of_run};
+ghost use Rattle.sym_print.specs.Spare.{spare_of_stack};
 ghost use Rattle.sym_print.specs.Stacked.{Stacked};
 ghost use Rattle.sym_print.specs.Unshared.{text_of};
 ghost use Rattle.sym_print.specs.declared.layout.Part.{Part};
 ghost use Rattle.sym_core.specs.declared.Refusal.{Refusal};
 ghost use Rattle.sym_room.specs.Room.{IsGrown, most_for};
 
-use crate::layout::{Item, Layout, Part};
+use crate::layout::{Item, Layout, Part, Run};
 use crate::meter::Meter;
 use crate::notes::{Begun, Note, Notes};
 use std::alloc::AllocError;
@@ -316,10 +318,94 @@ fn begin_item<Y: Layout>(
     }
 }
 
-/// Takes the next entry, an item. Where the item is noted its text is written again; otherwise its parts take its
-/// place.
-#[inline(always)]
-fn print_item<Y: Layout>(
+/// Puts the end of a run of items, and below it the text after that, in the place of the next entry, which begins the run.
+fn open_run<C: Copy>(
+    run: Run<C>,
+    stack: &mut Vec<Part<C>>,
+    meter: &mut Meter,
+) -> Result<(), Refusal>
+    requires some { 0 < vec_len stack.old }
+    requires levels { 0 < run.levels }
+    ensures items { OnOk result (stack.new.items ≡ take (length stack.old.items - 1) stack.old.items ++ entries_of_run run.item run.text) }
+    ensures len { OnOk result (vec_len stack.new ≤ vec_len stack.old + 1) }
+    ensures spent { OnOk result (meter.new.spent ≡ meter.old.spent + run.levels) }
+    ensures steps { OnOk result (meter.new.steps ≡ meter.old.steps + steps_of_run run.levels run.text) }
+    ensures limit { meter.new.limit ≡ meter.old.limit }
+    ensures err { OnErr result ((stack.new.items ≡ stack.old.items) × (meter.new ≡ meter.old)) }
+    ensures room { vec_capacity stack.old ≤ vec_capacity stack.new }
+    ensures grown { IsGrown (vec_capacity stack.old) (vec_capacity stack.new) (vec_len stack.old + 8) }
+    ensures own { IfErr result (λ r. (r ≡ Refusal.TooLong) ⊎ (r ≡ Refusal.Memory)) }
+    ensures too_long { result ≡ Err Refusal.TooLong → meter.old.limit < meter.old.spent + run.levels }
+    ensures memory { result ≡ Err Refusal.Memory → vec_capacity stack.old < vec_len stack.old + 8 }
+    ensures affords { result ≡ Err Refusal.Memory → meter.old.spent < meter.old.limit }
+{
+    let Run { item, levels, text } = run;
+    if !meter.affords(levels as usize) {
+        return Err(Refusal::TooLong);
+    }
+    make_room(stack, 8)?;
+    stack.pop();
+    match text {
+        Some(text) => {
+            meter.pay_steps(levels, 2 * u64::from(levels) - 1);
+            stack.push_reserved(text);
+        }
+        None => meter.pay_steps(levels, u64::from(levels)),
+    }
+    stack.push_reserved(Part::Sub(item));
+    Ok(())
+}
+
+/// Takes the next entry, an item that begins a run.
+// out of line, since few texts have runs
+#[inline(never)]
+fn print_run<Y: Layout>(
+    y: &Y,
+    item: Item<Y::Ctx>,
+    run: Run<Y::Ctx>,
+    stack: &mut Vec<Part<Y::Ctx>>,
+    _text: &Vec<u8>,
+    notes: &mut Notes<Y::Ctx>,
+    meter: &mut Meter,
+    is_dear: bool,
+) -> Result<(), Refusal>
+    requires next { IsNext stack.old.items (Part.Sub item) }
+    requires run { IsRun (Y.unshared y.now) (Y.bytes_of y.now) (Y.may_come y.now) item run }
+    requires may_come { All (Y.may_come y.now) stack.old.items }
+    requires noted { AreNoted (Y.unshared y.now) (Y.bytes_of y.now) notes.old stack.old.items _text.now.items meter.old.spent meter.old.steps }
+    requires below { AreBelow (length stack.old.items) notes.old.begun.items }
+    requires paid { vec_len _text.now ≤ meter.old.spent }
+    requires stack_paid { vec_len stack.old ≤ 7 * meter.old.spent + 1 }
+    requires steps_paid { meter.old.steps ≤ meter.old.spent + spare_of_stack (Y.bytes_of y.now) stack.old.items }
+    ensures paid { vec_len _text.now ≤ meter.new.spent }
+    ensures stack_paid { vec_len stack.new ≤ 7 * meter.new.spent + 1 }
+    ensures steps_paid { meter.new.steps ≤ meter.new.spent + spare_of_stack (Y.bytes_of y.now) stack.new.items }
+    ensures may_come { All (Y.may_come y.now) stack.new.items }
+    ensures text { _text.now.items ++ text_of_stack (Y.unshared y.now) (Y.bytes_of y.now) stack.new.items ≡ _text.now.items ++ text_of_stack (Y.unshared y.now) (Y.bytes_of y.now) stack.old.items }
+    ensures cost { meter.new.spent + cost_of_stack (Y.unshared y.now) (Y.bytes_of y.now) stack.new.items ≡ meter.old.spent + cost_of_stack (Y.unshared y.now) (Y.bytes_of y.now) stack.old.items }
+    ensures remaining { meter.new.steps + steps_of_stack (Y.unshared y.now) (Y.bytes_of y.now) stack.new.items ≡ meter.old.steps + steps_of_stack (Y.unshared y.now) (Y.bytes_of y.now) stack.old.items }
+    ensures limit { meter.new.limit ≡ meter.old.limit }
+    ensures noted { OnOk result (AreNoted (Y.unshared y.now) (Y.bytes_of y.now) notes.new stack.new.items _text.now.items meter.new.spent meter.new.steps) }
+    ensures few { OnOk result (vec_len notes.new.begun ≤ vec_len notes.old.begun + 1) }
+    ensures spends { OnOk result (meter.old.spent < meter.new.spent) }
+    ensures entry_room { vec_capacity stack.old ≤ vec_capacity stack.new }
+    ensures peak { peak_of_stack (Y.unshared y.now) stack.new.items ≤ peak_of_stack (Y.unshared y.now) stack.old.items }
+    ensures bounded { vec_capacity stack.new ≤ max (vec_capacity stack.old) (most_for (peak_of_stack (Y.unshared y.now) stack.old.items + 8)) }
+    ensures own { IfErr result (λ r. (r ≡ Refusal.TooLong) ⊎ (r ≡ Refusal.Memory)) }
+    ensures too_long { result ≡ Err Refusal.TooLong → meter.old.limit < meter.old.spent + cost_of_stack (Y.unshared y.now) (Y.bytes_of y.now) stack.old.items }
+    ensures memory { result ≡ Err Refusal.Memory → vec_capacity stack.old < 8 * (meter.old.limit + 1) }
+{
+    let below = stack.len() - 1;
+    open_run(run, stack, meter)?;
+    notes.look(&item, meter.spent, stack, below, is_dear);
+    Ok(())
+}
+
+/// Takes the next entry, an item of a dear text, or one that is noted or begins a run. Where its text is noted that is written again. A
+/// run of items that begins with it is taken at once. Otherwise its parts take its place.
+// out of line, since most items are none of these
+#[inline(never)]
+fn print_special_item<Y: Layout>(
     y: &Y,
     item: Item<Y::Ctx>,
     stack: &mut Vec<Part<Y::Ctx>>,
@@ -334,8 +420,10 @@ fn print_item<Y: Layout>(
     requires below { AreBelow (length stack.old.items) notes.old.begun.items }
     requires paid { vec_len text.old ≤ meter.old.spent }
     requires stack_paid { vec_len stack.old ≤ 7 * meter.old.spent + 1 }
+    requires steps_paid { meter.old.steps ≤ meter.old.spent + spare_of_stack (Y.bytes_of y.now) stack.old.items }
     ensures paid { vec_len text.new ≤ meter.new.spent }
     ensures stack_paid { vec_len stack.new ≤ 7 * meter.new.spent + 1 }
+    ensures steps_paid { meter.new.steps ≤ meter.new.spent + spare_of_stack (Y.bytes_of y.now) stack.new.items }
     ensures may_come { All (Y.may_come y.now) stack.new.items }
     ensures text { text.new.items ++ text_of_stack (Y.unshared y.now) (Y.bytes_of y.now) stack.new.items ≡ text.old.items ++ text_of_stack (Y.unshared y.now) (Y.bytes_of y.now) stack.old.items }
     ensures cost { meter.new.spent + cost_of_stack (Y.unshared y.now) (Y.bytes_of y.now) stack.new.items ≡ meter.old.spent + cost_of_stack (Y.unshared y.now) (Y.bytes_of y.now) stack.old.items }
@@ -358,11 +446,59 @@ fn print_item<Y: Layout>(
             write_again(y, note, stack, text, meter)?;
             return Ok(());
         }
+    } else if y.begins_run(item) {
+        if let Some(run) = y.run(item) {
+            return print_run(y, item, run, stack, text, notes, meter, is_dear);
+        }
     }
     begin_item(y, item, stack, text, notes, meter, is_noted);
     let below = stack.len() - 1;
     open_item(y, item, stack, meter)?;
     notes.look(&item, meter.spent, stack, below, is_dear);
+    Ok(())
+}
+
+/// Takes the next entry, an item: its parts take its place, or what `print_special_item` does is done.
+#[inline(always)]
+fn print_item<Y: Layout>(
+    y: &Y,
+    item: Item<Y::Ctx>,
+    stack: &mut Vec<Part<Y::Ctx>>,
+    text: &mut Vec<u8>,
+    notes: &mut Notes<Y::Ctx>,
+    meter: &mut Meter,
+    is_dear: bool,
+) -> Result<(), Refusal>
+    requires next { IsNext stack.old.items (Part.Sub item) }
+    requires may_come { All (Y.may_come y.now) stack.old.items }
+    requires noted { AreNoted (Y.unshared y.now) (Y.bytes_of y.now) notes.old stack.old.items text.old.items meter.old.spent meter.old.steps }
+    requires below { AreBelow (length stack.old.items) notes.old.begun.items }
+    requires paid { vec_len text.old ≤ meter.old.spent }
+    requires stack_paid { vec_len stack.old ≤ 7 * meter.old.spent + 1 }
+    requires steps_paid { meter.old.steps ≤ meter.old.spent + spare_of_stack (Y.bytes_of y.now) stack.old.items }
+    ensures paid { vec_len text.new ≤ meter.new.spent }
+    ensures stack_paid { vec_len stack.new ≤ 7 * meter.new.spent + 1 }
+    ensures steps_paid { meter.new.steps ≤ meter.new.spent + spare_of_stack (Y.bytes_of y.now) stack.new.items }
+    ensures may_come { All (Y.may_come y.now) stack.new.items }
+    ensures text { text.new.items ++ text_of_stack (Y.unshared y.now) (Y.bytes_of y.now) stack.new.items ≡ text.old.items ++ text_of_stack (Y.unshared y.now) (Y.bytes_of y.now) stack.old.items }
+    ensures cost { meter.new.spent + cost_of_stack (Y.unshared y.now) (Y.bytes_of y.now) stack.new.items ≡ meter.old.spent + cost_of_stack (Y.unshared y.now) (Y.bytes_of y.now) stack.old.items }
+    ensures remaining { meter.new.steps + steps_of_stack (Y.unshared y.now) (Y.bytes_of y.now) stack.new.items ≡ meter.old.steps + steps_of_stack (Y.unshared y.now) (Y.bytes_of y.now) stack.old.items }
+    ensures limit { meter.new.limit ≡ meter.old.limit }
+    ensures noted { OnOk result (AreNoted (Y.unshared y.now) (Y.bytes_of y.now) notes.new stack.new.items text.new.items meter.new.spent meter.new.steps) }
+    ensures few { OnOk result (vec_len notes.new.begun ≤ vec_len notes.old.begun + 1) }
+    ensures spends { OnOk result (meter.old.spent < meter.new.spent) }
+    ensures entry_room { vec_capacity stack.old ≤ vec_capacity stack.new }
+    ensures peak { peak_of_stack (Y.unshared y.now) stack.new.items ≤ peak_of_stack (Y.unshared y.now) stack.old.items }
+    ensures bounded { vec_capacity stack.new ≤ max (vec_capacity stack.old) (most_for (peak_of_stack (Y.unshared y.now) stack.old.items + 8)) }
+    ensures text_room { vec_capacity text.old ≤ vec_capacity text.new }
+    ensures own { IfErr result (λ r. (r ≡ Refusal.TooLong) ⊎ (r ≡ Refusal.Memory)) }
+    ensures too_long { result ≡ Err Refusal.TooLong → meter.old.limit < meter.old.spent + cost_of_stack (Y.unshared y.now) (Y.bytes_of y.now) stack.old.items }
+    ensures memory { result ≡ Err Refusal.Memory → (vec_capacity stack.old < 8 * (meter.old.limit + 1)) ⊎ (vec_capacity text.old < meter.old.limit) }
+{
+    if is_dear || y.is_noted(item) || y.begins_run(item) {
+        return print_special_item(y, item, stack, text, notes, meter, is_dear);
+    }
+    open_item(y, item, stack, meter)?;
     Ok(())
 }
 
@@ -381,8 +517,10 @@ pub(crate) fn print_entries<Y: Layout>(
     requires may_come { All (Y.may_come y.now) stack.old.items }
     requires paid { vec_len text.old ≤ meter.old.spent }
     requires stack_paid { vec_len stack.old ≤ 7 * meter.old.spent + 1 }
+    requires steps_paid { meter.old.steps ≤ meter.old.spent + spare_of_stack (Y.bytes_of y.now) stack.old.items }
     ensures paid { vec_len text.new ≤ meter.new.spent }
     ensures stack_paid { vec_len stack.new ≤ 7 * meter.new.spent + 1 }
+    ensures steps_paid { meter.new.steps ≤ meter.new.spent + spare_of_stack (Y.bytes_of y.now) stack.new.items }
     ensures may_come { All (Y.may_come y.now) stack.new.items }
     ensures text { text.new.items ++ text_of_stack (Y.unshared y.now) (Y.bytes_of y.now) stack.new.items ≡ text.old.items ++ text_of_stack (Y.unshared y.now) (Y.bytes_of y.now) stack.old.items }
     ensures cost { meter.new.spent + cost_of_stack (Y.unshared y.now) (Y.bytes_of y.now) stack.new.items ≡ meter.old.spent + cost_of_stack (Y.unshared y.now) (Y.bytes_of y.now) stack.old.items }
@@ -430,8 +568,10 @@ fn print_dear<Y: Layout>(
     requires may_come { All (Y.may_come y.now) stack.old.items }
     requires paid { vec_len text.old ≤ meter.old.spent }
     requires stack_paid { vec_len stack.old ≤ 7 * meter.old.spent + 1 }
+    requires steps_paid { meter.old.steps ≤ meter.old.spent + spare_of_stack (Y.bytes_of y.now) stack.old.items }
     ensures paid { vec_len text.new ≤ meter.new.spent }
     ensures stack_paid { vec_len stack.new ≤ 7 * meter.new.spent + 1 }
+    ensures steps_paid { meter.new.steps ≤ meter.new.spent + spare_of_stack (Y.bytes_of y.now) stack.new.items }
     ensures may_come { All (Y.may_come y.now) stack.new.items }
     ensures text { text.new.items ++ text_of_stack (Y.unshared y.now) (Y.bytes_of y.now) stack.new.items ≡ text.old.items ++ text_of_stack (Y.unshared y.now) (Y.bytes_of y.now) stack.old.items }
     ensures cost { meter.new.spent + cost_of_stack (Y.unshared y.now) (Y.bytes_of y.now) stack.new.items ≡ meter.old.spent + cost_of_stack (Y.unshared y.now) (Y.bytes_of y.now) stack.old.items }
@@ -464,7 +604,7 @@ fn cheap_cost<C: Copy>(stack: &[Part<C>]) -> u32 {
 /// Takes entries until none is left. A text is printed as a cheap one first. If it costs more than that allows, and
 /// more may be spent, it is printed as a dear one from there.
 #[inline(always)]
-pub(crate) fn print_stack<Y: Layout>(
+fn print_all<Y: Layout>(
     y: &Y,
     stack: &mut Vec<Part<Y::Ctx>>,
     text: &mut Vec<u8>,
@@ -474,8 +614,10 @@ pub(crate) fn print_stack<Y: Layout>(
     requires may_come { All (Y.may_come y.now) stack.old.items }
     requires paid { vec_len text.old ≤ meter.old.spent }
     requires stack_paid { vec_len stack.old ≤ 7 * meter.old.spent + 1 }
+    requires steps_paid { meter.old.steps ≤ meter.old.spent + spare_of_stack (Y.bytes_of y.now) stack.old.items }
     ensures paid { vec_len text.new ≤ meter.new.spent }
     ensures stack_paid { vec_len stack.new ≤ 7 * meter.new.spent + 1 }
+    ensures steps_paid { meter.new.steps ≤ meter.new.spent + spare_of_stack (Y.bytes_of y.now) stack.new.items }
     ensures may_come { All (Y.may_come y.now) stack.new.items }
     ensures text { text.new.items ++ text_of_stack (Y.unshared y.now) (Y.bytes_of y.now) stack.new.items ≡ text.old.items ++ text_of_stack (Y.unshared y.now) (Y.bytes_of y.now) stack.old.items }
     ensures cost { meter.new.spent + cost_of_stack (Y.unshared y.now) (Y.bytes_of y.now) stack.new.items ≡ meter.old.spent + cost_of_stack (Y.unshared y.now) (Y.bytes_of y.now) stack.old.items }
@@ -500,4 +642,39 @@ pub(crate) fn print_stack<Y: Layout>(
         Err(Refusal::TooLong) => print_dear(y, stack, text, notes, meter),
         _ => outcome,
     }
+}
+
+/// Takes entries until none is left. Where one is refused, the steps that aren't paid for yet don't count.
+#[inline(always)]
+pub(crate) fn print_stack<Y: Layout>(
+    y: &Y,
+    stack: &mut Vec<Part<Y::Ctx>>,
+    text: &mut Vec<u8>,
+    notes: &mut Notes<Y::Ctx>,
+    meter: &mut Meter,
+) -> Result<(), Refusal>
+    requires may_come { All (Y.may_come y.now) stack.old.items }
+    requires paid { vec_len text.old ≤ meter.old.spent }
+    requires stack_paid { vec_len stack.old ≤ 7 * meter.old.spent + 1 }
+    requires steps_paid { meter.old.steps ≤ meter.old.spent }
+    ensures paid { vec_len text.new ≤ meter.new.spent }
+    ensures stack_paid { vec_len stack.new ≤ 7 * meter.new.spent + 1 }
+    ensures steps_paid { meter.new.steps ≤ meter.new.spent }
+    ensures may_come { All (Y.may_come y.now) stack.new.items }
+    ensures text { text.new.items ++ text_of_stack (Y.unshared y.now) (Y.bytes_of y.now) stack.new.items ≡ text.old.items ++ text_of_stack (Y.unshared y.now) (Y.bytes_of y.now) stack.old.items }
+    ensures cost { meter.new.spent + cost_of_stack (Y.unshared y.now) (Y.bytes_of y.now) stack.new.items ≡ meter.old.spent + cost_of_stack (Y.unshared y.now) (Y.bytes_of y.now) stack.old.items }
+    ensures steps { OnOk result (meter.new.steps ≡ meter.old.steps + steps_of_stack (Y.unshared y.now) (Y.bytes_of y.now) stack.old.items) }
+    ensures limit { meter.new.limit ≡ meter.old.limit }
+    ensures entry_room { vec_capacity stack.old ≤ vec_capacity stack.new }
+    ensures peak { peak_of_stack (Y.unshared y.now) stack.new.items ≤ peak_of_stack (Y.unshared y.now) stack.old.items }
+    ensures bounded { vec_capacity stack.new ≤ max (vec_capacity stack.old) (most_for (peak_of_stack (Y.unshared y.now) stack.old.items + 8)) }
+    ensures own { IfErr result (λ r. (r ≡ Refusal.TooLong) ⊎ (r ≡ Refusal.Memory)) }
+    ensures text_room { vec_capacity text.old ≤ vec_capacity text.new }
+    ensures done { OnOk result (stack.new.items ≡ []) }
+    ensures too_long { result ≡ Err Refusal.TooLong → meter.old.limit < meter.old.spent + cost_of_stack (Y.unshared y.now) (Y.bytes_of y.now) stack.old.items }
+    ensures memory { result ≡ Err Refusal.Memory → (vec_capacity stack.old < 8 * (meter.old.limit + 1)) ⊎ (vec_capacity text.old < meter.old.limit) }
+{
+    let outcome = print_all(y, stack, text, notes, meter);
+    meter.settle();
+    outcome
 }

@@ -1,7 +1,7 @@
 // What a printer can print: items, each with at most eight parts.
 #![tactic(auto)]
 
-ghost use Rattle.std.specs.Prelude.{◌≡◌, ℕ, ◌+◌, ◌<◌, ◌≤◌, length, vec_len, vec_capacity, List, [], true};
+ghost use Rattle.std.specs.Prelude.{◌≡◌, ℕ, ◌+◌, ◌<◌, ◌≤◌, length, vec_len, vec_capacity, List, [], true, IfSome};
 ghost use Rattle.std.specs.List.{All};
 
 use arrayvec::ArrayVec;
@@ -38,6 +38,17 @@ pub enum Part<C> {
     Own([u8; 24], u8),
 }
 
+/// The end of a run of items that lie within one another, and what is written after it.
+#[derive(Clone, Copy, Debug)]
+pub struct Run<C> {
+    /// The item at which the run ends.
+    pub item: Item<C>,
+    /// How many items are around it.
+    pub levels: u32,
+    /// The texts of those items together.
+    pub text: Option<Part<C>>,
+}
+
 impl<C> Default for Part<C> {
     ghost use Rattle.sym_print.specs.declared.layout.Part.{Part};
 
@@ -65,6 +76,7 @@ pub trait Layout {
     ghost use Rattle.sym_print.specs.Unshared.{Unshared};
     ghost use Rattle.sym_print.specs.Joined.{joined, IsText};
     ghost use Rattle.sym_print.specs.Stacked.{Stacked};
+    ghost use Rattle.sym_print.specs.Runs.{IsRun};
 
     // the parts that this value may be asked for: an item's parts, or a text's bytes
     ghost may_come: { Self → Part Self.Ctx → Type 0 };
@@ -117,6 +129,20 @@ pub trait Layout {
     {
         false
     }
+
+    /// Where items lie within one another, each with one item and at most one text after it as its parts: the item at which that
+    /// ends, how many items are around it, and their texts together. Either each of those items has a text, or none.
+    ///
+    /// The printer takes a run at once. If the answer is none, which is always right, it takes each item by itself. In a text that isn't
+    /// dear it asks only where `begins_run` says so.
+    fn run(&self, item: Item<Self::Ctx>) -> Option<Run<Self::Ctx>>
+        requires may_come { may_come self.now (Part.Sub item) }
+        ensures run { IfSome result (λ run. IsRun (unshared self.now) (bytes_of self.now) (may_come self.now) item run) };
+
+    /// Whether a run that begins at an item is taken at once even where the text isn't dear. Any answer is right. It has to be fast, since
+    /// it is asked for most items.
+    fn begins_run(&self, item: Item<Self::Ctx>) -> bool
+        requires may_come { may_come self.now (Part.Sub item) };
 
     /// A number of a context, by which the notes of a node in a dear text are found.
     ///

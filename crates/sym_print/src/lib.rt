@@ -11,6 +11,6 @@ mod printer;
 mod sharing;
 
 pub use detail::Detail;
-pub use layout::{Item, Layout, Part};
+pub use layout::{Item, Layout, Part, Run};
 pub use part_list::{PartList, push_reversed};
 pub use printer::{Printer, print};

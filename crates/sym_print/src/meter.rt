@@ -1,9 +1,9 @@
 // What printing has cost, and what it may cost.
 #![tactic(auto)]
 
-ghost use Rattle.std.specs.Prelude.{◌≡◌, ◌+◌, ◌<◌, ◌≤◌, nat_le};
+ghost use Rattle.std.specs.Prelude.{◌≡◌, ◌+◌, ◌*◌, ◌<◌, ◌≤◌, nat_le};
 
-/// What was spent of a limit, and in how many steps.
+/// What was spent of a limit, and in how many steps. Those of texts that are joined are counted before the texts are paid for.
 #[derive(Clone, Copy)]
 pub(crate) struct Meter {
     pub(crate) spent: u32,
@@ -11,7 +11,7 @@ pub(crate) struct Meter {
     pub(crate) steps: u64,
     ghost limit_fits: { limit ≤ 4294967295 },
     ghost within_limit: { spent ≤ limit },
-    ghost steps_are_paid: { steps ≤ spent },
+    ghost steps_fit: { steps ≤ 2 * spent },
 }
 
 impl Meter {
@@ -82,10 +82,28 @@ impl Meter {
         };
     }
 
+    /// Counts no more steps than what was spent.
+    pub(crate) fn settle(&mut self)
+        ensures spent { self.new.spent ≡ self.old.spent }
+        ensures limit { self.new.limit ≡ self.old.limit }
+        ensures paid { self.new.steps ≤ self.new.spent }
+        ensures same { self.old.steps ≤ self.old.spent → self.new.steps ≡ self.old.steps }
+    {
+        *self = Meter {
+            spent: self.spent,
+            limit: self.limit,
+            steps: if self.steps <= u64::from(self.spent) {
+                self.steps
+            } else {
+                u64::from(self.spent)
+            },
+        };
+    }
+
     /// Spends `cost` in n steps at once.
     pub(crate) fn pay_steps(&mut self, cost: u32, steps: u64)
         requires affords { self.old.spent + cost ≤ self.old.limit }
-        requires paid { steps ≤ cost }
+        requires fit { steps ≤ 2 * cost }
         ensures spent { self.new.spent ≡ self.old.spent + cost }
         ensures limit { self.new.limit ≡ self.old.limit }
         ensures steps { self.new.steps ≡ self.old.steps + steps }

@@ -34,6 +34,7 @@ pub struct Printer<C: Copy> {
     refusal: Option<Refusal>,
     ghost text_is_paid: { vec_len text ≤ meter.spent },
     ghost stack_is_paid: { vec_len stack ≤ 7 * meter.spent + 1 },
+    ghost steps_are_paid: { meter.steps ≤ meter.spent },
 }
 
 impl<C: Copy> Printer<C> {

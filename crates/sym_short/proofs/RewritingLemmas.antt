@@ -25,16 +25,16 @@ pub unchanged : (rewrites : Bool) (rewritten : List ℕ → List ℕ) (text : Li
 unchanged true rewritten text is = is
 unchanged false rewritten text is = refl
 
--- one that isn't to be rewritten
+-- a text that isn't to be rewritten
 pub unasked : (rewrites : Bool) (rewritten : List ℕ → List ℕ) (text : List ℕ) → rewrites ≡ false → rewritten_text rewrites rewritten text ≡ text
 unasked false rewritten text is = refl
 unasked true rewritten text is = cc
 
--- one that is
+-- a text that is to be rewritten
 pub as-asked : (rewrites : Bool) (rewritten : List ℕ → List ℕ) (text : List ℕ) → rewrites ≡ true → rewritten text ≡ rewritten_text rewrites rewritten text
 as-asked true rewritten text is = refl
 as-asked false rewritten text is = cc
 
--- it keeps a refusal
+-- rewriting keeps a refusal
 pub is-refused : (answer : Result (List ℕ) Refusal) (rewrites : Bool) (rewritten : List ℕ → List ℕ) (refusal : Refusal) → answer ≡ Err refusal → rewritten_answer rewrites rewritten answer ≡ Err refusal
 is-refused answer rewrites rewritten refusal is = ap (rewritten_answer rewrites rewritten) is

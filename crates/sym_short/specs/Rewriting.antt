@@ -1,4 +1,4 @@
--- What is answered where texts of C++ symbols are rewritten.
+-- The answers where texts of C++ symbols are rewritten.
 use Rattle.std.specs.Prelude.{ℕ, List, Bool, true, false, not, ◌&&◌, is_some, Result, Ok, Err}
 use Rattle.sym_core.specs.declared.refusal.Refusal.{Refusal}
 use Rattle.sym_filter.specs.Runs.{Answering}
@@ -31,20 +31,20 @@ abbrev pub rewritten_answer : (rewrites : Bool) → (rewritten : List ℕ → Li
 rewritten_answer rewrites rewritten (Ok text) = Ok (rewritten_text rewrites rewritten text)
 rewritten_answer rewrites rewritten (Err refusal) = Err refusal
 
--- what is answered with rewritten texts, where it is known what is with others; a symbol that is refused is refused for the same reason
+-- the answers with rewritten texts, by the answers before; a symbol that is refused is refused for the same reason
 abbrev pub rewritten_answers : (rewritten : List ℕ → List ℕ) → (reads_paths : Bool) → Answering → Answering
 rewritten_answers rewritten reads_paths answers kind symbol = rewritten_answer (rewrites reads_paths kind.lang symbol) rewritten (answers kind symbol)
 
--- with short texts
+-- the answers with short texts
 abbrev pub short_answers : (keeps_inline reads_paths : Bool) → Answering → Answering
 short_answers keeps_inline reads_paths answers = rewritten_answers (shortened keeps_inline) reads_paths answers
 
--- as these texts
+-- the answers with these texts
 abbrev pub answers_as : Texts → (reads_paths : Bool) → Answering → Answering
 answers_as texts.Whole reads_paths answers = answers
 answers_as (texts.Short keeps_inline) reads_paths answers = short_answers keeps_inline reads_paths answers
 
--- as GNU's demangler spells texts, or as they are
+-- the answers with texts as GNU's demangler spells them, or as they are
 abbrev pub spelled_answers : (gnu reads_paths : Bool) → Answering → Answering
 spelled_answers false reads_paths answers = answers
 spelled_answers true reads_paths answers = rewritten_answers gnu_text reads_paths answers

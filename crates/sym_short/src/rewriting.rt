@@ -24,7 +24,7 @@ pub trait Rewrites {
     fn may_rewrite(&self, text: &[u8]) -> bool
         ensures { result ≡ false → rewritten self.now text.now ≡ text.now };
 
-    /// Rewrites a text that begins at a place of a list and ends with it.
+    /// Rewrites a text, which is the bytes of a list from a place on.
     ///
     /// # Errors
     ///
@@ -72,7 +72,7 @@ pub struct RewritingLists<D: Demangler, R: Rewrites> {
 }
 
 impl<D: Demangler, R: Rewrites> RewritingLists<D, R> {
-    /// Those over a demangler's.
+    /// The lists over those of a demangler.
     pub fn new(alloc: Global, lists: D::Lists) -> RewritingLists<D, R> {
         RewritingLists {
             lists,
@@ -104,7 +104,7 @@ impl<D, R: Rewrites> Rewriting<D, R> {
         self.rewrites(kind.lang, symbol)
     }
 
-    /// Rewrites the text of a symbol, which begins at a place of a list and ends with it. Where memory runs out, it is gone.
+    /// Rewrites the text of a symbol, which is the bytes of a list from a place on. Where memory runs out, the text is gone.
     fn rewrite(
         &self,
         lists: &mut R::Lists,

@@ -17,7 +17,7 @@ pub trait Marked: Ord {
 
     ghost mark_of: { Self → ℕ };
 
-    /// The mark, which equal keys have alike.
+    /// The mark, which equal keys share.
     fn mark(&self) -> u64
         ensures { result ≡ mark_of self.now };
 

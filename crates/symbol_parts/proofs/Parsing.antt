@@ -1,4 +1,4 @@
--- What reading, printing and taking apart found is what is answered with parts.
+-- What reading, printing and taking apart found is the answer with parts.
 use Rattle.std.proofs.Common.{◌≡◌, ◌⊎◌, inl, inr, ℕ, List, length, map, Option, Some, None, Result, Ok, Err, refl, ap, sym, ◌∙◌, subst, arith}
 use Rattle.std.specs.Prelude.{◌<◌, ◌≤◌, ◌^◌}
 use Rattle.sym_core.specs.declared.refusal.Refusal.{Refusal}
@@ -51,7 +51,7 @@ module _ {W : Type 0} (m : Mangled W) (marking : Marking W) (detail : Detail) (l
   parsed-unread e (inl memory) = inl memory
   parsed-unread e (inr is) = inr (reading_parsed m marking detail limit s (Err e) bytes is).answers
 
-  -- what has no shape
+  -- a symbol without a shape
   pub parsed-shapeless : (e : Refusal) → IsMalformedOrMemory m.table s e → (e ≡ Memory) ⊎ (parsed m marking detail s limit ≡ Err e)
   parsed-shapeless (Malformed at) bad = parsed-unread (Malformed at) (inr (misshapen at bad refl))
   parsed-shapeless Memory bad = inl refl
@@ -88,7 +88,7 @@ module _ {W : Type 0} (m : Mangled W) (marking : Marking W) (detail : Detail) (l
 pub behind-found : (skip : ℕ) (answer : Result Parsed Refusal) (found behind : Parsed) → answer ≡ Ok found → Ok behind ≡ parsed_behind skip (Ok found) → parsed_behind skip answer ≡ Ok behind
 behind-found skip answer found behind is same = ap (parsed_behind skip) is ∙ sym same
 
--- what is refused
+-- a refused word
 pub behind-refused : (skip : ℕ) (answer : Result Parsed Refusal) (e : Refusal) → (e ≡ Memory) ⊎ (answer ≡ Err e) → (e ≡ Memory) ⊎ (parsed_behind skip answer ≡ Err e)
 unfolding parsed_behind
 behind-refused skip answer e (inl memory) = inl memory
@@ -115,7 +115,7 @@ path-refused limit symbol path e (inl memory) = inl memory
 path-refused limit symbol path e (inr refused) =
     inr (parts_of_refusal (kind_of_path path) (λ stretches. spelling_of_path symbol path) (path_marked path) e (text_within limit (shown_path path)) refused)
 
--- what is answered for a path, if there is one
+-- the answer for a path, if there is one
 abbrev pub parsed_to : (limit : ℕ) → (symbol : List ℕ) → (other : Result Parsed Refusal) → Option Path → Result Parsed Refusal
 parsed_to limit symbol other path = elim path [ Some path ↦ path_parsed limit symbol path | None ↦ other ]
 

@@ -30,7 +30,7 @@ ArePartsPlaced p = ArePlaced (length p.text) p.parts
 abbrev ArePartsWithin : ℕ → Parsed → Type 0
 ArePartsWithin n p = All (IsSpelledWithin n) p.parts
 
--- where it costs little enough
+-- a text, or its refusal where it costs more than the limit
 text-placed : (what : NameKind) (spelled : Spelled) (marks : Marked) (shown : Unshared) (b : Bool) → marked.text_of marks ≡ text_of shown
     → IfOk (with_parts what spelled marks (elim b as (λ x. Result (List ℕ) Refusal) [ true ↦ Ok (text_of shown) | false ↦ Err TooLong ])) ArePartsPlaced
 unfolding with_parts

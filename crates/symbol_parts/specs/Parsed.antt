@@ -1,4 +1,4 @@
--- What is answered for a symbol with the parts of its text.
+-- The answer for a symbol, with the parts of its text.
 use Rattle.std.specs.Prelude.{ℕ, ◌+◌, List, length, map, min, nat_eq, Result, Ok, Err, Bool, Some, None, if◌then◌else◌}
 use Rattle.std.specs.List.{list_any}
 use Rattle.sym_core.specs.declared.refusal.Refusal.{Refusal}
@@ -46,7 +46,7 @@ pub record Parsed : Type 0 where
 abbrev pub found : Found → Parsed
 found parsed = record { text = parsed.text.items; kind = parsed.kind; parts = parsed.parts.items }
 
--- what spells parts, by the stretches of the text that they are
+-- the bytes that spell parts, by the stretches of the text that the parts are
 abbrev pub Spelled : Type 0
 Spelled = List Stretch → Spelling
 
@@ -61,8 +61,9 @@ unfoldable pub without_parts : Result Parsed Refusal → Result (List ℕ) Refus
 without_parts (Ok parsed) = Ok parsed.text
 without_parts (Err refusal) = Err refusal
 
--- How what is printed of a mangling's symbols is marked, what they are, and which of their bytes spell which parts, by their bytes, the
--- rows of their shapes and the stretches of the text. W are the trees that symbols denote.
+-- How the texts of a mangling's symbols are marked, what the symbols are, and which of their bytes spell which parts. W has the
+-- trees that symbols denote. The bytes of parts are known from a symbol's bytes, the rows of its shape and the stretches of its
+-- text.
 pub record Marking (W : Type 0) : Type 0 where
   pub marked : W → Unshared → Marked
   pub kind : W → NameKind
@@ -70,18 +71,18 @@ pub record Marking (W : Type 0) : Type 0 where
 
 -- ## A mangling
 
--- what is answered for what is read, with what spells its parts
+-- the answer for a symbol by its tree or its refusal, with the bytes that spell its parts
 abbrev pub parsed_of_symbol : {W : Type 0} → Mangled W → Marking W → Detail → ℕ → Spelled → Result W Refusal → Result Parsed Refusal
 parsed_of_symbol m marking detail limit spelled (Ok symbol) =
     with_parts (marking.kind symbol) spelled (marking.marked symbol (m.shown detail symbol)) (text_within limit (m.shown detail symbol))
 parsed_of_symbol m marking detail limit spelled (Err refusal) = Err refusal
 
--- for a well shaped symbol
+-- the answer for a well shaped symbol
 abbrev pub parsed_of_shape : {W : Type 0} → Mangled W → Marking W → Detail → ℕ → Tree → Result Parsed Refusal
 parsed_of_shape m marking detail limit shape = parsed_of_symbol m marking detail limit (marking.spelled (spell shape) (rows_of shape 0 0 0)) (m.unfolded shape)
 
--- What is answered for a symbol at a limit: what is answered for its shape, or its first bad byte. A list with an item that is no
--- byte is refused at once.
+-- The answer for a symbol at a limit: the answer for its shape, or its first bad byte. A list with an item that is no byte is
+-- refused at once.
 unfoldable pub parsed : {W : Type 0} → Mangled W → Marking W → Detail → List ℕ → ℕ → Result Parsed Refusal
 parsed m marking detail s limit = outcome m.table m.lawful (parsed_of_shape m marking detail limit) (λ at. Err (Malformed at)) (Err (Malformed 0)) s
 
@@ -107,14 +108,14 @@ abbrev pub path_parsed : (limit : ℕ) → (symbol : List ℕ) → Path → Resu
 path_parsed limit symbol path =
     with_parts (legacy_kinds.kind_of_path path) (λ stretches. legacy_spelled.spelling_of_path symbol path) (legacy_roles.path_marked path) (text_within limit (shown_path path))
 
--- for a symbol where legacy names are paths: for one that isn't a legacy name, the other
+-- the answer for a symbol where legacy names are paths: `other`, if it isn't a legacy name
 abbrev pub legacy_parsed : (limit : ℕ) → List ℕ → (other : Result Parsed Refusal) → Result Parsed Refusal
 legacy_parsed limit s other = elim (legacy_of s) [ Some path ↦ path_parsed limit s path | None ↦ other ]
 
 -- ## Words
 
--- A part of a symbol's text as one of a word's, which has `skip` bytes before the symbol: the bytes that spell it are counted from the
--- word's first byte. Places take 32 bits.
+-- A part of the text of a word that has `skip` bytes before its symbol, from that part of the symbol's text: the bytes that
+-- spell it are counted from the word's first byte. Places take 32 bits.
 unfoldable pub part_behind : (skip : ℕ) → Part → Part
 part_behind skip part = record {
   role = part.role;
@@ -124,17 +125,17 @@ part_behind skip part = record {
   to = min (part.to + skip) 4294967295;
 }
 
--- what is answered for a word, by what is for its symbol
+-- the answer for a word, by the answer for its symbol
 unfoldable pub parsed_behind : (skip : ℕ) → Result Parsed Refusal → Result Parsed Refusal
 parsed_behind skip (Ok parsed) = Ok (record { text = parsed.text; kind = parsed.kind; parts = map (part_behind skip) parsed.parts })
 parsed_behind skip (Err refusal) = Err refusal
 
--- what is answered for the symbols of words of each kind
+-- the answers for the symbols of words of each kind
 abbrev pub Parsing : Type 0
 Parsing = Kind → List ℕ → Result Parsed Refusal
 
--- with this grammar of C++; legacy Rust names, each of them a C++ symbol, are answered as these or as the paths that they
--- denote
+-- the answers with this grammar of C++; legacy Rust names, which are C++ symbols, too, are answered as C++ symbols or as the
+-- paths that they denote
 abbrev pub parsed_by : {W : Type 0} → Mangled W → Marking W → (legacy : Bool) → (limit : ℕ) → Detail → Parsing
 parsed_by cpp marking legacy limit detail =
     if legacy then (λ kind symbol. parsed_behind kind.skip (legacy_parsed limit symbol (language_parsed_by cpp marking limit detail kind.lang symbol)))

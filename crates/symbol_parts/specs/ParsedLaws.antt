@@ -1,4 +1,4 @@
--- Laws: what a symbol reads as decides what is answered for it with parts, and without its parts that is the answer to it.
+-- Laws: the tree or the refusal that a symbol is read as decides its answer with parts, which without the parts is its answer.
 use Rattle.std.proofs.Common.{◌≡◌, ℕ, List, [], Result, Ok, Err, inl, inr, refl, ap, sym, ◌∙◌, Option, Some, None}
 use Rattle.sym_core.specs.declared.refusal.Refusal.{Refusal}
 use Rattle.sym_core.specs.declared.refusal.Refusal.TheVariants.{Malformed}
@@ -31,7 +31,8 @@ text_alone what spelled marks (Ok text) = refl
 text_alone what spelled marks (Err refusal) = refl
 
 module _ {W : Type 0} (m : Mangled W) (marking : Marking W) (detail : Detail) (limit : ℕ) where
-  -- what is answered with parts is what is answered for what the symbol reads as, with what its rows say of the parts
+  -- the answer with parts is that for the tree or the refusal that the symbol is read as, with the bytes of parts by the
+  -- symbol's rows
   pub record IsParsing (s : List ℕ) (result : Result W Refusal) : Type 0 where
     pub spelled : Spelled
     pub rows_spell : (rows : List Row) → AreRowsOf m.table s rows → marking.spelled s rows ≡ spelled
@@ -72,18 +73,18 @@ module _ {W : Type 0} (m : Mangled W) (marking : Marking W) (detail : Detail) (l
     | inr bad ↦ reading_text s (Err (Malformed bad.0)) bytes (misshapen bad.0 bad.1 refl)
   ]
 
--- where these are the answers of a mangling over other trees
+-- the texts, where these are the answers of a mangling over other trees
 pub over_text : {W V : Type 0} (m : Mangled W) (over : Mangled V) (marking : Marking V) → ((detail : Detail) (s : List ℕ) (limit : ℕ) → answer over detail s limit ≡ answer m detail s limit)
     → (detail : Detail) (limit : ℕ) (s : List ℕ) → AreBytes s → without_parts (parsed over marking detail s limit) ≡ answer m detail s limit
 over_text m over marking same detail limit s bytes = parsed_text over marking detail limit s bytes ∙ same detail s limit
 
--- of a word, as of its symbol
+-- the text of a word is that of its symbol
 behind_text : (skip : ℕ) (r : Result Parsed Refusal) (plain : Result (List ℕ) Refusal) → without_parts r ≡ plain → without_parts (parsed_behind skip r) ≡ plain
 unfolding parsed_behind without_parts
 behind_text skip (Ok parsed) plain same = same
 behind_text skip (Err refusal) plain same = same
 
--- of each language
+-- the texts of each language
 lang_text : {W V : Type 0} (cpp : Mangled W) (over : Mangled V) (marking : Marking V) → ((detail : Detail) (s : List ℕ) (limit : ℕ) → answer over detail s limit ≡ answer cpp detail s limit)
     → (limit : ℕ) (detail : Detail) (lang : Lang) (symbol : List ℕ) → AreBytes symbol
     → without_parts (language_parsed_by over marking limit detail lang symbol) ≡ language_answer_by cpp limit detail lang symbol
@@ -97,7 +98,7 @@ language_text cpp over marking same limit detail kind symbol bytes =
     behind_text kind.skip (language_parsed_by over marking limit detail kind.lang symbol) (language_answer_by cpp limit detail kind.lang symbol)
     (lang_text cpp over marking same limit detail kind.lang symbol bytes)
 
--- where legacy names are paths
+-- the texts where legacy names are paths
 legacy_text_by : (limit : ℕ) (symbol : List ℕ) (other : Result Parsed Refusal) (plain : Result (List ℕ) Refusal) → without_parts other ≡ plain → (path : Option Path)
     → without_parts (elim path as (λ x. Result Parsed Refusal) [ Some path ↦ path_parsed limit symbol path | None ↦ other ])
     ≡ (elim (elim path as (λ x. Option (Result (List ℕ) Refusal)) [ Some path ↦ Some (text_within limit (shown_path path)) | None ↦ None ]) as (λ x. Result (List ℕ) Refusal) [ Some answer ↦ answer | None ↦ plain ])

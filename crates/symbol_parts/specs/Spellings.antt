@@ -21,7 +21,7 @@ use Rattle.symbol_parts.specs.Parsed.{cpp_marking, returns, v0_marking}
 abbrev pub IsRowWithin : (n : ℕ) → Row → Type 0
 IsRowWithin n row = (row.from ≤ n) × (row.to ≤ n)
 
--- those of the rows of a tree that ends within it
+-- the bytes of the rows of a tree that ends within the symbol
 mutual
   rows-within : (n : ℕ) (tree : Tree) (after at number : ℕ) → at + length (spell tree) ≤ n → All (IsRowWithin n) (rows_of tree after at number)
   rows-within n (branch rule taken parts) after at number h =

@@ -1,4 +1,4 @@
-// Parts of a word's text, by those of its symbol's.
+// Parts of a word's text, from the parts of its symbol's text.
 
 ghost use Rattle.std.specs.Prelude.{◌≡◌, IfOk, Ok, map};
 ghost use Rattle.symbol_parts.specs.Parsed.{found, part_behind, parsed_behind};
@@ -7,7 +7,7 @@ use crate::parsed::Parsed;
 use std::alloc::{AllocError, Global};
 use sym_parts::Part;
 
-/// A part of a symbol's text as one of a word's that has `skip` bytes before the symbol.
+/// A part of the text of a word that has `skip` bytes before its symbol, from that part of the symbol's text.
 #[tactic(auto, unfolding(crate::specs::Parsed::part_behind))]
 fn part_behind(skip: u32, part: &Part) -> Part
     ensures { result ≡ part_behind skip part.now }
@@ -21,7 +21,7 @@ fn part_behind(skip: u32, part: &Part) -> Part
     }
 }
 
-/// Parts of a symbol's text as those of a word's that has `skip` bytes before the symbol.
+/// Parts of the text of a word that has `skip` bytes before its symbol, from the parts of the symbol's text.
 fn parts_behind(alloc: Global, skip: u32, parts: &[Part]) -> Result<Vec<Part>, AllocError>
     ensures { IfOk result (λ list. list.items ≡ map (part_behind skip) parts.now) }
 {
@@ -31,7 +31,7 @@ fn parts_behind(alloc: Global, skip: u32, parts: &[Part]) -> Result<Vec<Part>, A
         .collect(alloc)
 }
 
-/// What was found of a symbol as what is found of a word that has `skip` bytes before the symbol.
+/// What is found of a word that has `skip` bytes before its symbol, from what was found of the symbol.
 ///
 /// # Errors
 ///

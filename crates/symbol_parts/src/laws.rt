@@ -1,4 +1,4 @@
-// What holds of what is answered with parts.
+// What holds of answers with parts.
 ghost use Rattle.std.specs.Prelude.{◌≡◌, ℕ, IfOk, List, length};
 ghost use Rattle.std.specs.List.{All};
 ghost use Rattle.sym_print.specs.declared.detail.Detail.{Detail};
@@ -10,7 +10,7 @@ ghost use Rattle.symbol_parts.specs.Parsed.{parsed, without_parts};
 
 use crate::marked::Marked;
 
-/// Without its parts what is answered for a symbol is the answer to it: the same text, or the same refusal.
+/// An answer with parts is, without them, the answer for the symbol: the same text, or the same refusal.
 pub fn text_is_the_answer<M: Marked>()
     ensures { (detail : Detail) (s : List ℕ) (limit : ℕ) → AreBytes s → without_parts (parsed M.over M.marking detail s limit) ≡ answer M.mangled detail s limit }
 {}

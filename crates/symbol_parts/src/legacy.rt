@@ -1,4 +1,4 @@
-// Parts of legacy Rust names' texts.
+// Parts of the texts of legacy Rust names.
 
 ghost use Rattle.std.specs.Prelude.{◌≡◌, ◌⊎◌, Err, IfErr, IfOk, Ok, Some};
 ghost use Rattle.sym_core.specs.Number.{FitsSymbol};

@@ -74,7 +74,7 @@ pub trait Marked: Mangling {
 
     ghost spelled_within: { (s : List ℕ) (rows : List Row) → AreRowsOf over.table s rows → (stretches : List Stretch-type) → IsWithin (length s) (marking.spelled s rows stretches) };
 
-    // it is the mangling: it reads, shows and answers the same
+    // the mangling over these trees is this mangling: it reads, shows and answers the same
     ghost same_table: { Self.mangled.table ≡ over.table };
 
     ghost reads: { (s : List ℕ) (symbol : Self.Symbol) → IsReading Self.mangled s (Ok (Self.whole_of symbol)) → IsReading over s (Ok (tree_of symbol)) };

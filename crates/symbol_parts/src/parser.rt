@@ -1,4 +1,4 @@
-// What answers with parts.
+// Demanglers that answer with parts.
 ghost use Rattle.std.specs.Prelude.{◌≡◌, ◌⊎◌, Err, IfErr, IfOk, List, Ok, Result, ℕ};
 ghost use Rattle.sym_core.specs.Number.{FitsSymbol};
 ghost use Rattle.sym_core.specs.declared.refusal.Refusal.{Refusal as Refusal-type};
@@ -27,6 +27,6 @@ pub trait Parser: Demangler {
         ensures ok { IfOk result (λ p. parsed self.now kind symbol.now ≡ Ok (found p)) }
         ensures err { IfErr result (λ e. (e ≡ Memory) ⊎ (parsed self.now kind symbol.now ≡ Err e)) };
 
-    // its texts and refusals are those of the demangler
+    // the texts and refusals of a parser are those of the demangler
     ghost same: { (parser : Self) (kind : Kind-type) (symbol : List ℕ) → AreBytes symbol → without_parts (parsed parser kind symbol) ≡ Self.answer parser kind symbol };
 }

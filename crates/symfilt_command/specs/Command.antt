@@ -31,7 +31,7 @@ answers_at WidePressed texts legacy limit detail = wide_pressed_of
 abbrev pub answers_of : Options → Answering
 answers_of options = answers_at options.asked options.texts options.legacy options.limit options.detail
 
--- which counts are those of a symbol then
+-- which counts are those of a symbol, by what is requested
 abbrev pub counting_at : Asked → Counting
 counting_at Text = AreCountsOf
 counting_at WideText = AreWideCountsOf
@@ -47,7 +47,7 @@ filter_answers filtering = answers_at filtering.asked filtering.texts filtering.
 
 -- ## What a command line did, by what its parser found
 
--- its symbols are answered as its options request
+-- the symbols of a command line are answered as its options request
 pub record AreAnswered (rows : List Row) (status : ℕ) (lines said : List ℕ) : Type 0 where
   pub options : Options
   pub given : AreGiven rows options
@@ -60,7 +60,7 @@ abbrev pub IsRunOf : List Row → Run → List ℕ → List ℕ → Type 0
 IsRunOf rows (Done status) lines said = AreAnswered rows status lines said ⊎ ((status ≡ 2) × (lines ≡ []) × AreRefused rows)
 IsRunOf rows (Filter filtering) lines said = (lines ≡ []) × (said ≡ []) × AsksFilter rows filtering
 
--- beginnings of the lines of its first symbols
+-- beginnings of the lines of a command line's first symbols
 pub record AreBegun (rows : List Row) (lines said : List ℕ) : Type 0 where
   pub options : Options
   pub given : AreGiven rows options
@@ -68,7 +68,7 @@ pub record AreBegun (rows : List Row) (lines said : List ℕ) : Type 0 where
 
 -- ## What the words of a command line did
 
--- Its parser accepts them, and they did what it found; or it refuses them, or they request help, and no line was written.
+-- The parser accepts the words, and they did what it found; or it refuses them, or they request help, and no line was written.
 abbrev pub IsRun : List Bytes → Run → List ℕ → List ℕ → Type 0
 IsRun words run lines said =
     ((faults_in words ≡ []) × IsRunOf (found_in words) run lines said) ⊎ ((faults_in words ≢ []) × (run ≡ Done 2) × (lines ≡ []))
@@ -80,7 +80,7 @@ IsStopped words lines said = AreBegun (found_in words) lines said ⊎ (lines ≡
 
 -- ## What the program did over an input and its two outputs
 
--- They request the filter, and the input was filtered.
+-- The words request the filter, and the input was filtered.
 pub record Filtered (words : List Bytes) (coming coming' out out' err err' : Option (List ℕ)) : Type 0 where
   pub filtering : Filtering
   pub asked : IsRun words (Filter filtering) [] []
@@ -88,7 +88,7 @@ pub record Filtered (words : List Bytes) (coming coming' out out' err err' : Opt
   pub filtered : FiltersAllAt filtering.letters (filter_answers filtering) coming coming' out out' tally
   pub silent : Appends err err' []
 
--- Some of it was filtered before a fault.
+-- Some of the input was filtered before a fault.
 pub record FilteredFront (words : List Bytes) (coming coming' out out' err err' : Option (List ℕ)) : Type 0 where
   pub filtering : Filtering
   pub asked : IsRun words (Filter filtering) [] []
@@ -101,7 +101,7 @@ Ends words coming coming' out out' err err' status =
     ((coming' ≡ coming) × Took out out' err err' (IsRun words (Done status)))
     ⊎ ((status ≡ 0) × Filtered words coming coming' out out' err err')
 
--- likewise up to a fault
+-- what the program did up to a fault
 abbrev pub Stops : List Bytes → (coming coming' out out' err err' : Option (List ℕ)) → Type 0
 Stops words coming coming' out out' err err' =
     ((coming' ≡ coming) × Took out out' err err' (IsStopped words)) ⊎ FilteredFront words coming coming' out out' err err'

@@ -143,7 +143,7 @@ fn filter_as<D: Alike + Copy + Drop, S: Source, W: Sink>(
     }
 }
 
-/// Filters an input with a demangler, which isn't asked again for the symbols that came last.
+/// Filters an input with a demangler. The symbols that came last are answered without asking it again.
 fn filter_by<D: Alike + Copy + Drop, S: Source, W: Sink>(
     alloc: Global,
     demangler: D,
@@ -180,8 +180,8 @@ pub fn run(alloc: Global, words: &[&str], out: &mut Vec<u8>, err: &mut Vec<u8>) 
     }
 }
 
-/// Writes the lines for the words of a command line, the program's name first, and says what the program is to do. A word's
-/// lines wait until they and those before are some kilobytes, so all words together need only the memory of the dearest.
+/// Writes the lines for the words of a command line, the program's name first, and says what the program is to do. Lines wait
+/// until they have some kilobytes, so all words together need only the memory of the dearest word.
 pub fn run_to<W: Sink, E: Sink>(
     alloc: Global,
     words: &[&str],

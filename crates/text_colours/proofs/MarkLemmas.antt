@@ -25,7 +25,7 @@ use Rattle.text_colours.proofs.SliceLemmas.{advanced, all-passed, passed, shown,
 abbrev pub part_at : Spelling → (place : ℕ) → Role → Ordinal → (inside : Marked) → Part
 part_at s place role ordinal inside = part_of s (record { role = role; ordinal = ordinal; start = place; length = length (text_of inside) })
 
--- those of a text's marks
+-- the parts of a text's marks
 abbrev pub parts_from : Spelling → (place : ℕ) → Marked → List Part
 parts_from s place done = []
 parts_from s place (text bytes rest) = parts_from s (place + length bytes) rest
@@ -80,11 +80,11 @@ with-style part first style length-1 has some =
 
 -- ## A mark
 
--- what is written of a text with the parts of a mark, before that of the parts after it
+-- what is written for the parts of a mark comes before what is written for the parts after it
 abbrev pub Writes : Spelling → List ℕ → ℕ → Marked → List Part → Type 0
 Writes s all place m more = colored_from all place (parts_from s place m ++ more) ≡ colored_marked m ++ colored_from all (place + length (text_of m)) more
 
--- without a style of its own it is written as its marks are
+-- a mark without a style of its own is written as the marks in it are
 unstyled : (s : Spelling) (all : List ℕ) (place : ℕ) (role : Role) (ordinal : Ordinal) (inside rest : Marked) (more : List Part) → let next = place + length (text_of inside) in
     shows place (part_at s place role ordinal inside) ≡ false → Writes s all place inside (parts_from s next rest ++ more) → Writes s all next rest more
     → colored_from all place (parts_from s place (marked role ordinal inside rest) ++ more) ≡ colored_marked inside ++ (colored_marked rest ++ colored_from all (place + length (text_of inside ++ text_of rest)) more)
@@ -96,7 +96,7 @@ unstyled s all place role ordinal inside rest more hidden first second =
     ∙ first
     ∙ ap (λ (t : List ℕ). colored_marked inside ++ t) (second ∙ ap (λ (n : ℕ). colored_marked rest ++ colored_from all n more) (omega (arith, length-append (text_of inside) (text_of rest))))
 
--- with one it is written in that
+-- a mark with a style is written in that style
 styled : (s : Spelling) (all front back : List ℕ) (place : ℕ) (role : Role) (ordinal : Ordinal) (inside rest : Marked) (more : List Part) → let next = place + length (text_of inside) in
     all ≡ front ++ (text_of inside ++ back) → place ≡ length front → shows place (part_at s place role ordinal inside) ≡ true → Writes s all next rest more
     → colored_from all place (parts_from s place (marked role ordinal inside rest) ++ more) ≡ (style_of role ++ (text_of inside ++ plain)) ++ (colored_marked rest ++ colored_from all (place + length (text_of inside ++ text_of rest)) more)
@@ -156,11 +156,11 @@ writes s (marked role ordinal inside rest) all front back place more is begins a
 
 -- ## Parts that aren't in the text
 
--- one of them
+-- a part that isn't in the text
 abbrev none_of : (end : ℕ) → Spelled → Part
 none_of end spelled = record { role = spelled.role; start = end; length = 0; from = spelled.span.from; to = spelled.span.to }
 
--- nothing is left behind a text, and they aren't shown
+-- nothing is left after a text, and these parts aren't shown
 hidden-left : (all : List ℕ) (place : ℕ) (part : Part) (parts : List Part) (b : Bool) → part.length ≡ 0 → colored_from all place parts ≡ [] → colored_from all place (if b then part ∷ parts else parts) ≡ []
 hidden-left all place part parts true none rest = passed all place part parts (no-bytes place part none) ∙ rest
 hidden-left all place part parts false none rest = rest
@@ -171,7 +171,7 @@ nothing-left all place end [] h = drop_all place all h
 nothing-left all place end (spelled ∷ spans) h =
     hidden-left all place (none_of end spelled) (unprinted end spans) (nat_le (role_number role.Hash) (role_number spelled.role)) refl (nothing-left all place end spans h)
 
--- they begin where it ends
+-- these parts begin where the text ends
 hidden-begins : (end : ℕ) (part : Part) (parts : List Part) (b : Bool) → end ≤ part.start → All (λ part. end ≤ part.start) parts → All (λ part. end ≤ part.start) (if b then part ∷ parts else parts)
 hidden-begins end part parts true begins all = All-cons (λ part. end ≤ part.start) part parts begins all
 hidden-begins end part parts false begins all = all

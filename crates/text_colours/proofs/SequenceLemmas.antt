@@ -22,7 +22,7 @@ second-printed : (bytes more : List ℕ) → All IsPrinted (bytes ++ more) → A
 second-printed [] more printed = printed
 second-printed (byte ∷ bytes) more printed = second-printed bytes more (All-tail IsPrinted byte (bytes ++ more) printed)
 
--- they stay
+-- bytes without ESC stay
 bytes-left : (bytes more : List ℕ) → All IsPrinted bytes → left_of false (bytes ++ more) ≡ bytes ++ left_of false more
 bytes-left [] more printed = refl
 bytes-left (byte ∷ bytes) more printed =

@@ -31,7 +31,7 @@ same-shown : (from to : ℕ) (part : Part) → from ≤ to → to ≤ part.start
 same-shown from to part h after =
     ap (λ (b : Bool). has_style part.role && (nat_lt 0 part.length && b)) (le-leb from part.start (omega (arith, h, after)) ∙ sym (le-leb to part.start after))
 
--- one that ends before a place isn't shown
+-- a part that ends before a place isn't shown
 not-shown : (place : ℕ) (part : Part) → end_of part ≤ place → shows place part ≡ false
 not-shown place part before =
     and_right (has_style part.role) _ (elim (cases_lt 0 part.length) [
@@ -103,7 +103,7 @@ part-more text parts i d place next old new all more so_far is after =
     ap₂ (λ (t : List ℕ) (n : ℕ). t ++ colored_from text n (drop (i + 1) parts)) is after ∙ append_assoc old (written text place part) (colored_from text (place_after place part) (drop (i + 1) parts))
     ∙ ap (λ (ps : List Part). old ++ colored_from text place ps) (sym (drop_more parts i d more)) ∙ so_far
 
--- none is left
+-- no part is left
 pub ended : (text : List ℕ) (parts : List Part) (i place end : ℕ) (old last new all : List ℕ) → length parts ≤ i → old ++ colored_from text place (drop i parts) ≡ all → last ≡ slice text place end → end ≡ length text
     → new ≡ old ++ last → new ≡ all
 unfolding colored_from

@@ -14,6 +14,6 @@ abbrev pub colored_answer : Option Details → Result (List ℕ) Refusal → Res
 colored_answer details (Ok text) = Ok (colored_text details text)
 colored_answer details (Err refusal) = Err refusal
 
--- what is answered with coloured texts, where it is known what is with others; a symbol that is refused is refused for the same reason
+-- the answers with coloured texts, by the answers without colours; a symbol that is refused is refused for the same reason
 abbrev pub colored_answers : Detailing → Answering → Answering
 colored_answers details answers kind symbol = colored_answer (details kind symbol) (answers kind symbol)

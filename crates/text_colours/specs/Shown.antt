@@ -3,13 +3,14 @@ use Rattle.std.specs.Prelude.{◌≢◌, ℕ, ◌==◌, List, [], ◌∷◌, ◌
 use Rattle.sym_parts.specs.Marked.{Marked, done, text, marked, text_of}
 use Rattle.text_colours.specs.Styles.{plain, style_of}
 
--- a marked stretch: its text in the style, where there is one and the text isn't empty, or else what it is shown as without
+-- a marked stretch: its text in the style, if there is a style and the text isn't empty; otherwise what it is shown as without
+-- a style
 abbrev pub shown_in : (style bytes without : List ℕ) → List ℕ
 shown_in [] bytes without = without
 shown_in (first ∷ style) [] without = without
 shown_in (first ∷ style) (byte ∷ bytes) without = (first ∷ style) ++ ((byte ∷ bytes) ++ plain)
 
--- a marked text, with what each outermost mark that has a style surrounds in that style
+-- a marked text: each outermost mark that has a style puts its text in that style
 unfoldable pub colored_marked : Marked → List ℕ
 colored_marked done = []
 colored_marked (text bytes rest) = bytes ++ colored_marked rest
@@ -21,7 +22,7 @@ colored_marked (marked role ordinal inside rest) = shown_in (style_of role) (tex
 abbrev pub IsPrinted : ℕ → Type 0
 IsPrinted byte = byte ≢ 27
 
--- what is left of bytes, the first of which are in a sequence or not; a sequence ends with an m
+-- what is left of bytes without their sequences; the first bytes may be in a sequence, which ends with an m
 abbrev pub left_of : (in_sequence : Bool) → List ℕ → List ℕ
 left_of in_sequence [] = []
 left_of true (byte ∷ bytes) = left_of (not (byte == 109)) bytes

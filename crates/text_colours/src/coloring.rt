@@ -20,7 +20,8 @@ pub fn colored(alloc: Global, text: &[u8], parts: &[Part]) -> Result<Vec<u8>, Al
     Ok(out)
 }
 
-/// Appends what is written for a part where the text up to a place was written, and answers the place up to which it is then.
+/// Appends what is written for a part, once the text up to a place was written. Answers the place up to which the text is
+/// written then.
 fn push_part(text: &[u8], place: usize, part: Part, out: &mut Vec<u8>) -> Result<usize, AllocError>
     ensures place { IfOk result (λ next. next ≡ place_after place part) }
     ensures text { OnOk result (out.new.items ≡ out.old.items ++ written text.now place part) }

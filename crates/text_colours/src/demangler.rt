@@ -20,7 +20,7 @@ pub struct Colored<D> {
 }
 
 impl<D: Detailed> Colored<D> {
-    /// Colours the text of a symbol, which begins at a place of a list and ends with it. Where memory runs out, it is gone.
+    /// Colours the text of a symbol, which is the bytes of a list from a place on. Where memory runs out, the text is gone.
     fn color(
         &self,
         kind: Kind,
@@ -45,7 +45,7 @@ impl<D: Detailed> Colored<D> {
     }
 }
 
-/// Colours the parts of a text, which begins at a place of a list and ends with it. Where memory runs out, it is gone.
+/// Colours the parts of a text, which is the bytes of a list from a place on. Where memory runs out, the text is gone.
 fn color_parts(
     alloc: Global,
     parts: &[Part],
@@ -114,7 +114,7 @@ impl<D: Detailed> Demangler for Colored<D> {
 }
 
 impl<D: Alike + Detailed> Alike for Colored<D> {
-    /// Of details nothing is known by settings.
+    /// Settings don't decide details, so no two demanglers are known to be alike.
     fn is_alike(&self, _other: &Colored<D>) -> bool {
         false
     }

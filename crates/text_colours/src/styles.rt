@@ -8,7 +8,7 @@ use sym_parts::Role;
 pub(crate) const PLAIN: &[u8] = b"\x1b[0m";
 
 /// What begins the style of a part: ESC [1m, which is bold, for the name itself, and ESC [2m, which is dim, for arguments and
-/// parameters. Others have no style of their own, and nothing begins it.
+/// parameters. Other roles have no style of their own, and so no bytes.
 pub(crate) fn style_of(role: Role) -> &'static [u8]
     ensures { result.now ≡ style_of role }
 {

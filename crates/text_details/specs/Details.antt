@@ -14,11 +14,11 @@ pub record Details : Type 0 where
 abbrev pub Detailing : Type 0
 Detailing = Kind → List ℕ → Option Details
 
--- none
+-- no details
 abbrev pub no_details : Detailing
 no_details kind symbol = None
 
--- what code has of them
+-- details as code has them
 abbrev pub details_in : Option Details-type → Option Details
 details_in (Some details) = Some (record { kind = details.kind; parts = details.parts.items })
 details_in None = None

@@ -36,7 +36,7 @@ pub trait Detailed: Demangler {
         ensures { IfOk result (λ found. details_in found ≡ details self.now kind symbol.now) };
 }
 
-/// No details are known of rewritten texts: those of the text before aren't theirs.
+/// No details are known of a rewritten text: the details of the original text don't fit it.
 impl<D: Demangler, R: Rewrites> Detailed for Rewriting<D, R> {
     ghost use Rattle.text_details.specs.Details.{no_details};
 

@@ -1,4 +1,4 @@
--- The value of a kind that may be empty, where nothing of it is there.
+-- The value of a kind that may be empty, where it is empty.
 use Rattle.std.proofs.Common.{◌≡◌, [], ◌∷◌, inl, true, false, refl, subst, sym, ◌∙◌}
 use Rattle.std.proofs.lemmas.Bool.{false≢true}
 use Rattle.sym_shape.specs.Tree.{empty}

@@ -63,7 +63,7 @@ after-append : (encoding : ℕ) (cs ds : List Candidate) → AllAfter encoding c
 after-append encoding [] ds one other = other
 after-append encoding (c ∷ cs) ds one other = (one.0, after-append encoding cs ds one.1 other)
 
--- candidates that were made inside an encoding stay behind the place where it begins
+-- candidates that were made inside an encoding stay after the place where it begins
 stays-behind : (around inner : Around) (at end : ℕ) (old new : State) → around.encoding < at → inner.encoding ≡ at
     → AllOld false around at old.candidates → Grows false inner end old new → StaysBehind around at old new
 stays-behind around inner at end old new less is before grows = record {

@@ -112,7 +112,7 @@ nested-type-read around at old v new o e is scoped =
 
 -- ## String literals
 
--- as the own name of an encoding, without letters
+-- the role of an encoding's own name, without letters
 abbrev plain_name : Role
 plain_name = in_name_with unqualified any_value
 
@@ -149,7 +149,7 @@ scoped-piece around p w role old mid new takes begins one arguments e is scoped 
     (piece-entity around e p w role old mid new is scoped begins (takes.takes p begins) takes.none one
     (subst (λ t. KindFits Kind.MaybeArguments (after t false around) w mid new) same arguments))
 
--- of a kind that reads entities in a role
+-- a kind reads entities in a role
 abbrev Reads : Kind → Role → Type 0
 Reads kind role =
     (around : Around) (t : Term) (old new : State) → EntityRead around t role old new → KindRead kind around (tree t false) old new

@@ -521,7 +521,7 @@ pub by-parts : (R : Value → State → Type 0) (p : Production) → IsPlain p �
 by-parts R p plain stays {kind} {around} {at} {old} {v} {new} o holds =
     each-part p (byte_of o.taken) around at old v new R plain (parts_of p) o.parts [] (at + length o.taken) old (o.goes stays) holds
 
--- of types, lists and arguments
+-- the same for types, lists and arguments
 pub fits-by-parts : (k : Kind) (p : Production) → IsPlain p → StaysInside p → {kind : Kind} {around : Around} {at : ℕ} {old : State} {v : Value}
     {new : State} → (o : OpenedRead kind around at old v new p)
     → Parts p around at (λ ws t. KindFits k around (Meant p (byte_of o.taken) around ws) old (Later p (byte_of o.taken) around old ws t)) (parts_of p) [] old

@@ -45,7 +45,7 @@ letter-branch kind only rule taken parts all around at old v new front is e =
     mark-taken kind (one-mark (alternatives kind) (OpenedRead kind around at old v new) only
     (opened-read kind rule taken parts all around at old v new front is e))
 
--- a kind of marks of which nothing is claimed
+-- a kind of marks about which nothing is claimed
 pub mark-branch : (kind : Kind) → OnlyMarks (alternatives kind) → BranchTo kind (λ around v old new. new ≡ old)
 mark-branch kind only rule taken parts all around at old v new front is e =
     (letter-branch kind only rule taken parts all around at old v new front is e).0

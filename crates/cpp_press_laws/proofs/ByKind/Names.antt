@@ -29,7 +29,7 @@ use Rattle.cpp_press_laws.proofs.ByKind.Rules.{IsAmong}
 
 -- ## Arguments
 
--- with their I and E
+-- arguments with their I and E
 arguments-come : (kind : Kind) (around : Around) (at : ℕ) (old : State) (v : Value) (new : State)
     → OpenedRead kind around at old v new Production.Arguments → (v ≡ tree (tree_of v) true) × KindFits Kind.Arguments around v old new
 unfolding parts_of number_of_kind between inside tree_of meaning part unfolding_.behind
@@ -144,7 +144,7 @@ argument-after-t-branch rule taken parts all around at old v new front is e oute
     let o = opened-read Kind.ArgumentAfterT rule taken parts all around at old v new front is e in
     parameter-argument Kind.ArgumentAfterT around at old v new front o
 
--- or as the first type of a lambda; in the wide grammar it may say its level
+-- a parameter as the first type of a lambda; in the wide grammar it may say its level
 pub leveled-branch : BranchRead Kind.LeveledParameter
 unfolding alternatives
 leveled-branch rule taken parts all around at old v new front is e outer =

@@ -195,7 +195,7 @@ component-branch rule taken parts all around at old v new front is e outer t lis
 
 -- ## The first part
 
--- after a piece: the name so far
+-- the name so far, after a piece
 nest-piece : (around : Around) (p : Term) (old mid : State) (w : Value) (new : State) → BeginsName around → begins_name p ≡ true
     → PieceFits around p old mid → KindRead Kind.NestRest (after (extended around.prefix p) false around) w mid new
     → NestRead around w old new

@@ -141,7 +141,7 @@ letters-come p kind two around at old v new o w mid mark e =
     (operator-fits around first second old (omega (arith, eaten, o.small)) mark.2 is) in
     subst (λ r. PieceAs names_function around r.value old r.state) means (refl, fits)
 
--- where the second is a mark
+-- an operator of two letters, where the second is a mark
 letters-read : (p : Production) (kind : Kind) → StaysInside p → TwoLetters p kind → {around : Around} {at : ℕ} {old : State} {v : Value} {new : State}
     → ((w : Value) (s : State) → KindRead kind around w old s → MarkRead kind w old s)
     → OpenedRead Kind.Operator around at old v new p → PieceAs names_function around v old new
@@ -213,7 +213,7 @@ operator-branch rule taken parts all around at old v new front is e =
     let one = one-read Kind.Operator rule taken parts all around at old v new front is e in
     operator-read around at old v new one.0 one.1 one.2
 
--- one that begins with no c
+-- an operator that begins with no c
 pub other-operator-branch : BranchRead Kind.OtherOperator
 unfolding alternatives choose pick is_in in_ranges among same_choice each_below number_of
 other-operator-branch rule taken parts all around at old v new front is e =
@@ -222,7 +222,7 @@ other-operator-branch rule taken parts all around at old v new front is e =
     (opened-read Kind.OtherOperator rule taken parts all around at old v new front is e)) in
     operator-read around at old v new one.0 one.1 one.2
 
--- two letters of which the first is a c
+-- two letters, the first of them a c
 pub c-operator-fits : (around : Around) (second : ℕ) (old : State) → second < 256 → choose Kind.OperatorAfterC second ≡ Some Production.Mark
     → PieceFits around (operator 99 second) old old
 unfolding choose alternatives pick is_in in_ranges among kinds parts_of is_chain between opening close meaning part letter_of unfolding_.behind number_of_kind
@@ -253,7 +253,7 @@ tested-number place digits state e = (
       (Ok state) (Err (BadValue place)) (λ is h. is) (λ is h. absurd cc) e,
 )
 
--- it is that of the last token
+-- the number is that of the last token
 last-digits : (t : Shape) (f : Forest) (around : Around) (at : ℕ) (state : State) (v : Value) (new : State) → IsTree abi (Number Decimal) t
     → AreTrees abi [] f → unfold_tree cpp around at t state ≡ Ok (found (v ∷ []) new) → (digits : List ℕ)
     → last_token (grown t f) digits ≡ text_of v
@@ -266,7 +266,7 @@ last-digits (branch rule taken parts) f around at state v new is trees e digits 
 last-digits empty f around at state v new is trees e digits = absurd is
 last-digits (fixed b) f around at state v new is trees e digits = absurd is
 
--- the same of the parts that come before the rest
+-- the same for the parts that come before the rest
 digits-split : (f : Forest) (t : Shape) (others : Forest) (own : List ℕ) → f ≡ grown t others
     → ((digits : List ℕ) → last_token (grown t others) digits ≡ own) → (digits : List ℕ) → last_token f digits ≡ own
 digits-split f t others own same last digits = ap (λ g. last_token g digits) same ∙ last digits

@@ -26,7 +26,7 @@ pub record PieceRead (names : Term → Bool) (around : Around) (v : Value) (old 
   pub fits : PieceFits around piece old mid
   pub later : KindFits Kind.MaybeArguments (after (extended around.prefix piece) false around) arguments mid new
 
--- a piece of another sort
+-- a piece of one sort is of another sort, where that has all of its pieces
 pub renamed : (names others : Term → Bool) (around : Around) (v : Value) (old new : State)
     → ((p : Term) → names p ≡ true → others p ≡ true) → PieceRead names around v old new → PieceRead others around v old new
 renamed names others around v old new more read = record {

@@ -74,7 +74,7 @@ unnamed-fits around k state good =
 
 -- ## Lambdas
 
--- each has no free parameters, or was made in an encoding inside
+-- each candidate has no free parameters, or was made in an encoding inside
 abbrev pub ShutOrInside : ℕ → List Candidate → Type 0
 ShutOrInside encoding [] = Unit {0}
 ShutOrInside encoding (c ∷ cs) = ((is_open c.tree ≡ false) ⊎ (encoding < c.encoding)) × ShutOrInside encoding cs

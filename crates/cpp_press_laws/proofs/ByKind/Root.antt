@@ -25,7 +25,7 @@ use Rattle.cpp_press_laws.proofs.Fits.Rests.{symbol-fits}
 use Rattle.cpp_press_laws.proofs.Fits.Symbols.{WholeFits}
 use Rattle.cpp_press_laws.proofs.ByKind.Known.{InFront, ShapeRead, OpenedRead, opened-read, comes-as}
 
--- before the first byte
+-- what is known before the first byte
 pub first-front : InFront (OfKind (number_of_kind Kind.Symbol)) first_around 0 first_state
 unfolding first_around first_state number_of_kind holds_encoding
 first-front = record {
@@ -83,7 +83,7 @@ read-as Q each read shape t (is, e) r unfolds =
     subst (λ u. Q u r.state) same
     (symbol-read Q each read shape one.value r.state is (unfolds ∙ ap (λ w. Ok w) one.is))
 
--- what a symbol is read as fits
+-- the tree that a symbol is read as fits
 pub read-fits : ((t : Shape) → ShapeRead t) → (shape : Shape) (t : Term) → IsReadFrom shape t → SymbolFits t
 unfolding unfold_cpp first_tree
 read-fits read shape t (is, e) =

@@ -1,4 +1,4 @@
--- Whatever kind a shape of the grammar is read as, what it is read as fits.
+-- What a shape of the grammar is read as fits, whatever its kind.
 use Rattle.std.proofs.Common.{◌≡◌, ℕ, List, false, refl, sym, subst}
 use Rattle.std.proofs.lemmas.Bool.{false≢true}
 use Rattle.sym_shape.specs.declared.rule.Rule.{Rule}
@@ -80,7 +80,7 @@ solid-branch rule taken parts all around at old v new front is e outer =
     let one = one-read Kind.Solid rule taken parts all around at old v new front is e in
     solid-read around at old v new front outer one.0 one.1 one.2
 
--- and after no T
+-- what is known before a type by its own letter that begins with no T
 solid-front : (around : Around) (at : ℕ) (old : State) → InFront (OfKind (number_of_kind Kind.SolidButT)) around at old
     → InFront (OfKind (number_of_kind Kind.Solid)) around at old
 unfolding number_of_kind holds_encoding
@@ -240,6 +240,6 @@ pub shape-read : (t : Shape) → ShapeRead t
 shape-read = every-shape ShapeRead branch-read empty-read (λ t kind around at old v new front is e. absurd is)
     (λ b kind around at old v new front is e. absurd is)
 
--- what a symbol is read as fits
+-- the tree that a symbol is read as fits
 pub symbol-read-fits : (shape : Shape) (t : Term) → IsReadFrom shape t → SymbolFits t
 symbol-read-fits = read-fits shape-read

@@ -143,7 +143,7 @@ in-std-add p a = record {
     each fit.as_argument = λ in_pack around allowed. whole around allowed
     each w = (nowhere-ways-add (in_std p) (λ n. ways_of n (in_std p))).at w
 
--- the one form of an entity or the other
+-- one of the two forms of an entity
 pub entity-adds : (b : Bool) (k m n : ℕ) → m ≤ k → (P : Term → Type 0) (letters : List ℕ) (between : Spelling) (place : ℕ) (cs : List Component)
     → ((b ≡ true) × AddsParts m n P cs (between place cs))
     ⊎ ((b ≡ false) × AddsParts k n P cs (between (place + length (codes "N" ++ letters)) cs))

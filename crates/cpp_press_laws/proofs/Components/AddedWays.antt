@@ -58,7 +58,7 @@ both-added {n} {P} {Q} {cs} {w} {v} k m l le a b = record {
 pub fewer-added : {k n : ℕ} {P Q : Term → Type 0} {cs : List Component} {w : Written} → AddsParts k n P cs w → In Q P → AddsParts k n Q cs w
 fewer-added a more = record { complete = a.complete; has = λ all x is. a.has all x (more x is); keeps = a.keeps; few = a.few }
 
--- after fixed bytes, and before them
+-- what a spelling adds after fixed bytes, and before them
 pub after-bytes : {n : ℕ} {P : Term → Type 0} {cs : List Component} {w : Written} (k m : ℕ) (bytes : List ℕ) → m ≤ length bytes + k
     → AddsParts k n P cs w → AddsParts m n P cs (written (bytes ++ w.bytes) w.components)
 after-bytes {n} {P} {cs} {w} k m bytes le a =
@@ -313,7 +313,7 @@ pub reference-adds : (around : Around) (allowed : Option ℕ) (own : Term) (s : 
 reference-adds around allowed own s =
     in-component around allowed own (λ around allowed place cs. ⊥) s (nowhere-adds 2 around.encoding (Inside own) s)
 
--- fewer trees
+-- a spelling that adds or finds trees adds or finds fewer of them
 pub fewer-adds : (k n : ℕ) (P Q : Term → Type 0) (F : Standing) (s : Spelling) → In Q P → Adds k n P F s → Adds k n Q F s
 fewer-adds k n P Q F s more one place cs fits = fewer-added (one place cs fits) more
 

@@ -1,5 +1,5 @@
--- A function type right under qualifiers is spelled out even where it is among the components: there it fits, since its parts
--- are there too.
+-- A function type right under qualifiers is spelled out even where it is among the components. It fits there, since its parts
+-- are among the components, too.
 use Rattle.std.proofs.Common.{◌≡◌, ℕ, ◌+◌, ◌⊎◌, inl, inr, length, List, [], ◌++◌, Option, None, Bool, true, false, refl, subst, sym}
 use Rattle.std.specs.Prelude.{◌&&◌, ◌||◌, codes, cond}
 use Rattle.sym_spell.specs.Pressing as spell

@@ -14,7 +14,7 @@ use Rattle.cpp_press_laws.proofs.Ways as way
 use Rattle.cpp_press_laws.proofs.Ways.{Way}
 use Rattle.cpp_press_laws.proofs.Components.Growing.{size, Grows, and-grows, text-grows, nothing-grows, more-grows, front, back, never-referred-grows, component-grows, before-grows}
 
--- what a tree spelled in its ways adds, with marks and without, in a whole in which it is
+-- what a tree in a whole adds in each of its ways, with marks and without
 abbrev pub WayGrows : Way → (whole t : Term) → marked.Ways → Ways → Type 0
 WayGrows way.as_type whole t w p = Grows whole (suc (size t)) w.as_type p.as_type
 WayGrows way.under_qualifiers whole t w p = Grows whole (suc (size t)) w.under_qualifiers p.under_qualifiers

@@ -1,4 +1,5 @@
--- Lists of components in which each is with the components in it, and the candidates of a reader that are in such a list.
+-- Lists of components that have the components in each of their components; and the candidates of a reader that are in such a
+-- list.
 use Rattle.std.proofs.Common.{◌≡◌, ℕ, ◌+◌, ◌<◌, ◌≤◌, ◌⊎◌, inl, inr, length, List, [], ◌∷◌, ◌++◌, Bool, true, false, refl, ap, arith, sym, subst, ◌∙◌, length-append, zero, suc, Option, Some, None}
 use Rattle.std.specs.Prelude.{cond, ◌&&◌, ◌||◌, slice_get}
 use Rattle.std.proofs.lemmas.Bool.{true≢false, or_parts}
@@ -260,7 +261,7 @@ among-known read pressed in_lambda t cs components is has among =
       ),
     )
 
--- these were made in encodings that begin before a place
+-- the candidates were made in encodings that begin before a place
 abbrev pub AllBefore : ℕ → List Candidate → Type 0
 AllBefore place [] = Unit {0}
 AllBefore place (c ∷ cs) = (c.encoding < place) × AllBefore place cs

@@ -1,4 +1,4 @@
--- Encodings as prefixes: none is one.
+-- No encoding is a prefix.
 use Rattle.std.proofs.Common.{◌≡◌, ℕ, List, Option, true, false, ap, ◌∙◌, arith}
 use Rattle.std.proofs.lemmas.Bool.{false≢true, false_from_ne_true}
 use Rattle.sym_spell.specs.Pressing.{◌and◌, nothing}

@@ -22,7 +22,7 @@ AreFew t s =
     (length (spelled_components t) ≤ length s.candidates)
     × (worths [] (spelled_components t) ≤ worths [] (components_of s.candidates))
 
--- after the first two bytes, where the encoding fits
+-- a symbol has few components, where its encoding fits after the first two bytes
 symbol-few : (e : Term) (suffix : List ℕ) (new : State) → WholeFits first_around e first_state new → new.packs ≡ None
     → AreFew (symbol e suffix) new
 unfolding first_around first_state spelled_components ways_of no_ways

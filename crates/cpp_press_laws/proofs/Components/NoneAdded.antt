@@ -20,14 +20,14 @@ component-none n t s place cs has = go (first_equal n t 0 cs) refl
     go (Some number) is = refl
     go None is = absurd (stands-found n t 0 cs has is)
 
--- as a type
+-- the spelling as a type
 pub type-none : (t : Term) (n place : ℕ) (cs : List Component) → (IsComponent t → Has n t cs) →
     ((ways_of n t).as_type place cs).components ≡ cs
 unfolding ways_of no_ways type_ways name_ways piece_ways argument_ways encoding_ways
 type-none (alone p) n place cs has = component-none n (alone p) _ place cs (has tt)
 type-none _ n place cs has = first_of (cc, search (component-none, has))
 
--- as a prefix
+-- the spelling as a prefix
 pub prefix-none : (t : Term) (n place : ℕ) (cs : List Component) → IsComponent t → Has n t cs →
     ((ways_of n t).as_prefix place cs).components ≡ cs
 unfolding ways_of no_ways type_ways name_ways piece_ways argument_ways encoding_ways
@@ -53,7 +53,7 @@ all-parameters-none (list first rest) n place cs has = parameters-none (list fir
 all-parameters-none (alone p) n place cs has = refl
 all-parameters-none _ n place cs has = refl
 
--- right under qualifiers
+-- the spelling right under qualifiers
 pub bare-none : (t : Term) (n place : ℕ) (cs : List Component) → IsComponent t → Complete cs → Has n t cs
     → ((ways_of n t).under_qualifiers place cs).components ≡ cs
 unfolding ways_of no_ways type_ways name_ways piece_ways argument_ways encoding_ways function_text

@@ -230,7 +230,7 @@ items-whole around allowed ps place cs w i =
     (items-more around allowed i.first i.items i.last place cs i.one i.rest i.are
     (elsewhere (omega arith) i.reads_one) (elsewhere (omega arith) i.reads_rest)))
 
--- with a return type before the parameters
+-- the items of a function with a return type before the parameters
 returned-items : (name r ps : Term) (q : Qualifiers) (ref : RefQualifier) → Reading r → Reading ps → (around : Around) (allowed : Option ℕ)
     (v : Value) (place : ℕ) (cs : List Component) → IsSmall around
     → (let n = around.encoding in
@@ -257,7 +257,7 @@ returned-items name r ps q ref rr rp around allowed v place cs small room a b c 
           (items-whole around allowed ps (place + length w.bytes) w.components x i));
     }
 
--- and without
+-- the items of a function without a return type
 plain-items : (name ps : Term) (q : Qualifiers) (ref : RefQualifier) → Reading ps → (around : Around) (allowed : Option ℕ)
     (v : Value) (place : ℕ) (cs : List Component) → IsSmall around
     → HasRoom (((ways_of around.encoding absent).as_type and (ways_of around.encoding ps).as_parameters) place cs) → tree_of v ≡ name

@@ -31,7 +31,7 @@ use Rattle.cpp_press_laws.proofs.ReadBack.Functions.{RestReads}
 
 -- ## What is read
 
--- as a name with qualifiers and a mark
+-- a tree is read as a name with qualifiers and a mark
 pub record NameReads (around : Around) (allowed : Option ℕ) (k : ℕ) (t : Term) (q : Qualifiers) (ref : RefQualifier) (place : ℕ)
     (cs : List Component) (w : Written) : Type 0 where
   pub value : Value
@@ -52,12 +52,12 @@ template-value true around allowed k t place cs w one = one
 template-value false around allowed k t place cs w one =
     record { value = tree t false; tree_is = refl; qualifiers_are = refl; ref_is = refl; reads = one }
 
--- as the entity of a local name
+-- a tree is read as the entity of a local name
 abbrev pub EntityReads : Role → Around → Option ℕ → Term → (place : ℕ) → List Component → Written → Type 0
 EntityReads in_type around allowed t place cs w = ReadsAt around allowed (OfKind TYPE_ENTITY) (Is (tree t false)) place cs w
 EntityReads (in_name_with q ref) around allowed t place cs w = NameReads around allowed ENTITY t q ref place cs w
 
--- as one more element before others
+-- a tree is read as one more element before others
 abbrev pub ArgumentReads : Bool → Around → Option ℕ → Term → (place : ℕ) → List Component → Written → Type 0
 ArgumentReads in_pack around allowed t place cs w =
     (items : Term) (last : Value) (rest : Written) → no_items last ≡ items
@@ -65,12 +65,12 @@ ArgumentReads in_pack around allowed t place cs w =
     → ReadsAt around allowed (OfKind (list_kind in_pack)) (Is (tree (list t items) true)) place cs
     (written (w.bytes ++ rest.bytes) rest.components)
 
--- as a list of a kind
+-- a tree is read as a list of a kind
 abbrev pub ListReads : ℕ → Around → Option ℕ → Term → (place : ℕ) → List Component → Written → Type 0
 ListReads k around allowed t place cs w =
     (no_items (items_value t) ≡ t) × ReadsAt around allowed (OfKind k) (Is (items_value t)) place cs w
 
--- as the parameters of a function type, with its mark and its end
+-- the parameters of a function type, with the type's mark and end
 abbrev pub with_end : RefQualifier → Written → Written
 with_end ref w = written (w.bytes ++ (mark_letter ref ++ codes "E")) w.components
 
@@ -218,7 +218,7 @@ pub typed-argument : (in_pack : Bool) (around : Around) (allowed : Option ℕ) (
 typed-argument in_pack around allowed t place cs w one items last rest are two =
     any-argument in_pack around allowed t items last place cs w rest are (item-as-argument (elsewhere (omega arith) one)) (elsewhere (omega arith) two)
 
--- a component before its arguments, of which only a reference is there
+-- a reference to a component, before the component's arguments
 pub referred-before : (typed : Bool) (k : ℕ) (around : Around) (allowed : Option ℕ) (t : Term) → IsComponent t → TemplateKind typed k → (place : ℕ)
     (cs : List Component) (spelling : Spelling) (arguments : Fitting) (elements : Spelling) (items : Term) (last : Value)
     → no_items last ≡ items

@@ -266,7 +266,7 @@ function-in true slot around allowed t place cs w all bare (inner, is, one) =
     subst (λ v. ReadsAs slot around allowed t place cs (written v.bytes (more around v.components t))) (sym is)
     ((with-d-in slot around allowed t all bare).0 place cs inner one)
 
--- and right under qualifiers
+-- a function type right under qualifiers
 function-bare : (noexcept : Bool) (around : Around) (allowed : Option ℕ) (t : Term) (place : ℕ) (cs : List Component) (w : Written)
     → is_function_type t ≡ true → FunctionReads noexcept around allowed t place cs w
     → ReadsAt around allowed (OfKind PLAIN) (Is (tree t true)) place cs w

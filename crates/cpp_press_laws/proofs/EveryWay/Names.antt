@@ -90,7 +90,7 @@ plain-name k around allowed t q ref place cs w none one =
     let same = without-letters q ref none in
     record { value = tree t false; tree_is = refl; qualifiers_are = same.0; ref_is = same.1; reads = one }
 
--- one without qualifiers is a name with none
+-- a name without qualifiers is a name with none
 pub no-qualifiers : (k : ℕ) (around : Around) (allowed : Option ℕ) (t : Term) (q : Qualifiers) (ref : RefQualifier) (place : ℕ)
     (cs : List Component)
     (w : Written) → name_letters q ref ≡ [] → NameReads around allowed k t unqualified any_value place cs w
@@ -152,7 +152,7 @@ alone-rule : (typed : Bool) (k : ℕ) (p : Term) → TemplateKind typed k
 alone-rule true k p rules h = rules.names p h
 alone-rule false k p eight h = subst (λ j. NameRule j p) (sym eight) (own-rule p h)
 
--- arguments after a name of which a component is made, at the place where they are spelled
+-- arguments after a name that becomes a component, at the place where they are spelled
 pub elements-behind : (around : Around) (allowed : Option ℕ) (last : Value) (arguments : Fitting) (elements : Spelling) (own : Term)
     (w : Written)
     (place at : ℕ) → ReadElements around allowed last arguments elements

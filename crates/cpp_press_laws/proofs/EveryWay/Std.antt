@@ -113,7 +113,7 @@ std-typed p r k rules around allowed place cs none small room h =
     named-std-type k around allowed p place cs ((ways_of around.encoding p).as_piece (place + 2) cs) rules.with_s
     ((std-piece p r around allowed place cs small room h).pieces SOURCE_OR_LOCAL (std-type-rule p (begins-unless p h.0 none)))
 
--- as a type
+-- a piece after St as a type
 std-type-reads : (p : Term) → Reading p → (b : Bool) → is_operator p ≡ b → (k : ℕ) → TypeRules k → (around : Around) (allowed : Option ℕ)
     (place : ℕ) (cs : List Component) → IsSmall around
     → HasRoom (choice b (in_N_and_E [] (std_spelling around.encoding p)) (std_spelling around.encoding p) place cs)

@@ -191,7 +191,7 @@ within-entity x p rx rp role good around allowed place cs small false is room (i
 
 -- ## As a name
 
--- between N and E, with letters or without
+-- a name between N and E, with letters or without
 name-nested : (around : Around) (allowed : Option ℕ) (t : Term) (q : Qualifiers) (ref : RefQualifier) → IsAbiMark ref → (place : ℕ) (cs : List Component)
     (between : Spelling)
     → ((at : ℕ) → at ≡ place + length (78 ∷ name_letters q ref) → HasRoom (between at cs)

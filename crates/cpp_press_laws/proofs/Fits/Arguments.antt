@@ -33,7 +33,7 @@ never-fitted around F G s r t old new never one = record {
   fits = λ n place cs allowed front allows. absurd (never n allowed place cs (one.fits n place cs allowed front allows).fits);
 }
 
--- a type is an argument as it's an item
+-- a type fits as an argument if it fits as an item
 pub type-argument : (t : Term) (around : Around) (in_pack : Bool) (old new : State) → TypeFits around item_type t old new
     → ArgumentFits around in_pack t old new
 unfolding fits_of type_fits piece_fits argument_fits encoding_fits fits_nowhere ways_of type_ways name_ways no_ways takes_all
@@ -125,7 +125,7 @@ EncodingFits around e old new =
 
 -- ## Literals and addresses of encodings
 
--- without free parameters outside of the encoding
+-- an argument made of an encoding, without free parameters outside of it
 encoded : (around : Around) (in_pack : Bool) (t e : Term) (before end : List ℕ) (old new : State) → 0 < length before → is_open t ≡ false
     → EncodingFits around e old new
     → Fitted around (λ inner allowed place cs. (fits_of e).as_encoding allowed (place + length before) cs)

@@ -122,8 +122,8 @@ among-last : (read n : ℕ) (olds more : List Candidate) (ds : List Component) �
 among-last read n [] more ds among = among
 among-last read n (c ∷ cs) more ds among = among-last read n cs more ds among.1
 
--- After an encoding, the candidates from before it are there as they were, and of those from inside it the ones without
--- free parameters are.
+-- After an encoding, the candidates from before it are among the components as they were, and so are those from inside it that
+-- have no free parameters.
 among-outer : (read n at place : ℕ) (olds more : List Candidate) (cs ds : List Component) → ((m : ℕ) (x : Term) → Has m x cs → Has m x ds) → AllAfter read more
     → StandAmong read n olds cs → StandAmong at place (olds ++ more) ds → StandAmong read n (olds ++ more) ds
 among-outer read n at place olds more cs ds keeps later before inner = (

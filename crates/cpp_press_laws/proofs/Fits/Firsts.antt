@@ -64,7 +64,7 @@ abbreviation-so-far outer l state is =
     let one = (abbreviation-fits (λ slot. true) outer l state is).types any_type tt refl in
     record { apart = λ n place cs front. refl; prefix = one; template = one }
 
--- after an S
+-- the name so far after an S
 pub named-so-far : (outer : Around) (v : Value) (old new : State) → KindFits Kind.Abbreviation outer v old new
     → SoFarFits outer (tree_of v) true old new
 unfolding tree_of

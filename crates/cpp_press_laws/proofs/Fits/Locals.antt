@@ -49,7 +49,7 @@ local-fits around e entity discriminator role old mid new good one other =
     (λ n place cs. and-assoc-at (text (codes "Z")) (enc n and text (codes "E")) (end n) place cs
     ∙ ap (λ s. (text (codes "Z") and s) place cs) (and-assoc (enc n) (text (codes "E")) (end n)))
 
--- as a type
+-- a local entity as a type
 pub local-typed : (around : Around) (e entity : Term) (discriminator : Option (List ℕ)) (slot : Slot) (old mid new : State)
     → IsSpellableDiscriminator discriminator → WholeFits around e old mid → EntityFits (after e true around) entity in_type mid new
     → TypeFits around slot (local e entity discriminator) old (appended around (local e entity discriminator) new)
@@ -60,7 +60,7 @@ local-typed around e entity discriminator slot old mid new good one other =
     (λ n. (keeps own Unit n (Whole own) way.as_name) (λ x i. inr i) []) (λ n allowed place cs fits. tt)
     (λ n. typed-complete own (λ m. refl) slot (pressed_at n around))
 
--- as an encoding's own name
+-- a local entity as an encoding's own name
 pub local-own : (around : Around) (e entity : Term) (discriminator : Option (List ℕ)) (q : Qualifiers) (ref : RefQualifier) (old mid new : State)
     → IsSpellableDiscriminator discriminator → WholeFits around e old mid → EntityFits (after e true around) entity (in_name_with q ref) mid new
     → OwnNameFits around (local e entity discriminator) q ref old new

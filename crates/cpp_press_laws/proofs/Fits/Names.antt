@@ -1,4 +1,4 @@
--- Names that were read piece by piece fit: where what comes before a piece fits, and the piece after it, so does the longer name.
+-- Names that were read piece by piece fit: a longer name fits where what comes before a piece fits, and the piece after it.
 use Rattle.std.proofs.Common.{◌≡◌, ℕ, ◌+◌, inl, inr, List, [], ◌∷◌, Option, true, false, refl, subst, Bool}
 use Rattle.std.specs.Prelude.{codes}
 use Rattle.sym_spell.specs.Pressing as spell
@@ -163,7 +163,7 @@ prefix-component {around} {t} {F} {G} {old} {now} one is stands more whole =
     component-fitted (refitted one more) is (λ n. (keeps t Unit n (Whole t) way.between_N_and_E) (λ x i. inr i))
     (λ n allowed place cs fits. stands) whole
 
--- as a prefix it is a component
+-- a piece after a prefix is a component as a prefix
 pub within-prefix : (around : Around) (t p : Term) (old now : State) → BetweenFits around (within t p) old now
     → PrefixFits around (within t p) old (appended around (within t p) now)
 unfolding fits_of ways_of name_ways no_ways
@@ -203,7 +203,7 @@ unfolding is_open pack_length
 instance-may around t a n allowed one other =
     may-as-two (pressed_at n around) allowed t a (instance t a) refl (λ arguments. refl) one other
 
--- between N and E
+-- an instance between N and E
 pub instance-between : (around : Around) (t a : Term) (old mid now : State) → IsComponent t → FunctionStands around.scope t
     → TemplateBetweenFits around t old mid → ElementsFit around a (appended around t mid) now → BetweenFits around (instance t a) old now
 unfolding fits_of ways_of name_ways no_ways
@@ -220,7 +220,7 @@ arguments-keep n R a inside =
     and-keeps Unit n R (text (codes "I")) ((ways_of n a).as_elements and text (codes "E")) (text-keeps Unit n R (codes "I"))
     (and-keeps Unit n R (ways_of n a).as_elements (text (codes "E")) ((keeps a Unit n R way.as_elements) inside) (text-keeps Unit n R (codes "E")))
 
--- as a prefix
+-- an instance as a prefix
 pub instance-prefix : (around : Around) (t a : Term) (old mid now : State) → TemplatePrefixFits around t old mid
     → ElementsFit around a mid now → PrefixFits around (instance t a) old (appended around (instance t a) now)
 unfolding fits_of ways_of name_ways no_ways

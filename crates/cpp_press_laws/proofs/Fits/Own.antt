@@ -28,7 +28,7 @@ alone-solid takes around p old new outer names one = record {
   bare = λ take. alone-typed around p bare_type old new outer names one;
 }
 
--- as a type
+-- a name of one piece as a type
 pub piece-solid : (takes : Slot → Bool) (around : Around) (p : Term) (w : Value) (old mid new : State) → around.prefix ≡ outermost
     → names_type p ≡ true → PieceFits around p old mid → KindFits Kind.MaybeArguments (after (alone p) false around) w mid new
     → SolidFits takes around (tree (applied (alone p) w) false) old new
@@ -39,7 +39,7 @@ piece-solid takes around p w old mid new outer names one arguments =
     (λ h. instance-fits takes around (alone p) (tree_of w) old new (alone-before around p (tree_of w) true old mid new outer names one h))
     arguments
 
--- as an encoding's own name
+-- a name of one piece as an encoding's own name
 pub piece-own : (around : Around) (p : Term) (w : Value) (old mid new : State) → around.prefix ≡ outermost → names_function p ≡ true
     → PieceFits around p old mid → KindFits Kind.MaybeArguments (after (alone p) false around) w mid new
     → OwnNameFits around (applied (alone p) w) unqualified any_value old new
@@ -49,7 +49,7 @@ piece-own around p w old mid new outer names one arguments =
     (alone-own around p unqualified any_value old mid outer names refl one)
     (λ h. alone-instance-own around p (tree_of w) unqualified any_value old mid new outer names refl one h) arguments
 
--- as a local entity
+-- a name of one piece as a local entity
 pub piece-entity : (around : Around) (e p : Term) (w : Value) (role : Role) (old mid new : State) → is_encoding e ≡ true
     → around.prefix ≡ behind e true → begins_name p ≡ true → names_in role p ≡ true → letters_of role ≡ [] → PieceFits around p old mid
     → KindFits Kind.MaybeArguments (after (within e p) false around) w mid new → EntityFits around (applied (within e p) w) role old new
@@ -61,7 +61,7 @@ piece-entity around e p w role old mid new is scoped begins names none one argum
 
 -- ## Names between N and E
 
--- as a type
+-- a name between N and E as a type
 pub nest-solid : (takes : Slot → Bool) (around : Around) (v : Value) (old new : State) → NestRead around v old new
     → SolidFits takes around v old new
 unfolding with_type with_unqualified tree_of is_listed

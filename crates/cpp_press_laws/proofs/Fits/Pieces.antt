@@ -32,7 +32,7 @@ unfolding is_open pack_length
 alone-piece around p old now one =
     fitted-as one (λ n allowed may. may-as (pressed_at n around) allowed p (alone p) refl (λ arguments. refl) may)
 
--- a type's name
+-- a piece alone as a type's name
 pub alone-typed : (around : Around) (p : Term) (slot : Slot) (old now : State) → around.prefix ≡ outermost → names_type p ≡ true
     → PieceFits around p old now → TypeFits around slot (alone p) old (appended around (alone p) now)
 unfolding fits_of ways_of name_ways no_ways
@@ -41,7 +41,7 @@ alone-typed around p slot old now outer names one =
     (λ n. (keeps p Unit n (Whole (alone p)) way.as_piece) (λ x i. inr i))
     (λ n allowed place cs fits. tt) (λ n. typed-complete (alone p) (λ m. refl) slot (pressed_at n around))
 
--- an encoding's own name, which has no letters
+-- a piece alone as an encoding's own name, which has no letters
 pub alone-own : (around : Around) (p : Term) (q : Qualifiers) (ref : RefQualifier) (old now : State) → around.prefix ≡ outermost
     → names_function p ≡ true → name_letters q ref ≡ [] → PieceFits around p old now → OwnNameFits around (alone p) q ref old now
 unfolding fits_of ways_of name_ways no_ways with_letters
@@ -58,7 +58,7 @@ alone-prefix-template around p old now outer begins one =
     prefix-component (alone-piece around p old now one) tt tt (λ n allowed place cs fits. (outer, begins, fits))
     (λ n allowed place cs fits. ((adds (alone p)).at fit.as_prefix_template (pressed_at n around) allowed place cs fits).complete)
 
--- before arguments, in a type or in an encoding's own name
+-- a piece alone before arguments, in a type or in an encoding's own name
 pub alone-before : (around : Around) (p a : Term) (typed : Bool) (old mid now : State) → around.prefix ≡ outermost
     → (elim typed as (λ _. Bool) [ true ↦ names_type p | false ↦ names_function p ]) ≡ true
     → PieceFits around p old mid → ElementsFit around a (appended around (alone p) mid) now
@@ -78,7 +78,7 @@ alone-before around p a typed old mid now outer names one other =
     (λ at ds piece. fewer-by (surplus p) 2 more ((adds p).at fit.as_piece (pressed_at n around) allowed at ds piece.2)) place cs fits).complete))
     (spelled-before spelled other tt tt (λ n allowed place cs fits. (adds p).at fit.as_piece (pressed_at n around) allowed place cs fits.2)) other
 
--- with arguments, as an encoding's own name
+-- a piece alone with arguments, as an encoding's own name
 pub alone-instance-own : (around : Around) (p a : Term) (q : Qualifiers) (ref : RefQualifier) (old mid now : State) → around.prefix ≡ outermost
     → names_function p ≡ true → name_letters q ref ≡ [] → PieceFits around p old mid → ElementsFit around a (appended around (alone p) mid) now
     → OwnNameFits around (instance (alone p) a) q ref old now
@@ -98,7 +98,7 @@ alone-instance-own around p a q ref old mid now outer names none one other = by 
 
 -- ## A piece in the scope of an encoding
 
--- its spelling is that of the piece
+-- the spelling of a piece in the scope of an encoding is that of the piece
 local-piece : (around : Around) (e p : Term) (old now : State) → is_encoding e ≡ true → PieceFits around p old now
     → Fitted around (fits_of p).as_piece (λ n. (ways_of n (within e p)).between_N_and_E) (within e p) old now
 unfolding ways_of name_ways no_ways is_open pack_length
@@ -109,7 +109,7 @@ local-piece around e p old now is one =
     (may-closed (pressed_at n around) allowed e (encoding-shut e is)) may))
     (λ n place cs. sym (ap (λ s. (s and r n) place cs) (encoding-prefix e n is) ∙ nothing-and (r n) place cs))
 
--- as a prefix, and before arguments that end a prefix
+-- a piece in the scope of an encoding as a prefix, and before arguments that end a prefix
 pub local-prefix : (around : Around) (e p : Term) (old now : State) → is_encoding e ≡ true → around.prefix ≡ behind e true → begins_name p ≡ true
     → PieceFits around p old now → PrefixFits around (within e p) old (appended around (within e p) now)
 unfolding fits_of ways_of name_ways no_ways

@@ -14,7 +14,7 @@ use Rattle.cpp_press_laws.proofs.Fits.Sorts.{Meant, Later}
 
 -- ## Places
 
--- before a part
+-- what is known of the candidates before a part
 pub record Placed (around : Around) (at : ℕ) (state : State) : Type 0 where
   pub lambda : LambdasAreBare around
   pub encoding : around.encoding ≤ at

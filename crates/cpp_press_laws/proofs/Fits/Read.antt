@@ -1,5 +1,4 @@
--- What it means that a tree which was read fits: it can be spelled wherever the reader's candidates are among the
--- components.
+-- What it means for a tree that was read to fit: it can be spelled wherever the reader's candidates are among the components.
 use Rattle.std.proofs.Common.{◌≡◌, ℕ, ◌+◌, ◌≤◌, ◌⊎◌, length, List, [], ◌∷◌, ◌++◌, Option, false, arith, subst, length-append}
 use Rattle.sym_spell.specs.Pressing as spell
 use Rattle.sym_spell.specs.Pressing.{◌and◌, text}
@@ -74,7 +73,7 @@ functions-append scope read (c ∷ cs) ds one other = (one.0, functions-append s
 
 -- ## Surroundings of parts
 
--- after a part that fits
+-- what holds of the components after a part that fits
 pub front-behind : {around : Around} {F : Fitting} {s : ℕ → Spelling} {t : Term} {n : ℕ} {allowed : Option ℕ} {place : ℕ}
     {cs : List Component} {old new : State} → Front around n place cs old → PartFits around F s t n allowed place cs new
     → Front around n (place + length (s n place cs).bytes) (s n place cs).components new
@@ -167,7 +166,7 @@ and-fitted {around} {F} {G} {s} {r} {a} {b} {t} {old} {mid} {new} one other may 
       });
 }
 
--- after bytes that name nothing
+-- a part after bytes that name nothing
 pub bytes-fitted : {around : Around} {F : Fitting} {s : ℕ → Spelling} {t : Term} {old new : State} (bytes : List ℕ)
     → Fitted around F s t old new
     → Fitted around (λ inner allowed place cs. F inner allowed (place + length bytes) cs) (λ n. text bytes and s n) t old new
@@ -183,7 +182,7 @@ bytes-fitted bytes one = record {
       record { fits = p.fits; may = p.may; complete = p.complete; among = p.among; functions = p.functions });
 }
 
--- before bytes that name nothing
+-- a part before bytes that name nothing
 pub fitted-bytes : {around : Around} {F : Fitting} {s : ℕ → Spelling} {t : Term} {old new : State} (bytes : List ℕ)
     → Fitted around F s t old new → Fitted around F (λ n. s n and text bytes) t old new
 fitted-bytes bytes one = record {

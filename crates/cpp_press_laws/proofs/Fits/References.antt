@@ -260,7 +260,7 @@ before-spelled _ c n number typed arguments place cs is = first_of (search c, se
 thrice : {may again stands one : Type 0} → may → again → (stands → ⊥) → may × again × (stands → one)
 thrice may again never = (may, again, λ stands. absurd (never stands))
 
--- and there it fits
+-- where a template name is, a reference to it fits
 before-found : (t : Term) → IsComponent t → (around : Around) (allowed : Option ℕ) (number : ℕ) (typed : Bool) (G : Fitting) (place : ℕ)
     (cs : List Component) → MayBeReferred around allowed t → Has around.encoding t cs → first_equal around.encoding t 0 cs ≡ Some number
     → Behind (reference number) (G around allowed) place cs → (fits_of t).before typed G around allowed place cs

@@ -181,7 +181,7 @@ abbrev pub BeforeFits : (around : Around) → (t a : Term) → (old new : State)
 BeforeFits around t a old new =
     Fitted around ((fits_of t).before true (arguments_standing a)) (λ n. (ways_of n t).before true (arguments_text a n)) (instance t a) old new
 
--- it is a type that becomes a candidate
+-- a template name with its arguments is a type that becomes a candidate
 pub instance-fits : (takes : Slot → Bool) (around : Around) (t a : Term) (old new : State) → BeforeFits around t a old new
     → SolidFits takes around (tree (instance t a) false) old new
 unfolding fits_of fits_nowhere ways_of name_ways no_ways with_type with_unqualified is_function_type tree_of is_listed

@@ -1,4 +1,4 @@
--- What the values of types are like by their kinds, and that each production of types keeps to that.
+-- What is known of the values of types by their kinds. Each production of types keeps to that.
 use Rattle.std.proofs.Common.{◌≡◌, ℕ, ◌⊎◌, List, [], ◌∷◌, Bool, true, false, refl}
 use Rattle.std.specs.Prelude.{nat_eq}
 use Rattle.cpp_grammar.specs.declared.kind.Kind.{Kind}

@@ -38,7 +38,7 @@ referred-name around old new c r = record {
   before = λ a now other. referred-before around true c a old new now r other;
 }
 
--- after an S
+-- a name after an S
 pub abbreviated-type : (around : Around) (byte : ℕ) (began : State) (v : Value) (old new : State) → KindFits Kind.Abbreviation around v old new
     → KindFits Kind.TypeAfterS around (Meant Production.AbbreviatedType byte around (v ∷ [])) old
     (Later Production.AbbreviatedType byte around began (v ∷ []) new)
@@ -118,7 +118,7 @@ unfolding meaning no_items tree_of part unfolding_.behind
 pack-argument around byte began t mark rest old mid new one other =
     arguments-fit around false (pack t) (no_items rest) old mid new (pack-fits around t old mid one) other
 
--- where no more arguments are
+-- the end of the arguments
 pub no-arguments : (around : Around) (in_pack : Bool) (state : State) → ArgumentsFit around in_pack (no_items nothing_there) state state
 unfolding no_items
 no-arguments around in_pack state = no-arguments-fit around in_pack state

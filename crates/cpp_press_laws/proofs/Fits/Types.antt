@@ -53,7 +53,7 @@ both-shut : (a b c : Bool) → a && c ≡ false → b && c ≡ false → (a || b
 both-shut true b c one other = one
 both-shut false b c one other = other
 
--- a tree with those of two
+-- a tree with the parameters and packs of two others
 pub may-as-two : (around : Around) (allowed : Option ℕ) (a b t : Term) → is_open t ≡ (is_open a || is_open b)
     → ((arguments : Term) → pack_length arguments t ≡ first_of (pack_length arguments a) (pack_length arguments b))
     → MayBeReferred around allowed a → MayBeReferred around allowed b → MayBeReferred around allowed t
@@ -75,7 +75,7 @@ may-closed around allowed t closed = record {
 abbrev pub TypeFits : (around : Around) → Slot → Term → (old new : State) → Type 0
 TypeFits around slot t old new = Fitted around ((fits_of t).as_type slot) (λ n. (ways_of n t).as_type) t old new
 
--- right under qualifiers
+-- a type fits right under qualifiers
 abbrev pub BareFits : (around : Around) → Term → (old new : State) → Type 0
 BareFits around t old new = Fitted around ((fits_of t).as_type bare_type) (λ n. (ways_of n t).under_qualifiers) t old new
 
@@ -128,7 +128,7 @@ spelled-solid takes around t G s old new spelled one = record {
   bare = λ take. spelled-fitted around t G s bare_type old new spelled (one bare_type take);
 }
 
--- after bytes, a type that adds nothing else
+-- a type after bytes adds nothing else
 pub bytes-keep : (n : ℕ) (t a : Term) (bytes : List ℕ) → In (Whole a) (Whole t) → KeepsTo Unit n (Whole t) (text bytes and (ways_of n a).as_type)
 bytes-keep n t a bytes inside =
     and-keeps Unit n (Whole t) (text bytes) (ways_of n a).as_type (text-keeps Unit n (Whole t) bytes) ((keeps a Unit n (Whole t) way.as_type) inside)
@@ -253,7 +253,7 @@ member-pointer-fits takes around a b old mid new one other =
 
 -- ## Qualified types
 
--- after letters a type that is bare
+-- a bare type after the letters of qualifiers
 pub qualified-fits : (around : Around) (q : Qualifiers) (a : Term) (slot : Slot) (old new : State) → takes_qualified slot ≡ true
     → has_letters q ≡ true → BareFits around a old new → TypeFits around slot (qualified q a) old (appended around (qualified q a) new)
 unfolding fits_of type_fits fits_nowhere ways_of type_ways no_ways is_open pack_length

@@ -36,7 +36,7 @@ pub item-as-argument : {around : Around} {allowed : Option ℕ} {Q : Value → T
     → ReadsAt around allowed (OfKind ITEM) Q place cs w → ReadsAt around allowed (OfKind ARGUMENT) Q place cs w
 item-as-argument {around} {place} one = reshaped (λ t is. let a = abi_argument t is in (a.tree, a.spells, a.is, a.says around place)) one
 
--- and as the first type of a lambda
+-- a type that is read is read as the first type of a lambda
 pub item-as-first : {around : Around} {allowed : Option ℕ} {Q : Value → Type 0} {place : ℕ} {cs : List Component} {w : Written}
     → ReadsAt around allowed (OfKind ITEM) Q place cs w → ReadsAt around allowed (OfKind FIRST_OF_LAMBDA) Q place cs w
 item-as-first {around} {place} one = reshaped (λ t is. let a = abi_first t is in (a.tree, a.spells, a.is, a.says around place)) one

@@ -73,7 +73,7 @@ named-std around allowed p place cs w one =
           (elsewhere (omega arith) two));
     }
 
--- and as a type
+-- a piece after St as a type
 pub named-std-type : (k : ℕ) (around : Around) (allowed : Option ℕ) (p : Term) (place : ℕ) (cs : List Component) (w : Written)
     → TakesRule abi k (rule_of Production.TypeWithS) (83 ∷ [])
     → ReadsAt around allowed (OfKind SOURCE_OR_LOCAL) (Is (piece p)) (place + 2) cs w

@@ -218,7 +218,7 @@ vector-behind-d around allowed digits t place cs w good one =
 abbrev pub RestReads : Around → Option ℕ → (items : Term) → RefQualifier → (place : ℕ) → List Component → Written → Type 0
 RestReads around allowed items ref place cs w = ReadsAt around allowed (OfKind FUNCTION_REST) (Is (signature items ref)) place cs w
 
--- its end, and the mark before it
+-- the end of a function type, and the mark before it
 pub end-reads : (around : Around) (allowed : Option ℕ) (ref : RefQualifier) → IsAbiMark ref → (place : ℕ) (cs : List Component)
     → RestReads around allowed nil ref place cs (written (mark_letter ref ++ codes "E") cs)
 unfolding mark_letter grammar signature_or

@@ -53,7 +53,7 @@ PieceRule k (lambda parameters j) = TakesRule abi k (rule_of Production.LocalTyp
 PieceRule k (unnamed j) = TakesRule abi k (rule_of Production.LocalTypePiece) (85 ∷ [])
 PieceRule k _ = ⊥
 
--- solid types, types of literals
+-- the rule of a piece as a type, solid or a literal's
 pub type-rule : (p : Term) → names_type p ≡ true → NameRule SOLID p
 unfolding names_type begins_name grammar
 type-rule (source false name) h = takes-none SOLID Kind.Solid Production.SourceName 48 refl refl (omega arith) refl
@@ -70,7 +70,7 @@ literal-type-rule (unnamed j) h = takes-byte LITERAL_TYPE Kind.LiteralType Produ
 literal-type-rule (source true name) h = absurd (let e : false ≡ true = h in cc)
 literal-type-rule _ h = absurd (let e : false ≡ true = h in cc)
 
--- an encoding's own name
+-- the rule of a piece as an encoding's own name
 pub own-rule : (p : Term) → names_function p ≡ true → NameRule COMPLETE_NAME p
 unfolding names_function begins_name grammar
 own-rule (source true name) h = takes-byte COMPLETE_NAME Kind.CompleteName Production.InternalName 76 refl refl (omega arith) refl
@@ -81,7 +81,7 @@ own-rule (lambda parameters j) h = takes-byte COMPLETE_NAME Kind.CompleteName Pr
 own-rule (unnamed j) h = takes-byte COMPLETE_NAME Kind.CompleteName Production.LocalTypeName 85 refl refl (omega arith) refl
 own-rule _ h = absurd (let e : false ≡ true = h in cc)
 
--- after a prefix
+-- the rule of a piece after a prefix
 pub member-rule : (p : Term) → names_member p ≡ true → NameRule COMPONENT p
 unfolding names_member names_function begins_name grammar
 member-rule (source true name) h = takes-byte COMPONENT Kind.Component Production.InternalName 76 refl refl (omega arith) refl
@@ -94,7 +94,7 @@ member-rule (lambda parameters j) h = takes-byte COMPONENT Kind.Component Produc
 member-rule (unnamed j) h = takes-byte COMPONENT Kind.Component Production.LocalTypeName 85 refl refl (omega arith) refl
 member-rule _ h = absurd (let e : false ≡ true = h in cc)
 
--- a local entity, in a name and in a type
+-- the rule of a piece as a local entity, in a name and in a type
 pub entity-rule : (p : Term) → begins_name p ≡ true → NameRule ENTITY p
 unfolding begins_name grammar
 entity-rule (source true name) h = takes-byte ENTITY Kind.Entity Production.InternalName 76 refl refl (omega arith) refl
@@ -111,7 +111,7 @@ type-entity-rule (lambda parameters j) h = takes-byte TYPE_ENTITY Kind.TypeEntit
 type-entity-rule (unnamed j) h = takes-byte TYPE_ENTITY Kind.TypeEntity Production.LocalTypeName 85 refl refl (omega arith) refl
 type-entity-rule _ h = absurd (let e : false ≡ true = h in cc)
 
--- after St in a name, and in a type
+-- the rule of a piece after St, in a name and in a type
 pub std-rule : (p : Term) → names_function p ≡ true → PieceRule UNQUALIFIED p
 unfolding names_function begins_name grammar
 std-rule (source true name) h = takes-byte UNQUALIFIED Kind.Unqualified Production.InternalPiece 76 refl refl (omega arith) refl
@@ -166,7 +166,7 @@ operators-read around allowed p place cs w rule fourteen none component one = re
   begins = λ h. absurd (let e : false ≡ true = sym none ∙ h in cc);
 }
 
--- one within a nested name
+-- an operator within a nested name
 operator-component : (around : Around) (allowed : Option ℕ) (a b place : ℕ) (cs : List Component) → a < 256 → b < 256 → IsOperator a b
     → NamesAt around allowed COMPONENT (operator a b) place cs (written (a ∷ b ∷ []) cs)
 unfolding kinds

@@ -29,7 +29,7 @@ pub no-arguments : (around : Around) (allowed : Option ℕ) (place : ℕ) (cs : 
 unfolding kinds may_be_empty
 no-arguments around allowed place cs = empty-reads Kind.MaybeArguments refl refl
 
--- what is read after a name is read where no tags may come, too
+-- what is read after a name is also read where no tags may come
 pub alone-arguments : {around : Around} {allowed : Option ℕ} {Q : Value → Type 0} {place : ℕ} {cs : List Component} {w : Written}
     → ReadsAt around allowed (OfKind MAYBE_ARGUMENTS) Q place cs w → ReadsAt around allowed (OfKind ARGUMENTS_ALONE) Q place cs w
 alone-arguments one = reshaped (λ t is. (t, refl, arguments_alone t is, λ s. refl)) one
@@ -38,7 +38,7 @@ pub alone-rest : {around : Around} {allowed : Option ℕ} {Q : Value → Type 0}
     → ReadsAt around allowed (OfKind NEST_REST) Q place cs w → ReadsAt around allowed (OfKind NEST_REST_ALONE) Q place cs w
 alone-rest one = reshaped (λ t is. (t, refl, rest_alone t is, λ s. refl)) one
 
--- what is read after a name is read after a name that an S denotes, too
+-- what is read after a name is also read after a name that an S denotes
 pub rest-or-end : {around : Around} {allowed : Option ℕ} {Q : Value → Type 0} {place : ℕ} {cs : List Component} {w : Written}
     → ReadsAt around allowed (OfKind NEST_REST) Q place cs w → ReadsAt around allowed (OfKind NEST_REST_OR_END) Q place cs w
 rest-or-end {around} {place} one = reshaped (λ t is. let r = abi_rest t is in (r.tree, r.spells, r.is, r.says around place)) one
@@ -76,7 +76,7 @@ operator-name k around allowed p place cs first takes one last rest two =
     read-by-parts Production.OperatorName k [] (piece p ∷ last ∷ []) (first ∷ rest ∷ []) takes tt refl
     (λ s c q. one s c q before λ s c q. elsewhere (omega arith) two s c q before λ began s. refl)
 
--- the same within a nested name, where the operator begins with no c
+-- the name of an operator within a nested name, where the operator begins with no c
 pub other-operator-name : (around : Around) (allowed : Option ℕ) (p : Term) (place : ℕ) (cs : List Component) (first : Written)
     → ReadsAt around allowed (OfKind OTHER_OPERATOR) (Is (piece p)) (place + 0) cs first → NamesAt around allowed COMPONENT p place cs first
 unfolding grammar named_so_far
@@ -85,7 +85,7 @@ other-operator-name around allowed p place cs first one last rest two =
     (takes-none COMPONENT Kind.Component Production.OtherOperatorName 110 refl refl (omega arith) refl) tt refl
     (λ s c q. one s c q before λ s c q. elsewhere (omega arith) two s c q before λ began s. refl)
 
--- and where it begins with one
+-- the name of an operator within a nested name, where the operator begins with a c
 pub operator-name-with-c : (around : Around) (allowed : Option ℕ) (second place : ℕ) (cs : List Component)
     → ReadsAt around allowed (OfKind OPERATOR_AFTER_C) (Is (letter second)) (place + 1 + 0) cs (written (second ∷ []) cs)
     → NamesAt around allowed COMPONENT (operator 99 second) place cs (written (99 ∷ second ∷ []) cs)
@@ -133,7 +133,7 @@ destructor-name around allowed digit place cs one last rest two =
 
 -- ## Between N and E
 
--- A name so far, between N and E: whatever is read after it in its scope, is read as the whole from the N on.
+-- A name so far, between N and E: whatever is read after it in its scope is read as the whole from the N on.
 abbrev pub SoFar : Around → Option ℕ → (t : Term) → (listed : Bool) → (k : ℕ) → (place : ℕ) → List Component → Written → Type 0
 SoFar around allowed t listed k place cs w =
     (v : Value) (rest : Written) → ReadsAt (after t listed around) allowed (OfKind k) (Is v) (place + length w.bytes) w.components rest
@@ -156,7 +156,7 @@ nest-ends around allowed t listed place cs =
     read-by-parts Production.NestEnd NEST_TAIL (69 ∷ []) [] [] (takes-byte NEST_TAIL Kind.NestTail Production.NestEnd 69 refl refl (omega arith) refl)
     tt refl (λ began s. refl)
 
--- one more piece, before which the name so far becomes a component, or is one already or never is one
+-- one more piece; before it the name so far becomes a component, or is one already, or never is one
 nest-next : (listed : Bool) (k : ℕ) (around : Around) (allowed : Option ℕ) (t u : Term) (v : Value) (place : ℕ) (cs : List Component)
     (one rest : Written) → TakesRule abi k (rule_of Production.NestNext) []
     → ((own : Bool) → ReadsAt (after t own around) allowed (OfKind COMPONENT) (Is (tree u false)) (place + 0) (listed_now around listed cs t) one)

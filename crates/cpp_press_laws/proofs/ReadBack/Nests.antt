@@ -113,7 +113,8 @@ arguments-and-more false around allowed t last at cs args u v comp rest one two 
     before λ s c q. two false (appended around whole s) (appended-same around whole s c) q before λ s c q. three s c q
     before λ began s. refl)
 
--- arguments, before which the name so far becomes a component, and a piece after them, before which the instance does
+-- arguments and a piece after them: before the arguments the name so far becomes a component, and before the piece the instance
+-- does
 pub nest-arguments : (around : Around) (allowed : Option ℕ) (t items : Term) (listed : Bool) (last : Value) (place : ℕ) (cs : List Component)
     (w args : Written) → no_items last ≡ items
     → SoFar around allowed t listed 17 place cs w

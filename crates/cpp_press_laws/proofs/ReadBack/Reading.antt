@@ -355,7 +355,7 @@ unfolding abi
 name-reads {around} {allowed} {place} {cs} name good =
     same-written (name-spelled name) (token-reads Name (name_token name) (name-is-token name good))
 
--- what one shape is read as is what another one is read as that is spelled and unfolded alike
+-- a shape is read as another one is that is spelled and unfolded alike
 pub reshaped : {around : Around} {allowed : Option ℕ} {x y : Sym} {Q : Value → Type 0} {place : ℕ} {cs : List Component} {w : Written}
     → ((t : Shape) → IsTree abi x t → (u : Shape) × (spell u ≡ spell t) × IsTree abi y u
     × ((s : State) → unfold_tree cpp around place u s ≡ unfold_tree cpp around place t s))

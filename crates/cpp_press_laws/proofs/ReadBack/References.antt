@@ -172,7 +172,7 @@ reference-state around allowed place own c s is may same scoped before =
     go true false d h k = k
     go false b d h k = refl
 
--- after the S
+-- the number of a component after the S
 pub number-refers : (around : Around) (allowed : Option ℕ) (own : Term) (number place : ℕ) (cs : List Component) → length cs ≤ greatest
     → IsComponent own → MayBeReferred around allowed own
     → IsFirst around.encoding own cs number

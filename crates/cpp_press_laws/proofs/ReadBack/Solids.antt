@@ -31,7 +31,7 @@ pub builtin-solid : (k : ℕ) (around : Around) (allowed : Option ℕ) (byte pla
 unfolding grammar
 builtin-solid k around allowed byte place cs takes = read-by-parts Production.Builtin k (byte ∷ []) [] [] takes tt refl (λ began s. refl)
 
--- after a D
+-- a builtin type after a D
 pub builtin-behind-d : (around : Around) (allowed : Option ℕ) (byte place : ℕ) (cs : List Component) → byte < 256
     → choose Kind.AfterD byte ≡ Some Production.BuiltinWithD
     → ReadsAt around allowed (OfKind AFTER_D) (Is (tree (builtin (68 ∷ byte ∷ [])) true)) place cs (written (byte ∷ []) cs)
@@ -40,7 +40,7 @@ builtin-behind-d around allowed byte place cs small chosen =
     read-by-parts Production.BuiltinWithD AFTER_D (byte ∷ []) [] [] (takes-byte AFTER_D Kind.AfterD Production.BuiltinWithD byte refl chosen small refl)
     tt refl (λ began s. refl)
 
--- after an S
+-- an abbreviation after an S
 pub abbreviation-behind-s : (around : Around) (allowed : Option ℕ) (letter place : ℕ) (cs : List Component) → letter < 256
     → choose Kind.Abbreviation letter ≡ Some Production.Abbreviation
     → ReadsAt around allowed (OfKind ABBREVIATION) (Is (tree (abbreviation letter) true)) place cs (written (letter ∷ []) cs)

@@ -44,7 +44,7 @@ unfolding discriminator_of
 discriminator-kept None = refl
 discriminator-kept (Some digits) = refl
 
--- one, after its mark
+-- a discriminator, after its mark
 discriminator-behind-mark : (around : Around) (allowed : Option ℕ) (digits : List ℕ) (place : ℕ) (cs : List Component) (w : Written)
     → ReadsAt around allowed (OfKind DISCRIMINATOR_REST) (Is (value.text digits)) (place + 1) cs w
     → ReadsAt around allowed (OfKind MAYBE_DISCRIMINATOR) (Is (value.text digits)) place cs (written (95 ∷ w.bytes) w.components)
@@ -92,7 +92,7 @@ local-type k around allowed e entity listed d place cs first second third takes 
     (λ s c q. one s c q before λ s c q. fixed-reads s c q before λ s c q. two s c q before λ s c q. three s c q
     before λ began s. ap (λ x. Ok (found (tree (local e entity x) false) s)) (discriminator-kept d))
 
--- and as an encoding's own name, with the qualifiers of the entity
+-- an entity in the scope of an encoding, as an encoding's own name with the entity's qualifiers
 pub local-name : (around : Around) (allowed : Option ℕ) (e : Term) (entity : Value) (d : Option (List ℕ)) (place : ℕ) (cs : List Component)
     (first second third : Written)
     → ReadsAt around allowed (OfKind ENCODING) (Is (tree e true)) (place + 1) cs first

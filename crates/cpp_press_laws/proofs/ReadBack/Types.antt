@@ -53,7 +53,7 @@ wraps p {k} {taken} {t} takes plain adds keeps = record {
   keeps = λ place cs w one. read-by-parts p k taken (tree t true ∷ []) (w ∷ []) takes plain refl (keeps place cs w one);
 }
 
--- one around the other, where the inner adds nothing
+-- one production around another, where the inner one adds nothing
 wraps-both : (around : Around) (allowed : Option ℕ) (k between_ inner : ℕ) (taken : List ℕ) (t : Term)
     → Wraps around allowed k between_ taken t
     → ((listed : Bool) (place : ℕ) (cs : List Component) (w : Written)
@@ -170,7 +170,7 @@ behind-s around allowed t place cs w one =
     (takes-none TYPE_AFTER_S Kind.TypeAfterS Production.AbbreviatedType 95 refl refl (omega arith) refl) tt refl
     (λ s c q. one s c q before λ began s. refl)
 
--- the same as a type
+-- an abbreviation or a reference after an S, as a type
 pub type-behind-s : (k : ℕ) (around : Around) (allowed : Option ℕ) (place : ℕ) (t : Term) (cs : List Component) (w : Written)
     → HasTypes around allowed k t
     → ReadsAt around allowed (OfKind ABBREVIATION) (Is (tree t true)) (place + 0 + 1 + 0) cs w

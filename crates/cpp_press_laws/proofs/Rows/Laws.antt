@@ -20,7 +20,7 @@ use Rattle.cpp_press_laws.specs.Components.{is_same, first_equal, seq_id, refere
 use Rattle.cpp_press_laws.specs.Pressing.{no_ways, type_ways, function_text, in_N_and_E, with_letters, name_ways, template_before, is_operator, is_encoding, is_one_piece, entity_text, local_text, begun, encoding_ways, piece_ways, argument_ways, ways_of, pressed}
 use Rattle.cpp_press_laws.proofs.Rows.Row.{Row, presses}
 
--- both are read, the one as the tree of the other, whose pressed bytes are these
+-- both are read as one tree, whose pressed bytes are these
 unfoldable pub are_kept : Result Term Refusal → Result Term Refusal → (bytes : List ℕ) → Bool
 are_kept (Ok t) (Ok again) bytes = same_tree t again && same_bytes (pressed t) bytes && same_bytes (pressed again) bytes
 are_kept _ _ bytes = false

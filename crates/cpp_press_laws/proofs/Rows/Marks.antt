@@ -1,4 +1,4 @@
--- Which of its components pressing a symbol compares where they are, computed.
+-- Which components of a symbol pressing compares with those before them, computed.
 use Rattle.std.specs.Prelude.{◌≡◌, refl, ℕ, Bool, true, cond, ◌&&◌, List, [], ◌∷◌, codes, Some, None, Result, Ok, Err}
 use Prim.Native.String.{String}
 use Rattle.sym_core.specs.declared.refusal.Refusal.{Refusal}

@@ -1,5 +1,5 @@
--- What is paid for a production before whose parts nothing is done. Its row says what it is read as, and all that is
--- left to show is that this needs no more than its parts and its byte.
+-- What is paid for a production without an action before its parts. Its row says what it is read as, so it is left to show only
+-- that this needs no more than its parts and its byte.
 use Rattle.std.proofs.Common.{◌≡◌, ℕ, ◌+◌, ◌*◌, ◌≤◌, length, List, [], ◌∷◌, ◌++◌, Bool, true, false, cond, Option, Some, None, Ok, refl, ap, sym, subst, ◌∙◌, arith}
 use Rattle.std.specs.Prelude.{suc, zero, not, ◌&&◌, ◌||◌, nat_eq, slice_get}
 use Rattle.std.proofs.lemmas.Bool.{eqb-true, and_parts, false≢true}
@@ -50,8 +50,8 @@ unfoldable pub is_read : Class → Bool
 is_read unread = false
 is_read _ = true
 
--- Whether a class of values may be read anywhere, or only where no name comes before that isn't a candidate. The rest
--- of a name may be read in neither way.
+-- Whether a class of values may be read anywhere, or only where no name that isn't a candidate comes before. The rest of a name
+-- may be read in neither way.
 unfoldable pub may_read : (anywhere : Bool) → Class → Bool
 may_read anywhere unread = false
 may_read anywhere type = not anywhere
@@ -311,7 +311,7 @@ paid-for ready p c granted still closed pays around at old v new b each here sma
     shut true h = absurd (false≢true h)
     shut false h = refl
 
--- such a production pays for its value, where no name comes before that isn't a candidate, or anywhere
+-- such a production pays for its value, anywhere or where no name that isn't a candidate comes before
 pub by-row : (anywhere : Bool) (p : Production) (c : Class) (granted : ℕ) → row_goes (may_be_part anywhere) p ≡ true
     → Pays (Standing anywhere) p c granted
     → (around : Around) (at : ℕ) (old : State) (v : Value) (new : State) (b : ℕ) → Standing anywhere around.prefix → SmallPrefix around.prefix

@@ -1,4 +1,4 @@
--- Each kind's bytes pay for what is read as it, and so a symbol's bytes for what is pressed of it.
+-- The bytes of each kind pay for what is read as that kind, and so a symbol's bytes pay for its pressed spelling.
 use Rattle.std.proofs.Common.{◌≡◌, ℕ, inl, inr, length, List, [], ◌∷◌, true, refl, sym, subst, ◌∙◌, arith}
 use Rattle.std.proofs.lemmas.Bool.{false≢true}
 use Rattle.sym_shape.specs.declared.rule.Rule.{Rule}
@@ -151,7 +151,7 @@ arms Kind.ArrayRest is = type-gains Production.LengthArray refl
 arms Kind.NestMoreOrEnd is = nest-next
 arms _ is = absurd (false≢true is)
 
--- a kind of which nothing is read
+-- a kind that nothing is read as
 gained-if : (c : Class) (granted : ℕ) (around : Around) (v : Value) (old new : State) (b : ℕ) → (is_read c ≡ true → Gained c granted around v old new b)
     → Gained c granted around v old new b
 unfolding Gained is_read

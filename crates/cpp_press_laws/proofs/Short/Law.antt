@@ -1,4 +1,4 @@
--- What a symbol is read as has few pressed bytes for those of the symbol.
+-- The tree that a symbol is read as has few pressed bytes for the bytes of the symbol.
 use Rattle.std.proofs.Common.{◌≡◌, ℕ, ◌+◌, ◌*◌, ◌≤◌, length, [], ◌∷◌, true, Result, Ok, Err, refl, ap, sym, subst, ◌∙◌, arith}
 use Rattle.std.proofs.lemmas.Bool.{false≢true}
 use Rattle.sym_core.specs.declared.TheConstants.{MOST_BYTES}

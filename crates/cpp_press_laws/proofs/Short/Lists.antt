@@ -195,7 +195,7 @@ idle-go _ = refl
 pub idle-gains : (c : Class) (p : Production) → is_listed_in (idle_rows c) p ≡ true → Idle p c
 idle-gains c p is = by-row false p c 0 (one-goes (may_be_part false) (idle_rows c) p (idle-go c) is) (idle-pays c p is)
 
--- after a mark, whose byte is granted
+-- a production that is read after a mark, whose byte is granted
 abbrev AfterMark : Production → Type 0
 AfterMark p =
     (around : Around) (at : ℕ) (old : State) (v : Value) (new : State) (b : ℕ) → lent around.prefix ≡ 0 → SmallPrefix around.prefix

@@ -308,7 +308,7 @@ may-end-behind outermost end small = absurd end
 may-end-behind (values.behind t true) end small = absurd end
 may-end-behind (values.behind t false) end small = small.1
 
--- after a name
+-- a production that is read after a name
 abbrev pub Behind : Production → Type 0
 Behind p =
     (around : Around) (at : ℕ) (old : State) (v : Value) (new : State) (b : ℕ) → IsBehind around.prefix → SmallPrefix around.prefix

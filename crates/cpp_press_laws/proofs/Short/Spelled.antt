@@ -229,7 +229,7 @@ none-all t way.as_name = λ letters. nothing-short _
 none-all t way.before = λ in_type arguments k two. less k (2 + part t + k) arguments (omega arith) two
 none-all t _ = nothing-short _
 
--- one that has one spelling
+-- a tree that has one spelling
 spelled-all : (t : Term) (s : Spelling) (m : ℕ) → Short m s → m ≤ part t → m ≤ bare_of t (size t) → m ≤ front_of t (size t) → AllShort t (type_ways s)
 unfolding type_ways no_ways
 spelled-all t s m one le bare front way.as_type = less m (part t) s le one

@@ -1,4 +1,4 @@
--- Whichever names they are: the one that was measured last, and those after it, are what is left.
+-- For all names that end at the hash: the one that was measured last, and those after it, are left.
 use Rattle.std.proofs.Common.{◌≡◌, ◌≤◌, ◌-◌, ◌+◌, ℕ, List, ◌∷◌, length}
 use Rattle.rust_legacy.specs.Path.{AreNames}
 use Rattle.legacy_parts.specs.Measures.{place_of}

@@ -1,4 +1,5 @@
--- Whichever names they are: those that are left begin at the place, and the last of all is the last of them, or the earlier one.
+-- For all names that end at the hash: those that are left begin at the place, and the last of all is the last of them, or the
+-- earlier one.
 use Rattle.std.proofs.Common.{◌≡◌, ◌≤◌, ◌-◌, ℕ, List}
 use Rattle.rust_legacy.specs.Path.{AreNames}
 use Rattle.legacy_parts.specs.Spelled.{last_at}

@@ -1,10 +1,12 @@
-use Rattle.std.proofs.Common.{arith, refl, ◌+◌}
-use Rattle.rust_direct.proofs.FoundTokens.{there}
+use Rattle.std.proofs.Common.{arith, ◌+◌}
+use Rattle.rust_direct.proofs.FoundTokens.{letter-there}
 use Rattle.rust_direct.proofs.HashPlaces.{hash-found}
 use Rattle.rust_direct.proofs.hashes.hash_end.Goals as goal
 
 pub returns : goal.returns
 returns c =
-    hash-found c.args.s.now c.args.at c.digit_count-count.result _ (omega (arith, c.if-at-s.false)) (omega (arith, c.if-s-at-le-HASH_DIGITS.false)) refl
-    c.digit_count-count.ensures.few (c.is_small.ensures c.if-not-is_small.false) c.digit_count-count.ensures.each
-    (there c.args.s.now (c.args.at + c.digit_count-count.result) c.byte_at.result 95 c.if-byte_at-ne95.false (omega arith) c.byte_at.ensures)
+    let small = c.is_small.ensures in
+    let is = c.if-not-is_small.false in
+    hash-found c.args.s.now c.args.at c.digit_lanes-count.result (omega (arith, c.if-at-s.false)) (omega (arith, c.if-s-at-lt-LANES.false))
+    (small.few is) (small.first is) (small.second is) c.digit_lanes-count.ensures.1
+    (letter-there c.args.s.now (c.args.at + c.digit_lanes-count.result) 95 (omega (arith, c.if-at-s.false, c.if-s-at-lt-LANES.false, small.few is)) c.if-s-mark-ne95.false)

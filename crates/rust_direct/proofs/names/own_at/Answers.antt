@@ -1,8 +1,8 @@
-use Rattle.std.proofs.Common.{sym, ◌∙◌, arith}
-use Rattle.rust_direct.proofs.NamePlaces.{own-placed, own-is}
+use Rattle.std.proofs.Common.{arith}
+use Rattle.rust_direct.proofs.NamePlaces.{own-there}
 use Rattle.rust_direct.proofs.names.own_at.Goals as goal
 
 pub returns : goal.returns
 returns c =
-    own-placed c.args.s.now c.args.at c.args.from c.args.size _ c.requires.read (omega (arith, c.if-from-s.false)) (omega (arith, c.if-size-s.false))
-    (own-is c.args.s.now c.args.from c.args.size) (sym c.goes_on.ensures ∙ c.if-goes_on.false) (c.are_name_bytes.ensures c.if-not-are_name_bytes.false)
+    own-there c.args.s.now c.args._at c.args.from c.args.size c.requires.read c.requires.within (omega (arith, c.if-size-s.false)) c.requires.apart
+    (c.are_name_bytes.ensures c.if-not-are_name_bytes.false)

@@ -1,4 +1,4 @@
--- The table is held against the definition at each of the 256 bytes, by computing.
+-- The table agrees with the definition at each of the 256 bytes, by computing.
 use Rattle.std.proofs.Common.{◌≡◌, ℕ, ◌==◌, ◌<◌, Bool, true, false, map, cond, get_or, refl, ap, ◌∙◌, arith}
 use Rattle.std.proofs.lemmas.List.FromFn.{get_or-map-range_with_len}
 use Rattle.std.specs.List.{range_with_len}

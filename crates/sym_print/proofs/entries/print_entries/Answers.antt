@@ -7,7 +7,7 @@ use Rattle.sym_print.specs.declared.meter.Meter.{Meter}
 use Rattle.sym_print.specs.Joined.{IsNext, IsText, text_of_stack, cost_of_stack, steps_of_stack}
 use Rattle.sym_print.proofs.Stack.{without_last, text_of_write, cost_of_next, cost_of_text, steps_of_next, steps_of_text}
 use Rattle.sym_print.specs.Noted.{EndsAt}
-use Rattle.sym_print.proofs.Noting.{noted-unmet, noted-moved, moves-text}
+use Rattle.sym_print.proofs.Noting.{spare-moved, noted-unmet, noted-moved, moves-text}
 use Rattle.sym_print.proofs.Peak.{peak_of_left}
 use Rattle.sym_print.proofs.entries.print_entries.Given as given
 use Rattle.sym_print.proofs.entries.print_entries.Goals as goal
@@ -38,6 +38,7 @@ returns-in_err-write_text-in_default-next g c =
       text_room = omega (arith, c.write_text.ensures.room, c.loop-next.invariant.8);
       peak = c.loop-next.invariant.10;
       bounded = c.loop-next.invariant.11;
+      steps_paid = omega (arith, same_spent, same_steps, c.loop-next.invariant.12);
       done = rw p.1 tt;
       too_long = λ same. omega (
         arith,
@@ -75,6 +76,7 @@ returns-in_err-print_item-in-Sub g c =
       text_room = omega (arith, c.print_item.ensures.text_room, c.loop-next.invariant.8);
       peak = omega (arith, c.print_item.ensures.peak, c.loop-next.invariant.10);
       bounded = omega (arith, c.print_item.ensures.bounded, c.loop-next.invariant.10, c.loop-next.invariant.11);
+      steps_paid = c.print_item.ensures.steps_paid;
       done = rw p.1 tt;
       too_long = λ same. omega (arith, c.in_err-print_item-in-Sub.ensures.too_long (ap refused (is TooLong same)), c.loop-next.invariant.2, c.loop-next.invariant.6);
       memory = λ same. elim (c.in_err-print_item-in-Sub.ensures.memory (ap refused (is Memory same))) [
@@ -103,7 +105,11 @@ loop-next-preserved g c =
     let part = c.in-Some.next.now in
     let stack = c.loop-next.stack.items in
     let is_text : IsText c.in-Some.next.now = search rules in
-    let next : IsNext c.loop-next.stack.items c.in-Some.next.now = search rules in (
+    let next : IsNext c.loop-next.stack.items c.in-Some.next.now = search rules in
+    let moves =
+    moves-text unshared bytes_of stack c.take_last.new.self.items part c.loop-next.text.items c.write_text.new.text.items
+    c.loop-next.meter.spent c.write_text.new.meter.spent c.loop-next.meter.steps c.write_text.new.meter.steps next is_text (left g c)
+    c.in_ok-write_text-in_default-next.ensures.ok c.in_ok-write_text-in_default-next.ensures.spent c.in_ok-write_text-in_default-next.ensures.steps c.write_text.ensures.some in (
       All-same (g.Y.Layout.may_come c.args.y.now) _ _ (left g c) (All-take (g.Y.Layout.may_come c.args.y.now) (length stack - 1) stack c.loop-next.invariant.0),
       text_of_write unshared bytes_of stack c.take_last.new.self.items part c.loop-next.text.items c.write_text.new.text.items (bytes_of part) next is_text (left g c) refl c.in_ok-write_text-in_default-next.ensures.ok
           ∙ c.loop-next.invariant.1,
@@ -129,14 +135,16 @@ loop-next-preserved g c =
       omega (arith, c.take_last.ensures.capacity, c.loop-next.invariant.7),
       omega (arith, c.write_text.ensures.room, c.loop-next.invariant.8),
       noted-moved unshared bytes_of c.loop-next.notes stack c.take_last.new.self.items c.loop-next.text.items c.write_text.new.text.items
-          c.loop-next.meter.spent c.write_text.new.meter.spent c.loop-next.meter.steps c.write_text.new.meter.steps
-          (moves-text unshared bytes_of stack c.take_last.new.self.items part c.loop-next.text.items c.write_text.new.text.items
-          c.loop-next.meter.spent c.write_text.new.meter.spent c.loop-next.meter.steps c.write_text.new.meter.steps next is_text (left g c)
-          c.in_ok-write_text-in_default-next.ensures.ok c.in_ok-write_text-in_default-next.ensures.spent c.in_ok-write_text-in_default-next.ensures.steps c.write_text.ensures.some)
+          c.loop-next.meter.spent c.write_text.new.meter.spent c.loop-next.meter.steps c.write_text.new.meter.steps moves
           (noted-unmet (g.Y.Layout.unshared c.args.y.now) (g.Y.Layout.bytes_of c.args.y.now) c.loop-next.notes c.loop-next.stack.items c.loop-next.text.items c.loop-next.meter.spent c.loop-next.meter.steps
           c.len.result c.loop-next.invariant.9 (c.len.ensures ∙ c.loop-next.stack.ok.0) (c.is_whole.ensures.unmet c.if-is_whole.false)) c.loop-next.invariant.9,
       omega (arith, peak_of_left unshared bytes_of stack c.take_last.new.self.items part next (left g c), c.loop-next.invariant.10),
       omega (arith, c.take_last.ensures.capacity, c.loop-next.invariant.11),
+      omega (
+        arith,
+        spare-moved unshared bytes_of stack c.take_last.new.self.items c.loop-next.text.items c.write_text.new.text.items c.loop-next.meter.spent c.write_text.new.meter.spent c.loop-next.meter.steps c.write_text.new.meter.steps moves,
+        c.loop-next.invariant.12,
+      ),
     )
 
 pub loop-next-preserved-in-Continue-1 : goal.loop-next-preserved-in-Continue-1
@@ -153,6 +161,7 @@ loop-next-preserved-in-Continue-1 g c = (
   c.in_ok-print_item-in-Sub.ensures.noted,
   omega (arith, c.print_item.ensures.peak, c.loop-next.invariant.10),
   omega (arith, c.print_item.ensures.bounded, c.loop-next.invariant.10, c.loop-next.invariant.11),
+  c.print_item.ensures.steps_paid,
 )
 
 pub returns-clause-paid : goal.returns-clause-paid
@@ -190,3 +199,6 @@ returns-clause-peak g c = c.loop-next.invariant.10
 
 pub returns-clause-bounded : goal.returns-clause-bounded
 returns-clause-bounded g c = c.loop-next.invariant.11
+
+pub returns-clause-steps_paid : goal.returns-clause-steps_paid
+returns-clause-steps_paid g c = c.loop-next.invariant.12

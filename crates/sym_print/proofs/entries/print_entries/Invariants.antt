@@ -3,6 +3,7 @@ use Rattle.std.specs.List.{All}
 use Rattle.sym_room.specs.Room.{most_for}
 use Rattle.sym_print.specs.Noted.{AreNoted}
 use Rattle.sym_print.specs.Peak.{peak_of_stack}
+use Rattle.sym_print.specs.Spare.{spare_of_stack}
 use Rattle.sym_print.specs.Joined.{text_of_stack, cost_of_stack, steps_of_stack}
 use Rattle.sym_print.proofs.entries.print_entries.Given as goal
 
@@ -20,6 +21,7 @@ invariant-loop-next g l =
     × AreNoted (g.Y.Layout.unshared l.y) (g.Y.Layout.bytes_of l.y) l.notes l.stack.items l.text.items l.meter.spent l.meter.steps
     × (peak_of_stack (g.Y.Layout.unshared l.y) l.stack.items ≤ peak_of_stack (g.Y.Layout.unshared l.y) l.fn.stack.items)
     × (vec_capacity l.stack ≤ max (vec_capacity l.fn.stack) (most_for (peak_of_stack (g.Y.Layout.unshared l.y) l.fn.stack.items + 8)))
+    × (l.meter.steps ≤ l.meter.spent + spare_of_stack (g.Y.Layout.bytes_of l.y) l.stack.items)
 
 abbrev pub decreases-loop-next : goal.decreases-loop-next
 decreases-loop-next g l = 2 * (l.meter.limit - l.meter.spent) + vec_len l.notes.begun

@@ -16,8 +16,8 @@ returns-in_ok-add_candidate-in-TypeArguments g c =
     c.requires.ended c.in_ok-end_arguments.ensures refl refl refl refl c.in_ok-from.ensures.items c.in-TypeArguments.is)
     c.in_ok-add_candidate-in-TypeArguments.ensures
 
-pub returns-in-NestArguments : goal.returns-in-NestArguments
-returns-in-NestArguments g c =
+pub tail_at-requires-clause-writing : goal.tail_at-requires-clause-writing
+tail_at-requires-clause-writing g c =
     let w = record c.end_arguments.new.self { waiting = c.pop.new.self; argument = c.args.argument } in
     nest-closed _ w c.in-NestArguments.nest
     (closed-by _ c.args.self.now c.end_arguments.new.self w c.in_ok-from.field-0 (Open.NestArguments c.in-NestArguments.nest)

@@ -20,8 +20,8 @@ repeat-requires g c =
     c.in_ok-candidate.ensures.ordered got.2 in
     record { from = is.0; to = omega (arith, is.1, ap length (c.in_ok-candidate.ensures.same.text ∙ append-nil c.args.self.now.text.list.items)) }
 
-pub nest_known-requires : goal.nest_known-requires
-nest_known-requires g c =
+pub nest_known-requires-clause-known : goal.nest_known-requires-clause-known
+nest_known-requires-clause-known g c =
     let s = symbol_by g.G.Grammar.IS_WIDE g.G.Grammar.IS_BARE g.G.Grammar.IS_BRIEF c.args.s.now in
     let old = c.args.self.now in
     let k = c.in_ok-candidate.candidate in
@@ -45,8 +45,8 @@ nest_known-requires g c =
     c.in_ok-candidate.ensures.ordered is.2 c.if-candidate.false typed named (wrote.text ∙ ap (λ l. l ++ take (k.to - k.from) (drop k.from l)) plain)
     (wrote.candidates ∙ same.candidates) (wrote.waiting ∙ same.waiting) (wrote.scope ∙ same.scope) c.end-from.result c.end-from.ensures)
 
-pub nest_known-requires-2 : goal.nest_known-requires-2
-nest_known-requires-2 g c =
+pub nest_known-requires-2-clause-known : goal.nest_known-requires-2-clause-known
+nest_known-requires-2-clause-known g c =
     let old = c.args.self.now in
     let letter = c.byte_at-letter.result in
     let wrote = c.in_ok-push.ensures in

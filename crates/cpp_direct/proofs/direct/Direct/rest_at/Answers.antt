@@ -7,8 +7,8 @@ returns-then-byte_at-eq73 g c =
     let mid = c.add_unless.new.self in
     let writing = c.requires.writing in
     let added = c.in_ok-add_unless.ensures in
-    opened-so c.open_arguments.result (Step.List true) _ (IsWriting s c.open_arguments.new.self) c.open_arguments.ensures
-    (first-opens s writing.is_before.1 c.args.self.now mid c.open_arguments.new.self writing.kept writing.is_before.0 writing.is_before.2 writing.is_before.3
+    opened-so c.open_first.result (Step.List true) _ (IsWriting s c.open_first.new.self) c.open_first.ensures
+    (first-opens s writing.is_before.1 c.args.self.now mid c.open_first.new.self writing.kept writing.is_before.0 writing.is_before.2 writing.is_before.3
     (subst (λ n. StandsAt s.bytes n (73 ∷ [])) added.at (there s.bytes mid.at c.byte_at.result 73 c.if-byte_at-eq73.true (omega arith) c.byte_at.ensures))
     added)
 

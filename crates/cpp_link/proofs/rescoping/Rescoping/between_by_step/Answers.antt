@@ -20,9 +20,9 @@ pub returns-clause-goes : goal.returns-clause-goes
 returns-clause-goes c =
     let s = c.args.symbol.now in
     let old = c.args.self.now in
-    let new = c.before_part.new.self in
+    let new = c.before_by_step.new.self in
     let frame = c.args.frame.now in
     let before : ℕ = c.len.result - frame.base in
     let apart = ap (λ p. steps_apart p (is_lambda frame.kept.scope) before) (sym c.production_of.ensures) ∙ sym c.steps_apart.ensures ∙ c.if-steps_apart.false in
-    goes_counted s old new frame c.args.parts.now.items c.before_part.new.parts.items c.before_part.result c.requires.room.paid.begun c.before_part.ensures.makes
-    (apart_goes s old.linked new frame c.args.parts.now.items c.before_part.new.parts.items before c.before_part.result (ap (λ n. n - frame.base) (c.len.ensures ∙ c.args.parts.now.ok.0)) apart c.before_part.ensures.goes)
+    goes_counted s old new frame c.args.parts.now.items c.before_by_step.new.parts.items c.before_by_step.result c.requires.room.paid.begun c.before_by_step.ensures.makes
+    (apart_goes s old.linked new frame c.args.parts.now.items c.before_by_step.new.parts.items before c.before_by_step.result (ap (λ n. n - frame.base) (c.len.ensures ∙ c.args.parts.now.ok.0)) apart c.before_by_step.ensures.goes)

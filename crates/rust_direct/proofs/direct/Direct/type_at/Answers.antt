@@ -1,9 +1,6 @@
 use Rattle.rust_direct.proofs.PathsRead.{type-awaited, type-path-awaited}
 use Rattle.rust_direct.proofs.direct.Direct.type_at.Goals as goal
 
-pub crate_root-requires-clause-awaits : goal.crate_root-requires-clause-awaits
-crate_root-requires-clause-awaits g c = type-path-awaited g.S.Showing.IS_BRIEF c.args.s.now c.args.self.now c.requires.writing
-
 pub begin_nest-requires-clause-awaits : goal.begin_nest-requires-clause-awaits
 begin_nest-requires-clause-awaits g c = type-path-awaited g.S.Showing.IS_BRIEF c.args.s.now c.args.self.now c.requires.writing
 
@@ -13,20 +10,11 @@ begin_generic-requires-clause-awaits g c = type-path-awaited g.S.Showing.IS_BRIE
 pub basic-requires-clause-awaits : goal.basic-requires-clause-awaits
 basic-requires-clause-awaits g c = type-awaited g.S.Showing.IS_BRIEF c.args.s.now c.args.self.now c.requires.writing
 
-pub begin_impl-requires-clause-awaits : goal.begin_impl-requires-clause-awaits
-begin_impl-requires-clause-awaits g c = type-path-awaited g.S.Showing.IS_BRIEF c.args.s.now c.args.self.now c.requires.writing
-
 pub type_again-requires-clause-awaits : goal.type_again-requires-clause-awaits
 type_again-requires-clause-awaits g c = type-awaited g.S.Showing.IS_BRIEF c.args.s.now c.args.self.now c.requires.writing
 
 pub begin_array-requires-clause-awaits : goal.begin_array-requires-clause-awaits
 begin_array-requires-clause-awaits g c = type-awaited g.S.Showing.IS_BRIEF c.args.s.now c.args.self.now c.requires.writing
-
-pub begin_trait_impl-requires-clause-awaits : goal.begin_trait_impl-requires-clause-awaits
-begin_trait_impl-requires-clause-awaits g c = type-path-awaited g.S.Showing.IS_BRIEF c.args.s.now c.args.self.now c.requires.writing
-
-pub begin_trait-requires-clause-awaits : goal.begin_trait-requires-clause-awaits
-begin_trait-requires-clause-awaits g c = type-path-awaited g.S.Showing.IS_BRIEF c.args.s.now c.args.self.now c.requires.writing
 
 pub begin_shared-requires-clause-awaits : goal.begin_shared-requires-clause-awaits
 begin_shared-requires-clause-awaits g c = type-awaited g.S.Showing.IS_BRIEF c.args.s.now c.args.self.now c.requires.writing

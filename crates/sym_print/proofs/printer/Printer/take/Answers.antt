@@ -1,4 +1,4 @@
-use Rattle.std.proofs.Common.{◌+◌, ◌≤◌, arith}
+use Rattle.std.proofs.Common.{arith}
 use Rattle.sym_print.proofs.Peak.{stack_within}
 use Rattle.sym_print.proofs.printer.Printer.take.Goals as goal
 

@@ -1,5 +1,5 @@
-use Rattle.cpp_direct.proofs.ForAnswers.{false, subst, sym, ◌∙◌, added_unless, IsAddressNamed, IsEnclosingNamed, IsInstanceNamed, IsNameEnded, IsOwn, IsWriting, Lists, symbol_by, name-addressed, name-within, has-arguments, instance-within, arguments-noted, type-ended, name-comes, Step}
-use Rattle.cpp_direct.proofs.direct.Direct.nest_ended.Goals as goal
+use Rattle.cpp_direct.proofs.ForAnswers.{false, subst, sym, ◌∙◌, IsAddressNamed, IsEnclosingNamed, IsInstanceNamed, IsNameEnded, IsOwn, symbol_by, name-addressed, name-within, has-arguments, instance-within, arguments-noted, name-comes}
+use Rattle.cpp_direct.proofs.direct.Direct.nest_name_ended.Goals as goal
 
 pub name_ended-requires-clause-ended : goal.name_ended-requires-clause-ended
 name_ended-requires-clause-ended g c =
@@ -37,13 +37,3 @@ addressed_named-requires-clause-named g c =
     let before = c.requires.writing.is_before in
     subst (λ n. IsAddressNamed s (record old { at = n }) c.in-Address.mark) (sym c.in_ok-self.ensures.1)
     (name-addressed s old c.requires.writing.kept before.0 c.in-Address.mark before.1 before.2 before.3 before.4 c.requires.end c.in-Address.is)
-
-pub returns-in_ok-add_unless-in-Type : goal.returns-in_ok-add_unless-in-Type
-returns-in_ok-add_unless-in-Type g c =
-    let before = c.requires.writing.is_before in
-    let old = c.args.self.now in
-    let added = c.in_ok-add_unless-in-Type.ensures in
-    let s = symbol_by g.G.Grammar.IS_WIDE g.G.Grammar.IS_BARE g.G.Grammar.IS_BRIEF c.args.s.now in
-    subst (λ n. IsWriting s c.add_unless.new.self (Step.Value false n.is_dependent)) (sym added.nest)
-    (type-ended s c.args.self.now c.add_unless.new.self c.requires.writing.kept before.0 before.1 c.requires.end c.in-Type.is
-    (subst (λ n. Lists (record old { at = n }) c.add_unless.new.self (added_unless old old.nest.is_listed old.nest.from old.nest.is_dependent)) c.in_ok-self.ensures.1 added))

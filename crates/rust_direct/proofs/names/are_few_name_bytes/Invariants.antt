@@ -2,7 +2,7 @@
 use Rattle.std.proofs.Common.{◌≤◌, ◌-◌, length}
 use Rattle.sym_core.specs.Scan.{ReachesNameBytes}
 use Rattle.sym_core.specs.declared.NameClass.TheVariants.{Rust}
-use Rattle.rust_direct.proofs.names.are_name_bytes.Given as goal
+use Rattle.rust_direct.proofs.names.are_few_name_bytes.Given as goal
 
 abbrev pub invariant-ones : goal.invariant-ones
 invariant-ones l =

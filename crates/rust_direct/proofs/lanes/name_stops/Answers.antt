@@ -1,0 +1,17 @@
+use Rattle.std.proofs.Common.{ℕ, leb, cond, bit_and, refl}
+use Rattle.std.proofs.lemmas.Simd.{zip2_splat, length-chunk}
+use lib.Lanes.{chunk}
+use Rattle.sym_core.specs.declared.NameClass.TheVariants.{Rust}
+use Rattle.sym_core.specs.Token.{is_name_byte}
+use Rattle.rust_direct.proofs.LaneLemmas.{joined, splat_is, front-passes}
+use Rattle.rust_direct.proofs.lanes.name_stops.Goals as goal
+
+pub returns : goal.returns
+returns c =
+    let v = chunk c.args.at 16 c.args.s.now in
+    let long = length-chunk c.args.at 16 c.args.s.now c.requires in
+    let least = λ (a b : ℕ). cond (leb a b) 255 0 in
+    let letter = joined least _ _ v (splat_is v 16 26 long) (joined _ _ _ v (zip2_splat {Y = ℕ} _ v 16 32 long) (splat_is v 16 97 long)) in
+    let digit = joined least _ _ v (splat_is v 16 10 long) (zip2_splat {Y = ℕ} _ v 16 48 long) in
+    let all = joined bit_and _ _ v (joined bit_and _ _ v letter digit) (zip2_splat {Y = ℕ} _ v 16 95 long) in
+    front-passes (is_name_byte Rust) c.args.s.now c.args.at _ _ c.requires c.type_inv.s refl _ all refl

@@ -1,0 +1,15 @@
+-- How far the texts of a stack are dearer than the steps that they take: a text is one step, and costs its bytes.
+use Rattle.std.specs.Prelude.{ℕ, ◌+◌, ◌-◌, length, List, [], ◌∷◌}
+use Rattle.sym_print.specs.declared.layout.Part.{Part}
+use Rattle.sym_print.specs.declared.layout.Part.TheVariants.{Sub}
+
+module _ {C : Type 0} (bytes_of : Part C → List ℕ) where
+  -- the bytes of a text after the first; of an item nothing is known
+  abbrev pub spare_of_part : Part C → ℕ
+  spare_of_part (Sub _) = 0
+  spare_of_part part = length (bytes_of part) - 1
+
+  -- those of all entries of a stack
+  abbrev pub spare_of_stack : List (Part C) → ℕ
+  spare_of_stack [] = 0
+  spare_of_stack (part ∷ above) = spare_of_stack above + spare_of_part part
