@@ -163,6 +163,12 @@ def arms(function, productions):
         given = [f"                {one}," for one in ("symbol", f"Production::{name}", "frame", "parts")]
         yield from [line] if len(line) <= 100 else [f"            Production::{name} => self.{function}(", *given, "            ),"]
 
+def arms_within(field, function, productions):
+    """Likewise, to a function of a field."""
+    for name in productions:
+        yield from (f"            Production::{name} => self", f"                .{field}",
+                    f"                .{function}(symbol, Production::{name}, frame, parts),")
+
 def may_leave(crates):
     """What may leave a tree that is no candidate yet: what begins the kinds whose trees become candidates later, names aside."""
     text = read(f"{crates}/cpp_link/proofs/CandidatesFew.antt")

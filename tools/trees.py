@@ -28,6 +28,8 @@ def arms_by_production():
     common, before = families()["Common"], [name for name in families()["Common"] if name in WITH_CODE_BEFORE]
     yield "cpp_link/src/finish.rt", "finish_rule", list(clauses.arms("finish_as", common))
     yield "cpp_link/src/between.rt", "before_by_step", list(clauses.arms("before_as", before))
+    plain = [name for name in before if name != "Encoding"]
+    yield "cpp_link/src/wide_language.rt", "between_by_step", list(clauses.arms_within("linked", "before_as", plain))
     yield "cpp_link/src/families.rt", "family_of", clauses.family_code()
     yield "cpp_tree/src/node.rt", "Node", list(node_code.variants())
     encodings = [f"            Node::{node.name} {{ .. }} => true," for node in nodes() if node.tree in cpp_trees.ENCODINGS]

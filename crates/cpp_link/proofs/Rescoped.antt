@@ -193,6 +193,15 @@ goes_counted s old new frame parts new_parts result begun made goes =
     (between_tallied (wide_view s) wide_makes s (Surrounds s) old.linked new frame parts new_parts result
     (λ rule known state is. before_read s old.linked new frame parts result begun made rule known state (at_plain s old.linked frame (drop frame.base parts) rule known state is)) goes)
 
+-- likewise, where the wide reading never does anything of its own before the parts of the rule's production
+pub plain_goes : (s : List ℕ) (old : Rescoping) (new : Linked) (frame : Frame Surroundings) (parts new_parts : List Part) (result : Result Surroundings Refusal) → 4 ≤ length old.linked.nodes.nodes
+    → steps_apart (production_at frame.rule) (is_lambda frame.kept.scope) (length parts - frame.base) ≡ false
+    → OnOk result (length new.nodes.nodes ≡ length old.linked.nodes.nodes + makes_before (production_at frame.rule) (values_in s old.linked.nodes (drop frame.base parts)))
+    → GoesOn (cpp_view s) s (Surrounds s) old.linked new frame parts new_parts result
+    → GoesOn (wide_counted s) s (λ l. Surrounds s l.linked) old (record { linked = new }) frame parts new_parts result
+plain_goes s old new frame parts new_parts result begun apart made goes =
+    goes_counted s old new frame parts new_parts result begun made (apart_goes s old.linked new frame parts new_parts (length parts - frame.base) result refl apart goes)
+
 pub apart_end : (p : Production) (around : Around) (place : ℕ) (known : List Value) (state : State) → (p ≡ Production.Substitution → ⊥) → makes_at_end p known ≡ wide_at_end p around place known state
 unfolding wide_at_end
 apart_end Production.Substitution around place known state apart = absurd (apart refl)
