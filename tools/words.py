@@ -201,6 +201,7 @@ def link_tables(productions, rows, skips):
         return [f"    {value(production)}, // {production}" for production in productions]
     return template("cpp_link/tables.rt", enums=", ".join(sorted([*ALIKE, "Production"])), count=len(productions),
                     productions=[f"    Production::{coded(production)}," for production in productions],
+                    **{name.lower(): list(productions).index(name) for name in ("Lambda", "Unnamed")},
                     parts=each(lambda production: len(productions[production])),
                     skips=each(lambda production: str(production in skips).lower()),
                     quiet=each(lambda production: rows[production].quiet()))

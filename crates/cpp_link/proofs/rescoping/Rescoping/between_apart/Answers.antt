@@ -1,4 +1,4 @@
-use Rattle.std.proofs.Common.{sym, ◌∙◌, ◌≡◌, ℕ, ◌-◌, false, length, Ok, Err}
+use Rattle.std.proofs.Common.{sym, ◌∙◌, ◌≡◌, ◌-◌, false, length, Ok, Err}
 use Rattle.cpp_grammar.specs.Unfolding.{production_at}
 use Rattle.cpp_link.specs.LinkRescoping.{steps_apart}
 use Rattle.cpp_link.specs.Parts.{is_lambda}

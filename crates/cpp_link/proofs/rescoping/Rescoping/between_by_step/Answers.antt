@@ -1,4 +1,4 @@
-use Rattle.std.proofs.Common.{sym, ◌∙◌, ◌≡◌, ap, ℕ, ◌-◌, Bool, false, length}
+use Rattle.std.proofs.Common.{sym, ◌∙◌, ◌≡◌, ap, ℕ, ◌-◌, false, length}
 use Rattle.cpp_grammar.specs.declared.production.Production.{Production}
 use Rattle.cpp_grammar.specs.Unfolding.{production_at}
 use Rattle.cpp_link.specs.LinkRescoping.{steps_apart}
