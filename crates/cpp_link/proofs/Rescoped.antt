@@ -130,6 +130,7 @@ pub record IsNoneApart (p : Production) : Type 0 where
   pub not_substitution : p ≡ Production.Substitution → ⊥
   pub not_lambda : p ≡ Production.Lambda → ⊥
   pub not_inheriting : p ≡ Production.Inheriting → ⊥
+  pub not_holder : p ≡ Production.Holder → ⊥
   pub not_encoding : p ≡ Production.Encoding → ⊥
   pub not_encoding_literal : p ≡ Production.EncodingLiteral → ⊥
 
@@ -139,6 +140,7 @@ unfolding link_close_wide
 apart_close s Production.Substitution byte around place began vs state other = absurd (other.not_substitution refl)
 apart_close s Production.Lambda byte around place began vs state other = absurd (other.not_lambda refl)
 apart_close s Production.Inheriting byte around place began vs state other = absurd (other.not_inheriting refl)
+apart_close s Production.Holder byte around place began vs state other = absurd (other.not_holder refl)
 apart_close s Production.Encoding byte around place began vs state other = absurd (other.not_encoding refl)
 apart_close s Production.EncodingLiteral byte around place began vs state other = absurd (other.not_encoding_literal refl)
 apart_close s _ byte around place began vs state other = refl
@@ -177,6 +179,7 @@ wide_byte_serves s rule known state there = by (production_at rule.rule.number) 
     by Production.Substitution same = refl
     by Production.Lambda same = refl
     by Production.Inheriting same = refl
+    by Production.Holder same = refl
     by Production.Encoding same = refl
     by Production.EncodingLiteral same = refl
     by _ same = same

@@ -189,6 +189,21 @@ impl Linked {
                 self.counting.expected = Expected::QualifiedAt(row.from);
                 Ok(context.with_packs(self.packs))
             }
+            // <bare-function-type> ::= <type> <bare-function-type>
+            Production::Items => {
+                self.counting = self.counting.expecting_item(context, row.from);
+                Ok(context.with_packs(self.packs))
+            }
+            // <prefix> ::= <prefix> <unqualified-name>
+            Production::NestNext => {
+                self.counting = self.counting.calling();
+                Ok(context.with_packs(self.packs))
+            }
+            // <nested-name> ::= N .. E
+            Production::NestEnd => {
+                self.counting = self.counting.ending();
+                Ok(context.with_packs(self.packs))
+            }
             _ => self.begin_rule(symbol, rows, context, row),
         }
     }

@@ -271,6 +271,7 @@ impl Threading for Rescoping {
             Production::Lambda => self.linked.finish_lambda(symbol, frame, parts),
             Production::Inheriting => self.linked.finish_inheriting(symbol, frame, parts),
             Production::Encoding => self.linked.finish_encoding(symbol, frame, parts),
+            Production::Holder => self.linked.finish_holder(symbol, frame, parts),
             Production::EncodingLiteral => self.linked.finish_literal(symbol, frame, parts),
             _ => self.linked.finish_rule(symbol, frame, parts),
         }
