@@ -7,8 +7,8 @@ Each word has 100 to 400 bytes and denotes a text of more than a million, or of 
 the limit before it refuses takes 26 to 74 times as long at the default limit as at one of 5,000; it may take eight times.
 
 Texts of packs under pointers cost less than the default limit, so they are written whole. A word of 400 types, each under 400
-pointers, takes some eight times as long as with the low limit, and may take 24 times. Where each pointer is taken by itself it
-takes 44 times.
+pointers or 200 pointers to constant types, takes some eight times as long as with the low limit, and may take 12 times. Where
+each pointer is taken by itself the first takes 44 times, and where three to constant types are taken at once the second 18 times.
 
 Then all these words are one input, for which the program takes at most 30 MB at any time, and at most 50 MB where words as long
 as it reads are among them.
@@ -20,7 +20,7 @@ import sys
 import tempfile
 
 MOST = 8.0
-MOST_OF_POINTERS = 24.0
+MOST_OF_POINTERS = 12.0
 RUNS = 5
 WORDS = 40
 LOW = "5000"
@@ -67,9 +67,9 @@ def pack_word(elements, wraps, levels):
     return cpp_word(f"IJ{'i' * elements}EEvDpPFvT_E", 3, lambda that: (f"Dp{wraps(that)}", 3), levels)
 
 
-def pointers_word(elements, levels):
+def pointers_word(elements, levels, pointer="P"):
     """A C++ function of an expansion over a pack of this many elements, each under this many pointers."""
-    return f"_Z1fIJ{'i' * elements}EEvDp{'P' * levels}T_"
+    return f"_Z1fIJ{'i' * elements}EEvDp{pointer * levels}T_"
 
 
 def rust_word(first, wraps, levels):
@@ -115,6 +115,7 @@ def packs_of_pointers():
     return {
         "packs of pointers, 80 by 60": pointers_word(80, 60),
         "packs of pointers, 400 by 400": pointers_word(400, 400),
+        "packs of pointers to constant types, 400 by 200": pointers_word(400, 200, "PK"),
     }
 
 
