@@ -59,13 +59,24 @@ def entries(name):
 
 def fill(text, /, **holes):
     """The text, in which each `@HOLE@` is filled: with a text or a number, or with lines, which take the place of its line. What ends in
-    `_COUNT` is how many lines there are."""
+    `_COUNT` is how many lines there are. Lines that begin with `@HOLE:` are written for each item, whose parts are `@0@`, `@1@`, ..: all
+    after the colon."""
     def filled(match):
         name = match[1].lower()
         value = holes[name] if name in holes else len(holes[name.removesuffix("_count")])
         return str(value) if isinstance(value, (str, int)) else "\n".join(map(str, value))
-    return re.sub(r"@([A-Z_]+)@", filled, text)
+    def of_each(match):
+        form = re.sub(r"@([A-Z_]+)@", filled, re.sub(r"^@[A-Z_]+:", "", match[0], flags=re.M))
+        value = holes[match[2].lower()]
+        items = (item if isinstance(item, tuple) else (item,) for item in (value.items() if isinstance(value, dict) else value))
+        return "".join(re.sub(r"@(\d)@", lambda part: str(item[int(part[1])]), form) for item in items)
+    return re.sub(r"@([A-Z_]+)@|(?m:^@([A-Z_]+):.*\n(?:@\2:.*\n)*)", lambda match: (filled if match[1] else of_each)(match), text)
 
 def template(name, /, **holes):
     """The text of a template, filled: of a file with `.in` after its name, since the gate asks for each other `.rt` and `.antt`."""
     return fill(read(f"{TEMPLATES}/{name}.in"), **holes)
+
+def whole(path, /, **holes):
+    """A file's path in the folder of the crates, and its text: that of the template of its crate with its name, filled."""
+    crate, *_, name = path.split("/")
+    return path, template(f"{crate}/{name}", **holes)

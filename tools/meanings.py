@@ -4,7 +4,7 @@ import re
 
 import cpp_trees
 from cpp_trees import NAMED, NUMBER, TREES, called
-from files import columns, sections, template
+from files import columns, sections, whole
 from node_code import nodes
 from notation import applied, braced, camel, listed
 from rules import ABOVE, ALIKE, defined, defined_cases
@@ -239,17 +239,13 @@ def makers(table):
 
 def antt_builders(table):
     """What they make of their arguments, as definitions."""
-    trees, built = makers(table), []
+    trees, built = makers(table), {}
     for name, *arguments in trees:
         given = [f"({READERS.get(sort, 'tree_in')} (argument xs {place}))" for place, (_, sort) in enumerate(arguments)]
-        built.append(applied(f"built new_{name} xs = {name}", given))
+        built[name] = applied(name, given)
     used = {"tree_in", "number_in", *(READERS.get(sort, "tree_in") for tree in trees for _, sort in tree[1:])}
-    arguments = [argument for argument in ARGUMENTS if argument[0] in used]
-    readers = [f"unfoldable pub {name} : Argument → {type}\n{name} ({case} x) = x\n{name} _ = {none}"
-               for name, case, type, none in arguments]
-    return template("cpp_grammar/Builders.antt", trees=", ".join(tree[0] for tree in trees),
-                    makers=", ".join("new_" + tree[0] for tree in trees),
-                    cases=[f"  {case} : {type} → Argument" for _, case, type, _ in arguments], readers="\n\n".join(readers), built=built)
+    return whole("cpp_grammar/specs/Builders.antt", trees=", ".join(built), makers=", ".join(f"new_{tree}" for tree in built),
+                 arguments=[tuple(argument) for argument in ARGUMENTS if argument[0] in used], built=built)
 
 def antt_rows(table):
     """The rows, as definitions."""
@@ -258,11 +254,8 @@ def antt_rows(table):
     rows_of = defined_cases({production: row.definition() for production, row in table.items()})
     lines = [line for case, row in rows_of for line in (*(f"-- {says}" for says in above[case]), f"row_of {case} = {row}")]
     own = sorted({word for word in re.findall(r"own (\w+) \(nodes", "\n".join(lines))})
-    return template("cpp_grammar/Rows.antt", makers=", ".join("new_" + tree[0] for tree in makers(table)), own=", ".join(own), rows=lines)
+    return whole("cpp_grammar/specs/Rows.antt", makers=", ".join("new_" + tree[0] for tree in makers(table)), own=", ".join(own), rows=lines)
 
 def files(table):
     """What is written of these rows: each file's path in the folder of the crates, and its text."""
-    made = [f"  new_{tree[0]} : Maker" for tree in makers(table)]
-    yield "cpp_grammar/specs/Makers.antt", template("cpp_grammar/Makers.antt", makers=made)
-    yield "cpp_grammar/specs/Builders.antt", antt_builders(table)
-    yield "cpp_grammar/specs/Rows.antt", antt_rows(table)
+    return whole("cpp_grammar/specs/Makers.antt", trees=makers(table)), antt_builders(table), antt_rows(table)

@@ -31,9 +31,9 @@ def with_declarations(text, owns, mark=WRITTEN):
         behind = declared(text, name)[1]
     return text
 
-def replaced(text, begun, ends, lines):
+def replaced(text, begun, ends, lines, mark=f"// {WRITTEN}"):
     """The text, with these lines after the next line that says who writes them, up to what ends them."""
-    start = text.index("\n", text.index(f"// {WRITTEN}", begun)) + 1
+    start = text.index("\n", text.index(mark, begun)) + 1
     end = re.compile(ends, re.M).search(text, start).start()
     return text[:start] + "".join(f"{line}\n" for line in lines) + text[end:]
 
