@@ -22,6 +22,11 @@ def sources(folder):
         folders[:] = [name for name in folders if name != "out"]
         yield from (os.path.join(at, name) for name in sorted(names) if name.endswith((".rt", ".antt")))
 
+def lines_of_crates(root):
+    """The line of each crate in `crates.txt`, without its comment, by the crate's name."""
+    lines = (line.split("#")[0].strip() for line in read(f"{root}/crates.txt").splitlines())
+    return {line.split(":")[0].split()[0]: line for line in lines if line}
+
 def load(path):
     """The Python module at a path."""
     spec = importlib.util.spec_from_file_location(os.path.basename(path)[:-3], path)
