@@ -36,8 +36,6 @@ class Word:
 
 DEFINITION, CODE, STEP = 0, 1, 2
 WORDS = {section: [Word(*line) for line in TABLE[section]] for section in ("means", "arguments", "places", "steps")}
-# of which sort an argument is, and which sorts of a part it reads, by the word of its definition
-SOURCES = {line[1].split()[0]: line[4:] for line in TABLE["arguments"]}
 
 def said(section, text, form=DEFINITION, nodes_made=0):
     """What a text of such words is, if it is one."""

@@ -1,6 +1,8 @@
 """What goes through Rust's nodes by their arguments alone: from the nodes that productions make (rust_parts.py) to the clauses of
 rust_tree, to the answers for the views of nodes, and to the code that shows lists, its answers and its lemmas, by the templates of
 templates/rust_tree."""
+import textwrap
+
 from files import template
 from notation import rewritten, together
 from rust_parts import BY_NAME, NODES, WRITTEN
@@ -111,37 +113,16 @@ def node_seen(of, made):
         seen = [f"no-parts s all _ _ _ name.bytes (bytes_at s name.bytes) {named}.0 refl"]
     return broken(f"{of}-seen {node_pattern(made)} h =", " ".join(seen), "  ")
 
-def of_subtrees(lines_of, families):
-    """What is said of a node of each family but types, which may be paths too."""
-    run = []
-    for of in families:
-        name = "c" if of == "constant" else BY_NAME[of].called
-        lines = lines_of(of, f"({name} : tree.{FAMILIES[of]})", lambda all: f"Is{of.capitalize()} {all} k {name}")
-        run.append("\n".join("  " + line for line in [f"-- {WRITTEN}", *lines]))
-    return run
-
 UNTYPED = [of for of in SUBTREES if of != "type"]
 
-def node_grown(of, given, is_node):
-    """That a node is there as nodes are added."""
-    return [f"{of}-grown : (k : ℕ) → ({given} × {is_node('all')}) → {given} × {is_node('(all ++ more)')}",
-            f"{of}-grown k h = (h.0, got-grown all more k (of_{of} h.0) h.1)"]
+def filled(name, of, **holes):
+    """A template for a family of nodes, without the newline at its end."""
+    return template(f"rust_tree/{name}", of=of, own=of.capitalize(), family=FAMILIES[of], name="c" if of == "constant" else BY_NAME[of].called,
+                    need="need" if of == "path" else f"need_of_{of}", **holes).rstrip("\n")
 
-def node_same(of, given, is_node):
-    """That it is the same."""
-    return [f"{of}-same : (k : ℕ) → ({given} × {is_node('all')}) → slice_get (all ++ more) k ≡ slice_get all k",
-            f"{of}-same k h = got-same all more k (of_{of} h.0) h.1"]
-
-def node_part(of, given, is_node):
-    """That a part is its tree."""
-    return [f"{of}-part : (k : ℕ) → ({given} × {is_node('all')}) → slice_get all k ≡ Some (of_{of} ({of}_in (slice_get all k)))",
-            f"{of}-part k h = rw h.1 refl"]
-
-def node_needs(of, given, is_node):
-    """That what a node needs is what its tree needs."""
-    need, trees = "need" if of == "path" else f"need_of_{of}", "(trees s table.nodes)"
-    return [f"{of}-need : (k : ℕ) → ({given} × {is_node(trees)}) → need_at table.nodes k ≡ {need} ({of}_in (slice_get {trees} k))",
-            "unfolding need_of_tree", f"{of}-need k h = rw h.1 (need-is s table k (of_{of} h.0) is h.1)"]
+def of_subtrees(name, families=UNTYPED):
+    """What is said of a node of each family but types, which may be paths too."""
+    return [filled(f"{name}.antt", of) for of in families]
 
 # ## Views of nodes, by the arms of the code
 
@@ -173,23 +154,17 @@ def view_answers(of):
 LISTS = {"arguments": (", ", True), "types": (", ", True), "bounds": (" + ", False), "bindings": (", ", False)}
 
 def list_filled(name, of):
-    """A template for a list, without the newline at its end."""
-    separator, is_fast = LISTS[of]
-    arms = [f"        {of.capitalize()}::{made.variant} {{ .. }} => true," for made in NODES if made.of == of]
-    some = [f"any-{of} d b sep _ rest = refl"]
-    if of == "bounds":
-        # bounds are told apart by their first path
-        some = [f"any-bounds d b sep (tree.more_bounds {path} x r) rest = refl" for path in ("(tree.generic p a)", "_")]
-    is_textual = of in TEXTUAL
-    return template(f"rust_tree/{name}", of=of, own=of.capitalize(), one=of.capitalize()[:-1], name=BY_NAME[of].called,
-                    family=FAMILIES[of], separator=separator, arms=arms, some=some, inline="#[inline(always)]\n" if is_fast else "",
-                    bytes="self.now.bytes " if is_textual else "",
-                    text="self.now.bytes self.now.table.text " if is_textual else "").rstrip("\n")
+    """A template for a list."""
+    (separator, is_fast), is_textual = LISTS[of], of in TEXTUAL
+    # bounds are told apart by their first path
+    shapes = [f"(tree.more_bounds {path} x r)" for path in ("(tree.generic p a)", "_")] if of == "bounds" else ["_"]
+    return filled(name, of, one=of.capitalize()[:-1], separator=separator, variants=[made.variant for made in NODES if made.of == of],
+                  shapes=shapes, inline="#[inline(always)]\n" if is_fast else "", bytes="self.now.bytes " if is_textual else "",
+                  text="self.now.bytes self.now.table.text " if is_textual else "")
 
 def in_lists():
     """Whether there are items, for each list, and then what adds them, within a block."""
-    return ["\n".join("    " + line for line in list_filled(name, of).split("\n")) for name in ("any_list.rt", "push_list.rt")
-            for of in LISTS]
+    return [textwrap.indent(list_filled(name, of), "    ") for name in ("any_list.rt", "push_list.rt") for of in LISTS]
 
 def list_answers():
     """The path and the text of each list's answers."""

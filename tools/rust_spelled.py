@@ -3,22 +3,13 @@ spelled, and to why what is pressed is read as the same tree."""
 from types import SimpleNamespace
 
 import rust_grammar
-from files import template
-from notation import braced, dashed, together
+from files import sections, template
+from notation import braced, dashed, listed, together
 from rust_parts import BY_NAME, WRITTEN, parts_of
 
 # ## Sorts of values
 
-# the sorts, each with its constructor, and which of these have nothing
-SORTS = {"number": "number", "integer": "an_integer", "letter": "letter", "name": "a_name", "identifier": "an_identifier",
-         "disambiguator": "a_disambiguator", "binder": "a_binder",
-         "lifetime": "a_lifetime", "unsafe": "unsafe_mark", "abi": "an_abi", "truth": "a_truth", "minus": "minus_mark", "path": "a_path",
-         "type": "a_type", "constant": "a_constant",
-         "arguments": "some_arguments", "types": "some_types", "bounds": "some_bounds", "bindings": "some_bindings", "suffix": "a_suffix",
-         "suffix_rest": "suffix_rest", "symbol": "a_symbol"}
-BARE = ("unsafe", "minus", "suffix_rest")
-# the sort of the values of a kind where it isn't the kind's name
-KIND_SORTS = {"SOME_LIFETIME": "lifetime", "SUFFIX_BYTE": "suffix_rest", "NAMESPACE": "letter", "ABI_NAME": "abi"}
+VALUES, KIND_SORTS = ([line.split() for line, _ in lines] for _, lines in sections("rust_sorts.txt"))
 
 def slot(part):
     """What a production asks for where it has such a part."""
@@ -29,23 +20,17 @@ def slot(part):
 def production_sort(letter):
     """The sort of what the rule of a letter makes: that of a kind that has the rule, the narrowest one if it is a name."""
     kind = next(kind for kind in ("NAME", *rust_grammar.KINDS) if letter in rust_grammar.KINDS[kind][0])
-    return KIND_SORTS.get(kind, kind.lower())
+    return dict(KIND_SORTS).get(kind, kind.lower())
 
 def sorts():
     """Runs of declarations: the sorts, and that of a value; where each is among them; what productions ask for, and what they make."""
     rules = {production: letter for letter, (production, takes, symbols) in rust_grammar.RULES.items()}
-    asked = {production: " ∷ ".join(slot(part) for part in parts_of(production)) for production in rules}
-    def written(comment, *lines):
-        return "\n".join([f"-- {WRITTEN}{comment}", *lines])
-    yield [written(" One for each constructor of `Value`", "pub data Sort : Type 0 where", *[f"  {sort} : Sort" for sort in SORTS]),
-           written("", "abbrev pub sort_of : Value → Sort", *[f"sort_of value.{own} = {sort}" if sort in BARE
-                   else f"sort_of (value.{own} _) = {sort}" for sort, own in SORTS.items()])]
-    yield [written(" Where a sort is in that list", "abbrev place_of : Sort → ℕ",
-                   *[f"place_of {sort} = {k}" for k, sort in enumerate(SORTS)])]
-    yield [written("", "abbrev pub slots_of : Production → List Slot",
-                   *[f"slots_of rules.{production} = {slots} ∷ []" for production, slots in asked.items() if slots], "slots_of _ = []"),
-           written(" The sort of what a production makes", "abbrev pub made_by : Production → Sort",
-                   *[f"made_by rules.{production} = {production_sort(letter)}" for production, letter in rules.items()])]
+    asked = {production: listed(map(slot, parts_of(production))) for production in rules if parts_of(production)}
+    values = [(number, sort, f"value.{own}" if alone else f"(value.{own} _)") for number, (sort, own, *alone) in enumerate(VALUES)]
+    made = {production: production_sort(letter) for production, letter in rules.items()}
+    of_values, of_value, places, *of_productions = template("rust_v0/sorts.antt", sorts=values, asked=asked,
+                                                            made=made).rstrip("\n").split("\n\n")
+    return [[of_values, of_value], [places], of_productions]
 
 def slot_then(part):
     """That a part which is asked for is there, of its sort."""
