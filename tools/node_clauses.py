@@ -2,7 +2,8 @@
 Where the table has a clause of a node's tree, that is the clause."""
 import re
 
-from cpp_trees import BELOW, BYTES, CLAUSES, ENCODINGS, NAMES, OWN, PIECE, PIECES, SIGNED, SORTS, TREE, VIEWED, called, named
+from cpp_trees import BELOW, BYTES, CLAUSES, ENCODINGS, NAMES, PIECES, SIGNED, SORTS, VIEWED, called, named
+from files import columns, sections
 from node_code import nodes, placed
 from notation import alone_or, applied, braced, rewritten, together
 from tree_clauses import SCOPED, SUBTREES, arguments, cases, joined_by
@@ -26,13 +27,6 @@ def node_cases(function, before, after, right, others=None, names=NAMES["none"])
         if value is not None:
             lines.append(applied(function, [*before, node_pattern(node, given), *after]) + f" = {value}")
     return [*lines, applied(function, [*before, "_", *after]) + f" = {others}"] if others is not None else lines
-
-def of_arguments(forms, joined, none=None):
-    """What is said of a node by its arguments with a bound, by their sorts: of each by its name and the fact of its bound."""
-    def right(node, given):
-        facts = [forms[sort].format(name, fact) for name, sort, fact in placed(given, tuple(forms)) if fact]
-        return joined(facts) if facts else none
-    return right
 
 def tree_of():
     """The tree of a node."""
@@ -70,44 +64,16 @@ def tree_from():
     names = " ++ ".join(f"names_in {name} given (part_in given {piece}) {tree}" for name, piece, tree in pieces)
     return ["narrow_tree_from given = tree_at given.production (", *lines, "    ∷ (NO_NODE, part_in given 0)", f"    ∷ {names}", "    )"]
 
-def is_below():
-    """That the arguments of a node are below it."""
-    def joined(facts):
-        return facts[0] if len(facts) == 1 else " × ".join(f"({fact})" if " < " in fact else fact for fact in facts)
-    return node_cases("IsBelow", ["s", "held", "n"], [], of_arguments(SORTS["bound"], joined), "Unit {0}", NAMES["below"])
+# ## Folds
 
-def below_later():
-    """A node's bounds, at a later place."""
-    names = {"m": "k", "n": "e", "b": "v"}
-    return node_cases("below-later", ["s", "held", "m", "n"], ["b", "most"], of_arguments(SORTS["later"], together), "tt", names)
-
-def node_stays():
-    """That a node's tree stays as nodes are added; t is another tree here."""
-    return node_cases("node-stays", [], ["b"], of_arguments(SORTS["stays"], rewritten, "refl"), None, {"t": "x", "b": "y"})
-
-# ## What is noted
-
-def of_parts(text, piece, joined):
-    """What is said of a node by its parts that aren't under a scope of their own."""
-    def right(node, given):
-        sorts = dict(zip((name for name, _ in given), node.sorts))
-        parts = [(piece if sorts[name] == PIECE else text).format(name, fact)
-                 for name, _, fact in placed(given, (TREE, OWN, PIECE)) if sorts.get(name) in SCOPED]
-        return joined(parts) if parts else None
-    return right
-
-def noted(function, text, piece, joined, others):
-    """What is noted of a node by what is noted of its parts."""
-    return node_cases(function, ["es"], [], of_parts(text, piece, joined), others, NAMES["noted"])
-
-def through(function, text, piece, joined):
-    """A fact of a node by those of its parts, with a bound."""
-    return node_cases(function, [], ["b"], of_parts(text, piece, joined), "refl")
+def product(facts):
+    """Facts as one."""
+    return alone_or(facts, lambda several: " × ".join(f"({fact})" if " < " in fact else fact for fact in several))
 
 def both_are(facts):
     """What is free in a node of two parts, from the facts of the parts: these come before them."""
-    noted_ = [f"({'free_at' if fact.startswith('at ') else 'piece_frees'} y.nodes {fact.split()[1]})" for fact in facts]
-    return applied("both-are", [*noted_, *[f"({fact})" for fact in facts]]) if len(facts) > 1 else facts[0]
+    noted = [f"({'free_at' if fact.startswith('at ') else 'piece_frees'} y.nodes {fact.split()[1]})" for fact in facts]
+    return alone_or(facts, lambda several: applied("both-are", [*noted, *[f"({fact})" for fact in several]]))
 
 def depending(parts):
     """What depends on another argument, of a node by its parts."""
@@ -115,11 +81,32 @@ def depending(parts):
         return applied("joined", [f"({part})" for part in parts])
     return parts[0] if parts[0].startswith("piece") else f"passed ({parts[0]})"
 
-def passed_fact(facts):
+def passed(facts):
     """That it is passed on by a node of one part."""
     if len(facts) > 1:
         return rewritten(facts)
     return facts[0] if facts[0].startswith("piece") else f"ap passed ({facts[0]})"
+
+JOINED = {"product": product, "together": together, "rewritten": rewritten, "rewritten alone": lambda facts: alone_or(facts, rewritten),
+          "both_are": both_are, "depending": depending, "passed": passed}
+
+def of_arguments(said, joined, none):
+    """What is said of a node by its arguments, as the table says it of them."""
+    is_scoped = ";" in said
+    forms = dict(zip(SCOPED, said.split("; "))) if is_scoped else SORTS[said]
+    def right(node, given):
+        sorts = node.sorts if is_scoped else [sort for _, sort in given]
+        facts = [forms[sort].format(name, fact) for (name, _, fact), sort in zip(placed(given), sorts) if sort in forms]
+        return joined(facts) if facts else none
+    return right
+
+def folds():
+    """Those that are folds of nodes: path, name, and the lines."""
+    for path, name, before, after, said, joined, none, others, names in (columns(line) for line, _ in sections("cpp_node_folds.txt")):
+        right = of_arguments(said, JOINED.get(joined) or joined_by(joined.removeprefix("by ")), none or None)
+        yield path, name, node_cases(name, before.split(), after.split(), right, others or None, NAMES[names])
+
+# ## What is noted
 
 def by_nodes(name, matched, functions):
     """False of the nodes for which these functions have arms."""
@@ -154,19 +141,9 @@ def other_node():
 def declarations():
     """The path and the name of each declaration, and the lines of its clauses."""
     encodings = node_cases("is_encoding", [], [], lambda node, given: "true" if node.tree in ENCODINGS else None, "false")
-    found = {
-        "specs/Nodes": {"tree_of": tree_of(), "is_encoding": encodings, "IsBelow": is_below()},
-        "specs/Fields": {"fields_of": fields_of(), "narrow_tree_from": tree_from()},
-        "proofs/Compacting": {"IsOther": is_other(), "other-node": other_node()}, "proofs/Pushed": {"node-stays": node_stays()},
-        "specs/Notes": {
-            "frees": noted("frees", "free_at es {0}", "piece_frees es {0}", joined_by("both_free"), "Free.None"),
-            "node_by_argument": noted("node_by_argument", "by_argument_at es {0}", "piece_by_argument es {0}", depending, "by_none false"),
-            "packing": noted("packing", "packs_at es {0}", "piece_packs es {0}", joined_by("first_of"), "None")},
-        "proofs/Noting": {
-            "node-by-argument": through("node-by-argument", "by-argument-at {0} {1}", "piece-by-argument {0} {1}", passed_fact),
-            "node-free": through("node-free", "at {0} {1}", "piece-free {0} {1}", both_are),
-            "node-pack": through("node-pack", "pack-at {0} {1}", "piece-pack {0} {1}", lambda facts: alone_or(facts, rewritten))},
-    }
+    found = {"specs/Nodes": {"tree_of": tree_of(), "is_encoding": encodings},
+             "specs/Fields": {"fields_of": fields_of(), "narrow_tree_from": tree_from()},
+             "proofs/Compacting": {"IsOther": is_other(), "other-node": other_node()}}
     for path, names in found.items():
         yield from ((f"cpp_tree/{path}.antt", name, lines) for name, lines in names.items())
-    yield "cpp_spelling/proofs/Made.antt", "below-later", below_later()
+    yield from folds()

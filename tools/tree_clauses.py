@@ -45,13 +45,13 @@ def carried(lines):
 
 # ## Trees
 
-def fold(function, before, joined, none, over=SUBTREES, closed=None, trees=TREES, crate=""):
+def fold(function, before, joined, none, over=SUBTREES, closed=None, after=(), trees=TREES, crate=""):
     """What is computed of the subtrees, joined; `closed` replaces `before` at trees under a scope of their own."""
     def right(tree):
-        parts = [applied(function, [*(before if closed is None or sort not in APART else closed), name])
+        parts = [applied(function, [*(before if closed is None or sort not in APART else closed), name, *after])
                  for name, sort in arguments(tree, *over)]
         return joined(parts) if parts else None
-    return cases(function, before, [], right, none, trees, crate)
+    return cases(function, before, list(after), right, none, trees, crate)
 
 def joined_by(lemma, of=None, then=None):
     """Facts are joined by a lemma, which may take what is computed of the subtree of each, and then another fact."""
@@ -110,13 +110,6 @@ def erased():
         return f"(erased {'nowhere' if sort in (OWN, OUTSIDE) else 'in_own' if sort == SIGNATURE else 's'} {name})"
     return cases("erased", ["s"], [], lambda tree: of_subtrees(tree, tree[0], fact, SUBTREES, "ab"), "refl")
 
-def weight_grows():
-    """That a tree weighs no less where its parameters do."""
-    def right(tree):
-        parts = [f"weight_grows a b scope {name} h" for name in names(tree, *SCOPED)]
-        return f"omega ({', '.join(['arith', *parts])})" if parts else None
-    return cases("weight_grows", ["a", "b", "scope"], ["h"], right, "omega arith")
-
 def applied_to_scoped(tree):
     """A constructor as a function of those of its arguments that are under its scope."""
     given = [name if sort not in (OWN, OUTSIDE) else f"(annotate nowhere {name})" for name, sort in tree[1:]]
@@ -130,30 +123,29 @@ def applied_to_scoped(tree):
 # the first of a list by another name than that of a fact
 FIRST = named({("list", "e"): "first"})
 
-def open_half(i, a, b):
+def open_half(i, a, b, fact):
     """The fact that one of two subtrees isn't open."""
-    return f"({('or_left', 'or_right')[i]} (is_open {a}) (is_open {b}) e)"
+    return f"({('or_left', 'or_right')[i]} (is_open {a}) (is_open {b}) {fact})"
 
-def free_half(i, a, b):
+def free_half(i, a, b, fact):
     """The fact of what is free in one of two subtrees."""
-    return f"(names_both r a (free_in {a}) (free_in {b}) e).{i}"
+    return f"(names_both r a (free_in {a}) (free_in {b}) {fact}).{i}"
+
+def halves(subtrees, fact, half=open_half):
+    """The fact of each of one or two subtrees, from that of the tree."""
+    return [fact] if len(subtrees) == 1 else [half(i, *subtrees, fact) for i in range(len(subtrees))]
+
+def shut_parts(subtrees):
+    """The facts that subtrees are closed, as one."""
+    return f"(or_parts {' '.join(f'(is_open {name})' for name in subtrees)} closed)"
 
 def closed_noted(function="closed_noted", before=("s", "r"), half=open_half):
     """A law of annotated trees by those of their subtrees, and what is known of their free parameters."""
     def right(tree):
         subtrees = names(tree, *SCOPED)
-        if not subtrees:
-            return None
-        facts = ["e"] if len(subtrees) == 1 else [half(i, *subtrees) for i in (0, 1)]
-        laws = [f"({applied(function, [*before, name, fact])})" for name, fact in zip(subtrees, facts)]
-        return applied("ap" if len(subtrees) == 1 else "both", [applied_to_scoped(tree), *laws])
+        laws = [f"({applied(function, [*before, name, fact])})" for name, fact in zip(subtrees, halves(subtrees, "e", half))]
+        return applied("ap" if len(subtrees) == 1 else "both", [applied_to_scoped(tree), *laws]) if subtrees else None
     return cases(function, list(before), ["e"], right, "refl", FIRST)
-
-def never_open(name, subtrees):
-    """The fact that a subtree isn't open, from that of the tree."""
-    if len(subtrees) == 1:
-        return "closed"
-    return f"({'or_left' if name == subtrees[0] else 'or_right'} {' '.join(f'(is_open {n})' for n in subtrees)} closed)"
 
 def closed_packs():
     """That a closed tree names no packs."""
@@ -161,9 +153,8 @@ def closed_packs():
         subtrees = names(tree, *SCOPED)
         if len(subtrees) < 2:
             return f"closed-packs scope {subtrees[0]} closed" if subtrees else None
-        tests = " ".join(f"(is_open {name})" for name in subtrees)
-        laws = [f"(closed-packs scope {name} (or_parts {tests} closed).{i})" for i, name in enumerate(subtrees)]
-        return "\n    " + "\n    ".join([" ".join(["first-none", *(f"(pack_length scope {name})" for name in subtrees), laws[0]]), laws[1]])
+        first, second = (f"(closed-packs scope {name} {shut_parts(subtrees)}.{i})" for i, name in enumerate(subtrees))
+        return "\n    " + " ".join(["first-none", *(f"(pack_length scope {name})" for name in subtrees), first]) + f"\n    {second}"
     return cases("closed-packs", ["scope"], ["closed"], right, "refl", named(PRESSED))
 
 def reads():
@@ -184,22 +175,18 @@ def itself_as(tree, name):
 
 def inside_shut():
     """That what is inside a closed tree is closed."""
-    def right(name, kind, closed, fact):
-        below = f"inside-shut {name} x {closed}"
-        return f"{kind.lower()}-shut {name} x (Inside {name} x) {closed} ({below}) {fact}" if kind else f"{below} {fact}"
+    def right(tree, name, closed):
+        kind, below = itself_as(tree, name), f"inside-shut {name} x {closed}"
+        return f"{kind.lower()}-shut {name} x (Inside {name} x) {closed} ({below}) i" if kind else f"{below} i"
     lines = []
     for tree in named(PRESSED):
         subtrees, left = names(tree, *SUBTREES), f"inside-shut {pattern(tree)} x closed"
-        kinds = [itself_as(tree, name) for name in subtrees]
         lines += CASES["inside-shut"].get(tree[0], [])
-        if not subtrees or names(tree, *APART):
-            continue
-        if len(subtrees) == 1:
-            lines.append(f"{left} i = {right(subtrees[0], kinds[0], 'closed', 'i')}")
-        else:
-            tests = " ".join(f"(is_open {name})" for name in subtrees)
-            lines += [f"{left} ({side} i) =\n    {right(name, kind, f'(or_parts {tests} closed).{i}', 'i')}"
-                      for i, (name, kind, side) in enumerate(zip(subtrees, kinds, ("inl", "inr")))]
+        if len(subtrees) == 1 and not names(tree, *APART):
+            lines.append(f"{left} i = {right(tree, subtrees[0], 'closed')}")
+        elif subtrees and not names(tree, *APART):
+            lines += [f"{left} ({side} i) =\n    {right(tree, name, f'{shut_parts(subtrees)}.{i}')}"
+                      for i, (name, side) in enumerate(zip(subtrees, ("inl", "inr")))]
     return [*lines, "inside-shut _ x closed i = first_of (assumption i, search i)"]
 
 def inside():
@@ -225,9 +212,10 @@ def reargued():
 def made_again(function, before, after=(), made="", given=lambda name, sort: name):
     """A law of each tree by those of its subtrees: both sides are the tree, of other subtrees."""
     def right(tree):
-        def fact(name, sort):
-            return f"({applied(function, [*before, name, *[never_open(name, names(tree, *SCOPED)) for _ in after]])})"
-        return of_subtrees(tree, made + tree[0], fact, given=given)
+        subtrees = names(tree, *SCOPED)
+        facts = dict(zip(subtrees, halves(subtrees, *after))) if after else {}
+        return of_subtrees(tree, made + tree[0], lambda name, sort: f"({applied(function, [*before, name, *filter(None, [facts.get(name)])])})",
+                           given=given)
     return carried(cases(function, before, list(after), right, "refl"))
 
 # ## Declarations
@@ -240,6 +228,8 @@ def joining(text):
         return joined_by(lemma, of, then)
     if text == "rewritten":
         return lambda parts: alone_or(parts, rewritten)
+    if text == "omega":
+        return lambda parts: f"omega (arith, {', '.join(parts)})"
     if text == "suc":
         return lambda parts: f"suc ({' + '.join(parts)})"
     return (lambda parts: " + ".join([rest, *parts])) if word == "sum" else text.strip('"').join
@@ -250,7 +240,8 @@ def folds():
     for path, name, before, joined, none, *words in (columns(line) for line, _ in sections("cpp_folds.txt")):
         said = {word.split(" ", 1)[0]: word.split(" ")[1:] for word in words}
         lines = fold(name, before.split(), joining(joined), none, over=SCOPED if "scoped" in said else SUBTREES, closed=said.get("closed"),
-                     trees=named_in[said["names"][0]] if "names" in said else TREES, crate="".join(said.get("crate", [])))
+                     after=said.get("after", ()), trees=named_in[said["names"][0]] if "names" in said else TREES,
+                     crate="".join(said.get("crate", [])))
         yield path, name, carried(lines) if "carried" in said else lines
 
 def markings():
@@ -267,7 +258,6 @@ def declarations():
     """The path and the name of each declaration, and the lines of its clauses."""
     yield from folds()
     yield from markings()
-    yield "cpp_grammar/proofs/RanksFall.antt", "weight_grows", weight_grows()
     yield "cpp_term/specs/Erased.antt", "erase", carried(rebuilt("erase", [], []))
     yield "cpp_term/specs/Annotated.antt", "annotate", rebuilt("annotate", ["s"], ["nowhere"])
     yield "cpp_term/specs/Reargued.antt", "reargued", reargued()
