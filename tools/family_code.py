@@ -6,7 +6,7 @@ import grammar
 from files import sections, template
 from notation import snake
 from rules import ABOVE, coded_cases, families
-from meanings import CODE, made_in_code, piece_in_code, said
+from meanings import CODE, made, said
 from rust_layout import arm, split
 
 # of each file what it says, and its families, each with what is said of it
@@ -21,31 +21,16 @@ for head, _ in sections("cpp_families.txt"):
 
 # ## What a row means
 
-def source(text):
-    """An argument of a tree, in code."""
-    return said("arguments", text, CODE)
-
-def pair(letter, left, right):
-    """A letter and two trees, of which one may be made: then the left one is there, or there is no right one."""
-    if "(" in left + right:
-        there, node = (f"Some({source(left)})", right) if "(" in right else ("None", left)
-        return f"Outcome::MadeOperand {{ letter: {source(letter)}, left: {there}, node: {made_in_code(node)} }}"
-    return f"Outcome::Given(Part::Pair {{ letter: {source(letter)}, left: {source(left)}, right: {source(right)} }})"
-
 def outcome(means):
-    """What a row means, in code."""
-    if known := said("means", means, CODE):
-        return known
-    if means.startswith("piece "):
-        return f"piece({piece_in_code(means.removeprefix('piece '))})"
-    if m := re.fullmatch(r"pair\((.*)\)", means):
-        return pair(*split(m[1]))
-    text, listed = re.fullmatch(r"(.*?)(, listed)?", means).groups()
-    if m := re.fullmatch(r"qualified\(marks\((.*)\), (t\d)\)", text):
-        return f"qualified({', '.join(map(source, [*split(m[1]), m[2]]))})"
-    m = re.fullmatch(r"name \+ (.*)", text)
-    node = f"self.extended(symbol, kept.prefix(), {piece_in_code(m[1])})" if m else made_in_code(text)
-    return f"made({node}, {'true' if listed else 'false'})"
+    """What a row means, in code. Of a pair's trees one may be made: then the left one is there, or there is no right one."""
+    if not means.startswith("pair("):
+        return said("means", means, CODE)
+    letter, left, right = split(re.fullmatch(r"pair\((.*)\)", means)[1])
+    of = said("arguments", letter, CODE)
+    if "(" in left + right:
+        there, node = (f"Some({made(left, CODE)})", right) if "(" in right else ("None", left)
+        return f"Outcome::MadeOperand {{ letter: {of}, left: {there}, node: {made(node, CODE)} }}"
+    return f"Outcome::Given(Part::Pair {{ letter: {of}, left: {made(left, CODE)}, right: {made(right, CODE)} }})"
 
 # ## Files
 

@@ -17,7 +17,8 @@ OF_ARGUMENT = {own[0]: sort for sort, *own in TABLE["sorts"] if own}
 OWN = {word: sorts.split() for word, sorts, *_ in TABLE["own"]}
 # what each word gives, and what it is given; and of each maker what its tree is, and what its arguments are
 WORDS = {word: takes for word, *takes in TABLE["takes"]}
-WORDS.update({line[1].split()[0]: [line[4], f"part {line[5]}".replace(" any", "")] if line[5] else [line[4]] for line in TABLE["arguments"]})
+WORDS.update({line[1].split()[0]: [line[4], *([f"part {line[5]}".replace(" any", "")] if line[5] else [])]
+              for line in TABLE["arguments"] if line[4:]})
 MAKERS = {tree: ["pieces" if tree in cpp_trees.PIECES else "trees", *(OF_ARGUMENT.get(sort, "trees") for _, sort in arguments)]
           for tree, *arguments in cpp_trees.TREES}
 # after these steps the first part is a tree

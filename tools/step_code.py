@@ -4,7 +4,7 @@ import re
 
 import grammar
 from files import template
-from meanings import ALL_PARTS, CODE, PARTS, STEP, TABLE, made_in_code, piece_in_code, said
+from meanings import ALL_PARTS, CODE, PARTS, STEP, TABLE, made, said
 from notation import applied, camel, snake
 from rules import TOKENS
 from rust_layout import arm, split
@@ -14,19 +14,14 @@ ITS_TYPES = template("cpp_link/its_types.rt").rstrip("\n")
 
 def made_step(step):
     """The first part becomes a tree."""
-    named = "self.listed_name" if step.is_listed else "self.named"
-    if m := re.fullmatch(r"name \+ (.*)", step.made):
-        return f"{named}(self.extended(symbol, kept.prefix(), {piece_in_code(m[1], STEP)}))"
-    if m := re.fullmatch(r"tagged\(name, (.*)\)", step.made):
-        return f"{named}(self.tagged(symbol, kept, {said('arguments', m[1], STEP)}))"
-    if m := re.fullmatch(r"(.*) applied to (\d)", step.made):
-        return f"self.std_name(symbol, {said('arguments', m[1], STEP)}, {PARTS[int(m[2])]})"
+    node, is_extended = made(step.made, STEP), step.made.startswith(("name + ", "tagged("))
+    if " applied to " in step.made:
+        return node
+    if is_extended or "(" in step.made and step.is_name and not step.is_candidate and not step.made.startswith("operation("):
+        return f"self.{'listed_name' if step.is_listed else 'named'}({node})"
     marks = f"listed: {str(step.is_listed).lower()}, is_name: {str(step.is_name).lower()}"
     if "(" not in step.made:
-        return f"Step::Named {{ node: {said('arguments', step.made, STEP)}, {marks} }}"
-    node = made_in_code(step.made, STEP)
-    if step.is_name and not step.is_candidate and not step.made.startswith("operation("):
-        return f"{named}({node})"
+        return f"Step::Named {{ node: {node}, {marks} }}"
     return f"Step::Made {{ node: {node}, {marks}, is_candidate: {str(step.is_candidate).lower()}, packs: self.packs }}"
 
 def code(step):
