@@ -7,7 +7,7 @@ import re
 from cpp_trees import BELOW
 from files import columns, read, sections, template
 from node_code import nodes
-from notation import answer, applied, braced, camel
+from notation import Steps, answer, applied, braced, camel
 from printing import imports
 from splicing import WRITTEN
 
@@ -51,14 +51,9 @@ def arms(body, begins="Node|Piece"):
     return [(start[1], body[start.end():after.start() if after else None]) for start, after in zip(starts, [*starts[1:], None]) if start[1]]
 
 def calls(body, begins="Node|Piece"):
-    """For each arm, the function that is called last, and the step that this is, which has the arm's name from its second call
-    on."""
-    seen, steps = set(), {}
-    for node, text in arms(body, begins):
-        for call in re.findall(r"(?:self\.|=> )(\w+)\(", text):
-            steps[node] = call, call + (f"-in-{node}" if call in seen else "")
-            seen.add(call)
-    return steps
+    """For each arm, the function that is called last, and the step that this is."""
+    step = Steps()
+    return {node: (call, step(call, node)) for node, text in arms(body, begins) for call in re.findall(r"(?:self\.|=> )(\w+)\(", text)}
 
 # ## What is shown
 

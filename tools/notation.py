@@ -41,6 +41,18 @@ def answer(goal, value, unfolding=None, given="c"):
     """The lines of an answer to a goal: `value` follows the sign, in the same line or with its own."""
     return [f"pub {goal} : goal.{goal}", *([f"unfolding {unfolding}"] if unfolding else []), f"{goal} {given} ={value}"]
 
+class Steps:
+    """The calls so far, each with the arms in which it was: a step has the arm's name from the second call of its function on."""
+    def __init__(self):
+        self.arms = {}
+
+    def __call__(self, call, arm):
+        """The step of a call in an arm."""
+        arms = self.arms.setdefault(call, [])
+        arms.append(arm)
+        again = arms.count(arm)
+        return call + (f"-in-{arm}" if len(arms) > 1 else "") + (f"-{again}" if 1 < again < len(arms) else "")
+
 def quoted(text):
     """A text between quotes."""
     return '"' + text.replace("\\", "\\\\").replace('"', '\\"') + '"'

@@ -4,7 +4,7 @@ templates/rust_tree."""
 import textwrap
 
 from files import template
-from notation import rewritten, together
+from notation import Steps, rewritten, together
 from rust_parts import BY_NAME, NODES, WRITTEN
 from rust_spelled import names_of
 from rust_trees import FAMILIES, MUTUAL, NUMERIC
@@ -127,24 +127,21 @@ def of_subtrees(name, families=UNTYPED):
 # ## Views of nodes, by the arms of the code
 
 def view_answers(of):
-    """That each arm of a family's view shows its node, by its call, whose step has the arm's name from its second call on."""
-    own, used, lines = "ty" if of == "type" else of, set(), []
-    def step(call, arm):
-        name = f"c.{call}-in-{arm}.ensures" if call in used else f"c.{call}.ensures"
-        used.add(call)
-        return name
+    """That each arm of a family's view shows its node, by its call."""
+    own, step, lines = "ty" if of == "type" else of, Steps(), []
     leaves = [(leaf, []) for leaf in {"path": [], "type": ["Basic"]}.get(of, ["None"])]
     for arm, parts in [*leaves, *((made.variant, [part.name for part in made.parts]) for made in NODES if made.of == of)]:
         lemma, seen = f"{of}-by s text all bare", ""
         if arm == "Function":
             lemma, seen = "type-is s text all", "(c.view_of_function.ensures.seen s text all bare)"
         elif set(parts) & set(NAMED):
-            seen = f"(production-by {step('view_of', arm)} {step('by_name-by', arm)})"
+            seen = f"(production-by c.{step('view_of', arm)}.ensures c.{step('by_name-by', arm)}.ensures)"
         else:
-            seen = step("view_of" if arm == "Dyn" else ["leaf", "one", "two", "three"][sum(part in SUBTREES for part in parts)], arm)
+            call = "view_of" if arm == "Dyn" else ["leaf", "one", "two", "three"][sum(part in SUBTREES for part in parts)]
+            seen = f"c.{step(call, arm)}.ensures"
         goal = f"returns-in-{arm}-clause-seen"
         lines += ["", f"pub {goal} : goal.{goal}", f"{goal} c s text all bare h = {lemma} _ c.args.{own} _ c.in-{arm}.is {seen} h"]
-    lemmas = [f"{of}-by", *(["type-is"] if of == "type" else []), *(["production-by"] if "by_name-by" in used else [])]
+    lemmas = [f"{of}-by", *(["type-is"] if of == "type" else []), *(["production-by"] if "by_name-by" in step.arms else [])]
     return "\n".join([f"-- {WRITTEN}", f"use Rattle.rust_tree.proofs.Viewing.{{{', '.join(lemmas)}}}",
                       f"use Rattle.rust_tree.proofs.view.view_of_{of}.Goals as goal", *lines]) + "\n"
 

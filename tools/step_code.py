@@ -5,7 +5,7 @@ import re
 import grammar
 from files import template
 from meanings import ALL_PARTS, CODE, PARTS, STEP, TABLE, made, said
-from notation import applied, camel, snake
+from notation import Steps, applied, camel, snake
 from rules import TOKENS
 from rust_layout import arm, split
 
@@ -109,16 +109,12 @@ def shown_piece(text):
 
 def pieces(done):
     """Each arm by which a piece comes after the name so far, as one record."""
-    met = set()
-    def called(name, production):
-        step = f"c.{name}-in-{production}" if name in met else f"c.{name}"
-        met.add(name)
-        return step
+    steps = Steps()
     for production, step in done.items():
         tree, piece, read, same = shown_piece(step.made.removeprefix("name + "))
-        calls = {name: called(name, production) for name in ("named", "extended", "prefix")}
-        part = called(read, production)
-        yield template("cpp_link/piece.antt", production=production, piece=piece.format(part), tree=tree, same=same.format(part), **calls)
+        *calls, part = (f"c.{steps(name, production)}" for name in ("named", "extended", "prefix", read))
+        yield template("cpp_link/piece.antt", production=production, piece=piece.format(part), tree=tree, same=same.format(part),
+                       **dict(zip(("named", "extended", "prefix"), calls)))
 
 def answers():
     """The answers of each function that forwards, and of the one that makes a name by a piece: their files, and their texts."""

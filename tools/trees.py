@@ -17,7 +17,7 @@ from files import read
 from node_code import nodes
 from notation import snake
 from rules import WITH_CODE_BEFORE, families
-from splicing import WRITTEN, extended, rewritten, with_arms, with_constants, with_declarations, with_imports, with_requires
+from splicing import WRITTEN, rewritten, with_arms, with_constants, with_declarations, with_imports, with_requires
 
 LINKED = "cpp_link/proofs/linked/Linked"
 NOTED = "cpp_term/proofs/MeaningNoted.antt"
@@ -69,6 +69,8 @@ def declarations(crates):
     yield from node_clauses.declarations()
     yield from clauses.declarations(crates)
     yield from payments.declarations(crates)
+    yield from spellings.declarations(named(PRESSED))
+    yield "cpp_link/proofs/CandidatesFlow.antt", "flows", step_code.flows()
 
 def edits(crates):
     """What is written into files by hand: the path of each, how its text changes, and by what."""
@@ -82,8 +84,6 @@ def edits(crates):
     yield from ((path, with_declarations, [owns]) for path, owns in lemmas())
     for name, functions in (("IsNoName", layouts.LEFT[:1]), ("IsNoType", layouts.LEFT[:2])):
         yield "cpp_layout/specs/Layout.antt", rewritten, [name, node_clauses.by_nodes(name, matched, functions)]
-    yield from ((path, extended, [name, lines]) for path, name, lines in spellings.declarations(named(PRESSED)))
-    yield "cpp_link/proofs/CandidatesFlow.antt", extended, ["flows", step_code.flows()]
     yield from ((path, with_requires, [function, lines]) for path, function, lines in step_code.asked())
     yield from ((path, with_arms, [function, lines]) for path, function, lines in arms_by_production())
 
