@@ -33,7 +33,7 @@ def exits(crates, path, function, *calls):
                 contract, re.M))
 
 def files(crates):
-    """The files that have such answers, by their paths in the folder of the crates, and their texts."""
+    """The files that have such answers: their paths in the folder of the crates, and their texts."""
     texts, forms = {}, {}
     for folder, lines in sections("alike.txt"):
         said = dict(line.split(" ", 1) for line, _ in lines)
@@ -50,4 +50,4 @@ def files(crates):
                                             for arm, call in arms(crates, *said["arms"].split())]], WRITTEN)
         else:
             texts[path] = with_declarations(text, [fill(shown, **holes) for holes in exits(crates, *said["exits"].split())], WRITTEN)
-    return texts
+    return texts.items()

@@ -49,7 +49,7 @@ def function(family, says, productions, rows):
     return template("cpp_link/family.rt", says=says, name=snake(family), family=family,
                     byte="        let byte = symbol[place as usize];\n" if is_asked else "", arms=arms).rstrip("\n")
 
-def files():
+def files(crates):
     """What is written: each file's path in the folder of the crates, and its text."""
     _, _, rows = grammar.wide()
     for module, said_of in FAMILIES.items():

@@ -49,7 +49,7 @@ def table():
                           for letter, (production, _, symbols) in RULES.items()],
                  **after_each([symbols for _, _, symbols in RULES.values()]))
 
-def files():
+def files(crates):
     """What is written: each file's path in the folder of the crates, and its text."""
     ranges, texts = runs(BASIC, 1)[0], [(ord(letter), text, letter) for letter, text, _ in words.BASIC_TYPES]
     yield table()

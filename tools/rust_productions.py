@@ -58,8 +58,6 @@ def declarations():
     yield "rust_press/proofs/PressKept.antt", [[means(one) for one in kept], *[clauses(of) for of in MUTUAL]]
 
 def files(crates):
-    """The files that are written, or have declarations that are, by their paths in the folder of the crates, and their texts."""
-    texts = dict(whole_files())
-    for path, runs in declarations():
-        texts[path] = with_runs(read(f"{crates}/{path}"), runs, WRITTEN)
-    return texts
+    """The files that are written, or have declarations that are: their paths in the folder of the crates, and their texts."""
+    yield from whole_files()
+    yield from ((path, with_runs(read(f"{crates}/{path}"), runs, WRITTEN)) for path, runs in declarations())

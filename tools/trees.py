@@ -88,10 +88,10 @@ def edits(crates):
     yield from ((path, with_arms, [function, lines]) for path, function, lines in arms_by_production())
 
 def files(crates):
-    """The files that are written, or have declarations that are, by their paths in the folder of the crates, and their texts."""
+    """The files that are written, or have declarations that are: their paths in the folder of the crates, and their texts."""
     texts = whole_files(crates)
     for path, edit, given in edits(crates):
         texts[path] = edit(texts.get(path) or read(f"{crates}/{path}"), *given)
     constants = re.findall(r"^pub const (\w+)", texts[splicing.NUMBERS], re.M)
     texts["cpp_tree/src/view.rt"] = with_constants(texts["cpp_tree/src/view.rt"], constants)
-    return {path: with_imports(text, constants) if path.endswith(".antt") else text for path, text in texts.items()}
+    return [(path, with_imports(text, constants) if path.endswith(".antt") else text) for path, text in texts.items()]
