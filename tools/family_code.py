@@ -44,7 +44,7 @@ def function(family, says, productions, rows):
     arms = []
     for case, pattern, means in coded_cases({production: outcome(rows[production].means) for production in productions}):
         arms += [f"            // {line}" for line in ABOVE.get(case, [])]
-        arms += arm(pattern, means)
+        arms += arm(f"Production::{pattern}", means)
     is_asked = any(re.search(r"\bbyte\b", line) for line in arms if "//" not in line)
     return template("cpp_link/family.rt", says=says, name=snake(family), family=family,
                     byte="        let byte = symbol[place as usize];\n" if is_asked else "", arms=arms).rstrip("\n")

@@ -7,6 +7,7 @@ from functools import lru_cache
 from cpp_trees import ALIASES, BELOW, INSIDE, NAMED, NAMES, OUTSIDE, OWN, PIECES, SIGNATURE, SORTS, TREE, TREES, called
 from files import TEMPLATES, fill, read, template
 from notation import Steps, answer, camel, together
+from rust_layout import arm
 
 class Node:
     """A node: its name, its tree's, its arguments, the sorts of the tree's, and its fields (each with its name in code, sort and type)."""
@@ -69,28 +70,19 @@ def pattern(path, node, given, indent):
     """A node with some of its fields, in one line if there are few."""
     names = [name for name, _, _ in node.fields]
     if len(names) < 2:
-        return f"{indent}{path}{node.name}{''.join(f'({name if name in given else chr(95)})' for name in names)}"
+        return f"{path}{node.name}{''.join(f'({name if name in given else chr(95)})' for name in names)}"
     shown = [*(name for name in names if name in given), *([".."] if set(names) - set(given) else [])]
-    inside = ", ".join(shown)
-    if len(inside) <= 18:
-        return f"{indent}{path}{node.name} {{ {inside} }}"
+    if len(", ".join(shown)) <= 18:
+        return f"{path}{node.name} {{ {', '.join(shown)} }}"
     lines = [f"{indent}    {name}{'' if name == '..' else ','}" for name in shown]
-    return "\n".join([f"{indent}{path}{node.name} {{", *lines, f"{indent}}}"])
-
-def arm(left, right, indent):
-    """An arm, as rt fmt lays it out."""
-    whole = f"{left} => {right},"
-    call, given = re.fullmatch(r"([\w.]+)\((.*)\)", right).groups()
-    if len(given) <= 60:
-        return whole if len(whole.split("\n")[-1]) <= 100 else f"{left} => {{\n{indent}    {right}\n{indent}}}"
-    return f"{left} => {call}(\n" + "".join(f"{indent}    {g},\n" for g in re.split(r", (?![^\[]*\])", given)) + f"{indent}),"
+    return "\n".join([f"{path}{node.name} {{", *lines, f"{indent}}}"])
 
 def arms(path, indent, of):
     """An arm for each node of which there is something to say."""
     for node, right in ((node, of(node)) for node in nodes()):
         if right:
             given = [name for name, _, _ in node.fields if re.search(rf"(?<![\w.:]){name}(?!\w)", right)]
-            yield arm(pattern(path, node, given, indent), right, indent)
+            yield from arm(pattern(path, node, given, indent), right, indent)
 
 def noting(node):
     """What is noted of a node, by its parts that aren't under a scope of their own."""

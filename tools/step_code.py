@@ -69,7 +69,7 @@ def arms():
         lines = []
         for production, step in done.items():
             shown = code(step)
-            lines += [f"            Production::{production} => {shown}"] if shown == ITS_TYPES else arm(production, shown)
+            lines += [f"            Production::{production} => {shown}"] if shown == ITS_TYPES else arm(f"Production::{production}", shown)
         yield FILE, function, lines
 
 # the functions that are called in turn, each with what the one before it hasn't done
