@@ -108,12 +108,6 @@ def folds():
 
 # ## What is noted
 
-def by_nodes(name, matched, functions):
-    """False of the nodes for which these functions have arms."""
-    found = [node for function in functions for node in matched[function]] + ["Reargued"]
-    own = sorted((node for node in nodes() if node.name in found), key=lambda node: found.index(node.name))
-    return [*(f"{name} {node_pattern(node, node.arguments)} = ⊥" for node in own), f"{name} _ = Unit {{0}}"]
-
 def noted_nodes():
     """The nodes with a note, each with its name, and its arguments with their types: numbers of nodes are i and j here."""
     for node in nodes():
@@ -122,28 +116,22 @@ def noted_nodes():
             others = iter("ij")
             yield node.name, [(next(letters[sort] if TYPES[sort][1] else others), TYPES[sort][0]) for _, sort in node.arguments]
 
-def is_other():
-    """What is known of a node without a note: it is none of those."""
-    def line(node, given):
-        premise = "".join(f"({name} : {type}) " for name, type in given) + "→ " if given else ""
-        return f"  pub not_{node.lower()} : {premise}n ≡ {applied('Node.' + node, [name for name, _ in given])} → ⊥"
-    return [line(*noted_node) for noted_node in noted_nodes()]
-
-def other_node():
-    """That nothing is noted of other nodes."""
-    lines = []
-    for node, given in noted_nodes():
-        names = [name for name, _ in given]
-        own, not_own = braced(applied(f"Node.{node}", names)), applied(f"other.not_{node.lower()}", names)
-        lines.append(f"other-node ns {own} other = absurd ({not_own} refl)")
-    return [*lines, "other-node ns _ other = refl"]
+def without(node, given):
+    """That n is another node than one with these arguments and types: the field that says so, the node as it is matched, and why it isn't."""
+    field, own = f"not_{node.lower()}", applied(f"Node.{node}", [name for name, _ in given])
+    premise = "".join(f"({name} : {type}) " for name, type in given) + "→ " if given else ""
+    refuted = applied(f"other.{field}", [name for name, _ in given])
+    return f"  pub {field} : {premise}n ≡ {own} → ⊥", braced(own), f"absurd ({refuted} refl)"
 
 def declarations():
     """The path and the name of each declaration, and the lines of its clauses."""
     encodings = node_cases("is_encoding", [], [], lambda node, given: "true" if node.tree in ENCODINGS else None, "false")
+    # what is known of a node without a note: it is none of those with one; and nothing is noted of it
+    others = [without(*noted) for noted in noted_nodes()]
+    nothing = [f"other-node ns {own} other = {refuted}" for _, own, refuted in others]
     found = {"specs/Nodes": {"tree_of": tree_of(), "is_encoding": encodings},
              "specs/Fields": {"fields_of": fields_of(), "narrow_tree_from": tree_from()},
-             "proofs/Compacting": {"IsOther": is_other(), "other-node": other_node()}}
+             "proofs/Compacting": {"IsOther": [field for field, _, _ in others], "other-node": [*nothing, "other-node ns _ other = refl"]}}
     for path, names in found.items():
         yield from ((f"cpp_tree/{path}.antt", name, lines) for name, lines in names.items())
     yield from folds()

@@ -21,7 +21,6 @@ from splicing import WRITTEN, rewritten, with_arms, with_constants, with_declara
 
 LINKED = "cpp_link/proofs/linked/Linked"
 NOTED = "cpp_term/proofs/MeaningNoted.antt"
-SHOWN = "cpp_layout/proofs/symbol/Symbol/{0}/Answers.antt"
 
 def arms_by_production():
     """Path, function, and the arms of its match that are written."""
@@ -76,14 +75,8 @@ def edits(crates):
     """What is written into files by hand: the path of each, how its text changes, and by what."""
     yield from ((path, rewritten, [name, lines]) for path, name, lines in declarations(crates))
     yield from splicing.wrapper_edits()
-    types = {node.name: [node_clauses.TYPES[sort][0] for _, sort in node.arguments] for node in nodes()}
-    others, answers, whole, matched = layouts.files(crates, types)
-    yield "cpp_layout/proofs/Others.antt", lambda text: others, []
-    yield from ((SHOWN.format(function), with_declarations, [["\n".join(lines)]]) for function, shown in answers.items() for lines in shown)
-    yield from ((SHOWN.format(function), lambda text, own: own, [own]) for function, own in whole.items())
+    yield from layouts.edits(crates)
     yield from ((path, with_declarations, [owns]) for path, owns in lemmas())
-    for name, functions in (("IsNoName", layouts.LEFT[:1]), ("IsNoType", layouts.LEFT[:2])):
-        yield "cpp_layout/specs/Layout.antt", rewritten, [name, node_clauses.by_nodes(name, matched, functions)]
     yield from ((path, with_requires, [function, lines]) for path, function, lines in step_code.asked())
     yield from ((path, with_arms, [function, lines]) for path, function, lines in arms_by_production())
 
