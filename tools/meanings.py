@@ -15,7 +15,7 @@ from rust_layout import split
 # what a part is called in a step
 PARTS = ["first", "second", "third"]
 HOLES = {"$1": r"(?P<hole_1>\d)", "$2": r"(?P<hole_2>\d)", "$c": "(?P<hole_c>.)",
-         **{f"${inner}": f"(?P<hole_{inner}>.*)" for inner in "mwabd"}}
+         **{f"${inner}": f"(?P<hole_{inner}>.*)" for inner in "mwqabd"}}
 TABLE = {head: [columns(line) for line, _ in lines] for head, lines in sections("cpp_words.txt")}
 
 class Word:
@@ -32,10 +32,12 @@ class Word:
         if not found:
             return ""
         holes = {name[-1]: value for name, value in found.groupdict().items()}
-        holes |= {name: INNER[name](value, form) for name, value in holes.items() if name in INNER}
+        inner = {name: INNER[name](value, form) for name, value in holes.items() if name in INNER}
+        if not all(inner.values()):
+            return ""
         part = PARTS[min(int(holes.get("1", 0)), 2)]
-        holes |= {"n": str(nodes_made), "o": str(ord(holes["c"])) if "c" in holes else "", "p": part}
-        return re.sub(r"\$([12cnopmwabd])", lambda hole: holes[hole[1]], self.forms[form])
+        holes |= {**inner, "n": str(nodes_made), "o": str(ord(holes["c"])) if "c" in holes else "", "p": part}
+        return re.sub(r"\$([12cnopmwqabd])", lambda hole: holes[hole[1]], self.forms[form])
 
 DEFINITION, CODE, STEP = 0, 1, 2
 WORDS = {section: [Word(*line) for line in TABLE[section]] for section in ("means", "made", "arguments", "places", "steps")}
@@ -69,11 +71,12 @@ def made(text, form=DEFINITION, is_piece=False):
     is_named = any(sort != NUMBER for _, sort in arguments)
     return filled(f"Piece::{camel(name)}", [called(NAMED, name, one) for one, _ in arguments if is_named], given)
 
-def argument(text, form=DEFINITION):
+def argument(text, form=DEFINITION, section="arguments"):
     """An argument of a tree."""
-    return braced(said("arguments", text, form)) if form == DEFINITION else said("arguments", text, form)
+    return braced(said(section, text, form)) if form == DEFINITION else said(section, text, form)
 
-INNER = {"m": made, "w": lambda text, form: made(text, form, True), **dict.fromkeys("abd", argument)}
+INNER = {"m": made, "w": lambda text, form: made(text, form, True), "q": lambda text, form: argument(text, form, "places"),
+         **dict.fromkeys("abd", argument)}
 
 def pair(means):
     """The letter and the trees of a pair."""
@@ -95,15 +98,8 @@ class Step:
     """What is done before a part: as a row says it, and as definitions have it; and the tree that the first part becomes, if it does."""
     def __init__(self, text=""):
         self.text, self.made, self.is_name = text, "", text.startswith("name = ")
-        candidate = re.fullmatch(r"list (?:the name|type (?P<type>\d))(?:, (?P<place>.*))?", text)
-        if not text or said("steps", text):
-            self.definition = said("steps", text) or "quiet"
-        elif said("places", text):
-            self.definition = f"goes nothing {braced(said('places', text))}"
-        elif candidate:
-            of = f"(type_of {candidate['type']})" if candidate["type"] else "the_prefix"
-            self.definition = f"goes {of} {braced(said('places', candidate['place'] or 'in a literal'))}"
-        else:
+        self.definition = said("steps", text) if text else "quiet"
+        if not self.definition:
             self.made, *marks = split(text.removeprefix("name = "))
             self.is_listed, self.is_candidate = bool(marks) and "unlisted" not in marks, "candidate" in marks
             marked = [str(mark).lower() for mark in (self.is_listed, self.is_name, self.is_candidate)]

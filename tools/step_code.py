@@ -4,7 +4,7 @@ import re
 
 import grammar
 from files import template
-from meanings import ALL_PARTS, CODE, PARTS, STEP, TABLE, made, said
+from meanings import ALL_PARTS, CODE, STEP, TABLE, made, said
 from notation import Steps, applied, camel, snake
 from rules import TOKENS
 from rust_layout import arm, split
@@ -26,19 +26,7 @@ def made_step(step):
 
 def code(step):
     """What is done, in code."""
-    place = said("places", step.text, CODE)
-    if step.text == "in its types":
-        return ITS_TYPES
-    if step.text == "under it":
-        return f"Step::Go {{ candidate: None, then: {place}, packs: None }}"
-    if place:
-        return f"self.go({place})"
-    candidate = re.fullmatch(r"list (?:the name|type (?P<type>\d))(?:, (?P<place>.*))?", step.text)
-    if not candidate:
-        return made_step(step)
-    then = said("places", candidate["place"] or "in a literal", CODE)
-    of = f"type_candidate(symbol, kept, {PARTS[int(candidate['type'])]})" if candidate["type"] else "prefix_candidate(symbol, kept)"
-    return f"Step::Go {{ candidate: self.{of}, then: {then}, packs: self.packs }}"
+    return ITS_TYPES if step.text == "in its types" else said("steps", step.text, CODE) or made_step(step)
 
 # what code by hand does: tests, packs, an M, and what the ABI's grammar doesn't have
 def is_by_hand(step):

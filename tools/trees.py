@@ -20,7 +20,6 @@ from rules import WITH_CODE_BEFORE, families
 from splicing import WRITTEN, rewritten, with_arms, with_constants, with_declarations, with_imports, with_requires
 
 LINKED = "cpp_link/proofs/linked/Linked"
-NOTED = "cpp_term/proofs/MeaningNoted.antt"
 
 def arms_by_production():
     """Path, function, and the arms of its match that are written."""
@@ -44,23 +43,13 @@ def whole_files(crates):
     """The files of which all is written, by their paths in the folder of the crates, and their texts."""
     rare = {family: productions for family, productions in families().items() if family != "Common"}
     return {
-        "cpp_link/specs/Families.antt": clauses.family_specs(),
-        "cpp_link/proofs/FamilyArms.antt": clauses.family_laws(),
+        **dict([clauses.family_specs(), clauses.family_laws()]),
         **{f"{LINKED}/outcome_of_{snake(family)}/Answers.antt": clauses.family_answers(family, own) for family, own in rare.items()},
         **{path: f"-- {WRITTEN}\n{text}" for path, text in step_code.answers()},
         **{f"{LINKED}/{function}/Answers.antt": text for function, text in clauses.common_answers()},
         "cpp_tree/proofs/nodes/Nodes/noted/Answers.antt": node_code.noted_answers(crates, [node for node, _ in node_clauses.noted_nodes()]),
         "cpp_tree/proofs/view/view_of_own/Answers.antt": node_code.seen_answers(),
     }
-
-def lemmas():
-    """Runs of lemmas, each with its path, that are beside others by hand."""
-    for names, *of in ((clauses.READ_OF_VALUES, "value_", "Value", "part", "noted_value", "noted_values", "part_noted",
-                        "(leaf_.tree t listed)", "pub "),
-                       (clauses.READ_OF_ARGUMENTS, "builder_", "Argument", "argument", "noted_argument", "noted_arguments",
-                        "argument_noted", "(a_tree x)", "")):
-        yield NOTED, list(clauses.read_noted(names, *of))
-    yield from ((path, ["\n".join(lines)]) for path, lines in spellings.lemmas(named(PRESSED)))
 
 def declarations(crates):
     """The path and the name of each declaration that is written whole, and the lines of its clauses."""
@@ -76,7 +65,8 @@ def edits(crates):
     yield from ((path, rewritten, [name, lines]) for path, name, lines in declarations(crates))
     yield from splicing.wrapper_edits()
     yield from layouts.edits(crates)
-    yield from ((path, with_declarations, [owns]) for path, owns in lemmas())
+    yield "cpp_term/proofs/MeaningNoted.antt", with_declarations, [list(clauses.read_noted())]
+    yield from ((path, with_declarations, [["\n".join(lines)]]) for path, lines in spellings.lemmas(named(PRESSED)))
     yield from ((path, with_requires, [function, lines]) for path, function, lines in step_code.asked())
     yield from ((path, with_arms, [function, lines]) for path, function, lines in arms_by_production())
 
