@@ -10,7 +10,7 @@ from node_clauses import TYPES, node_pattern, without
 from node_code import nodes
 from notation import Steps, answer, camel
 from printing import imports
-from splicing import WRITTEN, rewritten, with_declarations
+from splicing import rewritten, with_declarations
 
 STORED, SHOWN = "c.stored.result c.stored.ensures.own _ c.stored.ensures.tree", "c.args.self.now c.args.ctx.detail"
 CONTEXT, DETAIL = "(context_of c.args.ctx)", "c.args.ctx.detail"
@@ -144,8 +144,8 @@ def others(found):
 def whole_file(function, shown):
     """The file of the answers of a function that has none by hand."""
     body = "\n\n".join("\n".join(lines) for lines in shown)
-    uses = [*imports(dict(ARMS["names"]), body, "use"), f"use Rattle.cpp_layout.proofs.symbol.Symbol.{function}.Goals as goal"]
-    return "\n".join([f"-- {WRITTEN}", *uses, "", body]) + "\n"
+    return template("cpp_layout/answers.antt", script="tools/trees.py", uses=imports(dict(ARMS["names"]), body, "use"), function=function,
+                    answers=body)
 
 def edits(crates):
     """The path of each file with what is shown, how its text changes, and by what."""
