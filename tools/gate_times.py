@@ -190,6 +190,8 @@ PARTS = {
     *("Reads", "Statement", "Symbol", "TheLink", "TheLinks", "TheReach", "Tie", "View"),
 }
 
+BEGINS = r"^\s*(?:pub(?:\([a-z]+\))? )?(?:const )?fn "
+
 def words_of_check(crate, copy, kept):
     """The checker's command for a crate of the repository, over nothing but what was built below it."""
     kit = Path(subprocess.run(["rt", "doc"], stdout=subprocess.PIPE, text=True).stdout.strip()).parent
@@ -205,18 +207,14 @@ def words_of_check(crate, copy, kept):
 
 def goals_by_text(crate):
     """Of each function, by its name alone: the clauses that it ensures and the ways out of it, counted in its text."""
-    found, name, clauses, ways = {}, "", 0, 1
+    found = defaultdict(lambda: (0, 1))
     for file in sorted((crate / "src").rglob("*.rt")):
-        for line in [*file.read_text().splitlines(), "fn end"]:
-            line = line.partition("//")[0]
-            begins = re.match(r"\s*(?:pub(?:\([a-z]+\))? )?(?:const )?fn (\w+)", line)
-            if begins:
-                found[name] = max(found.get(name, (0, 1)), (clauses, ways))
-                name, clauses, ways = begins[1], 0, 1
-            elif re.match(r"\s*ensures", line):
-                clauses += 1
-            elif not re.match(r"\s*(requires|invariant)", line):
-                ways += len(re.findall(r"\breturn\b|\?[;)., ]|\?$", line))
+        text = re.sub(r"//.*", "", file.read_text())
+        for name, body in re.findall(rf"{BEGINS}(\w+).*\n((?:(?!{BEGINS}).*\n)*)", text, re.M):
+            lines = [line.strip() for line in body.splitlines()]
+            code = "\n".join(line for line in lines if not line.startswith(("requires", "ensures", "invariant")))
+            ways = 1 + len(re.findall(r"\breturn\b|\?[;)., ]|\?$", code, re.M))
+            found[name] = max(found[name], (sum(line.startswith("ensures") for line in lines), ways))
     return found
 
 def by_function(kept, scale):
@@ -244,7 +242,7 @@ def time_functions(name, copy):
     def row(seconds, parts, rest):
         print(f"{seconds:8.1f}" + "".join(f"{parts[column]:8.1f}" for column in columns) + f"  {rest}")
     for function, parts in sorted(functions.items(), key=lambda entry: -entry[1].total()):
-        clauses, ways = goals.get(function.rpartition(".")[2], (0, 1))
+        clauses, ways = goals[function.rpartition(".")[2]]
         if parts.total() >= 0.5:
             row(parts.total(), parts, function + (f"  {clauses} x {ways}" if clauses and not parts["files"] else ""))
     sums = sum(functions.values(), Counter())
