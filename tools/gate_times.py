@@ -226,7 +226,8 @@ def by_function(kept, scale):
         names, part = file.partition("-proofs.")[2].split("."), ""
         while len(names) > 1 and names[-1] in PARTS:
             part = names.pop()
-        found[".".join(names) if part else file][{"Lts": "code", "Proof": "goals"}.get(part, "rest" if part else "files")] += (at - before) * scale
+        column = {"Lts": "code", "Proof": "goals"}.get(part, "rest" if part else "files")
+        found[".".join(names) if part else file][column] += (at - before) * scale
     return found
 
 def time_functions(name, copy):

@@ -1,5 +1,5 @@
-"""Writes what parts of names and names may be, with their words and numbers: from tools/tables/part_words.txt, as code and as definitions, and for
-callers in C, Python and Rust."""
+"""Writes what parts of names and names may be, with their words and numbers: from tools/tables/part_words.txt, as code and as definitions,
+and for callers in C and Rust."""
 from files import entries, read, template, whole
 from splicing import replaced
 
@@ -13,8 +13,8 @@ def numbered(sort):
 
 def enumerators(sort):
     """The numbers of an enum, as C has them."""
-    last = len(numbered(sort))
-    return [f"    SYMDEMANGLE_{sort.upper()}_{word.upper()} = {number}{',' * (number < last)} /* {meaning[0].lower()}{meaning[1:].rstrip('.')} */"
+    front, last = f"    SYMDEMANGLE_{sort.upper()}", len(numbered(sort))
+    return [f"{front}_{word.upper()} = {number}{',' * (number < last)} /* {meaning[0].lower()}{meaning[1:].rstrip('.')} */"
             for _, word, meaning, number in numbered(sort)]
 
 def words(sort):

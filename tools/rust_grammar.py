@@ -60,4 +60,5 @@ def files(crates):
     # the texts of basic types, in code and in definitions, and that none has a text below the letters
     yield whole("rust_tree/src/basic_types.rt", texts=texts)
     yield "rust_tree/specs/BasicTypes.antt", template("rust_tree/BasicTexts.antt", texts=texts)
-    yield whole("rust_tree/proofs/BasicTypes.antt", facts=", ".join(f"ne_eqb {ord(letter)} n (λ e. omega (arith, e, h))" for letter in BASIC))
+    facts = ", ".join(f"ne_eqb {ord(letter)} n (λ e. omega (arith, e, h))" for letter in BASIC)
+    yield whole("rust_tree/proofs/BasicTypes.antt", facts=facts)

@@ -117,8 +117,8 @@ UNTYPED = [of for of in SUBTREES if of != "type"]
 
 def filled(name, of, **holes):
     """A template for a family of nodes, without the newline at its end."""
-    return template(f"rust_tree/{name}", of=of, own=of.capitalize(), family=FAMILIES[of], name="c" if of == "constant" else BY_NAME[of].called,
-                    need="need" if of == "path" else f"need_of_{of}", **holes).rstrip("\n")
+    called, need = "c" if of == "constant" else BY_NAME[of].called, "need" if of == "path" else f"need_of_{of}"
+    return template(f"rust_tree/{name}", of=of, own=of.capitalize(), family=FAMILIES[of], name=called, need=need, **holes).rstrip("\n")
 
 def of_subtrees(name, families=UNTYPED):
     """What is said of a node of each family but types, which may be paths too."""

@@ -214,8 +214,9 @@ def made_again(function, before, after=(), made="", given=lambda name, sort: nam
     def right(tree):
         subtrees = names(tree, *SCOPED)
         facts = dict(zip(subtrees, halves(subtrees, *after))) if after else {}
-        return of_subtrees(tree, made + tree[0], lambda name, sort: f"({applied(function, [*before, name, *filter(None, [facts.get(name)])])})",
-                           given=given)
+        def fact(name, sort):
+            return f"({applied(function, [*before, name, *filter(None, [facts.get(name)])])})"
+        return of_subtrees(tree, made + tree[0], fact, given=given)
     return carried(cases(function, before, list(after), right, "refl"))
 
 # ## Declarations

@@ -6,7 +6,8 @@
 CRATES is the folder of the crates, the one beside this script's folder if it isn't given. Some scripts read what others write, so
 all run again until nothing changes. Names each file that changed. With `--check` it writes nothing, names what it would change, and
 ends with status 1 if there is anything, as it does for a file that says wrongly which script writes it, and for a script that can't be
-run. What the scripts write is laid out as `rt fmt` has it. The rows that rows.py writes are left out, since their answers are another implementation's."""
+run. What the scripts write is laid out as `rt fmt` has it. The rows that rows.py writes are left out, since their answers are another
+implementation's."""
 import os
 import sys
 
