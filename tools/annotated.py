@@ -120,17 +120,11 @@ def seen(here):
     lemmas = []
     for module, name in ((module, name) for module, names in SEEN.items() for name in names):
         block = next(block for block in here[module][2] if name in names_of(block))
-        lemmas += ["", f"pub {name}_noted : (s : Place) (t : Term) → noted_{module}.{name} (annotate s t) ≡ plain_{module}.{name} t",
-                   f"unfolding noted_{module}.{name} plain_{module}.{name} annotate",
-                   *[f"{name}_noted s {pattern} = refl" for pattern in re.findall(rf"^{name} (.*?) = ", block, re.M)]]
-    body = "\n".join(lemmas)
+        clauses = [f"{name}_noted s {pattern} = refl" for pattern in re.findall(rf"^{name} (.*?) = ", block, re.M)]
+        lemmas.append((module, name, "\n".join(clauses)))
+    body = "\n".join(["Term", *(clauses for _, _, clauses in lemmas)])
     shapes = [name for block in here["Term"][2] if "pub data Term" in block for name in names_of(block) if used(name, body)]
-    uses = ["use Rattle.std.specs.Prelude.{◌≡◌, refl}", f"use Rattle.cpp_grammar.specs.Term.{{{', '.join(shapes)}}}",
-            "use Rattle.cpp_term.specs.Annotated.{Place, annotate}",
-            *[f"use Rattle.{crate}.specs.{module} as {kind}_{module}"
-              for module in SEEN for crate, kind in (("cpp_grammar", "plain"), ("cpp_term", "noted"))]]
-    says = f"{WRITTEN}What is seen of a tree from outside is seen of the annotated tree."
-    return "cpp_term/proofs/SeenNoted.antt", "\n".join([says, *uses]) + "\n" + body + "\n"
+    return sources.whole("cpp_term/proofs/SeenNoted.antt", shapes=", ".join(shapes), modules=SEEN.keys(), lemmas=lemmas)
 
 def files(crates):
     """What is written: each file's path in the folder of the crates, and its text."""
