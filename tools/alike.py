@@ -14,14 +14,12 @@ def arms(crates, path, function, begins, *by_hand):
     """Each arm, with the step of the last call in it."""
     body = dict(bodies(read(f"{crates}/{path}")))[function]
     steps = calls(body, begins)
-    for arm, text in arms_of(body, begins):
+    # an arm may be of a constant of a module beside the file
+    text = read(f"{crates}/{os.path.dirname(path)}/{begins}.rt", "")
+    numbers = dict(re.findall(r"^pub const (\w+): \w+ = (\d+);", text, re.M))
+    for arm, _ in arms_of(body, begins):
         if arm not in by_hand:
-            yield constants(crates, path, begins).get(arm, arm), steps.get(arm, ("", ""))[1]
-
-def constants(crates, path, module):
-    """The constants of a module beside a file, if it is one."""
-    text = read(f"{crates}/{os.path.dirname(path)}/{module}.rt", "")
-    return dict(re.findall(r"^pub const (\w+): \w+ = (\d+);", text, re.M))
+            yield numbers.get(arm, arm), steps.get(arm, ("", ""))[1]
 
 def exits(crates, path, function, *calls):
     """Each clause of what is so where a function answers, at each call at which it may end with a refusal; with the step that forwards

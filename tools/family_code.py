@@ -4,7 +4,7 @@ import re
 
 import grammar
 from files import sections, template
-from notation import snake
+from notation import alone_or, snake
 from rules import ABOVE, coded_cases, families
 from meanings import CODE, made, said
 from rust_layout import arm, split
@@ -55,11 +55,8 @@ def files(crates):
     for module, said_of in FAMILIES.items():
         functions = "\n\n".join(function(family, says, families()[family], rows) for family, says in said_of.items())
         code = "\n".join(line for line in functions.split("\n") if not line.strip().startswith("//"))
-        uses = []
-        for path, names in USES:
-            used = [name for name in names if re.search(rf"(?<![\w.:]){name}(?=\(|::|,)", code)]
-            if used:
-                uses.append(f"use {path}::{used[0] if len(used) == 1 else '{' + ', '.join(used) + '}'};")
+        named = ((path, [name for name in names if re.search(rf"(?<![\w.:]){name}(?=\(|::|,)", code)]) for path, names in USES)
+        uses = [f"use {path}::" + alone_or(used, lambda several: "{" + ", ".join(several) + "}") + ";" for path, used in named if used]
         uses += ["use crate::linked::Linked;", "use crate::part::{Outcome, Part, Surroundings};",
                  "use cpp_grammar::production::Production;"]
         yield f"cpp_link/src/{module}.rt", template("cpp_link/families.rt", says=SAYS[module],

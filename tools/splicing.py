@@ -109,11 +109,6 @@ def filled(text):
     return [fill(text, tree=tree, production=production, letter=letter, code=str(ord(letter)), name=tree.upper(), text=TEXTS[tree.upper()])
             for tree, production, letter in WRAPPERS]
 
-def sections():
-    """Each section of the templates: its mark, the path of its file, and its text."""
-    for mark, path, text in re.findall(r"^(===|\+\+\+|>>>) (.*)\n((?:(?!===|\+\+\+|>>>).*\n)*)", read(f"{TEMPLATES}/wrappers.txt"), re.M):
-        yield mark, path, text.rstrip("\n")
-
 def with_names(text):
     """The text, where what is named after each wrapper is imported beside what is named after the wrapper before it."""
     for (before, *_), (after, *_) in zip(WRAPPERS, WRAPPERS[1:]):
@@ -141,9 +136,10 @@ def with_numbers(text):
 def wrapper_edits():
     """The path of each file by hand that has something for each wrapper, how its text changes, and by what."""
     yield NUMBERS, with_numbers, []
-    for mark, path, text in sections():
+    # each section of the templates begins with its mark and the path of its file
+    for mark, path, text in re.findall(r"^(===|\+\+\+|>>>) (.*)\n((?:(?!===|\+\+\+|>>>).*\n)*)", read(f"{TEMPLATES}/wrappers.txt"), re.M):
         yield path, with_names, []
         if mark == "===":
-            yield path, with_declarations, [filled(text)]
+            yield path, with_declarations, [filled(text.rstrip("\n"))]
         else:
-            yield path, with_texts, [list(filter(None, text.split("\n"))) if mark == "+++" else [text]]
+            yield path, with_texts, [list(filter(None, text.split("\n"))) if mark == "+++" else [text.rstrip("\n")]]
