@@ -5,7 +5,7 @@ import re
 from cpp_trees import BELOW, BYTES, CLAUSES, ENCODINGS, NAMES, PIECES, SIGNED, SORTS, VIEWED, called, named
 from files import columns, sections
 from node_code import nodes, placed
-from notation import alone_or, applied, braced, rewritten, together
+from notation import alone_or, applied, braced, rewritten
 from tree_clauses import SCOPED, SUBTREES, arguments, cases, joined_by
 
 # the types of a node's arguments, and for some the letters of arguments where nodes are told apart
@@ -87,8 +87,7 @@ def passed(facts):
         return rewritten(facts)
     return facts[0] if facts[0].startswith("piece") else f"ap passed ({facts[0]})"
 
-JOINED = {"product": product, "together": together, "rewritten": rewritten, "rewritten alone": lambda facts: alone_or(facts, rewritten),
-          "both_are": both_are, "depending": depending, "passed": passed}
+JOINED = {"product": product, "both_are": both_are, "depending": depending, "passed": passed}
 
 def of_arguments(said, joined, none):
     """What is said of a node by its arguments, as the table says it of them."""
@@ -103,7 +102,7 @@ def of_arguments(said, joined, none):
 def folds():
     """Those that are folds of nodes: path, name, and the lines."""
     for path, name, before, after, said, joined, none, others, names in (columns(line) for line, _ in sections("cpp_node_folds.txt")):
-        right = of_arguments(said, JOINED.get(joined) or joined_by(joined.removeprefix("by ")), none or None)
+        right = of_arguments(said, JOINED.get(joined) or joined_by(joined), none or None)
         yield path, name, node_cases(name, before.split(), after.split(), right, others or None, NAMES[names])
 
 # ## What is noted
