@@ -101,31 +101,16 @@ def text_answers():
 
 class Coded:
     """A function from a letter to the number of a text of a group: what it looks up, its rows, its letters, its list and its lemma."""
-    def __init__(self, name, says, entries, table, letters="", code="letter ∷ []", dropped=False):
-        self.name, self.says, self.dropped, self.letters = name, says, dropped, f"{letters or name}_letters"
-        self.lemma, looked_up = f"no_{letters or name}", f"look_up ({code}) {table}"
-        self.shown = f"drop 5 ({looked_up})" if dropped else looked_up
+    def __init__(self, name, letters, table, code, says):
+        self.name, self.says, self.dropped = name, says, name.startswith("last_of")
+        self.letters, self.lemma, looked_up = f"{letters}_letters", f"no_{letters}", f"look_up ({code}) {table}"
+        self.shown = f"drop 5 ({looked_up})" if self.dropped else looked_up
         group = name.removesuffix("_with_d").upper()
-        self.rows = [(code[-1], group + (f" + {place}" if place else ""), text.strip()) for place, (code, text) in entries]
+        self.rows = [(own[-1], group + (f" + {place}" if place else ""), text.removeprefix("std::" if self.dropped else "").strip())
+                     for place, (own, text) in enumerate(NAMINGS[table]) if len(own) == code.count("∷")]
         self.codes = "".join(letter for letter, _, _ in self.rows)
 
-def builtins(length):
-    """The builtin types with codes of this length, with their places."""
-    return [row for row in enumerate(BUILTINS) if len(row[1][0]) == length]
-
-LAST_NAMES = [(code, text.removeprefix("std::")) for code, text in words.ABBREVIATIONS]
-CODED = [
-    Coded("builtin", "The text of a builtin type with a code of one letter.", builtins(1), "builtin_texts"),
-    Coded("builtin_with_d", "The text of a builtin type with a code of D and a letter.", builtins(2), "builtin_texts", "d",
-          "68 ∷ letter ∷ []"),
-    Coded("abbreviation", "The text of an abbreviation, after S.", enumerate(words.ABBREVIATIONS), "abbreviation_texts"),
-    Coded("last_of_abbreviation", "The last name of an abbreviation.", enumerate(LAST_NAMES), "abbreviation_texts", "abbreviation",
-          dropped=True),
-    Coded("special", "The text before the type of a special name, after T.", enumerate(words.ALL_SPECIALS), "special_texts"),
-    Coded("named_special", "The text before the name of a special name, by the last letter of its code.",
-          enumerate(words.NAMED_SPECIALS), "named_special_texts"),
-    Coded("ending", "The ending of an integer literal of a type.", enumerate(words.ENDINGS), "literal_endings"),
-]
+CODED = [Coded(*row) for row in words.TABLE["coded"]]
 
 def layout_codes():
     """The numbers of the texts by their codes, in code."""
