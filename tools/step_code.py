@@ -118,28 +118,16 @@ def symbol(part):
     """A symbol of a rule, in definitions."""
     return part if part in TOKENS else f"(OfKind {snake(part).upper()})"
 
+FLOWS = [(re.compile(r" \| ".join(said)), lemma) for *said, lemma in TABLE["flows"]]
+
 def flow(production, row, parts):
     """How the candidates of a production flow, by its row: its lemma, with what it requires; nothing where it is by hand, or as
     for most."""
     before = row.before[1] if len(row.before) == 2 and row.before[0] == "quiet" and row.onward == "quiet" else ""
-    name, first = f"Production.{production} refl around place", symbol(parts[0]) if parts else ""
-    named = re.match(r"becomes .* (true|false) true false$", before)
-    if named and row.form in ("a_name unlisted", "in_place"):
-        kind, known = snake(parts[1]).upper(), dict(TABLE["after_names"])[parts[1]]
-        if named[1] == "true" and before.startswith("becomes (of "):
-            return f"whole_name {name} _ {first} {kind} refl (λ vs. refl) (λ a v. refl) {known}"
-        if named[1] == "true":
-            return f"listed_name {name} _ {first} {kind} refl (λ v. refl) (λ a v. refl) {known}"
-        return f"made_name {name} _ _ {first} {kind} refl (λ vs. refl) (λ vs. refl) (λ a v. refl) {known}"
-    if named and named[1] == "false" and row.form == "handed 1" and parts[1] == "NestRest":
-        return f"nested {name} _ {first} refl (λ v. refl) (λ vs. refl) (λ a v. refl)"
-    if before == "goes (type_of 0) as_before":
-        return f"of_type {name} _ {first} {symbol(parts[1])} refl (λ a v. refl) (λ a v. refl) (λ v. refl) (λ byte vs. omega arith)"
-    if row.gain in ("type_of 0", "unqualified_of 0") and row.form == "finished 0":
-        return f"{'typed' if row.gain == 'type_of 0' else 'unqualified'} {name} {first} refl (λ a v. refl) (λ v. refl) (λ v. refl)"
-    if row.gain == "itself":
-        return f"own_type {name} _ (parts_of Production.{production}) refl refl refl (λ byte vs. refl) (λ vs. refl)"
-    return None
+    first, second = [*parts, "", ""][:2]
+    lemma = next((lemma for pattern, lemma in FLOWS if pattern.fullmatch(f"{before} | {row.form} | {row.gain}")), "")
+    return lemma.format(name=f"Production.{production} refl around place", production=production, first=symbol(first),
+                        second=symbol(second), kind=snake(second).upper(), after=dict(TABLE["after_names"]).get(second, ""))
 
 def flows():
     """How candidates flow, for each production whose row says it."""
