@@ -9,15 +9,8 @@ from rules import ABOVE, coded_cases, families
 from meanings import CODE, made, said
 from rust_layout import arm, split
 
-# of each file what it says, and its families, each with what is said of it
-SAYS, FAMILIES = {}, {}
-for head, _ in sections("cpp_families.txt"):
-    name, says = head.split(": ", 1)
-    if name.startswith("file "):
-        module = name.removeprefix("file ")
-        SAYS[module], FAMILIES[module] = says, {}
-    else:
-        FAMILIES[module][name] = says
+# each file, what it says, and its families, each with what is said of it
+FILES = [(*head.split(": ", 1), [line.split(": ", 1) for line, _ in lines]) for head, lines in sections("cpp_families.txt")]
 
 # ## What a row means
 
@@ -52,12 +45,12 @@ def function(family, says, productions, rows):
 def files(crates):
     """What is written: each file's path in the folder of the crates, and its text."""
     _, _, rows = grammar.wide()
-    for module, said_of in FAMILIES.items():
-        functions = "\n\n".join(function(family, says, families()[family], rows) for family, says in said_of.items())
+    for module, module_says, own in FILES:
+        functions = "\n\n".join(function(family, says, families()[family], rows) for family, says in own)
         code = "\n".join(line for line in functions.split("\n") if not line.strip().startswith("//"))
         named = ((path, [name for name in names if re.search(rf"(?<![\w.:]){name}(?=\(|::|,)", code)]) for path, names in USES)
         uses = [f"use {path}::" + alone_or(used, lambda several: "{" + ", ".join(several) + "}") + ";" for path, used in named if used]
         uses += ["use crate::linked::Linked;", "use crate::part::{Outcome, Part, Surroundings};",
                  "use cpp_grammar::production::Production;"]
-        yield f"cpp_link/src/{module}.rt", template("cpp_link/families.rt", says=SAYS[module],
+        yield f"cpp_link/src/{module}.rt", template("cpp_link/families.rt", says=module_says,
                 uses=sorted(uses, key=lambda line: ("crate" not in line, line)), functions=functions)
