@@ -89,9 +89,9 @@ class Spelling:
         self.subtrees = [part for part in self.parts if part.tree]
         for part, side in zip(self.subtrees, ("inl", "inr")):
             part.side = side if len(self.subtrees) > 1 else ""
-        several = [f"several {self.sort}"] if len(self.parts) > 1 else []
+        front = ["nowhere"] if self.nowhere else ["tested"] if self.name in BELOW["fits"] else []
         of_component = ["compound" if self.subtrees else "leaf"] if self.sort == "component" else []
-        self.sorts = [*several, *of_component, self.sort, "others"]
+        self.sorts = [*front, f"{'several' if len(self.parts) > 1 else 'single'} {self.sort}", *of_component, self.sort, "others"]
 
 def spellings(trees):
     """The spellings of the trees that have one."""
@@ -170,30 +170,17 @@ def needed(of):
     return BELOW["fits"].get(of.name), BELOW["slot"].get(of.name, "any_type")
 
 def fitting(of):
-    """Where a tree fits."""
+    """Where a type fits, by its tests."""
     tests, slot = needed(of)
-    if of.nowhere or tests is None:
-        return "fits_nowhere" if of.nowhere else None
     inner = f"behind_bytes {braced(of.parts[0].text)} ((fits_of {of.parts[1].tree}).as_type {slot}) around allowed place cs"
-    whole = " × ".join([*(f"({test})" if "≡" in test else test for test in tests), inner])
-    return f"type_fits {of.shape} (λ slot around allowed place cs. {whole})"
+    return " × ".join([*(f"({test})" if "≡" in test else test for test in tests), inner])
 
 def adding(of):
-    """That a tree which fits adds its components."""
+    """That such a type, where it fits, adds its components."""
     tests, slot = needed(of)
-    if of.nowhere:
-        return f"nowhere-ways-add {of.shape} _"
-    if tests is not None:
-        text, fits = braced(of.parts[0].text), f"fits.{len(tests)}" if tests else "fits"
-        inner = f"(adds {of.parts[1].tree}).at fit.as_type {slot} around allowed (place + length {text}) cs {fits}"
-        added = f"after-bytes 1 2 {text} {BELOW['long'].get(of.name, NO_FACT)} ({inner})"
-        return f"type-ways-add {of.shape} _ _ (λ x w. w) (λ slot around allowed place cs fits. {added})"
-    is_leaf = of.sort == "piece" and len(of.parts) == 1 and "adds" not in BELOW["by_hand"].get(of.name, [])
-    return f"leaf-piece-add {of.shape} _ _ (omega arith) (λ x i. i)" if is_leaf else None
-
-def typed_argument(of):
-    """That a type is an argument."""
-    return "one" if of.sort in ("component", "type") and not of.nowhere else None
+    text, fits = braced(of.parts[0].text), f"fits.{len(tests)}" if tests else "fits"
+    inner = f"(adds {of.parts[1].tree}).at fit.as_type {slot} around allowed (place + length {text}) cs {fits}"
+    return f"after-bytes 1 2 {text} {BELOW['long'].get(of.name, NO_FACT)} ({inner})"
 
 # ## Spelled onto what follows
 
@@ -229,20 +216,19 @@ def lemmas(trees):
 
 # what is said of a spelling, by the words of cpp_spellings.txt
 LAWS = {"said": lambda of: spelled(of.parts, of.here, True), "spelled": lambda of: spelled(of.parts, of.here), "onto": onto, "joined": joined,
-        "fitting": fitting, "short": short, "keeping": keeping, "growing": growing, "adding": adding, "typed_argument": typed_argument,
-        "size": size}
+        "fitting": fitting, "short": short, "keeping": keeping, "growing": growing, "adding": adding, "size": size}
 
 def clauses(said, of):
     """What is said of a spelling by its sort, if anything is."""
-    form, (law, *given) = next((said[sort] for sort in of.sorts if sort in said), None), said["law"].split()
-    own = LAWS[law](of, *given) if form and "{law}" in form else ""
+    form, (law, *given) = next((said[sort] for sort in of.sorts if sort in said), ""), said.get("law", "none").split()
+    own = LAWS[law](of, *given) if "{law}" in form else ""
     return form.format(own=of.shape, sort=of.sort, law=own) if form and own is not None else None
 
 def declarations(trees):
     """Path, name, and the lines at its end."""
     for head, lines in sections("cpp_spellings.txt"):
         path, name = head.split()
-        said = dict(re.match(r"((?:several )?\S+) (.*)", line).groups() for line, _ in lines)
-        values = [(of, clauses(said, of)) for of in spellings(trees)]
+        said = dict(re.match(r"((?:several |single )?\S+) ?(.*)", line).groups() for line, _ in lines)
+        values = [(of, clauses(said, of)) for of in spellings(trees) if name not in BELOW["by_hand"].get(of.name, [])]
         yield path, name, [*(f"{name} {said['left'].format(own=of.shape)} = {value}" for of, value in values if value is not None),
                            *([f"{name} {said['rest']}"] if "rest" in said else [])]
