@@ -62,11 +62,7 @@ GROUPS = {
 }
 BEGINS = dict(zip(GROUPS, accumulate([0, *map(len, GROUPS.values())])))
 # the functions of texts, each with its groups, in their order: each leaves what is past its own texts to the next one
-TEXT_FUNCTIONS = {
-    "fixed_text": ["PLAIN"], "suffix_text": ["SUFFIX"], "builtin_text": ["BUILTIN"],
-    "remaining_text": ["ABBREVIATION", "LAST_OF_ABBREVIATION", "SPECIAL", "NAMED_SPECIAL", "ENDING", "BLANKED", "OPERATOR_ALONE"],
-    "operation_text": ["OPERATION"], "operator_text": ["OPERATOR"],
-}
+TEXT_FUNCTIONS = {name: groups for name, *groups in words.TABLE["function"]}
 
 def text_lists():
     """The texts that no code has, as definitions."""
