@@ -6,7 +6,7 @@ import grammar
 from files import sections, template
 from notation import alone_or, snake
 from rules import ABOVE, coded_cases, families
-from meanings import CODE, made, said
+from meanings import CODE, TABLE, made, said
 from rust_layout import arm, split
 
 # each file, what it says, and its families, each with what is said of it
@@ -27,11 +27,6 @@ def outcome(means):
 
 # ## Files
 
-# what each file has from other modules
-USES = [("crate::expressions", "first_letter second_letter".split()), ("crate::meaning", "items made piece qualified tree".split()),
-        ("crate::numbers", "from_byte local_number normal one_byte signed_digits".split()),
-        ("cpp_tree::node", "Adjustment Mark Node Piece Thunk".split()), ("cpp_tree::nodes", "ABSENT NIL".split())]
-
 def function(family, says, productions, rows):
     """The function of a family."""
     arms = []
@@ -47,10 +42,8 @@ def files(crates):
     _, _, rows = grammar.wide()
     for module, module_says, own in FILES:
         functions = "\n\n".join(function(family, says, families()[family], rows) for family, says in own)
-        code = "\n".join(line for line in functions.split("\n") if not line.strip().startswith("//"))
-        named = ((path, [name for name in names if re.search(rf"(?<![\w.:]){name}(?=\(|::|,)", code)]) for path, names in USES)
+        code = "\n".join(line for line in f"impl Linked {{\n{functions}".split("\n") if not line.strip().startswith("//"))
+        named = ((path, [name for name in names.split() if re.search(rf"(?<![\w.:]){name}(?=\(|::|,| {{)", code)])
+                 for path, names in TABLE["uses"])
         uses = [f"use {path}::" + alone_or(used, lambda several: "{" + ", ".join(several) + "}") + ";" for path, used in named if used]
-        uses += ["use crate::linked::Linked;", "use crate::part::{Outcome, Part, Surroundings};",
-                 "use cpp_grammar::production::Production;"]
-        yield f"cpp_link/src/{module}.rt", template("cpp_link/families.rt", says=module_says,
-                uses=sorted(uses, key=lambda line: ("crate" not in line, line)), functions=functions)
+        yield f"cpp_link/src/{module}.rt", template("cpp_link/families.rt", says=module_says, uses=uses, functions=functions)
