@@ -53,6 +53,12 @@ class Steps:
         again = arms.count(arm)
         return call + (f"-in-{arm}" if len(arms) > 1 else "") + (f"-{again}" if 1 < again < len(arms) else "")
 
+def is_used(name, text):
+    """Whether a text of definitions names this."""
+    if "◌" in name:
+        return f" {name.strip('◌')} " in text
+    return re.search(rf"(?<![\w.:-]){re.escape(name)}(?![\w-])", text) is not None
+
 def quoted(text):
     """A text between quotes."""
     return '"' + text.replace("\\", "\\\\").replace('"', '\\"') + '"'

@@ -4,7 +4,7 @@ import os
 import re
 
 from files import columns, read, sections, template, whole
-from notation import answer
+from notation import answer, is_used
 
 (_, NAMED), (_, OF_SORTS), (_, ADDS), *SHOWN = sections("cpp_shown.txt")
 # names that rows and contracts may name, by module, and what modules are called
@@ -92,12 +92,6 @@ class Row:
                      **{module: names for module, names in NAMES.items() if "Prelude" not in module}, **known}
         return template("cpp_layout/answers.antt", script="tools/printing.py", uses=imports(by_module, shown, "use"), function=self.name,
                         answers=answer("returns-clause-shows", f" {shown}", given="g c"))
-
-def is_used(name, text):
-    """Whether a text names this."""
-    if "◌" in name:
-        return f" {name.strip('◌')} " in text
-    return re.search(rf"(?<![\w.:-]){re.escape(name)}(?![\w-])", text) is not None
 
 def imports(names, text, use):
     """The imports of what a text names."""
