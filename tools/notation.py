@@ -1,5 +1,6 @@
 """How the scripts write what code and definitions have in common: from a Python name, list or text to its form in Rattle and in antt."""
 import re
+from functools import reduce
 
 def snake(name):
     """`SomeName` as `some_name`."""
@@ -28,6 +29,10 @@ def listed(items):
 def alone_or(parts, joined):
     """The one part, or what several are joined to."""
     return parts[0] if len(parts) == 1 else joined(parts)
+
+def greatest(numbers):
+    """The greatest of some numbers, if there are any."""
+    return reduce(lambda whole, more: f"max {braced(whole)} {braced(more)}", numbers) if numbers else ""
 
 def together(facts):
     """Facts as one: the trivial one if there are none, the one, or all in parentheses."""

@@ -30,6 +30,8 @@ for head, _ in sections("rust_grammar.txt"):
     else:
         KINDS[name] = {taken[0]: CLASSES.get(taken[2:], taken[2:]) for taken in said.split()}, given == ["empty"]
 RULES = dict(sorted(RULES.items()))
+# and of each production its letter, whether it takes its byte, and its symbols
+RULE_OF = {production: (letter, takes, symbols) for letter, (production, takes, symbols) in RULES.items()}
 
 def symbol(name):
     """A symbol in code."""

@@ -4,7 +4,7 @@ templates/rust_tree."""
 import textwrap
 
 from files import template
-from notation import Steps, rewritten, together
+from notation import Steps, greatest, rewritten, together
 from rust_parts import BY_NAME, NODES, WRITTEN
 from rust_spelled import names_of
 from rust_trees import FAMILIES, MUTUAL, NUMERIC
@@ -60,12 +60,9 @@ def node_parts(of, made):
 
 def node_need(of, made):
     """How many lifetimes a node needs."""
-    needed = [f"(need_at nodes {field})" if part.name in MUTUAL else field
+    needed = [f"need_at nodes {field}" if part.name in MUTUAL else field
               for field, part in made.pairs if part.name in (*MUTUAL, "lifetime", "some_lifetime")]
-    whole = needed[0] if needed else "0"
-    for place, more in enumerate(needed[1:]):
-        whole = f"max {f'({whole})' if place else whole} {more}"
-    return broken(f"{of}_need{'s' if of in ('path', 'type') else ''} nodes {node_pattern(made)} =", unwrapped(whole, len(needed)))
+    return broken(f"{of}_need{'s' if of in ('path', 'type') else ''} nodes {node_pattern(made)} =", greatest(needed) or "0")
 
 def tree_grown(of, made):
     """That a node's tree stays as nodes are added."""

@@ -36,7 +36,7 @@ class Part:
         self.own, self.other, self.first = one.get("own"), one.get("other", self.name), one.get("first")
         self.good, self.lifetimes, self.good_missing = one.get("good"), one.get("lifetimes"), one.get("good_missing")
         self.good_fronts = ["good.0", one.get("good_second", "good.0")]
-        self.called, self.press, self.values = one.get("called"), one.get("press"), one.get("values")
+        self.called, self.press, self.values, self.slot = (one.get(word) for word in ("called", "press", "values", "slot"))
         self.why, self.forms = one.get("why", "").replace("CLOSED", "(omega (arith, need_is))"), one.get("forms", "@").split(" | ")
 
 def front_of(names, *given):
@@ -49,7 +49,7 @@ BY_NAME = {part.name: part for part in PARTS.values()}
 
 def parts_of(production):
     """The sorts of the parts of a production, by the symbols of its rule: a token's sort is that which its production takes it for."""
-    symbols = next(symbols for own, takes, symbols in rust_grammar.RULES.values() if own == production)
+    _, _, symbols = rust_grammar.RULE_OF[production]
     tokens = {"Name": "NAME", "Hex": "Base62" if production == "CharConstant" else "Hex"}
     return [PARTS[tokens.get(symbol, symbol)] for symbol in symbols if tokens.get(symbol, symbol) in PARTS]
 
