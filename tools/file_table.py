@@ -1,7 +1,7 @@
 """Writes docs/FILES.md, the table of each crate's files, from the comment that each file begins with.
 
-A file of `src/` or `specs/` says in its first lines what it is for; the table has the first sentence of that. A file that doesn't begin with
-a comment is a fault."""
+A file of `src/` or `specs/` says in its first lines what it is for; the table has the first sentence of that. A file that doesn't begin
+with a comment is a fault."""
 import os
 import re
 import sys

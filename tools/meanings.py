@@ -221,8 +221,8 @@ def antt_rows(table):
     above.update({f"(Production.{name} _)": ABOVE[name] for name in ALIKE})
     rows_of = defined_cases({production: row.definition() for production, row in table.items()})
     lines = [line for case, row in rows_of for line in (*(f"-- {says}" for says in above[case]), f"row_of {case} = {row}")]
-    own = sorted({word for word in re.findall(r"own (\w+) \(nodes", "\n".join(lines))})
-    return whole("cpp_grammar/specs/Rows.antt", makers=", ".join("new_" + tree[0] for tree in makers(table)), own=", ".join(own), rows=lines)
+    own = ", ".join(sorted({word for word in re.findall(r"own (\w+) \(nodes", "\n".join(lines))}))
+    return whole("cpp_grammar/specs/Rows.antt", makers=", ".join("new_" + tree[0] for tree in makers(table)), own=own, rows=lines)
 
 def files(table):
     """What is written of these rows: each file's path in the folder of the crates, and its text."""

@@ -116,7 +116,7 @@ def noted_nodes():
             yield node.name, [(next(letters[sort] if TYPES[sort][1] else others), TYPES[sort][0]) for _, sort in node.arguments]
 
 def without(node, given):
-    """That n is another node than one with these arguments and types: the field that says so, the node as it is matched, and why it isn't."""
+    """That n is another node than one with such arguments: the field that says so, the node as it is matched, and why it isn't."""
     field, own = f"not_{node.lower()}", applied(f"Node.{node}", [name for name, _ in given])
     premise = "".join(f"({name} : {type}) " for name, type in given) + "→ " if given else ""
     refuted = applied(f"other.{field}", [name for name, _ in given])

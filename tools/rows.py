@@ -106,7 +106,7 @@ def write(crates, sort, path, title, rows):
 
 def main(reference, generator, crates):
     """Writes the four files."""
-    write(crates, "printed", "cpp_grammar/proofs/ListedRows", "Symbols of each kind, and at the edges of the rules.", list(listed(reference)))
+    write(crates, "printed", "cpp_grammar/proofs/ListedRows", "Symbols of each kind, and at the edges of the rules.", [*listed(reference)])
     write(crates, "printed", "cpp_grammar/proofs/GeneratedRows", "Symbols that a generator wrote.", generated(reference, generator))
     write(crates, "pressed", "cpp_press_laws/proofs/Rows/Listed", "Pressed spellings by each rule.", list(listed_presses(reference)))
     write(crates, "pressed", "cpp_press_laws/proofs/Rows/Generated", "Pressed spellings of symbols that a generator wrote.",

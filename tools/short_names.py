@@ -69,7 +69,7 @@ def files(crates):
     own, are_polymorphic = sorted(templates(), key=lambda entry: len(entry[0])), [name for words in listed["pmr"] for name in words]
     for name, defaults in own:
         first, first_default = len(aliases), len(defaults_of)
-        aliases += [(texts.place(name), texts.place(pattern(arguments)), texts.place(alias), alias) for alias, arguments in of.pop(name, [])]
+        aliases += [(texts.place(name), texts.place(pattern(given)), texts.place(alias), alias) for alias, given in of.pop(name, [])]
         defaults_of += [(texts.place(default), name) for default in defaults]
         polymorphic = defaults[-1].replace("\2allocator", "\2pmr::polymorphic_allocator") if name in are_polymorphic else ""
         rows.append((texts.place(name), len(defaults), first_default, texts.place(polymorphic), first, len(aliases), name))

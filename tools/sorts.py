@@ -1,6 +1,6 @@
 """Sorts of the values of C++'s parts and of the arguments of its trees: checks that each row fits the parts of its production, and writes
-what the definition checks the same with. grammar.py calls it. What each maker takes is in cpp_trees.txt; cpp_words.txt says what other words
-take and give, and what code of its own gives."""
+what the definition checks the same with. grammar.py calls it. What each maker takes is in cpp_trees.txt; cpp_words.txt says what other
+words take and give, and what code of its own gives."""
 import re
 from itertools import groupby
 

@@ -1,4 +1,4 @@
-"""Writes cpp_spelled's table of what the row of each production is to the parts of a name, by the clauses of `sort_of` in its definitions."""
+"""Writes cpp_spelled's table of what each production's row is to the parts of a name, by the clauses of `sort_of` in its definitions."""
 import re
 
 from files import read, whole

@@ -215,8 +215,8 @@ def lemmas(trees):
 # ## Declarations
 
 # what is said of a spelling, by the words of cpp_spellings.txt
-LAWS = {"said": lambda of: spelled(of.parts, of.here, True), "spelled": lambda of: spelled(of.parts, of.here), "onto": onto, "joined": joined,
-        "fitting": fitting, "short": short, "keeping": keeping, "growing": growing, "adding": adding, "size": size}
+LAWS = {"said": lambda of: spelled(of.parts, of.here, True), "spelled": lambda of: spelled(of.parts, of.here), "onto": onto,
+        "joined": joined, "fitting": fitting, "short": short, "keeping": keeping, "growing": growing, "adding": adding, "size": size}
 
 def clauses(said, of):
     """What is said of a spelling by its sort, if anything is."""

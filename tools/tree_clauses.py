@@ -1,5 +1,5 @@
-"""What goes through C++'s trees by their arguments alone: from the rows of cpp_trees.py, and from cpp_folds.txt, to the clauses of definitions
-and laws. Where the table has a clause of a tree's own, that is the clause."""
+"""What goes through C++'s trees by their arguments alone: from the rows of cpp_trees.py, and from cpp_folds.txt, to the clauses of
+definitions and laws. Where the table has a clause of a tree's own, that is the clause."""
 import re
 
 import cpp_trees
