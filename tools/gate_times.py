@@ -185,10 +185,8 @@ def print_table(rows, columns):
 # ## The functions of a crate
 
 # the modules that are made of a function
-PARTS = {
-    *("Answers", "Code", "Given", "Goals", "Invariants", "Kinds", "Layout", "Lts", "Met", "Mir", "Named", "Paired", "Proof"),
-    *("Reads", "Statement", "Symbol", "TheLink", "TheLinks", "TheReach", "Tie", "View"),
-}
+PARTS = ("Answers Code Given Goals Invariants Kinds Layout Lts Met Mir Named Paired Proof Reads Statement Symbol TheLink TheLinks TheReach "
+         "Tie View").split()
 
 BEGINS = r"^\s*(?:pub(?:\([a-z]+\))? )?(?:const )?fn "
 

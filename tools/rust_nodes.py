@@ -4,7 +4,7 @@ templates/rust_tree."""
 import textwrap
 
 from files import template
-from notation import Steps, greatest, rewritten, together
+from notation import Steps, answer, greatest, rewritten, together
 from rust_parts import BY_NAME, NODES, WRITTEN
 from rust_spelled import names_of
 from rust_trees import FAMILIES, MUTUAL, NUMERIC
@@ -136,8 +136,8 @@ def view_answers(of):
         else:
             call = "view_of" if arm == "Dyn" else ["leaf", "one", "two", "three"][sum(part in SUBTREES for part in parts)]
             seen = f"c.{step(call, arm)}.ensures"
-        goal = f"returns-in-{arm}-clause-seen"
-        lines += ["", f"pub {goal} : goal.{goal}", f"{goal} c s text all bare h = {lemma} _ c.args.{own} _ c.in-{arm}.is {seen} h"]
+        shown = f" {lemma} _ c.args.{own} _ c.in-{arm}.is {seen} h"
+        lines += ["", *answer(f"returns-in-{arm}-clause-seen", shown, given="c s text all bare h")]
     lemmas = [f"{of}-by", *(["type-is"] if of == "type" else []), *(["production-by"] if "by_name-by" in step.arms else [])]
     return "\n".join([f"-- {WRITTEN}", f"use Rattle.rust_tree.proofs.Viewing.{{{', '.join(lemmas)}}}",
                       f"use Rattle.rust_tree.proofs.view.view_of_{of}.Goals as goal", *lines]) + "\n"
