@@ -5,7 +5,7 @@ import re
 from cpp_trees import BELOW, BYTES, CLAUSES, ENCODINGS, NAMES, PIECES, SIGNED, SORTS, VIEWED, called, named
 from files import columns, sections
 from node_code import nodes, placed
-from notation import alone_or, applied, braced, rewritten
+from notation import alone_or, applied, braced, listed, rewritten
 from tree_clauses import SCOPED, SUBTREES, arguments, cases, joined_by
 
 # the types of a node's arguments, and for some the letters of arguments where nodes are told apart
@@ -45,8 +45,8 @@ def fields_of():
     def right(tree):
         told = [numbers[sort].format(name) for name, sort in tree[1:] if sort in numbers]
         texts = [name if sort == BYTES else f"{name}.digits" for name, sort in arguments(tree, BYTES, SIGNED)]
-        parts = "".join(f"{name} ∷ " for name, sort in arguments(tree, *SUBTREES))
-        general = ["fields", tree[0].upper(), *(told + ["0", "0"])[:2], (texts or ["[]"])[0], f"({parts}[])" if parts else "[]"]
+        parts = braced(listed(name for name, sort in arguments(tree, *SUBTREES)))
+        general = ["fields", tree[0].upper(), *(told + ["0", "0"])[:2], (texts or ["[]"])[0], parts]
         return BELOW["fields"].get(tree[0]) or " ".join(general)
     lines = [*cases("fields_of", [], [], right, None, views()), "fields_of t = no_node t"]
     return [line if len(line) <= 160 else line.replace(" = ", " =\n    ") for line in lines]

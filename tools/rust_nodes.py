@@ -4,7 +4,7 @@ templates/rust_tree."""
 import textwrap
 
 from files import template
-from notation import Steps, answer, greatest, rewritten, together
+from notation import Steps, answer, greatest, listed, rewritten, together
 from rust_parts import BY_NAME, NODES, WRITTEN
 from rust_spelled import names_of
 from rust_trees import FAMILIES, MUTUAL, NUMERIC
@@ -86,15 +86,14 @@ def node_view(of, made):
     numbers = ["disambiguator" if part.name == "identifier" else field for field, part in made.pairs
                if part.name in (*NUMERIC, "identifier")]
     parts = [field for field, part in made.pairs if part.name in SUBTREES]
-    own, listed = f"production.{made.tree.upper()}", "".join(f"{part} ∷ " for part in [*parts, "0", "0", "0"][:3])
+    own = f"production.{made.tree.upper()}"
     if name:
         own = f"(named name {own} production.PUNYCODE_{made.tree.upper()})"
     if name or len(numbers) > 1:
-        told = "".join(f"{number} ∷ " for number in [*numbers, "0", "0"][:2])
-        own, text = f"seen_of {own}", f"({told}[]) {'name.bytes' if name else 'no_text'}"
+        own, text = f"seen_of {own}", f"({listed([*numbers, '0', '0'][:2])}) {'name.bytes' if name else 'no_text'}"
     else:
         own, text = f"seen_by {own}", numbers[0] if numbers else "0"
-    return broken(f"view_of_{of} {node_pattern(made)} =", f"{own} {text} {len(parts)} ({listed}[])")
+    return broken(f"view_of_{of} {node_pattern(made)} =", f"{own} {text} {len(parts)} ({listed([*parts, '0', '0', '0'][:3])})")
 
 def node_seen(of, made):
     """That what is seen of a node is its tree's."""

@@ -102,7 +102,7 @@ class Kept:
         self.kind, self.byte = "kind" if made.of == "path" else str(NUMBERS.index(kind)), str(ord(rust_grammar.KINDS[kind][0][letter][0]))
     def kinds_from(self, first):
         """The kinds of the parts from one on."""
-        return f"({''.join(f'{kind} ∷ ' for kind in self.kinds[first:])}[])"
+        return f"({listed(self.kinds[first:])})"
     def press_from(self, first):
         """The pressing of the parts from one on."""
         press = [part.press.replace("@", name) for part, name in self.pairs] + [f"letter {byte}" for byte in self.bytes]

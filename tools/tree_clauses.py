@@ -16,9 +16,6 @@ SUBTREES = (OWN, OUTSIDE, INSIDE, SIGNATURE, TREE, PIECE)
 APART = (OWN, OUTSIDE, SIGNATURE)
 SCOPED = (TREE, PIECE)
 
-# the trees by the names of arguments in laws of annotated trees: the first of a list by another name than that of a fact
-FIRST = named({("list", "e"): "first"})
-
 def pattern(tree):
     """A tree as it is matched."""
     return braced(applied(tree[0], [name for name, sort in tree[1:]]))
@@ -96,8 +93,9 @@ def fold(function, before, joined, none, said):
         if not parts and "all" not in said:
             return None
         return OF_TREES[joined](tree, parts, said) if joined in OF_TREES else joined_by(joined)(list(parts.values()))
-    trees = {"scopes": named(SCOPES, ["parameter"]), "pressed": named(PRESSED), "first": FIRST, "own": TREES}[said.get("names", "own")]
-    lines = cases(function, before.split(), said.get("after", "").split(), right, none or None, trees, said.get("crate", ""))
+    trees = {"own": TREES, "scopes": named(SCOPES, ["parameter"]), "pressed": named(PRESSED), "first": named({("list", "e"): "first"})}
+    lines = cases(function, before.split(), said.get("after", "").split(), right, none or None, trees[said.get("names", "own")],
+                  said.get("crate", ""))
     return [*(carried(lines) if "carried" in said else lines), *([said["rest"]] if "rest" in said else [])]
 
 def folds():
