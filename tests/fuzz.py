@@ -3,11 +3,11 @@
 
     tests/fuzz.py SYMFILT REFERENCE [--seed N] [--seconds S] [--size BYTES] [--lang rust|cpp|both] [--wide] [FILE..]
 
-SYMFILT is the built program, REFERENCE another one, as for compare.py. The words are symbols that are cut, flipped, spliced,
-that name a part twice, or have numbers at the edges of their ranges. They come from those of FILE, one a line, or from
-the rows of crates/check_rows/stdin; and half of the C++ words are made by the grammar's table (derive.py), and are used as they are
-or changed in these ways. With --wide both read C++ by the wide grammar, and the words are made by it. A word has at most BYTES bytes
-(400), and after S seconds (60) it ends. The status is 1 where a word is answered otherwise, 2 where nothing was compared.
+SYMFILT is the built program, REFERENCE another one, as for compare.py. The words are changed symbols: they are cut, flipped or spliced,
+they name a part twice, or they have numbers at the edges of their ranges. The symbols are those of FILE, one a line, or of the rows of
+crates/check_rows/stdin. Half of the C++ words are made by the grammar's table (derive.py), and are used as they are or changed in these
+ways. With --wide both programs read C++ by the wide grammar, and the words are made by it. A word has at most BYTES bytes (400), and the
+script ends after S seconds (60). The status is 1 where a word is answered otherwise, 2 where nothing was compared.
 """
 
 import argparse
@@ -81,7 +81,7 @@ def double(rng, word, _others):
 
 
 def refer_twice(rng, word, _others):
-    """A reference comes twice, or another one takes its place."""
+    """Writes a reference twice, or replaces it by another one."""
     found = list(REFERENCE.finditer(word))
     if not found:
         return double(rng, word, _others)
@@ -92,7 +92,7 @@ def refer_twice(rng, word, _others):
 
 
 def edge(rng, word, _others):
-    """A number is one at the edge of a range, or has a zero in front."""
+    """Replaces a number by one at the edge of a range, or writes a zero before it."""
     found = list(NUMBER.finditer(word))
     if not found:
         return insert(rng, word, _others)
@@ -124,7 +124,7 @@ def made(rng, seeds, derived, size):
 
 
 def options_of(rng, way):
-    """The words of a way, with a limit at which some symbols are too long."""
+    """The options of a way to call the programs, perhaps with a limit at which some symbols are too long."""
     return [str(rng.randrange(10, 300)) if word == ANY else word for word in way]
 
 
@@ -159,7 +159,7 @@ class Pair:
 
 
 def first_different(differs, words):
-    """A word that differs by itself, of some that differ together."""
+    """A word that is answered otherwise by itself, out of words that are answered otherwise together."""
     while len(words) > 1:
         half = len(words) // 2
         words = words[:half] if differs(words[:half]) else words[half:]
@@ -167,7 +167,7 @@ def first_different(differs, words):
 
 
 def shrunk(differs, word):
-    """A shorter word that differs too: pieces are taken out, ever smaller ones, for as long as PATIENCE lasts."""
+    """A shorter word that is answered otherwise, too: ever smaller pieces are taken out, as long as PATIENCE lasts."""
     until = time.monotonic() + PATIENCE
     size = max(len(word) // 2, 1)
     while size:

@@ -1,6 +1,6 @@
 #!/bin/bash
 # Filters a log as docs/SCALE.md says, on several processes of this machine: by split, by GNU parallel, cut from a stream and from a
-# file, and by Dask, a scheduler and two workers on the loopback. Each has to give the same bytes as one process; it prints the times.
+# file, and by Dask, a scheduler and two workers on the loopback. Each way has to give the same bytes as one process. The script prints the times.
 #
 #   tests/scale.sh SYMFILT [LOG]
 #

@@ -161,7 +161,7 @@ pub(crate) fn node_within(y: &Symbol, node: u32) -> Option<u32>
     None
 }
 
-/// How the elements of an element are numbered, by how the element itself is.
+/// How the elements of an element are numbered, by how the element itself is numbered.
 #[tactic(auto, unfolding(crate::specs::Tasks::count_of))]
 pub(crate) fn numbering_within(y: &Symbol, node: u32, numbering: Numbering) -> Numbering
     requires { node < length y.now.table.nodes }

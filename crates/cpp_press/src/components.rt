@@ -21,7 +21,7 @@ pub struct Likeness {
 /// How many components there are, and the number of the first component with each likeness.
 #[derive(Drop)]
 pub struct Components {
-    /// The first components of no encoding, at the numbers of their trees.
+    /// The first components that belong to no encoding, at the numbers of their trees.
     pub closed: Vec<Option<u64>>,
     /// All other first components.
     pub first: BTreeMap<Likeness, u64>,
@@ -29,7 +29,7 @@ pub struct Components {
 }
 
 impl Components {
-    /// No components, whose trees have numbers below this one.
+    /// No components yet. The trees of components will have numbers below this one.
     ///
     /// # Errors
     ///
@@ -47,7 +47,7 @@ impl Components {
         })
     }
 
-    /// Whether components with a likeness have a place, by the number of their tree.
+    /// Whether components with a likeness are kept at a place, which is the number of their tree.
     fn has_place(&self, likeness: Likeness) -> bool
         ensures { result ≡ has_place self.now.closed.items likeness }
     {

@@ -1,5 +1,4 @@
-//! How each tree of a C++ symbol is spelled: as tasks, which are the texts and trees in it, in order; and the bytes of
-//! each text.
+//! How each tree of a C++ symbol is spelled: by tasks, which are the texts and trees in the tree, in order; and the bytes of each text.
 #![tactic(auto)]
 
 pub mod names;

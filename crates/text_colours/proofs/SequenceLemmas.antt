@@ -12,7 +12,7 @@ use Rattle.text_colours.specs.Colored.{colored}
 use Rattle.text_colours.specs.Shown.{IsPrinted, colored_marked, left_of, shown_in, without_sequences}
 use Rattle.text_colours.proofs.MarkLemmas.{marks-shown}
 
--- the first and the second of bytes without ESC
+-- where two lists together have no ESC, neither of them has one
 first-printed : (bytes more : List ℕ) → All IsPrinted (bytes ++ more) → All IsPrinted bytes
 first-printed [] more printed = All-nil IsPrinted
 first-printed (byte ∷ bytes) more printed =

@@ -16,11 +16,10 @@ use std::alloc::Global;
 use sym_core::Refusal;
 use sym_demangle::Workspace;
 
-/// The pressed spelling of a symbol that was read by the wide grammar, where it has at most this many bytes and the wide grammar reads it as
-/// the symbol's tree. So symbols with one answer have one tree. Each answer is checked: it is read with the lists, and its nodes are
-/// compared with the symbol's by their numbers.
-///
-/// Nothing is answered for many trees that the grammar of the ABI doesn't read, since some of their parts have no spelling yet.
+/// The pressed spelling of a symbol that was read by the wide grammar, if the spelling has at most this many bytes and the wide grammar
+/// reads it as the symbol's tree. So symbols with one answer have one tree. Each answer is checked: it is read with the lists, and its
+/// nodes are compared with the symbol's by their numbers.
+/// Many trees that the grammar of the ABI doesn't read have no answer, since some of their parts have no spelling yet.
 ///
 /// # Errors
 ///
