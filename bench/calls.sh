@@ -3,6 +3,7 @@
 # LLVM, where these are installed (Debian's libiberty-dev, llvm-14-dev).
 #
 #   bench/calls.sh [-i] [-l LIBRARY] FILE
+#
 # The script prints nanoseconds of processor time; with -i it prints the instructions, counted by valgrind, without those that read the
 # file. LIBRARY is measured in the place of the proved library: for instance dist/libsymdemangle.a, which a C compiler made.
 set -eu

@@ -11,6 +11,7 @@
 #   OUT/perf.txt        the same symbols in lines as perf script prints them, stacks of 24 frames
 #   OUT/plain.txt       60 MB of text without symbols
 #   OUT/libraries       which libraries these were
+#
 # Symbols are those of the libraries' dynamic tables, and of the usual tables of archives. Without LIBRARY the script takes those of this
 # list that are installed: the C++ runtime, Rust's compiler and library, and Debian's libLLVM, libclang-cpp, Boost, ICU, protobuf, gRPC, Qt,
 # RocksDB, Poco. Where other versions are installed the files differ, and so do the numbers that are measured with them.

@@ -2,12 +2,14 @@
 # Runs the other scripts over the programs and the library that are in crates/*/out, and prints a line for each:
 #
 #   tests/all.sh [-b] [-q] [-s SYMBOLS].. [-r REFERENCE] [-m MODULE] [NAME..]
-# -b uses the programs and the library as they are, as `.ci/run` does; without -b the script asks rt whether they were built from these sources
+#
+#   -b            uses programs and library as they are, as `.ci/run` does; without -b the script asks rt whether they were built from these sources
 #   -q            leaves out what takes minutes: packages, other machines, a browser
-# -s SYMBOLS a file of symbols, one a line; without such a file they are taken from the installed libraries (bench/inputs.sh)
+#   -s SYMBOLS    a file of symbols, one a line; without such a file they are taken from the installed libraries (bench/inputs.sh)
 #   -r REFERENCE  another implementation with the same command line, for compare.py and fuzz.py
 #   -m MODULE     another implementation as a module of Python, for costs.py
 #   NAME          the lines that are run, as `callers packages`; without names all
+#
 # A line is `ok`, `FAILED` with the end of what the script printed, or `left out` with what is missing. The next lines are what the script
 # itself left out. The last lines are the names of all scripts that failed or were left out, and how many there are of each. The status is 1
 # where one failed, 2 where the programs or the library aren't built.

@@ -1,5 +1,6 @@
 #!/bin/bash
 # Tests README's commands of "Get it", and the gate: tests/commands.sh [-n].
+#
 # README's commands are typed as they are there, in their order, in a clean clone of what is committed. Each command has to print what is
 # wanted of it below. With -n no command is run: the script only checks that each command begins at the top of the repository, enters
 # folders that exist, and leaves its reader at the top. The commands take some ten minutes of processor time. The gate (.ci/run) is run over

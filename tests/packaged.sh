@@ -6,7 +6,8 @@
 #
 #   -d DIST    the folder that tools/portable/make.sh made, in the place of dist/
 #   -w PAGE    the folder that web/module/make.sh made, with the module of the package for JavaScript
-# -b changes an answer in a copy of the C file (or an export in a copy of the module) instead: the tests of each package have to fail on the copy
+#   -b         changes an answer in a copy of the C file (or an export in a copy of the module) instead: the tests of each package have to fail on the copy
+#
 # Programs that aren't installed are named, and their tests left out: cargo with the crate cc (librust-cc-dev), go, node, npm, tsc; cross
 # compilers for 64-bit ARM Linux and Windows, with qemu-aarch64 and wine; and the programs that read the recipes of dist/packaging. A dist/
 # that was made from other sources isn't tested.

@@ -2,6 +2,7 @@
 # Refuses each allocation of symfilt in turn, over a command line and over a text that is filtered. Whichever allocation is refused, the
 # status has to be 3, the last line on standard error has to be `symfilt: out of memory`, and standard output has to be a beginning of the
 # output with ample memory.
+#
 # With CHECK_ROWS, the built program of crates/check_rows, each allocation of the library's calls is refused too, over some rows: the call
 # has to answer Memory and leave its lists as they were, a call that steps has to answer Memory again, and each later row has to hold.
 #

@@ -1,5 +1,6 @@
 #!/bin/bash
 # Calls demangle as programs and people call a demangler: tests/tools.sh DEMANGLE.
+#
 # A program that is installed makes its call itself; otherwise the script makes the call as the program does. Then each call is made with
 # two stand-ins, one that forwards all as it is and one that fails. The call has to fail with one of them, since a call that doesn't tests
 # nothing. The status is 1 where a call comes out otherwise.

@@ -3,9 +3,9 @@
 
     tests/vectors.py [--demangle DEMANGLE] SYMFILT [FILE..]
 
-SYMFILT and DEMANGLE are the built programs; without DEMANGLE its rows are skipped. Without files the rows are those of crates/check_rows/stdin; docs/TESTING.md says how rows are
-written. A row whose word is longer than words of the filter may be is skipped, and named. The status is 1 where a row doesn't
-hold, 2 where the program can't be run or there is no row.
+SYMFILT and DEMANGLE are the built programs; without DEMANGLE its rows are skipped. Without files the rows are those of
+crates/check_rows/stdin; docs/TESTING.md says how rows are written. A row whose word is longer than words of the filter may be is
+skipped, and named. The status is 1 where a row doesn't hold, 2 where the program can't be run or there is no row.
 """
 
 import json
@@ -35,7 +35,7 @@ def unescaped(field):
     while i < len(rest):
         if rest[i]:
             out += ESCAPES[rest[i][:1]] + rest[i][1:]
-        else: # two backslashes in succession
+        else:  # two backslashes in succession
             out += b"\\"
             i += 1
             out += rest[i] if i < len(rest) else b""

@@ -2,14 +2,17 @@
 # Tests the page in a browser:
 #
 #   tests/web.sh [-w PAGE | -l LIBRARY] [-p SYMFILT] [-d DEMANGLE] [-s SHOTS] [-b]
+#
 # The script makes the page with the module of the proved library. It compares the module with the rows of crates/check_rows and with the
 # programs' texts (tests/web/module.mjs, in Node). Then it uses the page as a person does (tests/web/page.mjs, in Chromium).
-# -w PAGE a folder that web/module/make.sh made from the proved library; its module is tested
+#
+#   -w PAGE       a folder that web/module/make.sh made from the proved library; its module is tested
 #   -l LIBRARY    an LLVM module of the library, in the place of the proved one
 #   -p SYMFILT    the program symfilt, in the place of the proved one
 #   -d DEMANGLE   the program demangle, in the place of the proved one
 #   -s SHOTS      a folder that gets pictures of the page
-# -b breaks copies of the page afterwards, one after the other: the tests have to fail on each copy
+#   -b            breaks copies of the page afterwards, one after the other: the tests have to fail on each copy
+#
 # A program that isn't installed (node, chromium, binaryen's wasm-opt) is named, and the tests that need it are left out.
 set -euo pipefail
 cd "$(dirname "$0")/.."

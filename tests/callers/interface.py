@@ -3,7 +3,7 @@
 signatures, and what the shared library exports.
 
     tests/callers/interface.py HEADER LIBRARY           prints it
-    tests/callers/interface.py HEADER LIBRARY LIST names what differs from LIST; the status is 1 where something differs
+    tests/callers/interface.py HEADER LIBRARY LIST      names what differs from LIST; the status is 1 where something differs
 
 Callers see each change of LIST: it belongs into CHANGELOG.md, and into the version.
 """

@@ -1,6 +1,7 @@
 // A Rust program that knows `rustc_demangle` only by its C declaration in rust-lang's rustc-demangle-capi. The call answers 1, with a text
 // and a 0 byte in `out`; it answers 0 where the name isn't one of Rust's or the text has no room.
-// rustc_demangle tests that the call does so
+//
+//   rustc_demangle          tests that the call does so
 //   rustc_demangle names    prints the text of each name of standard input, or the name
 //   rustc_demangle work     takes half a second in a function whose name a profiler shows
 use std::ffi::{CStr, CString, c_char, c_int};

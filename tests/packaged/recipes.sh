@@ -1,5 +1,6 @@
 #!/bin/bash
 # Tests the recipes of dist/packaging over a folder that tools/portable/make.sh made: tests/packaged/recipes.sh DIST WORK
+#
 # Debian's source package and the packages that it builds are made, and lintian checks them. The recipe of vcpkg is built only by CMake, and
 # that of nix by nix with a stand-in for nixpkgs (stdenv.nix). The recipes of conda and Homebrew are only read. With FULL=yes in the
 # environment Debian's packages are optimised and their tests run, as for a release. A tool that isn't installed is named, and its recipe is

@@ -1,4 +1,5 @@
 # Runs vcpkg's recipe with CMake only: cmake -DDIST=.. -DOUT=.. -P vcpkg.cmake
+#
 # Below are the functions of vcpkg that the recipe calls, as far as it uses them.
 set(CURRENT_PACKAGES_DIR "${OUT}/package")
 set(CURRENT_BUILDTREES_DIR "${OUT}/build")

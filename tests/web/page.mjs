@@ -1,4 +1,5 @@
 // node page.mjs PAGE_FOLDER DEMANGLE SYMFILT SYMBOLS HOSTILE_FOLDER [SHOTS_FOLDER]: uses the page in Chromium as a person does
+//
 // The script types, pastes, ticks, drops and downloads, and checks what the page shows. Texts are compared with those of demangle, counts
 // and pressed spellings with those of symfilt. Each step that holds is named; the first step that doesn't hold ends the script.
 // HOSTILE_FOLDER has a hostile name in each of the files cpp and rust. SHOTS_FOLDER gets pictures of the page, for people to look at.

@@ -33,7 +33,7 @@ impl Components {
     ///
     /// # Errors
     ///
-    /// `Memory` alone.
+    /// Only `Memory`.
     pub fn new(alloc: Global, numbers: usize) -> Result<Components, Refusal>
         ensures first { IfOk result (λ made. (q : Likeness) → known_in made q ≡ None) }
         ensures count { IfOk result (λ made. made.count ≡ 0) }
@@ -71,7 +71,7 @@ impl Components {
     ///
     /// # Errors
     ///
-    /// `Memory` alone.
+    /// Only `Memory`.
     pub fn push(&mut self, likeness: Likeness) -> Result<(), Refusal>
         ensures first { OnOk result ((q : Likeness) → known_in self.new q ≡ noted (known_in self.old) likeness self.old.count q) }
         ensures count { OnOk result (self.new.count ≡ self.old.count + 1) }

@@ -102,7 +102,7 @@ fn key_of<'a>(symbol: &'a Symbol, firsts: &[u32], node: u32) -> Key<'a>
 ///
 /// # Errors
 ///
-/// `Memory` alone.
+/// Only `Memory`.
 fn firsts_after<'a>(
     alloc: Global,
     keys: &mut Firsts<Key<'a>>,
@@ -132,7 +132,7 @@ fn firsts_after<'a>(
 ///
 /// # Errors
 ///
-/// `Memory` alone.
+/// Only `Memory`.
 pub(crate) fn first_nodes(alloc: Global, symbol: &Symbol) -> Result<Vec<u32>, Refusal>
     ensures firsts { IfOk result (λ firsts. AreFirst symbol.now firsts.items) }
     ensures few { IfOk result (λ firsts. length firsts.items ≤ 4294967295) }
@@ -148,7 +148,7 @@ pub(crate) fn first_nodes(alloc: Global, symbol: &Symbol) -> Result<Vec<u32>, Re
 ///
 /// # Errors
 ///
-/// `Memory` alone.
+/// Only `Memory`.
 pub fn numbers(alloc: Global, symbol: &Symbol) -> Result<Numbers, Refusal>
     ensures numbers { IfOk result (AreNumbers symbol.now) }
     ensures memory { IfErr result (λ e. e ≡ Memory) }
@@ -162,7 +162,7 @@ pub fn numbers(alloc: Global, symbol: &Symbol) -> Result<Numbers, Refusal>
 ///
 /// # Errors
 ///
-/// `Memory` alone.
+/// Only `Memory`.
 pub fn have_one_tree(alloc: Global, one: &Symbol, other: &Symbol) -> Result<bool, Refusal>
     ensures same { IfOk result (λ same. same ≡ same_tree (whole_of one.now) (whole_of other.now)) }
     ensures memory { IfErr result (λ e. e ≡ Memory) }

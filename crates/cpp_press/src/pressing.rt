@@ -144,12 +144,13 @@ fn press_tasks(alloc: Global, symbol: &Symbol, firsts: &[u32]) -> Result<Vec<u8>
 /// The pressed spelling of a C++ symbol (Itanium C++ ABI 5.1). It spells the symbol's tree in order: each component that equals an earlier
 /// one is a reference to the first one that it equals (ABI 5.1.10), and numbers and names have their shortest form. Symbols of one tree
 /// have one pressed spelling; the suffix is part of the tree.
+///
 /// Components are compared by their numbers. However large the tree is, each component is spelled out at most once at the places where a
 /// reference can be. So the spelling has at most 64 bytes for each byte of the symbol.
 ///
 /// # Errors
 ///
-/// `Memory` alone.
+/// Only `Memory`.
 pub fn press_cpp(alloc: Global, symbol: &Symbol) -> Result<Vec<u8>, Refusal>
     ensures pressed { IfOk result (λ out. out.items ≡ pressed (whole_of symbol.now)) }
     ensures components { IfOk result (λ _. HasFewComponents symbol.now) }

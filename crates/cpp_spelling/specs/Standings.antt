@@ -9,7 +9,7 @@ use Rattle.cpp_spelling.specs.declared.task.Way.{Way}
 use Rattle.cpp_spelling.specs.Tasks.{◌onto◌, written, in_way, ending}
 use Rattle.cpp_spelling.specs.Spelled.{is_compared, arguments_onto}
 
--- how a compared tree compares with the components, by the number of the first one that is equal to it
+-- how a compared tree compares with the components, by the number of the first component that is equal to it
 unfoldable pub compared : Option ℕ → Standing
 compared (Some number) = Standing.Known number
 compared None = Standing.Fresh

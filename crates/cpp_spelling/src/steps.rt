@@ -32,7 +32,7 @@ pub enum Standing {
     Fresh,
 }
 
-/// How a compared tree compares with the components, by the number of the first one that is equal to it.
+/// How a compared tree compares with the components, by the number of the first component that is equal to it.
 #[tactic(auto, unfolding(crate::specs::Standings::compared))]
 pub fn compared(first: Option<u64>) -> Standing
     ensures { result ≡ compared first }

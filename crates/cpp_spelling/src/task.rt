@@ -63,7 +63,7 @@ const MOST_TASKS: usize = 8;
 ///
 /// # Errors
 ///
-/// `Memory` alone.
+/// Only `Memory`.
 pub fn make_room(symbol: &Symbol, tasks: &mut Vec<Task>) -> Result<(), Refusal>
     requires tasks { AreTasks symbol.now tasks.old.items }
     ensures presses { press_tasks symbol.now tasks.new.items ≡ press_tasks symbol.now tasks.old.items }

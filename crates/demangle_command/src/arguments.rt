@@ -92,7 +92,7 @@ fn push_words(words: &mut Vec<Vec<u8>>, more: Vec<Vec<u8>>) -> Result<(), AllocE
     words.append(&mut more)
 }
 
-/// The words of the file that an argument names, if it names one that can be read.
+/// The words of the file that an argument names, if it names a file that can be read.
 fn words_of_file<R: Files + AllocGlobal>(rt: &R, argument: &[u8]) -> Result<FileWords, AllocError> {
     let Some(path) = path_of(argument) else {
         return Ok(FileWords::None);

@@ -25,7 +25,7 @@ answer_shown wide bare brief s text limit most p short =
     answer_by wide (detail_by bare brief) s text p.whole limit p.stands
     (sym (text_within-ok limit parts text (sym p.text_is) (omega (arith, p.cost, short))))
 
--- likewise by how much is shown
+-- a text that shows a symbol in a detail is the symbol's answer in this detail, if the text is short enough
 pub shown_answer : (wide : Bool) (d : Detail) (s text : List ℕ) (limit most : ℕ) → IsShown (symbol_as wide d s) most text → most ≤ limit / 4
     → IsAnswer (mangled_by wide) d s limit (Ok text)
 shown_answer wide Full s text limit most p short = answer_shown wide false false s text limit most p short

@@ -27,6 +27,7 @@ const ROUNDS_A_BYTE: usize = 8;
 
 /// Writes the text of a symbol, by the wide grammar or by the default and in the requested detail, if the short way reads the symbol and
 /// the text costs at most a limit. Answers whether the text was written. Where it wasn't, nothing is known of the symbol.
+///
 /// Whatever is answered, at most 32 bytes for each of the symbol's bytes and a kilobyte are written, at most eight steps for each byte are
 /// taken, and no list has more entries than the symbol has bytes, since no list has room for more. Text and candidates only grow until a
 /// function ends. There three things are removed: what was written of an instance of a function template up to its return type; the return

@@ -60,7 +60,7 @@ impl Asked {
         }
     }
 
-    /// Likewise, with Rust's legacy names as paths.
+    /// Both manglings for the request, with Rust's legacy names as paths.
     pub(crate) fn with_legacy<C: Cpp>(self, limit: u32, cpp: C) -> Legacy<C>
         ensures limit { result.languages.limit ≡ limit }
         ensures detail { result.languages.detail ≡ self.detail }
@@ -143,7 +143,7 @@ fn letters_of(flags: u32) -> Letters
     }
 }
 
-/// What flags request, if each of them is one.
+/// What flags request, if each of them exists.
 #[tactic(auto, unfolding(crate::specs::Calls::asked_of))]
 pub(crate) fn asked_of(flags: u32) -> Option<Asked>
     ensures { result ≡ asked_of flags }

@@ -72,7 +72,7 @@ fn push_lines<D: Demangler>(
     Ok(has_text)
 }
 
-/// Appends a word that doesn't begin like a symbol, and says so.
+/// Appends a word that doesn't begin like a symbol, and says that it is no symbol.
 fn push_unnamed(
     alloc: Global,
     word: &str,

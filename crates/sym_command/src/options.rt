@@ -77,6 +77,7 @@ pub struct Options {
 /// The options and symbols in the words of a command line of symfilt, the program's name first.
 ///
 /// # Errors
+///
 /// What the parser says of words that it doesn't accept, of a request for help or the version, and of a lack of memory.
 pub fn found_in<'a>(alloc: Global, words: &'a [&'a str]) -> Result<ArgMatches<'a>, Error>
     ensures found { IfOk result (λ matches. rows_of (found_of matches) ≡ matches_of command_line (map (λ word. word.now) words.entry.now)) }

@@ -50,7 +50,7 @@ answers_by cpp legacy limit detail =
     if legacy then (λ kind symbol. legacy_answer limit symbol (language_answer_by cpp limit detail kind.lang symbol))
     else (λ kind symbol. language_answer_by cpp limit detail kind.lang symbol)
 
--- the wide grammar of C++ or the other
+-- C++ by the wide grammar, or by the ABI's
 abbrev pub cpp_by : (wide : Bool) → Mangled Term
 cpp_by wide = if wide then wide_mangled else cpp_mangled
 

@@ -74,7 +74,7 @@ impl<C: Cpp> Demangler for Legacy<C> {
     }
 }
 
-/// Whether a symbol may be a legacy name. For one that can't be, `Legacy` answers what its languages answer.
+/// Whether a symbol may be a legacy name. For any other symbol `Legacy` answers what its languages answer.
 pub fn may_be_legacy(symbol: &[u8]) -> bool
     ensures { result ≡ false → (limit : ℕ) (other : Result (List ℕ) Refusal-type) → legacy_answer limit symbol.now other ≡ other }
 {

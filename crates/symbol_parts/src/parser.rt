@@ -20,6 +20,7 @@ pub trait Parser: Demangler {
     /// The text of a word's symbol, with what the symbol is and the parts of the text.
     ///
     /// # Errors
+    ///
     /// The reason why the symbol has no text. Lack of memory may refuse any symbol.
     fn parse(&self, alloc: Global, kind: Kind, symbol: &[u8]) -> Result<Parsed, Refusal>
         requires { FitsSymbol symbol.now }

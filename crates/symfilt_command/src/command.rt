@@ -58,6 +58,7 @@ pub fn run_over<S: Source, W: Sink, E: Sink>(
 /// Filters an input as a command line requests.
 ///
 /// # Errors
+///
 /// Those of `filter_words`.
 pub fn filter_asked<S: Source, W: Sink>(
     alloc: Global,

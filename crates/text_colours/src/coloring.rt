@@ -7,7 +7,7 @@ use crate::styles::{PLAIN, style_of};
 use std::alloc::{AllocError, Global};
 use sym_parts::{Part, Role};
 
-/// A text with its parts in their styles. A part within one that has a style is shown in that style.
+/// A text with its parts in their styles. A part within a part that has a style is shown in that style.
 pub fn colored(alloc: Global, text: &[u8], parts: &[Part]) -> Result<Vec<u8>, AllocError>
     ensures { IfOk result (λ all. all.items ≡ colored text.now parts.now) }
 {
