@@ -5,8 +5,8 @@
 #
 #   tests/callers.sh [FILE..]
 #
-# Each FILE has symbols, one a line, for the comparisons; the rows of crates/check_rows are always among them. It proves the library
-# first where that wasn't done. What isn't installed here (clang, cmake, pkg-config, cargo, go) is named and left out.
+# Each FILE has symbols, one a line, for the comparisons; the rows of crates/check_rows are always among them. The script proves the library
+# first if it wasn't proved. What isn't installed here (clang, cmake, pkg-config, cargo, go) is named and left out.
 set -euo pipefail
 files=()
 for file in "$@"; do files+=("$(realpath "$file")"); done

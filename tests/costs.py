@@ -1,5 +1,5 @@
 #!/usr/bin/env python3
-"""Compares each symbol's answer at its exact cost and at one below with another implementation's.
+"""Compares each symbol's answer at its exact cost and at one less with another implementation's.
 
     tests/costs.py [--wide] LIBRARY REFERENCE < SYMBOLS
 

@@ -199,7 +199,7 @@ class Derivation:
 
 
 def parts_within(table, node):
-    """The ways to what is within a node, each with its kind and what is there."""
+    """The ways to a node and to the parts within it, each with the part's kind and the part."""
     ways = [((), node.kind, node)]
     while ways:
         way, kind, part = ways.pop()
@@ -209,7 +209,7 @@ def parts_within(table, node):
 
 
 def replaced(node, way, new):
-    """The node with another one at the end of a way."""
+    """The node, in which another node replaces the part at the end of a way."""
     if not way:
         return new
     parts = list(node.parts)
@@ -246,8 +246,8 @@ def read(table, word):
 
 
 def repeated(rng, table, tree, times, kind=None):
-    """The tree with a kind, which is the given one or any, nested that many times more within itself. More often than not each turn has a
-    rule that only the wide grammar has."""
+    """The tree, in which a node of the given kind, or of any kind, is nested that many more times within itself. More often than not each
+    turn has a rule that only the wide grammar has."""
     nodes = [(way, part) for way, _, part in parts_within(table, tree) if part is not None]
     own = [way for way, node in nodes if table.is_own(node)]
     kept = rng.choice(own) if own and kind is None and rng.random() < 0.6 else None
@@ -512,7 +512,7 @@ class Words:
 
 
 def answers(program, wide, words):
-    """For each word `text` where a program answers the word with a text, and otherwise the reason of the refusal."""
+    """A program's answer for each word: `text` where the word has a text, and otherwise the reason of the refusal."""
     command = [*command_of(program), *(["--wide"] if wide else []), "--", *words]
     done = subprocess.run(command, stdout=subprocess.DEVNULL, stderr=subprocess.PIPE)
     reasons = collections.deque(line for line in done.stderr.split(b"\n") if line)

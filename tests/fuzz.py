@@ -1,5 +1,5 @@
 #!/usr/bin/env python3
-"""Looks for words that symfilt and another implementation answer otherwise, and makes them as short as it can.
+"""Looks for words that symfilt and another implementation answer differently, and makes them as short as it can.
 
     tests/fuzz.py SYMFILT REFERENCE [--seed N] [--seconds S] [--size BYTES] [--lang rust|cpp|both] [--wide] [FILE..]
 
@@ -118,7 +118,7 @@ def changed(rng, seeds, size):
 
 
 def made(rng, seeds, derived, size):
-    """Words for one batch: half of them by the grammar, if there is one, and changed ones of these and of the seeds."""
+    """Words for one batch. With a grammar half of them are its symbols. The others are changed words of these and of the seeds."""
     fresh = [derived.word() for _ in range(BATCH // 2)] if derived else []
     return fresh + [changed(rng, rng.choice((seeds, fresh or seeds)), size) for _ in range(BATCH - len(fresh))]
 
@@ -159,7 +159,7 @@ class Pair:
 
 
 def first_different(differs, words):
-    """A word that is answered otherwise by itself, out of words that are answered otherwise together."""
+    """A word that is answered differently by itself, one of some words that are answered differently together."""
     while len(words) > 1:
         half = len(words) // 2
         words = words[:half] if differs(words[:half]) else words[half:]

@@ -89,7 +89,7 @@ def lines_of(command, symbols):
 
 
 def share(program):
-    """For how many of 100 symbols that both read c++filt has the same text; None where c++filt isn't installed."""
+    """How many of 100 symbols that both read have the same text by c++filt; None where c++filt isn't installed."""
     if shutil.which("c++filt") is None or b"GNU" not in subprocess.run(["c++filt", "--version"], capture_output=True, check=False).stdout:
         return None
     symbols = symbols_in(FRESH)

@@ -3,7 +3,7 @@
 
     tests/hostile.py DEMANGLE
 
-Each word has 100 to 400 bytes and denotes a text of more than a million, or of some ten thousands. At the default limit a program that
+Each word has 100 to 400 bytes and denotes a text of more than a million bytes, or of some ten thousands. At the default limit a program that
 prints up to the limit before it refuses takes 26 to 74 times as long as at a limit of 5,000. The program may take eight times as long.
 
 Texts of packs under pointers cost less than the default limit, so they are written whole. A word of 400 types, each under 400 pointers,

@@ -182,7 +182,7 @@ class Checks:
             said = found.get("text")
             self.check_details(found)
             if said is not None:
-                # without objects a name is a line of text, in which a byte that no word has ends a symbol
+                # without `--json` a name is a line of text, and a byte that no word has ends a symbol there
                 out, _, _ = self.with_names([], [name])
                 self.require(OTHER_BYTES.search(name) or shown(out) == said + "\n", "%r: %r, not %r" % (name, said, out))
             elif found.get("error") not in REASONS:

@@ -44,7 +44,7 @@ def fresh_names():
 
 
 def names_of_one_mark(count):
-    """C++ names that share one mark, by changes in two steps of 32 bytes: a byte of the mark stays where both letters that are mixed into it change."""
+    """C++ names that share one mark. Each byte of the mark is mixed from letters of two steps of 32 bytes, and stays the same where both letters change."""
     pairs = [(at, at + 6) for at in (4, 5, 6, 7, 34, 35, 36, 37, 38, 39)]
     names = []
     for number in range(count):

@@ -4,8 +4,7 @@
 #
 #   tests/scale.sh SYMFILT [LOG]
 #
-# Without LOG it makes one of about 100 MB with symbols of installed libraries. Debian's packages: parallel,
-# python3-distributed.
+# Without LOG the script makes a log of about 100 MB with symbols of installed libraries. It needs Debian's packages parallel and python3-distributed.
 set -euo pipefail
 [ $# -eq 1 ] || [ $# -eq 2 ] || { echo "usage: $0 SYMFILT [LOG]" >&2; exit 2; }
 symfilt=$(realpath "$1")

@@ -1,6 +1,6 @@
 #!/usr/bin/env python3
-"""Adds entries to the tables of tools/tables, in a copy of the tree: one entry of each sort that docs/WORKING.md says to be one line. For
-each entry it runs tools/write.py, and prints how many lines that writes, in how many files.
+"""Adds entries to the tables of tools/tables, in a copy of the tree: one entry of each sort that takes one line according to
+docs/WORKING.md. For each entry the script runs tools/write.py, and prints how many lines that writes, in how many files.
 
     tests/tables.py
 

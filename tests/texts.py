@@ -1,11 +1,10 @@
 #!/usr/bin/env python3
-"""Filters texts, such as tools and people write, by the built programs, and names the texts that come out otherwise than they have to.
+"""Filters texts, such as tools and people write, by the built programs, and names the texts whose output is wrong.
 
     tests/texts.py SYMFILT [DEMANGLE]
 
 The texts are lines of linkers, debuggers, profilers and traces, bytes that no text has, prompts that wait for an answer, a line of 30 MB, a
-log without symbols, an output whose reader ends early, and a name that is made to exhaust a demangler. The status is 1 where one comes out
-otherwise.
+log without symbols, an output whose reader ends early, and a name that is made to exhaust a demangler. The status is 1 where an output is wrong.
 """
 
 import os

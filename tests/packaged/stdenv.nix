@@ -1,4 +1,4 @@
-# The part of nixpkgs that the recipe of dist/packaging/nix needs, over this machine's compiler and make: there is no channel of nix here.
+# The part of nixpkgs that the recipe of dist/packaging/nix needs, over this machine's compiler and make. The test has no channel of nix.
 { recipe, path }:
 
 let

@@ -2,7 +2,7 @@
 import collections
 import re
 
-# In a pattern ANYTHING represents what debug information doesn't have, any balanced tokens without a comma, and MORE represents any further
+# In a pattern ANYTHING represents any balanced tokens without a comma, for what debug information doesn't have. MORE represents any further
 # arguments up to the end of a list.
 ANYTHING, MORE = "\x7f", "\x06"
 SIGNS = "->* <=> <<= >>= -> () [] << >> <= >= += -= *= /= %= &= |= ^= == != && || ++ -- < > + - * / % & | ^ ~ ! = ,".split()

@@ -60,7 +60,7 @@ impl Verdict {
         }
     }
 
-    /// Notes whether a call answers what the row says. The call has no answer where it breaks another promise.
+    /// Notes whether a call answers what the row says. A call that breaks another promise has no answer.
     pub fn soundly_says(&mut self, answer: Result<Option<Vec<u8>>, Refusal>, wanted: &[u8]) {
         match answer {
             Ok(Some(text)) => self.text(&text, wanted),

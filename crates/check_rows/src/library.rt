@@ -38,7 +38,7 @@ enum Call {
     Press,
 }
 
-/// A call with what it is given, except for the buffer.
+/// A call with its arguments, except for the buffer.
 #[derive(Clone, Copy)]
 struct Asked<'a> {
     call: Call,
@@ -148,8 +148,8 @@ fn refusal_of(outcome: Outcome, skipped: u32) -> Option<Refusal> {
     }
 }
 
-/// Checks that a call with a buffer writes its text, which has this length, or says that the buffer is too small, and that the call leaves
-/// the rest of the buffer unwritten.
+/// Checks that a call with a buffer either writes its text, which has this length, or says that the buffer is too small. The rest of the
+/// buffer has to stay unwritten.
 fn ask_to_write(verdict: &mut Verdict, asked: Asked<'_>, room: usize, len: usize, wanted: &[u8]) {
     let Ok(mut buffer) = vec![in verdict.alloc; UNWRITTEN; room] else {
         verdict.lack();
@@ -170,8 +170,8 @@ fn ask_to_write(verdict: &mut Verdict, asked: Asked<'_>, room: usize, len: usize
     verdict.require(outcome.status == BUFFER && room < len && is_unwritten(&buffer));
 }
 
-/// Checks the answer of a call: the bytes that it writes into a buffer that they fit, no more bytes into a larger buffer, and none into a
-/// buffer that is a byte smaller; or a refusal.
+/// Checks the answer of a call, which is a text or a refusal. The call has to write the text to a buffer of its length, no more bytes to a
+/// larger buffer, and none to a buffer that is a byte smaller.
 fn ask_call(verdict: &mut Verdict, asked: Asked<'_>, wanted: &[u8]) {
     let first = outcome_of(verdict, asked, &mut []);
     if first.status == OK || first.status == BUFFER {
@@ -441,7 +441,7 @@ pub fn ask_library(verdict: &mut Verdict, row: Row<'_>) {
     ask_with_wrong_ends(verdict, row.s, flags);
 }
 
-/// Checks the spelling that the static library's call answers which presses a symbol.
+/// Checks the spelling that the static library's call for pressing answers.
 pub fn ask_library_to_press(verdict: &mut Verdict, s: &[u8], wanted: &[u8]) {
     ask_library_to_press_by(verdict, s, 0, wanted);
 }
@@ -461,7 +461,7 @@ fn ask_library_to_press_by(verdict: &mut Verdict, s: &[u8], flags: u32, wanted: 
     }
 }
 
-/// Checks that the static library's call that presses says of a symbol of the wide grammar that it has no spelling.
+/// Checks that the static library's call for pressing reports that a symbol of the wide grammar has no spelling.
 pub fn ask_library_unspelled(verdict: &mut Verdict, s: &[u8]) {
     ask_status(verdict, Asked::new(Call::Press, s, 0, WIDE), NO_SPELLING);
 }

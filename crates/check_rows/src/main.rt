@@ -1,5 +1,5 @@
-//! Reads rows, which have symbols and the answers that these have to get, gives each symbol to every call that answers symbols, and names
-//! the rows that a call answers otherwise. `docs/TESTING.md` says how rows are written.
+//! Gives the symbols of rows to every call that answers symbols, and names the rows for which a call answers otherwise. A row has a symbol
+//! and the answer that it has to get. `docs/TESTING.md` says how rows are written.
 #![tactic(auto)]
 
 mod answer;
@@ -72,7 +72,7 @@ fn check_each<R: Print + AllocGlobal>(
     Ok(outcome)
 }
 
-/// What holds the lists of both grammars. A function that has the lists as separate arguments is proved over all that they consist of.
+/// What holds the lists of both grammars. The proof of a function that has the lists as arguments of their own is about everything in them.
 trait Held {
     fn lists(&mut self) -> &mut AllLists;
 }

@@ -40,7 +40,7 @@ fn require_parsed(verdict: &mut Verdict, parsed: &Parsed, row: Row<'_>, kind: &[
     }
 }
 
-/// Asks what a word's symbol is, and for its text with the parts, by the wide grammar and with legacy Rust names as paths. The static
+/// Checks what a word's symbol is, its text and the text's parts, by the wide grammar and with legacy Rust names as paths. The static
 /// library's call has to report the same for the word.
 pub fn ask_parts(verdict: &mut Verdict, word: &[u8], row: Row<'_>, kind: &[u8], parts: &[u8]) {
     if !fits(row.s) {

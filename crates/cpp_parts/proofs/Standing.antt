@@ -75,7 +75,7 @@ after-item r o t u one rest is = sym (ap (elements_after r o t) is)
 
 -- ## Texts that are cut
 
--- how many bytes precede the last byte, and how many that byte is: one, or none of an empty text
+-- a text's bytes without the last one, and the last byte by itself, which an empty text doesn't have
 pub last-lengths : (b : List ℕ) (count blank : ℕ) → length b ≡ count → blank ≡ min count 1
     → (blank ≡ length (drop (length b - 1) b)) × (length (take (length b - 1) b) ≡ count - blank)
 last-lengths b count blank long is =

@@ -42,7 +42,7 @@ AreTypesBelow count (encodings.Variable n) = n < count
 AreTypesBelow count (encodings.Target e) = e < count
 AreTypesBelow count _ = Unit {0}
 
--- the elements of a list from one on, without a comma before that one
+-- the elements of a list from a given one on, without a comma before it
 unfoldable pub elements_here : Role → Numbering → Term → Unshared → Marked
 elements_here r o t (item skipped done) = elements r (next o) (rest_of t) skipped
 elements_here r o t (item left (item right rest)) =

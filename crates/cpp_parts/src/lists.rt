@@ -157,7 +157,7 @@ pub(crate) fn push_elements_after(
     }
 }
 
-/// The elements of a list from one on, if an item comes first.
+/// The elements of a list from a given one on, if an item comes first.
 ///
 /// # Errors
 ///
@@ -215,7 +215,7 @@ pub(crate) fn push_elements_from(
     }
 }
 
-/// The elements of a list from one on, without a comma before that one.
+/// The elements of a list from a given one on, without a comma before it.
 ///
 /// # Errors
 ///
@@ -244,7 +244,7 @@ pub(crate) fn push_elements_here(
     }
 }
 
-/// The elements of a list from one on.
+/// The elements of a list from a given one on.
 ///
 /// # Errors
 ///

@@ -38,7 +38,7 @@ pub(crate) enum EncodingSort {
     Other,
 }
 
-/// The entity of a local name: its default argument isn't printed.
+/// The entity of a local name, without its default argument, which isn't printed.
 fn entity_node(y: &Symbol, entity: u32) -> u32
     requires { entity < length y.now.table.nodes }
     ensures is { plain_tree (table_of y.now) result ≡ entity_of (plain_tree (table_of y.now) entity) }

@@ -145,8 +145,8 @@ fn press_tasks(alloc: Global, symbol: &Symbol, firsts: &[u32]) -> Result<Vec<u8>
 /// one is a reference to the first one that it equals (ABI 5.1.10), and numbers and names have their shortest form. Symbols of one tree
 /// have one pressed spelling; the suffix is part of the tree.
 ///
-/// Components are compared by their numbers. However large the tree is, each component is spelled out at most once at the places where a
-/// reference can be. So the spelling has at most 64 bytes for each byte of the symbol.
+/// Components are compared by their numbers. Each component is spelled out at most once at the places where a reference can be, however
+/// large the tree is. So the spelling has at most 64 bytes for each byte of the symbol.
 ///
 /// # Errors
 ///

@@ -1,4 +1,4 @@
-//! How each tree of a C++ symbol is spelled: by tasks, which are the texts and trees in the tree, in order; and the bytes of each text.
+//! How each tree of a C++ symbol is spelled, as texts and trees in order, which are its tasks; and which bytes each text has.
 #![tactic(auto)]
 
 pub mod names;

@@ -222,7 +222,7 @@ fn is_gnu(spelling: Spelling) -> bool
     }
 }
 
-/// Does what the command line's parser found, with the demangler for its options, except that spellings and escapes aren't regarded.
+/// Does what the command line's parser found, with a demangler that follows all its options but those for spellings and escapes.
 fn run_spelled<D: Alike + Detailed + Copy + Drop, S: Source, W: Sink, E: Sink>(
     alloc: Global,
     demangler: D,
@@ -283,7 +283,7 @@ fn styled_of(options: Options) -> Styled
     Styled { style, languages }
 }
 
-/// Does what the command line's parser found, with the demangler for its options, except that escapes aren't regarded.
+/// Does what the command line's parser found, with a demangler that follows all its options but the one for escapes.
 fn run_with<D: Alike + Detailed + Copy + Drop, S: Source, W: Sink, E: Sink>(
     alloc: Global,
     demangler: D,
@@ -317,7 +317,7 @@ fn run_with<D: Alike + Detailed + Copy + Drop, S: Source, W: Sink, E: Sink>(
     )
 }
 
-/// Does what the command line's parser found, except objects, with the demangler for its options, except that escapes aren't regarded.
+/// Does what the command line's parser found, if objects aren't requested, with a demangler that follows all its options but the one for escapes.
 fn run_lines<D: Alike + Copy + Drop, S: Source, W: Sink, E: Sink>(
     alloc: Global,
     demangler: D,

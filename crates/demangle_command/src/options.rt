@@ -72,7 +72,7 @@ fn command_line<'a>(alloc: Global) -> Result<Command<'a>, AllocError>
     command.arg(name_arguments(alloc))
 }
 
-/// A command line with the options on which names have a text, and what of it is shown.
+/// A command line with the options on which names have a text, and on what is shown of the text.
 fn with_texts<'a>(alloc: Global, command: Command<'a>) -> Result<Command<'a>, AllocError>
     ensures { IfOk result (λ with_them. app_of with_them ≡ with_texts (app_of command.entry)) }
 {
@@ -86,7 +86,7 @@ fn with_texts<'a>(alloc: Global, command: Command<'a>) -> Result<Command<'a>, Al
         .arg(style_option(alloc))
 }
 
-/// A command line with the options on how texts are written, and on what is said of names that are left.
+/// A command line with the options on how texts are written, and on what is said of names that have no text.
 fn with_reports<'a>(alloc: Global, command: Command<'a>) -> Result<Command<'a>, AllocError>
     ensures { IfOk result (λ with_them. app_of with_them ≡ with_reports (app_of command.entry)) }
 {
@@ -256,8 +256,7 @@ fn asked_coloring(matches: &ArgMatches<'_>) -> Option<Coloring>
     }
 }
 
-/// The options of a command line whose texts are written to a terminal, or to something else; none where no style, no spelling or no
-/// colouring has the name that is given.
+/// The options of a command line, whose texts may be written to a terminal; none where no style, no spelling or no colouring has the name that is given.
 pub(crate) fn options_of(matches: &ArgMatches<'_>, terminal: bool) -> Option<Options>
     ensures { AreOptions (rows_of (found_of matches.now)) terminal result }
 {

@@ -15,8 +15,8 @@ use sym_filter::{
 };
 use type_names::type_for;
 
-/// Writes for each name the text of the type that the name is, if types are read and it is one; otherwise the name's line with its symbols
-/// replaced. Says why a name stays, if reasons are requested. Answers whether any name stays.
+/// Writes a line for each name. If types are read and the name is a type, the line is the type's text; otherwise it is the name's line with
+/// its symbols replaced. Says why a name stays, if reasons are requested. Answers whether any name stays.
 ///
 /// # Errors
 ///

@@ -24,7 +24,7 @@ none-second true false c is = refl
 none-second true true c is = cc
 none-second false b c is = refl
 
--- a name is read as a single one where it has no symbol
+-- a name that is read as a type has no symbol
 is-nameless : (types : Bool) (status : ℕ) (name : List ℕ) → ReadsType types status name true → status ≡ 11
 is-nameless types status name is = eqb-true status 11 (second types (status == 11) (is_type_word name) is)
 

@@ -22,7 +22,7 @@ pub record PartsEnding : Type 0 where
   pub parts : List NamePart
   pub found : NameFound
 
--- with this outcome, and these parts
+-- how a call for parts ends with this outcome and these parts
 abbrev pub parts_ending : Outcome → (buffer : List ℕ) → (parts : List NamePart) → NameFound → PartsEnding
 parts_ending outcome buffer parts found = record { ending = ending_of outcome buffer; parts = parts; found = found }
 
@@ -66,7 +66,7 @@ parts_of_kind parses legacy (Err status) name buffer parts = without_text (statu
 abbrev pub name_parts_told : Parsing → Asked → (name buffer : List ℕ) → (parts : List NamePart) → PartsEnding
 name_parts_told parses asked name buffer parts = parts_of_kind parses asked.legacy (named asked.underscore name) name buffer parts
 
--- texts are whole
+-- whether texts are whole
 unfoldable pub is_whole : Texts → Bool
 is_whole texts.Whole = true
 is_whole _ = false

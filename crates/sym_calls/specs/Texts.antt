@@ -14,7 +14,7 @@ are_ends from most (end ∷ ends) = nat_le from end && are_ends end most ends
 abbrev pub placed : Outcome → ℕ
 placed outcome = if outcome.status == 0 then outcome.length else 0
 
--- A name gets the answer of the call for one name, over what is left of the buffer, which is `after` then.
+-- A name gets the answer of the call for one name, whose buffer is what is left of the buffer. After that call it is `after`.
 abbrev pub IsTold : Answering → Asked → (name left : List ℕ) → Outcome → (after : List ℕ) → Type 0
 IsTold answers asked name left outcome after = EndsAs (name_or_type_told answers asked name left) left (ending_of outcome after)
 
@@ -32,8 +32,8 @@ unfoldable pub TextsEndBy : (are_right : Bool) → Answering → Asked → (name
 TextsEndBy true answers asked names ends old new untold told status = (status ≡ 0) × AreTold answers asked names 0 ends old new told
 TextsEndBy false answers asked names ends old new untold told status = (status ≡ 10) × (new ≡ old) × (told ≡ untold)
 
--- How the call ends: with 8 where one of the flags doesn't exist, and nothing is written; otherwise by whether the ends increase to at most
--- the length of all names, and are as many as the outcomes.
+-- How the call ends. Where one of the flags doesn't exist, the status is 8, and nothing is written. Otherwise the call ends by whether the
+-- ends increase to at most the length of all names, and are as many as the outcomes.
 unfoldable pub TextsEndAs : Option Asked → (limit : ℕ) → (names ends old new : List ℕ) → (untold told : List Outcome) → (status : ℕ) → Type 0
 TextsEndAs None limit names ends old new untold told status = (status ≡ 8) × (new ≡ old) × (told ≡ untold)
 TextsEndAs (Some asked) limit names ends old new untold told status =

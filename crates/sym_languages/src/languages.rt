@@ -135,7 +135,7 @@ fn with_parameters(detail: Detail) -> Detail
     }
 }
 
-/// Appends the text of a C++ symbol, where it has one. A symbol shown only in part goes a short way, too, if it can.
+/// Appends the text of a C++ symbol, if it has one. Where only a part of the text is shown, the symbol goes a short way, too, if it can.
 fn append_cpp<C: Cpp>(
     lists: &mut Lists<C>,
     symbol: &[u8],
@@ -170,7 +170,7 @@ fn append_rust<C: Cpp>(
     }
 }
 
-/// Appends the text of a Rust symbol without its generic arguments, where it has one: by a short way, if the symbol goes it.
+/// Appends the text of a Rust symbol without its generic arguments, if it has one. The symbol goes a short way, if it can.
 fn append_brief<C: Cpp>(
     lists: &mut Lists<C>,
     symbol: &[u8],

@@ -1,5 +1,4 @@
--- Laws of answers with parts: the tree or the refusal that a symbol is read as decides the answer with parts, and without its parts this is
--- the symbol's plain answer.
+-- Laws of answers with parts: an answer depends only on the tree or the refusal that the symbol is read as, and is the plain answer if its parts are left out.
 use Rattle.std.proofs.Common.{◌≡◌, ℕ, List, [], Result, Ok, Err, inl, inr, refl, ap, sym, ◌∙◌, Option, Some, None}
 use Rattle.sym_core.specs.declared.refusal.Refusal.{Refusal}
 use Rattle.sym_core.specs.declared.refusal.Refusal.TheVariants.{Malformed}
