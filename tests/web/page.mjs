@@ -143,9 +143,9 @@ const steps = {
             await shows(".symbol mark", [mark]);
         }
         await puts("?f@@YAXXZ");
-        await until(async () => /Microsoft/.test(await text("status")), "a name of Microsoft’s is told");
+        await until(async () => /Microsoft/.test(await text("status")), "a name of Microsoft’s is recognized");
         await puts("ZN3foo3barEv");
-        await until(async () => /underscore/.test(await text("status")), "a lost underscore is told");
+        await until(async () => /underscore/.test(await text("status")), "a lost underscore is noticed");
     },
 
     async "characters that can't be seen"() {
@@ -261,7 +261,7 @@ const steps = {
         wants((await browser.run(() => document.querySelectorAll(".parts [tabindex='0']").length)) === 1, "one stop of the Tab key");
         const { nodes } = await browser.call("Accessibility.getFullAXTree");
         const options = nodes.filter((it) => !it.ignored && it.role?.value === "option").map((it) => it.name?.value);
-        wants(options.length === 13 && options[8] === "parameter 2: std::map, bytes 32 to 35", "what a screen reader is told of parts:", options);
+        wants(options.length === 13 && options[8] === "parameter 2: std::map, bytes 32 to 35", "what a screen reader says of parts:", options);
         await browser.run(() => document.getElementById("input").focus());
         await lit([[], [], []], "no part has the focus");
         await picture("bytes");
@@ -298,7 +298,7 @@ const steps = {
         wants(await browser.run(() => document.activeElement.closest(".card.shown")), "the focus is in the card");
     },
 
-    async "what a screen reader is told"() {
+    async "what a screen reader says"() {
         const { nodes } = await browser.call("Accessibility.getFullAXTree");
         const roles = nodes.filter((it) => !it.ignored && it.role).map((it) => [it.role.value, it.name?.value ?? "", it.description?.value ?? ""]);
         const NAMED = ["button", "link", "textbox", "checkbox", "spinbutton", "progressbar", "DisclosureTriangle"];
