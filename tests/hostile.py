@@ -6,9 +6,9 @@
 Each word has 100 to 400 bytes and denotes a text of more than a million bytes, or of some ten thousands. At the default limit a program that
 prints up to the limit before it refuses takes 26 to 74 times as long as at a limit of 5,000. The program may take eight times as long.
 
-Texts of packs under pointers cost less than the default limit, so they are written whole. A word of 400 types, each under 400 pointers,
-takes some eight times as long as with the low limit, and may take 24 times as long. A program that takes each pointer by itself takes 44
-times as long.
+Texts of packs under pointers cost less than the default limit, so they are written whole. A word of 400 types, each under 400 pointers
+or 200 pointers to constant types, takes some eight times as long as with the low limit, and may take 12 times as long. A program that takes
+each pointer by itself takes 44 times as long for the first, and one that takes three pointers to constant types at once 18 times for the second.
 
 Then all these words are one input, for which the program may take at most 30 MB at any time. The limit is 50 MB for an input that also has
 words as long as the program reads.
@@ -67,9 +67,9 @@ def pack_word(elements, wraps, levels):
     return cpp_word(f"IJ{'i' * elements}EEvDpPFvT_E", 3, lambda that: (f"Dp{wraps(that)}", 3), levels)
 
 
-def pointers_word(elements, levels):
+def pointers_word(elements, levels, pointer="P"):
     """A C++ function of an expansion over a pack of this many elements. Each element is under this many pointers."""
-    return f"_Z1fIJ{'i' * elements}EEvDp{'P' * levels}T_"
+    return f"_Z1fIJ{'i' * elements}EEvDp{pointer * levels}T_"
 
 
 def rust_word(first, wraps, levels):

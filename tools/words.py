@@ -153,7 +153,8 @@ def code_answers():
 def link_tables(productions, rows, skips):
     """The symbols of each production, and its row, by its name; and what is known of each, as definitions."""
     known = [(name, coded(name), len(parts), str(name in skips).lower(), rows[name].quiet()) for name, parts in productions.items()]
-    yield whole("cpp_link/src/tables.rt", enums=", ".join(sorted([*ALIKE, "Production"])), count=len(known), productions=known)
+    yield whole("cpp_link/src/tables.rt", enums=", ".join(sorted([*ALIKE, "Production"])), count=len(known), productions=known,
+                **{name.lower(): list(productions).index(name) for name in ("Lambda", "Unnamed")})
     yield whole("cpp_link/specs/Tables.antt", skips=defined_cases(dict.fromkeys(skips, True)),
                 quiet=defined_cases({name: row.quiet() for name, row in rows.items() if row.quiet() < ALL_PARTS}))
 
