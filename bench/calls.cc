@@ -33,11 +33,11 @@ static char *llvm_demangled(const char *symbol)
 #endif
 
 static std::vector<std::string> symbols;
-static std::string all;          /* a line each */
-static std::string joined;       /* without the ends of the lines */
-static std::vector<size_t> ends; /* where each ends there */
+static std::string all;          /* the names, each on a line */
+static std::string joined;       /* the names without the ends of their lines */
+static std::vector<size_t> ends; /* the ends of the names in `joined` */
 static char buffer[1 << 20];
-/* a buffer for what one call answers for all of them, which isn't filled */
+/* a buffer for what one call answers for all names, which it doesn't fill */
 static std::unique_ptr<char[]> large;
 static size_t large_size;
 
@@ -48,7 +48,7 @@ static double now()
     return t.tv_sec + t.tv_nsec * 1e-9;
 }
 
-/* A call for each symbol, or one for all: the bytes of text that it gave. */
+/* A way to call a library, once for each symbol or once for all: how many bytes of text it gave. */
 struct Call {
     const char *name;
     std::function<size_t()> run;
@@ -92,7 +92,7 @@ static size_t filtered()
     return status == SYMDEMANGLE_OK ? result.length - symbols.size() : 0;
 }
 
-/* The bytes of the texts of a demangler that allocates them. */
+/* How many bytes the texts of a demangler have that allocates its texts. */
 [[maybe_unused]] static size_t freed(char *(*demangled)(const char *))
 {
     size_t bytes = 0;
@@ -117,7 +117,7 @@ static const std::vector<Call> calls = {
 #endif
 };
 
-/* The least of five runs, in nanoseconds of the processor a symbol. */
+/* The least time of five runs, in nanoseconds of processor time for each symbol. */
 static void time_of(const Call &call)
 {
     double least = 1e9;

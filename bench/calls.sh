@@ -1,11 +1,11 @@
 #!/bin/sh
-# What a call of the static library takes for each symbol of a file, C++ or Rust, one a line, beside one of libiberty and of
-# LLVM, as far as they are installed (Debian's libiberty-dev, llvm-14-dev).
+# Measures what a call of the static library takes for each symbol of a file, C++ or Rust, one a line, beside a call of libiberty and one of
+# LLVM, where these are installed (Debian's libiberty-dev, llvm-14-dev).
 #
 #   bench/calls.sh [-i] [-l LIBRARY] FILE
 #
-# It prints nanoseconds of the processor; with -i the instructions, counted by valgrind, without those that read the file.
-# LIBRARY is measured in the place of the proved one, as dist/libsymdemangle.a is, which a C compiler made.
+# The script prints nanoseconds of processor time; with -i it prints the instructions, counted by valgrind, without those that read the
+# file. LIBRARY is measured in the place of the proved library: for instance dist/libsymdemangle.a, which a C compiler made.
 set -eu
 usage() {
     echo "usage: $0 [-i] [-l LIBRARY] FILE" >&2

@@ -8,9 +8,10 @@
 #
 #   bench/inputs.sh inputs && bench/compare.sh -i crates/symfilt/out/symfilt inputs/*.txt
 #
-# With -w the ways of showing symbols are run too: the wide grammar, without parameters and in brief, and -p of the others.
-# Instructions don't depend on what else the machine does. They are those of LINES lines (5,000), taken evenly from the file, without
-# those of a run over no input. Debian's binutils has c++filt, llvm has llvm-cxxfilt, and rustfilt and valgrind are packages too.
+# With -w the other ways of showing symbols are run, too: the wide grammar, names without parameters, brief texts, and -p of the other
+# filters. Numbers of instructions don't depend on what else the machine does. They are those for LINES lines (5,000), taken at even
+# distances from the file, less those of a run over no input. Debian's binutils has c++filt, llvm has llvm-cxxfilt, and rustfilt and
+# valgrind are packages too.
 set -euo pipefail
 
 usage() {
@@ -38,7 +39,7 @@ symfilt=$1
 shift
 echo 'at _Z1fv' | "$symfilt" | grep -qx 'at f()' || { echo "$0: $symfilt is no filter of symbols" >&2; exit 1; }
 
-# a line of the table: a program, and the options that it is run with
+# each entry is a line of the table: a program, and the options with which it is run
 filters=(symfilt)
 [ $ways = no ] || filters+=('symfilt --wide' 'symfilt --no-params' 'symfilt --brief')
 for name in c++filt llvm-cxxfilt rustfilt; do
@@ -47,7 +48,7 @@ for name in c++filt llvm-cxxfilt rustfilt; do
     if [ $ways = yes ] && [ "$name" != rustfilt ] && "$name" -p </dev/null >/dev/null 2>&1; then filters+=("$name -p"); fi
 done
 
-# words_of FILTER: puts the words that run it into `words`
+# words_of FILTER: puts the command of the filter into `words`
 words_of() {
     read -ra words <<<"$1"
     [ "${words[0]}" != symfilt ] || words[0]=$symfilt
@@ -55,7 +56,7 @@ words_of() {
 work=$(mktemp -d)
 trap 'rm -rf "$work"' EXIT
 
-# run_once FILTER FILE: seconds of the processor, and the memory that the filter needed
+# run_once FILTER FILE: prints the seconds of processor time, and the memory that the filter needed
 run_once() {
     local TIMEFORMAT='%3U %3S' words
     words_of "$1"

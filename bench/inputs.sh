@@ -1,5 +1,5 @@
 #!/bin/bash
-# Makes the files that the others here measure, from installed libraries:
+# Makes the files that the other scripts here measure, from installed libraries:
 #
 #   bench/inputs.sh OUT [LIBRARY..]
 #
@@ -12,9 +12,9 @@
 #   OUT/plain.txt       60 MB of text without symbols
 #   OUT/libraries       which libraries these were
 #
-# Symbols are those of the libraries' dynamic tables and, of archives, their usual ones. Without libraries it takes those of this
-# list that are there: the C++ runtime, Rust's compiler and library, and Debian's libLLVM, libclang-cpp, Boost, ICU, protobuf, gRPC,
-# Qt, RocksDB, Poco. Where other versions are installed the files differ, and so do the numbers that are measured with them.
+# Symbols are those of the libraries' dynamic tables, and of the usual tables of archives. Without LIBRARY the script takes those of this
+# list that are installed: the C++ runtime, Rust's compiler and library, and Debian's libLLVM, libclang-cpp, Boost, ICU, protobuf, gRPC, Qt,
+# RocksDB, Poco. Where other versions are installed the files differ, and so do the numbers that are measured with them.
 set -euo pipefail
 [ $# -ge 1 ] || { echo "usage: $0 OUT [LIBRARY..]" >&2; exit 2; }
 export LC_ALL=C
@@ -32,7 +32,7 @@ fi
 [ $# -gt 0 ] || { echo 'none of the usual libraries is installed' >&2; exit 1; }
 for library in "$@"; do realpath "$library"; done | sort -u >"$out/libraries"
 
-# the lines of nm, and after each library's a line with its path
+# the lines of nm; after the lines of each library comes a line with its path
 listed() {
     while read -r library; do
         case $library in
@@ -51,7 +51,7 @@ rm "$out/all"
 grep -aE 'T[0-9]*_' "$out/cpp.txt" >"$out/templates.txt" || true
 awk 'length($0) >= 200 && length($0) < 400' "$out/cpp.txt" >"$out/long.txt"
 
-# a sample's head, and frames: address, symbol with a distance, library; the lines of nm are read backwards, so a library's path
+# the head of a sample, and frames: address, symbol with a distance, library; the lines of nm are read backwards, so that a library's path
 # comes before its symbols
 tac "$out/nm.txt" | awk '
     /:$/ { path = substr($0, 1, length($0) - 1); next }

@@ -3,16 +3,16 @@
 #
 #   tests/all.sh [-b] [-q] [-s SYMBOLS].. [-r REFERENCE] [-m MODULE] [NAME..]
 #
-#   -b            takes programs and library as they are, as `.ci/run` does; without it the script asks rt whether they are of these sources
+#   -b            uses programs and library as they are, as `.ci/run` does; without -b the script asks rt whether they were built from these sources
 #   -q            leaves out what takes minutes: packages, other machines, a browser
-#   -s SYMBOLS    a file of symbols, one a line; without one some of the installed libraries (bench/inputs.sh)
+#   -s SYMBOLS    a file of symbols, one a line; without such a file they are taken from the installed libraries (bench/inputs.sh)
 #   -r REFERENCE  another implementation with the same command line, for compare.py and fuzz.py
 #   -m MODULE     another implementation as a module of Python, for costs.py
 #   NAME          the lines that are run, as `callers packages`; without names all
 #
-# A line is `ok`, `FAILED` with the end of what the script printed, or `left out` with what is missing. After it comes what the
-# script itself left out. The last lines are the names of all that failed or was left out, and how many there are of each. The status
-# is 1 where one failed, 2 where the programs or the library aren't built.
+# A line is `ok`, `FAILED` with the end of what the script printed, or `left out` with what is missing. The next lines are what the script
+# itself left out. The last lines are the names of all scripts that failed or were left out, and how many there are of each. The status is 1
+# where one failed, 2 where the programs or the library aren't built.
 set -u
 usage() {
     echo "usage: $0 [-b] [-q] [-s SYMBOLS].. [-r REFERENCE] [-m MODULE] [NAME..]" >&2
@@ -50,7 +50,7 @@ work=$(mktemp -d)
 trap 'rm -rf "$work"' EXIT
 
 if [ $as_built = yes ]; then
-    # an rt that builds nothing, and answers all else
+    # an rt that refuses to build, and forwards all else to the real rt
     mkdir "$work/path"
     printf '#!/bin/sh\ncase $1 in run | lib) ;; *) exec "%s" "$@" ;; esac\n' "$(command -v rt)" >"$work/path/rt"
     chmod +x "$work/path/rt"
@@ -77,7 +77,7 @@ try() { # try NAME COMMAND..
     local name=$1 start=$SECONDS
     chosen "$name" || return 0
     shift
-    # a script that hangs ends
+    # a script that hangs is ended
     [ "$(type -t "$1")" = function ] || set -- timeout 1800 "$@"
     if "$@" >"$work/log" 2>&1; then
         ok=$((ok + 1))
@@ -104,7 +104,7 @@ long_ones() { # packages, other machines and the page, which take minutes
     else
         try packages tests/packages.sh
     fi
-    # the module for WebAssembly, which the package for JavaScript and the page take; without it each makes it, and says why it can't
+    # the module for WebAssembly, which the package for JavaScript and the page use; without it each of both makes the module itself, or says why it can't
     if { chosen packaged || chosen web; } && command -v wasm-opt >/dev/null && web/module/make.sh "$work/page" >"$work/log" 2>&1; then
         made=(-w "$work/page")
     fi
@@ -132,6 +132,7 @@ try rows tests/vectors.py --demangle "$demangle" "$symfilt"
 try texts tests/texts.py "$symfilt" "$demangle"
 try short tests/short_texts.py "$symfilt"
 try gnu tests/gnu_texts.py "$demangle"
+try left tests/left.py "$demangle"
 try tools tests/tools.sh "$demangle"
 try readme tests/readme.py "$symfilt" "$demangle"
 try calls tests/fail_calls.sh "$symfilt"

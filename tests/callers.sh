@@ -5,8 +5,8 @@
 #
 #   tests/callers.sh [FILE..]
 #
-# Each FILE has symbols, one a line, for the comparisons; the rows of crates/check_rows are always among them. It proves the library
-# first where that wasn't done. What isn't installed here (clang, cmake, pkg-config, cargo, go) is named and left out.
+# Each FILE has symbols, one a line, for the comparisons; the rows of crates/check_rows are always among them. The script proves the library
+# first if it wasn't proved. What isn't installed here (clang, cmake, pkg-config, cargo, go) is named and left out.
 set -euo pipefail
 files=()
 for file in "$@"; do files+=("$(realpath "$file")"); done
@@ -63,7 +63,7 @@ run static cc -static -std=c11 "${warnings[@]}" callers/c/calls.c "${static[@]}"
 run 'refused' cc -std=c11 "${warnings[@]}" callers/c/out_of_memory.c "${static[@]}"
 cat "$work/out"
 
-# docs/callers/C.md and the other pages give the measured memory that a name takes.
+# docs/callers/C.md and the other pages give the measured memory that a call takes for a name.
 said() { # said CALL : the figure in a row of the table of calls
     sed -n "s/^| \`symdemangle_$1\`[^|]*| \([0-9]*\) |.*/\1/p" docs/callers/C.md
 }
@@ -78,8 +78,8 @@ read -r for_a_byte pressed < <(sed -n 's/.*In a lent block a name takes up to \(
     { echo "docs/callers/C.md doesn't say what a name takes of a lent block"; exit 1; }
 run 'memory of a lent block' cc -std=c11 -DARENA "-DFOR_A_BYTE=$for_a_byte" "-DPRESSED=$pressed" "${warnings[@]}" tests/callers/memory.c "$lib/libsymdemangle_arena.a"
 
-# Names: an archive has none but the header's, the shared library has each with its version, and neither needs more than the C
-# library; the arena's needs nothing that allocates.
+# Exported names: an archive has only the header's names, and the shared library has each of them with its version. Neither needs more than
+# the C library, and the archive over a lent block needs nothing that allocates.
 for archive in symdemangle symdemangle_arena; do
     others=$(nm -g --defined-only "$lib/lib$archive.a" | awk 'NF == 3 && $3 !~ /^symdemangle_/ { print $3 }')
     [ -z "$others" ] || { echo "lib$archive.a has other names: $others"; exit 1; }
@@ -131,7 +131,7 @@ python3 -m venv "$work/venv"
 echo "parts: $(tail -n 1 "$work/out")"
 echo "python: $(basename "$work"/wheels/*.whl): ok"
 
-# The package for Go, as it was installed, over the library, which pkg-config finds
+# The package for Go as it was installed, over the library that pkg-config finds
 if has go 'the package for Go' && has pkg-config 'the package for Go'; then
     cp -r "$prefix/share/symdemangle/go" "$work/go"
     cp callers/go/symdemangle_test.go "$work/go"
@@ -141,8 +141,8 @@ if has go 'the package for Go' && has pkg-config 'the package for Go'; then
     echo 'go: ok'
 fi
 
-# The crate for cargo over the installed archive, as it was installed, without the kit. cargo wants to see the crate cc, which Debian
-# has as librust-cc-dev, though nothing is compiled.
+# The crate for cargo as it was installed, over the installed archive, without the kit. cargo requires the crate cc, which Debian has as
+# librust-cc-dev, though nothing is compiled.
 if has cargo 'the crate for cargo' && { compgen -G '/usr/share/cargo/registry/cc-*' >/dev/null || { echo "librust-cc-dev isn't installed: the crate for cargo isn't tested"; false; }; }; then
     cp -r "$prefix/share/symdemangle/rust" "$work/crate"
     cp -r callers/rust/tests "$work/crate/tests"
@@ -155,7 +155,7 @@ if has cargo 'the crate for cargo' && { compgen -G '/usr/share/cargo/registry/cc
     grep -q "there is no libsymdemangle.a in \[\"$work\"\]" "$work/out" || { cat "$work/out"; exit 1; }
 fi
 
-# A library that is older than its callers: what it doesn't know they do without
+# A library that is older than its callers: they do without what the library doesn't know
 older=$work/older
 mkdir -p "$older/parts"
 renamed=()
@@ -203,7 +203,7 @@ if "$work/reporter" 2>"$work/out"; then echo 'the crash reporter: no fault'; exi
     { echo 'the crash reporter:'; cat "$work/out"; exit 1; }
 echo 'a lent block: ok'
 
-# Other demanglers' calls, in programs that were written for them
+# The calls of other demanglers, in programs that were written for these
 c++ -std=c++11 -O1 "${warnings[@]}" tests/callers/demangles.cc -o "$work/demangles"
 cc -std=c99 -O2 -shared -fPIC "${warnings[@]}" -Wpedantic -DCXA -DCPLUS -DRUSTC callers/shims/shims.c -o "$work/shims.so" "${static[@]}" -ldl
 "$work/demangles" | sed 's/^/__cxa_demangle of the runtime: /'
@@ -240,9 +240,9 @@ shows 'foo.bar(int)' SYMDEMANGLE_NEXT=1 '-s dlang' _D3foo3barFiZv
 shows '__Z1fv' SYMDEMANGLE_NEXT=0 '' __Z1fv
 echo 'c++filt, its options and what is forwarded: ok'
 
-# rustc_demangle, in a program that knows only its declaration, and in one that is packaged and loads the library by its name:
-# Hotspot's parser of perf's records (1.6; 1.3 has no such call). PERFPARSER names it, or a script that runs it, where it is
-# elsewhere.
+# rustc_demangle, in a program that knows only its declaration, and in a packaged program that loads the library by its name: Hotspot's
+# parser of perf's records (1.6; 1.3 has no such call). PERFPARSER names this parser, or a script that runs it, where it isn't in its usual
+# folder.
 if has rustc 'rustc_demangle'; then
     cc -std=c99 -O2 -shared -fPIC "${warnings[@]}" -Wpedantic -DRUSTC callers/shims/shims.c -o "$work/librustc_demangle.so" "${static[@]}"
     rustc --edition 2024 -O -g -C symbol-mangling-version=v0 -L "$work" tests/callers/rustc_demangle.rs -o "$work/rust_names"

@@ -1,10 +1,10 @@
 #!/usr/bin/env python3
-"""Writes the rows `cut` and `put` of crates/check_rows/stdin for symbols, as another implementation answers them.
+"""Writes the rows `cut` and `put` of crates/check_rows/stdin for symbols, with the answers of another implementation.
 
     tests/changes.py REFERENCE < SYMBOLS >> crates/check_rows/stdin
 
 REFERENCE is a Python module with demangle(symbol, limit, brief, lang), whose result has `answer` ("text", "Malformed",
-"BadReference" or "BadValue"), `text` and `at`. SYMBOLS has one symbol that is well shaped a line.
+"BadReference" or "BadValue"), `text` and `at`. SYMBOLS has one symbol a line, and each symbol is well shaped.
 """
 
 import os

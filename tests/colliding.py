@@ -1,11 +1,11 @@
 #!/usr/bin/env python3
-"""Presses C++ symbols of many names that were chosen for one hash or one mark, and one of as many usual names, and compares the times.
+"""Presses C++ symbols of many names that share one hash or one mark, and a symbol of as many usual names, and compares the times.
 
     tests/colliding.py SYMFILT
 
-Names that collide in a map with a fixed seed would make its look-ups slow: with the names of tests/colliding_names.txt a C++
-symbol of 65,104 bytes took fifty times a usual one where nodes were found by their hash. Names of one length whose first, middle
-and last bytes are the same have one mark, by which nodes are looked for first. Either may take three times the usual.
+Names that collide in a map with a fixed seed would make its look-ups slow: when nodes were found by their hash, a C++ symbol of 65,104
+bytes with the names of tests/colliding_names.txt took fifty times as long as a usual one. Names of one length whose first, middle and last
+bytes are the same have one mark, by which nodes are looked up first. Either symbol may take three times as long as the usual one.
 """
 import itertools
 import os
@@ -33,13 +33,13 @@ def seconds(program, word):
 
 
 def usual_names(count):
-    """As many names of six letters, one after the other."""
+    """This many names of six letters, in their order."""
     letters = itertools.product(string.ascii_lowercase, repeat=6)
     return ["".join(name) for name in itertools.islice(letters, count)]
 
 
 def names_of_one_mark(count):
-    """As many names of six letters with the same first, fourth and last letter."""
+    """This many names of six letters with the same first, fourth and last letter."""
     letters = itertools.product(string.ascii_lowercase, repeat=3)
     return [f"a{one}{two}a{three}a" for one, two, three in itertools.islice(letters, count)]
 

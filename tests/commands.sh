@@ -1,16 +1,16 @@
 #!/bin/bash
-# README's commands of "Get it", and the gate's own: tests/commands.sh [-n].
+# Tests README's commands of "Get it", and the gate: tests/commands.sh [-n].
 #
-# README's commands are typed as they are there, in their order, in a clean clone of what is committed, and each has to print what is
-# wanted of it below. With -n none is run: the script only looks that each begins at the top, in a folder that is there, and leaves its
-# reader there. They take some ten minutes of processor. The gate (.ci/run) is run over stand-ins for what it calls: it has to fail
-# where one of these fails, and where `rt ci` passes with an edit that shows nothing.
+# README's commands are typed as they are there, in their order, in a clean clone of what is committed. Each command has to print what is
+# wanted of it below. With -n no command is run: the script only checks that each command begins at the top of the repository, enters
+# folders that exist, and leaves its reader at the top. The commands take some ten minutes of processor time. The gate (.ci/run) is run over
+# stand-ins for what it calls: it has to fail where one of these fails, and where `rt ci` passes with an edit that tests nothing.
 set -u
 cd "$(dirname "$0")/.." || exit 2
 work=$(mktemp -d)
 trap 'rm -rf "$work"' EXIT
 mapfile -t commands < <(sed -n '/^## Get it/,/^## [^G]/ s/^    //p' README.md)
-# what each prints, the gate's apart; `*` is anything
+# what each command except the gate has to print; `*` is anything
 wanted=('*' 'at foo::bar(int)' '*' 'f()' 'at foo::bar(int)' 'each row holds')
 
 git -c advice.detachedHead=false clone -q . "$work/clone" && cd "$work/clone" || exit 2
@@ -36,13 +36,13 @@ done
 [ $tried -eq ${#wanted[@]} ] || fails "README has $tried commands, and ${#wanted[@]} are known here"
 [[ ${commands[*]-} == *.ci/run* ]] || fails "README doesn't name the gate, .ci/run"
 
-# The gate: each stand-in ends with a status of its own, and the one for rt says what it has to.
+# The gate: each stand-in ends with a given status, and the stand-in for rt prints what the real rt would.
 mkdir "$work/bin"
 printf '#!/bin/sh\necho "$SAID"\nexit "$RT"\n' >"$work/bin/rt"
 printf '#!/bin/sh\nexit "$LIBRARY"\n' >tests/library.py
 printf '#!/bin/sh\nexit "$ALL"\n' >tests/all.sh
 chmod +x "$work/bin/rt" tests/library.py tests/all.sh
-gate() { # gate PASSES|FAILS RT SAID LIBRARY ALL : how the gate ends over these
+gate() { # gate PASSES|FAILS RT SAID LIBRARY ALL : checks how the gate ends over these stand-ins
     local ended=PASSES
     RT=$2 SAID=$3 LIBRARY=$4 ALL=$5 PATH=$work/bin:$PATH bash .ci/run >"$work/out" 2>&1 || ended=FAILS
     [ $ended = "$1" ] || fails ".ci/run $ended with rt ci $2 ($3), tests/library.py $4 and tests/all.sh $5"

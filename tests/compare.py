@@ -3,10 +3,10 @@
 
     tests/compare.py [--wide | --legacy] SYMFILT REFERENCE < SYMBOLS
 
-SYMFILT is the built program. REFERENCE is a program with the same command line, which filters where it has no symbols
-(`c++filt` doesn't do: its texts differ in blanks, and it names no places);
-one whose name ends in `.py` is run by this Python. SYMBOLS has one symbol a line.
-With --wide both read C++ by the wide grammar, and with --legacy both take legacy Rust names for paths. It prints each difference, and its status is 1 where there is one.
+SYMFILT is the built program. REFERENCE is a program with the same command line, which filters if it is given no symbols. (`c++filt` can't
+be used: its texts differ in blanks, and it names no places.) A program whose name ends in `.py` is run by this Python. SYMBOLS has one
+symbol a line. With --wide both read C++ by the wide grammar, and with --legacy both take legacy Rust names for paths. The script prints
+each difference, and its status is 1 where there is one.
 """
 
 import subprocess
@@ -25,7 +25,7 @@ def run(command, data=b""):
 
 
 def compare_words(symfilt, reference, options, words):
-    """The number of differences; a batch that differs is compared word by word."""
+    """The number of differences. A batch that is answered otherwise is compared word by word."""
     own = run(symfilt + options + words)
     other = run(reference + options + words)
     if own == other:
@@ -42,7 +42,7 @@ def compare_words(symfilt, reference, options, words):
 
 
 def command_of(path):
-    """The words that run a program, which may be one of Python."""
+    """The words that run a program, which may be written in Python."""
     return [sys.executable, path] if path.endswith(".py") else [path]
 
 
@@ -59,7 +59,7 @@ def main():
             sys.exit(f"{command[-1]} doesn't answer as symfilt's command line does: {' '.join([*ways[0], '_Z1fv', '_Z1fQ'])}")
     text = sys.stdin.buffer.read()
     lines = [line for line in text.split(b"\n") if line]
-    # a command line is text, and an option begins with a dash
+    # only ASCII words can be on a command line here, and a word that begins with a dash would be an option
     words = [line.decode() for line in lines if line.isascii() and not line.startswith(b"-")]
     if not words:
         sys.exit("no symbols on standard input")

@@ -1,13 +1,13 @@
 #!/usr/bin/env python3
-"""Compares each symbol's answer at its exact cost and at one below with another implementation's.
+"""Compares each symbol's answer at its exact cost and at one less with another implementation's.
 
     tests/costs.py [--wide] LIBRARY REFERENCE < SYMBOLS
 
 LIBRARY is the shared library (tools/pack.sh makes libsymdemangle.so). REFERENCE is a Python module with
 demangle(symbol, limit), whose result has `answer` ("text", "TooLong", "Malformed", "BadReference" or "BadValue"), `text`,
-`cost` and `at`. SYMBOLS has one symbol a line. With --wide the library reads C++ by the wide grammar, as REFERENCE then has to.
-At its cost a symbol has its text; at one below it is too long; one that is refused is refused for the same reason at the same
-place, at limits of 0 and 1,000,000. It prints each difference, and its status is 1 where there is one.
+`cost` and `at`. SYMBOLS has one symbol a line. With --wide the library reads C++ by the wide grammar, and REFERENCE has to do so, too.
+At a limit of its cost a symbol has its text, and at one less it is too long. A symbol that is refused is refused for the same reason at the
+same place, at limits of 0 and 1,000,000. The script prints each difference, and its status is 1 where there is one.
 """
 
 import ctypes

@@ -22,7 +22,7 @@ def main():
     symbols = []
     for mode, share in (("mutated", 3), ("valid", 1)):
         symbols += [s for s in generator.symbols(seed, count * share // 4, "cpp", mode) if b"\n" not in s]
-    # each symbol that is well shaped, cut at each place
+    # each of the last symbols, cut at each place
     for symbol in symbols[-60:]: symbols += [symbol[:k] for k in range(len(symbol))]
     table = reference.grammar("cpp", "final2")
     words = shlex.split(os.environ.get("TRY", "rt try"))

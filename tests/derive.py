@@ -5,11 +5,11 @@
     tests/derive.py [--wide] .. --rules [PROGRAM]                               prints how many symbols have each rule
 
 With --wide the table is that of the wide grammar, and its own rules are taken more often. Each symbol is steered towards some rules,
-which are picked at random, so that a rule which is added to the table occurs as often as the others. References have the numbers of
-existing candidates and arguments, now and then another one. In some symbols a kind is nested many times within itself, as in a chain
-of tags, some have lists of types where each has the one before it twice, and some have an encoding in a name's arguments, with types
-whose parameters denote others outside it. A symbol has at most BYTES bytes (200).
-With a PROGRAM, which has symfilt's command line, the second column says how many of them it answers with a text.
+which are picked at random, so that a rule which is added to the table occurs as often as the others. A reference has the number of a
+candidate or an argument that exists; now and then it has another number. In some symbols a kind is nested many times within itself, as in a
+chain of tags. Some symbols have lists in which each type has the type before it twice. Some have an encoding in a name's arguments, with
+types whose parameters denote other arguments outside that encoding. A symbol has at most BYTES bytes (200). PROGRAM has symfilt's command
+line; with it the second column says how many of the symbols PROGRAM answers with a text.
 """
 
 import argparse
@@ -35,15 +35,15 @@ REFERENCES = {"Substitution", *PARAMETERS}
 REFERRING = {"PlainType", "QualifiedPlain", "TypeWithS", "AbbreviatedType", *REFERENCES}
 NAMING = {"Anonymous", "Operator", "ConstructorDigit", "ComponentAfterD"}
 TYPES = {"Type", "Plain", "Item", "ItemButRef", "Argument"}
-# names that never are candidates, and types that are one before what is of them
+# the productions of names that are never candidates, and those whose first part is a type that becomes a candidate before the other parts
 NAMES_ALONE = {"SimpleId", "OperatorReference"}
 TYPED = {"IntegerLiteral", "UnresolvedInType"}
-# the part that is an argument after what is declared of it
+# by production, the number of the part that is the argument itself, after what is declared of it
 DECLARED = {"AnyArgument": 0, "AnyElement": 0, "ArgumentWithT": 0, "DeclaredArgument": 1}
-# what a token is in a word that is read here; the names have lengths of one digit
+# by the class of a token, how it is matched in a word that `read` reads; a name is matched by its length, which has one digit there
 TOKENS = {grammar.NAME: re.compile(rb"[0-9]"), grammar.SEQ36: re.compile(rb"[0-9A-Z]*_"), grammar.DECIMAL: re.compile(rb"[0-9]*_"), grammar.DIGITS: re.compile(rb"[0-9]+")}
-# An encoding that names another one in its arguments, with types that have parameters: these types may be named again where the
-# outer one's arguments are meant. Each reference gets a number of its own.
+# Encodings whose arguments name another encoding, which has types with parameters. A substitution may name such a type again where its
+# parameters denote the outer encoding's arguments. Each reference gets a new number.
 NAMED_AGAIN = (
     b"_Z1oIicXadL_Z1iIicEv1PIT_T0_EEEEvS_S_",
     b"_Z1oIicZ1iIiJcsEEv1PIT_JDpT0_EERS_E1xEvPS_KS_1QIS_S_E",
@@ -56,14 +56,15 @@ NAMED_AGAIN = (
 BATCH = 200
 FAR = 10**6
 
-# a production that a kind takes at a byte, with its parts: nodes, bytes, tokens, and None for a kind that is empty
+# a production that a kind takes at a byte, with its parts: each is a node, bytes, a token, or None for a kind that is empty
 Node = collections.namedtuple("Node", "kind cls production byte parts")
-# a number or a name of such a class, in a production
+# a token of a class (a number or a name), in a production
 Token = collections.namedtuple("Token", "cls production")
-# what is known of a tree that a substitution may name: its free parameters, whether it has packs, the encoding in which
-# it was made, and whether in the signature of a lambda
+# what is known of a tree that a substitution may name: its free parameters, whether it has packs, the encoding in which it was made, and
+# whether it was made in the signature of a lambda
 Candidate = collections.namedtuple("Candidate", "parameters is_packed encoding in_lambda")
-# around a part: the encoding; which of the arguments that parameters name are packs, or None; where it is
+# what is around a part: its encoding; for each argument that parameters name, whether it is a pack, or None without arguments; whether the
+# part is in a lambda's signature, and whether it is in an expansion
 Around = collections.namedtuple("Around", "encoding scope in_lambda in_expansion")
 
 
@@ -105,7 +106,7 @@ class Table:
         return (node.kind, node.cls, node.production) in self.own
 
     def rule_name(self, node):
-        """A production, and where the wide grammar has it at a kind or at bytes of its own, these."""
+        """The name of a production; where only the wide grammar has the production at a kind and at bytes, also these."""
         return f"{node.production}, of {node.kind} {node.cls or ''} (wide)" if self.is_own(node) else node.production
 
 
@@ -127,13 +128,13 @@ class Derivation:
         return self.derived("Symbol", 0, targets)
 
     def types_of_types(self, size):
-        """An encoding with a type that has two others, for a list in which each has the one before it twice."""
+        """An encoding with a type that has two other types. From it a list is made in which each type has the type before it twice."""
         self.left = size
         rule = self.rng.choice((("ArgumentList", "AnyArgument"), ("FunctionRest", "RestItem")))
         return self.derived("Symbol", 0, [("Encoding", "Encoding"), ("Items", "Items"), rule, rule])
 
     def varied(self, word):
-        """The tree of a word, in which some types are others."""
+        """The tree of a word, in which some types are replaced by others."""
         tree = read(self.table, word)
         types = [(way, node) for way, kind, node in parts_within(self.table, tree) if node is not None and kind in TYPES]
         for way, node in sorted(types, key=lambda found: len(found[0]), reverse=True):
@@ -147,7 +148,7 @@ class Derivation:
         return own * (self.refers if production in REFERRING else 1)
 
     def distance(self, production, target):
-        """How far it is from the parts of a production to the target, and the number of the part on the way."""
+        """The least distance from a part of a production to the target, and the number of that part."""
         if production == target[1]:
             return 0, None
         if production == "Encoding" and target[1] in REFERENCES:
@@ -198,7 +199,7 @@ class Derivation:
 
 
 def parts_within(table, node):
-    """The ways to what is within a node, each with its kind and what is there."""
+    """The ways to a node and to the parts within it, each with the part's kind and the part."""
     ways = [((), node.kind, node)]
     while ways:
         way, kind, part = ways.pop()
@@ -208,7 +209,7 @@ def parts_within(table, node):
 
 
 def replaced(node, way, new):
-    """The node with another one at the end of a way."""
+    """The node, in which another node replaces the part at the end of a way."""
     if not way:
         return new
     parts = list(node.parts)
@@ -217,7 +218,7 @@ def replaced(node, way, new):
 
 
 def read(table, word):
-    """The tree of a word, which has to be a symbol. Its tokens represent others of their class."""
+    """The tree of a word, which has to be a symbol. Each of its tokens represents any token of its class."""
 
     def tree(kind, at):
         byte = word[at : at + 1].decode()
@@ -245,8 +246,8 @@ def read(table, word):
 
 
 def repeated(rng, table, tree, times, kind=None):
-    """The tree with some kind, or the given one, nested that many times more within itself; more often than not with
-    a rule of the wide grammar's own each time."""
+    """The tree, in which a node of the given kind, or of any kind, is nested that many more times within itself. More often than not each
+    turn has a rule that only the wide grammar has."""
     nodes = [(way, part) for way, _, part in parts_within(table, tree) if part is not None]
     own = [way for way, node in nodes if table.is_own(node)]
     kept = rng.choice(own) if own and kind is None and rng.random() < 0.6 else None
@@ -265,25 +266,25 @@ def repeated(rng, table, tree, times, kind=None):
 
 
 class Spelling:
-    """The bytes of a tree. Each reference is given a number when it is its turn; a reference with nothing to name is derived
-    anew."""
+    """The bytes of a tree. Each reference gets its number when it is written; a reference that has nothing to name is derived anew."""
 
     def __init__(self, derivation, again, newest, anywhere):
         self.derivation, self.table, self.rng = derivation, derivation.table, derivation.rng
         self.wild = 0.01
         self.edges = self.rng.choice((0, 0, 0, 0.05))
-        # how often a type within another one, or anywhere, is a substitution, and how often that is the newest candidate
+        # how often a type within another one is a substitution, how often that names the newest candidate, and whether a type anywhere may be one
         self.again, self.newest, self.anywhere = again, newest, anywhere
         self.out = bytearray()
         self.nodes = collections.Counter()
         self.candidates = []
         self.encodings = 0
-        # the packs among the arguments that a name just ended in, or None; whether the name so far is a candidate or never is one
+        # for each argument of the list in which a name just ended, whether it is a pack, or None without a list; whether the name so far
+        # needs no candidate: it is one already, or is never one
         self.arguments, self.listed = None, True
         self.types_around = 0
-        # the candidates up to which all compilers count alike, once one isn't
+        # how many of the first candidates all compilers count alike, or None as long as they count all alike
         self.counted_alike = None
-        # the parameters that were named so far, and how many packs
+        # the parameters that were named so far, and how many of them name packs
         self.named, self.packed = [], 0
 
     def word(self, tree):
@@ -301,15 +302,15 @@ class Spelling:
         return [number for number, named in enumerate(alike) if self.can_be_named(named, around)]
 
     def append_apart(self, around):
-        """A candidate that not all compilers count: neither it nor the one before it can be named."""
+        """Appends a candidate that only some compilers count. From then on neither this candidate nor the one before it can be named."""
         if self.counted_alike is None:
             self.counted_alike = max(0, len(self.candidates) - 1)
         self.append(around)
 
     def can_be_named(self, named, around):
-        """Whether a candidate can be named. By the wide grammar one with free parameters can be named elsewhere than
-        where it was made: in the signature of a lambda, or where there are arguments for its parameters, which are no packs where
-        it has several."""
+        """Whether a candidate can be named. By the wide grammar a candidate with free parameters can also be named elsewhere than where it
+        was made: in the signature of a lambda, or where its parameters have arguments. A candidate with several parameters needs arguments
+        that are no packs."""
         if not named.parameters:
             return around.in_expansion or not named.is_packed
         if named.encoding == around.encoding and not around.in_lambda and not named.in_lambda:
@@ -349,7 +350,7 @@ class Spelling:
         return number
 
     def possible(self, node, around):
-        """The node, or another one of its kind where it would refer to what isn't there."""
+        """The node, or another one of its kind where the node would refer to what doesn't exist."""
         if self.rng.random() < self.wild:
             return node
         is_within = self.types_around or self.anywhere
@@ -415,7 +416,7 @@ class Spelling:
         return ()
 
     def is_pack(self, node):
-        """Whether it is an argument that is a pack, under any number of declarations."""
+        """Whether a node is an argument that is a pack, after any number of declarations."""
         while isinstance(node, Node) and node.production in DECLARED:
             node = node.parts[DECLARED[node.production]]
         return isinstance(node, Node) and node.production == "OnePack"
@@ -471,7 +472,7 @@ def is_new(inner):
 
 
 def counted(number, base):
-    """A number with an underscore after it; an underscore by itself is the first."""
+    """A number with an underscore after it. The first number is the underscore alone."""
     digits = b""
     while number > 0:
         number, digit = divmod(number - 1, base) if not digits else divmod(number, base)
@@ -511,7 +512,7 @@ class Words:
 
 
 def answers(program, wide, words):
-    """For each word, whether a program answers it with a text, or else the reason."""
+    """A program's answer for each word: `text` where the word has a text, and otherwise the reason of the refusal."""
     command = [*command_of(program), *(["--wide"] if wide else []), "--", *words]
     done = subprocess.run(command, stdout=subprocess.DEVNULL, stderr=subprocess.PIPE)
     reasons = collections.deque(line for line in done.stderr.split(b"\n") if line)

@@ -3,10 +3,11 @@
 
     tests/examples.py PREFIX [LIBDIR]
 
-PREFIX is where tools/install.sh put the libraries. An example of a page is a block of c, cpp, rust, python or go, a whole program; a
-block of text after it is what it prints. One with the word `arena` after its language is linked with libsymdemangle_arena.a. Rattle's
-is the source of a crate that the gate proves. What the headers' comments show is compiled as the body of a function. Languages whose
-compiler isn't installed are named and left out. The status is 1 where one differs, 2 where there is none.
+PREFIX is where tools/install.sh put the libraries. An example of a page is a block of c, cpp, rust, python or go that is a whole program; a
+block of text after it is what the program prints. An example with the word `arena` after its language is linked with
+libsymdemangle_arena.a. The example in Rattle is the source of a crate that the gate proves. Code in the headers' comments is compiled as
+the body of a function. Languages whose compiler isn't installed are named and left out. The status is 1 where an example differs, 2 where
+there is none.
 """
 
 import glob
@@ -20,10 +21,10 @@ import tempfile
 TOP = os.path.join(os.path.dirname(os.path.abspath(__file__)), "..")
 PAGES = os.path.join(TOP, "docs", "callers")
 BLOCK = re.compile(r"^```(c|cpp|rust|python|go)( arena)?\n(.*?)^```\n(?:```text\n(.*?)^```\n)?", re.M | re.S)
-# cargo wants to see the crate cc, which Debian has as librust-cc-dev.
+# cargo requires the crate cc, which Debian has as librust-cc-dev.
 CRATES = ["--config", os.path.join(TOP, "tests", "callers", "debian_crates.toml")] if glob.glob("/usr/share/cargo/registry/cc-*") else []
 NEEDS = {"c": "cc", "cpp": "c++", "rust": "cargo", "python": "python3", "go": "go"}
-# The fragments of the headers' comments as programs. A line that prints has what it prints after two slashes.
+# The program around a fragment of the headers' comments. A line of a fragment that prints has its output after two slashes.
 FRAGMENT = """{includes}
 int main(void)
 {{
@@ -128,7 +129,7 @@ class Examples:
             self.tell(f"{name} shows nothing", False, subprocess.CompletedProcess([], 1, "", ""))
 
     def rattle(self):
-        """The page's source is the crate's."""
+        """Checks that the source on the page is that of the crate."""
         with open(os.path.join(PAGES, "RATTLE.md"), encoding="utf-8") as file:
             shown = re.search(r"^```rust\n(.*?)^```$", file.read(), re.M | re.S)[1]
         with open(os.path.join(TOP, "crates", "example_demangle", "src", "lib.rt"), encoding="utf-8") as file:

@@ -1,6 +1,6 @@
-/* Has one read or write fail: the one whose number, counted from 1, is in FAIL. How it fails is in FAIL_HOW: `error`
-   (EIO), `none` (a write takes no byte) or `short` (it moves one byte). It makes the file that FAIL_MARK names where it does.
-   It is preloaded. */
+/* A library, to be preloaded, that makes the read or write fail whose number, counted from 1, is in FAIL. FAIL_HOW says how the call
+   fails: `error` (EIO), `none` (a write takes no byte) or `short` (the call moves one byte). When the call fails, the library makes the
+   file that FAIL_MARK names. */
 #define _GNU_SOURCE
 #include <dlfcn.h>
 #include <errno.h>
@@ -12,7 +12,7 @@
 
 static long left = -1;
 
-/* How the call is to fail, or 0 where it isn't. */
+/* How the call has to fail, or 0 if it has to succeed. */
 static char fails(int reads)
 {
     if (left < 0) {

@@ -1,8 +1,8 @@
 #!/bin/bash
-# Has each read and each write of symfilt fail in turn, outright, with no byte taken, and with one byte moved, over command
-# lines longer than a page and over texts that are filtered. One that fails has to end with status 3, the last line on
-# standard error `symfilt: read failed` or `symfilt: write failed`, and standard output a beginning of the usual; one that moves
-# a byte must change nothing.
+# Makes each read and each write of symfilt fail in turn, over command lines longer than a page and over texts that are filtered. The call
+# fails outright, takes no byte, or moves only one byte. A run with a call that fails has to end with status 3; its last line on standard
+# error has to be `symfilt: read failed` or `symfilt: write failed`, and its standard output a beginning of the usual output. A call that
+# moves one byte must change nothing.
 #
 #   tests/fail_calls.sh SYMFILT
 set -u
@@ -38,12 +38,11 @@ ends_well() {
         return
     fi
     [ "$status" -eq 3 ] && begins "$work/out" "$work/whole" || return 1
-    # the words of the fault come after the complaints so far, which a failed write may have cut off
+    # the words of the fault follow the complaints so far, which a failed write may have cut off
     [ "$(tail -n 1 "$work/err" | tail -c $((${#which} + 17)))" = "symfilt: $which failed" ]
 }
 
-# fail_each NAME STATUS WORD..: runs the program on the words until no call is left to fail; the status is that of a run in
-# which none fails
+# fail_each NAME STATUS WORD..: runs the program on the words until no call is left to fail; STATUS is the status of a run in which no call fails
 fail_each() {
     local name=$1 usual=$2 which how number status tried=0
     usual_run "$@"

@@ -1,13 +1,13 @@
 #!/usr/bin/env python3
-"""Looks for words that symfilt and another implementation answer otherwise, and makes them as short as it can.
+"""Looks for words that symfilt and another implementation answer differently, and makes them as short as it can.
 
     tests/fuzz.py SYMFILT REFERENCE [--seed N] [--seconds S] [--size BYTES] [--lang rust|cpp|both] [--wide] [FILE..]
 
-SYMFILT is the built program, REFERENCE another one, as for compare.py. The words are symbols that are cut, flipped, spliced,
-that name a part twice, or have numbers at the edges of their ranges. They come from those of FILE, one a line, or from
-the rows of crates/check_rows/stdin; and half of the C++ words are made by the grammar's table (derive.py), and are used as they are
-or changed in these ways. With --wide both read C++ by the wide grammar, and the words are made by it. A word has at most BYTES bytes
-(400), and after S seconds (60) it ends. The status is 1 where a word is answered otherwise, 2 where nothing was compared.
+SYMFILT is the built program, REFERENCE another one, as for compare.py. The words are changed symbols: they are cut, flipped or spliced,
+they name a part twice, or they have numbers at the edges of their ranges. The symbols are those of FILE, one a line, or of the rows of
+crates/check_rows/stdin. Half of the C++ words are made by the grammar's table (derive.py), and are used as they are or changed in these
+ways. With --wide both programs read C++ by the wide grammar, and the words are made by it. A word has at most BYTES bytes (400), and the
+script ends after S seconds (60). The status is 1 where a word is answered otherwise, 2 where nothing was compared.
 """
 
 import argparse
@@ -81,7 +81,7 @@ def double(rng, word, _others):
 
 
 def refer_twice(rng, word, _others):
-    """A reference comes twice, or another one takes its place."""
+    """Writes a reference twice, or replaces it by another one."""
     found = list(REFERENCE.finditer(word))
     if not found:
         return double(rng, word, _others)
@@ -92,7 +92,7 @@ def refer_twice(rng, word, _others):
 
 
 def edge(rng, word, _others):
-    """A number is one at the edge of a range, or has a zero in front."""
+    """Replaces a number by one at the edge of a range, or writes a zero before it."""
     found = list(NUMBER.finditer(word))
     if not found:
         return insert(rng, word, _others)
@@ -118,13 +118,13 @@ def changed(rng, seeds, size):
 
 
 def made(rng, seeds, derived, size):
-    """Words for one batch: half of them by the grammar, if there is one, and changed ones of these and of the seeds."""
+    """Words for one batch. With a grammar half of them are its symbols. The others are changed words of these and of the seeds."""
     fresh = [derived.word() for _ in range(BATCH // 2)] if derived else []
     return fresh + [changed(rng, rng.choice((seeds, fresh or seeds)), size) for _ in range(BATCH - len(fresh))]
 
 
 def options_of(rng, way):
-    """The words of a way, with a limit at which some symbols are too long."""
+    """The options of a way to call the programs, perhaps with a limit at which some symbols are too long."""
     return [str(rng.randrange(10, 300)) if word == ANY else word for word in way]
 
 
@@ -159,7 +159,7 @@ class Pair:
 
 
 def first_different(differs, words):
-    """A word that differs by itself, of some that differ together."""
+    """A word that is answered differently by itself, one of some words that are answered differently together."""
     while len(words) > 1:
         half = len(words) // 2
         words = words[:half] if differs(words[:half]) else words[half:]
@@ -167,7 +167,7 @@ def first_different(differs, words):
 
 
 def shrunk(differs, word):
-    """A shorter word that differs too: pieces are taken out, ever smaller ones, for as long as PATIENCE lasts."""
+    """A shorter word that is answered otherwise, too: ever smaller pieces are taken out, as long as PATIENCE lasts."""
     until = time.monotonic() + PATIENCE
     size = max(len(word) // 2, 1)
     while size:

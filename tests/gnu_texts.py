@@ -3,11 +3,10 @@
 
     tests/gnu_texts.py [--shown N] DEMANGLE [FILE..]
 
-Without files the symbols are those of `crates/check_rows/stdin` and of the lists in `bench`. For each C++ symbol that DEMANGLE
-reads, the text has to be the spelling, by this script, of what DEMANGLE prints without the option; for all else the line has to
-be the same. Where a `c++filt` of binutils is installed, its text has to be the same for 98 of 100 symbols of
-`bench/fresh_cpp.txt` that both read. The status is 1 where a text is wrong or the share is smaller, 2 where the program can't
-be run.
+Without files the symbols are those of `crates/check_rows/stdin` and of the lists in `bench`. For each C++ symbol that DEMANGLE reads, the
+text has to be what this script makes of the text that DEMANGLE prints without the option. For all other symbols the line has to be the same
+with and without the option. Where a `c++filt` of binutils is installed, its text has to be the same for 98 of 100 symbols of
+`bench/fresh_cpp.txt` that both read. The status is 1 where a text is wrong or the share is smaller, 2 where the program can't be run.
 """
 
 import argparse
@@ -30,7 +29,7 @@ NAMES = {
     b"string": b"std::basic_string<char, std::char_traits<char>, std::allocator<char> >",
     b"nullptr_t": b"decltype(nullptr)",
 }
-# an operator's name, a name of std with a constructor or destructor, a suffix
+# an operator's name; a name of std, perhaps with a constructor or destructor; or a suffix
 PIECE = re.compile(
     rb"(?P<operator>(?<!" + LETTER + rb")operator(?:<=>|->|>>|\(\)|>))"
     rb"|(?P<std>(?<!:)(?<!" + LETTER + rb")std::(?P<name>istream|iostream|ostream|string|nullptr_t)(?!" + LETTER + rb")"
@@ -41,7 +40,7 @@ PIECE = re.compile(
 
 
 def clones(dots):
-    """A suffix, each part with the numbers after it in brackets of its own."""
+    """A suffix as GNU's demangler spells it: each part, with the numbers after it, is in brackets of its own."""
     return b" [clone " + re.sub(rb"(?<=.)\.(?![0-9])", b"] [clone .", dots, flags=re.S) + b"]"
 
 
@@ -64,7 +63,7 @@ def spelled(text):
             last = b"]"
         else:
             byte = text[at:at + 1]
-            # an operator's sign is no bracket, and a template that is written in full ends with one
+            # an operator's sign isn't a bracket; a template that is written in full ends with a bracket
             if (byte, last) in ((b">", b">"), (b"[", b")")):
                 out.append(b" ")
             out.append(byte)
@@ -90,7 +89,7 @@ def lines_of(command, symbols):
 
 
 def share(program):
-    """For how many of 100 symbols that both read c++filt has the same text; None where c++filt isn't there."""
+    """How many of 100 symbols that both read have the same text by c++filt; None where c++filt isn't installed."""
     if shutil.which("c++filt") is None or b"GNU" not in subprocess.run(["c++filt", "--version"], capture_output=True, check=False).stdout:
         return None
     symbols = symbols_in(FRESH)

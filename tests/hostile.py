@@ -3,15 +3,15 @@
 
     tests/hostile.py DEMANGLE
 
-Each word has 100 to 400 bytes and denotes a text of more than a million, or of some ten thousands. A program that prints up to
-the limit before it refuses takes 26 to 74 times as long at the default limit as at one of 5,000; it may take eight times.
+Each word has 100 to 400 bytes and denotes a text of more than a million bytes, or of some ten thousands. At the default limit a program that
+prints up to the limit before it refuses takes 26 to 74 times as long as at a limit of 5,000. The program may take eight times as long.
 
-Texts of packs under pointers cost less than the default limit, so they are written whole. A word of 400 types, each under 400
-pointers, takes some eight times as long as with the low limit, and may take 24 times. Where each pointer is taken by itself it
-takes 44 times.
+Texts of packs under pointers cost less than the default limit, so they are written whole. A word of 400 types, each under 400 pointers
+or 200 pointers to constant types, takes some eight times as long as with the low limit, and may take 12 times as long. A program that takes
+each pointer by itself takes 44 times as long for the first, and one that takes three pointers to constant types at once 18 times for the second.
 
-Then all these words are one input, for which the program takes at most 30 MB at any time, and at most 50 MB where words as long
-as it reads are among them.
+Then all these words are one input, for which the program may take at most 30 MB at any time. The limit is 50 MB for an input that also has
+words as long as the program reads.
 """
 import os
 import resource
@@ -20,7 +20,7 @@ import sys
 import tempfile
 
 MOST = 8.0
-MOST_OF_POINTERS = 24.0
+MOST_OF_POINTERS = 12.0
 RUNS = 5
 WORDS = 40
 LOW = "5000"
@@ -31,7 +31,7 @@ DIGITS = "0123456789abcdefghijklmnopqrstuvwxyzABCDEFGHIJKLMNOPQRSTUVWXYZ"
 
 
 def spelled(letter, number, digits):
-    """A reference with this letter: no digits for 0, else those of the number below."""
+    """A reference with this letter. It has no digits for 0, and otherwise the digits of the number less one."""
     if number == 0:
         return f"{letter}_"
     number -= 1
@@ -53,7 +53,7 @@ def substitution(number):
 
 
 def cpp_word(begins, first, wraps, levels):
-    """A C++ function of types, each made of the one before: `wraps` says how, and how many candidates it is."""
+    """A C++ function of types, each made of the type before it. `wraps` makes a type, and says how many candidates it adds."""
     text, number = "_Z1f" + begins, first
     for _ in range(levels):
         more, candidates = wraps(substitution(number))
@@ -63,17 +63,17 @@ def cpp_word(begins, first, wraps, levels):
 
 
 def pack_word(elements, wraps, levels):
-    """A C++ function of expansions over a pack of this many elements, each made of the one before."""
+    """A C++ function of expansions over a pack of this many elements. Each expansion is made of the one before it."""
     return cpp_word(f"IJ{'i' * elements}EEvDpPFvT_E", 3, lambda that: (f"Dp{wraps(that)}", 3), levels)
 
 
-def pointers_word(elements, levels):
-    """A C++ function of an expansion over a pack of this many elements, each under this many pointers."""
-    return f"_Z1fIJ{'i' * elements}EEvDp{'P' * levels}T_"
+def pointers_word(elements, levels, pointer="P"):
+    """A C++ function of an expansion over a pack of this many elements. Each element is under this many pointers."""
+    return f"_Z1fIJ{'i' * elements}EEvDp{pointer * levels}T_"
 
 
 def rust_word(first, wraps, levels):
-    """An instance of a Rust function over types, each made of the one before."""
+    """An instance of a Rust function over types, each made of the type before it."""
     text = "_RINvC3foo3bar"
     place = len(text) - 2
     text += first
@@ -115,6 +115,7 @@ def packs_of_pointers():
     return {
         "packs of pointers, 80 by 60": pointers_word(80, 60),
         "packs of pointers, 400 by 400": pointers_word(400, 400),
+        "packs of pointers to constant types, 400 by 200": pointers_word(400, 200, "PK"),
     }
 
 
@@ -131,7 +132,7 @@ def seconds(program, options, text):
 
 
 def long_words():
-    """Words of as many bytes as the program reads, that have many rows, nodes or levels."""
+    """Words that are as long as the program reads, and have many rows, nodes or levels."""
     half, quarter, fifth = LONGEST // 2 - 20, LONGEST // 4 - 20, LONGEST // 5 - 20
     return [
         "_Z1f" + "P" * 2 * half + "i",
@@ -146,7 +147,7 @@ def long_words():
 
 
 def kilobytes(program, options, text):
-    """The most memory that a run over the text has at once."""
+    """The greatest memory of a run over the text."""
     with tempfile.TemporaryFile() as file:
         file.write(text)
         file.seek(0)

@@ -3,11 +3,11 @@
 
     tests/json_lines.py DEMANGLE [--seed N] [--count N]
 
-The names are of each sort, some that can't be in a text of JSON as they are, and some of any bytes, as arguments and in a text.
-Each line has to be UTF-8 without control characters and one object by both readers; jq is left out where it isn't installed.
-What the object of a name says is compared with what the program says of the name without `--json`. Each part is a stretch of its
-text, they are in the order of their starts, and of two one is within the other, or they are apart. The status is 1 where something
-comes out otherwise, 2 where the program can't be run.
+The names are of each sort; some of them can't be in a text of JSON as they are, and some have any bytes. They are given as arguments and in
+a text. Each line has to be UTF-8 without control characters, and has to be one object for both readers; jq is left out where it isn't
+installed. What the object of a name says is compared with what the program says of the name without `--json`. Each part has to be a stretch
+of its text; the parts are in the order of their starts, and of two parts one is within the other, or they are apart. The status is 1 where
+something comes out otherwise, 2 where the program can't be run.
 """
 
 import argparse
@@ -45,7 +45,7 @@ FOO_BAR = "scope:0+3@4-9 crate:0+3@4-9 base:5+3@9-13"
 DEMO_MAIN = "scope:0+4@3-8 crate:0+4@3-8 base:6+4@8-13"
 LITERAL = "base:0+13@2-7 parameters:13+13@7-10 parameter:14+11@7-10"
 
-# options, names and what each one's object has to say beside the name
+# options, names, and what the object of each name has to say beside the name
 NAMES = [
     ([], b"_Z1fv", text("f()", ITANIUM, "function", F)),
     ([], b"__Z1fv", text("f()", ITANIUM, "function", "base:0+1@3-5 parameters:1+2@5-6")),
@@ -135,7 +135,7 @@ class Checks:
         return done.stdout, done.stderr, done.returncode
 
     def with_names(self, options, names):
-        """The program over any names, by a file of arguments."""
+        """Runs the program over any names, by a file of arguments."""
         with tempfile.NamedTemporaryFile() as file:
             file.write(b"\n".join(quoted(name) for name in names))
             file.flush()
@@ -182,7 +182,7 @@ class Checks:
             said = found.get("text")
             self.check_details(found)
             if said is not None:
-                # without objects a name is a line of text, where no symbol has a byte of no word
+                # without `--json` a name is a line of text, and a byte that no word has ends a symbol there
                 out, _, _ = self.with_names([], [name])
                 self.require(OTHER_BYTES.search(name) or shown(out) == said + "\n", "%r: %r, not %r" % (name, said, out))
             elif found.get("error") not in REASONS:
@@ -201,14 +201,14 @@ class Checks:
         before = []
         for part in found.get("parts", []):
             start, end = part["start"], part["start"] + part["length"]
-            # a byte that isn't UTF-8 is three in the string
+            # a byte that isn't UTF-8 becomes three bytes in the string
             self.require(0 <= start <= end <= size, "no stretch: %r" % found)
             self.require(0 <= part["from"] <= part["to"] <= spelled, "no bytes of the name: %r" % found)
             self.require(all(other <= start and (end <= last or last <= start) for other, last in before), "out of order: %r" % found)
             before.append((start, end))
 
     def check_any_text(self, text_):
-        """A text of any bytes: an object for each word that `--why` counts, and the lines are those of the words left."""
+        """A text of any bytes: each word that `--why` counts has an object, and the numbers of the lines are those of the words that are left."""
         out, _, _ = self.run(["--json"], text_)
         objects = self.objects(out)
         for found in objects:

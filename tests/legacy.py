@@ -6,9 +6,9 @@
 SYMFILT is the built program. Each FILE is a program or a library with symbols that `nm` lists, or a text with one a line
 (`.txt`). Their legacy names (`_ZN`, a path, `17h`, sixteen digits, `E`, maybe a suffix) are given to `symfilt --legacy`, to
 `c++filt`, and to the rustc-demangle that is among rustc's own libraries, by a small program that `rustc` compiles first.
-What isn't there is left out. Both show a path as symfilt does, c++filt with its hash. Each shows a suffix in a way of its own, and
-c++filt keeps escapes of characters beyond ASCII; these are counted apart. It prints each other difference, and the status is
-1 where there is one, 2 where there is nothing to compare.
+A program that isn't installed is left out. Both show a path as symfilt does, and c++filt adds the hash. Each shows a suffix in a way of its
+own, and c++filt keeps escapes of characters beyond ASCII; these differences are counted apart. The script prints each other difference. The
+status is 1 where there is one, 2 where there is nothing to compare.
 """
 
 import collections
@@ -60,7 +60,7 @@ def texts_by(command, names):
 
 
 def class_of(text, suffix, other):
-    """How another text of a name agrees with symfilt's, or None where it doesn't."""
+    """How another program's text of a name agrees with symfilt's, or None where it doesn't."""
     if other == text:
         return "same text"
     bare = text[: -len(suffix) - 3] if suffix else text
@@ -70,7 +70,7 @@ def class_of(text, suffix, other):
 
 
 def compare(title, names, texts, others):
-    """Counts the classes of one implementation's texts, and prints the differences. Their number."""
+    """Counts the classes of one implementation's texts, prints the differences, and answers how many there are."""
     classes, different = collections.Counter(), 0
     for name, text, other in zip(names, texts, others):
         found = NAME.fullmatch(name)

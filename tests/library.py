@@ -1,8 +1,8 @@
 #!/usr/bin/env python3
 """Builds crates/symdemangle/out/libsymdemangle.a over the libraries that `rt ci` has proved and left in crates/*/out/rlib.
 
-`rt ci` proves the static library and doesn't keep it, and `rt lib` would prove each crate below it again. Here the static library's
-own functions are proved and compiled, over what is there: tests/library.py. The status is 0 where it was built.
+`rt ci` proves the static library and doesn't keep it, and `rt lib` would prove each crate that it uses again. This script proves and
+compiles only the static library's own functions, over the libraries that are there. The status is 0 where the static library was built.
 """
 
 import os

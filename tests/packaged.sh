@@ -1,15 +1,16 @@
 #!/bin/bash
-# The packages that compile the library's C file, as they are packed: each is unpacked, built and tested without a network, without the
-# kit and without an installed library, by the tests of its caller in callers/.
+# Tests the packages that compile the library's C file, as they are packed. Each package is unpacked, built and tested without a network,
+# without the kit and without an installed library, by the tests of its caller in callers/.
 #
 #   tests/packaged.sh [-d DIST] [-w PAGE] [-b] [python | npm | recipes | rust | go | c]..
 #
 #   -d DIST    the folder that tools/portable/make.sh made, in the place of dist/
 #   -w PAGE    the folder that web/module/make.sh made, with the module of the package for JavaScript
-#   -b         changes an answer in a copy of the C file (an export in one of the module) instead: the tests of each have to fail on it
+#   -b         changes an answer in a copy of the C file (or an export in a copy of the module) instead: the tests of each package have to fail on the copy
 #
-# What isn't installed is named and left out: cargo with the crate cc (librust-cc-dev), go, node, npm, tsc; cross compilers for 64-bit ARM
-# Linux and Windows, with qemu-aarch64 and wine; what reads the recipes of dist/packaging. A dist/ of other sources isn't tested.
+# Programs that aren't installed are named, and their tests left out: cargo with the crate cc (librust-cc-dev), go, node, npm, tsc; cross
+# compilers for 64-bit ARM Linux and Windows, with qemu-aarch64 and wine; and the programs that read the recipes of dist/packaging. A dist/
+# that was made from other sources isn't tested.
 set -euo pipefail
 cd "$(dirname "$0")/.."
 dist= page= breaks=no
@@ -22,7 +23,7 @@ while getopts d:w:b option; do
     esac
 done
 shift $((OPTIND - 1))
-# the slowest first
+# the slowest packages come first
 [ $# -gt 0 ] || set -- python npm recipes rust go c
 if [ -z "$dist" ]; then
     dist=$PWD/dist left=
@@ -45,16 +46,16 @@ export PKG_CONFIG=false
 has() { # has PROGRAM WHAT : whether a program is installed
     command -v "$1" >/dev/null || { echo "$1 isn't installed: $2 isn't tested"; return 1; }
 }
-quiet() { # quiet COMMAND.. : what it prints is shown where it fails
+quiet() { # quiet COMMAND.. : shows what the command prints, if the command fails
     "$@" >"$work/out" 2>&1 || { tail -n 400 "$work/out"; return 1; }
 }
-made() { # made LANGUAGE [OPTION..] : the packages of a language
+made() { # made LANGUAGE [OPTION..] : makes the packages of a language
     local language=$1
     shift
     quiet tools/language_packages.sh -d "$dist" "$@" "$work/packages" "$language"
 }
 
-# The C file by itself: its names are the header's, and a C and a C++ caller are answered as over the archive.
+# The C file by itself: it has only the names of the header, and it answers a C and a C++ caller as the archive does.
 try_c() {
     quiet cc -std=c99 -O1 -I "$dist" -c "$dist/symdemangle.c" -o "$work/symdemangle.o"
     local others
@@ -64,7 +65,7 @@ try_c() {
     quiet c++ -std=c++17 -I "$dist" callers/c/calls.cc "$work/symdemangle.o" -o "$work/calls++"
     quiet "$work/calls"
     quiet "$work/calls++"
-    # as the folder callers/go compiles it in a clone
+    # the file is compiled as the folder callers/go compiles it in a clone
     quiet cc -std=c99 -fsyntax-only -I "$dist" callers/go/library.c
     echo 'c: ok'
 }
@@ -87,7 +88,7 @@ try_go() {
     echo 'go: ok'
 }
 
-has_answers() { # has_answers COMPILER LIBRARY RUN.. : a caller in C over the library of a wheel
+has_answers() { # has_answers COMPILER LIBRARY RUN.. : runs a caller in C over the library of a wheel
     local compiler=$1 library=$2
     shift 2
     quiet "$compiler" -std=c99 -I "$dist" callers/c/calls.c "$library" -o "$(dirname "$library")/calls.exe"
@@ -101,10 +102,10 @@ try_python() {
     quiet "$work/venv/bin/pip" wheel --quiet --no-cache-dir --no-index --disable-pip-version-check -w "$work/wheels" "$packages"/symdemangle-*.tar.gz
     quiet "$work/venv/bin/pip" install --quiet --no-cache-dir --no-index --disable-pip-version-check "$work"/wheels/*.whl
     (cd "$work" && quiet "$work/venv/bin/python" "$OLDPWD/callers/python/tests/calls.py")
-    # wheels for other machines, whose library a caller in C calls
+    # wheels for other machines: a caller in C calls their library
     COMPILERS='aarch64-linux-gnu-gcc x86_64-w64-mingw32-gcc' CFLAGS=-O1 made python
     grep "isn't installed" "$work/out" || true
-    # (none, where no compiler for another machine is installed)
+    # (there is none if no compiler for another machine is installed)
     local wheels=("$packages"/*.whl)
     [ -e "${wheels[0]}" ] || wheels=()
     for wheel in ${wheels[@]+"${wheels[@]}"}; do (cd "$packages" && mkdir "$wheel.d" && python3 -m zipfile -e "$wheel" "$wheel.d"); done
@@ -151,7 +152,7 @@ try_recipes() {
     cat "$work/out"
 }
 
-broken() { # broken LANGUAGE : the tests of a language have to fail where the C file or the module answers otherwise
+broken() { # broken LANGUAGE : checks that the tests of a language fail on a C file or a module that answers otherwise
     local copy=$work/broken
     rm -rf "$copy" && mkdir "$copy"
     if [ "$1" = npm ]; then
@@ -178,7 +179,7 @@ if [ $breaks = yes ]; then
     exit
 fi
 
-one() { # one LANGUAGE : tries it in a folder of its own, and keeps what is said, and the status
+one() { # one LANGUAGE : tests the packages of a language in a folder of its own, and keeps the output and the status
     set +e
     (
         set -e
@@ -188,7 +189,7 @@ one() { # one LANGUAGE : tries it in a folder of its own, and keeps what is said
     ) >"$work/$1.said" 2>&1
     echo $? >"$work/$1.status"
 }
-# Two at a time, since most of the time is a compiler's.
+# Two languages are tested at a time, since a compiler takes most of the time.
 for it; do
     while [ "$(jobs -pr | wc -l)" -ge 2 ]; do wait -n || true; done
     one "$it" &

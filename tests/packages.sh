@@ -1,7 +1,7 @@
 #!/bin/bash
-# Installs everything under a folder of its own, tries what is there, and removes it again; then makes the release twice and
-# compares, and unpacks its packages: tests/packages.sh. It needs a committed, proved tree, as tools/release.sh does, and dpkg. What
-# isn't installed (mandoc, mandb, cmake, pkg-config, lintian) is named and left out.
+# Installs everything under a folder of its own, tries what is there, and removes it again. Then the script makes the release twice,
+# compares both, and unpacks the packages: tests/packages.sh. It needs a committed, proved tree, as tools/release.sh does, and dpkg. What
+# isn't installed (mandoc, mandb, cmake, pkg-config, lintian) is named, and its tests are left out.
 set -euo pipefail
 cd "$(dirname "$0")/.."
 work=$(mktemp -d)
@@ -16,7 +16,7 @@ has() { # has PROGRAM WHAT : whether a program is installed
     command -v "$1" >/dev/null || { echo "$1 isn't installed: $2 isn't tested"; return 1; }
 }
 
-# One version in every place that tells one.
+# Each place that has a version has the same one.
 version=$(sed -n 's/^#define SYMDEMANGLE_VERSION_[A-Z]* \([0-9]*\)$/\1/p' callers/c/symdemangle.h | paste -sd .)
 grep -q "^version = \"$version\"$" callers/rust/Cargo.toml || fail "callers/rust/Cargo.toml isn't of version $version"
 grep -q "^__version__ = \"$version\"$" callers/python/symdemangle/__init__.py || fail "callers/python isn't of version $version"
@@ -24,7 +24,7 @@ grep -q "^\.TH SYMFILT 1 [0-9-]* \"symdemangle $version\"" docs/symfilt.1 || fai
 grep -q "^SYMDEMANGLE_${version%.*} {$" callers/archive/names.map || fail "callers/archive/names.map isn't of version $version"
 [ "$(sed -n 's/^## \([0-9.]*\).*/\1/p' CHANGELOG.md | head -n 1)" = "$version" ] || fail "CHANGELOG.md begins with another version than $version"
 grep -q "^\.TH DEMANGLE 1 [0-9-]* \"symdemangle $version\"" docs/demangle.1 || fail "docs/demangle.1 isn't of version $version"
-# what mandoc says most often of a page, also where it isn't installed
+# this is mandoc's most frequent complaint about a page; it is tested also where mandoc isn't installed
 long=$(LC_ALL=C awk 'length > 80 { print FILENAME ":" FNR }' docs/symfilt.1 docs/demangle.1)
 [ -z "$long" ] || fail "lines of more than 80 bytes: $long"
 ! has mandoc 'the layout of the manual pages' || [ -z "$(mandoc -T lint docs/symfilt.1 docs/demangle.1 | tee /dev/stderr)" ] || fail 'the manual pages'
@@ -33,7 +33,7 @@ if has mandb 'that apropos finds the pages'; then
     [ "$(apropos -M "$work/man" demangle | sed -n 's/ (1).*//p' | sort | paste -sd ' ')" = 'demangle symfilt' ] || fail "apropos doesn't find the pages"
 fi
 
-# Installed into a package's folder, then removed: what was there before stays, and nothing else.
+# All is installed into a package's folder and then removed: what was there before stays, and nothing else.
 root=$work/root
 mkdir -p "$root/opt/it/lib64" && touch "$root/opt/it/lib64/other"
 DESTDIR=$root PREFIX=/opt/it LIBDIR=lib64 tools/install.sh
@@ -58,7 +58,7 @@ for wrong in '--what' 'relative'; do
     if tools/install.sh "$wrong" 2>/dev/null; then fail "tools/install.sh takes $wrong"; fi
 done
 
-# The release, twice, at different times and from different folders. Whether dist/ is of this tree is for tests/portable.sh to say.
+# The release is made twice, at different times and from different folders. tests/portable.sh tests whether dist/ was made from this tree.
 export OLD_DIST=passes
 tools/release.sh "$work/one" >/dev/null
 sleep 1
@@ -78,7 +78,7 @@ for lib in "$work/tar/lib" "$work/deb/usr/lib/x86_64-linux-gnu"; do
     cc -std=c99 -I callers/c callers/c/calls.c "$lib/libsymdemangle.a" -o "$work/calls"
     "$work/calls" >/dev/null
 done
-# What is found in them: by CMake in the tarball, wherever that is unpacked; by pkg-config in the package, as in a system's root.
+# CMake finds the library in the tarball, wherever that is unpacked, and pkg-config finds it in the package, as in a system's root.
 if has cmake 'what CMake finds'; then
     cmake -S tests/callers -B "$work/cmake" -DCMAKE_PREFIX_PATH="$work/tar" -DCALLS="$PWD/callers/c/calls.c" >"$work/out" &&
         cmake --build "$work/cmake" >>"$work/out" || fail "cmake: $(cat "$work/out")"
@@ -111,7 +111,7 @@ if has lintian 'what lintian finds in the packages'; then
         "$work"/one/*.deb 2>/dev/null || fail 'lintian finds errors or warnings'
 fi
 
-# What isn't committed isn't released.
+# A tree with files that aren't committed isn't released.
 touch docs/not-committed
 if tools/release.sh "$work/two" 2>"$work/err"; then rm docs/not-committed; fail 'a changed tree was released'; fi
 rm docs/not-committed

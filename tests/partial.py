@@ -3,11 +3,12 @@
 
     tests/partial.py DEMANGLE [NAMES..]
 
-Each of NAMES is a file of names, one a line; without one they are those of bench/. For each name that both read as a function its
-base, scope, parameters and return type have to have the same bytes, blanks and parentheses aside, since LLVM has more of both in
-expressions and addresses. Where LLVM spells a lambda, an unnamed type or a block otherwise the base alone is compared. It prints the
-names that differ, by how, and its status is 1 where more than 5 in 1,000 do: in these LLVM prints what an enclosing function returns,
-or takes another type for a substitution. LLVM's headers and library (Debian's llvm-dev) are needed.
+Each of NAMES is a file of names, one a line; without NAMES the names are those of bench/. For each name that both read as a function, the
+base, scope, parameters and return type have to have the same bytes. Blanks and parentheses aren't compared, since LLVM has more of them in
+expressions and addresses. Where LLVM spells a lambda, an unnamed type or a block otherwise, only the base is compared. The script prints
+the names that differ, with the parts in which they do. The status is 1 where more than 5 in 1,000 differ. In the differences that are
+known, LLVM prints the return type of an enclosing function, or takes another type for a substitution. LLVM's headers and library (Debian's
+llvm-dev) are needed.
 """
 
 import collections
@@ -28,13 +29,13 @@ MOST_TEXT = 10_000 # bytes of a text that is compared
 
 
 def config():
-    """The program that says where LLVM's library is, of the newest version that is installed."""
+    """The program that says where LLVM's library is, in the newest version that is installed."""
     found = [shutil.which(name) for name in ("llvm-config", *(f"llvm-config-{number}" for number in range(30, 10, -1)))]
     return next(filter(None, found), None)
 
 
 def peer(folder):
-    """Builds the program that asks LLVM's partial demangler, or answers None."""
+    """Builds the program that calls LLVM's partial demangler, or answers None."""
     if not (program := config()):
         return None
     said = lambda word: subprocess.run([program, word], capture_output=True, text=True, check=True).stdout.split()
@@ -55,7 +56,7 @@ def names_of(files):
 
 
 def parts_of(demangle, names):
-    """The four fields of each name that the program reads as a function, where its text isn't long: LLVM's demangler has no limit."""
+    """The four fields of each name that the program reads as a function, if the text isn't long: LLVM's demangler has no limit."""
     done = subprocess.run([demangle, "--json"], input=b"".join(name + b"\n" for name in names), stdout=subprocess.PIPE)
     fields = {}
     for line in done.stdout.splitlines():

@@ -3,11 +3,11 @@
 
     tests/parts.py ROWS [FILE..]
 
-ROWS is `crates/check_rows/stdin`, from which the rows `parts` are taken. Each FILE has symbols, one a line. For each
-name the text is the one without parts; the parts are slices of it in the order of their starts, and of two, one is within the other, or
-they are apart. The bytes that spell a part are in the name, and within those that spell the part around it. A function's text is put
-together from its outermost parts: what is between them is a blank, `::`, or the brackets of a suffix. SYMDEMANGLE_LIBRARY names the
-library where the package brings none. The status is 1 where something comes out otherwise.
+ROWS is `crates/check_rows/stdin`, from which the rows `parts` are taken. Each FILE has symbols, one a line. The text of each name has to be
+the one that a call without parts answers. The parts are slices of the text in the order of their starts, and of two parts one is within the
+other, or they are apart. The bytes that spell a part are in the name, and within the bytes that spell the part around it. A function's text
+consists of its outermost parts, with only a blank, `::`, or the brackets of a suffix between them. SYMDEMANGLE_LIBRARY names the library
+where the package brings none. The status is 1 where something comes out otherwise.
 """
 
 import re
@@ -17,7 +17,7 @@ import symdemangle
 
 FUNCTIONS = {"function", "constructor", "destructor", "operator", "conversion", "literal_operator", "lambda"}
 BETWEEN = {b"", b" ", b"::", b" (", b")"}
-# parts that no text has
+# parts whose bytes no text has
 HIDDEN = {"hash", "instantiating_crate"}
 MOST_FAULTS = 20
 
@@ -26,7 +26,7 @@ ESCAPES = {b"\\\\": b"\\", b"\\t": b"\t", b"\\n": b"\n", b"\\f": b"\xff"}
 
 
 def rows_in(path):
-    """The fields of the rows `parts` of a file: a symbol, what it is, its text, and the parts of that."""
+    """The fields of the rows `parts` of a file: a symbol, what it is, its text, and the text's parts."""
     with open(path, "rb") as rows:
         for row in rows.read().split(b"\n"):
             what, *fields = row.split(b"\t")
@@ -46,7 +46,7 @@ def end_of(part):
 
 
 def outermost(parts):
-    """The parts that are in no other."""
+    """The parts that are in no other part."""
     found = []
     for part in parts:
         if not found or part.start >= end_of(found[-1]):
@@ -77,7 +77,7 @@ def misplaced(name, text, parts):
 
 
 def loose(text, parts):
-    """A piece of a function's text that is in no part and between no two, or None."""
+    """A piece of a function's text that is in no part and that no two parts may have between them, or None."""
     place = 0
     for part in outermost(parts):
         if text[place : part.start] not in BETWEEN:

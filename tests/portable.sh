@@ -1,5 +1,5 @@
 #!/bin/bash
-# The C files of dist/ give the answers of what they were made from, on each machine that can be tried here:
+# Tests that the C files of dist/ give the answers of the programs they were made from, on each machine that can be tried here:
 #
 #   tests/portable.sh [-d DIST] [-m MACHINE].. [-q] [-s] [FILE..]
 #
@@ -9,9 +9,10 @@
 #   -s           also with AddressSanitizer and UndefinedBehaviorSanitizer; these builds take minutes
 #   FILE         symbols, one a line; without one 2,000 of each language of the installed libraries (bench/inputs.sh)
 #
-# On each machine the files compile without a warning, every row holds (`make check`), and symbols have the same answers with each sum
-# of flags as by the proved archive, and the same filtered text as by the proved programs, where these are built. It names what is
-# missing, and says where DIST is of an older tree. The status is 1 where an answer differs, or a file isn't what MANIFEST says.
+# On each machine the files have to compile without a warning, and every row has to hold (`make check`). With each sum of flags symbols have
+# to have the answers of the proved archive, and their filtered text has to be that of the proved programs, where these are built. The
+# script names what is missing, and says if DIST was made from an older tree. The status is 1 where an answer differs, or a file isn't what
+# MANIFEST says.
 set -u
 usage() {
     echo "usage: $0 [-d DIST] [-m MACHINE].. [-q] [-s] [FILE..]" >&2
@@ -59,7 +60,7 @@ cat "$work/rows" "$work/given" >"$work/names"
 head -n 300 "$work/names" >"$work/few"
 awk 'NR % 10 == 0' "$work/names" >>"$work/few"
 
-# What the proved ones answer; without them, what the first machine does.
+# What the proved archive and programs answer; without them, what the first machine answers.
 wanted_answers= wanted_texts= by='the first of these'
 archive=crates/symdemangle/out/libsymdemangle.a
 if [ -f $archive ] && command -v rt >/dev/null && tools/pack.sh "$work/packed" >/dev/null; then
@@ -72,10 +73,10 @@ for program in demangle symfilt; do
     [ -x crates/$program/out/$program ] || missing "the proved $program: \`rt run\` in crates/$program builds it"
 done
 
-answers() { # answers MACHINE NAMES : of its library, to a file
+answers() { # answers MACHINE NAMES : writes the answers of its library to a file
     (cd "$work/$1" && $run ./names$exe 16 <"$work/$2" >"$work/$1.$2")
 }
-filters() { # filters MACHINE NAMES : the programs' filter, against the proved programs', or the first machine's
+filters() { # filters MACHINE NAMES : compares the programs' filtered texts with those of the proved programs, or of the first machine
     local program options text
     while read -r program options; do
         text="$work/$program${options// /}.$2"
@@ -93,7 +94,7 @@ symfilt --wide --legacy --brief
 symfilt --no-params
 WAYS
 }
-compare() { # compare MACHINE NAMES : the answers of a machine with those of the proved library, or of the first machine
+compare() { # compare MACHINE NAMES : compares the answers of a machine with those of the proved library, or of the first machine
     if [ -n "$wanted_answers" ] && [ ! -f "$work/answers.$2" ]; then
         "$wanted_answers" 16 <"$work/$2" >"$work/answers.$2"
     fi
@@ -120,7 +121,7 @@ try() { # try MACHINE CC CFLAGS NAMES : builds all of it, checks the rows, and c
 chosen() {
     [ "$wanted" = ' ' ] || [[ $wanted == *" $1 "* ]]
 }
-has() { # has MACHINE WORD.. : whether its tools are there
+has() { # has MACHINE WORD.. : whether its tools are installed
     local machine=$1 word
     shift
     chosen "$machine" || return 1
@@ -141,7 +142,7 @@ has riscv64 riscv64-linux-gnu-gcc qemu-riscv64 && run=qemu-riscv64 try riscv64 r
 export WINEDEBUG=-all WINEPREFIX=$work/wine
 has windows x86_64-w64-mingw32-gcc wine && exe=.exe libs=-lshell32 run=wine try windows x86_64-w64-mingw32-gcc -O2 few
 exe=.wasm link= run="node --no-warnings $PWD/tests/portable/wasi.mjs"
-try_wasi() { # as try, but compiled by clang for wasm64: the checkers over the C library of tests/portable/wasi
+try_wasi() { # as `try`, but compiled by clang for wasm64, with the checkers over the C library of tests/portable/wasi
     local begun=$SECONDS before=$status checker flags='-O1 -Wall -Wextra -Werror'
     mkdir "$work/wasi"
     cp "$dist"/*.[ch] "$dist/Makefile" "$dist/rows" "$work/wasi/"

@@ -1,13 +1,13 @@
 #!/usr/bin/env python3
-"""Presses pairs of C++ names: those that are spellings of one symbol come together, and those of different symbols stay apart.
+"""Presses pairs of C++ names: names that are spellings of one symbol have to become equal, and names of different symbols have to stay different.
 
     tests/pressed.py SYMFILT [FILE..]
 
 tests/spelled_pairs.txt has 43 symbols, each with its pressed spelling. tests/kin_names.txt has 2,000 names of installed libraries:
-thunks, local entities and instances of function templates. Each has a kin, which differs in what canonicalizers of names leave out of
-their keys: a thunk's offset, a discriminator, or whether a parameter's type is the template's. Both hold by each grammar. Of the names of
-each FILE, or else of bench/fresh_cpp.txt and bench/fresh_instances.txt, those that have a spelling by the wide grammar keep their
-texts, and only names with one text have one spelling.
+thunks, local entities and instances of function templates. Each of these names has a kin, which differs in what canonicalizers of names
+leave out of their keys: a thunk's offset, a discriminator, or whether a parameter's type is the template's. Both rules have to hold by each
+grammar. The names of each FILE, or else of bench/fresh_cpp.txt and bench/fresh_instances.txt, are pressed by the wide grammar: a name that
+has a spelling has to keep its text, and only names with one text may have one spelling.
 """
 import os
 import re
@@ -19,7 +19,7 @@ MOST_WORDS = 1000
 FRESH_NAMES = ("../bench/fresh_cpp.txt", "../bench/fresh_instances.txt")
 WIDE_TEXT = ["--wide", "--limit=4294967295"]
 NO_SPELLING = "no spelling yet"
-# the least share of names with a spelling, among the names that are read; for instances of templates it is 0.968
+# the least share of names with a spelling among the names that are read; instances of templates have a share of 0.968
 LEAST_SPELLED = 0.96
 
 
@@ -41,7 +41,7 @@ def kin_of(name):
 
 
 def answers(program, options, words):
-    """What the program answers for each word: a text or a spelling, or None and why it has none."""
+    """What the program answers for each word: a text or a spelling; or None, and the reason."""
     found = []
     for first in range(0, len(words), MOST_WORDS):
         some = words[first:first + MOST_WORDS]
@@ -61,7 +61,8 @@ def pressed(program, options, words):
 
 
 def check_pairs(program, options):
-    """The pairs of spellings come together, and stay; it answers the pairs of names that do, too."""
+    """Checks that the two names of each pair of spellings are pressed alike, and that a spelling is pressed unchanged. Answers whether two
+    names of a pair of names are pressed alike, which is wrong."""
     pairs = [line.split(" ") for line in lines_of("spelled_pairs.txt")]
     wanted = [pair[1] for pair in pairs]
     if pressed(program, options, [pair[0] for pair in pairs]) != wanted or pressed(program, options, wanted) != wanted:
@@ -76,8 +77,8 @@ def check_pairs(program, options):
 
 
 def check_wide(program, words):
-    """By the wide grammar a spelling has its symbol's text, is pressed again unchanged, is that of the ABI's grammar where that has one, and
-    belongs to one text; it answers whether one doesn't, or too few have a spelling."""
+    """Checks that by the wide grammar a spelling has its symbol's text, is pressed again unchanged, is the spelling by the ABI's grammar if
+    that has one, and belongs to only one text. Answers whether a spelling is wrong, or too few names have one."""
     texts = [text for text, _ in answers(program, WIDE_TEXT, words)]
     read = [(word, text) for word, text in zip(words, texts) if text is not None]
     spelled = answers(program, ["--press", "--wide"], [word for word, _ in read])

@@ -1,8 +1,9 @@
 #!/bin/bash
-# What only a process of demangle shows: tests/process.sh DEMANGLE.
+# Tests what only a process of demangle shows: tests/process.sh DEMANGLE.
 #
-# Its statuses where a stream fails, with why; a reader that has gone; arguments of any bytes; files of arguments, devices among
-# them; what is said where a file is given in the place of a name; colours on a terminal. The status is 1 where one comes out otherwise.
+# These are: its statuses where a stream fails, with the reason; an output whose reader has gone; arguments of any bytes; files of
+# arguments, also devices; what is said where a file is given in the place of a name; and colours on a terminal. The status is 1 where one
+# of these comes out otherwise.
 set -u
 [ $# -eq 1 ] || { echo "usage: $0 DEMANGLE" >&2; exit 2; }
 demangle=$(realpath "$(command -v "$1")") || { echo "$0: there is no $1" >&2; exit 2; }
@@ -16,7 +17,7 @@ ends() {
     local name=$1 status=$2
     printf "$3" >wanted.out && printf "$4" >wanted.err
     shift 4
-    # no more memory than the longest file of arguments needs, and no more time
+    # the program gets only the memory and the time that the longest file of arguments needs
     (ulimit -v 4000000; exec timeout 60 "$demangle" "$@") >out 2>err
     local got=$?
     [ $got -eq "$status" ] && cmp -s out wanted.out && cmp -s err wanted.err && return
@@ -24,7 +25,7 @@ ends() {
     failed=1
 }
 
-# gone NAME WORD..: whether a reader that has gone is silence, with the status of a program that SIGPIPE has ended
+# gone NAME WORD..: whether nothing is said where the output's reader has gone, and the status is that of a program that SIGPIPE has ended
 gone() {
     local name=$1 got && shift
     : <pipe &
@@ -36,7 +37,7 @@ gone() {
     [ "$got" = '141 ' ] || { echo "FAILED $name: $got"; failed=1; }
 }
 
-# A reader that has gone.
+# The output's reader has gone.
 mkfifo pipe
 printf '_Z1fv\n%.0s' {1..20000} >names
 gone 'no reader of a text'
@@ -45,7 +46,7 @@ gone 'no reader of help' --help
 got=$({ "$demangle" <names 2>said; echo $? >status; } | head -1; cat status said)
 [ "$got" = $'f()\n141' ] || { echo "FAILED head: $got"; failed=1; }
 
-# A fault says why.
+# The reason of a fault is said.
 for words in '' _Z1fv --help; do
     "$demangle" $words <names >/dev/full 2>err
     [ "$? $(cat err)" = '3 demangle: write failed: No space left on device' ] || { echo "FAILED /dev/full '$words': $(cat err)"; failed=1; }
@@ -53,7 +54,7 @@ done
 ends 'a folder as the input' 3 '' 'demangle: read failed: Is a directory\n' <.
 ends 'no input' 3 '' 'demangle: read failed: Bad file descriptor\n' <&-
 
-# Arguments are any bytes, in files of arguments, too.
+# Arguments may have any bytes, in files of arguments, too.
 ends 'bytes' 0 'f()\nf\377()\ng()\n' '' _Z1fv $'_Z2f\xffv' _Z1gv
 printf "_Z1fv '_Z2f\\377v' -p\n_Z1gi" >arguments
 ends 'bytes of a file' 0 'f\nf\377\ng\nh\n' '' @arguments _Z1hi
@@ -61,7 +62,7 @@ ends 'a file named by bytes' 0 '@\377\n' '' $'@\xff'
 long=$(printf '%0130000d' 0)
 ends 'a long argument' 0 "$long\nf()\n" '' "$long" _Z1fv
 
-# Files of arguments are bounded.
+# The length of files of arguments is bounded.
 ends 'a device without an end' 2 '' 'demangle: @/dev/zero: more than 4194304 bytes\n' _Z1fv @/dev/zero
 { printf '_Z1fv '; head -c 4194298 /dev/zero | tr '\0' ' '; } >longest
 ends 'the longest file' 0 'f()\n' '' @longest
@@ -69,14 +70,14 @@ printf ' ' >>longest
 ends 'a longer file' 2 '' 'demangle: @longest: more than 4194304 bytes\n' @longest
 ends 'no file' 0 '@none\n@.\n' '' @none @.
 
-# A file in the place of a name.
+# A file is given in the place of a name.
 printf '_Z1fv\n' >crash.log
 ends 'a file' 0 'crash.log\n' 'demangle: crash.log is not a name; for a file: demangle < crash.log\n' crash.log
 ends 'a file, strictly' 1 'x\n./names\n' 'demangle: ./names is not a name; for a file: demangle < ./names\n' --strict x ./names
 ends 'a file beside a name' 0 'crash.log\nf()\n' '' crash.log _Z1fv
 ends 'no file' 0 '.\nnames\nnone.log\n' '' . names none.log
 
-# Colours, where standard output is a terminal, if they are requested.
+# Texts are coloured where standard output is a terminal, if that is requested.
 on_terminal() { python3 -c 'import pty, sys; pty.spawn(sys.argv[1:])' "$demangle" "$@" </dev/null | tr -d '\r'; }
 colors() { # colors NAME WANTED WORD..: what the program writes to a terminal
     local name=$1 wanted got && wanted=$(printf "$2")

@@ -1,10 +1,10 @@
 #!/bin/bash
-# Refuses each allocation of symfilt in turn, over a command line and over a text that is filtered. Wherever one is
-# refused, the status has to be 3, the last line on standard error `symfilt: out of memory`, and standard output a
-# beginning of what it is with ample memory.
+# Refuses each allocation of symfilt in turn, over a command line and over a text that is filtered. Whichever allocation is refused, the
+# status has to be 3, the last line on standard error has to be `symfilt: out of memory`, and standard output has to be a beginning of the
+# output with ample memory.
 #
-# With CHECK_ROWS, the built program of crates/check_rows, each allocation of the library's calls is refused too, over some
-# rows: the call answers Memory, its lists are as before, what steps answers Memory again, and each later row holds.
+# With CHECK_ROWS, the built program of crates/check_rows, each allocation of the library's calls is refused too, over some rows: the call
+# has to answer Memory and leave its lists as they were, a call that steps has to answer Memory again, and each later row has to hold.
 #
 #   tests/refuse_allocations.sh SYMFILT [CHECK_ROWS]
 set -u
@@ -25,8 +25,7 @@ printf 'x _RNvC3foo3bar _Z1fv. (_RNvC3fo) _RNvNtC3foo3bar3baz end\n' >"$work/tex
 
 failed=0
 
-# refuse_each NAME STATUS WORD..: runs the program on the words until no allocation is left to refuse; the status is that
-# of a run with ample memory
+# refuse_each NAME STATUS WORD..: runs the program on the words until no allocation is left to refuse; STATUS is the status with ample memory
 refuse_each() {
     local name=$1 usual=$2 number=1 status
     usual_run "$@"

@@ -1,5 +1,5 @@
-/* An allocator that refuses one call: the one whose number, counted from 1, is in REFUSE. It makes the file that
-   REFUSE_MARK names where it does. It is preloaded. */
+/* An allocator, to be preloaded, that refuses the call whose number, counted from 1, is in REFUSE. When it refuses the call, it makes
+   the file that REFUSE_MARK names. */
 #define _GNU_SOURCE
 #include <dlfcn.h>
 #include <fcntl.h>

@@ -1,13 +1,13 @@
 #!/usr/bin/env python3
-"""Filters logs whose names come again, and compares each line with what a name has by itself; then looks at how much memory they take.
+"""Filters logs in which names are repeated, and compares each line with the answer for the name by itself; then measures the memory that this takes.
 
     tests/repeats.py SYMFILT DEMANGLE
 
-A filter keeps texts of the symbols that came last. The names are those of the rows `text`, `refused` and `repeated` of
-check_rows, those of bench/fresh_cpp.txt, and C++ names that have one mark, by which texts are looked for. They come again at
-once, in the order of stacks, and in any order. The status is 1 where a line differs from that of a log in which each name comes
-once, or from that of the name on the command line, where names of one mark take twice the time of names that come once, or
-where a log of many texts takes 4 MB more than a short one.
+A filter keeps texts of the symbols that came last, and finds them by a mark of the name. The names are those of the rows `text`, `refused`
+and `repeated` of check_rows, those of bench/fresh_cpp.txt, and C++ names that share one mark. They are repeated at once, in the order of
+stacks, and in any order. The status is 1 where a line differs from that of a log in which each name comes once, or from that of the name on
+the command line; where names of one mark take twice the time of names that come once; or where a log of many texts takes 4 MB more than a
+short log.
 """
 import os
 import random
@@ -44,7 +44,7 @@ def fresh_names():
 
 
 def names_of_one_mark(count):
-    """C++ names of one mark, in two steps of 32 bytes: a byte stays where both letters that are mixed into it change."""
+    """C++ names that share one mark. Each byte of the mark is mixed from letters of two steps of 32 bytes, and stays the same where both letters change."""
     pairs = [(at, at + 6) for at in (4, 5, 6, 7, 34, 35, 36, 37, 38, 39)]
     names = []
     for number in range(count):
@@ -58,7 +58,7 @@ def names_of_one_mark(count):
 
 
 def filtered(program, options, lines):
-    """The lines that a program writes for lines."""
+    """The lines that a program writes for the given lines."""
     text = "".join(line + "\n" for line in lines)
     done = subprocess.run([program, *options], input=text, stdout=subprocess.PIPE, encoding="utf-8", errors="surrogateescape", check=False)
     if done.returncode != 0:
@@ -70,7 +70,7 @@ def filtered(program, options, lines):
 
 
 def orders(names, chosen):
-    """Names that come again: at once, in the order of stacks, and in any order."""
+    """Names with repetitions: at once, in the order of stacks, and in any order."""
     yield [name for name in chosen.sample(names, len(names)) for _ in range(chosen.randint(1, 4))]
     stacks = [chosen.choices(names, k=chosen.randint(5, 60)) for _ in range(60)]
     stacked = []
@@ -95,7 +95,7 @@ def differences(program, options, names, chosen):
 
 
 def unlike_words(program, names):
-    """How many names have another text in a log where each comes twice than on the command line."""
+    """How many names have a text in a log where each name comes twice that isn't their text on the command line."""
     twice = filtered(program, [], [name for name in names for _ in range(2)])[1::2]
     words = []
     for begin in range(0, len(names), 500):
@@ -129,7 +129,7 @@ def most_memory(program, lines):
 
 
 def many_texts(count):
-    """C++ names with texts of 200 bytes, each twice after one that comes often, so that each is kept."""
+    """C++ names with texts of 200 bytes. Each comes twice after a name that comes often, so that each text is kept."""
     names = (f"_Z200{'n' * 192}{number:08}v" for number in range(count))
     return ["_Z8commonlyv"] * 2_000 + [name for name in names for _ in range(2)]
 

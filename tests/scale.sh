@@ -1,11 +1,10 @@
 #!/bin/bash
 # Filters a log as docs/SCALE.md says, on several processes of this machine: by split, by GNU parallel, cut from a stream and from a
-# file, and by Dask, a scheduler and two workers on the loopback. Each has to give the same bytes as one process; it prints the times.
+# file, and by Dask, a scheduler and two workers on the loopback. Each way has to give the same bytes as one process. The script prints the times.
 #
 #   tests/scale.sh SYMFILT [LOG]
 #
-# Without LOG it makes one of about 100 MB with symbols of installed libraries. Debian's packages: parallel,
-# python3-distributed.
+# Without LOG the script makes a log of about 100 MB with symbols of installed libraries. It needs Debian's packages parallel and python3-distributed.
 set -euo pipefail
 [ $# -eq 1 ] || [ $# -eq 2 ] || { echo "usage: $0 SYMFILT [LOG]" >&2; exit 2; }
 symfilt=$(realpath "$1")

@@ -3,12 +3,12 @@
 
     tests/short_texts.py [--seed N] [--made COUNT] [--shown N] SYMFILT [FILE..]
 
-Files have symbols, one a line; without files they are those of `crates/check_rows/stdin` and of `bench`. The definitions are
-those of `crates/short_names/specs`, by the table of `tools/tables/short_names.txt`: what SYMFILT prints with `--short`, with
-and without `--keep-inline`, is the short text of what it prints without, also of symbols of each template of the table. For
-each of these texts, and for texts made of names of the table, arguments and members, with defaults and without, three things
-have to hold: a short text has the full text of its text, a full text has the short text of its text, and no short text is
-longer. The status is 1 where one of these fails. It says for how many texts the laws are proved.
+Files have symbols, one a line; without files they are those of `crates/check_rows/stdin` and of `bench`. The definitions are those of
+`crates/short_names/specs`, with the table of `tools/tables/short_names.txt`. What SYMFILT prints with `--short`, with and without
+`--keep-inline`, has to be the short text of what it prints without `--short`. Symbols of each template of the table are tested, too. Three
+laws have to hold for each of these texts, and for texts made of names of the table, arguments and members, with defaults and without: a
+text and its short text have the same full text, a text and its full text have the same short text, and no short text is longer than its
+text. The status is 1 where one of these fails. The script prints for how many of the texts the laws are proved.
 """
 
 import argparse
@@ -49,7 +49,7 @@ def filled_for(whole, elements, pattern):
 
 
 def polymorphic(name):
-    """The pattern of the default by `std::pmr`; none where there is none."""
+    """The pattern of the default argument by `std::pmr`; none where a template has no such default."""
     return DEFAULTS[name][-1].replace("std::allocator", "std::pmr::polymorphic_allocator") if name in PMR else ""
 
 
@@ -63,7 +63,7 @@ AFTER = r"(?![\w$.\x80-\xff])"
 
 @lru_cache(maxsize=None)
 def std_name(run):
-    """The `std::` of a name of std, and what follows it; none where it isn't one."""
+    """The `std::` of a name of std, and what follows it; none where the name isn't one of std."""
     for inline in WHOLE:
         if run.startswith(f"std::{inline}::"):
             whole = f"std::{inline}::"
@@ -80,7 +80,7 @@ def std_name(run):
 
 
 def named(run):
-    """The `std::` and the template of a name of the table; none where it isn't one."""
+    """The `std::` and the template of a name of the table; none where the table hasn't the name."""
     std = std_name(run)
     return std if std and std[1] in DEFAULTS else None
 
@@ -94,7 +94,7 @@ def class_of(alias, template):
 
 
 def constructs(rest, name):
-    """What comes before a constructor's or destructor's name with which a text begins; none where it doesn't."""
+    """What precedes a constructor's or destructor's name at the beginning of a text; none where the text begins otherwise."""
     found = re.match(f"(::~?){re.escape(name)}{AFTER}", rest, re.ASCII)
     return found[1] if found else None
 
@@ -279,7 +279,7 @@ WITH_ALIAS = {template for _, template, _ in ALIASES}
 
 
 class NotMade(Exception):
-    """A text, or a part of one, isn't made of parts."""
+    """Says that a text, or a part of one, isn't made of the parts for which the laws are proved."""
 
 
 def is_simple(name):
@@ -287,14 +287,14 @@ def is_simple(name):
 
 
 def pass_other(run):
-    """A name that is none of the table, whatever follows it."""
+    """Passes a name that isn't one of the table, whatever follows the name."""
     std = std_name(run)
     if named(run) or pmr_in(run) or std and any(std[1].startswith(alias) and not LETTER.match(std[1], len(alias)) for alias, _, _ in ALIASES):
         raise NotMade
 
 
 def instance(name):
-    """The list that a usual name is for, and its template; none where it is no usual name."""
+    """The list that a usual name denotes, and the list's template; none where the name is no usual name."""
     std = std_name(name)
     for alias, template, arguments in ALIASES if std else ():
         if std[1] == alias:
@@ -310,14 +310,14 @@ def is_usual(name):
 
 
 def pass_free(text, at):
-    """Neither a name nor a list is in a place."""
+    """Passes a place at which neither a name nor a list begins."""
     if at < len(text) and (text[at] == "<" or RUN.match(text, at)):
         raise NotMade
     return at
 
 
 def pass_list(text, at):
-    """Where the list at a place ends, as it is or by its usual name; none where there is no list."""
+    """The end of the list at a place, which is spelled out or is written by its usual name; none where there is no list."""
     run = RUN.match(text, at)
     if run and text.startswith("<", run.end()) and named(run[0]):
         name = named(run[0])[1]
@@ -333,7 +333,7 @@ def pass_list(text, at):
 
 
 def pass_parts(text, at, in_list):
-    """Where parts within brackets end."""
+    """The end of parts that are within brackets."""
     while at < len(text):
         run = RUN.match(text, at)
         end = pass_list(text, at)
@@ -360,7 +360,7 @@ def pass_parts(text, at, in_list):
 
 
 def pass_elements(text, at, run):
-    """Where a list ends. Its name is given if that is one of the table."""
+    """The end of a list. The list's name is given if the table has it."""
     elements = []
     while not elements or text[at - 1] != ">":
         end = pass_parts(text, at, True)
@@ -382,7 +382,7 @@ def pass_elements(text, at, run):
 
 @lru_cache(maxsize=None)
 def list_of(name):
-    """The list in full that a usual name is for; none where it isn't one."""
+    """The full list that a usual name denotes; none where the name isn't a usual one."""
     if not instance(name):
         return None
     front = len(instance(name)[0].split("<", 1)[0]) + 1
@@ -404,7 +404,7 @@ def behind_usual(behind, alias, template, is_list):
 
 
 def pass_usual(text, at):
-    """Where the usual name or its list at a place of a text ends, with a member after it; none where there is neither."""
+    """The end of the usual name at a place of a text, or of the list that it denotes, with a member after it; none where there is neither."""
     run = RUN.match(text, at)[0]
     std = std_name(run)
     for alias, template, _ in ALIASES if std else ():

@@ -1,11 +1,11 @@
 #!/bin/bash
-# Runs each program of the gate as the gate runs it, and compares what it says on standard error, which the gate doesn't:
+# Runs each program of the gate as the gate runs it, and also compares what it says on standard error, which the gate doesn't compare:
 #
 #   tests/stored.sh [FOLDER]
 #
-# A program is crates/NAME/out/NAME, or FOLDER/NAME. Its words, input and files are `args`, `stdin` and `data` of its crate; it has
-# to write what is in `stdout` and `stderr`, nothing where there is no such file, and to end with the status in `status`, or 0. The
-# status is 1 where a run differs, 2 where no program is built.
+# A program is crates/NAME/out/NAME, or FOLDER/NAME. Its words, input and files are `args`, `stdin` and `data` of its crate; it has to write
+# what is in `stdout` and `stderr`, and nothing where there is no such file. It has to end with the status in `status`, or with 0 where
+# there is no such file. The status is 1 where a run differs, 2 where no program is built.
 set -u
 built=${1:+$(realpath "$1")}
 cd "$(dirname "$0")/.." || exit 2

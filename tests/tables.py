@@ -1,10 +1,10 @@
 #!/usr/bin/env python3
-"""Adds an entry to a table of tools/tables, in a copy of the tree, and has tools/write.py write what follows from it: one entry of each sort
-that docs/WORKING.md says to be one line, and prints how many lines that writes, in how many files.
+"""Adds entries to the tables of tools/tables, in a copy of the tree: one entry of each sort that takes one line according to
+docs/WORKING.md. For each entry the script runs tools/write.py, and prints how many lines that writes, in how many files.
 
     tests/tables.py
 
-It ends with status 1 if the scripts refuse an entry, write nothing for it, or have more to write when they are run again. Nothing is proved."""
+The status is 1 if the scripts refuse an entry, write nothing for it, or have more to write when they are run again. Nothing is proved."""
 import os
 import re
 import shutil
@@ -13,7 +13,7 @@ import sys
 import tempfile
 
 ROOT = os.path.dirname(os.path.dirname(os.path.abspath(__file__)))
-# what is added, the table, which entry it comes after, and the line
+# what is added, its table, the entry that it follows, and its line
 ENTRIES = (
     ("a C++ operator with a known first letter", "vocabulary.txt", "operator pt", "operator pq ->?"),
     ("a builtin type after a D", "vocabulary.txt", "builtin Dn", "builtin Dm std::moon none"),
@@ -50,7 +50,7 @@ def run(folder):
 
 
 def written(folder):
-    """How many lines are written, and in how many files; the copy is as it was then."""
+    """How many lines were written, and in how many files. Afterwards the copy is as it was before."""
     git(folder, "add", "-A")
     counts = [int(line.split()[0]) for line in git(folder, "diff", "--cached", "--numstat", "--", "crates").splitlines()]
     git(folder, "reset", "-q", "--hard")
@@ -68,7 +68,7 @@ def add(table, after, line):
 
 
 def main():
-    """Adds one entry after the other to a copy, which is as it was before each."""
+    """Adds one entry after the other to a copy, which is restored before each entry."""
     failed = False
     with tempfile.TemporaryDirectory() as folder:
         copied(folder)

@@ -1,11 +1,10 @@
 #!/usr/bin/env python3
-"""Filters texts as tools and people make them by the built programs, and names those that come out otherwise than they have to.
+"""Filters texts, such as tools and people write, by the built programs, and names the texts whose output is wrong.
 
     tests/texts.py SYMFILT [DEMANGLE]
 
-Beside lines of linkers, debuggers, profilers and traces there are bytes that no text has, prompts that wait for an answer, a line
-of 30 MB, a log without symbols, a reader that ends, and a name that is made to exhaust a demangler. The status is 1 where one
-comes out otherwise.
+The texts are lines of linkers, debuggers, profilers and traces, bytes that no text has, prompts that wait for an answer, a line of 30 MB, a
+log without symbols, an output whose reader ends early, and a name that is made to exhaust a demangler. The status is 1 where an output is wrong.
 """
 
 import os
@@ -35,7 +34,7 @@ def base_62(number):
 
 
 def doubling(times):
-    """A Rust symbol where each tuple is twice the one before."""
+    """A Rust symbol in which each tuple has the tuple before it twice."""
     symbol = "INvC3foo3bar"
     last, symbol = len(symbol), symbol + "ThhE"
     for _ in range(times):
@@ -44,7 +43,7 @@ def doubling(times):
     return "_R" + symbol + "E"
 
 
-# A name for each sort of text, and its text; a wrong one in any of the printers shows.
+# For each sort of text a name, and its text, so that a fault of any printer shows.
 NAMES = {
     "_ZTV1A": "vtable for A",
     "_ZTT1A": "VTT for A",
@@ -108,7 +107,7 @@ WIDE = {
 
 
 def names_of(names):
-    """Names and their texts as what comes in and what has to come out."""
+    """Names as an input, and their texts as the output that it has to have."""
     return "\n".join(names) + "\n", "\n".join(names.values()) + "\n"
 
 
@@ -138,7 +137,7 @@ SAME = {
     "other languages": ("_TtC3foo3Bar ?f@@YAXXZ -[Foo bar] main.main\n", "_TtC3foo3Bar ?f@@YAXXZ -[Foo bar] main.main\n"),
 }
 
-# The same for one program each: options, what comes in and what has to come out.
+# The same for each program: options, what comes in and what has to come out.
 SYMFILT = {
     "each sort of text of the wide grammar": (["--wide"], *names_of(WIDE)),
     "stacks": (["--no-params", "--brief"], f"main;{VECTOR};_ZN1A1fIiEEvT_ 42\n", "main;std::vector::push_back;A::f 42\n"),
@@ -167,7 +166,7 @@ def coded(text):
 
 
 def limited():
-    """A program that takes more than 64 MB or ten seconds is ended, and not the machine."""
+    """Ends a program that takes more than 64 MB or ten seconds, so that the machine isn't exhausted."""
     resource.setrlimit(resource.RLIMIT_AS, (64 << 20, 64 << 20))
     resource.setrlimit(resource.RLIMIT_CPU, (10, 10))
 
@@ -184,7 +183,7 @@ def texts(program, own):
     for name, (text, wanted) in SAME.items():
         out, err, status = filtered(program, [], text)
         if wanted is None:
-            # each byte that belongs to no name comes out
+            # each byte that belongs to no name comes out as it is
             wanted = coded(text).replace(b"_Z1fv", b"f()")
         yield name, (out, err, status) == (coded(wanted), b"", 0), out
     for name, (options, text, wanted) in own.items():
@@ -218,7 +217,7 @@ def passes_long_lines(program, _name):
 
 
 def processor_time(command, text):
-    """The seconds that a program takes of a processor over a file, the least of three."""
+    """The seconds of processor time that a program takes for a file, the least of three runs."""
     times = []
     for _ in range(3):
         with open(text, "rb") as file:
@@ -238,7 +237,7 @@ def costs_little(program, _name):
     return taken < 2 * searched + 0.1, f"{taken:.2f} s, grep {searched:.2f} s"
 
 
-# The status where the reader of the output ends, as head does, and what is said.
+# The status of a program whose output's reader ends early, as head does, and what the program says then.
 NOBODY_READS = ((3, b"symfilt: write failed\n"), (141, b""))
 
 
@@ -252,7 +251,7 @@ def ends_with_its_reader(program, wanted):
 
 
 def survives(program, _name):
-    """The lines before and after a name that doubles seventy times are answered, and it stays."""
+    """The lines before and after a name that doubles seventy times are answered, and that name stays."""
     hostile = doubling(70)
     out, err, status = filtered(program, [], f"_Z1fv\n{hostile}\n_Z1gi\n")
     return (out, err, status) == (f"f()\n{hostile}\ng(int)\n".encode(), b"", 0), out

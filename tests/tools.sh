@@ -1,9 +1,9 @@
 #!/bin/bash
 # Calls demangle as programs and people call a demangler: tests/tools.sh DEMANGLE.
 #
-# Where a program is installed it makes its call itself; else the script makes the call as the program does. Each call is then made with
-# two stand-ins, one that forwards all as it is and one that fails, and has to fail with one of them: a call that doesn't shows nothing.
-# The status is 1 where one comes out otherwise.
+# A program that is installed makes its call itself; otherwise the script makes the call as the program does. Then each call is made with
+# two stand-ins, one that forwards all as it is and one that fails. The call has to fail with one of them, since a call that doesn't tests
+# nothing. The status is 1 where a call comes out otherwise.
 set -u
 [ $# -eq 1 ] || { echo "usage: $0 DEMANGLE" >&2; exit 2; }
 demangle=$(realpath "$(command -v "$1")") || { echo "$0: there is no $1" >&2; exit 2; }
@@ -13,7 +13,7 @@ cd "$work" || exit 2
 missing() { echo "$1 isn't installed: $2"; }
 has() { command -v "$1" >/dev/null; }
 
-# What the calls are made on, once.
+# The files on which the calls are made.
 printf 'TN:\nSF:%s/a.cpp\nFN:1,_ZN1A1fEi\nFN:2,_Z1gv\nFNDA:1,_ZN1A1fEi\nFNDA:1,_Z1gv\nFNF:2\nFNH:2\nDA:1,1\nDA:2,1\nLF:2\nLH:2\nend_of_record\n' "$work" >a.info
 printf 'void f(){}\nvoid g(){}\n' >a.cpp
 printf '_ZN1A1fEi\n_Z1gv' >names
@@ -47,7 +47,7 @@ for folder in /usr/lib/llvm-*/share/opt-viewer; do [ ! -d "$folder" ] || viewer=
 [ -n "$viewer" ] || missing opt-viewer 'its call is left out'
 has jq || missing jq 'a line of JSON is only compared'
 
-call() { # call NAME WANTED GOT : whether what came out has what is wanted
+call() { # call NAME WANTED GOT : says whether the output has what is wanted
     if [[ $3 == *"$2"* ]]; then echo "ok $1"; else echo "FAILED $1: wanted '$2', got '${3:0:160}'"; fi
 }
 
@@ -80,11 +80,11 @@ import optrecord
 r = optrecord.Remark; r.set_demangler(sys.argv[1] + " -n"); print(r.demangle("_ZN1A1fEi"), r.demangle("_Z1gv"))' "$tool" "$viewer" 2>&1)"
     fi
 
-    # emscripten's emdump: names joined by newlines, with an underscore more
+    # emscripten's emdump: names joined by newlines, each after one more underscore
     call 'emdump: --strip-underscore' 'A::f(int)
 g()' "$(printf '__ZN1A1fEi\n__Z1gv' | "$tool" --strip-underscore 2>&1)"
 
-    # abi-compliance-checker: looks for @<file> in what -h says, and then gives one
+    # abi-compliance-checker: looks for @<file> in the output of -h, and then gives such a file
     call 'abi-compliance-checker: -h' '@<file>' "$("$tool" -h 2>/dev/null)"
     call 'abi-compliance-checker: @FILE' 'A::f(int)
 g()' "$("$tool" @"$work/names" 2>&1)"
@@ -108,7 +108,7 @@ char const*' "$(./t | xargs "$tool" -t 2>&1)"
         [ ! -s lld.log ] || call 'ld.lld --no-demangle' 'undefined symbol: g(int)' "$("$tool" <lld.log 2>&1)"
     fi
     if [ -s perf.mangled ]; then
-        # the texts are perf's own but for '> >'
+        # the texts are perf's own, except for '> >'
         call 'perf script --no-demangle' same "$("$tool" -p <perf.mangled 2>&1 | cmp -s - perf.wanted && echo same)"
     fi
 

@@ -4,18 +4,18 @@
     tests/truth.py [--compiler NAME].. [--dwarfdump NAME] [--least N] [--shown N] PROGRAM [SOURCE..]
 
 It compiles each source (those of tests/truth, if none is named) by each g++ and clang++ that is installed (`g++`, `g++-13`,
-..), or by the compilers that are named, with debug information. That says what each symbol means, without
-reading it: namespaces, classes and functions around it, its own name, template arguments, the types of parameters, what
-it returns, and qualifiers. From these the whole text is spelled anew, which no other demangler does. PROGRAM is `symfilt` or
-`demangle`; the texts are those of the wide grammar.
+..), or by the compilers that are named, with debug information. The debug information says what each symbol means, without reading the
+symbol: the namespaces, classes and functions around it, its own name, template arguments, the types of parameters, the return type, and
+qualifiers. From these the whole text is spelled anew, so no other demangler is needed. PROGRAM is `symfilt` or `demangle`; the texts are
+those of the wide grammar.
 
 What debug information can't say is a gap, which matches anything: the values of classes and addresses as arguments, and
-arguments that g++ has no entry for. A lambda and a local class have no name there, so they are known by the symbol of a
-member, or of the function around them. What differs for a known reason is counted in a class; `truth/classes.py`
-has each class with its rule and reason. A symbol that stays mangled is counted, too.
+arguments that g++ has no entry for. A lambda and a local class have no name there, so their names are taken from the symbol of a member, or
+of the function around them. A difference with a known reason is counted in a class; `truth/classes.py` has each class with its rule and
+reason. A symbol that stays mangled is counted, too.
 
-It fails where any other text differs, or where fewer than N functions of a compiler (3,000, for the sources of tests/truth)
-were compared. A source that a compiler can't compile isn't tested by it, and named.
+The script fails if any other text differs, or if fewer than N functions of a compiler (3,000, for the sources of tests/truth) were
+compared. A source that a compiler can't compile isn't tested with it, and is named.
 """
 import argparse
 import os
@@ -31,17 +31,17 @@ from truth.entries import Entries
 from truth.spelling import Speller, answer, names_of
 
 HERE = pathlib.Path(__file__).resolve().parent
-# A source that needs a newer standard, or is a module's interface, begins with a line that says so.
+# A source that needs a newer standard, or that is a module's interface, begins with such a line.
 STANDARDS = {"// C++23": ["-std=c++2b"], "// C++20 module": ["-std=c++20", "-fmodules-ts"]}
 USUAL_STANDARD = ["-std=c++20"]
 COMPILER = re.compile(r"(g|clang)\+\+(-\d+)?")
 DUMPER = re.compile(r"llvm-dwarfdump(-\d+)?")
-# A symbol of the wide grammar: a program that leaves it mangled reads it with an option.
+# A symbol of the wide grammar: a program that leaves it mangled needs an option to read it.
 WIDE = "_Z1fB3tagv"
 
 
 def installed(pattern):
-    """The programs in PATH whose names match a pattern, each once, by their names and numbers."""
+    """The programs in PATH whose names match a pattern, each once, in the order of their names and numbers."""
     names = {it for folder in os.get_exec_path() if os.path.isdir(folder) for it in os.listdir(folder) if pattern.fullmatch(it)}
     by_program = {}
     for name in sorted(names, key=lambda it: (len(it), it)):
@@ -60,7 +60,7 @@ def texts_of(command, symbols):
 
 
 def command_of(program):
-    """The program with the option for the wide grammar, where it needs one."""
+    """The program's command, with the option for the wide grammar if the program needs it."""
     command = [program] if os.path.sep in program else [shutil.which(program) or program]
     return command if texts_of(command, [WIDE])[WIDE] != WIDE else [*command, "--wide"]
 

@@ -1,7 +1,7 @@
 # Sourced by fail_calls.sh and refuse_allocations.sh, which set `symfilt` and `work`.
 
-# usual_run NAME STATUS WORD..: runs the program on the words and on $work/text with nothing in its way, leaves what it prints
-# in $work/whole and $work/complaints, and ends the script where its status is another
+# usual_run NAME STATUS WORD..: runs the program on the words and on $work/text while no call is refused, leaves what it prints in
+# $work/whole and $work/complaints, and ends the script where the program's status isn't STATUS
 usual_run() {
     local name=$1 wanted=$2 usual=0
     shift 2

@@ -1,11 +1,11 @@
 #!/usr/bin/env python3
-"""Runs the built programs on rows of symbols and their answers, and names the rows where one answers otherwise.
+"""Runs the built programs on rows of symbols and their answers, and names the rows that a program answers otherwise.
 
     tests/vectors.py [--demangle DEMANGLE] SYMFILT [FILE..]
 
-SYMFILT and DEMANGLE are the built programs; without DEMANGLE its rows are skipped. Without files the rows are those of crates/check_rows/stdin; docs/TESTING.md says how rows are
-written. A row of a word longer than those that the filter takes is skipped, and named. The status is 1 where a row doesn't
-hold, 2 where the program can't be run or there is no row.
+SYMFILT and DEMANGLE are the built programs; without DEMANGLE its rows are skipped. Without files the rows are those of
+crates/check_rows/stdin; docs/TESTING.md says how rows are written. A row whose word is longer than words of the filter may be is
+skipped, and named. The status is 1 where a row doesn't hold, 2 where the program can't be run or there is no row.
 """
 
 import json
@@ -35,7 +35,7 @@ def unescaped(field):
     while i < len(rest):
         if rest[i]:
             out += ESCAPES[rest[i][:1]] + rest[i][1:]
-        else:  # two backslashes beside one another
+        else:  # two backslashes in succession
             out += b"\\"
             i += 1
             out += rest[i] if i < len(rest) else b""
@@ -57,7 +57,7 @@ def is_named(word):
 
 
 def is_filtered_alone(word):
-    """Whether the filter sees a word as it is."""
+    """Whether the filter takes a word as it is, and no shorter one in it."""
     return bool(word) and RUN_BYTES.issuperset(word) and not word.endswith(b".")
 
 
@@ -74,7 +74,7 @@ class Program:
         return done.stdout, done.stderr, done.returncode
 
     def answers(self, options, words):
-        """What is answered for each word: a text, or why there is none."""
+        """The answer for each word: a text, or the reason why there is none."""
         out, err, status = self.run([*options, "--", *words])
         complaints = err.split(b"\n")
         lines = out.split(b"\n")
@@ -102,7 +102,7 @@ def differences(words, found, wanted):
 
 
 def check_answer(program, options, word, wanted):
-    """What a word is answered on the command line and in the filter, where that isn't what is wanted."""
+    """The answers for a word on the command line and in the filter that aren't the wanted one."""
     wrong = differences([word], program.answers(options, [word]), [wanted])
     if is_filtered_alone(word):
         stays = wanted.startswith(REASONS)
@@ -136,7 +136,7 @@ def check_repeated(program, detail, cost, front, count, repeated, end, length):
 def check_refused(program, word, reason):
     wrong = check_answer(program, [], word, reason)
     wrong += check_answer(program, ["--limit=0", "--brief"], word, reason)
-    # what is too long is pressed
+    # a symbol whose text is too long can be pressed
     return wrong if reason == b"too long" else wrong + differences([word], program.answers(["--press"], [word]), [reason])
 
 
@@ -172,7 +172,7 @@ def check_nameless(program, word):
 
 
 def check_type(program, cost, name, text):
-    """No option of symfilt reads types, and a type is what the symbol of its information has."""
+    """Checks a type by the symbol of its typeinfo, which has the type's text after other words: no option of symfilt reads types."""
     return check_text(program, b"full", cost, b"_ZTI" + name, b"typeinfo for " + text)
 
 
@@ -194,7 +194,7 @@ def check_wide_press(program, word, answer):
 
 
 def check_tree(program, word, tree):
-    """No program shows nodes: what has a tree has a text, and other symbols are refused."""
+    """Checks only whether a symbol with a tree has a text, and whether another one is refused: no program shows nodes."""
     found = program.answers([], [word])[0]
     is_right = found == tree if tree.startswith(REASONS) else not found.startswith(REASONS)
     return [] if is_right else [f"{word!r}: {found!r}, and its tree is {tree!r}"]
@@ -224,7 +224,7 @@ def options_of(field):
 
 
 def check_way(program, grammar, detail, word, way, form):
-    """No program shows which way a text was written: only that there is one."""
+    """Checks only that there is a text: no program shows which way it was written."""
     options = ([] if detail == b"full" else [b"--" + detail]) + ([b"--wide"] if grammar == b"wide" else [])
     out, err, status = program.run([option.decode() for option in options] + [word.decode()])
     return [] if out and not err and status == 0 else [f"{word!r} has no text: {(out, err, status)!r}"]
@@ -254,7 +254,7 @@ def check_demangle(program, status, words, text, out, err):
 
 
 def check_parts(program, word, kind, text, parts):
-    """The program gives a name's parts as an object of JSON, whose texts have U+FFFD for bytes that aren't UTF-8."""
+    """Checks a name's parts in the program's object of JSON, whose texts have U+FFFD for bytes that aren't UTF-8."""
     if program.other is None:
         raise Skipped("a row of the program demangle, which wasn't given")
     out, err, status = program.other.run(["--json", unescaped(word).decode()])

@@ -1,19 +1,19 @@
 #!/bin/bash
-# The page in a browser:
+# Tests the page in a browser:
 #
 #   tests/web.sh [-w PAGE | -l LIBRARY] [-p SYMFILT] [-d DEMANGLE] [-s SHOTS] [-b]
 #
-# It makes the page with the module of the proved library, gives the module the rows of crates/check_rows and the program's texts
-# to compare with (tests/web/module.mjs, in Node), and then uses the page as a person does (tests/web/page.mjs, in Chromium).
+# The script makes the page with the module of the proved library. It compares the module with the rows of crates/check_rows and with the
+# programs' texts (tests/web/module.mjs, in Node). Then it uses the page as a person does (tests/web/page.mjs, in Chromium).
 #
-#   -w PAGE       the folder that web/module/make.sh made from the proved library, with the module that is tested
+#   -w PAGE       a folder that web/module/make.sh made from the proved library; its module is tested
 #   -l LIBRARY    an LLVM module of the library, in the place of the proved one
 #   -p SYMFILT    the program symfilt, in the place of the proved one
 #   -d DEMANGLE   the program demangle, in the place of the proved one
 #   -s SHOTS      a folder that gets pictures of the page
-#   -b            afterwards breaks copies of the page in turn: the tests have to fail on each
+#   -b            breaks copies of the page afterwards, one after the other: the tests have to fail on each copy
 #
-# What isn't installed (node, chromium, binaryen's wasm-opt) is named, and what needs it is left out.
+# A program that isn't installed (node, chromium, binaryen's wasm-opt) is named, and the tests that need it are left out.
 set -euo pipefail
 cd "$(dirname "$0")/.."
 made= library= symfilt=crates/symfilt/out/symfilt demangle=crates/demangle/out/demangle shots= breaks=no
@@ -41,7 +41,7 @@ ${CC:-cc} -std=gnu11 -O1 -Wall -Wextra -Werror tests/web/int128.c -o "$work/int1
 "$work/int128"
 page=$work/page
 if [ -n "$made" ]; then
-    # the module alone is that folder's; all else is of this tree
+    # only the module is taken from that folder; all else is taken from this tree
     mkdir "$page"
     cp "$made/symdemangle.wasm" "$made/module.json" web/*.html web/*.css web/*.js web/*.svg web/*.webmanifest "$page"
 else
@@ -58,12 +58,12 @@ done
 
 module_test() { node tests/web/module.mjs "$1" crates/check_rows/stdin "$demangle" "$symbols"; }
 page_test() { node tests/web/page.mjs "$1" "$demangle" "$symfilt" "$symbols" "$work/hostile" ${2:+"$2"}; }
-# Node 20 takes files named .js for modules where a package says so.
+# Node 20 takes files named .js for modules only where a package says so.
 echo '{"type": "module"}' >"$page/package.json"
 module_test "$page"
 ! has chromium 'the page in a browser' || page_test "$page" "$shots"
 
-# broken TEST FILE OLD NEW : the test has to fail where OLD, which is there once, is NEW
+# broken TEST FILE OLD NEW : the test has to fail on a page where OLD, which the file has once, is replaced by NEW
 broken() {
     cp "$page/$2" "$work/whole"
     FILE=$page/$2 OLD=$3 NEW=$4 python3 -c '

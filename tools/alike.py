@@ -14,14 +14,12 @@ def arms(crates, path, function, begins, *by_hand):
     """Each arm, with the step of the last call in it."""
     body = dict(bodies(read(f"{crates}/{path}")))[function]
     steps = calls(body, begins)
-    for arm, text in arms_of(body, begins):
+    # an arm may be of a constant of a module beside the file
+    text = read(f"{crates}/{os.path.dirname(path)}/{begins}.rt", "")
+    numbers = dict(re.findall(r"^pub const (\w+): \w+ = (\d+);", text, re.M))
+    for arm, _ in arms_of(body, begins):
         if arm not in by_hand:
-            yield constants(crates, path, begins).get(arm, arm), steps.get(arm, ("", ""))[1]
-
-def constants(crates, path, module):
-    """The constants of a module beside a file, if it is one."""
-    text = read(f"{crates}/{os.path.dirname(path)}/{module}.rt", "")
-    return dict(re.findall(r"^pub const (\w+): \w+ = (\d+);", text, re.M))
+            yield numbers.get(arm, arm), steps.get(arm, ("", ""))[1]
 
 def exits(crates, path, function, *calls):
     """Each clause of what is so where a function answers, at each call at which it may end with a refusal; with the step that forwards
@@ -33,7 +31,7 @@ def exits(crates, path, function, *calls):
                 contract, re.M))
 
 def files(crates):
-    """The files that have such answers, by their paths in the folder of the crates, and their texts."""
+    """The files that have such answers: their paths in the folder of the crates, and their texts."""
     texts, forms = {}, {}
     for folder, lines in sections("alike.txt"):
         said = dict(line.split(" ", 1) for line, _ in lines)
@@ -50,4 +48,4 @@ def files(crates):
                                             for arm, call in arms(crates, *said["arms"].split())]], WRITTEN)
         else:
             texts[path] = with_declarations(text, [fill(shown, **holes) for holes in exits(crates, *said["exits"].split())], WRITTEN)
-    return texts
+    return texts.items()

@@ -4,78 +4,46 @@ import re
 
 import grammar
 from files import sections, template
-from notation import snake
+from notation import alone_or, snake
 from rules import ABOVE, coded_cases, families
-from meanings import CODE, made_in_code, piece_in_code, said
+from meanings import CODE, TABLE, made, said
 from rust_layout import arm, split
 
-# of each file what it says, and its families, each with what is said of it
-SAYS, FAMILIES = {}, {}
-for head, _ in sections("cpp_families.txt"):
-    name, says = head.split(": ", 1)
-    if name.startswith("file "):
-        module = name.removeprefix("file ")
-        SAYS[module], FAMILIES[module] = says, {}
-    else:
-        FAMILIES[module][name] = says
+# each file, what it says, and its families, each with what is said of it
+FILES = [(*head.split(": ", 1), [line.split(": ", 1) for line, _ in lines]) for head, lines in sections("cpp_families.txt")]
 
 # ## What a row means
 
-def source(text):
-    """An argument of a tree, in code."""
-    return said("arguments", text, CODE)
-
-def pair(letter, left, right):
-    """A letter and two trees, of which one may be made: then the left one is there, or there is no right one."""
-    if "(" in left + right:
-        there, node = (f"Some({source(left)})", right) if "(" in right else ("None", left)
-        return f"Outcome::MadeOperand {{ letter: {source(letter)}, left: {there}, node: {made_in_code(node)} }}"
-    return f"Outcome::Given(Part::Pair {{ letter: {source(letter)}, left: {source(left)}, right: {source(right)} }})"
-
 def outcome(means):
-    """What a row means, in code."""
-    if known := said("means", means, CODE):
-        return known
-    if means.startswith("piece "):
-        return f"piece({piece_in_code(means.removeprefix('piece '))})"
-    if m := re.fullmatch(r"pair\((.*)\)", means):
-        return pair(*split(m[1]))
-    text, listed = re.fullmatch(r"(.*?)(, listed)?", means).groups()
-    if m := re.fullmatch(r"qualified\(marks\((.*)\), (t\d)\)", text):
-        return f"qualified({', '.join(map(source, [*split(m[1]), m[2]]))})"
-    m = re.fullmatch(r"name \+ (.*)", text)
-    node = f"self.extended(symbol, kept.prefix(), {piece_in_code(m[1])})" if m else made_in_code(text)
-    return f"made({node}, {'true' if listed else 'false'})"
+    """What a row means, in code. Of a pair's trees one may be made: then the left one is there, or there is no right one."""
+    if not means.startswith("pair("):
+        return said("means", means, CODE)
+    letter, left, right = split(re.fullmatch(r"pair\((.*)\)", means)[1])
+    of = said("arguments", letter, CODE)
+    if "(" in left + right:
+        there, node = (f"Some({made(left, CODE)})", right) if "(" in right else ("None", left)
+        return f"Outcome::MadeOperand {{ letter: {of}, left: {there}, node: {made(node, CODE)} }}"
+    return f"Outcome::Given(Part::Pair {{ letter: {of}, left: {made(left, CODE)}, right: {made(right, CODE)} }})"
 
 # ## Files
-
-# what each file has from other modules
-USES = [("crate::expressions", "first_letter second_letter".split()), ("crate::meaning", "items made piece qualified tree".split()),
-        ("crate::numbers", "from_byte local_number normal one_byte signed_digits".split()),
-        ("cpp_tree::node", "Adjustment Mark Node Piece Thunk".split()), ("cpp_tree::nodes", "ABSENT NIL".split())]
 
 def function(family, says, productions, rows):
     """The function of a family."""
     arms = []
     for case, pattern, means in coded_cases({production: outcome(rows[production].means) for production in productions}):
         arms += [f"            // {line}" for line in ABOVE.get(case, [])]
-        arms += arm(pattern, means)
+        arms += arm(f"Production::{pattern}", means)
     is_asked = any(re.search(r"\bbyte\b", line) for line in arms if "//" not in line)
     return template("cpp_link/family.rt", says=says, name=snake(family), family=family,
                     byte="        let byte = symbol[place as usize];\n" if is_asked else "", arms=arms).rstrip("\n")
 
-def files():
+def files(crates):
     """What is written: each file's path in the folder of the crates, and its text."""
     _, _, rows = grammar.wide()
-    for module, said_of in FAMILIES.items():
-        functions = "\n\n".join(function(family, says, families()[family], rows) for family, says in said_of.items())
-        code = "\n".join(line for line in functions.split("\n") if not line.strip().startswith("//"))
-        uses = []
-        for path, names in USES:
-            used = [name for name in names if re.search(rf"(?<![\w.:]){name}(?=\(|::|,)", code)]
-            if used:
-                uses.append(f"use {path}::{used[0] if len(used) == 1 else '{' + ', '.join(used) + '}'};")
-        uses += ["use crate::linked::Linked;", "use crate::part::{Outcome, Part, Surroundings};",
-                 "use cpp_grammar::production::Production;"]
-        yield f"cpp_link/src/{module}.rt", template("cpp_link/families.rt", says=SAYS[module],
-                uses=sorted(uses, key=lambda line: ("crate" not in line, line)), functions=functions)
+    for module, module_says, own in FILES:
+        functions = "\n\n".join(function(family, says, families()[family], rows) for family, says in own)
+        code = "\n".join(line for line in f"impl Linked {{\n{functions}".split("\n") if not line.strip().startswith("//"))
+        named = ((path, [name for name in names.split() if re.search(rf"(?<![\w.:]){name}(?=\(|::|,| {{)", code)])
+                 for path, names in TABLE["uses"])
+        uses = [f"use {path}::" + alone_or(used, lambda several: "{" + ", ".join(several) + "}") + ";" for path, used in named if used]
+        yield f"cpp_link/src/{module}.rt", template("cpp_link/families.rt", says=module_says, uses=uses, functions=functions)

@@ -22,6 +22,11 @@ def sources(folder):
         folders[:] = [name for name in folders if name != "out"]
         yield from (os.path.join(at, name) for name in sorted(names) if name.endswith((".rt", ".antt")))
 
+def lines_of_crates(root):
+    """The line of each crate in `crates.txt`, without its comment, by the crate's name."""
+    lines = (line.split("#")[0].strip() for line in read(f"{root}/crates.txt").splitlines())
+    return {line.split(":")[0].split()[0]: line for line in lines if line}
+
 def load(path):
     """The Python module at a path."""
     spec = importlib.util.spec_from_file_location(os.path.basename(path)[:-3], path)
@@ -59,13 +64,24 @@ def entries(name):
 
 def fill(text, /, **holes):
     """The text, in which each `@HOLE@` is filled: with a text or a number, or with lines, which take the place of its line. What ends in
-    `_COUNT` is how many lines there are."""
+    `_COUNT` is how many lines there are. Lines that begin with `@HOLE:` are written for each item, whose parts are `@0@`, `@1@`, ..: all
+    after the colon."""
     def filled(match):
         name = match[1].lower()
         value = holes[name] if name in holes else len(holes[name.removesuffix("_count")])
         return str(value) if isinstance(value, (str, int)) else "\n".join(map(str, value))
-    return re.sub(r"@([A-Z_]+)@", filled, text)
+    def of_each(match):
+        form = re.sub(r"@([A-Z_]+)@", filled, re.sub(r"^@[A-Z_]+:", "", match[0], flags=re.M))
+        value = holes[match[2].lower()]
+        items = (item if isinstance(item, tuple) else (item,) for item in (value.items() if isinstance(value, dict) else value))
+        return "".join(re.sub(r"@(\d)@", lambda part: str(item[int(part[1])]), form) for item in items)
+    return re.sub(r"@([A-Z_]+)@|(?m:^@([A-Z_]+):.*\n(?:@\2:.*\n)*)", lambda match: (filled if match[1] else of_each)(match), text)
 
 def template(name, /, **holes):
     """The text of a template, filled: of a file with `.in` after its name, since the gate asks for each other `.rt` and `.antt`."""
     return fill(read(f"{TEMPLATES}/{name}.in"), **holes)
+
+def whole(path, /, **holes):
+    """A file's path in the folder of the crates, and its text: that of the template of its crate with its name, filled."""
+    crate, *_, name = path.split("/")
+    return path, template(f"{crate}/{name}", **holes)

@@ -21,9 +21,7 @@ times a second, so up to a second in a hundred is counted only in the last line.
 The first two work on a copy of the crate and those below it, with the kept work that they have: check these before. A
 crate of 60 functions takes some five minutes, and `rt` (the toolchain's command) has to be on the path.
 """
-import collections
 import os
-import pathlib
 import re
 import resource
 import shutil
@@ -32,151 +30,135 @@ import sys
 import tempfile
 import threading
 import time
+from collections import Counter, defaultdict
+from pathlib import Path
 
-ROOT = pathlib.Path(__file__).resolve().parent.parent
+from files import lines_of_crates
 
+ROOT = Path(__file__).resolve().parent.parent
 
 def processor_seconds():
+    """The seconds of processor of the commands that have ended."""
     used = resource.getrusage(resource.RUSAGE_CHILDREN)
     return used.ru_utime + used.ru_stime
 
-
 def timed(folder, *words):
-    """Runs a command in a folder, and returns the seconds that it took and what it printed."""
+    """Runs a command in a folder: the seconds that it took, and what it printed."""
     before = processor_seconds()
     ran = subprocess.run(words, cwd=folder, stdout=subprocess.PIPE, stderr=subprocess.STDOUT, text=True)
     return processor_seconds() - before, ran.stdout
 
-
 def last_line(printed):
-    lines = [line for line in printed.splitlines() if line.startswith("logic=")]
-    return lines[-1] if lines else "no answer"
+    """What a check says at its end."""
+    return ([line for line in printed.splitlines() if line.startswith("logic=")] or ["no answer"])[-1]
 
-
-def number_of_functions(printed):
-    found = re.search(r"functions=(\d+)", last_line(printed))
-    return found.group(1) if found else "?"
-
-
-def refusals(printed):
-    """The clauses that weren't proved, one line each."""
-    told = [line for line in printed.splitlines() if re.match(r"(note: )?\S+:\d+:\d+: ", line)]
-    return [line for line in told if ": error" in line or "not proved" in line] or ["nothing refused"]
-
-
-def read_edit(path):
-    file, pairs = "", []
-    for line in path.read_text().splitlines():
-        word, _, rest = line.partition(": ")
-        if word == "file":
-            file = rest
-        elif word == "old":
-            pairs.append((rest, ""))
-        elif word == "new":
-            pairs[-1] = (pairs[-1][0], rest)
-    return file, pairs
-
-
-def lines_of_crates():
-    """The line of each crate in `crates.txt`."""
-    lines = (ROOT / "crates.txt").read_text().splitlines()
-    return {line.split(":")[0].split()[0]: line for line in lines if line.partition("#")[0].strip()}
-
+def libraries(crate):
+    """The libraries that a crate uses."""
+    return lines_of_crates(ROOT)[crate].partition(":")[2].split()
 
 def below(name):
     """The repository's crates that a crate depends on, lowest first."""
-    uses = {crate: line.partition(":")[2].split() for crate, line in lines_of_crates().items()}
-    found = []
-
+    known, found = lines_of_crates(ROOT), []
     def visit(crate):
-        for other in uses[crate]:
-            if other in uses and other not in found:
+        for other in libraries(crate):
+            if other in known and other not in found:
                 visit(other)
                 found.append(other)
-
     visit(name)
     return found
 
+# ## A crate, and its edits
 
 def report(label, seconds, rest=""):
+    """Prints a line of what something took."""
     print(f"{label:44}{seconds:8.1f} s  {rest}".rstrip(), flush=True)
 
+def edited(crate, edit):
+    """The file that an edit changes, its text, and its text with the edit."""
+    said = edit.read_text()
+    path = crate / re.search(r"^file: (.*)$", said, re.M)[1]
+    text = changed = path.read_text()
+    for old, new in re.findall(r"^old: (.*)\nnew: ?(.*)$", said, re.M):
+        if changed.count(old) != 1:
+            sys.exit(f"{edit.name}: its text occurs {changed.count(old)} times in {path}")
+        changed = changed.replace(old, new)
+    return path, text, changed
 
-def time_edits(crate, edits, tells):
-    total = 0.0
-    for edit in edits:
-        file, pairs = read_edit(edit)
-        text = (crate / file).read_text()
-        edited = text
-        for old, new in pairs:
-            if edited.count(old) != 1:
-                sys.exit(f"{edit.name}: its text occurs {edited.count(old)} times in {file}")
-            edited = edited.replace(old, new)
-        (crate / file).write_text(edited)
-        seconds, printed = timed(crate, "rt", "check", "--jobs", "1")
-        (crate / file).write_text(text)
-        total += seconds
-        report(edit.stem, seconds, "" if "logic=not-proved" in last_line(printed) else "NOT REFUSED")
-        for line in refusals(printed) if tells else []:
-            print("    " + line[:220])
-    return total
+def time_edit(crate, edit, tells):
+    """The seconds that it takes to refuse an edit; prints which clauses weren't proved, if these are asked for."""
+    path, text, changed = edited(crate, edit)
+    path.write_text(changed)
+    seconds, printed = timed(crate, "rt", "check", "--jobs", "1")
+    path.write_text(text)
+    report(edit.stem, seconds, "" if "logic=not-proved" in last_line(printed) else "NOT REFUSED")
+    refused = [line for line in printed.splitlines() if re.match(r"(note: )?\S+:\d+:\d+: .*(: error|not proved)", line)]
+    for line in refused or ["nothing refused"] if tells else []:
+        print("    " + line[:220])
+    return seconds
 
+def time_crate(name, crate, chosen):
+    """Times a crate's proof, tests and edits; or these edits."""
+    if not chosen:
+        shutil.rmtree(crate / "out", ignore_errors=True)
+    proof, printed = timed(crate, "rt", "check", "--jobs", "1")
+    if not chosen:
+        report("proof", proof, f"{(re.findall(r'functions=([0-9]+)', last_line(printed)) or '?')[0]} functions")
+    if not last_line(printed).startswith("logic=proved"):
+        sys.exit(f"{name} isn't proved: {last_line(printed)}")
+    tests = 0.0
+    if not chosen and any("#[test]" in file.read_text() for file in (crate / "src").rglob("*.rt")):
+        tests, _ = timed(crate, "rt", "test")
+        report("tests", tests)
+    edits = [edit for edit in sorted((crate / "must-fail").glob("*.edit")) if not chosen or edit.stem in chosen]
+    others = sum(time_edit(crate, edit, bool(chosen)) for edit in edits)
+    unedited, _ = timed(crate, "rt", "check", "--jobs", "1")
+    report("unedited, over kept work", unedited)
+    if not chosen:
+        # the gate's first edit proves the crate again
+        report("in the gate", proof + tests + (proof if edits else 0.0) + others + unedited, f"{len(edits)} edits")
 
-# The modules that are made of a function.
-PARTS = {
-    *("Answers", "Code", "Given", "Goals", "Invariants", "Kinds", "Layout", "Lts", "Met", "Mir", "Named", "Paired", "Proof"),
-    *("Reads", "Statement", "Symbol", "TheLink", "TheLinks", "TheReach", "Tie", "View"),
-}
-TICKS = os.sysconf("SC_CLK_TCK")
-
+# ## A whole gate
 
 def processes():
     """Each process: its number and its start, its parent's number, and the seconds that it took."""
-    found = {}
-    for folder in os.listdir("/proc"):
-        if folder.isdigit():
-            try:
-                fields = pathlib.Path("/proc", folder, "stat").read_text().rpartition(")")[2].split()
-            except OSError:
-                continue
-            found[int(folder)] = int(fields[19]), int(fields[1]), (int(fields[11]) + int(fields[12])) / TICKS
-    return found
-
+    for folder in filter(str.isdigit, os.listdir("/proc")):
+        try:
+            fields = Path("/proc", folder, "stat").read_text().rpartition(")")[2].split()
+        except OSError:
+            continue
+        yield int(folder), (int(fields[19]), int(fields[1]), (int(fields[11]) + int(fields[12])) / os.sysconf("SC_CLK_TCK"))
 
 def task_of(number):
     """What a process of the gate is for: a crate, and which of its tasks."""
     try:
-        words = pathlib.Path("/proc", str(number), "cmdline").read_bytes().decode(errors="replace").split("\0")
+        words = Path("/proc", str(number), "cmdline").read_bytes().decode(errors="replace").split("\0")
         folder = os.readlink(f"/proc/{number}/cwd")
     except OSError:
         return None
+    given = dict(zip(words, words[1:]))
     if "--crate-name" not in words:
         return None
-    crate = words[words.index("--crate-name") + 1]
-    kept = words[words.index("--incremental") + 1] if "--incremental" in words else ""
     if "rt-edit" in folder:
-        return crate, "seed" if kept.endswith("/seed") else "edits"
-    return crate, "builds" if "--crate-checked" in words else "tests" if "--test" in words else "proof"
-
+        part = "seed" if given.get("--incremental", "").endswith("/seed") else "edits"
+    else:
+        part = "builds" if "--crate-checked" in words else "tests" if "--test" in words else "proof"
+    return given["--crate-name"], part
 
 def watch(root, stop, seconds, tasks):
-    """Notes the seconds of each process that a process has started, until it is told to stop."""
+    """Notes the seconds of each process that a process has started, until the event."""
     while not stop.wait(0.2):
-        found, below = processes(), {root}
-        while True:
-            more = {it for it, (_, parent, _) in found.items() if parent in below} - below
-            if not more:
-                break
-            below |= more
-        for number in below & found.keys():
-            start, _, took = found[number]
-            seconds[number, start] = took
+        found, known, under = dict(processes()), set(), {root}
+        while known != under:
+            known = set(under)
+            under |= {number for number, (_, parent, _) in found.items() if parent in known}
+        for number in under & found.keys():
+            start, _, seconds[number, found[number][0]] = found[number]
             # (a command line is read once it is the checker's)
             if tasks.get((number, start)) is None:
                 tasks[number, start] = task_of(number)
 
-
 def time_gate(command):
+    """Runs a command, and prints what each crate took in it."""
     seconds, tasks, stop, began = {}, {}, threading.Event(), time.time()
     with subprocess.Popen(command) as ran:
         watcher = threading.Thread(target=watch, args=(ran.pid, stop, seconds, tasks))
@@ -184,124 +166,106 @@ def time_gate(command):
         status = ran.wait()
         stop.set()
         watcher.join()
-    by_crate, parts = collections.defaultdict(collections.Counter), ["proof", "tests", "seed", "edits", "builds"]
+    by_crate = defaultdict(Counter)
     for process, took in seconds.items():
         crate, part = tasks.get(process) or ("other", "builds")
         by_crate[crate][part] += took
-    print(f"\n{'crate':20}" + "".join(f"{it:>9}" for it in [*parts, "all"]))
-    for crate, took in sorted(by_crate.items(), key=lambda it: -sum(it[1].values())):
-        print(f"{crate:20}" + "".join(f"{took[it]:9.0f}" for it in parts) + f"{sum(took.values()):9.0f}")
-    sums = [sum(took[it] for took in by_crate.values()) for it in parts]
-    print(f"{'seen':20}" + "".join(f"{it:9.0f}" for it in [*sums, sum(sums)]))
+    print()
+    print_table(by_crate, ["proof", "tests", "seed", "edits", "builds"])
     print(f"in all {processor_seconds() / 60:.1f} minutes of processor, {(time.time() - began) / 60:.1f} by the clock")
     return status
 
+def print_table(rows, columns):
+    """Prints what each crate took, by its tasks, the dearest first, and the sums."""
+    print(f"{'crate':20}" + "".join(f"{column:>9}" for column in [*columns, "all"]))
+    dearest = sorted(rows.items(), key=lambda row: -row[1].total())
+    for name, took in [*dearest, ("seen", sum(rows.values(), Counter()))]:
+        print(f"{name:20}" + "".join(f"{took[column]:9.0f}" for column in columns) + f"{took.total():9.0f}")
+
+# ## The functions of a crate
+
+# the modules that are made of a function
+PARTS = ("Answers Code Given Goals Invariants Kinds Layout Lts Met Mir Named Paired Proof Reads Statement Symbol TheLink TheLinks TheReach "
+         "Tie View").split()
+
+BEGINS = r"^\s*(?:pub(?:\([a-z]+\))? )?(?:const )?fn "
 
 def words_of_check(crate, copy, kept):
     """The checker's command for a crate of the repository, over nothing but what was built below it."""
-    kit = pathlib.Path(subprocess.run(["rt", "doc"], stdout=subprocess.PIPE, text=True).stdout.strip()).parent
-    uses = lines_of_crates()[crate].partition("#")[0].partition(":")[2].split()
-    rlibs = {it: copy / "crates" / it / "out/rlib" / f"{it}.rlib" for it in below(crate)}
+    kit = Path(subprocess.run(["rt", "doc"], stdout=subprocess.PIPE, text=True).stdout.strip()).parent
+    rlibs = {name: copy / "crates" / name / "out/rlib" / f"{name}.rlib" for name in below(crate)}
     source = "src/main.rt" if (copy / "crates" / crate / "src/main.rt").is_file() else "src/lib.rt"
     words = ["rattle", "check", "--crate-name", crate, source, "--jobs", "1", "--progress", "--incremental", kept]
-    for name in ["std", *uses]:
+    for name in ["std", *libraries(crate)]:
         words += ["--extern", f"{name}={rlibs.get(name, kit / 'rlibs' / f'{name}.rlib')}"]
-    for folder in [kit / "rlibs", *(it.parent for it in rlibs.values())]:
+    for folder in [kit / "rlibs", *(rlib.parent for rlib in rlibs.values())]:
         words += ["-L", f"dependency={folder}"]
-    return words + [
-        *["--antt-project", str(kit / "rattle/logic/antt-project.json")],
-        *["--logic-built", str(kit / "logic_built"), "--links", f"{crate}="],
-    ]
-
+    return [*words, "--antt-project", str(kit / "rattle/logic/antt-project.json"), "--logic-built", str(kit / "logic_built"),
+            "--links", f"{crate}="]
 
 def goals_by_text(crate):
     """Of each function, by its name alone: the clauses that it ensures and the ways out of it, counted in its text."""
-    found, name, clauses, ways = {}, "", 0, 1
+    found = defaultdict(lambda: (0, 1))
     for file in sorted((crate / "src").rglob("*.rt")):
-        for line in [*file.read_text().splitlines(), "fn end"]:
-            line = line.partition("//")[0]
-            begins = re.match(r"\s*(?:pub(?:\([a-z]+\))? )?(?:const )?fn (\w+)", line)
-            if begins:
-                found[name] = max(found.get(name, (0, 1)), (clauses, ways))
-                name, clauses, ways = begins.group(1), 0, 1
-            elif re.match(r"\s*ensures", line):
-                clauses += 1
-            elif not re.match(r"\s*(requires|invariant)", line):
-                ways += len(re.findall(r"\breturn\b|\?[;)., ]|\?$", line))
+        text = re.sub(r"//.*", "", file.read_text())
+        for name, body in re.findall(rf"{BEGINS}(\w+).*\n((?:(?!{BEGINS}).*\n)*)", text, re.M):
+            lines = [line.strip() for line in body.splitlines()]
+            code = "\n".join(line for line in lines if not line.startswith(("requires", "ensures", "invariant")))
+            ways = 1 + len(re.findall(r"\breturn\b|\?[;)., ]|\?$", code, re.M))
+            found[name] = max(found[name], (sum(line.startswith("ensures") for line in lines), ways))
     return found
 
-
-def time_functions(name, copy):
-    """Proves a crate from nothing, and tells its functions' seconds by the times at which their modules were kept."""
-    crate, kept = copy / "crates" / name, str(copy / "kept")
-    os.mkdir(kept)
-    began, before = time.time(), processor_seconds()
-    ran = subprocess.run(words_of_check(name, copy, kept), cwd=crate, stdout=subprocess.PIPE, stderr=subprocess.STDOUT, text=True)
-    took, lasted = processor_seconds() - before, time.time() - began
-    if not last_line(ran.stdout).startswith("logic=proved"):
-        sys.exit(f"{name} isn't proved:\n{ran.stdout[-3000:]}")
-    files = sorted((it.stat().st_mtime, it.name.replace(".decls.", ".")) for it in pathlib.Path(kept).rglob("*.oantt"))
-    by_function, last = collections.defaultdict(collections.Counter), files[0][0]
-    for at, file in files:
-        # (a module's file is written as its check ends, and at one job they are checked one after the other)
-        seconds, last = (at - last) * took / lasted, at
-        names, part = file.removesuffix(".oantt").partition("-proofs.")[2].split("."), ""
+def by_function(kept, scale):
+    """The seconds of each function's modules, by the times at which these were kept: at one job a module's file is written as its check
+    ends, and they are checked one after the other."""
+    files = sorted((file.stat().st_mtime, file.name.replace(".decls.", ".").removesuffix(".oantt")) for file in Path(kept).rglob("*.oantt"))
+    found = defaultdict(Counter)
+    for (before, _), (at, file) in zip([files[0], *files], files):
+        names, part = file.partition("-proofs.")[2].split("."), ""
         while len(names) > 1 and names[-1] in PARTS:
             part = names.pop()
-        function = ".".join(names) if part else file.removesuffix(".oantt")
-        by_function[function][{"Lts": "code", "Proof": "goals"}.get(part, "rest" if part else "files")] += seconds
-    goals, columns = goals_by_text(crate), ["code", "goals", "rest", "files"]
-    print(f"{'seconds':>8}" + "".join(f"{it:>8}" for it in columns) + "  clauses x ways out")
-    for function, parts in sorted(by_function.items(), key=lambda it: -sum(it[1].values())):
-        clauses, ways = goals.get(function.rpartition(".")[2], (0, 1))
-        if sum(parts.values()) >= 0.5:
-            text = f"  {clauses} x {ways}" if clauses and not parts["files"] else ""
-            print(f"{sum(parts.values()):8.1f}" + "".join(f"{parts[it]:8.1f}" for it in columns) + f"  {function}{text}")
-    sums = sum(by_function.values(), collections.Counter())
-    print(f"{took:8.1f}" + "".join(f"{sums[it]:8.1f}" for it in columns) + f"  all, {took - sum(sums.values()):.1f} before the first")
+        column = {"Lts": "code", "Proof": "goals"}.get(part, "rest" if part else "files")
+        found[".".join(names) if part else file][column] += (at - before) * scale
+    return found
 
+def time_functions(name, copy):
+    """Proves a crate from nothing, and tells its functions' seconds."""
+    crate, kept, columns = copy / "crates" / name, str(copy / "kept"), ["code", "goals", "rest", "files"]
+    os.mkdir(kept)
+    began = time.time()
+    took, printed = timed(crate, *words_of_check(name, copy, kept))
+    if not last_line(printed).startswith("logic=proved"):
+        sys.exit(f"{name} isn't proved:\n{printed[-3000:]}")
+    functions, goals = by_function(kept, took / (time.time() - began)), goals_by_text(crate)
+    print(f"{'seconds':>8}" + "".join(f"{column:>8}" for column in columns) + "  clauses x ways out")
+    def row(seconds, parts, rest):
+        print(f"{seconds:8.1f}" + "".join(f"{parts[column]:8.1f}" for column in columns) + f"  {rest}")
+    for function, parts in sorted(functions.items(), key=lambda entry: -entry[1].total()):
+        clauses, ways = goals[function.rpartition(".")[2]]
+        if parts.total() >= 0.5:
+            row(parts.total(), parts, function + (f"  {clauses} x {ways}" if clauses and not parts["files"] else ""))
+    sums = sum(functions.values(), Counter())
+    row(took, sums, f"all, {took - sums.total():.1f} before the first")
 
 def main():
+    """Times what the command line names."""
     if len(sys.argv) < 2:
         sys.exit(__doc__.strip())
     if sys.argv[1] == "--gate":
         sys.exit(time_gate(sys.argv[2:] or ["rt", "ci"]))
     functions = sys.argv[1] == "--functions"
-    name, chosen = sys.argv[1 + functions], sys.argv[2 + functions :]
+    name, chosen = sys.argv[1 + functions], sys.argv[2 + functions:]
     with tempfile.TemporaryDirectory(prefix="gate-times-") as work:
-        copy = pathlib.Path(work) / "copy"
-        needed = [*below(name), name]
-        for other in needed:
-            shutil.copytree(ROOT / "crates" / other, copy / "crates" / other)
-        lines = lines_of_crates()
-        (copy / "crates.txt").write_text("".join(lines[other] + "\n" for other in needed))
-        crate = copy / "crates" / name
-        for other in below(name):
-            timed(copy / "crates" / other, "rt", "lib")
+        copy, lines = Path(work) / "copy", lines_of_crates(ROOT)
+        for crate in [*below(name), name]:
+            shutil.copytree(ROOT / "crates" / crate, copy / "crates" / crate)
+        (copy / "crates.txt").write_text("".join(f"{lines[crate]}\n" for crate in [*below(name), name]))
+        for crate in below(name):
+            timed(copy / "crates" / crate, "rt", "lib")
         if functions:
-            return time_functions(name, copy)
-        if not chosen:
-            shutil.rmtree(crate / "out", ignore_errors=True)
-        seconds, printed = timed(crate, "rt", "check", "--jobs", "1")
-        proof = seconds
-        if not chosen:
-            report("proof", seconds, number_of_functions(printed) + " functions")
-        if not last_line(printed).startswith("logic=proved"):
-            sys.exit(f"{name} isn't proved: {last_line(printed)}")
-        tests = 0.0
-        if not chosen and any("#[test]" in file.read_text() for file in (crate / "src").rglob("*.rt")):
-            tests, _ = timed(crate, "rt", "test")
-            report("tests", tests)
-        edits = sorted((crate / "must-fail").glob("*.edit"))
-        if chosen:
-            edits = [edit for edit in edits if edit.stem in chosen]
-        others = time_edits(crate, edits, bool(chosen))
-        unedited, _ = timed(crate, "rt", "check", "--jobs", "1")
-        report("unedited, over kept work", unedited)
-        if not chosen:
-            # the gate's first edit proves the crate again
-            again = proof if edits else 0.0
-            report("in the gate", proof + tests + again + others + unedited, f"{len(edits)} edits")
+            time_functions(name, copy)
+        else:
+            time_crate(name, copy / "crates" / name, chosen)
 
-
-main()
+if __name__ == "__main__":
+    main()

@@ -34,7 +34,7 @@ def lawful(extended=True, widened=False):
     assert not bad, bad
     return found
 
-def files():
+def files(crates):
     """What is written: each file's path in the folder of the crates, and its text."""
     # what may come after each kind, and how many chains begin it, are the wide grammar's; how low its lowest tree is, is the other's, whose
     # trees the wide grammar has

@@ -1,16 +1,10 @@
 """Writes the code and the definitions that hold C++'s grammar: from the table of rules.py and its laws to the files of cpp_grammar, by the
 templates of templates/cpp_grammar. grammar.py calls it, once for each of the grammars."""
-import os
-
-from files import template
+from files import template, whole
 from grammar_laws import klass, sym_class
 from notation import listed, runs, snake
 from rules import ABOVE, ALIKE, BLANK, K, NAME, P, TOKENS, defined, defined_cases, imports, variants
-from table_code import FIRST, LAST, after_each, letter_rows, symbol_row
-
-def filled(path, **holes):
-    """A file of cpp_grammar by its template: its path and its text."""
-    yield f"cpp_grammar/{path}", template(f"cpp_grammar/{os.path.basename(path)}", **holes)
+from table_code import after_each, letter_row, symbol_row
 
 def on(chars, production):
     """An alternative, by the bytes at which it is taken."""
@@ -23,20 +17,12 @@ def alternatives():
     """Those of each kind, as a list of them."""
     return {kind: listed(on(klass(cls, production), production) for cls, production in rules) for kind, (_, rules) in K.items()}
 
-def rust_symbol(symbol):
-    """A symbol in code, other than a byte."""
-    if sym_class(symbol) == "token":
-        return "Sym::Name" if symbol == NAME else f"Sym::Number(NumberKind::{symbol})"
-    return f"Sym::Kind({list(K).index(symbol)})"
-
-def antt_symbol(symbol):
-    """A symbol in definitions."""
+def symbol(symbol, number, byte, part):
+    """A symbol of a rule, by how a number, a byte and a part are written."""
     of = sym_class(symbol)
-    if of == "byte":
-        return f"Byte {ord(symbol[1])}"
     if of == "token":
-        return "Name" if symbol == NAME else f"Number {symbol}"
-    return f"part Kind.{symbol}"
+        return "Name" if symbol == NAME else number.format(symbol)
+    return byte.format(symbol, ord(symbol[1])) if of == "byte" else part(symbol)
 
 def letter(number):
     """A letter, as a byte string has it: the byte with this number."""
@@ -50,86 +36,62 @@ def base(numbers):
     assert found <= min(numbers, default=found), f"productions of one kind have numbers too far apart: {numbers}"
     return found
 
-def taken():
-    """What each kind takes, by the byte: the numbers of productions."""
-    numbers = numbered(P)
-    return {kind: {byte: numbers[production] for cls, production in rules for byte in klass(cls, production)}
-            for kind, (_, rules) in K.items()}
-
-def rust_letters(name, based):
-    """The table of rows. In one that isn't based all letters count from 0."""
-    bases = {kind: base(numbers.values()) for kind, numbers in taken().items()}
-    assert based or not any(bases.values())
-    kinds = {kind: {byte: letter(number - bases[kind]) for byte, number in numbers.items()} for kind, numbers in taken().items()}
-    return [f"// For each kind a row: for each byte from `{chr(FIRST)}` to `{chr(LAST)}` the letter of the production that the kind takes "
-            "there.",
-            *letter_rows(name, kinds, bases if based else None)]
+def rows():
+    """The row of each kind in the table: its letters, and what they count from."""
+    numbers = {production: number for number, production in enumerate(P)}
+    for kind, (_, rules) in K.items():
+        taken = {byte: numbers[production] for cls, production in rules for byte in klass(cls, production)}
+        first = base(taken.values())
+        yield kind, letter_row({byte: letter(number - first) for byte, number in taken.items()}), first
 
 def rust_rules(of, row, letters, number):
     """The calls that look a rule up, by the row of a kind, its letters, and the number of the production of a letter."""
-    return template("cpp_grammar/rules.rt", table=of, row=row, letters=letters, number=number, count=len(P)).rstrip("\n")
+    return template("cpp_grammar/rules.rt", table=of, row=row, letters=letters, number=number, count=len(P))
 
 def table():
     """What the table of the ABI's grammar is filled with: the rule that a kind takes at a byte, and the rules' symbols."""
-    used = {symbol for _, symbols in P.values() for symbol in symbols}
-    constants = [f"const {snake(symbol).upper()}: Sym = {rust_symbol(symbol)};\n"
-                 for symbol in [*[kind for kind in K if kind in used], *TOKENS]]
+    kinds, used = list(rows()), {symbol for _, symbols in P.values() for symbol in symbols}
+    assert not any(first for _, _, first in kinds), "letters don't count from 0"
+    def cell(part):
+        return snake(part).upper() if sym_class(part) != "byte" else f"Sym::Byte(b{part})"
+    def meant(part):
+        return "Sym::" + symbol(part, "Number(NumberKind::{0})", "", lambda kind: f"Kind({list(K).index(kind)})")
     names = [f"{number} {production}" for number, production in enumerate(P)]
-    heads = [f"    {'takes' if ate else 'chains'}!({len(symbols)}), // {name}" for name, (ate, symbols) in zip(names, P.values())]
-    def cells(symbols):
-        return [f"Sym::Byte(b{symbol})" if sym_class(symbol) == "byte" else snake(symbol).upper() for symbol in symbols]
-    rows = [symbol_row(cells(symbols), name) for name, (_, symbols) in zip(names, P.values())]
-    return {"constants": constants, "letters": rust_letters("LETTERS", False), "count": str(len(P)), "heads": heads, "symbols": rows,
-            **after_each([symbols for _, symbols in P.values()]), "rules": rust_rules("abi", "&LETTERS[kind as usize]", "row",
-                    "letter as usize")}
+    return {"kinds": kinds, "constants": [(cell(part), meant(part)) for part in [*filter(used.__contains__, K), *TOKENS]], "count": len(P),
+            "heads": [("takes" if ate else "chains", len(symbols), name) for name, (ate, symbols) in zip(names, P.values())],
+            "symbols": [(symbol_row(map(cell, symbols)), name) for name, (_, symbols) in zip(names, P.values())],
+            **after_each([symbols for _, symbols in P.values()]),
+            "rules": rust_rules("abi", "&LETTERS[kind as usize]", "row", "letter as usize")}
 
-def of_kinds(function, values):
-    """A clause for each of these kinds."""
-    return [f"{function} Kind.{kind} = {value}" for kind, value in values.items()]
-
-def of_productions(function, values):
-    """A clause for each of these productions."""
-    return [f"{function} {case} = {value}" for case, value in defined_cases(values)]
-
-def alike(name):
-    """The enum of productions that mean the same."""
-    says = [f"/// {line}" for line in ABOVE[name]]
-    return "\n".join([*says, "#[derive(Clone, Copy)]", f"pub enum {name} {{", *(f"    {production}," for production in ALIKE[name]), "}"])
-
-def numbered(names):
-    """Each name with its number."""
-    return {name: number for number, name in enumerate(names)}
+def parts(symbols):
+    """The symbols of a rule, in definitions."""
+    return listed(symbol(part, "Number {0}", "Byte {1}", "part Kind.{}".format) for part in symbols)
 
 def abi_files():
     """The files of the grammar that is entered: its kinds and productions, its table, and the same as definitions."""
     may_be_empty = [kind for kind, (empty, _) in K.items() if empty]
-    names = "\n\n".join(f"abbrev pub {snake(kind).upper()} : ℕ\n{snake(kind).upper()} = {i}" for i, kind in enumerate(K))
-    yield from filled("src/kind.rt", kinds=[f"    {kind}," for kind in K],
-                      numbered=[f"        {i} => Some(Kind::{kind})," for i, kind in enumerate(K)],
-                      empty=[f"        Kind::{kind} => true," for kind in may_be_empty])
-    yield from filled("src/production.rt", productions=[f"    {variant}," for variant in variants(P)], alike="\n\n".join(map(alike, ALIKE)))
-    yield from filled("src/table.rt", **table())
-    yield from filled("specs/Grammar.antt", alike=imports(map(defined, P)), kind_numbers=of_kinds("number_of_kind", numbered(K)),
-                      alternatives=of_kinds("alternatives", alternatives()),
-                      parts=of_productions("parts_of", {production: listed(map(antt_symbol, symbols))
-                              for production, (_, symbols) in P.items()}),
-                      chains=of_productions("is_chain", {production: "true" for production, (ate, _) in P.items() if not ate}),
-                      empty=of_kinds("may_be_empty", dict.fromkeys(may_be_empty, "true")), kinds=listed(f"Kind.{kind}" for kind in K),
-                      productions=listed(map(defined, P)), numbers=of_productions("number_of", numbered(P)))
-    yield from filled("specs/KindNumbers.antt", kind_count=len(K), production_count=len(P), kinds=names)
+    numbers = {production: number for number, production in enumerate(P)}
+    yield whole("cpp_grammar/src/kind.rt", kinds=K, numbered=enumerate(K), empty=may_be_empty)
+    enums = [("\n".join(f"/// {line}" for line in ABOVE[name]), name, "\n".join(f"    {own}," for own in ALIKE[name])) for name in ALIKE]
+    yield whole("cpp_grammar/src/production.rt", productions=variants(P), alike=enums)
+    yield whole("cpp_grammar/src/table.rt", **table())
+    yield whole("cpp_grammar/specs/Grammar.antt", alike=imports(map(defined, P)), kind_numbers=enumerate(K), alternatives=alternatives(),
+                parts=defined_cases({production: parts(symbols) for production, (_, symbols) in P.items()}),
+                chains=defined_cases({production: "true" for production, (ate, _) in P.items() if not ate}), empty=may_be_empty,
+                kinds=listed(f"Kind.{kind}" for kind in K), productions=listed(map(defined, P)), numbers=defined_cases(numbers))
+    yield whole("cpp_grammar/specs/KindNumbers.antt", kind_count=len(K), production_count=len(P),
+                kinds=[(number, snake(kind).upper()) for number, kind in enumerate(K)])
 
 def wide_files(after, depth, height):
     """Those of the wide grammar: what a kind takes at a byte, what begins it and may come after it, and how its trees are bounded."""
+    yield whole("cpp_grammar/src/wide_table.rt", kinds=list(rows()),
+                rules=rust_rules("wide", "&WIDE_ROWS[kind as usize]", "&row.letters", "row.base as usize + letter as usize"))
+    yield whole("cpp_grammar/specs/Wide.antt", alike=imports(alternatives().values()), alternatives=alternatives())
     merged = {kind: "".join(f"{low}-{high}" for low, high in runs(after[kind], 1)[0]) for kind in K}
-    yield from filled("src/wide_table.rt", letters=rust_letters("WIDE_ROWS", True),
-                      rules=rust_rules("wide", "&WIDE_ROWS[kind as usize]", "&row.letters", "row.base as usize + letter as usize"))
-    clauses = of_kinds("wide_alternatives", alternatives())
-    yield from filled("specs/Wide.antt", alike=imports(clauses), alternatives=clauses)
-    yield from filled("specs/Follow.antt", after=of_kinds("after_ranges", {kind: f'codes "{merged[kind]}"' for kind in K}),
-                      ranks=of_kinds("rank", {kind: depth[kind] for kind in K if depth[kind]}),
-                      heights=of_kinds("height", {kind: height[kind] for kind in K if height[kind]}))
+    ranks, heights = ({kind: known[kind] for kind in K if known[kind]} for known in (depth, height))
+    yield whole("cpp_grammar/specs/Follow.antt", after=merged, ranks=ranks, heights=heights)
 
 def files_before(later, earlier):
     """That of the kinds that began otherwise before there were vector types and the like, by the alternatives of both grammars."""
-    clauses = of_kinds("alternatives_before", {kind: earlier[kind] for kind in later if earlier[kind] != later[kind]})
-    yield from filled("specs/Before.antt", alike=imports(clauses), alternatives=clauses)
+    changed = {kind: earlier[kind] for kind in later if earlier[kind] != later[kind]}
+    yield whole("cpp_grammar/specs/Before.antt", alike=imports(changed.values()), alternatives=changed)

@@ -5,11 +5,12 @@ import os
 import re
 
 from cpp_trees import BELOW
-from files import columns, read, sections, template
+from files import columns, read, sections, template, whole
+from node_clauses import TYPES, node_pattern, without
 from node_code import nodes
-from notation import answer, applied, braced, camel
+from notation import Steps, answer, camel
 from printing import imports
-from splicing import WRITTEN
+from splicing import rewritten, with_declarations
 
 STORED, SHOWN = "c.stored.result c.stored.ensures.own _ c.stored.ensures.tree", "c.args.self.now c.args.ctx.detail"
 CONTEXT, DETAIL = "(context_of c.args.ctx)", "c.args.ctx.detail"
@@ -51,14 +52,9 @@ def arms(body, begins="Node|Piece"):
     return [(start[1], body[start.end():after.start() if after else None]) for start, after in zip(starts, [*starts[1:], None]) if start[1]]
 
 def calls(body, begins="Node|Piece"):
-    """For each arm, the function that is called last, and the step that this is, which has the arm's name from its second call
-    on."""
-    seen, steps = set(), {}
-    for node, text in arms(body, begins):
-        for call in re.findall(r"(?:self\.|=> )(\w+)\(", text):
-            steps[node] = call, call + (f"-in-{node}" if call in seen else "")
-            seen.add(call)
-    return steps
+    """For each arm, the function that is called last, and the step that this is."""
+    step = Steps()
+    return {node: (call, step(call, node)) for node, text in arms(body, begins) for call in re.findall(r"(?:self\.|=> )(\w+)\(", text)}
 
 # ## What is shown
 
@@ -72,36 +68,25 @@ def record_of(function):
     """The name of what is known of a node for which a function has no arm."""
     return "IsOther" + camel(function.removeprefix("fill_"))
 
+# the types of a node's arguments
+ARGUMENTS = {node.name: [TYPES[sort][0] for _, sort in node.arguments] for node in nodes()}
+
 class Function:
     """A function with arms: the nodes that it has them for, the call and the step of each, and the call whose text it may add."""
-    def __init__(self, name, body, types):
+    def __init__(self, name, body):
         self.name, self.steps = name, calls(body)
         self.nodes = [node for node, _ in arms(body)]
         texts = {node: re.search(r"push_some\(parts, (\w+)\(", text) for node, text in arms(body)}
         self.texts = {node: f"ap (λ t. text t ∷ []) c.{found[1]}.ensures.text" for node, found in texts.items() if found}
-        self.given = {node: [f"x{place}" for place in range(len(types.get(node, [])))] for node in self.nodes}
-        self.types = {node: types.get(node, []) for node in self.nodes}
+        self.others = [without(node, [(f"x{place}", type) for place, type in enumerate(ARGUMENTS.get(node, []))]) for node in self.nodes]
 
     def none(self):
         """That a node is none of those with an arm."""
         return "(record { " + "; ".join(f"not_{node.lower()} = c.in_default.not-{node}" for node in self.nodes) + " })"
 
-    def cases(self, clause):
-        """A clause for each node, with its shape."""
-        return [clause.format(braced(applied(f"Node.{node}", self.given[node]))) for node in self.nodes]
-
-    def never(self, clause):
-        """A clause for each node, which is none of them."""
-        refuted = [f"absurd ({applied(f'other.not_{node.lower()}', self.given[node])} refl)" for node in self.nodes]
-        return [f"{case} = {fact}" for case, fact in zip(self.cases(clause), refuted)]
-
     def record(self):
         """What is known of a node for which there is no arm."""
-        fields = []
-        for node in self.nodes:
-            given = "".join(f"({name} : {type}) " for name, type in zip(self.given[node], self.types[node]))
-            fields.append(f"  pub not_{node.lower()} : {given + '→ ' if given else ''}n ≡ {applied(f'Node.{node}', self.given[node])} → ⊥")
-        return template("cpp_layout/other_record.antt", function=self.name, record=record_of(self.name), fields=fields).rstrip("\n")
+        return template("cpp_layout/other_record.antt", function=self.name, record=record_of(self.name), nodes=self.others).rstrip("\n")
 
     def lemma(self, lemma, variables, of_others, of_tree, by):
         """That the tree of such a node has no parts of its own."""
@@ -109,8 +94,7 @@ class Function:
         return template("cpp_layout/other_lemma.antt", record_of_them=self.record(), lemma=lemma, record=record_of(self.name),
                         binders="".join(BINDERS[variable] for variable in variables), variables="".join(f"{v} " for v in variables),
                         says=says.format("t"), says_of_u=says.format("u"), says_of_tree=says.format("(reargued given (tree_of s us ts n))"),
-                        unfolded=" ".join(filter(None, [of_tree.split()[0], by])),
-                        arms=self.never("    by {0} flat other")).rstrip("\n")
+                        unfolded=" ".join(filter(None, [of_tree.split()[0], by])), nodes=self.others).rstrip("\n")
 
     def answer(self, node, facts, unfolded):
         """An arm's answer: that the last part was added, and what is shown by it."""
@@ -152,25 +136,21 @@ class Function:
 
 def others(found):
     """proofs/Others.antt."""
-    name, type_, argument = (found[function] for function in LEFT)
-    none_left, full = "left-none s us ts given d c {0} flat k other", found["fill_full"]
-    return template("cpp_layout/Others.antt", whole="\n\n".join(found[function].lemma(*row) for function, *row in WHOLE),
-                    left="\n\n".join(found[function].record() for function in LEFT), no_name=name.never("no-name {0} flat other"),
-                    no_type=[*name.cases("no-type {0} k other = elim k [ ]"), *type_.never("no-type {0} k other")],
-                    left_none=[*(line for of in (name, type_) for line in of.cases(none_left + " = elim k [ ]")),
-                               *argument.never(none_left)],
-                    prefix_encoding=full.cases("    by {0} flat e = refl"), prefix_other=full.cases("    by {0} flat e other = cc e"))
+    name, type_, argument = (found[function].others for function in LEFT)
+    return whole("cpp_layout/proofs/Others.antt", whole="\n\n".join(found[function].lemma(*row) for function, *row in WHOLE),
+                 left="\n\n".join(found[function].record() for function in LEFT), no_name=name, no_type=type_, no_argument=argument,
+                 full=found["fill_full"].others)
 
 def whole_file(function, shown):
     """The file of the answers of a function that has none by hand."""
     body = "\n\n".join("\n".join(lines) for lines in shown)
-    uses = [*imports(dict(ARMS["names"]), body, "use"), f"use Rattle.cpp_layout.proofs.symbol.Symbol.{function}.Goals as goal"]
-    return "\n".join([f"-- {WRITTEN}", *uses, "", body]) + "\n"
+    return template("cpp_layout/answers.antt", script="tools/trees.py", uses=imports(dict(ARMS["names"]), body, "use"), function=function,
+                    answers=body)
 
-def files(crates, types):
-    """The file of the lemmas, the answers by function, whole files of answers, and the nodes by function."""
+def edits(crates):
+    """The path of each file with what is shown, how its text changes, and by what."""
     folder, wanted = f"{crates}/cpp_layout/src", [*LEFT, *(row[0] for row in [*WHOLE, *PIECES])]
-    found = {name: Function(name, body, types) for file in sorted(os.listdir(folder)) for name, body in bodies(read(f"{folder}/{file}"))
+    found = {name: Function(name, body) for file in sorted(os.listdir(folder)) for name, body in bodies(read(f"{folder}/{file}"))
              if name in wanted}
     written = {function: list(found[function].answers("left_parts d c", "")) for function in LEFT}
     for function, lemma, variables, of_others, of_tree, by in WHOLE:
@@ -179,7 +159,17 @@ def files(crates, types):
     written.update({function: list(found[function].of_pieces(parts)) for function, parts in PIECES})
     for function, goal, shown in ARMS["others"]:
         written[function].append(answer(goal, f" {filled(shown, found[function].none())}", given="g c"))
-    by_hand = [*VALUES, *(function for function, _ in [*PIECES, *BY_HAND])]
-    whole = {function: whole_file(function, shown) for function, shown in written.items() if function not in by_hand}
-    matched = {function: of.nodes for function, of in found.items()}
-    return others(found), {function: shown for function, shown in written.items() if function in by_hand}, whole, matched
+    by_hand, path = [*VALUES, *(function for function, _ in [*PIECES, *BY_HAND])], "cpp_layout/proofs/symbol/Symbol/{}/Answers.antt".format
+    for function, shown in written.items():
+        if function in by_hand:
+            yield from ((path(function), with_declarations, [["\n".join(lines)]]) for lines in shown)
+        else:
+            yield path(function), lambda text, own: own, [whole_file(function, shown)]
+    file, text = others(found)
+    yield file, lambda before, own: own, [text]
+    # false of the nodes for which functions have arms
+    for name, functions in (("IsNoName", LEFT[:1]), ("IsNoType", LEFT[:2])):
+        matched = [node for function in functions for node in found[function].nodes] + ["Reargued"]
+        own = sorted((node for node in nodes() if node.name in matched), key=lambda node: matched.index(node.name))
+        clauses = [*(f"{name} {node_pattern(node, node.arguments)} = ⊥" for node in own), f"{name} _ = Unit {{0}}"]
+        yield "cpp_layout/specs/Layout.antt", rewritten, [name, clauses]

@@ -4,7 +4,7 @@ import re
 
 import cpp_trees
 from cpp_trees import NAMED, NUMBER, TREES, called
-from files import columns, sections, template
+from files import columns, sections, whole
 from node_code import nodes
 from notation import applied, braced, camel, listed
 from rules import ABOVE, ALIKE, defined, defined_cases
@@ -14,7 +14,8 @@ from rust_layout import split
 
 # what a part is called in a step
 PARTS = ["first", "second", "third"]
-HOLES = {"$1": r"(?P<hole_1>\d)", "$2": r"(?P<hole_2>\d)", "$c": "(?P<hole_c>.)"}
+HOLES = {"$1": r"(?P<hole_1>\d)", "$2": r"(?P<hole_2>\d)", "$c": "(?P<hole_c>.)",
+         **{f"${inner}": f"(?P<hole_{inner}>.*)" for inner in "mwqabd"}}
 TABLE = {head: [columns(line) for line, _ in lines] for head, lines in sections("cpp_words.txt")}
 
 class Word:
@@ -23,27 +24,29 @@ class Word:
         pattern = re.escape(word)
         for hole, group in HOLES.items():
             pattern = pattern.replace(re.escape(hole), group)
-        self.pattern, self.forms = re.compile(pattern), forms
+        self.pattern, self.forms = re.compile(pattern), [*forms, "", ""]
 
     def said(self, text, form, nodes_made):
         """What a text is, if it is this word; with parts, letters and how many nodes are made."""
-        found = self.pattern.fullmatch(text)
+        found = self.pattern.fullmatch(text) if self.forms[form] else None
         if not found:
-            return None
+            return ""
         holes = {name[-1]: value for name, value in found.groupdict().items()}
-        holes |= {"n": str(nodes_made), "o": str(ord(holes.get("c", " "))), "p": PARTS[min(int(holes.get("1", 0)), 2)]}
-        return re.sub(r"\$([12cnop])", lambda hole: holes[hole[1]], self.forms[form])
+        inner = {name: INNER[name](value, form) for name, value in holes.items() if name in INNER}
+        if not all(inner.values()):
+            return ""
+        part = PARTS[min(int(holes.get("1", 0)), 2)]
+        holes |= {**inner, "n": str(nodes_made), "o": str(ord(holes["c"])) if "c" in holes else "", "p": part}
+        return re.sub(r"\$([12cnopmwqabd])", lambda hole: holes[hole[1]], self.forms[form])
 
 DEFINITION, CODE, STEP = 0, 1, 2
-WORDS = {section: [Word(*line) for line in TABLE[section]] for section in ("means", "arguments", "places", "steps")}
-# of which sort an argument is, and which sorts of a part it reads, by the word of its definition
-SOURCES = {line[1].split()[0]: line[4:] for line in TABLE["arguments"]}
+WORDS = {section: [Word(*line) for line in TABLE[section]] for section in ("means", "made", "arguments", "places", "steps")}
 
 def said(section, text, form=DEFINITION, nodes_made=0):
     """What a text of such words is, if it is one."""
-    return next((found for word in WORDS[section] if (found := word.said(text, form, nodes_made)) is not None), None)
+    return next(filter(None, (word.said(text, form, nodes_made) for word in WORDS[section])), "")
 
-# ## Code of what is made
+# ## What is made
 
 def filled(path, names, given):
     """A node or a piece of what it is given: with names, if there are several."""
@@ -51,66 +54,38 @@ def filled(path, names, given):
         return f"{path} {{ {', '.join(f'{name}: {part}' for name, part in zip(names, given))} }}"
     return f"{path}({', '.join(given)})" if given else path
 
-def made_of(text, form):
-    """The tree that a text makes, and the code of what it is given."""
-    name, inside = re.fullmatch(r"(\w+)\((.*)\)", text).groups()
-    return name, [said("arguments", argument, form) for argument in split(inside)]
-
-def made_in_code(text, form=CODE):
-    """A node that is made, in code."""
-    name, given = made_of(text, form)
+def made(text, form=DEFINITION, is_piece=False):
+    """A tree or a piece of a name that is made. A piece of numbers alone has no names."""
+    known, of = said("made", text, form), re.fullmatch(r"(\w+)\((.*)\)", text)
+    if known or not of:
+        return known or ("only " if form == DEFINITION else "") + argument(text, form)
+    name, given = of[1], [said("arguments", one, form) for one in split(of[2])]
+    if form == DEFINITION:
+        return f"of new_{name} {braced(listed(given))}"
     if name == "builtin":
         return f"Node::Builtin{'WithD' if 'D' in text else ''}(byte)"
-    node = next(node for node in nodes() if node.tree == name)
-    return filled(f"Node::{node.name}", [field for field, _, _ in node.fields], given)
-
-def piece_in_code(text, form=CODE):
-    """A piece of a name, in code. One of numbers alone has no names."""
-    if "(" not in text:
-        return said("arguments", text, form)
-    name, given = made_of(text, form)
+    if not is_piece:
+        node = next(node for node in nodes() if node.tree == name)
+        return filled(f"Node::{node.name}", [field for field, _, _ in node.fields], given)
     arguments = next(arguments for tree, *arguments in TREES if tree == name)
     is_named = any(sort != NUMBER for _, sort in arguments)
-    return filled(f"Piece::{camel(name)}", [called(NAMED, name, argument) for argument, _ in arguments if is_named], given)
+    return filled(f"Piece::{camel(name)}", [called(NAMED, name, one) for one, _ in arguments if is_named], given)
 
-# ## The words of a row
-
-def source(text):
+def argument(text, form=DEFINITION, section="arguments"):
     """An argument of a tree."""
-    if known := said("arguments", text):
-        return known
-    return "qualified_by " + " ".join(map(braced, map(source, split(re.fullmatch(r"marks\((.*)\)", text)[1]))))
+    return braced(said(section, text, form)) if form == DEFINITION else said(section, text, form)
 
-def made(text):
-    """A tree that is made."""
-    if m := re.fullmatch(r"name \+ (.*)", text):
-        return f"extending ({made(m[1])})"
-    if m := re.fullmatch(r"tagged\(name, x(\d)\)", text):
-        return f"tagging {m[1]}"
-    if m := re.fullmatch(r"packed\(i(\d)\)", text):
-        return f"packing {m[1]}"
-    if m := re.fullmatch(r"(.*) applied to (\d)", text):
-        return f"applying ({made(m[1])}) {m[2]}"
-    if m := re.fullmatch(r"(\w+)\((.*)\)", text):
-        sources = listed(map(source, split(m[2])))
-        return f"of new_{m[1]} " + (f"({sources})" if m[2] else sources)
-    return f"only {braced(source(text))}"
+INNER = {"m": made, "w": lambda text, form: made(text, form, True), "q": lambda text, form: argument(text, form, "places"),
+         **dict.fromkeys("abd", argument)}
 
 def pair(means):
     """The letter and the trees of a pair."""
     letter, left, right = split(re.fullmatch(r"pair\((.*)\)", means)[1])
-    return source(letter), made(left), made(right)
+    return said("arguments", letter), made(left), made(right)
 
 def form(text, nodes):
     """What a production denotes."""
-    if known := said("means", text, nodes_made=nodes):
-        return known
-    if text.startswith("pair("):
-        return "a_pair " + " ".join(map(braced, pair(text)))
-    if m := re.fullmatch(r"piece (.*)", text):
-        return f"a_piece ({made(m[1])})"
-    tree, mark = re.fullmatch(r"(.*?)(, listed)?", text).groups()
-    return f"makes ({made(tree)}) {'listed' if mark else 'unlisted'}"
+    return "a_pair " + " ".join(map(braced, pair(text))) if text.startswith("pair(") else said("means", text, nodes_made=nodes)
 
 def gain(text):
     """What becomes a candidate."""
@@ -123,15 +98,8 @@ class Step:
     """What is done before a part: as a row says it, and as definitions have it; and the tree that the first part becomes, if it does."""
     def __init__(self, text=""):
         self.text, self.made, self.is_name = text, "", text.startswith("name = ")
-        candidate = re.fullmatch(r"list (?:the name|type (?P<type>\d))(?:, (?P<place>.*))?", text)
-        if not text or said("steps", text):
-            self.definition = said("steps", text) or "quiet"
-        elif said("places", text):
-            self.definition = f"goes nothing {braced(said('places', text))}"
-        elif candidate:
-            of = f"(type_of {candidate['type']})" if candidate["type"] else "the_prefix"
-            self.definition = f"goes {of} {braced(said('places', candidate['place'] or 'in a literal'))}"
-        else:
+        self.definition = said("steps", text) if text else "quiet"
+        if not self.definition:
             self.made, *marks = split(text.removeprefix("name = "))
             self.is_listed, self.is_candidate = bool(marks) and "unlisted" not in marks, "candidate" in marks
             marked = [str(mark).lower() for mark in (self.is_listed, self.is_name, self.is_candidate)]
@@ -239,17 +207,13 @@ def makers(table):
 
 def antt_builders(table):
     """What they make of their arguments, as definitions."""
-    trees, built = makers(table), []
+    trees, built = makers(table), {}
     for name, *arguments in trees:
         given = [f"({READERS.get(sort, 'tree_in')} (argument xs {place}))" for place, (_, sort) in enumerate(arguments)]
-        built.append(applied(f"built new_{name} xs = {name}", given))
+        built[name] = applied(name, given)
     used = {"tree_in", "number_in", *(READERS.get(sort, "tree_in") for tree in trees for _, sort in tree[1:])}
-    arguments = [argument for argument in ARGUMENTS if argument[0] in used]
-    readers = [f"unfoldable pub {name} : Argument → {type}\n{name} ({case} x) = x\n{name} _ = {none}"
-               for name, case, type, none in arguments]
-    return template("cpp_grammar/Builders.antt", trees=", ".join(tree[0] for tree in trees),
-                    makers=", ".join("new_" + tree[0] for tree in trees),
-                    cases=[f"  {case} : {type} → Argument" for _, case, type, _ in arguments], readers="\n\n".join(readers), built=built)
+    return whole("cpp_grammar/specs/Builders.antt", trees=", ".join(built), makers=", ".join(f"new_{tree}" for tree in built),
+                 arguments=[tuple(argument) for argument in ARGUMENTS if argument[0] in used], built=built)
 
 def antt_rows(table):
     """The rows, as definitions."""
@@ -257,12 +221,9 @@ def antt_rows(table):
     above.update({f"(Production.{name} _)": ABOVE[name] for name in ALIKE})
     rows_of = defined_cases({production: row.definition() for production, row in table.items()})
     lines = [line for case, row in rows_of for line in (*(f"-- {says}" for says in above[case]), f"row_of {case} = {row}")]
-    own = sorted({word for word in re.findall(r"own (\w+) \(nodes", "\n".join(lines))})
-    return template("cpp_grammar/Rows.antt", makers=", ".join("new_" + tree[0] for tree in makers(table)), own=", ".join(own), rows=lines)
+    own = ", ".join(sorted({word for word in re.findall(r"own (\w+) \(nodes", "\n".join(lines))}))
+    return whole("cpp_grammar/specs/Rows.antt", makers=", ".join("new_" + tree[0] for tree in makers(table)), own=own, rows=lines)
 
 def files(table):
     """What is written of these rows: each file's path in the folder of the crates, and its text."""
-    made = [f"  new_{tree[0]} : Maker" for tree in makers(table)]
-    yield "cpp_grammar/specs/Makers.antt", template("cpp_grammar/Makers.antt", makers=made)
-    yield "cpp_grammar/specs/Builders.antt", antt_builders(table)
-    yield "cpp_grammar/specs/Rows.antt", antt_rows(table)
+    return whole("cpp_grammar/specs/Makers.antt", trees=makers(table)), antt_builders(table), antt_rows(table)

@@ -2,9 +2,10 @@
 Where the table has a clause of a node's tree, that is the clause."""
 import re
 
-from cpp_trees import BELOW, BYTES, CLAUSES, ENCODINGS, NAMES, OWN, PIECE, PIECES, SIGNED, SORTS, TREE, VIEWED, called, named
+from cpp_trees import BELOW, BYTES, CLAUSES, ENCODINGS, NAMES, PIECES, SIGNED, SORTS, VIEWED, called, named
+from files import columns, sections
 from node_code import nodes, placed
-from notation import alone_or, applied, braced, rewritten, together
+from notation import alone_or, applied, braced, listed, rewritten
 from tree_clauses import SCOPED, SUBTREES, arguments, cases, joined_by
 
 # the types of a node's arguments, and for some the letters of arguments where nodes are told apart
@@ -27,13 +28,6 @@ def node_cases(function, before, after, right, others=None, names=NAMES["none"])
             lines.append(applied(function, [*before, node_pattern(node, given), *after]) + f" = {value}")
     return [*lines, applied(function, [*before, "_", *after]) + f" = {others}"] if others is not None else lines
 
-def of_arguments(forms, joined, none=None):
-    """What is said of a node by its arguments with a bound, by their sorts: of each by its name and the fact of its bound."""
-    def right(node, given):
-        facts = [forms[sort].format(name, fact) for name, sort, fact in placed(given, tuple(forms)) if fact]
-        return joined(facts) if facts else none
-    return right
-
 def tree_of():
     """The tree of a node."""
     def right(node, given):
@@ -51,8 +45,8 @@ def fields_of():
     def right(tree):
         told = [numbers[sort].format(name) for name, sort in tree[1:] if sort in numbers]
         texts = [name if sort == BYTES else f"{name}.digits" for name, sort in arguments(tree, BYTES, SIGNED)]
-        parts = "".join(f"{name} ∷ " for name, sort in arguments(tree, *SUBTREES))
-        general = ["fields", tree[0].upper(), *(told + ["0", "0"])[:2], (texts or ["[]"])[0], f"({parts}[])" if parts else "[]"]
+        parts = braced(listed(name for name, sort in arguments(tree, *SUBTREES)))
+        general = ["fields", tree[0].upper(), *(told + ["0", "0"])[:2], (texts or ["[]"])[0], parts]
         return BELOW["fields"].get(tree[0]) or " ".join(general)
     lines = [*cases("fields_of", [], [], right, None, views()), "fields_of t = no_node t"]
     return [line if len(line) <= 160 else line.replace(" = ", " =\n    ") for line in lines]
@@ -70,44 +64,16 @@ def tree_from():
     names = " ++ ".join(f"names_in {name} given (part_in given {piece}) {tree}" for name, piece, tree in pieces)
     return ["narrow_tree_from given = tree_at given.production (", *lines, "    ∷ (NO_NODE, part_in given 0)", f"    ∷ {names}", "    )"]
 
-def is_below():
-    """That the arguments of a node are below it."""
-    def joined(facts):
-        return facts[0] if len(facts) == 1 else " × ".join(f"({fact})" if " < " in fact else fact for fact in facts)
-    return node_cases("IsBelow", ["s", "held", "n"], [], of_arguments(SORTS["bound"], joined), "Unit {0}", NAMES["below"])
+# ## Folds
 
-def below_later():
-    """A node's bounds, at a later place."""
-    names = {"m": "k", "n": "e", "b": "v"}
-    return node_cases("below-later", ["s", "held", "m", "n"], ["b", "most"], of_arguments(SORTS["later"], together), "tt", names)
-
-def node_stays():
-    """That a node's tree stays as nodes are added; t is another tree here."""
-    return node_cases("node-stays", [], ["b"], of_arguments(SORTS["stays"], rewritten, "refl"), None, {"t": "x", "b": "y"})
-
-# ## What is noted
-
-def of_parts(text, piece, joined):
-    """What is said of a node by its parts that aren't under a scope of their own."""
-    def right(node, given):
-        sorts = dict(zip((name for name, _ in given), node.sorts))
-        parts = [(piece if sorts[name] == PIECE else text).format(name, fact)
-                 for name, _, fact in placed(given, (TREE, OWN, PIECE)) if sorts.get(name) in SCOPED]
-        return joined(parts) if parts else None
-    return right
-
-def noted(function, text, piece, joined, others):
-    """What is noted of a node by what is noted of its parts."""
-    return node_cases(function, ["es"], [], of_parts(text, piece, joined), others, NAMES["noted"])
-
-def through(function, text, piece, joined):
-    """A fact of a node by those of its parts, with a bound."""
-    return node_cases(function, [], ["b"], of_parts(text, piece, joined), "refl")
+def product(facts):
+    """Facts as one."""
+    return alone_or(facts, lambda several: " × ".join(f"({fact})" if " < " in fact else fact for fact in several))
 
 def both_are(facts):
     """What is free in a node of two parts, from the facts of the parts: these come before them."""
-    noted_ = [f"({'free_at' if fact.startswith('at ') else 'piece_frees'} y.nodes {fact.split()[1]})" for fact in facts]
-    return applied("both-are", [*noted_, *[f"({fact})" for fact in facts]]) if len(facts) > 1 else facts[0]
+    noted = [f"({'free_at' if fact.startswith('at ') else 'piece_frees'} y.nodes {fact.split()[1]})" for fact in facts]
+    return alone_or(facts, lambda several: applied("both-are", [*noted, *[f"({fact})" for fact in several]]))
 
 def depending(parts):
     """What depends on another argument, of a node by its parts."""
@@ -115,17 +81,31 @@ def depending(parts):
         return applied("joined", [f"({part})" for part in parts])
     return parts[0] if parts[0].startswith("piece") else f"passed ({parts[0]})"
 
-def passed_fact(facts):
+def passed(facts):
     """That it is passed on by a node of one part."""
     if len(facts) > 1:
         return rewritten(facts)
     return facts[0] if facts[0].startswith("piece") else f"ap passed ({facts[0]})"
 
-def by_nodes(name, matched, functions):
-    """False of the nodes for which these functions have arms."""
-    found = [node for function in functions for node in matched[function]] + ["Reargued"]
-    own = sorted((node for node in nodes() if node.name in found), key=lambda node: found.index(node.name))
-    return [*(f"{name} {node_pattern(node, node.arguments)} = ⊥" for node in own), f"{name} _ = Unit {{0}}"]
+JOINED = {"product": product, "both_are": both_are, "depending": depending, "passed": passed}
+
+def of_arguments(said, joined, none):
+    """What is said of a node by its arguments, as the table says it of them."""
+    is_scoped = ";" in said
+    forms = dict(zip(SCOPED, said.split("; "))) if is_scoped else SORTS[said]
+    def right(node, given):
+        sorts = node.sorts if is_scoped else [sort for _, sort in given]
+        facts = [forms[sort].format(name, fact) for (name, _, fact), sort in zip(placed(given), sorts) if sort in forms]
+        return joined(facts) if facts else none
+    return right
+
+def folds():
+    """Those that are folds of nodes: path, name, and the lines."""
+    for path, name, before, after, said, joined, none, others, names in (columns(line) for line, _ in sections("cpp_node_folds.txt")):
+        right = of_arguments(said, JOINED.get(joined) or joined_by(joined), none or None)
+        yield path, name, node_cases(name, before.split(), after.split(), right, others or None, NAMES[names])
+
+# ## What is noted
 
 def noted_nodes():
     """The nodes with a note, each with its name, and its arguments with their types: numbers of nodes are i and j here."""
@@ -135,38 +115,22 @@ def noted_nodes():
             others = iter("ij")
             yield node.name, [(next(letters[sort] if TYPES[sort][1] else others), TYPES[sort][0]) for _, sort in node.arguments]
 
-def is_other():
-    """What is known of a node without a note: it is none of those."""
-    def line(node, given):
-        premise = "".join(f"({name} : {type}) " for name, type in given) + "→ " if given else ""
-        return f"  pub not_{node.lower()} : {premise}n ≡ {applied('Node.' + node, [name for name, _ in given])} → ⊥"
-    return [line(*noted_node) for noted_node in noted_nodes()]
-
-def other_node():
-    """That nothing is noted of other nodes."""
-    lines = []
-    for node, given in noted_nodes():
-        names = [name for name, _ in given]
-        own, not_own = braced(applied(f"Node.{node}", names)), applied(f"other.not_{node.lower()}", names)
-        lines.append(f"other-node ns {own} other = absurd ({not_own} refl)")
-    return [*lines, "other-node ns _ other = refl"]
+def without(node, given):
+    """That n is another node than one with such arguments: the field that says so, the node as it is matched, and why it isn't."""
+    field, own = f"not_{node.lower()}", applied(f"Node.{node}", [name for name, _ in given])
+    premise = "".join(f"({name} : {type}) " for name, type in given) + "→ " if given else ""
+    refuted = applied(f"other.{field}", [name for name, _ in given])
+    return f"  pub {field} : {premise}n ≡ {own} → ⊥", braced(own), f"absurd ({refuted} refl)"
 
 def declarations():
     """The path and the name of each declaration, and the lines of its clauses."""
     encodings = node_cases("is_encoding", [], [], lambda node, given: "true" if node.tree in ENCODINGS else None, "false")
-    found = {
-        "specs/Nodes": {"tree_of": tree_of(), "is_encoding": encodings, "IsBelow": is_below()},
-        "specs/Fields": {"fields_of": fields_of(), "narrow_tree_from": tree_from()},
-        "proofs/Compacting": {"IsOther": is_other(), "other-node": other_node()}, "proofs/Pushed": {"node-stays": node_stays()},
-        "specs/Notes": {
-            "frees": noted("frees", "free_at es {0}", "piece_frees es {0}", joined_by("both_free"), "Free.None"),
-            "node_by_argument": noted("node_by_argument", "by_argument_at es {0}", "piece_by_argument es {0}", depending, "by_none false"),
-            "packing": noted("packing", "packs_at es {0}", "piece_packs es {0}", joined_by("first_of"), "None")},
-        "proofs/Noting": {
-            "node-by-argument": through("node-by-argument", "by-argument-at {0} {1}", "piece-by-argument {0} {1}", passed_fact),
-            "node-free": through("node-free", "at {0} {1}", "piece-free {0} {1}", both_are),
-            "node-pack": through("node-pack", "pack-at {0} {1}", "piece-pack {0} {1}", lambda facts: alone_or(facts, rewritten))},
-    }
+    # what is known of a node without a note: it is none of those with one; and nothing is noted of it
+    others = [without(*noted) for noted in noted_nodes()]
+    nothing = [f"other-node ns {own} other = {refuted}" for _, own, refuted in others]
+    found = {"specs/Nodes": {"tree_of": tree_of(), "is_encoding": encodings},
+             "specs/Fields": {"fields_of": fields_of(), "narrow_tree_from": tree_from()},
+             "proofs/Compacting": {"IsOther": [field for field, _, _ in others], "other-node": [*nothing, "other-node ns _ other = refl"]}}
     for path, names in found.items():
         yield from ((f"cpp_tree/{path}.antt", name, lines) for name, lines in names.items())
-    yield "cpp_spelling/proofs/Made.antt", "below-later", below_later()
+    yield from folds()

@@ -6,7 +6,8 @@ from functools import lru_cache
 
 from cpp_trees import ALIASES, BELOW, INSIDE, NAMED, NAMES, OUTSIDE, OWN, PIECES, SIGNATURE, SORTS, TREE, TREES, called
 from files import TEMPLATES, fill, read, template
-from notation import answer, camel, together
+from notation import Steps, answer, camel, together
+from rust_layout import arm
 
 class Node:
     """A node: its name, its tree's, its arguments, the sorts of the tree's, and its fields (each with its name in code, sort and type)."""
@@ -69,28 +70,19 @@ def pattern(path, node, given, indent):
     """A node with some of its fields, in one line if there are few."""
     names = [name for name, _, _ in node.fields]
     if len(names) < 2:
-        return f"{indent}{path}{node.name}{''.join(f'({name if name in given else chr(95)})' for name in names)}"
+        return f"{path}{node.name}{''.join(f'({name if name in given else chr(95)})' for name in names)}"
     shown = [*(name for name in names if name in given), *([".."] if set(names) - set(given) else [])]
-    inside = ", ".join(shown)
-    if len(inside) <= 18:
-        return f"{indent}{path}{node.name} {{ {inside} }}"
+    if len(", ".join(shown)) <= 18:
+        return f"{path}{node.name} {{ {', '.join(shown)} }}"
     lines = [f"{indent}    {name}{'' if name == '..' else ','}" for name in shown]
-    return "\n".join([f"{indent}{path}{node.name} {{", *lines, f"{indent}}}"])
-
-def arm(left, right, indent):
-    """An arm, as rt fmt lays it out."""
-    whole = f"{left} => {right},"
-    call, given = re.fullmatch(r"([\w.]+)\((.*)\)", right).groups()
-    if len(given) <= 60:
-        return whole if len(whole.split("\n")[-1]) <= 100 else f"{left} => {{\n{indent}    {right}\n{indent}}}"
-    return f"{left} => {call}(\n" + "".join(f"{indent}    {g},\n" for g in re.split(r", (?![^\[]*\])", given)) + f"{indent}),"
+    return "\n".join([f"{path}{node.name} {{", *lines, f"{indent}}}"])
 
 def arms(path, indent, of):
     """An arm for each node of which there is something to say."""
     for node, right in ((node, of(node)) for node in nodes()):
         if right:
             given = [name for name, _, _ in node.fields if re.search(rf"(?<![\w.:]){name}(?!\w)", right)]
-            yield arm(pattern(path, node, given, indent), right, indent)
+            yield from arm(pattern(path, node, given, indent), right, indent)
 
 def noting(node):
     """What is noted of a node, by its parts that aren't under a scope of their own."""
@@ -119,7 +111,7 @@ def seen():
     """The arms of what is seen."""
     return list(arms("node::Node::", "        ", seeing))
 
-# ## Answers: a step of a call has the arm's name from the second call of its function on
+# ## Answers
 
 NOTES = " ".join(re.findall(r"^use \S+\.(?:Notes|Compact)\.\{(.*)\}$", read(f"{TEMPLATES}/cpp_tree/noted.antt.in"), re.M)).replace(",", "")
 BELOW_AS = ("let b = below-as (over c.args.symbol.now c.args.self.now) (length c.args.self.now.nodes) c.in-{0}.is c.requires.below in "
@@ -137,13 +129,12 @@ def required(contract, given, known):
 
 def noted_answers(crates, others):
     """That each arm notes what there is to note: by what it calls, which asks that the arguments are below."""
-    code, called, lines = read(f"{crates}/cpp_tree/src/notes.rt"), set(), []
+    code, step, lines = read(f"{crates}/cpp_tree/src/notes.rt"), Steps(), []
     for node, right in ((node, noting(node)) for node in nodes()):
         if not right:
             continue
         call, given = re.fullmatch(r"(?:self\.)?(\w+)\((.*)\)", right).groups()
-        behind = f"-in-{node.name}" if call in called else ""
-        called.add(call)
+        behind = step(call, node.name).removeprefix(call)
         contract = re.search(rf" fn {call}\((.*?)\)(.*?)\n    {{", code, re.S)
         if contract:
             asked = BELOW_AS(node.name, required(contract, given, node.known()))
@@ -153,18 +144,6 @@ def noted_answers(crates, others):
     bare = ["", "    c.bare-in_default.ensures", "    ∙ other-node c.args.self.now.nodes c.args.node (record {", *none, "    })"]
     return template("cpp_tree/noted.antt", answers=[*lines, "", *answer("returns-in_default", "\n".join(bare))])
 
-class Steps:
-    """The calls so far, each with the arms in which it was: a step has the arm's name from the second call of its function on."""
-    def __init__(self):
-        self.arms = {}
-
-    def __call__(self, call, arm):
-        """The step of a call in an arm."""
-        arms = self.arms.setdefault(call, [])
-        arms.append(arm)
-        again = arms.count(arm)
-        return f"c.{call}" + (f"-in-{arm}" if len(arms) > 1 else "") + (f"-{again}" if 1 < again < len(arms) else "")
-
 def told(node, shown, step):
     """The answers for a node of which another call says more: by which lemma, from what, and where that requires a bound."""
     lemma, fields, others, *bound = node.said("told").split(" | ")
@@ -172,24 +151,24 @@ def told(node, shown, step):
     own = step(call, node.name)
     if bound:
         asked, _, part = bound[0].partition(" ")
-        yield answer(f"{own[2:].replace(call, f'{call}-requires', 1)}",
+        yield answer(own.replace(call, f"{call}-requires", 1),
                      f" record {{ {asked} = {f'(below-as {shown}){part}' if part else f'below-as {shown}'} }}")
     yield answer(f"returns-in-{node.name}", "\n    ".join([
-        "", "let y = over c.args.symbol.now c.args.nodes.now in", f"let told = {own}.ensures in",
+        "", "let y = over c.args.symbol.now c.args.nodes.now in", f"let told = c.{own}.ensures in",
         f"{lemma} y c.in-{node.name}.is {fields} told.texts {others}"]), UNFOLDING)
 
 def viewed(node, shown, step):
     """The answer for a node that shows no more than its numbers, a text and its parts."""
     def fact_of(number):
         call = re.search(r"(\w+)\(", number)
-        return f"{step(call[1], node.name)}.ensures{'' if call[1] == 'linkage_number' else '.is'}" if call else "refl"
+        return f"c.{step(call[1], node.name)}.ensures{'' if call[1] == 'linkage_number' else '.is'}" if call else "refl"
     numbers, texts, parts = node.view()
     facts = [*map(fact_of, numbers), "refl", "refl"][:2]
     count, known = ["none", "one", "two", "three"][len(parts)], node.known()
     call = "leaf" if not parts and not texts else count if len(parts) in (1, 2) else "seen"
     within = [known[texts[0].removesuffix(".digits")] if texts else "none-within c.args.symbol.now", *(known[part] for part in parts)]
     fields = fill(node.said("view") or "refl", table=TABLE)
-    value = " ".join([f" seen-{count} {shown}", f"{step(call, node.name)}.ensures", *facts, fields, f"(λ k b. {together(within)})"])
+    value = " ".join([f" seen-{count} {shown}", f"c.{step(call, node.name)}.ensures", *facts, fields, f"(λ k b. {together(within)})"])
     yield answer(f"returns-in-{node.name}", value, UNFOLDING if fields == "refl" else None)
 
 def seen_answers():

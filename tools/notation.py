@@ -1,5 +1,6 @@
 """How the scripts write what code and definitions have in common: from a Python name, list or text to its form in Rattle and in antt."""
 import re
+from functools import reduce
 
 def snake(name):
     """`SomeName` as `some_name`."""
@@ -29,6 +30,10 @@ def alone_or(parts, joined):
     """The one part, or what several are joined to."""
     return parts[0] if len(parts) == 1 else joined(parts)
 
+def greatest(numbers):
+    """The greatest of some numbers, if there are any."""
+    return reduce(lambda whole, more: f"max {braced(whole)} {braced(more)}", numbers) if numbers else ""
+
 def together(facts):
     """Facts as one: the trivial one if there are none, the one, or all in parentheses."""
     return alone_or(facts, lambda several: f"({', '.join(several)})") if facts else "tt"
@@ -40,6 +45,24 @@ def rewritten(facts):
 def answer(goal, value, unfolding=None, given="c"):
     """The lines of an answer to a goal: `value` follows the sign, in the same line or with its own."""
     return [f"pub {goal} : goal.{goal}", *([f"unfolding {unfolding}"] if unfolding else []), f"{goal} {given} ={value}"]
+
+class Steps:
+    """The calls so far, each with the arms in which it was: a step has the arm's name from the second call of its function on."""
+    def __init__(self):
+        self.arms = {}
+
+    def __call__(self, call, arm):
+        """The step of a call in an arm."""
+        arms = self.arms.setdefault(call, [])
+        arms.append(arm)
+        again = arms.count(arm)
+        return call + (f"-in-{arm}" if len(arms) > 1 else "") + (f"-{again}" if 1 < again < len(arms) else "")
+
+def is_used(name, text):
+    """Whether a text of definitions names this."""
+    if "◌" in name:
+        return f" {name.strip('◌')} " in text
+    return re.search(rf"(?<![\w.:-]){re.escape(name)}(?![\w-])", text) is not None
 
 def quoted(text):
     """A text between quotes."""

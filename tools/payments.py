@@ -4,7 +4,7 @@ import re
 
 import grammar
 from files import read
-from notation import dashed
+from notation import braced, dashed
 from rules import PAYS
 
 FOLDER = "cpp_press_laws/proofs/Short"
@@ -46,11 +46,10 @@ def declarations(crates):
         text, own, granted = lemma(kind, production)
         if own == "further" and classes[kind] in ("name", "type"):
             text, own = f"as-name {text}", "name"
-        given = f"({text})" if " " in text else text
         if own == "name" and classes[kind] == "type":
-            return f"named {given}"
+            return f"named {braced(text)}"
         if kind in grants and granted == 0:
-            return f"granting{'-type' if classes[kind] == 'type' else ''} {grants[kind]} {given}"
+            return f"granting{'-type' if classes[kind] == 'type' else ''} {grants[kind]} {braced(text)}"
         return text
     def pairs(terms):
         return "tt" if not terms else terms[0] if len(terms) == 1 else f"({terms[0]}, {pairs(terms[1:])})"

@@ -4,30 +4,32 @@ import re
 
 import grammar
 from cpp_trees import BYTES, DISCRIMINATOR, MARK, NUMBER, OUTSIDE, OWN, QUALIFIERS, SIGNED, TRUTH
-from files import read, template
+from files import read, template, whole
 from meanings import TABLE, makers
 from notation import applied, listed, snake, together
 from rules import ALIKE, coded_cases, defined_cases, families, imports
 from tree_clauses import SCOPED, SUBTREES
 
-# what reads an argument of a sort, and a value of a part: with arguments in its parameters a tree is annotated
+# what reads an argument of a sort: with arguments in its parameters a tree is annotated
 READ = {sort: sort for sort in (BYTES, NUMBER, TRUTH, QUALIFIERS, MARK, SIGNED, DISCRIMINATOR)}
-READ_OF_ARGUMENTS = {f"{name}_in": f"{name}_in" for name in ("tree", *READ)}
-READ_OF_VALUES = {name: f"is_{name}" if name in ("listed", "there") else f"{name}_of" for name in (
-    "tree", "piece", "listed", "qualifiers", "ref", "letter", "there", "mark", "text", "signed", "adjustment")}
+# what is read of arguments, and of values of parts: by name what reads it, and the holes of what is said of it
+READ_OF = (
+    ({name: f"is_{name}" if name in ("listed", "there") else f"{name}_of" for name in (
+        "tree", "piece", "listed", "qualifiers", "ref", "letter", "there", "mark", "text", "signed", "adjustment")},
+     {"module": "value_", "sort": "Value", "one": "part", "noted": "noted_value", "listed": "noted_values", "whole": "part_noted",
+      "first": "(leaf_.tree t listed)", "public": "pub "}),
+    ({f"{name}_in": f"{name}_in" for name in ("tree", *READ)},
+     {"module": "builder_", "sort": "Argument", "one": "argument", "noted": "noted_argument", "listed": "noted_arguments",
+      "whole": "argument_noted", "first": "(a_tree x)", "public": ""}))
 
-def read_noted(names, module, sort, one, noted, listed_as, whole, first_of_them, public):
+def read_noted():
     """That what is read of an annotated thing is what is read of it, and the same for one of a list."""
-    for name, function in names.items():
-        annotated = name.split("_")[0] in ("tree", "piece")
-        there = name.replace("_in", "_there") if name in READ_OF_ARGUMENTS else f"{name}_part"
-        own, of_one = (f"annotate s ({text})" if annotated else text for text in (f"{function} v", f"{function} ({one} vs k)"))
-        unfolding = f"unfolding {module}.{function} {function} {noted}{' annotate' if annotated else ''}"
-        lines = [f"{public}{name}_noted : (s : Place) (v : {sort}) → {module}.{function} ({noted} s v) ≡ {own}", unfolding,
-                 f"{name}_noted s {first_of_them} = refl", f"{name}_noted s _ = refl"]
-        yield "\n".join(lines)
-        says = f"(s : Place) (vs : List {sort}) (k : ℕ) → {module}.{function} ({module}.{one} ({listed_as} s vs) k) ≡ {of_one}"
-        yield (f"{public}{there} : {says}\n{there} s vs k = ap {module}.{function} ({whole} s vs k) ∙ {name}_noted s ({one} vs k)")
+    for names, holes in READ_OF:
+        for name, function in names.items():
+            front, back, unfolded = ("annotate s (", ")", " annotate") if name.split("_")[0] in ("tree", "piece") else ("", "", "")
+            there = name.replace("_in", "_there") if name.endswith("_in") else f"{name}_part"
+            yield from template("cpp_term/read_noted.antt", name=name, function=function, there=there, front=front, back=back,
+                                unfolded=unfolded, **holes).rstrip("\n").split("\n\n")
 
 # ## Productions
 
@@ -73,20 +75,12 @@ def built_good():
         return f"record {{ closed = {closed if scoped else 'λ h. refl'}; scopes = λ n. {together(scopes)} }}"
     return by_maker("built_good s {} xs all", value)
 
-def takes_encodings():
-    """Whether a maker takes encodings."""
-    return by_maker("takes_encodings {}", lambda tree: encodings_in(tree) and "true", "false")
-
 def are_shut():
     """Which arguments of a maker have to be closed."""
     def value(tree):
         facts = [f"is_open (tree_in (argument xs {place})) ≡ false" for place in encodings_in(tree)]
         return facts[0] if len(facts) == 1 else " × ".join(f"({fact})" for fact in facts)
     return by_maker("AreShut {} xs", value, "Unit {0}")
-
-def none_are_taken():
-    """That a maker which takes encodings isn't one that takes none."""
-    return by_maker("none_are_taken {} xs h", lambda tree: encodings_in(tree) and "absurd (true≢false h)", "tt")
 
 def built_noted():
     """That what is made of annotated arguments is the annotated tree."""
@@ -104,14 +98,10 @@ def common():
     """The common productions."""
     return families()["Common"]
 
-def is_rare():
-    """That a production which is none of the common ones is rare."""
-    return [f"is_rare Production.{name} other = absurd (other.not_{snake(name)} refl)" for name in common()] + ["is_rare _ other = tt"]
-
 def family_specs():
     """The family of each production."""
-    of_each = {production: f"Family.{family}" for family, productions in families().items() for production in productions}
-    return template("cpp_link/Families.antt", clauses=[f"family_of {case} = {family}" for case, family in defined_cases(of_each)])
+    of_each = {production: family for family, productions in families().items() for production in productions}
+    return whole("cpp_link/specs/Families.antt", clauses=defined_cases(of_each))
 
 def family_code():
     """The same in code, as arms."""
@@ -128,20 +118,18 @@ def isnt(case):
 
 def family_law(family, productions):
     """That a production of a family is one of those that its function has an arm for, and that one of the family Common isn't rare."""
-    name, is_common, cases = snake(family), family == "Common", arms_of(productions)
+    is_common, cases = family == "Common", arms_of(productions)
     others = ["rare"] if is_common else [f"n{place}" for place in range(len(cases))]
     premises = " → IsRare p" if is_common else "".join(f"\n    → {isnt(case)}" for case in cases) + "\n   "
-    clauses = []
-    for case, other in zip(cases, others * len(cases)):
-        pattern, one = (f"(Production.{case} one)", " one") if case in ALIKE else (f"Production.{case}", "")
-        clauses.append(f"{applied(name, [pattern, 'is', *others])} = {'rare' if is_common else f'{other}{one} refl'}")
-    return template("cpp_link/family_law.antt", family=family, name=name, premises=premises, others=" ".join(others),
+    clauses = [(f"(Production.{case} one)", f"{other} one refl") if case in ALIKE else
+               (f"Production.{case}", other if is_common else f"{other} refl") for case, other in zip(cases, others * len(cases))]
+    return template("cpp_link/family_law.antt", family=family, name=snake(family), premises=premises, others=" ".join(others),
                     clauses=clauses).rstrip("\n")
 
 def family_laws():
     """The same for each family."""
     laws = [family_law(*family) for family in families().items()]
-    return template("cpp_link/FamilyArms.antt", alike=imports(laws), laws=laws)
+    return whole("cpp_link/proofs/FamilyArms.antt", alike=imports(laws), laws=laws)
 
 def family_answers(family, productions):
     """The answer that a family's function has an arm for each of its productions."""
@@ -162,6 +150,12 @@ def arms(function, productions):
         line = f"            Production::{name} => self.{function}(symbol, Production::{name}, frame, parts),"
         given = [f"                {one}," for one in ("symbol", f"Production::{name}", "frame", "parts")]
         yield from [line] if len(line) <= 100 else [f"            Production::{name} => self.{function}(", *given, "            ),"]
+
+def arms_within(field, function, productions):
+    """Likewise, to a function of a field."""
+    for name in productions:
+        yield from (f"            Production::{name} => self", f"                .{field}",
+                    f"                .{function}(symbol, Production::{name}, frame, parts),")
 
 def may_leave(crates):
     """What may leave a tree that is no candidate yet: what begins the kinds whose trees become candidates later, names aside."""
@@ -189,9 +183,11 @@ def declarations(crates):
     before = {production: listed(row.made_before()) for production, row in rows.items() if row.made_before()}
     at_end = {production: row.made_at_end() for production, row in rows.items() if row.made_at_end()}
     yield "cpp_grammar/proofs/ClosedValues.antt", "built_good", built_good()
+    # whether a maker takes encodings, and that one which does isn't one that takes none
+    takes = by_maker("takes_encodings {}", lambda tree: encodings_in(tree) and "true", "false")
+    none = by_maker("none_are_taken {} xs h", lambda tree: encodings_in(tree) and "absurd (true≢false h)", "tt")
     yield from (("cpp_term/proofs/MeaningNoted.antt", name, lines) for name, lines in (
-        ("takes_encodings", takes_encodings()), ("AreShut", are_shut()), ("none_are_taken", none_are_taken()),
-        ("built_noted", built_noted())))
+        ("takes_encodings", takes), ("AreShut", are_shut()), ("none_are_taken", none), ("built_noted", built_noted())))
     yield "cpp_link/specs/Owed.antt", "made_before", by_production("made_before", before, "[]")
     yield "cpp_link/specs/Owed.antt", "made_at_end", by_production("made_at_end", at_end, 0)
     yield "cpp_link/specs/Owed.antt", "slack", slack()
@@ -199,5 +195,6 @@ def declarations(crates):
     yield "cpp_link/specs/Making.antt", "IsRare", by_production("IsRare", dict.fromkeys(common(), "⊥"), "Unit {0}")
     not_common = [f"  pub not_{snake(name)} : p ≡ Production.{name} → ⊥" for name in common()]
     yield "cpp_link/proofs/Making.antt", "IsNoneOfThem", not_common
-    yield "cpp_link/proofs/Making.antt", "is_rare", is_rare()
+    rare = [f"is_rare Production.{name} other = absurd (other.not_{snake(name)} refl)" for name in common()]
+    yield "cpp_link/proofs/Making.antt", "is_rare", [*rare, "is_rare _ other = tt"]
     yield "cpp_link/proofs/CandidatesFew.antt", "may_leave", may_leave(crates)

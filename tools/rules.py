@@ -74,8 +74,8 @@ def families():
     """The productions of each family, in the order of their arms."""
     if not FAMILY:
         build()
-    heads = [head.split(": ")[0] for head, _ in sections("cpp_families.txt")]
-    found = {head: [] for head in [*heads, "Common"] if not head.startswith("file ")}
+    rare = [line.split(": ")[0] for _, lines in sections("cpp_families.txt") for line, _ in lines]
+    found = {family: [] for family in [*rare, "Common"]}
     for name, (family, _) in sorted(FAMILY.items(), key=lambda entry: entry[1][1]):
         found[family].append(name)
     return found

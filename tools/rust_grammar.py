@@ -3,9 +3,9 @@ productions and table, the texts and the letters of basic types, code and defini
 from string import ascii_lowercase, ascii_uppercase, digits
 
 import vocabulary as words
-from files import sections, template
-from notation import runs
-from table_code import after_each, letter_rows, symbol_row
+from files import sections, template, whole
+from notation import listed, runs
+from table_code import after_each, letter_row, symbol_row
 
 def basic_letters(*sorts):
     """The letters of basic types, or of those of which there are such constants."""
@@ -30,6 +30,8 @@ for head, _ in sections("rust_grammar.txt"):
     else:
         KINDS[name] = {taken[0]: CLASSES.get(taken[2:], taken[2:]) for taken in said.split()}, given == ["empty"]
 RULES = dict(sorted(RULES.items()))
+# and of each production its letter, whether it takes its byte, and its symbols
+RULE_OF = {production: (letter, takes, symbols) for letter, (production, takes, symbols) in RULES.items()}
 
 def symbol(name):
     """A symbol in code."""
@@ -39,30 +41,26 @@ def symbol(name):
 
 def table():
     """The rule that a kind takes at a byte."""
-    kinds = {kind: {byte: letter.replace("\\", "\\\\") for letter, taken in rules.items() for byte in taken}
-             for kind, (rules, _) in KINDS.items()}
-    heads = [f"    {'takes' if takes else 'chains'}!({production}, {len(symbols)}), // {letter}"
-             for letter, (production, takes, symbols) in RULES.items()]
-    cells = [symbol_row(list(map(symbol, symbols)), f"{letter}: {production}") for letter, (production, _, symbols) in RULES.items()]
+    kinds = [(kind, letter_row({byte: letter.replace("\\", "\\\\") for letter, taken in rules.items() for byte in taken}))
+             for kind, (rules, _) in KINDS.items()]
     empty = "        " + "\n            | ".join(f"kind::{kind}" for kind, (_, may_be_empty) in KINDS.items() if may_be_empty)
-    return template("rust_grammar/table.rt", letters=list(letter_rows("LETTERS", kinds)), heads=heads, symbols=cells, count=len(RULES),
-                    empty=empty,
-                    **after_each([symbols for _, _, symbols in RULES.values()]))
+    return whole("rust_grammar/src/table.rt", kinds=kinds, count=len(RULES), empty=empty,
+                 heads=[("takes" if takes else "chains", production, len(symbols), letter)
+                        for letter, (production, takes, symbols) in RULES.items()],
+                 symbols=[(symbol_row(map(symbol, symbols)), f"{letter}: {production}")
+                          for letter, (production, _, symbols) in RULES.items()],
+                 **after_each([symbols for _, _, symbols in RULES.values()]))
 
-def files():
+def files(crates):
     """What is written: each file's path in the folder of the crates, and its text."""
-    ranges = runs(BASIC, 1)[0]
-    yield "rust_grammar/src/table.rt", table()
-    yield "rust_grammar/src/production.rt", template("rust_grammar/production.rt",
-            productions=[f"    /// {what}\n    {production}," for production, what in PRODUCTIONS.items()],
-        numbered=[f"        {number} => Some(Production::{production})," for number, production in enumerate(PRODUCTIONS)])
-    yield "rust_grammar/specs/BasicLetters.antt", template("rust_grammar/BasicLetters.antt",
-            ranges=", ".join(low if low == high else f"{low} to {high}" for low, high in ranges),
-            letters=" ∷ ".join(f"range {ord(low)} {ord(high)}" for low, high in ranges) + " ∷ []", signed=SIGNED, unsigned=UNSIGNED)
+    ranges, texts = runs(BASIC, 1)[0], [(ord(letter), text, letter) for letter, text, _ in words.BASIC_TYPES]
+    yield table()
+    yield whole("rust_grammar/src/production.rt", productions=PRODUCTIONS, numbered=enumerate(PRODUCTIONS))
+    yield whole("rust_grammar/specs/BasicLetters.antt", signed=SIGNED, unsigned=UNSIGNED,
+                ranges=", ".join(low if low == high else f"{low} to {high}" for low, high in ranges),
+                letters=listed(f"range {ord(low)} {ord(high)}" for low, high in ranges))
     # the texts of basic types, in code and in definitions, and that none has a text below the letters
-    yield "rust_tree/src/basic_types.rt", template("rust_tree/basic_types.rt",
-            texts=[f'        {ord(letter)} => b"{text}", // {letter}' for letter, text, _ in words.BASIC_TYPES])
-    yield "rust_tree/specs/BasicTypes.antt", template("rust_tree/BasicTexts.antt",
-            texts=[f'    ({ord(letter)}, codes "{text}") ∷  -- {letter}' for letter, text, _ in words.BASIC_TYPES])
-    yield "rust_tree/proofs/BasicTypes.antt", template("rust_tree/BasicTypes.antt",
-            facts=", ".join(f"ne_eqb {ord(letter)} n (λ e. omega (arith, e, h))" for letter in BASIC))
+    yield whole("rust_tree/src/basic_types.rt", texts=texts)
+    yield "rust_tree/specs/BasicTypes.antt", template("rust_tree/BasicTexts.antt", texts=texts)
+    facts = ", ".join(f"ne_eqb {ord(letter)} n (λ e. omega (arith, e, h))" for letter in BASIC)
+    yield whole("rust_tree/proofs/BasicTypes.antt", facts=facts)

@@ -57,14 +57,13 @@ def lines(tree, indent, broken=False):
         out[-1] += ","
     return [*out, indent + ("}" if tree.is_named else ")")]
 
-def arm(production, text):
-    """An arm of a match over productions."""
-    indent, tree = "            ", parsed(text)
-    left = f"{indent}Production::{production} => "
+def arm(left, text, indent="            "):
+    """An arm of a match, as its lines."""
+    front, tree = f"{indent}{left} => ", parsed(text)
     if isinstance(tree, str) or tree.fits():
-        if len(left + text) < 100:
-            return [f"{left}{text},"]
+        if len(front.split("\n")[-1] + text) < 100:
+            return [f"{front}{text},"]
         if len(indent + "    " + text) <= 100:
-            return [left + "{", f"{indent}    {text}", indent + "}"]
+            return [front + "{", f"{indent}    {text}", indent + "}"]
     first, *rest = lines(tree, indent)
-    return [left + first, *rest[:-1], rest[-1] + ","] if rest else [f"{left}{first},"]
+    return [front + first, *rest[:-1], rest[-1] + ","] if rest else [f"{front}{first},"]

@@ -1,8 +1,10 @@
 """What goes through Rust's nodes by their arguments alone: from the nodes that productions make (rust_parts.py) to the clauses of
 rust_tree, to the answers for the views of nodes, and to the code that shows lists, its answers and its lemmas, by the templates of
 templates/rust_tree."""
+import textwrap
+
 from files import template
-from notation import rewritten, together
+from notation import Steps, answer, greatest, listed, rewritten, together
 from rust_parts import BY_NAME, NODES, WRITTEN
 from rust_spelled import names_of
 from rust_trees import FAMILIES, MUTUAL, NUMERIC
@@ -58,12 +60,9 @@ def node_parts(of, made):
 
 def node_need(of, made):
     """How many lifetimes a node needs."""
-    needed = [f"(need_at nodes {field})" if part.name in MUTUAL else field
+    needed = [f"need_at nodes {field}" if part.name in MUTUAL else field
               for field, part in made.pairs if part.name in (*MUTUAL, "lifetime", "some_lifetime")]
-    whole = needed[0] if needed else "0"
-    for place, more in enumerate(needed[1:]):
-        whole = f"max {f'({whole})' if place else whole} {more}"
-    return broken(f"{of}_need{'s' if of in ('path', 'type') else ''} nodes {node_pattern(made)} =", unwrapped(whole, len(needed)))
+    return broken(f"{of}_need{'s' if of in ('path', 'type') else ''} nodes {node_pattern(made)} =", greatest(needed) or "0")
 
 def tree_grown(of, made):
     """That a node's tree stays as nodes are added."""
@@ -87,15 +86,14 @@ def node_view(of, made):
     numbers = ["disambiguator" if part.name == "identifier" else field for field, part in made.pairs
                if part.name in (*NUMERIC, "identifier")]
     parts = [field for field, part in made.pairs if part.name in SUBTREES]
-    own, listed = f"production.{made.tree.upper()}", "".join(f"{part} ∷ " for part in [*parts, "0", "0", "0"][:3])
+    own = f"production.{made.tree.upper()}"
     if name:
         own = f"(named name {own} production.PUNYCODE_{made.tree.upper()})"
     if name or len(numbers) > 1:
-        told = "".join(f"{number} ∷ " for number in [*numbers, "0", "0"][:2])
-        own, text = f"seen_of {own}", f"({told}[]) {'name.bytes' if name else 'no_text'}"
+        own, text = f"seen_of {own}", f"({listed([*numbers, '0', '0'][:2])}) {'name.bytes' if name else 'no_text'}"
     else:
         own, text = f"seen_by {own}", numbers[0] if numbers else "0"
-    return broken(f"view_of_{of} {node_pattern(made)} =", f"{own} {text} {len(parts)} ({listed}[])")
+    return broken(f"view_of_{of} {node_pattern(made)} =", f"{own} {text} {len(parts)} ({listed([*parts, '0', '0', '0'][:3])})")
 
 def node_seen(of, made):
     """That what is seen of a node is its tree's."""
@@ -111,59 +109,35 @@ def node_seen(of, made):
         seen = [f"no-parts s all _ _ _ name.bytes (bytes_at s name.bytes) {named}.0 refl"]
     return broken(f"{of}-seen {node_pattern(made)} h =", " ".join(seen), "  ")
 
-def of_subtrees(lines_of, families):
-    """What is said of a node of each family but types, which may be paths too."""
-    run = []
-    for of in families:
-        name = "c" if of == "constant" else BY_NAME[of].called
-        lines = lines_of(of, f"({name} : tree.{FAMILIES[of]})", lambda all: f"Is{of.capitalize()} {all} k {name}")
-        run.append("\n".join("  " + line for line in [f"-- {WRITTEN}", *lines]))
-    return run
-
 UNTYPED = [of for of in SUBTREES if of != "type"]
 
-def node_grown(of, given, is_node):
-    """That a node is there as nodes are added."""
-    return [f"{of}-grown : (k : ℕ) → ({given} × {is_node('all')}) → {given} × {is_node('(all ++ more)')}",
-            f"{of}-grown k h = (h.0, got-grown all more k (of_{of} h.0) h.1)"]
+def filled(name, of, **holes):
+    """A template for a family of nodes, without the newline at its end."""
+    called, need = "c" if of == "constant" else BY_NAME[of].called, "need" if of == "path" else f"need_of_{of}"
+    return template(f"rust_tree/{name}", of=of, own=of.capitalize(), family=FAMILIES[of], name=called, need=need, **holes).rstrip("\n")
 
-def node_same(of, given, is_node):
-    """That it is the same."""
-    return [f"{of}-same : (k : ℕ) → ({given} × {is_node('all')}) → slice_get (all ++ more) k ≡ slice_get all k",
-            f"{of}-same k h = got-same all more k (of_{of} h.0) h.1"]
-
-def node_part(of, given, is_node):
-    """That a part is its tree."""
-    return [f"{of}-part : (k : ℕ) → ({given} × {is_node('all')}) → slice_get all k ≡ Some (of_{of} ({of}_in (slice_get all k)))",
-            f"{of}-part k h = rw h.1 refl"]
-
-def node_needs(of, given, is_node):
-    """That what a node needs is what its tree needs."""
-    need, trees = "need" if of == "path" else f"need_of_{of}", "(trees s table.nodes)"
-    return [f"{of}-need : (k : ℕ) → ({given} × {is_node(trees)}) → need_at table.nodes k ≡ {need} ({of}_in (slice_get {trees} k))",
-            "unfolding need_of_tree", f"{of}-need k h = rw h.1 (need-is s table k (of_{of} h.0) is h.1)"]
+def of_subtrees(name, families=UNTYPED):
+    """What is said of a node of each family but types, which may be paths too."""
+    return [filled(f"{name}.antt", of) for of in families]
 
 # ## Views of nodes, by the arms of the code
 
 def view_answers(of):
-    """That each arm of a family's view shows its node, by its call, whose step has the arm's name from its second call on."""
-    own, used, lines = "ty" if of == "type" else of, set(), []
-    def step(call, arm):
-        name = f"c.{call}-in-{arm}.ensures" if call in used else f"c.{call}.ensures"
-        used.add(call)
-        return name
+    """That each arm of a family's view shows its node, by its call."""
+    own, step, lines = "ty" if of == "type" else of, Steps(), []
     leaves = [(leaf, []) for leaf in {"path": [], "type": ["Basic"]}.get(of, ["None"])]
     for arm, parts in [*leaves, *((made.variant, [part.name for part in made.parts]) for made in NODES if made.of == of)]:
         lemma, seen = f"{of}-by s text all bare", ""
         if arm == "Function":
             lemma, seen = "type-is s text all", "(c.view_of_function.ensures.seen s text all bare)"
         elif set(parts) & set(NAMED):
-            seen = f"(production-by {step('view_of', arm)} {step('by_name-by', arm)})"
+            seen = f"(production-by c.{step('view_of', arm)}.ensures c.{step('by_name-by', arm)}.ensures)"
         else:
-            seen = step("view_of" if arm == "Dyn" else ["leaf", "one", "two", "three"][sum(part in SUBTREES for part in parts)], arm)
-        goal = f"returns-in-{arm}-clause-seen"
-        lines += ["", f"pub {goal} : goal.{goal}", f"{goal} c s text all bare h = {lemma} _ c.args.{own} _ c.in-{arm}.is {seen} h"]
-    lemmas = [f"{of}-by", *(["type-is"] if of == "type" else []), *(["production-by"] if "by_name-by" in used else [])]
+            call = "view_of" if arm == "Dyn" else ["leaf", "one", "two", "three"][sum(part in SUBTREES for part in parts)]
+            seen = f"c.{step(call, arm)}.ensures"
+        shown = f" {lemma} _ c.args.{own} _ c.in-{arm}.is {seen} h"
+        lines += ["", *answer(f"returns-in-{arm}-clause-seen", shown, given="c s text all bare h")]
+    lemmas = [f"{of}-by", *(["type-is"] if of == "type" else []), *(["production-by"] if "by_name-by" in step.arms else [])]
     return "\n".join([f"-- {WRITTEN}", f"use Rattle.rust_tree.proofs.Viewing.{{{', '.join(lemmas)}}}",
                       f"use Rattle.rust_tree.proofs.view.view_of_{of}.Goals as goal", *lines]) + "\n"
 
@@ -173,23 +147,17 @@ def view_answers(of):
 LISTS = {"arguments": (", ", True), "types": (", ", True), "bounds": (" + ", False), "bindings": (", ", False)}
 
 def list_filled(name, of):
-    """A template for a list, without the newline at its end."""
-    separator, is_fast = LISTS[of]
-    arms = [f"        {of.capitalize()}::{made.variant} {{ .. }} => true," for made in NODES if made.of == of]
-    some = [f"any-{of} d b sep _ rest = refl"]
-    if of == "bounds":
-        # bounds are told apart by their first path
-        some = [f"any-bounds d b sep (tree.more_bounds {path} x r) rest = refl" for path in ("(tree.generic p a)", "_")]
-    is_textual = of in TEXTUAL
-    return template(f"rust_tree/{name}", of=of, own=of.capitalize(), one=of.capitalize()[:-1], name=BY_NAME[of].called,
-                    family=FAMILIES[of], separator=separator, arms=arms, some=some, inline="#[inline(always)]\n" if is_fast else "",
-                    bytes="self.now.bytes " if is_textual else "",
-                    text="self.now.bytes self.now.table.text " if is_textual else "").rstrip("\n")
+    """A template for a list."""
+    (separator, is_fast), is_textual = LISTS[of], of in TEXTUAL
+    # bounds are told apart by their first path
+    shapes = [f"(tree.more_bounds {path} x r)" for path in ("(tree.generic p a)", "_")] if of == "bounds" else ["_"]
+    return filled(name, of, one=of.capitalize()[:-1], separator=separator, variants=[made.variant for made in NODES if made.of == of],
+                  shapes=shapes, inline="#[inline(always)]\n" if is_fast else "", bytes="self.now.bytes " if is_textual else "",
+                  text="self.now.bytes self.now.table.text " if is_textual else "")
 
 def in_lists():
     """Whether there are items, for each list, and then what adds them, within a block."""
-    return ["\n".join("    " + line for line in list_filled(name, of).split("\n")) for name in ("any_list.rt", "push_list.rt")
-            for of in LISTS]
+    return [textwrap.indent(list_filled(name, of), "    ") for name in ("any_list.rt", "push_list.rt") for of in LISTS]
 
 def list_answers():
     """The path and the text of each list's answers."""

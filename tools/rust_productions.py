@@ -5,9 +5,8 @@ import rust_grammar
 from files import read, template
 from rust_parts import NODES, PARTS, WRITTEN, agrees, made_gives, made_in_code, made_in_specs, read_in_code, read_in_specs
 from rust_nodes import (
-    LISTS, UNTYPED, by_node, in_lists, list_answers, list_filled, need_grown, node_grown, node_need, node_needs, node_part, node_parts,
-    node_same,
-    node_seen, node_tree, node_view, of_subtrees, parts_grown, tree_grown, view_answers,
+    LISTS, UNTYPED, by_node, in_lists, list_answers, list_filled, need_grown, node_need, node_parts, node_seen, node_tree, node_view,
+    of_subtrees, parts_grown, tree_grown, view_answers,
 )
 from rust_spelled import BINDERS, Kept, good_then, kept_clause, made_good, made_of_slots, means, slot_then, sorts
 from rust_trees import MUTUAL, equal, itself, same, size, summed, weight
@@ -33,7 +32,7 @@ def declarations():
     yield "rust_v0/proofs/Meanings.antt", [[f"-- {WRITTEN}\n" + "\n".join(
             f"made_gives table at rules.{made.production} ps vs other within fits lists are = {made.function}_gives at.symbol table at ps "
             "vs lists are" for made in NODES)]]
-    yield "rust_v0/proofs/Sorts.antt", list(sorts())
+    yield "rust_v0/proofs/Sorts.antt", sorts()
     yield "rust_v0/proofs/SortedParts.antt", [[slot_then(part) for part in PARTS.values()],
             [f"-- {WRITTEN}\n" + "\n".join(made_of_slots(made) for made in NODES)]]
     yield "rust_press/proofs/PressRead.antt", [[good_then(part) for part in PARTS.values() if part.good],
@@ -47,10 +46,10 @@ def declarations():
     yield "rust_tree/proofs/Showing.antt", [[list_filled("list_lemmas.antt", of) for of in LISTS]]
     yield "rust_tree/specs/Nodes.antt", [*by_node(node_tree), *by_node(node_parts)]
     yield "rust_tree/specs/Needs.antt", list(by_node(node_need, without=BINDERS))
-    yield "rust_tree/proofs/Trees.antt", [of_subtrees(node_grown, UNTYPED), of_subtrees(node_same, UNTYPED), *by_node(tree_grown, "  "),
+    yield "rust_tree/proofs/Trees.antt", [of_subtrees("node_grown"), of_subtrees("node_same"), *by_node(tree_grown, "  "),
                                           *by_node(parts_grown, "  "),
-        of_subtrees(node_needs, UNTYPED[:-1]), *by_node(need_grown, "  ")]
-    yield "rust_tree/proofs/Viewing.antt", [of_subtrees(node_part, UNTYPED), *by_node(node_view, without=("Function",)),
+        of_subtrees("node_needs", UNTYPED[:-1]), *by_node(need_grown, "  ")]
+    yield "rust_tree/proofs/Viewing.antt", [of_subtrees("node_part"), *by_node(node_view, without=("Function",)),
                                             *by_node(node_seen, "  ", ("Function",))]
     kept = [Kept(made) for made in NODES if made.of != "constant"]
     def clauses(of):
@@ -59,8 +58,6 @@ def declarations():
     yield "rust_press/proofs/PressKept.antt", [[means(one) for one in kept], *[clauses(of) for of in MUTUAL]]
 
 def files(crates):
-    """The files that are written, or have declarations that are, by their paths in the folder of the crates, and their texts."""
-    texts = dict(whole_files())
-    for path, runs in declarations():
-        texts[path] = with_runs(read(f"{crates}/{path}"), runs, WRITTEN)
-    return texts
+    """The files that are written, or have declarations that are: their paths in the folder of the crates, and their texts."""
+    yield from whole_files()
+    yield from ((path, with_runs(read(f"{crates}/{path}"), runs, WRITTEN)) for path, runs in declarations())

@@ -1,51 +1,34 @@
 """What the proofs show of Rust's productions: from the sorts of their parts to the sorts of their values, to why what is read can be
 spelled, and to why what is pressed is read as the same tree."""
+from itertools import product
 from types import SimpleNamespace
 
 import rust_grammar
-from files import template
-from notation import braced, dashed, together
+from files import sections, template
+from notation import braced, dashed, greatest, listed, together
 from rust_parts import BY_NAME, WRITTEN, parts_of
 
 # ## Sorts of values
 
-# the sorts, each with its constructor, and which of these have nothing
-SORTS = {"number": "number", "integer": "an_integer", "letter": "letter", "name": "a_name", "identifier": "an_identifier",
-         "disambiguator": "a_disambiguator", "binder": "a_binder",
-         "lifetime": "a_lifetime", "unsafe": "unsafe_mark", "abi": "an_abi", "truth": "a_truth", "minus": "minus_mark", "path": "a_path",
-         "type": "a_type", "constant": "a_constant",
-         "arguments": "some_arguments", "types": "some_types", "bounds": "some_bounds", "bindings": "some_bindings", "suffix": "a_suffix",
-         "suffix_rest": "suffix_rest", "symbol": "a_symbol"}
-BARE = ("unsafe", "minus", "suffix_rest")
-# the sort of the values of a kind where it isn't the kind's name
-KIND_SORTS = {"SOME_LIFETIME": "lifetime", "SUFFIX_BYTE": "suffix_rest", "NAMESPACE": "letter", "ABI_NAME": "abi"}
+VALUES, KIND_SORTS = ([line.split() for line, _ in lines] for _, lines in sections("rust_sorts.txt"))
 
 def slot(part):
     """What a production asks for where it has such a part."""
-    sort = {"some_lifetime": "lifetime", "other_path": "path"}.get(part.name, part.name)
-    return {"identifier": "an_identifier", "type": "a_type", "abi_value": "an_abi"}.get(part.name,
-            f"{'maybe' if part.missing else 'one'} {sort}")
+    return part.slot or f"{'maybe' if part.missing else 'one'} {part.name}"
 
 def production_sort(letter):
     """The sort of what the rule of a letter makes: that of a kind that has the rule, the narrowest one if it is a name."""
     kind = next(kind for kind in ("NAME", *rust_grammar.KINDS) if letter in rust_grammar.KINDS[kind][0])
-    return KIND_SORTS.get(kind, kind.lower())
+    return dict(KIND_SORTS).get(kind, kind.lower())
 
 def sorts():
     """Runs of declarations: the sorts, and that of a value; where each is among them; what productions ask for, and what they make."""
-    rules = {production: letter for letter, (production, takes, symbols) in rust_grammar.RULES.items()}
-    asked = {production: " ∷ ".join(slot(part) for part in parts_of(production)) for production in rules}
-    def written(comment, *lines):
-        return "\n".join([f"-- {WRITTEN}{comment}", *lines])
-    yield [written(" One for each constructor of `Value`", "pub data Sort : Type 0 where", *[f"  {sort} : Sort" for sort in SORTS]),
-           written("", "abbrev pub sort_of : Value → Sort", *[f"sort_of value.{own} = {sort}" if sort in BARE
-                   else f"sort_of (value.{own} _) = {sort}" for sort, own in SORTS.items()])]
-    yield [written(" Where a sort is in that list", "abbrev place_of : Sort → ℕ",
-                   *[f"place_of {sort} = {k}" for k, sort in enumerate(SORTS)])]
-    yield [written("", "abbrev pub slots_of : Production → List Slot",
-                   *[f"slots_of rules.{production} = {slots} ∷ []" for production, slots in asked.items() if slots], "slots_of _ = []"),
-           written(" The sort of what a production makes", "abbrev pub made_by : Production → Sort",
-                   *[f"made_by rules.{production} = {production_sort(letter)}" for production, letter in rules.items()])]
+    asked = {production: listed(map(slot, parts_of(production))) for production in rust_grammar.RULE_OF if parts_of(production)}
+    values = [(number, sort, f"value.{own}" if alone else f"(value.{own} _)") for number, (sort, own, *alone) in enumerate(VALUES)]
+    made = {production: production_sort(letter) for production, (letter, _, _) in rust_grammar.RULE_OF.items()}
+    of_values, of_value, places, *of_productions = template("rust_v0/sorts.antt", sorts=values, asked=asked,
+                                                            made=made).rstrip("\n").split("\n\n")
+    return [[of_values, of_value], [places], of_productions]
 
 def slot_then(part):
     """That a part which is asked for is there, of its sort."""
@@ -101,15 +84,17 @@ def made_good(made):
 NUMBERS = list(rust_grammar.KINDS)
 
 class Kept:
-    """The rule of a production that makes a tree, as it is pressed: parts, names, tree, value, kinds, and where it is taken."""
+    """The rule of a production that makes a tree, as it is pressed: parts, names, how many lifetimes these need, tree, value,
+    kinds, and where it is taken."""
     def __init__(self, made):
         self.made, self.ends = made, made.of in ("path", "type")
         self.parts, self.names = made.parts, names_of([part.name for part in made.parts])
+        self.pairs = list(zip(self.parts, self.names))
+        self.need = greatest([part.lifetimes.replace("@", name) for part, name in self.pairs if part.lifetimes])
         self.tree = f"(tree.{made.tree} {' '.join(self.names)})"
         self.value = f"(value.{BY_NAME[made.of].fronts[-1].value} {self.tree})"
         self.means = f"{dashed(made.tree)}-means"
-        letter, self.takes, symbols = next((letter, takes, symbols) for letter, (own, takes, symbols) in rust_grammar.RULES.items()
-                                           if own == made.production)
+        letter, self.takes, symbols = rust_grammar.RULE_OF[made.production]
         self.bytes = [ord(symbol[1]) for symbol in symbols if symbol[0] == "'"]
         self.kinds = [f"Byte {ord(symbol[1])}" if symbol[0] == "'" else f"Kind {NUMBERS.index(symbol)}" for symbol in symbols]
         self.rule = f"({'taking' if self.takes else 'chaining'} rules.{made.production} {self.kinds_from(0)})"
@@ -117,18 +102,11 @@ class Kept:
         self.kind, self.byte = "kind" if made.of == "path" else str(NUMBERS.index(kind)), str(ord(rust_grammar.KINDS[kind][0][letter][0]))
     def kinds_from(self, first):
         """The kinds of the parts from one on."""
-        return f"({''.join(f'{kind} ∷ ' for kind in self.kinds[first:])}[])"
+        return f"({listed(self.kinds[first:])})"
     def press_from(self, first):
         """The pressing of the parts from one on."""
-        press = [part.press.replace("@", name) for part, name in zip(self.parts, self.names)] + [f"letter {byte}" for byte in self.bytes]
+        press = [part.press.replace("@", name) for part, name in self.pairs] + [f"letter {byte}" for byte in self.bytes]
         return f"({' and '.join(press[first:])})"
-    def need(self):
-        """How many lifetimes the tree needs, if its parts need any."""
-        needs = [part.lifetimes.replace("@", name) for part, name in zip(self.parts, self.names) if part.lifetimes]
-        whole = needs[0] if needs else None
-        for more in needs[1:]:
-            whole = f"max {f'({whole})' if ' ' in whole else whole} ({more})"
-        return whole
     def fact(self):
         """What values of the parts have to mean."""
         if self.takes:
@@ -137,32 +115,19 @@ class Kept:
 
 def means(kept):
     """What the values of the parts mean together, by the forms in which they come: a type's by which of two they are."""
-    arguments, values, forms, typed = [], [], [[]], None
-    for part, name in zip(kept.parts, kept.names):
-        if name == "i":
-            argument, value, choices = "(d : ℕ) (m : tree.Name)", "identifier_values d m", [[count, "m"] for count in part.forms]
-        else:
-            argument, value, choices = (f"({name} : {part.tree})", part.values.replace("@", name) if part.values else "vs",
-                                        [[form.replace("@", name)] for form in part.forms])
-        if not part.values:
-            typed = name
-        arguments.append(argument)
-        values.append(value)
-        forms = [form + choice for form in forms for choice in choices]
+    typed = next((name for part, name in kept.pairs if not part.values), None)
+    arguments = " ".join("(d : ℕ) (m : tree.Name)" if name == "i" else f"({name} : {part.tree})" for part, name in kept.pairs)
+    values = [(part.values or "vs").replace("@.disambiguator", "d").replace("@.name", "m").replace("@", name) for part, name in kept.pairs]
     known = f"({values[0]})"
     for value in [*values[1:], *["[]" for byte in kept.bytes]]:
         known = f"({known} ++ ({value}))"
     made = kept.value.replace(" i)", " (record { disambiguator = d; name = m }))")
     given = f" (vs : List Value) → IsTypeValue {typed} vs" if typed else ""
-    lines = [f"-- {WRITTEN}", f"pub {kept.means} : {' '.join(arguments)}{given} → (at : At) → meaning rules.{kept.made.production} at "
+    lines = [f"-- {WRITTEN}", f"pub {kept.means} : {arguments}{given} → (at : At) → meaning rules.{kept.made.production} at "
              f"{known} ≡ {'ends' if kept.ends else 'plain'} at {made}"]
-    for form in forms:
-        if typed:
-            lines += [f"{kept.means} {' '.join(form)} vs ({which}) at = rw {fact} refl"
-                      for which, fact in (("inl e", "e"), ("inr e", "(e.1, e.2)"))]
-        else:
-            lines.append(f"{kept.means} {' '.join(form)} at = refl")
-    return "\n".join(lines)
+    ends = ["vs (inl e) at = rw e refl", "vs (inr e) at = rw (e.1, e.2) refl"] if typed else ["at = refl"]
+    forms = product(*([form.replace("@", name) for form in part.forms] for part, name in kept.pairs))
+    return "\n".join([*lines, *(f"{kept.means} {' '.join(form)} {end}" for form in forms for end in ends)])
 
 def kept_parts(kept):
     """The parts of a clause, one after the other: each is pressed, is read as its values, and these are known to those after it."""
@@ -192,12 +157,12 @@ def kept_parts(kept):
 
 def kept_clause(kept):
     """Why what is pressed of such a tree is read as it."""
-    made, need = kept.made, kept.need()
+    made = kept.made
     front = f"{made.of}-kept s c fits inside minus{' kind has' if made.of == 'path' else ''} {kept.tree} good closed ="
     takes = "takes-ends" if kept.ends else "takes-plain" if kept.takes else "chains-plain"
     own = f"(of_{made.of} {kept.tree})" if kept.ends else kept.value
     found = f"has.{made.tree}" if made.of == "path" else "refl"
-    lines = [f"let need_is : {need} ≤ c = closed in"] if need else []
+    lines = [f"let need_is : {kept.need} ≤ c = closed in"] if kept.need else []
     rule = [f"{takes} s c inside minus {kept.kind} {kept.byte} {kept.rule} {kept.press_from(0)} {kept.fact()} {own} (omega arith) {found} "
             "refl", *kept_parts(kept)]
     # a type may be a reference to an earlier one

@@ -1,7 +1,7 @@
 """Writes the table of the names that `--short` makes shorter, as code: from tools/tables/short_names.txt."""
 import textwrap
 
-from files import entries, template
+from files import entries, whole
 from table_code import in_rows
 
 HOLES = {"%0": 0, "%1": 1, "std::": 2, "%t": 3}
@@ -26,10 +26,6 @@ class Texts:
             self.texts.append(text)
             self.end += len(text)
         return self.places[text][0]
-
-    def constants(self):
-        """The constants of the places, as code."""
-        return "\n\n".join("const {}: Place = place!({}, {});".format(*place) for place in self.places.values()).split("\n")
 
 def templates():
     """Each template with the patterns of its arguments, in the table's order."""
@@ -66,35 +62,29 @@ def scoped(names, front=""):
 
 def files(crates):
     """The path and the text of the file."""
-    texts, rows, aliases, defaults_of, usual, of = Texts(), [], [], [], [], {}
+    texts, rows, aliases, defaults_of, of = Texts(), [], [], [], {}
     listed = entries("short_names.txt")
     for alias, name, arguments in listed["alias"]:
         of.setdefault(name, []).append((alias, arguments))
-    own = sorted(templates(), key=lambda entry: len(entry[0]))
+    own, are_polymorphic = sorted(templates(), key=lambda entry: len(entry[0])), [name for words in listed["pmr"] for name in words]
     for name, defaults in own:
         first, first_default = len(aliases), len(defaults_of)
-        for alias, arguments in of.pop(name, []):
-            usual.append(alias)
-            aliases.append(f"    alias!({texts.place(name)}, {texts.place(pattern(arguments))}, {texts.place(alias)}), // {alias}")
-        defaults_of += [f"    {texts.place(default)}, // {name}" for default in defaults]
-        is_polymorphic = name in (name for words in listed["pmr"] for name in words)
-        polymorphic = defaults[-1].replace("\2allocator", "\2pmr::polymorphic_allocator") if is_polymorphic else ""
-        rows.append(f"    template!({texts.place(name)}, {len(defaults)}, {first_default}, {texts.place(polymorphic)}, {first}, "
-                    f"{len(aliases)}), // {name}")
+        aliases += [(texts.place(name), texts.place(pattern(given)), texts.place(alias), alias) for alias, given in of.pop(name, [])]
+        defaults_of += [(texts.place(default), name) for default in defaults]
+        polymorphic = defaults[-1].replace("\2allocator", "\2pmr::polymorphic_allocator") if name in are_polymorphic else ""
+        rows.append((texts.place(name), len(defaults), first_default, texts.place(polymorphic), first, len(aliases), name))
     assert not of, of
     inlines, inners = scoped(name for sort in ("part", "whole", "other") for name in listed[sort][0]), scoped(listed["inner"][0])
     lists = {"wholes": [*scoped(listed["whole"][0], "std::"), "std::"], "parts": scoped(listed["part"][0]), "inlines": inlines,
              "inners": inners, "inner_inlines": scoped(listed["nested"][0])}
-    places = {name: [f"    {texts.place(text)}, // {text}" for text in shown] for name, shown in lists.items()}
-    groups = [inlines, *([f"{name}"] for name in listed["inner"][0])]
-    std, whole, sizes = texts.place("std::"), "".join(texts.texts), [len(name) for name, _ in own]
+    places = {name: [(texts.place(text), text) for text in shown] for name, shown in lists.items()}
+    groups, std = [inlines, *([f"{name}"] for name in listed["inner"][0])], texts.place("std::")
+    sizes, all_texts = [len(name) for name, _ in own], "".join(texts.texts)
     string, string_list = next((row, whole_list(["char"], defaults)) for row, (name, defaults) in enumerate(own) if name == "basic_string")
     firsts = [sum(size < most for size in sizes) for most in range(max(sizes) + 2)]
-    yield "short_names/src/table.rt", template(
-        "short_names/table.rt", std=std, marks=in_rows([ord(name[0]) + 256 * ord(name[-3]) for name, _ in own], 13),
-        places=texts.constants(),
-        longest=len(firsts) - 1, firsts=len(firsts), first=in_rows(firsts, 25), texts=escaped(whole), texts_length=len(whole),
-        templates=rows,
-        defaults=defaults_of, aliases=aliases, string_template=string, string=usual.index("string"), string_size=len(string_list),
-        string_list=string_list, usual_firsts=flags({alias[0] for alias, _, _ in listed["alias"]}), inline_firsts=marks_of(groups, 0),
-        inline_thirds=marks_of(groups, 2), **places)
+    yield whole("short_names/src/table.rt", std=std, marks=in_rows([ord(name[0]) + 256 * ord(name[-3]) for name, _ in own], 13),
+                places=list(texts.places.values()), longest=len(firsts) - 1, firsts=len(firsts), first=in_rows(firsts, 25),
+                texts=escaped(all_texts), texts_length=len(all_texts), templates=rows, defaults=defaults_of, aliases=aliases,
+                string_template=string, string=[alias for *_, alias in aliases].index("string"), string_size=len(string_list),
+                string_list=string_list, usual_firsts=flags({alias[0] for alias, _, _ in listed["alias"]}),
+                inline_firsts=marks_of(groups, 0), inline_thirds=marks_of(groups, 2), **places)

@@ -1,7 +1,7 @@
-"""Writes cpp_spelled's table of what the row of each production is to the parts of a name, by the clauses of `sort_of` in its definitions."""
+"""Writes cpp_spelled's table of what each production's row is to the parts of a name, by the clauses of `sort_of` in its definitions."""
 import re
 
-from files import read, template
+from files import read, whole
 from rules import P, build
 
 def files(crates):
@@ -9,5 +9,4 @@ def files(crates):
     build()
     sorts = dict(re.findall(r"^sort_of Production\.(\w+) = sort\.(\w+)$", read(f"{crates}/cpp_spelled/specs/Sorts.antt"), re.MULTILINE))
     assert not set(sorts) - set(P), f"no productions: {set(sorts) - set(P)}"
-    yield "cpp_spelled/src/sorts.rt", template("cpp_spelled/sorts.rt", count=len(P),
-            sorts=[f"    Sort::{sorts.get(production, 'Closed')}, // {production}" for production in P])
+    yield whole("cpp_spelled/src/sorts.rt", count=len(P), sorts={production: sorts.get(production, "Closed") for production in P})

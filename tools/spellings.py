@@ -3,7 +3,7 @@ Each is at the end of a declaration of cpp_press_laws or cpp_spelling whose firs
 import re
 
 from cpp_trees import BELOW, BYTES, QUALIFIERS, SPELLED
-from files import template
+from files import sections, template
 from notation import braced, camel
 from tree_clauses import pattern
 
@@ -89,27 +89,18 @@ class Spelling:
         self.subtrees = [part for part in self.parts if part.tree]
         for part, side in zip(self.subtrees, ("inl", "inr")):
             part.side = side if len(self.subtrees) > 1 else ""
-
-    def by_sort(self, law, others, **forms):
-        """What is said by the sort: the law of the parts, if there are any."""
-        return forms.get(self.sort, others).format(own=self.shape, sort=self.sort, law=law(*self.parts) if self.parts else "")
+        front = ["nowhere"] if self.nowhere else ["tested"] if self.name in BELOW["fits"] else []
+        of_component = ["compound" if self.subtrees else "leaf"] if self.sort == "component" else []
+        self.sorts = [*front, f"{'several' if len(self.parts) > 1 else 'single'} {self.sort}", *of_component, self.sort, "others"]
 
 def spellings(trees):
     """The spellings of the trees that have one."""
     return [Spelling(tree) for tree in trees if tree[0] in SPELLED]
 
-def definition(of):
-    """The ways in which a tree is spelled."""
-    def text(*parts):
-        return spelled(parts, of.here, True)
-    ways = of.by_sort(text, "{sort}_ways ({law})", component="type_ways (component n {own} ({law}))", none="no_ways",
-                      encoding="encoding_ways (λ here. {law})", prefix="record no_ways {{ as_prefix = {law} }}")
-    return f"ways_of n {of.shape} = {ways}"
-
 def size(of):
     """How long a tree's spelling is."""
     least = f"{BELOW['least'][of.name]} + " if of.name in BELOW["least"] else ""
-    return f"size {of.shape} = {least}{total(of.parts)}" if of.parts else None
+    return f"{least}{total(of.parts)}" if of.parts else None
 
 def keeping(of):
     """Components stay, and those of a subtree that is closed are kept apart from others."""
@@ -134,12 +125,9 @@ def keeping(of):
         sides = f"(λ x. Shut ({raw[0]} x) x) (λ x s. s.1)"
     else:
         sides = f"{either} (λ x s. s)" if raw else ""
-    shown = of.by_sort(
-        law, "{sort}-ways-keep open_ n R {own} _ (λ h. {law})", none="no-ways-keep open_ n R {own}",
-        encoding=f"encoding-ways-keep open_ n R {{own}} _ {sides} (λ here h. {{law}})",
-        component="typed-keep open_ n R {own} _ (λ x w. w) (λ x w. w) (λ h. {law})",
-        type="type-ways-keep open_ n R {own} _ (λ x w. w) (λ x w. w) (λ h. {law})")
-    return f"keeps {of.shape} open_ n R = {shown}"
+    if of.sort == "encoding":
+        return f"{sides} (λ here h. {law(*of.parts)})"
+    return law(*of.parts)
 
 def growing(of):
     """That components grow as a tree is spelled."""
@@ -153,10 +141,7 @@ def growing(of):
             return fact
         is_last = len(rest) == 1 and not rest[0].tree
         return f"back ({fact}) {braced(rest[0].text)}" if is_last else f"and-grows ({fact}) ({law(*rest)})"
-    shown = of.by_sort(law, "{sort}-ways-grow whole {own} ({law})", none="no-ways-grow whole {own}",
-                       component="typed whole n {own} ({law})",
-                       encoding="encoding-ways-grow whole {own} (λ here. {law})")
-    return f"ways-grow whole {of.shape} in_whole n = {shown}"
+    return law(*of.parts)
 
 def short(of):
     """That a spelling is no longer than its size."""
@@ -176,98 +161,37 @@ def short(of):
         if len(rest) == 1 and not rest[0].tree:
             return f"before-text {length} {bound} {own} {braced(rest[0].text)} {arithmetic(part, *rest)} ({fact})"
         return f"and-within {length} {left} {bound} {own} {braced(spelled(rest, here))} (omega arith) ({fact}) {after}"
-    of_type = f"spelled-all {{own}} {braced(spelled(of.parts, 'n'))} {whole} ({{law}}) (omega arith) (omega arith) (omega arith)"
-    shown = of.by_sort(lambda *parts: law(whole, *parts), "{sort}-all {own} _ ({law})", none="none-all {own}", type=of_type,
-                       encoding="encoding-all {own} _ (λ here. {law})", component="typed-all n {own} _ refl refl refl ({law})")
-    return f"all-short {of.shape} n = {shown}"
+    if of.sort == "type":
+        return f"{braced(spelled(of.parts, 'n'))} {whole} ({law(whole, *of.parts)})"
+    return law(whole, *of.parts)
 
 def needed(of):
     """What a tree needs so that it fits, and the slot that the type in it is in."""
     return BELOW["fits"].get(of.name), BELOW["slot"].get(of.name, "any_type")
 
 def fitting(of):
-    """Where a tree fits."""
+    """Where a type fits, by its tests."""
     tests, slot = needed(of)
-    if of.nowhere or tests is None:
-        return f"fits_of {of.shape} = fits_nowhere" if of.nowhere else None
     inner = f"behind_bytes {braced(of.parts[0].text)} ((fits_of {of.parts[1].tree}).as_type {slot}) around allowed place cs"
-    whole = " × ".join([*(f"({test})" if "≡" in test else test for test in tests), inner])
-    return f"fits_of {of.shape} = type_fits {of.shape} (λ slot around allowed place cs. {whole})"
+    return " × ".join([*(f"({test})" if "≡" in test else test for test in tests), inner])
 
 def adding(of):
-    """That a tree which fits adds its components."""
+    """That such a type, where it fits, adds its components."""
     tests, slot = needed(of)
-    if of.nowhere:
-        return f"adds {of.shape} = nowhere-ways-add {of.shape} _"
-    if tests is not None:
-        text, fits = braced(of.parts[0].text), f"fits.{len(tests)}" if tests else "fits"
-        inner = f"(adds {of.parts[1].tree}).at fit.as_type {slot} around allowed (place + length {text}) cs {fits}"
-        added = f"after-bytes 1 2 {text} {BELOW['long'].get(of.name, NO_FACT)} ({inner})"
-        return f"adds {of.shape} = type-ways-add {of.shape} _ _ (λ x w. w) (λ slot around allowed place cs fits. {added})"
-    is_leaf = of.sort == "piece" and len(of.parts) == 1 and "adds" not in BELOW["by_hand"].get(of.name, [])
-    return f"adds {of.shape} = leaf-piece-add {of.shape} _ _ (omega arith) (λ x i. i)" if is_leaf else None
-
-def typed_argument(of):
-    """That a type is an argument."""
-    is_type = of.sort in ("component", "type") and not of.nowhere
-    return f"type-argument {of.shape} around in_pack old new one = one" if is_type else None
+    text, fits = braced(of.parts[0].text), f"fits.{len(tests)}" if tests else "fits"
+    inner = f"(adds {of.parts[1].tree}).at fit.as_type {slot} around allowed (place + length {text}) cs {fits}"
+    return f"after-bytes 1 2 {text} {BELOW['long'].get(of.name, NO_FACT)} ({inner})"
 
 # ## Spelled onto what follows
 
-def onto(function, wanted):
+def onto(of):
     """A tree before what follows it, part by part."""
-    def clause(of):
-        return f"{function} n {of.shape} rest = {' onto '.join(part.onto() for part in of.parts)} onto rest" if wanted(of) else None
-    return clause
+    return f"{' onto '.join(part.onto() for part in of.parts)} onto rest"
 
-def rejoined(clause, wanted, rest):
+def joined(of, rest):
     """A tree's parts, one after the other, are what the tree is with what follows."""
-    def joined(of):
-        if not wanted(of):
-            return None
-        parts = [part.spelled(of.here) if part.tree and part.way != "as_signature" else f"({part.spelled(of.here)})" for part in of.parts]
-        shown = " ".join([["refl", "two", "three", "four"][len(parts) - 1], *([*parts, rest] if len(parts) > 1 else [])])
-        is_here = of.sort == "encoding" and len(parts) > 1
-        return f"{clause.format(of.shape)} = {HERE.format(shown) if is_here else shown}"
-    return joined
-
-HERE = "ap {{A = Spelling}} (λ (f : Spelling). f here cs) ({})"
-
-def content(of):
-    """What a component is spelled as, apart from its reference."""
-    return f"content n {of.shape} = {spelled(of.parts, 'n')}" if of.sort == "component" else None
-
-def of_sort(*sorts, least=1):
-    """Whether a spelling is of one of these sorts, with at least this many parts."""
-    return lambda of: of.sort in sorts and len(of.parts) >= least
-
-def compound(of):
-    """Whether it is a component with a subtree."""
-    return of.sort == "component" and bool(of.subtrees)
-
-def plain(of):
-    """Whether it is a type without one."""
-    return of.sort == "type" or of.sort == "component" and not compound(of)
-
-def declarations_onto():
-    """The declarations that spell a tree onto what follows: path, name, the clause of a spelling, and the clause of other trees."""
-    specs, proofs = "cpp_spelling/specs/Spelled.antt", "cpp_spelling/proofs/Ways.antt"
-    yield from ((specs, function, onto(function, wanted), f"{function} n {others}") for function, wanted, others in (
-        ("piece_onto", of_sort("piece"), "_ rest = rest"), ("prefix_onto", of_sort("prefix"), "t rest = between_onto n t rest"),
-        ("compound_onto", compound, "_ rest = rest"), ("type_onto", plain, "t rest = class_onto n t rest"),
-        ("argument_onto", of_sort("argument"), "t rest = type_onto n t rest"), ("encoding_onto", of_sort("encoding"), "_ rest = rest")))
-    yield proofs, "content", content, "content n _ = nothing"
-    unlike = "first_of (cc, search (nothing-and r))"
-    for law, given, wanted, rest, others in (
-            ("piece-is", "n {0} r", of_sort("piece"), "r", "nothing-and r"),
-            ("content-is", "n {0} e is", of_sort("component"), "e", "absurd (true-false (sym is))"),
-            ("encoding-is", "n here {0} r cs", of_sort("encoding"), "r", HERE.format("nothing-and r")),
-            ("argument-rest", "n {0} r is", of_sort("argument", "type", least=2), "r", unlike),
-            ("type-rest", "n {0} r is", of_sort("type", least=2), "r", unlike),
-            ("qualified-rest", "n {0} r is", of_sort("type", least=2), "r", unlike),
-            ("prefix-rest", "n {0} r is", of_sort("type", "prefix", least=2), "r", unlike)):
-        clause = f"{law} {given}"
-        yield proofs, law, rejoined(clause, wanted, rest), f"{clause.format('_')} = {others}"
+    parts = [part.spelled(of.here) if part.tree and part.way != "as_signature" else f"({part.spelled(of.here)})" for part in of.parts]
+    return " ".join([["refl", "two", "three", "four"][len(parts) - 1], *([*parts, rest] if len(parts) > 1 else [])])
 
 # ## Types with bytes before them
 
@@ -288,12 +212,23 @@ def lemmas(trees):
                          premises=" × ".join(premises), facts=", ".join(["take", *["digit"] * len(tests[1:]), "fits"]))
         yield "cpp_press_laws/proofs/Fits/Types.antt", lemma.rstrip("\n").split("\n")
 
+# ## Declarations
+
+# what is said of a spelling, by the words of cpp_spellings.txt
+LAWS = {"said": lambda of: spelled(of.parts, of.here, True), "spelled": lambda of: spelled(of.parts, of.here), "onto": onto,
+        "joined": joined, "fitting": fitting, "short": short, "keeping": keeping, "growing": growing, "adding": adding, "size": size}
+
+def clauses(said, of):
+    """What is said of a spelling by its sort, if anything is."""
+    form, (law, *given) = next((said[sort] for sort in of.sorts if sort in said), ""), said.get("law", "none").split()
+    own = LAWS[law](of, *given) if "{law}" in form else ""
+    return form.format(own=of.shape, sort=of.sort, law=own) if form and own is not None else None
+
 def declarations(trees):
     """Path, name, and the lines at its end."""
-    laws = [("specs/Pressing", "ways_of", definition), ("specs/Fits", "fits_of", fitting), ("proofs/Short/Spelled", "all-short", short),
-            ("proofs/Components/KnownTrees", "keeps", keeping), ("proofs/Components/Apart", "ways-grow", growing),
-            ("proofs/Components/AddedTrees", "adds", adding), ("proofs/Fits/Arguments", "type-argument", typed_argument)]
-    of_laws = [(f"cpp_press_laws/{file}.antt", name, clause, None) for file, name, clause in laws]
-    sizes = ("cpp_press_laws/proofs/Short/Size.antt", "size", size, "size _ = 1")
-    for path, name, clause, others in [*declarations_onto(), *of_laws, sizes]:
-        yield path, name, [line for line in [*map(clause, spellings(trees)), others] if line]
+    for head, lines in sections("cpp_spellings.txt"):
+        path, name = head.split()
+        said = dict(re.match(r"((?:several |single )?\S+) ?(.*)", line).groups() for line, _ in lines)
+        values = [(of, clauses(said, of)) for of in spellings(trees) if name not in BELOW["by_hand"].get(of.name, [])]
+        yield path, name, [*(f"{name} {said['left'].format(own=of.shape)} = {value}" for of, value in values if value is not None),
+                           *([f"{name} {said['rest']}"] if "rest" in said else [])]

@@ -31,9 +31,9 @@ def with_declarations(text, owns, mark=WRITTEN):
         behind = declared(text, name)[1]
     return text
 
-def replaced(text, begun, ends, lines):
+def replaced(text, begun, ends, lines, mark=f"// {WRITTEN}"):
     """The text, with these lines after the next line that says who writes them, up to what ends them."""
-    start = text.index("\n", text.index(f"// {WRITTEN}", begun)) + 1
+    start = text.index("\n", text.index(mark, begun)) + 1
     end = re.compile(ends, re.M).search(text, start).start()
     return text[:start] + "".join(f"{line}\n" for line in lines) + text[end:]
 
@@ -48,25 +48,19 @@ def with_requires(text, function, lines):
     return replaced(text, re.search(rf"\bfn {function}\(", text).end(), r"^ +ensures ", lines)
 
 def rewritten(text, name, lines):
-    """The text, with these lines as the clauses of a name, or the fields of a record. The comment above says who writes them."""
+    """The text, with these lines as the clauses of a name, or the fields of a record: as all, where the comment above says who writes them,
+    or else as those after the line that says so, up to a comment."""
     own = re.escape(name)
     signature = re.search(rf"^( *)(?:(?:unfoldable|abbrev|pub) )*{own} : |^()pub record {own} .*where$", text, re.M)
     assert signature, f"there is no {name}"
-    indent = signature[1] or ""
-    assert WRITTEN in text[:signature.start()].rsplit("\n\n", 1)[-1], f"no comment says who writes {name}"
-    first = re.compile(r"^  " if "record" in signature[0] else rf"^{indent}{own} (?!: )", re.M).search(text, signature.end()).start()
-    end = re.compile(r"\n\n|\s*\Z").search(text, first).start()
-    return text[:first] + "\n".join(indent + line for clause in lines for line in clause.split("\n")) + text[end:]
-
-def extended(text, name, lines):
-    """The text, with these lines as the clauses of a name that come after the line that says who writes them, up to a comment."""
-    signature = re.search(rf"^(?:(?:unfoldable|abbrev|pub) )*{re.escape(name)} : ", text, re.M)
-    mark = re.compile(rf"^-- {re.escape(WRITTEN)}.*(?:\n--.*)*", re.M).search(text, signature.end())
-    assert mark, f"no line says who writes clauses of {name}"
-    start = mark.end()
-    assert "\n\n" not in text[signature.end():start], f"{name} has no clauses that are written"
-    end = re.compile(r"\n(?:\n|--)|\s*\Z").search(text, start).start()
-    return text[:start] + "".join(f"\n{line}" for line in lines) + text[end:]
+    indent, end = signature[1] or "", re.compile(r"\n\n|\s*\Z").search(text, signature.end()).start()
+    if WRITTEN in text[:signature.start()].rsplit("\n\n", 1)[-1]:
+        first = re.compile(r"\n  " if "record" in signature[0] else rf"\n{indent}{own} (?!: )").search(text, signature.end()).start()
+    else:
+        mark = re.compile(rf"^-- {re.escape(WRITTEN)}.*(?:\n--.*)*", re.M).search(text, signature.end(), end)
+        assert mark, f"no line says who writes clauses of {name}"
+        first, end = mark.end(), re.compile(r"\n--|\Z").search(text, mark.end(), end).start()
+    return text[:first] + "".join(f"\n{indent}{line}" for clause in lines for line in clause.split("\n")) + text[end:]
 
 def with_imports(text, constants):
     """The text, with the names of trees, of their makers, of what views call them and of kinds imported that its declarations name."""
@@ -115,11 +109,6 @@ def filled(text):
     return [fill(text, tree=tree, production=production, letter=letter, code=str(ord(letter)), name=tree.upper(), text=TEXTS[tree.upper()])
             for tree, production, letter in WRAPPERS]
 
-def sections():
-    """Each section of the templates: its mark, the path of its file, and its text."""
-    for mark, path, text in re.findall(r"^(===|\+\+\+|>>>) (.*)\n((?:(?!===|\+\+\+|>>>).*\n)*)", read(f"{TEMPLATES}/wrappers.txt"), re.M):
-        yield mark, path, text.rstrip("\n")
-
 def with_names(text):
     """The text, where what is named after each wrapper is imported beside what is named after the wrapper before it."""
     for (before, *_), (after, *_) in zip(WRAPPERS, WRAPPERS[1:]):
@@ -147,9 +136,10 @@ def with_numbers(text):
 def wrapper_edits():
     """The path of each file by hand that has something for each wrapper, how its text changes, and by what."""
     yield NUMBERS, with_numbers, []
-    for mark, path, text in sections():
+    # each section of the templates begins with its mark and the path of its file
+    for mark, path, text in re.findall(r"^(===|\+\+\+|>>>) (.*)\n((?:(?!===|\+\+\+|>>>).*\n)*)", read(f"{TEMPLATES}/wrappers.txt"), re.M):
         yield path, with_names, []
         if mark == "===":
-            yield path, with_declarations, [filled(text)]
+            yield path, with_declarations, [filled(text.rstrip("\n"))]
         else:
-            yield path, with_texts, [list(filter(None, text.split("\n"))) if mark == "+++" else [text]]
+            yield path, with_texts, [list(filter(None, text.split("\n"))) if mark == "+++" else [text.rstrip("\n")]]

@@ -4,8 +4,8 @@ import re
 
 import grammar
 from files import template
-from meanings import ALL_PARTS, CODE, PARTS, STEP, TABLE, made_in_code, piece_in_code, said
-from notation import applied, camel, snake
+from meanings import ALL_PARTS, CODE, STEP, TABLE, made, said
+from notation import Steps, applied, camel, snake
 from rules import TOKENS
 from rust_layout import arm, split
 
@@ -14,36 +14,19 @@ ITS_TYPES = template("cpp_link/its_types.rt").rstrip("\n")
 
 def made_step(step):
     """The first part becomes a tree."""
-    named = "self.listed_name" if step.is_listed else "self.named"
-    if m := re.fullmatch(r"name \+ (.*)", step.made):
-        return f"{named}(self.extended(symbol, kept.prefix(), {piece_in_code(m[1], STEP)}))"
-    if m := re.fullmatch(r"tagged\(name, (.*)\)", step.made):
-        return f"{named}(self.tagged(symbol, kept, {said('arguments', m[1], STEP)}))"
-    if m := re.fullmatch(r"(.*) applied to (\d)", step.made):
-        return f"self.std_name(symbol, {said('arguments', m[1], STEP)}, {PARTS[int(m[2])]})"
+    node, is_extended = made(step.made, STEP), step.made.startswith(("name + ", "tagged("))
+    if " applied to " in step.made:
+        return node
+    if is_extended or "(" in step.made and step.is_name and not step.is_candidate and not step.made.startswith("operation("):
+        return f"self.{'listed_name' if step.is_listed else 'named'}({node})"
     marks = f"listed: {str(step.is_listed).lower()}, is_name: {str(step.is_name).lower()}"
     if "(" not in step.made:
-        return f"Step::Named {{ node: {said('arguments', step.made, STEP)}, {marks} }}"
-    node = made_in_code(step.made, STEP)
-    if step.is_name and not step.is_candidate and not step.made.startswith("operation("):
-        return f"{named}({node})"
+        return f"Step::Named {{ node: {node}, {marks} }}"
     return f"Step::Made {{ node: {node}, {marks}, is_candidate: {str(step.is_candidate).lower()}, packs: self.packs }}"
 
 def code(step):
     """What is done, in code."""
-    place = said("places", step.text, CODE)
-    if step.text == "in its types":
-        return ITS_TYPES
-    if step.text == "under it":
-        return f"Step::Go {{ candidate: None, then: {place}, packs: None }}"
-    if place:
-        return f"self.go({place})"
-    candidate = re.fullmatch(r"list (?:the name|type (?P<type>\d))(?:, (?P<place>.*))?", step.text)
-    if not candidate:
-        return made_step(step)
-    then = said("places", candidate["place"] or "in a literal", CODE)
-    of = f"type_candidate(symbol, kept, {PARTS[int(candidate['type'])]})" if candidate["type"] else "prefix_candidate(symbol, kept)"
-    return f"Step::Go {{ candidate: self.{of}, then: {then}, packs: self.packs }}"
+    return ITS_TYPES if step.text == "in its types" else said("steps", step.text, CODE) or made_step(step)
 
 # what code by hand does: tests, packs, an M, and what the ABI's grammar doesn't have
 def is_by_hand(step):
@@ -74,7 +57,7 @@ def arms():
         lines = []
         for production, step in done.items():
             shown = code(step)
-            lines += [f"            Production::{production} => {shown}"] if shown == ITS_TYPES else arm(production, shown)
+            lines += [f"            Production::{production} => {shown}"] if shown == ITS_TYPES else arm(f"Production::{production}", shown)
         yield FILE, function, lines
 
 # the functions that are called in turn, each with what the one before it hasn't done
@@ -114,16 +97,12 @@ def shown_piece(text):
 
 def pieces(done):
     """Each arm by which a piece comes after the name so far, as one record."""
-    met = set()
-    def called(name, production):
-        step = f"c.{name}-in-{production}" if name in met else f"c.{name}"
-        met.add(name)
-        return step
+    steps = Steps()
     for production, step in done.items():
         tree, piece, read, same = shown_piece(step.made.removeprefix("name + "))
-        calls = {name: called(name, production) for name in ("named", "extended", "prefix")}
-        part = called(read, production)
-        yield template("cpp_link/piece.antt", production=production, piece=piece.format(part), tree=tree, same=same.format(part), **calls)
+        *calls, part = (f"c.{steps(name, production)}" for name in ("named", "extended", "prefix", read))
+        yield template("cpp_link/piece.antt", production=production, piece=piece.format(part), tree=tree, same=same.format(part),
+                       **dict(zip(("named", "extended", "prefix"), calls)))
 
 def answers():
     """The answers of each function that forwards, and of the one that makes a name by a piece: their files, and their texts."""
@@ -139,28 +118,16 @@ def symbol(part):
     """A symbol of a rule, in definitions."""
     return part if part in TOKENS else f"(OfKind {snake(part).upper()})"
 
+FLOWS = [(re.compile(r" \| ".join(said)), lemma) for *said, lemma in TABLE["flows"]]
+
 def flow(production, row, parts):
     """How the candidates of a production flow, by its row: its lemma, with what it requires; nothing where it is by hand, or as
     for most."""
     before = row.before[1] if len(row.before) == 2 and row.before[0] == "quiet" and row.onward == "quiet" else ""
-    name, first = f"Production.{production} refl around place", symbol(parts[0]) if parts else ""
-    named = re.match(r"becomes .* (true|false) true false$", before)
-    if named and row.form in ("a_name unlisted", "in_place"):
-        kind, known = snake(parts[1]).upper(), dict(TABLE["after_names"])[parts[1]]
-        if named[1] == "true" and before.startswith("becomes (of "):
-            return f"whole_name {name} _ {first} {kind} refl (λ vs. refl) (λ a v. refl) {known}"
-        if named[1] == "true":
-            return f"listed_name {name} _ {first} {kind} refl (λ v. refl) (λ a v. refl) {known}"
-        return f"made_name {name} _ _ {first} {kind} refl (λ vs. refl) (λ vs. refl) (λ a v. refl) {known}"
-    if named and named[1] == "false" and row.form == "handed 1" and parts[1] == "NestRest":
-        return f"nested {name} _ {first} refl (λ v. refl) (λ vs. refl) (λ a v. refl)"
-    if before == "goes (type_of 0) as_before":
-        return f"of_type {name} _ {first} {symbol(parts[1])} refl (λ a v. refl) (λ a v. refl) (λ v. refl) (λ byte vs. omega arith)"
-    if row.gain in ("type_of 0", "unqualified_of 0") and row.form == "finished 0":
-        return f"{'typed' if row.gain == 'type_of 0' else 'unqualified'} {name} {first} refl (λ a v. refl) (λ v. refl) (λ v. refl)"
-    if row.gain == "itself":
-        return f"own_type {name} _ (parts_of Production.{production}) refl refl refl (λ byte vs. refl) (λ vs. refl)"
-    return None
+    first, second = [*parts, "", ""][:2]
+    lemma = next((lemma for pattern, lemma in FLOWS if pattern.fullmatch(f"{before} | {row.form} | {row.gain}")), "")
+    return lemma.format(name=f"Production.{production} refl around place", production=production, first=symbol(first),
+                        second=symbol(second), kind=snake(second).upper(), after=dict(TABLE["after_names"]).get(second, ""))
 
 def flows():
     """How candidates flow, for each production whose row says it."""

@@ -13,8 +13,8 @@ from collections import deque
 
 from distributed import Client
 
-AT_ONCE = 64  # pieces that are handed out or wait for those before them
-
+# pieces that are handed out or wait for those before them
+AT_ONCE = 64
 
 def filtered(path, start, end, symfilt):
     """One piece of the log, filtered: what a worker does."""
@@ -22,7 +22,6 @@ def filtered(path, start, end, symfilt):
         log.seek(start)
         piece = log.read(end - start)
     return subprocess.run([symfilt], input=piece, stdout=subprocess.PIPE, check=True).stdout
-
 
 def pieces(path, size):
     """Where the pieces of a log begin and end: each ends after a newline, or with the log."""
@@ -36,7 +35,6 @@ def pieces(path, size):
             yield start, end
             start = end
 
-
 def main(scheduler, path, symfilt="symfilt", size=8 << 20):
     client = Client(scheduler)
     waiting = deque()
@@ -46,7 +44,6 @@ def main(scheduler, path, symfilt="symfilt", size=8 << 20):
             sys.stdout.buffer.write(waiting.popleft().result())
     for piece in waiting:
         sys.stdout.buffer.write(piece.result())
-
 
 if __name__ == "__main__":
     if not 3 <= len(sys.argv) <= 5:

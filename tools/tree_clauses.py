@@ -1,5 +1,5 @@
-"""What goes through C++'s trees by their arguments alone: from the rows of cpp_trees.py to the clauses of definitions and laws. Where the
-table has a clause of a tree's own, that is the clause."""
+"""What goes through C++'s trees by their arguments alone: from the rows of cpp_trees.py, and from cpp_folds.txt, to the clauses of
+definitions and laws. Where the table has a clause of a tree's own, that is the clause."""
 import re
 
 import cpp_trees
@@ -8,7 +8,7 @@ from cpp_trees import (
     named,
 )
 from files import columns, sections
-from notation import alone_or, applied, braced, rewritten
+from notation import alone_or, applied, braced, rewritten, together
 from sameness import equal_clause, itself, same_clause
 
 SUBTREES = (OWN, OUTSIDE, INSIDE, SIGNATURE, TREE, PIECE)
@@ -43,38 +43,67 @@ def carried(lines):
     """The same for trees whose parameters carry their arguments."""
     return [line.replace("(parameter k)", "(parameter k argument)") for line in lines]
 
-# ## Trees
+# ## Trees by what is computed of their subtrees
 
-def fold(function, before, joined, none, over=SUBTREES, closed=None, trees=TREES, crate=""):
-    """What is computed of the subtrees, joined; `closed` replaces `before` at trees under a scope of their own."""
-    def right(tree):
-        parts = [applied(function, [*(before if closed is None or sort not in APART else closed), name])
-                 for name, sort in arguments(tree, *over)]
-        return joined(parts) if parts else None
-    return cases(function, before, [], right, none, trees, crate)
+def again(tree, parts, said):
+    """The tree again, of what is made of its subtrees."""
+    return applied(said.get("made", "") + tree[0], [f"({parts[name]})" if name in parts else name for name, _ in tree[1:]])
 
-def joined_by(lemma, of=None, then=None):
-    """Facts are joined by a lemma, which may take what is computed of the subtree of each, and then another fact."""
+def equal(tree, facts, said):
+    """That a tree is another one, since its subtrees are: the constructor over the facts of these."""
+    of = dict(zip(facts, said.get("letters", "xy")))
+    given = [of.get(name) or (f"({said['apart']} {name})" if "apart" in said and sort in APART else name) for name, sort in tree[1:]]
+    letters = list(of.values())
+    while "reduced" in said and letters and given[-1] == letters[-1]:
+        given, letters = given[:-1], letters[:-1]
+    own = applied(said.get("made", "") + tree[0], given)
+    constructor = f"(λ {' '.join(letters)}. {own})" if letters else braced(own)
+    return applied("ap" if len(facts) == 1 else "both", [constructor, *(f"({fact})" for fact in facts.values())])
+
+# how what is computed of subtrees is joined to what is said of the tree; and how facts are
+OF_TREES = {"again": again, "equal": equal}
+JOINED = {"rewritten": rewritten, "rewritten alone": lambda facts: alone_or(facts, rewritten), "together": together}
+
+def joined_by(text):
+    """How facts are joined, by a text of a table: in a way of its own, with a text between them, or by a lemma."""
+    if text in JOINED:
+        return JOINED[text]
+    if "{" in text:
+        return lambda facts: re.sub(r"{(.*)}", lambda hole: hole[1].join(facts), text)
+    lemma, of, then = re.fullmatch(r"by (.*?)(?: of (\S+))?(?: then (.*))?", text).groups()
     def joined(facts):
         computed = [f"({of} {fact.split()[-1]})" for fact in facts] if of else []
         return " ".join(filter(None, [lemma, *computed, then, *(f"({fact})" for fact in facts)]))
     return lambda facts: alone_or(facts, joined)
 
-def rebuilt(function, before, closed):
-    """The tree again, of what is made of its subtrees."""
-    def part(name, sort):
-        return f"({applied(function, [*(closed if sort in (OWN, OUTSIDE) else before), name])})" if sort in SUBTREES else name
-    return cases(function, before, [], lambda tree: applied("term_." + tree[0], [part(*argument) for argument in tree[1:]]))
+def computed(function, before, tree, said):
+    """What is computed of each subtree, by its name."""
+    subtrees, closed = names(tree, *(SCOPED if "scoped" in said else SUBTREES)), said.get("closed", before)
+    given = {**dict.fromkeys(APART, closed), SIGNATURE: said.get("signature", closed)}
+    facts = said["halves"].split("; ") if "halves" in said and len(subtrees) > 1 else [said.get("after", "")] * len(subtrees)
+    return {name: " ".join(filter(None, [function, given.get(dict(tree[1:])[name], before), name, fact.format(*subtrees)]))
+            for name, fact in zip(subtrees, facts)}
 
-def of_subtrees(tree, constructor, fact, over=SCOPED, letters="xy", given=lambda name, sort: name):
-    """That a tree is another one, since its subtrees are: the constructor over the facts of these."""
-    subtrees = arguments(tree, *over)
-    if not subtrees:
-        return None
-    of = dict(zip((name for name, sort in subtrees), letters))
-    body = applied(constructor, [of.get(name) or given(name, sort) for name, sort in tree[1:]])
-    facts = [f"(λ {' '.join(of.values())}. {body})", *[fact(name, sort) for name, sort in subtrees]]
-    return applied("ap" if len(subtrees) == 1 else "both", facts)
+def fold(function, before, joined, none, said):
+    """A clause for each tree, by a row of cpp_folds.txt."""
+    def right(tree):
+        if "of" in said:
+            return joined if tree[0] in {"components": COMPONENTS, "encodings": ENCODINGS}[said["of"]] else None
+        parts = computed(function, before, tree, said)
+        if not parts and "all" not in said:
+            return None
+        return OF_TREES[joined](tree, parts, said) if joined in OF_TREES else joined_by(joined)(list(parts.values()))
+    trees = {"own": TREES, "scopes": named(SCOPES, ["parameter"]), "pressed": named(PRESSED), "first": named({("list", "e"): "first"})}
+    lines = cases(function, before.split(), said.get("after", "").split(), right, none or None, trees[said.get("names", "own")],
+                  said.get("crate", ""))
+    return [*(carried(lines) if "carried" in said else lines), *([said["rest"]] if "rest" in said else [])]
+
+def folds():
+    """The path and the name of each fold, and the lines."""
+    for line, below in sections("cpp_folds.txt"):
+        path, name, before, joined, none, *words = columns(line)
+        said = dict(word.partition(" ")[::2] for word in [*words, *(word for word, _ in below)])
+        yield path, name, fold(name, before, joined, none, said)
 
 # ## Sameness
 
@@ -102,58 +131,11 @@ def tree_itself():
         return f"eq-eqb {name} {name} refl" if sort == NUMBER else f"{SAME[sort]}-itself {name}"
     return cases("tree-itself", [], [], lambda tree: itself([fact(*argument) for argument in tree[1:]]))
 
-# ## Trees with their arguments
+# ## Laws of their own
 
-def erased():
-    """That the annotated tree without its arguments is the tree."""
-    def fact(name, sort):
-        return f"(erased {'nowhere' if sort in (OWN, OUTSIDE) else 'in_own' if sort == SIGNATURE else 's'} {name})"
-    return cases("erased", ["s"], [], lambda tree: of_subtrees(tree, tree[0], fact, SUBTREES, "ab"), "refl")
-
-def weight_grows():
-    """That a tree weighs no less where its parameters do."""
-    def right(tree):
-        parts = [f"weight_grows a b scope {name} h" for name in names(tree, *SCOPED)]
-        return f"omega ({', '.join(['arith', *parts])})" if parts else None
-    return cases("weight_grows", ["a", "b", "scope"], ["h"], right, "omega arith")
-
-def applied_to_scoped(tree):
-    """A constructor as a function of those of its arguments that are under its scope."""
-    given = [name if sort not in (OWN, OUTSIDE) else f"(annotate nowhere {name})" for name, sort in tree[1:]]
-    scoped = [sort in SCOPED for _, sort in tree[1:]]
-    first = scoped.index(True)
-    front, behind = given[:first], [name for name, is_scoped in zip(given[first + 1:], scoped[first + 1:]) if not is_scoped]
-    if behind:
-        return f"(λ x. {applied('term_.' + tree[0], [*front, 'x', *behind])})"
-    return braced(applied("term_." + tree[0], front))
-
-# the first of a list by another name than that of a fact
-FIRST = named({("list", "e"): "first"})
-
-def open_half(i, a, b):
-    """The fact that one of two subtrees isn't open."""
-    return f"({('or_left', 'or_right')[i]} (is_open {a}) (is_open {b}) e)"
-
-def free_half(i, a, b):
-    """The fact of what is free in one of two subtrees."""
-    return f"(names_both r a (free_in {a}) (free_in {b}) e).{i}"
-
-def closed_noted(function="closed_noted", before=("s", "r"), half=open_half):
-    """A law of annotated trees by those of their subtrees, and what is known of their free parameters."""
-    def right(tree):
-        subtrees = names(tree, *SCOPED)
-        if not subtrees:
-            return None
-        facts = ["e"] if len(subtrees) == 1 else [half(i, *subtrees) for i in (0, 1)]
-        laws = [f"({applied(function, [*before, name, fact])})" for name, fact in zip(subtrees, facts)]
-        return applied("ap" if len(subtrees) == 1 else "both", [applied_to_scoped(tree), *laws])
-    return cases(function, list(before), ["e"], right, "refl", FIRST)
-
-def never_open(name, subtrees):
-    """The fact that a subtree isn't open, from that of the tree."""
-    if len(subtrees) == 1:
-        return "closed"
-    return f"({'or_left' if name == subtrees[0] else 'or_right'} {' '.join(f'(is_open {n})' for n in subtrees)} closed)"
+def shut_parts(subtrees):
+    """The facts that subtrees are closed, as one."""
+    return f"(or_parts {' '.join(f'(is_open {name})' for name in subtrees)} closed)"
 
 def closed_packs():
     """That a closed tree names no packs."""
@@ -161,9 +143,8 @@ def closed_packs():
         subtrees = names(tree, *SCOPED)
         if len(subtrees) < 2:
             return f"closed-packs scope {subtrees[0]} closed" if subtrees else None
-        tests = " ".join(f"(is_open {name})" for name in subtrees)
-        laws = [f"(closed-packs scope {name} (or_parts {tests} closed).{i})" for i, name in enumerate(subtrees)]
-        return "\n    " + "\n    ".join([" ".join(["first-none", *(f"(pack_length scope {name})" for name in subtrees), laws[0]]), laws[1]])
+        first, second = (f"(closed-packs scope {name} {shut_parts(subtrees)}.{i})" for i, name in enumerate(subtrees))
+        return "\n    " + " ".join(["first-none", *(f"(pack_length scope {name})" for name in subtrees), first]) + f"\n    {second}"
     return cases("closed-packs", ["scope"], ["closed"], right, "refl", named(PRESSED))
 
 def reads():
@@ -184,22 +165,18 @@ def itself_as(tree, name):
 
 def inside_shut():
     """That what is inside a closed tree is closed."""
-    def right(name, kind, closed, fact):
-        below = f"inside-shut {name} x {closed}"
-        return f"{kind.lower()}-shut {name} x (Inside {name} x) {closed} ({below}) {fact}" if kind else f"{below} {fact}"
+    def right(tree, name, closed):
+        kind, below = itself_as(tree, name), f"inside-shut {name} x {closed}"
+        return f"{kind.lower()}-shut {name} x (Inside {name} x) {closed} ({below}) i" if kind else f"{below} i"
     lines = []
     for tree in named(PRESSED):
         subtrees, left = names(tree, *SUBTREES), f"inside-shut {pattern(tree)} x closed"
-        kinds = [itself_as(tree, name) for name in subtrees]
         lines += CASES["inside-shut"].get(tree[0], [])
-        if not subtrees or names(tree, *APART):
-            continue
-        if len(subtrees) == 1:
-            lines.append(f"{left} i = {right(subtrees[0], kinds[0], 'closed', 'i')}")
-        else:
-            tests = " ".join(f"(is_open {name})" for name in subtrees)
-            lines += [f"{left} ({side} i) =\n    {right(name, kind, f'(or_parts {tests} closed).{i}', 'i')}"
-                      for i, (name, kind, side) in enumerate(zip(subtrees, kinds, ("inl", "inr")))]
+        if len(subtrees) == 1 and not names(tree, *APART):
+            lines.append(f"{left} i = {right(tree, subtrees[0], 'closed')}")
+        elif subtrees and not names(tree, *APART):
+            lines += [f"{left} ({side} i) =\n    {right(tree, name, f'{shut_parts(subtrees)}.{i}')}"
+                      for i, (name, side) in enumerate(zip(subtrees, ("inl", "inr")))]
     return [*lines, "inside-shut _ x closed i = first_of (assumption i, search i)"]
 
 def inside():
@@ -213,72 +190,11 @@ def inside():
         return " ⊎ ".join(part(tree, *argument) for argument in arguments(tree, *SUBTREES)) or None
     return cases("Inside", [], ["x"], right, "⊥", named(PRESSED))
 
-# ## Trees whose free parameters carry another argument
-
-def reargued():
-    """The tree again, with another argument wherever a parameter is free."""
-    def right(tree):
-        given = [f"(reargued c {name})" if sort in SCOPED else name for name, sort in tree[1:]]
-        return applied(tree[0], given) if names(tree, *SCOPED) else None
-    return [*carried(cases("reargued", ["c"], [], right)), "reargued c t = t"]
-
-def made_again(function, before, after=(), made="", given=lambda name, sort: name):
-    """A law of each tree by those of its subtrees: both sides are the tree, of other subtrees."""
-    def right(tree):
-        def fact(name, sort):
-            return f"({applied(function, [*before, name, *[never_open(name, names(tree, *SCOPED)) for _ in after]])})"
-        return of_subtrees(tree, made + tree[0], fact, given=given)
-    return carried(cases(function, before, list(after), right, "refl"))
-
 # ## Declarations
-
-def joining(text):
-    """How parts are joined, by a text of cpp_folds.txt."""
-    word, _, rest = text.partition(" ")
-    if word == "by":
-        lemma, of, then = re.fullmatch(r"(.*?)(?: of (\S+))?(?: then (.*))?", rest).groups()
-        return joined_by(lemma, of, then)
-    if text == "rewritten":
-        return lambda parts: alone_or(parts, rewritten)
-    if text == "suc":
-        return lambda parts: f"suc ({' + '.join(parts)})"
-    return (lambda parts: " + ".join([rest, *parts])) if word == "sum" else text.strip('"').join
-
-def folds():
-    """Those that are folds of trees: path, name, and the lines."""
-    named_in = {"scopes": named(SCOPES, ["parameter"]), "pressed": named(PRESSED), "first": FIRST}
-    for path, name, before, joined, none, *words in (columns(line) for line, _ in sections("cpp_folds.txt")):
-        said = {word.split(" ", 1)[0]: word.split(" ")[1:] for word in words}
-        lines = fold(name, before.split(), joining(joined), none, over=SCOPED if "scoped" in said else SUBTREES, closed=said.get("closed"),
-                     trees=named_in[said["names"][0]] if "names" in said else TREES, crate="".join(said.get("crate", [])))
-        yield path, name, carried(lines) if "carried" in said else lines
-
-def markings():
-    """Those that have a value for some trees, and another for the others."""
-    for path, name, marked, value, others, after in (
-            ("specs/Pressing", "is_component", COMPONENTS, "true", "false", []),
-            ("specs/Pressing", "is_encoding", ENCODINGS, "true", "false", []),
-            ("proofs/Components/Parts", "IsComponent", COMPONENTS, "Unit {0}", "⊥", []),
-            ("proofs/Components/Parts", "PrefixOr", ENCODINGS, "⊥", None, ["inside", "x"])):
-        lines = cases(name, [], after, lambda tree: value if tree[0] in marked else None, others, named(PRESSED))
-        yield f"cpp_press_laws/{path}.antt", name, lines + (["PrefixOr t inside x = ItselfOr t inside x"] if after else [])
 
 def declarations():
     """The path and the name of each declaration, and the lines of its clauses."""
     yield from folds()
-    yield from markings()
-    yield "cpp_grammar/proofs/RanksFall.antt", "weight_grows", weight_grows()
-    yield "cpp_term/specs/Erased.antt", "erase", carried(rebuilt("erase", [], []))
-    yield "cpp_term/specs/Annotated.antt", "annotate", rebuilt("annotate", ["s"], ["nowhere"])
-    yield "cpp_term/specs/Reargued.antt", "reargued", reargued()
-    yield "cpp_term/proofs/Erasing.antt", "erased", erased()
-    yield "cpp_term/proofs/Notes.antt", "closed_noted", closed_noted()
-    yield "cpp_term/proofs/Notes.antt", "renoted", closed_noted("renoted", ["r", "s", "a"], free_half)
-    # another argument in free parameters is erased with the others
-    erased_again = {"made": "term_.", "given": lambda name, sort: f"(erase {name})" if sort in APART else name}
-    for name, before, after, how in (("reargued_none", [], [], {}), ("reargued_twice", ["c", "a"], [], {}),
-                                     ("reargued_closed", ["c"], ["closed"], {}), ("erase_reargued", ["c"], [], erased_again)):
-        yield "cpp_term/proofs/Reargued.antt", name, made_again(name, before, after, **how)
     laws = {"specs/Same": {"same_tree": same_tree}, "proofs/Components/Sameness": {"equal-tree": equal_tree, "tree-itself": tree_itself},
             "proofs/Components/Parts": {"Inside": inside}, "proofs/Components/Complete": {"inside-shut": inside_shut},
             "proofs/EveryWay/Law": {"reads": reads}, "proofs/Fits/Packs": {"closed-packs": closed_packs}}

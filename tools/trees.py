@@ -17,17 +17,17 @@ from files import read
 from node_code import nodes
 from notation import snake
 from rules import WITH_CODE_BEFORE, families
-from splicing import WRITTEN, extended, rewritten, with_arms, with_constants, with_declarations, with_imports, with_requires
+from splicing import WRITTEN, rewritten, with_arms, with_constants, with_declarations, with_imports, with_requires
 
 LINKED = "cpp_link/proofs/linked/Linked"
-NOTED = "cpp_term/proofs/MeaningNoted.antt"
-SHOWN = "cpp_layout/proofs/symbol/Symbol/{0}/Answers.antt"
 
 def arms_by_production():
     """Path, function, and the arms of its match that are written."""
     common, before = families()["Common"], [name for name in families()["Common"] if name in WITH_CODE_BEFORE]
     yield "cpp_link/src/finish.rt", "finish_rule", list(clauses.arms("finish_as", common))
     yield "cpp_link/src/between.rt", "before_by_step", list(clauses.arms("before_as", before))
+    plain = [name for name in before if name != "Encoding"]
+    yield "cpp_link/src/wide_language.rt", "between_by_step", list(clauses.arms_within("linked", "before_as", plain))
     yield "cpp_link/src/families.rt", "family_of", clauses.family_code()
     yield "cpp_tree/src/node.rt", "Node", list(node_code.variants())
     encodings = [f"            Node::{node.name} {{ .. }} => true," for node in nodes() if node.tree in cpp_trees.ENCODINGS]
@@ -43,8 +43,7 @@ def whole_files(crates):
     """The files of which all is written, by their paths in the folder of the crates, and their texts."""
     rare = {family: productions for family, productions in families().items() if family != "Common"}
     return {
-        "cpp_link/specs/Families.antt": clauses.family_specs(),
-        "cpp_link/proofs/FamilyArms.antt": clauses.family_laws(),
+        **dict([clauses.family_specs(), clauses.family_laws()]),
         **{f"{LINKED}/outcome_of_{snake(family)}/Answers.antt": clauses.family_answers(family, own) for family, own in rare.items()},
         **{path: f"-- {WRITTEN}\n{text}" for path, text in step_code.answers()},
         **{f"{LINKED}/{function}/Answers.antt": text for function, text in clauses.common_answers()},
@@ -52,44 +51,30 @@ def whole_files(crates):
         "cpp_tree/proofs/view/view_of_own/Answers.antt": node_code.seen_answers(),
     }
 
-def lemmas():
-    """Runs of lemmas, each with its path, that are beside others by hand."""
-    for names, *of in ((clauses.READ_OF_VALUES, "value_", "Value", "part", "noted_value", "noted_values", "part_noted",
-                        "(leaf_.tree t listed)", "pub "),
-                       (clauses.READ_OF_ARGUMENTS, "builder_", "Argument", "argument", "noted_argument", "noted_arguments",
-                        "argument_noted", "(a_tree x)", "")):
-        yield NOTED, list(clauses.read_noted(names, *of))
-    yield from ((path, ["\n".join(lines)]) for path, lines in spellings.lemmas(named(PRESSED)))
-
 def declarations(crates):
     """The path and the name of each declaration that is written whole, and the lines of its clauses."""
     yield from tree_clauses.declarations()
     yield from node_clauses.declarations()
     yield from clauses.declarations(crates)
     yield from payments.declarations(crates)
+    yield from spellings.declarations(named(PRESSED))
+    yield "cpp_link/proofs/CandidatesFlow.antt", "flows", step_code.flows()
 
 def edits(crates):
     """What is written into files by hand: the path of each, how its text changes, and by what."""
     yield from ((path, rewritten, [name, lines]) for path, name, lines in declarations(crates))
     yield from splicing.wrapper_edits()
-    types = {node.name: [node_clauses.TYPES[sort][0] for _, sort in node.arguments] for node in nodes()}
-    others, answers, whole, matched = layouts.files(crates, types)
-    yield "cpp_layout/proofs/Others.antt", lambda text: others, []
-    yield from ((SHOWN.format(function), with_declarations, [["\n".join(lines)]]) for function, shown in answers.items() for lines in shown)
-    yield from ((SHOWN.format(function), lambda text, own: own, [own]) for function, own in whole.items())
-    yield from ((path, with_declarations, [owns]) for path, owns in lemmas())
-    for name, functions in (("IsNoName", layouts.LEFT[:1]), ("IsNoType", layouts.LEFT[:2])):
-        yield "cpp_layout/specs/Layout.antt", rewritten, [name, node_clauses.by_nodes(name, matched, functions)]
-    yield from ((path, extended, [name, lines]) for path, name, lines in spellings.declarations(named(PRESSED)))
-    yield "cpp_link/proofs/CandidatesFlow.antt", extended, ["flows", step_code.flows()]
+    yield from layouts.edits(crates)
+    yield "cpp_term/proofs/MeaningNoted.antt", with_declarations, [list(clauses.read_noted())]
+    yield from ((path, with_declarations, [["\n".join(lines)]]) for path, lines in spellings.lemmas(named(PRESSED)))
     yield from ((path, with_requires, [function, lines]) for path, function, lines in step_code.asked())
     yield from ((path, with_arms, [function, lines]) for path, function, lines in arms_by_production())
 
 def files(crates):
-    """The files that are written, or have declarations that are, by their paths in the folder of the crates, and their texts."""
+    """The files that are written, or have declarations that are: their paths in the folder of the crates, and their texts."""
     texts = whole_files(crates)
     for path, edit, given in edits(crates):
         texts[path] = edit(texts.get(path) or read(f"{crates}/{path}"), *given)
     constants = re.findall(r"^pub const (\w+)", texts[splicing.NUMBERS], re.M)
     texts["cpp_tree/src/view.rt"] = with_constants(texts["cpp_tree/src/view.rt"], constants)
-    return {path: with_imports(text, constants) if path.endswith(".antt") else text for path, text in texts.items()}
+    return [(path, with_imports(text, constants) if path.endswith(".antt") else text) for path, text in texts.items()]

@@ -1,6 +1,6 @@
-/* Calls in the handler of a fault, on an alternate stack, of a program whose malloc aborts; then with blocks that are too small.
-   It prints the texts of the symbols, and says on standard error what they took of the block. Compiled with -DUSUAL it makes
-   the same calls over the usual library, without any of this, so that both can be compared.
+/* Makes calls in the handler of a fault, on an alternate stack, in a program whose malloc aborts; then calls with blocks that are too
+   small. It prints the texts of the symbols, and says on standard error how much of the block they took. Compiled with -DUSUAL it
+   makes the same calls over the usual library, without a handler and a block, so that both can be compared.
 
      arena FILE SIZE       the symbols of a file, one a line, in a block of SIZE bytes
      arena FILE            the same in 128 KiB, and then the calls in blocks of each size */
@@ -84,7 +84,7 @@ static void each_text(void)
 }
 
 #ifndef USUAL
-/* Names whose texts are written while they are read, and others, which are read into rows and nodes first. */
+/* Names whose texts are written while the names are read, and names that are read into rows and nodes first. */
 static const struct name {
     const char *symbol;
     uint32_t limit, flags;
@@ -127,8 +127,8 @@ static uint32_t one_call(int call, symdemangle_result *result)
     }
 }
 
-/* The calls of the header in a block of each size: all that happens for want of memory is status 5, and no larger block is refused
-   what a smaller one answers. */
+/* The calls of the header in a block of each size. Lack of memory has no other effect than status 5, and what a smaller block
+   answers isn't refused in a larger one. */
 static void small_blocks(void)
 {
     for (int call = 0; call < CALLS; call++) {

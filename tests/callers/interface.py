@@ -1,11 +1,11 @@
 #!/usr/bin/env python3
-"""The interface of the C library as the header declares it, one thing a line: versions, numbers, sizes and offsets, signatures, and
-what the shared library exports.
+"""Prints or compares the interface of the C library as the header declares it, one thing a line: versions, numbers, sizes and offsets,
+signatures, and what the shared library exports.
 
     tests/callers/interface.py HEADER LIBRARY           prints it
-    tests/callers/interface.py HEADER LIBRARY LIST      names what differs from a list of it; the status is 1 where something does
+    tests/callers/interface.py HEADER LIBRARY LIST      names what differs from LIST; the status is 1 where something differs
 
-A change of the list is a change that callers see: it belongs into CHANGELOG.md, and into the version.
+Callers see each change of LIST: it belongs into CHANGELOG.md, and into the version.
 """
 
 import os
@@ -38,7 +38,7 @@ def signatures(header):
 
 
 def numbers(header):
-    """Each number that the header names, and how the types lie in memory."""
+    """Each number that the header names, and the layout of the types in memory."""
     with open(header, encoding="utf-8") as file:
         names = re.findall(r"^ +(SYMDEMANGLE_\w+) = \d+", file.read(), re.M)
     names += ["SYMDEMANGLE_VERSION", "SYMDEMANGLE_DEFAULT_LIMIT"]
@@ -57,7 +57,7 @@ def numbers(header):
 
 
 def exports(library):
-    """What the shared library is called, and each name that it has for others."""
+    """The name of the shared library, and each name that it exports."""
     name = re.search(r"SONAME +(\S+)", run("objdump", "-p", library))[1]
     return [f"soname {name}"] + sorted(f"export {line.split()[-1]}" for line in run("nm", "-D", "--defined-only", library).splitlines())
 

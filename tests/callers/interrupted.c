@@ -1,5 +1,5 @@
-/* Calls from the handler of a timer, in a block of its own, in the middle of the main program's calls: their answers are the same
-   as without the timer. It prints a sum over all of them: interrupted FILE [TICKS]. */
+/* Makes calls from the handler of a timer, in a block of its own, in the middle of the main program's calls. All answers have to be the
+   same as without the timer. It prints a sum over all answers: interrupted FILE [TICKS]. */
 #include "symdemangle.h"
 #include "symdemangle_arena.h"
 

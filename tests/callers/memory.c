@@ -1,11 +1,11 @@
-/* How many bytes of memory calls hold at once, counted by a malloc of the test's own over the C library's; with -DARENA how many of a
-   lent block.
+/* Measures how many bytes of memory calls hold at once, by a malloc of the test's own over the C library's; with -DARENA, how many
+   bytes of a lent block they hold.
 
-   A long name takes at most FOR_A_BYTE bytes for each of its bytes, and PRESSED where it is pressed. A list that grows is held
-   beside the longer one that it is copied to, so a name of a few bytes more than a power of two takes most.
+   A long name takes at most FOR_A_BYTE bytes for each of its bytes, and PRESSED where it is pressed. While a list grows, it is
+   held beside the longer list to which it is copied, so a name of a few bytes more than a power of two takes most.
 
-   symdemangle_filter holds the buffer's bytes and what one word needs, and not the text: the log has 1,000 times a symbol of 150
-   bytes whose text has 524,228, and the buffer 100 bytes. */
+   symdemangle_filter holds the buffer's bytes and what one word needs, and not the text. The log has 1,000 times a symbol of 150
+   bytes whose text has 524,228 bytes, and the buffer has 100 bytes. */
 #include "symdemangle.h"
 #ifdef ARENA
 #include "symdemangle_arena.h"
@@ -19,7 +19,7 @@ extern void *__libc_malloc(size_t size);
 extern void *__libc_realloc(void *old, size_t size);
 extern void __libc_free(void *old);
 
-/* What is before each block: its size. */
+/* Before each block is its size. */
 enum { HEAD = 16 };
 
 static size_t held, most;

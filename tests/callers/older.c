@@ -1,5 +1,5 @@
-/* A library that is older than its callers: it knows no flag from SYMDEMANGLE_WITHIN on. Each call is forwarded to that of the library
-   under test, whose name begins later_ (objcopy --redefine-sym). */
+/* A library that is older than its callers: it knows no flag from SYMDEMANGLE_WITHIN on. Each call is forwarded to the same call of the
+   library under test, whose name begins with later_ (objcopy --redefine-sym). */
 #include "symdemangle.h"
 
 enum { KNOWN = SYMDEMANGLE_WITHIN - 1 };

@@ -1,7 +1,7 @@
-// A program of Rust that knows `rustc_demangle` only by its C declaration, as rust-lang's rustc-demangle-capi has it: 1 with a text
-// and a 0 byte after it in `out`, 0 where the name isn't one of Rust's or the text has no room.
+// A Rust program that knows `rustc_demangle` only by its C declaration in rust-lang's rustc-demangle-capi. The call answers 1, with a text
+// and a 0 byte in `out`; it answers 0 where the name isn't one of Rust's or the text has no room.
 //
-//   rustc_demangle          holds the call to that
+//   rustc_demangle          tests that the call does so
 //   rustc_demangle names    prints the text of each name of standard input, or the name
 //   rustc_demangle work     takes half a second in a function whose name a profiler shows
 use std::ffi::{CStr, CString, c_char, c_int};
@@ -20,7 +20,7 @@ fn text_of(name: &str, size: usize) -> Option<String> {
     let mut out = vec![b'!'; size + 1];
     // SAFETY: both pointers are valid for what the call reads and writes.
     let answer = unsafe { rustc_demangle(name.as_ptr(), out.as_mut_ptr().cast(), size) };
-    assert_eq!(out[size], b'!', "written behind the room");
+    assert_eq!(out[size], b'!', "written past the room");
     match answer {
         0 => None,
         1 => Some(CStr::from_bytes_until_nul(&out).unwrap().to_str().unwrap().to_owned()),

@@ -1,6 +1,6 @@
-/* How much of the stack each call uses over each symbol of a file, and over hostile ones: less than symdemangle.h says. A call runs
-   in a thread whose stack is filled before with a byte, and what isn't that byte afterwards was used; what a thread uses that calls
-   nothing is taken off. */
+/* Tests that over each symbol of a file, and over hostile symbols, each call uses less of the stack than symdemangle.h says. A call
+   runs in a thread whose stack was filled with one byte; the call used the places that have other bytes afterwards. What a thread uses
+   that calls nothing is subtracted. */
 #include "symdemangle.h"
 
 #include <pthread.h>

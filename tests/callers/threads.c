@@ -1,5 +1,5 @@
-/* Eight threads that make the same calls at once, over the usual library or, with -DARENA, each in a block of its own: all sums
-   are equal. threads FILE */
+/* Eight threads make the same calls at once, over the usual library or, with -DARENA, each in a block of its own. The sums of all
+   threads have to be equal. threads FILE */
 #include "symdemangle.h"
 #ifdef ARENA
 #include "symdemangle_arena.h"

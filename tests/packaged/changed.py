@@ -1,7 +1,7 @@
 #!/usr/bin/env python3
-"""Changes an answer of a library, its C file or its WebAssembly module, in place: changed.py FILE
+"""Changes an answer of a library, in place, in the library's C file or WebAssembly module: changed.py FILE
 
-`char` becomes `chor` in each text of it."""
+`char` becomes `chor` in each text of the file."""
 import re
 import sys
 

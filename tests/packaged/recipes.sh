@@ -1,9 +1,10 @@
 #!/bin/bash
-# The recipes of dist/packaging, over a folder that tools/portable/make.sh made: tests/packaged/recipes.sh DIST WORK
+# Tests the recipes of dist/packaging over a folder that tools/portable/make.sh made: tests/packaged/recipes.sh DIST WORK
 #
-# Debian's source package and what it builds are made and looked at by lintian, vcpkg's is built only by CMake, nix's by nix with a stand-in
-# for nixpkgs (stdenv.nix); those of conda and Homebrew are read. FULL=yes in the environment has Debian's optimised and its tests run, as a
-# release does. What isn't installed is named and left out.
+# Debian's source package and the packages that it builds are made, and lintian checks them. The recipe of vcpkg is built only by CMake, and
+# that of nix by nix with a stand-in for nixpkgs (stdenv.nix). The recipes of conda and Homebrew are only read. With FULL=yes in the
+# environment Debian's packages are optimised and their tests run, as for a release. A tool that isn't installed is named, and its recipe is
+# left out.
 set -euo pipefail
 cd "$(dirname "$0")/../.."
 dist=$(realpath "$1")
@@ -14,11 +15,11 @@ recipes=dist/packaging
 has() { # has PROGRAM WHAT : whether a program is installed
     command -v "$1" >/dev/null || { echo "$1 isn't installed: $2 isn't tested"; return 1; }
 }
-quiet() { # quiet COMMAND.. : what it prints is shown where it fails
+quiet() { # quiet COMMAND.. : shows what the command prints, if the command fails
     "$@" >"$work/out" 2>&1 || { tail -n 40 "$work/out"; return 1; }
 }
 
-# One version in every place that tells one.
+# Each place that has a version has the same one.
 version=$(sed -n 's/^#define SYMDEMANGLE_VERSION_[A-Z]* \([0-9]*\)$/\1/p' callers/c/symdemangle.h | paste -sd .)
 for line in "debian/changelog:symdemangle ($version-1)" "conda/meta.yaml:version: \"$version\"" "homebrew/symdemangle.rb:symdemangle-c-$version.tar" \
     "nix/default.nix:version = \"$version\"" "vcpkg/vcpkg.json:\"version\": \"$version\"" "../../callers/npm/package.json:\"version\": \"$version\""; do
@@ -40,7 +41,7 @@ cp -r $recipes "$source/packaging"
 ! has cmake "vcpkg's recipe" || quiet cmake "-DDIST=$source" "-DOUT=$work/vcpkg" -P tests/packaged/vcpkg.cmake
 
 if has nix-build "nix's recipe"; then
-    # a store of its own, which is removed
+    # nix uses a store of this test's own, which is removed afterwards
     (
         export NIX_STORE_DIR=$work/nix/store NIX_STATE_DIR=$work/nix/state NIX_LOG_DIR=$work/nix/log NIX_CONF_DIR=$work/nix NIX_REMOTE='' HOME=$work/nix
         mkdir -p "$HOME"
@@ -51,7 +52,7 @@ if has nix-build "nix's recipe"; then
     chmod -R u+w "$work/nix" && rm -rf "$work/nix"
 fi
 if has dpkg-buildpackage "Debian's recipe" && has dh "Debian's recipe"; then
-    # what is released as symdemangle-c-VERSION.tar.gz
+    # this is what is released as symdemangle-c-VERSION.tar.gz
     tar -C "$work" --sort=name -czf "$work/symdemangle_$version.orig.tar.gz" "symdemangle-$version"
     cp -r $recipes/debian "$source/debian"
     (cd "$source" && DEB_BUILD_OPTIONS="parallel=$(nproc)${FULL:- nocheck noopt}" quiet dpkg-buildpackage -us -uc)

@@ -1,4 +1,4 @@
-# As much of nixpkgs as the recipe of dist/packaging/nix asks for, over this machine's compiler and make: there is no channel of nix here.
+# The part of nixpkgs that the recipe of dist/packaging/nix needs, over this machine's compiler and make. The test has no channel of nix.
 { recipe, path }:
 
 let

@@ -1,6 +1,6 @@
-# Runs vcpkg's recipe with CMake alone: cmake -DDIST=.. -DOUT=.. -P vcpkg.cmake
+# Runs vcpkg's recipe with CMake only: cmake -DDIST=.. -DOUT=.. -P vcpkg.cmake
 #
-# The calls of vcpkg that the recipe makes are below, as far as it uses them.
+# Below are the functions of vcpkg that the recipe calls, as far as it uses them.
 set(CURRENT_PACKAGES_DIR "${OUT}/package")
 set(CURRENT_BUILDTREES_DIR "${OUT}/build")
 

@@ -1,5 +1,5 @@
-// What LLVM's partial demangler says of each name of standard input, one name a line: its base, scope, parameters and return type,
-// with tabs between; an empty line for a name that isn't a function to it.
+// Prints what LLVM's partial demangler says of each name of standard input, one name a line: its base, scope, parameters and return type,
+// separated by tabs. The line is empty for a name that the partial demangler doesn't read as a function.
 #include <cstdio>
 #include <cstdlib>
 #include <iostream>
@@ -11,7 +11,7 @@ namespace {
 
 using Part = char *(llvm::ItaniumPartialDemangler::*)(char *, size_t *) const;
 
-// A part that isn't there is a null pointer.
+// An absent part is a null pointer.
 void put(const llvm::ItaniumPartialDemangler &name, Part part) {
     size_t capacity = 0;
     char *text = (name.*part)(nullptr, &capacity);

@@ -1,5 +1,5 @@
-/* names SETS < NAMES : what each name, a line, is answered by the calls for a text, a count and a pressed spelling, with each sum of
-   flags below SETS: status, place, text, counts. Two builds of it that print the same answer the same. */
+/* names SETS < NAMES : prints what the calls for a text, a count and a pressed spelling answer for each name, one name a line, with each
+   sum of flags below SETS: status, place, text, counts. Two builds of it that print the same have the same answers. */
 #include <stdio.h>
 #include <stdlib.h>
 #include <string.h>

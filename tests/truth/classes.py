@@ -1,4 +1,4 @@
-"""The classes of what differs for a known reason: each has a rule over the symbol, its text and what debug information says."""
+"""The classes of differences with a known reason. Each class has a rule over the symbol, its text and what debug information says."""
 import re
 
 from .matching import matches
@@ -6,7 +6,7 @@ from .texts import ANYTHING, MORE, OPENING, QUALIFIERS, begin_of_name, partners_
 
 
 def is_of_template(case):
-    """Whether a text is a function template's: it has arguments at the end of its name, or what the function returns."""
+    """Whether a text is a function template's: it has arguments at the end of its name, or a return type."""
     return bool(case.shown) and bool(case.shown.result or case.shown.name[-1] == ">")
 
 
@@ -42,7 +42,7 @@ def with_gaps(tokens):
 
 def depends(case, difference):
     """A function template's symbol has its types as they are declared: a member of an instance (`iterator_traits<T>::value_type`),
-    `decltype(..)`, `auto`. Debug information has the types that these are. What is around them has to be the same."""
+    `decltype(..)`, `auto`. Debug information has the types that these denote. What is around them has to be the same."""
     if not is_of_template(case) or difference.part not in ("type", "result") and "operator" not in case.shown.name:
         return False
     shown = with_gaps(tokens_of(difference.shown))
@@ -50,8 +50,8 @@ def depends(case, difference):
 
 
 def is_alias(case, difference):
-    """A member of an alias template (`__iter_traits<T>::value_type`, which is an alias of a choice of two) is written without the
-    arguments of the alias by g++. No class or namespace of the debug information has the alias's name."""
+    """g++ writes a member of an alias template (`__iter_traits<T>::value_type`, where the alias denotes one of two templates) without the
+    arguments of the alias. No class or namespace of the debug information has the alias's name."""
     if not is_of_template(case) or not case.is_of_gcc or difference.part not in ("type", "result"):
         return False
     left = []
@@ -67,7 +67,7 @@ def is_alias(case, difference):
 
 
 def is_variable_template(case, difference):
-    """g++ gives no arguments of a variable template, and no class of one that is a member."""
+    """g++ gives no arguments of a variable template, and no class of a variable template that is a member."""
     if difference.part != "variable" or not case.is_of_gcc:
         return False
     (scope, own), (told_scope, told_own) = scope_and_own(tokens_of(difference.shown)), scope_and_own(tokens_of(difference.told))
@@ -75,7 +75,7 @@ def is_variable_template(case, difference):
 
 
 def repeats_arguments(case, difference):
-    """For a call of a generic lambda g++ repeats the arguments that `auto`, or what the lambda declares, denotes, after themselves."""
+    """For a call of a generic lambda g++ writes the arguments that `auto`, or what the lambda declares, denotes twice, one after the other."""
     if difference.part != "name" or not case.is_of_gcc:
         return False
     (scope, own), (told_scope, told_own) = scope_and_own(case.shown.name), scope_and_own(tokens_of(difference.told))
@@ -87,7 +87,8 @@ def repeats_arguments(case, difference):
 
 
 def leaves_arguments_out(case, difference):
-    """g++ has no entry for an argument of a parameter without a name, also before others. Those that it has are in their order."""
+    """g++ has no entry for the argument of a parameter without a name, even where other arguments follow. The entries that it has are in
+    the order of the arguments."""
     if difference.part != "name" or not case.is_of_gcc:
         return False
     (scope, own), (told_scope, told_own) = scope_and_own(case.shown.name), scope_and_own(tokens_of(difference.told))
@@ -108,15 +109,15 @@ def is_array(case, difference):
 
 
 def repeats_qualifier(case, difference):
-    """`T const` has a qualifier twice where the argument has it already: a symbol's text writes both."""
+    """`T const` has a qualifier twice where the argument has that qualifier already: a symbol's text writes both."""
     shown = tokens_of(difference.shown)
     once = [it for place, it in enumerate(shown) if it not in QUALIFIERS or shown[place - 1:place] != [it]]
     return once != shown and is_of_template(case) and matches(tokens_of(difference.told), once)
 
 
 def is_hidden_friend(case, difference):
-    """A friend that is defined in a class is a member of it in a symbol that has its constraints (`N1SIiEF1hE`). In debug
-    information it is declared in the namespace around the class."""
+    """A friend that is defined in a class is a member of the class in a symbol that has the friend's constraints (`N1SIiEF1hE`). In debug
+    information the friend is declared in the namespace around the class."""
     if difference.part != "name":
         return False
     (scope, own), (told_scope, told_own) = scope_and_own(case.shown.name), scope_and_own(tokens_of(difference.told))
@@ -140,7 +141,7 @@ def is_vtable(case, difference):
 
 
 def is_inherited(case, difference):
-    """An inherited constructor (`CI2`) has the name of the class that inherits it. Clang gives the name of the class that it
+    """An inherited constructor (`CI2`) has the name of the class that inherits it. Clang gives the name of the class that the constructor
     belongs to, without arguments."""
     if difference.part != "name" or not re.search(r"CI[1-5]", case.symbol):
         return False
@@ -158,7 +159,7 @@ def leaves_parameter_out(case, difference):
 
 
 def is_of_stream(case, difference):
-    """`So` and the like are spelled as abbreviations, and so is a constructor's own name: `std::ostream::ostream()`."""
+    """`So` and similar abbreviations are spelled short, and so is a constructor's own name: `std::ostream::ostream()`."""
     if difference.part != "name" or case.shown.name[:2] != ["std", "::"]:
         return False
     whole = [f"basic_{it}" if place > 3 and it == case.shown.name[2] else it for place, it in enumerate(case.shown.name)]
@@ -183,5 +184,5 @@ CLASSES = [
 
 
 def class_of(case, difference):
-    """The class of a difference, and None where it has no known reason."""
+    """The class of a difference, or None where the difference has no known reason."""
     return next((name for name, is_of_class in CLASSES if is_of_class(case, difference)), None)

@@ -1,4 +1,4 @@
-"""From what debug information says of a symbol, and the symbol's text, to what was compared and what differs."""
+"""Compares what debug information says of a symbol with the symbol's text, and counts what was compared and what differs."""
 import collections
 
 from .classes import class_of
@@ -6,7 +6,7 @@ from .matching import matches
 from .texts import ANYTHING, MORE, parts_of, tokens_of
 
 Difference = collections.namedtuple("Difference", "part told shown")
-# What is known of a symbol: the text of a program, its parts, what debug information says, who made that, and the names of its
+# What is known of a symbol: a program's text, the text's parts, what debug information says, which compiler made it, and the names of its
 # classes and namespaces.
 Case = collections.namedtuple("Case", "symbol text shown told is_of_gcc names")
 
@@ -16,14 +16,14 @@ HIDDEN = ["int", "void const**"]
 
 
 def without_hidden(told, shown):
-    """What debug information says of a function, without the hidden parameters where the symbol's text doesn't have them."""
+    """What debug information says of a function, without the hidden parameters if the symbol's text doesn't have them."""
     if told.parameters[:2] == HIDDEN and len(told.parameters) == len(shown.parameters) + 2:
         return told._replace(parameters=told.parameters[2:])
     return told
 
 
 def differences_of(case, counts):
-    """The parts of a function's text that aren't what debug information says; those that are get counted."""
+    """The parts of a function's text that differ from what debug information says. The other parts are counted."""
     shown, told = case.shown, case.told
     pairs = [("name", told.name, shown.name), ("qualifiers", told.qualifiers, shown.qualifiers)]
     if len(told.parameters) == len(shown.parameters):
@@ -40,7 +40,7 @@ def differences_of(case, counts):
 
 
 class Tally:
-    """What a compiler's functions and variables came to."""
+    """The results for a compiler's functions and variables."""
 
     def __init__(self):
         self.producer, self.names, self.seen = "", set(), set()
@@ -76,7 +76,7 @@ class Tally:
             self.add_difference(case, Difference("variable", told, " ".join(shown)))
 
     def add_difference(self, case, difference):
-        """Whether a difference has a known reason. A symbol's first that has none is wrong."""
+        """Whether a difference has a known reason. A difference without one is noted as wrong."""
         known = class_of(case, difference)
         if known is None:
             self.wrong.append((case.symbol, case.text, difference))
@@ -85,7 +85,7 @@ class Tally:
         return known is not None
 
     def tell(self, compiler, most):
-        """Prints what is wrong, at most some of it, and the counts."""
+        """Prints the first of the wrong differences, at most as many as given, and the counts."""
         for symbol, text, it in self.wrong[:most]:
             told = it.told.replace(ANYTHING, "?").replace(MORE, "")
             print(f"{compiler}: {symbol}\n  shown  {text}\n  {it.part}: {it.shown}\n  is: {told}")

@@ -1,5 +1,4 @@
-// Constraints: concepts with arguments, of parameters, results and constants, whose names compilers count differently as
-// substitutions.
+// Constraints of parameters, results and constants, by concepts with arguments. Compilers differ in whether a concept's name is a substitution candidate.
 template<class T> struct rr { typedef T type; };
 template<class T> struct rr<T&> { typedef T type; };
 template<class T> struct Box { };

@@ -1,9 +1,9 @@
-"""From the lines that llvm-dwarfdump prints to the entries of the debug information, each with its attributes and entries."""
+"""Reads the lines that llvm-dwarfdump prints as the entries of the debug information, each with its attributes and its own entries."""
 
 UNITS = {"DW_TAG_compile_unit", "DW_TAG_type_unit", "DW_TAG_partial_unit", "DW_TAG_module"}
 CLASSES = {"DW_TAG_structure_type", "DW_TAG_class_type", "DW_TAG_union_type"}
 NAMED_TYPES = CLASSES | {"DW_TAG_enumeration_type"}
-# What is read of an entry; the rest (places in the code and in the source) is passed over.
+# The attributes that are read of an entry. The others (places in the code and in the source) are passed over.
 ATTRIBUTES = {
     "DW_AT_abstract_origin", "DW_AT_artificial", "DW_AT_byte_size", "DW_AT_const_value", "DW_AT_containing_type", "DW_AT_count",
     "DW_AT_GNU_template_name", "DW_AT_GNU_vector", "DW_AT_linkage_name", "DW_AT_name", "DW_AT_producer", "DW_AT_reference",
@@ -12,13 +12,13 @@ ATTRIBUTES = {
 
 
 class Entry:
-    """An entry, with those that it holds."""
+    """An entry, with the entries in it."""
 
     __slots__ = ("tag", "parent", "attributes", "entries", "spelled")
 
     def __init__(self, tag, parent):
         self.tag, self.parent, self.attributes, self.entries = tag, parent, {}, []
-        # its name, once it is spelled
+        # its name, after it was spelled
         self.spelled = None
 
     def text(self, attribute="DW_AT_name"):
@@ -27,7 +27,7 @@ class Entry:
         return value[1:-1] if value.startswith('"') else None
 
     def number(self, attribute):
-        """An attribute that is a number, and None where it is none."""
+        """An attribute that is a number, or None where it isn't one."""
         try:
             return int(self.attributes.get(attribute, ""), 0)
         except ValueError:
@@ -57,7 +57,7 @@ class Entries:
                     entry.attributes[name] = value[1:-1]
 
     def add(self, place, tag, depth, open_entries):
-        """The entry that a line begins; None where it ends a list, or is a unit's head."""
+        """The entry that a line begins; None for a line that ends a list, or that is a unit's head."""
         if not tag.startswith("DW_TAG_"):
             return None
         parent = open_entries[-1][1] if open_entries else None
@@ -72,18 +72,18 @@ class Entries:
         return iter(self.by_place.values())
 
     def at(self, entry, attribute="DW_AT_type"):
-        """The entry that an attribute refers to, and None where there is none."""
+        """The entry that an attribute refers to, or None where there is no such attribute."""
         value = entry.attributes.get(attribute, "")
         return self.by_place.get(int(value.split()[0], 16)) if value.startswith("0x") else None
 
     def without(self, tags, entry):
-        """The first type under an entry's that has none of these tags."""
+        """The entry, or else the first type under it that has none of these tags."""
         while entry is not None and entry.tag in tags:
             entry = self.at(entry)
         return entry
 
     def declared(self, entry):
-        """Where an entry is declared: a definition, or a copy, refers to its declaration."""
+        """The declaration of an entry: a definition, or a copy, refers to its declaration."""
         seen = set()
         while id(entry) not in seen:
             seen.add(id(entry))
@@ -91,5 +91,5 @@ class Entries:
         return entry
 
     def producer(self):
-        """What made the debug information, as `GNU C++20 12.2.0`."""
+        """The compiler that made the debug information, as `GNU C++20 12.2.0`."""
         return next((it.text("DW_AT_producer") or "" for it in self if it.tag == "DW_TAG_compile_unit"), "")

@@ -1,5 +1,5 @@
-// Lambdas that initialize variables and members: their symbols have the variable or the member as a prefix, which older and
-// newer compilers count differently as a substitution.
+// Lambdas that initialize variables and members. Their symbols have the variable or the member as a prefix; older and newer compilers
+// differ in whether it is a substitution candidate.
 namespace app {
 struct Item {};
 template <class T> struct Box {

@@ -15,7 +15,7 @@ def ends_of_lists(tokens):
 
 
 def matches(one, other):
-    """Tries the ways in which the gaps of both can be filled, each pair of places once, so that it ends soon whatever they are."""
+    """Tries the ways in which the gaps of both rows can be filled. Each pair of places is tried once, so that it ends soon for any rows."""
     if one == other:
         return True
     if not {ANYTHING, MORE} & {*one, *other}:

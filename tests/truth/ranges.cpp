@@ -1,4 +1,4 @@
-// C++23: ranges, views and formats, as people write them.
+// C++23: ranges, views and formats in usual code.
 #include <algorithm>
 #include <ranges>
 #include <vector>

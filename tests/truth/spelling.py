@@ -1,7 +1,7 @@
 """From the entries of debug information to patterns of C++ text: names with their scopes and arguments, types, functions.
 
-A name or type may hold others to any depth. So each step is a generator that yields the steps whose answers it needs, and
-`answer` keeps those that wait in a list.
+Names and types may be nested to any depth. So each step is a generator that yields the steps whose answers it needs, and `answer` keeps the
+steps that wait in a list.
 """
 import collections
 import re
@@ -20,14 +20,14 @@ MARKS = {"DW_TAG_pointer_type": "*", "DW_TAG_reference_type": "&", "DW_TAG_rvalu
 ALIASES = {"DW_TAG_typedef", "DW_TAG_template_alias"}
 BLOCKS = {"DW_TAG_lexical_block", "DW_TAG_inlined_subroutine"}
 UNSIGNED_CHARACTERS = {"char8_t", "char16_t", "char32_t"}
-# Names that compilers make up for what has none.
+# The beginnings of names that compilers make up for what has no name.
 MADE_UP = ("<", "(", "{", "._anon", "__lambda")
 
 Function = collections.namedtuple("Function", "name parameters qualifiers result")
 
 
 def answer(step):
-    """What a step answers, once those that it waits for have."""
+    """What a step answers, after the steps that it waits for have answered."""
     steps, said = [step], None
     while steps:
         try:
@@ -44,7 +44,7 @@ def is_conversion(name):
 
 
 def without_arguments(name):
-    """A name without its template arguments; the sign of an operator is none of them."""
+    """A name without its template arguments. The sign of an operator, as `<`, isn't taken for a bracket."""
     name, depth = with_plain_operators(name).rstrip(), 0
     if not name.endswith(">"):
         return name
@@ -71,8 +71,8 @@ def names_of(entries):
 
 
 class Speller:
-    """Spells what the entries of an object file declare. It has the texts of all symbols in it, for what has no name of its own:
-    a lambda is known by the symbol of its operator, a local class by that of the function that it is in."""
+    """Spells what the entries of an object file declare. It has the texts of all symbols of the file, since some entries have no name of
+    their own: a lambda's name is in the symbol of its operator, and a local class's name in the symbol of the function around it."""
 
     def __init__(self, entries, texts):
         self.entries, self.texts = entries, texts
@@ -89,7 +89,7 @@ class Speller:
         return ANYTHING
 
     def within(self, entry, own):
-        """A name with the scopes that it is declared in."""
+        """A name with the scopes in which it is declared."""
         outer = entry.parent
         while outer is not None and outer.tag in BLOCKS:
             outer = outer.parent
@@ -126,12 +126,12 @@ class Speller:
             return self.unnamed(entry) if entry.tag in NAMED_TYPES else ANYTHING
         arguments = yield self.arguments(entry)
         if entry.tag in CLASSES and len(arguments or []) < shown_arguments(name):
-            # (g++ has no entries for the arguments of what is only declared, and of some packs)
+            # (g++ has no entries for the arguments of what is only declared, and none for those of some packs)
             arguments = arguments_of(name)
         return (yield self.within(entry, with_arguments(without_arguments(name), arguments)))
 
     def arguments(self, entry):
-        """The template arguments of an entry, None where it has none."""
+        """The template arguments of an entry, or None where it has none."""
         packs = [it for it in entry.entries if it.tag == "DW_TAG_GNU_template_parameter_pack"]
         found = []
         for it in entry.entries:
@@ -169,7 +169,7 @@ class Speller:
         return str(number - (1 << bits) if is_signed and number >> (bits - 1) else number)
 
     def type(self, entry):
-        """A type in two parts: left and right of a declared name."""
+        """A type in two parts, which are left and right of a declared name."""
         entry = self.entries.without(ALIASES, entry)
         if entry is None:
             return "void", ""
@@ -223,13 +223,13 @@ class Speller:
         return "".join([QUALIFIERS[it] for it in QUALIFIERS if it in found] + marks)
 
     def parameters(self, entry):
-        """The types of a function's parameters, without qualifiers of their own, which a symbol doesn't have."""
+        """The types of a function's parameters, without the outermost qualifiers, which a symbol doesn't have."""
         found, has_ellipsis = [], False
         for it in entry.entries:
             has_ellipsis = has_ellipsis or it.tag == "DW_TAG_unspecified_parameters"
             for copy in it.entries if it.tag == "DW_TAG_GNU_formal_parameter_pack" else [it]:
                 one = self.entries.declared(copy)
-                # (constructors and destructors of classes with virtual bases get these two from g++)
+                # (g++ gives these two to constructors and destructors of classes with virtual bases)
                 if one.text() in ("__in_chrg", "__vtt_parm"):
                     continue
                 if one.tag == "DW_TAG_formal_parameter" and not one.has("DW_AT_artificial"):
@@ -277,8 +277,8 @@ def shown_arguments(name):
 
 
 def arguments_of(name):
-    """The arguments that a name shows, with a gap for each that symbols spell in another way: qualifiers are elsewhere, and what
-    has brackets is a lambda, a local type, or an expression."""
+    """The arguments that a name shows, with a gap for each argument that symbols spell in another way: one with qualifiers, which are
+    elsewhere in a symbol, and one with brackets, which is a lambda, a local type, or an expression."""
     found = []
     for it in split(shown_list(name)):
         one = " ".join(it)

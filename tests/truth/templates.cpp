@@ -1,5 +1,5 @@
-// Templates that call others with lambdas of their own, so that a substitution names a tree of another function: with one
-// parameter, with several, and with packs. Types of each form, qualifiers, members, operators and conversions.
+// Templates that call other templates with lambdas of their own, so that a substitution names a tree of another function. The tree has one
+// parameter, several parameters, or packs. The file also has types of each form, qualifiers, members, operators and conversions.
 namespace forms {
 struct Plain {
   int number;

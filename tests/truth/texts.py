@@ -2,8 +2,8 @@
 import collections
 import re
 
-# In a pattern: what debug information doesn't have, which may be any balanced tokens without a comma; and perhaps
-# further arguments up to the end of a list.
+# In a pattern ANYTHING represents any balanced tokens without a comma, for what debug information doesn't have. MORE represents any further
+# arguments up to the end of a list.
 ANYTHING, MORE = "\x7f", "\x06"
 SIGNS = "->* <=> <<= >>= -> () [] << >> <= >= += -= *= /= %= &= |= ^= == != && || ++ -- < > + - * / % & | ^ ~ ! = ,".split()
 OPERATOR = re.compile(r"\boperator(?: (new\[\]|delete\[\]|new|delete|co_await)\b| ?(" + "|".join(map(re.escape, SIGNS)) + "))")
@@ -12,7 +12,7 @@ LITERAL_OPERATOR = re.compile(r'\boperator ?"" ?(\w+)')
 TOKEN = re.compile(rf"{ANYTHING}|{MORE}|\(anonymous namespace\)|operator@\w+|@arrow|[\w$]+|::|[^\s\w]")
 OPENING, CLOSING = {"(": ")", "<": ">", "[": "]", "{": "}"}, {")", ">", "]", "}"}
 QUALIFIERS = {"const", "volatile"}
-# Full names, and the abbreviation that a symbol has for them. Arguments with a default may be missing in a pattern.
+# Full names, and the abbreviations that symbols have for them. Arguments with a default may be missing in a pattern.
 DEFAULTS = rf"(?: [{MORE}{ANYTHING}])*"
 CHARACTER = rf"< (?:char|{ANYTHING}){DEFAULTS} >"
 ABBREVIATED = [
@@ -40,7 +40,7 @@ def without_marks(text):
 
 
 def tokens_of(text):
-    """The tokens of a text, without the casts and the letters of numbers, qualifiers in one order, names abbreviated."""
+    """The tokens of a text, without the casts and the letters of numbers, with qualifiers in one order, and with names abbreviated."""
     text = re.sub(r"\b(\d+)[uUlL]+\b", r"\1", with_plain_operators(without_marks(text)))
     tokens = in_one_order(without_casts(TOKEN.findall(text)))
     joined = " ".join(tokens)
@@ -58,7 +58,7 @@ def in_one_order(tokens):
 
 
 def without_casts(tokens):
-    """`(Level)-1`, as a template argument, becomes `-1`: debug information has the number, and the type elsewhere."""
+    """`(Level)-1` as a template argument becomes `-1`: debug information has only the number there, and the type elsewhere."""
     partners, left, place = partners_of(tokens), [], 0
     while place < len(tokens):
         if tokens[place] == "(" and left and left[-1] in ("<", ",") and place in partners:
@@ -71,7 +71,7 @@ def without_casts(tokens):
 
 
 def partners_of(tokens):
-    """For each bracket, the place of its partner. A `<` or `>` without one is an operator."""
+    """For each bracket, the place of its partner. A `<` or `>` without a partner is an operator."""
     partners, opened = {}, []
     for place, token in enumerate(tokens):
         if token in OPENING:
@@ -97,7 +97,7 @@ def split(tokens):
 
 
 def begin_of_piece(tokens, partners, end):
-    """Where the piece of a scoped name that ends at a place begins: `f<int>(char) const` is one, `{lambda()#1}` another."""
+    """The beginning of the piece of a scoped name that ends at a place. Such pieces are `f<int>(char) const` and `{lambda()#1}`."""
     place = end
     while place > 1 and tokens[place - 1] in {*QUALIFIERS, "&"}:
         place -= 1
@@ -111,7 +111,7 @@ def begin_of_piece(tokens, partners, end):
 
 
 def begin_of_name(tokens):
-    """Where the scoped name that ends these tokens begins, after the type that the function returns."""
+    """The beginning of the scoped name at the end of these tokens, after the return type of the function."""
     partners = partners_of(tokens)
     place = len(tokens)
     conversions = [it for it in outside_brackets(tokens) if tokens[it] == "operator"]
@@ -138,7 +138,7 @@ def scope_and_own(tokens):
 
 
 def parts_of(text):
-    """A function's text in parts; None where it returns a pointer to a function, or is no function's."""
+    """A function's text in parts; None where the function returns a pointer to a function, or where the text is no function's."""
     tokens = tokens_of(text)
     end = len(tokens)
     while end > 0 and tokens[end - 1] in {*QUALIFIERS, "&"}:

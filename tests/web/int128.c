@@ -1,4 +1,4 @@
-/* web/module/int128.c against the compiler's own products and shifts of 128 bits. */
+/* Compares the products and shifts of web/module/int128.c with the compiler's own ones of 128 bits. */
 #define __multi3 multi3
 #define __ashlti3 ashlti3
 #define __lshrti3 lshrti3
@@ -12,7 +12,7 @@ static u64 next(u64 *state)
     return mixed ^ mixed >> 32;
 }
 
-/* A number of any length, often of few bits or of many. */
+/* A number of any length, often with few bits or with many. */
 static u128 number(u64 *state)
 {
     u128 all = (u128)next(state) << 64 | next(state);

@@ -1,9 +1,9 @@
-// node module.mjs PAGE_FOLDER ROWS DEMANGLE SYMBOLS: the page's module against the rows of check_rows, and against the program
+// node module.mjs PAGE_FOLDER ROWS DEMANGLE SYMBOLS: compares the page's module with the rows of check_rows, and with the program
 //
-// Each row's text at its cost, too long at one less; each refusal with its offset; each pressed spelling; of each row `parts` what the
-// name is, its text and the parts of that. Then the symbols of a
-// file, filtered in pieces of several sizes in each detail, have to be the program's bytes. The page's words have to be the library's,
-// and a text in pieces has to come out as the whole does.
+// The module has to answer each row: the text at a limit of its cost, and that it is too long at one less; each refusal with its offset;
+// each pressed spelling; for each row `parts` what the name is, its text and the text's parts. Then the symbols of a file are filtered in
+// pieces of several sizes in each detail, and have to give the program's bytes. The page's words have to be the library's, and a text that
+// is filtered in pieces has to come out as the whole text does.
 import { execFileSync } from "node:child_process";
 import fs from "node:fs";
 import path from "node:path";
@@ -62,7 +62,7 @@ const known = {
     },
     repeated(flags, [detail, cost, front, count, part, end, length], kind) {
         const name = bytesOf(front + part.repeat(Number(count)) + end);
-        // the page reads no longer one
+        // the page reads no longer names
         if (name.length <= LONGEST_WORD) hasText(kind, name, Number(cost), flags | DETAILS[detail], (it) => it.length === Number(length));
     },
     refused(flags, [symbol, reason], kind) {
@@ -123,7 +123,7 @@ for (const [log, options, words] of CHOICES) {
     }
 }
 
-// Words: those of the page are the library's, however a text is made up.
+// The words that the page finds are those of the library, whatever a text consists of.
 const NUMBERS = (() => {
     let state = 1;
     return (below) => {
@@ -177,13 +177,13 @@ for (const [text, wanted] of [
     ["DW.ref._ZTI1A", "DW.ref.typeinfo for A"], ["self._Zoom", "self._Zoom"],
 ]) holds("words", byPage(text) === wanted, text, byPage(text));
 
-// A run without a break goes out as it comes.
+// A run of any length goes out as it comes in.
 const run = new PieceFilter(library, 1_000_000, flags);
 let given = 0;
 for (let turn = 0; turn < 64; turn += 1) for (const part of run.push(new Uint8Array(1 << 20).fill(97))) given += part.length;
 holds("pieces", given >= 63 << 20, "a run of 64 MiB:", given);
 
-// A text that needs more memory than there is, and then a name as usual.
+// A text needs more memory than there is, and then a name is answered as usual.
 const doubled = `_Z1f1AIiiE${[..."0123456789ABCDEFGHIJKLMN"].map((it) => `S_IS${it}_S${it}_E`).join("")}`;
 holds("memory", library.text(bytesOf(doubled), GREATEST_LIMIT, 0).status === STATUS.MEMORY, "a text of 537 million bytes");
 holds("memory", Buffer.from(library.text(bytesOf("_Z1fv"), 100, 0).bytes).toString() === "f()", "a name after it");

@@ -1,9 +1,8 @@
-// node page.mjs PAGE_FOLDER DEMANGLE SYMFILT SYMBOLS HOSTILE_FOLDER [SHOTS_FOLDER]: the page in Chromium, as a person uses it
+// node page.mjs PAGE_FOLDER DEMANGLE SYMFILT SYMBOLS HOSTILE_FOLDER [SHOTS_FOLDER]: uses the page in Chromium as a person does
 //
-// It types, pastes, ticks, drops and downloads, and looks at what is there; texts are compared with those of demangle, counts and
-// pressed spellings with those of symfilt. Each step is
-// named as it holds; the first that doesn't ends it. HOSTILE_FOLDER has a hostile name in each of the files cpp and rust.
-// SHOTS_FOLDER gets pictures of the page, to be looked at.
+// The script types, pastes, ticks, drops and downloads, and checks what the page shows. Texts are compared with those of demangle, counts
+// and pressed spellings with those of symfilt. Each step that holds is named; the first step that doesn't hold ends the script.
+// HOSTILE_FOLDER has a hostile name in each of the files cpp and rust. SHOTS_FOLDER gets pictures of the page, for people to look at.
 import { execFileSync } from "node:child_process";
 import fs from "node:fs";
 import path from "node:path";
@@ -144,9 +143,9 @@ const steps = {
             await shows(".symbol mark", [mark]);
         }
         await puts("?f@@YAXXZ");
-        await until(async () => /Microsoft/.test(await text("status")), "a name of Microsoft’s is told");
+        await until(async () => /Microsoft/.test(await text("status")), "a name of Microsoft’s is recognized");
         await puts("ZN3foo3barEv");
-        await until(async () => /underscore/.test(await text("status")), "a lost underscore is told");
+        await until(async () => /underscore/.test(await text("status")), "a lost underscore is noticed");
     },
 
     async "characters that can't be seen"() {
@@ -262,7 +261,7 @@ const steps = {
         wants((await browser.run(() => document.querySelectorAll(".parts [tabindex='0']").length)) === 1, "one stop of the Tab key");
         const { nodes } = await browser.call("Accessibility.getFullAXTree");
         const options = nodes.filter((it) => !it.ignored && it.role?.value === "option").map((it) => it.name?.value);
-        wants(options.length === 13 && options[8] === "parameter 2: std::map, bytes 32 to 35", "what a screen reader is told of parts:", options);
+        wants(options.length === 13 && options[8] === "parameter 2: std::map, bytes 32 to 35", "what a screen reader says of parts:", options);
         await browser.run(() => document.getElementById("input").focus());
         await lit([[], [], []], "no part has the focus");
         await picture("bytes");
@@ -299,7 +298,7 @@ const steps = {
         wants(await browser.run(() => document.activeElement.closest(".card.shown")), "the focus is in the card");
     },
 
-    async "what a screen reader is told"() {
+    async "what a screen reader says"() {
         const { nodes } = await browser.call("Accessibility.getFullAXTree");
         const roles = nodes.filter((it) => !it.ignored && it.role).map((it) => [it.role.value, it.name?.value ?? "", it.description?.value ?? ""]);
         const NAMED = ["button", "link", "textbox", "checkbox", "spinbutton", "progressbar", "DisclosureTriangle"];
@@ -326,7 +325,7 @@ const steps = {
     },
 
     async "a file"() {
-        // Long enough that browsers hand it out in many pieces, whose ends lie in words.
+        // The text is so long that browsers hand it out in many pieces, which end within words.
         const lines = Array.from({ length: 60_000 }, (_, i) => `${i} _ZNSt6vectorIiSaIiEE9push_backEOi\n`);
         const given = Buffer.concat([fs.readFileSync(symbols), Buffer.from(lines.join("")), Buffer.from("‘_Z1fv’\n")]);
         const file = path.join(browser.folder, "given.log");
@@ -503,7 +502,7 @@ const steps = {
             await until(async () => (await said(".card")).length === 6, "six names");
             await browser.run(() => { document.querySelector(".card details").open = true; document.getElementById("settings").open = true; });
             await until(async () => (await said(".inside dt")).length, "counts");
-            // not innerWidth, which grows on a phone with what is too wide
+            // this isn't innerWidth, which on a phone grows with content that is too wide
             const over = (await browser.run(() => document.documentElement.scrollWidth)) - width;
             wants(over <= 0, `${called}: ${over} pixels too wide`);
             const [ink, paper] = await browser.run(() => [getComputedStyle(document.documentElement).color, getComputedStyle(document.documentElement).backgroundColor].map((it) => Number(/\d+/.exec(it)[0])));

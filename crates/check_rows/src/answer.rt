@@ -1,4 +1,4 @@
-// What calls answer, in the words of a row, and whether each answers what the row says.
+// What calls answer, in the words of a row, and whether each call answers what the row says.
 
 use std::alloc::{AllocError, Global};
 use sym_core::Refusal;
@@ -60,7 +60,7 @@ impl Verdict {
         }
     }
 
-    /// Likewise for a call that has no answer where it breaks another promise.
+    /// Notes whether a call answers what the row says. A call that breaks another promise has no answer.
     pub fn soundly_says(&mut self, answer: Result<Option<Vec<u8>>, Refusal>, wanted: &[u8]) {
         match answer {
             Ok(Some(text)) => self.text(&text, wanted),
@@ -117,7 +117,7 @@ pub fn unspelled(alloc: Global, field: &[u8]) -> Result<Vec<u8>, AllocError> {
     Ok(bytes)
 }
 
-/// Why a symbol has no text. Want of memory isn't such a reason.
+/// Why a symbol has no text. Lack of memory isn't such a reason.
 fn reason(alloc: Global, refusal: Refusal) -> Result<String, AllocError> {
     match refusal {
         Refusal::Malformed { at } => format!(in alloc; "malformed at {at}"),

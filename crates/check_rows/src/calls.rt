@@ -1,4 +1,4 @@
-// A symbol through each call: whole and in pieces, step by step, with fresh lists and with lists used before.
+// Each call over a symbol: whole and in pieces, step by step, with fresh lists and with lists used before.
 
 ghost use Rattle.sym_core.specs.Number.{FitsSymbol};
 
@@ -23,7 +23,7 @@ fn are_few(counts: Counts, len: usize) -> bool {
         && steps as usize <= most_steps(len)
 }
 
-/// Notes whether a counting demangler answered this, with what a list then holds.
+/// Notes whether the answer of a counting demangler, and the list that it appended to, are those of a row.
 fn counted(verdict: &mut Verdict, answer: Demangled, list: &[u8], row: Row<'_>) {
     match answer {
         Demangled::Text(counts) => {
@@ -38,7 +38,7 @@ fn counted(verdict: &mut Verdict, answer: Demangled, list: &[u8], row: Row<'_>) 
     }
 }
 
-/// Asks a demangler for a symbol's text in a list, and for its counts, which are the answer.
+/// Checks a demangler's text of a symbol in a list, and its counts. Answers what the demangler answered.
 fn ask_counting<D: Demangler>(
     verdict: &mut Verdict,
     demangler: &D,
@@ -55,7 +55,7 @@ fn ask_counting<D: Demangler>(
     answer
 }
 
-/// Asks a demangler for a symbol's text in a list.
+/// Checks a demangler's text of a symbol in a list.
 fn ask_appending<D: Demangler>(
     verdict: &mut Verdict,
     demangler: &D,
@@ -70,7 +70,7 @@ fn ask_appending<D: Demangler>(
     answer
 }
 
-/// Calls both text functions of a demangler for a symbol, and answers what the counting one does.
+/// Checks both text functions of a demangler for a symbol, and answers what the counting function answered.
 pub fn ask<D: Demangler>(
     verdict: &mut Verdict,
     demangler: &D,
@@ -87,7 +87,7 @@ pub fn ask<D: Demangler>(
     counted
 }
 
-/// Asks for the text of a symbol that is read, by each call that prints one.
+/// Checks the text of a symbol that was read, by each call that prints a text.
 fn ask_symbol<M: Calls>(verdict: &mut Verdict, symbol: &M::Symbol, row: Row<'_>) {
     let Row {
         s,
@@ -108,7 +108,7 @@ fn ask_symbol<M: Calls>(verdict: &mut Verdict, symbol: &M::Symbol, row: Row<'_>)
     verdict.soundly_says(put_together(alloc, symbol, root, limit), wanted);
 }
 
-/// Reads a symbol whole, and asks for its text.
+/// Reads a symbol whole, and checks its text.
 fn ask_read<M: Calls>(verdict: &mut Verdict, row: Row<'_>)
     requires { FitsSymbol row.s.now }
 {
@@ -118,7 +118,7 @@ fn ask_read<M: Calls>(verdict: &mut Verdict, row: Row<'_>)
     }
 }
 
-/// Reads and links a symbol step by step, and asks for its text.
+/// Reads and links a symbol step by step, and checks its text.
 fn ask_linked_in_steps<M: Calls>(verdict: &mut Verdict, row: Row<'_>)
     requires { FitsSymbol row.s.now }
 {
@@ -157,7 +157,7 @@ fn byte_by_byte<M: Calls>(alloc: Global, row: Row<'_>) -> Result<Option<Vec<u8>>
     in_pieces::<M>(alloc, &bytes, row)
 }
 
-/// Asks a workspace, which has read ahead, for a symbol's text in a list.
+/// Checks the text that a workspace, which has read ahead, appends for a symbol to a list.
 fn ask_workspace<M: Calls>(verdict: &mut Verdict, workspace: &mut Workspace<M>, row: Row<'_>)
     requires { FitsSymbol row.s.now }
 {
@@ -176,7 +176,7 @@ fn ask_workspace<M: Calls>(verdict: &mut Verdict, workspace: &mut Workspace<M>, 
     verdict.appended(answer, &list, row.wanted);
 }
 
-/// Asks the calls that demangle a symbol at once for its text.
+/// Checks a symbol's text by the calls that demangle a symbol at once.
 fn ask_at_once<M: Calls>(verdict: &mut Verdict, row: Row<'_>)
     requires { FitsSymbol row.s.now }
 {
@@ -194,7 +194,7 @@ fn ask_at_once<M: Calls>(verdict: &mut Verdict, row: Row<'_>)
     }
 }
 
-/// Asks each call of a mangling for a symbol's text.
+/// Checks a symbol's text by each call of a mangling.
 pub fn ask_mangling<M: Calls>(verdict: &mut Verdict, workspace: &mut Workspace<M>, row: Row<'_>)
     requires { FitsSymbol row.s.now }
 {
@@ -208,7 +208,7 @@ pub fn ask_mangling<M: Calls>(verdict: &mut Verdict, workspace: &mut Workspace<M
     verdict.soundly_says(byte_by_byte::<M>(alloc, row), wanted);
 }
 
-/// Asks for the text of a symbol that is fed in two pieces, cut at each place in turn.
+/// Checks the text of a symbol that is fed in two pieces, cut at each place in turn.
 pub fn ask_in_pieces<M: Calls>(verdict: &mut Verdict, row: Row<'_>) {
     let s = row.s;
     for cut in 0..s.len() {
@@ -217,7 +217,7 @@ pub fn ask_in_pieces<M: Calls>(verdict: &mut Verdict, row: Row<'_>) {
     }
 }
 
-/// A symbol that is read whole, and pressed.
+/// The pressed spelling of a symbol that is read whole.
 fn read_and_pressed<M: PressCalls>(alloc: Global, s: &[u8]) -> Result<Vec<u8>, Refusal>
     requires { FitsSymbol s.now }
 {
@@ -225,7 +225,7 @@ fn read_and_pressed<M: PressCalls>(alloc: Global, s: &[u8]) -> Result<Vec<u8>, R
     M::press(alloc, &symbol)
 }
 
-/// A symbol that is fed byte by byte, and pressed, or none where the reader stepped otherwise than it has to.
+/// The pressed spelling of a symbol that is fed byte by byte; none where the reader stepped otherwise than it has to.
 fn fed_and_pressed<M: PressCalls>(alloc: Global, s: &[u8]) -> Result<Option<Vec<u8>>, Refusal> {
     let bytes: Vec<&[u8]> = s.chunks(1).collect(alloc)?;
     match M::read_fed(alloc, &bytes)? {
@@ -234,7 +234,7 @@ fn fed_and_pressed<M: PressCalls>(alloc: Global, s: &[u8]) -> Result<Option<Vec<
     }
 }
 
-/// Asks a mangling's call that presses for a symbol's spelling.
+/// Checks a symbol's spelling by the calls of a mangling that press.
 pub fn ask_pressing<M: PressCalls>(verdict: &mut Verdict, s: &[u8], wanted: &[u8])
     requires { FitsSymbol s.now }
 {

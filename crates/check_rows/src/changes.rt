@@ -9,9 +9,9 @@ use sym_core::fits;
 /// How a symbol is changed at a place.
 #[derive(Clone, Copy)]
 pub enum Change {
-    /// It ends there.
+    /// The symbol ends there.
     Cut,
-    /// A different byte.
+    /// The symbol has this byte there.
     Put(u8),
 }
 
@@ -28,7 +28,7 @@ fn changed(alloc: Global, s: &[u8], place: usize, change: Change) -> Result<Vec<
     Ok(changed)
 }
 
-/// The answer for a symbol that is changed at a place: what a field has after the place and a blank, where it begins with them.
+/// The answer for a symbol that is changed at a place: if a field begins with the place and a blank, what follows these.
 fn answer_at<'a>(
     alloc: Global,
     field: Option<&&'a [u8]>,
@@ -41,7 +41,7 @@ fn answer_at<'a>(
     }
 }
 
-/// Asks for the text of a symbol that is changed, which may be longer than symbols are.
+/// Requests the text of a changed symbol, which may be longer than symbols may be.
 fn ask_changed(
     verdict: &mut Verdict,
     lists: &mut AllLists,
@@ -61,8 +61,7 @@ fn ask_changed(
     }
 }
 
-/// Asks for the text of a symbol that is changed at a place, where it is malformed there unless another answer is given, and
-/// answers whether one is.
+/// Requests the text of a symbol that is changed at a place. The symbol has to be malformed there, unless another answer is given; answers whether one is.
 fn ask_at(
     verdict: &mut Verdict,
     lists: &mut AllLists,
@@ -81,8 +80,8 @@ fn ask_at(
     Ok(false)
 }
 
-/// Demangles a symbol with each of its bytes changed in turn. The changed symbol is malformed at that byte, except where the
-/// row says otherwise: the place, a blank, and the answer.
+/// Demangles a symbol with each of its bytes changed in turn. The changed symbol has to be malformed at that byte, unless a field of the
+/// row gives another answer: it has the place, a blank, and the answer.
 pub fn ask_each_place(
     verdict: &mut Verdict,
     lists: &mut AllLists,

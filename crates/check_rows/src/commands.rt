@@ -1,4 +1,4 @@
-// The command lines and the filter, as the programs have them.
+// Checks of the command lines and of the filter, as the programs have them.
 
 use crate::answer::{Verdict, unspelled};
 use crate::library::ask_library_to_filter;
@@ -23,8 +23,8 @@ pub struct Ending<'a> {
     pub err: &'a [u8],
 }
 
-/// The words of a command line of symfilt, the program's name first, as blanks keep them apart; `-` is none. No row has words of it
-/// that aren't text.
+/// The words of a command line of symfilt, the program's name first. Blanks separate them in a field, and `-` denotes no word. No row has
+/// words of symfilt that aren't text.
 fn words_of<'a>(
     verdict: &mut Verdict,
     program: &'a str,
@@ -44,7 +44,7 @@ fn words_of<'a>(
     Ok(words)
 }
 
-/// The words of a command line of demangle, each of any bytes, written in the same way.
+/// The words of a command line of demangle, written in the same way. They may have any bytes.
 fn byte_words_of(alloc: Global, field: &[u8]) -> Result<Vec<&[u8]>, AllocError> {
     let mut words = Vec::new(alloc);
     words.push("demangle".as_bytes())?;
@@ -56,7 +56,7 @@ fn byte_words_of(alloc: Global, field: &[u8]) -> Result<Vec<&[u8]>, AllocError> 
     Ok(words)
 }
 
-/// Notes whether a program wrote these bytes as a row spells them, or some where it has `*`.
+/// Notes whether a program wrote the bytes that a row spells, or any bytes at all where the row has `*`.
 fn written(verdict: &mut Verdict, bytes: &[u8], wanted: &[u8]) {
     if wanted == ANY {
         verdict.require(!bytes.is_empty());
@@ -101,7 +101,7 @@ fn run_demangle(verdict: &mut Verdict, words: &[&[u8]], input: &[u8], wanted: En
     ended(verdict, status, &out.into_list(), &err.into_list(), wanted);
 }
 
-/// What `demangle` filters by with these options, where they say only how much of a symbol is shown.
+/// How `demangle` filters with these options; none where the options say more than how much of a symbol is shown.
 fn shown_by(options: &[u8]) -> Option<Filtering> {
     let detail = match options {
         b"-" => Detail::Full,
@@ -120,7 +120,7 @@ fn shown_by(options: &[u8]) -> Option<Filtering> {
     })
 }
 
-/// What symfilt is to do with these words. It has to end this way unless it is to filter.
+/// What symfilt has to do with these words. Unless it has to filter, it has to end this way.
 fn asked_of_symfilt(verdict: &mut Verdict, words: &[&str], wanted: Ending<'_>) -> Run {
     let mut out = Vec::new(verdict.alloc);
     let mut err = Vec::new(verdict.alloc);
@@ -132,7 +132,7 @@ fn asked_of_symfilt(verdict: &mut Verdict, words: &[&str], wanted: Ending<'_>) -
     asked
 }
 
-/// Filters a text with the library's call and with the streams, if that is what the command's words ask for.
+/// Checks a filtered text by the library's call and over streams. The command's words have to request this.
 fn ask_filters(
     verdict: &mut Verdict,
     asked: Run,
@@ -149,7 +149,7 @@ fn ask_filters(
     Ok(())
 }
 
-/// Checks that the program with these options filters a text to this one, and so does the static library.
+/// Checks that the program with these options makes this text of a text that it filters, and that the static library does so, too.
 ///
 /// # Errors
 ///
@@ -190,7 +190,7 @@ pub fn ask_to_end(
     Ok(())
 }
 
-/// Checks that `demangle` ends this way on these words over an input, and that the static library filters the input as it does.
+/// Checks that `demangle` ends this way on these words over an input, and that the static library filters the input in the same way.
 ///
 /// # Errors
 ///

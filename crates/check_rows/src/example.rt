@@ -19,7 +19,7 @@ fn line_of(alloc: Global, s: &[u8]) -> Result<Vec<u8>, Refusal> {
     Ok(line)
 }
 
-/// Asks the example for the text of a Rust symbol that has one.
+/// Checks the example's text of a Rust symbol that has a text.
 pub fn ask_example(verdict: &mut Verdict, row: Row<'_>)
     requires { FitsSymbol row.s.now }
 {

@@ -6,12 +6,12 @@ use std::alloc::Global;
 use sym_core::Refusal;
 use sym_shape::{Grammar, Reader};
 
-/// The most steps that a symbol of this length may take, its reader's and its linker's together.
+/// The most steps that a symbol of this length may take, those of its reader and those of its linker together.
 pub fn most_steps(len: usize) -> usize {
     len.saturating_mul(32).saturating_add(48)
 }
 
-/// Whether a reader refuses as soon as its bytes show why, given how many it had before the last piece and has with it.
+/// Whether a reader refuses as soon as its bytes show the reason, by how many bytes it had before the last piece and has with it.
 fn is_prompt(refusal: Refusal, before: u32, len: u32, ended: bool) -> bool {
     match refusal {
         Refusal::Malformed { at } => before <= at && (at < len || ended),
@@ -57,7 +57,7 @@ fn feed<G: Grammar>(
     Ok(None)
 }
 
-/// Feeds a reader pieces, and then its end.
+/// Feeds pieces to a reader, and then ends its input.
 fn feed_all<G: Grammar>(
     reader: &mut Reader<G>,
     grammar: &G,
@@ -77,7 +77,7 @@ fn feed_all<G: Grammar>(
     Ok(last.is_some())
 }
 
-/// A reader that was fed these pieces and its end, or none where it stepped otherwise than it has to.
+/// A reader that was fed these pieces to the end; none where the reader stepped otherwise than it has to.
 pub fn fed<G: Grammar>(
     alloc: Global,
     grammar: &G,

@@ -1,4 +1,4 @@
-// A symbol through the demanglers of both languages, by either grammar of C++, and through the calls of each mangling.
+// Checks of a symbol by the demanglers of both languages, with either grammar of C++, and by the calls of each mangling.
 
 ghost use Rattle.sym_core.specs.Number.{FitsSymbol};
 
@@ -66,7 +66,7 @@ pub fn ask_demangler(verdict: &mut Verdict, lists: &mut AllLists, row: Row<'_>) 
     ask_by(verdict, &mut lists.abi, row)
 }
 
-/// Asks each call of the symbol's mangling for its text, C++ by a row's grammar.
+/// Checks a symbol's text by each call of its mangling, with C++ by a row's grammar.
 fn ask_mangling_of(verdict: &mut Verdict, lists: &mut AllLists, row: Row<'_>)
     requires { FitsSymbol row.s.now }
 {
@@ -82,7 +82,7 @@ fn ask_mangling_of(verdict: &mut Verdict, lists: &mut AllLists, row: Row<'_>)
     }
 }
 
-/// Asks each call for a symbol's text.
+/// Checks a symbol's text by each call.
 pub fn ask_each(verdict: &mut Verdict, lists: &mut AllLists, row: Row<'_>) {
     if !fits(row.s) {
         verdict.require(false);
@@ -97,7 +97,7 @@ pub fn ask_each(verdict: &mut Verdict, lists: &mut AllLists, row: Row<'_>) {
     ask_mangling_of(verdict, lists, row);
 }
 
-/// Asks for the text of a symbol that is fed in two pieces, cut at each place in turn.
+/// Checks the text of a symbol that is fed in two pieces, cut at each place in turn.
 pub fn ask_cut(verdict: &mut Verdict, row: Row<'_>) {
     match row.kind.lang {
         Lang::Rust => ask_in_pieces::<V0>(verdict, row),
@@ -120,21 +120,21 @@ fn pressed(alloc: Global, lists: &mut Lists<Abi>, row: Row<'_>) -> Result<Vec<u8
     Ok(spelled(alloc, &pressed)?)
 }
 
-/// Asks the demangler that presses for a symbol's spelling.
+/// Checks a symbol's spelling by the demangler that presses.
 pub fn ask_pressed(verdict: &mut Verdict, lists: &mut Lists<Abi>, row: Row<'_>)
     requires { FitsSymbol row.s.now }
 {
     ask(verdict, &Pressing, lists, row);
 }
 
-/// Likewise with C++ by the wide grammar. A symbol that has no spelling is too long.
+/// Checks a symbol's spelling with C++ by the wide grammar. A symbol that has no spelling is answered as too long.
 pub fn ask_wide_pressed(verdict: &mut Verdict, lists: &mut Lists<Wide>, row: Row<'_>)
     requires { FitsSymbol row.s.now }
 {
     ask(verdict, &WidePressing, lists, row);
 }
 
-/// Asks for the pressed spelling of a symbol that isn't read, which is refused for the same reason. One that is too long is read.
+/// Checks the pressed spelling of a symbol that has no text. It is refused for the same reason, unless the symbol is only too long, and is read.
 pub fn ask_unpressed(verdict: &mut Verdict, lists: &mut Lists<Abi>, row: Row<'_>) {
     if !fits(row.s) {
         verdict.require(false);

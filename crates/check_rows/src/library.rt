@@ -1,4 +1,4 @@
-// The static library's calls: each into buffers of no byte, of too few, of just enough and of more, and each of their statuses.
+// Checks of the static library's calls: each of their statuses, and each call with buffers of no byte, of too few, of just enough and of more.
 
 use crate::answer::Verdict;
 use crate::row::Row;
@@ -24,7 +24,7 @@ pub const UNWRITTEN: u8 = 0xa5;
 /// The value of each number before a call sets it.
 pub const UNTOLD: u32 = 0xa5a5_a5a5;
 
-/// What a row has where a name is no symbol and can't be a type.
+/// What a row has for a name that is no symbol and can't be a type.
 const NO_NAME: &[u8] = b"not a symbol";
 
 /// A number that is no flag.
@@ -38,7 +38,7 @@ enum Call {
     Press,
 }
 
-/// A call with what it is given, except for the buffer.
+/// A call with its arguments, except for the buffer.
 #[derive(Clone, Copy)]
 struct Asked<'a> {
     call: Call,
@@ -61,7 +61,7 @@ impl<'a> Asked<'a> {
     }
 }
 
-/// The flags for a detail, with C++ by the wide grammar or the other, and with legacy Rust names as paths or as C++.
+/// The flags for a detail, for a grammar of C++, and for legacy Rust names as paths or as C++.
 fn flags_of(detail: Detail, wide: bool, legacy: bool) -> u32 {
     let shown = match detail {
         Detail::Full => 0,
@@ -88,7 +88,7 @@ fn untallied() -> TextTally {
     }
 }
 
-/// Whether a tally is set exactly with status 0, and its words are those that were replaced and those that weren't.
+/// Whether a tally is set exactly if the status is 0, and its number of words is the sum of those that were replaced and those that weren't.
 fn is_tallied(status: u32, tally: TextTally) -> bool {
     let untold = UNTOLD as u64;
     if status == OK {
@@ -148,8 +148,8 @@ fn refusal_of(outcome: Outcome, skipped: u32) -> Option<Refusal> {
     }
 }
 
-/// Checks that a call with a buffer writes its text of this length, or says that the buffer is too small, and leaves the rest
-/// unwritten.
+/// Checks that a call with a buffer either writes its text, which has this length, or says that the buffer is too small. The rest of the
+/// buffer has to stay unwritten.
 fn ask_to_write(verdict: &mut Verdict, asked: Asked<'_>, room: usize, len: usize, wanted: &[u8]) {
     let Ok(mut buffer) = vec![in verdict.alloc; UNWRITTEN; room] else {
         verdict.lack();
@@ -170,8 +170,8 @@ fn ask_to_write(verdict: &mut Verdict, asked: Asked<'_>, room: usize, len: usize
     verdict.require(outcome.status == BUFFER && room < len && is_unwritten(&buffer));
 }
 
-/// Asks a call for its answer: the bytes that it writes where they fit, no more where the buffer is larger, and none where it is a
-/// byte smaller; or a refusal.
+/// Checks the answer of a call, which is a text or a refusal. The call has to write the text to a buffer of its length, no more bytes to a
+/// larger buffer, and none to a buffer that is a byte smaller.
 fn ask_call(verdict: &mut Verdict, asked: Asked<'_>, wanted: &[u8]) {
     let first = outcome_of(verdict, asked, &mut []);
     if first.status == OK || first.status == BUFFER {
@@ -200,8 +200,8 @@ fn underscored(alloc: Global, name: &[u8]) -> Result<Vec<u8>, AllocError> {
     Ok(longer)
 }
 
-/// Checks a call's answer for a name, as it is and after an underscore that the flag allows. The call has to say that there is
-/// no symbol after an underscore that no flag allows, nor without the name's first byte.
+/// Checks a call's answer for a name, as it is and after an underscore that the flag allows. The call has to say that there is no symbol
+/// after an underscore without the flag, nor in the name without its first byte.
 fn ask_for_name(verdict: &mut Verdict, asked: Asked<'_>, wanted: &[u8]) {
     let name = asked.bytes;
     let Ok(longer) = underscored(verdict.alloc, name) else {
@@ -230,7 +230,7 @@ fn ask_for_name(verdict: &mut Verdict, asked: Asked<'_>, wanted: &[u8]) {
     ask_status(verdict, rest, NO_SYMBOL);
 }
 
-/// Whether a name begins as a symbol does.
+/// Whether a name begins like a symbol.
 fn is_named(name: &[u8]) -> bool {
     name.starts_with(b"_Z") || name.starts_with(b"_R")
 }
@@ -258,7 +258,7 @@ fn are_put(outcome: Outcome, counts: SymbolCounts, wanted: Counts) -> bool {
     is_told && are_same
 }
 
-/// Checks the counting call: the counts of a symbol that is read, or why it isn't, as a demangler answered them.
+/// Checks the counting call: it has to report the counts of a symbol that is read, or the reason why it isn't, as a demangler answered these.
 pub fn ask_library_to_count(verdict: &mut Verdict, row: Row<'_>, answer: Demangled) {
     let s = row.s;
     let mut counts = uncounted();
@@ -323,7 +323,7 @@ fn ask_with_wrong_ends(verdict: &mut Verdict, s: &[u8], flags: u32) {
     ask_status_of_all(verdict, s, &[len], &mut one, NO_FLAG, FLAGS);
 }
 
-/// Checks that the call over one name, with what was left of the buffer, agrees with the call over many on that name.
+/// Checks that the call over one name, with what was left of the buffer, agrees with the call over many names on that name.
 fn ask_alone(verdict: &mut Verdict, asked: Asked<'_>, told: Outcome, left: &[u8]) {
     let Ok(mut buffer) = vec![in verdict.alloc; UNWRITTEN; left.len()] else {
         verdict.lack();
@@ -342,7 +342,7 @@ fn ask_alone(verdict: &mut Verdict, asked: Asked<'_>, told: Outcome, left: &[u8]
     }
 }
 
-/// Checks that the call over one name agrees with the call over many on each of them.
+/// Checks that the call over one name agrees with the call over many names on each of these names.
 fn ask_each_alone(
     verdict: &mut Verdict,
     names: &[&[u8]],
@@ -377,7 +377,7 @@ fn joined(alloc: Global, names: &[&[u8]], room: usize) -> Result<Vec<u8>, AllocE
     Ok(all)
 }
 
-/// Checks that the call over many names, with a buffer of this length, agrees with the call over one on each of three.
+/// Checks that the call over many names, with a buffer of this length, agrees with the call over one name on each of three names.
 fn ask_together(verdict: &mut Verdict, names: [&[u8]; 3], limit: u32, flags: u32, room: usize) {
     let Ok(mut all) = joined(verdict.alloc, &names, room) else {
         verdict.lack();
@@ -396,7 +396,7 @@ fn ask_together(verdict: &mut Verdict, names: [&[u8]; 3], limit: u32, flags: u32
     ask_each_alone(verdict, &names, limit, flags, buffer, &outcomes);
 }
 
-/// Calls the call over many names twice for a name's text, with room for it, and once with a byte too few.
+/// Checks the call over many names with one name given twice: with room for its text, and with a byte too few.
 fn ask_twice(verdict: &mut Verdict, asked: Asked<'_>) {
     let Asked {
         bytes,
@@ -427,7 +427,7 @@ fn ask_with_wrong_flags(verdict: &mut Verdict, s: &[u8]) {
     ask_status_of_counting(verdict, s, NO_FLAG, FLAGS);
 }
 
-/// Checks each call of the static library that gives a symbol's text. A name that begins as no symbol does is reported as such.
+/// Checks each call of the static library that gives a symbol's text. A name that doesn't begin like a symbol has to be reported as such.
 pub fn ask_library(verdict: &mut Verdict, row: Row<'_>) {
     let flags = flags_of(row.detail, row.wide, row.legacy);
     let asked = Asked::new(Call::Text, row.s, row.limit, flags);
@@ -441,17 +441,17 @@ pub fn ask_library(verdict: &mut Verdict, row: Row<'_>) {
     ask_with_wrong_ends(verdict, row.s, flags);
 }
 
-/// Asks the static library's call that presses a symbol for its spelling.
+/// Checks the spelling that the static library's call for pressing answers.
 pub fn ask_library_to_press(verdict: &mut Verdict, s: &[u8], wanted: &[u8]) {
     ask_library_to_press_by(verdict, s, 0, wanted);
 }
 
-/// Likewise with C++ by the wide grammar.
+/// Checks the spelling that this call answers with C++ by the wide grammar.
 pub fn ask_library_to_press_wide(verdict: &mut Verdict, s: &[u8], wanted: &[u8]) {
     ask_library_to_press_by(verdict, s, WIDE, wanted);
 }
 
-/// Likewise with flags.
+/// Checks the spelling that this call answers with flags.
 fn ask_library_to_press_by(verdict: &mut Verdict, s: &[u8], flags: u32, wanted: &[u8]) {
     let asked = Asked::new(Call::Press, s, 0, flags);
     if is_named(s) {
@@ -461,12 +461,12 @@ fn ask_library_to_press_by(verdict: &mut Verdict, s: &[u8], flags: u32, wanted: 
     }
 }
 
-/// Checks that the static library's call that presses says of a symbol of the wide grammar that it has no spelling.
+/// Checks that the static library's call for pressing reports that a symbol of the wide grammar has no spelling.
 pub fn ask_library_unspelled(verdict: &mut Verdict, s: &[u8]) {
     ask_status(verdict, Asked::new(Call::Press, s, 0, WIDE), NO_SPELLING);
 }
 
-/// Asks the static library's call that filters a text, as a command line says, which doesn't press.
+/// Checks the static library's call that filters a text, as a command line without pressing requests it.
 pub fn ask_library_to_filter(
     verdict: &mut Verdict,
     text: &[u8],
@@ -500,7 +500,7 @@ pub fn ask_oversize(verdict: &mut Verdict, s: &[u8]) {
     ask_together(verdict, names, limit, 0, 6);
 }
 
-/// Checks the calls over one name and over many for a type's text, or for why it has none. Each call has to say that the name
+/// Checks a type's text, or the reason why it has none, by the calls over one name and over many names. Each call has to say that the name
 /// is no symbol where types aren't requested or can't be read.
 pub fn ask_library_for_type(verdict: &mut Verdict, name: &[u8], limit: u32, wanted: &[u8]) {
     let asked = Asked::new(Call::Text, name, limit, TYPES);
@@ -529,7 +529,7 @@ pub fn ask_library_for_type(verdict: &mut Verdict, name: &[u8], limit: u32, want
     ask_status_of_counting(verdict, name, TYPES, NO_SYMBOL);
 }
 
-/// Checks that the static library's calls for names report that this one begins as no symbol does.
+/// Checks that the static library's calls for names report that this name doesn't begin like a symbol.
 pub fn ask_nameless(verdict: &mut Verdict, word: &[u8]) {
     let asked = Asked::new(Call::Text, word, u32::MAX, UNDERSCORE);
     ask_status(verdict, asked, NO_SYMBOL);

@@ -9,7 +9,7 @@ use std::alloc::Global;
 use sym_core::Refusal;
 use sym_demangle::Linker;
 
-/// Whether a finished linker that took this many steps repeats its answer, or none.
+/// Whether a finished linker that took this many steps answers again that nothing is left to do; none where it doesn't.
 fn done_again<M: Calls>(linker: &mut Linker<M>, taken: usize) -> Result<Option<bool>, Refusal>
     ensures { IfOk result (λ step. IfSome step (λ done. done ≡ true → linker.new.done ≡ true)) }
 {
@@ -25,8 +25,8 @@ fn refuses_again<M: Calls>(linker: &mut Linker<M>, refusal: Refusal, taken: usiz
     linker.step() == Err(refusal) && linker.steps() as usize == taken
 }
 
-/// One step of a linker after this many: whether nothing is left to do, or none where the step isn't counted or a repeated call
-/// answers otherwise.
+/// One step of a linker that has taken this many steps: whether nothing is left to do then. None where the step isn't counted, or where a
+/// repeated call answers otherwise.
 fn step<M: Calls>(linker: &mut Linker<M>, taken: usize) -> Result<Option<bool>, Refusal>
     ensures { IfOk result (λ step. IfSome step (λ done. done ≡ true → linker.new.done ≡ true)) }
 {
@@ -46,7 +46,7 @@ fn step<M: Calls>(linker: &mut Linker<M>, taken: usize) -> Result<Option<bool>, 
     }
 }
 
-/// Steps until nothing is left to do, and answers how many steps that took: at most these, or none.
+/// Steps until nothing is left to do, and answers how many steps that took. None where it takes more steps than these.
 fn step_all<M: Calls>(linker: &mut Linker<M>, most: usize) -> Result<Option<usize>, Refusal>
     ensures { IfOk result (λ taken. IfSome taken (λ _. linker.new.done ≡ true)) }
 {
@@ -77,7 +77,7 @@ fn rows_of<M: Calls>(alloc: Global, s: &[u8]) -> Result<usize, Refusal>
     Ok(shape.rows().len())
 }
 
-/// How many steps a reader takes that is fed byte by byte; none where one isn't as it has to be.
+/// How many steps a reader takes that is fed byte by byte; none where a step isn't as it has to be.
 fn reading_steps<M: Calls>(alloc: Global, s: &[u8]) -> Result<Option<usize>, Refusal> {
     let bytes: Vec<&[u8]> = s.chunks(1).collect(alloc)?;
     match fed(alloc, &M::grammar(), &bytes)? {

@@ -1,5 +1,5 @@
-//! Reads rows of symbols and what has to be answered, gives each symbol to every call that answers one, and names the rows
-//! where a call answers otherwise. `docs/TESTING.md` says how rows are written.
+//! Gives the symbols of rows to every call that answers symbols, and names the rows for which a call answers otherwise. A row has a symbol
+//! and the answer that it has to get. `docs/TESTING.md` says how rows are written.
 #![tactic(auto)]
 
 mod answer;
@@ -30,13 +30,13 @@ use std::process::ExitCode;
 /// The status where each row holds.
 const HELD: u8 = 0;
 
-/// The status where one doesn't, or there is none.
+/// The status where a row doesn't hold, or where there is no row.
 const FAILED: u8 = 1;
 
 /// The status where memory ran out, or reading or writing failed.
 const FAULT: u8 = 3;
 
-/// What became of the rows: whether there were some, whether one doesn't hold, and whether memory ran out for one.
+/// What became of the rows: whether there were any, whether one of them doesn't hold, and whether memory ran out for one of them.
 #[derive(Clone, Copy)]
 struct Outcome {
     some: bool,
@@ -72,8 +72,7 @@ fn check_each<R: Print + AllocGlobal>(
     Ok(outcome)
 }
 
-/// What holds the lists of both grammars. A function with the lists as separate arguments is proved over all that they are made
-/// of.
+/// What holds the lists of both grammars. The proof of a function that has the lists as arguments of their own is about everything in them.
 trait Held {
     fn lists(&mut self) -> &mut AllLists;
 }
@@ -84,7 +83,7 @@ impl Held for AllLists {
     }
 }
 
-/// Names the rows that don't hold, by their lines, over lists that are dropped then.
+/// Names the rows that don't hold, by their lines, with lists that are dropped afterwards.
 fn check_over<R: Print + AllocGlobal, H: Held + Drop>(
     rt: &R,
     mut held: H,
@@ -93,7 +92,7 @@ fn check_over<R: Print + AllocGlobal, H: Held + Drop>(
     check_each(rt, held.lists(), rows)
 }
 
-/// Names the rows that don't hold, by their lines, over lists of their own.
+/// Names the rows that don't hold, by their lines, with new lists.
 fn check_all<R: Print + AllocGlobal>(rt: &R, rows: &[u8]) -> io::Result<Outcome> {
     check_over(rt, AllLists::new(rt.alloc()), rows)
 }

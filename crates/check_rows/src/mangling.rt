@@ -1,4 +1,4 @@
-// The calls of a mangling's crate, by names that both crates' calls have.
+// The calls that the crates of both manglings have, each by one name.
 
 ghost use Rattle.sym_core.specs.Number.{FitsSymbol};
 

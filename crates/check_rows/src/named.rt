@@ -64,7 +64,7 @@ fn is_written(buffer: &[u8], text: &[u8]) -> bool {
     }
 }
 
-/// Whether the call told what a name is, how long its text is, and how many parts that has.
+/// Whether the call reported what a name is, how long its text is, and how many parts the text has.
 fn is_told(outcome: Outcome, found: NameFound, parsed: &Parsed) -> bool {
     outcome.length == parsed.text.len()
         && outcome.offset == 0
@@ -112,8 +112,8 @@ fn ask_with_room(verdict: &mut Verdict, name: &[u8], parsed: &Parsed, room: usiz
     }
 }
 
-/// Checks the call for the parts of a name that has these: it writes them and the text where there is room for both, and nothing where
-/// one byte or one part is missing.
+/// Checks the call for the parts of a name that has these parts. The call has to write the parts and the text where there is room for both,
+/// and nothing where one byte or one part is missing.
 pub fn ask_library_for_parts(verdict: &mut Verdict, name: &[u8], parsed: &Parsed) {
     let room = parsed.text.len();
     let places = parsed.parts.len();

@@ -30,7 +30,7 @@ fn spelled_parts(alloc: Global, parts: &[Part]) -> Result<Vec<u8>, AllocError> {
     Ok(spelled)
 }
 
-/// Notes whether a symbol is what a row says, with the text and the parts that it says.
+/// Notes whether a symbol is of the kind that a row says, and has the row's text and parts.
 fn require_parsed(verdict: &mut Verdict, parsed: &Parsed, row: Row<'_>, kind: &[u8], parts: &[u8]) {
     verdict.text(&parsed.text, row.wanted);
     verdict.require(parsed.kind.name().as_bytes() == kind);
@@ -40,8 +40,8 @@ fn require_parsed(verdict: &mut Verdict, parsed: &Parsed, row: Row<'_>, kind: &[
     }
 }
 
-/// Asks what a word's symbol is, and for its text with the parts, by the wide grammar and with legacy Rust names as paths. The static
-/// library's call has to say the same of the word.
+/// Checks what a word's symbol is, its text and the text's parts, by the wide grammar and with legacy Rust names as paths. The static
+/// library's call has to report the same for the word.
 pub fn ask_parts(verdict: &mut Verdict, word: &[u8], row: Row<'_>, kind: &[u8], parts: &[u8]) {
     if !fits(row.s) {
         verdict.require(false);

@@ -22,8 +22,7 @@ fn answers_again<Y: Layout>(
     printer.steps() == taken && printer.step(y) == answer && printer.steps() == taken
 }
 
-/// One step of a printer, the one with this number: whether nothing is left to do, or none where the step isn't counted or a
-/// repeated call answers otherwise.
+/// The step of a printer with this number: whether nothing is left to do then. None where the step isn't counted, or where a repeated call answers otherwise.
 fn step<Y: Layout>(
     printer: &mut Printer<Y::Ctx>,
     y: &Y,
@@ -42,8 +41,8 @@ fn step<Y: Layout>(
     Ok(Some(answer?))
 }
 
-/// The text of an item that is printed step by step, with each step counted. None where a step isn't as it has to be, or there
-/// are more than the limit and one.
+/// The text of an item that is printed step by step, with each step counted. None where a step isn't as it has to be, or where there are
+/// more steps than one more than the limit.
 pub fn printed_in_steps<Y: Layout>(
     alloc: Global,
     y: &Y,
@@ -79,7 +78,7 @@ fn open<Y: Layout>(
     Ok(())
 }
 
-/// Puts the parts of an item on top of those that wait, or adds the bytes of a text, and answers what it costs.
+/// Puts the parts of an item on top of those that wait, or adds the bytes of a text, and answers what the item or the text costs.
 fn take<Y: Layout>(
     y: &Y,
     part: Part<Y::Ctx>,
@@ -131,8 +130,7 @@ fn take_all<Y: Layout>(
     Ok(false)
 }
 
-/// The text of an item, built only from the parts of items and the bytes of texts. None where there are more of them than the
-/// text costs.
+/// The text of an item, built only from the parts of items and the bytes of texts. None where there are more parts than the text costs.
 ///
 /// # Errors
 ///

@@ -6,7 +6,7 @@ use sym_print::Detail;
 /// The limit where a row has none.
 pub const LIMIT: u32 = 1_000_000;
 
-/// Why a symbol that is read has no text.
+/// The reason why a symbol that is read has no text.
 pub const TOO_LONG: &[u8] = b"too long";
 
 /// A symbol, how it is shown and what has to be answered then.
@@ -24,7 +24,7 @@ pub struct Row<'a> {
 }
 
 impl<'a> Row<'a> {
-    /// The same symbol at another limit, where this has to be answered.
+    /// A row of the same symbol at another limit, with the answer that it has to have there.
     pub fn with(self, limit: u32, wanted: &'a [u8]) -> Row<'a> {
         Row {
             limit,

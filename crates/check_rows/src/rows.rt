@@ -1,4 +1,4 @@
-// Rows: a word that says what a row is of, and fields after it, with tabs between.
+// Rows: a row has a word that says what it is about, and then fields; tabs separate them.
 
 ghost use Rattle.sym_core.specs.Number.{FitsSymbol};
 
@@ -52,7 +52,7 @@ fn detail_of(name: &[u8]) -> Option<Detail> {
     }
 }
 
-/// The row of a word that names a symbol, by which nothing is wanted yet.
+/// A row for a word that names a symbol, which has no wanted answer yet.
 fn row_of(word: &[u8]) -> Option<Row<'_>> {
     match kind_of(word) {
         Some(kind) => Some(Row {
@@ -68,7 +68,7 @@ fn row_of(word: &[u8]) -> Option<Row<'_>> {
     }
 }
 
-/// The row of a word at a detail and the cost of its text.
+/// A row for a word in a detail, at the cost of its text.
 fn row_at<'a>(detail: &[u8], cost: &[u8], word: &'a [u8], text: &'a [u8]) -> Option<Row<'a>> {
     let row = row_of(word)?;
     Some(Row {
@@ -79,7 +79,7 @@ fn row_at<'a>(detail: &[u8], cost: &[u8], word: &'a [u8], text: &'a [u8]) -> Opt
     })
 }
 
-/// Asks for the text of a symbol at its cost, and whether it is too long one below and at 0.
+/// Checks the text of a symbol at a limit of its cost, and that it is too long at one less and at 0.
 fn ask_for_text(verdict: &mut Verdict, lists: &mut AllLists, row: Row<'_>) {
     let cost = row.limit;
     verdict.require(cost > 0);
@@ -97,7 +97,7 @@ fn ask_for_text(verdict: &mut Verdict, lists: &mut AllLists, row: Row<'_>) {
     }
 }
 
-/// Asks for the reason why a symbol is refused, whatever the limit. One that is too long at others may have a text at the greatest.
+/// Checks the reason why a symbol is refused, at several limits. A symbol that is too long at other limits may have a text at the greatest one.
 fn ask_for_reason(verdict: &mut Verdict, lists: &mut AllLists, row: Row<'_>) {
     let at_none = Row {
         limit: 0,
@@ -106,7 +106,7 @@ fn ask_for_reason(verdict: &mut Verdict, lists: &mut AllLists, row: Row<'_>) {
     };
     ask_each(verdict, lists, row);
     ask_each(verdict, lists, at_none);
-    // a text that costs more than all others would take hours there
+    // at the greatest limit a very long text would take hours
     if row.wanted != TOO_LONG && !verdict.failed {
         ask_each(verdict, lists, row.with(u32::MAX, row.wanted));
     }
@@ -132,7 +132,7 @@ fn spelled_text(alloc: Global, row: Row<'_>, len: u32) -> Result<Option<Vec<u8>>
     Ok(None)
 }
 
-/// Checks that a text of this length is answered at its cost, and that one below its cost it is too long.
+/// Checks that a text of this length is answered at a limit of its cost, and that it is too long at one less.
 fn ask_for_length(verdict: &mut Verdict, lists: &mut AllLists, row: Row<'_>, len: u32) {
     verdict.require(row.limit > 0 && fits(row.s));
     if !fits(row.s) {
@@ -155,7 +155,7 @@ fn ask_for_length(verdict: &mut Verdict, lists: &mut AllLists, row: Row<'_>, len
     ask_each(verdict, lists, row.with(below, TOO_LONG));
 }
 
-/// A front, repeated bytes after it, and an end.
+/// Bytes with a front, repeated bytes, and an end.
 fn repeated(
     alloc: Global,
     front: &[u8],
@@ -171,7 +171,7 @@ fn repeated(
     Ok(whole)
 }
 
-/// Asks each call that presses for a word's spelling.
+/// Checks a word's spelling by each call that presses.
 fn ask_to_press(verdict: &mut Verdict, lists: &mut Lists<Abi>, word: &[u8], pressed: &[u8]) {
     let (Some(row), Some(pressed_row)) = (row_of(word), row_of(pressed)) else {
         verdict.require(false);
@@ -193,7 +193,7 @@ fn ask_to_press(verdict: &mut Verdict, lists: &mut Lists<Abi>, word: &[u8], pres
     }
 }
 
-/// Asks each call that presses by the wide grammar for a word's spelling, or whether it has none.
+/// Checks a word's spelling, or that it has none, by each call that presses by the wide grammar.
 fn ask_to_press_wide(verdict: &mut Verdict, lists: &mut Lists<Wide>, word: &[u8], wanted: &[u8]) {
     let Some(row) = row_of(word) else {
         verdict.require(false);
@@ -220,7 +220,7 @@ fn ask_to_press_wide(verdict: &mut Verdict, lists: &mut Lists<Wide>, word: &[u8]
     ask_library_to_press_wide(verdict, row.s, spelling);
 }
 
-/// Asks what a row `text` says.
+/// Checks what a row `text` says.
 fn of_text(
     verdict: &mut Verdict,
     lists: &mut AllLists,
@@ -246,7 +246,7 @@ fn of_text(
     }
 }
 
-/// Asks what a row `refused` says.
+/// Checks what a row `refused` says.
 fn of_refused(
     verdict: &mut Verdict,
     lists: &mut AllLists,
@@ -273,7 +273,7 @@ fn of_refused(
     }
 }
 
-/// Asks what a row `long` says.
+/// Checks what a row `long` says.
 fn of_long(verdict: &mut Verdict, lists: &mut AllLists, fields: &[&[u8]]) {
     let [detail, cost, word, len] = fields else {
         verdict.require(false);
@@ -285,7 +285,7 @@ fn of_long(verdict: &mut Verdict, lists: &mut AllLists, fields: &[&[u8]]) {
     }
 }
 
-/// Asks what a row `repeated` says. The symbol may be longer than any word that the filter takes.
+/// Checks what a row `repeated` says. The symbol may be longer than any word that the filter takes.
 fn of_repeated(
     verdict: &mut Verdict,
     lists: &mut AllLists,
@@ -308,7 +308,7 @@ fn of_repeated(
     Ok(())
 }
 
-/// Asks what a row `oversize` says.
+/// Checks what a row `oversize` says.
 fn of_oversize(verdict: &mut Verdict, fields: &[&[u8]]) -> Result<(), AllocError> {
     let [front, count, bytes, end] = fields else {
         verdict.require(false);
@@ -326,7 +326,7 @@ fn of_oversize(verdict: &mut Verdict, fields: &[&[u8]]) -> Result<(), AllocError
     Ok(())
 }
 
-/// Asks what a row `nameless` says.
+/// Checks what a row `nameless` says.
 fn of_nameless(verdict: &mut Verdict, fields: &[&[u8]]) {
     match fields {
         [word] => {
@@ -337,7 +337,7 @@ fn of_nameless(verdict: &mut Verdict, fields: &[&[u8]]) {
     }
 }
 
-/// Asks what a row `type` says: the text of a type at its cost, and that it is too long one below.
+/// Checks what a row `type` says: the text of a type at a limit of its cost, and that it is too long at one less.
 fn of_type(verdict: &mut Verdict, fields: &[&[u8]]) {
     let [cost, name, text] = fields else {
         verdict.require(false);
@@ -353,7 +353,7 @@ fn of_type(verdict: &mut Verdict, fields: &[&[u8]]) {
     }
 }
 
-/// Asks what a row `type refused` says: why a name is no type.
+/// Checks what a row `type refused` says: why a name is no type.
 fn of_refused_type(verdict: &mut Verdict, fields: &[&[u8]]) {
     match fields {
         [name, reason] => {
@@ -364,7 +364,7 @@ fn of_refused_type(verdict: &mut Verdict, fields: &[&[u8]]) {
     }
 }
 
-/// Asks what a row `press` says: a word's pressed spelling, which is pressed again unchanged.
+/// Checks what a row `press` says: a word's pressed spelling, which is pressed again unchanged.
 fn of_press(verdict: &mut Verdict, lists: &mut Lists<Abi>, fields: &[&[u8]]) {
     match fields {
         [word, pressed] => {
@@ -375,8 +375,8 @@ fn of_press(verdict: &mut Verdict, lists: &mut Lists<Abi>, fields: &[&[u8]]) {
     }
 }
 
-/// Asks what a row `wide press` says: a word's pressed spelling with C++ by the wide grammar, which is pressed again unchanged, or why it
-/// has none.
+/// Checks what a row `wide press` says: a word's pressed spelling with C++ by the wide grammar, which is pressed again unchanged, or the
+/// reason why there is none.
 fn of_wide_press(verdict: &mut Verdict, lists: &mut Lists<Wide>, fields: &[&[u8]]) {
     let [word, wanted] = fields else {
         verdict.require(false);
@@ -388,7 +388,7 @@ fn of_wide_press(verdict: &mut Verdict, lists: &mut Lists<Wide>, fields: &[&[u8]
     }
 }
 
-/// Asks what a row `tree` says.
+/// Checks what a row `tree` says.
 fn of_tree(verdict: &mut Verdict, fields: &[&[u8]]) {
     let [word, tree] = fields else {
         verdict.require(false);
@@ -400,7 +400,7 @@ fn of_tree(verdict: &mut Verdict, fields: &[&[u8]]) {
     }
 }
 
-/// Asks what a row `parts` says.
+/// Checks what a row `parts` says.
 fn of_parts(verdict: &mut Verdict, fields: &[&[u8]]) {
     let [word, kind, text, parts] = fields else {
         verdict.require(false);
@@ -412,7 +412,7 @@ fn of_parts(verdict: &mut Verdict, fields: &[&[u8]]) {
     }
 }
 
-/// Asks what a row `way` says. Its last field names the form of the symbol, for the page.
+/// Checks what a row `way` says. Its last field names the form of the symbol, for the page.
 fn of_way(verdict: &mut Verdict, fields: &[&[u8]]) {
     let [grammar, detail, word, way, _form] = fields else {
         verdict.require(false);
@@ -427,7 +427,7 @@ fn of_way(verdict: &mut Verdict, fields: &[&[u8]]) {
     }
 }
 
-/// How a program has to end by three fields.
+/// How a program has to end, as three fields say.
 fn ending<'a>(verdict: &mut Verdict, status: &[u8], out: &'a [u8], err: &'a [u8]) -> Ending<'a> {
     let status = number(status);
     verdict.require(status.is_some());
@@ -438,7 +438,7 @@ fn ending<'a>(verdict: &mut Verdict, status: &[u8], out: &'a [u8], err: &'a [u8]
     }
 }
 
-/// Asks what a row `filter` says.
+/// Checks what a row `filter` says.
 fn of_filter(verdict: &mut Verdict, fields: &[&[u8]]) -> Result<(), AllocError> {
     let [options, text, filtered] = fields else {
         verdict.require(false);
@@ -447,7 +447,7 @@ fn of_filter(verdict: &mut Verdict, fields: &[&[u8]]) -> Result<(), AllocError> 
     ask_to_filter(verdict, options, text, filtered)
 }
 
-/// Asks what a row `command` says.
+/// Checks what a row `command` says.
 fn of_command(verdict: &mut Verdict, fields: &[&[u8]]) -> Result<(), AllocError> {
     let [status, words, out, err] = fields else {
         verdict.require(false);
@@ -457,7 +457,7 @@ fn of_command(verdict: &mut Verdict, fields: &[&[u8]]) -> Result<(), AllocError>
     ask_to_end(verdict, words, ending)
 }
 
-/// Asks what a row `demangle` says.
+/// Checks what a row `demangle` says.
 fn of_demangle(verdict: &mut Verdict, fields: &[&[u8]]) -> Result<(), AllocError> {
     let [status, words, input, out, err] = fields else {
         verdict.require(false);
@@ -467,7 +467,7 @@ fn of_demangle(verdict: &mut Verdict, fields: &[&[u8]]) -> Result<(), AllocError
     ask_to_demangle(verdict, words, input, ending)
 }
 
-/// Asks what a row `filter`, `command` or `demangle` says.
+/// Checks what a row `filter`, `command` or `demangle` says.
 fn of_program(verdict: &mut Verdict, what: &[u8], fields: &[&[u8]]) -> Result<(), AllocError> {
     match what {
         b"filter" => of_filter(verdict, fields),
@@ -480,7 +480,7 @@ fn of_program(verdict: &mut Verdict, what: &[u8], fields: &[&[u8]]) -> Result<()
     }
 }
 
-/// The change that a row is of.
+/// The change that a row is about.
 fn change_of(what: &[u8]) -> Option<Change> {
     match what {
         b"cut" => Some(Change::Cut),
@@ -491,7 +491,7 @@ fn change_of(what: &[u8]) -> Option<Change> {
     }
 }
 
-/// Asks what a row `cut` or `put` says: the answers for a word that is cut, or changed, at each place in turn.
+/// Checks what a row `cut` or `put` says: the answers for a word that is cut, or changed, at each place in turn.
 fn of_changes(
     verdict: &mut Verdict,
     lists: &mut AllLists,
@@ -535,7 +535,7 @@ fn of_other(
     Ok(())
 }
 
-/// Checks what a row says of a legacy name, by each grammar of C++, or what is neither a text nor a refusal.
+/// Checks what a row says of a legacy name, by each grammar of C++, or what a row says that is neither a text nor a refusal.
 fn of_legacy_or_other(
     verdict: &mut Verdict,
     lists: &mut AllLists,
@@ -556,7 +556,7 @@ fn of_legacy_or_other(
     Ok(())
 }
 
-/// Asks each call what a row of these fields says.
+/// Checks by each call what a row of these fields says.
 fn ask_fields(
     verdict: &mut Verdict,
     lists: &mut AllLists,
@@ -576,7 +576,7 @@ fn ask_fields(
     Ok(())
 }
 
-/// Asks each call what a row says, whose fields have tabs between.
+/// Checks by each call what a row says, whose fields are separated by tabs.
 fn ask_row(verdict: &mut Verdict, lists: &mut AllLists, row: &[u8]) -> Result<(), AllocError> {
     let fields: Vec<&[u8]> = row.split(|byte| *byte == b'\t').collect(verdict.alloc)?;
     match fields.as_slice() {
@@ -588,7 +588,7 @@ fn ask_row(verdict: &mut Verdict, lists: &mut AllLists, row: &[u8]) -> Result<()
     }
 }
 
-/// What becomes of a row, where each call is asked what it says.
+/// The verdict on a row, by each call.
 pub fn verdict_of(alloc: Global, lists: &mut AllLists, row: &[u8]) -> Verdict {
     let mut verdict = Verdict::new(alloc);
     if ask_row(&mut verdict, lists, row).is_err() {

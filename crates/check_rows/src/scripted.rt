@@ -12,7 +12,7 @@ pub enum Call {
     Fails,
 }
 
-/// Bytes that come as a script says. Once the script is at its end, each read gives all that there is room for.
+/// Bytes that come as a script says. After the end of the script each read gives as many bytes as there is room for.
 #[derive(Drop)]
 pub struct ScriptedSource<'a> {
     bytes: &'a [u8],
@@ -74,7 +74,7 @@ impl Source for ScriptedSource<'_> {
     }
 }
 
-/// Bytes taken as a script says.
+/// A sink that takes bytes as a script says.
 #[derive(Drop)]
 pub struct ScriptedSink<'a> {
     bytes: Vec<u8>,

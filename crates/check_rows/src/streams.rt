@@ -14,16 +14,16 @@ use symfilt_command::{filter_asked, run, run_to};
 /// More reads than the text of a row needs.
 const READS: u64 = 1_000;
 
-/// The calls that fail in turn in each stream.
+/// How many calls of each stream fail, one in each run.
 const CALLS: usize = 40;
 
-/// The bytes that a read moves while a write is to fail.
+/// The bytes that a read moves in a run in which a write fails.
 const PIECE: usize = 5;
 
 /// The bytes that a read of a long word moves.
 const LONG_PIECE: usize = 40_000;
 
-/// Calls that move two bytes each, except for one.
+/// Calls that move two bytes each, except one call, which fails.
 fn with_failure(good: usize, failure: Call) -> [Call; CALLS] {
     let mut calls = [Call::Moves(2); CALLS];
     if good < CALLS {
@@ -40,7 +40,7 @@ fn may_be_written(ended: bool, written: &[u8], wanted: &[u8]) -> bool {
     wanted.starts_with(written)
 }
 
-/// Notes whether a fault is reported as such.
+/// Notes whether a fault is reported in these words.
 fn ask_to_say(verdict: &mut Verdict, fault: FilterFault, words: &str) {
     match format!(in verdict.alloc; "{fault}") {
         Ok(said) => verdict.require(said.as_str() == words),
@@ -48,14 +48,14 @@ fn ask_to_say(verdict: &mut Verdict, fault: FilterFault, words: &str) {
     }
 }
 
-/// Asks for the words of each fault.
+/// Checks the words of each fault.
 fn ask_for_words(verdict: &mut Verdict) {
     ask_to_say(verdict, FilterFault::Read, "read failed");
     ask_to_say(verdict, FilterFault::Write, "write failed");
     ask_to_say(verdict, FilterFault::Memory, "out of memory");
 }
 
-/// Filters what comes from a source, where a script decides the writes. It fails exactly where a read or a write did.
+/// Filters what comes from a source; a script decides the writes. Filtering has to fail exactly if a read or a write failed.
 fn ask_to_filter_over(
     verdict: &mut Verdict,
     filtering: Filtering,
@@ -89,7 +89,7 @@ fn ask_in_pieces(verdict: &mut Verdict, filtering: Filtering, text: &[u8], wante
     }
 }
 
-/// Filters a text where a read or a write fails, at each call in turn, and where no read is left.
+/// Filters a text while a read or a write fails, at each call in turn, and while no read is left.
 fn ask_with_failures(verdict: &mut Verdict, filtering: Filtering, text: &[u8], wanted: &[u8]) {
     let pieces = [Call::Moves(PIECE); CALLS];
     for good in 0..CALLS {
@@ -113,7 +113,7 @@ pub fn ask_streams(verdict: &mut Verdict, filtering: Filtering, text: &[u8], wan
     ask_for_words(verdict);
 }
 
-/// Asks for a long symbol to be filtered as one word, which is replaced by its text unless it is longer than words are.
+/// Filters a long symbol as one word, which has to be replaced by its text, unless it is longer than words may be.
 pub fn ask_long_word(verdict: &mut Verdict, row: Row<'_>, text: &[u8]) {
     let filtering = Filtering {
         limit: row.limit,
@@ -133,7 +133,7 @@ pub fn ask_long_word(verdict: &mut Verdict, row: Row<'_>, text: &[u8]) {
     ask_to_filter_over(verdict, filtering, source, &[], wanted);
 }
 
-/// Writes the lines of a command line to sinks, where scripts decide the writes. It fails where one of them did.
+/// Writes the lines of a command line to sinks; scripts decide the writes. Writing has to fail if one of these writes failed.
 fn ask_to_write_over(
     verdict: &mut Verdict,
     words: &[&str],
@@ -157,7 +157,7 @@ fn ask_to_write_over(
     verdict.require(ended && is_out && is_err);
 }
 
-/// Writes the lines of a command line where a write of answers or of complaints fails, at each call in turn.
+/// Writes the lines of a command line while a write of answers or of complaints fails, at each call in turn.
 pub fn ask_sinks(verdict: &mut Verdict, words: &[&str]) {
     let mut out = Vec::new(verdict.alloc);
     let mut err = Vec::new(verdict.alloc);

@@ -1,4 +1,4 @@
-// The nodes of a symbol, each put together with those of its parts.
+// The trees of a symbol's nodes: the tree of each node is put together from those of its parts.
 
 ghost use Rattle.std.specs.Prelude.{◌+◌, ◌<◌, ◌≤◌, length};
 ghost use Rattle.sym_core.specs.declared.TheConstants.{MOST_BYTES};
@@ -76,7 +76,7 @@ fn tree_at(alloc: Global, trees: &[Vec<u8>], number: u32) -> Result<Vec<u8>, All
     }
 }
 
-/// Appends an offset, with a minus before it where it is negative.
+/// Appends an offset, after a minus if it is negative.
 fn push_offset(
     symbol: &itanium::Symbol,
     offset: Signed,
@@ -90,7 +90,7 @@ fn push_offset(
     tree.extend_from_slice(symbol.bytes_of(offset.digits))
 }
 
-/// Appends in braces what a pointer is adjusted by.
+/// Appends the offsets that adjust a pointer, in braces.
 fn push_adjustment(
     symbol: &itanium::Symbol,
     adjustment: Adjustment,
@@ -213,7 +213,7 @@ fn tree_of_pieces(alloc: Global, first: &[u8], second: &[u8]) -> Result<Vec<u8>,
     Ok(rust_tree(alloc, &symbol)?)
 }
 
-/// Asks for the tree of a symbol: each node with the trees of its parts, or why it isn't read.
+/// Checks the tree of a symbol, in which each node has the trees of its parts, or the reason why the symbol isn't read.
 pub fn ask_tree(verdict: &mut Verdict, row: Row<'_>) {
     let Row { s, wanted, .. } = row;
     if !fits(s) || s.len() < 2 {

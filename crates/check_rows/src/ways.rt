@@ -15,7 +15,7 @@ use sym_print::Detail;
 /// What a row has where the short way writes the text.
 const SHORT: &[u8] = b"short";
 
-/// What a row has where the short way leaves it to the general one.
+/// What a row has where the short way leaves the symbol to the general way.
 const GENERAL: &[u8] = b"general";
 
 /// Whether the short way writes a C++ symbol, by the wide grammar or by the ABI's.
@@ -37,7 +37,7 @@ fn is_short_in_rust(alloc: Global, s: &[u8], detail: Detail) -> bool
     }
 }
 
-/// Asks for the way of a symbol that has a text by a mangling.
+/// Checks the way of a symbol that has a text by a mangling.
 fn ask_way_by<M: Calls>(
     verdict: &mut Verdict,
     s: &[u8],
@@ -52,7 +52,7 @@ fn ask_way_by<M: Calls>(
     verdict.require(way == wanted);
 }
 
-/// Asks for the way of a symbol by the grammar of this name, in a detail.
+/// Checks the way of a symbol by the grammar of this name, in a detail.
 pub fn ask_way(verdict: &mut Verdict, grammar: &[u8], s: &[u8], detail: Detail, wanted: &[u8]) {
     if !fits(s) {
         verdict.require(false);

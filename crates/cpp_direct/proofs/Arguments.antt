@@ -487,8 +487,7 @@ argument-belongs : (detail : Detail) (names : Names) (is_pack : Bool) (known : A
     (before : List Term) (before_text : List ℕ) → ComeBefore detail is_pack known before before_text
     → opened ≡ argument_around is_pack owner rest → Belongs detail names (arguments_or_pack is_pack before before_text) opened owner rest
 argument-belongs detail names false known opened owner rest before before_text come is = is
-argument-belongs detail names true known opened owner rest before before_text come is =
-    (is, all-as detail names (is_noted owner) 3 before before_text come.prints)
+argument-belongs detail names true known opened owner rest before before_text come is = (is, all-as detail names (is_noted owner) 3 before before_text come.prints)
 
 -- unknown arguments may follow
 pub known-passes : (s : Symbol) (w : Direct) (is_pack : Bool) (last : ℕ) (known : Arguments) → AwaitsKnownArgument s w is_pack last known

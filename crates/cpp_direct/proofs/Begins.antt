@@ -16,8 +16,7 @@ encoded-whole s opened_ e at st comes = record {
 
 -- where no local entity is named, an encoding ends the symbol
 whole-behind : (s : Symbol) (lead : List ℕ) (e : Term) (at : ℕ) (st : State) → is_local s.bytes ≡ false → EndsBehind s lead e at → EncodedBehind s lead e at st
-whole-behind s lead e at st apart p =
-    record { whole = λ f. p; entity = λ is. absurd (false≢true (sym apart ∙ is)); member = λ is. absurd (false≢true (sym apart ∙ is)) }
+whole-behind s lead e at st apart p = record { whole = λ f. p; entity = λ is. absurd (false≢true (sym apart ∙ is)); member = λ is. absurd (false≢true (sym apart ∙ is)) }
 
 -- nor an object's guard variable
 no-object : (s : List ℕ) → is_local s ≡ false → is_guard s ≡ false → is_object s ≡ false

@@ -10,7 +10,7 @@ pub use Rattle.cpp_direct.proofs.PrintedLocals.{piece-prints}
 pub use Rattle.cpp_direct.proofs.Scopes.{entry-scoped, none-scoped}
 pub use Rattle.cpp_direct.proofs.Ending.{ends-plain, ends-suffixed, first-expected as first-parameter-expected, front-bare, front-begins, front-hidden, front-same, front-turned, function-closed, function-ended, function-named as own-function-named, marks-written, name-within as name-within-text, no-void, object-ended, parameter-expected, parameters-begin, symbol-ended, void-ended}
 pub use Rattle.cpp_direct.proofs.Listed.{another-expected, closed-by, empty-pack-ends, first-closed, first-expected, last-found, list-ends, name-closed, nest-closed, no-pack, none-packed, nothing-known, pack-begins, pack-ends, type-closed, type-expected, waits-last}
-pub use Rattle.cpp_direct.proofs.NamePlaces.{digit-byte, digits-read, name-placed, name-read, number-found, one-digit, own-each, own-found, own-is, own-placed, place-found, reached-more, reads-begun, reads-of, reads-then, reads-written, some-by, tag-read, there-at, two-digits}
+pub use Rattle.cpp_direct.proofs.NamePlaces.{seq-there, digit-byte, digits-read, name-placed, name-read, number-found, one-digit, own-each, own-found, own-is, own-placed, place-found, reached-more, reads-begun, reads-of, reads-then, reads-written, some-by, tag-read, there-at, two-digits}
 pub use Rattle.cpp_direct.proofs.Elements.{boolean-literal-read, boolean-read, cast-integer-read, enumerator-expected, enumerator-read, integer-literal-read, literal-added, minus-digits, normal-other, normal-short, normal-step, offset-read, plain-digits, plain-integer-read, zero-digits}
 pub use Rattle.cpp_direct.proofs.Arguments.{argument-awaits, argument-begins, argument-closes, argument-enumerator-expected, argument-enumerator-read, argument-type, element-begins, element-passed, first-enumerator-expected, known-next, known-passes, literal-read, next-argument-begins, none-next, pack-after, pack-closes, pack-ends-empty, value-argument, value-argument-enumerator}
 pub use Rattle.cpp_direct.proofs.MovesOfNests.{first-is-rest}

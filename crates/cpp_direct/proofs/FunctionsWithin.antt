@@ -42,8 +42,7 @@ name-opens s os around at st becomes expects then_ =
 -- its types may name these arguments
 pub items-scoped : {s : Symbol} {encoding : ℕ} {becomes : Term → (at : ℕ) → State → Type 0} (argument : Arguments) (v : Value) (at : ℕ) (st : State)
     (p : ItemsOf s encoding becomes v at st) → HasScope argument p.around → ItemsGoOn s argument becomes (λ l. encoding_of v l) [] at st
-items-scoped argument v at st p scoped =
-    record { around = p.around; inner = p.inner; outside = p.outside; scoped = scoped; awaits = p.awaits; onward = p.onward }
+items-scoped argument v at st p scoped = record { around = p.around; inner = p.inner; outside = p.outside; scoped = scoped; awaits = p.awaits; onward = p.onward }
 
 -- the arguments that its name ends in are known now, and its types may name them
 pub now-scoped : {s : Symbol} {mark : Mark} {from : ℕ} {becomes : Term → (at : ℕ) → State → Type 0} (old new : Direct) (to : ℕ) (argument noted : Arguments) (kept : Kept s old)
@@ -355,8 +354,7 @@ void-unshown {s = s} {Within = Within} {mark = mark} {argument = argument} w n p
 -- and so is that of a function with one parameter read
 pub led-inside : {s : Symbol} {extra : ℕ} {mark : Mark} {argument : Arguments} {entry : Open} {Leads : LeadsSo} {Within : WithinOpen} (w : Direct) (to : ℕ)
     (p : IsLedParameterRead s w extra mark argument entry Leads Within) → to ≡ length (p.front ++ p.name) → to ≤ length w.text.list.items
-led-inside w to p to_is =
-    name-inside w.text.list.items p.front p.name (codes "(" ++ p.texts) to (p.written ∙ append_assoc (p.front ++ p.name) (codes "(") p.texts) to_is
+led-inside w to p to_is = name-inside w.text.list.items p.front p.name (codes "(" ++ p.texts) to (p.written ∙ append_assoc (p.front ++ p.name) (codes "(") p.texts) to_is
 
 -- what was opened for the parameters is closed
 led-popped : {s : Symbol} {extra : ℕ} {mark : Mark} {argument : Arguments} {entry : Open} {Leads : LeadsSo} {Within : WithinOpen} (w shut : Direct)

@@ -250,14 +250,12 @@ noted-nest {detail} {names} front name text nest t type p = record {
 -- the template before it stays
 noted-template : (detail : Detail) (names : Names) (o noted : Open) (front : List ℕ) (t : Term) (name text : List ℕ) → IsDependentNow o noted
     → IsTemplate detail names o front t name text → IsTemplate detail names noted front t name text
-noted-template detail names (Open.TypeArguments from is_dependent) noted front t name text is p =
-    subst (λ o. IsTemplate detail names o front t name text) (sym is) p
+noted-template detail names (Open.TypeArguments from is_dependent) noted front t name text is p = subst (λ o. IsTemplate detail names o front t name text) (sym is) p
 noted-template detail names (Open.NestArguments nest) noted front t name text is p =
     subst (λ o. IsTemplate detail names o front t name text) (sym is.1) (noted-nest front name text nest t is.0 p.0, p.1, p.2)
 noted-template detail names (Open.FirstArguments nest) noted front t name text is p =
     subst (λ o. IsTemplate detail names o front t name text) (sym is.1) (noted-nest front name text nest t is.0 p)
-noted-template detail names (Open.LevelArguments is_dependent) noted front t name text is p =
-    subst (λ o. IsTemplate detail names o front t name text) (sym is) p
+noted-template detail names (Open.LevelArguments is_dependent) noted front t name text is p = subst (λ o. IsTemplate detail names o front t name text) (sym is) p
 noted-template detail names _ noted front t name text is p = absurd is
 
 -- it becomes the same instance

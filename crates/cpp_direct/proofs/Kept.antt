@@ -134,8 +134,7 @@ kept-as s old new st kept text candidates scope_same are = record {
 -- nothing was written
 abbrev pub kept-same : (s : Symbol) (old new : Direct) → new.text ≡ old.text → new.candidates ≡ old.candidates → new.has_scope ≡ old.has_scope
     → Kept s old → Kept s new
-kept-same s old new text candidates scope_same kept =
-    kept-as s old new kept.state kept text (ap (λ v. v.list.items) candidates) scope_same kept.keeps.candidates
+kept-same s old new text candidates scope_same kept = kept-as s old new kept.state kept text (ap (λ v. v.list.items) candidates) scope_same kept.keeps.candidates
 
 -- these bytes were written
 abbrev pub kept-grown : (s : Symbol) (old new : Direct) (bytes : List ℕ) → new.text.list.items ≡ old.text.list.items ++ bytes

@@ -26,8 +26,7 @@ takes-it s kind p byte taken chosen small takes = takes-by s.is_wide kind (numbe
 -- a production that only the wide grammar has
 pub takes-wide : (s : Symbol) (kind : Kind) (p : Production) (byte : ℕ) (taken : List ℕ) → s.is_wide ≡ true → wide_choose kind byte ≡ Some p → byte < 256
     → taken ≡ (if not (is_chain p) then byte ∷ [] else []) → TakesRule (table_by s.is_wide) (number_of_kind kind) (rule_of p) taken
-takes-wide s kind p byte taken wide chosen small takes =
-    tables.takes-wide s.is_wide kind (number_of_kind kind) byte p taken wide (kind-at kind) chosen small takes
+takes-wide s kind p byte taken wide chosen small takes = tables.takes-wide s.is_wide kind (number_of_kind kind) byte p taken wide (kind-at kind) chosen small takes
 
 -- ## Bytes at a place
 

@@ -66,8 +66,7 @@ pub element-awaits : (s : Symbol) (kind : Kind) (os : List Opened) (around : Aro
 unfolding is_eaten is_left number_of_kind parts_of between close unfolding_behind meaning part byte_of tree_of text_of piece_of letter_of is_there
 element-awaits s Kind.ArgumentList os around at st list_kind expects =
     type-awaits s Kind.ArgumentList os around at st (listed-awaits s Kind.ArgumentList os around at st tt expects)
-element-awaits s Kind.PackList os around at st list_kind expects =
-    type-awaits s Kind.PackList os around at st (listed-awaits s Kind.PackList os around at st tt expects)
+element-awaits s Kind.PackList os around at st list_kind expects = type-awaits s Kind.PackList os around at st (listed-awaits s Kind.PackList os around at st tt expects)
 element-awaits s Kind.Items os around at st list_kind expects =
     let p = Production.Items in
     let one = chain-opens (leaves s Kind.Items p 80 refl) (hole s Kind.Items around os at st expects) refl refl in

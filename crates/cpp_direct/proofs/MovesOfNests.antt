@@ -305,8 +305,7 @@ destructor-taken : (s : Symbol) (digit : ℕ) → IsDestructorDigit s.is_wide di
 unfolding is_eaten is_eaten_widely
 destructor-taken s digit (inl (low, high)) =
     eats s Kind.ComponentAfterD Production.Mark digit (rw (le-leb 48 digit low, le-leb digit 50 high, lt-ltb digit 256 (omega (arith, high))) refl)
-destructor-taken s digit (inr (wide, is)) =
-    eats-widely s Kind.ComponentAfterD Production.Mark digit wide (elim is [ inl four ↦ rw four refl | inr five ↦ rw five refl ])
+destructor-taken s digit (inr (wide, is)) = eats-widely s Kind.ComponentAfterD Production.Mark digit wide (elim is [ inl four ↦ rw four refl | inr five ↦ rw five refl ])
 
 -- a constructor
 pub component-constructor : (s : Symbol) (os : List Opened) (around : Around) (t : Term) (listed : Bool) (at : ℕ) (st : State) (digit : ℕ)

@@ -358,8 +358,7 @@ plain-array-opens s kind os around at st digits end whole expects stands is =
 pub array-opens : (s : Symbol) (access : Access) (kind : Kind) (os : List Opened) (around : Around) (at : ℕ) (st : State) (digits : List ℕ) (end : ℕ)
     → IsQualifiable kind → (access ≡ Access.Lvalue → IsReferable kind) → Expects s kind around os at st → StandsAt s.bytes at (access_letters access)
     → IsSizeAt s.bytes (at + length (access_letters access)) digits end → ArrayOpened s os around access digits end st
-array-opens s Access.Plain kind os around at st digits end whole referable expects stands is =
-    plain-array-opens s kind os around at st digits end whole expects stands is
+array-opens s Access.Plain kind os around at st digits end whole referable expects stands is = plain-array-opens s kind os around at st digits end whole expects stands is
 array-opens s Access.Pointer kind os around at st digits end whole referable expects stands is =
     let both = stands-split s.bytes at (80 ∷ []) (65 ∷ []) stands in
     let o = pointer-opens s kind around os at st (typed kind whole) expects both.0 in

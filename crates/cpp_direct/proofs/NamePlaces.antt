@@ -1,5 +1,5 @@
 -- Names and numbers that were found, the bytes at a place, and where names are.
-use Rattle.cpp_direct.proofs.Basics.{◌≡◌, ◌≢◌, ℕ, ◌+◌, ◌-◌, ◌*◌, ◌≤◌, ◌<◌, suc, List, [], ◌∷◌, ◌++◌, length, take, drop, get_or, codes, Bool, true, false, ◌&&◌, not, nat_eq, nat_lt, refl, ap, sym, subst, ◌∙◌, arith, append_assoc, append-nil, slice_get, Option, Some, None, Result, Ok, Err, get_or-drop, get_or-take, length-append, length-drop, length-take-le, take-append-drop, drop-drop, and_parts, le-leb, ltb-false, ltb-true, nat_tests, drop-append_seam, is_decimal_digit, NumberKind, ReachesNameBytes, signed_digits, source_text, TokenPlace, AreNameBytes, IsSeparator, IsName, HasToken, is_name_byte, Token, IsNumberToken, FindsToken, Direct, IsDigitsAt, IsNameAt, IsNumberAt, IsTagAt, StandsAt, IsLengthRead, IsNamePlace, number_text, Reads, tag_text, Writes, slice_get_read, OnSome, NameClass}
+use Rattle.cpp_direct.proofs.Basics.{counted_value, ◌≡◌, ◌≢◌, ℕ, ◌+◌, ◌-◌, ◌*◌, ◌≤◌, ◌<◌, suc, List, [], ◌∷◌, ◌++◌, length, take, drop, get_or, codes, Bool, true, false, ◌&&◌, not, nat_eq, nat_lt, refl, ap, sym, subst, ◌∙◌, arith, append_assoc, append-nil, slice_get, Option, Some, None, Result, Ok, Err, get_or-drop, get_or-take, length-append, length-drop, length-take-le, take-append-drop, drop-drop, and_parts, le-leb, ltb-false, ltb-true, nat_tests, drop-append_seam, is_decimal_digit, NumberKind, ReachesNameBytes, signed_digits, source_text, TokenPlace, AreNameBytes, IsSeparator, IsName, HasToken, is_name_byte, Token, IsNumberToken, FindsToken, Direct, AreDigits, IsDigitsAt, IsNameAt, IsNumberAt, IsSeqAt, IsTagAt, StandsAt, IsLengthRead, IsNamePlace, number_text, Reads, tag_text, Writes, slice_get_read, OnSome, NameClass}
 use Rattle.cpp_direct.specs.declared.names.NamePlace.{NamePlace}
 use Rattle.sym_direct.proofs.Moves.{stands-join}
 use Rattle.cpp_direct.proofs.Kept.{piece-found}
@@ -62,6 +62,13 @@ number-found kind s at place h le =
       own.1,
       own.2,
     )
+
+-- the number of a substitution, by its digits
+pub seq-there : (s : List ℕ) (at : ℕ) (ds : List ℕ) (end n : ℕ) → AreDigits NumberKind.Seq36 ds → StandsAt s at (ds ++ 95 ∷ []) → end ≡ at + length (ds ++ 95 ∷ [])
+    → n ≡ counted_value NumberKind.Seq36 ds → (digits : List ℕ) × IsSeqAt s at digits end × (n ≡ counted_value NumberKind.Seq36 digits)
+seq-there s at ds end n digits stands ends is =
+    let token : Token = record { before = []; own = ds; behind = 95 ∷ [] } in
+    (ds, record { token = token; is_number = record { bare = refl; digits = (digits, tt); ends = refl }; own = refl; stands = stands; ends = ends }, is)
 
 -- ## What is written
 

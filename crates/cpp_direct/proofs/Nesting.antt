@@ -167,8 +167,7 @@ nest-outside s kind inner outer around t listed at st passes g =
 -- in the wide grammar it may end after its arguments
 may-end : (s : Symbol) (outer : List Opened) (around : Around) (t : Term) (listed : Bool) (at : ℕ) (st : State) → s.is_wide ≡ true
     → NestGoesOn s Kind.NestMoreOrEnd outer around t listed at st → NestGoesOn s Kind.NestTail outer around t listed at st
-may-end s outer around t listed at st wide g =
-    record { inner = g.inner; awaits = any-tail s (after t listed around) g.inner at st wide g.awaits; passes = g.passes }
+may-end s outer around t listed at st wide g = record { inner = g.inner; awaits = any-tail s (after t listed around) g.inner at st wide g.awaits; passes = g.passes }
 
 -- in the wide grammar arguments follow it, where it is a type
 pub known-opens : (s : Symbol) (old new : Direct) → IsNestKnown s old → s.is_wide ≡ true → old.nest.purpose ≡ Purpose.Type → StandsAt s.bytes old.at (73 ∷ [])

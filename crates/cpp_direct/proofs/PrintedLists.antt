@@ -163,8 +163,7 @@ list-cost-in detail c extra ts l few all =
 
 -- What the items of a function print in a context, at a cost that leaves room for the rest of it.
 abbrev pub PrintsItems : (detail : Detail) → Context → (items : Term) → (l : List ℕ) → Type 0
-PrintsItems detail c items l =
-    (text_of (shown_by detail (list_part first c items)) ≡ l) × (cost_of (shown_by detail (list_part first c items)) ≤ 7 + 4 * length l)
+PrintsItems detail c items l = (text_of (shown_by detail (list_part first c items)) ≡ l) × (cost_of (shown_by detail (list_part first c items)) ≤ 7 + 4 * length l)
 
 pub list-in : (detail : Detail) (c : Context) (extra : ℕ) (ts : List Term) (l : List ℕ) → extra ≤ 6 → PrintAllIn detail c extra ts l
     → PrintsItems detail c (list_of ts) l

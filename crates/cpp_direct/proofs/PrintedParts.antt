@@ -97,15 +97,13 @@ writes_parts d form context t = printed-parts (written_parts d) rank (written_fa
 pub text_shown : (d : Detail) (form : Form) (context : Context) (t : Term) (ps : List (PartOf Item)) → parts_in d context form t ≡ ps
     → written_in d context form t ≡ unmarked_parts (has_arguments d) (parts_in d context form t)
     → text_of (written_of d form context t) ≡ text_of (shown_by d ps)
-text_shown d form context t ps e same =
-    ap text_of (writes_parts d form context t) ∙ ap (λ xs. text_of (printed_by d xs)) same ∙ ap (λ xs. text_of (shown_by d xs)) e
+text_shown d form context t ps e same = ap text_of (writes_parts d form context t) ∙ ap (λ xs. text_of (printed_by d xs)) same ∙ ap (λ xs. text_of (shown_by d xs)) e
 
 -- likewise for the cost
 pub cost_shown : (d : Detail) (form : Form) (context : Context) (t : Term) (ps : List (PartOf Item)) → parts_in d context form t ≡ ps
     → written_in d context form t ≡ unmarked_parts (has_arguments d) (parts_in d context form t)
     → cost_of (written_of d form context t) ≡ cost_of (shown_by d ps)
-cost_shown d form context t ps e same =
-    ap cost_of (writes_parts d form context t) ∙ ap (λ xs. cost_of (printed_by d xs)) same ∙ ap (λ xs. cost_of (shown_by d xs)) e
+cost_shown d form context t ps e same = ap cost_of (writes_parts d form context t) ∙ ap (λ xs. cost_of (printed_by d xs)) same ∙ ap (λ xs. cost_of (shown_by d xs)) e
 
 -- a text precedes what is after it, be it empty or not
 first-printed : (d : Detail) (b : List ℕ) (ps : List (PartOf Item)) → text_of (printed_by d (text b ∷ ps)) ≡ b ++ text_of (printed_by d ps)
@@ -124,8 +122,7 @@ first-cost-printed d (b ∷ bs) ps = omega arith
 
 -- and costs its length
 pub first_cost_shown : (d : Detail) (b : List ℕ) (ps : List (PartOf Item)) → cost_of (shown_by d (text b ∷ ps)) ≡ length b + cost_of (shown_by d ps)
-first_cost_shown d b ps =
-    omega (arith, first-cost-printed d (unmarked (has_arguments d) b) (unmarked_parts (has_arguments d) ps), length-unmarked (has_arguments d) b)
+first_cost_shown d b ps = omega (arith, first-cost-printed d (unmarked (has_arguments d) b) (unmarked_parts (has_arguments d) ps), length-unmarked (has_arguments d) b)
 
 -- a text as the only part
 pub alone_shown : (d : Detail) (b : List ℕ) → IsUnmarked b → text_of (shown_by d (text b ∷ [])) ≡ b

@@ -233,8 +233,7 @@ clone-filled false = omega arith
 -- So does a clone.
 pub clone-shows : (d : Detail) (letter : ℕ) (e : Term) (b : List ℕ) → Shows d e b → Shows d (clone letter e) (clone_text letter ++ b)
 unfolding parts_in full_parts not_empty clone_text
-clone-shows d letter e b p =
-    led-shows d (clone letter e) (clone_text letter) e b refl refl (clone-plain (nat_eq letter 116)) (clone-filled (nat_eq letter 116)) p
+clone-shows d letter e b p = led-shows d (clone letter e) (clone_text letter) e b refl refl (clone-plain (nat_eq letter 116)) (clone-filled (nat_eq letter 116)) p
 
 -- A guard variable prints what it is, and the object that it guards.
 pub guarded-shows : (d : Detail) (name : Term) (q : Qualifiers) (ref : RefQualifier) (b : List ℕ) → Shows d (object name q ref) b
@@ -296,8 +295,7 @@ encoding-plain v mark own is none t rest = rw (ap has_return_type is.tree_is ∙
 pub encoding-returned : (v : Value) (mark : Mark) (own : Term) → IsNamedSo v own mark → has_return_type own ≡ true → (r items : Term)
     → encoding_of v (list r items) ≡ function own (qualifiers (has_const mark)) (called_on mark) r (parameters items)
 unfolding encoding_of
-encoding-returned v mark own is returns r items =
-    rw (ap has_return_type is.tree_is ∙ returns, encoding_of) (rw (is.tree_is, is.qualifiers_are, is.mark_is) refl)
+encoding-returned v mark own is returns r items = rw (ap has_return_type is.tree_is ∙ returns, encoding_of) (rw (is.tree_is, is.qualifiers_are, is.mark_is) refl)
 
 -- Parameters that aren't a lone void are those of the function that they make, with some return type or none.
 pub made-with : (own returned : Term) (mark : Mark) (make : Term → Term)
@@ -305,8 +303,7 @@ pub made-with : (own returned : Term) (mark : Mark) (make : Term → Term)
     → (ts : List Term) → ts ≢ [] → parameters (list_of ts) ≡ list_of ts
     → make (list_of ts) ≡ function own (qualifiers (has_const mark)) (called_on mark) returned (list_of ts)
 made-with own returned mark make makes [] some kept = absurd (some refl)
-made-with own returned mark make makes (t ∷ ts) some kept =
-    makes t (list_of ts) ∙ ap (function own (qualifiers (has_const mark)) (called_on mark) returned) kept
+made-with own returned mark make makes (t ∷ ts) some kept = makes t (list_of ts) ∙ ap (function own (qualifiers (has_const mark)) (called_on mark) returned) kept
 
 -- A lone void makes a function without parameters.
 pub made-void : (own returned : Term) (mark : Mark) (make : Term → Term)

@@ -249,8 +249,7 @@ qualified_right-is c t e = refl
 const-marks : (detail : Detail) (c : Context) (t : Term) → is_function_type t ≡ false → is_reference (head c t) ≡ false → is_funarr (head c t) ≡ false
     → IsMarked detail c t (qualified constant t) (codes " const")
 unfolding parts_in left_parts right_parts
-const-marks detail c t d e f =
-    record { left_is = qualified_left-is c t d e f; right_is = qualified_right-is c t d; written = refl; plain = refl; some = omega arith }
+const-marks detail c t d e f = record { left_is = qualified_left-is c t d e f; right_is = qualified_right-is c t d; written = refl; plain = refl; some = omega arith }
 
 pub const-in : {detail : Detail} (c : Context) (extra : ℕ) (t : Term) (b : List ℕ) → PrintsIn detail c extra t b false
     → PrintsIn detail c extra (qualified constant t) (b ++ codes " const") false

@@ -96,8 +96,7 @@ number-small (d ∷ ds) short are =
 -- a number of 64 bits passes the test
 pub tested : (place : ℕ) (ds : List ℕ) (st : State) → local_number ds < 2 ^ 64 → number_tested place ds st ≡ Ok st
 unfolding number_tested
-tested place ds st small =
-    subst (λ b. elim b [ true ↦ Ok st | false ↦ Err (Refusal.BadValue place) ] ≡ Ok st) (sym (lt-ltb (local_number ds) (2 ^ 64) small)) refl
+tested place ds st small = subst (λ b. elim b [ true ↦ Ok st | false ↦ Err (Refusal.BadValue place) ] ≡ Ok st) (sym (lt-ltb (local_number ds) (2 ^ 64) small)) refl
 
 -- ## The number of a lambda
 

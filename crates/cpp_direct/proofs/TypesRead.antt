@@ -130,8 +130,7 @@ whole-awaited s w p = elim p.is_before.1 [
 
 -- what is expected where a type is
 pub awaits-type : (s : Symbol) (w : Direct) (is_plain : Bool) → IsWriting s w (if is_plain then Step.Plain else Step.Type) → AwaitsType s w
-awaits-type s w true p =
-    record { kept = p.kept; awaited = p.is_before.0; kind = Kind.Plain; typed = tt; referable = inl tt; awaits = p.is_before.1 }
+awaits-type s w true p = record { kept = p.kept; awaited = p.is_before.0; kind = Kind.Plain; typed = tt; referable = inl tt; awaits = p.is_before.1 }
 awaits-type s w false p = (whole-awaited s w p).0
 
 -- a type is read that is no candidate

@@ -223,7 +223,7 @@ impl Direct {
         self.open_arguments::<G>(Open::FirstArguments { nest: self.nest })
     }
 
-    /// Reads what follows the first piece of a nested name.
+    /// Reads what follows the first piece of a nested name, up to the component after it.
     #[inline(always)]
     pub(crate) fn rest_at<G: Grammar>(&mut self, s: &[u8]) -> Option<Step>
         requires fits { IsReadable s.now }
@@ -234,10 +234,10 @@ impl Direct {
         if byte_at(s, self.at) == b'I' {
             return self.open_first::<G>();
         }
-        self.components_at::<G>(s)
+        Some(Step::Component)
     }
 
-    /// Reads another component of a nested name, or its end.
+    /// Reads the end of a nested name, or expects another component of it.
     #[inline(always)]
     pub(crate) fn tail_at<G: Grammar>(&mut self, s: &[u8]) -> Option<Step>
         requires fits { IsReadable s.now }
@@ -248,7 +248,7 @@ impl Direct {
             return self.nest_ended::<G>(s);
         }
         self.go_on::<G>(s)?;
-        self.components_at::<G>(s)
+        Some(Step::Component)
     }
 
     /// What is read of a nested name is a candidate, since a component follows.
@@ -263,7 +263,7 @@ impl Direct {
 
     /// Reads components of a nested name, up to arguments or its end.
     // <prefix> ::= <prefix> <unqualified-name>
-    #[inline(never)]
+    #[inline(always)]
     pub(crate) fn components_at<G: Grammar>(&mut self, s: &[u8]) -> Option<Step>
         requires fits { IsReadable s.now }
         requires writing { IsWriting (symbol_by G.IS_WIDE G.IS_BARE G.IS_BRIEF s.now) self.old steps.Component }
@@ -443,6 +443,7 @@ impl Direct {
     }
 
     // <ctor-dtor-name> ::= C1 | C2 | C3, and by the wide grammar C4 | C5
+    #[inline(never)]
     fn constructor<G: Grammar>(&mut self, s: &[u8]) -> Option<Step>
         requires fits { IsReadable s.now }
         requires letter { StandsAt s.now self.old.at (67 ∷ []) }
@@ -460,6 +461,7 @@ impl Direct {
     }
 
     // <ctor-dtor-name> ::= D0 | D1 | D2, and by the wide grammar D4 | D5
+    #[inline(never)]
     fn destructor<G: Grammar>(&mut self, s: &[u8]) -> Option<Step>
         requires fits { IsReadable s.now }
         requires letter { StandsAt s.now self.old.at (68 ∷ []) }

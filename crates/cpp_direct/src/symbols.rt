@@ -73,11 +73,12 @@ impl Direct {
         ensures { IfSome result (IsWriting (symbol_by G.IS_WIDE G.IS_BARE G.IS_BRIEF s.now) self.new) }
     {
         let read = self.read::<G>(s, step)?;
-        let passed = self.pass_on::<G>(s, read)?;
+        let named = self.go_through::<G>(s, read)?;
+        let passed = self.pass_on::<G>(s, named)?;
         self.list_on::<G>(s, passed)
     }
 
-    /// Reads a type or a part of a nested name, where that comes next.
+    /// Reads a type up to the first type in it, or what follows a piece of a nested name, where that comes next.
     #[inline(always)]
     fn read<G: Grammar>(&mut self, s: &[u8], step: Step) -> Option<Step>
         requires fits { IsReadable s.now }
@@ -89,8 +90,20 @@ impl Direct {
             Step::Plain => self.type_at::<G>(s, true),
             Step::Rest => self.rest_at::<G>(s),
             Step::Tail => self.tail_at::<G>(s),
-            Step::Component => self.components_at::<G>(s),
             Step::Ended => None,
+            _ => Some(step),
+        }
+    }
+
+    /// Reads components of a nested name, where they come next.
+    #[inline(always)]
+    fn go_through<G: Grammar>(&mut self, s: &[u8], step: Step) -> Option<Step>
+        requires fits { IsReadable s.now }
+        requires writing { IsWriting (symbol_by G.IS_WIDE G.IS_BARE G.IS_BRIEF s.now) self.old step }
+        ensures { IfSome result (IsWriting (symbol_by G.IS_WIDE G.IS_BARE G.IS_BRIEF s.now) self.new) }
+    {
+        match step {
+            Step::Component => self.components_at::<G>(s),
             _ => Some(step),
         }
     }
@@ -207,6 +220,7 @@ impl Direct {
     }
 
     // <nested-name> ::= N [<CV-qualifiers>] [<ref-qualifier>] <prefix> <unqualified-name> E
+    #[inline(always)]
     pub(crate) fn begin_nested<G: Grammar>(&mut self, s: &[u8]) -> Option<Step>
         requires fits { IsReadable s.now }
         requires awaits { AwaitsName (symbol_by G.IS_WIDE G.IS_BARE G.IS_BRIEF s.now) self.old }
@@ -379,6 +393,7 @@ impl Direct {
     }
 
     /// A parameter is read: another one follows, or the end of the encoding.
+    #[inline(always)]
     pub(crate) fn parameter_ended<G: Grammar>(
         &mut self,
         s: &[u8],
@@ -445,6 +460,7 @@ impl Direct {
     }
 
     /// The end of an encoding, after its text: a local entity follows, or the end of the symbol.
+    #[inline(always)]
     fn encoded<G: Grammar>(&mut self, s: &[u8]) -> Option<Step>
         requires fits { IsReadable s.now }
         requires ended { IsEncodingEnded (symbol_by G.IS_WIDE G.IS_BARE G.IS_BRIEF s.now) self.old marks.Plain }

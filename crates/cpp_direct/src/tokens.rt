@@ -3,6 +3,7 @@
 ghost use Rattle.std.specs.Prelude.{◌≡◌, ◌≢◌, ◌≤◌, ◌∷◌, [], ℕ, List, length, slice_get, true, Some};
 ghost use Rattle.std.specs.List.{AllByRecursion};
 ghost use Rattle.std.specs.Option.{OnSome, IfSome};
+ghost use Rattle.sym_core.specs.Number.{is_digit_of};
 ghost use Rattle.sym_core.specs.Value.{counted_value};
 ghost use Rattle.sym_core.specs.declared.NumberKind.{NumberKind};
 ghost use Rattle.cpp_grammar.specs.Parts.{source_text};
@@ -109,6 +110,77 @@ pub fn is_suffix(bytes: &[u8]) -> bool
     are_suffix_bytes(&bytes[1..])
 }
 
+/// The number of a substitution, and the place after it.
+#[derive(Clone, Copy)]
+struct SeqPlace {
+    index: usize,
+    end: usize,
+}
+
+/// Whether a byte is a digit of the number of a substitution.
+#[inline(always)]
+fn is_seq_digit(byte: u8) -> bool
+    ensures { result ≡ is_digit_of NumberKind.Seq36 byte }
+{
+    is_digit(byte) || (b'A' <= byte && byte <= b'Z')
+}
+
+/// What a number with this digit alone counts.
+#[inline(always)]
+fn value_by_digit(digit: u8) -> usize
+    ensures { result ≡ counted_value NumberKind.Seq36 (digit ∷ []) }
+{
+    if b'0' <= digit && digit <= b'9' {
+        return (digit - b'0') as usize + 1;
+    }
+    digit.saturating_sub(b'A' - 10) as usize + 1
+}
+
+/// The number of a substitution that is at a place.
+// <seq-id> ::= <0-9A-Z>+
+#[inline(always)]
+fn seq_at(s: &[u8], at: usize) -> Option<SeqPlace>
+    requires { IsReadable s.now }
+    ensures { IfSome result (λ place. (digits : List ℕ) × IsSeqAt s.now at digits place.end × (place.index ≡ counted_value NumberKind.Seq36 digits)) }
+{
+    let digit = byte_at(s, at);
+    let behind = at.checked_add(1)?;
+    if digit == b'_' {
+        return Some(SeqPlace {
+            index: 0,
+            end: behind,
+        });
+    }
+    if byte_at(s, behind) != b'_' {
+        return long_seq_at(s, at);
+    }
+    if !is_seq_digit(digit) {
+        return None;
+    }
+    let end = behind.checked_add(1)?;
+    Some(SeqPlace {
+        index: value_by_digit(digit),
+        end,
+    })
+}
+
+/// Likewise where the number has more than one digit.
+#[inline(never)]
+fn long_seq_at(s: &[u8], at: usize) -> Option<SeqPlace>
+    requires fits { IsReadable s.now }
+    ensures { IfSome result (λ place. (digits : List ℕ) × IsSeqAt s.now at digits place.end × (place.index ≡ counted_value NumberKind.Seq36 digits)) }
+{
+    if at > s.len() {
+        return None;
+    }
+    let place = find_number(s, at, NumberKind::Seq36).ok()?;
+    let index = value36(&s[place.from..place.to])?;
+    Some(SeqPlace {
+        index: index as usize,
+        end: place.end,
+    })
+}
+
 impl Direct {
     /// Reads a name and writes its text.
     // <source-name> ::= <positive length number> <identifier>
@@ -141,6 +213,7 @@ impl Direct {
 
     /// Reads the number of a substitution, and finds what it names, if that one's text is kept.
     // <substitution> ::= S <seq-id> _ | S_
+    #[inline(always)]
     pub(crate) fn substitution(&mut self, s: &[u8]) -> Option<Candidate>
         requires { IsReadable s.now }
         ensures is { IfSome result (λ candidate. (digits : List ℕ) × IsSeqAt s.now self.old.at digits self.new.at
@@ -148,13 +221,9 @@ impl Direct {
         ensures ordered { IfSome result (λ candidate. candidate.from ≤ candidate.to) }
         ensures same { OnSome result (Reads self.old self.new []) }
     {
-        if self.at > s.len() {
-            return None;
-        }
-        let place = find_number(s, self.at, NumberKind::Seq36).ok()?;
-        let index = value36(&s[place.from..place.to])?;
+        let place = seq_at(s, self.at)?;
         self.at = place.end;
-        let candidate = self.candidates.as_slice().get(index as usize)?;
+        let candidate = self.candidates.as_slice().get(place.index)?;
         if candidate.to < candidate.from {
             return None;
         }

@@ -63,6 +63,7 @@ fn dependent_nest(nest: Nest) -> Option<Nest>
 impl Direct {
     /// Reads a type, up to the first type in it.
     // <type> ::= <builtin-type> | <qualified-type> | <class-enum-type> | P <type> | R <type> | O <type> | <substitution>
+    #[inline(always)]
     pub(crate) fn type_at<G: Grammar>(&mut self, s: &[u8], is_plain: bool) -> Option<Step>
         requires fits { IsReadable s.now }
         requires writing { IsWriting (symbol_by G.IS_WIDE G.IS_BARE G.IS_BRIEF s.now) self.old (if is_plain then steps.Plain else steps.Type) }
@@ -96,7 +97,8 @@ impl Direct {
                 }
                 self.open_type(Open::Const { from }, Step::Plain)
             }
-            b'N' | b'S' | b'Z' | b'1'..=b'9' => self.named_type::<G>(s),
+            b'N' => self.nested_type::<G>(s),
+            b'S' | b'Z' | b'1'..=b'9' => self.named_type::<G>(s),
             b'D' => self.builtin_with_d::<G>(s),
             b'T' => self.template_parameter::<G>(s),
             letter => self.builtin::<G>(s, letter),
@@ -132,10 +134,7 @@ impl Direct {
     {
         let from = self.text.end();
         match byte_at(s, self.at) {
-            b'N' => {
-                self.at = self.at.checked_add(1)?;
-                self.nest_at::<G>(s, Purpose::Type)
-            }
+            b'N' => self.nested_type::<G>(s),
             b'S' => self.type_with_s::<G>(s),
             b'Z' => self.begin_enclosing::<G>(s),
             _ => {
@@ -143,6 +142,18 @@ impl Direct {
                 self.type_named::<G>(s, from, false, false)
             }
         }
+    }
+
+    // <class-enum-type> ::= <nested-name>
+    #[inline(always)]
+    fn nested_type<G: Grammar>(&mut self, s: &[u8]) -> Option<Step>
+        requires fits { IsReadable s.now }
+        requires letter { StandsAt s.now self.old.at (78 ∷ []) }
+        requires awaits { AwaitsNamedType (symbol_by G.IS_WIDE G.IS_BARE G.IS_BRIEF s.now) self.old }
+        ensures { IfSome result (IsWriting (symbol_by G.IS_WIDE G.IS_BARE G.IS_BRIEF s.now) self.new) }
+    {
+        self.at = self.at.checked_add(1)?;
+        self.nest_at::<G>(s, Purpose::Type)
     }
 
     // <builtin-type> ::= v | w | b | ..

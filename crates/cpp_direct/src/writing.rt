@@ -128,6 +128,7 @@ impl Direct {
     }
 
     /// Writes what is in the text once more.
+    #[inline(never)]
     pub(crate) fn repeat(&mut self, from: u32, to: u32) -> Option<()>
         requires from { from ≤ to }
         requires to { to ≤ length self.old.text.list.items }

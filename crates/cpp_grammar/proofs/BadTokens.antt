@@ -143,11 +143,14 @@ numbered_bad around place number state =
     either IsBad (nat_eq (place_in false state.candidates number) (place_in true state.candidates number)) _ _ (λ h. wide_substituted_bad around place (named_in false state.candidates number) state)
     (λ h. listed_bad lists around place number (with_lists lists state))
 
-wide_opening_bad : (p : Production) (parts : Forest) (place : ℕ) (state : State) → IsBad (opening_wide p parts place state)
+wide_opening_bad : (p : Production) (around : Around) (parts : Forest) (place : ℕ) (state : State) → IsBad (opening_wide p around parts place state)
 unfolding opening_wide
-wide_opening_bad Production.NestTemplate parts place state = tt
-wide_opening_bad Production.QualifiedPlain parts place state = tt
-wide_opening_bad p parts place state = opening_bad p parts place state
+wide_opening_bad Production.NestTemplate around parts place state = tt
+wide_opening_bad Production.QualifiedPlain around parts place state = tt
+wide_opening_bad Production.Items around parts place state = tt
+wide_opening_bad Production.NestNext around parts place state = tt
+wide_opening_bad Production.NestEnd around parts place state = tt
+wide_opening_bad p around parts place state = opening_bad p parts place state
 
 holder_bad : (around : Around) (place : ℕ) (state : State) → IsBad (holder_so_far around place state)
 unfolding holder_so_far listed_so_far
@@ -180,11 +183,12 @@ wide_close_bad Production.Lambda byte around place began vs state = tt
 wide_close_bad Production.Encoding byte around place began vs state = tt
 wide_close_bad Production.EncodingLiteral byte around place began vs state = tt
 wide_close_bad Production.Inheriting byte around place began vs state = tt
+wide_close_bad Production.Holder byte around place began vs state = tt
 wide_close_bad p byte around place began vs state = close_bad p byte around place began vs state
 
 -- ## Either reading
 
-module _ (w : Way) (opening_is_bad : (p : Production) (parts : Forest) (place : ℕ) (state : State) → IsBad (w.opening p parts place state))
+module _ (w : Way) (opening_is_bad : (p : Production) (around : Around) (parts : Forest) (place : ℕ) (state : State) → IsBad (w.opening p around parts place state))
     (between_is_bad : (p : Production) (around : Around) (place : ℕ) (vs : List Value) (state : State) → IsBad (w.between p around place vs state))
     (close_is_bad : (p : Production) (byte : ℕ) (around : Around) (place : ℕ) (began : State) (vs : List Value) (state : State) → IsBad (w.close p byte around place began vs state)) where
   mutual
@@ -194,8 +198,8 @@ module _ (w : Way) (opening_is_bad : (p : Production) (parts : Forest) (place : 
     tree_bad (branch rule taken parts) around place state =
         let whole = standing rule taken place around state in
         let p = production_at rule.number in
-        bad_bind (w.opening p parts place state) (λ begun. unfold_forest (reading_by w) whole [] (place + length taken) parts begun >>= λ inner. w.close p (byte_of taken) around place state inner.value inner.state >>= alone)
-        (opening_is_bad p parts place state)
+        bad_bind (w.opening p around parts place state) (λ begun. unfold_forest (reading_by w) whole [] (place + length taken) parts begun >>= λ inner. w.close p (byte_of taken) around place state inner.value inner.state >>= alone)
+        (opening_is_bad p around parts place state)
         (λ begun. bad_bind (unfold_forest (reading_by w) whole [] (place + length taken) parts begun) (λ inner. w.close p (byte_of taken) around place state inner.value inner.state >>= alone)
         (forest_bad parts whole [] (place + length taken) begun)
         (λ inner. bad_bind (w.close p (byte_of taken) around place state inner.value inner.state) alone (close_is_bad p (byte_of taken) around place state inner.value inner.state) (λ one. tt)))
@@ -214,7 +218,7 @@ module _ (w : Way) (opening_is_bad : (p : Production) (parts : Forest) (place : 
 
 pub refused_for_a_token : (shape : Tree) → IfErr (unfold_cpp shape) IsBadToken
 unfolding unfold_cpp cpp reading_by abi_way
-refused_for_a_token shape = bad_bind (unfold_tree cpp first_around 0 shape first_state) (λ whole. Ok (first_tree whole.value)) (tree_bad abi_way opening_bad between_bad close_bad shape first_around 0 first_state) (λ whole. tt)
+refused_for_a_token shape = bad_bind (unfold_tree cpp first_around 0 shape first_state) (λ whole. Ok (first_tree whole.value)) (tree_bad abi_way (λ p around parts place state. opening_bad p parts place state) between_bad close_bad shape first_around 0 first_state) (λ whole. tt)
 
 pub wide_refused_for_a_token : (shape : Tree) → IfErr (unfold_wide shape) IsBadToken
 unfolding unfold_wide cpp_wide reading_by wide_way

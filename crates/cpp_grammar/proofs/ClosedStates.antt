@@ -12,9 +12,9 @@ use Rattle.cpp_grammar.specs.Scope.{count, element, is_list, has_pack, length_if
 use Rattle.cpp_grammar.specs.Closed.{ScopesAreClosed}
 use Rattle.sym_core.specs.declared.NumberKind.TheVariants.{Seq36}
 use Rattle.sym_core.specs.Value.{counted_value}
-use Rattle.cpp_grammar.specs.Values.{Counted, by_all, by_newer, by_gcc, Candidate, Lists, both_lists, longer_list, shorter_list, no_list, State, Around, prefix_tree, prefix_listed, Value, nothing_there, tree, piece, pair, is_listed, text_of, local_number, part, tree_of}
+use Rattle.cpp_grammar.specs.Values.{Counted, by_all, by_newer, by_gcc, Candidate, Lists, both_lists, longer_list, shorter_list, no_list, Counting, State, Around, prefix_tree, prefix_listed, Value, nothing_there, tree, piece, pair, is_listed, text_of, local_number, part, tree_of}
 use Rattle.cpp_grammar.specs.References.{appended, appended_by, is_function_type, with_type, with_unqualified, with_prefix, with_packs, packs_in, is_module, substituted, parameter_named}
-use Rattle.cpp_grammar.specs.Rescoping.{is_unseen, is_passed_over, name_if, is_declaring, lambda_with, as_generic_lambda, with_holder, counted_unless, counted_base, counted_held, with_constructor, with_held, place_in, named_in, left_at, with_lists, listed_by, is_foreign, in_scope, under_scope, with_free, restated, substituted_wide, numbered, close_wide}
+use Rattle.cpp_grammar.specs.Rescoping.{is_unseen, is_passed_over, name_if, is_declaring, lambda_with, as_generic_lambda, with_holder, counted_unless, counted_base, counted_held, with_constructor, with_held, place_in, named_in, is_by_all, counted_so_far, awaiting, noting, left_at, with_lists, listed_by, is_foreign, in_scope, under_scope, with_free, restated, substituted_wide, numbered, close_wide}
 use Rattle.cpp_grammar.specs.Meaning.{parameters, signature_with, meaning}
 use Rattle.cpp_grammar.specs.Unfolding as unfolding_
 use Rattle.cpp_grammar.specs.Unfolding.{close}
@@ -468,6 +468,10 @@ named_comes production k byte has_free around vs state r end pre all name e =
     found_comes around state (name_if has_free (part vs k) (meaning production byte around vs)) r end
     (name_if_good s has_free (part vs k) (meaning production byte around vs) (good_part s vs k all) (meaning_good s production byte around vs pre all (λ n. name))) e
 
+pub noting_same : (counting : Counting) (state : State) → (noting counting state).candidates ≡ state.candidates
+unfolding noting
+noting_same counting state = either {A = State} (λ s. s.candidates ≡ state.candidates) (is_by_all (counted_so_far by_all state.candidates)) _ _ (λ is. refl) (λ is. refl)
+
 pub wide_close_good : (production : Production) (byte : ℕ) (around : Around) (place : ℕ) (began : State) (vs : List Value) (state : State) (r : Found Value State) (end : ℕ) →
     AllOld true around end state.candidates → GoodPrefix (Bare true around) around.prefix → AllGood (Within true production around) (read_of production true vs) → HasClosedName production vs →
     close_wide production byte around place began vs state ≡ Ok r → Yields true production around end state r
@@ -488,6 +492,11 @@ wide_close_good Production.Inheriting byte around place began vs state r end old
     (comes_by true around end state (counted_base around (part vs 1) state) (meaning Production.Inheriting byte around vs) r
     (meaning_good (Bare true around) Production.Inheriting byte around vs pre inside (λ n. tt))
     (counted_grows around end (part vs 1) state (good_held (Bare true around) vs 1 inside)) e)
+wide_close_good Production.Holder byte around place began vs state r end old pre all name e =
+    yields true Production.Holder around end state r
+    (comes_by true around end state (noting (awaiting around (tree_of (part vs 1)) state.counting) state) (meaning Production.Holder byte around vs) r
+    (meaning_good (Bare true around) Production.Holder byte around vs pre (all_where (Within true Production.Holder around) (Bare true around) vs (λ bare. (bare, λ own. refl)) all) (λ n. name))
+    (grows_same true around end state (noting (awaiting around (tree_of (part vs 1)) state.counting) state) (noting_same (awaiting around (tree_of (part vs 1)) state.counting) state)) e)
 wide_close_good Production.ValueOf byte around place began vs state r end old pre all name e = declared_yields Production.ValueOf byte around vs state r end refl pre all tt e
 wide_close_good Production.OfConcept byte around place began vs state r end old pre all name e = declared_yields Production.OfConcept byte around vs state r end refl pre all tt e
 wide_close_good Production.TemplateOf byte around place began vs state r end old pre all name e = declared_yields Production.TemplateOf byte around vs state r end refl pre all tt e

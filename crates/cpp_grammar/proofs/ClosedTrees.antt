@@ -24,19 +24,19 @@ use Rattle.cpp_grammar.specs.TableLaws.{wide_sound}
 use Rattle.cpp_grammar.specs.Term.{Term}
 use Rattle.cpp_grammar.specs.Scope.{is_open}
 use Rattle.cpp_grammar.specs.Closed.{ScopesAreClosed}
-use Rattle.cpp_grammar.specs.Values.{by_all, Candidate, Expected, prefix_at, qualified_at, State, Around, Value, nothing_there, text, tree_of, part, local_number}
+use Rattle.cpp_grammar.specs.Values.{Candidate, prefix_at, qualified_at, Counting, State, Around, Value, nothing_there, text, tree_of, part, local_number}
 use Rattle.cpp_grammar.specs.Between.{in_name, in_types, no_items, between}
 use Rattle.cpp_grammar.specs.Meaning.{meaning}
 use Rattle.cpp_grammar.specs.Unfolding as unfolding_
 use Rattle.cpp_grammar.specs.Unfolding.{last_token, number_tested, opening, close, production_at, byte_of, cpp, first_around, first_state, first_tree, unfold_cpp}
 use Rattle.cpp_grammar.proofs.Choosing.{each_passes, chosen_rule, taken_passes, implied}
 use Rattle.cpp_grammar.proofs.ClosedValues.{good_where, Good, AllGood, GoodPrefix, HasClosedName, held, good_tree, good_encoding, good_no_items}
-use Rattle.cpp_grammar.proofs.ClosedStates.{Bare, Within, YieldsOf, Yields, yields, AllOld, AllNew, Grows, old_later, grows_same, grows_then, old_append, old_grows, ok_same, behind_bind, close_good, wide_close_good}
+use Rattle.cpp_grammar.proofs.ClosedStates.{Bare, Within, YieldsOf, Yields, yields, AllOld, AllNew, Grows, old_later, grows_same, grows_then, old_append, old_grows, ok_same, behind_bind, close_good, noting_same, wide_close_good}
 use Rattle.cpp_grammar.proofs.ClosedParts.{Fits, Moves, StaysInside, abi_moves, wide_moves}
 use Rattle.cpp_grammar.proofs.Ways.{has_signature, Way, reading_by, abi_way, wide_way, differs, name_by, types_by, IsPlain, abi_plain, wide_plain}
 use Rattle.cpp_grammar.proofs.Declared.{is_declaration, is_first, declares, makes_declared, only_declared, skips, parts_apart, declared_apart, is_nothing, some_values, read_of, read_abi, read_none, read_then, hides, next_apart}
 use Rattle.cpp_grammar.proofs.Steps.{first_of_both, second_of_both, all_pass}
-use Rattle.cpp_grammar.specs.Rescoping.{passed_over, name_if, is_by_all, counted_so_far, expecting, opening_wide, cpp_wide, unfold_wide}
+use Rattle.cpp_grammar.specs.Rescoping.{passed_over, name_if, expecting, expecting_item, calling, ending, noting, opening_wide, cpp_wide, unfold_wide}
 use Rattle.cpp_grammar.proofs.Chosen.{either}
 
 -- ## Productions and their rules
@@ -159,19 +159,21 @@ opening_keeps Production.Lambda f place state new e = tested_keeps (nat_lt (loca
 opening_keeps Production.Unnamed f place state new e = tested_keeps (nat_lt (local_number (last_token f [])) (2 ^ 64)) (place - 1) state new e
 opening_keeps _ f place state new e = sym (ok_same state new e)
 
-pub expecting_keeps : (expected : Expected) (state : State) → (expecting expected state).candidates ≡ state.candidates
-unfolding expecting
-expecting_keeps expected state = either {A = State} (λ s. s.candidates ≡ state.candidates) (is_by_all (counted_so_far by_all state.candidates)) _ _ (λ is. refl) (λ is. refl)
+pub noting_keeps : (counting : Counting) (state new : State) → ◌≡◌ {A = Result State Refusal} (Ok (noting counting state)) (Ok new) → new.candidates ≡ state.candidates
+noting_keeps counting state new e = ap (λ s. s.candidates) (sym (ok_same (noting counting state) new e)) ∙ noting_same counting state
 
 -- the candidates are the same once a production has begun
-pub begins_same : (p : Production) (f : Forest) (place : ℕ) (state new : State) → opening p f place state ≡ Ok new → new.candidates ≡ state.candidates
-begins_same p f place state new e = ap (λ s. s.candidates) (opening_keeps p f place state new e)
+pub begins_same : (p : Production) (around : Around) (f : Forest) (place : ℕ) (state new : State) → opening p f place state ≡ Ok new → new.candidates ≡ state.candidates
+begins_same p around f place state new e = ap (λ s. s.candidates) (opening_keeps p f place state new e)
 
-pub wide_begins_same : (p : Production) (f : Forest) (place : ℕ) (state new : State) → opening_wide p f place state ≡ Ok new → new.candidates ≡ state.candidates
+pub wide_begins_same : (p : Production) (around : Around) (f : Forest) (place : ℕ) (state new : State) → opening_wide p around f place state ≡ Ok new → new.candidates ≡ state.candidates
 unfolding opening_wide
-wide_begins_same Production.NestTemplate f place state new e = ap (λ s. s.candidates) (sym (ok_same (expecting (prefix_at (place - 1)) state) new e)) ∙ expecting_keeps (prefix_at (place - 1)) state
-wide_begins_same Production.QualifiedPlain f place state new e = ap (λ s. s.candidates) (sym (ok_same (expecting (qualified_at place) state) new e)) ∙ expecting_keeps (qualified_at place) state
-wide_begins_same p f place state new e = begins_same p f place state new e
+wide_begins_same Production.NestTemplate around f place state new e = noting_keeps (expecting (prefix_at (place - 1)) state.counting) state new e
+wide_begins_same Production.QualifiedPlain around f place state new e = noting_keeps (expecting (qualified_at place) state.counting) state new e
+wide_begins_same Production.Items around f place state new e = noting_keeps (expecting_item around place state.counting) state new e
+wide_begins_same Production.NestNext around f place state new e = noting_keeps (calling state.counting) state new e
+wide_begins_same Production.NestEnd around f place state new e = noting_keeps (ending state.counting) state new e
+wide_begins_same p around f place state new e = begins_same p around f place state new e
 
 pub old_fits : (own : Bool) (around inner : Around) (at : ℕ) (cs : List Candidate) → Fits own around inner → AllOld own around at cs → AllOld own inner at cs
 old_fits own around inner at [] fits all = tt
@@ -255,7 +257,7 @@ grows_on own around a b old new le g = grows_then own around a b old new new le 
 -- what is closed stays closed between the parts of a production, and after them
 pub record KeepsClosed (w : Way) : Type 0 where
   pub plain : IsPlain w
-  pub begins : (production : Production) (f : Forest) (place : ℕ) (state new : State) → w.opening production f place state ≡ Ok new → new.candidates ≡ state.candidates
+  pub begins : (production : Production) (around : Around) (f : Forest) (place : ℕ) (state new : State) → w.opening production around f place state ≡ Ok new → new.candidates ≡ state.candidates
   pub goes : (production : Production) (around : Around) (place : ℕ) (vs : List Value) (state : State) (n : Next Value State Around) (at : ℕ) → StaysInside production →
       GoodPrefix (Bare w.own around) around.prefix → AllOld w.own around at state.candidates → AllGood (Within w.own production around) (read_of production w.own vs) → w.between production around place vs state ≡ Ok n →
       Moves w.own production around at state n
@@ -673,9 +675,9 @@ module _ (w : Way) (keeps : KeepsClosed w) where
       let whole = Whole rule taken at around state in
       let t = taken_rule k rule taken lt is.0 in
       let from = at + length taken in
-      let begun = behind_bind (w.opening (production_at rule.number) parts at state)
+      let begun = behind_bind (w.opening (production_at rule.number) around parts at state)
       (λ begun. unfold_forest (reading_by w) whole [] from parts begun >>= λ inner. w.close (production_at rule.number) (byte_of taken) around at state inner.value inner.state >>= alone) r e in
-      let kept = keeps.begins (production_at rule.number) parts at state begun.value begun.is in
+      let kept = keeps.begins (production_at rule.number) around parts at state begun.value begun.is in
       let inner = behind_bind (unfold_forest (reading_by w) whole [] from parts begun.value) (λ inner. w.close (production_at rule.number) (byte_of taken) around at state inner.value inner.state >>= alone) r begun.next in
       let ended = behind_bind (w.close (production_at rule.number) (byte_of taken) around at state inner.value.value inner.value.state) alone r inner.next in
       let one = ended.value in

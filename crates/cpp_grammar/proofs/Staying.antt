@@ -24,7 +24,7 @@ use Rattle.cpp_grammar.specs.Wide.{wide_alternatives}
 use Rattle.cpp_grammar.specs.Table.{wide}
 use Rattle.cpp_grammar.specs.Term.{Term, parameter, lambda, generic_lambda, list}
 use Rattle.cpp_grammar.specs.Scope.{count, element, is_open, length_if_pack}
-use Rattle.cpp_grammar.specs.Values.{by_all, Candidate, Expected, prefix_at, qualified_at, shown, is_in_constraint, is_at_literal, State, Around, prefix_tree, prefix_listed, Value, nothing_there, text, tree, piece, tree_of, is_listed, text_of, local_number, part}
+use Rattle.cpp_grammar.specs.Values.{by_all, Candidate, Counting, prefix_at, qualified_at, shown, is_in_constraint, is_at_literal, State, Around, prefix_tree, prefix_listed, Value, nothing_there, text, tree, piece, tree_of, is_listed, text_of, local_number, part}
 use Rattle.cpp_grammar.specs.References.{appended, is_function_type, with_type, with_unqualified, with_prefix, with_packs, packs_in, is_module, substituted, parameter_named}
 use Rattle.cpp_grammar.specs.Between.{in_name, in_types, in_signature, under_expansion, after, inside, no_items, Continuation, listed_so_far, parameter_so_far, index_of, between, next, argument_so_far}
 use Rattle.cpp_grammar.specs.Row.{Gain, nothing, the_prefix, type_of, unqualified_of, itself, Where, as_before, in_its_name, in_its_types, in_a_signature, under_it, nameless, after_part, after_the_name, Action, quiet, goes, becomes, tests, holds, unread, before_part}
@@ -33,7 +33,7 @@ use Rattle.cpp_grammar.specs.Rows.{row_of}
 use Rattle.cpp_grammar.specs.Meaning.{parameters, meaning}
 use Rattle.cpp_grammar.specs.Unfolding as unfolding_
 use Rattle.cpp_grammar.specs.Unfolding.{opening, close, production_at, byte_of, cpp, first_around, first_state, first_tree, unfold_cpp}
-use Rattle.cpp_grammar.specs.Rescoping.{is_unseen, in_literal, is_passed_over, passed_over, name_around, types_around, name_if, generic_so_far, parameter_here, is_declaring, lambda_with, as_generic_lambda, is_before_holder, is_by_newer, is_by_all, is_in_list, place_in, named_in, joined, counted_so_far, expecting, opening_wide, is_foreign, restated, substituted_wide, numbered, between_wide, close_wide, cpp_wide, unfold_wide, argument_here, generic_number}
+use Rattle.cpp_grammar.specs.Rescoping.{is_unseen, in_literal, is_passed_over, passed_over, name_around, types_around, name_if, generic_so_far, parameter_here, is_declaring, lambda_with, as_generic_lambda, is_before_holder, is_by_newer, is_by_all, is_in_list, place_in, named_in, joined, counted_so_far, awaiting, expecting, expecting_item, calling, ending, noting, opening_wide, is_foreign, restated, substituted_wide, numbered, between_wide, close_wide, cpp_wide, unfold_wide, argument_here, generic_number}
 use Rattle.cpp_grammar.specs.TableLaws.{wide_sound}
 use Rattle.cpp_grammar.proofs.Choosing.{each_passes, chosen_rule, taken_passes, implied}
 use Rattle.cpp_grammar.proofs.Chosen.{either, if_there}
@@ -102,16 +102,22 @@ unfolding counted_so_far joined
 counted_stays [] all = refl
 counted_stays (c ∷ cs) all = ap (λ k. counted_so_far (joined by_all k) cs) all.1 ∙ counted_stays cs all.2
 
-expecting_stays : (expected : Expected) (state : State) → AllHaveNone state.candidates → expecting expected state ≡ state
-unfolding expecting is_by_all
-expecting_stays expected state all =
+noting_stays : (counting : Counting) (state : State) → AllHaveNone state.candidates → noting counting state ≡ state
+unfolding noting is_by_all
+noting_stays counting state all =
     either {A = State} (λ s. s ≡ state) (is_by_all (counted_so_far by_all state.candidates)) _ _ (λ is. refl) (λ is. absurd (true≢false (sym (ap is_by_all (counted_stays state.candidates all)) ∙ is)))
 
-opening_stays : (p : Production) (parts : Forest) (place : ℕ) (state new : State) → AllHaveNone state.candidates → opening p parts place state ≡ Ok new → opening_wide p parts place state ≡ Ok new
+noted_stays : (counting : Counting) (state new : State) → AllHaveNone state.candidates → ◌≡◌ {A = Result State Refusal} (Ok state) (Ok new) → ◌≡◌ {A = Result State Refusal} (Ok (noting counting state)) (Ok new)
+noted_stays counting state new all e = (let begun : State → Result State Refusal = λ s. Ok s in ap begun (noting_stays counting state all) ∙ e)
+
+opening_stays : (p : Production) (around : Around) (parts : Forest) (place : ℕ) (state new : State) → AllHaveNone state.candidates → opening p parts place state ≡ Ok new → opening_wide p around parts place state ≡ Ok new
 unfolding opening opening_wide
-opening_stays Production.NestTemplate parts place state new all e = (let begun : State → Result State Refusal = λ s. Ok s in ap begun (expecting_stays (prefix_at (place - 1)) state all) ∙ e)
-opening_stays Production.QualifiedPlain parts place state new all e = (let begun : State → Result State Refusal = λ s. Ok s in ap begun (expecting_stays (qualified_at place) state all) ∙ e)
-opening_stays p parts place state new all e = e
+opening_stays Production.NestTemplate around parts place state new all e = noted_stays (expecting (prefix_at (place - 1)) state.counting) state new all e
+opening_stays Production.QualifiedPlain around parts place state new all e = noted_stays (expecting (qualified_at place) state.counting) state new all e
+opening_stays Production.Items around parts place state new all e = noted_stays (expecting_item around place state.counting) state new all e
+opening_stays Production.NestNext around parts place state new all e = noted_stays (calling state.counting) state new all e
+opening_stays Production.NestEnd around parts place state new all e = noted_stays (ending state.counting) state new all e
+opening_stays p around parts place state new all e = e
 
 all_then : (vs ws : List Value) → AllNone vs → AllNone ws → AllNone (vs ++ ws)
 all_then [] ws f g = g
@@ -463,6 +469,9 @@ close_stays Production.Substitution byte around place began vs state r settled a
 close_stays Production.Lambda byte around place began vs state r settled all first cs e =
     closed_stays Production.Lambda byte around began vs state r settled all cs e (Ok (found (as_generic_lambda (meaning Production.Lambda byte around vs)) state))
     (let said : Value → Result (Found Value State) Refusal = λ v. Ok (found v state) in ap said (lambda_stays around byte vs (all refl) (first refl)) ∙ e)
+close_stays Production.Holder byte around place began vs state r settled all first cs e =
+    closed_stays Production.Holder byte around began vs state r settled all cs e (Ok (found (meaning Production.Holder byte around vs) (noting (awaiting around (tree_of (part vs 1)) state.counting) state)))
+    (let said : State → Result (Found Value State) Refusal = λ s. Ok (found (meaning Production.Holder byte around vs) s) in ap said (noting_stays (awaiting around (tree_of (part vs 1)) state.counting) state cs) ∙ e)
 close_stays Production.Encoding byte around place began vs state r settled all first cs e =
     closed_stays Production.Encoding byte around began vs state r settled all cs e _
     (named_stays_ (not_passed around settled) (is_open (tree_of (part vs 0))) (part vs 0) (meaning Production.Encoding byte around vs) state ∙ e)
@@ -581,7 +590,7 @@ mutual
       let closes = close_stays p (byte_of taken) around place state inner.value.value inner.value.state one settled forest.values (λ h. first_forest parts whole (symbols_of rule) from begun.value inner.value symbols is.1 h (begins h) inner.is) forest.candidates ended.is in
       let same : found (one.value ∷ []) one.state ≡ r = ok_same (found (one.value ∷ []) one.state) r ended.next in
       record {
-        is = then_ok (opening_wide p parts place state) (λ begun. unfold_forest cpp_wide whole [] from parts begun >>= λ inner. close_wide p (byte_of taken) around place state inner.value inner.state >>= alone) begun.value r (opening_stays p parts place state begun.value cs begun.is)
+        is = then_ok (opening_wide p around parts place state) (λ begun. unfold_forest cpp_wide whole [] from parts begun >>= λ inner. close_wide p (byte_of taken) around place state inner.value inner.state >>= alone) begun.value r (opening_stays p around parts place state begun.value cs begun.is)
             (then_ok (unfold_forest cpp_wide whole [] from parts begun.value) (λ inner. close_wide p (byte_of taken) around place state inner.value inner.state >>= alone) inner.value r forest.is
             (then_ok (close_wide p (byte_of taken) around place state inner.value.value inner.value.state) alone one r closes.is ended.next));
         values = λ l. subst (λ x. AllNone x.value) same (

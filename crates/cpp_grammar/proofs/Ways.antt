@@ -21,7 +21,7 @@ use Rattle.cpp_grammar.proofs.Steps.{first_of_both}
 pub record Way : Type 0 where
   pub own : Bool
   pub passes : Around → Bool
-  pub opening : Production → Forest → (place : ℕ) → State → Result State Refusal
+  pub opening : Production → Around → Forest → (place : ℕ) → State → Result State Refusal
   pub between : Production → Around → (place : ℕ) → List Value → State → Continuation
   pub close : Production → (byte : ℕ) → Around → (place : ℕ) → (began : State) → List Value → State → Result (Found Value State) Refusal
 
@@ -29,13 +29,13 @@ unfoldable pub reading_by : Way → Reading Value State Around
 reading_by w = record {
   rowless = nothing_there ∷ [];
   token = λ place t state. Ok (found (text t.own) state);
-  begin = λ rule parts. w.opening (production_at rule.rule.number) parts rule.place rule.before;
+  begin = λ rule parts. w.opening (production_at rule.rule.number) rule.context parts rule.place rule.before;
   between = λ rule known state. w.between (production_at rule.rule.number) rule.context rule.place known state;
   close = λ rule known state. w.close (production_at rule.rule.number) (byte_of rule.taken) rule.context rule.place rule.before known state;
 }
 
 unfoldable pub abi_way : Way
-abi_way = record { own = false; passes = λ around. false; opening = opening; between = between; close = close }
+abi_way = record { own = false; passes = λ around. false; opening = λ p around parts place state. opening p parts place state; between = between; close = close }
 
 unfoldable pub wide_way : Way
 wide_way = record { own = true; passes = is_passed_over; opening = opening_wide; between = between_wide; close = close_wide }

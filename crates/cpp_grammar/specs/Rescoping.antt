@@ -11,9 +11,9 @@ use Rattle.sym_shape.specs.Tree.{Tree, Forest}
 use Rattle.sym_link.specs.Reading.{Found, Reading, ◌>>=◌}
 use Rattle.sym_link.specs.Unfold.{found, unfold_tree}
 use Rattle.cpp_grammar.specs.declared.production.Production.{Production}
-use Rattle.cpp_grammar.specs.Term.{Term, alone, in_std, within, instance, holder, lvalue, rvalue, parameter, lambda, generic_lambda, declaring, absent}
+use Rattle.cpp_grammar.specs.Term.{Term, alone, in_std, within, instance, holder, pointer, lvalue, rvalue, array, member_pointer, function_type, qualified, expansion, parameter, lambda, generic_lambda, declaring, nil, list, absent}
 use Rattle.cpp_grammar.specs.Scope.{count, element, is_list, has_pack, is_open, Free, none_free, one_free, several_free, free_in, pack_length}
-use Rattle.cpp_grammar.specs.Values.{Counted, by_all, by_newer, by_gcc, by_clang, by_some, Candidate, Lists, both_lists, longer_list, shorter_list, no_list, Expected, prefix_at, qualified_at, outermost, Showing, shown, in_constraint, at_literal, is_in_constraint, is_at_literal, State, Around, prefix_tree, prefix_listed, Value, nothing_there, tree, piece, pair, text, tree_of, is_listed, text_of, part}
+use Rattle.cpp_grammar.specs.Values.{Counted, by_all, by_newer, by_gcc, by_clang, by_some, Candidate, Lists, both_lists, longer_list, shorter_list, no_list, Expected, prefix_at, qualified_at, item_at, Awaited, nothing_awaited, Counting, outermost, Showing, shown, in_constraint, at_literal, is_in_constraint, is_at_literal, State, Around, prefix_tree, prefix_listed, Value, nothing_there, tree, piece, pair, text, tree_of, is_listed, text_of, part}
 use Rattle.cpp_grammar.specs.References.{appended, appended_by, is_module, with_packs, substituted}
 use Rattle.cpp_grammar.specs.Between.{Continuation, next, in_name, in_types, inside, listed_so_far, parameter_so_far, argument_so_far, index_of, between}
 use Rattle.cpp_grammar.specs.Meaning.{meaning}
@@ -192,6 +192,30 @@ unfoldable pub is_by_some : Counted → Bool
 is_by_some by_some = true
 is_by_some _ = false
 
+-- ## Heads
+
+-- The head of a tree is a number that tells the outermost forms of types apart, and lambdas from other names. It is 0 for all other
+-- forms, and for a template with arguments, whose template alone may be named.
+unfoldable pub head_of_name : (last : Term) → ℕ
+head_of_name (lambda parameters number) = 2
+head_of_name (generic_lambda parameters number) = 2
+head_of_name _ = 1
+
+unfoldable pub head_of : Term → ℕ
+head_of (alone last) = head_of_name last
+head_of (in_std last) = head_of_name last
+head_of (within prefix last) = head_of_name last
+head_of (parameter number) = 3
+head_of (pointer t) = 4
+head_of (lvalue t) = 5
+head_of (rvalue t) = 6
+head_of (array digits t) = 7
+head_of (member_pointer class t) = 8
+head_of (function_type c_linkage noexcept ref returned parameters) = 9
+head_of (qualified q t) = 10
+head_of (expansion pattern) = 11
+head_of _ = 0
+
 -- ## What may be named by its form
 
 unfoldable pub is_prefix_at : (place : ℕ) → Expected → Bool
@@ -201,6 +225,15 @@ is_prefix_at place _ = false
 unfoldable pub is_qualified_at : (place : ℕ) → Expected → Bool
 is_qualified_at place (qualified_at at) = nat_eq at place
 is_qualified_at place _ = false
+
+-- The head that is known of what the S at this place names.
+unfoldable pub head_at : (place : ℕ) → Expected → ℕ
+head_at place (item_at at head) = elim (nat_eq at place) [ true ↦ head | false ↦ 0 ]
+head_at place _ = 0
+
+-- Two heads may be those of one tree, unless both are known, and differ.
+unfoldable pub may_be : (head other : ℕ) → Bool
+may_be head other = (nat_eq head 0 || nat_eq other 0) || nat_eq head other
 
 -- A name with its M is no type. No compiler writes qualifiers before a reference. Nothing names a constructor.
 unfoldable pub fits : (is_prefix is_qualified : Bool) → Term → Bool
@@ -215,6 +248,80 @@ unfoldable pub can_be_named : Expected → (place : ℕ) → Option Candidate �
 can_be_named expected place None = false
 can_be_named expected place (Some c) = fits (is_prefix_at place expected) (is_qualified_at place expected) c.tree
 
+-- and whether it may have the head that is expected there
+unfoldable pub has_head : Expected → (place : ℕ) → Option Candidate → Bool
+has_head expected place None = false
+has_head expected place (Some c) = may_be (head_at place expected) (head_of c.tree)
+
+-- ## The functions of a lambda
+
+-- The initializer of a variable or of a data member is where a lambda has an M before it. What is named within the lambda is one of its
+-- functions. Where a type of that function is an S alone, the function is the lambda's operator(), or what calls it, and has the types of
+-- the lambda's signature, in their order; after a return type, if the lambda has parameters of its own.
+
+unfoldable pub first_head : (types : Term) → ℕ
+first_head (list t rest) = head_of t
+first_head _ = 0
+
+unfoldable pub rest_of : (types : Term) → Term
+rest_of (list t rest) = rest
+rest_of _ = nil
+
+-- the heads of the first four of these types, of the encoding that begins here
+unfoldable pub heads_of : (place : ℕ) → (types : Term) → Awaited
+heads_of place types = record {
+  encoding = place;
+  is_called = false;
+  first = first_head types;
+  second = first_head (rest_of types);
+  third = first_head (rest_of (rest_of types));
+  fourth = first_head (rest_of (rest_of (rest_of types)));
+}
+
+-- what is awaited after the first type
+unfoldable pub behind_first : Awaited → Awaited
+behind_first a = record { encoding = a.encoding; is_called = a.is_called; first = a.second; second = a.third; third = a.fourth; fourth = 0 }
+
+-- what is awaited where a return type comes first
+unfoldable pub behind_another : Awaited → Awaited
+behind_another a = record { encoding = a.encoding; is_called = a.is_called; first = 0; second = a.first; third = a.second; fourth = a.third }
+
+-- the types of a signature, without what it declares
+unfoldable pub types_in : (signature : Term) → Term
+types_in (declaring heads types) = types
+types_in types = types
+
+unfoldable pub awaited_by_piece : (place : ℕ) → Term → Awaited
+awaited_by_piece place (lambda signature number) = heads_of place signature
+awaited_by_piece place (generic_lambda signature number) = behind_another (heads_of place (types_in signature))
+awaited_by_piece place _ = nothing_awaited
+
+-- what is awaited of this name, if it's that of a lambda
+unfoldable pub awaited_by : (place : ℕ) → (name : Term) → Awaited
+awaited_by place (within prefix last) = awaited_by_piece place last
+awaited_by place _ = nothing_awaited
+
+unfoldable pub awaiting : Around → (name : Term) → Counting → Counting
+awaiting around name counting = record counting { awaited = awaited_by around.encoding name }
+
+-- At the next piece of the name the lambda's function is named.
+unfoldable pub calling : Counting → Counting
+calling counting = record counting { awaited = record counting.awaited { is_called = true } }
+
+-- If the name ends first, none is.
+unfoldable pub ending : Counting → Counting
+ending counting = elim counting.awaited.is_called [ true ↦ counting | false ↦ record counting { awaited = nothing_awaited } ]
+
+unfoldable pub expecting : Expected → Counting → Counting
+expecting expected counting = record counting { expected = expected }
+
+-- Where a type of that function begins, it's expected that it has the head that is awaited first.
+unfoldable pub expecting_item : Around → (place : ℕ) → Counting → Counting
+expecting_item around place counting = elim ((around.in_lambda || not counting.awaited.is_called) || not (nat_eq counting.awaited.encoding around.encoding)) [
+  | true ↦ counting
+  | false ↦ record counting { expected = item_at place counting.awaited.first; awaited = behind_first counting.awaited }
+]
+
 -- ## The list that is left
 
 -- Where both lists are left, and only one has a candidate that fits, that list is left from there on. A list in which none fits isn't.
@@ -225,13 +332,19 @@ left longer_list true shorter_fits = longer_list
 left shorter_list longer_fits true = shorter_list
 left _ longer_fits shorter_fits = no_list
 
+-- Where both fit by their form, their heads decide.
+unfoldable pub left_by : Lists → (longer_fits shorter_fits longer_has shorter_has : Bool) → Lists
+left_by both_lists true true longer_has shorter_has = left both_lists longer_has shorter_has
+left_by lists longer_fits shorter_fits longer_has shorter_has = left lists longer_fits shorter_fits
+
 -- the lists that are left by the S at this place with this number, by which the lists name two candidates
 unfoldable pub left_at : (place number : ℕ) → State → Lists
 left_at place number state = elim (is_by_some (counted_so_far by_all state.candidates)) [
   | true ↦ no_list
   | false ↦
       let fits_by : Bool → Bool = λ is_shorter. can_be_named state.counting.expected place (named_in is_shorter state.candidates number) in
-      left state.counting.lists (fits_by false) (fits_by true)
+      let has_by : Bool → Bool = λ is_shorter. has_head state.counting.expected place (named_in is_shorter state.candidates number) in
+      left_by state.counting.lists (fits_by false) (fits_by true) (has_by false) (has_by true)
 ]
 
 unfoldable pub with_lists : Lists → State → State
@@ -321,18 +434,22 @@ module_so_far around place number state = elim (module_named number state) [
 
 -- ## The unfolding
 
--- Where all compilers count alike so far, nothing need be expected.
-unfoldable pub expecting : Expected → State → State
-expecting expected state = elim (is_by_all (counted_so_far by_all state.candidates)) [
+-- Where all compilers count alike so far, nothing need be noted.
+unfoldable pub noting : Counting → State → State
+noting counting state = elim (is_by_all (counted_so_far by_all state.candidates)) [
   | true ↦ state
-  | false ↦ record state { counting = record state.counting { expected = expected } }
+  | false ↦ record state { counting = counting }
 ]
 
--- Where a production begins: the S that a nested name begins with is the byte before, and a type under qualifiers begins here.
-unfoldable pub opening_wide : Production → Forest → (place : ℕ) → State → Result State Refusal
-opening_wide Production.NestTemplate parts place state = Ok (expecting (prefix_at (place - 1)) state)
-opening_wide Production.QualifiedPlain parts place state = Ok (expecting (qualified_at place) state)
-opening_wide production parts place state = opening production parts place state
+-- Where a production begins: the S that a nested name begins with is the byte before, and a type under qualifiers begins here. So does
+-- a type of an encoding or of a signature, and a piece of a name after another; a nested name ends here.
+unfoldable pub opening_wide : Production → Around → Forest → (place : ℕ) → State → Result State Refusal
+opening_wide Production.NestTemplate around parts place state = Ok (noting (expecting (prefix_at (place - 1)) state.counting) state)
+opening_wide Production.QualifiedPlain around parts place state = Ok (noting (expecting (qualified_at place) state.counting) state)
+opening_wide Production.Items around parts place state = Ok (noting (expecting_item around place state.counting) state)
+opening_wide Production.NestNext around parts place state = Ok (noting (calling state.counting) state)
+opening_wide Production.NestEnd around parts place state = Ok (noting (ending state.counting) state)
+opening_wide production around parts place state = opening production parts place state
 
 unfoldable pub between_wide : Production → Around → (place : ℕ) → List Value → State → Continuation
 between_wide Production.Parameter around place (v ∷ []) state = parameter_here around place (index_of v) [] state
@@ -354,6 +471,7 @@ close_wide Production.Substitution byte around place began vs state =
     numbered around (place - 1) (counted_value Seq36 (text_of (part vs 0))) state
 close_wide Production.Lambda byte around place began vs state = Ok (found (as_generic_lambda (meaning Production.Lambda byte around vs)) state)
 close_wide Production.Inheriting byte around place began vs state = Ok (found (meaning Production.Inheriting byte around vs) (counted_base around (part vs 1) state))
+close_wide Production.Holder byte around place began vs state = Ok (found (meaning Production.Holder byte around vs) (noting (awaiting around (tree_of (part vs 1)) state.counting) state))
 close_wide Production.Encoding byte around place began vs state =
     Ok (found (name_if (is_passed_over around && is_open (tree_of (part vs 0))) (part vs 0) (meaning Production.Encoding byte around vs)) state)
 close_wide Production.EncodingLiteral byte around place began vs state =
@@ -365,7 +483,7 @@ unfoldable pub cpp_wide : Reading Value State Around
 cpp_wide = record {
   rowless = nothing_there ∷ [];
   token = λ place t state. Ok (found (text t.own) state);
-  begin = λ rule parts. opening_wide (production_at rule.rule.number) parts rule.place rule.before;
+  begin = λ rule parts. opening_wide (production_at rule.rule.number) rule.context parts rule.place rule.before;
   between = λ rule known state. between_wide (production_at rule.rule.number) rule.context rule.place known state;
   close = λ rule known state. close_wide (production_at rule.rule.number) (byte_of rule.taken) rule.context rule.place rule.before known state;
 }

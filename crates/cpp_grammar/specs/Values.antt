@@ -29,19 +29,35 @@ pub data Lists : Type 0 where
   shorter_list : Lists
   no_list : Lists
 
--- the place of the last S of which the form says what it may name: what a nested name begins with, or a type under qualifiers
+-- the place of the last S of which it's known what it may name: what a nested name begins with, a type under qualifiers, or one of the
+-- types of a lambda's function, which has this head
 pub data Expected : Type 0 where
   anything : Expected
   prefix_at : (place : ℕ) → Expected
   qualified_at : (place : ℕ) → Expected
+  item_at : (place head : ℕ) → Expected
 
--- which lists are left, and what is expected
+-- The heads of the next four types of the encoding that begins at this place, and whether its name goes on after the lambda that has
+-- these types. A head is the number of a tree's form, and 0 where nothing is known of it.
+pub record Awaited : Type 0 where
+  pub encoding : ℕ
+  pub is_called : Bool
+  pub first : ℕ
+  pub second : ℕ
+  pub third : ℕ
+  pub fourth : ℕ
+
+abbrev pub nothing_awaited : Awaited
+nothing_awaited = record { encoding = 0; is_called = false; first = 0; second = 0; third = 0; fourth = 0 }
+
+-- which lists are left, what is expected, and what is awaited
 pub record Counting : Type 0 where
   pub lists : Lists
   pub expected : Expected
+  pub awaited : Awaited
 
 abbrev pub nothing_counted : Counting
-nothing_counted = record { lists = both_lists; expected = anything }
+nothing_counted = record { lists = both_lists; expected = anything; awaited = nothing_awaited }
 
 -- The state that is threaded through the bytes: the candidates so far, the length of the packs that the innermost expansion
 -- has named so far, and how the candidates are counted where compilers differ.

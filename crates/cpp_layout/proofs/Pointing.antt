@@ -1,7 +1,8 @@
 -- What pointers to pointers print.
-use Rattle.std.proofs.Common.{◌≡◌, ℕ, zero, suc, ◌<◌, ◌≤◌, ◌+◌, ◌*◌, List, [], ◌∷◌, ◌++◌, true, false, length, take, replicate, Some, None, codes, refl, sym, ap, ◌∙◌, arith}
+use Rattle.std.proofs.Common.{◌≡◌, ℕ, zero, suc, ◌<◌, ◌≤◌, ◌+◌, ◌*◌, ◌-◌, List, [], ◌∷◌, ◌++◌, true, false, length, take, drop, replicate, Some, None, codes, refl, sym, ap, ◌∙◌, arith}
 use Rattle.std.specs.List.{All}
-use Rattle.std.proofs.lemmas.List.{take-replicate, length-replicate}
+use Rattle.std.proofs.lemmas.List.{take-replicate, length-replicate, take-append-le, length-append, append_assoc}
+use Rattle.std.proofs.Math.Seq.{take-length}
 use Rattle.std.proofs.lemmas.List.Elements.{All-replicate, All-cons, All-nil}
 use Rattle.sym_print.specs.declared.layout.Item.{Item}
 use Rattle.sym_print.specs.declared.layout.Part.{Part}
@@ -21,10 +22,9 @@ use Rattle.cpp_term.proofs.RanksNoted.{ranks_fall}
 use Rattle.cpp_tree.specs.declared.node.Placed.{Placed}
 use Rattle.cpp_tree.specs.Nodes.{IsTable, IsPlacedBelow, trees, tree_under}
 use Rattle.cpp_layout.specs.declared.context.Context.{Context}
-use Rattle.cpp_layout.specs.declared.texts.TheConstants.{STARS}
 use Rattle.cpp_layout.specs.Layout.{ReadSymbol, table_of, item_in, context_of, unshared_of, bytes_of_part, MayBeAsked, MayCome}
 use Rattle.sym_print.specs.Runs.{nested, texts_of, IsRun}
-use Rattle.cpp_layout.specs.Pointers.{pointers, constant_pointers, just_const, IsPointer}
+use Rattle.cpp_layout.specs.Pointers.{pointers, constant_pointers, constant_stars, run_text, just_const, IsPointer}
 
 -- the texts of pointers to constant pointers
 abbrev constant_texts : ℕ → List (List ℕ)
@@ -129,9 +129,17 @@ all-stars n = All-replicate (λ (t : List ℕ). 0 < length t) n (42 ∷ []) (ome
 all-none : (n : ℕ) → All (λ (t : List ℕ). t ≡ []) (replicate n [])
 all-none n = All-replicate (λ (t : List ℕ). t ≡ []) n [] refl
 
--- the run's text: as many stars as it has levels
-stars-of : (n count : ℕ) → count ≡ n → n ≤ 24 → take count (replicate 24 42) ≡ texts_of (replicate n (42 ∷ []))
-stars-of n count e few = ap (λ k. take k (replicate 24 42)) e ∙ take-replicate n 24 42 few ∙ sym (stars 42 n)
+-- a run's text: as many stars as it has levels
+stars-of : (n : ℕ) → n ≤ 512 → take (n - 0) (drop 0 run_text) ≡ texts_of (replicate n (42 ∷ []))
+unfolding run_text
+stars-of n few =
+    let whole : n - 0 ≡ n = omega arith in
+    ap (λ k. take k (replicate 512 42 ++ constant_stars 64)) whole
+    ∙ take-append-le n (replicate 512 42) (constant_stars 64) (omega (arith, few, length-replicate {A = ℕ} 512 42)) ∙ take-replicate n 512 42 few ∙ sym (stars 42 n)
+
+length-run-text : length run_text ≡ 960
+unfolding run_text
+length-run-text = refl
 
 length-constant : (n : ℕ) → length (constant_texts n) ≡ 2 * n
 length-constant zero = refl
@@ -149,12 +157,37 @@ all-no-texts : (n : ℕ) → All (λ (t : List ℕ). t ≡ []) (no_texts n)
 all-no-texts zero = All-nil (λ (t : List ℕ). t ≡ [])
 all-no-texts (suc n) = All-cons (λ (t : List ℕ). t ≡ []) [] ([] ∷ no_texts n) refl (All-cons (λ (t : List ℕ). t ≡ []) [] (no_texts n) refl (all-no-texts n))
 
-constant-of : (n : ℕ) → n ≤ 3 → take (7 * n) (codes " const* const* const*   ") ≡ texts_of (constant_texts n)
-constant-of zero few = refl
-constant-of (suc zero) few = refl
-constant-of (suc (suc zero)) few = refl
-constant-of (suc (suc (suc zero))) few = refl
-constant-of (suc (suc (suc (suc n)))) few = absurd (omega (arith, few))
+length-stars : (n : ℕ) → length (constant_stars n) ≡ 7 * n
+length-stars zero = refl
+length-stars (suc n) = length-append (constant_stars n) (codes " const*") ∙ omega (arith, length-stars n)
+
+stars-so : (n : ℕ) → texts_of (constant_texts n) ≡ constant_stars n
+stars-so zero = refl
+stars-so (suc n) = ap (λ l. (l ++ codes " const") ++ 42 ∷ []) (stars-so n) ∙ append_assoc (constant_stars n) (codes " const") (42 ∷ [])
+
+more : (k n : ℕ) → ℕ
+more zero n = n
+more (suc k) n = suc (more k n)
+
+more-is : (k n : ℕ) → more k n ≡ k + n
+unfolding more
+more-is zero n = omega arith
+more-is (suc k) n = omega (arith, more-is k n)
+
+first-stars : (k n : ℕ) → take (7 * n) (constant_stars (more k n)) ≡ constant_stars n
+unfolding more
+first-stars zero n = ap (λ j. take j (constant_stars n)) (sym (length-stars n)) ∙ take-length (constant_stars n)
+first-stars (suc k) n = take-append-le (7 * n) (constant_stars (more k n)) (codes " const*") (omega (arith, length-stars (more k n), more-is k n)) ∙ first-stars k n
+
+behind-stars : drop 512 run_text ≡ constant_stars 64
+unfolding run_text
+behind-stars = refl
+
+constant-of : (n to : ℕ) → to ≡ 512 + 7 * n → n ≤ 64 → take (to - 512) (drop 512 run_text) ≡ texts_of (constant_texts n)
+constant-of n to e few =
+    let long : to - 512 ≡ 7 * n = omega (arith, e) in
+    let many : 64 ≡ more (64 - n) n = omega (arith, few, more-is (64 - n) n) in
+    ap (λ j. take j (drop 512 run_text)) long ∙ ap (take (7 * n)) (behind-stars ∙ ap constant_stars many) ∙ first-stars (64 - n) n ∙ sym (stars-so n)
 
 -- ## The runs of a symbol's items
 
@@ -201,12 +234,8 @@ module _ (y : ReadSymbol) (i : Item Context) (inner : Placed) (n : ℕ) (table :
     text = (is, (table, may), all-stars n, says);
   }
 
-  pub run-own : (count : ℕ) → count ≡ n → n ≤ 24 → i.form ≡ 0
-      → IsRun (unshared_of y) (bytes_of_part y) (MayBeAsked y) i (record { item = item_of_type i inner; levels = n; text = Some (part.Own (replicate 24 42) count) })
-  run-own count same few e = run-of-stars (part.Own (replicate 24 42) count) tt (omega (arith, same, some), omega (arith, same, few), refl) (stars-of n count same few) e
-
-  pub run-fixed : n ≡ 64 → i.form ≡ 0 → IsRun (unshared_of y) (bytes_of_part y) (MayBeAsked y) i (record { item = item_of_type i inner; levels = n; text = Some (part.Fixed STARS) })
-  run-fixed many e = run-of-stars (part.Fixed STARS) tt (omega arith) (sym (stars 42 64) ∙ ap (λ k. texts_of (replicate k (42 ∷ []))) (sym many)) e
+  pub run-left : n ≤ 512 → i.form ≡ 0 → IsRun (unshared_of y) (bytes_of_part y) (MayBeAsked y) i (record { item = item_of_type i inner; levels = n; text = Some (part.List (record { from = 0; to = n })) })
+  run-left few e = run-of-stars (part.List (record { from = 0; to = n })) tt (some, omega (arith, few, length-run-text)) (stars-of n few) e
 
   pub run-right : i.form ≡ 1 → IsRun (unshared_of y) (bytes_of_part y) (MayBeAsked y) i (record { item = item_of_type i inner; levels = n; text = None })
   run-right e = record {
@@ -226,15 +255,15 @@ module _ (y : ReadSymbol) (i : Item Context) (inner : Placed) (n : ℕ) (table :
       is-left y i.node i.form i.at i.ctx e ∙ ap (shown_left i.ctx.detail (context_of i.ctx)) (tree ∙ ap (constant_pointers n) is_pointer.1) ∙ constant-left-run i.ctx.detail (context_of i.ctx) n is_pointer.0
       ∙ ap (nested (constant_texts n)) (ap (shown_left i.ctx.detail (context_of i.ctx)) (sym is_pointer.1) ∙ sym (is-left y inner.node i.form 0 (item_of_type i inner).ctx e))
 
-  pub run-constant : (levels count : ℕ) → levels ≡ 2 * n → count ≡ 7 * n → n ≤ 3 → i.form ≡ 0
-      → IsRun (unshared_of y) (bytes_of_part y) (MayBeAsked y) i (record { item = item_of_type i inner; levels = levels; text = Some (part.Own (codes " const* const* const*   ") count) })
-  run-constant levels count twice seven few e = record {
+  pub run-constant : (levels to : ℕ) → levels ≡ 2 * n → to ≡ 512 + 7 * n → n ≤ 64 → i.form ≡ 0
+      → IsRun (unshared_of y) (bytes_of_part y) (MayBeAsked y) i (record { item = item_of_type i inner; levels = levels; text = Some (part.List (record { from = 512; to = to })) })
+  run-constant levels to twice end few e = record {
     texts = constant_texts n;
     is_nested = nested-constant e;
     levels = twice ∙ sym (length-constant n);
     some = omega (arith, twice, some);
     end = (table, below);
-    text = (tt, (table, (omega (arith, seven, some), omega (arith, seven, few), refl)), all-constant n, ap (λ k. take k (codes " const* const* const*   ")) seven ∙ constant-of n few);
+    text = (tt, (table, (omega (arith, end, some), omega (arith, end, few, length-run-text))), all-constant n, constant-of n to end few);
   }
 
   nested-constant-right : i.form ≡ 1 → unshared_of y i ≡ nested (no_texts n) (unshared_of y (item_of_type i inner))

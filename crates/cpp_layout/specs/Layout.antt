@@ -1,6 +1,6 @@
 -- The items of code as items of trees, and their parts.
 use Rattle.sym_core.specs.declared.TheConstants.{MOST_BYTES}
-use Rattle.std.specs.Prelude.{◌≡◌, ℕ, ◌<◌, ◌≤◌, ◌+◌, ◌*◌, List, [], ◌∷◌, take, length, Bool, true, false, cond, nat_eq}
+use Rattle.std.specs.Prelude.{◌≡◌, ℕ, ◌<◌, ◌≤◌, ◌+◌, ◌-◌, ◌*◌, List, [], ◌∷◌, take, drop, length, Bool, true, false, cond, nat_eq}
 use Rattle.sym_print.specs.declared.layout.Item.{Item}
 use Rattle.sym_print.specs.declared.layout.Part.{Part}
 use Rattle.sym_print.specs.declared.layout.Part.TheVariants as part
@@ -26,6 +26,7 @@ use Rattle.cpp_layout.specs.declared.context.Context.{Context}
 use Rattle.cpp_tree.specs.Nodes.{Stored, Table, over, trees, tree_at, tree_of, piece_of, tree_if_there, under_kept, bytes_at, IsWithin, IsAliasBelow, IsTable}
 use Rattle.cpp_term.specs.Reargued.{reargued}
 use Rattle.cpp_layout.specs.Texts.{fixed_text}
+use Rattle.cpp_layout.specs.Pointers.{run_text}
 
 -- a symbol that was read: its bytes, its nodes, the node of the whole, the rows of its shape and the steps
 pub record ReadSymbol : Type 0 where
@@ -93,14 +94,14 @@ item_of y i = item_in (trees y) i.node i.form i.at i.ctx
 abbrev pub bytes_of : Table → Part Context → List ℕ
 bytes_of y (part.Sub i) = []
 bytes_of y (part.Symbol span) = bytes_at y.bytes span
-bytes_of y (part.List span) = []
+bytes_of y (part.List span) = take (span.to - span.from) (drop span.from run_text)
 bytes_of y (part.Fixed number) = fixed_text number
 bytes_of y (part.Own bytes count) = take count bytes
 
 abbrev pub MayCome : Table → Part Context → Type 0
 MayCome y (part.Sub i) = (i.node < length y.nodes) × IsAliasBelow (length y.nodes) i.ctx.argument
 MayCome y (part.Symbol span) = IsWithin span y.bytes × (span.from < span.to)
-MayCome y (part.List span) = ⊥
+MayCome y (part.List span) = (span.from < span.to) × (span.to ≤ length run_text)
 MayCome y (part.Fixed number) = 0 < length (fixed_text number)
 MayCome y (part.Own bytes count) = (0 < count) × (count ≤ 24) × (length bytes ≡ 24)
 

@@ -1,5 +1,5 @@
 -- Pointers to pointers, and to constant pointers.
-use Rattle.std.specs.Prelude.{◌≡◌, ℕ, zero, suc, true, false}
+use Rattle.std.specs.Prelude.{◌≡◌, ℕ, zero, suc, true, false, List, [], ◌++◌, replicate, codes}
 use Rattle.cpp_grammar.specs.Term.{Qualifiers}
 use Rattle.cpp_term.specs.Term.{Term, pointer, qualified}
 
@@ -19,3 +19,12 @@ constant_pointers (suc n) t = pointer (qualified just_const (constant_pointers n
 -- the type is a pointer
 abbrev pub IsPointer : Term → Type 0
 IsPointer t = (to : Term) × (t ≡ pointer to)
+
+-- what pointers to constant types print left of a name
+abbrev pub constant_stars : (pairs : ℕ) → List ℕ
+constant_stars zero = []
+constant_stars (suc n) = constant_stars n ++ codes " const*"
+
+-- each run's text is a part of this one: of the stars of pointers, or of what pointers to constant types print
+unfoldable pub run_text : List ℕ
+run_text = replicate 512 42 ++ constant_stars 64

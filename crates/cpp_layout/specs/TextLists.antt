@@ -63,8 +63,7 @@ plain_texts =
     codes ">(" ∷
     codes "$T" ∷
     codes "$N" ∷
-    codes "$TT" ∷
-    codes "****************************************************************" ∷ []
+    codes "$TT" ∷ []
 
 -- what follows a function's parameters
 abbrev pub suffix_texts : List (List ℕ)

@@ -19,6 +19,7 @@ ghost use Rattle.cpp_tree.specs.Nodes.{is_again, entry_at, IsTable, IsAliasBelow
 ghost use Rattle.cpp_layout.specs.Layout.{table_of, context_of, form_of, tree_in, Shows, unshared_of, bytes_of_part, MayBeAsked, shown_symbol, printed_tree};
 
 use crate::context::Context;
+use crate::runs::run_text;
 use crate::symbol::Symbol;
 use crate::{form, texts};
 use arrayvec::ArrayVec;
@@ -206,6 +207,7 @@ impl Layout for Symbol {
         match part {
             Part::Symbol(span) => self.bytes_of(*span),
             Part::Fixed(number) => texts::fixed_text(*number),
+            Part::List(span) => &run_text()[span.from as usize..span.to as usize],
             Part::Own(bytes, count) => &bytes[..*count as usize],
             _ => b"",
         }

@@ -5,27 +5,34 @@ ghost use Rattle.std.specs.Prelude.{◌≡◌, ◌<◌, ◌≤◌, ℕ, length, 
 ghost use Rattle.cpp_term.specs.Term.{Term, pointer};
 ghost use Rattle.cpp_tree.specs.Nodes.{IsTable, IsPlacedBelow, tree_under, trees};
 ghost use Rattle.cpp_layout.specs.Layout.{table_of, unshared_of, bytes_of_part, MayBeAsked};
-ghost use Rattle.cpp_layout.specs.Pointers.{pointers, constant_pointers, IsPointer};
+ghost use Rattle.cpp_layout.specs.Pointers.{pointers, constant_pointers, run_text, IsPointer};
 ghost use Rattle.sym_print.specs.Runs.{IsRun};
 ghost use Rattle.sym_print.specs.declared.layout.Part.{Part};
 
 use crate::context::Context;
+use crate::form;
 use crate::symbol::Symbol;
-use crate::{form, texts};
 use cpp_tree::node::Placed;
+use sym_core::Span;
 use sym_print::{Item, Part, Run};
 
-/// How many pointers left of a name are taken at once: a fixed text has that many stars.
-const MOST_STARS: u32 = 64;
+/// How many pointers left of a name are taken at once: the text of runs has that many stars.
+const MOST_STARS: u32 = 512;
 
-/// How many where there are fewer: a part has that many bytes of its own.
-const OWN_STARS: u32 = 24;
+/// How many pointers to constant types left of a name are taken at once.
+const MOST_CONSTANT: u32 = 64;
 
-/// How many pointers to constant pointers left of a name are taken at once.
-const MOST_CONSTANT: u32 = 3;
+/// Where the text of those begins in the text of runs, seven bytes for each.
+const CONSTANT_STARS: u32 = 512;
 
-/// Their text, of which each has seven bytes.
-const CONSTANT_STARS: [u8; 24] = *b" const* const* const*   ";
+/// The text of which each run's text is a part: stars, and then what pointers to constant types print.
+#[tactic(auto, unfolding(crate::specs::Pointers::run_text))]
+#[inline(always)]
+pub(crate) fn run_text() -> &'static [u8]
+    ensures { result.now ≡ run_text }
+{
+    b"******************************************************************************************************************************************************************************************************************************************************************************************************************************************************************************************************************************************************************************************************************************** const* const* const* const* const* const* const* const* const* const* const* const* const* const* const* const* const* const* const* const* const* const* const* const* const* const* const* const* const* const* const* const* const* const* const* const* const* const* const* const* const* const* const* const* const* const* const* const* const* const* const* const* const* const* const* const* const* const* const* const* const* const* const* const*"
+}
 
 /// A pointer, and how many pointers are around it.
 #[derive(Clone, Copy)]
@@ -130,37 +137,16 @@ impl Symbol {
         ensures run { IfSome result (λ run. IsRun (unshared_of self.now) (bytes_of_part self.now) (MayBeAsked self.now) item run) }
     {
         let run = self.pointers(type_in(item), MOST_STARS);
-        if run.levels == MOST_STARS {
-            return Some(Run {
-                item: item_at(item, run.inner),
-                levels: run.levels,
-                text: Some(Part::Fixed(texts::STARS)),
-            });
-        }
-        if run.levels > OWN_STARS {
-            return self.own_stars(item, self.pointers(type_in(item), OWN_STARS));
-        }
-        self.own_stars(item, run)
-    }
-
-    /// The run of a few pointers left of a name.
-    #[inline(always)]
-    fn own_stars(&self, item: Item<Context>, run: Pointers) -> Option<Run<Context>>
-        requires may_come { MayBeAsked self.now (Part.Sub item) }
-        requires form { item.form ≡ 0 }
-        requires tree { tree_under (trees (table_of self.now)) (record { node = item.node; under = item.ctx.argument }) ≡ pointers run.levels (tree_under (trees (table_of self.now)) run.inner) }
-        requires below { IsPlacedBelow (length self.now.table.nodes) run.inner }
-        requires pointer { 0 < run.levels → IsPointer (tree_under (trees (table_of self.now)) run.inner) }
-        requires few { run.levels ≤ 24 }
-        ensures run { IfSome result (λ run. IsRun (unshared_of self.now) (bytes_of_part self.now) (MayBeAsked self.now) item run) }
-    {
         if run.levels == 0 {
             return self.run_constant(item);
         }
         Some(Run {
             item: item_at(item, run.inner),
             levels: run.levels,
-            text: Some(Part::Own([b'*'; 24], run.levels as u8)),
+            text: Some(Part::List(Span {
+                from: 0,
+                to: run.levels,
+            })),
         })
     }
 
@@ -178,7 +164,10 @@ impl Symbol {
         Some(Run {
             item: item_at(item, run.inner),
             levels: 2 * run.levels,
-            text: Some(Part::Own(CONSTANT_STARS, 7 * run.levels as u8)),
+            text: Some(Part::List(Span {
+                from: CONSTANT_STARS,
+                to: CONSTANT_STARS + 7 * run.levels,
+            })),
         })
     }
 

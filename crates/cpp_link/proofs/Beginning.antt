@@ -18,14 +18,14 @@ use Rattle.cpp_grammar.specs.Rescoping.{is_by_all}
 use Rattle.cpp_term.specs.Term.{Term}
 use Rattle.cpp_term.specs.Values.{State, Around}
 use Rattle.cpp_term.specs.Unfolding.{opening, cpp}
-use Rattle.cpp_term.specs.Rescoping.{counted_so_far, expecting}
+use Rattle.cpp_term.specs.Rescoping.{counted_so_far, noting}
 use Rattle.cpp_tree.specs.Nodes.{tree_at}
 use Rattle.cpp_references.specs.declared.around.Surroundings.{Surroundings}
 use Rattle.cpp_references.specs.Around.{counted_of}
-use Rattle.cpp_link.specs.declared.counting.Expected.{Expected}
+use Rattle.cpp_link.specs.declared.counting.Counting.{Counting}
 use Rattle.cpp_link.specs.declared.linked.Linked.{Linked}
 use Rattle.cpp_link.specs.declared.rescoping.Rescoping.{Rescoping}
-use Rattle.cpp_link.specs.Counting.{expected_of}
+use Rattle.cpp_link.specs.Counting.{counting_of}
 use Rattle.cpp_link.specs.LinkReading.{link_begin}
 use Rattle.cpp_link.specs.LinkRescoping.{link_opening, wide_view, wide_counted}
 use Rattle.cpp_link.specs.Numbered.{is_numbered}
@@ -84,28 +84,49 @@ plain_begins o parts plain = go (nat_eq o.place 0)
     go true = refl
     go false = opens_plain (production_at o.rule.number) parts o.place o.before plain
 
-nothing_expected : (e : plain.Expected) (state : State) → is_by_all (counted_so_far by_all state.candidates) ≡ true → expecting e state ≡ state
-unfolding expecting
-nothing_expected e state alike = ap (λ b. elim b as (λ _. State) [ true ↦ state | false ↦ record state { counting = record state.counting { expected = e } } ]) alike
+pub noted_as : (c : plain.Counting) (state : State) → is_by_all (counted_so_far by_all state.candidates) ≡ false → noting c state ≡ record state { counting = c }
+unfolding noting
+noted_as c state other = ap (λ b. elim b as (λ _. State) [ true ↦ state | false ↦ record state { counting = c } ]) other
+
+pub nothing_noted : (c : plain.Counting) (state : State) → is_by_all (counted_so_far by_all state.candidates) ≡ true → noting c state ≡ state
+unfolding noting
+nothing_noted c state alike = ap (λ b. elim b as (λ _. State) [ true ↦ state | false ↦ record state { counting = c } ]) alike
 
 opening_alike : (p : Production) (o : Open State Around) (parts : Forest) → production_at o.rule.number ≡ p → is_by_all (counted_so_far by_all o.before.candidates) ≡ true → link_opening p o parts ≡ link_begin o parts
 unfolding link_opening is_numbered
-opening_alike Production.NestTemplate o parts is alike = ap (λ s. Ok s) (nothing_expected _ o.before alike) ∙ sym (plain_begins o parts (ap is_numbered is))
-opening_alike Production.QualifiedPlain o parts is alike = ap (λ s. Ok s) (nothing_expected _ o.before alike) ∙ sym (plain_begins o parts (ap is_numbered is))
+opening_alike Production.NestTemplate o parts is alike = ap (λ s. Ok s) (nothing_noted _ o.before alike) ∙ sym (plain_begins o parts (ap is_numbered is))
+opening_alike Production.QualifiedPlain o parts is alike = ap (λ s. Ok s) (nothing_noted _ o.before alike) ∙ sym (plain_begins o parts (ap is_numbered is))
+opening_alike Production.Items o parts is alike = ap (λ s. Ok s) (nothing_noted _ o.before alike) ∙ sym (plain_begins o parts (ap is_numbered is))
+opening_alike Production.NestNext o parts is alike = ap (λ s. Ok s) (nothing_noted _ o.before alike) ∙ sym (plain_begins o parts (ap is_numbered is))
+opening_alike Production.NestEnd o parts is alike = ap (λ s. Ok s) (nothing_noted _ o.before alike) ∙ sym (plain_begins o parts (ap is_numbered is))
 opening_alike _ o parts is alike = refl
 
 -- nothing is expected where a symbol begins
 pub first_opens : (p : Production) (o : Open State Around) (parts : Forest) → o.place ≡ 0 → is_by_all (counted_so_far by_all o.before.candidates) ≡ true → link_opening p o parts ≡ Ok o.before
 unfolding link_opening
-first_opens Production.NestTemplate o parts first alike = ap (λ s. Ok s) (nothing_expected _ o.before alike)
-first_opens Production.QualifiedPlain o parts first alike = ap (λ s. Ok s) (nothing_expected _ o.before alike)
+first_opens Production.NestTemplate o parts first alike = ap (λ s. Ok s) (nothing_noted _ o.before alike)
+first_opens Production.QualifiedPlain o parts first alike = ap (λ s. Ok s) (nothing_noted _ o.before alike)
+first_opens Production.Items o parts first alike = ap (λ s. Ok s) (nothing_noted _ o.before alike)
+first_opens Production.NestNext o parts first alike = ap (λ s. Ok s) (nothing_noted _ o.before alike)
+first_opens Production.NestEnd o parts first alike = ap (λ s. Ok s) (nothing_noted _ o.before alike)
 first_opens _ o parts first alike = first_begins o parts first
 
-opening_other : (p : Production) (o : Open State Around) (parts : Forest) → (p ≡ Production.NestTemplate → ⊥) → (p ≡ Production.QualifiedPlain → ⊥) → link_opening p o parts ≡ link_begin o parts
+-- the productions where nothing is noted
+pub record NotesNothing (p : Production) : Type 0 where
+  pub not_template : p ≡ Production.NestTemplate → ⊥
+  pub not_qualified : p ≡ Production.QualifiedPlain → ⊥
+  pub not_items : p ≡ Production.Items → ⊥
+  pub not_next : p ≡ Production.NestNext → ⊥
+  pub not_end : p ≡ Production.NestEnd → ⊥
+
+opening_other : (p : Production) (o : Open State Around) (parts : Forest) → NotesNothing p → link_opening p o parts ≡ link_begin o parts
 unfolding link_opening
-opening_other Production.NestTemplate o parts first second = absurd (first refl)
-opening_other Production.QualifiedPlain o parts first second = absurd (second refl)
-opening_other _ o parts first second = refl
+opening_other Production.NestTemplate o parts other = absurd (other.not_template refl)
+opening_other Production.QualifiedPlain o parts other = absurd (other.not_qualified refl)
+opening_other Production.Items o parts other = absurd (other.not_items refl)
+opening_other Production.NestNext o parts other = absurd (other.not_next refl)
+opening_other Production.NestEnd o parts other = absurd (other.not_end refl)
+opening_other _ o parts other = refl
 
 module _ (s : List ℕ) (rows : List Row) (old : Linked) (context : Surroundings) (row : Row) where
   -- by whom the candidates of the state are counted
@@ -124,35 +145,35 @@ module _ (s : List ℕ) (rows : List Row) (old : Linked) (context : Surroundings
     refused = refused;
   }
 
-  pub other_begins : (result : Result Surroundings Refusal) → (production_at row.rule ≡ Production.NestTemplate → ⊥) → (production_at row.rule ≡ Production.QualifiedPlain → ⊥)
+  pub other_begins : (result : Result Surroundings Refusal) → NotesNothing (production_at row.rule)
       → BeginsIn (cpp_view s) s (Surrounds s) rows old old context row result → IfErr result (λ e. e ≡ Memory → ⊥) → Begins (wide_view s) s rows old old context row result
-  other_begins result first second begins refused = record {
+  other_begins result other begins refused = record {
     begins = λ around state rule taken inner place row_is kind known tree behind at surrounds holds.
         subst (λ read. BeginsAs (cpp_view s) old (standing rule taken place around state) result read)
-        (sym (opening_other (production_at rule.number) (standing rule taken place around state) inner (λ is. first (ap production_at row_is.rule_is ∙ is)) (λ is. second (ap production_at row_is.rule_is ∙ is))))
+        (sym (opening_other (production_at rule.number) (standing rule taken place around state) inner (subst (λ p. NotesNothing p) (ap production_at row_is.rule_is) other)))
         (begins around state rule taken inner place row_is kind known tree behind at surrounds holds);
     nodes = refl;
     candidates = refl;
     refused = refused;
   }
 
-  -- it's noted what may be named
-  pub noted_begins : (p : Production) (e : ℕ → plain.Expected) (noted : Expected) (kept : Surroundings) → ((o : Open State Around) (parts : Forest) → link_opening p o parts ≡ Ok (expecting (e o.place) o.before))
-      → production_at row.rule ≡ p → expected_of noted ≡ e row.from → is_by_all (counted_of old.candidates.by) ≡ false
+  -- it's noted what may be named, or which types are awaited
+  pub noted_begins : (p : Production) (e : Around → ℕ → plain.Counting → plain.Counting) (noted : Counting) (kept : Surroundings)
+      → ((o : Open State Around) (parts : Forest) → link_opening p o parts ≡ Ok (noting (e o.context o.place o.before.counting) o.before))
+      → production_at row.rule ≡ p → counting_of noted ≡ e (around_of (trees_in s old.nodes) context) row.from (counting_of old.counting) → is_by_all (counted_of old.candidates.by) ≡ false
       → ((ts : List Term) → around_of ts kept ≡ around_of ts context) → ((n : ℕ) → IsKeptThere n context → IsKeptThere n kept) → packs_of kept ≡ old.packs
-      → Begins (wide_view s) s rows old (record old { counting = record old.counting { expected = noted } }) context row (Ok kept)
-  unfolding expecting
+      → Begins (wide_view s) s rows old (record old { counting = noted }) context row (Ok kept)
   noted_begins p e noted kept opens is noted_is apart around_same there packs = record {
     begins = λ around state rule taken inner place row_is kind known tree behind at surrounds holds. (
-      expecting (e place) state,
+      noting (e around place state.counting) state,
       ap (λ q. link_opening q (standing rule taken place around state) inner) (ap production_at (sym row_is.rule_is) ∙ is) ∙ opens (standing rule taken place around state) inner,
       kept_now (standing rule taken place around state) (begins_kept s old context kept around state rule taken place around_same there packs surrounds holds),
-      subst (λ x. Holds s new x) (sym (expected state place (ap is_by_all (counted_is state holds) ∙ apart))) (record {
+      subst (λ x. Holds s new x) (sym (noted_as (e around place state.counting) state (ap is_by_all (counted_is state holds) ∙ apart))) (record {
         table = holds.table;
         there = holds.there;
         candidates = holds.candidates;
         packs = holds.packs;
-        counting = same_counting _ _ _ _ (ap (λ (c : plain.Counting). c.lists) holds.counting) (noted_is ∙ ap e row_is.from);
+        counting = noted_is ∙ same_noted _ _ _ _ _ _ surrounds.is row_is.from holds.counting;
       }),
     );
     nodes = refl;
@@ -161,13 +182,10 @@ module _ (s : List ℕ) (rows : List Row) (old : Linked) (context : Surroundings
   }
     where
       new : Linked
-      new = record old { counting = record old.counting { expected = noted } }
-
-      expected : (state : State) (place : ℕ) → is_by_all (counted_so_far by_all state.candidates) ≡ false → expecting (e place) state ≡ record state { counting = record state.counting { expected = e place } }
-      expected state place other = ap (λ b. elim b as (λ _. State) [ true ↦ state | false ↦ record state { counting = record state.counting { expected = e place } } ]) other
+      new = record old { counting = noted }
 
       kept_now : (rule : Open State Around) → IsKept s old kept rule → IsKept s new kept rule
       kept_now rule is = record { surrounds = record { there = is.surrounds.there; is = is.surrounds.is; closed = is.surrounds.closed }; packs = is.packs }
 
-      same_counting : (a b : plain.Lists) (x y : plain.Expected) → a ≡ b → x ≡ y → ◌≡◌ {A = plain.Counting} (record { lists = a; expected = x }) (record { lists = b; expected = y })
-      same_counting a b x y lists expects = rw (lists, expects) refl
+      same_noted : (a b : Around) (m n : ℕ) (c d : plain.Counting) → a ≡ b → m ≡ n → c ≡ d → e a m c ≡ e b n d
+      same_noted a b m n c d around place counting = rw (around, place, counting) refl

@@ -190,7 +190,7 @@ IsPlainLambda way = (around : Around) (place : ℕ) (vs : List Value) (state : S
 
 -- and where a rule begins whose value the linker says otherwise
 abbrev OpensPlain : NotedWay → Type 0
-OpensPlain way = (p : Production) → is_plain p ≡ false → (parts : Forest) (place : ℕ) (state : State) → way.opening p parts place state ≡ opening p parts place state
+OpensPlain way = (p : Production) → is_plain p ≡ false → (around : Around) (parts : Forest) (place : ℕ) (state : State) → way.opening p around parts place state ≡ opening p parts place state
 
 module _ (way : NotedWay) (plain_way : IsPlainNoted way) (plain_lambda : IsPlainLambda way) (plain_opening : OpensPlain way) where
   -- before a part of a production that agrees with the ABI's grammar the same is done
@@ -216,7 +216,7 @@ module _ (way : NotedWay) (plain_way : IsPlainNoted way) (plain_lambda : IsPlain
   unfolding is_plain differs cpp reading_noted_by opening between close behind meaning production_at productions rule_of number_of byte_of part text_of
   byte_read byte place around inner state v is =
       let closes : Found (List Value) State → Result (Found (List Value) State) Refusal = λ all. way.close Production.SuffixByte byte around place state all.value all.state >>= alone in
-      ap (λ m. m >>= λ b. unfold_forest (reading_noted_by way) (standing (rule_of Production.SuffixByte) (byte ∷ []) place around state) [] (place + 1) (grown inner nothing) b >>= closes) (plain_opening Production.SuffixByte refl (grown inner nothing) place state)
+      ap (λ m. m >>= λ b. unfold_forest (reading_noted_by way) (standing (rule_of Production.SuffixByte) (byte ∷ []) place around state) [] (place + 1) (grown inner nothing) b >>= closes) (plain_opening Production.SuffixByte refl around (grown inner nothing) place state)
       ∙ ap (λ m. m >>= closes) (plain_step (standing (rule_of Production.SuffixByte) (byte ∷ []) place around state) Production.SuffixByte refl (plain_way.between Production.SuffixByte refl) [] (place + 1) inner nothing state)
       ∙ ap (λ m. (m >>= λ one. Ok (found one.value one.state)) >>= closes) is
       ∙ ap (λ m. m >>= alone) (plain_way.close Production.SuffixByte refl byte around place state (v ∷ []) state)
@@ -284,7 +284,7 @@ module _ (way : NotedWay) (plain_way : IsPlainNoted way) (plain_lambda : IsPlain
   unfolding is_plain differs cpp reading_noted_by opening between close behind meaning production_at productions rule_of number_of byte_of part text_of
   digit_read byte place around inner state v is =
       let closes : Found (List Value) State → Result (Found (List Value) State) Refusal = λ all. way.close Production.HexDigit byte around place state all.value all.state >>= alone in
-      ap (λ m. m >>= λ b. unfold_forest (reading_noted_by way) (standing (rule_of Production.HexDigit) (byte ∷ []) place around state) [] (place + 1) (grown inner nothing) b >>= closes) (plain_opening Production.HexDigit refl (grown inner nothing) place state)
+      ap (λ m. m >>= λ b. unfold_forest (reading_noted_by way) (standing (rule_of Production.HexDigit) (byte ∷ []) place around state) [] (place + 1) (grown inner nothing) b >>= closes) (plain_opening Production.HexDigit refl around (grown inner nothing) place state)
       ∙ ap (λ m. m >>= closes) (plain_step (standing (rule_of Production.HexDigit) (byte ∷ []) place around state) Production.HexDigit refl (plain_way.between Production.HexDigit refl) [] (place + 1) inner nothing state)
       ∙ ap (λ m. (m >>= λ one. Ok (found one.value one.state)) >>= closes) is
       ∙ ap (λ m. m >>= alone) (plain_way.close Production.HexDigit refl byte around place state (v ∷ []) state)
@@ -416,7 +416,7 @@ closes_same s kind rule taken parts place context before begun inner rest known 
     elim (cases_Bool (is_plain t.production)) [
       | inl plain ↦ plain_closes s (production_at rule.number) (byte_of taken) context place before inner.value inner.state (ap is_plain number ∙ plain)
       | inr other ↦ subst (λ r. Equal r) (sym t.is)
-          (numbered_plain abi_noted abi_is_noted.plain (λ around place vs state. refl) (λ p other parts place state. refl) t.production other s kind taken parts place context before begun inner rest
+          (numbered_plain abi_noted abi_is_noted.plain (λ around place vs state. refl) (λ p other around parts place state. refl) t.production other s kind taken parts place context before begun inner rest
           (subst (λ r. TakesRule wide kind r taken) t.is is.0) (subst (λ ss. AreTrees wide ss parts) (ap symbols_of t.is ∙ its_symbols t.production) is.1) at
           (subst (λ r. cpp.begin (standing r taken place context before) parts ≡ Ok begun) t.is is_begun)
           (subst (λ r. unfold_forest cpp (standing r taken place context before) [] (place + length taken) parts begun ≡ Ok inner) t.is is_inner))
@@ -432,6 +432,7 @@ unfolding link_close_wide close_wide link_meaning is_plain
 wide_plain_closes s Production.Substitution byte around place began vs state plain = refl
 wide_plain_closes s Production.Inheriting byte around place began vs state plain = refl
 wide_plain_closes s Production.Encoding byte around place began vs state plain = refl
+wide_plain_closes s Production.Holder byte around place began vs state plain = refl
 wide_plain_closes s Production.EncodingLiteral byte around place began vs state plain = refl
 wide_plain_closes s Production.Lambda byte around place began vs state plain = absurd (false≢true plain)
 wide_plain_closes s p byte around place began vs state plain = plain_closes s p byte around place began vs state plain
@@ -443,6 +444,7 @@ unfolding is_plain link_close_wide close_wide link_close close behind
 other_closes s Production.Substitution other byte around place began vs state same = absurd (true≢false other)
 other_closes s Production.Inheriting other byte around place began vs state same = absurd (true≢false other)
 other_closes s Production.Encoding other byte around place began vs state same = absurd (true≢false other)
+other_closes s Production.Holder other byte around place began vs state same = absurd (true≢false other)
 other_closes s Production.EncodingLiteral other byte around place began vs state same = absurd (true≢false other)
 other_closes s Production.Lambda other byte around place began vs state same = ap (λ r. r >>= λ made. Ok (found (as_generic_lambda made.value) made.state)) same
 other_closes s p other byte around place began vs state same = same
@@ -453,9 +455,12 @@ wide_lambda around place vs state = refl
 
 wide_opening : OpensPlain wide_noted
 unfolding is_plain wide_noted opening_wide
-wide_opening Production.NestTemplate other parts place state = absurd (true≢false other)
-wide_opening Production.QualifiedPlain other parts place state = absurd (true≢false other)
-wide_opening _ other parts place state = refl
+wide_opening Production.NestTemplate other around parts place state = absurd (true≢false other)
+wide_opening Production.QualifiedPlain other around parts place state = absurd (true≢false other)
+wide_opening Production.Items other around parts place state = absurd (true≢false other)
+wide_opening Production.NestNext other around parts place state = absurd (true≢false other)
+wide_opening Production.NestEnd other around parts place state = absurd (true≢false other)
+wide_opening _ other around parts place state = refl
 
 pub wide_closes_same : (s : List ℕ) → ClosesSame wide s cpp_wide (linked_wide s).close
 unfolding cpp cpp_wide reading_noted_by wide_noted
@@ -468,7 +473,7 @@ wide_closes_same s kind rule taken parts place context before begun inner rest k
           (subst (λ r. Equal r) (sym t.is)
           (numbered_plain wide_noted wide_is_noted.plain wide_lambda wide_opening t.production other s kind taken parts place context before begun inner rest
           (subst (λ r. TakesRule wide kind r taken) t.is is.0) (subst (λ ss. AreTrees wide ss parts) (ap symbols_of t.is ∙ its_symbols t.production) is.1) at
-          (subst (λ r. cpp.begin (standing r taken place context before) parts ≡ Ok begun) t.is (sym (wide_opening (production_at rule.number) (ap is_plain number ∙ other) parts place before) ∙ is_begun))
+          (subst (λ r. cpp.begin (standing r taken place context before) parts ≡ Ok begun) t.is (sym (wide_opening (production_at rule.number) (ap is_plain number ∙ other) context parts place before) ∙ is_begun))
           (subst (λ r. unfold_forest cpp_wide (standing r taken place context before) [] (place + length taken) parts begun ≡ Ok inner) t.is is_inner)))
     ]
   where
@@ -550,9 +555,12 @@ unfolding cpp cpp_wide link_opening opening_wide
 wide_begins_same s more begins kind rule taken parts place context before rest known is at = by (production_at rule.number) (begins_same s more begins kind rule taken parts place context before rest known is at)
   where
     by : (p : Production) → link_begin (standing rule taken place context before) parts ≡ opening p parts place before
-        → link_opening p (standing rule taken place context before) parts ≡ opening_wide p parts place before
+        → link_opening p (standing rule taken place context before) parts ≡ opening_wide p context parts place before
     by Production.NestTemplate same = refl
     by Production.QualifiedPlain same = refl
+    by Production.Items same = refl
+    by Production.NestNext same = refl
+    by Production.NestEnd same = refl
     by _ same = same
 
 -- ## A symbol

@@ -4,11 +4,11 @@ use Rattle.std.specs.Prelude.{slice_get, nat_eq, MatchOption, IfSome}
 use Rattle.std.proofs.lemmas.Bool.{false≢true, eqb-true, eq-eqb, ne_eqb}
 use Rattle.cpp_grammar.specs.Values as plain
 use Rattle.cpp_grammar.specs.Values.{both_lists, longer_list, shorter_list, no_list, by_all}
-use Rattle.cpp_grammar.specs.Rescoping.{is_by_all, is_by_some, left}
+use Rattle.cpp_grammar.specs.Rescoping.{is_by_all, is_by_some, left_by}
 use Rattle.cpp_term.specs.Term.{Term}
 use Rattle.cpp_term.specs.Values as values
 use Rattle.cpp_term.specs.Values.{State}
-use Rattle.cpp_term.specs.Rescoping.{place_in, named_in, named_by_both, counted_so_far, can_be_named, left_at}
+use Rattle.cpp_term.specs.Rescoping.{place_in, named_in, named_by_both, counted_so_far, can_be_named, has_head, left_at}
 use Rattle.cpp_term.proofs.Notes.{both}
 use Rattle.cpp_references.specs.declared.candidates.Candidate.{Candidate}
 use Rattle.cpp_references.proofs.Numbering.{candidate_at, candidate_there}
@@ -179,6 +179,12 @@ module _ (s : List ℕ) (l : Linked) (place number : ℕ) where
         let nothing : c ≡ None = at (number + length items) (omega (arith, past)) ∙ none_at items (number + length items) (omega arith) in
         subst (λ o. IsNamed s l place number o lists) (sym nothing) (named_past lists (past_at items number (sym (at number past) ∙ nothing)))
 
+    -- the lists that are left by these two candidates
+    abbrev left_of : (longer shorter : Option values.Candidate) → plain.Lists
+    left_of longer shorter =
+        left_by state.counting.lists (can_be_named state.counting.expected place longer) (can_be_named state.counting.expected place shorter)
+        (has_head state.counting.expected place longer) (has_head state.counting.expected place shorter)
+
     -- the longer list is none that a compiler has
     pub named_none : (o p : Option ℕ) → IsAt false o → IsAt true p → is_one_place o p ≡ false → is_by_some (counted_so_far by_all (marks items)) ≡ true → IsNamed s l place number None Lists.Neither
     unfolding maybe_candidate left_at named_left
@@ -188,26 +194,28 @@ module _ (s : List ℕ) (l : Linked) (place number : ℕ) where
         go (inl other) =
             apart_named other ∙ ap (λ b. named_left (elim b as (λ _. plain.Lists) [
               | true ↦ no_list
-              | false ↦ left state.counting.lists (can_be_named state.counting.expected place (named_in false cs number)) (can_be_named state.counting.expected place (named_in true cs number))
+              | false ↦ left_of (named_in false cs number) (named_in true cs number)
             ]) cs number) (ap is_by_some (so_far_same ts [] by_all items) ∙ some)
         go (inr past) = none_named past.0 past.1
 
     -- one list is left, or none
-    pub named_by_one : (o p : Option ℕ) (first second : Option Candidate) (fits_longer fits_shorter : Bool) (lists : Lists) → IsAt false o → IsAt true p → is_one_place o p ≡ false
+    pub named_by_one : (o p : Option ℕ) (first second : Option Candidate) (fits_longer fits_shorter has_longer has_shorter : Bool) (lists : Lists) → IsAt false o → IsAt true p → is_one_place o p ≡ false
         → is_by_some (counted_so_far by_all (marks items)) ≡ false → first ≡ slice_get items (at false) → second ≡ slice_get items (at true)
         → fits_longer ≡ can_be_named (expected_of l.counting.expected) place (maybe_candidate ts first) → fits_shorter ≡ can_be_named (expected_of l.counting.expected) place (maybe_candidate ts second)
-        → lists_of lists ≡ left (lists_of l.counting.lists) fits_longer fits_shorter → IsNamed s l place number (picked lists first second) lists
+        → has_longer ≡ has_head (expected_of l.counting.expected) place (maybe_candidate ts first) → has_shorter ≡ has_head (expected_of l.counting.expected) place (maybe_candidate ts second)
+        → lists_of lists ≡ left_by (lists_of l.counting.lists) fits_longer fits_shorter has_longer has_shorter → IsNamed s l place number (picked lists first second) lists
     unfolding left_at named_left lists_of maybe_candidate
-    named_by_one o p first second fits_longer fits_shorter lists longer shorter two known first_is second_is longer_fits shorter_fits is = go (other_place o p longer shorter two)
+    named_by_one o p first second fits_longer fits_shorter has_longer has_shorter lists longer shorter two known first_is second_is longer_fits shorter_fits longer_has shorter_has is = go (other_place o p longer shorter two)
       where
         left_is : left_at place number state ≡ lists_of lists
         left_is =
             ap (λ b. elim b as (λ _. plain.Lists) [
               | true ↦ no_list
-              | false ↦ left state.counting.lists (can_be_named state.counting.expected place (named_in false cs number)) (can_be_named state.counting.expected place (named_in true cs number))
+              | false ↦ left_of (named_in false cs number) (named_in true cs number)
             ]) (ap is_by_some (so_far_same ts [] by_all items) ∙ known)
-            ∙ both (λ a b. left state.counting.lists (can_be_named state.counting.expected place a) (can_be_named state.counting.expected place b)) (sym (at_named false first first_is)) (sym (at_named true second second_is))
-            ∙ both (λ a b. left state.counting.lists a b) (sym longer_fits) (sym shorter_fits) ∙ sym is
+            ∙ both left_of (sym (at_named false first first_is)) (sym (at_named true second second_is))
+            ∙ both (λ a b. left_by state.counting.lists a b (has_head state.counting.expected place (maybe_candidate ts first)) (has_head state.counting.expected place (maybe_candidate ts second))) (sym longer_fits) (sym shorter_fits)
+            ∙ both (λ a b. left_by state.counting.lists fits_longer fits_shorter a b) (sym longer_has) (sym shorter_has) ∙ sym is
 
         taken : (x : Lists) → maybe_candidate ts (picked x first second) ≡ named_left (lists_of x) cs number
         taken Lists.Longer = at_named false first first_is

@@ -130,6 +130,7 @@ pub record IsNoneApart (p : Production) : Type 0 where
   pub not_substitution : p ≡ Production.Substitution → ⊥
   pub not_lambda : p ≡ Production.Lambda → ⊥
   pub not_inheriting : p ≡ Production.Inheriting → ⊥
+  pub not_holder : p ≡ Production.Holder → ⊥
   pub not_encoding : p ≡ Production.Encoding → ⊥
   pub not_encoding_literal : p ≡ Production.EncodingLiteral → ⊥
 
@@ -139,6 +140,7 @@ unfolding link_close_wide
 apart_close s Production.Substitution byte around place began vs state other = absurd (other.not_substitution refl)
 apart_close s Production.Lambda byte around place began vs state other = absurd (other.not_lambda refl)
 apart_close s Production.Inheriting byte around place began vs state other = absurd (other.not_inheriting refl)
+apart_close s Production.Holder byte around place began vs state other = absurd (other.not_holder refl)
 apart_close s Production.Encoding byte around place began vs state other = absurd (other.not_encoding refl)
 apart_close s Production.EncodingLiteral byte around place began vs state other = absurd (other.not_encoding_literal refl)
 apart_close s _ byte around place began vs state other = refl
@@ -177,6 +179,7 @@ wide_byte_serves s rule known state there = by (production_at rule.rule.number) 
     by Production.Substitution same = refl
     by Production.Lambda same = refl
     by Production.Inheriting same = refl
+    by Production.Holder same = refl
     by Production.Encoding same = refl
     by Production.EncodingLiteral same = refl
     by _ same = same
@@ -192,6 +195,15 @@ goes_counted s old new frame parts new_parts result begun made goes =
     goes_within (tallied_view (wide_view s) wide_makes) s old (record { linked = new }) (Surrounds s) frame parts new_parts result
     (between_tallied (wide_view s) wide_makes s (Surrounds s) old.linked new frame parts new_parts result
     (λ rule known state is. before_read s old.linked new frame parts result begun made rule known state (at_plain s old.linked frame (drop frame.base parts) rule known state is)) goes)
+
+-- likewise, where the wide reading never does anything of its own before the parts of the rule's production
+pub plain_goes : (s : List ℕ) (old : Rescoping) (new : Linked) (frame : Frame Surroundings) (parts new_parts : List Part) (result : Result Surroundings Refusal) → 4 ≤ length old.linked.nodes.nodes
+    → steps_apart (production_at frame.rule) (is_lambda frame.kept.scope) (length parts - frame.base) ≡ false
+    → OnOk result (length new.nodes.nodes ≡ length old.linked.nodes.nodes + makes_before (production_at frame.rule) (values_in s old.linked.nodes (drop frame.base parts)))
+    → GoesOn (cpp_view s) s (Surrounds s) old.linked new frame parts new_parts result
+    → GoesOn (wide_counted s) s (λ l. Surrounds s l.linked) old (record { linked = new }) frame parts new_parts result
+plain_goes s old new frame parts new_parts result begun apart made goes =
+    goes_counted s old new frame parts new_parts result begun made (apart_goes s old.linked new frame parts new_parts (length parts - frame.base) result refl apart goes)
 
 pub apart_end : (p : Production) (around : Around) (place : ℕ) (known : List Value) (state : State) → (p ≡ Production.Substitution → ⊥) → makes_at_end p known ≡ wide_at_end p around place known state
 unfolding wide_at_end

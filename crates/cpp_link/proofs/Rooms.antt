@@ -1,5 +1,5 @@
 -- What calls say of room, in terms of the lists.
-use Rattle.std.proofs.Common.{◌≡◌, sym, ◌∙◌, ◌≤◌, ◌<◌, ◌+◌, ◌⊎◌, inl, inr, ◌∷◌, length, arith, Ok, Err}
+use Rattle.std.proofs.Common.{◌≡◌, refl, sym, ◌∙◌, ◌≤◌, ◌<◌, ◌+◌, ◌⊎◌, inl, inr, ◌∷◌, length, arith, Ok, Err}
 use Rattle.std.specs.Prelude.{Vec, vec_capacity, Result}
 use Rattle.std.specs.Global.{Global}
 use Rattle.sym_core.specs.declared.refusal.Refusal.{Refusal}
@@ -48,3 +48,7 @@ module _ {A : Type 0} (old new : Linked) (parts new_parts : Vec Part Global) (re
     where
       same : (e : Refusal) → ◌≡◌ {A = Result A Refusal} (Err e) (Err Memory) → e ≡ Memory
       same e h = cc
+
+-- a call that does nothing
+pub stays_roomy : {A : Type 0} (old : Linked) (parts : Vec Part Global) (done : A) → IsRoomy old old parts parts (Ok done)
+stays_roomy old parts done = roomy_ok old old parts parts (Ok done) done refl (same_room old old refl refl) (omega arith)

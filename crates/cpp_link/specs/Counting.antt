@@ -12,6 +12,7 @@ use Rattle.cpp_references.specs.Around.{is_lambda, candidates_of, counted_of, Ar
 use Rattle.cpp_link.specs.declared.candidates.Candidates.{Candidates}
 use Rattle.cpp_link.specs.declared.counting.Lists.{Lists}
 use Rattle.cpp_link.specs.declared.counting.Expected.{Expected}
+use Rattle.cpp_link.specs.declared.counting.Awaited.{Awaited}
 use Rattle.cpp_link.specs.declared.counting.Counting.{Counting}
 
 unfoldable pub lists_of : Lists → plain.Lists
@@ -24,9 +25,13 @@ unfoldable pub expected_of : Expected → plain.Expected
 expected_of Expected.Anything = plain.anything
 expected_of (Expected.PrefixAt place) = plain.prefix_at place
 expected_of (Expected.QualifiedAt place) = plain.qualified_at place
+expected_of (Expected.ItemAt place head) = plain.item_at place head
+
+abbrev pub awaited_of : Awaited → plain.Awaited
+awaited_of a = record { encoding = a.encoding; is_called = a.is_called; first = a.first; second = a.second; third = a.third; fourth = a.fourth }
 
 abbrev pub counting_of : Counting → plain.Counting
-counting_of c = record { lists = lists_of c.lists; expected = expected_of c.expected }
+counting_of c = record { lists = lists_of c.lists; expected = expected_of c.expected; awaited = awaited_of c.awaited }
 
 -- ## Numbers of candidates
 

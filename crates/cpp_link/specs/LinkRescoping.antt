@@ -10,13 +10,13 @@ use Rattle.sym_link.specs.Linking.{View}
 use Rattle.sym_link.specs.Tally.{Tally, tally, Makes, tallied, tallied_view}
 use Rattle.cpp_grammar.specs.declared.production.Production.{Production}
 use Rattle.cpp_grammar.specs.Values.{Lists, longer_list, shorter_list, prefix_at, qualified_at}
-use Rattle.cpp_grammar.specs.Rescoping.{generic_number}
+use Rattle.cpp_grammar.specs.Rescoping.{generic_number, expecting, calling, ending}
 use Rattle.cpp_grammar.specs.Unfolding.{production_at, byte_of}
 use Rattle.cpp_term.specs.Term.{Term, parameter}
 use Rattle.cpp_term.specs.Items.{auto}
 use Rattle.cpp_term.specs.Values.{Candidate, State, Around, Value, tree, tree_of, prefix_tree, prefix_listed, text_of, part}
 use Rattle.cpp_term.specs.Unfolding.{first_around, first_state}
-use Rattle.cpp_term.specs.Rescoping.{generic_so_far, with_holder, with_held, is_foreign, as_generic_lambda, counted_base, is_unseen, is_passed_over, name_if, place_in, named_in, left_at, expecting, close_wide, cpp_wide}
+use Rattle.cpp_term.specs.Rescoping.{generic_so_far, with_holder, with_held, is_foreign, as_generic_lambda, counted_base, is_unseen, is_passed_over, name_if, place_in, named_in, left_at, awaiting, expecting_item, noting, close_wide, cpp_wide}
 use Rattle.cpp_term.specs.Scope.{is_open}
 use Rattle.cpp_term.specs.Between.{Continuation, next}
 use Rattle.cpp_tree.specs.Nodes.{tree_at}
@@ -37,16 +37,22 @@ unfoldable pub link_close_wide : List ℕ → Production → (byte : ℕ) → Ar
 link_close_wide s Production.Substitution byte around place began vs state = close_wide Production.Substitution byte around place began vs state
 link_close_wide s Production.Lambda byte around place began vs state = Ok (found (as_generic_lambda (link_meaning s Production.Lambda byte place around vs)) state)
 link_close_wide s Production.Inheriting byte around place began vs state = Ok (found (link_meaning s Production.Inheriting byte place around vs) (counted_base around (part vs 1) state))
+link_close_wide s Production.Holder byte around place began vs state =
+    Ok (found (link_meaning s Production.Holder byte place around vs) (noting (awaiting around (tree_of (part vs 1)) state.counting) state))
 link_close_wide s Production.Encoding byte around place began vs state =
     Ok (found (name_if (is_passed_over around && is_open (tree_of (part vs 0))) (part vs 0) (link_meaning s Production.Encoding byte place around vs)) state)
 link_close_wide s Production.EncodingLiteral byte around place began vs state =
     Ok (found (name_if (is_unseen around && is_open (tree_of (part vs 1))) (part vs 1) (link_meaning s Production.EncodingLiteral byte place around vs)) state)
 link_close_wide s production byte around place began vs state = link_close s production byte around place began vs state
 
--- At an S of a nested name and at a type under qualifiers it's noted what may be named.
+-- At an S of a nested name, at a type under qualifiers and at a type of an encoding it's noted what may be named, and in a name which types
+-- are awaited.
 unfoldable pub link_opening : Production → Open State Around → Forest → Result State Refusal
-link_opening Production.NestTemplate rule parts = Ok (expecting (prefix_at (rule.place - 1)) rule.before)
-link_opening Production.QualifiedPlain rule parts = Ok (expecting (qualified_at rule.place) rule.before)
+link_opening Production.NestTemplate rule parts = Ok (noting (expecting (prefix_at (rule.place - 1)) rule.before.counting) rule.before)
+link_opening Production.QualifiedPlain rule parts = Ok (noting (expecting (qualified_at rule.place) rule.before.counting) rule.before)
+link_opening Production.Items rule parts = Ok (noting (expecting_item rule.context rule.place rule.before.counting) rule.before)
+link_opening Production.NestNext rule parts = Ok (noting (calling rule.before.counting) rule.before)
+link_opening Production.NestEnd rule parts = Ok (noting (ending rule.before.counting) rule.before)
 link_opening production rule parts = link_begin rule parts
 
 abbrev pub linked_wide : List ℕ → Reading Value State Around

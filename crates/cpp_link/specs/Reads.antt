@@ -1,9 +1,10 @@
 -- What is read from nodes and from references.
-use Rattle.std.specs.Prelude.{ℕ, ◌<◌, List, [], ◌∷◌, Bool, true, false, not, ◌||◌, ◌&&◌, nat_eq, Option, Some, None, Ok}
+use Rattle.std.specs.Prelude.{ℕ, zero, suc, ◌<◌, List, [], ◌∷◌, Bool, true, false, not, ◌||◌, ◌&&◌, nat_eq, Option, Some, None, Ok}
 use Rattle.cpp_grammar.specs.Standing.{is_code}
 use Rattle.cpp_term.specs.Term as term
 use Rattle.cpp_term.specs.Term.{Term, absent, nil}
 use Rattle.cpp_term.specs.Scope.{has_return_type}
+use Rattle.cpp_term.specs.Rescoping.{first_head, rest_of}
 use Rattle.cpp_term.specs.Meaning.{is_void, is_nil, parameters}
 use Rattle.cpp_grammar.specs.Values as plain
 use Rattle.cpp_grammar.specs.Values.{by_all, by_gcc, by_clang, by_some}
@@ -16,6 +17,7 @@ use Rattle.cpp_link.specs.declared.part.Step.{Step}
 use Rattle.cpp_link.specs.declared.part.Marks.{Marks}
 use Rattle.cpp_references.specs.declared.around.Surroundings.{Surroundings}
 use Rattle.cpp_tree.specs.declared.node.Node.{Node}
+use Rattle.cpp_tree.specs.declared.node.Piece.{Piece}
 use Rattle.cpp_references.specs.declared.again.OpenedNode.{OpenedNode}
 use Rattle.cpp_link.specs.declared.signatures.Split.{Split}
 use Rattle.cpp_term.specs.Reargued.{reargued}
@@ -57,6 +59,32 @@ node_fits (Node.Holder name) is_prefix is_qualified = is_prefix
 node_fits (Node.Lvalue inner) is_prefix is_qualified = not is_qualified
 node_fits (Node.Rvalue inner) is_prefix is_qualified = not is_qualified
 node_fits _ is_prefix is_qualified = true
+
+-- the head of a tree, by its node
+unfoldable pub piece_head : Piece → ℕ
+piece_head (Piece.Lambda parameters number) = 2
+piece_head (Piece.GenericLambda parameters number) = 2
+piece_head _ = 1
+
+unfoldable pub node_head : Node → ℕ
+node_head (Node.Alone piece) = piece_head piece
+node_head (Node.InStd piece) = piece_head piece
+node_head (Node.Within prefix piece) = piece_head piece
+node_head (Node.Parameter number argument) = 3
+node_head (Node.Pointer inner) = 4
+node_head (Node.Lvalue inner) = 5
+node_head (Node.Rvalue inner) = 6
+node_head (Node.Array digits element) = 7
+node_head (Node.MemberPointer class member) = 8
+node_head (Node.FunctionType c_linkage noexcept mark returned parameters) = 9
+node_head (Node.Qualified qualifiers inner) = 10
+node_head (Node.Expansion pattern) = 11
+node_head _ = 0
+
+-- the head of the type after k others
+unfoldable pub nth_head : ℕ → (types : Term) → ℕ
+nth_head zero types = first_head types
+nth_head (suc k) types = nth_head k (rest_of types)
 
 -- an operation whose operator is a comma
 unfoldable pub comma_node : Node → Bool

@@ -4,27 +4,24 @@ ghost use Rattle.std.specs.Prelude.{◌≡◌, ◌-◌, ◌^◌, ◌<◌, ◌≤
 ghost use Rattle.sym_core.specs.declared.refusal.Refusal.TheVariants as refusals;
 ghost use Rattle.sym_shape.specs.declared.rule.Row.{Row};
 ghost use Rattle.sym_link.specs.Threads.{BeginsIn};
+ghost use Rattle.cpp_grammar.specs.Unfolding.{production_at};
 ghost use Rattle.cpp_grammar.specs.Values.{local_number};
 ghost use Rattle.cpp_link.specs.Numbered.{is_numbered, IsRange};
 ghost use Rattle.cpp_link.specs.View.{Surrounds, cpp_view};
 
-use crate::dispatch::production_of;
 use crate::linked::Linked;
 use crate::part::Surroundings;
-use cpp_grammar::production::Production;
+use crate::tables::{LAMBDA, UNNAMED};
 use sym_core::{Refusal, value10};
 use sym_shape::rule::Row;
 
-/// Whether a production ends with a number that counts as one more than its digits do.
-#[tactic(auto, unfolding(crate::specs::Numbered::is_numbered))]
-fn is_numbered(production: Production) -> bool
-    ensures { result ≡ is_numbered production }
+/// Whether the production with a number ends with a number that counts as one more than its digits do. The production isn't
+/// looked up, since this is asked of each rule.
+#[inline(always)]
+fn is_numbered(number: u16) -> bool
+    ensures { result ≡ is_numbered (production_at number) }
 {
-    match production {
-        Production::Lambda => true,
-        Production::Unnamed => true,
-        _ => false,
-    }
+    number == LAMBDA || number == UNNAMED
 }
 
 /// Whether the number of a lambda or an unnamed type, with these digits, has 64 bits at most.
@@ -72,7 +69,7 @@ impl Linked {
         ensures refused { IfErr result (λ e. e ≡ refusals.Memory → ⊥) }
     {
         let kept = context.with_packs(self.packs);
-        if !is_numbered(production_of(row.rule)) {
+        if !is_numbered(row.rule) {
             return Ok(kept);
         }
         // the `U` comes first, so no such rule is a symbol's first

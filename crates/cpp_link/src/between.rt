@@ -210,7 +210,7 @@ impl Linked {
     /// Those of `before_part`.
     #[tactic(auto, using(crate::proofs::Viewing::own_there, crate::proofs::Viewing::open_kept))]
     #[inline(always)]
-    fn before_as(
+    pub(crate) fn before_as(
         &mut self,
         symbol: &[u8],
         production: Production,
@@ -235,7 +235,7 @@ impl Linked {
     ///
     /// Those of `before_part`.
     #[inline(never)]
-    fn before_rare(
+    pub(crate) fn before_rare(
         &mut self,
         symbol: &[u8],
         production: Production,
@@ -251,13 +251,38 @@ impl Linked {
         self.before_as(symbol, production, frame, parts)
     }
 
-    /// Likewise, with code of their own for the common productions.
+    /// Likewise. The room for the call's outcome is made only where it is called.
     ///
     /// # Errors
     ///
     /// Those of `before_part`.
     #[inline(always)]
-    pub(crate) fn before_by_step(
+    fn before_other(
+        &mut self,
+        symbol: &[u8],
+        production: Production,
+        frame: &Frame<Surroundings>,
+        parts: &mut Vec<Part>,
+    ) -> Result<Surroundings, Refusal>
+        requires numbered { production ≡ production_at frame.now.rule }
+        requires room { HasRoom (cpp_view symbol.now) symbol.now self.old (owed_behind (cpp_view symbol.now) frame.now parts.old.items) }
+        requires open { IsOpenAt (cpp_view symbol.now) symbol.now self.old frame.now parts.old.items }
+        requires base { frame.now.base ≤ length parts.old.items }
+        ensures { Advances (cpp_view symbol.now) symbol.now self.old self.new frame.now parts.old parts.new result }
+    {
+        match self.before_rare(symbol, production, frame, parts) {
+            Ok(then) => Ok(then),
+            Err(refusal) => Err(refusal),
+        }
+    }
+
+    /// Likewise, with code of their own for the common productions.
+    ///
+    /// # Errors
+    ///
+    /// Those of `before_part`.
+    #[inline(never)]
+    fn before_by_step(
         &mut self,
         symbol: &[u8],
         frame: &Frame<Surroundings>,
@@ -289,10 +314,30 @@ impl Linked {
                 frame,
                 parts,
             ),
-            _ => match self.before_rare(symbol, production, frame, parts) {
-                Ok(then) => Ok(then),
-                Err(refusal) => Err(refusal),
-            },
+            _ => self.before_other(symbol, production, frame, parts),
+        }
+    }
+
+    /// Likewise. The room for the call's outcome is made only where it is called.
+    ///
+    /// # Errors
+    ///
+    /// Those of `before_part`.
+    #[inline(always)]
+    fn before_by_call(
+        &mut self,
+        symbol: &[u8],
+        frame: &Frame<Surroundings>,
+        parts: &mut Vec<Part>,
+    ) -> Result<Surroundings, Refusal>
+        requires room { HasRoom (cpp_view symbol.now) symbol.now self.old (owed_behind (cpp_view symbol.now) frame.now parts.old.items) }
+        requires open { IsOpenAt (cpp_view symbol.now) symbol.now self.old frame.now parts.old.items }
+        requires base { frame.now.base ≤ length parts.old.items }
+        ensures { Advances (cpp_view symbol.now) symbol.now self.old self.new frame.now parts.old parts.new result }
+    {
+        match self.before_by_step(symbol, frame, parts) {
+            Ok(then) => Ok(then),
+            Err(refusal) => Err(refusal),
         }
     }
 
@@ -322,10 +367,6 @@ impl Linked {
         if parts.len() - frame.base < quiet_parts(frame.rule) {
             return Ok(frame.kept);
         }
-        // taken apart here, so that only this outcome goes through memory
-        match self.before_by_step(symbol, frame, parts) {
-            Ok(then) => Ok(then),
-            Err(refusal) => Err(refusal),
-        }
+        self.before_by_call(symbol, frame, parts)
     }
 }

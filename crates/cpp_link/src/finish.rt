@@ -246,6 +246,34 @@ impl Linked {
         put(parts, frame.base, made)
     }
 
+    /// Likewise. The room for the call's outcome is made only where it is called.
+    ///
+    /// # Errors
+    ///
+    /// `Memory` where a list couldn't grow.
+    #[inline(always)]
+    fn finish_other(
+        &mut self,
+        symbol: &[u8],
+        production: Production,
+        frame: &Frame<Surroundings>,
+        parts: &mut Vec<Part>,
+    ) -> Result<(), Refusal>
+        requires rare { IsRare production }
+        requires read { production ≡ productions.Inheriting → ⊥ }
+        requires numbered { production ≡ production_at frame.now.rule }
+        requires room { HasRoom (cpp_view symbol.now) symbol.now self.old (owed_behind (cpp_view symbol.now) frame.now parts.old.items) }
+        requires open { IsOpenAt (cpp_view symbol.now) symbol.now self.old frame.now parts.old.items }
+        requires base { frame.now.base ≤ length parts.old.items }
+        requires place { frame.now.place < length symbol.now }
+        ensures { Finishes (cpp_view symbol.now) makes_at_end symbol.now self.old self.new frame.now parts.old parts.new result }
+    {
+        match self.finish_rare(symbol, production, frame, parts) {
+            Ok(done) => Ok(done),
+            Err(refusal) => Err(refusal),
+        }
+    }
+
     /// The frame's rule closes over all its parts: what it means takes their place. The common productions have code of their
     /// own.
     ///
@@ -349,7 +377,7 @@ impl Linked {
                 parts,
             ),
             Production::Special => self.finish_as(symbol, Production::Special, frame, parts),
-            _ => self.finish_rare(symbol, production, frame, parts),
+            _ => self.finish_other(symbol, production, frame, parts),
         }
     }
 }

@@ -13,7 +13,7 @@ ghost use Rattle.sym_link.specs.Unfold.{found};
 ghost use Rattle.cpp_grammar.specs.declared.production.Production.TheVariants as productions;
 ghost use Rattle.cpp_grammar.specs.Unfolding.{production_at};
 ghost use Rattle.cpp_grammar.specs.Values.{by_gcc};
-ghost use Rattle.cpp_term.specs.Rescoping.{counted_base, is_instance, can_be_named, named_by_both};
+ghost use Rattle.cpp_term.specs.Rescoping.{counted_base, is_instance, can_be_named, has_head, named_by_both};
 ghost use Rattle.cpp_term.specs.Values.{State, Around, part};
 ghost use Rattle.cpp_tree.specs.Nodes.{over, tree_at, bytes_at, IsAliasBelow, IsWithin, IsTable};
 ghost use Rattle.cpp_link.specs.Closes.{ends_of};
@@ -26,10 +26,11 @@ ghost use Rattle.cpp_link.specs.Parts.{trees_in, value_in, values_in, around_of,
 ghost use Rattle.cpp_link.specs.Progress.{Finishes, MakesPart};
 ghost use Rattle.cpp_link.specs.Counting.{expected_of, is_one_place};
 ghost use Rattle.cpp_link.specs.Naming.{IsNamed};
+ghost use Rattle.cpp_grammar.specs.Rescoping.{may_be};
 ghost use Rattle.cpp_link.specs.Reads.{instance_node, node_fits, maybe_candidate, with_candidate};
 ghost use Rattle.cpp_link.specs.View.{IsPaid, IsWhole, cpp_view};
 
-use crate::counting::{Counted, Lists, left};
+use crate::counting::{Counted, Lists, left_by};
 use crate::linked::Linked;
 use crate::part::{Candidate, Part, Surroundings};
 use crate::values::is_listed;
@@ -50,6 +51,14 @@ fn is_instance_node(node: Node) -> bool
         Node::Instance { .. } => true,
         _ => false,
     }
+}
+
+/// Whether two heads may be those of one tree: where nothing is known of one, any head may be the other.
+#[tactic(auto, unfolding(cpp_grammar::specs::Rescoping::may_be))]
+fn may_be(head: u8, other: u8) -> bool
+    ensures { result ≡ may_be head other }
+{
+    head == 0 || other == 0 || head == other
 }
 
 /// Whether a node fits as what an `S` names, before a nested name or under qualifiers.
@@ -121,6 +130,20 @@ impl Linked {
         )
     }
 
+    /// Whether it may have the head that is expected there.
+    fn has_head(&self, symbol: &[u8], place: u32, candidate: Option<Candidate>) -> bool
+        requires table { IsTable (over symbol.now self.now.nodes) }
+        requires there { IfSome candidate (λ c. c.node < length self.now.nodes.nodes) }
+        ensures { result ≡ has_head (expected_of self.now.counting.expected) place (maybe_candidate (trees_in symbol.now self.now.nodes) candidate) }
+    {
+        let Some(c) = candidate else {
+            return false;
+        };
+        let expected = self.counting.expected.head_at(place);
+        let own = self.head_at(symbol, c.node);
+        may_be(expected, own)
+    }
+
     /// The candidate that this number names at this place, and the lists that are left then.
     fn named_apart(&self, symbol: &[u8], place: u32, number: u64) -> (Option<Candidate>, Lists)
         requires table { IsTable (over symbol.now self.now.nodes) }
@@ -139,7 +162,15 @@ impl Linked {
         let shorter = self.candidate_at(shorter_at);
         let longer_fits = self.can_be_named(symbol, place, longer);
         let shorter_fits = self.can_be_named(symbol, place, shorter);
-        match left(self.counting.lists, longer_fits, shorter_fits) {
+        let longer_has = self.has_head(symbol, place, longer);
+        let shorter_has = self.has_head(symbol, place, shorter);
+        match left_by(
+            self.counting.lists,
+            longer_fits,
+            shorter_fits,
+            longer_has,
+            shorter_has,
+        ) {
             Lists::Longer => (longer, Lists::Longer),
             Lists::Shorter => (shorter, Lists::Shorter),
             Lists::Both => (None, Lists::Both),

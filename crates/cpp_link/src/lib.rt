@@ -3,6 +3,7 @@
 
 pub mod begin;
 pub mod between;
+pub mod calls;
 pub mod candidates;
 pub mod closing;
 pub mod counting;

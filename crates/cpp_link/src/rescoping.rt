@@ -189,7 +189,46 @@ impl Linked {
                 self.counting.expected = Expected::QualifiedAt(row.from);
                 Ok(context.with_packs(self.packs))
             }
+            // <bare-function-type> ::= <type> <bare-function-type>
+            Production::Items => {
+                self.counting = self.counting.expecting_item(context, row.from);
+                Ok(context.with_packs(self.packs))
+            }
+            // <prefix> ::= <prefix> <unqualified-name>
+            Production::NestNext => {
+                self.counting = self.counting.calling();
+                Ok(context.with_packs(self.packs))
+            }
+            // <nested-name> ::= N .. E
+            Production::NestEnd => {
+                self.counting = self.counting.ending();
+                Ok(context.with_packs(self.packs))
+            }
             _ => self.begin_rule(symbol, rows, context, row),
+        }
+    }
+
+    /// Likewise. What goes through memory for the call is made only where it is called.
+    ///
+    /// # Errors
+    ///
+    /// Those of `begin_rule`.
+    #[inline(always)]
+    fn begin_by_call(
+        &mut self,
+        symbol: &[u8],
+        rows: &[Row],
+        context: Surroundings,
+        row: Row,
+    ) -> Result<Surroundings, Refusal>
+        requires place { row.from < length symbol.now }
+        requires end { row.end ≤ length rows.now }
+        requires apart { is_by_all (counted_of self.old.candidates.by) ≡ false }
+        ensures { Begins (wide_view symbol.now) symbol.now rows.now self.old self.new context row result }
+    {
+        match self.begin_apart(symbol, rows, context, row) {
+            Ok(kept) => Ok(kept),
+            Err(refusal) => Err(refusal),
         }
     }
 
@@ -213,13 +252,7 @@ impl Linked {
         if self.candidates.is_one_list() {
             return self.begin_rule(symbol, rows, context, row);
         }
-        // copies for the call, and its outcome taken apart, so that only these go through memory
-        let around = context;
-        let own = row;
-        match self.begin_apart(symbol, rows, around, own) {
-            Ok(kept) => Ok(kept),
-            Err(refusal) => Err(refusal),
-        }
+        self.begin_by_call(symbol, rows, context, row)
     }
 
     /// A lambda's own parameter, in its signature, with these digits (ABI 5.1.8). It may be passed as an argument.

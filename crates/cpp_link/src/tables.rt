@@ -1097,3 +1097,9 @@ pub(crate) const QUIET_PARTS: [u8; 270] = [
     1, // NestModule
     5, // ConstructionVtable
 ];
+
+/// The number of a lambda's production, which ends with a number that counts as one more than its digits do.
+pub(crate) const LAMBDA: u16 = 88;
+
+/// The number of an unnamed type's production, which ends with such a number, too.
+pub(crate) const UNNAMED: u16 = 89;

@@ -20,7 +20,7 @@ use Rattle.cpp_parts.specs.Tasks.{count_of, marks_of_task, marks_of_tasks, IsTas
 use Rattle.cpp_parts.specs.declared.task.Task.{Task}
 use Rattle.cpp_parts.specs.declared.task.Task.TheVariants as task
 
--- one marked text before another, before a third
+-- of three marked texts in a row, the first two may be put together first
 pub before-assoc : (m n others : Marked) → (m before n) before others ≡ m before (n before others)
 unfolding ◌before◌
 before-assoc marks.done n others = refl
@@ -35,7 +35,7 @@ before-done (text b rest) = ap (text b) (before-done rest)
 before-done (marked r o inside rest) = ap (marked r o inside) (before-done rest)
 
 module _ (y : ReadSymbol) (most : ℕ) where
-  -- the same marks, in no more steps
+  -- tasks that have grown by marks within some steps have grown by equal marks within as many steps or more
   pub grow-same : (old new : List Task) (m n : Marked) (s t : ℕ) → Grows y most old new m s → m ≡ n → s ≤ t → Grows y most old new n t
   grow-same old new m n s t grows same few = record {
     adds = λ others behind taken adds.
@@ -47,7 +47,7 @@ module _ (y : ReadSymbol) (most : ℕ) where
         };
   }
 
-  -- one after the other: what is added later comes first
+  -- of tasks that are added one after the other, those added later have their marks first
   pub grow-then : (old between new : List Task) (m n : Marked) (s t : ℕ) → Grows y most old between m s → Grows y most between new n t → Grows y most old new (n before m) (s + t)
   grow-then old between new m n s t first second = record {
     adds = λ others behind taken adds.
@@ -59,7 +59,7 @@ module _ (y : ReadSymbol) (most : ℕ) where
         };
   }
 
-  -- this many bytes
+  -- a task that skips bytes adds them without a mark
   pub grow-skip : (old new : List Task) (n : ℕ) (b : List ℕ) → new ≡ task.Skip n ∷ old → n ≡ length b → Grows y most old new (text b marks.done) 1
   unfolding marks_of ◌before◌ marks_of_tasks marks_of_task IsTask weight_of_tasks weight_of_task
   grow-skip old new n b is long = record {
@@ -70,7 +70,7 @@ module _ (y : ReadSymbol) (most : ℕ) where
     };
   }
 
-  -- the beginning of a stretch, before what is in it
+  -- a task that begins a stretch, before the tasks for what is in the stretch
   pub grow-begin : (old between new : List Task) (role : Role) (ordinal : Ordinal) (n : ℕ) (inside : Marked) (s : ℕ) → new ≡ task.Begin role ordinal n ∷ between → n ≡ length (text_of inside)
       → Grows y most old between inside s → Grows y most old new (marked role ordinal inside marks.done) (s + 1)
   unfolding marks_of ◌before◌ marks_of_tasks marks_of_task IsTask weight_of_tasks weight_of_task
@@ -87,7 +87,7 @@ module _ (y : ReadSymbol) (most : ℕ) where
         };
   }
 
-  -- a task that isn't done at once
+  -- a task that leads to marks adds these
   grow-task : (old new : List Task) (next : Task) (m : Marked) → new ≡ next ∷ old → marks_of_task y next ≡ marks_of m → IsTask y most next → Grows y most old new m (weight_of_task y next)
   unfolding marks_of_tasks weight_of_tasks
   grow-task old new next m is leads is_task = record {
@@ -120,7 +120,7 @@ module _ (y : ReadSymbol) (most : ℕ) where
   grow-elements old new role numbers node i is below payable fits =
       grow-task old new (task.Elements role numbers node i) (elements role numbers (plain_tree (table_of y) node) (unshared_of y i)) is refl (below, payable, fits)
 
-  -- one part of this many bytes
+  -- tasks for one part of this many bytes
   pub grow-alone : (old between new : List Task) (role : Role) (ordinal : Ordinal) (n : ℕ) (b : List ℕ) → between ≡ task.Skip n ∷ old → new ≡ task.Begin role ordinal n ∷ between → n ≡ length b
       → Grows y most old new (alone role ordinal b marks.done) 2
   unfolding text_of

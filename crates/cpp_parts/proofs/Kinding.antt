@@ -22,7 +22,7 @@ chosen false f g P p q = q
 
 -- ## Own names
 
--- by the part that has the own name, if there is one
+-- a name that has its own name in a part, if there is such a part
 abbrev pub IsInside : Term → Option ℕ → Type 0
 IsInside t None = own_name t ≡ t
 IsInside t (Some k) = (k < length (fields_of t).parts) × ((p : Term) → slice_get (fields_of t).parts k ≡ Some p → own_name t ≡ own_name p)
@@ -120,7 +120,7 @@ same-kind t h = refl
 pub named-other : (t : Term) → ((fields_of t).production ≡ NESTED_OPERATOR → ⊥) → named_kind t ≡ piece_kind_by (fields_of t).production
 named-other t h = same-kind t h ∙ (piece-by t).0
 
--- the tree of fields whose production is known
+-- what tree fields make, where their production is known
 read : (P : ℕ) (f : Fields) (o : Option Thunk) → f.production ≡ P → tree_from f o ≡ tree_from (record f { production = P }) o
 read P f o is = ap (λ n. tree_from (record f { production = n }) o) is
 

@@ -1,4 +1,4 @@
--- Lengths of what is marked, by the lengths of what is printed.
+-- The lengths of marked texts, by the lengths of what is printed.
 use Rattle.std.proofs.Common.{◌≡◌, ℕ, ◌+◌, ◌≤◌, List, [], ◌++◌, length, refl, ap, ◌∙◌, arith, length-append}
 use Rattle.cpp_grammar.specs.Term.{Term}
 use Rattle.cpp_layout.specs.declared.context.Context.{Context}
@@ -28,17 +28,17 @@ pub cost-of-text : (y : ReadSymbol) (part : Part Context) (most : ℕ) → IsTex
 cost-of-text y (Sub x) most is_text paid = elim is_text [ ]
 cost-of-text y _ most is_text paid = paid
 
--- the end of a text after its first bytes, before what is printed
+-- the length of the end of a text, followed by what is printed
 pub length-base : (b : List ℕ) (u : Unshared) (back n : ℕ) → back ≡ length b → n ≡ length (text_of u) → back + n ≡ length (marks.text_of (text b (plain u)))
 unfolding marks.text_of
 length-base b u back n first rest = omega (arith, first, rest, length-append b (text_of u ++ []), length-append (text_of u) [])
 
--- two texts
+-- the length of two texts
 pub length-two : (b c : List ℕ) (n m : ℕ) → n ≡ length b → m ≡ length c → n + m ≡ length (marks.text_of (text b (text c marks.done)))
 unfolding marks.text_of
 length-two b c n m first second = omega (arith, first, second, length-append b (c ++ []), length-append c [])
 
--- a list in brackets
+-- the length of a list in brackets
 pub length-listed : (r : Role) (o : Numbering) (t : Term) (opening close : List ℕ) (u : Unshared) (n inside closing : ℕ) → length opening ≡ n → inside ≡ length (text_of u) → closing ≡ length close
     → (n + inside) + closing ≡ length (marks.text_of (text opening (elements r o t u before text close marks.done)))
 unfolding marks.text_of

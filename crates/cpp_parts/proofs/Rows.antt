@@ -1,4 +1,4 @@
--- The definitions, computed on what some trees print.
+-- The definitions of parts, computed for what some trees print.
 use Rattle.std.specs.Prelude.{◌≡◌, ℕ, List, [], ◌∷◌, codes}
 use Prim.Native.String.{String}
 use Rattle.std.proofs.Common.{refl}
@@ -19,11 +19,11 @@ use Rattle.std.specs.Prelude.{false}
 abbrev shown : String → Unshared
 shown text = bytes (codes text) done
 
--- what a list prints: one element, and others after it
+-- what a list prints: one element, and then others
 abbrev first : (left others : Unshared) → Unshared
 first left others = item left (item done (item others done))
 
--- the others: a comma, and an element before others
+-- what the other elements print: a comma, one element, and then others
 abbrev later : (left others : Unshared) → Unshared
 later left others = bytes (codes ", ") (first left others)
 
@@ -45,20 +45,20 @@ row-items : parameters_in (list absent (list absent absent)) (first (shown "a") 
 unfolding ◌before◌ element element_of elements elements_after inside next ordinal_of rest_of stretches_from text_of within
 row-items = refl
 
--- a, b, c, d, where b and c are a pack
+-- a, b, c, d, of which b and c are a pack
 row-pack : parameters_in (list absent (list (pack (list absent (list absent absent))) (list absent absent)))
     (first (shown "a") (later (several (first (shown "b") (later (shown "c") done))) (later (shown "d") done)))
     ≡ parameter (numbered 0) 0 1 ∷ parameter (part_of_item 1 1) 3 1 ∷ parameter (part_of_item 1 2) 6 1 ∷ parameter (numbered 2) 9 1 ∷ []
 unfolding ◌before◌ element element_of elements elements_after inside next ordinal_of rest_of stretches_from text_of within
 row-pack = refl
 
--- a, b, c, where b and c are an expansion
+-- a, b, c, of which b and c are an expansion
 row-expansion : parameters_in (list absent (list (expansion absent) absent)) (first (shown "a") (later (several (first (shown "b") (later (shown "c") done))) done))
     ≡ parameter (numbered 0) 0 1 ∷ parameter (numbered 1) 3 1 ∷ parameter (numbered 1) 6 1 ∷ []
 unfolding ◌before◌ element element_of elements elements_after inside next ordinal_of rest_of stretches_from text_of within
 row-expansion = refl
 
--- a, where a pack that prints nothing is before it
+-- a, after a pack that prints nothing
 row-skipped : parameters_in (list (pack absent) (list absent absent)) (item (first (shown "a") done) done) ≡ parameter (numbered 1) 0 1 ∷ []
 unfolding ◌before◌ element element_of elements elements_after inside next ordinal_of rest_of stretches_from text_of within
 row-skipped = refl

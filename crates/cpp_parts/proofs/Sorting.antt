@@ -17,11 +17,11 @@ use Rattle.cpp_parts.specs.declared.numbering.Numbering.TheVariants as numbering
 use Rattle.cpp_parts.specs.declared.sorts.NameSort.TheVariants as names
 use Rattle.cpp_parts.specs.declared.sorts.EncodingSort.TheVariants as encodings
 
--- the tree of fields whose production is known
+-- what tree fields make, where their production is known
 read : (P : ℕ) (f : Fields) (o : Option Thunk) → f.production ≡ P → tree_from f o ≡ tree_from (record f { production = P }) o
 read P f o is = ap (λ n. tree_from (record f { production = n }) o) is
 
--- the parts of a tree are those of its view
+-- the first part of a tree, which is the first part of its view
 abbrev first : Term → Term
 first t = get_or (fields_of t).parts 0 absent
 

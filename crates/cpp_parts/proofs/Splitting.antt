@@ -21,7 +21,7 @@ printed-text : (y : ReadSymbol) (part : Part Context) (rest : List (Part Context
 printed-text y (Sub x) rest is_text = elim is_text [ ]
 printed-text y _ rest is_text = refl
 
--- what an item costs, and what the rest after it costs, of at most this much
+-- where parts cost at most this much, so do their first item and the rest after it
 costs-item : (u : Unshared) (most : ℕ) (one rest : Unshared) → u ≡ item one rest → cost_of_parts u ≤ most → (1 + cost_of_parts one ≤ most) × ((1 + cost_of_parts one) + cost_of_parts rest ≤ most) × (cost_of_parts rest ≤ most)
 costs-item u most one rest is within =
     let costs : cost_of_parts u ≡ (1 + cost_of_parts one) + cost_of_parts rest = ap cost_of_parts is in
@@ -52,7 +52,7 @@ split-text y most parts rest first is no_item payable =
     let costs = costs-text (printed_by y parts) most (bytes_of_part y first) (printed_by y rest) prints payable.1 in
     (prints, is_text, All-head (MayBeAsked y) first rest may, costs.0, (All-tail (MayBeAsked y) first rest may, costs.1))
 
--- lengths in turn: what was added up with the item's text, and what is left
+-- adding up lengths, one item more: the sum with the item's text, and what is left for the rest
 pub adds-item : (u one rest : Unshared) (total n all most : ℕ) → u ≡ item one rest → total + length (text_of u) ≡ all → total + cost_of_parts u ≤ most → n ≡ length (text_of one)
     → ((total + n) + length (text_of rest) ≡ all) × ((total + n) + cost_of_parts rest ≤ most)
 adds-item u one rest total n all most is sum paid long =

@@ -75,7 +75,7 @@ after-item r o t u one rest is = sym (ap (elements_after r o t) is)
 
 -- ## Texts that are cut
 
--- all but the last byte, and that
+-- a text's bytes without the last one, and the last byte by itself, which an empty text doesn't have
 pub last-lengths : (b : List ℕ) (count blank : ℕ) → length b ≡ count → blank ≡ min count 1
     → (blank ≡ length (drop (length b - 1) b)) × (length (take (length b - 1) b) ≡ count - blank)
 last-lengths b count blank long is =
@@ -281,7 +281,7 @@ unfolding named
 named-text-item-item u b rest one others other more is behind_is last =
     ap (whole role.Base only) (is ∙ ap (bytes b) (behind_is ∙ ap (item one) last)) ∙ sym (ap named (is ∙ ap (bytes b) (behind_is ∙ ap (item one) last)))
 
--- the first bytes of a text, and the others
+-- how many bytes are the first ones of a text, and how many are after them
 pub front-lengths : (n : ℕ) (b : List ℕ) (count front : ℕ) → count ≡ length b → front ≡ min count n → (front ≡ length (take n b)) × (count - front ≡ length (drop n b))
 front-lengths n b count front long is = (omega (arith, long, is, length-take n b), omega (arith, long, is, length-drop n b))
 

@@ -163,7 +163,7 @@ text-listed r opening close m t u same =
     ∙ append_assoc opening (t ++ close) (text_of u)
     ∙ ap (λ a. opening ++ a) (append_assoc t close (text_of u))
 
--- brackets without one
+-- brackets without a list
 text-empty : (r : Role) (opening close : List ℕ) (u : Unshared) → shown (marked r only (text opening (text close marks.done)) (behind u)) ≡ opening ++ (close ++ text_of u)
 unfolding marks.text_of
 text-empty r opening close u =

@@ -25,7 +25,7 @@ use Rattle.cpp_parts.specs.declared.task.Task.{Task}
 use Rattle.cpp_parts.specs.declared.task.Task.TheVariants as task
 use Rattle.cpp_parts.proofs.Growing.{before-done}
 
--- what was added to the tasks themselves
+-- tasks that have grown lead to the new marks first, and then to those of the old tasks
 pub grown : (y : ReadSymbol) (most : ℕ) (old new : List Task) (m : Marked) (s : ℕ) → Grows y most old new m s
     → (marks_of_tasks y new ≡ marks_of m ++ marks_of_tasks y old) × (All (IsTask y most) old → All (IsTask y most) new) × (weight_of_tasks y new ≤ weight_of_tasks y old + s)
 unfolding marks_of

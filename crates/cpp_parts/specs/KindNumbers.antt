@@ -7,7 +7,7 @@ use Rattle.sym_parts.specs.declared.kind.NameKind.{NameKind}
 use Rattle.sym_parts.specs.declared.kind.NameKind.TheVariants as kind
 use Rattle.cpp_parts.specs.Kinds.{own_name, special_kind, of_name_kind}
 
--- one of three productions: that of a piece in no scope, in std or in a prefix
+-- whether a production is one of three: those of a piece without a scope, of a piece in std, and of a piece after a prefix
 unfoldable pub is_any : (production first second third : ℕ) → Bool
 is_any production first second third = nat_eq production first || (nat_eq production second || nat_eq production third)
 
@@ -23,22 +23,22 @@ is_constructor_by p = is_any p CONSTRUCTOR STD_CONSTRUCTOR NESTED_CONSTRUCTOR ||
 unfoldable pub is_operator_by : (production : ℕ) → Bool
 is_operator_by p = is_any p OPERATOR STD_OPERATOR NESTED_OPERATOR
 
--- which part of a tree of this production has the tree's own name; none where the tree is an own name
+-- the number of the part that has a tree's own name, by the tree's production; none where the tree is an own name
 unfoldable pub inner_part_by : (production : ℕ) → Option ℕ
 inner_part_by p =
     if nat_eq p LOCAL || nat_eq p NUMBERED_LOCAL then Some 1
     else if nat_eq p INSTANCE || (nat_eq p TAGGED || (nat_eq p OF_DEFAULT || nat_eq p HOLDER)) then Some 0
     else None
 
--- the call of a lambda, or another operator
+-- the kind of an operator: the call of a lambda, or an operator
 unfoldable pub called_kind : (in_lambda is_call : Bool) → NameKind
 called_kind in_lambda is_call = if in_lambda && is_call then kind.Lambda else kind.Operator
 
--- what is in a function
+-- the kind of an entity in a function
 unfoldable pub local_kind : (is_string : Bool) → NameKind
 local_kind is_string = if is_string then kind.StringLiteral else kind.LocalVariable
 
--- a function by the production of its own name, where that isn't a lambda's
+-- the kind of a function by the production of its own name, if that isn't a lambda's
 unfoldable pub piece_kind_by : (production : ℕ) → NameKind
 piece_kind_by p =
     if is_constructor_by p then kind.Constructor
@@ -48,7 +48,7 @@ piece_kind_by p =
     else if is_any p CONVERSION STD_CONVERSION NESTED_CONVERSION then kind.Conversion
     else kind.Function
 
--- what is neither a function nor an object, by the production of its encoding, and by the letter where it has one
+-- the kind of what is neither a function nor an object, by the production of its encoding, and by its letter, if it has one
 unfoldable pub other_kind_by : (production letter : ℕ) → NameKind
 other_kind_by p letter =
     if nat_eq p SPECIAL then special_kind letter

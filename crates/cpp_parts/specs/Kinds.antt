@@ -6,7 +6,7 @@ use Rattle.sym_parts.specs.declared.kind.NameKind.TheVariants as kind
 
 -- ## Names
 
--- a name without its arguments and tags, and without the function or initializer that it is in
+-- a name without its arguments and tags, and without the function or initializer that the name is in
 unfoldable pub own_name : Term → Term
 own_name (instance template arguments) = own_name template
 own_name (tagged of_structor name tag) = own_name name
@@ -42,7 +42,7 @@ is_in_lambda t = false
 unfoldable pub is_call : (first second : ℕ) → Bool
 is_call first second = nat_eq first 99 && nat_eq second 108
 
--- a function by the piece at the end of its name; the call of a lambda isn't an operator's
+-- a function by the piece at the end of its name; the call of a lambda isn't an operator
 unfoldable pub piece_kind : (in_lambda : Bool) → Term → NameKind
 piece_kind in_lambda (constructor digit) = kind.Constructor
 piece_kind in_lambda (inheriting digit base) = kind.Constructor
@@ -67,7 +67,7 @@ unfoldable pub object_kind : Term → NameKind
 object_kind (local encoding entity discriminator) = if is_string (piece_of (own_name entity)) then kind.StringLiteral else kind.LocalVariable
 object_kind name = kind.Variable
 
--- what belongs to a type, by the last letter of its code: V, T, I, S or A; what initializes a module is a function
+-- what belongs to a type, by the last letter of its code: V, T, I, S or A. The initializer of a module has a code of this sort, and is a function.
 unfoldable pub special_kind : (letter : ℕ) → NameKind
 special_kind letter =
     if nat_eq letter 86 then kind.Vtable else if nat_eq letter 84 then kind.Vtt else if nat_eq letter 73 then kind.Typeinfo
@@ -87,7 +87,7 @@ thunk_kind (covariant this result) = kind.CovariantThunk
 
 -- ## Symbols
 
--- an encoding; no symbol has a tree that is none
+-- an encoding; the tree of each symbol is an encoding
 unfoldable pub encoding_kind : Term → NameKind
 encoding_kind (function name q mark returned parameters) = named_kind (own_name name)
 encoding_kind (object name q mark) = object_kind name

@@ -19,7 +19,7 @@ unfoldable pub alone_if_any : Role → List ℕ → (rest : Marked) → Marked
 alone_if_any r [] rest = rest
 alone_if_any r (b ∷ bs) rest = alone r only (b ∷ bs) rest
 
--- the words of a special name, after this many others: without the blank after them
+-- the words of a special name, after those of this many others; the blank at their end is in no part
 unfoldable pub words : (specials : ℕ) → List ℕ → (rest : Marked) → Marked
 words specials b rest = alone role.Special (numbered specials) (take (length b - 1) b) (text (drop (length b - 1) b) rest)
 
@@ -28,7 +28,7 @@ unfoldable pub returned : Unshared → Marked
 returned (item right rest) = alone_if_any role.ReturnType (text_of right) (plain rest)
 returned printed = plain printed
 
--- what is after the parameters of a function, or the name of a variable: its qualifiers, and the rest of the return type
+-- what follows the parameters of a function, or the name of a variable: its qualifiers, and the rest of the return type
 unfoldable pub behind : Unshared → Marked
 behind (bytes b rest) = alone role.Qualifiers only b (returned rest)
 behind printed = returned printed
@@ -53,7 +53,7 @@ unfoldable pub are_colons : List ℕ → Bool
 are_colons [] = false
 are_colons (b ∷ bs) = nat_eq b 58
 
--- a name by what it prints: a scope, two colons and a base; std:: and a base; or a base alone
+-- a name by what it prints: a scope, two colons and a base; or std:: and a base; or only a base
 unfoldable pub named : Unshared → Marked
 named (item scope (bytes b rest)) = elim (are_colons b) [ true ↦ scoped (text_of scope) b rest | false ↦ whole role.Base only (item scope (bytes b rest)) ]
 named (bytes std (item piece done)) = in_std std (item piece done)
@@ -79,13 +79,13 @@ within _ = None
 
 -- ## Numbers of elements
 
--- which one the next element is
+-- the ordinal of the next element
 unfoldable pub ordinal_of : Numbering → Ordinal
 ordinal_of (numbering.Items n) = numbered n
 ordinal_of (numbering.Elements n e) = record { item = n; element = e }
 ordinal_of (numbering.Alike ordinal) = ordinal
 
--- the numbers of those after it
+-- the numbers of the elements after the next one
 unfoldable pub next : Numbering → Numbering
 next (numbering.Items n) = numbering.Items (n + 1)
 next (numbering.Elements n e) = numbering.Elements n (e + 1)
@@ -99,7 +99,7 @@ inside numbers t = numbering.Alike (ordinal_of numbers)
 
 -- ## Elements
 
--- The elements from one on, each of this role. A comma is in no element. An element that prints nothing is skipped. The
+-- The elements of a list, each with this role. A comma is in no element. An element that prints nothing is skipped. The
 -- elements of a pack, and of an expansion, are elements of the list.
 unfoldable mutual
   pub elements : Role → Numbering → Term → Unshared → Marked
@@ -139,8 +139,7 @@ arguments t printed = plain printed
 
 -- ## Names and encodings
 
--- A name, before this many of its tags: for an instance, the name of its template and the arguments; for a tagged name, the
--- name and the tag.
+-- A name that is followed by this many of its tags: for an instance, the name of its template and the arguments; for a tagged name, the name and the tag.
 unfoldable pub name : (tags : ℕ) → Term → Unshared → Marked
 name tags (instance template args) (item inner rest) = name tags template inner before arguments args rest
 name tags (tagged of_structor inner tag) (item printed rest) = name (tags + 1) inner printed before whole role.AbiTag (numbered tags) rest

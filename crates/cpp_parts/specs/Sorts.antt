@@ -1,4 +1,4 @@
--- What the sorts of names and encodings say: how their texts are marked.
+-- How the texts of names and encodings are marked, by their sorts.
 use Rattle.std.specs.Prelude.{ℕ, ◌+◌, ◌<◌}
 use Rattle.cpp_layout.specs.Layout.{ReadSymbol, table_of}
 use Rattle.cpp_tree.specs.Views.{plain_tree}
@@ -42,7 +42,7 @@ AreTypesBelow count (encodings.Variable n) = n < count
 AreTypesBelow count (encodings.Target e) = e < count
 AreTypesBelow count _ = Unit {0}
 
--- the elements from one on, without a comma before it
+-- the elements of a list from a given one on, without a comma before it
 unfoldable pub elements_here : Role → Numbering → Term → Unshared → Marked
 elements_here r o t (item skipped done) = elements r (next o) (rest_of t) skipped
 elements_here r o t (item left (item right rest)) =

@@ -37,7 +37,7 @@ unfoldable pub marks_of_tasks : ReadSymbol → List Task → List Mark
 marks_of_tasks y [] = []
 marks_of_tasks y (first ∷ rest) = marks_of_task y first ++ marks_of_tasks y rest
 
--- an item that may be asked for, and costs at most this much
+-- an item whose parts may be requested, and which costs at most this much
 abbrev pub IsPayable : ReadSymbol → (most : ℕ) → Item Context → Type 0
 IsPayable y most i = MayBeAsked y (Sub i) × (cost_of (unshared_of y i) ≤ most)
 
@@ -75,12 +75,12 @@ pub record Adds (y : ReadSymbol) (most : ℕ) (others tasks : List Task) (m : Ma
 pub record Grows (y : ReadSymbol) (most : ℕ) (old new : List Task) (m : Marked) (steps : ℕ) : Type 0 where
   pub adds : (others : List Task) (behind : Marked) (taken : ℕ) → Adds y most others old behind taken → Adds y most others new (m before behind) (taken + steps)
 
--- What was found, together with these marks, is what is found now, together with those; and both advance by equally many bytes.
+-- What was found before, together with these marks, equals what is found now, together with those; and both advance by equally many bytes.
 pub record Lists (old new : Found) (these those : List Mark) : Type 0 where
   pub stretches : old.stretches ++ stretches_at old.place these ≡ new.stretches ++ stretches_at new.place those
   pub place : old.place + skipped these ≡ new.place + skipped those
 
--- parts that may be asked for, and cost at most this much
+-- parts that may be requested, and cost at most this much
 abbrev pub ArePayable : ReadSymbol → (most : ℕ) → List (Part Context) → Type 0
 ArePayable y most parts = All (MayBeAsked y) parts × (cost_of_parts (printed_by y parts) ≤ most)
 

@@ -56,7 +56,7 @@ pub(crate) fn push_called(
     }
 }
 
-/// A function with a return type, whose item comes first.
+/// A function with a return type. The item of the return type comes first.
 ///
 /// # Errors
 ///
@@ -125,7 +125,7 @@ pub(crate) fn push_function(
     }
 }
 
-/// A special name, after the words of this many others: its words, and what it belongs to.
+/// A special name, after the words of this many other special names: its own words, and what it belongs to.
 ///
 /// # Errors
 ///
@@ -152,7 +152,7 @@ pub(crate) fn push_special(
     }
 }
 
-/// A variable: its name, and what is after it.
+/// A variable: its name, and what follows that.
 ///
 /// # Errors
 ///

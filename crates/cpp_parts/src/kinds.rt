@@ -80,7 +80,7 @@ fn is_operator(found: u16) -> bool
     )
 }
 
-/// Which part of a tree of this production has the tree's own name; none where the tree is an own name.
+/// The number of the part that has a tree's own name, by the tree's production; none where the tree is an own name.
 #[tactic(auto, unfolding(crate::specs::KindNumbers::inner_part_by))]
 fn inner_part(found: u16) -> Option<u32>
     ensures { result ≡ inner_part_by found }
@@ -98,7 +98,7 @@ fn inner_part(found: u16) -> Option<u32>
     None
 }
 
-/// The earlier node that has the same own name, where a node isn't its own name.
+/// The earlier node that has the same own name; none where the node is an own name.
 fn inner_node(y: &Symbol, node: u32) -> Option<u32>
     requires { node < length y.now.table.nodes }
     ensures { IsInner y.now node result }
@@ -138,7 +138,7 @@ fn is_call(first: u64, second: u64) -> bool
     first == 99 && second == 108
 }
 
-/// What an operator in a prefix is.
+/// The kind of an operator after a prefix.
 #[tactic(auto, unfolding(crate::specs::KindNumbers::called_kind))]
 fn called_kind(in_lambda: bool, is_call: bool) -> NameKind
     ensures { result ≡ called_kind in_lambda is_call }
@@ -149,7 +149,7 @@ fn called_kind(in_lambda: bool, is_call: bool) -> NameKind
     NameKind::Operator
 }
 
-/// What a function is, by the production of its own name, which isn't that of a lambda's call.
+/// The kind of a function by the production of its own name, which isn't that of a lambda's call.
 #[tactic(auto, unfolding(crate::specs::KindNumbers::piece_kind_by))]
 fn piece_kind(found: u16) -> NameKind
     ensures { result ≡ piece_kind_by found }
@@ -187,7 +187,7 @@ fn piece_kind(found: u16) -> NameKind
     NameKind::Function
 }
 
-/// What a function is, by its own name.
+/// The kind of a function by its own name.
 fn named_kind(y: &Symbol, node: u32) -> NameKind
     requires { node < length y.now.table.nodes }
     ensures { result ≡ named_kind (plain_tree (table_of y.now) node) }
@@ -200,7 +200,7 @@ fn named_kind(y: &Symbol, node: u32) -> NameKind
     piece_kind(found.production)
 }
 
-/// What is in a function, by its name there.
+/// The kind of an entity in a function, by its name there.
 #[tactic(auto, unfolding(crate::specs::KindNumbers::local_kind))]
 fn local_kind(is_string: bool) -> NameKind
     ensures { result ≡ local_kind is_string }
@@ -219,7 +219,7 @@ fn is_string_name(y: &Symbol, node: u32) -> bool
     is_string(y.node(own_node(y, node)).production)
 }
 
-/// What has no parameters, by its name.
+/// The kind of what has no parameters, by its name.
 fn object_kind(y: &Symbol, node: u32) -> NameKind
     requires { node < length y.now.table.nodes }
     ensures { result ≡ object_kind (plain_tree (table_of y.now) node) }
@@ -234,7 +234,7 @@ fn object_kind(y: &Symbol, node: u32) -> NameKind
     NameKind::Variable
 }
 
-/// What belongs to a type, by the last letter of its code.
+/// The kind of what belongs to a type, by the last letter of its code.
 #[tactic(auto, unfolding(crate::specs::Kinds::special_kind))]
 fn special_kind(letter: u64) -> NameKind
     ensures { result ≡ special_kind letter }
@@ -257,7 +257,7 @@ fn special_kind(letter: u64) -> NameKind
     NameKind::Function
 }
 
-/// What belongs to a variable, by the last letter of its code.
+/// The kind of what belongs to a variable, by the last letter of its code.
 #[tactic(auto, unfolding(crate::specs::Kinds::of_name_kind))]
 fn of_name_kind(letter: u64) -> NameKind
     ensures { result ≡ of_name_kind letter }
@@ -274,7 +274,7 @@ fn of_name_kind(letter: u64) -> NameKind
     NameKind::ReferenceTemporary
 }
 
-/// What is neither a function nor an object, by the production of its encoding, and by the letter where it has one.
+/// The kind of what is neither a function nor an object, by the production of its encoding, and by its letter, if it has one.
 #[tactic(auto, unfolding(crate::specs::KindNumbers::other_kind_by))]
 fn other_kind(found: u16, letter: u64) -> NameKind
     ensures { result ≡ other_kind_by found letter }
@@ -309,7 +309,7 @@ fn other_kind(found: u16, letter: u64) -> NameKind
     NameKind::Variable
 }
 
-/// What an encoding is.
+/// The kind of an encoding.
 fn encoding_kind(y: &Symbol, node: u32) -> NameKind
     requires { node < length y.now.table.nodes }
     ensures { result ≡ encoding_kind (plain_tree (table_of y.now) node) }
@@ -324,7 +324,7 @@ fn encoding_kind(y: &Symbol, node: u32) -> NameKind
     other_kind(found.production, found.numbers[0])
 }
 
-/// What a symbol is.
+/// The kind of a symbol.
 pub fn kind_of(y: &Symbol) -> NameKind
     ensures { result ≡ kind_of_symbol (whole_of y.now) }
 {

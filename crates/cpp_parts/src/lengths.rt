@@ -15,7 +15,7 @@ use sym_core::Refusal;
 use sym_parts::length_of_part;
 use sym_print::Part;
 
-/// How many bytes a part has that costs at most this much.
+/// How many bytes a part prints. The part costs at most this much.
 ///
 /// # Errors
 ///
@@ -34,7 +34,7 @@ pub(crate) fn length_of(
     length_of_part(alloc, y, part, most)
 }
 
-/// How many bytes parts have that cost at most this much.
+/// How many bytes parts print. Each part costs at most this much.
 ///
 /// # Errors
 ///

@@ -54,7 +54,7 @@ pub(crate) fn push_lone(
     tasks.push(Task::Begin(role, ordinal, before + after))
 }
 
-/// An element of a list that has elements of its own, where it prints only these.
+/// An element of a list that has elements of its own, if it prints only these.
 ///
 /// # Errors
 ///
@@ -157,7 +157,7 @@ pub(crate) fn push_elements_after(
     }
 }
 
-/// The elements from one on, where an item comes first.
+/// The elements of a list from a given one on, if an item comes first.
 ///
 /// # Errors
 ///
@@ -215,7 +215,7 @@ pub(crate) fn push_elements_from(
     }
 }
 
-/// The elements from one on, without a comma before it.
+/// The elements of a list from a given one on, without a comma before it.
 ///
 /// # Errors
 ///
@@ -244,7 +244,7 @@ pub(crate) fn push_elements_here(
     }
 }
 
-/// The elements from one on.
+/// The elements of a list from a given one on.
 ///
 /// # Errors
 ///
@@ -275,7 +275,7 @@ pub(crate) fn push_elements(
     }
 }
 
-/// A list in brackets, by the item of the list and the bracket after it. The first bracket has this many bytes.
+/// A list in brackets, by the item of the list and the closing bracket. The opening bracket has this many bytes.
 ///
 /// # Errors
 ///
@@ -310,7 +310,7 @@ pub(crate) fn push_listed(
     tasks.push(Task::Begin(of_list, ONLY, count + inside + closing))
 }
 
-/// Brackets without a list. The first bracket has this many bytes.
+/// Brackets without a list. The opening bracket has this many bytes.
 ///
 /// # Errors
 ///
@@ -360,7 +360,7 @@ pub(crate) fn push_unlisted(
     tasks.push(Task::Skip(count))
 }
 
-/// A list in brackets. The first bracket has this many bytes.
+/// A list in brackets. The opening bracket has this many bytes.
 ///
 /// # Errors
 ///

@@ -95,7 +95,7 @@ pub(crate) fn push_in_std(
     push_alone(y, tasks, Role::Scope, ONLY, front, most)
 }
 
-/// An abbreviation, by its text and what is after it.
+/// An abbreviation, by its text and what follows that.
 ///
 /// # Errors
 ///
@@ -126,7 +126,7 @@ pub(crate) fn push_abbreviation(
     push_alone(y, tasks, Role::Scope, ONLY, front, most)
 }
 
-/// A name without arguments that begins with an item: with a scope, if a text with colons is next.
+/// A name without arguments that begins with an item. The item is a scope if a text with colons is next.
 ///
 /// # Errors
 ///
@@ -158,7 +158,7 @@ pub(crate) fn push_named_item(
     }
 }
 
-/// A name without arguments that begins with a text: one in std, if only an item is next.
+/// A name without arguments that begins with a text. It is a name in std if only an item is next.
 ///
 /// # Errors
 ///
@@ -213,7 +213,7 @@ pub(crate) fn push_named(
     }
 }
 
-/// A name whose item comes first, before this many of its tags.
+/// A name that begins with an item and is followed by this many of its tags.
 ///
 /// # Errors
 ///
@@ -259,7 +259,7 @@ pub(crate) fn push_name_of(
     }
 }
 
-/// A name, before this many of its tags.
+/// A name that is followed by this many of its tags.
 ///
 /// # Errors
 ///

@@ -7,18 +7,18 @@ ghost use Rattle.cpp_parts.specs.Tasks.{count_of};
 
 use sym_parts::Ordinal;
 
-/// How elements are numbered, by the number of the next one.
+/// How elements are numbered, with the number of the next element.
 #[derive(Clone, Copy)]
 pub(crate) enum Numbering {
     /// As items of a list, from 0 on.
     Items(u32),
     /// As elements of an item, from 1 on.
     Elements(u32, u32),
-    /// All alike.
+    /// All elements have one number.
     Alike(Ordinal),
 }
 
-/// Which one the next element is.
+/// The ordinal of the next element.
 #[tactic(auto, unfolding(crate::specs::Roles::ordinal_of))]
 pub(crate) fn ordinal_of(numbering: Numbering) -> Ordinal
     ensures { result ≡ ordinal_of numbering }
@@ -30,7 +30,7 @@ pub(crate) fn ordinal_of(numbering: Numbering) -> Ordinal
     }
 }
 
-/// The numbers of those after it.
+/// The numbers of the elements after the next one.
 #[tactic(auto, unfolding(crate::specs::Roles::next, crate::specs::Tasks::count_of))]
 pub(crate) fn next(numbering: Numbering) -> Numbering
     requires { count_of numbering + 1 < 2 ^ 32 }

@@ -21,7 +21,7 @@ use sym_core::Refusal;
 use sym_parts::{ONLY, Ordinal, Role};
 use sym_print::{Item, Part};
 
-/// Advances by what parts print.
+/// Advances by the bytes that parts print.
 ///
 /// # Errors
 ///
@@ -40,7 +40,7 @@ pub(crate) fn push_plain(
     tasks.push(Task::Skip(length))
 }
 
-/// One part of all that parts print.
+/// One part that has all the bytes that these parts print.
 ///
 /// # Errors
 ///
@@ -82,7 +82,7 @@ pub(crate) fn push_alone(
     tasks.push(Task::Begin(role, ordinal, count))
 }
 
-/// The words of a special name, after this many others, which have this many bytes with the blank after them.
+/// The words of a special name, after those of this many others. With the blank at their end they have this many bytes.
 ///
 /// # Errors
 ///
@@ -135,7 +135,7 @@ pub(crate) fn push_returned(
     }
 }
 
-/// What is after a function's parameters, or the name of a variable.
+/// What follows a function's parameters, or the name of a variable.
 ///
 /// # Errors
 ///

@@ -38,7 +38,7 @@ pub(crate) enum EncodingSort {
     Other,
 }
 
-/// The entity of a local name: its default argument isn't printed.
+/// The entity of a local name, without its default argument, which isn't printed.
 fn entity_node(y: &Symbol, entity: u32) -> u32
     requires { entity < length y.now.table.nodes }
     ensures is { plain_tree (table_of y.now) result ≡ entity_of (plain_tree (table_of y.now) entity) }
@@ -161,7 +161,7 @@ pub(crate) fn node_within(y: &Symbol, node: u32) -> Option<u32>
     None
 }
 
-/// How the elements of an element are numbered, by how the element itself is.
+/// How the elements of an element are numbered, by how the element itself is numbered.
 #[tactic(auto, unfolding(crate::specs::Tasks::count_of))]
 pub(crate) fn numbering_within(y: &Symbol, node: u32, numbering: Numbering) -> Numbering
     requires { node < length y.now.table.nodes }

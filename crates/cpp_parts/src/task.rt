@@ -14,7 +14,7 @@ use sym_parts::{Ordinal, Role};
 use sym_print::Item;
 use sym_room::push_within;
 
-/// A task: to advance by bytes, to begin a stretch, or to list the parts of an item, which comes with the node of its tree.
+/// A task: to advance by bytes, to begin a stretch, or to list the parts of an item. A task of an item has the node of the item's tree.
 #[derive(Clone, Copy)]
 pub(crate) enum Task {
     /// To advance by this many bytes.
@@ -23,9 +23,9 @@ pub(crate) enum Task {
     Begin(Role, Ordinal, u32),
     /// To list the parts of an encoding, after the words of this many special names.
     Encoding(u32, u32, Item<Context>),
-    /// To list the parts of a name, before this many of its tags.
+    /// To list the parts of a name that is followed by this many of its tags.
     Name(u32, u32, Item<Context>),
-    /// To list the elements, each of this role, of a list or of a pattern that is expanded.
+    /// To list the elements of a list, or of a pattern that is expanded, each with this role.
     Elements(Role, Numbering, u32, Item<Context>),
 }
 

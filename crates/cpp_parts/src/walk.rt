@@ -132,7 +132,7 @@ fn take(
     }
 }
 
-/// The stretches of a symbol's text in a detail, if that costs at most the limit.
+/// The stretches of a symbol's text in a detail, if the text costs at most the limit.
 ///
 /// # Errors
 ///
@@ -159,7 +159,7 @@ pub fn stretches_as(
     Ok(found.into_list())
 }
 
-/// The stretches of a symbol's text in full, if that costs at most the limit.
+/// The stretches of a symbol's text in full, if the text costs at most the limit.
 ///
 /// # Errors
 ///

@@ -27,7 +27,7 @@ pub popped : {tasks : List Task} (older : List Task) {o : Option Task} {task t :
     → task ≡ t → IsLast tasks older t
 popped older is some same = record { is = is ∙ ap (λ p. older ++ option_to_list p) (some ∙ ap Some same) }
 
--- the last task is a task, and so are those before it
+-- the last task and those before it are tasks of the symbol
 pub task-there : {y : ReadSymbol} {ns : List ℕ} {whole : Term} {first : Likeness
     → Option ℕ} {count : ℕ} {tasks older : List Task} {out : List ℕ} {t : Task}
     → Goes y ns whole first count tasks out → IsLast tasks older t → IsTask y t × AreTasks y older
@@ -125,7 +125,7 @@ ended-goes {y} {ns} {first = first} {new = new} {count = count} {tasks = tasks} 
           ∙ g.spelled;
     }
 
--- ## The first turn, and after the last
+-- ## Before the first turn, and after the last
 
 pub first-goes : {y : ReadSymbol} {ns : List ℕ} {first : Likeness → Option ℕ} {count : ℕ} {tasks : List Task} {out : List ℕ}
     → ((q : Likeness) → first q ≡ None) → count ≡ 0 → AreTasks y tasks

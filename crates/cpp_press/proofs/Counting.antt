@@ -1,4 +1,4 @@
--- Components that are trees of nodes. Those with a tree that no earlier component has are at most as many as the nodes.
+-- Components that are trees of nodes. There are at most as many components with a tree that no earlier component has as there are nodes.
 use Rattle.std.proofs.Common.{◌≡◌, ℕ, ◌+◌, ◌<◌, ◌≤◌, length, List, [], ◌∷◌, ◌++◌, Bool, true, false, refl, ap, arith, sym, subst, ◌∙◌}
 use Rattle.std.specs.Prelude.{◌||◌}
 use Rattle.std.specs.List.{IsDistinct, list_any, AllByRecursion}
@@ -44,7 +44,7 @@ spelled-later t (d ∷ before) c is = go (same_tree t d.tree) is (spelled-later 
 
 -- ## Nodes of spelled trees
 
--- each of these is the node of a tree that is spelled
+-- each of these nodes has a tree that is spelled
 AreKnown : ReadSymbol → (before : List Component) → List ℕ → Type 0
 AreKnown y before [] = Unit {0}
 AreKnown y before (x ∷ xs) = ((x < length y.table.nodes) × (is_spelled (plain_at y x) before ≡ true)) × AreKnown y before xs
@@ -66,7 +66,7 @@ known-below y before (x ∷ xs) are q is = go (eqb q x) refl is (known-below y b
     go true same so more = omega (arith, eqb-true q x same, are.0.0)
     go false same so more = more so
 
--- the node of a tree that isn't spelled is none of them
+-- a node whose tree isn't spelled is none of these nodes
 other-node : (y : ReadSymbol) (before : List Component) (t : Term) (i : ℕ) (xs : List ℕ) → plain_at y i ≡ t → is_spelled t before ≡ false
     → AreKnown y before xs
     → AllByRecursion (λ x. eqb i x ≡ false) xs

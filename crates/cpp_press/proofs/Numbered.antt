@@ -75,7 +75,7 @@ few_parts at count parts given are few =
 
 -- ## Keys
 
--- a test of keys that answers true just where the map takes them for one
+-- two keys that agree in each field, which the map takes for one key
 pub record AreOne (a b : Key) : Type 0 where
   pub production : a.production ≡ b.production
   pub own_numbers : a.numbers ≡ b.numbers
@@ -107,7 +107,7 @@ key-grown at ns n t key h = record {
   third = part-grown at ns n (slice_get (fields_of t).parts 2) key.third_part h.third;
 }
 
--- a key that is one with a node's key is a key of the node
+-- a key that agrees with a node's key in each field is a key of the node
 taken-over : (at : ℕ → Term) (ns : List ℕ) (a b : Key) (t : Term) → IsKeyOf at ns t a → AreOne a b → IsKeyOf at ns t b
 taken-over at ns a b t h same = record {
   production = sym same.production ∙ h.production;
@@ -255,7 +255,7 @@ looked-up keys = record {
 
 -- ## The nodes of a symbol after other nodes
 
--- the key of a node is the same by the first nodes of its own symbol and by those of all nodes before
+-- the key of a node is the same by the first nodes of its own symbol and by the first nodes of all nodes before it
 part-after : (one at : ℕ → Term) (firsts own : List ℕ) (part : Option Term) (m : ℕ) → ((i : ℕ) → i < length own → at (length firsts + i) ≡ one i)
     → IsPartNumber one own part m → IsPartNumber at (firsts ++ own) part m
 part-after one at firsts own None m next is = is
@@ -293,7 +293,7 @@ after-below at firsts own first bound few are i low =
       first-below at (IsKey at) (firsts ++ own) first are (length firsts + i) (omega (arith, low, length-append firsts own)),
     )
 
--- the first nodes after one more node of a symbol
+-- the table of first nodes, after one more node of a symbol
 pub after-more : (y : ReadSymbol) (at : ℕ → Term) (firsts own : List ℕ) (before node n : ℕ) (start : Key → Option ℕ) (old : Firsts Key) (new : Key → Option ℕ) (key : Key)
     → ComeNext y at firsts before start → length own ≡ node → node < length y.table.nodes
     → IsKeyOf (plain_at y) own (plain_at y node) key
@@ -364,7 +364,7 @@ get_or-any (x ∷ l) (suc i) d e low = get_or-any l i d e (omega (arith, low))
 pub item-is : (l : List ℕ) (i at a : ℕ) → a ≡ get_or l i a → i ≡ at → at < length l → a ≡ number_at l at
 item-is l i at a is same low = is ∙ ap (λ k. get_or l k a) same ∙ get_or-any l at a 0 low
 
--- whole trees are one exactly if their roots have one first node
+-- two whole trees are equal exactly if their roots have one first node
 pub told-one : (one other : ReadSymbol) (firsts others : List ℕ) (first : Key → Option ℕ) (a b : ℕ) → length firsts ≡ length one.table.nodes
     → length others ≡ length other.table.nodes → one.root < length one.table.nodes → other.root < length other.table.nodes
     → AreFirsts (both_at one other) (IsKey (both_at one other)) (firsts ++ others) first

@@ -15,7 +15,7 @@ use Rattle.cpp_press.specs.Places.{like, noted, likeness_of, ArePlaces, AreFirst
 true-false : true ≡ false → ⊥
 true-false bad = cc
 
--- the first equal component, with one component more
+-- the first equal component among some components and one more
 one-later : (from : ℕ) → Option ℕ → Bool → (count : ℕ) → Option ℕ
 one-later from (Some k) same count = Some k
 one-later from None true count = Some (from + count)
@@ -115,7 +115,7 @@ places-go y ns first new cs count node e are places low long is j f there =
     long
     ∙ sym (later-is f (plain_at y j) (record { tree = plain_at y node; encoding = e }) 0 cs)
 
--- what is known with one component more
+-- the numbers of the first components, after one component more
 pub noted-fresh : (old : Likeness → Option ℕ) (one q : Likeness) (count : ℕ) (o new : Option ℕ) → old one ≡ o → is_some o ≡ false
     → new ≡ cond (like one q) (Some count) (old q) → new ≡ noted old one count q
 noted-fresh old one q count None new there none is = is ∙ sym (ap (λ p. choose p (old q) (like one q) count) there)

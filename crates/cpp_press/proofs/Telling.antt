@@ -63,7 +63,7 @@ offsets_back (Some (covariant (by_table a b) (by_table c d))) =
 abbrev fields : (production : ℕ) → (numbers : List ℕ) → (texts : List (List ℕ)) → (parts : List Term) → Fields
 fields production numbers texts parts = record { production = production; numbers = numbers; texts = texts; parts = parts }
 
--- the details of trees other than thunks, whose offsets don't count
+-- the details of a tree that is no thunk, which has no offsets
 abbrev narrow : (numbers : List ℕ) → (texts : List (List ℕ)) → Told
 narrow numbers texts = record { numbers = numbers ++ 0 ∷ 0 ∷ []; texts = texts ++ [] ∷ [] ∷ [] }
 
@@ -117,7 +117,7 @@ three_parts xs ys few less one two three = same_parts xs ys each
     each (suc (suc (suc k))) =
         slice_get_past xs (suc (suc (suc k))) (omega (arith, few)) ∙ sym (slice_get_past ys (suc (suc (suc k))) (omega (arith, less)))
 
--- trees of one production with the same details over equal parts
+-- trees of one production with the same details over equal parts are equal
 pub one_tree : (one other : Term) → (fields_of one).production ≡ (fields_of other).production → (fields_of one).parts ≡ (fields_of other).parts
     → tree_told one ≡ tree_told other → one ≡ other
 one_tree one other e f same =

@@ -1,6 +1,6 @@
--- The details of a node, beside its production and its parts: the numbers and texts of its view (`cpp_tree`). The view
--- of a thunk leaves its offsets to a call of their own, so its details are the offsets. Trees with the same details
--- over equal parts are equal.
+-- The details of a node, beside its production and its parts: the numbers and texts of its view (`cpp_tree`). The view of a thunk doesn't
+-- have its offsets, for which there is a separate call, so its details are the offsets. Trees with the same details over equal parts are
+-- equal.
 use Rattle.std.specs.Prelude.{ℕ, List, [], ◌∷◌, ◌++◌, ◌==◌, if◌then◌else◌, map, Option, Some, None}
 use Rattle.cpp_grammar.specs.Term.{non_virtual, by_table, Thunk, adjusting, covariant, Term}
 use Rattle.cpp_tree.specs.Nodes.{bytes_at}
@@ -16,7 +16,8 @@ pub record Told : Type 0 where
 abbrev pub told : (a b c d : ℕ) → (e f g h : List ℕ) → Told
 told a b c d e f g h = record { numbers = a ∷ b ∷ c ∷ d ∷ []; texts = e ∷ f ∷ g ∷ h ∷ [] }
 
--- Each of the two adjustments has two places. An offset has 1 for a minus, or 0, and its digits; a place without one has 2.
+-- Each of the two adjustments has two places. A place has its offset's digits, and the number 1 for a minus or 0 for none. A place without
+-- an offset has the number 2.
 unfoldable pub offsets_told : Option Thunk → Told
 offsets_told None = told 2 2 2 2 [] [] [] []
 offsets_told (Some (adjusting (non_virtual a))) = told (bit a.negative) 2 2 2 a.digits [] [] []

@@ -1,4 +1,4 @@
--- The marks of keys, by which they are looked for first.
+-- The marks of keys. A key is looked up by its mark first.
 use Rattle.std.specs.Prelude.{◌≡◌, ℕ, ◌+◌, ◌*◌, ◌%◌, get_or, Option}
 use Rattle.std.specs.BTreeMap.{get}
 use Rattle.std.specs.Ordering.{is_eq}
@@ -32,7 +32,7 @@ marked-alike a b same =
     let text = list-tied a.first_text.now b.first_text.now h6.0 in
     rw (first_part, second_part, third_part, production, numbers, text) refl
 
--- the first node with a key, and that a table of them is in order
+-- the first node with a key, as a table that is in order finds it
 abbrev pub found_in : Firsts Key → Key → Option ℕ
 found_in keys = first_in key_cmp mark_of keys.places.items keys.seen.items (get key_cmp keys.more)
 

@@ -16,7 +16,7 @@ abbrev pub part_number : List ℕ → Option ℕ → ℕ
 part_number numbers None = 0
 part_number numbers (Some part) = get_or numbers part 0 + 1
 
--- the number of a tree among those that are numbered
+-- the number of a part that is a numbered tree, or 0 for no part
 abbrev pub IsPartNumber : (at : ℕ → Term) → (numbers : List ℕ) → Option Term → ℕ → Type 0
 IsPartNumber at numbers None n = n ≡ 0
 IsPartNumber at numbers (Some t) n = (p : ℕ) × (p < length numbers) × (at p ≡ t) × (n ≡ get_or numbers p 0 + 1)
@@ -44,12 +44,12 @@ key_cmp a b =
     (ordering_then (slice_cmp nat_cmp a.second_text.now b.second_text.now) (ordering_then (slice_cmp nat_cmp a.third_text.now b.third_text.now)
     (slice_cmp nat_cmp a.fourth_text.now b.fourth_text.now))))))))
 
--- The map has the first node of each tree before the nodes of a symbol, which come next.
+-- The map has the first node of each tree so far, and the nodes of a symbol come next.
 pub record ComeNext (y : ReadSymbol) (at : ℕ → Term) (firsts : List ℕ) (before : ℕ) (first : Key → Option ℕ) : Type 0 where
   pub known : AreFirsts at (IsKey at) firsts first
   pub many : length firsts ≡ before
   pub next : (i : ℕ) → i < length y.table.nodes → at (before + i) ≡ plain_at y i
 
--- the trees of the nodes of a symbol, and after them those of another
+-- the trees of the nodes of a symbol, followed by those of another symbol
 abbrev pub both_at : (one other : ReadSymbol) → ℕ → Term
 both_at one other i = cond (nat_lt i (length one.table.nodes)) (plain_at one i) (plain_at other (i - length one.table.nodes))

@@ -10,7 +10,7 @@ use Rattle.cpp_link.specs.NodeCount.{are_nodes}
 
 -- How many components are spelled out.
 pub record HasFewComponents (y : ReadSymbol) : Type 0 where
-  -- The components are at most as many as the nodes, apart from those whose tree is spelled out again.
+  -- Without the components whose tree is spelled out again, there are at most as many components as nodes.
   pub apart : length (spelled_components (whole_of y)) ≤ length y.table.nodes + length (repeated_components (whole_of y))
   -- If some bytes are read as the symbol, with the nodes of their one shape, each component is a node of its own,
   -- beside the four with which a table begins.

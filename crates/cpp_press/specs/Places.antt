@@ -22,8 +22,7 @@ like a b = nat_eq a.number b.number && nat_eq a.encoding b.encoding
 abbrev pub likeness_cmp : Likeness → Likeness → Ordering
 likeness_cmp a b = ordering_then (nat_cmp a.number b.number) (nat_cmp a.encoding b.encoding)
 
--- the number of the first component with a likeness. For a likeness of no encoding it is at a place, as far as there are
--- places.
+-- whether the number of the first component with a likeness is at a place: the likeness belongs to no encoding, and its number is below the number of places
 abbrev pub has_place : (closed : List (Option ℕ)) → Likeness → Bool
 has_place closed q = nat_eq q.encoding 0 && nat_lt q.number (length closed)
 
@@ -41,7 +40,7 @@ noted first one count q = elim (first one) [ Some number ↦ first q | None ↦ 
 abbrev pub likeness_of : ReadSymbol → (numbers : List ℕ) → (node encoding : ℕ) → Likeness
 likeness_of y numbers node encoding = record { number = get_or numbers node 0; encoding = cond (is_open (plain_at y node)) encoding 0 }
 
--- The number of the first component by likeness is the one of the definition.
+-- The number of the first component with a likeness is the number that the definition says.
 abbrev pub ArePlaces : ReadSymbol → (numbers : List ℕ) → (Likeness → Option ℕ) → List Component → Type 0
 ArePlaces y numbers first cs =
     (node encoding : ℕ) → node < length y.table.nodes → first (likeness_of y numbers node encoding) ≡ first_equal encoding (plain_at y node) 0 cs
@@ -51,7 +50,7 @@ ArePlaces y numbers first cs =
 abbrev pub AreNumbers : ReadSymbol → List ℕ → Type 0
 AreNumbers y numbers = AreNumbered (plain_at y) (length y.table.nodes) numbers
 
--- Nodes with equal trees have one first node, and nodes with different trees have different ones.
+-- Nodes with equal trees have one first node, and nodes with different trees have different first nodes.
 abbrev pub AreFirst : ReadSymbol → List ℕ → Type 0
 AreFirst y firsts = AreTold (plain_at y) (length y.table.nodes) firsts
 
@@ -60,11 +59,11 @@ abbrev pub AreOfNodes : ReadSymbol → List Component → Type 0
 AreOfNodes y [] = Unit {0}
 AreOfNodes y (c ∷ cs) = ((node : ℕ) × (node < length y.table.nodes) × (plain_at y node ≡ c.tree)) × AreOfNodes y cs
 
--- what is written, and a spelling after it
+-- the bytes that are written, followed by a spelling
 abbrev pub behind : List ℕ → Pressed Component → Pressed Component
 behind out one = record { bytes = out ++ one.bytes; components = one.components }
 
--- What is written, and what the tasks will write, are together the spelling of a symbol's tree. The components so far
+-- The bytes that are written, and those that the tasks will write, are together the spelling of a symbol's tree. The components so far
 -- are trees of nodes.
 pub record Goes (y : ReadSymbol) (numbers : List ℕ) (whole : Term) (first : Likeness → Option ℕ) (count : ℕ) (tasks : List Task) (out : List ℕ) : Type 0 where
   pub components : List Component

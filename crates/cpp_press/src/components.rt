@@ -21,7 +21,7 @@ pub struct Likeness {
 /// How many components there are, and the number of the first component with each likeness.
 #[derive(Drop)]
 pub struct Components {
-    /// The first components of no encoding, at the numbers of their trees.
+    /// The first components that belong to no encoding, at the numbers of their trees.
     pub closed: Vec<Option<u64>>,
     /// All other first components.
     pub first: BTreeMap<Likeness, u64>,
@@ -29,11 +29,11 @@ pub struct Components {
 }
 
 impl Components {
-    /// No components, whose trees have numbers below this one.
+    /// No components yet. The trees of components will have numbers below this one.
     ///
     /// # Errors
     ///
-    /// `Memory` alone.
+    /// Only `Memory`.
     pub fn new(alloc: Global, numbers: usize) -> Result<Components, Refusal>
         ensures first { IfOk result (λ made. (q : Likeness) → known_in made q ≡ None) }
         ensures count { IfOk result (λ made. made.count ≡ 0) }
@@ -47,7 +47,7 @@ impl Components {
         })
     }
 
-    /// Whether components with a likeness have a place, by the number of their tree.
+    /// Whether components with a likeness are kept at a place, which is the number of their tree.
     fn has_place(&self, likeness: Likeness) -> bool
         ensures { result ≡ has_place self.now.closed.items likeness }
     {
@@ -71,7 +71,7 @@ impl Components {
     ///
     /// # Errors
     ///
-    /// `Memory` alone.
+    /// Only `Memory`.
     pub fn push(&mut self, likeness: Likeness) -> Result<(), Refusal>
         ensures first { OnOk result ((q : Likeness) → known_in self.new q ≡ noted (known_in self.old) likeness self.old.count q) }
         ensures count { OnOk result (self.new.count ≡ self.old.count + 1) }

@@ -24,7 +24,7 @@ pub struct Details {
 /// No bytes.
 const NO_TEXT: Span = Span { from: 0, to: 0 };
 
-/// The number of an offset that isn't there.
+/// The number of an offset that is absent.
 const NO_OFFSET: u64 = 2;
 
 /// The number of an offset: 1 for a minus.
@@ -35,7 +35,7 @@ fn sign(offset: Signed) -> u64
     if offset.negative { 1 } else { 0 }
 }
 
-/// The offsets by which a thunk adjusts its object, and its result if it adjusts that.
+/// The offsets by which a thunk adjusts its object, and those by which it adjusts its result, if it does.
 #[inline(never)]
 #[tactic(auto, unfolding(crate::specs::Details::offsets_told, cpp_tree::specs::Nodes::thunk_of, cpp_tree::specs::Nodes::adjustment_of))]
 fn offsets_of_thunk(symbol: &Symbol, thunk: Option<Thunk>) -> Details

@@ -1,4 +1,4 @@
-//! The pressed spelling of a C++ symbol: its tree written again, each repeated component a reference to the first one.
+//! The pressed spelling of a C++ symbol: the symbol's tree is written again, and each repeated component is a reference to the first one.
 #![tactic(auto)]
 
 mod components;

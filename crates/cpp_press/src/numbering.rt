@@ -21,8 +21,7 @@ use sym_core::Refusal;
 use sym_spell::{Firsts, Marked, Numbers, text_mark};
 
 /// The key of a node: what nodes with equal trees have in common. It has the node's details, and for each part one more than
-/// the first node that is equal to it, or 0 for no part. Keys are ordered by their parts first, so one key more mostly goes
-/// near the end.
+/// the first node that is equal to it, or 0 for no part. Keys are ordered by their parts first, so a new key mostly goes near the end.
 #[derive(Clone, Copy, PartialEq, Eq, PartialOrd, Ord)]
 struct Key<'a> {
     first_part: u32,
@@ -73,7 +72,7 @@ fn part_number(firsts: &[u32], part: Option<u32>) -> u32
     }
 }
 
-/// The key of a node, after nodes with these first ones.
+/// The key of a node, by the first nodes that equal the nodes before it.
 fn key_of<'a>(symbol: &'a Symbol, firsts: &[u32], node: u32) -> Key<'a>
     requires node { node < length symbol.now.table.nodes }
     requires before { length firsts.now ≡ node }
@@ -98,12 +97,12 @@ fn key_of<'a>(symbol: &'a Symbol, firsts: &[u32], node: u32) -> Key<'a>
     }
 }
 
-/// The first node that is equal to each node of a symbol: an earlier one, or the node itself. The symbol's nodes come after n
-/// others, whose first nodes the table has. From now on the table has those of the symbol, too.
+/// The first node that is equal to each node of a symbol: an earlier one, or the node itself. The symbol's nodes follow n other nodes,
+/// whose first nodes are in the table. The first nodes of the symbol are added to it.
 ///
 /// # Errors
 ///
-/// `Memory` alone.
+/// Only `Memory`.
 fn firsts_after<'a>(
     alloc: Global,
     keys: &mut Firsts<Key<'a>>,
@@ -133,7 +132,7 @@ fn firsts_after<'a>(
 ///
 /// # Errors
 ///
-/// `Memory` alone.
+/// Only `Memory`.
 pub(crate) fn first_nodes(alloc: Global, symbol: &Symbol) -> Result<Vec<u32>, Refusal>
     ensures firsts { IfOk result (λ firsts. AreFirst symbol.now firsts.items) }
     ensures few { IfOk result (λ firsts. length firsts.items ≤ 4294967295) }
@@ -145,11 +144,11 @@ pub(crate) fn first_nodes(alloc: Global, symbol: &Symbol) -> Result<Vec<u32>, Re
 }
 
 /// Numbers the nodes of a C++ symbol. A tree that no earlier node has gets the next number, counted from 0. Each node takes two
-/// look-ups: one by what equal nodes have in common, and one of the first of them in a table.
+/// look-ups: one by what equal nodes have in common, and one of the first of these nodes in a table.
 ///
 /// # Errors
 ///
-/// `Memory` alone.
+/// Only `Memory`.
 pub fn numbers(alloc: Global, symbol: &Symbol) -> Result<Numbers, Refusal>
     ensures numbers { IfOk result (AreNumbers symbol.now) }
     ensures memory { IfErr result (λ e. e ≡ Memory) }
@@ -163,7 +162,7 @@ pub fn numbers(alloc: Global, symbol: &Symbol) -> Result<Numbers, Refusal>
 ///
 /// # Errors
 ///
-/// `Memory` alone.
+/// Only `Memory`.
 pub fn have_one_tree(alloc: Global, one: &Symbol, other: &Symbol) -> Result<bool, Refusal>
     ensures same { IfOk result (λ same. same ≡ same_tree (whole_of one.now) (whole_of other.now)) }
     ensures memory { IfErr result (λ e. e ≡ Memory) }

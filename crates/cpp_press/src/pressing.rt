@@ -1,4 +1,4 @@
-// A C++ symbol spelled again, each repeated component a reference to the first one.
+// C++ symbols are spelled again, with each repeated component as a reference to the first one.
 #![tactic(auto)]
 
 ghost use Rattle.std.specs.Prelude.{◌≡◌, ◌<◌, length, IfOk, IfErr};
@@ -141,16 +141,16 @@ fn press_tasks(alloc: Global, symbol: &Symbol, firsts: &[u32]) -> Result<Vec<u8>
     Ok(out)
 }
 
-/// The pressed spelling of a C++ symbol (Itanium C++ ABI 5.1): its tree in its order, in which each component that is equal
-/// to an earlier one is a reference to the first such one (ABI 5.1.10), and numbers and names have their shortest form.
-/// Symbols of one tree have one pressed spelling; the suffix is part of the tree.
+/// The pressed spelling of a C++ symbol (Itanium C++ ABI 5.1). It spells the symbol's tree in order: each component that equals an earlier
+/// one is a reference to the first one that it equals (ABI 5.1.10), and numbers and names have their shortest form. Symbols of one tree
+/// have one pressed spelling; the suffix is part of the tree.
 ///
-/// Components are compared by their numbers, and each repeated one is spelled out at most once where a reference can be,
-/// however large the tree is. So there are at most 64 bytes for each byte of the symbol.
+/// Components are compared by their numbers. Each component is spelled out at most once at the places where a reference can be, however
+/// large the tree is. So the spelling has at most 64 bytes for each byte of the symbol.
 ///
 /// # Errors
 ///
-/// `Memory` alone.
+/// Only `Memory`.
 pub fn press_cpp(alloc: Global, symbol: &Symbol) -> Result<Vec<u8>, Refusal>
     ensures pressed { IfOk result (λ out. out.items ≡ pressed (whole_of symbol.now)) }
     ensures components { IfOk result (λ _. HasFewComponents symbol.now) }

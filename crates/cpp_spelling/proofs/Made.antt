@@ -1,4 +1,4 @@
--- The trees of nodes by what they are made of, in which parameters are only their numbers.
+-- The trees of nodes by what the nodes are made of; in these trees parameters are only their numbers.
 use Rattle.std.proofs.Common.{◌≡◌, ◌∙◌, ap, sym, subst, arith, ℕ, ◌+◌, ◌<◌, ◌≤◌, List, length, Option, Some, None}
 use Rattle.std.specs.Prelude.{false}
 use Rattle.cpp_term.specs.Erased.{erase}
@@ -96,7 +96,7 @@ again-tree y i t a table less is =
 
 -- ## Functions
 
--- the types of a function don't show the arguments that they are under
+-- the types of a function are spelled alike under any arguments
 pub function-spelled : (y : ReadSymbol) (here : ℕ) (node : Node) (name returned parameters under : ℕ) (q : Qualifiers) (m : Mark) (rest : Spelling) → node ≡ Node.Function name q m returned parameters under
     → ◌≡◌ {A = Spelling} (in_way here (Way.Name q m) (plain_at y name) onto in_way here Way.Type (plain_at y returned) onto in_way here Way.Parameters (plain_at y parameters) onto rest) (encoding_onto here (node_tree y node) rest)
 unfolding encoding_onto erase tree_of in_way

@@ -1,4 +1,4 @@
--- A name without its tags, whose node is noted.
+-- A name without its tags: which node has the name's tree without tags.
 use Rattle.std.proofs.Common.{◌≡◌, ◌<◌, ℕ, length, Some, None, refl, ap, subst, ◌∙◌}
 use Rattle.cpp_grammar.specs.Scope.{without_tags}
 use Rattle.cpp_term.specs.Term.{Term, tagged}

@@ -1,4 +1,4 @@
--- Trees that are spelled out onto what follows them are spelled as their ways say.
+-- Trees that are spelled out before what follows them have the spellings that their ways say.
 use Rattle.std.proofs.Common.{◌≡◌, ℕ, ◌-◌, List, [], ◌∷◌, ◌++◌, Bool, true, false, Option, Some, None, refl, ap, sym, ◌∙◌}
 use Rattle.std.specs.Prelude.{codes, cond}
 use Rattle.sym_spell.specs.Pressing.{◌and◌, text, nothing}

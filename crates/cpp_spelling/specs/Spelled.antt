@@ -1,4 +1,4 @@
--- Trees that are spelled out, each onto what follows it.
+-- Trees that are spelled out, each before the spelling that follows it.
 use Rattle.std.specs.Prelude.{ℕ, ◌-◌, List, [], ◌∷◌, ◌++◌, Bool, true, false, cond, ◌&&◌, ◌||◌, codes, Option}
 use Prim.Native.String.{String}
 use Rattle.cpp_grammar.specs.Term.{Qualifiers, RefQualifier, any_value, Term, symbol, function, object, special, thunk, of_name, construction, clone, alone, in_std, within, instance, local, holder, tagged, abbreviation, parameter, source, operator, literal_operator, constructor, destructor, lambda, unnamed, string_literal, conversion, builtin, sized_float, vendor, pointer, lvalue, rvalue, array, member_pointer, function_type, qualified, vector, complex, expansion, integer, boolean, null_pointer, encoding_literal, address_of, pack, nil, list, generic_lambda, enumeration}
@@ -43,7 +43,7 @@ nested_onto n prefix p rest = fixed "N" onto within_onto n prefix p (fixed "E" o
 abbrev pub arguments_onto : (n : ℕ) → Term → Spelling → Spelling
 arguments_onto n arguments rest = fixed "I" onto in_way n Way.Elements arguments onto fixed "E" onto rest
 
--- a name and one tag more, which comes after those before it
+-- a name and one tag more, which follows the name's own tags
 abbrev pub tag_onto : (n : ℕ) → (name : Term) → (tag : List ℕ) → Spelling → Spelling
 tag_onto n name tag rest = in_way n Way.Between name onto written (codes "B" ++ counted tag) onto rest
 
@@ -76,7 +76,7 @@ plain_name_onto n _ rest = rest
 abbrev pub lettered_onto : (n : ℕ) → (letters : List ℕ) → (name : Term) → Spelling → Spelling
 lettered_onto n letters name rest = written letters onto in_way n Way.Between name onto fixed "E" onto rest
 
--- one piece after an encoding, with tags or without
+-- a name that is one piece after an encoding, with tags or without
 unfoldable pub is_piece_behind : Term → Bool
 is_piece_behind name = is_behind_encoding (without_tags name)
 
@@ -92,7 +92,7 @@ unfoldable pub has_letters : Qualifiers → RefQualifier → Bool
 has_letters q any_value = q.restrict || (q.volatile || q.const)
 has_letters q _ = true
 
--- a prefix that is no type of another sort
+-- a tree that is spelled as a prefix, and as no other sort of type
 unfoldable pub is_prefix : Term → Bool
 is_prefix (holder name) = true
 is_prefix t = is_name t

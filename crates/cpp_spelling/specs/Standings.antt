@@ -9,7 +9,7 @@ use Rattle.cpp_spelling.specs.declared.task.Way.{Way}
 use Rattle.cpp_spelling.specs.Tasks.{◌onto◌, written, in_way, ending}
 use Rattle.cpp_spelling.specs.Spelled.{is_compared, arguments_onto}
 
--- how a compared tree compares with the components, by the number of the first one that is equal to it
+-- how a compared tree compares with the components, by the number of the first component that is equal to it
 unfoldable pub compared : Option ℕ → Standing
 compared (Some number) = Standing.Known number
 compared None = Standing.Fresh
@@ -30,7 +30,7 @@ unfoldable pub is_instance : Term → Bool
 is_instance (instance template arguments) = true
 is_instance _ = false
 
--- a template name that is spelled out, its end as a component, and its arguments
+-- a template name that is spelled out, the end of the component that it is, and its arguments
 abbrev pub between_arguments_onto : (n : ℕ) → (name arguments : Term) → Spelling → Spelling
 between_arguments_onto n name arguments rest =
     elim (is_instance name) [

@@ -16,7 +16,7 @@ use Rattle.cpp_spelling.specs.declared.task.Task.{Task}
 use Rattle.cpp_spelling.specs.Bytes.{text_bytes, IsThere}
 use Rattle.cpp_spelling.specs.Weight.{weight}
 
--- the tree of a node, in which parameters are their numbers alone
+-- the tree of a node, in which parameters are only their numbers
 abbrev pub plain_at : ReadSymbol → ℕ → Term
 plain_at y node = erase (tree_at (trees (table_of y)) node)
 
@@ -68,7 +68,7 @@ bracketed n arguments = written (codes "I") onto in_way n Way.Elements arguments
 unfoldable pub before : (encoding : ℕ) → (in_type : Bool) → (name arguments : Term) → Spelling
 before n in_type name arguments = (ways_of n name).before in_type (bracketed n arguments)
 
--- the tree is a component from here on
+-- the tree ends here, and is a component from here on
 unfoldable pub ending : (encoding : ℕ) → Term → Spelling
 ending n t = ended n t
 
@@ -78,7 +78,7 @@ press_task y (Task.Tree node way n) = in_way n way (plain_at y node)
 press_task y (Task.Template name arguments in_type n) = before n in_type (plain_at y name) (plain_at y arguments)
 press_task y (Task.Ended node n) = ending n (plain_at y node)
 
--- the next task is the last in the list
+-- what tasks spell; the next task is the last one in the list
 unfoldable pub press_tasks : ReadSymbol → List Task → Spelling
 press_tasks y [] = nothing
 press_tasks y (task ∷ tasks) = press_tasks y tasks onto press_task y task
@@ -94,7 +94,7 @@ unfoldable pub AreTasks : ReadSymbol → List Task → Type 0
 AreTasks y [] = Unit {0}
 AreTasks y (task ∷ tasks) = IsTask y task × AreTasks y tasks
 
--- how many steps a task takes at most: a tree takes more than its parts together
+-- how many steps a task takes at most: a tree takes more steps than its parts together
 abbrev pub way_weight : Way → ℕ
 way_weight (Way.Name q m) = 4
 way_weight _ = 0
@@ -113,6 +113,6 @@ tasks_weight y (task ∷ tasks) = task_weight y task + tasks_weight y tasks
 abbrev pub HasRoom : Vec Task Global → (many : ℕ) → Type 0
 HasRoom tasks many = vec_len tasks + many ≤ vec_capacity tasks
 
--- at most n places of the room are taken
+-- at most this many places of the room are taken
 abbrev pub TakesRoom : (old new : Vec Task Global) → (many : ℕ) → Type 0
 TakesRoom old new many = vec_len new + vec_capacity old ≤ vec_len old + vec_capacity new + many

@@ -1,5 +1,4 @@
-//! How each tree of a C++ symbol is spelled: as tasks, which are the texts and trees in it, in order; and the bytes of
-//! each text.
+//! How each tree of a C++ symbol is spelled, as texts and trees in order, which are its tasks; and which bytes each text has.
 #![tactic(auto)]
 
 pub mod names;

@@ -55,7 +55,7 @@ fn without_tags(symbol: &Symbol, name: u32) -> Node
     }
 }
 
-/// Whether a name needs an N where it is no prefix. The name may have tags.
+/// Whether a name that is no prefix needs an N. The name may have tags.
 #[tactic(auto, unfolding(cpp_press_laws::specs::Pressing::is_nested, cpp_term::specs::Erased::erase, cpp_tree::specs::Nodes::tree_of, cpp_tree::specs::Nodes::is_again))]
 pub fn is_nested(symbol: &Symbol, name: u32) -> bool
     requires table { IsTable (table_of symbol.now) }
@@ -94,8 +94,7 @@ fn is_one_piece(symbol: &Symbol, entity: u32) -> bool
     }
 }
 
-/// A lambda (ABI 5.1.7, `<closure-type-name> ::= Ul <lambda-sig> E [ <number> ] _`), whose parameters are spelled in a
-/// given way.
+/// A lambda (ABI 5.1.7, `<closure-type-name> ::= Ul <lambda-sig> E [ <number> ] _`). Its parameters are spelled in a given way.
 #[tactic(auto, unfolding(crate::specs::Bytes::text_bytes))]
 fn then_lambda(
     symbol: &Symbol,
@@ -143,7 +142,7 @@ pub fn then_piece(symbol: &Symbol, piece: Piece, encoding: u64, tasks: &mut Vec<
         Piece::Destructor(digit) => then_text(symbol, Text::Pair(b'D', digit), tasks),
         // <ctor-dtor-name> ::= CI1 <base class type>: no symbol that the ABI's grammar reads has one.
         Piece::Inheriting { .. } => {}
-        // <unqualified-name> ::= DC <source-name>+ E: nor a structured binding.
+        // <unqualified-name> ::= DC <source-name>+ E: no such symbol has a structured binding either.
         Piece::Bindings(_) => {}
         Piece::Lambda { parameters, number } => then_lambda(
             symbol,
@@ -214,7 +213,7 @@ pub fn then_within(symbol: &Symbol, prefix: u32, piece: Piece, encoding: u64, ta
     then_tree(symbol, prefix, Way::Prefix, encoding, tasks);
 }
 
-/// A name in another one (ABI 5.1.3, `<nested-name> ::= N .. <prefix> <unqualified-name> E`).
+/// A name within another one (ABI 5.1.3, `<nested-name> ::= N .. <prefix> <unqualified-name> E`).
 pub fn then_nested(symbol: &Symbol, prefix: u32, piece: Piece, encoding: u64, tasks: &mut Vec<Task>)
     requires prefix { prefix < length symbol.now.table.nodes }
     requires piece { IsPieceMade symbol.now piece }
@@ -246,7 +245,7 @@ fn then_tag(symbol: &Symbol, name: u32, tag: Span, encoding: u64, tasks: &mut Ve
     then_tree(symbol, name, Way::Between, encoding, tasks);
 }
 
-/// A name and one tag more, between N and E where it is in another name.
+/// A name and one tag more, between N and E if the name is within another one.
 #[tactic(auto, unfolding(crate::specs::Spelled::tagged_onto))]
 pub fn then_tagged(symbol: &Symbol, name: u32, tag: Span, encoding: u64, tasks: &mut Vec<Task>)
     requires table { IsTable (table_of symbol.now) }
@@ -326,7 +325,7 @@ pub fn then_prefix(symbol: &Symbol, node: Node, encoding: u64, tasks: &mut Vec<T
     }
 }
 
-/// Whether a name needs an N for the letters of its function.
+/// Whether a name needs an N, since its function has qualifiers, which are letters after the N.
 #[tactic(auto, unfolding(crate::specs::Spelled::has_letters))]
 fn has_letters(qualifiers: Qualifiers, mark: Mark) -> bool
     ensures { result ≡ has_letters (qualifiers_of qualifiers) (mark_of mark) }
@@ -436,7 +435,7 @@ pub fn is_name(node: Node) -> bool
     }
 }
 
-/// Whether a node is a prefix that is no type of another sort.
+/// Whether a node's tree is spelled as a prefix, and as no other sort of type.
 #[tactic(auto, unfolding(crate::specs::Spelled::is_prefix, cpp_term::specs::Erased::erase, cpp_tree::specs::Nodes::tree_of, cpp_tree::specs::Nodes::is_again))]
 pub fn is_prefix(node: Node) -> bool
     requires own { is_again node ≡ false }

@@ -24,15 +24,15 @@ use sym_core::Refusal;
 /// How a tree compares with the components before it.
 #[derive(Clone, Copy)]
 pub enum Standing {
-    /// The tree isn't compared where it is.
+    /// The tree isn't compared at its place.
     Apart,
-    /// The tree is equal to the component with this number, and to none before that.
+    /// The tree is equal to the component with this number, and to no component before that one.
     Known(u64),
-    /// The tree is equal to none.
+    /// The tree is equal to no component.
     Fresh,
 }
 
-/// How a compared tree compares with the components, by the number of the first one that is equal to it.
+/// How a compared tree compares with the components, by the number of the first component that is equal to it.
 #[tactic(auto, unfolding(crate::specs::Standings::compared))]
 pub fn compared(first: Option<u64>) -> Standing
     ensures { result ≡ compared first }
@@ -43,7 +43,7 @@ pub fn compared(first: Option<u64>) -> Standing
     }
 }
 
-/// A tree in one of its ways, by how it compares with the components before it: a reference, or spelled out.
+/// Spells a tree in one of its ways: as a reference, or out, by how it compares with the components before it.
 pub fn step_tree(
     symbol: &Symbol,
     standing: Standing,
@@ -119,7 +119,7 @@ fn then_template_out(
     }
 }
 
-/// A template name and its end as a component, and its arguments. A name that has arguments itself is always referred to.
+/// A template name, the end of the component that it is, and its arguments. A name that ends in arguments itself is always spelled as a reference.
 #[tactic(auto, unfolding(crate::specs::Standings::is_instance, cpp_term::specs::Erased::erase, cpp_tree::specs::Nodes::tree_of, cpp_tree::specs::Nodes::is_again))]
 fn then_between_arguments(
     symbol: &Symbol,
@@ -157,8 +157,7 @@ fn is_instance(node: Node) -> bool
     }
 }
 
-/// A template name and its arguments, by how the name compares with the components before it: a reference, or spelled
-/// out.
+/// Spells a template name, as a reference or out, by how it compares with the components before it, and then its arguments.
 pub fn step_template(
     symbol: &Symbol,
     standing: Standing,

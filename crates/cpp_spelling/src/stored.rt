@@ -9,7 +9,7 @@ ghost use Rattle.cpp_spelling.specs.Tasks.{plain_at, node_tree, IsMade};
 use cpp_layout::Symbol;
 use cpp_tree::node::Node;
 
-/// What the tree of a node is made of, where parameters are only their numbers. An alias is the tree that it denotes.
+/// What the tree of a node is made of, where parameters are only their numbers. The tree of an alias is the one that it denotes.
 pub fn stored(symbol: &Symbol, node: u32) -> Node
     requires table { IsTable (table_of symbol.now) }
     requires node { node < length symbol.now.table.nodes }

@@ -25,7 +25,7 @@ pub enum Way {
     /// An encoding's own name, with the letters for its function.
     Name(Qualifiers, Mark),
     Argument,
-    /// The parameters of a lambda with parameters of its own: they are an encoding of their own.
+    /// The signature of a lambda that has parameters of its own: it is spelled as an encoding of its own.
     Signature,
     Parameters,
     MoreParameters,
@@ -49,21 +49,21 @@ pub enum Task {
         in_type: bool,
         encoding: u64,
     },
-    /// The tree of a node is a component from here on.
+    /// The tree of a node ends here, and is a component from here on.
     Ended {
         node: u32,
         encoding: u64,
     },
 }
 
-/// The most tasks that one task becomes.
+/// The most tasks that replace one task.
 const MOST_TASKS: usize = 8;
 
-/// Makes room for the tasks that one task becomes.
+/// Makes room for the tasks that replace one task.
 ///
 /// # Errors
 ///
-/// `Memory` alone.
+/// Only `Memory`.
 pub fn make_room(symbol: &Symbol, tasks: &mut Vec<Task>) -> Result<(), Refusal>
     requires tasks { AreTasks symbol.now tasks.old.items }
     ensures presses { press_tasks symbol.now tasks.new.items ≡ press_tasks symbol.now tasks.old.items }

@@ -14,7 +14,7 @@ use cpp_tree::node::{Adjustment, Mark, Qualifiers, Signed, Thunk};
 use sym_core::{Refusal, Span};
 use sym_spell::push_digits;
 
-/// Bytes of a spelling that belong to no tree in it.
+/// Bytes of a spelling that belong to none of the trees in it.
 #[derive(Clone, Copy)]
 pub enum Text {
     Fixed(&'static [u8]),
@@ -26,19 +26,19 @@ pub enum Text {
     Counted(&'static [u8], Span),
     /// Fixed bytes, digits, and an underscore.
     Digits(&'static [u8], Span),
-    /// The value of a literal, and what ends the literal.
+    /// The value of a literal, and the end of the literal.
     Value(Signed),
     Qualifiers(Qualifiers),
     /// The N of a name, with the letters for its function.
     Letters(Qualifiers, Mark),
-    /// What a function type begins with.
+    /// The beginning of a function type.
     FunctionType { c_linkage: bool, noexcept: bool },
-    /// The mark of a function type, and what ends the type.
+    /// The mark of a function type, and the end of the type.
     FunctionEnd(Mark),
     Thunk(u32),
     Discriminator(Option<Span>),
     Suffix(Span),
-    /// A reference to the component of a number.
+    /// A reference to the component with this number.
     Reference(u64),
 }
 
@@ -199,7 +199,7 @@ fn push_discriminator_digits(digits: &[u8], out: &mut Vec<u8>) -> Result<(), Ref
     Ok(())
 }
 
-/// What a function type begins with (ABI 5.1.5.3, `<function-type> ::= [Do] F [Y] ..`).
+/// The beginning of a function type (ABI 5.1.5.3, `<function-type> ::= [Do] F [Y] ..`).
 fn push_function_type(c_linkage: bool, noexcept: bool, out: &mut Vec<u8>) -> Result<(), Refusal>
     ensures letters { OnOk result (out.new.items ≡ out.old.items ++ (cond noexcept (codes "Do") [] ++ codes "F" ++ cond c_linkage (codes "Y") [])) }
     ensures memory { IfErr result (λ e. e ≡ Memory) }

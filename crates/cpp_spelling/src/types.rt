@@ -22,7 +22,7 @@ use crate::texts::Text;
 use cpp_layout::{Symbol, special_front};
 use cpp_tree::node::{Mark, Node};
 
-/// Whether a type is compared with others: each type that has more than letters is.
+/// Whether a type is compared with others. Each type that has more than letters is compared.
 #[tactic(auto, unfolding(cpp_press_laws::specs::Pressing::is_component, cpp_term::specs::Erased::erase, cpp_tree::specs::Nodes::tree_of, cpp_tree::specs::Nodes::is_again))]
 fn is_component(node: Node) -> bool
     requires own { is_again node ≡ false }
@@ -52,7 +52,7 @@ fn is_component(node: Node) -> bool
     }
 }
 
-/// Whether a tree is compared with others where it is. A function type right under qualifiers isn't.
+/// Whether a tree is compared with others at its place. A function type directly under qualifiers isn't compared.
 #[tactic(auto, unfolding(cpp_press_laws::specs::Pressing::is_component, cpp_grammar::specs::References::is_function_type, cpp_term::specs::Erased::erase, cpp_tree::specs::Nodes::tree_of, cpp_tree::specs::Nodes::is_again))]
 pub fn is_compared(way: Way, node: Node) -> bool
     requires own { is_again node ≡ false }
@@ -168,7 +168,7 @@ fn then_compound(symbol: &Symbol, node: Node, encoding: u64, tasks: &mut Vec<Tas
     }
 }
 
-/// A name that is a type (ABI 5.1.5, `<class-enum-type> ::= <name>`): after St an operator needs an N.
+/// A name that is a type (ABI 5.1.5, `<class-enum-type> ::= <name>`). An operator after St needs an N.
 #[tactic(auto, unfolding(crate::specs::Spelled::class_onto, cpp_term::specs::Erased::erase, cpp_tree::specs::Nodes::tree_of, cpp_tree::specs::Nodes::is_again, crate::specs::Weight::weight, crate::specs::Bytes::text_bytes))]
 fn then_class(symbol: &Symbol, node: Node, encoding: u64, tasks: &mut Vec<Task>)
     requires table { IsTable (table_of symbol.now) }
@@ -425,7 +425,7 @@ fn then_encoding(symbol: &Symbol, node: Node, here: u64, tasks: &mut Vec<Task>)
     }
 }
 
-/// A tree spelled out in one of its ways. What it spells is written next, at the place `here`.
+/// Spells out a tree in one of its ways. The spelling is written next, at the place `here`.
 pub fn then_spelled(
     symbol: &Symbol,
     node: u32,

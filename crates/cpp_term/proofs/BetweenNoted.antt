@@ -8,7 +8,7 @@ use Rattle.sym_link.specs.Unfold.{found}
 use Rattle.sym_core.specs.declared.NumberKind.TheVariants.{Decimal, Seq36}
 use Rattle.sym_core.specs.Value.{counted_value}
 use Rattle.cpp_grammar.specs.declared.production.Production.{Production}
-use Rattle.cpp_grammar.specs.Rescoping.{generic_number, generic_so_far, parameter_here, argument_here, is_declaring, lambda_with, as_generic_lambda, with_holder, is_instance, holder_so_far, named_by_both, module_of, module_named, module_so_far, numbered, counted_unless, counted_base, counted_held, with_constructor, with_held, in_constraint_of, is_unseen, in_literal, name_if, between_wide, close_wide}
+use Rattle.cpp_grammar.specs.Rescoping.{awaiting, generic_number, generic_so_far, parameter_here, argument_here, is_declaring, lambda_with, as_generic_lambda, with_holder, is_instance, holder_so_far, named_by_both, module_of, module_named, module_so_far, numbered, counted_unless, counted_base, counted_held, with_constructor, with_held, in_constraint_of, is_unseen, in_literal, name_if, between_wide, close_wide}
 use Rattle.cpp_grammar.specs.Scope.{count, element, is_open, length_if_pack}
 use Rattle.cpp_grammar.specs.Term.{Term, list, holder, parameter, absent}
 use Rattle.cpp_grammar.specs.Values as leaf_
@@ -39,7 +39,8 @@ use Rattle.cpp_term.specs.Annotated.{Place, nowhere, around_place, place_in, in_
 use Rattle.cpp_term.proofs.Notes.{both, or_right, choose, choose_cond, open_noted, closed_noted}
 use Rattle.cpp_term.proofs.SeenNoted.{is_instance_noted, counted_held_noted, is_declaring_noted}
 use Rattle.cpp_term.proofs.MeaningNoted.{part_noted, tree_part, tree_noted, text_noted, text_part, prefix_tree_noted, prefix_listed_noted, Inside, Shut, lambda_noted, takes_encodings, is_of_none, made_inside, made_noted, listing_noted, listed_noted, meaning_noted}
-use Rattle.cpp_term.proofs.StatesNoted.{Alongside, IsOutside, Settled, own_place, Alike, alike_bind, Same, Moves, moves_none, moves_then, one_moves, type_moves, unqualified_moves, prefix_moves, Comes, AreNoted, get_noted, module_noted, substituted_noted, both_named_noted, wide_numbered_noted, held_moves, more_moves, parameter_noted}
+use Rattle.cpp_term.proofs.StatesNoted.{Alongside, IsOutside, Settled, own_place, Alike, alike_bind, Same, Moves, moves_none, noting_moves, moves_then, one_moves, type_moves, unqualified_moves, prefix_moves, Comes, AreNoted, get_noted, module_noted, substituted_noted, both_named_noted, wide_numbered_noted, held_moves, more_moves, parameter_noted}
+use Rattle.cpp_term.proofs.AwaitedNoted.{awaiting_noted}
 
 -- what is inside has the same scope, or none
 abbrev pub InScope : Around → Around → Type 0
@@ -522,6 +523,13 @@ wide_close_noted Production.Inheriting byte around place began first vs x y h lo
   value = meaning_noted true Production.Inheriting byte around vs tt;
   moves = subst (λ v. Moves true around x y (counted_base around (part vs 1) x) (wide_.counted_base (noted_around true around) v y)) (sym (part_noted (around_place true around) vs 1)) (counted_moves around (part vs 1) x y same.packs);
 }
+wide_close_noted Production.Holder byte around place began first vs x y h loud plain settled same e =
+    let s = around_place true around in
+    record {
+      value = part_noted s vs 1;
+      moves = noting_moves true around (awaiting around (tree_of (part vs 1)) x.counting) (wide_.awaiting (noted_around true around) (value_.tree_of (value_.part (noted_values s vs) 1)) y.counting) x y
+          (ap (λ t. wide_.awaiting (noted_around true around) t y.counting) (tree_part s vs 1) ∙ awaiting_noted true around s (tree_of (part vs 1)) y.counting ∙ ap (awaiting around (tree_of (part vs 1))) same.packs.1) same;
+    }
 wide_close_noted Production.ValueOf byte around place began first vs x y h loud plain settled same e = absurd (true≢false plain)
 wide_close_noted Production.OfConcept byte around place began first vs x y h loud plain settled same e = absurd (true≢false plain)
 wide_close_noted Production.TemplateOf byte around place began first vs x y h loud plain settled same e = absurd (true≢false loud)

@@ -230,9 +230,9 @@ module _ (way : Way) (keeps : KeepsClosed way) (sees : Sees way) where
       let opening_ = implied (nat_eq ENCODING 4) (opens p) (taken_passes (λ n q. not (nat_eq n 4) || opens q) encodings_open ENCODING rule c) refl in
       let byte = byte_of taken in
       let from = at + length taken in
-      let begun = behind_bind (way.opening (production_at rule.number) parts at state)
+      let begun = behind_bind (way.opening (production_at rule.number) around parts at state)
       (λ begun. unfold_forest (reading_by way) whole [] from parts begun >>= λ inner. way.close (production_at rule.number) byte around at state inner.value inner.state >>= alone) r e in
-      let kept = keeps.begins (production_at rule.number) parts at state begun.value begun.is in
+      let kept = keeps.begins (production_at rule.number) around parts at state begun.value begun.is in
       let inner = behind_bind (unfold_forest (reading_by way) whole [] from parts begun.value) (λ inner. way.close (production_at rule.number) byte around at state inner.value inner.state >>= alone) r begun.next in
       let ended = behind_bind (way.close (production_at rule.number) byte around at state inner.value.value inner.value.state) alone r inner.next in
       let one = ended.value in

@@ -1,5 +1,5 @@
 -- The two readings of C++ over trees with arguments, as one, and what makes one of them the annotated form of one without.
-use Rattle.std.proofs.Common.{◌≡◌, refl, ℕ, ◌-◌, ◌^◌, List, [], ◌∷◌, Bool, true, false, ◌&&◌, nat_lt, Result, Ok, Err}
+use Rattle.std.proofs.Common.{◌≡◌, refl, ap, ◌∙◌, ℕ, ◌-◌, ◌^◌, List, [], ◌∷◌, Bool, true, false, ◌&&◌, nat_lt, Result, Ok, Err}
 use Rattle.std.proofs.lemmas.Bool.{true≢false}
 use Rattle.sym_core.specs.declared.refusal.Refusal.{Refusal}
 use Rattle.sym_shape.specs.Tree.{Forest}
@@ -23,14 +23,15 @@ use Rattle.cpp_term.specs.Unfolding.{number_tested, opening, behind, close}
 use Rattle.cpp_term.specs.Rescoping.{is_passed_over, passed_over, name_around, types_around, name_if, opening_wide, between_wide, close_wide}
 use Rattle.cpp_term.specs.Annotated.{noted_around}
 use Rattle.cpp_term.proofs.MeaningNoted.{Shut}
-use Rattle.cpp_term.proofs.StatesNoted.{Alongside, Settled, Alike, Same, Moves, moves_none, expecting_moves}
+use Rattle.cpp_term.proofs.AwaitedNoted.{item_noted}
+use Rattle.cpp_term.proofs.StatesNoted.{Alongside, Settled, Alike, Same, Moves, moves_none, noting_moves}
 use Rattle.cpp_term.proofs.Passing.{Sees, abi_sees, wide_sees}
 use Rattle.cpp_term.proofs.BetweenNoted.{MayGo, parts_place}
 use Rattle.cpp_term.proofs.DeclaredNoted.{in_first, noted_parts, Onward, Yield, abi_goes, abi_closes, wide_goes, wide_closes}
 
 pub record NotedWay : Type 0 where
   pub passes : Around → Bool
-  pub opening : Production → Forest → (place : ℕ) → State → Result State Refusal
+  pub opening : Production → Around → Forest → (place : ℕ) → State → Result State Refusal
   pub between : Production → Around → (place : ℕ) → List Value → State → Continuation
   pub close : Production → (byte : ℕ) → Around → (place : ℕ) → (began : State) → List Value → State → Result (Found Value State) Refusal
 
@@ -38,13 +39,13 @@ unfoldable pub reading_noted_by : NotedWay → Reading Value State Around
 reading_noted_by v = record {
   rowless = nothing_there ∷ [];
   token = λ place t state. Ok (found (text t.own) state);
-  begin = λ rule parts. v.opening (production_at rule.rule.number) parts rule.place rule.before;
+  begin = λ rule parts. v.opening (production_at rule.rule.number) rule.context parts rule.place rule.before;
   between = λ rule known state. v.between (production_at rule.rule.number) rule.context rule.place known state;
   close = λ rule known state. v.close (production_at rule.rule.number) (byte_of rule.taken) rule.context rule.place rule.before known state;
 }
 
 unfoldable pub abi_noted : NotedWay
-abi_noted = record { passes = λ around. false; opening = opening; between = between; close = close }
+abi_noted = record { passes = λ around. false; opening = λ p around parts place state. opening p parts place state; between = between; close = close }
 
 unfoldable pub wide_noted : NotedWay
 wide_noted = record { passes = is_passed_over; opening = opening_wide; between = between_wide; close = close_wide }
@@ -71,7 +72,7 @@ pub record IsNotedBy (w : Way) (v : NotedWay) : Type 0 where
   pub plain : IsPlainNoted v
   pub sees : Sees w
   pub passes : (around : leaf_.Around) → v.passes (noted_around w.own around) ≡ w.passes around
-  pub begins : (production : Production) (f : Forest) (place : ℕ) (around : leaf_.Around) (x : leaf_.State) (y : State) → Same w.own around x y → Alike (Moves w.own around x y) (w.opening production f place x) (v.opening production f place y)
+  pub begins : (production : Production) (f : Forest) (place : ℕ) (around : leaf_.Around) (x : leaf_.State) (y : State) → Same w.own around x y → Alike (Moves w.own around x y) (w.opening production around f place x) (v.opening production (noted_around w.own around) f place y)
   pub goes : (production : Production) (around : leaf_.Around) (place : ℕ) (vs : List leaf_.Value) (x : leaf_.State) (y : State) → StaysInside production → MayGo production vs → Settled around → Same w.own around x y →
       Alike (Onward w.own production around x y) (w.between production around place vs x) (v.between production (noted_around w.own around) place (noted_parts production w.own (parts_place w.own production around) vs) y)
   pub comes : (production : Production) (byte : ℕ) (around : leaf_.Around) (place : ℕ) (began : leaf_.State) (first : State) (vs : List leaf_.Value) (x : leaf_.State) (y : State) → Shut w.own production around vs →
@@ -93,10 +94,15 @@ opening_moves own Production.Unnamed f place around x y packs = tested (nat_lt (
     tested false = refl
 opening_moves own _ f place around x y packs = moves_none own around x x y y refl refl packs
 
-wide_opening_moves : (p : Production) (f : Forest) (place : ℕ) (around : leaf_.Around) (x : leaf_.State) (y : State) → Same true around x y → Alike (Moves true around x y) (leaf_wide.opening_wide p f place x) (opening_wide p f place y)
+wide_opening_moves : (p : Production) (f : Forest) (place : ℕ) (around : leaf_.Around) (x : leaf_.State) (y : State) → Same true around x y →
+    Alike (Moves true around x y) (leaf_wide.opening_wide p around f place x) (opening_wide p (noted_around true around) f place y)
 unfolding leaf_wide.opening_wide opening_wide
-wide_opening_moves Production.NestTemplate f place around x y same = expecting_moves true around (leaf_.prefix_at (place - 1)) x y same
-wide_opening_moves Production.QualifiedPlain f place around x y same = expecting_moves true around (leaf_.qualified_at place) x y same
+wide_opening_moves Production.NestTemplate f place around x y same = noting_moves true around _ _ x y (ap (leaf_wide.expecting (leaf_.prefix_at (place - 1))) same.packs.1) same
+wide_opening_moves Production.QualifiedPlain f place around x y same = noting_moves true around _ _ x y (ap (leaf_wide.expecting (leaf_.qualified_at place)) same.packs.1) same
+wide_opening_moves Production.Items f place around x y same =
+    noting_moves true around _ _ x y (item_noted true around place y.counting ∙ ap (leaf_wide.expecting_item around place) same.packs.1) same
+wide_opening_moves Production.NestNext f place around x y same = noting_moves true around _ _ x y (ap leaf_wide.calling same.packs.1) same
+wide_opening_moves Production.NestEnd f place around x y same = noting_moves true around _ _ x y (ap leaf_wide.ending same.packs.1) same
 wide_opening_moves p f place around x y same = opening_moves true p f place around x y same.packs
 
 pub abi_is_noted : IsNotedBy abi_way abi_noted

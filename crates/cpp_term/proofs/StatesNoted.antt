@@ -10,10 +10,10 @@ use Rattle.sym_link.specs.Unfold.{found}
 use Rattle.cpp_grammar.specs.Term.{Term, holder, parameter, function_type, operation}
 use Rattle.cpp_grammar.specs.Scope.{count, element, is_list, has_pack, is_open, length_if_pack, pack_length, Free, none_free, one_free, several_free, free_in}
 use Rattle.cpp_grammar.specs.Values as leaf_
-use Rattle.cpp_grammar.specs.Values.{Counted, by_all, by_newer, Lists, longer_list, shorter_list, both_lists, no_list, Expected, Counting, prefix_at, qualified_at, Around, prefix_tree, prefix_listed, Value, State, Candidate, tree_of, is_listed}
+use Rattle.cpp_grammar.specs.Values.{Counted, by_all, by_newer, Lists, longer_list, shorter_list, both_lists, no_list, Expected, Counting, Around, prefix_tree, prefix_listed, Value, State, Candidate, tree_of, is_listed}
 use Rattle.cpp_grammar.specs.References.{appended, appended_by, is_function_type, with_type, with_unqualified, with_prefix, with_packs, packs_in, is_module, substituted, parameter_named}
 use Rattle.cpp_grammar.specs.Rescoping as rescoping_
-use Rattle.cpp_grammar.specs.Rescoping.{with_holder, is_before_holder, is_by_newer, is_by_all, is_by_some, is_in_list, named_in, named_by_both, joined, counted_so_far, fits, can_be_named, is_prefix_at, is_qualified_at, left, left_at, with_lists, listed_by, expecting, is_foreign, in_scope, under_scope, with_free, restated, substituted_wide, numbered}
+use Rattle.cpp_grammar.specs.Rescoping.{with_holder, is_before_holder, is_by_newer, is_by_all, is_by_some, is_in_list, named_in, named_by_both, joined, counted_so_far, fits, can_be_named, is_prefix_at, is_qualified_at, has_head, head_at, may_be, left_by, left_at, with_lists, listed_by, noting, is_foreign, in_scope, under_scope, with_free, restated, substituted_wide, numbered}
 use Rattle.cpp_term.specs.Term as term_
 use Rattle.cpp_term.specs.Scope as scope_
 use Rattle.cpp_term.specs.Values as value_
@@ -25,6 +25,7 @@ use Rattle.cpp_term.specs.Annotated.{Place, nowhere, around_place, place_in, in_
 use Rattle.cpp_term.proofs.Reargued.{given_same, given_element}
 use Rattle.cpp_term.proofs.Notes.{both, choose, count_noted, element_noted, pack_noted, open_noted, closed_noted, length_noted, packs_noted, NameThis, renoted, free_noted}
 use Rattle.cpp_term.proofs.SeenNoted.{is_list_noted}
+use Rattle.cpp_term.proofs.AwaitedNoted.{head_noted}
 use Rattle.cpp_term.proofs.MeaningNoted.{three, tree_noted, listed_noted, prefix_tree_noted, prefix_listed_noted}
 
 -- ## Results
@@ -451,14 +452,27 @@ can_noted own around expected place (Some c) (Some d) n =
 can_noted own around expected place None (Some d) n = absurd n
 can_noted own around expected place (Some c) None n = absurd n
 
+has_noted : (own : Bool) (around : Around) (expected : Expected) (place : ℕ) (o : Option Candidate) (p : Option value_.Candidate) → AreNoted own around o p → wide_.has_head expected place p ≡ has_head expected place o
+unfolding has_head wide_.has_head
+has_noted own around expected place None None n = refl
+has_noted own around expected place (Some c) (Some d) n = ap (λ t. may_be (head_at place expected) (wide_.head_of t)) n.like ∙ ap (may_be (head_at place expected)) (head_noted n.by c.tree)
+has_noted own around expected place None (Some d) n = absurd n
+has_noted own around expected place (Some c) None n = absurd n
+
 left_noted : (own : Bool) (around : Around) (place number : ℕ) (x : State) (y : value_.State) → Same own around x y → wide_.left_at place number y ≡ left_at place number x
 unfolding left_at wide_.left_at
 left_noted own around place number x y same =
     let can : (is_shorter : Bool) → wide_.can_be_named y.counting.expected place (wide_.named_in is_shorter y.candidates number) ≡ can_be_named x.counting.expected place (named_in is_shorter x.candidates number) =
     λ is_shorter. ap (λ g. wide_.can_be_named g.expected place (wide_.named_in is_shorter y.candidates number)) same.packs.1
     ∙ can_noted own around x.counting.expected place (named_in is_shorter x.candidates number) (wide_.named_in is_shorter y.candidates number) (named_in_noted is_shorter own around x.candidates y.candidates number same.all) in
+    let has : (is_shorter : Bool) → wide_.has_head y.counting.expected place (wide_.named_in is_shorter y.candidates number) ≡ has_head x.counting.expected place (named_in is_shorter x.candidates number) =
+    λ is_shorter. ap (λ g. wide_.has_head g.expected place (wide_.named_in is_shorter y.candidates number)) same.packs.1
+    ∙ has_noted own around x.counting.expected place (named_in is_shorter x.candidates number) (wide_.named_in is_shorter y.candidates number) (named_in_noted is_shorter own around x.candidates y.candidates number same.all) in
+    let longer : Bool = can_be_named x.counting.expected place (named_in false x.candidates number) in
+    let shorter : Bool = can_be_named x.counting.expected place (named_in true x.candidates number) in
     both (λ k l. elim (is_by_some k) [ true ↦ no_list | false ↦ l ]) (counted_noted own around by_all x.candidates y.candidates same.all)
-    (three (λ g a b. left g.lists a b) same.packs.1 (can false) (can true))
+    (three (λ g a b. left_by g.lists a b (wide_.has_head y.counting.expected place (wide_.named_in false y.candidates number)) (wide_.has_head y.counting.expected place (wide_.named_in true y.candidates number))) same.packs.1 (can false) (can true)
+    ∙ both (λ a b. left_by x.counting.lists longer shorter a b) (has false) (has true))
 
 listed_by_noted : (lists : Lists) (around : Around) (place number : ℕ) (x : State) (y : value_.State) → Settled around → Same true around x y →
     Alike (Comes true around x y) (listed_by lists around place number x) (wide_.listed_by lists (noted_around true around) place number y)
@@ -498,10 +512,9 @@ wide_numbered_noted around place number x y settled same =
         same_comes (Ok a) (Err f) r = absurd r
         same_comes (Err e) (Ok b) r = absurd r
 
-pub expecting_moves : (own : Bool) (around : Around) (expected : Expected) (x : State) (y : value_.State) → Same own around x y → Moves own around x y (expecting expected x) (wide_.expecting expected y)
-unfolding expecting wide_.expecting
-expecting_moves own around expected x y same =
+pub noting_moves : (own : Bool) (around : Around) (c d : Counting) (x : State) (y : value_.State) → d ≡ c → Same own around x y → Moves own around x y (noting c x) (wide_.noting d y)
+unfolding noting wide_.noting
+noting_moves own around c d x y is same =
     choose (Moves own around x y) (is_by_all (counted_so_far by_all x.candidates)) (is_by_all (wide_.counted_so_far by_all y.candidates)) _ _ _ _ (ap is_by_all (counted_noted own around by_all x.candidates y.candidates same.all))
     (λ h. moves_none own around x x y y refl refl same.packs)
-    (λ h. moves_none own around x (record x { counting = record x.counting { expected = expected } }) y (record y { counting = record y.counting { expected = expected } }) refl refl
-    (same.packs.0, ap {A = Counting} (λ g. record g { expected = expected }) same.packs.1))
+    (λ h. moves_none own around x (record x { counting = c }) y (record y { counting = d }) refl refl (same.packs.0, is))

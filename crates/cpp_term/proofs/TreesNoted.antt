@@ -325,12 +325,12 @@ module _ (way : Way) (keeps : KeepsClosed way) (noted_way : NotedWay) (ways : Is
       let inside_ : StaysInside (production_at rule.number) = subst (λ q. StaysInside q) (sym number) (stays p plain) in
       let symbols = wide_sound.symbols k tree.0.byte rule lt tree.0.is_byte tree.0.found in
       let none : has_special (symbols_of rule) ≡ false = ap has_special (ap symbols_of is ∙ its_symbols p) ∙ no_special p plain in
-      alike_bind (Moves way.own around state other) (Many way.own result around state other) (way.opening (production_at rule.number) parts at state) (noted_way.opening (production_at rule.number) parts at other)
+      alike_bind (Moves way.own around state other) (Many way.own result around state other) (way.opening (production_at rule.number) around parts at state) (noted_way.opening (production_at rule.number) (noted_around way.own around) parts at other)
       (λ begun. unfold_forest (reading_by way) whole [] from parts begun >>= λ inner. way.close (production_at rule.number) (byte_of taken) around at state inner.value inner.state >>= alone)
       (λ begun. unfold_forest (reading_noted_by noted_way) noted [] from parts begun >>= λ inner. noted_way.close (production_at rule.number) (byte_of taken) (noted_around way.own around) at other inner.value inner.state >>= alone)
       (ways.begins (production_at rule.number) parts at around state other same)
       (λ x y x-is begun.
-      let old1 = subst (λ cs. AllOld way.own around at cs) (sym (keeps.begins (production_at rule.number) parts at state x x-is)) old in
+      let old1 = subst (λ cs. AllOld way.own around at cs) (sym (keeps.begins (production_at rule.number) around parts at state x x-is)) old in
       let same1 = same_moves way.own around state x other y same begun in
       alike_bind (Parts way.own (production_at rule.number) around x y) (Many way.own result around state other) (unfold_forest (reading_by way) whole [] from parts x) (unfold_forest (reading_noted_by noted_way) noted [] from parts y)
       (λ inner. way.close (production_at rule.number) (byte_of taken) around at state inner.value inner.state >>= alone)
@@ -553,12 +553,12 @@ module _ (way : Way) (keeps : KeepsClosed way) (noted_way : NotedWay) (ways : Is
       let byte = byte_of taken in
       let number : production_at rule.number ≡ p = ap (λ x. production_at x.number) is ∙ at_number p in
       let trees = subst (λ xs. AreTrees wide xs parts) (ap symbols_of is ∙ its_symbols p) tree.1 in
-      alike_bind (Moves way.own around state other) (Many way.own (around_place way.own around) around state other) (way.opening (production_at rule.number) parts at state) (noted_way.opening (production_at rule.number) parts at other)
+      alike_bind (Moves way.own around state other) (Many way.own (around_place way.own around) around state other) (way.opening (production_at rule.number) around parts at state) (noted_way.opening (production_at rule.number) (noted_around way.own around) parts at other)
       (λ begun. unfold_forest (reading_by way) whole [] from parts begun >>= λ inner. way.close (production_at rule.number) byte around at state inner.value inner.state >>= alone)
       (λ begun. unfold_forest (reading_noted_by noted_way) noted [] from parts begun >>= λ inner. noted_way.close (production_at rule.number) byte (noted_around way.own around) at other inner.value inner.state >>= alone)
       (ways.begins (production_at rule.number) parts at around state other same)
       (λ x y x-is begun.
-      let old1 = subst (λ cs. AllOld way.own around at cs) (sym (keeps.begins (production_at rule.number) parts at state x x-is)) old in
+      let old1 = subst (λ cs. AllOld way.own around at cs) (sym (keeps.begins (production_at rule.number) around parts at state x x-is)) old in
       let same1 = same_moves way.own around state x other y same begun in
       alike_bind (Inner way noted_way p around at x y) (Many way.own (around_place way.own around) around state other) (unfold_forest (reading_by way) whole [] from parts x) (unfold_forest (reading_noted_by noted_way) noted [] from parts y)
       (λ inner. way.close (production_at rule.number) byte around at state inner.value inner.state >>= alone)

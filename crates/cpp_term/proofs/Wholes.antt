@@ -61,7 +61,7 @@ module _ (noted_way : NotedWay) (apart : IsPlainNoted noted_way) where
       let c = chosen_rule SYMBOL rule taken (known 0 (lit≤ tt)) is.0 in
       let only : c.production ≡ Production.Symbol = symbol_alone c.byte c.production (sym (ap (λ k. wide_choose k c.byte) (first_kind c.kind c.number)) ∙ c.chosen) in
       let number : production_at rule.number ≡ Production.Symbol = ap (λ x. production_at x.number) c.is ∙ at_number c.production ∙ only in
-      let begun = behind_bind (noted_way.opening (production_at rule.number) parts 0 first_state)
+      let begun = behind_bind (noted_way.opening (production_at rule.number) first_around parts 0 first_state)
       (λ begun. unfold_forest (reading_noted_by noted_way) whole [] (0 + length taken) parts begun >>= λ inner. noted_way.close (production_at rule.number) byte first_around 0 first_state inner.value inner.state >>= alone) r e in
       let inner = behind_bind (unfold_forest (reading_noted_by noted_way) whole [] (0 + length taken) parts begun.value)
       (λ inner. noted_way.close (production_at rule.number) byte first_around 0 first_state inner.value inner.state >>= alone) r begun.next in

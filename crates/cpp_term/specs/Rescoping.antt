@@ -11,11 +11,11 @@ use Rattle.sym_shape.specs.Tree.{Tree, Forest}
 use Rattle.sym_link.specs.Reading.{Found, Reading, ◌>>=◌}
 use Rattle.sym_link.specs.Unfold.{found, unfold_tree}
 use Rattle.cpp_grammar.specs.declared.production.Production.{Production}
-use Rattle.cpp_term.specs.Term.{Term, alone, in_std, within, instance, holder, lvalue, rvalue, parameter, lambda, generic_lambda, declaring, absent}
+use Rattle.cpp_term.specs.Term.{Term, alone, in_std, within, instance, holder, pointer, lvalue, rvalue, array, member_pointer, function_type, qualified, expansion, parameter, lambda, generic_lambda, declaring, nil, list, absent}
 use Rattle.cpp_term.specs.Scope.{count, element, is_list, has_pack, is_open, free_in, pack_length}
 use Rattle.cpp_grammar.specs.Scope.{Free, none_free, one_free, several_free}
 use Rattle.cpp_term.specs.Values.{Candidate, outermost, State, Around, prefix_tree, prefix_listed, Value, nothing_there, tree, piece, pair, text, tree_of, is_listed, text_of, part}
-use Rattle.cpp_grammar.specs.Values.{Counted, by_all, by_newer, by_gcc, by_clang, by_some, Lists, longer_list, shorter_list, no_list, Expected, prefix_at, qualified_at, in_constraint, at_literal, is_in_constraint, is_at_literal}
+use Rattle.cpp_grammar.specs.Values.{Counted, by_all, by_newer, by_gcc, by_clang, by_some, Lists, longer_list, shorter_list, no_list, Expected, prefix_at, qualified_at, item_at, Awaited, nothing_awaited, Counting, in_constraint, at_literal, is_in_constraint, is_at_literal}
 use Rattle.cpp_term.specs.References.{appended, appended_by, is_module, with_packs, substituted}
 use Rattle.cpp_term.specs.Between.{Continuation, next, in_name, in_types, inside, listed_so_far, parameter_so_far, argument_so_far, index_of, between}
 use Rattle.cpp_term.specs.Meaning.{meaning}
@@ -23,7 +23,7 @@ use Rattle.cpp_term.specs.Unfolding.{opening, close, first_around, first_state, 
 use Rattle.cpp_grammar.specs.Unfolding.{production_at, byte_of}
 use Rattle.cpp_term.specs.Items.{auto}
 use Rattle.cpp_term.specs.Reargued.{reargued}
-use Rattle.cpp_grammar.specs.Rescoping.{generic_number, is_by_all, is_by_newer, joined, is_by_some, is_prefix_at, is_qualified_at, left}
+use Rattle.cpp_grammar.specs.Rescoping.{generic_number, is_by_all, is_by_newer, joined, is_by_some, is_prefix_at, is_qualified_at, head_at, may_be, behind_first, behind_another, calling, ending, expecting, left_by}
 
 -- ## Parameters
 
@@ -171,6 +171,30 @@ unfoldable pub counted_so_far : (before : Counted) → List Candidate → Counte
 counted_so_far before [] = before
 counted_so_far before (c ∷ cs) = counted_so_far (joined before c.counted) cs
 
+-- ## Heads
+
+-- The head of a tree is a number that tells the outermost forms of types apart, and lambdas from other names. It is 0 for all other
+-- forms, and for a template with arguments, whose template alone may be named.
+unfoldable pub head_of_name : (last : Term) → ℕ
+head_of_name (lambda parameters number) = 2
+head_of_name (generic_lambda parameters number) = 2
+head_of_name _ = 1
+
+unfoldable pub head_of : Term → ℕ
+head_of (alone last) = head_of_name last
+head_of (in_std last) = head_of_name last
+head_of (within prefix last) = head_of_name last
+head_of (parameter number argument) = 3
+head_of (pointer t) = 4
+head_of (lvalue t) = 5
+head_of (rvalue t) = 6
+head_of (array digits t) = 7
+head_of (member_pointer class t) = 8
+head_of (function_type c_linkage noexcept ref returned parameters) = 9
+head_of (qualified q t) = 10
+head_of (expansion pattern) = 11
+head_of _ = 0
+
 -- ## What may be named by its form
 
 -- A name with its M is no type. No compiler writes qualifiers before a reference. Nothing names a constructor.
@@ -186,6 +210,61 @@ unfoldable pub can_be_named : Expected → (place : ℕ) → Option Candidate �
 can_be_named expected place None = false
 can_be_named expected place (Some c) = fits (is_prefix_at place expected) (is_qualified_at place expected) c.tree
 
+-- and whether it may have the head that is expected there
+unfoldable pub has_head : Expected → (place : ℕ) → Option Candidate → Bool
+has_head expected place None = false
+has_head expected place (Some c) = may_be (head_at place expected) (head_of c.tree)
+
+-- ## The functions of a lambda
+
+-- The initializer of a variable or of a data member is where a lambda has an M before it. What is named within the lambda is one of its
+-- functions. Where a type of that function is an S alone, the function is the lambda's operator(), or what calls it, and has the types of
+-- the lambda's signature, in their order; after a return type, if the lambda has parameters of its own.
+
+unfoldable pub first_head : (types : Term) → ℕ
+first_head (list t rest) = head_of t
+first_head _ = 0
+
+unfoldable pub rest_of : (types : Term) → Term
+rest_of (list t rest) = rest
+rest_of _ = nil
+
+-- the heads of the first four of these types, of the encoding that begins here
+unfoldable pub heads_of : (place : ℕ) → (types : Term) → Awaited
+heads_of place types = record {
+  encoding = place;
+  is_called = false;
+  first = first_head types;
+  second = first_head (rest_of types);
+  third = first_head (rest_of (rest_of types));
+  fourth = first_head (rest_of (rest_of (rest_of types)));
+}
+
+-- the types of a signature, without what it declares
+unfoldable pub types_in : (signature : Term) → Term
+types_in (declaring heads types) = types
+types_in types = types
+
+unfoldable pub awaited_by_piece : (place : ℕ) → Term → Awaited
+awaited_by_piece place (lambda signature number) = heads_of place signature
+awaited_by_piece place (generic_lambda signature number) = behind_another (heads_of place (types_in signature))
+awaited_by_piece place _ = nothing_awaited
+
+-- what is awaited of this name, if it's that of a lambda
+unfoldable pub awaited_by : (place : ℕ) → (name : Term) → Awaited
+awaited_by place (within prefix last) = awaited_by_piece place last
+awaited_by place _ = nothing_awaited
+
+unfoldable pub awaiting : Around → (name : Term) → Counting → Counting
+awaiting around name counting = record counting { awaited = awaited_by around.encoding name }
+
+-- Where a type of that function begins, it's expected that it has the head that is awaited first.
+unfoldable pub expecting_item : Around → (place : ℕ) → Counting → Counting
+expecting_item around place counting = elim ((around.in_lambda || not counting.awaited.is_called) || not (nat_eq counting.awaited.encoding around.encoding)) [
+  | true ↦ counting
+  | false ↦ record counting { expected = item_at place counting.awaited.first; awaited = behind_first counting.awaited }
+]
+
 -- ## The list that is left
 
 -- the lists that are left by the S at this place with this number, by which the lists name two candidates
@@ -194,7 +273,8 @@ left_at place number state = elim (is_by_some (counted_so_far by_all state.candi
   | true ↦ no_list
   | false ↦
       let fits_by : Bool → Bool = λ is_shorter. can_be_named state.counting.expected place (named_in is_shorter state.candidates number) in
-      left state.counting.lists (fits_by false) (fits_by true)
+      let has_by : Bool → Bool = λ is_shorter. has_head state.counting.expected place (named_in is_shorter state.candidates number) in
+      left_by state.counting.lists (fits_by false) (fits_by true) (has_by false) (has_by true)
 ]
 
 unfoldable pub with_lists : Lists → State → State
@@ -284,18 +364,22 @@ module_so_far around place number state = elim (module_named number state) [
 
 -- ## The unfolding
 
--- Where all compilers count alike so far, nothing need be expected.
-unfoldable pub expecting : Expected → State → State
-expecting expected state = elim (is_by_all (counted_so_far by_all state.candidates)) [
+-- Where all compilers count alike so far, nothing need be noted.
+unfoldable pub noting : Counting → State → State
+noting counting state = elim (is_by_all (counted_so_far by_all state.candidates)) [
   | true ↦ state
-  | false ↦ record state { counting = record state.counting { expected = expected } }
+  | false ↦ record state { counting = counting }
 ]
 
--- Where a production begins: the S that a nested name begins with is the byte before, and a type under qualifiers begins here.
-unfoldable pub opening_wide : Production → Forest → (place : ℕ) → State → Result State Refusal
-opening_wide Production.NestTemplate parts place state = Ok (expecting (prefix_at (place - 1)) state)
-opening_wide Production.QualifiedPlain parts place state = Ok (expecting (qualified_at place) state)
-opening_wide production parts place state = opening production parts place state
+-- Where a production begins: the S that a nested name begins with is the byte before, and a type under qualifiers begins here. So does
+-- a type of an encoding or of a signature, and a piece of a name after another; a nested name ends here.
+unfoldable pub opening_wide : Production → Around → Forest → (place : ℕ) → State → Result State Refusal
+opening_wide Production.NestTemplate around parts place state = Ok (noting (expecting (prefix_at (place - 1)) state.counting) state)
+opening_wide Production.QualifiedPlain around parts place state = Ok (noting (expecting (qualified_at place) state.counting) state)
+opening_wide Production.Items around parts place state = Ok (noting (expecting_item around place state.counting) state)
+opening_wide Production.NestNext around parts place state = Ok (noting (calling state.counting) state)
+opening_wide Production.NestEnd around parts place state = Ok (noting (ending state.counting) state)
+opening_wide production around parts place state = opening production parts place state
 
 unfoldable pub between_wide : Production → Around → (place : ℕ) → List Value → State → Continuation
 between_wide Production.Parameter around place (v ∷ []) state = parameter_here around place (index_of v) [] state
@@ -317,6 +401,7 @@ close_wide Production.Substitution byte around place began vs state =
     numbered around (place - 1) (counted_value Seq36 (text_of (part vs 0))) state
 close_wide Production.Lambda byte around place began vs state = Ok (found (as_generic_lambda (meaning Production.Lambda byte around vs)) state)
 close_wide Production.Inheriting byte around place began vs state = Ok (found (meaning Production.Inheriting byte around vs) (counted_base around (part vs 1) state))
+close_wide Production.Holder byte around place began vs state = Ok (found (meaning Production.Holder byte around vs) (noting (awaiting around (tree_of (part vs 1)) state.counting) state))
 close_wide Production.Encoding byte around place began vs state =
     Ok (found (name_if (is_passed_over around && is_open (tree_of (part vs 0))) (part vs 0) (meaning Production.Encoding byte around vs)) state)
 close_wide Production.EncodingLiteral byte around place began vs state =
@@ -328,7 +413,7 @@ unfoldable pub cpp_wide : Reading Value State Around
 cpp_wide = record {
   rowless = nothing_there ∷ [];
   token = λ place t state. Ok (found (text t.own) state);
-  begin = λ rule parts. opening_wide (production_at rule.rule.number) parts rule.place rule.before;
+  begin = λ rule parts. opening_wide (production_at rule.rule.number) rule.context parts rule.place rule.before;
   between = λ rule known state. between_wide (production_at rule.rule.number) rule.context rule.place known state;
   close = λ rule known state. close_wide (production_at rule.rule.number) (byte_of rule.taken) rule.context rule.place rule.before known state;
 }

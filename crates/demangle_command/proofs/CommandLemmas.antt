@@ -1,4 +1,4 @@
--- What a command line's parts did, as what the command line did.
+-- What a command line did, by what its parts did.
 use Rattle.std.proofs.Common.{◌≡◌, ◌≢◌, ◌⊎◌, ℕ, Bool, true, false, not, ◌&&◌, List, [], ◌∷◌, ◌++◌, Option, Result, Ok, Err, codes, refl, sym, ap, ap₂, subst, inl, inr, ◌∙◌}
 use Rattle.std.specs.Prelude.{IfOk, OnErr, None, if◌then◌else◌}
 use Rattle.std.specs.Fmt.{decimal}
@@ -32,7 +32,7 @@ use Rattle.sym_short.specs.Rewriting.{answers_as, rewritten_answers, short_answe
 use Rattle.sym_short.specs.declared.texts.Texts.{Texts}
 use Rattle.sym_short.specs.declared.texts.Texts.TheVariants as texts
 
--- ## Words that the parser doesn't take
+-- ## Words that the parser doesn't accept
 
 pub no-request : (kind : ErrorKind) → kind ≢ DisplayHelp → kind ≢ DisplayVersion → false ≡ is_request kind
 no-request DisplayHelp help version = absurd (help refl)
@@ -51,7 +51,7 @@ told-wrong false out err err' (Ok status) wrong is says = Took-said out err err'
 told-wrong false out err err' (Err fault) wrong is says = tt
 told-wrong true out err err' result wrong is says = cc
 
--- what was written, where the error isn't want of memory
+-- what was written up to a fault, by the kind of the parser's error
 abbrev pub Untold : ErrorKind → List ℕ → List ℕ → Type 0
 Untold kind lines said = (kind ≢ OutOfMemory) ⊎ ((lines ≡ []) × (said ≡ []))
 
@@ -74,9 +74,9 @@ told-stops words terminal kind coming out out' err err' (Ok status) fails told =
 told-stops words terminal kind coming out out' err err' (Err fault) fails told =
     inr (refl, Took-as out out' err err' (Untold kind) (λ lines said. (faults_in words ≢ []) ⊎ ((lines ≡ []) × (said ≡ []))) told (λ lines said held. turned words kind lines said fails held))
 
--- ## Words that it takes
+-- ## Words that the parser accepts
 
--- a style that isn't one
+-- a style, spelling or colouring that doesn't exist
 pub refused-ends : (rows : List Row) (terminal : Bool) (coming out err err' : Option (List ℕ)) (result : Result ℕ FilterFault) → AreOptions rows terminal None → IfOk result (λ status. status ≡ 2) → Says err err'
     → IfOk result (EndsOf rows terminal coming coming out out err err')
 refused-ends rows terminal coming out err err' (Ok status) refused is says = inl (refl, Took-said out err err' (IsEndedOf rows terminal status) says (λ said. inr (is, refl, refused)))
@@ -85,7 +85,7 @@ refused-ends rows terminal coming out err err' (Err fault) refused is says = tt
 pub refused-stops : (rows : List Row) (terminal : Bool) (coming out err err' : Option (List ℕ)) (result : Result ℕ FilterFault) → Says err err' → OnErr result (StopsOf rows terminal coming coming out out err err')
 refused-stops rows terminal coming out err err' result says = OnErr-anyway result _ (inl (refl, Took-said out err err' (IsStoppedOf rows terminal) says (λ said. inr refl)))
 
--- ## What the options ask
+-- ## What the options request
 
 module _ (style : Style) (limit : ℕ) (detail : Detail) (options : Options) (s : style ≡ options.style) (l : limit ≡ options.limit) (d : detail ≡ options.detail) where
   pub styled-are : styled_answer style limit detail ≡ styled_answer options.style options.limit options.detail
@@ -97,7 +97,7 @@ module _ (style : Style) (limit : ℕ) (detail : Detail) (options : Options) (s 
   pub whole-are : options.texts ≡ texts.Whole → styled_answer style limit detail ≡ unspelled_of options
   whole-are is = styled-are ∙ ap (λ (t : Texts). answers_as t (reads_paths options.style) (styled_answer options.style options.limit options.detail)) (sym is)
 
-  -- short ones
+  -- short texts
   pub short-are : (keeps_inline paths : Bool) → paths ≡ reads_paths options.style → options.texts ≡ texts.Short keeps_inline
       → short_answers keeps_inline paths (styled_answer style limit detail) ≡ unspelled_of options
   short-are keeps_inline paths reads is =
@@ -105,11 +105,11 @@ module _ (style : Style) (limit : ℕ) (detail : Detail) (options : Options) (s 
       ∙ ap (λ (p : Bool). short_answers keeps_inline p (styled_answer options.style options.limit options.detail)) reads
       ∙ ap (λ (t : Texts). answers_as t (reads_paths options.style) (styled_answer options.style options.limit options.detail)) (sym is)
 
--- texts as they are
+-- texts in the plain spelling
 pub plain-are : (answers : Answering) (options : Options) → answers ≡ unspelled_of options → options.spelling ≡ spelling.Plain → answers ≡ unescaped_of options
 plain-are answers options are is = are ∙ ap (λ (s : Spelling). spelled_answers (is_gnu s) (reads_paths options.style) (unspelled_of options)) (sym is)
 
--- and as GNU's demangler spells them
+-- texts as GNU's demangler spells them
 pub gnu-are : (answers : Answering) (options : Options) → answers ≡ unspelled_of options → (paths : Bool) → paths ≡ reads_paths options.style → options.spelling ≡ spelling.Gnu
     → rewritten_answers gnu_text paths answers ≡ unescaped_of options
 gnu-are answers options are paths reads is =
@@ -117,7 +117,7 @@ gnu-are answers options are paths reads is =
     ∙ ap (λ (p : Bool). rewritten_answers gnu_text p (unspelled_of options)) reads
     ∙ ap (λ (s : Spelling). spelled_answers (is_gnu s) (reads_paths options.style) (unspelled_of options)) (sym is)
 
--- ## Their details
+-- ## The details of texts
 
 module _ (style : Style) (limit : ℕ) (detail : Detail) (options : Options) (s : style ≡ options.style) (l : limit ≡ options.limit) (d : detail ≡ options.detail) where
   pub styled-details : styled_details style limit detail ≡ styled_details options.style options.limit options.detail
@@ -125,19 +125,19 @@ module _ (style : Style) (limit : ℕ) (detail : Detail) (options : Options) (s 
       ap (λ (x : Style). styled_details x limit detail) s ∙ ap (λ (x : ℕ). styled_details options.style x detail) l
       ∙ ap (λ (x : Detail). styled_details options.style options.limit x) d
 
-  -- of whole texts
+  -- the details of whole texts
   pub whole-details : options.texts ≡ texts.Whole → styled_details style limit detail ≡ unspelled_details options
   whole-details is = styled-details ∙ ap (λ (t : Texts). details_as t spelling.Plain (styled_details options.style options.limit options.detail)) (sym is)
 
--- of short ones
+-- the details of short texts
 pub short-details : (keeps_inline : Bool) (options : Options) → options.texts ≡ texts.Short keeps_inline → no_details ≡ unspelled_details options
 short-details keeps_inline options is = ap (λ (t : Texts). details_as t spelling.Plain (styled_details options.style options.limit options.detail)) (sym is)
 
--- of texts as they are
+-- the details of texts in the plain spelling
 pub plain-details : (details : Detailing) (options : Options) → details ≡ unspelled_details options → options.spelling ≡ spelling.Plain → details ≡ details_of options
 plain-details details options are is = are ∙ ap (λ (s : Spelling). details_as options.texts s (styled_details options.style options.limit options.detail)) (sym is)
 
--- and as GNU's demangler spells them
+-- no details are known of texts as GNU's demangler spells them
 no-details : (shown : Texts) (details : Detailing) → no_details ≡ details_as shown spelling.Gnu details
 no-details texts.Whole details = refl
 no-details (texts.Short keeps_inline) details = refl
@@ -154,14 +154,14 @@ pub uncolored-are : (answers : Answering) (options : Options) → shows_colors o
 uncolored-are answers options plain are =
     are ∙ sym (ap (λ (b : Bool). if b then colored_answers (details_of options) (unescaped_of options) else unescaped_of options) plain)
 
--- those that are
+-- texts that are coloured
 colored-texts : (shown : Texts) (by : Spelling) (paths : Bool) (details : Detailing) (answers : Answering) → (are_whole shown && not (is_gnu by)) ≡ true
     → colored_answers details answers ≡ colored_answers (details_as shown by details) (spelled_answers (is_gnu by) paths (answers_as shown paths answers))
 colored-texts texts.Whole spelling.Plain paths details answers is = refl
 colored-texts texts.Whole spelling.Gnu paths details answers is = cc
 colored-texts (texts.Short keeps_inline) by paths details answers is = cc
 
--- whole texts that are spelled as they are
+-- only whole texts in the plain spelling are coloured
 of-plain : (colors whole gnu escape json : Bool) → (colors && (whole && (not gnu && (not escape && not json)))) ≡ true → (whole && not gnu) ≡ true
 of-plain true true false escape json is = refl
 of-plain true true true escape json is = is
@@ -276,6 +276,6 @@ summary-line asked tally bytes is made = made ∙ ap (λ (b : Bool). summary_if 
 pub summary-front : (asked : Bool) (tally : Tally) (err : Option (List ℕ)) → PutsFront err err [] (summary_if asked tally)
 summary-front asked tally err = record { gone = []; writes = Appends-none err; begins = (summary_if asked tally, refl) }
 
--- some of it was written
+-- a beginning of the summary was written
 pub summary-said : (asked : Bool) (tally : Tally) (bytes gone : List ℕ) (err err' : Option (List ℕ)) → bytes ≡ summary_if asked tally → Appends err err' gone → BeginsWith bytes gone → PutsFront err err' [] (summary_if asked tally)
 summary-said asked tally bytes gone err err' is writes begins = record { gone = gone; writes = writes; begins = subst (λ (t : List ℕ). BeginsWith t gone) is begins }

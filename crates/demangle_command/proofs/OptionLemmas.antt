@@ -32,7 +32,7 @@ short-more old new letter rule adds is =
 pub short-local : (old new : Arg) (letter : ℕ) → AddsShortAliases old new ((letter, false) ∷ []) → old.global ≡ false → new.global ≡ false
 short-local old new letter adds local = ap (λ (a : Arg). a.global) adds.0 ∙ local
 
--- or with one long name more
+-- an argument with one long name more
 pub alias-more : (old new : Arg) (name : Bor (List ℕ)) (rule : Rule) → AddsAliases old new ((name, false) ∷ []) → rule_of old ≡ rule → rule_of new ≡ record rule { aliases = rule.aliases ++ name.now ∷ [] }
 alias-more old new name rule adds is =
     let names : List (Bor (List ℕ) × Bool) → List Text = map (λ alias. alias.0.now) in
@@ -49,14 +49,14 @@ asked-none text none = subst (λ t. IsAsked t (Some Auto)) none refl
 pub asked-some : (text : Option Text) (name : Text) (asked : Option Style) → Some name ≡ text → IsStyle name asked → IsAsked text asked
 asked-some text name asked some named = subst (λ t. IsAsked t asked) some named
 
--- the spelling, in the same way
+-- the spelling, by the text that the parser found
 pub spelled-none : (text : Option Text) → None ≡ text → IsSpelled text (Some Plain)
 spelled-none text none = subst (λ t. IsSpelled t (Some Plain)) none refl
 
 pub spelled-some : (text : Option Text) (name : Text) (asked : Option Spelling) → Some name ≡ text → IsSpelling name asked → IsSpelled text asked
 spelled-some text name asked some named = subst (λ t. IsSpelled t asked) some named
 
--- and the colouring
+-- the colouring, by the text that the parser found
 pub colored-none : (text : Option Text) → None ≡ text → IsColored text (Some Never)
 colored-none text none = subst (λ t. IsColored t (Some Never)) none refl
 

@@ -13,8 +13,8 @@ is_blank byte = nat_le 9 byte && nat_le byte 13 || byte == 32
 abbrev pub is_quote : ℕ → Bool
 is_quote byte = byte == 39 || byte == 34
 
--- Where reading is: the words so far, what there is of the next, whether it has begun, the quote that is open, and whether a
--- backslash takes the next byte as it is.
+-- The state of reading: the words so far, what was read of the next word, whether that word has begun, the quote that is open, and whether
+-- a backslash takes the next byte as it is.
 pub record Reading : Type 0 where
   pub words : List (List ℕ)
   pub word : List ℕ
@@ -44,18 +44,18 @@ abbrev pub after_unescaped : Option ℕ → Reading → ℕ → Reading
 after_unescaped None reading byte = plain reading byte
 after_unescaped (Some quote) reading byte = quoted quote reading byte
 
--- after one byte more
+-- the state after one byte more
 abbrev pub after_byte : Reading → ℕ → Reading
 after_byte reading byte =
     if reading.escapes then pushed reading byte
     else (if byte == 92 then record reading { is_begun = true; escapes = true } else after_unescaped reading.quote reading byte)
 
--- after a text
+-- the state after a text
 abbrev pub after_text : Reading → List ℕ → Reading
 after_text reading [] = reading
 after_text reading (byte ∷ bytes) = after_text (after_byte reading byte) bytes
 
--- before a text
+-- the state before a text
 abbrev pub start : Reading
 start = record { words = []; word = []; is_begun = false; quote = None; escapes = false }
 
@@ -67,7 +67,7 @@ words_in text = (ended (after_text start text)).words
 abbrev pub words_of : Vec (Vec ℕ Global) Global → List (List ℕ)
 words_of words = map (λ word. word.items) words.items
 
--- where code is that reads words
+-- the state of the code that reads words
 abbrev pub reading_of : Reading-type → Reading
 reading_of reading = record { words = words_of reading.words; word = reading.word.items; is_begun = reading.is_begun; quote = reading.quote; escapes = reading.escapes }
 

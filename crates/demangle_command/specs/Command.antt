@@ -30,25 +30,25 @@ use Rattle.demangle_names.specs.declared.spelling.Spelling.TheVariants as spelli
 use Rattle.json_lines.specs.Objects.{name_lines, names_stay}
 use Rattle.json_lines.specs.Texts.{TellsObjects, TellsObjectsFront}
 
--- what is answered for symbols as options ask: their texts, whole or short
+-- what is answered for symbols by these options, before any spelling: their texts, whole or short
 abbrev pub unspelled_of : Options → Answering
 unspelled_of options = answers_as options.texts (reads_paths options.style) (styled_answer options.style options.limit options.detail)
 
--- the same, as they are spelled
+-- the same, in the spelling of these options
 abbrev pub unescaped_of : Options → Answering
 unescaped_of options = spelled_answers (is_gnu options.spelling) (reads_paths options.style) (unspelled_of options)
 
--- Details are known of whole texts that are spelled as they are.
+-- Details are known only of whole texts in the plain spelling.
 abbrev pub details_as : Texts → Spelling → Detailing → Detailing
 details_as texts.Whole spelling.Plain details = details
 details_as texts.Whole spelling.Gnu details = no_details
 details_as (texts.Short keeps_inline) spelling details = no_details
 
--- those of texts as they are
+-- the details of what is answered before any spelling
 abbrev pub unspelled_details : Options → Detailing
 unspelled_details options = details_as options.texts spelling.Plain (styled_details options.style options.limit options.detail)
 
--- those of texts as options ask
+-- the details of what is answered by these options
 abbrev pub details_of : Options → Detailing
 details_of options = details_as options.texts options.spelling (styled_details options.style options.limit options.detail)
 
@@ -57,15 +57,15 @@ abbrev pub are_whole : Texts → Bool
 are_whole texts.Whole = true
 are_whole (texts.Short keeps_inline) = false
 
--- Texts are coloured where that is asked and they have details, and where they go neither into strings of JSON nor into objects.
+-- Texts are coloured if that is requested, if they have details, and if they go neither into strings of JSON nor into objects.
 abbrev pub shows_colors : Options → Bool
 shows_colors options = options.colors && (are_whole options.texts && (not (is_gnu options.spelling) && (not options.escape && not options.json)))
 
--- the same texts, with their parts in colours where that is asked
+-- the same texts, with their parts in colours if that is requested
 abbrev pub shown_of : Options → Answering
 shown_of options = if shows_colors options then colored_answers (details_of options) (unescaped_of options) else unescaped_of options
 
--- the same, escaped where that is asked
+-- the same, escaped if that is requested
 abbrev pub escaped_by : (escapes : Bool) → Answering → Answering
 escaped_by escapes answers kind symbol = answer_by escapes (answers kind symbol)
 
@@ -74,17 +74,17 @@ answers_of options = escaped_by options.escape (shown_of options)
 
 -- ## An input
 
--- what is said of an input that was filtered, where that is asked
+-- what is said of an input that was filtered, if that is requested
 abbrev pub summary_if : Bool → Tally → List ℕ
 summary_if true tally = codes "demangle: " ++ (decimal tally.refused ++ (codes " of " ++ (decimal tally.words ++ (codes " symbols stay" ++ 10 ∷ []))))
 summary_if false tally = []
 
--- what is said of the words of an input that are left, where that is asked
+-- what is said of the words of an input that have no text, if that is requested
 abbrev pub reasons_if : Bool → Answering → List ℕ → List ℕ
 reasons_if true answers text = said_of_words (reasons_of answers) (entries_of Within answers text)
 reasons_if false answers text = []
 
--- It was filtered to its end, and it was said of each word that is left where it is and why, where that is asked.
+-- An input was filtered to its end. If that is requested, the line and the reason were said for each word that is left.
 pub record TellsInput (answers : Answering) (why : Bool) (coming coming' out out' err err' : Option (List ℕ)) (tally : Tally) : Type 0 where
   pub text : List ℕ
   pub reads : Consumes coming coming' text
@@ -93,14 +93,14 @@ pub record TellsInput (answers : Answering) (why : Bool) (coming coming' out out
   pub counts : tally ≡ tally_at Within answers text
   pub says : Appends err err' (reasons_if why answers text)
 
--- What was written and what was said are beginnings of that for the bytes that were read.
+-- What was written, and what was said, are beginnings of what belongs to the bytes that were read of an input.
 pub record TellsInputFront (answers : Answering) (why : Bool) (coming coming' out out' err err' : Option (List ℕ)) : Type 0 where
   pub text : List ℕ
   pub reads : Consumes coming coming' text
   pub writes : PutsFront out out' [] (filtered_at Within answers text)
   pub says : PutsFront err err' [] (reasons_if why answers text)
 
--- Then it was said how much stays.
+-- An input was filtered to its end, and then it was said how many symbols stay.
 pub record FiltersInput (answers : Answering) (why strict : Bool) (coming coming' out out' err err' : Option (List ℕ)) (status : ℕ) : Type 0 where
   pub tally : Tally
   pub before : Option (List ℕ)
@@ -108,15 +108,16 @@ pub record FiltersInput (answers : Answering) (why strict : Bool) (coming coming
   pub says : Appends before err' (summary_if why tally)
   pub ends : status ≡ status_of strict (not (tally.refused == 0))
 
--- Before a fault some of it was filtered, and of some words left it was said why; or all of it was, and some was said of how much stays.
+-- Before a fault, a part of an input was filtered, and reasons were said for some of the words that are left; or the whole input was
+-- filtered, and a beginning was said of how many symbols stay.
 abbrev pub FiltersInputFront : Answering → (why : Bool) → (coming coming' out out' err err' : Option (List ℕ)) → Type 0
 FiltersInputFront answers why coming coming' out out' err err' =
     TellsInputFront answers why coming coming' out out' err err'
     ⊎ ((tally : Tally) × (before : Option (List ℕ)) × TellsInput answers why coming coming' out out' err before tally × PutsFront before err' [] (summary_if why tally))
 
--- ## A command line that its parser takes, by what it found
+-- ## A command line that its parser accepts, by what the parser found
 
--- its names are answered as its options ask
+-- the command line's names are answered by its options
 pub record Answered (rows : List Row) (terminal : Bool) (status : ℕ) (lines said : List ℕ) : Type 0 where
   pub options : Options
   pub given : AreGiven rows terminal options
@@ -132,7 +133,7 @@ pub record AnsweredFront (rows : List Row) (terminal : Bool) (lines said : List 
   pub no_objects : options.json ≡ false
   pub front : NamesFront (answers_of options) options.types options.why (names_of rows) lines said
 
--- it has no names, and the input was filtered as its options ask
+-- the command line has no names, and the input was filtered by its options
 pub record Filtered (rows : List Row) (terminal : Bool) (coming coming' out out' err err' : Option (List ℕ)) (status : ℕ) : Type 0 where
   pub options : Options
   pub given : AreGiven rows terminal options
@@ -167,14 +168,14 @@ abbrev pub ByObjects : Answering → Detailing → Options → List (List ℕ) �
 ByObjects answers details options names coming coming' out out' status =
     NamesByObjects answers details options names coming coming' out out' status ⊎ InputByObjects answers details options names coming coming' out out' status
 
--- a beginning of that
+-- a beginning of what is written by objects
 abbrev pub ByObjectsFront : Answering → Detailing → Options → List (List ℕ) → (coming coming' out out' : Option (List ℕ)) → Type 0
 ByObjectsFront answers details options names coming coming' out out' =
     ((coming' ≡ coming) × PutsFront out out' [] (name_lines options.types (reads_paths options.style) answers details names))
     ⊎ ((names ≡ []) × TellsObjectsFront (reads_paths options.style) answers details coming coming' out out')
 
--- Its names, or the words of the input, have objects of JSON, as its options ask; texts in them aren't escaped twice. Nothing is
--- said on standard error.
+-- The command line's names, or the words of the input, have objects of JSON by its options. Texts in objects aren't escaped twice. Nothing
+-- is said on standard error.
 pub record Objects (rows : List Row) (terminal : Bool) (coming coming' out out' err err' : Option (List ℕ)) (status : ℕ) : Type 0 where
   pub options : Options
   pub given : AreGiven rows terminal options
@@ -189,17 +190,17 @@ pub record ObjectsFront (rows : List Row) (terminal : Bool) (coming coming' out 
   pub told : ByObjectsFront (unescaped_of options) (details_of options) options (names_of rows) coming coming' out out'
   pub silent : Appends err err' []
 
--- ## What it did
+-- ## What such a command line did
 
--- its names are answered; or no style has the name that is given, and no line was written
+-- the command line's names are answered; or no style, spelling or colouring has the given name, and no line was written
 abbrev pub IsEndedOf : List Row → (terminal : Bool) → ℕ → List ℕ → List ℕ → Type 0
 IsEndedOf rows terminal status lines said = Answered rows terminal status lines said ⊎ ((status ≡ 2) × (lines ≡ []) × AreOptions rows terminal None)
 
--- without a whole answer: beginnings, or no line
+-- what was written up to a fault: beginnings of the lines, or no line
 abbrev pub IsStoppedOf : List Row → (terminal : Bool) → List ℕ → List ℕ → Type 0
 IsStoppedOf rows terminal lines said = AnsweredFront rows terminal lines said ⊎ (lines ≡ [])
 
--- the same of the whole command line, which may filter the input, or write objects
+-- the same for a command line that may also filter the input, or write objects
 abbrev pub EndsOf : List Row → (terminal : Bool) → (coming coming' out out' err err' : Option (List ℕ)) → ℕ → Type 0
 EndsOf rows terminal coming coming' out out' err err' status =
     ((coming' ≡ coming) × Took out out' err err' (IsEndedOf rows terminal status)) ⊎ Filtered rows terminal coming coming' out out' err err' status
@@ -210,15 +211,15 @@ StopsOf rows terminal coming coming' out out' err err' =
     ((coming' ≡ coming) × Took out out' err err' (IsStoppedOf rows terminal)) ⊎ FilteredFront rows terminal coming coming' out out' err err'
     ⊎ ObjectsFront rows terminal coming coming' out out' err err'
 
--- ## One that it doesn't take
+-- ## A command line that its parser doesn't accept
 
--- whether it asks for help or the version
+-- whether a command line requests help or the version
 abbrev pub is_request : ErrorKind → Bool
 is_request DisplayHelp = true
 is_request DisplayVersion = true
 is_request other = false
 
--- What is asked for is on standard output, and the status is 0; why a command line is wrong is on standard error, and it is 2.
+-- Requested help is on standard output, and the status is 0. The reason why a command line is wrong is on standard error, and the status is 2.
 abbrev pub IsTold : Bool → ℕ → List ℕ → List ℕ → Type 0
 IsTold true status lines said = (status ≡ 0) × (said ≡ [])
 IsTold false status lines said = (status ≡ 2) × (lines ≡ [])
@@ -228,13 +229,13 @@ IsUntaken words status lines said = (kind : ErrorKind) × IsAmong kind (faults_i
 
 -- ## The words of a command line
 
--- Its parser takes them, and they did what it found; or it doesn't.
+-- The parser accepts the words of the command line, and they did what it found; or it refuses them.
 abbrev pub Ends : List Text → (terminal : Bool) → (coming coming' out out' err err' : Option (List ℕ)) → ℕ → Type 0
 Ends words terminal coming coming' out out' err err' status =
     ((faults_in words ≡ []) × EndsOf (found_in words) terminal coming coming' out out' err err' status)
     ⊎ ((coming' ≡ coming) × Took out out' err err' (IsUntaken words status))
 
--- Up to a fault: before it is known what the parser finds, nothing was written but what it says.
+-- What a command line did up to a fault. Before the parser's result is known, only what the parser says may have been written.
 abbrev pub Stops : List Text → (terminal : Bool) → (coming coming' out out' err err' : Option (List ℕ)) → Type 0
 Stops words terminal coming coming' out out' err err' =
     StopsOf (found_in words) terminal coming coming' out out' err err'

@@ -1,4 +1,4 @@
--- The command line: which options there are, what they ask, and what its parser finds in its words.
+-- The command line: its options, what they request, and what its parser finds in its words.
 use Rattle.std.specs.Prelude.{◌≡◌, ◌⊎◌, List, [], ◌∷◌, Bool, true, Option, Some, None, ℕ, codes, map, unwrap_or}
 use Rattle.clap.specs.Lexer.{usize_max}
 use Rattle.clap.specs.Words.{Text, Rule, Row, App, Kinds, new_rule, new_app, with_rule, matches_of, fault_of, first_of, all_of}
@@ -51,7 +51,7 @@ version_flag = record (new_rule (codes "version")) { long = Some (codes "version
 abbrev pub version_option : Rule
 version_option = record version_flag { short_aliases = 86 ∷ [] }
 
--- `-n`, `-_`, `-i`, `-r`, `-R` and their long names, which are taken and say nothing
+-- `-n`, `-_`, `-i`, `-r`, `-R` and their long names, which are accepted and change nothing
 abbrev pub taken_option : Rule
 taken_option = record (flag (codes "no-strip-underscore")) { short = Some 110 }
 
@@ -69,12 +69,12 @@ name_arguments = record (new_rule (codes "NAME")) {
   range = Some (record { start_inclusive = 0; end_inclusive = usize_max });
 }
 
--- with the options on which names have a text, and what of it is shown
+-- a command line with the options on which names have a text, and on what is shown of the text
 abbrev pub with_texts : App → App
 with_texts app =
     with_rule (with_rule (with_rule (with_rule (with_short (with_rule (with_rule app no_params) (flag (codes "brief")))) types) limit) spelling_option) style_option
 
--- with those on how texts are written, and on what is said of names that are left
+-- a command line with the options on how texts are written, and on what is said of names that have no text
 abbrev pub with_reports : App → App
 with_reports app =
     with_rule (with_rule (with_rule (with_rule (with_rule app color_option) (flag (codes "escape"))) (flag (codes "json"))) (flag (codes "why"))) (flag (codes "strict"))
@@ -92,9 +92,9 @@ command_line = record {
   subs = [];
 }
 
--- ## What the options ask
+-- ## What the options request
 
--- the style that `--format` names, `auto` where it isn't given; none of another name
+-- the style that `--format` names, and `auto` where the option isn't given; none where no style has that name
 abbrev pub IsAsked : Option Text → Option Style → Type 0
 IsAsked None asked = asked ≡ Some Auto
 IsAsked (Some name) asked = IsStyle name asked
@@ -102,7 +102,7 @@ IsAsked (Some name) asked = IsStyle name asked
 abbrev pub IsAskedStyle : List Row → Option Style → Type 0
 IsAskedStyle rows asked = IsAsked (first_of (codes "format") rows) asked
 
--- the spelling that `--spelling` names, `plain` where it isn't given; none of another name
+-- the spelling that `--spelling` names, and `plain` where the option isn't given; none where no spelling has that name
 abbrev pub IsSpelled : Option Text → Option Spelling → Type 0
 IsSpelled None asked = asked ≡ Some Plain
 IsSpelled (Some name) asked = IsSpelling name asked
@@ -110,7 +110,7 @@ IsSpelled (Some name) asked = IsSpelling name asked
 abbrev pub IsAskedSpelling : List Row → Option Spelling → Type 0
 IsAskedSpelling rows asked = IsSpelled (first_of (codes "spelling") rows) asked
 
--- the colouring that `--color` names, `never` where it isn't given; none of another name
+-- the colouring that `--color` names, and `never` where the option isn't given; none where no colouring has that name
 abbrev pub IsColored : Option Text → Option Coloring → Type 0
 IsColored None asked = asked ≡ Some Never
 IsColored (Some name) asked = IsColoring name asked
@@ -157,10 +157,10 @@ names_of rows = map bytes_of (name_texts rows)
 
 -- ## The texts of a command line's words, the program's name first
 
--- what the parser finds in them
+-- what the parser finds in these texts
 abbrev pub found_in : List Text → List Row
 found_in texts = matches_of command_line texts
 
--- the kinds of fault for which it refuses them, help and the version among them: none where it takes them
+-- the kinds of fault for which the parser refuses these texts, help and the version among them; none where it accepts them
 abbrev pub faults_in : List Text → Kinds
 faults_in texts = fault_of command_line texts

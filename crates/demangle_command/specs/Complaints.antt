@@ -1,4 +1,4 @@
--- What is said of a command line that isn't taken.
+-- What is said of a command line that isn't accepted.
 use Rattle.std.specs.Prelude.{◌≡◌, ℕ, List, [], ◌∷◌, ◌++◌, codes}
 use Rattle.demangle_command.specs.Texts.{bytes_of}
 
@@ -10,7 +10,7 @@ complaint_of reason = codes "demangle: " ++ reason ++ codes "; see demangle --he
 abbrev pub IsComplaint : List ℕ → Type 0
 IsComplaint line = (reason : List ℕ) × (line ≡ complaint_of reason)
 
--- some words, and the word of a text in quotes
+-- a message that ends with the given word in quotes
 abbrev pub quoted : List ℕ → List ℕ → List ℕ
 quoted words text = words ++ codes " '" ++ bytes_of text ++ 39 ∷ []
 
@@ -26,6 +26,6 @@ unknown_spelling name = quoted (codes "unknown spelling") name ++ codes "; known
 abbrev pub unknown_coloring : List ℕ → List ℕ
 unknown_coloring name = quoted (codes "unknown color") name ++ codes "; known: auto, always, never"
 
--- what is said where no argument is a symbol, and one is a file
+-- what is said where no argument is a symbol, and one of them is a file
 abbrev pub hint_of : List ℕ → List ℕ
 hint_of word = codes "demangle: " ++ word ++ codes " is not a name; for a file: demangle < " ++ word ++ 10 ∷ []

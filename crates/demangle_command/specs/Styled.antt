@@ -21,7 +21,7 @@ abbrev pub details_found : Result Parsed Refusal → Option Details
 details_found (Ok parsed) = Some (record { kind = parsed.kind; parts = parsed.parts })
 details_found (Err refusal) = None
 
--- None are known of a symbol that is left out.
+-- the details of what a style answers; no details are known of a symbol that is left out
 abbrev pub styled_details : Style → ℕ → Detail → Detailing
 styled_details by limit detail kind symbol =
     if leaves_out by kind.lang symbol then None

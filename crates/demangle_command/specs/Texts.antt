@@ -1,5 +1,5 @@
--- Words are bytes, and the command line's parser takes texts: it is given each byte of a word as the character of that number, so
--- an ASCII word as it is.
+-- The texts of words. Words are bytes, and the command line's parser takes texts, so each byte of a word becomes the character whose number
+-- is the byte; an ASCII word stays as it is.
 use Rattle.std.specs.Prelude.{ℕ, ◌+◌, ◌*◌, ◌%◌, List, [], ◌∷◌, ◌++◌, Option, Some, None, map, flat_map, encode_utf8, nat_lt, if◌then◌else◌}
 use Rattle.clap.specs.Words.{Text}
 use Rattle.demangle_command.specs.declared.texts.Decoding.{Decoding as Decoding-type}
@@ -13,20 +13,20 @@ texts_of words = map text_of words
 
 -- ## The word of a text
 
--- Where its reading is: the bytes so far, and the first of the two bytes of a character past 127, where the second is still to come.
+-- The state of reading a text: the bytes so far, and the first of the two bytes of a character past 127, if the second is still to come.
 pub record Decoding : Type 0 where
   pub bytes : List ℕ
   pub lead : Option ℕ
 
--- an ASCII byte is a character, and of another the second is still to come
+-- an ASCII byte is a character; any other byte is the first of a character, whose second byte is still to come
 abbrev pub first_taken : Decoding → ℕ → Decoding
 first_taken decoding byte = if nat_lt byte 128 then record decoding { bytes = decoding.bytes ++ byte ∷ [] } else record decoding { lead = Some byte }
 
--- the two bytes of a character from 128 to 255 have its two highest bits and the others
+-- of the two bytes of a character from 128 to 255, the first has its two highest bits, and the second has the others
 abbrev pub second_taken : ℕ → Decoding → ℕ → Decoding
 second_taken lead decoding byte = record { bytes = decoding.bytes ++ (lead % 4 * 64 + byte % 64) ∷ []; lead = None }
 
--- after one byte more
+-- the state after one byte more
 abbrev pub after_lead : Option ℕ → Decoding → ℕ → Decoding
 after_lead None decoding byte = first_taken decoding byte
 after_lead (Some lead) decoding byte = second_taken lead decoding byte
@@ -38,14 +38,14 @@ abbrev pub after_text : Decoding → Text → Decoding
 after_text decoding [] = decoding
 after_text decoding (byte ∷ bytes) = after_text (after_byte decoding byte) bytes
 
--- before a text
+-- the state before a text
 abbrev pub start : Decoding
 start = record { bytes = []; lead = None }
 
--- the bytes that a text's characters have the numbers of: where it is the text of a word, that word
+-- the bytes whose numbers a text's characters have; for the text of a word these are the word
 abbrev pub bytes_of : Text → List ℕ
 bytes_of text = (after_text start text).bytes
 
--- where code is that reads a text
+-- the state of the code that reads a text
 abbrev pub decoding_of : Decoding-type → Decoding
 decoding_of decoding = record { bytes = decoding.bytes.items; lead = decoding.lead }

@@ -5,20 +5,20 @@ ghost use Rattle.demangle_command.specs.ArgumentFiles.{after_byte, ended, is_bla
 use std::alloc::{AllocError, Global};
 use std::mem;
 
-/// Where the reading of a file's words is: the words so far, what there is of the next, and what is open in it.
+/// The state of reading a file's words: the words so far, what was read of the next word, and what is open in that word.
 #[derive(Drop)]
 pub struct Reading {
     words: Vec<Vec<u8>>,
     word: Vec<u8>,
-    // a word has begun, which may be of no byte
+    // a word has begun, which may have no bytes
     is_begun: bool,
     // the quote that is open
     quote: Option<u8>,
-    // the byte before is a backslash that takes the next one as it is
+    // the byte before is a backslash, by which the next byte is taken as it is
     escapes: bool,
 }
 
-/// The words of a file. Blanks stand between them, but not within `'..'` or `".."`, and a backslash takes the byte after it as it is, there too.
+/// The words of a file. Blanks separate them, but not within `'..'` or `".."`. A backslash takes the byte after it as it is, also within quotes.
 pub fn words_in(alloc: Global, text: &[u8]) -> Result<Vec<Vec<u8>>, AllocError>
     ensures { IfOk result (λ words. words_of words ≡ words_in text.now) }
 {
@@ -96,7 +96,7 @@ impl Reading {
         self.push(byte)
     }
 
-    /// Puts a byte to the word.
+    /// Appends a byte to the word.
     fn push(&mut self, byte: u8) -> Result<(), AllocError>
         ensures { OnOk result (reading_of self.new ≡ pushed (reading_of self.old) byte) }
     {

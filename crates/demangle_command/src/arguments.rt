@@ -1,4 +1,4 @@
-// The words of a process: its arguments, and for an argument @FILE those of the file.
+// The words of a process: its arguments, and in the place of an argument @FILE the words of the file.
 ghost use Rattle.std.specs.Prelude.{◌≡◌, ◌≢◌, ◌++◌, ◌+◌, ◌-◌, ◌^◌, ◌<◌, IfOk, OnOk, IfErr, map};
 ghost use Rattle.std.specs.Io.KnownBytes.{Appends};
 ghost use Rattle.sym_filter.specs.Streams.{writer_faults};
@@ -16,7 +16,7 @@ use sym_filter::{FilterFault, Sink, write_all};
 /// The greatest length of a file of arguments, in bytes.
 pub const LONGEST_FILE: u64 = 4_194_304;
 
-/// How many bytes of an argument there is room for at first.
+/// The bytes for which an argument has room at first.
 const ARGUMENT_ROOM: usize = 4_096;
 
 /// The words that a process was called with, the program's name first.
@@ -33,7 +33,7 @@ pub(crate) fn arguments_of<R: Env + AllocGlobal>(rt: &R) -> Result<Vec<Vec<u8>>,
     Ok(arguments)
 }
 
-/// One of these words, if there is one at that place. The room for it grows until it fits.
+/// The word at a place, if there is one. The room for it grows until it fits.
 fn argument<R: Env + AllocGlobal>(
     rt: &R,
     at: usize,
@@ -52,14 +52,14 @@ fn argument<R: Env + AllocGlobal>(
     Err(AllocError)
 }
 
-/// What arguments stand for: words, or the argument whose file is too long.
+/// What arguments denote: words, or the argument whose file is too long.
 #[derive(Drop)]
 pub enum Words {
     All(Vec<Vec<u8>>),
     TooLong(Vec<u8>),
 }
 
-/// What a file of arguments is: none that can be read, too long, or its words.
+/// What is read of a file of arguments: nothing, since it can't be read or is too long, or its words.
 #[derive(Drop)]
 enum FileWords {
     None,
@@ -67,8 +67,8 @@ enum FileWords {
     Some(Vec<Vec<u8>>),
 }
 
-/// The words that arguments stand for: those of the file for `@FILE`, where it can be read; each other argument for itself. A word of
-/// a file names no file.
+/// The words that arguments denote: `@FILE` denotes the words of the file, if that can be read, and each other argument denotes itself. A
+/// word of a file isn't taken as the name of another file.
 pub(crate) fn with_files<R: Files + AllocGlobal>(
     rt: &R,
     arguments: Vec<Vec<u8>>,
@@ -92,7 +92,7 @@ fn push_words(words: &mut Vec<Vec<u8>>, more: Vec<Vec<u8>>) -> Result<(), AllocE
     words.append(&mut more)
 }
 
-/// The words of the file that an argument names, if it names one that can be read.
+/// The words of the file that an argument names, if it names a file that can be read.
 fn words_of_file<R: Files + AllocGlobal>(rt: &R, argument: &[u8]) -> Result<FileWords, AllocError> {
     let Some(path) = path_of(argument) else {
         return Ok(FileWords::None);
@@ -109,7 +109,7 @@ fn words_of_file<R: Files + AllocGlobal>(rt: &R, argument: &[u8]) -> Result<File
     }
 }
 
-/// The path after `@`, where an argument begins so and it is text.
+/// The path after `@`, if an argument begins with `@` and the path is text.
 fn path_of(argument: &[u8]) -> Option<&str> {
     let path = argument.strip_prefix(b"@")?;
     str::from_utf8(path).ok()
@@ -143,7 +143,7 @@ pub(crate) fn refuse_file<E: Sink>(
     }
 }
 
-/// The line that says so.
+/// The line that says that the file of an argument is too long.
 fn too_long(alloc: Global, argument: &[u8]) -> Result<Vec<u8>, AllocError>
     ensures { IfOk result (λ line. line.items ≡ too_long argument.now) }
 {

@@ -31,13 +31,13 @@ use sym_short::{Gnu, Rewriting, Shortening, Texts};
 use text_colours::Colored;
 use text_details::Detailed;
 
-/// Runs the program over an input and two outputs: writes the line of each name with its symbols replaced, or filters the input where
-/// there is no name. The words are those of the command line, the program's name first, each of any bytes; whether the first output is
-/// a terminal decides for `--color=auto`. The result is the status.
+/// Runs the program over an input and two outputs: writes the line of each name with its symbols replaced, or filters the input, if there
+/// is no name. The words are those of the command line, the program's name first; each may have any bytes. Whether the first output is a
+/// terminal matters only for `--color=auto`. The result is the status.
 ///
 /// # Errors
 ///
-/// `Read` and `Write` where a stream failed, `Memory`. What was written is a beginning of what would have been.
+/// `Read` and `Write` where a stream failed, `Memory`. What was written is a beginning of what would have been written.
 pub fn run_over<S: Source, W: Sink, E: Sink>(
     alloc: Global,
     words: &[&[u8]],
@@ -91,7 +91,7 @@ fn run_texts<S: Source, W: Sink, E: Sink>(
     }
 }
 
-/// Whether an error is a wish for help or the version.
+/// Whether an error is a request for help or the version.
 fn is_request(kind: ErrorKind) -> bool
     ensures { result ≡ is_request kind }
 {
@@ -102,7 +102,7 @@ fn is_request(kind: ErrorKind) -> bool
     }
 }
 
-/// Writes what the command line's parser says of an error, or what is asked of it, and answers the status.
+/// Writes what the command line's parser says of an error, or the requested help or version, and answers the status.
 fn tell<W: Sink, E: Sink>(
     alloc: Global,
     error: &Error,
@@ -132,7 +132,7 @@ fn tell<W: Sink, E: Sink>(
     end_with(err, &line, WRONG_USE)
 }
 
-/// Writes what is said in place of all else, and answers the status.
+/// Writes a text as the only output, and answers the status.
 fn end_with<S: Sink>(sink: &mut S, text: &[u8], status: u8) -> Result<u8, FilterFault>
     requires { S.failure_count sink.old < 2 ^ 64 - 1 }
     ensures says { Says (S.taken sink.old) (S.taken sink.new) }
@@ -222,8 +222,7 @@ fn is_gnu(spelling: Spelling) -> bool
     }
 }
 
-/// Does what the command line's parser found, with the demangler that its options ask for. Spellings and
-/// escapes aren't among these options.
+/// Does what the command line's parser found, with a demangler that follows all its options but those for spellings and escapes.
 fn run_spelled<D: Alike + Detailed + Copy + Drop, S: Source, W: Sink, E: Sink>(
     alloc: Global,
     demangler: D,
@@ -264,7 +263,7 @@ fn run_spelled<D: Alike + Detailed + Copy + Drop, S: Source, W: Sink, E: Sink>(
     }
 }
 
-/// The demangler of whole texts that options ask for.
+/// The demangler of whole texts for these options.
 fn styled_of(options: Options) -> Styled
     ensures style { result.style ≡ options.style }
     ensures limit { result.languages.limit ≡ options.limit }
@@ -284,8 +283,7 @@ fn styled_of(options: Options) -> Styled
     Styled { style, languages }
 }
 
-/// Does what the command line's parser found, with the demangler that its options ask for. Escapes aren't
-/// among these options.
+/// Does what the command line's parser found, with a demangler that follows all its options but the one for escapes.
 fn run_with<D: Alike + Detailed + Copy + Drop, S: Source, W: Sink, E: Sink>(
     alloc: Global,
     demangler: D,
@@ -319,8 +317,7 @@ fn run_with<D: Alike + Detailed + Copy + Drop, S: Source, W: Sink, E: Sink>(
     )
 }
 
-/// Does what the command line's parser found, except objects, with the demangler that its options ask for. Escapes aren't
-/// among these options.
+/// Does what the command line's parser found, if objects aren't requested, with a demangler that follows all its options but the one for escapes.
 fn run_lines<D: Alike + Copy + Drop, S: Source, W: Sink, E: Sink>(
     alloc: Global,
     demangler: D,
@@ -415,7 +412,7 @@ fn refuse_options<E: Sink>(
     end_with(err, &line, WRONG_USE)
 }
 
-/// The line that says so.
+/// The line that says that no style, no spelling or no colouring has the given name.
 fn refusal_line(alloc: Global, matches: &ArgMatches<'_>) -> Result<Vec<u8>, AllocError> {
     if asked_style(matches).is_none() {
         return style_complaint(alloc, matches.get_str("format").unwrap_or_default());
@@ -426,7 +423,7 @@ fn refusal_line(alloc: Global, matches: &ArgMatches<'_>) -> Result<Vec<u8>, Allo
     coloring_complaint(alloc, matches.get_str("color").unwrap_or_default())
 }
 
-/// Filters an input, says how much of it stays where that is asked, and answers the status.
+/// Filters an input, says how much of it stays, if that is requested, and answers the status.
 fn filter_input<D: Demangler, S: Source, W: Sink, E: Sink>(
     alloc: Global,
     demangler: &D,
@@ -456,7 +453,7 @@ fn filter_input<D: Demangler, S: Source, W: Sink, E: Sink>(
     }
 }
 
-/// Filters an input, and says of each word that stays where it is and why, where that is asked.
+/// Filters an input, and says of each word that stays its line and the reason, if that is requested.
 fn filter_by<D: Demangler, S: Source, W: Sink, E: Sink>(
     alloc: Global,
     demangler: &D,
@@ -483,7 +480,7 @@ fn filter_by<D: Demangler, S: Source, W: Sink, E: Sink>(
     filter_words(alloc, input, out, demangler, Letters::Within)
 }
 
-/// Filters an input, and says of each word that stays where it is and why.
+/// Filters an input, and says of each word that stays its line and the reason.
 fn filter_saying<D: Demangler, S: Source, W: Sink, E: Sink>(
     alloc: Global,
     demangler: &D,
@@ -508,7 +505,7 @@ fn filter_saying<D: Demangler, S: Source, W: Sink, E: Sink>(
     filter_telling(alloc, input, out, demangler, Letters::Within, &mut report)
 }
 
-/// Says how many symbols of an input stay, where that is asked.
+/// Says how many symbols of an input stay, if that is requested.
 fn say_summary<E: Sink>(
     alloc: Global,
     asked: bool,

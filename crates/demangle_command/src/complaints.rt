@@ -1,4 +1,4 @@
-// What is said of a command line that its parser doesn't take.
+// What is said of a command line that its parser doesn't accept.
 ghost use Rattle.std.specs.Prelude.{◌≡◌, ◌++◌, List, ℕ, IfOk, OnOk};
 ghost use Rattle.demangle_command.specs.Complaints.{IsComplaint, complaint_of, quoted, unknown_coloring, unknown_spelling, unknown_style};
 
@@ -7,17 +7,17 @@ use crate::texts::bytes_of;
 use clap::error::ErrorKind;
 use std::alloc::{AllocError, Global};
 
-/// What each complaint begins with.
+/// The beginning of each complaint.
 const PROGRAM: &[u8] = b"demangle: ";
 
-/// What each complaint ends with.
+/// The end of each complaint.
 const SEE: &[u8] = b"; see demangle --help";
 
 const LIMIT_TAKES: &[u8] = b"--limit takes a number from 0 to 4294967295";
 
 const VALUES: &[u8] = b"--limit, --format and --spelling take a value";
 
-/// Says why the parser doesn't take words, the program's name first, by the kind of its error.
+/// Says why the parser doesn't accept words, the program's name first, by the kind of its error.
 pub(crate) fn complaint(
     alloc: Global,
     kind: ErrorKind,
@@ -67,7 +67,7 @@ fn line_of(alloc: Global, reason: &[u8]) -> Result<Vec<u8>, AllocError>
     Ok(line)
 }
 
-/// Why the parser doesn't take words.
+/// Why the parser doesn't accept words.
 fn reason(alloc: Global, kind: ErrorKind, words: &[&str]) -> Result<Vec<u8>, AllocError> {
     match kind {
         ErrorKind::ValueValidation => Vec::from_slice(alloc, LIMIT_TAKES),
@@ -81,14 +81,14 @@ fn reason(alloc: Global, kind: ErrorKind, words: &[&str]) -> Result<Vec<u8>, All
     }
 }
 
-/// A word that the parser refuses, and the one before it.
+/// A word that the parser refuses, and the word before it.
 #[derive(Clone, Copy)]
 struct Refused<'a> {
     before: &'a str,
     word: &'a str,
 }
 
-/// Names an option that there isn't; a negative number after `--limit` is none.
+/// Names an option that doesn't exist. A negative number after `--limit` isn't taken for an option.
 fn unknown(alloc: Global, refused: Refused<'_>) -> Result<Vec<u8>, AllocError> {
     if refused.before == "--limit" {
         return Vec::from_slice(alloc, LIMIT_TAKES);
@@ -96,7 +96,7 @@ fn unknown(alloc: Global, refused: Refused<'_>) -> Result<Vec<u8>, AllocError> {
     quoted(alloc, b"unknown option", refused.word)
 }
 
-/// Words, and another in quotes, as its bytes are.
+/// A message, followed by the bytes of a word in quotes.
 fn quoted(alloc: Global, words: &[u8], text: &str) -> Result<Vec<u8>, AllocError>
     ensures { IfOk result (λ all. all.items ≡ quoted words.now text.now) }
 {
@@ -108,7 +108,7 @@ fn quoted(alloc: Global, words: &[u8], text: &str) -> Result<Vec<u8>, AllocError
     Ok(all)
 }
 
-/// The first word that the parser refuses by itself, as it refuses all of them.
+/// The first word that the parser refuses by itself with the error that it has for all words.
 fn first_refused<'a>(alloc: Global, kind: ErrorKind, words: &[&'a str]) -> Refused<'a> {
     let mut before = "";
     for word in words {

@@ -1,4 +1,4 @@
-// The demangler whose texts may stand within strings of JSON.
+// The demangler whose texts can be written within strings of JSON.
 ghost use Rattle.demangle_command.specs.Escaping.{answer_by};
 
 use demangle_names::push_escaped;
@@ -7,14 +7,14 @@ use sym_core::Refusal;
 use sym_filter::{Demangled, Demangler, Kind, Lang};
 use sym_recent::Alike;
 
-/// The lists of the demangler below, and the text of one symbol.
+/// The lists of the wrapped demangler, and the text of one symbol.
 #[derive(Drop)]
 pub struct EscapingLists<D: Demangler> {
     lists: D::Lists,
     text: Vec<u8>,
 }
 
-/// A demangler whose texts may stand within strings of JSON.
+/// A demangler whose texts can be written within strings of JSON.
 #[derive(Clone, Copy, Drop)]
 pub struct Escaping<D> {
     pub demangler: D,

@@ -9,7 +9,7 @@ use std::rt::Files;
 use std::{fs, str};
 use sym_filter::{FilterFault, Sink, kind_of, write_all};
 
-/// The first of a command line's words that is a file, where none of them names a symbol.
+/// The first word of a command line that is a file, if no word names a symbol.
 pub(crate) fn file_among<'w, R: Files>(rt: &R, words: &[&'w [u8]]) -> Option<&'w [u8]> {
     if words.iter().any(|word| kind_of(word).is_some()) {
         return None;

@@ -1,4 +1,4 @@
-//! The program `demangle`: a command line over words, an input and two outputs, with the options that callers of c++filt give.
+//! The program `demangle`: a command line over words, an input and two outputs, with the options that programs pass to c++filt.
 #![tactic(auto)]
 
 mod argument_files;

@@ -1,9 +1,9 @@
-// Streams of a process that keep why they failed.
+// Streams of a process, which keep the reason of their last failure.
 ghost use Rattle.std.specs.Prelude.{◌≡◌};
 
 use std::io::{Error, Read, Result, Write};
 
-/// A stream that keeps why it last failed.
+/// A stream that keeps the reason of its last failure.
 #[derive(Drop)]
 pub struct Noted<S: Drop> {
     stream: S,
@@ -20,7 +20,7 @@ impl<S: Drop> Noted<S> {
         }
     }
 
-    /// Why it last failed, if it has.
+    /// The reason of the stream's last failure, if it has failed.
     pub fn error(&self) -> Option<Error>
         ensures { result ≡ self.now.error }
     {

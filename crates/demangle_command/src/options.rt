@@ -72,7 +72,7 @@ fn command_line<'a>(alloc: Global) -> Result<Command<'a>, AllocError>
     command.arg(name_arguments(alloc))
 }
 
-/// A command line with the options on which names have a text, and what of it is shown.
+/// A command line with the options on which names have a text, and on what is shown of the text.
 fn with_texts<'a>(alloc: Global, command: Command<'a>) -> Result<Command<'a>, AllocError>
     ensures { IfOk result (λ with_them. app_of with_them ≡ with_texts (app_of command.entry)) }
 {
@@ -86,7 +86,7 @@ fn with_texts<'a>(alloc: Global, command: Command<'a>) -> Result<Command<'a>, Al
         .arg(style_option(alloc))
 }
 
-/// A command line with the options on how texts are written, and on what is said of names that are left.
+/// A command line with the options on how texts are written, and on what is said of names that have no text.
 fn with_reports<'a>(alloc: Global, command: Command<'a>) -> Result<Command<'a>, AllocError>
     ensures { IfOk result (λ with_them. app_of with_them ≡ with_reports (app_of command.entry)) }
 {
@@ -105,7 +105,7 @@ fn with_version<'a>(alloc: Global, command: Command<'a>) -> Result<Command<'a>, 
     command.arg(version)
 }
 
-/// A command line with the options that are taken and say nothing.
+/// A command line with the options that are accepted and change nothing.
 fn with_taken<'a>(alloc: Global, command: Command<'a>) -> Result<Command<'a>, AllocError>
     ensures { IfOk result (λ with_it. app_of with_it ≡ with_rule (app_of command.entry) taken_options) }
 {
@@ -113,7 +113,7 @@ fn with_taken<'a>(alloc: Global, command: Command<'a>) -> Result<Command<'a>, Al
     command.arg(taken)
 }
 
-/// The option for names alone.
+/// The option by which C++ functions are shown only by their names.
 fn no_params<'a>(alloc: Global) -> Arg<'a>
     ensures rule { rule_of result ≡ no_params }
     ensures local { result.global ≡ false }
@@ -189,7 +189,7 @@ fn version_flag<'a>(alloc: Global) -> Arg<'a>
         .help("Print version")
 }
 
-/// The options that are taken and say nothing.
+/// The options that are accepted and change nothing.
 fn taken_options<'a>(alloc: Global) -> Result<Arg<'a>, AllocError>
     ensures rule { IfOk result (λ taken. rule_of taken ≡ taken_options) }
     ensures local { IfOk result (λ taken. taken.global ≡ false) }
@@ -207,7 +207,7 @@ fn taken_options<'a>(alloc: Global) -> Result<Arg<'a>, AllocError>
         .alias("recursion-limit")
 }
 
-/// The first of the options that are taken and say nothing.
+/// The first of the options that are accepted and change nothing.
 fn taken_option<'a>(alloc: Global) -> Arg<'a>
     ensures rule { rule_of result ≡ taken_option }
     ensures local { result.global ≡ false }
@@ -226,7 +226,7 @@ fn name_arguments<'a>(alloc: Global) -> Arg<'a>
         .help("Names; with none, standard input is filtered")
 }
 
-/// The style that is asked for; none where no style has the name that is given.
+/// The style that is requested; none where no style has the name that is given.
 pub(crate) fn asked_style(matches: &ArgMatches<'_>) -> Option<Style>
     ensures { IsAskedStyle (rows_of (found_of matches.now)) result }
 {
@@ -236,7 +236,7 @@ pub(crate) fn asked_style(matches: &ArgMatches<'_>) -> Option<Style>
     }
 }
 
-/// The spelling that is asked for; none where no spelling has the name that is given.
+/// The spelling that is requested; none where no spelling has the name that is given.
 pub(crate) fn asked_spelling(matches: &ArgMatches<'_>) -> Option<Spelling>
     ensures { IsAskedSpelling (rows_of (found_of matches.now)) result }
 {
@@ -246,7 +246,7 @@ pub(crate) fn asked_spelling(matches: &ArgMatches<'_>) -> Option<Spelling>
     }
 }
 
-/// The colouring that is asked for; none where no colouring has the name that is given.
+/// The colouring that is requested; none where no colouring has the name that is given.
 fn asked_coloring(matches: &ArgMatches<'_>) -> Option<Coloring>
     ensures { IsAskedColoring (rows_of (found_of matches.now)) result }
 {
@@ -256,8 +256,7 @@ fn asked_coloring(matches: &ArgMatches<'_>) -> Option<Coloring>
     }
 }
 
-/// The options of a command line whose texts are written to a terminal, or to something else; none where no style, no spelling or no
-/// colouring has the name that is given.
+/// The options of a command line, whose texts may be written to a terminal; none where no style, no spelling or no colouring has the name that is given.
 pub(crate) fn options_of(matches: &ArgMatches<'_>, terminal: bool) -> Option<Options>
     ensures { AreOptions (rows_of (found_of matches.now)) terminal result }
 {

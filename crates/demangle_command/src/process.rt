@@ -13,7 +13,7 @@ use std::rt::{Env, Files};
 use sym_command::{FAULT, WRONG_USE};
 use sym_filter::{FilterFault, ReaderSource, Sink, Source, WriterSink};
 
-/// The status where the reader of the output has gone: what a shell gives for a program that SIGPIPE has ended.
+/// The status where the output's reader has gone. A shell gives it for a program that SIGPIPE has ended.
 const READER_GONE: u8 = 141;
 
 /// Runs the program over standard input and output, which may be a terminal, and answers its exit status.
@@ -66,7 +66,7 @@ fn run_on_streams<R: Env + Files + AllocGlobal, S: Source, W: Sink, E: Sink>(
     Ok(status)
 }
 
-/// Names a fault on standard error, and why it came, and answers the status. Where the reader of the output has gone, nothing is said.
+/// Names a fault and its cause on standard error, and answers the status. Where the output's reader has gone, nothing is said.
 fn end_by<E: Print>(alloc: Global, errors: &E, fault: FilterFault, error: Option<Error>) -> u8 {
     let Some(error) = error else {
         let _ = errors.println(format_args!("demangle: {fault}"));

@@ -1,4 +1,4 @@
-// The demangler over both manglings, where a style may leave symbols out.
+// The demangler over both manglings, in which a style may leave symbols out.
 ghost use Rattle.std.specs.Prelude.{◌≡◌, IfOk};
 ghost use Rattle.sym_core.specs.Number.{FitsSymbol};
 ghost use Rattle.demangle_command.specs.Styled.{details_found, styled_answer, styled_details};
@@ -15,10 +15,10 @@ use sym_recent::Alike;
 use symbol_parts::{Parsed, Parser};
 use text_details::{Detailed, Details};
 
-/// The answer to a symbol that a style leaves out: no symbol of the style begins so.
+/// The answer to a symbol that a style leaves out. For the style the symbol is malformed at its first byte.
 const LEFT_OUT: Refusal = Refusal::Malformed { at: 0 };
 
-/// Both manglings, with C++ by the wide grammar and legacy Rust names as paths, where a style may leave symbols out.
+/// Both manglings, with C++ by the wide grammar and legacy Rust names as paths. A style may leave symbols out.
 #[derive(Clone, Copy, Drop)]
 pub struct Styled {
     pub style: Style,
@@ -96,7 +96,7 @@ impl Detailed for Styled {
     }
 }
 
-/// The details of the text of a word's symbol, where it has one.
+/// The details of the text of a word's symbol, if the symbol has a text.
 fn details_by<P: Parser>(
     parser: &P,
     alloc: Global,

@@ -16,7 +16,7 @@ pub(crate) fn texts_of(alloc: Global, words: &[&[u8]]) -> Result<Vec<String>, Al
     Ok(texts)
 }
 
-/// The text that the parser is given for a word: each byte is the character of that number.
+/// The text that the parser is given for a word: each byte becomes the character whose number is the byte.
 fn text_of(alloc: Global, word: &[u8]) -> Result<String, AllocError>
     ensures { IfOk result (λ text. string_bytes text ≡ text_of word.now) }
 {
@@ -34,7 +34,7 @@ pub(crate) fn lent_texts(alloc: Global, texts: &[String]) -> Result<Vec<&str>, A
     texts.iter().map(|text| text.as_str()).collect(alloc)
 }
 
-/// The words that texts of the parser are.
+/// The words whose texts the parser has.
 pub(crate) fn words_of(alloc: Global, texts: &[&str]) -> Result<Vec<Vec<u8>>, AllocError>
     ensures { IfOk result (λ words. map (λ word. word.items) words.items ≡ map bytes_of (map (λ text. text.now) texts.now)) }
 {
@@ -53,14 +53,14 @@ pub(crate) fn lent_words(alloc: Global, words: &[Vec<u8>]) -> Result<Vec<&[u8]>,
     words.iter().map(|word| word.as_slice()).collect(alloc)
 }
 
-/// The word that a text of the parser is.
+/// The word whose text the parser has.
 pub(crate) fn bytes_of(alloc: Global, text: &str) -> Result<Vec<u8>, AllocError>
     ensures { IfOk result (λ bytes. bytes.items ≡ bytes_of text.now) }
 {
     bytes_in(alloc, text.as_bytes())
 }
 
-/// The same of a text's bytes.
+/// The same, from the bytes of the parser's text.
 fn bytes_in(alloc: Global, text: &[u8]) -> Result<Vec<u8>, AllocError>
     ensures { IfOk result (λ bytes. bytes.items ≡ bytes_of text.now) }
 {
@@ -74,7 +74,7 @@ fn bytes_in(alloc: Global, text: &[u8]) -> Result<Vec<u8>, AllocError>
     Ok(decoding.bytes)
 }
 
-/// Where the reading of a text is: its word so far, and the first of two bytes whose second is still to come.
+/// The state of reading a text: the word so far, and the first byte of a character whose second byte is still to come.
 #[derive(Drop)]
 pub struct Decoding {
     bytes: Vec<u8>,

@@ -17,7 +17,7 @@ use Rattle.sym_core.specs.declared.refusal.Refusal.TheVariants.{Memory}
 use Rattle.sym_command.specs.Lines.{reason_of}
 use Rattle.demangle_names.specs.Names.{FiltersSome, filtered, LineFront, NameFront, NameFrontBy, NamesFront, line_of, name_stays, reason_by, said_for, said_if, said_of, stays_by, stays_for, written_for}
 
--- what some items and one item more bring, one after the other
+-- what a function gives for some names and one name more, joined in order
 pub flat-more : (f : List ℕ → List ℕ) (names all : List (List ℕ)) (name : List ℕ) → all ≡ names ++ name ∷ [] → flat_map f all ≡ flat_map f names ++ f name
 flat-more f names all name e = ap (flat_map f) e ∙ flat_map-append f names (name ∷ []) ∙ ap (λ (t : List ℕ). flat_map f names ++ t) (append-nil (f name))
 

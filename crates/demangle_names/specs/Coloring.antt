@@ -10,7 +10,7 @@ IsColoring name (Some coloring.Always) = name ≡ codes "always"
 IsColoring name (Some coloring.Never) = name ≡ codes "never"
 IsColoring name None = (name ≢ codes "auto") × (name ≢ codes "always") × (name ≢ codes "never")
 
--- whether texts are coloured that are written to a terminal, or to something else
+-- whether texts are coloured, by whether they are written to a terminal
 abbrev pub colors : Coloring → (terminal : Bool) → Bool
 colors coloring.Auto terminal = terminal
 colors coloring.Always terminal = true

@@ -9,7 +9,7 @@ use Rattle.sym_filter.specs.Streams.{BeginsWith, PutsFront}
 use Rattle.sym_command.specs.Lines.{answer_for, reason_of}
 use Rattle.type_names.specs.Types.{type_for}
 
--- a text with each word that has a text replaced by it, where words begin within runs
+-- a text in which each word that has a text is replaced by that text; words may begin within runs
 abbrev pub filtered : Answering → List ℕ → List ℕ
 filtered answers text = filtered_at Within answers text
 
@@ -17,7 +17,7 @@ filtered answers text = filtered_at Within answers text
 abbrev pub line_of : List ℕ → List ℕ
 line_of name = name ++ 10 ∷ []
 
--- a text stays where a word in it has no text, or it has no word
+-- a text stays if one of its words has no text, or if it has no word
 abbrev pub stays_by : Tally → Bool
 stays_by tally = not (tally.refused == 0) || (tally.replaced == 0)
 
@@ -30,11 +30,11 @@ reason_by None = codes "not a symbol"
 reason_by (Some (Ok text)) = codes "not a symbol"
 reason_by (Some (Err refusal)) = reason_of refusal
 
--- the line on standard error that says so
+-- the line on standard error that says why a name stays
 abbrev pub said_line : List ℕ → List ℕ → List ℕ
 said_line name reason = codes "demangle: " ++ name ++ codes ": " ++ reason ++ 10 ∷ []
 
--- the line that says why a name stays, where it is requested; otherwise nothing
+-- the line that says why a name stays, if that is requested; otherwise nothing
 abbrev pub said_if : Bool → Answering → List ℕ → List ℕ
 said_if true answers name = said_line name (reason_by (answer_for answers name))
 said_if false answers name = []
@@ -72,7 +72,7 @@ pub record AnswersNames (answers : Answering) (types why : Bool) (names : List (
 
 -- ## Up to a fault
 
--- for a name that is no type, a beginning of its line was filtered, and a beginning of that was written
+-- for a name that is no type, a beginning of its line was filtered, and a beginning of the filtered text was written
 pub record LineFront (answers : Answering) (why : Bool) (name : List ℕ) (lines said : List ℕ) : Type 0 where
   pub text : List ℕ
   pub text_begins : BeginsWith (line_of name) text
@@ -99,12 +99,12 @@ pub record NamesFront (answers : Answering) (types why : Bool) (names : List (Li
   pub is_said : said ≡ flat_map (said_for types why answers) whole ++ next_said
   pub front : NameFront answers types why next next_lines next_said
 
--- A beginning of a text was filtered, and a beginning of that was written.
+-- A beginning of a text was filtered, and a beginning of the filtered text was written.
 pub record FiltersSome (answers : Answering) (whole : List ℕ) (taken taken' : Option (List ℕ)) : Type 0 where
   pub text : List ℕ
   pub begins : BeginsWith whole text
   pub puts : PutsFront taken taken' [] (filtered answers text)
 
--- the status: 1 where a name stays and none may
+-- the status: 1 if a name stays although none may
 abbrev pub status_of : (strict one_stays : Bool) → ℕ
 status_of strict one_stays = if strict && one_stays then 1 else 0

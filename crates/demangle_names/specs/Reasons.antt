@@ -1,4 +1,4 @@
--- What is said of the words that are left of a text: why each stays, and in which line it is.
+-- What is said of the words of a text that have no text of their own: why each word stays, and in which line it is.
 use Rattle.std.specs.Prelude.{ℕ, List, ◌++◌, true, codes}
 use Rattle.std.specs.Fmt.{decimal}
 use Rattle.sym_command.specs.Lines.{answer_for}

@@ -1,4 +1,4 @@
--- What is said of the words of a text, one after the other.
+-- What is said of the words of a text, in their order.
 use Rattle.std.specs.Prelude.{◌≡◌, ◌+◌, ◌||◌, ℕ, Bool, false, List, [], ◌∷◌, ◌++◌, Option}
 use Rattle.std.specs.Io.KnownBytes.{Appends}
 use Rattle.sym_filter.specs.Entries.{Entry, newline, left_word}
@@ -10,7 +10,7 @@ pub record Saying : Type 0 where
   pub says : (line : ℕ) → (word : List ℕ) → List ℕ
   pub stays : (word : List ℕ) → Bool
 
--- The number of the line after these entries. It stays at the greatest u64 once it has reached that.
+-- The number of the line after these entries. It stays at the greatest u64 after it has reached that.
 abbrev pub line_after : (line : ℕ) → List Entry → ℕ
 line_after line [] = line
 line_after line (newline ∷ entries) = line_after (capped (line + 1)) entries
@@ -34,13 +34,13 @@ one_stays saying (left_word word ∷ entries) = saying.stays word || one_stays s
 
 -- ## What a report did
 
--- The report said what these entries call for, and noted whether a word stays.
+-- The report said what has to be said of these entries, and noted whether a word stays.
 pub record Told (saying saying' : Saying) (line line' : ℕ) (left left' : Bool) (said said' : Option (List ℕ)) (entries : List Entry) : Type 0 where
   pub same : saying' ≡ saying
   pub reached : line' ≡ line_after line entries
   pub stay : left' ≡ (left || one_stays saying entries)
   pub says : Appends said said' (said_from saying line entries)
 
--- the report said a beginning of that
+-- the report said a beginning of what has to be said of these entries
 abbrev pub Untold : Saying → (line : ℕ) → (said said' : Option (List ℕ)) → List Entry → Type 0
 Untold saying line said said' entries = PutsFront said said' [] (said_from saying line entries)

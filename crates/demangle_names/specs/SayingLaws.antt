@@ -1,4 +1,4 @@
--- Laws of what is said of entries, which a report takes one after the other.
+-- Laws of what is said of a text's entries, which a report takes in order.
 use Rattle.std.proofs.Common.{◌≡◌, ◌∙◌, ◌+◌, ◌<◌, ℕ, Bool, true, false, cond, eqb, List, [], ◌∷◌, ◌++◌, ◌||◌, Option, refl, sym, ap, ap₂, subst, append_assoc, get_or, length, take}
 use Rattle.std.specs.Prelude.{Result, Ok, Err, IfErr, OnErr}
 use Rattle.std.specs.Io.KnownBytes.{Appends}

@@ -1,10 +1,9 @@
--- Strings in a line of JSON: where they begin and end, and what their bytes mean. And the laws of escaped texts within
--- them.
+-- Strings in a line of JSON: where they begin and end, what their bytes mean, and the laws of escaped texts within them.
 use Rattle.std.specs.Prelude.{◌≡◌, ◌≢◌, ℕ, List, [], ◌∷◌, ◌++◌, ◌==◌, if◌then◌else◌}
 use Rattle.std.specs.List.{All}
 use Rattle.demangle_names.specs.Escaped.{escaped}
 
--- where a byte of the line is: outside of strings, within a string, or after a backslash within one
+-- where a byte of the line is: outside of strings, within a string, or after a backslash within a string
 pub data Place : Type 0 where
   outside : Place
   within : Place
@@ -21,7 +20,7 @@ abbrev pub after_bytes : Place → List ℕ → Place
 after_bytes place [] = place
 after_bytes place (byte ∷ bytes) = after_bytes (after_byte place byte) bytes
 
--- The bytes that a string's bytes mean, where the only escapes are those of a quote and of a backslash.
+-- The bytes that a string's bytes mean. The only escapes are those of a quote and of a backslash.
 abbrev pub unescaped : Place → List ℕ → List ℕ
 unescaped place [] = []
 unescaped outside (byte ∷ bytes) = byte ∷ unescaped within bytes
@@ -40,7 +39,7 @@ StaysWithin = (text : List ℕ) → after_bytes within (escaped text) ≡ within
 abbrev pub IsPlain : ℕ → Type 0
 IsPlain byte = (byte ≢ 34) × (byte ≢ 92)
 
--- A line in which an escaped text replaces a word of a string continues where the line did.
+-- After an escaped text that replaces a word of a string, a line continues as it did after the word.
 abbrev pub KeepsStrings : Type 0
 KeepsStrings = (front word back text : List ℕ) → after_bytes outside front ≡ within → All IsPlain word →
     after_bytes outside (front ++ escaped text ++ back) ≡ after_bytes outside (front ++ word ++ back)

@@ -14,7 +14,7 @@ pub enum Coloring {
 }
 
 impl Coloring {
-    /// Whether texts are coloured that are written to a terminal, or to something else.
+    /// Whether texts are coloured, by whether they are written to a terminal.
     pub fn colors(self, terminal: bool) -> bool
         ensures { result ≡ colors self terminal }
     {

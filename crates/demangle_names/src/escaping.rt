@@ -21,7 +21,7 @@ pub fn push_escaped(text: &[u8], out: &mut Vec<u8>) -> Result<(), AllocError>
     Ok(())
 }
 
-/// Appends a byte as a string of JSON has it. Where memory runs out, only a beginning of that may be appended.
+/// Appends a byte as a string of JSON has it. Where memory runs out, perhaps only a beginning of these bytes is appended.
 fn push_byte(byte: u8, out: &mut Vec<u8>) -> Result<(), AllocError>
     ensures pushed { OnOk result (out.new.items ≡ out.old.items ++ escaped_byte byte) }
     ensures front { OnErr result ((front : List ℕ) × (out.new.items ≡ out.old.items ++ front)) }

@@ -1,5 +1,5 @@
-//! What the program `demangle` writes for names, with any demangler: their lines, types among them, texts within strings of JSON, the
-//! manglings that a style reads, and the statuses.
+//! What the program `demangle` writes for names, with any demangler: the names' lines, the texts of types, texts within strings of JSON,
+//! the manglings that a style reads, and the statuses.
 #![tactic(auto)]
 
 mod coloring;

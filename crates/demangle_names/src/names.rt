@@ -15,8 +15,8 @@ use sym_filter::{
 };
 use type_names::type_for;
 
-/// Writes for each name the text of its type, if types are read and it is one, or else its line with the symbols
-/// replaced. Says why a name stays, if that is requested. Answers whether any name stays.
+/// Writes a line for each name. If types are read and the name is a type, the line is the type's text; otherwise it is the name's line with
+/// its symbols replaced. Says why a name stays, if reasons are requested. Answers whether any name stays.
 ///
 /// # Errors
 ///
@@ -49,7 +49,7 @@ pub fn answer_names<D: Demangler, W: Sink, E: Sink>(
     Ok(one_stays)
 }
 
-/// Writes what replaces a name, and why the name stays, if it does and that is requested. Answers whether it stays.
+/// Writes what replaces a name. If the name stays and reasons are requested, says why. Answers whether the name stays.
 fn answer_name<D: Demangler, W: Sink, E: Sink>(
     alloc: Global,
     demangler: &D,
@@ -95,8 +95,7 @@ fn write_line<W: Sink>(out: &mut W, text: Vec<u8>) -> Result<(), FilterFault>
     }
 }
 
-/// Writes the line of a name with its symbols replaced, and why the name stays, if it does and that is requested.
-/// Answers whether it stays.
+/// Writes the line of a name with its symbols replaced. If the name stays and reasons are requested, says why. Answers whether the name stays.
 fn answer_line<D: Demangler, W: Sink, E: Sink>(
     alloc: Global,
     demangler: &D,

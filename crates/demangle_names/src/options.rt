@@ -23,7 +23,7 @@ pub struct Options {
     pub json: bool,
     /// Whether names are read as types, too.
     pub types: bool,
-    /// Whether the reason why a name stays is written.
+    /// Whether the reasons why names stay are written.
     pub why: bool,
     /// Whether the status is 1 where a name stays.
     pub strict: bool,

@@ -1,4 +1,4 @@
-// Why names stay: the lines for names of the command line, and for words of an input that are left.
+// Why names stay: the lines for names of the command line, and for words of an input that have no text.
 ghost use Rattle.std.specs.Prelude.{◌≡◌, ◌≢◌, ◌+◌, ◌-◌, ◌^◌, ◌<◌, [], IfOk, OnOk, OnErr, IfErr, string_bytes};
 ghost use Rattle.std.specs.Io.KnownBytes.{Appends};
 ghost use Rattle.sym_filter.specs.Streams.{PutsFront, writer_faults};
@@ -11,7 +11,7 @@ use std::alloc::{AllocError, Global};
 use sym_command::reason;
 use sym_filter::{Demangler, FilterFault, Sink, kind_of};
 
-/// The reason why a name stays, where it is no symbol.
+/// The reason why a name stays that is no symbol.
 const NO_SYMBOL: &str = "not a symbol";
 
 /// Says why a name stays, if that is requested.
@@ -75,7 +75,7 @@ fn reason_why<D: Demangler>(alloc: Global, demangler: &D, name: &[u8]) -> Result
     }
 }
 
-/// Says why each word stays, and in which line it is.
+/// A report that says why each word stays, and in which line the word is.
 #[derive(Clone, Copy, Drop)]
 pub struct Reasons<'r, D: Demangler> {
     pub demangler: &'r D,

@@ -15,7 +15,7 @@ pub struct Said {
     pub stays: bool,
 }
 
-/// Says something of each word that a report takes of a text.
+/// What says something of each word of a text that a report takes.
 pub trait Says {
     ghost use Rattle.demangle_names.specs.Saying.{Saying};
 
@@ -34,13 +34,13 @@ pub struct WordReport<'r, S: Says, E: Sink> {
     alloc: Global,
     says: &'r S,
     out: &'r mut E,
-    // the line that the text is in, from 1 on
+    // the number of the line that has been reached in the text, from 1 on
     line: u64,
     one_stays: bool,
 }
 
 impl<'r, S: Says, E: Sink> WordReport<'r, S, E> {
-    /// A report that begins with the text.
+    /// A report at the beginning of a text.
     pub fn new(alloc: Global, says: &'r S, out: &'r mut E) -> WordReport<'r, S, E>
         ensures says { result.says.now ≡ says.now }
         ensures same_reference { result.out.ghost_name ≡ out.entry.ghost_name }
@@ -57,7 +57,7 @@ impl<'r, S: Says, E: Sink> WordReport<'r, S, E> {
         }
     }
 
-    /// Whether one of the words that it has taken stays.
+    /// Whether one of the words that the report has taken stays.
     pub fn one_stays(&self) -> bool
         ensures { result ≡ self.now.one_stays }
     {

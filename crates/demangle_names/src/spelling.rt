@@ -5,9 +5,9 @@ ghost use Rattle.demangle_names.specs.Spelling.{IsSpelling};
 /// How texts of C++ names are spelled.
 #[derive(Clone, Copy, Debug, PartialEq, Eq)]
 pub enum Spelling {
-    /// `plain`: as they are.
+    /// `plain`: as this project spells them.
     Plain,
-    /// `gnu`: as GNU's demangler, which is that of `c++filt`, spells them.
+    /// `gnu`: as GNU's demangler spells them, which `c++filt` uses.
     Gnu,
 }
 

@@ -5,7 +5,7 @@ ghost use Rattle.demangle_names.specs.Names.{status_of};
 /// The status of a command line that did what was requested.
 pub const DONE: u8 = 0;
 
-/// The status where a name stays and none may.
+/// The status where a name stays although none may.
 const LEFT: u8 = 1;
 
 /// The status, by whether a name stays.

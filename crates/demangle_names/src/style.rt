@@ -5,17 +5,16 @@ ghost use Rattle.demangle_names.specs.Style.{IsStyle, leaves_out, reads_paths};
 use rust_legacy::path_of;
 use sym_filter::Lang;
 
-/// Which mangled names are read. Rust's older names are names of C++, too: each style but `Nothing` reads them, and `GnuV3`
-/// reads them as names of C++.
+/// Which mangled names are read. Rust's older names are also names of C++: each style except `Nothing` reads them, and `GnuV3` reads them as names of C++.
 #[derive(Clone, Copy, Debug, PartialEq, Eq)]
 pub enum Style {
-    /// `auto`: all.
+    /// `auto`: all names.
     Auto,
-    /// `gnu-v3`: those of C++.
+    /// `gnu-v3`: names of C++.
     GnuV3,
-    /// `rust`: those of Rust.
+    /// `rust`: names of Rust.
     Rust,
-    /// `none`: none.
+    /// `none`: no names.
     Nothing,
 }
 

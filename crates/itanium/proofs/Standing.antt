@@ -1,4 +1,4 @@
--- A symbol that is linked is what its shape denotes.
+-- A linked symbol is what its shape denotes.
 use Rattle.std.proofs.Common.{◌≡◌, refl, sym, ◌∙◌, ap, subst, arith, ℕ, ◌*◌, ◌+◌, ◌<◌, ◌≤◌, List, [], ◌∷◌, length, Bool, true, Result, Ok}
 use Rattle.sym_core.specs.Number.{FitsSymbol}
 use Rattle.sym_shape.specs.declared.rule.Row.{Row}
@@ -85,7 +85,7 @@ node_of : List Part → ℕ
 node_of (Part.Tree node listed ∷ parts) = node
 node_of parts = 0
 
--- the node of the one part is that of the whole
+-- the node of the one part is the node of the whole symbol
 same_node : (s : List ℕ) (stands_for : Result plain_.Term Refusal) (linked : Linked) (parts : List Part) (w : HasWhole s stands_for linked parts) (node : ℕ) (listed : Bool) → parts ≡ Part.Tree node listed ∷ [] → w.node ≡ node
 unfolding node_of
 same_node s stands_for linked parts w node listed is = ap node_of (sym w.parts_are ∙ is)
@@ -123,7 +123,7 @@ abi_whole g s linked parts rows steps shape is =
     has_whole s is.rows (meaning_of (cpp_view s) shape) (unfold_cpp shape) linked parts done
     (read_as shape (found (done.value ∷ []) done.state) is.is_shape.is_tree (sym (meaning_same s shape is.is_shape.is_tree is.is_shape.spelled) ∙ done.means))
 
--- what is linked within
+-- what the wrapped linker has linked
 done_within : (s : List ℕ) (rows : List Row) (shape : Tree) (l : Rescoping) (parts : List Part) → IsDone (wide_counted s) s rows (meaning_of (wide_counted s) shape) l parts
     → IsDone (tallied_view (wide_view s) wide_makes) s rows (meaning_of (tallied_view (wide_view s) wide_makes) shape) l.linked parts
 done_within s rows shape l parts done = record {

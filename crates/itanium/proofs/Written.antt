@@ -11,13 +11,13 @@ use Rattle.cpp_grammar.specs.Term.{Term}
 use Rattle.cpp_direct.specs.WriterInvariant.{IsShown}
 use Rattle.cpp_direct.specs.Symbol.{detail_by, mangled_by, symbol_as, symbol_by}
 
--- what a symbol denotes is answered by its text, if that is short enough
+-- the answer for a symbol is the text of the tree that it denotes, if the text is short enough
 answer_by : (wide : Bool) (d : Detail) (s text : List ℕ) (t : Term) (limit : ℕ) → StandsFor (mangled_by wide) s (Ok t)
     → Ok text ≡ text_within limit (shown d (root_item t)) → IsAnswer (mangled_by wide) d s limit (Ok text)
 answer_by true d s text t limit stands is = shaped stands.0 stands.1 stands.2 (is ∙ ap (λ r. answer_of_symbol wide_mangled d limit r) stands.3)
 answer_by false d s text t limit stands is = shaped stands.0 stands.1 stands.2 (is ∙ ap (λ r. answer_of_symbol cpp_mangled d limit r) stands.3)
 
--- what shows a symbol is its answer if it is short enough
+-- a text that shows a symbol is the symbol's answer, if the text is short enough
 answer_shown : (wide bare brief : Bool) (s text : List ℕ) (limit most : ℕ) → IsShown (symbol_by wide bare brief s) most text → most ≤ limit / 4
     → IsAnswer (mangled_by wide) (detail_by bare brief) s limit (Ok text)
 answer_shown wide bare brief s text limit most p short =
@@ -25,7 +25,7 @@ answer_shown wide bare brief s text limit most p short =
     answer_by wide (detail_by bare brief) s text p.whole limit p.stands
     (sym (text_within-ok limit parts text (sym p.text_is) (omega (arith, p.cost, short))))
 
--- likewise by how much is shown
+-- a text that shows a symbol in a detail is the symbol's answer in this detail, if the text is short enough
 pub shown_answer : (wide : Bool) (d : Detail) (s text : List ℕ) (limit most : ℕ) → IsShown (symbol_as wide d s) most text → most ≤ limit / 4
     → IsAnswer (mangled_by wide) d s limit (Ok text)
 shown_answer wide Full s text limit most p short = answer_shown wide false false s text limit most p short

@@ -9,14 +9,14 @@ use Rattle.cpp_link.specs.LinkRescoping.{wide_counted}
 abbrev pub node_count : Linked → ℕ
 node_count linked = length linked.nodes.nodes
 
--- before the first row these: the absent tree, the empty list, the empty pack and the type auto
+-- the nodes that are there before the first row: the absent tree, the empty list, the empty pack and the type auto
 abbrev pub first_nodes : ℕ
 first_nodes = 4
 
 pub cpp_counts : (s : List ℕ) → CountsNodes (cpp_counted s) node_count first_nodes
 cpp_counts s = record { few = omega arith; most = λ nodes. omega arith; least = λ nodes bytes paid. omega (arith, paid.begun) }
 
--- likewise by the wide grammar
+-- the number of nodes by the wide grammar
 abbrev pub wide_node_count : Rescoping → ℕ
 wide_node_count l = node_count l.linked
 

@@ -1,4 +1,4 @@
--- A symbol whose shape means a refusal denotes that refusal, by both grammars.
+-- A symbol whose shape denotes a refusal is refused for that reason, by both grammars.
 use Rattle.std.proofs.Common.{refl, subst}
 use Rattle.sym_core.specs.declared.refusal.Refusal.{Refusal}
 use Rattle.sym_shape.specs.Grown.{GrowsInto}

@@ -1,4 +1,4 @@
--- A symbol that is linked: its one part is the node of what its shape denotes.
+-- A linked symbol has one part, which is the node of what its shape denotes.
 use Rattle.std.specs.Prelude.{◌≡◌, ℕ, ◌*◌, ◌+◌, ◌<◌, ◌≤◌, List, [], ◌∷◌, length, Bool, Result, Ok}
 use Rattle.sym_core.specs.declared.refusal.Refusal.{Refusal}
 use Rattle.cpp_grammar.specs.Term as plain_

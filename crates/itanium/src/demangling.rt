@@ -22,8 +22,8 @@ use sym_shape::Reader;
 ///
 /// # Errors
 ///
-/// `Malformed` at the first bad byte of a symbol that isn't well shaped, `BadReference` and `BadValue` at the first bad token
-/// of one that is, `Memory` where a list couldn't grow.
+/// `Malformed` at the first bad byte of a symbol that isn't well shaped, `BadReference` and `BadValue` at the first bad token of a well
+/// shaped symbol, `Memory` where a list couldn't grow.
 pub fn read(alloc: Global, s: &[u8]) -> Result<Symbol, Refusal>
     requires { FitsSymbol s.now }
     ensures bytes { IfOk result (λ symbol. symbol.bytes ≡ s.now) }

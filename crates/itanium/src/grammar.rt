@@ -4,7 +4,7 @@ use sym_core::NameClass;
 use sym_shape::grammar::Grammar;
 use sym_shape::rule::{Rule, Sym};
 
-/// The grammar of C++ symbols (Itanium C++ ABI 5.1), that of [`cpp_grammar::Abi`].
+/// The grammar of C++ symbols (Itanium C++ ABI 5.1), as [`cpp_grammar::Abi`] has it.
 #[derive(Clone, Copy, Debug)]
 pub struct Abi;
 
@@ -52,7 +52,7 @@ impl Grammar for Abi {
     ghost lawful = { lawful };
 }
 
-/// The grammar of C++ symbols with what compilers write beside them, that of [`cpp_grammar::Wide`].
+/// The grammar of C++ symbols with the forms that compilers write beside the ABI's, as [`cpp_grammar::Wide`] has it.
 #[derive(Clone, Copy, Debug)]
 pub struct Wide;
 

@@ -25,5 +25,5 @@ pub use writer::Writer;
 /// Links a symbol.
 pub type Linker = sym_demangle::Linker<Abi>;
 
-/// The lists that symbols are read and printed with, one after the other.
+/// The lists with which symbols are read and printed, one symbol after the other.
 pub type Workspace = sym_demangle::Workspace<Abi>;

@@ -11,29 +11,29 @@ use crate::writer::Writer;
 use cpp_direct::{Grammar, Shown, Step, are_name_bytes};
 use sym_print::Detail;
 
-/// The longest symbol that is written this way, in bytes: with its lists, which take at most some 95 bytes for each of its
-/// bytes, a thread keeps 6 MB. The filter has no longer words.
+/// The longest symbol that is written this way, in bytes. Its lists take at most some 95 bytes for each of its bytes, so a thread keeps 6
+/// MB. Words of the filter aren't longer.
 const LONGEST: usize = 65_536;
 
-/// The most bytes of text that are written for each byte of a symbol, and those that are written in any case. The text of an
+/// The most bytes of text that are written for each byte of a symbol, and the bytes that may be written in addition. The text of an
 /// instance is up to twenty times as long as a symbol with many substitutions, and its name is written twice.
 const BYTES_A_BYTE: usize = 32;
 
 const BYTES_ANYWAY: usize = 1_024;
 
-/// The most steps that are taken for each byte of a symbol: each reads a byte, or ends what was read. Where a step loops over
-/// the components of a nested name, each turn of the loop reads a byte of its own.
+/// The most steps that are taken for each byte of a symbol. Each step reads a byte, or ends what was read. Where a step loops over the
+/// components of a nested name, each turn of the loop reads a byte of its own.
 const ROUNDS_A_BYTE: usize = 8;
 
-/// Writes the text of a symbol, by the wide grammar or by the default and in the requested detail, if the short way reads the
-/// symbol and the text costs at most a limit, and answers whether it did. Where it didn't, nothing is known of the symbol.
+/// Writes the text of a symbol, by the wide grammar or by the default and in the requested detail, if the short way reads the symbol and
+/// the text costs at most a limit. Answers whether the text was written. Where it wasn't, nothing is known of the symbol.
 ///
-/// Whatever is answered, at most 32 bytes for each of the symbol's and a kilobyte are written, at most eight steps for each
-/// byte are taken, and no list has more entries than the symbol has bytes: no list has room for more. Text and candidates only
-/// grow, up to the end of a function: what was written of an instance of a function template up to its return type is removed
-/// there, and so is the return type of one whose address is an argument or that contains a type, and what was written after the
-/// name of one that is shown only by its name. Arguments that aren't shown are written, too, and left out at the end.
-// inlined at each call, which knows the detail and mostly the grammar: so the steps of the others aren't there
+/// Whatever is answered, at most 32 bytes for each of the symbol's bytes and a kilobyte are written, at most eight steps for each byte are
+/// taken, and no list has more entries than the symbol has bytes, since no list has room for more. Text and candidates only grow until a
+/// function ends. There three things are removed: what was written of an instance of a function template up to its return type; the return
+/// type of a function whose address is an argument, or that contains a type; and what was written after the name of a function that is
+/// shown only by its name. Arguments that aren't shown are written, too, and are left out at the end.
+// This is inlined at each call, which knows the detail and mostly the grammar, so that it has no steps for other details and grammars.
 #[inline(always)]
 pub fn write(writer: &mut Writer, s: &[u8], limit: u32, is_wide: bool, detail: Detail) -> bool
     requires { FitsSymbol s.now }
@@ -55,7 +55,7 @@ pub fn write(writer: &mut Writer, s: &[u8], limit: u32, is_wide: bool, detail: D
     false
 }
 
-/// Writes the text of a symbol that is shown only in part, as `write` does.
+/// Writes the text of a symbol that is shown only in part, in the same way as `write`.
 #[inline(never)]
 pub fn write_less(writer: &mut Writer, s: &[u8], limit: u32, is_wide: bool, detail: Detail) -> bool
     requires { FitsSymbol s.now }
@@ -83,7 +83,7 @@ fn run_by(writer: &mut Writer, s: &[u8], most: u32, is_wide: bool, detail: Detai
     run_as::<false>(writer, s, most, detail)
 }
 
-/// Likewise by the wide grammar or by that of the ABI.
+/// Takes steps up to the end of a symbol, by the wide grammar or by that of the ABI.
 #[inline(always)]
 fn run_as<const WIDE: bool>(writer: &mut Writer, s: &[u8], most: u32, detail: Detail) -> bool
     requires fits { FitsSymbol s.now }
@@ -127,7 +127,7 @@ fn run<G: Grammar>(writer: &mut Writer, s: &[u8], most: u32) -> bool
     false
 }
 
-/// Leaves what is shown of what was written of a symbol, if at most this many bytes were.
+/// Removes what isn't shown from what was written of a symbol, if at most this many bytes were written.
 #[inline(always)]
 fn end<G: Grammar>(writer: &mut Writer, s: &[u8], most: u32) -> bool
     requires { IsWhole (symbol_by G.IS_WIDE G.IS_BARE G.IS_BRIEF s.now) writer.old.lists.text.list.items }

@@ -24,8 +24,8 @@ use sym_print::{Item, Layout, Part, Run};
 
 /// A symbol that was read by the wide grammar.
 ///
-/// It has the texts, counts and views of any C++ symbol. But it is no `Symbol`, so `press_cpp` doesn't take it: the promise that its
-/// answer is read as the same tree is about the grammar of the ABI, which doesn't read each tree that this one may have. `wide_press`
+/// It has the texts, counts and views of any C++ symbol. But it is no `Symbol`, so `press_cpp` doesn't take it: the answer of `press_cpp`
+/// is promised to be read as the same tree by the grammar of the ABI, which doesn't read each tree that this symbol may have. `wide_press`
 /// presses it, and checks each answer.
 #[derive(Drop)]
 pub struct WideSymbol {
@@ -48,7 +48,7 @@ impl WideSymbol {
         WideSymbol { symbol }
     }
 
-    /// The symbol as one of no grammar. What is pressed of it needn't be read as its tree: whoever presses it has to check that.
+    /// The symbol, regardless of its grammar. Its pressed spelling needn't be read as its tree: a caller that presses it has to check that.
     pub fn plain(&self) -> &Symbol
         ensures { result.now ≡ self.now }
     {

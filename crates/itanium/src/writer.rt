@@ -15,8 +15,8 @@ use std::alloc::Global;
 #[derive(Drop)]
 pub struct Writer {
     lists: Direct,
-    /// The steps for all symbols, modulo 2^64. The lists are apart from it: so no step can change it, and no proof has to say
-    /// of each move that it doesn't.
+    /// The steps for all symbols, modulo 2^64. This number is apart from the lists, so that no step can change it, and no proof has to say
+    /// of each move that it stays.
     rounds: u64,
 }
 
@@ -37,8 +37,7 @@ impl Writer {
         self.lists.text()
     }
 
-    /// Clears the lists and reserves their room for a symbol: this many bytes of text, and an entry for each byte of the symbol
-    /// in the other lists.
+    /// Clears the lists and reserves room in them for a symbol: this many bytes of text, and in the other lists an entry for each byte of the symbol.
     #[inline(always)]
     pub(crate) fn restart(&mut self, s: &[u8], bytes: u32)
         requires fits { FitsSymbol s.now }
@@ -52,7 +51,7 @@ impl Writer {
         self.lists.restart(s, bytes);
     }
 
-    /// A symbol is done: the candidates and the open entries are forgotten.
+    /// Forgets the candidates and the open entries, after a symbol is done.
     #[inline(always)]
     pub(crate) fn forget(&mut self)
         ensures text { self.new.lists.text ≡ self.old.lists.text }
@@ -74,7 +73,7 @@ impl Writer {
         self.lists.begin::<G>(s)
     }
 
-    /// Takes a step, and counts it whatever comes of it.
+    /// Takes a step, and counts it whatever its outcome is.
     #[inline(always)]
     pub(crate) fn take<G: Grammar>(&mut self, s: &[u8], step: Step) -> Option<Step>
         requires fits { IsReadable s.now }
@@ -86,7 +85,7 @@ impl Writer {
         self.lists.take::<G>(s, step)
     }
 
-    /// Removes what isn't to be shown from what was written. A text that can't be told from one with marks in it is given up.
+    /// Removes what isn't to be shown from what was written. A text that can't be distinguished from one with marks in it is given up.
     #[inline(always)]
     pub(crate) fn show<G: Grammar>(&mut self, s: &[u8]) -> Option<()>
         requires { IsWhole (symbol_by G.IS_WIDE G.IS_BARE G.IS_BRIEF s.now) self.old.lists.text.list.items }

@@ -40,7 +40,7 @@ pub no-text : (has_some : Bool) → members_text has_some no_members ≡ []
 unfolding print_from
 no-text has_some = refl
 
--- after a member that is a string or a number come the others
+-- the other members follow a member that is a string or a number
 pub text-word : (has_some : Bool) (name word : List ℕ) (members : Members) → members_text has_some (member name (string word) members) ≡ members_text has_some (member name (string word) no_members) ++ members_text true members
 text-word has_some name word members = print_from-append has_some (Token.key name ∷ Token.string word ∷ []) (front_of members)
 
@@ -56,7 +56,7 @@ pub number-text : (has_some : Bool) (name digits : List ℕ) → members_text ha
 unfolding print_from
 number-text has_some name digits = print_from-append has_some (Token.key name ∷ []) (Token.number digits ∷ []) ∙ ap (λ (t : List ℕ). print_from has_some (Token.key name ∷ []) ++ t) (append-nil digits)
 
--- a name alone
+-- a name without its value
 pub name-after : (name : List ℕ) → print_from true (Token.key name ∷ []) ≡ 44 ∷ (quoted name ++ 58 ∷ [])
 unfolding print_from
 name-after name = ap (λ (t : List ℕ). 44 ∷ t) (append-nil (quoted name ++ 58 ∷ []))
@@ -170,7 +170,7 @@ two-text first one second other others =
     ∙ ap (λ (t : List ℕ). before ++ t) (text-number true second (decimal other) others) ∙ sym (append_assoc before after (members_text true others))
     ∙ ap (λ (t : List ℕ). t ++ members_text true others) (sym (text-number true first (decimal one) (member second (number (decimal other)) no_members)))
 
--- a part's
+-- the text of a part's object
 pub part-text : (part : Part) → print (json_tokens (part_object part)) ≡ 123 ∷ (((members_text false (member (codes "role") (string (role_name part.role)) no_members)
     ++ members_text true (two_numbers (codes "start") part.start (codes "length") part.length no_members))
     ++ members_text true (two_numbers (codes "from") part.from (codes "to") part.to no_members)) ++ 125 ∷ [])

@@ -1,4 +1,4 @@
--- What a name is as a symbol, by what was answered for the symbol.
+-- What a name means as a symbol, by what was answered for the symbol.
 use Rattle.std.proofs.Common.{◌≡◌, ◌∙◌, ℕ, Bool, List, Option, None, Some, Result, Ok, Err, refl, true, false, is_some, not, sym, ap, ap₂}
 use Rattle.std.specs.Prelude.{option_and_then, if◌then◌else◌}
 use Rattle.std.specs.Result.{result_ok}

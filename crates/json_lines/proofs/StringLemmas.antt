@@ -8,7 +8,7 @@ use Rattle.demangle_names.specs.Escaped.{escaped, escaped_byte}
 use Rattle.json_lines.specs.Objects.{IsPrinted}
 use Rattle.json_lines.specs.Tokens.{code_escape}
 
--- a byte that has no letter
+-- a byte whose escape has no letter
 no-letter : (byte : ℕ) → (byte == 34 || byte == 92) ≡ false → (byte == 8) ≡ false → (byte == 12) ≡ false → (byte == 10) ≡ false → (byte == 13) ≡ false → (byte == 9) ≡ false → escape_letter byte ≡ 0
 no-letter byte plain b f n r t = rw plain (rw b (rw f (rw n (rw r (rw t refl)))))
 
@@ -17,11 +17,11 @@ printed-letter byte printed plain =
     no-letter byte plain (ne_eqb byte 8 (λ e. omega (arith, e, printed))) (ne_eqb byte 12 (λ e. omega (arith, e, printed))) (ne_eqb byte 10 (λ e. omega (arith, e, printed)))
     (ne_eqb byte 13 (λ e. omega (arith, e, printed))) (ne_eqb byte 9 (λ e. omega (arith, e, printed)))
 
--- a byte with an escape, which is itself
+-- a byte whose escape has the byte itself as its letter
 with-letter : (byte letter : ℕ) (other : List ℕ) → letter ≡ byte → 31 < byte → cond (nat_lt 0 letter) (92 ∷ letter ∷ []) other ≡ 92 ∷ byte ∷ []
 with-letter byte letter other is printed = rw is (ap (λ (b : Bool). cond b (92 ∷ byte ∷ []) other) (lt-ltb 0 byte (omega (arith, printed))))
 
--- a byte without one
+-- a byte without an escape
 without-letter : (byte letter : ℕ) (first other : List ℕ) → letter ≡ 0 → 31 < byte → cond (nat_lt 0 letter) first (cond (nat_lt byte 32) other (byte ∷ [])) ≡ byte ∷ []
 without-letter byte letter first other is printed =
     ap (λ (n : ℕ). cond (nat_lt 0 n) first (cond (nat_lt byte 32) other (byte ∷ []))) is ∙ ap (λ (b : Bool). cond b other (byte ∷ [])) (le-ltb byte 32 (omega (arith, printed)))
@@ -33,7 +33,7 @@ escape-byte byte printed = elim (cases_Bool (byte == 34 || byte == 92)) [
   | inr not ↦ without-letter byte (escape_letter byte) _ _ (printed-letter byte printed not) printed ∙ rw not refl
 ]
 
--- a control character without a letter
+-- a control character whose escape has no letter
 pub control-code : (byte : ℕ) → byte < 32 → byte ≢ 8 → byte ≢ 9 → byte ≢ 10 → byte ≢ 12 → byte ≢ 13 → escape_byte byte ≡ code_escape byte
 unfolding escape_byte
 control-code byte control b t n f r =
@@ -43,7 +43,7 @@ control-code byte control b t n f r =
     (no-letter byte plain (ne_eqb byte 8 b) (ne_eqb byte 12 f) (ne_eqb byte 10 n) (ne_eqb byte 13 r) (ne_eqb byte 9 t))
     ∙ ap (λ (b : Bool). cond b (code_escape byte) (byte ∷ [])) (lt-ltb byte 32 control)
 
--- control characters with a letter
+-- control characters whose escape has a letter
 pub backspace : escape_byte 8 ≡ codes "\\b"
 unfolding escape_byte
 backspace = refl

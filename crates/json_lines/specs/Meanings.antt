@@ -14,7 +14,7 @@ use Rattle.json_lines.specs.declared.meanings.Meaning.TheVariants as meanings
 
 -- ## Meanings
 
--- a symbol or a type with a text, and maybe its details; a symbol that has none, and why; or no symbol
+-- a symbol or a type with a text, and perhaps the text's details; a symbol without a text, and the reason; or no symbol
 pub data Meaning : Type 0 where
   has_text : Mangling → List ℕ → Option Details → Meaning
   refused : Refusal → Meaning
@@ -34,12 +34,12 @@ meaning_by reads_paths answers details name (Some kind) =
 unfoldable pub symbol_meaning : (reads_paths : Bool) → Answering → Detailing → List ℕ → Meaning
 symbol_meaning reads_paths answers details name = meaning_by reads_paths answers details name (kind_of name)
 
--- what a name is that may be a type, by the type's text
+-- what a name is that may be a type, by the text that it has as a type
 abbrev pub meaning_or : Option (List ℕ) → Meaning → Meaning
 meaning_or (Some text) meaning = has_text Itanium text None
 meaning_or None meaning = meaning
 
--- What a name is: a type, where types are read and it is one, or else what it is as a symbol. No details are known of types.
+-- What a name is: a type, if types are read and the name is one, and otherwise what it is as a symbol. No details are known of types.
 abbrev pub meaning_of : (types reads_paths : Bool) → Answering → Detailing → List ℕ → Meaning
 meaning_of types reads_paths answers details name = meaning_or (type_for types answers name) (symbol_meaning reads_paths answers details name)
 
@@ -57,7 +57,7 @@ meaning_in meanings.NoSymbol = no_symbol
 
 -- ## Names in a text
 
--- The name that a word of a text is: the word without the dots and the bytes that aren't ASCII at its end, if that has a text;
--- otherwise the word.
+-- The name that a word of a text is. If the word without the dots and the bytes that aren't ASCII at its end has a text, that is the name;
+-- otherwise the whole word is.
 unfoldable pub named_by : Answering → List ℕ → List ℕ
 named_by answers word = if is_some (text_for answers (trimmed word)) then trimmed word else word

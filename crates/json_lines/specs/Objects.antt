@@ -52,7 +52,7 @@ abbrev pub part_items : List Part → Items
 part_items [] = no_items
 part_items (part ∷ parts) = item (part_object part) (part_items parts)
 
--- the members that say what a symbol is and which parts its text has, where that is known
+-- the members that say what a symbol is and which parts its text has, if these are known
 abbrev pub detail_members : Option Details → Members
 detail_members None = no_members
 detail_members (Some details) = member (codes "kind") (string (kind_name details.kind)) (member (codes "parts") (array (part_items details.parts)) no_members)
@@ -92,7 +92,7 @@ json_line json = print (json_tokens json) ++ 10 ∷ []
 abbrev pub name_line : (types reads_paths : Bool) → Answering → Detailing → List ℕ → List ℕ
 name_line types reads_paths answers details name = json_line (object_of None name (meaning_of types reads_paths answers details name))
 
--- whether it has no text
+-- whether a name has no text
 abbrev pub name_stays : (types reads_paths : Bool) → Answering → Detailing → List ℕ → Bool
 name_stays types reads_paths answers details name = stays (meaning_of types reads_paths answers details name)
 
@@ -100,11 +100,11 @@ name_stays types reads_paths answers details name = stays (meaning_of types read
 abbrev pub name_lines : (types reads_paths : Bool) → Answering → Detailing → List (List ℕ) → List ℕ
 name_lines types reads_paths answers details names = flat_map (name_line types reads_paths answers details) names
 
--- whether one of them has no text
+-- whether one of some names has no text
 abbrev pub names_stay : (types reads_paths : Bool) → Answering → Detailing → List (List ℕ) → Bool
 names_stay types reads_paths answers details names = list_any (name_stays types reads_paths answers details) names
 
--- What is said of a word of a text: the line of the name that it is, which has the number of the text's line, too.
+-- What is said of a word of a text: the line of the name that the word is, which also has the number of the text's line.
 abbrev pub objects_of : (reads_paths : Bool) → Answering → Detailing → Saying
 objects_of reads_paths answers details = record {
   says = λ line word. json_line (object_of (Some line) (named_by answers word) (symbol_meaning reads_paths answers details (named_by answers word)));
@@ -140,7 +140,7 @@ abbrev pub IsLine : Option ℕ → Type 0
 IsLine None = Unit {0}
 IsLine (Some line) = FitsWord line
 
--- Whatever the bytes of a name and of its text are, a reader of JSON gets the object from its line.
+-- A reader of JSON gets the object from its line, whatever the bytes of a name and of its text are.
 abbrev pub LinesAreObjects : Type 0
 LinesAreObjects = (line : Option ℕ) (name : List ℕ) (meaning : Meaning) → IsLine line → IsMeaning meaning →
     document (print (json_tokens (object_of line name meaning))) ≡ Some (object_of line name meaning)

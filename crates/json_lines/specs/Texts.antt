@@ -14,8 +14,7 @@ use Rattle.json_lines.specs.Objects.{objects_of}
 abbrev pub no_texts : Answering
 no_texts kind symbol = Err (Malformed 0)
 
--- The words of a text that name symbols, and its newlines, in order: those that stay where no symbol has a text. A word begins where
--- it may within a run.
+-- The words of a text that name symbols, and its newlines, in order: these are what stays of the text if no symbol has a text. Words may begin within runs.
 abbrev pub words_of : List ℕ → List Entry
 words_of text = entries_of Within no_texts text
 

@@ -14,11 +14,11 @@ abbrev pub front_of : Members → List Token
 front_of no_members = []
 front_of (member name json members) = Token.key name ∷ (json_tokens json ++ front_of members)
 
--- the text of members, after others or as the first
+-- the text of members, after other members or as the first ones
 abbrev pub members_text : (has_some : Bool) → Members → List ℕ
 members_text has_some members = print_from has_some (front_of members)
 
--- the text of a part's object after another
+-- the text of a part's object after another object
 abbrev pub later_part : Part → List ℕ
 later_part part = 44 ∷ print (json_tokens (part_object part))
 

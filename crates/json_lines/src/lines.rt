@@ -32,7 +32,7 @@ pub(crate) fn line_of(
     Ok(bytes)
 }
 
-/// Appends the member for the line that a word is in, if it is in one.
+/// Appends the member for the number of a word's line, if there is one.
 fn push_line(line: Option<u64>, out: &mut Vec<u8>) -> Result<(), AllocError>
     ensures { OnOk result (out.new.items ≡ out.old.items ++ members_text false (line_members line)) }
 {
@@ -90,7 +90,7 @@ fn push_error(reason: &str, at: u32, out: &mut Vec<u8>) -> Result<(), AllocError
     push_number(true, "at", u64::from(at), out)
 }
 
-/// Appends a member for some bytes, after other members or as the first.
+/// Appends a member for some bytes, after other members or as the first member.
 fn push_text(
     alloc: Global,
     has_some: bool,
@@ -113,7 +113,7 @@ pub(crate) fn push_word(name: &str, word: &str, out: &mut Vec<u8>) -> Result<(),
     push_string(word.as_bytes(), out)
 }
 
-/// Appends a member that is a number, after other members or as the first.
+/// Appends a member that is a number, after other members or as the first member.
 pub(crate) fn push_number(
     has_some: bool,
     name: &str,
@@ -128,7 +128,7 @@ pub(crate) fn push_number(
     Ok(())
 }
 
-/// Appends the name of a member, after a comma where members come before it.
+/// Appends the name of a member, after a comma if there are members before it.
 pub(crate) fn push_name(has_some: bool, name: &str, out: &mut Vec<u8>) -> Result<(), AllocError>
     ensures { OnOk result (out.new.items ≡ out.old.items ++ print_from has_some (key name.now ∷ [])) }
 {
@@ -140,12 +140,12 @@ pub(crate) fn push_name(has_some: bool, name: &str, out: &mut Vec<u8>) -> Result
     Ok(())
 }
 
-/// A law over the definitions alone: whatever the bytes of a name and of its text are, a reader of JSON gets the object from its line.
+/// A law of the definitions: a reader of JSON gets the object from its line, whatever the bytes of a name and of its text are.
 pub fn lines_are_objects()
     ensures { LinesAreObjects }
 {}
 
-/// A law over the definitions alone: `--json` and `--escape` write a text within a string in the same way.
+/// A law of the definitions: `--json` and `--escape` write a text within a string in the same way.
 pub fn strings_are_escaped()
     ensures { StringsAreEscaped }
 {}

@@ -36,7 +36,7 @@ impl Meaning {
     }
 }
 
-/// What a name is: a type, where types are read and it is one, or else what it is as a symbol.
+/// What a name is: a type, if types are read and the name is one, and otherwise what it is as a symbol.
 pub(crate) fn meaning_of<D: Detailed>(
     alloc: Global,
     demangler: &D,

@@ -12,7 +12,7 @@ use std::alloc::Global;
 use sym_filter::{FilterFault, Sink, write_all};
 use text_details::Detailed;
 
-/// Writes the line of each name, and answers whether one of them has no text.
+/// Writes the line of each name, and answers whether one of the names has no text.
 ///
 /// # Errors
 ///
@@ -44,7 +44,7 @@ pub fn answer_objects<D: Detailed, W: Sink>(
     Ok(one_stays)
 }
 
-/// Writes the line of a name, and answers whether it has no text.
+/// Writes the line of a name, and answers whether the name has no text.
 fn answer_object<D: Detailed, W: Sink>(
     alloc: Global,
     demangler: &D,

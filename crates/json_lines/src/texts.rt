@@ -13,7 +13,7 @@ use std::alloc::{AllocError, Global};
 use sym_filter::{FilterFault, Letters, Sink, Source, filter_telling};
 use text_details::Detailed;
 
-/// Says what each word is, by an object.
+/// A report that says by an object what each word is.
 #[derive(Clone, Copy, Drop)]
 pub struct Objects<'r, D: Detailed> {
     pub demangler: &'r D,
@@ -37,8 +37,8 @@ impl<'r, D: Detailed> Says for Objects<'r, D> {
     }
 }
 
-/// The name that a word of a text is: the word without the dots and the bytes that aren't ASCII at its end, if that has a text;
-/// otherwise the word.
+/// The name that a word of a text is. If the word without the dots and the bytes that aren't ASCII at its end has a text, that is the name;
+/// otherwise the whole word is.
 fn named_by<'w, D: Detailed>(
     alloc: Global,
     demangler: &D,
@@ -81,8 +81,8 @@ fn trimmed_end(word: &[u8]) -> usize
     0
 }
 
-/// Reads a text to its end, and writes the line of each word that names a symbol, as soon as the word has ended. Answers
-/// whether any of them has no text. It holds no more of the text than one read and one word.
+/// Reads a text to its end, and writes the line of each word that names a symbol, as soon as the word has ended. Answers whether any of
+/// these words has no text. It holds no more of the text than one read and one word.
 ///
 /// # Errors
 ///

@@ -1,4 +1,4 @@
-// For a filter that only finds the words of its text: a demangler that gives no symbol a text, and a sink that keeps nothing.
+// A demangler that gives no symbol a text, and a sink that keeps nothing, for a filter that only finds the words of its text.
 ghost use Rattle.std.specs.Prelude.{Err, None};
 ghost use Rattle.sym_core.specs.declared.refusal.Refusal.TheVariants.{Malformed};
 
@@ -9,7 +9,7 @@ use sym_filter::{Demangled, Demangler, Kind, Lang, Sink};
 /// The answer to each symbol.
 const NO_TEXT: Refusal = Refusal::Malformed { at: 0 };
 
-/// A demangler that refuses each symbol, so that a filter leaves each word that names one.
+/// A demangler that refuses each symbol, so that a filter leaves each word that names a symbol as it is.
 #[derive(Clone, Copy, Debug, PartialEq, Eq)]
 pub(crate) struct Unanswered;
 

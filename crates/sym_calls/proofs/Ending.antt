@@ -34,7 +34,7 @@ written-low : (bytes buffer : List ℕ) → (written bytes buffer).status ≤ 6
 unfolding written
 written-low bytes buffer = low-cond (nat_le (length bytes) (length buffer)) _ _ (omega arith) (omega arith)
 
--- an answer for a symbol may be replaced by a want of memory
+-- an answer for a symbol may be replaced by a lack of memory
 pub answered-low : (answer : Result (List ℕ) Refusal) (skip : ℕ) (buffer : List ℕ) → (answered answer skip buffer).status ≤ 6
 unfolding answered refused
 answered-low (Ok bytes) skip buffer = written-low bytes buffer
@@ -74,15 +74,15 @@ pub short-written : {W : Type 0} (m : Mangled W) (detail : Detail) (limit : ℕ)
 short-written m detail limit symbol text shown buffer found bytes is same told =
     (text, sym (is_answer m detail symbol limit (Ok text) bytes is), told ∙ ap (λ b. written b buffer) same)
 
--- what the outcome of a call that may write a text says of a symbol with this answer
+-- the outcome of a call that may write a text is right for a symbol with this answer, if there is an outcome
 abbrev Told : Result (List ℕ) Refusal → (old new : List ℕ) → Option Outcome → Type 0
 Told answer old new result = IfSome result (λ outcome. IsTextWritten answer old (ending_of outcome new))
 
--- and of one with an equal answer
+-- such an outcome is right for an equal answer, too
 pub same-told : (answer wanted : Result (List ℕ) Refusal) (old new : List ℕ) (result : Option Outcome) → answer ≡ wanted → Told answer old new result → Told wanted old new result
 same-told answer wanted old new result same given = subst (λ a. Told a old new result) same given
 
--- a call that wrote it
+-- a call that wrote a text ends as the symbol's answer says
 pub told-ends : (answer : Result (List ℕ) Refusal) (skip : ℕ) (old new : List ℕ) (result : Option Outcome) (outcome : Outcome) → result ≡ Some outcome
     → Told answer old new result → EndsAs (answered answer skip old) old (ending_of outcome new)
 unfolding answered
@@ -107,7 +107,7 @@ name-ends answers asked name buffer kind found is ends = subst (λ r. EndsAs (to
 pub no-symbol-lists : (answer : Result (List ℕ) Refusal) (skip : ℕ) (buffer : List ℕ) (found : Ending) → found ≡ status_alone 5 buffer → EndsAs (answered answer skip buffer) buffer found
 no-symbol-lists answer skip buffer found told = inr (answered-low answer skip buffer, told)
 
--- a name for whose lists there is none
+-- a name for whose lists there is no memory
 pub no-lists-end : (answers : Answering) (asked : Asked) (name buffer : List ℕ) (kind : Kind) (found : Ending) → named asked.underscore name ≡ Ok kind
     → found ≡ status_alone 5 buffer → EndsAs (name_told answers asked name buffer) buffer found
 no-lists-end answers asked name buffer kind found is told = name-ends answers asked name buffer kind found is (no-symbol-lists _ kind.skip buffer found told)
@@ -132,7 +132,7 @@ press-ends option asked name buffer found is narrow ends =
     inl (subst (λ o. EndsAs (press_told o name buffer) buffer found) (sym is)
     (subst (λ b. EndsAs (cond b wide (name_told pressed_of asked name buffer)) buffer found) (sym narrow) ends))
 
--- a lack of memory stays one, and takes the place of what may run out
+-- a lack of memory stays one, and may replace any outcome of a call that may run out of memory
 lacks-memory : (told : Ending) (buffer : List ℕ) (test : Bool) → test ≡ (told.status == 4) → told.status ≤ 6
     → PressEndsAs (cond test (status_alone 12 told.buffer) told) buffer (status_alone 5 buffer)
 lacks-memory told buffer true is low = inr (refl, refl)
@@ -175,14 +175,14 @@ counting-ends option asked kind name wide old new found is same known ends =
 pub no-filter-ends : (bytes buffer : List ℕ) (found : Ending) → found ≡ status_alone 5 buffer → EndsAs (written bytes buffer) buffer found
 no-filter-ends bytes buffer found told = inr (written-low bytes buffer, told)
 
--- what is answered at the requested limit and detail, where it is known whether legacy Rust names are paths
+-- a fact of the answers at the requested limit and detail, where it is known whether legacy Rust names are paths
 pub by-legacy : {A W : Type 0} → (P : Answering → A → Type 0) (cpp : Mangled W) (asked : Asked) (legacy : Bool) (limit of_languages : ℕ) (detail : Detail) (found : A) → asked.legacy ≡ legacy → of_languages ≡ limit → detail ≡ asked.detail
     → P (answers_by cpp legacy of_languages detail) found → P (answers_by cpp asked.legacy limit asked.detail) found
 by-legacy P cpp asked legacy limit of_languages detail found is same_limit same_detail given =
     subst (λ b. P (answers_by cpp b limit asked.detail) found) (sym is)
     (subst (λ n. P (answers_by cpp legacy n asked.detail) found) same_limit (subst (λ d. P (answers_by cpp legacy of_languages d) found) same_detail given))
 
--- where it is known which grammar reads C++
+-- a fact of the answers, where it is known which grammar reads C++
 pub by-width : {A : Type 0} → (P : Answering → A → Type 0) (asked : Asked) (wide : Bool) (limit : ℕ) (found : A) → asked.wide ≡ wide
     → P (answers_as asked.texts asked.legacy (answers_by (cpp_by wide) asked.legacy limit asked.detail)) found → P (answers_at asked limit) found
 by-width P asked wide limit found is given = subst (λ b. P (answers_as asked.texts asked.legacy (answers_by (cpp_by b) asked.legacy limit asked.detail)) found) (sym is) given

@@ -1,4 +1,4 @@
--- What is kept of a text, with more of it.
+-- What is kept of a text to which more bytes are added.
 use Rattle.std.proofs.Common.{◌≡◌, ◌+◌, ◌∙◌, ◌++◌, ◌∷◌, [], List, ℕ, true, false, sym, ap, subst, replicate, append_assoc}
 use Rattle.std.specs.Prelude.{not}
 use Rattle.std.proofs.lemmas.List.{append-nil, replicate_more}
@@ -11,7 +11,7 @@ use Rattle.sym_calls.specs.Counted.{Adds, Holds}
 pub Holds-as : (kept : Counted) (most : ℕ) (a b : List ℕ) → a ≡ b → Holds kept most a → Holds kept most b
 Holds-as kept most a b same h = subst (λ (t : List ℕ). Holds kept most t) same h
 
--- what follows on bytes that don't stay, and on those that do
+-- what follows taken bytes: only the dots where these bytes don't stay, and the dots and the bytes where they do
 pub following-dots : (taken : Taken) (bytes : List ℕ) → not taken.stay ≡ true → replicate taken.dots 46 ≡ following taken bytes
 following-dots taken bytes h = sym (ap (λ (t : List ℕ). replicate taken.dots 46 ++ t) (cond-false taken.stay bytes [] (not-true taken.stay h)) ∙ append-nil (replicate taken.dots 46))
 
@@ -29,6 +29,6 @@ Adds-as old new a b same h = subst (λ (t : List ℕ). Adds old new t) same h
 pub Adds-join : (old mid new : Counted) (a b : List ℕ) → Adds old mid a → Adds mid new b → Adds old new (a ++ b)
 Adds-join old mid new a b h i = λ most text so_far. Holds-as new most ((text ++ a) ++ b) (text ++ (a ++ b)) (append_assoc text a b) (i most (text ++ a) (h most text so_far))
 
--- with one more dot
+-- dots that are counted, and one dot more
 pub Adds-dot : (old mid new : Counted) (n : ℕ) → Adds old mid (replicate n 46) → Adds mid new (46 ∷ []) → Adds old new (replicate (n + 1) 46)
 Adds-dot old mid new n h i = Adds-as old new (replicate n 46 ++ 46 ∷ []) (replicate (n + 1) 46) (replicate_more n 46) (Adds-join old mid new (replicate n 46) (46 ∷ []) h i)

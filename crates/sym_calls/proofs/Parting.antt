@@ -1,4 +1,4 @@
--- What a text with parts writes, by whether both have room.
+-- What a call for a text with parts writes, by whether both have room.
 use Rattle.std.proofs.Common.{◌≡◌, ◌≤◌, ◌⊎◌, inl, inr, ℕ, List, length, drop, map, ◌++◌, Bool, true, false, Option, Some, None, Result, Ok, Err, ap, sym, subst, ◌∙◌, arith}
 use Rattle.std.specs.Prelude.{◌&&◌, nat_le, not, if◌then◌else◌}
 use Rattle.std.proofs.lemmas.List.{length-map}
@@ -26,7 +26,7 @@ full parsed mangling buffer parts = record {
   found = reported parsed mangling;
 }
 
--- neither is
+-- neither is written
 abbrev pub small : Parsed → (mangling : ℕ) → (buffer : List ℕ) → (parts : List NamePart) → PartsEnding
 small parsed mangling buffer parts = record { ending = record { status = 6; buffer = buffer; length = length parsed.text; offset = 0 }; parts = parts; found = reported parsed mangling }
 
@@ -62,7 +62,7 @@ both-full-end parsed mangling buffer buffer' parts parts' found size fits sizes 
     ∙ ap (λ f. record { ending = record { status = 0; buffer = parsed.text ++ drop (length parsed.text) buffer; length = length parsed.text; offset = 0 }; parts = map numbered parsed.parts ++ drop (length parsed.parts) parts; found = f }) is
     ∙ sym (both-full parsed mangling buffer parts fits))
 
--- the parts are put where they are as many as the text has
+-- putting as many parts as the text has puts the text's parts
 pub put-numbered : (given list put parts : List NamePart) (found : List Part) → given ≡ list → list ≡ map numbered found → put ≡ given ++ drop (length given) parts → put ≡ map numbered found ++ drop (length found) parts
 put-numbered given list put parts found is lists puts =
     puts ∙ ap (λ l. l ++ drop (length l) parts) (is ∙ lists) ∙ ap (λ n. map numbered found ++ drop n parts) (length-map found numbered)
@@ -130,7 +130,7 @@ unfolding parts_of_kind
 name-parts-end parses asked name buffer parts kind ended is ends =
     subst (λ (n : Result Kind ℕ). PartsEndAs (parts_of_kind parses asked.legacy n name buffer parts) buffer parts ended) (sym is) ends
 
--- a name that names none
+-- a name that names no symbol
 pub no-name-parts-end : (parses : Parsing) (asked : Asked) (name buffer : List ℕ) (parts : List NamePart) (status : ℕ) (found : NameFound) (ending : Ending) → named asked.underscore name ≡ Err status
     → found ≡ none_found → ending ≡ status_alone status buffer
     → PartsEndAs (name_parts_told parses asked name buffer parts) buffer parts (record { ending = ending; parts = parts; found = found })
@@ -139,7 +139,7 @@ no-name-parts-end parses asked name buffer parts status found ending is none tol
     subst (λ (n : Result Kind ℕ). PartsEndAs (parts_of_kind parses asked.legacy n name buffer parts) buffer parts (record { ending = ending; parts = parts; found = found })) (sym is)
     (inl (none-ends ending parts found none ∙ ap (λ e. without_text e parts) told))
 
--- legacy names as paths or not
+-- what holds of both ways to read legacy names holds of the requested one
 pub parses-as-legacy : {W : Type 0} (P : Parsing → Type 0) (cpp : Mangled W) (marking : Marking W) (asked : Asked) (legacy : Bool) (limit limit' : ℕ) (detail : Detail) → asked.legacy ≡ legacy → limit' ≡ limit → detail ≡ asked.detail
     → P (parsed_by cpp marking legacy limit' detail) → P (parsed_by cpp marking asked.legacy limit asked.detail)
 parses-as-legacy P cpp marking asked legacy limit limit' detail is limits details h =
@@ -148,7 +148,7 @@ parses-as-legacy P cpp marking asked legacy limit limit' detail is limits detail
 
 -- ## Flags
 
--- a flag is none
+-- one of the flags doesn't exist
 pub no-flag-ends : (asked : Option Asked) (limit : ℕ) (name buffer : List ℕ) (parts : List NamePart) (found : NameFound) (ending : Ending) → asked ≡ None → found ≡ none_found → ending ≡ status_alone 8 buffer
     → PartsEndAs (parts_told asked limit name buffer parts) buffer parts (record { ending = ending; parts = parts; found = found })
 unfolding parts_told

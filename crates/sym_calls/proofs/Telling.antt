@@ -1,4 +1,4 @@
--- How many names get their outcomes, one after the other.
+-- How each of many names gets its outcome, one after the other.
 use Rattle.std.proofs.Common.{◌≡◌, ◌≤◌, ◌<◌, inl, inr, ℕ, ◌+◌, ◌-◌, Bool, true, false, cond, List, [], ◌∷◌, ◌++◌, length, take, drop, get_or, set, Option, Some, Result, Ok, Err, refl, sym, ap, ap₂, subst, ◌∙◌, arith}
 use Rattle.std.specs.Prelude.{nat_eq, nat_le, ◌==◌, ◌&&◌, if◌then◌else◌}
 use Rattle.std.proofs.lemmas.Bool.{le-leb, leb-true}
@@ -20,7 +20,7 @@ both : (a b : Bool) → a && b ≡ true → (a ≡ true) × (b ≡ true)
 both true b holds = (refl, holds)
 both false b holds = cc
 
--- the ends after one that increases
+-- after an end that increases, the other ends are left
 pub ends-on : (from most : ℕ) (ends : List ℕ) (i : ℕ) → i < length ends → from ≤ get_or ends i 0 → are_ends from most (drop i ends) ≡ are_ends (get_or ends i 0) most (drop (i + 1) ends)
 unfolding are_ends
 ends-on from most ends i within up = ap (λ l. are_ends from most l) (drop_more ends i 0 within) ∙ ap (λ b. b && are_ends (get_or ends i 0) most (drop (i + 1) ends)) (le-leb from (get_or ends i 0) up)
@@ -36,7 +36,7 @@ ends-within from most [] is = leb-true from most is
 ends-within from most (end ∷ ends) is =
     let first : from ≤ end = leb-true from end (both _ _ is).0 in let rest : end ≤ most = ends-within end most ends (both (nat_le from end) (are_ends end most ends) is).1 in omega (arith, first, rest)
 
--- where a name is
+-- the place of a name
 pub ends-at : (from most : ℕ) (ends : List ℕ) (i : ℕ) → i < length ends → are_ends from most (drop i ends) ≡ true
     → (from ≤ get_or ends i 0) × (get_or ends i 0 ≤ most) × (are_ends (get_or ends i 0) most (drop (i + 1) ends) ≡ true)
 unfolding are_ends
@@ -44,7 +44,7 @@ ends-at from most ends i within is =
     let here = both _ _ (sym (ap (λ l. are_ends from most l) (drop_more ends i 0 within)) ∙ is) in
     (leb-true from (get_or ends i 0) here.0, ends-within (get_or ends i 0) most (drop (i + 1) ends) here.1, here.1)
 
--- what an ending took of its buffer
+-- how many bytes an ending took of its buffer
 abbrev took : Ending → ℕ
 took ending = if ending.status == 0 then ending.length else 0
 

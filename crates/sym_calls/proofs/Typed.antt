@@ -24,11 +24,11 @@ none-second true false c is = refl
 none-second true true c is = cc
 none-second false b c is = refl
 
--- a name is read as a single one where it has no symbol
+-- a name that is read as a type has no symbol
 is-nameless : (types : Bool) (status : ℕ) (name : List ℕ) → ReadsType types status name true → status ≡ 11
 is-nameless types status name is = eqb-true status 11 (second types (status == 11) (is_type_word name) is)
 
--- any other outcome of a call is one for a symbol, and may be a want of memory
+-- each other outcome of a call is one for a symbol, or is a lack of memory
 low-reads : (types : Bool) (status : ℕ) (name : List ℕ) → status ≤ 6 → ReadsType types status name false
 low-reads types status name low = none-second types (status == 11) (is_type_word name) (ne_eqb status 11 (λ is. omega (arith, low, is)))
 
@@ -58,7 +58,7 @@ type-told types answers (Err status) name before after outcome found reads (inl 
 type-told types answers (Err status) name before after outcome found reads (inr (low, is)) given =
     absurd (not-nameless outcome (subst (λ n. n ≤ 6) (sym (status-is outcome after _ is)) (omega arith)) (is-nameless types outcome.status name reads))
 
--- one that isn't
+-- a name that isn't answered as a type
 pub symbol-told : (types : Bool) (answers : Answering) (kind : Result Kind ℕ) (name before after : List ℕ) (outcome : Outcome) → ReadsType types outcome.status name false
     → EndsAs (told_of answers kind name before) before (ending_of outcome after) → EndsAs (type_or_told types answers kind name before) before (ending_of outcome after)
 unfolding told_of type_or_told

@@ -23,7 +23,7 @@ use Rattle.sym_calls.specs.declared.filtering.TextTally.{TextTally}
 unfoldable pub has : (flags flag : ℕ) → Bool
 has flags flag = not (bit_and flags flag == 0)
 
--- how much of a symbol flags request: 1 is brief, 2 without parameters
+-- the detail that flags request: 1 is brief, 2 is without parameters
 unfoldable pub detail_of : ℕ → Detail
 detail_of flags =
     if has flags 1 then (if has flags 2 then Detail.BriefNoParameters else Detail.Brief)
@@ -33,20 +33,20 @@ detail_of flags =
 unfoldable pub letters_of : ℕ → Letters
 letters_of flags = if has flags 64 then Letters.Within else (if has flags 32 then Letters.Ascii else Letters.Any)
 
--- what flags request, if each is one: 4 is the wide grammar, 8 that legacy Rust names are paths, 16 that a name may begin with
--- an underscore, 128 that a name without a symbol may be a type, 256 that texts of C++ symbols are short, 512 that short ones
--- have inline namespaces
+-- what flags request, if each flag exists: 4 the wide grammar, 8 that legacy Rust names are paths, 16 that a name may begin with an
+-- underscore, 128 that a name without a symbol may be a type, 256 that texts of C++ symbols are short, 512 that short texts have inline
+-- namespaces
 unfoldable pub asked_of : ℕ → Option Asked
 asked_of flags =
     if nat_lt flags 1024 then Some (record { detail = detail_of flags; texts = texts_by (has flags 256) (has flags 512); wide = has flags 4; legacy = has flags 8; underscore = has flags 16; letters = letters_of flags; types = has flags 128 })
     else None
 
--- what is answered for symbols then
+-- what is answered for symbols, as flags request
 abbrev pub answers_at : Asked → (limit : ℕ) → Answering
 answers_at asked limit = answers_as asked.texts asked.legacy (answers_by (cpp_by asked.wide) asked.legacy limit asked.detail)
 
--- The kind of a name whose symbol is read, by how it begins; or the status of one that names none (11), also where an
--- underscore that no flag allows precedes its symbol, or whose symbol has too many bytes (7).
+-- The kind of a name whose symbol is read, by the name's first bytes; or a status. The status is 11 for a name without a symbol, which may
+-- be a symbol after an underscore that no flag allows, and 7 for a symbol of too many bytes.
 unfoldable pub named : (underscore : Bool) → List ℕ → Result Kind ℕ
 named underscore name =
     elim (kind_by_beginning name) [
@@ -62,11 +62,11 @@ pub record Ending : Type 0 where
   pub length : ℕ
   pub offset : ℕ
 
--- with this outcome, and this buffer
+-- how a call ends with this outcome and this buffer
 abbrev pub ending_of : Outcome → List ℕ → Ending
 ending_of outcome buffer = record { status = outcome.status; buffer = buffer; length = outcome.length; offset = outcome.offset }
 
--- only a status; the buffer stays as it was
+-- how a call ends with only a status; the buffer stays as it was
 abbrev pub status_alone : ℕ → List ℕ → Ending
 status_alone status buffer = record { status = status; buffer = buffer; length = 0; offset = 0 }
 
@@ -82,7 +82,7 @@ refused (BadValue at) skip buffer = status_at 3 at skip buffer
 refused TooLong skip buffer = status_alone 4 buffer
 refused Memory skip buffer = status_alone 5 buffer
 
--- bytes written to the front of a buffer, or how large it has to be
+-- bytes are written to the front of a buffer, or the call says how large the buffer has to be
 unfoldable pub written : List ℕ → List ℕ → Ending
 written bytes buffer =
     if nat_le (length bytes) (length buffer)
@@ -97,7 +97,7 @@ answered (Err refusal) skip buffer = refused refusal skip buffer
 abbrev pub IsTextWritten : Result (List ℕ) Refusal → (old_buffer : List ℕ) → (found : Ending) → Type 0
 IsTextWritten answer old_buffer found = (text : List ℕ) × (answer ≡ Ok text) × (found ≡ written text old_buffer)
 
--- what is answered for the symbol of a name of a kind, or the status of one without
+-- what is answered for the symbol of a name of a kind, or the status of a name without a symbol
 unfoldable pub told_of : Answering → Result Kind ℕ → (name buffer : List ℕ) → Ending
 told_of answers (Ok kind) name buffer = answered (answers kind (symbol_of kind name)) kind.skip buffer
 told_of answers (Err status) name buffer = status_alone status buffer
@@ -106,8 +106,7 @@ told_of answers (Err status) name buffer = status_alone status buffer
 abbrev pub name_told : Answering → Asked → (name buffer : List ℕ) → Ending
 name_told answers asked name buffer = told_of answers (named asked.underscore name) name buffer
 
--- What is answered for a name by its symbol; or by the type that it may be, where it begins as no symbol does (11), and types
--- are requested.
+-- What is answered for a name by its symbol; or by the type that the name may be, if it doesn't begin like a symbol (11) and types are requested.
 unfoldable pub type_or_told : (types : Bool) → Answering → Result Kind ℕ → (name buffer : List ℕ) → Ending
 type_or_told types answers (Ok kind) name buffer = told_of answers (Ok kind) name buffer
 type_or_told types answers (Err status) name buffer =
@@ -116,7 +115,7 @@ type_or_told types answers (Err status) name buffer =
 abbrev pub name_or_type_told : Answering → Asked → (name buffer : List ℕ) → Ending
 name_or_type_told answers asked name buffer = type_or_told asked.types answers (named asked.underscore name) name buffer
 
--- the text of a name's symbol, or of its type
+-- the text of a name's symbol, or of the type that the name is
 unfoldable pub text_told : Option Asked → (limit : ℕ) → (name buffer : List ℕ) → Ending
 text_told None limit name buffer = status_alone 8 buffer
 text_told (Some asked) limit name buffer = name_or_type_told (answers_at asked limit) asked name buffer
@@ -131,17 +130,16 @@ press_told None name buffer = status_alone 8 buffer
 press_told (Some asked) name buffer =
     if asked.wide then unspelled (name_told wide_pressed_of asked name buffer) else name_told pressed_of asked name buffer
 
--- a text with each word that has a text replaced by it
+-- a text in which each word that has a text is replaced by that text
 unfoldable pub filter_told : Option Asked → (limit : ℕ) → (text buffer : List ℕ) → Ending
 filter_told None limit text buffer = status_alone 8 buffer
 filter_told (Some asked) limit text buffer = written (filtered_at asked.letters (answers_at asked limit) text) buffer
 
--- A call ends this way, or runs out of memory and leaves the buffer as it was; calls that their arguments alone refuse never
--- run out.
+-- A call ends this way, or runs out of memory and leaves the buffer as it was. Calls that are refused for their arguments never run out of memory.
 abbrev pub EndsAs : (wanted : Ending) → (old_buffer : List ℕ) → (found : Ending) → Type 0
 EndsAs wanted old_buffer found = (found ≡ wanted) ⊎ ((wanted.status ≤ 6) × (found ≡ status_alone 5 old_buffer))
 
--- A call that presses ends as others do; it may also run out of memory where a symbol has no spelling (12).
+-- A call that presses ends as other calls do. It may also run out of memory where a symbol has no spelling (12).
 abbrev pub PressEndsAs : (wanted : Ending) → (old_buffer : List ℕ) → (found : Ending) → Type 0
 PressEndsAs wanted old_buffer found = EndsAs wanted old_buffer found ⊎ ((wanted.status ≡ 12) × (found ≡ status_alone 5 old_buffer))
 
@@ -149,11 +147,11 @@ PressEndsAs wanted old_buffer found = EndsAs wanted old_buffer found ⊎ ((wante
 abbrev pub tally_of : TextTally → Tally
 tally_of tally = record { words = tally.words; replaced = tally.replaced; refused = tally.refused }
 
--- what is reported of a filtered text's words: with status 0 this tally, else nothing
+-- what is reported of a filtered text's words: this tally with status 0, and otherwise nothing
 abbrev pub Tallied : Tally → (old new : TextTally) → (status : ℕ) → Type 0
 Tallied counted old new status = ((status ≡ 0) × (tally_of new ≡ counted)) ⊎ ((status ≢ 0) × (new ≡ old))
 
--- nothing where a flag is none, else the tally of the text
+-- nothing where one of the flags doesn't exist, and otherwise the tally of the text
 unfoldable pub IsTallied : Option Asked → (limit : ℕ) → (text : List ℕ) → (old new : TextTally) → (status : ℕ) → Type 0
 IsTallied None limit text old new status = new ≡ old
 IsTallied (Some asked) limit text old new status = Tallied (tally_at asked.letters (answers_at asked limit) text) old new status
@@ -162,27 +160,27 @@ IsTallied (Some asked) limit text old new status = Tallied (tally_at asked.lette
 abbrev pub numbers_of : SymbolCounts → Counts
 numbers_of counts = record { rows = counts.rows; nodes = counts.nodes; steps = counts.steps }
 
--- How counting ends for a symbol with this answer at a limit of 0: with the symbol's counts, where it is read; or with the
--- reason why it isn't, or a want of memory, and the counts as they were.
+-- How counting ends for a symbol with this answer at a limit of 0. A symbol that is read gets its counts. Otherwise the status is the
+-- reason why it isn't read, or a lack of memory, and the counts stay as they were.
 unfoldable pub IsCounted : Result (List ℕ) Refusal → (are_counts : Counts → Type 0) → (skip : ℕ) → (old new : SymbolCounts) → Ending → Type 0
 IsCounted answer are_counts skip old new found =
     ((found ≡ status_alone 0 []) × are_counts (numbers_of new))
     ⊎ ((new ≡ old) × ((found ≡ status_alone 5 [])
     ⊎ ((refusal : Refusal) × (refusal ≢ TooLong) × (answer ≡ Err refusal) × (found ≡ refused refusal skip []))))
 
--- for the symbol of a name, with C++ by the wide grammar or the other
+-- how counting ends for the symbol of a name, with either grammar of C++
 unfoldable pub CountingEndsBy : (wide : Bool) → Kind → List ℕ → (old new : SymbolCounts) → Ending → Type 0
 CountingEndsBy true kind symbol old new found =
     IsCounted (wide_answer_of 0 Detail.Full kind symbol) (AreWideCountsOf kind.lang symbol) kind.skip old new found
 CountingEndsBy false kind symbol old new found =
     IsCounted (answer_of 0 Detail.Full kind symbol) (AreCountsOf kind.lang symbol) kind.skip old new found
 
--- for a name, or a status where it has no symbol that is read
+-- how counting ends for a name: as for its symbol, or with a status where the name has no symbol that is read
 unfoldable pub NameCounted : (wide : Bool) → Result Kind ℕ → (name : List ℕ) → (old new : SymbolCounts) → Ending → Type 0
 NameCounted wide (Ok kind) name old new found = CountingEndsBy wide kind (symbol_of kind name) old new found
 NameCounted wide (Err status) name old new found = (new ≡ old) × (found ≡ status_alone status [])
 
--- How counting ends; of a detail only the grammar matters.
+-- How counting ends. Of what flags request, only the grammar and the underscore matter.
 unfoldable pub CountingEndsAs : Option Asked → (name : List ℕ) → (old new : SymbolCounts) → Ending → Type 0
 CountingEndsAs None name old new found = (new ≡ old) × (found ≡ status_alone 8 [])
 CountingEndsAs (Some asked) name old new found = NameCounted asked.wide (named asked.underscore name) name old new found

@@ -1,11 +1,11 @@
--- What is kept of a text that is counted.
+-- The bytes that are kept of a text whose bytes are counted.
 use Rattle.std.specs.Prelude.{◌≡◌, ◌≤◌, ℕ, List, ◌++◌, length}
 use Rattle.sym_calls.specs.declared.counted.Counted.{Counted}
 
--- The count is that of the text's bytes; the list has the text where that has at most n bytes, and never more bytes than n.
+-- The count is that of the text's bytes. The list has the text where the text has at most this many bytes, and never has more bytes than these.
 abbrev pub Holds : Counted → (most : ℕ) → List ℕ → Type 0
 Holds counted most text = (counted.most ≡ most) × (counted.count ≡ length text) × (length text ≤ most → counted.list.items ≡ text) × (length counted.list.items ≤ most)
 
--- Whatever text was counted before, it is counted with these bytes after it.
+-- Whatever text was counted before, that text followed by these bytes is counted now.
 abbrev pub Adds : (old new : Counted) → List ℕ → Type 0
 Adds old new bytes = (most : ℕ) (text : List ℕ) → Holds old most text → Holds new most (text ++ bytes)

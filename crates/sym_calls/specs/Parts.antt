@@ -16,13 +16,13 @@ use Rattle.sym_calls.specs.declared.outcome.Outcome.{Outcome}
 use Rattle.sym_calls.specs.declared.parts.NameFound.{NameFound}
 use Rattle.sym_calls.specs.declared.parts.NamePart.{NamePart}
 
--- how a call for parts ends: as a call for the text does, with the caller's parts after it, and what is reported of the name
+-- how a call for parts ends: how a call for the text ends, what the caller's parts are then, and what is reported of the name
 pub record PartsEnding : Type 0 where
   pub ending : Ending
   pub parts : List NamePart
   pub found : NameFound
 
--- with this outcome, and these parts
+-- how a call for parts ends with this outcome and these parts
 abbrev pub parts_ending : Outcome → (buffer : List ℕ) → (parts : List NamePart) → NameFound → PartsEnding
 parts_ending outcome buffer parts found = record { ending = ending_of outcome buffer; parts = parts; found = found }
 
@@ -30,7 +30,7 @@ parts_ending outcome buffer parts found = record { ending = ending_of outcome bu
 abbrev pub none_found : NameFound
 none_found = record { count = 0; kind = 0; mangling = 0 }
 
--- as a call for a text ends that writes none
+-- the end of a call for a text that writes no text
 abbrev pub without_text : Ending → (parts : List NamePart) → PartsEnding
 without_text ending parts = record { ending = ending; parts = parts; found = none_found }
 
@@ -42,7 +42,7 @@ numbered part = record { role = role_number part.role; start = part.start; lengt
 abbrev pub reported : Parsed → (mangling : ℕ) → NameFound
 reported parsed mangling = record { count = length parsed.parts; kind = kind_number parsed.kind; mangling = mangling }
 
--- text and parts are written to the front of the buffer and of the caller's parts, or where one of them has no room, neither is
+-- the text is written to the front of the buffer, and the parts to the front of the caller's parts; where one of both has no room, neither is written
 unfoldable pub both_written : Parsed → (mangling : ℕ) → (buffer : List ℕ) → (parts : List NamePart) → PartsEnding
 both_written parsed mangling buffer parts =
     if nat_le (length parsed.text) (length buffer) && nat_le (length parsed.parts) (length parts)
@@ -57,7 +57,7 @@ unfoldable pub parsed_told : Result Parsed Refusal → (mangling skip : ℕ) →
 parsed_told (Ok parsed) mangling skip buffer parts = both_written parsed mangling buffer parts
 parsed_told (Err refusal) mangling skip buffer parts = without_text (refused refusal skip buffer) parts
 
--- what is answered for the symbol of a name of a kind, or the status of one without
+-- what is answered for the symbol of a name of a kind, or the status of a name without a symbol
 unfoldable pub parts_of_kind : Parsing → (legacy : Bool) → Result Kind ℕ → (name buffer : List ℕ) → (parts : List NamePart) → PartsEnding
 parts_of_kind parses legacy (Ok kind) name buffer parts =
     parsed_told (parses kind (symbol_of kind name)) (mangling_number (mangling_of legacy kind.lang (symbol_of kind name))) kind.skip buffer parts
@@ -66,7 +66,7 @@ parts_of_kind parses legacy (Err status) name buffer parts = without_text (statu
 abbrev pub name_parts_told : Parsing → Asked → (name buffer : List ℕ) → (parts : List NamePart) → PartsEnding
 name_parts_told parses asked name buffer parts = parts_of_kind parses asked.legacy (named asked.underscore name) name buffer parts
 
--- texts are whole
+-- whether texts are whole
 unfoldable pub is_whole : Texts → Bool
 is_whole texts.Whole = true
 is_whole _ = false
@@ -79,8 +79,8 @@ parts_told (Some asked) limit name buffer parts =
     then name_parts_told (parsed_by (cpp_by asked.wide) cpp_marking asked.legacy limit asked.detail) asked name buffer parts
     else without_text (status_alone 8 buffer) parts
 
--- A call ends this way, or runs out of memory and leaves the buffer and the parts as they were; calls that their arguments alone
--- refuse never run out.
+-- A call ends this way, or runs out of memory and leaves the buffer and the parts as they were. Calls that are refused for their arguments
+-- never run out of memory.
 abbrev pub PartsEndAs : (wanted : PartsEnding) → (old_buffer : List ℕ) → (old_parts : List NamePart) → (found : PartsEnding) → Type 0
 PartsEndAs wanted old_buffer old_parts found =
     (found ≡ wanted) ⊎ ((wanted.ending.status ≤ 6) × (found ≡ without_text (status_alone 5 old_buffer) old_parts))

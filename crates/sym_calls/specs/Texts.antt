@@ -5,7 +5,7 @@ use Rattle.sym_calls.specs.Calls.{EndsAs, answers_at, ending_of, name_or_type_to
 use Rattle.sym_calls.specs.declared.outcome.Outcome.{Outcome}
 use Rattle.sym_calls.specs.declared.flags.Asked.{Asked}
 
--- ends that increase, from a place to at most another
+-- ends that increase, from one place on and up to at most another
 unfoldable pub are_ends : (from most : ℕ) → List ℕ → Bool
 are_ends from most [] = nat_le from most
 are_ends from most (end ∷ ends) = nat_le from end && are_ends end most ends
@@ -14,12 +14,12 @@ are_ends from most (end ∷ ends) = nat_le from end && are_ends end most ends
 abbrev pub placed : Outcome → ℕ
 placed outcome = if outcome.status == 0 then outcome.length else 0
 
--- A name gets the answer of the call over one: over what is left of the buffer, which then is `after`.
+-- A name gets the answer of the call for one name, whose buffer is what is left of the buffer. After that call it is `after`.
 abbrev pub IsTold : Answering → Asked → (name left : List ℕ) → Outcome → (after : List ℕ) → Type 0
 IsTold answers asked name left outcome after = EndsAs (name_or_type_told answers asked name left) left (ending_of outcome after)
 
--- Names get their outcomes in order, each from where the one before it ends. What a text took of the buffer stays, and the rest
--- is left to the names after it.
+-- Names get their outcomes in order; each name begins where the one before it ends. What a text took of the buffer stays, and the rest is
+-- left to the names after it.
 unfoldable pub AreTold : Answering → Asked → (names : List ℕ) → (from : ℕ) → (ends left new : List ℕ) → List Outcome → Type 0
 AreTold answers asked names from [] left new [] = new ≡ left
 AreTold answers asked names from (end ∷ ends) left new (outcome ∷ others) =
@@ -27,13 +27,13 @@ AreTold answers asked names from (end ∷ ends) left new (outcome ∷ others) =
     × (new ≡ take (placed outcome) after ++ rest) × AreTold answers asked names end ends (drop (placed outcome) after) rest others
 AreTold answers asked names from ends left new outcome = ⊥
 
--- Where the ends are right each name gets its outcome, and the status is 0. Else it is 10, and nothing is written.
+-- Where the ends are right each name gets its outcome, and the status is 0. Otherwise the status is 10, and nothing is written.
 unfoldable pub TextsEndBy : (are_right : Bool) → Answering → Asked → (names ends old new : List ℕ) → (untold told : List Outcome) → (status : ℕ) → Type 0
 TextsEndBy true answers asked names ends old new untold told status = (status ≡ 0) × AreTold answers asked names 0 ends old new told
 TextsEndBy false answers asked names ends old new untold told status = (status ≡ 10) × (new ≡ old) × (told ≡ untold)
 
--- How the call ends: 8 where a flag is none, and nothing is written; otherwise by whether the ends increase to at most the
--- length of all names, and match the outcomes in number.
+-- How the call ends. Where one of the flags doesn't exist, the status is 8, and nothing is written. Otherwise the call ends by whether the
+-- ends increase to at most the length of all names, and are as many as the outcomes.
 unfoldable pub TextsEndAs : Option Asked → (limit : ℕ) → (names ends old new : List ℕ) → (untold told : List Outcome) → (status : ℕ) → Type 0
 TextsEndAs None limit names ends old new untold told status = (status ≡ 8) × (new ≡ old) × (told ≡ untold)
 TextsEndAs (Some asked) limit names ends old new untold told status =

@@ -11,7 +11,7 @@ use sym_filter::escapes::{Escape, first_segment};
 use sym_filter::words::{Taken, Words};
 use sym_filter::{Demangler, Letters, Tally};
 
-/// How many bytes a text has, and the text itself, where there are at most n.
+/// How many bytes a text has, and the text itself, if it has at most n bytes.
 #[derive(Drop)]
 pub(crate) struct Counted {
     pub(crate) list: Vec<u8>,
@@ -31,7 +31,7 @@ impl Counted {
         }
     }
 
-    /// Takes bytes, and keeps them where there is room for all so far.
+    /// Takes bytes, and keeps them if there is room for all bytes so far.
     fn add(&mut self, bytes: &[u8]) -> Result<(), AllocError>
         ensures { OnOk result (Adds self.old self.new bytes.now) }
     {
@@ -55,7 +55,7 @@ impl Counted {
         Ok(())
     }
 
-    /// Takes what follows on taken bytes: dots, and the bytes where they stay.
+    /// Takes what follows taken bytes: dots, and the bytes themselves if these stay.
     fn add_following(&mut self, taken: Taken, bytes: &[u8]) -> Result<(), AllocError>
         ensures { OnOk result (Adds self.old self.new (following taken bytes.now)) }
     {
@@ -68,7 +68,7 @@ impl Counted {
     }
 }
 
-/// The filtered text of a text in memory, where it has at most n bytes, and how many it has. Apart from the words and the
+/// The filtered text of a text in memory, if the filtered text has at most n bytes, and how many bytes it has. Apart from the words and the
 /// demangler's lists, no more is held than n bytes and one word's text.
 ///
 /// # Errors
@@ -107,8 +107,8 @@ pub(crate) fn filter_counted<D: Demangler>(
     Ok((kept, words.tally()))
 }
 
-/// Takes bytes from the front of a text, up to the end of its first escape or all of them, and keeps what is known of the
-/// filtered text by them. Answers how many they are.
+/// Takes bytes from the front of a text, up to the end of its first escape or else all of them. Keeps what these bytes make of the filtered
+/// text, and answers how many bytes were taken.
 fn take_segment<D: Demangler>(
     demangler: &D,
     lists: &mut D::Lists,
@@ -138,7 +138,7 @@ fn take_segment<D: Demangler>(
     Ok(segment.length)
 }
 
-/// Takes a part of a segment, and keeps what is known of the filtered text by it.
+/// Takes a part of a segment, and keeps what that part makes of the filtered text.
 fn take_words<D: Demangler>(
     demangler: &D,
     lists: &mut D::Lists,
@@ -165,7 +165,7 @@ fn take_words<D: Demangler>(
     Ok(())
 }
 
-/// Keeps what is still to come of a segment at its end.
+/// Keeps what the end of a segment adds to the filtered text.
 fn end_segment<D: Demangler>(
     demangler: &D,
     lists: &mut D::Lists,

@@ -24,8 +24,8 @@ pub struct SymbolCounts {
     pub steps: u32,
 }
 
-/// Puts the counts of a name's symbol into the caller's. Otherwise the outcome says why the symbol isn't read, and the counts
-/// stay as they are.
+/// Puts the counts of a name's symbol into the caller's counts, if the symbol is read. Otherwise the outcome says why it isn't, and the
+/// caller's counts stay as they are.
 #[tactic(auto, unfolding(crate::specs::Calls::CountingEndsAs, crate::specs::Calls::NameCounted))]
 pub fn counts_of(alloc: Global, name: &[u8], flags: u32, counts: &mut SymbolCounts) -> Outcome
     ensures { CountingEndsAs (asked_of flags) name.now counts.old counts.new (ending_of result []) }
@@ -44,7 +44,7 @@ pub fn counts_of(alloc: Global, name: &[u8], flags: u32, counts: &mut SymbolCoun
     count_in(alloc, Abi, kind, symbol, counts)
 }
 
-/// Puts the counts of a symbol, which is read with a grammar of C++ and has no room for a text, into the caller's.
+/// Puts the counts of a symbol into the caller's counts. The symbol is read with a grammar of C++, and gets no room for a text.
 fn count_in<C: Cpp>(
     alloc: Global,
     cpp: C,

@@ -15,7 +15,7 @@ use sym_languages::languages::Cpp;
 use sym_languages::{Abi, Wide};
 use sym_short::{Rewriting, Shortening, Texts};
 
-/// How many words of a text name symbols, were replaced by a text, and were not.
+/// How many words of a text name symbols: those that were replaced by a text, and those that weren't.
 #[repr(C)]
 #[derive(Clone, Copy)]
 pub struct TextTally {
@@ -24,7 +24,7 @@ pub struct TextTally {
     pub refused: u64,
 }
 
-/// Writes a text that was kept to the front of the buffer, or says how large that has to be.
+/// Writes a text that was kept to the front of the buffer, or says how large the buffer has to be.
 #[tactic(auto, unfolding(crate::specs::Calls::written))]
 fn write_kept(kept: &Counted, buffer: &mut [u8]) -> Outcome
     ensures { (text : List ℕ) → Holds kept.now (length buffer.old) text → ending_of result buffer.new ≡ written text buffer.old }
@@ -53,7 +53,7 @@ fn told(kept: &Counted, counted: Tally, buffer: &mut [u8], tally: &mut TextTally
     outcome
 }
 
-/// Writes a filtered text to the front of the buffer. No more of it is kept before that than the buffer has bytes.
+/// Writes a filtered text to the front of the buffer. Before that no more bytes of the text are kept than the buffer has.
 fn filter_by<D: Demangler>(
     alloc: Global,
     demangler: &D,
@@ -93,7 +93,7 @@ fn filter_in<C: Cpp>(
     filter_as(alloc, languages, asked, text, buffer, tally)
 }
 
-/// Writes a text that is filtered with a demangler, whose texts are made short where that is requested, to the front of the buffer.
+/// Filters a text with a demangler, whose texts are made short if that is requested, and writes the result to the front of the buffer.
 fn filter_as<D: Demangler + Copy + Drop>(
     alloc: Global,
     demangler: D,
@@ -118,9 +118,8 @@ fn filter_as<D: Demangler + Copy + Drop>(
     }
 }
 
-/// Writes a text to the front of the buffer with each word that is a symbol replaced by the symbol's text, where that costs at
-/// most the limit, and counts the words that name symbols. Otherwise the outcome says why not, and buffer and tally stay as
-/// they are.
+/// Writes a text to the front of the buffer, in which each word that names a symbol is replaced by the symbol's text, if that costs at most
+/// the limit. Counts the words that name symbols. Otherwise the outcome says why nothing is written, and buffer and tally stay as they are.
 #[tactic(auto, unfolding(crate::specs::Calls::filter_told, crate::specs::Calls::IsTallied))]
 pub fn filter_of(
     alloc: Global,

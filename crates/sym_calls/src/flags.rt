@@ -16,7 +16,7 @@ use type_names::is_type_word;
 
 /// Template and generic arguments are left out.
 pub const BRIEF: u32 = 1;
-/// Each C++ function is just its name, without its return type and parameters.
+/// Each C++ function is shown only by its name, without its return type and parameters.
 pub const NO_PARAMETERS: u32 = 2;
 /// C++ is read by the wide grammar.
 pub const WIDE: u32 = 4;
@@ -28,7 +28,7 @@ pub const UNDERSCORE: u32 = 16;
 pub const ASCII_WORDS: u32 = 32;
 /// Words of a text begin within its runs, too, as the program `demangle` finds them. Then `ASCII_WORDS` has no effect.
 pub const WITHIN: u32 = 64;
-/// A name that begins as no symbol does is read as a C++ type.
+/// A name that doesn't begin like a symbol is read as a C++ type.
 pub const TYPES: u32 = 128;
 /// Texts of C++ symbols are short.
 pub const SHORT: u32 = 256;
@@ -60,7 +60,7 @@ impl Asked {
         }
     }
 
-    /// Likewise, with Rust's legacy names as paths.
+    /// Both manglings for the request, with Rust's legacy names as paths.
     pub(crate) fn with_legacy<C: Cpp>(self, limit: u32, cpp: C) -> Legacy<C>
         ensures limit { result.languages.limit ≡ limit }
         ensures detail { result.languages.detail ≡ self.detail }
@@ -102,11 +102,11 @@ impl Asked {
     }
 }
 
-/// The kind of a name of any length by how it begins, if that is as a symbol does.
+/// The kind of a name of any length by its first bytes, if the name begins like a symbol.
 fn kind_by_beginning(name: &[u8]) -> Option<Kind>
     ensures { result ≡ kind_by_beginning name.now }
 {
-    // no kind's beginning is longer
+    // the first bytes of each kind are at most three
     kind_of(&name[..name.len().min(3)])
 }
 
@@ -143,7 +143,7 @@ fn letters_of(flags: u32) -> Letters
     }
 }
 
-/// What flags request, if each of them is one.
+/// What flags request, if each of them exists.
 #[tactic(auto, unfolding(crate::specs::Calls::asked_of))]
 pub(crate) fn asked_of(flags: u32) -> Option<Asked>
     ensures { result ≡ asked_of flags }

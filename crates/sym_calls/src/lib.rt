@@ -1,5 +1,5 @@
-//! The calls of the static library as plain functions: a name's text, the same with its parts, the texts of many names, a filtered
-//! text, a pressed spelling, and the work of reading a symbol, each with an outcome and into a buffer that the caller has.
+//! The calls of the static library as plain functions: a name's text, the same with its parts, the texts of many names, a filtered text, a
+//! pressed spelling, and the work of reading a symbol. Each call answers an outcome, and writes into a buffer of the caller.
 //!
 //! `symdemangle` exports each of them to C.
 #![tactic(auto)]

@@ -1,4 +1,4 @@
-// What a call reports to its caller: a status with what goes with it, and the bytes in the caller's buffer.
+// What a call reports to its caller: a status with its numbers, and the bytes in the caller's buffer.
 ghost use Rattle.std.specs.Prelude.{◌≡◌};
 ghost use Rattle.sym_calls.specs.Calls.{ending_of, refused, unspelled, written};
 
@@ -16,7 +16,7 @@ pub struct Outcome {
 
 /// A text or a spelling is in the buffer, or counts are reported.
 pub const OK: u32 = 0;
-/// No symbol has these bytes. The offset is that of the first byte that no symbol has there.
+/// No symbol has these bytes. The offset is that of the first byte that no symbol has at its place.
 pub const MALFORMED: u32 = 1;
 /// A reference names nothing. The offset is its own.
 pub const BAD_REFERENCE: u32 = 2;
@@ -34,9 +34,9 @@ pub const SIZE: u32 = 7;
 pub const FLAGS: u32 = 8;
 /// The ends of names decrease, pass their text, or are fewer or more than the outcomes. (9 is the header's: a pointer is null.)
 pub const ENDS: u32 = 10;
-/// The name begins as no symbol does.
+/// The name doesn't begin like a symbol.
 pub const NO_SYMBOL: u32 = 11;
-/// The symbol is read by the wide grammar, and its pressed spelling isn't read as the same.
+/// The symbol is read by the wide grammar, and its pressed spelling isn't read as the same tree.
 pub const NO_SPELLING: u32 = 12;
 
 /// A status with nothing else.
@@ -82,7 +82,7 @@ pub(crate) fn of_refusal(refusal: Refusal, skip: u32, buffer: &[u8]) -> Outcome
     }
 }
 
-/// The outcome of a call that presses, where a symbol that is too long has no spelling.
+/// The outcome of a call that presses: the refusal `TooLong` means there that the symbol has no spelling.
 #[tactic(auto, unfolding(crate::specs::Calls::unspelled))]
 pub(crate) fn unspelled(outcome: Outcome, buffer: &[u8]) -> Outcome
     ensures { ending_of result buffer.now ≡ unspelled (ending_of outcome buffer.now) }

@@ -29,8 +29,8 @@ pub struct NamePart {
     pub to: u32,
 }
 
-/// What is reported of a name that has a text: how many parts that has, and the numbers of what the name is and of how it is
-/// mangled (those of `NameKind` and `Mangling`). Otherwise they are 0.
+/// What is reported of a name that has a text: how many parts the text has, what the name is, and how it is mangled, as the numbers of
+/// `NameKind` and `Mangling`. Where the name has no text these are 0.
 #[repr(C)]
 #[derive(Clone, Copy)]
 pub struct NameFound {
@@ -89,7 +89,7 @@ fn length_of(parsed: &Parsed) -> usize
     parsed.text.len()
 }
 
-/// Whether a text fits into a buffer, and its parts into the caller's.
+/// Whether a text fits into a buffer, and its parts fit into the caller's parts.
 fn have_room(parsed: &Parsed, buffer: &[u8], parts: &[NamePart]) -> bool
     ensures { result ≡ (nat_le (length (found_of parsed.now).text) (length buffer.now) && nat_le (length (found_of parsed.now).parts) (length parts.now)) }
 {
@@ -104,7 +104,7 @@ fn put_text(text: &[u8], buffer: &mut [u8])
     buffer[..text.len()].copy_from_slice(text);
 }
 
-/// Puts parts at the front of the caller's.
+/// Puts parts at the front of the caller's parts.
 fn put_parts(list: &[NamePart], parts: &mut [NamePart])
     requires { length list.now ≤ length parts.old }
     ensures { parts.new ≡ list.now ++ drop (length list.now) parts.old }
@@ -112,7 +112,7 @@ fn put_parts(list: &[NamePart], parts: &mut [NamePart])
     parts[..list.len()].copy_from_slice(list);
 }
 
-/// Writes a text and its parts to the front of the buffer and of the caller's parts, or says how large these have to be.
+/// Writes a text to the front of the buffer and its parts to the front of the caller's parts, or says how large both have to be.
 fn write_both(
     alloc: Global,
     parsed: &Parsed,
@@ -264,9 +264,9 @@ fn parts_asked(
     parts_in(alloc, Abi, asked, limit, name, buffer, parts, found)
 }
 
-/// Writes the text of a name's symbol to the front of the buffer and its parts to that of the caller's parts, if the text costs at
-/// most the limit and both have room; what the name is, and how many parts there are, is reported. Otherwise the outcome says why
-/// not, and buffer and parts stay as they are. Short texts and types have no parts: their flags are refused.
+/// Writes the text of a name's symbol to the front of the buffer and the text's parts to the front of the caller's parts, if the text costs
+/// at most the limit and both have room. Then it reports what the name is, and how many parts there are. Otherwise the outcome says why
+/// nothing is written, and buffer and parts stay as they are. Short texts and types have no parts: their flags are refused.
 pub fn parts_of(
     alloc: Global,
     name: &[u8],

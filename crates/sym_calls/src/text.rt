@@ -25,7 +25,7 @@ use sym_print::Detail;
 use sym_short::{Rewriting, Shortening, Texts};
 use type_names::append_type;
 
-/// Writes the text of a symbol to the front of the buffer, with lists that are used again.
+/// Writes the text of a symbol to the front of the buffer, with lists that are kept for the next symbol.
 fn symbol_with<D: Demangler>(
     demangler: &D,
     lists: &mut D::Lists,
@@ -44,7 +44,7 @@ fn symbol_with<D: Demangler>(
     }
 }
 
-/// Writes the text of a name's symbol to the front of the buffer, with lists that are used again.
+/// Writes the text of a name's symbol to the front of the buffer, with lists that are kept for the next name.
 pub(crate) fn name_with<D: Demangler>(
     demangler: &D,
     lists: &mut D::Lists,
@@ -64,7 +64,7 @@ pub(crate) fn name_with<D: Demangler>(
     }
 }
 
-/// Likewise with lists of its own.
+/// Writes the text of a name's symbol to the front of the buffer, with lists of its own.
 fn name_by<D: Demangler>(
     alloc: Global,
     demangler: &D,
@@ -106,7 +106,7 @@ fn write_short<M: Mangling>(
     Some(write(M::text(&direct), buffer))
 }
 
-/// Likewise for a C++ symbol that is shown only in part.
+/// Writes the text of a C++ symbol that is shown only in part, in the same way.
 fn write_less<C: Cpp>(
     alloc: Global,
     symbol: &[u8],
@@ -125,7 +125,7 @@ fn write_less<C: Cpp>(
     Some(write(C::text(&direct), buffer))
 }
 
-/// Likewise for a Rust symbol without its generic arguments.
+/// Writes the text of a Rust symbol without its generic arguments, in the same way.
 fn brief_once(alloc: Global, symbol: &[u8], limit: u32, buffer: &mut [u8]) -> Option<Outcome>
     requires { FitsSymbol symbol.now }
     ensures told { IfSome result (λ outcome. IsTextWritten (answer v0_mangled Brief symbol.now limit) buffer.old (ending_of outcome buffer.new)) }
@@ -138,7 +138,7 @@ fn brief_once(alloc: Global, symbol: &[u8], limit: u32, buffer: &mut [u8]) -> Op
     Some(write(V0::text(&direct), buffer))
 }
 
-/// Likewise in its language. A Rust symbol has no parameters.
+/// Writes the text of a symbol of either language in this way. A Rust symbol has no parameters.
 fn short_once<C: Cpp>(
     alloc: Global,
     languages: &Languages<C>,
@@ -187,7 +187,7 @@ fn symbol_by_rows<D: Demangler>(
     }
 }
 
-/// Writes the text of a name's symbol to the front of the buffer, with as few lists as it takes.
+/// Writes the text of a name's symbol to the front of the buffer, with only the lists that this needs.
 fn name_once<C: Cpp>(
     alloc: Global,
     languages: &Languages<C>,
@@ -208,7 +208,7 @@ fn name_once<C: Cpp>(
     }
 }
 
-/// The same where legacy Rust names are paths: a symbol that can't be such a name takes no more lists than where they aren't.
+/// The same with legacy Rust names as paths. A symbol that can't be such a name takes no more lists than without that option.
 fn legacy_once<C: Cpp>(
     alloc: Global,
     legacy: &Legacy<C>,
@@ -248,8 +248,8 @@ fn type_by<D: Demangler>(alloc: Global, demangler: &D, name: &[u8], buffer: &mut
     }
 }
 
-/// The outcome of a name whose symbol has this outcome: the same, or that of the type, where there is no symbol, types are
-/// requested and the name can be one.
+/// The outcome of a name whose symbol has this outcome. It is the outcome of the type, if there is no symbol, types are requested and the
+/// name can be one; otherwise it is that of the symbol.
 pub(crate) fn or_type<D: Demangler>(
     alloc: Global,
     demangler: &D,
@@ -267,7 +267,7 @@ pub(crate) fn or_type<D: Demangler>(
     outcome
 }
 
-/// Writes the text of a name's symbol, or of its type, with any demangler, to the front of the buffer.
+/// Writes the text of a name's symbol, or of the type that the name is, with any demangler, to the front of the buffer.
 fn text_by<D: Demangler>(
     alloc: Global,
     demangler: &D,
@@ -281,7 +281,7 @@ fn text_by<D: Demangler>(
     or_type(alloc, demangler, asked, name, buffer, outcome)
 }
 
-/// Writes the short text of a name's symbol, or of its type, with a grammar of C++, to the front of the buffer.
+/// Writes the short text of a name's symbol, or of the type that the name is, with a grammar of C++, to the front of the buffer.
 fn short_in<C: Cpp>(
     alloc: Global,
     cpp: C,
@@ -309,7 +309,7 @@ fn short_in<C: Cpp>(
     text_by(alloc, &short, asked, name, buffer)
 }
 
-/// Writes the whole text of a name's symbol, or of its type, with a grammar of C++, to the front of the buffer.
+/// Writes the whole text of a name's symbol, or of the type that the name is, with a grammar of C++, to the front of the buffer.
 fn whole_in<C: Cpp>(
     alloc: Global,
     cpp: C,
@@ -330,7 +330,7 @@ fn whole_in<C: Cpp>(
     or_type(alloc, &languages, asked, name, buffer, outcome)
 }
 
-/// Writes the text of a name's symbol, or of its type, as requested, with a grammar of C++, to the front of the buffer.
+/// Writes the text of a name's symbol, or of the type that the name is, as requested, with a grammar of C++, to the front of the buffer.
 fn text_in<C: Cpp>(
     alloc: Global,
     cpp: C,
@@ -349,8 +349,8 @@ fn text_in<C: Cpp>(
     }
 }
 
-/// Writes the text of a name's symbol, or of the type that a name is, where types are requested, to the front of the buffer, if
-/// it costs at most the limit. Otherwise the outcome says why not, and the buffer stays as it is.
+/// Writes the text of a name's symbol to the front of the buffer, or, if types are requested, of the type that the name is. The text costs
+/// at most the limit. Otherwise the outcome says why nothing is written, and the buffer stays as it is.
 #[tactic(auto, unfolding(crate::specs::Calls::text_told))]
 pub fn text_of(alloc: Global, name: &[u8], limit: u32, flags: u32, buffer: &mut [u8]) -> Outcome
     ensures { EndsAs (text_told (asked_of flags) limit name.now buffer.old) buffer.old (ending_of result buffer.new) }
@@ -365,7 +365,7 @@ pub fn text_of(alloc: Global, name: &[u8], limit: u32, flags: u32, buffer: &mut 
 }
 
 /// Writes the pressed spelling of a name's symbol, where each repeated part is a reference, to the front of the buffer.
-/// Otherwise the outcome says why not, and the buffer stays as it is.
+/// Otherwise the outcome says why nothing is written, and the buffer stays as it is.
 #[tactic(auto, unfolding(crate::specs::Calls::press_told))]
 pub fn press_of(alloc: Global, name: &[u8], flags: u32, buffer: &mut [u8]) -> Outcome
     ensures { PressEndsAs (press_told (asked_of flags) name.now buffer.old) buffer.old (ending_of result buffer.new) }

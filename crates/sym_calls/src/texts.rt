@@ -93,7 +93,7 @@ fn tell_each<D: Demangler>(
     OK
 }
 
-/// Likewise, with short texts where these are requested.
+/// Writes the texts of names in the same way, as short texts if these are requested.
 fn tell_as<D: Demangler + Copy + Drop>(
     alloc: Global,
     demangler: D,
@@ -125,7 +125,7 @@ fn tell_as<D: Demangler + Copy + Drop>(
     }
 }
 
-/// Likewise as requested, with a grammar of C++.
+/// Writes the texts of names in the same way, as requested and with a grammar of C++.
 fn tell_in<C: Cpp>(
     alloc: Global,
     cpp: C,
@@ -166,12 +166,12 @@ fn tell_in<C: Cpp>(
 }
 
 /// Writes the texts of many names to the buffer, one after the other, and sets for each name the outcome that `text_of` would
-/// give. Name i is in `names` from the end before it, 0 for the first, to `ends[i]`. A name whose text finds too little of the
-/// buffer left gets the size that it needs, and those after it may still find some.
+/// give. Name i is in `names` from the end before it, 0 for the first, to `ends[i]`. A name whose text is longer than the rest of the
+/// buffer gets the size that it needs, and the names after it may still have room.
 ///
-/// It answers 0 where each name got its outcome, `FLAGS` where a flag is none, and `ENDS` where the ends decrease, pass the
-/// length of `names`, or are fewer or more than the outcomes; with these two nothing is written. Want of memory is reported for
-/// a name.
+/// It answers 0 where each name got its outcome, `FLAGS` where one of the flags doesn't exist, and `ENDS` where the ends decrease, pass the
+/// length of `names`, or are fewer or more than the outcomes. With `FLAGS` and `ENDS` nothing is written. A lack of memory is reported for
+/// each name that it affects.
 #[tactic(auto, unfolding(crate::specs::Texts::TextsEndAs))]
 pub fn texts_of(
     alloc: Global,

@@ -54,7 +54,7 @@ AreLines-more answers counting stats (first ∷ words) word lines behind h here 
     let more = line_of answers word ++ behind in
     (h.0, h.1 ++ more, h.2, rest, ap (λ (t : List ℕ). t ++ more) h.4 ∙ append_assoc (line_of answers first ++ h.0) h.1 more)
 
--- the bytes after a word's line
+-- a word that names no symbol has no bytes after its line
 pub nothing-behind : (answers : Answering) (counting : Counting) (stats : Bool) (word : List ℕ) → kind_of word ≡ None → IsBehindLine (AreCountsFor counting word) (stats && is_read_word (answer_for answers word)) []
 nothing-behind answers counting true word none = subst (λ (b : Bool). IsBehindLine (AreCountsFor counting word) b []) (sym (ap is_read_word (answer_for-unnamed answers word none))) refl
 nothing-behind answers counting false word none = refl

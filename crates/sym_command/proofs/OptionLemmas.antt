@@ -10,7 +10,7 @@ use Rattle.clap.specs.declared.builder.arg.Arg.{Arg}
 use Rattle.clap.specs.declared.builder.command.Command.{Command}
 use Rattle.sym_command.specs.CommandLine.{IsLimitOf, command_line}
 
--- the limit, where its text is read as a u32
+-- the limit, if its text is read as a u32
 pub limit_given : {E : Type 0} (gives : List ℕ → Result ℕ E → Type 0) (text : Option (List ℕ)) (read : Option ℕ) (limit : ℕ)
     → ((t : List ℕ) (r : Result ℕ E) → gives t r → ParsesUnsigned 32 10 t r)
     → (text ≡ None → read ≡ None) → ((t : List ℕ) → text ≡ Some t → ReadsOne gives t read) → limit ≡ unwrap_or read 1000000 → IsLimitOf text limit

@@ -118,7 +118,7 @@ pub IfOk-not : {A E : Type 0} (r : Result A E) (P : A → Type 0) (y : E) → r 
 IfOk-not (Ok x) P y is = absurd cc
 IfOk-not (Err e) P y is = tt
 
--- want of memory isn't a failure to read
+-- a lack of memory isn't a failure to read
 pub never_read : FilterFault.Memory ≢ FilterFault.Read
 never_read is = absurd (let no : FilterFault.Memory ≡ FilterFault.Read = is in cc)
 

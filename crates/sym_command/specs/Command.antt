@@ -19,7 +19,7 @@ pub record Took (out out' err err' : Option (List ℕ)) (holds : List ℕ → Li
   pub to_err : Appends err err' said
   pub held : holds lines said
 
--- the words are answered: by their lines, what is said of those that have no text, and the status
+-- the words are answered: by their lines, by what is said of the words that have no text, and by the status
 pub record AnswersWords (asked : Asked) (answers : Answering) (counting : Counting) (stats : Bool) (words : List (List ℕ)) (status : ℕ) (lines said : List ℕ) : Type 0 where
   pub are_lines : AreLines answers counting stats words lines
   pub complaints : said ≡ flat_map (complaint_of asked answers) words

@@ -1,4 +1,4 @@
--- The command line: which options there are, what they request, and what its parser finds in its words.
+-- The command line: its options, what they request, and what its parser finds in its words.
 use Rattle.std.specs.Prelude.{◌≡◌, ◌<◌, ◌^◌, ℕ, pos, List, [], ◌∷◌, Bool, true, false, Option, Some, None, codes, unwrap_or, if◌then◌else◌}
 use Rattle.std.specs.Str.Parse.{IsNumeral, digits_value, without_leading_plus}
 use Rattle.clap.specs.Lexer.{usize_max}
@@ -117,20 +117,20 @@ pub record AreGiven (rows : List Row) (options : Options) : Type 0 where
 abbrev pub symbols_of : List Row → List Text
 symbols_of rows = unwrap_or (all_of (codes "SYMBOL") rows) []
 
--- how the options request that standard input is filtered; none where they request counts, which need a symbol
+-- how standard input is filtered by the options; none where they request counts, which need a symbol
 abbrev pub filtering_by : Options → Option Filtering
 filtering_by options =
     if options.stats then None
     else Some (record { limit = options.limit; detail = options.detail; texts = options.texts; letters = options.letters; asked = options.asked; legacy = options.legacy })
 
--- no symbol is given, and standard input is to be filtered this way
+-- no symbol is given, and standard input has to be filtered this way
 pub record AsksFilter (rows : List Row) (filtering : Filtering) : Type 0 where
   pub options : Options
   pub given : AreGiven rows options
   pub no_symbol : symbols_of rows ≡ []
   pub is : filtering_by options ≡ Some filtering
 
--- options that need a symbol, where none is given
+-- the options need a symbol, and no symbol is given
 abbrev pub AreRefused : List Row → Type 0
 AreRefused rows = (options : Options) × AreGiven rows options × (symbols_of rows ≡ []) × (filtering_by options ≡ None)
 

@@ -21,7 +21,7 @@ abbrev pub is_read_word : Option (Result (List ℕ) Refusal) → Bool
 is_read_word None = false
 is_read_word (Some answer) = is_read answer
 
--- the line of a word on standard output: its text, or the word where it has none
+-- the line of a word on standard output: its text, or the word itself if it has no text
 abbrev pub line_of : Answering → List ℕ → List ℕ
 line_of answers word = word_or_text answers word ++ 10 ∷ []
 
@@ -44,7 +44,7 @@ pub record IsCountsLine (are_counts : Counts → Type 0) (line : List ℕ) : Typ
   pub are : are_counts counts
   pub is : line ≡ counts_text counts.rows counts.nodes counts.steps ++ 10 ∷ []
 
--- the bytes after a word's line: the line of counts, if counts are requested and the symbol is read, or else nothing
+-- the bytes after a word's line: the line of counts, if counts are requested and the symbol is read, and otherwise nothing
 abbrev pub IsBehindLine : (Counts → Type 0) → Bool → List ℕ → Type 0
 IsBehindLine are_counts true line = IsCountsLine are_counts line
 IsBehindLine are_counts false line = line ≡ []
@@ -65,8 +65,8 @@ reason_of (BadValue at) = codes "bad value at " ++ decimal at
 reason_of TooLong = codes "too long"
 reason_of Memory = []
 
--- Why a symbol has no answer, by what was requested. Pressing has no limit: where a symbol of the wide grammar is read and
--- refused, no spelling is read as that symbol.
+-- Why a symbol has no answer, by what was requested. Pressing has no limit, so `TooLong` for a symbol that the wide grammar reads means
+-- that no spelling is read as that symbol.
 abbrev pub reason_for : Asked → Refusal → List ℕ
 reason_for WidePressed TooLong = codes "no spelling yet"
 reason_for asked refusal = reason_of refusal
@@ -84,6 +84,6 @@ complaint_about asked word (Some (Err refusal)) = complaint_with word (reason_fo
 abbrev pub complaint_of : Asked → Answering → List ℕ → List ℕ
 complaint_of asked answers word = complaint_about asked word (answer_for answers word)
 
--- the status: 0 where each word has a text, else 1
+-- the status: 0 if each word has a text, and otherwise 1
 abbrev pub status_of : Answering → List (List ℕ) → ℕ
 status_of answers words = if list_all (λ word. is_some (text_for answers word)) words then 0 else 1

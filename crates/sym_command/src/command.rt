@@ -12,7 +12,7 @@ use sym_filter::{Demangler, FilterFault, Sink, write_all};
 /// The status where each word has a text.
 pub const ANSWERED: u8 = 0;
 
-/// The status where a word has none.
+/// The status where a word has no text.
 const REFUSED: u8 = 1;
 
 /// The status of a command line that was refused, or that requested help.
@@ -39,7 +39,7 @@ pub fn refuse_with<E: Sink>(err: &mut E, why: &[u8]) -> Result<u8, FilterFault>
     }
 }
 
-/// Writes the lines of words as the options request, and answers the status: whether each has a text.
+/// Writes the lines of words as the options request, and answers the status, which says whether each word has a text.
 pub fn answer_words<D: Demangler, W: Sink, E: Sink>(
     alloc: Global,
     demangler: &D,

@@ -1,5 +1,4 @@
-//! What the programs' command lines are made of: options and what they request, the lines of each word, complaints and
-//! statuses.
+//! What the programs' command lines consist of: options and what these request, the lines of each word, complaints and statuses.
 #![tactic(auto)]
 
 mod command;

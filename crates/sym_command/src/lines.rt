@@ -1,4 +1,4 @@
-// The lines of a word: its answer, and what is said of a word that has no text.
+// The lines of a word: its answer, and what is said of the word if it has no text.
 ghost use Rattle.std.specs.Prelude.{◌≡◌, ◌≢◌, List, ℕ, [], ◌∷◌, ◌++◌, ◌&&◌, OnOk, OnErr, IfOk, Some, is_some, string_bytes, codes};
 ghost use Rattle.sym_filter.specs.Kinds.{kind_of};
 ghost use Rattle.sym_filter.specs.Runs.{text_for};
@@ -72,7 +72,7 @@ fn push_lines<D: Demangler>(
     Ok(has_text)
 }
 
-/// Appends a word that doesn't begin like a symbol, and says so.
+/// Appends a word that doesn't begin like a symbol, and says that it is no symbol.
 fn push_unnamed(
     alloc: Global,
     word: &str,
@@ -202,8 +202,7 @@ fn complaint(
     format!(in alloc; "symfilt: {word}: {reason}")
 }
 
-/// Why a symbol has no answer. Pressing has no limit: where a symbol of the wide grammar is read and refused, no spelling is
-/// read as that symbol.
+/// Why a symbol has no answer. Pressing has no limit, so `TooLong` for a symbol that the wide grammar reads means that no spelling is read as that symbol.
 fn reason_for(alloc: Global, asked: Asked, refusal: Refusal) -> Result<String, AllocError>
     ensures said { IfOk result (λ text. string_bytes text ≡ reason_for asked refusal) }
     ensures memory { OnOk result (refusal ≢ Refusal.Memory) }
@@ -214,7 +213,7 @@ fn reason_for(alloc: Global, asked: Asked, refusal: Refusal) -> Result<String, A
     }
 }
 
-/// Why a symbol has no text. Want of memory isn't a property of the symbol.
+/// Why a symbol has no text. Lack of memory isn't a property of the symbol.
 pub fn reason(alloc: Global, refusal: Refusal) -> Result<String, AllocError>
     ensures said { IfOk result (λ text. string_bytes text ≡ reason_of refusal) }
     ensures memory { OnOk result (refusal ≢ Refusal.Memory) }

@@ -11,7 +11,7 @@ use sym_filter::Letters;
 use sym_print::Detail;
 use sym_short::{Texts, texts_of};
 
-/// The greatest cost of a text where no other limit is given.
+/// The greatest cost of a text, if no other limit is given.
 const DEFAULT_LIMIT: u32 = 1_000_000;
 
 const VERSION: &str =
@@ -52,11 +52,11 @@ const ASCII_WORDS: &str =
 pub enum Asked {
     /// Its text.
     Text,
-    /// Its text, where C++ is read by the wide grammar.
+    /// Its text, with C++ by the wide grammar.
     WideText,
     /// Its pressed spelling.
     Pressed,
-    /// Its pressed spelling, where C++ is read by the wide grammar.
+    /// Its pressed spelling, with C++ by the wide grammar.
     WidePressed,
 }
 
@@ -65,12 +65,12 @@ pub enum Asked {
 pub struct Options {
     pub limit: u32,
     pub detail: Detail,
-    /// Which texts of C++ symbols are written. It has no effect on pressed spellings.
+    /// Which texts of C++ symbols are written. This has no effect on pressed spellings.
     pub texts: Texts,
     pub letters: Letters,
     pub stats: bool,
     pub asked: Asked,
-    /// Whether legacy Rust names have the texts of their paths. It has no effect on pressed spellings.
+    /// Whether legacy Rust names have the texts of their paths. This has no effect on pressed spellings.
     pub legacy: bool,
 }
 
@@ -78,7 +78,7 @@ pub struct Options {
 ///
 /// # Errors
 ///
-/// What the parser says of words that it doesn't accept, of a request for help or the version, and of want of memory.
+/// What the parser says of words that it doesn't accept, of a request for help or the version, and of a lack of memory.
 pub fn found_in<'a>(alloc: Global, words: &'a [&'a str]) -> Result<ArgMatches<'a>, Error>
     ensures found { IfOk result (λ matches. rows_of (found_of matches) ≡ matches_of command_line (map (λ word. word.now) words.entry.now)) }
     ensures fails { FailsBy (fault_of command_line (map (λ word. word.now) words.entry.now)) result }
@@ -263,7 +263,7 @@ pub fn symbols_of<'m, 'a>(matches: &'m ArgMatches<'a>) -> &'m [&'a str]
     matches.get_strs("SYMBOL").unwrap_or_default()
 }
 
-/// How the options request that an input is filtered; none where they request counts, which need a symbol.
+/// How an input is filtered by the options; none where they request counts, which need a symbol.
 pub fn filtering_of(options: Options) -> Option<Filtering>
     ensures { result ≡ filtering_by options }
 {

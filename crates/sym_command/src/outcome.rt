@@ -4,7 +4,7 @@ use sym_filter::Letters;
 use sym_print::Detail;
 use sym_short::Texts;
 
-/// What the program is to do: end with a status, or filter standard input.
+/// What the program has to do: end with a status, or filter standard input.
 #[derive(Clone, Copy, Debug, PartialEq, Eq)]
 pub enum Run {
     Done(u8),

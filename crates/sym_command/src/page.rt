@@ -46,7 +46,7 @@ impl Page {
         Ok(())
     }
 
-    /// Writes the lines that wait, where they are many.
+    /// Writes the lines that wait, if they are many.
     pub fn write_when_full<W: Sink, E: Sink>(
         &mut self,
         out: &mut W,

@@ -1,4 +1,4 @@
-// What a program is called with, and what it says at its end.
+// The words with which a program is called, and what it says at its end.
 ghost use Rattle.std.specs.Prelude.{◌≡◌, ◌^◌, ◌-◌, ◌<◌, IfOk, IsSome, vec_len};
 ghost use Rattle.sym_command.specs.declared.process.TheConstants.{LONGEST_ARGUMENT};
 
@@ -8,11 +8,11 @@ use std::rt::Env;
 use std::{env, io, str};
 use sym_filter::{FilterFault, Sink, write_all};
 
-/// No argument is longer, in bytes (Linux's bound on one argument).
+/// The greatest length of an argument, in bytes (Linux's bound on one argument).
 const LONGEST_ARGUMENT: usize = 131_072;
 
-/// The words that a process was called with, or none if one of them isn't valid UTF-8. Then a message under the
-/// program's name says so, and the status is to be `WRONG_USE`.
+/// The words with which a process was called, or none if one of them isn't valid UTF-8. In that case a message under the program's name
+/// says so, and the caller has to end with the status `WRONG_USE`.
 ///
 /// # Errors
 ///

@@ -32,7 +32,7 @@ module _ {W : Type 0} (m : Mangled W) (limit : ℕ) (detail : Detail) (symbol : 
   text_answered old new result done there is =
       text_given old new (subst (λ r. OnOk r ((text : List ℕ) × (new ≡ old ++ text) × IsAnswer m detail symbol limit (Ok text))) there is)
 
-  -- a text that was written, and appended
+  -- a text that was written first and then appended
   pub written_given : (written shown old new : List ℕ) → IsAnswer m detail symbol limit (Ok written) → shown ≡ written → new ≡ old ++ shown
       → (text : List ℕ) × (answer m detail symbol limit ≡ Ok text) × (new ≡ old ++ text)
   written_given written shown old new is same appended =

@@ -1,4 +1,4 @@
--- What a detail decides for a Rust symbol: whether arguments are shown, and nothing else.
+-- For a Rust symbol a detail decides only whether arguments are shown.
 use Rattle.std.proofs.Common.{◌≡◌, ℕ, ◌+◌, List, [], Bool, true, false, Some, Result, Ok, Err, refl, ap, ap₂, ◌∙◌}
 use Rattle.std.specs.Prelude.{codes, nat_le}
 use Rattle.sym_core.specs.declared.refusal.Refusal.{Refusal}
@@ -14,7 +14,7 @@ use Rattle.rust_grammar.specs.Mangled.{v0_mangled}
 use Rattle.rust_tree.specs.Symbol.{Path, Ty, Arguments, Tys, Bounds, Bindings, Symbol, crate_root, inherent_impl, trait_impl, trait_definition, nested, generic, no_arguments, lifetime_argument, constant_argument, type_argument, basic, path_type, array, slice, tuple, shared_reference, mutable_reference, const_pointer, mut_pointer, function, dyn, no_types, more_types, no_bounds, more_bounds, no_bindings, more_bindings}
 use Rattle.rust_tree.specs.Shown.{path_parts, arguments_from, type_parts, types_from, bounds_from, bindings_from, symbol_parts, name_text, generic_parts, generic_bound, plain_bound, nested_name, lifetime_parts, constant_parts, closing_tuple, reference_opening, for_binder, signature_parts, is_unit, dyn_lifetime, suffix_parts}
 
--- a function of three arguments at equal ones
+-- a function of three arguments has one value at equal arguments
 ap3 : {A B C D : Type 0} (f : A → B → C → D) {a a2 : A} {b b2 : B} {c c2 : C} → a ≡ a2 → b ≡ b2 → c ≡ c2 → f a b c ≡ f a2 b2 c2
 ap3 f {a} {a2} {b} {b2} {c} {c2} p q r = ap (λ x. f x b c) p ∙ ap₂ (f a2) q r
 
@@ -80,12 +80,12 @@ module _ (d e : Detail) (same : has_arguments d ≡ has_arguments e) where
     bindings_same bound separator (more_bindings name type rest) =
         ap₂ (λ t r. Some (separator then name_text name then codes " = " then t also r perhaps done)) (type_same bound type) (bindings_same bound (codes ", ") rest)
 
-  -- a symbol is shown alike by details that both show arguments, or both don't
+  -- a symbol is shown alike in two details that both show arguments, or that both don't
   pub symbol_same : (symbol : Symbol) → symbol_parts d symbol ≡ symbol_parts e symbol
   unfolding symbol_parts
   symbol_same symbol = ap (λ p. p also suffix_parts symbol.suffix done) (path_same 0 true symbol.path)
 
--- A mangling whose symbols are shown alike by two details has one answer for both.
+-- A mangling whose symbols are shown alike in two details has one answer for both.
 module _ {W : Type 0} (m : Mangled W) (d e : Detail) (limit : ℕ) (alike : (w : W) → m.shown d w ≡ m.shown e w) where
   symbol_alike : (r : Result W Refusal) → answer_of_symbol m d limit r ≡ answer_of_symbol m e limit r
   symbol_alike (Ok w) = ap (text_within limit) (alike w)

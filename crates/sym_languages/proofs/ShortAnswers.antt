@@ -1,4 +1,4 @@
--- What pressing answers is short where each tree's pressed spelling is.
+-- The answers of pressing are short if each tree's pressed spelling is short.
 use Rattle.std.proofs.Common.{◌≡◌, ℕ, ◌*◌, ◌≤◌, inl, inr, length, List, Result, Ok, refl, sym, subst, ◌∙◌}
 use Rattle.std.specs.Prelude.{Err}
 use Rattle.sym_core.specs.Number.{FitsSymbol}

@@ -30,7 +30,7 @@ pub unspelled_answer : (front s : List ℕ) (t : Term) (most : ℕ) → AreBytes
 unspelled_answer front s t most bytes is same none =
     ap (with_front front) (reading_kept s (Ok t) bytes is ∙ ap kept_or_refused (ap (λ m. kept m t) (sym same) ∙ none))
 
--- one that has a spelling, which was appended
+-- a symbol that has a spelling, which was appended
 pub spelled_answer : (front old new s spelling out : List ℕ) (t : Term) (most : ℕ) → AreBytes s → IsReading wide_mangled s (Ok t) → most ≡ most_pressed (length s) → kept most t ≡ Some spelling
     → out ≡ spelling → new ≡ old ++ (front ++ out) → (text : List ℕ) × (with_front front (wide_pressed_answer s) ≡ Ok text) × (new ≡ old ++ text)
 spelled_answer front old new s spelling out t most bytes is same some put pushed =

@@ -28,7 +28,7 @@ use Rattle.sym_filter.specs.declared.kinds.Kind.{Kind}
 use Rattle.sym_filter.specs.declared.kinds.Lang.{Lang}
 use Rattle.sym_filter.specs.declared.kinds.Lang.TheVariants.{Cpp, Rust}
 
--- at a limit and a detail, where C++ is a mangling of these trees
+-- what is answered for a symbol of a language at a limit and in a detail, with this mangling for C++
 abbrev pub language_answer_by : {W : Type 0} → Mangled W → ℕ → Detail → Lang → List ℕ → Result (List ℕ) Refusal
 language_answer_by cpp limit detail Cpp symbol = answer cpp detail symbol limit
 language_answer_by cpp limit detail Rust symbol = answer v0_mangled detail symbol limit
@@ -40,27 +40,26 @@ language_answer limit detail lang symbol = language_answer_by cpp_mangled limit 
 abbrev pub answer_of : ℕ → Detail → Kind → List ℕ → Result (List ℕ) Refusal
 answer_of limit detail kind symbol = language_answer limit detail kind.lang symbol
 
--- with C++ by the wide grammar
+-- what is answered with C++ by the wide grammar
 abbrev pub wide_answer_of : ℕ → Detail → Kind → List ℕ → Result (List ℕ) Refusal
 wide_answer_of limit detail kind symbol = language_answer_by wide_mangled limit detail kind.lang symbol
 
--- with this grammar of C++; legacy Rust names, each of them a C++ symbol, are answered as these or as the paths that they
--- denote
+-- what is answered with this grammar of C++. A legacy Rust name is also a C++ symbol: it is answered as that, or as the path that it denotes.
 abbrev pub answers_by : {W : Type 0} → Mangled W → (legacy : Bool) → (limit : ℕ) → Detail → Answering
 answers_by cpp legacy limit detail =
     if legacy then (λ kind symbol. legacy_answer limit symbol (language_answer_by cpp limit detail kind.lang symbol))
     else (λ kind symbol. language_answer_by cpp limit detail kind.lang symbol)
 
--- the wide grammar of C++ or the other
+-- C++ by the wide grammar, or by the ABI's
 abbrev pub cpp_by : (wide : Bool) → Mangled Term
 cpp_by wide = if wide then wide_mangled else cpp_mangled
 
--- what precedes an answer that isn't a refusal
+-- an answer with these bytes before it, if it isn't a refusal
 abbrev pub with_front : List ℕ → Result (List ℕ) Refusal → Result (List ℕ) Refusal
 with_front front (Ok text) = Ok (front ++ text)
 with_front front (Err refusal) = Err refusal
 
--- where symbols are pressed
+-- what is answered where symbols are pressed
 abbrev pub pressed_language : Lang → List ℕ → Result (List ℕ) Refusal
 pressed_language Cpp symbol = pressed_answer cpp_mangled cpp_spelling.pressed symbol
 pressed_language Rust symbol = pressed_answer v0_mangled rust_spelling.pressed symbol
@@ -111,8 +110,8 @@ v0_readings = record {
   nodes_a_byte = 4;
 }
 
--- The counts of a symbol that is read and denotes a tree: the rows, the steps and the nodes of its one shape. There is at least
--- a step for each row, and no more of each than its bytes allow.
+-- The counts of a symbol that is read and denotes a tree: the rows, the steps and the nodes of its one shape. There is at least one step
+-- for each row, and there are no more of each than the symbol's bytes allow.
 pub record AreCounts {W R : Type 0} (readings : Readings W R) (symbol : List ℕ) (counts : Counts) : Type 0 where
   pub shape : List Row
   pub are_rows : AreRowsOf readings.mangled.table symbol shape
@@ -127,7 +126,7 @@ pub record AreCounts {W R : Type 0} (readings : Readings W R) (symbol : List ℕ
   pub steps_few : counts.steps ≤ 32 * length symbol + 48
   pub steps_enough : counts.rows ≤ counts.steps
 
--- of each language, with this reading of C++
+-- the counts of a symbol of each language, with this reading of C++
 abbrev pub AreCountsBy : {W R : Type 0} → Readings W R → Lang → List ℕ → Counts → Type 0
 AreCountsBy cpp Cpp symbol counts = AreCounts cpp symbol counts
 AreCountsBy cpp Rust symbol counts = AreCounts v0_readings symbol counts

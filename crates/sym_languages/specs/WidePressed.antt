@@ -1,4 +1,4 @@
--- What is answered where the pressed spelling of a symbol is requested, and C++ is read by the wide grammar.
+-- What is answered for a symbol whose pressed spelling is requested, with C++ by the wide grammar.
 use Rattle.std.specs.Prelude.{◌≡◌, ℕ, ◌*◌, List, length, min, Option, Some, None, Result, Ok, Err}
 use Rattle.sym_core.specs.declared.TheConstants.{MOST_BYTES}
 use Rattle.sym_core.specs.declared.refusal.Refusal.{Refusal}
@@ -23,24 +23,24 @@ use Rattle.sym_languages.specs.Pressed.{pressed_answer}
 abbrev pub most_pressed : ℕ → ℕ
 most_pressed n = min (pressed_a_byte * n) MOST_BYTES
 
--- A spelling that is kept; `TooLong` where none is, since pressing has no other limit.
+-- A spelling that is kept, or `TooLong` where none is kept. Pressing has no other limit.
 abbrev pub kept_or_refused : Option (List ℕ) → Result (List ℕ) Refusal
 kept_or_refused (Some spelling) = Ok spelling
 kept_or_refused None = Err TooLong
 
--- of what a symbol reads as: the pressed spelling of its tree, where that has few bytes and the wide grammar reads it as the tree (`kept`);
--- or why the symbol isn't read
+-- the answer by what a symbol is read as: the pressed spelling of its tree, if that has few bytes and the wide grammar reads it as the tree
+-- (`kept`); or the reason why the symbol isn't read
 abbrev pub kept_if_read : (most : ℕ) → Result Term Refusal → Result (List ℕ) Refusal
 kept_if_read most (Ok tree) = kept_or_refused (kept most tree)
 kept_if_read most (Err refusal) = Err refusal
 
--- The answer to a C++ symbol: that of what its shape denotes, or its first bad byte. A list with an item that is no byte is refused at once.
+-- The answer to a C++ symbol: the answer by what its shape denotes, or its first bad byte. A list of numbers that aren't all bytes is refused at once.
 unfoldable pub wide_pressed_answer : List ℕ → Result (List ℕ) Refusal
 wide_pressed_answer s =
     outcome wide_mangled.table wide_mangled.lawful (λ shape. kept_if_read (most_pressed (length s)) (wide_mangled.unfolded shape))
     (λ at. Err (Malformed at)) (Err (Malformed 0)) s
 
--- in each language
+-- the answer to a symbol of each language
 abbrev pub wide_pressed_language : Lang → List ℕ → Result (List ℕ) Refusal
 wide_pressed_language Cpp symbol = wide_pressed_answer symbol
 wide_pressed_language Rust symbol = pressed_answer v0_mangled rust_spelling.pressed symbol
@@ -51,7 +51,7 @@ wide_pressed_of kind symbol = with_front (underscore_of kind.skip) (wide_pressed
 
 -- ## What holds of these answers
 
--- what a symbol reads as decides its answer
+-- what a symbol is read as decides its answer
 abbrev pub ReadingIsKept : Type 0
 ReadingIsKept =
     (s : List ℕ) (result : Result Term Refusal) → AreBytes s → IsReading wide_mangled s result → wide_pressed_answer s ≡ kept_if_read (most_pressed (length s)) result

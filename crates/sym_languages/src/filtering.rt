@@ -10,8 +10,8 @@ use sym_filter::{FilterFault, Sink, Source, Tally, filter_with};
 use sym_print::Detail;
 use sym_recent::Recent;
 
-/// Reads all that the source gives, and writes it with each word that names a symbol replaced by the symbol's whole text, where
-/// that costs at most the limit.
+/// Reads all that the source gives, and writes it again. Each word that names a symbol is replaced by the symbol's whole text, if the text
+/// costs at most the limit.
 pub fn filter<R: Source, W: Sink>(
     alloc: Global,
     reader: &mut R,
@@ -30,7 +30,7 @@ pub fn filter<R: Source, W: Sink>(
     filter_as(alloc, reader, writer, limit, Detail::Full)
 }
 
-/// The filter with texts of a detail.
+/// The same filter, with texts in a detail.
 pub fn filter_as<R: Source, W: Sink>(
     alloc: Global,
     reader: &mut R,

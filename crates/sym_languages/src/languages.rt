@@ -20,8 +20,8 @@ use sym_print::Detail;
 
 /// A grammar of C++ symbols.
 pub trait Cpp: Counted {
-    /// Writes the text of a symbol that is shown only in part, if the symbol goes the short way and its text costs at most the
-    /// limit, and answers whether it did. Where it didn't, nothing is known of the symbol.
+    /// Writes the text of a symbol that is shown only in part, if the symbol goes the short way and its text costs at most the limit.
+    /// Answers whether the text was written. Where it wasn't, nothing is known of the symbol.
     fn write_less(direct: &mut Self::Direct, symbol: &[u8], limit: u32, detail: Detail) -> bool
         requires { FitsSymbol symbol.now }
         ensures { result ≡ true → IsAnswer Self.mangled detail symbol.now limit (Ok (Self.written direct.new)) };
@@ -53,7 +53,7 @@ pub struct Languages<C: Cpp> {
 pub struct Lists<C: Cpp> {
     pub cpp: Workspace<C>,
     pub rust: Workspace<V0>,
-    // those of the short ways where less than all is shown
+    // the lists of the short way for symbols that are shown only in part
     less: C::Direct,
     brief: rust_short_way::Writer,
 }
@@ -124,7 +124,7 @@ impl<C: Cpp> Demangler for Languages<C> {
     }
 }
 
-/// A detail with parameters that shows as much else. A Rust symbol, which has none, has the same text in it.
+/// A detail that shows parameters, and otherwise as much as this one. A Rust symbol has no parameters, so its text is the same in both.
 fn with_parameters(detail: Detail) -> Detail
     ensures { has_arguments result ≡ has_arguments detail }
 {
@@ -135,7 +135,7 @@ fn with_parameters(detail: Detail) -> Detail
     }
 }
 
-/// Appends the text of a C++ symbol, where it has one. A symbol shown only in part goes a short way, too, if it can.
+/// Appends the text of a C++ symbol, if it has one. Where only a part of the text is shown, the symbol goes a short way, too, if it can.
 fn append_cpp<C: Cpp>(
     lists: &mut Lists<C>,
     symbol: &[u8],
@@ -170,7 +170,7 @@ fn append_rust<C: Cpp>(
     }
 }
 
-/// Appends the text of a Rust symbol without its generic arguments, where it has one: by a short way, if the symbol goes it.
+/// Appends the text of a Rust symbol without its generic arguments, if it has one. The symbol goes a short way, if it can.
 fn append_brief<C: Cpp>(
     lists: &mut Lists<C>,
     symbol: &[u8],
@@ -225,7 +225,7 @@ fn demangle_in<M: Counted>(
         Ok(()) => Demangled::Text(counts),
         Err(refusal) => match refusal {
             Refusal::TooLong => Demangled::TooLong(counts),
-            // otherwise printing is refused only for want of memory
+            // each other refusal of printing is a lack of memory
             _ => Demangled::Refused(Refusal::Memory),
         },
     }

@@ -7,15 +7,14 @@ ghost use Rattle.rust_press.specs.Pressing as rust_spelling;
 ghost use Rattle.rust_press.specs.Short as rust_short;
 ghost use Rattle.sym_languages.specs.Pressed.{AnswersAreShort, ReadingIsPressed};
 
-/// A law over the definitions alone: what a symbol reads as decides what pressing it answers: the pressed spelling of its tree,
-/// or the refusal.
+/// A law of the definitions: what a symbol is read as decides what pressing it answers, which is the pressed spelling of its tree, or the refusal.
 pub fn reading_is_pressed()
     ensures cpp { ReadingIsPressed cpp_mangled cpp_spelling.pressed }
     ensures rust { ReadingIsPressed v0_mangled rust_spelling.pressed }
 {}
 
-/// Another one: the pressed spelling that is answered for a symbol that fits has at most a fixed number of bytes for each byte
-/// of the symbol: 64 for a C++ symbol, 4 for a Rust symbol.
+/// Another law of the definitions: the pressed spelling of a symbol that fits has at most 64 bytes for each byte of a C++ symbol, and at
+/// most 4 for each byte of a Rust symbol.
 pub fn pressed_is_short()
     ensures cpp { AnswersAreShort cpp_mangled cpp_spelling.pressed cpp_short.pressed_a_byte }
     ensures rust { AnswersAreShort v0_mangled rust_spelling.pressed rust_short.pressed_a_byte }

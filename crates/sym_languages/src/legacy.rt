@@ -1,4 +1,4 @@
-// Legacy Rust names, as the paths that they denote, before both manglings.
+// The demangler that shows legacy Rust names as the paths that they denote, before it tries both manglings.
 ghost use Rattle.std.specs.Prelude.{◌≡◌, ℕ, List, Result, IfSome, false};
 ghost use Rattle.sym_core.specs.Number.{FitsSymbol};
 ghost use Rattle.sym_core.specs.declared.refusal.Refusal.{Refusal as Refusal-type};
@@ -13,8 +13,8 @@ use std::alloc::{AllocError, Global};
 use sym_core::{Counts, Refusal};
 use sym_filter::{Demangled, Demangler, Kind, Lang};
 
-/// Both manglings, where a legacy Rust name, which is a C++ symbol too, has its path's text, at the limit of the others. The
-/// detail doesn't change that text. The counts of such a name are those of the C++ symbol.
+/// Both manglings, with legacy Rust names as paths: such a name is a C++ symbol, too, but its text is that of its path, at the same limit.
+/// The detail doesn't change that text. The counts of such a name are those of the C++ symbol.
 #[derive(Clone, Copy, Drop)]
 pub struct Legacy<C: Cpp> {
     pub languages: Languages<C>,
@@ -45,7 +45,7 @@ impl<C: Cpp> Demangler for Legacy<C> {
         let Some(place) = path_of(symbol) else {
             return self.languages.demangle(lists, kind, symbol, out);
         };
-        // each legacy name is read as C++, so this is want of memory
+        // each legacy name is read as C++, so memory ran out here
         let Some(counts) = counts_of(&self.languages, lists, kind, symbol, out) else {
             return Demangled::Refused(Refusal::Memory);
         };
@@ -53,7 +53,7 @@ impl<C: Cpp> Demangler for Legacy<C> {
             Ok(()) => Demangled::Text(counts),
             Err(refusal) => match refusal {
                 Refusal::TooLong => Demangled::TooLong(counts),
-                // otherwise a path is refused only for want of memory
+                // each other refusal of a path is a lack of memory
                 _ => Demangled::Refused(Refusal::Memory),
             },
         }
@@ -74,7 +74,7 @@ impl<C: Cpp> Demangler for Legacy<C> {
     }
 }
 
-/// Whether a symbol may be a legacy name. For one that can't be, `Legacy` answers what its languages answer.
+/// Whether a symbol may be a legacy name. For any other symbol `Legacy` answers what its languages answer.
 pub fn may_be_legacy(symbol: &[u8]) -> bool
     ensures { result ≡ false → (limit : ℕ) (other : Result (List ℕ) Refusal-type) → legacy_answer limit symbol.now other ≡ other }
 {
@@ -84,8 +84,8 @@ pub fn may_be_legacy(symbol: &[u8]) -> bool
     }
 }
 
-/// Appends the text of a symbol whose names may be those of a legacy name.
-// out of line, so that all other symbols pay nothing for it
+/// Appends the text of a symbol that may be a legacy name.
+// This is out of line, so that all other symbols pay nothing for it.
 #[inline(never)]
 fn append_named<C: Cpp>(
     legacy: &Legacy<C>,

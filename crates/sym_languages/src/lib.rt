@@ -1,4 +1,4 @@
-//! The demangler over C++ and Rust, those in front of it, for legacy Rust names and for pressed spellings, and the filter over it.
+//! The demangler over C++ and Rust, the demanglers before it for legacy Rust names and for pressed spellings, and the filter over it.
 #![tactic(auto)]
 
 mod alike;

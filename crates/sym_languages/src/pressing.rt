@@ -1,4 +1,4 @@
-// Symbols of both manglings spelled again instead of printed.
+// The demanglers that spell symbols of both manglings again instead of printing them.
 ghost use Rattle.std.specs.Prelude.{◌≡◌, ◌≤◌, ◌++◌, ℕ, List, Result, Ok, Err, OnOk, OnErr, IfOk, IfErr};
 ghost use Rattle.sym_core.specs.declared.refusal.Refusal.{Refusal};
 ghost use Rattle.sym_core.specs.declared.refusal.Refusal.TheVariants.{Memory};
@@ -24,7 +24,7 @@ use wide_press::press_wide;
 
 /// A mangling whose symbols are spelled again, with each repeated part as a reference.
 pub trait Pressable: Counted {
-    // what is answered for a symbol: its pressed spelling, or why it isn't read
+    // what is answered for a symbol: its pressed spelling, or the reason why it isn't read
     ghost answer: { List ℕ → Result (List ℕ) Refusal };
 
     // the pressed spelling of a symbol that was read
@@ -39,7 +39,7 @@ pub trait Pressable: Counted {
         ensures pressed { IfOk result (λ out. out.items ≡ pressed symbol.now) }
         ensures memory { IfErr result (λ e. e ≡ Memory) };
 
-    // what a symbol reads as decides its answer
+    // what a symbol is read as decides its answer
     ghost read: { (s : List ℕ) (symbol : Self.Symbol) → AreBytes s → IsReading Self.Mangling.mangled s (Ok (Self.Mangling.whole_of symbol)) → answer s ≡ Ok (pressed symbol) };
 
     ghost refused: { (s : List ℕ) (refusal : Refusal) → AreBytes s → IsReading Self.Mangling.mangled s (Err refusal) → answer s ≡ Err refusal };
@@ -83,8 +83,7 @@ impl Pressable for V0 {
     ghost refused = { λ s refusal bytes is. reading_pressed v0_mangled rust.pressed s (Err refusal) bytes is };
 }
 
-/// Both manglings, where the text of a symbol is its pressed spelling: each repeated part is a reference. It has no limit, so
-/// that no symbol is too long.
+/// Both manglings, with the pressed spelling of a symbol as its text: each repeated part is a reference. There is no limit, so no symbol is too long.
 #[derive(Clone, Copy, Drop)]
 pub struct Pressing;
 
@@ -131,7 +130,7 @@ impl Demangler for Pressing {
     }
 }
 
-/// Appends the pressed spelling of a symbol of a mangling, where it is read, after the underscore that was dropped.
+/// Appends the pressed spelling of a symbol of a mangling, if the symbol is read, after the underscore that was dropped.
 fn press_into<M: Pressable>(
     workspace: &mut Workspace<M>,
     skip: u32,
@@ -159,8 +158,8 @@ fn press_into<M: Pressable>(
     }
 }
 
-/// Both manglings, where the text of a symbol is its pressed spelling, and C++ is read by the wide grammar. A C++ symbol has one where the
-/// wide grammar reads it as the symbol's tree; else the symbol, which was read, is answered as if it were too long.
+/// Both manglings, with the pressed spelling of a symbol as its text, and with C++ by the wide grammar. A C++ symbol has a spelling only if
+/// the wide grammar reads the spelling as the symbol's tree; otherwise the symbol, which was read, is answered as if it were too long.
 #[derive(Clone, Copy, Drop)]
 pub struct WidePressing;
 
@@ -207,7 +206,7 @@ impl Demangler for WidePressing {
     }
 }
 
-/// Appends the pressed spelling of a symbol of the wide grammar, if that is kept, after the underscore that was dropped.
+/// Appends the pressed spelling of a symbol of the wide grammar, if the spelling is kept, after the underscore that was dropped.
 fn press_wide_into(
     workspace: &mut Workspace<Wide>,
     skip: u32,
@@ -239,7 +238,7 @@ fn press_wide_into(
     }
 }
 
-/// The most bytes of a spelling that is answered for a symbol of this length: 64 for each byte, and no more than a symbol has.
+/// The most bytes of a spelling that is answered for a symbol of this length: 64 for each byte, and at most as many as a symbol may have.
 fn most_pressed(len: usize) -> usize
     requires { len ≤ MOST_BYTES }
     ensures { result ≡ most_pressed len }

@@ -1,4 +1,4 @@
--- What reading, printing and taking apart found is the answer with parts.
+-- What reading, printing and marking found is the answer with parts.
 use Rattle.std.proofs.Common.{◌≡◌, ◌⊎◌, inl, inr, ℕ, List, length, map, Option, Some, None, Result, Ok, Err, refl, ap, sym, ◌∙◌, subst, arith}
 use Rattle.std.specs.Prelude.{◌<◌, ◌≤◌, ◌^◌}
 use Rattle.sym_core.specs.declared.refusal.Refusal.{Refusal}
@@ -37,7 +37,7 @@ parts_of_refusal : (what : NameKind) (spelled : Spelled) (marks : Marked) (refus
 unfolding with_parts
 parts_of_refusal what spelled marks refusal r is = ap (with_parts what spelled marks) is
 
--- a text that costs at most a number of 32 bits
+-- a text whose cost has at most 32 bits is that short, too
 pub short-text : (shown : Unshared) (text : List ℕ) (limit : ℕ) → text ≡ text_of shown → cost_of shown ≤ limit → limit < 2 ^ 32 → length text < 2 ^ 32
 short-text shown text limit printed within fits = omega (arith, ap (λ (t : List ℕ). length t) printed, length_of_text shown, within, fits)
 

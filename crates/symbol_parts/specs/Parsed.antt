@@ -46,7 +46,7 @@ pub record Parsed : Type 0 where
 abbrev pub found : Found → Parsed
 found parsed = record { text = parsed.text.items; kind = parsed.kind; parts = parsed.parts.items }
 
--- the bytes that spell parts, by the stretches of the text that the parts are
+-- which bytes spell the parts of a text, by the stretches of the text that are its parts
 abbrev pub Spelled : Type 0
 Spelled = List Stretch → Spelling
 
@@ -56,7 +56,7 @@ with_parts what spelled marks (Ok shown) =
     Ok (record { text = shown; kind = what; parts = parts_spelled (spelled (stretches_of marks)) (length shown) (stretches_of marks) })
 with_parts what spelled marks (Err refusal) = Err refusal
 
--- the text alone, or the refusal
+-- the text without its parts, or the refusal
 unfoldable pub without_parts : Result Parsed Refusal → Result (List ℕ) Refusal
 without_parts (Ok parsed) = Ok parsed.text
 without_parts (Err refusal) = Err refusal
@@ -81,8 +81,7 @@ parsed_of_symbol m marking detail limit spelled (Err refusal) = Err refusal
 abbrev pub parsed_of_shape : {W : Type 0} → Mangled W → Marking W → Detail → ℕ → Tree → Result Parsed Refusal
 parsed_of_shape m marking detail limit shape = parsed_of_symbol m marking detail limit (marking.spelled (spell shape) (rows_of shape 0 0 0)) (m.unfolded shape)
 
--- The answer for a symbol at a limit: the answer for its shape, or its first bad byte. A list with an item that is no byte is
--- refused at once.
+-- The answer for a symbol at a limit: the answer for its shape, or its first bad byte. A list of numbers that aren't all bytes is refused at once.
 unfoldable pub parsed : {W : Type 0} → Mangled W → Marking W → Detail → List ℕ → ℕ → Result Parsed Refusal
 parsed m marking detail s limit = outcome m.table m.lawful (parsed_of_shape m marking detail limit) (λ at. Err (Malformed at)) (Err (Malformed 0)) s
 
@@ -98,7 +97,7 @@ cpp_marking = record { marked = cpp_roles.symbol_marked; kind = cpp_kinds.kind_o
 abbrev pub v0_marking : Marking Symbol
 v0_marking = record { marked = rust_roles.symbol_marked; kind = rust_kinds.kind_of_symbol; spelled = λ symbol rows stretches. rust_spelled.spelling_of symbol rows }
 
--- at a limit and a detail, where C++ is a mangling of these trees
+-- the answer with parts for a symbol of a language, at a limit and in a detail, with this mangling for C++
 abbrev pub language_parsed_by : {W : Type 0} → Mangled W → Marking W → ℕ → Detail → Lang → List ℕ → Result Parsed Refusal
 language_parsed_by cpp marking limit detail Cpp symbol = parsed cpp marking detail symbol limit
 language_parsed_by cpp marking limit detail Rust symbol = parsed v0_mangled v0_marking detail symbol limit
@@ -114,8 +113,8 @@ legacy_parsed limit s other = elim (legacy_of s) [ Some path ↦ path_parsed lim
 
 -- ## Words
 
--- A part of the text of a word that has `skip` bytes before its symbol, from that part of the symbol's text: the bytes that
--- spell it are counted from the word's first byte. Places take 32 bits.
+-- A part of a word's text, made of the part of its symbol's text. The word has `skip` bytes before its symbol, and the bytes that spell the
+-- part are counted from the word's first byte. Places take 32 bits.
 unfoldable pub part_behind : (skip : ℕ) → Part → Part
 part_behind skip part = record {
   role = part.role;
@@ -134,8 +133,7 @@ parsed_behind skip (Err refusal) = Err refusal
 abbrev pub Parsing : Type 0
 Parsing = Kind → List ℕ → Result Parsed Refusal
 
--- the answers with this grammar of C++; legacy Rust names, which are C++ symbols, too, are answered as C++ symbols or as the
--- paths that they denote
+-- the answers with this grammar of C++. A legacy Rust name is also a C++ symbol: it is answered as that, or as the path that it denotes.
 abbrev pub parsed_by : {W : Type 0} → Mangled W → Marking W → (legacy : Bool) → (limit : ℕ) → Detail → Parsing
 parsed_by cpp marking legacy limit detail =
     if legacy then (λ kind symbol. parsed_behind kind.skip (legacy_parsed limit symbol (language_parsed_by cpp marking limit detail kind.lang symbol)))

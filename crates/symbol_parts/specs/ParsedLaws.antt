@@ -1,4 +1,4 @@
--- Laws: the tree or the refusal that a symbol is read as decides its answer with parts, which without the parts is its answer.
+-- Laws of answers with parts: an answer depends only on the tree or the refusal that the symbol is read as, and is the plain answer if its parts are left out.
 use Rattle.std.proofs.Common.{◌≡◌, ℕ, List, [], Result, Ok, Err, inl, inr, refl, ap, sym, ◌∙◌, Option, Some, None}
 use Rattle.sym_core.specs.declared.refusal.Refusal.{Refusal}
 use Rattle.sym_core.specs.declared.refusal.Refusal.TheVariants.{Malformed}
@@ -31,8 +31,7 @@ text_alone what spelled marks (Ok text) = refl
 text_alone what spelled marks (Err refusal) = refl
 
 module _ {W : Type 0} (m : Mangled W) (marking : Marking W) (detail : Detail) (limit : ℕ) where
-  -- the answer with parts is that for the tree or the refusal that the symbol is read as, with the bytes of parts by the
-  -- symbol's rows
+  -- the answer with parts is the one for the tree or the refusal that the symbol is read as; the bytes of parts are known by the symbol's rows
   pub record IsParsing (s : List ℕ) (result : Result W Refusal) : Type 0 where
     pub spelled : Spelled
     pub rows_spell : (rows : List Row) → AreRowsOf m.table s rows → marking.spelled s rows ≡ spelled
@@ -73,7 +72,7 @@ module _ {W : Type 0} (m : Mangled W) (marking : Marking W) (detail : Detail) (l
     | inr bad ↦ reading_text s (Err (Malformed bad.0)) bytes (misshapen bad.0 bad.1 refl)
   ]
 
--- the texts, where these are the answers of a mangling over other trees
+-- the texts of answers with parts, where a mangling over other trees answers alike
 pub over_text : {W V : Type 0} (m : Mangled W) (over : Mangled V) (marking : Marking V) → ((detail : Detail) (s : List ℕ) (limit : ℕ) → answer over detail s limit ≡ answer m detail s limit)
     → (detail : Detail) (limit : ℕ) (s : List ℕ) → AreBytes s → without_parts (parsed over marking detail s limit) ≡ answer m detail s limit
 over_text m over marking same detail limit s bytes = parsed_text over marking detail limit s bytes ∙ same detail s limit
@@ -84,7 +83,7 @@ unfolding parsed_behind without_parts
 behind_text skip (Ok parsed) plain same = same
 behind_text skip (Err refusal) plain same = same
 
--- the texts of each language
+-- the texts of answers with parts, by language
 lang_text : {W V : Type 0} (cpp : Mangled W) (over : Mangled V) (marking : Marking V) → ((detail : Detail) (s : List ℕ) (limit : ℕ) → answer over detail s limit ≡ answer cpp detail s limit)
     → (limit : ℕ) (detail : Detail) (lang : Lang) (symbol : List ℕ) → AreBytes symbol
     → without_parts (language_parsed_by over marking limit detail lang symbol) ≡ language_answer_by cpp limit detail lang symbol
@@ -98,7 +97,7 @@ language_text cpp over marking same limit detail kind symbol bytes =
     behind_text kind.skip (language_parsed_by over marking limit detail kind.lang symbol) (language_answer_by cpp limit detail kind.lang symbol)
     (lang_text cpp over marking same limit detail kind.lang symbol bytes)
 
--- the texts where legacy names are paths
+-- the texts of answers with parts, where legacy names are paths
 legacy_text_by : (limit : ℕ) (symbol : List ℕ) (other : Result Parsed Refusal) (plain : Result (List ℕ) Refusal) → without_parts other ≡ plain → (path : Option Path)
     → without_parts (elim path as (λ x. Result Parsed Refusal) [ Some path ↦ path_parsed limit symbol path | None ↦ other ])
     ≡ (elim (elim path as (λ x. Option (Result (List ℕ) Refusal)) [ Some path ↦ Some (text_within limit (shown_path path)) | None ↦ None ]) as (λ x. Result (List ℕ) Refusal) [ Some answer ↦ answer | None ↦ plain ])

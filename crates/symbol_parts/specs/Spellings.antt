@@ -1,4 +1,4 @@
--- Laws: marks change no text, and what spells the parts of a symbol's text is within the symbol.
+-- Laws: marks don't change a text, and the bytes that spell the parts of a symbol's text are within the symbol.
 use Rattle.std.proofs.Common.{◌≡◌, ◌≤◌, ◌+◌, ℕ, List, [], ◌++◌, length, sym, subst, arith, length-append}
 use Rattle.std.specs.List.{All}
 use Rattle.std.proofs.lemmas.List.Elements.{All-append, All-cons, All-nil}
@@ -21,7 +21,7 @@ use Rattle.symbol_parts.specs.Parsed.{cpp_marking, returns, v0_marking}
 abbrev pub IsRowWithin : (n : ℕ) → Row → Type 0
 IsRowWithin n row = (row.from ≤ n) × (row.to ≤ n)
 
--- the bytes of the rows of a tree that ends within the symbol
+-- the rows of a tree that ends within the symbol are within the symbol
 mutual
   rows-within : (n : ℕ) (tree : Tree) (after at number : ℕ) → at + length (spell tree) ≤ n → All (IsRowWithin n) (rows_of tree after at number)
   rows-within n (branch rule taken parts) after at number h =

@@ -7,7 +7,7 @@ use crate::parsed::Parsed;
 use std::alloc::{AllocError, Global};
 use sym_parts::Part;
 
-/// A part of the text of a word that has `skip` bytes before its symbol, from that part of the symbol's text.
+/// A part of a word's text, made of the part of its symbol's text. The word has `skip` bytes before its symbol.
 #[tactic(auto, unfolding(crate::specs::Parsed::part_behind))]
 fn part_behind(skip: u32, part: &Part) -> Part
     ensures { result ≡ part_behind skip part.now }
@@ -21,7 +21,7 @@ fn part_behind(skip: u32, part: &Part) -> Part
     }
 }
 
-/// Parts of the text of a word that has `skip` bytes before its symbol, from the parts of the symbol's text.
+/// The parts of a word's text, made of the parts of its symbol's text. The word has `skip` bytes before its symbol.
 fn parts_behind(alloc: Global, skip: u32, parts: &[Part]) -> Result<Vec<Part>, AllocError>
     ensures { IfOk result (λ list. list.items ≡ map (part_behind skip) parts.now) }
 {
@@ -31,7 +31,7 @@ fn parts_behind(alloc: Global, skip: u32, parts: &[Part]) -> Result<Vec<Part>, A
         .collect(alloc)
 }
 
-/// What is found of a word that has `skip` bytes before its symbol, from what was found of the symbol.
+/// What is known of a word, by what was found of its symbol. The word has `skip` bytes before its symbol.
 ///
 /// # Errors
 ///

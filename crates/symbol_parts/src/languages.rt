@@ -18,7 +18,7 @@ use sym_languages::Languages;
 use sym_languages::languages::Cpp;
 use sym_print::Detail;
 
-/// The text of a symbol of a language with its parts, if that costs at most the limit.
+/// The text of a symbol of a language with its parts, if the text costs at most the limit.
 fn parse_lang<C: Cpp + Marked>(
     alloc: Global,
     lang: Lang,

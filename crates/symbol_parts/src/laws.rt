@@ -15,8 +15,8 @@ pub fn text_is_the_answer<M: Marked>()
     ensures { (detail : Detail) (s : List ℕ) (limit : ℕ) → AreBytes s → without_parts (parsed M.over M.marking detail s limit) ≡ answer M.mangled detail s limit }
 {}
 
-/// Each part is a slice of the text; the parts are in the order of their starts, and of two, one is within the other, or they are
-/// apart. The bytes that spell a part are bytes of the symbol.
+/// Each part is a slice of the text. The parts are in the order of their starts; of two parts one is within the other, or they are apart.
+/// The bytes that spell a part are bytes of the symbol.
 pub fn parts_are_placed<M: Marked>()
     ensures text { (detail : Detail) (s : List ℕ) (limit : ℕ) → AreBytes s → IfOk (parsed M.over M.marking detail s limit) (λ p. ArePlaced (length p.text) p.parts) }
     ensures bytes { (detail : Detail) (s : List ℕ) (limit : ℕ) → AreBytes s → IfOk (parsed M.over M.marking detail s limit) (λ p. All (IsSpelledWithin (length s)) p.parts) }

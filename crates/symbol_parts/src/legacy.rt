@@ -18,7 +18,7 @@ use sym_filter::Kind;
 use sym_languages::Legacy;
 use sym_languages::languages::Cpp;
 
-/// The text of a legacy name's path with its parts, if that costs at most the limit.
+/// The text of a legacy name's path with its parts, if the text costs at most the limit.
 fn parse_path(alloc: Global, symbol: &[u8], place: PathPlace, limit: u32) -> Result<Parsed, Refusal>
     requires placed { IsPlaced symbol.now place }
     requires fits { FitsSymbol symbol.now }

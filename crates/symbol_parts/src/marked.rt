@@ -32,7 +32,7 @@ pub trait Marked: Mangling {
 
     ghost over: { Mangled Tree };
 
-    // how what is printed is marked, what a symbol is, and which of its bytes spell which parts
+    // how a printed text is marked, what a symbol is, and which of its bytes spell which parts
     ghost marking: { Marking Tree };
 
     /// What a symbol is.
@@ -69,7 +69,7 @@ pub trait Marked: Mangling {
         ensures spelling { IfOk result (λ spelling. spelling ≡ marking.spelled symbol.now rows.now stretches.now) }
         ensures refusals { IfErr result (λ r. r ≡ refusals.Memory) };
 
-    // marks change no text, and what spells parts is within the symbol
+    // marks don't change a text, and the bytes that spell parts are within the symbol
     ghost marks_only: { (tree : Tree) (printed : Unshared) → marks.text_of (marking.marked tree printed) ≡ text_of printed };
 
     ghost spelled_within: { (s : List ℕ) (rows : List Row) → AreRowsOf over.table s rows → (stretches : List Stretch-type) → IsWithin (length s) (marking.spelled s rows stretches) };

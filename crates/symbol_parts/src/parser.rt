@@ -14,14 +14,14 @@ use sym_filter::{Demangler, Kind};
 
 /// A demangler that answers with the parts of its texts, too.
 pub trait Parser: Demangler {
-    // what it answers for the symbol of a word of a kind: its text with the parts, or why it has none
+    // what a parser answers for the symbol of a word of a kind: the text with its parts, or the reason why there is none
     ghost parsed: { Self → Kind-type → List ℕ → Result Parsed-type Refusal-type };
 
     /// The text of a word's symbol, with what the symbol is and the parts of the text.
     ///
     /// # Errors
     ///
-    /// Why the symbol has no text. Want of memory may refuse any symbol.
+    /// The reason why the symbol has no text. Lack of memory may refuse any symbol.
     fn parse(&self, alloc: Global, kind: Kind, symbol: &[u8]) -> Result<Parsed, Refusal>
         requires { FitsSymbol symbol.now }
         ensures ok { IfOk result (λ p. parsed self.now kind symbol.now ≡ Ok (found p)) }

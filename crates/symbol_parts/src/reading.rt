@@ -21,7 +21,7 @@ fn length_of(text: &[u8]) -> u32
     text.len() as u32
 }
 
-/// The text of a symbol in a detail with its parts, if that costs at most the limit.
+/// The text of a symbol in a detail with its parts, if the text costs at most the limit.
 ///
 /// # Errors
 ///

@@ -1,4 +1,4 @@
--- What a command line's parts did, as what the program did.
+-- What the program did, by what the parts of its command line did.
 use Rattle.std.proofs.Common.{◌≡◌, ◌≢◌, ◌⊎◌, ℕ, Bool, false, Bor, List, [], ◌∷◌, length, map, eqb, Option, Result, Ok, Err, refl, sym, subst, inl, inr, ◌++◌}
 use Rattle.std.specs.Prelude.{IfOk, OnOk, OnErr}
 use Rattle.std.specs.Io.KnownBytes.{Appends}
@@ -27,7 +27,7 @@ use Rattle.symfilt_command.specs.Command.{answers_of, counting_of, filter_answer
 
 -- ## What is answered
 
--- where it is known whether legacy Rust names are paths
+-- a fact of the answers, where it is known whether legacy Rust names are paths
 pub by-legacy : {W : Type 0} → (P : Answering → Type 0) (cpp : Mangled W) (legacy known : Bool) (limit : ℕ) (detail : Detail) → legacy ≡ known → P (answers_by cpp known limit detail) → P (answers_by cpp legacy limit detail)
 by-legacy P cpp legacy known limit detail is given = subst (λ paths. P (answers_by cpp paths limit detail)) (sym is) given
 
@@ -45,7 +45,7 @@ unparsed-run words kind out err err' (Err fault) fails known is says = tt
 pub unparsed-stopped : (words : List Bytes) (out err err' : Option (List ℕ)) (result : Result Run FilterFault) → Says err err' → OnErr result (Took out out err err' (IsStopped words))
 unparsed-stopped words out err err' result says = OnErr-anyway result _ (Took-said out err err' (IsStopped words) says (λ said. inr refl))
 
--- ## Words that it takes
+-- ## Words that the parser accepts
 
 pub some-words : (words : List (Bor (List ℕ))) → eqb (length words) 0 ≡ false → map (λ (word : Bor (List ℕ)). word.now) words ≢ []
 some-words [] some = λ none. eqb-false 0 0 some refl
@@ -62,7 +62,7 @@ refused-run rows out err err' (Err fault) refused is says = tt
 pub refused-stopped : (rows : List Row) (out err err' : Option (List ℕ)) (result : Result Run FilterFault) → Says err err' → OnErr result (Took out out err err' (IsStoppedOf rows))
 refused-stopped rows out err err' result says = OnErr-anyway result _ (Took-said out err err' (IsStoppedOf rows) says (λ said. inr refl))
 
--- symbols with answers, and the case that there are some
+-- symbols that are answered, where there is at least one
 pub answered-run : (rows : List Row) (options : Options) (words : List Bytes) (status : ℕ) (out out' err err' : Option (List ℕ)) → AreGiven rows options → words ≡ symbols_of rows → words ≢ []
     → Took out out' err err' (AnswersWords options.asked (answers_of options) (counting_of options) options.stats words status) → Took out out' err err' (IsRunOf rows (Done status))
 answered-run rows options words status out out' err err' given are some took = record {
@@ -94,7 +94,7 @@ begun-run rows options words out out' err err' given are took = record {
 
 -- ## Without a symbol
 
--- what is required of the filter, where nothing was written
+-- the words request the filter, and nothing was written for them
 pub record AsksAlone (words : List Bytes) (filtering : Filtering) (lines said : List ℕ) : Type 0 where
   pub no_line : lines ≡ []
   pub nothing_said : said ≡ []

@@ -54,8 +54,8 @@ pub record AreAnswered (rows : List Row) (status : ℕ) (lines said : List ℕ) 
   pub some : symbols_of rows ≢ []
   pub answered : AnswersWords options.asked (answers_of options) (counting_of options) options.stats (symbols_of rows) status lines said
 
--- A command line with symbols has answered them; one whose options are refused has written no line; and one that requests the
--- filter has written nothing.
+-- A command line with symbols has answered them. A command line whose options are refused has written no line. A command line that requests
+-- the filter has written nothing.
 abbrev pub IsRunOf : List Row → Run → List ℕ → List ℕ → Type 0
 IsRunOf rows (Done status) lines said = AreAnswered rows status lines said ⊎ ((status ≡ 2) × (lines ≡ []) × AreRefused rows)
 IsRunOf rows (Filter filtering) lines said = (lines ≡ []) × (said ≡ []) × AsksFilter rows filtering
@@ -73,8 +73,8 @@ abbrev pub IsRun : List Bytes → Run → List ℕ → List ℕ → Type 0
 IsRun words run lines said =
     ((faults_in words ≡ []) × IsRunOf (found_in words) run lines said) ⊎ ((faults_in words ≢ []) × (run ≡ Done 2) × (lines ≡ []))
 
--- A command line that a fault stopped has written beginnings of the lines of its symbols, or, before it knew them, only what
--- its parser says.
+-- A command line that a fault stopped has written beginnings of the lines of its symbols, or only what its parser says, if the fault came
+-- before the symbols were known.
 abbrev pub IsStopped : List Bytes → List ℕ → List ℕ → Type 0
 IsStopped words lines said = AreBegun (found_in words) lines said ⊎ (lines ≡ [])
 

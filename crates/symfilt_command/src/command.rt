@@ -23,12 +23,12 @@ use sym_languages::{Abi, Languages, Legacy, Pressing, Wide, WidePressing};
 use sym_recent::{Alike, Recent};
 use sym_short::{Rewriting, Shortening, Texts};
 
-/// Runs the program over an input and two outputs: answers the symbols of a command line, or filters the input where it has none.
-/// The words are those of the command line, the program's name first, and the result is the status.
+/// Runs the program over an input and two outputs: answers the symbols of a command line, or filters the input if the command line has no
+/// symbols. The words are those of the command line, the program's name first, and the result is the status.
 ///
 /// # Errors
 ///
-/// `Read` and `Write` where a stream failed, `Memory`. What was written is a beginning of what would have been.
+/// `Read` and `Write` where a stream failed, `Memory`. What was written is a beginning of what would have been written.
 pub fn run_over<S: Source, W: Sink, E: Sink>(
     alloc: Global,
     words: &[&str],
@@ -59,7 +59,7 @@ pub fn run_over<S: Source, W: Sink, E: Sink>(
 ///
 /// # Errors
 ///
-/// As of `filter_words`.
+/// Those of `filter_words`.
 pub fn filter_asked<S: Source, W: Sink>(
     alloc: Global,
     filtering: Filtering,
@@ -113,7 +113,7 @@ fn filter_in<C: Cpp, S: Source, W: Sink>(
     filter_as(alloc, languages, filtering, input, out)
 }
 
-/// Filters an input with a demangler, whose texts are made short where that is requested.
+/// Filters an input with a demangler, whose texts are made short if that is requested.
 fn filter_as<D: Alike + Copy + Drop, S: Source, W: Sink>(
     alloc: Global,
     demangler: D,
@@ -143,7 +143,7 @@ fn filter_as<D: Alike + Copy + Drop, S: Source, W: Sink>(
     }
 }
 
-/// Filters an input with a demangler. The symbols that came last are answered without asking it again.
+/// Filters an input with a demangler. Symbols that came shortly before are answered without calling the demangler again.
 fn filter_by<D: Alike + Copy + Drop, S: Source, W: Sink>(
     alloc: Global,
     demangler: D,
@@ -164,7 +164,7 @@ fn filter_by<D: Alike + Copy + Drop, S: Source, W: Sink>(
 }
 
 /// Appends the lines for the words of a command line, the program's name first, and says what the program is to do.
-/// Where memory runs out, each list got a beginning of its lines, and the status is 3.
+/// Where memory runs out, each list has a beginning of its lines, and the status is 3.
 pub fn run(alloc: Global, words: &[&str], out: &mut Vec<u8>, err: &mut Vec<u8>) -> Run
     ensures { (lines said : List ℕ) × (out.new.items ≡ out.old.items ++ lines) × (err.new.items ≡ err.old.items ++ said)
         × (IsRun (map (λ word. word.now) words.now) result lines said ⊎ ((result ≡ Run-type.Done 3) × IsStopped (map (λ word. word.now) words.now) lines said)) }
@@ -180,8 +180,8 @@ pub fn run(alloc: Global, words: &[&str], out: &mut Vec<u8>, err: &mut Vec<u8>) 
     }
 }
 
-/// Writes the lines for the words of a command line, the program's name first, and says what the program is to do. Lines wait
-/// until they have some kilobytes, so all words together need only the memory of the dearest word.
+/// Writes the lines for the words of a command line, the program's name first, and says what the program is to do. Lines wait until they
+/// have some kilobytes, so all words together need only the memory of the word that needs most.
 pub fn run_to<W: Sink, E: Sink>(
     alloc: Global,
     words: &[&str],
@@ -232,7 +232,7 @@ fn refuse_run<E: Sink>(err: &mut E, why: &[u8]) -> Result<Run, FilterFault>
     }
 }
 
-/// Writes the lines of each symbol, or says that standard input is to be filtered.
+/// Writes the lines of each symbol, or answers that standard input has to be filtered.
 fn answer_all<W: Sink, E: Sink>(
     alloc: Global,
     matches: &ArgMatches<'_>,
@@ -285,7 +285,7 @@ fn answer_symbols<W: Sink, E: Sink>(
     }
 }
 
-/// Writes the lines of words, which have texts, with a grammar of C++.
+/// Writes the lines of words, which get texts and not pressed spellings, with a grammar of C++.
 fn answer_in<C: Cpp, W: Sink, E: Sink>(
     alloc: Global,
     cpp: C,
@@ -321,7 +321,7 @@ fn answer_in<C: Cpp, W: Sink, E: Sink>(
     answer_as(alloc, languages, options, words, out, err)
 }
 
-/// Writes the lines of words with a demangler, whose texts are made short where that is requested.
+/// Writes the lines of words with a demangler, whose texts are made short if that is requested.
 fn answer_as<D: Demangler + Copy + Drop, W: Sink, E: Sink>(
     alloc: Global,
     demangler: D,

@@ -1,4 +1,4 @@
--- A marked text with the parts that its marks make, whatever spells them.
+-- A marked text with the parts that its marks make, whichever bytes spell them.
 use Rattle.std.proofs.Common.{◌≡◌, ◌≤◌, ◌∙◌, ◌+◌, ℕ, suc, Bool, true, false, List, [], ◌∷◌, ◌++◌, length, map, refl, ap, ap₂, sym, arith, append_assoc, append-nil, length-append, ◌&&◌, not, ◌==◌}
 use Rattle.std.specs.Prelude.{nat_le, nat_lt, if◌then◌else◌}
 use Rattle.std.specs.List.{All}

@@ -12,7 +12,7 @@ use Rattle.text_colours.specs.Colored.{colored}
 use Rattle.text_colours.specs.Shown.{IsPrinted, colored_marked, left_of, shown_in, without_sequences}
 use Rattle.text_colours.proofs.MarkLemmas.{marks-shown}
 
--- the first and the second of bytes without ESC
+-- where two lists together have no ESC, neither of them has one
 first-printed : (bytes more : List ℕ) → All IsPrinted (bytes ++ more) → All IsPrinted bytes
 first-printed [] more printed = All-nil IsPrinted
 first-printed (byte ∷ bytes) more printed =
@@ -29,7 +29,7 @@ bytes-left (byte ∷ bytes) more printed =
     ap (λ (b : Bool). cond b (left_of true (bytes ++ more)) (byte ∷ left_of false (bytes ++ more))) (ne_eqb byte 27 (All-head IsPrinted byte bytes printed))
     ∙ ap (λ (t : List ℕ). byte ∷ t) (bytes-left bytes more (All-tail IsPrinted byte bytes printed))
 
--- what begins and ends a style is gone
+-- the bytes that begin a style are left out
 style-gone : (role : Role) (more : List ℕ) → left_of false (style_of role ++ more) ≡ left_of false more
 style-gone Base more = refl
 style-gone GenericArguments more = refl

@@ -1,4 +1,4 @@
--- Bytes of a text from one place to another, and what is written of it after them.
+-- Bytes of a text from one place to another, and what is written of the text after these bytes.
 use Rattle.std.proofs.Common.{get_or, ◌≡◌, ◌≤◌, ◌<◌, ◌∙◌, ◌+◌, ◌-◌, ℕ, Bool, true, false, List, [], ◌∷◌, ◌++◌, length, take, drop, cond, refl, ap, ap₂, sym, arith, append_assoc, ◌&&◌, inl, inr}
 use Rattle.std.specs.Prelude.{nat_le, nat_lt}
 use Rattle.std.specs.List.{All}
@@ -12,14 +12,14 @@ use Rattle.sym_parts.specs.declared.part.Part.{Part}
 use Rattle.text_colours.specs.Styles.{plain, style_of}
 use Rattle.text_colours.specs.Colored.{colored_from, has_style, place_after, shows, slice, written}
 
--- a text up to a place, and on from there
+-- a text between two places, followed by the text from the second place on
 pub slice-rest : (text : List ℕ) (from to : ℕ) → from ≤ to → slice text from to ++ drop to text ≡ drop from text
 slice-rest text from to h =
     let rest = drop from text in
     ap (λ (t : List ℕ). slice text from to ++ t) (ap (λ (n : ℕ). drop n text) (omega (arith, h)) ∙ sym (drop-drop (to - from) from text))
     ∙ take-append-drop (to - from) rest
 
--- bytes within a text
+-- the slice that is known bytes within a text
 pub slice-within : (text front bytes back : List ℕ) (from to : ℕ) → text ≡ front ++ (bytes ++ back) → from ≡ length front → to ≡ from + length bytes → slice text from to ≡ bytes
 slice-within text front bytes back from to is begins ends =
     ap₂ (λ (n : ℕ) (bs : List ℕ). take n bs) (omega (arith, ends)) (ap₂ drop begins is ∙ drop-append_seam front (bytes ++ back)) ∙ take-append_seam bytes back
@@ -39,7 +39,7 @@ not-shown place part before =
       | inr none ↦ and_left (nat_lt 0 part.length) (nat_le place part.start) (le-ltb 0 part.length none)
     ])
 
--- what isn't shown is passed over
+-- a part that isn't shown is passed over
 passed-by : (text : List ℕ) (place : ℕ) (part : Part) (parts : List Part) (b : Bool) → b ≡ false
     → cond b (slice text place part.start ++ (style_of part.role ++ (slice text part.start (end_of part) ++ plain))) [] ++ colored_from text (cond b (end_of part) place) parts ≡ colored_from text place parts
 passed-by text place part parts false hidden = refl
@@ -55,7 +55,7 @@ all-passed text place (part ∷ parts) more before =
     passed text place part (parts ++ more) (not-shown place part (All-head (λ part. end_of part ≤ place) part parts before))
     ∙ all-passed text place parts more (All-tail (λ part. end_of part ≤ place) part parts before)
 
--- what is shown is written in its style
+-- a part that is shown is written in its style
 shown-by : (text : List ℕ) (place : ℕ) (part : Part) (parts : List Part) (b : Bool) → b ≡ true
     → cond b (slice text place part.start ++ (style_of part.role ++ (slice text part.start (end_of part) ++ plain))) [] ++ colored_from text (cond b (end_of part) place) parts
     ≡ (slice text place part.start ++ (style_of part.role ++ (slice text part.start (end_of part) ++ plain))) ++ colored_from text (end_of part) parts

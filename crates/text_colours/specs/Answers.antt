@@ -5,7 +5,7 @@ use Rattle.sym_filter.specs.Runs.{Answering}
 use Rattle.text_details.specs.Details.{Details, Detailing}
 use Rattle.text_colours.specs.Colored.{colored}
 
--- a text with its parts in their styles, where they are known
+-- a text with its parts in their styles, where its parts are known
 abbrev pub colored_text : Option Details → List ℕ → List ℕ
 colored_text None text = text
 colored_text (Some details) text = colored text details.parts

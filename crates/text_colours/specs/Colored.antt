@@ -9,7 +9,7 @@ use Rattle.text_colours.specs.Styles.{plain, style_of}
 abbrev pub has_style : Role → Bool
 has_style role = not (length (style_of role) == 0)
 
--- A part is shown in its style where it has one and isn't empty, and none of it was written. So a part within a part that has a
+-- A part is shown in its style if the part has a style, isn't empty, and none of it was written yet. So a part within a part that has a
 -- style is shown in the outer part's style.
 abbrev pub shows : (place : ℕ) → Part → Bool
 shows place part = has_style part.role && (nat_lt 0 part.length && nat_le place part.start)
@@ -18,13 +18,12 @@ shows place part = has_style part.role && (nat_lt 0 part.length && nat_le place 
 abbrev pub slice : List ℕ → (from to : ℕ) → List ℕ
 slice text from to = take (to - from) (drop from text)
 
--- What is written for a part, once the text up to a place was written: what is before the part, and the part between what
--- begins its style and what ends it.
+-- What is written for a part after the text up to a place: the bytes before the part, and the part between the beginning and the end of its style.
 abbrev pub written : List ℕ → (place : ℕ) → Part → List ℕ
 written text place part =
     if shows place part then slice text place part.start ++ (style_of part.role ++ (slice text part.start (end_of part) ++ plain)) else []
 
--- the place up to which the text is written then
+-- the place up to which the text is written after a part
 abbrev pub place_after : (place : ℕ) → Part → ℕ
 place_after place part = if shows place part then end_of part else place
 

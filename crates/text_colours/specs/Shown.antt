@@ -3,8 +3,7 @@ use Rattle.std.specs.Prelude.{◌≢◌, ℕ, ◌==◌, List, [], ◌∷◌, ◌
 use Rattle.sym_parts.specs.Marked.{Marked, done, text, marked, text_of}
 use Rattle.text_colours.specs.Styles.{plain, style_of}
 
--- a marked stretch: its text in the style, if there is a style and the text isn't empty; otherwise what it is shown as without
--- a style
+-- how a marked stretch is shown: its text in the style, if there is a style and the text isn't empty; otherwise as without a style
 abbrev pub shown_in : (style bytes without : List ℕ) → List ℕ
 shown_in [] bytes without = without
 shown_in (first ∷ style) [] without = without
@@ -22,7 +21,7 @@ colored_marked (marked role ordinal inside rest) = shown_in (style_of role) (tex
 abbrev pub IsPrinted : ℕ → Type 0
 IsPrinted byte = byte ≢ 27
 
--- what is left of bytes without their sequences; the first bytes may be in a sequence, which ends with an m
+-- bytes without their sequences; the first bytes may be in a sequence, which ends with an m
 abbrev pub left_of : (in_sequence : Bool) → List ℕ → List ℕ
 left_of in_sequence [] = []
 left_of true (byte ∷ bytes) = left_of (not (byte == 109)) bytes

@@ -1,4 +1,4 @@
-// Writing a text with its parts in their styles.
+// Texts with their parts in their styles.
 ghost use Rattle.std.specs.Prelude.{◌≡◌, ◌++◌, ◌+◌, ◌-◌, ◌<◌, ◌≤◌, ◌^◌, take, drop, length, IfOk, OnOk};
 ghost use Rattle.sym_parts.specs.Placed.{end_of};
 ghost use Rattle.text_colours.specs.Colored.{colored, has_style, place_after, shows, slice, written};
@@ -7,7 +7,7 @@ use crate::styles::{PLAIN, style_of};
 use std::alloc::{AllocError, Global};
 use sym_parts::{Part, Role};
 
-/// A text with its parts in their styles. A part within one that has a style is shown in that style.
+/// A text with its parts in their styles. A part within a part that has a style is shown in that style.
 pub fn colored(alloc: Global, text: &[u8], parts: &[Part]) -> Result<Vec<u8>, AllocError>
     ensures { IfOk result (λ all. all.items ≡ colored text.now parts.now) }
 {
@@ -20,8 +20,7 @@ pub fn colored(alloc: Global, text: &[u8], parts: &[Part]) -> Result<Vec<u8>, Al
     Ok(out)
 }
 
-/// Appends what is written for a part, once the text up to a place was written. Answers the place up to which the text is
-/// written then.
+/// Appends what is written for a part, after the text up to a place. Answers the place up to which the text is written then.
 fn push_part(text: &[u8], place: usize, part: Part, out: &mut Vec<u8>) -> Result<usize, AllocError>
     ensures place { IfOk result (λ next. next ≡ place_after place part) }
     ensures text { OnOk result (out.new.items ≡ out.old.items ++ written text.now place part) }
@@ -38,7 +37,7 @@ fn push_part(text: &[u8], place: usize, part: Part, out: &mut Vec<u8>) -> Result
     Ok(end)
 }
 
-/// Whether a part is shown in its style: it has one and isn't empty, and none of it was written.
+/// Whether a part is shown in its style: the part has a style, isn't empty, and none of it was written yet.
 fn shows(place: usize, part: Part) -> bool
     ensures { result ≡ shows place part }
 {

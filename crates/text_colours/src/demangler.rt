@@ -20,7 +20,7 @@ pub struct Colored<D> {
 }
 
 impl<D: Detailed> Colored<D> {
-    /// Colours the text of a symbol, which is the bytes of a list from a place on. Where memory runs out, the text is gone.
+    /// Colours the text of a symbol, which is the bytes of a list from a place on. Where memory runs out, the text is removed.
     fn color(
         &self,
         kind: Kind,
@@ -45,7 +45,7 @@ impl<D: Detailed> Colored<D> {
     }
 }
 
-/// Colours the parts of a text, which is the bytes of a list from a place on. Where memory runs out, the text is gone.
+/// Colours the parts of a text, which is the bytes of a list from a place on. Where memory runs out, the text is removed.
 fn color_parts(
     alloc: Global,
     parts: &[Part],

@@ -1,4 +1,4 @@
-//! Texts of names whose parts a terminal tells apart: the name itself is bold, arguments and parameters are dim.
+//! Texts of names in which a terminal shows the parts in different styles: the name itself is bold, arguments and parameters are dim.
 #![tactic(auto)]
 
 mod coloring;

@@ -16,7 +16,7 @@ mangling_name Itanium = codes "itanium"
 mangling_name RustV0 = codes "rust-v0"
 mangling_name RustLegacy = codes "rust-legacy"
 
--- a legacy Rust name is one of C++, too, and of Rust only where it is read as a path
+-- the mangling of a symbol; a legacy Rust name is a C++ symbol, too, and its mangling is Rust's only where it is read as a path
 abbrev pub mangling_of : (reads_paths : Bool) → Lang → List ℕ → Mangling
 mangling_of reads_paths Cpp symbol = if reads_paths && is_some (legacy_of symbol) then RustLegacy else Itanium
 mangling_of reads_paths Rust symbol = RustV0

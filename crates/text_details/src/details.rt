@@ -18,10 +18,10 @@ pub struct Details {
 
 /// A demangler that may know the details of its texts.
 pub trait Detailed: Demangler {
-    // the details of the text of a word's symbol, where they are known
+    // the details of the text of a word's symbol, if they are known
     ghost details: { Self → Kind-type → List ℕ → Option Details-type };
 
-    /// The details of the text of a word's symbol, where they are known.
+    /// The details of the text of a word's symbol, if they are known.
     ///
     /// # Errors
     ///

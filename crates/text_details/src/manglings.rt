@@ -52,7 +52,7 @@ impl Mangling {
     }
 }
 
-/// The mangling of a symbol. A legacy Rust name is one of C++, too, and of Rust only where it is read as a path.
+/// The mangling of a symbol. A legacy Rust name is a C++ symbol, too; its mangling is Rust's only where it is read as a path.
 pub fn mangling_of(reads_paths: bool, lang: Lang, symbol: &[u8]) -> Mangling
     ensures { result ≡ mangling_of reads_paths lang symbol.now }
 {

@@ -11,11 +11,11 @@ use Rattle.sym_filter.specs.declared.kinds.TheConstants.{LONGEST_WORD}
 use Rattle.sym_filter.specs.Bytes.{is_byte_of}
 use Rattle.sym_filter.specs.Runs.{Answering}
 
--- the bytes of a type: the bytes of words except for the dot, with which a symbol's suffix begins
+-- the bytes of a type: the bytes of words, except the dot, which begins a symbol's suffix
 abbrev pub is_type_byte : ℕ → Bool
 is_type_byte byte = is_byte_of Any byte && not (byte == 46)
 
--- a name that can be a type has at most the length of a word
+-- a name that can be a type is at most as long as a word may be
 abbrev pub is_type_word : List ℕ → Bool
 is_type_word name = nat_le (length name) LONGEST_WORD && list_all is_type_byte name
 
@@ -51,6 +51,6 @@ type_answer answers name = type_by (answers (record { lang = Cpp; skip = 0 }) (c
 abbrev pub type_text : Answering → List ℕ → Option (List ℕ)
 type_text answers name = result_ok (type_answer answers name)
 
--- the text of a name as a type, where types are read and it is one
+-- the text of a name as a type, if types are read and the name is one
 unfoldable pub type_for : (types : Bool) → Answering → List ℕ → Option (List ℕ)
 type_for types answers name = if types && is_type_word name then type_text answers name else None

@@ -20,7 +20,7 @@ const INFORMATION: &[u8] = b"_ZTI";
 /// The beginning of the text of each typeinfo symbol.
 const INFORMATION_WORDS: &[u8] = b"typeinfo for ";
 
-/// The text of a name as a type, where types are read and it is one.
+/// The text of a name as a type, if types are read and the name is one.
 ///
 /// # Errors
 ///
@@ -46,7 +46,7 @@ fn may_be_type(types: bool, name: &[u8]) -> bool
     types && is_type_word(name)
 }
 
-/// The text of a type, where it has one.
+/// The text of a type, if it has one.
 fn type_text<D: Demangler>(
     alloc: Global,
     demangler: &D,
@@ -66,11 +66,11 @@ fn type_text<D: Demangler>(
     }
 }
 
-/// Appends the text of a type, where its typeinfo symbol has one, else nothing.
+/// Appends the text of a type, if its typeinfo symbol has a text; otherwise appends nothing.
 ///
 /// # Errors
 ///
-/// The reason why the type has no text, with a place in the name. Any type may be refused for want of memory.
+/// The reason why the type has no text, with a place in the name. Lack of memory may refuse any type.
 pub fn append_type<D: Demangler>(
     alloc: Global,
     demangler: &D,
@@ -114,7 +114,7 @@ fn before_front(refusal: Refusal) -> Refusal
     }
 }
 
-/// Whether a name can be a type: it is no longer than a word, and each of its bytes may be in a word and is no dot.
+/// Whether a name can be a type: it is no longer than a word may be, and each of its bytes may be in a word and is no dot.
 pub fn is_type_word(name: &[u8]) -> bool
     ensures { result ≡ is_type_word name.now }
 {

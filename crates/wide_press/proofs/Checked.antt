@@ -1,4 +1,4 @@
--- What a spelling is read as decides whether it is answered.
+-- A spelling is answered, or not, by what it is read as.
 use Rattle.std.proofs.Common.{◌≡◌, ◌≢◌, ◌<◌, ◌≤◌, ◌⊎◌, inl, inr, ℕ, List, length, Bool, true, false, Some, None, Result, Ok, Err, refl, ap, sym, subst, ◌∙◌}
 use Rattle.std.specs.Prelude.{if◌then◌else◌, ◌&&◌, nat_le}
 use Rattle.std.proofs.lemmas.Bool.{le-leb, lt-leb}
@@ -24,7 +24,7 @@ reads-told bytes t result are (misshapen at bad e) =
 reads-told bytes t result are (well_shaped (shape, is, text, e)) =
     outcome_shaped wide wide_lawful (λ shape. is_tree t (unfold_wide shape)) (λ at. false) false bytes shape are is text ∙ ap (is_tree t) (sym e)
 
--- what is refused for a reason of its own is read as no tree
+-- bytes that are refused for another reason than lack of memory are read as no tree
 pub refused-told : (bytes : List ℕ) (t : Term) (refusal : Refusal) → AreBytes bytes → refusal ≢ Memory → (refusal ≡ Memory) ⊎ IsReading wide_mangled bytes (Err refusal)
     → false ≡ reads_as bytes t
 refused-told bytes t refusal are not (inl memory) = absurd (not memory)
@@ -48,7 +48,7 @@ kept-unread most t reads = ap (λ b. if nat_le (length (pressed t)) most && b th
     go true = refl
     go false = refl
 
--- a reading as the same tree is one as the tree
+-- bytes that are read as an equal tree are read as the tree
 pub same-reading : (bytes : List ℕ) (t read : Term) → IsReading wide_mangled bytes (Ok read) → same_tree t read ≡ true → IsReading wide_mangled bytes (Ok t)
 same-reading bytes t read reading same = subst (λ u. IsReading wide_mangled bytes (Ok u)) (sym (equal-tree t read same)) reading
 

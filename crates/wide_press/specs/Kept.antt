@@ -19,11 +19,11 @@ is_tree t (Err refusal) = false
 unfoldable pub reads_as : List ℕ → Term → Bool
 reads_as bytes t = outcome wide wide_lawful (λ shape. is_tree t (unfold_wide shape)) (λ at. false) false bytes
 
--- The pressed spelling of a tree, where it has at most that number of bytes and the wide grammar reads it as the tree; else nothing.
+-- The pressed spelling of a tree, if it has at most that number of bytes and the wide grammar reads it as the tree; otherwise nothing.
 unfoldable pub kept : (most : ℕ) → Term → Option (List ℕ)
 kept most t = if nat_le (length (pressed t)) most && reads_as (pressed t) t then Some (pressed t) else None
 
--- the bytes that are answered, or nothing, are these
+-- the code's answer has these bytes, or is nothing
 abbrev pub IsKept : Option (List ℕ) → Option (Vec ℕ Global) → Type 0
 IsKept given None = given ≡ None
 IsKept given (Some out) = given ≡ Some out.items

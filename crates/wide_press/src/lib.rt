@@ -16,15 +16,15 @@ use std::alloc::Global;
 use sym_core::Refusal;
 use sym_demangle::Workspace;
 
-/// The pressed spelling of a symbol that was read by the wide grammar, where it has at most this many bytes and the wide grammar reads it as
-/// the symbol's tree. So symbols with one answer have one tree. Each answer is checked: it is read with the lists, and its nodes are
-/// compared with the symbol's by their numbers.
+/// The pressed spelling of a symbol that was read by the wide grammar, if the spelling has at most this many bytes and the wide grammar
+/// reads it as the symbol's tree. So symbols with one answer have one tree. Each answer is checked: it is read with the lists, and its
+/// nodes are compared with the symbol's by their numbers.
 ///
-/// Nothing is answered for many trees that the grammar of the ABI doesn't read, since some of their parts have no spelling yet.
+/// Many trees that the grammar of the ABI doesn't read have no answer, since some of their parts have no spelling yet.
 ///
 /// # Errors
 ///
-/// `Memory` alone.
+/// Only `Memory`.
 pub fn press_wide(
     alloc: Global,
     lists: &mut Workspace<Wide>,
@@ -52,7 +52,7 @@ pub fn press_wide(
 ///
 /// # Errors
 ///
-/// `Memory` alone.
+/// Only `Memory`.
 fn is_read_as(
     alloc: Global,
     lists: &mut Workspace<Wide>,

@@ -1,9 +1,9 @@
 #!/bin/bash
-# Compiles the checkers of the rows, and names.c, for a host of WASI, in a copy of dist/ in which `make demangle.wasm symfilt.wasm` was run:
+# Compiles the checkers of the rows, and names.c, for a host of WASI. COPY is a copy of dist/ in which `make demangle.wasm symfilt.wasm` was run:
 #
 #   tests/portable/wasi/checked.sh COPY CFLAGS..
 #
-# It makes check_library.wasm, check_demangle.wasm, check_symfilt.wasm and names.wasm there, as dist/Makefile makes the programs.
+# The script makes check_library.wasm, check_demangle.wasm, check_symfilt.wasm and names.wasm in COPY, as dist/Makefile makes the programs.
 set -euo pipefail
 here=$(cd "$(dirname "$0")" && pwd)
 cd "$1"

@@ -1,6 +1,6 @@
-/* As much of a C library as the checkers of dist/ and names.c call, on a host of WASI: Debian has none for 64-bit addresses. Memory,
-   streams, files and arguments are those of dist/wasi.c, which is compiled in here under other names, as the checkers have the
-   programs' names for themselves. */
+/* The part of a C library that the checkers of dist/ and names.c call, on a host of WASI: Debian has no such library for 64-bit
+   addresses. Memory, streams, files and arguments are those of dist/wasi.c, which is included here under other names, since the checkers
+   use the programs' names for their own functions. */
 #define port_main started
 #define port_rattle_alloc wasi_alloc
 #define port_rattle_realloc wasi_realloc
@@ -105,7 +105,7 @@ char *strerror(int number)
     return none;
 }
 
-/* Decimal numbers alone. */
+/* Only decimal numbers are read. */
 unsigned long strtoul(const char *text, char **end, int base)
 {
     unsigned long number = 0;
@@ -121,7 +121,7 @@ int atoi(const char *text)
     return (int)strtoul(text, 0, 10);
 }
 
-/* Streams, with what was read or is to be written. */
+/* Streams, with the bytes that were read or that have to be written. */
 enum { ROOM = 1 << 16 };
 struct file {
     uint32_t stream;
@@ -228,7 +228,7 @@ char *fgets(char *to, int capacity, FILE *file)
     return length ? to : 0;
 }
 
-/* What is printed goes to a stream, or to a string. */
+/* Where printed bytes go: to a stream, or to a string. */
 typedef struct {
     FILE *file;
     char *to;

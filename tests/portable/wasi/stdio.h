@@ -1,4 +1,4 @@
-/* What the checkers and names.c call of stdio.h. host.c has it. */
+/* The functions of stdio.h that the checkers and names.c call. They are in host.c. */
 #ifndef STDIO_H
 #define STDIO_H
 

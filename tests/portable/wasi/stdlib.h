@@ -1,4 +1,4 @@
-/* What the library, the checkers and names.c call of stdlib.h. host.c has it. */
+/* The functions of stdlib.h that the library, the checkers and names.c call. They are in host.c. */
 #ifndef STDLIB_H
 #define STDLIB_H
 

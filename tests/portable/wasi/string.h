@@ -1,4 +1,4 @@
-/* What the library, the checkers and names.c call of string.h. host.c and dist/wasi.c have it. */
+/* The functions of string.h that the library, the checkers and names.c call. They are in host.c and dist/wasi.c. */
 #ifndef STRING_H
 #define STRING_H
 

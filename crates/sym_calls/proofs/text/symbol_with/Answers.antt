@@ -9,7 +9,7 @@ returns-in-Ok g c =
     appended-ends (g.D.Demangler.answer c.args.demangler.now c.args.kind c.args.symbol.now) c.args.kind.skip c.args.buffer.now c.clear.new.self.items c.append.new.out.items c.append.result c.in-Ok.field-0 _
     c.clear.ensures.items c.in-Ok.is c.append.ensures (c.write.ensures ∙ ap (λ b. written b c.args.buffer.now) c.deref.ensures.value)
 
--- it was refused
+-- the text was refused
 pub returns-in-Err : goal.returns-in-Err
 returns-in-Err g c =
     not-appended-ends (g.D.Demangler.answer c.args.demangler.now c.args.kind c.args.symbol.now) c.args.kind.skip c.args.buffer.now c.clear.new.self.items c.append.new.out.items c.append.result c.in-Err.refusal _

@@ -10,5 +10,4 @@ begin_nested-requires-clause-awaits g c =
     refl c.if-byte_at-ne86.false (omega arith) second.ensures) c.in_ok-push.ensures
 
 pub begin_nested-requires-clause-letter : goal.begin_nested-requires-clause-letter
-begin_nested-requires-clause-letter g c =
-    there c.args.s.now 4 c.byte_at-else-byte_at-ne86.result 78 c.if-byte_at-ne78.false (omega arith) c.byte_at-else-byte_at-ne86.ensures
+begin_nested-requires-clause-letter g c = there c.args.s.now 4 c.byte_at-else-byte_at-ne86.result 78 c.if-byte_at-ne78.false (omega arith) c.byte_at-else-byte_at-ne86.ensures

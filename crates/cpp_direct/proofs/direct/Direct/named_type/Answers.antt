@@ -1,10 +1,8 @@
-use Rattle.cpp_direct.proofs.ForAnswers.{arith, there, source-named, nest-awaited}
+use Rattle.cpp_direct.proofs.ForAnswers.{arith, there, source-named}
 use Rattle.cpp_direct.proofs.direct.Direct.named_type.Goals as goal
 
-pub nest_at-requires-clause-awaits : goal.nest_at-requires-clause-awaits
-nest_at-requires-clause-awaits g c =
-    nest-awaited _ c.args.self.now c.in_ok-self-in-78.field-0 c.requires.awaits c.in_ok-self-in-78.ensures.1
-    (there c.args.s.now c.args.self.now.at c.byte_at.result 78 c.in-78.is (omega arith) c.byte_at.ensures)
+pub nested_type-requires-clause-letter : goal.nested_type-requires-clause-letter
+nested_type-requires-clause-letter g c = there c.args.s.now c.args.self.now.at c.byte_at.result 78 c.in-78.is (omega arith) c.byte_at.ensures
 
 pub type_named-requires : goal.type_named-requires
 type_named-requires g c =

@@ -60,16 +60,14 @@ finish-requires g c =
     (value-element _ c.args.self.now c.args.is_reference Open.Special c.requires.writing (c.requires.waits ∙ ap (λ o. Some o) c.in-Special.is))
 
 pub derived_ended-requires-clause-read : goal.derived_ended-requires-clause-read
-derived_ended-requires-clause-read g c =
-    value-element _ c.args.self.now c.args.is_reference Open.Derived c.requires.writing (c.requires.waits ∙ ap (λ o. Some o) c.in-Derived.is)
+derived_ended-requires-clause-read g c = value-element _ c.args.self.now c.args.is_reference Open.Derived c.requires.writing (c.requires.waits ∙ ap (λ o. Some o) c.in-Derived.is)
 
 pub base_ended-requires-clause-read : goal.base_ended-requires-clause-read
 base_ended-requires-clause-read g c =
     value-element _ c.args.self.now c.args.is_reference (Open.Base c.in-Base.to) c.requires.writing (c.requires.waits ∙ ap (λ o. Some o) c.in-Base.is)
 
 pub enumerator-requires-clause-awaits : goal.enumerator-requires-clause-awaits
-enumerator-requires-clause-awaits g c =
-    value-enumerator _ c.args.self.now c.args.is_reference c.requires.writing (c.requires.waits ∙ ap (λ o. Some o) c.in-Enumerator.is)
+enumerator-requires-clause-awaits g c = value-enumerator _ c.args.self.now c.args.is_reference c.requires.writing (c.requires.waits ∙ ap (λ o. Some o) c.in-Enumerator.is)
 
 pub returns-in_default : goal.returns-in_default
 returns-in_default g c =

@@ -16,5 +16,4 @@ returns g c =
     (pointer-opened _ c.args.self.now c.open_type.new.self c.end-from.result c.requires.awaits c.end-from.ensures c.requires.letter)
 
 pub begin_array-requires-clause-letters : goal.begin_array-requires-clause-letters
-begin_array-requires-clause-letters g c =
-    stands-join c.args.s.now c.args.self.now.at (80 ∷ []) (65 ∷ []) c.requires.letter (c.is_array_behind.ensures c.if-is_array_behind.true)
+begin_array-requires-clause-letters g c = stands-join c.args.s.now c.args.self.now.at (80 ∷ []) (65 ∷ []) c.requires.letter (c.is_array_behind.ensures c.if-is_array_behind.true)

@@ -12,8 +12,8 @@ returns-then-byte_at-eq73 g c =
     (subst (λ n. StandsAt s.bytes n (73 ∷ [])) added.at (there s.bytes mid.at c.byte_at.result 73 c.if-byte_at-eq73.true (omega arith) c.byte_at.ensures))
     added)
 
-pub components_at-requires-clause-writing : goal.components_at-requires-clause-writing
-components_at-requires-clause-writing g c =
+pub returns : goal.returns
+returns g c =
     let writing = c.requires.writing in
     component-next _ writing.is_before.1 c.args.self.now c.add_unless.new.self writing.kept writing.is_before.0
     (first-is-rest writing.is_before.1 writing.is_before.2) writing.is_before.3 c.in_ok-add_unless.ensures

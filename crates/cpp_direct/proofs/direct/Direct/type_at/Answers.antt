@@ -1,6 +1,12 @@
 use Rattle.cpp_direct.proofs.ForAnswers.{◌∷◌, [], true, arith, subst, if◌then◌else◌, IsWriting, symbol_by, opened-so, stands-join, awaits-type, names-awaited, there, reference-opened, const-opened, Step}
 use Rattle.cpp_direct.proofs.direct.Direct.type_at.Goals as goal
 
+pub nested_type-requires-clause-letter : goal.nested_type-requires-clause-letter
+nested_type-requires-clause-letter g c = there c.args.s.now c.args.self.now.at c.byte_at.result 78 c.in-78.is (omega arith) c.byte_at.ensures
+
+pub nested_type-requires-clause-awaits : goal.nested_type-requires-clause-awaits
+nested_type-requires-clause-awaits g c = names-awaited _ c.args.self.now (awaits-type _ c.args.self.now c.args.is_plain c.requires.writing)
+
 pub named_type-requires-clause-awaits : goal.named_type-requires-clause-awaits
 named_type-requires-clause-awaits g c = names-awaited _ c.args.self.now (awaits-type _ c.args.self.now c.args.is_plain c.requires.writing)
 

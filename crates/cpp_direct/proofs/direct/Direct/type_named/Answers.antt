@@ -2,8 +2,7 @@ use Rattle.cpp_direct.proofs.ForAnswers.{true, arith, IsWriting, opened-so, bare
 use Rattle.cpp_direct.proofs.direct.Direct.type_named.Goals as goal
 
 pub returns-then-byte_at-ne73 : goal.returns-then-byte_at-ne73
-returns-then-byte_at-ne73 g c =
-    bare-done _ c.args.self.now c.add_unless.new.self c.args.from c.args.is_listed c.args.is_reference c.requires c.in_ok-add_unless.ensures
+returns-then-byte_at-ne73 g c = bare-done _ c.args.self.now c.add_unless.new.self c.args.from c.args.is_listed c.args.is_reference c.requires c.in_ok-add_unless.ensures
 
 pub returns : goal.returns
 returns g c =

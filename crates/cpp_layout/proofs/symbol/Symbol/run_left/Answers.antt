@@ -1,14 +1,14 @@
 use Rattle.std.proofs.Common.{◌<◌, sym, ap, ◌∙◌, arith}
 use Rattle.cpp_tree.specs.Nodes.{tree_under, trees}
 use Rattle.cpp_layout.specs.Layout.{table_of}
-use Rattle.cpp_layout.proofs.Pointing.{run-fixed}
+use Rattle.cpp_layout.proofs.Pointing.{run-left}
 use Rattle.cpp_layout.proofs.symbol.Symbol.run_left.Goals as goal
 
-pub returns-then-run-eq-MOST_STARS : goal.returns-then-run-eq-MOST_STARS
-returns-then-run-eq-MOST_STARS c =
-    let some : 0 < c.pointers-run.result.levels = omega (arith, c.if-run-eq-MOST_STARS.true) in
+pub returns : goal.returns
+returns c =
+    let some : 0 < c.pointers-run.result.levels = omega (arith, c.if-run-eq0.false) in
     record {
-      run = rw c.item_at.ensures (run-fixed c.args.self.now c.args.item c.pointers-run.result.inner c.pointers-run.result.levels c.requires.may_come.0
+      run = rw c.item_at.ensures (run-left c.args.self.now c.args.item c.pointers-run.result.inner c.pointers-run.result.levels c.requires.may_come.0
           (sym (ap (tree_under (trees (table_of c.args.self.now))) c.type_in.ensures) ∙ c.pointers-run.ensures.tree) c.pointers-run.ensures.below (c.pointers-run.ensures.pointer some) some
-          c.if-run-eq-MOST_STARS.true c.requires.form);
+          c.pointers-run.ensures.few c.requires.form);
     }

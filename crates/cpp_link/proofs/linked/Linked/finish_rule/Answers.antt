@@ -4,8 +4,8 @@ use Rattle.cpp_link.proofs.Inherited.{inheriting_unread}
 use Rattle.cpp_link.proofs.Making.{is_rare}
 use Rattle.cpp_link.proofs.linked.Linked.finish_rule.Goals as goal
 
-pub finish_rare-requires-clause-rare : goal.finish_rare-requires-clause-rare
-finish_rare-requires-clause-rare c = is_rare c.production_of-production.result (record {
+pub finish_other-requires-clause-rare : goal.finish_other-requires-clause-rare
+finish_other-requires-clause-rare c = is_rare c.production_of-production.result (record {
   not_nest_next = c.in_default.not-NestNext;
   not_source_name = c.in_default.not-SourceName;
   not_plain_type = c.in_default.not-PlainType;

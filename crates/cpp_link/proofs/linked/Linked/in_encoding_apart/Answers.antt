@@ -1,7 +1,6 @@
 use Rattle.std.proofs.Common.{sym, ◌∙◌, ap, false, ◌&&◌, Option}
 use Rattle.cpp_term.proofs.Notes.{both}
 use Rattle.cpp_term.specs.Between.{in_name, in_types}
-use Rattle.cpp_term.specs.Rescoping.{is_passed_over}
 use Rattle.cpp_term.specs.Term.{Term}
 use Rattle.cpp_term.specs.Scope.{is_open}
 use Rattle.cpp_term.specs.Values.{Around, tree_of, outermost}

@@ -1,28 +1,82 @@
-use Rattle.std.proofs.Common.{sym, ◌∙◌, ap, ℕ, ◌-◌}
+use Rattle.std.proofs.Common.{sym, ◌∙◌, ◌≡◌, ap, ℕ, ◌-◌, false, length}
+use Rattle.cpp_grammar.specs.declared.production.Production.{Production}
+use Rattle.cpp_grammar.specs.Unfolding.{production_at}
 use Rattle.cpp_link.specs.LinkRescoping.{steps_apart}
 use Rattle.cpp_link.specs.Parts.{is_lambda}
-use Rattle.cpp_term.proofs.Notes.{both}
-use Rattle.cpp_link.proofs.Rescoped.{apart_goes, goes_counted}
+use Rattle.cpp_link.proofs.Rescoped.{plain_goes}
 use Rattle.cpp_link.proofs.rescoping.Rescoping.between_by_step.Goals as goal
 
-pub before_apart-requires-clause-apart : goal.before_apart-requires-clause-apart
-before_apart-requires-clause-apart c =
+pub returns-else-in_lambda-clause-goes : goal.returns-else-in_lambda-clause-goes
+unfolding steps_apart
+returns-else-in_lambda-clause-goes c =
+    let did = c.before_as in
     let frame = c.args.frame.now in
-    let lambda = is_lambda frame.kept.scope in
-    both (λ p n. steps_apart p lambda (n - frame.base)) (sym c.production_of.ensures) (sym (c.len.ensures ∙ c.args.parts.now.ok.0)) ∙ sym c.steps_apart.ensures ∙ c.if-steps_apart.true
+    let parts = c.args.parts.now.items in
+    let before : ℕ = length parts - frame.base in
+    let apart : steps_apart (production_at frame.rule) (is_lambda frame.kept.scope) before ≡ false =
+    ap (λ p. steps_apart p (is_lambda frame.kept.scope) before) (sym c.production_of-production.ensures ∙ c.in-Encoding.is)
+    ∙ ap (λ l. steps_apart Production.Encoding l before) (sym c.in_lambda.ensures ∙ c.if-in_lambda.false) in
+    plain_goes c.args.symbol.now c.args.self.now did.new.self frame parts did.new.parts.items did.result c.requires.room.paid.begun apart did.ensures.makes did.ensures.goes
 
-pub returns-then-steps_apart-clause-goes : goal.returns-then-steps_apart-clause-goes
-returns-then-steps_apart-clause-goes c =
-    goes_counted c.args.symbol.now c.args.self.now c.before_apart.new.self c.args.frame.now c.args.parts.now.items c.before_apart.new.parts.items c.before_apart.result c.requires.room.paid.begun
-    c.before_apart.ensures.makes c.before_apart.ensures.goes
-
-pub returns-clause-goes : goal.returns-clause-goes
-returns-clause-goes c =
-    let s = c.args.symbol.now in
-    let old = c.args.self.now in
-    let new = c.before_by_step.new.self in
+pub returns-in-NestNext-clause-goes : goal.returns-in-NestNext-clause-goes
+unfolding steps_apart
+returns-in-NestNext-clause-goes c =
+    let did = c.before_as-in-NestNext in
     let frame = c.args.frame.now in
-    let before : ℕ = c.len.result - frame.base in
-    let apart = ap (λ p. steps_apart p (is_lambda frame.kept.scope) before) (sym c.production_of.ensures) ∙ sym c.steps_apart.ensures ∙ c.if-steps_apart.false in
-    goes_counted s old new frame c.args.parts.now.items c.before_by_step.new.parts.items c.before_by_step.result c.requires.room.paid.begun c.before_by_step.ensures.makes
-    (apart_goes s old.linked new frame c.args.parts.now.items c.before_by_step.new.parts.items before c.before_by_step.result (ap (λ n. n - frame.base) (c.len.ensures ∙ c.args.parts.now.ok.0)) apart c.before_by_step.ensures.goes)
+    let parts = c.args.parts.now.items in
+    plain_goes c.args.symbol.now c.args.self.now did.new.self frame parts did.new.parts.items did.result c.requires.room.paid.begun
+    (ap (λ p. steps_apart p (is_lambda frame.kept.scope) (length parts - frame.base)) (sym c.production_of-production.ensures ∙ c.in-NestNext.is)) did.ensures.makes did.ensures.goes
+
+pub returns-in-SourceName-clause-goes : goal.returns-in-SourceName-clause-goes
+unfolding steps_apart
+returns-in-SourceName-clause-goes c =
+    let did = c.before_as-in-SourceName in
+    let frame = c.args.frame.now in
+    let parts = c.args.parts.now.items in
+    plain_goes c.args.symbol.now c.args.self.now did.new.self frame parts did.new.parts.items did.result c.requires.room.paid.begun
+    (ap (λ p. steps_apart p (is_lambda frame.kept.scope) (length parts - frame.base)) (sym c.production_of-production.ensures ∙ c.in-SourceName.is)) did.ensures.makes did.ensures.goes
+
+pub returns-in-NestSource-clause-goes : goal.returns-in-NestSource-clause-goes
+unfolding steps_apart
+returns-in-NestSource-clause-goes c =
+    let did = c.before_as-in-NestSource in
+    let frame = c.args.frame.now in
+    let parts = c.args.parts.now.items in
+    plain_goes c.args.symbol.now c.args.self.now did.new.self frame parts did.new.parts.items did.result c.requires.room.paid.begun
+    (ap (λ p. steps_apart p (is_lambda frame.kept.scope) (length parts - frame.base)) (sym c.production_of-production.ensures ∙ c.in-NestSource.is)) did.ensures.makes did.ensures.goes
+
+pub returns-in-Arguments-clause-goes : goal.returns-in-Arguments-clause-goes
+unfolding steps_apart
+returns-in-Arguments-clause-goes c =
+    let did = c.before_as-in-Arguments in
+    let frame = c.args.frame.now in
+    let parts = c.args.parts.now.items in
+    plain_goes c.args.symbol.now c.args.self.now did.new.self frame parts did.new.parts.items did.result c.requires.room.paid.begun
+    (ap (λ p. steps_apart p (is_lambda frame.kept.scope) (length parts - frame.base)) (sym c.production_of-production.ensures ∙ c.in-Arguments.is)) did.ensures.makes did.ensures.goes
+
+pub returns-in-NestTemplate-clause-goes : goal.returns-in-NestTemplate-clause-goes
+unfolding steps_apart
+returns-in-NestTemplate-clause-goes c =
+    let did = c.before_as-in-NestTemplate in
+    let frame = c.args.frame.now in
+    let parts = c.args.parts.now.items in
+    plain_goes c.args.symbol.now c.args.self.now did.new.self frame parts did.new.parts.items did.result c.requires.room.paid.begun
+    (ap (λ p. steps_apart p (is_lambda frame.kept.scope) (length parts - frame.base)) (sym c.production_of-production.ensures ∙ c.in-NestTemplate.is)) did.ensures.makes did.ensures.goes
+
+pub returns-in-TypeWithS-clause-goes : goal.returns-in-TypeWithS-clause-goes
+unfolding steps_apart
+returns-in-TypeWithS-clause-goes c =
+    let did = c.before_as-in-TypeWithS in
+    let frame = c.args.frame.now in
+    let parts = c.args.parts.now.items in
+    plain_goes c.args.symbol.now c.args.self.now did.new.self frame parts did.new.parts.items did.result c.requires.room.paid.begun
+    (ap (λ p. steps_apart p (is_lambda frame.kept.scope) (length parts - frame.base)) (sym c.production_of-production.ensures ∙ c.in-TypeWithS.is)) did.ensures.makes did.ensures.goes
+
+pub returns-in-TaggedStdType-clause-goes : goal.returns-in-TaggedStdType-clause-goes
+unfolding steps_apart
+returns-in-TaggedStdType-clause-goes c =
+    let did = c.before_as-in-TaggedStdType in
+    let frame = c.args.frame.now in
+    let parts = c.args.parts.now.items in
+    plain_goes c.args.symbol.now c.args.self.now did.new.self frame parts did.new.parts.items did.result c.requires.room.paid.begun
+    (ap (λ p. steps_apart p (is_lambda frame.kept.scope) (length parts - frame.base)) (sym c.production_of-production.ensures ∙ c.in-TaggedStdType.is)) did.ensures.makes did.ensures.goes

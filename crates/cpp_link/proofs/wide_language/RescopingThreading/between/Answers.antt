@@ -1,20 +1,35 @@
-use Rattle.std.proofs.Common.{◌∙◌, ap, subst, rules, ℕ, ◌-◌, ◌<◌}
+use Rattle.std.proofs.Common.{◌∙◌, ap, subst, ℕ, ◌≡◌, ◌-◌, ◌<◌, length, Ok}
 use Rattle.cpp_link.specs.Tables.{quiet_parts}
 use Rattle.cpp_link.specs.Parts.{is_lambda}
 use Rattle.cpp_grammar.specs.Unfolding.{production_at}
+use Rattle.cpp_link.proofs.GoingOn.{quiet_right, quiet_adds, quiet_few}
+use Rattle.cpp_link.proofs.NodeCount.{quiet_made}
 use Rattle.cpp_link.proofs.Quiet.{quiet_apart}
 use Rattle.cpp_link.proofs.Rescoped.{apart_goes, goes_counted}
+use Rattle.cpp_link.proofs.Rooms.{stays_roomy, roomy_keeps, roomy_full}
 use Rattle.cpp_link.proofs.wide_language.RescopingThreading.between.Goals as goal
 
 pub returns-then-len-frame-clause-goes : goal.returns-then-len-frame-clause-goes
 returns-then-len-frame-clause-goes c =
     let s = c.args.symbol.now in
     let old = c.args.self.now in
-    let new = c.before_part.new.self in
     let frame = c.args.frame.now in
+    let parts = c.args.parts.now.items in
     let held : ℕ = c.len.result - frame.base in
-    let lt : held < c.quiet_parts.result = search rules in
-    let before : held < quiet_parts (production_at frame.rule) = subst (λ n. held < n) c.quiet_parts.ensures lt in
-    goes_counted s old new frame c.args.parts.now.items c.before_part.new.parts.items c.before_part.result c.requires.room.paid.begun c.before_part.ensures.makes
-    (apart_goes s old.linked new frame c.args.parts.now.items c.before_part.new.parts.items held c.before_part.result (ap (λ n. n - frame.base) (c.len.ensures ∙ c.args.parts.now.ok.0))
-    (quiet_apart (production_at frame.rule) (is_lambda frame.kept.scope) held before) c.before_part.ensures.goes)
+    let counted : held ≡ length parts - frame.base = ap (λ n. n - frame.base) (c.len.ensures ∙ c.args.parts.now.ok.0) in
+    let before : held < quiet_parts (production_at frame.rule) = subst (λ n. held < n) c.quiet_parts.ensures c.if-len-frame.true in
+    goes_counted s old old.linked frame parts parts (Ok frame.kept) c.requires.room.paid.begun (quiet_made s old.linked frame parts held counted before)
+    (apart_goes s old.linked old.linked frame parts parts held (Ok frame.kept) counted
+    (quiet_apart (production_at frame.rule) (is_lambda frame.kept.scope) held before) (quiet_right s old.linked frame parts held counted before))
+
+pub returns-then-len-frame-clause-adds : goal.returns-then-len-frame-clause-adds
+returns-then-len-frame-clause-adds c = quiet_adds c.args.symbol.now c.args.self.now.linked c.args.frame.now c.args.parts.now.items
+
+pub returns-then-len-frame-clause-few : goal.returns-then-len-frame-clause-few
+returns-then-len-frame-clause-few c = quiet_few c.args.symbol.now c.args.self.now.linked c.args.frame.now c.args.parts.now.items
+
+pub returns-then-len-frame-clause-keeps : goal.returns-then-len-frame-clause-keeps
+returns-then-len-frame-clause-keeps c = roomy_keeps _ _ _ _ _ (stays_roomy c.args.self.now.linked c.args.parts.now c.args.frame.now.kept)
+
+pub returns-then-len-frame-clause-full : goal.returns-then-len-frame-clause-full
+returns-then-len-frame-clause-full c = roomy_full _ _ _ _ _ (stays_roomy c.args.self.now.linked c.args.parts.now c.args.frame.now.kept)

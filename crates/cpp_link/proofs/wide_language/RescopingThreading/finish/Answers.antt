@@ -38,6 +38,14 @@ returns-in-Encoding-clause-closes c =
     closes_counted c.args.symbol.now c.args.self.now c.finish_encoding.new.self c.args.frame.now c.args.parts.now.items c.finish_encoding.new.parts.items c.finish_encoding.result c.requires.room.paid.begun
     c.finish_encoding.ensures.makes c.finish_encoding.ensures.closes
 
+pub finish_holder-requires-clause-holder : goal.finish_holder-requires-clause-holder
+finish_holder-requires-clause-holder c = sym c.production_of-production.ensures ∙ c.in-Holder.is
+
+pub returns-in-Holder-clause-closes : goal.returns-in-Holder-clause-closes
+returns-in-Holder-clause-closes c =
+    closes_counted c.args.symbol.now c.args.self.now c.finish_holder.new.self c.args.frame.now c.args.parts.now.items c.finish_holder.new.parts.items c.finish_holder.result c.requires.room.paid.begun
+    c.finish_holder.ensures.makes c.finish_holder.ensures.closes
+
 pub finish_literal-requires-clause-literal : goal.finish_literal-requires-clause-literal
 finish_literal-requires-clause-literal c = sym c.production_of-production.ensures ∙ c.in-EncodingLiteral.is
 
@@ -62,6 +70,7 @@ returns-in_default-clause-closes c =
       not_substitution = λ e. c.in_default.not-Substitution (is ∙ e);
       not_lambda = λ e. c.in_default.not-Lambda (is ∙ e);
       not_inheriting = λ e. c.in_default.not-Inheriting (is ∙ e);
+      not_holder = λ e. c.in_default.not-Holder (is ∙ e);
       not_encoding = λ e. c.in_default.not-Encoding (is ∙ e);
       not_encoding_literal = λ e. c.in_default.not-EncodingLiteral (is ∙ e);
     }) c.finish_rule.ensures.closes)
