@@ -48,7 +48,7 @@ static double now()
     return t.tv_sec + t.tv_nsec * 1e-9;
 }
 
-/* A way to call a library, once for each symbol or once for all: how many bytes of text it gave. */
+/* A way to call a library, once for each symbol or once for all. It answers how many bytes of text the library gave. */
 struct Call {
     const char *name;
     std::function<size_t()> run;
@@ -92,7 +92,7 @@ static size_t filtered()
     return status == SYMDEMANGLE_OK ? result.length - symbols.size() : 0;
 }
 
-/* How many bytes the texts of a demangler have that allocates its texts. */
+/* How many bytes the texts have of a demangler that allocates each text. */
 [[maybe_unused]] static size_t freed(char *(*demangled)(const char *))
 {
     size_t bytes = 0;

@@ -1698,10 +1698,10 @@ static const u8 t_ff67[8]="*const ";
 static const u8 t_ffa9[4]=" | ";
 static const u8*const t_1797[25]={t_1bef,t_b760,t_411b,t_2ce0,t_e764,t_76a7,t_b958,t_c8a2,t_6da8,t_c75d,0,t_fc66,t_f7e4,t_e172,t_55ee,0,0,0,t_f9b0,t_bfe7,0,
 t_445b,t_b308,t_61bc,t_4f63};
-static const u8*const t_e7e8[26]={t_1bef,t_b760,t_411b,t_2ce0,t_e764,t_76a7,t_b958,t_c8a2,t_6da8,t_c75d,0,t_fc66,t_f7e4,t_e172,t_55ee,0,0,0,t_f9b0,t_bfe7,0,
-t_445b,t_b308,t_61bc,t_4f63,t_ab5d};
 static const u8*const t_1a0f[21]={t_9292,0,t_a918,t_bcd9,t_1f9f,t_162d,0,t_a11a,t_9b36,0,0,0,0,t_8dac,0,0,0,0,t_289b,0,t_47de};
 static const u8*const t_7cd2[3]={t_c4eb,t_b0d6,t_fa32};
+static const u8*const t_e7e8[26]={t_1bef,t_b760,t_411b,t_2ce0,t_e764,t_76a7,t_b958,t_c8a2,t_6da8,t_c75d,0,t_fc66,t_f7e4,t_e172,t_55ee,0,0,0,t_f9b0,t_bfe7,0,
+t_445b,t_b308,t_61bc,t_4f63,t_ab5d};
 static const u8*const t_ae2b[66]={t_445b,t_b308,t_b760,t_411b,t_1bef,t_c8a2,t_f9b0,t_bfe7,t_6da8,t_c75d,t_fc66,t_f7e4,t_61bc,t_4f63,t_e172,t_55ee,t_76a7,t_2ce0,
 t_e764,t_b958,t_ab5d,t_9b36,t_289b,t_47de,t_9292,t_a918,t_8dac,t_bcd9,t_1f9f,t_162d,t_a11a,t_5ec9,t_9945,t_71fc,t_e6f6,t_a66e,
 t_0bf1,t_0929,t_a59d,t_4732,t_67dd,t_662c,t_213a,t_727e,t_0b5b,t_77a1,t_71af,t_1e04,t_f3cb,t_c270,t_2b84,t_5acd,t_9508,t_0bfe,
@@ -1790,7 +1790,7 @@ static void run_of_1dc(u8* a,u8* b,u8* c);
 static void print_run_dec(u8* a,u8* b,u8* c,u8* d,u8* e,u8* f,u8 g);
 static void open_run_744(u8* a,u8* b,u8* c,u8* d);
 static COLD u8 grow_amortized_ab4(u8* a);
-static void look_df9(u8* a,u8* b,u32 c,u8* d,u64 e);
+static void look_df9(u8* a,u8* b,u8* c,u64 d);
 static COLD u8 grow_amortized_74b(u8* a,u64 b);
 static void fill_rare_piece_017(u8* a,u8* b,u8* c,u8* d);
 static void fill_lambda_b73(u8* a,u8* b,u32 c,u64 d,u8* e);
@@ -1894,7 +1894,6 @@ static void end_within_ec4(u8* a,u8* b,u8* c,u8* d,u8* e);
 static u64 mark_behind_724(u8* a,u64 b,u8 c,u8 d);
 static u64 length_of_front_de8(u8* a,u64 b);
 static void append_a0b(u8* a,u8* b,u8* c,u8 d,u8* e,u64 f,u8* g);
-static u8 write_less_2c7(u8* a,u8* b,u64 c,u32 d,u8 e,u8 f);
 static u8 run_48b(u8* a,u8* b,u64 c,u32 d);
 static u8 are_few_named_14c(u8* a,u64 b);
 static u8 make_ready_8e3(u8* a,u64 b,u64 c);
@@ -1904,7 +1903,6 @@ static void nest_at_dce(u8* a,u8* b,u8* c,u64 d,u8* e);
 static u8 tag_9a7(u8* a,u8* b,u64 c);
 static void long_name_at_8ad(u8* a,u8* b,u64 c,u64 d);
 static u8 make_ready_17a(u8* a);
-static COLD u8 grow_amortized_53f(u8* a,u64 b);
 static u8 make_ready_9a1(u8* a);
 static COLD u8 grow_amortized_920(u8* a,u64 b);
 static void long_seq_at_897(u8* a,u8* b,u64 c,u64 d);
@@ -2190,8 +2188,10 @@ static void next_enumerator_59c(u8* a,u8* b,u8* c,u64 d,u8 e,u8* f);
 static void first_literal_f44(u8* a,u8* b,u8* c,u64 d);
 static void first_enumerator_d2d(u8* a,u8* b,u8* c,u64 d);
 static void literal_43d(u8* a,u8* b,u8* c,u64 d);
-static u8 write_brief_939(u8* a,u8* b,u64 c,u32 d);
-static u8 run_80f(u8* a,u8* b,u64 c,u32 d);
+static u8 write_less_2c7(u8* a,u8* b,u64 c,u32 d,u8 e,u8 f);
+static void append_in_c46(u8* a,u8* b,u8* c,u64 d,u32 e,u8 f,u8* g);
+static u8 write_38b(u8* a,u8* b,u64 c,u32 d);
+static u8 run_41f(u8* a,u8* b,u64 c,u32 d);
 static COLD u8 grow_amortized_3c2(u8* a,u64 b);
 static u8 make_ready_e3c(u8* a);
 static COLD u8 grow_amortized_12f(u8* a,u64 b);
@@ -2203,18 +2203,17 @@ static u8 push_decimal_701(u8* a,u64 b);
 static void any_number_at_3d4(u8* a,u8* b,u64 c,u64 d);
 static s_8_64 any_disambiguator_end_f9c(u8* a,u64 b,u64 c);
 static u8 are_any_name_bytes_0a3(u8* a,u64 b,u64 c);
-static u8 crate_named_anyhow_841(u8* a,u8* b,u64 c,u64 d);
+static u8 crate_named_anyhow_a78(u8* a,u8* b,u64 c,u64 d);
 static void any_name_span_9bc(u8* a,u8* b,u64 c,u64 d);
-static u8 begin_inner_impl_f25(u8* a,u64 b);
-static u8 begin_inner_trait_impl_a3f(u8* a,u64 b);
-static u8 unnamed_ended_c46(u8* a,u8* b,u64 c,u64 d,u64 e,u8 f);
-static u8 nest_named_anyhow_de3(u8* a,u8* b,u64 c,u64 d,u8 e,u64 f,u64 g);
-static void push_suffix_49c(u8* a,u8* b,u8* c,u64 d);
-static void special_named_1bc(u8* a,u8* b,u8* c,u64 d,u64 e,u8 f,u64 g,u8* h,u64 i);
+static u8 begin_inner_impl_daa(u8* a,u64 b);
+static u8 begin_inner_trait_impl_412(u8* a,u64 b);
+static u8 unnamed_ended_2a9(u8* a,u8* b,u64 c,u64 d,u64 e,u8 f);
+static u8 nest_named_anyhow_896(u8* a,u8* b,u64 c,u64 d,u8 e,u64 f,u64 g);
+static void push_suffix_a57(u8* a,u8* b,u8* c,u64 d);
+static void special_named_040(u8* a,u8* b,u8* c,u64 d,u64 e,u8 f,u64 g,u8* h,u64 i);
 static u8 push_special_c7d(u8* a,u8* b,u64 c,u8* d,u64 e,u64 f);
-static void append_in_c46(u8* a,u8* b,u8* c,u64 d,u32 e,u8 f,u8* g);
-static u8 write_38b(u8* a,u8* b,u64 c,u32 d);
-static u8 run_41f(u8* a,u8* b,u64 c,u32 d);
+static u8 write_brief_939(u8* a,u8* b,u64 c,u32 d);
+static u8 run_80f(u8* a,u8* b,u64 c,u32 d);
 static void append_named_df1(u8* a,u8* b,u8* c,u8 d,u8* e,u64 f,u64 g,u64 h,u8* i);
 static void push_text_eb0(u8* a,u8* b,u64 c,u64 d,u64 e,u32 f,u8* g);
 static void write_tokens_311(u8* a,u32 b,u8* c,u64 d,u8* e);
@@ -2224,7 +2223,6 @@ static s_8_8 append_parts_093(u8* a,u8* b,u8* c,u64 d,u8* e);
 static s_8_8 push_text_0f0(u8* a,u8* b,u8* c,u64 d,u8 e,u32 f,u8* g);
 static u8 add_following_166(u8* a,u8* b,u8* c,u64 d);
 static u8 end_segment_98e(u8* a,u8* b,u8* c,u8* d,u8* e);
-static void lists_35a(u8* a);
 static void end_within_916(u8* a,u8* b,u8* c,u8* d,u8* e);
 static void append_d61(u8* a,u8* b,u8* c,u8 d,u8* e,u64 f,u8* g);
 static void path_of_ea7(u8* a,u8* b,u64 c);
@@ -2396,8 +2394,7 @@ static void push_name_678(u8* a,u8 b,u8* c,u64 d,u8* e);
 static u8 may_be_legacy_350(u8* a,u64 b);
 static void symbol_with_2a8(u8* a,u8* b,u8* c,u8* d,u8 e,u32 f,u8* g,u64 h,u8* i,u64 j);
 static void short_once_3e7(u8* a,u8* b,u8 c,u8* d,u64 e,u8* f,u64 g);
-static void brief_once_66e(u8* a,u8* b,u64 c,u32 d,u8* e,u64 f);
-static void write_short_198(u8* a,u8* b,u64 c,u32 d,u8* e,u64 f);
+static void write_short_198(u8* a,u8* b,u64 c,u32 d,u8 e,u8* f,u64 g);
 static void or_type_0d4(u8* a,u8* b,u8* c,u8* d,u64 e,u8* f,u64 g,u8* h);
 static void append_after_words_c13(u8* a,u8* b,u64 c,u8* d);
 static void or_type_43d(u8* a,u8* b,u8* c,u8* d,u64 e,u8* f,u64 g,u8* h);
@@ -22744,12 +22741,12 @@ static void print_entries_7a0(u8* a,u8* b,u8* c,u8* d,u8* e,u8* f,u8 g)
 {
 u8 h[3],k[3],r[3],s[3],t[3],u[3],v[3],w[3];
 A16 u8 i[12],j[12],l[16],m[16],n[24],o[20],p[12],q[32];
-u64 x,C,E,F,H,J,U,V,W,X,Y,Z,ca,fa,ga,ha,ia,ka,la,ma,na,pa,sa,ta,wa,ya,Ca,Ea,Ga,Ia,La,Na,Oa,Qa,Ra,Sa,Ua,Wa,ab,fb,ib,lb,nb,pb,qb,sb,ub,xb,yb,zb,Ab,Fb,Gb,Hb,Ib,Yb,hc,Ac,Dc,Gc,Lc,Zc,dd,id,qd,td,vd,yd,zd,Ad,Bd,Cd,Ed,Fd,Gd,Id,Jd,Kd,Od,Pd,Qd,Td,Ud,Wd,Xd,Zd,ae,be,ce,ee;
-u8 y,O,R,aa,va,xa,Da,Ha,Pa,bb,cb,gb,hb,ob,rb,wb,Mb,Ob,Pb,Tb,Ub,Zb,ac,bc,ec,qc,tc,xc,Rc,gd,sd,xd,Dd,Hd;
-u32 z,A,L,M,N,P,Q,S,T,da,ja,oa,qa,ra,ua,Aa,Ba,Ka,Xa,Ya,Za,db,vb,Eb,Jb,Nb,Qb,Vb,Wb,Xb,cc,lc,Qc,Sc,Tc,Wc,Xc,Yc,fd,hd,pd,ud;
-u8 *B,*D,*G,*I,*K,*ba,*ea,*za,*Fa,*Ja,*Ma,*Ta,*Va,*eb,*jb,*kb,*mb,*tb,*Kb,*Lb,*Rb,*Sb,*dc,*fc,*gc,*ic,*jc,*kc,*mc,*oc,*rc,*uc,*wc,*yc,*zc,*Bc,*Cc,*Ec,*Fc,*Hc,*Ic,*Jc,*Kc,*Mc,*Nc,*Oc,*Pc,*Uc,*Vc,*ad,*bd,*cd,*ed,*jd,*ld,*Ld,*Md,*Nd,*Rd,*Sd,*Vd,*Yd,*de;
-s_64_64 Bb,Cb,Db;
-u16 nc,pc,sc,vc,kd,md,nd,od;
+u64 x,C,E,F,H,J,U,V,W,X,Y,Z,ca,fa,ga,ha,ia,ka,la,ma,na,pa,sa,ta,xa,za,Da,Fa,Ha,Ja,Ma,Oa,Pa,Ra,Sa,Ta,Va,Xa,bb,hb,kb,nb,pb,rb,sb,ub,wb,zb,Ab,Bb,Cb,Hb,Ib,Jb,Kb,ac,jc,Cc,Fc,Ic,Nc,bd,fd,kd,td,vd,yd,Ad,Bd,Cd,Dd,Ed,Gd,Hd,Id,Kd,Ld,Md,Qd,Rd,Sd,Vd,Wd,Yd,Zd,be,ce,de,ee,ge;
+u8 y,O,R,aa,wa,ya,Ea,Ia,Qa,cb,db,ib,jb,qb,tb,yb,Ob,Qb,Rb,Vb,Wb,bc,cc,dc,gc,sc,vc,zc,Tc,id,ud,zd,Fd,Jd;
+u32 z,A,L,M,N,P,Q,S,T,da,ja,oa,qa,ra,va,Ba,Ca,La,Ya,Za,ab,eb,xb,Gb,Lb,Pb,Sb,Xb,Yb,Zb,ec,nc,Sc,Uc,Vc,Yc,Zc,ad,hd,jd,sd,xd;
+u8 *B,*D,*G,*I,*K,*ba,*ea,*ua,*Aa,*Ga,*Ka,*Na,*Ua,*Wa,*fb,*gb,*lb,*mb,*ob,*vb,*Mb,*Nb,*Tb,*Ub,*fc,*hc,*ic,*kc,*lc,*mc,*oc,*qc,*tc,*wc,*yc,*Ac,*Bc,*Dc,*Ec,*Gc,*Hc,*Jc,*Kc,*Lc,*Mc,*Oc,*Pc,*Qc,*Rc,*Wc,*Xc,*cd,*dd,*ed,*gd,*ld,*nd,*Nd,*Od,*Pd,*Td,*Ud,*Xd,*ae,*fe;
+s_64_64 Db,Eb,Fb;
+u16 pc,rc,uc,xc,md,od,pd,qd;
 if(r8(e+8)!=0)w8(e+8,0);
 if(r8(e+32)!=0)w8(e+32,0);
 if(r8(e+56)!=0)w8(e+56,0);
@@ -22785,65 +22782,65 @@ T=r4(f)-q4(K+44);
 U=r8(f+8)-q8(K+48);
 V=(r8(d+8)<<32)|q4(K+40);
 if(!g){
-Ka=L&63;
-La=r8(e+8);
-if(La>Ka){
+La=L&63;
+Ma=r8(e+8);
+if(Ma>La){
 memcpy(t,K+13,3);
 memcpy(u,K+25,3);
-Ma=rp(e)+(i64)((u64)Ka*56);
-x4(Ma,L);
-x4(Ma+4,M);
-x4(Ma+8,N);
-Ma[12]=O;
-memcpy(Ma+13,t,3);
-x4(Ma+16,P);
-x4(Ma+20,Q);
-Ma[24]=R;
-memcpy(Ma+25,u,3);
-x4(Ma+28,S);
-x8(Ma+32,V);
-x4(Ma+40,T);
-x4(Ma+44,0);
-x8(Ma+48,U);}
+Na=rp(e)+(i64)((u64)La*56);
+x4(Na,L);
+x4(Na+4,M);
+x4(Na+8,N);
+Na[12]=O;
+memcpy(Na+13,t,3);
+x4(Na+16,P);
+x4(Na+20,Q);
+Na[24]=R;
+memcpy(Na+25,u,3);
+x4(Na+28,S);
+x8(Na+32,V);
+x4(Na+40,T);
+x4(Na+44,0);
+x8(Na+48,U);}
 else{
-Na=(u64)Ka+1-La;
+Oa=(u64)La+1-Ma;
 memcpy(r,K+13,3);
 memcpy(s,K+25,3);
-Oa=r8(e+16);
-if(Na>Oa-La){
-Pa=grow_amortized_670(e,Na);
-if(!Pa)goto L2;
-Qa=r8(e+16);
-Ra=r8(e+8);}
+Pa=r8(e+16);
+if(Oa>Pa-Ma){
+Qa=grow_amortized_670(e,Oa);
+if(!Qa)goto L2;
+Ra=r8(e+16);
+Sa=r8(e+8);}
 else{
-Qa=Oa;
-Ra=La;}
-Sa=Ra+Na;
-Ta=rp(e);
-if(Ra>=Sa)goto L3;
-Ua=Ra;
-L4:Va=Ta+Ua*56;
-x4(Va,L);
-x4(Va+4,M);
-x4(Va+8,N);
-Va[12]=O;
-memcpy(Va+13,r,3);
-x4(Va+16,P);
-x4(Va+20,Q);
-Va[24]=R;
-memcpy(Va+25,s,3);
-x4(Va+28,S);
-x8(Va+32,V);
-x4(Va+40,T);
-x4(Va+44,0);
-x8(Va+48,U);
-Wa=Ua+1;
-if(Wa!=Sa){
-Ua=Wa;
+Ra=Pa;
+Sa=Ma;}
+Ta=Sa+Oa;
+Ua=rp(e);
+if(Sa>=Ta)goto L3;
+Va=Sa;
+L4:Wa=Ua+Va*56;
+x4(Wa,L);
+x4(Wa+4,M);
+x4(Wa+8,N);
+Wa[12]=O;
+memcpy(Wa+13,r,3);
+x4(Wa+16,P);
+x4(Wa+20,Q);
+Wa[24]=R;
+memcpy(Wa+25,s,3);
+x4(Wa+28,S);
+x8(Wa+32,V);
+x4(Wa+40,T);
+x4(Wa+44,0);
+x8(Wa+48,U);
+Xa=Va+1;
+if(Xa!=Ta){
+Va=Xa;
 goto L4;}
-L3:wp(e,Ta);
-w8(e+8,Sa);
-w8(e+16,Qa);
+L3:wp(e,Ua);
+w8(e+8,Ta);
+w8(e+16,Ra);
 L2:;}
 goto L5;}
 memcpy(v,K+13,3);
@@ -22916,444 +22913,449 @@ aa=ga&1;}}
 ta=r8(e+8);
 if(ta<0x100000000u){
 if(Y<ta){
-if(r8(e+80)>L)*(rp(e+72)+(i64)((u64)L<<4)+9)=1;}
+if(r8(e+80)>L){
+ua=rp(e+72)+(i64)((u64)L*12);
+ua[9]=1;
+ua[8]=0;}}
 else{
-ua=umin64(ta,0x100000000u);
+va=umin64(ta,0x100000000u);
 if(r8(e+16)==ta){
-va=grow_amortized_670(e,1);
-if(!va)goto L8;
-wa=r8(e+56);}
-else wa=X;
-if(r8(e+64)==wa){
-xa=grow_amortized_fd5(e+48);
-if(!xa)goto L8;
-ya=r8(e+56);}
-else ya=wa;
-if(ya>Z){
-za=rp(e+48)+(i64)(Z<<4);
+wa=grow_amortized_670(e,1);
+if(!wa)goto L8;
+xa=r8(e+56);}
+else xa=X;
+if(r8(e+64)==xa){
+ya=grow_amortized_fd5(e+48);
+if(!ya)goto L8;
+za=r8(e+56);}
+else za=xa;
+if(za>Z){
+Aa=rp(e+48)+(i64)(Z<<4);
 if(aa){
-Aa=r4(za+8);
-Ba=ua;}
+Ba=r4(Aa+8);
+Ca=va;}
 else{
-Aa=ua;
-Ba=r4(za+12);}
-x4(za+8,Aa);
-x4(za+12,Ba);
-Ca=r8(e+56);}
-else Ca=ya;
-if(r8(e+64)==Ca){
-Da=grow_amortized_fd5(e+48);
-if(!Da)goto L9;
-Ea=r8(e+56);}
-else Ea=Ca;
-Fa=rp(e+48)+(Ea<<4);
-x8(Fa,W);
-x4(Fa+8,4294967295u);
-x4(Fa+12,4294967295u);
-w8(e+56,Ea+1);
-L9:Ga=r8(e+8);
-if(r8(e+16)==Ga){
-Ha=grow_amortized_670(e,1);
-if(!Ha)goto L8;
-Ia=r8(e+8);}
-else Ia=Ga;
-Ja=rp(e)+Ia*56;
-x4(Ja,L);
-x4(Ja+4,M);
-x4(Ja+8,N);
-Ja[12]=O;
-memcpy(Ja+13,v,3);
-x4(Ja+16,P);
-x4(Ja+20,Q);
-Ja[24]=R;
-memcpy(Ja+25,w,3);
-x4(Ja+28,S);
-x8(Ja+32,V);
-x4(Ja+40,T);
-x4(Ja+44,0);
-x8(Ja+48,U);
-w8(e+8,Ia+1);}}}
+Ba=va;
+Ca=r4(Aa+12);}
+x4(Aa+8,Ba);
+x4(Aa+12,Ca);
+Da=r8(e+56);}
+else Da=za;
+if(r8(e+64)==Da){
+Ea=grow_amortized_fd5(e+48);
+if(!Ea)goto L9;
+Fa=r8(e+56);}
+else Fa=Da;
+Ga=rp(e+48)+(Fa<<4);
+x8(Ga,W);
+x4(Ga+8,4294967295u);
+x4(Ga+12,4294967295u);
+w8(e+56,Fa+1);
+L9:Ha=r8(e+8);
+if(r8(e+16)==Ha){
+Ia=grow_amortized_670(e,1);
+if(!Ia)goto L8;
+Ja=r8(e+8);}
+else Ja=Ha;
+Ka=rp(e)+Ja*56;
+x4(Ka,L);
+x4(Ka+4,M);
+x4(Ka+8,N);
+Ka[12]=O;
+memcpy(Ka+13,v,3);
+x4(Ka+16,P);
+x4(Ka+20,Q);
+Ka[24]=R;
+memcpy(Ka+25,w,3);
+x4(Ka+28,S);
+x8(Ka+32,V);
+x4(Ka+40,T);
+x4(Ka+44,0);
+x8(Ka+48,U);
+w8(e+8,Ja+1);}}}
 L8:goto L5;}}
 switch(D[-36]){
-case 0:Xa=q4(D-32);
-Ya=q4(D-28);
-Za=q4(D-24);
-ab=q8(D-20);
-bb=D[-12];
-cb=D[-8];
-db=q4(D-4);
+case 0:Ya=q4(D-32);
+Za=q4(D-28);
+ab=q4(D-24);
+bb=q8(D-20);
+cb=D[-12];
+db=D[-8];
+eb=q4(D-4);
 z12(p);
 z32(q);
-if(!g){
-switch(Ya){
-case 0:eb=rp(b+24);
-fb=(u64)Xa*48;
-gb=*(eb+(i64)fb);
-if(gb==12){
-switch(bb){
+if(g){
+if(r8(e+80)<=Ya)goto L10;
+fb=rp(e+72)+(i64)((u64)Ya*12);
+if(fb[8]&1&&ab==0)goto L10;
+if((r4(fb+4)&((u32)1<<(Za&31)))==0)goto L10;}
+else{
+if(Za==0){
+gb=rp(b+24);
+hb=(u64)Ya*48;
+ib=*(gb+(i64)hb);
+if(ib!=12){
+jb=ib;
+kb=hb;
+lb=gb;
+goto L11;}
+switch(cb){
 case 0:case 2:goto L10;
-case 1:case 3:goto L11;
+case 1:case 3:goto L12;
 default:NEVER;
-}}
-else{
-hb=gb;
-ib=fb;
-jb=eb;}
-break;
-case 1:kb=rp(b+24);
-lb=(u64)Xa*48;
-hb=*(kb+(i64)lb);
-ib=lb;
-jb=kb;
-break;
-default:goto L11;
-}
-if(hb==25){
-mb=jb+(i64)((u64)q4(jb+(i64)ib+4)*48);
-if(*mb==25){
-nb=(u64)q4(mb+4)*48;
-if(*(jb+(i64)nb)!=25)goto L11;
-ob=0;
-pb=nb;
-L12:qb=(u64)q4(jb+(i64)pb+4)*48;
-if(*(jb+(i64)qb)!=25)goto L11;
-if(ob)goto L10;
-ob=1;
-pb=qb;
-goto L12;}
-rb=0;
-sb=ib;
-L13:tb=jb+(i64)((u64)q4(jb+(i64)sb+4)*48);
-if(*tb==32){
-if(!(tb[1]&1||tb[2]&1)&&tb[3]&1){
-ub=(u64)q4(tb+4)*48;
-if(*(jb+(i64)ub)==25){
-if(rb)goto L10;
-rb=1;
-sb=ub;
-goto L13;}}}}
-L11:vb=r4(f);
-if(r4(f+4)!=vb){
-xb=r8(c+16);
-if(xb-F<8){
-yb=umax64(F,8);
-if(yb>(F^18446744073709551615u)){
-wb=4;
-goto L14;}
-zb=yb+F;
-if(zb>=0x38e38e38e38e38fu){
-wb=4;
-goto L14;}
-Ab=zb*36;
-if(xb==0){
-Bb=port_rattle_alloc(Ab,4);
-if(!(u8)(Bb.f0&1)){
-wb=4;
-goto L14;}
-Cb=Bb;}
-else{
-Db=port_rattle_realloc(G,E,Ab,4);
+}}}
+if(Za>1)goto L12;
+mb=rp(b+24);
+nb=(u64)Ya*48;
+jb=*(mb+(i64)nb);
+kb=nb;
+lb=mb;
+L11:if(jb==25){
+ob=lb+(i64)((u64)q4(lb+(i64)kb+4)*48);
+if(*ob==25){
+pb=(u64)q4(ob+4)*48;
+if(*(lb+(i64)pb)!=25)goto L12;
+qb=0;
+rb=pb;
+L13:sb=(u64)q4(lb+(i64)rb+4)*48;
+if(*(lb+(i64)sb)!=25)goto L12;
+if(qb)goto L10;
+qb=1;
+rb=sb;
+goto L13;}
+tb=0;
+ub=kb;
+L14:vb=lb+(i64)((u64)q4(lb+(i64)ub+4)*48);
+if(*vb==32){
+if(!(vb[1]&1||vb[2]&1)&&vb[3]&1){
+wb=(u64)q4(vb+4)*48;
+if(*(lb+(i64)wb)==25){
+if(tb)goto L10;
+tb=1;
+ub=wb;
+goto L14;}}}}
+L12:xb=r4(f);
+if(r4(f+4)!=xb){
+zb=r8(c+16);
+if(zb-F<8){
+Ab=umax64(F,8);
+if(Ab>(F^18446744073709551615u)){
+yb=4;
+goto L15;}
+Bb=Ab+F;
+if(Bb>=0x38e38e38e38e38fu){
+yb=4;
+goto L15;}
+Cb=Bb*36;
+if(zb==0){
+Db=port_rattle_alloc(Cb,4);
 if(!(u8)(Db.f0&1)){
-wb=4;
-goto L14;}
-Cb=Db;}
-wp(c,(u8*)Cb.f1);
-w8(c+16,zb);
-Eb=r4(f);}
-else Eb=vb;
-Fb=r8(f+8)+1;
-w4(f,Eb+1);
-w8(f+8,Fb);
-Gb=r8(c+8);
-if(Gb==0)Hb=0;
+yb=4;
+goto L15;}
+Eb=Db;}
 else{
-Ib=Gb-1;
-w8(c+8,Ib);
-Hb=Ib;}
-Jb=ab>>32;
-Kb=rp(b+24);
-Lb=Kb+(i64)((u64)Xa*48);
-Mb=*Lb==47;
-Nb=Mb?q4(Lb+4):Xa;
-Ob=cb!=0;
-Pb=Ob||Mb;
-Qb=Ob?db:(Mb?q4(Lb+8):0);
-w4(o,(u32)ab&255);
-w4(o+4,Jb);
-o[8]=bb;
+Fb=port_rattle_realloc(G,E,Cb,4);
+if(!(u8)(Fb.f0&1)){
+yb=4;
+goto L15;}
+Eb=Fb;}
+wp(c,(u8*)Eb.f1);
+w8(c+16,Bb);
+Gb=r4(f);}
+else Gb=xb;
+Hb=r8(f+8)+1;
+w4(f,Gb+1);
+w8(f+8,Hb);
+Ib=r8(c+8);
+if(Ib==0)Jb=0;
+else{
+Kb=Ib-1;
+w8(c+8,Kb);
+Jb=Kb;}
+Lb=bb>>32;
+Mb=rp(b+24);
+Nb=Mb+(i64)((u64)Ya*48);
+Ob=*Nb==47;
+Pb=Ob?q4(Nb+4):Ya;
+Qb=db!=0;
+Rb=Qb||Ob;
+Sb=Qb?eb:(Ob?q4(Nb+8):0);
+w4(o,(u32)bb&255);
+w4(o+4,Lb);
+o[8]=cb;
 z3(o+9);
-w4(o+12,Pb);
-w4(o+16,Qb);
-switch(Ya){
+w4(o+12,Rb);
+w4(o+16,Sb);
+switch(Za){
 case 0:z16(m);
 z24(n);
-Rb=rp(b);
-Sb=Kb+(i64)((u64)Nb*48);
-Tb=*Sb;
-Ub=Sb[1];
-Vb=q4(Sb+4);
-Wb=q4(Sb+8);
-Xb=q4(Sb+12);
-Yb=q8(Sb+16);
-Zb=Wb;
-ac=Wb>>8;
-bc=Wb>>16;
-switch(Tb){
+Tb=rp(b);
+Ub=Mb+(i64)((u64)Pb*48);
+Vb=*Ub;
+Wb=Ub[1];
+Xb=q4(Ub+4);
+Yb=q4(Ub+8);
+Zb=q4(Ub+12);
+ac=q8(Ub+16);
+bc=Yb;
+cc=Yb>>8;
+dc=Yb>>16;
+switch(Vb){
 case 9:w8(l,0);
-*l=Zb;
-l[1]=ac;
-l[2]=bc;
-w4(l+4,Xb);
-w8(l+8,Yb);
-if(Zb==0){
-cc=Yb;
-if(Xb!=cc){
-dc=Rb+(i64)Xb;
-if(!((Yb&4294967295u)-Xb<10||*dc!=95)){
-ec=parts_equal_58b((u8*)t_35ad,10,dc,10);
-if(ec){
-fc=rp(c)+Hb*36;
-*fc=3;
-fc[1]=0;
-x2(fc+2,35);
-z32(fc+4);
-w8(c+8,Hb+1);
-goto L15;}}}
-if(Xb<cc){
-gc=rp(c)+Hb*36;
-*gc=1;
-z3(gc+1);
-x4(gc+4,Xb);
-x4(gc+8,cc);
-z24(gc+12);
-w8(c+8,Hb+1);}}
+*l=bc;
+l[1]=cc;
+l[2]=dc;
+w4(l+4,Zb);
+w8(l+8,ac);
+if(bc==0){
+ec=ac;
+if(Zb!=ec){
+fc=Tb+(i64)Zb;
+if(!((ac&4294967295u)-Zb<10||*fc!=95)){
+gc=parts_equal_58b((u8*)t_35ad,10,fc,10);
+if(gc){
+hc=rp(c)+Jb*36;
+*hc=3;
+hc[1]=0;
+x2(hc+2,35);
+z32(hc+4);
+w8(c+8,Jb+1);
+goto L16;}}}
+if(Zb<ec){
+ic=rp(c)+Jb*36;
+*ic=1;
+z3(ic+1);
+x4(ic+4,Zb);
+x4(ic+8,ec);
+z24(ic+12);
+w8(c+8,Jb+1);}}
 else fill_rare_piece_017(b,c,l,o);
-L15:break;
-case 10:hc=Hb*36;
-ic=rp(c)+hc;
-x4(ic,0);
-x4(ic+4,Nb);
-x4(ic+8,6);
-x4(ic+12,0);
-memcpy(ic+16,o,20);
-jc=rp(c)+(i64)hc;
-jc[36]=3;
-jc[37]=0;
-x2(jc+38,7);
-z32(jc+40);
-w8(c+8,Hb+2);
-break;
-case 11:*m=Zb;
-m[1]=ac;
-m[2]=bc;
-w4(m+4,Xb);
-w8(m+8,Yb);
-fill_within_6bb(b,c,Nb,Vb,m,o);
-break;
-case 12:fill_instance_1f0(b,c,Vb,Wb,o);
-break;
-case 13:own_entity_238(n,b,Wb,o);
-kc=rp(c)+Hb*36;
-lc=r4(n);
+L16:break;
+case 10:jc=Jb*36;
+kc=rp(c)+jc;
 x4(kc,0);
-x4(kc+4,lc);
-x4(kc+8,0);
+x4(kc+4,Pb);
+x4(kc+8,6);
 x4(kc+12,0);
-memcpy(kc+16,n+4,20);
-w8(c+8,Hb+1);
+memcpy(kc+16,o,20);
+lc=rp(c)+(i64)jc;
+lc[36]=3;
+lc[37]=0;
+x2(lc+38,7);
+z32(lc+40);
+w8(c+8,Jb+2);
 break;
-case 14:mc=rp(c)+Hb*36;
+case 11:*m=bc;
+m[1]=cc;
+m[2]=dc;
+w4(m+4,Zb);
+w8(m+8,ac);
+fill_within_6bb(b,c,Pb,Xb,m,o);
+break;
+case 12:fill_instance_1f0(b,c,Xb,Yb,o);
+break;
+case 13:own_entity_238(n,b,Yb,o);
+mc=rp(c)+Jb*36;
+nc=r4(n);
 x4(mc,0);
-x4(mc+4,Vb);
+x4(mc+4,nc);
 x4(mc+8,0);
 x4(mc+12,0);
-memcpy(mc+16,o,20);
-w8(c+8,Hb+1);
+memcpy(mc+16,n+4,20);
+w8(c+8,Jb+1);
 break;
-case 15:fill_tagged_146(c,Vb,Wb,Xb,o);
+case 14:oc=rp(c)+Jb*36;
+x4(oc,0);
+x4(oc+4,Xb);
+x4(oc+8,0);
+x4(oc+12,0);
+memcpy(oc+16,o,20);
+w8(c+8,Jb+1);
 break;
-case 17:nc=abbreviation_6bb(Ub);
-if(nc!=60){
-oc=rp(c)+Hb*36;
-*oc=3;
-oc[1]=0;
-x2(oc+2,nc);
-z32(oc+4);
-w8(c+8,Hb+1);}
+case 15:fill_tagged_146(c,Xb,Yb,Zb,o);
 break;
-case 18:fill_parameter_f0e(b,c,Vb,Wb,0,o);
+case 17:pc=abbreviation_6bb(Wb);
+if(pc!=60){
+qc=rp(c)+Jb*36;
+*qc=3;
+qc[1]=0;
+x2(qc+2,pc);
+z32(qc+4);
+w8(c+8,Jb+1);}
 break;
-case 0:case 1:case 2:case 3:case 4:case 5:case 6:case 7:case 8:case 16:case 19:case 20:case 21:case 22:case 23:case 24:case 25:case 26:case 27:case 28:case 29:case 30:case 31:case 32:case 33:case 34:case 35:case 36:case 37:case 38:case 39:case 40:case 41:case 42:case 43:case 44:case 45:case 46:case 47:pc=q2(Sb+2);
-switch(Tb){
-case 20:qc=Ub-97;
-if(qc<26){
-if((((u64)1<<qc)&1278976)==0){
-rc=rp(c)+Hb*36;
-sc=r2((u8*)t_91f6+(u64)qc*2);
-*rc=3;
-rc[1]=0;
-x2(rc+2,sc);
-z32(rc+4);
-w8(c+8,Hb+1);}}
+case 18:fill_parameter_f0e(b,c,Xb,Yb,0,o);
 break;
-case 21:tc=Ub-97;
-if(tc<21){
-if((((u64)1<<tc)&777794)==0){
-uc=rp(c)+Hb*36;
-vc=r2((u8*)t_1a3f+(u64)tc*2);
-*uc=3;
-uc[1]=0;
-x2(uc+2,vc);
-z32(uc+4);
-w8(c+8,Hb+1);}}
+case 0:case 1:case 2:case 3:case 4:case 5:case 6:case 7:case 8:case 16:case 19:case 20:case 21:case 22:case 23:case 24:case 25:case 26:case 27:case 28:case 29:case 30:case 31:case 32:case 33:case 34:case 35:case 36:case 37:case 38:case 39:case 40:case 41:case 42:case 43:case 44:case 45:case 46:case 47:rc=q2(Ub+2);
+switch(Vb){
+case 20:sc=Wb-97;
+if(sc<26){
+if((((u64)1<<sc)&1278976)==0){
+tc=rp(c)+Jb*36;
+uc=r2((u8*)t_91f6+(u64)sc*2);
+*tc=3;
+tc[1]=0;
+x2(tc+2,uc);
+z32(tc+4);
+w8(c+8,Jb+1);}}
 break;
-case 24:if(Wb!=Vb){
-wc=Rb+(i64)Vb;
-if(!((u64)Wb-Vb<10||*wc!=95)){
-xc=parts_equal_58b((u8*)t_35ad,10,wc,10);
-if(xc){
-yc=rp(c)+Hb*36;
-*yc=3;
-yc[1]=0;
-x2(yc+2,35);
-z32(yc+4);
-w8(c+8,Hb+1);
+case 21:vc=Wb-97;
+if(vc<21){
+if((((u64)1<<vc)&777794)==0){
+wc=rp(c)+Jb*36;
+xc=r2((u8*)t_1a3f+(u64)vc*2);
+*wc=3;
+wc[1]=0;
+x2(wc+2,xc);
+z32(wc+4);
+w8(c+8,Jb+1);}}
+break;
+case 24:if(Yb!=Xb){
+yc=Tb+(i64)Xb;
+if(!((u64)Yb-Xb<10||*yc!=95)){
+zc=parts_equal_58b((u8*)t_35ad,10,yc,10);
+if(zc){
+Ac=rp(c)+Jb*36;
+*Ac=3;
+Ac[1]=0;
+x2(Ac+2,35);
+z32(Ac+4);
+w8(c+8,Jb+1);
 break;}}}
-if(Vb<Wb){
-zc=rp(c)+Hb*36;
-*zc=1;
-z3(zc+1);
-x4(zc+4,Vb);
-x4(zc+8,Wb);
-z24(zc+12);
-w8(c+8,Hb+1);}
+if(Xb<Yb){
+Bc=rp(c)+Jb*36;
+*Bc=1;
+z3(Bc+1);
+x4(Bc+4,Xb);
+x4(Bc+8,Yb);
+z24(Bc+12);
+w8(c+8,Jb+1);}
 break;
-case 25:fill_marked_395(b,c,Vb,o);
+case 25:fill_marked_395(b,c,Xb,o);
 break;
-case 26:fill_reference_bf6(b,c,Vb,4,11,10,o);
+case 26:fill_reference_bf6(b,c,Xb,4,11,10,o);
 break;
-case 27:fill_reference_bf6(b,c,Vb,0,13,12,o);
+case 27:fill_reference_bf6(b,c,Xb,0,13,12,o);
 break;
-case 28:fill_array_c4d(b,c,Xb,o);
+case 28:fill_array_c4d(b,c,Zb,o);
 break;
-case 29:fill_array_c4d(b,c,Wb,o);
+case 29:fill_array_c4d(b,c,Yb,o);
 break;
-case 31:Ac=Hb*36;
-Bc=rp(c)+Ac;
-*Bc=3;
-Bc[1]=0;
-x2(Bc+2,4);
-z32(Bc+4);
-Cc=rp(c)+(i64)Ac;
-x4(Cc+36,0);
-x4(Cc+40,Vb);
-x4(Cc+44,0);
-x4(Cc+48,0);
-memcpy(Cc+52,o,20);
-w8(c+8,Hb+2);
+case 31:Cc=Jb*36;
+Dc=rp(c)+Cc;
+*Dc=3;
+Dc[1]=0;
+x2(Dc+2,4);
+z32(Dc+4);
+Ec=rp(c)+(i64)Cc;
+x4(Ec+36,0);
+x4(Ec+40,Xb);
+x4(Ec+44,0);
+x4(Ec+48,0);
+memcpy(Ec+52,o,20);
+w8(c+8,Jb+2);
 break;
-case 30:fill_member_2fa(b,c,Vb,Wb,o);
+case 30:fill_member_2fa(b,c,Xb,Yb,o);
 break;
-case 32:*k=Ub;
-x2(k+1,pc);
-fill_qualified_left_bf3(b,c,k,Vb,o);
+case 32:*k=Wb;
+x2(k+1,rc);
+fill_qualified_left_bf3(b,c,k,Xb,o);
 break;
-case 33:fill_vector_eb1(c,Vb,Wb,Xb,o);
+case 33:fill_vector_eb1(c,Xb,Yb,Zb,o);
 break;
-case 34:Dc=Hb*36;
-Ec=rp(c)+Dc;
-*Ec=3;
-Ec[1]=0;
-x2(Ec+2,18);
-z32(Ec+4);
-Fc=rp(c)+(i64)Dc;
-x4(Fc+36,0);
-x4(Fc+40,Vb);
-x4(Fc+44,0);
-x4(Fc+48,0);
-memcpy(Fc+52,o,20);
-w8(c+8,Hb+2);
+case 34:Fc=Jb*36;
+Gc=rp(c)+Fc;
+*Gc=3;
+Gc[1]=0;
+x2(Gc+2,18);
+z32(Gc+4);
+Hc=rp(c)+(i64)Fc;
+x4(Hc+36,0);
+x4(Hc+40,Xb);
+x4(Hc+44,0);
+x4(Hc+48,0);
+memcpy(Hc+52,o,20);
+w8(c+8,Jb+2);
 break;
-case 22:fill_float_1e8(c,Vb,Wb,Xb);
+case 22:fill_float_1e8(c,Xb,Yb,Zb);
 break;
-case 23:Gc=Hb*36;
-Hc=rp(c)+Gc;
-*Hc=3;
-Hc[1]=0;
-x2(Hc+2,Ub==107?46:47);
-z32(Hc+4);
-Ic=rp(c)+(i64)Gc;
-x4(Ic+36,0);
-x4(Ic+40,Vb);
-x4(Ic+44,0);
-x4(Ic+48,0);
-memcpy(Ic+52,o,20);
-w8(c+8,Hb+2);
+case 23:Ic=Jb*36;
+Jc=rp(c)+Ic;
+*Jc=3;
+Jc[1]=0;
+x2(Jc+2,Wb==107?46:47);
+z32(Jc+4);
+Kc=rp(c)+(i64)Ic;
+x4(Kc+36,0);
+x4(Kc+40,Xb);
+x4(Kc+44,0);
+x4(Kc+48,0);
+memcpy(Kc+52,o,20);
+w8(c+8,Jb+2);
 break;
-case 0:case 1:case 2:case 3:case 4:case 5:case 6:case 7:case 8:case 9:case 10:case 11:case 12:case 13:case 14:case 15:case 16:case 17:case 18:case 19:case 35:case 36:case 37:case 38:case 39:case 40:case 41:case 42:case 43:case 44:case 45:case 46:case 47:w4(i,Xb);
-x8(i+4,Yb);
-switch(Tb){
-case 36:fill_expansion_7b7(b,c,Vb,o);
+case 0:case 1:case 2:case 3:case 4:case 5:case 6:case 7:case 8:case 9:case 10:case 11:case 12:case 13:case 14:case 15:case 16:case 17:case 18:case 19:case 35:case 36:case 37:case 38:case 39:case 40:case 41:case 42:case 43:case 44:case 45:case 46:case 47:w4(i,Zb);
+x8(i+4,ac);
+switch(Vb){
+case 36:fill_expansion_7b7(b,c,Xb,o);
 break;
-case 44:Jc=Kb+(i64)((u64)Vb*48);
-if(*(Kb+(i64)((u64)(*Jc==47?q4(Jc+4):Vb)*48))!=1){
-Kc=rp(c)+Hb*36;
-x4(Kc,0);
-x4(Kc+4,Vb);
-x4(Kc+8,2);
-x4(Kc+12,0);
-Kc[16]=ab;
-memcpy(Kc+17,o+1,3);
-x4(Kc+20,Jb);
-Kc[24]=bb;
-z3(Kc+25);
-Kc[28]=Pb;
-memcpy(Kc+29,o+13,3);
-x4(Kc+32,Qb);
-w8(c+8,Hb+1);}
+case 44:Lc=Mb+(i64)((u64)Xb*48);
+if(*(Mb+(i64)((u64)(*Lc==47?q4(Lc+4):Xb)*48))!=1){
+Mc=rp(c)+Jb*36;
+x4(Mc,0);
+x4(Mc+4,Xb);
+x4(Mc+8,2);
+x4(Mc+12,0);
+Mc[16]=bb;
+memcpy(Mc+17,o+1,3);
+x4(Mc+20,Lb);
+Mc[24]=cb;
+z3(Mc+25);
+Mc[28]=Rb;
+memcpy(Mc+29,o+13,3);
+x4(Mc+32,Sb);
+w8(c+8,Jb+1);}
 break;
-case 37:w4(j,Wb);
+case 37:w4(j,Yb);
 x8(j+4,r8(i));
-fill_integer_476(b,c,Vb,j,o);
+fill_integer_476(b,c,Xb,j,o);
 break;
-case 38:Lc=Hb+1;
-Mc=rp(c)+Hb*36;
-*Mc=3;
-Mc[1]=0;
-if(Ub&1){
-x2(Mc+2,19);
-z32(Mc+4);
-w8(c+8,Lc);}
+case 38:Nc=Jb+1;
+Oc=rp(c)+Jb*36;
+*Oc=3;
+Oc[1]=0;
+if(Wb&1){
+x2(Oc+2,19);
+z32(Oc+4);
+w8(c+8,Nc);}
 else{
-x2(Mc+2,20);
-z32(Mc+4);
-w8(c+8,Lc);}
+x2(Oc+2,20);
+z32(Oc+4);
+w8(c+8,Nc);}
 break;
-case 39:Nc=rp(c)+Hb*36;
-*Nc=3;
-Nc[1]=0;
-x2(Nc+2,21);
-z32(Nc+4);
-w8(c+8,Hb+1);
+case 39:Pc=rp(c)+Jb*36;
+*Pc=3;
+Pc[1]=0;
+x2(Pc+2,21);
+z32(Pc+4);
+w8(c+8,Jb+1);
 break;
-case 40:Oc=rp(c)+Hb*36;
-x4(Oc,0);
-x4(Oc+4,Vb);
-x4(Oc+8,8);
-x4(Oc+12,0);
-x4(Oc+16,0);
-x4(Oc+20,0);
-Oc[24]=bb;
-z11(Oc+25);
-w8(c+8,Hb+1);
+case 40:Qc=rp(c)+Jb*36;
+x4(Qc,0);
+x4(Qc+4,Xb);
+x4(Qc+8,8);
+x4(Qc+12,0);
+x4(Qc+16,0);
+x4(Qc+20,0);
+Qc[24]=cb;
+z11(Qc+25);
+w8(c+8,Jb+1);
 break;
-case 41:fill_encoding_literal_a7e(c,Vb,o);
+case 41:fill_encoding_literal_a7e(c,Xb,o);
 break;
-case 35:fill_decltype_7a2(c,Vb,o);
+case 35:fill_decltype_7a2(c,Xb,o);
 break;
-case 42:fill_operation_6d8(b,c,Ub,pc,Vb,Wb,o);
+case 42:fill_operation_6d8(b,c,Wb,rc,Xb,Yb,o);
 break;
-case 43:fill_function_parameter_419(c,Vb,Wb);
+case 43:fill_function_parameter_419(c,Xb,Yb);
 break;
 case 0:case 1:case 2:case 3:case 4:case 5:case 6:case 7:case 8:case 9:case 10:case 11:case 12:case 13:case 14:case 15:case 16:case 17:case 18:case 19:case 20:case 21:case 22:case 23:case 24:case 25:case 26:case 27:case 28:case 29:case 30:case 31:case 32:case 33:case 34:case 45:case 46:case 47:break;
 default:NEVER;
@@ -23365,590 +23367,590 @@ break;
 default:NEVER;
 }
 break;
-case 1:fill_right_3bf(b,c,Nb,o);
+case 1:fill_right_3bf(b,c,Pb,o);
 break;
-case 2:fill_first_of_85e(b,c,Nb,o);
+case 2:fill_first_of_85e(b,c,Pb,o);
 break;
-case 3:fill_more_of_557(b,c,Nb,o);
+case 3:fill_more_of_557(b,c,Pb,o);
 break;
-case 4:fill_low_4b1(b,c,Nb,o);
+case 4:fill_low_4b1(b,c,Pb,o);
 break;
-case 5:fill_base_3b5(b,c,Nb,o);
+case 5:fill_base_3b5(b,c,Pb,o);
 break;
-case 6:fill_own_piece_0f9(b,c,Nb,o);
+case 6:fill_own_piece_0f9(b,c,Pb,o);
 break;
-case 7:fill_full_b26(b,c,Nb,o);
+case 7:fill_full_b26(b,c,Pb,o);
 break;
-case 8:Pc=Kb+(i64)((u64)Nb*48);
-if(*Pc==2){
-Qc=q4(Pc+4);
-Rc=Pc[11];
-Sc=q4(Pc+16);
-Tc=q4(Pc+20);
-memcpy(h,Pc+8,3);
-if(bb<2)push_bare_366(b,c,Qc,h,Rc,Sc,Tc,bb);
+case 8:Rc=Mb+(i64)((u64)Pb*48);
+if(*Rc==2){
+Sc=q4(Rc+4);
+Tc=Rc[11];
+Uc=q4(Rc+16);
+Vc=q4(Rc+20);
+memcpy(h,Rc+8,3);
+if(cb<2)push_bare_366(b,c,Sc,h,Tc,Uc,Vc,cb);
 else{
-Uc=rp(c)+Hb*36;
-x4(Uc,0);
-x4(Uc+4,Qc);
-z16(Uc+8);
-Uc[24]=bb;
-z11(Uc+25);
-w8(c+8,Hb+1);}
+Wc=rp(c)+Jb*36;
+x4(Wc,0);
+x4(Wc+4,Sc);
+z16(Wc+8);
+Wc[24]=cb;
+z11(Wc+25);
+w8(c+8,Jb+1);}
 ;}
-else fill_full_b26(b,c,Nb,o);
+else fill_full_b26(b,c,Pb,o);
 break;
-case 9:Vc=Kb+(i64)((u64)Nb*48);
-if(*Vc==46){
-Wc=q4(Vc+4);
-Xc=q4(Vc+8);
-Yc=q4(Vc+12);
-if(Xc<Yc){
-Zc=Hb*36;
-ad=rp(c)+Zc;
-*ad=3;
-ad[1]=0;
-x2(ad+2,3);
-z32(ad+4);
-bd=rp(c)+(i64)Zc;
-bd[36]=1;
-z3(bd+37);
-x4(bd+40,Xc);
-x4(bd+44,Yc);
-z24(bd+48);
-cd=rp(c)+(i64)Zc;
-cd[72]=3;
-cd[73]=0;
-x2(cd+74,22);
-z32(cd+76);
-dd=Hb+3;}
-else dd=Hb;
-ed=rp(c)+dd*36;
-x4(ed,0);
-x4(ed+4,Wc);
-x4(ed+8,7);
-x4(ed+12,0);
-x4(ed+16,0);
-x4(ed+20,0);
-ed[24]=bb;
-z11(ed+25);
-w8(c+8,dd+1);}
+case 9:Xc=Mb+(i64)((u64)Pb*48);
+if(*Xc==46){
+Yc=q4(Xc+4);
+Zc=q4(Xc+8);
+ad=q4(Xc+12);
+if(Zc<ad){
+bd=Jb*36;
+cd=rp(c)+bd;
+*cd=3;
+cd[1]=0;
+x2(cd+2,3);
+z32(cd+4);
+dd=rp(c)+(i64)bd;
+dd[36]=1;
+z3(dd+37);
+x4(dd+40,Zc);
+x4(dd+44,ad);
+z24(dd+48);
+ed=rp(c)+(i64)bd;
+ed[72]=3;
+ed[73]=0;
+x2(ed+74,22);
+z32(ed+76);
+fd=Jb+3;}
+else fd=Jb;
+gd=rp(c)+fd*36;
+x4(gd,0);
+x4(gd+4,Yc);
+x4(gd+8,7);
+x4(gd+12,0);
+x4(gd+16,0);
+x4(gd+20,0);
+gd[24]=cb;
+z11(gd+25);
+w8(c+8,fd+1);}
 break;
-case 11:fill_declared_c70(b,c,Nb,Za,o);
+case 11:fill_declared_c70(b,c,Pb,ab,o);
 break;
-default:fill_expand_aee(b,c,Nb,Za,o);
+default:fill_expand_aee(b,c,Pb,ab,o);
 break;}
 goto L5;}
-wb=3;
-L14:fd=0;
-gd=wb;
-goto L16;}
-L10:w4(q,Xa);
-w4(q+4,Ya);
-w4(q+8,Za);
-x8(q+12,ab);
-q[20]=bb;
+yb=3;
+L15:hd=0;
+id=yb;
+goto L17;
+L10:w4(q,Ya);
+w4(q+4,Za);
+w4(q+8,ab);
+x8(q+12,bb);
+q[20]=cb;
 memcpy(q+21,D-11,3);
-q[24]=cb;
+q[24]=db;
 memcpy(q+25,D-7,3);
-w4(q+28,db);
+w4(q+28,eb);
 print_special_item_2f9(p,b,q,c,d,e,f,g);
 if(*p==0)goto L5;
-fd=r4(p+8);
-gd=p[4];
-L16:y=1;
-z=gd;
-A=fd;
-goto L17;
-case 1:hd=q4(D-32);
-id=(u64)q4(D-28)-hd;
-jd=rp(b)+(i64)hd;
-break;
-case 3:kd=r2(D-34);
-switch(kd){
-case 0:id=2;
-jd=(u8*)t_0a07;
-break;
-case 1:id=3;
-jd=(u8*)t_ab5d;
-break;
-case 2:id=1;
-jd=(u8*)t_32eb;
-break;
-case 3:id=1;
-jd=(u8*)t_ba5e;
-break;
-case 4:id=1;
-jd=(u8*)t_36a9;
-break;
-case 5:id=2;
-jd=(u8*)t_7154;
-break;
-case 6:id=3;
-jd=(u8*)t_3ca9;
-break;
-case 7:id=5;
-jd=(u8*)t_0f44;
-break;
-case 8:id=1;
-jd=(u8*)t_6848;
-break;
-case 9:id=2;
-jd=(u8*)t_cfa2;
-break;
-case 10:id=1;
-jd=(u8*)t_951d;
-break;
-case 11:id=2;
-jd=(u8*)t_f2c5;
-break;
-case 12:id=2;
-jd=(u8*)t_73e7;
-break;
-case 13:id=3;
-jd=(u8*)t_ab75;
-break;
-case 14:id=3;
-jd=(u8*)t_f6ce;
-break;
-case 15:id=1;
-jd=(u8*)t_2458;
-break;
-case 16:id=1;
-jd=(u8*)t_cfae;
-break;
-case 17:id=10;
-jd=(u8*)t_6d6a;
-break;
-case 18:id=9;
-jd=(u8*)t_8cb3;
-break;
-case 19:id=4;
-jd=(u8*)t_b5be;
-break;
-case 20:id=5;
-jd=(u8*)t_fcbc;
-break;
-case 21:id=7;
-jd=(u8*)t_c11d;
-break;
-case 22:id=2;
-jd=(u8*)t_4f5a;
-break;
-case 23:id=21;
-jd=(u8*)t_5f0f;
-break;
-case 24:id=17;
-jd=(u8*)t_81b5;
-break;
-case 25:id=26;
-jd=(u8*)t_7031;
-break;
-case 26:id=1;
-jd=(u8*)t_dabd;
-break;
-case 27:id=2;
-jd=(u8*)t_b902;
-break;
-case 28:id=1;
-jd=(u8*)t_62b6;
-break;
-case 29:id=11;
-jd=(u8*)t_e1a0;
-break;
-case 30:id=8;
-jd=(u8*)t_d949;
-break;
-case 31:id=2;
-jd=(u8*)t_3d70;
-break;
-case 32:id=1;
-jd=(u8*)t_d10b;
-break;
-case 33:id=14;
-jd=(u8*)t_e088;
-break;
-case 34:id=14;
-jd=(u8*)t_750b;
-break;
-case 35:id=21;
-jd=(u8*)t_62ff;
-break;
-case 36:id=1;
-jd=(u8*)t_3973;
-break;
-case 37:id=24;
-jd=(u8*)t_1a19;
-break;
-case 38:id=4;
-jd=(u8*)t_7285;
-break;
-case 39:id=9;
-jd=(u8*)t_787b;
-break;
-case 40:id=6;
-jd=(u8*)t_3276;
-break;
-case 41:id=1;
-jd=(u8*)t_2d71;
-break;
-case 42:id=15;
-jd=(u8*)t_e78f;
-break;
-case 43:id=5;
-jd=(u8*)t_59d1;
-break;
-case 44:id=22;
-jd=(u8*)t_58bf;
-break;
-case 45:id=26;
-jd=(u8*)t_3b26;
-break;
-case 46:id=5;
-jd=(u8*)t_e6be;
-break;
-case 47:id=15;
-jd=(u8*)t_7cce;
-break;
-case 48:id=9;
-jd=(u8*)t_d453;
-break;
-case 49:id=2;
-jd=(u8*)t_5aef;
-break;
-case 50:id=6;
-jd=(u8*)t_6310;
-break;
-case 51:id=1;
-jd=(u8*)t_c364;
-break;
-case 52:id=6;
-jd=(u8*)t_56c9;
-break;
-case 53:id=1;
-jd=(u8*)t_021f;
-break;
-case 54:id=2;
-jd=(u8*)t_2f86;
-break;
-case 55:id=8;
-jd=(u8*)t_50b1;
-break;
-case 56:id=2;
-jd=(u8*)t_daa9;
-break;
-case 57:id=2;
-jd=(u8*)t_3755;
-break;
-case 58:id=2;
-jd=(u8*)t_bfc2;
-break;
-case 59:id=3;
-jd=(u8*)t_9650;
-break;
-case 60:ld=(u8*)t_z0;
+hd=r4(p+8);
+id=p[4];
+L17:y=1;
+z=id;
+A=hd;
 goto L18;
-case 61:id=9;
-jd=(u8*)t_75e8;
+case 1:jd=q4(D-32);
+kd=(u64)q4(D-28)-jd;
+ld=rp(b)+(i64)jd;
 break;
-case 62:id=9;
-jd=(u8*)t_4982;
+case 3:md=r2(D-34);
+switch(md){
+case 0:kd=2;
+ld=(u8*)t_0a07;
 break;
-case 63:id=18;
-jd=(u8*)t_3a95;
+case 1:kd=3;
+ld=(u8*)t_ab5d;
 break;
-case 64:id=6;
-jd=(u8*)t_f603;
+case 2:kd=1;
+ld=(u8*)t_32eb;
 break;
-case 65:id=15;
-jd=(u8*)t_ae87;
+case 3:kd=1;
+ld=(u8*)t_ba5e;
 break;
-case 66:id=15;
-jd=(u8*)t_d091;
+case 4:kd=1;
+ld=(u8*)t_36a9;
 break;
-case 67:id=24;
-jd=(u8*)t_cd44;
+case 5:kd=2;
+ld=(u8*)t_7154;
 break;
-case 68:id=2;
-jd=(u8*)t_8519;
+case 6:kd=3;
+ld=(u8*)t_3ca9;
 break;
-case 69:id=11;
-jd=(u8*)t_ed57;
+case 7:kd=5;
+ld=(u8*)t_0f44;
 break;
-case 70:id=11;
-jd=(u8*)t_5513;
+case 8:kd=1;
+ld=(u8*)t_6848;
 break;
-case 71:id=20;
-jd=(u8*)t_04a7;
+case 9:kd=2;
+ld=(u8*)t_cfa2;
 break;
-case 72:id=8;
-jd=(u8*)t_5ca3;
+case 10:kd=1;
+ld=(u8*)t_951d;
 break;
-case 73:id=17;
-jd=(u8*)t_b525;
+case 11:kd=2;
+ld=(u8*)t_f2c5;
 break;
-case 74:id=17;
-jd=(u8*)t_29c6;
+case 12:kd=2;
+ld=(u8*)t_73e7;
 break;
-case 75:id=26;
-jd=(u8*)t_4d8e;
+case 13:kd=3;
+ld=(u8*)t_ab75;
 break;
-case 76:id=3;
-jd=(u8*)t_617d;
+case 14:kd=3;
+ld=(u8*)t_f6ce;
 break;
-case 77:id=12;
-jd=(u8*)t_43e8;
+case 15:kd=1;
+ld=(u8*)t_2458;
 break;
-case 78:id=12;
-jd=(u8*)t_cff1;
+case 16:kd=1;
+ld=(u8*)t_cfae;
 break;
-case 79:id=21;
-jd=(u8*)t_1ed6;
+case 17:kd=10;
+ld=(u8*)t_6d6a;
 break;
-case 80:id=9;
-jd=(u8*)t_d4b3;
+case 18:kd=9;
+ld=(u8*)t_8cb3;
 break;
-case 81:id=18;
-jd=(u8*)t_1f49;
+case 19:kd=4;
+ld=(u8*)t_b5be;
 break;
-case 82:id=18;
-jd=(u8*)t_3bc4;
+case 20:kd=5;
+ld=(u8*)t_fcbc;
 break;
-case 83:id=27;
-jd=(u8*)t_7f8c;
+case 21:kd=7;
+ld=(u8*)t_c11d;
 break;
-case 84:id=9;
-jd=(u8*)t_58e1;
+case 22:kd=2;
+ld=(u8*)t_4f5a;
 break;
-case 85:id=18;
-jd=(u8*)t_4be3;
+case 23:kd=21;
+ld=(u8*)t_5f0f;
 break;
-case 86:id=18;
-jd=(u8*)t_ccd0;
+case 24:kd=17;
+ld=(u8*)t_81b5;
 break;
-case 87:id=27;
-jd=(u8*)t_5910;
+case 25:kd=26;
+ld=(u8*)t_7031;
 break;
-case 88:id=15;
-jd=(u8*)t_24b4;
+case 26:kd=1;
+ld=(u8*)t_dabd;
 break;
-case 89:id=24;
-jd=(u8*)t_b69a;
+case 27:kd=2;
+ld=(u8*)t_b902;
 break;
-case 90:id=24;
-jd=(u8*)t_b63f;
+case 28:kd=1;
+ld=(u8*)t_62b6;
 break;
-case 91:id=33;
-jd=(u8*)t_9df6;
+case 29:kd=11;
+ld=(u8*)t_e1a0;
 break;
-case 92:id=11;
-jd=(u8*)t_01d6;
+case 30:kd=8;
+ld=(u8*)t_d949;
 break;
-case 93:id=20;
-jd=(u8*)t_0afd;
+case 31:kd=2;
+ld=(u8*)t_3d70;
 break;
-case 94:id=20;
-jd=(u8*)t_bbf4;
+case 32:kd=1;
+ld=(u8*)t_d10b;
 break;
-case 95:id=29;
-jd=(u8*)t_1a08;
+case 33:kd=14;
+ld=(u8*)t_e088;
 break;
-case 96:id=17;
-jd=(u8*)t_85a1;
+case 34:kd=14;
+ld=(u8*)t_750b;
 break;
-case 97:id=26;
-jd=(u8*)t_6bf8;
+case 35:kd=21;
+ld=(u8*)t_62ff;
 break;
-case 98:id=26;
-jd=(u8*)t_0560;
+case 36:kd=1;
+ld=(u8*)t_3973;
 break;
-case 99:id=35;
-jd=(u8*)t_f4cb;
+case 37:kd=24;
+ld=(u8*)t_1a19;
 break;
-case 100:id=12;
-jd=(u8*)t_c1f5;
+case 38:kd=4;
+ld=(u8*)t_7285;
 break;
-case 101:id=21;
-jd=(u8*)t_0f6a;
+case 39:kd=9;
+ld=(u8*)t_787b;
 break;
-case 102:id=21;
-jd=(u8*)t_0f6e;
+case 40:kd=6;
+ld=(u8*)t_3276;
 break;
-case 103:id=30;
-jd=(u8*)t_ef64;
+case 41:kd=1;
+ld=(u8*)t_2d71;
 break;
-case 104:id=18;
-jd=(u8*)t_afcb;
+case 42:kd=15;
+ld=(u8*)t_e78f;
 break;
-case 105:id=27;
-jd=(u8*)t_ee9e;
+case 43:kd=5;
+ld=(u8*)t_59d1;
 break;
-case 106:id=27;
-jd=(u8*)t_93da;
+case 44:kd=22;
+ld=(u8*)t_58bf;
 break;
-case 107:id=36;
-jd=(u8*)t_1a97;
+case 45:kd=26;
+ld=(u8*)t_3b26;
 break;
-default:md=kd-108;
-if(md<66){
-id=r8((u8*)t_81de+(u64)md*8);
-jd=rp((u8*)t_ae2b+(u64)md*8);}
+case 46:kd=5;
+ld=(u8*)t_e6be;
+break;
+case 47:kd=15;
+ld=(u8*)t_7cce;
+break;
+case 48:kd=9;
+ld=(u8*)t_d453;
+break;
+case 49:kd=2;
+ld=(u8*)t_5aef;
+break;
+case 50:kd=6;
+ld=(u8*)t_6310;
+break;
+case 51:kd=1;
+ld=(u8*)t_c364;
+break;
+case 52:kd=6;
+ld=(u8*)t_56c9;
+break;
+case 53:kd=1;
+ld=(u8*)t_021f;
+break;
+case 54:kd=2;
+ld=(u8*)t_2f86;
+break;
+case 55:kd=8;
+ld=(u8*)t_50b1;
+break;
+case 56:kd=2;
+ld=(u8*)t_daa9;
+break;
+case 57:kd=2;
+ld=(u8*)t_3755;
+break;
+case 58:kd=2;
+ld=(u8*)t_bfc2;
+break;
+case 59:kd=3;
+ld=(u8*)t_9650;
+break;
+case 60:nd=(u8*)t_z0;
+goto L19;
+case 61:kd=9;
+ld=(u8*)t_75e8;
+break;
+case 62:kd=9;
+ld=(u8*)t_4982;
+break;
+case 63:kd=18;
+ld=(u8*)t_3a95;
+break;
+case 64:kd=6;
+ld=(u8*)t_f603;
+break;
+case 65:kd=15;
+ld=(u8*)t_ae87;
+break;
+case 66:kd=15;
+ld=(u8*)t_d091;
+break;
+case 67:kd=24;
+ld=(u8*)t_cd44;
+break;
+case 68:kd=2;
+ld=(u8*)t_8519;
+break;
+case 69:kd=11;
+ld=(u8*)t_ed57;
+break;
+case 70:kd=11;
+ld=(u8*)t_5513;
+break;
+case 71:kd=20;
+ld=(u8*)t_04a7;
+break;
+case 72:kd=8;
+ld=(u8*)t_5ca3;
+break;
+case 73:kd=17;
+ld=(u8*)t_b525;
+break;
+case 74:kd=17;
+ld=(u8*)t_29c6;
+break;
+case 75:kd=26;
+ld=(u8*)t_4d8e;
+break;
+case 76:kd=3;
+ld=(u8*)t_617d;
+break;
+case 77:kd=12;
+ld=(u8*)t_43e8;
+break;
+case 78:kd=12;
+ld=(u8*)t_cff1;
+break;
+case 79:kd=21;
+ld=(u8*)t_1ed6;
+break;
+case 80:kd=9;
+ld=(u8*)t_d4b3;
+break;
+case 81:kd=18;
+ld=(u8*)t_1f49;
+break;
+case 82:kd=18;
+ld=(u8*)t_3bc4;
+break;
+case 83:kd=27;
+ld=(u8*)t_7f8c;
+break;
+case 84:kd=9;
+ld=(u8*)t_58e1;
+break;
+case 85:kd=18;
+ld=(u8*)t_4be3;
+break;
+case 86:kd=18;
+ld=(u8*)t_ccd0;
+break;
+case 87:kd=27;
+ld=(u8*)t_5910;
+break;
+case 88:kd=15;
+ld=(u8*)t_24b4;
+break;
+case 89:kd=24;
+ld=(u8*)t_b69a;
+break;
+case 90:kd=24;
+ld=(u8*)t_b63f;
+break;
+case 91:kd=33;
+ld=(u8*)t_9df6;
+break;
+case 92:kd=11;
+ld=(u8*)t_01d6;
+break;
+case 93:kd=20;
+ld=(u8*)t_0afd;
+break;
+case 94:kd=20;
+ld=(u8*)t_bbf4;
+break;
+case 95:kd=29;
+ld=(u8*)t_1a08;
+break;
+case 96:kd=17;
+ld=(u8*)t_85a1;
+break;
+case 97:kd=26;
+ld=(u8*)t_6bf8;
+break;
+case 98:kd=26;
+ld=(u8*)t_0560;
+break;
+case 99:kd=35;
+ld=(u8*)t_f4cb;
+break;
+case 100:kd=12;
+ld=(u8*)t_c1f5;
+break;
+case 101:kd=21;
+ld=(u8*)t_0f6a;
+break;
+case 102:kd=21;
+ld=(u8*)t_0f6e;
+break;
+case 103:kd=30;
+ld=(u8*)t_ef64;
+break;
+case 104:kd=18;
+ld=(u8*)t_afcb;
+break;
+case 105:kd=27;
+ld=(u8*)t_ee9e;
+break;
+case 106:kd=27;
+ld=(u8*)t_93da;
+break;
+case 107:kd=36;
+ld=(u8*)t_1a97;
+break;
+default:od=md-108;
+if(od<66){
+kd=r8((u8*)t_81de+(u64)od*8);
+ld=rp((u8*)t_ae2b+(u64)od*8);}
 else{
-nd=kd-174;
-if(nd<84){
-id=r8((u8*)t_c78b+(u64)nd*8);
-jd=rp((u8*)t_7cb3+(u64)nd*8);}
+pd=md-174;
+if(pd<84){
+kd=r8((u8*)t_c78b+(u64)pd*8);
+ld=rp((u8*)t_7cb3+(u64)pd*8);}
 else{
-od=kd-258;
-if(od>=48){
-ld=(u8*)t_z0;
-goto L18;}
-id=r8((u8*)t_a27e+(u64)od*8);
-jd=rp((u8*)t_392a+(u64)od*8);}}
+qd=md-258;
+if(qd>=48){
+nd=(u8*)t_z0;
+goto L19;}
+kd=r8((u8*)t_a27e+(u64)qd*8);
+ld=rp((u8*)t_392a+(u64)qd*8);}}
 break;}
 break;
-case 2:pd=r4(D-32);
-id=(u64)r4(D-28)-pd;
-jd=(u8*)t_0193+(i64)pd;
+case 2:sd=r4(D-32);
+kd=(u64)r4(D-28)-sd;
+ld=(u8*)t_0193+(i64)sd;
 break;
-case 4:id=D[-11];
-jd=D-35;
+case 4:kd=D[-11];
+ld=D-35;
 break;
 default:NEVER;
 }
-if(id>r4(f+4)-r4(f)){
+if(kd>r4(f+4)-r4(f)){
 y=1;
 z=3;
 A=0;
-goto L17;}
-switch(id){
-case 0:ld=jd;
+goto L18;}
+switch(kd){
+case 0:nd=ld;
 break;
-case 1:qd=r8(d+8);
-if(r8(d+16)==qd){
-sd=grow_amortized_2b6(d,1);
-if(!sd){
+case 1:td=r8(d+8);
+if(r8(d+16)==td){
+ud=grow_amortized_2b6(d,1);
+if(!ud){
 y=1;
 z=4;
 A=0;
-goto L17;}
-td=r8(d+8);}
-else td=qd;
-*(rp(d)+td)=*jd;
-w8(d+8,td+1);
-ud=1;
-goto L19;
-default:if(id<3){
-vd=r8(d+8);
-if(r8(d+16)-vd<2){
-xd=grow_amortized_2b6(d,2);
-if(!xd){
+goto L18;}
+vd=r8(d+8);}
+else vd=td;
+*(rp(d)+vd)=*ld;
+w8(d+8,vd+1);
+xd=1;
+goto L20;
+default:if(kd<3){
+yd=r8(d+8);
+if(r8(d+16)-yd<2){
+zd=grow_amortized_2b6(d,2);
+if(!zd){
 y=1;
 z=4;
 A=0;
-goto L17;}
-yd=r8(d+8);}
-else yd=vd;
-*(rp(d)+yd)=*jd;
-zd=yd+1;
-w8(d+8,zd);
-*(rp(d)+zd)=jd[1];
-w8(d+8,yd+2);
-ud=2;
-goto L19;}
-Ad=r8(d+16);
-Bd=r8(d+8);
-Cd=Ad-Bd;
-if(id==3){
-if(Cd<3){
-Dd=grow_amortized_2b6(d,3);
-if(!Dd){
-y=1;
-z=4;
-A=0;
-goto L17;}
-Ed=r8(d+8);}
-else Ed=Bd;
-*(rp(d)+Ed)=*jd;
-Fd=Ed+1;
-w8(d+8,Fd);
-*(rp(d)+Fd)=jd[1];
-Gd=Ed+2;
-w8(d+8,Gd);
-*(rp(d)+Gd)=jd[2];
-w8(d+8,Ed+3);
-ud=3;
-goto L19;}
-if(id>Cd){
-Hd=grow_amortized_2b6(d,id);
-if(!Hd){
-y=1;
-z=4;
-A=0;
-goto L17;}
-Id=r8(d+16);
-Jd=r8(d+8);}
-else{
-Id=Ad;
-Jd=Bd;}
-Kd=Jd+id;
-Ld=rp(d);
-z16(d+8);
-Md=Ld+(i64)Jd;
-if((u64)Md-(u64)jd<id){
-copy_bits_4f4(jd,Md,id);
-Nd=Ld;
-Od=Kd;
-Pd=Id;
-Qd=id;
+goto L18;}
+Ad=r8(d+8);}
+else Ad=yd;
+*(rp(d)+Ad)=*ld;
+Bd=Ad+1;
+w8(d+8,Bd);
+*(rp(d)+Bd)=ld[1];
+w8(d+8,Ad+2);
+xd=2;
 goto L20;}
-Rd=Md;
-Sd=Ld;
-Td=Kd;
-Ud=Id;
-Vd=jd;
-Wd=id;
-goto L21;
-}
-L18:Xd=r8(d+8);
-Yd=rp(d);
-Zd=r8(d+16);
+Cd=r8(d+16);
+Dd=r8(d+8);
+Ed=Cd-Dd;
+if(kd==3){
+if(Ed<3){
+Fd=grow_amortized_2b6(d,3);
+if(!Fd){
+y=1;
+z=4;
+A=0;
+goto L18;}
+Gd=r8(d+8);}
+else Gd=Dd;
+*(rp(d)+Gd)=*ld;
+Hd=Gd+1;
+w8(d+8,Hd);
+*(rp(d)+Hd)=ld[1];
+Id=Gd+2;
+w8(d+8,Id);
+*(rp(d)+Id)=ld[2];
+w8(d+8,Gd+3);
+xd=3;
+goto L20;}
+if(kd>Ed){
+Jd=grow_amortized_2b6(d,kd);
+if(!Jd){
+y=1;
+z=4;
+A=0;
+goto L18;}
+Kd=r8(d+16);
+Ld=r8(d+8);}
+else{
+Kd=Cd;
+Ld=Dd;}
+Md=Ld+kd;
+Nd=rp(d);
 z16(d+8);
-Rd=Yd+(i64)Xd;
-Sd=Yd;
-Td=Xd;
-Ud=Zd;
-Vd=ld;
-Wd=0;
-L21:memmove(Rd,Vd,Wd);
-Nd=Sd;
-Od=Td;
-Pd=Ud;
-Qd=Wd;
-L20:wp(d,Nd);
-w8(d+8,Od);
-w8(d+16,Pd);
-ud=Qd;
-L19:ae=r8(f+8)+1;
-w4(f,r4(f)+ud);
-w8(f+8,ae);
-be=r8(c+8)-1;
-w8(c+8,be);
-ce=be;
+Od=Nd+(i64)Ld;
+if((u64)Od-(u64)ld<kd){
+copy_bits_4f4(ld,Od,kd);
+Pd=Nd;
+Qd=Md;
+Rd=Kd;
+Sd=kd;
+goto L21;}
+Td=Od;
+Ud=Nd;
+Vd=Md;
+Wd=Kd;
+Xd=ld;
+Yd=kd;
 goto L22;
-L5:ce=r8(c+8);
-L22:de=rp(c);
-ee=ce*36;
-if(ce!=0){
-D=de+(i64)ee;
-E=ee;
-F=ce;
-G=de;
+}
+L19:Zd=r8(d+8);
+ae=rp(d);
+be=r8(d+16);
+z16(d+8);
+Td=ae+(i64)Zd;
+Ud=ae;
+Vd=Zd;
+Wd=be;
+Xd=nd;
+Yd=0;
+L22:memmove(Td,Xd,Yd);
+Pd=Ud;
+Qd=Vd;
+Rd=Wd;
+Sd=Yd;
+L21:wp(d,Pd);
+w8(d+8,Qd);
+w8(d+16,Rd);
+xd=Sd;
+L20:ce=r8(f+8)+1;
+w4(f,r4(f)+xd);
+w8(f+8,ce);
+de=r8(c+8)-1;
+w8(c+8,de);
+ee=de;
+goto L23;
+L5:ee=r8(c+8);
+L23:fe=rp(c);
+ge=ee*36;
+if(ee!=0){
+D=fe+(i64)ge;
+E=ge;
+F=ee;
+G=fe;
 goto L1;}
 y=0;
 z=0;
 A=0;}
-L17:*a=y;
+L18:*a=y;
 x4(a+4,z);
 x4(a+8,A);
 return;
@@ -24025,12 +24027,12 @@ static void print_special_item_2f9(u8* a,u8* b,u8* c,u8* d,u8* e,u8* f,u8* g,u8 
 {
 u8 i[3],j[3],k[3],n[3];
 A16 u8 l[12],m[12],o[16],p[16],q[24],r[20],s[80],t[32],u[12],v[32],w[76],x[32];
-u32 y,z,A,E,G,L,O,Q,U,V,da,ea,wa,xa,Da,Ra,Sa,ab,fb,jb,mb,rb,sb,tb,yb,Hb,nc,pc,qc,tc,uc,vc,Dc;
-u8 B,D,F,P,R,ba,ca,ja,Aa,Ea,Ja,Ma,Qa,ib,kb,lb,pb,qb,vb,wb,xb,Ab,Mb,Pb,Tb,mc,oc;
-u8 *C,*I,*N,*W,*Z,*aa,*oa,*pa,*qa,*ra,*Ca,*Ga,*Ha,*Oa,*gb,*hb,*nb,*ob,*zb,*Bb,*Cb,*Eb,*Fb,*Gb,*Ib,*Kb,*Nb,*Qb,*Sb,*Ub,*Vb,*Xb,*Yb,*ac,*bc,*dc,*ec,*fc,*gc,*ic,*jc,*kc,*lc,*rc,*sc,*xc,*yc,*zc,*Bc,*Ec;
-u64 H,J,K,M,S,T,X,Y,fa,ga,ha,ia,ka,la,ma,na,sa,ta,ua,va,ya,za,Ba,Fa,Ia,Ka,La,Na,Pa,Ta,Ua,Va,Wa,bb,cb,db,eb,ub,Db,Wb,Zb,cc,hc,wc,Ac,Cc,Fc;
-s_64_64 Xa,Ya,Za;
-u16 Jb,Lb,Ob,Rb;
+u32 y,z,A,D,F,K,N,P,T,U,ka,qa,ra,Ja,Ka,Qa,Ra,Za,eb,ib,lb,qb,rb,sb,xb,Gb,mc,oc,pc,sc,tc,uc;
+u8 B,C,E,O,Q,ca,fa,ja,la,oa,pa,wa,Na,hb,jb,kb,ob,pb,ub,vb,wb,zb,Lb,Ob,Sb,lc,nc;
+u64 G,I,J,L,R,S,W,X,ba,da,ea,ga,ia,ma,sa,ta,ua,va,xa,ya,za,Aa,Fa,Ga,Ha,Ia,La,Ma,Oa,Sa,Ta,Ua,Va,ab,bb,cb,db,tb,Cb,Vb,Yb,bc,gc,vc,zc,Bc,Dc;
+u8 *H,*M,*V,*Y,*Z,*aa,*ha,*na,*Ba,*Ca,*Da,*Ea,*Pa,*fb,*gb,*mb,*nb,*yb,*Ab,*Bb,*Db,*Eb,*Fb,*Hb,*Jb,*Mb,*Pb,*Rb,*Tb,*Ub,*Wb,*Xb,*Zb,*ac,*cc,*dc,*ec,*fc,*hc,*ic,*jc,*kc,*qc,*rc,*wc,*xc,*yc,*Ac,*Cc;
+s_64_64 Wa,Xa,Ya;
+u16 Ib,Kb,Nb,Qb;
 z12(u);
 z76(w);
 z32(x);
@@ -24040,530 +24042,529 @@ z=r4(v+4);
 A=r4(v+8);
 B=v[20];
 if(h){
-if(A!=0)goto L1;
-if(r8(f+80)<=y)goto L1;
-C=rp(f+72)+(i64)((u64)y<<4);
-if(!(C[8]&1))goto L1;
-if(C[9]&1)goto L1;
-D=v[12];
-E=r4(v+16);
-F=v[24];
-G=r4(v+28);
-H=((((u64)y<<5)|(z&31))+(((F==0?0:((u64)G<<16)+65536)+(D==0?0:(u64)E+1))<<29))*0x9e3779b97f4a7c15u;
-I=rp(f+48);
-J=r8(f+56);
-K=H;
+if(A==0){
+if(r8(f+80)>y){
+if(*(rp(f+72)+(i64)((u64)y*12)+8)&1){
+C=v[12];
+D=r4(v+16);
+E=v[24];
+F=r4(v+28);
+G=((((u64)y<<5)|(z&31))+(((E==0?0:((u64)F<<16)+65536)+(C==0?0:(u64)D+1))<<29))*0x9e3779b97f4a7c15u;
+H=rp(f+48);
+I=r8(f+56);
+J=G;
+K=0;
 L=0;
-M=0;
-L2:if(M<J){
-N=I+(i64)(M<<4);
-if(r8(N)==H){
-O=G;
-P=F;
-Q=E;
-R=D;
-S=M;}
-else{
-T=fshl64(K,K,1);
-U=r4(N+(i64)(u64)((T&1)==0?8:12));
-V=L+1;
-if(V!=64){
-K=T;
-L=V;
-M=U;
+L1:if(L>=I){
+N=F;
+O=E;
+P=D;
+Q=C;
+R=L;
 goto L2;}
-O=G;
-P=F;
-Q=E;
-R=D;
-S=U;}}
+M=H+(i64)(L<<4);
+if(r8(M)==G){
+N=F;
+O=E;
+P=D;
+Q=C;
+R=L;
+goto L2;}
+S=fshl64(J,J,1);
+T=r4(M+(i64)(u64)((S&1)==0?8:12));
+U=K+1;
+if(U!=64){
+J=S;
+K=U;
+L=T;
+goto L1;}
+N=F;
+O=E;
+P=D;
+Q=C;
+R=T;
+goto L2;}}}}
 else{
-O=G;
-P=F;
-Q=E;
-R=D;
-S=M;}}
-else{
-if(z!=0)goto L1;
-W=rp(b+24);
-X=(u64)y*48;
-if(*(W+(i64)X)!=12){
-Y=X;
-Z=W;
+if(z==0){
+V=rp(b+24);
+W=(u64)y*48;
+if(*(V+(i64)W)!=12){
+X=W;
+Y=V;
 goto L3;}
 switch(B){
-case 0:case 2:O=r4(v+28);
-P=v[24];
-Q=r4(v+16);
-R=v[12];
-S=y&63;
-break;
-case 1:case 3:Y=X;
-Z=W;
+case 0:case 2:N=r4(v+28);
+O=v[24];
+P=r4(v+16);
+Q=v[12];
+R=y&63;
+goto L2;
+case 1:case 3:X=W;
+Y=V;
 goto L3;
 default:NEVER;
-}}
-if(S<r8(f+8)){
-aa=rp(f)+(i64)(S*56);
-if(r4(aa)==y){
-if(r4(aa+4)==z){
-if(r4(aa+8)==A){
-ba=R==1;
-if(aa[12]==1){
-if(!ba)goto L4;
-if(r4(aa+16)!=Q)goto L4;}
-else {
-if(ba)goto L4;}
-if(aa[20]==B){
-ca=P==1;
-if(aa[24]==1){
-if(!ca)goto L4;
-if(r4(aa+28)!=O)goto L4;}
-else {
-if(ca)goto L4;}
-if(r4(aa+40)<=r4(g+4)-r4(g)){
-ea=r4(aa+32);
-fa=r8(e+8);
-ga=(u64)r4(aa+36)-ea;
-ha=ga+fa;
-if(ha>fa){
-ia=r8(e+16);
-if(ga>ia-fa){
-ja=grow_amortized_2b6(e,ga);
-if(!ja){
-da=4;
+}}}
+if(z>1)goto L4;
+X=(u64)y*48;
+Y=rp(b+24);
+L3:Z=Y+(i64)X;
+if(*Z==25){
+aa=Y+(i64)((u64)q4(Z+4)*48);
+if(*aa==25){
+ba=(u64)q4(aa+4)*48;
+if(*(Y+(i64)ba)!=25)goto L4;
+ca=0;
+da=ba;
+L5:ea=(u64)q4(Y+(i64)da+4)*48;
+if(*(Y+(i64)ea)!=25)goto L4;
+if(ca)goto L6;
+ca=1;
+da=ea;
 goto L5;}
-ka=r8(e+8);
-la=ka+ga;
-ma=r8(e+16);
-na=ka;}
-else{
-la=ha;
-ma=ia;
-na=fa;}
-oa=rp(e);
-if(na<la)memset(oa+(i64)na,0,ga);
-wp(e,oa);
-w8(e+8,la);
-w8(e+16,ma);}
-else {
-if(fa>ha)w8(e+8,ha);}
-pa=rp(e);
-qa=pa+(i64)fa;
-ra=pa+(i64)ea;
-if(fa-ea<ga)copy_bits_4f4(ra,qa,ga);
-else memmove(qa,ra,ga);
-sa=r8(g+8)+r8(aa+48);
-w4(g,r4(g)+r4(aa+40));
-w8(g+8,sa);
-ta=r8(d+8);
-if(ta!=0)w8(d+8,ta-1);
-*a=0;
-x4(a+4,0);
-x4(a+8,0);
-goto L6;}
-da=3;
-L5:*a=1;
-x4(a+4,da);
-x4(a+8,0);
-goto L6;}}}}}
-L4:ua=q8(v+12);
-va=r8(d+8)-1;
-wa=r8(e+8);
-xa=r4(g);
-ya=r8(g+8);
-memcpy(j,c+21,3);
-memcpy(k,c+25,3);
-za=r8(f+32);
-if(r8(f+40)==za){
-Aa=grow_amortized_ab4(f+24);
-if(!Aa)goto L7;
-Ba=r8(f+32);}
-else Ba=za;
-Ca=rp(f+24)+Ba*56;
-x4(Ca,y);
-x4(Ca+4,z);
-x4(Ca+8,A);
-x8(Ca+12,ua);
-Ca[20]=B;
-memcpy(Ca+21,j,3);
-Ca[24]=P;
-memcpy(Ca+25,k,3);
-x4(Ca+28,O);
-x8(Ca+32,va);
-x4(Ca+40,wa);
-x4(Ca+44,xa);
-x8(Ca+48,ya);
-w8(f+32,Ba+1);
-L7:Da=O;
-Ea=P;
-Fa=ua;
-goto L8;
-L1:if(z>1)goto L9;
-Y=(u64)y*48;
-Z=rp(b+24);
-L3:Ga=Z+(i64)Y;
-if(*Ga==25){
-Ha=Z+(i64)((u64)q4(Ga+4)*48);
-if(*Ha==25){
-Ia=(u64)q4(Ha+4)*48;
-if(*(Z+(i64)Ia)!=25)goto L9;
-Ja=0;
-Ka=Ia;
-L10:La=(u64)q4(Z+(i64)Ka+4)*48;
-if(*(Z+(i64)La)!=25)goto L9;
-if(Ja)goto L11;
-Ja=1;
-Ka=La;
-goto L10;}
-Ma=0;
-Na=Y;
-L12:Oa=Z+(i64)((u64)q4(Z+(i64)Na+4)*48);
-if(*Oa!=32)goto L9;
-if(!(!(Oa[1]&1||Oa[2]&1)&&Oa[3]&1))goto L9;
-Pa=(u64)q4(Oa+4)*48;
-if(*(Z+(i64)Pa)!=25)goto L9;
-if(!Ma){
-Ma=1;
-Na=Pa;
-goto L12;}
-L11:memcpy(t,c,32);
+fa=0;
+ga=X;
+L7:ha=Y+(i64)((u64)q4(Y+(i64)ga+4)*48);
+if(*ha!=32)goto L4;
+if(!(!(ha[1]&1||ha[2]&1)&&ha[3]&1))goto L4;
+ia=(u64)q4(ha+4)*48;
+if(*(Y+(i64)ia)!=25)goto L4;
+if(!fa){
+fa=1;
+ga=ia;
+goto L7;}
+L6:memcpy(t,c,32);
 z80(s);
 run_of_1dc(s,b,t);
-Qa=*s;
+ja=*s;
 memcpy(w,s+4,76);
-if(Qa==1){
+if(ja==1){
 memcpy(x,c,32);
 print_run_dec(u,x,w,d,f,g,h);
 *a=*u;
 x4(a+4,u[4]);
 x4(a+8,r4(u+8));
-goto L6;}}
-L9:Da=r4(v+28);
-Ea=v[24];
-Fa=q8(v+12);
-L8:Ra=r4(g);
-if(r4(g+4)!=Ra){
-Ta=r8(d+8);
-Ua=r8(d+16);
-if(Ua-Ta<8){
-Va=umax64(Ta,8);
-if(Va>(Ta^18446744073709551615u)){
-Sa=4;
-goto L13;}
-Wa=Va+Ta;
-if(Wa>=0x38e38e38e38e38fu){
-Sa=4;
-goto L13;}
-if(Ua==0){
-Xa=port_rattle_alloc(Wa*36,4);
-if(!(u8)(Xa.f0&1)){
-Sa=4;
-goto L13;}
-Ya=Xa;}
+goto L8;}}
+L4:ka=r4(v+28);
+la=v[24];
+ma=q8(v+12);
+goto L9;
+L2:if(R<r8(f+8)){
+na=rp(f)+(i64)(R*56);
+if(r4(na)==y){
+if(r4(na+4)==z){
+if(r4(na+8)==A){
+oa=Q==1;
+if(na[12]==1){
+if(!oa)goto L10;
+if(r4(na+16)!=P)goto L10;}
+else {
+if(oa)goto L10;}
+if(na[20]==B){
+pa=O==1;
+if(na[24]==1){
+if(!pa)goto L10;
+if(r4(na+28)!=N)goto L10;}
+else {
+if(pa)goto L10;}
+if(r4(na+40)<=r4(g+4)-r4(g)){
+ra=r4(na+32);
+sa=r8(e+8);
+ta=(u64)r4(na+36)-ra;
+ua=ta+sa;
+if(ua>sa){
+va=r8(e+16);
+if(ta>va-sa){
+wa=grow_amortized_2b6(e,ta);
+if(!wa){
+qa=4;
+goto L11;}
+xa=r8(e+8);
+ya=xa+ta;
+za=r8(e+16);
+Aa=xa;}
 else{
-Za=port_rattle_realloc(rp(d),Ta*36,Wa*36,4);
-if(!(u8)(Za.f0&1)){
-Sa=4;
+ya=ua;
+za=va;
+Aa=sa;}
+Ba=rp(e);
+if(Aa<ya)memset(Ba+(i64)Aa,0,ta);
+wp(e,Ba);
+w8(e+8,ya);
+w8(e+16,za);}
+else {
+if(sa>ua)w8(e+8,ua);}
+Ca=rp(e);
+Da=Ca+(i64)sa;
+Ea=Ca+(i64)ra;
+if(sa-ra<ta)copy_bits_4f4(Ea,Da,ta);
+else memmove(Da,Ea,ta);
+Fa=r8(g+8)+r8(na+48);
+w4(g,r4(g)+r4(na+40));
+w8(g+8,Fa);
+Ga=r8(d+8);
+if(Ga!=0)w8(d+8,Ga-1);
+*a=0;
+x4(a+4,0);
+x4(a+8,0);
+goto L8;}
+qa=3;
+L11:*a=1;
+x4(a+4,qa);
+x4(a+8,0);
+goto L8;}}}}}
+L10:Ha=q8(v+12);
+Ia=r8(d+8)-1;
+Ja=r8(e+8);
+Ka=r4(g);
+La=r8(g+8);
+memcpy(j,c+21,3);
+memcpy(k,c+25,3);
+Ma=r8(f+32);
+if(r8(f+40)==Ma){
+Na=grow_amortized_ab4(f+24);
+if(!Na)goto L12;
+Oa=r8(f+32);}
+else Oa=Ma;
+Pa=rp(f+24)+Oa*56;
+x4(Pa,y);
+x4(Pa+4,z);
+x4(Pa+8,A);
+x8(Pa+12,Ha);
+Pa[20]=B;
+memcpy(Pa+21,j,3);
+Pa[24]=O;
+memcpy(Pa+25,k,3);
+x4(Pa+28,N);
+x8(Pa+32,Ia);
+x4(Pa+40,Ja);
+x4(Pa+44,Ka);
+x8(Pa+48,La);
+w8(f+32,Oa+1);
+L12:ka=N;
+la=O;
+ma=Ha;
+L9:Qa=r4(g);
+if(r4(g+4)!=Qa){
+Sa=r8(d+8);
+Ta=r8(d+16);
+if(Ta-Sa<8){
+Ua=umax64(Sa,8);
+if(Ua>(Sa^18446744073709551615u)){
+Ra=4;
 goto L13;}
-Ya=Za;}
-wp(d,(u8*)Ya.f1);
-w8(d+16,Wa);
-ab=r4(g);}
-else ab=Ra;
-bb=r8(g+8)+1;
-w4(g,ab+1);
-w8(g+8,bb);
-cb=r8(d+8);
-if(cb==0)db=0;
+Va=Ua+Sa;
+if(Va>=0x38e38e38e38e38fu){
+Ra=4;
+goto L13;}
+if(Ta==0){
+Wa=port_rattle_alloc(Va*36,4);
+if(!(u8)(Wa.f0&1)){
+Ra=4;
+goto L13;}
+Xa=Wa;}
 else{
-eb=cb-1;
-w8(d+8,eb);
-db=eb;}
-fb=Fa>>32;
-gb=rp(b+24);
-hb=gb+(i64)((u64)y*48);
-ib=*hb==47;
-jb=ib?q4(hb+4):y;
-kb=Ea!=0;
-lb=kb||ib;
-mb=kb?Da:(ib?q4(hb+8):0);
-w4(r,(u32)Fa&255);
-w4(r+4,fb);
+Ya=port_rattle_realloc(rp(d),Sa*36,Va*36,4);
+if(!(u8)(Ya.f0&1)){
+Ra=4;
+goto L13;}
+Xa=Ya;}
+wp(d,(u8*)Xa.f1);
+w8(d+16,Va);
+Za=r4(g);}
+else Za=Qa;
+ab=r8(g+8)+1;
+w4(g,Za+1);
+w8(g+8,ab);
+bb=r8(d+8);
+if(bb==0)cb=0;
+else{
+db=bb-1;
+w8(d+8,db);
+cb=db;}
+eb=ma>>32;
+fb=rp(b+24);
+gb=fb+(i64)((u64)y*48);
+hb=*gb==47;
+ib=hb?q4(gb+4):y;
+jb=la!=0;
+kb=jb||hb;
+lb=jb?ka:(hb?q4(gb+8):0);
+w4(r,(u32)ma&255);
+w4(r+4,eb);
 r[8]=B;
 z3(r+9);
-w4(r+12,lb);
-w4(r+16,mb);
+w4(r+12,kb);
+w4(r+16,lb);
 switch(z){
 case 0:z16(p);
 z24(q);
-nb=rp(b);
-ob=gb+(i64)((u64)jb*48);
-pb=*ob;
-qb=ob[1];
-rb=q4(ob+4);
-sb=q4(ob+8);
-tb=q4(ob+12);
-ub=q8(ob+16);
-vb=sb;
-wb=sb>>8;
-xb=sb>>16;
-switch(pb){
+mb=rp(b);
+nb=fb+(i64)((u64)ib*48);
+ob=*nb;
+pb=nb[1];
+qb=q4(nb+4);
+rb=q4(nb+8);
+sb=q4(nb+12);
+tb=q8(nb+16);
+ub=rb;
+vb=rb>>8;
+wb=rb>>16;
+switch(ob){
 case 9:w8(o,0);
-*o=vb;
-o[1]=wb;
-o[2]=xb;
-w4(o+4,tb);
-w8(o+8,ub);
-if(vb==0){
-yb=ub;
-if(tb!=yb){
-zb=nb+(i64)tb;
-if(!((ub&4294967295u)-tb<10||*zb!=95)){
-Ab=parts_equal_58b((u8*)t_35ad,10,zb,10);
-if(Ab){
-Bb=rp(d)+db*36;
-*Bb=3;
-Bb[1]=0;
-x2(Bb+2,35);
-z32(Bb+4);
-w8(d+8,db+1);
+*o=ub;
+o[1]=vb;
+o[2]=wb;
+w4(o+4,sb);
+w8(o+8,tb);
+if(ub==0){
+xb=tb;
+if(sb!=xb){
+yb=mb+(i64)sb;
+if(!((tb&4294967295u)-sb<10||*yb!=95)){
+zb=parts_equal_58b((u8*)t_35ad,10,yb,10);
+if(zb){
+Ab=rp(d)+cb*36;
+*Ab=3;
+Ab[1]=0;
+x2(Ab+2,35);
+z32(Ab+4);
+w8(d+8,cb+1);
 goto L14;}}}
-if(tb<yb){
-Cb=rp(d)+db*36;
-*Cb=1;
-z3(Cb+1);
-x4(Cb+4,tb);
-x4(Cb+8,yb);
-z24(Cb+12);
-w8(d+8,db+1);}}
+if(sb<xb){
+Bb=rp(d)+cb*36;
+*Bb=1;
+z3(Bb+1);
+x4(Bb+4,sb);
+x4(Bb+8,xb);
+z24(Bb+12);
+w8(d+8,cb+1);}}
 else fill_rare_piece_017(b,d,o,r);
 L14:break;
-case 10:Db=db*36;
-Eb=rp(d)+Db;
-x4(Eb,0);
-x4(Eb+4,jb);
-x4(Eb+8,6);
-x4(Eb+12,0);
-memcpy(Eb+16,r,20);
-Fb=rp(d)+(i64)Db;
-Fb[36]=3;
-Fb[37]=0;
-x2(Fb+38,7);
-z32(Fb+40);
-w8(d+8,db+2);
+case 10:Cb=cb*36;
+Db=rp(d)+Cb;
+x4(Db,0);
+x4(Db+4,ib);
+x4(Db+8,6);
+x4(Db+12,0);
+memcpy(Db+16,r,20);
+Eb=rp(d)+(i64)Cb;
+Eb[36]=3;
+Eb[37]=0;
+x2(Eb+38,7);
+z32(Eb+40);
+w8(d+8,cb+2);
 break;
-case 11:*p=vb;
-p[1]=wb;
-p[2]=xb;
-w4(p+4,tb);
-w8(p+8,ub);
-fill_within_6bb(b,d,jb,rb,p,r);
+case 11:*p=ub;
+p[1]=vb;
+p[2]=wb;
+w4(p+4,sb);
+w8(p+8,tb);
+fill_within_6bb(b,d,ib,qb,p,r);
 break;
-case 12:fill_instance_1f0(b,d,rb,sb,r);
+case 12:fill_instance_1f0(b,d,qb,rb,r);
 break;
-case 13:own_entity_238(q,b,sb,r);
-Gb=rp(d)+db*36;
-Hb=r4(q);
-x4(Gb,0);
-x4(Gb+4,Hb);
-x4(Gb+8,0);
-x4(Gb+12,0);
-memcpy(Gb+16,q+4,20);
-w8(d+8,db+1);
+case 13:own_entity_238(q,b,rb,r);
+Fb=rp(d)+cb*36;
+Gb=r4(q);
+x4(Fb,0);
+x4(Fb+4,Gb);
+x4(Fb+8,0);
+x4(Fb+12,0);
+memcpy(Fb+16,q+4,20);
+w8(d+8,cb+1);
 break;
-case 14:Ib=rp(d)+db*36;
-x4(Ib,0);
-x4(Ib+4,rb);
-x4(Ib+8,0);
-x4(Ib+12,0);
-memcpy(Ib+16,r,20);
-w8(d+8,db+1);
+case 14:Hb=rp(d)+cb*36;
+x4(Hb,0);
+x4(Hb+4,qb);
+x4(Hb+8,0);
+x4(Hb+12,0);
+memcpy(Hb+16,r,20);
+w8(d+8,cb+1);
 break;
-case 15:fill_tagged_146(d,rb,sb,tb,r);
+case 15:fill_tagged_146(d,qb,rb,sb,r);
 break;
-case 17:Jb=abbreviation_6bb(qb);
-if(Jb!=60){
-Kb=rp(d)+db*36;
-*Kb=3;
-Kb[1]=0;
-x2(Kb+2,Jb);
-z32(Kb+4);
-w8(d+8,db+1);}
+case 17:Ib=abbreviation_6bb(pb);
+if(Ib!=60){
+Jb=rp(d)+cb*36;
+*Jb=3;
+Jb[1]=0;
+x2(Jb+2,Ib);
+z32(Jb+4);
+w8(d+8,cb+1);}
 break;
-case 18:fill_parameter_f0e(b,d,rb,sb,0,r);
+case 18:fill_parameter_f0e(b,d,qb,rb,0,r);
 break;
-case 0:case 1:case 2:case 3:case 4:case 5:case 6:case 7:case 8:case 16:case 19:case 20:case 21:case 22:case 23:case 24:case 25:case 26:case 27:case 28:case 29:case 30:case 31:case 32:case 33:case 34:case 35:case 36:case 37:case 38:case 39:case 40:case 41:case 42:case 43:case 44:case 45:case 46:case 47:Lb=q2(ob+2);
-switch(pb){
-case 20:Mb=qb-97;
-if(Mb<26){
-if((((u64)1<<Mb)&1278976)==0){
-Nb=rp(d)+db*36;
-Ob=r2((u8*)t_91f6+(u64)Mb*2);
-*Nb=3;
-Nb[1]=0;
-x2(Nb+2,Ob);
-z32(Nb+4);
-w8(d+8,db+1);}}
+case 0:case 1:case 2:case 3:case 4:case 5:case 6:case 7:case 8:case 16:case 19:case 20:case 21:case 22:case 23:case 24:case 25:case 26:case 27:case 28:case 29:case 30:case 31:case 32:case 33:case 34:case 35:case 36:case 37:case 38:case 39:case 40:case 41:case 42:case 43:case 44:case 45:case 46:case 47:Kb=q2(nb+2);
+switch(ob){
+case 20:Lb=pb-97;
+if(Lb<26){
+if((((u64)1<<Lb)&1278976)==0){
+Mb=rp(d)+cb*36;
+Nb=r2((u8*)t_91f6+(u64)Lb*2);
+*Mb=3;
+Mb[1]=0;
+x2(Mb+2,Nb);
+z32(Mb+4);
+w8(d+8,cb+1);}}
 break;
-case 21:Pb=qb-97;
-if(Pb<21){
-if((((u64)1<<Pb)&777794)==0){
-Qb=rp(d)+db*36;
-Rb=r2((u8*)t_1a3f+(u64)Pb*2);
-*Qb=3;
-Qb[1]=0;
-x2(Qb+2,Rb);
-z32(Qb+4);
-w8(d+8,db+1);}}
+case 21:Ob=pb-97;
+if(Ob<21){
+if((((u64)1<<Ob)&777794)==0){
+Pb=rp(d)+cb*36;
+Qb=r2((u8*)t_1a3f+(u64)Ob*2);
+*Pb=3;
+Pb[1]=0;
+x2(Pb+2,Qb);
+z32(Pb+4);
+w8(d+8,cb+1);}}
 break;
-case 24:if(sb!=rb){
-Sb=nb+(i64)rb;
-if(!((u64)sb-rb<10||*Sb!=95)){
-Tb=parts_equal_58b((u8*)t_35ad,10,Sb,10);
-if(Tb){
-Ub=rp(d)+db*36;
-*Ub=3;
-Ub[1]=0;
-x2(Ub+2,35);
-z32(Ub+4);
-w8(d+8,db+1);
+case 24:if(rb!=qb){
+Rb=mb+(i64)qb;
+if(!((u64)rb-qb<10||*Rb!=95)){
+Sb=parts_equal_58b((u8*)t_35ad,10,Rb,10);
+if(Sb){
+Tb=rp(d)+cb*36;
+*Tb=3;
+Tb[1]=0;
+x2(Tb+2,35);
+z32(Tb+4);
+w8(d+8,cb+1);
 break;}}}
-if(rb<sb){
-Vb=rp(d)+db*36;
-*Vb=1;
-z3(Vb+1);
-x4(Vb+4,rb);
-x4(Vb+8,sb);
-z24(Vb+12);
-w8(d+8,db+1);}
+if(qb<rb){
+Ub=rp(d)+cb*36;
+*Ub=1;
+z3(Ub+1);
+x4(Ub+4,qb);
+x4(Ub+8,rb);
+z24(Ub+12);
+w8(d+8,cb+1);}
 break;
-case 25:fill_marked_395(b,d,rb,r);
+case 25:fill_marked_395(b,d,qb,r);
 break;
-case 26:fill_reference_bf6(b,d,rb,4,11,10,r);
+case 26:fill_reference_bf6(b,d,qb,4,11,10,r);
 break;
-case 27:fill_reference_bf6(b,d,rb,0,13,12,r);
+case 27:fill_reference_bf6(b,d,qb,0,13,12,r);
 break;
-case 28:fill_array_c4d(b,d,tb,r);
+case 28:fill_array_c4d(b,d,sb,r);
 break;
-case 29:fill_array_c4d(b,d,sb,r);
+case 29:fill_array_c4d(b,d,rb,r);
 break;
-case 31:Wb=db*36;
-Xb=rp(d)+Wb;
-*Xb=3;
-Xb[1]=0;
-x2(Xb+2,4);
-z32(Xb+4);
-Yb=rp(d)+(i64)Wb;
-x4(Yb+36,0);
-x4(Yb+40,rb);
-x4(Yb+44,0);
-x4(Yb+48,0);
-memcpy(Yb+52,r,20);
-w8(d+8,db+2);
+case 31:Vb=cb*36;
+Wb=rp(d)+Vb;
+*Wb=3;
+Wb[1]=0;
+x2(Wb+2,4);
+z32(Wb+4);
+Xb=rp(d)+(i64)Vb;
+x4(Xb+36,0);
+x4(Xb+40,qb);
+x4(Xb+44,0);
+x4(Xb+48,0);
+memcpy(Xb+52,r,20);
+w8(d+8,cb+2);
 break;
-case 30:fill_member_2fa(b,d,rb,sb,r);
+case 30:fill_member_2fa(b,d,qb,rb,r);
 break;
-case 32:*n=qb;
-x2(n+1,Lb);
-fill_qualified_left_bf3(b,d,n,rb,r);
+case 32:*n=pb;
+x2(n+1,Kb);
+fill_qualified_left_bf3(b,d,n,qb,r);
 break;
-case 33:fill_vector_eb1(d,rb,sb,tb,r);
+case 33:fill_vector_eb1(d,qb,rb,sb,r);
 break;
-case 34:Zb=db*36;
-ac=rp(d)+Zb;
-*ac=3;
-ac[1]=0;
-x2(ac+2,18);
-z32(ac+4);
-bc=rp(d)+(i64)Zb;
-x4(bc+36,0);
-x4(bc+40,rb);
-x4(bc+44,0);
-x4(bc+48,0);
-memcpy(bc+52,r,20);
-w8(d+8,db+2);
+case 34:Yb=cb*36;
+Zb=rp(d)+Yb;
+*Zb=3;
+Zb[1]=0;
+x2(Zb+2,18);
+z32(Zb+4);
+ac=rp(d)+(i64)Yb;
+x4(ac+36,0);
+x4(ac+40,qb);
+x4(ac+44,0);
+x4(ac+48,0);
+memcpy(ac+52,r,20);
+w8(d+8,cb+2);
 break;
-case 22:fill_float_1e8(d,rb,sb,tb);
+case 22:fill_float_1e8(d,qb,rb,sb);
 break;
-case 23:cc=db*36;
-dc=rp(d)+cc;
-*dc=3;
-dc[1]=0;
-x2(dc+2,qb==107?46:47);
-z32(dc+4);
-ec=rp(d)+(i64)cc;
-x4(ec+36,0);
-x4(ec+40,rb);
-x4(ec+44,0);
-x4(ec+48,0);
-memcpy(ec+52,r,20);
-w8(d+8,db+2);
+case 23:bc=cb*36;
+cc=rp(d)+bc;
+*cc=3;
+cc[1]=0;
+x2(cc+2,pb==107?46:47);
+z32(cc+4);
+dc=rp(d)+(i64)bc;
+x4(dc+36,0);
+x4(dc+40,qb);
+x4(dc+44,0);
+x4(dc+48,0);
+memcpy(dc+52,r,20);
+w8(d+8,cb+2);
 break;
-case 0:case 1:case 2:case 3:case 4:case 5:case 6:case 7:case 8:case 9:case 10:case 11:case 12:case 13:case 14:case 15:case 16:case 17:case 18:case 19:case 35:case 36:case 37:case 38:case 39:case 40:case 41:case 42:case 43:case 44:case 45:case 46:case 47:w4(l,tb);
-x8(l+4,ub);
-switch(pb){
-case 36:fill_expansion_7b7(b,d,rb,r);
+case 0:case 1:case 2:case 3:case 4:case 5:case 6:case 7:case 8:case 9:case 10:case 11:case 12:case 13:case 14:case 15:case 16:case 17:case 18:case 19:case 35:case 36:case 37:case 38:case 39:case 40:case 41:case 42:case 43:case 44:case 45:case 46:case 47:w4(l,sb);
+x8(l+4,tb);
+switch(ob){
+case 36:fill_expansion_7b7(b,d,qb,r);
 break;
-case 44:fc=gb+(i64)((u64)rb*48);
-if(*(gb+(i64)((u64)(*fc==47?q4(fc+4):rb)*48))!=1){
-gc=rp(d)+db*36;
-x4(gc,0);
-x4(gc+4,rb);
-x4(gc+8,2);
-x4(gc+12,0);
-gc[16]=Fa;
-memcpy(gc+17,r+1,3);
-x4(gc+20,fb);
-gc[24]=B;
-z3(gc+25);
-gc[28]=lb;
-memcpy(gc+29,r+13,3);
-x4(gc+32,mb);
-w8(d+8,db+1);}
+case 44:ec=fb+(i64)((u64)qb*48);
+if(*(fb+(i64)((u64)(*ec==47?q4(ec+4):qb)*48))!=1){
+fc=rp(d)+cb*36;
+x4(fc,0);
+x4(fc+4,qb);
+x4(fc+8,2);
+x4(fc+12,0);
+fc[16]=ma;
+memcpy(fc+17,r+1,3);
+x4(fc+20,eb);
+fc[24]=B;
+z3(fc+25);
+fc[28]=kb;
+memcpy(fc+29,r+13,3);
+x4(fc+32,lb);
+w8(d+8,cb+1);}
 break;
-case 37:w4(m,sb);
+case 37:w4(m,rb);
 x8(m+4,r8(l));
-fill_integer_476(b,d,rb,m,r);
+fill_integer_476(b,d,qb,m,r);
 break;
-case 38:hc=db+1;
-ic=rp(d)+db*36;
+case 38:gc=cb+1;
+hc=rp(d)+cb*36;
+*hc=3;
+hc[1]=0;
+if(pb&1){
+x2(hc+2,19);
+z32(hc+4);
+w8(d+8,gc);}
+else{
+x2(hc+2,20);
+z32(hc+4);
+w8(d+8,gc);}
+break;
+case 39:ic=rp(d)+cb*36;
 *ic=3;
 ic[1]=0;
-if(qb&1){
-x2(ic+2,19);
+x2(ic+2,21);
 z32(ic+4);
-w8(d+8,hc);}
-else{
-x2(ic+2,20);
-z32(ic+4);
-w8(d+8,hc);}
+w8(d+8,cb+1);
 break;
-case 39:jc=rp(d)+db*36;
-*jc=3;
-jc[1]=0;
-x2(jc+2,21);
-z32(jc+4);
-w8(d+8,db+1);
+case 40:jc=rp(d)+cb*36;
+x4(jc,0);
+x4(jc+4,qb);
+x4(jc+8,8);
+x4(jc+12,0);
+x4(jc+16,0);
+x4(jc+20,0);
+jc[24]=B;
+z11(jc+25);
+w8(d+8,cb+1);
 break;
-case 40:kc=rp(d)+db*36;
-x4(kc,0);
-x4(kc+4,rb);
-x4(kc+8,8);
-x4(kc+12,0);
-x4(kc+16,0);
-x4(kc+20,0);
-kc[24]=B;
-z11(kc+25);
-w8(d+8,db+1);
+case 41:fill_encoding_literal_a7e(d,qb,r);
 break;
-case 41:fill_encoding_literal_a7e(d,rb,r);
+case 35:fill_decltype_7a2(d,qb,r);
 break;
-case 35:fill_decltype_7a2(d,rb,r);
+case 42:fill_operation_6d8(b,d,pb,Kb,qb,rb,r);
 break;
-case 42:fill_operation_6d8(b,d,qb,Lb,rb,sb,r);
-break;
-case 43:fill_function_parameter_419(d,rb,sb);
+case 43:fill_function_parameter_419(d,qb,rb);
 break;
 case 0:case 1:case 2:case 3:case 4:case 5:case 6:case 7:case 8:case 9:case 10:case 11:case 12:case 13:case 14:case 15:case 16:case 17:case 18:case 19:case 20:case 21:case 22:case 23:case 24:case 25:case 26:case 27:case 28:case 29:case 30:case 31:case 32:case 33:case 34:case 45:case 46:case 47:break;
 default:NEVER;
@@ -24575,99 +24576,98 @@ break;
 default:NEVER;
 }
 break;
-case 1:fill_right_3bf(b,d,jb,r);
+case 1:fill_right_3bf(b,d,ib,r);
 break;
-case 2:fill_first_of_85e(b,d,jb,r);
+case 2:fill_first_of_85e(b,d,ib,r);
 break;
-case 3:fill_more_of_557(b,d,jb,r);
+case 3:fill_more_of_557(b,d,ib,r);
 break;
-case 4:fill_low_4b1(b,d,jb,r);
+case 4:fill_low_4b1(b,d,ib,r);
 break;
-case 5:fill_base_3b5(b,d,jb,r);
+case 5:fill_base_3b5(b,d,ib,r);
 break;
-case 6:fill_own_piece_0f9(b,d,jb,r);
+case 6:fill_own_piece_0f9(b,d,ib,r);
 break;
-case 7:fill_full_b26(b,d,jb,r);
+case 7:fill_full_b26(b,d,ib,r);
 break;
-case 8:lc=gb+(i64)((u64)jb*48);
-if(*lc==2){
-mc=r[8];
-nc=q4(lc+4);
-oc=lc[11];
-pc=q4(lc+16);
-qc=q4(lc+20);
-memcpy(i,lc+8,3);
-if(mc<2)push_bare_366(b,d,nc,i,oc,pc,qc,mc);
+case 8:kc=fb+(i64)((u64)ib*48);
+if(*kc==2){
+lc=r[8];
+mc=q4(kc+4);
+nc=kc[11];
+oc=q4(kc+16);
+pc=q4(kc+20);
+memcpy(i,kc+8,3);
+if(lc<2)push_bare_366(b,d,mc,i,nc,oc,pc,lc);
 else{
-rc=rp(d)+db*36;
-x4(rc,0);
-x4(rc+4,nc);
-z16(rc+8);
-rc[24]=mc;
-z11(rc+25);
-w8(d+8,db+1);}
+qc=rp(d)+cb*36;
+x4(qc,0);
+x4(qc+4,mc);
+z16(qc+8);
+qc[24]=lc;
+z11(qc+25);
+w8(d+8,cb+1);}
 ;}
-else fill_full_b26(b,d,jb,r);
+else fill_full_b26(b,d,ib,r);
 break;
-case 9:sc=gb+(i64)((u64)jb*48);
-if(*sc==46){
-tc=q4(sc+4);
-uc=q4(sc+8);
-vc=q4(sc+12);
-if(uc<vc){
-wc=db*36;
-xc=rp(d)+wc;
-*xc=3;
-xc[1]=0;
-x2(xc+2,3);
-z32(xc+4);
-yc=rp(d)+(i64)wc;
-yc[36]=1;
-z3(yc+37);
-x4(yc+40,uc);
-x4(yc+44,vc);
-z24(yc+48);
-zc=rp(d)+(i64)wc;
-zc[72]=3;
-zc[73]=0;
-x2(zc+74,22);
-z32(zc+76);
-Ac=db+3;}
-else Ac=db;
-Bc=rp(d)+Ac*36;
-x4(Bc,0);
-x4(Bc+4,tc);
-x4(Bc+8,7);
-x4(Bc+12,0);
-x4(Bc+16,0);
-x4(Bc+20,0);
-Bc[24]=B;
-z11(Bc+25);
-w8(d+8,Ac+1);}
+case 9:rc=fb+(i64)((u64)ib*48);
+if(*rc==46){
+sc=q4(rc+4);
+tc=q4(rc+8);
+uc=q4(rc+12);
+if(tc<uc){
+vc=cb*36;
+wc=rp(d)+vc;
+*wc=3;
+wc[1]=0;
+x2(wc+2,3);
+z32(wc+4);
+xc=rp(d)+(i64)vc;
+xc[36]=1;
+z3(xc+37);
+x4(xc+40,tc);
+x4(xc+44,uc);
+z24(xc+48);
+yc=rp(d)+(i64)vc;
+yc[72]=3;
+yc[73]=0;
+x2(yc+74,22);
+z32(yc+76);
+zc=cb+3;}
+else zc=cb;
+Ac=rp(d)+zc*36;
+x4(Ac,0);
+x4(Ac+4,sc);
+x4(Ac+8,7);
+x4(Ac+12,0);
+x4(Ac+16,0);
+x4(Ac+20,0);
+Ac[24]=B;
+z11(Ac+25);
+w8(d+8,zc+1);}
 break;
-case 11:fill_declared_c70(b,d,jb,A,r);
+case 11:fill_declared_c70(b,d,ib,A,r);
 break;
-default:fill_expand_aee(b,d,jb,A,r);
+default:fill_expand_aee(b,d,ib,A,r);
 break;}
 if(h){
-Cc=Ta-1;
-Dc=r4(g);
-Ec=rp(d);
-Fc=r8(d+8);
+Bc=Sa-1;
+Cc=rp(d);
+Dc=r8(d+8);
 if(r8(f+80)>y){
-if(Fc<Cc||(((u32)1<<(z&31))&r4(rp(f+72)+(i64)((u64)y<<4)+12))!=0)goto L15;}
+if(Dc<Bc||(((u32)1<<(z&31))&r4(rp(f+72)+(i64)((u64)y*12)+4))!=0)goto L15;}
 else {
-if(Fc<Cc)goto L15;}
-look_df9(f+72,v,Dc,Ec+(i64)(Cc*36),usub64(Fc,Cc));}
+if(Dc<Bc)goto L15;}
+look_df9(f+72,v,Cc+(i64)(Bc*36),usub64(Dc,Bc));}
 L15:*a=0;
 x4(a+4,0);
 x4(a+8,0);
-goto L6;}
-Sa=3;
+goto L8;}
+Ra=3;
 L13:*a=1;
-x4(a+4,Sa);
+x4(a+4,Ra);
 x4(a+8,0);
-L6:return;
+L8:return;
 }
 
 /* cpp_layout::symbol::Symbol::run_of */
@@ -25073,10 +25073,10 @@ return;
 static void print_run_dec(u8* a,u8* b,u8* c,u8* d,u8* e,u8* f,u8 g)
 {
 A16 u8 h[32],i[12],j[76];
-u64 k,l,o;
-u32 m,p,r,s;
-u8 *n;
-u8 q;
+u64 k,l,n;
+u8 *m;
+u32 o,q,r;
+u8 p;
 z12(i);
 memcpy(h,b,32);
 k=r8(d+8);
@@ -25085,37 +25085,36 @@ open_run_744(i,j,d,f);
 if(*i==0){
 if(g){
 l=k-1;
-m=r4(f);
-n=rp(d);
-o=r8(d+8);
-p=r4(h);
-if(r8(e+80)>p){
-if(o<l||(((u32)1<<(r4(h+4)&31))&r4(rp(e+72)+(i64)((u64)p<<4)+12))!=0){
+m=rp(d);
+n=r8(d+8);
+o=r4(h);
+if(r8(e+80)>o){
+if(n<l||(((u32)1<<(r4(h+4)&31))&r4(rp(e+72)+(i64)((u64)o*12)+4))!=0){
+p=0;
 q=0;
 r=0;
-s=0;
 goto L1;}}
 else{
-if(o<l){
+if(n<l){
+p=0;
 q=0;
 r=0;
-s=0;
 goto L1;}}
-look_df9(e+72,h,m,n+(i64)(l*36),usub64(o,l));
+look_df9(e+72,h,m+(i64)(l*36),usub64(n,l));
+p=0;
 q=0;
-r=0;
-s=0;}
+r=0;}
 else{
+p=0;
 q=0;
-r=0;
-s=0;}}
+r=0;}}
 else{
-q=1;
-r=i[4];
-s=r4(i+8);}
-L1:*a=q;
-x4(a+4,r);
-x4(a+8,s);
+p=1;
+q=i[4];
+r=r4(i+8);}
+L1:*a=p;
+x4(a+4,q);
+x4(a+8,r);
 return;
 }
 
@@ -25232,84 +25231,85 @@ L1:return c;
 }
 
 /* sym_print::sharing::Sharing::look */
-static void look_df9(u8* a,u8* b,u32 c,u8* d,u64 e)
+static void look_df9(u8* a,u8* b,u8* c,u64 d)
 {
-u32 f,q,u,F,G,I;
-u64 g,h,i,j,l,m,n,o,s,v,w,x,y,A,B,C,D,L;
-u8 k,z,J,K;
-u8 *p,*r,*t,*E,*H;
-f=r4(b);
-g=r8(a+8);
-if(g>f)h=g;
+u32 e,p,t,E,G,H,J;
+u64 f,g,h,i,k,l,m,n,r,u,v,w,x,z,A,B,C,L;
+u8 j,y,I,K;
+u8 *o,*q,*s,*D,*F;
+e=r4(b);
+f=r8(a+8);
+if(f>e)g=f;
 else{
-i=(u64)f+1-g;
-j=r8(a+16);
-if(i>j-g){
-k=grow_amortized_74b(a,i);
-l=r8(a+8);
-if(!k){
-h=l;
+h=(u64)e+1-f;
+i=r8(a+16);
+if(h>i-f){
+j=grow_amortized_74b(a,h);
+k=r8(a+8);
+if(!j){
+g=k;
 goto L1;}
-m=r8(a+16);
-n=l;}
+l=r8(a+16);
+m=k;}
 else{
-m=j;
-n=g;}
-o=n+i;
-p=rp(a);
-if(n<o)memset(p+(i64)(n<<4),0,i<<4);
-wp(a,p);
-w8(a+8,o);
-w8(a+16,m);
-h=o;}
-L1:q=r4(b);
-if(h>q){
-r=rp(a)+(i64)((u64)q<<4);
-w4(r+12,((u32)1<<(r4(b+4)&31))|r4(r+12));}
-if(e!=0){
-s=0;
-L2:t=d+(i64)(s*36);
-if(*t==0){
-u=r4(t+4);
-v=r8(a+8);
-if(v>u)w=v;
+l=i;
+m=f;}
+n=m+h;
+o=rp(a);
+if(m<n)memset(o+(i64)(m*12),0,h*12);
+wp(a,o);
+w8(a+8,n);
+w8(a+16,l);
+g=n;}
+L1:p=r4(b);
+if(g>p){
+q=rp(a)+(i64)((u64)p*12);
+w4(q+4,((u32)1<<(r4(b+4)&31))|r4(q+4));}
+if(d!=0){
+r=0;
+L2:s=c+(i64)(r*36);
+if(*s==0){
+t=r4(s+4);
+u=r8(a+8);
+if(u>t)v=u;
 else{
-x=(u64)u+1-v;
-y=r8(a+16);
-if(x>y-v){
-z=grow_amortized_74b(a,x);
-A=r8(a+8);
-if(!z){
-w=A;
+w=(u64)t+1-u;
+x=r8(a+16);
+if(w>x-u){
+y=grow_amortized_74b(a,w);
+z=r8(a+8);
+if(!y){
+v=z;
 goto L3;}
-B=r8(a+16);
-C=A;}
+A=r8(a+16);
+B=z;}
 else{
-B=y;
-C=v;}
-D=C+x;
-E=rp(a);
-if(C<D)memset(E+(i64)(C<<4),0,x<<4);
-wp(a,E);
-w8(a+8,D);
-w8(a+16,B);
-w=D;}
-L3:F=r4(t+4);
-if(w>F){
-G=r4(b);
-if(F!=G){
-H=rp(a)+(i64)((u64)F<<4);
-I=q4(H+4);
-J=H[8]&1||(I!=0&&(q4(H)!=G||I==c));
-K=H[9]&1;
-x4(H,G);
-x4(H+4,c);
-H[8]=J;
-H[9]=K;
-x2(H+10,0);}}}
-L=s+1;
-if(L!=e){
-s=L;
+A=x;
+B=u;}
+C=B+w;
+D=rp(a);
+if(B<C)memset(D+(i64)(B*12),0,w*12);
+wp(a,D);
+w8(a+8,C);
+w8(a+16,A);
+v=C;}
+L3:E=r4(s+4);
+if(v>E){
+F=rp(a)+(i64)((u64)E*12);
+G=r4(s+8);
+if(E==r4(b)){
+if(G==r4(b+4))goto L4;}
+H=q4(F);
+I=F[8];
+J=G&31;
+K=F[9]&1;
+x4(F,H|((u32)1<<J));
+F[8]=(((I&1)?I:(u8)(H>>J))&1)?(u8)(K^1):0;
+F[9]=K;
+x2(F+10,0);}}
+L4:L=r+1;
+if(L!=d){
+r=L;
 goto L2;}}
 return;
 }
@@ -25327,15 +25327,15 @@ e=r8(a+16);
 f=umax64(c+b,4);
 g=umax64(f,e<<1);
 h=e<0x4000000000000000u?g:f;
-if(h<0x800000000000000u){
+if(h<0xaaaaaaaaaaaaaabu){
 if(e==0){
-i=port_rattle_alloc(g<<4,4);
+i=port_rattle_alloc(g*12,4);
 if(!(u8)(i.f0&1)){
 d=0;
 goto L1;}
 j=i;}
 else{
-k=port_rattle_realloc(rp(a),c<<4,h<<4,4);
+k=port_rattle_realloc(rp(a),c*12,h*12,4);
 if(!(u8)(k.f0&1)){
 d=0;
 goto L1;}
@@ -36150,601 +36150,617 @@ return;
 /* sym_print::entries::print_entries */
 static void print_entries_c61(u8* a,u8* b,u8* c,u8* d,u8* e,u8* f,u8 g)
 {
-A16 u8 h[32],i[12],j[32];
-u64 k,p,r,s,u,w,A,B,C,G,H,I,J,K,N,Q,R,S,T,V,W,X,Y,aa,da,ea,ha,ja,na,pa,ra,ta,wa,ya,za,Ba,Ca,Da,Fa,Ha,Ma,Na,Oa,Pa,Ua,Va,Xa,bb,db,fb,hb,ib,jb,kb,mb,nb,ob,qb,rb,sb,wb,xb,yb,Bb,Cb,Eb,Fb,Hb,Ib,Jb,Kb,Mb;
-u8 l,L,ga,ia,oa,sa,Aa,Ja,La,cb,gb,lb,pb;
-u32 m,n,y,z,D,E,F,O,U,Z,ba,ca,fa,la,ma,va,Ia,Ka,Ta,Wa,Za,eb;
-u8 *o,*q,*t,*v,*x,*M,*P,*ka,*qa,*ua,*xa,*Ea,*Ga,*Ya,*ab,*tb,*ub,*vb,*zb,*Ab,*Db,*Gb,*Lb;
-s_64_64 Qa,Ra,Sa;
+A16 u8 h[32],i[20],j[12],k[32];
+u64 l,q,s,t,v,x,B,C,D,H,I,J,K,L,O,R,S,T,U,W,X,Y,Z,ba,ea,fa,ja,la,pa,ra,ta,va,ya,Aa,Ba,Da,Ea,Fa,Ha,Ja,Sa,Ta,Ua,Va,ab,bb,db,hb,jb,lb,nb,ob,pb,qb,sb,tb,ub,wb,xb,yb,Cb,Db,Eb,Hb,Ib,Kb,Lb,Nb,Ob,Pb,Qb,Sb;
+u8 m,M,ia,ka,qa,ua,Ca,Pa,Ra,ib,mb,rb,vb;
+u32 n,o,z,A,E,F,G,P,V,aa,ca,da,ha,na,oa,xa,Ka,La,Ma,Oa,Qa,Za,cb,fb,kb;
+u8 *p,*r,*u,*w,*y,*N,*Q,*ga,*ma,*sa,*wa,*za,*Ga,*Ia,*Na,*eb,*gb,*zb,*Ab,*Bb,*Fb,*Gb,*Jb,*Mb,*Rb;
+s_64_64 Wa,Xa,Ya;
 if(r8(e+8)!=0)w8(e+8,0);
 if(r8(e+32)!=0)w8(e+32,0);
 if(r8(e+56)!=0)w8(e+56,0);
 if(r8(e+80)!=0)w8(e+80,0);
-k=r8(c+8);
-if(k==0){
-l=0;
+l=r8(c+8);
+if(l==0){
 m=0;
-n=0;}
+n=0;
+o=0;}
 else{
-o=rp(c);
-p=k*40;
-q=o+(i64)p;
-r=p;
-s=k;
-t=o;
-L1:u=r8(e+32);
-if(u!=0){
-v=rp(e+24);
-if(r8(v+(i64)(u*56)-24)==s){
-w=u-1;
-w8(e+32,w);
-x=v+w*56;
-y=q4(x);
-z=q4(x+4);
-A=q8(x+8);
-B=q8(x+16);
-C=q8(x+24);
-D=q4(x+40);
-E=r8(d+8);
-F=r4(f)-q4(x+44);
-G=r8(f+8)-q8(x+48);
+p=rp(c);
+q=l*40;
+r=p+(i64)q;
+s=q;
+t=l;
+u=p;
+L1:v=r8(e+32);
+if(v!=0){
+w=rp(e+24);
+if(r8(w+(i64)(v*56)-24)==t){
+x=v-1;
+w8(e+32,x);
+y=w+x*56;
+z=q4(y);
+A=q4(y+4);
+B=q8(y+8);
+C=q8(y+16);
+D=q8(y+24);
+E=q4(y+40);
+F=r8(d+8);
+G=r4(f)-q4(y+44);
+H=r8(f+8)-q8(y+48);
 if(!g){
-va=y&63;
-wa=r8(e+8);
-if(wa>va){
-xa=rp(e)+(i64)((u64)va*56);
-x4(xa,y);
-x4(xa+4,z);
-x8(xa+8,A);
-x8(xa+16,B);
-x8(xa+24,C);
-x4(xa+32,D);
-x4(xa+36,E);
-x4(xa+40,F);
-x4(xa+44,0);
-x8(xa+48,G);
+xa=z&63;
+ya=r8(e+8);
+if(ya>xa){
+za=rp(e)+(i64)((u64)xa*56);
+x4(za,z);
+x4(za+4,A);
+x8(za+8,B);
+x8(za+16,C);
+x8(za+24,D);
+x4(za+32,E);
+x4(za+36,F);
+x4(za+40,G);
+x4(za+44,0);
+x8(za+48,H);
 goto L2;}
-ya=(u64)va+1-wa;
-za=r8(e+16);
-if(ya>za-wa){
-Aa=grow_amortized_670(e,ya);
-if(!Aa)goto L2;
+Aa=(u64)xa+1-ya;
 Ba=r8(e+16);
-Ca=r8(e+8);}
+if(Aa>Ba-ya){
+Ca=grow_amortized_670(e,Aa);
+if(!Ca)goto L2;
+Da=r8(e+16);
+Ea=r8(e+8);}
 else{
-Ba=za;
-Ca=wa;}
-Da=Ca+ya;
-Ea=rp(e);
-if(Ca>=Da)goto L3;
-Fa=Ca;
-L4:Ga=Ea+Fa*56;
-x4(Ga,y);
-x4(Ga+4,z);
-x8(Ga+8,A);
-x8(Ga+16,B);
-x8(Ga+24,C);
-x4(Ga+32,D);
-x4(Ga+36,E);
-x4(Ga+40,F);
-x4(Ga+44,0);
-x8(Ga+48,G);
-Ha=Fa+1;
-if(Ha!=Da){
-Fa=Ha;
+Da=Ba;
+Ea=ya;}
+Fa=Ea+Aa;
+Ga=rp(e);
+if(Ea>=Fa)goto L3;
+Ha=Ea;
+L4:Ia=Ga+Ha*56;
+x4(Ia,z);
+x4(Ia+4,A);
+x8(Ia+8,B);
+x8(Ia+16,C);
+x8(Ia+24,D);
+x4(Ia+32,E);
+x4(Ia+36,F);
+x4(Ia+40,G);
+x4(Ia+44,0);
+x8(Ia+48,H);
+Ja=Ha+1;
+if(Ja!=Fa){
+Ha=Ja;
 goto L4;}
-L3:wp(e,Ea);
-w8(e+8,Da);
-w8(e+16,Ba);
+L3:wp(e,Ga);
+w8(e+8,Fa);
+w8(e+16,Da);
 goto L2;}
-if(F<12)goto L2;
-H=((((u64)y<<5)|(z&31))+(B<<29))*0x9e3779b97f4a7c15u;
-I=r8(e+56);
-if(I==0){
-J=0;
+if(G<12)goto L2;
+I=((((u64)z<<5)|(A&31))+(C<<29))*0x9e3779b97f4a7c15u;
+J=r8(e+56);
+if(J==0){
 K=0;
-L=0;}
+L=0;
+M=0;}
 else{
-M=rp(e+48);
-if(r8(M)==H){
-J=0;
+N=rp(e+48);
+if(r8(N)==I){
 K=0;
-L=0;}
+L=0;
+M=0;}
 else{
-N=H>>63;
-O=r4(M+(i64)(u64)((i64)H>-1?8:12));
-if(I>O){
-P=M+(i64)((u64)O<<4);
-if(r8(P)==H){
-Q=0;
-R=N;
-S=O;}
+O=I>>63;
+P=r4(N+(i64)(u64)((i64)I>-1?8:12));
+if(J>P){
+Q=N+(i64)((u64)P<<4);
+if(r8(Q)==I){
+R=0;
+S=O;
+T=P;}
 else{
-T=fshl64(H,H,2);
-U=r4(P+(i64)(u64)((T&1)==0?8:12));
-if(I>U){
-V=(u64)U<<4;
-if(r8(M+(i64)V)==H){
-Q=O;
-R=T;
+U=fshl64(I,I,2);
+V=r4(Q+(i64)(u64)((U&1)==0?8:12));
+if(J>V){
+W=(u64)V<<4;
+if(r8(N+(i64)W)==I){
+R=P;
 S=U;
+T=V;
 goto L5;}
-W=V;
-X=T;
+X=W;
 Y=U;
-Z=2;
-L6:aa=fshl64(X,X,1);
-ba=r4(M+(i64)W+(i64)(u64)((aa&1)==0?8:12));
-ca=Z+1;
-if((ca!=64)&(I>ba)){
-da=(u64)ba<<4;
-if(r8(M+(i64)da)!=H){
-W=da;
-X=aa;
+Z=V;
+aa=2;
+L6:ba=fshl64(Y,Y,1);
+ca=r4(N+(i64)X+(i64)(u64)((ba&1)==0?8:12));
+da=aa+1;
+if((da!=64)&(J>ca)){
+ea=(u64)ca<<4;
+if(r8(N+(i64)ea)!=I){
+X=ea;
 Y=ba;
 Z=ca;
+aa=da;
 goto L6;}
-Q=Y;
-R=aa;
-S=ba;}
+R=Z;
+S=ba;
+T=ca;}
 else{
-Q=Y;
-R=aa;
-S=ba;}}
+R=Z;
+S=ba;
+T=ca;}}
 else{
-Q=O;
-R=T;
-S=U;}}}
+R=P;
+S=U;
+T=V;}}}
 else{
-Q=0;
-R=N;
-S=O;}
-L5:J=S;
-K=Q;
-L=R&1;}}
-ea=r8(e+8);
-if(ea>=0x100000000u)goto L2;
-if(J<ea){
-if(r8(e+80)<=y)goto L2;
-*(rp(e+72)+(i64)((u64)y<<4)+9)=1;
+R=0;
+S=O;
+T=P;}
+L5:K=T;
+L=R;
+M=S&1;}}
+fa=r8(e+8);
+if(fa>=0x100000000u)goto L2;
+if(K<fa){
+if(r8(e+80)<=z)goto L2;
+ga=rp(e+72)+(i64)((u64)z*12);
+ga[9]=1;
+ga[8]=0;
 goto L2;}
-fa=umin64(ea,0x100000000u);
-if(r8(e+16)==ea){
-ga=grow_amortized_670(e,1);
-if(!ga)goto L2;
-ha=r8(e+56);}
-else ha=I;
-if(r8(e+64)==ha){
-ia=grow_amortized_fd5(e+48);
+ha=umin64(fa,0x100000000u);
+if(r8(e+16)==fa){
+ia=grow_amortized_670(e,1);
 if(!ia)goto L2;
 ja=r8(e+56);}
-else ja=ha;
-if(ja>K){
-ka=rp(e+48)+(i64)(K<<4);
-if(L){
-la=r4(ka+8);
-ma=fa;}
+else ja=J;
+if(r8(e+64)==ja){
+ka=grow_amortized_fd5(e+48);
+if(!ka)goto L2;
+la=r8(e+56);}
+else la=ja;
+if(la>L){
+ma=rp(e+48)+(i64)(L<<4);
+if(M){
+na=r4(ma+8);
+oa=ha;}
 else{
-la=fa;
-ma=r4(ka+12);}
-x4(ka+8,la);
-x4(ka+12,ma);
-na=r8(e+56);}
-else na=ja;
-if(r8(e+64)==na){
-oa=grow_amortized_fd5(e+48);
-if(!oa)goto L7;
+na=ha;
+oa=r4(ma+12);}
+x4(ma+8,na);
+x4(ma+12,oa);
 pa=r8(e+56);}
-else pa=na;
-qa=rp(e+48)+(pa<<4);
-x8(qa,H);
-x4(qa+8,4294967295u);
-x4(qa+12,4294967295u);
-w8(e+56,pa+1);
-L7:ra=r8(e+8);
-if(r8(e+16)==ra){
-sa=grow_amortized_670(e,1);
-if(!sa)goto L2;
-ta=r8(e+8);}
-else ta=ra;
-ua=rp(e)+ta*56;
-x4(ua,y);
-x4(ua+4,z);
-x8(ua+8,A);
-x8(ua+16,B);
-x8(ua+24,C);
-x4(ua+32,D);
-x4(ua+36,E);
-x4(ua+40,F);
-x4(ua+44,0);
-x8(ua+48,G);
-w8(e+8,ta+1);
+else pa=la;
+if(r8(e+64)==pa){
+qa=grow_amortized_fd5(e+48);
+if(!qa)goto L7;
+ra=r8(e+56);}
+else ra=pa;
+sa=rp(e+48)+(ra<<4);
+x8(sa,I);
+x4(sa+8,4294967295u);
+x4(sa+12,4294967295u);
+w8(e+56,ra+1);
+L7:ta=r8(e+8);
+if(r8(e+16)==ta){
+ua=grow_amortized_670(e,1);
+if(!ua)goto L2;
+va=r8(e+8);}
+else va=ta;
+wa=rp(e)+va*56;
+x4(wa,z);
+x4(wa+4,A);
+x8(wa+8,B);
+x8(wa+16,C);
+x8(wa+24,D);
+x4(wa+32,E);
+x4(wa+36,F);
+x4(wa+40,G);
+x4(wa+44,0);
+x8(wa+48,H);
+w8(e+8,va+1);
 goto L2;}}
-switch(q[-40]){
-case 0:z12(i);
+switch(r[-40]){
+case 0:Ka=q4(r-32);
+La=q4(r-28);
+Ma=q4(r-24);
+z12(j);
 if(g){
-memcpy(j,q-32,32);
-print_special_item_e40(i,b,j,c,d,e,f);
-if(*i==0)goto L2;
-Ia=r4(i+8);
-Ja=i[4];}
+if(r8(e+80)>Ka){
+Na=rp(e+72)+(i64)((u64)Ka*12);
+if(!(Na[8]&1&&Ma==0)){
+if((r4(Na+4)&((u32)1<<(La&31)))!=0)goto L8;}}
+w4(k,Ka);
+w4(k+4,La);
+w4(k+8,Ma);
+memcpy(k+12,r-20,20);
+print_special_item_e40(j,b,k,c,d,e,f);
+if(*j==0)goto L2;
+Oa=r4(j+8);
+Pa=j[4];
+goto L9;}
+L8:memcpy(i,r-20,20);
+Qa=r4(f);
+if(r4(f+4)!=Qa){
+Sa=r8(c+16);
+if(Sa-t<8){
+Ta=umax64(t,8);
+if(Ta>(t^18446744073709551615u)){
+Ra=4;
+goto L10;}
+Ua=Ta+t;
+if(Ua>=0x333333333333334u){
+Ra=4;
+goto L10;}
+Va=Ua*40;
+if(Sa==0){
+Wa=port_rattle_alloc(Va,8);
+if(!(u8)(Wa.f0&1)){
+Ra=4;
+goto L10;}
+Xa=Wa;}
 else{
-memcpy(h,q-32,32);
-Ka=r4(f);
-if(r4(f+4)!=Ka){
-Ma=r8(c+16);
-if(Ma-s<8){
-Na=umax64(s,8);
-if(Na>(s^18446744073709551615u)){
-La=4;
-goto L8;}
-Oa=Na+s;
-if(Oa>=0x333333333333334u){
-La=4;
-goto L8;}
-Pa=Oa*40;
-if(Ma==0){
-Qa=port_rattle_alloc(Pa,8);
-if(!(u8)(Qa.f0&1)){
-La=4;
-goto L8;}
-Ra=Qa;}
-else{
-Sa=port_rattle_realloc(t,r,Pa,8);
-if(!(u8)(Sa.f0&1)){
-La=4;
-goto L8;}
-Ra=Sa;}
-wp(c,(u8*)Ra.f1);
-w8(c+16,Oa);
-Ta=r4(f);}
-else Ta=Ka;
-Ua=r8(f+8)+1;
-w4(f,Ta+1);
-w8(f+8,Ua);
-Va=r8(c+8);
-if(Va!=0)w8(c+8,Va-1);
+Ya=port_rattle_realloc(u,s,Va,8);
+if(!(u8)(Ya.f0&1)){
+Ra=4;
+goto L10;}
+Xa=Ya;}
+wp(c,(u8*)Xa.f1);
+w8(c+16,Ua);
+Za=r4(f);}
+else Za=Qa;
+ab=r8(f+8)+1;
+w4(f,Za+1);
+w8(f+8,ab);
+bb=r8(c+8);
+if(bb!=0)w8(c+8,bb-1);
+w4(h,Ka);
+w4(h+4,La);
+w4(h+8,Ma);
+memcpy(h+12,i,20);
 add_parts_d8c(b,c,h);
 goto L2;}
-La=3;
-L8:Ia=0;
-Ja=La;}
-l=1;
-m=Ja;
-n=Ia;
-goto L9;
-case 1:Wa=q4(q-36);
-Xa=(u64)q4(q-32)-Wa;
-Ya=rp(b)+(i64)Wa;
+Ra=3;
+L10:Oa=0;
+Pa=Ra;
+L9:m=1;
+n=Pa;
+o=Oa;
+goto L11;
+case 1:cb=q4(r-36);
+db=(u64)q4(r-32)-cb;
+eb=rp(b)+(i64)cb;
 break;
-case 2:Za=q4(q-36);
-Xa=(u64)q4(q-32)-Za;
-Ya=rp(b+48)+(i64)Za;
+case 2:fb=q4(r-36);
+db=(u64)q4(r-32)-fb;
+eb=rp(b+48)+(i64)fb;
 break;
-case 3:switch(r2(q-38)){
-case 0:Xa=2;
-Ya=(u8*)t_7154;
+case 3:switch(r2(r-38)){
+case 0:db=2;
+eb=(u8*)t_7154;
 break;
-case 1:Xa=1;
-Ya=(u8*)t_dabd;
+case 1:db=1;
+eb=(u8*)t_dabd;
 break;
-case 2:Xa=1;
-Ya=(u8*)t_62b6;
+case 2:db=1;
+eb=(u8*)t_62b6;
 break;
-case 3:Xa=4;
-Ya=(u8*)t_fa21;
+case 3:db=4;
+eb=(u8*)t_fa21;
 break;
-case 4:Xa=3;
-Ya=(u8*)t_6ee9;
+case 4:db=3;
+eb=(u8*)t_6ee9;
 break;
-case 5:Xa=7;
-Ya=(u8*)t_6d4c;
+case 5:db=7;
+eb=(u8*)t_6d4c;
 break;
-case 6:Xa=4;
-Ya=(u8*)t_04e6;
+case 6:db=4;
+eb=(u8*)t_04e6;
 break;
-case 7:Xa=1;
-Ya=(u8*)t_e7ac;
+case 7:db=1;
+eb=(u8*)t_e7ac;
 break;
-case 8:Xa=1;
-Ya=(u8*)t_3343;
+case 8:db=1;
+eb=(u8*)t_3343;
 break;
-case 9:Xa=1;
-Ya=(u8*)t_d10b;
+case 9:db=1;
+eb=(u8*)t_d10b;
 break;
-case 10:Xa=3;
-Ya=(u8*)t_c207;
+case 10:db=3;
+eb=(u8*)t_c207;
 break;
-case 11:Xa=2;
-Ya=(u8*)t_0a07;
+case 11:db=2;
+eb=(u8*)t_0a07;
 break;
-case 12:Xa=1;
-Ya=(u8*)t_2458;
+case 12:db=1;
+eb=(u8*)t_2458;
 break;
-case 13:Xa=2;
-Ya=(u8*)t_0a2d;
+case 13:db=2;
+eb=(u8*)t_0a2d;
 break;
-case 14:Xa=1;
-Ya=(u8*)t_cfae;
+case 14:db=1;
+eb=(u8*)t_cfae;
 break;
-case 15:Xa=1;
-Ya=(u8*)t_32eb;
+case 15:db=1;
+eb=(u8*)t_32eb;
 break;
-case 16:Xa=1;
-Ya=(u8*)t_ba5e;
+case 16:db=1;
+eb=(u8*)t_ba5e;
 break;
-case 17:Xa=2;
-Ya=(u8*)t_b4da;
+case 17:db=2;
+eb=(u8*)t_b4da;
 break;
-case 18:Xa=1;
-Ya=(u8*)t_951d;
+case 18:db=1;
+eb=(u8*)t_951d;
 break;
-case 19:Xa=5;
-Ya=(u8*)t_d821;
+case 19:db=5;
+eb=(u8*)t_d821;
 break;
-case 20:Xa=1;
-Ya=(u8*)t_36a9;
+case 20:db=1;
+eb=(u8*)t_36a9;
 break;
-case 21:Xa=5;
-Ya=(u8*)t_6daf;
+case 21:db=5;
+eb=(u8*)t_6daf;
 break;
-case 22:Xa=7;
-Ya=(u8*)t_ff67;
+case 22:db=7;
+eb=(u8*)t_ff67;
 break;
-case 23:Xa=5;
-Ya=(u8*)t_b2e2;
+case 23:db=5;
+eb=(u8*)t_b2e2;
 break;
-case 24:Xa=4;
-Ya=(u8*)t_e4e8;
+case 24:db=4;
+eb=(u8*)t_e4e8;
 break;
-case 25:Xa=2;
-Ya=(u8*)t_ec4f;
+case 25:db=2;
+eb=(u8*)t_ec4f;
 break;
-case 26:Xa=3;
-Ya=(u8*)t_fdfa;
+case 26:db=3;
+eb=(u8*)t_fdfa;
 break;
-case 27:Xa=10;
-Ya=(u8*)t_8edc;
+case 27:db=10;
+eb=(u8*)t_8edc;
 break;
-case 28:Xa=8;
-Ya=(u8*)t_06b0;
+case 28:db=8;
+eb=(u8*)t_06b0;
 break;
-case 29:Xa=15;
-Ya=(u8*)t_9290;
+case 29:db=15;
+eb=(u8*)t_9290;
 break;
-case 30:Xa=1;
-Ya=(u8*)t_6b23;
+case 30:db=1;
+eb=(u8*)t_6b23;
 break;
-case 31:Xa=5;
-Ya=(u8*)t_faca;
+case 31:db=5;
+eb=(u8*)t_faca;
 break;
-case 32:Xa=4;
-Ya=(u8*)t_a404;
+case 32:db=4;
+eb=(u8*)t_a404;
 break;
-case 33:Xa=4;
-Ya=(u8*)t_f616;
+case 33:db=4;
+eb=(u8*)t_f616;
 break;
-case 34:Xa=3;
-Ya=(u8*)t_4620;
+case 34:db=3;
+eb=(u8*)t_4620;
 break;
-case 35:Xa=3;
-Ya=(u8*)t_7bac;
+case 35:db=3;
+eb=(u8*)t_7bac;
 break;
-case 36:Xa=4;
-Ya=(u8*)t_b5be;
+case 36:db=4;
+eb=(u8*)t_b5be;
 break;
-case 37:Xa=5;
-Ya=(u8*)t_fcbc;
+case 37:db=5;
+eb=(u8*)t_fcbc;
 break;
-case 38:case 112:Xa=1;
-Ya=(u8*)t_d2e2;
+case 38:case 112:db=1;
+eb=(u8*)t_d2e2;
 break;
-case 39:Xa=2;
-Ya=(u8*)t_4f5a;
+case 39:db=2;
+eb=(u8*)t_4f5a;
 break;
-case 97:Xa=2;
-Ya=(u8*)t_4c1d;
+case 97:db=2;
+eb=(u8*)t_4c1d;
 break;
-case 98:Xa=4;
-Ya=(u8*)t_b760;
+case 98:db=4;
+eb=(u8*)t_b760;
 break;
-case 99:Xa=4;
-Ya=(u8*)t_411b;
+case 99:db=4;
+eb=(u8*)t_411b;
 break;
-case 100:Xa=3;
-Ya=(u8*)t_6a3e;
+case 100:db=3;
+eb=(u8*)t_6a3e;
 break;
-case 101:Xa=3;
-Ya=(u8*)t_8c25;
+case 101:db=3;
+eb=(u8*)t_8c25;
 break;
-case 102:Xa=3;
-Ya=(u8*)t_16b5;
+case 102:db=3;
+eb=(u8*)t_16b5;
 break;
-case 104:Xa=2;
-Ya=(u8*)t_c899;
+case 104:db=2;
+eb=(u8*)t_c899;
 break;
-case 105:Xa=5;
-Ya=(u8*)t_db3b;
+case 105:db=5;
+eb=(u8*)t_db3b;
 break;
-case 106:Xa=5;
-Ya=(u8*)t_f417;
+case 106:db=5;
+eb=(u8*)t_f417;
 break;
-case 108:Xa=3;
-Ya=(u8*)t_579a;
+case 108:db=3;
+eb=(u8*)t_579a;
 break;
-case 109:Xa=3;
-Ya=(u8*)t_d764;
+case 109:db=3;
+eb=(u8*)t_d764;
 break;
-case 110:Xa=4;
-Ya=(u8*)t_9cf5;
+case 110:db=4;
+eb=(u8*)t_9cf5;
 break;
-case 111:Xa=4;
-Ya=(u8*)t_fcd0;
+case 111:db=4;
+eb=(u8*)t_fcd0;
 break;
-case 115:Xa=3;
-Ya=(u8*)t_7daa;
+case 115:db=3;
+eb=(u8*)t_7daa;
 break;
-case 116:Xa=3;
-Ya=(u8*)t_2988;
+case 116:db=3;
+eb=(u8*)t_2988;
 break;
-case 117:Xa=2;
-Ya=(u8*)t_2e38;
+case 117:db=2;
+eb=(u8*)t_2e38;
 break;
-case 118:Xa=3;
-Ya=(u8*)t_ab5d;
+case 118:db=3;
+eb=(u8*)t_ab5d;
 break;
-case 120:Xa=3;
-Ya=(u8*)t_1a91;
+case 120:db=3;
+eb=(u8*)t_1a91;
 break;
-case 121:Xa=3;
-Ya=(u8*)t_1506;
+case 121:db=3;
+eb=(u8*)t_1506;
 break;
-case 122:Xa=1;
-Ya=(u8*)t_bb72;
+case 122:db=1;
+eb=(u8*)t_bb72;
 break;
-default:ab=(u8*)t_z0;
-goto L10;
+default:gb=(u8*)t_z0;
+goto L12;
 }
 break;
-case 4:Xa=q[-15];
-Ya=q-39;
+case 4:db=r[-15];
+eb=r-39;
 break;
 default:NEVER;
 }
-if(Xa>r4(f+4)-r4(f)){
-l=1;
-m=3;
-n=0;
-goto L9;}
-switch(Xa){
-case 0:ab=Ya;
+if(db>r4(f+4)-r4(f)){
+m=1;
+n=3;
+o=0;
+goto L11;}
+switch(db){
+case 0:gb=eb;
 break;
-case 1:bb=r8(d+8);
-if(r8(d+16)==bb){
-cb=grow_amortized_2b6(d,1);
-if(!cb){
-l=1;
-m=4;
-n=0;
-goto L9;}
-db=r8(d+8);}
-else db=bb;
-*(rp(d)+db)=*Ya;
-w8(d+8,db+1);
-eb=1;
-goto L11;
-default:fb=r8(d+8);
-if(Xa<3){
-if(r8(d+16)-fb<2){
-gb=grow_amortized_2b6(d,2);
-if(!gb){
-l=1;
-m=4;
-n=0;
-goto L9;}
-hb=r8(d+8);}
-else hb=fb;
-*(rp(d)+hb)=*Ya;
-ib=hb+1;
-w8(d+8,ib);
-*(rp(d)+ib)=Ya[1];
-w8(d+8,hb+2);
-eb=2;
+case 1:hb=r8(d+8);
+if(r8(d+16)==hb){
+ib=grow_amortized_2b6(d,1);
+if(!ib){
+m=1;
+n=4;
+o=0;
 goto L11;}
-jb=r8(d+16);
-kb=jb-fb;
-if(Xa==3){
-if(kb<3){
-lb=grow_amortized_2b6(d,3);
-if(!lb){
-l=1;
-m=4;
-n=0;
-goto L9;}
-mb=r8(d+8);}
-else mb=fb;
-*(rp(d)+mb)=*Ya;
-nb=mb+1;
-w8(d+8,nb);
-*(rp(d)+nb)=Ya[1];
-ob=mb+2;
-w8(d+8,ob);
-*(rp(d)+ob)=Ya[2];
-w8(d+8,mb+3);
-eb=3;
-goto L11;}
-if(Xa>kb){
-pb=grow_amortized_2b6(d,Xa);
-if(!pb){
-l=1;
-m=4;
-n=0;
-goto L9;}
-qb=r8(d+16);
-rb=r8(d+8);}
-else{
-qb=jb;
-rb=fb;}
-sb=rb+Xa;
-tb=rp(d);
-z16(d+8);
-ub=tb+(i64)rb;
-if((u64)ub-(u64)Ya<Xa){
-copy_bits_4f4(Ya,ub,Xa);
-vb=tb;
-wb=sb;
-xb=qb;
-yb=Xa;
-goto L12;}
-zb=ub;
-Ab=tb;
-Bb=sb;
-Cb=qb;
-Db=Ya;
-Eb=Xa;
+jb=r8(d+8);}
+else jb=hb;
+*(rp(d)+jb)=*eb;
+w8(d+8,jb+1);
+kb=1;
 goto L13;
-}
-L10:Fb=r8(d+8);
-Gb=rp(d);
-Hb=r8(d+16);
+default:lb=r8(d+8);
+if(db<3){
+if(r8(d+16)-lb<2){
+mb=grow_amortized_2b6(d,2);
+if(!mb){
+m=1;
+n=4;
+o=0;
+goto L11;}
+nb=r8(d+8);}
+else nb=lb;
+*(rp(d)+nb)=*eb;
+ob=nb+1;
+w8(d+8,ob);
+*(rp(d)+ob)=eb[1];
+w8(d+8,nb+2);
+kb=2;
+goto L13;}
+pb=r8(d+16);
+qb=pb-lb;
+if(db==3){
+if(qb<3){
+rb=grow_amortized_2b6(d,3);
+if(!rb){
+m=1;
+n=4;
+o=0;
+goto L11;}
+sb=r8(d+8);}
+else sb=lb;
+*(rp(d)+sb)=*eb;
+tb=sb+1;
+w8(d+8,tb);
+*(rp(d)+tb)=eb[1];
+ub=sb+2;
+w8(d+8,ub);
+*(rp(d)+ub)=eb[2];
+w8(d+8,sb+3);
+kb=3;
+goto L13;}
+if(db>qb){
+vb=grow_amortized_2b6(d,db);
+if(!vb){
+m=1;
+n=4;
+o=0;
+goto L11;}
+wb=r8(d+16);
+xb=r8(d+8);}
+else{
+wb=pb;
+xb=lb;}
+yb=xb+db;
+zb=rp(d);
 z16(d+8);
-zb=Gb+(i64)Fb;
-Ab=Gb;
-Bb=Fb;
+Ab=zb+(i64)xb;
+if((u64)Ab-(u64)eb<db){
+copy_bits_4f4(eb,Ab,db);
+Bb=zb;
+Cb=yb;
+Db=wb;
+Eb=db;
+goto L14;}
+Fb=Ab;
+Gb=zb;
+Hb=yb;
+Ib=wb;
+Jb=eb;
+Kb=db;
+goto L15;
+}
+L12:Lb=r8(d+8);
+Mb=rp(d);
+Nb=r8(d+16);
+z16(d+8);
+Fb=Mb+(i64)Lb;
+Gb=Mb;
+Hb=Lb;
+Ib=Nb;
+Jb=gb;
+Kb=0;
+L15:memmove(Fb,Jb,Kb);
+Bb=Gb;
 Cb=Hb;
-Db=ab;
-Eb=0;
-L13:memmove(zb,Db,Eb);
-vb=Ab;
-wb=Bb;
-xb=Cb;
-yb=Eb;
-L12:wp(d,vb);
-w8(d+8,wb);
-w8(d+16,xb);
-eb=yb;
-L11:Ib=r8(f+8)+1;
-w4(f,r4(f)+eb);
-w8(f+8,Ib);
-Jb=r8(c+8)-1;
-w8(c+8,Jb);
-Kb=Jb;
-goto L14;
-L2:Kb=r8(c+8);
-L14:Lb=rp(c);
-Mb=Kb*40;
-if(Kb!=0){
-q=Lb+(i64)Mb;
-r=Mb;
-s=Kb;
-t=Lb;
+Db=Ib;
+Eb=Kb;
+L14:wp(d,Bb);
+w8(d+8,Cb);
+w8(d+16,Db);
+kb=Eb;
+L13:Ob=r8(f+8)+1;
+w4(f,r4(f)+kb);
+w8(f+8,Ob);
+Pb=r8(c+8)-1;
+w8(c+8,Pb);
+Qb=Pb;
+goto L16;
+L2:Qb=r8(c+8);
+L16:Rb=rp(c);
+Sb=Qb*40;
+if(Qb!=0){
+r=Rb+(i64)Sb;
+s=Sb;
+t=Qb;
+u=Rb;
 goto L1;}
-l=0;
 m=0;
-n=0;}
-L9:*a=l;
-x4(a+4,m);
-x4(a+8,n);
+n=0;
+o=0;}
+L11:*a=m;
+x4(a+4,n);
+x4(a+8,o);
 return;
 }
 
@@ -36753,11 +36769,11 @@ static void print_special_item_e40(u8* a,u8* b,u8* c,u8* d,u8* e,u8* f,u8* g)
 {
 u8 h[7],j[7];
 A16 u8 i[32];
-u32 k,l,m,n,v,A,B,E,F,W,X,da,la,pa,Ja,Ua,Wa;
-u64 o,r,t,u,w,y,z,G,H,I,J,L,M,N,O,T,U,V,Y,Z,ba,ea,fa,ga,ha,ma,na,oa,ra,sa,ta,ua,va,wa,xa,ya,Aa,Ba,Ca,Da,Ha,Ka,La,Ma,Na,Pa,Qa,Ra,Sa,Za;
-u8 p,D,K,aa,za,Oa,Xa,Ya;
-u8 *q,*s,*x,*C,*P,*Q,*R,*S,*ca,*qa,*Ea,*Fa,*Ga,*Ia,*Ta,*Va;
-s_64_64 ia,ja,ka;
+u32 k,l,m,n,u,z,A,D,E,V,W,ca,ka,Ha,Sa,Ta,Va,Xa;
+u64 o,q,s,t,v,x,y,F,G,H,I,K,L,M,N,S,T,U,X,Y,aa,da,ea,fa,ga,la,ma,na,pa,qa,ra,sa,ta,ua,va,wa,ya,za,Aa,Ba,Fa,Ia,Ja,Ka,La,Na,Oa,Pa,Qa,Za;
+u8 p,C,J,Z,xa,Ma,Wa,Ya;
+u8 *r,*w,*B,*O,*P,*Q,*R,*ba,*oa,*Ca,*Da,*Ea,*Ga,*Ra,*Ua;
+s_64_64 ha,ia,ja;
 k=q4(c);
 l=q4(c+4);
 m=q4(c+8);
@@ -36767,150 +36783,148 @@ p=c[24];
 memcpy(j,c+25,7);
 if(m==0){
 if(r8(f+80)>k){
-q=rp(f+72)+(i64)((u64)k<<4);
-if(q[8]&1){
-if(!(q[9]&1)){
-r=((((u64)k<<5)|(l&31))+(o<<29))*0x9e3779b97f4a7c15u;
-s=rp(f+48);
-t=r8(f+56);
-u=r;
+if(*(rp(f+72)+(i64)((u64)k*12)+8)&1){
+q=((((u64)k<<5)|(l&31))+(o<<29))*0x9e3779b97f4a7c15u;
+r=rp(f+48);
+s=r8(f+56);
+t=q;
+u=0;
 v=0;
-w=0;
-L1:if(w<t){
-x=s+(i64)(w<<4);
-if(r8(x)==r)y=w;
+L1:if(v<s){
+w=r+(i64)(v<<4);
+if(r8(w)==q)x=v;
 else{
-z=fshl64(u,u,1);
-A=r4(x+(i64)(u64)((z&1)==0?8:12));
-B=v+1;
-if(B!=64){
-u=z;
-v=B;
-w=A;
+y=fshl64(t,t,1);
+z=r4(w+(i64)(u64)((y&1)==0?8:12));
+A=u+1;
+if(A!=64){
+t=y;
+u=A;
+v=z;
 goto L1;}
-y=A;}}
-else y=w;
-if(y<r8(f+8)){
-C=rp(f)+(i64)(y*56);
-if(r4(C)==k){
-if(r4(C+4)==l){
-if(r4(C+8)==0){
-if(r8(C+16)==o){
-if(C[24]==p){
-if(r4(C+40)>r4(g+4)-r4(g)){
-D=1;
-E=3;
+x=z;}}
+else x=v;
+if(x<r8(f+8)){
+B=rp(f)+(i64)(x*56);
+if(r4(B)==k){
+if(r4(B+4)==l){
+if(r4(B+8)==0){
+if(r8(B+16)==o){
+if(B[24]==p){
+if(r4(B+40)>r4(g+4)-r4(g)){
+C=1;
+D=3;
 goto L2;}
-F=r4(C+32);
-G=r8(e+8);
-H=(u64)r4(C+36)-F;
-I=H+G;
-if(I>G){
-J=r8(e+16);
-if(H>J-G){
-K=grow_amortized_2b6(e,H);
-if(!K){
-D=1;
-E=4;
+E=r4(B+32);
+F=r8(e+8);
+G=(u64)r4(B+36)-E;
+H=G+F;
+if(H>F){
+I=r8(e+16);
+if(G>I-F){
+J=grow_amortized_2b6(e,G);
+if(!J){
+C=1;
+D=4;
 goto L2;}
-L=r8(e+8);
-M=L+H;
-N=r8(e+16);
-O=L;}
+K=r8(e+8);
+L=K+G;
+M=r8(e+16);
+N=K;}
 else{
+L=H;
 M=I;
-N=J;
-O=G;}
-P=rp(e);
-if(O<M)memset(P+(i64)O,0,H);
-wp(e,P);
-w8(e+8,M);
-w8(e+16,N);}
+N=F;}
+O=rp(e);
+if(N<L)memset(O+(i64)N,0,G);
+wp(e,O);
+w8(e+8,L);
+w8(e+16,M);}
 else {
-if(G>I)w8(e+8,I);}
-Q=rp(e);
-R=Q+(i64)G;
-S=Q+(i64)F;
-if(G-F<H)copy_bits_4f4(S,R,H);
-else memmove(R,S,H);
-T=r8(g+8)+r8(C+48);
-w4(g,r4(g)+r4(C+40));
-w8(g+8,T);
-U=r8(d+8);
-if(U==0){
+if(F>H)w8(e+8,H);}
+P=rp(e);
+Q=P+(i64)F;
+R=P+(i64)E;
+if(F-E<G)copy_bits_4f4(R,Q,G);
+else memmove(Q,R,G);
+S=r8(g+8)+r8(B+48);
+w4(g,r4(g)+r4(B+40));
+w8(g+8,S);
+T=r8(d+8);
+if(T==0){
+C=0;
 D=0;
-E=0;
 goto L2;}
-w8(d+8,U-1);
+w8(d+8,T-1);
+C=0;
 D=0;
-E=0;
 goto L2;}}}}}}
-V=r8(d+8)-1;
-W=r8(e+8);
-X=r4(g);
-Y=r8(g+8);
+U=r8(d+8)-1;
+V=r8(e+8);
+W=r4(g);
+X=r8(g+8);
 memcpy(h,c+25,7);
-Z=r8(f+32);
-if(r8(f+40)==Z){
-aa=grow_amortized_ab4(f+24);
-if(!aa)goto L3;
-ba=r8(f+32);}
-else ba=Z;
-ca=rp(f+24)+ba*56;
-x4(ca,k);
-x4(ca+4,l);
-x4(ca+8,0);
-x4(ca+12,n);
-x8(ca+16,o);
-ca[24]=p;
-memcpy(ca+25,h,7);
-x8(ca+32,V);
-x4(ca+40,W);
-x4(ca+44,X);
-x8(ca+48,Y);
-w8(f+32,ba+1);
-L3:;}}}}
-da=r4(g);
-if(r4(g+4)==da){
-D=1;
-E=3;}
+Y=r8(f+32);
+if(r8(f+40)==Y){
+Z=grow_amortized_ab4(f+24);
+if(!Z)goto L3;
+aa=r8(f+32);}
+else aa=Y;
+ba=rp(f+24)+aa*56;
+x4(ba,k);
+x4(ba+4,l);
+x4(ba+8,0);
+x4(ba+12,n);
+x8(ba+16,o);
+ba[24]=p;
+memcpy(ba+25,h,7);
+x8(ba+32,U);
+x4(ba+40,V);
+x4(ba+44,W);
+x8(ba+48,X);
+w8(f+32,aa+1);
+L3:;}}}
+ca=r4(g);
+if(r4(g+4)==ca){
+C=1;
+D=3;}
 else{
-ea=r8(d+8);
-fa=r8(d+16);
-if(fa-ea<8){
-ga=umax64(ea,8);
-if(ga>(ea^18446744073709551615u)){
-D=1;
-E=4;
+da=r8(d+8);
+ea=r8(d+16);
+if(ea-da<8){
+fa=umax64(da,8);
+if(fa>(da^18446744073709551615u)){
+C=1;
+D=4;
 goto L2;}
-ha=ga+ea;
-if(ha>=0x333333333333334u){
-D=1;
-E=4;
+ga=fa+da;
+if(ga>=0x333333333333334u){
+C=1;
+D=4;
 goto L2;}
-if(fa==0){
-ia=port_rattle_alloc(ha*40,8);
-if(!(u8)(ia.f0&1)){
-D=1;
-E=4;
+if(ea==0){
+ha=port_rattle_alloc(ga*40,8);
+if(!(u8)(ha.f0&1)){
+C=1;
+D=4;
 goto L2;}
-ja=ia;}
+ia=ha;}
 else{
-ka=port_rattle_realloc(rp(d),ea*40,ha*40,8);
-if(!(u8)(ka.f0&1)){
-D=1;
-E=4;
+ja=port_rattle_realloc(rp(d),da*40,ga*40,8);
+if(!(u8)(ja.f0&1)){
+C=1;
+D=4;
 goto L2;}
-ja=ka;}
-wp(d,(u8*)ja.f1);
-w8(d+16,ha);
-la=r4(g);}
-else la=da;
-ma=r8(g+8)+1;
-w4(g,la+1);
-w8(g+8,ma);
-na=r8(d+8);
-if(na!=0)w8(d+8,na-1);
+ia=ja;}
+wp(d,(u8*)ia.f1);
+w8(d+16,ga);
+ka=r4(g);}
+else ka=ca;
+la=r8(g+8)+1;
+w4(g,ka+1);
+w8(g+8,la);
+ma=r8(d+8);
+if(ma!=0)w8(d+8,ma-1);
 w4(i,k);
 w4(i+4,l);
 w4(i+8,m);
@@ -36919,101 +36933,102 @@ w8(i+16,o);
 i[24]=p;
 memcpy(i+25,j,7);
 add_parts_d8c(b,d,i);
-oa=ea-1;
-pa=r4(g);
-qa=rp(d);
-ra=r8(d+8);
-sa=r8(f+80);
-ta=(u64)k<<4;
-if(sa>k){
-if(ra<oa||(r4(rp(f+72)+(i64)ta+12)&((u32)1<<(l&31)))!=0){
+na=da-1;
+oa=rp(d);
+pa=r8(d+8);
+qa=r8(f+80);
+ra=(u64)k*12;
+if(qa>k){
+if(pa<na||(r4(rp(f+72)+(i64)ra+4)&((u32)1<<(l&31)))!=0){
+C=0;
 D=0;
-E=0;
 goto L2;}
-ua=usub64(ra,oa);
-va=sa;}
+sa=usub64(pa,na);
+ta=qa;}
 else{
-if(ra<oa){
+if(pa<na){
+C=0;
 D=0;
-E=0;
 goto L2;}
-wa=usub64(ra,oa);
-xa=(u64)k+1-sa;
-ya=r8(f+88);
-if(xa>ya-sa){
-za=grow_amortized_74b(f+72,xa);
-Aa=r8(f+80);
-if(!za){
-ua=wa;
-va=Aa;
+ua=usub64(pa,na);
+va=(u64)k+1-qa;
+wa=r8(f+88);
+if(va>wa-qa){
+xa=grow_amortized_74b(f+72,va);
+ya=r8(f+80);
+if(!xa){
+sa=ua;
+ta=ya;
 goto L4;}
-Ba=r8(f+88);
-Ca=Aa;}
+za=r8(f+88);
+Aa=ya;}
 else{
-Ba=ya;
-Ca=sa;}
-Da=Ca+xa;
-Ea=rp(f+72);
-if(Ca<Da)memset(Ea+(i64)(Ca<<4),0,xa<<4);
-wp(f+72,Ea);
-w8(f+80,Da);
-w8(f+88,Ba);
-ua=wa;
-va=Da;}
-L4:Fa=qa+(i64)(oa*40);
-if(va>k){
-Ga=rp(f+72)+(i64)ta;
-w4(Ga+12,r4(Ga+12)|((u32)1<<(l&31)));}
-if(ra>oa){
-Ha=0;
-L5:Ia=Fa+(i64)(Ha*40);
-if(*Ia==0){
-Ja=r4(Ia+8);
-Ka=r8(f+80);
-if(Ka>Ja)La=Ka;
+za=wa;
+Aa=qa;}
+Ba=Aa+va;
+Ca=rp(f+72);
+if(Aa<Ba)memset(Ca+(i64)(Aa*12),0,va*12);
+wp(f+72,Ca);
+w8(f+80,Ba);
+w8(f+88,za);
+sa=ua;
+ta=Ba;}
+L4:Da=oa+(i64)(na*40);
+if(ta>k){
+Ea=rp(f+72)+(i64)ra;
+w4(Ea+4,r4(Ea+4)|((u32)1<<(l&31)));}
+if(pa>na){
+Fa=0;
+L5:Ga=Da+(i64)(Fa*40);
+if(*Ga==0){
+Ha=r4(Ga+8);
+Ia=r8(f+80);
+if(Ia>Ha)Ja=Ia;
 else{
-Ma=(u64)Ja+1-Ka;
-Na=r8(f+88);
-if(Ma>Na-Ka){
-Oa=grow_amortized_74b(f+72,Ma);
-Pa=r8(f+80);
-if(!Oa){
-La=Pa;
+Ka=(u64)Ha+1-Ia;
+La=r8(f+88);
+if(Ka>La-Ia){
+Ma=grow_amortized_74b(f+72,Ka);
+Na=r8(f+80);
+if(!Ma){
+Ja=Na;
 goto L6;}
-Qa=r8(f+88);
-Ra=Pa;}
+Oa=r8(f+88);
+Pa=Na;}
 else{
-Qa=Na;
-Ra=Ka;}
-Sa=Ra+Ma;
-Ta=rp(f+72);
-if(Ra<Sa)memset(Ta+(i64)(Ra<<4),0,Ma<<4);
-wp(f+72,Ta);
-w8(f+80,Sa);
-w8(f+88,Qa);
-La=Sa;}
-L6:Ua=r4(Ia+8);
-if(!(La<=Ua||Ua==k)){
-Va=rp(f+72)+(i64)((u64)Ua<<4);
-Wa=q4(Va+4);
-Xa=Va[8]&1||(Wa!=0&&(q4(Va)!=k||Wa==pa));
-Ya=Va[9]&1;
-x4(Va,k);
-x4(Va+4,pa);
-Va[8]=Xa;
-Va[9]=Ya;
-x2(Va+10,0);}}
-Za=Ha+1;
-if(Za!=ua){
-Ha=Za;
+Oa=La;
+Pa=Ia;}
+Qa=Pa+Ka;
+Ra=rp(f+72);
+if(Pa<Qa)memset(Ra+(i64)(Pa*12),0,Ka*12);
+wp(f+72,Ra);
+w8(f+80,Qa);
+w8(f+88,Oa);
+Ja=Qa;}
+L6:Sa=r4(Ga+8);
+if(Ja>Sa){
+Ta=r4(Ga+12);
+if(!(Sa==k&&Ta==l)){
+Ua=rp(f+72)+(i64)((u64)Sa*12);
+Va=q4(Ua);
+Wa=Ua[8];
+Xa=Ta&31;
+Ya=Ua[9]&1;
+x4(Ua,Va|((u32)1<<Xa));
+Ua[8]=(((Wa&1)?Wa:(u8)(Va>>Xa))&1)?(u8)(Ya^1):0;
+Ua[9]=Ya;
+x2(Ua+10,0);}}}
+Za=Fa+1;
+if(Za!=sa){
+Fa=Za;
 goto L5;}
-D=0;
-E=0;}
+C=0;
+D=0;}
 else{
-D=0;
-E=0;}}
-L2:*a=D;
-x4(a+4,E);
+C=0;
+D=0;}}
+L2:*a=C;
+x4(a+4,D);
 x4(a+8,0);
 return;
 }
@@ -39298,8 +39313,8 @@ return;
 static void drop_1dd(u8* a)
 {
 A16 u8 b[744];
-u8 *c,*d,*f,*h,*j,*l,*n,*p,*r,*t,*v,*x,*z,*B,*D,*F,*H,*J,*L,*N,*Q,*S,*U,*W,*Y,*aa,*ca,*ea;
-u64 e,g,i,k,m,o,q,s,u,w,y,A,C,E,G,I,K,M,O,P,R,T,V,X,Z,ba,da,fa;
+u8 *c,*d,*f,*h,*j,*l,*n,*p,*r,*t,*v,*x,*z,*B,*D,*F,*H,*J,*L,*N;
+u64 e,g,i,k,m,o,q,s,u,w,y,A,C,E,G,I,K,M,O,P;
 c=qp(a);
 d=qp(a+32);
 e=q8(a+48);
@@ -39341,22 +39356,6 @@ N=qp(a+760);
 O=q8(a+776);
 P=q8(a+16);
 memcpy(b,a+800,744);
-Q=qp(a+1544);
-R=q8(a+1560);
-S=qp(a+1584);
-T=q8(a+1600);
-U=qp(a+1624);
-V=q8(a+1640);
-W=qp(a+1736);
-X=q8(a+1752);
-Y=qp(a+1776);
-Z=q8(a+1792);
-aa=qp(a+1824);
-ba=q8(a+1840);
-ca=qp(a+1864);
-da=q8(a+1880);
-ea=qp(a+1888);
-fa=q8(a+1904);
 if(P!=0)port_rattle_dealloc(c);
 if(e!=0)port_rattle_dealloc(d);
 if(g!=0)port_rattle_dealloc(f);
@@ -39378,14 +39377,6 @@ if(K!=0)port_rattle_dealloc(J);
 if(M!=0)port_rattle_dealloc(L);
 if(O!=0)port_rattle_dealloc(N);
 drop_20a(b);
-if(R!=0)port_rattle_dealloc(Q);
-if(T!=0)port_rattle_dealloc(S);
-if(V!=0)port_rattle_dealloc(U);
-if(X!=0)port_rattle_dealloc(W);
-if(Z!=0)port_rattle_dealloc(Y);
-if(ba!=0)port_rattle_dealloc(aa);
-if(da!=0)port_rattle_dealloc(ca);
-if(fa!=0)port_rattle_dealloc(ea);
 return;
 }
 
@@ -41837,2070 +41828,1796 @@ return;
 /* sym_calls::filtering::filter_in */
 static void filter_in_b71(u8* a,u8* b,u32 c,u8* d,u64 e,u8* f,u64 g,u8* h)
 {
-u8 p[7],v[24],w[16],x[32],y[16],z[32],A[80],B[16],C[40],D[16],E[16],F[16],G[16],H[16],I[48],J[32],K[32],L[104],M[40],N[16],O[32],P[24],Q[16],R[32],S[16],T[24],U[16],V[16],W[40],X[16],Y[16],Z[16],aa[16],ba[16],ca[48],da[32],ea[40],fa[32],ga[16],ha[48],ia[40],ja[16],ka[32],la[32],ma[32],na[104],oa[32],pa[40],qa[32],ra[16],sa[48],ta[32],ua[16],va[16],wa[16],Db[7],Vb[7],bc[24],cc[16],dc[32],ec[16],fc[32],gc[80],hc[16],ic[40],jc[16],kc[16],lc[16],mc[16],nc[16],oc[48],pc[32],qc[32],rc[104],sc[40],tc[16],uc[32],vc[24],wc[16],xc[32],yc[16],zc[24],Ac[16],Bc[16],Cc[40],Dc[16],Ec[16],Fc[16],Gc[16],Hc[16],Ic[48],Jc[32],Kc[40],Lc[32],Mc[16],Nc[48],Oc[40],Pc[16],Qc[32],Rc[32],Sc[32],Tc[104],Uc[32],Vc[40],Wc[32],Xc[16],Yc[48],Zc[32],ad[16],bd[16],cd[16],ke[7];
-A16 u8 i[1944],j[1944],k[1944],l[12],m[48],n[48],o[48],q[16],r[80],s[2056],t[24],u[40],xa[24],ya[16],za[32],Aa[16],Ba[32],Ca[80],Da[16],Ea[40],Fa[16],Ga[16],Ha[16],Ia[16],Ja[16],Ka[48],La[32],Ma[32],Na[104],Oa[40],Pa[16],Qa[32],Ra[24],Sa[16],Ta[32],Ua[16],Va[24],Wa[16],Xa[16],Ya[40],Za[16],ab[16],bb[16],cb[16],db[16],eb[48],fb[32],gb[40],hb[32],ib[16],jb[48],kb[40],lb[16],mb[32],nb[32],ob[32],pb[104],qb[32],rb[40],sb[32],tb[16],ub[48],vb[32],wb[16],xb[16],yb[16],zb[12],Ab[48],Bb[48],Cb[48],Eb[16],Fb[80],Gb[1944],Hb[24],Ib[40],Jb[1944],Kb[1944],Lb[1944],Mb[8],Nb[12],Ob[1944],Pb[1944],Qb[1944],Rb[12],Sb[48],Tb[48],Ub[48],Wb[16],Xb[80],Yb[2056],Zb[24],ac[40],dd[24],ed[16],fd[32],gd[16],hd[32],id[80],jd[16],kd[40],ld[16],md[16],nd[16],od[16],pd[16],qd[48],sd[32],td[32],ud[104],vd[40],xd[16],yd[32],zd[24],Ad[16],Bd[32],Cd[16],Dd[24],Ed[16],Fd[16],Gd[40],Hd[16],Id[16],Jd[16],Kd[16],Ld[16],Md[48],Nd[32],Od[40],Pd[32],Qd[16],Rd[48],Sd[40],Td[16],Ud[32],Vd[32],Wd[32],Xd[104],Yd[32],Zd[40],ae[32],be[16],ce[48],de[32],ee[16],fe[16],ge[16],he[48],ie[48],je[48],le[16],me[80],ne[1944],oe[24],pe[40],qe[1944],re[1944],se[1944],te[8],ue[12];
-u64 ve,xe,Ce,De,Ge,He,Je,Ke,Oe,Qe,Re,Te,Ve,We,Ze,df,nf,of,pf,qf,uf,wf,xf,Bf,Ef,Ff,Gf,Hf,If,Jf,Mf,Of,Pf,Rf,Sf,Tf,Wf,Xf,Yf,ag,bg,cg,dg,eg,fg,hg,ig,jg,mg,pg,tg,ug,vg,xg,yg,zg,Cg,Dg,Eg,Fg,Hg,Ig,Kg,Lg,Mg,Pg,Sg,Vg,Wg,Xg,Yg,Zg,ah,ch,dh,fh,gh,jh,kh,mh,nh,rh,th,uh,wh,yh,zh,Ch,Gh,Ph,Qh,Rh,Sh,Wh,Yh,Zh,di,gi,hi,ii,ji,ki,li,oi,qi,ri,ti,ui,vi,yi,zi,Ai,Ci,Di,Ei,Fi,Gi,Hi,Ji,Ki,Li,Oi,Ri,Si,Ti,Ui,Vi,Wi,Yi,Zi,aj,dj,ej,fj,hj,ij,jj,mj,nj,oj,pj,rj,sj,uj,vj,wj,zj,Cj,Fj,Hj,Jj,Kj,Oj,Qj,Sj,Tj,Vj,Wj,Xj,Yj,Zj,ak,dk,fk,hk,ik,kk,lk,nk,ok,rk,sk,uk,vk,zk,Bk,Ck,Ek,Gk,Hk,Kk,Ok,Xk,Yk,Zk,al,el,gl,hl,ll,ol,pl,ql,rl,sl,tl,wl,yl,zl,Bl,Cl,Dl,Gl,Hl,Il,Kl,Ll,Ml,Nl,Ol,Pl,Rl,Sl,Tl,Wl,Zl,am,bm,cm,dm,em,gm,hm,im,lm,mm,nm,pm,qm,rm,um,vm,wm,xm,zm,Am,Cm,Dm,Em,Hm,Km,Nm,Om,Pm,Qm,Rm,Sm,Um,Vm,Xm,Ym,bn,cn,en,fn,jn,ln,mn,on,qn,rn,un,yn,Hn,In,Jn,Kn,On,Qn,Rn,Vn,Yn,Zn,ao,bo,co,eo,ho,jo,ko,mo,no,oo,ro,so,to,vo,wo,xo,yo,zo,Ao,Co,Do,Eo,Ho,Ko,Lo,Mo,No,Oo,Po,Ro,So,To,Wo,Xo,Yo,ap,bp,cp,fp,gp,hp,ip,kp,lp,op,pp,sp,vp,Ap,Dp,Fp,Hp,Ip,Mp,Op,Qp,Rp,Tp,Up,Vp,Wp,Xp,Yp,bq,dq,fq,gq,iq;
-u8 we,ye,ze,Ae,Be,Ee,Le,Pe,Ue,Xe,Ye,af,bf,cf,ff,gf,hf,jf,lf,mf,zf,Af,Lf,Qf,Zf,gg,og,rg,wg,Jg,Og,Qg,Rg,Tg,hh,oh,sh,xh,Ah,Bh,Dh,Eh,Fh,Ih,Jh,Kh,Lh,Nh,Oh,bi,ci,ni,si,Bi,Ii,Qi,Xi,gj,tj,yj,Aj,Bj,Lj,pk,wk,Ak,Fk,Ik,Jk,Lk,Mk,Nk,Qk,Rk,Sk,Tk,Vk,Wk,jl,kl,vl,Al,Jl,Ql,Yl,fm,om,Bm,Gm,Im,Jm,Lm,Zm,gn,kn,pn,sn,tn,vn,wn,xn,An,Bn,Cn,Dn,Fn,Gn,Tn,Un,go,lo,uo,Bo,Jo,Qo,Zo,np,up,yp,zp,Jp;
-u8 *Fe,*Ie,*ef,*rf,*vf,*Nf,*Uf,*Vf,*kg,*ng,*sg,*Ag,*Bg,*Gg,*Ng,*Ug,*ih,*lh,*Hh,*Th,*Xh,*pi,*wi,*xi,*Mi,*Pi,*bj,*cj,*kj,*lj,*qj,*xj,*Dj,*Ej,*Gj,*Ij,*Mj,*Nj,*Pj,*Rj,*Uj,*bk,*ck,*ek,*gk,*qk,*tk,*Pk,*bl,*fl,*xl,*El,*Fl,*Ul,*Xl,*jm,*km,*sm,*tm,*ym,*Fm,*Mm,*an,*dn,*zn,*Ln,*Pn,*io,*po,*qo,*Fo,*Io,*Uo,*Vo,*dp,*ep,*jp,*tp,*Bp,*Cp,*Ep,*Gp,*Kp,*Lp,*Np,*Pp,*Sp,*Zp,*aq,*cq,*eq;
-u128 Me,Ne,Se,Kf,lg,ph,qh,vh,mi,Ni,xk,yk,Dk,ul,Vl,hn,in,nn,fo,Go;
-s_8_8 kf,yf,qg,Mh,ai,Uk,il,En,Sn;
-u16 sf,tf,Df,Uh,Vh,fi,cl,dl,nl,Mn,Nn,Xn;
-v16 Cf,ei,ml,Wn;
-u32 bh,eh,jk,mk,Tm,Wm,hq;
-ve=q8(b);
-we=ve>>16;
-xe=ve>>32;
-ye=xe;
-ze=ve>>48;
-Ae=ve;
-Be=(ve&65280)==0;
-if((u8)(xe&1)){
-z12(ue);
-w4(te,c);
-te[4]=Ae;
-z3(te+5);
-if(Be){
-zero_all(ne+1376,520);
-z24(oe);
-z40(pe);
-zero_all(qe,1944);
-zero_all(re,1944);
-zero_all(se,1944);
-*me=ze;
-z7(me+1);
-wp(me+8,(u8*)65536);
-z64(me+16);
-Ce=(u64)(u8*)65536;
-z40(ne+1784);
-z32(ne+1832);
-z16(ne+1872);
-z48(ne+1896);
-wp(ne,(u8*)65536);
-z24(ne+8);
-wp(ne+32,(u8*)65536);
-z16(ne+40);
-wp(ne+56,(u8*)65536);
-z32(ne+64);
-wp(ne+96,(u8*)65536);
-z16(ne+104);
-wp(ne+120,(u8*)65536);
-z32(ne+128);
-wp(ne+160,(u8*)65536);
-z80(ne+168);
-wp(ne+248,(u8*)65536);
-z16(ne+256);
-wp(ne+272,(u8*)65536);
-z40(ne+280);
-wp(ne+320,(u8*)65536);
-z16(ne+328);
-wp(ne+344,(u8*)65536);
-z16(ne+352);
-wp(ne+368,(u8*)65536);
-z16(ne+376);
-wp(ne+392,(u8*)65536);
-z16(ne+400);
-wp(ne+416,(u8*)65536);
-z16(ne+424);
-wp(ne+440,(u8*)65536);
-z48(ne+448);
-wp(ne+496,(u8*)65536);
-z32(ne+504);
-wp(ne+536,(u8*)65536);
-z32(ne+544);
-wp(ne+576,(u8*)65536);
-z104(ne+584);
-w8(ne+688,Ce);
-z40(ne+696);
-w8(ne+736,Ce);
-z16(ne+744);
-wp(ne+760,(u8*)65536);
-z32(ne+768);
-wp(ne+800,(u8*)65536);
-z24(ne+808);
-wp(ne+832,(u8*)65536);
-z16(ne+840);
-wp(ne+856,(u8*)65536);
-z32(ne+864);
-wp(ne+896,(u8*)65536);
-z16(ne+904);
-wp(ne+920,(u8*)65536);
-z24(ne+928);
-wp(ne+952,(u8*)65536);
-z16(ne+960);
-wp(ne+976,(u8*)65536);
-z16(ne+984);
-wp(ne+1000,(u8*)65536);
-z40(ne+1008);
-wp(ne+1048,(u8*)65536);
-z16(ne+1056);
-wp(ne+1072,(u8*)65536);
-z16(ne+1080);
-wp(ne+1096,(u8*)65536);
-z16(ne+1104);
-wp(ne+1120,(u8*)65536);
-z16(ne+1128);
-wp(ne+1144,(u8*)65536);
-z16(ne+1152);
-wp(ne+1168,(u8*)65536);
-z48(ne+1176);
-wp(ne+1224,(u8*)65536);
-z32(ne+1232);
-wp(ne+1264,(u8*)65536);
-z40(ne+1272);
-wp(ne+1312,(u8*)65536);
-z32(ne+1320);
-wp(ne+1352,(u8*)65536);
-z16(ne+1360);
-wp(ne+1376,(u8*)65536);
-z48(ne+1384);
-w8(ne+1432,Ce);
-z40(ne+1440);
-w8(ne+1480,Ce);
-z16(ne+1488);
-wp(ne+1504,(u8*)65536);
-z32(ne+1512);
-wp(ne+1544,(u8*)65536);
-z32(ne+1552);
-wp(ne+1584,(u8*)65536);
-z32(ne+1592);
-wp(ne+1624,(u8*)65536);
-z104(ne+1632);
-wp(ne+1736,(u8*)65536);
-z32(ne+1744);
-wp(ne+1776,(u8*)65536);
-wp(ne+1824,(u8*)65536);
-wp(ne+1864,(u8*)65536);
-wp(ne+1888,(u8*)65536);
-wp(oe,(u8*)65536);
-z16(oe+8);
-wp(pe,(u8*)65536);
-z16(pe+8);
-w8(pe+24,g);
-w8(pe+32,0);
+u8 p[7],z[7],R[7],aa[7];
+A16 u8 i[1544],j[1544],k[1544],l[12],m[48],n[48],o[48],q[16],r[80],s[1656],t[24],u[40],v[12],w[48],x[48],y[48],A[16],B[80],C[1544],D[24],E[40],F[1544],G[1544],H[1544],I[8],J[12],K[1544],L[1544],M[1544],N[12],O[48],P[48],Q[48],S[16],T[80],U[1656],V[24],W[40],X[48],Y[48],Z[48],ba[16],ca[80],da[1544],ea[24],fa[40],ga[1544],ha[1544],ia[1544],ja[8],ka[12];
+u64 la,na,sa,ta,wa,xa,za,Aa,Ea,Ga,Ha,Ja,La,Ma,Pa,Ta,cb,db,eb,fb,jb,lb,mb,qb,tb,ub,vb,wb,xb,yb,Bb,Db,Eb,Gb,Hb,Ib,Lb,Mb,Nb,Pb,Qb,Rb,Sb,Tb,Ub,Wb,Xb,Yb,bc,ec,ic,jc,kc,mc,nc,oc,rc,sc,tc,uc,wc,xc,zc,Ac,Bc,Ec,Hc,Kc,Lc,Mc,Nc,Oc,Pc,Rc,Sc,Uc,Vc,Yc,Zc,bd,cd,gd,id,jd,ld,nd,od,sd,xd,Gd,Hd,Id,Jd,Nd,Pd,Qd,Ud,Xd,Yd,Zd,ae,be,ce,fe,he,ie,ke,le,me,pe,qe,re,te,ue,ve,we,xe,ye,Ae,Be,Ce,Fe,Ie,Je,Ke,Le,Me,Ne,Pe,Qe,Re,Ue,Ve,We,Ye,Ze,af,df,ef,ff,gf,jf,kf,mf,nf,of,rf,uf,xf,zf,Bf,Cf,Gf,If,Kf,Lf,Nf,Of,Pf,Qf,Rf,Sf,Vf,Xf,Zf,ag,cg,dg,fg,gg,jg,kg,mg,ng,rg,tg,ug,wg,yg,zg,Cg,Gg,Pg,Qg,Rg,Sg,Wg,Yg,Zg,dh,gh,hh,ih,jh,kh,lh,oh,qh,rh,th,uh,vh,yh,zh,Ah,Ch,Dh,Eh,Fh,Gh,Hh,Jh,Kh,Lh,Oh,Rh,Sh,Th,Uh,Vh,Wh,Yh,Zh,ai,di,ei,fi,hi,ii,ji,mi,ni,oi,pi,ri,si,ui,vi,wi,zi,Ci,Fi,Gi,Hi,Ii,Ji,Ki,Mi,Ni,Pi,Qi,Ti,Ui,Wi,Xi,bj,dj,ej,gj,ij,jj,mj,qj,zj,Aj,Bj,Cj,Gj,Ij,Jj,Nj,Qj,Rj,Sj,Tj,Uj,Vj,Yj,ak,bk,dk,ek,fk,ik,jk,kk,mk,nk,ok,pk,qk,rk,tk,uk,vk,yk,Bk,Ck,Dk,Ek,Fk,Gk,Ik,Jk,Kk,Nk,Ok,Pk,Rk,Sk,Tk,Wk,Xk,Yk,Zk,bl,cl,el,fl,gl,jl,ml,pl,rl,tl,ul,yl,Al,Cl,Dl,Fl,Gl,Hl,Il,Jl,Kl,Nl,Pl,Rl,Sl,Ul;
+u8 ma,oa,pa,qa,ra,ua,Ba,Fa,Ka,Na,Oa,Qa,Ra,Sa,Va,Wa,Xa,Ya,ab,bb,ob,pb,Ab,Fb,Ob,Vb,dc,gc,lc,yc,Dc,Fc,Gc,Ic,Wc,dd,hd,md,pd,qd,td,ud,vd,zd,Ad,Bd,Cd,Ed,Fd,Sd,Td,ee,je,se,ze,He,Oe,Xe,lf,qf,sf,tf,Df,hg,og,sg,xg,Ag,Bg,Dg,Eg,Fg,Ig,Jg,Kg,Lg,Ng,Og,bh,ch,nh,sh,Bh,Ih,Qh,Xh,gi,ti,yi,Ai,Bi,Di,Ri,Yi,cj,hj,kj,lj,nj,oj,pj,sj,tj,uj,vj,xj,yj,Lj,Mj,Xj,ck,lk,sk,Ak,Hk,Qk,dl,il,kl,ll,vl;
+u8 *va,*ya,*Ua,*gb,*kb,*Cb,*Jb,*Kb,*Zb,*cc,*hc,*pc,*qc,*vc,*Cc,*Jc,*Xc,*ad,*yd,*Kd,*Od,*ge,*ne,*oe,*De,*Ge,*Se,*Te,*bf,*cf,*hf,*pf,*vf,*wf,*yf,*Af,*Ef,*Ff,*Hf,*Jf,*Mf,*Tf,*Uf,*Wf,*Yf,*ig,*lg,*Hg,*Tg,*Xg,*ph,*wh,*xh,*Mh,*Ph,*bi,*ci,*ki,*li,*qi,*xi,*Ei,*Si,*Vi,*rj,*Dj,*Hj,*Zj,*gk,*hk,*wk,*zk,*Lk,*Mk,*Uk,*Vk,*al,*hl,*nl,*ol,*ql,*sl,*wl,*xl,*zl,*Bl,*El,*Ll,*Ml,*Ol,*Ql;
+u128 Ca,Da,Ia,zb,ac,ed,fd,kd,de,Ee,pg,qg,vg,mh,Nh,Zi,aj,fj,Wj,xk;
+s_8_8 Za,nb,fc,Dd,Rd,Mg,ah,wj,Kj;
+u16 hb,ib,sb,Ld,Md,Wd,Ug,Vg,fh,Ej,Fj,Pj;
+v16 rb,Vd,eh,Oj;
+u32 Qc,Tc,bg,eg,Li,Oi,Tl;
+la=q8(b);
+ma=la>>16;
+na=la>>32;
+oa=na;
+pa=la>>48;
+qa=la;
+ra=(la&65280)==0;
+if((u8)(na&1)){
+z12(ka);
+w4(ja,c);
+ja[4]=qa;
+z3(ja+5);
+if(ra){
+z64(da+1480);
+z24(ea);
+z40(fa);
+zero_all(ga,1544);
+zero_all(ha,1544);
+zero_all(ia,1544);
+*ca=pa;
+z7(ca+1);
+wp(ca+8,(u8*)65536);
+z64(ca+16);
+sa=(u64)(u8*)65536;
+wp(da,(u8*)65536);
+z24(da+8);
+wp(da+32,(u8*)65536);
+z16(da+40);
+wp(da+56,(u8*)65536);
+z32(da+64);
+wp(da+96,(u8*)65536);
+z16(da+104);
+wp(da+120,(u8*)65536);
+z32(da+128);
+wp(da+160,(u8*)65536);
+z80(da+168);
+wp(da+248,(u8*)65536);
+z16(da+256);
+wp(da+272,(u8*)65536);
+z40(da+280);
+wp(da+320,(u8*)65536);
+z16(da+328);
+wp(da+344,(u8*)65536);
+z16(da+352);
+wp(da+368,(u8*)65536);
+z16(da+376);
+wp(da+392,(u8*)65536);
+z16(da+400);
+wp(da+416,(u8*)65536);
+z16(da+424);
+wp(da+440,(u8*)65536);
+z48(da+448);
+wp(da+496,(u8*)65536);
+z32(da+504);
+wp(da+536,(u8*)65536);
+z32(da+544);
+wp(da+576,(u8*)65536);
+z104(da+584);
+w8(da+688,sa);
+z40(da+696);
+w8(da+736,sa);
+z16(da+744);
+wp(da+760,(u8*)65536);
+z32(da+768);
+wp(da+800,(u8*)65536);
+z24(da+808);
+wp(da+832,(u8*)65536);
+z16(da+840);
+wp(da+856,(u8*)65536);
+z32(da+864);
+wp(da+896,(u8*)65536);
+z16(da+904);
+wp(da+920,(u8*)65536);
+z24(da+928);
+wp(da+952,(u8*)65536);
+z16(da+960);
+wp(da+976,(u8*)65536);
+z16(da+984);
+wp(da+1000,(u8*)65536);
+z40(da+1008);
+wp(da+1048,(u8*)65536);
+z16(da+1056);
+wp(da+1072,(u8*)65536);
+z16(da+1080);
+wp(da+1096,(u8*)65536);
+z16(da+1104);
+wp(da+1120,(u8*)65536);
+z16(da+1128);
+wp(da+1144,(u8*)65536);
+z16(da+1152);
+wp(da+1168,(u8*)65536);
+z48(da+1176);
+wp(da+1224,(u8*)65536);
+z32(da+1232);
+wp(da+1264,(u8*)65536);
+z40(da+1272);
+wp(da+1312,(u8*)65536);
+z32(da+1320);
+wp(da+1352,(u8*)65536);
+z16(da+1360);
+wp(da+1376,(u8*)65536);
+z48(da+1384);
+w8(da+1432,sa);
+z40(da+1440);
+w8(da+1480,sa);
+z16(da+1488);
+wp(da+1504,(u8*)65536);
+z32(da+1512);
+wp(ea,(u8*)65536);
+z16(ea+8);
+wp(fa,(u8*)65536);
+z16(fa+8);
+w8(fa+24,g);
+w8(fa+32,0);
 if(e!=0){
-De=0;
-Ee=0;
-L1:Fe=d+(i64)De;
-z16(le);
-first_segment_4a3(le,*me,Fe,e-De,Ee);
-Ge=r8(le);
-if(Ge==0)goto L2;
-He=0;
-L3:Ie=Fe+(i64)He;
-Je=Ge-He;
-z48(ie);
-Ke=r8(me+16);
-Le=Ke==0;
-Me=r16(me+32);
-if(Le&&Me==0){
-if(me[50]&1){
-pass_6c7(ie,me,Ie,Je);
-Ne=r16(ie);
-Oe=r8(ie+16);
-Pe=ie[24];
-Qe=r8(ie+32);
-Re=r8(ie+40);
-memcpy(ke,ie+25,7);
-Se=Ne;
-Te=Oe;
-Ue=Pe;
-Ve=Qe;
-We=Re;
+ta=0;
+ua=0;
+L1:va=d+(i64)ta;
+z16(ba);
+first_segment_4a3(ba,*ca,va,e-ta,ua);
+wa=r8(ba);
+if(wa==0)goto L2;
+xa=0;
+L3:ya=va+(i64)xa;
+za=wa-xa;
+z48(Y);
+Aa=r8(ca+16);
+Ba=Aa==0;
+Ca=r16(ca+32);
+if(Ba&&Ca==0){
+if(ca[50]&1){
+pass_6c7(Y,ca,ya,za);
+Da=r16(Y);
+Ea=r8(Y+16);
+Fa=Y[24];
+Ga=r8(Y+32);
+Ha=r8(Y+40);
+memcpy(aa,Y+25,7);
+Ia=Da;
+Ja=Ea;
+Ka=Fa;
+La=Ga;
+Ma=Ha;
 goto L4;}
-Xe=*me;
-Ye=me[48];
-if(Je==0)Ze=0;
+Na=*ca;
+Oa=ca[48];
+if(za==0)Pa=0;
 else{
-af=me[49];
-bf=Xe+49;
-cf=Xe==2;
-df=0;
-L5:ef=Ie+df;
-if(*ef==95){
-if(df==0){
-switch(Ye){
-case 0:ff=Xe;
+Qa=ca[49];
+Ra=Na+49;
+Sa=Na==2;
+Ta=0;
+L5:Ua=ya+Ta;
+if(*Ua==95){
+if(Ta==0){
+switch(Oa){
+case 0:Va=Na;
 goto L6;
-case 1:if(cf){
-switch(af){
-case 46:case 36:gf=1;
-hf=49;
+case 1:if(Sa){
+switch(Qa){
+case 46:case 36:Wa=1;
+Xa=49;
 goto L7;
 default:break;}}
 break;
-case 2:if(cf){
-switch(af){
-case 46:case 36:gf=1;
-hf=49;
+case 2:if(Sa){
+switch(Qa){
+case 46:case 36:Wa=1;
+Xa=49;
 goto L7;
 default:break;}}
 break;
 default:NEVER;
 }}
 else{
-jf=*((u8*)t_e4d8+ef[-1]);
-if(bf>jf){
-if(jf<=(Xe==0?48:49)){
-lf=0;
-mf=0;
-nf=df;
+Ya=*((u8*)t_e4d8+Ua[-1]);
+if(Ra>Ya){
+if(Ya<=(Na==0?48:49)){
+ab=0;
+bb=0;
+cb=Ta;
 goto L8;}
-kf=place_in_stretch_597(Xe,Ie,df,Ye);
-lf=kf.f1;
-mf=kf.f0;
-nf=df;
+Za=place_in_stretch_597(Na,ya,Ta,Oa);
+ab=Za.f1;
+bb=Za.f0;
+cb=Ta;
 goto L8;}}}
-of=df+1;
-pf=Je-of;
-if(pf<16)qf=0;
+db=Ta+1;
+eb=za-db;
+if(eb<16)fb=0;
 else{
-rf=Ie+(i64)of;
-sf=cttz(v16_eq(v16_at(rf),splat(95)),16);
-if((pf<32)|(sf<16))qf=sf;
+gb=ya+(i64)db;
+hb=cttz(v16_eq(v16_at(gb),splat(95)),16);
+if((eb<32)|(hb<16))fb=hb;
 else{
-tf=cttz(v16_eq(v16_at(rf+16),splat(95)),16);
-if(tf<16)qf=tf|16;
+ib=cttz(v16_eq(v16_at(gb+16),splat(95)),16);
+if(ib<16)fb=ib|16;
 else{
-if(pf<=95){
-qf=32;
+if(eb<=95){
+fb=32;
 goto L9;}
-uf=32;
-L10:vf=rf+(i64)uf;
-if((((v16_eq(v16_at(vf),splat(95))|v16_eq(v16_at(vf+16),splat(95)))|v16_eq(v16_at(vf+32),splat(95)))|v16_eq(v16_at(vf+48),splat(95)))==0){
-wf=uf+64;
-if(pf-wf>63){
-uf=wf;
+jb=32;
+L10:kb=gb+(i64)jb;
+if((((v16_eq(v16_at(kb),splat(95))|v16_eq(v16_at(kb+16),splat(95)))|v16_eq(v16_at(kb+32),splat(95)))|v16_eq(v16_at(kb+48),splat(95)))==0){
+lb=jb+64;
+if(eb-lb>63){
+jb=lb;
 goto L10;}
-qf=wf;}
-else qf=uf;}}}
-L9:xf=qf+of;
-if(xf<Je){
-df=xf;
+fb=lb;}
+else fb=jb;}}}
+L9:mb=fb+db;
+if(mb<za){
+Ta=mb;
 goto L5;}
-Ze=xf;}
-if(*((u8*)t_e4d8+*(Ie+(i64)Ze-1))>(Xe==0?48:49)){
-yf=place_in_stretch_597(Xe,Ie,Ze,Ye);
-zf=yf.f0;
-Af=yf.f1;}
+Pa=mb;}
+if(*((u8*)t_e4d8+*(ya+(i64)Pa-1))>(Na==0?48:49)){
+nb=place_in_stretch_597(Na,ya,Pa,Oa);
+ob=nb.f0;
+pb=nb.f1;}
 else{
-zf=0;
-Af=0;}
-if(Ze==0){
-ff=Xe;
+ob=0;
+pb=0;}
+if(Pa==0){
+Va=Na;
 goto L6;}
-lf=Af;
-mf=zf;
-nf=Ze;
-L8:w2(me+48,(u16)((u32)lf<<8)|mf);
-z7(ke);
-Se=0;
-Te=nf;
-Ue=1;
-Ve=0;
-We=0;
+ab=pb;
+bb=ob;
+cb=Pa;
+L8:w2(ca+48,(u16)((u32)ab<<8)|bb);
+z7(aa);
+Ia=0;
+Ja=cb;
+Ka=1;
+La=0;
+Ma=0;
 goto L4;}
-ff=*me;
-L6:gf=ff==2;
-hf=ff==1?50:49;
-L7:if(hf>*((u8*)t_e4d8+*Ie))goto L11;
-Bf=0;
-L12:if(Je-Bf>15){
-Cf=v16_at(Ie+Bf);
-Df=cttz(v16_ne(Cf,splat(36))&(v16_ne(Cf,splat(46))&(v16_ne(Cf,splat(95))&(v16_ult(v16_add(Cf,splat(198)),splat(246))&v16_ult(v16_add(v16_or(Cf,splat(32)),splat(133)),splat(230))))),16);
-Ef=Bf+Df;
-if(Df>=16){
-Bf=Ef;
+Va=*ca;
+L6:Wa=Va==2;
+Xa=Va==1?50:49;
+L7:if(Xa>*((u8*)t_e4d8+*ya))goto L11;
+qb=0;
+L12:if(za-qb>15){
+rb=v16_at(ya+qb);
+sb=cttz(v16_ne(rb,splat(36))&(v16_ne(rb,splat(46))&(v16_ne(rb,splat(95))&(v16_ult(v16_add(rb,splat(198)),splat(246))&v16_ult(v16_add(v16_or(rb,splat(32)),splat(133)),splat(230))))),16);
+tb=qb+sb;
+if(sb>=16){
+qb=tb;
 goto L12;}
-Ff=Ef;}
-else Ff=Bf;
-if(Ff>=Je){
-Hf=Ff;
+ub=tb;}
+else ub=qb;
+if(ub>=za){
+wb=ub;
 goto L13;}
-Gf=Ff;
-L14:if(hf>*((u8*)t_e4d8+*(Ie+Gf)))Hf=Gf;
+vb=ub;
+L14:if(Xa>*((u8*)t_e4d8+*(ya+vb)))wb=vb;
 else{
-If=Gf+1;
-if(If!=Je){
-Gf=If;
+xb=vb+1;
+if(xb!=za){
+vb=xb;
 goto L14;}
-Hf=Je;}
-L13:if(Hf==0)goto L11;
-Jf=Hf;
-L15:if(Jf==0){
-w16(me+32,Me+Hf);
-Kf=0;
-Lf=0;}
+wb=za;}
+L13:if(wb==0)goto L11;
+yb=wb;
+L15:if(yb==0){
+w16(ca+32,Ca+wb);
+zb=0;
+Ab=0;}
 else{
-Mf=Jf-1;
-if(*(Ie+Mf)==46){
-Jf=Mf;
+Bb=yb-1;
+if(*(ya+Bb)==46){
+yb=Bb;
 goto L15;}
-if(Me+Jf>65536-Ke){
-Nf=rp(me+8);
-Of=r8(oe+16);
-Pf=r8(oe+8);
-if(Ke>Of-Pf){
-Qf=grow_amortized_2b6(oe,Ke);
-if(!Qf)goto L16;
-Rf=r8(oe+16);
-Sf=r8(oe+8);}
+if(Ca+yb>65536-Aa){
+Cb=rp(ca+8);
+Db=r8(ea+16);
+Eb=r8(ea+8);
+if(Aa>Db-Eb){
+Fb=grow_amortized_2b6(ea,Aa);
+if(!Fb)goto L16;
+Gb=r8(ea+16);
+Hb=r8(ea+8);}
 else{
-Rf=Of;
-Sf=Pf;}
-Tf=Sf+Ke;
-Uf=rp(oe);
-z16(oe+8);
-Vf=Uf+(i64)Sf;
-if((u64)Vf-(u64)Nf<Ke){
-copy_bits_4f4(Nf,Vf,Ke);
-w8(oe+8,Tf);
-w8(oe+16,Rf);}
+Gb=Db;
+Hb=Eb;}
+Ib=Hb+Aa;
+Jb=rp(ea);
+z16(ea+8);
+Kb=Jb+(i64)Hb;
+if((u64)Kb-(u64)Cb<Aa){
+copy_bits_4f4(Cb,Kb,Aa);
+w8(ea+8,Ib);
+w8(ea+16,Gb);}
 else{
-memmove(Vf,Nf,Ke);
-w8(oe+8,Tf);
-w8(oe+16,Rf);
-if(Le)goto L17;}
-w8(me+16,0);
-L17:w16(me+32,0);
-me[50]=1;
-Kf=Me;
-Lf=1;}
+memmove(Kb,Cb,Aa);
+w8(ea+8,Ib);
+w8(ea+16,Gb);
+if(Ba)goto L17;}
+w8(ca+16,0);
+L17:w16(ca+32,0);
+ca[50]=1;
+zb=Ca;
+Ab=1;}
 else{
-Wf=Me;
-Xf=Ke+Wf;
-if(Xf>Ke){
-Yf=r8(me+24);
-if(Yf-Ke<Wf){
-Zf=grow_amortized_2b6(me+8,Wf);
-if(!Zf)goto L16;
-ag=r8(me+16);
-bg=ag+Wf;
-cg=r8(me+24);
-dg=ag;}
+Lb=Ca;
+Mb=Aa+Lb;
+if(Mb>Aa){
+Nb=r8(ca+24);
+if(Nb-Aa<Lb){
+Ob=grow_amortized_2b6(ca+8,Lb);
+if(!Ob)goto L16;
+Pb=r8(ca+16);
+Qb=Pb+Lb;
+Rb=r8(ca+24);
+Sb=Pb;}
 else{
-bg=Xf;
-cg=Yf;
-dg=Ke;}
-if(dg<bg)memset(rp(me+8)+(i64)dg,46,Wf);
-w8(me+16,bg);
-w8(me+24,cg);
-eg=bg;}
+Qb=Mb;
+Rb=Nb;
+Sb=Aa;}
+if(Sb<Qb)memset(rp(ca+8)+(i64)Sb,46,Lb);
+w8(ca+16,Qb);
+w8(ca+24,Rb);
+Tb=Qb;}
 else{
-if(Ke>Xf){
-w8(me+16,Xf);
-eg=Xf;}
-else eg=Ke;}
-fg=r8(me+24);
-if(Jf>fg-eg){
-gg=grow_amortized_2b6(me+8,Jf);
-if(!gg)goto L16;
-hg=r8(me+24);
-ig=r8(me+16);}
+if(Aa>Mb){
+w8(ca+16,Mb);
+Tb=Mb;}
+else Tb=Aa;}
+Ub=r8(ca+24);
+if(yb>Ub-Tb){
+Vb=grow_amortized_2b6(ca+8,yb);
+if(!Vb)goto L16;
+Wb=r8(ca+24);
+Xb=r8(ca+16);}
 else{
-hg=fg;
-ig=eg;}
-jg=ig+Jf;
-kg=rp(me+8)+(i64)ig;
-if((u64)kg-(u64)Ie<Jf)copy_bits_4f4(Ie,kg,Jf);
-else memmove(kg,Ie,Jf);
-w8(me+16,jg);
-w8(me+24,hg);
-w16(me+32,Hf-Jf);
-Kf=0;
-Lf=0;}}
-z7(ke);
-Se=Kf;
-Te=Hf;
-Ue=Lf;
-Ve=0;
-We=0;
+Wb=Ub;
+Xb=Tb;}
+Yb=Xb+yb;
+Zb=rp(ca+8)+(i64)Xb;
+if((u64)Zb-(u64)ya<yb)copy_bits_4f4(ya,Zb,yb);
+else memmove(Zb,ya,yb);
+w8(ca+16,Yb);
+w8(ca+24,Wb);
+w16(ca+32,wb-yb);
+zb=0;
+Ab=0;}}
+z7(aa);
+Ia=zb;
+Ja=wb;
+Ka=Ab;
+La=0;
+Ma=0;
 goto L4;
-L11:z48(he);
-if(!gf){
-ng=rp(me+8);
-if(Ke-65537>=0xffffffffffff0001u){
-og=*ng==95;
-if(Ke==2){
-if(!og)goto L18;
-switch(ng[1]){
-case 90:pg=0;
+L11:z48(X);
+if(!Wa){
+cc=rp(ca+8);
+if(Aa-65537>=0xffffffffffff0001u){
+dc=*cc==95;
+if(Aa==2){
+if(!dc)goto L18;
+switch(cc[1]){
+case 90:ec=0;
 goto L19;
 case 82:break;
 default:goto L18;
 }}
 else{
-if(!og)goto L18;
-switch(ng[1]){
-case 90:pg=0;
+if(!dc)goto L18;
+switch(cc[1]){
+case 90:ec=0;
 goto L19;
 case 82:break;
-case 95:switch(ng[2]){
-case 90:pg=0x100000000u;
+case 95:switch(cc[2]){
+case 90:ec=0x100000000u;
 goto L19;
-case 82:pg=0x100000001u;
+case 82:ec=0x100000001u;
 goto L19;
 default:goto L18;
 }
 break;
 default:goto L18;
 }}
-pg=1;
-L19:qg=push_text_0f0(te,ne,ng,Ke,pg,pg>>32,oe);
-if(qg.f0!=0)goto L20;
-rg=qg.f1&1;
-w8(me+56,uadd64(r8(me+56),1));
-sg=me+(u64)(rg?64:72);
-w8(sg,uadd64(r8(sg),1));
-tg=rg?0:Ke;
+ec=1;
+L19:fc=push_text_0f0(ja,da,cc,Aa,ec,ec>>32,ea);
+if(fc.f0!=0)goto L20;
+gc=fc.f1&1;
+w8(ca+56,uadd64(r8(ca+56),1));
+hc=ca+(u64)(gc?64:72);
+w8(hc,uadd64(r8(hc),1));
+ic=gc?0:Aa;
 goto L21;}
-L18:ug=r8(oe+16);
-vg=r8(oe+8);
-if(Ke>ug-vg){
-wg=grow_amortized_2b6(oe,Ke);
-if(!wg)goto L20;
-xg=r8(oe+16);
-yg=r8(oe+8);}
+L18:jc=r8(ea+16);
+kc=r8(ea+8);
+if(Aa>jc-kc){
+lc=grow_amortized_2b6(ea,Aa);
+if(!lc)goto L20;
+mc=r8(ea+16);
+nc=r8(ea+8);}
 else{
-xg=ug;
-yg=vg;}
-zg=yg+Ke;
-Ag=rp(oe);
-z16(oe+8);
-Bg=Ag+(i64)yg;
-if((u64)Bg-(u64)ng<Ke){
-copy_bits_4f4(ng,Bg,Ke);
-w8(oe+8,zg);
-w8(oe+16,xg);
-tg=0;}
+mc=jc;
+nc=kc;}
+oc=nc+Aa;
+pc=rp(ea);
+z16(ea+8);
+qc=pc+(i64)nc;
+if((u64)qc-(u64)cc<Aa){
+copy_bits_4f4(cc,qc,Aa);
+w8(ea+8,oc);
+w8(ea+16,mc);
+ic=0;}
 else{
-memmove(Bg,ng,Ke);
-w8(oe+8,zg);
-w8(oe+16,xg);
-if(Le){
-Cg=0;
+memmove(qc,cc,Aa);
+w8(ea+8,oc);
+w8(ea+16,mc);
+if(Ba){
+rc=0;
 goto L22;}
-tg=0;}
-L21:w8(me+16,0);
-Cg=tg;
-L22:z18(me+32);
-lg=Me;
-mg=Cg;
+ic=0;}
+L21:w8(ca+16,0);
+rc=ic;
+L22:z18(ca+32);
+ac=Ca;
+bc=rc;
 goto L23;}
-end_within_ec4(he,me,te,ne,oe);
-if(*he==0){
-lg=r16(he+16);
-mg=r8(he+32);
+end_within_ec4(X,ca,ja,da,ea);
+if(*X==0){
+ac=r16(X+16);
+bc=r8(X+32);
 goto L23;}
 L20:goto L16;
-L23:z7(ke);
-Se=lg;
-Te=1;
-Ue=1;
-Ve=mg;
-We=0;
+L23:z7(aa);
+Ia=ac;
+Ja=1;
+Ka=1;
+La=bc;
+Ma=0;
 goto L4;
 L16:goto L24;
-L4:w16(je,Se);
-w8(je+16,Te);
-je[24]=Ue;
-memcpy(je+25,ke,7);
-w8(je+32,Ve);
-w8(je+40,We);
-Dg=r8(oe+8);
-Eg=r8(pe+32);
-if(Eg<=(Dg^18446744073709551615u)){
-Fg=Eg+Dg;
-if(Fg<=r8(pe+24)){
-Gg=rp(oe);
-Hg=r8(pe+16);
-Ig=r8(pe+8);
-if(Dg>Hg-Ig){
-Jg=grow_amortized_2b6(pe,Dg);
-if(!Jg)goto L24;
-Kg=r8(pe+16);
-Lg=r8(pe+8);}
+L4:w16(Z,Ia);
+w8(Z+16,Ja);
+Z[24]=Ka;
+memcpy(Z+25,aa,7);
+w8(Z+32,La);
+w8(Z+40,Ma);
+sc=r8(ea+8);
+tc=r8(fa+32);
+if(tc<=(sc^18446744073709551615u)){
+uc=tc+sc;
+if(uc<=r8(fa+24)){
+vc=rp(ea);
+wc=r8(fa+16);
+xc=r8(fa+8);
+if(sc>wc-xc){
+yc=grow_amortized_2b6(fa,sc);
+if(!yc)goto L24;
+zc=r8(fa+16);
+Ac=r8(fa+8);}
 else{
-Kg=Hg;
-Lg=Ig;}
-Mg=Lg+Dg;
-Ng=rp(pe)+(i64)Lg;
-if((u64)Ng-(u64)Gg<Dg)copy_bits_4f4(Gg,Ng,Dg);
-else memmove(Ng,Gg,Dg);
-w8(pe+8,Mg);
-w8(pe+16,Kg);}
-w8(pe+32,Fg);
-if(Dg!=0)w8(oe+8,0);
-Og=add_following_166(pe,je,Ie,Te);
-if(!(Og&1)){
-Pg=Te+He;
-if(Pg>=Ge)goto L2;
-He=Pg;
+zc=wc;
+Ac=xc;}
+Bc=Ac+sc;
+Cc=rp(fa)+(i64)Ac;
+if((u64)Cc-(u64)vc<sc)copy_bits_4f4(vc,Cc,sc);
+else memmove(Cc,vc,sc);
+w8(fa+8,Bc);
+w8(fa+16,zc);}
+w8(fa+32,uc);
+if(sc!=0)w8(ea+8,0);
+Dc=add_following_166(fa,Z,ya,Ja);
+if(!(Dc&1)){
+Ec=Ja+xa;
+if(Ec>=wa)goto L2;
+xa=Ec;
 goto L3;}}
 L24:goto L25;
-L2:Qg=le[9];
-if(le[8]&1){
-Rg=end_segment_98e(te,ne,me,oe,pe);
-if(Rg!=0)goto L25;}
-Sg=Ge+De;
-if(Sg>=e)goto L26;
-De=Sg;
-Ee=Qg;
+L2:Fc=ba[9];
+if(ba[8]&1){
+Gc=end_segment_98e(ja,da,ca,ea,fa);
+if(Gc!=0)goto L25;}
+Hc=wa+ta;
+if(Hc>=e)goto L26;
+ta=Hc;
+ua=Fc;
 goto L1;
-L25:if(r8(pe+16)!=0)port_rattle_dealloc(rp(pe));
-if(r8(oe+16)!=0)port_rattle_dealloc(rp(oe));
-memcpy(qe,ne,1944);
-drop_1dd(qe);
-if(r8(me+24)==0)goto L27;
+L25:if(r8(fa+16)!=0)port_rattle_dealloc(rp(fa));
+if(r8(ea+16)!=0)port_rattle_dealloc(rp(ea));
+memcpy(ga,da,1544);
+drop_1dd(ga);
+if(r8(ca+24)==0)goto L27;
 goto L28;}
-L26:Tg=end_segment_98e(te,ne,me,oe,pe);
-if(!(Tg&1)){
-Ug=rp(pe);
-Vg=r8(pe+8);
-Wg=r8(pe+16);
-Xg=r8(pe+32);
-Yg=r8(me+56);
-Zg=r8(me+64);
-ah=r8(me+72);
-if(r8(oe+16)!=0)port_rattle_dealloc(rp(oe));
-memcpy(se,ne,1944);
-drop_1dd(se);
-if(r8(me+24)!=0)port_rattle_dealloc(rp(me+8));
-if(g<Xg){
-bh=6;
-ch=Xg;}
+L26:Ic=end_segment_98e(ja,da,ca,ea,fa);
+if(!(Ic&1)){
+Jc=rp(fa);
+Kc=r8(fa+8);
+Lc=r8(fa+16);
+Mc=r8(fa+32);
+Nc=r8(ca+56);
+Oc=r8(ca+64);
+Pc=r8(ca+72);
+if(r8(ea+16)!=0)port_rattle_dealloc(rp(ea));
+memcpy(ia,da,1544);
+drop_1dd(ia);
+if(r8(ca+24)!=0)port_rattle_dealloc(rp(ca+8));
+if(g<Mc){
+Qc=6;
+Rc=Mc;}
 else{
-if(g<Vg){
-bh=6;
-ch=Vg;}
+if(g<Kc){
+Qc=6;
+Rc=Kc;}
 else{
-if((u64)f-(u64)Ug<Vg)copy_bits_4f4(Ug,f,Vg);
-else memmove(f,Ug,Vg);
-w8(h,Yg);
-w8(h+8,Zg);
-w8(h+16,ah);
-bh=0;
-ch=Vg;}}
-if(Wg==0){
-dh=ch;
-eh=bh;
+if((u64)f-(u64)Jc<Kc)copy_bits_4f4(Jc,f,Kc);
+else memmove(f,Jc,Kc);
+w8(h,Nc);
+w8(h+8,Oc);
+w8(h+16,Pc);
+Qc=0;
+Rc=Kc;}}
+if(Lc==0){
+Sc=Rc;
+Tc=Qc;
 goto L29;}
-port_rattle_dealloc(Ug);
-dh=ch;
-eh=bh;
+port_rattle_dealloc(Jc);
+Sc=Rc;
+Tc=Qc;
 goto L29;}
-if(r8(pe+16)!=0)port_rattle_dealloc(rp(pe));
-if(r8(oe+16)!=0)port_rattle_dealloc(rp(oe));
-memcpy(re,ne,1944);
-drop_1dd(re);
-if(r8(me+24)==0)goto L27;
-L28:port_rattle_dealloc(rp(me+8));
-L27:dh=0;
-eh=5;}
+if(r8(fa+16)!=0)port_rattle_dealloc(rp(fa));
+if(r8(ea+16)!=0)port_rattle_dealloc(rp(ea));
+memcpy(ha,da,1544);
+drop_1dd(ha);
+if(r8(ca+24)==0)goto L27;
+L28:port_rattle_dealloc(rp(ca+8));
+L27:Sc=0;
+Tc=5;}
 else{
-w8(ue,r8(te));
-ue[8]=we&1;
-ue[9]=ye;
-*Xb=ze;
-z7(Xb+1);
-wp(Xb+8,(u8*)65536);
-z64(Xb+16);
-fh=(u64)(u8*)65536;
-z32(Yd);
-z40(Zd);
-z32(ae);
-z16(be);
-z48(ce);
-z32(de);
-z16(ee);
-z16(fe);
-z16(ge);
-z24(dd);
-z16(ed);
-z32(fd);
-z16(gd);
-z32(hd);
-z80(id);
-z16(jd);
-z40(kd);
-z16(ld);
-z16(md);
-z16(nd);
-z16(od);
-z16(pd);
-z48(qd);
-z32(sd);
-z32(td);
-z104(ud);
-z40(vd);
-z16(xd);
-z32(yd);
-z24(zd);
-z16(Ad);
-z32(Bd);
-z16(Cd);
-z24(Dd);
-z16(Ed);
-z16(Fd);
-z40(Gd);
-z16(Hd);
-z16(Id);
-z16(Jd);
-z16(Kd);
-z16(Ld);
-z48(Md);
-z32(Nd);
-z40(Od);
-z32(Pd);
-z16(Qd);
-z48(Rd);
-z40(Sd);
-z16(Td);
-z32(Ud);
-z32(Vd);
-z32(Wd);
-z104(Xd);
-memcpy(bc,dd,24);
-memcpy(cc,ed,16);
-memcpy(dc,fd,32);
-memcpy(ec,gd,16);
-memcpy(fc,hd,32);
-memcpy(gc,id,80);
-memcpy(hc,jd,16);
-memcpy(ic,kd,40);
-memcpy(jc,ld,16);
-memcpy(kc,md,16);
-memcpy(lc,nd,16);
-memcpy(mc,od,16);
-memcpy(nc,pd,16);
-memcpy(oc,qd,48);
-memcpy(pc,sd,32);
-memcpy(qc,td,32);
-memcpy(rc,ud,104);
-memcpy(sc,vd,40);
-memcpy(tc,xd,16);
-memcpy(uc,yd,32);
-memcpy(vc,zd,24);
-memcpy(wc,Ad,16);
-memcpy(xc,Bd,32);
-memcpy(yc,Cd,16);
-memcpy(zc,Dd,24);
-memcpy(Ac,Ed,16);
-memcpy(Bc,Fd,16);
-memcpy(Cc,Gd,40);
-memcpy(Dc,Hd,16);
-memcpy(Ec,Id,16);
-memcpy(Fc,Jd,16);
-memcpy(Gc,Kd,16);
-memcpy(Hc,Ld,16);
-memcpy(Ic,Md,48);
-memcpy(Jc,Nd,32);
-memcpy(Kc,Od,40);
-memcpy(Lc,Pd,32);
-memcpy(Mc,Qd,16);
-memcpy(Nc,Rd,48);
-memcpy(Oc,Sd,40);
-memcpy(Pc,Td,16);
-memcpy(Qc,Ud,32);
-memcpy(Rc,Vd,32);
-memcpy(Sc,Wd,32);
-memcpy(Tc,Xd,104);
-memcpy(Uc,Yd,32);
-memcpy(Vc,Zd,40);
-memcpy(Wc,ae,32);
-memcpy(Xc,be,16);
-memcpy(Yc,ce,48);
-memcpy(Zc,de,32);
-memcpy(ad,ee,16);
-memcpy(bd,fe,16);
-memcpy(cd,ge,16);
-wp(Yb,(u8*)65536);
-memcpy(Yb+8,bc,24);
-wp(Yb+32,(u8*)65536);
-memcpy(Yb+40,cc,16);
-wp(Yb+56,(u8*)65536);
-memcpy(Yb+64,dc,32);
-wp(Yb+96,(u8*)65536);
-memcpy(Yb+104,ec,16);
-wp(Yb+120,(u8*)65536);
-memcpy(Yb+128,fc,32);
-wp(Yb+160,(u8*)65536);
-memcpy(Yb+168,gc,80);
-wp(Yb+248,(u8*)65536);
-memcpy(Yb+256,hc,16);
-wp(Yb+272,(u8*)65536);
-memcpy(Yb+280,ic,40);
-wp(Yb+320,(u8*)65536);
-memcpy(Yb+328,jc,16);
-wp(Yb+344,(u8*)65536);
-memcpy(Yb+352,kc,16);
-wp(Yb+368,(u8*)65536);
-memcpy(Yb+376,lc,16);
-wp(Yb+392,(u8*)65536);
-memcpy(Yb+400,mc,16);
-wp(Yb+416,(u8*)65536);
-memcpy(Yb+424,nc,16);
-wp(Yb+440,(u8*)65536);
-memcpy(Yb+448,oc,48);
-wp(Yb+496,(u8*)65536);
-memcpy(Yb+504,pc,32);
-wp(Yb+536,(u8*)65536);
-memcpy(Yb+544,qc,32);
-wp(Yb+576,(u8*)65536);
-memcpy(Yb+584,rc,104);
-w8(Yb+688,fh);
-memcpy(Yb+696,sc,40);
-w8(Yb+736,fh);
-memcpy(Yb+744,tc,16);
-wp(Yb+760,(u8*)65536);
-memcpy(Yb+768,uc,32);
-wp(Yb+800,(u8*)65536);
-memcpy(Yb+808,vc,24);
-wp(Yb+832,(u8*)65536);
-memcpy(Yb+840,wc,16);
-wp(Yb+856,(u8*)65536);
-memcpy(Yb+864,xc,32);
-wp(Yb+896,(u8*)65536);
-memcpy(Yb+904,yc,16);
-wp(Yb+920,(u8*)65536);
-memcpy(Yb+928,zc,24);
-wp(Yb+952,(u8*)65536);
-memcpy(Yb+960,Ac,16);
-wp(Yb+976,(u8*)65536);
-memcpy(Yb+984,Bc,16);
-wp(Yb+1000,(u8*)65536);
-memcpy(Yb+1008,Cc,40);
-wp(Yb+1048,(u8*)65536);
-memcpy(Yb+1056,Dc,16);
-wp(Yb+1072,(u8*)65536);
-memcpy(Yb+1080,Ec,16);
-wp(Yb+1096,(u8*)65536);
-memcpy(Yb+1104,Fc,16);
-wp(Yb+1120,(u8*)65536);
-memcpy(Yb+1128,Gc,16);
-wp(Yb+1144,(u8*)65536);
-memcpy(Yb+1152,Hc,16);
-wp(Yb+1168,(u8*)65536);
-memcpy(Yb+1176,Ic,48);
-wp(Yb+1224,(u8*)65536);
-memcpy(Yb+1232,Jc,32);
-wp(Yb+1264,(u8*)65536);
-memcpy(Yb+1272,Kc,40);
-wp(Yb+1312,(u8*)65536);
-memcpy(Yb+1320,Lc,32);
-wp(Yb+1352,(u8*)65536);
-memcpy(Yb+1360,Mc,16);
-wp(Yb+1376,(u8*)65536);
-memcpy(Yb+1384,Nc,48);
-w8(Yb+1432,fh);
-memcpy(Yb+1440,Oc,40);
-w8(Yb+1480,fh);
-memcpy(Yb+1488,Pc,16);
-wp(Yb+1504,(u8*)65536);
-memcpy(Yb+1512,Qc,32);
-wp(Yb+1544,(u8*)65536);
-memcpy(Yb+1552,Rc,32);
-wp(Yb+1584,(u8*)65536);
-memcpy(Yb+1592,Sc,32);
-wp(Yb+1624,(u8*)65536);
-memcpy(Yb+1632,Tc,104);
-wp(Yb+1736,(u8*)65536);
-memcpy(Yb+1744,Uc,32);
-wp(Yb+1776,(u8*)65536);
-memcpy(Yb+1784,Vc,40);
-wp(Yb+1824,(u8*)65536);
-memcpy(Yb+1832,Wc,32);
-wp(Yb+1864,(u8*)65536);
-memcpy(Yb+1872,Xc,16);
-wp(Yb+1888,(u8*)65536);
-memcpy(Yb+1896,Yc,48);
-wp(Yb+1944,(u8*)65536);
-memcpy(Yb+1952,Zc,32);
-wp(Yb+1984,(u8*)65536);
-memcpy(Yb+1992,ad,16);
-wp(Yb+2008,(u8*)65536);
-memcpy(Yb+2016,bd,16);
-wp(Yb+2032,(u8*)65536);
-memcpy(Yb+2040,cd,16);
-wp(Zb,(u8*)65536);
-z16(Zb+8);
-wp(ac,(u8*)65536);
-z16(ac+8);
-w8(ac+24,g);
-w8(ac+32,0);
+w8(ka,r8(ja));
+ka[8]=ma&1;
+ka[9]=oa;
+zero_all(U+1512,144);
+z24(V);
+z40(W);
+*T=pa;
+z7(T+1);
+wp(T+8,(u8*)65536);
+z64(T+16);
+Uc=(u64)(u8*)65536;
+wp(U,(u8*)65536);
+z24(U+8);
+wp(U+32,(u8*)65536);
+z16(U+40);
+wp(U+56,(u8*)65536);
+z32(U+64);
+wp(U+96,(u8*)65536);
+z16(U+104);
+wp(U+120,(u8*)65536);
+z32(U+128);
+wp(U+160,(u8*)65536);
+z80(U+168);
+wp(U+248,(u8*)65536);
+z16(U+256);
+wp(U+272,(u8*)65536);
+z40(U+280);
+wp(U+320,(u8*)65536);
+z16(U+328);
+wp(U+344,(u8*)65536);
+z16(U+352);
+wp(U+368,(u8*)65536);
+z16(U+376);
+wp(U+392,(u8*)65536);
+z16(U+400);
+wp(U+416,(u8*)65536);
+z16(U+424);
+wp(U+440,(u8*)65536);
+z48(U+448);
+wp(U+496,(u8*)65536);
+z32(U+504);
+wp(U+536,(u8*)65536);
+z32(U+544);
+wp(U+576,(u8*)65536);
+z104(U+584);
+w8(U+688,Uc);
+z40(U+696);
+w8(U+736,Uc);
+z16(U+744);
+wp(U+760,(u8*)65536);
+z32(U+768);
+wp(U+800,(u8*)65536);
+z24(U+808);
+wp(U+832,(u8*)65536);
+z16(U+840);
+wp(U+856,(u8*)65536);
+z32(U+864);
+wp(U+896,(u8*)65536);
+z16(U+904);
+wp(U+920,(u8*)65536);
+z24(U+928);
+wp(U+952,(u8*)65536);
+z16(U+960);
+wp(U+976,(u8*)65536);
+z16(U+984);
+wp(U+1000,(u8*)65536);
+z40(U+1008);
+wp(U+1048,(u8*)65536);
+z16(U+1056);
+wp(U+1072,(u8*)65536);
+z16(U+1080);
+wp(U+1096,(u8*)65536);
+z16(U+1104);
+wp(U+1120,(u8*)65536);
+z16(U+1128);
+wp(U+1144,(u8*)65536);
+z16(U+1152);
+wp(U+1168,(u8*)65536);
+z48(U+1176);
+wp(U+1224,(u8*)65536);
+z32(U+1232);
+wp(U+1264,(u8*)65536);
+z40(U+1272);
+wp(U+1312,(u8*)65536);
+z32(U+1320);
+wp(U+1352,(u8*)65536);
+z16(U+1360);
+wp(U+1376,(u8*)65536);
+z48(U+1384);
+w8(U+1432,Uc);
+z40(U+1440);
+w8(U+1480,Uc);
+z16(U+1488);
+wp(U+1504,(u8*)65536);
+z32(U+1512);
+wp(U+1544,(u8*)65536);
+z32(U+1552);
+wp(U+1584,(u8*)65536);
+z16(U+1592);
+wp(U+1608,(u8*)65536);
+z16(U+1616);
+wp(U+1632,(u8*)65536);
+z16(U+1640);
+wp(V,(u8*)65536);
+z16(V+8);
+wp(W,(u8*)65536);
+z16(W+8);
+w8(W+24,g);
+w8(W+32,0);
 if(e!=0){
-gh=0;
-hh=0;
-L30:ih=d+(i64)gh;
-z16(Wb);
-first_segment_4a3(Wb,*Xb,ih,e-gh,hh);
-jh=r8(Wb);
-z32(Ub+16);
-if(jh==0)goto L31;
-kh=0;
-L32:lh=ih+(i64)kh;
-mh=jh-kh;
-z48(Tb);
-nh=r8(Xb+16);
-oh=nh==0;
-ph=r16(Xb+32);
-if(oh&&ph==0){
-if(Xb[50]&1){
-pass_6c7(Tb,Xb,lh,mh);
-qh=r16(Tb);
-rh=r8(Tb+16);
-sh=Tb[24];
-th=r8(Tb+32);
-uh=r8(Tb+40);
-memcpy(Vb,Tb+25,7);
-vh=qh;
-wh=rh;
-xh=sh;
-yh=th;
-zh=uh;
+Vc=0;
+Wc=0;
+L30:Xc=d+(i64)Vc;
+z16(S);
+first_segment_4a3(S,*T,Xc,e-Vc,Wc);
+Yc=r8(S);
+z32(Q+16);
+if(Yc==0)goto L31;
+Zc=0;
+L32:ad=Xc+(i64)Zc;
+bd=Yc-Zc;
+z48(P);
+cd=r8(T+16);
+dd=cd==0;
+ed=r16(T+32);
+if(dd&&ed==0){
+if(T[50]&1){
+pass_6c7(P,T,ad,bd);
+fd=r16(P);
+gd=r8(P+16);
+hd=P[24];
+id=r8(P+32);
+jd=r8(P+40);
+memcpy(R,P+25,7);
+kd=fd;
+ld=gd;
+md=hd;
+nd=id;
+od=jd;
 goto L33;}
-Ah=*Xb;
-Bh=Xb[48];
-if(mh==0)Ch=0;
+pd=*T;
+qd=T[48];
+if(bd==0)sd=0;
 else{
-Dh=Xb[49];
-Eh=Ah+49;
-Fh=Ah==2;
-Gh=0;
-L34:Hh=lh+Gh;
-if(*Hh==95){
-if(Gh==0){
-switch(Bh){
-case 0:Ih=Ah;
+td=T[49];
+ud=pd+49;
+vd=pd==2;
+xd=0;
+L34:yd=ad+xd;
+if(*yd==95){
+if(xd==0){
+switch(qd){
+case 0:zd=pd;
 goto L35;
-case 1:if(Fh){
-switch(Dh){
-case 46:case 36:Jh=1;
-Kh=49;
+case 1:if(vd){
+switch(td){
+case 46:case 36:Ad=1;
+Bd=49;
 goto L36;
 default:break;}}
 break;
-case 2:if(Fh){
-switch(Dh){
-case 46:case 36:Jh=1;
-Kh=49;
+case 2:if(vd){
+switch(td){
+case 46:case 36:Ad=1;
+Bd=49;
 goto L36;
 default:break;}}
 break;
 default:NEVER;
 }}
 else{
-Lh=*((u8*)t_e4d8+Hh[-1]);
-if(Eh>Lh){
-if(Lh<=(Ah==0?48:49)){
-Nh=0;
-Oh=0;
-Ph=Gh;
+Cd=*((u8*)t_e4d8+yd[-1]);
+if(ud>Cd){
+if(Cd<=(pd==0?48:49)){
+Ed=0;
+Fd=0;
+Gd=xd;
 goto L37;}
-Mh=place_in_stretch_597(Ah,lh,Gh,Bh);
-Nh=Mh.f1;
-Oh=Mh.f0;
-Ph=Gh;
+Dd=place_in_stretch_597(pd,ad,xd,qd);
+Ed=Dd.f1;
+Fd=Dd.f0;
+Gd=xd;
 goto L37;}}}
-Qh=Gh+1;
-Rh=mh-Qh;
-if(Rh<16)Sh=0;
+Hd=xd+1;
+Id=bd-Hd;
+if(Id<16)Jd=0;
 else{
-Th=lh+(i64)Qh;
-Uh=cttz(v16_eq(v16_at(Th),splat(95)),16);
-if((Rh<32)|(Uh<16))Sh=Uh;
+Kd=ad+(i64)Hd;
+Ld=cttz(v16_eq(v16_at(Kd),splat(95)),16);
+if((Id<32)|(Ld<16))Jd=Ld;
 else{
-Vh=cttz(v16_eq(v16_at(Th+16),splat(95)),16);
-if(Vh<16)Sh=Vh|16;
+Md=cttz(v16_eq(v16_at(Kd+16),splat(95)),16);
+if(Md<16)Jd=Md|16;
 else{
-if(Rh<=95){
-Sh=32;
+if(Id<=95){
+Jd=32;
 goto L38;}
-Wh=32;
-L39:Xh=Th+(i64)Wh;
-if((((v16_eq(v16_at(Xh),splat(95))|v16_eq(v16_at(Xh+16),splat(95)))|v16_eq(v16_at(Xh+32),splat(95)))|v16_eq(v16_at(Xh+48),splat(95)))==0){
-Yh=Wh+64;
-if(Rh-Yh>63){
-Wh=Yh;
+Nd=32;
+L39:Od=Kd+(i64)Nd;
+if((((v16_eq(v16_at(Od),splat(95))|v16_eq(v16_at(Od+16),splat(95)))|v16_eq(v16_at(Od+32),splat(95)))|v16_eq(v16_at(Od+48),splat(95)))==0){
+Pd=Nd+64;
+if(Id-Pd>63){
+Nd=Pd;
 goto L39;}
-Sh=Yh;}
-else Sh=Wh;}}}
-L38:Zh=Sh+Qh;
-if(Zh<mh){
-Gh=Zh;
+Jd=Pd;}
+else Jd=Nd;}}}
+L38:Qd=Jd+Hd;
+if(Qd<bd){
+xd=Qd;
 goto L34;}
-Ch=Zh;}
-if(*((u8*)t_e4d8+*(lh+(i64)Ch-1))>(Ah==0?48:49)){
-ai=place_in_stretch_597(Ah,lh,Ch,Bh);
-bi=ai.f0;
-ci=ai.f1;}
+sd=Qd;}
+if(*((u8*)t_e4d8+*(ad+(i64)sd-1))>(pd==0?48:49)){
+Rd=place_in_stretch_597(pd,ad,sd,qd);
+Sd=Rd.f0;
+Td=Rd.f1;}
 else{
-bi=0;
-ci=0;}
-if(Ch==0){
-Ih=Ah;
+Sd=0;
+Td=0;}
+if(sd==0){
+zd=pd;
 goto L35;}
-Nh=ci;
-Oh=bi;
-Ph=Ch;
-L37:w2(Xb+48,(u16)((u32)Nh<<8)|Oh);
-z7(Vb);
-vh=0;
-wh=Ph;
-xh=1;
-yh=0;
-zh=0;
+Ed=Td;
+Fd=Sd;
+Gd=sd;
+L37:w2(T+48,(u16)((u32)Ed<<8)|Fd);
+z7(R);
+kd=0;
+ld=Gd;
+md=1;
+nd=0;
+od=0;
 goto L33;}
-Ih=*Xb;
-L35:Jh=Ih==2;
-Kh=Ih==1?50:49;
-L36:if(Kh>*((u8*)t_e4d8+*lh))goto L40;
-di=0;
-L41:if(mh-di>15){
-ei=v16_at(lh+di);
-fi=cttz(v16_ne(ei,splat(36))&(v16_ne(ei,splat(46))&(v16_ne(ei,splat(95))&(v16_ult(v16_add(ei,splat(198)),splat(246))&v16_ult(v16_add(v16_or(ei,splat(32)),splat(133)),splat(230))))),16);
-gi=di+fi;
-if(fi>=16){
-di=gi;
+zd=*T;
+L35:Ad=zd==2;
+Bd=zd==1?50:49;
+L36:if(Bd>*((u8*)t_e4d8+*ad))goto L40;
+Ud=0;
+L41:if(bd-Ud>15){
+Vd=v16_at(ad+Ud);
+Wd=cttz(v16_ne(Vd,splat(36))&(v16_ne(Vd,splat(46))&(v16_ne(Vd,splat(95))&(v16_ult(v16_add(Vd,splat(198)),splat(246))&v16_ult(v16_add(v16_or(Vd,splat(32)),splat(133)),splat(230))))),16);
+Xd=Ud+Wd;
+if(Wd>=16){
+Ud=Xd;
 goto L41;}
-hi=gi;}
-else hi=di;
-if(hi>=mh){
-ji=hi;
+Yd=Xd;}
+else Yd=Ud;
+if(Yd>=bd){
+ae=Yd;
 goto L42;}
-ii=hi;
-L43:if(Kh>*((u8*)t_e4d8+*(lh+ii)))ji=ii;
+Zd=Yd;
+L43:if(Bd>*((u8*)t_e4d8+*(ad+Zd)))ae=Zd;
 else{
-ki=ii+1;
-if(ki!=mh){
-ii=ki;
+be=Zd+1;
+if(be!=bd){
+Zd=be;
 goto L43;}
-ji=mh;}
-L42:if(ji==0)goto L40;
-li=ji;
-L44:if(li==0){
-w16(Xb+32,ph+ji);
-mi=0;
-ni=0;}
+ae=bd;}
+L42:if(ae==0)goto L40;
+ce=ae;
+L44:if(ce==0){
+w16(T+32,ed+ae);
+de=0;
+ee=0;}
 else{
-oi=li-1;
-if(*(lh+oi)==46){
-li=oi;
+fe=ce-1;
+if(*(ad+fe)==46){
+ce=fe;
 goto L44;}
-if(ph+li>65536-nh){
-pi=rp(Xb+8);
-qi=r8(Zb+16);
-ri=r8(Zb+8);
-if(nh>qi-ri){
-si=grow_amortized_2b6(Zb,nh);
-if(!si)goto L45;
-ti=r8(Zb+16);
-ui=r8(Zb+8);}
+if(ed+ce>65536-cd){
+ge=rp(T+8);
+he=r8(V+16);
+ie=r8(V+8);
+if(cd>he-ie){
+je=grow_amortized_2b6(V,cd);
+if(!je)goto L45;
+ke=r8(V+16);
+le=r8(V+8);}
 else{
-ti=qi;
-ui=ri;}
-vi=ui+nh;
-wi=rp(Zb);
-z16(Zb+8);
-xi=wi+(i64)ui;
-if((u64)xi-(u64)pi<nh){
-copy_bits_4f4(pi,xi,nh);
-w8(Zb+8,vi);
-w8(Zb+16,ti);}
+ke=he;
+le=ie;}
+me=le+cd;
+ne=rp(V);
+z16(V+8);
+oe=ne+(i64)le;
+if((u64)oe-(u64)ge<cd){
+copy_bits_4f4(ge,oe,cd);
+w8(V+8,me);
+w8(V+16,ke);}
 else{
-memmove(xi,pi,nh);
-w8(Zb+8,vi);
-w8(Zb+16,ti);
-if(oh)goto L46;}
-w8(Xb+16,0);
-L46:w16(Xb+32,0);
-Xb[50]=1;
-mi=ph;
-ni=1;}
+memmove(oe,ge,cd);
+w8(V+8,me);
+w8(V+16,ke);
+if(dd)goto L46;}
+w8(T+16,0);
+L46:w16(T+32,0);
+T[50]=1;
+de=ed;
+ee=1;}
 else{
-yi=ph;
-zi=nh+yi;
-if(zi>nh){
-Ai=r8(Xb+24);
-if(Ai-nh<yi){
-Bi=grow_amortized_2b6(Xb+8,yi);
-if(!Bi)goto L45;
-Ci=r8(Xb+16);
-Di=Ci+yi;
-Ei=r8(Xb+24);
-Fi=Ci;}
+pe=ed;
+qe=cd+pe;
+if(qe>cd){
+re=r8(T+24);
+if(re-cd<pe){
+se=grow_amortized_2b6(T+8,pe);
+if(!se)goto L45;
+te=r8(T+16);
+ue=te+pe;
+ve=r8(T+24);
+we=te;}
 else{
-Di=zi;
-Ei=Ai;
-Fi=nh;}
-if(Fi<Di)memset(rp(Xb+8)+(i64)Fi,46,yi);
-w8(Xb+16,Di);
-w8(Xb+24,Ei);
-Gi=Di;}
+ue=qe;
+ve=re;
+we=cd;}
+if(we<ue)memset(rp(T+8)+(i64)we,46,pe);
+w8(T+16,ue);
+w8(T+24,ve);
+xe=ue;}
 else{
-if(nh>zi){
-w8(Xb+16,zi);
-Gi=zi;}
-else Gi=nh;}
-Hi=r8(Xb+24);
-if(li>Hi-Gi){
-Ii=grow_amortized_2b6(Xb+8,li);
-if(!Ii)goto L45;
-Ji=r8(Xb+24);
-Ki=r8(Xb+16);}
+if(cd>qe){
+w8(T+16,qe);
+xe=qe;}
+else xe=cd;}
+ye=r8(T+24);
+if(ce>ye-xe){
+ze=grow_amortized_2b6(T+8,ce);
+if(!ze)goto L45;
+Ae=r8(T+24);
+Be=r8(T+16);}
 else{
-Ji=Hi;
-Ki=Gi;}
-Li=Ki+li;
-Mi=rp(Xb+8)+(i64)Ki;
-if((u64)Mi-(u64)lh<li)copy_bits_4f4(lh,Mi,li);
-else memmove(Mi,lh,li);
-w8(Xb+16,Li);
-w8(Xb+24,Ji);
-w16(Xb+32,ji-li);
-mi=0;
-ni=0;}}
-z7(Vb);
-vh=mi;
-wh=ji;
-xh=ni;
-yh=0;
-zh=0;
+Ae=ye;
+Be=xe;}
+Ce=Be+ce;
+De=rp(T+8)+(i64)Be;
+if((u64)De-(u64)ad<ce)copy_bits_4f4(ad,De,ce);
+else memmove(De,ad,ce);
+w8(T+16,Ce);
+w8(T+24,Ae);
+w16(T+32,ae-ce);
+de=0;
+ee=0;}}
+z7(R);
+kd=de;
+ld=ae;
+md=ee;
+nd=0;
+od=0;
 goto L33;
-L40:z48(Sb);
-if(!Jh){
-Pi=rp(Xb+8);
-if(nh-65537>=0xffffffffffff0001u){
-Qi=*Pi==95;
-if(nh==2){
-if(!Qi)goto L47;
-switch(Pi[1]){
-case 90:Ri=0;
+L40:z48(O);
+if(!Ad){
+Ge=rp(T+8);
+if(cd-65537>=0xffffffffffff0001u){
+He=*Ge==95;
+if(cd==2){
+if(!He)goto L47;
+switch(Ge[1]){
+case 90:Ie=0;
 goto L48;
 case 82:break;
 default:goto L47;
 }}
 else{
-if(!Qi)goto L47;
-switch(Pi[1]){
-case 90:Ri=0;
+if(!He)goto L47;
+switch(Ge[1]){
+case 90:Ie=0;
 goto L48;
 case 82:break;
-case 95:switch(Pi[2]){
-case 90:Ri=0x100000000u;
+case 95:switch(Ge[2]){
+case 90:Ie=0x100000000u;
 goto L48;
-case 82:Ri=0x100000001u;
+case 82:Ie=0x100000001u;
 goto L48;
 default:goto L47;
 }
 break;
 default:goto L47;
 }}
-Ri=1;
-L48:Si=Ri>>32;
-z12(Rb);
-append_d61(Rb,ue,Yb,Ri,Pi+(i64)Si,nh-Si,Zb);
-if(*Rb!=0){
-if(Rb[4]!=4){
-Vi=r8(Zb+16);
-Wi=r8(Zb+8);
-if(nh>Vi-Wi){
-Xi=grow_amortized_2b6(Zb,nh);
-if(!Xi)goto L49;
-Yi=r8(Zb+16);
-Zi=r8(Zb+8);}
+Ie=1;
+L48:Je=Ie>>32;
+z12(N);
+append_d61(N,ka,U,Ie,Ge+(i64)Je,cd-Je,V);
+if(*N!=0){
+if(N[4]!=4){
+Me=r8(V+16);
+Ne=r8(V+8);
+if(cd>Me-Ne){
+Oe=grow_amortized_2b6(V,cd);
+if(!Oe)goto L49;
+Pe=r8(V+16);
+Qe=r8(V+8);}
 else{
-Yi=Vi;
-Zi=Wi;}
-aj=Zi+nh;
-bj=rp(Zb)+(i64)Zi;
-if((u64)bj-(u64)Pi<nh)copy_bits_4f4(Pi,bj,nh);
-else memmove(bj,Pi,nh);
-w8(Zb+8,aj);
-w8(Zb+16,Yi);
-Ti=nh;
-Ui=16;
+Pe=Me;
+Qe=Ne;}
+Re=Qe+cd;
+Se=rp(V)+(i64)Qe;
+if((u64)Se-(u64)Ge<cd)copy_bits_4f4(Ge,Se,cd);
+else memmove(Se,Ge,cd);
+w8(V+8,Re);
+w8(V+16,Pe);
+Ke=cd;
+Le=16;
 goto L50;}
 L49:goto L51;}
-Ti=0;
-Ui=8;
-L50:w8(Xb+56,uadd64(r8(Xb+56),1));
-cj=Xb+56+(i64)Ui;
-w8(cj,uadd64(r8(cj),1));
-dj=Ti;
+Ke=0;
+Le=8;
+L50:w8(T+56,uadd64(r8(T+56),1));
+Te=T+56+(i64)Le;
+w8(Te,uadd64(r8(Te),1));
+Ue=Ke;
 goto L52;}
-L47:ej=r8(Zb+16);
-fj=r8(Zb+8);
-if(nh>ej-fj){
-gj=grow_amortized_2b6(Zb,nh);
-if(!gj)goto L51;
-hj=r8(Zb+16);
-ij=r8(Zb+8);}
+L47:Ve=r8(V+16);
+We=r8(V+8);
+if(cd>Ve-We){
+Xe=grow_amortized_2b6(V,cd);
+if(!Xe)goto L51;
+Ye=r8(V+16);
+Ze=r8(V+8);}
 else{
-hj=ej;
-ij=fj;}
-jj=ij+nh;
-kj=rp(Zb);
-z16(Zb+8);
-lj=kj+(i64)ij;
-if((u64)lj-(u64)Pi<nh){
-copy_bits_4f4(Pi,lj,nh);
-w8(Zb+8,jj);
-w8(Zb+16,hj);
-dj=0;}
+Ye=Ve;
+Ze=We;}
+af=Ze+cd;
+bf=rp(V);
+z16(V+8);
+cf=bf+(i64)Ze;
+if((u64)cf-(u64)Ge<cd){
+copy_bits_4f4(Ge,cf,cd);
+w8(V+8,af);
+w8(V+16,Ye);
+Ue=0;}
 else{
-memmove(lj,Pi,nh);
-w8(Zb+8,jj);
-w8(Zb+16,hj);
-if(oh){
-mj=0;
+memmove(cf,Ge,cd);
+w8(V+8,af);
+w8(V+16,Ye);
+if(dd){
+df=0;
 goto L53;}
-dj=0;}
-L52:w8(Xb+16,0);
-mj=dj;
-L53:z18(Xb+32);
-Ni=ph;
-Oi=mj;
+Ue=0;}
+L52:w8(T+16,0);
+df=Ue;
+L53:z18(T+32);
+Ee=ed;
+Fe=df;
 goto L54;}
-end_within_916(Sb,Xb,ue,Yb,Zb);
-if(*Sb==0){
-Ni=r16(Sb+16);
-Oi=r8(Sb+32);
+end_within_916(O,T,ka,U,V);
+if(*O==0){
+Ee=r16(O+16);
+Fe=r8(O+32);
 goto L54;}
 L51:goto L45;
-L54:z7(Vb);
-vh=Ni;
-wh=1;
-xh=1;
-yh=Oi;
-zh=0;
+L54:z7(R);
+kd=Ee;
+ld=1;
+md=1;
+nd=Fe;
+od=0;
 goto L33;
 L45:goto L55;
-L33:w16(Ub,vh);
-w8(Ub+16,wh);
-Ub[24]=xh;
-memcpy(Ub+25,Vb,7);
-w8(Ub+32,yh);
-w8(Ub+40,zh);
-nj=r8(Zb+8);
-oj=r8(ac+32);
-if(oj<=(nj^18446744073709551615u)){
-pj=oj+nj;
-if(pj<=r8(ac+24)){
-qj=rp(Zb);
-rj=r8(ac+16);
-sj=r8(ac+8);
-if(nj>rj-sj){
-tj=grow_amortized_2b6(ac,nj);
-if(!tj)goto L55;
-uj=r8(ac+16);
-vj=r8(ac+8);}
+L33:w16(Q,kd);
+w8(Q+16,ld);
+Q[24]=md;
+memcpy(Q+25,R,7);
+w8(Q+32,nd);
+w8(Q+40,od);
+ef=r8(V+8);
+ff=r8(W+32);
+if(ff<=(ef^18446744073709551615u)){
+gf=ff+ef;
+if(gf<=r8(W+24)){
+hf=rp(V);
+jf=r8(W+16);
+kf=r8(W+8);
+if(ef>jf-kf){
+lf=grow_amortized_2b6(W,ef);
+if(!lf)goto L55;
+mf=r8(W+16);
+nf=r8(W+8);}
 else{
-uj=rj;
-vj=sj;}
-wj=vj+nj;
-xj=rp(ac)+(i64)vj;
-if((u64)xj-(u64)qj<nj)copy_bits_4f4(qj,xj,nj);
-else memmove(xj,qj,nj);
-w8(ac+8,wj);
-w8(ac+16,uj);}
-w8(ac+32,pj);
-if(nj!=0)w8(Zb+8,0);
-yj=add_following_166(ac,Ub,lh,wh);
-if(!(yj&1)){
-zj=wh+kh;
-if(zj>=jh)goto L31;
-kh=zj;
+mf=jf;
+nf=kf;}
+of=nf+ef;
+pf=rp(W)+(i64)nf;
+if((u64)pf-(u64)hf<ef)copy_bits_4f4(hf,pf,ef);
+else memmove(pf,hf,ef);
+w8(W+8,of);
+w8(W+16,mf);}
+w8(W+32,gf);
+if(ef!=0)w8(V+8,0);
+qf=add_following_166(W,Q,ad,ld);
+if(!(qf&1)){
+rf=ld+Zc;
+if(rf>=Yc)goto L31;
+Zc=rf;
 goto L32;}}
 L55:goto L56;
-L31:Aj=Wb[9];
-if(Wb[8]&1){
-Bj=end_segment_337(ue,Yb,Xb,Zb,ac);
-if(Bj!=0)goto L56;}
-Cj=jh+gh;
-if(Cj>=e)goto L57;
-gh=Cj;
-hh=Aj;
+L31:sf=S[9];
+if(S[8]&1){
+tf=end_segment_337(ka,U,T,V,W);
+if(tf!=0)goto L56;}
+uf=Yc+Vc;
+if(uf>=e)goto L57;
+Vc=uf;
+Wc=sf;
 goto L30;
-L56:if(r8(ac+16)!=0)port_rattle_dealloc(rp(ac));
-if(r8(Zb+16)!=0)port_rattle_dealloc(rp(Zb));
-Dj=rp(Yb+1944);
-Ej=rp(Yb+1984);
-Fj=r8(Yb+2000);
-Gj=rp(Yb+2008);
-Hj=r8(Yb+2024);
-Ij=rp(Yb+2032);
-Jj=r8(Yb+2048);
-Kj=r8(Yb+1960);
-memcpy(Qb,Yb,1944);
-drop_1dd(Qb);
-if(Kj!=0)port_rattle_dealloc(Dj);
-if(Fj!=0)port_rattle_dealloc(Ej);
-if(Hj!=0)port_rattle_dealloc(Gj);
-if(Jj!=0)port_rattle_dealloc(Ij);
-if(r8(Xb+24)==0)goto L58;
+L56:if(r8(W+16)!=0)port_rattle_dealloc(rp(W));
+if(r8(V+16)!=0)port_rattle_dealloc(rp(V));
+vf=rp(U+1544);
+wf=rp(U+1584);
+xf=r8(U+1600);
+yf=rp(U+1608);
+zf=r8(U+1624);
+Af=rp(U+1632);
+Bf=r8(U+1648);
+Cf=r8(U+1560);
+memcpy(M,U,1544);
+drop_1dd(M);
+if(Cf!=0)port_rattle_dealloc(vf);
+if(xf!=0)port_rattle_dealloc(wf);
+if(zf!=0)port_rattle_dealloc(yf);
+if(Bf!=0)port_rattle_dealloc(Af);
+if(r8(T+24)==0)goto L58;
 goto L59;}
-L57:Lj=end_segment_337(ue,Yb,Xb,Zb,ac);
-if(!(Lj&1)){
-Uj=rp(ac);
-Vj=r8(ac+8);
-Wj=r8(ac+16);
-Xj=r8(ac+32);
-Yj=r8(Xb+56);
-Zj=r8(Xb+64);
-ak=r8(Xb+72);
-if(r8(Zb+16)!=0)port_rattle_dealloc(rp(Zb));
-bk=rp(Yb+1944);
-ck=rp(Yb+1984);
-dk=r8(Yb+2000);
-ek=rp(Yb+2008);
-fk=r8(Yb+2024);
-gk=rp(Yb+2032);
-hk=r8(Yb+2048);
-ik=r8(Yb+1960);
-memcpy(Pb,Yb,1944);
-drop_1dd(Pb);
-if(ik!=0)port_rattle_dealloc(bk);
-if(dk!=0)port_rattle_dealloc(ck);
-if(fk!=0)port_rattle_dealloc(ek);
-if(hk!=0)port_rattle_dealloc(gk);
-if(r8(Xb+24)!=0)port_rattle_dealloc(rp(Xb+8));
-if(g<Xj){
-jk=6;
-kk=Xj;}
+L57:Df=end_segment_337(ka,U,T,V,W);
+if(!(Df&1)){
+Mf=rp(W);
+Nf=r8(W+8);
+Of=r8(W+16);
+Pf=r8(W+32);
+Qf=r8(T+56);
+Rf=r8(T+64);
+Sf=r8(T+72);
+if(r8(V+16)!=0)port_rattle_dealloc(rp(V));
+Tf=rp(U+1544);
+Uf=rp(U+1584);
+Vf=r8(U+1600);
+Wf=rp(U+1608);
+Xf=r8(U+1624);
+Yf=rp(U+1632);
+Zf=r8(U+1648);
+ag=r8(U+1560);
+memcpy(L,U,1544);
+drop_1dd(L);
+if(ag!=0)port_rattle_dealloc(Tf);
+if(Vf!=0)port_rattle_dealloc(Uf);
+if(Xf!=0)port_rattle_dealloc(Wf);
+if(Zf!=0)port_rattle_dealloc(Yf);
+if(r8(T+24)!=0)port_rattle_dealloc(rp(T+8));
+if(g<Pf){
+bg=6;
+cg=Pf;}
 else{
-if(g<Vj){
-jk=6;
-kk=Vj;}
+if(g<Nf){
+bg=6;
+cg=Nf;}
 else{
-if((u64)f-(u64)Uj<Vj)copy_bits_4f4(Uj,f,Vj);
-else memmove(f,Uj,Vj);
-w8(h,Yj);
-w8(h+8,Zj);
-w8(h+16,ak);
-jk=0;
-kk=Vj;}}
-if(Wj==0){
-dh=kk;
-eh=jk;
+if((u64)f-(u64)Mf<Nf)copy_bits_4f4(Mf,f,Nf);
+else memmove(f,Mf,Nf);
+w8(h,Qf);
+w8(h+8,Rf);
+w8(h+16,Sf);
+bg=0;
+cg=Nf;}}
+if(Of==0){
+Sc=cg;
+Tc=bg;
 goto L29;}
-port_rattle_dealloc(Uj);
-dh=kk;
-eh=jk;
+port_rattle_dealloc(Mf);
+Sc=cg;
+Tc=bg;
 goto L29;}
-if(r8(ac+16)!=0)port_rattle_dealloc(rp(ac));
-if(r8(Zb+16)!=0)port_rattle_dealloc(rp(Zb));
-Mj=rp(Yb+1944);
-Nj=rp(Yb+1984);
-Oj=r8(Yb+2000);
-Pj=rp(Yb+2008);
-Qj=r8(Yb+2024);
-Rj=rp(Yb+2032);
-Sj=r8(Yb+2048);
-Tj=r8(Yb+1960);
-memcpy(Ob,Yb,1944);
-drop_1dd(Ob);
-if(Tj!=0)port_rattle_dealloc(Mj);
-if(Oj!=0)port_rattle_dealloc(Nj);
-if(Qj!=0)port_rattle_dealloc(Pj);
-if(Sj!=0)port_rattle_dealloc(Rj);
-if(r8(Xb+24)==0)goto L58;
-L59:port_rattle_dealloc(rp(Xb+8));
-L58:dh=0;
-eh=5;}
-L29:lk=dh;
-mk=eh;}
+if(r8(W+16)!=0)port_rattle_dealloc(rp(W));
+if(r8(V+16)!=0)port_rattle_dealloc(rp(V));
+Ef=rp(U+1544);
+Ff=rp(U+1584);
+Gf=r8(U+1600);
+Hf=rp(U+1608);
+If=r8(U+1624);
+Jf=rp(U+1632);
+Kf=r8(U+1648);
+Lf=r8(U+1560);
+memcpy(K,U,1544);
+drop_1dd(K);
+if(Lf!=0)port_rattle_dealloc(Ef);
+if(Gf!=0)port_rattle_dealloc(Ff);
+if(If!=0)port_rattle_dealloc(Hf);
+if(Kf!=0)port_rattle_dealloc(Jf);
+if(r8(T+24)==0)goto L58;
+L59:port_rattle_dealloc(rp(T+8));
+L58:Sc=0;
+Tc=5;}
+L29:dg=Sc;
+eg=Tc;}
 else{
-z12(Nb);
-w4(Mb,c);
-Mb[4]=Ae;
-z3(Mb+5);
-if(Be){
-zero_all(Gb+1480,464);
-z24(Hb);
-z40(Ib);
-zero_all(Jb,1944);
-zero_all(Kb,1944);
-zero_all(Lb,1944);
-*Fb=ze;
-z7(Fb+1);
-wp(Fb+8,(u8*)65536);
-z64(Fb+16);
-nk=(u64)(u8*)65536;
-wp(Gb,(u8*)65536);
-z24(Gb+8);
-wp(Gb+32,(u8*)65536);
-z16(Gb+40);
-wp(Gb+56,(u8*)65536);
-z32(Gb+64);
-wp(Gb+96,(u8*)65536);
-z16(Gb+104);
-wp(Gb+120,(u8*)65536);
-z32(Gb+128);
-wp(Gb+160,(u8*)65536);
-z80(Gb+168);
-wp(Gb+248,(u8*)65536);
-z16(Gb+256);
-wp(Gb+272,(u8*)65536);
-z40(Gb+280);
-wp(Gb+320,(u8*)65536);
-z16(Gb+328);
-wp(Gb+344,(u8*)65536);
-z16(Gb+352);
-wp(Gb+368,(u8*)65536);
-z16(Gb+376);
-wp(Gb+392,(u8*)65536);
-z16(Gb+400);
-wp(Gb+416,(u8*)65536);
-z16(Gb+424);
-wp(Gb+440,(u8*)65536);
-z48(Gb+448);
-wp(Gb+496,(u8*)65536);
-z32(Gb+504);
-wp(Gb+536,(u8*)65536);
-z32(Gb+544);
-wp(Gb+576,(u8*)65536);
-z104(Gb+584);
-w8(Gb+688,nk);
-z40(Gb+696);
-w8(Gb+736,nk);
-z16(Gb+744);
-wp(Gb+760,(u8*)65536);
-z32(Gb+768);
-wp(Gb+800,(u8*)65536);
-z24(Gb+808);
-wp(Gb+832,(u8*)65536);
-z16(Gb+840);
-wp(Gb+856,(u8*)65536);
-z32(Gb+864);
-wp(Gb+896,(u8*)65536);
-z16(Gb+904);
-wp(Gb+920,(u8*)65536);
-z24(Gb+928);
-wp(Gb+952,(u8*)65536);
-z16(Gb+960);
-wp(Gb+976,(u8*)65536);
-z16(Gb+984);
-wp(Gb+1000,(u8*)65536);
-z40(Gb+1008);
-wp(Gb+1048,(u8*)65536);
-z16(Gb+1056);
-wp(Gb+1072,(u8*)65536);
-z16(Gb+1080);
-wp(Gb+1096,(u8*)65536);
-z16(Gb+1104);
-wp(Gb+1120,(u8*)65536);
-z16(Gb+1128);
-wp(Gb+1144,(u8*)65536);
-z16(Gb+1152);
-wp(Gb+1168,(u8*)65536);
-z48(Gb+1176);
-wp(Gb+1224,(u8*)65536);
-z32(Gb+1232);
-wp(Gb+1264,(u8*)65536);
-z40(Gb+1272);
-wp(Gb+1312,(u8*)65536);
-z32(Gb+1320);
-wp(Gb+1352,(u8*)65536);
-z16(Gb+1360);
-wp(Gb+1376,(u8*)65536);
-z48(Gb+1384);
-w8(Gb+1432,nk);
-z40(Gb+1440);
-w8(Gb+1480,nk);
-z16(Gb+1488);
-wp(Gb+1504,(u8*)65536);
-z32(Gb+1512);
-wp(Gb+1544,(u8*)65536);
-z32(Gb+1552);
-wp(Gb+1584,(u8*)65536);
-z32(Gb+1592);
-wp(Gb+1624,(u8*)65536);
-z104(Gb+1632);
-wp(Gb+1736,(u8*)65536);
-z32(Gb+1744);
-wp(Gb+1776,(u8*)65536);
-z40(Gb+1784);
-wp(Gb+1824,(u8*)65536);
-z32(Gb+1832);
-wp(Gb+1864,(u8*)65536);
-z16(Gb+1872);
-wp(Gb+1888,(u8*)65536);
-z48(Gb+1896);
-wp(Hb,(u8*)65536);
-z16(Hb+8);
-wp(Ib,(u8*)65536);
-z16(Ib+8);
-w8(Ib+24,g);
-w8(Ib+32,0);
+z12(J);
+w4(I,c);
+I[4]=qa;
+z3(I+5);
+if(ra){
+z64(C+1480);
+z24(D);
+z40(E);
+zero_all(F,1544);
+zero_all(G,1544);
+zero_all(H,1544);
+*B=pa;
+z7(B+1);
+wp(B+8,(u8*)65536);
+z64(B+16);
+fg=(u64)(u8*)65536;
+wp(C,(u8*)65536);
+z24(C+8);
+wp(C+32,(u8*)65536);
+z16(C+40);
+wp(C+56,(u8*)65536);
+z32(C+64);
+wp(C+96,(u8*)65536);
+z16(C+104);
+wp(C+120,(u8*)65536);
+z32(C+128);
+wp(C+160,(u8*)65536);
+z80(C+168);
+wp(C+248,(u8*)65536);
+z16(C+256);
+wp(C+272,(u8*)65536);
+z40(C+280);
+wp(C+320,(u8*)65536);
+z16(C+328);
+wp(C+344,(u8*)65536);
+z16(C+352);
+wp(C+368,(u8*)65536);
+z16(C+376);
+wp(C+392,(u8*)65536);
+z16(C+400);
+wp(C+416,(u8*)65536);
+z16(C+424);
+wp(C+440,(u8*)65536);
+z48(C+448);
+wp(C+496,(u8*)65536);
+z32(C+504);
+wp(C+536,(u8*)65536);
+z32(C+544);
+wp(C+576,(u8*)65536);
+z104(C+584);
+w8(C+688,fg);
+z40(C+696);
+w8(C+736,fg);
+z16(C+744);
+wp(C+760,(u8*)65536);
+z32(C+768);
+wp(C+800,(u8*)65536);
+z24(C+808);
+wp(C+832,(u8*)65536);
+z16(C+840);
+wp(C+856,(u8*)65536);
+z32(C+864);
+wp(C+896,(u8*)65536);
+z16(C+904);
+wp(C+920,(u8*)65536);
+z24(C+928);
+wp(C+952,(u8*)65536);
+z16(C+960);
+wp(C+976,(u8*)65536);
+z16(C+984);
+wp(C+1000,(u8*)65536);
+z40(C+1008);
+wp(C+1048,(u8*)65536);
+z16(C+1056);
+wp(C+1072,(u8*)65536);
+z16(C+1080);
+wp(C+1096,(u8*)65536);
+z16(C+1104);
+wp(C+1120,(u8*)65536);
+z16(C+1128);
+wp(C+1144,(u8*)65536);
+z16(C+1152);
+wp(C+1168,(u8*)65536);
+z48(C+1176);
+wp(C+1224,(u8*)65536);
+z32(C+1232);
+wp(C+1264,(u8*)65536);
+z40(C+1272);
+wp(C+1312,(u8*)65536);
+z32(C+1320);
+wp(C+1352,(u8*)65536);
+z16(C+1360);
+wp(C+1376,(u8*)65536);
+z48(C+1384);
+w8(C+1432,fg);
+z40(C+1440);
+w8(C+1480,fg);
+z16(C+1488);
+wp(C+1504,(u8*)65536);
+z32(C+1512);
+wp(D,(u8*)65536);
+z16(D+8);
+wp(E,(u8*)65536);
+z16(E+8);
+w8(E+24,g);
+w8(E+32,0);
 if(e!=0){
-ok=0;
-pk=0;
-L60:qk=d+(i64)ok;
-z16(Eb);
-first_segment_4a3(Eb,*Fb,qk,e-ok,pk);
-rk=r8(Eb);
-z32(Cb+16);
-if(rk==0)goto L61;
-sk=0;
-L62:tk=qk+(i64)sk;
-uk=rk-sk;
-z48(Bb);
-vk=r8(Fb+16);
-wk=vk==0;
-xk=r16(Fb+32);
-if(wk&&xk==0){
-if(Fb[50]&1){
-pass_6c7(Bb,Fb,tk,uk);
-yk=r16(Bb);
-zk=r8(Bb+16);
-Ak=Bb[24];
-Bk=r8(Bb+32);
-Ck=r8(Bb+40);
-memcpy(Db,Bb+25,7);
-Dk=yk;
-Ek=zk;
-Fk=Ak;
-Gk=Bk;
-Hk=Ck;
+gg=0;
+hg=0;
+L60:ig=d+(i64)gg;
+z16(A);
+first_segment_4a3(A,*B,ig,e-gg,hg);
+jg=r8(A);
+z32(y+16);
+if(jg==0)goto L61;
+kg=0;
+L62:lg=ig+(i64)kg;
+mg=jg-kg;
+z48(x);
+ng=r8(B+16);
+og=ng==0;
+pg=r16(B+32);
+if(og&&pg==0){
+if(B[50]&1){
+pass_6c7(x,B,lg,mg);
+qg=r16(x);
+rg=r8(x+16);
+sg=x[24];
+tg=r8(x+32);
+ug=r8(x+40);
+memcpy(z,x+25,7);
+vg=qg;
+wg=rg;
+xg=sg;
+yg=tg;
+zg=ug;
 goto L63;}
-Ik=*Fb;
-Jk=Fb[48];
-if(uk==0)Kk=0;
+Ag=*B;
+Bg=B[48];
+if(mg==0)Cg=0;
 else{
-Lk=Fb[49];
-Mk=Ik+49;
-Nk=Ik==2;
-Ok=0;
-L64:Pk=tk+Ok;
-if(*Pk==95){
-if(Ok==0){
-switch(Jk){
-case 0:Qk=Ik;
+Dg=B[49];
+Eg=Ag+49;
+Fg=Ag==2;
+Gg=0;
+L64:Hg=lg+Gg;
+if(*Hg==95){
+if(Gg==0){
+switch(Bg){
+case 0:Ig=Ag;
 goto L65;
-case 1:if(Nk){
-switch(Lk){
-case 46:case 36:Rk=1;
-Sk=49;
+case 1:if(Fg){
+switch(Dg){
+case 46:case 36:Jg=1;
+Kg=49;
 goto L66;
 default:break;}}
 break;
-case 2:if(Nk){
-switch(Lk){
-case 46:case 36:Rk=1;
-Sk=49;
+case 2:if(Fg){
+switch(Dg){
+case 46:case 36:Jg=1;
+Kg=49;
 goto L66;
 default:break;}}
 break;
 default:NEVER;
 }}
 else{
-Tk=*((u8*)t_e4d8+Pk[-1]);
-if(Mk>Tk){
-if(Tk<=(Ik==0?48:49)){
-Vk=0;
-Wk=0;
-Xk=Ok;
+Lg=*((u8*)t_e4d8+Hg[-1]);
+if(Eg>Lg){
+if(Lg<=(Ag==0?48:49)){
+Ng=0;
+Og=0;
+Pg=Gg;
 goto L67;}
-Uk=place_in_stretch_597(Ik,tk,Ok,Jk);
-Vk=Uk.f1;
-Wk=Uk.f0;
-Xk=Ok;
+Mg=place_in_stretch_597(Ag,lg,Gg,Bg);
+Ng=Mg.f1;
+Og=Mg.f0;
+Pg=Gg;
 goto L67;}}}
-Yk=Ok+1;
-Zk=uk-Yk;
-if(Zk<16)al=0;
+Qg=Gg+1;
+Rg=mg-Qg;
+if(Rg<16)Sg=0;
 else{
-bl=tk+(i64)Yk;
-cl=cttz(v16_eq(v16_at(bl),splat(95)),16);
-if((Zk<32)|(cl<16))al=cl;
+Tg=lg+(i64)Qg;
+Ug=cttz(v16_eq(v16_at(Tg),splat(95)),16);
+if((Rg<32)|(Ug<16))Sg=Ug;
 else{
-dl=cttz(v16_eq(v16_at(bl+16),splat(95)),16);
-if(dl<16)al=dl|16;
+Vg=cttz(v16_eq(v16_at(Tg+16),splat(95)),16);
+if(Vg<16)Sg=Vg|16;
 else{
-if(Zk<=95){
-al=32;
+if(Rg<=95){
+Sg=32;
 goto L68;}
-el=32;
-L69:fl=bl+(i64)el;
-if((((v16_eq(v16_at(fl),splat(95))|v16_eq(v16_at(fl+16),splat(95)))|v16_eq(v16_at(fl+32),splat(95)))|v16_eq(v16_at(fl+48),splat(95)))==0){
-gl=el+64;
-if(Zk-gl>63){
-el=gl;
+Wg=32;
+L69:Xg=Tg+(i64)Wg;
+if((((v16_eq(v16_at(Xg),splat(95))|v16_eq(v16_at(Xg+16),splat(95)))|v16_eq(v16_at(Xg+32),splat(95)))|v16_eq(v16_at(Xg+48),splat(95)))==0){
+Yg=Wg+64;
+if(Rg-Yg>63){
+Wg=Yg;
 goto L69;}
-al=gl;}
-else al=el;}}}
-L68:hl=al+Yk;
-if(hl<uk){
-Ok=hl;
+Sg=Yg;}
+else Sg=Wg;}}}
+L68:Zg=Sg+Qg;
+if(Zg<mg){
+Gg=Zg;
 goto L64;}
-Kk=hl;}
-if(*((u8*)t_e4d8+*(tk+(i64)Kk-1))>(Ik==0?48:49)){
-il=place_in_stretch_597(Ik,tk,Kk,Jk);
-jl=il.f0;
-kl=il.f1;}
+Cg=Zg;}
+if(*((u8*)t_e4d8+*(lg+(i64)Cg-1))>(Ag==0?48:49)){
+ah=place_in_stretch_597(Ag,lg,Cg,Bg);
+bh=ah.f0;
+ch=ah.f1;}
 else{
-jl=0;
-kl=0;}
-if(Kk==0){
-Qk=Ik;
+bh=0;
+ch=0;}
+if(Cg==0){
+Ig=Ag;
 goto L65;}
-Vk=kl;
-Wk=jl;
-Xk=Kk;
-L67:w2(Fb+48,(u16)((u32)Vk<<8)|Wk);
-z7(Db);
-Dk=0;
-Ek=Xk;
-Fk=1;
-Gk=0;
-Hk=0;
+Ng=ch;
+Og=bh;
+Pg=Cg;
+L67:w2(B+48,(u16)((u32)Ng<<8)|Og);
+z7(z);
+vg=0;
+wg=Pg;
+xg=1;
+yg=0;
+zg=0;
 goto L63;}
-Qk=*Fb;
-L65:Rk=Qk==2;
-Sk=Qk==1?50:49;
-L66:if(Sk>*((u8*)t_e4d8+*tk))goto L70;
-ll=0;
-L71:if(uk-ll>15){
-ml=v16_at(tk+ll);
-nl=cttz(v16_ne(ml,splat(36))&(v16_ne(ml,splat(46))&(v16_ne(ml,splat(95))&(v16_ult(v16_add(ml,splat(198)),splat(246))&v16_ult(v16_add(v16_or(ml,splat(32)),splat(133)),splat(230))))),16);
-ol=ll+nl;
-if(nl>=16){
-ll=ol;
+Ig=*B;
+L65:Jg=Ig==2;
+Kg=Ig==1?50:49;
+L66:if(Kg>*((u8*)t_e4d8+*lg))goto L70;
+dh=0;
+L71:if(mg-dh>15){
+eh=v16_at(lg+dh);
+fh=cttz(v16_ne(eh,splat(36))&(v16_ne(eh,splat(46))&(v16_ne(eh,splat(95))&(v16_ult(v16_add(eh,splat(198)),splat(246))&v16_ult(v16_add(v16_or(eh,splat(32)),splat(133)),splat(230))))),16);
+gh=dh+fh;
+if(fh>=16){
+dh=gh;
 goto L71;}
-pl=ol;}
-else pl=ll;
-if(pl>=uk){
-rl=pl;
+hh=gh;}
+else hh=dh;
+if(hh>=mg){
+jh=hh;
 goto L72;}
-ql=pl;
-L73:if(Sk>*((u8*)t_e4d8+*(tk+ql)))rl=ql;
+ih=hh;
+L73:if(Kg>*((u8*)t_e4d8+*(lg+ih)))jh=ih;
 else{
-sl=ql+1;
-if(sl!=uk){
-ql=sl;
+kh=ih+1;
+if(kh!=mg){
+ih=kh;
 goto L73;}
-rl=uk;}
-L72:if(rl==0)goto L70;
-tl=rl;
-L74:if(tl==0){
-w16(Fb+32,xk+rl);
-ul=0;
-vl=0;}
+jh=mg;}
+L72:if(jh==0)goto L70;
+lh=jh;
+L74:if(lh==0){
+w16(B+32,pg+jh);
+mh=0;
+nh=0;}
 else{
-wl=tl-1;
-if(*(tk+wl)==46){
-tl=wl;
+oh=lh-1;
+if(*(lg+oh)==46){
+lh=oh;
 goto L74;}
-if(xk+tl>65536-vk){
-xl=rp(Fb+8);
-yl=r8(Hb+16);
-zl=r8(Hb+8);
-if(vk>yl-zl){
-Al=grow_amortized_2b6(Hb,vk);
-if(!Al)goto L75;
-Bl=r8(Hb+16);
-Cl=r8(Hb+8);}
+if(pg+lh>65536-ng){
+ph=rp(B+8);
+qh=r8(D+16);
+rh=r8(D+8);
+if(ng>qh-rh){
+sh=grow_amortized_2b6(D,ng);
+if(!sh)goto L75;
+th=r8(D+16);
+uh=r8(D+8);}
 else{
-Bl=yl;
-Cl=zl;}
-Dl=Cl+vk;
-El=rp(Hb);
-z16(Hb+8);
-Fl=El+(i64)Cl;
-if((u64)Fl-(u64)xl<vk){
-copy_bits_4f4(xl,Fl,vk);
-w8(Hb+8,Dl);
-w8(Hb+16,Bl);}
+th=qh;
+uh=rh;}
+vh=uh+ng;
+wh=rp(D);
+z16(D+8);
+xh=wh+(i64)uh;
+if((u64)xh-(u64)ph<ng){
+copy_bits_4f4(ph,xh,ng);
+w8(D+8,vh);
+w8(D+16,th);}
 else{
-memmove(Fl,xl,vk);
-w8(Hb+8,Dl);
-w8(Hb+16,Bl);
-if(wk)goto L76;}
-w8(Fb+16,0);
-L76:w16(Fb+32,0);
-Fb[50]=1;
-ul=xk;
-vl=1;}
+memmove(xh,ph,ng);
+w8(D+8,vh);
+w8(D+16,th);
+if(og)goto L76;}
+w8(B+16,0);
+L76:w16(B+32,0);
+B[50]=1;
+mh=pg;
+nh=1;}
 else{
-Gl=xk;
-Hl=vk+Gl;
-if(Hl>vk){
-Il=r8(Fb+24);
-if(Il-vk<Gl){
-Jl=grow_amortized_2b6(Fb+8,Gl);
-if(!Jl)goto L75;
-Kl=r8(Fb+16);
-Ll=Kl+Gl;
-Ml=r8(Fb+24);
-Nl=Kl;}
+yh=pg;
+zh=ng+yh;
+if(zh>ng){
+Ah=r8(B+24);
+if(Ah-ng<yh){
+Bh=grow_amortized_2b6(B+8,yh);
+if(!Bh)goto L75;
+Ch=r8(B+16);
+Dh=Ch+yh;
+Eh=r8(B+24);
+Fh=Ch;}
 else{
-Ll=Hl;
-Ml=Il;
-Nl=vk;}
-if(Nl<Ll)memset(rp(Fb+8)+(i64)Nl,46,Gl);
-w8(Fb+16,Ll);
-w8(Fb+24,Ml);
-Ol=Ll;}
+Dh=zh;
+Eh=Ah;
+Fh=ng;}
+if(Fh<Dh)memset(rp(B+8)+(i64)Fh,46,yh);
+w8(B+16,Dh);
+w8(B+24,Eh);
+Gh=Dh;}
 else{
-if(vk>Hl){
-w8(Fb+16,Hl);
-Ol=Hl;}
-else Ol=vk;}
-Pl=r8(Fb+24);
-if(tl>Pl-Ol){
-Ql=grow_amortized_2b6(Fb+8,tl);
-if(!Ql)goto L75;
-Rl=r8(Fb+24);
-Sl=r8(Fb+16);}
+if(ng>zh){
+w8(B+16,zh);
+Gh=zh;}
+else Gh=ng;}
+Hh=r8(B+24);
+if(lh>Hh-Gh){
+Ih=grow_amortized_2b6(B+8,lh);
+if(!Ih)goto L75;
+Jh=r8(B+24);
+Kh=r8(B+16);}
 else{
-Rl=Pl;
-Sl=Ol;}
-Tl=Sl+tl;
-Ul=rp(Fb+8)+(i64)Sl;
-if((u64)Ul-(u64)tk<tl)copy_bits_4f4(tk,Ul,tl);
-else memmove(Ul,tk,tl);
-w8(Fb+16,Tl);
-w8(Fb+24,Rl);
-w16(Fb+32,rl-tl);
-ul=0;
-vl=0;}}
-z7(Db);
-Dk=ul;
-Ek=rl;
-Fk=vl;
-Gk=0;
-Hk=0;
+Jh=Hh;
+Kh=Gh;}
+Lh=Kh+lh;
+Mh=rp(B+8)+(i64)Kh;
+if((u64)Mh-(u64)lg<lh)copy_bits_4f4(lg,Mh,lh);
+else memmove(Mh,lg,lh);
+w8(B+16,Lh);
+w8(B+24,Jh);
+w16(B+32,jh-lh);
+mh=0;
+nh=0;}}
+z7(z);
+vg=mh;
+wg=jh;
+xg=nh;
+yg=0;
+zg=0;
 goto L63;
-L70:z48(Ab);
-if(!Rk){
-Xl=rp(Fb+8);
-if(vk-65537>=0xffffffffffff0001u){
-Yl=*Xl==95;
-if(vk==2){
-if(!Yl)goto L77;
-switch(Xl[1]){
-case 90:Zl=0;
+L70:z48(w);
+if(!Jg){
+Ph=rp(B+8);
+if(ng-65537>=0xffffffffffff0001u){
+Qh=*Ph==95;
+if(ng==2){
+if(!Qh)goto L77;
+switch(Ph[1]){
+case 90:Rh=0;
 goto L78;
 case 82:break;
 default:goto L77;
 }}
 else{
-if(!Yl)goto L77;
-switch(Xl[1]){
-case 90:Zl=0;
+if(!Qh)goto L77;
+switch(Ph[1]){
+case 90:Rh=0;
 goto L78;
 case 82:break;
-case 95:switch(Xl[2]){
-case 90:Zl=0x100000000u;
+case 95:switch(Ph[2]){
+case 90:Rh=0x100000000u;
 goto L78;
-case 82:Zl=0x100000001u;
+case 82:Rh=0x100000001u;
 goto L78;
 default:goto L77;
 }
 break;
 default:goto L77;
 }}
-Zl=1;
-L78:am=Zl>>32;
-z12(zb);
-append_a0b(zb,Mb,Gb,Zl,Xl+(i64)am,vk-am,Hb);
-if(*zb!=0){
-if(zb[4]!=4){
-dm=r8(Hb+16);
-em=r8(Hb+8);
-if(vk>dm-em){
-fm=grow_amortized_2b6(Hb,vk);
-if(!fm)goto L79;
-gm=r8(Hb+16);
-hm=r8(Hb+8);}
+Rh=1;
+L78:Sh=Rh>>32;
+z12(v);
+append_a0b(v,I,C,Rh,Ph+(i64)Sh,ng-Sh,D);
+if(*v!=0){
+if(v[4]!=4){
+Vh=r8(D+16);
+Wh=r8(D+8);
+if(ng>Vh-Wh){
+Xh=grow_amortized_2b6(D,ng);
+if(!Xh)goto L79;
+Yh=r8(D+16);
+Zh=r8(D+8);}
 else{
-gm=dm;
-hm=em;}
-im=hm+vk;
-jm=rp(Hb)+(i64)hm;
-if((u64)jm-(u64)Xl<vk)copy_bits_4f4(Xl,jm,vk);
-else memmove(jm,Xl,vk);
-w8(Hb+8,im);
-w8(Hb+16,gm);
-bm=vk;
-cm=16;
+Yh=Vh;
+Zh=Wh;}
+ai=Zh+ng;
+bi=rp(D)+(i64)Zh;
+if((u64)bi-(u64)Ph<ng)copy_bits_4f4(Ph,bi,ng);
+else memmove(bi,Ph,ng);
+w8(D+8,ai);
+w8(D+16,Yh);
+Th=ng;
+Uh=16;
 goto L80;}
 L79:goto L81;}
-bm=0;
-cm=8;
-L80:w8(Fb+56,uadd64(r8(Fb+56),1));
-km=Fb+56+(i64)cm;
-w8(km,uadd64(r8(km),1));
-lm=bm;
+Th=0;
+Uh=8;
+L80:w8(B+56,uadd64(r8(B+56),1));
+ci=B+56+(i64)Uh;
+w8(ci,uadd64(r8(ci),1));
+di=Th;
 goto L82;}
-L77:mm=r8(Hb+16);
-nm=r8(Hb+8);
-if(vk>mm-nm){
-om=grow_amortized_2b6(Hb,vk);
-if(!om)goto L81;
-pm=r8(Hb+16);
-qm=r8(Hb+8);}
+L77:ei=r8(D+16);
+fi=r8(D+8);
+if(ng>ei-fi){
+gi=grow_amortized_2b6(D,ng);
+if(!gi)goto L81;
+hi=r8(D+16);
+ii=r8(D+8);}
 else{
-pm=mm;
-qm=nm;}
-rm=qm+vk;
-sm=rp(Hb);
-z16(Hb+8);
-tm=sm+(i64)qm;
-if((u64)tm-(u64)Xl<vk){
-copy_bits_4f4(Xl,tm,vk);
-w8(Hb+8,rm);
-w8(Hb+16,pm);
-lm=0;}
+hi=ei;
+ii=fi;}
+ji=ii+ng;
+ki=rp(D);
+z16(D+8);
+li=ki+(i64)ii;
+if((u64)li-(u64)Ph<ng){
+copy_bits_4f4(Ph,li,ng);
+w8(D+8,ji);
+w8(D+16,hi);
+di=0;}
 else{
-memmove(tm,Xl,vk);
-w8(Hb+8,rm);
-w8(Hb+16,pm);
-if(wk){
-um=0;
+memmove(li,Ph,ng);
+w8(D+8,ji);
+w8(D+16,hi);
+if(og){
+mi=0;
 goto L83;}
-lm=0;}
-L82:w8(Fb+16,0);
-um=lm;
-L83:z18(Fb+32);
-Vl=xk;
-Wl=um;
+di=0;}
+L82:w8(B+16,0);
+mi=di;
+L83:z18(B+32);
+Nh=pg;
+Oh=mi;
 goto L84;}
-end_within_4fe(Ab,Fb,Mb,Gb,Hb);
-if(*Ab==0){
-Vl=r16(Ab+16);
-Wl=r8(Ab+32);
+end_within_4fe(w,B,I,C,D);
+if(*w==0){
+Nh=r16(w+16);
+Oh=r8(w+32);
 goto L84;}
 L81:goto L75;
-L84:z7(Db);
-Dk=Vl;
-Ek=1;
-Fk=1;
-Gk=Wl;
-Hk=0;
+L84:z7(z);
+vg=Nh;
+wg=1;
+xg=1;
+yg=Oh;
+zg=0;
 goto L63;
 L75:goto L85;
-L63:w16(Cb,Dk);
-w8(Cb+16,Ek);
-Cb[24]=Fk;
-memcpy(Cb+25,Db,7);
-w8(Cb+32,Gk);
-w8(Cb+40,Hk);
-vm=r8(Hb+8);
-wm=r8(Ib+32);
-if(wm<=(vm^18446744073709551615u)){
-xm=wm+vm;
-if(xm<=r8(Ib+24)){
-ym=rp(Hb);
-zm=r8(Ib+16);
-Am=r8(Ib+8);
-if(vm>zm-Am){
-Bm=grow_amortized_2b6(Ib,vm);
-if(!Bm)goto L85;
-Cm=r8(Ib+16);
-Dm=r8(Ib+8);}
+L63:w16(y,vg);
+w8(y+16,wg);
+y[24]=xg;
+memcpy(y+25,z,7);
+w8(y+32,yg);
+w8(y+40,zg);
+ni=r8(D+8);
+oi=r8(E+32);
+if(oi<=(ni^18446744073709551615u)){
+pi=oi+ni;
+if(pi<=r8(E+24)){
+qi=rp(D);
+ri=r8(E+16);
+si=r8(E+8);
+if(ni>ri-si){
+ti=grow_amortized_2b6(E,ni);
+if(!ti)goto L85;
+ui=r8(E+16);
+vi=r8(E+8);}
 else{
-Cm=zm;
-Dm=Am;}
-Em=Dm+vm;
-Fm=rp(Ib)+(i64)Dm;
-if((u64)Fm-(u64)ym<vm)copy_bits_4f4(ym,Fm,vm);
-else memmove(Fm,ym,vm);
-w8(Ib+8,Em);
-w8(Ib+16,Cm);}
-w8(Ib+32,xm);
-if(vm!=0)w8(Hb+8,0);
-Gm=add_following_166(Ib,Cb,tk,Ek);
-if(!(Gm&1)){
-Hm=Ek+sk;
-if(Hm>=rk)goto L61;
-sk=Hm;
+ui=ri;
+vi=si;}
+wi=vi+ni;
+xi=rp(E)+(i64)vi;
+if((u64)xi-(u64)qi<ni)copy_bits_4f4(qi,xi,ni);
+else memmove(xi,qi,ni);
+w8(E+8,wi);
+w8(E+16,ui);}
+w8(E+32,pi);
+if(ni!=0)w8(D+8,0);
+yi=add_following_166(E,y,lg,wg);
+if(!(yi&1)){
+zi=wg+kg;
+if(zi>=jg)goto L61;
+kg=zi;
 goto L62;}}
 L85:goto L86;
-L61:Im=Eb[9];
-if(Eb[8]&1){
-Jm=end_segment_cac(Mb,Gb,Fb,Hb,Ib);
-if(Jm!=0)goto L86;}
-Km=rk+ok;
-if(Km>=e)goto L87;
-ok=Km;
-pk=Im;
+L61:Ai=A[9];
+if(A[8]&1){
+Bi=end_segment_cac(I,C,B,D,E);
+if(Bi!=0)goto L86;}
+Ci=jg+gg;
+if(Ci>=e)goto L87;
+gg=Ci;
+hg=Ai;
 goto L60;
-L86:if(r8(Ib+16)!=0)port_rattle_dealloc(rp(Ib));
-if(r8(Hb+16)!=0)port_rattle_dealloc(rp(Hb));
-memcpy(Jb,Gb,1944);
-drop_1dd(Jb);
-if(r8(Fb+24)==0)goto L88;
+L86:if(r8(E+16)!=0)port_rattle_dealloc(rp(E));
+if(r8(D+16)!=0)port_rattle_dealloc(rp(D));
+memcpy(F,C,1544);
+drop_1dd(F);
+if(r8(B+24)==0)goto L88;
 goto L89;}
-L87:Lm=end_segment_cac(Mb,Gb,Fb,Hb,Ib);
-if(!(Lm&1)){
-Mm=rp(Ib);
-Nm=r8(Ib+8);
-Om=r8(Ib+16);
-Pm=r8(Ib+32);
-Qm=r8(Fb+56);
-Rm=r8(Fb+64);
-Sm=r8(Fb+72);
-if(r8(Hb+16)!=0)port_rattle_dealloc(rp(Hb));
-memcpy(Lb,Gb,1944);
-drop_1dd(Lb);
-if(r8(Fb+24)!=0)port_rattle_dealloc(rp(Fb+8));
-if(g<Pm){
-Tm=6;
-Um=Pm;}
+L87:Di=end_segment_cac(I,C,B,D,E);
+if(!(Di&1)){
+Ei=rp(E);
+Fi=r8(E+8);
+Gi=r8(E+16);
+Hi=r8(E+32);
+Ii=r8(B+56);
+Ji=r8(B+64);
+Ki=r8(B+72);
+if(r8(D+16)!=0)port_rattle_dealloc(rp(D));
+memcpy(H,C,1544);
+drop_1dd(H);
+if(r8(B+24)!=0)port_rattle_dealloc(rp(B+8));
+if(g<Hi){
+Li=6;
+Mi=Hi;}
 else{
-if(g<Nm){
-Tm=6;
-Um=Nm;}
+if(g<Fi){
+Li=6;
+Mi=Fi;}
 else{
-if((u64)f-(u64)Mm<Nm)copy_bits_4f4(Mm,f,Nm);
-else memmove(f,Mm,Nm);
-w8(h,Qm);
-w8(h+8,Rm);
-w8(h+16,Sm);
-Tm=0;
-Um=Nm;}}
-if(Om==0){
-Vm=Um;
-Wm=Tm;
+if((u64)f-(u64)Ei<Fi)copy_bits_4f4(Ei,f,Fi);
+else memmove(f,Ei,Fi);
+w8(h,Ii);
+w8(h+8,Ji);
+w8(h+16,Ki);
+Li=0;
+Mi=Fi;}}
+if(Gi==0){
+Ni=Mi;
+Oi=Li;
 goto L90;}
-port_rattle_dealloc(Mm);
-Vm=Um;
-Wm=Tm;
+port_rattle_dealloc(Ei);
+Ni=Mi;
+Oi=Li;
 goto L90;}
-if(r8(Ib+16)!=0)port_rattle_dealloc(rp(Ib));
-if(r8(Hb+16)!=0)port_rattle_dealloc(rp(Hb));
-memcpy(Kb,Gb,1944);
-drop_1dd(Kb);
-if(r8(Fb+24)==0)goto L88;
-L89:port_rattle_dealloc(rp(Fb+8));
-L88:Vm=0;
-Wm=5;}
+if(r8(E+16)!=0)port_rattle_dealloc(rp(E));
+if(r8(D+16)!=0)port_rattle_dealloc(rp(D));
+memcpy(G,C,1544);
+drop_1dd(G);
+if(r8(B+24)==0)goto L88;
+L89:port_rattle_dealloc(rp(B+8));
+L88:Ni=0;
+Oi=5;}
 else{
-w8(Nb,r8(Mb));
-Nb[8]=we&1;
-Nb[9]=ye;
-*r=ze;
+w8(J,r8(I));
+J[8]=ma&1;
+J[9]=oa;
+zero_all(s+1512,144);
+z24(t);
+z40(u);
+*r=pa;
 z7(r+1);
 wp(r+8,(u8*)65536);
 z64(r+16);
-Xm=(u64)(u8*)65536;
-z32(qb);
-z40(rb);
-z32(sb);
-z16(tb);
-z48(ub);
-z32(vb);
-z16(wb);
-z16(xb);
-z16(yb);
-z24(xa);
-z16(ya);
-z32(za);
-z16(Aa);
-z32(Ba);
-z80(Ca);
-z16(Da);
-z40(Ea);
-z16(Fa);
-z16(Ga);
-z16(Ha);
-z16(Ia);
-z16(Ja);
-z48(Ka);
-z32(La);
-z32(Ma);
-z104(Na);
-z40(Oa);
-z16(Pa);
-z32(Qa);
-z24(Ra);
-z16(Sa);
-z32(Ta);
-z16(Ua);
-z24(Va);
-z16(Wa);
-z16(Xa);
-z40(Ya);
-z16(Za);
-z16(ab);
-z16(bb);
-z16(cb);
-z16(db);
-z48(eb);
-z32(fb);
-z40(gb);
-z32(hb);
-z16(ib);
-z48(jb);
-z40(kb);
-z16(lb);
-z32(mb);
-z32(nb);
-z32(ob);
-z104(pb);
-memcpy(v,xa,24);
-memcpy(w,ya,16);
-memcpy(x,za,32);
-memcpy(y,Aa,16);
-memcpy(z,Ba,32);
-memcpy(A,Ca,80);
-memcpy(B,Da,16);
-memcpy(C,Ea,40);
-memcpy(D,Fa,16);
-memcpy(E,Ga,16);
-memcpy(F,Ha,16);
-memcpy(G,Ia,16);
-memcpy(H,Ja,16);
-memcpy(I,Ka,48);
-memcpy(J,La,32);
-memcpy(K,Ma,32);
-memcpy(L,Na,104);
-memcpy(M,Oa,40);
-memcpy(N,Pa,16);
-memcpy(O,Qa,32);
-memcpy(P,Ra,24);
-memcpy(Q,Sa,16);
-memcpy(R,Ta,32);
-memcpy(S,Ua,16);
-memcpy(T,Va,24);
-memcpy(U,Wa,16);
-memcpy(V,Xa,16);
-memcpy(W,Ya,40);
-memcpy(X,Za,16);
-memcpy(Y,ab,16);
-memcpy(Z,bb,16);
-memcpy(aa,cb,16);
-memcpy(ba,db,16);
-memcpy(ca,eb,48);
-memcpy(da,fb,32);
-memcpy(ea,gb,40);
-memcpy(fa,hb,32);
-memcpy(ga,ib,16);
-memcpy(ha,jb,48);
-memcpy(ia,kb,40);
-memcpy(ja,lb,16);
-memcpy(ka,mb,32);
-memcpy(la,nb,32);
-memcpy(ma,ob,32);
-memcpy(na,pb,104);
-memcpy(oa,qb,32);
-memcpy(pa,rb,40);
-memcpy(qa,sb,32);
-memcpy(ra,tb,16);
-memcpy(sa,ub,48);
-memcpy(ta,vb,32);
-memcpy(ua,wb,16);
-memcpy(va,xb,16);
-memcpy(wa,yb,16);
+Pi=(u64)(u8*)65536;
 wp(s,(u8*)65536);
-memcpy(s+8,v,24);
+z24(s+8);
 wp(s+32,(u8*)65536);
-memcpy(s+40,w,16);
+z16(s+40);
 wp(s+56,(u8*)65536);
-memcpy(s+64,x,32);
+z32(s+64);
 wp(s+96,(u8*)65536);
-memcpy(s+104,y,16);
+z16(s+104);
 wp(s+120,(u8*)65536);
-memcpy(s+128,z,32);
+z32(s+128);
 wp(s+160,(u8*)65536);
-memcpy(s+168,A,80);
+z80(s+168);
 wp(s+248,(u8*)65536);
-memcpy(s+256,B,16);
+z16(s+256);
 wp(s+272,(u8*)65536);
-memcpy(s+280,C,40);
+z40(s+280);
 wp(s+320,(u8*)65536);
-memcpy(s+328,D,16);
+z16(s+328);
 wp(s+344,(u8*)65536);
-memcpy(s+352,E,16);
+z16(s+352);
 wp(s+368,(u8*)65536);
-memcpy(s+376,F,16);
+z16(s+376);
 wp(s+392,(u8*)65536);
-memcpy(s+400,G,16);
+z16(s+400);
 wp(s+416,(u8*)65536);
-memcpy(s+424,H,16);
+z16(s+424);
 wp(s+440,(u8*)65536);
-memcpy(s+448,I,48);
+z48(s+448);
 wp(s+496,(u8*)65536);
-memcpy(s+504,J,32);
+z32(s+504);
 wp(s+536,(u8*)65536);
-memcpy(s+544,K,32);
+z32(s+544);
 wp(s+576,(u8*)65536);
-memcpy(s+584,L,104);
-w8(s+688,Xm);
-memcpy(s+696,M,40);
-w8(s+736,Xm);
-memcpy(s+744,N,16);
+z104(s+584);
+w8(s+688,Pi);
+z40(s+696);
+w8(s+736,Pi);
+z16(s+744);
 wp(s+760,(u8*)65536);
-memcpy(s+768,O,32);
+z32(s+768);
 wp(s+800,(u8*)65536);
-memcpy(s+808,P,24);
+z24(s+808);
 wp(s+832,(u8*)65536);
-memcpy(s+840,Q,16);
+z16(s+840);
 wp(s+856,(u8*)65536);
-memcpy(s+864,R,32);
+z32(s+864);
 wp(s+896,(u8*)65536);
-memcpy(s+904,S,16);
+z16(s+904);
 wp(s+920,(u8*)65536);
-memcpy(s+928,T,24);
+z24(s+928);
 wp(s+952,(u8*)65536);
-memcpy(s+960,U,16);
+z16(s+960);
 wp(s+976,(u8*)65536);
-memcpy(s+984,V,16);
+z16(s+984);
 wp(s+1000,(u8*)65536);
-memcpy(s+1008,W,40);
+z40(s+1008);
 wp(s+1048,(u8*)65536);
-memcpy(s+1056,X,16);
+z16(s+1056);
 wp(s+1072,(u8*)65536);
-memcpy(s+1080,Y,16);
+z16(s+1080);
 wp(s+1096,(u8*)65536);
-memcpy(s+1104,Z,16);
+z16(s+1104);
 wp(s+1120,(u8*)65536);
-memcpy(s+1128,aa,16);
+z16(s+1128);
 wp(s+1144,(u8*)65536);
-memcpy(s+1152,ba,16);
+z16(s+1152);
 wp(s+1168,(u8*)65536);
-memcpy(s+1176,ca,48);
+z48(s+1176);
 wp(s+1224,(u8*)65536);
-memcpy(s+1232,da,32);
+z32(s+1232);
 wp(s+1264,(u8*)65536);
-memcpy(s+1272,ea,40);
+z40(s+1272);
 wp(s+1312,(u8*)65536);
-memcpy(s+1320,fa,32);
+z32(s+1320);
 wp(s+1352,(u8*)65536);
-memcpy(s+1360,ga,16);
+z16(s+1360);
 wp(s+1376,(u8*)65536);
-memcpy(s+1384,ha,48);
-w8(s+1432,Xm);
-memcpy(s+1440,ia,40);
-w8(s+1480,Xm);
-memcpy(s+1488,ja,16);
+z48(s+1384);
+w8(s+1432,Pi);
+z40(s+1440);
+w8(s+1480,Pi);
+z16(s+1488);
 wp(s+1504,(u8*)65536);
-memcpy(s+1512,ka,32);
+z32(s+1512);
 wp(s+1544,(u8*)65536);
-memcpy(s+1552,la,32);
+z32(s+1552);
 wp(s+1584,(u8*)65536);
-memcpy(s+1592,ma,32);
-wp(s+1624,(u8*)65536);
-memcpy(s+1632,na,104);
-wp(s+1736,(u8*)65536);
-memcpy(s+1744,oa,32);
-wp(s+1776,(u8*)65536);
-memcpy(s+1784,pa,40);
-wp(s+1824,(u8*)65536);
-memcpy(s+1832,qa,32);
-wp(s+1864,(u8*)65536);
-memcpy(s+1872,ra,16);
-wp(s+1888,(u8*)65536);
-memcpy(s+1896,sa,48);
-wp(s+1944,(u8*)65536);
-memcpy(s+1952,ta,32);
-wp(s+1984,(u8*)65536);
-memcpy(s+1992,ua,16);
-wp(s+2008,(u8*)65536);
-memcpy(s+2016,va,16);
-wp(s+2032,(u8*)65536);
-memcpy(s+2040,wa,16);
+z16(s+1592);
+wp(s+1608,(u8*)65536);
+z16(s+1616);
+wp(s+1632,(u8*)65536);
+z16(s+1640);
 wp(t,(u8*)65536);
 z16(t+8);
 wp(u,(u8*)65536);
@@ -43908,490 +43625,490 @@ z16(u+8);
 w8(u+24,g);
 w8(u+32,0);
 if(e!=0){
-Ym=0;
-Zm=0;
-L91:an=d+(i64)Ym;
+Qi=0;
+Ri=0;
+L91:Si=d+(i64)Qi;
 z16(q);
-first_segment_4a3(q,*r,an,e-Ym,Zm);
-bn=r8(q);
+first_segment_4a3(q,*r,Si,e-Qi,Ri);
+Ti=r8(q);
 z32(o+16);
-if(bn==0)goto L92;
-cn=0;
-L93:dn=an+(i64)cn;
-en=bn-cn;
+if(Ti==0)goto L92;
+Ui=0;
+L93:Vi=Si+(i64)Ui;
+Wi=Ti-Ui;
 z48(n);
-fn=r8(r+16);
-gn=fn==0;
-hn=r16(r+32);
-if(gn&&hn==0){
+Xi=r8(r+16);
+Yi=Xi==0;
+Zi=r16(r+32);
+if(Yi&&Zi==0){
 if(r[50]&1){
-pass_6c7(n,r,dn,en);
-in=r16(n);
-jn=r8(n+16);
-kn=n[24];
-ln=r8(n+32);
-mn=r8(n+40);
+pass_6c7(n,r,Vi,Wi);
+aj=r16(n);
+bj=r8(n+16);
+cj=n[24];
+dj=r8(n+32);
+ej=r8(n+40);
 memcpy(p,n+25,7);
-nn=in;
-on=jn;
-pn=kn;
-qn=ln;
-rn=mn;
+fj=aj;
+gj=bj;
+hj=cj;
+ij=dj;
+jj=ej;
 goto L94;}
-sn=*r;
-tn=r[48];
-if(en==0)un=0;
+kj=*r;
+lj=r[48];
+if(Wi==0)mj=0;
 else{
-vn=r[49];
-wn=sn+49;
-xn=sn==2;
-yn=0;
-L95:zn=dn+yn;
-if(*zn==95){
-if(yn==0){
-switch(tn){
-case 0:An=sn;
+nj=r[49];
+oj=kj+49;
+pj=kj==2;
+qj=0;
+L95:rj=Vi+qj;
+if(*rj==95){
+if(qj==0){
+switch(lj){
+case 0:sj=kj;
 goto L96;
-case 1:if(xn){
-switch(vn){
-case 46:case 36:Bn=1;
-Cn=49;
+case 1:if(pj){
+switch(nj){
+case 46:case 36:tj=1;
+uj=49;
 goto L97;
 default:break;}}
 break;
-case 2:if(xn){
-switch(vn){
-case 46:case 36:Bn=1;
-Cn=49;
+case 2:if(pj){
+switch(nj){
+case 46:case 36:tj=1;
+uj=49;
 goto L97;
 default:break;}}
 break;
 default:NEVER;
 }}
 else{
-Dn=*((u8*)t_e4d8+zn[-1]);
-if(wn>Dn){
-if(Dn<=(sn==0?48:49)){
-Fn=0;
-Gn=0;
-Hn=yn;
+vj=*((u8*)t_e4d8+rj[-1]);
+if(oj>vj){
+if(vj<=(kj==0?48:49)){
+xj=0;
+yj=0;
+zj=qj;
 goto L98;}
-En=place_in_stretch_597(sn,dn,yn,tn);
-Fn=En.f1;
-Gn=En.f0;
-Hn=yn;
+wj=place_in_stretch_597(kj,Vi,qj,lj);
+xj=wj.f1;
+yj=wj.f0;
+zj=qj;
 goto L98;}}}
-In=yn+1;
-Jn=en-In;
-if(Jn<16)Kn=0;
+Aj=qj+1;
+Bj=Wi-Aj;
+if(Bj<16)Cj=0;
 else{
-Ln=dn+(i64)In;
-Mn=cttz(v16_eq(v16_at(Ln),splat(95)),16);
-if((Jn<32)|(Mn<16))Kn=Mn;
+Dj=Vi+(i64)Aj;
+Ej=cttz(v16_eq(v16_at(Dj),splat(95)),16);
+if((Bj<32)|(Ej<16))Cj=Ej;
 else{
-Nn=cttz(v16_eq(v16_at(Ln+16),splat(95)),16);
-if(Nn<16)Kn=Nn|16;
+Fj=cttz(v16_eq(v16_at(Dj+16),splat(95)),16);
+if(Fj<16)Cj=Fj|16;
 else{
-if(Jn<=95){
-Kn=32;
+if(Bj<=95){
+Cj=32;
 goto L99;}
-On=32;
-L100:Pn=Ln+(i64)On;
-if((((v16_eq(v16_at(Pn),splat(95))|v16_eq(v16_at(Pn+16),splat(95)))|v16_eq(v16_at(Pn+32),splat(95)))|v16_eq(v16_at(Pn+48),splat(95)))==0){
-Qn=On+64;
-if(Jn-Qn>63){
-On=Qn;
+Gj=32;
+L100:Hj=Dj+(i64)Gj;
+if((((v16_eq(v16_at(Hj),splat(95))|v16_eq(v16_at(Hj+16),splat(95)))|v16_eq(v16_at(Hj+32),splat(95)))|v16_eq(v16_at(Hj+48),splat(95)))==0){
+Ij=Gj+64;
+if(Bj-Ij>63){
+Gj=Ij;
 goto L100;}
-Kn=Qn;}
-else Kn=On;}}}
-L99:Rn=Kn+In;
-if(Rn<en){
-yn=Rn;
+Cj=Ij;}
+else Cj=Gj;}}}
+L99:Jj=Cj+Aj;
+if(Jj<Wi){
+qj=Jj;
 goto L95;}
-un=Rn;}
-if(*((u8*)t_e4d8+*(dn+(i64)un-1))>(sn==0?48:49)){
-Sn=place_in_stretch_597(sn,dn,un,tn);
-Tn=Sn.f0;
-Un=Sn.f1;}
+mj=Jj;}
+if(*((u8*)t_e4d8+*(Vi+(i64)mj-1))>(kj==0?48:49)){
+Kj=place_in_stretch_597(kj,Vi,mj,lj);
+Lj=Kj.f0;
+Mj=Kj.f1;}
 else{
-Tn=0;
-Un=0;}
-if(un==0){
-An=sn;
+Lj=0;
+Mj=0;}
+if(mj==0){
+sj=kj;
 goto L96;}
-Fn=Un;
-Gn=Tn;
-Hn=un;
-L98:w2(r+48,(u16)((u32)Fn<<8)|Gn);
+xj=Mj;
+yj=Lj;
+zj=mj;
+L98:w2(r+48,(u16)((u32)xj<<8)|yj);
 z7(p);
-nn=0;
-on=Hn;
-pn=1;
-qn=0;
-rn=0;
+fj=0;
+gj=zj;
+hj=1;
+ij=0;
+jj=0;
 goto L94;}
-An=*r;
-L96:Bn=An==2;
-Cn=An==1?50:49;
-L97:if(Cn>*((u8*)t_e4d8+*dn))goto L101;
-Vn=0;
-L102:if(en-Vn>15){
-Wn=v16_at(dn+Vn);
-Xn=cttz(v16_ne(Wn,splat(36))&(v16_ne(Wn,splat(46))&(v16_ne(Wn,splat(95))&(v16_ult(v16_add(Wn,splat(198)),splat(246))&v16_ult(v16_add(v16_or(Wn,splat(32)),splat(133)),splat(230))))),16);
-Yn=Vn+Xn;
-if(Xn>=16){
-Vn=Yn;
+sj=*r;
+L96:tj=sj==2;
+uj=sj==1?50:49;
+L97:if(uj>*((u8*)t_e4d8+*Vi))goto L101;
+Nj=0;
+L102:if(Wi-Nj>15){
+Oj=v16_at(Vi+Nj);
+Pj=cttz(v16_ne(Oj,splat(36))&(v16_ne(Oj,splat(46))&(v16_ne(Oj,splat(95))&(v16_ult(v16_add(Oj,splat(198)),splat(246))&v16_ult(v16_add(v16_or(Oj,splat(32)),splat(133)),splat(230))))),16);
+Qj=Nj+Pj;
+if(Pj>=16){
+Nj=Qj;
 goto L102;}
-Zn=Yn;}
-else Zn=Vn;
-if(Zn>=en){
-bo=Zn;
+Rj=Qj;}
+else Rj=Nj;
+if(Rj>=Wi){
+Tj=Rj;
 goto L103;}
-ao=Zn;
-L104:if(Cn>*((u8*)t_e4d8+*(dn+ao)))bo=ao;
+Sj=Rj;
+L104:if(uj>*((u8*)t_e4d8+*(Vi+Sj)))Tj=Sj;
 else{
-co=ao+1;
-if(co!=en){
-ao=co;
+Uj=Sj+1;
+if(Uj!=Wi){
+Sj=Uj;
 goto L104;}
-bo=en;}
-L103:if(bo==0)goto L101;
-eo=bo;
-L105:if(eo==0){
-w16(r+32,hn+bo);
-fo=0;
-go=0;}
+Tj=Wi;}
+L103:if(Tj==0)goto L101;
+Vj=Tj;
+L105:if(Vj==0){
+w16(r+32,Zi+Tj);
+Wj=0;
+Xj=0;}
 else{
-ho=eo-1;
-if(*(dn+ho)==46){
-eo=ho;
+Yj=Vj-1;
+if(*(Vi+Yj)==46){
+Vj=Yj;
 goto L105;}
-if(hn+eo>65536-fn){
-io=rp(r+8);
-jo=r8(t+16);
-ko=r8(t+8);
-if(fn>jo-ko){
-lo=grow_amortized_2b6(t,fn);
-if(!lo)goto L106;
-mo=r8(t+16);
-no=r8(t+8);}
+if(Zi+Vj>65536-Xi){
+Zj=rp(r+8);
+ak=r8(t+16);
+bk=r8(t+8);
+if(Xi>ak-bk){
+ck=grow_amortized_2b6(t,Xi);
+if(!ck)goto L106;
+dk=r8(t+16);
+ek=r8(t+8);}
 else{
-mo=jo;
-no=ko;}
-oo=no+fn;
-po=rp(t);
+dk=ak;
+ek=bk;}
+fk=ek+Xi;
+gk=rp(t);
 z16(t+8);
-qo=po+(i64)no;
-if((u64)qo-(u64)io<fn){
-copy_bits_4f4(io,qo,fn);
-w8(t+8,oo);
-w8(t+16,mo);}
+hk=gk+(i64)ek;
+if((u64)hk-(u64)Zj<Xi){
+copy_bits_4f4(Zj,hk,Xi);
+w8(t+8,fk);
+w8(t+16,dk);}
 else{
-memmove(qo,io,fn);
-w8(t+8,oo);
-w8(t+16,mo);
-if(gn)goto L107;}
+memmove(hk,Zj,Xi);
+w8(t+8,fk);
+w8(t+16,dk);
+if(Yi)goto L107;}
 w8(r+16,0);
 L107:w16(r+32,0);
 r[50]=1;
-fo=hn;
-go=1;}
+Wj=Zi;
+Xj=1;}
 else{
-ro=hn;
-so=fn+ro;
-if(so>fn){
-to=r8(r+24);
-if(to-fn<ro){
-uo=grow_amortized_2b6(r+8,ro);
-if(!uo)goto L106;
-vo=r8(r+16);
-wo=vo+ro;
-xo=r8(r+24);
-yo=vo;}
+ik=Zi;
+jk=Xi+ik;
+if(jk>Xi){
+kk=r8(r+24);
+if(kk-Xi<ik){
+lk=grow_amortized_2b6(r+8,ik);
+if(!lk)goto L106;
+mk=r8(r+16);
+nk=mk+ik;
+ok=r8(r+24);
+pk=mk;}
 else{
-wo=so;
-xo=to;
-yo=fn;}
-if(yo<wo)memset(rp(r+8)+(i64)yo,46,ro);
-w8(r+16,wo);
-w8(r+24,xo);
-zo=wo;}
+nk=jk;
+ok=kk;
+pk=Xi;}
+if(pk<nk)memset(rp(r+8)+(i64)pk,46,ik);
+w8(r+16,nk);
+w8(r+24,ok);
+qk=nk;}
 else{
-if(fn>so){
-w8(r+16,so);
-zo=so;}
-else zo=fn;}
-Ao=r8(r+24);
-if(eo>Ao-zo){
-Bo=grow_amortized_2b6(r+8,eo);
-if(!Bo)goto L106;
-Co=r8(r+24);
-Do=r8(r+16);}
+if(Xi>jk){
+w8(r+16,jk);
+qk=jk;}
+else qk=Xi;}
+rk=r8(r+24);
+if(Vj>rk-qk){
+sk=grow_amortized_2b6(r+8,Vj);
+if(!sk)goto L106;
+tk=r8(r+24);
+uk=r8(r+16);}
 else{
-Co=Ao;
-Do=zo;}
-Eo=Do+eo;
-Fo=rp(r+8)+(i64)Do;
-if((u64)Fo-(u64)dn<eo)copy_bits_4f4(dn,Fo,eo);
-else memmove(Fo,dn,eo);
-w8(r+16,Eo);
-w8(r+24,Co);
-w16(r+32,bo-eo);
-fo=0;
-go=0;}}
+tk=rk;
+uk=qk;}
+vk=uk+Vj;
+wk=rp(r+8)+(i64)uk;
+if((u64)wk-(u64)Vi<Vj)copy_bits_4f4(Vi,wk,Vj);
+else memmove(wk,Vi,Vj);
+w8(r+16,vk);
+w8(r+24,tk);
+w16(r+32,Tj-Vj);
+Wj=0;
+Xj=0;}}
 z7(p);
-nn=fo;
-on=bo;
-pn=go;
-qn=0;
-rn=0;
+fj=Wj;
+gj=Tj;
+hj=Xj;
+ij=0;
+jj=0;
 goto L94;
 L101:z48(m);
-if(!Bn){
-Io=rp(r+8);
-if(fn-65537>=0xffffffffffff0001u){
-Jo=*Io==95;
-if(fn==2){
-if(!Jo)goto L108;
-switch(Io[1]){
-case 90:Ko=0;
+if(!tj){
+zk=rp(r+8);
+if(Xi-65537>=0xffffffffffff0001u){
+Ak=*zk==95;
+if(Xi==2){
+if(!Ak)goto L108;
+switch(zk[1]){
+case 90:Bk=0;
 goto L109;
 case 82:break;
 default:goto L108;
 }}
 else{
-if(!Jo)goto L108;
-switch(Io[1]){
-case 90:Ko=0;
+if(!Ak)goto L108;
+switch(zk[1]){
+case 90:Bk=0;
 goto L109;
 case 82:break;
-case 95:switch(Io[2]){
-case 90:Ko=0x100000000u;
+case 95:switch(zk[2]){
+case 90:Bk=0x100000000u;
 goto L109;
-case 82:Ko=0x100000001u;
+case 82:Bk=0x100000001u;
 goto L109;
 default:goto L108;
 }
 break;
 default:goto L108;
 }}
-Ko=1;
-L109:Lo=Ko>>32;
+Bk=1;
+L109:Ck=Bk>>32;
 z12(l);
-append_018(l,Nb,s,Ko,Io+(i64)Lo,fn-Lo,t);
+append_018(l,J,s,Bk,zk+(i64)Ck,Xi-Ck,t);
 if(*l!=0){
 if(l[4]!=4){
-Oo=r8(t+16);
-Po=r8(t+8);
-if(fn>Oo-Po){
-Qo=grow_amortized_2b6(t,fn);
-if(!Qo)goto L110;
-Ro=r8(t+16);
-So=r8(t+8);}
+Fk=r8(t+16);
+Gk=r8(t+8);
+if(Xi>Fk-Gk){
+Hk=grow_amortized_2b6(t,Xi);
+if(!Hk)goto L110;
+Ik=r8(t+16);
+Jk=r8(t+8);}
 else{
-Ro=Oo;
-So=Po;}
-To=So+fn;
-Uo=rp(t)+(i64)So;
-if((u64)Uo-(u64)Io<fn)copy_bits_4f4(Io,Uo,fn);
-else memmove(Uo,Io,fn);
-w8(t+8,To);
-w8(t+16,Ro);
-Mo=fn;
-No=16;
+Ik=Fk;
+Jk=Gk;}
+Kk=Jk+Xi;
+Lk=rp(t)+(i64)Jk;
+if((u64)Lk-(u64)zk<Xi)copy_bits_4f4(zk,Lk,Xi);
+else memmove(Lk,zk,Xi);
+w8(t+8,Kk);
+w8(t+16,Ik);
+Dk=Xi;
+Ek=16;
 goto L111;}
 L110:goto L112;}
-Mo=0;
-No=8;
+Dk=0;
+Ek=8;
 L111:w8(r+56,uadd64(r8(r+56),1));
-Vo=r+56+(i64)No;
-w8(Vo,uadd64(r8(Vo),1));
-Wo=Mo;
+Mk=r+56+(i64)Ek;
+w8(Mk,uadd64(r8(Mk),1));
+Nk=Dk;
 goto L113;}
-L108:Xo=r8(t+16);
-Yo=r8(t+8);
-if(fn>Xo-Yo){
-Zo=grow_amortized_2b6(t,fn);
-if(!Zo)goto L112;
-ap=r8(t+16);
-bp=r8(t+8);}
+L108:Ok=r8(t+16);
+Pk=r8(t+8);
+if(Xi>Ok-Pk){
+Qk=grow_amortized_2b6(t,Xi);
+if(!Qk)goto L112;
+Rk=r8(t+16);
+Sk=r8(t+8);}
 else{
-ap=Xo;
-bp=Yo;}
-cp=bp+fn;
-dp=rp(t);
+Rk=Ok;
+Sk=Pk;}
+Tk=Sk+Xi;
+Uk=rp(t);
 z16(t+8);
-ep=dp+(i64)bp;
-if((u64)ep-(u64)Io<fn){
-copy_bits_4f4(Io,ep,fn);
-w8(t+8,cp);
-w8(t+16,ap);
-Wo=0;}
+Vk=Uk+(i64)Sk;
+if((u64)Vk-(u64)zk<Xi){
+copy_bits_4f4(zk,Vk,Xi);
+w8(t+8,Tk);
+w8(t+16,Rk);
+Nk=0;}
 else{
-memmove(ep,Io,fn);
-w8(t+8,cp);
-w8(t+16,ap);
-if(gn){
-fp=0;
+memmove(Vk,zk,Xi);
+w8(t+8,Tk);
+w8(t+16,Rk);
+if(Yi){
+Wk=0;
 goto L114;}
-Wo=0;}
+Nk=0;}
 L113:w8(r+16,0);
-fp=Wo;
+Wk=Nk;
 L114:z18(r+32);
-Go=hn;
-Ho=fp;
+xk=Zi;
+yk=Wk;
 goto L115;}
-end_within_3fd(m,r,Nb,s,t);
+end_within_3fd(m,r,J,s,t);
 if(*m==0){
-Go=r16(m+16);
-Ho=r8(m+32);
+xk=r16(m+16);
+yk=r8(m+32);
 goto L115;}
 L112:goto L106;
 L115:z7(p);
-nn=Go;
-on=1;
-pn=1;
-qn=Ho;
-rn=0;
+fj=xk;
+gj=1;
+hj=1;
+ij=yk;
+jj=0;
 goto L94;
 L106:goto L116;
-L94:w16(o,nn);
-w8(o+16,on);
-o[24]=pn;
+L94:w16(o,fj);
+w8(o+16,gj);
+o[24]=hj;
 memcpy(o+25,p,7);
-w8(o+32,qn);
-w8(o+40,rn);
-gp=r8(t+8);
-hp=r8(u+32);
-if(hp<=(gp^18446744073709551615u)){
-ip=hp+gp;
-if(ip<=r8(u+24)){
-jp=rp(t);
-kp=r8(u+16);
-lp=r8(u+8);
-if(gp>kp-lp){
-np=grow_amortized_2b6(u,gp);
-if(!np)goto L116;
-op=r8(u+16);
-pp=r8(u+8);}
+w8(o+32,ij);
+w8(o+40,jj);
+Xk=r8(t+8);
+Yk=r8(u+32);
+if(Yk<=(Xk^18446744073709551615u)){
+Zk=Yk+Xk;
+if(Zk<=r8(u+24)){
+al=rp(t);
+bl=r8(u+16);
+cl=r8(u+8);
+if(Xk>bl-cl){
+dl=grow_amortized_2b6(u,Xk);
+if(!dl)goto L116;
+el=r8(u+16);
+fl=r8(u+8);}
 else{
-op=kp;
-pp=lp;}
-sp=pp+gp;
-tp=rp(u)+(i64)pp;
-if((u64)tp-(u64)jp<gp)copy_bits_4f4(jp,tp,gp);
-else memmove(tp,jp,gp);
-w8(u+8,sp);
-w8(u+16,op);}
-w8(u+32,ip);
-if(gp!=0)w8(t+8,0);
-up=add_following_166(u,o,dn,on);
-if(!(up&1)){
-vp=on+cn;
-if(vp>=bn)goto L92;
-cn=vp;
+el=bl;
+fl=cl;}
+gl=fl+Xk;
+hl=rp(u)+(i64)fl;
+if((u64)hl-(u64)al<Xk)copy_bits_4f4(al,hl,Xk);
+else memmove(hl,al,Xk);
+w8(u+8,gl);
+w8(u+16,el);}
+w8(u+32,Zk);
+if(Xk!=0)w8(t+8,0);
+il=add_following_166(u,o,Vi,gj);
+if(!(il&1)){
+jl=gj+Ui;
+if(jl>=Ti)goto L92;
+Ui=jl;
 goto L93;}}
 L116:goto L117;
-L92:yp=q[9];
+L92:kl=q[9];
 if(q[8]&1){
-zp=end_segment_ba1(Nb,s,r,t,u);
-if(zp!=0)goto L117;}
-Ap=bn+Ym;
-if(Ap>=e)goto L118;
-Ym=Ap;
-Zm=yp;
+ll=end_segment_ba1(J,s,r,t,u);
+if(ll!=0)goto L117;}
+ml=Ti+Qi;
+if(ml>=e)goto L118;
+Qi=ml;
+Ri=kl;
 goto L91;
 L117:if(r8(u+16)!=0)port_rattle_dealloc(rp(u));
 if(r8(t+16)!=0)port_rattle_dealloc(rp(t));
-Bp=rp(s+1944);
-Cp=rp(s+1984);
-Dp=r8(s+2000);
-Ep=rp(s+2008);
-Fp=r8(s+2024);
-Gp=rp(s+2032);
-Hp=r8(s+2048);
-Ip=r8(s+1960);
-memcpy(k,s,1944);
+nl=rp(s+1544);
+ol=rp(s+1584);
+pl=r8(s+1600);
+ql=rp(s+1608);
+rl=r8(s+1624);
+sl=rp(s+1632);
+tl=r8(s+1648);
+ul=r8(s+1560);
+memcpy(k,s,1544);
 drop_1dd(k);
-if(Ip!=0)port_rattle_dealloc(Bp);
-if(Dp!=0)port_rattle_dealloc(Cp);
-if(Fp!=0)port_rattle_dealloc(Ep);
-if(Hp!=0)port_rattle_dealloc(Gp);
+if(ul!=0)port_rattle_dealloc(nl);
+if(pl!=0)port_rattle_dealloc(ol);
+if(rl!=0)port_rattle_dealloc(ql);
+if(tl!=0)port_rattle_dealloc(sl);
 if(r8(r+24)==0)goto L119;
 goto L120;}
-L118:Jp=end_segment_ba1(Nb,s,r,t,u);
-if(!(Jp&1)){
-Sp=rp(u);
-Tp=r8(u+8);
-Up=r8(u+16);
-Vp=r8(u+32);
-Wp=r8(r+56);
-Xp=r8(r+64);
-Yp=r8(r+72);
+L118:vl=end_segment_ba1(J,s,r,t,u);
+if(!(vl&1)){
+El=rp(u);
+Fl=r8(u+8);
+Gl=r8(u+16);
+Hl=r8(u+32);
+Il=r8(r+56);
+Jl=r8(r+64);
+Kl=r8(r+72);
 if(r8(t+16)!=0)port_rattle_dealloc(rp(t));
-Zp=rp(s+1944);
-aq=rp(s+1984);
-bq=r8(s+2000);
-cq=rp(s+2008);
-dq=r8(s+2024);
-eq=rp(s+2032);
-fq=r8(s+2048);
-gq=r8(s+1960);
-memcpy(j,s,1944);
+Ll=rp(s+1544);
+Ml=rp(s+1584);
+Nl=r8(s+1600);
+Ol=rp(s+1608);
+Pl=r8(s+1624);
+Ql=rp(s+1632);
+Rl=r8(s+1648);
+Sl=r8(s+1560);
+memcpy(j,s,1544);
 drop_1dd(j);
-if(gq!=0)port_rattle_dealloc(Zp);
-if(bq!=0)port_rattle_dealloc(aq);
-if(dq!=0)port_rattle_dealloc(cq);
-if(fq!=0)port_rattle_dealloc(eq);
+if(Sl!=0)port_rattle_dealloc(Ll);
+if(Nl!=0)port_rattle_dealloc(Ml);
+if(Pl!=0)port_rattle_dealloc(Ol);
+if(Rl!=0)port_rattle_dealloc(Ql);
 if(r8(r+24)!=0)port_rattle_dealloc(rp(r+8));
-if(g<Vp){
-hq=6;
-iq=Vp;}
+if(g<Hl){
+Tl=6;
+Ul=Hl;}
 else{
-if(g<Tp){
-hq=6;
-iq=Tp;}
+if(g<Fl){
+Tl=6;
+Ul=Fl;}
 else{
-if((u64)f-(u64)Sp<Tp)copy_bits_4f4(Sp,f,Tp);
-else memmove(f,Sp,Tp);
-w8(h,Wp);
-w8(h+8,Xp);
-w8(h+16,Yp);
-hq=0;
-iq=Tp;}}
-if(Up==0){
-Vm=iq;
-Wm=hq;
+if((u64)f-(u64)El<Fl)copy_bits_4f4(El,f,Fl);
+else memmove(f,El,Fl);
+w8(h,Il);
+w8(h+8,Jl);
+w8(h+16,Kl);
+Tl=0;
+Ul=Fl;}}
+if(Gl==0){
+Ni=Ul;
+Oi=Tl;
 goto L90;}
-port_rattle_dealloc(Sp);
-Vm=iq;
-Wm=hq;
+port_rattle_dealloc(El);
+Ni=Ul;
+Oi=Tl;
 goto L90;}
 if(r8(u+16)!=0)port_rattle_dealloc(rp(u));
 if(r8(t+16)!=0)port_rattle_dealloc(rp(t));
-Kp=rp(s+1944);
-Lp=rp(s+1984);
-Mp=r8(s+2000);
-Np=rp(s+2008);
-Op=r8(s+2024);
-Pp=rp(s+2032);
-Qp=r8(s+2048);
-Rp=r8(s+1960);
-memcpy(i,s,1944);
+wl=rp(s+1544);
+xl=rp(s+1584);
+yl=r8(s+1600);
+zl=rp(s+1608);
+Al=r8(s+1624);
+Bl=rp(s+1632);
+Cl=r8(s+1648);
+Dl=r8(s+1560);
+memcpy(i,s,1544);
 drop_1dd(i);
-if(Rp!=0)port_rattle_dealloc(Kp);
-if(Mp!=0)port_rattle_dealloc(Lp);
-if(Op!=0)port_rattle_dealloc(Np);
-if(Qp!=0)port_rattle_dealloc(Pp);
+if(Dl!=0)port_rattle_dealloc(wl);
+if(yl!=0)port_rattle_dealloc(xl);
+if(Al!=0)port_rattle_dealloc(zl);
+if(Cl!=0)port_rattle_dealloc(Bl);
 if(r8(r+24)==0)goto L119;
 L120:port_rattle_dealloc(rp(r+8));
-L119:Vm=0;
-Wm=5;}
-L90:lk=Vm;
-mk=Wm;}
-x8(a,lk);
+L119:Ni=0;
+Oi=5;}
+L90:dg=Ni;
+eg=Oi;}
+x8(a,dg);
 x4(a+8,0);
-x4(a+12,mk);
+x4(a+12,eg);
 return;
 }
 
@@ -45174,62 +44891,35 @@ L1:return c;
 /* sym_languages::languages::LanguagesDemangler::append */
 static void append_a0b(u8* a,u8* b,u8* c,u8 d,u8* e,u64 f,u8* g)
 {
-A16 u8 h[12],i[12],j[12],k[112],l[104],m[12],n[100];
-u32 o,r,D,Z,ea,ha,ia,ra,sa,Da;
-u8 p,t,y,B,C,H,M,T,V,Y,da,fa,ga,ja,ka,ta,ua,va,Aa,Ea,Fa;
-u64 q,s,v,w,x,z,A,E,J,K,L,N,O,P,S,U,W,X,aa,na,oa,qa,xa,ya,za,Ba,Ca,Ga;
-u8 *u,*F,*G,*I,*Q,*R,*ba,*ca,*la,*ma,*pa,*wa,*Ha,*Ia;
+A16 u8 h[12],i[112],j[104],k[12],l[100],m[12];
+u32 n,q,B,G,J,K,T;
+u8 o,s,t,v,x,A,F,H,I,L,M,U,V,aa;
+u64 p,r,u,w,y,z,C,P,Q,S,X,Y,Z,ba,ca,da;
+u8 *D,*E,*N,*O,*R,*W,*ea,*fa;
+z12(m);
 if(d==0){
-o=r4(b);
-p=b[4];
-if(p==0){
-q=umin64(o>>2,(f<<5)+1024);
-r=q;
+n=r4(b);
+o=b[4];
+if(o==0){
+p=umin64(n>>2,(f<<5)+1024);
+q=p;
 if(r8(c+504)!=0)w8(c+504,0);
-w8(c+520,q);
-w8(c+528,umin64(r8(c+512),q));
+w8(c+520,p);
+w8(c+528,umin64(r8(c+512),p));
 if(r8(c+544)!=0)w8(c+544,0);
-s=f&4294967295u;
-w8(c+560,s);
-w8(c+568,umin64(r8(c+552),s));
+r=f&4294967295u;
+w8(c+560,r);
+w8(c+568,umin64(r8(c+552),r));
 if(r8(c+584)!=0)w8(c+584,0);
-w8(c+600,s);
-w8(c+608,umin64(r8(c+592),s));
+w8(c+600,r);
+w8(c+608,umin64(r8(c+592),r));
 c[668]=0;
-t=run_48b(c+496,e,f,r);
-if(t){
+s=run_48b(c+496,e,f,q);
+if(s){
 if(r8(c+544)!=0)w8(c+544,0);
 z16(c+560);
 if(r8(c+584)!=0)w8(c+584,0);
 z16(c+600);
-u=rp(c+496);
-v=r8(c+504);
-w=r8(g+16);
-x=r8(g+8);
-if(v>w-x){
-y=grow_amortized_2b6(g,v);
-if(!y){
-B=1;
-C=4;
-D=0;
-goto L1;}
-z=r8(g+16);
-A=r8(g+8);}
-else{
-z=w;
-A=x;}
-E=A+v;
-F=rp(g);
-z16(g+8);
-G=F+(i64)A;
-if((u64)G-(u64)u<v)copy_bits_4f4(u,G,v);
-else memmove(G,u,v);
-wp(g,F);
-w8(g+8,E);
-w8(g+16,z);
-B=0;
-C=0;
-D=0;
 goto L1;}
 if(r8(c+504)!=0)w8(c+504,0);
 z16(c+520);
@@ -45239,5550 +44929,130 @@ c[668]=0;
 z16(c+560);
 z16(c+600);}
 else{
-H=write_less_2c7(c+1544,e,f,o,1,p);
-if(H){
-I=rp(c+1544);
-J=r8(c+1552);
-K=r8(g+16);
-L=r8(g+8);
-if(J>K-L){
-M=grow_amortized_2b6(g,J);
-if(!M){
-B=1;
-C=4;
-D=0;
-goto L1;}
-N=r8(g+16);
-O=r8(g+8);}
-else{
-N=K;
-O=L;}
-P=O+J;
-Q=rp(g);
-z16(g+8);
-R=Q+(i64)O;
-if((u64)R-(u64)I<J)copy_bits_4f4(I,R,J);
-else memmove(R,I,J);
-wp(g,Q);
-w8(g+8,P);
-w8(g+16,N);
-B=0;
-C=0;
-D=0;
-goto L1;}}
-z12(m);
-z112(k);
-S=r8(c+696);
-if(!((f<S)|((S&4294967295u)==0))){
-T=parts_equal_58b(e,S,rp(c+688),S);
-if(T){
-read_on_223(k,c,e+(i64)S,f-S);
+t=write_less_2c7(c+496,e,f,n,1,o);
+if(t)goto L1;}
+z12(k);
+z112(i);
+u=r8(c+696);
+if(!((f<u)|((u&4294967295u)==0))){
+v=parts_equal_58b(e,u,rp(c+688),u);
+if(v){
+read_on_223(i,c,e+(i64)u,f-u);
 goto L2;}}
-z12(j);
+z12(h);
 x4(c+24,0);
 x4(c+28,0);
 if(r8(c+40)!=0)w8(c+40,0);
 if(r8(c+64)!=0)w8(c+64,0);
 w8(c+80,0);
 w4(c+88,0);
-run_888(j,c+24,e,f,1);
-if(*j==0){
+run_888(h,c+24,e,f,1);
+if(*h==0){
 if(r8(c+8)!=0)w8(c+8,0);
-U=r8(c+16);
-if(f>U){
-V=grow_amortized_2b6(c,f);
-if(!V){
-Y=4;
-Z=0;
+w=r8(c+16);
+if(f>w){
+x=grow_amortized_2b6(c,f);
+if(!x){
+A=4;
+B=0;
 goto L3;}
-W=r8(c+16);
-X=r8(c+8);}
+y=r8(c+16);
+z=r8(c+8);}
 else{
-W=U;
-X=0;}
-aa=X+f;
-ba=rp(c);
+y=w;
+z=0;}
+C=z+f;
+D=rp(c);
 z16(c+8);
-ca=ba+(i64)X;
-if((u64)ca-(u64)e<f)copy_bits_4f4(e,ca,f);
-else memmove(ca,e,f);
-wp(c,ba);
-w8(c+8,aa);
-w8(c+16,W);
-link_054(k,c);
+E=D+(i64)z;
+if((u64)E-(u64)e<f)copy_bits_4f4(e,E,f);
+else memmove(E,e,f);
+wp(c,D);
+w8(c+8,C);
+w8(c+16,y);
+link_054(i,c);
 goto L2;}
-da=j[4];
-ea=r4(j+8);
+F=h[4];
+G=r4(h+8);
 x4(c+24,0);
 x4(c+28,0);
 if(r8(c+40)!=0)w8(c+40,0);
 if(r8(c+64)!=0)w8(c+64,0);
 w8(c+80,0);
 w4(c+88,0);
-Y=da;
-Z=ea;
-L3:fa=1;
-ga=Y;
-ha=Z;
+A=F;
+B=G;
+L3:H=1;
+I=A;
+J=B;
 goto L4;
-L2:ia=r4(k+8);
-ja=*k;
-ka=k[4];
-memcpy(n,k+12,100);
-if(ja==0){
-w4(l,ia);
-memcpy(l+4,n,100);
-print_853(m,c,l,o,p,g);
-la=qp(c+96);
-ma=qp(c+120);
-na=q8(c+136);
-oa=q8(c+112);
-memcpy(c+96,n+20,64);
-if(oa!=0)port_rattle_dealloc(la);
-if(na!=0)port_rattle_dealloc(ma);
-pa=qp(c);
-qa=q8(c+16);
-memcpy(c,l,24);
-if(qa!=0)port_rattle_dealloc(pa);
-fa=*m;
-ga=m[4];
-ha=r4(m+8);}
+L2:K=r4(i+8);
+L=*i;
+M=i[4];
+memcpy(l,i+12,100);
+if(L==0){
+w4(j,K);
+memcpy(j+4,l,100);
+print_853(k,c,j,n,o,g);
+N=qp(c+96);
+O=qp(c+120);
+P=q8(c+136);
+Q=q8(c+112);
+memcpy(c+96,l+20,64);
+if(Q!=0)port_rattle_dealloc(N);
+if(P!=0)port_rattle_dealloc(O);
+R=qp(c);
+S=q8(c+16);
+memcpy(c,j,24);
+if(S!=0)port_rattle_dealloc(R);
+H=*k;
+I=k[4];
+J=r4(k+8);}
 else{
-fa=1;
-ga=ka;
-ha=ia;}
-L4:B=fa;
-C=ga;
-D=ha;}
-else{
-ra=r4(b);
-switch(b[4]){
-case 0:case 2:z12(i);
-append_in_c46(i,c+800,e,f,ra,0,g);
-sa=r4(i+8);
-ta=i[4];
-ua=*i;
-break;
-case 1:case 3:z12(h);
-va=write_brief_939(c+1736,e,f,ra);
-if(va){
-wa=rp(c+1736);
-xa=r8(c+1744);
-ya=r8(g+16);
-za=r8(g+8);
-if(xa>ya-za){
-Aa=grow_amortized_2b6(g,xa);
-if(!Aa){
-Da=0;
-Ea=4;
-Fa=1;
+H=1;
+I=M;
+J=K;}
+L4:T=J;
+U=I;
+V=H;
+goto L5;
+L1:W=rp(c+496);
+X=r8(c+504);
+Y=r8(g+16);
+Z=r8(g+8);
+if(X>Y-Z){
+aa=grow_amortized_2b6(g,X);
+if(!aa){
+T=0;
+U=4;
+V=1;
 goto L5;}
-Ba=r8(g+16);
-Ca=r8(g+8);}
+ba=r8(g+16);
+ca=r8(g+8);}
 else{
-Ba=ya;
-Ca=za;}
-Ga=Ca+xa;
-Ha=rp(g);
+ba=Y;
+ca=Z;}
+da=ca+X;
+ea=rp(g);
 z16(g+8);
-Ia=Ha+(i64)Ca;
-if((u64)Ia-(u64)wa<xa)copy_bits_4f4(wa,Ia,xa);
-else memmove(Ia,wa,xa);
-wp(g,Ha);
-w8(g+8,Ga);
-w8(g+16,Ba);
-Da=0;
-Ea=0;
-Fa=0;}
+fa=ea+(i64)ca;
+if((u64)fa-(u64)W<X)copy_bits_4f4(W,fa,X);
+else memmove(fa,W,X);
+wp(g,ea);
+w8(g+8,da);
+w8(g+16,ba);
+T=0;
+U=0;
+V=0;}
 else{
-append_in_c46(h,c+800,e,f,ra,1,g);
-Da=r4(h+8);
-Ea=h[4];
-Fa=*h;}
-L5:sa=Da;
-ta=Ea;
-ua=Fa;
-break;
-default:NEVER;
-}
-B=ua;
-C=ta;
-D=sa;}
-L1:*a=B;
-x4(a+4,C);
-x4(a+8,D);
+append_in_c46(m,c+800,e,f,r4(b),(u32)16777472>>((u32)b[4]<<3),g);
+T=r4(m+8);
+U=m[4];
+V=*m;}
+L5:*a=V;
+x4(a+4,U);
+x4(a+8,T);
 return;
-}
-
-/* itanium::short_way::write_less */
-static u8 write_less_2c7(u8* a,u8* b,u64 c,u32 d,u8 e,u8 f)
-{
-u8 h[32],j[4],k[32],l[32],m[32],o[32],s[4],y[4],z[32],aa[4],ba[32],ea[32],ga[4],ha[32],ia[32],ja[32],la[32],va[4],wa[32],Xa[4],Ya[32],bb[32],db[4],eb[32],fb[32],gb[32],ib[32],mb[4],sb[4],tb[32],Ub[4],Vb[32];
-A16 u8 g[4],i[4],n[4],p[6],q[32],r[4],t[4],u[32],v[4],w[4],x[32],A[4],B[4],C[4],D[4],E[4],F[4],G[4],H[4],I[4],J[40],K[4],L[4],M[4],N[4],O[4],P[4],Q[4],R[4],S[4],T[4],U[4],V[40],W[24],X[40],Y[24],Z[4],ca[4],da[4],fa[4],ka[4],ma[6],na[32],oa[4],pa[4],qa[4],ra[32],sa[4],ta[4],ua[32],xa[4],ya[4],za[4],Aa[4],Ba[4],Ca[4],Da[4],Ea[4],Fa[4],Ga[40],Ha[4],Ia[4],Ja[4],Ka[4],La[4],Ma[4],Na[4],Oa[4],Pa[4],Qa[4],Ra[4],Sa[40],Ta[24],Ua[40],Va[24],Wa[4],Za[4],ab[4],cb[4],hb[4],jb[6],kb[32],lb[4],nb[4],ob[32],pb[4],qb[4],rb[32],ub[4],vb[4],wb[4],xb[4],yb[4],zb[4],Ab[4],Bb[4],Cb[4],Db[40],Eb[4],Fb[4],Gb[4],Hb[4],Ib[4],Jb[4],Kb[4],Lb[4],Mb[4],Nb[4],Ob[4],Pb[40],Qb[24],Rb[40],Sb[24],Tb[4],Wb[4];
-u64 Xb,Zb,ac,bc,hc,ic,kc,pc,qc,sc,tc,uc,zc,Gc,Jc,Kc,Lc,Pc,Rc,Sc,Tc,Uc,Wc,Xc,Yc,Zc,ad,dd,ed,fd,gd,hd,id,jd,md,od,pd,zd,Ad,Bd,Ed,Fd,Kd,Md,Nd,Pd,Qd,Rd,Yd,Zd,ce,de,le,me,re,te,ue,we,xe,ye,Ee,Fe,Ie,Je,Ke,Me,Ne,Oe,Ue,Ze,af,lf,wf,xf,Df,Hf,Jf,Lf,Mf,Nf,Qf,Sf,Tf,Uf,Vf,Wf,Xf,ag,gg,lg,ng,og,rg,sg,ug,vg,wg,Fg,Hg,Ig,Jg,Mg,Og,Pg,Qg,Rg,Sg,Tg,Wg,ch,eh,fh,hh,ih,jh,oh,qh,rh,uh,vh,xh,yh,Bh,Ih,Jh,Ph,ci,di,gi,ni,Fi,Ki,Mi,Ni,Qi,Si,Ui,Vi,bj,cj,ej,hj,ij,qj,rj,tj,wj,yj,Aj,Bj,Ej,Kj,Oj,Qj,Zj,dk,fk,gk,ik,jk,kk,mk,ok,qk,tk,xk,zk,Ck,Ek,Gk,Ik,Kk,Lk,Nk,Sk,Tk,Vk,Wk,Xk,cl,jl,ml,nl,ol,sl,tl,wl,yl,zl,Hl,Il,Jl,Ml,Nl,Sl,Ul,Vl,Xl,Yl,Zl,gm,hm,km,lm,tm,um,zm,Bm,Cm,Em,Fm,Gm,Mm,Nm,Qm,Rm,Sm,Um,Vm,Wm,cn,hn,in,sn,Dn,En,Kn,On,Qn,Sn,Tn,Un,Xn,Zn,ao,bo,co,eo,fo,io,oo,to,vo,wo,zo,Ao,Co,Do,Eo,No,Po,Qo,Ro,Uo,Wo,Xo,Yo,Zo,ap,bp,ep,kp,sp,up,vp,Ap,Bp,Dp,Ep,Hp,Op,Pp,Vp,iq,jq,mq,tq,Lq,Qq,Sq,Tq,Wq,Yq,ar,br,hr,ir,kr,nr,or,wr,xr,zr,Cr,Er,Gr,Hr,Kr,Qr,Ur,Wr,fs,js,ls,ms,os,ps,qs,ss,us,ws,zs,Ds,Fs,Is,Ks,Ms,Os,Qs,Rs,Ts,Ys,Zs,bt,ct,dt,it,pt,st,tt,ut,yt,At,Bt,Ct,Dt,Ft,Gt,Ht,It,Jt,Mt,Nt,Ot,Pt,Qt,Rt,St,Vt,Xt,Yt,gu,hu,iu,lu,mu,ru,tu,uu,wu,xu,yu,Fu,Gu,Ju,Ku,Su,Tu,Yu,av,bv,dv,ev,fv,lv,mv,pv,qv,rv,tv,uv,vv,Bv,Gv,Hv,Rv,cw,dw,jw,nw,pw,rw,sw,tw,ww,yw,zw,Aw,Bw,Cw,Dw,Gw,Mw,Rw,Tw,Uw,Xw,Yw,ax,bx,cx,lx,nx,ox,px,sx,ux,vx,wx,xx,yx,zx,Cx,Ix,Kx,Lx,Nx,Ox,Px,Ux,Wx,Xx,ay,by,dy,ey,hy,oy,py,vy,Iy,Jy,My,Ty,lz,qz,sz,tz,wz,yz,Az,Bz,Hz,Iz,Kz,Nz,Oz,Wz,Xz,Zz,cA,eA,gA,hA,kA,qA,uA,wA,FA,JA,LA,MA,OA,PA,QA,SA,UA,WA,ZA,dB,fB,iB,kB,mB,oB;
-u32 Yb,kd,ae,Be,De,Xe,Ye,rf,sf,tf,vf,Pf,jg,mg,Lg,mh,ph,Gh,Hh,Zh,bi,si,ti,zi,fj,jj,nj,uj,Cj,Ij,Bk,ul,im,Jm,Lm,fn,gn,yn,zn,An,Cn,Wn,ro,uo,To,op,tp,Mp,Np,fq,hq,yq,zq,Fq,lr,pr,tr,Ar,Ir,Or,Hs,Tt,Hu,iv,kv,Ev,Fv,Xv,Yv,Zv,bw,vw,Pw,Sw,rx,Sx,Vx,my,ny,Fy,Hy,Yy,Zy,fz,Lz,Pz,Tz,aA,iA,oA,hB;
-u8 cc,dc,ec,fc,gc,mc,oc,rc,xc,yc,Ac,Bc,Cc,Dc,Ec,Fc,Hc,Ic,Mc,Nc,Oc,ld,nd,qd,sd,Cd,Gd,Id,Ld,Od,Ud,Vd,Wd,Xd,be,ee,fe,he,ie,je,ke,ne,pe,se,ve,Ce,Ge,Le,Pe,Re,Se,Te,Ve,We,bf,df,mf,nf,of,pf,qf,uf,yf,Af,Bf,Cf,Ef,Ff,Gf,If,Kf,Of,Rf,Yf,bg,hg,ig,kg,pg,tg,yg,Ag,Bg,Cg,Dg,Eg,Gg,Kg,Ng,Ug,Xg,dh,gh,nh,sh,wh,zh,Ch,Dh,Eh,Fh,Kh,Mh,Qh,Rh,Sh,Th,Uh,Vh,Wh,Xh,ai,ei,hi,ii,ji,ki,li,mi,oi,qi,ri,vi,wi,xi,yi,Ai,Ci,Di,Ei,Gi,Hi,Ii,Ji,Li,Pi,Ri,Ti,Wi,Xi,Yi,Zi,aj,dj,gj,kj,lj,mj,oj,pj,sj,vj,xj,zj,Dj,Fj,Gj,Hj,Jj,Lj,Nj,Pj,Rj,Sj,Tj,Uj,Vj,Wj,Xj,Yj,ak,bk,ck,ek,nk,rk,sk,uk,vk,Fk,Jk,Pk,Rk,Uk,al,bl,dl,el,fl,gl,hl,il,kl,ll,pl,ql,rl,vl,xl,Al,Bl,Kl,Ol,Ql,Tl,Wl,cm,dm,em,fm,jm,mm,nm,pm,qm,rm,sm,vm,xm,Am,Dm,Km,Om,Tm,Xm,Zm,an,bn,dn,en,jn,ln,tn,un,vn,wn,xn,Bn,Fn,Hn,In,Jn,Ln,Mn,Nn,Pn,Rn,Vn,Yn,go,jo,po,qo,so,xo,Bo,Go,Io,Jo,Ko,Lo,Mo,Oo,So,Vo,cp,fp,lp,np,pp,yp,Cp,Fp,Ip,Jp,Kp,Lp,Qp,Sp,Wp,Xp,Yp,Zp,aq,bq,cq,dq,gq,kq,nq,oq,pq,qq,rq,sq,uq,wq,xq,Bq,Cq,Dq,Eq,Gq,Iq,Jq,Kq,Mq,Nq,Oq,Pq,Rq,Vq,Xq,Zq,cr,dr,er,fr,gr,jr,mr,qr,rr,sr,ur,vr,yr,Br,Dr,Fr,Jr,Lr,Mr,Nr,Pr,Rr,Tr,Vr,Xr,Yr,Zr,as,bs,cs,ds,es,gs,hs,is,ks,ts,xs,ys,As,Bs,Ls,Ps,Vs,Xs,at,gt,ht,jt,kt,lt,mt,nt,ot,qt,rt,vt,wt,xt,Ut,Wt,Zt,au,ju,nu,pu,su,vu,Bu,Cu,Du,Eu,Iu,Lu,Mu,Ou,Pu,Qu,Ru,Uu,Wu,Zu,cv,jv,nv,sv,wv,yv,zv,Av,Cv,Dv,Iv,Kv,Sv,Tv,Uv,Vv,Wv,aw,ew,gw,hw,iw,kw,lw,mw,ow,qw,uw,xw,Ew,Hw,Nw,Ow,Qw,Vw,Zw,ex,gx,hx,ix,jx,kx,mx,qx,tx,Ax,Dx,Jx,Mx,Tx,Yx,cy,fy,iy,jy,ky,ly,qy,sy,wy,xy,yy,zy,Ay,By,Cy,Dy,Gy,Ky,Ny,Oy,Py,Qy,Ry,Sy,Uy,Wy,Xy,bz,cz,dz,ez,gz,iz,jz,kz,mz,nz,oz,pz,rz,vz,xz,zz,Cz,Dz,Ez,Fz,Gz,Jz,Mz,Qz,Rz,Sz,Uz,Vz,Yz,bA,dA,fA,jA,lA,mA,nA,pA,rA,tA,vA,xA,yA,zA,AA,BA,CA,DA,EA,GA,HA,IA,KA,TA,XA,YA,aB,bB,lB,pB;
-v16 jc,lc,Mk,Ok,Ss,Us;
-u8 *nc,*vc,*wc,*Qc,*bd,*cd,*td,*ud,*vd,*xd,*yd,*Dd,*Hd,*Jd,*Sd,*Td,*ge,*oe,*qe,*ze,*Ae,*He,*Qe,*cf,*ef,*ff,*gf,*hf,*zf,*Zf,*fg,*qg,*xg,*zg,*Vg,*bh,*kh,*lh,*th,*Ah,*Lh,*Yh,*fi,*pi,*Oi,*Mj,*hk,*lk,*pk,*wk,*yk,*Ak,*Dk,*Hk,*Qk,*Yk,*Zk,*Cl,*Dl,*El,*Fl,*Gl,*Ll,*Pl,*Rl,*am,*bm,*om,*wm,*ym,*Hm,*Im,*Pm,*Ym,*kn,*mn,*nn,*on,*pn,*Gn,*ho,*no,*yo,*Fo,*Ho,*dp,*jp,*zp,*Gp,*Rp,*eq,*lq,*vq,*Uq,*Sr,*ns,*rs,*vs,*Cs,*Es,*Gs,*Js,*Ns,*Ws,*et,*ft,*zt,*Kt,*Lt,*bu,*cu,*du,*eu,*fu,*ku,*ou,*qu,*zu,*Au,*Nu,*Vu,*Xu,*gv,*hv,*ov,*xv,*Jv,*Lv,*Mv,*Nv,*Ov,*fw,*Fw,*Lw,*Ww,*dx,*fx,*Bx,*Hx,*Qx,*Rx,*Zx,*gy,*ry,*Ey,*Ly,*Vy,*uz,*sA,*NA,*RA,*VA,*cB,*eB,*gB,*jB,*nB;
-u16 Vc,jf,kf,Nh,Oh,ui,Bi,qn,rn,Tp,Up,Aq,Hq,Et,Pv,Qv,ty,uy,az,hz;
-s_p_64 cg,dg,eg,Yg,Zg,ah,ko,lo,mo,gp,hp,ip,Iw,Jw,Kw,Ex,Fx,Gx;
-Xb=umin64(d>>2,(c<<5)+1024);
-Yb=Xb;
-if(r8(a+8)!=0)w8(a+8,0);
-w8(a+24,Xb);
-Zb=r8(a+16);
-ac=umin64(Zb,Xb);
-w8(a+32,ac);
-if(r8(a+48)!=0)w8(a+48,0);
-bc=c&4294967295u;
-w8(a+64,bc);
-w8(a+72,umin64(r8(a+56),bc));
-if(r8(a+88)!=0)w8(a+88,0);
-w8(a+104,bc);
-w8(a+112,umin64(r8(a+96),bc));
-a[172]=0;
-if(e){
-switch(f){
-case 3:cc=run_d0a(a,b,c,Yb);
-if(cc)goto L1;
-break;
-case 2:dc=run_5d6(a,b,c,Yb);
-if(dc)goto L1;
-break;
-case 1:ec=run_a02(a,b,c,Yb);
-if(ec)goto L1;
-break;
-default:NEVER;
-}}
-else{
-fc=c>65536;
-switch(f){
-case 3:if(!fc){
-if(c<16){
-gc=are_few_named_14c(b,c);
-if(!gc)goto L2;}
-else{
-hc=c-16;
-if(hc==0)goto L3;
-ic=0;
-L4:jc=v16_at(b+ic);
-if((v16_ult(jc,splat(33))|v16_eq(jc,splat(127)))!=0)goto L2;
-kc=ic+16;
-if(kc<hc){
-ic=kc;
-goto L4;}
-L3:lc=v16_at(b+hc);
-if((v16_ult(lc,splat(33))|v16_eq(lc,splat(127)))!=0)goto L2;}
-w4(T,0);
-w4(U,0);
-if(c!=0){
-if(c!=1&&*b==95){
-if(b[1]==90){
-if(c>=3){
-mc=b[2];
-if(c<5){
-if(mc==90){
-w8(a+176,3);
-w4(P,0);
-if(c==3)goto L5;
-nc=a+176;
-goto L6;}
-if((c!=3)&(mc==71)){
-if(b[3]==86)goto L7;
-goto L8;}
-switch(mc){
-case 71:goto L8;
-case 84:if(c==3)goto L9;
-break;
-default:goto L10;
-}}
-else{
-switch(mc){
-case 90:w8(a+176,3);
-w4(P,0);
-nc=a+176;
-goto L6;
-case 71:if(b[3]!=86)goto L8;
-if(b[4]!=90)goto L7;
-if(ac<19){
-oc=make_ready_8e3(a,19,128);
-if(!(oc&1))goto L11;
-pc=r8(a+16);
-qc=r8(a+8);}
-else{
-pc=Zb;
-qc=0;}
-if(pc-qc<19){
-rc=grow_amortized_2b6(a,19);
-if(!rc)goto L11;
-sc=r8(a+16);
-tc=r8(a+8);}
-else{
-sc=pc;
-tc=qc;}
-uc=tc+19;
-vc=rp(a);
-z16(a+8);
-wc=vc+(i64)tc;
-if((u64)wc-(u64)(u8*)t_c270<19)copy_bits_4f4((u8*)t_c270,wc,19);
-else memcpy(wc,(u8*)t_c270,19);
-wp(a,vc);
-w8(a+8,uc);
-w8(a+16,sc);
-w8(a+176,5);
-w4(M,0);
-if(c!=5){
-xc=b[5];
-switch(xc){
-case 78:w4(K,0);
-w4(L,1);
-w8(a+176,6);
-if(c!=6){
-switch(b[6]){
-case 75:if(c<=7){
-yc=1;
-zc=7;
-goto L12;}
-switch(b[7]){
-case 82:yc=3;
-zc=8;
-goto L12;
-case 79:yc=5;
-zc=8;
-goto L12;
-default:yc=1;
-zc=7;
-goto L12;
-}
-break;
-case 82:yc=2;
-zc=7;
-goto L12;
-case 79:yc=4;
-zc=7;
-goto L12;
-default:break;}}
-yc=0;
-zc=6;
-L12:w8(a+176,zc);
-L[1]=yc;
-nest_at_de1(K,a,b,c,L);
-*M=*K;
-M[1]=K[1];
-M[2]=K[2];
-M[3]=K[3];
-goto L13;
-case 76:w8(a+176,6);
-begin_name_778(M,a,b,c);
-goto L13;
-case 83:begin_in_std_46e(M,a,b,c);
-goto L13;
-default:if((u8)(xc-97)<26){
-begin_operator_2ba(M,a,b,c);
-goto L13;}
-break;}}
-begin_name_778(M,a,b,c);
-L13:Ac=M[3];
-Bc=M[2];
-Cc=M[1];
-Dc=*M;
-goto L14;
-case 84:break;
-default:goto L10;
-}}
-switch(b[3]){
-case 104:begin_thunk_481(U,a,b,c);
-goto L15;
-case 118:begin_virtual_thunk_f37(U,a,b,c);
-goto L15;
-case 67:begin_clone_893(U);
-goto L15;
-default:break;}
-L9:begin_special_44d(U,a,b,c);
-L15:Ac=U[3];
-Bc=U[2];
-Cc=U[1];
-Dc=*U;
-goto L14;
-L10:w8(a+176,2);
-w4(S,0);
-Ec=b[2];
-switch(Ec){
-case 78:w4(Q,0);
-w4(R,1);
-w8(a+176,3);
-if(c!=3){
-switch(b[3]){
-case 75:if(c<=4){
-Fc=1;
-Gc=4;
-goto L16;}
-switch(b[4]){
-case 82:Fc=3;
-Gc=5;
-goto L16;
-case 79:Fc=5;
-Gc=5;
-goto L16;
-default:Fc=1;
-Gc=4;
-goto L16;
-}
-break;
-case 82:Fc=2;
-Gc=4;
-goto L16;
-case 79:Fc=4;
-Gc=4;
-goto L16;
-default:break;}}
-Fc=0;
-Gc=3;
-L16:w8(a+176,Gc);
-R[1]=Fc;
-nest_at_de1(Q,a,b,c,R);
-*S=*Q;
-S[1]=Q[1];
-S[2]=Q[2];
-S[3]=Q[3];
-goto L17;
-case 76:w8(a+176,3);
-begin_name_778(S,a,b,c);
-goto L17;
-case 83:begin_in_std_46e(S,a,b,c);
-goto L17;
-default:if((u8)(Ec-97)>=26)goto L18;
-begin_operator_2ba(S,a,b,c);
-goto L17;
-}
-L8:begin_clone_893(T);
-Ac=T[3];
-Bc=T[2];
-Cc=T[1];
-Dc=*T;
-goto L14;
-L7:begin_object_056(T,a,b,c);
-Ac=T[3];
-Bc=T[2];
-Cc=T[1];
-Dc=*T;
-goto L14;
-L6:Hc=b[3];
-switch(Hc){
-case 78:w4(N,0);
-w4(O,1);
-w8(nc,4);
-if(c>4){
-switch(b[4]){
-case 75:if(c==5){
-Ic=1;
-Jc=5;
-goto L19;}
-switch(b[5]){
-case 82:Ic=3;
-Jc=6;
-goto L19;
-case 79:Ic=5;
-Jc=6;
-goto L19;
-default:Ic=1;
-Jc=5;
-goto L19;
-}
-break;
-case 82:Ic=2;
-Jc=5;
-goto L19;
-case 79:Ic=4;
-Jc=5;
-goto L19;
-default:break;}}
-Ic=0;
-Jc=4;
-L19:w8(nc,Jc);
-O[1]=Ic;
-nest_at_de1(N,a,b,c,O);
-*P=*N;
-P[1]=N[1];
-P[2]=N[2];
-P[3]=N[3];
-goto L20;
-case 76:w8(nc,4);
-begin_name_778(P,a,b,c);
-goto L20;
-case 83:begin_in_std_46e(P,a,b,c);
-goto L20;
-default:if((u8)(Hc-97)<26){
-begin_operator_2ba(P,a,b,c);
-goto L20;}
-break;}
-L5:begin_name_778(P,a,b,c);
-L20:Ac=P[3];
-Bc=P[2];
-Cc=P[1];
-Dc=*P;
-goto L14;}
-w8(a+176,2);
-w4(S,0);
-L18:begin_name_778(S,a,b,c);
-L17:Ac=S[3];
-Bc=S[2];
-Cc=S[1];
-Dc=*S;
-L14:if(Dc!=1)goto L2;
-Kc=c<<3;
-Lc=0;
-Mc=Ac;
-Nc=Bc;
-Oc=Cc;
-L21:if(Oc==7){
-Pc=r8(a+8);
-if(Pc>Xb)goto L2;
-Qc=rp(a);
-if(Pc==0)goto L22;
-Rc=0;
-Sc=0;
-Tc=0;
-L23:Uc=Rc;
-L24:if(Pc-Uc>15){
-Vc=cttz(v16_ult(v16_at(Qc+Uc),splat(3)),16);
-Wc=Uc+Vc;
-if(Vc>=16){
-Uc=Wc;
-goto L24;}
-Xc=Wc;}
-else{
-if(Uc>=Pc){
-Xc=Uc;
-goto L25;}
-Yc=Uc;
-L26:if(*(Qc+Yc)>2){
-Zc=Yc+1;
-if(Zc!=Pc){
-Yc=Zc;
-goto L26;}
-Xc=Pc;}
-else Xc=Yc;}
-L25:if(Tc==0){
-if(Sc<Rc){
-if(Xc!=Rc){
-ad=Xc-Rc;
-bd=Qc+(i64)Rc;
-cd=Qc+(i64)Sc;
-dd=0;
-L27:*(cd+(i64)dd)=*(bd+(i64)dd);
-ed=dd+1;
-if(ed!=ad){
-dd=ed;
-goto L27;}}}
-fd=Sc-Rc+Xc;}
-else fd=Sc;
-if(Xc!=Pc){
-switch(*(Qc+Xc)){
-case 1:gd=Tc+1;
-break;
-case 2:gd=usub64(Tc,1);
-break;
-default:goto L2;
-}
-hd=Xc+1;
-if(hd<Pc){
-Rc=hd;
-Sc=fd;
-Tc=gd;
-goto L23;}}
-if(r8(a+8)>fd)w8(a+8,fd);
-L22:goto L1;}
-w8(a+184,r8(a+184)+1);
-switch(Oc){
-case 0:w4(H,0);
-w4(I,0);
-id=r8(a+176);
-if(id<c){
-jd=r8(a+8);
-kd=jd;
-ld=*(b+id);
-switch(ld){
-case 80:w4(F,0);
-md=id+1;
-if(md<c){
-switch(*(b+md)){
-case 70:begin_function_7aa(F,a,1);
-*I=*F;
-I[1]=F[1];
-I[2]=F[2];
-nd=F[3];
-goto L28;
-case 65:begin_array_86f(F,a,b,c,1);
-*I=*F;
-I[1]=F[1];
-I[2]=F[2];
-nd=F[3];
-goto L28;
-default:break;}}
-w8(a+176,md);
-od=r8(a+88);
-if(r8(a+112)>od)pd=od;
-else{
-qd=make_ready_9a1(a+80);
-if(!(qd&1)){
-sd=0;
-goto L29;}
-pd=r8(a+88);}
-td=rp(a+80)+pd*44;
-*td=0;
-td[1]=0;
-x2(td+2,0);
-x4(td+4,kd);
-z36(td+8);
-w8(a+88,pd+1);
-sd=1;
-L29:*I=sd;
-I[1]=0;
-I[2]=0;
-nd=0;
-L28:I[3]=nd;
-ud=I+1;
-vd=I+2;
-xd=I+3;
-yd=I;
-goto L30;
-case 70:begin_function_7aa(I,a,0);
-ud=I+1;
-vd=I+2;
-xd=I+3;
-yd=I;
-goto L30;
-case 82:zd=id+1;
-if(zd<c){
-if(*(b+zd)==65){
-begin_array_86f(H,a,b,c,2);
-ud=H+1;
-vd=H+2;
-xd=H+3;
-yd=H;
-goto L30;}}
-w8(a+176,zd);
-Ad=r8(a+88);
-if(r8(a+112)>Ad)Bd=Ad;
-else{
-Cd=make_ready_9a1(a+80);
-if(!(Cd&1)){
-w4(I,0);
-ud=I+1;
-vd=I+2;
-xd=I+3;
-yd=I;
-goto L30;}
-Bd=r8(a+88);}
-Dd=rp(a+80)+Bd*44;
-*Dd=1;
-Dd[1]=0;
-x2(Dd+2,0);
-x4(Dd+4,kd);
-z36(Dd+8);
-w8(a+88,Bd+1);
-*I=1;
-I[1]=0;
-I[2]=0;
-I[3]=0;
-ud=I+1;
-vd=I+2;
-xd=I+3;
-yd=I;
-goto L30;
-case 65:begin_array_86f(I,a,b,c,0);
-ud=I+1;
-vd=I+2;
-xd=I+3;
-yd=I;
-goto L30;
-case 79:rvalue_at_e1d(I,a,b,c);
-ud=I+1;
-vd=I+2;
-xd=I+3;
-yd=I;
-goto L30;
-case 75:w8(a+176,id+1);
-Ed=r8(a+88);
-if(r8(a+112)>Ed)Fd=Ed;
-else{
-Gd=make_ready_9a1(a+80);
-if(!(Gd&1)){
-w4(I,0);
-ud=I+1;
-vd=I+2;
-xd=I+3;
-yd=I;
-goto L30;}
-Fd=r8(a+88);}
-Hd=rp(a+80)+Fd*44;
-*Hd=3;
-Hd[1]=0;
-x2(Hd+2,0);
-x4(Hd+4,kd);
-z36(Hd+8);
-w8(a+88,Fd+1);
-*I=1;
-I[1]=1;
-I[2]=0;
-I[3]=0;
-ud=I+1;
-vd=I+2;
-xd=I+3;
-yd=I;
-goto L30;
-case 78:w4(B,0);
-w4(C,0);
-w8(a+176,id+1);
-nest_at_de1(B,a,b,c,C);
-*I=*B;
-I[1]=B[1];
-I[2]=B[2];
-I[3]=B[3];
-ud=I+1;
-vd=I+2;
-xd=I+3;
-yd=I;
-goto L30;
-case 83:case 90:break;
-case 68:builtin_with_d_cb0(I,a,b,c);
-ud=I+1;
-vd=I+2;
-xd=I+3;
-yd=I;
-goto L30;
-case 84:template_parameter_3b0(I,a,b,c);
-ud=I+1;
-vd=I+2;
-xd=I+3;
-yd=I;
-goto L30;
-default:if((u8)(ld-49)>=9){
-Id=ld-97;
-if(Id>=26){
-ud=I+1;
-vd=I+2;
-xd=I+3;
-yd=I;
-goto L30;}
-if(!(u8)(((u32)65829887>>Id)&1)){
-ud=I+1;
-vd=I+2;
-xd=I+3;
-yd=I;
-goto L30;}
-Jd=rp((u8*)t_e7e8+(u64)Id*8);
-Kd=r8((u8*)t_f635+(u64)Id*8);
-w8(a+176,id+1);
-if(r8(a+32)-jd<Kd){
-Ld=make_ready_8e3(a,Kd,128);
-if(!(Ld&1))goto L31;
-Md=r8(a+8);}
-else Md=jd;
-Nd=r8(a+16);
-if(Kd>Nd-Md){
-Od=grow_amortized_2b6(a,Kd);
-if(!Od)goto L31;
-Pd=r8(a+16);
-Qd=r8(a+8);}
-else{
-Pd=Nd;
-Qd=Md;}
-Rd=Qd+Kd;
-Sd=rp(a);
-z16(a+8);
-Td=Sd+(i64)Qd;
-if((u64)Td-(u64)Jd<Kd)copy_bits_4f4(Jd,Td,Kd);
-else memmove(Td,Jd,Kd);
-wp(a,Sd);
-w8(a+8,Rd);
-w8(a+16,Pd);
-*I=1;
-I[1]=2;
-I[2]=0;
-I[3]=0;
-ud=I+1;
-vd=I+2;
-xd=I+3;
-yd=I;
-goto L30;
-L31:w4(I,0);
-ud=I+1;
-vd=I+2;
-xd=I+3;
-yd=I;
-goto L30;}
-break;}
-named_type_faa(I,a,b,c);
-ud=I+1;
-vd=I+2;
-xd=I+3;
-yd=I;}
-else{
-ud=I+1;
-vd=I+2;
-xd=I+3;
-yd=I;}
-L30:Ud=*xd;
-Vd=*vd;
-Wd=*ud;
-Xd=*yd;
-goto L32;
-case 1:w4(G,0);
-Yd=r8(a+176);
-if(Yd<c){
-Zd=r8(a+8);
-ae=Zd;
-be=*(b+Yd);
-switch(be){
-case 80:w8(a+176,Yd+1);
-ce=r8(a+88);
-if(r8(a+112)>ce)de=ce;
-else{
-ee=make_ready_9a1(a+80);
-if(!(ee&1)){
-fe=0;
-goto L33;}
-de=r8(a+88);}
-ge=rp(a+80)+de*44;
-*ge=0;
-ge[1]=0;
-x2(ge+2,0);
-x4(ge+4,ae);
-z36(ge+8);
-w8(a+88,de+1);
-fe=1;
-L33:*G=fe;
-G[1]=0;
-G[2]=0;
-G[3]=0;
-goto L34;
-case 70:case 65:case 75:he=0;
-ie=0;
-je=0;
-ke=0;
-goto L35;
-case 82:w8(a+176,Yd+1);
-le=r8(a+88);
-if(r8(a+112)>le)me=le;
-else{
-ne=make_ready_9a1(a+80);
-if(!(ne&1)){
-w4(G,0);
-goto L34;}
-me=r8(a+88);}
-oe=rp(a+80)+me*44;
-*oe=1;
-oe[1]=0;
-x2(oe+2,0);
-x4(oe+4,ae);
-z36(oe+8);
-w8(a+88,me+1);
-*G=1;
-G[1]=0;
-G[2]=0;
-G[3]=0;
-goto L34;
-case 79:rvalue_at_e1d(G,a,b,c);
-goto L34;
-case 78:w4(D,0);
-w4(E,0);
-w8(a+176,Yd+1);
-nest_at_de1(D,a,b,c,E);
-*G=*D;
-G[1]=D[1];
-G[2]=D[2];
-G[3]=D[3];
-goto L34;
-case 83:case 90:break;
-case 68:builtin_with_d_cb0(G,a,b,c);
-goto L34;
-case 84:template_parameter_3b0(G,a,b,c);
-goto L34;
-default:if((u8)(be-49)>=9){
-pe=be-97;
-if(pe>=26)goto L34;
-if(!(u8)(((u32)65829887>>pe)&1))goto L34;
-qe=rp((u8*)t_e7e8+(u64)pe*8);
-re=r8((u8*)t_f635+(u64)pe*8);
-w8(a+176,Yd+1);
-if(r8(a+32)-Zd<re){
-se=make_ready_8e3(a,re,128);
-if(!(se&1))goto L36;
-te=r8(a+8);}
-else te=Zd;
-ue=r8(a+16);
-if(re>ue-te){
-ve=grow_amortized_2b6(a,re);
-if(!ve)goto L36;
-we=r8(a+16);
-xe=r8(a+8);}
-else{
-we=ue;
-xe=te;}
-ye=xe+re;
-ze=rp(a);
-z16(a+8);
-Ae=ze+(i64)xe;
-if((u64)Ae-(u64)qe<re)copy_bits_4f4(qe,Ae,re);
-else memmove(Ae,qe,re);
-wp(a,ze);
-w8(a+8,ye);
-w8(a+16,we);
-*G=1;
-G[1]=2;
-G[2]=0;
-G[3]=0;
-goto L34;
-L36:w4(G,0);
-goto L34;}
-break;}
-named_type_faa(G,a,b,c);}
-L34:he=G[3];
-ie=G[2];
-je=G[1];
-ke=*G;
-L35:Ud=he;
-Vd=ie;
-Wd=je;
-Xd=ke;
-goto L32;
-case 4:if(!(a[136]&1)){
-Be=r4(a+120);
-Ce=a[139];
-De=r8(a+8);
-Ee=r8(a+48);
-if(r8(a+72)>Ee)Fe=Ee;
-else{
-Ge=make_ready_17a(a+40);
-if(!(Ge&1))goto L37;
-Fe=r8(a+48);}
-He=rp(a+40)+Fe*12;
-x4(He,Be);
-x4(He+4,De);
-He[8]=0;
-He[9]=Ce;
-x2(He+10,0);
-w8(a+48,Fe+1);}
-Ie=r8(a+176);
-if(Ie<c){
-if(*(b+Ie)==73){
-memcpy(J,a+120,20);
-z20(J+20);
-Je=r8(a+8);
-if(r8(a+32)>Je)Ke=Je;
-else{
-Le=make_ready_8e3(a,1,16);
-if(!(Le&1))goto L37;
-Ke=r8(a+8);}
-*(rp(a)+Ke)=1;
-w8(a+8,Ke+1);
-Me=r8(a+176);
-if(Me==18446744073709551615u)goto L37;
-w8(a+176,Me+1);
-Ne=r8(a+88);
-if(r8(a+112)>Ne)Oe=Ne;
-else{
-Pe=make_ready_9a1(a+80);
-if(!(Pe&1))goto L37;
-Oe=r8(a+88);}
-Qe=rp(a+80)+Oe*44;
-*Qe=6;
-Qe[1]=0;
-x2(Qe+2,0);
-memcpy(Qe+4,J,40);
-w8(a+88,Oe+1);
-Re=0;
-Se=1;
-Te=3;}
-else{
-Re=0;
-Se=0;
-Te=6;}}
-else{
-Re=0;
-Se=0;
-Te=6;}
-break;
-case 5:Ue=r8(a+176);
-if(Ue<c){
-if(*(b+Ue)==69){
-Ve=a[132];
-if(Ve==0){
-w8(a+176,Ue+1);
-We=a[139];
-if(a[136]&1){
-Re=We;
-Se=0;
-Te=2;
-break;}
-Xe=r4(a+120);
-Ye=r8(a+8);
-Ze=r8(a+48);
-if(r8(a+72)>Ze)af=Ze;
-else{
-bf=make_ready_17a(a+40);
-if(!(bf&1))goto L37;
-af=r8(a+48);}
-cf=rp(a+40)+af*12;
-x4(cf,Xe);
-x4(cf+4,Ye);
-cf[8]=0;
-cf[9]=We;
-x2(cf+10,0);
-w8(a+48,af+1);
-Re=a[139];
-Se=0;
-Te=2;
-break;}
-w4(A,0);
-w8(a+176,Ue+1);
-df=a[133];
-switch(Ve){
-case 3:addressed_named_968(A,a,b,c,df);
-ef=A+1;
-ff=A+2;
-gf=A+3;
-hf=A;
-break;
-case 1:if(a[138]&1){
-jf=q2(a+140);
-kf=q2(a+142);
-memcpy(z+4,a+144,16);
-lf=q8(a+160);
-mf=a[168];
-nf=a[169];
-of=a[170];
-pf=a[171];
-w2(z,jf);
-w2(z+2,kf);
-x8(z+20,lf);
-z[28]=mf;
-z[29]=nf;
-z[30]=of;
-z[31]=pf;
-qf=a[137]&1;}
-else{
-z32(z);
-qf=0;}
-name_ended_a18(A,a,b,c,df,qf,z,r4(a+120));
-ef=A+1;
-ff=A+2;
-gf=A+3;
-hf=A;
-break;
-case 2:if(a[138]&1){
-rf=r4(a+120);
-if(a[137]&1){
-enclosing_instance_0fc(y,a,b,c,df,r2(a+134),rf);
-ef=y+1;
-ff=y+2;
-gf=y+3;
-hf=y;
-break;}
-sf=rf;}
-else sf=r4(a+120);
-enclosing_named_18f(A,a,b,c,df,sf);
-ef=A+1;
-ff=A+2;
-gf=A+3;
-hf=A;
-break;
-default:NEVER;
-}
-Ud=*gf;
-Vd=*ff;
-Wd=*ef;
-Xd=*hf;
-goto L32;}}
-if(a[136]&1){
-Re=0;
-Se=0;
-Te=6;}
-else{
-tf=r4(a+120);
-uf=a[139];
-vf=r8(a+8);
-wf=r8(a+48);
-if(r8(a+72)>wf)xf=wf;
-else{
-yf=make_ready_17a(a+40);
-if(!(yf&1))goto L37;
-xf=r8(a+48);}
-zf=rp(a+40)+xf*12;
-x4(zf,tf);
-x4(zf+4,vf);
-zf[8]=0;
-zf[9]=uf;
-x2(zf+10,0);
-w8(a+48,xf+1);
-Re=0;
-Se=0;
-Te=6;}
-break;
-case 6:case 2:case 3:Re=Mc;
-Se=Nc;
-Te=Oc;
-break;
-default:NEVER;
-}
-Af=Te;
-Bf=Se;
-Cf=Re;
-goto L38;
-L37:goto L2;
-L32:if(Xd!=1)goto L2;
-Af=Wd;
-Bf=Vd;
-Cf=Ud;
-L38:if(Af!=6){
-Ef=Af;
-Ff=Bf;
-Gf=Cf;
-goto L39;}
-Df=0;
-L40:w4(Z,0);
-Hf=r8(a+176);
-if(Hf<c){
-If=*(b+Hf);
-switch(If){
-case 67:constructor_ff5(Z,a,b,c);
-break;
-case 68:destructor_97b(Z,a,b,c);
-break;
-case 76:w8(a+176,Hf+1);
-Jf=r8(a+8);
-if(r8(a+32)-Jf<2){
-Kf=make_ready_8e3(a,2,128);
-if(!(Kf&1))goto L41;
-Lf=r8(a+8);}
-else Lf=Jf;
-*(rp(a)+Lf)=58;
-*(rp(a)+(i64)Lf+1)=58;
-Mf=Lf+2;
-w8(a+8,Mf);
-Nf=r8(a+176);
-z24(W);
-if(Nf<c){
-Of=*(b+Nf);
-if((u8)(Of-58)>=247){
-Pf=Mf;
-Qf=Nf+1;
-if(Qf<c){
-Rf=*(b+Qf)-48;
-if(Rf<10){
-Sf=Nf+2;
-if(Sf<c){
-if((u8)(*(b+Sf)-48)<10){
-long_name_at_8ad(W,b,c,Nf);
-if(*W!=1)goto L41;
-Tf=r8(W+8);
-Uf=r8(W+16);
-goto L42;}}
-Vf=(u64)Rf+(u8)((u8)(Of*10)+32);
-if(c-Sf<Vf)goto L43;
-if((u8)(*(b+(i64)Sf)-48)<10)goto L43;
-Wf=Vf+Sf;
-Xf=Sf;
-goto L44;}}
-Yf=Of-48;
-if(c-Qf<Yf)goto L43;
-if((u8)(*(b+(i64)Qf)-48)<10)goto L43;
-Wf=Qf+Yf;
-Xf=Qf;
-L44:Tf=Xf;
-Uf=Wf;
-L42:w8(a+176,Uf);
-Zf=b+(i64)Tf;
-ag=Uf-Tf;
-if(Uf!=Tf){
-if(!(ag<10||*Zf!=95)){
-bg=parts_equal_58b((u8*)t_35ad,10,Zf,10);
-if(bg){
-cg=(s_p_64){(u8*)t_62ff,21};
-goto L45;}}}
-dg=(s_p_64){0};dg.f0=Zf;
-eg=dg;eg.f1=ag;
-cg=eg;
-L45:fg=cg.f0;
-gg=cg.f1;
-if(r8(a+32)-Mf<gg){
-hg=make_ready_8e3(a,gg,128);
-if(!(hg&1))goto L41;}
-ig=extend_from_slice_169(a,fg,gg);
-if(ig&1)goto L41;
-jg=r8(a+8);
-kg=a[139];
-w4(a+124,Pf);
-w4(a+128,jg);
-a[136]=0;
-a[137]=1;
-a[138]=0;
-lg=r8(a+176);
-if(lg>=c){
-Ag=0;
-Bg=5;
-goto L46;}
-if(*(b+lg)!=73){
-Ag=0;
-Bg=5;
-goto L46;}
-mg=r4(a+120);
-ng=r8(a+48);
-if(r8(a+72)>ng)og=ng;
-else{
-pg=make_ready_17a(a+40);
-if(!(pg&1))goto L47;
-og=r8(a+48);}
-qg=rp(a+40)+og*12;
-x4(qg,mg);
-x4(qg+4,jg);
-qg[8]=0;
-qg[9]=kg;
-x2(qg+10,0);
-w8(a+48,og+1);
-memcpy(V,a+120,20);
-z20(V+20);
-rg=r8(a+8);
-if(r8(a+32)>rg)sg=rg;
-else{
-tg=make_ready_8e3(a,1,16);
-if(!(tg&1))goto L47;
-sg=r8(a+8);}
-*(rp(a)+sg)=1;
-w8(a+8,sg+1);
-ug=r8(a+176);
-if(ug==18446744073709551615u)goto L47;
-w8(a+176,ug+1);
-vg=r8(a+88);
-if(r8(a+112)>vg){
-wg=vg;
-xg=V;
-goto L48;}
-yg=make_ready_9a1(a+80);
-if(!(yg&1))goto L47;
-zg=V;
-goto L49;}}
-L43:goto L41;
-case 85:begin_component_d5a(Z,a,b,c);
-break;
-default:if((u8)(If-97)>=26)goto L50;
-operator_c58(Z,a,b,c);
-break;}
-if(*Z!=1)goto L2;
-Cg=Z[1];
-Dg=Z[2];
-Eg=Z[3];
-goto L51;}
-L50:Fg=r8(a+8);
-if(r8(a+32)-Fg<2){
-Gg=make_ready_8e3(a,2,128);
-if(!(Gg&1))goto L41;
-Hg=r8(a+8);}
-else Hg=Fg;
-*(rp(a)+Hg)=58;
-*(rp(a)+(i64)Hg+1)=58;
-Ig=Hg+2;
-w8(a+8,Ig);
-Jg=r8(a+176);
-z24(Y);
-if(Jg<c){
-Kg=*(b+Jg);
-if((u8)(Kg-58)>=247){
-Lg=Ig;
-Mg=Jg+1;
-if(Mg<c){
-Ng=*(b+Mg)-48;
-if(Ng<10){
-Og=Jg+2;
-if(Og<c){
-if((u8)(*(b+Og)-48)<10){
-long_name_at_8ad(Y,b,c,Jg);
-if(*Y!=1)goto L41;
-Pg=r8(Y+8);
-Qg=r8(Y+16);
-goto L52;}}
-Rg=(u64)Ng+(u8)((u8)(Kg*10)+32);
-if(c-Og<Rg)goto L53;
-if((u8)(*(b+(i64)Og)-48)<10)goto L53;
-Sg=Rg+Og;
-Tg=Og;
-goto L54;}}
-Ug=Kg-48;
-if(c-Mg<Ug)goto L53;
-if((u8)(*(b+(i64)Mg)-48)<10)goto L53;
-Sg=Mg+Ug;
-Tg=Mg;
-L54:Pg=Tg;
-Qg=Sg;
-L52:w8(a+176,Qg);
-Vg=b+(i64)Pg;
-Wg=Qg-Pg;
-if(Qg!=Pg){
-if(!(Wg<10||*Vg!=95)){
-Xg=parts_equal_58b((u8*)t_35ad,10,Vg,10);
-if(Xg){
-Yg=(s_p_64){(u8*)t_62ff,21};
-goto L55;}}}
-Zg=(s_p_64){0};Zg.f0=Vg;
-ah=Zg;ah.f1=Wg;
-Yg=ah;
-L55:bh=Yg.f0;
-ch=Yg.f1;
-if(r8(a+32)-Ig<ch){
-dh=make_ready_8e3(a,ch,128);
-if(!(dh&1))goto L41;
-eh=r8(a+8);}
-else eh=Ig;
-fh=r8(a+16);
-if(ch>fh-eh){
-gh=grow_amortized_2b6(a,ch);
-if(!gh)goto L41;
-hh=r8(a+16);
-ih=r8(a+8);}
-else{
-hh=fh;
-ih=eh;}
-jh=ih+ch;
-kh=rp(a);
-z16(a+8);
-lh=kh+(i64)ih;
-if((u64)lh-(u64)bh<ch)copy_bits_4f4(bh,lh,ch);
-else memmove(lh,bh,ch);
-wp(a,kh);
-w8(a+8,jh);
-w8(a+16,hh);
-mh=jh;
-nh=a[139];
-w4(a+124,Lg);
-w4(a+128,mh);
-a[136]=0;
-a[137]=1;
-a[138]=0;
-oh=r8(a+176);
-if(oh>=c){
-Ag=0;
-Bg=5;
-goto L46;}
-if(*(b+oh)!=73){
-Ag=0;
-Bg=5;
-goto L46;}
-ph=r4(a+120);
-qh=r8(a+48);
-if(r8(a+72)>qh)rh=qh;
-else{
-sh=make_ready_17a(a+40);
-if(!(sh&1))goto L47;
-rh=r8(a+48);}
-th=rp(a+40)+rh*12;
-x4(th,ph);
-x4(th+4,mh);
-th[8]=0;
-th[9]=nh;
-x2(th+10,0);
-w8(a+48,rh+1);
-memcpy(X,a+120,20);
-z20(X+20);
-uh=r8(a+8);
-if(r8(a+32)>uh)vh=uh;
-else{
-wh=make_ready_8e3(a,1,16);
-if(!(wh&1))goto L47;
-vh=r8(a+8);}
-*(rp(a)+vh)=1;
-w8(a+8,vh+1);
-xh=r8(a+176);
-if(xh==18446744073709551615u)goto L47;
-w8(a+176,xh+1);
-yh=r8(a+88);
-if(r8(a+112)>yh){
-wg=yh;
-xg=X;
-goto L48;}
-zh=make_ready_9a1(a+80);
-if(!(zh&1))goto L47;
-zg=X;
-goto L49;}}
-L53:goto L41;
-L49:wg=r8(a+88);
-xg=zg;
-L48:Ah=rp(a+80)+wg*44;
-*Ah=5;
-Ah[1]=0;
-x2(Ah+2,0);
-memcpy(Ah+4,xg,40);
-w8(a+88,wg+1);
-Ag=1;
-Bg=3;
-L46:Cg=Bg;
-Dg=Ag;
-Eg=0;
-goto L51;
-L47:goto L2;
-L41:goto L2;
-L51:if(Cg==5){
-Bh=r8(a+176);
-if(Bh<c){
-if(*(b+Bh)==69){
-Ch=a[132];
-if(Ch==0){
-w8(a+176,Bh+1);
-Dh=a[139];
-if(a[136]&1){
-Eh=Dh;
-Fh=0;
-goto L56;}
-Gh=r4(a+120);
-Hh=r8(a+8);
-Ih=r8(a+48);
-if(r8(a+72)>Ih)Jh=Ih;
-else{
-Kh=make_ready_17a(a+40);
-if(!(Kh&1))goto L2;
-Jh=r8(a+48);}
-Lh=rp(a+40)+Jh*12;
-x4(Lh,Gh);
-x4(Lh+4,Hh);
-Lh[8]=0;
-Lh[9]=Dh;
-x2(Lh+10,0);
-w8(a+48,Jh+1);
-Eh=a[139];
-Fh=0;
-goto L56;}
-w4(ca,0);
-w8(a+176,Bh+1);
-Mh=a[133];
-switch(Ch){
-case 3:addressed_named_968(ca,a,b,c,Mh);
-break;
-case 1:if(a[138]&1){
-Nh=q2(a+140);
-Oh=q2(a+142);
-memcpy(ba+4,a+144,16);
-Ph=q8(a+160);
-Qh=a[168];
-Rh=a[169];
-Sh=a[170];
-Th=a[171];
-w2(ba,Nh);
-w2(ba+2,Oh);
-x8(ba+20,Ph);
-ba[28]=Qh;
-ba[29]=Rh;
-ba[30]=Sh;
-ba[31]=Th;
-Uh=a[137]&1;}
-else{
-z32(ba);
-Uh=0;}
-name_ended_a18(ca,a,b,c,Mh,Uh,ba,r4(a+120));
-break;
-case 2:if(a[138]&1){
-if(a[137]&1){
-enclosing_instance_0fc(aa,a,b,c,Mh,r2(a+134),r4(a+120));
-Vh=aa[3];
-Wh=aa[2];
-Xh=aa[1];
-Yh=aa;
-goto L57;}}
-enclosing_named_18f(ca,a,b,c,Mh,r4(a+120));
-break;
-default:NEVER;
-}
-Vh=ca[3];
-Wh=ca[2];
-Xh=ca[1];
-Yh=ca;
-L57:if(*Yh!=1)goto L2;
-Ef=Xh;
-Ff=Wh;
-Gf=Vh;
-goto L39;}}
-if(!(a[136]&1)){
-Zh=r4(a+120);
-ai=a[139];
-bi=r8(a+8);
-ci=r8(a+48);
-if(r8(a+72)>ci)di=ci;
-else{
-ei=make_ready_17a(a+40);
-if(!(ei&1))goto L2;
-di=r8(a+48);}
-fi=rp(a+40)+di*12;
-x4(fi,Zh);
-x4(fi+4,bi);
-fi[8]=0;
-fi[9]=ai;
-x2(fi+10,0);
-w8(a+48,di+1);}
-gi=Df+1;
-if(gi!=16){
-Df=gi;
-goto L40;}
-hi=6;
-ii=0;
-ji=0;
-goto L58;}
-Ef=Cg;
-Ff=Dg;
-Gf=Eg;
-L39:if(Ef!=2){
-ki=Ef;
-li=Ff;
-mi=Gf;
-goto L59;}
-Eh=Gf;
-Fh=Ff;
-L56:w4(v,0);
-w4(w,0);
-z32(x);
-ni=r8(a+88);
-if(ni!=0){
-oi=Fh&1;
-pi=rp(a+80)+(i64)(ni*44);
-qi=pi[-44];
-ri=pi[-43];
-si=q4(pi-40);
-ti=q4(pi-36);
-ui=q2(pi-32);
-switch(qi){
-case 29:case 28:case 27:case 26:case 4:case 5:case 6:case 7:case 8:case 11:case 12:case 13:case 14:case 15:case 16:case 17:case 18:case 19:case 20:case 21:case 22:case 23:case 24:case 25:if(Eh&1){
-pass_dependent_3d7(v,a,b,c);
-vi=v[3];
-wi=v[2];
-xi=v[1];
-yi=*v;
-goto L60;}
-zi=q4(pi-4);
-w4(r,0);
-switch(qi){
-case 22:returned_07a(r,a,b,c,ri&1);
-break;
-case 23:parameter_at_257(r,a,b,c,ri&1,0);
-break;
-case 24:array_ended_b9c(r,a,b,c,ri,si,ti);
-break;
-case 12:enclosing_parameter_fc1(r,a,b,c,si,ti);
-break;
-case 13:instance_parameter_240(r,a,b,c,ri,si,ti);
-break;
-case 11:w2(o,ui);
-memcpy(o+2,pi-30,26);
-x4(o+28,zi);
-enclosing_front_fa8(r,a,ri,si,ti,o);
-break;
-case 17:w4(p,ti);
-w2(p+4,ui);
-lambda_parameter_383(r,a,b,c,si,p);
-break;
-case 18:member_parameter_7e4(r,a,b,c,si);
-break;
-case 15:w4(q,ti);
-w2(q+4,ui);
-memcpy(q+6,pi-30,26);
-addressed_front_54d(r,a,b,c,ri,si,q);
-break;
-case 16:addressed_parameter_2cf(r,a,b,c,si);
-break;
-case 14:*r=0;
-break;
-case 19:finish_8cd(r,a,b,c);
-break;
-case 20:derived_ended_aef(r,a,b,c);
-break;
-case 21:base_ended_299(r,a,b,c,si);
-break;
-case 29:enumerator_21c(r,a,b,c);
-break;
-case 26:case 25:case 28:Ai=ti;
-Bi=zi;
-w4(n,0);
-switch(qi){
-case 26:w2(k,ti>>16);
-w2(k+2,ui);
-memcpy(k+4,pi-30,26);
-w2(k+30,Bi);
-argument_enumerator_2d4(n,a,b,c,si,Ai,k);
-break;
-case 25:w2(l,ti>>16);
-w2(l+2,ui);
-memcpy(l+4,pi-30,26);
-w2(l+30,Bi);
-argument_ended_1bb(n,a,b,c,si,Ai,l,oi);
-break;
-case 28:w2(m,ti>>16);
-w2(m+2,ui);
-memcpy(m+4,pi-30,26);
-w2(m+30,Bi);
-element_ended_20b(n,a,b,c,si,Ai,m,oi);
-break;
-case 27:*n=0;
-break;
-default:NEVER;
-}
-Ci=n[1];
-Di=n[2];
-Ei=n[3];
-*r=*n;
-r[1]=Ci;
-r[2]=Di;
-r[3]=Ei;
-break;
-case 27:case 10:case 9:case 8:case 4:case 5:case 6:case 7:*r=1;
-r[1]=3;
-r[2]=0;
-r[3]=0;
-break;
-default:NEVER;
-}
-vi=r[3];
-wi=r[2];
-xi=r[1];
-yi=*r;
-goto L60;
-case 10:Fi=r8(a+176);
-if(Fi<c){
-switch(*(b+Fi)){
-case 69:case 46:case 0:break;
-default:w4(u,ti);
-w2(u+4,ui);
-memcpy(u+6,pi-30,26);
-w4(t,0);
-if(u[29]&1){
-expansion_52e(t,a,b,c,0,si,u);
-Gi=t[3];
-Hi=t[2];
-Ii=t[1];
-Ji=*t;}
-else{
-Ki=r8(a+8);
-if(r8(a+32)-Ki<2){
-Li=make_ready_8e3(a,2,128);
-if(!(Li&1)){
-Gi=0;
-Hi=0;
-Ii=0;
-Ji=0;
-goto L61;}
-Mi=r8(a+8);}
-else Mi=Ki;
-*(rp(a)+Mi)=44;
-*(rp(a)+(i64)Mi+1)=32;
-w8(a+8,Mi+2);
-Gi=0;
-Hi=0;
-Ii=0;
-Ji=1;}
-L61:vi=Gi;
-wi=Hi;
-xi=Ii;
-yi=Ji;
-goto L60;
-}}
-Ni=r8(a+8);
-if(Ni>=5){
-Oi=rp(a)+(i64)Ni;
-Pi=0;
-Qi=0;
-L62:Ri=Pi||*((u8*)t_262b+(i64)Qi)!=*(Oi-5+(i64)Qi);
-Si=Qi+1;
-if(Si!=4){
-Pi=Ri;
-Qi=Si;
-goto L62;}
-Ti=0;
-Ui=0;
-L63:Vi=Ui+1;
-Wi=Ti||*((u8*)t_262b+(i64)Vi)!=*(Oi-5+(i64)Vi);
-if(Vi!=4){
-Ti=Wi;
-Ui=Vi;
-goto L63;}
-if(!(Ri|Wi)){
-Xi=0;
-Yi=0;
-Zi=0;
-aj=0;
-goto L64;}}
-close_39a(s,a,b,c,si);
-Xi=s[3];
-Yi=s[2];
-Zi=s[1];
-aj=*s;
-L64:vi=Xi;
-wi=Yi;
-xi=Zi;
-yi=aj;
-goto L60;
-case 9:w4(x,ti);
-w2(x+4,ui);
-memcpy(x+6,pi-30,26);
-front_ended_665(w,a,b,c,ri,si,x);
-vi=w[3];
-wi=w[2];
-xi=w[1];
-yi=*w;
-goto L60;
-case 0:w8(a+88,ni-1);
-bj=r8(a+8);
-if(r8(a+32)>bj)cj=bj;
-else{
-dj=make_ready_8e3(a,1,16);
-if(!(dj&1))goto L65;
-cj=r8(a+8);}
-*(rp(a)+cj)=42;
-ej=cj+1;
-w8(a+8,ej);
-fj=ej;
-gj=Eh&1;
-hj=r8(a+48);
-if(r8(a+72)>hj){
-ij=hj;
-jj=fj;
-kj=0;
-lj=gj;
-goto L66;}
-mj=make_ready_17a(a+40);
-if(!(mj&1))goto L65;
-nj=fj;
-oj=0;
-pj=gj;
-break;
-case 1:if(oi)goto L65;
-w8(a+88,ni-1);
-qj=r8(a+8);
-if(r8(a+32)>qj)rj=qj;
-else{
-sj=make_ready_8e3(a,1,16);
-if(!(sj&1))goto L65;
-rj=r8(a+8);}
-*(rp(a)+rj)=38;
-tj=rj+1;
-w8(a+8,tj);
-uj=tj;
-vj=Eh&1;
-wj=r8(a+48);
-if(r8(a+72)>wj){
-ij=wj;
-jj=uj;
-kj=1;
-lj=vj;
-goto L66;}
-xj=make_ready_17a(a+40);
-if(!(xj&1))goto L65;
-nj=uj;
-oj=1;
-pj=vj;
-break;
-case 2:if(oi)goto L65;
-w8(a+88,ni-1);
-yj=r8(a+8);
-if(r8(a+32)-yj<2){
-zj=make_ready_8e3(a,2,128);
-if(!(zj&1))goto L65;
-Aj=r8(a+8);}
-else Aj=yj;
-*(rp(a)+Aj)=38;
-*(rp(a)+(i64)Aj+1)=38;
-Bj=Aj+2;
-w8(a+8,Bj);
-Cj=Bj;
-Dj=Eh&1;
-Ej=r8(a+48);
-if(r8(a+72)>Ej){
-ij=Ej;
-jj=Cj;
-kj=1;
-lj=Dj;
-goto L66;}
-Fj=make_ready_17a(a+40);
-if(!(Fj&1))goto L65;
-nj=Cj;
-oj=1;
-pj=Dj;
-break;
-case 3:if(oi)goto L65;
-w8(a+88,ni-1);
-if(r8(a+32)-r8(a+8)<6){
-Gj=make_ready_8e3(a,6,128);
-if(!(Gj&1))goto L65;}
-Hj=extend_from_slice_169(a,(u8*)t_f603,6);
-if(Hj&1)goto L65;
-Ij=r8(a+8);
-Jj=Eh&1;
-Kj=r8(a+48);
-if(r8(a+72)>Kj){
-ij=Kj;
-jj=Ij;
-kj=0;
-lj=Jj;
-goto L66;}
-Lj=make_ready_17a(a+40);
-if(!(Lj&1))goto L65;
-nj=Ij;
-oj=0;
-pj=Jj;
-break;
-default:NEVER;
-}
-ij=r8(a+48);
-jj=nj;
-kj=oj;
-lj=pj;
-L66:Mj=rp(a+40)+ij*12;
-x4(Mj,si);
-x4(Mj+4,jj);
-Mj[8]=kj;
-Mj[9]=lj;
-x2(Mj+10,0);
-w8(a+48,ij+1);
-hi=2;
-ii=kj;
-ji=lj;
-goto L58;
-L60:if(yi!=1)goto L2;
-ki=xi;
-li=wi;
-mi=vi;
-goto L59;}
-L65:goto L2;
-L59:if(ki==3){
-Nj=li&1;
-w4(i,0);
-Oj=r8(a+176);
-if(Oj<c){
-Pj=*(b+Oj);
-switch(Pj){
-case 69:w4(g,0);
-w8(a+176,Oj+1);
-Qj=r8(a+88);
-if(Qj==0){
-Rj=0;
-Sj=0;
-Tj=0;
-Uj=0;}
-else{
-if(*(rp(a+80)+(i64)(Qj*44)-44)==27){
-if(Nj){
-Rj=0;
-Sj=0;
-Tj=0;
-Uj=0;}
-else{
-w8(a+88,Qj-1);
-Rj=0;
-Sj=0;
-Tj=3;
-Uj=1;}}
-else{
-z32(h);
-close_list_3c2(g,a,b,c,h);
-Rj=g[3];
-Sj=g[2];
-Tj=g[1];
-Uj=*g;}}
-Vj=Tj;
-Wj=Uj;
-Xj=Sj;
-Yj=Rj;
-goto L67;
-case 74:Zj=Oj+1;
-if(Zj<c){
-if(*(b+Zj)==69){
-empty_pack_ea9(i,a,b,c,Nj);
-Vj=i[1];
-Wj=*i;
-Xj=i[2];
-Yj=i[3];
-goto L67;}}
-if(!Nj){
-ak=74;
-goto L68;}
-first_pack_117(i,a,b,c);
-Vj=i[1];
-Wj=*i;
-Xj=i[2];
-Yj=i[3];
-goto L67;
-default:bk=Pj;
-break;}}
-else bk=0;
-if(Nj){
-ck=bk;
-goto L69;}
-ak=bk;
-L68:dk=r8(a+8);
-if(r8(a+32)-dk<2){
-ek=make_ready_8e3(a,2,128);
-if(!(ek&1))goto L70;
-fk=r8(a+8);}
-else fk=dk;
-*(rp(a)+fk)=44;
-*(rp(a)+(i64)fk+1)=32;
-w8(a+8,fk+2);
-ck=ak;
-L69:switch(ck){
-case 76:if(Nj){
-first_literal_f44(i,a,b,c);
-Vj=i[1];
-Wj=*i;
-Xj=i[2];
-Yj=i[3];
-goto L67;}
-literal_43d(j,a,b,c);
-Vj=j[1];
-Wj=*j;
-Xj=j[2];
-Yj=j[3];
-goto L67;
-case 74:gk=r8(a+88);
-if(gk==0)goto L70;
-hk=rp(a+80);
-ik=gk*44;
-if(*(hk+(i64)ik-44)==27)goto L70;
-jk=r8(a+176);
-if(jk==18446744073709551615u)goto L70;
-w8(a+176,jk+1);
-if(r8(a+112)>gk){
-kk=ik;
-lk=hk;
-mk=gk;}
-else{
-nk=make_ready_9a1(a+80);
-if(!(nk&1))goto L70;
-ok=r8(a+88);
-kk=ok*44;
-lk=rp(a+80);
-mk=ok;}
-pk=lk+kk;
-*pk=27;
-z43(pk+1);
-qk=mk;
-rk=3;
-sk=1;
-break;
-default:if(!Nj){
-uk=0;
-vk=0;
-goto L71;}
-tk=r8(a+88);
-if(tk==0){
-uk=0;
-vk=0;
-goto L71;}
-wk=rp(a+80);
-xk=tk*44;
-yk=wk+(i64)xk;
-switch(yk[-44]){
-case 5:if(yk[-28]==0){
-uk=0;
-vk=0;
-goto L71;}
-break;
-case 7:break;
-case 0:case 1:case 2:case 3:case 4:case 6:case 8:case 9:case 10:case 11:case 12:case 13:case 14:case 15:case 16:case 17:case 18:case 19:case 20:case 21:case 22:case 23:case 24:case 25:case 26:case 27:case 28:case 29:uk=0;
-vk=0;
-goto L71;
-default:NEVER;
-}
-zk=r8(a+176);
-if(zk<c){
-Ak=b+(i64)zk;
-switch(*Ak){
-case 65:case 70:uk=0;
-vk=0;
-goto L71;
-case 80:case 82:if(usub64(c,zk)>=2){
-switch(Ak[1]){
-case 70:case 65:uk=0;
-vk=0;
-goto L71;
-default:break;}}
-break;
-default:break;}}
-Bk=r8(a+8);
-if(r8(a+112)>tk){
-Ck=xk;
-Dk=wk;
-Ek=tk;}
-else{
-Fk=make_ready_9a1(a+80);
-if(!(Fk&1))goto L70;
-Gk=r8(a+88);
-Ck=Gk*44;
-Dk=rp(a+80);
-Ek=Gk;}
-Hk=Dk+Ck;
-*Hk=25;
-Hk[1]=0;
-x2(Hk+2,0);
-x4(Hk+4,Bk);
-z36(Hk+8);
-qk=Ek;
-rk=0;
-sk=0;
-break;}
-w8(a+88,qk+1);
-uk=rk;
-vk=sk;
-L71:hi=uk;
-ii=vk;
-ji=0;
-goto L58;
-L67:if(Wj!=1)goto L2;
-hi=Vj;
-ii=Xj;
-ji=Yj;
-goto L58;
-L70:goto L2;}
-hi=ki;
-ii=li;
-ji=mi;
-L58:Ik=Lc+1;
-if(Ik==Kc)goto L2;
-Lc=Ik;
-Mc=ji;
-Nc=ii;
-Oc=hi;
-goto L21;}}}
-L11:;}
-L2:break;
-case 2:if(!fc){
-if(c<16){
-Jk=are_few_named_14c(b,c);
-if(!Jk)goto L72;}
-else{
-Kk=c-16;
-if(Kk==0)goto L73;
-Lk=0;
-L74:Mk=v16_at(b+Lk);
-if((v16_ult(Mk,splat(33))|v16_eq(Mk,splat(127)))!=0)goto L72;
-Nk=Lk+16;
-if(Nk<Kk){
-Lk=Nk;
-goto L74;}
-L73:Ok=v16_at(b+Kk);
-if((v16_ult(Ok,splat(33))|v16_eq(Ok,splat(127)))!=0)goto L72;}
-w4(Nb,0);
-w4(Ob,0);
-if(c!=0){
-if(c!=1&&*b==95){
-if(b[1]==90){
-if(c>=3){
-Pk=b[2];
-if(c<5){
-if(Pk==90){
-w8(a+176,3);
-w4(Jb,0);
-if(c==3)goto L75;
-Qk=a+176;
-goto L76;}
-if((c!=3)&(Pk==71)){
-if(b[3]==86)goto L77;
-goto L78;}
-switch(Pk){
-case 71:goto L78;
-case 84:if(c==3)goto L79;
-break;
-default:goto L80;
-}}
-else{
-switch(Pk){
-case 90:w8(a+176,3);
-w4(Jb,0);
-Qk=a+176;
-goto L76;
-case 71:if(b[3]!=86)goto L78;
-if(b[4]!=90)goto L77;
-if(ac<19){
-Rk=make_ready_8e3(a,19,128);
-if(!(Rk&1))goto L81;
-Sk=r8(a+16);
-Tk=r8(a+8);}
-else{
-Sk=Zb;
-Tk=0;}
-if(Sk-Tk<19){
-Uk=grow_amortized_2b6(a,19);
-if(!Uk)goto L81;
-Vk=r8(a+16);
-Wk=r8(a+8);}
-else{
-Vk=Sk;
-Wk=Tk;}
-Xk=Wk+19;
-Yk=rp(a);
-z16(a+8);
-Zk=Yk+(i64)Wk;
-if((u64)Zk-(u64)(u8*)t_c270<19)copy_bits_4f4((u8*)t_c270,Zk,19);
-else memcpy(Zk,(u8*)t_c270,19);
-wp(a,Yk);
-w8(a+8,Xk);
-w8(a+16,Vk);
-w8(a+176,5);
-w4(Gb,0);
-if(c!=5){
-al=b[5];
-switch(al){
-case 78:w4(Eb,0);
-w4(Fb,1);
-w8(a+176,6);
-if(c!=6){
-switch(b[6]){
-case 75:if(c<=7){
-bl=1;
-cl=7;
-goto L82;}
-switch(b[7]){
-case 82:bl=3;
-cl=8;
-goto L82;
-case 79:bl=5;
-cl=8;
-goto L82;
-default:bl=1;
-cl=7;
-goto L82;
-}
-break;
-case 82:bl=2;
-cl=7;
-goto L82;
-case 79:bl=4;
-cl=7;
-goto L82;
-default:break;}}
-bl=0;
-cl=6;
-L82:w8(a+176,cl);
-Fb[1]=bl;
-nest_at_979(Eb,a,b,c,Fb);
-*Gb=*Eb;
-Gb[1]=Eb[1];
-Gb[2]=Eb[2];
-Gb[3]=Eb[3];
-goto L83;
-case 76:w8(a+176,6);
-begin_name_9fc(Gb,a,b,c);
-goto L83;
-case 83:begin_in_std_b23(Gb,a,b,c);
-goto L83;
-default:if((u8)(al-97)<26){
-begin_operator_fde(Gb,a,b,c);
-goto L83;}
-break;}}
-begin_name_9fc(Gb,a,b,c);
-L83:dl=Gb[3];
-el=Gb[2];
-fl=Gb[1];
-gl=*Gb;
-goto L84;
-case 84:break;
-default:goto L80;
-}}
-switch(b[3]){
-case 104:begin_thunk_a5d(Ob,a,b,c);
-goto L85;
-case 118:begin_virtual_thunk_603(Ob,a,b,c);
-goto L85;
-case 67:begin_clone_893(Ob);
-goto L85;
-default:break;}
-L79:begin_special_44d(Ob,a,b,c);
-L85:dl=Ob[3];
-el=Ob[2];
-fl=Ob[1];
-gl=*Ob;
-goto L84;
-L80:w8(a+176,2);
-w4(Mb,0);
-hl=b[2];
-switch(hl){
-case 78:w4(Kb,0);
-w4(Lb,1);
-w8(a+176,3);
-if(c!=3){
-switch(b[3]){
-case 75:if(c<=4){
-il=1;
-jl=4;
-goto L86;}
-switch(b[4]){
-case 82:il=3;
-jl=5;
-goto L86;
-case 79:il=5;
-jl=5;
-goto L86;
-default:il=1;
-jl=4;
-goto L86;
-}
-break;
-case 82:il=2;
-jl=4;
-goto L86;
-case 79:il=4;
-jl=4;
-goto L86;
-default:break;}}
-il=0;
-jl=3;
-L86:w8(a+176,jl);
-Lb[1]=il;
-nest_at_979(Kb,a,b,c,Lb);
-*Mb=*Kb;
-Mb[1]=Kb[1];
-Mb[2]=Kb[2];
-Mb[3]=Kb[3];
-goto L87;
-case 76:w8(a+176,3);
-begin_name_9fc(Mb,a,b,c);
-goto L87;
-case 83:begin_in_std_b23(Mb,a,b,c);
-goto L87;
-default:if((u8)(hl-97)>=26)goto L88;
-begin_operator_fde(Mb,a,b,c);
-goto L87;
-}
-L78:begin_clone_893(Nb);
-dl=Nb[3];
-el=Nb[2];
-fl=Nb[1];
-gl=*Nb;
-goto L84;
-L77:begin_object_103(Nb,a,b,c);
-dl=Nb[3];
-el=Nb[2];
-fl=Nb[1];
-gl=*Nb;
-goto L84;
-L76:kl=b[3];
-switch(kl){
-case 78:w4(Hb,0);
-w4(Ib,1);
-w8(Qk,4);
-if(c>4){
-switch(b[4]){
-case 75:if(c==5){
-ll=1;
-ml=5;
-goto L89;}
-switch(b[5]){
-case 82:ll=3;
-ml=6;
-goto L89;
-case 79:ll=5;
-ml=6;
-goto L89;
-default:ll=1;
-ml=5;
-goto L89;
-}
-break;
-case 82:ll=2;
-ml=5;
-goto L89;
-case 79:ll=4;
-ml=5;
-goto L89;
-default:break;}}
-ll=0;
-ml=4;
-L89:w8(Qk,ml);
-Ib[1]=ll;
-nest_at_979(Hb,a,b,c,Ib);
-*Jb=*Hb;
-Jb[1]=Hb[1];
-Jb[2]=Hb[2];
-Jb[3]=Hb[3];
-goto L90;
-case 76:w8(Qk,4);
-begin_name_9fc(Jb,a,b,c);
-goto L90;
-case 83:begin_in_std_b23(Jb,a,b,c);
-goto L90;
-default:if((u8)(kl-97)<26){
-begin_operator_fde(Jb,a,b,c);
-goto L90;}
-break;}
-L75:begin_name_9fc(Jb,a,b,c);
-L90:dl=Jb[3];
-el=Jb[2];
-fl=Jb[1];
-gl=*Jb;
-goto L84;}
-w8(a+176,2);
-w4(Mb,0);
-L88:begin_name_9fc(Mb,a,b,c);
-L87:dl=Mb[3];
-el=Mb[2];
-fl=Mb[1];
-gl=*Mb;
-L84:if(gl!=1)goto L72;
-nl=c<<3;
-ol=0;
-pl=dl;
-ql=el;
-rl=fl;
-L91:if(rl==7){
-if(r8(a+8)>Xb)goto L92;
-goto L1;}
-w8(a+184,r8(a+184)+1);
-switch(rl){
-case 0:w4(Bb,0);
-w4(Cb,0);
-sl=r8(a+176);
-if(sl<c){
-tl=r8(a+8);
-ul=tl;
-vl=*(b+sl);
-switch(vl){
-case 80:w4(zb,0);
-wl=sl+1;
-if(wl<c){
-switch(*(b+wl)){
-case 70:begin_function_7aa(zb,a,1);
-*Cb=*zb;
-Cb[1]=zb[1];
-Cb[2]=zb[2];
-xl=zb[3];
-goto L93;
-case 65:begin_array_86f(zb,a,b,c,1);
-*Cb=*zb;
-Cb[1]=zb[1];
-Cb[2]=zb[2];
-xl=zb[3];
-goto L93;
-default:break;}}
-w8(a+176,wl);
-yl=r8(a+88);
-if(r8(a+112)>yl)zl=yl;
-else{
-Al=make_ready_9a1(a+80);
-if(!(Al&1)){
-Bl=0;
-goto L94;}
-zl=r8(a+88);}
-Cl=rp(a+80)+zl*44;
-*Cl=0;
-Cl[1]=0;
-x2(Cl+2,0);
-x4(Cl+4,ul);
-z36(Cl+8);
-w8(a+88,zl+1);
-Bl=1;
-L94:*Cb=Bl;
-Cb[1]=0;
-Cb[2]=0;
-xl=0;
-L93:Cb[3]=xl;
-Dl=Cb+1;
-El=Cb+2;
-Fl=Cb+3;
-Gl=Cb;
-goto L95;
-case 70:begin_function_7aa(Cb,a,0);
-Dl=Cb+1;
-El=Cb+2;
-Fl=Cb+3;
-Gl=Cb;
-goto L95;
-case 82:Hl=sl+1;
-if(Hl<c){
-if(*(b+Hl)==65){
-begin_array_86f(Bb,a,b,c,2);
-Dl=Bb+1;
-El=Bb+2;
-Fl=Bb+3;
-Gl=Bb;
-goto L95;}}
-w8(a+176,Hl);
-Il=r8(a+88);
-if(r8(a+112)>Il)Jl=Il;
-else{
-Kl=make_ready_9a1(a+80);
-if(!(Kl&1)){
-w4(Cb,0);
-Dl=Cb+1;
-El=Cb+2;
-Fl=Cb+3;
-Gl=Cb;
-goto L95;}
-Jl=r8(a+88);}
-Ll=rp(a+80)+Jl*44;
-*Ll=1;
-Ll[1]=0;
-x2(Ll+2,0);
-x4(Ll+4,ul);
-z36(Ll+8);
-w8(a+88,Jl+1);
-*Cb=1;
-Cb[1]=0;
-Cb[2]=0;
-Cb[3]=0;
-Dl=Cb+1;
-El=Cb+2;
-Fl=Cb+3;
-Gl=Cb;
-goto L95;
-case 65:begin_array_86f(Cb,a,b,c,0);
-Dl=Cb+1;
-El=Cb+2;
-Fl=Cb+3;
-Gl=Cb;
-goto L95;
-case 79:rvalue_at_e1d(Cb,a,b,c);
-Dl=Cb+1;
-El=Cb+2;
-Fl=Cb+3;
-Gl=Cb;
-goto L95;
-case 75:w8(a+176,sl+1);
-Ml=r8(a+88);
-if(r8(a+112)>Ml)Nl=Ml;
-else{
-Ol=make_ready_9a1(a+80);
-if(!(Ol&1)){
-w4(Cb,0);
-Dl=Cb+1;
-El=Cb+2;
-Fl=Cb+3;
-Gl=Cb;
-goto L95;}
-Nl=r8(a+88);}
-Pl=rp(a+80)+Nl*44;
-*Pl=3;
-Pl[1]=0;
-x2(Pl+2,0);
-x4(Pl+4,ul);
-z36(Pl+8);
-w8(a+88,Nl+1);
-*Cb=1;
-Cb[1]=1;
-Cb[2]=0;
-Cb[3]=0;
-Dl=Cb+1;
-El=Cb+2;
-Fl=Cb+3;
-Gl=Cb;
-goto L95;
-case 78:w4(vb,0);
-w4(wb,0);
-w8(a+176,sl+1);
-nest_at_979(vb,a,b,c,wb);
-*Cb=*vb;
-Cb[1]=vb[1];
-Cb[2]=vb[2];
-Cb[3]=vb[3];
-Dl=Cb+1;
-El=Cb+2;
-Fl=Cb+3;
-Gl=Cb;
-goto L95;
-case 83:case 90:break;
-case 68:builtin_with_d_cb0(Cb,a,b,c);
-Dl=Cb+1;
-El=Cb+2;
-Fl=Cb+3;
-Gl=Cb;
-goto L95;
-case 84:template_parameter_3b0(Cb,a,b,c);
-Dl=Cb+1;
-El=Cb+2;
-Fl=Cb+3;
-Gl=Cb;
-goto L95;
-default:if((u8)(vl-49)>=9){
-Ql=vl-97;
-if(Ql>=26){
-Dl=Cb+1;
-El=Cb+2;
-Fl=Cb+3;
-Gl=Cb;
-goto L95;}
-if(!(u8)(((u32)65829887>>Ql)&1)){
-Dl=Cb+1;
-El=Cb+2;
-Fl=Cb+3;
-Gl=Cb;
-goto L95;}
-Rl=rp((u8*)t_e7e8+(u64)Ql*8);
-Sl=r8((u8*)t_f635+(u64)Ql*8);
-w8(a+176,sl+1);
-if(r8(a+32)-tl<Sl){
-Tl=make_ready_8e3(a,Sl,128);
-if(!(Tl&1))goto L96;
-Ul=r8(a+8);}
-else Ul=tl;
-Vl=r8(a+16);
-if(Sl>Vl-Ul){
-Wl=grow_amortized_2b6(a,Sl);
-if(!Wl)goto L96;
-Xl=r8(a+16);
-Yl=r8(a+8);}
-else{
-Xl=Vl;
-Yl=Ul;}
-Zl=Yl+Sl;
-am=rp(a);
-z16(a+8);
-bm=am+(i64)Yl;
-if((u64)bm-(u64)Rl<Sl)copy_bits_4f4(Rl,bm,Sl);
-else memmove(bm,Rl,Sl);
-wp(a,am);
-w8(a+8,Zl);
-w8(a+16,Xl);
-*Cb=1;
-Cb[1]=2;
-Cb[2]=0;
-Cb[3]=0;
-Dl=Cb+1;
-El=Cb+2;
-Fl=Cb+3;
-Gl=Cb;
-goto L95;
-L96:w4(Cb,0);
-Dl=Cb+1;
-El=Cb+2;
-Fl=Cb+3;
-Gl=Cb;
-goto L95;}
-break;}
-named_type_748(Cb,a,b,c);
-Dl=Cb+1;
-El=Cb+2;
-Fl=Cb+3;
-Gl=Cb;}
-else{
-Dl=Cb+1;
-El=Cb+2;
-Fl=Cb+3;
-Gl=Cb;}
-L95:cm=*Fl;
-dm=*El;
-em=*Dl;
-fm=*Gl;
-goto L97;
-case 1:w4(Ab,0);
-gm=r8(a+176);
-if(gm<c){
-hm=r8(a+8);
-im=hm;
-jm=*(b+gm);
-switch(jm){
-case 80:w8(a+176,gm+1);
-km=r8(a+88);
-if(r8(a+112)>km)lm=km;
-else{
-mm=make_ready_9a1(a+80);
-if(!(mm&1)){
-nm=0;
-goto L98;}
-lm=r8(a+88);}
-om=rp(a+80)+lm*44;
-*om=0;
-om[1]=0;
-x2(om+2,0);
-x4(om+4,im);
-z36(om+8);
-w8(a+88,lm+1);
-nm=1;
-L98:*Ab=nm;
-Ab[1]=0;
-Ab[2]=0;
-Ab[3]=0;
-goto L99;
-case 70:case 65:case 75:pm=0;
-qm=0;
-rm=0;
-sm=0;
-goto L100;
-case 82:w8(a+176,gm+1);
-tm=r8(a+88);
-if(r8(a+112)>tm)um=tm;
-else{
-vm=make_ready_9a1(a+80);
-if(!(vm&1)){
-w4(Ab,0);
-goto L99;}
-um=r8(a+88);}
-wm=rp(a+80)+um*44;
-*wm=1;
-wm[1]=0;
-x2(wm+2,0);
-x4(wm+4,im);
-z36(wm+8);
-w8(a+88,um+1);
-*Ab=1;
-Ab[1]=0;
-Ab[2]=0;
-Ab[3]=0;
-goto L99;
-case 79:rvalue_at_e1d(Ab,a,b,c);
-goto L99;
-case 78:w4(xb,0);
-w4(yb,0);
-w8(a+176,gm+1);
-nest_at_979(xb,a,b,c,yb);
-*Ab=*xb;
-Ab[1]=xb[1];
-Ab[2]=xb[2];
-Ab[3]=xb[3];
-goto L99;
-case 83:case 90:break;
-case 68:builtin_with_d_cb0(Ab,a,b,c);
-goto L99;
-case 84:template_parameter_3b0(Ab,a,b,c);
-goto L99;
-default:if((u8)(jm-49)>=9){
-xm=jm-97;
-if(xm>=26)goto L99;
-if(!(u8)(((u32)65829887>>xm)&1))goto L99;
-ym=rp((u8*)t_e7e8+(u64)xm*8);
-zm=r8((u8*)t_f635+(u64)xm*8);
-w8(a+176,gm+1);
-if(r8(a+32)-hm<zm){
-Am=make_ready_8e3(a,zm,128);
-if(!(Am&1))goto L101;
-Bm=r8(a+8);}
-else Bm=hm;
-Cm=r8(a+16);
-if(zm>Cm-Bm){
-Dm=grow_amortized_2b6(a,zm);
-if(!Dm)goto L101;
-Em=r8(a+16);
-Fm=r8(a+8);}
-else{
-Em=Cm;
-Fm=Bm;}
-Gm=Fm+zm;
-Hm=rp(a);
-z16(a+8);
-Im=Hm+(i64)Fm;
-if((u64)Im-(u64)ym<zm)copy_bits_4f4(ym,Im,zm);
-else memmove(Im,ym,zm);
-wp(a,Hm);
-w8(a+8,Gm);
-w8(a+16,Em);
-*Ab=1;
-Ab[1]=2;
-Ab[2]=0;
-Ab[3]=0;
-goto L99;
-L101:w4(Ab,0);
-goto L99;}
-break;}
-named_type_748(Ab,a,b,c);}
-L99:pm=Ab[3];
-qm=Ab[2];
-rm=Ab[1];
-sm=*Ab;
-L100:cm=pm;
-dm=qm;
-em=rm;
-fm=sm;
-goto L97;
-case 4:if(!(a[136]&1)){
-Jm=r4(a+120);
-Km=a[139];
-Lm=r8(a+8);
-Mm=r8(a+48);
-if(r8(a+72)>Mm)Nm=Mm;
-else{
-Om=make_ready_17a(a+40);
-if(!(Om&1))goto L102;
-Nm=r8(a+48);}
-Pm=rp(a+40)+Nm*12;
-x4(Pm,Jm);
-x4(Pm+4,Lm);
-Pm[8]=0;
-Pm[9]=Km;
-x2(Pm+10,0);
-w8(a+48,Nm+1);}
-Qm=r8(a+176);
-if(Qm<c){
-if(*(b+Qm)==73){
-memcpy(Db,a+120,20);
-z20(Db+20);
-Rm=r8(a+8);
-if(r8(a+32)>Rm)Sm=Rm;
-else{
-Tm=make_ready_8e3(a,1,16);
-if(!(Tm&1))goto L102;
-Sm=r8(a+8);}
-*(rp(a)+Sm)=60;
-w8(a+8,Sm+1);
-Um=r8(a+176);
-if(Um==18446744073709551615u)goto L102;
-w8(a+176,Um+1);
-Vm=r8(a+88);
-if(r8(a+112)>Vm)Wm=Vm;
-else{
-Xm=make_ready_9a1(a+80);
-if(!(Xm&1))goto L102;
-Wm=r8(a+88);}
-Ym=rp(a+80)+Wm*44;
-*Ym=6;
-Ym[1]=0;
-x2(Ym+2,0);
-memcpy(Ym+4,Db,40);
-w8(a+88,Wm+1);
-Zm=0;
-an=1;
-bn=3;}
-else{
-Zm=0;
-an=0;
-bn=6;}}
-else{
-Zm=0;
-an=0;
-bn=6;}
-break;
-case 5:cn=r8(a+176);
-if(cn<c){
-if(*(b+cn)==69){
-dn=a[132];
-if(dn==0){
-w8(a+176,cn+1);
-en=a[139];
-if(a[136]&1){
-Zm=en;
-an=0;
-bn=2;
-break;}
-fn=r4(a+120);
-gn=r8(a+8);
-hn=r8(a+48);
-if(r8(a+72)>hn)in=hn;
-else{
-jn=make_ready_17a(a+40);
-if(!(jn&1))goto L102;
-in=r8(a+48);}
-kn=rp(a+40)+in*12;
-x4(kn,fn);
-x4(kn+4,gn);
-kn[8]=0;
-kn[9]=en;
-x2(kn+10,0);
-w8(a+48,in+1);
-Zm=a[139];
-an=0;
-bn=2;
-break;}
-w4(ub,0);
-w8(a+176,cn+1);
-ln=a[133];
-switch(dn){
-case 3:addressed_named_968(ub,a,b,c,ln);
-mn=ub+1;
-nn=ub+2;
-on=ub+3;
-pn=ub;
-break;
-case 1:if(a[138]&1){
-qn=q2(a+140);
-rn=q2(a+142);
-memcpy(tb+4,a+144,16);
-sn=q8(a+160);
-tn=a[168];
-un=a[169];
-vn=a[170];
-wn=a[171];
-w2(tb,qn);
-w2(tb+2,rn);
-x8(tb+20,sn);
-tb[28]=tn;
-tb[29]=un;
-tb[30]=vn;
-tb[31]=wn;
-xn=a[137]&1;}
-else{
-z32(tb);
-xn=0;}
-name_ended_a18(ub,a,b,c,ln,xn,tb,r4(a+120));
-mn=ub+1;
-nn=ub+2;
-on=ub+3;
-pn=ub;
-break;
-case 2:if(a[138]&1){
-yn=r4(a+120);
-if(a[137]&1){
-enclosing_instance_0fc(sb,a,b,c,ln,r2(a+134),yn);
-mn=sb+1;
-nn=sb+2;
-on=sb+3;
-pn=sb;
-break;}
-zn=yn;}
-else zn=r4(a+120);
-enclosing_named_18f(ub,a,b,c,ln,zn);
-mn=ub+1;
-nn=ub+2;
-on=ub+3;
-pn=ub;
-break;
-default:NEVER;
-}
-cm=*on;
-dm=*nn;
-em=*mn;
-fm=*pn;
-goto L97;}}
-if(a[136]&1){
-Zm=0;
-an=0;
-bn=6;}
-else{
-An=r4(a+120);
-Bn=a[139];
-Cn=r8(a+8);
-Dn=r8(a+48);
-if(r8(a+72)>Dn)En=Dn;
-else{
-Fn=make_ready_17a(a+40);
-if(!(Fn&1))goto L102;
-En=r8(a+48);}
-Gn=rp(a+40)+En*12;
-x4(Gn,An);
-x4(Gn+4,Cn);
-Gn[8]=0;
-Gn[9]=Bn;
-x2(Gn+10,0);
-w8(a+48,En+1);
-Zm=0;
-an=0;
-bn=6;}
-break;
-case 6:case 2:case 3:Zm=pl;
-an=ql;
-bn=rl;
-break;
-default:NEVER;
-}
-Hn=bn;
-In=an;
-Jn=Zm;
-goto L103;
-L102:goto L72;
-L97:if(fm!=1)goto L72;
-Hn=em;
-In=dm;
-Jn=cm;
-L103:if(Hn!=6){
-Ln=Hn;
-Mn=In;
-Nn=Jn;
-goto L104;}
-Kn=0;
-L105:w4(Tb,0);
-On=r8(a+176);
-if(On<c){
-Pn=*(b+On);
-switch(Pn){
-case 67:constructor_f6d(Tb,a,b,c);
-break;
-case 68:destructor_7cd(Tb,a,b,c);
-break;
-case 76:w8(a+176,On+1);
-Qn=r8(a+8);
-if(r8(a+32)-Qn<2){
-Rn=make_ready_8e3(a,2,128);
-if(!(Rn&1))goto L106;
-Sn=r8(a+8);}
-else Sn=Qn;
-*(rp(a)+Sn)=58;
-*(rp(a)+(i64)Sn+1)=58;
-Tn=Sn+2;
-w8(a+8,Tn);
-Un=r8(a+176);
-z24(Qb);
-if(Un<c){
-Vn=*(b+Un);
-if((u8)(Vn-58)>=247){
-Wn=Tn;
-Xn=Un+1;
-if(Xn<c){
-Yn=*(b+Xn)-48;
-if(Yn<10){
-Zn=Un+2;
-if(Zn<c){
-if((u8)(*(b+Zn)-48)<10){
-long_name_at_8ad(Qb,b,c,Un);
-if(*Qb!=1)goto L106;
-ao=r8(Qb+8);
-bo=r8(Qb+16);
-goto L107;}}
-co=(u64)Yn+(u8)((u8)(Vn*10)+32);
-if(c-Zn<co)goto L108;
-if((u8)(*(b+(i64)Zn)-48)<10)goto L108;
-eo=co+Zn;
-fo=Zn;
-goto L109;}}
-go=Vn-48;
-if(c-Xn<go)goto L108;
-if((u8)(*(b+(i64)Xn)-48)<10)goto L108;
-eo=Xn+go;
-fo=Xn;
-L109:ao=fo;
-bo=eo;
-L107:w8(a+176,bo);
-ho=b+(i64)ao;
-io=bo-ao;
-if(bo!=ao){
-if(!(io<10||*ho!=95)){
-jo=parts_equal_58b((u8*)t_35ad,10,ho,10);
-if(jo){
-ko=(s_p_64){(u8*)t_62ff,21};
-goto L110;}}}
-lo=(s_p_64){0};lo.f0=ho;
-mo=lo;mo.f1=io;
-ko=mo;
-L110:no=ko.f0;
-oo=ko.f1;
-if(r8(a+32)-Tn<oo){
-po=make_ready_8e3(a,oo,128);
-if(!(po&1))goto L106;}
-qo=extend_from_slice_169(a,no,oo);
-if(qo&1)goto L106;
-ro=r8(a+8);
-so=a[139];
-w4(a+124,Wn);
-w4(a+128,ro);
-a[136]=0;
-a[137]=1;
-a[138]=0;
-to=r8(a+176);
-if(to>=c){
-Io=0;
-Jo=5;
-goto L111;}
-if(*(b+to)!=73){
-Io=0;
-Jo=5;
-goto L111;}
-uo=r4(a+120);
-vo=r8(a+48);
-if(r8(a+72)>vo)wo=vo;
-else{
-xo=make_ready_17a(a+40);
-if(!(xo&1))goto L112;
-wo=r8(a+48);}
-yo=rp(a+40)+wo*12;
-x4(yo,uo);
-x4(yo+4,ro);
-yo[8]=0;
-yo[9]=so;
-x2(yo+10,0);
-w8(a+48,wo+1);
-memcpy(Pb,a+120,20);
-z20(Pb+20);
-zo=r8(a+8);
-if(r8(a+32)>zo)Ao=zo;
-else{
-Bo=make_ready_8e3(a,1,16);
-if(!(Bo&1))goto L112;
-Ao=r8(a+8);}
-*(rp(a)+Ao)=60;
-w8(a+8,Ao+1);
-Co=r8(a+176);
-if(Co==18446744073709551615u)goto L112;
-w8(a+176,Co+1);
-Do=r8(a+88);
-if(r8(a+112)>Do){
-Eo=Do;
-Fo=Pb;
-goto L113;}
-Go=make_ready_9a1(a+80);
-if(!(Go&1))goto L112;
-Ho=Pb;
-goto L114;}}
-L108:goto L106;
-case 85:begin_component_d5a(Tb,a,b,c);
-break;
-default:if((u8)(Pn-97)>=26)goto L115;
-operator_2f3(Tb,a,b,c);
-break;}
-if(*Tb!=1)goto L72;
-Ko=Tb[1];
-Lo=Tb[2];
-Mo=Tb[3];
-goto L116;}
-L115:No=r8(a+8);
-if(r8(a+32)-No<2){
-Oo=make_ready_8e3(a,2,128);
-if(!(Oo&1))goto L106;
-Po=r8(a+8);}
-else Po=No;
-*(rp(a)+Po)=58;
-*(rp(a)+(i64)Po+1)=58;
-Qo=Po+2;
-w8(a+8,Qo);
-Ro=r8(a+176);
-z24(Sb);
-if(Ro<c){
-So=*(b+Ro);
-if((u8)(So-58)>=247){
-To=Qo;
-Uo=Ro+1;
-if(Uo<c){
-Vo=*(b+Uo)-48;
-if(Vo<10){
-Wo=Ro+2;
-if(Wo<c){
-if((u8)(*(b+Wo)-48)<10){
-long_name_at_8ad(Sb,b,c,Ro);
-if(*Sb!=1)goto L106;
-Xo=r8(Sb+8);
-Yo=r8(Sb+16);
-goto L117;}}
-Zo=(u64)Vo+(u8)((u8)(So*10)+32);
-if(c-Wo<Zo)goto L118;
-if((u8)(*(b+(i64)Wo)-48)<10)goto L118;
-ap=Zo+Wo;
-bp=Wo;
-goto L119;}}
-cp=So-48;
-if(c-Uo<cp)goto L118;
-if((u8)(*(b+(i64)Uo)-48)<10)goto L118;
-ap=Uo+cp;
-bp=Uo;
-L119:Xo=bp;
-Yo=ap;
-L117:w8(a+176,Yo);
-dp=b+(i64)Xo;
-ep=Yo-Xo;
-if(Yo!=Xo){
-if(!(ep<10||*dp!=95)){
-fp=parts_equal_58b((u8*)t_35ad,10,dp,10);
-if(fp){
-gp=(s_p_64){(u8*)t_62ff,21};
-goto L120;}}}
-hp=(s_p_64){0};hp.f0=dp;
-ip=hp;ip.f1=ep;
-gp=ip;
-L120:jp=gp.f0;
-kp=gp.f1;
-if(r8(a+32)-Qo<kp){
-lp=make_ready_8e3(a,kp,128);
-if(!(lp&1))goto L106;}
-np=extend_from_slice_169(a,jp,kp);
-if(np&1)goto L106;
-op=r8(a+8);
-pp=a[139];
-w4(a+124,To);
-w4(a+128,op);
-a[136]=0;
-a[137]=1;
-a[138]=0;
-sp=r8(a+176);
-if(sp>=c){
-Io=0;
-Jo=5;
-goto L111;}
-if(*(b+sp)!=73){
-Io=0;
-Jo=5;
-goto L111;}
-tp=r4(a+120);
-up=r8(a+48);
-if(r8(a+72)>up)vp=up;
-else{
-yp=make_ready_17a(a+40);
-if(!(yp&1))goto L112;
-vp=r8(a+48);}
-zp=rp(a+40)+vp*12;
-x4(zp,tp);
-x4(zp+4,op);
-zp[8]=0;
-zp[9]=pp;
-x2(zp+10,0);
-w8(a+48,vp+1);
-memcpy(Rb,a+120,20);
-z20(Rb+20);
-Ap=r8(a+8);
-if(r8(a+32)>Ap)Bp=Ap;
-else{
-Cp=make_ready_8e3(a,1,16);
-if(!(Cp&1))goto L112;
-Bp=r8(a+8);}
-*(rp(a)+Bp)=60;
-w8(a+8,Bp+1);
-Dp=r8(a+176);
-if(Dp==18446744073709551615u)goto L112;
-w8(a+176,Dp+1);
-Ep=r8(a+88);
-if(r8(a+112)>Ep){
-Eo=Ep;
-Fo=Rb;
-goto L113;}
-Fp=make_ready_9a1(a+80);
-if(!(Fp&1))goto L112;
-Ho=Rb;
-goto L114;}}
-L118:goto L106;
-L114:Eo=r8(a+88);
-Fo=Ho;
-L113:Gp=rp(a+80)+Eo*44;
-*Gp=5;
-Gp[1]=0;
-x2(Gp+2,0);
-memcpy(Gp+4,Fo,40);
-w8(a+88,Eo+1);
-Io=1;
-Jo=3;
-L111:Ko=Jo;
-Lo=Io;
-Mo=0;
-goto L116;
-L112:goto L72;
-L106:goto L72;
-L116:if(Ko==5){
-Hp=r8(a+176);
-if(Hp<c){
-if(*(b+Hp)==69){
-Ip=a[132];
-if(Ip==0){
-w8(a+176,Hp+1);
-Jp=a[139];
-if(a[136]&1){
-Kp=Jp;
-Lp=0;
-goto L121;}
-Mp=r4(a+120);
-Np=r8(a+8);
-Op=r8(a+48);
-if(r8(a+72)>Op)Pp=Op;
-else{
-Qp=make_ready_17a(a+40);
-if(!(Qp&1))goto L72;
-Pp=r8(a+48);}
-Rp=rp(a+40)+Pp*12;
-x4(Rp,Mp);
-x4(Rp+4,Np);
-Rp[8]=0;
-Rp[9]=Jp;
-x2(Rp+10,0);
-w8(a+48,Pp+1);
-Kp=a[139];
-Lp=0;
-goto L121;}
-w4(Wb,0);
-w8(a+176,Hp+1);
-Sp=a[133];
-switch(Ip){
-case 3:addressed_named_968(Wb,a,b,c,Sp);
-break;
-case 1:if(a[138]&1){
-Tp=q2(a+140);
-Up=q2(a+142);
-memcpy(Vb+4,a+144,16);
-Vp=q8(a+160);
-Wp=a[168];
-Xp=a[169];
-Yp=a[170];
-Zp=a[171];
-w2(Vb,Tp);
-w2(Vb+2,Up);
-x8(Vb+20,Vp);
-Vb[28]=Wp;
-Vb[29]=Xp;
-Vb[30]=Yp;
-Vb[31]=Zp;
-aq=a[137]&1;}
-else{
-z32(Vb);
-aq=0;}
-name_ended_a18(Wb,a,b,c,Sp,aq,Vb,r4(a+120));
-break;
-case 2:if(a[138]&1){
-if(a[137]&1){
-enclosing_instance_0fc(Ub,a,b,c,Sp,r2(a+134),r4(a+120));
-bq=Ub[3];
-cq=Ub[2];
-dq=Ub[1];
-eq=Ub;
-goto L122;}}
-enclosing_named_18f(Wb,a,b,c,Sp,r4(a+120));
-break;
-default:NEVER;
-}
-bq=Wb[3];
-cq=Wb[2];
-dq=Wb[1];
-eq=Wb;
-L122:if(*eq!=1)goto L72;
-Ln=dq;
-Mn=cq;
-Nn=bq;
-goto L104;}}
-if(!(a[136]&1)){
-fq=r4(a+120);
-gq=a[139];
-hq=r8(a+8);
-iq=r8(a+48);
-if(r8(a+72)>iq)jq=iq;
-else{
-kq=make_ready_17a(a+40);
-if(!(kq&1))goto L72;
-jq=r8(a+48);}
-lq=rp(a+40)+jq*12;
-x4(lq,fq);
-x4(lq+4,hq);
-lq[8]=0;
-lq[9]=gq;
-x2(lq+10,0);
-w8(a+48,jq+1);}
-mq=Kn+1;
-if(mq!=16){
-Kn=mq;
-goto L105;}
-nq=6;
-oq=0;
-pq=0;
-goto L123;}
-Ln=Ko;
-Mn=Lo;
-Nn=Mo;
-L104:if(Ln!=2){
-qq=Ln;
-rq=Mn;
-sq=Nn;
-goto L124;}
-Kp=Nn;
-Lp=Mn;
-L121:w4(pb,0);
-w4(qb,0);
-z32(rb);
-tq=r8(a+88);
-if(tq!=0){
-uq=Lp&1;
-vq=rp(a+80)+(i64)(tq*44);
-wq=vq[-44];
-xq=vq[-43];
-yq=q4(vq-40);
-zq=q4(vq-36);
-Aq=q2(vq-32);
-switch(wq){
-case 29:case 28:case 27:case 26:case 4:case 5:case 6:case 7:case 8:case 11:case 12:case 13:case 14:case 15:case 16:case 17:case 18:case 19:case 20:case 21:case 22:case 23:case 24:case 25:if(Kp&1){
-pass_dependent_3d7(pb,a,b,c);
-Bq=pb[3];
-Cq=pb[2];
-Dq=pb[1];
-Eq=*pb;
-goto L125;}
-Fq=q4(vq-4);
-w4(lb,0);
-switch(wq){
-case 22:returned_322(lb,a,b,c,xq&1);
-break;
-case 23:parameter_at_3ac(lb,a,b,c,xq&1,0);
-break;
-case 24:array_ended_1b3(lb,a,b,c,xq,yq,zq);
-break;
-case 12:enclosing_parameter_fc1(lb,a,b,c,yq,zq);
-break;
-case 13:instance_parameter_240(lb,a,b,c,xq,yq,zq);
-break;
-case 11:w2(ib,Aq);
-memcpy(ib+2,vq-30,26);
-x4(ib+28,Fq);
-enclosing_front_fa8(lb,a,xq,yq,zq,ib);
-break;
-case 17:w4(jb,zq);
-w2(jb+4,Aq);
-lambda_parameter_383(lb,a,b,c,yq,jb);
-break;
-case 18:member_parameter_7e4(lb,a,b,c,yq);
-break;
-case 15:w4(kb,zq);
-w2(kb+4,Aq);
-memcpy(kb+6,vq-30,26);
-addressed_front_54d(lb,a,b,c,xq,yq,kb);
-break;
-case 16:addressed_parameter_2cf(lb,a,b,c,yq);
-break;
-case 14:*lb=0;
-break;
-case 19:finish_8cd(lb,a,b,c);
-break;
-case 20:derived_ended_aef(lb,a,b,c);
-break;
-case 21:base_ended_299(lb,a,b,c,yq);
-break;
-case 29:enumerator_21c(lb,a,b,c);
-break;
-case 26:case 25:case 28:Gq=zq;
-Hq=Fq;
-w4(hb,0);
-switch(wq){
-case 26:w2(eb,zq>>16);
-w2(eb+2,Aq);
-memcpy(eb+4,vq-30,26);
-w2(eb+30,Hq);
-argument_enumerator_5cf(hb,a,b,c,yq,Gq,eb);
-break;
-case 25:w2(fb,zq>>16);
-w2(fb+2,Aq);
-memcpy(fb+4,vq-30,26);
-w2(fb+30,Hq);
-argument_ended_d25(hb,a,b,c,yq,Gq,fb,uq);
-break;
-case 28:w2(gb,zq>>16);
-w2(gb+2,Aq);
-memcpy(gb+4,vq-30,26);
-w2(gb+30,Hq);
-element_ended_6b8(hb,a,b,c,yq,Gq,gb,uq);
-break;
-case 27:*hb=0;
-break;
-default:NEVER;
-}
-Iq=hb[1];
-Jq=hb[2];
-Kq=hb[3];
-*lb=*hb;
-lb[1]=Iq;
-lb[2]=Jq;
-lb[3]=Kq;
-break;
-case 27:case 10:case 9:case 8:case 4:case 5:case 6:case 7:*lb=1;
-lb[1]=3;
-lb[2]=0;
-lb[3]=0;
-break;
-default:NEVER;
-}
-Bq=lb[3];
-Cq=lb[2];
-Dq=lb[1];
-Eq=*lb;
-goto L125;
-case 10:Lq=r8(a+176);
-if(Lq<c){
-switch(*(b+Lq)){
-case 69:case 46:case 0:break;
-default:w4(ob,zq);
-w2(ob+4,Aq);
-memcpy(ob+6,vq-30,26);
-w4(nb,0);
-if(ob[29]&1){
-expansion_52e(nb,a,b,c,0,yq,ob);
-Mq=nb[3];
-Nq=nb[2];
-Oq=nb[1];
-Pq=*nb;}
-else{
-Qq=r8(a+8);
-if(r8(a+32)-Qq<2){
-Rq=make_ready_8e3(a,2,128);
-if(!(Rq&1)){
-Mq=0;
-Nq=0;
-Oq=0;
-Pq=0;
-goto L126;}
-Sq=r8(a+8);}
-else Sq=Qq;
-*(rp(a)+Sq)=44;
-*(rp(a)+(i64)Sq+1)=32;
-w8(a+8,Sq+2);
-Mq=0;
-Nq=0;
-Oq=0;
-Pq=1;}
-L126:Bq=Mq;
-Cq=Nq;
-Dq=Oq;
-Eq=Pq;
-goto L125;
-}}
-Tq=r8(a+8);
-if(Tq>=5){
-Uq=rp(a)+(i64)Tq;
-Vq=0;
-Wq=0;
-L127:Xq=Vq||*((u8*)t_262b+(i64)Wq)!=*(Uq-5+(i64)Wq);
-Yq=Wq+1;
-if(Yq!=4){
-Vq=Xq;
-Wq=Yq;
-goto L127;}
-Zq=0;
-ar=0;
-L128:br=ar+1;
-cr=Zq||*((u8*)t_262b+(i64)br)!=*(Uq-5+(i64)br);
-if(br!=4){
-Zq=cr;
-ar=br;
-goto L128;}
-if(!(Xq|cr)){
-dr=0;
-er=0;
-fr=0;
-gr=0;
-goto L129;}}
-close_39a(mb,a,b,c,yq);
-dr=mb[3];
-er=mb[2];
-fr=mb[1];
-gr=*mb;
-L129:Bq=dr;
-Cq=er;
-Dq=fr;
-Eq=gr;
-goto L125;
-case 9:w4(rb,zq);
-w2(rb+4,Aq);
-memcpy(rb+6,vq-30,26);
-front_ended_665(qb,a,b,c,xq,yq,rb);
-Bq=qb[3];
-Cq=qb[2];
-Dq=qb[1];
-Eq=*qb;
-goto L125;
-case 0:w8(a+88,tq-1);
-hr=r8(a+8);
-if(r8(a+32)>hr)ir=hr;
-else{
-jr=make_ready_8e3(a,1,16);
-if(!(jr&1))goto L130;
-ir=r8(a+8);}
-*(rp(a)+ir)=42;
-kr=ir+1;
-w8(a+8,kr);
-lr=kr;
-mr=Kp&1;
-nr=r8(a+48);
-if(r8(a+72)>nr){
-or=nr;
-pr=lr;
-qr=0;
-rr=mr;
-goto L131;}
-sr=make_ready_17a(a+40);
-if(!(sr&1))goto L130;
-tr=lr;
-ur=0;
-vr=mr;
-break;
-case 1:if(uq)goto L130;
-w8(a+88,tq-1);
-wr=r8(a+8);
-if(r8(a+32)>wr)xr=wr;
-else{
-yr=make_ready_8e3(a,1,16);
-if(!(yr&1))goto L130;
-xr=r8(a+8);}
-*(rp(a)+xr)=38;
-zr=xr+1;
-w8(a+8,zr);
-Ar=zr;
-Br=Kp&1;
-Cr=r8(a+48);
-if(r8(a+72)>Cr){
-or=Cr;
-pr=Ar;
-qr=1;
-rr=Br;
-goto L131;}
-Dr=make_ready_17a(a+40);
-if(!(Dr&1))goto L130;
-tr=Ar;
-ur=1;
-vr=Br;
-break;
-case 2:if(uq)goto L130;
-w8(a+88,tq-1);
-Er=r8(a+8);
-if(r8(a+32)-Er<2){
-Fr=make_ready_8e3(a,2,128);
-if(!(Fr&1))goto L130;
-Gr=r8(a+8);}
-else Gr=Er;
-*(rp(a)+Gr)=38;
-*(rp(a)+(i64)Gr+1)=38;
-Hr=Gr+2;
-w8(a+8,Hr);
-Ir=Hr;
-Jr=Kp&1;
-Kr=r8(a+48);
-if(r8(a+72)>Kr){
-or=Kr;
-pr=Ir;
-qr=1;
-rr=Jr;
-goto L131;}
-Lr=make_ready_17a(a+40);
-if(!(Lr&1))goto L130;
-tr=Ir;
-ur=1;
-vr=Jr;
-break;
-case 3:if(uq)goto L130;
-w8(a+88,tq-1);
-if(r8(a+32)-r8(a+8)<6){
-Mr=make_ready_8e3(a,6,128);
-if(!(Mr&1))goto L130;}
-Nr=extend_from_slice_169(a,(u8*)t_f603,6);
-if(Nr&1)goto L130;
-Or=r8(a+8);
-Pr=Kp&1;
-Qr=r8(a+48);
-if(r8(a+72)>Qr){
-or=Qr;
-pr=Or;
-qr=0;
-rr=Pr;
-goto L131;}
-Rr=make_ready_17a(a+40);
-if(!(Rr&1))goto L130;
-tr=Or;
-ur=0;
-vr=Pr;
-break;
-default:NEVER;
-}
-or=r8(a+48);
-pr=tr;
-qr=ur;
-rr=vr;
-L131:Sr=rp(a+40)+or*12;
-x4(Sr,yq);
-x4(Sr+4,pr);
-Sr[8]=qr;
-Sr[9]=rr;
-x2(Sr+10,0);
-w8(a+48,or+1);
-nq=2;
-oq=qr;
-pq=rr;
-goto L123;
-L125:if(Eq!=1)goto L72;
-qq=Dq;
-rq=Cq;
-sq=Bq;
-goto L124;}
-L130:goto L72;
-L124:if(qq==3){
-Tr=rq&1;
-w4(cb,0);
-Ur=r8(a+176);
-if(Ur<c){
-Vr=*(b+Ur);
-switch(Vr){
-case 69:w4(ab,0);
-w8(a+176,Ur+1);
-Wr=r8(a+88);
-if(Wr==0){
-Xr=0;
-Yr=0;
-Zr=0;
-as=0;}
-else{
-if(*(rp(a+80)+(i64)(Wr*44)-44)==27){
-if(Tr){
-Xr=0;
-Yr=0;
-Zr=0;
-as=0;}
-else{
-w8(a+88,Wr-1);
-Xr=0;
-Yr=0;
-Zr=3;
-as=1;}}
-else{
-z32(bb);
-close_list_299(ab,a,b,c,bb);
-Xr=ab[3];
-Yr=ab[2];
-Zr=ab[1];
-as=*ab;}}
-bs=Zr;
-cs=as;
-ds=Yr;
-es=Xr;
-goto L132;
-case 74:fs=Ur+1;
-if(fs<c){
-if(*(b+fs)==69){
-empty_pack_079(cb,a,b,c,Tr);
-bs=cb[1];
-cs=*cb;
-ds=cb[2];
-es=cb[3];
-goto L132;}}
-if(!Tr){
-gs=74;
-goto L133;}
-first_pack_117(cb,a,b,c);
-bs=cb[1];
-cs=*cb;
-ds=cb[2];
-es=cb[3];
-goto L132;
-default:hs=Vr;
-break;}}
-else hs=0;
-if(Tr){
-is=hs;
-goto L134;}
-gs=hs;
-L133:js=r8(a+8);
-if(r8(a+32)-js<2){
-ks=make_ready_8e3(a,2,128);
-if(!(ks&1))goto L135;
-ls=r8(a+8);}
-else ls=js;
-*(rp(a)+ls)=44;
-*(rp(a)+(i64)ls+1)=32;
-w8(a+8,ls+2);
-is=gs;
-L134:switch(is){
-case 76:if(Tr){
-first_literal_8ab(cb,a,b,c);
-bs=cb[1];
-cs=*cb;
-ds=cb[2];
-es=cb[3];
-goto L132;}
-literal_9c1(db,a,b,c);
-bs=db[1];
-cs=*db;
-ds=db[2];
-es=db[3];
-goto L132;
-case 74:ms=r8(a+88);
-if(ms==0)goto L135;
-ns=rp(a+80);
-os=ms*44;
-if(*(ns+(i64)os-44)==27)goto L135;
-ps=r8(a+176);
-if(ps==18446744073709551615u)goto L135;
-w8(a+176,ps+1);
-if(r8(a+112)>ms){
-qs=os;
-rs=ns;
-ss=ms;}
-else{
-ts=make_ready_9a1(a+80);
-if(!(ts&1))goto L135;
-us=r8(a+88);
-qs=us*44;
-rs=rp(a+80);
-ss=us;}
-vs=rs+qs;
-*vs=27;
-z43(vs+1);
-ws=ss;
-xs=3;
-ys=1;
-break;
-default:if(!Tr){
-As=0;
-Bs=0;
-goto L136;}
-zs=r8(a+88);
-if(zs==0){
-As=0;
-Bs=0;
-goto L136;}
-Cs=rp(a+80);
-Ds=zs*44;
-Es=Cs+(i64)Ds;
-switch(Es[-44]){
-case 5:if(Es[-28]==0){
-As=0;
-Bs=0;
-goto L136;}
-break;
-case 7:break;
-case 0:case 1:case 2:case 3:case 4:case 6:case 8:case 9:case 10:case 11:case 12:case 13:case 14:case 15:case 16:case 17:case 18:case 19:case 20:case 21:case 22:case 23:case 24:case 25:case 26:case 27:case 28:case 29:As=0;
-Bs=0;
-goto L136;
-default:NEVER;
-}
-Fs=r8(a+176);
-if(Fs<c){
-Gs=b+(i64)Fs;
-switch(*Gs){
-case 65:case 70:As=0;
-Bs=0;
-goto L136;
-case 80:case 82:if(usub64(c,Fs)>=2){
-switch(Gs[1]){
-case 70:case 65:As=0;
-Bs=0;
-goto L136;
-default:break;}}
-break;
-default:break;}}
-Hs=r8(a+8);
-if(r8(a+112)>zs){
-Is=Ds;
-Js=Cs;
-Ks=zs;}
-else{
-Ls=make_ready_9a1(a+80);
-if(!(Ls&1))goto L135;
-Ms=r8(a+88);
-Is=Ms*44;
-Js=rp(a+80);
-Ks=Ms;}
-Ns=Js+Is;
-*Ns=25;
-Ns[1]=0;
-x2(Ns+2,0);
-x4(Ns+4,Hs);
-z36(Ns+8);
-ws=Ks;
-xs=0;
-ys=0;
-break;}
-w8(a+88,ws+1);
-As=xs;
-Bs=ys;
-L136:nq=As;
-oq=Bs;
-pq=0;
-goto L123;
-L132:if(cs!=1)goto L72;
-nq=bs;
-oq=ds;
-pq=es;
-goto L123;
-L135:goto L72;}
-nq=qq;
-oq=rq;
-pq=sq;
-L123:Os=ol+1;
-if(Os==nl)goto L72;
-ol=Os;
-pl=pq;
-ql=oq;
-rl=nq;
-goto L91;}}}
-L81:;}
-L72:break;
-case 1:if(!fc){
-if(c<16){
-Ps=are_few_named_14c(b,c);
-if(!Ps)goto L137;}
-else{
-Qs=c-16;
-if(Qs==0)goto L138;
-Rs=0;
-L139:Ss=v16_at(b+Rs);
-if((v16_ult(Ss,splat(33))|v16_eq(Ss,splat(127)))!=0)goto L137;
-Ts=Rs+16;
-if(Ts<Qs){
-Rs=Ts;
-goto L139;}
-L138:Us=v16_at(b+Qs);
-if((v16_ult(Us,splat(33))|v16_eq(Us,splat(127)))!=0)goto L137;}
-w4(Qa,0);
-w4(Ra,0);
-if(c!=0){
-if(c!=1&&*b==95){
-if(b[1]==90){
-if(c>=3){
-Vs=b[2];
-if(c<5){
-if(Vs==90){
-w8(a+176,3);
-w4(Ma,0);
-if(c==3)goto L140;
-Ws=a+176;
-goto L141;}
-if((c!=3)&(Vs==71)){
-if(b[3]==86)goto L142;
-goto L143;}
-switch(Vs){
-case 71:goto L143;
-case 84:if(c==3)goto L144;
-break;
-default:goto L145;
-}}
-else{
-switch(Vs){
-case 90:w8(a+176,3);
-w4(Ma,0);
-Ws=a+176;
-goto L141;
-case 71:if(b[3]!=86)goto L143;
-if(b[4]!=90)goto L142;
-if(ac<19){
-Xs=make_ready_8e3(a,19,128);
-if(!(Xs&1))goto L146;
-Ys=r8(a+16);
-Zs=r8(a+8);}
-else{
-Ys=Zb;
-Zs=0;}
-if(Ys-Zs<19){
-at=grow_amortized_2b6(a,19);
-if(!at)goto L146;
-bt=r8(a+16);
-ct=r8(a+8);}
-else{
-bt=Ys;
-ct=Zs;}
-dt=ct+19;
-et=rp(a);
-z16(a+8);
-ft=et+(i64)ct;
-if((u64)ft-(u64)(u8*)t_c270<19)copy_bits_4f4((u8*)t_c270,ft,19);
-else memcpy(ft,(u8*)t_c270,19);
-wp(a,et);
-w8(a+8,dt);
-w8(a+16,bt);
-w8(a+176,5);
-w4(Ja,0);
-if(c!=5){
-gt=b[5];
-switch(gt){
-case 78:w4(Ha,0);
-w4(Ia,1);
-w8(a+176,6);
-if(c!=6){
-switch(b[6]){
-case 75:if(c<=7){
-ht=1;
-it=7;
-goto L147;}
-switch(b[7]){
-case 82:ht=3;
-it=8;
-goto L147;
-case 79:ht=5;
-it=8;
-goto L147;
-default:ht=1;
-it=7;
-goto L147;
-}
-break;
-case 82:ht=2;
-it=7;
-goto L147;
-case 79:ht=4;
-it=7;
-goto L147;
-default:break;}}
-ht=0;
-it=6;
-L147:w8(a+176,it);
-Ia[1]=ht;
-nest_at_de1(Ha,a,b,c,Ia);
-*Ja=*Ha;
-Ja[1]=Ha[1];
-Ja[2]=Ha[2];
-Ja[3]=Ha[3];
-goto L148;
-case 76:w8(a+176,6);
-begin_name_38a(Ja,a,b,c);
-goto L148;
-case 83:begin_in_std_51a(Ja,a,b,c);
-goto L148;
-default:if((u8)(gt-97)<26){
-begin_operator_bf3(Ja,a,b,c);
-goto L148;}
-break;}}
-begin_name_38a(Ja,a,b,c);
-L148:jt=Ja[3];
-kt=Ja[2];
-lt=Ja[1];
-mt=*Ja;
-goto L149;
-case 84:break;
-default:goto L145;
-}}
-switch(b[3]){
-case 104:begin_thunk_acc(Ra,a,b,c);
-goto L150;
-case 118:begin_virtual_thunk_3f7(Ra,a,b,c);
-goto L150;
-case 67:begin_clone_893(Ra);
-goto L150;
-default:break;}
-L144:begin_special_44d(Ra,a,b,c);
-L150:jt=Ra[3];
-kt=Ra[2];
-lt=Ra[1];
-mt=*Ra;
-goto L149;
-L145:w8(a+176,2);
-w4(Pa,0);
-nt=b[2];
-switch(nt){
-case 78:w4(Na,0);
-w4(Oa,1);
-w8(a+176,3);
-if(c!=3){
-switch(b[3]){
-case 75:if(c<=4){
-ot=1;
-pt=4;
-goto L151;}
-switch(b[4]){
-case 82:ot=3;
-pt=5;
-goto L151;
-case 79:ot=5;
-pt=5;
-goto L151;
-default:ot=1;
-pt=4;
-goto L151;
-}
-break;
-case 82:ot=2;
-pt=4;
-goto L151;
-case 79:ot=4;
-pt=4;
-goto L151;
-default:break;}}
-ot=0;
-pt=3;
-L151:w8(a+176,pt);
-Oa[1]=ot;
-nest_at_de1(Na,a,b,c,Oa);
-*Pa=*Na;
-Pa[1]=Na[1];
-Pa[2]=Na[2];
-Pa[3]=Na[3];
-goto L152;
-case 76:w8(a+176,3);
-begin_name_38a(Pa,a,b,c);
-goto L152;
-case 83:begin_in_std_51a(Pa,a,b,c);
-goto L152;
-default:if((u8)(nt-97)>=26)goto L153;
-begin_operator_bf3(Pa,a,b,c);
-goto L152;
-}
-L143:begin_clone_893(Qa);
-jt=Qa[3];
-kt=Qa[2];
-lt=Qa[1];
-mt=*Qa;
-goto L149;
-L142:begin_object_056(Qa,a,b,c);
-jt=Qa[3];
-kt=Qa[2];
-lt=Qa[1];
-mt=*Qa;
-goto L149;
-L141:qt=b[3];
-switch(qt){
-case 78:w4(Ka,0);
-w4(La,1);
-w8(Ws,4);
-if(c>4){
-switch(b[4]){
-case 75:if(c==5){
-rt=1;
-st=5;
-goto L154;}
-switch(b[5]){
-case 82:rt=3;
-st=6;
-goto L154;
-case 79:rt=5;
-st=6;
-goto L154;
-default:rt=1;
-st=5;
-goto L154;
-}
-break;
-case 82:rt=2;
-st=5;
-goto L154;
-case 79:rt=4;
-st=5;
-goto L154;
-default:break;}}
-rt=0;
-st=4;
-L154:w8(Ws,st);
-La[1]=rt;
-nest_at_de1(Ka,a,b,c,La);
-*Ma=*Ka;
-Ma[1]=Ka[1];
-Ma[2]=Ka[2];
-Ma[3]=Ka[3];
-goto L155;
-case 76:w8(Ws,4);
-begin_name_38a(Ma,a,b,c);
-goto L155;
-case 83:begin_in_std_51a(Ma,a,b,c);
-goto L155;
-default:if((u8)(qt-97)<26){
-begin_operator_bf3(Ma,a,b,c);
-goto L155;}
-break;}
-L140:begin_name_38a(Ma,a,b,c);
-L155:jt=Ma[3];
-kt=Ma[2];
-lt=Ma[1];
-mt=*Ma;
-goto L149;}
-w8(a+176,2);
-w4(Pa,0);
-L153:begin_name_38a(Pa,a,b,c);
-L152:jt=Pa[3];
-kt=Pa[2];
-lt=Pa[1];
-mt=*Pa;
-L149:if(mt!=1)goto L137;
-tt=c<<3;
-ut=0;
-vt=jt;
-wt=kt;
-xt=lt;
-L156:if(xt==7){
-yt=r8(a+8);
-if(yt>Xb)goto L137;
-zt=rp(a);
-if(yt==0)goto L157;
-At=0;
-Bt=0;
-Ct=0;
-L158:Dt=At;
-L159:if(yt-Dt>15){
-Et=cttz(v16_ult(v16_at(zt+Dt),splat(3)),16);
-Ft=Dt+Et;
-if(Et>=16){
-Dt=Ft;
-goto L159;}
-Gt=Ft;}
-else{
-if(Dt>=yt){
-Gt=Dt;
-goto L160;}
-Ht=Dt;
-L161:if(*(zt+Ht)>2){
-It=Ht+1;
-if(It!=yt){
-Ht=It;
-goto L161;}
-Gt=yt;}
-else Gt=Ht;}
-L160:if(Ct==0){
-if(Bt<At){
-if(Gt!=At){
-Jt=Gt-At;
-Kt=zt+(i64)At;
-Lt=zt+(i64)Bt;
-Mt=0;
-L162:*(Lt+(i64)Mt)=*(Kt+(i64)Mt);
-Nt=Mt+1;
-if(Nt!=Jt){
-Mt=Nt;
-goto L162;}}}
-Ot=Bt-At+Gt;}
-else Ot=Bt;
-if(Gt!=yt){
-switch(*(zt+Gt)){
-case 1:Pt=Ct+1;
-break;
-case 2:Pt=usub64(Ct,1);
-break;
-default:goto L137;
-}
-Qt=Gt+1;
-if(Qt<yt){
-At=Qt;
-Bt=Ot;
-Ct=Pt;
-goto L158;}}
-if(r8(a+8)>Ot)w8(a+8,Ot);
-L157:goto L1;}
-w8(a+184,r8(a+184)+1);
-switch(xt){
-case 0:w4(Ea,0);
-w4(Fa,0);
-Rt=r8(a+176);
-if(Rt<c){
-St=r8(a+8);
-Tt=St;
-Ut=*(b+Rt);
-switch(Ut){
-case 80:w4(Ca,0);
-Vt=Rt+1;
-if(Vt<c){
-switch(*(b+Vt)){
-case 70:begin_function_7aa(Ca,a,1);
-*Fa=*Ca;
-Fa[1]=Ca[1];
-Fa[2]=Ca[2];
-Wt=Ca[3];
-goto L163;
-case 65:begin_array_86f(Ca,a,b,c,1);
-*Fa=*Ca;
-Fa[1]=Ca[1];
-Fa[2]=Ca[2];
-Wt=Ca[3];
-goto L163;
-default:break;}}
-w8(a+176,Vt);
-Xt=r8(a+88);
-if(r8(a+112)>Xt)Yt=Xt;
-else{
-Zt=make_ready_9a1(a+80);
-if(!(Zt&1)){
-au=0;
-goto L164;}
-Yt=r8(a+88);}
-bu=rp(a+80)+Yt*44;
-*bu=0;
-bu[1]=0;
-x2(bu+2,0);
-x4(bu+4,Tt);
-z36(bu+8);
-w8(a+88,Yt+1);
-au=1;
-L164:*Fa=au;
-Fa[1]=0;
-Fa[2]=0;
-Wt=0;
-L163:Fa[3]=Wt;
-cu=Fa+1;
-du=Fa+2;
-eu=Fa+3;
-fu=Fa;
-goto L165;
-case 70:begin_function_7aa(Fa,a,0);
-cu=Fa+1;
-du=Fa+2;
-eu=Fa+3;
-fu=Fa;
-goto L165;
-case 82:gu=Rt+1;
-if(gu<c){
-if(*(b+gu)==65){
-begin_array_86f(Ea,a,b,c,2);
-cu=Ea+1;
-du=Ea+2;
-eu=Ea+3;
-fu=Ea;
-goto L165;}}
-w8(a+176,gu);
-hu=r8(a+88);
-if(r8(a+112)>hu)iu=hu;
-else{
-ju=make_ready_9a1(a+80);
-if(!(ju&1)){
-w4(Fa,0);
-cu=Fa+1;
-du=Fa+2;
-eu=Fa+3;
-fu=Fa;
-goto L165;}
-iu=r8(a+88);}
-ku=rp(a+80)+iu*44;
-*ku=1;
-ku[1]=0;
-x2(ku+2,0);
-x4(ku+4,Tt);
-z36(ku+8);
-w8(a+88,iu+1);
-*Fa=1;
-Fa[1]=0;
-Fa[2]=0;
-Fa[3]=0;
-cu=Fa+1;
-du=Fa+2;
-eu=Fa+3;
-fu=Fa;
-goto L165;
-case 65:begin_array_86f(Fa,a,b,c,0);
-cu=Fa+1;
-du=Fa+2;
-eu=Fa+3;
-fu=Fa;
-goto L165;
-case 79:rvalue_at_e1d(Fa,a,b,c);
-cu=Fa+1;
-du=Fa+2;
-eu=Fa+3;
-fu=Fa;
-goto L165;
-case 75:w8(a+176,Rt+1);
-lu=r8(a+88);
-if(r8(a+112)>lu)mu=lu;
-else{
-nu=make_ready_9a1(a+80);
-if(!(nu&1)){
-w4(Fa,0);
-cu=Fa+1;
-du=Fa+2;
-eu=Fa+3;
-fu=Fa;
-goto L165;}
-mu=r8(a+88);}
-ou=rp(a+80)+mu*44;
-*ou=3;
-ou[1]=0;
-x2(ou+2,0);
-x4(ou+4,Tt);
-z36(ou+8);
-w8(a+88,mu+1);
-*Fa=1;
-Fa[1]=1;
-Fa[2]=0;
-Fa[3]=0;
-cu=Fa+1;
-du=Fa+2;
-eu=Fa+3;
-fu=Fa;
-goto L165;
-case 78:w4(ya,0);
-w4(za,0);
-w8(a+176,Rt+1);
-nest_at_de1(ya,a,b,c,za);
-*Fa=*ya;
-Fa[1]=ya[1];
-Fa[2]=ya[2];
-Fa[3]=ya[3];
-cu=Fa+1;
-du=Fa+2;
-eu=Fa+3;
-fu=Fa;
-goto L165;
-case 83:case 90:break;
-case 68:builtin_with_d_cb0(Fa,a,b,c);
-cu=Fa+1;
-du=Fa+2;
-eu=Fa+3;
-fu=Fa;
-goto L165;
-case 84:template_parameter_3b0(Fa,a,b,c);
-cu=Fa+1;
-du=Fa+2;
-eu=Fa+3;
-fu=Fa;
-goto L165;
-default:if((u8)(Ut-49)>=9){
-pu=Ut-97;
-if(pu>=26){
-cu=Fa+1;
-du=Fa+2;
-eu=Fa+3;
-fu=Fa;
-goto L165;}
-if(!(u8)(((u32)65829887>>pu)&1)){
-cu=Fa+1;
-du=Fa+2;
-eu=Fa+3;
-fu=Fa;
-goto L165;}
-qu=rp((u8*)t_e7e8+(u64)pu*8);
-ru=r8((u8*)t_f635+(u64)pu*8);
-w8(a+176,Rt+1);
-if(r8(a+32)-St<ru){
-su=make_ready_8e3(a,ru,128);
-if(!(su&1))goto L166;
-tu=r8(a+8);}
-else tu=St;
-uu=r8(a+16);
-if(ru>uu-tu){
-vu=grow_amortized_2b6(a,ru);
-if(!vu)goto L166;
-wu=r8(a+16);
-xu=r8(a+8);}
-else{
-wu=uu;
-xu=tu;}
-yu=xu+ru;
-zu=rp(a);
-z16(a+8);
-Au=zu+(i64)xu;
-if((u64)Au-(u64)qu<ru)copy_bits_4f4(qu,Au,ru);
-else memmove(Au,qu,ru);
-wp(a,zu);
-w8(a+8,yu);
-w8(a+16,wu);
-*Fa=1;
-Fa[1]=2;
-Fa[2]=0;
-Fa[3]=0;
-cu=Fa+1;
-du=Fa+2;
-eu=Fa+3;
-fu=Fa;
-goto L165;
-L166:w4(Fa,0);
-cu=Fa+1;
-du=Fa+2;
-eu=Fa+3;
-fu=Fa;
-goto L165;}
-break;}
-named_type_e9a(Fa,a,b,c);
-cu=Fa+1;
-du=Fa+2;
-eu=Fa+3;
-fu=Fa;}
-else{
-cu=Fa+1;
-du=Fa+2;
-eu=Fa+3;
-fu=Fa;}
-L165:Bu=*eu;
-Cu=*du;
-Du=*cu;
-Eu=*fu;
-goto L167;
-case 1:w4(Da,0);
-Fu=r8(a+176);
-if(Fu<c){
-Gu=r8(a+8);
-Hu=Gu;
-Iu=*(b+Fu);
-switch(Iu){
-case 80:w8(a+176,Fu+1);
-Ju=r8(a+88);
-if(r8(a+112)>Ju)Ku=Ju;
-else{
-Lu=make_ready_9a1(a+80);
-if(!(Lu&1)){
-Mu=0;
-goto L168;}
-Ku=r8(a+88);}
-Nu=rp(a+80)+Ku*44;
-*Nu=0;
-Nu[1]=0;
-x2(Nu+2,0);
-x4(Nu+4,Hu);
-z36(Nu+8);
-w8(a+88,Ku+1);
-Mu=1;
-L168:*Da=Mu;
-Da[1]=0;
-Da[2]=0;
-Da[3]=0;
-goto L169;
-case 70:case 65:case 75:Ou=0;
-Pu=0;
-Qu=0;
-Ru=0;
-goto L170;
-case 82:w8(a+176,Fu+1);
-Su=r8(a+88);
-if(r8(a+112)>Su)Tu=Su;
-else{
-Uu=make_ready_9a1(a+80);
-if(!(Uu&1)){
-w4(Da,0);
-goto L169;}
-Tu=r8(a+88);}
-Vu=rp(a+80)+Tu*44;
-*Vu=1;
-Vu[1]=0;
-x2(Vu+2,0);
-x4(Vu+4,Hu);
-z36(Vu+8);
-w8(a+88,Tu+1);
-*Da=1;
-Da[1]=0;
-Da[2]=0;
-Da[3]=0;
-goto L169;
-case 79:rvalue_at_e1d(Da,a,b,c);
-goto L169;
-case 78:w4(Aa,0);
-w4(Ba,0);
-w8(a+176,Fu+1);
-nest_at_de1(Aa,a,b,c,Ba);
-*Da=*Aa;
-Da[1]=Aa[1];
-Da[2]=Aa[2];
-Da[3]=Aa[3];
-goto L169;
-case 83:case 90:break;
-case 68:builtin_with_d_cb0(Da,a,b,c);
-goto L169;
-case 84:template_parameter_3b0(Da,a,b,c);
-goto L169;
-default:if((u8)(Iu-49)>=9){
-Wu=Iu-97;
-if(Wu>=26)goto L169;
-if(!(u8)(((u32)65829887>>Wu)&1))goto L169;
-Xu=rp((u8*)t_e7e8+(u64)Wu*8);
-Yu=r8((u8*)t_f635+(u64)Wu*8);
-w8(a+176,Fu+1);
-if(r8(a+32)-Gu<Yu){
-Zu=make_ready_8e3(a,Yu,128);
-if(!(Zu&1))goto L171;
-av=r8(a+8);}
-else av=Gu;
-bv=r8(a+16);
-if(Yu>bv-av){
-cv=grow_amortized_2b6(a,Yu);
-if(!cv)goto L171;
-dv=r8(a+16);
-ev=r8(a+8);}
-else{
-dv=bv;
-ev=av;}
-fv=ev+Yu;
-gv=rp(a);
-z16(a+8);
-hv=gv+(i64)ev;
-if((u64)hv-(u64)Xu<Yu)copy_bits_4f4(Xu,hv,Yu);
-else memmove(hv,Xu,Yu);
-wp(a,gv);
-w8(a+8,fv);
-w8(a+16,dv);
-*Da=1;
-Da[1]=2;
-Da[2]=0;
-Da[3]=0;
-goto L169;
-L171:w4(Da,0);
-goto L169;}
-break;}
-named_type_e9a(Da,a,b,c);}
-L169:Ou=Da[3];
-Pu=Da[2];
-Qu=Da[1];
-Ru=*Da;
-L170:Bu=Ou;
-Cu=Pu;
-Du=Qu;
-Eu=Ru;
-goto L167;
-case 4:if(!(a[136]&1)){
-iv=r4(a+120);
-jv=a[139];
-kv=r8(a+8);
-lv=r8(a+48);
-if(r8(a+72)>lv)mv=lv;
-else{
-nv=make_ready_17a(a+40);
-if(!(nv&1))goto L172;
-mv=r8(a+48);}
-ov=rp(a+40)+mv*12;
-x4(ov,iv);
-x4(ov+4,kv);
-ov[8]=0;
-ov[9]=jv;
-x2(ov+10,0);
-w8(a+48,mv+1);}
-pv=r8(a+176);
-if(pv<c){
-if(*(b+pv)==73){
-memcpy(Ga,a+120,20);
-z20(Ga+20);
-qv=r8(a+8);
-if(r8(a+32)>qv)rv=qv;
-else{
-sv=make_ready_8e3(a,1,16);
-if(!(sv&1))goto L172;
-rv=r8(a+8);}
-*(rp(a)+rv)=1;
-w8(a+8,rv+1);
-tv=r8(a+176);
-if(tv==18446744073709551615u)goto L172;
-w8(a+176,tv+1);
-uv=r8(a+88);
-if(r8(a+112)>uv)vv=uv;
-else{
-wv=make_ready_9a1(a+80);
-if(!(wv&1))goto L172;
-vv=r8(a+88);}
-xv=rp(a+80)+vv*44;
-*xv=6;
-xv[1]=0;
-x2(xv+2,0);
-memcpy(xv+4,Ga,40);
-w8(a+88,vv+1);
-yv=0;
-zv=1;
-Av=3;}
-else{
-yv=0;
-zv=0;
-Av=6;}}
-else{
-yv=0;
-zv=0;
-Av=6;}
-break;
-case 5:Bv=r8(a+176);
-if(Bv<c){
-if(*(b+Bv)==69){
-Cv=a[132];
-if(Cv==0){
-w8(a+176,Bv+1);
-Dv=a[139];
-if(a[136]&1){
-yv=Dv;
-zv=0;
-Av=2;
-break;}
-Ev=r4(a+120);
-Fv=r8(a+8);
-Gv=r8(a+48);
-if(r8(a+72)>Gv)Hv=Gv;
-else{
-Iv=make_ready_17a(a+40);
-if(!(Iv&1))goto L172;
-Hv=r8(a+48);}
-Jv=rp(a+40)+Hv*12;
-x4(Jv,Ev);
-x4(Jv+4,Fv);
-Jv[8]=0;
-Jv[9]=Dv;
-x2(Jv+10,0);
-w8(a+48,Hv+1);
-yv=a[139];
-zv=0;
-Av=2;
-break;}
-w4(xa,0);
-w8(a+176,Bv+1);
-Kv=a[133];
-switch(Cv){
-case 3:addressed_named_a52(xa,a,b,c,Kv);
-Lv=xa+1;
-Mv=xa+2;
-Nv=xa+3;
-Ov=xa;
-break;
-case 1:if(a[138]&1){
-Pv=q2(a+140);
-Qv=q2(a+142);
-memcpy(wa+4,a+144,16);
-Rv=q8(a+160);
-Sv=a[168];
-Tv=a[169];
-Uv=a[170];
-Vv=a[171];
-w2(wa,Pv);
-w2(wa+2,Qv);
-x8(wa+20,Rv);
-wa[28]=Sv;
-wa[29]=Tv;
-wa[30]=Uv;
-wa[31]=Vv;
-Wv=a[137]&1;}
-else{
-z32(wa);
-Wv=0;}
-name_ended_8aa(xa,a,b,c,Kv,Wv,wa,r4(a+120));
-Lv=xa+1;
-Mv=xa+2;
-Nv=xa+3;
-Ov=xa;
-break;
-case 2:if(a[138]&1){
-Xv=r4(a+120);
-if(a[137]&1){
-enclosing_instance_e2f(va,a,b,c,Kv,r2(a+134),Xv);
-Lv=va+1;
-Mv=va+2;
-Nv=va+3;
-Ov=va;
-break;}
-Yv=Xv;}
-else Yv=r4(a+120);
-enclosing_named_54a(xa,a,b,c,Kv,Yv);
-Lv=xa+1;
-Mv=xa+2;
-Nv=xa+3;
-Ov=xa;
-break;
-default:NEVER;
-}
-Bu=*Nv;
-Cu=*Mv;
-Du=*Lv;
-Eu=*Ov;
-goto L167;}}
-if(a[136]&1){
-yv=0;
-zv=0;
-Av=6;}
-else{
-Zv=r4(a+120);
-aw=a[139];
-bw=r8(a+8);
-cw=r8(a+48);
-if(r8(a+72)>cw)dw=cw;
-else{
-ew=make_ready_17a(a+40);
-if(!(ew&1))goto L172;
-dw=r8(a+48);}
-fw=rp(a+40)+dw*12;
-x4(fw,Zv);
-x4(fw+4,bw);
-fw[8]=0;
-fw[9]=aw;
-x2(fw+10,0);
-w8(a+48,dw+1);
-yv=0;
-zv=0;
-Av=6;}
-break;
-case 6:case 2:case 3:yv=vt;
-zv=wt;
-Av=xt;
-break;
-default:NEVER;
-}
-gw=Av;
-hw=zv;
-iw=yv;
-goto L173;
-L172:goto L137;
-L167:if(Eu!=1)goto L137;
-gw=Du;
-hw=Cu;
-iw=Bu;
-L173:if(gw!=6){
-kw=gw;
-lw=hw;
-mw=iw;
-goto L174;}
-jw=0;
-L175:w4(Wa,0);
-nw=r8(a+176);
-if(nw<c){
-ow=*(b+nw);
-switch(ow){
-case 67:constructor_ff5(Wa,a,b,c);
-break;
-case 68:destructor_97b(Wa,a,b,c);
-break;
-case 76:w8(a+176,nw+1);
-pw=r8(a+8);
-if(r8(a+32)-pw<2){
-qw=make_ready_8e3(a,2,128);
-if(!(qw&1))goto L176;
-rw=r8(a+8);}
-else rw=pw;
-*(rp(a)+rw)=58;
-*(rp(a)+(i64)rw+1)=58;
-sw=rw+2;
-w8(a+8,sw);
-tw=r8(a+176);
-z24(Ta);
-if(tw<c){
-uw=*(b+tw);
-if((u8)(uw-58)>=247){
-vw=sw;
-ww=tw+1;
-if(ww<c){
-xw=*(b+ww)-48;
-if(xw<10){
-yw=tw+2;
-if(yw<c){
-if((u8)(*(b+yw)-48)<10){
-long_name_at_8ad(Ta,b,c,tw);
-if(*Ta!=1)goto L176;
-zw=r8(Ta+8);
-Aw=r8(Ta+16);
-goto L177;}}
-Bw=(u64)xw+(u8)((u8)(uw*10)+32);
-if(c-yw<Bw)goto L178;
-if((u8)(*(b+(i64)yw)-48)<10)goto L178;
-Cw=Bw+yw;
-Dw=yw;
-goto L179;}}
-Ew=uw-48;
-if(c-ww<Ew)goto L178;
-if((u8)(*(b+(i64)ww)-48)<10)goto L178;
-Cw=ww+Ew;
-Dw=ww;
-L179:zw=Dw;
-Aw=Cw;
-L177:w8(a+176,Aw);
-Fw=b+(i64)zw;
-Gw=Aw-zw;
-if(Aw!=zw){
-if(!(Gw<10||*Fw!=95)){
-Hw=parts_equal_58b((u8*)t_35ad,10,Fw,10);
-if(Hw){
-Iw=(s_p_64){(u8*)t_62ff,21};
-goto L180;}}}
-Jw=(s_p_64){0};Jw.f0=Fw;
-Kw=Jw;Kw.f1=Gw;
-Iw=Kw;
-L180:Lw=Iw.f0;
-Mw=Iw.f1;
-if(r8(a+32)-sw<Mw){
-Nw=make_ready_8e3(a,Mw,128);
-if(!(Nw&1))goto L176;}
-Ow=extend_from_slice_169(a,Lw,Mw);
-if(Ow&1)goto L176;
-Pw=r8(a+8);
-Qw=a[139];
-w4(a+124,vw);
-w4(a+128,Pw);
-a[136]=0;
-a[137]=1;
-a[138]=0;
-Rw=r8(a+176);
-if(Rw>=c){
-gx=0;
-hx=5;
-goto L181;}
-if(*(b+Rw)!=73){
-gx=0;
-hx=5;
-goto L181;}
-Sw=r4(a+120);
-Tw=r8(a+48);
-if(r8(a+72)>Tw)Uw=Tw;
-else{
-Vw=make_ready_17a(a+40);
-if(!(Vw&1))goto L182;
-Uw=r8(a+48);}
-Ww=rp(a+40)+Uw*12;
-x4(Ww,Sw);
-x4(Ww+4,Pw);
-Ww[8]=0;
-Ww[9]=Qw;
-x2(Ww+10,0);
-w8(a+48,Uw+1);
-memcpy(Sa,a+120,20);
-z20(Sa+20);
-Xw=r8(a+8);
-if(r8(a+32)>Xw)Yw=Xw;
-else{
-Zw=make_ready_8e3(a,1,16);
-if(!(Zw&1))goto L182;
-Yw=r8(a+8);}
-*(rp(a)+Yw)=1;
-w8(a+8,Yw+1);
-ax=r8(a+176);
-if(ax==18446744073709551615u)goto L182;
-w8(a+176,ax+1);
-bx=r8(a+88);
-if(r8(a+112)>bx){
-cx=bx;
-dx=Sa;
-goto L183;}
-ex=make_ready_9a1(a+80);
-if(!(ex&1))goto L182;
-fx=Sa;
-goto L184;}}
-L178:goto L176;
-case 85:begin_component_d5a(Wa,a,b,c);
-break;
-default:if((u8)(ow-97)>=26)goto L185;
-operator_a8d(Wa,a,b,c);
-break;}
-if(*Wa!=1)goto L137;
-ix=Wa[1];
-jx=Wa[2];
-kx=Wa[3];
-goto L186;}
-L185:lx=r8(a+8);
-if(r8(a+32)-lx<2){
-mx=make_ready_8e3(a,2,128);
-if(!(mx&1))goto L176;
-nx=r8(a+8);}
-else nx=lx;
-*(rp(a)+nx)=58;
-*(rp(a)+(i64)nx+1)=58;
-ox=nx+2;
-w8(a+8,ox);
-px=r8(a+176);
-z24(Va);
-if(px<c){
-qx=*(b+px);
-if((u8)(qx-58)>=247){
-rx=ox;
-sx=px+1;
-if(sx<c){
-tx=*(b+sx)-48;
-if(tx<10){
-ux=px+2;
-if(ux<c){
-if((u8)(*(b+ux)-48)<10){
-long_name_at_8ad(Va,b,c,px);
-if(*Va!=1)goto L176;
-vx=r8(Va+8);
-wx=r8(Va+16);
-goto L187;}}
-xx=(u64)tx+(u8)((u8)(qx*10)+32);
-if(c-ux<xx)goto L188;
-if((u8)(*(b+(i64)ux)-48)<10)goto L188;
-yx=xx+ux;
-zx=ux;
-goto L189;}}
-Ax=qx-48;
-if(c-sx<Ax)goto L188;
-if((u8)(*(b+(i64)sx)-48)<10)goto L188;
-yx=sx+Ax;
-zx=sx;
-L189:vx=zx;
-wx=yx;
-L187:w8(a+176,wx);
-Bx=b+(i64)vx;
-Cx=wx-vx;
-if(wx!=vx){
-if(!(Cx<10||*Bx!=95)){
-Dx=parts_equal_58b((u8*)t_35ad,10,Bx,10);
-if(Dx){
-Ex=(s_p_64){(u8*)t_62ff,21};
-goto L190;}}}
-Fx=(s_p_64){0};Fx.f0=Bx;
-Gx=Fx;Gx.f1=Cx;
-Ex=Gx;
-L190:Hx=Ex.f0;
-Ix=Ex.f1;
-if(r8(a+32)-ox<Ix){
-Jx=make_ready_8e3(a,Ix,128);
-if(!(Jx&1))goto L176;
-Kx=r8(a+8);}
-else Kx=ox;
-Lx=r8(a+16);
-if(Ix>Lx-Kx){
-Mx=grow_amortized_2b6(a,Ix);
-if(!Mx)goto L176;
-Nx=r8(a+16);
-Ox=r8(a+8);}
-else{
-Nx=Lx;
-Ox=Kx;}
-Px=Ox+Ix;
-Qx=rp(a);
-z16(a+8);
-Rx=Qx+(i64)Ox;
-if((u64)Rx-(u64)Hx<Ix)copy_bits_4f4(Hx,Rx,Ix);
-else memmove(Rx,Hx,Ix);
-wp(a,Qx);
-w8(a+8,Px);
-w8(a+16,Nx);
-Sx=Px;
-Tx=a[139];
-w4(a+124,rx);
-w4(a+128,Sx);
-a[136]=0;
-a[137]=1;
-a[138]=0;
-Ux=r8(a+176);
-if(Ux>=c){
-gx=0;
-hx=5;
-goto L181;}
-if(*(b+Ux)!=73){
-gx=0;
-hx=5;
-goto L181;}
-Vx=r4(a+120);
-Wx=r8(a+48);
-if(r8(a+72)>Wx)Xx=Wx;
-else{
-Yx=make_ready_17a(a+40);
-if(!(Yx&1))goto L182;
-Xx=r8(a+48);}
-Zx=rp(a+40)+Xx*12;
-x4(Zx,Vx);
-x4(Zx+4,Sx);
-Zx[8]=0;
-Zx[9]=Tx;
-x2(Zx+10,0);
-w8(a+48,Xx+1);
-memcpy(Ua,a+120,20);
-z20(Ua+20);
-ay=r8(a+8);
-if(r8(a+32)>ay)by=ay;
-else{
-cy=make_ready_8e3(a,1,16);
-if(!(cy&1))goto L182;
-by=r8(a+8);}
-*(rp(a)+by)=1;
-w8(a+8,by+1);
-dy=r8(a+176);
-if(dy==18446744073709551615u)goto L182;
-w8(a+176,dy+1);
-ey=r8(a+88);
-if(r8(a+112)>ey){
-cx=ey;
-dx=Ua;
-goto L183;}
-fy=make_ready_9a1(a+80);
-if(!(fy&1))goto L182;
-fx=Ua;
-goto L184;}}
-L188:goto L176;
-L184:cx=r8(a+88);
-dx=fx;
-L183:gy=rp(a+80)+cx*44;
-*gy=5;
-gy[1]=0;
-x2(gy+2,0);
-memcpy(gy+4,dx,40);
-w8(a+88,cx+1);
-gx=1;
-hx=3;
-L181:ix=hx;
-jx=gx;
-kx=0;
-goto L186;
-L182:goto L137;
-L176:goto L137;
-L186:if(ix==5){
-hy=r8(a+176);
-if(hy<c){
-if(*(b+hy)==69){
-iy=a[132];
-if(iy==0){
-w8(a+176,hy+1);
-jy=a[139];
-if(a[136]&1){
-ky=jy;
-ly=0;
-goto L191;}
-my=r4(a+120);
-ny=r8(a+8);
-oy=r8(a+48);
-if(r8(a+72)>oy)py=oy;
-else{
-qy=make_ready_17a(a+40);
-if(!(qy&1))goto L137;
-py=r8(a+48);}
-ry=rp(a+40)+py*12;
-x4(ry,my);
-x4(ry+4,ny);
-ry[8]=0;
-ry[9]=jy;
-x2(ry+10,0);
-w8(a+48,py+1);
-ky=a[139];
-ly=0;
-goto L191;}
-w4(Za,0);
-w8(a+176,hy+1);
-sy=a[133];
-switch(iy){
-case 3:addressed_named_a52(Za,a,b,c,sy);
-break;
-case 1:if(a[138]&1){
-ty=q2(a+140);
-uy=q2(a+142);
-memcpy(Ya+4,a+144,16);
-vy=q8(a+160);
-wy=a[168];
-xy=a[169];
-yy=a[170];
-zy=a[171];
-w2(Ya,ty);
-w2(Ya+2,uy);
-x8(Ya+20,vy);
-Ya[28]=wy;
-Ya[29]=xy;
-Ya[30]=yy;
-Ya[31]=zy;
-Ay=a[137]&1;}
-else{
-z32(Ya);
-Ay=0;}
-name_ended_8aa(Za,a,b,c,sy,Ay,Ya,r4(a+120));
-break;
-case 2:if(a[138]&1){
-if(a[137]&1){
-enclosing_instance_e2f(Xa,a,b,c,sy,r2(a+134),r4(a+120));
-By=Xa[3];
-Cy=Xa[2];
-Dy=Xa[1];
-Ey=Xa;
-goto L192;}}
-enclosing_named_54a(Za,a,b,c,sy,r4(a+120));
-break;
-default:NEVER;
-}
-By=Za[3];
-Cy=Za[2];
-Dy=Za[1];
-Ey=Za;
-L192:if(*Ey!=1)goto L137;
-kw=Dy;
-lw=Cy;
-mw=By;
-goto L174;}}
-if(!(a[136]&1)){
-Fy=r4(a+120);
-Gy=a[139];
-Hy=r8(a+8);
-Iy=r8(a+48);
-if(r8(a+72)>Iy)Jy=Iy;
-else{
-Ky=make_ready_17a(a+40);
-if(!(Ky&1))goto L137;
-Jy=r8(a+48);}
-Ly=rp(a+40)+Jy*12;
-x4(Ly,Fy);
-x4(Ly+4,Hy);
-Ly[8]=0;
-Ly[9]=Gy;
-x2(Ly+10,0);
-w8(a+48,Jy+1);}
-My=jw+1;
-if(My!=16){
-jw=My;
-goto L175;}
-Ny=6;
-Oy=0;
-Py=0;
-goto L193;}
-kw=ix;
-lw=jx;
-mw=kx;
-L174:if(kw!=2){
-Qy=kw;
-Ry=lw;
-Sy=mw;
-goto L194;}
-ky=mw;
-ly=lw;
-L191:w4(sa,0);
-w4(ta,0);
-z32(ua);
-Ty=r8(a+88);
-if(Ty!=0){
-Uy=ly&1;
-Vy=rp(a+80)+(i64)(Ty*44);
-Wy=Vy[-44];
-Xy=Vy[-43];
-Yy=q4(Vy-40);
-Zy=q4(Vy-36);
-az=q2(Vy-32);
-switch(Wy){
-case 29:case 28:case 27:case 26:case 4:case 5:case 6:case 7:case 8:case 11:case 12:case 13:case 14:case 15:case 16:case 17:case 18:case 19:case 20:case 21:case 22:case 23:case 24:case 25:if(ky&1){
-pass_dependent_123(sa,a,b,c);
-bz=sa[3];
-cz=sa[2];
-dz=sa[1];
-ez=*sa;
-goto L195;}
-fz=q4(Vy-4);
-w4(oa,0);
-switch(Wy){
-case 22:returned_087(oa,a,b,c,Xy&1);
-break;
-case 23:parameter_at_d02(oa,a,b,c,Xy&1,0);
-break;
-case 24:array_ended_a11(oa,a,b,c,Xy,Yy,Zy);
-break;
-case 12:enclosing_parameter_d72(oa,a,b,c,Xy,Yy);
-break;
-case 13:instance_parameter_e2a(oa,a,b,c,Xy,Yy,Zy);
-break;
-case 11:w2(la,az);
-memcpy(la+2,Vy-30,26);
-x4(la+28,fz);
-enclosing_front_fa8(oa,a,Xy,Yy,Zy,la);
-break;
-case 17:w4(ma,Zy);
-w2(ma+4,az);
-lambda_parameter_f9a(oa,a,b,c,Yy,ma);
-break;
-case 18:member_parameter_678(oa,a,b,c,Xy);
-break;
-case 15:w4(na,Zy);
-w2(na+4,az);
-memcpy(na+6,Vy-30,26);
-addressed_front_4c5(oa,a,b,c,Xy,Yy,na);
-break;
-case 16:addressed_parameter_41c(oa,a,b,c,Xy);
-break;
-case 14:*oa=0;
-break;
-case 19:finish_8cd(oa,a,b,c);
-break;
-case 20:derived_ended_aef(oa,a,b,c);
-break;
-case 21:base_ended_299(oa,a,b,c,Yy);
-break;
-case 29:enumerator_21c(oa,a,b,c);
-break;
-case 26:case 25:case 28:gz=Zy;
-hz=fz;
-w4(ka,0);
-switch(Wy){
-case 26:w2(ha,Zy>>16);
-w2(ha+2,az);
-memcpy(ha+4,Vy-30,26);
-w2(ha+30,hz);
-argument_enumerator_61d(ka,a,b,c,Yy,gz,ha);
-break;
-case 25:w2(ia,Zy>>16);
-w2(ia+2,az);
-memcpy(ia+4,Vy-30,26);
-w2(ia+30,hz);
-argument_ended_605(ka,a,b,c,Yy,gz,ia,Uy);
-break;
-case 28:w2(ja,Zy>>16);
-w2(ja+2,az);
-memcpy(ja+4,Vy-30,26);
-w2(ja+30,hz);
-element_ended_c50(ka,a,b,c,Yy,gz,ja,Uy);
-break;
-case 27:*ka=0;
-break;
-default:NEVER;
-}
-iz=ka[1];
-jz=ka[2];
-kz=ka[3];
-*oa=*ka;
-oa[1]=iz;
-oa[2]=jz;
-oa[3]=kz;
-break;
-case 27:case 10:case 9:case 8:case 4:case 5:case 6:case 7:*oa=1;
-oa[1]=3;
-oa[2]=0;
-oa[3]=0;
-break;
-default:NEVER;
-}
-bz=oa[3];
-cz=oa[2];
-dz=oa[1];
-ez=*oa;
-goto L195;
-case 10:lz=r8(a+176);
-if(lz<c){
-switch(*(b+lz)){
-case 69:case 46:case 0:break;
-default:w4(ra,Zy);
-w2(ra+4,az);
-memcpy(ra+6,Vy-30,26);
-w4(qa,0);
-if(ra[29]&1){
-expansion_d9b(qa,a,b,c,0,Xy,Yy,ra);
-mz=qa[3];
-nz=qa[2];
-oz=qa[1];
-pz=*qa;}
-else{
-qz=r8(a+8);
-if(r8(a+32)-qz<2){
-rz=make_ready_8e3(a,2,128);
-if(!(rz&1)){
-mz=0;
-nz=0;
-oz=0;
-pz=0;
-goto L196;}
-sz=r8(a+8);}
-else sz=qz;
-*(rp(a)+sz)=44;
-*(rp(a)+(i64)sz+1)=32;
-w8(a+8,sz+2);
-mz=0;
-nz=0;
-oz=0;
-pz=1;}
-L196:bz=mz;
-cz=nz;
-dz=oz;
-ez=pz;
-goto L195;
-}}
-w4(pa,0);
-tz=r8(a+8);
-if(tz>=5){
-uz=rp(a)+(i64)tz;
-vz=0;
-wz=0;
-L197:xz=vz||*((u8*)t_262b+(i64)wz)!=*(uz-5+(i64)wz);
-yz=wz+1;
-if(yz!=4){
-vz=xz;
-wz=yz;
-goto L197;}
-zz=0;
-Az=0;
-L198:Bz=Az+1;
-Cz=zz||*((u8*)t_262b+(i64)Bz)!=*(uz-5+(i64)Bz);
-if(Bz!=4){
-zz=Cz;
-Az=Bz;
-goto L198;}
-if(!(xz|Cz)){
-Dz=0;
-Ez=0;
-Fz=0;
-Gz=0;
-goto L199;}}
-close_a33(pa,a,b,c,Xy,Yy);
-Dz=pa[3];
-Ez=pa[2];
-Fz=pa[1];
-Gz=*pa;
-L199:bz=Dz;
-cz=Ez;
-dz=Fz;
-ez=Gz;
-goto L195;
-case 9:w4(ua,Zy);
-w2(ua+4,az);
-memcpy(ua+6,Vy-30,26);
-front_ended_ee9(ta,a,b,c,Xy,Yy,ua);
-bz=ta[3];
-cz=ta[2];
-dz=ta[1];
-ez=*ta;
-goto L195;
-case 0:w8(a+88,Ty-1);
-Hz=r8(a+8);
-if(r8(a+32)>Hz)Iz=Hz;
-else{
-Jz=make_ready_8e3(a,1,16);
-if(!(Jz&1))goto L200;
-Iz=r8(a+8);}
-*(rp(a)+Iz)=42;
-Kz=Iz+1;
-w8(a+8,Kz);
-Lz=Kz;
-Mz=ky&1;
-Nz=r8(a+48);
-if(r8(a+72)>Nz){
-Oz=Nz;
-Pz=Lz;
-Qz=0;
-Rz=Mz;
-goto L201;}
-Sz=make_ready_17a(a+40);
-if(!(Sz&1))goto L200;
-Tz=Lz;
-Uz=0;
-Vz=Mz;
-break;
-case 1:if(Uy)goto L200;
-w8(a+88,Ty-1);
-Wz=r8(a+8);
-if(r8(a+32)>Wz)Xz=Wz;
-else{
-Yz=make_ready_8e3(a,1,16);
-if(!(Yz&1))goto L200;
-Xz=r8(a+8);}
-*(rp(a)+Xz)=38;
-Zz=Xz+1;
-w8(a+8,Zz);
-aA=Zz;
-bA=ky&1;
-cA=r8(a+48);
-if(r8(a+72)>cA){
-Oz=cA;
-Pz=aA;
-Qz=1;
-Rz=bA;
-goto L201;}
-dA=make_ready_17a(a+40);
-if(!(dA&1))goto L200;
-Tz=aA;
-Uz=1;
-Vz=bA;
-break;
-case 2:if(Uy)goto L200;
-w8(a+88,Ty-1);
-eA=r8(a+8);
-if(r8(a+32)-eA<2){
-fA=make_ready_8e3(a,2,128);
-if(!(fA&1))goto L200;
-gA=r8(a+8);}
-else gA=eA;
-*(rp(a)+gA)=38;
-*(rp(a)+(i64)gA+1)=38;
-hA=gA+2;
-w8(a+8,hA);
-iA=hA;
-jA=ky&1;
-kA=r8(a+48);
-if(r8(a+72)>kA){
-Oz=kA;
-Pz=iA;
-Qz=1;
-Rz=jA;
-goto L201;}
-lA=make_ready_17a(a+40);
-if(!(lA&1))goto L200;
-Tz=iA;
-Uz=1;
-Vz=jA;
-break;
-case 3:if(Uy)goto L200;
-w8(a+88,Ty-1);
-if(r8(a+32)-r8(a+8)<6){
-mA=make_ready_8e3(a,6,128);
-if(!(mA&1))goto L200;}
-nA=extend_from_slice_169(a,(u8*)t_f603,6);
-if(nA&1)goto L200;
-oA=r8(a+8);
-pA=ky&1;
-qA=r8(a+48);
-if(r8(a+72)>qA){
-Oz=qA;
-Pz=oA;
-Qz=0;
-Rz=pA;
-goto L201;}
-rA=make_ready_17a(a+40);
-if(!(rA&1))goto L200;
-Tz=oA;
-Uz=0;
-Vz=pA;
-break;
-default:NEVER;
-}
-Oz=r8(a+48);
-Pz=Tz;
-Qz=Uz;
-Rz=Vz;
-L201:sA=rp(a+40)+Oz*12;
-x4(sA,Yy);
-x4(sA+4,Pz);
-sA[8]=Qz;
-sA[9]=Rz;
-x2(sA+10,0);
-w8(a+48,Oz+1);
-Ny=2;
-Oy=Qz;
-Py=Rz;
-goto L193;
-L195:if(ez!=1)goto L137;
-Qy=dz;
-Ry=cz;
-Sy=bz;
-goto L194;}
-L200:goto L137;
-L194:if(Qy==3){
-tA=Ry&1;
-w4(fa,0);
-uA=r8(a+176);
-if(uA<c){
-vA=*(b+uA);
-switch(vA){
-case 69:w4(da,0);
-w8(a+176,uA+1);
-wA=r8(a+88);
-if(wA==0){
-xA=0;
-yA=0;
-zA=0;
-AA=0;}
-else{
-if(*(rp(a+80)+(i64)(wA*44)-44)==27){
-if(tA){
-xA=0;
-yA=0;
-zA=0;
-AA=0;}
-else{
-w8(a+88,wA-1);
-xA=0;
-yA=0;
-zA=3;
-AA=1;}}
-else{
-z32(ea);
-close_list_148(da,a,b,c,ea);
-xA=da[3];
-yA=da[2];
-zA=da[1];
-AA=*da;}}
-BA=zA;
-CA=AA;
-DA=yA;
-EA=xA;
-goto L202;
-case 74:FA=uA+1;
-if(FA<c){
-if(*(b+FA)==69){
-empty_pack_c74(fa,a,b,c,tA);
-BA=fa[1];
-CA=*fa;
-DA=fa[2];
-EA=fa[3];
-goto L202;}}
-if(!tA){
-GA=74;
-goto L203;}
-first_pack_117(fa,a,b,c);
-BA=fa[1];
-CA=*fa;
-DA=fa[2];
-EA=fa[3];
-goto L202;
-default:HA=vA;
-break;}}
-else HA=0;
-if(tA){
-IA=HA;
-goto L204;}
-GA=HA;
-L203:JA=r8(a+8);
-if(r8(a+32)-JA<2){
-KA=make_ready_8e3(a,2,128);
-if(!(KA&1))goto L205;
-LA=r8(a+8);}
-else LA=JA;
-*(rp(a)+LA)=44;
-*(rp(a)+(i64)LA+1)=32;
-w8(a+8,LA+2);
-IA=GA;
-L204:switch(IA){
-case 76:if(tA){
-first_literal_d00(fa,a,b,c);
-BA=fa[1];
-CA=*fa;
-DA=fa[2];
-EA=fa[3];
-goto L202;}
-literal_8fc(ga,a,b,c);
-BA=ga[1];
-CA=*ga;
-DA=ga[2];
-EA=ga[3];
-goto L202;
-case 74:MA=r8(a+88);
-if(MA==0)goto L205;
-NA=rp(a+80);
-OA=MA*44;
-if(*(NA+(i64)OA-44)==27)goto L205;
-PA=r8(a+176);
-if(PA==18446744073709551615u)goto L205;
-w8(a+176,PA+1);
-if(r8(a+112)>MA){
-QA=OA;
-RA=NA;
-SA=MA;}
-else{
-TA=make_ready_9a1(a+80);
-if(!(TA&1))goto L205;
-UA=r8(a+88);
-QA=UA*44;
-RA=rp(a+80);
-SA=UA;}
-VA=RA+QA;
-*VA=27;
-z43(VA+1);
-WA=SA;
-XA=3;
-YA=1;
-break;
-default:if(!tA){
-aB=0;
-bB=0;
-goto L206;}
-ZA=r8(a+88);
-if(ZA==0){
-aB=0;
-bB=0;
-goto L206;}
-cB=rp(a+80);
-dB=ZA*44;
-eB=cB+(i64)dB;
-switch(eB[-44]){
-case 5:if(eB[-28]==0){
-aB=0;
-bB=0;
-goto L206;}
-break;
-case 7:break;
-case 0:case 1:case 2:case 3:case 4:case 6:case 8:case 9:case 10:case 11:case 12:case 13:case 14:case 15:case 16:case 17:case 18:case 19:case 20:case 21:case 22:case 23:case 24:case 25:case 26:case 27:case 28:case 29:aB=0;
-bB=0;
-goto L206;
-default:NEVER;
-}
-fB=r8(a+176);
-if(fB<c){
-gB=b+(i64)fB;
-switch(*gB){
-case 65:case 70:aB=0;
-bB=0;
-goto L206;
-case 80:case 82:if(usub64(c,fB)>=2){
-switch(gB[1]){
-case 70:case 65:aB=0;
-bB=0;
-goto L206;
-default:break;}}
-break;
-default:break;}}
-hB=r8(a+8);
-if(r8(a+112)>ZA){
-iB=dB;
-jB=cB;
-kB=ZA;}
-else{
-lB=make_ready_9a1(a+80);
-if(!(lB&1))goto L205;
-mB=r8(a+88);
-iB=mB*44;
-jB=rp(a+80);
-kB=mB;}
-nB=jB+iB;
-*nB=25;
-nB[1]=0;
-x2(nB+2,0);
-x4(nB+4,hB);
-z36(nB+8);
-WA=kB;
-XA=0;
-YA=0;
-break;}
-w8(a+88,WA+1);
-aB=XA;
-bB=YA;
-L206:Ny=aB;
-Oy=bB;
-Py=0;
-goto L193;
-L202:if(CA!=1)goto L137;
-Ny=BA;
-Oy=DA;
-Py=EA;
-goto L193;
-L205:goto L137;}
-Ny=Qy;
-Oy=Ry;
-Py=Sy;
-L193:oB=ut+1;
-if(oB==tt)goto L137;
-ut=oB;
-vt=Py;
-wt=Oy;
-xt=Ny;
-goto L156;}}}
-L146:;}
-L137:break;
-default:NEVER;
-}}
-if(r8(a+8)==0)goto L207;
-L92:w8(a+8,0);
-L207:z16(a+24);
-if(r8(a+48)!=0)w8(a+48,0);
-if(r8(a+88)!=0)w8(a+88,0);
-a[172]=0;
-z16(a+64);
-pB=0;
-goto L208;
-L1:if(r8(a+48)!=0)w8(a+48,0);
-z16(a+64);
-if(r8(a+88)==0)pB=1;
-else{
-w8(a+88,0);
-pB=1;}
-L208:z16(a+104);
-return pB;
 }
 
 /* itanium::short_way::run */
@@ -54029,7 +48299,7 @@ else{
 e=umin64(b-c,16);
 f=r8(a+16);
 if(e>f-c){
-g=grow_amortized_53f(a,e);
+g=grow_amortized_74b(a,e);
 if(!g){
 d=0;
 goto L1;}
@@ -54040,39 +48310,6 @@ h=f;
 i=b;}
 w8(a+32,umin64(h,i));
 d=1;}
-L1:return d;
-}
-
-/* std_alloc::vec::Vec::grow_amortized */
-static COLD u8 grow_amortized_53f(u8* a,u64 b)
-{
-u64 c,e,f,g,h;
-u8 d;
-s_64_64 i,j,k;
-c=r8(a+8);
-if(b>(c^18446744073709551615u))d=0;
-else{
-e=r8(a+16);
-f=umax64(c+b,4);
-g=umax64(f,e<<1);
-h=e<0x4000000000000000u?g:f;
-if(h<0xaaaaaaaaaaaaaabu){
-if(e==0){
-i=port_rattle_alloc(g*12,4);
-if(!(u8)(i.f0&1)){
-d=0;
-goto L1;}
-j=i;}
-else{
-k=port_rattle_realloc(rp(a),c*12,h*12,4);
-if(!(u8)(k.f0&1)){
-d=0;
-goto L1;}
-j=k;}
-wp(a,(u8*)j.f1);
-w8(a+16,h);
-d=1;}
-else d=0;}
 L1:return d;
 }
 
@@ -99969,6 +94206,9899 @@ L4:x4(a,0);
 L3:return;
 }
 
+/* itanium::short_way::write_less */
+static u8 write_less_2c7(u8* a,u8* b,u64 c,u32 d,u8 e,u8 f)
+{
+u8 h[32],j[4],k[32],l[32],m[32],o[32],s[4],y[4],z[32],aa[4],ba[32],ea[32],ga[4],ha[32],ia[32],ja[32],la[32],va[4],wa[32],Xa[4],Ya[32],bb[32],db[4],eb[32],fb[32],gb[32],ib[32],mb[4],sb[4],tb[32],Ub[4],Vb[32];
+A16 u8 g[4],i[4],n[4],p[6],q[32],r[4],t[4],u[32],v[4],w[4],x[32],A[4],B[4],C[4],D[4],E[4],F[4],G[4],H[4],I[4],J[40],K[4],L[4],M[4],N[4],O[4],P[4],Q[4],R[4],S[4],T[4],U[4],V[40],W[24],X[40],Y[24],Z[4],ca[4],da[4],fa[4],ka[4],ma[6],na[32],oa[4],pa[4],qa[4],ra[32],sa[4],ta[4],ua[32],xa[4],ya[4],za[4],Aa[4],Ba[4],Ca[4],Da[4],Ea[4],Fa[4],Ga[40],Ha[4],Ia[4],Ja[4],Ka[4],La[4],Ma[4],Na[4],Oa[4],Pa[4],Qa[4],Ra[4],Sa[40],Ta[24],Ua[40],Va[24],Wa[4],Za[4],ab[4],cb[4],hb[4],jb[6],kb[32],lb[4],nb[4],ob[32],pb[4],qb[4],rb[32],ub[4],vb[4],wb[4],xb[4],yb[4],zb[4],Ab[4],Bb[4],Cb[4],Db[40],Eb[4],Fb[4],Gb[4],Hb[4],Ib[4],Jb[4],Kb[4],Lb[4],Mb[4],Nb[4],Ob[4],Pb[40],Qb[24],Rb[40],Sb[24],Tb[4],Wb[4];
+u64 Xb,Zb,ac,bc,hc,ic,kc,pc,qc,sc,tc,uc,zc,Gc,Jc,Kc,Lc,Pc,Rc,Sc,Tc,Uc,Wc,Xc,Yc,Zc,ad,dd,ed,fd,gd,hd,id,jd,md,od,pd,zd,Ad,Bd,Ed,Fd,Kd,Md,Nd,Pd,Qd,Rd,Yd,Zd,ce,de,le,me,re,te,ue,we,xe,ye,Ee,Fe,Ie,Je,Ke,Me,Ne,Oe,Ue,Ze,af,lf,wf,xf,Df,Hf,Jf,Lf,Mf,Nf,Qf,Sf,Tf,Uf,Vf,Wf,Xf,ag,gg,lg,ng,og,rg,sg,ug,vg,wg,Fg,Hg,Ig,Jg,Mg,Og,Pg,Qg,Rg,Sg,Tg,Wg,ch,eh,fh,hh,ih,jh,oh,qh,rh,uh,vh,xh,yh,Bh,Ih,Jh,Ph,ci,di,gi,ni,Fi,Ki,Mi,Ni,Qi,Si,Ui,Vi,bj,cj,ej,hj,ij,qj,rj,tj,wj,yj,Aj,Bj,Ej,Kj,Oj,Qj,Zj,dk,fk,gk,ik,jk,kk,mk,ok,qk,tk,xk,zk,Ck,Ek,Gk,Ik,Kk,Lk,Nk,Sk,Tk,Vk,Wk,Xk,cl,jl,ml,nl,ol,sl,tl,wl,yl,zl,Hl,Il,Jl,Ml,Nl,Sl,Ul,Vl,Xl,Yl,Zl,gm,hm,km,lm,tm,um,zm,Bm,Cm,Em,Fm,Gm,Mm,Nm,Qm,Rm,Sm,Um,Vm,Wm,cn,hn,in,sn,Dn,En,Kn,On,Qn,Sn,Tn,Un,Xn,Zn,ao,bo,co,eo,fo,io,oo,to,vo,wo,zo,Ao,Co,Do,Eo,No,Po,Qo,Ro,Uo,Wo,Xo,Yo,Zo,ap,bp,ep,kp,sp,up,vp,Ap,Bp,Dp,Ep,Hp,Op,Pp,Vp,iq,jq,mq,tq,Lq,Qq,Sq,Tq,Wq,Yq,ar,br,hr,ir,kr,nr,or,wr,xr,zr,Cr,Er,Gr,Hr,Kr,Qr,Ur,Wr,fs,js,ls,ms,os,ps,qs,ss,us,ws,zs,Ds,Fs,Is,Ks,Ms,Os,Qs,Rs,Ts,Ys,Zs,bt,ct,dt,it,pt,st,tt,ut,yt,At,Bt,Ct,Dt,Ft,Gt,Ht,It,Jt,Mt,Nt,Ot,Pt,Qt,Rt,St,Vt,Xt,Yt,gu,hu,iu,lu,mu,ru,tu,uu,wu,xu,yu,Fu,Gu,Ju,Ku,Su,Tu,Yu,av,bv,dv,ev,fv,lv,mv,pv,qv,rv,tv,uv,vv,Bv,Gv,Hv,Rv,cw,dw,jw,nw,pw,rw,sw,tw,ww,yw,zw,Aw,Bw,Cw,Dw,Gw,Mw,Rw,Tw,Uw,Xw,Yw,ax,bx,cx,lx,nx,ox,px,sx,ux,vx,wx,xx,yx,zx,Cx,Ix,Kx,Lx,Nx,Ox,Px,Ux,Wx,Xx,ay,by,dy,ey,hy,oy,py,vy,Iy,Jy,My,Ty,lz,qz,sz,tz,wz,yz,Az,Bz,Hz,Iz,Kz,Nz,Oz,Wz,Xz,Zz,cA,eA,gA,hA,kA,qA,uA,wA,FA,JA,LA,MA,OA,PA,QA,SA,UA,WA,ZA,dB,fB,iB,kB,mB,oB;
+u32 Yb,kd,ae,Be,De,Xe,Ye,rf,sf,tf,vf,Pf,jg,mg,Lg,mh,ph,Gh,Hh,Zh,bi,si,ti,zi,fj,jj,nj,uj,Cj,Ij,Bk,ul,im,Jm,Lm,fn,gn,yn,zn,An,Cn,Wn,ro,uo,To,op,tp,Mp,Np,fq,hq,yq,zq,Fq,lr,pr,tr,Ar,Ir,Or,Hs,Tt,Hu,iv,kv,Ev,Fv,Xv,Yv,Zv,bw,vw,Pw,Sw,rx,Sx,Vx,my,ny,Fy,Hy,Yy,Zy,fz,Lz,Pz,Tz,aA,iA,oA,hB;
+u8 cc,dc,ec,fc,gc,mc,oc,rc,xc,yc,Ac,Bc,Cc,Dc,Ec,Fc,Hc,Ic,Mc,Nc,Oc,ld,nd,qd,sd,Cd,Gd,Id,Ld,Od,Ud,Vd,Wd,Xd,be,ee,fe,he,ie,je,ke,ne,pe,se,ve,Ce,Ge,Le,Pe,Re,Se,Te,Ve,We,bf,df,mf,nf,of,pf,qf,uf,yf,Af,Bf,Cf,Ef,Ff,Gf,If,Kf,Of,Rf,Yf,bg,hg,ig,kg,pg,tg,yg,Ag,Bg,Cg,Dg,Eg,Gg,Kg,Ng,Ug,Xg,dh,gh,nh,sh,wh,zh,Ch,Dh,Eh,Fh,Kh,Mh,Qh,Rh,Sh,Th,Uh,Vh,Wh,Xh,ai,ei,hi,ii,ji,ki,li,mi,oi,qi,ri,vi,wi,xi,yi,Ai,Ci,Di,Ei,Gi,Hi,Ii,Ji,Li,Pi,Ri,Ti,Wi,Xi,Yi,Zi,aj,dj,gj,kj,lj,mj,oj,pj,sj,vj,xj,zj,Dj,Fj,Gj,Hj,Jj,Lj,Nj,Pj,Rj,Sj,Tj,Uj,Vj,Wj,Xj,Yj,ak,bk,ck,ek,nk,rk,sk,uk,vk,Fk,Jk,Pk,Rk,Uk,al,bl,dl,el,fl,gl,hl,il,kl,ll,pl,ql,rl,vl,xl,Al,Bl,Kl,Ol,Ql,Tl,Wl,cm,dm,em,fm,jm,mm,nm,pm,qm,rm,sm,vm,xm,Am,Dm,Km,Om,Tm,Xm,Zm,an,bn,dn,en,jn,ln,tn,un,vn,wn,xn,Bn,Fn,Hn,In,Jn,Ln,Mn,Nn,Pn,Rn,Vn,Yn,go,jo,po,qo,so,xo,Bo,Go,Io,Jo,Ko,Lo,Mo,Oo,So,Vo,cp,fp,lp,np,pp,yp,Cp,Fp,Ip,Jp,Kp,Lp,Qp,Sp,Wp,Xp,Yp,Zp,aq,bq,cq,dq,gq,kq,nq,oq,pq,qq,rq,sq,uq,wq,xq,Bq,Cq,Dq,Eq,Gq,Iq,Jq,Kq,Mq,Nq,Oq,Pq,Rq,Vq,Xq,Zq,cr,dr,er,fr,gr,jr,mr,qr,rr,sr,ur,vr,yr,Br,Dr,Fr,Jr,Lr,Mr,Nr,Pr,Rr,Tr,Vr,Xr,Yr,Zr,as,bs,cs,ds,es,gs,hs,is,ks,ts,xs,ys,As,Bs,Ls,Ps,Vs,Xs,at,gt,ht,jt,kt,lt,mt,nt,ot,qt,rt,vt,wt,xt,Ut,Wt,Zt,au,ju,nu,pu,su,vu,Bu,Cu,Du,Eu,Iu,Lu,Mu,Ou,Pu,Qu,Ru,Uu,Wu,Zu,cv,jv,nv,sv,wv,yv,zv,Av,Cv,Dv,Iv,Kv,Sv,Tv,Uv,Vv,Wv,aw,ew,gw,hw,iw,kw,lw,mw,ow,qw,uw,xw,Ew,Hw,Nw,Ow,Qw,Vw,Zw,ex,gx,hx,ix,jx,kx,mx,qx,tx,Ax,Dx,Jx,Mx,Tx,Yx,cy,fy,iy,jy,ky,ly,qy,sy,wy,xy,yy,zy,Ay,By,Cy,Dy,Gy,Ky,Ny,Oy,Py,Qy,Ry,Sy,Uy,Wy,Xy,bz,cz,dz,ez,gz,iz,jz,kz,mz,nz,oz,pz,rz,vz,xz,zz,Cz,Dz,Ez,Fz,Gz,Jz,Mz,Qz,Rz,Sz,Uz,Vz,Yz,bA,dA,fA,jA,lA,mA,nA,pA,rA,tA,vA,xA,yA,zA,AA,BA,CA,DA,EA,GA,HA,IA,KA,TA,XA,YA,aB,bB,lB,pB;
+v16 jc,lc,Mk,Ok,Ss,Us;
+u8 *nc,*vc,*wc,*Qc,*bd,*cd,*td,*ud,*vd,*xd,*yd,*Dd,*Hd,*Jd,*Sd,*Td,*ge,*oe,*qe,*ze,*Ae,*He,*Qe,*cf,*ef,*ff,*gf,*hf,*zf,*Zf,*fg,*qg,*xg,*zg,*Vg,*bh,*kh,*lh,*th,*Ah,*Lh,*Yh,*fi,*pi,*Oi,*Mj,*hk,*lk,*pk,*wk,*yk,*Ak,*Dk,*Hk,*Qk,*Yk,*Zk,*Cl,*Dl,*El,*Fl,*Gl,*Ll,*Pl,*Rl,*am,*bm,*om,*wm,*ym,*Hm,*Im,*Pm,*Ym,*kn,*mn,*nn,*on,*pn,*Gn,*ho,*no,*yo,*Fo,*Ho,*dp,*jp,*zp,*Gp,*Rp,*eq,*lq,*vq,*Uq,*Sr,*ns,*rs,*vs,*Cs,*Es,*Gs,*Js,*Ns,*Ws,*et,*ft,*zt,*Kt,*Lt,*bu,*cu,*du,*eu,*fu,*ku,*ou,*qu,*zu,*Au,*Nu,*Vu,*Xu,*gv,*hv,*ov,*xv,*Jv,*Lv,*Mv,*Nv,*Ov,*fw,*Fw,*Lw,*Ww,*dx,*fx,*Bx,*Hx,*Qx,*Rx,*Zx,*gy,*ry,*Ey,*Ly,*Vy,*uz,*sA,*NA,*RA,*VA,*cB,*eB,*gB,*jB,*nB;
+u16 Vc,jf,kf,Nh,Oh,ui,Bi,qn,rn,Tp,Up,Aq,Hq,Et,Pv,Qv,ty,uy,az,hz;
+s_p_64 cg,dg,eg,Yg,Zg,ah,ko,lo,mo,gp,hp,ip,Iw,Jw,Kw,Ex,Fx,Gx;
+Xb=umin64(d>>2,(c<<5)+1024);
+Yb=Xb;
+if(r8(a+8)!=0)w8(a+8,0);
+w8(a+24,Xb);
+Zb=r8(a+16);
+ac=umin64(Zb,Xb);
+w8(a+32,ac);
+if(r8(a+48)!=0)w8(a+48,0);
+bc=c&4294967295u;
+w8(a+64,bc);
+w8(a+72,umin64(r8(a+56),bc));
+if(r8(a+88)!=0)w8(a+88,0);
+w8(a+104,bc);
+w8(a+112,umin64(r8(a+96),bc));
+a[172]=0;
+if(e){
+switch(f){
+case 3:cc=run_d0a(a,b,c,Yb);
+if(cc)goto L1;
+break;
+case 2:dc=run_5d6(a,b,c,Yb);
+if(dc)goto L1;
+break;
+case 1:ec=run_a02(a,b,c,Yb);
+if(ec)goto L1;
+break;
+default:NEVER;
+}}
+else{
+fc=c>65536;
+switch(f){
+case 3:if(!fc){
+if(c<16){
+gc=are_few_named_14c(b,c);
+if(!gc)goto L2;}
+else{
+hc=c-16;
+if(hc==0)goto L3;
+ic=0;
+L4:jc=v16_at(b+ic);
+if((v16_ult(jc,splat(33))|v16_eq(jc,splat(127)))!=0)goto L2;
+kc=ic+16;
+if(kc<hc){
+ic=kc;
+goto L4;}
+L3:lc=v16_at(b+hc);
+if((v16_ult(lc,splat(33))|v16_eq(lc,splat(127)))!=0)goto L2;}
+w4(T,0);
+w4(U,0);
+if(c!=0){
+if(c!=1&&*b==95){
+if(b[1]==90){
+if(c>=3){
+mc=b[2];
+if(c<5){
+if(mc==90){
+w8(a+176,3);
+w4(P,0);
+if(c==3)goto L5;
+nc=a+176;
+goto L6;}
+if((c!=3)&(mc==71)){
+if(b[3]==86)goto L7;
+goto L8;}
+switch(mc){
+case 71:goto L8;
+case 84:if(c==3)goto L9;
+break;
+default:goto L10;
+}}
+else{
+switch(mc){
+case 90:w8(a+176,3);
+w4(P,0);
+nc=a+176;
+goto L6;
+case 71:if(b[3]!=86)goto L8;
+if(b[4]!=90)goto L7;
+if(ac<19){
+oc=make_ready_8e3(a,19,128);
+if(!(oc&1))goto L11;
+pc=r8(a+16);
+qc=r8(a+8);}
+else{
+pc=Zb;
+qc=0;}
+if(pc-qc<19){
+rc=grow_amortized_2b6(a,19);
+if(!rc)goto L11;
+sc=r8(a+16);
+tc=r8(a+8);}
+else{
+sc=pc;
+tc=qc;}
+uc=tc+19;
+vc=rp(a);
+z16(a+8);
+wc=vc+(i64)tc;
+if((u64)wc-(u64)(u8*)t_c270<19)copy_bits_4f4((u8*)t_c270,wc,19);
+else memcpy(wc,(u8*)t_c270,19);
+wp(a,vc);
+w8(a+8,uc);
+w8(a+16,sc);
+w8(a+176,5);
+w4(M,0);
+if(c!=5){
+xc=b[5];
+switch(xc){
+case 78:w4(K,0);
+w4(L,1);
+w8(a+176,6);
+if(c!=6){
+switch(b[6]){
+case 75:if(c<=7){
+yc=1;
+zc=7;
+goto L12;}
+switch(b[7]){
+case 82:yc=3;
+zc=8;
+goto L12;
+case 79:yc=5;
+zc=8;
+goto L12;
+default:yc=1;
+zc=7;
+goto L12;
+}
+break;
+case 82:yc=2;
+zc=7;
+goto L12;
+case 79:yc=4;
+zc=7;
+goto L12;
+default:break;}}
+yc=0;
+zc=6;
+L12:w8(a+176,zc);
+L[1]=yc;
+nest_at_de1(K,a,b,c,L);
+*M=*K;
+M[1]=K[1];
+M[2]=K[2];
+M[3]=K[3];
+goto L13;
+case 76:w8(a+176,6);
+begin_name_778(M,a,b,c);
+goto L13;
+case 83:begin_in_std_46e(M,a,b,c);
+goto L13;
+default:if((u8)(xc-97)<26){
+begin_operator_2ba(M,a,b,c);
+goto L13;}
+break;}}
+begin_name_778(M,a,b,c);
+L13:Ac=M[3];
+Bc=M[2];
+Cc=M[1];
+Dc=*M;
+goto L14;
+case 84:break;
+default:goto L10;
+}}
+switch(b[3]){
+case 104:begin_thunk_481(U,a,b,c);
+goto L15;
+case 118:begin_virtual_thunk_f37(U,a,b,c);
+goto L15;
+case 67:begin_clone_893(U);
+goto L15;
+default:break;}
+L9:begin_special_44d(U,a,b,c);
+L15:Ac=U[3];
+Bc=U[2];
+Cc=U[1];
+Dc=*U;
+goto L14;
+L10:w8(a+176,2);
+w4(S,0);
+Ec=b[2];
+switch(Ec){
+case 78:w4(Q,0);
+w4(R,1);
+w8(a+176,3);
+if(c!=3){
+switch(b[3]){
+case 75:if(c<=4){
+Fc=1;
+Gc=4;
+goto L16;}
+switch(b[4]){
+case 82:Fc=3;
+Gc=5;
+goto L16;
+case 79:Fc=5;
+Gc=5;
+goto L16;
+default:Fc=1;
+Gc=4;
+goto L16;
+}
+break;
+case 82:Fc=2;
+Gc=4;
+goto L16;
+case 79:Fc=4;
+Gc=4;
+goto L16;
+default:break;}}
+Fc=0;
+Gc=3;
+L16:w8(a+176,Gc);
+R[1]=Fc;
+nest_at_de1(Q,a,b,c,R);
+*S=*Q;
+S[1]=Q[1];
+S[2]=Q[2];
+S[3]=Q[3];
+goto L17;
+case 76:w8(a+176,3);
+begin_name_778(S,a,b,c);
+goto L17;
+case 83:begin_in_std_46e(S,a,b,c);
+goto L17;
+default:if((u8)(Ec-97)>=26)goto L18;
+begin_operator_2ba(S,a,b,c);
+goto L17;
+}
+L8:begin_clone_893(T);
+Ac=T[3];
+Bc=T[2];
+Cc=T[1];
+Dc=*T;
+goto L14;
+L7:begin_object_056(T,a,b,c);
+Ac=T[3];
+Bc=T[2];
+Cc=T[1];
+Dc=*T;
+goto L14;
+L6:Hc=b[3];
+switch(Hc){
+case 78:w4(N,0);
+w4(O,1);
+w8(nc,4);
+if(c>4){
+switch(b[4]){
+case 75:if(c==5){
+Ic=1;
+Jc=5;
+goto L19;}
+switch(b[5]){
+case 82:Ic=3;
+Jc=6;
+goto L19;
+case 79:Ic=5;
+Jc=6;
+goto L19;
+default:Ic=1;
+Jc=5;
+goto L19;
+}
+break;
+case 82:Ic=2;
+Jc=5;
+goto L19;
+case 79:Ic=4;
+Jc=5;
+goto L19;
+default:break;}}
+Ic=0;
+Jc=4;
+L19:w8(nc,Jc);
+O[1]=Ic;
+nest_at_de1(N,a,b,c,O);
+*P=*N;
+P[1]=N[1];
+P[2]=N[2];
+P[3]=N[3];
+goto L20;
+case 76:w8(nc,4);
+begin_name_778(P,a,b,c);
+goto L20;
+case 83:begin_in_std_46e(P,a,b,c);
+goto L20;
+default:if((u8)(Hc-97)<26){
+begin_operator_2ba(P,a,b,c);
+goto L20;}
+break;}
+L5:begin_name_778(P,a,b,c);
+L20:Ac=P[3];
+Bc=P[2];
+Cc=P[1];
+Dc=*P;
+goto L14;}
+w8(a+176,2);
+w4(S,0);
+L18:begin_name_778(S,a,b,c);
+L17:Ac=S[3];
+Bc=S[2];
+Cc=S[1];
+Dc=*S;
+L14:if(Dc!=1)goto L2;
+Kc=c<<3;
+Lc=0;
+Mc=Ac;
+Nc=Bc;
+Oc=Cc;
+L21:if(Oc==7){
+Pc=r8(a+8);
+if(Pc>Xb)goto L2;
+Qc=rp(a);
+if(Pc==0)goto L22;
+Rc=0;
+Sc=0;
+Tc=0;
+L23:Uc=Rc;
+L24:if(Pc-Uc>15){
+Vc=cttz(v16_ult(v16_at(Qc+Uc),splat(3)),16);
+Wc=Uc+Vc;
+if(Vc>=16){
+Uc=Wc;
+goto L24;}
+Xc=Wc;}
+else{
+if(Uc>=Pc){
+Xc=Uc;
+goto L25;}
+Yc=Uc;
+L26:if(*(Qc+Yc)>2){
+Zc=Yc+1;
+if(Zc!=Pc){
+Yc=Zc;
+goto L26;}
+Xc=Pc;}
+else Xc=Yc;}
+L25:if(Tc==0){
+if(Sc<Rc){
+if(Xc!=Rc){
+ad=Xc-Rc;
+bd=Qc+(i64)Rc;
+cd=Qc+(i64)Sc;
+dd=0;
+L27:*(cd+(i64)dd)=*(bd+(i64)dd);
+ed=dd+1;
+if(ed!=ad){
+dd=ed;
+goto L27;}}}
+fd=Sc-Rc+Xc;}
+else fd=Sc;
+if(Xc!=Pc){
+switch(*(Qc+Xc)){
+case 1:gd=Tc+1;
+break;
+case 2:gd=usub64(Tc,1);
+break;
+default:goto L2;
+}
+hd=Xc+1;
+if(hd<Pc){
+Rc=hd;
+Sc=fd;
+Tc=gd;
+goto L23;}}
+if(r8(a+8)>fd)w8(a+8,fd);
+L22:goto L1;}
+w8(a+184,r8(a+184)+1);
+switch(Oc){
+case 0:w4(H,0);
+w4(I,0);
+id=r8(a+176);
+if(id<c){
+jd=r8(a+8);
+kd=jd;
+ld=*(b+id);
+switch(ld){
+case 80:w4(F,0);
+md=id+1;
+if(md<c){
+switch(*(b+md)){
+case 70:begin_function_7aa(F,a,1);
+*I=*F;
+I[1]=F[1];
+I[2]=F[2];
+nd=F[3];
+goto L28;
+case 65:begin_array_86f(F,a,b,c,1);
+*I=*F;
+I[1]=F[1];
+I[2]=F[2];
+nd=F[3];
+goto L28;
+default:break;}}
+w8(a+176,md);
+od=r8(a+88);
+if(r8(a+112)>od)pd=od;
+else{
+qd=make_ready_9a1(a+80);
+if(!(qd&1)){
+sd=0;
+goto L29;}
+pd=r8(a+88);}
+td=rp(a+80)+pd*44;
+*td=0;
+td[1]=0;
+x2(td+2,0);
+x4(td+4,kd);
+z36(td+8);
+w8(a+88,pd+1);
+sd=1;
+L29:*I=sd;
+I[1]=0;
+I[2]=0;
+nd=0;
+L28:I[3]=nd;
+ud=I+1;
+vd=I+2;
+xd=I+3;
+yd=I;
+goto L30;
+case 70:begin_function_7aa(I,a,0);
+ud=I+1;
+vd=I+2;
+xd=I+3;
+yd=I;
+goto L30;
+case 82:zd=id+1;
+if(zd<c){
+if(*(b+zd)==65){
+begin_array_86f(H,a,b,c,2);
+ud=H+1;
+vd=H+2;
+xd=H+3;
+yd=H;
+goto L30;}}
+w8(a+176,zd);
+Ad=r8(a+88);
+if(r8(a+112)>Ad)Bd=Ad;
+else{
+Cd=make_ready_9a1(a+80);
+if(!(Cd&1)){
+w4(I,0);
+ud=I+1;
+vd=I+2;
+xd=I+3;
+yd=I;
+goto L30;}
+Bd=r8(a+88);}
+Dd=rp(a+80)+Bd*44;
+*Dd=1;
+Dd[1]=0;
+x2(Dd+2,0);
+x4(Dd+4,kd);
+z36(Dd+8);
+w8(a+88,Bd+1);
+*I=1;
+I[1]=0;
+I[2]=0;
+I[3]=0;
+ud=I+1;
+vd=I+2;
+xd=I+3;
+yd=I;
+goto L30;
+case 65:begin_array_86f(I,a,b,c,0);
+ud=I+1;
+vd=I+2;
+xd=I+3;
+yd=I;
+goto L30;
+case 79:rvalue_at_e1d(I,a,b,c);
+ud=I+1;
+vd=I+2;
+xd=I+3;
+yd=I;
+goto L30;
+case 75:w8(a+176,id+1);
+Ed=r8(a+88);
+if(r8(a+112)>Ed)Fd=Ed;
+else{
+Gd=make_ready_9a1(a+80);
+if(!(Gd&1)){
+w4(I,0);
+ud=I+1;
+vd=I+2;
+xd=I+3;
+yd=I;
+goto L30;}
+Fd=r8(a+88);}
+Hd=rp(a+80)+Fd*44;
+*Hd=3;
+Hd[1]=0;
+x2(Hd+2,0);
+x4(Hd+4,kd);
+z36(Hd+8);
+w8(a+88,Fd+1);
+*I=1;
+I[1]=1;
+I[2]=0;
+I[3]=0;
+ud=I+1;
+vd=I+2;
+xd=I+3;
+yd=I;
+goto L30;
+case 78:w4(B,0);
+w4(C,0);
+w8(a+176,id+1);
+nest_at_de1(B,a,b,c,C);
+*I=*B;
+I[1]=B[1];
+I[2]=B[2];
+I[3]=B[3];
+ud=I+1;
+vd=I+2;
+xd=I+3;
+yd=I;
+goto L30;
+case 83:case 90:break;
+case 68:builtin_with_d_cb0(I,a,b,c);
+ud=I+1;
+vd=I+2;
+xd=I+3;
+yd=I;
+goto L30;
+case 84:template_parameter_3b0(I,a,b,c);
+ud=I+1;
+vd=I+2;
+xd=I+3;
+yd=I;
+goto L30;
+default:if((u8)(ld-49)>=9){
+Id=ld-97;
+if(Id>=26){
+ud=I+1;
+vd=I+2;
+xd=I+3;
+yd=I;
+goto L30;}
+if(!(u8)(((u32)65829887>>Id)&1)){
+ud=I+1;
+vd=I+2;
+xd=I+3;
+yd=I;
+goto L30;}
+Jd=rp((u8*)t_e7e8+(u64)Id*8);
+Kd=r8((u8*)t_f635+(u64)Id*8);
+w8(a+176,id+1);
+if(r8(a+32)-jd<Kd){
+Ld=make_ready_8e3(a,Kd,128);
+if(!(Ld&1))goto L31;
+Md=r8(a+8);}
+else Md=jd;
+Nd=r8(a+16);
+if(Kd>Nd-Md){
+Od=grow_amortized_2b6(a,Kd);
+if(!Od)goto L31;
+Pd=r8(a+16);
+Qd=r8(a+8);}
+else{
+Pd=Nd;
+Qd=Md;}
+Rd=Qd+Kd;
+Sd=rp(a);
+z16(a+8);
+Td=Sd+(i64)Qd;
+if((u64)Td-(u64)Jd<Kd)copy_bits_4f4(Jd,Td,Kd);
+else memmove(Td,Jd,Kd);
+wp(a,Sd);
+w8(a+8,Rd);
+w8(a+16,Pd);
+*I=1;
+I[1]=2;
+I[2]=0;
+I[3]=0;
+ud=I+1;
+vd=I+2;
+xd=I+3;
+yd=I;
+goto L30;
+L31:w4(I,0);
+ud=I+1;
+vd=I+2;
+xd=I+3;
+yd=I;
+goto L30;}
+break;}
+named_type_faa(I,a,b,c);
+ud=I+1;
+vd=I+2;
+xd=I+3;
+yd=I;}
+else{
+ud=I+1;
+vd=I+2;
+xd=I+3;
+yd=I;}
+L30:Ud=*xd;
+Vd=*vd;
+Wd=*ud;
+Xd=*yd;
+goto L32;
+case 1:w4(G,0);
+Yd=r8(a+176);
+if(Yd<c){
+Zd=r8(a+8);
+ae=Zd;
+be=*(b+Yd);
+switch(be){
+case 80:w8(a+176,Yd+1);
+ce=r8(a+88);
+if(r8(a+112)>ce)de=ce;
+else{
+ee=make_ready_9a1(a+80);
+if(!(ee&1)){
+fe=0;
+goto L33;}
+de=r8(a+88);}
+ge=rp(a+80)+de*44;
+*ge=0;
+ge[1]=0;
+x2(ge+2,0);
+x4(ge+4,ae);
+z36(ge+8);
+w8(a+88,de+1);
+fe=1;
+L33:*G=fe;
+G[1]=0;
+G[2]=0;
+G[3]=0;
+goto L34;
+case 70:case 65:case 75:he=0;
+ie=0;
+je=0;
+ke=0;
+goto L35;
+case 82:w8(a+176,Yd+1);
+le=r8(a+88);
+if(r8(a+112)>le)me=le;
+else{
+ne=make_ready_9a1(a+80);
+if(!(ne&1)){
+w4(G,0);
+goto L34;}
+me=r8(a+88);}
+oe=rp(a+80)+me*44;
+*oe=1;
+oe[1]=0;
+x2(oe+2,0);
+x4(oe+4,ae);
+z36(oe+8);
+w8(a+88,me+1);
+*G=1;
+G[1]=0;
+G[2]=0;
+G[3]=0;
+goto L34;
+case 79:rvalue_at_e1d(G,a,b,c);
+goto L34;
+case 78:w4(D,0);
+w4(E,0);
+w8(a+176,Yd+1);
+nest_at_de1(D,a,b,c,E);
+*G=*D;
+G[1]=D[1];
+G[2]=D[2];
+G[3]=D[3];
+goto L34;
+case 83:case 90:break;
+case 68:builtin_with_d_cb0(G,a,b,c);
+goto L34;
+case 84:template_parameter_3b0(G,a,b,c);
+goto L34;
+default:if((u8)(be-49)>=9){
+pe=be-97;
+if(pe>=26)goto L34;
+if(!(u8)(((u32)65829887>>pe)&1))goto L34;
+qe=rp((u8*)t_e7e8+(u64)pe*8);
+re=r8((u8*)t_f635+(u64)pe*8);
+w8(a+176,Yd+1);
+if(r8(a+32)-Zd<re){
+se=make_ready_8e3(a,re,128);
+if(!(se&1))goto L36;
+te=r8(a+8);}
+else te=Zd;
+ue=r8(a+16);
+if(re>ue-te){
+ve=grow_amortized_2b6(a,re);
+if(!ve)goto L36;
+we=r8(a+16);
+xe=r8(a+8);}
+else{
+we=ue;
+xe=te;}
+ye=xe+re;
+ze=rp(a);
+z16(a+8);
+Ae=ze+(i64)xe;
+if((u64)Ae-(u64)qe<re)copy_bits_4f4(qe,Ae,re);
+else memmove(Ae,qe,re);
+wp(a,ze);
+w8(a+8,ye);
+w8(a+16,we);
+*G=1;
+G[1]=2;
+G[2]=0;
+G[3]=0;
+goto L34;
+L36:w4(G,0);
+goto L34;}
+break;}
+named_type_faa(G,a,b,c);}
+L34:he=G[3];
+ie=G[2];
+je=G[1];
+ke=*G;
+L35:Ud=he;
+Vd=ie;
+Wd=je;
+Xd=ke;
+goto L32;
+case 4:if(!(a[136]&1)){
+Be=r4(a+120);
+Ce=a[139];
+De=r8(a+8);
+Ee=r8(a+48);
+if(r8(a+72)>Ee)Fe=Ee;
+else{
+Ge=make_ready_17a(a+40);
+if(!(Ge&1))goto L37;
+Fe=r8(a+48);}
+He=rp(a+40)+Fe*12;
+x4(He,Be);
+x4(He+4,De);
+He[8]=0;
+He[9]=Ce;
+x2(He+10,0);
+w8(a+48,Fe+1);}
+Ie=r8(a+176);
+if(Ie<c){
+if(*(b+Ie)==73){
+memcpy(J,a+120,20);
+z20(J+20);
+Je=r8(a+8);
+if(r8(a+32)>Je)Ke=Je;
+else{
+Le=make_ready_8e3(a,1,16);
+if(!(Le&1))goto L37;
+Ke=r8(a+8);}
+*(rp(a)+Ke)=1;
+w8(a+8,Ke+1);
+Me=r8(a+176);
+if(Me==18446744073709551615u)goto L37;
+w8(a+176,Me+1);
+Ne=r8(a+88);
+if(r8(a+112)>Ne)Oe=Ne;
+else{
+Pe=make_ready_9a1(a+80);
+if(!(Pe&1))goto L37;
+Oe=r8(a+88);}
+Qe=rp(a+80)+Oe*44;
+*Qe=6;
+Qe[1]=0;
+x2(Qe+2,0);
+memcpy(Qe+4,J,40);
+w8(a+88,Oe+1);
+Re=0;
+Se=1;
+Te=3;}
+else{
+Re=0;
+Se=0;
+Te=6;}}
+else{
+Re=0;
+Se=0;
+Te=6;}
+break;
+case 5:Ue=r8(a+176);
+if(Ue<c){
+if(*(b+Ue)==69){
+Ve=a[132];
+if(Ve==0){
+w8(a+176,Ue+1);
+We=a[139];
+if(a[136]&1){
+Re=We;
+Se=0;
+Te=2;
+break;}
+Xe=r4(a+120);
+Ye=r8(a+8);
+Ze=r8(a+48);
+if(r8(a+72)>Ze)af=Ze;
+else{
+bf=make_ready_17a(a+40);
+if(!(bf&1))goto L37;
+af=r8(a+48);}
+cf=rp(a+40)+af*12;
+x4(cf,Xe);
+x4(cf+4,Ye);
+cf[8]=0;
+cf[9]=We;
+x2(cf+10,0);
+w8(a+48,af+1);
+Re=a[139];
+Se=0;
+Te=2;
+break;}
+w4(A,0);
+w8(a+176,Ue+1);
+df=a[133];
+switch(Ve){
+case 3:addressed_named_968(A,a,b,c,df);
+ef=A+1;
+ff=A+2;
+gf=A+3;
+hf=A;
+break;
+case 1:if(a[138]&1){
+jf=q2(a+140);
+kf=q2(a+142);
+memcpy(z+4,a+144,16);
+lf=q8(a+160);
+mf=a[168];
+nf=a[169];
+of=a[170];
+pf=a[171];
+w2(z,jf);
+w2(z+2,kf);
+x8(z+20,lf);
+z[28]=mf;
+z[29]=nf;
+z[30]=of;
+z[31]=pf;
+qf=a[137]&1;}
+else{
+z32(z);
+qf=0;}
+name_ended_a18(A,a,b,c,df,qf,z,r4(a+120));
+ef=A+1;
+ff=A+2;
+gf=A+3;
+hf=A;
+break;
+case 2:if(a[138]&1){
+rf=r4(a+120);
+if(a[137]&1){
+enclosing_instance_0fc(y,a,b,c,df,r2(a+134),rf);
+ef=y+1;
+ff=y+2;
+gf=y+3;
+hf=y;
+break;}
+sf=rf;}
+else sf=r4(a+120);
+enclosing_named_18f(A,a,b,c,df,sf);
+ef=A+1;
+ff=A+2;
+gf=A+3;
+hf=A;
+break;
+default:NEVER;
+}
+Ud=*gf;
+Vd=*ff;
+Wd=*ef;
+Xd=*hf;
+goto L32;}}
+if(a[136]&1){
+Re=0;
+Se=0;
+Te=6;}
+else{
+tf=r4(a+120);
+uf=a[139];
+vf=r8(a+8);
+wf=r8(a+48);
+if(r8(a+72)>wf)xf=wf;
+else{
+yf=make_ready_17a(a+40);
+if(!(yf&1))goto L37;
+xf=r8(a+48);}
+zf=rp(a+40)+xf*12;
+x4(zf,tf);
+x4(zf+4,vf);
+zf[8]=0;
+zf[9]=uf;
+x2(zf+10,0);
+w8(a+48,xf+1);
+Re=0;
+Se=0;
+Te=6;}
+break;
+case 6:case 2:case 3:Re=Mc;
+Se=Nc;
+Te=Oc;
+break;
+default:NEVER;
+}
+Af=Te;
+Bf=Se;
+Cf=Re;
+goto L38;
+L37:goto L2;
+L32:if(Xd!=1)goto L2;
+Af=Wd;
+Bf=Vd;
+Cf=Ud;
+L38:if(Af!=6){
+Ef=Af;
+Ff=Bf;
+Gf=Cf;
+goto L39;}
+Df=0;
+L40:w4(Z,0);
+Hf=r8(a+176);
+if(Hf<c){
+If=*(b+Hf);
+switch(If){
+case 67:constructor_ff5(Z,a,b,c);
+break;
+case 68:destructor_97b(Z,a,b,c);
+break;
+case 76:w8(a+176,Hf+1);
+Jf=r8(a+8);
+if(r8(a+32)-Jf<2){
+Kf=make_ready_8e3(a,2,128);
+if(!(Kf&1))goto L41;
+Lf=r8(a+8);}
+else Lf=Jf;
+*(rp(a)+Lf)=58;
+*(rp(a)+(i64)Lf+1)=58;
+Mf=Lf+2;
+w8(a+8,Mf);
+Nf=r8(a+176);
+z24(W);
+if(Nf<c){
+Of=*(b+Nf);
+if((u8)(Of-58)>=247){
+Pf=Mf;
+Qf=Nf+1;
+if(Qf<c){
+Rf=*(b+Qf)-48;
+if(Rf<10){
+Sf=Nf+2;
+if(Sf<c){
+if((u8)(*(b+Sf)-48)<10){
+long_name_at_8ad(W,b,c,Nf);
+if(*W!=1)goto L41;
+Tf=r8(W+8);
+Uf=r8(W+16);
+goto L42;}}
+Vf=(u64)Rf+(u8)((u8)(Of*10)+32);
+if(c-Sf<Vf)goto L43;
+if((u8)(*(b+(i64)Sf)-48)<10)goto L43;
+Wf=Vf+Sf;
+Xf=Sf;
+goto L44;}}
+Yf=Of-48;
+if(c-Qf<Yf)goto L43;
+if((u8)(*(b+(i64)Qf)-48)<10)goto L43;
+Wf=Qf+Yf;
+Xf=Qf;
+L44:Tf=Xf;
+Uf=Wf;
+L42:w8(a+176,Uf);
+Zf=b+(i64)Tf;
+ag=Uf-Tf;
+if(Uf!=Tf){
+if(!(ag<10||*Zf!=95)){
+bg=parts_equal_58b((u8*)t_35ad,10,Zf,10);
+if(bg){
+cg=(s_p_64){(u8*)t_62ff,21};
+goto L45;}}}
+dg=(s_p_64){0};dg.f0=Zf;
+eg=dg;eg.f1=ag;
+cg=eg;
+L45:fg=cg.f0;
+gg=cg.f1;
+if(r8(a+32)-Mf<gg){
+hg=make_ready_8e3(a,gg,128);
+if(!(hg&1))goto L41;}
+ig=extend_from_slice_169(a,fg,gg);
+if(ig&1)goto L41;
+jg=r8(a+8);
+kg=a[139];
+w4(a+124,Pf);
+w4(a+128,jg);
+a[136]=0;
+a[137]=1;
+a[138]=0;
+lg=r8(a+176);
+if(lg>=c){
+Ag=0;
+Bg=5;
+goto L46;}
+if(*(b+lg)!=73){
+Ag=0;
+Bg=5;
+goto L46;}
+mg=r4(a+120);
+ng=r8(a+48);
+if(r8(a+72)>ng)og=ng;
+else{
+pg=make_ready_17a(a+40);
+if(!(pg&1))goto L47;
+og=r8(a+48);}
+qg=rp(a+40)+og*12;
+x4(qg,mg);
+x4(qg+4,jg);
+qg[8]=0;
+qg[9]=kg;
+x2(qg+10,0);
+w8(a+48,og+1);
+memcpy(V,a+120,20);
+z20(V+20);
+rg=r8(a+8);
+if(r8(a+32)>rg)sg=rg;
+else{
+tg=make_ready_8e3(a,1,16);
+if(!(tg&1))goto L47;
+sg=r8(a+8);}
+*(rp(a)+sg)=1;
+w8(a+8,sg+1);
+ug=r8(a+176);
+if(ug==18446744073709551615u)goto L47;
+w8(a+176,ug+1);
+vg=r8(a+88);
+if(r8(a+112)>vg){
+wg=vg;
+xg=V;
+goto L48;}
+yg=make_ready_9a1(a+80);
+if(!(yg&1))goto L47;
+zg=V;
+goto L49;}}
+L43:goto L41;
+case 85:begin_component_d5a(Z,a,b,c);
+break;
+default:if((u8)(If-97)>=26)goto L50;
+operator_c58(Z,a,b,c);
+break;}
+if(*Z!=1)goto L2;
+Cg=Z[1];
+Dg=Z[2];
+Eg=Z[3];
+goto L51;}
+L50:Fg=r8(a+8);
+if(r8(a+32)-Fg<2){
+Gg=make_ready_8e3(a,2,128);
+if(!(Gg&1))goto L41;
+Hg=r8(a+8);}
+else Hg=Fg;
+*(rp(a)+Hg)=58;
+*(rp(a)+(i64)Hg+1)=58;
+Ig=Hg+2;
+w8(a+8,Ig);
+Jg=r8(a+176);
+z24(Y);
+if(Jg<c){
+Kg=*(b+Jg);
+if((u8)(Kg-58)>=247){
+Lg=Ig;
+Mg=Jg+1;
+if(Mg<c){
+Ng=*(b+Mg)-48;
+if(Ng<10){
+Og=Jg+2;
+if(Og<c){
+if((u8)(*(b+Og)-48)<10){
+long_name_at_8ad(Y,b,c,Jg);
+if(*Y!=1)goto L41;
+Pg=r8(Y+8);
+Qg=r8(Y+16);
+goto L52;}}
+Rg=(u64)Ng+(u8)((u8)(Kg*10)+32);
+if(c-Og<Rg)goto L53;
+if((u8)(*(b+(i64)Og)-48)<10)goto L53;
+Sg=Rg+Og;
+Tg=Og;
+goto L54;}}
+Ug=Kg-48;
+if(c-Mg<Ug)goto L53;
+if((u8)(*(b+(i64)Mg)-48)<10)goto L53;
+Sg=Mg+Ug;
+Tg=Mg;
+L54:Pg=Tg;
+Qg=Sg;
+L52:w8(a+176,Qg);
+Vg=b+(i64)Pg;
+Wg=Qg-Pg;
+if(Qg!=Pg){
+if(!(Wg<10||*Vg!=95)){
+Xg=parts_equal_58b((u8*)t_35ad,10,Vg,10);
+if(Xg){
+Yg=(s_p_64){(u8*)t_62ff,21};
+goto L55;}}}
+Zg=(s_p_64){0};Zg.f0=Vg;
+ah=Zg;ah.f1=Wg;
+Yg=ah;
+L55:bh=Yg.f0;
+ch=Yg.f1;
+if(r8(a+32)-Ig<ch){
+dh=make_ready_8e3(a,ch,128);
+if(!(dh&1))goto L41;
+eh=r8(a+8);}
+else eh=Ig;
+fh=r8(a+16);
+if(ch>fh-eh){
+gh=grow_amortized_2b6(a,ch);
+if(!gh)goto L41;
+hh=r8(a+16);
+ih=r8(a+8);}
+else{
+hh=fh;
+ih=eh;}
+jh=ih+ch;
+kh=rp(a);
+z16(a+8);
+lh=kh+(i64)ih;
+if((u64)lh-(u64)bh<ch)copy_bits_4f4(bh,lh,ch);
+else memmove(lh,bh,ch);
+wp(a,kh);
+w8(a+8,jh);
+w8(a+16,hh);
+mh=jh;
+nh=a[139];
+w4(a+124,Lg);
+w4(a+128,mh);
+a[136]=0;
+a[137]=1;
+a[138]=0;
+oh=r8(a+176);
+if(oh>=c){
+Ag=0;
+Bg=5;
+goto L46;}
+if(*(b+oh)!=73){
+Ag=0;
+Bg=5;
+goto L46;}
+ph=r4(a+120);
+qh=r8(a+48);
+if(r8(a+72)>qh)rh=qh;
+else{
+sh=make_ready_17a(a+40);
+if(!(sh&1))goto L47;
+rh=r8(a+48);}
+th=rp(a+40)+rh*12;
+x4(th,ph);
+x4(th+4,mh);
+th[8]=0;
+th[9]=nh;
+x2(th+10,0);
+w8(a+48,rh+1);
+memcpy(X,a+120,20);
+z20(X+20);
+uh=r8(a+8);
+if(r8(a+32)>uh)vh=uh;
+else{
+wh=make_ready_8e3(a,1,16);
+if(!(wh&1))goto L47;
+vh=r8(a+8);}
+*(rp(a)+vh)=1;
+w8(a+8,vh+1);
+xh=r8(a+176);
+if(xh==18446744073709551615u)goto L47;
+w8(a+176,xh+1);
+yh=r8(a+88);
+if(r8(a+112)>yh){
+wg=yh;
+xg=X;
+goto L48;}
+zh=make_ready_9a1(a+80);
+if(!(zh&1))goto L47;
+zg=X;
+goto L49;}}
+L53:goto L41;
+L49:wg=r8(a+88);
+xg=zg;
+L48:Ah=rp(a+80)+wg*44;
+*Ah=5;
+Ah[1]=0;
+x2(Ah+2,0);
+memcpy(Ah+4,xg,40);
+w8(a+88,wg+1);
+Ag=1;
+Bg=3;
+L46:Cg=Bg;
+Dg=Ag;
+Eg=0;
+goto L51;
+L47:goto L2;
+L41:goto L2;
+L51:if(Cg==5){
+Bh=r8(a+176);
+if(Bh<c){
+if(*(b+Bh)==69){
+Ch=a[132];
+if(Ch==0){
+w8(a+176,Bh+1);
+Dh=a[139];
+if(a[136]&1){
+Eh=Dh;
+Fh=0;
+goto L56;}
+Gh=r4(a+120);
+Hh=r8(a+8);
+Ih=r8(a+48);
+if(r8(a+72)>Ih)Jh=Ih;
+else{
+Kh=make_ready_17a(a+40);
+if(!(Kh&1))goto L2;
+Jh=r8(a+48);}
+Lh=rp(a+40)+Jh*12;
+x4(Lh,Gh);
+x4(Lh+4,Hh);
+Lh[8]=0;
+Lh[9]=Dh;
+x2(Lh+10,0);
+w8(a+48,Jh+1);
+Eh=a[139];
+Fh=0;
+goto L56;}
+w4(ca,0);
+w8(a+176,Bh+1);
+Mh=a[133];
+switch(Ch){
+case 3:addressed_named_968(ca,a,b,c,Mh);
+break;
+case 1:if(a[138]&1){
+Nh=q2(a+140);
+Oh=q2(a+142);
+memcpy(ba+4,a+144,16);
+Ph=q8(a+160);
+Qh=a[168];
+Rh=a[169];
+Sh=a[170];
+Th=a[171];
+w2(ba,Nh);
+w2(ba+2,Oh);
+x8(ba+20,Ph);
+ba[28]=Qh;
+ba[29]=Rh;
+ba[30]=Sh;
+ba[31]=Th;
+Uh=a[137]&1;}
+else{
+z32(ba);
+Uh=0;}
+name_ended_a18(ca,a,b,c,Mh,Uh,ba,r4(a+120));
+break;
+case 2:if(a[138]&1){
+if(a[137]&1){
+enclosing_instance_0fc(aa,a,b,c,Mh,r2(a+134),r4(a+120));
+Vh=aa[3];
+Wh=aa[2];
+Xh=aa[1];
+Yh=aa;
+goto L57;}}
+enclosing_named_18f(ca,a,b,c,Mh,r4(a+120));
+break;
+default:NEVER;
+}
+Vh=ca[3];
+Wh=ca[2];
+Xh=ca[1];
+Yh=ca;
+L57:if(*Yh!=1)goto L2;
+Ef=Xh;
+Ff=Wh;
+Gf=Vh;
+goto L39;}}
+if(!(a[136]&1)){
+Zh=r4(a+120);
+ai=a[139];
+bi=r8(a+8);
+ci=r8(a+48);
+if(r8(a+72)>ci)di=ci;
+else{
+ei=make_ready_17a(a+40);
+if(!(ei&1))goto L2;
+di=r8(a+48);}
+fi=rp(a+40)+di*12;
+x4(fi,Zh);
+x4(fi+4,bi);
+fi[8]=0;
+fi[9]=ai;
+x2(fi+10,0);
+w8(a+48,di+1);}
+gi=Df+1;
+if(gi!=16){
+Df=gi;
+goto L40;}
+hi=6;
+ii=0;
+ji=0;
+goto L58;}
+Ef=Cg;
+Ff=Dg;
+Gf=Eg;
+L39:if(Ef!=2){
+ki=Ef;
+li=Ff;
+mi=Gf;
+goto L59;}
+Eh=Gf;
+Fh=Ff;
+L56:w4(v,0);
+w4(w,0);
+z32(x);
+ni=r8(a+88);
+if(ni!=0){
+oi=Fh&1;
+pi=rp(a+80)+(i64)(ni*44);
+qi=pi[-44];
+ri=pi[-43];
+si=q4(pi-40);
+ti=q4(pi-36);
+ui=q2(pi-32);
+switch(qi){
+case 29:case 28:case 27:case 26:case 4:case 5:case 6:case 7:case 8:case 11:case 12:case 13:case 14:case 15:case 16:case 17:case 18:case 19:case 20:case 21:case 22:case 23:case 24:case 25:if(Eh&1){
+pass_dependent_3d7(v,a,b,c);
+vi=v[3];
+wi=v[2];
+xi=v[1];
+yi=*v;
+goto L60;}
+zi=q4(pi-4);
+w4(r,0);
+switch(qi){
+case 22:returned_07a(r,a,b,c,ri&1);
+break;
+case 23:parameter_at_257(r,a,b,c,ri&1,0);
+break;
+case 24:array_ended_b9c(r,a,b,c,ri,si,ti);
+break;
+case 12:enclosing_parameter_fc1(r,a,b,c,si,ti);
+break;
+case 13:instance_parameter_240(r,a,b,c,ri,si,ti);
+break;
+case 11:w2(o,ui);
+memcpy(o+2,pi-30,26);
+x4(o+28,zi);
+enclosing_front_fa8(r,a,ri,si,ti,o);
+break;
+case 17:w4(p,ti);
+w2(p+4,ui);
+lambda_parameter_383(r,a,b,c,si,p);
+break;
+case 18:member_parameter_7e4(r,a,b,c,si);
+break;
+case 15:w4(q,ti);
+w2(q+4,ui);
+memcpy(q+6,pi-30,26);
+addressed_front_54d(r,a,b,c,ri,si,q);
+break;
+case 16:addressed_parameter_2cf(r,a,b,c,si);
+break;
+case 14:*r=0;
+break;
+case 19:finish_8cd(r,a,b,c);
+break;
+case 20:derived_ended_aef(r,a,b,c);
+break;
+case 21:base_ended_299(r,a,b,c,si);
+break;
+case 29:enumerator_21c(r,a,b,c);
+break;
+case 26:case 25:case 28:Ai=ti;
+Bi=zi;
+w4(n,0);
+switch(qi){
+case 26:w2(k,ti>>16);
+w2(k+2,ui);
+memcpy(k+4,pi-30,26);
+w2(k+30,Bi);
+argument_enumerator_2d4(n,a,b,c,si,Ai,k);
+break;
+case 25:w2(l,ti>>16);
+w2(l+2,ui);
+memcpy(l+4,pi-30,26);
+w2(l+30,Bi);
+argument_ended_1bb(n,a,b,c,si,Ai,l,oi);
+break;
+case 28:w2(m,ti>>16);
+w2(m+2,ui);
+memcpy(m+4,pi-30,26);
+w2(m+30,Bi);
+element_ended_20b(n,a,b,c,si,Ai,m,oi);
+break;
+case 27:*n=0;
+break;
+default:NEVER;
+}
+Ci=n[1];
+Di=n[2];
+Ei=n[3];
+*r=*n;
+r[1]=Ci;
+r[2]=Di;
+r[3]=Ei;
+break;
+case 27:case 10:case 9:case 8:case 4:case 5:case 6:case 7:*r=1;
+r[1]=3;
+r[2]=0;
+r[3]=0;
+break;
+default:NEVER;
+}
+vi=r[3];
+wi=r[2];
+xi=r[1];
+yi=*r;
+goto L60;
+case 10:Fi=r8(a+176);
+if(Fi<c){
+switch(*(b+Fi)){
+case 69:case 46:case 0:break;
+default:w4(u,ti);
+w2(u+4,ui);
+memcpy(u+6,pi-30,26);
+w4(t,0);
+if(u[29]&1){
+expansion_52e(t,a,b,c,0,si,u);
+Gi=t[3];
+Hi=t[2];
+Ii=t[1];
+Ji=*t;}
+else{
+Ki=r8(a+8);
+if(r8(a+32)-Ki<2){
+Li=make_ready_8e3(a,2,128);
+if(!(Li&1)){
+Gi=0;
+Hi=0;
+Ii=0;
+Ji=0;
+goto L61;}
+Mi=r8(a+8);}
+else Mi=Ki;
+*(rp(a)+Mi)=44;
+*(rp(a)+(i64)Mi+1)=32;
+w8(a+8,Mi+2);
+Gi=0;
+Hi=0;
+Ii=0;
+Ji=1;}
+L61:vi=Gi;
+wi=Hi;
+xi=Ii;
+yi=Ji;
+goto L60;
+}}
+Ni=r8(a+8);
+if(Ni>=5){
+Oi=rp(a)+(i64)Ni;
+Pi=0;
+Qi=0;
+L62:Ri=Pi||*((u8*)t_262b+(i64)Qi)!=*(Oi-5+(i64)Qi);
+Si=Qi+1;
+if(Si!=4){
+Pi=Ri;
+Qi=Si;
+goto L62;}
+Ti=0;
+Ui=0;
+L63:Vi=Ui+1;
+Wi=Ti||*((u8*)t_262b+(i64)Vi)!=*(Oi-5+(i64)Vi);
+if(Vi!=4){
+Ti=Wi;
+Ui=Vi;
+goto L63;}
+if(!(Ri|Wi)){
+Xi=0;
+Yi=0;
+Zi=0;
+aj=0;
+goto L64;}}
+close_39a(s,a,b,c,si);
+Xi=s[3];
+Yi=s[2];
+Zi=s[1];
+aj=*s;
+L64:vi=Xi;
+wi=Yi;
+xi=Zi;
+yi=aj;
+goto L60;
+case 9:w4(x,ti);
+w2(x+4,ui);
+memcpy(x+6,pi-30,26);
+front_ended_665(w,a,b,c,ri,si,x);
+vi=w[3];
+wi=w[2];
+xi=w[1];
+yi=*w;
+goto L60;
+case 0:w8(a+88,ni-1);
+bj=r8(a+8);
+if(r8(a+32)>bj)cj=bj;
+else{
+dj=make_ready_8e3(a,1,16);
+if(!(dj&1))goto L65;
+cj=r8(a+8);}
+*(rp(a)+cj)=42;
+ej=cj+1;
+w8(a+8,ej);
+fj=ej;
+gj=Eh&1;
+hj=r8(a+48);
+if(r8(a+72)>hj){
+ij=hj;
+jj=fj;
+kj=0;
+lj=gj;
+goto L66;}
+mj=make_ready_17a(a+40);
+if(!(mj&1))goto L65;
+nj=fj;
+oj=0;
+pj=gj;
+break;
+case 1:if(oi)goto L65;
+w8(a+88,ni-1);
+qj=r8(a+8);
+if(r8(a+32)>qj)rj=qj;
+else{
+sj=make_ready_8e3(a,1,16);
+if(!(sj&1))goto L65;
+rj=r8(a+8);}
+*(rp(a)+rj)=38;
+tj=rj+1;
+w8(a+8,tj);
+uj=tj;
+vj=Eh&1;
+wj=r8(a+48);
+if(r8(a+72)>wj){
+ij=wj;
+jj=uj;
+kj=1;
+lj=vj;
+goto L66;}
+xj=make_ready_17a(a+40);
+if(!(xj&1))goto L65;
+nj=uj;
+oj=1;
+pj=vj;
+break;
+case 2:if(oi)goto L65;
+w8(a+88,ni-1);
+yj=r8(a+8);
+if(r8(a+32)-yj<2){
+zj=make_ready_8e3(a,2,128);
+if(!(zj&1))goto L65;
+Aj=r8(a+8);}
+else Aj=yj;
+*(rp(a)+Aj)=38;
+*(rp(a)+(i64)Aj+1)=38;
+Bj=Aj+2;
+w8(a+8,Bj);
+Cj=Bj;
+Dj=Eh&1;
+Ej=r8(a+48);
+if(r8(a+72)>Ej){
+ij=Ej;
+jj=Cj;
+kj=1;
+lj=Dj;
+goto L66;}
+Fj=make_ready_17a(a+40);
+if(!(Fj&1))goto L65;
+nj=Cj;
+oj=1;
+pj=Dj;
+break;
+case 3:if(oi)goto L65;
+w8(a+88,ni-1);
+if(r8(a+32)-r8(a+8)<6){
+Gj=make_ready_8e3(a,6,128);
+if(!(Gj&1))goto L65;}
+Hj=extend_from_slice_169(a,(u8*)t_f603,6);
+if(Hj&1)goto L65;
+Ij=r8(a+8);
+Jj=Eh&1;
+Kj=r8(a+48);
+if(r8(a+72)>Kj){
+ij=Kj;
+jj=Ij;
+kj=0;
+lj=Jj;
+goto L66;}
+Lj=make_ready_17a(a+40);
+if(!(Lj&1))goto L65;
+nj=Ij;
+oj=0;
+pj=Jj;
+break;
+default:NEVER;
+}
+ij=r8(a+48);
+jj=nj;
+kj=oj;
+lj=pj;
+L66:Mj=rp(a+40)+ij*12;
+x4(Mj,si);
+x4(Mj+4,jj);
+Mj[8]=kj;
+Mj[9]=lj;
+x2(Mj+10,0);
+w8(a+48,ij+1);
+hi=2;
+ii=kj;
+ji=lj;
+goto L58;
+L60:if(yi!=1)goto L2;
+ki=xi;
+li=wi;
+mi=vi;
+goto L59;}
+L65:goto L2;
+L59:if(ki==3){
+Nj=li&1;
+w4(i,0);
+Oj=r8(a+176);
+if(Oj<c){
+Pj=*(b+Oj);
+switch(Pj){
+case 69:w4(g,0);
+w8(a+176,Oj+1);
+Qj=r8(a+88);
+if(Qj==0){
+Rj=0;
+Sj=0;
+Tj=0;
+Uj=0;}
+else{
+if(*(rp(a+80)+(i64)(Qj*44)-44)==27){
+if(Nj){
+Rj=0;
+Sj=0;
+Tj=0;
+Uj=0;}
+else{
+w8(a+88,Qj-1);
+Rj=0;
+Sj=0;
+Tj=3;
+Uj=1;}}
+else{
+z32(h);
+close_list_3c2(g,a,b,c,h);
+Rj=g[3];
+Sj=g[2];
+Tj=g[1];
+Uj=*g;}}
+Vj=Tj;
+Wj=Uj;
+Xj=Sj;
+Yj=Rj;
+goto L67;
+case 74:Zj=Oj+1;
+if(Zj<c){
+if(*(b+Zj)==69){
+empty_pack_ea9(i,a,b,c,Nj);
+Vj=i[1];
+Wj=*i;
+Xj=i[2];
+Yj=i[3];
+goto L67;}}
+if(!Nj){
+ak=74;
+goto L68;}
+first_pack_117(i,a,b,c);
+Vj=i[1];
+Wj=*i;
+Xj=i[2];
+Yj=i[3];
+goto L67;
+default:bk=Pj;
+break;}}
+else bk=0;
+if(Nj){
+ck=bk;
+goto L69;}
+ak=bk;
+L68:dk=r8(a+8);
+if(r8(a+32)-dk<2){
+ek=make_ready_8e3(a,2,128);
+if(!(ek&1))goto L70;
+fk=r8(a+8);}
+else fk=dk;
+*(rp(a)+fk)=44;
+*(rp(a)+(i64)fk+1)=32;
+w8(a+8,fk+2);
+ck=ak;
+L69:switch(ck){
+case 76:if(Nj){
+first_literal_f44(i,a,b,c);
+Vj=i[1];
+Wj=*i;
+Xj=i[2];
+Yj=i[3];
+goto L67;}
+literal_43d(j,a,b,c);
+Vj=j[1];
+Wj=*j;
+Xj=j[2];
+Yj=j[3];
+goto L67;
+case 74:gk=r8(a+88);
+if(gk==0)goto L70;
+hk=rp(a+80);
+ik=gk*44;
+if(*(hk+(i64)ik-44)==27)goto L70;
+jk=r8(a+176);
+if(jk==18446744073709551615u)goto L70;
+w8(a+176,jk+1);
+if(r8(a+112)>gk){
+kk=ik;
+lk=hk;
+mk=gk;}
+else{
+nk=make_ready_9a1(a+80);
+if(!(nk&1))goto L70;
+ok=r8(a+88);
+kk=ok*44;
+lk=rp(a+80);
+mk=ok;}
+pk=lk+kk;
+*pk=27;
+z43(pk+1);
+qk=mk;
+rk=3;
+sk=1;
+break;
+default:if(!Nj){
+uk=0;
+vk=0;
+goto L71;}
+tk=r8(a+88);
+if(tk==0){
+uk=0;
+vk=0;
+goto L71;}
+wk=rp(a+80);
+xk=tk*44;
+yk=wk+(i64)xk;
+switch(yk[-44]){
+case 5:if(yk[-28]==0){
+uk=0;
+vk=0;
+goto L71;}
+break;
+case 7:break;
+case 0:case 1:case 2:case 3:case 4:case 6:case 8:case 9:case 10:case 11:case 12:case 13:case 14:case 15:case 16:case 17:case 18:case 19:case 20:case 21:case 22:case 23:case 24:case 25:case 26:case 27:case 28:case 29:uk=0;
+vk=0;
+goto L71;
+default:NEVER;
+}
+zk=r8(a+176);
+if(zk<c){
+Ak=b+(i64)zk;
+switch(*Ak){
+case 65:case 70:uk=0;
+vk=0;
+goto L71;
+case 80:case 82:if(usub64(c,zk)>=2){
+switch(Ak[1]){
+case 70:case 65:uk=0;
+vk=0;
+goto L71;
+default:break;}}
+break;
+default:break;}}
+Bk=r8(a+8);
+if(r8(a+112)>tk){
+Ck=xk;
+Dk=wk;
+Ek=tk;}
+else{
+Fk=make_ready_9a1(a+80);
+if(!(Fk&1))goto L70;
+Gk=r8(a+88);
+Ck=Gk*44;
+Dk=rp(a+80);
+Ek=Gk;}
+Hk=Dk+Ck;
+*Hk=25;
+Hk[1]=0;
+x2(Hk+2,0);
+x4(Hk+4,Bk);
+z36(Hk+8);
+qk=Ek;
+rk=0;
+sk=0;
+break;}
+w8(a+88,qk+1);
+uk=rk;
+vk=sk;
+L71:hi=uk;
+ii=vk;
+ji=0;
+goto L58;
+L67:if(Wj!=1)goto L2;
+hi=Vj;
+ii=Xj;
+ji=Yj;
+goto L58;
+L70:goto L2;}
+hi=ki;
+ii=li;
+ji=mi;
+L58:Ik=Lc+1;
+if(Ik==Kc)goto L2;
+Lc=Ik;
+Mc=ji;
+Nc=ii;
+Oc=hi;
+goto L21;}}}
+L11:;}
+L2:break;
+case 2:if(!fc){
+if(c<16){
+Jk=are_few_named_14c(b,c);
+if(!Jk)goto L72;}
+else{
+Kk=c-16;
+if(Kk==0)goto L73;
+Lk=0;
+L74:Mk=v16_at(b+Lk);
+if((v16_ult(Mk,splat(33))|v16_eq(Mk,splat(127)))!=0)goto L72;
+Nk=Lk+16;
+if(Nk<Kk){
+Lk=Nk;
+goto L74;}
+L73:Ok=v16_at(b+Kk);
+if((v16_ult(Ok,splat(33))|v16_eq(Ok,splat(127)))!=0)goto L72;}
+w4(Nb,0);
+w4(Ob,0);
+if(c!=0){
+if(c!=1&&*b==95){
+if(b[1]==90){
+if(c>=3){
+Pk=b[2];
+if(c<5){
+if(Pk==90){
+w8(a+176,3);
+w4(Jb,0);
+if(c==3)goto L75;
+Qk=a+176;
+goto L76;}
+if((c!=3)&(Pk==71)){
+if(b[3]==86)goto L77;
+goto L78;}
+switch(Pk){
+case 71:goto L78;
+case 84:if(c==3)goto L79;
+break;
+default:goto L80;
+}}
+else{
+switch(Pk){
+case 90:w8(a+176,3);
+w4(Jb,0);
+Qk=a+176;
+goto L76;
+case 71:if(b[3]!=86)goto L78;
+if(b[4]!=90)goto L77;
+if(ac<19){
+Rk=make_ready_8e3(a,19,128);
+if(!(Rk&1))goto L81;
+Sk=r8(a+16);
+Tk=r8(a+8);}
+else{
+Sk=Zb;
+Tk=0;}
+if(Sk-Tk<19){
+Uk=grow_amortized_2b6(a,19);
+if(!Uk)goto L81;
+Vk=r8(a+16);
+Wk=r8(a+8);}
+else{
+Vk=Sk;
+Wk=Tk;}
+Xk=Wk+19;
+Yk=rp(a);
+z16(a+8);
+Zk=Yk+(i64)Wk;
+if((u64)Zk-(u64)(u8*)t_c270<19)copy_bits_4f4((u8*)t_c270,Zk,19);
+else memcpy(Zk,(u8*)t_c270,19);
+wp(a,Yk);
+w8(a+8,Xk);
+w8(a+16,Vk);
+w8(a+176,5);
+w4(Gb,0);
+if(c!=5){
+al=b[5];
+switch(al){
+case 78:w4(Eb,0);
+w4(Fb,1);
+w8(a+176,6);
+if(c!=6){
+switch(b[6]){
+case 75:if(c<=7){
+bl=1;
+cl=7;
+goto L82;}
+switch(b[7]){
+case 82:bl=3;
+cl=8;
+goto L82;
+case 79:bl=5;
+cl=8;
+goto L82;
+default:bl=1;
+cl=7;
+goto L82;
+}
+break;
+case 82:bl=2;
+cl=7;
+goto L82;
+case 79:bl=4;
+cl=7;
+goto L82;
+default:break;}}
+bl=0;
+cl=6;
+L82:w8(a+176,cl);
+Fb[1]=bl;
+nest_at_979(Eb,a,b,c,Fb);
+*Gb=*Eb;
+Gb[1]=Eb[1];
+Gb[2]=Eb[2];
+Gb[3]=Eb[3];
+goto L83;
+case 76:w8(a+176,6);
+begin_name_9fc(Gb,a,b,c);
+goto L83;
+case 83:begin_in_std_b23(Gb,a,b,c);
+goto L83;
+default:if((u8)(al-97)<26){
+begin_operator_fde(Gb,a,b,c);
+goto L83;}
+break;}}
+begin_name_9fc(Gb,a,b,c);
+L83:dl=Gb[3];
+el=Gb[2];
+fl=Gb[1];
+gl=*Gb;
+goto L84;
+case 84:break;
+default:goto L80;
+}}
+switch(b[3]){
+case 104:begin_thunk_a5d(Ob,a,b,c);
+goto L85;
+case 118:begin_virtual_thunk_603(Ob,a,b,c);
+goto L85;
+case 67:begin_clone_893(Ob);
+goto L85;
+default:break;}
+L79:begin_special_44d(Ob,a,b,c);
+L85:dl=Ob[3];
+el=Ob[2];
+fl=Ob[1];
+gl=*Ob;
+goto L84;
+L80:w8(a+176,2);
+w4(Mb,0);
+hl=b[2];
+switch(hl){
+case 78:w4(Kb,0);
+w4(Lb,1);
+w8(a+176,3);
+if(c!=3){
+switch(b[3]){
+case 75:if(c<=4){
+il=1;
+jl=4;
+goto L86;}
+switch(b[4]){
+case 82:il=3;
+jl=5;
+goto L86;
+case 79:il=5;
+jl=5;
+goto L86;
+default:il=1;
+jl=4;
+goto L86;
+}
+break;
+case 82:il=2;
+jl=4;
+goto L86;
+case 79:il=4;
+jl=4;
+goto L86;
+default:break;}}
+il=0;
+jl=3;
+L86:w8(a+176,jl);
+Lb[1]=il;
+nest_at_979(Kb,a,b,c,Lb);
+*Mb=*Kb;
+Mb[1]=Kb[1];
+Mb[2]=Kb[2];
+Mb[3]=Kb[3];
+goto L87;
+case 76:w8(a+176,3);
+begin_name_9fc(Mb,a,b,c);
+goto L87;
+case 83:begin_in_std_b23(Mb,a,b,c);
+goto L87;
+default:if((u8)(hl-97)>=26)goto L88;
+begin_operator_fde(Mb,a,b,c);
+goto L87;
+}
+L78:begin_clone_893(Nb);
+dl=Nb[3];
+el=Nb[2];
+fl=Nb[1];
+gl=*Nb;
+goto L84;
+L77:begin_object_103(Nb,a,b,c);
+dl=Nb[3];
+el=Nb[2];
+fl=Nb[1];
+gl=*Nb;
+goto L84;
+L76:kl=b[3];
+switch(kl){
+case 78:w4(Hb,0);
+w4(Ib,1);
+w8(Qk,4);
+if(c>4){
+switch(b[4]){
+case 75:if(c==5){
+ll=1;
+ml=5;
+goto L89;}
+switch(b[5]){
+case 82:ll=3;
+ml=6;
+goto L89;
+case 79:ll=5;
+ml=6;
+goto L89;
+default:ll=1;
+ml=5;
+goto L89;
+}
+break;
+case 82:ll=2;
+ml=5;
+goto L89;
+case 79:ll=4;
+ml=5;
+goto L89;
+default:break;}}
+ll=0;
+ml=4;
+L89:w8(Qk,ml);
+Ib[1]=ll;
+nest_at_979(Hb,a,b,c,Ib);
+*Jb=*Hb;
+Jb[1]=Hb[1];
+Jb[2]=Hb[2];
+Jb[3]=Hb[3];
+goto L90;
+case 76:w8(Qk,4);
+begin_name_9fc(Jb,a,b,c);
+goto L90;
+case 83:begin_in_std_b23(Jb,a,b,c);
+goto L90;
+default:if((u8)(kl-97)<26){
+begin_operator_fde(Jb,a,b,c);
+goto L90;}
+break;}
+L75:begin_name_9fc(Jb,a,b,c);
+L90:dl=Jb[3];
+el=Jb[2];
+fl=Jb[1];
+gl=*Jb;
+goto L84;}
+w8(a+176,2);
+w4(Mb,0);
+L88:begin_name_9fc(Mb,a,b,c);
+L87:dl=Mb[3];
+el=Mb[2];
+fl=Mb[1];
+gl=*Mb;
+L84:if(gl!=1)goto L72;
+nl=c<<3;
+ol=0;
+pl=dl;
+ql=el;
+rl=fl;
+L91:if(rl==7){
+if(r8(a+8)>Xb)goto L92;
+goto L1;}
+w8(a+184,r8(a+184)+1);
+switch(rl){
+case 0:w4(Bb,0);
+w4(Cb,0);
+sl=r8(a+176);
+if(sl<c){
+tl=r8(a+8);
+ul=tl;
+vl=*(b+sl);
+switch(vl){
+case 80:w4(zb,0);
+wl=sl+1;
+if(wl<c){
+switch(*(b+wl)){
+case 70:begin_function_7aa(zb,a,1);
+*Cb=*zb;
+Cb[1]=zb[1];
+Cb[2]=zb[2];
+xl=zb[3];
+goto L93;
+case 65:begin_array_86f(zb,a,b,c,1);
+*Cb=*zb;
+Cb[1]=zb[1];
+Cb[2]=zb[2];
+xl=zb[3];
+goto L93;
+default:break;}}
+w8(a+176,wl);
+yl=r8(a+88);
+if(r8(a+112)>yl)zl=yl;
+else{
+Al=make_ready_9a1(a+80);
+if(!(Al&1)){
+Bl=0;
+goto L94;}
+zl=r8(a+88);}
+Cl=rp(a+80)+zl*44;
+*Cl=0;
+Cl[1]=0;
+x2(Cl+2,0);
+x4(Cl+4,ul);
+z36(Cl+8);
+w8(a+88,zl+1);
+Bl=1;
+L94:*Cb=Bl;
+Cb[1]=0;
+Cb[2]=0;
+xl=0;
+L93:Cb[3]=xl;
+Dl=Cb+1;
+El=Cb+2;
+Fl=Cb+3;
+Gl=Cb;
+goto L95;
+case 70:begin_function_7aa(Cb,a,0);
+Dl=Cb+1;
+El=Cb+2;
+Fl=Cb+3;
+Gl=Cb;
+goto L95;
+case 82:Hl=sl+1;
+if(Hl<c){
+if(*(b+Hl)==65){
+begin_array_86f(Bb,a,b,c,2);
+Dl=Bb+1;
+El=Bb+2;
+Fl=Bb+3;
+Gl=Bb;
+goto L95;}}
+w8(a+176,Hl);
+Il=r8(a+88);
+if(r8(a+112)>Il)Jl=Il;
+else{
+Kl=make_ready_9a1(a+80);
+if(!(Kl&1)){
+w4(Cb,0);
+Dl=Cb+1;
+El=Cb+2;
+Fl=Cb+3;
+Gl=Cb;
+goto L95;}
+Jl=r8(a+88);}
+Ll=rp(a+80)+Jl*44;
+*Ll=1;
+Ll[1]=0;
+x2(Ll+2,0);
+x4(Ll+4,ul);
+z36(Ll+8);
+w8(a+88,Jl+1);
+*Cb=1;
+Cb[1]=0;
+Cb[2]=0;
+Cb[3]=0;
+Dl=Cb+1;
+El=Cb+2;
+Fl=Cb+3;
+Gl=Cb;
+goto L95;
+case 65:begin_array_86f(Cb,a,b,c,0);
+Dl=Cb+1;
+El=Cb+2;
+Fl=Cb+3;
+Gl=Cb;
+goto L95;
+case 79:rvalue_at_e1d(Cb,a,b,c);
+Dl=Cb+1;
+El=Cb+2;
+Fl=Cb+3;
+Gl=Cb;
+goto L95;
+case 75:w8(a+176,sl+1);
+Ml=r8(a+88);
+if(r8(a+112)>Ml)Nl=Ml;
+else{
+Ol=make_ready_9a1(a+80);
+if(!(Ol&1)){
+w4(Cb,0);
+Dl=Cb+1;
+El=Cb+2;
+Fl=Cb+3;
+Gl=Cb;
+goto L95;}
+Nl=r8(a+88);}
+Pl=rp(a+80)+Nl*44;
+*Pl=3;
+Pl[1]=0;
+x2(Pl+2,0);
+x4(Pl+4,ul);
+z36(Pl+8);
+w8(a+88,Nl+1);
+*Cb=1;
+Cb[1]=1;
+Cb[2]=0;
+Cb[3]=0;
+Dl=Cb+1;
+El=Cb+2;
+Fl=Cb+3;
+Gl=Cb;
+goto L95;
+case 78:w4(vb,0);
+w4(wb,0);
+w8(a+176,sl+1);
+nest_at_979(vb,a,b,c,wb);
+*Cb=*vb;
+Cb[1]=vb[1];
+Cb[2]=vb[2];
+Cb[3]=vb[3];
+Dl=Cb+1;
+El=Cb+2;
+Fl=Cb+3;
+Gl=Cb;
+goto L95;
+case 83:case 90:break;
+case 68:builtin_with_d_cb0(Cb,a,b,c);
+Dl=Cb+1;
+El=Cb+2;
+Fl=Cb+3;
+Gl=Cb;
+goto L95;
+case 84:template_parameter_3b0(Cb,a,b,c);
+Dl=Cb+1;
+El=Cb+2;
+Fl=Cb+3;
+Gl=Cb;
+goto L95;
+default:if((u8)(vl-49)>=9){
+Ql=vl-97;
+if(Ql>=26){
+Dl=Cb+1;
+El=Cb+2;
+Fl=Cb+3;
+Gl=Cb;
+goto L95;}
+if(!(u8)(((u32)65829887>>Ql)&1)){
+Dl=Cb+1;
+El=Cb+2;
+Fl=Cb+3;
+Gl=Cb;
+goto L95;}
+Rl=rp((u8*)t_e7e8+(u64)Ql*8);
+Sl=r8((u8*)t_f635+(u64)Ql*8);
+w8(a+176,sl+1);
+if(r8(a+32)-tl<Sl){
+Tl=make_ready_8e3(a,Sl,128);
+if(!(Tl&1))goto L96;
+Ul=r8(a+8);}
+else Ul=tl;
+Vl=r8(a+16);
+if(Sl>Vl-Ul){
+Wl=grow_amortized_2b6(a,Sl);
+if(!Wl)goto L96;
+Xl=r8(a+16);
+Yl=r8(a+8);}
+else{
+Xl=Vl;
+Yl=Ul;}
+Zl=Yl+Sl;
+am=rp(a);
+z16(a+8);
+bm=am+(i64)Yl;
+if((u64)bm-(u64)Rl<Sl)copy_bits_4f4(Rl,bm,Sl);
+else memmove(bm,Rl,Sl);
+wp(a,am);
+w8(a+8,Zl);
+w8(a+16,Xl);
+*Cb=1;
+Cb[1]=2;
+Cb[2]=0;
+Cb[3]=0;
+Dl=Cb+1;
+El=Cb+2;
+Fl=Cb+3;
+Gl=Cb;
+goto L95;
+L96:w4(Cb,0);
+Dl=Cb+1;
+El=Cb+2;
+Fl=Cb+3;
+Gl=Cb;
+goto L95;}
+break;}
+named_type_748(Cb,a,b,c);
+Dl=Cb+1;
+El=Cb+2;
+Fl=Cb+3;
+Gl=Cb;}
+else{
+Dl=Cb+1;
+El=Cb+2;
+Fl=Cb+3;
+Gl=Cb;}
+L95:cm=*Fl;
+dm=*El;
+em=*Dl;
+fm=*Gl;
+goto L97;
+case 1:w4(Ab,0);
+gm=r8(a+176);
+if(gm<c){
+hm=r8(a+8);
+im=hm;
+jm=*(b+gm);
+switch(jm){
+case 80:w8(a+176,gm+1);
+km=r8(a+88);
+if(r8(a+112)>km)lm=km;
+else{
+mm=make_ready_9a1(a+80);
+if(!(mm&1)){
+nm=0;
+goto L98;}
+lm=r8(a+88);}
+om=rp(a+80)+lm*44;
+*om=0;
+om[1]=0;
+x2(om+2,0);
+x4(om+4,im);
+z36(om+8);
+w8(a+88,lm+1);
+nm=1;
+L98:*Ab=nm;
+Ab[1]=0;
+Ab[2]=0;
+Ab[3]=0;
+goto L99;
+case 70:case 65:case 75:pm=0;
+qm=0;
+rm=0;
+sm=0;
+goto L100;
+case 82:w8(a+176,gm+1);
+tm=r8(a+88);
+if(r8(a+112)>tm)um=tm;
+else{
+vm=make_ready_9a1(a+80);
+if(!(vm&1)){
+w4(Ab,0);
+goto L99;}
+um=r8(a+88);}
+wm=rp(a+80)+um*44;
+*wm=1;
+wm[1]=0;
+x2(wm+2,0);
+x4(wm+4,im);
+z36(wm+8);
+w8(a+88,um+1);
+*Ab=1;
+Ab[1]=0;
+Ab[2]=0;
+Ab[3]=0;
+goto L99;
+case 79:rvalue_at_e1d(Ab,a,b,c);
+goto L99;
+case 78:w4(xb,0);
+w4(yb,0);
+w8(a+176,gm+1);
+nest_at_979(xb,a,b,c,yb);
+*Ab=*xb;
+Ab[1]=xb[1];
+Ab[2]=xb[2];
+Ab[3]=xb[3];
+goto L99;
+case 83:case 90:break;
+case 68:builtin_with_d_cb0(Ab,a,b,c);
+goto L99;
+case 84:template_parameter_3b0(Ab,a,b,c);
+goto L99;
+default:if((u8)(jm-49)>=9){
+xm=jm-97;
+if(xm>=26)goto L99;
+if(!(u8)(((u32)65829887>>xm)&1))goto L99;
+ym=rp((u8*)t_e7e8+(u64)xm*8);
+zm=r8((u8*)t_f635+(u64)xm*8);
+w8(a+176,gm+1);
+if(r8(a+32)-hm<zm){
+Am=make_ready_8e3(a,zm,128);
+if(!(Am&1))goto L101;
+Bm=r8(a+8);}
+else Bm=hm;
+Cm=r8(a+16);
+if(zm>Cm-Bm){
+Dm=grow_amortized_2b6(a,zm);
+if(!Dm)goto L101;
+Em=r8(a+16);
+Fm=r8(a+8);}
+else{
+Em=Cm;
+Fm=Bm;}
+Gm=Fm+zm;
+Hm=rp(a);
+z16(a+8);
+Im=Hm+(i64)Fm;
+if((u64)Im-(u64)ym<zm)copy_bits_4f4(ym,Im,zm);
+else memmove(Im,ym,zm);
+wp(a,Hm);
+w8(a+8,Gm);
+w8(a+16,Em);
+*Ab=1;
+Ab[1]=2;
+Ab[2]=0;
+Ab[3]=0;
+goto L99;
+L101:w4(Ab,0);
+goto L99;}
+break;}
+named_type_748(Ab,a,b,c);}
+L99:pm=Ab[3];
+qm=Ab[2];
+rm=Ab[1];
+sm=*Ab;
+L100:cm=pm;
+dm=qm;
+em=rm;
+fm=sm;
+goto L97;
+case 4:if(!(a[136]&1)){
+Jm=r4(a+120);
+Km=a[139];
+Lm=r8(a+8);
+Mm=r8(a+48);
+if(r8(a+72)>Mm)Nm=Mm;
+else{
+Om=make_ready_17a(a+40);
+if(!(Om&1))goto L102;
+Nm=r8(a+48);}
+Pm=rp(a+40)+Nm*12;
+x4(Pm,Jm);
+x4(Pm+4,Lm);
+Pm[8]=0;
+Pm[9]=Km;
+x2(Pm+10,0);
+w8(a+48,Nm+1);}
+Qm=r8(a+176);
+if(Qm<c){
+if(*(b+Qm)==73){
+memcpy(Db,a+120,20);
+z20(Db+20);
+Rm=r8(a+8);
+if(r8(a+32)>Rm)Sm=Rm;
+else{
+Tm=make_ready_8e3(a,1,16);
+if(!(Tm&1))goto L102;
+Sm=r8(a+8);}
+*(rp(a)+Sm)=60;
+w8(a+8,Sm+1);
+Um=r8(a+176);
+if(Um==18446744073709551615u)goto L102;
+w8(a+176,Um+1);
+Vm=r8(a+88);
+if(r8(a+112)>Vm)Wm=Vm;
+else{
+Xm=make_ready_9a1(a+80);
+if(!(Xm&1))goto L102;
+Wm=r8(a+88);}
+Ym=rp(a+80)+Wm*44;
+*Ym=6;
+Ym[1]=0;
+x2(Ym+2,0);
+memcpy(Ym+4,Db,40);
+w8(a+88,Wm+1);
+Zm=0;
+an=1;
+bn=3;}
+else{
+Zm=0;
+an=0;
+bn=6;}}
+else{
+Zm=0;
+an=0;
+bn=6;}
+break;
+case 5:cn=r8(a+176);
+if(cn<c){
+if(*(b+cn)==69){
+dn=a[132];
+if(dn==0){
+w8(a+176,cn+1);
+en=a[139];
+if(a[136]&1){
+Zm=en;
+an=0;
+bn=2;
+break;}
+fn=r4(a+120);
+gn=r8(a+8);
+hn=r8(a+48);
+if(r8(a+72)>hn)in=hn;
+else{
+jn=make_ready_17a(a+40);
+if(!(jn&1))goto L102;
+in=r8(a+48);}
+kn=rp(a+40)+in*12;
+x4(kn,fn);
+x4(kn+4,gn);
+kn[8]=0;
+kn[9]=en;
+x2(kn+10,0);
+w8(a+48,in+1);
+Zm=a[139];
+an=0;
+bn=2;
+break;}
+w4(ub,0);
+w8(a+176,cn+1);
+ln=a[133];
+switch(dn){
+case 3:addressed_named_968(ub,a,b,c,ln);
+mn=ub+1;
+nn=ub+2;
+on=ub+3;
+pn=ub;
+break;
+case 1:if(a[138]&1){
+qn=q2(a+140);
+rn=q2(a+142);
+memcpy(tb+4,a+144,16);
+sn=q8(a+160);
+tn=a[168];
+un=a[169];
+vn=a[170];
+wn=a[171];
+w2(tb,qn);
+w2(tb+2,rn);
+x8(tb+20,sn);
+tb[28]=tn;
+tb[29]=un;
+tb[30]=vn;
+tb[31]=wn;
+xn=a[137]&1;}
+else{
+z32(tb);
+xn=0;}
+name_ended_a18(ub,a,b,c,ln,xn,tb,r4(a+120));
+mn=ub+1;
+nn=ub+2;
+on=ub+3;
+pn=ub;
+break;
+case 2:if(a[138]&1){
+yn=r4(a+120);
+if(a[137]&1){
+enclosing_instance_0fc(sb,a,b,c,ln,r2(a+134),yn);
+mn=sb+1;
+nn=sb+2;
+on=sb+3;
+pn=sb;
+break;}
+zn=yn;}
+else zn=r4(a+120);
+enclosing_named_18f(ub,a,b,c,ln,zn);
+mn=ub+1;
+nn=ub+2;
+on=ub+3;
+pn=ub;
+break;
+default:NEVER;
+}
+cm=*on;
+dm=*nn;
+em=*mn;
+fm=*pn;
+goto L97;}}
+if(a[136]&1){
+Zm=0;
+an=0;
+bn=6;}
+else{
+An=r4(a+120);
+Bn=a[139];
+Cn=r8(a+8);
+Dn=r8(a+48);
+if(r8(a+72)>Dn)En=Dn;
+else{
+Fn=make_ready_17a(a+40);
+if(!(Fn&1))goto L102;
+En=r8(a+48);}
+Gn=rp(a+40)+En*12;
+x4(Gn,An);
+x4(Gn+4,Cn);
+Gn[8]=0;
+Gn[9]=Bn;
+x2(Gn+10,0);
+w8(a+48,En+1);
+Zm=0;
+an=0;
+bn=6;}
+break;
+case 6:case 2:case 3:Zm=pl;
+an=ql;
+bn=rl;
+break;
+default:NEVER;
+}
+Hn=bn;
+In=an;
+Jn=Zm;
+goto L103;
+L102:goto L72;
+L97:if(fm!=1)goto L72;
+Hn=em;
+In=dm;
+Jn=cm;
+L103:if(Hn!=6){
+Ln=Hn;
+Mn=In;
+Nn=Jn;
+goto L104;}
+Kn=0;
+L105:w4(Tb,0);
+On=r8(a+176);
+if(On<c){
+Pn=*(b+On);
+switch(Pn){
+case 67:constructor_f6d(Tb,a,b,c);
+break;
+case 68:destructor_7cd(Tb,a,b,c);
+break;
+case 76:w8(a+176,On+1);
+Qn=r8(a+8);
+if(r8(a+32)-Qn<2){
+Rn=make_ready_8e3(a,2,128);
+if(!(Rn&1))goto L106;
+Sn=r8(a+8);}
+else Sn=Qn;
+*(rp(a)+Sn)=58;
+*(rp(a)+(i64)Sn+1)=58;
+Tn=Sn+2;
+w8(a+8,Tn);
+Un=r8(a+176);
+z24(Qb);
+if(Un<c){
+Vn=*(b+Un);
+if((u8)(Vn-58)>=247){
+Wn=Tn;
+Xn=Un+1;
+if(Xn<c){
+Yn=*(b+Xn)-48;
+if(Yn<10){
+Zn=Un+2;
+if(Zn<c){
+if((u8)(*(b+Zn)-48)<10){
+long_name_at_8ad(Qb,b,c,Un);
+if(*Qb!=1)goto L106;
+ao=r8(Qb+8);
+bo=r8(Qb+16);
+goto L107;}}
+co=(u64)Yn+(u8)((u8)(Vn*10)+32);
+if(c-Zn<co)goto L108;
+if((u8)(*(b+(i64)Zn)-48)<10)goto L108;
+eo=co+Zn;
+fo=Zn;
+goto L109;}}
+go=Vn-48;
+if(c-Xn<go)goto L108;
+if((u8)(*(b+(i64)Xn)-48)<10)goto L108;
+eo=Xn+go;
+fo=Xn;
+L109:ao=fo;
+bo=eo;
+L107:w8(a+176,bo);
+ho=b+(i64)ao;
+io=bo-ao;
+if(bo!=ao){
+if(!(io<10||*ho!=95)){
+jo=parts_equal_58b((u8*)t_35ad,10,ho,10);
+if(jo){
+ko=(s_p_64){(u8*)t_62ff,21};
+goto L110;}}}
+lo=(s_p_64){0};lo.f0=ho;
+mo=lo;mo.f1=io;
+ko=mo;
+L110:no=ko.f0;
+oo=ko.f1;
+if(r8(a+32)-Tn<oo){
+po=make_ready_8e3(a,oo,128);
+if(!(po&1))goto L106;}
+qo=extend_from_slice_169(a,no,oo);
+if(qo&1)goto L106;
+ro=r8(a+8);
+so=a[139];
+w4(a+124,Wn);
+w4(a+128,ro);
+a[136]=0;
+a[137]=1;
+a[138]=0;
+to=r8(a+176);
+if(to>=c){
+Io=0;
+Jo=5;
+goto L111;}
+if(*(b+to)!=73){
+Io=0;
+Jo=5;
+goto L111;}
+uo=r4(a+120);
+vo=r8(a+48);
+if(r8(a+72)>vo)wo=vo;
+else{
+xo=make_ready_17a(a+40);
+if(!(xo&1))goto L112;
+wo=r8(a+48);}
+yo=rp(a+40)+wo*12;
+x4(yo,uo);
+x4(yo+4,ro);
+yo[8]=0;
+yo[9]=so;
+x2(yo+10,0);
+w8(a+48,wo+1);
+memcpy(Pb,a+120,20);
+z20(Pb+20);
+zo=r8(a+8);
+if(r8(a+32)>zo)Ao=zo;
+else{
+Bo=make_ready_8e3(a,1,16);
+if(!(Bo&1))goto L112;
+Ao=r8(a+8);}
+*(rp(a)+Ao)=60;
+w8(a+8,Ao+1);
+Co=r8(a+176);
+if(Co==18446744073709551615u)goto L112;
+w8(a+176,Co+1);
+Do=r8(a+88);
+if(r8(a+112)>Do){
+Eo=Do;
+Fo=Pb;
+goto L113;}
+Go=make_ready_9a1(a+80);
+if(!(Go&1))goto L112;
+Ho=Pb;
+goto L114;}}
+L108:goto L106;
+case 85:begin_component_d5a(Tb,a,b,c);
+break;
+default:if((u8)(Pn-97)>=26)goto L115;
+operator_2f3(Tb,a,b,c);
+break;}
+if(*Tb!=1)goto L72;
+Ko=Tb[1];
+Lo=Tb[2];
+Mo=Tb[3];
+goto L116;}
+L115:No=r8(a+8);
+if(r8(a+32)-No<2){
+Oo=make_ready_8e3(a,2,128);
+if(!(Oo&1))goto L106;
+Po=r8(a+8);}
+else Po=No;
+*(rp(a)+Po)=58;
+*(rp(a)+(i64)Po+1)=58;
+Qo=Po+2;
+w8(a+8,Qo);
+Ro=r8(a+176);
+z24(Sb);
+if(Ro<c){
+So=*(b+Ro);
+if((u8)(So-58)>=247){
+To=Qo;
+Uo=Ro+1;
+if(Uo<c){
+Vo=*(b+Uo)-48;
+if(Vo<10){
+Wo=Ro+2;
+if(Wo<c){
+if((u8)(*(b+Wo)-48)<10){
+long_name_at_8ad(Sb,b,c,Ro);
+if(*Sb!=1)goto L106;
+Xo=r8(Sb+8);
+Yo=r8(Sb+16);
+goto L117;}}
+Zo=(u64)Vo+(u8)((u8)(So*10)+32);
+if(c-Wo<Zo)goto L118;
+if((u8)(*(b+(i64)Wo)-48)<10)goto L118;
+ap=Zo+Wo;
+bp=Wo;
+goto L119;}}
+cp=So-48;
+if(c-Uo<cp)goto L118;
+if((u8)(*(b+(i64)Uo)-48)<10)goto L118;
+ap=Uo+cp;
+bp=Uo;
+L119:Xo=bp;
+Yo=ap;
+L117:w8(a+176,Yo);
+dp=b+(i64)Xo;
+ep=Yo-Xo;
+if(Yo!=Xo){
+if(!(ep<10||*dp!=95)){
+fp=parts_equal_58b((u8*)t_35ad,10,dp,10);
+if(fp){
+gp=(s_p_64){(u8*)t_62ff,21};
+goto L120;}}}
+hp=(s_p_64){0};hp.f0=dp;
+ip=hp;ip.f1=ep;
+gp=ip;
+L120:jp=gp.f0;
+kp=gp.f1;
+if(r8(a+32)-Qo<kp){
+lp=make_ready_8e3(a,kp,128);
+if(!(lp&1))goto L106;}
+np=extend_from_slice_169(a,jp,kp);
+if(np&1)goto L106;
+op=r8(a+8);
+pp=a[139];
+w4(a+124,To);
+w4(a+128,op);
+a[136]=0;
+a[137]=1;
+a[138]=0;
+sp=r8(a+176);
+if(sp>=c){
+Io=0;
+Jo=5;
+goto L111;}
+if(*(b+sp)!=73){
+Io=0;
+Jo=5;
+goto L111;}
+tp=r4(a+120);
+up=r8(a+48);
+if(r8(a+72)>up)vp=up;
+else{
+yp=make_ready_17a(a+40);
+if(!(yp&1))goto L112;
+vp=r8(a+48);}
+zp=rp(a+40)+vp*12;
+x4(zp,tp);
+x4(zp+4,op);
+zp[8]=0;
+zp[9]=pp;
+x2(zp+10,0);
+w8(a+48,vp+1);
+memcpy(Rb,a+120,20);
+z20(Rb+20);
+Ap=r8(a+8);
+if(r8(a+32)>Ap)Bp=Ap;
+else{
+Cp=make_ready_8e3(a,1,16);
+if(!(Cp&1))goto L112;
+Bp=r8(a+8);}
+*(rp(a)+Bp)=60;
+w8(a+8,Bp+1);
+Dp=r8(a+176);
+if(Dp==18446744073709551615u)goto L112;
+w8(a+176,Dp+1);
+Ep=r8(a+88);
+if(r8(a+112)>Ep){
+Eo=Ep;
+Fo=Rb;
+goto L113;}
+Fp=make_ready_9a1(a+80);
+if(!(Fp&1))goto L112;
+Ho=Rb;
+goto L114;}}
+L118:goto L106;
+L114:Eo=r8(a+88);
+Fo=Ho;
+L113:Gp=rp(a+80)+Eo*44;
+*Gp=5;
+Gp[1]=0;
+x2(Gp+2,0);
+memcpy(Gp+4,Fo,40);
+w8(a+88,Eo+1);
+Io=1;
+Jo=3;
+L111:Ko=Jo;
+Lo=Io;
+Mo=0;
+goto L116;
+L112:goto L72;
+L106:goto L72;
+L116:if(Ko==5){
+Hp=r8(a+176);
+if(Hp<c){
+if(*(b+Hp)==69){
+Ip=a[132];
+if(Ip==0){
+w8(a+176,Hp+1);
+Jp=a[139];
+if(a[136]&1){
+Kp=Jp;
+Lp=0;
+goto L121;}
+Mp=r4(a+120);
+Np=r8(a+8);
+Op=r8(a+48);
+if(r8(a+72)>Op)Pp=Op;
+else{
+Qp=make_ready_17a(a+40);
+if(!(Qp&1))goto L72;
+Pp=r8(a+48);}
+Rp=rp(a+40)+Pp*12;
+x4(Rp,Mp);
+x4(Rp+4,Np);
+Rp[8]=0;
+Rp[9]=Jp;
+x2(Rp+10,0);
+w8(a+48,Pp+1);
+Kp=a[139];
+Lp=0;
+goto L121;}
+w4(Wb,0);
+w8(a+176,Hp+1);
+Sp=a[133];
+switch(Ip){
+case 3:addressed_named_968(Wb,a,b,c,Sp);
+break;
+case 1:if(a[138]&1){
+Tp=q2(a+140);
+Up=q2(a+142);
+memcpy(Vb+4,a+144,16);
+Vp=q8(a+160);
+Wp=a[168];
+Xp=a[169];
+Yp=a[170];
+Zp=a[171];
+w2(Vb,Tp);
+w2(Vb+2,Up);
+x8(Vb+20,Vp);
+Vb[28]=Wp;
+Vb[29]=Xp;
+Vb[30]=Yp;
+Vb[31]=Zp;
+aq=a[137]&1;}
+else{
+z32(Vb);
+aq=0;}
+name_ended_a18(Wb,a,b,c,Sp,aq,Vb,r4(a+120));
+break;
+case 2:if(a[138]&1){
+if(a[137]&1){
+enclosing_instance_0fc(Ub,a,b,c,Sp,r2(a+134),r4(a+120));
+bq=Ub[3];
+cq=Ub[2];
+dq=Ub[1];
+eq=Ub;
+goto L122;}}
+enclosing_named_18f(Wb,a,b,c,Sp,r4(a+120));
+break;
+default:NEVER;
+}
+bq=Wb[3];
+cq=Wb[2];
+dq=Wb[1];
+eq=Wb;
+L122:if(*eq!=1)goto L72;
+Ln=dq;
+Mn=cq;
+Nn=bq;
+goto L104;}}
+if(!(a[136]&1)){
+fq=r4(a+120);
+gq=a[139];
+hq=r8(a+8);
+iq=r8(a+48);
+if(r8(a+72)>iq)jq=iq;
+else{
+kq=make_ready_17a(a+40);
+if(!(kq&1))goto L72;
+jq=r8(a+48);}
+lq=rp(a+40)+jq*12;
+x4(lq,fq);
+x4(lq+4,hq);
+lq[8]=0;
+lq[9]=gq;
+x2(lq+10,0);
+w8(a+48,jq+1);}
+mq=Kn+1;
+if(mq!=16){
+Kn=mq;
+goto L105;}
+nq=6;
+oq=0;
+pq=0;
+goto L123;}
+Ln=Ko;
+Mn=Lo;
+Nn=Mo;
+L104:if(Ln!=2){
+qq=Ln;
+rq=Mn;
+sq=Nn;
+goto L124;}
+Kp=Nn;
+Lp=Mn;
+L121:w4(pb,0);
+w4(qb,0);
+z32(rb);
+tq=r8(a+88);
+if(tq!=0){
+uq=Lp&1;
+vq=rp(a+80)+(i64)(tq*44);
+wq=vq[-44];
+xq=vq[-43];
+yq=q4(vq-40);
+zq=q4(vq-36);
+Aq=q2(vq-32);
+switch(wq){
+case 29:case 28:case 27:case 26:case 4:case 5:case 6:case 7:case 8:case 11:case 12:case 13:case 14:case 15:case 16:case 17:case 18:case 19:case 20:case 21:case 22:case 23:case 24:case 25:if(Kp&1){
+pass_dependent_3d7(pb,a,b,c);
+Bq=pb[3];
+Cq=pb[2];
+Dq=pb[1];
+Eq=*pb;
+goto L125;}
+Fq=q4(vq-4);
+w4(lb,0);
+switch(wq){
+case 22:returned_322(lb,a,b,c,xq&1);
+break;
+case 23:parameter_at_3ac(lb,a,b,c,xq&1,0);
+break;
+case 24:array_ended_1b3(lb,a,b,c,xq,yq,zq);
+break;
+case 12:enclosing_parameter_fc1(lb,a,b,c,yq,zq);
+break;
+case 13:instance_parameter_240(lb,a,b,c,xq,yq,zq);
+break;
+case 11:w2(ib,Aq);
+memcpy(ib+2,vq-30,26);
+x4(ib+28,Fq);
+enclosing_front_fa8(lb,a,xq,yq,zq,ib);
+break;
+case 17:w4(jb,zq);
+w2(jb+4,Aq);
+lambda_parameter_383(lb,a,b,c,yq,jb);
+break;
+case 18:member_parameter_7e4(lb,a,b,c,yq);
+break;
+case 15:w4(kb,zq);
+w2(kb+4,Aq);
+memcpy(kb+6,vq-30,26);
+addressed_front_54d(lb,a,b,c,xq,yq,kb);
+break;
+case 16:addressed_parameter_2cf(lb,a,b,c,yq);
+break;
+case 14:*lb=0;
+break;
+case 19:finish_8cd(lb,a,b,c);
+break;
+case 20:derived_ended_aef(lb,a,b,c);
+break;
+case 21:base_ended_299(lb,a,b,c,yq);
+break;
+case 29:enumerator_21c(lb,a,b,c);
+break;
+case 26:case 25:case 28:Gq=zq;
+Hq=Fq;
+w4(hb,0);
+switch(wq){
+case 26:w2(eb,zq>>16);
+w2(eb+2,Aq);
+memcpy(eb+4,vq-30,26);
+w2(eb+30,Hq);
+argument_enumerator_5cf(hb,a,b,c,yq,Gq,eb);
+break;
+case 25:w2(fb,zq>>16);
+w2(fb+2,Aq);
+memcpy(fb+4,vq-30,26);
+w2(fb+30,Hq);
+argument_ended_d25(hb,a,b,c,yq,Gq,fb,uq);
+break;
+case 28:w2(gb,zq>>16);
+w2(gb+2,Aq);
+memcpy(gb+4,vq-30,26);
+w2(gb+30,Hq);
+element_ended_6b8(hb,a,b,c,yq,Gq,gb,uq);
+break;
+case 27:*hb=0;
+break;
+default:NEVER;
+}
+Iq=hb[1];
+Jq=hb[2];
+Kq=hb[3];
+*lb=*hb;
+lb[1]=Iq;
+lb[2]=Jq;
+lb[3]=Kq;
+break;
+case 27:case 10:case 9:case 8:case 4:case 5:case 6:case 7:*lb=1;
+lb[1]=3;
+lb[2]=0;
+lb[3]=0;
+break;
+default:NEVER;
+}
+Bq=lb[3];
+Cq=lb[2];
+Dq=lb[1];
+Eq=*lb;
+goto L125;
+case 10:Lq=r8(a+176);
+if(Lq<c){
+switch(*(b+Lq)){
+case 69:case 46:case 0:break;
+default:w4(ob,zq);
+w2(ob+4,Aq);
+memcpy(ob+6,vq-30,26);
+w4(nb,0);
+if(ob[29]&1){
+expansion_52e(nb,a,b,c,0,yq,ob);
+Mq=nb[3];
+Nq=nb[2];
+Oq=nb[1];
+Pq=*nb;}
+else{
+Qq=r8(a+8);
+if(r8(a+32)-Qq<2){
+Rq=make_ready_8e3(a,2,128);
+if(!(Rq&1)){
+Mq=0;
+Nq=0;
+Oq=0;
+Pq=0;
+goto L126;}
+Sq=r8(a+8);}
+else Sq=Qq;
+*(rp(a)+Sq)=44;
+*(rp(a)+(i64)Sq+1)=32;
+w8(a+8,Sq+2);
+Mq=0;
+Nq=0;
+Oq=0;
+Pq=1;}
+L126:Bq=Mq;
+Cq=Nq;
+Dq=Oq;
+Eq=Pq;
+goto L125;
+}}
+Tq=r8(a+8);
+if(Tq>=5){
+Uq=rp(a)+(i64)Tq;
+Vq=0;
+Wq=0;
+L127:Xq=Vq||*((u8*)t_262b+(i64)Wq)!=*(Uq-5+(i64)Wq);
+Yq=Wq+1;
+if(Yq!=4){
+Vq=Xq;
+Wq=Yq;
+goto L127;}
+Zq=0;
+ar=0;
+L128:br=ar+1;
+cr=Zq||*((u8*)t_262b+(i64)br)!=*(Uq-5+(i64)br);
+if(br!=4){
+Zq=cr;
+ar=br;
+goto L128;}
+if(!(Xq|cr)){
+dr=0;
+er=0;
+fr=0;
+gr=0;
+goto L129;}}
+close_39a(mb,a,b,c,yq);
+dr=mb[3];
+er=mb[2];
+fr=mb[1];
+gr=*mb;
+L129:Bq=dr;
+Cq=er;
+Dq=fr;
+Eq=gr;
+goto L125;
+case 9:w4(rb,zq);
+w2(rb+4,Aq);
+memcpy(rb+6,vq-30,26);
+front_ended_665(qb,a,b,c,xq,yq,rb);
+Bq=qb[3];
+Cq=qb[2];
+Dq=qb[1];
+Eq=*qb;
+goto L125;
+case 0:w8(a+88,tq-1);
+hr=r8(a+8);
+if(r8(a+32)>hr)ir=hr;
+else{
+jr=make_ready_8e3(a,1,16);
+if(!(jr&1))goto L130;
+ir=r8(a+8);}
+*(rp(a)+ir)=42;
+kr=ir+1;
+w8(a+8,kr);
+lr=kr;
+mr=Kp&1;
+nr=r8(a+48);
+if(r8(a+72)>nr){
+or=nr;
+pr=lr;
+qr=0;
+rr=mr;
+goto L131;}
+sr=make_ready_17a(a+40);
+if(!(sr&1))goto L130;
+tr=lr;
+ur=0;
+vr=mr;
+break;
+case 1:if(uq)goto L130;
+w8(a+88,tq-1);
+wr=r8(a+8);
+if(r8(a+32)>wr)xr=wr;
+else{
+yr=make_ready_8e3(a,1,16);
+if(!(yr&1))goto L130;
+xr=r8(a+8);}
+*(rp(a)+xr)=38;
+zr=xr+1;
+w8(a+8,zr);
+Ar=zr;
+Br=Kp&1;
+Cr=r8(a+48);
+if(r8(a+72)>Cr){
+or=Cr;
+pr=Ar;
+qr=1;
+rr=Br;
+goto L131;}
+Dr=make_ready_17a(a+40);
+if(!(Dr&1))goto L130;
+tr=Ar;
+ur=1;
+vr=Br;
+break;
+case 2:if(uq)goto L130;
+w8(a+88,tq-1);
+Er=r8(a+8);
+if(r8(a+32)-Er<2){
+Fr=make_ready_8e3(a,2,128);
+if(!(Fr&1))goto L130;
+Gr=r8(a+8);}
+else Gr=Er;
+*(rp(a)+Gr)=38;
+*(rp(a)+(i64)Gr+1)=38;
+Hr=Gr+2;
+w8(a+8,Hr);
+Ir=Hr;
+Jr=Kp&1;
+Kr=r8(a+48);
+if(r8(a+72)>Kr){
+or=Kr;
+pr=Ir;
+qr=1;
+rr=Jr;
+goto L131;}
+Lr=make_ready_17a(a+40);
+if(!(Lr&1))goto L130;
+tr=Ir;
+ur=1;
+vr=Jr;
+break;
+case 3:if(uq)goto L130;
+w8(a+88,tq-1);
+if(r8(a+32)-r8(a+8)<6){
+Mr=make_ready_8e3(a,6,128);
+if(!(Mr&1))goto L130;}
+Nr=extend_from_slice_169(a,(u8*)t_f603,6);
+if(Nr&1)goto L130;
+Or=r8(a+8);
+Pr=Kp&1;
+Qr=r8(a+48);
+if(r8(a+72)>Qr){
+or=Qr;
+pr=Or;
+qr=0;
+rr=Pr;
+goto L131;}
+Rr=make_ready_17a(a+40);
+if(!(Rr&1))goto L130;
+tr=Or;
+ur=0;
+vr=Pr;
+break;
+default:NEVER;
+}
+or=r8(a+48);
+pr=tr;
+qr=ur;
+rr=vr;
+L131:Sr=rp(a+40)+or*12;
+x4(Sr,yq);
+x4(Sr+4,pr);
+Sr[8]=qr;
+Sr[9]=rr;
+x2(Sr+10,0);
+w8(a+48,or+1);
+nq=2;
+oq=qr;
+pq=rr;
+goto L123;
+L125:if(Eq!=1)goto L72;
+qq=Dq;
+rq=Cq;
+sq=Bq;
+goto L124;}
+L130:goto L72;
+L124:if(qq==3){
+Tr=rq&1;
+w4(cb,0);
+Ur=r8(a+176);
+if(Ur<c){
+Vr=*(b+Ur);
+switch(Vr){
+case 69:w4(ab,0);
+w8(a+176,Ur+1);
+Wr=r8(a+88);
+if(Wr==0){
+Xr=0;
+Yr=0;
+Zr=0;
+as=0;}
+else{
+if(*(rp(a+80)+(i64)(Wr*44)-44)==27){
+if(Tr){
+Xr=0;
+Yr=0;
+Zr=0;
+as=0;}
+else{
+w8(a+88,Wr-1);
+Xr=0;
+Yr=0;
+Zr=3;
+as=1;}}
+else{
+z32(bb);
+close_list_299(ab,a,b,c,bb);
+Xr=ab[3];
+Yr=ab[2];
+Zr=ab[1];
+as=*ab;}}
+bs=Zr;
+cs=as;
+ds=Yr;
+es=Xr;
+goto L132;
+case 74:fs=Ur+1;
+if(fs<c){
+if(*(b+fs)==69){
+empty_pack_079(cb,a,b,c,Tr);
+bs=cb[1];
+cs=*cb;
+ds=cb[2];
+es=cb[3];
+goto L132;}}
+if(!Tr){
+gs=74;
+goto L133;}
+first_pack_117(cb,a,b,c);
+bs=cb[1];
+cs=*cb;
+ds=cb[2];
+es=cb[3];
+goto L132;
+default:hs=Vr;
+break;}}
+else hs=0;
+if(Tr){
+is=hs;
+goto L134;}
+gs=hs;
+L133:js=r8(a+8);
+if(r8(a+32)-js<2){
+ks=make_ready_8e3(a,2,128);
+if(!(ks&1))goto L135;
+ls=r8(a+8);}
+else ls=js;
+*(rp(a)+ls)=44;
+*(rp(a)+(i64)ls+1)=32;
+w8(a+8,ls+2);
+is=gs;
+L134:switch(is){
+case 76:if(Tr){
+first_literal_8ab(cb,a,b,c);
+bs=cb[1];
+cs=*cb;
+ds=cb[2];
+es=cb[3];
+goto L132;}
+literal_9c1(db,a,b,c);
+bs=db[1];
+cs=*db;
+ds=db[2];
+es=db[3];
+goto L132;
+case 74:ms=r8(a+88);
+if(ms==0)goto L135;
+ns=rp(a+80);
+os=ms*44;
+if(*(ns+(i64)os-44)==27)goto L135;
+ps=r8(a+176);
+if(ps==18446744073709551615u)goto L135;
+w8(a+176,ps+1);
+if(r8(a+112)>ms){
+qs=os;
+rs=ns;
+ss=ms;}
+else{
+ts=make_ready_9a1(a+80);
+if(!(ts&1))goto L135;
+us=r8(a+88);
+qs=us*44;
+rs=rp(a+80);
+ss=us;}
+vs=rs+qs;
+*vs=27;
+z43(vs+1);
+ws=ss;
+xs=3;
+ys=1;
+break;
+default:if(!Tr){
+As=0;
+Bs=0;
+goto L136;}
+zs=r8(a+88);
+if(zs==0){
+As=0;
+Bs=0;
+goto L136;}
+Cs=rp(a+80);
+Ds=zs*44;
+Es=Cs+(i64)Ds;
+switch(Es[-44]){
+case 5:if(Es[-28]==0){
+As=0;
+Bs=0;
+goto L136;}
+break;
+case 7:break;
+case 0:case 1:case 2:case 3:case 4:case 6:case 8:case 9:case 10:case 11:case 12:case 13:case 14:case 15:case 16:case 17:case 18:case 19:case 20:case 21:case 22:case 23:case 24:case 25:case 26:case 27:case 28:case 29:As=0;
+Bs=0;
+goto L136;
+default:NEVER;
+}
+Fs=r8(a+176);
+if(Fs<c){
+Gs=b+(i64)Fs;
+switch(*Gs){
+case 65:case 70:As=0;
+Bs=0;
+goto L136;
+case 80:case 82:if(usub64(c,Fs)>=2){
+switch(Gs[1]){
+case 70:case 65:As=0;
+Bs=0;
+goto L136;
+default:break;}}
+break;
+default:break;}}
+Hs=r8(a+8);
+if(r8(a+112)>zs){
+Is=Ds;
+Js=Cs;
+Ks=zs;}
+else{
+Ls=make_ready_9a1(a+80);
+if(!(Ls&1))goto L135;
+Ms=r8(a+88);
+Is=Ms*44;
+Js=rp(a+80);
+Ks=Ms;}
+Ns=Js+Is;
+*Ns=25;
+Ns[1]=0;
+x2(Ns+2,0);
+x4(Ns+4,Hs);
+z36(Ns+8);
+ws=Ks;
+xs=0;
+ys=0;
+break;}
+w8(a+88,ws+1);
+As=xs;
+Bs=ys;
+L136:nq=As;
+oq=Bs;
+pq=0;
+goto L123;
+L132:if(cs!=1)goto L72;
+nq=bs;
+oq=ds;
+pq=es;
+goto L123;
+L135:goto L72;}
+nq=qq;
+oq=rq;
+pq=sq;
+L123:Os=ol+1;
+if(Os==nl)goto L72;
+ol=Os;
+pl=pq;
+ql=oq;
+rl=nq;
+goto L91;}}}
+L81:;}
+L72:break;
+case 1:if(!fc){
+if(c<16){
+Ps=are_few_named_14c(b,c);
+if(!Ps)goto L137;}
+else{
+Qs=c-16;
+if(Qs==0)goto L138;
+Rs=0;
+L139:Ss=v16_at(b+Rs);
+if((v16_ult(Ss,splat(33))|v16_eq(Ss,splat(127)))!=0)goto L137;
+Ts=Rs+16;
+if(Ts<Qs){
+Rs=Ts;
+goto L139;}
+L138:Us=v16_at(b+Qs);
+if((v16_ult(Us,splat(33))|v16_eq(Us,splat(127)))!=0)goto L137;}
+w4(Qa,0);
+w4(Ra,0);
+if(c!=0){
+if(c!=1&&*b==95){
+if(b[1]==90){
+if(c>=3){
+Vs=b[2];
+if(c<5){
+if(Vs==90){
+w8(a+176,3);
+w4(Ma,0);
+if(c==3)goto L140;
+Ws=a+176;
+goto L141;}
+if((c!=3)&(Vs==71)){
+if(b[3]==86)goto L142;
+goto L143;}
+switch(Vs){
+case 71:goto L143;
+case 84:if(c==3)goto L144;
+break;
+default:goto L145;
+}}
+else{
+switch(Vs){
+case 90:w8(a+176,3);
+w4(Ma,0);
+Ws=a+176;
+goto L141;
+case 71:if(b[3]!=86)goto L143;
+if(b[4]!=90)goto L142;
+if(ac<19){
+Xs=make_ready_8e3(a,19,128);
+if(!(Xs&1))goto L146;
+Ys=r8(a+16);
+Zs=r8(a+8);}
+else{
+Ys=Zb;
+Zs=0;}
+if(Ys-Zs<19){
+at=grow_amortized_2b6(a,19);
+if(!at)goto L146;
+bt=r8(a+16);
+ct=r8(a+8);}
+else{
+bt=Ys;
+ct=Zs;}
+dt=ct+19;
+et=rp(a);
+z16(a+8);
+ft=et+(i64)ct;
+if((u64)ft-(u64)(u8*)t_c270<19)copy_bits_4f4((u8*)t_c270,ft,19);
+else memcpy(ft,(u8*)t_c270,19);
+wp(a,et);
+w8(a+8,dt);
+w8(a+16,bt);
+w8(a+176,5);
+w4(Ja,0);
+if(c!=5){
+gt=b[5];
+switch(gt){
+case 78:w4(Ha,0);
+w4(Ia,1);
+w8(a+176,6);
+if(c!=6){
+switch(b[6]){
+case 75:if(c<=7){
+ht=1;
+it=7;
+goto L147;}
+switch(b[7]){
+case 82:ht=3;
+it=8;
+goto L147;
+case 79:ht=5;
+it=8;
+goto L147;
+default:ht=1;
+it=7;
+goto L147;
+}
+break;
+case 82:ht=2;
+it=7;
+goto L147;
+case 79:ht=4;
+it=7;
+goto L147;
+default:break;}}
+ht=0;
+it=6;
+L147:w8(a+176,it);
+Ia[1]=ht;
+nest_at_de1(Ha,a,b,c,Ia);
+*Ja=*Ha;
+Ja[1]=Ha[1];
+Ja[2]=Ha[2];
+Ja[3]=Ha[3];
+goto L148;
+case 76:w8(a+176,6);
+begin_name_38a(Ja,a,b,c);
+goto L148;
+case 83:begin_in_std_51a(Ja,a,b,c);
+goto L148;
+default:if((u8)(gt-97)<26){
+begin_operator_bf3(Ja,a,b,c);
+goto L148;}
+break;}}
+begin_name_38a(Ja,a,b,c);
+L148:jt=Ja[3];
+kt=Ja[2];
+lt=Ja[1];
+mt=*Ja;
+goto L149;
+case 84:break;
+default:goto L145;
+}}
+switch(b[3]){
+case 104:begin_thunk_acc(Ra,a,b,c);
+goto L150;
+case 118:begin_virtual_thunk_3f7(Ra,a,b,c);
+goto L150;
+case 67:begin_clone_893(Ra);
+goto L150;
+default:break;}
+L144:begin_special_44d(Ra,a,b,c);
+L150:jt=Ra[3];
+kt=Ra[2];
+lt=Ra[1];
+mt=*Ra;
+goto L149;
+L145:w8(a+176,2);
+w4(Pa,0);
+nt=b[2];
+switch(nt){
+case 78:w4(Na,0);
+w4(Oa,1);
+w8(a+176,3);
+if(c!=3){
+switch(b[3]){
+case 75:if(c<=4){
+ot=1;
+pt=4;
+goto L151;}
+switch(b[4]){
+case 82:ot=3;
+pt=5;
+goto L151;
+case 79:ot=5;
+pt=5;
+goto L151;
+default:ot=1;
+pt=4;
+goto L151;
+}
+break;
+case 82:ot=2;
+pt=4;
+goto L151;
+case 79:ot=4;
+pt=4;
+goto L151;
+default:break;}}
+ot=0;
+pt=3;
+L151:w8(a+176,pt);
+Oa[1]=ot;
+nest_at_de1(Na,a,b,c,Oa);
+*Pa=*Na;
+Pa[1]=Na[1];
+Pa[2]=Na[2];
+Pa[3]=Na[3];
+goto L152;
+case 76:w8(a+176,3);
+begin_name_38a(Pa,a,b,c);
+goto L152;
+case 83:begin_in_std_51a(Pa,a,b,c);
+goto L152;
+default:if((u8)(nt-97)>=26)goto L153;
+begin_operator_bf3(Pa,a,b,c);
+goto L152;
+}
+L143:begin_clone_893(Qa);
+jt=Qa[3];
+kt=Qa[2];
+lt=Qa[1];
+mt=*Qa;
+goto L149;
+L142:begin_object_056(Qa,a,b,c);
+jt=Qa[3];
+kt=Qa[2];
+lt=Qa[1];
+mt=*Qa;
+goto L149;
+L141:qt=b[3];
+switch(qt){
+case 78:w4(Ka,0);
+w4(La,1);
+w8(Ws,4);
+if(c>4){
+switch(b[4]){
+case 75:if(c==5){
+rt=1;
+st=5;
+goto L154;}
+switch(b[5]){
+case 82:rt=3;
+st=6;
+goto L154;
+case 79:rt=5;
+st=6;
+goto L154;
+default:rt=1;
+st=5;
+goto L154;
+}
+break;
+case 82:rt=2;
+st=5;
+goto L154;
+case 79:rt=4;
+st=5;
+goto L154;
+default:break;}}
+rt=0;
+st=4;
+L154:w8(Ws,st);
+La[1]=rt;
+nest_at_de1(Ka,a,b,c,La);
+*Ma=*Ka;
+Ma[1]=Ka[1];
+Ma[2]=Ka[2];
+Ma[3]=Ka[3];
+goto L155;
+case 76:w8(Ws,4);
+begin_name_38a(Ma,a,b,c);
+goto L155;
+case 83:begin_in_std_51a(Ma,a,b,c);
+goto L155;
+default:if((u8)(qt-97)<26){
+begin_operator_bf3(Ma,a,b,c);
+goto L155;}
+break;}
+L140:begin_name_38a(Ma,a,b,c);
+L155:jt=Ma[3];
+kt=Ma[2];
+lt=Ma[1];
+mt=*Ma;
+goto L149;}
+w8(a+176,2);
+w4(Pa,0);
+L153:begin_name_38a(Pa,a,b,c);
+L152:jt=Pa[3];
+kt=Pa[2];
+lt=Pa[1];
+mt=*Pa;
+L149:if(mt!=1)goto L137;
+tt=c<<3;
+ut=0;
+vt=jt;
+wt=kt;
+xt=lt;
+L156:if(xt==7){
+yt=r8(a+8);
+if(yt>Xb)goto L137;
+zt=rp(a);
+if(yt==0)goto L157;
+At=0;
+Bt=0;
+Ct=0;
+L158:Dt=At;
+L159:if(yt-Dt>15){
+Et=cttz(v16_ult(v16_at(zt+Dt),splat(3)),16);
+Ft=Dt+Et;
+if(Et>=16){
+Dt=Ft;
+goto L159;}
+Gt=Ft;}
+else{
+if(Dt>=yt){
+Gt=Dt;
+goto L160;}
+Ht=Dt;
+L161:if(*(zt+Ht)>2){
+It=Ht+1;
+if(It!=yt){
+Ht=It;
+goto L161;}
+Gt=yt;}
+else Gt=Ht;}
+L160:if(Ct==0){
+if(Bt<At){
+if(Gt!=At){
+Jt=Gt-At;
+Kt=zt+(i64)At;
+Lt=zt+(i64)Bt;
+Mt=0;
+L162:*(Lt+(i64)Mt)=*(Kt+(i64)Mt);
+Nt=Mt+1;
+if(Nt!=Jt){
+Mt=Nt;
+goto L162;}}}
+Ot=Bt-At+Gt;}
+else Ot=Bt;
+if(Gt!=yt){
+switch(*(zt+Gt)){
+case 1:Pt=Ct+1;
+break;
+case 2:Pt=usub64(Ct,1);
+break;
+default:goto L137;
+}
+Qt=Gt+1;
+if(Qt<yt){
+At=Qt;
+Bt=Ot;
+Ct=Pt;
+goto L158;}}
+if(r8(a+8)>Ot)w8(a+8,Ot);
+L157:goto L1;}
+w8(a+184,r8(a+184)+1);
+switch(xt){
+case 0:w4(Ea,0);
+w4(Fa,0);
+Rt=r8(a+176);
+if(Rt<c){
+St=r8(a+8);
+Tt=St;
+Ut=*(b+Rt);
+switch(Ut){
+case 80:w4(Ca,0);
+Vt=Rt+1;
+if(Vt<c){
+switch(*(b+Vt)){
+case 70:begin_function_7aa(Ca,a,1);
+*Fa=*Ca;
+Fa[1]=Ca[1];
+Fa[2]=Ca[2];
+Wt=Ca[3];
+goto L163;
+case 65:begin_array_86f(Ca,a,b,c,1);
+*Fa=*Ca;
+Fa[1]=Ca[1];
+Fa[2]=Ca[2];
+Wt=Ca[3];
+goto L163;
+default:break;}}
+w8(a+176,Vt);
+Xt=r8(a+88);
+if(r8(a+112)>Xt)Yt=Xt;
+else{
+Zt=make_ready_9a1(a+80);
+if(!(Zt&1)){
+au=0;
+goto L164;}
+Yt=r8(a+88);}
+bu=rp(a+80)+Yt*44;
+*bu=0;
+bu[1]=0;
+x2(bu+2,0);
+x4(bu+4,Tt);
+z36(bu+8);
+w8(a+88,Yt+1);
+au=1;
+L164:*Fa=au;
+Fa[1]=0;
+Fa[2]=0;
+Wt=0;
+L163:Fa[3]=Wt;
+cu=Fa+1;
+du=Fa+2;
+eu=Fa+3;
+fu=Fa;
+goto L165;
+case 70:begin_function_7aa(Fa,a,0);
+cu=Fa+1;
+du=Fa+2;
+eu=Fa+3;
+fu=Fa;
+goto L165;
+case 82:gu=Rt+1;
+if(gu<c){
+if(*(b+gu)==65){
+begin_array_86f(Ea,a,b,c,2);
+cu=Ea+1;
+du=Ea+2;
+eu=Ea+3;
+fu=Ea;
+goto L165;}}
+w8(a+176,gu);
+hu=r8(a+88);
+if(r8(a+112)>hu)iu=hu;
+else{
+ju=make_ready_9a1(a+80);
+if(!(ju&1)){
+w4(Fa,0);
+cu=Fa+1;
+du=Fa+2;
+eu=Fa+3;
+fu=Fa;
+goto L165;}
+iu=r8(a+88);}
+ku=rp(a+80)+iu*44;
+*ku=1;
+ku[1]=0;
+x2(ku+2,0);
+x4(ku+4,Tt);
+z36(ku+8);
+w8(a+88,iu+1);
+*Fa=1;
+Fa[1]=0;
+Fa[2]=0;
+Fa[3]=0;
+cu=Fa+1;
+du=Fa+2;
+eu=Fa+3;
+fu=Fa;
+goto L165;
+case 65:begin_array_86f(Fa,a,b,c,0);
+cu=Fa+1;
+du=Fa+2;
+eu=Fa+3;
+fu=Fa;
+goto L165;
+case 79:rvalue_at_e1d(Fa,a,b,c);
+cu=Fa+1;
+du=Fa+2;
+eu=Fa+3;
+fu=Fa;
+goto L165;
+case 75:w8(a+176,Rt+1);
+lu=r8(a+88);
+if(r8(a+112)>lu)mu=lu;
+else{
+nu=make_ready_9a1(a+80);
+if(!(nu&1)){
+w4(Fa,0);
+cu=Fa+1;
+du=Fa+2;
+eu=Fa+3;
+fu=Fa;
+goto L165;}
+mu=r8(a+88);}
+ou=rp(a+80)+mu*44;
+*ou=3;
+ou[1]=0;
+x2(ou+2,0);
+x4(ou+4,Tt);
+z36(ou+8);
+w8(a+88,mu+1);
+*Fa=1;
+Fa[1]=1;
+Fa[2]=0;
+Fa[3]=0;
+cu=Fa+1;
+du=Fa+2;
+eu=Fa+3;
+fu=Fa;
+goto L165;
+case 78:w4(ya,0);
+w4(za,0);
+w8(a+176,Rt+1);
+nest_at_de1(ya,a,b,c,za);
+*Fa=*ya;
+Fa[1]=ya[1];
+Fa[2]=ya[2];
+Fa[3]=ya[3];
+cu=Fa+1;
+du=Fa+2;
+eu=Fa+3;
+fu=Fa;
+goto L165;
+case 83:case 90:break;
+case 68:builtin_with_d_cb0(Fa,a,b,c);
+cu=Fa+1;
+du=Fa+2;
+eu=Fa+3;
+fu=Fa;
+goto L165;
+case 84:template_parameter_3b0(Fa,a,b,c);
+cu=Fa+1;
+du=Fa+2;
+eu=Fa+3;
+fu=Fa;
+goto L165;
+default:if((u8)(Ut-49)>=9){
+pu=Ut-97;
+if(pu>=26){
+cu=Fa+1;
+du=Fa+2;
+eu=Fa+3;
+fu=Fa;
+goto L165;}
+if(!(u8)(((u32)65829887>>pu)&1)){
+cu=Fa+1;
+du=Fa+2;
+eu=Fa+3;
+fu=Fa;
+goto L165;}
+qu=rp((u8*)t_e7e8+(u64)pu*8);
+ru=r8((u8*)t_f635+(u64)pu*8);
+w8(a+176,Rt+1);
+if(r8(a+32)-St<ru){
+su=make_ready_8e3(a,ru,128);
+if(!(su&1))goto L166;
+tu=r8(a+8);}
+else tu=St;
+uu=r8(a+16);
+if(ru>uu-tu){
+vu=grow_amortized_2b6(a,ru);
+if(!vu)goto L166;
+wu=r8(a+16);
+xu=r8(a+8);}
+else{
+wu=uu;
+xu=tu;}
+yu=xu+ru;
+zu=rp(a);
+z16(a+8);
+Au=zu+(i64)xu;
+if((u64)Au-(u64)qu<ru)copy_bits_4f4(qu,Au,ru);
+else memmove(Au,qu,ru);
+wp(a,zu);
+w8(a+8,yu);
+w8(a+16,wu);
+*Fa=1;
+Fa[1]=2;
+Fa[2]=0;
+Fa[3]=0;
+cu=Fa+1;
+du=Fa+2;
+eu=Fa+3;
+fu=Fa;
+goto L165;
+L166:w4(Fa,0);
+cu=Fa+1;
+du=Fa+2;
+eu=Fa+3;
+fu=Fa;
+goto L165;}
+break;}
+named_type_e9a(Fa,a,b,c);
+cu=Fa+1;
+du=Fa+2;
+eu=Fa+3;
+fu=Fa;}
+else{
+cu=Fa+1;
+du=Fa+2;
+eu=Fa+3;
+fu=Fa;}
+L165:Bu=*eu;
+Cu=*du;
+Du=*cu;
+Eu=*fu;
+goto L167;
+case 1:w4(Da,0);
+Fu=r8(a+176);
+if(Fu<c){
+Gu=r8(a+8);
+Hu=Gu;
+Iu=*(b+Fu);
+switch(Iu){
+case 80:w8(a+176,Fu+1);
+Ju=r8(a+88);
+if(r8(a+112)>Ju)Ku=Ju;
+else{
+Lu=make_ready_9a1(a+80);
+if(!(Lu&1)){
+Mu=0;
+goto L168;}
+Ku=r8(a+88);}
+Nu=rp(a+80)+Ku*44;
+*Nu=0;
+Nu[1]=0;
+x2(Nu+2,0);
+x4(Nu+4,Hu);
+z36(Nu+8);
+w8(a+88,Ku+1);
+Mu=1;
+L168:*Da=Mu;
+Da[1]=0;
+Da[2]=0;
+Da[3]=0;
+goto L169;
+case 70:case 65:case 75:Ou=0;
+Pu=0;
+Qu=0;
+Ru=0;
+goto L170;
+case 82:w8(a+176,Fu+1);
+Su=r8(a+88);
+if(r8(a+112)>Su)Tu=Su;
+else{
+Uu=make_ready_9a1(a+80);
+if(!(Uu&1)){
+w4(Da,0);
+goto L169;}
+Tu=r8(a+88);}
+Vu=rp(a+80)+Tu*44;
+*Vu=1;
+Vu[1]=0;
+x2(Vu+2,0);
+x4(Vu+4,Hu);
+z36(Vu+8);
+w8(a+88,Tu+1);
+*Da=1;
+Da[1]=0;
+Da[2]=0;
+Da[3]=0;
+goto L169;
+case 79:rvalue_at_e1d(Da,a,b,c);
+goto L169;
+case 78:w4(Aa,0);
+w4(Ba,0);
+w8(a+176,Fu+1);
+nest_at_de1(Aa,a,b,c,Ba);
+*Da=*Aa;
+Da[1]=Aa[1];
+Da[2]=Aa[2];
+Da[3]=Aa[3];
+goto L169;
+case 83:case 90:break;
+case 68:builtin_with_d_cb0(Da,a,b,c);
+goto L169;
+case 84:template_parameter_3b0(Da,a,b,c);
+goto L169;
+default:if((u8)(Iu-49)>=9){
+Wu=Iu-97;
+if(Wu>=26)goto L169;
+if(!(u8)(((u32)65829887>>Wu)&1))goto L169;
+Xu=rp((u8*)t_e7e8+(u64)Wu*8);
+Yu=r8((u8*)t_f635+(u64)Wu*8);
+w8(a+176,Fu+1);
+if(r8(a+32)-Gu<Yu){
+Zu=make_ready_8e3(a,Yu,128);
+if(!(Zu&1))goto L171;
+av=r8(a+8);}
+else av=Gu;
+bv=r8(a+16);
+if(Yu>bv-av){
+cv=grow_amortized_2b6(a,Yu);
+if(!cv)goto L171;
+dv=r8(a+16);
+ev=r8(a+8);}
+else{
+dv=bv;
+ev=av;}
+fv=ev+Yu;
+gv=rp(a);
+z16(a+8);
+hv=gv+(i64)ev;
+if((u64)hv-(u64)Xu<Yu)copy_bits_4f4(Xu,hv,Yu);
+else memmove(hv,Xu,Yu);
+wp(a,gv);
+w8(a+8,fv);
+w8(a+16,dv);
+*Da=1;
+Da[1]=2;
+Da[2]=0;
+Da[3]=0;
+goto L169;
+L171:w4(Da,0);
+goto L169;}
+break;}
+named_type_e9a(Da,a,b,c);}
+L169:Ou=Da[3];
+Pu=Da[2];
+Qu=Da[1];
+Ru=*Da;
+L170:Bu=Ou;
+Cu=Pu;
+Du=Qu;
+Eu=Ru;
+goto L167;
+case 4:if(!(a[136]&1)){
+iv=r4(a+120);
+jv=a[139];
+kv=r8(a+8);
+lv=r8(a+48);
+if(r8(a+72)>lv)mv=lv;
+else{
+nv=make_ready_17a(a+40);
+if(!(nv&1))goto L172;
+mv=r8(a+48);}
+ov=rp(a+40)+mv*12;
+x4(ov,iv);
+x4(ov+4,kv);
+ov[8]=0;
+ov[9]=jv;
+x2(ov+10,0);
+w8(a+48,mv+1);}
+pv=r8(a+176);
+if(pv<c){
+if(*(b+pv)==73){
+memcpy(Ga,a+120,20);
+z20(Ga+20);
+qv=r8(a+8);
+if(r8(a+32)>qv)rv=qv;
+else{
+sv=make_ready_8e3(a,1,16);
+if(!(sv&1))goto L172;
+rv=r8(a+8);}
+*(rp(a)+rv)=1;
+w8(a+8,rv+1);
+tv=r8(a+176);
+if(tv==18446744073709551615u)goto L172;
+w8(a+176,tv+1);
+uv=r8(a+88);
+if(r8(a+112)>uv)vv=uv;
+else{
+wv=make_ready_9a1(a+80);
+if(!(wv&1))goto L172;
+vv=r8(a+88);}
+xv=rp(a+80)+vv*44;
+*xv=6;
+xv[1]=0;
+x2(xv+2,0);
+memcpy(xv+4,Ga,40);
+w8(a+88,vv+1);
+yv=0;
+zv=1;
+Av=3;}
+else{
+yv=0;
+zv=0;
+Av=6;}}
+else{
+yv=0;
+zv=0;
+Av=6;}
+break;
+case 5:Bv=r8(a+176);
+if(Bv<c){
+if(*(b+Bv)==69){
+Cv=a[132];
+if(Cv==0){
+w8(a+176,Bv+1);
+Dv=a[139];
+if(a[136]&1){
+yv=Dv;
+zv=0;
+Av=2;
+break;}
+Ev=r4(a+120);
+Fv=r8(a+8);
+Gv=r8(a+48);
+if(r8(a+72)>Gv)Hv=Gv;
+else{
+Iv=make_ready_17a(a+40);
+if(!(Iv&1))goto L172;
+Hv=r8(a+48);}
+Jv=rp(a+40)+Hv*12;
+x4(Jv,Ev);
+x4(Jv+4,Fv);
+Jv[8]=0;
+Jv[9]=Dv;
+x2(Jv+10,0);
+w8(a+48,Hv+1);
+yv=a[139];
+zv=0;
+Av=2;
+break;}
+w4(xa,0);
+w8(a+176,Bv+1);
+Kv=a[133];
+switch(Cv){
+case 3:addressed_named_a52(xa,a,b,c,Kv);
+Lv=xa+1;
+Mv=xa+2;
+Nv=xa+3;
+Ov=xa;
+break;
+case 1:if(a[138]&1){
+Pv=q2(a+140);
+Qv=q2(a+142);
+memcpy(wa+4,a+144,16);
+Rv=q8(a+160);
+Sv=a[168];
+Tv=a[169];
+Uv=a[170];
+Vv=a[171];
+w2(wa,Pv);
+w2(wa+2,Qv);
+x8(wa+20,Rv);
+wa[28]=Sv;
+wa[29]=Tv;
+wa[30]=Uv;
+wa[31]=Vv;
+Wv=a[137]&1;}
+else{
+z32(wa);
+Wv=0;}
+name_ended_8aa(xa,a,b,c,Kv,Wv,wa,r4(a+120));
+Lv=xa+1;
+Mv=xa+2;
+Nv=xa+3;
+Ov=xa;
+break;
+case 2:if(a[138]&1){
+Xv=r4(a+120);
+if(a[137]&1){
+enclosing_instance_e2f(va,a,b,c,Kv,r2(a+134),Xv);
+Lv=va+1;
+Mv=va+2;
+Nv=va+3;
+Ov=va;
+break;}
+Yv=Xv;}
+else Yv=r4(a+120);
+enclosing_named_54a(xa,a,b,c,Kv,Yv);
+Lv=xa+1;
+Mv=xa+2;
+Nv=xa+3;
+Ov=xa;
+break;
+default:NEVER;
+}
+Bu=*Nv;
+Cu=*Mv;
+Du=*Lv;
+Eu=*Ov;
+goto L167;}}
+if(a[136]&1){
+yv=0;
+zv=0;
+Av=6;}
+else{
+Zv=r4(a+120);
+aw=a[139];
+bw=r8(a+8);
+cw=r8(a+48);
+if(r8(a+72)>cw)dw=cw;
+else{
+ew=make_ready_17a(a+40);
+if(!(ew&1))goto L172;
+dw=r8(a+48);}
+fw=rp(a+40)+dw*12;
+x4(fw,Zv);
+x4(fw+4,bw);
+fw[8]=0;
+fw[9]=aw;
+x2(fw+10,0);
+w8(a+48,dw+1);
+yv=0;
+zv=0;
+Av=6;}
+break;
+case 6:case 2:case 3:yv=vt;
+zv=wt;
+Av=xt;
+break;
+default:NEVER;
+}
+gw=Av;
+hw=zv;
+iw=yv;
+goto L173;
+L172:goto L137;
+L167:if(Eu!=1)goto L137;
+gw=Du;
+hw=Cu;
+iw=Bu;
+L173:if(gw!=6){
+kw=gw;
+lw=hw;
+mw=iw;
+goto L174;}
+jw=0;
+L175:w4(Wa,0);
+nw=r8(a+176);
+if(nw<c){
+ow=*(b+nw);
+switch(ow){
+case 67:constructor_ff5(Wa,a,b,c);
+break;
+case 68:destructor_97b(Wa,a,b,c);
+break;
+case 76:w8(a+176,nw+1);
+pw=r8(a+8);
+if(r8(a+32)-pw<2){
+qw=make_ready_8e3(a,2,128);
+if(!(qw&1))goto L176;
+rw=r8(a+8);}
+else rw=pw;
+*(rp(a)+rw)=58;
+*(rp(a)+(i64)rw+1)=58;
+sw=rw+2;
+w8(a+8,sw);
+tw=r8(a+176);
+z24(Ta);
+if(tw<c){
+uw=*(b+tw);
+if((u8)(uw-58)>=247){
+vw=sw;
+ww=tw+1;
+if(ww<c){
+xw=*(b+ww)-48;
+if(xw<10){
+yw=tw+2;
+if(yw<c){
+if((u8)(*(b+yw)-48)<10){
+long_name_at_8ad(Ta,b,c,tw);
+if(*Ta!=1)goto L176;
+zw=r8(Ta+8);
+Aw=r8(Ta+16);
+goto L177;}}
+Bw=(u64)xw+(u8)((u8)(uw*10)+32);
+if(c-yw<Bw)goto L178;
+if((u8)(*(b+(i64)yw)-48)<10)goto L178;
+Cw=Bw+yw;
+Dw=yw;
+goto L179;}}
+Ew=uw-48;
+if(c-ww<Ew)goto L178;
+if((u8)(*(b+(i64)ww)-48)<10)goto L178;
+Cw=ww+Ew;
+Dw=ww;
+L179:zw=Dw;
+Aw=Cw;
+L177:w8(a+176,Aw);
+Fw=b+(i64)zw;
+Gw=Aw-zw;
+if(Aw!=zw){
+if(!(Gw<10||*Fw!=95)){
+Hw=parts_equal_58b((u8*)t_35ad,10,Fw,10);
+if(Hw){
+Iw=(s_p_64){(u8*)t_62ff,21};
+goto L180;}}}
+Jw=(s_p_64){0};Jw.f0=Fw;
+Kw=Jw;Kw.f1=Gw;
+Iw=Kw;
+L180:Lw=Iw.f0;
+Mw=Iw.f1;
+if(r8(a+32)-sw<Mw){
+Nw=make_ready_8e3(a,Mw,128);
+if(!(Nw&1))goto L176;}
+Ow=extend_from_slice_169(a,Lw,Mw);
+if(Ow&1)goto L176;
+Pw=r8(a+8);
+Qw=a[139];
+w4(a+124,vw);
+w4(a+128,Pw);
+a[136]=0;
+a[137]=1;
+a[138]=0;
+Rw=r8(a+176);
+if(Rw>=c){
+gx=0;
+hx=5;
+goto L181;}
+if(*(b+Rw)!=73){
+gx=0;
+hx=5;
+goto L181;}
+Sw=r4(a+120);
+Tw=r8(a+48);
+if(r8(a+72)>Tw)Uw=Tw;
+else{
+Vw=make_ready_17a(a+40);
+if(!(Vw&1))goto L182;
+Uw=r8(a+48);}
+Ww=rp(a+40)+Uw*12;
+x4(Ww,Sw);
+x4(Ww+4,Pw);
+Ww[8]=0;
+Ww[9]=Qw;
+x2(Ww+10,0);
+w8(a+48,Uw+1);
+memcpy(Sa,a+120,20);
+z20(Sa+20);
+Xw=r8(a+8);
+if(r8(a+32)>Xw)Yw=Xw;
+else{
+Zw=make_ready_8e3(a,1,16);
+if(!(Zw&1))goto L182;
+Yw=r8(a+8);}
+*(rp(a)+Yw)=1;
+w8(a+8,Yw+1);
+ax=r8(a+176);
+if(ax==18446744073709551615u)goto L182;
+w8(a+176,ax+1);
+bx=r8(a+88);
+if(r8(a+112)>bx){
+cx=bx;
+dx=Sa;
+goto L183;}
+ex=make_ready_9a1(a+80);
+if(!(ex&1))goto L182;
+fx=Sa;
+goto L184;}}
+L178:goto L176;
+case 85:begin_component_d5a(Wa,a,b,c);
+break;
+default:if((u8)(ow-97)>=26)goto L185;
+operator_a8d(Wa,a,b,c);
+break;}
+if(*Wa!=1)goto L137;
+ix=Wa[1];
+jx=Wa[2];
+kx=Wa[3];
+goto L186;}
+L185:lx=r8(a+8);
+if(r8(a+32)-lx<2){
+mx=make_ready_8e3(a,2,128);
+if(!(mx&1))goto L176;
+nx=r8(a+8);}
+else nx=lx;
+*(rp(a)+nx)=58;
+*(rp(a)+(i64)nx+1)=58;
+ox=nx+2;
+w8(a+8,ox);
+px=r8(a+176);
+z24(Va);
+if(px<c){
+qx=*(b+px);
+if((u8)(qx-58)>=247){
+rx=ox;
+sx=px+1;
+if(sx<c){
+tx=*(b+sx)-48;
+if(tx<10){
+ux=px+2;
+if(ux<c){
+if((u8)(*(b+ux)-48)<10){
+long_name_at_8ad(Va,b,c,px);
+if(*Va!=1)goto L176;
+vx=r8(Va+8);
+wx=r8(Va+16);
+goto L187;}}
+xx=(u64)tx+(u8)((u8)(qx*10)+32);
+if(c-ux<xx)goto L188;
+if((u8)(*(b+(i64)ux)-48)<10)goto L188;
+yx=xx+ux;
+zx=ux;
+goto L189;}}
+Ax=qx-48;
+if(c-sx<Ax)goto L188;
+if((u8)(*(b+(i64)sx)-48)<10)goto L188;
+yx=sx+Ax;
+zx=sx;
+L189:vx=zx;
+wx=yx;
+L187:w8(a+176,wx);
+Bx=b+(i64)vx;
+Cx=wx-vx;
+if(wx!=vx){
+if(!(Cx<10||*Bx!=95)){
+Dx=parts_equal_58b((u8*)t_35ad,10,Bx,10);
+if(Dx){
+Ex=(s_p_64){(u8*)t_62ff,21};
+goto L190;}}}
+Fx=(s_p_64){0};Fx.f0=Bx;
+Gx=Fx;Gx.f1=Cx;
+Ex=Gx;
+L190:Hx=Ex.f0;
+Ix=Ex.f1;
+if(r8(a+32)-ox<Ix){
+Jx=make_ready_8e3(a,Ix,128);
+if(!(Jx&1))goto L176;
+Kx=r8(a+8);}
+else Kx=ox;
+Lx=r8(a+16);
+if(Ix>Lx-Kx){
+Mx=grow_amortized_2b6(a,Ix);
+if(!Mx)goto L176;
+Nx=r8(a+16);
+Ox=r8(a+8);}
+else{
+Nx=Lx;
+Ox=Kx;}
+Px=Ox+Ix;
+Qx=rp(a);
+z16(a+8);
+Rx=Qx+(i64)Ox;
+if((u64)Rx-(u64)Hx<Ix)copy_bits_4f4(Hx,Rx,Ix);
+else memmove(Rx,Hx,Ix);
+wp(a,Qx);
+w8(a+8,Px);
+w8(a+16,Nx);
+Sx=Px;
+Tx=a[139];
+w4(a+124,rx);
+w4(a+128,Sx);
+a[136]=0;
+a[137]=1;
+a[138]=0;
+Ux=r8(a+176);
+if(Ux>=c){
+gx=0;
+hx=5;
+goto L181;}
+if(*(b+Ux)!=73){
+gx=0;
+hx=5;
+goto L181;}
+Vx=r4(a+120);
+Wx=r8(a+48);
+if(r8(a+72)>Wx)Xx=Wx;
+else{
+Yx=make_ready_17a(a+40);
+if(!(Yx&1))goto L182;
+Xx=r8(a+48);}
+Zx=rp(a+40)+Xx*12;
+x4(Zx,Vx);
+x4(Zx+4,Sx);
+Zx[8]=0;
+Zx[9]=Tx;
+x2(Zx+10,0);
+w8(a+48,Xx+1);
+memcpy(Ua,a+120,20);
+z20(Ua+20);
+ay=r8(a+8);
+if(r8(a+32)>ay)by=ay;
+else{
+cy=make_ready_8e3(a,1,16);
+if(!(cy&1))goto L182;
+by=r8(a+8);}
+*(rp(a)+by)=1;
+w8(a+8,by+1);
+dy=r8(a+176);
+if(dy==18446744073709551615u)goto L182;
+w8(a+176,dy+1);
+ey=r8(a+88);
+if(r8(a+112)>ey){
+cx=ey;
+dx=Ua;
+goto L183;}
+fy=make_ready_9a1(a+80);
+if(!(fy&1))goto L182;
+fx=Ua;
+goto L184;}}
+L188:goto L176;
+L184:cx=r8(a+88);
+dx=fx;
+L183:gy=rp(a+80)+cx*44;
+*gy=5;
+gy[1]=0;
+x2(gy+2,0);
+memcpy(gy+4,dx,40);
+w8(a+88,cx+1);
+gx=1;
+hx=3;
+L181:ix=hx;
+jx=gx;
+kx=0;
+goto L186;
+L182:goto L137;
+L176:goto L137;
+L186:if(ix==5){
+hy=r8(a+176);
+if(hy<c){
+if(*(b+hy)==69){
+iy=a[132];
+if(iy==0){
+w8(a+176,hy+1);
+jy=a[139];
+if(a[136]&1){
+ky=jy;
+ly=0;
+goto L191;}
+my=r4(a+120);
+ny=r8(a+8);
+oy=r8(a+48);
+if(r8(a+72)>oy)py=oy;
+else{
+qy=make_ready_17a(a+40);
+if(!(qy&1))goto L137;
+py=r8(a+48);}
+ry=rp(a+40)+py*12;
+x4(ry,my);
+x4(ry+4,ny);
+ry[8]=0;
+ry[9]=jy;
+x2(ry+10,0);
+w8(a+48,py+1);
+ky=a[139];
+ly=0;
+goto L191;}
+w4(Za,0);
+w8(a+176,hy+1);
+sy=a[133];
+switch(iy){
+case 3:addressed_named_a52(Za,a,b,c,sy);
+break;
+case 1:if(a[138]&1){
+ty=q2(a+140);
+uy=q2(a+142);
+memcpy(Ya+4,a+144,16);
+vy=q8(a+160);
+wy=a[168];
+xy=a[169];
+yy=a[170];
+zy=a[171];
+w2(Ya,ty);
+w2(Ya+2,uy);
+x8(Ya+20,vy);
+Ya[28]=wy;
+Ya[29]=xy;
+Ya[30]=yy;
+Ya[31]=zy;
+Ay=a[137]&1;}
+else{
+z32(Ya);
+Ay=0;}
+name_ended_8aa(Za,a,b,c,sy,Ay,Ya,r4(a+120));
+break;
+case 2:if(a[138]&1){
+if(a[137]&1){
+enclosing_instance_e2f(Xa,a,b,c,sy,r2(a+134),r4(a+120));
+By=Xa[3];
+Cy=Xa[2];
+Dy=Xa[1];
+Ey=Xa;
+goto L192;}}
+enclosing_named_54a(Za,a,b,c,sy,r4(a+120));
+break;
+default:NEVER;
+}
+By=Za[3];
+Cy=Za[2];
+Dy=Za[1];
+Ey=Za;
+L192:if(*Ey!=1)goto L137;
+kw=Dy;
+lw=Cy;
+mw=By;
+goto L174;}}
+if(!(a[136]&1)){
+Fy=r4(a+120);
+Gy=a[139];
+Hy=r8(a+8);
+Iy=r8(a+48);
+if(r8(a+72)>Iy)Jy=Iy;
+else{
+Ky=make_ready_17a(a+40);
+if(!(Ky&1))goto L137;
+Jy=r8(a+48);}
+Ly=rp(a+40)+Jy*12;
+x4(Ly,Fy);
+x4(Ly+4,Hy);
+Ly[8]=0;
+Ly[9]=Gy;
+x2(Ly+10,0);
+w8(a+48,Jy+1);}
+My=jw+1;
+if(My!=16){
+jw=My;
+goto L175;}
+Ny=6;
+Oy=0;
+Py=0;
+goto L193;}
+kw=ix;
+lw=jx;
+mw=kx;
+L174:if(kw!=2){
+Qy=kw;
+Ry=lw;
+Sy=mw;
+goto L194;}
+ky=mw;
+ly=lw;
+L191:w4(sa,0);
+w4(ta,0);
+z32(ua);
+Ty=r8(a+88);
+if(Ty!=0){
+Uy=ly&1;
+Vy=rp(a+80)+(i64)(Ty*44);
+Wy=Vy[-44];
+Xy=Vy[-43];
+Yy=q4(Vy-40);
+Zy=q4(Vy-36);
+az=q2(Vy-32);
+switch(Wy){
+case 29:case 28:case 27:case 26:case 4:case 5:case 6:case 7:case 8:case 11:case 12:case 13:case 14:case 15:case 16:case 17:case 18:case 19:case 20:case 21:case 22:case 23:case 24:case 25:if(ky&1){
+pass_dependent_123(sa,a,b,c);
+bz=sa[3];
+cz=sa[2];
+dz=sa[1];
+ez=*sa;
+goto L195;}
+fz=q4(Vy-4);
+w4(oa,0);
+switch(Wy){
+case 22:returned_087(oa,a,b,c,Xy&1);
+break;
+case 23:parameter_at_d02(oa,a,b,c,Xy&1,0);
+break;
+case 24:array_ended_a11(oa,a,b,c,Xy,Yy,Zy);
+break;
+case 12:enclosing_parameter_d72(oa,a,b,c,Xy,Yy);
+break;
+case 13:instance_parameter_e2a(oa,a,b,c,Xy,Yy,Zy);
+break;
+case 11:w2(la,az);
+memcpy(la+2,Vy-30,26);
+x4(la+28,fz);
+enclosing_front_fa8(oa,a,Xy,Yy,Zy,la);
+break;
+case 17:w4(ma,Zy);
+w2(ma+4,az);
+lambda_parameter_f9a(oa,a,b,c,Yy,ma);
+break;
+case 18:member_parameter_678(oa,a,b,c,Xy);
+break;
+case 15:w4(na,Zy);
+w2(na+4,az);
+memcpy(na+6,Vy-30,26);
+addressed_front_4c5(oa,a,b,c,Xy,Yy,na);
+break;
+case 16:addressed_parameter_41c(oa,a,b,c,Xy);
+break;
+case 14:*oa=0;
+break;
+case 19:finish_8cd(oa,a,b,c);
+break;
+case 20:derived_ended_aef(oa,a,b,c);
+break;
+case 21:base_ended_299(oa,a,b,c,Yy);
+break;
+case 29:enumerator_21c(oa,a,b,c);
+break;
+case 26:case 25:case 28:gz=Zy;
+hz=fz;
+w4(ka,0);
+switch(Wy){
+case 26:w2(ha,Zy>>16);
+w2(ha+2,az);
+memcpy(ha+4,Vy-30,26);
+w2(ha+30,hz);
+argument_enumerator_61d(ka,a,b,c,Yy,gz,ha);
+break;
+case 25:w2(ia,Zy>>16);
+w2(ia+2,az);
+memcpy(ia+4,Vy-30,26);
+w2(ia+30,hz);
+argument_ended_605(ka,a,b,c,Yy,gz,ia,Uy);
+break;
+case 28:w2(ja,Zy>>16);
+w2(ja+2,az);
+memcpy(ja+4,Vy-30,26);
+w2(ja+30,hz);
+element_ended_c50(ka,a,b,c,Yy,gz,ja,Uy);
+break;
+case 27:*ka=0;
+break;
+default:NEVER;
+}
+iz=ka[1];
+jz=ka[2];
+kz=ka[3];
+*oa=*ka;
+oa[1]=iz;
+oa[2]=jz;
+oa[3]=kz;
+break;
+case 27:case 10:case 9:case 8:case 4:case 5:case 6:case 7:*oa=1;
+oa[1]=3;
+oa[2]=0;
+oa[3]=0;
+break;
+default:NEVER;
+}
+bz=oa[3];
+cz=oa[2];
+dz=oa[1];
+ez=*oa;
+goto L195;
+case 10:lz=r8(a+176);
+if(lz<c){
+switch(*(b+lz)){
+case 69:case 46:case 0:break;
+default:w4(ra,Zy);
+w2(ra+4,az);
+memcpy(ra+6,Vy-30,26);
+w4(qa,0);
+if(ra[29]&1){
+expansion_d9b(qa,a,b,c,0,Xy,Yy,ra);
+mz=qa[3];
+nz=qa[2];
+oz=qa[1];
+pz=*qa;}
+else{
+qz=r8(a+8);
+if(r8(a+32)-qz<2){
+rz=make_ready_8e3(a,2,128);
+if(!(rz&1)){
+mz=0;
+nz=0;
+oz=0;
+pz=0;
+goto L196;}
+sz=r8(a+8);}
+else sz=qz;
+*(rp(a)+sz)=44;
+*(rp(a)+(i64)sz+1)=32;
+w8(a+8,sz+2);
+mz=0;
+nz=0;
+oz=0;
+pz=1;}
+L196:bz=mz;
+cz=nz;
+dz=oz;
+ez=pz;
+goto L195;
+}}
+w4(pa,0);
+tz=r8(a+8);
+if(tz>=5){
+uz=rp(a)+(i64)tz;
+vz=0;
+wz=0;
+L197:xz=vz||*((u8*)t_262b+(i64)wz)!=*(uz-5+(i64)wz);
+yz=wz+1;
+if(yz!=4){
+vz=xz;
+wz=yz;
+goto L197;}
+zz=0;
+Az=0;
+L198:Bz=Az+1;
+Cz=zz||*((u8*)t_262b+(i64)Bz)!=*(uz-5+(i64)Bz);
+if(Bz!=4){
+zz=Cz;
+Az=Bz;
+goto L198;}
+if(!(xz|Cz)){
+Dz=0;
+Ez=0;
+Fz=0;
+Gz=0;
+goto L199;}}
+close_a33(pa,a,b,c,Xy,Yy);
+Dz=pa[3];
+Ez=pa[2];
+Fz=pa[1];
+Gz=*pa;
+L199:bz=Dz;
+cz=Ez;
+dz=Fz;
+ez=Gz;
+goto L195;
+case 9:w4(ua,Zy);
+w2(ua+4,az);
+memcpy(ua+6,Vy-30,26);
+front_ended_ee9(ta,a,b,c,Xy,Yy,ua);
+bz=ta[3];
+cz=ta[2];
+dz=ta[1];
+ez=*ta;
+goto L195;
+case 0:w8(a+88,Ty-1);
+Hz=r8(a+8);
+if(r8(a+32)>Hz)Iz=Hz;
+else{
+Jz=make_ready_8e3(a,1,16);
+if(!(Jz&1))goto L200;
+Iz=r8(a+8);}
+*(rp(a)+Iz)=42;
+Kz=Iz+1;
+w8(a+8,Kz);
+Lz=Kz;
+Mz=ky&1;
+Nz=r8(a+48);
+if(r8(a+72)>Nz){
+Oz=Nz;
+Pz=Lz;
+Qz=0;
+Rz=Mz;
+goto L201;}
+Sz=make_ready_17a(a+40);
+if(!(Sz&1))goto L200;
+Tz=Lz;
+Uz=0;
+Vz=Mz;
+break;
+case 1:if(Uy)goto L200;
+w8(a+88,Ty-1);
+Wz=r8(a+8);
+if(r8(a+32)>Wz)Xz=Wz;
+else{
+Yz=make_ready_8e3(a,1,16);
+if(!(Yz&1))goto L200;
+Xz=r8(a+8);}
+*(rp(a)+Xz)=38;
+Zz=Xz+1;
+w8(a+8,Zz);
+aA=Zz;
+bA=ky&1;
+cA=r8(a+48);
+if(r8(a+72)>cA){
+Oz=cA;
+Pz=aA;
+Qz=1;
+Rz=bA;
+goto L201;}
+dA=make_ready_17a(a+40);
+if(!(dA&1))goto L200;
+Tz=aA;
+Uz=1;
+Vz=bA;
+break;
+case 2:if(Uy)goto L200;
+w8(a+88,Ty-1);
+eA=r8(a+8);
+if(r8(a+32)-eA<2){
+fA=make_ready_8e3(a,2,128);
+if(!(fA&1))goto L200;
+gA=r8(a+8);}
+else gA=eA;
+*(rp(a)+gA)=38;
+*(rp(a)+(i64)gA+1)=38;
+hA=gA+2;
+w8(a+8,hA);
+iA=hA;
+jA=ky&1;
+kA=r8(a+48);
+if(r8(a+72)>kA){
+Oz=kA;
+Pz=iA;
+Qz=1;
+Rz=jA;
+goto L201;}
+lA=make_ready_17a(a+40);
+if(!(lA&1))goto L200;
+Tz=iA;
+Uz=1;
+Vz=jA;
+break;
+case 3:if(Uy)goto L200;
+w8(a+88,Ty-1);
+if(r8(a+32)-r8(a+8)<6){
+mA=make_ready_8e3(a,6,128);
+if(!(mA&1))goto L200;}
+nA=extend_from_slice_169(a,(u8*)t_f603,6);
+if(nA&1)goto L200;
+oA=r8(a+8);
+pA=ky&1;
+qA=r8(a+48);
+if(r8(a+72)>qA){
+Oz=qA;
+Pz=oA;
+Qz=0;
+Rz=pA;
+goto L201;}
+rA=make_ready_17a(a+40);
+if(!(rA&1))goto L200;
+Tz=oA;
+Uz=0;
+Vz=pA;
+break;
+default:NEVER;
+}
+Oz=r8(a+48);
+Pz=Tz;
+Qz=Uz;
+Rz=Vz;
+L201:sA=rp(a+40)+Oz*12;
+x4(sA,Yy);
+x4(sA+4,Pz);
+sA[8]=Qz;
+sA[9]=Rz;
+x2(sA+10,0);
+w8(a+48,Oz+1);
+Ny=2;
+Oy=Qz;
+Py=Rz;
+goto L193;
+L195:if(ez!=1)goto L137;
+Qy=dz;
+Ry=cz;
+Sy=bz;
+goto L194;}
+L200:goto L137;
+L194:if(Qy==3){
+tA=Ry&1;
+w4(fa,0);
+uA=r8(a+176);
+if(uA<c){
+vA=*(b+uA);
+switch(vA){
+case 69:w4(da,0);
+w8(a+176,uA+1);
+wA=r8(a+88);
+if(wA==0){
+xA=0;
+yA=0;
+zA=0;
+AA=0;}
+else{
+if(*(rp(a+80)+(i64)(wA*44)-44)==27){
+if(tA){
+xA=0;
+yA=0;
+zA=0;
+AA=0;}
+else{
+w8(a+88,wA-1);
+xA=0;
+yA=0;
+zA=3;
+AA=1;}}
+else{
+z32(ea);
+close_list_148(da,a,b,c,ea);
+xA=da[3];
+yA=da[2];
+zA=da[1];
+AA=*da;}}
+BA=zA;
+CA=AA;
+DA=yA;
+EA=xA;
+goto L202;
+case 74:FA=uA+1;
+if(FA<c){
+if(*(b+FA)==69){
+empty_pack_c74(fa,a,b,c,tA);
+BA=fa[1];
+CA=*fa;
+DA=fa[2];
+EA=fa[3];
+goto L202;}}
+if(!tA){
+GA=74;
+goto L203;}
+first_pack_117(fa,a,b,c);
+BA=fa[1];
+CA=*fa;
+DA=fa[2];
+EA=fa[3];
+goto L202;
+default:HA=vA;
+break;}}
+else HA=0;
+if(tA){
+IA=HA;
+goto L204;}
+GA=HA;
+L203:JA=r8(a+8);
+if(r8(a+32)-JA<2){
+KA=make_ready_8e3(a,2,128);
+if(!(KA&1))goto L205;
+LA=r8(a+8);}
+else LA=JA;
+*(rp(a)+LA)=44;
+*(rp(a)+(i64)LA+1)=32;
+w8(a+8,LA+2);
+IA=GA;
+L204:switch(IA){
+case 76:if(tA){
+first_literal_d00(fa,a,b,c);
+BA=fa[1];
+CA=*fa;
+DA=fa[2];
+EA=fa[3];
+goto L202;}
+literal_8fc(ga,a,b,c);
+BA=ga[1];
+CA=*ga;
+DA=ga[2];
+EA=ga[3];
+goto L202;
+case 74:MA=r8(a+88);
+if(MA==0)goto L205;
+NA=rp(a+80);
+OA=MA*44;
+if(*(NA+(i64)OA-44)==27)goto L205;
+PA=r8(a+176);
+if(PA==18446744073709551615u)goto L205;
+w8(a+176,PA+1);
+if(r8(a+112)>MA){
+QA=OA;
+RA=NA;
+SA=MA;}
+else{
+TA=make_ready_9a1(a+80);
+if(!(TA&1))goto L205;
+UA=r8(a+88);
+QA=UA*44;
+RA=rp(a+80);
+SA=UA;}
+VA=RA+QA;
+*VA=27;
+z43(VA+1);
+WA=SA;
+XA=3;
+YA=1;
+break;
+default:if(!tA){
+aB=0;
+bB=0;
+goto L206;}
+ZA=r8(a+88);
+if(ZA==0){
+aB=0;
+bB=0;
+goto L206;}
+cB=rp(a+80);
+dB=ZA*44;
+eB=cB+(i64)dB;
+switch(eB[-44]){
+case 5:if(eB[-28]==0){
+aB=0;
+bB=0;
+goto L206;}
+break;
+case 7:break;
+case 0:case 1:case 2:case 3:case 4:case 6:case 8:case 9:case 10:case 11:case 12:case 13:case 14:case 15:case 16:case 17:case 18:case 19:case 20:case 21:case 22:case 23:case 24:case 25:case 26:case 27:case 28:case 29:aB=0;
+bB=0;
+goto L206;
+default:NEVER;
+}
+fB=r8(a+176);
+if(fB<c){
+gB=b+(i64)fB;
+switch(*gB){
+case 65:case 70:aB=0;
+bB=0;
+goto L206;
+case 80:case 82:if(usub64(c,fB)>=2){
+switch(gB[1]){
+case 70:case 65:aB=0;
+bB=0;
+goto L206;
+default:break;}}
+break;
+default:break;}}
+hB=r8(a+8);
+if(r8(a+112)>ZA){
+iB=dB;
+jB=cB;
+kB=ZA;}
+else{
+lB=make_ready_9a1(a+80);
+if(!(lB&1))goto L205;
+mB=r8(a+88);
+iB=mB*44;
+jB=rp(a+80);
+kB=mB;}
+nB=jB+iB;
+*nB=25;
+nB[1]=0;
+x2(nB+2,0);
+x4(nB+4,hB);
+z36(nB+8);
+WA=kB;
+XA=0;
+YA=0;
+break;}
+w8(a+88,WA+1);
+aB=XA;
+bB=YA;
+L206:Ny=aB;
+Oy=bB;
+Py=0;
+goto L193;
+L202:if(CA!=1)goto L137;
+Ny=BA;
+Oy=DA;
+Py=EA;
+goto L193;
+L205:goto L137;}
+Ny=Qy;
+Oy=Ry;
+Py=Sy;
+L193:oB=ut+1;
+if(oB==tt)goto L137;
+ut=oB;
+vt=Py;
+wt=Oy;
+xt=Ny;
+goto L156;}}}
+L146:;}
+L137:break;
+default:NEVER;
+}}
+if(r8(a+8)==0)goto L207;
+L92:w8(a+8,0);
+L207:z16(a+24);
+if(r8(a+48)!=0)w8(a+48,0);
+if(r8(a+88)!=0)w8(a+88,0);
+a[172]=0;
+z16(a+64);
+pB=0;
+goto L208;
+L1:if(r8(a+48)!=0)w8(a+48,0);
+z16(a+64);
+if(r8(a+88)==0)pB=1;
+else{
+w8(a+88,0);
+pB=1;}
+L208:z16(a+104);
+return pB;
+}
+
+/* sym_languages::languages::append_in */
+static void append_in_c46(u8* a,u8* b,u8* c,u64 d,u32 e,u8 f,u8* g)
+{
+A16 u8 h[12],i[104],j[96],k[12],l[92];
+u8 m,n,p,r,u,z,B,C,F,G,N,U;
+u64 o,q,s,t,w,J,K,M,R,S,T,V,W,X;
+u32 v,A,D,E,O,P;
+u8 *x,*y,*H,*I,*L,*Q,*Y,*Z;
+if(f&1){
+m=write_brief_939(b+424,c,d,e);
+if(m)goto L1;}
+else{
+n=write_38b(b+424,c,d,e);
+if(n)goto L1;}
+z12(k);
+z104(i);
+o=r8(b+640);
+if(!((d<o)|((o&4294967295u)==0))){
+p=parts_equal_58b(c,o,rp(b+632),o);
+if(p){
+read_on_1ef(i,b,c+(i64)o,d-o);
+goto L2;}}
+z12(h);
+x4(b+24,0);
+x4(b+28,0);
+if(r8(b+40)!=0)w8(b+40,0);
+if(r8(b+64)!=0)w8(b+64,0);
+w8(b+80,0);
+w4(b+88,0);
+run_48d(h,b+24,c,d,1);
+if(*h==0){
+if(r8(b+8)!=0)w8(b+8,0);
+q=r8(b+16);
+if(d>q){
+r=grow_amortized_2b6(b,d);
+if(!r){
+u=4;
+v=0;
+goto L3;}
+s=r8(b+16);
+t=r8(b+8);}
+else{
+s=q;
+t=0;}
+w=t+d;
+x=rp(b);
+z16(b+8);
+y=x+(i64)t;
+if((u64)y-(u64)c<d)copy_bits_4f4(c,y,d);
+else memmove(y,c,d);
+wp(b,x);
+w8(b+8,w);
+w8(b+16,s);
+link_57d(i,b);
+goto L2;}
+z=h[4];
+A=r4(h+8);
+x4(b+24,0);
+x4(b+28,0);
+if(r8(b+40)!=0)w8(b+40,0);
+if(r8(b+64)!=0)w8(b+64,0);
+w8(b+80,0);
+w4(b+88,0);
+u=z;
+v=A;
+L3:B=1;
+C=u;
+D=v;
+goto L4;
+L2:E=r4(i+8);
+F=*i;
+G=i[4];
+memcpy(l,i+12,92);
+if(F==0){
+w4(j,E);
+memcpy(j+4,l,92);
+print_0c9(k,b,j,e,f,g);
+H=qp(b+96);
+I=qp(b+120);
+J=q8(b+136);
+K=q8(b+112);
+memcpy(b+96,l+20,56);
+if(K!=0)port_rattle_dealloc(H);
+if(J!=0)port_rattle_dealloc(I);
+L=qp(b);
+M=q8(b+16);
+memcpy(b,j,24);
+if(M!=0)port_rattle_dealloc(L);
+B=*k;
+C=k[4];
+D=r4(k+8);}
+else{
+B=1;
+C=G;
+D=E;}
+L4:N=B;
+O=C;
+P=D;
+goto L5;
+L1:Q=rp(b+424);
+R=r8(b+432);
+S=r8(g+16);
+T=r8(g+8);
+if(R>S-T){
+U=grow_amortized_2b6(g,R);
+if(!U){
+N=1;
+O=4;
+P=0;
+goto L5;}
+V=r8(g+16);
+W=r8(g+8);}
+else{
+V=S;
+W=T;}
+X=W+R;
+Y=rp(g);
+z16(g+8);
+Z=Y+(i64)W;
+if((u64)Z-(u64)Q<R)copy_bits_4f4(Q,Z,R);
+else memmove(Z,Q,R);
+wp(g,Y);
+w8(g+8,X);
+w8(g+16,V);
+N=0;
+O=0;
+P=0;
+L5:*a=N;
+x4(a+4,O);
+x4(a+8,P);
+return;
+}
+
+/* rust_short_way::write */
+static u8 write_38b(u8* a,u8* b,u64 c,u32 d)
+{
+u64 e,f,g,h;
+u8 i;
+e=(c<<3)+1024;
+f=umin64(d>>2,e);
+if(r8(a+8)!=0)w8(a+8,0);
+w8(a+24,f);
+w8(a+32,umin64(r8(a+16),f));
+if(r8(a+48)!=0)w8(a+48,0);
+g=e&0xfffffff8u;
+w8(a+64,g);
+w8(a+72,umin64(r8(a+56),g));
+a[80]=0;
+if(r8(a+96)!=0)w8(a+96,0);
+h=c&4294967295u;
+w8(a+112,h);
+w8(a+120,umin64(r8(a+104),h));
+if(r8(a+136)!=0)w8(a+136,0);
+if(r8(a+160)!=0)w8(a+160,0);
+w8(a+176,h);
+w8(a+184,umin64(r8(a+168),h));
+i=run_41f(a,b,c,d);
+if(!i){
+if(r8(a+8)!=0)w8(a+8,0);
+z16(a+24);
+if(r8(a+48)!=0)w8(a+48,0);
+z17(a+64);
+if(r8(a+96)!=0)w8(a+96,0);
+z16(a+112);
+if(r8(a+136)!=0)w8(a+136,0);
+if(r8(a+160)!=0)w8(a+160,0);
+z16(a+176);}
+return i;
+}
+
+/* rust_short_way::run */
+static u8 run_41f(u8* a,u8* b,u64 c,u32 d)
+{
+u8 h[1],m[18],p[32],r[32];
+A16 u8 e[40],f[40],g[32],i[40],j[32],k[40],l[32],n[40],o[40],q[24],s[24];
+u64 t,u,v,x,y,A,C,D,G,H,I,J,K,L,N,R,T,U,W,X,Z,aa,ca,da,ga,ha,ia,la,ma,pa,qa,ta,ua,xa,ya,Aa,Ca,Fa,Ga,Ia,Ja,Ka,Ma,Pa,Ra,Sa,Ta,Ua,Wa,Xa,Ya,ab,bb,cb,eb,jb,kb,mb,ob,pb,sb,tb,wb,xb,yb,zb,Bb,Cb,Eb,Fb,Gb,Jb,Kb,Nb,Ob,Pb,Qb,Sb,Tb,Vb,Wb,Xb,ac,bc,ec,fc,hc,ic,kc,lc,mc,pc,qc,tc,uc,wc,xc,zc,Ac,Bc,Ec,Fc,Ic,Jc,Lc,Mc,Oc,Pc,Qc,Tc,Uc,Xc,Yc,ad,bd,dd,ed,fd,id,jd,md,nd,od,qd,sd,ud,xd,zd,Ad,Bd,Cd,Ed,Hd,Id,Jd,Kd,Ld,Rd,Sd,Wd,Yd,Zd,ce,de,fe,ge,je,ke,me,ne,pe,qe,re,ue,ve,ye,Ae,Ce,De,Fe,Ge,He,Ke,Ne,Pe,Qe,Se,Te,Ze,bf,df,ff,gf,hf,mf,nf,qf,tf,uf,vf,xf,yf,Bf,Ef,Ff,Kf,Lf,Mf,Qf,Rf,Uf,Vf,Wf,Yf,Zf,bg,dg,fg,gg,hg,ig,kg,mg,ng,pg,qg,rg,xg,yg,Cg,Eg,Fg,Ig,Jg,Ng,Og,Sg,Tg,Wg,Xg,bh,ch,fh,gh,jh,kh,nh,oh,th,uh,wh,zh,Ah,Fh,Kh,Mh,Nh,Rh,Sh,Vh,Yh,Zh,ai,ci,di,gi,ji,ki,mi,oi,pi,qi,ti,ui,wi,xi,yi,Bi,Ci,Ei,Fi,Gi,Ji,Ki,Mi,Ni,Pi,Qi,Ri,Ui,Vi,Zi,bj,fj,gj,ij,kj,pj,uj,wj,yj,Aj,Cj,Dj,Fj,Gj,Hj,Kj,Mj,Pj,Rj,Sj,Tj,Xj,Yj,ak,ck,dk,fk,gk,hk,lk,mk,qk,sk,uk,wk,xk,zk,Ak,Dk,Ek,Gk,Jk,Kk,Mk,Nk,Pk,Sk,Tk,Vk,Wk,Yk,bl,cl,dl,el,fl,hl,kl,ml,nl,pl,ql,rl,ul,vl,yl,zl,Bl,Cl,El,Fl,Gl,Il,Ll,Ml,Ol,Pl,Rl,Ul,Vl,Xl,Yl,bm,cm,em,fm,im,jm,lm,mm,pm,rm,sm,um,vm,wm,zm,Am,Dm,Em,Gm,Hm,Jm,Mm;
+u8 w,z,E,M,O,P,Q,S,Y,ba,ea,fa,ja,ka,na,oa,ra,sa,va,wa,za,Ba,Da,Ea,La,Na,Qa,Va,db,fb,hb,ib,nb,qb,ub,Ab,Db,Lb,Rb,Ub,cc,gc,jc,rc,vc,yc,Gc,Kc,Nc,Vc,Zc,cd,kd,pd,vd,yd,Gd,Nd,Od,Pd,Qd,Ud,Vd,Xd,ae,be,ee,he,le,oe,we,Be,Ee,Le,Me,Oe,Re,Ue,Ve,We,Xe,Ye,af,lf,pf,rf,sf,zf,Af,Df,Hf,If,Jf,Nf,Of,Pf,Sf,Tf,Xf,cg,eg,og,tg,ug,vg,wg,Ag,Bg,Dg,Gg,Hg,Mg,Qg,Rg,Ug,ah,eh,hh,lh,mh,ph,sh,yh,Bh,Ch,Dh,Eh,Gh,Hh,Ih,Jh,Lh,Qh,Uh,Wh,Xh,ei,fi,ii,li,ni,si,vi,Di,Oi,Xi,Yi,aj,cj,ej,jj,mj,nj,oj,qj,rj,sj,tj,vj,xj,Bj,Ej,Lj,Nj,Qj,Uj,Wj,Zj,bk,ek,kk,nk,pk,tk,yk,Bk,Fk,Hk,Lk,Ok,Qk,Uk,Xk,Zk,gl,il,ll,ol,wl,Al,Hl,Jl,Nl,Ql,Sl,Wl,Zl,dm,gm,km,nm,qm,tm,Bm,Fm,Im,Km;
+u8 *B,*F,*V,*Oa,*gb,*lb,*rb,*vb,*Hb,*Ib,*Mb,*Yb,*Zb,*dc,*nc,*oc,*sc,*Cc,*Dc,*Hc,*Rc,*Sc,*Wc,*gd,*hd,*ld,*td,*Fd,*Md,*Td,*ie,*se,*te,*xe,*ze,*Ie,*Je,*cf,*ef,*Gf,*ag,*lg,*sg,*zg,*Vg,*ih,*qh,*rh,*vh,*xh,*ri,*zi,*Ai,*Hi,*Ii,*Li,*Si,*Ti,*Wi,*dj,*hj,*lj,*zj,*Ij,*Jj,*Oj,*Vj,*ik,*jk,*ok,*rk,*vk,*Ck,*Ik,*Rk,*al,*jl,*sl,*tl,*xl,*Kl,*Tl,*am,*hm,*om,*xm,*ym,*Cm,*Lm;
+s_8_64 Ha,Za,of,Pg,dh,Th,Dl;
+u16 Dd,kf,jg,Lg,Zg,Ph;
+v16 jf,wf,Cf,Kg,Yg,Oh,bi,hi;
+if(c-1<65536){
+if(*b==95&&c>1){
+if(b[1]==82){
+t=r8(a+136);
+if(c>t){
+u=c-t;
+v=r8(a+144);
+if(u>v-t){
+w=grow_amortized_3c2(a+128,u);
+if(!w){
+z=0;
+goto L1;}
+x=r8(a+144);
+y=r8(a+136);}
+else{
+x=v;
+y=t;}
+A=y+u;
+B=rp(a+128);
+if(y<A)memset(B+(i64)(y<<1),0,u<<1);
+wp(a+128,B);
+w8(a+136,A);
+w8(a+144,x);}
+else {
+if(t>c)w8(a+136,c);}
+C=r8(a+160);
+if(r8(a+184)>C)D=C;
+else{
+E=make_ready_e3c(a+152);
+if(!(E&1)){
+z=0;
+goto L1;}
+D=r8(a+160);}
+F=rp(a+152)+(D<<5);
+*F=0;
+F[1]=0;
+z17(F+8);
+w8(a+160,D+1);
+w8(a+192,2);
+G=c<<3;
+H=(u64)r;
+I=(u64)p;
+J=(u64)(m+2);
+K=(u64)m;
+L=0;
+M=0;
+N=0;
+O=1;
+P=0;
+L2:if(P==4)z=r8(a+8)<=(d>>2);
+else{
+w8(a+200,r8(a+200)+1);
+switch(P){
+case 3:Q=O&1;
+R=r8(a+192);
+if(R<c){
+S=*(b+R);
+if(S==69){
+T=r8(a+160);
+if(T==0){
+z=0;
+goto L1;}
+U=T-1;
+w8(a+160,U);
+V=rp(a+152)+(U<<5);
+if(*V!=4){
+z=0;
+goto L1;}
+W=q8(V+8);
+X=q8(V+16);
+Y=V[24];
+w8(a+192,R+1);
+Z=r8(a+8);
+if(r8(a+32)>Z)aa=Z;
+else{
+ba=make_ready_8e3(a,1,16);
+if(!(ba&1)){
+z=0;
+goto L1;}
+aa=r8(a+8);}
+*(rp(a)+aa)=62;
+ca=aa+1;
+w8(a+8,ca);
+if(r8(a+136)<=W){
+z=0;
+goto L1;}
+da=r8(a+96);
+if(da>65534){
+z=0;
+goto L1;}
+ea=2-(Y&1);
+fa=a[80];
+if(r8(a+120)>da){
+ga=da;
+ha=X;
+ia=ca;
+ja=ea;
+ka=fa;
+la=da;
+ma=W;
+na=ea;
+goto L3;}
+oa=make_ready_b73(a+88);
+if(!(oa&1)){
+z=0;
+goto L1;}
+pa=X;
+qa=ca;
+ra=ea;
+sa=fa;
+ta=da;
+ua=W;
+va=ea;
+goto L4;}
+wa=S;}
+else wa=0;
+if(Q){
+switch(wa){
+case 76:xa=R+1;
+if(!((R!=18446744073709551615u)&(xa<c))){
+z=0;
+goto L1;}
+if(*(b+xa)!=95){
+z=0;
+goto L1;}
+w8(a+192,R+2);
+ya=r8(a+8);
+if(r8(a+32)-ya<2){
+za=make_ready_8e3(a,2,128);
+if(!(za&1)){
+z=0;
+goto L1;}
+Aa=r8(a+8);}
+else Aa=ya;
+*(rp(a)+Aa)=39;
+*(rp(a)+(i64)Aa+1)=95;
+w8(a+8,Aa+2);
+Ba=0;
+Ca=0;
+Da=0;
+Ea=3;
+goto L5;
+case 75:if(R==18446744073709551615u){
+z=0;
+goto L1;}
+Fa=R+1;
+Ga=r8(a+8);
+Ha=constant_at_b72(a,b,c,Fa);
+if(Ha.f0!=1){
+z=0;
+goto L1;}
+if(r8(a+136)<=Fa){
+z=0;
+goto L1;}
+Ia=r8(a+96);
+if(Ia>65534){
+z=0;
+goto L1;}
+Ja=Ha.f1;
+Ka=r8(a+8);
+La=a[80];
+if(r8(a+120)>Ia)Ma=Ia;
+else{
+Na=make_ready_b73(a+88);
+if(!(Na&1)){
+z=0;
+goto L1;}
+Ma=r8(a+96);}
+Oa=rp(a+88)+Ma*24;
+x8(Oa,Ga);
+x8(Oa+8,Ka);
+Oa[16]=4;
+Oa[17]=La;
+z6(Oa+18);
+w8(a+96,Ma+1);
+w2(rp(a+128)+(i64)(Fa<<1),(u16)Ia+1);
+w8(a+192,Ja);
+Ba=0;
+Ca=0;
+Da=0;
+Ea=3;
+goto L5;
+default:break;}}
+else{
+Pa=r8(a+8);
+if(r8(a+32)-Pa<2){
+Qa=make_ready_8e3(a,2,128);
+if(!(Qa&1)){
+z=0;
+goto L1;}
+Ra=r8(a+8);}
+else Ra=Pa;
+*(rp(a)+Ra)=44;
+*(rp(a)+(i64)Ra+1)=32;
+Sa=Ra+2;
+w8(a+8,Sa);
+switch(wa){
+case 76:Ta=r8(a+192);
+Ua=Ta+1;
+if(!((Ta!=18446744073709551615u)&(Ua<c))){
+z=0;
+goto L1;}
+if(*(b+Ua)!=95){
+z=0;
+goto L1;}
+w8(a+192,Ta+2);
+if(r8(a+32)-Sa<2){
+Va=make_ready_8e3(a,2,128);
+if(!(Va&1)){
+z=0;
+goto L1;}
+Wa=r8(a+8);}
+else Wa=Sa;
+*(rp(a)+Wa)=39;
+*(rp(a)+(i64)Wa+1)=95;
+w8(a+8,Wa+2);
+Ba=0;
+Ca=0;
+Da=0;
+Ea=3;
+goto L5;
+case 75:Xa=r8(a+192);
+if(Xa==18446744073709551615u){
+z=0;
+goto L1;}
+Ya=Xa+1;
+Za=constant_at_b72(a,b,c,Ya);
+if(Za.f0!=1){
+z=0;
+goto L1;}
+if(r8(a+136)<=Ya){
+z=0;
+goto L1;}
+ab=r8(a+96);
+if(ab>65534){
+z=0;
+goto L1;}
+bb=Za.f1;
+cb=r8(a+8);
+db=a[80];
+if(r8(a+120)>ab)eb=ab;
+else{
+fb=make_ready_b73(a+88);
+if(!(fb&1)){
+z=0;
+goto L1;}
+eb=r8(a+96);}
+gb=rp(a+88)+eb*24;
+x8(gb,Sa);
+x8(gb+8,cb);
+gb[16]=4;
+gb[17]=db;
+z6(gb+18);
+w8(a+96,eb+1);
+w2(rp(a+128)+(i64)(Ya<<1),(u16)ab+1);
+w8(a+192,bb);
+Ba=0;
+Ca=0;
+Da=0;
+Ea=3;
+goto L5;
+default:break;}}
+break;
+case 1:break;
+case 0:hb=O;
+goto L6;
+case 2:ib=M;
+jb=N;
+goto L7;
+default:Ba=M;
+Ca=N;
+Da=O;
+Ea=P;
+goto L5;
+}
+kb=r8(a+192);
+if(kb>=c){
+z=0;
+goto L1;}
+lb=b+(i64)kb;
+switch(*lb){
+case 78:mb=kb+1;
+if(c<=mb){
+z=0;
+goto L1;}
+nb=*(b+mb);
+if(*((u8*)t_eb43+nb)==0){
+z=0;
+goto L1;}
+w8(a+192,kb+2);
+ob=r8(a+160);
+if(r8(a+184)>ob)pb=ob;
+else{
+qb=make_ready_e3c(a+152);
+if(!(qb&1)){
+z=0;
+goto L1;}
+pb=r8(a+160);}
+rb=rp(a+152)+(pb<<5);
+*rb=2;
+rb[1]=nb;
+x8(rb+8,kb);
+x8(rb+16,0);
+rb[24]=0;
+w8(a+160,pb+1);
+hb=0;
+goto L6;
+case 73:w8(a+192,kb+1);
+sb=r8(a+160);
+if(r8(a+184)>sb)tb=sb;
+else{
+ub=make_ready_e3c(a+152);
+if(!(ub&1)){
+z=0;
+goto L1;}
+tb=r8(a+160);}
+vb=rp(a+152)+(tb<<5);
+*vb=3;
+vb[1]=0;
+x8(vb+8,kb);
+x8(vb+16,0);
+vb[24]=0;
+w8(a+160,tb+1);
+hb=0;
+goto L6;
+case 82:wb=kb+1;
+if(wb<c){
+if(*(b+wb)==76){
+xb=kb+2;
+if(xb>=c){
+z=0;
+goto L1;}
+if(*(b+xb)!=95){
+z=0;
+goto L1;}
+yb=kb+3;}
+else yb=wb;}
+else yb=wb;
+zb=r8(a+8);
+if(r8(a+32)==zb){
+Ab=make_ready_8e3(a,1,128);
+if(!(Ab&1)){
+z=0;
+goto L1;}
+Bb=r8(a+8);}
+else Bb=zb;
+Cb=r8(a+16);
+if(Cb==Bb){
+Db=grow_amortized_2b6(a,1);
+if(!Db){
+z=0;
+goto L1;}
+Eb=r8(a+16);
+Fb=r8(a+8);}
+else{
+Eb=Cb;
+Fb=Bb;}
+Gb=Fb+1;
+Hb=rp(a);
+z16(a+8);
+Ib=Hb+(i64)Fb;
+if((u64)Ib==(u64)(u8*)t_951d)copy_bits_4f4((u8*)t_951d,Ib,1);
+else *Ib=38;
+wp(a,Hb);
+w8(a+8,Gb);
+w8(a+16,Eb);
+Jb=r8(a+160);
+if(r8(a+184)>Jb)Kb=Jb;
+else{
+Lb=make_ready_e3c(a+152);
+if(!(Lb&1)){
+z=0;
+goto L1;}
+Kb=r8(a+160);}
+Mb=rp(a+152)+(Kb<<5);
+*Mb=9;
+Mb[1]=0;
+x8(Mb+8,kb);
+x8(Mb+16,zb);
+Mb[24]=0;
+w8(a+160,Kb+1);
+w8(a+192,yb);
+Ba=0;
+Ca=0;
+Da=0;
+Ea=1;
+goto L5;
+case 81:Nb=kb+1;
+if(Nb<c){
+if(*(b+Nb)==76){
+Ob=kb+2;
+if(Ob>=c){
+z=0;
+goto L1;}
+if(*(b+Ob)!=95){
+z=0;
+goto L1;}
+Pb=kb+3;}
+else Pb=Nb;}
+else Pb=Nb;
+Qb=r8(a+8);
+if(r8(a+32)-Qb<5){
+Rb=make_ready_8e3(a,5,128);
+if(!(Rb&1)){
+z=0;
+goto L1;}
+Sb=r8(a+8);}
+else Sb=Qb;
+Tb=r8(a+16);
+if(Tb-Sb<5){
+Ub=grow_amortized_2b6(a,5);
+if(!Ub){
+z=0;
+goto L1;}
+Vb=r8(a+16);
+Wb=r8(a+8);}
+else{
+Vb=Tb;
+Wb=Sb;}
+Xb=Wb+5;
+Yb=rp(a);
+z16(a+8);
+Zb=Yb+(i64)Wb;
+if((u64)Zb-(u64)(u8*)t_d821<5)copy_bits_4f4((u8*)t_d821,Zb,5);
+else memcpy(Zb,(u8*)t_d821,5);
+wp(a,Yb);
+w8(a+8,Xb);
+w8(a+16,Vb);
+ac=r8(a+160);
+if(r8(a+184)>ac)bc=ac;
+else{
+cc=make_ready_e3c(a+152);
+if(!(cc&1)){
+z=0;
+goto L1;}
+bc=r8(a+160);}
+dc=rp(a+152)+(bc<<5);
+*dc=9;
+dc[1]=0;
+x8(dc+8,kb);
+x8(dc+16,Qb);
+dc[24]=0;
+w8(a+160,bc+1);
+w8(a+192,Pb);
+Ba=0;
+Ca=0;
+Da=0;
+Ea=1;
+goto L5;
+case 80:ec=kb+1;
+fc=r8(a+8);
+if(r8(a+32)-fc<7){
+gc=make_ready_8e3(a,7,128);
+if(!(gc&1)){
+z=0;
+goto L1;}
+hc=r8(a+8);}
+else hc=fc;
+ic=r8(a+16);
+if(ic-hc<7){
+jc=grow_amortized_2b6(a,7);
+if(!jc){
+z=0;
+goto L1;}
+kc=r8(a+16);
+lc=r8(a+8);}
+else{
+kc=ic;
+lc=hc;}
+mc=lc+7;
+nc=rp(a);
+z16(a+8);
+oc=nc+(i64)lc;
+if((u64)oc-(u64)(u8*)t_ff67<7)copy_bits_4f4((u8*)t_ff67,oc,7);
+else memcpy(oc,(u8*)t_ff67,7);
+wp(a,nc);
+w8(a+8,mc);
+w8(a+16,kc);
+pc=r8(a+160);
+if(r8(a+184)>pc)qc=pc;
+else{
+rc=make_ready_e3c(a+152);
+if(!(rc&1)){
+z=0;
+goto L1;}
+qc=r8(a+160);}
+sc=rp(a+152)+(qc<<5);
+*sc=9;
+sc[1]=0;
+x8(sc+8,kb);
+x8(sc+16,fc);
+sc[24]=0;
+w8(a+160,qc+1);
+w8(a+192,ec);
+Ba=0;
+Ca=0;
+Da=0;
+Ea=1;
+goto L5;
+case 79:tc=kb+1;
+uc=r8(a+8);
+if(r8(a+32)-uc<5){
+vc=make_ready_8e3(a,5,128);
+if(!(vc&1)){
+z=0;
+goto L1;}
+wc=r8(a+8);}
+else wc=uc;
+xc=r8(a+16);
+if(xc-wc<5){
+yc=grow_amortized_2b6(a,5);
+if(!yc){
+z=0;
+goto L1;}
+zc=r8(a+16);
+Ac=r8(a+8);}
+else{
+zc=xc;
+Ac=wc;}
+Bc=Ac+5;
+Cc=rp(a);
+z16(a+8);
+Dc=Cc+(i64)Ac;
+if((u64)Dc-(u64)(u8*)t_b2e2<5)copy_bits_4f4((u8*)t_b2e2,Dc,5);
+else memcpy(Dc,(u8*)t_b2e2,5);
+wp(a,Cc);
+w8(a+8,Bc);
+w8(a+16,zc);
+Ec=r8(a+160);
+if(r8(a+184)>Ec)Fc=Ec;
+else{
+Gc=make_ready_e3c(a+152);
+if(!(Gc&1)){
+z=0;
+goto L1;}
+Fc=r8(a+160);}
+Hc=rp(a+152)+(Fc<<5);
+*Hc=9;
+Hc[1]=0;
+x8(Hc+8,kb);
+x8(Hc+16,uc);
+Hc[24]=0;
+w8(a+160,Fc+1);
+w8(a+192,tc);
+Ba=0;
+Ca=0;
+Da=0;
+Ea=1;
+goto L5;
+case 83:Ic=kb+1;
+Jc=r8(a+8);
+if(r8(a+32)==Jc){
+Kc=make_ready_8e3(a,1,128);
+if(!(Kc&1)){
+z=0;
+goto L1;}
+Lc=r8(a+8);}
+else Lc=Jc;
+Mc=r8(a+16);
+if(Mc==Lc){
+Nc=grow_amortized_2b6(a,1);
+if(!Nc){
+z=0;
+goto L1;}
+Oc=r8(a+16);
+Pc=r8(a+8);}
+else{
+Oc=Mc;
+Pc=Lc;}
+Qc=Pc+1;
+Rc=rp(a);
+z16(a+8);
+Sc=Rc+(i64)Pc;
+if((u64)Sc==(u64)(u8*)t_2458)copy_bits_4f4((u8*)t_2458,Sc,1);
+else *Sc=91;
+wp(a,Rc);
+w8(a+8,Qc);
+w8(a+16,Oc);
+Tc=r8(a+160);
+if(r8(a+184)>Tc)Uc=Tc;
+else{
+Vc=make_ready_e3c(a+152);
+if(!(Vc&1)){
+z=0;
+goto L1;}
+Uc=r8(a+160);}
+Wc=rp(a+152)+(Uc<<5);
+*Wc=9;
+Wc[1]=0;
+x8(Wc+8,kb);
+x8(Wc+16,Jc);
+Wc[24]=1;
+w8(a+160,Uc+1);
+w8(a+192,Ic);
+Ba=0;
+Ca=0;
+Da=0;
+Ea=1;
+goto L5;
+case 84:Xc=r8(a+8);
+Yc=kb+1;
+if(r8(a+32)==Xc){
+Zc=make_ready_8e3(a,1,128);
+if(!(Zc&1)){
+z=0;
+goto L1;}
+ad=r8(a+8);}
+else ad=Xc;
+bd=r8(a+16);
+if(bd==ad){
+cd=grow_amortized_2b6(a,1);
+if(!cd){
+z=0;
+goto L1;}
+dd=r8(a+16);
+ed=r8(a+8);}
+else{
+dd=bd;
+ed=ad;}
+fd=ed+1;
+gd=rp(a);
+z16(a+8);
+hd=gd+(i64)ed;
+if((u64)hd==(u64)(u8*)t_32eb)copy_bits_4f4((u8*)t_32eb,hd,1);
+else *hd=40;
+wp(a,gd);
+w8(a+8,fd);
+w8(a+16,dd);
+id=r8(a+160);
+if(r8(a+184)>id)jd=id;
+else{
+kd=make_ready_e3c(a+152);
+if(!(kd&1)){
+z=0;
+goto L1;}
+jd=r8(a+160);}
+ld=rp(a+152)+(jd<<5);
+*ld=12;
+ld[1]=0;
+x8(ld+8,kb);
+x8(ld+16,Xc);
+ld[24]=1;
+w8(a+160,jd+1);
+w8(a+192,Yc);
+Ba=0;
+Ca=0;
+Da=0;
+Ea=1;
+goto L5;
+case 66:md=r8(a+8);
+nd=kb+1;
+z24(s);
+od=c-nd;
+if(od>1){
+if(lb[2]==95){
+pd=*((u8*)t_84dd+*(b+(i64)nd));
+if(pd<=61){
+qd=3;
+sd=pd+1;
+goto L8;}
+if(od==2)goto L9;}
+else {
+if(od==2)goto L9;}
+if(lb[3]!=95)goto L9;
+td=b+(i64)nd;
+ud=0;
+vd=0;
+xd=0;
+L10:yd=*((u8*)t_84dd+*(td+(i64)xd));
+if(yd>=62)goto L9;
+zd=ud*62+yd;
+if(!vd){
+ud=zd;
+vd=1;
+xd=1;
+goto L10;}
+if(zd==18446744073709551615u)goto L9;
+qd=4;
+sd=zd+1;
+L8:Ad=sd;
+Bd=qd+kb;
+goto L11;}
+L9:any_number_at_3d4(s,b,c,nd);
+if(*s!=1){
+z=0;
+goto L1;}
+Ad=r8(s+8);
+Bd=r8(s+16);
+L11:if(Ad>=0xfffffffffffffffeu){
+z=0;
+goto L1;}
+Cd=Ad+2;
+if(Cd>=r8(a+136)){
+z=0;
+goto L1;}
+Dd=r2(rp(a+128)+(i64)(Cd<<1));
+if(Dd==0){
+z=0;
+goto L1;}
+Ed=(u64)Dd-1;
+if(Ed>=r8(a+96)){
+z=0;
+goto L1;}
+Fd=rp(a+88)+(i64)(Ed*24);
+Gd=Fd[16];
+switch(Gd){
+case 0:case 2:case 3:Hd=q8(Fd);
+Id=q8(Fd+8);
+if(Id<Hd){
+z=0;
+goto L1;}
+if((u8)(a[80]^Fd[17])&1){
+Jd=r8(a+48);
+if(Jd<Id){
+z=0;
+goto L1;}
+Kd=Id-Hd;
+Ld=r8(a+32)-md;
+Md=rp(a+40)+(i64)Hd;
+if(!((Kd>16)|(Jd-Hd<16)||Ld<16)){
+Qd=extend_from_slice_169(a,Md,16);
+if(Qd&1){
+z=0;
+goto L1;}
+Rd=Kd+md;
+if(r8(a+8)<=Rd)goto L12;
+w8(a+8,Rd);
+goto L12;}
+if(Ld<Kd){
+Nd=make_ready_8e3(a,Kd,128);
+if(!(Nd&1)){
+z=0;
+goto L1;}}
+Od=extend_from_slice_169(a,Md,Kd);
+Pd=Od^1;}
+else{
+if(md<Id){
+z=0;
+goto L1;}
+Sd=Id-Hd;
+if((md-Hd>31)&(Sd<33)){
+if(r8(a+32)-md>31){
+z32(r);
+Td=rp(a)+(i64)Hd;
+if(H-(u64)Td<32)copy_bits_4f4(Td,r,32);
+else memcpy(r,Td,32);
+Ud=extend_from_slice_169(a,r,32);
+if(Ud&1)Vd=0;
+else{
+Wd=Sd+md;
+if(r8(a+8)>Wd){
+w8(a+8,Wd);
+Vd=1;}
+else Vd=1;}
+Pd=Vd;
+goto L13;}}
+Xd=repeat_any_4a2(a,Hd,Id);
+Pd=Xd;}
+L13:if(!(Pd&1)){
+z=0;
+goto L1;}
+L12:w8(a+192,Bd);
+if(r8(a+136)<=kb){
+z=0;
+goto L1;}
+Yd=r8(a+96);
+if(Yd>65534){
+z=0;
+goto L1;}
+Zd=r8(a+8);
+ae=a[80];
+if(r8(a+120)>Yd){
+ga=Yd;
+ha=md;
+ia=Zd;
+ja=Gd;
+ka=ae;
+la=Yd;
+ma=kb;
+na=3;
+goto L3;}
+be=make_ready_b73(a+88);
+if(!(be&1)){
+z=0;
+goto L1;}
+pa=md;
+qa=Zd;
+ra=Gd;
+sa=ae;
+ta=Yd;
+ua=kb;
+va=3;
+goto L4;
+case 1:case 4:z=0;
+goto L1;
+default:NEVER;
+}
+break;
+case 65:ce=r8(a+8);
+w8(a+192,kb+1);
+if(r8(a+32)>ce)de=ce;
+else{
+ee=make_ready_8e3(a,1,16);
+if(!(ee&1)){
+z=0;
+goto L1;}
+de=r8(a+8);}
+*(rp(a)+de)=91;
+w8(a+8,de+1);
+fe=r8(a+160);
+if(r8(a+184)>fe)ge=fe;
+else{
+he=make_ready_e3c(a+152);
+if(!(he&1)){
+z=0;
+goto L1;}
+ge=r8(a+160);}
+ie=rp(a+152)+(ge<<5);
+*ie=14;
+ie[1]=0;
+x8(ie+8,kb);
+x8(ie+16,ce);
+ie[24]=0;
+w8(a+160,ge+1);
+Ba=0;
+Ca=0;
+Da=0;
+Ea=1;
+goto L5;
+case 68:je=r8(a+8);
+ke=kb+1;
+if(r8(a+32)-je<4){
+le=make_ready_8e3(a,4,128);
+if(!(le&1)){
+z=0;
+goto L1;}
+me=r8(a+8);}
+else me=je;
+ne=r8(a+16);
+if(ne-me<4){
+oe=grow_amortized_2b6(a,4);
+if(!oe){
+z=0;
+goto L1;}
+pe=r8(a+16);
+qe=r8(a+8);}
+else{
+pe=ne;
+qe=me;}
+re=qe+4;
+se=rp(a);
+z16(a+8);
+te=se+(i64)qe;
+if((u64)te-(u64)(u8*)t_f616<4)copy_bits_4f4((u8*)t_f616,te,4);
+else x4(te,544110948);
+wp(a,se);
+w8(a+8,re);
+w8(a+16,pe);
+ue=r8(a+160);
+if(r8(a+184)>ue)ve=ue;
+else{
+we=make_ready_e3c(a+152);
+if(!(we&1)){
+z=0;
+goto L1;}
+ve=r8(a+160);}
+xe=rp(a+152)+(ve<<5);
+*xe=13;
+xe[1]=0;
+x8(xe+8,kb);
+x8(xe+16,je);
+xe[24]=0;
+w8(a+160,ve+1);
+w8(a+192,ke);
+hb=0;
+goto L6;
+case 97:ye=2;
+ze=(u8*)t_4c1d;
+break;
+case 98:ye=4;
+ze=(u8*)t_b760;
+break;
+case 99:ye=4;
+ze=(u8*)t_411b;
+break;
+case 100:ye=3;
+ze=(u8*)t_6a3e;
+break;
+case 101:ye=3;
+ze=(u8*)t_8c25;
+break;
+case 102:ye=3;
+ze=(u8*)t_16b5;
+break;
+case 104:ye=2;
+ze=(u8*)t_c899;
+break;
+case 105:ye=5;
+ze=(u8*)t_db3b;
+break;
+case 106:ye=5;
+ze=(u8*)t_f417;
+break;
+case 108:ye=3;
+ze=(u8*)t_579a;
+break;
+case 109:ye=3;
+ze=(u8*)t_d764;
+break;
+case 110:ye=4;
+ze=(u8*)t_9cf5;
+break;
+case 111:ye=4;
+ze=(u8*)t_fcd0;
+break;
+case 112:ye=1;
+ze=(u8*)t_d2e2;
+break;
+case 115:ye=3;
+ze=(u8*)t_7daa;
+break;
+case 116:ye=3;
+ze=(u8*)t_2988;
+break;
+case 117:ye=2;
+ze=(u8*)t_2e38;
+break;
+case 118:ye=3;
+ze=(u8*)t_ab5d;
+break;
+case 120:ye=3;
+ze=(u8*)t_1a91;
+break;
+case 121:ye=3;
+ze=(u8*)t_1506;
+break;
+case 122:ye=1;
+ze=(u8*)t_bb72;
+break;
+default:z=0;
+goto L1;
+}
+Ae=r8(a+8);
+w8(a+192,kb+1);
+if(r8(a+32)-Ae<ye){
+Be=make_ready_8e3(a,ye,128);
+if(!(Be&1)){
+z=0;
+goto L1;}
+Ce=r8(a+8);}
+else Ce=Ae;
+De=r8(a+16);
+if(ye>De-Ce){
+Ee=grow_amortized_2b6(a,ye);
+if(!Ee){
+z=0;
+goto L1;}
+Fe=r8(a+16);
+Ge=r8(a+8);}
+else{
+Fe=De;
+Ge=Ce;}
+He=Ge+ye;
+Ie=rp(a);
+z16(a+8);
+Je=Ie+(i64)Ge;
+if((u64)Je-(u64)ze<ye)copy_bits_4f4(ze,Je,ye);
+else memmove(Je,ze,ye);
+wp(a,Ie);
+w8(a+8,He);
+w8(a+16,Fe);
+if(r8(a+136)<=kb){
+z=0;
+goto L1;}
+Ke=r8(a+96);
+if(Ke>65534){
+z=0;
+goto L1;}
+Le=a[80];
+if(r8(a+120)>Ke){
+ga=Ke;
+ha=Ae;
+ia=He;
+ja=3;
+ka=Le;
+la=Ke;
+ma=kb;
+na=3;
+goto L3;}
+Me=make_ready_b73(a+88);
+if(!(Me&1)){
+z=0;
+goto L1;}
+pa=Ae;
+qa=He;
+ra=3;
+sa=Le;
+ta=Ke;
+ua=kb;
+va=3;
+goto L4;
+L6:Ne=r8(a+192);
+if(Ne<c){
+Oe=hb&1;
+Pe=Ne;
+L14:switch(*(b+Pe)){
+case 78:Qe=Pe+1;
+if(c<=Qe){
+z=0;
+goto L1;}
+Re=*(b+Qe);
+if(*((u8*)t_eb43+Re)==0){
+z=0;
+goto L1;}
+w8(a+192,Pe+2);
+Se=r8(a+160);
+if(r8(a+184)>Se){
+Te=Se;
+Ue=2;
+Ve=Re;
+goto L15;}
+We=make_ready_e3c(a+152);
+if(!(We&1)){
+z=0;
+goto L1;}
+Xe=2;
+Ye=Re;
+break;
+case 73:w8(a+192,Pe+1);
+Ze=r8(a+160);
+if(r8(a+184)>Ze){
+Te=Ze;
+Ue=3;
+Ve=Oe;
+goto L15;}
+af=make_ready_e3c(a+152);
+if(!(af&1)){
+z=0;
+goto L1;}
+Xe=3;
+Ye=Oe;
+break;
+default:bf=Pe;
+goto L16;
+}
+Te=r8(a+160);
+Ue=Xe;
+Ve=Ye;
+L15:cf=rp(a+152)+(Te<<5);
+*cf=Ue;
+cf[1]=Ve;
+x8(cf+8,Pe);
+x8(cf+16,0);
+cf[24]=0;
+w8(a+160,Te+1);
+df=r8(a+192);
+if(df<c){
+Pe=df;
+goto L14;}
+bf=df;}
+else bf=Ne;
+L16:if(bf>=c){
+z=0;
+goto L1;}
+ef=b+(i64)bf;
+switch(*ef){
+case 67:ff=r8(a+8);
+gf=bf+1;
+if(gf<c){
+if(*(b+gf)==115){
+hf=bf+2;
+if(c-hf>=16){
+jf=v16_at(b+hf);
+kf=cttz(v16_ult(v16_add(jf,splat(198)),splat(246))&v16_ult(v16_add(v16_or(jf,splat(32)),splat(133)),splat(230)),16);
+if(kf>=11){
+if(kf!=11)goto L17;
+lf=jf.b[0];
+if(lf==108){
+if((u8)(jf.b[1]-91)>=254)goto L17;}
+else {
+if(!((lf<58)|((u8)(lf-97)<11)))goto L17;}}
+mf=hf+kf;
+if(*(b+mf)==95){
+nf=mf+1;
+goto L18;}}
+L17:of=any_disambiguator_end_f9c(b,c,gf);
+if(of.f0!=1){
+z=0;
+goto L1;}
+nf=of.f1;}
+else nf=gf;}
+else nf=gf;
+L18:if(nf<c){
+pf=*(b+nf);
+if((u8)(pf-58)>=247){
+qf=nf+1;
+if(c>qf){
+rf=*(b+qf);
+if(rf!=95){
+sf=rf-48;
+if(sf<10){
+tf=nf+2;
+if(c<=tf)goto L19;
+if(*((u8*)t_facb+*(b+tf))!=0)goto L19;
+uf=(u64)sf+(u8)((u8)(pf*10)+32);
+if(c-tf<uf)goto L19;
+vf=uf+tf;
+if(!((uf>16)|(vf<16))){
+wf=v16_at(b+(i64)vf-16);
+if((v16_ne(wf,splat(95))&(v16_ult(v16_add(wf,splat(198)),splat(246))&v16_ult(v16_add(v16_or(wf,splat(32)),splat(133)),splat(230))))==0){
+xf=tf;
+yf=vf;
+goto L20;}}
+zf=are_any_name_bytes_0a3(b,tf,vf);
+if(!zf)goto L19;
+xf=tf;
+yf=vf;}
+else{
+Af=pf-48;
+if(c-qf<Af)goto L19;
+Bf=qf+Af;
+if(Bf>=16){
+Cf=v16_at(b+(i64)Bf-16);
+if((v16_ne(Cf,splat(95))&(v16_ult(v16_add(Cf,splat(198)),splat(246))&v16_ult(v16_add(v16_or(Cf,splat(32)),splat(133)),splat(230))))==0){
+xf=qf;
+yf=Bf;
+goto L20;}}
+Df=are_any_name_bytes_0a3(b,qf,Bf);
+if(!Df)goto L19;
+xf=qf;
+yf=Bf;}
+L20:if(yf<=xf){
+z=0;
+goto L1;}
+Ef=yf-xf;
+Ff=r8(a+32)-ff;
+Gf=b+(i64)xf;
+if((c-xf<16)|(Ef>16)||Ff<16){
+if(Ff<Ef){
+Hf=make_ready_8e3(a,Ef,128);
+if(!(Hf&1)){
+z=0;
+goto L1;}}
+If=extend_from_slice_169(a,Gf,Ef);
+if(If&1){
+z=0;
+goto L1;}}
+else{
+Jf=extend_from_slice_169(a,Gf,16);
+if(Jf&1){
+z=0;
+goto L1;}
+Kf=Ef+ff;
+if(r8(a+8)>Kf)w8(a+8,Kf);}
+w8(a+192,yf);
+if(r8(a+136)<=bf){
+z=0;
+goto L1;}
+Lf=r8(a+96);
+if(Lf>65534){
+z=0;
+goto L1;}
+Mf=r8(a+8);
+Nf=a[80];
+if(r8(a+120)>Lf){
+ga=Lf;
+ha=ff;
+ia=Mf;
+ja=0;
+ka=Nf;
+la=Lf;
+ma=bf;
+na=0;
+goto L3;}
+Of=make_ready_b73(a+88);
+if(!(Of&1)){
+z=0;
+goto L1;}
+pa=ff;
+qa=Mf;
+ra=0;
+sa=Nf;
+ta=Lf;
+ua=bf;
+va=0;
+goto L4;}}}}
+L19:Pf=crate_named_anyhow_a78(a,b,c,nf);
+if(!(Pf&1)){
+z=0;
+goto L1;}
+if(r8(a+136)<=bf){
+z=0;
+goto L1;}
+Qf=r8(a+96);
+if(Qf>65534){
+z=0;
+goto L1;}
+Rf=r8(a+8);
+Sf=a[80];
+if(r8(a+120)>Qf){
+ga=Qf;
+ha=ff;
+ia=Rf;
+ja=0;
+ka=Sf;
+la=Qf;
+ma=bf;
+na=0;
+goto L3;}
+Tf=make_ready_b73(a+88);
+if(!(Tf&1)){
+z=0;
+goto L1;}
+pa=ff;
+qa=Rf;
+ra=0;
+sa=Sf;
+ta=Qf;
+ua=bf;
+va=0;
+goto L4;
+case 66:Uf=r8(a+8);
+Vf=bf+1;
+z24(q);
+Wf=c-Vf;
+if(Wf>1){
+if(ef[2]==95){
+Xf=*((u8*)t_84dd+*(b+(i64)Vf));
+if(Xf<=61){
+Yf=3;
+Zf=Xf+1;
+goto L21;}
+if(Wf==2)goto L22;}
+else {
+if(Wf==2)goto L22;}
+if(ef[3]!=95)goto L22;
+ag=b+(i64)Vf;
+bg=0;
+cg=0;
+dg=0;
+L23:eg=*((u8*)t_84dd+*(ag+(i64)dg));
+if(eg>=62)goto L22;
+fg=bg*62+eg;
+if(!cg){
+bg=fg;
+cg=1;
+dg=1;
+goto L23;}
+if(fg==18446744073709551615u)goto L22;
+Yf=4;
+Zf=fg+1;
+L21:gg=Zf;
+hg=Yf+bf;
+goto L24;}
+L22:any_number_at_3d4(q,b,c,Vf);
+if(*q!=1){
+z=0;
+goto L1;}
+gg=r8(q+8);
+hg=r8(q+16);
+L24:if(gg>=0xfffffffffffffffeu){
+z=0;
+goto L1;}
+ig=gg+2;
+if(ig>=r8(a+136)){
+z=0;
+goto L1;}
+jg=r2(rp(a+128)+(i64)(ig<<1));
+if(jg==0){
+z=0;
+goto L1;}
+kg=(u64)jg-1;
+if(kg>=r8(a+96)){
+z=0;
+goto L1;}
+lg=rp(a+88)+(i64)(kg*24);
+mg=q8(lg);
+ng=q8(lg+8);
+og=lg[16];
+if(og>2||ng<mg){
+z=0;
+goto L1;}
+if((u8)(a[80]^lg[17])&1){
+pg=r8(a+48);
+if(pg<ng){
+z=0;
+goto L1;}
+qg=ng-mg;
+rg=r8(a+32)-Uf;
+sg=rp(a+40)+(i64)mg;
+if(!((qg>16)|(pg-mg<16)||rg<16)){
+wg=extend_from_slice_169(a,sg,16);
+if(wg&1){
+z=0;
+goto L1;}
+xg=qg+Uf;
+if(r8(a+8)<=xg)goto L25;
+w8(a+8,xg);
+goto L25;}
+if(rg<qg){
+tg=make_ready_8e3(a,qg,128);
+if(!(tg&1)){
+z=0;
+goto L1;}}
+ug=extend_from_slice_169(a,sg,qg);
+vg=ug^1;}
+else{
+if(Uf<ng){
+z=0;
+goto L1;}
+yg=ng-mg;
+if((Uf-mg>31)&(yg<33)){
+if(r8(a+32)-Uf>31){
+z32(p);
+zg=rp(a)+(i64)mg;
+if(I-(u64)zg<32)copy_bits_4f4(zg,p,32);
+else memcpy(p,zg,32);
+Ag=extend_from_slice_169(a,p,32);
+if(Ag&1)Bg=0;
+else{
+Cg=yg+Uf;
+if(r8(a+8)>Cg){
+w8(a+8,Cg);
+Bg=1;}
+else Bg=1;}
+vg=Bg;
+goto L26;}}
+Dg=repeat_any_4a2(a,mg,ng);
+vg=Dg;}
+L26:if(!(vg&1)){
+z=0;
+goto L1;}
+L25:w8(a+192,hg);
+if(r8(a+136)<=bf){
+z=0;
+goto L1;}
+Eg=r8(a+96);
+if(Eg>65534){
+z=0;
+goto L1;}
+Fg=r8(a+8);
+Gg=a[80];
+if(r8(a+120)>Eg){
+ga=Eg;
+ha=Uf;
+ia=Fg;
+ja=og;
+ka=Gg;
+la=Eg;
+ma=bf;
+na=og;
+goto L3;}
+Hg=make_ready_b73(a+88);
+if(!(Hg&1)){
+z=0;
+goto L1;}
+pa=Uf;
+qa=Fg;
+ra=og;
+sa=Gg;
+ta=Eg;
+ua=bf;
+va=og;
+goto L4;
+case 77:Ig=bf+1;
+if(Ig<c){
+if(*(b+Ig)==115){
+Jg=bf+2;
+if(c-Jg>=16){
+Kg=v16_at(b+Jg);
+Lg=cttz(v16_ult(v16_add(Kg,splat(198)),splat(246))&v16_ult(v16_add(v16_or(Kg,splat(32)),splat(133)),splat(230)),16);
+if(Lg>=11){
+if(Lg!=11)goto L27;
+Mg=Kg.b[0];
+if(Mg==108){
+if((u8)(Kg.b[1]-91)>=254)goto L27;}
+else {
+if(!((Mg<58)|((u8)(Mg-97)<11)))goto L27;}}
+Ng=Jg+Lg;
+if(*(b+Ng)==95){
+Og=Ng+1;
+goto L28;}}
+L27:Pg=any_disambiguator_end_f9c(b,c,Ig);
+if(Pg.f0!=1){
+z=0;
+goto L1;}
+Og=Pg.f1;}
+else Og=Ig;}
+else Og=Ig;
+L28:if(!(a[80]&1)){
+w8(a+192,Og);
+Sg=r8(a+160);
+if(r8(a+184)>Sg)Tg=Sg;
+else{
+Ug=make_ready_e3c(a+152);
+if(!(Ug&1)){
+z=0;
+goto L1;}
+Tg=r8(a+160);}
+Vg=rp(a+152)+(Tg<<5);
+*Vg=5;
+Vg[1]=0;
+x8(Vg+8,bf);
+x8(Vg+16,0);
+Vg[24]=0;
+w8(a+160,Tg+1);
+memcpy(o,a,40);
+memcpy(a,a+40,40);
+memcpy(a+40,o,40);
+a[80]=a[80]^1;
+Ba=0;
+Ca=0;
+Da=0;
+Ea=0;
+goto L5;}
+Qg=begin_inner_impl_daa(a,Og);
+Rg=Qg;
+break;
+case 88:Wg=bf+1;
+if(Wg<c){
+if(*(b+Wg)==115){
+Xg=bf+2;
+if(c-Xg>=16){
+Yg=v16_at(b+Xg);
+Zg=cttz(v16_ult(v16_add(Yg,splat(198)),splat(246))&v16_ult(v16_add(v16_or(Yg,splat(32)),splat(133)),splat(230)),16);
+if(Zg>=11){
+if(Zg!=11)goto L29;
+ah=Yg.b[0];
+if(ah==108){
+if((u8)(Yg.b[1]-91)>=254)goto L29;}
+else {
+if(!((ah<58)|((u8)(ah-97)<11)))goto L29;}}
+bh=Xg+Zg;
+if(*(b+bh)==95){
+ch=bh+1;
+goto L30;}}
+L29:dh=any_disambiguator_end_f9c(b,c,Wg);
+if(dh.f0!=1){
+z=0;
+goto L1;}
+ch=dh.f1;}
+else ch=Wg;}
+else ch=Wg;
+L30:if(!(a[80]&1)){
+w8(a+192,ch);
+fh=r8(a+160);
+if(r8(a+184)>fh)gh=fh;
+else{
+hh=make_ready_e3c(a+152);
+if(!(hh&1)){
+z=0;
+goto L1;}
+gh=r8(a+160);}
+ih=rp(a+152)+(gh<<5);
+*ih=6;
+ih[1]=0;
+x8(ih+8,bf);
+x8(ih+16,0);
+ih[24]=0;
+w8(a+160,gh+1);
+memcpy(n,a,40);
+memcpy(a,a+40,40);
+memcpy(a+40,n,40);
+a[80]=a[80]^1;
+Ba=0;
+Ca=0;
+Da=0;
+Ea=0;
+goto L5;}
+eh=begin_inner_trait_impl_412(a,ch);
+Rg=eh;
+break;
+case 89:jh=r8(a+8);
+kh=bf+1;
+if(r8(a+32)==jh){
+lh=make_ready_8e3(a,1,128);
+if(!(lh&1)){
+z=0;
+goto L1;}}
+mh=extend_from_slice_169(a,(u8*)t_dabd,1);
+if(mh&1){
+z=0;
+goto L1;}
+nh=r8(a+160);
+if(r8(a+184)>nh)oh=nh;
+else{
+ph=make_ready_e3c(a+152);
+if(!(ph&1)){
+z=0;
+goto L1;}
+oh=r8(a+160);}
+qh=rp(a+152)+(oh<<5);
+*qh=10;
+qh[1]=0;
+x8(qh+8,bf);
+x8(qh+16,jh);
+qh[24]=0;
+w8(a+160,oh+1);
+w8(a+192,kh);
+Ba=0;
+Ca=0;
+Da=0;
+Ea=1;
+goto L5;
+default:z=0;
+goto L1;
+}
+if(Rg==0){
+z=0;
+goto L1;}
+Ba=0;
+Ca=0;
+Da=0;
+Ea=0;
+goto L5;
+L4:ga=r8(a+96);
+ha=pa;
+ia=qa;
+ja=ra;
+ka=sa;
+la=ta;
+ma=ua;
+na=va;
+L3:rh=rp(a+88)+ga*24;
+x8(rh,ha);
+x8(rh+8,ia);
+rh[16]=ja;
+rh[17]=ka;
+z6(rh+18);
+w8(a+96,ga+1);
+w2(rp(a+128)+(i64)(ma<<1),(u16)la+1);
+ib=na;
+jb=ha;
+L7:sh=ib<3;
+L31:th=r8(a+160);
+if(th==0){
+z=0;
+goto L1;}
+uh=th-1;
+w8(a+160,uh);
+vh=rp(a+152);
+wh=uh<<5;
+xh=vh+wh;
+yh=xh[1];
+zh=q8(xh+8);
+Ah=q8(xh+16);
+Bh=xh[24];
+switch(*xh){
+case 2:if(yh>=97){
+if(!sh){
+z=0;
+goto L1;}
+Mh=r8(a+192);
+if(Mh<c){
+if(*(b+Mh)==115){
+Nh=Mh+1;
+if(c-Nh>=16){
+Oh=v16_at(b+Nh);
+Ph=cttz(v16_ult(v16_add(Oh,splat(198)),splat(246))&v16_ult(v16_add(v16_or(Oh,splat(32)),splat(133)),splat(230)),16);
+if(Ph>=11){
+if(Ph!=11)goto L32;
+Qh=Oh.b[0];
+if(Qh==108){
+if((u8)(Oh.b[1]-91)>=254)goto L32;}
+else {
+if(!((Qh<58)|((u8)(Qh-97)<11)))goto L32;}}
+Rh=Nh+Ph;
+if(*(b+Rh)==95){
+Sh=Rh+1;
+goto L33;}}
+L32:Th=any_disambiguator_end_f9c(b,c,Mh);
+if(Th.f0!=1){
+z=0;
+goto L1;}
+Sh=Th.f1;}
+else Sh=Mh;}
+else Sh=Mh;
+L33:if(Sh<c){
+Uh=*(b+Sh);
+if((u8)(Uh-58)>=247){
+Vh=Sh+1;
+if(c>Vh){
+Wh=*(b+Vh);
+if(Wh!=95){
+Xh=Wh-48;
+if(Xh<10){
+Yh=Sh+2;
+if(c<=Yh)goto L34;
+if(*((u8*)t_facb+*(b+Yh))!=0)goto L34;
+Zh=(u64)Xh+(u8)((u8)(Uh*10)+32);
+if(c-Yh<Zh)goto L34;
+ai=Zh+Yh;
+if(!((Zh>16)|(ai<16))){
+bi=v16_at(b+(i64)ai-16);
+if((v16_ne(bi,splat(95))&(v16_ult(v16_add(bi,splat(198)),splat(246))&v16_ult(v16_add(v16_or(bi,splat(32)),splat(133)),splat(230))))==0){
+ci=Yh;
+di=ai;
+goto L35;}}
+ei=are_any_name_bytes_0a3(b,Yh,ai);
+if(!ei)goto L34;
+ci=Yh;
+di=ai;}
+else{
+fi=Uh-48;
+if(c-Vh<fi)goto L34;
+gi=Vh+fi;
+if(gi>=16){
+hi=v16_at(b+(i64)gi-16);
+if((v16_ne(hi,splat(95))&(v16_ult(v16_add(hi,splat(198)),splat(246))&v16_ult(v16_add(v16_or(hi,splat(32)),splat(133)),splat(230))))==0){
+ci=Vh;
+di=gi;
+goto L35;}}
+ii=are_any_name_bytes_0a3(b,Vh,gi);
+if(!ii)goto L34;
+ci=Vh;
+di=gi;}
+L35:if(di<=ci){
+z=0;
+goto L1;}
+ji=r8(a+8);
+ki=di-ci;
+li=(c-ci<16)|(ki>16);
+mi=r8(a+32)-ji;
+if(li||mi<18){
+if(mi<2){
+ni=make_ready_8e3(a,2,128);
+if(!(ni&1))goto L36;
+oi=r8(a+8);}
+else oi=ji;
+*(rp(a)+oi)=58;
+*(rp(a)+(i64)oi+1)=58;
+pi=oi+2;
+w8(a+8,pi);
+qi=r8(a+32)-pi;
+ri=b+(i64)ci;
+if(li||qi<16){
+if(qi<ki){
+si=make_ready_8e3(a,ki,128);
+if(!(si&1))goto L36;
+ti=r8(a+8);}
+else ti=pi;
+ui=r8(a+16);
+if(ki>ui-ti){
+vi=grow_amortized_2b6(a,ki);
+if(!vi){
+z=0;
+goto L1;}
+wi=r8(a+16);
+xi=r8(a+8);}
+else{
+wi=ui;
+xi=ti;}
+yi=xi+ki;
+zi=rp(a);
+z16(a+8);
+Ai=zi+(i64)xi;
+if((u64)Ai-(u64)ri<ki)copy_bits_4f4(ri,Ai,ki);
+else memmove(Ai,ri,ki);
+wp(a,zi);
+w8(a+8,yi);
+w8(a+16,wi);
+Bi=yi;
+goto L37;}
+Ci=r8(a+16);
+if(Ci-pi<16){
+Di=grow_amortized_2b6(a,16);
+if(!Di)goto L36;
+Ei=r8(a+16);
+Fi=r8(a+8);}
+else{
+Ei=Ci;
+Fi=pi;}
+Gi=Fi+16;
+Hi=rp(a);
+z16(a+8);
+Ii=Hi+(i64)Fi;
+if((u64)Ii-(u64)ri<16)copy_bits_4f4(ri,Ii,16);
+else memmove(Ii,ri,16);
+wp(a,Hi);
+w8(a+8,Gi);
+w8(a+16,Ei);
+Ji=pi+ki;
+if(Gi<=Ji){
+Bi=Gi;
+goto L37;}
+Ki=Ji;}
+else{
+z16(m+2);
+*m=58;
+m[1]=58;
+Li=b+(i64)ci;
+if(J-(u64)Li<16){
+copy_bits_4f4(Li,m+2,16);
+Mi=r8(a+8);}
+else{
+memcpy(m+2,Li,16);
+Mi=ji;}
+Ni=r8(a+16);
+if(Ni-Mi<18){
+Oi=grow_amortized_2b6(a,18);
+if(!Oi)goto L36;
+Pi=r8(a+16);
+Qi=r8(a+8);}
+else{
+Pi=Ni;
+Qi=Mi;}
+Ri=Qi+18;
+Si=rp(a);
+z16(a+8);
+Ti=Si+(i64)Qi;
+if((u64)Ti-K<18)copy_bits_4f4(m,Ti,18);
+else memcpy(Ti,m,18);
+wp(a,Si);
+w8(a+8,Ri);
+w8(a+16,Pi);
+Ui=ki+2+ji;
+if(Ri<=Ui){
+Bi=Ri;
+goto L37;}
+Ki=Ui;}
+w8(a+8,Ki);
+Bi=Ki;
+goto L37;
+L36:z=0;
+goto L1;
+L37:w8(a+192,di);
+if(di<c){
+if(*(b+di)==48){
+Vi=r8(a+160);
+if(Vi!=0){
+Wi=rp(a+152)+(i64)(Vi<<5);
+if(Wi[-32]==2){
+if(Wi[-31]>96){
+Xi=unnamed_ended_2a9(a,b,c,zh,jb,ib);
+Yi=Xi;
+goto L38;}}}}}
+if(r8(a+136)<=zh){
+z=0;
+goto L1;}
+Zi=r8(a+96);
+if(Zi>65534){
+z=0;
+goto L1;}
+aj=a[80];
+if(r8(a+120)>Zi)bj=Zi;
+else{
+cj=make_ready_b73(a+88);
+if(!(cj&1)){
+z=0;
+goto L1;}
+bj=r8(a+96);}
+dj=rp(a+88)+bj*24;
+x8(dj,jb);
+x8(dj+8,Bi);
+dj[16]=ib;
+dj[17]=aj;
+z6(dj+18);
+w8(a+96,bj+1);
+w2(rp(a+128)+(i64)(zh<<1),(u16)Zi+1);
+Yi=1;
+goto L38;}}}}
+L34:ej=nest_named_anyhow_896(a,b,c,jb,ib,zh,Sh);
+Yi=ej;
+L38:if(Yi&1)goto L31;
+z=0;
+goto L1;}
+z32(g);
+if(sh&(yh>64)){
+switch(yh){
+case 67:special_named_040(g,a,b,c,jb,ib,zh,(u8*)t_6d4c,7);
+break;
+case 83:special_named_040(g,a,b,c,jb,ib,zh,(u8*)t_04e6,4);
+break;
+default:*h=yh;
+special_named_040(g,a,b,c,jb,ib,zh,h,1);
+break;}
+Ch=*g;
+Dh=g[8];
+Eh=g[9];
+Fh=r8(g+16);
+Gh=g[24];}
+else{
+Ch=0;
+Dh=0;
+Eh=0;
+Fh=0;
+Gh=0;}
+Hh=Ch;
+Ih=Dh;
+Jh=Eh;
+Kh=Fh;
+Lh=Gh;
+break;
+case 0:if(ib>=2){
+z=0;
+goto L1;}
+if(a[80]&1){
+z=0;
+goto L1;}
+fj=r8(a+192);
+if(fj<c){
+if((u8)(*(b+fj)-65)<26){
+if(r8(a+184)>uh){
+gj=wh;
+hj=vh;
+ij=th;}
+else{
+jj=make_ready_e3c(a+152);
+if(!(jj&1)){
+z=0;
+goto L1;}
+kj=r8(a+160);
+gj=kj<<5;
+hj=rp(a+152);
+ij=kj+1;}
+lj=hj+gj;
+*lj=1;
+lj[1]=0;
+z17(lj+8);
+w8(a+160,ij);
+memcpy(k,a,40);
+memcpy(a,a+40,40);
+memcpy(a+40,k,40);
+a[80]=a[80]^1;
+Ba=0;
+Ca=0;
+Da=0;
+Ea=0;
+goto L5;}}
+z32(l);
+if(fj==c){
+mj=1;
+nj=4;
+oj=0;
+pj=0;
+qj=0;}
+else{
+push_suffix_a57(l,a,b,c);
+mj=*l;
+nj=l[8];
+oj=l[9];
+pj=r8(l+16);
+qj=l[24];}
+Hh=mj;
+Ih=nj;
+Jh=oj;
+Kh=pj;
+Lh=qj;
+break;
+case 1:if(!sh){
+z=0;
+goto L1;}
+if(!(a[80]&1)){
+z=0;
+goto L1;}
+memcpy(i,a,40);
+memcpy(a,a+40,40);
+memcpy(a+40,i,40);
+a[80]=0;
+z32(j);
+if(r8(a+192)==c){
+rj=1;
+sj=4;
+tj=0;
+uj=0;
+vj=0;}
+else{
+push_suffix_a57(j,a,b,c);
+rj=*j;
+sj=j[8];
+tj=j[9];
+uj=r8(j+16);
+vj=j[24];}
+Hh=rj;
+Ih=sj;
+Jh=tj;
+Kh=uj;
+Lh=vj;
+break;
+case 12:switch(ib){
+case 0:case 2:case 3:wj=r8(a+192);
+if(wj<c){
+if(*(b+wj)==69){
+if(ib==1){
+z=0;
+goto L1;}
+xj=Bh&1;
+w8(a+192,wj+1);
+yj=xj?2:1;
+zj=xj?(u8*)t_b4da:(u8*)t_ba5e;
+Aj=r8(a+8);
+if(r8(a+32)-Aj<yj){
+Bj=make_ready_8e3(a,yj,128);
+if(!(Bj&1)){
+z=0;
+goto L1;}
+Cj=r8(a+8);}
+else Cj=Aj;
+Dj=r8(a+16);
+if(yj>Dj-Cj){
+Ej=grow_amortized_2b6(a,yj);
+if(!Ej){
+z=0;
+goto L1;}
+Fj=r8(a+16);
+Gj=r8(a+8);}
+else{
+Fj=Dj;
+Gj=Cj;}
+Hj=Gj+yj;
+Ij=rp(a);
+z16(a+8);
+Jj=Ij+(i64)Gj;
+if((u64)Jj-(u64)zj<yj)copy_bits_4f4(zj,Jj,yj);
+else memcpy(Jj,zj,yj);
+wp(a,Ij);
+w8(a+8,Hj);
+w8(a+16,Fj);
+if(r8(a+136)<=zh){
+z=0;
+goto L1;}
+Kj=r8(a+96);
+if(Kj>65534){
+z=0;
+goto L1;}
+Lj=a[80];
+if(r8(a+120)>Kj)Mj=Kj;
+else{
+Nj=make_ready_b73(a+88);
+if(!(Nj&1)){
+z=0;
+goto L1;}
+Mj=r8(a+96);}
+Oj=rp(a+88)+Mj*24;
+x8(Oj,Ah);
+x8(Oj+8,Hj);
+Oj[16]=3;
+Oj[17]=Lj;
+z6(Oj+18);
+w8(a+96,Mj+1);
+w2(rp(a+128)+(i64)(zh<<1),(u16)Kj+1);
+Ba=3;
+Ca=Ah;
+Da=0;
+Ea=2;
+goto L5;}}
+Pj=r8(a+8);
+if(r8(a+32)-Pj<2){
+Qj=make_ready_8e3(a,2,128);
+if(!(Qj&1)){
+z=0;
+goto L1;}
+Rj=r8(a+8);}
+else Rj=Pj;
+*(rp(a)+Rj)=44;
+*(rp(a)+(i64)Rj+1)=32;
+w8(a+8,Rj+2);
+Sj=r8(a+160);
+if(r8(a+184)>Sj)Tj=Sj;
+else{
+Uj=make_ready_e3c(a+152);
+if(!(Uj&1)){
+z=0;
+goto L1;}
+Tj=r8(a+160);}
+Vj=rp(a+152)+(Tj<<5);
+*Vj=12;
+Vj[1]=0;
+x8(Vj+8,zh);
+x8(Vj+16,Ah);
+Vj[24]=0;
+w8(a+160,Tj+1);
+Ba=0;
+Ca=0;
+Da=0;
+Ea=1;
+goto L5;
+case 1:case 4:z=0;
+goto L1;
+default:NEVER;
+}
+break;
+case 3:Wj=yh&1;
+switch(ib){
+case 0:if(Wj)goto L39;
+break;
+case 1:if(Wj)goto L39;
+z=0;
+goto L1;
+case 2:if(Wj){
+z=0;
+goto L1;}
+break;
+case 3:case 4:z=0;
+goto L1;
+default:NEVER;
+}
+Xj=r8(a+8);
+if(r8(a+32)>Xj)Yj=Xj;
+else{
+Zj=make_ready_8e3(a,1,16);
+if(!(Zj&1)){
+z=0;
+goto L1;}
+Yj=r8(a+8);}
+*(rp(a)+Yj)=60;
+w8(a+8,Yj+1);
+goto L40;
+L39:ak=r8(a+8);
+if(r8(a+32)-ak<3){
+bk=make_ready_8e3(a,3,128);
+if(!(bk&1)){
+z=0;
+goto L1;}
+ck=r8(a+8);}
+else ck=ak;
+dk=r8(a+16);
+if(dk-ck<3){
+ek=grow_amortized_2b6(a,3);
+if(!ek){
+z=0;
+goto L1;}
+fk=r8(a+16);
+gk=r8(a+8);}
+else{
+fk=dk;
+gk=ck;}
+hk=gk+3;
+ik=rp(a);
+z16(a+8);
+jk=ik+(i64)gk;
+if((u64)jk-(u64)(u8*)t_c207<3)copy_bits_4f4((u8*)t_c207,jk,3);
+else memcpy(jk,(u8*)t_c207,3);
+wp(a,ik);
+w8(a+8,hk);
+w8(a+16,fk);
+L40:kk=yh&1;
+lk=r8(a+160);
+if(r8(a+184)>lk)mk=lk;
+else{
+nk=make_ready_e3c(a+152);
+if(!(nk&1)){
+z=0;
+goto L1;}
+mk=r8(a+160);}
+ok=rp(a+152)+(mk<<5);
+*ok=4;
+ok[1]=0;
+x8(ok+8,zh);
+x8(ok+16,jb);
+ok[24]=kk;
+w8(a+160,mk+1);
+Ba=0;
+Ca=0;
+Da=1;
+Ea=3;
+goto L5;
+case 4:switch(ib){
+case 0:case 2:case 3:pk=Bh&1;
+if(r8(a+184)>uh){
+qk=wh;
+rk=vh;
+sk=th;}
+else{
+tk=make_ready_e3c(a+152);
+if(!(tk&1)){
+z=0;
+goto L1;}
+uk=r8(a+160);
+qk=uk<<5;
+rk=rp(a+152);
+sk=uk+1;}
+vk=rk+qk;
+*vk=4;
+vk[1]=0;
+x8(vk+8,zh);
+x8(vk+16,Ah);
+vk[24]=pk;
+w8(a+160,sk);
+Ba=0;
+Ca=0;
+Da=0;
+Ea=3;
+goto L5;
+case 1:case 4:z=0;
+goto L1;
+default:NEVER;
+}
+break;
+case 5:if(!sh){
+z=0;
+goto L1;}
+if(!(a[80]&1)){
+z=0;
+goto L1;}
+memcpy(f,a,40);
+memcpy(a,a+40,40);
+memcpy(a+40,f,40);
+a[80]=0;
+wk=r8(a+8);
+if(r8(a+32)>wk)xk=wk;
+else{
+yk=make_ready_8e3(a,1,16);
+if(!(yk&1)){
+z=0;
+goto L1;}
+xk=r8(a+8);}
+*(rp(a)+xk)=60;
+w8(a+8,xk+1);
+zk=r8(a+160);
+if(r8(a+184)>zk)Ak=zk;
+else{
+Bk=make_ready_e3c(a+152);
+if(!(Bk&1)){
+z=0;
+goto L1;}
+Ak=r8(a+160);}
+Ck=rp(a+152)+(Ak<<5);
+*Ck=9;
+Ck[1]=0;
+x8(Ck+8,zh);
+x8(Ck+16,wk);
+Ck[24]=2;
+w8(a+160,Ak+1);
+Ba=0;
+Ca=0;
+Da=0;
+Ea=1;
+goto L5;
+case 9:switch(Bh){
+case 0:switch(ib){
+case 0:case 2:case 3:if(r8(a+136)<=zh){
+z=0;
+goto L1;}
+Dk=r8(a+96);
+if(Dk>65534){
+z=0;
+goto L1;}
+Ek=r8(a+8);
+Fk=a[80];
+if(r8(a+120)>Dk)Gk=Dk;
+else{
+Hk=make_ready_b73(a+88);
+if(!(Hk&1)){
+z=0;
+goto L1;}
+Gk=r8(a+96);}
+Ik=rp(a+88)+Gk*24;
+x8(Ik,Ah);
+x8(Ik+8,Ek);
+Ik[16]=3;
+Ik[17]=Fk;
+z6(Ik+18);
+w8(a+96,Gk+1);
+w2(rp(a+128)+(i64)(zh<<1),(u16)Dk+1);
+Ba=3;
+Ca=Ah;
+Da=0;
+Ea=2;
+goto L5;
+case 1:case 4:z=0;
+goto L1;
+default:NEVER;
+}
+break;
+case 1:switch(ib){
+case 0:case 2:case 3:Jk=r8(a+8);
+if(r8(a+32)>Jk)Kk=Jk;
+else{
+Lk=make_ready_8e3(a,1,16);
+if(!(Lk&1)){
+z=0;
+goto L1;}
+Kk=r8(a+8);}
+*(rp(a)+Kk)=93;
+Mk=Kk+1;
+w8(a+8,Mk);
+if(r8(a+136)<=zh){
+z=0;
+goto L1;}
+Nk=r8(a+96);
+if(Nk>65534){
+z=0;
+goto L1;}
+Ok=a[80];
+if(r8(a+120)>Nk)Pk=Nk;
+else{
+Qk=make_ready_b73(a+88);
+if(!(Qk&1)){
+z=0;
+goto L1;}
+Pk=r8(a+96);}
+Rk=rp(a+88)+Pk*24;
+x8(Rk,Ah);
+x8(Rk+8,Mk);
+Rk[16]=3;
+Rk[17]=Ok;
+z6(Rk+18);
+w8(a+96,Pk+1);
+w2(rp(a+128)+(i64)(zh<<1),(u16)Nk+1);
+Ba=3;
+Ca=Ah;
+Da=0;
+Ea=2;
+goto L5;
+case 1:case 4:z=0;
+goto L1;
+default:NEVER;
+}
+break;
+case 2:switch(ib){
+case 0:case 2:case 3:Sk=r8(a+8);
+if(r8(a+32)>Sk)Tk=Sk;
+else{
+Uk=make_ready_8e3(a,1,16);
+if(!(Uk&1)){
+z=0;
+goto L1;}
+Tk=r8(a+8);}
+*(rp(a)+Tk)=62;
+Vk=Tk+1;
+w8(a+8,Vk);
+if(r8(a+136)<=zh){
+z=0;
+goto L1;}
+Wk=r8(a+96);
+if(Wk>65534){
+z=0;
+goto L1;}
+Xk=a[80];
+if(r8(a+120)>Wk)Yk=Wk;
+else{
+Zk=make_ready_b73(a+88);
+if(!(Zk&1)){
+z=0;
+goto L1;}
+Yk=r8(a+96);}
+al=rp(a+88)+Yk*24;
+x8(al,Ah);
+x8(al+8,Vk);
+al[16]=0;
+al[17]=Xk;
+z6(al+18);
+w8(a+96,Yk+1);
+w2(rp(a+128)+(i64)(zh<<1),(u16)Wk+1);
+Ba=0;
+Ca=Ah;
+Da=0;
+Ea=2;
+goto L5;
+case 1:case 4:z=0;
+goto L1;
+default:NEVER;
+}
+break;
+default:NEVER;
+}
+break;
+case 13:switch(ib){
+case 0:case 2:bl=r8(a+192);
+if(bl<c){
+if(*(b+bl)==69){
+cl=bl+1;
+if(cl>=c){
+z=0;
+goto L1;}
+if(*(b+cl)!=76){
+z=0;
+goto L1;}
+dl=bl+2;
+if(dl>=c){
+z=0;
+goto L1;}
+if(*(b+dl)!=95){
+z=0;
+goto L1;}
+w8(a+192,bl+3);
+if(r8(a+136)<=zh){
+z=0;
+goto L1;}
+el=r8(a+96);
+if(el>65534){
+z=0;
+goto L1;}
+fl=r8(a+8);
+gl=a[80];
+if(r8(a+120)>el)hl=el;
+else{
+il=make_ready_b73(a+88);
+if(!(il&1)){
+z=0;
+goto L1;}
+hl=r8(a+96);}
+jl=rp(a+88)+hl*24;
+x8(jl,Ah);
+x8(jl+8,fl);
+jl[16]=3;
+jl[17]=gl;
+z6(jl+18);
+w8(a+96,hl+1);
+w2(rp(a+128)+(i64)(zh<<1),(u16)el+1);
+Ba=3;
+Ca=Ah;
+Da=0;
+Ea=2;
+goto L5;}}
+kl=r8(a+8);
+if(r8(a+32)-kl<3){
+ll=make_ready_8e3(a,3,128);
+if(!(ll&1)){
+z=0;
+goto L1;}
+ml=r8(a+8);}
+else ml=kl;
+nl=r8(a+16);
+if(nl-ml<3){
+ol=grow_amortized_2b6(a,3);
+if(!ol){
+z=0;
+goto L1;}
+pl=r8(a+16);
+ql=r8(a+8);}
+else{
+pl=nl;
+ql=ml;}
+rl=ql+3;
+sl=rp(a);
+z16(a+8);
+tl=sl+(i64)ql;
+if((u64)tl-(u64)(u8*)t_4620<3)copy_bits_4f4((u8*)t_4620,tl,3);
+else memcpy(tl,(u8*)t_4620,3);
+wp(a,sl);
+w8(a+8,rl);
+w8(a+16,pl);
+ul=r8(a+160);
+if(r8(a+184)>ul)vl=ul;
+else{
+wl=make_ready_e3c(a+152);
+if(!(wl&1)){
+z=0;
+goto L1;}
+vl=r8(a+160);}
+xl=rp(a+152)+(vl<<5);
+*xl=13;
+xl[1]=0;
+x8(xl+8,zh);
+x8(xl+16,Ah);
+xl[24]=0;
+w8(a+160,vl+1);
+Ba=0;
+Ca=0;
+Da=0;
+Ea=0;
+goto L5;
+case 1:case 3:case 4:z=0;
+goto L1;
+default:NEVER;
+}
+break;
+case 14:switch(ib){
+case 0:case 2:case 3:yl=r8(a+192);
+zl=r8(a+8);
+if(r8(a+32)-zl<2){
+Al=make_ready_8e3(a,2,128);
+if(!(Al&1)){
+z=0;
+goto L1;}
+Bl=r8(a+8);}
+else Bl=zl;
+*(rp(a)+Bl)=59;
+*(rp(a)+(i64)Bl+1)=32;
+Cl=Bl+2;
+w8(a+8,Cl);
+Dl=constant_at_b72(a,b,c,yl);
+if(Dl.f0!=1){
+z=0;
+goto L1;}
+if(r8(a+136)<=yl){
+z=0;
+goto L1;}
+El=r8(a+96);
+if(El>65534){
+z=0;
+goto L1;}
+Fl=Dl.f1;
+Gl=r8(a+8);
+Hl=a[80];
+if(r8(a+120)>El)Il=El;
+else{
+Jl=make_ready_b73(a+88);
+if(!(Jl&1)){
+z=0;
+goto L1;}
+Il=r8(a+96);}
+Kl=rp(a+88)+Il*24;
+x8(Kl,Cl);
+x8(Kl+8,Gl);
+Kl[16]=4;
+Kl[17]=Hl;
+z6(Kl+18);
+w8(a+96,Il+1);
+w2(rp(a+128)+(i64)(yl<<1),(u16)El+1);
+w8(a+192,Fl);
+Ll=r8(a+8);
+if(r8(a+32)>Ll)Ml=Ll;
+else{
+Nl=make_ready_8e3(a,1,16);
+if(!(Nl&1)){
+z=0;
+goto L1;}
+Ml=r8(a+8);}
+*(rp(a)+Ml)=93;
+Ol=Ml+1;
+w8(a+8,Ol);
+if(r8(a+136)<=zh){
+z=0;
+goto L1;}
+Pl=r8(a+96);
+if(Pl>65534){
+z=0;
+goto L1;}
+Ql=a[80];
+if(r8(a+120)>Pl)Rl=Pl;
+else{
+Sl=make_ready_b73(a+88);
+if(!(Sl&1)){
+z=0;
+goto L1;}
+Rl=r8(a+96);}
+Tl=rp(a+88)+Rl*24;
+x8(Tl,Ah);
+x8(Tl+8,Ol);
+Tl[16]=3;
+Tl[17]=Ql;
+z6(Tl+18);
+w8(a+96,Rl+1);
+w2(rp(a+128)+(i64)(zh<<1),(u16)Pl+1);
+Ba=3;
+Ca=Ah;
+Da=0;
+Ea=2;
+goto L5;
+case 1:case 4:z=0;
+goto L1;
+default:NEVER;
+}
+break;
+case 6:if(!sh){
+z=0;
+goto L1;}
+if(!(a[80]&1)){
+z=0;
+goto L1;}
+memcpy(e,a,40);
+memcpy(a,a+40,40);
+memcpy(a+40,e,40);
+a[80]=0;
+Ul=r8(a+8);
+if(r8(a+32)>Ul)Vl=Ul;
+else{
+Wl=make_ready_8e3(a,1,16);
+if(!(Wl&1)){
+z=0;
+goto L1;}
+Vl=r8(a+8);}
+*(rp(a)+Vl)=60;
+w8(a+8,Vl+1);
+Xl=r8(a+160);
+if(r8(a+184)>Xl)Yl=Xl;
+else{
+Zl=make_ready_e3c(a+152);
+if(!(Zl&1)){
+z=0;
+goto L1;}
+Yl=r8(a+160);}
+am=rp(a+152)+(Yl<<5);
+*am=10;
+am[1]=0;
+x8(am+8,zh);
+x8(am+16,Ul);
+am[24]=0;
+w8(a+160,Yl+1);
+Ba=0;
+Ca=0;
+Da=0;
+Ea=1;
+goto L5;
+case 7:if(!sh){
+z=0;
+goto L1;}
+bm=r8(a+8);
+if(r8(a+32)>bm)cm=bm;
+else{
+dm=make_ready_8e3(a,1,16);
+if(!(dm&1)){
+z=0;
+goto L1;}
+cm=r8(a+8);}
+*(rp(a)+cm)=60;
+w8(a+8,cm+1);
+em=r8(a+160);
+if(r8(a+184)>em)fm=em;
+else{
+gm=make_ready_e3c(a+152);
+if(!(gm&1)){
+z=0;
+goto L1;}
+fm=r8(a+160);}
+hm=rp(a+152)+(fm<<5);
+*hm=9;
+hm[1]=0;
+x8(hm+8,zh);
+x8(hm+16,bm);
+hm[24]=2;
+w8(a+160,fm+1);
+Ba=0;
+Ca=0;
+Da=0;
+Ea=1;
+goto L5;
+case 8:if(!sh){
+z=0;
+goto L1;}
+im=r8(a+8);
+if(r8(a+32)>im)jm=im;
+else{
+km=make_ready_8e3(a,1,16);
+if(!(km&1)){
+z=0;
+goto L1;}
+jm=r8(a+8);}
+*(rp(a)+jm)=60;
+w8(a+8,jm+1);
+lm=r8(a+160);
+if(r8(a+184)>lm)mm=lm;
+else{
+nm=make_ready_e3c(a+152);
+if(!(nm&1)){
+z=0;
+goto L1;}
+mm=r8(a+160);}
+om=rp(a+152)+(mm<<5);
+*om=10;
+om[1]=0;
+x8(om+8,zh);
+x8(om+16,im);
+om[24]=0;
+w8(a+160,mm+1);
+Ba=0;
+Ca=0;
+Da=0;
+Ea=1;
+goto L5;
+case 10:switch(ib){
+case 0:case 2:case 3:pm=r8(a+8);
+if(r8(a+32)-pm<4){
+qm=make_ready_8e3(a,4,128);
+if(!(qm&1)){
+z=0;
+goto L1;}
+rm=r8(a+8);}
+else rm=pm;
+sm=r8(a+16);
+if(sm-rm<4){
+tm=grow_amortized_2b6(a,4);
+if(!tm){
+z=0;
+goto L1;}
+um=r8(a+16);
+vm=r8(a+8);}
+else{
+um=sm;
+vm=rm;}
+wm=vm+4;
+xm=rp(a);
+z16(a+8);
+ym=xm+(i64)vm;
+if((u64)ym-(u64)(u8*)t_fa21<4)copy_bits_4f4((u8*)t_fa21,ym,4);
+else x4(ym,544432416);
+wp(a,xm);
+w8(a+8,wm);
+w8(a+16,um);
+zm=r8(a+160);
+if(r8(a+184)>zm)Am=zm;
+else{
+Bm=make_ready_e3c(a+152);
+if(!(Bm&1)){
+z=0;
+goto L1;}
+Am=r8(a+160);}
+Cm=rp(a+152)+(Am<<5);
+*Cm=11;
+Cm[1]=0;
+x8(Cm+8,zh);
+x8(Cm+16,Ah);
+Cm[24]=0;
+w8(a+160,Am+1);
+Ba=0;
+Ca=0;
+Da=0;
+Ea=0;
+goto L5;
+case 1:case 4:z=0;
+goto L1;
+default:NEVER;
+}
+break;
+case 11:switch(ib){
+case 0:case 2:Dm=r8(a+8);
+if(r8(a+32)>Dm)Em=Dm;
+else{
+Fm=make_ready_8e3(a,1,16);
+if(!(Fm&1)){
+z=0;
+goto L1;}
+Em=r8(a+8);}
+*(rp(a)+Em)=62;
+Gm=Em+1;
+w8(a+8,Gm);
+if(r8(a+136)<=zh){
+z=0;
+goto L1;}
+Hm=r8(a+96);
+if(Hm>65534){
+z=0;
+goto L1;}
+Im=a[80];
+if(r8(a+120)>Hm)Jm=Hm;
+else{
+Km=make_ready_b73(a+88);
+if(!(Km&1)){
+z=0;
+goto L1;}
+Jm=r8(a+96);}
+Lm=rp(a+88)+Jm*24;
+x8(Lm,Ah);
+x8(Lm+8,Gm);
+Lm[16]=0;
+Lm[17]=Im;
+z6(Lm+18);
+w8(a+96,Jm+1);
+w2(rp(a+128)+(i64)(zh<<1),(u16)Hm+1);
+Ba=0;
+Ca=Ah;
+Da=0;
+Ea=2;
+goto L5;
+case 1:case 3:case 4:z=0;
+goto L1;
+default:NEVER;
+}
+break;
+default:NEVER;
+}
+if(Hh!=1){
+z=0;
+goto L1;}
+Ba=Lh;
+Ca=Kh;
+Da=Jh;
+Ea=Ih;
+L5:Mm=L+1;
+if(Mm!=G){
+L=Mm;
+M=Ba;
+N=Ca;
+O=Da;
+P=Ea;
+goto L2;}
+z=0;}}
+else z=0;}
+else z=0;}
+else z=0;
+L1:return z;
+}
+
+/* std_alloc::vec::Vec::grow_amortized */
+static COLD u8 grow_amortized_3c2(u8* a,u64 b)
+{
+u64 c,e,f,g,h;
+u8 d;
+s_64_64 i,j,k;
+c=r8(a+8);
+if(b>(c^18446744073709551615u))d=0;
+else{
+e=r8(a+16);
+f=umax64(c+b,4);
+g=umax64(f,e<<1);
+h=e<0x4000000000000000u?g:f;
+if(h<0x4000000000000000u){
+if(e==0){
+i=port_rattle_alloc(g<<1,2);
+if(!(u8)(i.f0&1)){
+d=0;
+goto L1;}
+j=i;}
+else{
+k=port_rattle_realloc(rp(a),c<<1,h<<1,2);
+if(!(u8)(k.f0&1)){
+d=0;
+goto L1;}
+j=k;}
+wp(a,(u8*)j.f1);
+w8(a+16,h);
+d=1;}
+else d=0;}
+L1:return d;
+}
+
+/* sym_direct::bounded::Bounded::make_ready */
+static u8 make_ready_e3c(u8* a)
+{
+u64 b,c,e,f,h,i;
+u8 d,g;
+b=r8(a+24);
+c=r8(a+8);
+if(b==c)d=0;
+else{
+e=umin64(b-c,16);
+f=r8(a+16);
+if(e>f-c){
+g=grow_amortized_12f(a,e);
+if(!g){
+d=0;
+goto L1;}
+h=r8(a+16);
+i=r8(a+24);}
+else{
+h=f;
+i=b;}
+w8(a+32,umin64(h,i));
+d=1;}
+L1:return d;
+}
+
+/* std_alloc::vec::Vec::grow_amortized */
+static COLD u8 grow_amortized_12f(u8* a,u64 b)
+{
+u64 c,e,f,g,h;
+u8 d;
+s_64_64 i,j,k;
+c=r8(a+8);
+if(b>(c^18446744073709551615u))d=0;
+else{
+e=r8(a+16);
+f=umax64(c+b,4);
+g=umax64(f,e<<1);
+h=e<0x4000000000000000u?g:f;
+if(h<0x400000000000000u){
+if(e==0){
+i=port_rattle_alloc(g<<5,8);
+if(!(u8)(i.f0&1)){
+d=0;
+goto L1;}
+j=i;}
+else{
+k=port_rattle_realloc(rp(a),c<<5,h<<5,8);
+if(!(u8)(k.f0&1)){
+d=0;
+goto L1;}
+j=k;}
+wp(a,(u8*)j.f1);
+w8(a+16,h);
+d=1;}
+else d=0;}
+L1:return d;
+}
+
+/* sym_direct::bounded::Bounded::make_ready */
+static u8 make_ready_b73(u8* a)
+{
+u64 b,c,e,f,h,i;
+u8 d,g;
+b=r8(a+24);
+c=r8(a+8);
+if(b==c)d=0;
+else{
+e=umin64(b-c,16);
+f=r8(a+16);
+if(e>f-c){
+g=grow_amortized_db1(a,e);
+if(!g){
+d=0;
+goto L1;}
+h=r8(a+16);
+i=r8(a+24);}
+else{
+h=f;
+i=b;}
+w8(a+32,umin64(h,i));
+d=1;}
+L1:return d;
+}
+
+/* std_alloc::vec::Vec::grow_amortized */
+static COLD u8 grow_amortized_db1(u8* a,u64 b)
+{
+u64 c,e,f,g,h;
+u8 d;
+s_64_64 i,j,k;
+c=r8(a+8);
+if(b>(c^18446744073709551615u))d=0;
+else{
+e=r8(a+16);
+f=umax64(c+b,4);
+g=umax64(f,e<<1);
+h=e<0x4000000000000000u?g:f;
+if(h<0x555555555555556u){
+if(e==0){
+i=port_rattle_alloc(g*24,8);
+if(!(u8)(i.f0&1)){
+d=0;
+goto L1;}
+j=i;}
+else{
+k=port_rattle_realloc(rp(a),c*24,h*24,8);
+if(!(u8)(k.f0&1)){
+d=0;
+goto L1;}
+j=k;}
+wp(a,(u8*)j.f1);
+w8(a+16,h);
+d=1;}
+else d=0;}
+L1:return d;
+}
+
+/* rust_direct::direct::Direct::constant_at */
+static s_8_64 constant_at_b72(u8* a,u8* b,u64 c,u64 d)
+{
+s_8_64 e,i,j,k,w,x;
+u64 f,h,l,m,n,s,t,u;
+u8 g,o,p,q,r,v;
+if(d<c){
+switch(*(b+d)){
+case 104:case 106:case 109:case 111:case 116:case 121:e=integer_at_209(a,b,c,d+1,0);
+f=e.f1;
+g=e.f0;
+break;
+case 97:case 105:case 108:case 110:case 115:case 120:h=d+1;
+if(h<c){
+if(*(b+h)==110){
+i=integer_at_209(a,b,c,d+2,1);
+j=i;
+goto L1;}}
+k=integer_at_209(a,b,c,h,0);
+j=k;
+L1:f=j.f1;
+g=j.f0;
+break;
+case 98:l=d+1;
+m=d+2;
+if(l!=18446744073709551615u&&m<c){
+if(*(b+m)==95){
+n=d+3;
+switch(*(b+l)){
+case 48:if(r8(a+32)-r8(a+8)<5){
+o=make_ready_8e3(a,5,128);
+if(!(o&1))goto L2;}
+p=extend_from_slice_169(a,(u8*)t_fcbc,5);
+if(!(p&1)){
+f=n;
+g=1;
+break;}
+L2:f=0;
+g=0;
+break;
+case 49:if(r8(a+32)-r8(a+8)<4){
+q=make_ready_8e3(a,4,128);
+if(!(q&1))goto L3;}
+r=extend_from_slice_169(a,(u8*)t_b5be,4);
+if(!(r&1)){
+f=n;
+g=1;
+break;}
+L3:f=0;
+g=0;
+break;
+default:f=0;
+g=0;
+break;}}
+else{
+f=0;
+g=0;}}
+else{
+f=0;
+g=0;}
+break;
+case 112:s=d+1;
+t=r8(a+8);
+if(r8(a+32)>t)u=t;
+else{
+v=make_ready_8e3(a,1,16);
+if(!(v&1)){
+f=0;
+g=0;
+break;}
+u=r8(a+8);}
+*(rp(a)+u)=95;
+w8(a+8,u+1);
+f=s;
+g=1;
+break;
+default:f=0;
+g=0;
+break;}}
+else{
+f=0;
+g=0;}
+w=(s_8_64){0};w.f0=g;
+x=w;x.f1=f;
+return x;
+}
+
+/* rust_direct::direct::Direct::integer_at */
+static s_8_64 integer_at_209(u8* a,u8* b,u64 c,u64 d,u8 e)
+{
+u64 f,h,i,j,l,m,n,o,q,r,t,y,B,D,E,G,H,I;
+u8 g,k,v,w,z,C,F,L;
+u8 *p,*A,*J,*K;
+u128 s,u,x;
+s_8_64 M,N;
+if(c<d){
+f=0;
+g=0;}
+else{
+h=umin64(c-d,c+1)+d;
+if(d>=h){
+j=d;
+goto L1;}
+i=d;
+L2:k=*(b+i);
+if(((u8)(k-48)<10)|((u8)(k-97)<6)){
+l=i+1;
+if(l!=h){
+i=l;
+goto L2;}
+j=h;}
+else j=i;
+L1:if(j==c){
+f=0;
+g=0;}
+else{
+if(*(b+j)==95){
+m=d&4294967295u;
+n=j&4294967295u;
+o=n+1;
+p=b+(i64)m;
+q=n-m;
+if(n==m){
+r=0;
+goto L3;}
+s=0;
+t=0;
+L4:if(s>=((u128)0x1000000000000000u<<64|0x0u)){
+f=0;
+g=0;
+goto L5;}
+u=s<<4;
+v=*(p+(i64)t);
+w=(v<58?208:169)+v;
+if(u>(w^((u128)0xffffffffffffffffu<<64|0xffffffffffffffffu))){
+f=0;
+g=0;
+goto L5;}
+x=u+w;
+y=t+1;
+if(y!=q){
+s=x;
+t=y;
+goto L4;}
+if(x>=((u128)0x1u<<64|0x0u)){
+f=0;
+g=0;
+goto L5;}
+r=x;
+L3:z=e&(r!=0);
+A=z?(u8*)t_3973:(u8*)t_z0;
+B=r8(a+8);
+if(r8(a+32)-B<z){
+C=make_ready_8e3(a,z,128);
+if(!(C&1)){
+f=0;
+g=0;
+goto L5;}
+D=r8(a+8);}
+else D=B;
+E=r8(a+16);
+if(E-D<z){
+F=grow_amortized_2b6(a,z);
+if(!F){
+f=0;
+g=0;
+goto L5;}
+G=r8(a+16);
+H=r8(a+8);}
+else{
+G=E;
+H=D;}
+I=H+z;
+J=rp(a);
+z16(a+8);
+K=J+(i64)H;
+if((u64)K-(u64)A<z)copy_bits_4f4(A,K,z);
+else memcpy(K,A,z);
+wp(a,J);
+w8(a+8,I);
+w8(a+16,G);
+L=push_decimal_701(a,r);
+f=(L&1)?o:0;
+g=L;}
+else{
+f=0;
+g=0;}}}
+L5:M=(s_8_64){0};M.f0=g;
+N=M;N.f1=f;
+return N;
+}
+
+/* rust_direct::direct::Direct::push_decimal */
+static u8 push_decimal_701(u8* a,u64 b)
+{
+u8 c[40];
+u8 d,g,h,q,u,A,E,K,O,R;
+u64 e,f,i,j,k,l,m,r,v,w,x,G,H,M,N,P,Q,S,T,U;
+u16 n,B,F;
+u8 *o,*p,*s,*t,*y,*z,*C,*D,*I,*J,*L,*V,*W;
+if(b<10){
+d=(u8)b|48;
+e=r8(a+8);
+if(r8(a+32)>e)f=e;
+else{
+g=make_ready_8e3(a,1,16);
+if(!(g&1)){
+h=0;
+goto L1;}
+f=r8(a+8);}
+*(rp(a)+f)=d;
+w8(a+8,f+1);
+h=1;}
+else{
+z40(c);
+if(b<=9999){
+k=40;
+l=b;
+goto L2;}
+i=b;
+j=40;
+L3:m=i/10000;
+n=i%10000;
+o=(u8*)t_bedf+((u64)(n%100)<<1);
+p=c+(i64)j;
+q=o[1];
+p[-2]=*o;
+p[-1]=q;
+r=j-4;
+s=(u8*)t_bedf+((u64)(n/100)<<1);
+t=c+r;
+u=s[1];
+*t=*s;
+t[1]=u;
+if(i>99999999){
+i=m;
+j=r;
+goto L3;}
+k=r;
+l=m;
+L2:if(l<100){
+if(l<10){
+v=k-1;
+*(c+v)=(u8)l|48;
+w=v;}
+else{
+x=k-2;
+y=(u8*)t_bedf+(l<<1);
+z=c+x;
+A=y[1];
+*z=*y;
+z[1]=A;
+w=x;}}
+else{
+B=l;
+C=(u8*)t_bedf+((u64)(B%100)<<1);
+D=c+(i64)k;
+E=C[1];
+D[-2]=*C;
+D[-1]=E;
+F=B/100;
+if(l<1000){
+G=k-3;
+*(c+G)=(u8)F|48;
+w=G;}
+else{
+H=k-4;
+I=(u8*)t_bedf+((u64)F<<1);
+J=c+H;
+K=I[1];
+*J=*I;
+J[1]=K;
+w=H;}}
+L=c+(i64)w;
+M=40-w;
+N=r8(a+8);
+if(r8(a+32)-N<M){
+O=make_ready_8e3(a,M,128);
+if(!(O&1)){
+h=0;
+goto L1;}
+P=r8(a+8);}
+else P=N;
+Q=r8(a+16);
+if(M>Q-P){
+R=grow_amortized_2b6(a,M);
+if(!R){
+h=0;
+goto L1;}
+S=r8(a+16);
+T=r8(a+8);}
+else{
+S=Q;
+T=P;}
+U=T+M;
+V=rp(a);
+z16(a+8);
+W=V+(i64)T;
+if((u64)W-(u64)L<M)copy_bits_4f4(L,W,M);
+else memcpy(W,L,M);
+wp(a,V);
+w8(a+8,U);
+w8(a+16,S);
+h=1;}
+L1:return h;
+}
+
+/* rust_direct::tokens::any_number_at */
+static void any_number_at_3d4(u8* a,u8* b,u64 c,u64 d)
+{
+u64 e,f,g,h,i,j,k,l,n,o,p,q,r,t,u,v,x,y,z;
+u8 *m;
+u8 s,w;
+if(c<d)z24(a);
+else{
+e=umin64(c-d,11)+d;
+if(d>=e){
+g=d;
+goto L1;}
+f=d;
+L2:if(*((u8*)t_84dd+*(b+f))<62){
+h=f+1;
+if(h!=e){
+f=h;
+goto L2;}
+g=e;}
+else g=f;
+L1:if(g!=c){
+if(*(b+g)==95){
+i=d&4294967295u;
+j=g&4294967295u;
+k=j+1;
+if(j!=i){
+m=b+(i64)i;
+n=j-i;
+if(n>10){
+o=0;
+p=0;
+goto L3;}
+q=0;
+r=0;
+L4:s=*((u8*)t_84dd+*(m+(i64)r));
+if(s>=62)goto L5;
+t=q*62+s;
+u=r+1;
+if(u==n){
+v=t;
+goto L6;}
+q=t;
+r=u;
+goto L4;
+L3:w=*((u8*)t_84dd+*(m+(i64)p));
+if(!((o<0x421084210842109u)&(w<62)))goto L5;
+x=o*62;
+if(x>(w^18446744073709551615u))goto L5;
+y=x+w;
+z=p+1;
+if(z!=n){
+o=y;
+p=z;
+goto L3;}
+v=y;
+L6:if(v!=18446744073709551615u){
+l=v+1;
+goto L7;}
+L5:z24(a);
+goto L8;}
+l=0;
+L7:x8(a,1);
+x8(a+8,l);
+x8(a+16,k);
+goto L8;}}
+z24(a);}
+L8:return;
+}
+
+/* rust_direct::hashes::any_disambiguator_end */
+static s_8_64 any_disambiguator_end_f9c(u8* a,u64 b,u64 c)
+{
+A16 u8 d[24];
+u8 *e,*k;
+u64 f,g,i,j,l,n,p,q,r,s;
+u8 h,m,o,t;
+s_8_64 u,v;
+if(c<b){
+e=a+(i64)c;
+if(*e==115){
+f=c+1;
+z24(d);
+g=b-f;
+if(g>1){
+if(e[2]==95){
+h=*((u8*)t_84dd+*(a+(i64)f));
+if(h<=61){
+i=3;
+j=h+1;
+goto L1;}
+if(g==2)goto L2;}
+else {
+if(g==2)goto L2;}
+if(e[3]!=95)goto L2;
+k=a+(i64)f;
+l=0;
+m=0;
+n=0;
+L3:o=*((u8*)t_84dd+*(k+(i64)n));
+if(o>=62)goto L2;
+p=l*62+o;
+if(!m){
+l=p;
+m=1;
+n=1;
+goto L3;}
+if(p==18446744073709551615u)goto L2;
+i=4;
+j=p+1;
+L1:q=j;
+r=i+c;
+goto L4;}
+L2:any_number_at_3d4(d,a,b,f);
+if(*d!=1)goto L5;
+q=r8(d+8);
+r=r8(d+16);
+L4:if(q!=18446744073709551615u){
+s=r;
+t=1;
+goto L6;}
+L5:s=0;
+t=0;}
+else{
+s=c;
+t=1;}}
+else{
+s=c;
+t=1;}
+L6:u=(s_8_64){0};u.f0=t;
+v=u;v.f1=s;
+return v;
+}
+
+/* rust_direct::names::are_any_name_bytes */
+static u8 are_any_name_bytes_0a3(u8* a,u64 b,u64 c)
+{
+u64 d,f,g,h,i,j,o,p,r,s,u;
+v16 e,k,l;
+u8 m,t;
+u8 *n,*q;
+d=c-b;
+if(d>15){
+e=v16_at(a+b);
+if((v16_ne(e,splat(95))&(v16_ult(v16_add(e,splat(198)),splat(246))&v16_ult(v16_add(v16_or(e,splat(32)),splat(133)),splat(230))))!=0){
+g=b;
+h=d;
+goto L1;}
+f=b;
+L2:i=f+16;
+j=c-i;
+if(j>15){
+k=v16_at(a+i);
+if((v16_ne(k,splat(95))&(v16_ult(v16_add(k,splat(198)),splat(246))&v16_ult(v16_add(v16_or(k,splat(32)),splat(133)),splat(230))))==0){
+f=i;
+goto L2;}
+g=i;
+h=j;}
+else{
+g=i;
+h=j;}}
+else{
+g=b;
+h=d;}
+L1:if(!((c<16)|(h>16))){
+l=v16_at(a+(i64)c-16);
+if((v16_ne(l,splat(95))&(v16_ult(v16_add(l,splat(198)),splat(246))&v16_ult(v16_add(v16_or(l,splat(32)),splat(133)),splat(230))))==0){
+m=1;
+goto L3;}}
+n=a+(i64)g;
+if(h<=3){
+p=0;
+goto L4;}
+o=0;
+L5:q=n+o;
+if((u8)((u8)(*((u8*)t_4efc+q[1])+*((u8*)t_4efc+*q))+*((u8*)t_4efc+q[2]))==(u8)(0-*((u8*)t_4efc+q[3]))){
+r=o+4;
+if(h-r>3){
+o=r;
+goto L5;}
+p=r;}
+else p=o;
+L4:if(p>=h){
+m=1;
+goto L3;}
+s=p;
+L6:t=*((u8*)t_4efc+*(n+s))==0;
+u=s+1;
+if((u!=h)&t){
+s=u;
+goto L6;}
+m=t;
+L3:return m;
+}
+
+/* rust_direct::direct::Direct::crate_named_anyhow */
+static u8 crate_named_anyhow_a78(u8* a,u8* b,u64 c,u64 d)
+{
+A16 u8 e[12];
+u64 f,g,h,i,j,k,n,p,r,s,t,w,y,z,A,D;
+u8 *l,*u,*v,*B,*C;
+u8 m,o,q,x;
+z12(e);
+any_name_span_9bc(e,b,c,d);
+if(*e==1){
+f=q8(e+4);
+g=f>>32;
+h=f&4294967295u;
+if(g>h){
+i=r8(a+8);
+j=g-h;
+k=r8(a+32)-i;
+l=b+(i64)h;
+if((j>16)|(c-h<16)||k<16){
+if(k<j){
+m=make_ready_8e3(a,j,128);
+if(!(m&1)){
+o=0;
+goto L1;}
+n=r8(a+8);}
+else n=i;
+p=r8(a+16);
+if(j>p-n){
+q=grow_amortized_2b6(a,j);
+if(!q){
+o=0;
+goto L1;}
+r=r8(a+16);
+s=r8(a+8);}
+else{
+r=p;
+s=n;}
+t=s+j;
+u=rp(a);
+z16(a+8);
+v=u+(i64)s;
+if((u64)v-(u64)l<j)copy_bits_4f4(l,v,j);
+else memmove(v,l,j);
+wp(a,u);
+w8(a+8,t);
+w8(a+16,r);}
+else{
+w=r8(a+16);
+if(w-i<16){
+x=grow_amortized_2b6(a,16);
+if(!x){
+o=0;
+goto L1;}
+y=r8(a+16);
+z=r8(a+8);}
+else{
+y=w;
+z=i;}
+A=z+16;
+B=rp(a);
+z16(a+8);
+C=B+(i64)z;
+if((u64)C-(u64)l<16)copy_bits_4f4(l,C,16);
+else memmove(C,l,16);
+wp(a,B);
+w8(a+8,A);
+w8(a+16,y);
+D=i+j;
+if(A>D)w8(a+8,D);}
+w8(a+192,g);
+o=1;}
+else o=0;}
+else o=0;
+L1:return o;
+}
+
+/* rust_direct::names::any_name_span */
+static void any_name_span_9bc(u8* a,u8* b,u64 c,u64 d)
+{
+u32 e,j,l,n;
+u64 f,g,h,i,m,o,p,s,t,u,w,x,y,A,B,C,D;
+u8 k,v;
+u8 *q,*r,*z;
+if(c<d){
+e=0;
+f=0;}
+else{
+if(d<c){
+if(*(b+d)==48){
+g=1;
+goto L1;}}
+g=9;
+L1:h=umin64(c-d,g)+d;
+if(d>=h){
+e=0;
+f=0;
+goto L2;}
+i=d;
+j=0;
+L3:k=*(b+i)-48;
+if(k<10){
+l=j*10+k;
+m=i+1;
+if(m!=h){
+i=m;
+j=l;
+goto L3;}
+n=l;
+o=h;}
+else{
+n=j;
+o=i;}
+if(d<o){
+p=o&4294967295u;
+q=b+(i64)p;
+if(c==p){
+r=q;
+s=0;
+t=c;}
+else{
+u=c-p;
+v=*q;
+if(v==95){
+r=q+1;
+s=u-1;
+t=p+1;}
+else{
+if((n!=0)&((u8)(v-48)<10)){
+e=0;
+f=0;
+goto L2;}
+r=q;
+s=u;
+t=p;}}
+w=umin64(s,n);
+if(w<=3){
+y=0;
+goto L4;}
+x=0;
+L5:z=r+x;
+if(*((u8*)t_fd87+*z)==49){
+if(*((u8*)t_fd87+z[1])==49){
+if(*((u8*)t_fd87+z[2])==49){
+if(*((u8*)t_fd87+z[3])==49){
+A=x+4;
+if(w-A>3){
+x=A;
+goto L5;}
+y=A;}
+else y=x;}
+else y=x;}
+else y=x;}
+else y=x;
+L4:if(y>=w){
+C=y;
+goto L6;}
+B=y;
+L7:if(*((u8*)t_fd87+*(r+B))==49){
+D=B+1;
+if(D!=w){
+B=D;
+goto L7;}
+C=w;}
+else C=B;
+L6:if(C<n){
+e=0;
+f=0;}
+else{
+e=1;
+f=((C+t)<<32)|(t&4294967295u);}}
+else{
+e=0;
+f=0;}}
+L2:x4(a,e);
+x8(a+4,f);
+return;
+}
+
+/* rust_direct::direct::Direct::begin_inner_impl */
+static u8 begin_inner_impl_daa(u8* a,u64 b)
+{
+u8 *c,*i,*l;
+u64 d,f,g,h,j;
+u8 e,k;
+c=rp(a+152);
+d=r8(a+160);
+if(d==0){
+e=0;
+goto L1;}
+f=d;
+L2:g=f-1;
+switch(*(c+(i64)(g<<5))){
+case 2:case 3:if(g!=0){
+f=g;
+goto L2;}
+e=0;
+break;
+case 1:case 5:case 6:case 7:case 8:h=r8(a+192);
+if(r8(a+184)>d){
+i=c;
+j=d;}
+else{
+k=make_ready_e3c(a+152);
+if(!(k&1)){
+e=0;
+break;}
+i=rp(a+152);
+j=r8(a+160);}
+l=i+(j<<5);
+*l=7;
+l[1]=0;
+x8(l+8,h);
+x8(l+16,0);
+l[24]=0;
+w8(a+160,j+1);
+w8(a+192,b);
+e=1;
+break;
+case 0:case 4:case 9:case 10:case 11:case 12:case 13:case 14:e=0;
+break;
+default:NEVER;
+}
+L1:return e;
+}
+
+/* rust_direct::direct::Direct::begin_inner_trait_impl */
+static u8 begin_inner_trait_impl_412(u8* a,u64 b)
+{
+u8 *c,*i,*l;
+u64 d,f,g,h,j;
+u8 e,k;
+c=rp(a+152);
+d=r8(a+160);
+if(d==0){
+e=0;
+goto L1;}
+f=d;
+L2:g=f-1;
+switch(*(c+(i64)(g<<5))){
+case 2:case 3:if(g!=0){
+f=g;
+goto L2;}
+e=0;
+break;
+case 1:case 5:case 6:case 7:case 8:h=r8(a+192);
+if(r8(a+184)>d){
+i=c;
+j=d;}
+else{
+k=make_ready_e3c(a+152);
+if(!(k&1)){
+e=0;
+break;}
+i=rp(a+152);
+j=r8(a+160);}
+l=i+(j<<5);
+*l=8;
+l[1]=0;
+x8(l+8,h);
+x8(l+16,0);
+l[24]=0;
+w8(a+160,j+1);
+w8(a+192,b);
+e=1;
+break;
+case 0:case 4:case 9:case 10:case 11:case 12:case 13:case 14:e=0;
+break;
+default:NEVER;
+}
+L1:return e;
+}
+
+/* rust_direct::direct::Direct::unnamed_ended */
+static u8 unnamed_ended_2a9(u8* a,u8* b,u64 c,u64 d,u64 e,u8 f)
+{
+A16 u8 g[12];
+u64 h,j,l,o,p,r,s,u,x,y,z,B,C,F,I,J,K,M;
+u8 i,k,m,t,v,w,D,E,H,L,N;
+u8 *n,*q,*O;
+v16 A,G;
+if(r8(a+136)>d){
+h=r8(a+96);
+if(h>65534)i=0;
+else{
+j=r8(a+8);
+k=a[80];
+if(r8(a+120)>h)l=h;
+else{
+m=make_ready_b73(a+88);
+if(!(m&1)){
+i=0;
+goto L1;}
+l=r8(a+96);}
+n=rp(a+88)+l*24;
+x8(n,e);
+x8(n+8,j);
+n[16]=f;
+n[17]=k;
+z6(n+18);
+w8(a+96,l+1);
+w2(rp(a+128)+(i64)(d<<1),(u16)h+1);
+o=r8(a+160);
+if(o==0)i=0;
+else{
+p=o-1;
+w8(a+160,p);
+q=rp(a+152)+(p<<5);
+if(*q!=2||q[1]<97)i=0;
+else{
+r=q8(q+8);
+s=r8(a+192);
+if(s<c){
+t=*(b+s);
+if((u8)(t-58)>=247){
+u=s+1;
+if(c>u){
+v=*(b+u);
+if(v!=95){
+w=v-48;
+if(w<10){
+x=s+2;
+if(c>x){
+if(*((u8*)t_facb+*(b+x))==0){
+y=(u64)w+(u8)((u8)(t*10)+32);
+if(c-x>=y){
+z=y+x;
+if(!((y>16)|(z<16))){
+A=v16_at(b+(i64)z-16);
+if((v16_ne(A,splat(95))&(v16_ult(v16_add(A,splat(198)),splat(246))&v16_ult(v16_add(v16_or(A,splat(32)),splat(133)),splat(230))))==0){
+B=x;
+C=z;
+goto L2;}}
+D=are_any_name_bytes_0a3(b,x,z);
+if(D){
+B=x;
+C=z;
+goto L2;}}}}}
+else{
+E=t-48;
+if(c-u>=E){
+F=u+E;
+if(F>=16){
+G=v16_at(b+(i64)F-16);
+if((v16_ne(G,splat(95))&(v16_ult(v16_add(G,splat(198)),splat(246))&v16_ult(v16_add(v16_or(G,splat(32)),splat(133)),splat(230))))==0){
+B=u;
+C=F;
+goto L2;}}
+H=are_any_name_bytes_0a3(b,u,F);
+if(H){
+B=u;
+C=F;
+goto L2;}}}}}}}
+z12(g);
+any_name_span_9bc(g,b,c,s);
+if(*g!=1){
+i=0;
+goto L1;}
+I=q8(g+4);
+B=I&4294967295u;
+C=I>>32;
+L2:if(B<C)i=0;
+else{
+w8(a+192,C);
+if(r8(a+136)>r){
+J=r8(a+96);
+if(J>65534)i=0;
+else{
+K=r8(a+8);
+L=a[80];
+if(r8(a+120)>J)M=J;
+else{
+N=make_ready_b73(a+88);
+if(!(N&1)){
+i=0;
+goto L1;}
+M=r8(a+96);}
+O=rp(a+88)+M*24;
+x8(O,e);
+x8(O+8,K);
+O[16]=f;
+O[17]=L;
+z6(O+18);
+w8(a+96,M+1);
+w2(rp(a+128)+(i64)(r<<1),(u16)J+1);
+i=1;}}
+else i=0;}}}}}
+else i=0;
+L1:return i;
+}
+
+/* rust_direct::direct::Direct::nest_named_anyhow */
+static u8 nest_named_anyhow_896(u8* a,u8* b,u64 c,u64 d,u8 e,u64 f,u64 g)
+{
+u8 h[18];
+A16 u8 i[12];
+u64 j,k,l,m,n,p,r,s,t,w,x,z,A,C,F,G,I,J,K,N,O,Q,R,T,U,V,Y,Z,ca,ea;
+u8 o,q,v,y,B,H,S,ba,da,fa;
+u8 *u,*D,*E,*L,*M,*P,*W,*X,*aa,*ga;
+z12(i);
+any_name_span_9bc(i,b,c,g);
+if(*i==1){
+j=q8(i+4);
+k=j>>32;
+l=j&4294967295u;
+if(k>l){
+m=r8(a+8);
+n=k-l;
+o=(n>16)|(c-l<16);
+p=r8(a+32)-m;
+if(o||p<18){
+if(p<2){
+q=make_ready_8e3(a,2,128);
+if(!(q&1))goto L1;
+r=r8(a+8);}
+else r=m;
+*(rp(a)+r)=58;
+*(rp(a)+(i64)r+1)=58;
+s=r+2;
+w8(a+8,s);
+t=r8(a+32)-s;
+u=b+(i64)l;
+if(o||t<16){
+if(t<n){
+v=make_ready_8e3(a,n,128);
+if(!(v&1))goto L1;
+w=r8(a+8);}
+else w=s;
+x=r8(a+16);
+if(n>x-w){
+y=grow_amortized_2b6(a,n);
+if(!y){
+B=0;
+goto L2;}
+z=r8(a+16);
+A=r8(a+8);}
+else{
+z=x;
+A=w;}
+C=A+n;
+D=rp(a);
+z16(a+8);
+E=D+(i64)A;
+if((u64)E-(u64)u<n)copy_bits_4f4(u,E,n);
+else memmove(E,u,n);
+wp(a,D);
+w8(a+8,C);
+w8(a+16,z);
+F=C;
+goto L3;}
+G=r8(a+16);
+if(G-s<16){
+H=grow_amortized_2b6(a,16);
+if(!H)goto L1;
+I=r8(a+16);
+J=r8(a+8);}
+else{
+I=G;
+J=s;}
+K=J+16;
+L=rp(a);
+z16(a+8);
+M=L+(i64)J;
+if((u64)M-(u64)u<16)copy_bits_4f4(u,M,16);
+else memmove(M,u,16);
+wp(a,L);
+w8(a+8,K);
+w8(a+16,I);
+N=s+n;
+if(K<=N){
+F=K;
+goto L3;}
+O=N;}
+else{
+z16(h+2);
+*h=58;
+h[1]=58;
+P=b+(i64)l;
+if((u64)(h+2)-(u64)P<16){
+copy_bits_4f4(P,h+2,16);
+Q=r8(a+8);}
+else{
+memcpy(h+2,P,16);
+Q=m;}
+R=r8(a+16);
+if(R-Q<18){
+S=grow_amortized_2b6(a,18);
+if(!S)goto L1;
+T=r8(a+16);
+U=r8(a+8);}
+else{
+T=R;
+U=Q;}
+V=U+18;
+W=rp(a);
+z16(a+8);
+X=W+(i64)U;
+if((u64)X-(u64)h<18)copy_bits_4f4(h,X,18);
+else memcpy(X,h,18);
+wp(a,W);
+w8(a+8,V);
+w8(a+16,T);
+Y=n+2+m;
+if(V<=Y){
+F=V;
+goto L3;}
+O=Y;}
+w8(a+8,O);
+F=O;
+goto L3;
+L1:B=0;
+goto L2;
+L3:w8(a+192,k);
+if(k<c){
+if(*(b+k)==48){
+Z=r8(a+160);
+if(Z!=0){
+aa=rp(a+152)+(i64)(Z<<5);
+if(aa[-32]==2){
+if(aa[-31]>96){
+ba=unnamed_ended_2a9(a,b,c,f,d,e);
+B=ba;
+goto L2;}}}}}
+if(r8(a+136)>f){
+ca=r8(a+96);
+if(ca>65534)B=0;
+else{
+da=a[80];
+if(r8(a+120)>ca)ea=ca;
+else{
+fa=make_ready_b73(a+88);
+if(!(fa&1)){
+B=0;
+goto L2;}
+ea=r8(a+96);}
+ga=rp(a+88)+ea*24;
+x8(ga,d);
+x8(ga+8,F);
+ga[16]=e;
+ga[17]=da;
+z6(ga+18);
+w8(a+96,ea+1);
+w2(rp(a+128)+(i64)(f<<1),(u16)ca+1);
+B=1;}}
+else B=0;}
+else B=0;}
+else B=0;
+L2:return B;
+}
+
+/* rust_direct::direct::Direct::push_suffix */
+static void push_suffix_a57(u8* a,u8* b,u8* c,u64 d)
+{
+u64 e,g,h,l,m,o,q,r,t,u,v,z,A,C,D,E,I,J,L,M,N;
+u8 *f,*j,*k,*w,*x,*F,*G,*O,*P;
+u8 i,n,p,s,y,B,H,K;
+e=r8(b+192);
+if(d>e){
+f=c+(i64)e;
+g=usub64(d,e);
+if(g==1||*f!=46){
+h=0;
+i=0;}
+else{
+j=f;
+k=f;
+l=g-1;
+L1:m=l-1;
+n=k[1];
+switch(n){
+case 36:case 46:case 95:break;
+default:if(n<48){
+h=0;
+i=0;
+goto L2;}
+if(n>=58){
+if(n<65){
+h=0;
+i=0;
+goto L2;}
+if(!((n<91)|((u8)(n-97)<26))){
+h=0;
+i=0;
+goto L2;}}
+break;}
+if(m!=0){
+k=k+1;
+l=m;
+goto L1;}
+o=r8(b+8);
+if(r8(b+32)-o<2){
+p=make_ready_8e3(b,2,128);
+if(!(p&1)){
+h=0;
+i=0;
+goto L2;}
+q=r8(b+8);}
+else q=o;
+r=r8(b+16);
+if(r-q<2){
+s=grow_amortized_2b6(b,2);
+if(!s){
+h=0;
+i=0;
+goto L2;}
+t=r8(b+16);
+u=r8(b+8);}
+else{
+t=r;
+u=q;}
+v=u+2;
+w=rp(b);
+z16(b+8);
+x=w+(i64)u;
+if((u64)x-(u64)(u8*)t_4f5a<2)copy_bits_4f4((u8*)t_4f5a,x,2);
+else x2(x,10272);
+wp(b,w);
+w8(b+8,v);
+w8(b+16,t);
+if(r8(b+32)-v<g){
+y=make_ready_8e3(b,g,128);
+if(!(y&1)){
+h=0;
+i=0;
+goto L2;}
+z=r8(b+8);
+A=r8(b+16);}
+else{
+z=v;
+A=t;}
+if(g>A-z){
+B=grow_amortized_2b6(b,g);
+if(!B){
+h=0;
+i=0;
+goto L2;}
+C=r8(b+16);
+D=r8(b+8);}
+else{
+C=A;
+D=z;}
+E=D+g;
+F=rp(b);
+z16(b+8);
+G=F+(i64)D;
+if((u64)G-(u64)j<g)copy_bits_4f4(j,G,g);
+else memmove(G,j,g);
+wp(b,F);
+w8(b+8,E);
+w8(b+16,C);
+if(r8(b+32)==E){
+H=make_ready_8e3(b,1,128);
+if(!(H&1)){
+h=0;
+i=0;
+goto L2;}
+I=r8(b+8);
+J=r8(b+16);}
+else{
+I=E;
+J=C;}
+if(J==I){
+K=grow_amortized_2b6(b,1);
+if(!K){
+h=0;
+i=0;
+goto L2;}
+L=r8(b+16);
+M=r8(b+8);}
+else{
+L=J;
+M=I;}
+N=M+1;
+O=rp(b);
+z16(b+8);
+P=O+(i64)M;
+if((u64)P==(u64)(u8*)t_ba5e)copy_bits_4f4((u8*)t_ba5e,P,1);
+else *P=41;
+wp(b,O);
+w8(b+8,N);
+w8(b+16,L);
+h=1;
+i=4;}}
+else{
+h=0;
+i=0;}
+L2:x8(a,h);
+a[8]=i;
+a[9]=0;
+x8(a+16,0);
+a[24]=0;
+return;
+}
+
+/* rust_direct::direct::Direct::special_named */
+static void special_named_040(u8* a,u8* b,u8* c,u64 d,u64 e,u8 f,u64 g,u8* h,u64 i)
+{
+A16 u8 j[12],k[24];
+u64 l,n,o,q,r,t,v,x,y,z,A,C,E,F,H,I,J,K,N,O,P,T,W,Y,Z,ba;
+u8 *m,*s,*da;
+u8 p,u,w,B,D,G,L,M,R,S,V,X,aa,ca;
+v16 Q,U;
+l=r8(b+192);
+if(l<d){
+m=c+(i64)l;
+if(*m==115){
+n=l+1;
+z24(k);
+o=d-n;
+if(o>1){
+if(m[2]==95){
+p=*((u8*)t_84dd+*(c+(i64)n));
+if(p<=61){
+q=3;
+r=p+1;
+goto L1;}
+if(o==2)goto L2;}
+else {
+if(o==2)goto L2;}
+if(m[3]!=95)goto L2;
+s=c+(i64)n;
+t=0;
+u=0;
+v=0;
+L3:w=*((u8*)t_84dd+*(s+(i64)v));
+if(w>=62)goto L2;
+x=t*62+w;
+if(!u){
+t=x;
+u=1;
+v=1;
+goto L3;}
+if(x==18446744073709551615u)goto L2;
+q=4;
+r=x+1;
+L1:y=r;
+z=q+l;
+goto L4;}
+L2:any_number_at_3d4(k,c,d,n);
+if(*k!=1){
+A=0;
+B=0;
+C=0;
+D=0;
+goto L5;}
+y=r8(k+8);
+z=r8(k+16);
+L4:if(y==18446744073709551615u){
+A=0;
+B=0;
+C=0;
+D=0;
+goto L5;}
+E=y+1;
+F=z;}
+else{
+E=0;
+F=l;}}
+else{
+E=0;
+F=l;}
+if(d>F){
+G=*(c+F);
+if(G==48){
+H=F+1;
+I=H;
+J=H;}
+else{
+if((u8)(G-58)>=247){
+K=F+1;
+if(d>K){
+L=*(c+K);
+if(L!=95){
+M=L-48;
+if(M<10){
+N=F+2;
+if(d>N){
+if(*((u8*)t_facb+*(c+N))==0){
+O=(u64)M+(u8)((u8)(G*10)+32);
+if(d-N>=O){
+P=O+N;
+if(!((O>16)|(P<16))){
+Q=v16_at(c+(i64)P-16);
+if((v16_ne(Q,splat(95))&(v16_ult(v16_add(Q,splat(198)),splat(246))&v16_ult(v16_add(v16_or(Q,splat(32)),splat(133)),splat(230))))==0){
+I=N;
+J=P;
+goto L6;}}
+R=are_any_name_bytes_0a3(c,N,P);
+if(R){
+I=N;
+J=P;
+goto L6;}}}}}
+else{
+S=G-48;
+if(d-K>=S){
+T=K+S;
+if(T>=16){
+U=v16_at(c+(i64)T-16);
+if((v16_ne(U,splat(95))&(v16_ult(v16_add(U,splat(198)),splat(246))&v16_ult(v16_add(v16_or(U,splat(32)),splat(133)),splat(230))))==0){
+I=K;
+J=T;
+goto L6;}}
+V=are_any_name_bytes_0a3(c,K,T);
+if(V){
+I=K;
+J=T;
+goto L6;}}}}}}
+z12(j);
+any_name_span_9bc(j,c,d,F);
+W=q8(j+4);
+if(*j!=1){
+A=0;
+B=0;
+C=0;
+D=0;
+goto L5;}
+I=W&4294967295u;
+J=W>>32;}
+L6:X=push_special_c7d(b,h,i,c+(i64)I,J-I,E);
+if(X&1){
+w8(b+192,J);
+if(r8(b+136)>g){
+Y=r8(b+96);
+if(Y>65534){
+A=0;
+B=0;
+C=0;
+D=0;}
+else{
+Z=r8(b+8);
+aa=b[80];
+if(r8(b+120)>Y)ba=Y;
+else{
+ca=make_ready_b73(b+88);
+if(!(ca&1)){
+A=0;
+B=0;
+C=0;
+D=0;
+goto L5;}
+ba=r8(b+96);}
+da=rp(b+88)+ba*24;
+x8(da,e);
+x8(da+8,Z);
+da[16]=f;
+da[17]=aa;
+z6(da+18);
+w8(b+96,ba+1);
+w2(rp(b+128)+(i64)(g<<1),(u16)Y+1);
+A=1;
+B=2;
+C=e;
+D=f;}}
+else{
+A=0;
+B=0;
+C=0;
+D=0;}}
+else{
+A=0;
+B=0;
+C=0;
+D=0;}}
+else{
+A=0;
+B=0;
+C=0;
+D=0;}
+L5:x8(a,A);
+a[8]=B;
+a[9]=0;
+x8(a+16,C);
+a[24]=D;
+return;
+}
+
+/* rust_direct::direct::Direct::push_special */
+static u8 push_special_c7d(u8* a,u8* b,u64 c,u8* d,u64 e,u64 f)
+{
+u64 g,i,k,m,n,o,s,t,v,w,x,B,D,F,H,I,K,L,M,Q,T,U;
+u8 h,j,l,r,u,E,G,J,R,S,V;
+u8 *p,*q,*y,*z,*A,*C,*N,*O,*P;
+g=r8(a+8);
+if(r8(a+32)-g<3){
+h=make_ready_8e3(a,3,128);
+if(!(h&1)){
+j=0;
+goto L1;}
+i=r8(a+8);}
+else i=g;
+k=r8(a+16);
+if(k-i<3){
+l=grow_amortized_2b6(a,3);
+if(!l){
+j=0;
+goto L1;}
+m=r8(a+16);
+n=r8(a+8);}
+else{
+m=k;
+n=i;}
+o=n+3;
+p=rp(a);
+z16(a+8);
+q=p+(i64)n;
+if((u64)q-(u64)(u8*)t_6ee9<3)copy_bits_4f4((u8*)t_6ee9,q,3);
+else memcpy(q,(u8*)t_6ee9,3);
+wp(a,p);
+w8(a+8,o);
+w8(a+16,m);
+if(r8(a+32)-o<c){
+r=make_ready_8e3(a,c,128);
+if(!(r&1)){
+j=0;
+goto L1;}
+s=r8(a+8);
+t=r8(a+16);}
+else{
+s=o;
+t=m;}
+if(c>t-s){
+u=grow_amortized_2b6(a,c);
+if(!u){
+j=0;
+goto L1;}
+v=r8(a+16);
+w=r8(a+8);}
+else{
+v=t;
+w=s;}
+x=w+c;
+y=rp(a);
+z16(a+8);
+z=y+(i64)w;
+if((u64)z-(u64)b<c)copy_bits_4f4(b,z,c);
+else memmove(z,b,c);
+wp(a,y);
+w8(a+8,x);
+w8(a+16,v);
+if(e==0){
+A=y;
+B=x;}
+else{
+if(r8(a+32)>x){
+C=y;
+D=x;}
+else{
+E=make_ready_8e3(a,1,16);
+if(!(E&1)){
+j=0;
+goto L1;}
+C=rp(a);
+D=r8(a+8);}
+*(C+D)=58;
+F=D+1;
+w8(a+8,F);
+if(r8(a+32)-F<e){
+G=make_ready_8e3(a,e,128);
+if(!(G&1)){
+j=0;
+goto L1;}
+H=r8(a+8);}
+else H=F;
+I=r8(a+16);
+if(e>I-H){
+J=grow_amortized_2b6(a,e);
+if(!J){
+j=0;
+goto L1;}
+K=r8(a+16);
+L=r8(a+8);}
+else{
+K=I;
+L=H;}
+M=L+e;
+N=rp(a);
+z16(a+8);
+O=N+(i64)L;
+if((u64)O-(u64)d<e)copy_bits_4f4(d,O,e);
+else memmove(O,d,e);
+wp(a,N);
+w8(a+8,M);
+w8(a+16,K);
+A=N;
+B=M;}
+if(r8(a+32)>B){
+P=A;
+Q=B;}
+else{
+R=make_ready_8e3(a,1,16);
+if(!(R&1)){
+j=0;
+goto L1;}
+P=rp(a);
+Q=r8(a+8);}
+*(P+Q)=35;
+w8(a+8,Q+1);
+S=push_decimal_701(a,f);
+if(S&1){
+T=r8(a+8);
+if(r8(a+32)>T)U=T;
+else{
+V=make_ready_8e3(a,1,16);
+if(!(V&1)){
+j=0;
+goto L1;}
+U=r8(a+8);}
+*(rp(a)+U)=125;
+w8(a+8,U+1);
+j=1;}
+else j=0;
+L1:return j;
+}
+
 /* rust_short_way::write_brief */
 static u8 write_brief_939(u8* a,u8* b,u64 c,u32 d)
 {
@@ -101266,7 +105396,7 @@ Ma=eg;
 Na=vf;
 Oa=0;
 goto L9;}}}}
-L24:ig=crate_named_anyhow_841(a,b,c,Gf);
+L24:ig=crate_named_anyhow_a78(a,b,c,Gf);
 if(!(ig&1)){
 z=0;
 goto L1;}
@@ -101495,7 +105625,7 @@ Va=0;
 Wa=0;
 Xa=0;
 goto L10;}
-jh=begin_inner_impl_f25(a,hh);
+jh=begin_inner_impl_daa(a,hh);
 kh=jh;
 break;
 case 88:ph=vf+1;
@@ -101549,7 +105679,7 @@ Va=0;
 Wa=0;
 Xa=0;
 goto L10;}
-xh=begin_inner_trait_impl_a3f(a,vh);
+xh=begin_inner_trait_impl_412(a,vh);
 kh=xh;
 break;
 case 89:Ch=r8(a+8);
@@ -101813,7 +105943,7 @@ if(oj!=0){
 pj=rp(a+152)+(i64)(oj<<5);
 if(pj[-32]==2){
 if(pj[-31]>96){
-qj=unnamed_ended_c46(a,b,c,Sh,Cb,Bb);
+qj=unnamed_ended_2a9(a,b,c,Sh,Cb,Bb);
 rj=qj;
 goto L43;}}}}}
 if(r8(a+136)<=Sh){
@@ -101841,7 +105971,7 @@ w8(a+96,uj+1);
 w2(rp(a+128)+(i64)(Sh<<1),(u16)sj+1);
 rj=1;
 goto L43;}}}}
-L39:xj=nest_named_anyhow_de3(a,b,c,Cb,Bb,Sh,li);
+L39:xj=nest_named_anyhow_896(a,b,c,Cb,Bb,Sh,li);
 rj=xj;
 L43:if(rj&1)goto L36;
 z=0;
@@ -101849,12 +105979,12 @@ goto L1;}
 z32(g);
 if(Lh&(Rh>64)){
 switch(Rh){
-case 67:special_named_1bc(g,a,b,c,Cb,Bb,Sh,(u8*)t_6d4c,7);
+case 67:special_named_040(g,a,b,c,Cb,Bb,Sh,(u8*)t_6d4c,7);
 break;
-case 83:special_named_1bc(g,a,b,c,Cb,Bb,Sh,(u8*)t_04e6,4);
+case 83:special_named_040(g,a,b,c,Cb,Bb,Sh,(u8*)t_04e6,4);
 break;
 default:*h=Rh;
-special_named_1bc(g,a,b,c,Cb,Bb,Sh,h,1);
+special_named_040(g,a,b,c,Cb,Bb,Sh,h,1);
 break;}
 Vh=*g;
 Wh=g[8];
@@ -101917,7 +106047,7 @@ Hj=0;
 Ij=0;
 Jj=0;}
 else{
-push_suffix_49c(l,a,b,c);
+push_suffix_a57(l,a,b,c);
 Fj=*l;
 Gj=l[8];
 Hj=l[9];
@@ -101947,7 +106077,7 @@ Mj=0;
 Nj=0;
 Oj=0;}
 else{
-push_suffix_49c(j,a,b,c);
+push_suffix_a57(j,a,b,c);
 Kj=*j;
 Lj=j[8];
 Mj=j[9];
@@ -102719,4525 +106849,6 @@ M=Ua;
 N=Va;
 O=Wa;
 P=Xa;
-goto L2;}
-z=0;}}
-else z=0;}
-else z=0;}
-else z=0;
-L1:return z;
-}
-
-/* std_alloc::vec::Vec::grow_amortized */
-static COLD u8 grow_amortized_3c2(u8* a,u64 b)
-{
-u64 c,e,f,g,h;
-u8 d;
-s_64_64 i,j,k;
-c=r8(a+8);
-if(b>(c^18446744073709551615u))d=0;
-else{
-e=r8(a+16);
-f=umax64(c+b,4);
-g=umax64(f,e<<1);
-h=e<0x4000000000000000u?g:f;
-if(h<0x4000000000000000u){
-if(e==0){
-i=port_rattle_alloc(g<<1,2);
-if(!(u8)(i.f0&1)){
-d=0;
-goto L1;}
-j=i;}
-else{
-k=port_rattle_realloc(rp(a),c<<1,h<<1,2);
-if(!(u8)(k.f0&1)){
-d=0;
-goto L1;}
-j=k;}
-wp(a,(u8*)j.f1);
-w8(a+16,h);
-d=1;}
-else d=0;}
-L1:return d;
-}
-
-/* sym_direct::bounded::Bounded::make_ready */
-static u8 make_ready_e3c(u8* a)
-{
-u64 b,c,e,f,h,i;
-u8 d,g;
-b=r8(a+24);
-c=r8(a+8);
-if(b==c)d=0;
-else{
-e=umin64(b-c,16);
-f=r8(a+16);
-if(e>f-c){
-g=grow_amortized_12f(a,e);
-if(!g){
-d=0;
-goto L1;}
-h=r8(a+16);
-i=r8(a+24);}
-else{
-h=f;
-i=b;}
-w8(a+32,umin64(h,i));
-d=1;}
-L1:return d;
-}
-
-/* std_alloc::vec::Vec::grow_amortized */
-static COLD u8 grow_amortized_12f(u8* a,u64 b)
-{
-u64 c,e,f,g,h;
-u8 d;
-s_64_64 i,j,k;
-c=r8(a+8);
-if(b>(c^18446744073709551615u))d=0;
-else{
-e=r8(a+16);
-f=umax64(c+b,4);
-g=umax64(f,e<<1);
-h=e<0x4000000000000000u?g:f;
-if(h<0x400000000000000u){
-if(e==0){
-i=port_rattle_alloc(g<<5,8);
-if(!(u8)(i.f0&1)){
-d=0;
-goto L1;}
-j=i;}
-else{
-k=port_rattle_realloc(rp(a),c<<5,h<<5,8);
-if(!(u8)(k.f0&1)){
-d=0;
-goto L1;}
-j=k;}
-wp(a,(u8*)j.f1);
-w8(a+16,h);
-d=1;}
-else d=0;}
-L1:return d;
-}
-
-/* sym_direct::bounded::Bounded::make_ready */
-static u8 make_ready_b73(u8* a)
-{
-u64 b,c,e,f,h,i;
-u8 d,g;
-b=r8(a+24);
-c=r8(a+8);
-if(b==c)d=0;
-else{
-e=umin64(b-c,16);
-f=r8(a+16);
-if(e>f-c){
-g=grow_amortized_db1(a,e);
-if(!g){
-d=0;
-goto L1;}
-h=r8(a+16);
-i=r8(a+24);}
-else{
-h=f;
-i=b;}
-w8(a+32,umin64(h,i));
-d=1;}
-L1:return d;
-}
-
-/* std_alloc::vec::Vec::grow_amortized */
-static COLD u8 grow_amortized_db1(u8* a,u64 b)
-{
-u64 c,e,f,g,h;
-u8 d;
-s_64_64 i,j,k;
-c=r8(a+8);
-if(b>(c^18446744073709551615u))d=0;
-else{
-e=r8(a+16);
-f=umax64(c+b,4);
-g=umax64(f,e<<1);
-h=e<0x4000000000000000u?g:f;
-if(h<0x555555555555556u){
-if(e==0){
-i=port_rattle_alloc(g*24,8);
-if(!(u8)(i.f0&1)){
-d=0;
-goto L1;}
-j=i;}
-else{
-k=port_rattle_realloc(rp(a),c*24,h*24,8);
-if(!(u8)(k.f0&1)){
-d=0;
-goto L1;}
-j=k;}
-wp(a,(u8*)j.f1);
-w8(a+16,h);
-d=1;}
-else d=0;}
-L1:return d;
-}
-
-/* rust_direct::direct::Direct::constant_at */
-static s_8_64 constant_at_b72(u8* a,u8* b,u64 c,u64 d)
-{
-s_8_64 e,i,j,k,w,x;
-u64 f,h,l,m,n,s,t,u;
-u8 g,o,p,q,r,v;
-if(d<c){
-switch(*(b+d)){
-case 104:case 106:case 109:case 111:case 116:case 121:e=integer_at_209(a,b,c,d+1,0);
-f=e.f1;
-g=e.f0;
-break;
-case 97:case 105:case 108:case 110:case 115:case 120:h=d+1;
-if(h<c){
-if(*(b+h)==110){
-i=integer_at_209(a,b,c,d+2,1);
-j=i;
-goto L1;}}
-k=integer_at_209(a,b,c,h,0);
-j=k;
-L1:f=j.f1;
-g=j.f0;
-break;
-case 98:l=d+1;
-m=d+2;
-if(l!=18446744073709551615u&&m<c){
-if(*(b+m)==95){
-n=d+3;
-switch(*(b+l)){
-case 48:if(r8(a+32)-r8(a+8)<5){
-o=make_ready_8e3(a,5,128);
-if(!(o&1))goto L2;}
-p=extend_from_slice_169(a,(u8*)t_fcbc,5);
-if(!(p&1)){
-f=n;
-g=1;
-break;}
-L2:f=0;
-g=0;
-break;
-case 49:if(r8(a+32)-r8(a+8)<4){
-q=make_ready_8e3(a,4,128);
-if(!(q&1))goto L3;}
-r=extend_from_slice_169(a,(u8*)t_b5be,4);
-if(!(r&1)){
-f=n;
-g=1;
-break;}
-L3:f=0;
-g=0;
-break;
-default:f=0;
-g=0;
-break;}}
-else{
-f=0;
-g=0;}}
-else{
-f=0;
-g=0;}
-break;
-case 112:s=d+1;
-t=r8(a+8);
-if(r8(a+32)>t)u=t;
-else{
-v=make_ready_8e3(a,1,16);
-if(!(v&1)){
-f=0;
-g=0;
-break;}
-u=r8(a+8);}
-*(rp(a)+u)=95;
-w8(a+8,u+1);
-f=s;
-g=1;
-break;
-default:f=0;
-g=0;
-break;}}
-else{
-f=0;
-g=0;}
-w=(s_8_64){0};w.f0=g;
-x=w;x.f1=f;
-return x;
-}
-
-/* rust_direct::direct::Direct::integer_at */
-static s_8_64 integer_at_209(u8* a,u8* b,u64 c,u64 d,u8 e)
-{
-u64 f,h,i,j,l,m,n,o,q,r,t,y,B,D,E,G,H,I;
-u8 g,k,v,w,z,C,F,L;
-u8 *p,*A,*J,*K;
-u128 s,u,x;
-s_8_64 M,N;
-if(c<d){
-f=0;
-g=0;}
-else{
-h=umin64(c-d,c+1)+d;
-if(d>=h){
-j=d;
-goto L1;}
-i=d;
-L2:k=*(b+i);
-if(((u8)(k-48)<10)|((u8)(k-97)<6)){
-l=i+1;
-if(l!=h){
-i=l;
-goto L2;}
-j=h;}
-else j=i;
-L1:if(j==c){
-f=0;
-g=0;}
-else{
-if(*(b+j)==95){
-m=d&4294967295u;
-n=j&4294967295u;
-o=n+1;
-p=b+(i64)m;
-q=n-m;
-if(n==m){
-r=0;
-goto L3;}
-s=0;
-t=0;
-L4:if(s>=((u128)0x1000000000000000u<<64|0x0u)){
-f=0;
-g=0;
-goto L5;}
-u=s<<4;
-v=*(p+(i64)t);
-w=(v<58?208:169)+v;
-if(u>(w^((u128)0xffffffffffffffffu<<64|0xffffffffffffffffu))){
-f=0;
-g=0;
-goto L5;}
-x=u+w;
-y=t+1;
-if(y!=q){
-s=x;
-t=y;
-goto L4;}
-if(x>=((u128)0x1u<<64|0x0u)){
-f=0;
-g=0;
-goto L5;}
-r=x;
-L3:z=e&(r!=0);
-A=z?(u8*)t_3973:(u8*)t_z0;
-B=r8(a+8);
-if(r8(a+32)-B<z){
-C=make_ready_8e3(a,z,128);
-if(!(C&1)){
-f=0;
-g=0;
-goto L5;}
-D=r8(a+8);}
-else D=B;
-E=r8(a+16);
-if(E-D<z){
-F=grow_amortized_2b6(a,z);
-if(!F){
-f=0;
-g=0;
-goto L5;}
-G=r8(a+16);
-H=r8(a+8);}
-else{
-G=E;
-H=D;}
-I=H+z;
-J=rp(a);
-z16(a+8);
-K=J+(i64)H;
-if((u64)K-(u64)A<z)copy_bits_4f4(A,K,z);
-else memcpy(K,A,z);
-wp(a,J);
-w8(a+8,I);
-w8(a+16,G);
-L=push_decimal_701(a,r);
-f=(L&1)?o:0;
-g=L;}
-else{
-f=0;
-g=0;}}}
-L5:M=(s_8_64){0};M.f0=g;
-N=M;N.f1=f;
-return N;
-}
-
-/* rust_direct::direct::Direct::push_decimal */
-static u8 push_decimal_701(u8* a,u64 b)
-{
-u8 c[40];
-u8 d,g,h,q,u,A,E,K,O,R;
-u64 e,f,i,j,k,l,m,r,v,w,x,G,H,M,N,P,Q,S,T,U;
-u16 n,B,F;
-u8 *o,*p,*s,*t,*y,*z,*C,*D,*I,*J,*L,*V,*W;
-if(b<10){
-d=(u8)b|48;
-e=r8(a+8);
-if(r8(a+32)>e)f=e;
-else{
-g=make_ready_8e3(a,1,16);
-if(!(g&1)){
-h=0;
-goto L1;}
-f=r8(a+8);}
-*(rp(a)+f)=d;
-w8(a+8,f+1);
-h=1;}
-else{
-z40(c);
-if(b<=9999){
-k=40;
-l=b;
-goto L2;}
-i=b;
-j=40;
-L3:m=i/10000;
-n=i%10000;
-o=(u8*)t_bedf+((u64)(n%100)<<1);
-p=c+(i64)j;
-q=o[1];
-p[-2]=*o;
-p[-1]=q;
-r=j-4;
-s=(u8*)t_bedf+((u64)(n/100)<<1);
-t=c+r;
-u=s[1];
-*t=*s;
-t[1]=u;
-if(i>99999999){
-i=m;
-j=r;
-goto L3;}
-k=r;
-l=m;
-L2:if(l<100){
-if(l<10){
-v=k-1;
-*(c+v)=(u8)l|48;
-w=v;}
-else{
-x=k-2;
-y=(u8*)t_bedf+(l<<1);
-z=c+x;
-A=y[1];
-*z=*y;
-z[1]=A;
-w=x;}}
-else{
-B=l;
-C=(u8*)t_bedf+((u64)(B%100)<<1);
-D=c+(i64)k;
-E=C[1];
-D[-2]=*C;
-D[-1]=E;
-F=B/100;
-if(l<1000){
-G=k-3;
-*(c+G)=(u8)F|48;
-w=G;}
-else{
-H=k-4;
-I=(u8*)t_bedf+((u64)F<<1);
-J=c+H;
-K=I[1];
-*J=*I;
-J[1]=K;
-w=H;}}
-L=c+(i64)w;
-M=40-w;
-N=r8(a+8);
-if(r8(a+32)-N<M){
-O=make_ready_8e3(a,M,128);
-if(!(O&1)){
-h=0;
-goto L1;}
-P=r8(a+8);}
-else P=N;
-Q=r8(a+16);
-if(M>Q-P){
-R=grow_amortized_2b6(a,M);
-if(!R){
-h=0;
-goto L1;}
-S=r8(a+16);
-T=r8(a+8);}
-else{
-S=Q;
-T=P;}
-U=T+M;
-V=rp(a);
-z16(a+8);
-W=V+(i64)T;
-if((u64)W-(u64)L<M)copy_bits_4f4(L,W,M);
-else memcpy(W,L,M);
-wp(a,V);
-w8(a+8,U);
-w8(a+16,S);
-h=1;}
-L1:return h;
-}
-
-/* rust_direct::tokens::any_number_at */
-static void any_number_at_3d4(u8* a,u8* b,u64 c,u64 d)
-{
-u64 e,f,g,h,i,j,k,l,n,o,p,q,r,t,u,v,x,y,z;
-u8 *m;
-u8 s,w;
-if(c<d)z24(a);
-else{
-e=umin64(c-d,11)+d;
-if(d>=e){
-g=d;
-goto L1;}
-f=d;
-L2:if(*((u8*)t_84dd+*(b+f))<62){
-h=f+1;
-if(h!=e){
-f=h;
-goto L2;}
-g=e;}
-else g=f;
-L1:if(g!=c){
-if(*(b+g)==95){
-i=d&4294967295u;
-j=g&4294967295u;
-k=j+1;
-if(j!=i){
-m=b+(i64)i;
-n=j-i;
-if(n>10){
-o=0;
-p=0;
-goto L3;}
-q=0;
-r=0;
-L4:s=*((u8*)t_84dd+*(m+(i64)r));
-if(s>=62)goto L5;
-t=q*62+s;
-u=r+1;
-if(u==n){
-v=t;
-goto L6;}
-q=t;
-r=u;
-goto L4;
-L3:w=*((u8*)t_84dd+*(m+(i64)p));
-if(!((o<0x421084210842109u)&(w<62)))goto L5;
-x=o*62;
-if(x>(w^18446744073709551615u))goto L5;
-y=x+w;
-z=p+1;
-if(z!=n){
-o=y;
-p=z;
-goto L3;}
-v=y;
-L6:if(v!=18446744073709551615u){
-l=v+1;
-goto L7;}
-L5:z24(a);
-goto L8;}
-l=0;
-L7:x8(a,1);
-x8(a+8,l);
-x8(a+16,k);
-goto L8;}}
-z24(a);}
-L8:return;
-}
-
-/* rust_direct::hashes::any_disambiguator_end */
-static s_8_64 any_disambiguator_end_f9c(u8* a,u64 b,u64 c)
-{
-A16 u8 d[24];
-u8 *e,*k;
-u64 f,g,i,j,l,n,p,q,r,s;
-u8 h,m,o,t;
-s_8_64 u,v;
-if(c<b){
-e=a+(i64)c;
-if(*e==115){
-f=c+1;
-z24(d);
-g=b-f;
-if(g>1){
-if(e[2]==95){
-h=*((u8*)t_84dd+*(a+(i64)f));
-if(h<=61){
-i=3;
-j=h+1;
-goto L1;}
-if(g==2)goto L2;}
-else {
-if(g==2)goto L2;}
-if(e[3]!=95)goto L2;
-k=a+(i64)f;
-l=0;
-m=0;
-n=0;
-L3:o=*((u8*)t_84dd+*(k+(i64)n));
-if(o>=62)goto L2;
-p=l*62+o;
-if(!m){
-l=p;
-m=1;
-n=1;
-goto L3;}
-if(p==18446744073709551615u)goto L2;
-i=4;
-j=p+1;
-L1:q=j;
-r=i+c;
-goto L4;}
-L2:any_number_at_3d4(d,a,b,f);
-if(*d!=1)goto L5;
-q=r8(d+8);
-r=r8(d+16);
-L4:if(q!=18446744073709551615u){
-s=r;
-t=1;
-goto L6;}
-L5:s=0;
-t=0;}
-else{
-s=c;
-t=1;}}
-else{
-s=c;
-t=1;}
-L6:u=(s_8_64){0};u.f0=t;
-v=u;v.f1=s;
-return v;
-}
-
-/* rust_direct::names::are_any_name_bytes */
-static u8 are_any_name_bytes_0a3(u8* a,u64 b,u64 c)
-{
-u64 d,f,g,h,i,j,o,p,r,s,u;
-v16 e,k,l;
-u8 m,t;
-u8 *n,*q;
-d=c-b;
-if(d>15){
-e=v16_at(a+b);
-if((v16_ne(e,splat(95))&(v16_ult(v16_add(e,splat(198)),splat(246))&v16_ult(v16_add(v16_or(e,splat(32)),splat(133)),splat(230))))!=0){
-g=b;
-h=d;
-goto L1;}
-f=b;
-L2:i=f+16;
-j=c-i;
-if(j>15){
-k=v16_at(a+i);
-if((v16_ne(k,splat(95))&(v16_ult(v16_add(k,splat(198)),splat(246))&v16_ult(v16_add(v16_or(k,splat(32)),splat(133)),splat(230))))==0){
-f=i;
-goto L2;}
-g=i;
-h=j;}
-else{
-g=i;
-h=j;}}
-else{
-g=b;
-h=d;}
-L1:if(!((c<16)|(h>16))){
-l=v16_at(a+(i64)c-16);
-if((v16_ne(l,splat(95))&(v16_ult(v16_add(l,splat(198)),splat(246))&v16_ult(v16_add(v16_or(l,splat(32)),splat(133)),splat(230))))==0){
-m=1;
-goto L3;}}
-n=a+(i64)g;
-if(h<=3){
-p=0;
-goto L4;}
-o=0;
-L5:q=n+o;
-if((u8)((u8)(*((u8*)t_4efc+q[1])+*((u8*)t_4efc+*q))+*((u8*)t_4efc+q[2]))==(u8)(0-*((u8*)t_4efc+q[3]))){
-r=o+4;
-if(h-r>3){
-o=r;
-goto L5;}
-p=r;}
-else p=o;
-L4:if(p>=h){
-m=1;
-goto L3;}
-s=p;
-L6:t=*((u8*)t_4efc+*(n+s))==0;
-u=s+1;
-if((u!=h)&t){
-s=u;
-goto L6;}
-m=t;
-L3:return m;
-}
-
-/* rust_direct::direct::Direct::crate_named_anyhow */
-static u8 crate_named_anyhow_841(u8* a,u8* b,u64 c,u64 d)
-{
-A16 u8 e[12];
-u64 f,g,h,i,j,k,n,p,r,s,t,w,y,z,A,D;
-u8 *l,*u,*v,*B,*C;
-u8 m,o,q,x;
-z12(e);
-any_name_span_9bc(e,b,c,d);
-if(*e==1){
-f=q8(e+4);
-g=f>>32;
-h=f&4294967295u;
-if(g>h){
-i=r8(a+8);
-j=g-h;
-k=r8(a+32)-i;
-l=b+(i64)h;
-if((j>16)|(c-h<16)||k<16){
-if(k<j){
-m=make_ready_8e3(a,j,128);
-if(!(m&1)){
-o=0;
-goto L1;}
-n=r8(a+8);}
-else n=i;
-p=r8(a+16);
-if(j>p-n){
-q=grow_amortized_2b6(a,j);
-if(!q){
-o=0;
-goto L1;}
-r=r8(a+16);
-s=r8(a+8);}
-else{
-r=p;
-s=n;}
-t=s+j;
-u=rp(a);
-z16(a+8);
-v=u+(i64)s;
-if((u64)v-(u64)l<j)copy_bits_4f4(l,v,j);
-else memmove(v,l,j);
-wp(a,u);
-w8(a+8,t);
-w8(a+16,r);}
-else{
-w=r8(a+16);
-if(w-i<16){
-x=grow_amortized_2b6(a,16);
-if(!x){
-o=0;
-goto L1;}
-y=r8(a+16);
-z=r8(a+8);}
-else{
-y=w;
-z=i;}
-A=z+16;
-B=rp(a);
-z16(a+8);
-C=B+(i64)z;
-if((u64)C-(u64)l<16)copy_bits_4f4(l,C,16);
-else memmove(C,l,16);
-wp(a,B);
-w8(a+8,A);
-w8(a+16,y);
-D=i+j;
-if(A>D)w8(a+8,D);}
-w8(a+192,g);
-o=1;}
-else o=0;}
-else o=0;
-L1:return o;
-}
-
-/* rust_direct::names::any_name_span */
-static void any_name_span_9bc(u8* a,u8* b,u64 c,u64 d)
-{
-u32 e,j,l,n;
-u64 f,g,h,i,m,o,p,s,t,u,w,x,y,A,B,C,D;
-u8 k,v;
-u8 *q,*r,*z;
-if(c<d){
-e=0;
-f=0;}
-else{
-if(d<c){
-if(*(b+d)==48){
-g=1;
-goto L1;}}
-g=9;
-L1:h=umin64(c-d,g)+d;
-if(d>=h){
-e=0;
-f=0;
-goto L2;}
-i=d;
-j=0;
-L3:k=*(b+i)-48;
-if(k<10){
-l=j*10+k;
-m=i+1;
-if(m!=h){
-i=m;
-j=l;
-goto L3;}
-n=l;
-o=h;}
-else{
-n=j;
-o=i;}
-if(d<o){
-p=o&4294967295u;
-q=b+(i64)p;
-if(c==p){
-r=q;
-s=0;
-t=c;}
-else{
-u=c-p;
-v=*q;
-if(v==95){
-r=q+1;
-s=u-1;
-t=p+1;}
-else{
-if((n!=0)&((u8)(v-48)<10)){
-e=0;
-f=0;
-goto L2;}
-r=q;
-s=u;
-t=p;}}
-w=umin64(s,n);
-if(w<=3){
-y=0;
-goto L4;}
-x=0;
-L5:z=r+x;
-if(*((u8*)t_fd87+*z)==49){
-if(*((u8*)t_fd87+z[1])==49){
-if(*((u8*)t_fd87+z[2])==49){
-if(*((u8*)t_fd87+z[3])==49){
-A=x+4;
-if(w-A>3){
-x=A;
-goto L5;}
-y=A;}
-else y=x;}
-else y=x;}
-else y=x;}
-else y=x;
-L4:if(y>=w){
-C=y;
-goto L6;}
-B=y;
-L7:if(*((u8*)t_fd87+*(r+B))==49){
-D=B+1;
-if(D!=w){
-B=D;
-goto L7;}
-C=w;}
-else C=B;
-L6:if(C<n){
-e=0;
-f=0;}
-else{
-e=1;
-f=((C+t)<<32)|(t&4294967295u);}}
-else{
-e=0;
-f=0;}}
-L2:x4(a,e);
-x8(a+4,f);
-return;
-}
-
-/* rust_direct::direct::Direct::begin_inner_impl */
-static u8 begin_inner_impl_f25(u8* a,u64 b)
-{
-u8 *c,*i,*l;
-u64 d,f,g,h,j;
-u8 e,k;
-c=rp(a+152);
-d=r8(a+160);
-if(d==0){
-e=0;
-goto L1;}
-f=d;
-L2:g=f-1;
-switch(*(c+(i64)(g<<5))){
-case 2:case 3:if(g!=0){
-f=g;
-goto L2;}
-e=0;
-break;
-case 1:case 5:case 6:case 7:case 8:h=r8(a+192);
-if(r8(a+184)>d){
-i=c;
-j=d;}
-else{
-k=make_ready_e3c(a+152);
-if(!(k&1)){
-e=0;
-break;}
-i=rp(a+152);
-j=r8(a+160);}
-l=i+(j<<5);
-*l=7;
-l[1]=0;
-x8(l+8,h);
-x8(l+16,0);
-l[24]=0;
-w8(a+160,j+1);
-w8(a+192,b);
-e=1;
-break;
-case 0:case 4:case 9:case 10:case 11:case 12:case 13:case 14:e=0;
-break;
-default:NEVER;
-}
-L1:return e;
-}
-
-/* rust_direct::direct::Direct::begin_inner_trait_impl */
-static u8 begin_inner_trait_impl_a3f(u8* a,u64 b)
-{
-u8 *c,*i,*l;
-u64 d,f,g,h,j;
-u8 e,k;
-c=rp(a+152);
-d=r8(a+160);
-if(d==0){
-e=0;
-goto L1;}
-f=d;
-L2:g=f-1;
-switch(*(c+(i64)(g<<5))){
-case 2:case 3:if(g!=0){
-f=g;
-goto L2;}
-e=0;
-break;
-case 1:case 5:case 6:case 7:case 8:h=r8(a+192);
-if(r8(a+184)>d){
-i=c;
-j=d;}
-else{
-k=make_ready_e3c(a+152);
-if(!(k&1)){
-e=0;
-break;}
-i=rp(a+152);
-j=r8(a+160);}
-l=i+(j<<5);
-*l=8;
-l[1]=0;
-x8(l+8,h);
-x8(l+16,0);
-l[24]=0;
-w8(a+160,j+1);
-w8(a+192,b);
-e=1;
-break;
-case 0:case 4:case 9:case 10:case 11:case 12:case 13:case 14:e=0;
-break;
-default:NEVER;
-}
-L1:return e;
-}
-
-/* rust_direct::direct::Direct::unnamed_ended */
-static u8 unnamed_ended_c46(u8* a,u8* b,u64 c,u64 d,u64 e,u8 f)
-{
-A16 u8 g[12];
-u64 h,j,l,o,p,r,s,u,x,y,z,B,C,F,I,J,K,M;
-u8 i,k,m,t,v,w,D,E,H,L,N;
-u8 *n,*q,*O;
-v16 A,G;
-if(r8(a+136)>d){
-h=r8(a+96);
-if(h>65534)i=0;
-else{
-j=r8(a+8);
-k=a[80];
-if(r8(a+120)>h)l=h;
-else{
-m=make_ready_b73(a+88);
-if(!(m&1)){
-i=0;
-goto L1;}
-l=r8(a+96);}
-n=rp(a+88)+l*24;
-x8(n,e);
-x8(n+8,j);
-n[16]=f;
-n[17]=k;
-z6(n+18);
-w8(a+96,l+1);
-w2(rp(a+128)+(i64)(d<<1),(u16)h+1);
-o=r8(a+160);
-if(o==0)i=0;
-else{
-p=o-1;
-w8(a+160,p);
-q=rp(a+152)+(p<<5);
-if(*q!=2||q[1]<97)i=0;
-else{
-r=q8(q+8);
-s=r8(a+192);
-if(s<c){
-t=*(b+s);
-if((u8)(t-58)>=247){
-u=s+1;
-if(c>u){
-v=*(b+u);
-if(v!=95){
-w=v-48;
-if(w<10){
-x=s+2;
-if(c>x){
-if(*((u8*)t_facb+*(b+x))==0){
-y=(u64)w+(u8)((u8)(t*10)+32);
-if(c-x>=y){
-z=y+x;
-if(!((y>16)|(z<16))){
-A=v16_at(b+(i64)z-16);
-if((v16_ne(A,splat(95))&(v16_ult(v16_add(A,splat(198)),splat(246))&v16_ult(v16_add(v16_or(A,splat(32)),splat(133)),splat(230))))==0){
-B=x;
-C=z;
-goto L2;}}
-D=are_any_name_bytes_0a3(b,x,z);
-if(D){
-B=x;
-C=z;
-goto L2;}}}}}
-else{
-E=t-48;
-if(c-u>=E){
-F=u+E;
-if(F>=16){
-G=v16_at(b+(i64)F-16);
-if((v16_ne(G,splat(95))&(v16_ult(v16_add(G,splat(198)),splat(246))&v16_ult(v16_add(v16_or(G,splat(32)),splat(133)),splat(230))))==0){
-B=u;
-C=F;
-goto L2;}}
-H=are_any_name_bytes_0a3(b,u,F);
-if(H){
-B=u;
-C=F;
-goto L2;}}}}}}}
-z12(g);
-any_name_span_9bc(g,b,c,s);
-if(*g!=1){
-i=0;
-goto L1;}
-I=q8(g+4);
-B=I&4294967295u;
-C=I>>32;
-L2:if(B<C)i=0;
-else{
-w8(a+192,C);
-if(r8(a+136)>r){
-J=r8(a+96);
-if(J>65534)i=0;
-else{
-K=r8(a+8);
-L=a[80];
-if(r8(a+120)>J)M=J;
-else{
-N=make_ready_b73(a+88);
-if(!(N&1)){
-i=0;
-goto L1;}
-M=r8(a+96);}
-O=rp(a+88)+M*24;
-x8(O,e);
-x8(O+8,K);
-O[16]=f;
-O[17]=L;
-z6(O+18);
-w8(a+96,M+1);
-w2(rp(a+128)+(i64)(r<<1),(u16)J+1);
-i=1;}}
-else i=0;}}}}}
-else i=0;
-L1:return i;
-}
-
-/* rust_direct::direct::Direct::nest_named_anyhow */
-static u8 nest_named_anyhow_de3(u8* a,u8* b,u64 c,u64 d,u8 e,u64 f,u64 g)
-{
-u8 h[18];
-A16 u8 i[12];
-u64 j,k,l,m,n,p,r,s,t,w,x,z,A,C,F,G,I,J,K,N,O,Q,R,T,U,V,Y,Z,ca,ea;
-u8 o,q,v,y,B,H,S,ba,da,fa;
-u8 *u,*D,*E,*L,*M,*P,*W,*X,*aa,*ga;
-z12(i);
-any_name_span_9bc(i,b,c,g);
-if(*i==1){
-j=q8(i+4);
-k=j>>32;
-l=j&4294967295u;
-if(k>l){
-m=r8(a+8);
-n=k-l;
-o=(n>16)|(c-l<16);
-p=r8(a+32)-m;
-if(o||p<18){
-if(p<2){
-q=make_ready_8e3(a,2,128);
-if(!(q&1))goto L1;
-r=r8(a+8);}
-else r=m;
-*(rp(a)+r)=58;
-*(rp(a)+(i64)r+1)=58;
-s=r+2;
-w8(a+8,s);
-t=r8(a+32)-s;
-u=b+(i64)l;
-if(o||t<16){
-if(t<n){
-v=make_ready_8e3(a,n,128);
-if(!(v&1))goto L1;
-w=r8(a+8);}
-else w=s;
-x=r8(a+16);
-if(n>x-w){
-y=grow_amortized_2b6(a,n);
-if(!y){
-B=0;
-goto L2;}
-z=r8(a+16);
-A=r8(a+8);}
-else{
-z=x;
-A=w;}
-C=A+n;
-D=rp(a);
-z16(a+8);
-E=D+(i64)A;
-if((u64)E-(u64)u<n)copy_bits_4f4(u,E,n);
-else memmove(E,u,n);
-wp(a,D);
-w8(a+8,C);
-w8(a+16,z);
-F=C;
-goto L3;}
-G=r8(a+16);
-if(G-s<16){
-H=grow_amortized_2b6(a,16);
-if(!H)goto L1;
-I=r8(a+16);
-J=r8(a+8);}
-else{
-I=G;
-J=s;}
-K=J+16;
-L=rp(a);
-z16(a+8);
-M=L+(i64)J;
-if((u64)M-(u64)u<16)copy_bits_4f4(u,M,16);
-else memmove(M,u,16);
-wp(a,L);
-w8(a+8,K);
-w8(a+16,I);
-N=s+n;
-if(K<=N){
-F=K;
-goto L3;}
-O=N;}
-else{
-z16(h+2);
-*h=58;
-h[1]=58;
-P=b+(i64)l;
-if((u64)(h+2)-(u64)P<16){
-copy_bits_4f4(P,h+2,16);
-Q=r8(a+8);}
-else{
-memcpy(h+2,P,16);
-Q=m;}
-R=r8(a+16);
-if(R-Q<18){
-S=grow_amortized_2b6(a,18);
-if(!S)goto L1;
-T=r8(a+16);
-U=r8(a+8);}
-else{
-T=R;
-U=Q;}
-V=U+18;
-W=rp(a);
-z16(a+8);
-X=W+(i64)U;
-if((u64)X-(u64)h<18)copy_bits_4f4(h,X,18);
-else memcpy(X,h,18);
-wp(a,W);
-w8(a+8,V);
-w8(a+16,T);
-Y=n+2+m;
-if(V<=Y){
-F=V;
-goto L3;}
-O=Y;}
-w8(a+8,O);
-F=O;
-goto L3;
-L1:B=0;
-goto L2;
-L3:w8(a+192,k);
-if(k<c){
-if(*(b+k)==48){
-Z=r8(a+160);
-if(Z!=0){
-aa=rp(a+152)+(i64)(Z<<5);
-if(aa[-32]==2){
-if(aa[-31]>96){
-ba=unnamed_ended_c46(a,b,c,f,d,e);
-B=ba;
-goto L2;}}}}}
-if(r8(a+136)>f){
-ca=r8(a+96);
-if(ca>65534)B=0;
-else{
-da=a[80];
-if(r8(a+120)>ca)ea=ca;
-else{
-fa=make_ready_b73(a+88);
-if(!(fa&1)){
-B=0;
-goto L2;}
-ea=r8(a+96);}
-ga=rp(a+88)+ea*24;
-x8(ga,d);
-x8(ga+8,F);
-ga[16]=e;
-ga[17]=da;
-z6(ga+18);
-w8(a+96,ea+1);
-w2(rp(a+128)+(i64)(f<<1),(u16)ca+1);
-B=1;}}
-else B=0;}
-else B=0;}
-else B=0;
-L2:return B;
-}
-
-/* rust_direct::direct::Direct::push_suffix */
-static void push_suffix_49c(u8* a,u8* b,u8* c,u64 d)
-{
-u64 e,g,h,l,m,o,q,r,t,u,v,z,A,C,D,E,I,J,L,M,N;
-u8 *f,*j,*k,*w,*x,*F,*G,*O,*P;
-u8 i,n,p,s,y,B,H,K;
-e=r8(b+192);
-if(d>e){
-f=c+(i64)e;
-g=usub64(d,e);
-if(g==1||*f!=46){
-h=0;
-i=0;}
-else{
-j=f;
-k=f;
-l=g-1;
-L1:m=l-1;
-n=k[1];
-switch(n){
-case 36:case 46:case 95:break;
-default:if(n<48){
-h=0;
-i=0;
-goto L2;}
-if(n>=58){
-if(n<65){
-h=0;
-i=0;
-goto L2;}
-if(!((n<91)|((u8)(n-97)<26))){
-h=0;
-i=0;
-goto L2;}}
-break;}
-if(m!=0){
-k=k+1;
-l=m;
-goto L1;}
-o=r8(b+8);
-if(r8(b+32)-o<2){
-p=make_ready_8e3(b,2,128);
-if(!(p&1)){
-h=0;
-i=0;
-goto L2;}
-q=r8(b+8);}
-else q=o;
-r=r8(b+16);
-if(r-q<2){
-s=grow_amortized_2b6(b,2);
-if(!s){
-h=0;
-i=0;
-goto L2;}
-t=r8(b+16);
-u=r8(b+8);}
-else{
-t=r;
-u=q;}
-v=u+2;
-w=rp(b);
-z16(b+8);
-x=w+(i64)u;
-if((u64)x-(u64)(u8*)t_4f5a<2)copy_bits_4f4((u8*)t_4f5a,x,2);
-else x2(x,10272);
-wp(b,w);
-w8(b+8,v);
-w8(b+16,t);
-if(r8(b+32)-v<g){
-y=make_ready_8e3(b,g,128);
-if(!(y&1)){
-h=0;
-i=0;
-goto L2;}
-z=r8(b+8);
-A=r8(b+16);}
-else{
-z=v;
-A=t;}
-if(g>A-z){
-B=grow_amortized_2b6(b,g);
-if(!B){
-h=0;
-i=0;
-goto L2;}
-C=r8(b+16);
-D=r8(b+8);}
-else{
-C=A;
-D=z;}
-E=D+g;
-F=rp(b);
-z16(b+8);
-G=F+(i64)D;
-if((u64)G-(u64)j<g)copy_bits_4f4(j,G,g);
-else memmove(G,j,g);
-wp(b,F);
-w8(b+8,E);
-w8(b+16,C);
-if(r8(b+32)==E){
-H=make_ready_8e3(b,1,128);
-if(!(H&1)){
-h=0;
-i=0;
-goto L2;}
-I=r8(b+8);
-J=r8(b+16);}
-else{
-I=E;
-J=C;}
-if(J==I){
-K=grow_amortized_2b6(b,1);
-if(!K){
-h=0;
-i=0;
-goto L2;}
-L=r8(b+16);
-M=r8(b+8);}
-else{
-L=J;
-M=I;}
-N=M+1;
-O=rp(b);
-z16(b+8);
-P=O+(i64)M;
-if((u64)P==(u64)(u8*)t_ba5e)copy_bits_4f4((u8*)t_ba5e,P,1);
-else *P=41;
-wp(b,O);
-w8(b+8,N);
-w8(b+16,L);
-h=1;
-i=4;}}
-else{
-h=0;
-i=0;}
-L2:x8(a,h);
-a[8]=i;
-a[9]=0;
-x8(a+16,0);
-a[24]=0;
-return;
-}
-
-/* rust_direct::direct::Direct::special_named */
-static void special_named_1bc(u8* a,u8* b,u8* c,u64 d,u64 e,u8 f,u64 g,u8* h,u64 i)
-{
-A16 u8 j[12],k[24];
-u64 l,n,o,q,r,t,v,x,y,z,A,C,E,F,H,I,J,K,N,O,P,T,W,Y,Z,ba;
-u8 *m,*s,*da;
-u8 p,u,w,B,D,G,L,M,R,S,V,X,aa,ca;
-v16 Q,U;
-l=r8(b+192);
-if(l<d){
-m=c+(i64)l;
-if(*m==115){
-n=l+1;
-z24(k);
-o=d-n;
-if(o>1){
-if(m[2]==95){
-p=*((u8*)t_84dd+*(c+(i64)n));
-if(p<=61){
-q=3;
-r=p+1;
-goto L1;}
-if(o==2)goto L2;}
-else {
-if(o==2)goto L2;}
-if(m[3]!=95)goto L2;
-s=c+(i64)n;
-t=0;
-u=0;
-v=0;
-L3:w=*((u8*)t_84dd+*(s+(i64)v));
-if(w>=62)goto L2;
-x=t*62+w;
-if(!u){
-t=x;
-u=1;
-v=1;
-goto L3;}
-if(x==18446744073709551615u)goto L2;
-q=4;
-r=x+1;
-L1:y=r;
-z=q+l;
-goto L4;}
-L2:any_number_at_3d4(k,c,d,n);
-if(*k!=1){
-A=0;
-B=0;
-C=0;
-D=0;
-goto L5;}
-y=r8(k+8);
-z=r8(k+16);
-L4:if(y==18446744073709551615u){
-A=0;
-B=0;
-C=0;
-D=0;
-goto L5;}
-E=y+1;
-F=z;}
-else{
-E=0;
-F=l;}}
-else{
-E=0;
-F=l;}
-if(d>F){
-G=*(c+F);
-if(G==48){
-H=F+1;
-I=H;
-J=H;}
-else{
-if((u8)(G-58)>=247){
-K=F+1;
-if(d>K){
-L=*(c+K);
-if(L!=95){
-M=L-48;
-if(M<10){
-N=F+2;
-if(d>N){
-if(*((u8*)t_facb+*(c+N))==0){
-O=(u64)M+(u8)((u8)(G*10)+32);
-if(d-N>=O){
-P=O+N;
-if(!((O>16)|(P<16))){
-Q=v16_at(c+(i64)P-16);
-if((v16_ne(Q,splat(95))&(v16_ult(v16_add(Q,splat(198)),splat(246))&v16_ult(v16_add(v16_or(Q,splat(32)),splat(133)),splat(230))))==0){
-I=N;
-J=P;
-goto L6;}}
-R=are_any_name_bytes_0a3(c,N,P);
-if(R){
-I=N;
-J=P;
-goto L6;}}}}}
-else{
-S=G-48;
-if(d-K>=S){
-T=K+S;
-if(T>=16){
-U=v16_at(c+(i64)T-16);
-if((v16_ne(U,splat(95))&(v16_ult(v16_add(U,splat(198)),splat(246))&v16_ult(v16_add(v16_or(U,splat(32)),splat(133)),splat(230))))==0){
-I=K;
-J=T;
-goto L6;}}
-V=are_any_name_bytes_0a3(c,K,T);
-if(V){
-I=K;
-J=T;
-goto L6;}}}}}}
-z12(j);
-any_name_span_9bc(j,c,d,F);
-W=q8(j+4);
-if(*j!=1){
-A=0;
-B=0;
-C=0;
-D=0;
-goto L5;}
-I=W&4294967295u;
-J=W>>32;}
-L6:X=push_special_c7d(b,h,i,c+(i64)I,J-I,E);
-if(X&1){
-w8(b+192,J);
-if(r8(b+136)>g){
-Y=r8(b+96);
-if(Y>65534){
-A=0;
-B=0;
-C=0;
-D=0;}
-else{
-Z=r8(b+8);
-aa=b[80];
-if(r8(b+120)>Y)ba=Y;
-else{
-ca=make_ready_b73(b+88);
-if(!(ca&1)){
-A=0;
-B=0;
-C=0;
-D=0;
-goto L5;}
-ba=r8(b+96);}
-da=rp(b+88)+ba*24;
-x8(da,e);
-x8(da+8,Z);
-da[16]=f;
-da[17]=aa;
-z6(da+18);
-w8(b+96,ba+1);
-w2(rp(b+128)+(i64)(g<<1),(u16)Y+1);
-A=1;
-B=2;
-C=e;
-D=f;}}
-else{
-A=0;
-B=0;
-C=0;
-D=0;}}
-else{
-A=0;
-B=0;
-C=0;
-D=0;}}
-else{
-A=0;
-B=0;
-C=0;
-D=0;}
-L5:x8(a,A);
-a[8]=B;
-a[9]=0;
-x8(a+16,C);
-a[24]=D;
-return;
-}
-
-/* rust_direct::direct::Direct::push_special */
-static u8 push_special_c7d(u8* a,u8* b,u64 c,u8* d,u64 e,u64 f)
-{
-u64 g,i,k,m,n,o,s,t,v,w,x,B,D,F,H,I,K,L,M,Q,T,U;
-u8 h,j,l,r,u,E,G,J,R,S,V;
-u8 *p,*q,*y,*z,*A,*C,*N,*O,*P;
-g=r8(a+8);
-if(r8(a+32)-g<3){
-h=make_ready_8e3(a,3,128);
-if(!(h&1)){
-j=0;
-goto L1;}
-i=r8(a+8);}
-else i=g;
-k=r8(a+16);
-if(k-i<3){
-l=grow_amortized_2b6(a,3);
-if(!l){
-j=0;
-goto L1;}
-m=r8(a+16);
-n=r8(a+8);}
-else{
-m=k;
-n=i;}
-o=n+3;
-p=rp(a);
-z16(a+8);
-q=p+(i64)n;
-if((u64)q-(u64)(u8*)t_6ee9<3)copy_bits_4f4((u8*)t_6ee9,q,3);
-else memcpy(q,(u8*)t_6ee9,3);
-wp(a,p);
-w8(a+8,o);
-w8(a+16,m);
-if(r8(a+32)-o<c){
-r=make_ready_8e3(a,c,128);
-if(!(r&1)){
-j=0;
-goto L1;}
-s=r8(a+8);
-t=r8(a+16);}
-else{
-s=o;
-t=m;}
-if(c>t-s){
-u=grow_amortized_2b6(a,c);
-if(!u){
-j=0;
-goto L1;}
-v=r8(a+16);
-w=r8(a+8);}
-else{
-v=t;
-w=s;}
-x=w+c;
-y=rp(a);
-z16(a+8);
-z=y+(i64)w;
-if((u64)z-(u64)b<c)copy_bits_4f4(b,z,c);
-else memmove(z,b,c);
-wp(a,y);
-w8(a+8,x);
-w8(a+16,v);
-if(e==0){
-A=y;
-B=x;}
-else{
-if(r8(a+32)>x){
-C=y;
-D=x;}
-else{
-E=make_ready_8e3(a,1,16);
-if(!(E&1)){
-j=0;
-goto L1;}
-C=rp(a);
-D=r8(a+8);}
-*(C+D)=58;
-F=D+1;
-w8(a+8,F);
-if(r8(a+32)-F<e){
-G=make_ready_8e3(a,e,128);
-if(!(G&1)){
-j=0;
-goto L1;}
-H=r8(a+8);}
-else H=F;
-I=r8(a+16);
-if(e>I-H){
-J=grow_amortized_2b6(a,e);
-if(!J){
-j=0;
-goto L1;}
-K=r8(a+16);
-L=r8(a+8);}
-else{
-K=I;
-L=H;}
-M=L+e;
-N=rp(a);
-z16(a+8);
-O=N+(i64)L;
-if((u64)O-(u64)d<e)copy_bits_4f4(d,O,e);
-else memmove(O,d,e);
-wp(a,N);
-w8(a+8,M);
-w8(a+16,K);
-A=N;
-B=M;}
-if(r8(a+32)>B){
-P=A;
-Q=B;}
-else{
-R=make_ready_8e3(a,1,16);
-if(!(R&1)){
-j=0;
-goto L1;}
-P=rp(a);
-Q=r8(a+8);}
-*(P+Q)=35;
-w8(a+8,Q+1);
-S=push_decimal_701(a,f);
-if(S&1){
-T=r8(a+8);
-if(r8(a+32)>T)U=T;
-else{
-V=make_ready_8e3(a,1,16);
-if(!(V&1)){
-j=0;
-goto L1;}
-U=r8(a+8);}
-*(rp(a)+U)=125;
-w8(a+8,U+1);
-j=1;}
-else j=0;
-L1:return j;
-}
-
-/* sym_languages::languages::append_in */
-static void append_in_c46(u8* a,u8* b,u8* c,u64 d,u32 e,u8 f,u8* g)
-{
-A16 u8 h[12],i[104],j[96],k[12],l[92];
-u8 m,r,u,B,D,G,L,N,O,R,S;
-u8 *n,*y,*z,*J,*K,*T,*U,*X;
-u64 o,p,q,s,t,x,A,C,E,F,I,V,W,Y;
-u32 v,w,H,M,P,Q;
-if(f==0){
-m=write_38b(b+424,c,d,e);
-if(m){
-n=rp(b+424);
-o=r8(b+432);
-p=r8(g+16);
-q=r8(g+8);
-if(o>p-q){
-r=grow_amortized_2b6(g,o);
-if(!r){
-u=1;
-v=4;
-w=0;
-goto L1;}
-s=r8(g+16);
-t=r8(g+8);}
-else{
-s=p;
-t=q;}
-x=t+o;
-y=rp(g);
-z16(g+8);
-z=y+(i64)t;
-if((u64)z-(u64)n<o)copy_bits_4f4(n,z,o);
-else memmove(z,n,o);
-wp(g,y);
-w8(g+8,x);
-w8(g+16,s);
-u=0;
-v=0;
-w=0;
-goto L1;}}
-z12(k);
-z104(i);
-A=r8(b+640);
-if(!((d<A)|((A&4294967295u)==0))){
-B=parts_equal_58b(c,A,rp(b+632),A);
-if(B){
-read_on_1ef(i,b,c+(i64)A,d-A);
-goto L2;}}
-z12(h);
-x4(b+24,0);
-x4(b+28,0);
-if(r8(b+40)!=0)w8(b+40,0);
-if(r8(b+64)!=0)w8(b+64,0);
-w8(b+80,0);
-w4(b+88,0);
-run_48d(h,b+24,c,d,1);
-if(*h==0){
-if(r8(b+8)!=0)w8(b+8,0);
-C=r8(b+16);
-if(d>C){
-D=grow_amortized_2b6(b,d);
-if(!D){
-G=4;
-H=0;
-goto L3;}
-E=r8(b+16);
-F=r8(b+8);}
-else{
-E=C;
-F=0;}
-I=F+d;
-J=rp(b);
-z16(b+8);
-K=J+(i64)F;
-if((u64)K-(u64)c<d)copy_bits_4f4(c,K,d);
-else memmove(K,c,d);
-wp(b,J);
-w8(b+8,I);
-w8(b+16,E);
-link_57d(i,b);
-goto L2;}
-L=h[4];
-M=r4(h+8);
-x4(b+24,0);
-x4(b+28,0);
-if(r8(b+40)!=0)w8(b+40,0);
-if(r8(b+64)!=0)w8(b+64,0);
-w8(b+80,0);
-w4(b+88,0);
-G=L;
-H=M;
-L3:N=1;
-O=G;
-P=H;
-goto L4;
-L2:Q=r4(i+8);
-R=*i;
-S=i[4];
-memcpy(l,i+12,92);
-if(R==0){
-w4(j,Q);
-memcpy(j+4,l,92);
-print_0c9(k,b,j,e,f,g);
-T=qp(b+96);
-U=qp(b+120);
-V=q8(b+136);
-W=q8(b+112);
-memcpy(b+96,l+20,56);
-if(W!=0)port_rattle_dealloc(T);
-if(V!=0)port_rattle_dealloc(U);
-X=qp(b);
-Y=q8(b+16);
-memcpy(b,j,24);
-if(Y!=0)port_rattle_dealloc(X);
-N=*k;
-O=k[4];
-P=r4(k+8);}
-else{
-N=1;
-O=S;
-P=Q;}
-L4:u=N;
-v=O;
-w=P;
-L1:*a=u;
-x4(a+4,v);
-x4(a+8,w);
-return;
-}
-
-/* rust_short_way::write */
-static u8 write_38b(u8* a,u8* b,u64 c,u32 d)
-{
-u64 e,f,g,h;
-u8 i;
-e=(c<<3)+1024;
-f=umin64(d>>2,e);
-if(r8(a+8)!=0)w8(a+8,0);
-w8(a+24,f);
-w8(a+32,umin64(r8(a+16),f));
-if(r8(a+48)!=0)w8(a+48,0);
-g=e&0xfffffff8u;
-w8(a+64,g);
-w8(a+72,umin64(r8(a+56),g));
-a[80]=0;
-if(r8(a+96)!=0)w8(a+96,0);
-h=c&4294967295u;
-w8(a+112,h);
-w8(a+120,umin64(r8(a+104),h));
-if(r8(a+136)!=0)w8(a+136,0);
-if(r8(a+160)!=0)w8(a+160,0);
-w8(a+176,h);
-w8(a+184,umin64(r8(a+168),h));
-i=run_41f(a,b,c,d);
-if(!i){
-if(r8(a+8)!=0)w8(a+8,0);
-z16(a+24);
-if(r8(a+48)!=0)w8(a+48,0);
-z17(a+64);
-if(r8(a+96)!=0)w8(a+96,0);
-z16(a+112);
-if(r8(a+136)!=0)w8(a+136,0);
-if(r8(a+160)!=0)w8(a+160,0);
-z16(a+176);}
-return i;
-}
-
-/* rust_short_way::run */
-static u8 run_41f(u8* a,u8* b,u64 c,u32 d)
-{
-u8 h[1],m[18],p[32],r[32];
-A16 u8 e[40],f[40],g[32],i[40],j[32],k[40],l[32],n[40],o[40],q[24],s[24];
-u64 t,u,v,x,y,A,C,D,G,H,I,J,K,L,N,R,T,U,W,X,Z,aa,ca,da,ga,ha,ia,la,ma,pa,qa,ta,ua,xa,ya,Aa,Ca,Fa,Ga,Ia,Ja,Ka,Ma,Pa,Ra,Sa,Ta,Ua,Wa,Xa,Ya,ab,bb,cb,eb,jb,kb,mb,ob,pb,sb,tb,wb,xb,yb,zb,Bb,Cb,Eb,Fb,Gb,Jb,Kb,Nb,Ob,Pb,Qb,Sb,Tb,Vb,Wb,Xb,ac,bc,ec,fc,hc,ic,kc,lc,mc,pc,qc,tc,uc,wc,xc,zc,Ac,Bc,Ec,Fc,Ic,Jc,Lc,Mc,Oc,Pc,Qc,Tc,Uc,Xc,Yc,ad,bd,dd,ed,fd,id,jd,md,nd,od,qd,sd,ud,xd,zd,Ad,Bd,Cd,Ed,Hd,Id,Jd,Kd,Ld,Rd,Sd,Wd,Yd,Zd,ce,de,fe,ge,je,ke,me,ne,pe,qe,re,ue,ve,ye,Ae,Ce,De,Fe,Ge,He,Ke,Ne,Pe,Qe,Se,Te,Ze,bf,df,ff,gf,hf,mf,nf,qf,tf,uf,vf,xf,yf,Bf,Ef,Ff,Kf,Lf,Mf,Qf,Rf,Uf,Vf,Wf,Yf,Zf,bg,dg,fg,gg,hg,ig,kg,mg,ng,pg,qg,rg,xg,yg,Cg,Eg,Fg,Ig,Jg,Ng,Og,Sg,Tg,Wg,Xg,bh,ch,fh,gh,jh,kh,nh,oh,th,uh,wh,zh,Ah,Fh,Kh,Mh,Nh,Rh,Sh,Vh,Yh,Zh,ai,ci,di,gi,ji,ki,mi,oi,pi,qi,ti,ui,wi,xi,yi,Bi,Ci,Ei,Fi,Gi,Ji,Ki,Mi,Ni,Pi,Qi,Ri,Ui,Vi,Zi,bj,fj,gj,ij,kj,pj,uj,wj,yj,Aj,Cj,Dj,Fj,Gj,Hj,Kj,Mj,Pj,Rj,Sj,Tj,Xj,Yj,ak,ck,dk,fk,gk,hk,lk,mk,qk,sk,uk,wk,xk,zk,Ak,Dk,Ek,Gk,Jk,Kk,Mk,Nk,Pk,Sk,Tk,Vk,Wk,Yk,bl,cl,dl,el,fl,hl,kl,ml,nl,pl,ql,rl,ul,vl,yl,zl,Bl,Cl,El,Fl,Gl,Il,Ll,Ml,Ol,Pl,Rl,Ul,Vl,Xl,Yl,bm,cm,em,fm,im,jm,lm,mm,pm,rm,sm,um,vm,wm,zm,Am,Dm,Em,Gm,Hm,Jm,Mm;
-u8 w,z,E,M,O,P,Q,S,Y,ba,ea,fa,ja,ka,na,oa,ra,sa,va,wa,za,Ba,Da,Ea,La,Na,Qa,Va,db,fb,hb,ib,nb,qb,ub,Ab,Db,Lb,Rb,Ub,cc,gc,jc,rc,vc,yc,Gc,Kc,Nc,Vc,Zc,cd,kd,pd,vd,yd,Gd,Nd,Od,Pd,Qd,Ud,Vd,Xd,ae,be,ee,he,le,oe,we,Be,Ee,Le,Me,Oe,Re,Ue,Ve,We,Xe,Ye,af,lf,pf,rf,sf,zf,Af,Df,Hf,If,Jf,Nf,Of,Pf,Sf,Tf,Xf,cg,eg,og,tg,ug,vg,wg,Ag,Bg,Dg,Gg,Hg,Mg,Qg,Rg,Ug,ah,eh,hh,lh,mh,ph,sh,yh,Bh,Ch,Dh,Eh,Gh,Hh,Ih,Jh,Lh,Qh,Uh,Wh,Xh,ei,fi,ii,li,ni,si,vi,Di,Oi,Xi,Yi,aj,cj,ej,jj,mj,nj,oj,qj,rj,sj,tj,vj,xj,Bj,Ej,Lj,Nj,Qj,Uj,Wj,Zj,bk,ek,kk,nk,pk,tk,yk,Bk,Fk,Hk,Lk,Ok,Qk,Uk,Xk,Zk,gl,il,ll,ol,wl,Al,Hl,Jl,Nl,Ql,Sl,Wl,Zl,dm,gm,km,nm,qm,tm,Bm,Fm,Im,Km;
-u8 *B,*F,*V,*Oa,*gb,*lb,*rb,*vb,*Hb,*Ib,*Mb,*Yb,*Zb,*dc,*nc,*oc,*sc,*Cc,*Dc,*Hc,*Rc,*Sc,*Wc,*gd,*hd,*ld,*td,*Fd,*Md,*Td,*ie,*se,*te,*xe,*ze,*Ie,*Je,*cf,*ef,*Gf,*ag,*lg,*sg,*zg,*Vg,*ih,*qh,*rh,*vh,*xh,*ri,*zi,*Ai,*Hi,*Ii,*Li,*Si,*Ti,*Wi,*dj,*hj,*lj,*zj,*Ij,*Jj,*Oj,*Vj,*ik,*jk,*ok,*rk,*vk,*Ck,*Ik,*Rk,*al,*jl,*sl,*tl,*xl,*Kl,*Tl,*am,*hm,*om,*xm,*ym,*Cm,*Lm;
-s_8_64 Ha,Za,of,Pg,dh,Th,Dl;
-u16 Dd,kf,jg,Lg,Zg,Ph;
-v16 jf,wf,Cf,Kg,Yg,Oh,bi,hi;
-if(c-1<65536){
-if(*b==95&&c>1){
-if(b[1]==82){
-t=r8(a+136);
-if(c>t){
-u=c-t;
-v=r8(a+144);
-if(u>v-t){
-w=grow_amortized_3c2(a+128,u);
-if(!w){
-z=0;
-goto L1;}
-x=r8(a+144);
-y=r8(a+136);}
-else{
-x=v;
-y=t;}
-A=y+u;
-B=rp(a+128);
-if(y<A)memset(B+(i64)(y<<1),0,u<<1);
-wp(a+128,B);
-w8(a+136,A);
-w8(a+144,x);}
-else {
-if(t>c)w8(a+136,c);}
-C=r8(a+160);
-if(r8(a+184)>C)D=C;
-else{
-E=make_ready_e3c(a+152);
-if(!(E&1)){
-z=0;
-goto L1;}
-D=r8(a+160);}
-F=rp(a+152)+(D<<5);
-*F=0;
-F[1]=0;
-z17(F+8);
-w8(a+160,D+1);
-w8(a+192,2);
-G=c<<3;
-H=(u64)r;
-I=(u64)p;
-J=(u64)(m+2);
-K=(u64)m;
-L=0;
-M=0;
-N=0;
-O=1;
-P=0;
-L2:if(P==4)z=r8(a+8)<=(d>>2);
-else{
-w8(a+200,r8(a+200)+1);
-switch(P){
-case 3:Q=O&1;
-R=r8(a+192);
-if(R<c){
-S=*(b+R);
-if(S==69){
-T=r8(a+160);
-if(T==0){
-z=0;
-goto L1;}
-U=T-1;
-w8(a+160,U);
-V=rp(a+152)+(U<<5);
-if(*V!=4){
-z=0;
-goto L1;}
-W=q8(V+8);
-X=q8(V+16);
-Y=V[24];
-w8(a+192,R+1);
-Z=r8(a+8);
-if(r8(a+32)>Z)aa=Z;
-else{
-ba=make_ready_8e3(a,1,16);
-if(!(ba&1)){
-z=0;
-goto L1;}
-aa=r8(a+8);}
-*(rp(a)+aa)=62;
-ca=aa+1;
-w8(a+8,ca);
-if(r8(a+136)<=W){
-z=0;
-goto L1;}
-da=r8(a+96);
-if(da>65534){
-z=0;
-goto L1;}
-ea=2-(Y&1);
-fa=a[80];
-if(r8(a+120)>da){
-ga=da;
-ha=X;
-ia=ca;
-ja=ea;
-ka=fa;
-la=da;
-ma=W;
-na=ea;
-goto L3;}
-oa=make_ready_b73(a+88);
-if(!(oa&1)){
-z=0;
-goto L1;}
-pa=X;
-qa=ca;
-ra=ea;
-sa=fa;
-ta=da;
-ua=W;
-va=ea;
-goto L4;}
-wa=S;}
-else wa=0;
-if(Q){
-switch(wa){
-case 76:xa=R+1;
-if(!((R!=18446744073709551615u)&(xa<c))){
-z=0;
-goto L1;}
-if(*(b+xa)!=95){
-z=0;
-goto L1;}
-w8(a+192,R+2);
-ya=r8(a+8);
-if(r8(a+32)-ya<2){
-za=make_ready_8e3(a,2,128);
-if(!(za&1)){
-z=0;
-goto L1;}
-Aa=r8(a+8);}
-else Aa=ya;
-*(rp(a)+Aa)=39;
-*(rp(a)+(i64)Aa+1)=95;
-w8(a+8,Aa+2);
-Ba=0;
-Ca=0;
-Da=0;
-Ea=3;
-goto L5;
-case 75:if(R==18446744073709551615u){
-z=0;
-goto L1;}
-Fa=R+1;
-Ga=r8(a+8);
-Ha=constant_at_b72(a,b,c,Fa);
-if(Ha.f0!=1){
-z=0;
-goto L1;}
-if(r8(a+136)<=Fa){
-z=0;
-goto L1;}
-Ia=r8(a+96);
-if(Ia>65534){
-z=0;
-goto L1;}
-Ja=Ha.f1;
-Ka=r8(a+8);
-La=a[80];
-if(r8(a+120)>Ia)Ma=Ia;
-else{
-Na=make_ready_b73(a+88);
-if(!(Na&1)){
-z=0;
-goto L1;}
-Ma=r8(a+96);}
-Oa=rp(a+88)+Ma*24;
-x8(Oa,Ga);
-x8(Oa+8,Ka);
-Oa[16]=4;
-Oa[17]=La;
-z6(Oa+18);
-w8(a+96,Ma+1);
-w2(rp(a+128)+(i64)(Fa<<1),(u16)Ia+1);
-w8(a+192,Ja);
-Ba=0;
-Ca=0;
-Da=0;
-Ea=3;
-goto L5;
-default:break;}}
-else{
-Pa=r8(a+8);
-if(r8(a+32)-Pa<2){
-Qa=make_ready_8e3(a,2,128);
-if(!(Qa&1)){
-z=0;
-goto L1;}
-Ra=r8(a+8);}
-else Ra=Pa;
-*(rp(a)+Ra)=44;
-*(rp(a)+(i64)Ra+1)=32;
-Sa=Ra+2;
-w8(a+8,Sa);
-switch(wa){
-case 76:Ta=r8(a+192);
-Ua=Ta+1;
-if(!((Ta!=18446744073709551615u)&(Ua<c))){
-z=0;
-goto L1;}
-if(*(b+Ua)!=95){
-z=0;
-goto L1;}
-w8(a+192,Ta+2);
-if(r8(a+32)-Sa<2){
-Va=make_ready_8e3(a,2,128);
-if(!(Va&1)){
-z=0;
-goto L1;}
-Wa=r8(a+8);}
-else Wa=Sa;
-*(rp(a)+Wa)=39;
-*(rp(a)+(i64)Wa+1)=95;
-w8(a+8,Wa+2);
-Ba=0;
-Ca=0;
-Da=0;
-Ea=3;
-goto L5;
-case 75:Xa=r8(a+192);
-if(Xa==18446744073709551615u){
-z=0;
-goto L1;}
-Ya=Xa+1;
-Za=constant_at_b72(a,b,c,Ya);
-if(Za.f0!=1){
-z=0;
-goto L1;}
-if(r8(a+136)<=Ya){
-z=0;
-goto L1;}
-ab=r8(a+96);
-if(ab>65534){
-z=0;
-goto L1;}
-bb=Za.f1;
-cb=r8(a+8);
-db=a[80];
-if(r8(a+120)>ab)eb=ab;
-else{
-fb=make_ready_b73(a+88);
-if(!(fb&1)){
-z=0;
-goto L1;}
-eb=r8(a+96);}
-gb=rp(a+88)+eb*24;
-x8(gb,Sa);
-x8(gb+8,cb);
-gb[16]=4;
-gb[17]=db;
-z6(gb+18);
-w8(a+96,eb+1);
-w2(rp(a+128)+(i64)(Ya<<1),(u16)ab+1);
-w8(a+192,bb);
-Ba=0;
-Ca=0;
-Da=0;
-Ea=3;
-goto L5;
-default:break;}}
-break;
-case 1:break;
-case 0:hb=O;
-goto L6;
-case 2:ib=M;
-jb=N;
-goto L7;
-default:Ba=M;
-Ca=N;
-Da=O;
-Ea=P;
-goto L5;
-}
-kb=r8(a+192);
-if(kb>=c){
-z=0;
-goto L1;}
-lb=b+(i64)kb;
-switch(*lb){
-case 78:mb=kb+1;
-if(c<=mb){
-z=0;
-goto L1;}
-nb=*(b+mb);
-if(*((u8*)t_eb43+nb)==0){
-z=0;
-goto L1;}
-w8(a+192,kb+2);
-ob=r8(a+160);
-if(r8(a+184)>ob)pb=ob;
-else{
-qb=make_ready_e3c(a+152);
-if(!(qb&1)){
-z=0;
-goto L1;}
-pb=r8(a+160);}
-rb=rp(a+152)+(pb<<5);
-*rb=2;
-rb[1]=nb;
-x8(rb+8,kb);
-x8(rb+16,0);
-rb[24]=0;
-w8(a+160,pb+1);
-hb=0;
-goto L6;
-case 73:w8(a+192,kb+1);
-sb=r8(a+160);
-if(r8(a+184)>sb)tb=sb;
-else{
-ub=make_ready_e3c(a+152);
-if(!(ub&1)){
-z=0;
-goto L1;}
-tb=r8(a+160);}
-vb=rp(a+152)+(tb<<5);
-*vb=3;
-vb[1]=0;
-x8(vb+8,kb);
-x8(vb+16,0);
-vb[24]=0;
-w8(a+160,tb+1);
-hb=0;
-goto L6;
-case 82:wb=kb+1;
-if(wb<c){
-if(*(b+wb)==76){
-xb=kb+2;
-if(xb>=c){
-z=0;
-goto L1;}
-if(*(b+xb)!=95){
-z=0;
-goto L1;}
-yb=kb+3;}
-else yb=wb;}
-else yb=wb;
-zb=r8(a+8);
-if(r8(a+32)==zb){
-Ab=make_ready_8e3(a,1,128);
-if(!(Ab&1)){
-z=0;
-goto L1;}
-Bb=r8(a+8);}
-else Bb=zb;
-Cb=r8(a+16);
-if(Cb==Bb){
-Db=grow_amortized_2b6(a,1);
-if(!Db){
-z=0;
-goto L1;}
-Eb=r8(a+16);
-Fb=r8(a+8);}
-else{
-Eb=Cb;
-Fb=Bb;}
-Gb=Fb+1;
-Hb=rp(a);
-z16(a+8);
-Ib=Hb+(i64)Fb;
-if((u64)Ib==(u64)(u8*)t_951d)copy_bits_4f4((u8*)t_951d,Ib,1);
-else *Ib=38;
-wp(a,Hb);
-w8(a+8,Gb);
-w8(a+16,Eb);
-Jb=r8(a+160);
-if(r8(a+184)>Jb)Kb=Jb;
-else{
-Lb=make_ready_e3c(a+152);
-if(!(Lb&1)){
-z=0;
-goto L1;}
-Kb=r8(a+160);}
-Mb=rp(a+152)+(Kb<<5);
-*Mb=9;
-Mb[1]=0;
-x8(Mb+8,kb);
-x8(Mb+16,zb);
-Mb[24]=0;
-w8(a+160,Kb+1);
-w8(a+192,yb);
-Ba=0;
-Ca=0;
-Da=0;
-Ea=1;
-goto L5;
-case 81:Nb=kb+1;
-if(Nb<c){
-if(*(b+Nb)==76){
-Ob=kb+2;
-if(Ob>=c){
-z=0;
-goto L1;}
-if(*(b+Ob)!=95){
-z=0;
-goto L1;}
-Pb=kb+3;}
-else Pb=Nb;}
-else Pb=Nb;
-Qb=r8(a+8);
-if(r8(a+32)-Qb<5){
-Rb=make_ready_8e3(a,5,128);
-if(!(Rb&1)){
-z=0;
-goto L1;}
-Sb=r8(a+8);}
-else Sb=Qb;
-Tb=r8(a+16);
-if(Tb-Sb<5){
-Ub=grow_amortized_2b6(a,5);
-if(!Ub){
-z=0;
-goto L1;}
-Vb=r8(a+16);
-Wb=r8(a+8);}
-else{
-Vb=Tb;
-Wb=Sb;}
-Xb=Wb+5;
-Yb=rp(a);
-z16(a+8);
-Zb=Yb+(i64)Wb;
-if((u64)Zb-(u64)(u8*)t_d821<5)copy_bits_4f4((u8*)t_d821,Zb,5);
-else memcpy(Zb,(u8*)t_d821,5);
-wp(a,Yb);
-w8(a+8,Xb);
-w8(a+16,Vb);
-ac=r8(a+160);
-if(r8(a+184)>ac)bc=ac;
-else{
-cc=make_ready_e3c(a+152);
-if(!(cc&1)){
-z=0;
-goto L1;}
-bc=r8(a+160);}
-dc=rp(a+152)+(bc<<5);
-*dc=9;
-dc[1]=0;
-x8(dc+8,kb);
-x8(dc+16,Qb);
-dc[24]=0;
-w8(a+160,bc+1);
-w8(a+192,Pb);
-Ba=0;
-Ca=0;
-Da=0;
-Ea=1;
-goto L5;
-case 80:ec=kb+1;
-fc=r8(a+8);
-if(r8(a+32)-fc<7){
-gc=make_ready_8e3(a,7,128);
-if(!(gc&1)){
-z=0;
-goto L1;}
-hc=r8(a+8);}
-else hc=fc;
-ic=r8(a+16);
-if(ic-hc<7){
-jc=grow_amortized_2b6(a,7);
-if(!jc){
-z=0;
-goto L1;}
-kc=r8(a+16);
-lc=r8(a+8);}
-else{
-kc=ic;
-lc=hc;}
-mc=lc+7;
-nc=rp(a);
-z16(a+8);
-oc=nc+(i64)lc;
-if((u64)oc-(u64)(u8*)t_ff67<7)copy_bits_4f4((u8*)t_ff67,oc,7);
-else memcpy(oc,(u8*)t_ff67,7);
-wp(a,nc);
-w8(a+8,mc);
-w8(a+16,kc);
-pc=r8(a+160);
-if(r8(a+184)>pc)qc=pc;
-else{
-rc=make_ready_e3c(a+152);
-if(!(rc&1)){
-z=0;
-goto L1;}
-qc=r8(a+160);}
-sc=rp(a+152)+(qc<<5);
-*sc=9;
-sc[1]=0;
-x8(sc+8,kb);
-x8(sc+16,fc);
-sc[24]=0;
-w8(a+160,qc+1);
-w8(a+192,ec);
-Ba=0;
-Ca=0;
-Da=0;
-Ea=1;
-goto L5;
-case 79:tc=kb+1;
-uc=r8(a+8);
-if(r8(a+32)-uc<5){
-vc=make_ready_8e3(a,5,128);
-if(!(vc&1)){
-z=0;
-goto L1;}
-wc=r8(a+8);}
-else wc=uc;
-xc=r8(a+16);
-if(xc-wc<5){
-yc=grow_amortized_2b6(a,5);
-if(!yc){
-z=0;
-goto L1;}
-zc=r8(a+16);
-Ac=r8(a+8);}
-else{
-zc=xc;
-Ac=wc;}
-Bc=Ac+5;
-Cc=rp(a);
-z16(a+8);
-Dc=Cc+(i64)Ac;
-if((u64)Dc-(u64)(u8*)t_b2e2<5)copy_bits_4f4((u8*)t_b2e2,Dc,5);
-else memcpy(Dc,(u8*)t_b2e2,5);
-wp(a,Cc);
-w8(a+8,Bc);
-w8(a+16,zc);
-Ec=r8(a+160);
-if(r8(a+184)>Ec)Fc=Ec;
-else{
-Gc=make_ready_e3c(a+152);
-if(!(Gc&1)){
-z=0;
-goto L1;}
-Fc=r8(a+160);}
-Hc=rp(a+152)+(Fc<<5);
-*Hc=9;
-Hc[1]=0;
-x8(Hc+8,kb);
-x8(Hc+16,uc);
-Hc[24]=0;
-w8(a+160,Fc+1);
-w8(a+192,tc);
-Ba=0;
-Ca=0;
-Da=0;
-Ea=1;
-goto L5;
-case 83:Ic=kb+1;
-Jc=r8(a+8);
-if(r8(a+32)==Jc){
-Kc=make_ready_8e3(a,1,128);
-if(!(Kc&1)){
-z=0;
-goto L1;}
-Lc=r8(a+8);}
-else Lc=Jc;
-Mc=r8(a+16);
-if(Mc==Lc){
-Nc=grow_amortized_2b6(a,1);
-if(!Nc){
-z=0;
-goto L1;}
-Oc=r8(a+16);
-Pc=r8(a+8);}
-else{
-Oc=Mc;
-Pc=Lc;}
-Qc=Pc+1;
-Rc=rp(a);
-z16(a+8);
-Sc=Rc+(i64)Pc;
-if((u64)Sc==(u64)(u8*)t_2458)copy_bits_4f4((u8*)t_2458,Sc,1);
-else *Sc=91;
-wp(a,Rc);
-w8(a+8,Qc);
-w8(a+16,Oc);
-Tc=r8(a+160);
-if(r8(a+184)>Tc)Uc=Tc;
-else{
-Vc=make_ready_e3c(a+152);
-if(!(Vc&1)){
-z=0;
-goto L1;}
-Uc=r8(a+160);}
-Wc=rp(a+152)+(Uc<<5);
-*Wc=9;
-Wc[1]=0;
-x8(Wc+8,kb);
-x8(Wc+16,Jc);
-Wc[24]=1;
-w8(a+160,Uc+1);
-w8(a+192,Ic);
-Ba=0;
-Ca=0;
-Da=0;
-Ea=1;
-goto L5;
-case 84:Xc=r8(a+8);
-Yc=kb+1;
-if(r8(a+32)==Xc){
-Zc=make_ready_8e3(a,1,128);
-if(!(Zc&1)){
-z=0;
-goto L1;}
-ad=r8(a+8);}
-else ad=Xc;
-bd=r8(a+16);
-if(bd==ad){
-cd=grow_amortized_2b6(a,1);
-if(!cd){
-z=0;
-goto L1;}
-dd=r8(a+16);
-ed=r8(a+8);}
-else{
-dd=bd;
-ed=ad;}
-fd=ed+1;
-gd=rp(a);
-z16(a+8);
-hd=gd+(i64)ed;
-if((u64)hd==(u64)(u8*)t_32eb)copy_bits_4f4((u8*)t_32eb,hd,1);
-else *hd=40;
-wp(a,gd);
-w8(a+8,fd);
-w8(a+16,dd);
-id=r8(a+160);
-if(r8(a+184)>id)jd=id;
-else{
-kd=make_ready_e3c(a+152);
-if(!(kd&1)){
-z=0;
-goto L1;}
-jd=r8(a+160);}
-ld=rp(a+152)+(jd<<5);
-*ld=12;
-ld[1]=0;
-x8(ld+8,kb);
-x8(ld+16,Xc);
-ld[24]=1;
-w8(a+160,jd+1);
-w8(a+192,Yc);
-Ba=0;
-Ca=0;
-Da=0;
-Ea=1;
-goto L5;
-case 66:md=r8(a+8);
-nd=kb+1;
-z24(s);
-od=c-nd;
-if(od>1){
-if(lb[2]==95){
-pd=*((u8*)t_84dd+*(b+(i64)nd));
-if(pd<=61){
-qd=3;
-sd=pd+1;
-goto L8;}
-if(od==2)goto L9;}
-else {
-if(od==2)goto L9;}
-if(lb[3]!=95)goto L9;
-td=b+(i64)nd;
-ud=0;
-vd=0;
-xd=0;
-L10:yd=*((u8*)t_84dd+*(td+(i64)xd));
-if(yd>=62)goto L9;
-zd=ud*62+yd;
-if(!vd){
-ud=zd;
-vd=1;
-xd=1;
-goto L10;}
-if(zd==18446744073709551615u)goto L9;
-qd=4;
-sd=zd+1;
-L8:Ad=sd;
-Bd=qd+kb;
-goto L11;}
-L9:any_number_at_3d4(s,b,c,nd);
-if(*s!=1){
-z=0;
-goto L1;}
-Ad=r8(s+8);
-Bd=r8(s+16);
-L11:if(Ad>=0xfffffffffffffffeu){
-z=0;
-goto L1;}
-Cd=Ad+2;
-if(Cd>=r8(a+136)){
-z=0;
-goto L1;}
-Dd=r2(rp(a+128)+(i64)(Cd<<1));
-if(Dd==0){
-z=0;
-goto L1;}
-Ed=(u64)Dd-1;
-if(Ed>=r8(a+96)){
-z=0;
-goto L1;}
-Fd=rp(a+88)+(i64)(Ed*24);
-Gd=Fd[16];
-switch(Gd){
-case 0:case 2:case 3:Hd=q8(Fd);
-Id=q8(Fd+8);
-if(Id<Hd){
-z=0;
-goto L1;}
-if((u8)(a[80]^Fd[17])&1){
-Jd=r8(a+48);
-if(Jd<Id){
-z=0;
-goto L1;}
-Kd=Id-Hd;
-Ld=r8(a+32)-md;
-Md=rp(a+40)+(i64)Hd;
-if(!((Kd>16)|(Jd-Hd<16)||Ld<16)){
-Qd=extend_from_slice_169(a,Md,16);
-if(Qd&1){
-z=0;
-goto L1;}
-Rd=Kd+md;
-if(r8(a+8)<=Rd)goto L12;
-w8(a+8,Rd);
-goto L12;}
-if(Ld<Kd){
-Nd=make_ready_8e3(a,Kd,128);
-if(!(Nd&1)){
-z=0;
-goto L1;}}
-Od=extend_from_slice_169(a,Md,Kd);
-Pd=Od^1;}
-else{
-if(md<Id){
-z=0;
-goto L1;}
-Sd=Id-Hd;
-if((md-Hd>31)&(Sd<33)){
-if(r8(a+32)-md>31){
-z32(r);
-Td=rp(a)+(i64)Hd;
-if(H-(u64)Td<32)copy_bits_4f4(Td,r,32);
-else memcpy(r,Td,32);
-Ud=extend_from_slice_169(a,r,32);
-if(Ud&1)Vd=0;
-else{
-Wd=Sd+md;
-if(r8(a+8)>Wd){
-w8(a+8,Wd);
-Vd=1;}
-else Vd=1;}
-Pd=Vd;
-goto L13;}}
-Xd=repeat_any_4a2(a,Hd,Id);
-Pd=Xd;}
-L13:if(!(Pd&1)){
-z=0;
-goto L1;}
-L12:w8(a+192,Bd);
-if(r8(a+136)<=kb){
-z=0;
-goto L1;}
-Yd=r8(a+96);
-if(Yd>65534){
-z=0;
-goto L1;}
-Zd=r8(a+8);
-ae=a[80];
-if(r8(a+120)>Yd){
-ga=Yd;
-ha=md;
-ia=Zd;
-ja=Gd;
-ka=ae;
-la=Yd;
-ma=kb;
-na=3;
-goto L3;}
-be=make_ready_b73(a+88);
-if(!(be&1)){
-z=0;
-goto L1;}
-pa=md;
-qa=Zd;
-ra=Gd;
-sa=ae;
-ta=Yd;
-ua=kb;
-va=3;
-goto L4;
-case 1:case 4:z=0;
-goto L1;
-default:NEVER;
-}
-break;
-case 65:ce=r8(a+8);
-w8(a+192,kb+1);
-if(r8(a+32)>ce)de=ce;
-else{
-ee=make_ready_8e3(a,1,16);
-if(!(ee&1)){
-z=0;
-goto L1;}
-de=r8(a+8);}
-*(rp(a)+de)=91;
-w8(a+8,de+1);
-fe=r8(a+160);
-if(r8(a+184)>fe)ge=fe;
-else{
-he=make_ready_e3c(a+152);
-if(!(he&1)){
-z=0;
-goto L1;}
-ge=r8(a+160);}
-ie=rp(a+152)+(ge<<5);
-*ie=14;
-ie[1]=0;
-x8(ie+8,kb);
-x8(ie+16,ce);
-ie[24]=0;
-w8(a+160,ge+1);
-Ba=0;
-Ca=0;
-Da=0;
-Ea=1;
-goto L5;
-case 68:je=r8(a+8);
-ke=kb+1;
-if(r8(a+32)-je<4){
-le=make_ready_8e3(a,4,128);
-if(!(le&1)){
-z=0;
-goto L1;}
-me=r8(a+8);}
-else me=je;
-ne=r8(a+16);
-if(ne-me<4){
-oe=grow_amortized_2b6(a,4);
-if(!oe){
-z=0;
-goto L1;}
-pe=r8(a+16);
-qe=r8(a+8);}
-else{
-pe=ne;
-qe=me;}
-re=qe+4;
-se=rp(a);
-z16(a+8);
-te=se+(i64)qe;
-if((u64)te-(u64)(u8*)t_f616<4)copy_bits_4f4((u8*)t_f616,te,4);
-else x4(te,544110948);
-wp(a,se);
-w8(a+8,re);
-w8(a+16,pe);
-ue=r8(a+160);
-if(r8(a+184)>ue)ve=ue;
-else{
-we=make_ready_e3c(a+152);
-if(!(we&1)){
-z=0;
-goto L1;}
-ve=r8(a+160);}
-xe=rp(a+152)+(ve<<5);
-*xe=13;
-xe[1]=0;
-x8(xe+8,kb);
-x8(xe+16,je);
-xe[24]=0;
-w8(a+160,ve+1);
-w8(a+192,ke);
-hb=0;
-goto L6;
-case 97:ye=2;
-ze=(u8*)t_4c1d;
-break;
-case 98:ye=4;
-ze=(u8*)t_b760;
-break;
-case 99:ye=4;
-ze=(u8*)t_411b;
-break;
-case 100:ye=3;
-ze=(u8*)t_6a3e;
-break;
-case 101:ye=3;
-ze=(u8*)t_8c25;
-break;
-case 102:ye=3;
-ze=(u8*)t_16b5;
-break;
-case 104:ye=2;
-ze=(u8*)t_c899;
-break;
-case 105:ye=5;
-ze=(u8*)t_db3b;
-break;
-case 106:ye=5;
-ze=(u8*)t_f417;
-break;
-case 108:ye=3;
-ze=(u8*)t_579a;
-break;
-case 109:ye=3;
-ze=(u8*)t_d764;
-break;
-case 110:ye=4;
-ze=(u8*)t_9cf5;
-break;
-case 111:ye=4;
-ze=(u8*)t_fcd0;
-break;
-case 112:ye=1;
-ze=(u8*)t_d2e2;
-break;
-case 115:ye=3;
-ze=(u8*)t_7daa;
-break;
-case 116:ye=3;
-ze=(u8*)t_2988;
-break;
-case 117:ye=2;
-ze=(u8*)t_2e38;
-break;
-case 118:ye=3;
-ze=(u8*)t_ab5d;
-break;
-case 120:ye=3;
-ze=(u8*)t_1a91;
-break;
-case 121:ye=3;
-ze=(u8*)t_1506;
-break;
-case 122:ye=1;
-ze=(u8*)t_bb72;
-break;
-default:z=0;
-goto L1;
-}
-Ae=r8(a+8);
-w8(a+192,kb+1);
-if(r8(a+32)-Ae<ye){
-Be=make_ready_8e3(a,ye,128);
-if(!(Be&1)){
-z=0;
-goto L1;}
-Ce=r8(a+8);}
-else Ce=Ae;
-De=r8(a+16);
-if(ye>De-Ce){
-Ee=grow_amortized_2b6(a,ye);
-if(!Ee){
-z=0;
-goto L1;}
-Fe=r8(a+16);
-Ge=r8(a+8);}
-else{
-Fe=De;
-Ge=Ce;}
-He=Ge+ye;
-Ie=rp(a);
-z16(a+8);
-Je=Ie+(i64)Ge;
-if((u64)Je-(u64)ze<ye)copy_bits_4f4(ze,Je,ye);
-else memmove(Je,ze,ye);
-wp(a,Ie);
-w8(a+8,He);
-w8(a+16,Fe);
-if(r8(a+136)<=kb){
-z=0;
-goto L1;}
-Ke=r8(a+96);
-if(Ke>65534){
-z=0;
-goto L1;}
-Le=a[80];
-if(r8(a+120)>Ke){
-ga=Ke;
-ha=Ae;
-ia=He;
-ja=3;
-ka=Le;
-la=Ke;
-ma=kb;
-na=3;
-goto L3;}
-Me=make_ready_b73(a+88);
-if(!(Me&1)){
-z=0;
-goto L1;}
-pa=Ae;
-qa=He;
-ra=3;
-sa=Le;
-ta=Ke;
-ua=kb;
-va=3;
-goto L4;
-L6:Ne=r8(a+192);
-if(Ne<c){
-Oe=hb&1;
-Pe=Ne;
-L14:switch(*(b+Pe)){
-case 78:Qe=Pe+1;
-if(c<=Qe){
-z=0;
-goto L1;}
-Re=*(b+Qe);
-if(*((u8*)t_eb43+Re)==0){
-z=0;
-goto L1;}
-w8(a+192,Pe+2);
-Se=r8(a+160);
-if(r8(a+184)>Se){
-Te=Se;
-Ue=2;
-Ve=Re;
-goto L15;}
-We=make_ready_e3c(a+152);
-if(!(We&1)){
-z=0;
-goto L1;}
-Xe=2;
-Ye=Re;
-break;
-case 73:w8(a+192,Pe+1);
-Ze=r8(a+160);
-if(r8(a+184)>Ze){
-Te=Ze;
-Ue=3;
-Ve=Oe;
-goto L15;}
-af=make_ready_e3c(a+152);
-if(!(af&1)){
-z=0;
-goto L1;}
-Xe=3;
-Ye=Oe;
-break;
-default:bf=Pe;
-goto L16;
-}
-Te=r8(a+160);
-Ue=Xe;
-Ve=Ye;
-L15:cf=rp(a+152)+(Te<<5);
-*cf=Ue;
-cf[1]=Ve;
-x8(cf+8,Pe);
-x8(cf+16,0);
-cf[24]=0;
-w8(a+160,Te+1);
-df=r8(a+192);
-if(df<c){
-Pe=df;
-goto L14;}
-bf=df;}
-else bf=Ne;
-L16:if(bf>=c){
-z=0;
-goto L1;}
-ef=b+(i64)bf;
-switch(*ef){
-case 67:ff=r8(a+8);
-gf=bf+1;
-if(gf<c){
-if(*(b+gf)==115){
-hf=bf+2;
-if(c-hf>=16){
-jf=v16_at(b+hf);
-kf=cttz(v16_ult(v16_add(jf,splat(198)),splat(246))&v16_ult(v16_add(v16_or(jf,splat(32)),splat(133)),splat(230)),16);
-if(kf>=11){
-if(kf!=11)goto L17;
-lf=jf.b[0];
-if(lf==108){
-if((u8)(jf.b[1]-91)>=254)goto L17;}
-else {
-if(!((lf<58)|((u8)(lf-97)<11)))goto L17;}}
-mf=hf+kf;
-if(*(b+mf)==95){
-nf=mf+1;
-goto L18;}}
-L17:of=any_disambiguator_end_f9c(b,c,gf);
-if(of.f0!=1){
-z=0;
-goto L1;}
-nf=of.f1;}
-else nf=gf;}
-else nf=gf;
-L18:if(nf<c){
-pf=*(b+nf);
-if((u8)(pf-58)>=247){
-qf=nf+1;
-if(c>qf){
-rf=*(b+qf);
-if(rf!=95){
-sf=rf-48;
-if(sf<10){
-tf=nf+2;
-if(c<=tf)goto L19;
-if(*((u8*)t_facb+*(b+tf))!=0)goto L19;
-uf=(u64)sf+(u8)((u8)(pf*10)+32);
-if(c-tf<uf)goto L19;
-vf=uf+tf;
-if(!((uf>16)|(vf<16))){
-wf=v16_at(b+(i64)vf-16);
-if((v16_ne(wf,splat(95))&(v16_ult(v16_add(wf,splat(198)),splat(246))&v16_ult(v16_add(v16_or(wf,splat(32)),splat(133)),splat(230))))==0){
-xf=tf;
-yf=vf;
-goto L20;}}
-zf=are_any_name_bytes_0a3(b,tf,vf);
-if(!zf)goto L19;
-xf=tf;
-yf=vf;}
-else{
-Af=pf-48;
-if(c-qf<Af)goto L19;
-Bf=qf+Af;
-if(Bf>=16){
-Cf=v16_at(b+(i64)Bf-16);
-if((v16_ne(Cf,splat(95))&(v16_ult(v16_add(Cf,splat(198)),splat(246))&v16_ult(v16_add(v16_or(Cf,splat(32)),splat(133)),splat(230))))==0){
-xf=qf;
-yf=Bf;
-goto L20;}}
-Df=are_any_name_bytes_0a3(b,qf,Bf);
-if(!Df)goto L19;
-xf=qf;
-yf=Bf;}
-L20:if(yf<=xf){
-z=0;
-goto L1;}
-Ef=yf-xf;
-Ff=r8(a+32)-ff;
-Gf=b+(i64)xf;
-if((c-xf<16)|(Ef>16)||Ff<16){
-if(Ff<Ef){
-Hf=make_ready_8e3(a,Ef,128);
-if(!(Hf&1)){
-z=0;
-goto L1;}}
-If=extend_from_slice_169(a,Gf,Ef);
-if(If&1){
-z=0;
-goto L1;}}
-else{
-Jf=extend_from_slice_169(a,Gf,16);
-if(Jf&1){
-z=0;
-goto L1;}
-Kf=Ef+ff;
-if(r8(a+8)>Kf)w8(a+8,Kf);}
-w8(a+192,yf);
-if(r8(a+136)<=bf){
-z=0;
-goto L1;}
-Lf=r8(a+96);
-if(Lf>65534){
-z=0;
-goto L1;}
-Mf=r8(a+8);
-Nf=a[80];
-if(r8(a+120)>Lf){
-ga=Lf;
-ha=ff;
-ia=Mf;
-ja=0;
-ka=Nf;
-la=Lf;
-ma=bf;
-na=0;
-goto L3;}
-Of=make_ready_b73(a+88);
-if(!(Of&1)){
-z=0;
-goto L1;}
-pa=ff;
-qa=Mf;
-ra=0;
-sa=Nf;
-ta=Lf;
-ua=bf;
-va=0;
-goto L4;}}}}
-L19:Pf=crate_named_anyhow_841(a,b,c,nf);
-if(!(Pf&1)){
-z=0;
-goto L1;}
-if(r8(a+136)<=bf){
-z=0;
-goto L1;}
-Qf=r8(a+96);
-if(Qf>65534){
-z=0;
-goto L1;}
-Rf=r8(a+8);
-Sf=a[80];
-if(r8(a+120)>Qf){
-ga=Qf;
-ha=ff;
-ia=Rf;
-ja=0;
-ka=Sf;
-la=Qf;
-ma=bf;
-na=0;
-goto L3;}
-Tf=make_ready_b73(a+88);
-if(!(Tf&1)){
-z=0;
-goto L1;}
-pa=ff;
-qa=Rf;
-ra=0;
-sa=Sf;
-ta=Qf;
-ua=bf;
-va=0;
-goto L4;
-case 66:Uf=r8(a+8);
-Vf=bf+1;
-z24(q);
-Wf=c-Vf;
-if(Wf>1){
-if(ef[2]==95){
-Xf=*((u8*)t_84dd+*(b+(i64)Vf));
-if(Xf<=61){
-Yf=3;
-Zf=Xf+1;
-goto L21;}
-if(Wf==2)goto L22;}
-else {
-if(Wf==2)goto L22;}
-if(ef[3]!=95)goto L22;
-ag=b+(i64)Vf;
-bg=0;
-cg=0;
-dg=0;
-L23:eg=*((u8*)t_84dd+*(ag+(i64)dg));
-if(eg>=62)goto L22;
-fg=bg*62+eg;
-if(!cg){
-bg=fg;
-cg=1;
-dg=1;
-goto L23;}
-if(fg==18446744073709551615u)goto L22;
-Yf=4;
-Zf=fg+1;
-L21:gg=Zf;
-hg=Yf+bf;
-goto L24;}
-L22:any_number_at_3d4(q,b,c,Vf);
-if(*q!=1){
-z=0;
-goto L1;}
-gg=r8(q+8);
-hg=r8(q+16);
-L24:if(gg>=0xfffffffffffffffeu){
-z=0;
-goto L1;}
-ig=gg+2;
-if(ig>=r8(a+136)){
-z=0;
-goto L1;}
-jg=r2(rp(a+128)+(i64)(ig<<1));
-if(jg==0){
-z=0;
-goto L1;}
-kg=(u64)jg-1;
-if(kg>=r8(a+96)){
-z=0;
-goto L1;}
-lg=rp(a+88)+(i64)(kg*24);
-mg=q8(lg);
-ng=q8(lg+8);
-og=lg[16];
-if(og>2||ng<mg){
-z=0;
-goto L1;}
-if((u8)(a[80]^lg[17])&1){
-pg=r8(a+48);
-if(pg<ng){
-z=0;
-goto L1;}
-qg=ng-mg;
-rg=r8(a+32)-Uf;
-sg=rp(a+40)+(i64)mg;
-if(!((qg>16)|(pg-mg<16)||rg<16)){
-wg=extend_from_slice_169(a,sg,16);
-if(wg&1){
-z=0;
-goto L1;}
-xg=qg+Uf;
-if(r8(a+8)<=xg)goto L25;
-w8(a+8,xg);
-goto L25;}
-if(rg<qg){
-tg=make_ready_8e3(a,qg,128);
-if(!(tg&1)){
-z=0;
-goto L1;}}
-ug=extend_from_slice_169(a,sg,qg);
-vg=ug^1;}
-else{
-if(Uf<ng){
-z=0;
-goto L1;}
-yg=ng-mg;
-if((Uf-mg>31)&(yg<33)){
-if(r8(a+32)-Uf>31){
-z32(p);
-zg=rp(a)+(i64)mg;
-if(I-(u64)zg<32)copy_bits_4f4(zg,p,32);
-else memcpy(p,zg,32);
-Ag=extend_from_slice_169(a,p,32);
-if(Ag&1)Bg=0;
-else{
-Cg=yg+Uf;
-if(r8(a+8)>Cg){
-w8(a+8,Cg);
-Bg=1;}
-else Bg=1;}
-vg=Bg;
-goto L26;}}
-Dg=repeat_any_4a2(a,mg,ng);
-vg=Dg;}
-L26:if(!(vg&1)){
-z=0;
-goto L1;}
-L25:w8(a+192,hg);
-if(r8(a+136)<=bf){
-z=0;
-goto L1;}
-Eg=r8(a+96);
-if(Eg>65534){
-z=0;
-goto L1;}
-Fg=r8(a+8);
-Gg=a[80];
-if(r8(a+120)>Eg){
-ga=Eg;
-ha=Uf;
-ia=Fg;
-ja=og;
-ka=Gg;
-la=Eg;
-ma=bf;
-na=og;
-goto L3;}
-Hg=make_ready_b73(a+88);
-if(!(Hg&1)){
-z=0;
-goto L1;}
-pa=Uf;
-qa=Fg;
-ra=og;
-sa=Gg;
-ta=Eg;
-ua=bf;
-va=og;
-goto L4;
-case 77:Ig=bf+1;
-if(Ig<c){
-if(*(b+Ig)==115){
-Jg=bf+2;
-if(c-Jg>=16){
-Kg=v16_at(b+Jg);
-Lg=cttz(v16_ult(v16_add(Kg,splat(198)),splat(246))&v16_ult(v16_add(v16_or(Kg,splat(32)),splat(133)),splat(230)),16);
-if(Lg>=11){
-if(Lg!=11)goto L27;
-Mg=Kg.b[0];
-if(Mg==108){
-if((u8)(Kg.b[1]-91)>=254)goto L27;}
-else {
-if(!((Mg<58)|((u8)(Mg-97)<11)))goto L27;}}
-Ng=Jg+Lg;
-if(*(b+Ng)==95){
-Og=Ng+1;
-goto L28;}}
-L27:Pg=any_disambiguator_end_f9c(b,c,Ig);
-if(Pg.f0!=1){
-z=0;
-goto L1;}
-Og=Pg.f1;}
-else Og=Ig;}
-else Og=Ig;
-L28:if(!(a[80]&1)){
-w8(a+192,Og);
-Sg=r8(a+160);
-if(r8(a+184)>Sg)Tg=Sg;
-else{
-Ug=make_ready_e3c(a+152);
-if(!(Ug&1)){
-z=0;
-goto L1;}
-Tg=r8(a+160);}
-Vg=rp(a+152)+(Tg<<5);
-*Vg=5;
-Vg[1]=0;
-x8(Vg+8,bf);
-x8(Vg+16,0);
-Vg[24]=0;
-w8(a+160,Tg+1);
-memcpy(o,a,40);
-memcpy(a,a+40,40);
-memcpy(a+40,o,40);
-a[80]=a[80]^1;
-Ba=0;
-Ca=0;
-Da=0;
-Ea=0;
-goto L5;}
-Qg=begin_inner_impl_f25(a,Og);
-Rg=Qg;
-break;
-case 88:Wg=bf+1;
-if(Wg<c){
-if(*(b+Wg)==115){
-Xg=bf+2;
-if(c-Xg>=16){
-Yg=v16_at(b+Xg);
-Zg=cttz(v16_ult(v16_add(Yg,splat(198)),splat(246))&v16_ult(v16_add(v16_or(Yg,splat(32)),splat(133)),splat(230)),16);
-if(Zg>=11){
-if(Zg!=11)goto L29;
-ah=Yg.b[0];
-if(ah==108){
-if((u8)(Yg.b[1]-91)>=254)goto L29;}
-else {
-if(!((ah<58)|((u8)(ah-97)<11)))goto L29;}}
-bh=Xg+Zg;
-if(*(b+bh)==95){
-ch=bh+1;
-goto L30;}}
-L29:dh=any_disambiguator_end_f9c(b,c,Wg);
-if(dh.f0!=1){
-z=0;
-goto L1;}
-ch=dh.f1;}
-else ch=Wg;}
-else ch=Wg;
-L30:if(!(a[80]&1)){
-w8(a+192,ch);
-fh=r8(a+160);
-if(r8(a+184)>fh)gh=fh;
-else{
-hh=make_ready_e3c(a+152);
-if(!(hh&1)){
-z=0;
-goto L1;}
-gh=r8(a+160);}
-ih=rp(a+152)+(gh<<5);
-*ih=6;
-ih[1]=0;
-x8(ih+8,bf);
-x8(ih+16,0);
-ih[24]=0;
-w8(a+160,gh+1);
-memcpy(n,a,40);
-memcpy(a,a+40,40);
-memcpy(a+40,n,40);
-a[80]=a[80]^1;
-Ba=0;
-Ca=0;
-Da=0;
-Ea=0;
-goto L5;}
-eh=begin_inner_trait_impl_a3f(a,ch);
-Rg=eh;
-break;
-case 89:jh=r8(a+8);
-kh=bf+1;
-if(r8(a+32)==jh){
-lh=make_ready_8e3(a,1,128);
-if(!(lh&1)){
-z=0;
-goto L1;}}
-mh=extend_from_slice_169(a,(u8*)t_dabd,1);
-if(mh&1){
-z=0;
-goto L1;}
-nh=r8(a+160);
-if(r8(a+184)>nh)oh=nh;
-else{
-ph=make_ready_e3c(a+152);
-if(!(ph&1)){
-z=0;
-goto L1;}
-oh=r8(a+160);}
-qh=rp(a+152)+(oh<<5);
-*qh=10;
-qh[1]=0;
-x8(qh+8,bf);
-x8(qh+16,jh);
-qh[24]=0;
-w8(a+160,oh+1);
-w8(a+192,kh);
-Ba=0;
-Ca=0;
-Da=0;
-Ea=1;
-goto L5;
-default:z=0;
-goto L1;
-}
-if(Rg==0){
-z=0;
-goto L1;}
-Ba=0;
-Ca=0;
-Da=0;
-Ea=0;
-goto L5;
-L4:ga=r8(a+96);
-ha=pa;
-ia=qa;
-ja=ra;
-ka=sa;
-la=ta;
-ma=ua;
-na=va;
-L3:rh=rp(a+88)+ga*24;
-x8(rh,ha);
-x8(rh+8,ia);
-rh[16]=ja;
-rh[17]=ka;
-z6(rh+18);
-w8(a+96,ga+1);
-w2(rp(a+128)+(i64)(ma<<1),(u16)la+1);
-ib=na;
-jb=ha;
-L7:sh=ib<3;
-L31:th=r8(a+160);
-if(th==0){
-z=0;
-goto L1;}
-uh=th-1;
-w8(a+160,uh);
-vh=rp(a+152);
-wh=uh<<5;
-xh=vh+wh;
-yh=xh[1];
-zh=q8(xh+8);
-Ah=q8(xh+16);
-Bh=xh[24];
-switch(*xh){
-case 2:if(yh>=97){
-if(!sh){
-z=0;
-goto L1;}
-Mh=r8(a+192);
-if(Mh<c){
-if(*(b+Mh)==115){
-Nh=Mh+1;
-if(c-Nh>=16){
-Oh=v16_at(b+Nh);
-Ph=cttz(v16_ult(v16_add(Oh,splat(198)),splat(246))&v16_ult(v16_add(v16_or(Oh,splat(32)),splat(133)),splat(230)),16);
-if(Ph>=11){
-if(Ph!=11)goto L32;
-Qh=Oh.b[0];
-if(Qh==108){
-if((u8)(Oh.b[1]-91)>=254)goto L32;}
-else {
-if(!((Qh<58)|((u8)(Qh-97)<11)))goto L32;}}
-Rh=Nh+Ph;
-if(*(b+Rh)==95){
-Sh=Rh+1;
-goto L33;}}
-L32:Th=any_disambiguator_end_f9c(b,c,Mh);
-if(Th.f0!=1){
-z=0;
-goto L1;}
-Sh=Th.f1;}
-else Sh=Mh;}
-else Sh=Mh;
-L33:if(Sh<c){
-Uh=*(b+Sh);
-if((u8)(Uh-58)>=247){
-Vh=Sh+1;
-if(c>Vh){
-Wh=*(b+Vh);
-if(Wh!=95){
-Xh=Wh-48;
-if(Xh<10){
-Yh=Sh+2;
-if(c<=Yh)goto L34;
-if(*((u8*)t_facb+*(b+Yh))!=0)goto L34;
-Zh=(u64)Xh+(u8)((u8)(Uh*10)+32);
-if(c-Yh<Zh)goto L34;
-ai=Zh+Yh;
-if(!((Zh>16)|(ai<16))){
-bi=v16_at(b+(i64)ai-16);
-if((v16_ne(bi,splat(95))&(v16_ult(v16_add(bi,splat(198)),splat(246))&v16_ult(v16_add(v16_or(bi,splat(32)),splat(133)),splat(230))))==0){
-ci=Yh;
-di=ai;
-goto L35;}}
-ei=are_any_name_bytes_0a3(b,Yh,ai);
-if(!ei)goto L34;
-ci=Yh;
-di=ai;}
-else{
-fi=Uh-48;
-if(c-Vh<fi)goto L34;
-gi=Vh+fi;
-if(gi>=16){
-hi=v16_at(b+(i64)gi-16);
-if((v16_ne(hi,splat(95))&(v16_ult(v16_add(hi,splat(198)),splat(246))&v16_ult(v16_add(v16_or(hi,splat(32)),splat(133)),splat(230))))==0){
-ci=Vh;
-di=gi;
-goto L35;}}
-ii=are_any_name_bytes_0a3(b,Vh,gi);
-if(!ii)goto L34;
-ci=Vh;
-di=gi;}
-L35:if(di<=ci){
-z=0;
-goto L1;}
-ji=r8(a+8);
-ki=di-ci;
-li=(c-ci<16)|(ki>16);
-mi=r8(a+32)-ji;
-if(li||mi<18){
-if(mi<2){
-ni=make_ready_8e3(a,2,128);
-if(!(ni&1))goto L36;
-oi=r8(a+8);}
-else oi=ji;
-*(rp(a)+oi)=58;
-*(rp(a)+(i64)oi+1)=58;
-pi=oi+2;
-w8(a+8,pi);
-qi=r8(a+32)-pi;
-ri=b+(i64)ci;
-if(li||qi<16){
-if(qi<ki){
-si=make_ready_8e3(a,ki,128);
-if(!(si&1))goto L36;
-ti=r8(a+8);}
-else ti=pi;
-ui=r8(a+16);
-if(ki>ui-ti){
-vi=grow_amortized_2b6(a,ki);
-if(!vi){
-z=0;
-goto L1;}
-wi=r8(a+16);
-xi=r8(a+8);}
-else{
-wi=ui;
-xi=ti;}
-yi=xi+ki;
-zi=rp(a);
-z16(a+8);
-Ai=zi+(i64)xi;
-if((u64)Ai-(u64)ri<ki)copy_bits_4f4(ri,Ai,ki);
-else memmove(Ai,ri,ki);
-wp(a,zi);
-w8(a+8,yi);
-w8(a+16,wi);
-Bi=yi;
-goto L37;}
-Ci=r8(a+16);
-if(Ci-pi<16){
-Di=grow_amortized_2b6(a,16);
-if(!Di)goto L36;
-Ei=r8(a+16);
-Fi=r8(a+8);}
-else{
-Ei=Ci;
-Fi=pi;}
-Gi=Fi+16;
-Hi=rp(a);
-z16(a+8);
-Ii=Hi+(i64)Fi;
-if((u64)Ii-(u64)ri<16)copy_bits_4f4(ri,Ii,16);
-else memmove(Ii,ri,16);
-wp(a,Hi);
-w8(a+8,Gi);
-w8(a+16,Ei);
-Ji=pi+ki;
-if(Gi<=Ji){
-Bi=Gi;
-goto L37;}
-Ki=Ji;}
-else{
-z16(m+2);
-*m=58;
-m[1]=58;
-Li=b+(i64)ci;
-if(J-(u64)Li<16){
-copy_bits_4f4(Li,m+2,16);
-Mi=r8(a+8);}
-else{
-memcpy(m+2,Li,16);
-Mi=ji;}
-Ni=r8(a+16);
-if(Ni-Mi<18){
-Oi=grow_amortized_2b6(a,18);
-if(!Oi)goto L36;
-Pi=r8(a+16);
-Qi=r8(a+8);}
-else{
-Pi=Ni;
-Qi=Mi;}
-Ri=Qi+18;
-Si=rp(a);
-z16(a+8);
-Ti=Si+(i64)Qi;
-if((u64)Ti-K<18)copy_bits_4f4(m,Ti,18);
-else memcpy(Ti,m,18);
-wp(a,Si);
-w8(a+8,Ri);
-w8(a+16,Pi);
-Ui=ki+2+ji;
-if(Ri<=Ui){
-Bi=Ri;
-goto L37;}
-Ki=Ui;}
-w8(a+8,Ki);
-Bi=Ki;
-goto L37;
-L36:z=0;
-goto L1;
-L37:w8(a+192,di);
-if(di<c){
-if(*(b+di)==48){
-Vi=r8(a+160);
-if(Vi!=0){
-Wi=rp(a+152)+(i64)(Vi<<5);
-if(Wi[-32]==2){
-if(Wi[-31]>96){
-Xi=unnamed_ended_c46(a,b,c,zh,jb,ib);
-Yi=Xi;
-goto L38;}}}}}
-if(r8(a+136)<=zh){
-z=0;
-goto L1;}
-Zi=r8(a+96);
-if(Zi>65534){
-z=0;
-goto L1;}
-aj=a[80];
-if(r8(a+120)>Zi)bj=Zi;
-else{
-cj=make_ready_b73(a+88);
-if(!(cj&1)){
-z=0;
-goto L1;}
-bj=r8(a+96);}
-dj=rp(a+88)+bj*24;
-x8(dj,jb);
-x8(dj+8,Bi);
-dj[16]=ib;
-dj[17]=aj;
-z6(dj+18);
-w8(a+96,bj+1);
-w2(rp(a+128)+(i64)(zh<<1),(u16)Zi+1);
-Yi=1;
-goto L38;}}}}
-L34:ej=nest_named_anyhow_de3(a,b,c,jb,ib,zh,Sh);
-Yi=ej;
-L38:if(Yi&1)goto L31;
-z=0;
-goto L1;}
-z32(g);
-if(sh&(yh>64)){
-switch(yh){
-case 67:special_named_1bc(g,a,b,c,jb,ib,zh,(u8*)t_6d4c,7);
-break;
-case 83:special_named_1bc(g,a,b,c,jb,ib,zh,(u8*)t_04e6,4);
-break;
-default:*h=yh;
-special_named_1bc(g,a,b,c,jb,ib,zh,h,1);
-break;}
-Ch=*g;
-Dh=g[8];
-Eh=g[9];
-Fh=r8(g+16);
-Gh=g[24];}
-else{
-Ch=0;
-Dh=0;
-Eh=0;
-Fh=0;
-Gh=0;}
-Hh=Ch;
-Ih=Dh;
-Jh=Eh;
-Kh=Fh;
-Lh=Gh;
-break;
-case 0:if(ib>=2){
-z=0;
-goto L1;}
-if(a[80]&1){
-z=0;
-goto L1;}
-fj=r8(a+192);
-if(fj<c){
-if((u8)(*(b+fj)-65)<26){
-if(r8(a+184)>uh){
-gj=wh;
-hj=vh;
-ij=th;}
-else{
-jj=make_ready_e3c(a+152);
-if(!(jj&1)){
-z=0;
-goto L1;}
-kj=r8(a+160);
-gj=kj<<5;
-hj=rp(a+152);
-ij=kj+1;}
-lj=hj+gj;
-*lj=1;
-lj[1]=0;
-z17(lj+8);
-w8(a+160,ij);
-memcpy(k,a,40);
-memcpy(a,a+40,40);
-memcpy(a+40,k,40);
-a[80]=a[80]^1;
-Ba=0;
-Ca=0;
-Da=0;
-Ea=0;
-goto L5;}}
-z32(l);
-if(fj==c){
-mj=1;
-nj=4;
-oj=0;
-pj=0;
-qj=0;}
-else{
-push_suffix_49c(l,a,b,c);
-mj=*l;
-nj=l[8];
-oj=l[9];
-pj=r8(l+16);
-qj=l[24];}
-Hh=mj;
-Ih=nj;
-Jh=oj;
-Kh=pj;
-Lh=qj;
-break;
-case 1:if(!sh){
-z=0;
-goto L1;}
-if(!(a[80]&1)){
-z=0;
-goto L1;}
-memcpy(i,a,40);
-memcpy(a,a+40,40);
-memcpy(a+40,i,40);
-a[80]=0;
-z32(j);
-if(r8(a+192)==c){
-rj=1;
-sj=4;
-tj=0;
-uj=0;
-vj=0;}
-else{
-push_suffix_49c(j,a,b,c);
-rj=*j;
-sj=j[8];
-tj=j[9];
-uj=r8(j+16);
-vj=j[24];}
-Hh=rj;
-Ih=sj;
-Jh=tj;
-Kh=uj;
-Lh=vj;
-break;
-case 12:switch(ib){
-case 0:case 2:case 3:wj=r8(a+192);
-if(wj<c){
-if(*(b+wj)==69){
-if(ib==1){
-z=0;
-goto L1;}
-xj=Bh&1;
-w8(a+192,wj+1);
-yj=xj?2:1;
-zj=xj?(u8*)t_b4da:(u8*)t_ba5e;
-Aj=r8(a+8);
-if(r8(a+32)-Aj<yj){
-Bj=make_ready_8e3(a,yj,128);
-if(!(Bj&1)){
-z=0;
-goto L1;}
-Cj=r8(a+8);}
-else Cj=Aj;
-Dj=r8(a+16);
-if(yj>Dj-Cj){
-Ej=grow_amortized_2b6(a,yj);
-if(!Ej){
-z=0;
-goto L1;}
-Fj=r8(a+16);
-Gj=r8(a+8);}
-else{
-Fj=Dj;
-Gj=Cj;}
-Hj=Gj+yj;
-Ij=rp(a);
-z16(a+8);
-Jj=Ij+(i64)Gj;
-if((u64)Jj-(u64)zj<yj)copy_bits_4f4(zj,Jj,yj);
-else memcpy(Jj,zj,yj);
-wp(a,Ij);
-w8(a+8,Hj);
-w8(a+16,Fj);
-if(r8(a+136)<=zh){
-z=0;
-goto L1;}
-Kj=r8(a+96);
-if(Kj>65534){
-z=0;
-goto L1;}
-Lj=a[80];
-if(r8(a+120)>Kj)Mj=Kj;
-else{
-Nj=make_ready_b73(a+88);
-if(!(Nj&1)){
-z=0;
-goto L1;}
-Mj=r8(a+96);}
-Oj=rp(a+88)+Mj*24;
-x8(Oj,Ah);
-x8(Oj+8,Hj);
-Oj[16]=3;
-Oj[17]=Lj;
-z6(Oj+18);
-w8(a+96,Mj+1);
-w2(rp(a+128)+(i64)(zh<<1),(u16)Kj+1);
-Ba=3;
-Ca=Ah;
-Da=0;
-Ea=2;
-goto L5;}}
-Pj=r8(a+8);
-if(r8(a+32)-Pj<2){
-Qj=make_ready_8e3(a,2,128);
-if(!(Qj&1)){
-z=0;
-goto L1;}
-Rj=r8(a+8);}
-else Rj=Pj;
-*(rp(a)+Rj)=44;
-*(rp(a)+(i64)Rj+1)=32;
-w8(a+8,Rj+2);
-Sj=r8(a+160);
-if(r8(a+184)>Sj)Tj=Sj;
-else{
-Uj=make_ready_e3c(a+152);
-if(!(Uj&1)){
-z=0;
-goto L1;}
-Tj=r8(a+160);}
-Vj=rp(a+152)+(Tj<<5);
-*Vj=12;
-Vj[1]=0;
-x8(Vj+8,zh);
-x8(Vj+16,Ah);
-Vj[24]=0;
-w8(a+160,Tj+1);
-Ba=0;
-Ca=0;
-Da=0;
-Ea=1;
-goto L5;
-case 1:case 4:z=0;
-goto L1;
-default:NEVER;
-}
-break;
-case 3:Wj=yh&1;
-switch(ib){
-case 0:if(Wj)goto L39;
-break;
-case 1:if(Wj)goto L39;
-z=0;
-goto L1;
-case 2:if(Wj){
-z=0;
-goto L1;}
-break;
-case 3:case 4:z=0;
-goto L1;
-default:NEVER;
-}
-Xj=r8(a+8);
-if(r8(a+32)>Xj)Yj=Xj;
-else{
-Zj=make_ready_8e3(a,1,16);
-if(!(Zj&1)){
-z=0;
-goto L1;}
-Yj=r8(a+8);}
-*(rp(a)+Yj)=60;
-w8(a+8,Yj+1);
-goto L40;
-L39:ak=r8(a+8);
-if(r8(a+32)-ak<3){
-bk=make_ready_8e3(a,3,128);
-if(!(bk&1)){
-z=0;
-goto L1;}
-ck=r8(a+8);}
-else ck=ak;
-dk=r8(a+16);
-if(dk-ck<3){
-ek=grow_amortized_2b6(a,3);
-if(!ek){
-z=0;
-goto L1;}
-fk=r8(a+16);
-gk=r8(a+8);}
-else{
-fk=dk;
-gk=ck;}
-hk=gk+3;
-ik=rp(a);
-z16(a+8);
-jk=ik+(i64)gk;
-if((u64)jk-(u64)(u8*)t_c207<3)copy_bits_4f4((u8*)t_c207,jk,3);
-else memcpy(jk,(u8*)t_c207,3);
-wp(a,ik);
-w8(a+8,hk);
-w8(a+16,fk);
-L40:kk=yh&1;
-lk=r8(a+160);
-if(r8(a+184)>lk)mk=lk;
-else{
-nk=make_ready_e3c(a+152);
-if(!(nk&1)){
-z=0;
-goto L1;}
-mk=r8(a+160);}
-ok=rp(a+152)+(mk<<5);
-*ok=4;
-ok[1]=0;
-x8(ok+8,zh);
-x8(ok+16,jb);
-ok[24]=kk;
-w8(a+160,mk+1);
-Ba=0;
-Ca=0;
-Da=1;
-Ea=3;
-goto L5;
-case 4:switch(ib){
-case 0:case 2:case 3:pk=Bh&1;
-if(r8(a+184)>uh){
-qk=wh;
-rk=vh;
-sk=th;}
-else{
-tk=make_ready_e3c(a+152);
-if(!(tk&1)){
-z=0;
-goto L1;}
-uk=r8(a+160);
-qk=uk<<5;
-rk=rp(a+152);
-sk=uk+1;}
-vk=rk+qk;
-*vk=4;
-vk[1]=0;
-x8(vk+8,zh);
-x8(vk+16,Ah);
-vk[24]=pk;
-w8(a+160,sk);
-Ba=0;
-Ca=0;
-Da=0;
-Ea=3;
-goto L5;
-case 1:case 4:z=0;
-goto L1;
-default:NEVER;
-}
-break;
-case 5:if(!sh){
-z=0;
-goto L1;}
-if(!(a[80]&1)){
-z=0;
-goto L1;}
-memcpy(f,a,40);
-memcpy(a,a+40,40);
-memcpy(a+40,f,40);
-a[80]=0;
-wk=r8(a+8);
-if(r8(a+32)>wk)xk=wk;
-else{
-yk=make_ready_8e3(a,1,16);
-if(!(yk&1)){
-z=0;
-goto L1;}
-xk=r8(a+8);}
-*(rp(a)+xk)=60;
-w8(a+8,xk+1);
-zk=r8(a+160);
-if(r8(a+184)>zk)Ak=zk;
-else{
-Bk=make_ready_e3c(a+152);
-if(!(Bk&1)){
-z=0;
-goto L1;}
-Ak=r8(a+160);}
-Ck=rp(a+152)+(Ak<<5);
-*Ck=9;
-Ck[1]=0;
-x8(Ck+8,zh);
-x8(Ck+16,wk);
-Ck[24]=2;
-w8(a+160,Ak+1);
-Ba=0;
-Ca=0;
-Da=0;
-Ea=1;
-goto L5;
-case 9:switch(Bh){
-case 0:switch(ib){
-case 0:case 2:case 3:if(r8(a+136)<=zh){
-z=0;
-goto L1;}
-Dk=r8(a+96);
-if(Dk>65534){
-z=0;
-goto L1;}
-Ek=r8(a+8);
-Fk=a[80];
-if(r8(a+120)>Dk)Gk=Dk;
-else{
-Hk=make_ready_b73(a+88);
-if(!(Hk&1)){
-z=0;
-goto L1;}
-Gk=r8(a+96);}
-Ik=rp(a+88)+Gk*24;
-x8(Ik,Ah);
-x8(Ik+8,Ek);
-Ik[16]=3;
-Ik[17]=Fk;
-z6(Ik+18);
-w8(a+96,Gk+1);
-w2(rp(a+128)+(i64)(zh<<1),(u16)Dk+1);
-Ba=3;
-Ca=Ah;
-Da=0;
-Ea=2;
-goto L5;
-case 1:case 4:z=0;
-goto L1;
-default:NEVER;
-}
-break;
-case 1:switch(ib){
-case 0:case 2:case 3:Jk=r8(a+8);
-if(r8(a+32)>Jk)Kk=Jk;
-else{
-Lk=make_ready_8e3(a,1,16);
-if(!(Lk&1)){
-z=0;
-goto L1;}
-Kk=r8(a+8);}
-*(rp(a)+Kk)=93;
-Mk=Kk+1;
-w8(a+8,Mk);
-if(r8(a+136)<=zh){
-z=0;
-goto L1;}
-Nk=r8(a+96);
-if(Nk>65534){
-z=0;
-goto L1;}
-Ok=a[80];
-if(r8(a+120)>Nk)Pk=Nk;
-else{
-Qk=make_ready_b73(a+88);
-if(!(Qk&1)){
-z=0;
-goto L1;}
-Pk=r8(a+96);}
-Rk=rp(a+88)+Pk*24;
-x8(Rk,Ah);
-x8(Rk+8,Mk);
-Rk[16]=3;
-Rk[17]=Ok;
-z6(Rk+18);
-w8(a+96,Pk+1);
-w2(rp(a+128)+(i64)(zh<<1),(u16)Nk+1);
-Ba=3;
-Ca=Ah;
-Da=0;
-Ea=2;
-goto L5;
-case 1:case 4:z=0;
-goto L1;
-default:NEVER;
-}
-break;
-case 2:switch(ib){
-case 0:case 2:case 3:Sk=r8(a+8);
-if(r8(a+32)>Sk)Tk=Sk;
-else{
-Uk=make_ready_8e3(a,1,16);
-if(!(Uk&1)){
-z=0;
-goto L1;}
-Tk=r8(a+8);}
-*(rp(a)+Tk)=62;
-Vk=Tk+1;
-w8(a+8,Vk);
-if(r8(a+136)<=zh){
-z=0;
-goto L1;}
-Wk=r8(a+96);
-if(Wk>65534){
-z=0;
-goto L1;}
-Xk=a[80];
-if(r8(a+120)>Wk)Yk=Wk;
-else{
-Zk=make_ready_b73(a+88);
-if(!(Zk&1)){
-z=0;
-goto L1;}
-Yk=r8(a+96);}
-al=rp(a+88)+Yk*24;
-x8(al,Ah);
-x8(al+8,Vk);
-al[16]=0;
-al[17]=Xk;
-z6(al+18);
-w8(a+96,Yk+1);
-w2(rp(a+128)+(i64)(zh<<1),(u16)Wk+1);
-Ba=0;
-Ca=Ah;
-Da=0;
-Ea=2;
-goto L5;
-case 1:case 4:z=0;
-goto L1;
-default:NEVER;
-}
-break;
-default:NEVER;
-}
-break;
-case 13:switch(ib){
-case 0:case 2:bl=r8(a+192);
-if(bl<c){
-if(*(b+bl)==69){
-cl=bl+1;
-if(cl>=c){
-z=0;
-goto L1;}
-if(*(b+cl)!=76){
-z=0;
-goto L1;}
-dl=bl+2;
-if(dl>=c){
-z=0;
-goto L1;}
-if(*(b+dl)!=95){
-z=0;
-goto L1;}
-w8(a+192,bl+3);
-if(r8(a+136)<=zh){
-z=0;
-goto L1;}
-el=r8(a+96);
-if(el>65534){
-z=0;
-goto L1;}
-fl=r8(a+8);
-gl=a[80];
-if(r8(a+120)>el)hl=el;
-else{
-il=make_ready_b73(a+88);
-if(!(il&1)){
-z=0;
-goto L1;}
-hl=r8(a+96);}
-jl=rp(a+88)+hl*24;
-x8(jl,Ah);
-x8(jl+8,fl);
-jl[16]=3;
-jl[17]=gl;
-z6(jl+18);
-w8(a+96,hl+1);
-w2(rp(a+128)+(i64)(zh<<1),(u16)el+1);
-Ba=3;
-Ca=Ah;
-Da=0;
-Ea=2;
-goto L5;}}
-kl=r8(a+8);
-if(r8(a+32)-kl<3){
-ll=make_ready_8e3(a,3,128);
-if(!(ll&1)){
-z=0;
-goto L1;}
-ml=r8(a+8);}
-else ml=kl;
-nl=r8(a+16);
-if(nl-ml<3){
-ol=grow_amortized_2b6(a,3);
-if(!ol){
-z=0;
-goto L1;}
-pl=r8(a+16);
-ql=r8(a+8);}
-else{
-pl=nl;
-ql=ml;}
-rl=ql+3;
-sl=rp(a);
-z16(a+8);
-tl=sl+(i64)ql;
-if((u64)tl-(u64)(u8*)t_4620<3)copy_bits_4f4((u8*)t_4620,tl,3);
-else memcpy(tl,(u8*)t_4620,3);
-wp(a,sl);
-w8(a+8,rl);
-w8(a+16,pl);
-ul=r8(a+160);
-if(r8(a+184)>ul)vl=ul;
-else{
-wl=make_ready_e3c(a+152);
-if(!(wl&1)){
-z=0;
-goto L1;}
-vl=r8(a+160);}
-xl=rp(a+152)+(vl<<5);
-*xl=13;
-xl[1]=0;
-x8(xl+8,zh);
-x8(xl+16,Ah);
-xl[24]=0;
-w8(a+160,vl+1);
-Ba=0;
-Ca=0;
-Da=0;
-Ea=0;
-goto L5;
-case 1:case 3:case 4:z=0;
-goto L1;
-default:NEVER;
-}
-break;
-case 14:switch(ib){
-case 0:case 2:case 3:yl=r8(a+192);
-zl=r8(a+8);
-if(r8(a+32)-zl<2){
-Al=make_ready_8e3(a,2,128);
-if(!(Al&1)){
-z=0;
-goto L1;}
-Bl=r8(a+8);}
-else Bl=zl;
-*(rp(a)+Bl)=59;
-*(rp(a)+(i64)Bl+1)=32;
-Cl=Bl+2;
-w8(a+8,Cl);
-Dl=constant_at_b72(a,b,c,yl);
-if(Dl.f0!=1){
-z=0;
-goto L1;}
-if(r8(a+136)<=yl){
-z=0;
-goto L1;}
-El=r8(a+96);
-if(El>65534){
-z=0;
-goto L1;}
-Fl=Dl.f1;
-Gl=r8(a+8);
-Hl=a[80];
-if(r8(a+120)>El)Il=El;
-else{
-Jl=make_ready_b73(a+88);
-if(!(Jl&1)){
-z=0;
-goto L1;}
-Il=r8(a+96);}
-Kl=rp(a+88)+Il*24;
-x8(Kl,Cl);
-x8(Kl+8,Gl);
-Kl[16]=4;
-Kl[17]=Hl;
-z6(Kl+18);
-w8(a+96,Il+1);
-w2(rp(a+128)+(i64)(yl<<1),(u16)El+1);
-w8(a+192,Fl);
-Ll=r8(a+8);
-if(r8(a+32)>Ll)Ml=Ll;
-else{
-Nl=make_ready_8e3(a,1,16);
-if(!(Nl&1)){
-z=0;
-goto L1;}
-Ml=r8(a+8);}
-*(rp(a)+Ml)=93;
-Ol=Ml+1;
-w8(a+8,Ol);
-if(r8(a+136)<=zh){
-z=0;
-goto L1;}
-Pl=r8(a+96);
-if(Pl>65534){
-z=0;
-goto L1;}
-Ql=a[80];
-if(r8(a+120)>Pl)Rl=Pl;
-else{
-Sl=make_ready_b73(a+88);
-if(!(Sl&1)){
-z=0;
-goto L1;}
-Rl=r8(a+96);}
-Tl=rp(a+88)+Rl*24;
-x8(Tl,Ah);
-x8(Tl+8,Ol);
-Tl[16]=3;
-Tl[17]=Ql;
-z6(Tl+18);
-w8(a+96,Rl+1);
-w2(rp(a+128)+(i64)(zh<<1),(u16)Pl+1);
-Ba=3;
-Ca=Ah;
-Da=0;
-Ea=2;
-goto L5;
-case 1:case 4:z=0;
-goto L1;
-default:NEVER;
-}
-break;
-case 6:if(!sh){
-z=0;
-goto L1;}
-if(!(a[80]&1)){
-z=0;
-goto L1;}
-memcpy(e,a,40);
-memcpy(a,a+40,40);
-memcpy(a+40,e,40);
-a[80]=0;
-Ul=r8(a+8);
-if(r8(a+32)>Ul)Vl=Ul;
-else{
-Wl=make_ready_8e3(a,1,16);
-if(!(Wl&1)){
-z=0;
-goto L1;}
-Vl=r8(a+8);}
-*(rp(a)+Vl)=60;
-w8(a+8,Vl+1);
-Xl=r8(a+160);
-if(r8(a+184)>Xl)Yl=Xl;
-else{
-Zl=make_ready_e3c(a+152);
-if(!(Zl&1)){
-z=0;
-goto L1;}
-Yl=r8(a+160);}
-am=rp(a+152)+(Yl<<5);
-*am=10;
-am[1]=0;
-x8(am+8,zh);
-x8(am+16,Ul);
-am[24]=0;
-w8(a+160,Yl+1);
-Ba=0;
-Ca=0;
-Da=0;
-Ea=1;
-goto L5;
-case 7:if(!sh){
-z=0;
-goto L1;}
-bm=r8(a+8);
-if(r8(a+32)>bm)cm=bm;
-else{
-dm=make_ready_8e3(a,1,16);
-if(!(dm&1)){
-z=0;
-goto L1;}
-cm=r8(a+8);}
-*(rp(a)+cm)=60;
-w8(a+8,cm+1);
-em=r8(a+160);
-if(r8(a+184)>em)fm=em;
-else{
-gm=make_ready_e3c(a+152);
-if(!(gm&1)){
-z=0;
-goto L1;}
-fm=r8(a+160);}
-hm=rp(a+152)+(fm<<5);
-*hm=9;
-hm[1]=0;
-x8(hm+8,zh);
-x8(hm+16,bm);
-hm[24]=2;
-w8(a+160,fm+1);
-Ba=0;
-Ca=0;
-Da=0;
-Ea=1;
-goto L5;
-case 8:if(!sh){
-z=0;
-goto L1;}
-im=r8(a+8);
-if(r8(a+32)>im)jm=im;
-else{
-km=make_ready_8e3(a,1,16);
-if(!(km&1)){
-z=0;
-goto L1;}
-jm=r8(a+8);}
-*(rp(a)+jm)=60;
-w8(a+8,jm+1);
-lm=r8(a+160);
-if(r8(a+184)>lm)mm=lm;
-else{
-nm=make_ready_e3c(a+152);
-if(!(nm&1)){
-z=0;
-goto L1;}
-mm=r8(a+160);}
-om=rp(a+152)+(mm<<5);
-*om=10;
-om[1]=0;
-x8(om+8,zh);
-x8(om+16,im);
-om[24]=0;
-w8(a+160,mm+1);
-Ba=0;
-Ca=0;
-Da=0;
-Ea=1;
-goto L5;
-case 10:switch(ib){
-case 0:case 2:case 3:pm=r8(a+8);
-if(r8(a+32)-pm<4){
-qm=make_ready_8e3(a,4,128);
-if(!(qm&1)){
-z=0;
-goto L1;}
-rm=r8(a+8);}
-else rm=pm;
-sm=r8(a+16);
-if(sm-rm<4){
-tm=grow_amortized_2b6(a,4);
-if(!tm){
-z=0;
-goto L1;}
-um=r8(a+16);
-vm=r8(a+8);}
-else{
-um=sm;
-vm=rm;}
-wm=vm+4;
-xm=rp(a);
-z16(a+8);
-ym=xm+(i64)vm;
-if((u64)ym-(u64)(u8*)t_fa21<4)copy_bits_4f4((u8*)t_fa21,ym,4);
-else x4(ym,544432416);
-wp(a,xm);
-w8(a+8,wm);
-w8(a+16,um);
-zm=r8(a+160);
-if(r8(a+184)>zm)Am=zm;
-else{
-Bm=make_ready_e3c(a+152);
-if(!(Bm&1)){
-z=0;
-goto L1;}
-Am=r8(a+160);}
-Cm=rp(a+152)+(Am<<5);
-*Cm=11;
-Cm[1]=0;
-x8(Cm+8,zh);
-x8(Cm+16,Ah);
-Cm[24]=0;
-w8(a+160,Am+1);
-Ba=0;
-Ca=0;
-Da=0;
-Ea=0;
-goto L5;
-case 1:case 4:z=0;
-goto L1;
-default:NEVER;
-}
-break;
-case 11:switch(ib){
-case 0:case 2:Dm=r8(a+8);
-if(r8(a+32)>Dm)Em=Dm;
-else{
-Fm=make_ready_8e3(a,1,16);
-if(!(Fm&1)){
-z=0;
-goto L1;}
-Em=r8(a+8);}
-*(rp(a)+Em)=62;
-Gm=Em+1;
-w8(a+8,Gm);
-if(r8(a+136)<=zh){
-z=0;
-goto L1;}
-Hm=r8(a+96);
-if(Hm>65534){
-z=0;
-goto L1;}
-Im=a[80];
-if(r8(a+120)>Hm)Jm=Hm;
-else{
-Km=make_ready_b73(a+88);
-if(!(Km&1)){
-z=0;
-goto L1;}
-Jm=r8(a+96);}
-Lm=rp(a+88)+Jm*24;
-x8(Lm,Ah);
-x8(Lm+8,Gm);
-Lm[16]=0;
-Lm[17]=Im;
-z6(Lm+18);
-w8(a+96,Jm+1);
-w2(rp(a+128)+(i64)(zh<<1),(u16)Hm+1);
-Ba=0;
-Ca=Ah;
-Da=0;
-Ea=2;
-goto L5;
-case 1:case 3:case 4:z=0;
-goto L1;
-default:NEVER;
-}
-break;
-default:NEVER;
-}
-if(Hh!=1){
-z=0;
-goto L1;}
-Ba=Lh;
-Ca=Kh;
-Da=Jh;
-Ea=Ih;
-L5:Mm=L+1;
-if(Mm!=G){
-L=Mm;
-M=Ba;
-N=Ca;
-O=Da;
-P=Ea;
 goto L2;}
 z=0;}}
 else z=0;}
@@ -108683,134 +108294,6 @@ w=0;}}}
 L6:return w;
 }
 
-/* sym_short::rewriting::RewritingDemangler::lists */
-static void lists_35a(u8* a)
-{
-u8 b[32],c[40],d[32],e[16],f[48];
-A16 u8 g[32],h[16],i[16],j[16];
-u64 k;
-k=(u64)(u8*)65536;
-z32(b);
-z40(c);
-z32(d);
-z16(e);
-z48(f);
-z32(g);
-z16(h);
-z16(i);
-z16(j);
-x8(a,0);
-xp(a+8,(u8*)65536);
-z24(a+16);
-xp(a+40,(u8*)65536);
-z16(a+48);
-xp(a+64,(u8*)65536);
-z32(a+72);
-xp(a+104,(u8*)65536);
-z16(a+112);
-xp(a+128,(u8*)65536);
-z32(a+136);
-xp(a+168,(u8*)65536);
-z80(a+176);
-xp(a+256,(u8*)65536);
-z16(a+264);
-xp(a+280,(u8*)65536);
-z40(a+288);
-xp(a+328,(u8*)65536);
-z16(a+336);
-xp(a+352,(u8*)65536);
-z16(a+360);
-xp(a+376,(u8*)65536);
-z16(a+384);
-xp(a+400,(u8*)65536);
-z16(a+408);
-xp(a+424,(u8*)65536);
-z16(a+432);
-xp(a+448,(u8*)65536);
-z48(a+456);
-xp(a+504,(u8*)65536);
-z32(a+512);
-xp(a+544,(u8*)65536);
-z32(a+552);
-xp(a+584,(u8*)65536);
-z104(a+592);
-x8(a+696,k);
-z40(a+704);
-x8(a+744,k);
-z16(a+752);
-xp(a+768,(u8*)65536);
-z32(a+776);
-xp(a+808,(u8*)65536);
-z24(a+816);
-xp(a+840,(u8*)65536);
-z16(a+848);
-xp(a+864,(u8*)65536);
-z32(a+872);
-xp(a+904,(u8*)65536);
-z16(a+912);
-xp(a+928,(u8*)65536);
-z24(a+936);
-xp(a+960,(u8*)65536);
-z16(a+968);
-xp(a+984,(u8*)65536);
-z16(a+992);
-xp(a+1008,(u8*)65536);
-z40(a+1016);
-xp(a+1056,(u8*)65536);
-z16(a+1064);
-xp(a+1080,(u8*)65536);
-z16(a+1088);
-xp(a+1104,(u8*)65536);
-z16(a+1112);
-xp(a+1128,(u8*)65536);
-z16(a+1136);
-xp(a+1152,(u8*)65536);
-z16(a+1160);
-xp(a+1176,(u8*)65536);
-z48(a+1184);
-xp(a+1232,(u8*)65536);
-z32(a+1240);
-xp(a+1272,(u8*)65536);
-z40(a+1280);
-xp(a+1320,(u8*)65536);
-z32(a+1328);
-xp(a+1360,(u8*)65536);
-z16(a+1368);
-xp(a+1384,(u8*)65536);
-z48(a+1392);
-x8(a+1440,k);
-z40(a+1448);
-x8(a+1488,k);
-z16(a+1496);
-xp(a+1512,(u8*)65536);
-z32(a+1520);
-xp(a+1552,(u8*)65536);
-z32(a+1560);
-xp(a+1592,(u8*)65536);
-z32(a+1600);
-xp(a+1632,(u8*)65536);
-z104(a+1640);
-xp(a+1744,(u8*)65536);
-memcpy(a+1752,b,32);
-xp(a+1784,(u8*)65536);
-memcpy(a+1792,c,40);
-xp(a+1832,(u8*)65536);
-memcpy(a+1840,d,32);
-xp(a+1872,(u8*)65536);
-memcpy(a+1880,e,16);
-xp(a+1896,(u8*)65536);
-memcpy(a+1904,f,48);
-xp(a+1952,(u8*)65536);
-memcpy(a+1960,g,32);
-xp(a+1992,(u8*)65536);
-memcpy(a+2000,h,16);
-xp(a+2016,(u8*)65536);
-memcpy(a+2024,i,16);
-xp(a+2040,(u8*)65536);
-memcpy(a+2048,j,16);
-return;
-}
-
 /* sym_filter::words::Words::end_within */
 static void end_within_916(u8* a,u8* b,u8* c,u8* d,u8* e)
 {
@@ -109215,7 +108698,7 @@ W=0;
 X=0;
 Y=0;
 goto L9;}}
-Z=rewrite_8ff(b+8,c+1944,j,g);
+Z=rewrite_8ff(b+8,c+1544,j,g);
 if(!(Z&1)){
 W=0;
 X=0;
@@ -113118,7 +112601,7 @@ B=0;
 C=0;
 D=0;
 goto L3;}}
-E=rewrite_8ff(b+8,c+1944,j,g);
+E=rewrite_8ff(b+8,c+1544,j,g);
 if(!(E&1)){
 B=0;
 C=0;
@@ -113539,2070 +113022,1796 @@ L8:return G;
 /* sym_calls::filtering::filter_in */
 static void filter_in_729(u8* a,u8* b,u32 c,u8* d,u64 e,u8* f,u64 g,u8* h)
 {
-u8 p[7],v[24],w[16],x[32],y[16],z[32],A[80],B[16],C[40],D[16],E[16],F[16],G[16],H[16],I[48],J[32],K[32],L[104],M[40],N[16],O[32],P[24],Q[16],R[32],S[16],T[24],U[16],V[16],W[40],X[16],Y[16],Z[16],aa[16],ba[16],ca[48],da[32],ea[40],fa[32],ga[16],ha[48],ia[40],ja[16],ka[32],la[32],ma[32],na[104],oa[32],pa[40],qa[32],ra[16],sa[48],ta[32],ua[16],va[16],wa[16],Db[7],Vb[7],bc[24],cc[16],dc[32],ec[16],fc[32],gc[80],hc[16],ic[40],jc[16],kc[16],lc[16],mc[16],nc[16],oc[48],pc[32],qc[32],rc[104],sc[40],tc[16],uc[32],vc[24],wc[16],xc[32],yc[16],zc[24],Ac[16],Bc[16],Cc[40],Dc[16],Ec[16],Fc[16],Gc[16],Hc[16],Ic[48],Jc[32],Kc[40],Lc[32],Mc[16],Nc[48],Oc[40],Pc[16],Qc[32],Rc[32],Sc[32],Tc[104],Uc[32],Vc[40],Wc[32],Xc[16],Yc[48],Zc[32],ad[16],bd[16],cd[16],ke[7];
-A16 u8 i[1944],j[1944],k[1944],l[12],m[48],n[48],o[48],q[16],r[80],s[2056],t[24],u[40],xa[24],ya[16],za[32],Aa[16],Ba[32],Ca[80],Da[16],Ea[40],Fa[16],Ga[16],Ha[16],Ia[16],Ja[16],Ka[48],La[32],Ma[32],Na[104],Oa[40],Pa[16],Qa[32],Ra[24],Sa[16],Ta[32],Ua[16],Va[24],Wa[16],Xa[16],Ya[40],Za[16],ab[16],bb[16],cb[16],db[16],eb[48],fb[32],gb[40],hb[32],ib[16],jb[48],kb[40],lb[16],mb[32],nb[32],ob[32],pb[104],qb[32],rb[40],sb[32],tb[16],ub[48],vb[32],wb[16],xb[16],yb[16],zb[12],Ab[48],Bb[48],Cb[48],Eb[16],Fb[80],Gb[1944],Hb[24],Ib[40],Jb[1944],Kb[1944],Lb[1944],Mb[8],Nb[12],Ob[1944],Pb[1944],Qb[1944],Rb[12],Sb[48],Tb[48],Ub[48],Wb[16],Xb[80],Yb[2056],Zb[24],ac[40],dd[24],ed[16],fd[32],gd[16],hd[32],id[80],jd[16],kd[40],ld[16],md[16],nd[16],od[16],pd[16],qd[48],sd[32],td[32],ud[104],vd[40],xd[16],yd[32],zd[24],Ad[16],Bd[32],Cd[16],Dd[24],Ed[16],Fd[16],Gd[40],Hd[16],Id[16],Jd[16],Kd[16],Ld[16],Md[48],Nd[32],Od[40],Pd[32],Qd[16],Rd[48],Sd[40],Td[16],Ud[32],Vd[32],Wd[32],Xd[104],Yd[32],Zd[40],ae[32],be[16],ce[48],de[32],ee[16],fe[16],ge[16],he[48],ie[48],je[48],le[16],me[80],ne[1944],oe[24],pe[40],qe[1944],re[1944],se[1944],te[8],ue[12];
-u64 ve,xe,Ce,De,Ge,He,Je,Ke,Oe,Qe,Re,Te,Ve,We,Ze,df,nf,of,pf,qf,uf,wf,xf,Bf,Ef,Ff,Gf,Hf,If,Jf,Mf,Of,Pf,Rf,Sf,Tf,Wf,Xf,Yf,ag,bg,cg,dg,eg,fg,hg,ig,jg,mg,pg,tg,ug,vg,xg,yg,zg,Cg,Dg,Eg,Fg,Hg,Ig,Kg,Lg,Mg,Pg,Sg,Vg,Wg,Xg,Yg,Zg,ah,ch,dh,fh,gh,jh,kh,mh,nh,rh,th,uh,wh,yh,zh,Ch,Gh,Ph,Qh,Rh,Sh,Wh,Yh,Zh,di,gi,hi,ii,ji,ki,li,oi,qi,ri,ti,ui,vi,yi,zi,Ai,Ci,Di,Ei,Fi,Gi,Hi,Ji,Ki,Li,Oi,Ri,Si,Ti,Ui,Vi,Wi,Yi,Zi,aj,dj,ej,fj,hj,ij,jj,mj,nj,oj,pj,rj,sj,uj,vj,wj,zj,Cj,Fj,Hj,Jj,Kj,Oj,Qj,Sj,Tj,Vj,Wj,Xj,Yj,Zj,ak,dk,fk,hk,ik,kk,lk,nk,ok,rk,sk,uk,vk,zk,Bk,Ck,Ek,Gk,Hk,Kk,Ok,Xk,Yk,Zk,al,el,gl,hl,ll,ol,pl,ql,rl,sl,tl,wl,yl,zl,Bl,Cl,Dl,Gl,Hl,Il,Kl,Ll,Ml,Nl,Ol,Pl,Rl,Sl,Tl,Wl,Zl,am,bm,cm,dm,em,gm,hm,im,lm,mm,nm,pm,qm,rm,um,vm,wm,xm,zm,Am,Cm,Dm,Em,Hm,Km,Nm,Om,Pm,Qm,Rm,Sm,Um,Vm,Xm,Ym,bn,cn,en,fn,jn,ln,mn,on,qn,rn,un,yn,Hn,In,Jn,Kn,On,Qn,Rn,Vn,Yn,Zn,ao,bo,co,eo,ho,jo,ko,mo,no,oo,ro,so,to,vo,wo,xo,yo,zo,Ao,Co,Do,Eo,Ho,Ko,Lo,Mo,No,Oo,Po,Ro,So,To,Wo,Xo,Yo,ap,bp,cp,fp,gp,hp,ip,kp,lp,op,pp,sp,vp,Ap,Dp,Fp,Hp,Ip,Mp,Op,Qp,Rp,Tp,Up,Vp,Wp,Xp,Yp,bq,dq,fq,gq,iq;
-u8 we,ye,ze,Ae,Be,Ee,Le,Pe,Ue,Xe,Ye,af,bf,cf,ff,gf,hf,jf,lf,mf,zf,Af,Lf,Qf,Zf,gg,og,rg,wg,Jg,Og,Qg,Rg,Tg,hh,oh,sh,xh,Ah,Bh,Dh,Eh,Fh,Ih,Jh,Kh,Lh,Nh,Oh,bi,ci,ni,si,Bi,Ii,Qi,Xi,gj,tj,yj,Aj,Bj,Lj,pk,wk,Ak,Fk,Ik,Jk,Lk,Mk,Nk,Qk,Rk,Sk,Tk,Vk,Wk,jl,kl,vl,Al,Jl,Ql,Yl,fm,om,Bm,Gm,Im,Jm,Lm,Zm,gn,kn,pn,sn,tn,vn,wn,xn,An,Bn,Cn,Dn,Fn,Gn,Tn,Un,go,lo,uo,Bo,Jo,Qo,Zo,np,up,yp,zp,Jp;
-u8 *Fe,*Ie,*ef,*rf,*vf,*Nf,*Uf,*Vf,*kg,*ng,*sg,*Ag,*Bg,*Gg,*Ng,*Ug,*ih,*lh,*Hh,*Th,*Xh,*pi,*wi,*xi,*Mi,*Pi,*bj,*cj,*kj,*lj,*qj,*xj,*Dj,*Ej,*Gj,*Ij,*Mj,*Nj,*Pj,*Rj,*Uj,*bk,*ck,*ek,*gk,*qk,*tk,*Pk,*bl,*fl,*xl,*El,*Fl,*Ul,*Xl,*jm,*km,*sm,*tm,*ym,*Fm,*Mm,*an,*dn,*zn,*Ln,*Pn,*io,*po,*qo,*Fo,*Io,*Uo,*Vo,*dp,*ep,*jp,*tp,*Bp,*Cp,*Ep,*Gp,*Kp,*Lp,*Np,*Pp,*Sp,*Zp,*aq,*cq,*eq;
-u128 Me,Ne,Se,Kf,lg,ph,qh,vh,mi,Ni,xk,yk,Dk,ul,Vl,hn,in,nn,fo,Go;
-s_8_8 kf,yf,qg,Mh,ai,Uk,il,En,Sn;
-u16 sf,tf,Df,Uh,Vh,fi,cl,dl,nl,Mn,Nn,Xn;
-v16 Cf,ei,ml,Wn;
-u32 bh,eh,jk,mk,Tm,Wm,hq;
-ve=q8(b);
-we=ve>>16;
-xe=ve>>32;
-ye=xe;
-ze=ve>>48;
-Ae=ve;
-Be=(ve&65280)==0;
-if((u8)(xe&1)){
-z12(ue);
-w4(te,c);
-te[4]=Ae;
-z3(te+5);
-if(Be){
-zero_all(ne+1376,520);
-z24(oe);
-z40(pe);
-zero_all(qe,1944);
-zero_all(re,1944);
-zero_all(se,1944);
-*me=ze;
-z7(me+1);
-wp(me+8,(u8*)65536);
-z64(me+16);
-Ce=(u64)(u8*)65536;
-z40(ne+1784);
-z32(ne+1832);
-z16(ne+1872);
-z48(ne+1896);
-wp(ne,(u8*)65536);
-z24(ne+8);
-wp(ne+32,(u8*)65536);
-z16(ne+40);
-wp(ne+56,(u8*)65536);
-z32(ne+64);
-wp(ne+96,(u8*)65536);
-z16(ne+104);
-wp(ne+120,(u8*)65536);
-z32(ne+128);
-wp(ne+160,(u8*)65536);
-z80(ne+168);
-wp(ne+248,(u8*)65536);
-z16(ne+256);
-wp(ne+272,(u8*)65536);
-z40(ne+280);
-wp(ne+320,(u8*)65536);
-z16(ne+328);
-wp(ne+344,(u8*)65536);
-z16(ne+352);
-wp(ne+368,(u8*)65536);
-z16(ne+376);
-wp(ne+392,(u8*)65536);
-z16(ne+400);
-wp(ne+416,(u8*)65536);
-z16(ne+424);
-wp(ne+440,(u8*)65536);
-z48(ne+448);
-wp(ne+496,(u8*)65536);
-z32(ne+504);
-wp(ne+536,(u8*)65536);
-z32(ne+544);
-wp(ne+576,(u8*)65536);
-z104(ne+584);
-w8(ne+688,Ce);
-z40(ne+696);
-w8(ne+736,Ce);
-z16(ne+744);
-wp(ne+760,(u8*)65536);
-z32(ne+768);
-wp(ne+800,(u8*)65536);
-z24(ne+808);
-wp(ne+832,(u8*)65536);
-z16(ne+840);
-wp(ne+856,(u8*)65536);
-z32(ne+864);
-wp(ne+896,(u8*)65536);
-z16(ne+904);
-wp(ne+920,(u8*)65536);
-z24(ne+928);
-wp(ne+952,(u8*)65536);
-z16(ne+960);
-wp(ne+976,(u8*)65536);
-z16(ne+984);
-wp(ne+1000,(u8*)65536);
-z40(ne+1008);
-wp(ne+1048,(u8*)65536);
-z16(ne+1056);
-wp(ne+1072,(u8*)65536);
-z16(ne+1080);
-wp(ne+1096,(u8*)65536);
-z16(ne+1104);
-wp(ne+1120,(u8*)65536);
-z16(ne+1128);
-wp(ne+1144,(u8*)65536);
-z16(ne+1152);
-wp(ne+1168,(u8*)65536);
-z48(ne+1176);
-wp(ne+1224,(u8*)65536);
-z32(ne+1232);
-wp(ne+1264,(u8*)65536);
-z40(ne+1272);
-wp(ne+1312,(u8*)65536);
-z32(ne+1320);
-wp(ne+1352,(u8*)65536);
-z16(ne+1360);
-wp(ne+1376,(u8*)65536);
-z48(ne+1384);
-w8(ne+1432,Ce);
-z40(ne+1440);
-w8(ne+1480,Ce);
-z16(ne+1488);
-wp(ne+1504,(u8*)65536);
-z32(ne+1512);
-wp(ne+1544,(u8*)65536);
-z32(ne+1552);
-wp(ne+1584,(u8*)65536);
-z32(ne+1592);
-wp(ne+1624,(u8*)65536);
-z104(ne+1632);
-wp(ne+1736,(u8*)65536);
-z32(ne+1744);
-wp(ne+1776,(u8*)65536);
-wp(ne+1824,(u8*)65536);
-wp(ne+1864,(u8*)65536);
-wp(ne+1888,(u8*)65536);
-wp(oe,(u8*)65536);
-z16(oe+8);
-wp(pe,(u8*)65536);
-z16(pe+8);
-w8(pe+24,g);
-w8(pe+32,0);
+u8 p[7],z[7],R[7],aa[7];
+A16 u8 i[1544],j[1544],k[1544],l[12],m[48],n[48],o[48],q[16],r[80],s[1656],t[24],u[40],v[12],w[48],x[48],y[48],A[16],B[80],C[1544],D[24],E[40],F[1544],G[1544],H[1544],I[8],J[12],K[1544],L[1544],M[1544],N[12],O[48],P[48],Q[48],S[16],T[80],U[1656],V[24],W[40],X[48],Y[48],Z[48],ba[16],ca[80],da[1544],ea[24],fa[40],ga[1544],ha[1544],ia[1544],ja[8],ka[12];
+u64 la,na,sa,ta,wa,xa,za,Aa,Ea,Ga,Ha,Ja,La,Ma,Pa,Ta,cb,db,eb,fb,jb,lb,mb,qb,tb,ub,vb,wb,xb,yb,Bb,Db,Eb,Gb,Hb,Ib,Lb,Mb,Nb,Pb,Qb,Rb,Sb,Tb,Ub,Wb,Xb,Yb,bc,ec,ic,jc,kc,mc,nc,oc,rc,sc,tc,uc,wc,xc,zc,Ac,Bc,Ec,Hc,Kc,Lc,Mc,Nc,Oc,Pc,Rc,Sc,Uc,Vc,Yc,Zc,bd,cd,gd,id,jd,ld,nd,od,sd,xd,Gd,Hd,Id,Jd,Nd,Pd,Qd,Ud,Xd,Yd,Zd,ae,be,ce,fe,he,ie,ke,le,me,pe,qe,re,te,ue,ve,we,xe,ye,Ae,Be,Ce,Fe,Ie,Je,Ke,Le,Me,Ne,Pe,Qe,Re,Ue,Ve,We,Ye,Ze,af,df,ef,ff,gf,jf,kf,mf,nf,of,rf,uf,xf,zf,Bf,Cf,Gf,If,Kf,Lf,Nf,Of,Pf,Qf,Rf,Sf,Vf,Xf,Zf,ag,cg,dg,fg,gg,jg,kg,mg,ng,rg,tg,ug,wg,yg,zg,Cg,Gg,Pg,Qg,Rg,Sg,Wg,Yg,Zg,dh,gh,hh,ih,jh,kh,lh,oh,qh,rh,th,uh,vh,yh,zh,Ah,Ch,Dh,Eh,Fh,Gh,Hh,Jh,Kh,Lh,Oh,Rh,Sh,Th,Uh,Vh,Wh,Yh,Zh,ai,di,ei,fi,hi,ii,ji,mi,ni,oi,pi,ri,si,ui,vi,wi,zi,Ci,Fi,Gi,Hi,Ii,Ji,Ki,Mi,Ni,Pi,Qi,Ti,Ui,Wi,Xi,bj,dj,ej,gj,ij,jj,mj,qj,zj,Aj,Bj,Cj,Gj,Ij,Jj,Nj,Qj,Rj,Sj,Tj,Uj,Vj,Yj,ak,bk,dk,ek,fk,ik,jk,kk,mk,nk,ok,pk,qk,rk,tk,uk,vk,yk,Bk,Ck,Dk,Ek,Fk,Gk,Ik,Jk,Kk,Nk,Ok,Pk,Rk,Sk,Tk,Wk,Xk,Yk,Zk,bl,cl,el,fl,gl,jl,ml,pl,rl,tl,ul,yl,Al,Cl,Dl,Fl,Gl,Hl,Il,Jl,Kl,Nl,Pl,Rl,Sl,Ul;
+u8 ma,oa,pa,qa,ra,ua,Ba,Fa,Ka,Na,Oa,Qa,Ra,Sa,Va,Wa,Xa,Ya,ab,bb,ob,pb,Ab,Fb,Ob,Vb,dc,gc,lc,yc,Dc,Fc,Gc,Ic,Wc,dd,hd,md,pd,qd,td,ud,vd,zd,Ad,Bd,Cd,Ed,Fd,Sd,Td,ee,je,se,ze,He,Oe,Xe,lf,qf,sf,tf,Df,hg,og,sg,xg,Ag,Bg,Dg,Eg,Fg,Ig,Jg,Kg,Lg,Ng,Og,bh,ch,nh,sh,Bh,Ih,Qh,Xh,gi,ti,yi,Ai,Bi,Di,Ri,Yi,cj,hj,kj,lj,nj,oj,pj,sj,tj,uj,vj,xj,yj,Lj,Mj,Xj,ck,lk,sk,Ak,Hk,Qk,dl,il,kl,ll,vl;
+u8 *va,*ya,*Ua,*gb,*kb,*Cb,*Jb,*Kb,*Zb,*cc,*hc,*pc,*qc,*vc,*Cc,*Jc,*Xc,*ad,*yd,*Kd,*Od,*ge,*ne,*oe,*De,*Ge,*Se,*Te,*bf,*cf,*hf,*pf,*vf,*wf,*yf,*Af,*Ef,*Ff,*Hf,*Jf,*Mf,*Tf,*Uf,*Wf,*Yf,*ig,*lg,*Hg,*Tg,*Xg,*ph,*wh,*xh,*Mh,*Ph,*bi,*ci,*ki,*li,*qi,*xi,*Ei,*Si,*Vi,*rj,*Dj,*Hj,*Zj,*gk,*hk,*wk,*zk,*Lk,*Mk,*Uk,*Vk,*al,*hl,*nl,*ol,*ql,*sl,*wl,*xl,*zl,*Bl,*El,*Ll,*Ml,*Ol,*Ql;
+u128 Ca,Da,Ia,zb,ac,ed,fd,kd,de,Ee,pg,qg,vg,mh,Nh,Zi,aj,fj,Wj,xk;
+s_8_8 Za,nb,fc,Dd,Rd,Mg,ah,wj,Kj;
+u16 hb,ib,sb,Ld,Md,Wd,Ug,Vg,fh,Ej,Fj,Pj;
+v16 rb,Vd,eh,Oj;
+u32 Qc,Tc,bg,eg,Li,Oi,Tl;
+la=q8(b);
+ma=la>>16;
+na=la>>32;
+oa=na;
+pa=la>>48;
+qa=la;
+ra=(la&65280)==0;
+if((u8)(na&1)){
+z12(ka);
+w4(ja,c);
+ja[4]=qa;
+z3(ja+5);
+if(ra){
+z64(da+1480);
+z24(ea);
+z40(fa);
+zero_all(ga,1544);
+zero_all(ha,1544);
+zero_all(ia,1544);
+*ca=pa;
+z7(ca+1);
+wp(ca+8,(u8*)65536);
+z64(ca+16);
+sa=(u64)(u8*)65536;
+wp(da,(u8*)65536);
+z24(da+8);
+wp(da+32,(u8*)65536);
+z16(da+40);
+wp(da+56,(u8*)65536);
+z32(da+64);
+wp(da+96,(u8*)65536);
+z16(da+104);
+wp(da+120,(u8*)65536);
+z32(da+128);
+wp(da+160,(u8*)65536);
+z80(da+168);
+wp(da+248,(u8*)65536);
+z16(da+256);
+wp(da+272,(u8*)65536);
+z40(da+280);
+wp(da+320,(u8*)65536);
+z16(da+328);
+wp(da+344,(u8*)65536);
+z16(da+352);
+wp(da+368,(u8*)65536);
+z16(da+376);
+wp(da+392,(u8*)65536);
+z16(da+400);
+wp(da+416,(u8*)65536);
+z16(da+424);
+wp(da+440,(u8*)65536);
+z48(da+448);
+wp(da+496,(u8*)65536);
+z32(da+504);
+wp(da+536,(u8*)65536);
+z32(da+544);
+wp(da+576,(u8*)65536);
+z104(da+584);
+w8(da+688,sa);
+z40(da+696);
+w8(da+736,sa);
+z16(da+744);
+wp(da+760,(u8*)65536);
+z32(da+768);
+wp(da+800,(u8*)65536);
+z24(da+808);
+wp(da+832,(u8*)65536);
+z16(da+840);
+wp(da+856,(u8*)65536);
+z32(da+864);
+wp(da+896,(u8*)65536);
+z16(da+904);
+wp(da+920,(u8*)65536);
+z24(da+928);
+wp(da+952,(u8*)65536);
+z16(da+960);
+wp(da+976,(u8*)65536);
+z16(da+984);
+wp(da+1000,(u8*)65536);
+z40(da+1008);
+wp(da+1048,(u8*)65536);
+z16(da+1056);
+wp(da+1072,(u8*)65536);
+z16(da+1080);
+wp(da+1096,(u8*)65536);
+z16(da+1104);
+wp(da+1120,(u8*)65536);
+z16(da+1128);
+wp(da+1144,(u8*)65536);
+z16(da+1152);
+wp(da+1168,(u8*)65536);
+z48(da+1176);
+wp(da+1224,(u8*)65536);
+z32(da+1232);
+wp(da+1264,(u8*)65536);
+z40(da+1272);
+wp(da+1312,(u8*)65536);
+z32(da+1320);
+wp(da+1352,(u8*)65536);
+z16(da+1360);
+wp(da+1376,(u8*)65536);
+z48(da+1384);
+w8(da+1432,sa);
+z40(da+1440);
+w8(da+1480,sa);
+z16(da+1488);
+wp(da+1504,(u8*)65536);
+z32(da+1512);
+wp(ea,(u8*)65536);
+z16(ea+8);
+wp(fa,(u8*)65536);
+z16(fa+8);
+w8(fa+24,g);
+w8(fa+32,0);
 if(e!=0){
-De=0;
-Ee=0;
-L1:Fe=d+(i64)De;
-z16(le);
-first_segment_4a3(le,*me,Fe,e-De,Ee);
-Ge=r8(le);
-if(Ge==0)goto L2;
-He=0;
-L3:Ie=Fe+(i64)He;
-Je=Ge-He;
-z48(ie);
-Ke=r8(me+16);
-Le=Ke==0;
-Me=r16(me+32);
-if(Le&&Me==0){
-if(me[50]&1){
-pass_6c7(ie,me,Ie,Je);
-Ne=r16(ie);
-Oe=r8(ie+16);
-Pe=ie[24];
-Qe=r8(ie+32);
-Re=r8(ie+40);
-memcpy(ke,ie+25,7);
-Se=Ne;
-Te=Oe;
-Ue=Pe;
-Ve=Qe;
-We=Re;
+ta=0;
+ua=0;
+L1:va=d+(i64)ta;
+z16(ba);
+first_segment_4a3(ba,*ca,va,e-ta,ua);
+wa=r8(ba);
+if(wa==0)goto L2;
+xa=0;
+L3:ya=va+(i64)xa;
+za=wa-xa;
+z48(Y);
+Aa=r8(ca+16);
+Ba=Aa==0;
+Ca=r16(ca+32);
+if(Ba&&Ca==0){
+if(ca[50]&1){
+pass_6c7(Y,ca,ya,za);
+Da=r16(Y);
+Ea=r8(Y+16);
+Fa=Y[24];
+Ga=r8(Y+32);
+Ha=r8(Y+40);
+memcpy(aa,Y+25,7);
+Ia=Da;
+Ja=Ea;
+Ka=Fa;
+La=Ga;
+Ma=Ha;
 goto L4;}
-Xe=*me;
-Ye=me[48];
-if(Je==0)Ze=0;
+Na=*ca;
+Oa=ca[48];
+if(za==0)Pa=0;
 else{
-af=me[49];
-bf=Xe+49;
-cf=Xe==2;
-df=0;
-L5:ef=Ie+df;
-if(*ef==95){
-if(df==0){
-switch(Ye){
-case 0:ff=Xe;
+Qa=ca[49];
+Ra=Na+49;
+Sa=Na==2;
+Ta=0;
+L5:Ua=ya+Ta;
+if(*Ua==95){
+if(Ta==0){
+switch(Oa){
+case 0:Va=Na;
 goto L6;
-case 1:if(cf){
-switch(af){
-case 46:case 36:gf=1;
-hf=49;
+case 1:if(Sa){
+switch(Qa){
+case 46:case 36:Wa=1;
+Xa=49;
 goto L7;
 default:break;}}
 break;
-case 2:if(cf){
-switch(af){
-case 46:case 36:gf=1;
-hf=49;
+case 2:if(Sa){
+switch(Qa){
+case 46:case 36:Wa=1;
+Xa=49;
 goto L7;
 default:break;}}
 break;
 default:NEVER;
 }}
 else{
-jf=*((u8*)t_e4d8+ef[-1]);
-if(bf>jf){
-if(jf<=(Xe==0?48:49)){
-lf=0;
-mf=0;
-nf=df;
+Ya=*((u8*)t_e4d8+Ua[-1]);
+if(Ra>Ya){
+if(Ya<=(Na==0?48:49)){
+ab=0;
+bb=0;
+cb=Ta;
 goto L8;}
-kf=place_in_stretch_597(Xe,Ie,df,Ye);
-lf=kf.f1;
-mf=kf.f0;
-nf=df;
+Za=place_in_stretch_597(Na,ya,Ta,Oa);
+ab=Za.f1;
+bb=Za.f0;
+cb=Ta;
 goto L8;}}}
-of=df+1;
-pf=Je-of;
-if(pf<16)qf=0;
+db=Ta+1;
+eb=za-db;
+if(eb<16)fb=0;
 else{
-rf=Ie+(i64)of;
-sf=cttz(v16_eq(v16_at(rf),splat(95)),16);
-if((pf<32)|(sf<16))qf=sf;
+gb=ya+(i64)db;
+hb=cttz(v16_eq(v16_at(gb),splat(95)),16);
+if((eb<32)|(hb<16))fb=hb;
 else{
-tf=cttz(v16_eq(v16_at(rf+16),splat(95)),16);
-if(tf<16)qf=tf|16;
+ib=cttz(v16_eq(v16_at(gb+16),splat(95)),16);
+if(ib<16)fb=ib|16;
 else{
-if(pf<=95){
-qf=32;
+if(eb<=95){
+fb=32;
 goto L9;}
-uf=32;
-L10:vf=rf+(i64)uf;
-if((((v16_eq(v16_at(vf),splat(95))|v16_eq(v16_at(vf+16),splat(95)))|v16_eq(v16_at(vf+32),splat(95)))|v16_eq(v16_at(vf+48),splat(95)))==0){
-wf=uf+64;
-if(pf-wf>63){
-uf=wf;
+jb=32;
+L10:kb=gb+(i64)jb;
+if((((v16_eq(v16_at(kb),splat(95))|v16_eq(v16_at(kb+16),splat(95)))|v16_eq(v16_at(kb+32),splat(95)))|v16_eq(v16_at(kb+48),splat(95)))==0){
+lb=jb+64;
+if(eb-lb>63){
+jb=lb;
 goto L10;}
-qf=wf;}
-else qf=uf;}}}
-L9:xf=qf+of;
-if(xf<Je){
-df=xf;
+fb=lb;}
+else fb=jb;}}}
+L9:mb=fb+db;
+if(mb<za){
+Ta=mb;
 goto L5;}
-Ze=xf;}
-if(*((u8*)t_e4d8+*(Ie+(i64)Ze-1))>(Xe==0?48:49)){
-yf=place_in_stretch_597(Xe,Ie,Ze,Ye);
-zf=yf.f0;
-Af=yf.f1;}
+Pa=mb;}
+if(*((u8*)t_e4d8+*(ya+(i64)Pa-1))>(Na==0?48:49)){
+nb=place_in_stretch_597(Na,ya,Pa,Oa);
+ob=nb.f0;
+pb=nb.f1;}
 else{
-zf=0;
-Af=0;}
-if(Ze==0){
-ff=Xe;
+ob=0;
+pb=0;}
+if(Pa==0){
+Va=Na;
 goto L6;}
-lf=Af;
-mf=zf;
-nf=Ze;
-L8:w2(me+48,(u16)((u32)lf<<8)|mf);
-z7(ke);
-Se=0;
-Te=nf;
-Ue=1;
-Ve=0;
-We=0;
+ab=pb;
+bb=ob;
+cb=Pa;
+L8:w2(ca+48,(u16)((u32)ab<<8)|bb);
+z7(aa);
+Ia=0;
+Ja=cb;
+Ka=1;
+La=0;
+Ma=0;
 goto L4;}
-ff=*me;
-L6:gf=ff==2;
-hf=ff==1?50:49;
-L7:if(hf>*((u8*)t_e4d8+*Ie))goto L11;
-Bf=0;
-L12:if(Je-Bf>15){
-Cf=v16_at(Ie+Bf);
-Df=cttz(v16_ne(Cf,splat(36))&(v16_ne(Cf,splat(46))&(v16_ne(Cf,splat(95))&(v16_ult(v16_add(Cf,splat(198)),splat(246))&v16_ult(v16_add(v16_or(Cf,splat(32)),splat(133)),splat(230))))),16);
-Ef=Bf+Df;
-if(Df>=16){
-Bf=Ef;
+Va=*ca;
+L6:Wa=Va==2;
+Xa=Va==1?50:49;
+L7:if(Xa>*((u8*)t_e4d8+*ya))goto L11;
+qb=0;
+L12:if(za-qb>15){
+rb=v16_at(ya+qb);
+sb=cttz(v16_ne(rb,splat(36))&(v16_ne(rb,splat(46))&(v16_ne(rb,splat(95))&(v16_ult(v16_add(rb,splat(198)),splat(246))&v16_ult(v16_add(v16_or(rb,splat(32)),splat(133)),splat(230))))),16);
+tb=qb+sb;
+if(sb>=16){
+qb=tb;
 goto L12;}
-Ff=Ef;}
-else Ff=Bf;
-if(Ff>=Je){
-Hf=Ff;
+ub=tb;}
+else ub=qb;
+if(ub>=za){
+wb=ub;
 goto L13;}
-Gf=Ff;
-L14:if(hf>*((u8*)t_e4d8+*(Ie+Gf)))Hf=Gf;
+vb=ub;
+L14:if(Xa>*((u8*)t_e4d8+*(ya+vb)))wb=vb;
 else{
-If=Gf+1;
-if(If!=Je){
-Gf=If;
+xb=vb+1;
+if(xb!=za){
+vb=xb;
 goto L14;}
-Hf=Je;}
-L13:if(Hf==0)goto L11;
-Jf=Hf;
-L15:if(Jf==0){
-w16(me+32,Me+Hf);
-Kf=0;
-Lf=0;}
+wb=za;}
+L13:if(wb==0)goto L11;
+yb=wb;
+L15:if(yb==0){
+w16(ca+32,Ca+wb);
+zb=0;
+Ab=0;}
 else{
-Mf=Jf-1;
-if(*(Ie+Mf)==46){
-Jf=Mf;
+Bb=yb-1;
+if(*(ya+Bb)==46){
+yb=Bb;
 goto L15;}
-if(Me+Jf>65536-Ke){
-Nf=rp(me+8);
-Of=r8(oe+16);
-Pf=r8(oe+8);
-if(Ke>Of-Pf){
-Qf=grow_amortized_2b6(oe,Ke);
-if(!Qf)goto L16;
-Rf=r8(oe+16);
-Sf=r8(oe+8);}
+if(Ca+yb>65536-Aa){
+Cb=rp(ca+8);
+Db=r8(ea+16);
+Eb=r8(ea+8);
+if(Aa>Db-Eb){
+Fb=grow_amortized_2b6(ea,Aa);
+if(!Fb)goto L16;
+Gb=r8(ea+16);
+Hb=r8(ea+8);}
 else{
-Rf=Of;
-Sf=Pf;}
-Tf=Sf+Ke;
-Uf=rp(oe);
-z16(oe+8);
-Vf=Uf+(i64)Sf;
-if((u64)Vf-(u64)Nf<Ke){
-copy_bits_4f4(Nf,Vf,Ke);
-w8(oe+8,Tf);
-w8(oe+16,Rf);}
+Gb=Db;
+Hb=Eb;}
+Ib=Hb+Aa;
+Jb=rp(ea);
+z16(ea+8);
+Kb=Jb+(i64)Hb;
+if((u64)Kb-(u64)Cb<Aa){
+copy_bits_4f4(Cb,Kb,Aa);
+w8(ea+8,Ib);
+w8(ea+16,Gb);}
 else{
-memmove(Vf,Nf,Ke);
-w8(oe+8,Tf);
-w8(oe+16,Rf);
-if(Le)goto L17;}
-w8(me+16,0);
-L17:w16(me+32,0);
-me[50]=1;
-Kf=Me;
-Lf=1;}
+memmove(Kb,Cb,Aa);
+w8(ea+8,Ib);
+w8(ea+16,Gb);
+if(Ba)goto L17;}
+w8(ca+16,0);
+L17:w16(ca+32,0);
+ca[50]=1;
+zb=Ca;
+Ab=1;}
 else{
-Wf=Me;
-Xf=Ke+Wf;
-if(Xf>Ke){
-Yf=r8(me+24);
-if(Yf-Ke<Wf){
-Zf=grow_amortized_2b6(me+8,Wf);
-if(!Zf)goto L16;
-ag=r8(me+16);
-bg=ag+Wf;
-cg=r8(me+24);
-dg=ag;}
+Lb=Ca;
+Mb=Aa+Lb;
+if(Mb>Aa){
+Nb=r8(ca+24);
+if(Nb-Aa<Lb){
+Ob=grow_amortized_2b6(ca+8,Lb);
+if(!Ob)goto L16;
+Pb=r8(ca+16);
+Qb=Pb+Lb;
+Rb=r8(ca+24);
+Sb=Pb;}
 else{
-bg=Xf;
-cg=Yf;
-dg=Ke;}
-if(dg<bg)memset(rp(me+8)+(i64)dg,46,Wf);
-w8(me+16,bg);
-w8(me+24,cg);
-eg=bg;}
+Qb=Mb;
+Rb=Nb;
+Sb=Aa;}
+if(Sb<Qb)memset(rp(ca+8)+(i64)Sb,46,Lb);
+w8(ca+16,Qb);
+w8(ca+24,Rb);
+Tb=Qb;}
 else{
-if(Ke>Xf){
-w8(me+16,Xf);
-eg=Xf;}
-else eg=Ke;}
-fg=r8(me+24);
-if(Jf>fg-eg){
-gg=grow_amortized_2b6(me+8,Jf);
-if(!gg)goto L16;
-hg=r8(me+24);
-ig=r8(me+16);}
+if(Aa>Mb){
+w8(ca+16,Mb);
+Tb=Mb;}
+else Tb=Aa;}
+Ub=r8(ca+24);
+if(yb>Ub-Tb){
+Vb=grow_amortized_2b6(ca+8,yb);
+if(!Vb)goto L16;
+Wb=r8(ca+24);
+Xb=r8(ca+16);}
 else{
-hg=fg;
-ig=eg;}
-jg=ig+Jf;
-kg=rp(me+8)+(i64)ig;
-if((u64)kg-(u64)Ie<Jf)copy_bits_4f4(Ie,kg,Jf);
-else memmove(kg,Ie,Jf);
-w8(me+16,jg);
-w8(me+24,hg);
-w16(me+32,Hf-Jf);
-Kf=0;
-Lf=0;}}
-z7(ke);
-Se=Kf;
-Te=Hf;
-Ue=Lf;
-Ve=0;
-We=0;
+Wb=Ub;
+Xb=Tb;}
+Yb=Xb+yb;
+Zb=rp(ca+8)+(i64)Xb;
+if((u64)Zb-(u64)ya<yb)copy_bits_4f4(ya,Zb,yb);
+else memmove(Zb,ya,yb);
+w8(ca+16,Yb);
+w8(ca+24,Wb);
+w16(ca+32,wb-yb);
+zb=0;
+Ab=0;}}
+z7(aa);
+Ia=zb;
+Ja=wb;
+Ka=Ab;
+La=0;
+Ma=0;
 goto L4;
-L11:z48(he);
-if(!gf){
-ng=rp(me+8);
-if(Ke-65537>=0xffffffffffff0001u){
-og=*ng==95;
-if(Ke==2){
-if(!og)goto L18;
-switch(ng[1]){
-case 90:pg=0;
+L11:z48(X);
+if(!Wa){
+cc=rp(ca+8);
+if(Aa-65537>=0xffffffffffff0001u){
+dc=*cc==95;
+if(Aa==2){
+if(!dc)goto L18;
+switch(cc[1]){
+case 90:ec=0;
 goto L19;
 case 82:break;
 default:goto L18;
 }}
 else{
-if(!og)goto L18;
-switch(ng[1]){
-case 90:pg=0;
+if(!dc)goto L18;
+switch(cc[1]){
+case 90:ec=0;
 goto L19;
 case 82:break;
-case 95:switch(ng[2]){
-case 90:pg=0x100000000u;
+case 95:switch(cc[2]){
+case 90:ec=0x100000000u;
 goto L19;
-case 82:pg=0x100000001u;
+case 82:ec=0x100000001u;
 goto L19;
 default:goto L18;
 }
 break;
 default:goto L18;
 }}
-pg=1;
-L19:qg=push_text_46b(te,ne,ng,Ke,pg,pg>>32,oe);
-if(qg.f0!=0)goto L20;
-rg=qg.f1&1;
-w8(me+56,uadd64(r8(me+56),1));
-sg=me+(u64)(rg?64:72);
-w8(sg,uadd64(r8(sg),1));
-tg=rg?0:Ke;
+ec=1;
+L19:fc=push_text_46b(ja,da,cc,Aa,ec,ec>>32,ea);
+if(fc.f0!=0)goto L20;
+gc=fc.f1&1;
+w8(ca+56,uadd64(r8(ca+56),1));
+hc=ca+(u64)(gc?64:72);
+w8(hc,uadd64(r8(hc),1));
+ic=gc?0:Aa;
 goto L21;}
-L18:ug=r8(oe+16);
-vg=r8(oe+8);
-if(Ke>ug-vg){
-wg=grow_amortized_2b6(oe,Ke);
-if(!wg)goto L20;
-xg=r8(oe+16);
-yg=r8(oe+8);}
+L18:jc=r8(ea+16);
+kc=r8(ea+8);
+if(Aa>jc-kc){
+lc=grow_amortized_2b6(ea,Aa);
+if(!lc)goto L20;
+mc=r8(ea+16);
+nc=r8(ea+8);}
 else{
-xg=ug;
-yg=vg;}
-zg=yg+Ke;
-Ag=rp(oe);
-z16(oe+8);
-Bg=Ag+(i64)yg;
-if((u64)Bg-(u64)ng<Ke){
-copy_bits_4f4(ng,Bg,Ke);
-w8(oe+8,zg);
-w8(oe+16,xg);
-tg=0;}
+mc=jc;
+nc=kc;}
+oc=nc+Aa;
+pc=rp(ea);
+z16(ea+8);
+qc=pc+(i64)nc;
+if((u64)qc-(u64)cc<Aa){
+copy_bits_4f4(cc,qc,Aa);
+w8(ea+8,oc);
+w8(ea+16,mc);
+ic=0;}
 else{
-memmove(Bg,ng,Ke);
-w8(oe+8,zg);
-w8(oe+16,xg);
-if(Le){
-Cg=0;
+memmove(qc,cc,Aa);
+w8(ea+8,oc);
+w8(ea+16,mc);
+if(Ba){
+rc=0;
 goto L22;}
-tg=0;}
-L21:w8(me+16,0);
-Cg=tg;
-L22:z18(me+32);
-lg=Me;
-mg=Cg;
+ic=0;}
+L21:w8(ca+16,0);
+rc=ic;
+L22:z18(ca+32);
+ac=Ca;
+bc=rc;
 goto L23;}
-end_within_8c1(he,me,te,ne,oe);
-if(*he==0){
-lg=r16(he+16);
-mg=r8(he+32);
+end_within_8c1(X,ca,ja,da,ea);
+if(*X==0){
+ac=r16(X+16);
+bc=r8(X+32);
 goto L23;}
 L20:goto L16;
-L23:z7(ke);
-Se=lg;
-Te=1;
-Ue=1;
-Ve=mg;
-We=0;
+L23:z7(aa);
+Ia=ac;
+Ja=1;
+Ka=1;
+La=bc;
+Ma=0;
 goto L4;
 L16:goto L24;
-L4:w16(je,Se);
-w8(je+16,Te);
-je[24]=Ue;
-memcpy(je+25,ke,7);
-w8(je+32,Ve);
-w8(je+40,We);
-Dg=r8(oe+8);
-Eg=r8(pe+32);
-if(Eg<=(Dg^18446744073709551615u)){
-Fg=Eg+Dg;
-if(Fg<=r8(pe+24)){
-Gg=rp(oe);
-Hg=r8(pe+16);
-Ig=r8(pe+8);
-if(Dg>Hg-Ig){
-Jg=grow_amortized_2b6(pe,Dg);
-if(!Jg)goto L24;
-Kg=r8(pe+16);
-Lg=r8(pe+8);}
+L4:w16(Z,Ia);
+w8(Z+16,Ja);
+Z[24]=Ka;
+memcpy(Z+25,aa,7);
+w8(Z+32,La);
+w8(Z+40,Ma);
+sc=r8(ea+8);
+tc=r8(fa+32);
+if(tc<=(sc^18446744073709551615u)){
+uc=tc+sc;
+if(uc<=r8(fa+24)){
+vc=rp(ea);
+wc=r8(fa+16);
+xc=r8(fa+8);
+if(sc>wc-xc){
+yc=grow_amortized_2b6(fa,sc);
+if(!yc)goto L24;
+zc=r8(fa+16);
+Ac=r8(fa+8);}
 else{
-Kg=Hg;
-Lg=Ig;}
-Mg=Lg+Dg;
-Ng=rp(pe)+(i64)Lg;
-if((u64)Ng-(u64)Gg<Dg)copy_bits_4f4(Gg,Ng,Dg);
-else memmove(Ng,Gg,Dg);
-w8(pe+8,Mg);
-w8(pe+16,Kg);}
-w8(pe+32,Fg);
-if(Dg!=0)w8(oe+8,0);
-Og=add_following_166(pe,je,Ie,Te);
-if(!(Og&1)){
-Pg=Te+He;
-if(Pg>=Ge)goto L2;
-He=Pg;
+zc=wc;
+Ac=xc;}
+Bc=Ac+sc;
+Cc=rp(fa)+(i64)Ac;
+if((u64)Cc-(u64)vc<sc)copy_bits_4f4(vc,Cc,sc);
+else memmove(Cc,vc,sc);
+w8(fa+8,Bc);
+w8(fa+16,zc);}
+w8(fa+32,uc);
+if(sc!=0)w8(ea+8,0);
+Dc=add_following_166(fa,Z,ya,Ja);
+if(!(Dc&1)){
+Ec=Ja+xa;
+if(Ec>=wa)goto L2;
+xa=Ec;
 goto L3;}}
 L24:goto L25;
-L2:Qg=le[9];
-if(le[8]&1){
-Rg=end_segment_98d(te,ne,me,oe,pe);
-if(Rg!=0)goto L25;}
-Sg=Ge+De;
-if(Sg>=e)goto L26;
-De=Sg;
-Ee=Qg;
+L2:Fc=ba[9];
+if(ba[8]&1){
+Gc=end_segment_98d(ja,da,ca,ea,fa);
+if(Gc!=0)goto L25;}
+Hc=wa+ta;
+if(Hc>=e)goto L26;
+ta=Hc;
+ua=Fc;
 goto L1;
-L25:if(r8(pe+16)!=0)port_rattle_dealloc(rp(pe));
-if(r8(oe+16)!=0)port_rattle_dealloc(rp(oe));
-memcpy(qe,ne,1944);
-drop_1dd(qe);
-if(r8(me+24)==0)goto L27;
+L25:if(r8(fa+16)!=0)port_rattle_dealloc(rp(fa));
+if(r8(ea+16)!=0)port_rattle_dealloc(rp(ea));
+memcpy(ga,da,1544);
+drop_1dd(ga);
+if(r8(ca+24)==0)goto L27;
 goto L28;}
-L26:Tg=end_segment_98d(te,ne,me,oe,pe);
-if(!(Tg&1)){
-Ug=rp(pe);
-Vg=r8(pe+8);
-Wg=r8(pe+16);
-Xg=r8(pe+32);
-Yg=r8(me+56);
-Zg=r8(me+64);
-ah=r8(me+72);
-if(r8(oe+16)!=0)port_rattle_dealloc(rp(oe));
-memcpy(se,ne,1944);
-drop_1dd(se);
-if(r8(me+24)!=0)port_rattle_dealloc(rp(me+8));
-if(g<Xg){
-bh=6;
-ch=Xg;}
+L26:Ic=end_segment_98d(ja,da,ca,ea,fa);
+if(!(Ic&1)){
+Jc=rp(fa);
+Kc=r8(fa+8);
+Lc=r8(fa+16);
+Mc=r8(fa+32);
+Nc=r8(ca+56);
+Oc=r8(ca+64);
+Pc=r8(ca+72);
+if(r8(ea+16)!=0)port_rattle_dealloc(rp(ea));
+memcpy(ia,da,1544);
+drop_1dd(ia);
+if(r8(ca+24)!=0)port_rattle_dealloc(rp(ca+8));
+if(g<Mc){
+Qc=6;
+Rc=Mc;}
 else{
-if(g<Vg){
-bh=6;
-ch=Vg;}
+if(g<Kc){
+Qc=6;
+Rc=Kc;}
 else{
-if((u64)f-(u64)Ug<Vg)copy_bits_4f4(Ug,f,Vg);
-else memmove(f,Ug,Vg);
-w8(h,Yg);
-w8(h+8,Zg);
-w8(h+16,ah);
-bh=0;
-ch=Vg;}}
-if(Wg==0){
-dh=ch;
-eh=bh;
+if((u64)f-(u64)Jc<Kc)copy_bits_4f4(Jc,f,Kc);
+else memmove(f,Jc,Kc);
+w8(h,Nc);
+w8(h+8,Oc);
+w8(h+16,Pc);
+Qc=0;
+Rc=Kc;}}
+if(Lc==0){
+Sc=Rc;
+Tc=Qc;
 goto L29;}
-port_rattle_dealloc(Ug);
-dh=ch;
-eh=bh;
+port_rattle_dealloc(Jc);
+Sc=Rc;
+Tc=Qc;
 goto L29;}
-if(r8(pe+16)!=0)port_rattle_dealloc(rp(pe));
-if(r8(oe+16)!=0)port_rattle_dealloc(rp(oe));
-memcpy(re,ne,1944);
-drop_1dd(re);
-if(r8(me+24)==0)goto L27;
-L28:port_rattle_dealloc(rp(me+8));
-L27:dh=0;
-eh=5;}
+if(r8(fa+16)!=0)port_rattle_dealloc(rp(fa));
+if(r8(ea+16)!=0)port_rattle_dealloc(rp(ea));
+memcpy(ha,da,1544);
+drop_1dd(ha);
+if(r8(ca+24)==0)goto L27;
+L28:port_rattle_dealloc(rp(ca+8));
+L27:Sc=0;
+Tc=5;}
 else{
-w8(ue,r8(te));
-ue[8]=we&1;
-ue[9]=ye;
-*Xb=ze;
-z7(Xb+1);
-wp(Xb+8,(u8*)65536);
-z64(Xb+16);
-fh=(u64)(u8*)65536;
-z32(Yd);
-z40(Zd);
-z32(ae);
-z16(be);
-z48(ce);
-z32(de);
-z16(ee);
-z16(fe);
-z16(ge);
-z24(dd);
-z16(ed);
-z32(fd);
-z16(gd);
-z32(hd);
-z80(id);
-z16(jd);
-z40(kd);
-z16(ld);
-z16(md);
-z16(nd);
-z16(od);
-z16(pd);
-z48(qd);
-z32(sd);
-z32(td);
-z104(ud);
-z40(vd);
-z16(xd);
-z32(yd);
-z24(zd);
-z16(Ad);
-z32(Bd);
-z16(Cd);
-z24(Dd);
-z16(Ed);
-z16(Fd);
-z40(Gd);
-z16(Hd);
-z16(Id);
-z16(Jd);
-z16(Kd);
-z16(Ld);
-z48(Md);
-z32(Nd);
-z40(Od);
-z32(Pd);
-z16(Qd);
-z48(Rd);
-z40(Sd);
-z16(Td);
-z32(Ud);
-z32(Vd);
-z32(Wd);
-z104(Xd);
-memcpy(bc,dd,24);
-memcpy(cc,ed,16);
-memcpy(dc,fd,32);
-memcpy(ec,gd,16);
-memcpy(fc,hd,32);
-memcpy(gc,id,80);
-memcpy(hc,jd,16);
-memcpy(ic,kd,40);
-memcpy(jc,ld,16);
-memcpy(kc,md,16);
-memcpy(lc,nd,16);
-memcpy(mc,od,16);
-memcpy(nc,pd,16);
-memcpy(oc,qd,48);
-memcpy(pc,sd,32);
-memcpy(qc,td,32);
-memcpy(rc,ud,104);
-memcpy(sc,vd,40);
-memcpy(tc,xd,16);
-memcpy(uc,yd,32);
-memcpy(vc,zd,24);
-memcpy(wc,Ad,16);
-memcpy(xc,Bd,32);
-memcpy(yc,Cd,16);
-memcpy(zc,Dd,24);
-memcpy(Ac,Ed,16);
-memcpy(Bc,Fd,16);
-memcpy(Cc,Gd,40);
-memcpy(Dc,Hd,16);
-memcpy(Ec,Id,16);
-memcpy(Fc,Jd,16);
-memcpy(Gc,Kd,16);
-memcpy(Hc,Ld,16);
-memcpy(Ic,Md,48);
-memcpy(Jc,Nd,32);
-memcpy(Kc,Od,40);
-memcpy(Lc,Pd,32);
-memcpy(Mc,Qd,16);
-memcpy(Nc,Rd,48);
-memcpy(Oc,Sd,40);
-memcpy(Pc,Td,16);
-memcpy(Qc,Ud,32);
-memcpy(Rc,Vd,32);
-memcpy(Sc,Wd,32);
-memcpy(Tc,Xd,104);
-memcpy(Uc,Yd,32);
-memcpy(Vc,Zd,40);
-memcpy(Wc,ae,32);
-memcpy(Xc,be,16);
-memcpy(Yc,ce,48);
-memcpy(Zc,de,32);
-memcpy(ad,ee,16);
-memcpy(bd,fe,16);
-memcpy(cd,ge,16);
-wp(Yb,(u8*)65536);
-memcpy(Yb+8,bc,24);
-wp(Yb+32,(u8*)65536);
-memcpy(Yb+40,cc,16);
-wp(Yb+56,(u8*)65536);
-memcpy(Yb+64,dc,32);
-wp(Yb+96,(u8*)65536);
-memcpy(Yb+104,ec,16);
-wp(Yb+120,(u8*)65536);
-memcpy(Yb+128,fc,32);
-wp(Yb+160,(u8*)65536);
-memcpy(Yb+168,gc,80);
-wp(Yb+248,(u8*)65536);
-memcpy(Yb+256,hc,16);
-wp(Yb+272,(u8*)65536);
-memcpy(Yb+280,ic,40);
-wp(Yb+320,(u8*)65536);
-memcpy(Yb+328,jc,16);
-wp(Yb+344,(u8*)65536);
-memcpy(Yb+352,kc,16);
-wp(Yb+368,(u8*)65536);
-memcpy(Yb+376,lc,16);
-wp(Yb+392,(u8*)65536);
-memcpy(Yb+400,mc,16);
-wp(Yb+416,(u8*)65536);
-memcpy(Yb+424,nc,16);
-wp(Yb+440,(u8*)65536);
-memcpy(Yb+448,oc,48);
-wp(Yb+496,(u8*)65536);
-memcpy(Yb+504,pc,32);
-wp(Yb+536,(u8*)65536);
-memcpy(Yb+544,qc,32);
-wp(Yb+576,(u8*)65536);
-memcpy(Yb+584,rc,104);
-w8(Yb+688,fh);
-memcpy(Yb+696,sc,40);
-w8(Yb+736,fh);
-memcpy(Yb+744,tc,16);
-wp(Yb+760,(u8*)65536);
-memcpy(Yb+768,uc,32);
-wp(Yb+800,(u8*)65536);
-memcpy(Yb+808,vc,24);
-wp(Yb+832,(u8*)65536);
-memcpy(Yb+840,wc,16);
-wp(Yb+856,(u8*)65536);
-memcpy(Yb+864,xc,32);
-wp(Yb+896,(u8*)65536);
-memcpy(Yb+904,yc,16);
-wp(Yb+920,(u8*)65536);
-memcpy(Yb+928,zc,24);
-wp(Yb+952,(u8*)65536);
-memcpy(Yb+960,Ac,16);
-wp(Yb+976,(u8*)65536);
-memcpy(Yb+984,Bc,16);
-wp(Yb+1000,(u8*)65536);
-memcpy(Yb+1008,Cc,40);
-wp(Yb+1048,(u8*)65536);
-memcpy(Yb+1056,Dc,16);
-wp(Yb+1072,(u8*)65536);
-memcpy(Yb+1080,Ec,16);
-wp(Yb+1096,(u8*)65536);
-memcpy(Yb+1104,Fc,16);
-wp(Yb+1120,(u8*)65536);
-memcpy(Yb+1128,Gc,16);
-wp(Yb+1144,(u8*)65536);
-memcpy(Yb+1152,Hc,16);
-wp(Yb+1168,(u8*)65536);
-memcpy(Yb+1176,Ic,48);
-wp(Yb+1224,(u8*)65536);
-memcpy(Yb+1232,Jc,32);
-wp(Yb+1264,(u8*)65536);
-memcpy(Yb+1272,Kc,40);
-wp(Yb+1312,(u8*)65536);
-memcpy(Yb+1320,Lc,32);
-wp(Yb+1352,(u8*)65536);
-memcpy(Yb+1360,Mc,16);
-wp(Yb+1376,(u8*)65536);
-memcpy(Yb+1384,Nc,48);
-w8(Yb+1432,fh);
-memcpy(Yb+1440,Oc,40);
-w8(Yb+1480,fh);
-memcpy(Yb+1488,Pc,16);
-wp(Yb+1504,(u8*)65536);
-memcpy(Yb+1512,Qc,32);
-wp(Yb+1544,(u8*)65536);
-memcpy(Yb+1552,Rc,32);
-wp(Yb+1584,(u8*)65536);
-memcpy(Yb+1592,Sc,32);
-wp(Yb+1624,(u8*)65536);
-memcpy(Yb+1632,Tc,104);
-wp(Yb+1736,(u8*)65536);
-memcpy(Yb+1744,Uc,32);
-wp(Yb+1776,(u8*)65536);
-memcpy(Yb+1784,Vc,40);
-wp(Yb+1824,(u8*)65536);
-memcpy(Yb+1832,Wc,32);
-wp(Yb+1864,(u8*)65536);
-memcpy(Yb+1872,Xc,16);
-wp(Yb+1888,(u8*)65536);
-memcpy(Yb+1896,Yc,48);
-wp(Yb+1944,(u8*)65536);
-memcpy(Yb+1952,Zc,32);
-wp(Yb+1984,(u8*)65536);
-memcpy(Yb+1992,ad,16);
-wp(Yb+2008,(u8*)65536);
-memcpy(Yb+2016,bd,16);
-wp(Yb+2032,(u8*)65536);
-memcpy(Yb+2040,cd,16);
-wp(Zb,(u8*)65536);
-z16(Zb+8);
-wp(ac,(u8*)65536);
-z16(ac+8);
-w8(ac+24,g);
-w8(ac+32,0);
+w8(ka,r8(ja));
+ka[8]=ma&1;
+ka[9]=oa;
+zero_all(U+1512,144);
+z24(V);
+z40(W);
+*T=pa;
+z7(T+1);
+wp(T+8,(u8*)65536);
+z64(T+16);
+Uc=(u64)(u8*)65536;
+wp(U,(u8*)65536);
+z24(U+8);
+wp(U+32,(u8*)65536);
+z16(U+40);
+wp(U+56,(u8*)65536);
+z32(U+64);
+wp(U+96,(u8*)65536);
+z16(U+104);
+wp(U+120,(u8*)65536);
+z32(U+128);
+wp(U+160,(u8*)65536);
+z80(U+168);
+wp(U+248,(u8*)65536);
+z16(U+256);
+wp(U+272,(u8*)65536);
+z40(U+280);
+wp(U+320,(u8*)65536);
+z16(U+328);
+wp(U+344,(u8*)65536);
+z16(U+352);
+wp(U+368,(u8*)65536);
+z16(U+376);
+wp(U+392,(u8*)65536);
+z16(U+400);
+wp(U+416,(u8*)65536);
+z16(U+424);
+wp(U+440,(u8*)65536);
+z48(U+448);
+wp(U+496,(u8*)65536);
+z32(U+504);
+wp(U+536,(u8*)65536);
+z32(U+544);
+wp(U+576,(u8*)65536);
+z104(U+584);
+w8(U+688,Uc);
+z40(U+696);
+w8(U+736,Uc);
+z16(U+744);
+wp(U+760,(u8*)65536);
+z32(U+768);
+wp(U+800,(u8*)65536);
+z24(U+808);
+wp(U+832,(u8*)65536);
+z16(U+840);
+wp(U+856,(u8*)65536);
+z32(U+864);
+wp(U+896,(u8*)65536);
+z16(U+904);
+wp(U+920,(u8*)65536);
+z24(U+928);
+wp(U+952,(u8*)65536);
+z16(U+960);
+wp(U+976,(u8*)65536);
+z16(U+984);
+wp(U+1000,(u8*)65536);
+z40(U+1008);
+wp(U+1048,(u8*)65536);
+z16(U+1056);
+wp(U+1072,(u8*)65536);
+z16(U+1080);
+wp(U+1096,(u8*)65536);
+z16(U+1104);
+wp(U+1120,(u8*)65536);
+z16(U+1128);
+wp(U+1144,(u8*)65536);
+z16(U+1152);
+wp(U+1168,(u8*)65536);
+z48(U+1176);
+wp(U+1224,(u8*)65536);
+z32(U+1232);
+wp(U+1264,(u8*)65536);
+z40(U+1272);
+wp(U+1312,(u8*)65536);
+z32(U+1320);
+wp(U+1352,(u8*)65536);
+z16(U+1360);
+wp(U+1376,(u8*)65536);
+z48(U+1384);
+w8(U+1432,Uc);
+z40(U+1440);
+w8(U+1480,Uc);
+z16(U+1488);
+wp(U+1504,(u8*)65536);
+z32(U+1512);
+wp(U+1544,(u8*)65536);
+z32(U+1552);
+wp(U+1584,(u8*)65536);
+z16(U+1592);
+wp(U+1608,(u8*)65536);
+z16(U+1616);
+wp(U+1632,(u8*)65536);
+z16(U+1640);
+wp(V,(u8*)65536);
+z16(V+8);
+wp(W,(u8*)65536);
+z16(W+8);
+w8(W+24,g);
+w8(W+32,0);
 if(e!=0){
-gh=0;
-hh=0;
-L30:ih=d+(i64)gh;
-z16(Wb);
-first_segment_4a3(Wb,*Xb,ih,e-gh,hh);
-jh=r8(Wb);
-z32(Ub+16);
-if(jh==0)goto L31;
-kh=0;
-L32:lh=ih+(i64)kh;
-mh=jh-kh;
-z48(Tb);
-nh=r8(Xb+16);
-oh=nh==0;
-ph=r16(Xb+32);
-if(oh&&ph==0){
-if(Xb[50]&1){
-pass_6c7(Tb,Xb,lh,mh);
-qh=r16(Tb);
-rh=r8(Tb+16);
-sh=Tb[24];
-th=r8(Tb+32);
-uh=r8(Tb+40);
-memcpy(Vb,Tb+25,7);
-vh=qh;
-wh=rh;
-xh=sh;
-yh=th;
-zh=uh;
+Vc=0;
+Wc=0;
+L30:Xc=d+(i64)Vc;
+z16(S);
+first_segment_4a3(S,*T,Xc,e-Vc,Wc);
+Yc=r8(S);
+z32(Q+16);
+if(Yc==0)goto L31;
+Zc=0;
+L32:ad=Xc+(i64)Zc;
+bd=Yc-Zc;
+z48(P);
+cd=r8(T+16);
+dd=cd==0;
+ed=r16(T+32);
+if(dd&&ed==0){
+if(T[50]&1){
+pass_6c7(P,T,ad,bd);
+fd=r16(P);
+gd=r8(P+16);
+hd=P[24];
+id=r8(P+32);
+jd=r8(P+40);
+memcpy(R,P+25,7);
+kd=fd;
+ld=gd;
+md=hd;
+nd=id;
+od=jd;
 goto L33;}
-Ah=*Xb;
-Bh=Xb[48];
-if(mh==0)Ch=0;
+pd=*T;
+qd=T[48];
+if(bd==0)sd=0;
 else{
-Dh=Xb[49];
-Eh=Ah+49;
-Fh=Ah==2;
-Gh=0;
-L34:Hh=lh+Gh;
-if(*Hh==95){
-if(Gh==0){
-switch(Bh){
-case 0:Ih=Ah;
+td=T[49];
+ud=pd+49;
+vd=pd==2;
+xd=0;
+L34:yd=ad+xd;
+if(*yd==95){
+if(xd==0){
+switch(qd){
+case 0:zd=pd;
 goto L35;
-case 1:if(Fh){
-switch(Dh){
-case 46:case 36:Jh=1;
-Kh=49;
+case 1:if(vd){
+switch(td){
+case 46:case 36:Ad=1;
+Bd=49;
 goto L36;
 default:break;}}
 break;
-case 2:if(Fh){
-switch(Dh){
-case 46:case 36:Jh=1;
-Kh=49;
+case 2:if(vd){
+switch(td){
+case 46:case 36:Ad=1;
+Bd=49;
 goto L36;
 default:break;}}
 break;
 default:NEVER;
 }}
 else{
-Lh=*((u8*)t_e4d8+Hh[-1]);
-if(Eh>Lh){
-if(Lh<=(Ah==0?48:49)){
-Nh=0;
-Oh=0;
-Ph=Gh;
+Cd=*((u8*)t_e4d8+yd[-1]);
+if(ud>Cd){
+if(Cd<=(pd==0?48:49)){
+Ed=0;
+Fd=0;
+Gd=xd;
 goto L37;}
-Mh=place_in_stretch_597(Ah,lh,Gh,Bh);
-Nh=Mh.f1;
-Oh=Mh.f0;
-Ph=Gh;
+Dd=place_in_stretch_597(pd,ad,xd,qd);
+Ed=Dd.f1;
+Fd=Dd.f0;
+Gd=xd;
 goto L37;}}}
-Qh=Gh+1;
-Rh=mh-Qh;
-if(Rh<16)Sh=0;
+Hd=xd+1;
+Id=bd-Hd;
+if(Id<16)Jd=0;
 else{
-Th=lh+(i64)Qh;
-Uh=cttz(v16_eq(v16_at(Th),splat(95)),16);
-if((Rh<32)|(Uh<16))Sh=Uh;
+Kd=ad+(i64)Hd;
+Ld=cttz(v16_eq(v16_at(Kd),splat(95)),16);
+if((Id<32)|(Ld<16))Jd=Ld;
 else{
-Vh=cttz(v16_eq(v16_at(Th+16),splat(95)),16);
-if(Vh<16)Sh=Vh|16;
+Md=cttz(v16_eq(v16_at(Kd+16),splat(95)),16);
+if(Md<16)Jd=Md|16;
 else{
-if(Rh<=95){
-Sh=32;
+if(Id<=95){
+Jd=32;
 goto L38;}
-Wh=32;
-L39:Xh=Th+(i64)Wh;
-if((((v16_eq(v16_at(Xh),splat(95))|v16_eq(v16_at(Xh+16),splat(95)))|v16_eq(v16_at(Xh+32),splat(95)))|v16_eq(v16_at(Xh+48),splat(95)))==0){
-Yh=Wh+64;
-if(Rh-Yh>63){
-Wh=Yh;
+Nd=32;
+L39:Od=Kd+(i64)Nd;
+if((((v16_eq(v16_at(Od),splat(95))|v16_eq(v16_at(Od+16),splat(95)))|v16_eq(v16_at(Od+32),splat(95)))|v16_eq(v16_at(Od+48),splat(95)))==0){
+Pd=Nd+64;
+if(Id-Pd>63){
+Nd=Pd;
 goto L39;}
-Sh=Yh;}
-else Sh=Wh;}}}
-L38:Zh=Sh+Qh;
-if(Zh<mh){
-Gh=Zh;
+Jd=Pd;}
+else Jd=Nd;}}}
+L38:Qd=Jd+Hd;
+if(Qd<bd){
+xd=Qd;
 goto L34;}
-Ch=Zh;}
-if(*((u8*)t_e4d8+*(lh+(i64)Ch-1))>(Ah==0?48:49)){
-ai=place_in_stretch_597(Ah,lh,Ch,Bh);
-bi=ai.f0;
-ci=ai.f1;}
+sd=Qd;}
+if(*((u8*)t_e4d8+*(ad+(i64)sd-1))>(pd==0?48:49)){
+Rd=place_in_stretch_597(pd,ad,sd,qd);
+Sd=Rd.f0;
+Td=Rd.f1;}
 else{
-bi=0;
-ci=0;}
-if(Ch==0){
-Ih=Ah;
+Sd=0;
+Td=0;}
+if(sd==0){
+zd=pd;
 goto L35;}
-Nh=ci;
-Oh=bi;
-Ph=Ch;
-L37:w2(Xb+48,(u16)((u32)Nh<<8)|Oh);
-z7(Vb);
-vh=0;
-wh=Ph;
-xh=1;
-yh=0;
-zh=0;
+Ed=Td;
+Fd=Sd;
+Gd=sd;
+L37:w2(T+48,(u16)((u32)Ed<<8)|Fd);
+z7(R);
+kd=0;
+ld=Gd;
+md=1;
+nd=0;
+od=0;
 goto L33;}
-Ih=*Xb;
-L35:Jh=Ih==2;
-Kh=Ih==1?50:49;
-L36:if(Kh>*((u8*)t_e4d8+*lh))goto L40;
-di=0;
-L41:if(mh-di>15){
-ei=v16_at(lh+di);
-fi=cttz(v16_ne(ei,splat(36))&(v16_ne(ei,splat(46))&(v16_ne(ei,splat(95))&(v16_ult(v16_add(ei,splat(198)),splat(246))&v16_ult(v16_add(v16_or(ei,splat(32)),splat(133)),splat(230))))),16);
-gi=di+fi;
-if(fi>=16){
-di=gi;
+zd=*T;
+L35:Ad=zd==2;
+Bd=zd==1?50:49;
+L36:if(Bd>*((u8*)t_e4d8+*ad))goto L40;
+Ud=0;
+L41:if(bd-Ud>15){
+Vd=v16_at(ad+Ud);
+Wd=cttz(v16_ne(Vd,splat(36))&(v16_ne(Vd,splat(46))&(v16_ne(Vd,splat(95))&(v16_ult(v16_add(Vd,splat(198)),splat(246))&v16_ult(v16_add(v16_or(Vd,splat(32)),splat(133)),splat(230))))),16);
+Xd=Ud+Wd;
+if(Wd>=16){
+Ud=Xd;
 goto L41;}
-hi=gi;}
-else hi=di;
-if(hi>=mh){
-ji=hi;
+Yd=Xd;}
+else Yd=Ud;
+if(Yd>=bd){
+ae=Yd;
 goto L42;}
-ii=hi;
-L43:if(Kh>*((u8*)t_e4d8+*(lh+ii)))ji=ii;
+Zd=Yd;
+L43:if(Bd>*((u8*)t_e4d8+*(ad+Zd)))ae=Zd;
 else{
-ki=ii+1;
-if(ki!=mh){
-ii=ki;
+be=Zd+1;
+if(be!=bd){
+Zd=be;
 goto L43;}
-ji=mh;}
-L42:if(ji==0)goto L40;
-li=ji;
-L44:if(li==0){
-w16(Xb+32,ph+ji);
-mi=0;
-ni=0;}
+ae=bd;}
+L42:if(ae==0)goto L40;
+ce=ae;
+L44:if(ce==0){
+w16(T+32,ed+ae);
+de=0;
+ee=0;}
 else{
-oi=li-1;
-if(*(lh+oi)==46){
-li=oi;
+fe=ce-1;
+if(*(ad+fe)==46){
+ce=fe;
 goto L44;}
-if(ph+li>65536-nh){
-pi=rp(Xb+8);
-qi=r8(Zb+16);
-ri=r8(Zb+8);
-if(nh>qi-ri){
-si=grow_amortized_2b6(Zb,nh);
-if(!si)goto L45;
-ti=r8(Zb+16);
-ui=r8(Zb+8);}
+if(ed+ce>65536-cd){
+ge=rp(T+8);
+he=r8(V+16);
+ie=r8(V+8);
+if(cd>he-ie){
+je=grow_amortized_2b6(V,cd);
+if(!je)goto L45;
+ke=r8(V+16);
+le=r8(V+8);}
 else{
-ti=qi;
-ui=ri;}
-vi=ui+nh;
-wi=rp(Zb);
-z16(Zb+8);
-xi=wi+(i64)ui;
-if((u64)xi-(u64)pi<nh){
-copy_bits_4f4(pi,xi,nh);
-w8(Zb+8,vi);
-w8(Zb+16,ti);}
+ke=he;
+le=ie;}
+me=le+cd;
+ne=rp(V);
+z16(V+8);
+oe=ne+(i64)le;
+if((u64)oe-(u64)ge<cd){
+copy_bits_4f4(ge,oe,cd);
+w8(V+8,me);
+w8(V+16,ke);}
 else{
-memmove(xi,pi,nh);
-w8(Zb+8,vi);
-w8(Zb+16,ti);
-if(oh)goto L46;}
-w8(Xb+16,0);
-L46:w16(Xb+32,0);
-Xb[50]=1;
-mi=ph;
-ni=1;}
+memmove(oe,ge,cd);
+w8(V+8,me);
+w8(V+16,ke);
+if(dd)goto L46;}
+w8(T+16,0);
+L46:w16(T+32,0);
+T[50]=1;
+de=ed;
+ee=1;}
 else{
-yi=ph;
-zi=nh+yi;
-if(zi>nh){
-Ai=r8(Xb+24);
-if(Ai-nh<yi){
-Bi=grow_amortized_2b6(Xb+8,yi);
-if(!Bi)goto L45;
-Ci=r8(Xb+16);
-Di=Ci+yi;
-Ei=r8(Xb+24);
-Fi=Ci;}
+pe=ed;
+qe=cd+pe;
+if(qe>cd){
+re=r8(T+24);
+if(re-cd<pe){
+se=grow_amortized_2b6(T+8,pe);
+if(!se)goto L45;
+te=r8(T+16);
+ue=te+pe;
+ve=r8(T+24);
+we=te;}
 else{
-Di=zi;
-Ei=Ai;
-Fi=nh;}
-if(Fi<Di)memset(rp(Xb+8)+(i64)Fi,46,yi);
-w8(Xb+16,Di);
-w8(Xb+24,Ei);
-Gi=Di;}
+ue=qe;
+ve=re;
+we=cd;}
+if(we<ue)memset(rp(T+8)+(i64)we,46,pe);
+w8(T+16,ue);
+w8(T+24,ve);
+xe=ue;}
 else{
-if(nh>zi){
-w8(Xb+16,zi);
-Gi=zi;}
-else Gi=nh;}
-Hi=r8(Xb+24);
-if(li>Hi-Gi){
-Ii=grow_amortized_2b6(Xb+8,li);
-if(!Ii)goto L45;
-Ji=r8(Xb+24);
-Ki=r8(Xb+16);}
+if(cd>qe){
+w8(T+16,qe);
+xe=qe;}
+else xe=cd;}
+ye=r8(T+24);
+if(ce>ye-xe){
+ze=grow_amortized_2b6(T+8,ce);
+if(!ze)goto L45;
+Ae=r8(T+24);
+Be=r8(T+16);}
 else{
-Ji=Hi;
-Ki=Gi;}
-Li=Ki+li;
-Mi=rp(Xb+8)+(i64)Ki;
-if((u64)Mi-(u64)lh<li)copy_bits_4f4(lh,Mi,li);
-else memmove(Mi,lh,li);
-w8(Xb+16,Li);
-w8(Xb+24,Ji);
-w16(Xb+32,ji-li);
-mi=0;
-ni=0;}}
-z7(Vb);
-vh=mi;
-wh=ji;
-xh=ni;
-yh=0;
-zh=0;
+Ae=ye;
+Be=xe;}
+Ce=Be+ce;
+De=rp(T+8)+(i64)Be;
+if((u64)De-(u64)ad<ce)copy_bits_4f4(ad,De,ce);
+else memmove(De,ad,ce);
+w8(T+16,Ce);
+w8(T+24,Ae);
+w16(T+32,ae-ce);
+de=0;
+ee=0;}}
+z7(R);
+kd=de;
+ld=ae;
+md=ee;
+nd=0;
+od=0;
 goto L33;
-L40:z48(Sb);
-if(!Jh){
-Pi=rp(Xb+8);
-if(nh-65537>=0xffffffffffff0001u){
-Qi=*Pi==95;
-if(nh==2){
-if(!Qi)goto L47;
-switch(Pi[1]){
-case 90:Ri=0;
+L40:z48(O);
+if(!Ad){
+Ge=rp(T+8);
+if(cd-65537>=0xffffffffffff0001u){
+He=*Ge==95;
+if(cd==2){
+if(!He)goto L47;
+switch(Ge[1]){
+case 90:Ie=0;
 goto L48;
 case 82:break;
 default:goto L47;
 }}
 else{
-if(!Qi)goto L47;
-switch(Pi[1]){
-case 90:Ri=0;
+if(!He)goto L47;
+switch(Ge[1]){
+case 90:Ie=0;
 goto L48;
 case 82:break;
-case 95:switch(Pi[2]){
-case 90:Ri=0x100000000u;
+case 95:switch(Ge[2]){
+case 90:Ie=0x100000000u;
 goto L48;
-case 82:Ri=0x100000001u;
+case 82:Ie=0x100000001u;
 goto L48;
 default:goto L47;
 }
 break;
 default:goto L47;
 }}
-Ri=1;
-L48:Si=Ri>>32;
-z12(Rb);
-append_dd4(Rb,ue,Yb,Ri,Pi+(i64)Si,nh-Si,Zb);
-if(*Rb!=0){
-if(Rb[4]!=4){
-Vi=r8(Zb+16);
-Wi=r8(Zb+8);
-if(nh>Vi-Wi){
-Xi=grow_amortized_2b6(Zb,nh);
-if(!Xi)goto L49;
-Yi=r8(Zb+16);
-Zi=r8(Zb+8);}
+Ie=1;
+L48:Je=Ie>>32;
+z12(N);
+append_dd4(N,ka,U,Ie,Ge+(i64)Je,cd-Je,V);
+if(*N!=0){
+if(N[4]!=4){
+Me=r8(V+16);
+Ne=r8(V+8);
+if(cd>Me-Ne){
+Oe=grow_amortized_2b6(V,cd);
+if(!Oe)goto L49;
+Pe=r8(V+16);
+Qe=r8(V+8);}
 else{
-Yi=Vi;
-Zi=Wi;}
-aj=Zi+nh;
-bj=rp(Zb)+(i64)Zi;
-if((u64)bj-(u64)Pi<nh)copy_bits_4f4(Pi,bj,nh);
-else memmove(bj,Pi,nh);
-w8(Zb+8,aj);
-w8(Zb+16,Yi);
-Ti=nh;
-Ui=16;
+Pe=Me;
+Qe=Ne;}
+Re=Qe+cd;
+Se=rp(V)+(i64)Qe;
+if((u64)Se-(u64)Ge<cd)copy_bits_4f4(Ge,Se,cd);
+else memmove(Se,Ge,cd);
+w8(V+8,Re);
+w8(V+16,Pe);
+Ke=cd;
+Le=16;
 goto L50;}
 L49:goto L51;}
-Ti=0;
-Ui=8;
-L50:w8(Xb+56,uadd64(r8(Xb+56),1));
-cj=Xb+56+(i64)Ui;
-w8(cj,uadd64(r8(cj),1));
-dj=Ti;
+Ke=0;
+Le=8;
+L50:w8(T+56,uadd64(r8(T+56),1));
+Te=T+56+(i64)Le;
+w8(Te,uadd64(r8(Te),1));
+Ue=Ke;
 goto L52;}
-L47:ej=r8(Zb+16);
-fj=r8(Zb+8);
-if(nh>ej-fj){
-gj=grow_amortized_2b6(Zb,nh);
-if(!gj)goto L51;
-hj=r8(Zb+16);
-ij=r8(Zb+8);}
+L47:Ve=r8(V+16);
+We=r8(V+8);
+if(cd>Ve-We){
+Xe=grow_amortized_2b6(V,cd);
+if(!Xe)goto L51;
+Ye=r8(V+16);
+Ze=r8(V+8);}
 else{
-hj=ej;
-ij=fj;}
-jj=ij+nh;
-kj=rp(Zb);
-z16(Zb+8);
-lj=kj+(i64)ij;
-if((u64)lj-(u64)Pi<nh){
-copy_bits_4f4(Pi,lj,nh);
-w8(Zb+8,jj);
-w8(Zb+16,hj);
-dj=0;}
+Ye=Ve;
+Ze=We;}
+af=Ze+cd;
+bf=rp(V);
+z16(V+8);
+cf=bf+(i64)Ze;
+if((u64)cf-(u64)Ge<cd){
+copy_bits_4f4(Ge,cf,cd);
+w8(V+8,af);
+w8(V+16,Ye);
+Ue=0;}
 else{
-memmove(lj,Pi,nh);
-w8(Zb+8,jj);
-w8(Zb+16,hj);
-if(oh){
-mj=0;
+memmove(cf,Ge,cd);
+w8(V+8,af);
+w8(V+16,Ye);
+if(dd){
+df=0;
 goto L53;}
-dj=0;}
-L52:w8(Xb+16,0);
-mj=dj;
-L53:z18(Xb+32);
-Ni=ph;
-Oi=mj;
+Ue=0;}
+L52:w8(T+16,0);
+df=Ue;
+L53:z18(T+32);
+Ee=ed;
+Fe=df;
 goto L54;}
-end_within_682(Sb,Xb,ue,Yb,Zb);
-if(*Sb==0){
-Ni=r16(Sb+16);
-Oi=r8(Sb+32);
+end_within_682(O,T,ka,U,V);
+if(*O==0){
+Ee=r16(O+16);
+Fe=r8(O+32);
 goto L54;}
 L51:goto L45;
-L54:z7(Vb);
-vh=Ni;
-wh=1;
-xh=1;
-yh=Oi;
-zh=0;
+L54:z7(R);
+kd=Ee;
+ld=1;
+md=1;
+nd=Fe;
+od=0;
 goto L33;
 L45:goto L55;
-L33:w16(Ub,vh);
-w8(Ub+16,wh);
-Ub[24]=xh;
-memcpy(Ub+25,Vb,7);
-w8(Ub+32,yh);
-w8(Ub+40,zh);
-nj=r8(Zb+8);
-oj=r8(ac+32);
-if(oj<=(nj^18446744073709551615u)){
-pj=oj+nj;
-if(pj<=r8(ac+24)){
-qj=rp(Zb);
-rj=r8(ac+16);
-sj=r8(ac+8);
-if(nj>rj-sj){
-tj=grow_amortized_2b6(ac,nj);
-if(!tj)goto L55;
-uj=r8(ac+16);
-vj=r8(ac+8);}
+L33:w16(Q,kd);
+w8(Q+16,ld);
+Q[24]=md;
+memcpy(Q+25,R,7);
+w8(Q+32,nd);
+w8(Q+40,od);
+ef=r8(V+8);
+ff=r8(W+32);
+if(ff<=(ef^18446744073709551615u)){
+gf=ff+ef;
+if(gf<=r8(W+24)){
+hf=rp(V);
+jf=r8(W+16);
+kf=r8(W+8);
+if(ef>jf-kf){
+lf=grow_amortized_2b6(W,ef);
+if(!lf)goto L55;
+mf=r8(W+16);
+nf=r8(W+8);}
 else{
-uj=rj;
-vj=sj;}
-wj=vj+nj;
-xj=rp(ac)+(i64)vj;
-if((u64)xj-(u64)qj<nj)copy_bits_4f4(qj,xj,nj);
-else memmove(xj,qj,nj);
-w8(ac+8,wj);
-w8(ac+16,uj);}
-w8(ac+32,pj);
-if(nj!=0)w8(Zb+8,0);
-yj=add_following_166(ac,Ub,lh,wh);
-if(!(yj&1)){
-zj=wh+kh;
-if(zj>=jh)goto L31;
-kh=zj;
+mf=jf;
+nf=kf;}
+of=nf+ef;
+pf=rp(W)+(i64)nf;
+if((u64)pf-(u64)hf<ef)copy_bits_4f4(hf,pf,ef);
+else memmove(pf,hf,ef);
+w8(W+8,of);
+w8(W+16,mf);}
+w8(W+32,gf);
+if(ef!=0)w8(V+8,0);
+qf=add_following_166(W,Q,ad,ld);
+if(!(qf&1)){
+rf=ld+Zc;
+if(rf>=Yc)goto L31;
+Zc=rf;
 goto L32;}}
 L55:goto L56;
-L31:Aj=Wb[9];
-if(Wb[8]&1){
-Bj=end_segment_b7a(ue,Yb,Xb,Zb,ac);
-if(Bj!=0)goto L56;}
-Cj=jh+gh;
-if(Cj>=e)goto L57;
-gh=Cj;
-hh=Aj;
+L31:sf=S[9];
+if(S[8]&1){
+tf=end_segment_b7a(ka,U,T,V,W);
+if(tf!=0)goto L56;}
+uf=Yc+Vc;
+if(uf>=e)goto L57;
+Vc=uf;
+Wc=sf;
 goto L30;
-L56:if(r8(ac+16)!=0)port_rattle_dealloc(rp(ac));
-if(r8(Zb+16)!=0)port_rattle_dealloc(rp(Zb));
-Dj=rp(Yb+1944);
-Ej=rp(Yb+1984);
-Fj=r8(Yb+2000);
-Gj=rp(Yb+2008);
-Hj=r8(Yb+2024);
-Ij=rp(Yb+2032);
-Jj=r8(Yb+2048);
-Kj=r8(Yb+1960);
-memcpy(Qb,Yb,1944);
-drop_1dd(Qb);
-if(Kj!=0)port_rattle_dealloc(Dj);
-if(Fj!=0)port_rattle_dealloc(Ej);
-if(Hj!=0)port_rattle_dealloc(Gj);
-if(Jj!=0)port_rattle_dealloc(Ij);
-if(r8(Xb+24)==0)goto L58;
+L56:if(r8(W+16)!=0)port_rattle_dealloc(rp(W));
+if(r8(V+16)!=0)port_rattle_dealloc(rp(V));
+vf=rp(U+1544);
+wf=rp(U+1584);
+xf=r8(U+1600);
+yf=rp(U+1608);
+zf=r8(U+1624);
+Af=rp(U+1632);
+Bf=r8(U+1648);
+Cf=r8(U+1560);
+memcpy(M,U,1544);
+drop_1dd(M);
+if(Cf!=0)port_rattle_dealloc(vf);
+if(xf!=0)port_rattle_dealloc(wf);
+if(zf!=0)port_rattle_dealloc(yf);
+if(Bf!=0)port_rattle_dealloc(Af);
+if(r8(T+24)==0)goto L58;
 goto L59;}
-L57:Lj=end_segment_b7a(ue,Yb,Xb,Zb,ac);
-if(!(Lj&1)){
-Uj=rp(ac);
-Vj=r8(ac+8);
-Wj=r8(ac+16);
-Xj=r8(ac+32);
-Yj=r8(Xb+56);
-Zj=r8(Xb+64);
-ak=r8(Xb+72);
-if(r8(Zb+16)!=0)port_rattle_dealloc(rp(Zb));
-bk=rp(Yb+1944);
-ck=rp(Yb+1984);
-dk=r8(Yb+2000);
-ek=rp(Yb+2008);
-fk=r8(Yb+2024);
-gk=rp(Yb+2032);
-hk=r8(Yb+2048);
-ik=r8(Yb+1960);
-memcpy(Pb,Yb,1944);
-drop_1dd(Pb);
-if(ik!=0)port_rattle_dealloc(bk);
-if(dk!=0)port_rattle_dealloc(ck);
-if(fk!=0)port_rattle_dealloc(ek);
-if(hk!=0)port_rattle_dealloc(gk);
-if(r8(Xb+24)!=0)port_rattle_dealloc(rp(Xb+8));
-if(g<Xj){
-jk=6;
-kk=Xj;}
+L57:Df=end_segment_b7a(ka,U,T,V,W);
+if(!(Df&1)){
+Mf=rp(W);
+Nf=r8(W+8);
+Of=r8(W+16);
+Pf=r8(W+32);
+Qf=r8(T+56);
+Rf=r8(T+64);
+Sf=r8(T+72);
+if(r8(V+16)!=0)port_rattle_dealloc(rp(V));
+Tf=rp(U+1544);
+Uf=rp(U+1584);
+Vf=r8(U+1600);
+Wf=rp(U+1608);
+Xf=r8(U+1624);
+Yf=rp(U+1632);
+Zf=r8(U+1648);
+ag=r8(U+1560);
+memcpy(L,U,1544);
+drop_1dd(L);
+if(ag!=0)port_rattle_dealloc(Tf);
+if(Vf!=0)port_rattle_dealloc(Uf);
+if(Xf!=0)port_rattle_dealloc(Wf);
+if(Zf!=0)port_rattle_dealloc(Yf);
+if(r8(T+24)!=0)port_rattle_dealloc(rp(T+8));
+if(g<Pf){
+bg=6;
+cg=Pf;}
 else{
-if(g<Vj){
-jk=6;
-kk=Vj;}
+if(g<Nf){
+bg=6;
+cg=Nf;}
 else{
-if((u64)f-(u64)Uj<Vj)copy_bits_4f4(Uj,f,Vj);
-else memmove(f,Uj,Vj);
-w8(h,Yj);
-w8(h+8,Zj);
-w8(h+16,ak);
-jk=0;
-kk=Vj;}}
-if(Wj==0){
-dh=kk;
-eh=jk;
+if((u64)f-(u64)Mf<Nf)copy_bits_4f4(Mf,f,Nf);
+else memmove(f,Mf,Nf);
+w8(h,Qf);
+w8(h+8,Rf);
+w8(h+16,Sf);
+bg=0;
+cg=Nf;}}
+if(Of==0){
+Sc=cg;
+Tc=bg;
 goto L29;}
-port_rattle_dealloc(Uj);
-dh=kk;
-eh=jk;
+port_rattle_dealloc(Mf);
+Sc=cg;
+Tc=bg;
 goto L29;}
-if(r8(ac+16)!=0)port_rattle_dealloc(rp(ac));
-if(r8(Zb+16)!=0)port_rattle_dealloc(rp(Zb));
-Mj=rp(Yb+1944);
-Nj=rp(Yb+1984);
-Oj=r8(Yb+2000);
-Pj=rp(Yb+2008);
-Qj=r8(Yb+2024);
-Rj=rp(Yb+2032);
-Sj=r8(Yb+2048);
-Tj=r8(Yb+1960);
-memcpy(Ob,Yb,1944);
-drop_1dd(Ob);
-if(Tj!=0)port_rattle_dealloc(Mj);
-if(Oj!=0)port_rattle_dealloc(Nj);
-if(Qj!=0)port_rattle_dealloc(Pj);
-if(Sj!=0)port_rattle_dealloc(Rj);
-if(r8(Xb+24)==0)goto L58;
-L59:port_rattle_dealloc(rp(Xb+8));
-L58:dh=0;
-eh=5;}
-L29:lk=dh;
-mk=eh;}
+if(r8(W+16)!=0)port_rattle_dealloc(rp(W));
+if(r8(V+16)!=0)port_rattle_dealloc(rp(V));
+Ef=rp(U+1544);
+Ff=rp(U+1584);
+Gf=r8(U+1600);
+Hf=rp(U+1608);
+If=r8(U+1624);
+Jf=rp(U+1632);
+Kf=r8(U+1648);
+Lf=r8(U+1560);
+memcpy(K,U,1544);
+drop_1dd(K);
+if(Lf!=0)port_rattle_dealloc(Ef);
+if(Gf!=0)port_rattle_dealloc(Ff);
+if(If!=0)port_rattle_dealloc(Hf);
+if(Kf!=0)port_rattle_dealloc(Jf);
+if(r8(T+24)==0)goto L58;
+L59:port_rattle_dealloc(rp(T+8));
+L58:Sc=0;
+Tc=5;}
+L29:dg=Sc;
+eg=Tc;}
 else{
-z12(Nb);
-w4(Mb,c);
-Mb[4]=Ae;
-z3(Mb+5);
-if(Be){
-zero_all(Gb+1480,464);
-z24(Hb);
-z40(Ib);
-zero_all(Jb,1944);
-zero_all(Kb,1944);
-zero_all(Lb,1944);
-*Fb=ze;
-z7(Fb+1);
-wp(Fb+8,(u8*)65536);
-z64(Fb+16);
-nk=(u64)(u8*)65536;
-wp(Gb,(u8*)65536);
-z24(Gb+8);
-wp(Gb+32,(u8*)65536);
-z16(Gb+40);
-wp(Gb+56,(u8*)65536);
-z32(Gb+64);
-wp(Gb+96,(u8*)65536);
-z16(Gb+104);
-wp(Gb+120,(u8*)65536);
-z32(Gb+128);
-wp(Gb+160,(u8*)65536);
-z80(Gb+168);
-wp(Gb+248,(u8*)65536);
-z16(Gb+256);
-wp(Gb+272,(u8*)65536);
-z40(Gb+280);
-wp(Gb+320,(u8*)65536);
-z16(Gb+328);
-wp(Gb+344,(u8*)65536);
-z16(Gb+352);
-wp(Gb+368,(u8*)65536);
-z16(Gb+376);
-wp(Gb+392,(u8*)65536);
-z16(Gb+400);
-wp(Gb+416,(u8*)65536);
-z16(Gb+424);
-wp(Gb+440,(u8*)65536);
-z48(Gb+448);
-wp(Gb+496,(u8*)65536);
-z32(Gb+504);
-wp(Gb+536,(u8*)65536);
-z32(Gb+544);
-wp(Gb+576,(u8*)65536);
-z104(Gb+584);
-w8(Gb+688,nk);
-z40(Gb+696);
-w8(Gb+736,nk);
-z16(Gb+744);
-wp(Gb+760,(u8*)65536);
-z32(Gb+768);
-wp(Gb+800,(u8*)65536);
-z24(Gb+808);
-wp(Gb+832,(u8*)65536);
-z16(Gb+840);
-wp(Gb+856,(u8*)65536);
-z32(Gb+864);
-wp(Gb+896,(u8*)65536);
-z16(Gb+904);
-wp(Gb+920,(u8*)65536);
-z24(Gb+928);
-wp(Gb+952,(u8*)65536);
-z16(Gb+960);
-wp(Gb+976,(u8*)65536);
-z16(Gb+984);
-wp(Gb+1000,(u8*)65536);
-z40(Gb+1008);
-wp(Gb+1048,(u8*)65536);
-z16(Gb+1056);
-wp(Gb+1072,(u8*)65536);
-z16(Gb+1080);
-wp(Gb+1096,(u8*)65536);
-z16(Gb+1104);
-wp(Gb+1120,(u8*)65536);
-z16(Gb+1128);
-wp(Gb+1144,(u8*)65536);
-z16(Gb+1152);
-wp(Gb+1168,(u8*)65536);
-z48(Gb+1176);
-wp(Gb+1224,(u8*)65536);
-z32(Gb+1232);
-wp(Gb+1264,(u8*)65536);
-z40(Gb+1272);
-wp(Gb+1312,(u8*)65536);
-z32(Gb+1320);
-wp(Gb+1352,(u8*)65536);
-z16(Gb+1360);
-wp(Gb+1376,(u8*)65536);
-z48(Gb+1384);
-w8(Gb+1432,nk);
-z40(Gb+1440);
-w8(Gb+1480,nk);
-z16(Gb+1488);
-wp(Gb+1504,(u8*)65536);
-z32(Gb+1512);
-wp(Gb+1544,(u8*)65536);
-z32(Gb+1552);
-wp(Gb+1584,(u8*)65536);
-z32(Gb+1592);
-wp(Gb+1624,(u8*)65536);
-z104(Gb+1632);
-wp(Gb+1736,(u8*)65536);
-z32(Gb+1744);
-wp(Gb+1776,(u8*)65536);
-z40(Gb+1784);
-wp(Gb+1824,(u8*)65536);
-z32(Gb+1832);
-wp(Gb+1864,(u8*)65536);
-z16(Gb+1872);
-wp(Gb+1888,(u8*)65536);
-z48(Gb+1896);
-wp(Hb,(u8*)65536);
-z16(Hb+8);
-wp(Ib,(u8*)65536);
-z16(Ib+8);
-w8(Ib+24,g);
-w8(Ib+32,0);
+z12(J);
+w4(I,c);
+I[4]=qa;
+z3(I+5);
+if(ra){
+z64(C+1480);
+z24(D);
+z40(E);
+zero_all(F,1544);
+zero_all(G,1544);
+zero_all(H,1544);
+*B=pa;
+z7(B+1);
+wp(B+8,(u8*)65536);
+z64(B+16);
+fg=(u64)(u8*)65536;
+wp(C,(u8*)65536);
+z24(C+8);
+wp(C+32,(u8*)65536);
+z16(C+40);
+wp(C+56,(u8*)65536);
+z32(C+64);
+wp(C+96,(u8*)65536);
+z16(C+104);
+wp(C+120,(u8*)65536);
+z32(C+128);
+wp(C+160,(u8*)65536);
+z80(C+168);
+wp(C+248,(u8*)65536);
+z16(C+256);
+wp(C+272,(u8*)65536);
+z40(C+280);
+wp(C+320,(u8*)65536);
+z16(C+328);
+wp(C+344,(u8*)65536);
+z16(C+352);
+wp(C+368,(u8*)65536);
+z16(C+376);
+wp(C+392,(u8*)65536);
+z16(C+400);
+wp(C+416,(u8*)65536);
+z16(C+424);
+wp(C+440,(u8*)65536);
+z48(C+448);
+wp(C+496,(u8*)65536);
+z32(C+504);
+wp(C+536,(u8*)65536);
+z32(C+544);
+wp(C+576,(u8*)65536);
+z104(C+584);
+w8(C+688,fg);
+z40(C+696);
+w8(C+736,fg);
+z16(C+744);
+wp(C+760,(u8*)65536);
+z32(C+768);
+wp(C+800,(u8*)65536);
+z24(C+808);
+wp(C+832,(u8*)65536);
+z16(C+840);
+wp(C+856,(u8*)65536);
+z32(C+864);
+wp(C+896,(u8*)65536);
+z16(C+904);
+wp(C+920,(u8*)65536);
+z24(C+928);
+wp(C+952,(u8*)65536);
+z16(C+960);
+wp(C+976,(u8*)65536);
+z16(C+984);
+wp(C+1000,(u8*)65536);
+z40(C+1008);
+wp(C+1048,(u8*)65536);
+z16(C+1056);
+wp(C+1072,(u8*)65536);
+z16(C+1080);
+wp(C+1096,(u8*)65536);
+z16(C+1104);
+wp(C+1120,(u8*)65536);
+z16(C+1128);
+wp(C+1144,(u8*)65536);
+z16(C+1152);
+wp(C+1168,(u8*)65536);
+z48(C+1176);
+wp(C+1224,(u8*)65536);
+z32(C+1232);
+wp(C+1264,(u8*)65536);
+z40(C+1272);
+wp(C+1312,(u8*)65536);
+z32(C+1320);
+wp(C+1352,(u8*)65536);
+z16(C+1360);
+wp(C+1376,(u8*)65536);
+z48(C+1384);
+w8(C+1432,fg);
+z40(C+1440);
+w8(C+1480,fg);
+z16(C+1488);
+wp(C+1504,(u8*)65536);
+z32(C+1512);
+wp(D,(u8*)65536);
+z16(D+8);
+wp(E,(u8*)65536);
+z16(E+8);
+w8(E+24,g);
+w8(E+32,0);
 if(e!=0){
-ok=0;
-pk=0;
-L60:qk=d+(i64)ok;
-z16(Eb);
-first_segment_4a3(Eb,*Fb,qk,e-ok,pk);
-rk=r8(Eb);
-z32(Cb+16);
-if(rk==0)goto L61;
-sk=0;
-L62:tk=qk+(i64)sk;
-uk=rk-sk;
-z48(Bb);
-vk=r8(Fb+16);
-wk=vk==0;
-xk=r16(Fb+32);
-if(wk&&xk==0){
-if(Fb[50]&1){
-pass_6c7(Bb,Fb,tk,uk);
-yk=r16(Bb);
-zk=r8(Bb+16);
-Ak=Bb[24];
-Bk=r8(Bb+32);
-Ck=r8(Bb+40);
-memcpy(Db,Bb+25,7);
-Dk=yk;
-Ek=zk;
-Fk=Ak;
-Gk=Bk;
-Hk=Ck;
+gg=0;
+hg=0;
+L60:ig=d+(i64)gg;
+z16(A);
+first_segment_4a3(A,*B,ig,e-gg,hg);
+jg=r8(A);
+z32(y+16);
+if(jg==0)goto L61;
+kg=0;
+L62:lg=ig+(i64)kg;
+mg=jg-kg;
+z48(x);
+ng=r8(B+16);
+og=ng==0;
+pg=r16(B+32);
+if(og&&pg==0){
+if(B[50]&1){
+pass_6c7(x,B,lg,mg);
+qg=r16(x);
+rg=r8(x+16);
+sg=x[24];
+tg=r8(x+32);
+ug=r8(x+40);
+memcpy(z,x+25,7);
+vg=qg;
+wg=rg;
+xg=sg;
+yg=tg;
+zg=ug;
 goto L63;}
-Ik=*Fb;
-Jk=Fb[48];
-if(uk==0)Kk=0;
+Ag=*B;
+Bg=B[48];
+if(mg==0)Cg=0;
 else{
-Lk=Fb[49];
-Mk=Ik+49;
-Nk=Ik==2;
-Ok=0;
-L64:Pk=tk+Ok;
-if(*Pk==95){
-if(Ok==0){
-switch(Jk){
-case 0:Qk=Ik;
+Dg=B[49];
+Eg=Ag+49;
+Fg=Ag==2;
+Gg=0;
+L64:Hg=lg+Gg;
+if(*Hg==95){
+if(Gg==0){
+switch(Bg){
+case 0:Ig=Ag;
 goto L65;
-case 1:if(Nk){
-switch(Lk){
-case 46:case 36:Rk=1;
-Sk=49;
+case 1:if(Fg){
+switch(Dg){
+case 46:case 36:Jg=1;
+Kg=49;
 goto L66;
 default:break;}}
 break;
-case 2:if(Nk){
-switch(Lk){
-case 46:case 36:Rk=1;
-Sk=49;
+case 2:if(Fg){
+switch(Dg){
+case 46:case 36:Jg=1;
+Kg=49;
 goto L66;
 default:break;}}
 break;
 default:NEVER;
 }}
 else{
-Tk=*((u8*)t_e4d8+Pk[-1]);
-if(Mk>Tk){
-if(Tk<=(Ik==0?48:49)){
-Vk=0;
-Wk=0;
-Xk=Ok;
+Lg=*((u8*)t_e4d8+Hg[-1]);
+if(Eg>Lg){
+if(Lg<=(Ag==0?48:49)){
+Ng=0;
+Og=0;
+Pg=Gg;
 goto L67;}
-Uk=place_in_stretch_597(Ik,tk,Ok,Jk);
-Vk=Uk.f1;
-Wk=Uk.f0;
-Xk=Ok;
+Mg=place_in_stretch_597(Ag,lg,Gg,Bg);
+Ng=Mg.f1;
+Og=Mg.f0;
+Pg=Gg;
 goto L67;}}}
-Yk=Ok+1;
-Zk=uk-Yk;
-if(Zk<16)al=0;
+Qg=Gg+1;
+Rg=mg-Qg;
+if(Rg<16)Sg=0;
 else{
-bl=tk+(i64)Yk;
-cl=cttz(v16_eq(v16_at(bl),splat(95)),16);
-if((Zk<32)|(cl<16))al=cl;
+Tg=lg+(i64)Qg;
+Ug=cttz(v16_eq(v16_at(Tg),splat(95)),16);
+if((Rg<32)|(Ug<16))Sg=Ug;
 else{
-dl=cttz(v16_eq(v16_at(bl+16),splat(95)),16);
-if(dl<16)al=dl|16;
+Vg=cttz(v16_eq(v16_at(Tg+16),splat(95)),16);
+if(Vg<16)Sg=Vg|16;
 else{
-if(Zk<=95){
-al=32;
+if(Rg<=95){
+Sg=32;
 goto L68;}
-el=32;
-L69:fl=bl+(i64)el;
-if((((v16_eq(v16_at(fl),splat(95))|v16_eq(v16_at(fl+16),splat(95)))|v16_eq(v16_at(fl+32),splat(95)))|v16_eq(v16_at(fl+48),splat(95)))==0){
-gl=el+64;
-if(Zk-gl>63){
-el=gl;
+Wg=32;
+L69:Xg=Tg+(i64)Wg;
+if((((v16_eq(v16_at(Xg),splat(95))|v16_eq(v16_at(Xg+16),splat(95)))|v16_eq(v16_at(Xg+32),splat(95)))|v16_eq(v16_at(Xg+48),splat(95)))==0){
+Yg=Wg+64;
+if(Rg-Yg>63){
+Wg=Yg;
 goto L69;}
-al=gl;}
-else al=el;}}}
-L68:hl=al+Yk;
-if(hl<uk){
-Ok=hl;
+Sg=Yg;}
+else Sg=Wg;}}}
+L68:Zg=Sg+Qg;
+if(Zg<mg){
+Gg=Zg;
 goto L64;}
-Kk=hl;}
-if(*((u8*)t_e4d8+*(tk+(i64)Kk-1))>(Ik==0?48:49)){
-il=place_in_stretch_597(Ik,tk,Kk,Jk);
-jl=il.f0;
-kl=il.f1;}
+Cg=Zg;}
+if(*((u8*)t_e4d8+*(lg+(i64)Cg-1))>(Ag==0?48:49)){
+ah=place_in_stretch_597(Ag,lg,Cg,Bg);
+bh=ah.f0;
+ch=ah.f1;}
 else{
-jl=0;
-kl=0;}
-if(Kk==0){
-Qk=Ik;
+bh=0;
+ch=0;}
+if(Cg==0){
+Ig=Ag;
 goto L65;}
-Vk=kl;
-Wk=jl;
-Xk=Kk;
-L67:w2(Fb+48,(u16)((u32)Vk<<8)|Wk);
-z7(Db);
-Dk=0;
-Ek=Xk;
-Fk=1;
-Gk=0;
-Hk=0;
+Ng=ch;
+Og=bh;
+Pg=Cg;
+L67:w2(B+48,(u16)((u32)Ng<<8)|Og);
+z7(z);
+vg=0;
+wg=Pg;
+xg=1;
+yg=0;
+zg=0;
 goto L63;}
-Qk=*Fb;
-L65:Rk=Qk==2;
-Sk=Qk==1?50:49;
-L66:if(Sk>*((u8*)t_e4d8+*tk))goto L70;
-ll=0;
-L71:if(uk-ll>15){
-ml=v16_at(tk+ll);
-nl=cttz(v16_ne(ml,splat(36))&(v16_ne(ml,splat(46))&(v16_ne(ml,splat(95))&(v16_ult(v16_add(ml,splat(198)),splat(246))&v16_ult(v16_add(v16_or(ml,splat(32)),splat(133)),splat(230))))),16);
-ol=ll+nl;
-if(nl>=16){
-ll=ol;
+Ig=*B;
+L65:Jg=Ig==2;
+Kg=Ig==1?50:49;
+L66:if(Kg>*((u8*)t_e4d8+*lg))goto L70;
+dh=0;
+L71:if(mg-dh>15){
+eh=v16_at(lg+dh);
+fh=cttz(v16_ne(eh,splat(36))&(v16_ne(eh,splat(46))&(v16_ne(eh,splat(95))&(v16_ult(v16_add(eh,splat(198)),splat(246))&v16_ult(v16_add(v16_or(eh,splat(32)),splat(133)),splat(230))))),16);
+gh=dh+fh;
+if(fh>=16){
+dh=gh;
 goto L71;}
-pl=ol;}
-else pl=ll;
-if(pl>=uk){
-rl=pl;
+hh=gh;}
+else hh=dh;
+if(hh>=mg){
+jh=hh;
 goto L72;}
-ql=pl;
-L73:if(Sk>*((u8*)t_e4d8+*(tk+ql)))rl=ql;
+ih=hh;
+L73:if(Kg>*((u8*)t_e4d8+*(lg+ih)))jh=ih;
 else{
-sl=ql+1;
-if(sl!=uk){
-ql=sl;
+kh=ih+1;
+if(kh!=mg){
+ih=kh;
 goto L73;}
-rl=uk;}
-L72:if(rl==0)goto L70;
-tl=rl;
-L74:if(tl==0){
-w16(Fb+32,xk+rl);
-ul=0;
-vl=0;}
+jh=mg;}
+L72:if(jh==0)goto L70;
+lh=jh;
+L74:if(lh==0){
+w16(B+32,pg+jh);
+mh=0;
+nh=0;}
 else{
-wl=tl-1;
-if(*(tk+wl)==46){
-tl=wl;
+oh=lh-1;
+if(*(lg+oh)==46){
+lh=oh;
 goto L74;}
-if(xk+tl>65536-vk){
-xl=rp(Fb+8);
-yl=r8(Hb+16);
-zl=r8(Hb+8);
-if(vk>yl-zl){
-Al=grow_amortized_2b6(Hb,vk);
-if(!Al)goto L75;
-Bl=r8(Hb+16);
-Cl=r8(Hb+8);}
+if(pg+lh>65536-ng){
+ph=rp(B+8);
+qh=r8(D+16);
+rh=r8(D+8);
+if(ng>qh-rh){
+sh=grow_amortized_2b6(D,ng);
+if(!sh)goto L75;
+th=r8(D+16);
+uh=r8(D+8);}
 else{
-Bl=yl;
-Cl=zl;}
-Dl=Cl+vk;
-El=rp(Hb);
-z16(Hb+8);
-Fl=El+(i64)Cl;
-if((u64)Fl-(u64)xl<vk){
-copy_bits_4f4(xl,Fl,vk);
-w8(Hb+8,Dl);
-w8(Hb+16,Bl);}
+th=qh;
+uh=rh;}
+vh=uh+ng;
+wh=rp(D);
+z16(D+8);
+xh=wh+(i64)uh;
+if((u64)xh-(u64)ph<ng){
+copy_bits_4f4(ph,xh,ng);
+w8(D+8,vh);
+w8(D+16,th);}
 else{
-memmove(Fl,xl,vk);
-w8(Hb+8,Dl);
-w8(Hb+16,Bl);
-if(wk)goto L76;}
-w8(Fb+16,0);
-L76:w16(Fb+32,0);
-Fb[50]=1;
-ul=xk;
-vl=1;}
+memmove(xh,ph,ng);
+w8(D+8,vh);
+w8(D+16,th);
+if(og)goto L76;}
+w8(B+16,0);
+L76:w16(B+32,0);
+B[50]=1;
+mh=pg;
+nh=1;}
 else{
-Gl=xk;
-Hl=vk+Gl;
-if(Hl>vk){
-Il=r8(Fb+24);
-if(Il-vk<Gl){
-Jl=grow_amortized_2b6(Fb+8,Gl);
-if(!Jl)goto L75;
-Kl=r8(Fb+16);
-Ll=Kl+Gl;
-Ml=r8(Fb+24);
-Nl=Kl;}
+yh=pg;
+zh=ng+yh;
+if(zh>ng){
+Ah=r8(B+24);
+if(Ah-ng<yh){
+Bh=grow_amortized_2b6(B+8,yh);
+if(!Bh)goto L75;
+Ch=r8(B+16);
+Dh=Ch+yh;
+Eh=r8(B+24);
+Fh=Ch;}
 else{
-Ll=Hl;
-Ml=Il;
-Nl=vk;}
-if(Nl<Ll)memset(rp(Fb+8)+(i64)Nl,46,Gl);
-w8(Fb+16,Ll);
-w8(Fb+24,Ml);
-Ol=Ll;}
+Dh=zh;
+Eh=Ah;
+Fh=ng;}
+if(Fh<Dh)memset(rp(B+8)+(i64)Fh,46,yh);
+w8(B+16,Dh);
+w8(B+24,Eh);
+Gh=Dh;}
 else{
-if(vk>Hl){
-w8(Fb+16,Hl);
-Ol=Hl;}
-else Ol=vk;}
-Pl=r8(Fb+24);
-if(tl>Pl-Ol){
-Ql=grow_amortized_2b6(Fb+8,tl);
-if(!Ql)goto L75;
-Rl=r8(Fb+24);
-Sl=r8(Fb+16);}
+if(ng>zh){
+w8(B+16,zh);
+Gh=zh;}
+else Gh=ng;}
+Hh=r8(B+24);
+if(lh>Hh-Gh){
+Ih=grow_amortized_2b6(B+8,lh);
+if(!Ih)goto L75;
+Jh=r8(B+24);
+Kh=r8(B+16);}
 else{
-Rl=Pl;
-Sl=Ol;}
-Tl=Sl+tl;
-Ul=rp(Fb+8)+(i64)Sl;
-if((u64)Ul-(u64)tk<tl)copy_bits_4f4(tk,Ul,tl);
-else memmove(Ul,tk,tl);
-w8(Fb+16,Tl);
-w8(Fb+24,Rl);
-w16(Fb+32,rl-tl);
-ul=0;
-vl=0;}}
-z7(Db);
-Dk=ul;
-Ek=rl;
-Fk=vl;
-Gk=0;
-Hk=0;
+Jh=Hh;
+Kh=Gh;}
+Lh=Kh+lh;
+Mh=rp(B+8)+(i64)Kh;
+if((u64)Mh-(u64)lg<lh)copy_bits_4f4(lg,Mh,lh);
+else memmove(Mh,lg,lh);
+w8(B+16,Lh);
+w8(B+24,Jh);
+w16(B+32,jh-lh);
+mh=0;
+nh=0;}}
+z7(z);
+vg=mh;
+wg=jh;
+xg=nh;
+yg=0;
+zg=0;
 goto L63;
-L70:z48(Ab);
-if(!Rk){
-Xl=rp(Fb+8);
-if(vk-65537>=0xffffffffffff0001u){
-Yl=*Xl==95;
-if(vk==2){
-if(!Yl)goto L77;
-switch(Xl[1]){
-case 90:Zl=0;
+L70:z48(w);
+if(!Jg){
+Ph=rp(B+8);
+if(ng-65537>=0xffffffffffff0001u){
+Qh=*Ph==95;
+if(ng==2){
+if(!Qh)goto L77;
+switch(Ph[1]){
+case 90:Rh=0;
 goto L78;
 case 82:break;
 default:goto L77;
 }}
 else{
-if(!Yl)goto L77;
-switch(Xl[1]){
-case 90:Zl=0;
+if(!Qh)goto L77;
+switch(Ph[1]){
+case 90:Rh=0;
 goto L78;
 case 82:break;
-case 95:switch(Xl[2]){
-case 90:Zl=0x100000000u;
+case 95:switch(Ph[2]){
+case 90:Rh=0x100000000u;
 goto L78;
-case 82:Zl=0x100000001u;
+case 82:Rh=0x100000001u;
 goto L78;
 default:goto L77;
 }
 break;
 default:goto L77;
 }}
-Zl=1;
-L78:am=Zl>>32;
-z12(zb);
-append_5ae(zb,Mb,Gb,Zl,Xl+(i64)am,vk-am,Hb);
-if(*zb!=0){
-if(zb[4]!=4){
-dm=r8(Hb+16);
-em=r8(Hb+8);
-if(vk>dm-em){
-fm=grow_amortized_2b6(Hb,vk);
-if(!fm)goto L79;
-gm=r8(Hb+16);
-hm=r8(Hb+8);}
+Rh=1;
+L78:Sh=Rh>>32;
+z12(v);
+append_5ae(v,I,C,Rh,Ph+(i64)Sh,ng-Sh,D);
+if(*v!=0){
+if(v[4]!=4){
+Vh=r8(D+16);
+Wh=r8(D+8);
+if(ng>Vh-Wh){
+Xh=grow_amortized_2b6(D,ng);
+if(!Xh)goto L79;
+Yh=r8(D+16);
+Zh=r8(D+8);}
 else{
-gm=dm;
-hm=em;}
-im=hm+vk;
-jm=rp(Hb)+(i64)hm;
-if((u64)jm-(u64)Xl<vk)copy_bits_4f4(Xl,jm,vk);
-else memmove(jm,Xl,vk);
-w8(Hb+8,im);
-w8(Hb+16,gm);
-bm=vk;
-cm=16;
+Yh=Vh;
+Zh=Wh;}
+ai=Zh+ng;
+bi=rp(D)+(i64)Zh;
+if((u64)bi-(u64)Ph<ng)copy_bits_4f4(Ph,bi,ng);
+else memmove(bi,Ph,ng);
+w8(D+8,ai);
+w8(D+16,Yh);
+Th=ng;
+Uh=16;
 goto L80;}
 L79:goto L81;}
-bm=0;
-cm=8;
-L80:w8(Fb+56,uadd64(r8(Fb+56),1));
-km=Fb+56+(i64)cm;
-w8(km,uadd64(r8(km),1));
-lm=bm;
+Th=0;
+Uh=8;
+L80:w8(B+56,uadd64(r8(B+56),1));
+ci=B+56+(i64)Uh;
+w8(ci,uadd64(r8(ci),1));
+di=Th;
 goto L82;}
-L77:mm=r8(Hb+16);
-nm=r8(Hb+8);
-if(vk>mm-nm){
-om=grow_amortized_2b6(Hb,vk);
-if(!om)goto L81;
-pm=r8(Hb+16);
-qm=r8(Hb+8);}
+L77:ei=r8(D+16);
+fi=r8(D+8);
+if(ng>ei-fi){
+gi=grow_amortized_2b6(D,ng);
+if(!gi)goto L81;
+hi=r8(D+16);
+ii=r8(D+8);}
 else{
-pm=mm;
-qm=nm;}
-rm=qm+vk;
-sm=rp(Hb);
-z16(Hb+8);
-tm=sm+(i64)qm;
-if((u64)tm-(u64)Xl<vk){
-copy_bits_4f4(Xl,tm,vk);
-w8(Hb+8,rm);
-w8(Hb+16,pm);
-lm=0;}
+hi=ei;
+ii=fi;}
+ji=ii+ng;
+ki=rp(D);
+z16(D+8);
+li=ki+(i64)ii;
+if((u64)li-(u64)Ph<ng){
+copy_bits_4f4(Ph,li,ng);
+w8(D+8,ji);
+w8(D+16,hi);
+di=0;}
 else{
-memmove(tm,Xl,vk);
-w8(Hb+8,rm);
-w8(Hb+16,pm);
-if(wk){
-um=0;
+memmove(li,Ph,ng);
+w8(D+8,ji);
+w8(D+16,hi);
+if(og){
+mi=0;
 goto L83;}
-lm=0;}
-L82:w8(Fb+16,0);
-um=lm;
-L83:z18(Fb+32);
-Vl=xk;
-Wl=um;
+di=0;}
+L82:w8(B+16,0);
+mi=di;
+L83:z18(B+32);
+Nh=pg;
+Oh=mi;
 goto L84;}
-end_within_69d(Ab,Fb,Mb,Gb,Hb);
-if(*Ab==0){
-Vl=r16(Ab+16);
-Wl=r8(Ab+32);
+end_within_69d(w,B,I,C,D);
+if(*w==0){
+Nh=r16(w+16);
+Oh=r8(w+32);
 goto L84;}
 L81:goto L75;
-L84:z7(Db);
-Dk=Vl;
-Ek=1;
-Fk=1;
-Gk=Wl;
-Hk=0;
+L84:z7(z);
+vg=Nh;
+wg=1;
+xg=1;
+yg=Oh;
+zg=0;
 goto L63;
 L75:goto L85;
-L63:w16(Cb,Dk);
-w8(Cb+16,Ek);
-Cb[24]=Fk;
-memcpy(Cb+25,Db,7);
-w8(Cb+32,Gk);
-w8(Cb+40,Hk);
-vm=r8(Hb+8);
-wm=r8(Ib+32);
-if(wm<=(vm^18446744073709551615u)){
-xm=wm+vm;
-if(xm<=r8(Ib+24)){
-ym=rp(Hb);
-zm=r8(Ib+16);
-Am=r8(Ib+8);
-if(vm>zm-Am){
-Bm=grow_amortized_2b6(Ib,vm);
-if(!Bm)goto L85;
-Cm=r8(Ib+16);
-Dm=r8(Ib+8);}
+L63:w16(y,vg);
+w8(y+16,wg);
+y[24]=xg;
+memcpy(y+25,z,7);
+w8(y+32,yg);
+w8(y+40,zg);
+ni=r8(D+8);
+oi=r8(E+32);
+if(oi<=(ni^18446744073709551615u)){
+pi=oi+ni;
+if(pi<=r8(E+24)){
+qi=rp(D);
+ri=r8(E+16);
+si=r8(E+8);
+if(ni>ri-si){
+ti=grow_amortized_2b6(E,ni);
+if(!ti)goto L85;
+ui=r8(E+16);
+vi=r8(E+8);}
 else{
-Cm=zm;
-Dm=Am;}
-Em=Dm+vm;
-Fm=rp(Ib)+(i64)Dm;
-if((u64)Fm-(u64)ym<vm)copy_bits_4f4(ym,Fm,vm);
-else memmove(Fm,ym,vm);
-w8(Ib+8,Em);
-w8(Ib+16,Cm);}
-w8(Ib+32,xm);
-if(vm!=0)w8(Hb+8,0);
-Gm=add_following_166(Ib,Cb,tk,Ek);
-if(!(Gm&1)){
-Hm=Ek+sk;
-if(Hm>=rk)goto L61;
-sk=Hm;
+ui=ri;
+vi=si;}
+wi=vi+ni;
+xi=rp(E)+(i64)vi;
+if((u64)xi-(u64)qi<ni)copy_bits_4f4(qi,xi,ni);
+else memmove(xi,qi,ni);
+w8(E+8,wi);
+w8(E+16,ui);}
+w8(E+32,pi);
+if(ni!=0)w8(D+8,0);
+yi=add_following_166(E,y,lg,wg);
+if(!(yi&1)){
+zi=wg+kg;
+if(zi>=jg)goto L61;
+kg=zi;
 goto L62;}}
 L85:goto L86;
-L61:Im=Eb[9];
-if(Eb[8]&1){
-Jm=end_segment_bdb(Mb,Gb,Fb,Hb,Ib);
-if(Jm!=0)goto L86;}
-Km=rk+ok;
-if(Km>=e)goto L87;
-ok=Km;
-pk=Im;
+L61:Ai=A[9];
+if(A[8]&1){
+Bi=end_segment_bdb(I,C,B,D,E);
+if(Bi!=0)goto L86;}
+Ci=jg+gg;
+if(Ci>=e)goto L87;
+gg=Ci;
+hg=Ai;
 goto L60;
-L86:if(r8(Ib+16)!=0)port_rattle_dealloc(rp(Ib));
-if(r8(Hb+16)!=0)port_rattle_dealloc(rp(Hb));
-memcpy(Jb,Gb,1944);
-drop_1dd(Jb);
-if(r8(Fb+24)==0)goto L88;
+L86:if(r8(E+16)!=0)port_rattle_dealloc(rp(E));
+if(r8(D+16)!=0)port_rattle_dealloc(rp(D));
+memcpy(F,C,1544);
+drop_1dd(F);
+if(r8(B+24)==0)goto L88;
 goto L89;}
-L87:Lm=end_segment_bdb(Mb,Gb,Fb,Hb,Ib);
-if(!(Lm&1)){
-Mm=rp(Ib);
-Nm=r8(Ib+8);
-Om=r8(Ib+16);
-Pm=r8(Ib+32);
-Qm=r8(Fb+56);
-Rm=r8(Fb+64);
-Sm=r8(Fb+72);
-if(r8(Hb+16)!=0)port_rattle_dealloc(rp(Hb));
-memcpy(Lb,Gb,1944);
-drop_1dd(Lb);
-if(r8(Fb+24)!=0)port_rattle_dealloc(rp(Fb+8));
-if(g<Pm){
-Tm=6;
-Um=Pm;}
+L87:Di=end_segment_bdb(I,C,B,D,E);
+if(!(Di&1)){
+Ei=rp(E);
+Fi=r8(E+8);
+Gi=r8(E+16);
+Hi=r8(E+32);
+Ii=r8(B+56);
+Ji=r8(B+64);
+Ki=r8(B+72);
+if(r8(D+16)!=0)port_rattle_dealloc(rp(D));
+memcpy(H,C,1544);
+drop_1dd(H);
+if(r8(B+24)!=0)port_rattle_dealloc(rp(B+8));
+if(g<Hi){
+Li=6;
+Mi=Hi;}
 else{
-if(g<Nm){
-Tm=6;
-Um=Nm;}
+if(g<Fi){
+Li=6;
+Mi=Fi;}
 else{
-if((u64)f-(u64)Mm<Nm)copy_bits_4f4(Mm,f,Nm);
-else memmove(f,Mm,Nm);
-w8(h,Qm);
-w8(h+8,Rm);
-w8(h+16,Sm);
-Tm=0;
-Um=Nm;}}
-if(Om==0){
-Vm=Um;
-Wm=Tm;
+if((u64)f-(u64)Ei<Fi)copy_bits_4f4(Ei,f,Fi);
+else memmove(f,Ei,Fi);
+w8(h,Ii);
+w8(h+8,Ji);
+w8(h+16,Ki);
+Li=0;
+Mi=Fi;}}
+if(Gi==0){
+Ni=Mi;
+Oi=Li;
 goto L90;}
-port_rattle_dealloc(Mm);
-Vm=Um;
-Wm=Tm;
+port_rattle_dealloc(Ei);
+Ni=Mi;
+Oi=Li;
 goto L90;}
-if(r8(Ib+16)!=0)port_rattle_dealloc(rp(Ib));
-if(r8(Hb+16)!=0)port_rattle_dealloc(rp(Hb));
-memcpy(Kb,Gb,1944);
-drop_1dd(Kb);
-if(r8(Fb+24)==0)goto L88;
-L89:port_rattle_dealloc(rp(Fb+8));
-L88:Vm=0;
-Wm=5;}
+if(r8(E+16)!=0)port_rattle_dealloc(rp(E));
+if(r8(D+16)!=0)port_rattle_dealloc(rp(D));
+memcpy(G,C,1544);
+drop_1dd(G);
+if(r8(B+24)==0)goto L88;
+L89:port_rattle_dealloc(rp(B+8));
+L88:Ni=0;
+Oi=5;}
 else{
-w8(Nb,r8(Mb));
-Nb[8]=we&1;
-Nb[9]=ye;
-*r=ze;
+w8(J,r8(I));
+J[8]=ma&1;
+J[9]=oa;
+zero_all(s+1512,144);
+z24(t);
+z40(u);
+*r=pa;
 z7(r+1);
 wp(r+8,(u8*)65536);
 z64(r+16);
-Xm=(u64)(u8*)65536;
-z32(qb);
-z40(rb);
-z32(sb);
-z16(tb);
-z48(ub);
-z32(vb);
-z16(wb);
-z16(xb);
-z16(yb);
-z24(xa);
-z16(ya);
-z32(za);
-z16(Aa);
-z32(Ba);
-z80(Ca);
-z16(Da);
-z40(Ea);
-z16(Fa);
-z16(Ga);
-z16(Ha);
-z16(Ia);
-z16(Ja);
-z48(Ka);
-z32(La);
-z32(Ma);
-z104(Na);
-z40(Oa);
-z16(Pa);
-z32(Qa);
-z24(Ra);
-z16(Sa);
-z32(Ta);
-z16(Ua);
-z24(Va);
-z16(Wa);
-z16(Xa);
-z40(Ya);
-z16(Za);
-z16(ab);
-z16(bb);
-z16(cb);
-z16(db);
-z48(eb);
-z32(fb);
-z40(gb);
-z32(hb);
-z16(ib);
-z48(jb);
-z40(kb);
-z16(lb);
-z32(mb);
-z32(nb);
-z32(ob);
-z104(pb);
-memcpy(v,xa,24);
-memcpy(w,ya,16);
-memcpy(x,za,32);
-memcpy(y,Aa,16);
-memcpy(z,Ba,32);
-memcpy(A,Ca,80);
-memcpy(B,Da,16);
-memcpy(C,Ea,40);
-memcpy(D,Fa,16);
-memcpy(E,Ga,16);
-memcpy(F,Ha,16);
-memcpy(G,Ia,16);
-memcpy(H,Ja,16);
-memcpy(I,Ka,48);
-memcpy(J,La,32);
-memcpy(K,Ma,32);
-memcpy(L,Na,104);
-memcpy(M,Oa,40);
-memcpy(N,Pa,16);
-memcpy(O,Qa,32);
-memcpy(P,Ra,24);
-memcpy(Q,Sa,16);
-memcpy(R,Ta,32);
-memcpy(S,Ua,16);
-memcpy(T,Va,24);
-memcpy(U,Wa,16);
-memcpy(V,Xa,16);
-memcpy(W,Ya,40);
-memcpy(X,Za,16);
-memcpy(Y,ab,16);
-memcpy(Z,bb,16);
-memcpy(aa,cb,16);
-memcpy(ba,db,16);
-memcpy(ca,eb,48);
-memcpy(da,fb,32);
-memcpy(ea,gb,40);
-memcpy(fa,hb,32);
-memcpy(ga,ib,16);
-memcpy(ha,jb,48);
-memcpy(ia,kb,40);
-memcpy(ja,lb,16);
-memcpy(ka,mb,32);
-memcpy(la,nb,32);
-memcpy(ma,ob,32);
-memcpy(na,pb,104);
-memcpy(oa,qb,32);
-memcpy(pa,rb,40);
-memcpy(qa,sb,32);
-memcpy(ra,tb,16);
-memcpy(sa,ub,48);
-memcpy(ta,vb,32);
-memcpy(ua,wb,16);
-memcpy(va,xb,16);
-memcpy(wa,yb,16);
+Pi=(u64)(u8*)65536;
 wp(s,(u8*)65536);
-memcpy(s+8,v,24);
+z24(s+8);
 wp(s+32,(u8*)65536);
-memcpy(s+40,w,16);
+z16(s+40);
 wp(s+56,(u8*)65536);
-memcpy(s+64,x,32);
+z32(s+64);
 wp(s+96,(u8*)65536);
-memcpy(s+104,y,16);
+z16(s+104);
 wp(s+120,(u8*)65536);
-memcpy(s+128,z,32);
+z32(s+128);
 wp(s+160,(u8*)65536);
-memcpy(s+168,A,80);
+z80(s+168);
 wp(s+248,(u8*)65536);
-memcpy(s+256,B,16);
+z16(s+256);
 wp(s+272,(u8*)65536);
-memcpy(s+280,C,40);
+z40(s+280);
 wp(s+320,(u8*)65536);
-memcpy(s+328,D,16);
+z16(s+328);
 wp(s+344,(u8*)65536);
-memcpy(s+352,E,16);
+z16(s+352);
 wp(s+368,(u8*)65536);
-memcpy(s+376,F,16);
+z16(s+376);
 wp(s+392,(u8*)65536);
-memcpy(s+400,G,16);
+z16(s+400);
 wp(s+416,(u8*)65536);
-memcpy(s+424,H,16);
+z16(s+424);
 wp(s+440,(u8*)65536);
-memcpy(s+448,I,48);
+z48(s+448);
 wp(s+496,(u8*)65536);
-memcpy(s+504,J,32);
+z32(s+504);
 wp(s+536,(u8*)65536);
-memcpy(s+544,K,32);
+z32(s+544);
 wp(s+576,(u8*)65536);
-memcpy(s+584,L,104);
-w8(s+688,Xm);
-memcpy(s+696,M,40);
-w8(s+736,Xm);
-memcpy(s+744,N,16);
+z104(s+584);
+w8(s+688,Pi);
+z40(s+696);
+w8(s+736,Pi);
+z16(s+744);
 wp(s+760,(u8*)65536);
-memcpy(s+768,O,32);
+z32(s+768);
 wp(s+800,(u8*)65536);
-memcpy(s+808,P,24);
+z24(s+808);
 wp(s+832,(u8*)65536);
-memcpy(s+840,Q,16);
+z16(s+840);
 wp(s+856,(u8*)65536);
-memcpy(s+864,R,32);
+z32(s+864);
 wp(s+896,(u8*)65536);
-memcpy(s+904,S,16);
+z16(s+904);
 wp(s+920,(u8*)65536);
-memcpy(s+928,T,24);
+z24(s+928);
 wp(s+952,(u8*)65536);
-memcpy(s+960,U,16);
+z16(s+960);
 wp(s+976,(u8*)65536);
-memcpy(s+984,V,16);
+z16(s+984);
 wp(s+1000,(u8*)65536);
-memcpy(s+1008,W,40);
+z40(s+1008);
 wp(s+1048,(u8*)65536);
-memcpy(s+1056,X,16);
+z16(s+1056);
 wp(s+1072,(u8*)65536);
-memcpy(s+1080,Y,16);
+z16(s+1080);
 wp(s+1096,(u8*)65536);
-memcpy(s+1104,Z,16);
+z16(s+1104);
 wp(s+1120,(u8*)65536);
-memcpy(s+1128,aa,16);
+z16(s+1128);
 wp(s+1144,(u8*)65536);
-memcpy(s+1152,ba,16);
+z16(s+1152);
 wp(s+1168,(u8*)65536);
-memcpy(s+1176,ca,48);
+z48(s+1176);
 wp(s+1224,(u8*)65536);
-memcpy(s+1232,da,32);
+z32(s+1232);
 wp(s+1264,(u8*)65536);
-memcpy(s+1272,ea,40);
+z40(s+1272);
 wp(s+1312,(u8*)65536);
-memcpy(s+1320,fa,32);
+z32(s+1320);
 wp(s+1352,(u8*)65536);
-memcpy(s+1360,ga,16);
+z16(s+1360);
 wp(s+1376,(u8*)65536);
-memcpy(s+1384,ha,48);
-w8(s+1432,Xm);
-memcpy(s+1440,ia,40);
-w8(s+1480,Xm);
-memcpy(s+1488,ja,16);
+z48(s+1384);
+w8(s+1432,Pi);
+z40(s+1440);
+w8(s+1480,Pi);
+z16(s+1488);
 wp(s+1504,(u8*)65536);
-memcpy(s+1512,ka,32);
+z32(s+1512);
 wp(s+1544,(u8*)65536);
-memcpy(s+1552,la,32);
+z32(s+1552);
 wp(s+1584,(u8*)65536);
-memcpy(s+1592,ma,32);
-wp(s+1624,(u8*)65536);
-memcpy(s+1632,na,104);
-wp(s+1736,(u8*)65536);
-memcpy(s+1744,oa,32);
-wp(s+1776,(u8*)65536);
-memcpy(s+1784,pa,40);
-wp(s+1824,(u8*)65536);
-memcpy(s+1832,qa,32);
-wp(s+1864,(u8*)65536);
-memcpy(s+1872,ra,16);
-wp(s+1888,(u8*)65536);
-memcpy(s+1896,sa,48);
-wp(s+1944,(u8*)65536);
-memcpy(s+1952,ta,32);
-wp(s+1984,(u8*)65536);
-memcpy(s+1992,ua,16);
-wp(s+2008,(u8*)65536);
-memcpy(s+2016,va,16);
-wp(s+2032,(u8*)65536);
-memcpy(s+2040,wa,16);
+z16(s+1592);
+wp(s+1608,(u8*)65536);
+z16(s+1616);
+wp(s+1632,(u8*)65536);
+z16(s+1640);
 wp(t,(u8*)65536);
 z16(t+8);
 wp(u,(u8*)65536);
@@ -115610,490 +114819,490 @@ z16(u+8);
 w8(u+24,g);
 w8(u+32,0);
 if(e!=0){
-Ym=0;
-Zm=0;
-L91:an=d+(i64)Ym;
+Qi=0;
+Ri=0;
+L91:Si=d+(i64)Qi;
 z16(q);
-first_segment_4a3(q,*r,an,e-Ym,Zm);
-bn=r8(q);
+first_segment_4a3(q,*r,Si,e-Qi,Ri);
+Ti=r8(q);
 z32(o+16);
-if(bn==0)goto L92;
-cn=0;
-L93:dn=an+(i64)cn;
-en=bn-cn;
+if(Ti==0)goto L92;
+Ui=0;
+L93:Vi=Si+(i64)Ui;
+Wi=Ti-Ui;
 z48(n);
-fn=r8(r+16);
-gn=fn==0;
-hn=r16(r+32);
-if(gn&&hn==0){
+Xi=r8(r+16);
+Yi=Xi==0;
+Zi=r16(r+32);
+if(Yi&&Zi==0){
 if(r[50]&1){
-pass_6c7(n,r,dn,en);
-in=r16(n);
-jn=r8(n+16);
-kn=n[24];
-ln=r8(n+32);
-mn=r8(n+40);
+pass_6c7(n,r,Vi,Wi);
+aj=r16(n);
+bj=r8(n+16);
+cj=n[24];
+dj=r8(n+32);
+ej=r8(n+40);
 memcpy(p,n+25,7);
-nn=in;
-on=jn;
-pn=kn;
-qn=ln;
-rn=mn;
+fj=aj;
+gj=bj;
+hj=cj;
+ij=dj;
+jj=ej;
 goto L94;}
-sn=*r;
-tn=r[48];
-if(en==0)un=0;
+kj=*r;
+lj=r[48];
+if(Wi==0)mj=0;
 else{
-vn=r[49];
-wn=sn+49;
-xn=sn==2;
-yn=0;
-L95:zn=dn+yn;
-if(*zn==95){
-if(yn==0){
-switch(tn){
-case 0:An=sn;
+nj=r[49];
+oj=kj+49;
+pj=kj==2;
+qj=0;
+L95:rj=Vi+qj;
+if(*rj==95){
+if(qj==0){
+switch(lj){
+case 0:sj=kj;
 goto L96;
-case 1:if(xn){
-switch(vn){
-case 46:case 36:Bn=1;
-Cn=49;
+case 1:if(pj){
+switch(nj){
+case 46:case 36:tj=1;
+uj=49;
 goto L97;
 default:break;}}
 break;
-case 2:if(xn){
-switch(vn){
-case 46:case 36:Bn=1;
-Cn=49;
+case 2:if(pj){
+switch(nj){
+case 46:case 36:tj=1;
+uj=49;
 goto L97;
 default:break;}}
 break;
 default:NEVER;
 }}
 else{
-Dn=*((u8*)t_e4d8+zn[-1]);
-if(wn>Dn){
-if(Dn<=(sn==0?48:49)){
-Fn=0;
-Gn=0;
-Hn=yn;
+vj=*((u8*)t_e4d8+rj[-1]);
+if(oj>vj){
+if(vj<=(kj==0?48:49)){
+xj=0;
+yj=0;
+zj=qj;
 goto L98;}
-En=place_in_stretch_597(sn,dn,yn,tn);
-Fn=En.f1;
-Gn=En.f0;
-Hn=yn;
+wj=place_in_stretch_597(kj,Vi,qj,lj);
+xj=wj.f1;
+yj=wj.f0;
+zj=qj;
 goto L98;}}}
-In=yn+1;
-Jn=en-In;
-if(Jn<16)Kn=0;
+Aj=qj+1;
+Bj=Wi-Aj;
+if(Bj<16)Cj=0;
 else{
-Ln=dn+(i64)In;
-Mn=cttz(v16_eq(v16_at(Ln),splat(95)),16);
-if((Jn<32)|(Mn<16))Kn=Mn;
+Dj=Vi+(i64)Aj;
+Ej=cttz(v16_eq(v16_at(Dj),splat(95)),16);
+if((Bj<32)|(Ej<16))Cj=Ej;
 else{
-Nn=cttz(v16_eq(v16_at(Ln+16),splat(95)),16);
-if(Nn<16)Kn=Nn|16;
+Fj=cttz(v16_eq(v16_at(Dj+16),splat(95)),16);
+if(Fj<16)Cj=Fj|16;
 else{
-if(Jn<=95){
-Kn=32;
+if(Bj<=95){
+Cj=32;
 goto L99;}
-On=32;
-L100:Pn=Ln+(i64)On;
-if((((v16_eq(v16_at(Pn),splat(95))|v16_eq(v16_at(Pn+16),splat(95)))|v16_eq(v16_at(Pn+32),splat(95)))|v16_eq(v16_at(Pn+48),splat(95)))==0){
-Qn=On+64;
-if(Jn-Qn>63){
-On=Qn;
+Gj=32;
+L100:Hj=Dj+(i64)Gj;
+if((((v16_eq(v16_at(Hj),splat(95))|v16_eq(v16_at(Hj+16),splat(95)))|v16_eq(v16_at(Hj+32),splat(95)))|v16_eq(v16_at(Hj+48),splat(95)))==0){
+Ij=Gj+64;
+if(Bj-Ij>63){
+Gj=Ij;
 goto L100;}
-Kn=Qn;}
-else Kn=On;}}}
-L99:Rn=Kn+In;
-if(Rn<en){
-yn=Rn;
+Cj=Ij;}
+else Cj=Gj;}}}
+L99:Jj=Cj+Aj;
+if(Jj<Wi){
+qj=Jj;
 goto L95;}
-un=Rn;}
-if(*((u8*)t_e4d8+*(dn+(i64)un-1))>(sn==0?48:49)){
-Sn=place_in_stretch_597(sn,dn,un,tn);
-Tn=Sn.f0;
-Un=Sn.f1;}
+mj=Jj;}
+if(*((u8*)t_e4d8+*(Vi+(i64)mj-1))>(kj==0?48:49)){
+Kj=place_in_stretch_597(kj,Vi,mj,lj);
+Lj=Kj.f0;
+Mj=Kj.f1;}
 else{
-Tn=0;
-Un=0;}
-if(un==0){
-An=sn;
+Lj=0;
+Mj=0;}
+if(mj==0){
+sj=kj;
 goto L96;}
-Fn=Un;
-Gn=Tn;
-Hn=un;
-L98:w2(r+48,(u16)((u32)Fn<<8)|Gn);
+xj=Mj;
+yj=Lj;
+zj=mj;
+L98:w2(r+48,(u16)((u32)xj<<8)|yj);
 z7(p);
-nn=0;
-on=Hn;
-pn=1;
-qn=0;
-rn=0;
+fj=0;
+gj=zj;
+hj=1;
+ij=0;
+jj=0;
 goto L94;}
-An=*r;
-L96:Bn=An==2;
-Cn=An==1?50:49;
-L97:if(Cn>*((u8*)t_e4d8+*dn))goto L101;
-Vn=0;
-L102:if(en-Vn>15){
-Wn=v16_at(dn+Vn);
-Xn=cttz(v16_ne(Wn,splat(36))&(v16_ne(Wn,splat(46))&(v16_ne(Wn,splat(95))&(v16_ult(v16_add(Wn,splat(198)),splat(246))&v16_ult(v16_add(v16_or(Wn,splat(32)),splat(133)),splat(230))))),16);
-Yn=Vn+Xn;
-if(Xn>=16){
-Vn=Yn;
+sj=*r;
+L96:tj=sj==2;
+uj=sj==1?50:49;
+L97:if(uj>*((u8*)t_e4d8+*Vi))goto L101;
+Nj=0;
+L102:if(Wi-Nj>15){
+Oj=v16_at(Vi+Nj);
+Pj=cttz(v16_ne(Oj,splat(36))&(v16_ne(Oj,splat(46))&(v16_ne(Oj,splat(95))&(v16_ult(v16_add(Oj,splat(198)),splat(246))&v16_ult(v16_add(v16_or(Oj,splat(32)),splat(133)),splat(230))))),16);
+Qj=Nj+Pj;
+if(Pj>=16){
+Nj=Qj;
 goto L102;}
-Zn=Yn;}
-else Zn=Vn;
-if(Zn>=en){
-bo=Zn;
+Rj=Qj;}
+else Rj=Nj;
+if(Rj>=Wi){
+Tj=Rj;
 goto L103;}
-ao=Zn;
-L104:if(Cn>*((u8*)t_e4d8+*(dn+ao)))bo=ao;
+Sj=Rj;
+L104:if(uj>*((u8*)t_e4d8+*(Vi+Sj)))Tj=Sj;
 else{
-co=ao+1;
-if(co!=en){
-ao=co;
+Uj=Sj+1;
+if(Uj!=Wi){
+Sj=Uj;
 goto L104;}
-bo=en;}
-L103:if(bo==0)goto L101;
-eo=bo;
-L105:if(eo==0){
-w16(r+32,hn+bo);
-fo=0;
-go=0;}
+Tj=Wi;}
+L103:if(Tj==0)goto L101;
+Vj=Tj;
+L105:if(Vj==0){
+w16(r+32,Zi+Tj);
+Wj=0;
+Xj=0;}
 else{
-ho=eo-1;
-if(*(dn+ho)==46){
-eo=ho;
+Yj=Vj-1;
+if(*(Vi+Yj)==46){
+Vj=Yj;
 goto L105;}
-if(hn+eo>65536-fn){
-io=rp(r+8);
-jo=r8(t+16);
-ko=r8(t+8);
-if(fn>jo-ko){
-lo=grow_amortized_2b6(t,fn);
-if(!lo)goto L106;
-mo=r8(t+16);
-no=r8(t+8);}
+if(Zi+Vj>65536-Xi){
+Zj=rp(r+8);
+ak=r8(t+16);
+bk=r8(t+8);
+if(Xi>ak-bk){
+ck=grow_amortized_2b6(t,Xi);
+if(!ck)goto L106;
+dk=r8(t+16);
+ek=r8(t+8);}
 else{
-mo=jo;
-no=ko;}
-oo=no+fn;
-po=rp(t);
+dk=ak;
+ek=bk;}
+fk=ek+Xi;
+gk=rp(t);
 z16(t+8);
-qo=po+(i64)no;
-if((u64)qo-(u64)io<fn){
-copy_bits_4f4(io,qo,fn);
-w8(t+8,oo);
-w8(t+16,mo);}
+hk=gk+(i64)ek;
+if((u64)hk-(u64)Zj<Xi){
+copy_bits_4f4(Zj,hk,Xi);
+w8(t+8,fk);
+w8(t+16,dk);}
 else{
-memmove(qo,io,fn);
-w8(t+8,oo);
-w8(t+16,mo);
-if(gn)goto L107;}
+memmove(hk,Zj,Xi);
+w8(t+8,fk);
+w8(t+16,dk);
+if(Yi)goto L107;}
 w8(r+16,0);
 L107:w16(r+32,0);
 r[50]=1;
-fo=hn;
-go=1;}
+Wj=Zi;
+Xj=1;}
 else{
-ro=hn;
-so=fn+ro;
-if(so>fn){
-to=r8(r+24);
-if(to-fn<ro){
-uo=grow_amortized_2b6(r+8,ro);
-if(!uo)goto L106;
-vo=r8(r+16);
-wo=vo+ro;
-xo=r8(r+24);
-yo=vo;}
+ik=Zi;
+jk=Xi+ik;
+if(jk>Xi){
+kk=r8(r+24);
+if(kk-Xi<ik){
+lk=grow_amortized_2b6(r+8,ik);
+if(!lk)goto L106;
+mk=r8(r+16);
+nk=mk+ik;
+ok=r8(r+24);
+pk=mk;}
 else{
-wo=so;
-xo=to;
-yo=fn;}
-if(yo<wo)memset(rp(r+8)+(i64)yo,46,ro);
-w8(r+16,wo);
-w8(r+24,xo);
-zo=wo;}
+nk=jk;
+ok=kk;
+pk=Xi;}
+if(pk<nk)memset(rp(r+8)+(i64)pk,46,ik);
+w8(r+16,nk);
+w8(r+24,ok);
+qk=nk;}
 else{
-if(fn>so){
-w8(r+16,so);
-zo=so;}
-else zo=fn;}
-Ao=r8(r+24);
-if(eo>Ao-zo){
-Bo=grow_amortized_2b6(r+8,eo);
-if(!Bo)goto L106;
-Co=r8(r+24);
-Do=r8(r+16);}
+if(Xi>jk){
+w8(r+16,jk);
+qk=jk;}
+else qk=Xi;}
+rk=r8(r+24);
+if(Vj>rk-qk){
+sk=grow_amortized_2b6(r+8,Vj);
+if(!sk)goto L106;
+tk=r8(r+24);
+uk=r8(r+16);}
 else{
-Co=Ao;
-Do=zo;}
-Eo=Do+eo;
-Fo=rp(r+8)+(i64)Do;
-if((u64)Fo-(u64)dn<eo)copy_bits_4f4(dn,Fo,eo);
-else memmove(Fo,dn,eo);
-w8(r+16,Eo);
-w8(r+24,Co);
-w16(r+32,bo-eo);
-fo=0;
-go=0;}}
+tk=rk;
+uk=qk;}
+vk=uk+Vj;
+wk=rp(r+8)+(i64)uk;
+if((u64)wk-(u64)Vi<Vj)copy_bits_4f4(Vi,wk,Vj);
+else memmove(wk,Vi,Vj);
+w8(r+16,vk);
+w8(r+24,tk);
+w16(r+32,Tj-Vj);
+Wj=0;
+Xj=0;}}
 z7(p);
-nn=fo;
-on=bo;
-pn=go;
-qn=0;
-rn=0;
+fj=Wj;
+gj=Tj;
+hj=Xj;
+ij=0;
+jj=0;
 goto L94;
 L101:z48(m);
-if(!Bn){
-Io=rp(r+8);
-if(fn-65537>=0xffffffffffff0001u){
-Jo=*Io==95;
-if(fn==2){
-if(!Jo)goto L108;
-switch(Io[1]){
-case 90:Ko=0;
+if(!tj){
+zk=rp(r+8);
+if(Xi-65537>=0xffffffffffff0001u){
+Ak=*zk==95;
+if(Xi==2){
+if(!Ak)goto L108;
+switch(zk[1]){
+case 90:Bk=0;
 goto L109;
 case 82:break;
 default:goto L108;
 }}
 else{
-if(!Jo)goto L108;
-switch(Io[1]){
-case 90:Ko=0;
+if(!Ak)goto L108;
+switch(zk[1]){
+case 90:Bk=0;
 goto L109;
 case 82:break;
-case 95:switch(Io[2]){
-case 90:Ko=0x100000000u;
+case 95:switch(zk[2]){
+case 90:Bk=0x100000000u;
 goto L109;
-case 82:Ko=0x100000001u;
+case 82:Bk=0x100000001u;
 goto L109;
 default:goto L108;
 }
 break;
 default:goto L108;
 }}
-Ko=1;
-L109:Lo=Ko>>32;
+Bk=1;
+L109:Ck=Bk>>32;
 z12(l);
-append_a0b_2(l,Nb,s,Ko,Io+(i64)Lo,fn-Lo,t);
+append_a0b_2(l,J,s,Bk,zk+(i64)Ck,Xi-Ck,t);
 if(*l!=0){
 if(l[4]!=4){
-Oo=r8(t+16);
-Po=r8(t+8);
-if(fn>Oo-Po){
-Qo=grow_amortized_2b6(t,fn);
-if(!Qo)goto L110;
-Ro=r8(t+16);
-So=r8(t+8);}
+Fk=r8(t+16);
+Gk=r8(t+8);
+if(Xi>Fk-Gk){
+Hk=grow_amortized_2b6(t,Xi);
+if(!Hk)goto L110;
+Ik=r8(t+16);
+Jk=r8(t+8);}
 else{
-Ro=Oo;
-So=Po;}
-To=So+fn;
-Uo=rp(t)+(i64)So;
-if((u64)Uo-(u64)Io<fn)copy_bits_4f4(Io,Uo,fn);
-else memmove(Uo,Io,fn);
-w8(t+8,To);
-w8(t+16,Ro);
-Mo=fn;
-No=16;
+Ik=Fk;
+Jk=Gk;}
+Kk=Jk+Xi;
+Lk=rp(t)+(i64)Jk;
+if((u64)Lk-(u64)zk<Xi)copy_bits_4f4(zk,Lk,Xi);
+else memmove(Lk,zk,Xi);
+w8(t+8,Kk);
+w8(t+16,Ik);
+Dk=Xi;
+Ek=16;
 goto L111;}
 L110:goto L112;}
-Mo=0;
-No=8;
+Dk=0;
+Ek=8;
 L111:w8(r+56,uadd64(r8(r+56),1));
-Vo=r+56+(i64)No;
-w8(Vo,uadd64(r8(Vo),1));
-Wo=Mo;
+Mk=r+56+(i64)Ek;
+w8(Mk,uadd64(r8(Mk),1));
+Nk=Dk;
 goto L113;}
-L108:Xo=r8(t+16);
-Yo=r8(t+8);
-if(fn>Xo-Yo){
-Zo=grow_amortized_2b6(t,fn);
-if(!Zo)goto L112;
-ap=r8(t+16);
-bp=r8(t+8);}
+L108:Ok=r8(t+16);
+Pk=r8(t+8);
+if(Xi>Ok-Pk){
+Qk=grow_amortized_2b6(t,Xi);
+if(!Qk)goto L112;
+Rk=r8(t+16);
+Sk=r8(t+8);}
 else{
-ap=Xo;
-bp=Yo;}
-cp=bp+fn;
-dp=rp(t);
+Rk=Ok;
+Sk=Pk;}
+Tk=Sk+Xi;
+Uk=rp(t);
 z16(t+8);
-ep=dp+(i64)bp;
-if((u64)ep-(u64)Io<fn){
-copy_bits_4f4(Io,ep,fn);
-w8(t+8,cp);
-w8(t+16,ap);
-Wo=0;}
+Vk=Uk+(i64)Sk;
+if((u64)Vk-(u64)zk<Xi){
+copy_bits_4f4(zk,Vk,Xi);
+w8(t+8,Tk);
+w8(t+16,Rk);
+Nk=0;}
 else{
-memmove(ep,Io,fn);
-w8(t+8,cp);
-w8(t+16,ap);
-if(gn){
-fp=0;
+memmove(Vk,zk,Xi);
+w8(t+8,Tk);
+w8(t+16,Rk);
+if(Yi){
+Wk=0;
 goto L114;}
-Wo=0;}
+Nk=0;}
 L113:w8(r+16,0);
-fp=Wo;
+Wk=Nk;
 L114:z18(r+32);
-Go=hn;
-Ho=fp;
+xk=Zi;
+yk=Wk;
 goto L115;}
-end_within_b20(m,r,Nb,s,t);
+end_within_b20(m,r,J,s,t);
 if(*m==0){
-Go=r16(m+16);
-Ho=r8(m+32);
+xk=r16(m+16);
+yk=r8(m+32);
 goto L115;}
 L112:goto L106;
 L115:z7(p);
-nn=Go;
-on=1;
-pn=1;
-qn=Ho;
-rn=0;
+fj=xk;
+gj=1;
+hj=1;
+ij=yk;
+jj=0;
 goto L94;
 L106:goto L116;
-L94:w16(o,nn);
-w8(o+16,on);
-o[24]=pn;
+L94:w16(o,fj);
+w8(o+16,gj);
+o[24]=hj;
 memcpy(o+25,p,7);
-w8(o+32,qn);
-w8(o+40,rn);
-gp=r8(t+8);
-hp=r8(u+32);
-if(hp<=(gp^18446744073709551615u)){
-ip=hp+gp;
-if(ip<=r8(u+24)){
-jp=rp(t);
-kp=r8(u+16);
-lp=r8(u+8);
-if(gp>kp-lp){
-np=grow_amortized_2b6(u,gp);
-if(!np)goto L116;
-op=r8(u+16);
-pp=r8(u+8);}
+w8(o+32,ij);
+w8(o+40,jj);
+Xk=r8(t+8);
+Yk=r8(u+32);
+if(Yk<=(Xk^18446744073709551615u)){
+Zk=Yk+Xk;
+if(Zk<=r8(u+24)){
+al=rp(t);
+bl=r8(u+16);
+cl=r8(u+8);
+if(Xk>bl-cl){
+dl=grow_amortized_2b6(u,Xk);
+if(!dl)goto L116;
+el=r8(u+16);
+fl=r8(u+8);}
 else{
-op=kp;
-pp=lp;}
-sp=pp+gp;
-tp=rp(u)+(i64)pp;
-if((u64)tp-(u64)jp<gp)copy_bits_4f4(jp,tp,gp);
-else memmove(tp,jp,gp);
-w8(u+8,sp);
-w8(u+16,op);}
-w8(u+32,ip);
-if(gp!=0)w8(t+8,0);
-up=add_following_166(u,o,dn,on);
-if(!(up&1)){
-vp=on+cn;
-if(vp>=bn)goto L92;
-cn=vp;
+el=bl;
+fl=cl;}
+gl=fl+Xk;
+hl=rp(u)+(i64)fl;
+if((u64)hl-(u64)al<Xk)copy_bits_4f4(al,hl,Xk);
+else memmove(hl,al,Xk);
+w8(u+8,gl);
+w8(u+16,el);}
+w8(u+32,Zk);
+if(Xk!=0)w8(t+8,0);
+il=add_following_166(u,o,Vi,gj);
+if(!(il&1)){
+jl=gj+Ui;
+if(jl>=Ti)goto L92;
+Ui=jl;
 goto L93;}}
 L116:goto L117;
-L92:yp=q[9];
+L92:kl=q[9];
 if(q[8]&1){
-zp=end_segment_f08(Nb,s,r,t,u);
-if(zp!=0)goto L117;}
-Ap=bn+Ym;
-if(Ap>=e)goto L118;
-Ym=Ap;
-Zm=yp;
+ll=end_segment_f08(J,s,r,t,u);
+if(ll!=0)goto L117;}
+ml=Ti+Qi;
+if(ml>=e)goto L118;
+Qi=ml;
+Ri=kl;
 goto L91;
 L117:if(r8(u+16)!=0)port_rattle_dealloc(rp(u));
 if(r8(t+16)!=0)port_rattle_dealloc(rp(t));
-Bp=rp(s+1944);
-Cp=rp(s+1984);
-Dp=r8(s+2000);
-Ep=rp(s+2008);
-Fp=r8(s+2024);
-Gp=rp(s+2032);
-Hp=r8(s+2048);
-Ip=r8(s+1960);
-memcpy(k,s,1944);
+nl=rp(s+1544);
+ol=rp(s+1584);
+pl=r8(s+1600);
+ql=rp(s+1608);
+rl=r8(s+1624);
+sl=rp(s+1632);
+tl=r8(s+1648);
+ul=r8(s+1560);
+memcpy(k,s,1544);
 drop_1dd(k);
-if(Ip!=0)port_rattle_dealloc(Bp);
-if(Dp!=0)port_rattle_dealloc(Cp);
-if(Fp!=0)port_rattle_dealloc(Ep);
-if(Hp!=0)port_rattle_dealloc(Gp);
+if(ul!=0)port_rattle_dealloc(nl);
+if(pl!=0)port_rattle_dealloc(ol);
+if(rl!=0)port_rattle_dealloc(ql);
+if(tl!=0)port_rattle_dealloc(sl);
 if(r8(r+24)==0)goto L119;
 goto L120;}
-L118:Jp=end_segment_f08(Nb,s,r,t,u);
-if(!(Jp&1)){
-Sp=rp(u);
-Tp=r8(u+8);
-Up=r8(u+16);
-Vp=r8(u+32);
-Wp=r8(r+56);
-Xp=r8(r+64);
-Yp=r8(r+72);
+L118:vl=end_segment_f08(J,s,r,t,u);
+if(!(vl&1)){
+El=rp(u);
+Fl=r8(u+8);
+Gl=r8(u+16);
+Hl=r8(u+32);
+Il=r8(r+56);
+Jl=r8(r+64);
+Kl=r8(r+72);
 if(r8(t+16)!=0)port_rattle_dealloc(rp(t));
-Zp=rp(s+1944);
-aq=rp(s+1984);
-bq=r8(s+2000);
-cq=rp(s+2008);
-dq=r8(s+2024);
-eq=rp(s+2032);
-fq=r8(s+2048);
-gq=r8(s+1960);
-memcpy(j,s,1944);
+Ll=rp(s+1544);
+Ml=rp(s+1584);
+Nl=r8(s+1600);
+Ol=rp(s+1608);
+Pl=r8(s+1624);
+Ql=rp(s+1632);
+Rl=r8(s+1648);
+Sl=r8(s+1560);
+memcpy(j,s,1544);
 drop_1dd(j);
-if(gq!=0)port_rattle_dealloc(Zp);
-if(bq!=0)port_rattle_dealloc(aq);
-if(dq!=0)port_rattle_dealloc(cq);
-if(fq!=0)port_rattle_dealloc(eq);
+if(Sl!=0)port_rattle_dealloc(Ll);
+if(Nl!=0)port_rattle_dealloc(Ml);
+if(Pl!=0)port_rattle_dealloc(Ol);
+if(Rl!=0)port_rattle_dealloc(Ql);
 if(r8(r+24)!=0)port_rattle_dealloc(rp(r+8));
-if(g<Vp){
-hq=6;
-iq=Vp;}
+if(g<Hl){
+Tl=6;
+Ul=Hl;}
 else{
-if(g<Tp){
-hq=6;
-iq=Tp;}
+if(g<Fl){
+Tl=6;
+Ul=Fl;}
 else{
-if((u64)f-(u64)Sp<Tp)copy_bits_4f4(Sp,f,Tp);
-else memmove(f,Sp,Tp);
-w8(h,Wp);
-w8(h+8,Xp);
-w8(h+16,Yp);
-hq=0;
-iq=Tp;}}
-if(Up==0){
-Vm=iq;
-Wm=hq;
+if((u64)f-(u64)El<Fl)copy_bits_4f4(El,f,Fl);
+else memmove(f,El,Fl);
+w8(h,Il);
+w8(h+8,Jl);
+w8(h+16,Kl);
+Tl=0;
+Ul=Fl;}}
+if(Gl==0){
+Ni=Ul;
+Oi=Tl;
 goto L90;}
-port_rattle_dealloc(Sp);
-Vm=iq;
-Wm=hq;
+port_rattle_dealloc(El);
+Ni=Ul;
+Oi=Tl;
 goto L90;}
 if(r8(u+16)!=0)port_rattle_dealloc(rp(u));
 if(r8(t+16)!=0)port_rattle_dealloc(rp(t));
-Kp=rp(s+1944);
-Lp=rp(s+1984);
-Mp=r8(s+2000);
-Np=rp(s+2008);
-Op=r8(s+2024);
-Pp=rp(s+2032);
-Qp=r8(s+2048);
-Rp=r8(s+1960);
-memcpy(i,s,1944);
+wl=rp(s+1544);
+xl=rp(s+1584);
+yl=r8(s+1600);
+zl=rp(s+1608);
+Al=r8(s+1624);
+Bl=rp(s+1632);
+Cl=r8(s+1648);
+Dl=r8(s+1560);
+memcpy(i,s,1544);
 drop_1dd(i);
-if(Rp!=0)port_rattle_dealloc(Kp);
-if(Mp!=0)port_rattle_dealloc(Lp);
-if(Op!=0)port_rattle_dealloc(Np);
-if(Qp!=0)port_rattle_dealloc(Pp);
+if(Dl!=0)port_rattle_dealloc(wl);
+if(yl!=0)port_rattle_dealloc(xl);
+if(Al!=0)port_rattle_dealloc(zl);
+if(Cl!=0)port_rattle_dealloc(Bl);
 if(r8(r+24)==0)goto L119;
 L120:port_rattle_dealloc(rp(r+8));
-L119:Vm=0;
-Wm=5;}
-L90:lk=Vm;
-mk=Wm;}
-x8(a,lk);
+L119:Ni=0;
+Oi=5;}
+L90:dg=Ni;
+eg=Oi;}
+x8(a,dg);
 x4(a+8,0);
-x4(a+12,mk);
+x4(a+12,eg);
 return;
 }
 
@@ -116371,62 +115580,35 @@ L2:return;
 /* sym_languages::languages::LanguagesDemangler::append */
 static void append_5ae(u8* a,u8* b,u8* c,u8 d,u8* e,u64 f,u8* g)
 {
-A16 u8 h[12],i[12],j[12],k[112],l[104],m[12],n[100];
-u32 o,r,D,Z,ea,ha,ia,ra,sa,Da;
-u8 p,t,y,B,C,H,M,T,V,Y,da,fa,ga,ja,ka,ta,ua,va,Aa,Ea,Fa;
-u64 q,s,v,w,x,z,A,E,J,K,L,N,O,P,S,U,W,X,aa,na,oa,qa,xa,ya,za,Ba,Ca,Ga;
-u8 *u,*F,*G,*I,*Q,*R,*ba,*ca,*la,*ma,*pa,*wa,*Ha,*Ia;
+A16 u8 h[12],i[112],j[104],k[12],l[100],m[12];
+u32 n,q,B,G,J,K,T;
+u8 o,s,t,v,x,A,F,H,I,L,M,U,V,aa;
+u64 p,r,u,w,y,z,C,P,Q,S,X,Y,Z,ba,ca,da;
+u8 *D,*E,*N,*O,*R,*W,*ea,*fa;
+z12(m);
 if(d==0){
-o=r4(b);
-p=b[4];
-if(p==0){
-q=umin64(o>>2,(f<<5)+1024);
-r=q;
+n=r4(b);
+o=b[4];
+if(o==0){
+p=umin64(n>>2,(f<<5)+1024);
+q=p;
 if(r8(c+504)!=0)w8(c+504,0);
-w8(c+520,q);
-w8(c+528,umin64(r8(c+512),q));
+w8(c+520,p);
+w8(c+528,umin64(r8(c+512),p));
 if(r8(c+544)!=0)w8(c+544,0);
-s=f&4294967295u;
-w8(c+560,s);
-w8(c+568,umin64(r8(c+552),s));
+r=f&4294967295u;
+w8(c+560,r);
+w8(c+568,umin64(r8(c+552),r));
 if(r8(c+584)!=0)w8(c+584,0);
-w8(c+600,s);
-w8(c+608,umin64(r8(c+592),s));
+w8(c+600,r);
+w8(c+608,umin64(r8(c+592),r));
 c[668]=0;
-t=run_197(c+496,e,f,r);
-if(t){
+s=run_197(c+496,e,f,q);
+if(s){
 if(r8(c+544)!=0)w8(c+544,0);
 z16(c+560);
 if(r8(c+584)!=0)w8(c+584,0);
 z16(c+600);
-u=rp(c+496);
-v=r8(c+504);
-w=r8(g+16);
-x=r8(g+8);
-if(v>w-x){
-y=grow_amortized_2b6(g,v);
-if(!y){
-B=1;
-C=4;
-D=0;
-goto L1;}
-z=r8(g+16);
-A=r8(g+8);}
-else{
-z=w;
-A=x;}
-E=A+v;
-F=rp(g);
-z16(g+8);
-G=F+(i64)A;
-if((u64)G-(u64)u<v)copy_bits_4f4(u,G,v);
-else memmove(G,u,v);
-wp(g,F);
-w8(g+8,E);
-w8(g+16,z);
-B=0;
-C=0;
-D=0;
 goto L1;}
 if(r8(c+504)!=0)w8(c+504,0);
 z16(c+520);
@@ -116436,178 +115618,129 @@ c[668]=0;
 z16(c+560);
 z16(c+600);}
 else{
-H=write_less_2c7(c+1544,e,f,o,0,p);
-if(H){
-I=rp(c+1544);
-J=r8(c+1552);
-K=r8(g+16);
-L=r8(g+8);
-if(J>K-L){
-M=grow_amortized_2b6(g,J);
-if(!M){
-B=1;
-C=4;
-D=0;
-goto L1;}
-N=r8(g+16);
-O=r8(g+8);}
-else{
-N=K;
-O=L;}
-P=O+J;
-Q=rp(g);
-z16(g+8);
-R=Q+(i64)O;
-if((u64)R-(u64)I<J)copy_bits_4f4(I,R,J);
-else memmove(R,I,J);
-wp(g,Q);
-w8(g+8,P);
-w8(g+16,N);
-B=0;
-C=0;
-D=0;
-goto L1;}}
-z12(m);
-z112(k);
-S=r8(c+696);
-if(!((f<S)|((S&4294967295u)==0))){
-T=parts_equal_58b(e,S,rp(c+688),S);
-if(T){
-read_on_79d(k,c,e+(i64)S,f-S);
+t=write_less_2c7(c+496,e,f,n,0,o);
+if(t)goto L1;}
+z12(k);
+z112(i);
+u=r8(c+696);
+if(!((f<u)|((u&4294967295u)==0))){
+v=parts_equal_58b(e,u,rp(c+688),u);
+if(v){
+read_on_79d(i,c,e+(i64)u,f-u);
 goto L2;}}
-z12(j);
+z12(h);
 x4(c+24,0);
 x4(c+28,0);
 if(r8(c+40)!=0)w8(c+40,0);
 if(r8(c+64)!=0)w8(c+64,0);
 w8(c+80,0);
 w4(c+88,0);
-run_f89(j,c+24,e,f,1);
-if(*j==0){
+run_f89(h,c+24,e,f,1);
+if(*h==0){
 if(r8(c+8)!=0)w8(c+8,0);
-U=r8(c+16);
-if(f>U){
-V=grow_amortized_2b6(c,f);
-if(!V){
-Y=4;
-Z=0;
+w=r8(c+16);
+if(f>w){
+x=grow_amortized_2b6(c,f);
+if(!x){
+A=4;
+B=0;
 goto L3;}
-W=r8(c+16);
-X=r8(c+8);}
+y=r8(c+16);
+z=r8(c+8);}
 else{
-W=U;
-X=0;}
-aa=X+f;
-ba=rp(c);
+y=w;
+z=0;}
+C=z+f;
+D=rp(c);
 z16(c+8);
-ca=ba+(i64)X;
-if((u64)ca-(u64)e<f)copy_bits_4f4(e,ca,f);
-else memmove(ca,e,f);
-wp(c,ba);
-w8(c+8,aa);
-w8(c+16,W);
-link_05c(k,c);
+E=D+(i64)z;
+if((u64)E-(u64)e<f)copy_bits_4f4(e,E,f);
+else memmove(E,e,f);
+wp(c,D);
+w8(c+8,C);
+w8(c+16,y);
+link_05c(i,c);
 goto L2;}
-da=j[4];
-ea=r4(j+8);
+F=h[4];
+G=r4(h+8);
 x4(c+24,0);
 x4(c+28,0);
 if(r8(c+40)!=0)w8(c+40,0);
 if(r8(c+64)!=0)w8(c+64,0);
 w8(c+80,0);
 w4(c+88,0);
-Y=da;
-Z=ea;
-L3:fa=1;
-ga=Y;
-ha=Z;
+A=F;
+B=G;
+L3:H=1;
+I=A;
+J=B;
 goto L4;
-L2:ia=r4(k+8);
-ja=*k;
-ka=k[4];
-memcpy(n,k+12,100);
-if(ja==0){
-w4(l,ia);
-memcpy(l+4,n,100);
-print_853(m,c,l,o,p,g);
-la=qp(c+96);
-ma=qp(c+120);
-na=q8(c+136);
-oa=q8(c+112);
-memcpy(c+96,n+20,64);
-if(oa!=0)port_rattle_dealloc(la);
-if(na!=0)port_rattle_dealloc(ma);
-pa=qp(c);
-qa=q8(c+16);
-memcpy(c,l,24);
-if(qa!=0)port_rattle_dealloc(pa);
-fa=*m;
-ga=m[4];
-ha=r4(m+8);}
+L2:K=r4(i+8);
+L=*i;
+M=i[4];
+memcpy(l,i+12,100);
+if(L==0){
+w4(j,K);
+memcpy(j+4,l,100);
+print_853(k,c,j,n,o,g);
+N=qp(c+96);
+O=qp(c+120);
+P=q8(c+136);
+Q=q8(c+112);
+memcpy(c+96,l+20,64);
+if(Q!=0)port_rattle_dealloc(N);
+if(P!=0)port_rattle_dealloc(O);
+R=qp(c);
+S=q8(c+16);
+memcpy(c,j,24);
+if(S!=0)port_rattle_dealloc(R);
+H=*k;
+I=k[4];
+J=r4(k+8);}
 else{
-fa=1;
-ga=ka;
-ha=ia;}
-L4:B=fa;
-C=ga;
-D=ha;}
-else{
-ra=r4(b);
-switch(b[4]){
-case 0:case 2:z12(i);
-append_in_c46(i,c+800,e,f,ra,0,g);
-sa=r4(i+8);
-ta=i[4];
-ua=*i;
-break;
-case 1:case 3:z12(h);
-va=write_brief_939(c+1736,e,f,ra);
-if(va){
-wa=rp(c+1736);
-xa=r8(c+1744);
-ya=r8(g+16);
-za=r8(g+8);
-if(xa>ya-za){
-Aa=grow_amortized_2b6(g,xa);
-if(!Aa){
-Da=0;
-Ea=4;
-Fa=1;
+H=1;
+I=M;
+J=K;}
+L4:T=J;
+U=I;
+V=H;
+goto L5;
+L1:W=rp(c+496);
+X=r8(c+504);
+Y=r8(g+16);
+Z=r8(g+8);
+if(X>Y-Z){
+aa=grow_amortized_2b6(g,X);
+if(!aa){
+T=0;
+U=4;
+V=1;
 goto L5;}
-Ba=r8(g+16);
-Ca=r8(g+8);}
+ba=r8(g+16);
+ca=r8(g+8);}
 else{
-Ba=ya;
-Ca=za;}
-Ga=Ca+xa;
-Ha=rp(g);
+ba=Y;
+ca=Z;}
+da=ca+X;
+ea=rp(g);
 z16(g+8);
-Ia=Ha+(i64)Ca;
-if((u64)Ia-(u64)wa<xa)copy_bits_4f4(wa,Ia,xa);
-else memmove(Ia,wa,xa);
-wp(g,Ha);
-w8(g+8,Ga);
-w8(g+16,Ba);
-Da=0;
-Ea=0;
-Fa=0;}
+fa=ea+(i64)ca;
+if((u64)fa-(u64)W<X)copy_bits_4f4(W,fa,X);
+else memmove(fa,W,X);
+wp(g,ea);
+w8(g+8,da);
+w8(g+16,ba);
+T=0;
+U=0;
+V=0;}
 else{
-append_in_c46(h,c+800,e,f,ra,1,g);
-Da=r4(h+8);
-Ea=h[4];
-Fa=*h;}
-L5:sa=Da;
-ta=Ea;
-ua=Fa;
-break;
-default:NEVER;
-}
-B=ua;
-C=ta;
-D=sa;}
-L1:*a=B;
-x4(a+4,C);
-x4(a+8,D);
+append_in_c46(m,c+800,e,f,r4(b),(u32)16777472>>((u32)b[4]<<3),g);
+T=r4(m+8);
+U=m[4];
+V=*m;}
+L5:*a=V;
+x4(a+4,U);
+x4(a+8,T);
 return;
 }
 
@@ -117647,7 +116780,7 @@ W=0;
 X=0;
 Y=0;
 goto L9;}}
-Z=rewrite_8ff(b+8,c+1944,j,g);
+Z=rewrite_8ff(b+8,c+1544,j,g);
 if(!(Z&1)){
 W=0;
 X=0;
@@ -119054,7 +118187,7 @@ B=0;
 C=0;
 D=0;
 goto L3;}}
-E=rewrite_8ff(b+8,c+1944,j,g);
+E=rewrite_8ff(b+8,c+1544,j,g);
 if(!(E&1)){
 B=0;
 C=0;
@@ -146229,301 +145362,164 @@ return;
 /* sym_calls::text::short_once */
 static void short_once_3e7(u8* a,u8* b,u8 c,u8* d,u64 e,u8* f,u64 g)
 {
-A16 u8 h[192],i[192],j[24],k[24];
-u8 l,o,w,A,H,K,S,W,da;
-u32 m,q,y,C,J,M,U,Y,ea;
-u64 n,p,t,v,x,B,D,E,I,L,P,R,T,X,aa,ca;
-u8 *r,*s,*u,*z,*F,*G,*N,*O,*Q,*V,*Z,*ba;
-z24(k);
-l=b[4];
+A16 u8 h[192],i[24];
+u32 j,w;
+u8 k,m,r,u,C;
+u64 l,n,o,p,q,v,z,B;
+u8 *s,*t,*x,*y,*A;
+z24(i);
 if(c==0){
-m=r4(b);
-if(l==0){
-wp(i,(u8*)65536);
-z16(i+8);
-wp(i+40,(u8*)65536);
-z16(i+48);
-wp(i+80,(u8*)65536);
-z104(i+88);
-n=umin64(m>>2,(e<<5)+1024);
-w8(i+24,n);
-w8(i+32,0);
-w8(i+64,e);
-w8(i+72,0);
-w8(i+104,e);
-o=run_48b(i,d,e,n);
-if(o){
-if(r8(i+48)!=0)w8(i+48,0);
-z16(i+64);
-if(r8(i+88)!=0)w8(i+88,0);
-z16(i+104);
-p=r8(i+8);
-if(g<p)q=6;
-else{
-r=rp(i);
-if((u64)f-(u64)r<p){
-copy_bits_4f4(r,f,p);
-q=0;}
-else{
-memmove(f,r,p);
-q=0;}}
-s=rp(i+40);
-t=r8(i+56);
-u=rp(i+80);
-v=r8(i+96);
-if(r8(i+16)!=0)port_rattle_dealloc(rp(i));
-if(t!=0)port_rattle_dealloc(s);
-if(v==0){
-w=1;
-x=p;
-y=q;
-goto L1;}
-z=u;
-A=1;
-B=p;
-C=q;}
-else{
-if(r8(i+8)!=0)w8(i+8,0);
-z16(i+24);
-if(r8(i+48)!=0)w8(i+48,0);
-D=r8(i+56);
-if(r8(i+88)!=0)w8(i+88,0);
-E=r8(i+96);
-i[172]=0;
-z16(i+64);
-z16(i+104);
-F=rp(i+40);
-G=rp(i+80);
-if(r8(i+16)!=0)port_rattle_dealloc(rp(i));
-if(D!=0)port_rattle_dealloc(F);
-if(E==0){
-w=0;
-x=0;
-y=0;
-goto L1;}
-z=G;
-A=0;
-B=0;
-C=0;}
-port_rattle_dealloc(z);
-w=A;
-x=B;
-y=C;
-L1:H=w;
-I=x;
-J=y;}
-else{
+j=r4(b);
+k=b[4];
 wp(h,(u8*)65536);
 z32(h+8);
 wp(h+40,(u8*)65536);
 z32(h+48);
 wp(h+80,(u8*)65536);
 z104(h+88);
-K=write_less_2c7(h,d,e,m,1,l);
-if(K){
-L=r8(h+8);
-if(g<L)M=6;
+if(k==0){
+l=umin64(j>>2,(e<<5)+1024);
+w8(h+24,l);
+w8(h+32,0);
+w8(h+64,e);
+w8(h+72,0);
+w8(h+104,e);
+w8(h+112,0);
+h[172]=0;
+m=run_48b(h,d,e,l);
+if(m){
+if(r8(h+48)!=0)w8(h+48,0);
+z16(h+64);
+if(r8(h+88)!=0)w8(h+88,0);
+z16(h+104);
+goto L1;}
+if(r8(h+8)!=0)w8(h+8,0);
+z16(h+24);
+if(r8(h+48)!=0)w8(h+48,0);
+n=r8(h+56);
+if(r8(h+88)!=0)w8(h+88,0);
+o=r8(h+96);
+h[172]=0;
+z16(h+64);
+z16(h+104);
+p=o;
+q=n;}
 else{
-N=rp(h);
-if((u64)f-(u64)N<L){
-copy_bits_4f4(N,f,L);
-M=0;}
-else{
-memmove(f,N,L);
-M=0;}}
-O=rp(h+40);
-P=r8(h+56);
-Q=rp(h+80);
-R=r8(h+96);
+r=write_less_2c7(h,d,e,j,1,k);
+if(r)goto L1;
+p=r8(h+96);
+q=r8(h+56);}
+s=rp(h+40);
+t=rp(h+80);
 if(r8(h+16)!=0)port_rattle_dealloc(rp(h));
-if(P!=0)port_rattle_dealloc(O);
-if(R==0){
-S=1;
-T=L;
-U=M;
-goto L2;}
-V=Q;
-W=1;
-X=L;
-Y=M;}
+if(q!=0)port_rattle_dealloc(s);
+if(p!=0)port_rattle_dealloc(t);
+z24(i);
+u=0;
+goto L2;
+L1:v=r8(h+8);
+if(g<v)w=6;
 else{
-Z=rp(h+40);
-aa=r8(h+56);
-ba=rp(h+80);
-ca=r8(h+96);
+x=rp(h);
+if((u64)f-(u64)x<v){
+copy_bits_4f4(x,f,v);
+w=0;}
+else{
+memmove(f,x,v);
+w=0;}}
+y=rp(h+40);
+z=r8(h+56);
+A=rp(h+80);
+B=r8(h+96);
 if(r8(h+16)!=0)port_rattle_dealloc(rp(h));
-if(aa!=0)port_rattle_dealloc(Z);
-if(ca==0){
-S=0;
-T=0;
-U=0;
-goto L2;}
-V=ba;
-W=0;
-X=0;
-Y=0;}
-port_rattle_dealloc(V);
-S=W;
-T=X;
-U=Y;
-L2:H=S;
-I=T;
-J=U;}
-w8(k+8,I);
-w4(k+16,0);
-w4(k+20,J);
-da=H;}
+if(z!=0)port_rattle_dealloc(y);
+if(B!=0)port_rattle_dealloc(A);
+w8(i+8,v);
+w4(i+16,0);
+w4(i+20,w);
+u=1;
+L2:C=u;}
 else{
-ea=r4(b);
-switch(l){
-case 0:case 2:write_short_198(k,d,e,ea,f,g);
-da=*k;
-break;
-case 1:case 3:brief_once_66e(j,d,e,ea,f,g);
-x8(a,*j);
-memcpy(a+8,j+8,16);
-goto L3;
-default:NEVER;
-}}
-x8(a,da);
-memcpy(a+8,k+8,16);
-L3:return;
-}
-
-/* sym_calls::text::brief_once */
-static void brief_once_66e(u8* a,u8* b,u64 c,u32 d,u8* e,u64 f)
-{
-A16 u8 g[208];
-u8 h;
-u64 i,m,o,q,s,u,w,y,A;
-u32 j;
-u8 *k,*l,*n,*p,*r,*t,*v,*x,*z;
-wp(g,(u8*)65536);
-z32(g+8);
-wp(g+40,(u8*)65536);
-z40(g+48);
-wp(g+88,(u8*)65536);
-z32(g+96);
-wp(g+128,(u8*)65536);
-z16(g+136);
-wp(g+152,(u8*)65536);
-z48(g+160);
-h=write_brief_939(g,b,c,d);
-if(h){
-i=r8(g+8);
-if(f<i)j=6;
-else{
-k=rp(g);
-if((u64)e-(u64)k<i){
-copy_bits_4f4(k,e,i);
-j=0;}
-else{
-memmove(e,k,i);
-j=0;}}
-l=rp(g+40);
-m=r8(g+56);
-n=rp(g+88);
-o=r8(g+104);
-p=rp(g+128);
-q=r8(g+144);
-r=rp(g+152);
-s=r8(g+168);
-if(r8(g+16)!=0)port_rattle_dealloc(rp(g));
-if(m!=0)port_rattle_dealloc(l);
-if(o!=0)port_rattle_dealloc(n);
-if(q!=0)port_rattle_dealloc(p);
-if(s!=0)port_rattle_dealloc(r);
-x8(a,1);
-x8(a+8,i);
-x4(a+16,0);
-x4(a+20,j);}
-else{
-t=rp(g+40);
-u=r8(g+56);
-v=rp(g+88);
-w=r8(g+104);
-x=rp(g+128);
-y=r8(g+144);
-z=rp(g+152);
-A=r8(g+168);
-if(r8(g+16)!=0)port_rattle_dealloc(rp(g));
-if(u!=0)port_rattle_dealloc(t);
-if(w!=0)port_rattle_dealloc(v);
-if(y!=0)port_rattle_dealloc(x);
-if(A!=0)port_rattle_dealloc(z);
-z24(a);}
+write_short_198(i,d,e,r4(b),(u32)16777472>>((u32)b[4]<<3),f,g);
+C=*i;}
+x8(a,C);
+memcpy(a+8,i+8,16);
 return;
 }
 
 /* sym_calls::text::write_short */
-static void write_short_198(u8* a,u8* b,u64 c,u32 d,u8* e,u64 f)
+static void write_short_198(u8* a,u8* b,u64 c,u32 d,u8 e,u8* f,u64 g)
 {
-A16 u8 g[208];
-u8 h;
-u64 i,m,o,q,s,u,w,y,A;
-u32 j;
-u8 *k,*l,*n,*p,*r,*t,*v,*x,*z;
-wp(g,(u8*)65536);
-z32(g+8);
-wp(g+40,(u8*)65536);
-z40(g+48);
-wp(g+88,(u8*)65536);
-z32(g+96);
-wp(g+128,(u8*)65536);
-z16(g+136);
-wp(g+152,(u8*)65536);
-z48(g+160);
-h=write_38b(g,b,c,d);
-if(h){
-i=r8(g+8);
-if(f<i)j=6;
+A16 u8 h[208];
+u8 i,j;
+u8 *k,*m,*o,*q,*u,*v,*x,*z,*B;
+u64 l,n,p,r,s,w,y,A,C;
+u32 t;
+wp(h,(u8*)65536);
+z32(h+8);
+wp(h+40,(u8*)65536);
+z40(h+48);
+wp(h+88,(u8*)65536);
+z32(h+96);
+wp(h+128,(u8*)65536);
+z16(h+136);
+wp(h+152,(u8*)65536);
+z48(h+160);
+if(e&1){
+i=write_brief_939(h,b,c,d);
+if(i)goto L1;}
 else{
-k=rp(g);
-if((u64)e-(u64)k<i){
-copy_bits_4f4(k,e,i);
-j=0;}
+j=write_38b(h,b,c,d);
+if(j)goto L1;}
+k=rp(h+40);
+l=r8(h+56);
+m=rp(h+88);
+n=r8(h+104);
+o=rp(h+128);
+p=r8(h+144);
+q=rp(h+152);
+r=r8(h+168);
+if(r8(h+16)!=0)port_rattle_dealloc(rp(h));
+if(l!=0)port_rattle_dealloc(k);
+if(n!=0)port_rattle_dealloc(m);
+if(p!=0)port_rattle_dealloc(o);
+if(r!=0)port_rattle_dealloc(q);
+z24(a);
+goto L2;
+L1:s=r8(h+8);
+if(g<s)t=6;
 else{
-memmove(e,k,i);
-j=0;}}
-l=rp(g+40);
-m=r8(g+56);
-n=rp(g+88);
-o=r8(g+104);
-p=rp(g+128);
-q=r8(g+144);
-r=rp(g+152);
-s=r8(g+168);
-if(r8(g+16)!=0)port_rattle_dealloc(rp(g));
-if(m!=0)port_rattle_dealloc(l);
-if(o!=0)port_rattle_dealloc(n);
-if(q!=0)port_rattle_dealloc(p);
-if(s!=0)port_rattle_dealloc(r);
-x8(a,1);
-x8(a+8,i);
-x4(a+16,0);
-x4(a+20,j);}
+u=rp(h);
+if((u64)f-(u64)u<s){
+copy_bits_4f4(u,f,s);
+t=0;}
 else{
-t=rp(g+40);
-u=r8(g+56);
-v=rp(g+88);
-w=r8(g+104);
-x=rp(g+128);
-y=r8(g+144);
-z=rp(g+152);
-A=r8(g+168);
-if(r8(g+16)!=0)port_rattle_dealloc(rp(g));
-if(u!=0)port_rattle_dealloc(t);
+memmove(f,u,s);
+t=0;}}
+v=rp(h+40);
+w=r8(h+56);
+x=rp(h+88);
+y=r8(h+104);
+z=rp(h+128);
+A=r8(h+144);
+B=rp(h+152);
+C=r8(h+168);
+if(r8(h+16)!=0)port_rattle_dealloc(rp(h));
 if(w!=0)port_rattle_dealloc(v);
 if(y!=0)port_rattle_dealloc(x);
 if(A!=0)port_rattle_dealloc(z);
-z24(a);}
-return;
+if(C!=0)port_rattle_dealloc(B);
+x8(a,1);
+x8(a+8,s);
+x4(a+16,0);
+x4(a+20,t);
+L2:return;
 }
 
 /* sym_calls::text::or_type */
 static void or_type_0d4(u8* a,u8* b,u8* c,u8* d,u64 e,u8* f,u64 g,u8* h)
 {
-A16 u8 i[12],j[24],k[24],l[12],m[1944],n[24],o[1944],p[1944];
+A16 u8 i[12],j[24],k[24],l[12],m[1544],n[24],o[1544],p[1544];
 u64 q,t,x,y,A,E,L,P,Q,R,S,U,V,W,Y,Z,aa,ba,ca,ea,fa,ga,ha,na,qa,va;
 u32 r,s,u,v,H,K,la,oa,ra,sa,wa,xa,ya,Ba,Ca,Da,Ea;
 u8 *w,*B,*C,*I,*M,*ia,*ma,*pa,*ta,*ua;
@@ -146545,10 +145541,8 @@ goto L1;}
 w=d;
 x=e;
 L2:if(x==0){
-zero_all(m+1584,360);
-z24(n);
-zero_all(o,1944);
-zero_all(p,1944);
+zero_all(o,1544);
+zero_all(p,1544);
 y=(u64)(u8*)65536;
 wp(m,(u8*)65536);
 z24(m+8);
@@ -146634,22 +145628,6 @@ w8(m+1480,y);
 z16(m+1488);
 wp(m+1504,(u8*)65536);
 z32(m+1512);
-wp(m+1544,(u8*)65536);
-z32(m+1552);
-wp(m+1584,(u8*)65536);
-z32(m+1592);
-wp(m+1624,(u8*)65536);
-z104(m+1632);
-wp(m+1736,(u8*)65536);
-z32(m+1744);
-wp(m+1776,(u8*)65536);
-z40(m+1784);
-wp(m+1824,(u8*)65536);
-z32(m+1832);
-wp(m+1864,(u8*)65536);
-z16(m+1872);
-wp(m+1888,(u8*)65536);
-z48(m+1896);
 wp(n,(u8*)65536);
 z16(n+8);
 z12(l);
@@ -146856,7 +145834,7 @@ pa=ua;
 qa=va;
 ra=wa;
 sa=xa;
-L12:memcpy(pa,m,1944);
+L12:memcpy(pa,m,1544);
 drop_1dd(pa);
 t=qa;
 u=ra;
@@ -146960,7 +145938,7 @@ return;
 /* sym_calls::text::or_type */
 static void or_type_43d(u8* a,u8* b,u8* c,u8* d,u64 e,u8* f,u64 g,u8* h)
 {
-A16 u8 i[24],j[24],k[12],l[12],m[1944],n[24],o[1944],p[1944];
+A16 u8 i[24],j[24],k[12],l[12],m[1544],n[24],o[1544],p[1544];
 u64 q,t,x,y,A,E,L,S,V,aa;
 u32 r,s,u,v,H,K,Q,T,W,X,ba,ca,da,ga,ha,ia,ja;
 u8 *w,*B,*C,*I,*M,*N,*R,*U,*Y,*Z;
@@ -146982,10 +145960,8 @@ goto L1;}
 w=d;
 x=e;
 L2:if(x==0){
-zero_all(m+1584,360);
-z24(n);
-zero_all(o,1944);
-zero_all(p,1944);
+zero_all(o,1544);
+zero_all(p,1544);
 y=(u64)(u8*)65536;
 wp(m,(u8*)65536);
 z24(m+8);
@@ -147071,22 +146047,6 @@ w8(m+1480,y);
 z16(m+1488);
 wp(m+1504,(u8*)65536);
 z32(m+1512);
-wp(m+1544,(u8*)65536);
-z32(m+1552);
-wp(m+1584,(u8*)65536);
-z32(m+1592);
-wp(m+1624,(u8*)65536);
-z104(m+1632);
-wp(m+1736,(u8*)65536);
-z32(m+1744);
-wp(m+1776,(u8*)65536);
-z40(m+1784);
-wp(m+1824,(u8*)65536);
-z32(m+1832);
-wp(m+1864,(u8*)65536);
-z16(m+1872);
-wp(m+1888,(u8*)65536);
-z48(m+1896);
 wp(n,(u8*)65536);
 z16(n+8);
 z24(j);
@@ -147223,7 +146183,7 @@ U=Z;
 V=aa;
 W=ba;
 X=ca;
-L6:memcpy(U,m,1944);
+L6:memcpy(U,m,1544);
 drop_1dd(U);
 t=V;
 u=W;
@@ -147246,612 +146206,566 @@ return;
 /* sym_calls::text::or_type */
 static void or_type_a12(u8* a,u8* b,u8* c,u8* d,u64 e,u8* f,u64 g,u8* h)
 {
-A16 u8 i[1944],j[1944],k[24],l[24],m[12],n[12],o[2056],p[24],q[32],r[40],s[32],t[16],u[48],v[32],w[16],x[16],y[16];
-u64 z,C,G,H,J,N,U,ba,fa,ha,ja,ka,la,xa,za,Ba,Ca;
-u32 A,B,D,E,Q,T,Z,ca,ma,na,oa,ra,sa,ta,ua;
-u8 *F,*K,*L,*R,*V,*W,*aa,*da,*ea,*ga,*ia,*va,*wa,*ya,*Aa;
-s_64_64 I;
-u8 M,O,P,S,X,Y,pa,qa,Da;
-z=q8(h);
-A=q4(h+8);
-B=q4(h+12);
+A16 u8 i[1544],j[1544],k[24],l[24],m[12],n[12],o[1656],p[24];
+u64 q,t,x,y,A,E,L,S,W,Y,aa,ba,ca,oa,qa,sa,ta;
+u32 r,s,u,v,H,K,Q,T,da,ea,fa,ia,ja,ka,la;
+u8 *w,*B,*C,*I,*M,*N,*R,*U,*V,*X,*Z,*ma,*na,*pa,*ra;
+s_64_64 z;
+u8 D,F,G,J,O,P,ga,ha,ua;
+q=q8(h);
+r=q4(h+8);
+s=q4(h+12);
 if((q8(c)&0x100000000000000u)==0){
-C=z;
-D=A;
-E=B;}
+t=q;
+u=r;
+v=s;}
 else{
-if(!((e<65537)&(B==11))){
-C=z;
-D=A;
-E=B;
+if(!((e<65537)&(s==11))){
+t=q;
+u=r;
+v=s;
 goto L1;}
-F=d;
-G=e;
-L2:if(G==0){
-H=(u64)(u8*)65536;
-z32(q);
-z40(r);
-z32(s);
-z16(t);
-z48(u);
-z32(v);
-z16(w);
-z16(x);
-z16(y);
-z24(o+8);
-z16(o+40);
-z32(o+64);
-z16(o+104);
-z32(o+128);
-z80(o+168);
-z16(o+256);
-z40(o+280);
-z16(o+328);
-z16(o+352);
-z16(o+376);
-z16(o+400);
-z16(o+424);
-z48(o+448);
-z32(o+504);
-z32(o+544);
-z104(o+584);
-z40(o+696);
-z16(o+744);
-z32(o+768);
-z24(o+808);
-z16(o+840);
-z32(o+864);
-z16(o+904);
-z24(o+928);
-z16(o+960);
-z16(o+984);
-z40(o+1008);
-z16(o+1056);
-z16(o+1080);
-z16(o+1104);
-z16(o+1128);
-z16(o+1152);
-z48(o+1176);
-z32(o+1232);
-z40(o+1272);
-z32(o+1320);
-z16(o+1360);
-z48(o+1384);
-z40(o+1440);
-z16(o+1488);
-z32(o+1512);
-z32(o+1552);
-z32(o+1592);
-z104(o+1632);
+w=d;
+x=e;
+L2:if(x==0){
+z48(o+1608);
+z24(p);
+y=(u64)(u8*)65536;
 wp(o,(u8*)65536);
+z24(o+8);
 wp(o+32,(u8*)65536);
+z16(o+40);
 wp(o+56,(u8*)65536);
+z32(o+64);
 wp(o+96,(u8*)65536);
+z16(o+104);
 wp(o+120,(u8*)65536);
+z32(o+128);
 wp(o+160,(u8*)65536);
+z80(o+168);
 wp(o+248,(u8*)65536);
+z16(o+256);
 wp(o+272,(u8*)65536);
+z40(o+280);
 wp(o+320,(u8*)65536);
+z16(o+328);
 wp(o+344,(u8*)65536);
+z16(o+352);
 wp(o+368,(u8*)65536);
+z16(o+376);
 wp(o+392,(u8*)65536);
+z16(o+400);
 wp(o+416,(u8*)65536);
+z16(o+424);
 wp(o+440,(u8*)65536);
+z48(o+448);
 wp(o+496,(u8*)65536);
+z32(o+504);
 wp(o+536,(u8*)65536);
+z32(o+544);
 wp(o+576,(u8*)65536);
-w8(o+688,H);
-w8(o+736,H);
+z104(o+584);
+w8(o+688,y);
+z40(o+696);
+w8(o+736,y);
+z16(o+744);
 wp(o+760,(u8*)65536);
+z32(o+768);
 wp(o+800,(u8*)65536);
+z24(o+808);
 wp(o+832,(u8*)65536);
+z16(o+840);
 wp(o+856,(u8*)65536);
+z32(o+864);
 wp(o+896,(u8*)65536);
+z16(o+904);
 wp(o+920,(u8*)65536);
+z24(o+928);
 wp(o+952,(u8*)65536);
+z16(o+960);
 wp(o+976,(u8*)65536);
+z16(o+984);
 wp(o+1000,(u8*)65536);
+z40(o+1008);
 wp(o+1048,(u8*)65536);
+z16(o+1056);
 wp(o+1072,(u8*)65536);
+z16(o+1080);
 wp(o+1096,(u8*)65536);
+z16(o+1104);
 wp(o+1120,(u8*)65536);
+z16(o+1128);
 wp(o+1144,(u8*)65536);
+z16(o+1152);
 wp(o+1168,(u8*)65536);
+z48(o+1176);
 wp(o+1224,(u8*)65536);
+z32(o+1232);
 wp(o+1264,(u8*)65536);
+z40(o+1272);
 wp(o+1312,(u8*)65536);
+z32(o+1320);
 wp(o+1352,(u8*)65536);
+z16(o+1360);
 wp(o+1376,(u8*)65536);
-w8(o+1432,H);
-w8(o+1480,H);
+z48(o+1384);
+w8(o+1432,y);
+z40(o+1440);
+w8(o+1480,y);
+z16(o+1488);
 wp(o+1504,(u8*)65536);
+z32(o+1512);
 wp(o+1544,(u8*)65536);
+z32(o+1552);
 wp(o+1584,(u8*)65536);
-wp(o+1624,(u8*)65536);
-wp(o+1736,(u8*)65536);
-memcpy(o+1744,q,32);
-wp(o+1776,(u8*)65536);
-memcpy(o+1784,r,40);
-wp(o+1824,(u8*)65536);
-memcpy(o+1832,s,32);
-wp(o+1864,(u8*)65536);
-memcpy(o+1872,t,16);
-wp(o+1888,(u8*)65536);
-memcpy(o+1896,u,48);
-wp(o+1944,(u8*)65536);
-memcpy(o+1952,v,32);
-wp(o+1984,(u8*)65536);
-memcpy(o+1992,w,16);
-wp(o+2008,(u8*)65536);
-memcpy(o+2016,x,16);
-wp(o+2032,(u8*)65536);
-memcpy(o+2040,y,16);
+z16(o+1592);
+wp(o+1608,(u8*)65536);
+z16(o+1616);
+wp(o+1632,(u8*)65536);
+z16(o+1640);
 wp(p,(u8*)65536);
 z16(p+8);
 z24(l);
 z12(m);
 z12(n);
-I=port_rattle_alloc(4,1);
-if((u8)(I.f0&1)){
-J=I.f1;
-K=(u8*)J;
-if(J-(u64)(u8*)t_f8a6<4)copy_bits_4f4((u8*)t_f8a6,K,4);
-else x4(K,1230264927);
-wp(k,K);
+z=port_rattle_alloc(4,1);
+if((u8)(z.f0&1)){
+A=z.f1;
+B=(u8*)A;
+if(A-(u64)(u8*)t_f8a6<4)copy_bits_4f4((u8*)t_f8a6,B,4);
+else x4(B,1230264927);
+wp(k,B);
 w8(k+8,4);
 w8(k+16,4);
 if(e==0){
-L=K;
-M=0;
-N=4;}
+C=B;
+D=0;
+E=4;}
 else{
-O=grow_amortized_2b6(k,e);
-if(!O){
+F=grow_amortized_2b6(k,e);
+if(!F){
 if(r8(k+16)==0){
-P=4;
-Q=0;
+G=4;
+H=0;
 goto L3;}
-R=rp(k);
-S=4;
-T=0;
+I=rp(k);
+J=4;
+K=0;
 goto L4;}
-L=rp(k);
-M=r8(k+16)==0;
-N=r8(k+8);}
-U=N+e;
-V=L+(i64)N;
-if((u64)V-(u64)d<e)copy_bits_4f4(d,V,e);
-else memmove(V,d,e);
+C=rp(k);
+D=r8(k+16)==0;
+E=r8(k+8);}
+L=E+e;
+M=C+(i64)E;
+if((u64)M-(u64)d<e)copy_bits_4f4(d,M,e);
+else memmove(M,d,e);
 wp(l,(u8*)65536);
 z16(l+8);
-append_d61(m,b,o,0,L,U,l);
+append_d61(m,b,o,0,C,L,l);
 if(*m==0){
-W=rp(l);
-append_after_words_c13(n,W,r8(l+8),p);
-X=*n;
-Y=n[4];
-Z=r4(n+8);
-if(r8(l+16)!=0)port_rattle_dealloc(W);
-if(!M)port_rattle_dealloc(L);
-if(X!=0){
-oa=Z;
-pa=Y;
+N=rp(l);
+append_after_words_c13(n,N,r8(l+8),p);
+O=*n;
+P=n[4];
+Q=r4(n+8);
+if(r8(l+16)!=0)port_rattle_dealloc(N);
+if(!D)port_rattle_dealloc(C);
+if(O!=0){
+fa=Q;
+ga=P;
 goto L5;}
-aa=rp(p);
-ba=r8(p+8);
-if(g<ba)ca=6;
+R=rp(p);
+S=r8(p+8);
+if(g<S)T=6;
 else{
-if((u64)f-(u64)aa<ba){
-copy_bits_4f4(aa,f,ba);
-ca=0;}
+if((u64)f-(u64)R<S){
+copy_bits_4f4(R,f,S);
+T=0;}
 else{
-memmove(f,aa,ba);
-ca=0;}}
-if(r8(p+16)!=0)port_rattle_dealloc(aa);
-da=rp(o+1944);
-ea=rp(o+1984);
-fa=r8(o+2000);
-ga=rp(o+2008);
-ha=r8(o+2024);
-ia=rp(o+2032);
-ja=r8(o+2048);
-ka=r8(o+1960);
-memcpy(j,o,1944);
+memmove(f,R,S);
+T=0;}}
+if(r8(p+16)!=0)port_rattle_dealloc(R);
+U=rp(o+1544);
+V=rp(o+1584);
+W=r8(o+1600);
+X=rp(o+1608);
+Y=r8(o+1624);
+Z=rp(o+1632);
+aa=r8(o+1648);
+ba=r8(o+1560);
+memcpy(j,o,1544);
 drop_1dd(j);
-if(ka!=0)port_rattle_dealloc(da);
-if(fa!=0)port_rattle_dealloc(ea);
-if(ha!=0)port_rattle_dealloc(ga);
-if(ja!=0)port_rattle_dealloc(ia);
-la=ba;
-ma=0;
-na=ca;
+if(ba!=0)port_rattle_dealloc(U);
+if(W!=0)port_rattle_dealloc(V);
+if(Y!=0)port_rattle_dealloc(X);
+if(aa!=0)port_rattle_dealloc(Z);
+ca=S;
+da=0;
+ea=T;
 goto L6;}
-qa=m[4];
-ra=r4(m+8);
-switch(qa){
-case 0:sa=usub32(ra,4);
+ha=m[4];
+ia=r4(m+8);
+switch(ha){
+case 0:ja=usub32(ia,4);
 break;
-case 1:sa=usub32(ra,4);
+case 1:ja=usub32(ia,4);
 break;
-case 2:sa=usub32(ra,4);
+case 2:ja=usub32(ia,4);
 break;
-case 3:case 4:sa=0;
+case 3:case 4:ja=0;
 break;
 default:NEVER;
 }
 if(r8(l+16)!=0)port_rattle_dealloc(rp(l));
-if(M){
-P=qa;
-Q=sa;
+if(D){
+G=ha;
+H=ja;
 goto L3;}
-R=L;
-S=qa;
-T=sa;
-L4:port_rattle_dealloc(R);
-P=S;
-Q=T;}
+I=C;
+J=ha;
+K=ja;
+L4:port_rattle_dealloc(I);
+G=J;
+H=K;}
 else{
-P=4;
-Q=0;}
-L3:oa=Q;
-pa=P;
-L5:switch(pa){
-case 0:ta=oa;
-ua=1;
+G=4;
+H=0;}
+L3:fa=H;
+ga=G;
+L5:switch(ga){
+case 0:ka=fa;
+la=1;
 break;
-case 1:ta=oa;
-ua=2;
+case 1:ka=fa;
+la=2;
 break;
-case 2:ta=oa;
-ua=3;
+case 2:ka=fa;
+la=3;
 break;
-case 3:ta=0;
-ua=4;
+case 3:ka=0;
+la=4;
 break;
-case 4:ta=0;
-ua=5;
+case 4:ka=0;
+la=5;
 break;
 default:NEVER;
 }
 if(r8(p+16)!=0)port_rattle_dealloc(rp(p));
-va=rp(o+1944);
-wa=rp(o+1984);
-xa=r8(o+2000);
-ya=rp(o+2008);
-za=r8(o+2024);
-Aa=rp(o+2032);
-Ba=r8(o+2048);
-Ca=r8(o+1960);
-memcpy(i,o,1944);
+ma=rp(o+1544);
+na=rp(o+1584);
+oa=r8(o+1600);
+pa=rp(o+1608);
+qa=r8(o+1624);
+ra=rp(o+1632);
+sa=r8(o+1648);
+ta=r8(o+1560);
+memcpy(i,o,1544);
 drop_1dd(i);
-if(Ca!=0)port_rattle_dealloc(va);
-if(xa!=0)port_rattle_dealloc(wa);
-if(za!=0)port_rattle_dealloc(ya);
-if(Ba!=0)port_rattle_dealloc(Aa);
-la=0;
-ma=ta;
-na=ua;
-L6:C=la;
-D=ma;
-E=na;}
+if(ta!=0)port_rattle_dealloc(ma);
+if(oa!=0)port_rattle_dealloc(na);
+if(qa!=0)port_rattle_dealloc(pa);
+if(sa!=0)port_rattle_dealloc(ra);
+ca=0;
+da=ka;
+ea=la;
+L6:t=ca;
+u=da;
+v=ea;}
 else{
-Da=*F;
-if(Da!=46&&*((u8*)t_e4d8+Da)>48){
-F=F+1;
-G=G-1;
+ua=*w;
+if(ua!=46&&*((u8*)t_e4d8+ua)>48){
+w=w+1;
+x=x-1;
 goto L2;}
-C=z;
-D=A;
-E=11;}}
-L1:x8(a,C);
-x4(a+8,D);
-x4(a+12,E);
+t=q;
+u=r;
+v=11;}}
+L1:x8(a,t);
+x4(a+8,u);
+x4(a+12,v);
 return;
 }
 
 /* sym_calls::text::or_type */
 static void or_type_9d2(u8* a,u8* b,u8* c,u8* d,u64 e,u8* f,u64 g,u8* h)
 {
-A16 u8 i[1944],j[1944],k[24],l[24],m[12],n[12],o[2056],p[24],q[32],r[40],s[32],t[16],u[48],v[32],w[16],x[16],y[16];
-u64 z,C,G,H,J,N,U,ba,fa,ha,ja,ka,la,xa,za,Ba,Ca;
-u32 A,B,D,E,Q,T,Z,ca,ma,na,oa,ra,sa,ta,ua;
-u8 *F,*K,*L,*R,*V,*W,*aa,*da,*ea,*ga,*ia,*va,*wa,*ya,*Aa;
-s_64_64 I;
-u8 M,O,P,S,X,Y,pa,qa,Da;
-z=q8(h);
-A=q4(h+8);
-B=q4(h+12);
+A16 u8 i[1544],j[1544],k[24],l[24],m[12],n[12],o[1656],p[24];
+u64 q,t,x,y,A,E,L,S,W,Y,aa,ba,ca,oa,qa,sa,ta;
+u32 r,s,u,v,H,K,Q,T,da,ea,fa,ia,ja,ka,la;
+u8 *w,*B,*C,*I,*M,*N,*R,*U,*V,*X,*Z,*ma,*na,*pa,*ra;
+s_64_64 z;
+u8 D,F,G,J,O,P,ga,ha,ua;
+q=q8(h);
+r=q4(h+8);
+s=q4(h+12);
 if((q8(c)&0x100000000000000u)==0){
-C=z;
-D=A;
-E=B;}
+t=q;
+u=r;
+v=s;}
 else{
-if(!((e<65537)&(B==11))){
-C=z;
-D=A;
-E=B;
+if(!((e<65537)&(s==11))){
+t=q;
+u=r;
+v=s;
 goto L1;}
-F=d;
-G=e;
-L2:if(G==0){
-H=(u64)(u8*)65536;
-z32(q);
-z40(r);
-z32(s);
-z16(t);
-z48(u);
-z32(v);
-z16(w);
-z16(x);
-z16(y);
-z24(o+8);
-z16(o+40);
-z32(o+64);
-z16(o+104);
-z32(o+128);
-z80(o+168);
-z16(o+256);
-z40(o+280);
-z16(o+328);
-z16(o+352);
-z16(o+376);
-z16(o+400);
-z16(o+424);
-z48(o+448);
-z32(o+504);
-z32(o+544);
-z104(o+584);
-z40(o+696);
-z16(o+744);
-z32(o+768);
-z24(o+808);
-z16(o+840);
-z32(o+864);
-z16(o+904);
-z24(o+928);
-z16(o+960);
-z16(o+984);
-z40(o+1008);
-z16(o+1056);
-z16(o+1080);
-z16(o+1104);
-z16(o+1128);
-z16(o+1152);
-z48(o+1176);
-z32(o+1232);
-z40(o+1272);
-z32(o+1320);
-z16(o+1360);
-z48(o+1384);
-z40(o+1440);
-z16(o+1488);
-z32(o+1512);
-z32(o+1552);
-z32(o+1592);
-z104(o+1632);
+w=d;
+x=e;
+L2:if(x==0){
+z48(o+1608);
+z24(p);
+y=(u64)(u8*)65536;
 wp(o,(u8*)65536);
+z24(o+8);
 wp(o+32,(u8*)65536);
+z16(o+40);
 wp(o+56,(u8*)65536);
+z32(o+64);
 wp(o+96,(u8*)65536);
+z16(o+104);
 wp(o+120,(u8*)65536);
+z32(o+128);
 wp(o+160,(u8*)65536);
+z80(o+168);
 wp(o+248,(u8*)65536);
+z16(o+256);
 wp(o+272,(u8*)65536);
+z40(o+280);
 wp(o+320,(u8*)65536);
+z16(o+328);
 wp(o+344,(u8*)65536);
+z16(o+352);
 wp(o+368,(u8*)65536);
+z16(o+376);
 wp(o+392,(u8*)65536);
+z16(o+400);
 wp(o+416,(u8*)65536);
+z16(o+424);
 wp(o+440,(u8*)65536);
+z48(o+448);
 wp(o+496,(u8*)65536);
+z32(o+504);
 wp(o+536,(u8*)65536);
+z32(o+544);
 wp(o+576,(u8*)65536);
-w8(o+688,H);
-w8(o+736,H);
+z104(o+584);
+w8(o+688,y);
+z40(o+696);
+w8(o+736,y);
+z16(o+744);
 wp(o+760,(u8*)65536);
+z32(o+768);
 wp(o+800,(u8*)65536);
+z24(o+808);
 wp(o+832,(u8*)65536);
+z16(o+840);
 wp(o+856,(u8*)65536);
+z32(o+864);
 wp(o+896,(u8*)65536);
+z16(o+904);
 wp(o+920,(u8*)65536);
+z24(o+928);
 wp(o+952,(u8*)65536);
+z16(o+960);
 wp(o+976,(u8*)65536);
+z16(o+984);
 wp(o+1000,(u8*)65536);
+z40(o+1008);
 wp(o+1048,(u8*)65536);
+z16(o+1056);
 wp(o+1072,(u8*)65536);
+z16(o+1080);
 wp(o+1096,(u8*)65536);
+z16(o+1104);
 wp(o+1120,(u8*)65536);
+z16(o+1128);
 wp(o+1144,(u8*)65536);
+z16(o+1152);
 wp(o+1168,(u8*)65536);
+z48(o+1176);
 wp(o+1224,(u8*)65536);
+z32(o+1232);
 wp(o+1264,(u8*)65536);
+z40(o+1272);
 wp(o+1312,(u8*)65536);
+z32(o+1320);
 wp(o+1352,(u8*)65536);
+z16(o+1360);
 wp(o+1376,(u8*)65536);
-w8(o+1432,H);
-w8(o+1480,H);
+z48(o+1384);
+w8(o+1432,y);
+z40(o+1440);
+w8(o+1480,y);
+z16(o+1488);
 wp(o+1504,(u8*)65536);
+z32(o+1512);
 wp(o+1544,(u8*)65536);
+z32(o+1552);
 wp(o+1584,(u8*)65536);
-wp(o+1624,(u8*)65536);
-wp(o+1736,(u8*)65536);
-memcpy(o+1744,q,32);
-wp(o+1776,(u8*)65536);
-memcpy(o+1784,r,40);
-wp(o+1824,(u8*)65536);
-memcpy(o+1832,s,32);
-wp(o+1864,(u8*)65536);
-memcpy(o+1872,t,16);
-wp(o+1888,(u8*)65536);
-memcpy(o+1896,u,48);
-wp(o+1944,(u8*)65536);
-memcpy(o+1952,v,32);
-wp(o+1984,(u8*)65536);
-memcpy(o+1992,w,16);
-wp(o+2008,(u8*)65536);
-memcpy(o+2016,x,16);
-wp(o+2032,(u8*)65536);
-memcpy(o+2040,y,16);
+z16(o+1592);
+wp(o+1608,(u8*)65536);
+z16(o+1616);
+wp(o+1632,(u8*)65536);
+z16(o+1640);
 wp(p,(u8*)65536);
 z16(p+8);
 z24(l);
 z12(m);
 z12(n);
-I=port_rattle_alloc(4,1);
-if((u8)(I.f0&1)){
-J=I.f1;
-K=(u8*)J;
-if(J-(u64)(u8*)t_f8a6<4)copy_bits_4f4((u8*)t_f8a6,K,4);
-else x4(K,1230264927);
-wp(k,K);
+z=port_rattle_alloc(4,1);
+if((u8)(z.f0&1)){
+A=z.f1;
+B=(u8*)A;
+if(A-(u64)(u8*)t_f8a6<4)copy_bits_4f4((u8*)t_f8a6,B,4);
+else x4(B,1230264927);
+wp(k,B);
 w8(k+8,4);
 w8(k+16,4);
 if(e==0){
-L=K;
-M=0;
-N=4;}
+C=B;
+D=0;
+E=4;}
 else{
-O=grow_amortized_2b6(k,e);
-if(!O){
+F=grow_amortized_2b6(k,e);
+if(!F){
 if(r8(k+16)==0){
-P=4;
-Q=0;
+G=4;
+H=0;
 goto L3;}
-R=rp(k);
-S=4;
-T=0;
+I=rp(k);
+J=4;
+K=0;
 goto L4;}
-L=rp(k);
-M=r8(k+16)==0;
-N=r8(k+8);}
-U=N+e;
-V=L+(i64)N;
-if((u64)V-(u64)d<e)copy_bits_4f4(d,V,e);
-else memmove(V,d,e);
+C=rp(k);
+D=r8(k+16)==0;
+E=r8(k+8);}
+L=E+e;
+M=C+(i64)E;
+if((u64)M-(u64)d<e)copy_bits_4f4(d,M,e);
+else memmove(M,d,e);
 wp(l,(u8*)65536);
 z16(l+8);
-append_018(m,b,o,0,L,U,l);
+append_018(m,b,o,0,C,L,l);
 if(*m==0){
-W=rp(l);
-append_after_words_c13(n,W,r8(l+8),p);
-X=*n;
-Y=n[4];
-Z=r4(n+8);
-if(r8(l+16)!=0)port_rattle_dealloc(W);
-if(!M)port_rattle_dealloc(L);
-if(X!=0){
-oa=Z;
-pa=Y;
+N=rp(l);
+append_after_words_c13(n,N,r8(l+8),p);
+O=*n;
+P=n[4];
+Q=r4(n+8);
+if(r8(l+16)!=0)port_rattle_dealloc(N);
+if(!D)port_rattle_dealloc(C);
+if(O!=0){
+fa=Q;
+ga=P;
 goto L5;}
-aa=rp(p);
-ba=r8(p+8);
-if(g<ba)ca=6;
+R=rp(p);
+S=r8(p+8);
+if(g<S)T=6;
 else{
-if((u64)f-(u64)aa<ba){
-copy_bits_4f4(aa,f,ba);
-ca=0;}
+if((u64)f-(u64)R<S){
+copy_bits_4f4(R,f,S);
+T=0;}
 else{
-memmove(f,aa,ba);
-ca=0;}}
-if(r8(p+16)!=0)port_rattle_dealloc(aa);
-da=rp(o+1944);
-ea=rp(o+1984);
-fa=r8(o+2000);
-ga=rp(o+2008);
-ha=r8(o+2024);
-ia=rp(o+2032);
-ja=r8(o+2048);
-ka=r8(o+1960);
-memcpy(j,o,1944);
+memmove(f,R,S);
+T=0;}}
+if(r8(p+16)!=0)port_rattle_dealloc(R);
+U=rp(o+1544);
+V=rp(o+1584);
+W=r8(o+1600);
+X=rp(o+1608);
+Y=r8(o+1624);
+Z=rp(o+1632);
+aa=r8(o+1648);
+ba=r8(o+1560);
+memcpy(j,o,1544);
 drop_1dd(j);
-if(ka!=0)port_rattle_dealloc(da);
-if(fa!=0)port_rattle_dealloc(ea);
-if(ha!=0)port_rattle_dealloc(ga);
-if(ja!=0)port_rattle_dealloc(ia);
-la=ba;
-ma=0;
-na=ca;
+if(ba!=0)port_rattle_dealloc(U);
+if(W!=0)port_rattle_dealloc(V);
+if(Y!=0)port_rattle_dealloc(X);
+if(aa!=0)port_rattle_dealloc(Z);
+ca=S;
+da=0;
+ea=T;
 goto L6;}
-qa=m[4];
-ra=r4(m+8);
-switch(qa){
-case 0:sa=usub32(ra,4);
+ha=m[4];
+ia=r4(m+8);
+switch(ha){
+case 0:ja=usub32(ia,4);
 break;
-case 1:sa=usub32(ra,4);
+case 1:ja=usub32(ia,4);
 break;
-case 2:sa=usub32(ra,4);
+case 2:ja=usub32(ia,4);
 break;
-case 3:case 4:sa=0;
+case 3:case 4:ja=0;
 break;
 default:NEVER;
 }
 if(r8(l+16)!=0)port_rattle_dealloc(rp(l));
-if(M){
-P=qa;
-Q=sa;
+if(D){
+G=ha;
+H=ja;
 goto L3;}
-R=L;
-S=qa;
-T=sa;
-L4:port_rattle_dealloc(R);
-P=S;
-Q=T;}
+I=C;
+J=ha;
+K=ja;
+L4:port_rattle_dealloc(I);
+G=J;
+H=K;}
 else{
-P=4;
-Q=0;}
-L3:oa=Q;
-pa=P;
-L5:switch(pa){
-case 0:ta=oa;
-ua=1;
+G=4;
+H=0;}
+L3:fa=H;
+ga=G;
+L5:switch(ga){
+case 0:ka=fa;
+la=1;
 break;
-case 1:ta=oa;
-ua=2;
+case 1:ka=fa;
+la=2;
 break;
-case 2:ta=oa;
-ua=3;
+case 2:ka=fa;
+la=3;
 break;
-case 3:ta=0;
-ua=4;
+case 3:ka=0;
+la=4;
 break;
-case 4:ta=0;
-ua=5;
+case 4:ka=0;
+la=5;
 break;
 default:NEVER;
 }
 if(r8(p+16)!=0)port_rattle_dealloc(rp(p));
-va=rp(o+1944);
-wa=rp(o+1984);
-xa=r8(o+2000);
-ya=rp(o+2008);
-za=r8(o+2024);
-Aa=rp(o+2032);
-Ba=r8(o+2048);
-Ca=r8(o+1960);
-memcpy(i,o,1944);
+ma=rp(o+1544);
+na=rp(o+1584);
+oa=r8(o+1600);
+pa=rp(o+1608);
+qa=r8(o+1624);
+ra=rp(o+1632);
+sa=r8(o+1648);
+ta=r8(o+1560);
+memcpy(i,o,1544);
 drop_1dd(i);
-if(Ca!=0)port_rattle_dealloc(va);
-if(xa!=0)port_rattle_dealloc(wa);
-if(za!=0)port_rattle_dealloc(ya);
-if(Ba!=0)port_rattle_dealloc(Aa);
-la=0;
-ma=ta;
-na=ua;
-L6:C=la;
-D=ma;
-E=na;}
+if(ta!=0)port_rattle_dealloc(ma);
+if(oa!=0)port_rattle_dealloc(na);
+if(qa!=0)port_rattle_dealloc(pa);
+if(sa!=0)port_rattle_dealloc(ra);
+ca=0;
+da=ka;
+ea=la;
+L6:t=ca;
+u=da;
+v=ea;}
 else{
-Da=*F;
-if(Da!=46&&*((u8*)t_e4d8+Da)>48){
-F=F+1;
-G=G-1;
+ua=*w;
+if(ua!=46&&*((u8*)t_e4d8+ua)>48){
+w=w+1;
+x=x-1;
 goto L2;}
-C=z;
-D=A;
-E=11;}}
-L1:x8(a,C);
-x4(a+8,D);
-x4(a+12,E);
+t=q;
+u=r;
+v=11;}}
+L1:x8(a,t);
+x4(a+8,u);
+x4(a+12,v);
 return;
 }
 
@@ -147989,171 +146903,95 @@ return;
 /* sym_calls::text::short_once */
 static void short_once_196(u8* a,u8* b,u8 c,u8* d,u64 e,u8* f,u64 g)
 {
-A16 u8 h[192],i[192],j[24],k[24];
-u8 l,o,w,A,H,K,S,W,da;
-u32 m,q,y,C,J,M,U,Y,ea;
-u64 n,p,t,v,x,B,D,E,I,L,P,R,T,X,aa,ca;
-u8 *r,*s,*u,*z,*F,*G,*N,*O,*Q,*V,*Z,*ba;
-z24(k);
-l=b[4];
+A16 u8 h[192],i[24];
+u32 j,w;
+u8 k,m,r,u,C;
+u64 l,n,o,p,q,v,z,B;
+u8 *s,*t,*x,*y,*A;
+z24(i);
 if(c==0){
-m=r4(b);
-if(l==0){
-wp(i,(u8*)65536);
-z16(i+8);
-wp(i+40,(u8*)65536);
-z16(i+48);
-wp(i+80,(u8*)65536);
-z104(i+88);
-n=umin64(m>>2,(e<<5)+1024);
-w8(i+24,n);
-w8(i+32,0);
-w8(i+64,e);
-w8(i+72,0);
-w8(i+104,e);
-o=run_197(i,d,e,n);
-if(o){
-if(r8(i+48)!=0)w8(i+48,0);
-z16(i+64);
-if(r8(i+88)!=0)w8(i+88,0);
-z16(i+104);
-p=r8(i+8);
-if(g<p)q=6;
-else{
-r=rp(i);
-if((u64)f-(u64)r<p){
-copy_bits_4f4(r,f,p);
-q=0;}
-else{
-memmove(f,r,p);
-q=0;}}
-s=rp(i+40);
-t=r8(i+56);
-u=rp(i+80);
-v=r8(i+96);
-if(r8(i+16)!=0)port_rattle_dealloc(rp(i));
-if(t!=0)port_rattle_dealloc(s);
-if(v==0){
-w=1;
-x=p;
-y=q;
-goto L1;}
-z=u;
-A=1;
-B=p;
-C=q;}
-else{
-if(r8(i+8)!=0)w8(i+8,0);
-z16(i+24);
-if(r8(i+48)!=0)w8(i+48,0);
-D=r8(i+56);
-if(r8(i+88)!=0)w8(i+88,0);
-E=r8(i+96);
-i[172]=0;
-z16(i+64);
-z16(i+104);
-F=rp(i+40);
-G=rp(i+80);
-if(r8(i+16)!=0)port_rattle_dealloc(rp(i));
-if(D!=0)port_rattle_dealloc(F);
-if(E==0){
-w=0;
-x=0;
-y=0;
-goto L1;}
-z=G;
-A=0;
-B=0;
-C=0;}
-port_rattle_dealloc(z);
-w=A;
-x=B;
-y=C;
-L1:H=w;
-I=x;
-J=y;}
-else{
+j=r4(b);
+k=b[4];
 wp(h,(u8*)65536);
 z32(h+8);
 wp(h+40,(u8*)65536);
 z32(h+48);
 wp(h+80,(u8*)65536);
 z104(h+88);
-K=write_less_2c7(h,d,e,m,0,l);
-if(K){
-L=r8(h+8);
-if(g<L)M=6;
+if(k==0){
+l=umin64(j>>2,(e<<5)+1024);
+w8(h+24,l);
+w8(h+32,0);
+w8(h+64,e);
+w8(h+72,0);
+w8(h+104,e);
+w8(h+112,0);
+h[172]=0;
+m=run_197(h,d,e,l);
+if(m){
+if(r8(h+48)!=0)w8(h+48,0);
+z16(h+64);
+if(r8(h+88)!=0)w8(h+88,0);
+z16(h+104);
+goto L1;}
+if(r8(h+8)!=0)w8(h+8,0);
+z16(h+24);
+if(r8(h+48)!=0)w8(h+48,0);
+n=r8(h+56);
+if(r8(h+88)!=0)w8(h+88,0);
+o=r8(h+96);
+h[172]=0;
+z16(h+64);
+z16(h+104);
+p=o;
+q=n;}
 else{
-N=rp(h);
-if((u64)f-(u64)N<L){
-copy_bits_4f4(N,f,L);
-M=0;}
-else{
-memmove(f,N,L);
-M=0;}}
-O=rp(h+40);
-P=r8(h+56);
-Q=rp(h+80);
-R=r8(h+96);
+r=write_less_2c7(h,d,e,j,0,k);
+if(r)goto L1;
+p=r8(h+96);
+q=r8(h+56);}
+s=rp(h+40);
+t=rp(h+80);
 if(r8(h+16)!=0)port_rattle_dealloc(rp(h));
-if(P!=0)port_rattle_dealloc(O);
-if(R==0){
-S=1;
-T=L;
-U=M;
-goto L2;}
-V=Q;
-W=1;
-X=L;
-Y=M;}
+if(q!=0)port_rattle_dealloc(s);
+if(p!=0)port_rattle_dealloc(t);
+z24(i);
+u=0;
+goto L2;
+L1:v=r8(h+8);
+if(g<v)w=6;
 else{
-Z=rp(h+40);
-aa=r8(h+56);
-ba=rp(h+80);
-ca=r8(h+96);
+x=rp(h);
+if((u64)f-(u64)x<v){
+copy_bits_4f4(x,f,v);
+w=0;}
+else{
+memmove(f,x,v);
+w=0;}}
+y=rp(h+40);
+z=r8(h+56);
+A=rp(h+80);
+B=r8(h+96);
 if(r8(h+16)!=0)port_rattle_dealloc(rp(h));
-if(aa!=0)port_rattle_dealloc(Z);
-if(ca==0){
-S=0;
-T=0;
-U=0;
-goto L2;}
-V=ba;
-W=0;
-X=0;
-Y=0;}
-port_rattle_dealloc(V);
-S=W;
-T=X;
-U=Y;
-L2:H=S;
-I=T;
-J=U;}
-w8(k+8,I);
-w4(k+16,0);
-w4(k+20,J);
-da=H;}
+if(z!=0)port_rattle_dealloc(y);
+if(B!=0)port_rattle_dealloc(A);
+w8(i+8,v);
+w4(i+16,0);
+w4(i+20,w);
+u=1;
+L2:C=u;}
 else{
-ea=r4(b);
-switch(l){
-case 0:case 2:write_short_198(k,d,e,ea,f,g);
-da=*k;
-break;
-case 1:case 3:brief_once_66e(j,d,e,ea,f,g);
-x8(a,*j);
-memcpy(a+8,j+8,16);
-goto L3;
-default:NEVER;
-}}
-x8(a,da);
-memcpy(a+8,k+8,16);
-L3:return;
+write_short_198(i,d,e,r4(b),(u32)16777472>>((u32)b[4]<<3),f,g);
+C=*i;}
+x8(a,C);
+memcpy(a+8,i+8,16);
+return;
 }
 
 /* sym_calls::text::or_type */
 static void or_type_81e(u8* a,u8* b,u8* c,u8* d,u64 e,u8* f,u64 g,u8* h)
 {
-A16 u8 i[12],j[24],k[24],l[12],m[1944],n[24],o[1944],p[1944];
+A16 u8 i[12],j[24],k[24],l[12],m[1544],n[24],o[1544],p[1544];
 u64 q,t,x,y,A,E,L,P,Q,R,S,U,V,W,Y,Z,aa,ba,ca,ea,fa,ga,ha,na,qa,va;
 u32 r,s,u,v,H,K,la,oa,ra,sa,wa,xa,ya,Ba,Ca,Da,Ea;
 u8 *w,*B,*C,*I,*M,*ia,*ma,*pa,*ta,*ua;
@@ -148175,10 +147013,8 @@ goto L1;}
 w=d;
 x=e;
 L2:if(x==0){
-zero_all(m+1584,360);
-z24(n);
-zero_all(o,1944);
-zero_all(p,1944);
+zero_all(o,1544);
+zero_all(p,1544);
 y=(u64)(u8*)65536;
 wp(m,(u8*)65536);
 z24(m+8);
@@ -148264,22 +147100,6 @@ w8(m+1480,y);
 z16(m+1488);
 wp(m+1504,(u8*)65536);
 z32(m+1512);
-wp(m+1544,(u8*)65536);
-z32(m+1552);
-wp(m+1584,(u8*)65536);
-z32(m+1592);
-wp(m+1624,(u8*)65536);
-z104(m+1632);
-wp(m+1736,(u8*)65536);
-z32(m+1744);
-wp(m+1776,(u8*)65536);
-z40(m+1784);
-wp(m+1824,(u8*)65536);
-z32(m+1832);
-wp(m+1864,(u8*)65536);
-z16(m+1872);
-wp(m+1888,(u8*)65536);
-z48(m+1896);
 wp(n,(u8*)65536);
 z16(n+8);
 z12(l);
@@ -148486,7 +147306,7 @@ pa=ua;
 qa=va;
 ra=wa;
 sa=xa;
-L12:memcpy(pa,m,1944);
+L12:memcpy(pa,m,1544);
 drop_1dd(pa);
 t=qa;
 u=ra;
@@ -148509,7 +147329,7 @@ return;
 /* sym_calls::text::or_type */
 static void or_type_2d2(u8* a,u8* b,u8* c,u8* d,u64 e,u8* f,u64 g,u8* h)
 {
-A16 u8 i[24],j[24],k[12],l[12],m[1944],n[24],o[1944],p[1944];
+A16 u8 i[24],j[24],k[12],l[12],m[1544],n[24],o[1544],p[1544];
 u64 q,t,x,y,A,E,L,S,V,aa;
 u32 r,s,u,v,H,K,Q,T,W,X,ba,ca,da,ga,ha,ia,ja;
 u8 *w,*B,*C,*I,*M,*N,*R,*U,*Y,*Z;
@@ -148531,10 +147351,8 @@ goto L1;}
 w=d;
 x=e;
 L2:if(x==0){
-zero_all(m+1584,360);
-z24(n);
-zero_all(o,1944);
-zero_all(p,1944);
+zero_all(o,1544);
+zero_all(p,1544);
 y=(u64)(u8*)65536;
 wp(m,(u8*)65536);
 z24(m+8);
@@ -148620,22 +147438,6 @@ w8(m+1480,y);
 z16(m+1488);
 wp(m+1504,(u8*)65536);
 z32(m+1512);
-wp(m+1544,(u8*)65536);
-z32(m+1552);
-wp(m+1584,(u8*)65536);
-z32(m+1592);
-wp(m+1624,(u8*)65536);
-z104(m+1632);
-wp(m+1736,(u8*)65536);
-z32(m+1744);
-wp(m+1776,(u8*)65536);
-z40(m+1784);
-wp(m+1824,(u8*)65536);
-z32(m+1832);
-wp(m+1864,(u8*)65536);
-z16(m+1872);
-wp(m+1888,(u8*)65536);
-z48(m+1896);
 wp(n,(u8*)65536);
 z16(n+8);
 z24(j);
@@ -148772,7 +147574,7 @@ U=Z;
 V=aa;
 W=ba;
 X=ca;
-L6:memcpy(U,m,1944);
+L6:memcpy(U,m,1544);
 drop_1dd(U);
 t=V;
 u=W;
@@ -148795,619 +147597,573 @@ return;
 /* sym_calls::text::or_type */
 static void or_type_f0b(u8* a,u8* b,u8* c,u8* d,u64 e,u8* f,u64 g,u8* h)
 {
-A16 u8 i[1944],j[1944],k[24],l[24],m[12],n[12],o[2056],p[24],q[32],r[40],s[32],t[16],u[48],v[32],w[16],x[16],y[16];
-u64 z,C,G,H,J,N,U,ba,fa,ha,ja,ka,la,xa,za,Ba,Ca;
-u32 A,B,D,E,Q,T,Z,ca,ma,na,oa,ra,sa,ta,ua;
-u8 *F,*K,*L,*R,*V,*W,*aa,*da,*ea,*ga,*ia,*va,*wa,*ya,*Aa;
-s_64_64 I;
-u8 M,O,P,S,X,Y,pa,qa,Da;
-z=q8(h);
-A=q4(h+8);
-B=q4(h+12);
+A16 u8 i[1544],j[1544],k[24],l[24],m[12],n[12],o[1656],p[24];
+u64 q,t,x,y,A,E,L,S,W,Y,aa,ba,ca,oa,qa,sa,ta;
+u32 r,s,u,v,H,K,Q,T,da,ea,fa,ia,ja,ka,la;
+u8 *w,*B,*C,*I,*M,*N,*R,*U,*V,*X,*Z,*ma,*na,*pa,*ra;
+s_64_64 z;
+u8 D,F,G,J,O,P,ga,ha,ua;
+q=q8(h);
+r=q4(h+8);
+s=q4(h+12);
 if((q8(c)&0x100000000000000u)==0){
-C=z;
-D=A;
-E=B;}
+t=q;
+u=r;
+v=s;}
 else{
-if(!((e<65537)&(B==11))){
-C=z;
-D=A;
-E=B;
+if(!((e<65537)&(s==11))){
+t=q;
+u=r;
+v=s;
 goto L1;}
-F=d;
-G=e;
-L2:if(G==0){
-H=(u64)(u8*)65536;
-z32(q);
-z40(r);
-z32(s);
-z16(t);
-z48(u);
-z32(v);
-z16(w);
-z16(x);
-z16(y);
-z24(o+8);
-z16(o+40);
-z32(o+64);
-z16(o+104);
-z32(o+128);
-z80(o+168);
-z16(o+256);
-z40(o+280);
-z16(o+328);
-z16(o+352);
-z16(o+376);
-z16(o+400);
-z16(o+424);
-z48(o+448);
-z32(o+504);
-z32(o+544);
-z104(o+584);
-z40(o+696);
-z16(o+744);
-z32(o+768);
-z24(o+808);
-z16(o+840);
-z32(o+864);
-z16(o+904);
-z24(o+928);
-z16(o+960);
-z16(o+984);
-z40(o+1008);
-z16(o+1056);
-z16(o+1080);
-z16(o+1104);
-z16(o+1128);
-z16(o+1152);
-z48(o+1176);
-z32(o+1232);
-z40(o+1272);
-z32(o+1320);
-z16(o+1360);
-z48(o+1384);
-z40(o+1440);
-z16(o+1488);
-z32(o+1512);
-z32(o+1552);
-z32(o+1592);
-z104(o+1632);
+w=d;
+x=e;
+L2:if(x==0){
+z48(o+1608);
+z24(p);
+y=(u64)(u8*)65536;
 wp(o,(u8*)65536);
+z24(o+8);
 wp(o+32,(u8*)65536);
+z16(o+40);
 wp(o+56,(u8*)65536);
+z32(o+64);
 wp(o+96,(u8*)65536);
+z16(o+104);
 wp(o+120,(u8*)65536);
+z32(o+128);
 wp(o+160,(u8*)65536);
+z80(o+168);
 wp(o+248,(u8*)65536);
+z16(o+256);
 wp(o+272,(u8*)65536);
+z40(o+280);
 wp(o+320,(u8*)65536);
+z16(o+328);
 wp(o+344,(u8*)65536);
+z16(o+352);
 wp(o+368,(u8*)65536);
+z16(o+376);
 wp(o+392,(u8*)65536);
+z16(o+400);
 wp(o+416,(u8*)65536);
+z16(o+424);
 wp(o+440,(u8*)65536);
+z48(o+448);
 wp(o+496,(u8*)65536);
+z32(o+504);
 wp(o+536,(u8*)65536);
+z32(o+544);
 wp(o+576,(u8*)65536);
-w8(o+688,H);
-w8(o+736,H);
+z104(o+584);
+w8(o+688,y);
+z40(o+696);
+w8(o+736,y);
+z16(o+744);
 wp(o+760,(u8*)65536);
+z32(o+768);
 wp(o+800,(u8*)65536);
+z24(o+808);
 wp(o+832,(u8*)65536);
+z16(o+840);
 wp(o+856,(u8*)65536);
+z32(o+864);
 wp(o+896,(u8*)65536);
+z16(o+904);
 wp(o+920,(u8*)65536);
+z24(o+928);
 wp(o+952,(u8*)65536);
+z16(o+960);
 wp(o+976,(u8*)65536);
+z16(o+984);
 wp(o+1000,(u8*)65536);
+z40(o+1008);
 wp(o+1048,(u8*)65536);
+z16(o+1056);
 wp(o+1072,(u8*)65536);
+z16(o+1080);
 wp(o+1096,(u8*)65536);
+z16(o+1104);
 wp(o+1120,(u8*)65536);
+z16(o+1128);
 wp(o+1144,(u8*)65536);
+z16(o+1152);
 wp(o+1168,(u8*)65536);
+z48(o+1176);
 wp(o+1224,(u8*)65536);
+z32(o+1232);
 wp(o+1264,(u8*)65536);
+z40(o+1272);
 wp(o+1312,(u8*)65536);
+z32(o+1320);
 wp(o+1352,(u8*)65536);
+z16(o+1360);
 wp(o+1376,(u8*)65536);
-w8(o+1432,H);
-w8(o+1480,H);
+z48(o+1384);
+w8(o+1432,y);
+z40(o+1440);
+w8(o+1480,y);
+z16(o+1488);
 wp(o+1504,(u8*)65536);
+z32(o+1512);
 wp(o+1544,(u8*)65536);
+z32(o+1552);
 wp(o+1584,(u8*)65536);
-wp(o+1624,(u8*)65536);
-wp(o+1736,(u8*)65536);
-memcpy(o+1744,q,32);
-wp(o+1776,(u8*)65536);
-memcpy(o+1784,r,40);
-wp(o+1824,(u8*)65536);
-memcpy(o+1832,s,32);
-wp(o+1864,(u8*)65536);
-memcpy(o+1872,t,16);
-wp(o+1888,(u8*)65536);
-memcpy(o+1896,u,48);
-wp(o+1944,(u8*)65536);
-memcpy(o+1952,v,32);
-wp(o+1984,(u8*)65536);
-memcpy(o+1992,w,16);
-wp(o+2008,(u8*)65536);
-memcpy(o+2016,x,16);
-wp(o+2032,(u8*)65536);
-memcpy(o+2040,y,16);
+z16(o+1592);
+wp(o+1608,(u8*)65536);
+z16(o+1616);
+wp(o+1632,(u8*)65536);
+z16(o+1640);
 wp(p,(u8*)65536);
 z16(p+8);
 z24(l);
 z12(m);
 z12(n);
-I=port_rattle_alloc(4,1);
-if((u8)(I.f0&1)){
-J=I.f1;
-K=(u8*)J;
-if(J-(u64)(u8*)t_f8a6<4)copy_bits_4f4((u8*)t_f8a6,K,4);
-else x4(K,1230264927);
-wp(k,K);
+z=port_rattle_alloc(4,1);
+if((u8)(z.f0&1)){
+A=z.f1;
+B=(u8*)A;
+if(A-(u64)(u8*)t_f8a6<4)copy_bits_4f4((u8*)t_f8a6,B,4);
+else x4(B,1230264927);
+wp(k,B);
 w8(k+8,4);
 w8(k+16,4);
 if(e==0){
-L=K;
-M=0;
-N=4;}
+C=B;
+D=0;
+E=4;}
 else{
-O=grow_amortized_2b6(k,e);
-if(!O){
+F=grow_amortized_2b6(k,e);
+if(!F){
 if(r8(k+16)==0){
-P=4;
-Q=0;
+G=4;
+H=0;
 goto L3;}
-R=rp(k);
-S=4;
-T=0;
+I=rp(k);
+J=4;
+K=0;
 goto L4;}
-L=rp(k);
-M=r8(k+16)==0;
-N=r8(k+8);}
-U=N+e;
-V=L+(i64)N;
-if((u64)V-(u64)d<e)copy_bits_4f4(d,V,e);
-else memmove(V,d,e);
+C=rp(k);
+D=r8(k+16)==0;
+E=r8(k+8);}
+L=E+e;
+M=C+(i64)E;
+if((u64)M-(u64)d<e)copy_bits_4f4(d,M,e);
+else memmove(M,d,e);
 wp(l,(u8*)65536);
 z16(l+8);
-append_dd4(m,b,o,0,L,U,l);
+append_dd4(m,b,o,0,C,L,l);
 if(*m==0){
-W=rp(l);
-append_after_words_c13(n,W,r8(l+8),p);
-X=*n;
-Y=n[4];
-Z=r4(n+8);
-if(r8(l+16)!=0)port_rattle_dealloc(W);
-if(!M)port_rattle_dealloc(L);
-if(X!=0){
-oa=Z;
-pa=Y;
+N=rp(l);
+append_after_words_c13(n,N,r8(l+8),p);
+O=*n;
+P=n[4];
+Q=r4(n+8);
+if(r8(l+16)!=0)port_rattle_dealloc(N);
+if(!D)port_rattle_dealloc(C);
+if(O!=0){
+fa=Q;
+ga=P;
 goto L5;}
-aa=rp(p);
-ba=r8(p+8);
-if(g<ba)ca=6;
+R=rp(p);
+S=r8(p+8);
+if(g<S)T=6;
 else{
-if((u64)f-(u64)aa<ba){
-copy_bits_4f4(aa,f,ba);
-ca=0;}
+if((u64)f-(u64)R<S){
+copy_bits_4f4(R,f,S);
+T=0;}
 else{
-memmove(f,aa,ba);
-ca=0;}}
-if(r8(p+16)!=0)port_rattle_dealloc(aa);
-da=rp(o+1944);
-ea=rp(o+1984);
-fa=r8(o+2000);
-ga=rp(o+2008);
-ha=r8(o+2024);
-ia=rp(o+2032);
-ja=r8(o+2048);
-ka=r8(o+1960);
-memcpy(j,o,1944);
+memmove(f,R,S);
+T=0;}}
+if(r8(p+16)!=0)port_rattle_dealloc(R);
+U=rp(o+1544);
+V=rp(o+1584);
+W=r8(o+1600);
+X=rp(o+1608);
+Y=r8(o+1624);
+Z=rp(o+1632);
+aa=r8(o+1648);
+ba=r8(o+1560);
+memcpy(j,o,1544);
 drop_1dd(j);
-if(ka!=0)port_rattle_dealloc(da);
-if(fa!=0)port_rattle_dealloc(ea);
-if(ha!=0)port_rattle_dealloc(ga);
-if(ja!=0)port_rattle_dealloc(ia);
-la=ba;
-ma=0;
-na=ca;
+if(ba!=0)port_rattle_dealloc(U);
+if(W!=0)port_rattle_dealloc(V);
+if(Y!=0)port_rattle_dealloc(X);
+if(aa!=0)port_rattle_dealloc(Z);
+ca=S;
+da=0;
+ea=T;
 goto L6;}
-qa=m[4];
-ra=r4(m+8);
-switch(qa){
-case 0:sa=usub32(ra,4);
+ha=m[4];
+ia=r4(m+8);
+switch(ha){
+case 0:ja=usub32(ia,4);
 break;
-case 1:sa=usub32(ra,4);
+case 1:ja=usub32(ia,4);
 break;
-case 2:sa=usub32(ra,4);
+case 2:ja=usub32(ia,4);
 break;
-case 3:case 4:sa=0;
+case 3:case 4:ja=0;
 break;
 default:NEVER;
 }
 if(r8(l+16)!=0)port_rattle_dealloc(rp(l));
-if(M){
-P=qa;
-Q=sa;
+if(D){
+G=ha;
+H=ja;
 goto L3;}
-R=L;
-S=qa;
-T=sa;
-L4:port_rattle_dealloc(R);
-P=S;
-Q=T;}
+I=C;
+J=ha;
+K=ja;
+L4:port_rattle_dealloc(I);
+G=J;
+H=K;}
 else{
-P=4;
-Q=0;}
-L3:oa=Q;
-pa=P;
-L5:switch(pa){
-case 0:ta=oa;
-ua=1;
+G=4;
+H=0;}
+L3:fa=H;
+ga=G;
+L5:switch(ga){
+case 0:ka=fa;
+la=1;
 break;
-case 1:ta=oa;
-ua=2;
+case 1:ka=fa;
+la=2;
 break;
-case 2:ta=oa;
-ua=3;
+case 2:ka=fa;
+la=3;
 break;
-case 3:ta=0;
-ua=4;
+case 3:ka=0;
+la=4;
 break;
-case 4:ta=0;
-ua=5;
+case 4:ka=0;
+la=5;
 break;
 default:NEVER;
 }
 if(r8(p+16)!=0)port_rattle_dealloc(rp(p));
-va=rp(o+1944);
-wa=rp(o+1984);
-xa=r8(o+2000);
-ya=rp(o+2008);
-za=r8(o+2024);
-Aa=rp(o+2032);
-Ba=r8(o+2048);
-Ca=r8(o+1960);
-memcpy(i,o,1944);
+ma=rp(o+1544);
+na=rp(o+1584);
+oa=r8(o+1600);
+pa=rp(o+1608);
+qa=r8(o+1624);
+ra=rp(o+1632);
+sa=r8(o+1648);
+ta=r8(o+1560);
+memcpy(i,o,1544);
 drop_1dd(i);
-if(Ca!=0)port_rattle_dealloc(va);
-if(xa!=0)port_rattle_dealloc(wa);
-if(za!=0)port_rattle_dealloc(ya);
-if(Ba!=0)port_rattle_dealloc(Aa);
-la=0;
-ma=ta;
-na=ua;
-L6:C=la;
-D=ma;
-E=na;}
+if(ta!=0)port_rattle_dealloc(ma);
+if(oa!=0)port_rattle_dealloc(na);
+if(qa!=0)port_rattle_dealloc(pa);
+if(sa!=0)port_rattle_dealloc(ra);
+ca=0;
+da=ka;
+ea=la;
+L6:t=ca;
+u=da;
+v=ea;}
 else{
-Da=*F;
-if(Da!=46&&*((u8*)t_e4d8+Da)>48){
-F=F+1;
-G=G-1;
+ua=*w;
+if(ua!=46&&*((u8*)t_e4d8+ua)>48){
+w=w+1;
+x=x-1;
 goto L2;}
-C=z;
-D=A;
-E=11;}}
-L1:x8(a,C);
-x4(a+8,D);
-x4(a+12,E);
+t=q;
+u=r;
+v=11;}}
+L1:x8(a,t);
+x4(a+8,u);
+x4(a+12,v);
 return;
 }
 
 /* sym_calls::text::or_type */
 static void or_type_504(u8* a,u8* b,u8* c,u8* d,u64 e,u8* f,u64 g,u8* h)
 {
-A16 u8 i[1944],j[1944],k[24],l[24],m[12],n[12],o[2056],p[24],q[32],r[40],s[32],t[16],u[48],v[32],w[16],x[16],y[16];
-u64 z,C,G,H,J,N,U,ba,fa,ha,ja,ka,la,xa,za,Ba,Ca;
-u32 A,B,D,E,Q,T,Z,ca,ma,na,oa,ra,sa,ta,ua;
-u8 *F,*K,*L,*R,*V,*W,*aa,*da,*ea,*ga,*ia,*va,*wa,*ya,*Aa;
-s_64_64 I;
-u8 M,O,P,S,X,Y,pa,qa,Da;
-z=q8(h);
-A=q4(h+8);
-B=q4(h+12);
+A16 u8 i[1544],j[1544],k[24],l[24],m[12],n[12],o[1656],p[24];
+u64 q,t,x,y,A,E,L,S,W,Y,aa,ba,ca,oa,qa,sa,ta;
+u32 r,s,u,v,H,K,Q,T,da,ea,fa,ia,ja,ka,la;
+u8 *w,*B,*C,*I,*M,*N,*R,*U,*V,*X,*Z,*ma,*na,*pa,*ra;
+s_64_64 z;
+u8 D,F,G,J,O,P,ga,ha,ua;
+q=q8(h);
+r=q4(h+8);
+s=q4(h+12);
 if((q8(c)&0x100000000000000u)==0){
-C=z;
-D=A;
-E=B;}
+t=q;
+u=r;
+v=s;}
 else{
-if(!((e<65537)&(B==11))){
-C=z;
-D=A;
-E=B;
+if(!((e<65537)&(s==11))){
+t=q;
+u=r;
+v=s;
 goto L1;}
-F=d;
-G=e;
-L2:if(G==0){
-H=(u64)(u8*)65536;
-z32(q);
-z40(r);
-z32(s);
-z16(t);
-z48(u);
-z32(v);
-z16(w);
-z16(x);
-z16(y);
-z24(o+8);
-z16(o+40);
-z32(o+64);
-z16(o+104);
-z32(o+128);
-z80(o+168);
-z16(o+256);
-z40(o+280);
-z16(o+328);
-z16(o+352);
-z16(o+376);
-z16(o+400);
-z16(o+424);
-z48(o+448);
-z32(o+504);
-z32(o+544);
-z104(o+584);
-z40(o+696);
-z16(o+744);
-z32(o+768);
-z24(o+808);
-z16(o+840);
-z32(o+864);
-z16(o+904);
-z24(o+928);
-z16(o+960);
-z16(o+984);
-z40(o+1008);
-z16(o+1056);
-z16(o+1080);
-z16(o+1104);
-z16(o+1128);
-z16(o+1152);
-z48(o+1176);
-z32(o+1232);
-z40(o+1272);
-z32(o+1320);
-z16(o+1360);
-z48(o+1384);
-z40(o+1440);
-z16(o+1488);
-z32(o+1512);
-z32(o+1552);
-z32(o+1592);
-z104(o+1632);
+w=d;
+x=e;
+L2:if(x==0){
+z48(o+1608);
+z24(p);
+y=(u64)(u8*)65536;
 wp(o,(u8*)65536);
+z24(o+8);
 wp(o+32,(u8*)65536);
+z16(o+40);
 wp(o+56,(u8*)65536);
+z32(o+64);
 wp(o+96,(u8*)65536);
+z16(o+104);
 wp(o+120,(u8*)65536);
+z32(o+128);
 wp(o+160,(u8*)65536);
+z80(o+168);
 wp(o+248,(u8*)65536);
+z16(o+256);
 wp(o+272,(u8*)65536);
+z40(o+280);
 wp(o+320,(u8*)65536);
+z16(o+328);
 wp(o+344,(u8*)65536);
+z16(o+352);
 wp(o+368,(u8*)65536);
+z16(o+376);
 wp(o+392,(u8*)65536);
+z16(o+400);
 wp(o+416,(u8*)65536);
+z16(o+424);
 wp(o+440,(u8*)65536);
+z48(o+448);
 wp(o+496,(u8*)65536);
+z32(o+504);
 wp(o+536,(u8*)65536);
+z32(o+544);
 wp(o+576,(u8*)65536);
-w8(o+688,H);
-w8(o+736,H);
+z104(o+584);
+w8(o+688,y);
+z40(o+696);
+w8(o+736,y);
+z16(o+744);
 wp(o+760,(u8*)65536);
+z32(o+768);
 wp(o+800,(u8*)65536);
+z24(o+808);
 wp(o+832,(u8*)65536);
+z16(o+840);
 wp(o+856,(u8*)65536);
+z32(o+864);
 wp(o+896,(u8*)65536);
+z16(o+904);
 wp(o+920,(u8*)65536);
+z24(o+928);
 wp(o+952,(u8*)65536);
+z16(o+960);
 wp(o+976,(u8*)65536);
+z16(o+984);
 wp(o+1000,(u8*)65536);
+z40(o+1008);
 wp(o+1048,(u8*)65536);
+z16(o+1056);
 wp(o+1072,(u8*)65536);
+z16(o+1080);
 wp(o+1096,(u8*)65536);
+z16(o+1104);
 wp(o+1120,(u8*)65536);
+z16(o+1128);
 wp(o+1144,(u8*)65536);
+z16(o+1152);
 wp(o+1168,(u8*)65536);
+z48(o+1176);
 wp(o+1224,(u8*)65536);
+z32(o+1232);
 wp(o+1264,(u8*)65536);
+z40(o+1272);
 wp(o+1312,(u8*)65536);
+z32(o+1320);
 wp(o+1352,(u8*)65536);
+z16(o+1360);
 wp(o+1376,(u8*)65536);
-w8(o+1432,H);
-w8(o+1480,H);
+z48(o+1384);
+w8(o+1432,y);
+z40(o+1440);
+w8(o+1480,y);
+z16(o+1488);
 wp(o+1504,(u8*)65536);
+z32(o+1512);
 wp(o+1544,(u8*)65536);
+z32(o+1552);
 wp(o+1584,(u8*)65536);
-wp(o+1624,(u8*)65536);
-wp(o+1736,(u8*)65536);
-memcpy(o+1744,q,32);
-wp(o+1776,(u8*)65536);
-memcpy(o+1784,r,40);
-wp(o+1824,(u8*)65536);
-memcpy(o+1832,s,32);
-wp(o+1864,(u8*)65536);
-memcpy(o+1872,t,16);
-wp(o+1888,(u8*)65536);
-memcpy(o+1896,u,48);
-wp(o+1944,(u8*)65536);
-memcpy(o+1952,v,32);
-wp(o+1984,(u8*)65536);
-memcpy(o+1992,w,16);
-wp(o+2008,(u8*)65536);
-memcpy(o+2016,x,16);
-wp(o+2032,(u8*)65536);
-memcpy(o+2040,y,16);
+z16(o+1592);
+wp(o+1608,(u8*)65536);
+z16(o+1616);
+wp(o+1632,(u8*)65536);
+z16(o+1640);
 wp(p,(u8*)65536);
 z16(p+8);
 z24(l);
 z12(m);
 z12(n);
-I=port_rattle_alloc(4,1);
-if((u8)(I.f0&1)){
-J=I.f1;
-K=(u8*)J;
-if(J-(u64)(u8*)t_f8a6<4)copy_bits_4f4((u8*)t_f8a6,K,4);
-else x4(K,1230264927);
-wp(k,K);
+z=port_rattle_alloc(4,1);
+if((u8)(z.f0&1)){
+A=z.f1;
+B=(u8*)A;
+if(A-(u64)(u8*)t_f8a6<4)copy_bits_4f4((u8*)t_f8a6,B,4);
+else x4(B,1230264927);
+wp(k,B);
 w8(k+8,4);
 w8(k+16,4);
 if(e==0){
-L=K;
-M=0;
-N=4;}
+C=B;
+D=0;
+E=4;}
 else{
-O=grow_amortized_2b6(k,e);
-if(!O){
+F=grow_amortized_2b6(k,e);
+if(!F){
 if(r8(k+16)==0){
-P=4;
-Q=0;
+G=4;
+H=0;
 goto L3;}
-R=rp(k);
-S=4;
-T=0;
+I=rp(k);
+J=4;
+K=0;
 goto L4;}
-L=rp(k);
-M=r8(k+16)==0;
-N=r8(k+8);}
-U=N+e;
-V=L+(i64)N;
-if((u64)V-(u64)d<e)copy_bits_4f4(d,V,e);
-else memmove(V,d,e);
+C=rp(k);
+D=r8(k+16)==0;
+E=r8(k+8);}
+L=E+e;
+M=C+(i64)E;
+if((u64)M-(u64)d<e)copy_bits_4f4(d,M,e);
+else memmove(M,d,e);
 wp(l,(u8*)65536);
 z16(l+8);
-append_a0b_2(m,b,o,0,L,U,l);
+append_a0b_2(m,b,o,0,C,L,l);
 if(*m==0){
-W=rp(l);
-append_after_words_c13(n,W,r8(l+8),p);
-X=*n;
-Y=n[4];
-Z=r4(n+8);
-if(r8(l+16)!=0)port_rattle_dealloc(W);
-if(!M)port_rattle_dealloc(L);
-if(X!=0){
-oa=Z;
-pa=Y;
+N=rp(l);
+append_after_words_c13(n,N,r8(l+8),p);
+O=*n;
+P=n[4];
+Q=r4(n+8);
+if(r8(l+16)!=0)port_rattle_dealloc(N);
+if(!D)port_rattle_dealloc(C);
+if(O!=0){
+fa=Q;
+ga=P;
 goto L5;}
-aa=rp(p);
-ba=r8(p+8);
-if(g<ba)ca=6;
+R=rp(p);
+S=r8(p+8);
+if(g<S)T=6;
 else{
-if((u64)f-(u64)aa<ba){
-copy_bits_4f4(aa,f,ba);
-ca=0;}
+if((u64)f-(u64)R<S){
+copy_bits_4f4(R,f,S);
+T=0;}
 else{
-memmove(f,aa,ba);
-ca=0;}}
-if(r8(p+16)!=0)port_rattle_dealloc(aa);
-da=rp(o+1944);
-ea=rp(o+1984);
-fa=r8(o+2000);
-ga=rp(o+2008);
-ha=r8(o+2024);
-ia=rp(o+2032);
-ja=r8(o+2048);
-ka=r8(o+1960);
-memcpy(j,o,1944);
+memmove(f,R,S);
+T=0;}}
+if(r8(p+16)!=0)port_rattle_dealloc(R);
+U=rp(o+1544);
+V=rp(o+1584);
+W=r8(o+1600);
+X=rp(o+1608);
+Y=r8(o+1624);
+Z=rp(o+1632);
+aa=r8(o+1648);
+ba=r8(o+1560);
+memcpy(j,o,1544);
 drop_1dd(j);
-if(ka!=0)port_rattle_dealloc(da);
-if(fa!=0)port_rattle_dealloc(ea);
-if(ha!=0)port_rattle_dealloc(ga);
-if(ja!=0)port_rattle_dealloc(ia);
-la=ba;
-ma=0;
-na=ca;
+if(ba!=0)port_rattle_dealloc(U);
+if(W!=0)port_rattle_dealloc(V);
+if(Y!=0)port_rattle_dealloc(X);
+if(aa!=0)port_rattle_dealloc(Z);
+ca=S;
+da=0;
+ea=T;
 goto L6;}
-qa=m[4];
-ra=r4(m+8);
-switch(qa){
-case 0:sa=usub32(ra,4);
+ha=m[4];
+ia=r4(m+8);
+switch(ha){
+case 0:ja=usub32(ia,4);
 break;
-case 1:sa=usub32(ra,4);
+case 1:ja=usub32(ia,4);
 break;
-case 2:sa=usub32(ra,4);
+case 2:ja=usub32(ia,4);
 break;
-case 3:case 4:sa=0;
+case 3:case 4:ja=0;
 break;
 default:NEVER;
 }
 if(r8(l+16)!=0)port_rattle_dealloc(rp(l));
-if(M){
-P=qa;
-Q=sa;
+if(D){
+G=ha;
+H=ja;
 goto L3;}
-R=L;
-S=qa;
-T=sa;
-L4:port_rattle_dealloc(R);
-P=S;
-Q=T;}
+I=C;
+J=ha;
+K=ja;
+L4:port_rattle_dealloc(I);
+G=J;
+H=K;}
 else{
-P=4;
-Q=0;}
-L3:oa=Q;
-pa=P;
-L5:switch(pa){
-case 0:ta=oa;
-ua=1;
+G=4;
+H=0;}
+L3:fa=H;
+ga=G;
+L5:switch(ga){
+case 0:ka=fa;
+la=1;
 break;
-case 1:ta=oa;
-ua=2;
+case 1:ka=fa;
+la=2;
 break;
-case 2:ta=oa;
-ua=3;
+case 2:ka=fa;
+la=3;
 break;
-case 3:ta=0;
-ua=4;
+case 3:ka=0;
+la=4;
 break;
-case 4:ta=0;
-ua=5;
+case 4:ka=0;
+la=5;
 break;
 default:NEVER;
 }
 if(r8(p+16)!=0)port_rattle_dealloc(rp(p));
-va=rp(o+1944);
-wa=rp(o+1984);
-xa=r8(o+2000);
-ya=rp(o+2008);
-za=r8(o+2024);
-Aa=rp(o+2032);
-Ba=r8(o+2048);
-Ca=r8(o+1960);
-memcpy(i,o,1944);
+ma=rp(o+1544);
+na=rp(o+1584);
+oa=r8(o+1600);
+pa=rp(o+1608);
+qa=r8(o+1624);
+ra=rp(o+1632);
+sa=r8(o+1648);
+ta=r8(o+1560);
+memcpy(i,o,1544);
 drop_1dd(i);
-if(Ca!=0)port_rattle_dealloc(va);
-if(xa!=0)port_rattle_dealloc(wa);
-if(za!=0)port_rattle_dealloc(ya);
-if(Ba!=0)port_rattle_dealloc(Aa);
-la=0;
-ma=ta;
-na=ua;
-L6:C=la;
-D=ma;
-E=na;}
+if(ta!=0)port_rattle_dealloc(ma);
+if(oa!=0)port_rattle_dealloc(na);
+if(qa!=0)port_rattle_dealloc(pa);
+if(sa!=0)port_rattle_dealloc(ra);
+ca=0;
+da=ka;
+ea=la;
+L6:t=ca;
+u=da;
+v=ea;}
 else{
-Da=*F;
-if(Da!=46&&*((u8*)t_e4d8+Da)>48){
-F=F+1;
-G=G-1;
+ua=*w;
+if(ua!=46&&*((u8*)t_e4d8+ua)>48){
+w=w+1;
+x=x-1;
 goto L2;}
-C=z;
-D=A;
-E=11;}}
-L1:x8(a,C);
-x4(a+8,D);
-x4(a+12,E);
+t=q;
+u=r;
+v=11;}}
+L1:x8(a,t);
+x4(a+8,u);
+x4(a+12,v);
 return;
 }
 
 /* symdemangle_counts_of */
 static void symdemangle_counts_of(u8* a,u64 b,u32 c,u8* d,u8* e)
 {
-A16 u8 f[1944],g[24],h[16],i[1944],j[1944],k[1944],l[8],m[1944],n[24],o[16],p[1944],q[1944],r[1944],s[8];
+A16 u8 f[1544],g[24],h[16],i[1544],j[1544],k[1544],l[8],m[1544],n[24],o[16],p[1544],q[1544],r[1544],s[8];
 u32 t,u,C,F,G,I,J,L,M,N,O,P,Q,R,T,U,W,X,Y,Z,aa;
 u8 *v,*D,*H,*K,*S,*V;
 u8 w,x,z,A;
@@ -149473,12 +148229,11 @@ D=v+(i64)y;
 E=(u64)(u8*)65536;
 if((w&4)==0){
 w8(l,0);
-zero_all(f+1544,400);
-z24(g);
+z16(g+8);
 z16(h);
-zero_all(i,1944);
-zero_all(j,1944);
-zero_all(k,1944);
+zero_all(i,1544);
+zero_all(j,1544);
+zero_all(k,1544);
 wp(f,(u8*)65536);
 z24(f+8);
 wp(f+32,(u8*)65536);
@@ -149563,22 +148318,6 @@ w8(f+1480,E);
 z16(f+1488);
 wp(f+1504,(u8*)65536);
 z32(f+1512);
-wp(f+1544,(u8*)65536);
-z32(f+1552);
-wp(f+1584,(u8*)65536);
-z32(f+1592);
-wp(f+1624,(u8*)65536);
-z104(f+1632);
-wp(f+1736,(u8*)65536);
-z32(f+1744);
-wp(f+1776,(u8*)65536);
-z40(f+1784);
-wp(f+1824,(u8*)65536);
-z32(f+1832);
-wp(f+1864,(u8*)65536);
-z16(f+1872);
-wp(f+1888,(u8*)65536);
-z48(f+1896);
 wp(g,(u8*)65536);
 z16(g+8);
 demangle_665(h,l,f,z,D,B,g);
@@ -149643,18 +148382,17 @@ port_rattle_dealloc(rp(g));
 H=K;
 I=L;
 J=M;
-L3:memcpy(H,f,1944);
+L3:memcpy(H,f,1544);
 drop_1dd(H);
 t=I;
 u=J;}
 else{
 w8(s,0);
-zero_all(m+1544,400);
-z24(n);
+z16(n+8);
 z16(o);
-zero_all(p,1944);
-zero_all(q,1944);
-zero_all(r,1944);
+zero_all(p,1544);
+zero_all(q,1544);
+zero_all(r,1544);
 wp(m,(u8*)65536);
 z24(m+8);
 wp(m+32,(u8*)65536);
@@ -149739,22 +148477,6 @@ w8(m+1480,E);
 z16(m+1488);
 wp(m+1504,(u8*)65536);
 z32(m+1512);
-wp(m+1544,(u8*)65536);
-z32(m+1552);
-wp(m+1584,(u8*)65536);
-z32(m+1592);
-wp(m+1624,(u8*)65536);
-z104(m+1632);
-wp(m+1736,(u8*)65536);
-z32(m+1744);
-wp(m+1776,(u8*)65536);
-z40(m+1784);
-wp(m+1824,(u8*)65536);
-z32(m+1832);
-wp(m+1864,(u8*)65536);
-z16(m+1872);
-wp(m+1888,(u8*)65536);
-z48(m+1896);
 wp(n,(u8*)65536);
 z16(n+8);
 demangle_d37(o,s,m,z,D,B,n);
@@ -149819,7 +148541,7 @@ port_rattle_dealloc(rp(n));
 S=V;
 T=W;
 U=X;
-L4:memcpy(S,m,1944);
+L4:memcpy(S,m,1544);
 drop_1dd(S);
 t=T;
 u=U;}}
@@ -150399,7 +149121,7 @@ return;
 /* symdemangle_press_of */
 static void symdemangle_press_of(u8* a,u64 b,u32 c,u8* d,u64 e,u8* f)
 {
-A16 u8 g[32],h[12],i[12],j[12],k[112],l[112],m[24],n[112],o[104],p[100],q[16],r[1944],s[24],t[1944],u[72],v[32],w[32],x[12],y[12],z[12],A[112],B[112],C[24],D[112],E[88],F[104],G[32],H[12],I[12],J[12],K[112],L[112],M[24],N[112],O[104],P[100],Q[16],R[1944],S[24],T[1944];
+A16 u8 g[32],h[12],i[12],j[12],k[112],l[112],m[24],n[112],o[104],p[100],q[16],r[1544],s[24],t[1544],u[72],v[32],w[32],x[12],y[12],z[12],A[112],B[112],C[24],D[112],E[88],F[104],G[32],H[12],I[12],J[12],K[112],L[112],M[24],N[112],O[104],P[100],Q[16],R[1544],S[24],T[1544];
 u8 *U,*V,*ja,*pa,*Da,*Ea,*Ia,*Ka,*Za,*ab,*cb,*jb,*kb,*mb,*yb,*zb,*Ib,*Lb,*Mb,*Pb,*Sb,*Vb,*bc,*fc,*qc,*Dc,*Jc,*Xc,*Yc,*cd,*ed,*ud,*vd,*yd,*Fd,*Gd,*Id,*Ud,*Vd,*ie,*le,*te,*He,*Ie,*Me,*Oe,*df,*ef,*gf,*of,*pf,*rf,*Cf,*Df,*Kf,*Mf,*Tf,*Vf,*Xf,*Yf,*bg,*eg,*fg,*ig,*yg,*Hg;
 u8 W,X,ba,ca,la,ma,na,ra,sa,ua,va,za,Fa,Ma,Oa,fb,gb,hb,ib,pb,qb,sb,vb,Ab,Db,Hb,Ub,Zb,gc,kc,lc,vc,wc,Fc,Gc,Hc,Lc,Mc,Oc,Pc,Tc,Zc,gd,Bd,Cd,Dd,Ed,Ld,Md,Od,Rd,Wd,Zd,je,ke,pe,qe,re,ve,we,ye,ze,De,Je,Qe,Se,kf,lf,mf,nf,uf,vf,xf,Af,Ef,Ff,Of,Pf,Wf,dg,kg,pg,tg,Ag,Bg,Fg;
 u64 Y,da,ea,fa,ga,ha,ka,qa,xa,ya,Aa,Ba,Ca,Ga,Ha,Ja,La,Qa,Ra,Sa,Ta,Ua,Va,Wa,Xa,bb,db,eb,lb,nb,ob,rb,tb,ub,xb,Jb,Kb,Nb,Ob,Qb,Rb,Tb,Wb,Xb,Yb,ac,cc,dc,ec,mc,nc,rc,xc,yc,zc,Ac,Bc,Ec,Kc,Rc,Sc,Uc,Vc,Wc,ad,bd,dd,fd,kd,ld,md,nd,od,pd,qd,sd,xd,zd,Ad,Hd,Jd,Kd,Nd,Pd,Qd,Td,ce,fe,ge,he,me,ne,oe,ue,Be,Ce,Ee,Fe,Ge,Ke,Le,Ne,Pe,Ue,Ve,We,Xe,Ye,Ze,af,bf,ff,hf,jf,qf,sf,tf,wf,yf,zf,Bf,If,Jf,Lf,Sf,Zf,ag,cg,gg,hg,jg,ng,og,qg,rg,sg,ug,vg,wg,xg,Cg,Dg;
@@ -150411,9 +149133,9 @@ V=d+(i64)(u64)(d==0?4096:0);
 W=c;
 X=b<2;
 if((W&4)==0){
-zero_all(r+1360,584);
+zero_all(r+1360,184);
 z24(s);
-zero_all(t,1944);
+zero_all(t,1544);
 if(X){
 Y=0;
 Z=0;
@@ -150564,22 +149286,6 @@ w8(r+1480,ha);
 z16(r+1488);
 wp(r+1504,(u8*)65536);
 z32(r+1512);
-wp(r+1544,(u8*)65536);
-z32(r+1552);
-wp(r+1584,(u8*)65536);
-z32(r+1592);
-wp(r+1624,(u8*)65536);
-z104(r+1632);
-wp(r+1736,(u8*)65536);
-z32(r+1744);
-wp(r+1776,(u8*)65536);
-z40(r+1784);
-wp(r+1824,(u8*)65536);
-z32(r+1832);
-wp(r+1864,(u8*)65536);
-z16(r+1872);
-wp(r+1888,(u8*)65536);
-z48(r+1896);
 wp(s,(u8*)65536);
 ja=U+(i64)da;
 z16(s+8);
@@ -150967,7 +149673,7 @@ break;
 default:NEVER;
 }
 if(r8(s+16)!=0)port_rattle_dealloc(rp(s));
-memcpy(t,r,1944);
+memcpy(t,r,1544);
 drop_1dd(t);
 Y=nc;
 Z=oc;
@@ -150980,9 +149686,9 @@ L1:rc=Y;
 sc=Z;
 tc=aa;}
 else{
-zero_all(R+1360,584);
+zero_all(R+1360,184);
 z24(S);
-zero_all(T,1944);
+zero_all(T,1544);
 if(X)uc=11;
 else{
 vc=*U==95;
@@ -151118,22 +149824,6 @@ w8(R+1480,Bc);
 z16(R+1488);
 wp(R+1504,(u8*)65536);
 z32(R+1512);
-wp(R+1544,(u8*)65536);
-z32(R+1552);
-wp(R+1584,(u8*)65536);
-z32(R+1592);
-wp(R+1624,(u8*)65536);
-z104(R+1632);
-wp(R+1736,(u8*)65536);
-z32(R+1744);
-wp(R+1776,(u8*)65536);
-z40(R+1784);
-wp(R+1824,(u8*)65536);
-z32(R+1832);
-wp(R+1864,(u8*)65536);
-z16(R+1872);
-wp(R+1888,(u8*)65536);
-z48(R+1896);
 wp(S,(u8*)65536);
 Dc=U+(i64)xc;
 z16(S+8);
@@ -151917,7 +150607,7 @@ break;
 default:NEVER;
 }
 if(r8(S+16)!=0)port_rattle_dealloc(rp(S));
-memcpy(T,R,1944);
+memcpy(T,R,1544);
 drop_1dd(T);
 if(Fg){
 rc=0;
@@ -151945,740 +150635,685 @@ return;
 /* symdemangle_text_of */
 static void symdemangle_text_of(u8* a,u64 b,u32 c,u32 d,u8* e,u64 f,u8* g)
 {
-A16 u8 h[1944],i[12],j[2056],k[24],l[2064],m[16],n[8],o[16],p[1944],q[12],r[2056],s[24],t[2064],u[16],v[8],w[16],x[12],y[12],z[1944],A[24],B[16],C[1944],D[1944],E[1944],F[24],G[16],H[16],I[24],J[12],K[1944],L[24],M[1944],N[1944],O[1944],P[16],Q[1944],R[24],S[1944],T[24],U[16],V[8],W[8],X[16],Y[8],Z[16],aa[1944],ba[12],ca[2056],da[24],ea[2064],fa[16],ga[8],ha[16],ia[1944],ja[12],ka[2056],la[24],ma[2064],na[16],oa[8],pa[16],qa[12],ra[12],sa[1944],ta[24],ua[16],va[1944],wa[1944],xa[1944],ya[24],za[16],Aa[16],Ba[24],Ca[12],Da[1944],Ea[24],Fa[1944],Ga[1944],Ha[1944],Ia[16],Ja[1944],Ka[24],La[1944],Ma[24],Na[16],Oa[8],Pa[8],Qa[16],Ra[8],Sa[16];
-u8 *Ta,*Ua,*rb,*tb,*wb,*Ab,*Bb,*Vb,*jc,*tc,*wc,*Ac,*Bc,*ad,*dd,*ed,*gd,*id,*Cd,*Fd,*Gd,*Id,*Kd,*Xd,*Zd,*ce,*ge,*he,*Be,*Pe,*Ze,*cf,*gf,*hf,*Ef,*Hf,*If,*Kf,*Mf,*eg,*hg,*ig,*kg,*mg;
-u32 Va,Xa,kb,lb,vb,yb,zb,Db,Eb,Fb,Gb,Hb,Ib,Kb,Lb,Zb,ac,fc,kc,lc,nc,oc,sc,vc,yc,zc,Dc,Ec,Fc,Gc,Ic,Jc,Pc,Qc,Yc,Zc,bd,cd,ld,md,pd,qd,Ad,Bd,Dd,Ed,Qd,Rd,be,ee,fe,je,ke,le,me,ne,oe,qe,re,Fe,Ge,Le,Qe,Re,Te,Ue,Ye,bf,ef,ff,kf,lf,mf,nf,tf,uf,Cf,Df,Ff,Gf,Pf,Qf,Tf,Uf,cg,dg,fg,gg;
-u64 Wa,cb,db,eb,fb,jb,nb,qb,sb,ub,xb,Cb,Jb,Qb,Ub,Xb,bc,dc,ec,gc,hc,ic,uc,xc,Cc,Hc,Kc,Oc,Sc,Vc,Wc,Xc,fd,hd,jd,kd,nd,od,td,xd,yd,zd,Hd,Jd,Ld,Md,Pd,Td,Wd,Yd,ae,de,ie,pe,we,Ae,De,He,Je,Ke,Me,Ne,Oe,af,df,jf,pf,sf,wf,zf,Af,Bf,Jf,Lf,Nf,Of,Rf,Sf,Wf,Zf,ag,bg,jg,lg,ng,og;
-u8 Ya,Za,ab,bb,gb,hb,ib,mb,ob,pb,Mb,Nb,Ob,Pb,Rb,Sb,Tb,Wb,Yb,cc,mc,pc,qc,rc,Lc,Mc,Nc,Rc,Tc,Uc,sd,ud,vd,Nd,Od,Sd,Ud,Vd,se,te,ue,ve,xe,ye,ze,Ce,Ee,Ie,Se,Ve,We,Xe,of,qf,rf,vf,xf,yf,Vf,Xf,Yf;
+A16 u8 h[1544],i[12],j[1656],k[24],l[16],m[8],n[16],o[1544],p[12],q[1656],r[24],s[16],t[8],u[16],v[12],w[12],x[1544],y[24],z[16],A[1544],B[1544],C[1544],D[24],E[16],F[16],G[24],H[12],I[1544],J[24],K[1544],L[1544],M[1544],N[16],O[1544],P[24],Q[1544],R[24],S[16],T[8],U[8],V[16],W[8],X[16],Y[1544],Z[12],aa[1656],ba[24],ca[16],da[8],ea[16],fa[1544],ga[12],ha[1656],ia[24],ja[16],ka[8],la[16],ma[12],na[12],oa[1544],pa[24],qa[16],ra[1544],sa[1544],ta[1544],ua[24],va[16],wa[16],xa[24],ya[12],za[1544],Aa[24],Ba[1544],Ca[1544],Da[1544],Ea[16],Fa[1544],Ga[24],Ha[1544],Ia[24],Ja[16],Ka[8],La[8],Ma[16],Na[8],Oa[16];
+u8 *Pa,*Qa,*nb,*pb,*sb,*wb,*xb,*Rb,*fc,*pc,*sc,*wc,*xc,*Xc,*ad,*bd,*dd,*fd,*Ad,*Dd,*Ed,*Gd,*Id,*Vd,*Xd,*ae,*ee,*fe,*ze,*Ne,*Xe,*af,*ef,*ff,*Df,*Gf,*Hf,*Jf,*Lf,*eg,*hg,*ig,*kg,*mg;
+u32 Ra,Ta,gb,hb,rb,ub,vb,zb,Ab,Bb,Cb,Db,Eb,Gb,Hb,Vb,Wb,bc,gc,hc,jc,kc,oc,rc,uc,vc,zc,Ac,Bc,Cc,Ec,Fc,Lc,Mc,Vc,Wc,Yc,Zc,jd,kd,md,nd,yd,zd,Bd,Cd,Od,Pd,Zd,ce,de,he,ie,je,ke,le,me,oe,pe,De,Ee,Je,Oe,Pe,Re,Se,We,Ze,cf,df,hf,jf,kf,lf,rf,sf,Bf,Cf,Ef,Ff,Pf,Qf,Sf,Tf,cg,dg,fg,gg;
+u64 Sa,Ya,Za,ab,bb,fb,jb,mb,ob,qb,tb,yb,Fb,Mb,Qb,Tb,Xb,Zb,ac,cc,dc,ec,qc,tc,yc,Dc,Gc,Kc,Oc,Rc,Sc,Tc,Uc,cd,ed,gd,hd,id,ld,pd,td,ud,vd,xd,Fd,Hd,Jd,Kd,Nd,Rd,Ud,Wd,Yd,be,ge,ne,ue,ye,Be,Fe,He,Ie,Ke,Le,Me,Ye,bf,gf,nf,qf,uf,xf,yf,zf,Af,If,Kf,Mf,Nf,Of,Rf,Vf,Yf,Zf,ag,bg,jg,lg,ng,og;
+u8 Ua,Va,Wa,Xa,cb,db,eb,ib,kb,lb,Ib,Jb,Kb,Lb,Nb,Ob,Pb,Sb,Ub,Yb,ic,lc,mc,nc,Hc,Ic,Jc,Nc,Pc,Qc,od,qd,sd,Ld,Md,Qd,Sd,Td,qe,re,se,te,ve,we,xe,Ae,Ce,Ge,Qe,Te,Ue,Ve,mf,of,pf,tf,vf,wf,Uf,Wf,Xf;
 if(d<1024){
-Ta=a+(i64)(u64)(a==0?4096:0);
-Ua=e+(i64)(u64)(e==0?4096:0);
-Va=d&2;
-Wa=(d&1)==0?Va:(Va==0?1:3);
-Xa=d&256;
-Ya=d;
-Za=(Ya>>2)&1;
-ab=(Ya>>3)&1;
-bb=(Ya>>4)&1;
-cb=((d>511)&(Xa!=0))?65536:0;
-db=(((((u64)Za<<24)|Xa)|((u64)ab<<32))|((u64)bb<<40))|Wa;
-eb=db|cb;
-fb=(((d&64)==0?(u64)((Ya>>5)&1)<<48:0x2000000000000u)|((u64)((d>>7)&1)<<56))+eb;
-gb=Xa==0;
-if(Za==0){
-if(gb){
-w8(V,fb);
-z16(U);
+Pa=a+(i64)(u64)(a==0?4096:0);
+Qa=e+(i64)(u64)(e==0?4096:0);
+Ra=d&2;
+Sa=(d&1)==0?Ra:(Ra==0?1:3);
+Ta=d&256;
+Ua=d;
+Va=(Ua>>2)&1;
+Wa=(Ua>>3)&1;
+Xa=(Ua>>4)&1;
+Ya=((d>511)&(Ta!=0))?65536:0;
+Za=(((((u64)Va<<24)|Ta)|((u64)Wa<<32))|((u64)Xa<<40))|Sa;
+ab=Za|Ya;
+bb=(((d&64)==0?(u64)((Ua>>5)&1)<<48:0x2000000000000u)|((u64)((d>>7)&1)<<56))+ab;
+cb=Ta==0;
+if(Va==0){
+if(cb){
+w8(T,bb);
+z16(S);
+w8(U,0);
+z16(V);
 w8(W,0);
 z16(X);
-w8(Y,0);
-z16(Z);
-hb=db;
-ib=b<2;
-if(ab==0){
-w4(Y,c);
-Y[4]=hb;
-z3(Y+5);
-z24(F);
-if(ib){
-jb=0;
-kb=0;
-lb=11;}
+db=Za;
+eb=b<2;
+if(Wa==0){
+w4(W,c);
+W[4]=db;
+z3(W+5);
+if(eb){
+fb=0;
+gb=0;
+hb=11;}
 else{
-mb=*Ta==95;
+ib=*Pa==95;
 if(b==2){
-if(!mb){
-jb=0;
-kb=0;
-lb=11;
+if(!ib){
+fb=0;
+gb=0;
+hb=11;
 goto L1;}
-switch(Ta[1]){
-case 90:nb=0;
-ob=0;
+switch(Pa[1]){
+case 90:jb=0;
+kb=0;
 goto L2;
 case 82:break;
-default:jb=0;
-kb=0;
-lb=11;
+default:fb=0;
+gb=0;
+hb=11;
 goto L1;
 }}
 else{
-if(!mb){
-jb=0;
-kb=0;
-lb=11;
+if(!ib){
+fb=0;
+gb=0;
+hb=11;
 goto L1;}
-switch(Ta[1]){
-case 90:nb=0;
-ob=0;
+switch(Pa[1]){
+case 90:jb=0;
+kb=0;
 goto L2;
 case 82:break;
-case 95:switch(Ta[2]){
-case 90:pb=0;
+case 95:switch(Pa[2]){
+case 90:lb=0;
 break;
-case 82:pb=1;
+case 82:lb=1;
 break;
-default:jb=0;
-kb=0;
-lb=11;
+default:fb=0;
+gb=0;
+hb=11;
 goto L1;
 }
-if(bb!=0){
-nb=1;
-ob=pb;
+if(Xa!=0){
+jb=1;
+kb=lb;
 goto L2;}
-jb=0;
-kb=0;
-lb=11;
+fb=0;
+gb=0;
+hb=11;
 goto L1;
-default:jb=0;
-kb=0;
-lb=11;
+default:fb=0;
+gb=0;
+hb=11;
 goto L1;
 }}
-nb=0;
-ob=1;
-L2:qb=b-nb;
-if(qb<16777217){
-rb=Ta+(i64)nb;
-short_once_196(F,Y,ob,rb,qb,Ua,f);
-if(*F==1){
-jb=r8(F+8);
-kb=r4(F+16);
-lb=r4(F+20);}
+jb=0;
+kb=1;
+L2:mb=b-jb;
+if(mb<16777217){
+nb=Pa+(i64)jb;
+short_once_196(D,W,kb,nb,mb,Qa,f);
+if(*D==1){
+fb=r8(D+8);
+gb=r4(D+16);
+hb=r4(D+20);}
 else{
-zero_all(z+1544,400);
-z24(A);
-z16(B);
-zero_all(C,1944);
-zero_all(D,1944);
-zero_all(E,1944);
-sb=(u64)(u8*)65536;
-wp(z,(u8*)65536);
-z24(z+8);
-wp(z+32,(u8*)65536);
-z16(z+40);
-wp(z+56,(u8*)65536);
-z32(z+64);
-wp(z+96,(u8*)65536);
-z16(z+104);
-wp(z+120,(u8*)65536);
-z32(z+128);
-wp(z+160,(u8*)65536);
-z80(z+168);
-wp(z+248,(u8*)65536);
-z16(z+256);
-wp(z+272,(u8*)65536);
-z40(z+280);
-wp(z+320,(u8*)65536);
-z16(z+328);
-wp(z+344,(u8*)65536);
-z16(z+352);
-wp(z+368,(u8*)65536);
-z16(z+376);
-wp(z+392,(u8*)65536);
-z16(z+400);
-wp(z+416,(u8*)65536);
-z16(z+424);
-wp(z+440,(u8*)65536);
-z48(z+448);
-wp(z+496,(u8*)65536);
-z32(z+504);
-wp(z+536,(u8*)65536);
-z32(z+544);
-wp(z+576,(u8*)65536);
-z104(z+584);
-w8(z+688,sb);
-z40(z+696);
-w8(z+736,sb);
-z16(z+744);
-wp(z+760,(u8*)65536);
-z32(z+768);
-wp(z+800,(u8*)65536);
-z24(z+808);
-wp(z+832,(u8*)65536);
-z16(z+840);
-wp(z+856,(u8*)65536);
-z32(z+864);
-wp(z+896,(u8*)65536);
-z16(z+904);
-wp(z+920,(u8*)65536);
-z24(z+928);
-wp(z+952,(u8*)65536);
-z16(z+960);
-wp(z+976,(u8*)65536);
-z16(z+984);
-wp(z+1000,(u8*)65536);
-z40(z+1008);
-wp(z+1048,(u8*)65536);
-z16(z+1056);
-wp(z+1072,(u8*)65536);
-z16(z+1080);
-wp(z+1096,(u8*)65536);
-z16(z+1104);
-wp(z+1120,(u8*)65536);
-z16(z+1128);
-wp(z+1144,(u8*)65536);
-z16(z+1152);
-wp(z+1168,(u8*)65536);
-z48(z+1176);
-wp(z+1224,(u8*)65536);
-z32(z+1232);
-wp(z+1264,(u8*)65536);
-z40(z+1272);
-wp(z+1312,(u8*)65536);
-z32(z+1320);
-wp(z+1352,(u8*)65536);
-z16(z+1360);
-wp(z+1376,(u8*)65536);
-z48(z+1384);
-w8(z+1432,sb);
-z40(z+1440);
-w8(z+1480,sb);
-z16(z+1488);
-wp(z+1504,(u8*)65536);
-z32(z+1512);
-wp(z+1544,(u8*)65536);
-z32(z+1552);
-wp(z+1584,(u8*)65536);
-z32(z+1592);
-wp(z+1624,(u8*)65536);
-z104(z+1632);
-wp(z+1736,(u8*)65536);
-z32(z+1744);
-wp(z+1776,(u8*)65536);
-z40(z+1784);
-wp(z+1824,(u8*)65536);
-z32(z+1832);
-wp(z+1864,(u8*)65536);
-z16(z+1872);
-wp(z+1888,(u8*)65536);
-z48(z+1896);
-wp(A,(u8*)65536);
-z16(A+8);
-demangle_665(B,Y,z,ob,rb,qb,A);
-switch(*B){
-case 0:tb=rp(A);
-ub=r8(A+8);
-if(f<ub)vb=6;
+z16(y+8);
+z16(z);
+zero_all(A,1544);
+zero_all(B,1544);
+zero_all(C,1544);
+ob=(u64)(u8*)65536;
+wp(x,(u8*)65536);
+z24(x+8);
+wp(x+32,(u8*)65536);
+z16(x+40);
+wp(x+56,(u8*)65536);
+z32(x+64);
+wp(x+96,(u8*)65536);
+z16(x+104);
+wp(x+120,(u8*)65536);
+z32(x+128);
+wp(x+160,(u8*)65536);
+z80(x+168);
+wp(x+248,(u8*)65536);
+z16(x+256);
+wp(x+272,(u8*)65536);
+z40(x+280);
+wp(x+320,(u8*)65536);
+z16(x+328);
+wp(x+344,(u8*)65536);
+z16(x+352);
+wp(x+368,(u8*)65536);
+z16(x+376);
+wp(x+392,(u8*)65536);
+z16(x+400);
+wp(x+416,(u8*)65536);
+z16(x+424);
+wp(x+440,(u8*)65536);
+z48(x+448);
+wp(x+496,(u8*)65536);
+z32(x+504);
+wp(x+536,(u8*)65536);
+z32(x+544);
+wp(x+576,(u8*)65536);
+z104(x+584);
+w8(x+688,ob);
+z40(x+696);
+w8(x+736,ob);
+z16(x+744);
+wp(x+760,(u8*)65536);
+z32(x+768);
+wp(x+800,(u8*)65536);
+z24(x+808);
+wp(x+832,(u8*)65536);
+z16(x+840);
+wp(x+856,(u8*)65536);
+z32(x+864);
+wp(x+896,(u8*)65536);
+z16(x+904);
+wp(x+920,(u8*)65536);
+z24(x+928);
+wp(x+952,(u8*)65536);
+z16(x+960);
+wp(x+976,(u8*)65536);
+z16(x+984);
+wp(x+1000,(u8*)65536);
+z40(x+1008);
+wp(x+1048,(u8*)65536);
+z16(x+1056);
+wp(x+1072,(u8*)65536);
+z16(x+1080);
+wp(x+1096,(u8*)65536);
+z16(x+1104);
+wp(x+1120,(u8*)65536);
+z16(x+1128);
+wp(x+1144,(u8*)65536);
+z16(x+1152);
+wp(x+1168,(u8*)65536);
+z48(x+1176);
+wp(x+1224,(u8*)65536);
+z32(x+1232);
+wp(x+1264,(u8*)65536);
+z40(x+1272);
+wp(x+1312,(u8*)65536);
+z32(x+1320);
+wp(x+1352,(u8*)65536);
+z16(x+1360);
+wp(x+1376,(u8*)65536);
+z48(x+1384);
+w8(x+1432,ob);
+z40(x+1440);
+w8(x+1480,ob);
+z16(x+1488);
+wp(x+1504,(u8*)65536);
+z32(x+1512);
+wp(y,(u8*)65536);
+z16(y+8);
+demangle_665(z,W,x,kb,nb,mb,y);
+switch(*z){
+case 0:pb=rp(y);
+qb=r8(y+8);
+if(f<qb)rb=6;
 else{
-if((u64)Ua-(u64)tb<ub){
-copy_bits_4f4(tb,Ua,ub);
-vb=0;}
+if((u64)Qa-(u64)pb<qb){
+copy_bits_4f4(pb,Qa,qb);
+rb=0;}
 else{
-memmove(Ua,tb,ub);
-vb=0;}}
-if(r8(A+16)==0){
-wb=C;
-xb=ub;
-yb=0;
-zb=vb;
+memmove(Qa,pb,qb);
+rb=0;}}
+if(r8(y+16)==0){
+sb=A;
+tb=qb;
+ub=0;
+vb=rb;
 goto L3;}
-Ab=tb;
-Bb=C;
-Cb=ub;
-Db=0;
-Eb=vb;
+wb=pb;
+xb=A;
+yb=qb;
+zb=0;
+Ab=rb;
 break;
-case 1:if(r8(A+16)==0){
-wb=D;
-xb=0;
-yb=0;
-zb=4;
+case 1:if(r8(y+16)==0){
+sb=B;
+tb=0;
+ub=0;
+vb=4;
 goto L3;}
-Ab=rp(A);
-Bb=D;
-Cb=0;
-Db=0;
+wb=rp(y);
+xb=B;
+yb=0;
+zb=0;
+Ab=4;
+break;
+case 2:Bb=jb;
+Cb=r4(z+8);
+switch(z[4]){
+case 0:Db=uadd32(Bb,Cb);
+Eb=1;
+break;
+case 1:Db=uadd32(Bb,Cb);
+Eb=2;
+break;
+case 2:Db=uadd32(Bb,Cb);
+Eb=3;
+break;
+case 3:Db=0;
 Eb=4;
 break;
-case 2:Fb=nb;
-Gb=r4(B+8);
-switch(B[4]){
-case 0:Hb=uadd32(Fb,Gb);
-Ib=1;
-break;
-case 1:Hb=uadd32(Fb,Gb);
-Ib=2;
-break;
-case 2:Hb=uadd32(Fb,Gb);
-Ib=3;
-break;
-case 3:Hb=0;
-Ib=4;
-break;
-case 4:Hb=0;
-Ib=5;
+case 4:Db=0;
+Eb=5;
 break;
 default:NEVER;
 }
-if(r8(A+16)==0){
-wb=E;
-xb=0;
-yb=Hb;
-zb=Ib;
+if(r8(y+16)==0){
+sb=C;
+tb=0;
+ub=Db;
+vb=Eb;
 goto L3;}
-Ab=rp(A);
-Bb=E;
-Cb=0;
-Db=Hb;
-Eb=Ib;
+wb=rp(y);
+xb=C;
+yb=0;
+zb=Db;
+Ab=Eb;
 break;
 default:NEVER;
 }
-port_rattle_dealloc(Ab);
-wb=Bb;
-xb=Cb;
-yb=Db;
-zb=Eb;
-L3:memcpy(wb,z,1944);
-drop_1dd(wb);
-jb=xb;
-kb=yb;
-lb=zb;}}
+port_rattle_dealloc(wb);
+sb=xb;
+tb=yb;
+ub=zb;
+vb=Ab;
+L3:memcpy(sb,x,1544);
+drop_1dd(sb);
+fb=tb;
+gb=ub;
+hb=vb;}}
 else{
-jb=0;
-kb=0;
-lb=7;}}
-L1:w8(Z,jb);
-w4(Z+8,kb);
-w4(Z+12,lb);
-or_type_2d2(U,Y,V,Ta,b,Ua,f,Z);}
+fb=0;
+gb=0;
+hb=7;}}
+L1:w8(X,fb);
+w4(X+8,gb);
+w4(X+12,hb);
+or_type_2d2(S,W,T,Pa,b,Qa,f,X);}
 else{
-w4(W,c);
-W[4]=hb;
-z3(W+5);
-z24(T);
-if(ib){
-Jb=0;
-Kb=0;
-Lb=11;}
+w4(U,c);
+U[4]=db;
+z3(U+5);
+if(eb){
+Fb=0;
+Gb=0;
+Hb=11;}
 else{
-Mb=b==2;
-Nb=*Ta==95;
-if(Mb){
-if(!Nb){
-Jb=0;
-Kb=0;
-Lb=11;
+Ib=b==2;
+Jb=*Pa==95;
+if(Ib){
+if(!Jb){
+Fb=0;
+Gb=0;
+Hb=11;
 goto L4;}
-Ob=Ta[1];
+Kb=Pa[1];
+switch(Kb){
+case 90:Lb=Kb;
+Mb=0;
+Nb=0;
+goto L5;
+case 82:break;
+default:Fb=0;
+Gb=0;
+Hb=11;
+goto L4;
+}}
+else{
+if(!Jb){
+Fb=0;
+Gb=0;
+Hb=11;
+goto L4;}
+Ob=Pa[1];
 switch(Ob){
-case 90:Pb=Ob;
-Qb=0;
-Rb=0;
+case 90:Lb=Ob;
+Mb=0;
+Nb=0;
 goto L5;
 case 82:break;
-default:Jb=0;
-Kb=0;
-Lb=11;
+case 95:switch(Pa[2]){
+case 90:Pb=0;
+break;
+case 82:Pb=1;
+break;
+default:Fb=0;
+Gb=0;
+Hb=11;
+goto L4;
+}
+if(Xa==0){
+Fb=0;
+Gb=0;
+Hb=11;
+goto L4;}
+Lb=95;
+Mb=1;
+Nb=Pb;
+goto L5;
+default:Fb=0;
+Gb=0;
+Hb=11;
 goto L4;
 }}
-else{
-if(!Nb){
-Jb=0;
-Kb=0;
-Lb=11;
-goto L4;}
-Sb=Ta[1];
-switch(Sb){
-case 90:Pb=Sb;
-Qb=0;
-Rb=0;
-goto L5;
-case 82:break;
-case 95:switch(Ta[2]){
+Lb=82;
+Mb=0;
+Nb=1;
+L5:Qb=b-Mb;
+if(Qb<16777217){
+Rb=Pa+(i64)Mb;
+Sb=may_be_legacy_350(Rb,Qb);
+if(Sb){
+z16(N);
+if(Ib){
+switch(Lb){
 case 90:Tb=0;
-break;
-case 82:Tb=1;
-break;
-default:Jb=0;
-Kb=0;
-Lb=11;
-goto L4;
-}
-if(bb==0){
-Jb=0;
-Kb=0;
-Lb=11;
-goto L4;}
-Pb=95;
-Qb=1;
-Rb=Tb;
-goto L5;
-default:Jb=0;
-Kb=0;
-Lb=11;
-goto L4;
-}}
-Pb=82;
-Qb=0;
-Rb=1;
-L5:Ub=b-Qb;
-if(Ub<16777217){
-Vb=Ta+(i64)Qb;
-Wb=may_be_legacy_350(Vb,Ub);
-if(Wb){
-z16(P);
-zero_all(Q+1480,464);
-z24(R);
-if(Mb){
-switch(Pb){
-case 90:Xb=0;
-Yb=0;
+Ub=0;
 goto L6;
 case 82:break;
-default:Zb=11;
-ac=0;
-bc=0;
+default:Vb=11;
+Wb=0;
+Xb=0;
 goto L7;
 }}
 else{
-switch(Pb){
-case 90:Xb=0;
-Yb=0;
+switch(Lb){
+case 90:Tb=0;
+Ub=0;
 goto L6;
 case 82:break;
-case 95:switch(Ta[2]){
-case 90:cc=0;
+case 95:switch(Pa[2]){
+case 90:Yb=0;
 break;
-case 82:cc=1;
+case 82:Yb=1;
 break;
-default:Zb=11;
-ac=0;
-bc=0;
+default:Vb=11;
+Wb=0;
+Xb=0;
 goto L7;
 }
-if(bb!=0){
-Xb=1;
-Yb=cc;
+if(Xa!=0){
+Tb=1;
+Ub=Yb;
 goto L6;}
-Zb=11;
-ac=0;
-bc=0;
+Vb=11;
+Wb=0;
+Xb=0;
 goto L7;
 default:NEVER;
 }}
-Xb=0;
-Yb=1;
-L6:dc=b-Xb;
-if(dc<16777217){
-ec=(u64)(u8*)65536;
-wp(Q,(u8*)65536);
-z24(Q+8);
-wp(Q+32,(u8*)65536);
-z16(Q+40);
-wp(Q+56,(u8*)65536);
-z32(Q+64);
-wp(Q+96,(u8*)65536);
-z16(Q+104);
-wp(Q+120,(u8*)65536);
-z32(Q+128);
-wp(Q+160,(u8*)65536);
-z80(Q+168);
-wp(Q+248,(u8*)65536);
-z16(Q+256);
-wp(Q+272,(u8*)65536);
-z40(Q+280);
-wp(Q+320,(u8*)65536);
-z16(Q+328);
-wp(Q+344,(u8*)65536);
-z16(Q+352);
-wp(Q+368,(u8*)65536);
-z16(Q+376);
-wp(Q+392,(u8*)65536);
-z16(Q+400);
-wp(Q+416,(u8*)65536);
-z16(Q+424);
-wp(Q+440,(u8*)65536);
-z48(Q+448);
-wp(Q+496,(u8*)65536);
-z32(Q+504);
-wp(Q+536,(u8*)65536);
-z32(Q+544);
-wp(Q+576,(u8*)65536);
-z104(Q+584);
-w8(Q+688,ec);
-z40(Q+696);
-w8(Q+736,ec);
-z16(Q+744);
-wp(Q+760,(u8*)65536);
-z32(Q+768);
-wp(Q+800,(u8*)65536);
-z24(Q+808);
-wp(Q+832,(u8*)65536);
-z16(Q+840);
-wp(Q+856,(u8*)65536);
-z32(Q+864);
-wp(Q+896,(u8*)65536);
-z16(Q+904);
-wp(Q+920,(u8*)65536);
-z24(Q+928);
-wp(Q+952,(u8*)65536);
-z16(Q+960);
-wp(Q+976,(u8*)65536);
-z16(Q+984);
-wp(Q+1000,(u8*)65536);
-z40(Q+1008);
-wp(Q+1048,(u8*)65536);
-z16(Q+1056);
-wp(Q+1072,(u8*)65536);
-z16(Q+1080);
-wp(Q+1096,(u8*)65536);
-z16(Q+1104);
-wp(Q+1120,(u8*)65536);
-z16(Q+1128);
-wp(Q+1144,(u8*)65536);
-z16(Q+1152);
-wp(Q+1168,(u8*)65536);
-z48(Q+1176);
-wp(Q+1224,(u8*)65536);
-z32(Q+1232);
-wp(Q+1264,(u8*)65536);
-z40(Q+1272);
-wp(Q+1312,(u8*)65536);
-z32(Q+1320);
-wp(Q+1352,(u8*)65536);
-z16(Q+1360);
-wp(Q+1376,(u8*)65536);
-z48(Q+1384);
-w8(Q+1432,ec);
-z40(Q+1440);
-w8(Q+1480,ec);
-z16(Q+1488);
-wp(Q+1504,(u8*)65536);
-z32(Q+1512);
-wp(Q+1544,(u8*)65536);
-z32(Q+1552);
-wp(Q+1584,(u8*)65536);
-z32(Q+1592);
-wp(Q+1624,(u8*)65536);
-z104(Q+1632);
-wp(Q+1736,(u8*)65536);
-z32(Q+1744);
-wp(Q+1776,(u8*)65536);
-z40(Q+1784);
-wp(Q+1824,(u8*)65536);
-z32(Q+1832);
-wp(Q+1864,(u8*)65536);
-z16(Q+1872);
-wp(Q+1888,(u8*)65536);
-z48(Q+1896);
-wp(R,(u8*)65536);
-z16(R+8);
-symbol_with_be6(P,W,Q,R,Yb,Xb,Ta+(i64)Xb,dc,Ua,f);
-if(r8(R+16)!=0)port_rattle_dealloc(rp(R));
-memcpy(S,Q,1944);
-drop_1dd(S);
-Zb=r4(P+12);
-ac=r4(P+8);
-bc=r8(P);}
+Tb=0;
+Ub=1;
+L6:Zb=b-Tb;
+if(Zb<16777217){
+ac=(u64)(u8*)65536;
+wp(O,(u8*)65536);
+z24(O+8);
+wp(O+32,(u8*)65536);
+z16(O+40);
+wp(O+56,(u8*)65536);
+z32(O+64);
+wp(O+96,(u8*)65536);
+z16(O+104);
+wp(O+120,(u8*)65536);
+z32(O+128);
+wp(O+160,(u8*)65536);
+z80(O+168);
+wp(O+248,(u8*)65536);
+z16(O+256);
+wp(O+272,(u8*)65536);
+z40(O+280);
+wp(O+320,(u8*)65536);
+z16(O+328);
+wp(O+344,(u8*)65536);
+z16(O+352);
+wp(O+368,(u8*)65536);
+z16(O+376);
+wp(O+392,(u8*)65536);
+z16(O+400);
+wp(O+416,(u8*)65536);
+z16(O+424);
+wp(O+440,(u8*)65536);
+z48(O+448);
+wp(O+496,(u8*)65536);
+z32(O+504);
+wp(O+536,(u8*)65536);
+z32(O+544);
+wp(O+576,(u8*)65536);
+z104(O+584);
+w8(O+688,ac);
+z40(O+696);
+w8(O+736,ac);
+z16(O+744);
+wp(O+760,(u8*)65536);
+z32(O+768);
+wp(O+800,(u8*)65536);
+z24(O+808);
+wp(O+832,(u8*)65536);
+z16(O+840);
+wp(O+856,(u8*)65536);
+z32(O+864);
+wp(O+896,(u8*)65536);
+z16(O+904);
+wp(O+920,(u8*)65536);
+z24(O+928);
+wp(O+952,(u8*)65536);
+z16(O+960);
+wp(O+976,(u8*)65536);
+z16(O+984);
+wp(O+1000,(u8*)65536);
+z40(O+1008);
+wp(O+1048,(u8*)65536);
+z16(O+1056);
+wp(O+1072,(u8*)65536);
+z16(O+1080);
+wp(O+1096,(u8*)65536);
+z16(O+1104);
+wp(O+1120,(u8*)65536);
+z16(O+1128);
+wp(O+1144,(u8*)65536);
+z16(O+1152);
+wp(O+1168,(u8*)65536);
+z48(O+1176);
+wp(O+1224,(u8*)65536);
+z32(O+1232);
+wp(O+1264,(u8*)65536);
+z40(O+1272);
+wp(O+1312,(u8*)65536);
+z32(O+1320);
+wp(O+1352,(u8*)65536);
+z16(O+1360);
+wp(O+1376,(u8*)65536);
+z48(O+1384);
+w8(O+1432,ac);
+z40(O+1440);
+w8(O+1480,ac);
+z16(O+1488);
+wp(O+1504,(u8*)65536);
+z32(O+1512);
+wp(P,(u8*)65536);
+z16(P+8);
+symbol_with_be6(N,U,O,P,Ub,Tb,Pa+(i64)Tb,Zb,Qa,f);
+if(r8(P+16)!=0)port_rattle_dealloc(rp(P));
+memcpy(Q,O,1544);
+drop_1dd(Q);
+Vb=r4(N+12);
+Wb=r4(N+8);
+Xb=r8(N);}
 else{
-Zb=7;
-ac=0;
-bc=0;}
-L7:Jb=bc;
-Kb=ac;
-Lb=Zb;}
+Vb=7;
+Wb=0;
+Xb=0;}
+L7:Fb=Xb;
+Gb=Wb;
+Hb=Vb;}
 else{
-short_once_196(T,W,Rb,Vb,Ub,Ua,f);
-if(*T==1){
-Jb=r8(T+8);
-Kb=r4(T+16);
-Lb=r4(T+20);}
+short_once_196(R,U,Nb,Rb,Qb,Qa,f);
+if(*R==1){
+Fb=r8(R+8);
+Gb=r4(R+16);
+Hb=r4(R+20);}
 else{
-fc=Qb;
-zero_all(K+1552,392);
-z24(L);
-zero_all(M,1944);
-zero_all(N,1944);
-zero_all(O,1944);
-gc=(u64)(u8*)65536;
-wp(K,(u8*)65536);
-z24(K+8);
-wp(K+32,(u8*)65536);
-z16(K+40);
-wp(K+56,(u8*)65536);
-z32(K+64);
-wp(K+96,(u8*)65536);
-z16(K+104);
-wp(K+120,(u8*)65536);
-z32(K+128);
-wp(K+160,(u8*)65536);
-z80(K+168);
-wp(K+248,(u8*)65536);
-z16(K+256);
-wp(K+272,(u8*)65536);
-z40(K+280);
-wp(K+320,(u8*)65536);
-z16(K+328);
-wp(K+344,(u8*)65536);
-z16(K+352);
-wp(K+368,(u8*)65536);
-z16(K+376);
-wp(K+392,(u8*)65536);
-z16(K+400);
-wp(K+416,(u8*)65536);
-z16(K+424);
-wp(K+440,(u8*)65536);
-z48(K+448);
-wp(K+496,(u8*)65536);
-z32(K+504);
-wp(K+536,(u8*)65536);
-z32(K+544);
-wp(K+576,(u8*)65536);
-z104(K+584);
-w8(K+688,gc);
-z40(K+696);
-w8(K+736,gc);
-z16(K+744);
-wp(K+760,(u8*)65536);
-z32(K+768);
-wp(K+800,(u8*)65536);
-z24(K+808);
-wp(K+832,(u8*)65536);
-z16(K+840);
-wp(K+856,(u8*)65536);
-z32(K+864);
-wp(K+896,(u8*)65536);
-z16(K+904);
-wp(K+920,(u8*)65536);
-z24(K+928);
-wp(K+952,(u8*)65536);
-z16(K+960);
-wp(K+976,(u8*)65536);
-z16(K+984);
-wp(K+1000,(u8*)65536);
-z40(K+1008);
-wp(K+1048,(u8*)65536);
-z16(K+1056);
-wp(K+1072,(u8*)65536);
-z16(K+1080);
-wp(K+1096,(u8*)65536);
-z16(K+1104);
-wp(K+1120,(u8*)65536);
-z16(K+1128);
-wp(K+1144,(u8*)65536);
-z16(K+1152);
-wp(K+1168,(u8*)65536);
-z48(K+1176);
-wp(K+1224,(u8*)65536);
-z32(K+1232);
-wp(K+1264,(u8*)65536);
-z40(K+1272);
-wp(K+1312,(u8*)65536);
-z32(K+1320);
-wp(K+1352,(u8*)65536);
-z16(K+1360);
-wp(K+1376,(u8*)65536);
-z48(K+1384);
-w8(K+1432,gc);
-z40(K+1440);
-w8(K+1480,gc);
-z16(K+1488);
-wp(K+1504,(u8*)65536);
-z32(K+1512);
-wp(K+1544,(u8*)65536);
-z32(K+1552);
-wp(K+1584,(u8*)65536);
-z32(K+1592);
-wp(K+1624,(u8*)65536);
-z104(K+1632);
-wp(K+1736,(u8*)65536);
-z32(K+1744);
-wp(K+1776,(u8*)65536);
-z40(K+1784);
-wp(K+1824,(u8*)65536);
-z32(K+1832);
-wp(K+1864,(u8*)65536);
-z16(K+1872);
-wp(K+1888,(u8*)65536);
-z48(K+1896);
-wp(L,(u8*)65536);
-z16(L+8);
-z24(I);
-z12(J);
-path_of_ea7(I,Vb,Ub);
-if(*I==1){
-hc=r8(I+8);
-ic=r8(I+16);
-demangle_665(G,W,K,Rb,Vb,Ub,L);
-switch(*G){
-case 0:w8(L+8,0);
-jc=G+4;
+bc=Mb;
+zero_all(K,1544);
+zero_all(L,1544);
+zero_all(M,1544);
+cc=(u64)(u8*)65536;
+wp(I,(u8*)65536);
+z24(I+8);
+wp(I+32,(u8*)65536);
+z16(I+40);
+wp(I+56,(u8*)65536);
+z32(I+64);
+wp(I+96,(u8*)65536);
+z16(I+104);
+wp(I+120,(u8*)65536);
+z32(I+128);
+wp(I+160,(u8*)65536);
+z80(I+168);
+wp(I+248,(u8*)65536);
+z16(I+256);
+wp(I+272,(u8*)65536);
+z40(I+280);
+wp(I+320,(u8*)65536);
+z16(I+328);
+wp(I+344,(u8*)65536);
+z16(I+352);
+wp(I+368,(u8*)65536);
+z16(I+376);
+wp(I+392,(u8*)65536);
+z16(I+400);
+wp(I+416,(u8*)65536);
+z16(I+424);
+wp(I+440,(u8*)65536);
+z48(I+448);
+wp(I+496,(u8*)65536);
+z32(I+504);
+wp(I+536,(u8*)65536);
+z32(I+544);
+wp(I+576,(u8*)65536);
+z104(I+584);
+w8(I+688,cc);
+z40(I+696);
+w8(I+736,cc);
+z16(I+744);
+wp(I+760,(u8*)65536);
+z32(I+768);
+wp(I+800,(u8*)65536);
+z24(I+808);
+wp(I+832,(u8*)65536);
+z16(I+840);
+wp(I+856,(u8*)65536);
+z32(I+864);
+wp(I+896,(u8*)65536);
+z16(I+904);
+wp(I+920,(u8*)65536);
+z24(I+928);
+wp(I+952,(u8*)65536);
+z16(I+960);
+wp(I+976,(u8*)65536);
+z16(I+984);
+wp(I+1000,(u8*)65536);
+z40(I+1008);
+wp(I+1048,(u8*)65536);
+z16(I+1056);
+wp(I+1072,(u8*)65536);
+z16(I+1080);
+wp(I+1096,(u8*)65536);
+z16(I+1104);
+wp(I+1120,(u8*)65536);
+z16(I+1128);
+wp(I+1144,(u8*)65536);
+z16(I+1152);
+wp(I+1168,(u8*)65536);
+z48(I+1176);
+wp(I+1224,(u8*)65536);
+z32(I+1232);
+wp(I+1264,(u8*)65536);
+z40(I+1272);
+wp(I+1312,(u8*)65536);
+z32(I+1320);
+wp(I+1352,(u8*)65536);
+z16(I+1360);
+wp(I+1376,(u8*)65536);
+z48(I+1384);
+w8(I+1432,cc);
+z40(I+1440);
+w8(I+1480,cc);
+z16(I+1488);
+wp(I+1504,(u8*)65536);
+z32(I+1512);
+wp(J,(u8*)65536);
+z16(J+8);
+z24(G);
+z12(H);
+path_of_ea7(G,Rb,Qb);
+if(*G==1){
+dc=r8(G+8);
+ec=r8(G+16);
+demangle_665(E,U,I,Nb,Rb,Qb,J);
+switch(*E){
+case 0:w8(J+8,0);
+fc=E+4;
 break;
-case 1:jc=G+4;
+case 1:fc=E+4;
 break;
 case 2:goto L8;
 default:NEVER;
 }
-kc=r4(jc);
-lc=r4(G+8);
-push_text_eb0(J,Vb,Ub,hc,ic,r4(W),L);
-if(*J==0){
-mc=0;
-nc=kc;
-oc=lc;}
+gc=r4(fc);
+hc=r4(E+8);
+push_text_eb0(H,Rb,Qb,dc,ec,r4(U),J);
+if(*H==0){
+ic=0;
+jc=gc;
+kc=hc;}
 else{
-pc=J[4]==3;
-mc=pc?1:2;
-nc=pc?kc:4;
-oc=pc?lc:0;}
-qc=mc;
-rc=nc;
-sc=oc;}
+lc=H[4]==3;
+ic=lc?1:2;
+jc=lc?gc:4;
+kc=lc?hc:0;}
+mc=ic;
+nc=jc;
+oc=kc;}
 else{
-demangle_665(H,W,K,Rb,Vb,Ub,L);
-qc=*H;
-rc=H[4];
-sc=r4(H+8);}
-switch(qc){
-case 0:tc=rp(L);
-uc=r8(L+8);
-if(f<uc)vc=6;
+demangle_665(F,U,I,Nb,Rb,Qb,J);
+mc=*F;
+nc=F[4];
+oc=r4(F+8);}
+switch(mc){
+case 0:pc=rp(J);
+qc=r8(J+8);
+if(f<qc)rc=6;
 else{
-if((u64)Ua-(u64)tc<uc){
-copy_bits_4f4(tc,Ua,uc);
-vc=0;}
+if((u64)Qa-(u64)pc<qc){
+copy_bits_4f4(pc,Qa,qc);
+rc=0;}
 else{
-memmove(Ua,tc,uc);
-vc=0;}}
-if(r8(L+16)==0){
-wc=M;
-xc=uc;
-yc=0;
-zc=vc;
+memmove(Qa,pc,qc);
+rc=0;}}
+if(r8(J+16)==0){
+sc=K;
+tc=qc;
+uc=0;
+vc=rc;
 goto L9;}
-Ac=tc;
-Bc=M;
-Cc=uc;
-Dc=0;
-Ec=vc;
+wc=pc;
+xc=K;
+yc=qc;
+zc=0;
+Ac=rc;
 goto L10;
-case 1:if(r8(L+16)==0){
-wc=N;
-xc=0;
-yc=0;
-zc=4;
+case 1:if(r8(J+16)==0){
+sc=L;
+tc=0;
+uc=0;
+vc=4;
 goto L9;}
-Ac=rp(L);
-Bc=N;
-Cc=0;
-Dc=0;
-Ec=4;
+wc=rp(J);
+xc=L;
+yc=0;
+zc=0;
+Ac=4;
 goto L10;
-case 2:switch(rc){
-case 0:Fc=uadd32(fc,sc);
-Gc=1;
+case 2:switch(nc){
+case 0:Bc=uadd32(bc,oc);
+Cc=1;
 goto L11;
-case 1:Fc=uadd32(fc,sc);
-Gc=2;
+case 1:Bc=uadd32(bc,oc);
+Cc=2;
 goto L11;
-case 2:Fc=uadd32(fc,sc);
-Gc=3;
+case 2:Bc=uadd32(bc,oc);
+Cc=3;
 goto L11;
-case 3:Fc=0;
-Gc=4;
+case 3:Bc=0;
+Cc=4;
 goto L11;
 case 4:break;
 default:NEVER;
@@ -152686,1070 +151321,1191 @@ default:NEVER;
 break;
 default:NEVER;
 }
-L8:Fc=0;
-Gc=5;
-L11:if(r8(L+16)==0){
-wc=O;
-xc=0;
-yc=Fc;
-zc=Gc;
+L8:Bc=0;
+Cc=5;
+L11:if(r8(J+16)==0){
+sc=M;
+tc=0;
+uc=Bc;
+vc=Cc;
 goto L9;}
-Ac=rp(L);
-Bc=O;
-Cc=0;
-Dc=Fc;
-Ec=Gc;
-L10:port_rattle_dealloc(Ac);
-wc=Bc;
-xc=Cc;
-yc=Dc;
-zc=Ec;
-L9:memcpy(wc,K,1944);
-drop_1dd(wc);
-Jb=xc;
-Kb=yc;
-Lb=zc;}}}
+wc=rp(J);
+xc=M;
+yc=0;
+zc=Bc;
+Ac=Cc;
+L10:port_rattle_dealloc(wc);
+sc=xc;
+tc=yc;
+uc=zc;
+vc=Ac;
+L9:memcpy(sc,I,1544);
+drop_1dd(sc);
+Fb=tc;
+Gb=uc;
+Hb=vc;}}}
 else{
-Jb=0;
-Kb=0;
-Lb=7;}}
-L4:w8(X,Jb);
-w4(X+8,Kb);
-w4(X+12,Lb);
-or_type_81e(U,W,V,Ta,b,Ua,f,X);}
-Hc=r8(U);
-Ic=r4(U+8);
-Jc=r4(U+12);}
+Fb=0;
+Gb=0;
+Hb=7;}}
+L4:w8(V,Fb);
+w4(V+8,Gb);
+w4(V+12,Hb);
+or_type_81e(S,U,T,Pa,b,Qa,f,V);}
+Dc=r8(S);
+Ec=r4(S+8);
+Fc=r4(S+12);}
 else{
-Kc=fb>>32;
-Lc=Kc;
-w4(x+8,0);
-w4(y+8,0);
-Mc=db;
-Nc=(u8)(eb>>16)&1;
-if((u8)(Kc&1)){
-w4(x,c);
-x[4]=Mc;
-z3(x+5);
-x[8]=Nc;
-x[9]=Lc;
-w8(v,fb);
-z16(u);
+Gc=bb>>32;
+Hc=Gc;
+z12(v);
+z12(w);
+Ic=Za;
+Jc=(u8)(ab>>16)&1;
+if((u8)(Gc&1)){
+w4(v,c);
+v[4]=Ic;
+z3(v+5);
+v[8]=Jc;
+v[9]=Hc;
+w8(t,bb);
+z16(s);
+zero_all(q+1480,176);
+z24(r);
 if(b<2){
-Oc=0;
-Pc=0;
-Qc=11;}
+Kc=0;
+Lc=0;
+Mc=11;}
 else{
-Rc=*Ta==95;
+Nc=*Pa==95;
 if(b==2){
-if(!Rc){
-Oc=0;
-Pc=0;
-Qc=11;
+if(!Nc){
+Kc=0;
+Lc=0;
+Mc=11;
 goto L12;}
-switch(Ta[1]){
-case 90:Sc=0;
-Tc=0;
+switch(Pa[1]){
+case 90:Oc=0;
+Pc=0;
 goto L13;
 case 82:break;
-default:Oc=0;
-Pc=0;
-Qc=11;
+default:Kc=0;
+Lc=0;
+Mc=11;
 goto L12;
 }}
 else{
-if(!Rc){
-Oc=0;
-Pc=0;
-Qc=11;
+if(!Nc){
+Kc=0;
+Lc=0;
+Mc=11;
 goto L12;}
-switch(Ta[1]){
-case 90:Sc=0;
-Tc=0;
+switch(Pa[1]){
+case 90:Oc=0;
+Pc=0;
 goto L13;
 case 82:break;
-case 95:switch(Ta[2]){
-case 90:Uc=0;
+case 95:switch(Pa[2]){
+case 90:Qc=0;
 break;
-case 82:Uc=1;
+case 82:Qc=1;
 break;
-default:Oc=0;
-Pc=0;
-Qc=11;
+default:Kc=0;
+Lc=0;
+Mc=11;
 goto L12;
 }
-if(bb!=0){
-Sc=1;
-Tc=Uc;
+if(Xa!=0){
+Oc=1;
+Pc=Qc;
 goto L13;}
-Oc=0;
-Pc=0;
-Qc=11;
+Kc=0;
+Lc=0;
+Mc=11;
 goto L12;
-default:Oc=0;
-Pc=0;
-Qc=11;
+default:Kc=0;
+Lc=0;
+Mc=11;
 goto L12;
 }}
-Sc=0;
-Tc=1;
-L13:Vc=b-Sc;
-if(Vc<16777217){
-lists_35a(t);
-if(*t==0){
-memcpy(r,t+8,2056);
-wp(s,(u8*)65536);
-w8(s+16,0);
-z12(q);
-w8(s+8,0);
-append_dd4(q,x,r,Tc,Ta+(i64)Sc,Vc,s);
-if(*q==0){
-Wc=r8(s+8);
-if(f<Wc){
-Xc=Wc;
-Yc=0;
-Zc=6;}
+Oc=0;
+Pc=1;
+L13:Rc=b-Oc;
+if(Rc<16777217){
+Sc=(u64)(u8*)65536;
+wp(q,(u8*)65536);
+z24(q+8);
+wp(q+32,(u8*)65536);
+z16(q+40);
+wp(q+56,(u8*)65536);
+z32(q+64);
+wp(q+96,(u8*)65536);
+z16(q+104);
+wp(q+120,(u8*)65536);
+z32(q+128);
+wp(q+160,(u8*)65536);
+z80(q+168);
+wp(q+248,(u8*)65536);
+z16(q+256);
+wp(q+272,(u8*)65536);
+z40(q+280);
+wp(q+320,(u8*)65536);
+z16(q+328);
+wp(q+344,(u8*)65536);
+z16(q+352);
+wp(q+368,(u8*)65536);
+z16(q+376);
+wp(q+392,(u8*)65536);
+z16(q+400);
+wp(q+416,(u8*)65536);
+z16(q+424);
+wp(q+440,(u8*)65536);
+z48(q+448);
+wp(q+496,(u8*)65536);
+z32(q+504);
+wp(q+536,(u8*)65536);
+z32(q+544);
+wp(q+576,(u8*)65536);
+z104(q+584);
+w8(q+688,Sc);
+z40(q+696);
+w8(q+736,Sc);
+z16(q+744);
+wp(q+760,(u8*)65536);
+z32(q+768);
+wp(q+800,(u8*)65536);
+z24(q+808);
+wp(q+832,(u8*)65536);
+z16(q+840);
+wp(q+856,(u8*)65536);
+z32(q+864);
+wp(q+896,(u8*)65536);
+z16(q+904);
+wp(q+920,(u8*)65536);
+z24(q+928);
+wp(q+952,(u8*)65536);
+z16(q+960);
+wp(q+976,(u8*)65536);
+z16(q+984);
+wp(q+1000,(u8*)65536);
+z40(q+1008);
+wp(q+1048,(u8*)65536);
+z16(q+1056);
+wp(q+1072,(u8*)65536);
+z16(q+1080);
+wp(q+1096,(u8*)65536);
+z16(q+1104);
+wp(q+1120,(u8*)65536);
+z16(q+1128);
+wp(q+1144,(u8*)65536);
+z16(q+1152);
+wp(q+1168,(u8*)65536);
+z48(q+1176);
+wp(q+1224,(u8*)65536);
+z32(q+1232);
+wp(q+1264,(u8*)65536);
+z40(q+1272);
+wp(q+1312,(u8*)65536);
+z32(q+1320);
+wp(q+1352,(u8*)65536);
+z16(q+1360);
+wp(q+1376,(u8*)65536);
+z48(q+1384);
+w8(q+1432,Sc);
+z40(q+1440);
+w8(q+1480,Sc);
+z16(q+1488);
+wp(q+1504,(u8*)65536);
+z32(q+1512);
+wp(q+1544,(u8*)65536);
+z32(q+1552);
+wp(q+1584,(u8*)65536);
+z16(q+1592);
+wp(q+1608,(u8*)65536);
+z16(q+1616);
+wp(q+1632,(u8*)65536);
+z16(q+1640);
+wp(r,(u8*)65536);
+w8(r+16,0);
+z12(p);
+w8(r+8,0);
+append_dd4(p,v,q,Pc,Pa+(i64)Oc,Rc,r);
+if(*p==0){
+Tc=r8(r+8);
+if(f<Tc){
+Uc=Tc;
+Vc=0;
+Wc=6;}
 else{
-ad=rp(s);
-if((u64)Ua-(u64)ad<Wc){
-copy_bits_4f4(ad,Ua,Wc);
-Xc=Wc;
-Yc=0;
-Zc=0;}
+Xc=rp(r);
+if((u64)Qa-(u64)Xc<Tc){
+copy_bits_4f4(Xc,Qa,Tc);
+Uc=Tc;
+Vc=0;
+Wc=0;}
 else{
-memmove(Ua,ad,Wc);
-Xc=Wc;
-Yc=0;
-Zc=0;}}}
+memmove(Qa,Xc,Tc);
+Uc=Tc;
+Vc=0;
+Wc=0;}}}
 else{
-bd=Sc;
-cd=r4(q+8);
-switch(q[4]){
-case 0:Xc=0;
-Yc=uadd32(bd,cd);
-Zc=1;
+Yc=Oc;
+Zc=r4(p+8);
+switch(p[4]){
+case 0:Uc=0;
+Vc=uadd32(Yc,Zc);
+Wc=1;
 break;
-case 1:Xc=0;
-Yc=uadd32(bd,cd);
-Zc=2;
+case 1:Uc=0;
+Vc=uadd32(Yc,Zc);
+Wc=2;
 break;
-case 2:Xc=0;
-Yc=uadd32(bd,cd);
-Zc=3;
+case 2:Uc=0;
+Vc=uadd32(Yc,Zc);
+Wc=3;
 break;
-case 3:Xc=0;
-Yc=0;
-Zc=4;
+case 3:Uc=0;
+Vc=0;
+Wc=4;
 break;
-case 4:Xc=0;
-Yc=0;
-Zc=5;
+case 4:Uc=0;
+Vc=0;
+Wc=5;
 break;
 default:NEVER;
 }}
-if(r8(s+16)!=0)port_rattle_dealloc(rp(s));
-dd=rp(r+1944);
-ed=rp(r+1984);
-fd=r8(r+2000);
-gd=rp(r+2008);
-hd=r8(r+2024);
-id=rp(r+2032);
-jd=r8(r+2048);
-kd=r8(r+1960);
-memcpy(p,r,1944);
-drop_1dd(p);
-if(kd!=0)port_rattle_dealloc(dd);
-if(fd!=0)port_rattle_dealloc(ed);
-if(hd!=0)port_rattle_dealloc(gd);
-if(jd!=0)port_rattle_dealloc(id);
-Oc=Xc;
-Pc=Yc;
-Qc=Zc;}
+if(r8(r+16)!=0)port_rattle_dealloc(rp(r));
+ad=rp(q+1544);
+bd=rp(q+1584);
+cd=r8(q+1600);
+dd=rp(q+1608);
+ed=r8(q+1624);
+fd=rp(q+1632);
+gd=r8(q+1648);
+hd=r8(q+1560);
+memcpy(o,q,1544);
+drop_1dd(o);
+if(hd!=0)port_rattle_dealloc(ad);
+if(cd!=0)port_rattle_dealloc(bd);
+if(ed!=0)port_rattle_dealloc(dd);
+if(gd!=0)port_rattle_dealloc(fd);
+Kc=Uc;
+Lc=Vc;
+Mc=Wc;}
 else{
-Oc=0;
-Pc=0;
-Qc=5;}}
+Kc=0;
+Lc=0;
+Mc=7;}}
+L12:w8(u,Kc);
+w4(u+8,Lc);
+w4(u+12,Mc);
+or_type_f0b(s,v,t,Pa,b,Qa,f,u);
+id=r8(s);
+jd=r4(s+8);
+kd=r4(s+12);}
 else{
-Oc=0;
-Pc=0;
-Qc=7;}}
-L12:w8(w,Oc);
-w4(w+8,Pc);
-w4(w+12,Qc);
-or_type_f0b(u,x,v,Ta,b,Ua,f,w);
-ld=r4(u+12);
-md=r4(u+8);
-nd=r8(u);}
-else{
-w4(y,c);
-y[4]=Mc;
-z3(y+5);
-y[8]=Nc;
-y[9]=Lc;
-w8(n,fb&0xfffffffefeffffffu);
-z16(m);
+w4(w,c);
+w[4]=Ic;
+z3(w+5);
+w[8]=Jc;
+w[9]=Hc;
+w8(m,bb&0xfffffffefeffffffu);
+z16(l);
+zero_all(j+1480,176);
+z24(k);
 if(b<2){
-od=0;
-pd=0;
-qd=11;}
+ld=0;
+md=0;
+nd=11;}
 else{
-sd=*Ta==95;
+od=*Pa==95;
 if(b==2){
-if(!sd){
-od=0;
-pd=0;
-qd=11;
+if(!od){
+ld=0;
+md=0;
+nd=11;
 goto L14;}
-switch(Ta[1]){
-case 90:td=0;
-ud=0;
+switch(Pa[1]){
+case 90:pd=0;
+qd=0;
 goto L15;
 case 82:break;
-default:od=0;
-pd=0;
-qd=11;
+default:ld=0;
+md=0;
+nd=11;
 goto L14;
 }}
 else{
-if(!sd){
-od=0;
-pd=0;
-qd=11;
+if(!od){
+ld=0;
+md=0;
+nd=11;
 goto L14;}
-switch(Ta[1]){
-case 90:td=0;
-ud=0;
+switch(Pa[1]){
+case 90:pd=0;
+qd=0;
 goto L15;
 case 82:break;
-case 95:switch(Ta[2]){
-case 90:vd=0;
+case 95:switch(Pa[2]){
+case 90:sd=0;
 break;
-case 82:vd=1;
+case 82:sd=1;
 break;
-default:od=0;
-pd=0;
-qd=11;
+default:ld=0;
+md=0;
+nd=11;
 goto L14;
 }
-if(bb!=0){
-td=1;
-ud=vd;
+if(Xa!=0){
+pd=1;
+qd=sd;
 goto L15;}
-od=0;
-pd=0;
-qd=11;
+ld=0;
+md=0;
+nd=11;
 goto L14;
-default:od=0;
-pd=0;
-qd=11;
+default:ld=0;
+md=0;
+nd=11;
 goto L14;
 }}
-td=0;
-ud=1;
-L15:xd=b-td;
-if(xd<16777217){
-lists_35a(l);
-if(*l==0){
-memcpy(j,l+8,2056);
+pd=0;
+qd=1;
+L15:td=b-pd;
+if(td<16777217){
+ud=(u64)(u8*)65536;
+wp(j,(u8*)65536);
+z24(j+8);
+wp(j+32,(u8*)65536);
+z16(j+40);
+wp(j+56,(u8*)65536);
+z32(j+64);
+wp(j+96,(u8*)65536);
+z16(j+104);
+wp(j+120,(u8*)65536);
+z32(j+128);
+wp(j+160,(u8*)65536);
+z80(j+168);
+wp(j+248,(u8*)65536);
+z16(j+256);
+wp(j+272,(u8*)65536);
+z40(j+280);
+wp(j+320,(u8*)65536);
+z16(j+328);
+wp(j+344,(u8*)65536);
+z16(j+352);
+wp(j+368,(u8*)65536);
+z16(j+376);
+wp(j+392,(u8*)65536);
+z16(j+400);
+wp(j+416,(u8*)65536);
+z16(j+424);
+wp(j+440,(u8*)65536);
+z48(j+448);
+wp(j+496,(u8*)65536);
+z32(j+504);
+wp(j+536,(u8*)65536);
+z32(j+544);
+wp(j+576,(u8*)65536);
+z104(j+584);
+w8(j+688,ud);
+z40(j+696);
+w8(j+736,ud);
+z16(j+744);
+wp(j+760,(u8*)65536);
+z32(j+768);
+wp(j+800,(u8*)65536);
+z24(j+808);
+wp(j+832,(u8*)65536);
+z16(j+840);
+wp(j+856,(u8*)65536);
+z32(j+864);
+wp(j+896,(u8*)65536);
+z16(j+904);
+wp(j+920,(u8*)65536);
+z24(j+928);
+wp(j+952,(u8*)65536);
+z16(j+960);
+wp(j+976,(u8*)65536);
+z16(j+984);
+wp(j+1000,(u8*)65536);
+z40(j+1008);
+wp(j+1048,(u8*)65536);
+z16(j+1056);
+wp(j+1072,(u8*)65536);
+z16(j+1080);
+wp(j+1096,(u8*)65536);
+z16(j+1104);
+wp(j+1120,(u8*)65536);
+z16(j+1128);
+wp(j+1144,(u8*)65536);
+z16(j+1152);
+wp(j+1168,(u8*)65536);
+z48(j+1176);
+wp(j+1224,(u8*)65536);
+z32(j+1232);
+wp(j+1264,(u8*)65536);
+z40(j+1272);
+wp(j+1312,(u8*)65536);
+z32(j+1320);
+wp(j+1352,(u8*)65536);
+z16(j+1360);
+wp(j+1376,(u8*)65536);
+z48(j+1384);
+w8(j+1432,ud);
+z40(j+1440);
+w8(j+1480,ud);
+z16(j+1488);
+wp(j+1504,(u8*)65536);
+z32(j+1512);
+wp(j+1544,(u8*)65536);
+z32(j+1552);
+wp(j+1584,(u8*)65536);
+z16(j+1592);
+wp(j+1608,(u8*)65536);
+z16(j+1616);
+wp(j+1632,(u8*)65536);
+z16(j+1640);
 wp(k,(u8*)65536);
 w8(k+16,0);
 z12(i);
 w8(k+8,0);
-append_a0b_2(i,y,j,ud,Ta+(i64)td,xd,k);
+append_a0b_2(i,w,j,qd,Pa+(i64)pd,td,k);
 if(*i==0){
-yd=r8(k+8);
-if(f<yd){
-zd=yd;
-Ad=0;
-Bd=6;}
+vd=r8(k+8);
+if(f<vd){
+xd=vd;
+yd=0;
+zd=6;}
 else{
-Cd=rp(k);
-if((u64)Ua-(u64)Cd<yd){
-copy_bits_4f4(Cd,Ua,yd);
-zd=yd;
-Ad=0;
-Bd=0;}
+Ad=rp(k);
+if((u64)Qa-(u64)Ad<vd){
+copy_bits_4f4(Ad,Qa,vd);
+xd=vd;
+yd=0;
+zd=0;}
 else{
-memmove(Ua,Cd,yd);
-zd=yd;
-Ad=0;
-Bd=0;}}}
+memmove(Qa,Ad,vd);
+xd=vd;
+yd=0;
+zd=0;}}}
 else{
-Dd=td;
-Ed=r4(i+8);
+Bd=pd;
+Cd=r4(i+8);
 switch(i[4]){
-case 0:zd=0;
-Ad=uadd32(Dd,Ed);
-Bd=1;
+case 0:xd=0;
+yd=uadd32(Bd,Cd);
+zd=1;
 break;
-case 1:zd=0;
-Ad=uadd32(Dd,Ed);
-Bd=2;
+case 1:xd=0;
+yd=uadd32(Bd,Cd);
+zd=2;
 break;
-case 2:zd=0;
-Ad=uadd32(Dd,Ed);
-Bd=3;
+case 2:xd=0;
+yd=uadd32(Bd,Cd);
+zd=3;
 break;
-case 3:zd=0;
-Ad=0;
-Bd=4;
+case 3:xd=0;
+yd=0;
+zd=4;
 break;
-case 4:zd=0;
-Ad=0;
-Bd=5;
+case 4:xd=0;
+yd=0;
+zd=5;
 break;
 default:NEVER;
 }}
 if(r8(k+16)!=0)port_rattle_dealloc(rp(k));
-Fd=rp(j+1944);
-Gd=rp(j+1984);
-Hd=r8(j+2000);
-Id=rp(j+2008);
-Jd=r8(j+2024);
-Kd=rp(j+2032);
-Ld=r8(j+2048);
-Md=r8(j+1960);
-memcpy(h,j,1944);
+Dd=rp(j+1544);
+Ed=rp(j+1584);
+Fd=r8(j+1600);
+Gd=rp(j+1608);
+Hd=r8(j+1624);
+Id=rp(j+1632);
+Jd=r8(j+1648);
+Kd=r8(j+1560);
+memcpy(h,j,1544);
 drop_1dd(h);
-if(Md!=0)port_rattle_dealloc(Fd);
+if(Kd!=0)port_rattle_dealloc(Dd);
+if(Fd!=0)port_rattle_dealloc(Ed);
 if(Hd!=0)port_rattle_dealloc(Gd);
 if(Jd!=0)port_rattle_dealloc(Id);
-if(Ld!=0)port_rattle_dealloc(Kd);
-od=zd;
-pd=Ad;
-qd=Bd;}
+ld=xd;
+md=yd;
+nd=zd;}
 else{
-od=0;
-pd=0;
-qd=5;}}
+ld=0;
+md=0;
+nd=7;}}
+L14:w8(n,ld);
+w4(n+8,md);
+w4(n+12,nd);
+or_type_504(l,w,m,Pa,b,Qa,f,n);
+id=r8(l);
+jd=r4(l+8);
+kd=r4(l+12);}
+Dc=id;
+Ec=jd;
+Fc=kd;}}
 else{
-od=0;
-pd=0;
-qd=7;}}
-L14:w8(o,od);
-w4(o+8,pd);
-w4(o+12,qd);
-or_type_504(m,y,n,Ta,b,Ua,f,o);
-ld=r4(m+12);
-md=r4(m+8);
-nd=r8(m);}
-Hc=nd;
-Ic=md;
-Jc=ld;}}
+if(cb){
+w8(Ka,bb);
+z16(Ja);
+w8(La,0);
+z16(Ma);
+w8(Na,0);
+z16(Oa);
+Ld=Za;
+Md=b<2;
+if(Wa==0){
+w4(Na,c);
+Na[4]=Ld;
+z3(Na+5);
+if(Md){
+Nd=0;
+Od=0;
+Pd=11;}
 else{
-if(gb){
-w8(Oa,fb);
-z16(Na);
-w8(Pa,0);
-z16(Qa);
-w8(Ra,0);
-z16(Sa);
-Nd=db;
-Od=b<2;
-if(ab==0){
-w4(Ra,c);
-Ra[4]=Nd;
-z3(Ra+5);
-z24(ya);
-if(Od){
-Pd=0;
-Qd=0;
-Rd=11;}
-else{
-Sd=*Ta==95;
+Qd=*Pa==95;
 if(b==2){
-if(!Sd){
-Pd=0;
-Qd=0;
-Rd=11;
+if(!Qd){
+Nd=0;
+Od=0;
+Pd=11;
 goto L16;}
-switch(Ta[1]){
-case 90:Td=0;
-Ud=0;
+switch(Pa[1]){
+case 90:Rd=0;
+Sd=0;
 goto L17;
 case 82:break;
-default:Pd=0;
-Qd=0;
-Rd=11;
+default:Nd=0;
+Od=0;
+Pd=11;
 goto L16;
 }}
 else{
-if(!Sd){
-Pd=0;
-Qd=0;
-Rd=11;
+if(!Qd){
+Nd=0;
+Od=0;
+Pd=11;
 goto L16;}
-switch(Ta[1]){
-case 90:Td=0;
-Ud=0;
+switch(Pa[1]){
+case 90:Rd=0;
+Sd=0;
 goto L17;
 case 82:break;
-case 95:switch(Ta[2]){
-case 90:Vd=0;
+case 95:switch(Pa[2]){
+case 90:Td=0;
 break;
-case 82:Vd=1;
+case 82:Td=1;
 break;
-default:Pd=0;
-Qd=0;
-Rd=11;
+default:Nd=0;
+Od=0;
+Pd=11;
 goto L16;
 }
-if(bb!=0){
-Td=1;
-Ud=Vd;
+if(Xa!=0){
+Rd=1;
+Sd=Td;
 goto L17;}
-Pd=0;
-Qd=0;
-Rd=11;
+Nd=0;
+Od=0;
+Pd=11;
 goto L16;
-default:Pd=0;
-Qd=0;
-Rd=11;
+default:Nd=0;
+Od=0;
+Pd=11;
 goto L16;
 }}
-Td=0;
-Ud=1;
-L17:Wd=b-Td;
-if(Wd<16777217){
-Xd=Ta+(i64)Td;
-short_once_3e7(ya,Ra,Ud,Xd,Wd,Ua,f);
-if(*ya==1){
-Pd=r8(ya+8);
-Qd=r4(ya+16);
-Rd=r4(ya+20);}
+Rd=0;
+Sd=1;
+L17:Ud=b-Rd;
+if(Ud<16777217){
+Vd=Pa+(i64)Rd;
+short_once_3e7(ua,Na,Sd,Vd,Ud,Qa,f);
+if(*ua==1){
+Nd=r8(ua+8);
+Od=r4(ua+16);
+Pd=r4(ua+20);}
 else{
-zero_all(sa+1544,400);
-z24(ta);
-z16(ua);
-zero_all(va,1944);
-zero_all(wa,1944);
-zero_all(xa,1944);
-Yd=(u64)(u8*)65536;
-wp(sa,(u8*)65536);
-z24(sa+8);
-wp(sa+32,(u8*)65536);
-z16(sa+40);
-wp(sa+56,(u8*)65536);
-z32(sa+64);
-wp(sa+96,(u8*)65536);
-z16(sa+104);
-wp(sa+120,(u8*)65536);
-z32(sa+128);
-wp(sa+160,(u8*)65536);
-z80(sa+168);
-wp(sa+248,(u8*)65536);
-z16(sa+256);
-wp(sa+272,(u8*)65536);
-z40(sa+280);
-wp(sa+320,(u8*)65536);
-z16(sa+328);
-wp(sa+344,(u8*)65536);
-z16(sa+352);
-wp(sa+368,(u8*)65536);
-z16(sa+376);
-wp(sa+392,(u8*)65536);
-z16(sa+400);
-wp(sa+416,(u8*)65536);
-z16(sa+424);
-wp(sa+440,(u8*)65536);
-z48(sa+448);
-wp(sa+496,(u8*)65536);
-z32(sa+504);
-wp(sa+536,(u8*)65536);
-z32(sa+544);
-wp(sa+576,(u8*)65536);
-z104(sa+584);
-w8(sa+688,Yd);
-z40(sa+696);
-w8(sa+736,Yd);
-z16(sa+744);
-wp(sa+760,(u8*)65536);
-z32(sa+768);
-wp(sa+800,(u8*)65536);
-z24(sa+808);
-wp(sa+832,(u8*)65536);
-z16(sa+840);
-wp(sa+856,(u8*)65536);
-z32(sa+864);
-wp(sa+896,(u8*)65536);
-z16(sa+904);
-wp(sa+920,(u8*)65536);
-z24(sa+928);
-wp(sa+952,(u8*)65536);
-z16(sa+960);
-wp(sa+976,(u8*)65536);
-z16(sa+984);
-wp(sa+1000,(u8*)65536);
-z40(sa+1008);
-wp(sa+1048,(u8*)65536);
-z16(sa+1056);
-wp(sa+1072,(u8*)65536);
-z16(sa+1080);
-wp(sa+1096,(u8*)65536);
-z16(sa+1104);
-wp(sa+1120,(u8*)65536);
-z16(sa+1128);
-wp(sa+1144,(u8*)65536);
-z16(sa+1152);
-wp(sa+1168,(u8*)65536);
-z48(sa+1176);
-wp(sa+1224,(u8*)65536);
-z32(sa+1232);
-wp(sa+1264,(u8*)65536);
-z40(sa+1272);
-wp(sa+1312,(u8*)65536);
-z32(sa+1320);
-wp(sa+1352,(u8*)65536);
-z16(sa+1360);
-wp(sa+1376,(u8*)65536);
-z48(sa+1384);
-w8(sa+1432,Yd);
-z40(sa+1440);
-w8(sa+1480,Yd);
-z16(sa+1488);
-wp(sa+1504,(u8*)65536);
-z32(sa+1512);
-wp(sa+1544,(u8*)65536);
-z32(sa+1552);
-wp(sa+1584,(u8*)65536);
-z32(sa+1592);
-wp(sa+1624,(u8*)65536);
-z104(sa+1632);
-wp(sa+1736,(u8*)65536);
-z32(sa+1744);
-wp(sa+1776,(u8*)65536);
-z40(sa+1784);
-wp(sa+1824,(u8*)65536);
-z32(sa+1832);
-wp(sa+1864,(u8*)65536);
-z16(sa+1872);
-wp(sa+1888,(u8*)65536);
-z48(sa+1896);
-wp(ta,(u8*)65536);
-z16(ta+8);
-demangle_d37(ua,Ra,sa,Ud,Xd,Wd,ta);
-switch(*ua){
-case 0:Zd=rp(ta);
-ae=r8(ta+8);
-if(f<ae)be=6;
+z16(pa+8);
+z16(qa);
+zero_all(ra,1544);
+zero_all(sa,1544);
+zero_all(ta,1544);
+Wd=(u64)(u8*)65536;
+wp(oa,(u8*)65536);
+z24(oa+8);
+wp(oa+32,(u8*)65536);
+z16(oa+40);
+wp(oa+56,(u8*)65536);
+z32(oa+64);
+wp(oa+96,(u8*)65536);
+z16(oa+104);
+wp(oa+120,(u8*)65536);
+z32(oa+128);
+wp(oa+160,(u8*)65536);
+z80(oa+168);
+wp(oa+248,(u8*)65536);
+z16(oa+256);
+wp(oa+272,(u8*)65536);
+z40(oa+280);
+wp(oa+320,(u8*)65536);
+z16(oa+328);
+wp(oa+344,(u8*)65536);
+z16(oa+352);
+wp(oa+368,(u8*)65536);
+z16(oa+376);
+wp(oa+392,(u8*)65536);
+z16(oa+400);
+wp(oa+416,(u8*)65536);
+z16(oa+424);
+wp(oa+440,(u8*)65536);
+z48(oa+448);
+wp(oa+496,(u8*)65536);
+z32(oa+504);
+wp(oa+536,(u8*)65536);
+z32(oa+544);
+wp(oa+576,(u8*)65536);
+z104(oa+584);
+w8(oa+688,Wd);
+z40(oa+696);
+w8(oa+736,Wd);
+z16(oa+744);
+wp(oa+760,(u8*)65536);
+z32(oa+768);
+wp(oa+800,(u8*)65536);
+z24(oa+808);
+wp(oa+832,(u8*)65536);
+z16(oa+840);
+wp(oa+856,(u8*)65536);
+z32(oa+864);
+wp(oa+896,(u8*)65536);
+z16(oa+904);
+wp(oa+920,(u8*)65536);
+z24(oa+928);
+wp(oa+952,(u8*)65536);
+z16(oa+960);
+wp(oa+976,(u8*)65536);
+z16(oa+984);
+wp(oa+1000,(u8*)65536);
+z40(oa+1008);
+wp(oa+1048,(u8*)65536);
+z16(oa+1056);
+wp(oa+1072,(u8*)65536);
+z16(oa+1080);
+wp(oa+1096,(u8*)65536);
+z16(oa+1104);
+wp(oa+1120,(u8*)65536);
+z16(oa+1128);
+wp(oa+1144,(u8*)65536);
+z16(oa+1152);
+wp(oa+1168,(u8*)65536);
+z48(oa+1176);
+wp(oa+1224,(u8*)65536);
+z32(oa+1232);
+wp(oa+1264,(u8*)65536);
+z40(oa+1272);
+wp(oa+1312,(u8*)65536);
+z32(oa+1320);
+wp(oa+1352,(u8*)65536);
+z16(oa+1360);
+wp(oa+1376,(u8*)65536);
+z48(oa+1384);
+w8(oa+1432,Wd);
+z40(oa+1440);
+w8(oa+1480,Wd);
+z16(oa+1488);
+wp(oa+1504,(u8*)65536);
+z32(oa+1512);
+wp(pa,(u8*)65536);
+z16(pa+8);
+demangle_d37(qa,Na,oa,Sd,Vd,Ud,pa);
+switch(*qa){
+case 0:Xd=rp(pa);
+Yd=r8(pa+8);
+if(f<Yd)Zd=6;
 else{
-if((u64)Ua-(u64)Zd<ae){
-copy_bits_4f4(Zd,Ua,ae);
-be=0;}
+if((u64)Qa-(u64)Xd<Yd){
+copy_bits_4f4(Xd,Qa,Yd);
+Zd=0;}
 else{
-memmove(Ua,Zd,ae);
-be=0;}}
-if(r8(ta+16)==0){
-ce=va;
-de=ae;
-ee=0;
-fe=be;
+memmove(Qa,Xd,Yd);
+Zd=0;}}
+if(r8(pa+16)==0){
+ae=ra;
+be=Yd;
+ce=0;
+de=Zd;
 goto L18;}
-ge=Zd;
-he=va;
-ie=ae;
-je=0;
-ke=be;
+ee=Xd;
+fe=ra;
+ge=Yd;
+he=0;
+ie=Zd;
 break;
-case 1:if(r8(ta+16)==0){
-ce=wa;
-de=0;
-ee=0;
-fe=4;
+case 1:if(r8(pa+16)==0){
+ae=sa;
+be=0;
+ce=0;
+de=4;
 goto L18;}
-ge=rp(ta);
-he=wa;
-ie=0;
-je=0;
-ke=4;
+ee=rp(pa);
+fe=sa;
+ge=0;
+he=0;
+ie=4;
 break;
-case 2:le=Td;
-me=r4(ua+8);
-switch(ua[4]){
-case 0:ne=uadd32(le,me);
-oe=1;
+case 2:je=Rd;
+ke=r4(qa+8);
+switch(qa[4]){
+case 0:le=uadd32(je,ke);
+me=1;
 break;
-case 1:ne=uadd32(le,me);
-oe=2;
+case 1:le=uadd32(je,ke);
+me=2;
 break;
-case 2:ne=uadd32(le,me);
-oe=3;
+case 2:le=uadd32(je,ke);
+me=3;
 break;
-case 3:ne=0;
-oe=4;
+case 3:le=0;
+me=4;
 break;
-case 4:ne=0;
-oe=5;
+case 4:le=0;
+me=5;
 break;
 default:NEVER;
 }
-if(r8(ta+16)==0){
-ce=xa;
-de=0;
-ee=ne;
-fe=oe;
+if(r8(pa+16)==0){
+ae=ta;
+be=0;
+ce=le;
+de=me;
 goto L18;}
-ge=rp(ta);
-he=xa;
-ie=0;
-je=ne;
-ke=oe;
+ee=rp(pa);
+fe=ta;
+ge=0;
+he=le;
+ie=me;
 break;
 default:NEVER;
 }
-port_rattle_dealloc(ge);
+port_rattle_dealloc(ee);
+ae=fe;
+be=ge;
 ce=he;
 de=ie;
-ee=je;
-fe=ke;
-L18:memcpy(ce,sa,1944);
-drop_1dd(ce);
-Pd=de;
-Qd=ee;
-Rd=fe;}}
+L18:memcpy(ae,oa,1544);
+drop_1dd(ae);
+Nd=be;
+Od=ce;
+Pd=de;}}
 else{
-Pd=0;
-Qd=0;
-Rd=7;}}
-L16:w8(Sa,Pd);
-w4(Sa+8,Qd);
-w4(Sa+12,Rd);
-or_type_43d(Na,Ra,Oa,Ta,b,Ua,f,Sa);}
+Nd=0;
+Od=0;
+Pd=7;}}
+L16:w8(Oa,Nd);
+w4(Oa+8,Od);
+w4(Oa+12,Pd);
+or_type_43d(Ja,Na,Ka,Pa,b,Qa,f,Oa);}
 else{
-w4(Pa,c);
-Pa[4]=Nd;
-z3(Pa+5);
-z24(Ma);
-if(Od){
-pe=0;
-qe=0;
-re=11;}
+w4(La,c);
+La[4]=Ld;
+z3(La+5);
+if(Md){
+ne=0;
+oe=0;
+pe=11;}
 else{
-se=b==2;
-te=*Ta==95;
-if(se){
-if(!te){
-pe=0;
-qe=0;
-re=11;
+qe=b==2;
+re=*Pa==95;
+if(qe){
+if(!re){
+ne=0;
+oe=0;
+pe=11;
 goto L19;}
-ue=Ta[1];
-switch(ue){
-case 90:ve=ue;
-we=0;
-xe=0;
+se=Pa[1];
+switch(se){
+case 90:te=se;
+ue=0;
+ve=0;
 goto L20;
 case 82:break;
-default:pe=0;
-qe=0;
-re=11;
+default:ne=0;
+oe=0;
+pe=11;
 goto L19;
 }}
 else{
-if(!te){
-pe=0;
-qe=0;
-re=11;
+if(!re){
+ne=0;
+oe=0;
+pe=11;
 goto L19;}
-ye=Ta[1];
-switch(ye){
-case 90:ve=ye;
-we=0;
-xe=0;
+we=Pa[1];
+switch(we){
+case 90:te=we;
+ue=0;
+ve=0;
 goto L20;
 case 82:break;
-case 95:switch(Ta[2]){
-case 90:ze=0;
+case 95:switch(Pa[2]){
+case 90:xe=0;
 break;
-case 82:ze=1;
+case 82:xe=1;
 break;
-default:pe=0;
-qe=0;
-re=11;
+default:ne=0;
+oe=0;
+pe=11;
 goto L19;
 }
-if(bb==0){
-pe=0;
-qe=0;
-re=11;
+if(Xa==0){
+ne=0;
+oe=0;
+pe=11;
 goto L19;}
-ve=95;
-we=1;
-xe=ze;
+te=95;
+ue=1;
+ve=xe;
 goto L20;
-default:pe=0;
-qe=0;
-re=11;
+default:ne=0;
+oe=0;
+pe=11;
 goto L19;
 }}
-ve=82;
-we=0;
-xe=1;
-L20:Ae=b-we;
-if(Ae<16777217){
-Be=Ta+(i64)we;
-Ce=may_be_legacy_350(Be,Ae);
-if(Ce){
-z16(Ia);
-zero_all(Ja+1480,464);
-z24(Ka);
-if(se){
-switch(ve){
-case 90:De=0;
-Ee=0;
+te=82;
+ue=0;
+ve=1;
+L20:ye=b-ue;
+if(ye<16777217){
+ze=Pa+(i64)ue;
+Ae=may_be_legacy_350(ze,ye);
+if(Ae){
+z16(Ea);
+if(qe){
+switch(te){
+case 90:Be=0;
+Ce=0;
 goto L21;
 case 82:break;
-default:Fe=11;
-Ge=0;
-He=0;
+default:De=11;
+Ee=0;
+Fe=0;
 goto L22;
 }}
 else{
-switch(ve){
-case 90:De=0;
-Ee=0;
+switch(te){
+case 90:Be=0;
+Ce=0;
 goto L21;
 case 82:break;
-case 95:switch(Ta[2]){
-case 90:Ie=0;
+case 95:switch(Pa[2]){
+case 90:Ge=0;
 break;
-case 82:Ie=1;
+case 82:Ge=1;
 break;
-default:Fe=11;
-Ge=0;
-He=0;
+default:De=11;
+Ee=0;
+Fe=0;
 goto L22;
 }
-if(bb!=0){
-De=1;
-Ee=Ie;
+if(Xa!=0){
+Be=1;
+Ce=Ge;
 goto L21;}
-Fe=11;
-Ge=0;
-He=0;
+De=11;
+Ee=0;
+Fe=0;
 goto L22;
 default:NEVER;
 }}
-De=0;
-Ee=1;
-L21:Je=b-De;
-if(Je<16777217){
+Be=0;
+Ce=1;
+L21:He=b-Be;
+if(He<16777217){
+Ie=(u64)(u8*)65536;
+wp(Fa,(u8*)65536);
+z24(Fa+8);
+wp(Fa+32,(u8*)65536);
+z16(Fa+40);
+wp(Fa+56,(u8*)65536);
+z32(Fa+64);
+wp(Fa+96,(u8*)65536);
+z16(Fa+104);
+wp(Fa+120,(u8*)65536);
+z32(Fa+128);
+wp(Fa+160,(u8*)65536);
+z80(Fa+168);
+wp(Fa+248,(u8*)65536);
+z16(Fa+256);
+wp(Fa+272,(u8*)65536);
+z40(Fa+280);
+wp(Fa+320,(u8*)65536);
+z16(Fa+328);
+wp(Fa+344,(u8*)65536);
+z16(Fa+352);
+wp(Fa+368,(u8*)65536);
+z16(Fa+376);
+wp(Fa+392,(u8*)65536);
+z16(Fa+400);
+wp(Fa+416,(u8*)65536);
+z16(Fa+424);
+wp(Fa+440,(u8*)65536);
+z48(Fa+448);
+wp(Fa+496,(u8*)65536);
+z32(Fa+504);
+wp(Fa+536,(u8*)65536);
+z32(Fa+544);
+wp(Fa+576,(u8*)65536);
+z104(Fa+584);
+w8(Fa+688,Ie);
+z40(Fa+696);
+w8(Fa+736,Ie);
+z16(Fa+744);
+wp(Fa+760,(u8*)65536);
+z32(Fa+768);
+wp(Fa+800,(u8*)65536);
+z24(Fa+808);
+wp(Fa+832,(u8*)65536);
+z16(Fa+840);
+wp(Fa+856,(u8*)65536);
+z32(Fa+864);
+wp(Fa+896,(u8*)65536);
+z16(Fa+904);
+wp(Fa+920,(u8*)65536);
+z24(Fa+928);
+wp(Fa+952,(u8*)65536);
+z16(Fa+960);
+wp(Fa+976,(u8*)65536);
+z16(Fa+984);
+wp(Fa+1000,(u8*)65536);
+z40(Fa+1008);
+wp(Fa+1048,(u8*)65536);
+z16(Fa+1056);
+wp(Fa+1072,(u8*)65536);
+z16(Fa+1080);
+wp(Fa+1096,(u8*)65536);
+z16(Fa+1104);
+wp(Fa+1120,(u8*)65536);
+z16(Fa+1128);
+wp(Fa+1144,(u8*)65536);
+z16(Fa+1152);
+wp(Fa+1168,(u8*)65536);
+z48(Fa+1176);
+wp(Fa+1224,(u8*)65536);
+z32(Fa+1232);
+wp(Fa+1264,(u8*)65536);
+z40(Fa+1272);
+wp(Fa+1312,(u8*)65536);
+z32(Fa+1320);
+wp(Fa+1352,(u8*)65536);
+z16(Fa+1360);
+wp(Fa+1376,(u8*)65536);
+z48(Fa+1384);
+w8(Fa+1432,Ie);
+z40(Fa+1440);
+w8(Fa+1480,Ie);
+z16(Fa+1488);
+wp(Fa+1504,(u8*)65536);
+z32(Fa+1512);
+wp(Ga,(u8*)65536);
+z16(Ga+8);
+symbol_with_2a8(Ea,La,Fa,Ga,Ce,Be,Pa+(i64)Be,He,Qa,f);
+if(r8(Ga+16)!=0)port_rattle_dealloc(rp(Ga));
+memcpy(Ha,Fa,1544);
+drop_1dd(Ha);
+De=r4(Ea+12);
+Ee=r4(Ea+8);
+Fe=r8(Ea);}
+else{
+De=7;
+Ee=0;
+Fe=0;}
+L22:ne=Fe;
+oe=Ee;
+pe=De;}
+else{
+short_once_3e7(Ia,La,ve,ze,ye,Qa,f);
+if(*Ia==1){
+ne=r8(Ia+8);
+oe=r4(Ia+16);
+pe=r4(Ia+20);}
+else{
+Je=ue;
+zero_all(Ba,1544);
+zero_all(Ca,1544);
+zero_all(Da,1544);
 Ke=(u64)(u8*)65536;
-wp(Ja,(u8*)65536);
-z24(Ja+8);
-wp(Ja+32,(u8*)65536);
-z16(Ja+40);
-wp(Ja+56,(u8*)65536);
-z32(Ja+64);
-wp(Ja+96,(u8*)65536);
-z16(Ja+104);
-wp(Ja+120,(u8*)65536);
-z32(Ja+128);
-wp(Ja+160,(u8*)65536);
-z80(Ja+168);
-wp(Ja+248,(u8*)65536);
-z16(Ja+256);
-wp(Ja+272,(u8*)65536);
-z40(Ja+280);
-wp(Ja+320,(u8*)65536);
-z16(Ja+328);
-wp(Ja+344,(u8*)65536);
-z16(Ja+352);
-wp(Ja+368,(u8*)65536);
-z16(Ja+376);
-wp(Ja+392,(u8*)65536);
-z16(Ja+400);
-wp(Ja+416,(u8*)65536);
-z16(Ja+424);
-wp(Ja+440,(u8*)65536);
-z48(Ja+448);
-wp(Ja+496,(u8*)65536);
-z32(Ja+504);
-wp(Ja+536,(u8*)65536);
-z32(Ja+544);
-wp(Ja+576,(u8*)65536);
-z104(Ja+584);
-w8(Ja+688,Ke);
-z40(Ja+696);
-w8(Ja+736,Ke);
-z16(Ja+744);
-wp(Ja+760,(u8*)65536);
-z32(Ja+768);
-wp(Ja+800,(u8*)65536);
-z24(Ja+808);
-wp(Ja+832,(u8*)65536);
-z16(Ja+840);
-wp(Ja+856,(u8*)65536);
-z32(Ja+864);
-wp(Ja+896,(u8*)65536);
-z16(Ja+904);
-wp(Ja+920,(u8*)65536);
-z24(Ja+928);
-wp(Ja+952,(u8*)65536);
-z16(Ja+960);
-wp(Ja+976,(u8*)65536);
-z16(Ja+984);
-wp(Ja+1000,(u8*)65536);
-z40(Ja+1008);
-wp(Ja+1048,(u8*)65536);
-z16(Ja+1056);
-wp(Ja+1072,(u8*)65536);
-z16(Ja+1080);
-wp(Ja+1096,(u8*)65536);
-z16(Ja+1104);
-wp(Ja+1120,(u8*)65536);
-z16(Ja+1128);
-wp(Ja+1144,(u8*)65536);
-z16(Ja+1152);
-wp(Ja+1168,(u8*)65536);
-z48(Ja+1176);
-wp(Ja+1224,(u8*)65536);
-z32(Ja+1232);
-wp(Ja+1264,(u8*)65536);
-z40(Ja+1272);
-wp(Ja+1312,(u8*)65536);
-z32(Ja+1320);
-wp(Ja+1352,(u8*)65536);
-z16(Ja+1360);
-wp(Ja+1376,(u8*)65536);
-z48(Ja+1384);
-w8(Ja+1432,Ke);
-z40(Ja+1440);
-w8(Ja+1480,Ke);
-z16(Ja+1488);
-wp(Ja+1504,(u8*)65536);
-z32(Ja+1512);
-wp(Ja+1544,(u8*)65536);
-z32(Ja+1552);
-wp(Ja+1584,(u8*)65536);
-z32(Ja+1592);
-wp(Ja+1624,(u8*)65536);
-z104(Ja+1632);
-wp(Ja+1736,(u8*)65536);
-z32(Ja+1744);
-wp(Ja+1776,(u8*)65536);
-z40(Ja+1784);
-wp(Ja+1824,(u8*)65536);
-z32(Ja+1832);
-wp(Ja+1864,(u8*)65536);
-z16(Ja+1872);
-wp(Ja+1888,(u8*)65536);
-z48(Ja+1896);
-wp(Ka,(u8*)65536);
-z16(Ka+8);
-symbol_with_2a8(Ia,Pa,Ja,Ka,Ee,De,Ta+(i64)De,Je,Ua,f);
-if(r8(Ka+16)!=0)port_rattle_dealloc(rp(Ka));
-memcpy(La,Ja,1944);
-drop_1dd(La);
-Fe=r4(Ia+12);
-Ge=r4(Ia+8);
-He=r8(Ia);}
-else{
-Fe=7;
-Ge=0;
-He=0;}
-L22:pe=He;
-qe=Ge;
-re=Fe;}
-else{
-short_once_3e7(Ma,Pa,xe,Be,Ae,Ua,f);
-if(*Ma==1){
-pe=r8(Ma+8);
-qe=r4(Ma+16);
-re=r4(Ma+20);}
-else{
-Le=we;
-zero_all(Da+1552,392);
-z24(Ea);
-zero_all(Fa,1944);
-zero_all(Ga,1944);
-zero_all(Ha,1944);
-Me=(u64)(u8*)65536;
-wp(Da,(u8*)65536);
-z24(Da+8);
-wp(Da+32,(u8*)65536);
-z16(Da+40);
-wp(Da+56,(u8*)65536);
-z32(Da+64);
-wp(Da+96,(u8*)65536);
-z16(Da+104);
-wp(Da+120,(u8*)65536);
-z32(Da+128);
-wp(Da+160,(u8*)65536);
-z80(Da+168);
-wp(Da+248,(u8*)65536);
-z16(Da+256);
-wp(Da+272,(u8*)65536);
-z40(Da+280);
-wp(Da+320,(u8*)65536);
-z16(Da+328);
-wp(Da+344,(u8*)65536);
-z16(Da+352);
-wp(Da+368,(u8*)65536);
-z16(Da+376);
-wp(Da+392,(u8*)65536);
-z16(Da+400);
-wp(Da+416,(u8*)65536);
-z16(Da+424);
-wp(Da+440,(u8*)65536);
-z48(Da+448);
-wp(Da+496,(u8*)65536);
-z32(Da+504);
-wp(Da+536,(u8*)65536);
-z32(Da+544);
-wp(Da+576,(u8*)65536);
-z104(Da+584);
-w8(Da+688,Me);
-z40(Da+696);
-w8(Da+736,Me);
-z16(Da+744);
-wp(Da+760,(u8*)65536);
-z32(Da+768);
-wp(Da+800,(u8*)65536);
-z24(Da+808);
-wp(Da+832,(u8*)65536);
-z16(Da+840);
-wp(Da+856,(u8*)65536);
-z32(Da+864);
-wp(Da+896,(u8*)65536);
-z16(Da+904);
-wp(Da+920,(u8*)65536);
-z24(Da+928);
-wp(Da+952,(u8*)65536);
-z16(Da+960);
-wp(Da+976,(u8*)65536);
-z16(Da+984);
-wp(Da+1000,(u8*)65536);
-z40(Da+1008);
-wp(Da+1048,(u8*)65536);
-z16(Da+1056);
-wp(Da+1072,(u8*)65536);
-z16(Da+1080);
-wp(Da+1096,(u8*)65536);
-z16(Da+1104);
-wp(Da+1120,(u8*)65536);
-z16(Da+1128);
-wp(Da+1144,(u8*)65536);
-z16(Da+1152);
-wp(Da+1168,(u8*)65536);
-z48(Da+1176);
-wp(Da+1224,(u8*)65536);
-z32(Da+1232);
-wp(Da+1264,(u8*)65536);
-z40(Da+1272);
-wp(Da+1312,(u8*)65536);
-z32(Da+1320);
-wp(Da+1352,(u8*)65536);
-z16(Da+1360);
-wp(Da+1376,(u8*)65536);
-z48(Da+1384);
-w8(Da+1432,Me);
-z40(Da+1440);
-w8(Da+1480,Me);
-z16(Da+1488);
-wp(Da+1504,(u8*)65536);
-z32(Da+1512);
-wp(Da+1544,(u8*)65536);
-z32(Da+1552);
-wp(Da+1584,(u8*)65536);
-z32(Da+1592);
-wp(Da+1624,(u8*)65536);
-z104(Da+1632);
-wp(Da+1736,(u8*)65536);
-z32(Da+1744);
-wp(Da+1776,(u8*)65536);
-z40(Da+1784);
-wp(Da+1824,(u8*)65536);
-z32(Da+1832);
-wp(Da+1864,(u8*)65536);
-z16(Da+1872);
-wp(Da+1888,(u8*)65536);
-z48(Da+1896);
-wp(Ea,(u8*)65536);
-z16(Ea+8);
-z24(Ba);
-z12(Ca);
-path_of_ea7(Ba,Be,Ae);
-if(*Ba==1){
-Ne=r8(Ba+8);
-Oe=r8(Ba+16);
-demangle_d37(za,Pa,Da,xe,Be,Ae,Ea);
-switch(*za){
-case 0:w8(Ea+8,0);
-Pe=za+4;
+wp(za,(u8*)65536);
+z24(za+8);
+wp(za+32,(u8*)65536);
+z16(za+40);
+wp(za+56,(u8*)65536);
+z32(za+64);
+wp(za+96,(u8*)65536);
+z16(za+104);
+wp(za+120,(u8*)65536);
+z32(za+128);
+wp(za+160,(u8*)65536);
+z80(za+168);
+wp(za+248,(u8*)65536);
+z16(za+256);
+wp(za+272,(u8*)65536);
+z40(za+280);
+wp(za+320,(u8*)65536);
+z16(za+328);
+wp(za+344,(u8*)65536);
+z16(za+352);
+wp(za+368,(u8*)65536);
+z16(za+376);
+wp(za+392,(u8*)65536);
+z16(za+400);
+wp(za+416,(u8*)65536);
+z16(za+424);
+wp(za+440,(u8*)65536);
+z48(za+448);
+wp(za+496,(u8*)65536);
+z32(za+504);
+wp(za+536,(u8*)65536);
+z32(za+544);
+wp(za+576,(u8*)65536);
+z104(za+584);
+w8(za+688,Ke);
+z40(za+696);
+w8(za+736,Ke);
+z16(za+744);
+wp(za+760,(u8*)65536);
+z32(za+768);
+wp(za+800,(u8*)65536);
+z24(za+808);
+wp(za+832,(u8*)65536);
+z16(za+840);
+wp(za+856,(u8*)65536);
+z32(za+864);
+wp(za+896,(u8*)65536);
+z16(za+904);
+wp(za+920,(u8*)65536);
+z24(za+928);
+wp(za+952,(u8*)65536);
+z16(za+960);
+wp(za+976,(u8*)65536);
+z16(za+984);
+wp(za+1000,(u8*)65536);
+z40(za+1008);
+wp(za+1048,(u8*)65536);
+z16(za+1056);
+wp(za+1072,(u8*)65536);
+z16(za+1080);
+wp(za+1096,(u8*)65536);
+z16(za+1104);
+wp(za+1120,(u8*)65536);
+z16(za+1128);
+wp(za+1144,(u8*)65536);
+z16(za+1152);
+wp(za+1168,(u8*)65536);
+z48(za+1176);
+wp(za+1224,(u8*)65536);
+z32(za+1232);
+wp(za+1264,(u8*)65536);
+z40(za+1272);
+wp(za+1312,(u8*)65536);
+z32(za+1320);
+wp(za+1352,(u8*)65536);
+z16(za+1360);
+wp(za+1376,(u8*)65536);
+z48(za+1384);
+w8(za+1432,Ke);
+z40(za+1440);
+w8(za+1480,Ke);
+z16(za+1488);
+wp(za+1504,(u8*)65536);
+z32(za+1512);
+wp(Aa,(u8*)65536);
+z16(Aa+8);
+z24(xa);
+z12(ya);
+path_of_ea7(xa,ze,ye);
+if(*xa==1){
+Le=r8(xa+8);
+Me=r8(xa+16);
+demangle_d37(va,La,za,ve,ze,ye,Aa);
+switch(*va){
+case 0:w8(Aa+8,0);
+Ne=va+4;
 break;
-case 1:Pe=za+4;
+case 1:Ne=va+4;
 break;
 case 2:goto L23;
 default:NEVER;
 }
-Qe=r4(Pe);
-Re=r4(za+8);
-push_text_eb0(Ca,Be,Ae,Ne,Oe,r4(Pa),Ea);
-if(*Ca==0){
-Se=0;
-Te=Qe;
-Ue=Re;}
+Oe=r4(Ne);
+Pe=r4(va+8);
+push_text_eb0(ya,ze,ye,Le,Me,r4(La),Aa);
+if(*ya==0){
+Qe=0;
+Re=Oe;
+Se=Pe;}
 else{
-Ve=Ca[4]==3;
-Se=Ve?1:2;
-Te=Ve?Qe:4;
-Ue=Ve?Re:0;}
-We=Se;
-Xe=Te;
-Ye=Ue;}
+Te=ya[4]==3;
+Qe=Te?1:2;
+Re=Te?Oe:4;
+Se=Te?Pe:0;}
+Ue=Qe;
+Ve=Re;
+We=Se;}
 else{
-demangle_d37(Aa,Pa,Da,xe,Be,Ae,Ea);
-We=*Aa;
-Xe=Aa[4];
-Ye=r4(Aa+8);}
-switch(We){
-case 0:Ze=rp(Ea);
-af=r8(Ea+8);
-if(f<af)bf=6;
+demangle_d37(wa,La,za,ve,ze,ye,Aa);
+Ue=*wa;
+Ve=wa[4];
+We=r4(wa+8);}
+switch(Ue){
+case 0:Xe=rp(Aa);
+Ye=r8(Aa+8);
+if(f<Ye)Ze=6;
 else{
-if((u64)Ua-(u64)Ze<af){
-copy_bits_4f4(Ze,Ua,af);
-bf=0;}
+if((u64)Qa-(u64)Xe<Ye){
+copy_bits_4f4(Xe,Qa,Ye);
+Ze=0;}
 else{
-memmove(Ua,Ze,af);
-bf=0;}}
-if(r8(Ea+16)==0){
-cf=Fa;
-df=af;
-ef=0;
-ff=bf;
+memmove(Qa,Xe,Ye);
+Ze=0;}}
+if(r8(Aa+16)==0){
+af=Ba;
+bf=Ye;
+cf=0;
+df=Ze;
 goto L24;}
-gf=Ze;
-hf=Fa;
-jf=af;
-kf=0;
-lf=bf;
+ef=Xe;
+ff=Ba;
+gf=Ye;
+hf=0;
+jf=Ze;
 goto L25;
-case 1:if(r8(Ea+16)==0){
-cf=Ga;
-df=0;
-ef=0;
-ff=4;
+case 1:if(r8(Aa+16)==0){
+af=Ca;
+bf=0;
+cf=0;
+df=4;
 goto L24;}
-gf=rp(Ea);
-hf=Ga;
-jf=0;
-kf=0;
+ef=rp(Aa);
+ff=Ca;
+gf=0;
+hf=0;
+jf=4;
+goto L25;
+case 2:switch(Ve){
+case 0:kf=uadd32(Je,We);
+lf=1;
+goto L26;
+case 1:kf=uadd32(Je,We);
+lf=2;
+goto L26;
+case 2:kf=uadd32(Je,We);
+lf=3;
+goto L26;
+case 3:kf=0;
 lf=4;
-goto L25;
-case 2:switch(Xe){
-case 0:mf=uadd32(Le,Ye);
-nf=1;
-goto L26;
-case 1:mf=uadd32(Le,Ye);
-nf=2;
-goto L26;
-case 2:mf=uadd32(Le,Ye);
-nf=3;
-goto L26;
-case 3:mf=0;
-nf=4;
 goto L26;
 case 4:break;
 default:NEVER;
@@ -153757,298 +152513,478 @@ default:NEVER;
 break;
 default:NEVER;
 }
-L23:mf=0;
-nf=5;
-L26:if(r8(Ea+16)==0){
-cf=Ha;
-df=0;
-ef=mf;
-ff=nf;
+L23:kf=0;
+lf=5;
+L26:if(r8(Aa+16)==0){
+af=Da;
+bf=0;
+cf=kf;
+df=lf;
 goto L24;}
-gf=rp(Ea);
-hf=Ha;
-jf=0;
-kf=mf;
-lf=nf;
-L25:port_rattle_dealloc(gf);
+ef=rp(Aa);
+ff=Da;
+gf=0;
+hf=kf;
+jf=lf;
+L25:port_rattle_dealloc(ef);
+af=ff;
+bf=gf;
 cf=hf;
 df=jf;
-ef=kf;
-ff=lf;
-L24:memcpy(cf,Da,1944);
-drop_1dd(cf);
-pe=df;
-qe=ef;
-re=ff;}}}
+L24:memcpy(af,za,1544);
+drop_1dd(af);
+ne=bf;
+oe=cf;
+pe=df;}}}
 else{
-pe=0;
-qe=0;
-re=7;}}
-L19:w8(Qa,pe);
-w4(Qa+8,qe);
-w4(Qa+12,re);
-or_type_0d4(Na,Pa,Oa,Ta,b,Ua,f,Qa);}
-Hc=r8(Na);
-Ic=r4(Na+8);
-Jc=r4(Na+12);}
+ne=0;
+oe=0;
+pe=7;}}
+L19:w8(Ma,ne);
+w4(Ma+8,oe);
+w4(Ma+12,pe);
+or_type_0d4(Ja,La,Ka,Pa,b,Qa,f,Ma);}
+Dc=r8(Ja);
+Ec=r4(Ja+8);
+Fc=r4(Ja+12);}
 else{
-of=cb>>16;
-pf=fb>>32;
-qf=pf;
-w4(qa+8,0);
-w4(ra+8,0);
-rf=Wa;
-if((u8)(pf&1)){
-w4(qa,c);
-qa[4]=rf;
-z3(qa+5);
-qa[8]=of;
-qa[9]=qf;
-w8(oa,fb);
-z16(na);
+mf=Ya>>16;
+nf=bb>>32;
+of=nf;
+z12(ma);
+z12(na);
+pf=Sa;
+if((u8)(nf&1)){
+w4(ma,c);
+ma[4]=pf;
+z3(ma+5);
+ma[8]=mf;
+ma[9]=of;
+w8(ka,bb);
+z16(ja);
+zero_all(ha+1480,176);
+z24(ia);
 if(b<2){
-sf=0;
-tf=0;
-uf=11;}
+qf=0;
+rf=0;
+sf=11;}
 else{
-vf=*Ta==95;
+tf=*Pa==95;
 if(b==2){
-if(!vf){
-sf=0;
-tf=0;
-uf=11;
+if(!tf){
+qf=0;
+rf=0;
+sf=11;
 goto L27;}
-switch(Ta[1]){
-case 90:wf=0;
-xf=0;
+switch(Pa[1]){
+case 90:uf=0;
+vf=0;
 goto L28;
 case 82:break;
-default:sf=0;
-tf=0;
-uf=11;
+default:qf=0;
+rf=0;
+sf=11;
 goto L27;
 }}
 else{
-if(!vf){
-sf=0;
-tf=0;
-uf=11;
+if(!tf){
+qf=0;
+rf=0;
+sf=11;
 goto L27;}
-switch(Ta[1]){
-case 90:wf=0;
-xf=0;
+switch(Pa[1]){
+case 90:uf=0;
+vf=0;
 goto L28;
 case 82:break;
-case 95:switch(Ta[2]){
-case 90:yf=0;
+case 95:switch(Pa[2]){
+case 90:wf=0;
 break;
-case 82:yf=1;
+case 82:wf=1;
 break;
-default:sf=0;
-tf=0;
-uf=11;
+default:qf=0;
+rf=0;
+sf=11;
 goto L27;
 }
-if(bb!=0){
-wf=1;
-xf=yf;
+if(Xa!=0){
+uf=1;
+vf=wf;
 goto L28;}
-sf=0;
-tf=0;
-uf=11;
+qf=0;
+rf=0;
+sf=11;
 goto L27;
-default:sf=0;
-tf=0;
-uf=11;
+default:qf=0;
+rf=0;
+sf=11;
 goto L27;
 }}
-wf=0;
-xf=1;
-L28:zf=b-wf;
-if(zf<16777217){
-lists_35a(ma);
-if(*ma==0){
-memcpy(ka,ma+8,2056);
-wp(la,(u8*)65536);
-w8(la+16,0);
-z12(ja);
-w8(la+8,0);
-append_d61(ja,qa,ka,xf,Ta+(i64)wf,zf,la);
-if(*ja==0){
-Af=r8(la+8);
-if(f<Af){
-Bf=Af;
-Cf=0;
-Df=6;}
+uf=0;
+vf=1;
+L28:xf=b-uf;
+if(xf<16777217){
+yf=(u64)(u8*)65536;
+wp(ha,(u8*)65536);
+z24(ha+8);
+wp(ha+32,(u8*)65536);
+z16(ha+40);
+wp(ha+56,(u8*)65536);
+z32(ha+64);
+wp(ha+96,(u8*)65536);
+z16(ha+104);
+wp(ha+120,(u8*)65536);
+z32(ha+128);
+wp(ha+160,(u8*)65536);
+z80(ha+168);
+wp(ha+248,(u8*)65536);
+z16(ha+256);
+wp(ha+272,(u8*)65536);
+z40(ha+280);
+wp(ha+320,(u8*)65536);
+z16(ha+328);
+wp(ha+344,(u8*)65536);
+z16(ha+352);
+wp(ha+368,(u8*)65536);
+z16(ha+376);
+wp(ha+392,(u8*)65536);
+z16(ha+400);
+wp(ha+416,(u8*)65536);
+z16(ha+424);
+wp(ha+440,(u8*)65536);
+z48(ha+448);
+wp(ha+496,(u8*)65536);
+z32(ha+504);
+wp(ha+536,(u8*)65536);
+z32(ha+544);
+wp(ha+576,(u8*)65536);
+z104(ha+584);
+w8(ha+688,yf);
+z40(ha+696);
+w8(ha+736,yf);
+z16(ha+744);
+wp(ha+760,(u8*)65536);
+z32(ha+768);
+wp(ha+800,(u8*)65536);
+z24(ha+808);
+wp(ha+832,(u8*)65536);
+z16(ha+840);
+wp(ha+856,(u8*)65536);
+z32(ha+864);
+wp(ha+896,(u8*)65536);
+z16(ha+904);
+wp(ha+920,(u8*)65536);
+z24(ha+928);
+wp(ha+952,(u8*)65536);
+z16(ha+960);
+wp(ha+976,(u8*)65536);
+z16(ha+984);
+wp(ha+1000,(u8*)65536);
+z40(ha+1008);
+wp(ha+1048,(u8*)65536);
+z16(ha+1056);
+wp(ha+1072,(u8*)65536);
+z16(ha+1080);
+wp(ha+1096,(u8*)65536);
+z16(ha+1104);
+wp(ha+1120,(u8*)65536);
+z16(ha+1128);
+wp(ha+1144,(u8*)65536);
+z16(ha+1152);
+wp(ha+1168,(u8*)65536);
+z48(ha+1176);
+wp(ha+1224,(u8*)65536);
+z32(ha+1232);
+wp(ha+1264,(u8*)65536);
+z40(ha+1272);
+wp(ha+1312,(u8*)65536);
+z32(ha+1320);
+wp(ha+1352,(u8*)65536);
+z16(ha+1360);
+wp(ha+1376,(u8*)65536);
+z48(ha+1384);
+w8(ha+1432,yf);
+z40(ha+1440);
+w8(ha+1480,yf);
+z16(ha+1488);
+wp(ha+1504,(u8*)65536);
+z32(ha+1512);
+wp(ha+1544,(u8*)65536);
+z32(ha+1552);
+wp(ha+1584,(u8*)65536);
+z16(ha+1592);
+wp(ha+1608,(u8*)65536);
+z16(ha+1616);
+wp(ha+1632,(u8*)65536);
+z16(ha+1640);
+wp(ia,(u8*)65536);
+w8(ia+16,0);
+z12(ga);
+w8(ia+8,0);
+append_d61(ga,ma,ha,vf,Pa+(i64)uf,xf,ia);
+if(*ga==0){
+zf=r8(ia+8);
+if(f<zf){
+Af=zf;
+Bf=0;
+Cf=6;}
 else{
-Ef=rp(la);
-if((u64)Ua-(u64)Ef<Af){
-copy_bits_4f4(Ef,Ua,Af);
-Bf=Af;
-Cf=0;
-Df=0;}
+Df=rp(ia);
+if((u64)Qa-(u64)Df<zf){
+copy_bits_4f4(Df,Qa,zf);
+Af=zf;
+Bf=0;
+Cf=0;}
 else{
-memmove(Ua,Ef,Af);
-Bf=Af;
-Cf=0;
-Df=0;}}}
+memmove(Qa,Df,zf);
+Af=zf;
+Bf=0;
+Cf=0;}}}
 else{
-Ff=wf;
-Gf=r4(ja+8);
-switch(ja[4]){
-case 0:Bf=0;
-Cf=uadd32(Ff,Gf);
-Df=1;
+Ef=uf;
+Ff=r4(ga+8);
+switch(ga[4]){
+case 0:Af=0;
+Bf=uadd32(Ef,Ff);
+Cf=1;
 break;
-case 1:Bf=0;
-Cf=uadd32(Ff,Gf);
-Df=2;
+case 1:Af=0;
+Bf=uadd32(Ef,Ff);
+Cf=2;
 break;
-case 2:Bf=0;
-Cf=uadd32(Ff,Gf);
-Df=3;
+case 2:Af=0;
+Bf=uadd32(Ef,Ff);
+Cf=3;
 break;
-case 3:Bf=0;
-Cf=0;
-Df=4;
+case 3:Af=0;
+Bf=0;
+Cf=4;
 break;
-case 4:Bf=0;
-Cf=0;
-Df=5;
+case 4:Af=0;
+Bf=0;
+Cf=5;
 break;
 default:NEVER;
 }}
-if(r8(la+16)!=0)port_rattle_dealloc(rp(la));
-Hf=rp(ka+1944);
-If=rp(ka+1984);
-Jf=r8(ka+2000);
-Kf=rp(ka+2008);
-Lf=r8(ka+2024);
-Mf=rp(ka+2032);
-Nf=r8(ka+2048);
-Of=r8(ka+1960);
-memcpy(ia,ka,1944);
-drop_1dd(ia);
-if(Of!=0)port_rattle_dealloc(Hf);
-if(Jf!=0)port_rattle_dealloc(If);
-if(Lf!=0)port_rattle_dealloc(Kf);
-if(Nf!=0)port_rattle_dealloc(Mf);
-sf=Bf;
-tf=Cf;
-uf=Df;}
+if(r8(ia+16)!=0)port_rattle_dealloc(rp(ia));
+Gf=rp(ha+1544);
+Hf=rp(ha+1584);
+If=r8(ha+1600);
+Jf=rp(ha+1608);
+Kf=r8(ha+1624);
+Lf=rp(ha+1632);
+Mf=r8(ha+1648);
+Nf=r8(ha+1560);
+memcpy(fa,ha,1544);
+drop_1dd(fa);
+if(Nf!=0)port_rattle_dealloc(Gf);
+if(If!=0)port_rattle_dealloc(Hf);
+if(Kf!=0)port_rattle_dealloc(Jf);
+if(Mf!=0)port_rattle_dealloc(Lf);
+qf=Af;
+rf=Bf;
+sf=Cf;}
 else{
-sf=0;
-tf=0;
-uf=5;}}
+qf=0;
+rf=0;
+sf=7;}}
+L27:w8(la,qf);
+w4(la+8,rf);
+w4(la+12,sf);
+or_type_a12(ja,ma,ka,Pa,b,Qa,f,la);
+Of=r8(ja);
+Pf=r4(ja+8);
+Qf=r4(ja+12);}
 else{
-sf=0;
-tf=0;
-uf=7;}}
-L27:w8(pa,sf);
-w4(pa+8,tf);
-w4(pa+12,uf);
-or_type_a12(na,qa,oa,Ta,b,Ua,f,pa);
-Pf=r4(na+12);
-Qf=r4(na+8);
-Rf=r8(na);}
-else{
-w4(ra,c);
-ra[4]=rf;
-z3(ra+5);
-ra[8]=of;
-ra[9]=qf;
-w8(ga,fb&0xfffffffeffffffffu);
-z16(fa);
+w4(na,c);
+na[4]=pf;
+z3(na+5);
+na[8]=mf;
+na[9]=of;
+w8(da,bb&0xfffffffeffffffffu);
+z16(ca);
+zero_all(aa+1480,176);
+z24(ba);
 if(b<2){
+Rf=0;
 Sf=0;
-Tf=0;
-Uf=11;}
+Tf=11;}
 else{
-Vf=*Ta==95;
+Uf=*Pa==95;
 if(b==2){
-if(!Vf){
+if(!Uf){
+Rf=0;
 Sf=0;
-Tf=0;
-Uf=11;
+Tf=11;
 goto L29;}
-switch(Ta[1]){
-case 90:Wf=0;
-Xf=0;
+switch(Pa[1]){
+case 90:Vf=0;
+Wf=0;
 goto L30;
 case 82:break;
-default:Sf=0;
-Tf=0;
-Uf=11;
+default:Rf=0;
+Sf=0;
+Tf=11;
 goto L29;
 }}
 else{
-if(!Vf){
+if(!Uf){
+Rf=0;
 Sf=0;
-Tf=0;
-Uf=11;
+Tf=11;
 goto L29;}
-switch(Ta[1]){
-case 90:Wf=0;
-Xf=0;
+switch(Pa[1]){
+case 90:Vf=0;
+Wf=0;
 goto L30;
 case 82:break;
-case 95:switch(Ta[2]){
-case 90:Yf=0;
+case 95:switch(Pa[2]){
+case 90:Xf=0;
 break;
-case 82:Yf=1;
+case 82:Xf=1;
 break;
-default:Sf=0;
-Tf=0;
-Uf=11;
+default:Rf=0;
+Sf=0;
+Tf=11;
 goto L29;
 }
-if(bb!=0){
-Wf=1;
-Xf=Yf;
+if(Xa!=0){
+Vf=1;
+Wf=Xf;
 goto L30;}
+Rf=0;
 Sf=0;
-Tf=0;
-Uf=11;
+Tf=11;
 goto L29;
-default:Sf=0;
-Tf=0;
-Uf=11;
+default:Rf=0;
+Sf=0;
+Tf=11;
 goto L29;
 }}
-Wf=0;
-Xf=1;
-L30:Zf=b-Wf;
-if(Zf<16777217){
-lists_35a(ea);
-if(*ea==0){
-memcpy(ca,ea+8,2056);
-wp(da,(u8*)65536);
-w8(da+16,0);
-z12(ba);
-w8(da+8,0);
-append_018(ba,ra,ca,Xf,Ta+(i64)Wf,Zf,da);
-if(*ba==0){
-ag=r8(da+8);
+Vf=0;
+Wf=1;
+L30:Yf=b-Vf;
+if(Yf<16777217){
+Zf=(u64)(u8*)65536;
+wp(aa,(u8*)65536);
+z24(aa+8);
+wp(aa+32,(u8*)65536);
+z16(aa+40);
+wp(aa+56,(u8*)65536);
+z32(aa+64);
+wp(aa+96,(u8*)65536);
+z16(aa+104);
+wp(aa+120,(u8*)65536);
+z32(aa+128);
+wp(aa+160,(u8*)65536);
+z80(aa+168);
+wp(aa+248,(u8*)65536);
+z16(aa+256);
+wp(aa+272,(u8*)65536);
+z40(aa+280);
+wp(aa+320,(u8*)65536);
+z16(aa+328);
+wp(aa+344,(u8*)65536);
+z16(aa+352);
+wp(aa+368,(u8*)65536);
+z16(aa+376);
+wp(aa+392,(u8*)65536);
+z16(aa+400);
+wp(aa+416,(u8*)65536);
+z16(aa+424);
+wp(aa+440,(u8*)65536);
+z48(aa+448);
+wp(aa+496,(u8*)65536);
+z32(aa+504);
+wp(aa+536,(u8*)65536);
+z32(aa+544);
+wp(aa+576,(u8*)65536);
+z104(aa+584);
+w8(aa+688,Zf);
+z40(aa+696);
+w8(aa+736,Zf);
+z16(aa+744);
+wp(aa+760,(u8*)65536);
+z32(aa+768);
+wp(aa+800,(u8*)65536);
+z24(aa+808);
+wp(aa+832,(u8*)65536);
+z16(aa+840);
+wp(aa+856,(u8*)65536);
+z32(aa+864);
+wp(aa+896,(u8*)65536);
+z16(aa+904);
+wp(aa+920,(u8*)65536);
+z24(aa+928);
+wp(aa+952,(u8*)65536);
+z16(aa+960);
+wp(aa+976,(u8*)65536);
+z16(aa+984);
+wp(aa+1000,(u8*)65536);
+z40(aa+1008);
+wp(aa+1048,(u8*)65536);
+z16(aa+1056);
+wp(aa+1072,(u8*)65536);
+z16(aa+1080);
+wp(aa+1096,(u8*)65536);
+z16(aa+1104);
+wp(aa+1120,(u8*)65536);
+z16(aa+1128);
+wp(aa+1144,(u8*)65536);
+z16(aa+1152);
+wp(aa+1168,(u8*)65536);
+z48(aa+1176);
+wp(aa+1224,(u8*)65536);
+z32(aa+1232);
+wp(aa+1264,(u8*)65536);
+z40(aa+1272);
+wp(aa+1312,(u8*)65536);
+z32(aa+1320);
+wp(aa+1352,(u8*)65536);
+z16(aa+1360);
+wp(aa+1376,(u8*)65536);
+z48(aa+1384);
+w8(aa+1432,Zf);
+z40(aa+1440);
+w8(aa+1480,Zf);
+z16(aa+1488);
+wp(aa+1504,(u8*)65536);
+z32(aa+1512);
+wp(aa+1544,(u8*)65536);
+z32(aa+1552);
+wp(aa+1584,(u8*)65536);
+z16(aa+1592);
+wp(aa+1608,(u8*)65536);
+z16(aa+1616);
+wp(aa+1632,(u8*)65536);
+z16(aa+1640);
+wp(ba,(u8*)65536);
+w8(ba+16,0);
+z12(Z);
+w8(ba+8,0);
+append_018(Z,na,aa,Wf,Pa+(i64)Vf,Yf,ba);
+if(*Z==0){
+ag=r8(ba+8);
 if(f<ag){
 bg=ag;
 cg=0;
 dg=6;}
 else{
-eg=rp(da);
-if((u64)Ua-(u64)eg<ag){
-copy_bits_4f4(eg,Ua,ag);
+eg=rp(ba);
+if((u64)Qa-(u64)eg<ag){
+copy_bits_4f4(eg,Qa,ag);
 bg=ag;
 cg=0;
 dg=0;}
 else{
-memmove(Ua,eg,ag);
+memmove(Qa,eg,ag);
 bg=ag;
 cg=0;
 dg=0;}}}
 else{
-fg=Wf;
-gg=r4(ba+8);
-switch(ba[4]){
+fg=Vf;
+gg=r4(Z+8);
+switch(Z[4]){
 case 0:bg=0;
 cg=uadd32(fg,gg);
 dg=1;
@@ -154071,118 +153007,99 @@ dg=5;
 break;
 default:NEVER;
 }}
-if(r8(da+16)!=0)port_rattle_dealloc(rp(da));
-hg=rp(ca+1944);
-ig=rp(ca+1984);
-jg=r8(ca+2000);
-kg=rp(ca+2008);
-lg=r8(ca+2024);
-mg=rp(ca+2032);
-ng=r8(ca+2048);
-og=r8(ca+1960);
-memcpy(aa,ca,1944);
-drop_1dd(aa);
+if(r8(ba+16)!=0)port_rattle_dealloc(rp(ba));
+hg=rp(aa+1544);
+ig=rp(aa+1584);
+jg=r8(aa+1600);
+kg=rp(aa+1608);
+lg=r8(aa+1624);
+mg=rp(aa+1632);
+ng=r8(aa+1648);
+og=r8(aa+1560);
+memcpy(Y,aa,1544);
+drop_1dd(Y);
 if(og!=0)port_rattle_dealloc(hg);
 if(jg!=0)port_rattle_dealloc(ig);
 if(lg!=0)port_rattle_dealloc(kg);
 if(ng!=0)port_rattle_dealloc(mg);
-Sf=bg;
-Tf=cg;
-Uf=dg;}
+Rf=bg;
+Sf=cg;
+Tf=dg;}
 else{
+Rf=0;
 Sf=0;
-Tf=0;
-Uf=5;}}
+Tf=7;}}
+L29:w8(ea,Rf);
+w4(ea+8,Sf);
+w4(ea+12,Tf);
+or_type_9d2(ca,na,da,Pa,b,Qa,f,ea);
+Of=r8(ca);
+Pf=r4(ca+8);
+Qf=r4(ca+12);}
+Dc=Of;
+Ec=Pf;
+Fc=Qf;}}}
 else{
-Sf=0;
-Tf=0;
-Uf=7;}}
-L29:w8(ha,Sf);
-w4(ha+8,Tf);
-w4(ha+12,Uf);
-or_type_9d2(fa,ra,ga,Ta,b,Ua,f,ha);
-Pf=r4(fa+12);
-Qf=r4(fa+8);
-Rf=r8(fa);}
-Hc=Rf;
-Ic=Qf;
-Jc=Pf;}}}
-else{
-Hc=0;
-Ic=0;
-Jc=8;}
-x8(g,Hc);
-x4(g+8,Ic);
-x4(g+12,Jc);
+Dc=0;
+Ec=0;
+Fc=8;}
+x8(g,Dc);
+x4(g+8,Ec);
+x4(g+12,Fc);
 return;
 }
 
 /* symdemangle_texts_of */
 static u32 symdemangle_texts_of(u8* a,u64 b,u8* c,u64 d,u32 e,u32 f,u8* g,u64 h,u8* i,u64 j)
 {
-A16 u8 k[1944],l[12],m[16],n[8],o[16],p[2056],q[24],r[12],s[16],t[8],u[16],v[1944],w[24],x[1944],y[8],z[12],A[1944],B[12],C[16],D[8],E[16],F[2056],G[24],H[16],I[16],J[8],K[16],L[1944],M[24],N[1944],O[8],P[12],Q[32],R[104],S[32],T[40],U[32],V[16],W[48],X[32],Y[32],Z[104],aa[32],ba[40],ca[32],da[16],ea[48],fa[1944],ga[12],ha[16],ia[8],ja[16],ka[2056],la[24],ma[12],na[16],oa[8],pa[16],qa[1944],ra[24],sa[1944],ta[8],ua[12],va[1944],wa[12],xa[16],ya[8],za[16],Aa[2056],Ba[24],Ca[16],Da[16],Ea[8],Fa[16],Ga[1944],Ha[24],Ia[1944],Ja[8],Ka[12],La[32],Ma[104],Na[32],Oa[40],Pa[32],Qa[16],Ra[48],Sa[32],Ta[32],Ua[104],Va[32],Wa[40],Xa[32],Ya[16],Za[48];
-u8 *ab,*bb,*cb,*db,*Cb,*Db,*Fb,*Tb,*Xb,*ec,*fc,*hc,*vc,*zc,*Cc,*Dc,*Fc,*Hc,*Oc,*Pc,*Rc,*bd,*id,*jd,*ld,*Bd,*Fd,*Id,*Jd,*Ld,*Nd,*Xd,*Yd,*ae,*oe,*se,*ze,*Ae,*Ce,*Qe,*Ue,*Xe,*Ye,*af,*cf,*kf,*lf,*nf,*xf,*Ef,*Ff,*Hf,*Vf,*Zf,*cg,*dg,*fg,*hg;
-u32 eb,gb,tb,Ib,Jb,Lb,Rb,Sb,Ub,Wb,Yb,kc,lc,nc,tc,uc,wc,yc,Ac,Tc,Vc,ad,cd,od,pd,sd,zd,Ad,Cd,Ed,Gd,de,ee,ge,me,ne,pe,re,te,Fe,Ge,Ie,Oe,Pe,Re,Te,Ve,pf,rf,wf,yf,Kf,Lf,Nf,Tf,Uf,Wf,Yf,ag;
-u64 fb,lb,mb,nb,ob,qb,rb,sb,ub,wb,zb,Ab,Bb,Eb,Gb,Hb,Ob,Pb,Qb,Vb,Zb,bc,cc,dc,gc,ic,jc,qc,rc,sc,xc,Bc,Ec,Gc,Ic,Jc,Lc,Mc,Nc,Qc,Sc,Yc,Zc,dd,fd,gd,hd,kd,md,nd,vd,xd,yd,Dd,Hd,Kd,Md,Od,Pd,Rd,Ud,Vd,Wd,Zd,be,ce,je,ke,le,qe,ue,we,xe,ye,Be,De,Ee,Le,Me,Ne,Se,We,Ze,bf,df,ef,gf,hf,jf,mf,of,uf,vf,zf,Bf,Cf,Df,Gf,If,Jf,Qf,Rf,Sf,Xf,bg,eg,gg,ig,jg;
-u8 hb,ib,jb,kb,pb,vb,xb,yb,Kb,Mb,Nb,ac,mc,oc,pc,Kc,Uc,Wc,Xc,ed,qd,td,ud,Qd,Sd,Td,fe,he,ie,ve,He,Je,Ke,ff,qf,sf,tf,Af,Mf,Of,Pf;
+A16 u8 k[1544],l[12],m[16],n[8],o[16],p[1656],q[24],r[12],s[16],t[8],u[16],v[1544],w[24],x[1544],y[8],z[12],A[1544],B[12],C[16],D[8],E[16],F[1656],G[24],H[16],I[16],J[8],K[16],L[1544],M[24],N[1544],O[8],P[12],Q[1544],R[12],S[16],T[8],U[16],V[1656],W[24],X[12],Y[16],Z[8],aa[16],ba[1544],ca[24],da[1544],ea[8],fa[12],ga[1544],ha[12],ia[16],ja[8],ka[16],la[1656],ma[24],na[16],oa[16],pa[8],qa[16],ra[1544],sa[24],ta[1544],ua[8],va[12];
+u8 *wa,*xa,*ya,*za,*Ya,*Za,*bb,*pb,*tb,*Ab,*Bb,*Db,*Rb,*Vb,*Yb,*Zb,*bc,*dc,*kc,*lc,*nc,*xc,*Ec,*Fc,*Hc,*Vc,*Zc,*cd,*dd,*fd,*hd,*od,*pd,*sd,*Hd,*Ld,*Sd,*Td,*Vd,*je,*ne,*qe,*re,*te,*ve,*Ce,*De,*Fe,*Pe,*We,*Xe,*Ze,*of,*sf,*vf,*wf,*yf,*Af;
+u32 Aa,Ca,Oa,eb,fb,hb,nb,ob,qb,sb,ub,Gb,Hb,Jb,Pb,Qb,Sb,Ub,Wb,pc,rc,wc,yc,Kc,Lc,Nc,Tc,Uc,Wc,Yc,ad,vd,xd,zd,Fd,Gd,Id,Kd,Md,Yd,Zd,be,he,ie,ke,me,oe,He,Je,Oe,Qe,cf,df,ff,mf,nf,pf,rf,tf;
+u64 Ba,Ha,Ia,Ja,La,Ma,Na,Pa,Sa,Va,Wa,Xa,ab,cb,db,kb,lb,mb,rb,vb,xb,yb,zb,Cb,Eb,Fb,Mb,Nb,Ob,Tb,Xb,ac,cc,ec,fc,hc,ic,jc,mc,oc,uc,vc,zc,Bc,Cc,Dc,Gc,Ic,Jc,Qc,Rc,Sc,Xc,bd,ed,gd,id,jd,ld,md,nd,qd,td,ud,Cd,Dd,Ed,Jd,Nd,Pd,Qd,Rd,Ud,Wd,Xd,ee,fe,ge,le,pe,se,ue,we,xe,ze,Ae,Be,Ee,Ge,Me,Ne,Re,Te,Ue,Ve,Ye,af,bf,jf,kf,lf,qf,uf,xf,zf,Bf,Cf;
+u8 Da,Ea,Fa,Ga,Ka,Qa,Ra,Ta,Ua,gb,ib,jb,wb,Ib,Kb,Lb,gc,qc,sc,tc,Ac,Mc,Oc,Pc,kd,yd,Ad,Bd,Od,ae,ce,de,ye,Ie,Ke,Le,Se,ef,gf,hf;
 if(f<1024){
 if(j==d){
-ab=a+(i64)(u64)(a==0?4096:0);
-bb=c+(i64)(u64)(c==0?4096:0);
-cb=g+(i64)(u64)(g==0?4096:0);
-db=i+(i64)(u64)(i==0?4096:0);
-eb=f&2;
-fb=(f&1)==0?eb:(eb==0?1:3);
-gb=f&256;
-hb=f;
-ib=(hb>>2)&1;
-jb=(hb>>3)&1;
-kb=(hb>>4)&1;
-lb=((f>511)&(gb!=0))?65536:0;
-mb=(((((u64)ib<<24)|gb)|((u64)jb<<32))|((u64)kb<<40))|fb;
-nb=mb|lb;
-ob=(((f&64)==0?(u64)((hb>>5)&1)<<48:0x2000000000000u)|((u64)((f>>7)&1)<<56))+nb;
-pb=j==0;
-if(pb)goto L1;
-qb=0;
-rb=0;
-L2:sb=r8(bb+(i64)(rb<<3));
-if(sb<qb){
-tb=10;
+wa=a+(i64)(u64)(a==0?4096:0);
+xa=c+(i64)(u64)(c==0?4096:0);
+ya=g+(i64)(u64)(g==0?4096:0);
+za=i+(i64)(u64)(i==0?4096:0);
+Aa=f&2;
+Ba=(f&1)==0?Aa:(Aa==0?1:3);
+Ca=f&256;
+Da=f;
+Ea=(Da>>2)&1;
+Fa=(Da>>3)&1;
+Ga=(Da>>4)&1;
+Ha=((f>511)&(Ca!=0))?65536:0;
+Ia=((((((u64)Ea<<24)|Ca)|((u64)Fa<<32))|((u64)Ga<<40))|Ba)|Ha;
+Ja=(((f&64)==0?(u64)((Da>>5)&1)<<48:0x2000000000000u)|((u64)((f>>7)&1)<<56))+Ia;
+Ka=j==0;
+if(Ka)goto L1;
+La=0;
+Ma=0;
+L2:Na=r8(xa+(i64)(Ma<<3));
+if(Na<La){
+Oa=10;
 goto L3;}
-ub=rb+1;
-if(ub!=j){
-qb=sb;
-rb=ub;
+Pa=Ma+1;
+if(Pa!=j){
+La=Na;
+Ma=Pa;
 goto L2;}
-if(sb>b){
-tb=10;
+if(Na>b){
+Oa=10;
 goto L3;}
-L1:if(ib==0){
-z32(Q);
-z104(R);
-z32(S);
-z40(T);
-z32(U);
-z16(V);
-z48(W);
-z32(X);
-z32(Y);
-z104(Z);
-z32(aa);
-z40(ba);
-z32(ca);
-z16(da);
-z48(ea);
-vb=mb;
-wb=(u64)(u8*)65536;
-xb=gb==0;
-if(jb==0){
+L1:Qa=Fa==0;
+Ra=Ba;
+Sa=(u64)(u8*)65536;
+Ta=Ca==0;
+if(Ea==0){
+if(Qa){
 w4(z+8,0);
 w4(y,e);
-y[4]=vb;
+y[4]=Ra;
 z3(y+5);
-if(xb){
+if(Ta){
 wp(v,(u8*)65536);
 z24(v+8);
 wp(v+32,(u8*)65536);
@@ -154217,9 +153134,9 @@ wp(v+536,(u8*)65536);
 z32(v+544);
 wp(v+576,(u8*)65536);
 z104(v+584);
-w8(v+688,wb);
+w8(v+688,Sa);
 z40(v+696);
-w8(v+736,wb);
+w8(v+736,Sa);
 z16(v+744);
 wp(v+760,(u8*)65536);
 z32(v+768);
@@ -154261,179 +153178,162 @@ wp(v+1352,(u8*)65536);
 z16(v+1360);
 wp(v+1376,(u8*)65536);
 z48(v+1384);
-w8(v+1432,wb);
+w8(v+1432,Sa);
 z40(v+1440);
-w8(v+1480,wb);
+w8(v+1480,Sa);
 z16(v+1488);
 wp(v+1504,(u8*)65536);
 z32(v+1512);
-wp(v+1544,(u8*)65536);
-z32(v+1552);
-wp(v+1584,(u8*)65536);
-memcpy(v+1592,Y,32);
-wp(v+1624,(u8*)65536);
-z104(v+1632);
-wp(v+1736,(u8*)65536);
-memcpy(v+1744,aa,32);
-wp(v+1776,(u8*)65536);
-memcpy(v+1784,ba,40);
-wp(v+1824,(u8*)65536);
-memcpy(v+1832,ca,32);
-wp(v+1864,(u8*)65536);
-memcpy(v+1872,da,16);
-wp(v+1888,(u8*)65536);
-memcpy(v+1896,ea,48);
 wp(w,(u8*)65536);
 z16(w+8);
-if(!pb){
-yb=kb==0;
-zb=0;
-Ab=0;
-Bb=0;
-L4:Cb=bb+(i64)(Bb<<3);
-Db=ab+(i64)zb;
-Eb=r8(Cb)-zb;
-Fb=cb+(i64)Ab;
-Gb=h-Ab;
-w8(t,ob);
+if(!Ka){
+Ua=Ga==0;
+Va=0;
+Wa=0;
+Xa=0;
+L4:Ya=xa+(i64)(Xa<<3);
+Za=wa+(i64)Va;
+ab=r8(Ya)-Va;
+bb=ya+(i64)Wa;
+cb=h-Wa;
+w8(t,Ja);
 z16(s);
-if(Eb<2){
-Hb=0;
-Ib=0;
-Jb=11;}
+if(ab<2){
+db=0;
+eb=0;
+fb=11;}
 else{
-Kb=*Db==95;
-if(Eb==2){
-if(!Kb){
-Hb=0;
-Ib=0;
-Jb=11;
+gb=*Za==95;
+if(ab==2){
+if(!gb){
+db=0;
+eb=0;
+fb=11;
 goto L5;}
-switch(Db[1]){
-case 90:Lb=0;
-Mb=0;
+switch(Za[1]){
+case 90:hb=0;
+ib=0;
 goto L6;
 case 82:break;
-default:Hb=0;
-Ib=0;
-Jb=11;
+default:db=0;
+eb=0;
+fb=11;
 goto L5;
 }}
 else{
-if(!Kb){
-Hb=0;
-Ib=0;
-Jb=11;
+if(!gb){
+db=0;
+eb=0;
+fb=11;
 goto L5;}
-switch(Db[1]){
-case 90:Lb=0;
-Mb=0;
+switch(Za[1]){
+case 90:hb=0;
+ib=0;
 goto L6;
 case 82:break;
-case 95:switch(Db[2]){
-case 90:Nb=0;
+case 95:switch(Za[2]){
+case 90:jb=0;
 break;
-case 82:Nb=1;
+case 82:jb=1;
 break;
-default:Hb=0;
-Ib=0;
-Jb=11;
+default:db=0;
+eb=0;
+fb=11;
 goto L5;
 }
-if(!yb){
-Lb=1;
-Mb=Nb;
+if(!Ua){
+hb=1;
+ib=jb;
 goto L6;}
-Hb=0;
-Ib=0;
-Jb=11;
+db=0;
+eb=0;
+fb=11;
 goto L5;
-default:Hb=0;
-Ib=0;
-Jb=11;
+default:db=0;
+eb=0;
+fb=11;
 goto L5;
 }}
-Lb=0;
-Mb=1;
-L6:Ob=Eb-Lb;
-if(Ob<16777217){
+hb=0;
+ib=1;
+L6:kb=ab-hb;
+if(kb<16777217){
 z12(r);
 w8(w+8,0);
-append_5ae(r,y,v,Mb,Db+(i64)Lb,Ob,w);
+append_5ae(r,y,v,ib,Za+(i64)hb,kb,w);
 if(*r==0){
-Pb=r8(w+8);
-if(Gb<Pb){
-Qb=Pb;
-Rb=0;
-Sb=6;}
+lb=r8(w+8);
+if(cb<lb){
+mb=lb;
+nb=0;
+ob=6;}
 else{
-Tb=rp(w);
-if((u64)Fb-(u64)Tb<Pb){
-copy_bits_4f4(Tb,Fb,Pb);
-Qb=Pb;
-Rb=0;
-Sb=0;}
+pb=rp(w);
+if((u64)bb-(u64)pb<lb){
+copy_bits_4f4(pb,bb,lb);
+mb=lb;
+nb=0;
+ob=0;}
 else{
-memmove(Fb,Tb,Pb);
-Qb=Pb;
-Rb=0;
-Sb=0;}}}
+memmove(bb,pb,lb);
+mb=lb;
+nb=0;
+ob=0;}}}
 else{
-Ub=r4(r+8);
+qb=r4(r+8);
 switch(r[4]){
-case 0:Qb=0;
-Rb=uadd32(Lb,Ub);
-Sb=1;
+case 0:mb=0;
+nb=uadd32(hb,qb);
+ob=1;
 break;
-case 1:Qb=0;
-Rb=uadd32(Lb,Ub);
-Sb=2;
+case 1:mb=0;
+nb=uadd32(hb,qb);
+ob=2;
 break;
-case 2:Qb=0;
-Rb=uadd32(Lb,Ub);
-Sb=3;
+case 2:mb=0;
+nb=uadd32(hb,qb);
+ob=3;
 break;
-case 3:Qb=0;
-Rb=0;
-Sb=4;
+case 3:mb=0;
+nb=0;
+ob=4;
 break;
-case 4:Qb=0;
-Rb=0;
-Sb=5;
+case 4:mb=0;
+nb=0;
+ob=5;
 break;
 default:NEVER;
 }}
-Hb=Qb;
-Ib=Rb;
-Jb=Sb;}
+db=mb;
+eb=nb;
+fb=ob;}
 else{
-Hb=0;
-Ib=0;
-Jb=7;}}
-L5:w8(u,Hb);
-w4(u+8,Ib);
-w4(u+12,Jb);
-or_type_2d2(s,y,t,Db,Eb,Fb,Gb,u);
-Vb=r8(s);
-Wb=r4(s+12);
-Xb=db+(Bb<<4);
-Yb=r4(s+8);
-x8(Xb,Vb);
-x4(Xb+8,Yb);
-x4(Xb+12,Wb);
-Zb=Bb+1;
-if(Zb!=j){
-zb=r8(Cb);
-Ab=(Wb==0?Vb:0)+Ab;
-Bb=Zb;
+db=0;
+eb=0;
+fb=7;}}
+L5:w8(u,db);
+w4(u+8,eb);
+w4(u+12,fb);
+or_type_2d2(s,y,t,Za,ab,bb,cb,u);
+rb=r8(s);
+sb=r4(s+12);
+tb=za+(Xa<<4);
+ub=r4(s+8);
+x8(tb,rb);
+x4(tb+8,ub);
+x4(tb+12,sb);
+vb=Xa+1;
+if(vb!=j){
+Va=r8(Ya);
+Wa=(sb==0?rb:0)+Wa;
+Xa=vb;
 goto L4;}
 if(r8(w+16)!=0)port_rattle_dealloc(rp(w));}
-memcpy(x,v,1944);
+memcpy(x,v,1544);
 drop_1dd(x);}
 else{
 w8(z,r8(y));
-z[8]=nb>>16;
-z[9]=0;
+z[8]=Ia>>16;
 wp(p,(u8*)65536);
 z24(p+8);
 wp(p+32,(u8*)65536);
@@ -154468,9 +153368,9 @@ wp(p+536,(u8*)65536);
 z32(p+544);
 wp(p+576,(u8*)65536);
 z104(p+584);
-w8(p+688,wb);
+w8(p+688,Sa);
 z40(p+696);
-w8(p+736,wb);
+w8(p+736,Sa);
 z16(p+744);
 wp(p+760,(u8*)65536);
 z32(p+768);
@@ -154512,203 +153412,187 @@ wp(p+1352,(u8*)65536);
 z16(p+1360);
 wp(p+1376,(u8*)65536);
 z48(p+1384);
-w8(p+1432,wb);
+w8(p+1432,Sa);
 z40(p+1440);
-w8(p+1480,wb);
+w8(p+1480,Sa);
 z16(p+1488);
 wp(p+1504,(u8*)65536);
-memcpy(p+1512,X,32);
+z32(p+1512);
 wp(p+1544,(u8*)65536);
 z32(p+1552);
 wp(p+1584,(u8*)65536);
-memcpy(p+1592,Y,32);
-wp(p+1624,(u8*)65536);
-memcpy(p+1632,Z,104);
-wp(p+1736,(u8*)65536);
-memcpy(p+1744,aa,32);
-wp(p+1776,(u8*)65536);
-memcpy(p+1784,ba,40);
-wp(p+1824,(u8*)65536);
-memcpy(p+1832,ca,32);
-wp(p+1864,(u8*)65536);
-memcpy(p+1872,da,16);
-wp(p+1888,(u8*)65536);
-memcpy(p+1896,ea,48);
-wp(p+1944,(u8*)65536);
-z32(p+1952);
-wp(p+1984,(u8*)65536);
-z16(p+1992);
-wp(p+2008,(u8*)65536);
-z16(p+2016);
-wp(p+2032,(u8*)65536);
-z16(p+2040);
+z16(p+1592);
+wp(p+1608,(u8*)65536);
+z16(p+1616);
+wp(p+1632,(u8*)65536);
+z16(p+1640);
 wp(q,(u8*)65536);
 z16(q+8);
-if(!pb){
-ac=kb==0;
-bc=0;
-cc=0;
-dc=0;
-L7:ec=bb+(i64)(dc<<3);
-fc=ab+(i64)bc;
-gc=r8(ec)-bc;
-hc=cb+(i64)cc;
-ic=h-cc;
-w8(n,ob);
+if(!Ka){
+wb=Ga==0;
+xb=0;
+yb=0;
+zb=0;
+L7:Ab=xa+(i64)(zb<<3);
+Bb=wa+(i64)xb;
+Cb=r8(Ab)-xb;
+Db=ya+(i64)yb;
+Eb=h-yb;
+w8(n,Ja);
 z16(m);
-if(gc<2){
-jc=0;
-kc=0;
-lc=11;}
+if(Cb<2){
+Fb=0;
+Gb=0;
+Hb=11;}
 else{
-mc=*fc==95;
-if(gc==2){
-if(!mc){
-jc=0;
-kc=0;
-lc=11;
+Ib=*Bb==95;
+if(Cb==2){
+if(!Ib){
+Fb=0;
+Gb=0;
+Hb=11;
 goto L8;}
-switch(fc[1]){
-case 90:nc=0;
-oc=0;
+switch(Bb[1]){
+case 90:Jb=0;
+Kb=0;
 goto L9;
 case 82:break;
-default:jc=0;
-kc=0;
-lc=11;
+default:Fb=0;
+Gb=0;
+Hb=11;
 goto L8;
 }}
 else{
-if(!mc){
-jc=0;
-kc=0;
-lc=11;
+if(!Ib){
+Fb=0;
+Gb=0;
+Hb=11;
 goto L8;}
-switch(fc[1]){
-case 90:nc=0;
-oc=0;
+switch(Bb[1]){
+case 90:Jb=0;
+Kb=0;
 goto L9;
 case 82:break;
-case 95:switch(fc[2]){
-case 90:pc=0;
+case 95:switch(Bb[2]){
+case 90:Lb=0;
 break;
-case 82:pc=1;
+case 82:Lb=1;
 break;
-default:jc=0;
-kc=0;
-lc=11;
+default:Fb=0;
+Gb=0;
+Hb=11;
 goto L8;
 }
-if(!ac){
-nc=1;
-oc=pc;
+if(!wb){
+Jb=1;
+Kb=Lb;
 goto L9;}
-jc=0;
-kc=0;
-lc=11;
+Fb=0;
+Gb=0;
+Hb=11;
 goto L8;
-default:jc=0;
-kc=0;
-lc=11;
+default:Fb=0;
+Gb=0;
+Hb=11;
 goto L8;
 }}
-nc=0;
-oc=1;
-L9:qc=gc-nc;
-if(qc<16777217){
+Jb=0;
+Kb=1;
+L9:Mb=Cb-Jb;
+if(Mb<16777217){
 z12(l);
 w8(q+8,0);
-append_a0b_2(l,z,p,oc,fc+(i64)nc,qc,q);
+append_a0b_2(l,z,p,Kb,Bb+(i64)Jb,Mb,q);
 if(*l==0){
-rc=r8(q+8);
-if(ic<rc){
-sc=rc;
-tc=0;
-uc=6;}
+Nb=r8(q+8);
+if(Eb<Nb){
+Ob=Nb;
+Pb=0;
+Qb=6;}
 else{
-vc=rp(q);
-if((u64)hc-(u64)vc<rc){
-copy_bits_4f4(vc,hc,rc);
-sc=rc;
-tc=0;
-uc=0;}
+Rb=rp(q);
+if((u64)Db-(u64)Rb<Nb){
+copy_bits_4f4(Rb,Db,Nb);
+Ob=Nb;
+Pb=0;
+Qb=0;}
 else{
-memmove(hc,vc,rc);
-sc=rc;
-tc=0;
-uc=0;}}}
+memmove(Db,Rb,Nb);
+Ob=Nb;
+Pb=0;
+Qb=0;}}}
 else{
-wc=r4(l+8);
+Sb=r4(l+8);
 switch(l[4]){
-case 0:sc=0;
-tc=uadd32(nc,wc);
-uc=1;
+case 0:Ob=0;
+Pb=uadd32(Jb,Sb);
+Qb=1;
 break;
-case 1:sc=0;
-tc=uadd32(nc,wc);
-uc=2;
+case 1:Ob=0;
+Pb=uadd32(Jb,Sb);
+Qb=2;
 break;
-case 2:sc=0;
-tc=uadd32(nc,wc);
-uc=3;
+case 2:Ob=0;
+Pb=uadd32(Jb,Sb);
+Qb=3;
 break;
-case 3:sc=0;
-tc=0;
-uc=4;
+case 3:Ob=0;
+Pb=0;
+Qb=4;
 break;
-case 4:sc=0;
-tc=0;
-uc=5;
+case 4:Ob=0;
+Pb=0;
+Qb=5;
 break;
 default:NEVER;
 }}
-jc=sc;
-kc=tc;
-lc=uc;}
+Fb=Ob;
+Gb=Pb;
+Hb=Qb;}
 else{
-jc=0;
-kc=0;
-lc=7;}}
-L8:w8(o,jc);
-w4(o+8,kc);
-w4(o+12,lc);
-or_type_504(m,z,n,fc,gc,hc,ic,o);
-xc=r8(m);
-yc=r4(m+12);
-zc=db+(dc<<4);
-Ac=r4(m+8);
-x8(zc,xc);
-x4(zc+8,Ac);
-x4(zc+12,yc);
-Bc=dc+1;
-if(Bc!=j){
-bc=r8(ec);
-cc=(yc==0?xc:0)+cc;
-dc=Bc;
+Fb=0;
+Gb=0;
+Hb=7;}}
+L8:w8(o,Fb);
+w4(o+8,Gb);
+w4(o+12,Hb);
+or_type_504(m,z,n,Bb,Cb,Db,Eb,o);
+Tb=r8(m);
+Ub=r4(m+12);
+Vb=za+(zb<<4);
+Wb=r4(m+8);
+x8(Vb,Tb);
+x4(Vb+8,Wb);
+x4(Vb+12,Ub);
+Xb=zb+1;
+if(Xb!=j){
+xb=r8(Ab);
+yb=(Ub==0?Tb:0)+yb;
+zb=Xb;
 goto L7;}
 if(r8(q+16)!=0)port_rattle_dealloc(rp(q));}
-Cc=rp(p+1944);
-Dc=rp(p+1984);
-Ec=r8(p+2000);
-Fc=rp(p+2008);
-Gc=r8(p+2024);
-Hc=rp(p+2032);
-Ic=r8(p+2048);
-Jc=r8(p+1960);
-memcpy(k,p,1944);
+Yb=rp(p+1544);
+Zb=rp(p+1584);
+ac=r8(p+1600);
+bc=rp(p+1608);
+cc=r8(p+1624);
+dc=rp(p+1632);
+ec=r8(p+1648);
+fc=r8(p+1560);
+memcpy(k,p,1544);
 drop_1dd(k);
-if(Jc!=0)port_rattle_dealloc(Cc);
-if(Ec!=0)port_rattle_dealloc(Dc);
-if(Gc!=0)port_rattle_dealloc(Fc);
-if(Ic!=0)port_rattle_dealloc(Hc);
+if(fc!=0)port_rattle_dealloc(Yb);
+if(ac!=0)port_rattle_dealloc(Zb);
+if(cc!=0)port_rattle_dealloc(bc);
+if(ec!=0)port_rattle_dealloc(dc);
 ;}
-;}
+Oa=0;}
 else{
-w4(P+8,0);
+w4(P+8,256);
 w4(O,e);
-O[4]=vb;
+O[4]=Ra;
 z3(O+5);
-if(xb){
+if(Ta){
 wp(L,(u8*)65536);
 z24(L+8);
 wp(L+32,(u8*)65536);
@@ -154743,9 +153627,9 @@ wp(L+536,(u8*)65536);
 z32(L+544);
 wp(L+576,(u8*)65536);
 z104(L+584);
-w8(L+688,wb);
+w8(L+688,Sa);
 z40(L+696);
-w8(L+736,wb);
+w8(L+736,Sa);
 z16(L+744);
 wp(L+760,(u8*)65536);
 z32(L+768);
@@ -154787,114 +153671,97 @@ wp(L+1352,(u8*)65536);
 z16(L+1360);
 wp(L+1376,(u8*)65536);
 z48(L+1384);
-w8(L+1432,wb);
+w8(L+1432,Sa);
 z40(L+1440);
-w8(L+1480,wb);
+w8(L+1480,Sa);
 z16(L+1488);
 wp(L+1504,(u8*)65536);
 z32(L+1512);
-wp(L+1544,(u8*)65536);
-z32(L+1552);
-wp(L+1584,(u8*)65536);
-z32(L+1592);
-wp(L+1624,(u8*)65536);
-z104(L+1632);
-wp(L+1736,(u8*)65536);
-memcpy(L+1744,S,32);
-wp(L+1776,(u8*)65536);
-memcpy(L+1784,T,40);
-wp(L+1824,(u8*)65536);
-memcpy(L+1832,U,32);
-wp(L+1864,(u8*)65536);
-memcpy(L+1872,V,16);
-wp(L+1888,(u8*)65536);
-memcpy(L+1896,W,48);
 wp(M,(u8*)65536);
 z16(M+8);
-if(!pb){
-Kc=kb==0;
-Lc=0;
-Mc=0;
-Nc=0;
-L10:Oc=bb+(i64)(Nc<<3);
-Pc=ab+(i64)Lc;
-Qc=r8(Oc)-Lc;
-Rc=cb+(i64)Mc;
-Sc=h-Mc;
-w8(J,ob);
+if(!Ka){
+gc=Ga==0;
+hc=0;
+ic=0;
+jc=0;
+L10:kc=xa+(i64)(jc<<3);
+lc=wa+(i64)hc;
+mc=r8(kc)-hc;
+nc=ya+(i64)ic;
+oc=h-ic;
+w8(J,Ja);
 z16(I);
 z16(H);
-if(Qc<2)Tc=11;
+if(mc<2)pc=11;
 else{
-Uc=*Pc==95;
-if(Qc==2){
-if(!Uc){
-Tc=11;
+qc=*lc==95;
+if(mc==2){
+if(!qc){
+pc=11;
 goto L11;}
-switch(Pc[1]){
-case 90:Vc=0;
-Wc=0;
+switch(lc[1]){
+case 90:rc=0;
+sc=0;
 goto L12;
 case 82:break;
-default:Tc=11;
+default:pc=11;
 goto L11;
 }}
 else{
-if(!Uc){
-Tc=11;
+if(!qc){
+pc=11;
 goto L11;}
-switch(Pc[1]){
-case 90:Vc=0;
-Wc=0;
+switch(lc[1]){
+case 90:rc=0;
+sc=0;
 goto L12;
 case 82:break;
-case 95:switch(Pc[2]){
-case 90:Xc=0;
+case 95:switch(lc[2]){
+case 90:tc=0;
 break;
-case 82:Xc=1;
+case 82:tc=1;
 break;
-default:Tc=11;
+default:pc=11;
 goto L11;
 }
-if(Kc){
-Tc=11;
+if(gc){
+pc=11;
 goto L11;}
-Vc=1;
-Wc=Xc;
+rc=1;
+sc=tc;
 goto L12;
-default:Tc=11;
+default:pc=11;
 goto L11;
 }}
-Vc=0;
-Wc=1;
-L12:Yc=Qc-Vc;
-if(Yc<16777217){
-symbol_with_be6(H,O,L,M,Wc,Vc,Pc+(i64)Vc,Yc,Rc,Sc);
+rc=0;
+sc=1;
+L12:uc=mc-rc;
+if(uc<16777217){
+symbol_with_be6(H,O,L,M,sc,rc,lc+(i64)rc,uc,nc,oc);
 goto L13;}
-Tc=7;}
-L11:w4(H+12,Tc);
+pc=7;}
+L11:w4(H+12,pc);
 L13:memcpy(K,H,16);
-or_type_81e(I,O,J,Pc,Qc,Rc,Sc,K);
-Zc=r8(I);
-ad=r4(I+12);
-bd=db+(Nc<<4);
-cd=r4(I+8);
-x8(bd,Zc);
-x4(bd+8,cd);
-x4(bd+12,ad);
-dd=Nc+1;
-if(dd!=j){
-Lc=r8(Oc);
-Mc=(ad==0?Zc:0)+Mc;
-Nc=dd;
+or_type_81e(I,O,J,lc,mc,nc,oc,K);
+vc=r8(I);
+wc=r4(I+12);
+xc=za+(jc<<4);
+yc=r4(I+8);
+x8(xc,vc);
+x4(xc+8,yc);
+x4(xc+12,wc);
+zc=jc+1;
+if(zc!=j){
+hc=r8(kc);
+ic=(wc==0?vc:0)+ic;
+jc=zc;
 goto L10;}
 if(r8(M+16)!=0)port_rattle_dealloc(rp(M));}
-memcpy(N,L,1944);
+memcpy(N,L,1544);
 drop_1dd(N);}
 else{
 w8(P,r8(O));
-P[8]=nb>>16;
-P[9]=1;
+P[8]=Ia>>16;
 wp(F,(u8*)65536);
 z24(F+8);
 wp(F+32,(u8*)65536);
@@ -154929,9 +153796,9 @@ wp(F+536,(u8*)65536);
 z32(F+544);
 wp(F+576,(u8*)65536);
 z104(F+584);
-w8(F+688,wb);
+w8(F+688,Sa);
 z40(F+696);
-w8(F+736,wb);
+w8(F+736,Sa);
 z16(F+744);
 wp(F+760,(u8*)65536);
 z32(F+768);
@@ -154973,1208 +153840,1106 @@ wp(F+1352,(u8*)65536);
 z16(F+1360);
 wp(F+1376,(u8*)65536);
 z48(F+1384);
-w8(F+1432,wb);
+w8(F+1432,Sa);
 z40(F+1440);
-w8(F+1480,wb);
+w8(F+1480,Sa);
 z16(F+1488);
 wp(F+1504,(u8*)65536);
 z32(F+1512);
 wp(F+1544,(u8*)65536);
 z32(F+1552);
 wp(F+1584,(u8*)65536);
-memcpy(F+1592,Q,32);
-wp(F+1624,(u8*)65536);
-memcpy(F+1632,R,104);
-wp(F+1736,(u8*)65536);
-memcpy(F+1744,S,32);
-wp(F+1776,(u8*)65536);
-memcpy(F+1784,T,40);
-wp(F+1824,(u8*)65536);
-memcpy(F+1832,U,32);
-wp(F+1864,(u8*)65536);
-memcpy(F+1872,V,16);
-wp(F+1888,(u8*)65536);
-memcpy(F+1896,W,48);
-wp(F+1944,(u8*)65536);
-z32(F+1952);
-wp(F+1984,(u8*)65536);
-z16(F+1992);
-wp(F+2008,(u8*)65536);
-z16(F+2016);
-wp(F+2032,(u8*)65536);
-z16(F+2040);
+z16(F+1592);
+wp(F+1608,(u8*)65536);
+z16(F+1616);
+wp(F+1632,(u8*)65536);
+z16(F+1640);
 wp(G,(u8*)65536);
 z16(G+8);
-if(!pb){
-ed=kb==0;
-fd=0;
-gd=0;
-hd=0;
-L14:id=bb+(i64)(hd<<3);
-jd=ab+(i64)fd;
-kd=r8(id)-fd;
-ld=cb+(i64)gd;
-md=h-gd;
-w8(D,ob);
+if(!Ka){
+Ac=Ga==0;
+Bc=0;
+Cc=0;
+Dc=0;
+L14:Ec=xa+(i64)(Dc<<3);
+Fc=wa+(i64)Bc;
+Gc=r8(Ec)-Bc;
+Hc=ya+(i64)Cc;
+Ic=h-Cc;
+w8(D,Ja);
 z16(C);
-if(kd<2){
-nd=0;
-od=0;
-pd=11;}
+if(Gc<2){
+Jc=0;
+Kc=0;
+Lc=11;}
 else{
-qd=*jd==95;
-if(kd==2){
-if(!qd){
-nd=0;
-od=0;
-pd=11;
+Mc=*Fc==95;
+if(Gc==2){
+if(!Mc){
+Jc=0;
+Kc=0;
+Lc=11;
 goto L15;}
-switch(jd[1]){
-case 90:sd=0;
-td=0;
+switch(Fc[1]){
+case 90:Nc=0;
+Oc=0;
 goto L16;
 case 82:break;
-default:nd=0;
-od=0;
-pd=11;
+default:Jc=0;
+Kc=0;
+Lc=11;
 goto L15;
 }}
 else{
-if(!qd){
-nd=0;
-od=0;
-pd=11;
+if(!Mc){
+Jc=0;
+Kc=0;
+Lc=11;
 goto L15;}
-switch(jd[1]){
-case 90:sd=0;
-td=0;
+switch(Fc[1]){
+case 90:Nc=0;
+Oc=0;
 goto L16;
 case 82:break;
-case 95:switch(jd[2]){
-case 90:ud=0;
+case 95:switch(Fc[2]){
+case 90:Pc=0;
 break;
-case 82:ud=1;
+case 82:Pc=1;
 break;
-default:nd=0;
-od=0;
-pd=11;
+default:Jc=0;
+Kc=0;
+Lc=11;
 goto L15;
 }
-if(!ed){
-sd=1;
-td=ud;
+if(!Ac){
+Nc=1;
+Oc=Pc;
 goto L16;}
-nd=0;
-od=0;
-pd=11;
+Jc=0;
+Kc=0;
+Lc=11;
 goto L15;
-default:nd=0;
-od=0;
-pd=11;
+default:Jc=0;
+Kc=0;
+Lc=11;
 goto L15;
 }}
-sd=0;
-td=1;
-L16:vd=kd-sd;
-if(vd<16777217){
+Nc=0;
+Oc=1;
+L16:Qc=Gc-Nc;
+if(Qc<16777217){
 z12(B);
 w8(G+8,0);
-append_dd4(B,P,F,td,jd+(i64)sd,vd,G);
+append_dd4(B,P,F,Oc,Fc+(i64)Nc,Qc,G);
 if(*B==0){
-xd=r8(G+8);
-if(md<xd){
-yd=xd;
-zd=0;
-Ad=6;}
+Rc=r8(G+8);
+if(Ic<Rc){
+Sc=Rc;
+Tc=0;
+Uc=6;}
 else{
-Bd=rp(G);
-if((u64)ld-(u64)Bd<xd){
-copy_bits_4f4(Bd,ld,xd);
-yd=xd;
-zd=0;
-Ad=0;}
+Vc=rp(G);
+if((u64)Hc-(u64)Vc<Rc){
+copy_bits_4f4(Vc,Hc,Rc);
+Sc=Rc;
+Tc=0;
+Uc=0;}
 else{
-memmove(ld,Bd,xd);
-yd=xd;
-zd=0;
-Ad=0;}}}
+memmove(Hc,Vc,Rc);
+Sc=Rc;
+Tc=0;
+Uc=0;}}}
 else{
-Cd=r4(B+8);
+Wc=r4(B+8);
 switch(B[4]){
-case 0:yd=0;
-zd=uadd32(sd,Cd);
-Ad=1;
+case 0:Sc=0;
+Tc=uadd32(Nc,Wc);
+Uc=1;
 break;
-case 1:yd=0;
-zd=uadd32(sd,Cd);
-Ad=2;
+case 1:Sc=0;
+Tc=uadd32(Nc,Wc);
+Uc=2;
 break;
-case 2:yd=0;
-zd=uadd32(sd,Cd);
-Ad=3;
+case 2:Sc=0;
+Tc=uadd32(Nc,Wc);
+Uc=3;
 break;
-case 3:yd=0;
-zd=0;
-Ad=4;
+case 3:Sc=0;
+Tc=0;
+Uc=4;
 break;
-case 4:yd=0;
-zd=0;
-Ad=5;
+case 4:Sc=0;
+Tc=0;
+Uc=5;
 break;
 default:NEVER;
 }}
-nd=yd;
-od=zd;
-pd=Ad;}
+Jc=Sc;
+Kc=Tc;
+Lc=Uc;}
 else{
-nd=0;
-od=0;
-pd=7;}}
-L15:w8(E,nd);
-w4(E+8,od);
-w4(E+12,pd);
-or_type_f0b(C,P,D,jd,kd,ld,md,E);
-Dd=r8(C);
-Ed=r4(C+12);
-Fd=db+(hd<<4);
-Gd=r4(C+8);
-x8(Fd,Dd);
-x4(Fd+8,Gd);
-x4(Fd+12,Ed);
-Hd=hd+1;
-if(Hd!=j){
-fd=r8(id);
-gd=(Ed==0?Dd:0)+gd;
-hd=Hd;
+Jc=0;
+Kc=0;
+Lc=7;}}
+L15:w8(E,Jc);
+w4(E+8,Kc);
+w4(E+12,Lc);
+or_type_f0b(C,P,D,Fc,Gc,Hc,Ic,E);
+Xc=r8(C);
+Yc=r4(C+12);
+Zc=za+(Dc<<4);
+ad=r4(C+8);
+x8(Zc,Xc);
+x4(Zc+8,ad);
+x4(Zc+12,Yc);
+bd=Dc+1;
+if(bd!=j){
+Bc=r8(Ec);
+Cc=(Yc==0?Xc:0)+Cc;
+Dc=bd;
 goto L14;}
 if(r8(G+16)!=0)port_rattle_dealloc(rp(G));}
-Id=rp(F+1944);
-Jd=rp(F+1984);
-Kd=r8(F+2000);
-Ld=rp(F+2008);
-Md=r8(F+2024);
-Nd=rp(F+2032);
-Od=r8(F+2048);
-Pd=r8(F+1960);
-memcpy(A,F,1944);
+cd=rp(F+1544);
+dd=rp(F+1584);
+ed=r8(F+1600);
+fd=rp(F+1608);
+gd=r8(F+1624);
+hd=rp(F+1632);
+id=r8(F+1648);
+jd=r8(F+1560);
+memcpy(A,F,1544);
 drop_1dd(A);
-if(Pd!=0)port_rattle_dealloc(Id);
-if(Kd!=0)port_rattle_dealloc(Jd);
-if(Md!=0)port_rattle_dealloc(Ld);
-if(Od!=0)port_rattle_dealloc(Nd);
+if(jd!=0)port_rattle_dealloc(cd);
+if(ed!=0)port_rattle_dealloc(dd);
+if(gd!=0)port_rattle_dealloc(fd);
+if(id!=0)port_rattle_dealloc(hd);
 ;}
-;}
-tb=0;}
+Oa=0;}}
 else{
-z32(La);
-z104(Ma);
-z32(Na);
-z40(Oa);
-z32(Pa);
-z16(Qa);
-z48(Ra);
-z32(Sa);
-z32(Ta);
-z104(Ua);
-z32(Va);
-z40(Wa);
-z32(Xa);
-z16(Ya);
-z48(Za);
-Qd=fb;
-Rd=(u64)(u8*)65536;
-Sd=gb==0;
-if(jb==0){
-w4(ua+8,0);
-w4(ta,e);
-ta[4]=Qd;
-z3(ta+5);
-if(Sd){
-wp(qa,(u8*)65536);
-z24(qa+8);
-wp(qa+32,(u8*)65536);
-z16(qa+40);
-wp(qa+56,(u8*)65536);
-z32(qa+64);
-wp(qa+96,(u8*)65536);
-z16(qa+104);
-wp(qa+120,(u8*)65536);
-z32(qa+128);
-wp(qa+160,(u8*)65536);
-z80(qa+168);
-wp(qa+248,(u8*)65536);
-z16(qa+256);
-wp(qa+272,(u8*)65536);
-z40(qa+280);
-wp(qa+320,(u8*)65536);
-z16(qa+328);
-wp(qa+344,(u8*)65536);
-z16(qa+352);
-wp(qa+368,(u8*)65536);
-z16(qa+376);
-wp(qa+392,(u8*)65536);
-z16(qa+400);
-wp(qa+416,(u8*)65536);
-z16(qa+424);
-wp(qa+440,(u8*)65536);
-z48(qa+448);
-wp(qa+496,(u8*)65536);
-z32(qa+504);
-wp(qa+536,(u8*)65536);
-z32(qa+544);
-wp(qa+576,(u8*)65536);
-z104(qa+584);
-w8(qa+688,Rd);
-z40(qa+696);
-w8(qa+736,Rd);
-z16(qa+744);
-wp(qa+760,(u8*)65536);
-z32(qa+768);
-wp(qa+800,(u8*)65536);
-z24(qa+808);
-wp(qa+832,(u8*)65536);
-z16(qa+840);
-wp(qa+856,(u8*)65536);
-z32(qa+864);
-wp(qa+896,(u8*)65536);
-z16(qa+904);
-wp(qa+920,(u8*)65536);
-z24(qa+928);
-wp(qa+952,(u8*)65536);
-z16(qa+960);
-wp(qa+976,(u8*)65536);
-z16(qa+984);
-wp(qa+1000,(u8*)65536);
-z40(qa+1008);
-wp(qa+1048,(u8*)65536);
-z16(qa+1056);
-wp(qa+1072,(u8*)65536);
-z16(qa+1080);
-wp(qa+1096,(u8*)65536);
-z16(qa+1104);
-wp(qa+1120,(u8*)65536);
-z16(qa+1128);
-wp(qa+1144,(u8*)65536);
-z16(qa+1152);
-wp(qa+1168,(u8*)65536);
-z48(qa+1176);
-wp(qa+1224,(u8*)65536);
-z32(qa+1232);
-wp(qa+1264,(u8*)65536);
-z40(qa+1272);
-wp(qa+1312,(u8*)65536);
-z32(qa+1320);
-wp(qa+1352,(u8*)65536);
-z16(qa+1360);
-wp(qa+1376,(u8*)65536);
-z48(qa+1384);
-w8(qa+1432,Rd);
-z40(qa+1440);
-w8(qa+1480,Rd);
-z16(qa+1488);
-wp(qa+1504,(u8*)65536);
-z32(qa+1512);
-wp(qa+1544,(u8*)65536);
-z32(qa+1552);
-wp(qa+1584,(u8*)65536);
-memcpy(qa+1592,Ta,32);
-wp(qa+1624,(u8*)65536);
-z104(qa+1632);
-wp(qa+1736,(u8*)65536);
-memcpy(qa+1744,Va,32);
-wp(qa+1776,(u8*)65536);
-memcpy(qa+1784,Wa,40);
-wp(qa+1824,(u8*)65536);
-memcpy(qa+1832,Xa,32);
-wp(qa+1864,(u8*)65536);
-memcpy(qa+1872,Ya,16);
-wp(qa+1888,(u8*)65536);
-memcpy(qa+1896,Za,48);
-wp(ra,(u8*)65536);
-z16(ra+8);
-if(!pb){
-Td=kb==0;
-Ud=0;
-Vd=0;
-Wd=0;
-L17:Xd=bb+(i64)(Wd<<3);
-Yd=ab+(i64)Ud;
-Zd=r8(Xd)-Ud;
-ae=cb+(i64)Vd;
-be=h-Vd;
-w8(oa,ob);
-z16(na);
-if(Zd<2){
-ce=0;
-de=0;
-ee=11;}
+if(Qa){
+w4(fa+8,0);
+w4(ea,e);
+ea[4]=Ra;
+z3(ea+5);
+if(Ta){
+wp(ba,(u8*)65536);
+z24(ba+8);
+wp(ba+32,(u8*)65536);
+z16(ba+40);
+wp(ba+56,(u8*)65536);
+z32(ba+64);
+wp(ba+96,(u8*)65536);
+z16(ba+104);
+wp(ba+120,(u8*)65536);
+z32(ba+128);
+wp(ba+160,(u8*)65536);
+z80(ba+168);
+wp(ba+248,(u8*)65536);
+z16(ba+256);
+wp(ba+272,(u8*)65536);
+z40(ba+280);
+wp(ba+320,(u8*)65536);
+z16(ba+328);
+wp(ba+344,(u8*)65536);
+z16(ba+352);
+wp(ba+368,(u8*)65536);
+z16(ba+376);
+wp(ba+392,(u8*)65536);
+z16(ba+400);
+wp(ba+416,(u8*)65536);
+z16(ba+424);
+wp(ba+440,(u8*)65536);
+z48(ba+448);
+wp(ba+496,(u8*)65536);
+z32(ba+504);
+wp(ba+536,(u8*)65536);
+z32(ba+544);
+wp(ba+576,(u8*)65536);
+z104(ba+584);
+w8(ba+688,Sa);
+z40(ba+696);
+w8(ba+736,Sa);
+z16(ba+744);
+wp(ba+760,(u8*)65536);
+z32(ba+768);
+wp(ba+800,(u8*)65536);
+z24(ba+808);
+wp(ba+832,(u8*)65536);
+z16(ba+840);
+wp(ba+856,(u8*)65536);
+z32(ba+864);
+wp(ba+896,(u8*)65536);
+z16(ba+904);
+wp(ba+920,(u8*)65536);
+z24(ba+928);
+wp(ba+952,(u8*)65536);
+z16(ba+960);
+wp(ba+976,(u8*)65536);
+z16(ba+984);
+wp(ba+1000,(u8*)65536);
+z40(ba+1008);
+wp(ba+1048,(u8*)65536);
+z16(ba+1056);
+wp(ba+1072,(u8*)65536);
+z16(ba+1080);
+wp(ba+1096,(u8*)65536);
+z16(ba+1104);
+wp(ba+1120,(u8*)65536);
+z16(ba+1128);
+wp(ba+1144,(u8*)65536);
+z16(ba+1152);
+wp(ba+1168,(u8*)65536);
+z48(ba+1176);
+wp(ba+1224,(u8*)65536);
+z32(ba+1232);
+wp(ba+1264,(u8*)65536);
+z40(ba+1272);
+wp(ba+1312,(u8*)65536);
+z32(ba+1320);
+wp(ba+1352,(u8*)65536);
+z16(ba+1360);
+wp(ba+1376,(u8*)65536);
+z48(ba+1384);
+w8(ba+1432,Sa);
+z40(ba+1440);
+w8(ba+1480,Sa);
+z16(ba+1488);
+wp(ba+1504,(u8*)65536);
+z32(ba+1512);
+wp(ca,(u8*)65536);
+z16(ca+8);
+if(!Ka){
+kd=Ga==0;
+ld=0;
+md=0;
+nd=0;
+L17:od=xa+(i64)(nd<<3);
+pd=wa+(i64)ld;
+qd=r8(od)-ld;
+sd=ya+(i64)md;
+td=h-md;
+w8(Z,Ja);
+z16(Y);
+if(qd<2){
+ud=0;
+vd=0;
+xd=11;}
 else{
-fe=*Yd==95;
-if(Zd==2){
-if(!fe){
-ce=0;
-de=0;
-ee=11;
+yd=*pd==95;
+if(qd==2){
+if(!yd){
+ud=0;
+vd=0;
+xd=11;
 goto L18;}
-switch(Yd[1]){
-case 90:ge=0;
-he=0;
+switch(pd[1]){
+case 90:zd=0;
+Ad=0;
 goto L19;
 case 82:break;
-default:ce=0;
-de=0;
-ee=11;
+default:ud=0;
+vd=0;
+xd=11;
 goto L18;
 }}
 else{
-if(!fe){
-ce=0;
-de=0;
-ee=11;
+if(!yd){
+ud=0;
+vd=0;
+xd=11;
 goto L18;}
-switch(Yd[1]){
-case 90:ge=0;
-he=0;
+switch(pd[1]){
+case 90:zd=0;
+Ad=0;
 goto L19;
 case 82:break;
-case 95:switch(Yd[2]){
-case 90:ie=0;
+case 95:switch(pd[2]){
+case 90:Bd=0;
 break;
-case 82:ie=1;
+case 82:Bd=1;
 break;
-default:ce=0;
-de=0;
-ee=11;
+default:ud=0;
+vd=0;
+xd=11;
 goto L18;
 }
-if(!Td){
-ge=1;
-he=ie;
+if(!kd){
+zd=1;
+Ad=Bd;
 goto L19;}
-ce=0;
-de=0;
-ee=11;
+ud=0;
+vd=0;
+xd=11;
 goto L18;
-default:ce=0;
-de=0;
-ee=11;
+default:ud=0;
+vd=0;
+xd=11;
 goto L18;
 }}
-ge=0;
-he=1;
-L19:je=Zd-ge;
-if(je<16777217){
-z12(ma);
-w8(ra+8,0);
-append_a0b(ma,ta,qa,he,Yd+(i64)ge,je,ra);
-if(*ma==0){
-ke=r8(ra+8);
-if(be<ke){
-le=ke;
-me=0;
-ne=6;}
+zd=0;
+Ad=1;
+L19:Cd=qd-zd;
+if(Cd<16777217){
+z12(X);
+w8(ca+8,0);
+append_a0b(X,ea,ba,Ad,pd+(i64)zd,Cd,ca);
+if(*X==0){
+Dd=r8(ca+8);
+if(td<Dd){
+Ed=Dd;
+Fd=0;
+Gd=6;}
 else{
-oe=rp(ra);
-if((u64)ae-(u64)oe<ke){
-copy_bits_4f4(oe,ae,ke);
-le=ke;
-me=0;
-ne=0;}
+Hd=rp(ca);
+if((u64)sd-(u64)Hd<Dd){
+copy_bits_4f4(Hd,sd,Dd);
+Ed=Dd;
+Fd=0;
+Gd=0;}
 else{
-memmove(ae,oe,ke);
-le=ke;
-me=0;
-ne=0;}}}
+memmove(sd,Hd,Dd);
+Ed=Dd;
+Fd=0;
+Gd=0;}}}
 else{
-pe=r4(ma+8);
-switch(ma[4]){
-case 0:le=0;
-me=uadd32(ge,pe);
-ne=1;
+Id=r4(X+8);
+switch(X[4]){
+case 0:Ed=0;
+Fd=uadd32(zd,Id);
+Gd=1;
 break;
-case 1:le=0;
-me=uadd32(ge,pe);
-ne=2;
+case 1:Ed=0;
+Fd=uadd32(zd,Id);
+Gd=2;
 break;
-case 2:le=0;
-me=uadd32(ge,pe);
-ne=3;
+case 2:Ed=0;
+Fd=uadd32(zd,Id);
+Gd=3;
 break;
-case 3:le=0;
-me=0;
-ne=4;
+case 3:Ed=0;
+Fd=0;
+Gd=4;
 break;
-case 4:le=0;
-me=0;
-ne=5;
+case 4:Ed=0;
+Fd=0;
+Gd=5;
 break;
 default:NEVER;
 }}
-ce=le;
-de=me;
-ee=ne;}
+ud=Ed;
+vd=Fd;
+xd=Gd;}
 else{
-ce=0;
-de=0;
-ee=7;}}
-L18:w8(pa,ce);
-w4(pa+8,de);
-w4(pa+12,ee);
-or_type_43d(na,ta,oa,Yd,Zd,ae,be,pa);
-qe=r8(na);
-re=r4(na+12);
-se=db+(Wd<<4);
-te=r4(na+8);
-x8(se,qe);
-x4(se+8,te);
-x4(se+12,re);
-ue=Wd+1;
-if(ue!=j){
-Ud=r8(Xd);
-Vd=(re==0?qe:0)+Vd;
-Wd=ue;
+ud=0;
+vd=0;
+xd=7;}}
+L18:w8(aa,ud);
+w4(aa+8,vd);
+w4(aa+12,xd);
+or_type_43d(Y,ea,Z,pd,qd,sd,td,aa);
+Jd=r8(Y);
+Kd=r4(Y+12);
+Ld=za+(nd<<4);
+Md=r4(Y+8);
+x8(Ld,Jd);
+x4(Ld+8,Md);
+x4(Ld+12,Kd);
+Nd=nd+1;
+if(Nd!=j){
+ld=r8(od);
+md=(Kd==0?Jd:0)+md;
+nd=Nd;
 goto L17;}
-if(r8(ra+16)!=0)port_rattle_dealloc(rp(ra));}
-memcpy(sa,qa,1944);
-drop_1dd(sa);}
+if(r8(ca+16)!=0)port_rattle_dealloc(rp(ca));}
+memcpy(da,ba,1544);
+drop_1dd(da);}
 else{
-w8(ua,r8(ta));
-ua[8]=nb>>16;
-ua[9]=0;
-wp(ka,(u8*)65536);
-z24(ka+8);
-wp(ka+32,(u8*)65536);
-z16(ka+40);
-wp(ka+56,(u8*)65536);
-z32(ka+64);
-wp(ka+96,(u8*)65536);
-z16(ka+104);
-wp(ka+120,(u8*)65536);
-z32(ka+128);
-wp(ka+160,(u8*)65536);
-z80(ka+168);
-wp(ka+248,(u8*)65536);
-z16(ka+256);
-wp(ka+272,(u8*)65536);
-z40(ka+280);
-wp(ka+320,(u8*)65536);
-z16(ka+328);
-wp(ka+344,(u8*)65536);
-z16(ka+352);
-wp(ka+368,(u8*)65536);
-z16(ka+376);
-wp(ka+392,(u8*)65536);
-z16(ka+400);
-wp(ka+416,(u8*)65536);
-z16(ka+424);
-wp(ka+440,(u8*)65536);
-z48(ka+448);
-wp(ka+496,(u8*)65536);
-z32(ka+504);
-wp(ka+536,(u8*)65536);
-z32(ka+544);
-wp(ka+576,(u8*)65536);
-z104(ka+584);
-w8(ka+688,Rd);
-z40(ka+696);
-w8(ka+736,Rd);
-z16(ka+744);
-wp(ka+760,(u8*)65536);
-z32(ka+768);
-wp(ka+800,(u8*)65536);
-z24(ka+808);
-wp(ka+832,(u8*)65536);
-z16(ka+840);
-wp(ka+856,(u8*)65536);
-z32(ka+864);
-wp(ka+896,(u8*)65536);
-z16(ka+904);
-wp(ka+920,(u8*)65536);
-z24(ka+928);
-wp(ka+952,(u8*)65536);
-z16(ka+960);
-wp(ka+976,(u8*)65536);
-z16(ka+984);
-wp(ka+1000,(u8*)65536);
-z40(ka+1008);
-wp(ka+1048,(u8*)65536);
-z16(ka+1056);
-wp(ka+1072,(u8*)65536);
-z16(ka+1080);
-wp(ka+1096,(u8*)65536);
-z16(ka+1104);
-wp(ka+1120,(u8*)65536);
-z16(ka+1128);
-wp(ka+1144,(u8*)65536);
-z16(ka+1152);
-wp(ka+1168,(u8*)65536);
-z48(ka+1176);
-wp(ka+1224,(u8*)65536);
-z32(ka+1232);
-wp(ka+1264,(u8*)65536);
-z40(ka+1272);
-wp(ka+1312,(u8*)65536);
-z32(ka+1320);
-wp(ka+1352,(u8*)65536);
-z16(ka+1360);
-wp(ka+1376,(u8*)65536);
-z48(ka+1384);
-w8(ka+1432,Rd);
-z40(ka+1440);
-w8(ka+1480,Rd);
-z16(ka+1488);
-wp(ka+1504,(u8*)65536);
-memcpy(ka+1512,Sa,32);
-wp(ka+1544,(u8*)65536);
-z32(ka+1552);
-wp(ka+1584,(u8*)65536);
-memcpy(ka+1592,Ta,32);
-wp(ka+1624,(u8*)65536);
-memcpy(ka+1632,Ua,104);
-wp(ka+1736,(u8*)65536);
-memcpy(ka+1744,Va,32);
-wp(ka+1776,(u8*)65536);
-memcpy(ka+1784,Wa,40);
-wp(ka+1824,(u8*)65536);
-memcpy(ka+1832,Xa,32);
-wp(ka+1864,(u8*)65536);
-memcpy(ka+1872,Ya,16);
-wp(ka+1888,(u8*)65536);
-memcpy(ka+1896,Za,48);
-wp(ka+1944,(u8*)65536);
-z32(ka+1952);
-wp(ka+1984,(u8*)65536);
-z16(ka+1992);
-wp(ka+2008,(u8*)65536);
-z16(ka+2016);
-wp(ka+2032,(u8*)65536);
-z16(ka+2040);
-wp(la,(u8*)65536);
-z16(la+8);
-if(!pb){
-ve=kb==0;
-we=0;
-xe=0;
-ye=0;
-L20:ze=bb+(i64)(ye<<3);
-Ae=ab+(i64)we;
-Be=r8(ze)-we;
-Ce=cb+(i64)xe;
-De=h-xe;
-w8(ia,ob);
-z16(ha);
-if(Be<2){
-Ee=0;
-Fe=0;
-Ge=11;}
+w8(fa,r8(ea));
+fa[8]=Ia>>16;
+wp(V,(u8*)65536);
+z24(V+8);
+wp(V+32,(u8*)65536);
+z16(V+40);
+wp(V+56,(u8*)65536);
+z32(V+64);
+wp(V+96,(u8*)65536);
+z16(V+104);
+wp(V+120,(u8*)65536);
+z32(V+128);
+wp(V+160,(u8*)65536);
+z80(V+168);
+wp(V+248,(u8*)65536);
+z16(V+256);
+wp(V+272,(u8*)65536);
+z40(V+280);
+wp(V+320,(u8*)65536);
+z16(V+328);
+wp(V+344,(u8*)65536);
+z16(V+352);
+wp(V+368,(u8*)65536);
+z16(V+376);
+wp(V+392,(u8*)65536);
+z16(V+400);
+wp(V+416,(u8*)65536);
+z16(V+424);
+wp(V+440,(u8*)65536);
+z48(V+448);
+wp(V+496,(u8*)65536);
+z32(V+504);
+wp(V+536,(u8*)65536);
+z32(V+544);
+wp(V+576,(u8*)65536);
+z104(V+584);
+w8(V+688,Sa);
+z40(V+696);
+w8(V+736,Sa);
+z16(V+744);
+wp(V+760,(u8*)65536);
+z32(V+768);
+wp(V+800,(u8*)65536);
+z24(V+808);
+wp(V+832,(u8*)65536);
+z16(V+840);
+wp(V+856,(u8*)65536);
+z32(V+864);
+wp(V+896,(u8*)65536);
+z16(V+904);
+wp(V+920,(u8*)65536);
+z24(V+928);
+wp(V+952,(u8*)65536);
+z16(V+960);
+wp(V+976,(u8*)65536);
+z16(V+984);
+wp(V+1000,(u8*)65536);
+z40(V+1008);
+wp(V+1048,(u8*)65536);
+z16(V+1056);
+wp(V+1072,(u8*)65536);
+z16(V+1080);
+wp(V+1096,(u8*)65536);
+z16(V+1104);
+wp(V+1120,(u8*)65536);
+z16(V+1128);
+wp(V+1144,(u8*)65536);
+z16(V+1152);
+wp(V+1168,(u8*)65536);
+z48(V+1176);
+wp(V+1224,(u8*)65536);
+z32(V+1232);
+wp(V+1264,(u8*)65536);
+z40(V+1272);
+wp(V+1312,(u8*)65536);
+z32(V+1320);
+wp(V+1352,(u8*)65536);
+z16(V+1360);
+wp(V+1376,(u8*)65536);
+z48(V+1384);
+w8(V+1432,Sa);
+z40(V+1440);
+w8(V+1480,Sa);
+z16(V+1488);
+wp(V+1504,(u8*)65536);
+z32(V+1512);
+wp(V+1544,(u8*)65536);
+z32(V+1552);
+wp(V+1584,(u8*)65536);
+z16(V+1592);
+wp(V+1608,(u8*)65536);
+z16(V+1616);
+wp(V+1632,(u8*)65536);
+z16(V+1640);
+wp(W,(u8*)65536);
+z16(W+8);
+if(!Ka){
+Od=Ga==0;
+Pd=0;
+Qd=0;
+Rd=0;
+L20:Sd=xa+(i64)(Rd<<3);
+Td=wa+(i64)Pd;
+Ud=r8(Sd)-Pd;
+Vd=ya+(i64)Qd;
+Wd=h-Qd;
+w8(T,Ja);
+z16(S);
+if(Ud<2){
+Xd=0;
+Yd=0;
+Zd=11;}
 else{
-He=*Ae==95;
-if(Be==2){
-if(!He){
-Ee=0;
-Fe=0;
-Ge=11;
+ae=*Td==95;
+if(Ud==2){
+if(!ae){
+Xd=0;
+Yd=0;
+Zd=11;
 goto L21;}
-switch(Ae[1]){
-case 90:Ie=0;
-Je=0;
+switch(Td[1]){
+case 90:be=0;
+ce=0;
 goto L22;
 case 82:break;
-default:Ee=0;
-Fe=0;
-Ge=11;
+default:Xd=0;
+Yd=0;
+Zd=11;
 goto L21;
 }}
 else{
-if(!He){
-Ee=0;
-Fe=0;
-Ge=11;
+if(!ae){
+Xd=0;
+Yd=0;
+Zd=11;
 goto L21;}
-switch(Ae[1]){
-case 90:Ie=0;
-Je=0;
+switch(Td[1]){
+case 90:be=0;
+ce=0;
 goto L22;
 case 82:break;
-case 95:switch(Ae[2]){
-case 90:Ke=0;
+case 95:switch(Td[2]){
+case 90:de=0;
 break;
-case 82:Ke=1;
+case 82:de=1;
 break;
-default:Ee=0;
-Fe=0;
-Ge=11;
+default:Xd=0;
+Yd=0;
+Zd=11;
 goto L21;
 }
-if(!ve){
-Ie=1;
-Je=Ke;
+if(!Od){
+be=1;
+ce=de;
 goto L22;}
-Ee=0;
-Fe=0;
-Ge=11;
+Xd=0;
+Yd=0;
+Zd=11;
 goto L21;
-default:Ee=0;
-Fe=0;
-Ge=11;
+default:Xd=0;
+Yd=0;
+Zd=11;
 goto L21;
 }}
-Ie=0;
-Je=1;
-L22:Le=Be-Ie;
-if(Le<16777217){
-z12(ga);
-w8(la+8,0);
-append_018(ga,ua,ka,Je,Ae+(i64)Ie,Le,la);
-if(*ga==0){
-Me=r8(la+8);
-if(De<Me){
-Ne=Me;
-Oe=0;
-Pe=6;}
+be=0;
+ce=1;
+L22:ee=Ud-be;
+if(ee<16777217){
+z12(R);
+w8(W+8,0);
+append_018(R,fa,V,ce,Td+(i64)be,ee,W);
+if(*R==0){
+fe=r8(W+8);
+if(Wd<fe){
+ge=fe;
+he=0;
+ie=6;}
 else{
-Qe=rp(la);
-if((u64)Ce-(u64)Qe<Me){
-copy_bits_4f4(Qe,Ce,Me);
-Ne=Me;
-Oe=0;
-Pe=0;}
+je=rp(W);
+if((u64)Vd-(u64)je<fe){
+copy_bits_4f4(je,Vd,fe);
+ge=fe;
+he=0;
+ie=0;}
 else{
-memmove(Ce,Qe,Me);
-Ne=Me;
-Oe=0;
-Pe=0;}}}
+memmove(Vd,je,fe);
+ge=fe;
+he=0;
+ie=0;}}}
 else{
-Re=r4(ga+8);
-switch(ga[4]){
-case 0:Ne=0;
-Oe=uadd32(Ie,Re);
-Pe=1;
+ke=r4(R+8);
+switch(R[4]){
+case 0:ge=0;
+he=uadd32(be,ke);
+ie=1;
 break;
-case 1:Ne=0;
-Oe=uadd32(Ie,Re);
-Pe=2;
+case 1:ge=0;
+he=uadd32(be,ke);
+ie=2;
 break;
-case 2:Ne=0;
-Oe=uadd32(Ie,Re);
-Pe=3;
+case 2:ge=0;
+he=uadd32(be,ke);
+ie=3;
 break;
-case 3:Ne=0;
-Oe=0;
-Pe=4;
+case 3:ge=0;
+he=0;
+ie=4;
 break;
-case 4:Ne=0;
-Oe=0;
-Pe=5;
+case 4:ge=0;
+he=0;
+ie=5;
 break;
 default:NEVER;
 }}
-Ee=Ne;
-Fe=Oe;
-Ge=Pe;}
+Xd=ge;
+Yd=he;
+Zd=ie;}
 else{
-Ee=0;
-Fe=0;
-Ge=7;}}
-L21:w8(ja,Ee);
-w4(ja+8,Fe);
-w4(ja+12,Ge);
-or_type_9d2(ha,ua,ia,Ae,Be,Ce,De,ja);
-Se=r8(ha);
-Te=r4(ha+12);
-Ue=db+(ye<<4);
-Ve=r4(ha+8);
-x8(Ue,Se);
-x4(Ue+8,Ve);
-x4(Ue+12,Te);
-We=ye+1;
-if(We!=j){
-we=r8(ze);
-xe=(Te==0?Se:0)+xe;
-ye=We;
+Xd=0;
+Yd=0;
+Zd=7;}}
+L21:w8(U,Xd);
+w4(U+8,Yd);
+w4(U+12,Zd);
+or_type_9d2(S,fa,T,Td,Ud,Vd,Wd,U);
+le=r8(S);
+me=r4(S+12);
+ne=za+(Rd<<4);
+oe=r4(S+8);
+x8(ne,le);
+x4(ne+8,oe);
+x4(ne+12,me);
+pe=Rd+1;
+if(pe!=j){
+Pd=r8(Sd);
+Qd=(me==0?le:0)+Qd;
+Rd=pe;
 goto L20;}
-if(r8(la+16)!=0)port_rattle_dealloc(rp(la));}
-Xe=rp(ka+1944);
-Ye=rp(ka+1984);
-Ze=r8(ka+2000);
-af=rp(ka+2008);
-bf=r8(ka+2024);
-cf=rp(ka+2032);
-df=r8(ka+2048);
-ef=r8(ka+1960);
-memcpy(fa,ka,1944);
-drop_1dd(fa);
-if(ef!=0)port_rattle_dealloc(Xe);
-if(Ze!=0)port_rattle_dealloc(Ye);
-if(bf!=0)port_rattle_dealloc(af);
-if(df!=0)port_rattle_dealloc(cf);
+if(r8(W+16)!=0)port_rattle_dealloc(rp(W));}
+qe=rp(V+1544);
+re=rp(V+1584);
+se=r8(V+1600);
+te=rp(V+1608);
+ue=r8(V+1624);
+ve=rp(V+1632);
+we=r8(V+1648);
+xe=r8(V+1560);
+memcpy(Q,V,1544);
+drop_1dd(Q);
+if(xe!=0)port_rattle_dealloc(qe);
+if(se!=0)port_rattle_dealloc(re);
+if(ue!=0)port_rattle_dealloc(te);
+if(we!=0)port_rattle_dealloc(ve);
 ;}
-;}
+Oa=0;}
 else{
-w4(Ka+8,0);
-w4(Ja,e);
-Ja[4]=Qd;
-z3(Ja+5);
-if(Sd){
-wp(Ga,(u8*)65536);
-z24(Ga+8);
-wp(Ga+32,(u8*)65536);
-z16(Ga+40);
-wp(Ga+56,(u8*)65536);
-z32(Ga+64);
-wp(Ga+96,(u8*)65536);
-z16(Ga+104);
-wp(Ga+120,(u8*)65536);
-z32(Ga+128);
-wp(Ga+160,(u8*)65536);
-z80(Ga+168);
-wp(Ga+248,(u8*)65536);
-z16(Ga+256);
-wp(Ga+272,(u8*)65536);
-z40(Ga+280);
-wp(Ga+320,(u8*)65536);
-z16(Ga+328);
-wp(Ga+344,(u8*)65536);
-z16(Ga+352);
-wp(Ga+368,(u8*)65536);
-z16(Ga+376);
-wp(Ga+392,(u8*)65536);
-z16(Ga+400);
-wp(Ga+416,(u8*)65536);
-z16(Ga+424);
-wp(Ga+440,(u8*)65536);
-z48(Ga+448);
-wp(Ga+496,(u8*)65536);
-z32(Ga+504);
-wp(Ga+536,(u8*)65536);
-z32(Ga+544);
-wp(Ga+576,(u8*)65536);
-z104(Ga+584);
-w8(Ga+688,Rd);
-z40(Ga+696);
-w8(Ga+736,Rd);
-z16(Ga+744);
-wp(Ga+760,(u8*)65536);
-z32(Ga+768);
-wp(Ga+800,(u8*)65536);
-z24(Ga+808);
-wp(Ga+832,(u8*)65536);
-z16(Ga+840);
-wp(Ga+856,(u8*)65536);
-z32(Ga+864);
-wp(Ga+896,(u8*)65536);
-z16(Ga+904);
-wp(Ga+920,(u8*)65536);
-z24(Ga+928);
-wp(Ga+952,(u8*)65536);
-z16(Ga+960);
-wp(Ga+976,(u8*)65536);
-z16(Ga+984);
-wp(Ga+1000,(u8*)65536);
-z40(Ga+1008);
-wp(Ga+1048,(u8*)65536);
-z16(Ga+1056);
-wp(Ga+1072,(u8*)65536);
-z16(Ga+1080);
-wp(Ga+1096,(u8*)65536);
-z16(Ga+1104);
-wp(Ga+1120,(u8*)65536);
-z16(Ga+1128);
-wp(Ga+1144,(u8*)65536);
-z16(Ga+1152);
-wp(Ga+1168,(u8*)65536);
-z48(Ga+1176);
-wp(Ga+1224,(u8*)65536);
-z32(Ga+1232);
-wp(Ga+1264,(u8*)65536);
-z40(Ga+1272);
-wp(Ga+1312,(u8*)65536);
-z32(Ga+1320);
-wp(Ga+1352,(u8*)65536);
-z16(Ga+1360);
-wp(Ga+1376,(u8*)65536);
-z48(Ga+1384);
-w8(Ga+1432,Rd);
-z40(Ga+1440);
-w8(Ga+1480,Rd);
-z16(Ga+1488);
-wp(Ga+1504,(u8*)65536);
-z32(Ga+1512);
-wp(Ga+1544,(u8*)65536);
-z32(Ga+1552);
-wp(Ga+1584,(u8*)65536);
-z32(Ga+1592);
-wp(Ga+1624,(u8*)65536);
-z104(Ga+1632);
-wp(Ga+1736,(u8*)65536);
-memcpy(Ga+1744,Na,32);
-wp(Ga+1776,(u8*)65536);
-memcpy(Ga+1784,Oa,40);
-wp(Ga+1824,(u8*)65536);
-memcpy(Ga+1832,Pa,32);
-wp(Ga+1864,(u8*)65536);
-memcpy(Ga+1872,Qa,16);
-wp(Ga+1888,(u8*)65536);
-memcpy(Ga+1896,Ra,48);
-wp(Ha,(u8*)65536);
-z16(Ha+8);
-if(!pb){
-ff=kb==0;
-gf=0;
-hf=0;
-jf=0;
-L23:kf=bb+(i64)(jf<<3);
-lf=ab+(i64)gf;
-mf=r8(kf)-gf;
-nf=cb+(i64)hf;
-of=h-hf;
-w8(Ea,ob);
-z16(Da);
-z16(Ca);
-if(mf<2)pf=11;
+w4(va+8,256);
+w4(ua,e);
+ua[4]=Ra;
+z3(ua+5);
+if(Ta){
+wp(ra,(u8*)65536);
+z24(ra+8);
+wp(ra+32,(u8*)65536);
+z16(ra+40);
+wp(ra+56,(u8*)65536);
+z32(ra+64);
+wp(ra+96,(u8*)65536);
+z16(ra+104);
+wp(ra+120,(u8*)65536);
+z32(ra+128);
+wp(ra+160,(u8*)65536);
+z80(ra+168);
+wp(ra+248,(u8*)65536);
+z16(ra+256);
+wp(ra+272,(u8*)65536);
+z40(ra+280);
+wp(ra+320,(u8*)65536);
+z16(ra+328);
+wp(ra+344,(u8*)65536);
+z16(ra+352);
+wp(ra+368,(u8*)65536);
+z16(ra+376);
+wp(ra+392,(u8*)65536);
+z16(ra+400);
+wp(ra+416,(u8*)65536);
+z16(ra+424);
+wp(ra+440,(u8*)65536);
+z48(ra+448);
+wp(ra+496,(u8*)65536);
+z32(ra+504);
+wp(ra+536,(u8*)65536);
+z32(ra+544);
+wp(ra+576,(u8*)65536);
+z104(ra+584);
+w8(ra+688,Sa);
+z40(ra+696);
+w8(ra+736,Sa);
+z16(ra+744);
+wp(ra+760,(u8*)65536);
+z32(ra+768);
+wp(ra+800,(u8*)65536);
+z24(ra+808);
+wp(ra+832,(u8*)65536);
+z16(ra+840);
+wp(ra+856,(u8*)65536);
+z32(ra+864);
+wp(ra+896,(u8*)65536);
+z16(ra+904);
+wp(ra+920,(u8*)65536);
+z24(ra+928);
+wp(ra+952,(u8*)65536);
+z16(ra+960);
+wp(ra+976,(u8*)65536);
+z16(ra+984);
+wp(ra+1000,(u8*)65536);
+z40(ra+1008);
+wp(ra+1048,(u8*)65536);
+z16(ra+1056);
+wp(ra+1072,(u8*)65536);
+z16(ra+1080);
+wp(ra+1096,(u8*)65536);
+z16(ra+1104);
+wp(ra+1120,(u8*)65536);
+z16(ra+1128);
+wp(ra+1144,(u8*)65536);
+z16(ra+1152);
+wp(ra+1168,(u8*)65536);
+z48(ra+1176);
+wp(ra+1224,(u8*)65536);
+z32(ra+1232);
+wp(ra+1264,(u8*)65536);
+z40(ra+1272);
+wp(ra+1312,(u8*)65536);
+z32(ra+1320);
+wp(ra+1352,(u8*)65536);
+z16(ra+1360);
+wp(ra+1376,(u8*)65536);
+z48(ra+1384);
+w8(ra+1432,Sa);
+z40(ra+1440);
+w8(ra+1480,Sa);
+z16(ra+1488);
+wp(ra+1504,(u8*)65536);
+z32(ra+1512);
+wp(sa,(u8*)65536);
+z16(sa+8);
+if(!Ka){
+ye=Ga==0;
+ze=0;
+Ae=0;
+Be=0;
+L23:Ce=xa+(i64)(Be<<3);
+De=wa+(i64)ze;
+Ee=r8(Ce)-ze;
+Fe=ya+(i64)Ae;
+Ge=h-Ae;
+w8(pa,Ja);
+z16(oa);
+z16(na);
+if(Ee<2)He=11;
 else{
-qf=*lf==95;
-if(mf==2){
-if(!qf){
-pf=11;
+Ie=*De==95;
+if(Ee==2){
+if(!Ie){
+He=11;
 goto L24;}
-switch(lf[1]){
-case 90:rf=0;
-sf=0;
+switch(De[1]){
+case 90:Je=0;
+Ke=0;
 goto L25;
 case 82:break;
-default:pf=11;
+default:He=11;
 goto L24;
 }}
 else{
-if(!qf){
-pf=11;
+if(!Ie){
+He=11;
 goto L24;}
-switch(lf[1]){
-case 90:rf=0;
-sf=0;
+switch(De[1]){
+case 90:Je=0;
+Ke=0;
 goto L25;
 case 82:break;
-case 95:switch(lf[2]){
-case 90:tf=0;
+case 95:switch(De[2]){
+case 90:Le=0;
 break;
-case 82:tf=1;
+case 82:Le=1;
 break;
-default:pf=11;
+default:He=11;
 goto L24;
 }
-if(ff){
-pf=11;
+if(ye){
+He=11;
 goto L24;}
-rf=1;
-sf=tf;
+Je=1;
+Ke=Le;
 goto L25;
-default:pf=11;
+default:He=11;
 goto L24;
 }}
-rf=0;
-sf=1;
-L25:uf=mf-rf;
-if(uf<16777217){
-symbol_with_2a8(Ca,Ja,Ga,Ha,sf,rf,lf+(i64)rf,uf,nf,of);
+Je=0;
+Ke=1;
+L25:Me=Ee-Je;
+if(Me<16777217){
+symbol_with_2a8(na,ua,ra,sa,Ke,Je,De+(i64)Je,Me,Fe,Ge);
 goto L26;}
-pf=7;}
-L24:w4(Ca+12,pf);
-L26:memcpy(Fa,Ca,16);
-or_type_0d4(Da,Ja,Ea,lf,mf,nf,of,Fa);
-vf=r8(Da);
-wf=r4(Da+12);
-xf=db+(jf<<4);
-yf=r4(Da+8);
-x8(xf,vf);
-x4(xf+8,yf);
-x4(xf+12,wf);
-zf=jf+1;
-if(zf!=j){
-gf=r8(kf);
-hf=(wf==0?vf:0)+hf;
-jf=zf;
+He=7;}
+L24:w4(na+12,He);
+L26:memcpy(qa,na,16);
+or_type_0d4(oa,ua,pa,De,Ee,Fe,Ge,qa);
+Ne=r8(oa);
+Oe=r4(oa+12);
+Pe=za+(Be<<4);
+Qe=r4(oa+8);
+x8(Pe,Ne);
+x4(Pe+8,Qe);
+x4(Pe+12,Oe);
+Re=Be+1;
+if(Re!=j){
+ze=r8(Ce);
+Ae=(Oe==0?Ne:0)+Ae;
+Be=Re;
 goto L23;}
-if(r8(Ha+16)!=0)port_rattle_dealloc(rp(Ha));}
-memcpy(Ia,Ga,1944);
-drop_1dd(Ia);}
+if(r8(sa+16)!=0)port_rattle_dealloc(rp(sa));}
+memcpy(ta,ra,1544);
+drop_1dd(ta);}
 else{
-w8(Ka,r8(Ja));
-Ka[8]=lb>>16;
-Ka[9]=1;
-wp(Aa,(u8*)65536);
-z24(Aa+8);
-wp(Aa+32,(u8*)65536);
-z16(Aa+40);
-wp(Aa+56,(u8*)65536);
-z32(Aa+64);
-wp(Aa+96,(u8*)65536);
-z16(Aa+104);
-wp(Aa+120,(u8*)65536);
-z32(Aa+128);
-wp(Aa+160,(u8*)65536);
-z80(Aa+168);
-wp(Aa+248,(u8*)65536);
-z16(Aa+256);
-wp(Aa+272,(u8*)65536);
-z40(Aa+280);
-wp(Aa+320,(u8*)65536);
-z16(Aa+328);
-wp(Aa+344,(u8*)65536);
-z16(Aa+352);
-wp(Aa+368,(u8*)65536);
-z16(Aa+376);
-wp(Aa+392,(u8*)65536);
-z16(Aa+400);
-wp(Aa+416,(u8*)65536);
-z16(Aa+424);
-wp(Aa+440,(u8*)65536);
-z48(Aa+448);
-wp(Aa+496,(u8*)65536);
-z32(Aa+504);
-wp(Aa+536,(u8*)65536);
-z32(Aa+544);
-wp(Aa+576,(u8*)65536);
-z104(Aa+584);
-w8(Aa+688,Rd);
-z40(Aa+696);
-w8(Aa+736,Rd);
-z16(Aa+744);
-wp(Aa+760,(u8*)65536);
-z32(Aa+768);
-wp(Aa+800,(u8*)65536);
-z24(Aa+808);
-wp(Aa+832,(u8*)65536);
-z16(Aa+840);
-wp(Aa+856,(u8*)65536);
-z32(Aa+864);
-wp(Aa+896,(u8*)65536);
-z16(Aa+904);
-wp(Aa+920,(u8*)65536);
-z24(Aa+928);
-wp(Aa+952,(u8*)65536);
-z16(Aa+960);
-wp(Aa+976,(u8*)65536);
-z16(Aa+984);
-wp(Aa+1000,(u8*)65536);
-z40(Aa+1008);
-wp(Aa+1048,(u8*)65536);
-z16(Aa+1056);
-wp(Aa+1072,(u8*)65536);
-z16(Aa+1080);
-wp(Aa+1096,(u8*)65536);
-z16(Aa+1104);
-wp(Aa+1120,(u8*)65536);
-z16(Aa+1128);
-wp(Aa+1144,(u8*)65536);
-z16(Aa+1152);
-wp(Aa+1168,(u8*)65536);
-z48(Aa+1176);
-wp(Aa+1224,(u8*)65536);
-z32(Aa+1232);
-wp(Aa+1264,(u8*)65536);
-z40(Aa+1272);
-wp(Aa+1312,(u8*)65536);
-z32(Aa+1320);
-wp(Aa+1352,(u8*)65536);
-z16(Aa+1360);
-wp(Aa+1376,(u8*)65536);
-z48(Aa+1384);
-w8(Aa+1432,Rd);
-z40(Aa+1440);
-w8(Aa+1480,Rd);
-z16(Aa+1488);
-wp(Aa+1504,(u8*)65536);
-z32(Aa+1512);
-wp(Aa+1544,(u8*)65536);
-z32(Aa+1552);
-wp(Aa+1584,(u8*)65536);
-memcpy(Aa+1592,La,32);
-wp(Aa+1624,(u8*)65536);
-memcpy(Aa+1632,Ma,104);
-wp(Aa+1736,(u8*)65536);
-memcpy(Aa+1744,Na,32);
-wp(Aa+1776,(u8*)65536);
-memcpy(Aa+1784,Oa,40);
-wp(Aa+1824,(u8*)65536);
-memcpy(Aa+1832,Pa,32);
-wp(Aa+1864,(u8*)65536);
-memcpy(Aa+1872,Qa,16);
-wp(Aa+1888,(u8*)65536);
-memcpy(Aa+1896,Ra,48);
-wp(Aa+1944,(u8*)65536);
-z32(Aa+1952);
-wp(Aa+1984,(u8*)65536);
-z16(Aa+1992);
-wp(Aa+2008,(u8*)65536);
-z16(Aa+2016);
-wp(Aa+2032,(u8*)65536);
-z16(Aa+2040);
-wp(Ba,(u8*)65536);
-z16(Ba+8);
-if(!pb){
-Af=kb==0;
-Bf=0;
-Cf=0;
-Df=0;
-L27:Ef=bb+(i64)(Df<<3);
-Ff=ab+(i64)Bf;
-Gf=r8(Ef)-Bf;
-Hf=cb+(i64)Cf;
-If=h-Cf;
-w8(ya,ob);
-z16(xa);
-if(Gf<2){
-Jf=0;
-Kf=0;
-Lf=11;}
+w8(va,r8(ua));
+va[8]=Ha>>16;
+wp(la,(u8*)65536);
+z24(la+8);
+wp(la+32,(u8*)65536);
+z16(la+40);
+wp(la+56,(u8*)65536);
+z32(la+64);
+wp(la+96,(u8*)65536);
+z16(la+104);
+wp(la+120,(u8*)65536);
+z32(la+128);
+wp(la+160,(u8*)65536);
+z80(la+168);
+wp(la+248,(u8*)65536);
+z16(la+256);
+wp(la+272,(u8*)65536);
+z40(la+280);
+wp(la+320,(u8*)65536);
+z16(la+328);
+wp(la+344,(u8*)65536);
+z16(la+352);
+wp(la+368,(u8*)65536);
+z16(la+376);
+wp(la+392,(u8*)65536);
+z16(la+400);
+wp(la+416,(u8*)65536);
+z16(la+424);
+wp(la+440,(u8*)65536);
+z48(la+448);
+wp(la+496,(u8*)65536);
+z32(la+504);
+wp(la+536,(u8*)65536);
+z32(la+544);
+wp(la+576,(u8*)65536);
+z104(la+584);
+w8(la+688,Sa);
+z40(la+696);
+w8(la+736,Sa);
+z16(la+744);
+wp(la+760,(u8*)65536);
+z32(la+768);
+wp(la+800,(u8*)65536);
+z24(la+808);
+wp(la+832,(u8*)65536);
+z16(la+840);
+wp(la+856,(u8*)65536);
+z32(la+864);
+wp(la+896,(u8*)65536);
+z16(la+904);
+wp(la+920,(u8*)65536);
+z24(la+928);
+wp(la+952,(u8*)65536);
+z16(la+960);
+wp(la+976,(u8*)65536);
+z16(la+984);
+wp(la+1000,(u8*)65536);
+z40(la+1008);
+wp(la+1048,(u8*)65536);
+z16(la+1056);
+wp(la+1072,(u8*)65536);
+z16(la+1080);
+wp(la+1096,(u8*)65536);
+z16(la+1104);
+wp(la+1120,(u8*)65536);
+z16(la+1128);
+wp(la+1144,(u8*)65536);
+z16(la+1152);
+wp(la+1168,(u8*)65536);
+z48(la+1176);
+wp(la+1224,(u8*)65536);
+z32(la+1232);
+wp(la+1264,(u8*)65536);
+z40(la+1272);
+wp(la+1312,(u8*)65536);
+z32(la+1320);
+wp(la+1352,(u8*)65536);
+z16(la+1360);
+wp(la+1376,(u8*)65536);
+z48(la+1384);
+w8(la+1432,Sa);
+z40(la+1440);
+w8(la+1480,Sa);
+z16(la+1488);
+wp(la+1504,(u8*)65536);
+z32(la+1512);
+wp(la+1544,(u8*)65536);
+z32(la+1552);
+wp(la+1584,(u8*)65536);
+z16(la+1592);
+wp(la+1608,(u8*)65536);
+z16(la+1616);
+wp(la+1632,(u8*)65536);
+z16(la+1640);
+wp(ma,(u8*)65536);
+z16(ma+8);
+if(!Ka){
+Se=Ga==0;
+Te=0;
+Ue=0;
+Ve=0;
+L27:We=xa+(i64)(Ve<<3);
+Xe=wa+(i64)Te;
+Ye=r8(We)-Te;
+Ze=ya+(i64)Ue;
+af=h-Ue;
+w8(ja,Ja);
+z16(ia);
+if(Ye<2){
+bf=0;
+cf=0;
+df=11;}
 else{
-Mf=*Ff==95;
-if(Gf==2){
-if(!Mf){
-Jf=0;
-Kf=0;
-Lf=11;
+ef=*Xe==95;
+if(Ye==2){
+if(!ef){
+bf=0;
+cf=0;
+df=11;
 goto L28;}
-switch(Ff[1]){
-case 90:Nf=0;
-Of=0;
+switch(Xe[1]){
+case 90:ff=0;
+gf=0;
 goto L29;
 case 82:break;
-default:Jf=0;
-Kf=0;
-Lf=11;
+default:bf=0;
+cf=0;
+df=11;
 goto L28;
 }}
 else{
-if(!Mf){
-Jf=0;
-Kf=0;
-Lf=11;
+if(!ef){
+bf=0;
+cf=0;
+df=11;
 goto L28;}
-switch(Ff[1]){
-case 90:Nf=0;
-Of=0;
+switch(Xe[1]){
+case 90:ff=0;
+gf=0;
 goto L29;
 case 82:break;
-case 95:switch(Ff[2]){
-case 90:Pf=0;
+case 95:switch(Xe[2]){
+case 90:hf=0;
 break;
-case 82:Pf=1;
+case 82:hf=1;
 break;
-default:Jf=0;
-Kf=0;
-Lf=11;
+default:bf=0;
+cf=0;
+df=11;
 goto L28;
 }
-if(!Af){
-Nf=1;
-Of=Pf;
+if(!Se){
+ff=1;
+gf=hf;
 goto L29;}
-Jf=0;
-Kf=0;
-Lf=11;
+bf=0;
+cf=0;
+df=11;
 goto L28;
-default:Jf=0;
-Kf=0;
-Lf=11;
+default:bf=0;
+cf=0;
+df=11;
 goto L28;
 }}
-Nf=0;
-Of=1;
-L29:Qf=Gf-Nf;
-if(Qf<16777217){
-z12(wa);
-w8(Ba+8,0);
-append_d61(wa,Ka,Aa,Of,Ff+(i64)Nf,Qf,Ba);
-if(*wa==0){
-Rf=r8(Ba+8);
-if(If<Rf){
-Sf=Rf;
-Tf=0;
-Uf=6;}
+ff=0;
+gf=1;
+L29:jf=Ye-ff;
+if(jf<16777217){
+z12(ha);
+w8(ma+8,0);
+append_d61(ha,va,la,gf,Xe+(i64)ff,jf,ma);
+if(*ha==0){
+kf=r8(ma+8);
+if(af<kf){
+lf=kf;
+mf=0;
+nf=6;}
 else{
-Vf=rp(Ba);
-if((u64)Hf-(u64)Vf<Rf){
-copy_bits_4f4(Vf,Hf,Rf);
-Sf=Rf;
-Tf=0;
-Uf=0;}
+of=rp(ma);
+if((u64)Ze-(u64)of<kf){
+copy_bits_4f4(of,Ze,kf);
+lf=kf;
+mf=0;
+nf=0;}
 else{
-memmove(Hf,Vf,Rf);
-Sf=Rf;
-Tf=0;
-Uf=0;}}}
+memmove(Ze,of,kf);
+lf=kf;
+mf=0;
+nf=0;}}}
 else{
-Wf=r4(wa+8);
-switch(wa[4]){
-case 0:Sf=0;
-Tf=uadd32(Nf,Wf);
-Uf=1;
+pf=r4(ha+8);
+switch(ha[4]){
+case 0:lf=0;
+mf=uadd32(ff,pf);
+nf=1;
 break;
-case 1:Sf=0;
-Tf=uadd32(Nf,Wf);
-Uf=2;
+case 1:lf=0;
+mf=uadd32(ff,pf);
+nf=2;
 break;
-case 2:Sf=0;
-Tf=uadd32(Nf,Wf);
-Uf=3;
+case 2:lf=0;
+mf=uadd32(ff,pf);
+nf=3;
 break;
-case 3:Sf=0;
-Tf=0;
-Uf=4;
+case 3:lf=0;
+mf=0;
+nf=4;
 break;
-case 4:Sf=0;
-Tf=0;
-Uf=5;
+case 4:lf=0;
+mf=0;
+nf=5;
 break;
 default:NEVER;
 }}
-Jf=Sf;
-Kf=Tf;
-Lf=Uf;}
+bf=lf;
+cf=mf;
+df=nf;}
 else{
-Jf=0;
-Kf=0;
-Lf=7;}}
-L28:w8(za,Jf);
-w4(za+8,Kf);
-w4(za+12,Lf);
-or_type_a12(xa,Ka,ya,Ff,Gf,Hf,If,za);
-Xf=r8(xa);
-Yf=r4(xa+12);
-Zf=db+(Df<<4);
-ag=r4(xa+8);
-x8(Zf,Xf);
-x4(Zf+8,ag);
-x4(Zf+12,Yf);
-bg=Df+1;
-if(bg!=j){
-Bf=r8(Ef);
-Cf=(Yf==0?Xf:0)+Cf;
-Df=bg;
+bf=0;
+cf=0;
+df=7;}}
+L28:w8(ka,bf);
+w4(ka+8,cf);
+w4(ka+12,df);
+or_type_a12(ia,va,ja,Xe,Ye,Ze,af,ka);
+qf=r8(ia);
+rf=r4(ia+12);
+sf=za+(Ve<<4);
+tf=r4(ia+8);
+x8(sf,qf);
+x4(sf+8,tf);
+x4(sf+12,rf);
+uf=Ve+1;
+if(uf!=j){
+Te=r8(We);
+Ue=(rf==0?qf:0)+Ue;
+Ve=uf;
 goto L27;}
-if(r8(Ba+16)!=0)port_rattle_dealloc(rp(Ba));}
-cg=rp(Aa+1944);
-dg=rp(Aa+1984);
-eg=r8(Aa+2000);
-fg=rp(Aa+2008);
-gg=r8(Aa+2024);
-hg=rp(Aa+2032);
-ig=r8(Aa+2048);
-jg=r8(Aa+1960);
-memcpy(va,Aa,1944);
-drop_1dd(va);
-if(jg!=0)port_rattle_dealloc(cg);
-if(eg!=0)port_rattle_dealloc(dg);
-if(gg!=0)port_rattle_dealloc(fg);
-if(ig!=0)port_rattle_dealloc(hg);
+if(r8(ma+16)!=0)port_rattle_dealloc(rp(ma));}
+vf=rp(la+1544);
+wf=rp(la+1584);
+xf=r8(la+1600);
+yf=rp(la+1608);
+zf=r8(la+1624);
+Af=rp(la+1632);
+Bf=r8(la+1648);
+Cf=r8(la+1560);
+memcpy(ga,la,1544);
+drop_1dd(ga);
+if(Cf!=0)port_rattle_dealloc(vf);
+if(xf!=0)port_rattle_dealloc(wf);
+if(zf!=0)port_rattle_dealloc(yf);
+if(Bf!=0)port_rattle_dealloc(Af);
 ;}
-;}
-tb=0;}}
-else tb=10;}
-else tb=8;
-L3:return tb;
+Oa=0;}}}
+else Oa=10;}
+else Oa=8;
+L3:return Oa;
 }
 /* The three functions that the proved library calls for memory. The archive has them over malloc (heap.c), or over a block that the
    thread lends (arena.c). `kept` is the size of the block that grows; a new block is aligned to 16 bytes, which is the most that
@@ -156193,8 +154958,8 @@ static void rattle_dealloc(void *block);
 /* The library's memory, over malloc, realloc and free, or those that SYMDEMANGLE_MALLOC, _REALLOC and _FREE name.
 
    The lists of a call begin small and grow some ten times, which would take a seventh of what pressing a symbol takes. So each block
-   has at least 512 bytes, in which a list grows where it is; and up to 1,024 it grows by a new block and a copy, which takes less
-   than half the instructions of glibc's realloc. A sanitizer sees blocks of just the size that was asked for. */
+   has at least 512 bytes, so that a short list grows in place; up to 1,024 bytes a list moves to a new block by a copy, which takes less
+   than half the instructions of glibc's realloc. A sanitizer sees blocks of exactly the requested size. */
 #include <stddef.h>
 #include <string.h>
 
@@ -156219,7 +154984,7 @@ static void rattle_dealloc(void *block);
 
 enum { LEAST = SYMDEMANGLE_LEAST, SMALL = 1024 };
 
-/* A call, where gcc would copy in a loop, word by word, since it knows that there are few. */
+/* memcpy as a call: gcc, which knows that there are few words, would copy them in a loop, one by one. */
 static void *(*volatile const copied)(void *, const void *, size_t) = memcpy;
 
 static struct tried tried_at(void *block)
@@ -156266,14 +155031,14 @@ static s_64_64 port_rattle_realloc(u8 *at, u64 kept, u64 size, u64 align) { retu
 static void port_rattle_dealloc(u8 *at) { if ((uintptr_t)at != 65536) rattle_dealloc(at); }
 
 #include "symdemangle.h"
-/* The proved calls of crates/symdemangle, which the calls of symdemangle.h hand on to: no pointer here is null, whatever its length.
+/* The proved calls of crates/symdemangle, to which the calls of symdemangle.h forward: no pointer here is null, whatever its length.
    What each does is said where it is proved; packages don't have these names. */
 #ifndef SYMDEMANGLE_PROVED_H
 #define SYMDEMANGLE_PROVED_H
 
 
 #define symdemangle_text_of(a0, a1, a2, a3, a4, a5, a6) symdemangle_text_of((u8 *)(uintptr_t)(a0), a1, a2, a3, (u8 *)(uintptr_t)(a4), a5, (u8 *)(uintptr_t)(a6))
-/* What a name has beside its text: how many parts that has, and the numbers of its kind and its mangling. */
+/* What a name has in addition to its text: how many parts the text has, and the numbers of the name's kind and mangling. */
 struct symdemangle_found {
     size_t count;
     uint32_t kind, mangling;
@@ -156294,7 +155059,7 @@ static int symdemangle_again_of(struct symdemangle_tries *tries, uint32_t status
 
 #endif
 
-/* The calls of symdemangle.h that need no memory of their own: they test for null, and hand on to the proved calls what can be lent
+/* The calls of symdemangle.h that need no memory of their own: they test for null, and forward to the proved calls what can be lent
    to them. */
 
 uint32_t symdemangle_version(void)
@@ -156410,8 +155175,8 @@ static int lends(const void *bytes, size_t length)
     return bytes || !length;
 }
 
-/* Makes a proved call that prints, and over a lent block again while that may help. The others take only what they need, so for them it
-   never does. */
+/* Makes a proved call that prints, and repeats it over a lent block while that may help. Other calls take only what they need, so that
+   repeating them never helps. */
 #define MAKE(call, status)                                    \
     do {                                                      \
         struct symdemangle_tries tries;                       \

@@ -26,8 +26,8 @@
 
    A call without a buffer, to learn the length first, does all the work, and the second call does it again.
 
-   Who has many names gives them to one call, symdemangle_texts. Who meets them one by one, as a profiler does, links
-   libsymdemangle_arena.a and lends it a block (symdemangle_arena.h): such a call takes 12 % fewer instructions for C++ names
+   A caller with many names gives them to one call, symdemangle_texts. A caller that meets names one by one, as a profiler does,
+   links libsymdemangle_arena.a and lends it a block (symdemangle_arena.h): such a call takes 12 % fewer instructions for C++ names
    and 16 % fewer for Rust's, and no malloc.
 
    It needs C from C99 on, or C++ from C++11 on (symdemangle.hpp has the same for std::string), and a library for 64-bit x86
@@ -35,8 +35,8 @@
    same names.
 
    What holds of every call:
-   - It answers one of the numbers of symdemangle_status. With any answer but SYMDEMANGLE_OK buffer, parts, counts and tally stay
-     as they are; with it, what follows the text in the buffer, and the parts of it in theirs, does.
+   - It answers one of the numbers of symdemangle_status. With any other than SYMDEMANGLE_OK buffer, parts, counts and tally stay
+     as they are; with SYMDEMANGLE_OK the bytes after the text in the buffer, and the parts after the text's parts, stay.
    - A name is bytes with a length, and needs no 0 byte. A text gets no 0 byte after it; symdemangle_string alone takes a C string
      and makes one.
    - Bytes, ends, results, parts and buffer may be null where their length is 0, and a tally always. Any other null is SYMDEMANGLE_NULL.
@@ -50,10 +50,10 @@
    - A symbol of n bytes is read in at most 32n + 48 steps, into at most 4n + 4 rows and 4n + 8 nodes, and its text is written
      in at most `limit` + 1 steps. This is proved. symdemangle_press takes no limit.
    - How many bytes of memory that takes isn't proved. Measured were up to 600 at once for each byte of a name, and 750 by
-     symdemangle_press, whatever the limit; the text is beside that. What symdemangle_parts takes wasn't measured. The longest
+     symdemangle_press, whatever the limit; the text comes in addition. What symdemangle_parts takes wasn't measured. The longest
      name, of 16,777,216 bytes, would take 4.9 GB, and 9.3 GB pressed. So leave out names of such a length that someone else chose.
-   - symdemangle_filter keeps at most as many bytes of the filtered text as the buffer has; besides, it takes what one word of at
-     most 65,536 bytes and its text take.
+   - symdemangle_filter keeps at most as many bytes of the filtered text as the buffer has; in addition it takes what one word of
+     at most 65,536 bytes and the word's text take.
 
    What stays, from one release to the next:
    - With the same first two numbers of the version: the names here, their types, the numbers of the statuses and flags, and
@@ -98,7 +98,7 @@ enum symdemangle_status {
     SYMDEMANGLE_NO_SPELLING = 12   /* of symdemangle_press with SYMDEMANGLE_WIDE: the symbol is read, and has no pressed spelling yet */
 };
 
-/* What is asked for, added together. One that says nothing to a call changes nothing in it. */
+/* What is requested, added together. A flag without a meaning for a call changes nothing in it. */
 enum symdemangle_flags {
     SYMDEMANGLE_BRIEF = 1,         /* template and generic arguments are left out */
     SYMDEMANGLE_NO_PARAMETERS = 2, /* each C++ function is its name alone, without return type and parameters */
@@ -113,17 +113,18 @@ enum symdemangle_flags {
     SYMDEMANGLE_WITHIN = 64,       /* of symdemangle_filter: words are those of the program `demangle`: they begin within runs of
                                       word bytes, too, as in .text._Z1fv and after typographic quotes, and may have names with
                                       bytes from 0x80: recommended. With it SYMDEMANGLE_ASCII_WORDS changes nothing */
-    SYMDEMANGLE_TYPES = 128,       /* of symdemangle_text, _texts and _string: a name that begins as no symbol does is read as a
-                                      C++ type, as typeid(..).name() gives it (PKc: char const*), where it has at most 65,536
-                                      bytes, all of them those of words, and no dot. What is no type is refused as a symbol is */
+    SYMDEMANGLE_TYPES = 128,       /* of symdemangle_text, _texts and _string: a name that doesn't begin like a symbol is read
+                                      as a C++ type, as typeid(..).name() gives it (PKc: char const*), where it has at most
+                                      65,536 bytes, all of them bytes of words, and no dot. A name that is no type is refused
+                                      for one of the reasons for which symbols are */
     SYMDEMANGLE_SHORT = 256,       /* texts of C++ names are short: without what the templates of std have by default and without
                                       its inline namespaces, and with usual names (std::string). Different names may have one
                                       short text. The limit is that of the whole text */
     SYMDEMANGLE_KEEP_INLINE = 512  /* with SYMDEMANGLE_SHORT: inline namespaces stay, and different texts stay different */
 };
 
-/* What comes with a status: of SYMDEMANGLE_OK the bytes that were written, of SYMDEMANGLE_BUFFER those that are needed, else 0;
-   and where the first bad byte, reference or number is, else 0. `status` is what the call answered. */
+/* What comes with a status: how many bytes were written (SYMDEMANGLE_OK) or are needed (SYMDEMANGLE_BUFFER), else 0; and how
+   many bytes are before the first bad byte, reference or number, else 0. `status` is what the call answered. */
 typedef struct {
     size_t length;
     uint32_t offset;
@@ -204,8 +205,8 @@ enum symdemangle_manglings {
     SYMDEMANGLE_RUST_LEGACY = 3 /* Rust's older names, with SYMDEMANGLE_LEGACY */
 };
 
-/* A part of a text: which of symdemangle_roles it is, how many bytes of the text are before it, and how many it has; and how many
-   bytes of the name are before those that spell it, and before their end. An underscore that was dropped counts. */
+/* A part of a text: which of symdemangle_roles it is; where it starts in the text, and how many bytes it has; and where the bytes
+   of the name that spell it start and end. An underscore that was dropped counts. */
 typedef struct {
     uint32_t role;
     uint32_t start;
@@ -214,9 +215,9 @@ typedef struct {
     uint32_t to;
 } symdemangle_part;
 
-/* What symdemangle_parts tells of a name. Of SYMDEMANGLE_OK the bytes and parts that were written, of SYMDEMANGLE_BUFFER those that
-   both need, and which of symdemangle_kinds and symdemangle_manglings the name is of; of any other status these four are 0. `offset`
-   and `status` are those of a symdemangle_result. */
+/* What symdemangle_parts reports of a name: how many bytes and parts were written (SYMDEMANGLE_OK) or are needed
+   (SYMDEMANGLE_BUFFER), and which of symdemangle_kinds and symdemangle_manglings the name has; with any other status these four
+   are 0. `offset` and `status` are those of a symdemangle_result. */
 typedef struct {
     size_t length;
     size_t count;
@@ -226,14 +227,14 @@ typedef struct {
     uint32_t mangling;
 } symdemangle_name;
 
-/* How many words of a filtered text begin as symbols do, were replaced by a text, and were not. */
+/* Of a filtered text's words that begin like symbols: how many there are, how many were replaced, and how many weren't. */
 typedef struct {
     uint64_t words;
     uint64_t replaced;
     uint64_t refused;
 } symdemangle_tally;
 
-/* The version of the library that is there when the program runs, as SYMDEMANGLE_VERSION is that of the header. */
+/* The version of the library with which the program runs; SYMDEMANGLE_VERSION is the header's. */
 uint32_t symdemangle_version(void);
 
 /* A status in a few words, as "not a symbol": a constant string, for any number. */
@@ -246,9 +247,9 @@ const char *symdemangle_message(uint32_t status);
 uint32_t symdemangle_text(const char *name, size_t name_length, uint32_t limit, uint32_t flags, char *buffer, size_t capacity,
                           symdemangle_result *result);
 
-/* Writes the text of a name as symdemangle_text does, and its parts to the front of `parts`: what stretches of the text are, as the
+/* Writes the text of a name as symdemangle_text does, and its parts to the front of `parts`: which stretches of the text are the
    name's scope, its base, each of its arguments and parameters. Each is a slice of the text; they are in the order of their starts,
-   and of two, one is within the other, or they are apart. Each has the bytes of the name that spell it; what a reference refers to is
+   and two of them are apart, or one is within the other. Each has the bytes of the name that spell it; what a reference refers to is
    spelled by the reference. Parts that the text doesn't have, as the hash of an older Rust name, come last: `start` is the text's length,
    and `length` is 0. 16 parts serve 99 names of 100. Where the text or the parts have no room, neither is written (SYMDEMANGLE_BUFFER).
    `parts` may be null where `part_capacity` is 0. Short texts and types have no parts: with SYMDEMANGLE_SHORT or _TYPES it answers
@@ -265,14 +266,15 @@ const char *symdemangle_kind(uint32_t kind);
    memory runs out. libsymdemangle_arena.a doesn't have it. */
 char *symdemangle_string(const char *name, uint32_t flags);
 
-/* Gives back what symdemangle_string made; null is given back by doing nothing. */
+/* Gives back what symdemangle_string made; given null, it does nothing. */
 void symdemangle_free(char *string);
 
-/* The texts of many names, with one set of lists for all of them: the call for who has more than one. Name i is in `names` from
-   ends[i - 1], of the first from 0, to ends[i]. What symdemangle_text would answer for it is in results[i]; the texts of those with
-   SYMDEMANGLE_OK are in the buffer, one after the other from its front. One that finds too little of the buffer left gets
-   SYMDEMANGLE_BUFFER, and later, shorter ones may still fit. Here `ends` and `results` have `count` entries. SYMDEMANGLE_OK (each
-   name is answered, want of memory too), _FLAGS, _ENDS, _NULL; with any answer but SYMDEMANGLE_OK the results stay as they are. */
+/* The texts of many names, with one set of lists for all of them: the call for more than one name. Name i is in `names` from
+   ends[i - 1] (the first name from 0) to ends[i]. What symdemangle_text would answer for name i is in results[i]; the texts of names
+   with SYMDEMANGLE_OK are in the buffer, one after the other from its front. A name whose text has no room in the rest of the buffer
+   gets SYMDEMANGLE_BUFFER, and later, shorter texts may still fit. Here `ends` and `results` have `count` entries. SYMDEMANGLE_OK
+   (each name is answered, also by lack of memory), _FLAGS, _ENDS, _NULL; with any answer but SYMDEMANGLE_OK the results stay as
+   they are. */
 uint32_t symdemangle_texts(const char *names, size_t names_length, const size_t *ends, size_t count, uint32_t limit,
                            uint32_t flags, char *buffer, size_t capacity, symdemangle_result *results);
 
@@ -290,9 +292,10 @@ uint32_t symdemangle_count(const char *name, size_t name_length, uint32_t flags,
                            symdemangle_result *result);
 
 /* Writes the pressed spelling of a name: the one in which each part that repeats is a reference, so that different spellings of the
-   same symbol become equal. An underscore that was dropped is before it again. With SYMDEMANGLE_WIDE a C++ symbol has one where that
-   is read as the same symbol; libraries before this call took the flag answer SYMDEMANGLE_FLAGS. SYMDEMANGLE_OK, _MALFORMED,
-   _BAD_REFERENCE, _BAD_VALUE, _MEMORY, _BUFFER, _SIZE, _FLAGS, _NULL, _NO_SYMBOL, _NO_SPELLING. */
+   same symbol become equal. An underscore that was dropped is before it again. With SYMDEMANGLE_WIDE a C++ symbol has a pressed
+   spelling only where that spelling is read as the same symbol; libraries from before this call took the flag answer
+   SYMDEMANGLE_FLAGS. SYMDEMANGLE_OK, _MALFORMED, _BAD_REFERENCE, _BAD_VALUE, _MEMORY, _BUFFER, _SIZE, _FLAGS, _NULL, _NO_SYMBOL,
+   _NO_SPELLING. */
 uint32_t symdemangle_press(const char *name, size_t name_length, uint32_t flags, char *buffer, size_t capacity,
                            symdemangle_result *result);
 

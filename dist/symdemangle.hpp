@@ -3,8 +3,8 @@
 //     std::cout << symdemangle::text_or_name("_ZN3foo3barEPKc");      // foo::bar(char const*)
 //     std::cout << symdemangle::type_or_name("PKc");                  // char const*
 //
-// What memory runs out for throws std::bad_alloc; nothing else throws. Over a shared library of an earlier version, which doesn't know
-// SYMDEMANGLE_WITHIN or SYMDEMANGLE_TYPES, these calls do without: words begin where runs do, and no types are read.
+// A call that runs out of memory throws std::bad_alloc; nothing else throws. Over a shared library of an earlier version, which doesn't
+// know SYMDEMANGLE_WITHIN or SYMDEMANGLE_TYPES, these calls do without: words begin where runs do, and no types are read.
 #ifndef SYMDEMANGLE_HPP
 #define SYMDEMANGLE_HPP
 
@@ -25,7 +25,7 @@
 
 namespace symdemangle {
 
-// What is asked for: a sum of symdemangle_flags, and what a text may cost. A text is filtered by the words of the program demangle.
+// What is requested: a sum of symdemangle_flags, and what a text may cost. A text is filtered by the words of the program demangle.
 struct options {
     std::uint32_t flags = SYMDEMANGLE_WIDE | SYMDEMANGLE_LEGACY | SYMDEMANGLE_UNDERSCORE | SYMDEMANGLE_WITHIN;
     std::uint32_t limit = SYMDEMANGLE_DEFAULT_LIMIT;
@@ -71,19 +71,19 @@ struct parsed {
 // The work that a symbol made.
 using counts = symdemangle_counts;
 
-// How many words of a text begin as symbols do, were replaced by a text, and were not.
+// Of a text's words that begin like symbols: how many there are, how many were replaced by a text, and how many weren't.
 using tally = symdemangle_tally;
 
 namespace detail {
 
-// Which of the flags say something to a call that takes names. Those of the words of a text are left out, so that a library that knows
-// them not yet isn't asked for them.
+// The flags that matter to a call that takes names. Flags for the words of a text are left out, so that a library that doesn't know
+// these flags yet doesn't get them.
 constexpr std::uint32_t of_names(std::uint32_t flags) noexcept
 {
     return flags & ~std::uint32_t{SYMDEMANGLE_WITHIN};
 }
 
-// Calls with a buffer on the stack, and once more with one of the length that was told; null where there is no text.
+// Calls with a buffer on the stack, and once more with a buffer of the reported length; null where there is no text.
 template <class Call> std::optional<std::string> written(Call call, symdemangle_result &result)
 {
     char few[4096];
@@ -108,7 +108,7 @@ inline void tell(const symdemangle_result &result, refusal *why) noexcept
 
 } // namespace detail
 
-// The text of a name, if it has one; else `why`, where that is given, says why not.
+// The text of a name, if it has one; otherwise `why`, if given, says why not.
 inline std::optional<std::string> text(std::string_view name, options asked = {}, refusal *why = nullptr)
 {
     symdemangle_result result;
@@ -121,7 +121,7 @@ inline std::optional<std::string> text(std::string_view name, options asked = {}
     return made;
 }
 
-// The text of a name with its parts, if it has one; else `why`, where that is given, says why not. Short texts and types have no parts:
+// The text of a name with its parts, if it has one; otherwise `why`, if given, says why not. Short texts and types have no parts:
 // with their flags there is none.
 inline std::optional<parsed> parts(std::string_view name, options asked = {}, refusal *why = nullptr)
 {
@@ -178,7 +178,7 @@ inline std::vector<std::string> texts_or_names(const std::vector<std::string_vie
     std::vector<symdemangle_result> results(names.size());
     if (symdemangle_texts(all.data(), all.size(), ends.data(), ends.size(), asked.limit, detail::of_names(asked.flags), &buffer[0],
                           buffer.size(), results.data()) != SYMDEMANGLE_OK)
-        return std::vector<std::string>(names.begin(), names.end()); // a flag that is none
+        return std::vector<std::string>(names.begin(), names.end()); // a number that is no flag
     std::vector<std::string> texts;
     std::size_t from = 0;
     for (std::size_t i = 0; i < names.size(); i++) {
@@ -194,7 +194,7 @@ inline std::vector<std::string> texts_or_names(const std::vector<std::string_vie
     return texts;
 }
 
-// A text with each word that is a symbol replaced by its text, and how many such words it has; null where a flag is none.
+// A text with each word that is a symbol replaced by its text, and how many such words it has; null where a number is no flag.
 inline std::optional<std::string> filtered(std::string_view log, options asked = {}, tally *found = nullptr)
 {
     symdemangle_result result;
@@ -209,7 +209,7 @@ inline std::optional<std::string> filtered(std::string_view log, options asked =
 }
 
 // The spelling of a name in which each part that repeats is a reference, so that different spellings of the same symbol become
-// equal; null where it has none. Of the flags SYMDEMANGLE_WIDE alone says anything here: newer and rarer C++ forms are spelled, too.
+// equal; null where it has none. Of the flags only SYMDEMANGLE_WIDE matters here: newer and rarer C++ forms are spelled, too.
 inline std::optional<std::string> pressed(std::string_view name, options asked, refusal *why = nullptr)
 {
     symdemangle_result result;

@@ -195,6 +195,7 @@ COLD static double product(double a, double b) { return a * b; }
 #define z104(p) x16(p,0),x16((p)+16,0),x16((p)+32,0),x16((p)+48,0),x16((p)+64,0),x16((p)+80,0),x8((p)+96,0)
 #define z112(p) x16(p,0),x16((p)+16,0),x16((p)+32,0),x16((p)+48,0),x16((p)+64,0),x16((p)+80,0),x16((p)+96,0)
 #define z120(p) x16(p,0),x16((p)+16,0),x16((p)+32,0),x16((p)+48,0),x16((p)+64,0),x16((p)+80,0),x16((p)+96,0),x8((p)+112,0)
+#define z128(p) x16(p,0),x16((p)+16,0),x16((p)+32,0),x16((p)+48,0),x16((p)+64,0),x16((p)+80,0),x16((p)+96,0),x16((p)+112,0)
 typedef struct{u64 f0;u64 f1;}s_64_64;
 typedef struct{u8 f0;u8 f1;}s_8_8;
 typedef struct{u8* f0;u64 f1;}s_p_64;
@@ -2196,10 +2197,10 @@ static const struct{const u8*m0;u8 m1[776];}t_1f19={(u8*)&t_1f19+16,{0,3,0,0,0,0
 static const u8*const t_48fc[4]={t_e2a4,t_c38c,t_bf01,t_8da6};
 static const u8*const t_1797[25]={t_1bef,t_b760,t_411b,t_2ce0,t_e764,t_76a7,t_b958,t_c8a2,t_6da8,t_c75d,0,t_fc66,t_f7e4,t_e172,t_55ee,0,0,0,t_f9b0,t_bfe7,0,
 t_445b,t_b308,t_61bc,t_4f63};
-static const u8*const t_e7e8[26]={t_1bef,t_b760,t_411b,t_2ce0,t_e764,t_76a7,t_b958,t_c8a2,t_6da8,t_c75d,0,t_fc66,t_f7e4,t_e172,t_55ee,0,0,0,t_f9b0,t_bfe7,0,
-t_445b,t_b308,t_61bc,t_4f63,t_ab5d};
 static const u8*const t_1a0f_2[21]={t_9292,0,t_a918,t_bcd9,t_1f9f,t_162d,0,t_a11a,t_9b36,0,0,0,0,t_8dac,0,0,0,0,t_289b,0,t_47de};
 static const u8*const t_7cd2[3]={t_c4eb,t_b0d6,t_fa32};
+static const u8*const t_e7e8[26]={t_1bef,t_b760,t_411b,t_2ce0,t_e764,t_76a7,t_b958,t_c8a2,t_6da8,t_c75d,0,t_fc66,t_f7e4,t_e172,t_55ee,0,0,0,t_f9b0,t_bfe7,0,
+t_445b,t_b308,t_61bc,t_4f63,t_ab5d};
 static const u8*const t_ae2b[66]={t_445b,t_b308,t_b760,t_411b,t_1bef,t_c8a2,t_f9b0,t_bfe7,t_6da8,t_c75d,t_fc66,t_f7e4,t_61bc,t_4f63,t_e172,t_55ee,t_76a7,t_2ce0,
 t_e764,t_b958,t_ab5d,t_9b36,t_289b,t_47de,t_9292,t_a918,t_8dac,t_bcd9,t_1f9f,t_162d,t_a11a,t_5ec9,t_9945,t_71fc,t_e6f6,t_a66e,
 t_0bf1,t_0929,t_a59d,t_4732,t_67dd,t_662c,t_213a,t_727e,t_0b5b,t_77a1,t_71af,t_1e04,t_f3cb,t_c270,t_2b84,t_5acd,t_9508,t_0bfe,
@@ -2427,7 +2428,7 @@ static void run_of_1dc(u8* a,u8* b,u8* c);
 static void print_run_fa3(u8* a,u8* b,u8* c,u8* d,u8* e,u8* f,u8 g);
 static void open_run_744(u8* a,u8* b,u8* c,u8* d);
 static COLD u8 grow_amortized_ab4(u8* a);
-static void look_df9(u8* a,u8* b,u32 c,u8* d,u64 e);
+static void look_df9(u8* a,u8* b,u8* c,u64 d);
 static COLD u8 grow_amortized_74b(u8* a,u64 b);
 static void fill_rare_piece_017(u8* a,u8* b,u8* c,u8* d);
 static void fill_lambda_b73(u8* a,u8* b,u32 c,u64 d,u8* e);
@@ -2514,7 +2515,6 @@ static u8 push_refused_bbc(u8 a,u8* b,u64 c,u8 d,u32 e,u8* f,u8* g);
 static COLD void format_ce9(u8* a,u8* b,u64 c);
 static void format_c1f(u8* a,u8* b);
 static void append_e62(u8* a,u8* b,u8* c,u8 d,u8* e,u64 f,u8* g);
-static u8 write_less_2c7(u8* a,u8* b,u64 c,u32 d,u8 e,u8 f);
 static u8 run_48b(u8* a,u8* b,u64 c,u32 d);
 static u8 are_few_named_14c(u8* a,u64 b);
 static u8 make_ready_8e3(u8* a,u64 b,u64 c);
@@ -2523,7 +2523,6 @@ static void nest_at_dce(u8* a,u8* b,u8* c,u64 d,u8* e);
 static u8 tag_9a7(u8* a,u8* b,u64 c);
 static void long_name_at_8ad(u8* a,u8* b,u64 c,u64 d);
 static u8 make_ready_17a(u8* a);
-static COLD u8 grow_amortized_53f(u8* a,u64 b);
 static u8 make_ready_9a1(u8* a);
 static COLD u8 grow_amortized_920(u8* a,u64 b);
 static void long_seq_at_897(u8* a,u8* b,u64 c,u64 d);
@@ -2808,8 +2807,9 @@ static void next_enumerator_59c(u8* a,u8* b,u8* c,u64 d,u8 e,u8* f);
 static void first_literal_f44(u8* a,u8* b,u8* c,u64 d);
 static void first_enumerator_d2d(u8* a,u8* b,u8* c,u64 d);
 static void literal_43d(u8* a,u8* b,u8* c,u64 d);
-static u8 write_brief_939(u8* a,u8* b,u64 c,u32 d);
-static u8 run_80f(u8* a,u8* b,u64 c,u32 d);
+static u8 write_less_2c7(u8* a,u8* b,u64 c,u32 d,u8 e,u8 f);
+static void append_in_c46(u8* a,u8* b,u8* c,u64 d,u32 e,u8 f,u8* g);
+static u8 run_41f(u8* a,u8* b,u64 c,u32 d);
 static COLD u8 grow_amortized_3c2(u8* a,u64 b);
 static u8 make_ready_e3c(u8* a);
 static COLD u8 grow_amortized_12f(u8* a,u64 b);
@@ -2820,17 +2820,16 @@ static u8 push_decimal_701(u8* a,u64 b);
 static void any_number_at_3d4(u8* a,u8* b,u64 c,u64 d);
 static s_8_64 any_disambiguator_end_f9c(u8* a,u64 b,u64 c);
 static u8 are_any_name_bytes_0a3(u8* a,u64 b,u64 c);
-static u8 crate_named_anyhow_841(u8* a,u8* b,u64 c,u64 d);
+static u8 crate_named_anyhow_a78(u8* a,u8* b,u64 c,u64 d);
 static void any_name_span_9bc(u8* a,u8* b,u64 c,u64 d);
-static u8 begin_inner_impl_f25(u8* a,u64 b);
-static u8 begin_inner_trait_impl_a3f(u8* a,u64 b);
-static u8 unnamed_ended_c46(u8* a,u8* b,u64 c,u64 d,u64 e,u8 f);
-static u8 nest_named_anyhow_de3(u8* a,u8* b,u64 c,u64 d,u8 e,u64 f,u64 g);
-static void push_suffix_49c(u8* a,u8* b,u8* c,u64 d);
-static void special_named_1bc(u8* a,u8* b,u8* c,u64 d,u64 e,u8 f,u64 g,u8* h,u64 i);
+static u8 begin_inner_impl_daa(u8* a,u64 b);
+static u8 begin_inner_trait_impl_412(u8* a,u64 b);
+static u8 unnamed_ended_2a9(u8* a,u8* b,u64 c,u64 d,u64 e,u8 f);
+static u8 nest_named_anyhow_896(u8* a,u8* b,u64 c,u64 d,u8 e,u64 f,u64 g);
+static void push_suffix_a57(u8* a,u8* b,u8* c,u64 d);
+static void special_named_040(u8* a,u8* b,u8* c,u64 d,u64 e,u8 f,u64 g,u8* h,u64 i);
 static u8 push_special_c7d(u8* a,u8* b,u64 c,u8* d,u64 e,u64 f);
-static void append_in_c46(u8* a,u8* b,u8* c,u64 d,u32 e,u8 f,u8* g);
-static u8 run_41f(u8* a,u8* b,u64 c,u32 d);
+static u8 run_80f(u8* a,u8* b,u64 c,u32 d);
 static void append_named_70e(u8* a,u8* b,u8* c,u8 d,u8* e,u64 f,u64 g,u64 h,u8* i);
 static s_8_8 write_120(u8* a,u8* b,u8* c);
 static void drop_816(u8* a);
@@ -3335,7 +3334,7 @@ L1:return c;
 static s_8_8 run_over_125(u8* a,u64 b,u8* c,u8* d,u8* e)
 {
 u8 qa[679],ra[679],sa[679],za[679],Aa[679],Ha[679],Ia[679],Oa[679],Sa[679],Ua[679],Va[679],Wa[679],Xa[679],ab[679];
-A16 u8 f[1944],g[1944],h[12],i[12],j[48],k[48],l[16],m[1944],n[1944],o[80],p[24],q[2024],r[2024],s[1944],t[1944],u[12],v[12],w[48],x[48],y[16],z[1944],A[1944],B[80],C[24],D[2024],E[2024],F[12],G[32],H[64],I[56],J[40],K[16],L[16],M[16],N[16],O[16],P[16],Q[16],R[16],S[16],T[16],U[16],V[12],W[672],X[608],Y[16],Z[40],aa[24],ba[24],ca[128],da[48],ea[8],fa[24],ga[672],ha[680],ia[672],ja[608],ka[680],la[672],ma[608],na[680],oa[672],pa[608],ta[680],ua[672],va[608],wa[680],xa[672],ya[608],Ba[680],Ca[672],Da[608],Ea[680],Fa[672],Ga[608],Ja[680],Ka[672],La[608],Ma[680],Na[608],Pa[680],Qa[672],Ra[608],Ta[680],Ya[672],Za[608];
+A16 u8 f[1544],g[1544],h[12],i[12],j[48],k[48],l[16],m[1544],n[1544],o[80],p[24],q[1624],r[1624],s[1544],t[1544],u[12],v[12],w[48],x[48],y[16],z[1544],A[1544],B[80],C[24],D[1624],E[1624],F[12],G[32],H[64],I[56],J[40],K[16],L[16],M[16],N[16],O[16],P[16],Q[16],R[16],S[16],T[16],U[16],V[12],W[672],X[608],Y[16],Z[40],aa[24],ba[24],ca[128],da[48],ea[8],fa[24],ga[672],ha[680],ia[672],ja[608],ka[680],la[672],ma[608],na[680],oa[672],pa[608],ta[680],ua[672],va[608],wa[680],xa[672],ya[608],Ba[680],Ca[672],Da[608],Ea[680],Fa[672],Ga[608],Ja[680],Ka[672],La[608],Ma[680],Na[608],Pa[680],Qa[672],Ra[608],Ta[680],Ya[672],Za[608];
 u8 bb,cb,db,eb,fb,gb,hb,ib,jb,kb,nb,vb,yb,Ib,Qb,Sb,Tb,uc,zc,Cc,Ec,Gc,ad,pd,Hd,Ld,Pd,le,xe,pf,qf,vf,yf,Df,Ef,If,Pf,Rf,Xf,Zf,eg,fg,kg,ng,rg,sg,vg,wg,Bg,Eg,Fg,Kg,Ng,Og,Tg,Wg,Xg,ch,fh,gh,lh,mh,nh,oh,rh,uh,vh,wh,xh,yh,Ah,Bh,Ch,Dh,Eh,Fh,Sh,Uh,Vh,Wh,Xh,Zh,ai,bi,ci,di,ei,fi,gi,hi,ii,ni,ti,zi,Ai,Gi,Hi,Oi,ej,fj,gj,hj,ij,pj,xj,Bj,Cj,Dj,Fj,Gj,Hj,Kj,Lj,Mj,Nj,Pj,Qj,dk,ek,uk,Dk,Kk,Sk,Yk,gl,ml,pl,Cl,Ol,Tl,bm,km,rm,sm,tm,Cm,cn,sn,tn,un,vn,wn,Dn,Ln,Pn,Qn,Rn,Tn,Un,Vn,Yn,Zn,ao,bo,eo,fo,so,to,Jo,So,Zo,hp,op,Ap,Gp,Jp,Wp,iq,nq,vq,Eq,Lq,Mq,Nq,Wq,qr;
 u8 *lb,*pb,*sb,*tb,*wb,*Eb,*Hb,*Kb,*Nb,*Pb,*ec,*qc,*xc,*yc,*Lc,*Nc,*Oc,*Pc,*Qc,*Tc,*Vc,*Xc,*Yc,*bd,*dd,*hd,*id,*kd,*ud,*yd,*Ad,*Bd,*Dd,*Gd,*Id,*Od,*Qd,*Ud,*Vd,*Xd,*ae,*ee,*fe,*he,*ne,*re,*se,*ue,*He,*Le,*Me,*Oe,*Re,*We,*bf,*ff,*gf,*jf,*mf,*nf,*rf,*tf,*wf,*zf,*Bf,*Ff,*Jf,*Mf,*cg,*gg,*ig,*lg,*og,*tg,*xg,*zg,*Cg,*Gg,*Ig,*Lg,*Pg,*Rg,*Ug,*Yg,*ah,*dh,*hh,*jh,*ph,*Lh,*Mh,*Oh,*Rh,*ji,*ki,*pi,*qi,*vi,*yi,*Li,*Ti,*Xi,*jj,*kj,*mj,*rj,*uj,*Jj,*Vj,*Zj,*rk,*yk,*zk,*Ok,*Rk,*cl,*dl,*kl,*ll,*rl,*Gl,*Hl,*Sl,*Zl,*am,*em,*hm,*pm,*qm,*vm,*Em,*Fm,*Hm,*Km,*Lm,*Nm,*Qm,*Rm,*Tm,*Zm,*hn,*ln,*xn,*yn,*An,*Fn,*In,*Xn,*ko,*oo,*Go,*No,*Oo,*dp,*gp,*up,*vp,*Ep,*Fp,*Lp,*aq,*bq,*mq,*tq,*uq,*yq,*Bq,*Jq,*Kq,*Pq,*Yq,*Zq,*br,*er,*fr,*hr,*kr,*lr,*nr;
 u64 mb,ob,qb,rb,ub,xb,zb,Ab,Bb,Cb,Db,Fb,Gb,Jb,Lb,Mb,Ob,Ub,Vb,Wb,Xb,Yb,Zb,ac,bc,cc,dc,fc,gc,hc,ic,jc,kc,lc,mc,nc,oc,pc,rc,sc,tc,wc,Ac,Bc,Dc,Fc,Hc,Ic,Jc,Kc,Mc,Rc,Sc,Uc,Wc,Zc,cd,ed,fd,gd,jd,ld,md,nd,od,qd,sd,td,vd,xd,zd,Cd,Ed,Fd,Jd,Kd,Md,Nd,Rd,Sd,Td,Wd,Yd,Zd,be,ce,de,ge,ie,je,ke,me,oe,pe,qe,te,ve,we,ye,ze,Ae,Be,Ce,De,Ee,Fe,Ge,Ie,Je,Ke,Ne,Pe,Qe,Se,Te,Ue,Ve,Xe,Ye,Ze,af,cf,df,ef,hf,kf,lf,of,xf,Gf,Lf,Nf,Of,Qf,Sf,Tf,Uf,Vf,Wf,Yf,ag,bg,dg,mg,ug,Dg,Mg,Vg,eh,qh,sh,Gh,Hh,Ih,Jh,Kh,Nh,Ph,Qh,Th,li,mi,oi,ri,si,ui,wi,xi,Bi,Ci,Di,Ei,Fi,Ii,Ki,Mi,Ni,Pi,Qi,Ri,Si,Ui,Vi,Yi,Zi,aj,bj,cj,dj,lj,nj,oj,qj,sj,tj,vj,wj,Aj,Ej,Ij,Rj,Sj,Tj,Uj,Yj,ak,bk,fk,gk,jk,kk,lk,mk,nk,ok,qk,sk,tk,vk,wk,xk,Ak,Bk,Ck,Ek,Fk,Gk,Hk,Ik,Jk,Lk,Mk,Nk,Pk,Tk,Uk,Vk,Wk,Xk,Zk,al,bl,el,fl,hl,il,jl,nl,ql,sl,tl,ul,vl,wl,xl,yl,Al,Bl,Dl,El,Fl,Il,Jl,Kl,Ll,Ml,Nl,Ql,Rl,Ul,Vl,Wl,Xl,Yl,cm,dm,fm,gm,im,jm,lm,mm,nm,om,wm,xm,ym,zm,Am,Bm,Dm,Gm,Im,Jm,Mm,Om,Pm,Sm,Um,Vm,Wm,Ym,an,bn,dn,en,fn,gn,in,jn,mn,nn,on,pn,qn,rn,zn,Bn,Cn,En,Gn,Hn,Jn,Kn,On,Sn,Wn,go,ho,io,jo,no,po,qo,uo,vo,yo,zo,Ao,Bo,Co,Do,Fo,Ho,Io,Ko,Lo,Mo,Po,Qo,Ro,To,Uo,Vo,Wo,Xo,Yo,ap,bp,cp,ep,ip,jp,kp,lp,np,pp,sp,tp,yp,zp,Bp,Cp,Dp,Hp,Kp,Mp,Np,Op,Pp,Qp,Rp,Sp,Up,Vp,Xp,Yp,Zp,cq,dq,eq,fq,gq,hq,kq,lq,oq,pq,qq,rq,sq,wq,xq,zq,Aq,Cq,Dq,Fq,Gq,Hq,Iq,Qq,Rq,Sq,Tq,Uq,Vq,Xq,ar,cr,dr,gr,ir,jr,mr,or,pr;
@@ -5116,8 +5115,8 @@ case 0:filter_in_fc4(G,F,c,d);
 break;
 case 1:filter_in_d80(G,F,c,d);
 break;
-case 2:zero_all(D+1264,760);
-zero_all(E,2024);
+case 2:z120(D+1504);
+zero_all(E,1624);
 *B=ci;
 z7(B+1);
 wp(B+8,(u8*)65536);
@@ -5125,18 +5124,6 @@ z64(B+16);
 wp(C,(u8*)65536);
 z16(C+8);
 Ii=(u64)(u8*)65536;
-z32(D+1512);
-z32(D+1552);
-z32(D+1592);
-z104(D+1632);
-z32(D+1744);
-z40(D+1784);
-z32(D+1832);
-z16(D+1872);
-z48(D+1896);
-z16(D+1952);
-z16(D+1976);
-z16(D+2000);
 wp(D,(u8*)65536);
 z24(D+8);
 wp(D+32,(u8*)65536);
@@ -5220,19 +5207,15 @@ z40(D+1440);
 w8(D+1480,Ii);
 z16(D+1488);
 wp(D+1504,(u8*)65536);
+z32(D+1512);
 wp(D+1544,(u8*)65536);
-wp(D+1584,(u8*)65536);
-wp(D+1624,(u8*)65536);
-wp(D+1736,(u8*)65536);
-wp(D+1776,(u8*)65536);
-wp(D+1824,(u8*)65536);
-wp(D+1864,(u8*)65536);
-wp(D+1888,(u8*)65536);
-wp(D+1944,(u8*)65536);
-wp(D+1968,(u8*)65536);
-wp(D+1992,(u8*)65536);
-w4(D+2016,65);
-w4(D+2020,0);
+z16(D+1552);
+wp(D+1568,(u8*)65536);
+z16(D+1576);
+wp(D+1592,(u8*)65536);
+z16(D+1600);
+w4(D+1616,65);
+w4(D+1620,0);
 Ji=port_rattle_alloc(16384,1);
 if((u8)(Ji.f0&1)){
 Ki=Ji.f1;
@@ -5280,7 +5263,7 @@ w8(d+8,r8(d+8)+1);
 ej=1;
 goto L77;
 L75:port_rattle_dealloc(Li);
-memcpy(E,D,2024);
+memcpy(E,D,1624);
 drop_982(E);
 if(r8(C+16)!=0)port_rattle_dealloc(Xi);
 if(r8(B+24)==0){
@@ -5292,13 +5275,13 @@ ij=0;
 goto L79;}
 ej=Wi.f1;
 L77:port_rattle_dealloc(Li);
-jj=rp(D+1944);
-kj=rp(D+1968);
-lj=r8(D+1984);
-mj=rp(D+1992);
-nj=r8(D+2008);
-oj=r8(D+1960);
-memcpy(s,D,1944);
+jj=rp(D+1544);
+kj=rp(D+1568);
+lj=r8(D+1584);
+mj=rp(D+1592);
+nj=r8(D+1608);
+oj=r8(D+1560);
+memcpy(s,D,1544);
 drop_816(s);
 if(oj!=0)port_rattle_dealloc(jj);
 if(lj!=0)port_rattle_dealloc(kj);
@@ -5872,13 +5855,13 @@ Oi=Ol;
 goto L73;
 L107:Cm=ml;
 L121:port_rattle_dealloc(Li);
-Em=rp(D+1944);
-Fm=rp(D+1968);
-Gm=r8(D+1984);
-Hm=rp(D+1992);
-Im=r8(D+2008);
-Jm=r8(D+1960);
-memcpy(t,D,1944);
+Em=rp(D+1544);
+Fm=rp(D+1568);
+Gm=r8(D+1584);
+Hm=rp(D+1592);
+Im=r8(D+1608);
+Jm=r8(D+1560);
+memcpy(t,D,1544);
 drop_816(t);
 if(Jm!=0)port_rattle_dealloc(Em);
 if(Gm!=0)port_rattle_dealloc(Fm);
@@ -5893,13 +5876,13 @@ ij=Cm;
 goto L79;}
 L74:w8(c+8216,r8(c+8216)+1);
 port_rattle_dealloc(Li);
-Km=rp(D+1944);
-Lm=rp(D+1968);
-Mm=r8(D+1984);
-Nm=rp(D+1992);
-Om=r8(D+2008);
-Pm=r8(D+1960);
-memcpy(z,D,1944);
+Km=rp(D+1544);
+Lm=rp(D+1568);
+Mm=r8(D+1584);
+Nm=rp(D+1592);
+Om=r8(D+1608);
+Pm=r8(D+1560);
+memcpy(z,D,1544);
 drop_816(z);
 if(Pm!=0)port_rattle_dealloc(Km);
 if(Mm!=0)port_rattle_dealloc(Lm);
@@ -5912,13 +5895,13 @@ goto L78;}
 hj=1;
 ij=0;}
 else{
-Qm=rp(D+1944);
-Rm=rp(D+1968);
-Sm=r8(D+1984);
-Tm=rp(D+1992);
-Um=r8(D+2008);
-Vm=r8(D+1960);
-memcpy(A,D,1944);
+Qm=rp(D+1544);
+Rm=rp(D+1568);
+Sm=r8(D+1584);
+Tm=rp(D+1592);
+Um=r8(D+1608);
+Vm=r8(D+1560);
+memcpy(A,D,1544);
 drop_816(A);
 if(Vm!=0)port_rattle_dealloc(Qm);
 if(Sm!=0)port_rattle_dealloc(Rm);
@@ -5936,8 +5919,8 @@ gj=ij;
 L78:*G=fj;
 G[1]=gj;
 break;
-case 3:zero_all(q+1264,760);
-zero_all(r,2024);
+case 3:z120(q+1504);
+zero_all(r,1624);
 *o=ci;
 z7(o+1);
 wp(o+8,(u8*)65536);
@@ -5945,18 +5928,6 @@ z64(o+16);
 wp(p,(u8*)65536);
 z16(p+8);
 Wm=(u64)(u8*)65536;
-z32(q+1512);
-z32(q+1552);
-z32(q+1592);
-z104(q+1632);
-z32(q+1744);
-z40(q+1784);
-z32(q+1832);
-z16(q+1872);
-z48(q+1896);
-z16(q+1952);
-z16(q+1976);
-z16(q+2000);
 wp(q,(u8*)65536);
 z24(q+8);
 wp(q+32,(u8*)65536);
@@ -6040,19 +6011,15 @@ z40(q+1440);
 w8(q+1480,Wm);
 z16(q+1488);
 wp(q+1504,(u8*)65536);
+z32(q+1512);
 wp(q+1544,(u8*)65536);
-wp(q+1584,(u8*)65536);
-wp(q+1624,(u8*)65536);
-wp(q+1736,(u8*)65536);
-wp(q+1776,(u8*)65536);
-wp(q+1824,(u8*)65536);
-wp(q+1864,(u8*)65536);
-wp(q+1888,(u8*)65536);
-wp(q+1944,(u8*)65536);
-wp(q+1968,(u8*)65536);
-wp(q+1992,(u8*)65536);
-w4(q+2016,65);
-w4(q+2020,0);
+z16(q+1552);
+wp(q+1568,(u8*)65536);
+z16(q+1576);
+wp(q+1592,(u8*)65536);
+z16(q+1600);
+w4(q+1616,65);
+w4(q+1620,0);
 Xm=port_rattle_alloc(16384,1);
 if((u8)(Xm.f0&1)){
 Ym=Xm.f1;
@@ -6100,7 +6067,7 @@ w8(d+8,r8(d+8)+1);
 sn=1;
 goto L126;
 L124:port_rattle_dealloc(Zm);
-memcpy(r,q,2024);
+memcpy(r,q,1624);
 drop_982(r);
 if(r8(p+16)!=0)port_rattle_dealloc(ln);
 if(r8(o+24)==0){
@@ -6112,13 +6079,13 @@ wn=0;
 goto L128;}
 sn=kn.f1;
 L126:port_rattle_dealloc(Zm);
-xn=rp(q+1944);
-yn=rp(q+1968);
-zn=r8(q+1984);
-An=rp(q+1992);
-Bn=r8(q+2008);
-Cn=r8(q+1960);
-memcpy(f,q,1944);
+xn=rp(q+1544);
+yn=rp(q+1568);
+zn=r8(q+1584);
+An=rp(q+1592);
+Bn=r8(q+1608);
+Cn=r8(q+1560);
+memcpy(f,q,1544);
 drop_816(f);
 if(Cn!=0)port_rattle_dealloc(xn);
 if(zn!=0)port_rattle_dealloc(yn);
@@ -6692,13 +6659,13 @@ cn=iq;
 goto L122;
 L156:Wq=Gp;
 L170:port_rattle_dealloc(Zm);
-Yq=rp(q+1944);
-Zq=rp(q+1968);
-ar=r8(q+1984);
-br=rp(q+1992);
-cr=r8(q+2008);
-dr=r8(q+1960);
-memcpy(g,q,1944);
+Yq=rp(q+1544);
+Zq=rp(q+1568);
+ar=r8(q+1584);
+br=rp(q+1592);
+cr=r8(q+1608);
+dr=r8(q+1560);
+memcpy(g,q,1544);
 drop_816(g);
 if(dr!=0)port_rattle_dealloc(Yq);
 if(ar!=0)port_rattle_dealloc(Zq);
@@ -6713,13 +6680,13 @@ wn=Wq;
 goto L128;}
 L123:w8(c+8216,r8(c+8216)+1);
 port_rattle_dealloc(Zm);
-er=rp(q+1944);
-fr=rp(q+1968);
-gr=r8(q+1984);
-hr=rp(q+1992);
-ir=r8(q+2008);
-jr=r8(q+1960);
-memcpy(m,q,1944);
+er=rp(q+1544);
+fr=rp(q+1568);
+gr=r8(q+1584);
+hr=rp(q+1592);
+ir=r8(q+1608);
+jr=r8(q+1560);
+memcpy(m,q,1544);
 drop_816(m);
 if(jr!=0)port_rattle_dealloc(er);
 if(gr!=0)port_rattle_dealloc(fr);
@@ -6732,13 +6699,13 @@ goto L127;}
 vn=1;
 wn=0;}
 else{
-kr=rp(q+1944);
-lr=rp(q+1968);
-mr=r8(q+1984);
-nr=rp(q+1992);
-or=r8(q+2008);
-pr=r8(q+1960);
-memcpy(n,q,1944);
+kr=rp(q+1544);
+lr=rp(q+1568);
+mr=r8(q+1584);
+nr=rp(q+1592);
+or=r8(q+1608);
+pr=r8(q+1560);
+memcpy(n,q,1544);
 drop_816(n);
 if(pr!=0)port_rattle_dealloc(kr);
 if(mr!=0)port_rattle_dealloc(lr);
@@ -36371,3178 +36338,2625 @@ return E;
 /* symfilt_command::command::answer_symbols */
 static s_8_8 answer_symbols_e88(u8* a,u8* b,u64 c,u8* d,u8* e)
 {
-u8 I[24],J[16],K[32],L[16],M[32],N[80],O[16],P[40],Q[16],R[16],S[16],T[16],U[16],V[48],W[32],X[32],Y[104],Z[40],aa[16],ba[32],ca[24],da[16],ea[32],fa[16],ga[24],ha[16],ia[16],ja[40],ka[16],la[16],ma[16],na[16],oa[16],pa[48],qa[32],ra[40],sa[32],ta[16],ua[48],va[40],wa[16],xa[32],ya[32],za[32],Aa[104],Ba[32],Ca[40],Da[32],Ea[16],Fa[48],Ga[32],Ha[16],Ia[16],Ja[16],ic[24],jc[16],kc[32],lc[16],mc[32],nc[80],oc[16],pc[40],qc[16],rc[16],sc[16],tc[16],uc[16],vc[48],wc[32],xc[32],yc[104],zc[40],Ac[16],Bc[32],Cc[24],Dc[16],Ec[32],Fc[16],Gc[24],Hc[16],Ic[16],Jc[40],Kc[16],Lc[16],Mc[16],Nc[16],Oc[16],Pc[48],Qc[32],Rc[40],Sc[32],Tc[16],Uc[48],Vc[40],Wc[16],Xc[32],Yc[32],Zc[32],ad[104],bd[32],cd[40],dd[32],ed[16],fd[48],gd[32],hd[16],id[16],jd[16],Ke[24],Le[16],Me[32],Ne[16],Oe[32],Pe[80],Qe[16],Re[40],Se[16],Te[16],Ue[16],Ve[16],We[16],Xe[48],Ye[32],Ze[32],af[104],bf[40],cf[16],df[32],ef[24],ff[16],gf[32],hf[16],jf[24],kf[16],lf[16],mf[40],nf[16],of[16],pf[16],qf[16],rf[16],sf[48],tf[32],uf[40],vf[32],wf[16],xf[48],yf[40],zf[16],Af[32],Bf[32],Cf[32],Df[104],Ef[32],Ff[40],Gf[32],Hf[16],If[48],Jf[32],Kf[16],Lf[16],Mf[16],lh[24],mh[16],nh[32],oh[16],ph[32],qh[80],rh[16],sh[40],th[16],uh[16],vh[16],wh[16],xh[16],yh[48],zh[32],Ah[32],Bh[104],Ch[40],Dh[16],Eh[32],Fh[24],Gh[16],Hh[32],Ih[16],Jh[24],Kh[16],Lh[16],Mh[40],Nh[16],Oh[16],Ph[16],Qh[16],Rh[16],Sh[48],Th[32],Uh[40],Vh[32],Wh[16],Xh[48],Yh[40],Zh[16],ai[32],bi[32],ci[32],di[104],ei[32],fi[40],gi[32],hi[16],ii[48],ji[32],ki[16],li[16],mi[16];
-A16 u8 f[16],g[16],h[1944],i[48],j[1944],k[1944],l[1944],m[1944],n[1944],o[16],p[16],q[1944],r[48],s[1944],t[1944],u[1944],v[1944],w[1944],x[1944],y[1944],z[1944],A[1944],B[1944],C[12],D[16],E[12],F[12],G[2056],H[48],Ka[24],La[16],Ma[32],Na[16],Oa[32],Pa[80],Qa[16],Ra[40],Sa[16],Ta[16],Ua[16],Va[16],Wa[16],Xa[48],Ya[32],Za[32],ab[104],bb[40],cb[16],db[32],eb[24],fb[16],gb[32],hb[16],ib[24],jb[16],kb[16],lb[40],mb[16],nb[16],ob[16],pb[16],qb[16],rb[48],sb[32],tb[40],ub[32],vb[16],wb[48],xb[40],yb[16],zb[32],Ab[32],Bb[32],Cb[104],Db[32],Eb[40],Fb[32],Gb[16],Hb[48],Ib[32],Jb[16],Kb[16],Lb[16],Mb[12],Nb[16],Ob[1944],Pb[48],Qb[1944],Rb[1944],Sb[1944],Tb[1944],Ub[1944],Vb[8],Wb[12],Xb[1944],Yb[1944],Zb[1944],ac[1944],bc[1944],cc[12],dc[16],ec[12],fc[12],gc[2056],hc[48],kd[24],ld[16],md[32],nd[16],od[32],pd[80],qd[16],sd[40],td[16],ud[16],vd[16],xd[16],yd[16],zd[48],Ad[32],Bd[32],Cd[104],Dd[40],Ed[16],Fd[32],Gd[24],Hd[16],Id[32],Jd[16],Kd[24],Ld[16],Md[16],Nd[40],Od[16],Pd[16],Qd[16],Rd[16],Sd[16],Td[48],Ud[32],Vd[40],Wd[32],Xd[16],Yd[48],Zd[40],ae[16],be[32],ce[32],de[32],ee[104],fe[32],ge[40],he[32],ie[16],je[48],ke[32],le[16],me[16],ne[16],oe[12],pe[16],qe[1944],re[48],se[1944],te[1944],ue[1944],ve[1944],we[1944],xe[8],ye[12],ze[1944],Ae[1944],Be[1944],Ce[1944],De[1944],Ee[12],Fe[16],Ge[12],He[12],Ie[2056],Je[48],Nf[24],Of[16],Pf[32],Qf[16],Rf[32],Sf[80],Tf[16],Uf[40],Vf[16],Wf[16],Xf[16],Yf[16],Zf[16],ag[48],bg[32],cg[32],dg[104],eg[40],fg[16],gg[32],hg[24],ig[16],jg[32],kg[16],lg[24],mg[16],ng[16],og[40],pg[16],qg[16],rg[16],sg[16],tg[16],ug[48],vg[32],wg[40],xg[32],yg[16],zg[48],Ag[40],Bg[16],Cg[32],Dg[32],Eg[32],Fg[104],Gg[32],Hg[40],Ig[32],Jg[16],Kg[48],Lg[32],Mg[16],Ng[16],Og[16],Pg[12],Qg[16],Rg[1944],Sg[48],Tg[1944],Ug[1944],Vg[1944],Wg[1944],Xg[1944],Yg[8],Zg[12],ah[1944],bh[1944],ch[1944],dh[1944],eh[1944],fh[12],gh[16],hh[12],ih[12],jh[2056],kh[48],ni[24],oi[16],pi[32],qi[16],ri[32],si[80],ti[16],ui[40],vi[16],wi[16],xi[16],yi[16],zi[16],Ai[48],Bi[32],Ci[32],Di[104],Ei[40],Fi[16],Gi[32],Hi[24],Ii[16],Ji[32],Ki[16],Li[24],Mi[16],Ni[16],Oi[40],Pi[16],Qi[16],Ri[16],Si[16],Ti[16],Ui[48],Vi[32],Wi[40],Xi[32],Yi[16],Zi[48],aj[40],bj[16],cj[32],dj[32],ej[32],fj[104],gj[32],hj[40],ij[32],jj[16],kj[48],lj[32],mj[16],nj[16],oj[16],pj[12],qj[16],rj[1944],sj[48],tj[1944],uj[1944],vj[1944],wj[1944],xj[1944],yj[8],zj[12];
-u32 Aj,ql,rl,sl,Bl,Cl,eo,fo,go,po,qo,Ao,xr,yr,zr,Ir,Jr,iu,ju,ku,tu,uu,Eu,Zv,sw,Xw,qx;
-u8 Bj,Cj,Dj,Ej,Fj,Gj,Ij,Jj,Qj,Sj,Vj,Xj,Yj,Zj,ak,bk,ck,dk,ek,hk,ik,nk,rk,xk,Dk,Hk,Ik,Jk,Lk,Nk,Ok,Qk,Rk,Sk,Uk,Xk,Yk,Zk,al,cl,dl,kl,ml,tl,vl,xl,yl,zl,Al,Dl,El,Fl,Gl,Hl,Jl,Nl,Ol,Pl,Rl,am,bm,cm,mm,xm,Gm,Pm,Qm,Sm,Tm,an,cn,fn,hn,in,jn,kn,ln,mn,nn,on,qn,un,vn,wn,yn,An,Bn,Dn,En,Fn,Hn,Kn,Ln,Mn,Nn,Pn,Qn,Xn,Zn,ho,jo,lo,mo,no,oo,ro,so,to,uo,vo,yo,zo,Co,Go,Ho,Io,Ko,To,Uo,Vo,fp,tp,Ep,Np,Pp,Qp,Xp,Zp,cq,eq,fq,gq,hq,iq,jq,kq,lq,oq,pq,uq,yq,Eq,Kq,Oq,Pq,Qq,Sq,Uq,Vq,Xq,Yq,Zq,br,er,fr,gr,hr,jr,kr,rr,tr,Ar,Cr,Er,Fr,Gr,Hr,Kr,Lr,Mr,Nr,Or,Qr,Ur,Vr,Wr,Yr,hs,is,js,ts,Es,Ns,Xs,Ys,ft,ht,kt,mt,nt,ot,pt,qt,rt,st,tt,vt,zt,At,Bt,Dt,Ft,Gt,It,Jt,Kt,Mt,Pt,Qt,Rt,St,Ut,Vt,cu,eu,lu,nu,pu,qu,ru,su,vu,wu,xu,yu,zu,Cu,Du,Gu,Ku,Lu,Mu,Ou,Xu,Yu,Zu,jv,uv,Dv,Nv,Ov,Vv,Xv,bw,dw,ew,fw,gw,hw,iw,jw,kw,mw,qw,rw,tw,uw,ww,yw,zw,Bw,Cw,Dw,Fw,Iw,Jw,Lw,Mw,Tw,Vw,Zw,bx,cx,dx,ex,fx,gx,hx,ix,kx,ox,px,rx,sx,ux,wx,xx,zx,Ax,Bx,Dx,Ex,Hx,Ix;
-u64 Hj,Kj,Mj,Oj,Pj,Rj,Tj,Uj,Wj,gk,jk,kk,lk,mk,ok,pk,qk,sk,tk,uk,vk,wk,yk,zk,Ak,Bk,Ck,Ek,Fk,Gk,Vk,bl,el,gl,il,jl,ll,nl,pl,ul,wl,Il,Kl,Ll,Ml,Ul,Wl,Yl,Zl,fm,hm,jm,km,pm,rm,tm,um,vm,Am,Cm,Em,Fm,Jm,Lm,Nm,Om,Rm,Um,Wm,Ym,Zm,bn,dn,en,gn,pn,rn,sn,tn,In,On,Rn,Tn,Vn,Wn,Yn,ao,co,io,ko,xo,Bo,Do,Eo,Fo,No,Po,Ro,So,Yo,ap,cp,dp,ip,kp,np,op,pp,yp,Ap,Cp,Dp,Hp,Jp,Lp,Mp,Op,Rp,Tp,Vp,Wp,Yp,aq,bq,dq,nq,qq,rq,sq,tq,vq,wq,xq,zq,Aq,Bq,Cq,Dq,Fq,Gq,Hq,Iq,Jq,Lq,Mq,Nq,cr,ir,lr,nr,pr,qr,sr,ur,wr,Br,Dr,Pr,Rr,Sr,Tr,bs,ds,fs,gs,ms,os,qs,rs,ws,ys,As,Bs,Cs,Hs,Js,Ls,Ms,Qs,Ss,Us,Vs,Ws,Zs,bt,dt,et,gt,it,jt,lt,ut,wt,xt,yt,Nt,Tt,Wt,Yt,au,bu,du,fu,hu,mu,ou,Bu,Fu,Hu,Iu,Ju,Ru,Tu,Vu,Wu,cv,ev,gv,hv,mv,ov,qv,rv,sv,xv,zv,Bv,Cv,Gv,Iv,Kv,Lv,Mv,Pv,Rv,Tv,Uv,Wv,Yv,aw,cw,lw,nw,ow,pw,Gw,Kw,Nw,Pw,Rw,Sw,Uw,Ww,Yw,ax,jx,lx,mx,nx,Fx;
-u8 *Lj,*Nj,*fk,*Mk,*Pk,*fl,*hl,*ol,*Sl,*Tl,*Vl,*Xl,*dm,*em,*gm,*im,*nm,*om,*qm,*sm,*ym,*zm,*Bm,*Dm,*Hm,*Im,*Km,*Mm,*Vm,*Xm,*zn,*Cn,*Sn,*Un,*bo,*wo,*Lo,*Mo,*Oo,*Qo,*Wo,*Xo,*Zo,*bp,*gp,*hp,*jp,*lp,*up,*vp,*zp,*Bp,*Fp,*Gp,*Ip,*Kp,*Sp,*Up,*mq,*Tq,*Wq,*mr,*or,*vr,*Zr,*as,*cs,*es,*ks,*ls,*ns,*ps,*us,*vs,*xs,*zs,*Fs,*Gs,*Is,*Ks,*Os,*Ps,*Rs,*Ts,*at,*ct,*Et,*Ht,*Xt,*Zt,*gu,*Au,*Pu,*Qu,*Su,*Uu,*av,*bv,*dv,*fv,*kv,*lv,*nv,*pv,*vv,*wv,*yv,*Av,*Ev,*Fv,*Hv,*Jv,*Qv,*Sv,*xw,*Aw,*Ow,*Qw,*vx,*yx;
-s_8_8 Kk,Tk,Wk,Ql,lm,wm,xn,Gn,Jn,Jo,ep,sp,Rq,ar,dr,Xr,ss,Ds,Ct,Lt,Ot,Nu,iv,tv,vw,Ew,Hw,tx,Cx,Gx,Jx,Kx;
-Aj=q4(a);
-Bj=a[4];
-Cj=a[5];
-Dj=a[6];
-Ej=a[8];
-Fj=a[10];
+A16 u8 f[16],g[16],h[1544],i[48],j[1544],k[1544],l[1544],m[1544],n[1544],o[16],p[16],q[1544],r[48],s[1544],t[1544],u[1544],v[1544],w[1544],x[1544],y[1544],z[1544],A[1544],B[1544],C[12],D[16],E[12],F[12],G[1656],H[48],I[12],J[16],K[1544],L[48],M[1544],N[1544],O[1544],P[1544],Q[1544],R[8],S[12],T[1544],U[1544],V[1544],W[1544],X[1544],Y[12],Z[16],aa[12],ba[12],ca[1656],da[48],ea[12],fa[16],ga[1544],ha[48],ia[1544],ja[1544],ka[1544],la[1544],ma[1544],na[8],oa[12],pa[1544],qa[1544],ra[1544],sa[1544],ta[1544],ua[12],va[16],wa[12],xa[12],ya[1656],za[48],Aa[12],Ba[16],Ca[1544],Da[48],Ea[1544],Fa[1544],Ga[1544],Ha[1544],Ia[1544],Ja[8],Ka[12],La[1544],Ma[1544],Na[1544],Oa[1544],Pa[1544],Qa[12],Ra[16],Sa[12],Ta[12],Ua[1656],Va[48],Wa[12],Xa[16],Ya[1544],Za[48],ab[1544],bb[1544],cb[1544],db[1544],eb[1544],fb[8],gb[12];
+u32 hb,Xc,Yc,Zc,id,jd,Nf,Of,Pf,Yf,Zf,jg,bj,cj,dj,mj,nj,Ml,Nl,Ol,Xl,Yl,im,Dn,Wn,Co,Vo;
+u8 ib,jb,kb,lb,mb,nb,pb,qb,xb,zb,Cb,Eb,Fb,Gb,Hb,Ib,Jb,Kb,Lb,Ob,Pb,Ub,Yb,ec,kc,oc,pc,qc,sc,uc,vc,xc,yc,zc,Bc,Ec,Fc,Gc,Hc,Jc,Kc,Rc,Tc,ad,cd,ed,fd,gd,hd,kd,ld,md,nd,od,qd,vd,xd,yd,Ad,Jd,Kd,Ld,Vd,ge,pe,ye,ze,Be,Ce,Je,Le,Oe,Qe,Re,Se,Te,Ue,Ve,We,Xe,Ze,df,ef,ff,hf,kf,lf,nf,of,pf,rf,uf,vf,wf,xf,zf,Af,Hf,Jf,Qf,Sf,Uf,Vf,Wf,Xf,ag,bg,cg,dg,eg,hg,ig,lg,pg,qg,rg,tg,Cg,Dg,Eg,Og,Zg,ih,rh,th,uh,Bh,Dh,Gh,Ih,Jh,Kh,Lh,Mh,Nh,Oh,Ph,Sh,Th,Yh,ci,ii,oi,si,ti,ui,wi,yi,zi,Bi,Ci,Di,Fi,Ii,Ji,Ki,Li,Ni,Oi,Vi,Xi,ej,gj,ij,jj,kj,lj,oj,pj,qj,rj,sj,uj,yj,zj,Aj,Cj,Lj,Mj,Nj,Xj,ik,rk,Bk,Ck,Jk,Lk,Ok,Qk,Rk,Sk,Tk,Uk,Vk,Wk,Xk,Zk,dl,el,fl,hl,jl,kl,ml,nl,ol,ql,tl,ul,vl,wl,yl,zl,Gl,Il,Pl,Rl,Tl,Ul,Vl,Wl,Zl,am,bm,cm,dm,gm,hm,km,om,pm,qm,sm,Bm,Cm,Dm,Nm,Ym,hn,rn,sn,zn,Bn,Fn,Hn,In,Jn,Kn,Ln,Mn,Nn,On,Qn,Un,Vn,Xn,Yn,ao,co,eo,go,ho,io,ko,no,oo,qo,ro,yo,Ao,Eo,Go,Ho,Io,Jo,Ko,Lo,Mo,No,Po,To,Uo,Wo,Xo,Zo,bp,cp,ep,fp,gp,ip,jp,np,op;
+u64 ob,rb,tb,vb,wb,yb,Ab,Bb,Db,Nb,Qb,Rb,Sb,Tb,Vb,Wb,Xb,Zb,ac,bc,cc,dc,fc,gc,hc,ic,jc,lc,mc,nc,Cc,Ic,Lc,Nc,Pc,Qc,Sc,Uc,Wc,bd,dd,pd,sd,td,ud,Dd,Fd,Hd,Id,Od,Qd,Sd,Td,Yd,ae,ce,de,ee,je,le,ne,oe,se,ue,we,xe,Ae,De,Fe,He,Ie,Ke,Me,Ne,Pe,Ye,af,bf,cf,sf,yf,Bf,Df,Ff,Gf,If,Kf,Mf,Rf,Tf,gg,kg,mg,ng,og,wg,yg,Ag,Bg,Hg,Jg,Lg,Mg,Rg,Tg,Vg,Wg,Xg,ch,eh,gh,hh,lh,nh,ph,qh,sh,vh,xh,zh,Ah,Ch,Eh,Fh,Hh,Rh,Uh,Vh,Wh,Xh,Zh,ai,bi,di,ei,fi,gi,hi,ji,ki,li,mi,ni,pi,qi,ri,Gi,Mi,Pi,Ri,Ti,Ui,Wi,Yi,aj,fj,hj,tj,vj,wj,xj,Fj,Hj,Jj,Kj,Qj,Sj,Uj,Vj,ak,ck,ek,fk,gk,lk,nk,pk,qk,uk,wk,yk,zk,Ak,Dk,Fk,Hk,Ik,Kk,Mk,Nk,Pk,Yk,al,bl,cl,rl,xl,Al,Cl,El,Fl,Hl,Jl,Ll,Ql,Sl,fm,jm,lm,mm,nm,vm,xm,zm,Am,Gm,Im,Km,Lm,Qm,Sm,Um,Vm,Wm,bn,dn,fn,gn,kn,mn,on,pn,qn,tn,vn,xn,yn,An,Cn,En,Gn,Pn,Rn,Sn,Tn,lo,po,so,uo,wo,xo,zo,Bo,Do,Fo,Oo,Qo,Ro,So,kp;
+u8 *sb,*ub,*Mb,*tc,*wc,*Mc,*Oc,*Vc,*Bd,*Cd,*Ed,*Gd,*Md,*Nd,*Pd,*Rd,*Wd,*Xd,*Zd,*be,*he,*ie,*ke,*me,*qe,*re,*te,*ve,*Ee,*Ge,*jf,*mf,*Cf,*Ef,*Lf,*fg,*ug,*vg,*xg,*zg,*Fg,*Gg,*Ig,*Kg,*Pg,*Qg,*Sg,*Ug,*ah,*bh,*dh,*fh,*jh,*kh,*mh,*oh,*wh,*yh,*Qh,*xi,*Ai,*Qi,*Si,*Zi,*Dj,*Ej,*Gj,*Ij,*Oj,*Pj,*Rj,*Tj,*Yj,*Zj,*bk,*dk,*jk,*kk,*mk,*ok,*sk,*tk,*vk,*xk,*Ek,*Gk,*il,*ll,*Bl,*Dl,*Kl,*em,*tm,*um,*wm,*ym,*Em,*Fm,*Hm,*Jm,*Om,*Pm,*Rm,*Tm,*Zm,*an,*cn,*en,*in,*jn,*ln,*nn,*un,*wn,*bo,*fo,*to,*vo,*ap,*dp;
+s_8_8 rc,Ac,Dc,zd,Ud,fe,gf,qf,tf,sg,Ng,Yg,vi,Ei,Hi,Bj,Wj,hk,gl,pl,sl,rm,Mm,Xm,Zn,jo,mo,Yo,hp,lp,pp,sp;
+hb=q4(a);
+ib=a[4];
+jb=a[5];
+kb=a[6];
+lb=a[8];
+mb=a[10];
 switch(a[9]){
-case 0:Gj=Cj==0;
-if(Fj&1){
-z12(zj);
-w4(yj,Aj);
-yj[4]=Bj;
-z3(yj+5);
-if(Gj){
-zero_all(rj+1440,456);
-z48(sj);
-zero_all(tj,1944);
-zero_all(uj,1944);
-zero_all(vj,1944);
-zero_all(wj,1944);
-zero_all(xj,1944);
-Hj=(u64)(u8*)65536;
-z40(rj+1784);
-z32(rj+1832);
-z16(rj+1872);
-z48(rj+1896);
-wp(rj,(u8*)65536);
-z24(rj+8);
-wp(rj+32,(u8*)65536);
-z16(rj+40);
-wp(rj+56,(u8*)65536);
-z32(rj+64);
-wp(rj+96,(u8*)65536);
-z16(rj+104);
-wp(rj+120,(u8*)65536);
-z32(rj+128);
-wp(rj+160,(u8*)65536);
-z80(rj+168);
-wp(rj+248,(u8*)65536);
-z16(rj+256);
-wp(rj+272,(u8*)65536);
-z40(rj+280);
-wp(rj+320,(u8*)65536);
-z16(rj+328);
-wp(rj+344,(u8*)65536);
-z16(rj+352);
-wp(rj+368,(u8*)65536);
-z16(rj+376);
-wp(rj+392,(u8*)65536);
-z16(rj+400);
-wp(rj+416,(u8*)65536);
-z16(rj+424);
-wp(rj+440,(u8*)65536);
-z48(rj+448);
-wp(rj+496,(u8*)65536);
-z32(rj+504);
-wp(rj+536,(u8*)65536);
-z32(rj+544);
-wp(rj+576,(u8*)65536);
-z104(rj+584);
-w8(rj+688,Hj);
-z40(rj+696);
-w8(rj+736,Hj);
-z16(rj+744);
-wp(rj+760,(u8*)65536);
-z32(rj+768);
-wp(rj+800,(u8*)65536);
-z24(rj+808);
-wp(rj+832,(u8*)65536);
-z16(rj+840);
-wp(rj+856,(u8*)65536);
-z32(rj+864);
-wp(rj+896,(u8*)65536);
-z16(rj+904);
-wp(rj+920,(u8*)65536);
-z24(rj+928);
-wp(rj+952,(u8*)65536);
-z16(rj+960);
-wp(rj+976,(u8*)65536);
-z16(rj+984);
-wp(rj+1000,(u8*)65536);
-z40(rj+1008);
-wp(rj+1048,(u8*)65536);
-z16(rj+1056);
-wp(rj+1072,(u8*)65536);
-z16(rj+1080);
-wp(rj+1096,(u8*)65536);
-z16(rj+1104);
-wp(rj+1120,(u8*)65536);
-z16(rj+1128);
-wp(rj+1144,(u8*)65536);
-z16(rj+1152);
-wp(rj+1168,(u8*)65536);
-z48(rj+1176);
-wp(rj+1224,(u8*)65536);
-z32(rj+1232);
-wp(rj+1264,(u8*)65536);
-z40(rj+1272);
-wp(rj+1312,(u8*)65536);
-z32(rj+1320);
-wp(rj+1352,(u8*)65536);
-z16(rj+1360);
-wp(rj+1376,(u8*)65536);
-z48(rj+1384);
-w8(rj+1432,Hj);
-z40(rj+1440);
-w8(rj+1480,Hj);
-z16(rj+1488);
-wp(rj+1504,(u8*)65536);
-z32(rj+1512);
-wp(rj+1544,(u8*)65536);
-z32(rj+1552);
-wp(rj+1584,(u8*)65536);
-z32(rj+1592);
-wp(rj+1624,(u8*)65536);
-z104(rj+1632);
-wp(rj+1736,(u8*)65536);
-z32(rj+1744);
-wp(rj+1776,(u8*)65536);
-wp(rj+1824,(u8*)65536);
-wp(rj+1864,(u8*)65536);
-wp(rj+1888,(u8*)65536);
-wp(sj,(u8*)65536);
-z16(sj+8);
-wp(sj+24,(u8*)65536);
-z16(sj+32);
-Ij=Ej&1;
-Jj=0;
-Kj=0;
-L1:Lj=b+(i64)(Kj<<4);
-Mj=r8(Lj+8);
-Nj=rp(Lj);
-Oj=r8(sj+8);
-Pj=r8(sj+32);
-if(Mj-65537>=0xffffffffffff0001u){
-Qj=*Nj==95;
-if(Mj==2){
-if(!Qj)goto L2;
-switch(Nj[1]){
-case 90:Rj=0;
+case 0:nb=jb==0;
+if(mb&1){
+z12(gb);
+w4(fb,hb);
+fb[4]=ib;
+z3(fb+5);
+if(nb){
+z32(Ya+1512);
+z48(Za);
+zero_all(ab,1544);
+zero_all(bb,1544);
+zero_all(cb,1544);
+zero_all(db,1544);
+zero_all(eb,1544);
+ob=(u64)(u8*)65536;
+wp(Ya,(u8*)65536);
+z24(Ya+8);
+wp(Ya+32,(u8*)65536);
+z16(Ya+40);
+wp(Ya+56,(u8*)65536);
+z32(Ya+64);
+wp(Ya+96,(u8*)65536);
+z16(Ya+104);
+wp(Ya+120,(u8*)65536);
+z32(Ya+128);
+wp(Ya+160,(u8*)65536);
+z80(Ya+168);
+wp(Ya+248,(u8*)65536);
+z16(Ya+256);
+wp(Ya+272,(u8*)65536);
+z40(Ya+280);
+wp(Ya+320,(u8*)65536);
+z16(Ya+328);
+wp(Ya+344,(u8*)65536);
+z16(Ya+352);
+wp(Ya+368,(u8*)65536);
+z16(Ya+376);
+wp(Ya+392,(u8*)65536);
+z16(Ya+400);
+wp(Ya+416,(u8*)65536);
+z16(Ya+424);
+wp(Ya+440,(u8*)65536);
+z48(Ya+448);
+wp(Ya+496,(u8*)65536);
+z32(Ya+504);
+wp(Ya+536,(u8*)65536);
+z32(Ya+544);
+wp(Ya+576,(u8*)65536);
+z104(Ya+584);
+w8(Ya+688,ob);
+z40(Ya+696);
+w8(Ya+736,ob);
+z16(Ya+744);
+wp(Ya+760,(u8*)65536);
+z32(Ya+768);
+wp(Ya+800,(u8*)65536);
+z24(Ya+808);
+wp(Ya+832,(u8*)65536);
+z16(Ya+840);
+wp(Ya+856,(u8*)65536);
+z32(Ya+864);
+wp(Ya+896,(u8*)65536);
+z16(Ya+904);
+wp(Ya+920,(u8*)65536);
+z24(Ya+928);
+wp(Ya+952,(u8*)65536);
+z16(Ya+960);
+wp(Ya+976,(u8*)65536);
+z16(Ya+984);
+wp(Ya+1000,(u8*)65536);
+z40(Ya+1008);
+wp(Ya+1048,(u8*)65536);
+z16(Ya+1056);
+wp(Ya+1072,(u8*)65536);
+z16(Ya+1080);
+wp(Ya+1096,(u8*)65536);
+z16(Ya+1104);
+wp(Ya+1120,(u8*)65536);
+z16(Ya+1128);
+wp(Ya+1144,(u8*)65536);
+z16(Ya+1152);
+wp(Ya+1168,(u8*)65536);
+z48(Ya+1176);
+wp(Ya+1224,(u8*)65536);
+z32(Ya+1232);
+wp(Ya+1264,(u8*)65536);
+z40(Ya+1272);
+wp(Ya+1312,(u8*)65536);
+z32(Ya+1320);
+wp(Ya+1352,(u8*)65536);
+z16(Ya+1360);
+wp(Ya+1376,(u8*)65536);
+z48(Ya+1384);
+w8(Ya+1432,ob);
+z40(Ya+1440);
+w8(Ya+1480,ob);
+z16(Ya+1488);
+wp(Ya+1504,(u8*)65536);
+z32(Ya+1512);
+wp(Za,(u8*)65536);
+z16(Za+8);
+wp(Za+24,(u8*)65536);
+z16(Za+32);
+pb=lb&1;
+qb=0;
+rb=0;
+L1:sb=b+(i64)(rb<<4);
+tb=r8(sb+8);
+ub=rp(sb);
+vb=r8(Za+8);
+wb=r8(Za+32);
+if(tb-65537>=0xffffffffffff0001u){
+xb=*ub==95;
+if(tb==2){
+if(!xb)goto L2;
+switch(ub[1]){
+case 90:yb=0;
 goto L3;
 case 82:break;
 default:goto L2;
 }}
 else{
-if(!Qj)goto L2;
-switch(Nj[1]){
-case 90:Rj=0;
+if(!xb)goto L2;
+switch(ub[1]){
+case 90:yb=0;
 goto L3;
 case 82:break;
-case 95:switch(Nj[2]){
-case 90:Rj=0x100000000u;
+case 95:switch(ub[2]){
+case 90:yb=0x100000000u;
 goto L3;
-case 82:Rj=0x100000001u;
+case 82:yb=0x100000001u;
 goto L3;
 default:goto L2;
 }
 break;
 default:goto L2;
 }}
-Rj=1;
-L3:Sj=Rj;
-Tj=Rj>>32;
-if(Ij){
-z16(qj);
-demangle_fb7(qj,yj,rj,Sj,Nj+(i64)Tj,Mj-Tj,sj);
-switch(*qj){
-case 0:Uj=r8(sj+8);
-if(r8(sj+16)==Uj){
-Vj=grow_amortized_68b(sj,1);
-if(!Vj)break;
-Wj=r8(sj+8);}
-else Wj=Uj;
-*(rp(sj)+Wj)=10;
-w8(sj+8,Wj+1);
-Xj=push_counts_ddb(qj+4,sj);
-Yj=!(Xj&1);
-Zj=Xj;
+yb=1;
+L3:zb=yb;
+Ab=yb>>32;
+if(pb){
+z16(Xa);
+demangle_fb7(Xa,fb,Ya,zb,ub+(i64)Ab,tb-Ab,Za);
+switch(*Xa){
+case 0:Bb=r8(Za+8);
+if(r8(Za+16)==Bb){
+Cb=grow_amortized_68b(Za,1);
+if(!Cb)break;
+Db=r8(Za+8);}
+else Db=Bb;
+*(rp(Za)+Db)=10;
+w8(Za+8,Db+1);
+Eb=push_counts_ddb(Xa+4,Za);
+Fb=!(Eb&1);
+Gb=Eb;
 goto L4;
-case 1:ak=push_refused_bbc(0,Nj,Mj,3,0,sj,sj+24);
-if(!(ak&1)){
-bk=push_counts_ddb(qj+4,sj);
-Yj=0;
-Zj=bk;
+case 1:Hb=push_refused_bbc(0,ub,tb,3,0,Za,Za+24);
+if(!(Hb&1)){
+Ib=push_counts_ddb(Xa+4,Za);
+Fb=0;
+Gb=Ib;
 goto L4;}
 break;
-case 2:ck=push_refused_bbc(0,Nj,Mj,qj[4],r4(qj+8),sj,sj+24);
-Yj=0;
-Zj=ck;
+case 2:Jb=push_refused_bbc(0,ub,tb,Xa[4],r4(Xa+8),Za,Za+24);
+Fb=0;
+Gb=Jb;
 goto L4;
 default:NEVER;
 }
 goto L5;
-L4:dk=(Zj==0&&Yj)?Jj:1;
-ek=Zj;
+L4:Kb=(Gb==0&&Fb)?qb:1;
+Lb=Gb;
 goto L6;}
-fk=Nj+(i64)Tj;
-gk=Mj-Tj;
-z12(pj);
-if(gk>=21){
-if(fk[2]==78){
-hk=fk[3];
-if((u8)(hk-49)>=9){
-lk=3;
-mk=3;
-nk=hk;
+Mb=ub+(i64)Ab;
+Nb=tb-Ab;
+z12(Wa);
+if(Nb>=21){
+if(Mb[2]==78){
+Ob=Mb[3];
+if((u8)(Ob-49)>=9){
+Sb=3;
+Tb=3;
+Ub=Ob;
 goto L7;}
-ik=hk;
-jk=3;
-kk=3;
-L8:ok=kk+9;
-pk=kk;
-qk=0;
-L9:rk=*(fk+pk)-48;
-if(rk<10){
-sk=qk*10+rk;
-tk=pk+1;
-if(tk-kk<9){
-pk=tk;
-qk=sk;
+Pb=Ob;
+Qb=3;
+Rb=3;
+L8:Vb=Rb+9;
+Wb=Rb;
+Xb=0;
+L9:Yb=*(Mb+Wb)-48;
+if(Yb<10){
+Zb=Xb*10+Yb;
+ac=Wb+1;
+if(ac-Rb<9){
+Wb=ac;
+Xb=Zb;
 goto L9;}
-if(ok<gk){
-if((u8)(*(fk+ok)-48)<10){
-lk=kk;
-mk=jk;
-nk=ik;
+if(Vb<Nb){
+if((u8)(*(Mb+Vb)-48)<10){
+Sb=Rb;
+Tb=Qb;
+Ub=Pb;
 goto L7;}
-uk=sk;
-vk=ok;}
+bc=Zb;
+cc=Vb;}
 else{
-uk=sk;
-vk=ok;}}
+bc=Zb;
+cc=Vb;}}
 else{
-uk=qk;
-vk=pk;}
-wk=vk+uk;
-if(wk+17>=gk){
-if(wk>=gk)goto L10;
-if(*(fk+wk)!=69)goto L10;
-yk=wk+1;
-if(gk==yk){
-if(kk==3)goto L10;
-zk=kk;
-Ak=gk;
+bc=Xb;
+cc=Wb;}
+dc=cc+bc;
+if(dc+17>=Nb){
+if(dc>=Nb)goto L10;
+if(*(Mb+dc)!=69)goto L10;
+fc=dc+1;
+if(Nb==fc){
+if(Rb==3)goto L10;
+gc=Rb;
+hc=Nb;
 goto L11;}
-if(kk==3||(gk-yk<2||*(fk+(i64)yk)!=46))goto L10;
-zk=kk;
-Ak=yk;
+if(Rb==3||(Nb-fc<2||*(Mb+(i64)fc)!=46))goto L10;
+gc=Rb;
+hc=fc;
 goto L11;}
-xk=*(fk+wk);
-if((u8)(xk-49)<9){
-ik=xk;
-jk=kk;
-kk=wk;
+ec=*(Mb+dc);
+if((u8)(ec-49)<9){
+Pb=ec;
+Qb=Rb;
+Rb=dc;
 goto L8;}
-lk=wk;
-mk=kk;
-nk=xk;
-L7:if(!((lk<gk)&(nk==69)))goto L10;
-Bk=lk+1;
-if(gk==Bk){
-if(mk==3)goto L10;
-zk=mk;
-Ak=gk;}
+Sb=dc;
+Tb=Rb;
+Ub=ec;
+L7:if(!((Sb<Nb)&(Ub==69)))goto L10;
+ic=Sb+1;
+if(Nb==ic){
+if(Tb==3)goto L10;
+gc=Tb;
+hc=Nb;}
 else{
-if(mk==3||(gk-Bk<2||*(fk+(i64)Bk)!=46))goto L10;
-zk=mk;
-Ak=Bk;}
-L11:append_named_70e(pj,yj,rj,Sj,fk,gk,zk,Ak,sj);
+if(Tb==3||(Nb-ic<2||*(Mb+(i64)ic)!=46))goto L10;
+gc=Tb;
+hc=ic;}
+L11:append_named_70e(Wa,fb,Ya,zb,Mb,Nb,gc,hc,Za);
 goto L12;}}
-L10:append_e62(pj,yj,rj,Sj,fk,gk,sj);
-L12:if(*pj!=0){
-Ik=push_refused_bbc(0,Nj,Mj,pj[4],r4(pj+8),sj,sj+24);
-dk=1;
-ek=Ik;
+L10:append_e62(Wa,fb,Ya,zb,Mb,Nb,Za);
+L12:if(*Wa!=0){
+pc=push_refused_bbc(0,ub,tb,Wa[4],r4(Wa+8),Za,Za+24);
+Kb=1;
+Lb=pc;
 goto L6;}
-Ck=r8(sj+8);
-if(r8(sj+16)==Ck){
-Dk=grow_amortized_68b(sj,1);
-if(!Dk)goto L5;
-Ek=r8(sj+8);}
-else Ek=Ck;
-*(rp(sj)+Ek)=10;
-Fk=Ek+1;
-w8(sj+8,Fk);
-Gk=Fk;
-Hk=Jj;
+jc=r8(Za+8);
+if(r8(Za+16)==jc){
+kc=grow_amortized_68b(Za,1);
+if(!kc)goto L5;
+lc=r8(Za+8);}
+else lc=jc;
+*(rp(Za)+lc)=10;
+mc=lc+1;
+w8(Za+8,mc);
+nc=mc;
+oc=qb;
 goto L13;}
-L2:Jk=push_unnamed_383(Nj,Mj,sj,sj+24);
-dk=1;
-ek=Jk;
-L6:if(ek==0){
-Gk=r8(sj+8);
-Hk=dk;
+L2:qc=push_unnamed_383(ub,tb,Za,Za+24);
+Kb=1;
+Lb=qc;
+L6:if(Lb==0){
+nc=r8(Za+8);
+oc=Kb;
 goto L13;}
-L5:w8(sj+8,umin64(r8(sj+8),Oj));
-w8(sj+32,umin64(r8(sj+32),Pj));
-Kk=write_120(sj,d,e);
-Lk=r8(sj+16)==0;
-if(Kk.f0==0){
-if(!Lk)port_rattle_dealloc(rp(sj));
-if(r8(sj+40)==0){
-Mk=uj;
-Nk=2;
-Ok=1;
+L5:w8(Za+8,umin64(r8(Za+8),vb));
+w8(Za+32,umin64(r8(Za+32),wb));
+rc=write_120(Za,d,e);
+sc=r8(Za+16)==0;
+if(rc.f0==0){
+if(!sc)port_rattle_dealloc(rp(Za));
+if(r8(Za+40)==0){
+tc=bb;
+uc=2;
+vc=1;
 goto L14;}
-Pk=uj;
-Qk=2;
-Rk=1;
+wc=bb;
+xc=2;
+yc=1;
 goto L15;}
-Sk=Kk.f1;
-if(!Lk)port_rattle_dealloc(rp(sj));
-if(r8(sj+40)==0){
-Mk=tj;
-Nk=Sk;
-Ok=1;
+zc=rc.f1;
+if(!sc)port_rattle_dealloc(rp(Za));
+if(r8(Za+40)==0){
+tc=ab;
+uc=zc;
+vc=1;
 goto L14;}
-Pk=tj;
-Qk=Sk;
-Rk=1;
+wc=ab;
+xc=zc;
+yc=1;
 goto L15;
-L13:if(!(Gk<4096&&r8(sj+32)<4096)){
-Tk=write_120(sj,d,e);
-if(Tk.f0!=0){
-Uk=Tk.f1;
-if(r8(sj+16)!=0)port_rattle_dealloc(rp(sj));
-if(r8(sj+40)==0){
-Mk=vj;
-Nk=Uk;
-Ok=1;
+L13:if(!(nc<4096&&r8(Za+32)<4096)){
+Ac=write_120(Za,d,e);
+if(Ac.f0!=0){
+Bc=Ac.f1;
+if(r8(Za+16)!=0)port_rattle_dealloc(rp(Za));
+if(r8(Za+40)==0){
+tc=cb;
+uc=Bc;
+vc=1;
 goto L14;}
-Pk=vj;
-Qk=Uk;
-Rk=1;
+wc=cb;
+xc=Bc;
+yc=1;
 goto L15;}}
-Vk=Kj+1;
-if(Vk!=c){
-Jj=Hk;
-Kj=Vk;
+Cc=rb+1;
+if(Cc!=c){
+qb=oc;
+rb=Cc;
 goto L1;}
-Wk=write_120(sj,d,e);
-Xk=r8(sj+16)==0;
-if(Wk.f0==0){
-if(!Xk)port_rattle_dealloc(rp(sj));
-if(r8(sj+40)==0){
-Mk=xj;
-Nk=Hk;
-Ok=0;
+Dc=write_120(Za,d,e);
+Ec=r8(Za+16)==0;
+if(Dc.f0==0){
+if(!Ec)port_rattle_dealloc(rp(Za));
+if(r8(Za+40)==0){
+tc=eb;
+uc=oc;
+vc=0;
 goto L14;}
-Pk=xj;
-Qk=Hk;
-Rk=0;}
+wc=eb;
+xc=oc;
+yc=0;}
 else{
-Yk=Wk.f1;
-if(!Xk)port_rattle_dealloc(rp(sj));
-if(r8(sj+40)==0){
-Mk=wj;
-Nk=Yk;
-Ok=1;
+Fc=Dc.f1;
+if(!Ec)port_rattle_dealloc(rp(Za));
+if(r8(Za+40)==0){
+tc=db;
+uc=Fc;
+vc=1;
 goto L14;}
-Pk=wj;
-Qk=Yk;
-Rk=1;}
-L15:port_rattle_dealloc(rp(sj+24));
-Mk=Pk;
-Nk=Qk;
-Ok=Rk;
-L14:memcpy(Mk,rj,1944);
-drop_816(Mk);
-Zk=Ok;
-al=Nk;}
+wc=db;
+xc=Fc;
+yc=1;}
+L15:port_rattle_dealloc(rp(Za+24));
+tc=wc;
+uc=xc;
+vc=yc;
+L14:memcpy(tc,Ya,1544);
+drop_816(tc);
+Gc=vc;
+Hc=uc;}
 else{
-w8(zj,r8(yj));
-zj[8]=Dj;
-zj[9]=1;
-bl=(u64)(u8*)65536;
-z32(gj);
-z40(hj);
-z32(ij);
-z16(jj);
-z48(kj);
-z32(lj);
-z16(mj);
-z16(nj);
-z16(oj);
-z24(ni);
-z16(oi);
-z32(pi);
-z16(qi);
-z32(ri);
-z80(si);
-z16(ti);
-z40(ui);
-z16(vi);
-z16(wi);
-z16(xi);
-z16(yi);
-z16(zi);
-z48(Ai);
-z32(Bi);
-z32(Ci);
-z104(Di);
-z40(Ei);
-z16(Fi);
-z32(Gi);
-z24(Hi);
-z16(Ii);
-z32(Ji);
-z16(Ki);
-z24(Li);
-z16(Mi);
-z16(Ni);
-z40(Oi);
-z16(Pi);
-z16(Qi);
-z16(Ri);
-z16(Si);
-z16(Ti);
-z48(Ui);
-z32(Vi);
-z40(Wi);
-z32(Xi);
-z16(Yi);
-z48(Zi);
-z40(aj);
-z16(bj);
-z32(cj);
-z32(dj);
-z32(ej);
-z104(fj);
-memcpy(lh,ni,24);
-memcpy(mh,oi,16);
-memcpy(nh,pi,32);
-memcpy(oh,qi,16);
-memcpy(ph,ri,32);
-memcpy(qh,si,80);
-memcpy(rh,ti,16);
-memcpy(sh,ui,40);
-memcpy(th,vi,16);
-memcpy(uh,wi,16);
-memcpy(vh,xi,16);
-memcpy(wh,yi,16);
-memcpy(xh,zi,16);
-memcpy(yh,Ai,48);
-memcpy(zh,Bi,32);
-memcpy(Ah,Ci,32);
-memcpy(Bh,Di,104);
-memcpy(Ch,Ei,40);
-memcpy(Dh,Fi,16);
-memcpy(Eh,Gi,32);
-memcpy(Fh,Hi,24);
-memcpy(Gh,Ii,16);
-memcpy(Hh,Ji,32);
-memcpy(Ih,Ki,16);
-memcpy(Jh,Li,24);
-memcpy(Kh,Mi,16);
-memcpy(Lh,Ni,16);
-memcpy(Mh,Oi,40);
-memcpy(Nh,Pi,16);
-memcpy(Oh,Qi,16);
-memcpy(Ph,Ri,16);
-memcpy(Qh,Si,16);
-memcpy(Rh,Ti,16);
-memcpy(Sh,Ui,48);
-memcpy(Th,Vi,32);
-memcpy(Uh,Wi,40);
-memcpy(Vh,Xi,32);
-memcpy(Wh,Yi,16);
-memcpy(Xh,Zi,48);
-memcpy(Yh,aj,40);
-memcpy(Zh,bj,16);
-memcpy(ai,cj,32);
-memcpy(bi,dj,32);
-memcpy(ci,ej,32);
-memcpy(di,fj,104);
-memcpy(ei,gj,32);
-memcpy(fi,hj,40);
-memcpy(gi,ij,32);
-memcpy(hi,jj,16);
-memcpy(ii,kj,48);
-memcpy(ji,lj,32);
-memcpy(ki,mj,16);
-memcpy(li,nj,16);
-memcpy(mi,oj,16);
-wp(jh,(u8*)65536);
-memcpy(jh+8,lh,24);
-wp(jh+32,(u8*)65536);
-memcpy(jh+40,mh,16);
-wp(jh+56,(u8*)65536);
-memcpy(jh+64,nh,32);
-wp(jh+96,(u8*)65536);
-memcpy(jh+104,oh,16);
-wp(jh+120,(u8*)65536);
-memcpy(jh+128,ph,32);
-wp(jh+160,(u8*)65536);
-memcpy(jh+168,qh,80);
-wp(jh+248,(u8*)65536);
-memcpy(jh+256,rh,16);
-wp(jh+272,(u8*)65536);
-memcpy(jh+280,sh,40);
-wp(jh+320,(u8*)65536);
-memcpy(jh+328,th,16);
-wp(jh+344,(u8*)65536);
-memcpy(jh+352,uh,16);
-wp(jh+368,(u8*)65536);
-memcpy(jh+376,vh,16);
-wp(jh+392,(u8*)65536);
-memcpy(jh+400,wh,16);
-wp(jh+416,(u8*)65536);
-memcpy(jh+424,xh,16);
-wp(jh+440,(u8*)65536);
-memcpy(jh+448,yh,48);
-wp(jh+496,(u8*)65536);
-memcpy(jh+504,zh,32);
-wp(jh+536,(u8*)65536);
-memcpy(jh+544,Ah,32);
-wp(jh+576,(u8*)65536);
-memcpy(jh+584,Bh,104);
-w8(jh+688,bl);
-memcpy(jh+696,Ch,40);
-w8(jh+736,bl);
-memcpy(jh+744,Dh,16);
-wp(jh+760,(u8*)65536);
-memcpy(jh+768,Eh,32);
-wp(jh+800,(u8*)65536);
-memcpy(jh+808,Fh,24);
-wp(jh+832,(u8*)65536);
-memcpy(jh+840,Gh,16);
-wp(jh+856,(u8*)65536);
-memcpy(jh+864,Hh,32);
-wp(jh+896,(u8*)65536);
-memcpy(jh+904,Ih,16);
-wp(jh+920,(u8*)65536);
-memcpy(jh+928,Jh,24);
-wp(jh+952,(u8*)65536);
-memcpy(jh+960,Kh,16);
-wp(jh+976,(u8*)65536);
-memcpy(jh+984,Lh,16);
-wp(jh+1000,(u8*)65536);
-memcpy(jh+1008,Mh,40);
-wp(jh+1048,(u8*)65536);
-memcpy(jh+1056,Nh,16);
-wp(jh+1072,(u8*)65536);
-memcpy(jh+1080,Oh,16);
-wp(jh+1096,(u8*)65536);
-memcpy(jh+1104,Ph,16);
-wp(jh+1120,(u8*)65536);
-memcpy(jh+1128,Qh,16);
-wp(jh+1144,(u8*)65536);
-memcpy(jh+1152,Rh,16);
-wp(jh+1168,(u8*)65536);
-memcpy(jh+1176,Sh,48);
-wp(jh+1224,(u8*)65536);
-memcpy(jh+1232,Th,32);
-wp(jh+1264,(u8*)65536);
-memcpy(jh+1272,Uh,40);
-wp(jh+1312,(u8*)65536);
-memcpy(jh+1320,Vh,32);
-wp(jh+1352,(u8*)65536);
-memcpy(jh+1360,Wh,16);
-wp(jh+1376,(u8*)65536);
-memcpy(jh+1384,Xh,48);
-w8(jh+1432,bl);
-memcpy(jh+1440,Yh,40);
-w8(jh+1480,bl);
-memcpy(jh+1488,Zh,16);
-wp(jh+1504,(u8*)65536);
-memcpy(jh+1512,ai,32);
-wp(jh+1544,(u8*)65536);
-memcpy(jh+1552,bi,32);
-wp(jh+1584,(u8*)65536);
-memcpy(jh+1592,ci,32);
-wp(jh+1624,(u8*)65536);
-memcpy(jh+1632,di,104);
-wp(jh+1736,(u8*)65536);
-memcpy(jh+1744,ei,32);
-wp(jh+1776,(u8*)65536);
-memcpy(jh+1784,fi,40);
-wp(jh+1824,(u8*)65536);
-memcpy(jh+1832,gi,32);
-wp(jh+1864,(u8*)65536);
-memcpy(jh+1872,hi,16);
-wp(jh+1888,(u8*)65536);
-memcpy(jh+1896,ii,48);
-wp(jh+1944,(u8*)65536);
-memcpy(jh+1952,ji,32);
-wp(jh+1984,(u8*)65536);
-memcpy(jh+1992,ki,16);
-wp(jh+2008,(u8*)65536);
-memcpy(jh+2016,li,16);
-wp(jh+2032,(u8*)65536);
-memcpy(jh+2040,mi,16);
-wp(kh,(u8*)65536);
-z16(kh+8);
-wp(kh+24,(u8*)65536);
-z16(kh+32);
-cl=Ej&1;
-dl=0;
-el=0;
-L16:fl=b+(i64)(el<<4);
-gl=r8(fl+8);
-hl=rp(fl);
-il=r8(kh+8);
-jl=r8(kh+32);
-if(gl-65537>=0xffffffffffff0001u){
-kl=*hl==95;
-if(gl==2){
-if(!kl)goto L17;
-switch(hl[1]){
-case 90:ll=0;
+w8(gb,r8(fb));
+gb[8]=kb;
+gb[9]=1;
+z48(Ua+1608);
+z48(Va);
+Ic=(u64)(u8*)65536;
+wp(Ua,(u8*)65536);
+z24(Ua+8);
+wp(Ua+32,(u8*)65536);
+z16(Ua+40);
+wp(Ua+56,(u8*)65536);
+z32(Ua+64);
+wp(Ua+96,(u8*)65536);
+z16(Ua+104);
+wp(Ua+120,(u8*)65536);
+z32(Ua+128);
+wp(Ua+160,(u8*)65536);
+z80(Ua+168);
+wp(Ua+248,(u8*)65536);
+z16(Ua+256);
+wp(Ua+272,(u8*)65536);
+z40(Ua+280);
+wp(Ua+320,(u8*)65536);
+z16(Ua+328);
+wp(Ua+344,(u8*)65536);
+z16(Ua+352);
+wp(Ua+368,(u8*)65536);
+z16(Ua+376);
+wp(Ua+392,(u8*)65536);
+z16(Ua+400);
+wp(Ua+416,(u8*)65536);
+z16(Ua+424);
+wp(Ua+440,(u8*)65536);
+z48(Ua+448);
+wp(Ua+496,(u8*)65536);
+z32(Ua+504);
+wp(Ua+536,(u8*)65536);
+z32(Ua+544);
+wp(Ua+576,(u8*)65536);
+z104(Ua+584);
+w8(Ua+688,Ic);
+z40(Ua+696);
+w8(Ua+736,Ic);
+z16(Ua+744);
+wp(Ua+760,(u8*)65536);
+z32(Ua+768);
+wp(Ua+800,(u8*)65536);
+z24(Ua+808);
+wp(Ua+832,(u8*)65536);
+z16(Ua+840);
+wp(Ua+856,(u8*)65536);
+z32(Ua+864);
+wp(Ua+896,(u8*)65536);
+z16(Ua+904);
+wp(Ua+920,(u8*)65536);
+z24(Ua+928);
+wp(Ua+952,(u8*)65536);
+z16(Ua+960);
+wp(Ua+976,(u8*)65536);
+z16(Ua+984);
+wp(Ua+1000,(u8*)65536);
+z40(Ua+1008);
+wp(Ua+1048,(u8*)65536);
+z16(Ua+1056);
+wp(Ua+1072,(u8*)65536);
+z16(Ua+1080);
+wp(Ua+1096,(u8*)65536);
+z16(Ua+1104);
+wp(Ua+1120,(u8*)65536);
+z16(Ua+1128);
+wp(Ua+1144,(u8*)65536);
+z16(Ua+1152);
+wp(Ua+1168,(u8*)65536);
+z48(Ua+1176);
+wp(Ua+1224,(u8*)65536);
+z32(Ua+1232);
+wp(Ua+1264,(u8*)65536);
+z40(Ua+1272);
+wp(Ua+1312,(u8*)65536);
+z32(Ua+1320);
+wp(Ua+1352,(u8*)65536);
+z16(Ua+1360);
+wp(Ua+1376,(u8*)65536);
+z48(Ua+1384);
+w8(Ua+1432,Ic);
+z40(Ua+1440);
+w8(Ua+1480,Ic);
+z16(Ua+1488);
+wp(Ua+1504,(u8*)65536);
+z32(Ua+1512);
+wp(Ua+1544,(u8*)65536);
+z32(Ua+1552);
+wp(Ua+1584,(u8*)65536);
+z16(Ua+1592);
+wp(Ua+1608,(u8*)65536);
+z16(Ua+1616);
+wp(Ua+1632,(u8*)65536);
+z16(Ua+1640);
+wp(Va,(u8*)65536);
+z16(Va+8);
+wp(Va+24,(u8*)65536);
+z16(Va+32);
+Jc=lb&1;
+Kc=0;
+Lc=0;
+L16:Mc=b+(i64)(Lc<<4);
+Nc=r8(Mc+8);
+Oc=rp(Mc);
+Pc=r8(Va+8);
+Qc=r8(Va+32);
+if(Nc-65537>=0xffffffffffff0001u){
+Rc=*Oc==95;
+if(Nc==2){
+if(!Rc)goto L17;
+switch(Oc[1]){
+case 90:Sc=0;
 goto L18;
 case 82:break;
 default:goto L17;
 }}
 else{
-if(!kl)goto L17;
-switch(hl[1]){
-case 90:ll=0;
+if(!Rc)goto L17;
+switch(Oc[1]){
+case 90:Sc=0;
 goto L18;
 case 82:break;
-case 95:switch(hl[2]){
-case 90:ll=0x100000000u;
+case 95:switch(Oc[2]){
+case 90:Sc=0x100000000u;
 goto L18;
-case 82:ll=0x100000001u;
+case 82:Sc=0x100000001u;
 goto L18;
 default:goto L17;
 }
 break;
 default:goto L17;
 }}
-ll=1;
-L18:ml=ll;
-nl=ll>>32;
-ol=hl+(i64)nl;
-pl=gl-nl;
-if(!cl){
-z12(fh);
-append_3f1(fh,zj,jh,ml,ol,pl,kh);
-if(*fh!=0){
-Ol=push_refused_bbc(0,hl,gl,fh[4],r4(fh+8),kh,kh+24);
-Gl=1;
-Hl=Ol;
+Sc=1;
+L18:Tc=Sc;
+Uc=Sc>>32;
+Vc=Oc+(i64)Uc;
+Wc=Nc-Uc;
+if(!Jc){
+z12(Qa);
+append_3f1(Qa,gb,Ua,Tc,Vc,Wc,Va);
+if(*Qa!=0){
+xd=push_refused_bbc(0,Oc,Nc,Qa[4],r4(Qa+8),Va,Va+24);
+nd=1;
+od=xd;
 goto L19;}
-Il=r8(kh+8);
-if(r8(kh+16)==Il){
-Jl=grow_amortized_68b(kh,1);
-if(!Jl)goto L20;
-Kl=r8(kh+8);}
-else Kl=Il;
-*(rp(kh)+Kl)=10;
-Ll=Kl+1;
-w8(kh+8,Ll);
-Ml=Ll;
-Nl=dl;
+pd=r8(Va+8);
+if(r8(Va+16)==pd){
+qd=grow_amortized_68b(Va,1);
+if(!qd)goto L20;
+sd=r8(Va+8);}
+else sd=pd;
+*(rp(Va)+sd)=10;
+td=sd+1;
+w8(Va+8,td);
+ud=td;
+vd=Kc;
 goto L21;}
-z16(gh);
-demangle_fb7(gh,zj,jh,ml,ol,pl,kh);
-ql=r4(gh+8);
-switch(*gh){
-case 0:rl=r4(gh+4);
-sl=r4(gh+12);
-tl=rewrite_43c(zj,jh+1944,ml,ol,pl,il,kh);
-if(tl==0){
-w4(hh,rl);
-w4(hh+4,ql);
-w4(hh+8,sl);
-ul=r8(kh+8);
-if(r8(kh+16)==ul){
-vl=grow_amortized_68b(kh,1);
-if(!vl)goto L22;
-wl=r8(kh+8);}
-else wl=ul;
-*(rp(kh)+wl)=10;
-w8(kh+8,wl+1);
-xl=push_counts_ddb(hh,kh);
-yl=!(xl&1);
-zl=xl;
+z16(Ra);
+demangle_fb7(Ra,gb,Ua,Tc,Vc,Wc,Va);
+Xc=r4(Ra+8);
+switch(*Ra){
+case 0:Yc=r4(Ra+4);
+Zc=r4(Ra+12);
+ad=rewrite_43c(gb,Ua+1544,Tc,Vc,Wc,Pc,Va);
+if(ad==0){
+w4(Sa,Yc);
+w4(Sa+4,Xc);
+w4(Sa+8,Zc);
+bd=r8(Va+8);
+if(r8(Va+16)==bd){
+cd=grow_amortized_68b(Va,1);
+if(!cd)goto L22;
+dd=r8(Va+8);}
+else dd=bd;
+*(rp(Va)+dd)=10;
+w8(Va+8,dd+1);
+ed=push_counts_ddb(Sa,Va);
+fd=!(ed&1);
+gd=ed;
 goto L23;}
-Al=4;
-Bl=0;
+hd=4;
+id=0;
 break;
-case 1:Cl=r4(gh+12);
-w4(ih,r4(gh+4));
-w4(ih+4,ql);
-w4(ih+8,Cl);
-Dl=push_refused_bbc(0,hl,gl,3,0,kh,kh+24);
-if(Dl&1)goto L22;
-El=push_counts_ddb(ih,kh);
-yl=0;
-zl=El;
+case 1:jd=r4(Ra+12);
+w4(Ta,r4(Ra+4));
+w4(Ta+4,Xc);
+w4(Ta+8,jd);
+kd=push_refused_bbc(0,Oc,Nc,3,0,Va,Va+24);
+if(kd&1)goto L22;
+ld=push_counts_ddb(Ta,Va);
+fd=0;
+gd=ld;
 goto L23;
-case 2:Al=gh[4];
-Bl=ql;
+case 2:hd=Ra[4];
+id=Xc;
 break;
 default:NEVER;
 }
-Fl=push_refused_bbc(0,hl,gl,Al,Bl,kh,kh+24);
-yl=0;
-zl=Fl;
+md=push_refused_bbc(0,Oc,Nc,hd,id,Va,Va+24);
+fd=0;
+gd=md;
 goto L23;
 L22:goto L20;
-L23:Gl=(zl==0&&yl)?dl:1;
-Hl=zl;
+L23:nd=(gd==0&&fd)?Kc:1;
+od=gd;
 goto L19;}
-L17:Pl=push_unnamed_383(hl,gl,kh,kh+24);
-Gl=1;
-Hl=Pl;
-L19:if(Hl==0){
-Ml=r8(kh+8);
-Nl=Gl;
+L17:yd=push_unnamed_383(Oc,Nc,Va,Va+24);
+nd=1;
+od=yd;
+L19:if(od==0){
+ud=r8(Va+8);
+vd=nd;
 goto L21;}
-L20:w8(kh+8,umin64(r8(kh+8),il));
-w8(kh+32,umin64(r8(kh+32),jl));
-Ql=write_120(kh,d,e);
-Rl=r8(kh+16)==0;
-if(Ql.f0==0){
-if(!Rl)port_rattle_dealloc(rp(kh));
-if(r8(kh+40)!=0)port_rattle_dealloc(rp(kh+24));
-Sl=rp(jh+1944);
-Tl=rp(jh+1984);
-Ul=r8(jh+2000);
-Vl=rp(jh+2008);
-Wl=r8(jh+2024);
-Xl=rp(jh+2032);
-Yl=r8(jh+2048);
-Zl=r8(jh+1960);
-memcpy(eh,jh,1944);
-drop_816(eh);
-if(Zl!=0)port_rattle_dealloc(Sl);
-if(Ul!=0)port_rattle_dealloc(Tl);
-if(Wl!=0)port_rattle_dealloc(Vl);
-if(Yl!=0)port_rattle_dealloc(Xl);
-am=2;
-bm=1;
+L20:w8(Va+8,umin64(r8(Va+8),Pc));
+w8(Va+32,umin64(r8(Va+32),Qc));
+zd=write_120(Va,d,e);
+Ad=r8(Va+16)==0;
+if(zd.f0==0){
+if(!Ad)port_rattle_dealloc(rp(Va));
+if(r8(Va+40)!=0)port_rattle_dealloc(rp(Va+24));
+Bd=rp(Ua+1544);
+Cd=rp(Ua+1584);
+Dd=r8(Ua+1600);
+Ed=rp(Ua+1608);
+Fd=r8(Ua+1624);
+Gd=rp(Ua+1632);
+Hd=r8(Ua+1648);
+Id=r8(Ua+1560);
+memcpy(Pa,Ua,1544);
+drop_816(Pa);
+if(Id!=0)port_rattle_dealloc(Bd);
+if(Dd!=0)port_rattle_dealloc(Cd);
+if(Fd!=0)port_rattle_dealloc(Ed);
+if(Hd!=0)port_rattle_dealloc(Gd);
+Jd=2;
+Kd=1;
 goto L24;}
-cm=Ql.f1;
-if(!Rl)port_rattle_dealloc(rp(kh));
-if(r8(kh+40)!=0)port_rattle_dealloc(rp(kh+24));
-dm=rp(jh+1944);
-em=rp(jh+1984);
-fm=r8(jh+2000);
-gm=rp(jh+2008);
-hm=r8(jh+2024);
-im=rp(jh+2032);
-jm=r8(jh+2048);
-km=r8(jh+1960);
-memcpy(dh,jh,1944);
-drop_816(dh);
-if(km!=0)port_rattle_dealloc(dm);
-if(fm!=0)port_rattle_dealloc(em);
-if(hm!=0)port_rattle_dealloc(gm);
-if(jm!=0)port_rattle_dealloc(im);
-am=cm;
-bm=1;
+Ld=zd.f1;
+if(!Ad)port_rattle_dealloc(rp(Va));
+if(r8(Va+40)!=0)port_rattle_dealloc(rp(Va+24));
+Md=rp(Ua+1544);
+Nd=rp(Ua+1584);
+Od=r8(Ua+1600);
+Pd=rp(Ua+1608);
+Qd=r8(Ua+1624);
+Rd=rp(Ua+1632);
+Sd=r8(Ua+1648);
+Td=r8(Ua+1560);
+memcpy(Oa,Ua,1544);
+drop_816(Oa);
+if(Td!=0)port_rattle_dealloc(Md);
+if(Od!=0)port_rattle_dealloc(Nd);
+if(Qd!=0)port_rattle_dealloc(Pd);
+if(Sd!=0)port_rattle_dealloc(Rd);
+Jd=Ld;
+Kd=1;
 goto L24;
-L21:if(!(Ml<4096&&r8(kh+32)<4096)){
-lm=write_120(kh,d,e);
-if(lm.f0!=0){
-mm=lm.f1;
-if(r8(kh+16)!=0)port_rattle_dealloc(rp(kh));
-if(r8(kh+40)!=0)port_rattle_dealloc(rp(kh+24));
-nm=rp(jh+1944);
-om=rp(jh+1984);
-pm=r8(jh+2000);
-qm=rp(jh+2008);
-rm=r8(jh+2024);
-sm=rp(jh+2032);
-tm=r8(jh+2048);
-um=r8(jh+1960);
-memcpy(ch,jh,1944);
-drop_816(ch);
-if(um!=0)port_rattle_dealloc(nm);
-if(pm!=0)port_rattle_dealloc(om);
-if(rm!=0)port_rattle_dealloc(qm);
-if(tm!=0)port_rattle_dealloc(sm);
-am=mm;
-bm=1;
+L21:if(!(ud<4096&&r8(Va+32)<4096)){
+Ud=write_120(Va,d,e);
+if(Ud.f0!=0){
+Vd=Ud.f1;
+if(r8(Va+16)!=0)port_rattle_dealloc(rp(Va));
+if(r8(Va+40)!=0)port_rattle_dealloc(rp(Va+24));
+Wd=rp(Ua+1544);
+Xd=rp(Ua+1584);
+Yd=r8(Ua+1600);
+Zd=rp(Ua+1608);
+ae=r8(Ua+1624);
+be=rp(Ua+1632);
+ce=r8(Ua+1648);
+de=r8(Ua+1560);
+memcpy(Na,Ua,1544);
+drop_816(Na);
+if(de!=0)port_rattle_dealloc(Wd);
+if(Yd!=0)port_rattle_dealloc(Xd);
+if(ae!=0)port_rattle_dealloc(Zd);
+if(ce!=0)port_rattle_dealloc(be);
+Jd=Vd;
+Kd=1;
 goto L24;}}
-vm=el+1;
-if(vm!=c){
-dl=Nl;
-el=vm;
+ee=Lc+1;
+if(ee!=c){
+Kc=vd;
+Lc=ee;
 goto L16;}
-wm=write_120(kh,d,e);
-xm=r8(kh+16)==0;
-if(wm.f0==0){
-if(!xm)port_rattle_dealloc(rp(kh));
-if(r8(kh+40)!=0)port_rattle_dealloc(rp(kh+24));
-ym=rp(jh+1944);
-zm=rp(jh+1984);
-Am=r8(jh+2000);
-Bm=rp(jh+2008);
-Cm=r8(jh+2024);
-Dm=rp(jh+2032);
-Em=r8(jh+2048);
-Fm=r8(jh+1960);
-memcpy(bh,jh,1944);
-drop_816(bh);
-if(Fm!=0)port_rattle_dealloc(ym);
-if(Am!=0)port_rattle_dealloc(zm);
-if(Cm!=0)port_rattle_dealloc(Bm);
-if(Em!=0)port_rattle_dealloc(Dm);
-am=Nl;
-bm=0;}
+fe=write_120(Va,d,e);
+ge=r8(Va+16)==0;
+if(fe.f0==0){
+if(!ge)port_rattle_dealloc(rp(Va));
+if(r8(Va+40)!=0)port_rattle_dealloc(rp(Va+24));
+he=rp(Ua+1544);
+ie=rp(Ua+1584);
+je=r8(Ua+1600);
+ke=rp(Ua+1608);
+le=r8(Ua+1624);
+me=rp(Ua+1632);
+ne=r8(Ua+1648);
+oe=r8(Ua+1560);
+memcpy(Ma,Ua,1544);
+drop_816(Ma);
+if(oe!=0)port_rattle_dealloc(he);
+if(je!=0)port_rattle_dealloc(ie);
+if(le!=0)port_rattle_dealloc(ke);
+if(ne!=0)port_rattle_dealloc(me);
+Jd=vd;
+Kd=0;}
 else{
-Gm=wm.f1;
-if(!xm)port_rattle_dealloc(rp(kh));
-if(r8(kh+40)!=0)port_rattle_dealloc(rp(kh+24));
-Hm=rp(jh+1944);
-Im=rp(jh+1984);
-Jm=r8(jh+2000);
-Km=rp(jh+2008);
-Lm=r8(jh+2024);
-Mm=rp(jh+2032);
-Nm=r8(jh+2048);
-Om=r8(jh+1960);
-memcpy(ah,jh,1944);
-drop_816(ah);
-if(Om!=0)port_rattle_dealloc(Hm);
-if(Jm!=0)port_rattle_dealloc(Im);
-if(Lm!=0)port_rattle_dealloc(Km);
-if(Nm!=0)port_rattle_dealloc(Mm);
-am=Gm;
-bm=1;}
-L24:Zk=bm;
-al=am;}
-Pm=Zk;
-Qm=al;}
+pe=fe.f1;
+if(!ge)port_rattle_dealloc(rp(Va));
+if(r8(Va+40)!=0)port_rattle_dealloc(rp(Va+24));
+qe=rp(Ua+1544);
+re=rp(Ua+1584);
+se=r8(Ua+1600);
+te=rp(Ua+1608);
+ue=r8(Ua+1624);
+ve=rp(Ua+1632);
+we=r8(Ua+1648);
+xe=r8(Ua+1560);
+memcpy(La,Ua,1544);
+drop_816(La);
+if(xe!=0)port_rattle_dealloc(qe);
+if(se!=0)port_rattle_dealloc(re);
+if(ue!=0)port_rattle_dealloc(te);
+if(we!=0)port_rattle_dealloc(ve);
+Jd=pe;
+Kd=1;}
+L24:Gc=Kd;
+Hc=Jd;}
+ye=Gc;
+ze=Hc;}
 else{
-z12(Zg);
-w4(Yg,Aj);
-Yg[4]=Bj;
-z3(Yg+5);
-if(Gj){
-zero_all(Rg+1512,432);
-z48(Sg);
-zero_all(Tg,1944);
-zero_all(Ug,1944);
-zero_all(Vg,1944);
-zero_all(Wg,1944);
-zero_all(Xg,1944);
-Rm=(u64)(u8*)65536;
-wp(Rg,(u8*)65536);
-z24(Rg+8);
-wp(Rg+32,(u8*)65536);
-z16(Rg+40);
-wp(Rg+56,(u8*)65536);
-z32(Rg+64);
-wp(Rg+96,(u8*)65536);
-z16(Rg+104);
-wp(Rg+120,(u8*)65536);
-z32(Rg+128);
-wp(Rg+160,(u8*)65536);
-z80(Rg+168);
-wp(Rg+248,(u8*)65536);
-z16(Rg+256);
-wp(Rg+272,(u8*)65536);
-z40(Rg+280);
-wp(Rg+320,(u8*)65536);
-z16(Rg+328);
-wp(Rg+344,(u8*)65536);
-z16(Rg+352);
-wp(Rg+368,(u8*)65536);
-z16(Rg+376);
-wp(Rg+392,(u8*)65536);
-z16(Rg+400);
-wp(Rg+416,(u8*)65536);
-z16(Rg+424);
-wp(Rg+440,(u8*)65536);
-z48(Rg+448);
-wp(Rg+496,(u8*)65536);
-z32(Rg+504);
-wp(Rg+536,(u8*)65536);
-z32(Rg+544);
-wp(Rg+576,(u8*)65536);
-z104(Rg+584);
-w8(Rg+688,Rm);
-z40(Rg+696);
-w8(Rg+736,Rm);
-z16(Rg+744);
-wp(Rg+760,(u8*)65536);
-z32(Rg+768);
-wp(Rg+800,(u8*)65536);
-z24(Rg+808);
-wp(Rg+832,(u8*)65536);
-z16(Rg+840);
-wp(Rg+856,(u8*)65536);
-z32(Rg+864);
-wp(Rg+896,(u8*)65536);
-z16(Rg+904);
-wp(Rg+920,(u8*)65536);
-z24(Rg+928);
-wp(Rg+952,(u8*)65536);
-z16(Rg+960);
-wp(Rg+976,(u8*)65536);
-z16(Rg+984);
-wp(Rg+1000,(u8*)65536);
-z40(Rg+1008);
-wp(Rg+1048,(u8*)65536);
-z16(Rg+1056);
-wp(Rg+1072,(u8*)65536);
-z16(Rg+1080);
-wp(Rg+1096,(u8*)65536);
-z16(Rg+1104);
-wp(Rg+1120,(u8*)65536);
-z16(Rg+1128);
-wp(Rg+1144,(u8*)65536);
-z16(Rg+1152);
-wp(Rg+1168,(u8*)65536);
-z48(Rg+1176);
-wp(Rg+1224,(u8*)65536);
-z32(Rg+1232);
-wp(Rg+1264,(u8*)65536);
-z40(Rg+1272);
-wp(Rg+1312,(u8*)65536);
-z32(Rg+1320);
-wp(Rg+1352,(u8*)65536);
-z16(Rg+1360);
-wp(Rg+1376,(u8*)65536);
-z48(Rg+1384);
-w8(Rg+1432,Rm);
-z40(Rg+1440);
-w8(Rg+1480,Rm);
-z16(Rg+1488);
-wp(Rg+1504,(u8*)65536);
-z32(Rg+1512);
-wp(Rg+1544,(u8*)65536);
-z32(Rg+1552);
-wp(Rg+1584,(u8*)65536);
-z32(Rg+1592);
-wp(Rg+1624,(u8*)65536);
-z104(Rg+1632);
-wp(Rg+1736,(u8*)65536);
-z32(Rg+1744);
-wp(Rg+1776,(u8*)65536);
-z40(Rg+1784);
-wp(Rg+1824,(u8*)65536);
-z32(Rg+1832);
-wp(Rg+1864,(u8*)65536);
-z16(Rg+1872);
-wp(Rg+1888,(u8*)65536);
-z48(Rg+1896);
-wp(Sg,(u8*)65536);
-z16(Sg+8);
-wp(Sg+24,(u8*)65536);
-z16(Sg+32);
-Sm=Ej&1;
-Tm=0;
-Um=0;
-L25:Vm=b+(i64)(Um<<4);
-Wm=r8(Vm+8);
-Xm=rp(Vm);
-Ym=r8(Sg+8);
-Zm=r8(Sg+32);
-if(Wm-65537>=0xffffffffffff0001u){
-an=*Xm==95;
-if(Wm==2){
-if(!an)goto L26;
-switch(Xm[1]){
-case 90:bn=0;
+z12(Ka);
+w4(Ja,hb);
+Ja[4]=ib;
+z3(Ja+5);
+if(nb){
+z32(Ca+1512);
+z48(Da);
+zero_all(Ea,1544);
+zero_all(Fa,1544);
+zero_all(Ga,1544);
+zero_all(Ha,1544);
+zero_all(Ia,1544);
+Ae=(u64)(u8*)65536;
+wp(Ca,(u8*)65536);
+z24(Ca+8);
+wp(Ca+32,(u8*)65536);
+z16(Ca+40);
+wp(Ca+56,(u8*)65536);
+z32(Ca+64);
+wp(Ca+96,(u8*)65536);
+z16(Ca+104);
+wp(Ca+120,(u8*)65536);
+z32(Ca+128);
+wp(Ca+160,(u8*)65536);
+z80(Ca+168);
+wp(Ca+248,(u8*)65536);
+z16(Ca+256);
+wp(Ca+272,(u8*)65536);
+z40(Ca+280);
+wp(Ca+320,(u8*)65536);
+z16(Ca+328);
+wp(Ca+344,(u8*)65536);
+z16(Ca+352);
+wp(Ca+368,(u8*)65536);
+z16(Ca+376);
+wp(Ca+392,(u8*)65536);
+z16(Ca+400);
+wp(Ca+416,(u8*)65536);
+z16(Ca+424);
+wp(Ca+440,(u8*)65536);
+z48(Ca+448);
+wp(Ca+496,(u8*)65536);
+z32(Ca+504);
+wp(Ca+536,(u8*)65536);
+z32(Ca+544);
+wp(Ca+576,(u8*)65536);
+z104(Ca+584);
+w8(Ca+688,Ae);
+z40(Ca+696);
+w8(Ca+736,Ae);
+z16(Ca+744);
+wp(Ca+760,(u8*)65536);
+z32(Ca+768);
+wp(Ca+800,(u8*)65536);
+z24(Ca+808);
+wp(Ca+832,(u8*)65536);
+z16(Ca+840);
+wp(Ca+856,(u8*)65536);
+z32(Ca+864);
+wp(Ca+896,(u8*)65536);
+z16(Ca+904);
+wp(Ca+920,(u8*)65536);
+z24(Ca+928);
+wp(Ca+952,(u8*)65536);
+z16(Ca+960);
+wp(Ca+976,(u8*)65536);
+z16(Ca+984);
+wp(Ca+1000,(u8*)65536);
+z40(Ca+1008);
+wp(Ca+1048,(u8*)65536);
+z16(Ca+1056);
+wp(Ca+1072,(u8*)65536);
+z16(Ca+1080);
+wp(Ca+1096,(u8*)65536);
+z16(Ca+1104);
+wp(Ca+1120,(u8*)65536);
+z16(Ca+1128);
+wp(Ca+1144,(u8*)65536);
+z16(Ca+1152);
+wp(Ca+1168,(u8*)65536);
+z48(Ca+1176);
+wp(Ca+1224,(u8*)65536);
+z32(Ca+1232);
+wp(Ca+1264,(u8*)65536);
+z40(Ca+1272);
+wp(Ca+1312,(u8*)65536);
+z32(Ca+1320);
+wp(Ca+1352,(u8*)65536);
+z16(Ca+1360);
+wp(Ca+1376,(u8*)65536);
+z48(Ca+1384);
+w8(Ca+1432,Ae);
+z40(Ca+1440);
+w8(Ca+1480,Ae);
+z16(Ca+1488);
+wp(Ca+1504,(u8*)65536);
+z32(Ca+1512);
+wp(Da,(u8*)65536);
+z16(Da+8);
+wp(Da+24,(u8*)65536);
+z16(Da+32);
+Be=lb&1;
+Ce=0;
+De=0;
+L25:Ee=b+(i64)(De<<4);
+Fe=r8(Ee+8);
+Ge=rp(Ee);
+He=r8(Da+8);
+Ie=r8(Da+32);
+if(Fe-65537>=0xffffffffffff0001u){
+Je=*Ge==95;
+if(Fe==2){
+if(!Je)goto L26;
+switch(Ge[1]){
+case 90:Ke=0;
 goto L27;
 case 82:break;
 default:goto L26;
 }}
 else{
-if(!an)goto L26;
-switch(Xm[1]){
-case 90:bn=0;
+if(!Je)goto L26;
+switch(Ge[1]){
+case 90:Ke=0;
 goto L27;
 case 82:break;
-case 95:switch(Xm[2]){
-case 90:bn=0x100000000u;
+case 95:switch(Ge[2]){
+case 90:Ke=0x100000000u;
 goto L27;
-case 82:bn=0x100000001u;
+case 82:Ke=0x100000001u;
 goto L27;
 default:goto L26;
 }
 break;
 default:goto L26;
 }}
-bn=1;
-L27:cn=bn;
-dn=bn>>32;
-if(!Sm){
-z12(Pg);
-append_e62(Pg,Yg,Rg,cn,Xm+(i64)dn,Wm-dn,Sg);
-if(*Pg!=0){
-vn=push_refused_bbc(0,Xm,Wm,Pg[4],r4(Pg+8),Sg,Sg+24);
-nn=1;
-on=vn;
+Ke=1;
+L27:Le=Ke;
+Me=Ke>>32;
+if(!Be){
+z12(Aa);
+append_e62(Aa,Ja,Ca,Le,Ge+(i64)Me,Fe-Me,Da);
+if(*Aa!=0){
+ef=push_refused_bbc(0,Ge,Fe,Aa[4],r4(Aa+8),Da,Da+24);
+We=1;
+Xe=ef;
 goto L28;}
-pn=r8(Sg+8);
-if(r8(Sg+16)==pn){
-qn=grow_amortized_68b(Sg,1);
-if(!qn)goto L29;
-rn=r8(Sg+8);}
-else rn=pn;
-*(rp(Sg)+rn)=10;
-sn=rn+1;
-w8(Sg+8,sn);
-tn=sn;
-un=Tm;
+Ye=r8(Da+8);
+if(r8(Da+16)==Ye){
+Ze=grow_amortized_68b(Da,1);
+if(!Ze)goto L29;
+af=r8(Da+8);}
+else af=Ye;
+*(rp(Da)+af)=10;
+bf=af+1;
+w8(Da+8,bf);
+cf=bf;
+df=Ce;
 goto L30;}
-demangle_f29(Qg,Yg,Rg,cn,Xm+(i64)dn,Wm-dn,Sg);
-switch(*Qg){
-case 0:en=r8(Sg+8);
-if(r8(Sg+16)==en){
-fn=grow_amortized_68b(Sg,1);
-if(!fn)break;
-gn=r8(Sg+8);}
-else gn=en;
-*(rp(Sg)+gn)=10;
-w8(Sg+8,gn+1);
-hn=push_counts_ddb(Qg+4,Sg);
-in=!(hn&1);
-jn=hn;
+demangle_f29(Ba,Ja,Ca,Le,Ge+(i64)Me,Fe-Me,Da);
+switch(*Ba){
+case 0:Ne=r8(Da+8);
+if(r8(Da+16)==Ne){
+Oe=grow_amortized_68b(Da,1);
+if(!Oe)break;
+Pe=r8(Da+8);}
+else Pe=Ne;
+*(rp(Da)+Pe)=10;
+w8(Da+8,Pe+1);
+Qe=push_counts_ddb(Ba+4,Da);
+Re=!(Qe&1);
+Se=Qe;
 goto L31;
-case 1:kn=push_refused_bbc(0,Xm,Wm,3,0,Sg,Sg+24);
-if(!(kn&1)){
-ln=push_counts_ddb(Qg+4,Sg);
-in=0;
-jn=ln;
+case 1:Te=push_refused_bbc(0,Ge,Fe,3,0,Da,Da+24);
+if(!(Te&1)){
+Ue=push_counts_ddb(Ba+4,Da);
+Re=0;
+Se=Ue;
 goto L31;}
 break;
-case 2:mn=push_refused_bbc(0,Xm,Wm,Qg[4],r4(Qg+8),Sg,Sg+24);
-in=0;
-jn=mn;
+case 2:Ve=push_refused_bbc(0,Ge,Fe,Ba[4],r4(Ba+8),Da,Da+24);
+Re=0;
+Se=Ve;
 goto L31;
 default:NEVER;
 }
 goto L29;
-L31:nn=(jn==0&&in)?Tm:1;
-on=jn;
+L31:We=(Se==0&&Re)?Ce:1;
+Xe=Se;
 goto L28;}
-L26:wn=push_unnamed_383(Xm,Wm,Sg,Sg+24);
-nn=1;
-on=wn;
-L28:if(on==0){
-tn=r8(Sg+8);
-un=nn;
+L26:ff=push_unnamed_383(Ge,Fe,Da,Da+24);
+We=1;
+Xe=ff;
+L28:if(Xe==0){
+cf=r8(Da+8);
+df=We;
 goto L30;}
-L29:w8(Sg+8,umin64(r8(Sg+8),Ym));
-w8(Sg+32,umin64(r8(Sg+32),Zm));
-xn=write_120(Sg,d,e);
-yn=r8(Sg+16)==0;
-if(xn.f0==0){
-if(!yn)port_rattle_dealloc(rp(Sg));
-if(r8(Sg+40)==0){
-zn=Ug;
-An=2;
-Bn=1;
+L29:w8(Da+8,umin64(r8(Da+8),He));
+w8(Da+32,umin64(r8(Da+32),Ie));
+gf=write_120(Da,d,e);
+hf=r8(Da+16)==0;
+if(gf.f0==0){
+if(!hf)port_rattle_dealloc(rp(Da));
+if(r8(Da+40)==0){
+jf=Fa;
+kf=2;
+lf=1;
 goto L32;}
-Cn=Ug;
-Dn=2;
-En=1;
+mf=Fa;
+nf=2;
+of=1;
 goto L33;}
-Fn=xn.f1;
-if(!yn)port_rattle_dealloc(rp(Sg));
-if(r8(Sg+40)==0){
-zn=Tg;
-An=Fn;
-Bn=1;
+pf=gf.f1;
+if(!hf)port_rattle_dealloc(rp(Da));
+if(r8(Da+40)==0){
+jf=Ea;
+kf=pf;
+lf=1;
 goto L32;}
-Cn=Tg;
-Dn=Fn;
-En=1;
+mf=Ea;
+nf=pf;
+of=1;
 goto L33;
-L30:if(!(tn<4096&&r8(Sg+32)<4096)){
-Gn=write_120(Sg,d,e);
-if(Gn.f0!=0){
-Hn=Gn.f1;
-if(r8(Sg+16)!=0)port_rattle_dealloc(rp(Sg));
-if(r8(Sg+40)==0){
-zn=Vg;
-An=Hn;
-Bn=1;
+L30:if(!(cf<4096&&r8(Da+32)<4096)){
+qf=write_120(Da,d,e);
+if(qf.f0!=0){
+rf=qf.f1;
+if(r8(Da+16)!=0)port_rattle_dealloc(rp(Da));
+if(r8(Da+40)==0){
+jf=Ga;
+kf=rf;
+lf=1;
 goto L32;}
-Cn=Vg;
-Dn=Hn;
-En=1;
+mf=Ga;
+nf=rf;
+of=1;
 goto L33;}}
-In=Um+1;
-if(In!=c){
-Tm=un;
-Um=In;
+sf=De+1;
+if(sf!=c){
+Ce=df;
+De=sf;
 goto L25;}
-Jn=write_120(Sg,d,e);
-Kn=r8(Sg+16)==0;
-if(Jn.f0==0){
-if(!Kn)port_rattle_dealloc(rp(Sg));
-if(r8(Sg+40)==0){
-zn=Xg;
-An=un;
-Bn=0;
+tf=write_120(Da,d,e);
+uf=r8(Da+16)==0;
+if(tf.f0==0){
+if(!uf)port_rattle_dealloc(rp(Da));
+if(r8(Da+40)==0){
+jf=Ia;
+kf=df;
+lf=0;
 goto L32;}
-Cn=Xg;
-Dn=un;
-En=0;}
+mf=Ia;
+nf=df;
+of=0;}
 else{
-Ln=Jn.f1;
-if(!Kn)port_rattle_dealloc(rp(Sg));
-if(r8(Sg+40)==0){
-zn=Wg;
-An=Ln;
-Bn=1;
+vf=tf.f1;
+if(!uf)port_rattle_dealloc(rp(Da));
+if(r8(Da+40)==0){
+jf=Ha;
+kf=vf;
+lf=1;
 goto L32;}
-Cn=Wg;
-Dn=Ln;
-En=1;}
-L33:port_rattle_dealloc(rp(Sg+24));
-zn=Cn;
-An=Dn;
-Bn=En;
-L32:memcpy(zn,Rg,1944);
-drop_816(zn);
-Mn=Bn;
-Nn=An;}
+mf=Ha;
+nf=vf;
+of=1;}
+L33:port_rattle_dealloc(rp(Da+24));
+jf=mf;
+kf=nf;
+lf=of;
+L32:memcpy(jf,Ca,1544);
+drop_816(jf);
+wf=lf;
+xf=kf;}
 else{
-w8(Zg,r8(Yg));
-Zg[8]=Dj;
-On=(u64)(u8*)65536;
-z32(Gg);
-z40(Hg);
-z32(Ig);
-z16(Jg);
-z48(Kg);
-z32(Lg);
-z16(Mg);
-z16(Ng);
-z16(Og);
-z24(Nf);
-z16(Of);
-z32(Pf);
-z16(Qf);
-z32(Rf);
-z80(Sf);
-z16(Tf);
-z40(Uf);
-z16(Vf);
-z16(Wf);
-z16(Xf);
-z16(Yf);
-z16(Zf);
-z48(ag);
-z32(bg);
-z32(cg);
-z104(dg);
-z40(eg);
-z16(fg);
-z32(gg);
-z24(hg);
-z16(ig);
-z32(jg);
-z16(kg);
-z24(lg);
-z16(mg);
-z16(ng);
-z40(og);
-z16(pg);
-z16(qg);
-z16(rg);
-z16(sg);
-z16(tg);
-z48(ug);
-z32(vg);
-z40(wg);
-z32(xg);
-z16(yg);
-z48(zg);
-z40(Ag);
-z16(Bg);
-z32(Cg);
-z32(Dg);
-z32(Eg);
-z104(Fg);
-memcpy(Ke,Nf,24);
-memcpy(Le,Of,16);
-memcpy(Me,Pf,32);
-memcpy(Ne,Qf,16);
-memcpy(Oe,Rf,32);
-memcpy(Pe,Sf,80);
-memcpy(Qe,Tf,16);
-memcpy(Re,Uf,40);
-memcpy(Se,Vf,16);
-memcpy(Te,Wf,16);
-memcpy(Ue,Xf,16);
-memcpy(Ve,Yf,16);
-memcpy(We,Zf,16);
-memcpy(Xe,ag,48);
-memcpy(Ye,bg,32);
-memcpy(Ze,cg,32);
-memcpy(af,dg,104);
-memcpy(bf,eg,40);
-memcpy(cf,fg,16);
-memcpy(df,gg,32);
-memcpy(ef,hg,24);
-memcpy(ff,ig,16);
-memcpy(gf,jg,32);
-memcpy(hf,kg,16);
-memcpy(jf,lg,24);
-memcpy(kf,mg,16);
-memcpy(lf,ng,16);
-memcpy(mf,og,40);
-memcpy(nf,pg,16);
-memcpy(of,qg,16);
-memcpy(pf,rg,16);
-memcpy(qf,sg,16);
-memcpy(rf,tg,16);
-memcpy(sf,ug,48);
-memcpy(tf,vg,32);
-memcpy(uf,wg,40);
-memcpy(vf,xg,32);
-memcpy(wf,yg,16);
-memcpy(xf,zg,48);
-memcpy(yf,Ag,40);
-memcpy(zf,Bg,16);
-memcpy(Af,Cg,32);
-memcpy(Bf,Dg,32);
-memcpy(Cf,Eg,32);
-memcpy(Df,Fg,104);
-memcpy(Ef,Gg,32);
-memcpy(Ff,Hg,40);
-memcpy(Gf,Ig,32);
-memcpy(Hf,Jg,16);
-memcpy(If,Kg,48);
-memcpy(Jf,Lg,32);
-memcpy(Kf,Mg,16);
-memcpy(Lf,Ng,16);
-memcpy(Mf,Og,16);
-wp(Ie,(u8*)65536);
-memcpy(Ie+8,Ke,24);
-wp(Ie+32,(u8*)65536);
-memcpy(Ie+40,Le,16);
-wp(Ie+56,(u8*)65536);
-memcpy(Ie+64,Me,32);
-wp(Ie+96,(u8*)65536);
-memcpy(Ie+104,Ne,16);
-wp(Ie+120,(u8*)65536);
-memcpy(Ie+128,Oe,32);
-wp(Ie+160,(u8*)65536);
-memcpy(Ie+168,Pe,80);
-wp(Ie+248,(u8*)65536);
-memcpy(Ie+256,Qe,16);
-wp(Ie+272,(u8*)65536);
-memcpy(Ie+280,Re,40);
-wp(Ie+320,(u8*)65536);
-memcpy(Ie+328,Se,16);
-wp(Ie+344,(u8*)65536);
-memcpy(Ie+352,Te,16);
-wp(Ie+368,(u8*)65536);
-memcpy(Ie+376,Ue,16);
-wp(Ie+392,(u8*)65536);
-memcpy(Ie+400,Ve,16);
-wp(Ie+416,(u8*)65536);
-memcpy(Ie+424,We,16);
-wp(Ie+440,(u8*)65536);
-memcpy(Ie+448,Xe,48);
-wp(Ie+496,(u8*)65536);
-memcpy(Ie+504,Ye,32);
-wp(Ie+536,(u8*)65536);
-memcpy(Ie+544,Ze,32);
-wp(Ie+576,(u8*)65536);
-memcpy(Ie+584,af,104);
-w8(Ie+688,On);
-memcpy(Ie+696,bf,40);
-w8(Ie+736,On);
-memcpy(Ie+744,cf,16);
-wp(Ie+760,(u8*)65536);
-memcpy(Ie+768,df,32);
-wp(Ie+800,(u8*)65536);
-memcpy(Ie+808,ef,24);
-wp(Ie+832,(u8*)65536);
-memcpy(Ie+840,ff,16);
-wp(Ie+856,(u8*)65536);
-memcpy(Ie+864,gf,32);
-wp(Ie+896,(u8*)65536);
-memcpy(Ie+904,hf,16);
-wp(Ie+920,(u8*)65536);
-memcpy(Ie+928,jf,24);
-wp(Ie+952,(u8*)65536);
-memcpy(Ie+960,kf,16);
-wp(Ie+976,(u8*)65536);
-memcpy(Ie+984,lf,16);
-wp(Ie+1000,(u8*)65536);
-memcpy(Ie+1008,mf,40);
-wp(Ie+1048,(u8*)65536);
-memcpy(Ie+1056,nf,16);
-wp(Ie+1072,(u8*)65536);
-memcpy(Ie+1080,of,16);
-wp(Ie+1096,(u8*)65536);
-memcpy(Ie+1104,pf,16);
-wp(Ie+1120,(u8*)65536);
-memcpy(Ie+1128,qf,16);
-wp(Ie+1144,(u8*)65536);
-memcpy(Ie+1152,rf,16);
-wp(Ie+1168,(u8*)65536);
-memcpy(Ie+1176,sf,48);
-wp(Ie+1224,(u8*)65536);
-memcpy(Ie+1232,tf,32);
-wp(Ie+1264,(u8*)65536);
-memcpy(Ie+1272,uf,40);
-wp(Ie+1312,(u8*)65536);
-memcpy(Ie+1320,vf,32);
-wp(Ie+1352,(u8*)65536);
-memcpy(Ie+1360,wf,16);
-wp(Ie+1376,(u8*)65536);
-memcpy(Ie+1384,xf,48);
-w8(Ie+1432,On);
-memcpy(Ie+1440,yf,40);
-w8(Ie+1480,On);
-memcpy(Ie+1488,zf,16);
-wp(Ie+1504,(u8*)65536);
-memcpy(Ie+1512,Af,32);
-wp(Ie+1544,(u8*)65536);
-memcpy(Ie+1552,Bf,32);
-wp(Ie+1584,(u8*)65536);
-memcpy(Ie+1592,Cf,32);
-wp(Ie+1624,(u8*)65536);
-memcpy(Ie+1632,Df,104);
-wp(Ie+1736,(u8*)65536);
-memcpy(Ie+1744,Ef,32);
-wp(Ie+1776,(u8*)65536);
-memcpy(Ie+1784,Ff,40);
-wp(Ie+1824,(u8*)65536);
-memcpy(Ie+1832,Gf,32);
-wp(Ie+1864,(u8*)65536);
-memcpy(Ie+1872,Hf,16);
-wp(Ie+1888,(u8*)65536);
-memcpy(Ie+1896,If,48);
-wp(Ie+1944,(u8*)65536);
-memcpy(Ie+1952,Jf,32);
-wp(Ie+1984,(u8*)65536);
-memcpy(Ie+1992,Kf,16);
-wp(Ie+2008,(u8*)65536);
-memcpy(Ie+2016,Lf,16);
-wp(Ie+2032,(u8*)65536);
-memcpy(Ie+2040,Mf,16);
-wp(Je,(u8*)65536);
-z16(Je+8);
-wp(Je+24,(u8*)65536);
-z16(Je+32);
-Pn=Ej&1;
-Qn=0;
-Rn=0;
-L34:Sn=b+(i64)(Rn<<4);
-Tn=r8(Sn+8);
-Un=rp(Sn);
-Vn=r8(Je+8);
-Wn=r8(Je+32);
-if(Tn-65537>=0xffffffffffff0001u){
-Xn=*Un==95;
-if(Tn==2){
-if(!Xn)goto L35;
-switch(Un[1]){
-case 90:Yn=0;
+w8(Ka,r8(Ja));
+Ka[8]=kb;
+z48(ya+1608);
+z48(za);
+yf=(u64)(u8*)65536;
+wp(ya,(u8*)65536);
+z24(ya+8);
+wp(ya+32,(u8*)65536);
+z16(ya+40);
+wp(ya+56,(u8*)65536);
+z32(ya+64);
+wp(ya+96,(u8*)65536);
+z16(ya+104);
+wp(ya+120,(u8*)65536);
+z32(ya+128);
+wp(ya+160,(u8*)65536);
+z80(ya+168);
+wp(ya+248,(u8*)65536);
+z16(ya+256);
+wp(ya+272,(u8*)65536);
+z40(ya+280);
+wp(ya+320,(u8*)65536);
+z16(ya+328);
+wp(ya+344,(u8*)65536);
+z16(ya+352);
+wp(ya+368,(u8*)65536);
+z16(ya+376);
+wp(ya+392,(u8*)65536);
+z16(ya+400);
+wp(ya+416,(u8*)65536);
+z16(ya+424);
+wp(ya+440,(u8*)65536);
+z48(ya+448);
+wp(ya+496,(u8*)65536);
+z32(ya+504);
+wp(ya+536,(u8*)65536);
+z32(ya+544);
+wp(ya+576,(u8*)65536);
+z104(ya+584);
+w8(ya+688,yf);
+z40(ya+696);
+w8(ya+736,yf);
+z16(ya+744);
+wp(ya+760,(u8*)65536);
+z32(ya+768);
+wp(ya+800,(u8*)65536);
+z24(ya+808);
+wp(ya+832,(u8*)65536);
+z16(ya+840);
+wp(ya+856,(u8*)65536);
+z32(ya+864);
+wp(ya+896,(u8*)65536);
+z16(ya+904);
+wp(ya+920,(u8*)65536);
+z24(ya+928);
+wp(ya+952,(u8*)65536);
+z16(ya+960);
+wp(ya+976,(u8*)65536);
+z16(ya+984);
+wp(ya+1000,(u8*)65536);
+z40(ya+1008);
+wp(ya+1048,(u8*)65536);
+z16(ya+1056);
+wp(ya+1072,(u8*)65536);
+z16(ya+1080);
+wp(ya+1096,(u8*)65536);
+z16(ya+1104);
+wp(ya+1120,(u8*)65536);
+z16(ya+1128);
+wp(ya+1144,(u8*)65536);
+z16(ya+1152);
+wp(ya+1168,(u8*)65536);
+z48(ya+1176);
+wp(ya+1224,(u8*)65536);
+z32(ya+1232);
+wp(ya+1264,(u8*)65536);
+z40(ya+1272);
+wp(ya+1312,(u8*)65536);
+z32(ya+1320);
+wp(ya+1352,(u8*)65536);
+z16(ya+1360);
+wp(ya+1376,(u8*)65536);
+z48(ya+1384);
+w8(ya+1432,yf);
+z40(ya+1440);
+w8(ya+1480,yf);
+z16(ya+1488);
+wp(ya+1504,(u8*)65536);
+z32(ya+1512);
+wp(ya+1544,(u8*)65536);
+z32(ya+1552);
+wp(ya+1584,(u8*)65536);
+z16(ya+1592);
+wp(ya+1608,(u8*)65536);
+z16(ya+1616);
+wp(ya+1632,(u8*)65536);
+z16(ya+1640);
+wp(za,(u8*)65536);
+z16(za+8);
+wp(za+24,(u8*)65536);
+z16(za+32);
+zf=lb&1;
+Af=0;
+Bf=0;
+L34:Cf=b+(i64)(Bf<<4);
+Df=r8(Cf+8);
+Ef=rp(Cf);
+Ff=r8(za+8);
+Gf=r8(za+32);
+if(Df-65537>=0xffffffffffff0001u){
+Hf=*Ef==95;
+if(Df==2){
+if(!Hf)goto L35;
+switch(Ef[1]){
+case 90:If=0;
 goto L36;
 case 82:break;
 default:goto L35;
 }}
 else{
-if(!Xn)goto L35;
-switch(Un[1]){
-case 90:Yn=0;
+if(!Hf)goto L35;
+switch(Ef[1]){
+case 90:If=0;
 goto L36;
 case 82:break;
-case 95:switch(Un[2]){
-case 90:Yn=0x100000000u;
+case 95:switch(Ef[2]){
+case 90:If=0x100000000u;
 goto L36;
-case 82:Yn=0x100000001u;
+case 82:If=0x100000001u;
 goto L36;
 default:goto L35;
 }
 break;
 default:goto L35;
 }}
-Yn=1;
-L36:Zn=Yn;
-ao=Yn>>32;
-if(!Pn){
-wo=Un+(i64)ao;
-xo=Tn-ao;
-z12(Ee);
-append_e62(Ee,Zg,Ie,Zn,wo,xo,Je);
-if(*Ee==0){
-yo=rewrite_43c(Zg,Ie+1944,Zn,wo,xo,Vn,Je);
-if(!(yo&1)){
-Bo=r8(Je+8);
-if(r8(Je+16)==Bo){
-Co=grow_amortized_68b(Je,1);
-if(!Co)goto L37;
-Do=r8(Je+8);}
-else Do=Bo;
-*(rp(Je)+Do)=10;
-Eo=Do+1;
-w8(Je+8,Eo);
-Fo=Eo;
-Go=Qn;
+If=1;
+L36:Jf=If;
+Kf=If>>32;
+if(!zf){
+fg=Ef+(i64)Kf;
+gg=Df-Kf;
+z12(ua);
+append_e62(ua,Ka,ya,Jf,fg,gg,za);
+if(*ua==0){
+hg=rewrite_43c(Ka,ya+1544,Jf,fg,gg,Ff,za);
+if(!(hg&1)){
+kg=r8(za+8);
+if(r8(za+16)==kg){
+lg=grow_amortized_68b(za,1);
+if(!lg)goto L37;
+mg=r8(za+8);}
+else mg=kg;
+*(rp(za)+mg)=10;
+ng=mg+1;
+w8(za+8,ng);
+og=ng;
+pg=Af;
 goto L38;}
-zo=4;
-Ao=0;}
+ig=4;
+jg=0;}
 else{
-zo=Ee[4];
-Ao=r4(Ee+8);}
-Ho=push_refused_bbc(0,Un,Tn,zo,Ao,Je,Je+24);
-uo=1;
-vo=Ho;
+ig=ua[4];
+jg=r4(ua+8);}
+qg=push_refused_bbc(0,Ef,Df,ig,jg,za,za+24);
+dg=1;
+eg=qg;
 goto L39;}
-bo=Un+(i64)ao;
-co=Tn-ao;
-demangle_f29(Fe,Zg,Ie,Zn,bo,co,Je);
-eo=r4(Fe+8);
-switch(*Fe){
-case 0:fo=r4(Fe+4);
-go=r4(Fe+12);
-ho=rewrite_43c(Zg,Ie+1944,Zn,bo,co,Vn,Je);
-if(ho==0){
-w4(Ge,fo);
-w4(Ge+4,eo);
-w4(Ge+8,go);
-io=r8(Je+8);
-if(r8(Je+16)==io){
-jo=grow_amortized_68b(Je,1);
-if(!jo)goto L40;
-ko=r8(Je+8);}
-else ko=io;
-*(rp(Je)+ko)=10;
-w8(Je+8,ko+1);
-lo=push_counts_ddb(Ge,Je);
-mo=!(lo&1);
-no=lo;
+Lf=Ef+(i64)Kf;
+Mf=Df-Kf;
+demangle_f29(va,Ka,ya,Jf,Lf,Mf,za);
+Nf=r4(va+8);
+switch(*va){
+case 0:Of=r4(va+4);
+Pf=r4(va+12);
+Qf=rewrite_43c(Ka,ya+1544,Jf,Lf,Mf,Ff,za);
+if(Qf==0){
+w4(wa,Of);
+w4(wa+4,Nf);
+w4(wa+8,Pf);
+Rf=r8(za+8);
+if(r8(za+16)==Rf){
+Sf=grow_amortized_68b(za,1);
+if(!Sf)goto L40;
+Tf=r8(za+8);}
+else Tf=Rf;
+*(rp(za)+Tf)=10;
+w8(za+8,Tf+1);
+Uf=push_counts_ddb(wa,za);
+Vf=!(Uf&1);
+Wf=Uf;
 goto L41;}
-oo=4;
-po=0;
+Xf=4;
+Yf=0;
 break;
-case 1:qo=r4(Fe+12);
-w4(He,r4(Fe+4));
-w4(He+4,eo);
-w4(He+8,qo);
-ro=push_refused_bbc(0,Un,Tn,3,0,Je,Je+24);
-if(ro&1)goto L40;
-so=push_counts_ddb(He,Je);
-mo=0;
-no=so;
+case 1:Zf=r4(va+12);
+w4(xa,r4(va+4));
+w4(xa+4,Nf);
+w4(xa+8,Zf);
+ag=push_refused_bbc(0,Ef,Df,3,0,za,za+24);
+if(ag&1)goto L40;
+bg=push_counts_ddb(xa,za);
+Vf=0;
+Wf=bg;
 goto L41;
-case 2:oo=Fe[4];
-po=eo;
+case 2:Xf=va[4];
+Yf=Nf;
 break;
 default:NEVER;
 }
-to=push_refused_bbc(0,Un,Tn,oo,po,Je,Je+24);
-mo=0;
-no=to;
+cg=push_refused_bbc(0,Ef,Df,Xf,Yf,za,za+24);
+Vf=0;
+Wf=cg;
 goto L41;
 L40:goto L37;
-L41:uo=(no==0&&mo)?Qn:1;
-vo=no;
+L41:dg=(Wf==0&&Vf)?Af:1;
+eg=Wf;
 goto L39;}
-L35:Io=push_unnamed_383(Un,Tn,Je,Je+24);
-uo=1;
-vo=Io;
-L39:if(vo==0){
-Fo=r8(Je+8);
-Go=uo;
+L35:rg=push_unnamed_383(Ef,Df,za,za+24);
+dg=1;
+eg=rg;
+L39:if(eg==0){
+og=r8(za+8);
+pg=dg;
 goto L38;}
-L37:w8(Je+8,umin64(r8(Je+8),Vn));
-w8(Je+32,umin64(r8(Je+32),Wn));
-Jo=write_120(Je,d,e);
-Ko=r8(Je+16)==0;
-if(Jo.f0==0){
-if(!Ko)port_rattle_dealloc(rp(Je));
-if(r8(Je+40)!=0)port_rattle_dealloc(rp(Je+24));
-Lo=rp(Ie+1944);
-Mo=rp(Ie+1984);
-No=r8(Ie+2000);
-Oo=rp(Ie+2008);
-Po=r8(Ie+2024);
-Qo=rp(Ie+2032);
-Ro=r8(Ie+2048);
-So=r8(Ie+1960);
-memcpy(De,Ie,1944);
-drop_816(De);
-if(So!=0)port_rattle_dealloc(Lo);
-if(No!=0)port_rattle_dealloc(Mo);
-if(Po!=0)port_rattle_dealloc(Oo);
-if(Ro!=0)port_rattle_dealloc(Qo);
-To=2;
-Uo=1;
+L37:w8(za+8,umin64(r8(za+8),Ff));
+w8(za+32,umin64(r8(za+32),Gf));
+sg=write_120(za,d,e);
+tg=r8(za+16)==0;
+if(sg.f0==0){
+if(!tg)port_rattle_dealloc(rp(za));
+if(r8(za+40)!=0)port_rattle_dealloc(rp(za+24));
+ug=rp(ya+1544);
+vg=rp(ya+1584);
+wg=r8(ya+1600);
+xg=rp(ya+1608);
+yg=r8(ya+1624);
+zg=rp(ya+1632);
+Ag=r8(ya+1648);
+Bg=r8(ya+1560);
+memcpy(ta,ya,1544);
+drop_816(ta);
+if(Bg!=0)port_rattle_dealloc(ug);
+if(wg!=0)port_rattle_dealloc(vg);
+if(yg!=0)port_rattle_dealloc(xg);
+if(Ag!=0)port_rattle_dealloc(zg);
+Cg=2;
+Dg=1;
 goto L42;}
-Vo=Jo.f1;
-if(!Ko)port_rattle_dealloc(rp(Je));
-if(r8(Je+40)!=0)port_rattle_dealloc(rp(Je+24));
-Wo=rp(Ie+1944);
-Xo=rp(Ie+1984);
-Yo=r8(Ie+2000);
-Zo=rp(Ie+2008);
-ap=r8(Ie+2024);
-bp=rp(Ie+2032);
-cp=r8(Ie+2048);
-dp=r8(Ie+1960);
-memcpy(Ce,Ie,1944);
-drop_816(Ce);
-if(dp!=0)port_rattle_dealloc(Wo);
-if(Yo!=0)port_rattle_dealloc(Xo);
-if(ap!=0)port_rattle_dealloc(Zo);
-if(cp!=0)port_rattle_dealloc(bp);
-To=Vo;
-Uo=1;
+Eg=sg.f1;
+if(!tg)port_rattle_dealloc(rp(za));
+if(r8(za+40)!=0)port_rattle_dealloc(rp(za+24));
+Fg=rp(ya+1544);
+Gg=rp(ya+1584);
+Hg=r8(ya+1600);
+Ig=rp(ya+1608);
+Jg=r8(ya+1624);
+Kg=rp(ya+1632);
+Lg=r8(ya+1648);
+Mg=r8(ya+1560);
+memcpy(sa,ya,1544);
+drop_816(sa);
+if(Mg!=0)port_rattle_dealloc(Fg);
+if(Hg!=0)port_rattle_dealloc(Gg);
+if(Jg!=0)port_rattle_dealloc(Ig);
+if(Lg!=0)port_rattle_dealloc(Kg);
+Cg=Eg;
+Dg=1;
 goto L42;
-L38:if(!(Fo<4096&&r8(Je+32)<4096)){
-ep=write_120(Je,d,e);
-if(ep.f0!=0){
-fp=ep.f1;
-if(r8(Je+16)!=0)port_rattle_dealloc(rp(Je));
-if(r8(Je+40)!=0)port_rattle_dealloc(rp(Je+24));
-gp=rp(Ie+1944);
-hp=rp(Ie+1984);
-ip=r8(Ie+2000);
-jp=rp(Ie+2008);
-kp=r8(Ie+2024);
-lp=rp(Ie+2032);
-np=r8(Ie+2048);
-op=r8(Ie+1960);
-memcpy(Be,Ie,1944);
-drop_816(Be);
-if(op!=0)port_rattle_dealloc(gp);
-if(ip!=0)port_rattle_dealloc(hp);
-if(kp!=0)port_rattle_dealloc(jp);
-if(np!=0)port_rattle_dealloc(lp);
-To=fp;
-Uo=1;
+L38:if(!(og<4096&&r8(za+32)<4096)){
+Ng=write_120(za,d,e);
+if(Ng.f0!=0){
+Og=Ng.f1;
+if(r8(za+16)!=0)port_rattle_dealloc(rp(za));
+if(r8(za+40)!=0)port_rattle_dealloc(rp(za+24));
+Pg=rp(ya+1544);
+Qg=rp(ya+1584);
+Rg=r8(ya+1600);
+Sg=rp(ya+1608);
+Tg=r8(ya+1624);
+Ug=rp(ya+1632);
+Vg=r8(ya+1648);
+Wg=r8(ya+1560);
+memcpy(ra,ya,1544);
+drop_816(ra);
+if(Wg!=0)port_rattle_dealloc(Pg);
+if(Rg!=0)port_rattle_dealloc(Qg);
+if(Tg!=0)port_rattle_dealloc(Sg);
+if(Vg!=0)port_rattle_dealloc(Ug);
+Cg=Og;
+Dg=1;
 goto L42;}}
-pp=Rn+1;
-if(pp!=c){
-Qn=Go;
-Rn=pp;
+Xg=Bf+1;
+if(Xg!=c){
+Af=pg;
+Bf=Xg;
 goto L34;}
-sp=write_120(Je,d,e);
-tp=r8(Je+16)==0;
-if(sp.f0==0){
-if(!tp)port_rattle_dealloc(rp(Je));
-if(r8(Je+40)!=0)port_rattle_dealloc(rp(Je+24));
-up=rp(Ie+1944);
-vp=rp(Ie+1984);
-yp=r8(Ie+2000);
-zp=rp(Ie+2008);
-Ap=r8(Ie+2024);
-Bp=rp(Ie+2032);
-Cp=r8(Ie+2048);
-Dp=r8(Ie+1960);
-memcpy(Ae,Ie,1944);
-drop_816(Ae);
-if(Dp!=0)port_rattle_dealloc(up);
-if(yp!=0)port_rattle_dealloc(vp);
-if(Ap!=0)port_rattle_dealloc(zp);
-if(Cp!=0)port_rattle_dealloc(Bp);
-To=Go;
-Uo=0;}
+Yg=write_120(za,d,e);
+Zg=r8(za+16)==0;
+if(Yg.f0==0){
+if(!Zg)port_rattle_dealloc(rp(za));
+if(r8(za+40)!=0)port_rattle_dealloc(rp(za+24));
+ah=rp(ya+1544);
+bh=rp(ya+1584);
+ch=r8(ya+1600);
+dh=rp(ya+1608);
+eh=r8(ya+1624);
+fh=rp(ya+1632);
+gh=r8(ya+1648);
+hh=r8(ya+1560);
+memcpy(qa,ya,1544);
+drop_816(qa);
+if(hh!=0)port_rattle_dealloc(ah);
+if(ch!=0)port_rattle_dealloc(bh);
+if(eh!=0)port_rattle_dealloc(dh);
+if(gh!=0)port_rattle_dealloc(fh);
+Cg=pg;
+Dg=0;}
 else{
-Ep=sp.f1;
-if(!tp)port_rattle_dealloc(rp(Je));
-if(r8(Je+40)!=0)port_rattle_dealloc(rp(Je+24));
-Fp=rp(Ie+1944);
-Gp=rp(Ie+1984);
-Hp=r8(Ie+2000);
-Ip=rp(Ie+2008);
-Jp=r8(Ie+2024);
-Kp=rp(Ie+2032);
-Lp=r8(Ie+2048);
-Mp=r8(Ie+1960);
-memcpy(ze,Ie,1944);
-drop_816(ze);
-if(Mp!=0)port_rattle_dealloc(Fp);
-if(Hp!=0)port_rattle_dealloc(Gp);
-if(Jp!=0)port_rattle_dealloc(Ip);
-if(Lp!=0)port_rattle_dealloc(Kp);
-To=Ep;
-Uo=1;}
-L42:Mn=Uo;
-Nn=To;}
-Pm=Mn;
-Qm=Nn;}
+ih=Yg.f1;
+if(!Zg)port_rattle_dealloc(rp(za));
+if(r8(za+40)!=0)port_rattle_dealloc(rp(za+24));
+jh=rp(ya+1544);
+kh=rp(ya+1584);
+lh=r8(ya+1600);
+mh=rp(ya+1608);
+nh=r8(ya+1624);
+oh=rp(ya+1632);
+ph=r8(ya+1648);
+qh=r8(ya+1560);
+memcpy(pa,ya,1544);
+drop_816(pa);
+if(qh!=0)port_rattle_dealloc(jh);
+if(lh!=0)port_rattle_dealloc(kh);
+if(nh!=0)port_rattle_dealloc(mh);
+if(ph!=0)port_rattle_dealloc(oh);
+Cg=ih;
+Dg=1;}
+L42:wf=Dg;
+xf=Cg;}
+ye=wf;
+ze=xf;}
 break;
-case 1:Np=Cj==0;
-if(Fj&1){
-z12(ye);
-w4(xe,Aj);
-xe[4]=Bj;
-z3(xe+5);
-if(Np){
-zero_all(qe+1440,456);
-z48(re);
-zero_all(se,1944);
-zero_all(te,1944);
-zero_all(ue,1944);
-zero_all(ve,1944);
-zero_all(we,1944);
-Op=(u64)(u8*)65536;
-z40(qe+1784);
-z32(qe+1832);
-z16(qe+1872);
-z48(qe+1896);
-wp(qe,(u8*)65536);
-z24(qe+8);
-wp(qe+32,(u8*)65536);
-z16(qe+40);
-wp(qe+56,(u8*)65536);
-z32(qe+64);
-wp(qe+96,(u8*)65536);
-z16(qe+104);
-wp(qe+120,(u8*)65536);
-z32(qe+128);
-wp(qe+160,(u8*)65536);
-z80(qe+168);
-wp(qe+248,(u8*)65536);
-z16(qe+256);
-wp(qe+272,(u8*)65536);
-z40(qe+280);
-wp(qe+320,(u8*)65536);
-z16(qe+328);
-wp(qe+344,(u8*)65536);
-z16(qe+352);
-wp(qe+368,(u8*)65536);
-z16(qe+376);
-wp(qe+392,(u8*)65536);
-z16(qe+400);
-wp(qe+416,(u8*)65536);
-z16(qe+424);
-wp(qe+440,(u8*)65536);
-z48(qe+448);
-wp(qe+496,(u8*)65536);
-z32(qe+504);
-wp(qe+536,(u8*)65536);
-z32(qe+544);
-wp(qe+576,(u8*)65536);
-z104(qe+584);
-w8(qe+688,Op);
-z40(qe+696);
-w8(qe+736,Op);
-z16(qe+744);
-wp(qe+760,(u8*)65536);
-z32(qe+768);
-wp(qe+800,(u8*)65536);
-z24(qe+808);
-wp(qe+832,(u8*)65536);
-z16(qe+840);
-wp(qe+856,(u8*)65536);
-z32(qe+864);
-wp(qe+896,(u8*)65536);
-z16(qe+904);
-wp(qe+920,(u8*)65536);
-z24(qe+928);
-wp(qe+952,(u8*)65536);
-z16(qe+960);
-wp(qe+976,(u8*)65536);
-z16(qe+984);
-wp(qe+1000,(u8*)65536);
-z40(qe+1008);
-wp(qe+1048,(u8*)65536);
-z16(qe+1056);
-wp(qe+1072,(u8*)65536);
-z16(qe+1080);
-wp(qe+1096,(u8*)65536);
-z16(qe+1104);
-wp(qe+1120,(u8*)65536);
-z16(qe+1128);
-wp(qe+1144,(u8*)65536);
-z16(qe+1152);
-wp(qe+1168,(u8*)65536);
-z48(qe+1176);
-wp(qe+1224,(u8*)65536);
-z32(qe+1232);
-wp(qe+1264,(u8*)65536);
-z40(qe+1272);
-wp(qe+1312,(u8*)65536);
-z32(qe+1320);
-wp(qe+1352,(u8*)65536);
-z16(qe+1360);
-wp(qe+1376,(u8*)65536);
-z48(qe+1384);
-w8(qe+1432,Op);
-z40(qe+1440);
-w8(qe+1480,Op);
-z16(qe+1488);
-wp(qe+1504,(u8*)65536);
-z32(qe+1512);
-wp(qe+1544,(u8*)65536);
-z32(qe+1552);
-wp(qe+1584,(u8*)65536);
-z32(qe+1592);
-wp(qe+1624,(u8*)65536);
-z104(qe+1632);
-wp(qe+1736,(u8*)65536);
-z32(qe+1744);
-wp(qe+1776,(u8*)65536);
-wp(qe+1824,(u8*)65536);
-wp(qe+1864,(u8*)65536);
-wp(qe+1888,(u8*)65536);
-wp(re,(u8*)65536);
-z16(re+8);
-wp(re+24,(u8*)65536);
-z16(re+32);
-Pp=Ej&1;
-Qp=0;
-Rp=0;
-L43:Sp=b+(i64)(Rp<<4);
-Tp=r8(Sp+8);
-Up=rp(Sp);
-Vp=r8(re+8);
-Wp=r8(re+32);
-if(Tp-65537>=0xffffffffffff0001u){
-Xp=*Up==95;
-if(Tp==2){
-if(!Xp)goto L44;
-switch(Up[1]){
-case 90:Yp=0;
+case 1:rh=jb==0;
+if(mb&1){
+z12(oa);
+w4(na,hb);
+na[4]=ib;
+z3(na+5);
+if(rh){
+z32(ga+1512);
+z48(ha);
+zero_all(ia,1544);
+zero_all(ja,1544);
+zero_all(ka,1544);
+zero_all(la,1544);
+zero_all(ma,1544);
+sh=(u64)(u8*)65536;
+wp(ga,(u8*)65536);
+z24(ga+8);
+wp(ga+32,(u8*)65536);
+z16(ga+40);
+wp(ga+56,(u8*)65536);
+z32(ga+64);
+wp(ga+96,(u8*)65536);
+z16(ga+104);
+wp(ga+120,(u8*)65536);
+z32(ga+128);
+wp(ga+160,(u8*)65536);
+z80(ga+168);
+wp(ga+248,(u8*)65536);
+z16(ga+256);
+wp(ga+272,(u8*)65536);
+z40(ga+280);
+wp(ga+320,(u8*)65536);
+z16(ga+328);
+wp(ga+344,(u8*)65536);
+z16(ga+352);
+wp(ga+368,(u8*)65536);
+z16(ga+376);
+wp(ga+392,(u8*)65536);
+z16(ga+400);
+wp(ga+416,(u8*)65536);
+z16(ga+424);
+wp(ga+440,(u8*)65536);
+z48(ga+448);
+wp(ga+496,(u8*)65536);
+z32(ga+504);
+wp(ga+536,(u8*)65536);
+z32(ga+544);
+wp(ga+576,(u8*)65536);
+z104(ga+584);
+w8(ga+688,sh);
+z40(ga+696);
+w8(ga+736,sh);
+z16(ga+744);
+wp(ga+760,(u8*)65536);
+z32(ga+768);
+wp(ga+800,(u8*)65536);
+z24(ga+808);
+wp(ga+832,(u8*)65536);
+z16(ga+840);
+wp(ga+856,(u8*)65536);
+z32(ga+864);
+wp(ga+896,(u8*)65536);
+z16(ga+904);
+wp(ga+920,(u8*)65536);
+z24(ga+928);
+wp(ga+952,(u8*)65536);
+z16(ga+960);
+wp(ga+976,(u8*)65536);
+z16(ga+984);
+wp(ga+1000,(u8*)65536);
+z40(ga+1008);
+wp(ga+1048,(u8*)65536);
+z16(ga+1056);
+wp(ga+1072,(u8*)65536);
+z16(ga+1080);
+wp(ga+1096,(u8*)65536);
+z16(ga+1104);
+wp(ga+1120,(u8*)65536);
+z16(ga+1128);
+wp(ga+1144,(u8*)65536);
+z16(ga+1152);
+wp(ga+1168,(u8*)65536);
+z48(ga+1176);
+wp(ga+1224,(u8*)65536);
+z32(ga+1232);
+wp(ga+1264,(u8*)65536);
+z40(ga+1272);
+wp(ga+1312,(u8*)65536);
+z32(ga+1320);
+wp(ga+1352,(u8*)65536);
+z16(ga+1360);
+wp(ga+1376,(u8*)65536);
+z48(ga+1384);
+w8(ga+1432,sh);
+z40(ga+1440);
+w8(ga+1480,sh);
+z16(ga+1488);
+wp(ga+1504,(u8*)65536);
+z32(ga+1512);
+wp(ha,(u8*)65536);
+z16(ha+8);
+wp(ha+24,(u8*)65536);
+z16(ha+32);
+th=lb&1;
+uh=0;
+vh=0;
+L43:wh=b+(i64)(vh<<4);
+xh=r8(wh+8);
+yh=rp(wh);
+zh=r8(ha+8);
+Ah=r8(ha+32);
+if(xh-65537>=0xffffffffffff0001u){
+Bh=*yh==95;
+if(xh==2){
+if(!Bh)goto L44;
+switch(yh[1]){
+case 90:Ch=0;
 goto L45;
 case 82:break;
 default:goto L44;
 }}
 else{
-if(!Xp)goto L44;
-switch(Up[1]){
-case 90:Yp=0;
+if(!Bh)goto L44;
+switch(yh[1]){
+case 90:Ch=0;
 goto L45;
 case 82:break;
-case 95:switch(Up[2]){
-case 90:Yp=0x100000000u;
+case 95:switch(yh[2]){
+case 90:Ch=0x100000000u;
 goto L45;
-case 82:Yp=0x100000001u;
+case 82:Ch=0x100000001u;
 goto L45;
 default:goto L44;
 }
 break;
 default:goto L44;
 }}
-Yp=1;
-L45:Zp=Yp;
-aq=Yp>>32;
-if(Pp){
-z16(pe);
-demangle_3c5(pe,xe,qe,Zp,Up+(i64)aq,Tp-aq,re);
-switch(*pe){
-case 0:bq=r8(re+8);
-if(r8(re+16)==bq){
-cq=grow_amortized_68b(re,1);
-if(!cq)break;
-dq=r8(re+8);}
-else dq=bq;
-*(rp(re)+dq)=10;
-w8(re+8,dq+1);
-eq=push_counts_ddb(pe+4,re);
-fq=!(eq&1);
-gq=eq;
+Ch=1;
+L45:Dh=Ch;
+Eh=Ch>>32;
+if(th){
+z16(fa);
+demangle_3c5(fa,na,ga,Dh,yh+(i64)Eh,xh-Eh,ha);
+switch(*fa){
+case 0:Fh=r8(ha+8);
+if(r8(ha+16)==Fh){
+Gh=grow_amortized_68b(ha,1);
+if(!Gh)break;
+Hh=r8(ha+8);}
+else Hh=Fh;
+*(rp(ha)+Hh)=10;
+w8(ha+8,Hh+1);
+Ih=push_counts_ddb(fa+4,ha);
+Jh=!(Ih&1);
+Kh=Ih;
 goto L46;
-case 1:hq=push_refused_bbc(1,Up,Tp,3,0,re,re+24);
-if(!(hq&1)){
-iq=push_counts_ddb(pe+4,re);
-fq=0;
-gq=iq;
+case 1:Lh=push_refused_bbc(1,yh,xh,3,0,ha,ha+24);
+if(!(Lh&1)){
+Mh=push_counts_ddb(fa+4,ha);
+Jh=0;
+Kh=Mh;
 goto L46;}
 break;
-case 2:jq=push_refused_bbc(1,Up,Tp,pe[4],r4(pe+8),re,re+24);
-fq=0;
-gq=jq;
+case 2:Nh=push_refused_bbc(1,yh,xh,fa[4],r4(fa+8),ha,ha+24);
+Jh=0;
+Kh=Nh;
 goto L46;
 default:NEVER;
 }
 goto L47;
-L46:kq=(gq==0&&fq)?Qp:1;
-lq=gq;
+L46:Oh=(Kh==0&&Jh)?uh:1;
+Ph=Kh;
 goto L48;}
-mq=Up+(i64)aq;
-nq=Tp-aq;
-z12(oe);
-if(nq>=21){
-if(mq[2]==78){
-oq=mq[3];
-if((u8)(oq-49)>=9){
-sq=3;
-tq=3;
-uq=oq;
+Qh=yh+(i64)Eh;
+Rh=xh-Eh;
+z12(ea);
+if(Rh>=21){
+if(Qh[2]==78){
+Sh=Qh[3];
+if((u8)(Sh-49)>=9){
+Wh=3;
+Xh=3;
+Yh=Sh;
 goto L49;}
-pq=oq;
-qq=3;
-rq=3;
-L50:vq=rq+9;
-wq=rq;
-xq=0;
-L51:yq=*(mq+wq)-48;
-if(yq<10){
-zq=xq*10+yq;
-Aq=wq+1;
-if(Aq-rq<9){
-wq=Aq;
-xq=zq;
+Th=Sh;
+Uh=3;
+Vh=3;
+L50:Zh=Vh+9;
+ai=Vh;
+bi=0;
+L51:ci=*(Qh+ai)-48;
+if(ci<10){
+di=bi*10+ci;
+ei=ai+1;
+if(ei-Vh<9){
+ai=ei;
+bi=di;
 goto L51;}
-if(vq<nq){
-if((u8)(*(mq+vq)-48)<10){
-sq=rq;
-tq=qq;
-uq=pq;
+if(Zh<Rh){
+if((u8)(*(Qh+Zh)-48)<10){
+Wh=Vh;
+Xh=Uh;
+Yh=Th;
 goto L49;}
-Bq=zq;
-Cq=vq;}
+fi=di;
+gi=Zh;}
 else{
-Bq=zq;
-Cq=vq;}}
+fi=di;
+gi=Zh;}}
 else{
-Bq=xq;
-Cq=wq;}
-Dq=Cq+Bq;
-if(Dq+17>=nq){
-if(Dq>=nq)goto L52;
-if(*(mq+Dq)!=69)goto L52;
-Fq=Dq+1;
-if(nq==Fq){
-if(rq==3)goto L52;
-Gq=rq;
-Hq=nq;
+fi=bi;
+gi=ai;}
+hi=gi+fi;
+if(hi+17>=Rh){
+if(hi>=Rh)goto L52;
+if(*(Qh+hi)!=69)goto L52;
+ji=hi+1;
+if(Rh==ji){
+if(Vh==3)goto L52;
+ki=Vh;
+li=Rh;
 goto L53;}
-if(rq==3||(nq-Fq<2||*(mq+(i64)Fq)!=46))goto L52;
-Gq=rq;
-Hq=Fq;
+if(Vh==3||(Rh-ji<2||*(Qh+(i64)ji)!=46))goto L52;
+ki=Vh;
+li=ji;
 goto L53;}
-Eq=*(mq+Dq);
-if((u8)(Eq-49)<9){
-pq=Eq;
-qq=rq;
-rq=Dq;
+ii=*(Qh+hi);
+if((u8)(ii-49)<9){
+Th=ii;
+Uh=Vh;
+Vh=hi;
 goto L50;}
-sq=Dq;
-tq=rq;
-uq=Eq;
-L49:if(!((sq<nq)&(uq==69)))goto L52;
-Iq=sq+1;
-if(nq==Iq){
-if(tq==3)goto L52;
-Gq=tq;
-Hq=nq;}
+Wh=hi;
+Xh=Vh;
+Yh=ii;
+L49:if(!((Wh<Rh)&(Yh==69)))goto L52;
+mi=Wh+1;
+if(Rh==mi){
+if(Xh==3)goto L52;
+ki=Xh;
+li=Rh;}
 else{
-if(tq==3||(nq-Iq<2||*(mq+(i64)Iq)!=46))goto L52;
-Gq=tq;
-Hq=Iq;}
-L53:append_named_795(oe,xe,qe,Zp,mq,nq,Gq,Hq,re);
+if(Xh==3||(Rh-mi<2||*(Qh+(i64)mi)!=46))goto L52;
+ki=Xh;
+li=mi;}
+L53:append_named_795(ea,na,ga,Dh,Qh,Rh,ki,li,ha);
 goto L54;}}
-L52:append_6a1(oe,xe,qe,Zp,mq,nq,re);
-L54:if(*oe!=0){
-Pq=push_refused_bbc(1,Up,Tp,oe[4],r4(oe+8),re,re+24);
-kq=1;
-lq=Pq;
+L52:append_6a1(ea,na,ga,Dh,Qh,Rh,ha);
+L54:if(*ea!=0){
+ti=push_refused_bbc(1,yh,xh,ea[4],r4(ea+8),ha,ha+24);
+Oh=1;
+Ph=ti;
 goto L48;}
-Jq=r8(re+8);
-if(r8(re+16)==Jq){
-Kq=grow_amortized_68b(re,1);
-if(!Kq)goto L47;
-Lq=r8(re+8);}
-else Lq=Jq;
-*(rp(re)+Lq)=10;
-Mq=Lq+1;
-w8(re+8,Mq);
-Nq=Mq;
-Oq=Qp;
+ni=r8(ha+8);
+if(r8(ha+16)==ni){
+oi=grow_amortized_68b(ha,1);
+if(!oi)goto L47;
+pi=r8(ha+8);}
+else pi=ni;
+*(rp(ha)+pi)=10;
+qi=pi+1;
+w8(ha+8,qi);
+ri=qi;
+si=uh;
 goto L55;}
-L44:Qq=push_unnamed_383(Up,Tp,re,re+24);
-kq=1;
-lq=Qq;
-L48:if(lq==0){
-Nq=r8(re+8);
-Oq=kq;
+L44:ui=push_unnamed_383(yh,xh,ha,ha+24);
+Oh=1;
+Ph=ui;
+L48:if(Ph==0){
+ri=r8(ha+8);
+si=Oh;
 goto L55;}
-L47:w8(re+8,umin64(r8(re+8),Vp));
-w8(re+32,umin64(r8(re+32),Wp));
-Rq=write_120(re,d,e);
-Sq=r8(re+16)==0;
-if(Rq.f0==0){
-if(!Sq)port_rattle_dealloc(rp(re));
-if(r8(re+40)==0){
-Tq=te;
-Uq=2;
-Vq=1;
+L47:w8(ha+8,umin64(r8(ha+8),zh));
+w8(ha+32,umin64(r8(ha+32),Ah));
+vi=write_120(ha,d,e);
+wi=r8(ha+16)==0;
+if(vi.f0==0){
+if(!wi)port_rattle_dealloc(rp(ha));
+if(r8(ha+40)==0){
+xi=ja;
+yi=2;
+zi=1;
 goto L56;}
-Wq=te;
-Xq=2;
-Yq=1;
+Ai=ja;
+Bi=2;
+Ci=1;
 goto L57;}
-Zq=Rq.f1;
-if(!Sq)port_rattle_dealloc(rp(re));
-if(r8(re+40)==0){
-Tq=se;
-Uq=Zq;
-Vq=1;
+Di=vi.f1;
+if(!wi)port_rattle_dealloc(rp(ha));
+if(r8(ha+40)==0){
+xi=ia;
+yi=Di;
+zi=1;
 goto L56;}
-Wq=se;
-Xq=Zq;
-Yq=1;
+Ai=ia;
+Bi=Di;
+Ci=1;
 goto L57;
-L55:if(!(Nq<4096&&r8(re+32)<4096)){
-ar=write_120(re,d,e);
-if(ar.f0!=0){
-br=ar.f1;
-if(r8(re+16)!=0)port_rattle_dealloc(rp(re));
-if(r8(re+40)==0){
-Tq=ue;
-Uq=br;
-Vq=1;
+L55:if(!(ri<4096&&r8(ha+32)<4096)){
+Ei=write_120(ha,d,e);
+if(Ei.f0!=0){
+Fi=Ei.f1;
+if(r8(ha+16)!=0)port_rattle_dealloc(rp(ha));
+if(r8(ha+40)==0){
+xi=ka;
+yi=Fi;
+zi=1;
 goto L56;}
-Wq=ue;
-Xq=br;
-Yq=1;
+Ai=ka;
+Bi=Fi;
+Ci=1;
 goto L57;}}
-cr=Rp+1;
-if(cr!=c){
-Qp=Oq;
-Rp=cr;
+Gi=vh+1;
+if(Gi!=c){
+uh=si;
+vh=Gi;
 goto L43;}
-dr=write_120(re,d,e);
-er=r8(re+16)==0;
-if(dr.f0==0){
-if(!er)port_rattle_dealloc(rp(re));
-if(r8(re+40)==0){
-Tq=we;
-Uq=Oq;
-Vq=0;
+Hi=write_120(ha,d,e);
+Ii=r8(ha+16)==0;
+if(Hi.f0==0){
+if(!Ii)port_rattle_dealloc(rp(ha));
+if(r8(ha+40)==0){
+xi=ma;
+yi=si;
+zi=0;
 goto L56;}
-Wq=we;
-Xq=Oq;
-Yq=0;}
+Ai=ma;
+Bi=si;
+Ci=0;}
 else{
-fr=dr.f1;
-if(!er)port_rattle_dealloc(rp(re));
-if(r8(re+40)==0){
-Tq=ve;
-Uq=fr;
-Vq=1;
+Ji=Hi.f1;
+if(!Ii)port_rattle_dealloc(rp(ha));
+if(r8(ha+40)==0){
+xi=la;
+yi=Ji;
+zi=1;
 goto L56;}
-Wq=ve;
-Xq=fr;
-Yq=1;}
-L57:port_rattle_dealloc(rp(re+24));
-Tq=Wq;
-Uq=Xq;
-Vq=Yq;
-L56:memcpy(Tq,qe,1944);
-drop_816(Tq);
-gr=Vq;
-hr=Uq;}
+Ai=la;
+Bi=Ji;
+Ci=1;}
+L57:port_rattle_dealloc(rp(ha+24));
+xi=Ai;
+yi=Bi;
+zi=Ci;
+L56:memcpy(xi,ga,1544);
+drop_816(xi);
+Ki=zi;
+Li=yi;}
 else{
-w8(ye,r8(xe));
-ye[8]=Dj;
-ye[9]=1;
-ir=(u64)(u8*)65536;
-z32(fe);
-z40(ge);
-z32(he);
-z16(ie);
-z48(je);
-z32(ke);
-z16(le);
-z16(me);
-z16(ne);
-z24(kd);
-z16(ld);
-z32(md);
-z16(nd);
-z32(od);
-z80(pd);
-z16(qd);
-z40(sd);
-z16(td);
-z16(ud);
-z16(vd);
-z16(xd);
-z16(yd);
-z48(zd);
-z32(Ad);
-z32(Bd);
-z104(Cd);
-z40(Dd);
-z16(Ed);
-z32(Fd);
-z24(Gd);
-z16(Hd);
-z32(Id);
-z16(Jd);
-z24(Kd);
-z16(Ld);
-z16(Md);
-z40(Nd);
-z16(Od);
-z16(Pd);
-z16(Qd);
-z16(Rd);
-z16(Sd);
-z48(Td);
-z32(Ud);
-z40(Vd);
-z32(Wd);
-z16(Xd);
-z48(Yd);
-z40(Zd);
-z16(ae);
-z32(be);
-z32(ce);
-z32(de);
-z104(ee);
-memcpy(ic,kd,24);
-memcpy(jc,ld,16);
-memcpy(kc,md,32);
-memcpy(lc,nd,16);
-memcpy(mc,od,32);
-memcpy(nc,pd,80);
-memcpy(oc,qd,16);
-memcpy(pc,sd,40);
-memcpy(qc,td,16);
-memcpy(rc,ud,16);
-memcpy(sc,vd,16);
-memcpy(tc,xd,16);
-memcpy(uc,yd,16);
-memcpy(vc,zd,48);
-memcpy(wc,Ad,32);
-memcpy(xc,Bd,32);
-memcpy(yc,Cd,104);
-memcpy(zc,Dd,40);
-memcpy(Ac,Ed,16);
-memcpy(Bc,Fd,32);
-memcpy(Cc,Gd,24);
-memcpy(Dc,Hd,16);
-memcpy(Ec,Id,32);
-memcpy(Fc,Jd,16);
-memcpy(Gc,Kd,24);
-memcpy(Hc,Ld,16);
-memcpy(Ic,Md,16);
-memcpy(Jc,Nd,40);
-memcpy(Kc,Od,16);
-memcpy(Lc,Pd,16);
-memcpy(Mc,Qd,16);
-memcpy(Nc,Rd,16);
-memcpy(Oc,Sd,16);
-memcpy(Pc,Td,48);
-memcpy(Qc,Ud,32);
-memcpy(Rc,Vd,40);
-memcpy(Sc,Wd,32);
-memcpy(Tc,Xd,16);
-memcpy(Uc,Yd,48);
-memcpy(Vc,Zd,40);
-memcpy(Wc,ae,16);
-memcpy(Xc,be,32);
-memcpy(Yc,ce,32);
-memcpy(Zc,de,32);
-memcpy(ad,ee,104);
-memcpy(bd,fe,32);
-memcpy(cd,ge,40);
-memcpy(dd,he,32);
-memcpy(ed,ie,16);
-memcpy(fd,je,48);
-memcpy(gd,ke,32);
-memcpy(hd,le,16);
-memcpy(id,me,16);
-memcpy(jd,ne,16);
-wp(gc,(u8*)65536);
-memcpy(gc+8,ic,24);
-wp(gc+32,(u8*)65536);
-memcpy(gc+40,jc,16);
-wp(gc+56,(u8*)65536);
-memcpy(gc+64,kc,32);
-wp(gc+96,(u8*)65536);
-memcpy(gc+104,lc,16);
-wp(gc+120,(u8*)65536);
-memcpy(gc+128,mc,32);
-wp(gc+160,(u8*)65536);
-memcpy(gc+168,nc,80);
-wp(gc+248,(u8*)65536);
-memcpy(gc+256,oc,16);
-wp(gc+272,(u8*)65536);
-memcpy(gc+280,pc,40);
-wp(gc+320,(u8*)65536);
-memcpy(gc+328,qc,16);
-wp(gc+344,(u8*)65536);
-memcpy(gc+352,rc,16);
-wp(gc+368,(u8*)65536);
-memcpy(gc+376,sc,16);
-wp(gc+392,(u8*)65536);
-memcpy(gc+400,tc,16);
-wp(gc+416,(u8*)65536);
-memcpy(gc+424,uc,16);
-wp(gc+440,(u8*)65536);
-memcpy(gc+448,vc,48);
-wp(gc+496,(u8*)65536);
-memcpy(gc+504,wc,32);
-wp(gc+536,(u8*)65536);
-memcpy(gc+544,xc,32);
-wp(gc+576,(u8*)65536);
-memcpy(gc+584,yc,104);
-w8(gc+688,ir);
-memcpy(gc+696,zc,40);
-w8(gc+736,ir);
-memcpy(gc+744,Ac,16);
-wp(gc+760,(u8*)65536);
-memcpy(gc+768,Bc,32);
-wp(gc+800,(u8*)65536);
-memcpy(gc+808,Cc,24);
-wp(gc+832,(u8*)65536);
-memcpy(gc+840,Dc,16);
-wp(gc+856,(u8*)65536);
-memcpy(gc+864,Ec,32);
-wp(gc+896,(u8*)65536);
-memcpy(gc+904,Fc,16);
-wp(gc+920,(u8*)65536);
-memcpy(gc+928,Gc,24);
-wp(gc+952,(u8*)65536);
-memcpy(gc+960,Hc,16);
-wp(gc+976,(u8*)65536);
-memcpy(gc+984,Ic,16);
-wp(gc+1000,(u8*)65536);
-memcpy(gc+1008,Jc,40);
-wp(gc+1048,(u8*)65536);
-memcpy(gc+1056,Kc,16);
-wp(gc+1072,(u8*)65536);
-memcpy(gc+1080,Lc,16);
-wp(gc+1096,(u8*)65536);
-memcpy(gc+1104,Mc,16);
-wp(gc+1120,(u8*)65536);
-memcpy(gc+1128,Nc,16);
-wp(gc+1144,(u8*)65536);
-memcpy(gc+1152,Oc,16);
-wp(gc+1168,(u8*)65536);
-memcpy(gc+1176,Pc,48);
-wp(gc+1224,(u8*)65536);
-memcpy(gc+1232,Qc,32);
-wp(gc+1264,(u8*)65536);
-memcpy(gc+1272,Rc,40);
-wp(gc+1312,(u8*)65536);
-memcpy(gc+1320,Sc,32);
-wp(gc+1352,(u8*)65536);
-memcpy(gc+1360,Tc,16);
-wp(gc+1376,(u8*)65536);
-memcpy(gc+1384,Uc,48);
-w8(gc+1432,ir);
-memcpy(gc+1440,Vc,40);
-w8(gc+1480,ir);
-memcpy(gc+1488,Wc,16);
-wp(gc+1504,(u8*)65536);
-memcpy(gc+1512,Xc,32);
-wp(gc+1544,(u8*)65536);
-memcpy(gc+1552,Yc,32);
-wp(gc+1584,(u8*)65536);
-memcpy(gc+1592,Zc,32);
-wp(gc+1624,(u8*)65536);
-memcpy(gc+1632,ad,104);
-wp(gc+1736,(u8*)65536);
-memcpy(gc+1744,bd,32);
-wp(gc+1776,(u8*)65536);
-memcpy(gc+1784,cd,40);
-wp(gc+1824,(u8*)65536);
-memcpy(gc+1832,dd,32);
-wp(gc+1864,(u8*)65536);
-memcpy(gc+1872,ed,16);
-wp(gc+1888,(u8*)65536);
-memcpy(gc+1896,fd,48);
-wp(gc+1944,(u8*)65536);
-memcpy(gc+1952,gd,32);
-wp(gc+1984,(u8*)65536);
-memcpy(gc+1992,hd,16);
-wp(gc+2008,(u8*)65536);
-memcpy(gc+2016,id,16);
-wp(gc+2032,(u8*)65536);
-memcpy(gc+2040,jd,16);
-wp(hc,(u8*)65536);
-z16(hc+8);
-wp(hc+24,(u8*)65536);
-z16(hc+32);
-jr=Ej&1;
-kr=0;
-lr=0;
-L58:mr=b+(i64)(lr<<4);
-nr=r8(mr+8);
-or=rp(mr);
-pr=r8(hc+8);
-qr=r8(hc+32);
-if(nr-65537>=0xffffffffffff0001u){
-rr=*or==95;
-if(nr==2){
-if(!rr)goto L59;
-switch(or[1]){
-case 90:sr=0;
+w8(oa,r8(na));
+oa[8]=kb;
+oa[9]=1;
+z48(ca+1608);
+z48(da);
+Mi=(u64)(u8*)65536;
+wp(ca,(u8*)65536);
+z24(ca+8);
+wp(ca+32,(u8*)65536);
+z16(ca+40);
+wp(ca+56,(u8*)65536);
+z32(ca+64);
+wp(ca+96,(u8*)65536);
+z16(ca+104);
+wp(ca+120,(u8*)65536);
+z32(ca+128);
+wp(ca+160,(u8*)65536);
+z80(ca+168);
+wp(ca+248,(u8*)65536);
+z16(ca+256);
+wp(ca+272,(u8*)65536);
+z40(ca+280);
+wp(ca+320,(u8*)65536);
+z16(ca+328);
+wp(ca+344,(u8*)65536);
+z16(ca+352);
+wp(ca+368,(u8*)65536);
+z16(ca+376);
+wp(ca+392,(u8*)65536);
+z16(ca+400);
+wp(ca+416,(u8*)65536);
+z16(ca+424);
+wp(ca+440,(u8*)65536);
+z48(ca+448);
+wp(ca+496,(u8*)65536);
+z32(ca+504);
+wp(ca+536,(u8*)65536);
+z32(ca+544);
+wp(ca+576,(u8*)65536);
+z104(ca+584);
+w8(ca+688,Mi);
+z40(ca+696);
+w8(ca+736,Mi);
+z16(ca+744);
+wp(ca+760,(u8*)65536);
+z32(ca+768);
+wp(ca+800,(u8*)65536);
+z24(ca+808);
+wp(ca+832,(u8*)65536);
+z16(ca+840);
+wp(ca+856,(u8*)65536);
+z32(ca+864);
+wp(ca+896,(u8*)65536);
+z16(ca+904);
+wp(ca+920,(u8*)65536);
+z24(ca+928);
+wp(ca+952,(u8*)65536);
+z16(ca+960);
+wp(ca+976,(u8*)65536);
+z16(ca+984);
+wp(ca+1000,(u8*)65536);
+z40(ca+1008);
+wp(ca+1048,(u8*)65536);
+z16(ca+1056);
+wp(ca+1072,(u8*)65536);
+z16(ca+1080);
+wp(ca+1096,(u8*)65536);
+z16(ca+1104);
+wp(ca+1120,(u8*)65536);
+z16(ca+1128);
+wp(ca+1144,(u8*)65536);
+z16(ca+1152);
+wp(ca+1168,(u8*)65536);
+z48(ca+1176);
+wp(ca+1224,(u8*)65536);
+z32(ca+1232);
+wp(ca+1264,(u8*)65536);
+z40(ca+1272);
+wp(ca+1312,(u8*)65536);
+z32(ca+1320);
+wp(ca+1352,(u8*)65536);
+z16(ca+1360);
+wp(ca+1376,(u8*)65536);
+z48(ca+1384);
+w8(ca+1432,Mi);
+z40(ca+1440);
+w8(ca+1480,Mi);
+z16(ca+1488);
+wp(ca+1504,(u8*)65536);
+z32(ca+1512);
+wp(ca+1544,(u8*)65536);
+z32(ca+1552);
+wp(ca+1584,(u8*)65536);
+z16(ca+1592);
+wp(ca+1608,(u8*)65536);
+z16(ca+1616);
+wp(ca+1632,(u8*)65536);
+z16(ca+1640);
+wp(da,(u8*)65536);
+z16(da+8);
+wp(da+24,(u8*)65536);
+z16(da+32);
+Ni=lb&1;
+Oi=0;
+Pi=0;
+L58:Qi=b+(i64)(Pi<<4);
+Ri=r8(Qi+8);
+Si=rp(Qi);
+Ti=r8(da+8);
+Ui=r8(da+32);
+if(Ri-65537>=0xffffffffffff0001u){
+Vi=*Si==95;
+if(Ri==2){
+if(!Vi)goto L59;
+switch(Si[1]){
+case 90:Wi=0;
 goto L60;
 case 82:break;
 default:goto L59;
 }}
 else{
-if(!rr)goto L59;
-switch(or[1]){
-case 90:sr=0;
+if(!Vi)goto L59;
+switch(Si[1]){
+case 90:Wi=0;
 goto L60;
 case 82:break;
-case 95:switch(or[2]){
-case 90:sr=0x100000000u;
+case 95:switch(Si[2]){
+case 90:Wi=0x100000000u;
 goto L60;
-case 82:sr=0x100000001u;
+case 82:Wi=0x100000001u;
 goto L60;
 default:goto L59;
 }
 break;
 default:goto L59;
 }}
-sr=1;
-L60:tr=sr;
-ur=sr>>32;
-vr=or+(i64)ur;
-wr=nr-ur;
-if(!jr){
-z12(cc);
-append_55b(cc,ye,gc,tr,vr,wr,hc);
-if(*cc!=0){
-Vr=push_refused_bbc(1,or,nr,cc[4],r4(cc+8),hc,hc+24);
-Nr=1;
-Or=Vr;
+Wi=1;
+L60:Xi=Wi;
+Yi=Wi>>32;
+Zi=Si+(i64)Yi;
+aj=Ri-Yi;
+if(!Ni){
+z12(Y);
+append_55b(Y,oa,ca,Xi,Zi,aj,da);
+if(*Y!=0){
+zj=push_refused_bbc(1,Si,Ri,Y[4],r4(Y+8),da,da+24);
+rj=1;
+sj=zj;
 goto L61;}
-Pr=r8(hc+8);
-if(r8(hc+16)==Pr){
-Qr=grow_amortized_68b(hc,1);
-if(!Qr)goto L62;
-Rr=r8(hc+8);}
-else Rr=Pr;
-*(rp(hc)+Rr)=10;
-Sr=Rr+1;
-w8(hc+8,Sr);
-Tr=Sr;
-Ur=kr;
+tj=r8(da+8);
+if(r8(da+16)==tj){
+uj=grow_amortized_68b(da,1);
+if(!uj)goto L62;
+vj=r8(da+8);}
+else vj=tj;
+*(rp(da)+vj)=10;
+wj=vj+1;
+w8(da+8,wj);
+xj=wj;
+yj=Oi;
 goto L63;}
-z16(dc);
-demangle_3c5(dc,ye,gc,tr,vr,wr,hc);
-xr=r4(dc+8);
-switch(*dc){
-case 0:yr=r4(dc+4);
-zr=r4(dc+12);
-Ar=rewrite_43c(ye,gc+1944,tr,vr,wr,pr,hc);
-if(Ar==0){
-w4(ec,yr);
-w4(ec+4,xr);
-w4(ec+8,zr);
-Br=r8(hc+8);
-if(r8(hc+16)==Br){
-Cr=grow_amortized_68b(hc,1);
-if(!Cr)goto L64;
-Dr=r8(hc+8);}
-else Dr=Br;
-*(rp(hc)+Dr)=10;
-w8(hc+8,Dr+1);
-Er=push_counts_ddb(ec,hc);
-Fr=!(Er&1);
-Gr=Er;
+z16(Z);
+demangle_3c5(Z,oa,ca,Xi,Zi,aj,da);
+bj=r4(Z+8);
+switch(*Z){
+case 0:cj=r4(Z+4);
+dj=r4(Z+12);
+ej=rewrite_43c(oa,ca+1544,Xi,Zi,aj,Ti,da);
+if(ej==0){
+w4(aa,cj);
+w4(aa+4,bj);
+w4(aa+8,dj);
+fj=r8(da+8);
+if(r8(da+16)==fj){
+gj=grow_amortized_68b(da,1);
+if(!gj)goto L64;
+hj=r8(da+8);}
+else hj=fj;
+*(rp(da)+hj)=10;
+w8(da+8,hj+1);
+ij=push_counts_ddb(aa,da);
+jj=!(ij&1);
+kj=ij;
 goto L65;}
-Hr=4;
-Ir=0;
+lj=4;
+mj=0;
 break;
-case 1:Jr=r4(dc+12);
-w4(fc,r4(dc+4));
-w4(fc+4,xr);
-w4(fc+8,Jr);
-Kr=push_refused_bbc(1,or,nr,3,0,hc,hc+24);
-if(Kr&1)goto L64;
-Lr=push_counts_ddb(fc,hc);
-Fr=0;
-Gr=Lr;
+case 1:nj=r4(Z+12);
+w4(ba,r4(Z+4));
+w4(ba+4,bj);
+w4(ba+8,nj);
+oj=push_refused_bbc(1,Si,Ri,3,0,da,da+24);
+if(oj&1)goto L64;
+pj=push_counts_ddb(ba,da);
+jj=0;
+kj=pj;
 goto L65;
-case 2:Hr=dc[4];
-Ir=xr;
+case 2:lj=Z[4];
+mj=bj;
 break;
 default:NEVER;
 }
-Mr=push_refused_bbc(1,or,nr,Hr,Ir,hc,hc+24);
-Fr=0;
-Gr=Mr;
+qj=push_refused_bbc(1,Si,Ri,lj,mj,da,da+24);
+jj=0;
+kj=qj;
 goto L65;
 L64:goto L62;
-L65:Nr=(Gr==0&&Fr)?kr:1;
-Or=Gr;
+L65:rj=(kj==0&&jj)?Oi:1;
+sj=kj;
 goto L61;}
-L59:Wr=push_unnamed_383(or,nr,hc,hc+24);
-Nr=1;
-Or=Wr;
-L61:if(Or==0){
-Tr=r8(hc+8);
-Ur=Nr;
+L59:Aj=push_unnamed_383(Si,Ri,da,da+24);
+rj=1;
+sj=Aj;
+L61:if(sj==0){
+xj=r8(da+8);
+yj=rj;
 goto L63;}
-L62:w8(hc+8,umin64(r8(hc+8),pr));
-w8(hc+32,umin64(r8(hc+32),qr));
-Xr=write_120(hc,d,e);
-Yr=r8(hc+16)==0;
-if(Xr.f0==0){
-if(!Yr)port_rattle_dealloc(rp(hc));
-if(r8(hc+40)!=0)port_rattle_dealloc(rp(hc+24));
-Zr=rp(gc+1944);
-as=rp(gc+1984);
-bs=r8(gc+2000);
-cs=rp(gc+2008);
-ds=r8(gc+2024);
-es=rp(gc+2032);
-fs=r8(gc+2048);
-gs=r8(gc+1960);
-memcpy(bc,gc,1944);
-drop_816(bc);
-if(gs!=0)port_rattle_dealloc(Zr);
-if(bs!=0)port_rattle_dealloc(as);
-if(ds!=0)port_rattle_dealloc(cs);
-if(fs!=0)port_rattle_dealloc(es);
-hs=2;
-is=1;
+L62:w8(da+8,umin64(r8(da+8),Ti));
+w8(da+32,umin64(r8(da+32),Ui));
+Bj=write_120(da,d,e);
+Cj=r8(da+16)==0;
+if(Bj.f0==0){
+if(!Cj)port_rattle_dealloc(rp(da));
+if(r8(da+40)!=0)port_rattle_dealloc(rp(da+24));
+Dj=rp(ca+1544);
+Ej=rp(ca+1584);
+Fj=r8(ca+1600);
+Gj=rp(ca+1608);
+Hj=r8(ca+1624);
+Ij=rp(ca+1632);
+Jj=r8(ca+1648);
+Kj=r8(ca+1560);
+memcpy(X,ca,1544);
+drop_816(X);
+if(Kj!=0)port_rattle_dealloc(Dj);
+if(Fj!=0)port_rattle_dealloc(Ej);
+if(Hj!=0)port_rattle_dealloc(Gj);
+if(Jj!=0)port_rattle_dealloc(Ij);
+Lj=2;
+Mj=1;
 goto L66;}
-js=Xr.f1;
-if(!Yr)port_rattle_dealloc(rp(hc));
-if(r8(hc+40)!=0)port_rattle_dealloc(rp(hc+24));
-ks=rp(gc+1944);
-ls=rp(gc+1984);
-ms=r8(gc+2000);
-ns=rp(gc+2008);
-os=r8(gc+2024);
-ps=rp(gc+2032);
-qs=r8(gc+2048);
-rs=r8(gc+1960);
-memcpy(ac,gc,1944);
-drop_816(ac);
-if(rs!=0)port_rattle_dealloc(ks);
-if(ms!=0)port_rattle_dealloc(ls);
-if(os!=0)port_rattle_dealloc(ns);
-if(qs!=0)port_rattle_dealloc(ps);
-hs=js;
-is=1;
+Nj=Bj.f1;
+if(!Cj)port_rattle_dealloc(rp(da));
+if(r8(da+40)!=0)port_rattle_dealloc(rp(da+24));
+Oj=rp(ca+1544);
+Pj=rp(ca+1584);
+Qj=r8(ca+1600);
+Rj=rp(ca+1608);
+Sj=r8(ca+1624);
+Tj=rp(ca+1632);
+Uj=r8(ca+1648);
+Vj=r8(ca+1560);
+memcpy(W,ca,1544);
+drop_816(W);
+if(Vj!=0)port_rattle_dealloc(Oj);
+if(Qj!=0)port_rattle_dealloc(Pj);
+if(Sj!=0)port_rattle_dealloc(Rj);
+if(Uj!=0)port_rattle_dealloc(Tj);
+Lj=Nj;
+Mj=1;
 goto L66;
-L63:if(!(Tr<4096&&r8(hc+32)<4096)){
-ss=write_120(hc,d,e);
-if(ss.f0!=0){
-ts=ss.f1;
-if(r8(hc+16)!=0)port_rattle_dealloc(rp(hc));
-if(r8(hc+40)!=0)port_rattle_dealloc(rp(hc+24));
-us=rp(gc+1944);
-vs=rp(gc+1984);
-ws=r8(gc+2000);
-xs=rp(gc+2008);
-ys=r8(gc+2024);
-zs=rp(gc+2032);
-As=r8(gc+2048);
-Bs=r8(gc+1960);
-memcpy(Zb,gc,1944);
-drop_816(Zb);
-if(Bs!=0)port_rattle_dealloc(us);
-if(ws!=0)port_rattle_dealloc(vs);
-if(ys!=0)port_rattle_dealloc(xs);
-if(As!=0)port_rattle_dealloc(zs);
-hs=ts;
-is=1;
+L63:if(!(xj<4096&&r8(da+32)<4096)){
+Wj=write_120(da,d,e);
+if(Wj.f0!=0){
+Xj=Wj.f1;
+if(r8(da+16)!=0)port_rattle_dealloc(rp(da));
+if(r8(da+40)!=0)port_rattle_dealloc(rp(da+24));
+Yj=rp(ca+1544);
+Zj=rp(ca+1584);
+ak=r8(ca+1600);
+bk=rp(ca+1608);
+ck=r8(ca+1624);
+dk=rp(ca+1632);
+ek=r8(ca+1648);
+fk=r8(ca+1560);
+memcpy(V,ca,1544);
+drop_816(V);
+if(fk!=0)port_rattle_dealloc(Yj);
+if(ak!=0)port_rattle_dealloc(Zj);
+if(ck!=0)port_rattle_dealloc(bk);
+if(ek!=0)port_rattle_dealloc(dk);
+Lj=Xj;
+Mj=1;
 goto L66;}}
-Cs=lr+1;
-if(Cs!=c){
-kr=Ur;
-lr=Cs;
+gk=Pi+1;
+if(gk!=c){
+Oi=yj;
+Pi=gk;
 goto L58;}
-Ds=write_120(hc,d,e);
-Es=r8(hc+16)==0;
-if(Ds.f0==0){
-if(!Es)port_rattle_dealloc(rp(hc));
-if(r8(hc+40)!=0)port_rattle_dealloc(rp(hc+24));
-Fs=rp(gc+1944);
-Gs=rp(gc+1984);
-Hs=r8(gc+2000);
-Is=rp(gc+2008);
-Js=r8(gc+2024);
-Ks=rp(gc+2032);
-Ls=r8(gc+2048);
-Ms=r8(gc+1960);
-memcpy(Yb,gc,1944);
-drop_816(Yb);
-if(Ms!=0)port_rattle_dealloc(Fs);
-if(Hs!=0)port_rattle_dealloc(Gs);
-if(Js!=0)port_rattle_dealloc(Is);
-if(Ls!=0)port_rattle_dealloc(Ks);
-hs=Ur;
-is=0;}
+hk=write_120(da,d,e);
+ik=r8(da+16)==0;
+if(hk.f0==0){
+if(!ik)port_rattle_dealloc(rp(da));
+if(r8(da+40)!=0)port_rattle_dealloc(rp(da+24));
+jk=rp(ca+1544);
+kk=rp(ca+1584);
+lk=r8(ca+1600);
+mk=rp(ca+1608);
+nk=r8(ca+1624);
+ok=rp(ca+1632);
+pk=r8(ca+1648);
+qk=r8(ca+1560);
+memcpy(U,ca,1544);
+drop_816(U);
+if(qk!=0)port_rattle_dealloc(jk);
+if(lk!=0)port_rattle_dealloc(kk);
+if(nk!=0)port_rattle_dealloc(mk);
+if(pk!=0)port_rattle_dealloc(ok);
+Lj=yj;
+Mj=0;}
 else{
-Ns=Ds.f1;
-if(!Es)port_rattle_dealloc(rp(hc));
-if(r8(hc+40)!=0)port_rattle_dealloc(rp(hc+24));
-Os=rp(gc+1944);
-Ps=rp(gc+1984);
-Qs=r8(gc+2000);
-Rs=rp(gc+2008);
-Ss=r8(gc+2024);
-Ts=rp(gc+2032);
-Us=r8(gc+2048);
-Vs=r8(gc+1960);
-memcpy(Xb,gc,1944);
-drop_816(Xb);
-if(Vs!=0)port_rattle_dealloc(Os);
-if(Qs!=0)port_rattle_dealloc(Ps);
-if(Ss!=0)port_rattle_dealloc(Rs);
-if(Us!=0)port_rattle_dealloc(Ts);
-hs=Ns;
-is=1;}
-L66:gr=is;
-hr=hs;}
-Pm=gr;
-Qm=hr;}
+rk=hk.f1;
+if(!ik)port_rattle_dealloc(rp(da));
+if(r8(da+40)!=0)port_rattle_dealloc(rp(da+24));
+sk=rp(ca+1544);
+tk=rp(ca+1584);
+uk=r8(ca+1600);
+vk=rp(ca+1608);
+wk=r8(ca+1624);
+xk=rp(ca+1632);
+yk=r8(ca+1648);
+zk=r8(ca+1560);
+memcpy(T,ca,1544);
+drop_816(T);
+if(zk!=0)port_rattle_dealloc(sk);
+if(uk!=0)port_rattle_dealloc(tk);
+if(wk!=0)port_rattle_dealloc(vk);
+if(yk!=0)port_rattle_dealloc(xk);
+Lj=rk;
+Mj=1;}
+L66:Ki=Mj;
+Li=Lj;}
+ye=Ki;
+ze=Li;}
 else{
-z12(Wb);
-w4(Vb,Aj);
-Vb[4]=Bj;
-z3(Vb+5);
-if(Np){
-zero_all(Ob+1512,432);
-z48(Pb);
-zero_all(Qb,1944);
-zero_all(Rb,1944);
-zero_all(Sb,1944);
-zero_all(Tb,1944);
-zero_all(Ub,1944);
-Ws=(u64)(u8*)65536;
-wp(Ob,(u8*)65536);
-z24(Ob+8);
-wp(Ob+32,(u8*)65536);
-z16(Ob+40);
-wp(Ob+56,(u8*)65536);
-z32(Ob+64);
-wp(Ob+96,(u8*)65536);
-z16(Ob+104);
-wp(Ob+120,(u8*)65536);
-z32(Ob+128);
-wp(Ob+160,(u8*)65536);
-z80(Ob+168);
-wp(Ob+248,(u8*)65536);
-z16(Ob+256);
-wp(Ob+272,(u8*)65536);
-z40(Ob+280);
-wp(Ob+320,(u8*)65536);
-z16(Ob+328);
-wp(Ob+344,(u8*)65536);
-z16(Ob+352);
-wp(Ob+368,(u8*)65536);
-z16(Ob+376);
-wp(Ob+392,(u8*)65536);
-z16(Ob+400);
-wp(Ob+416,(u8*)65536);
-z16(Ob+424);
-wp(Ob+440,(u8*)65536);
-z48(Ob+448);
-wp(Ob+496,(u8*)65536);
-z32(Ob+504);
-wp(Ob+536,(u8*)65536);
-z32(Ob+544);
-wp(Ob+576,(u8*)65536);
-z104(Ob+584);
-w8(Ob+688,Ws);
-z40(Ob+696);
-w8(Ob+736,Ws);
-z16(Ob+744);
-wp(Ob+760,(u8*)65536);
-z32(Ob+768);
-wp(Ob+800,(u8*)65536);
-z24(Ob+808);
-wp(Ob+832,(u8*)65536);
-z16(Ob+840);
-wp(Ob+856,(u8*)65536);
-z32(Ob+864);
-wp(Ob+896,(u8*)65536);
-z16(Ob+904);
-wp(Ob+920,(u8*)65536);
-z24(Ob+928);
-wp(Ob+952,(u8*)65536);
-z16(Ob+960);
-wp(Ob+976,(u8*)65536);
-z16(Ob+984);
-wp(Ob+1000,(u8*)65536);
-z40(Ob+1008);
-wp(Ob+1048,(u8*)65536);
-z16(Ob+1056);
-wp(Ob+1072,(u8*)65536);
-z16(Ob+1080);
-wp(Ob+1096,(u8*)65536);
-z16(Ob+1104);
-wp(Ob+1120,(u8*)65536);
-z16(Ob+1128);
-wp(Ob+1144,(u8*)65536);
-z16(Ob+1152);
-wp(Ob+1168,(u8*)65536);
-z48(Ob+1176);
-wp(Ob+1224,(u8*)65536);
-z32(Ob+1232);
-wp(Ob+1264,(u8*)65536);
-z40(Ob+1272);
-wp(Ob+1312,(u8*)65536);
-z32(Ob+1320);
-wp(Ob+1352,(u8*)65536);
-z16(Ob+1360);
-wp(Ob+1376,(u8*)65536);
-z48(Ob+1384);
-w8(Ob+1432,Ws);
-z40(Ob+1440);
-w8(Ob+1480,Ws);
-z16(Ob+1488);
-wp(Ob+1504,(u8*)65536);
-z32(Ob+1512);
-wp(Ob+1544,(u8*)65536);
-z32(Ob+1552);
-wp(Ob+1584,(u8*)65536);
-z32(Ob+1592);
-wp(Ob+1624,(u8*)65536);
-z104(Ob+1632);
-wp(Ob+1736,(u8*)65536);
-z32(Ob+1744);
-wp(Ob+1776,(u8*)65536);
-z40(Ob+1784);
-wp(Ob+1824,(u8*)65536);
-z32(Ob+1832);
-wp(Ob+1864,(u8*)65536);
-z16(Ob+1872);
-wp(Ob+1888,(u8*)65536);
-z48(Ob+1896);
-wp(Pb,(u8*)65536);
-z16(Pb+8);
-wp(Pb+24,(u8*)65536);
-z16(Pb+32);
-Xs=Ej&1;
-Ys=0;
-Zs=0;
-L67:at=b+(i64)(Zs<<4);
-bt=r8(at+8);
-ct=rp(at);
-dt=r8(Pb+8);
-et=r8(Pb+32);
-if(bt-65537>=0xffffffffffff0001u){
-ft=*ct==95;
-if(bt==2){
-if(!ft)goto L68;
-switch(ct[1]){
-case 90:gt=0;
+z12(S);
+w4(R,hb);
+R[4]=ib;
+z3(R+5);
+if(rh){
+z32(K+1512);
+z48(L);
+zero_all(M,1544);
+zero_all(N,1544);
+zero_all(O,1544);
+zero_all(P,1544);
+zero_all(Q,1544);
+Ak=(u64)(u8*)65536;
+wp(K,(u8*)65536);
+z24(K+8);
+wp(K+32,(u8*)65536);
+z16(K+40);
+wp(K+56,(u8*)65536);
+z32(K+64);
+wp(K+96,(u8*)65536);
+z16(K+104);
+wp(K+120,(u8*)65536);
+z32(K+128);
+wp(K+160,(u8*)65536);
+z80(K+168);
+wp(K+248,(u8*)65536);
+z16(K+256);
+wp(K+272,(u8*)65536);
+z40(K+280);
+wp(K+320,(u8*)65536);
+z16(K+328);
+wp(K+344,(u8*)65536);
+z16(K+352);
+wp(K+368,(u8*)65536);
+z16(K+376);
+wp(K+392,(u8*)65536);
+z16(K+400);
+wp(K+416,(u8*)65536);
+z16(K+424);
+wp(K+440,(u8*)65536);
+z48(K+448);
+wp(K+496,(u8*)65536);
+z32(K+504);
+wp(K+536,(u8*)65536);
+z32(K+544);
+wp(K+576,(u8*)65536);
+z104(K+584);
+w8(K+688,Ak);
+z40(K+696);
+w8(K+736,Ak);
+z16(K+744);
+wp(K+760,(u8*)65536);
+z32(K+768);
+wp(K+800,(u8*)65536);
+z24(K+808);
+wp(K+832,(u8*)65536);
+z16(K+840);
+wp(K+856,(u8*)65536);
+z32(K+864);
+wp(K+896,(u8*)65536);
+z16(K+904);
+wp(K+920,(u8*)65536);
+z24(K+928);
+wp(K+952,(u8*)65536);
+z16(K+960);
+wp(K+976,(u8*)65536);
+z16(K+984);
+wp(K+1000,(u8*)65536);
+z40(K+1008);
+wp(K+1048,(u8*)65536);
+z16(K+1056);
+wp(K+1072,(u8*)65536);
+z16(K+1080);
+wp(K+1096,(u8*)65536);
+z16(K+1104);
+wp(K+1120,(u8*)65536);
+z16(K+1128);
+wp(K+1144,(u8*)65536);
+z16(K+1152);
+wp(K+1168,(u8*)65536);
+z48(K+1176);
+wp(K+1224,(u8*)65536);
+z32(K+1232);
+wp(K+1264,(u8*)65536);
+z40(K+1272);
+wp(K+1312,(u8*)65536);
+z32(K+1320);
+wp(K+1352,(u8*)65536);
+z16(K+1360);
+wp(K+1376,(u8*)65536);
+z48(K+1384);
+w8(K+1432,Ak);
+z40(K+1440);
+w8(K+1480,Ak);
+z16(K+1488);
+wp(K+1504,(u8*)65536);
+z32(K+1512);
+wp(L,(u8*)65536);
+z16(L+8);
+wp(L+24,(u8*)65536);
+z16(L+32);
+Bk=lb&1;
+Ck=0;
+Dk=0;
+L67:Ek=b+(i64)(Dk<<4);
+Fk=r8(Ek+8);
+Gk=rp(Ek);
+Hk=r8(L+8);
+Ik=r8(L+32);
+if(Fk-65537>=0xffffffffffff0001u){
+Jk=*Gk==95;
+if(Fk==2){
+if(!Jk)goto L68;
+switch(Gk[1]){
+case 90:Kk=0;
 goto L69;
 case 82:break;
 default:goto L68;
 }}
 else{
-if(!ft)goto L68;
-switch(ct[1]){
-case 90:gt=0;
+if(!Jk)goto L68;
+switch(Gk[1]){
+case 90:Kk=0;
 goto L69;
 case 82:break;
-case 95:switch(ct[2]){
-case 90:gt=0x100000000u;
+case 95:switch(Gk[2]){
+case 90:Kk=0x100000000u;
 goto L69;
-case 82:gt=0x100000001u;
+case 82:Kk=0x100000001u;
 goto L69;
 default:goto L68;
 }
 break;
 default:goto L68;
 }}
-gt=1;
-L69:ht=gt;
-it=gt>>32;
-if(!Xs){
-z12(Mb);
-append_6a1(Mb,Vb,Ob,ht,ct+(i64)it,bt-it,Pb);
-if(*Mb!=0){
-At=push_refused_bbc(1,ct,bt,Mb[4],r4(Mb+8),Pb,Pb+24);
-st=1;
-tt=At;
+Kk=1;
+L69:Lk=Kk;
+Mk=Kk>>32;
+if(!Bk){
+z12(I);
+append_6a1(I,R,K,Lk,Gk+(i64)Mk,Fk-Mk,L);
+if(*I!=0){
+el=push_refused_bbc(1,Gk,Fk,I[4],r4(I+8),L,L+24);
+Wk=1;
+Xk=el;
 goto L70;}
-ut=r8(Pb+8);
-if(r8(Pb+16)==ut){
-vt=grow_amortized_68b(Pb,1);
-if(!vt)goto L71;
-wt=r8(Pb+8);}
-else wt=ut;
-*(rp(Pb)+wt)=10;
-xt=wt+1;
-w8(Pb+8,xt);
-yt=xt;
-zt=Ys;
+Yk=r8(L+8);
+if(r8(L+16)==Yk){
+Zk=grow_amortized_68b(L,1);
+if(!Zk)goto L71;
+al=r8(L+8);}
+else al=Yk;
+*(rp(L)+al)=10;
+bl=al+1;
+w8(L+8,bl);
+cl=bl;
+dl=Ck;
 goto L72;}
-demangle_686(Nb,Vb,Ob,ht,ct+(i64)it,bt-it,Pb);
-switch(*Nb){
-case 0:jt=r8(Pb+8);
-if(r8(Pb+16)==jt){
-kt=grow_amortized_68b(Pb,1);
-if(!kt)break;
-lt=r8(Pb+8);}
-else lt=jt;
-*(rp(Pb)+lt)=10;
-w8(Pb+8,lt+1);
-mt=push_counts_ddb(Nb+4,Pb);
-nt=!(mt&1);
-ot=mt;
+demangle_686(J,R,K,Lk,Gk+(i64)Mk,Fk-Mk,L);
+switch(*J){
+case 0:Nk=r8(L+8);
+if(r8(L+16)==Nk){
+Ok=grow_amortized_68b(L,1);
+if(!Ok)break;
+Pk=r8(L+8);}
+else Pk=Nk;
+*(rp(L)+Pk)=10;
+w8(L+8,Pk+1);
+Qk=push_counts_ddb(J+4,L);
+Rk=!(Qk&1);
+Sk=Qk;
 goto L73;
-case 1:pt=push_refused_bbc(1,ct,bt,3,0,Pb,Pb+24);
-if(!(pt&1)){
-qt=push_counts_ddb(Nb+4,Pb);
-nt=0;
-ot=qt;
+case 1:Tk=push_refused_bbc(1,Gk,Fk,3,0,L,L+24);
+if(!(Tk&1)){
+Uk=push_counts_ddb(J+4,L);
+Rk=0;
+Sk=Uk;
 goto L73;}
 break;
-case 2:rt=push_refused_bbc(1,ct,bt,Nb[4],r4(Nb+8),Pb,Pb+24);
-nt=0;
-ot=rt;
+case 2:Vk=push_refused_bbc(1,Gk,Fk,J[4],r4(J+8),L,L+24);
+Rk=0;
+Sk=Vk;
 goto L73;
 default:NEVER;
 }
 goto L71;
-L73:st=(ot==0&&nt)?Ys:1;
-tt=ot;
+L73:Wk=(Sk==0&&Rk)?Ck:1;
+Xk=Sk;
 goto L70;}
-L68:Bt=push_unnamed_383(ct,bt,Pb,Pb+24);
-st=1;
-tt=Bt;
-L70:if(tt==0){
-yt=r8(Pb+8);
-zt=st;
+L68:fl=push_unnamed_383(Gk,Fk,L,L+24);
+Wk=1;
+Xk=fl;
+L70:if(Xk==0){
+cl=r8(L+8);
+dl=Wk;
 goto L72;}
-L71:w8(Pb+8,umin64(r8(Pb+8),dt));
-w8(Pb+32,umin64(r8(Pb+32),et));
-Ct=write_120(Pb,d,e);
-Dt=r8(Pb+16)==0;
-if(Ct.f0==0){
-if(!Dt)port_rattle_dealloc(rp(Pb));
-if(r8(Pb+40)==0){
-Et=Rb;
-Ft=2;
-Gt=1;
+L71:w8(L+8,umin64(r8(L+8),Hk));
+w8(L+32,umin64(r8(L+32),Ik));
+gl=write_120(L,d,e);
+hl=r8(L+16)==0;
+if(gl.f0==0){
+if(!hl)port_rattle_dealloc(rp(L));
+if(r8(L+40)==0){
+il=N;
+jl=2;
+kl=1;
 goto L74;}
-Ht=Rb;
-It=2;
-Jt=1;
+ll=N;
+ml=2;
+nl=1;
 goto L75;}
-Kt=Ct.f1;
-if(!Dt)port_rattle_dealloc(rp(Pb));
-if(r8(Pb+40)==0){
-Et=Qb;
-Ft=Kt;
-Gt=1;
+ol=gl.f1;
+if(!hl)port_rattle_dealloc(rp(L));
+if(r8(L+40)==0){
+il=M;
+jl=ol;
+kl=1;
 goto L74;}
-Ht=Qb;
-It=Kt;
-Jt=1;
+ll=M;
+ml=ol;
+nl=1;
 goto L75;
-L72:if(!(yt<4096&&r8(Pb+32)<4096)){
-Lt=write_120(Pb,d,e);
-if(Lt.f0!=0){
-Mt=Lt.f1;
-if(r8(Pb+16)!=0)port_rattle_dealloc(rp(Pb));
-if(r8(Pb+40)==0){
-Et=Sb;
-Ft=Mt;
-Gt=1;
+L72:if(!(cl<4096&&r8(L+32)<4096)){
+pl=write_120(L,d,e);
+if(pl.f0!=0){
+ql=pl.f1;
+if(r8(L+16)!=0)port_rattle_dealloc(rp(L));
+if(r8(L+40)==0){
+il=O;
+jl=ql;
+kl=1;
 goto L74;}
-Ht=Sb;
-It=Mt;
-Jt=1;
+ll=O;
+ml=ql;
+nl=1;
 goto L75;}}
-Nt=Zs+1;
-if(Nt!=c){
-Ys=zt;
-Zs=Nt;
+rl=Dk+1;
+if(rl!=c){
+Ck=dl;
+Dk=rl;
 goto L67;}
-Ot=write_120(Pb,d,e);
-Pt=r8(Pb+16)==0;
-if(Ot.f0==0){
-if(!Pt)port_rattle_dealloc(rp(Pb));
-if(r8(Pb+40)==0){
-Et=Ub;
-Ft=zt;
-Gt=0;
+sl=write_120(L,d,e);
+tl=r8(L+16)==0;
+if(sl.f0==0){
+if(!tl)port_rattle_dealloc(rp(L));
+if(r8(L+40)==0){
+il=Q;
+jl=dl;
+kl=0;
 goto L74;}
-Ht=Ub;
-It=zt;
-Jt=0;}
+ll=Q;
+ml=dl;
+nl=0;}
 else{
-Qt=Ot.f1;
-if(!Pt)port_rattle_dealloc(rp(Pb));
-if(r8(Pb+40)==0){
-Et=Tb;
-Ft=Qt;
-Gt=1;
+ul=sl.f1;
+if(!tl)port_rattle_dealloc(rp(L));
+if(r8(L+40)==0){
+il=P;
+jl=ul;
+kl=1;
 goto L74;}
-Ht=Tb;
-It=Qt;
-Jt=1;}
-L75:port_rattle_dealloc(rp(Pb+24));
-Et=Ht;
-Ft=It;
-Gt=Jt;
-L74:memcpy(Et,Ob,1944);
-drop_816(Et);
-Rt=Gt;
-St=Ft;}
+ll=P;
+ml=ul;
+nl=1;}
+L75:port_rattle_dealloc(rp(L+24));
+il=ll;
+jl=ml;
+kl=nl;
+L74:memcpy(il,K,1544);
+drop_816(il);
+vl=kl;
+wl=jl;}
 else{
-w8(Wb,r8(Vb));
-Wb[8]=Dj;
-Tt=(u64)(u8*)65536;
-z32(Db);
-z40(Eb);
-z32(Fb);
-z16(Gb);
-z48(Hb);
-z32(Ib);
-z16(Jb);
-z16(Kb);
-z16(Lb);
-z24(Ka);
-z16(La);
-z32(Ma);
-z16(Na);
-z32(Oa);
-z80(Pa);
-z16(Qa);
-z40(Ra);
-z16(Sa);
-z16(Ta);
-z16(Ua);
-z16(Va);
-z16(Wa);
-z48(Xa);
-z32(Ya);
-z32(Za);
-z104(ab);
-z40(bb);
-z16(cb);
-z32(db);
-z24(eb);
-z16(fb);
-z32(gb);
-z16(hb);
-z24(ib);
-z16(jb);
-z16(kb);
-z40(lb);
-z16(mb);
-z16(nb);
-z16(ob);
-z16(pb);
-z16(qb);
-z48(rb);
-z32(sb);
-z40(tb);
-z32(ub);
-z16(vb);
-z48(wb);
-z40(xb);
-z16(yb);
-z32(zb);
-z32(Ab);
-z32(Bb);
-z104(Cb);
-memcpy(I,Ka,24);
-memcpy(J,La,16);
-memcpy(K,Ma,32);
-memcpy(L,Na,16);
-memcpy(M,Oa,32);
-memcpy(N,Pa,80);
-memcpy(O,Qa,16);
-memcpy(P,Ra,40);
-memcpy(Q,Sa,16);
-memcpy(R,Ta,16);
-memcpy(S,Ua,16);
-memcpy(T,Va,16);
-memcpy(U,Wa,16);
-memcpy(V,Xa,48);
-memcpy(W,Ya,32);
-memcpy(X,Za,32);
-memcpy(Y,ab,104);
-memcpy(Z,bb,40);
-memcpy(aa,cb,16);
-memcpy(ba,db,32);
-memcpy(ca,eb,24);
-memcpy(da,fb,16);
-memcpy(ea,gb,32);
-memcpy(fa,hb,16);
-memcpy(ga,ib,24);
-memcpy(ha,jb,16);
-memcpy(ia,kb,16);
-memcpy(ja,lb,40);
-memcpy(ka,mb,16);
-memcpy(la,nb,16);
-memcpy(ma,ob,16);
-memcpy(na,pb,16);
-memcpy(oa,qb,16);
-memcpy(pa,rb,48);
-memcpy(qa,sb,32);
-memcpy(ra,tb,40);
-memcpy(sa,ub,32);
-memcpy(ta,vb,16);
-memcpy(ua,wb,48);
-memcpy(va,xb,40);
-memcpy(wa,yb,16);
-memcpy(xa,zb,32);
-memcpy(ya,Ab,32);
-memcpy(za,Bb,32);
-memcpy(Aa,Cb,104);
-memcpy(Ba,Db,32);
-memcpy(Ca,Eb,40);
-memcpy(Da,Fb,32);
-memcpy(Ea,Gb,16);
-memcpy(Fa,Hb,48);
-memcpy(Ga,Ib,32);
-memcpy(Ha,Jb,16);
-memcpy(Ia,Kb,16);
-memcpy(Ja,Lb,16);
+w8(S,r8(R));
+S[8]=kb;
+z48(G+1608);
+z48(H);
+xl=(u64)(u8*)65536;
 wp(G,(u8*)65536);
-memcpy(G+8,I,24);
+z24(G+8);
 wp(G+32,(u8*)65536);
-memcpy(G+40,J,16);
+z16(G+40);
 wp(G+56,(u8*)65536);
-memcpy(G+64,K,32);
+z32(G+64);
 wp(G+96,(u8*)65536);
-memcpy(G+104,L,16);
+z16(G+104);
 wp(G+120,(u8*)65536);
-memcpy(G+128,M,32);
+z32(G+128);
 wp(G+160,(u8*)65536);
-memcpy(G+168,N,80);
+z80(G+168);
 wp(G+248,(u8*)65536);
-memcpy(G+256,O,16);
+z16(G+256);
 wp(G+272,(u8*)65536);
-memcpy(G+280,P,40);
+z40(G+280);
 wp(G+320,(u8*)65536);
-memcpy(G+328,Q,16);
+z16(G+328);
 wp(G+344,(u8*)65536);
-memcpy(G+352,R,16);
+z16(G+352);
 wp(G+368,(u8*)65536);
-memcpy(G+376,S,16);
+z16(G+376);
 wp(G+392,(u8*)65536);
-memcpy(G+400,T,16);
+z16(G+400);
 wp(G+416,(u8*)65536);
-memcpy(G+424,U,16);
+z16(G+424);
 wp(G+440,(u8*)65536);
-memcpy(G+448,V,48);
+z48(G+448);
 wp(G+496,(u8*)65536);
-memcpy(G+504,W,32);
+z32(G+504);
 wp(G+536,(u8*)65536);
-memcpy(G+544,X,32);
+z32(G+544);
 wp(G+576,(u8*)65536);
-memcpy(G+584,Y,104);
-w8(G+688,Tt);
-memcpy(G+696,Z,40);
-w8(G+736,Tt);
-memcpy(G+744,aa,16);
+z104(G+584);
+w8(G+688,xl);
+z40(G+696);
+w8(G+736,xl);
+z16(G+744);
 wp(G+760,(u8*)65536);
-memcpy(G+768,ba,32);
+z32(G+768);
 wp(G+800,(u8*)65536);
-memcpy(G+808,ca,24);
+z24(G+808);
 wp(G+832,(u8*)65536);
-memcpy(G+840,da,16);
+z16(G+840);
 wp(G+856,(u8*)65536);
-memcpy(G+864,ea,32);
+z32(G+864);
 wp(G+896,(u8*)65536);
-memcpy(G+904,fa,16);
+z16(G+904);
 wp(G+920,(u8*)65536);
-memcpy(G+928,ga,24);
+z24(G+928);
 wp(G+952,(u8*)65536);
-memcpy(G+960,ha,16);
+z16(G+960);
 wp(G+976,(u8*)65536);
-memcpy(G+984,ia,16);
+z16(G+984);
 wp(G+1000,(u8*)65536);
-memcpy(G+1008,ja,40);
+z40(G+1008);
 wp(G+1048,(u8*)65536);
-memcpy(G+1056,ka,16);
+z16(G+1056);
 wp(G+1072,(u8*)65536);
-memcpy(G+1080,la,16);
+z16(G+1080);
 wp(G+1096,(u8*)65536);
-memcpy(G+1104,ma,16);
+z16(G+1104);
 wp(G+1120,(u8*)65536);
-memcpy(G+1128,na,16);
+z16(G+1128);
 wp(G+1144,(u8*)65536);
-memcpy(G+1152,oa,16);
+z16(G+1152);
 wp(G+1168,(u8*)65536);
-memcpy(G+1176,pa,48);
+z48(G+1176);
 wp(G+1224,(u8*)65536);
-memcpy(G+1232,qa,32);
+z32(G+1232);
 wp(G+1264,(u8*)65536);
-memcpy(G+1272,ra,40);
+z40(G+1272);
 wp(G+1312,(u8*)65536);
-memcpy(G+1320,sa,32);
+z32(G+1320);
 wp(G+1352,(u8*)65536);
-memcpy(G+1360,ta,16);
+z16(G+1360);
 wp(G+1376,(u8*)65536);
-memcpy(G+1384,ua,48);
-w8(G+1432,Tt);
-memcpy(G+1440,va,40);
-w8(G+1480,Tt);
-memcpy(G+1488,wa,16);
+z48(G+1384);
+w8(G+1432,xl);
+z40(G+1440);
+w8(G+1480,xl);
+z16(G+1488);
 wp(G+1504,(u8*)65536);
-memcpy(G+1512,xa,32);
+z32(G+1512);
 wp(G+1544,(u8*)65536);
-memcpy(G+1552,ya,32);
+z32(G+1552);
 wp(G+1584,(u8*)65536);
-memcpy(G+1592,za,32);
-wp(G+1624,(u8*)65536);
-memcpy(G+1632,Aa,104);
-wp(G+1736,(u8*)65536);
-memcpy(G+1744,Ba,32);
-wp(G+1776,(u8*)65536);
-memcpy(G+1784,Ca,40);
-wp(G+1824,(u8*)65536);
-memcpy(G+1832,Da,32);
-wp(G+1864,(u8*)65536);
-memcpy(G+1872,Ea,16);
-wp(G+1888,(u8*)65536);
-memcpy(G+1896,Fa,48);
-wp(G+1944,(u8*)65536);
-memcpy(G+1952,Ga,32);
-wp(G+1984,(u8*)65536);
-memcpy(G+1992,Ha,16);
-wp(G+2008,(u8*)65536);
-memcpy(G+2016,Ia,16);
-wp(G+2032,(u8*)65536);
-memcpy(G+2040,Ja,16);
+z16(G+1592);
+wp(G+1608,(u8*)65536);
+z16(G+1616);
+wp(G+1632,(u8*)65536);
+z16(G+1640);
 wp(H,(u8*)65536);
 z16(H+8);
 wp(H+24,(u8*)65536);
 z16(H+32);
-Ut=Ej&1;
-Vt=0;
-Wt=0;
-L76:Xt=b+(i64)(Wt<<4);
-Yt=r8(Xt+8);
-Zt=rp(Xt);
-au=r8(H+8);
-bu=r8(H+32);
-if(Yt-65537>=0xffffffffffff0001u){
-cu=*Zt==95;
-if(Yt==2){
-if(!cu)goto L77;
-switch(Zt[1]){
-case 90:du=0;
+yl=lb&1;
+zl=0;
+Al=0;
+L76:Bl=b+(i64)(Al<<4);
+Cl=r8(Bl+8);
+Dl=rp(Bl);
+El=r8(H+8);
+Fl=r8(H+32);
+if(Cl-65537>=0xffffffffffff0001u){
+Gl=*Dl==95;
+if(Cl==2){
+if(!Gl)goto L77;
+switch(Dl[1]){
+case 90:Hl=0;
 goto L78;
 case 82:break;
 default:goto L77;
 }}
 else{
-if(!cu)goto L77;
-switch(Zt[1]){
-case 90:du=0;
+if(!Gl)goto L77;
+switch(Dl[1]){
+case 90:Hl=0;
 goto L78;
 case 82:break;
-case 95:switch(Zt[2]){
-case 90:du=0x100000000u;
+case 95:switch(Dl[2]){
+case 90:Hl=0x100000000u;
 goto L78;
-case 82:du=0x100000001u;
+case 82:Hl=0x100000001u;
 goto L78;
 default:goto L77;
 }
 break;
 default:goto L77;
 }}
-du=1;
-L78:eu=du;
-fu=du>>32;
-if(!Ut){
-Au=Zt+(i64)fu;
-Bu=Yt-fu;
+Hl=1;
+L78:Il=Hl;
+Jl=Hl>>32;
+if(!yl){
+em=Dl+(i64)Jl;
+fm=Cl-Jl;
 z12(C);
-append_6a1(C,Wb,G,eu,Au,Bu,H);
+append_6a1(C,S,G,Il,em,fm,H);
 if(*C==0){
-Cu=rewrite_43c(Wb,G+1944,eu,Au,Bu,au,H);
-if(!(Cu&1)){
-Fu=r8(H+8);
-if(r8(H+16)==Fu){
-Gu=grow_amortized_68b(H,1);
-if(!Gu)goto L79;
-Hu=r8(H+8);}
-else Hu=Fu;
-*(rp(H)+Hu)=10;
-Iu=Hu+1;
-w8(H+8,Iu);
-Ju=Iu;
-Ku=Vt;
+gm=rewrite_43c(S,G+1544,Il,em,fm,El,H);
+if(!(gm&1)){
+jm=r8(H+8);
+if(r8(H+16)==jm){
+km=grow_amortized_68b(H,1);
+if(!km)goto L79;
+lm=r8(H+8);}
+else lm=jm;
+*(rp(H)+lm)=10;
+mm=lm+1;
+w8(H+8,mm);
+nm=mm;
+om=zl;
 goto L80;}
-Du=4;
-Eu=0;}
+hm=4;
+im=0;}
 else{
-Du=C[4];
-Eu=r4(C+8);}
-Lu=push_refused_bbc(1,Zt,Yt,Du,Eu,H,H+24);
-yu=1;
-zu=Lu;
+hm=C[4];
+im=r4(C+8);}
+pm=push_refused_bbc(1,Dl,Cl,hm,im,H,H+24);
+cm=1;
+dm=pm;
 goto L81;}
-gu=Zt+(i64)fu;
-hu=Yt-fu;
-demangle_686(D,Wb,G,eu,gu,hu,H);
-iu=r4(D+8);
+Kl=Dl+(i64)Jl;
+Ll=Cl-Jl;
+demangle_686(D,S,G,Il,Kl,Ll,H);
+Ml=r4(D+8);
 switch(*D){
-case 0:ju=r4(D+4);
-ku=r4(D+12);
-lu=rewrite_43c(Wb,G+1944,eu,gu,hu,au,H);
-if(lu==0){
-w4(E,ju);
-w4(E+4,iu);
-w4(E+8,ku);
-mu=r8(H+8);
-if(r8(H+16)==mu){
-nu=grow_amortized_68b(H,1);
-if(!nu)goto L82;
-ou=r8(H+8);}
-else ou=mu;
-*(rp(H)+ou)=10;
-w8(H+8,ou+1);
-pu=push_counts_ddb(E,H);
-qu=!(pu&1);
-ru=pu;
+case 0:Nl=r4(D+4);
+Ol=r4(D+12);
+Pl=rewrite_43c(S,G+1544,Il,Kl,Ll,El,H);
+if(Pl==0){
+w4(E,Nl);
+w4(E+4,Ml);
+w4(E+8,Ol);
+Ql=r8(H+8);
+if(r8(H+16)==Ql){
+Rl=grow_amortized_68b(H,1);
+if(!Rl)goto L82;
+Sl=r8(H+8);}
+else Sl=Ql;
+*(rp(H)+Sl)=10;
+w8(H+8,Sl+1);
+Tl=push_counts_ddb(E,H);
+Ul=!(Tl&1);
+Vl=Tl;
 goto L83;}
-su=4;
-tu=0;
+Wl=4;
+Xl=0;
 break;
-case 1:uu=r4(D+12);
+case 1:Yl=r4(D+12);
 w4(F,r4(D+4));
-w4(F+4,iu);
-w4(F+8,uu);
-vu=push_refused_bbc(1,Zt,Yt,3,0,H,H+24);
-if(vu&1)goto L82;
-wu=push_counts_ddb(F,H);
-qu=0;
-ru=wu;
+w4(F+4,Ml);
+w4(F+8,Yl);
+Zl=push_refused_bbc(1,Dl,Cl,3,0,H,H+24);
+if(Zl&1)goto L82;
+am=push_counts_ddb(F,H);
+Ul=0;
+Vl=am;
 goto L83;
-case 2:su=D[4];
-tu=iu;
+case 2:Wl=D[4];
+Xl=Ml;
 break;
 default:NEVER;
 }
-xu=push_refused_bbc(1,Zt,Yt,su,tu,H,H+24);
-qu=0;
-ru=xu;
+bm=push_refused_bbc(1,Dl,Cl,Wl,Xl,H,H+24);
+Ul=0;
+Vl=bm;
 goto L83;
 L82:goto L79;
-L83:yu=(ru==0&&qu)?Vt:1;
-zu=ru;
+L83:cm=(Vl==0&&Ul)?zl:1;
+dm=Vl;
 goto L81;}
-L77:Mu=push_unnamed_383(Zt,Yt,H,H+24);
-yu=1;
-zu=Mu;
-L81:if(zu==0){
-Ju=r8(H+8);
-Ku=yu;
+L77:qm=push_unnamed_383(Dl,Cl,H,H+24);
+cm=1;
+dm=qm;
+L81:if(dm==0){
+nm=r8(H+8);
+om=cm;
 goto L80;}
-L79:w8(H+8,umin64(r8(H+8),au));
-w8(H+32,umin64(r8(H+32),bu));
-Nu=write_120(H,d,e);
-Ou=r8(H+16)==0;
-if(Nu.f0==0){
-if(!Ou)port_rattle_dealloc(rp(H));
+L79:w8(H+8,umin64(r8(H+8),El));
+w8(H+32,umin64(r8(H+32),Fl));
+rm=write_120(H,d,e);
+sm=r8(H+16)==0;
+if(rm.f0==0){
+if(!sm)port_rattle_dealloc(rp(H));
 if(r8(H+40)!=0)port_rattle_dealloc(rp(H+24));
-Pu=rp(G+1944);
-Qu=rp(G+1984);
-Ru=r8(G+2000);
-Su=rp(G+2008);
-Tu=r8(G+2024);
-Uu=rp(G+2032);
-Vu=r8(G+2048);
-Wu=r8(G+1960);
-memcpy(B,G,1944);
+tm=rp(G+1544);
+um=rp(G+1584);
+vm=r8(G+1600);
+wm=rp(G+1608);
+xm=r8(G+1624);
+ym=rp(G+1632);
+zm=r8(G+1648);
+Am=r8(G+1560);
+memcpy(B,G,1544);
 drop_816(B);
-if(Wu!=0)port_rattle_dealloc(Pu);
-if(Ru!=0)port_rattle_dealloc(Qu);
-if(Tu!=0)port_rattle_dealloc(Su);
-if(Vu!=0)port_rattle_dealloc(Uu);
-Xu=2;
-Yu=1;
+if(Am!=0)port_rattle_dealloc(tm);
+if(vm!=0)port_rattle_dealloc(um);
+if(xm!=0)port_rattle_dealloc(wm);
+if(zm!=0)port_rattle_dealloc(ym);
+Bm=2;
+Cm=1;
 goto L84;}
-Zu=Nu.f1;
-if(!Ou)port_rattle_dealloc(rp(H));
+Dm=rm.f1;
+if(!sm)port_rattle_dealloc(rp(H));
 if(r8(H+40)!=0)port_rattle_dealloc(rp(H+24));
-av=rp(G+1944);
-bv=rp(G+1984);
-cv=r8(G+2000);
-dv=rp(G+2008);
-ev=r8(G+2024);
-fv=rp(G+2032);
-gv=r8(G+2048);
-hv=r8(G+1960);
-memcpy(A,G,1944);
+Em=rp(G+1544);
+Fm=rp(G+1584);
+Gm=r8(G+1600);
+Hm=rp(G+1608);
+Im=r8(G+1624);
+Jm=rp(G+1632);
+Km=r8(G+1648);
+Lm=r8(G+1560);
+memcpy(A,G,1544);
 drop_816(A);
-if(hv!=0)port_rattle_dealloc(av);
-if(cv!=0)port_rattle_dealloc(bv);
-if(ev!=0)port_rattle_dealloc(dv);
-if(gv!=0)port_rattle_dealloc(fv);
-Xu=Zu;
-Yu=1;
+if(Lm!=0)port_rattle_dealloc(Em);
+if(Gm!=0)port_rattle_dealloc(Fm);
+if(Im!=0)port_rattle_dealloc(Hm);
+if(Km!=0)port_rattle_dealloc(Jm);
+Bm=Dm;
+Cm=1;
 goto L84;
-L80:if(!(Ju<4096&&r8(H+32)<4096)){
-iv=write_120(H,d,e);
-if(iv.f0!=0){
-jv=iv.f1;
+L80:if(!(nm<4096&&r8(H+32)<4096)){
+Mm=write_120(H,d,e);
+if(Mm.f0!=0){
+Nm=Mm.f1;
 if(r8(H+16)!=0)port_rattle_dealloc(rp(H));
 if(r8(H+40)!=0)port_rattle_dealloc(rp(H+24));
-kv=rp(G+1944);
-lv=rp(G+1984);
-mv=r8(G+2000);
-nv=rp(G+2008);
-ov=r8(G+2024);
-pv=rp(G+2032);
-qv=r8(G+2048);
-rv=r8(G+1960);
-memcpy(z,G,1944);
+Om=rp(G+1544);
+Pm=rp(G+1584);
+Qm=r8(G+1600);
+Rm=rp(G+1608);
+Sm=r8(G+1624);
+Tm=rp(G+1632);
+Um=r8(G+1648);
+Vm=r8(G+1560);
+memcpy(z,G,1544);
 drop_816(z);
-if(rv!=0)port_rattle_dealloc(kv);
-if(mv!=0)port_rattle_dealloc(lv);
-if(ov!=0)port_rattle_dealloc(nv);
-if(qv!=0)port_rattle_dealloc(pv);
-Xu=jv;
-Yu=1;
+if(Vm!=0)port_rattle_dealloc(Om);
+if(Qm!=0)port_rattle_dealloc(Pm);
+if(Sm!=0)port_rattle_dealloc(Rm);
+if(Um!=0)port_rattle_dealloc(Tm);
+Bm=Nm;
+Cm=1;
 goto L84;}}
-sv=Wt+1;
-if(sv!=c){
-Vt=Ku;
-Wt=sv;
+Wm=Al+1;
+if(Wm!=c){
+zl=om;
+Al=Wm;
 goto L76;}
-tv=write_120(H,d,e);
-uv=r8(H+16)==0;
-if(tv.f0==0){
-if(!uv)port_rattle_dealloc(rp(H));
+Xm=write_120(H,d,e);
+Ym=r8(H+16)==0;
+if(Xm.f0==0){
+if(!Ym)port_rattle_dealloc(rp(H));
 if(r8(H+40)!=0)port_rattle_dealloc(rp(H+24));
-vv=rp(G+1944);
-wv=rp(G+1984);
-xv=r8(G+2000);
-yv=rp(G+2008);
-zv=r8(G+2024);
-Av=rp(G+2032);
-Bv=r8(G+2048);
-Cv=r8(G+1960);
-memcpy(y,G,1944);
+Zm=rp(G+1544);
+an=rp(G+1584);
+bn=r8(G+1600);
+cn=rp(G+1608);
+dn=r8(G+1624);
+en=rp(G+1632);
+fn=r8(G+1648);
+gn=r8(G+1560);
+memcpy(y,G,1544);
 drop_816(y);
-if(Cv!=0)port_rattle_dealloc(vv);
-if(xv!=0)port_rattle_dealloc(wv);
-if(zv!=0)port_rattle_dealloc(yv);
-if(Bv!=0)port_rattle_dealloc(Av);
-Xu=Ku;
-Yu=0;}
+if(gn!=0)port_rattle_dealloc(Zm);
+if(bn!=0)port_rattle_dealloc(an);
+if(dn!=0)port_rattle_dealloc(cn);
+if(fn!=0)port_rattle_dealloc(en);
+Bm=om;
+Cm=0;}
 else{
-Dv=tv.f1;
-if(!uv)port_rattle_dealloc(rp(H));
+hn=Xm.f1;
+if(!Ym)port_rattle_dealloc(rp(H));
 if(r8(H+40)!=0)port_rattle_dealloc(rp(H+24));
-Ev=rp(G+1944);
-Fv=rp(G+1984);
-Gv=r8(G+2000);
-Hv=rp(G+2008);
-Iv=r8(G+2024);
-Jv=rp(G+2032);
-Kv=r8(G+2048);
-Lv=r8(G+1960);
-memcpy(x,G,1944);
+in=rp(G+1544);
+jn=rp(G+1584);
+kn=r8(G+1600);
+ln=rp(G+1608);
+mn=r8(G+1624);
+nn=rp(G+1632);
+on=r8(G+1648);
+pn=r8(G+1560);
+memcpy(x,G,1544);
 drop_816(x);
-if(Lv!=0)port_rattle_dealloc(Ev);
-if(Gv!=0)port_rattle_dealloc(Fv);
-if(Iv!=0)port_rattle_dealloc(Hv);
-if(Kv!=0)port_rattle_dealloc(Jv);
-Xu=Dv;
-Yu=1;}
-L84:Rt=Yu;
-St=Xu;}
-Pm=Rt;
-Qm=St;}
+if(pn!=0)port_rattle_dealloc(in);
+if(kn!=0)port_rattle_dealloc(jn);
+if(mn!=0)port_rattle_dealloc(ln);
+if(on!=0)port_rattle_dealloc(nn);
+Bm=hn;
+Cm=1;}
+L84:vl=Cm;
+wl=Bm;}
+ye=vl;
+ze=wl;}
 break;
-case 2:zero_all(q+1512,432);
+case 2:z32(q+1512);
 z48(r);
-zero_all(s,1944);
-zero_all(t,1944);
-zero_all(u,1944);
-zero_all(v,1944);
-zero_all(w,1944);
-Mv=(u64)(u8*)65536;
+zero_all(s,1544);
+zero_all(t,1544);
+zero_all(u,1544);
+zero_all(v,1544);
+zero_all(w,1544);
+qn=(u64)(u8*)65536;
 wp(q,(u8*)65536);
 z24(q+8);
 wp(q+32,(u8*)65536);
@@ -39577,9 +38991,9 @@ wp(q+536,(u8*)65536);
 z32(q+544);
 wp(q+576,(u8*)65536);
 z104(q+584);
-w8(q+688,Mv);
+w8(q+688,qn);
 z40(q+696);
-w8(q+736,Mv);
+w8(q+736,qn);
 z16(q+744);
 wp(q+760,(u8*)65536);
 z32(q+768);
@@ -39621,220 +39035,204 @@ wp(q+1352,(u8*)65536);
 z16(q+1360);
 wp(q+1376,(u8*)65536);
 z48(q+1384);
-w8(q+1432,Mv);
+w8(q+1432,qn);
 z40(q+1440);
-w8(q+1480,Mv);
+w8(q+1480,qn);
 z16(q+1488);
 wp(q+1504,(u8*)65536);
 z32(q+1512);
-wp(q+1544,(u8*)65536);
-z32(q+1552);
-wp(q+1584,(u8*)65536);
-z32(q+1592);
-wp(q+1624,(u8*)65536);
-z104(q+1632);
-wp(q+1736,(u8*)65536);
-z32(q+1744);
-wp(q+1776,(u8*)65536);
-z40(q+1784);
-wp(q+1824,(u8*)65536);
-z32(q+1832);
-wp(q+1864,(u8*)65536);
-z16(q+1872);
-wp(q+1888,(u8*)65536);
-z48(q+1896);
 wp(r,(u8*)65536);
 z16(r+8);
 wp(r+24,(u8*)65536);
 z16(r+32);
-Nv=Ej&1;
-Ov=0;
-Pv=0;
-L85:Qv=b+(i64)(Pv<<4);
-Rv=r8(Qv+8);
-Sv=rp(Qv);
-Tv=r8(r+8);
-Uv=r8(r+32);
-if(Rv-65537>=0xffffffffffff0001u){
-Vv=*Sv==95;
-if(Rv==2){
-if(!Vv)goto L86;
-switch(Sv[1]){
-case 90:Wv=0;
+rn=lb&1;
+sn=0;
+tn=0;
+L85:un=b+(i64)(tn<<4);
+vn=r8(un+8);
+wn=rp(un);
+xn=r8(r+8);
+yn=r8(r+32);
+if(vn-65537>=0xffffffffffff0001u){
+zn=*wn==95;
+if(vn==2){
+if(!zn)goto L86;
+switch(wn[1]){
+case 90:An=0;
 goto L87;
 case 82:break;
 default:goto L86;
 }}
 else{
-if(!Vv)goto L86;
-switch(Sv[1]){
-case 90:Wv=0;
+if(!zn)goto L86;
+switch(wn[1]){
+case 90:An=0;
 goto L87;
 case 82:break;
-case 95:switch(Sv[2]){
-case 90:Wv=0x100000000u;
+case 95:switch(wn[2]){
+case 90:An=0x100000000u;
 goto L87;
-case 82:Wv=0x100000001u;
+case 82:An=0x100000001u;
 goto L87;
 default:goto L86;
 }
 break;
 default:goto L86;
 }}
-Wv=1;
-L87:Xv=Wv;
-Yv=Wv>>32;
-Zv=Yv;
-if(!Nv){
-demangle_45e(o,q,Xv,Zv,Sv+(i64)Yv,Rv-Yv,r);
+An=1;
+L87:Bn=An;
+Cn=An>>32;
+Dn=Cn;
+if(!rn){
+demangle_45e(o,q,Bn,Dn,wn+(i64)Cn,vn-Cn,r);
 switch(*o){
-case 0:lw=r8(r+8);
-if(r8(r+16)==lw){
-mw=grow_amortized_68b(r,1);
-if(!mw)goto L88;
-nw=r8(r+8);}
-else nw=lw;
-*(rp(r)+nw)=10;
-ow=nw+1;
-w8(r+8,ow);
-pw=ow;
-qw=Ov;
+case 0:Pn=r8(r+8);
+if(r8(r+16)==Pn){
+Qn=grow_amortized_68b(r,1);
+if(!Qn)goto L88;
+Rn=r8(r+8);}
+else Rn=Pn;
+*(rp(r)+Rn)=10;
+Sn=Rn+1;
+w8(r+8,Sn);
+Tn=Sn;
+Un=sn;
 goto L89;
-case 1:rw=3;
-sw=0;
+case 1:Vn=3;
+Wn=0;
 break;
-case 2:rw=o[4];
-sw=r4(o+8);
+case 2:Vn=o[4];
+Wn=r4(o+8);
 break;
 default:NEVER;
 }
-tw=push_refused_bbc(2,Sv,Rv,rw,sw,r,r+24);
-jw=1;
-kw=tw;
+Xn=push_refused_bbc(2,wn,vn,Vn,Wn,r,r+24);
+Nn=1;
+On=Xn;
 goto L90;}
-demangle_45e(p,q,Xv,Zv,Sv+(i64)Yv,Rv-Yv,r);
+demangle_45e(p,q,Bn,Dn,wn+(i64)Cn,vn-Cn,r);
 switch(*p){
-case 0:aw=r8(r+8);
-if(r8(r+16)==aw){
-bw=grow_amortized_68b(r,1);
-if(!bw)break;
-cw=r8(r+8);}
-else cw=aw;
-*(rp(r)+cw)=10;
-w8(r+8,cw+1);
-dw=push_counts_ddb(p+4,r);
-ew=!(dw&1);
-fw=dw;
+case 0:En=r8(r+8);
+if(r8(r+16)==En){
+Fn=grow_amortized_68b(r,1);
+if(!Fn)break;
+Gn=r8(r+8);}
+else Gn=En;
+*(rp(r)+Gn)=10;
+w8(r+8,Gn+1);
+Hn=push_counts_ddb(p+4,r);
+In=!(Hn&1);
+Jn=Hn;
 goto L91;
-case 1:gw=push_refused_bbc(2,Sv,Rv,3,0,r,r+24);
-if(!(gw&1)){
-hw=push_counts_ddb(p+4,r);
-ew=0;
-fw=hw;
+case 1:Kn=push_refused_bbc(2,wn,vn,3,0,r,r+24);
+if(!(Kn&1)){
+Ln=push_counts_ddb(p+4,r);
+In=0;
+Jn=Ln;
 goto L91;}
 break;
-case 2:iw=push_refused_bbc(2,Sv,Rv,p[4],r4(p+8),r,r+24);
-ew=0;
-fw=iw;
+case 2:Mn=push_refused_bbc(2,wn,vn,p[4],r4(p+8),r,r+24);
+In=0;
+Jn=Mn;
 goto L91;
 default:NEVER;
 }
 goto L88;
-L91:jw=(fw==0&&ew)?Ov:1;
-kw=fw;
+L91:Nn=(Jn==0&&In)?sn:1;
+On=Jn;
 goto L90;}
-L86:uw=push_unnamed_383(Sv,Rv,r,r+24);
-jw=1;
-kw=uw;
-L90:if(kw==0){
-pw=r8(r+8);
-qw=jw;
+L86:Yn=push_unnamed_383(wn,vn,r,r+24);
+Nn=1;
+On=Yn;
+L90:if(On==0){
+Tn=r8(r+8);
+Un=Nn;
 goto L89;}
-L88:w8(r+8,umin64(r8(r+8),Tv));
-w8(r+32,umin64(r8(r+32),Uv));
-vw=write_120(r,d,e);
-ww=r8(r+16)==0;
-if(vw.f0==0){
-if(!ww)port_rattle_dealloc(rp(r));
+L88:w8(r+8,umin64(r8(r+8),xn));
+w8(r+32,umin64(r8(r+32),yn));
+Zn=write_120(r,d,e);
+ao=r8(r+16)==0;
+if(Zn.f0==0){
+if(!ao)port_rattle_dealloc(rp(r));
 if(r8(r+40)==0){
-xw=t;
-yw=2;
-zw=1;
+bo=t;
+co=2;
+eo=1;
 goto L92;}
-Aw=t;
-Bw=2;
-Cw=1;
+fo=t;
+go=2;
+ho=1;
 goto L93;}
-Dw=vw.f1;
-if(!ww)port_rattle_dealloc(rp(r));
+io=Zn.f1;
+if(!ao)port_rattle_dealloc(rp(r));
 if(r8(r+40)==0){
-xw=s;
-yw=Dw;
-zw=1;
+bo=s;
+co=io;
+eo=1;
 goto L92;}
-Aw=s;
-Bw=Dw;
-Cw=1;
+fo=s;
+go=io;
+ho=1;
 goto L93;
-L89:if(!(pw<4096&&r8(r+32)<4096)){
-Ew=write_120(r,d,e);
-if(Ew.f0!=0){
-Fw=Ew.f1;
+L89:if(!(Tn<4096&&r8(r+32)<4096)){
+jo=write_120(r,d,e);
+if(jo.f0!=0){
+ko=jo.f1;
 if(r8(r+16)!=0)port_rattle_dealloc(rp(r));
 if(r8(r+40)==0){
-xw=u;
-yw=Fw;
-zw=1;
+bo=u;
+co=ko;
+eo=1;
 goto L92;}
-Aw=u;
-Bw=Fw;
-Cw=1;
+fo=u;
+go=ko;
+ho=1;
 goto L93;}}
-Gw=Pv+1;
-if(Gw!=c){
-Ov=qw;
-Pv=Gw;
+lo=tn+1;
+if(lo!=c){
+sn=Un;
+tn=lo;
 goto L85;}
-Hw=write_120(r,d,e);
-Iw=r8(r+16)==0;
-if(Hw.f0==0){
-if(!Iw)port_rattle_dealloc(rp(r));
+mo=write_120(r,d,e);
+no=r8(r+16)==0;
+if(mo.f0==0){
+if(!no)port_rattle_dealloc(rp(r));
 if(r8(r+40)==0){
-xw=w;
-yw=qw;
-zw=0;
+bo=w;
+co=Un;
+eo=0;
 goto L92;}
-Aw=w;
-Bw=qw;
-Cw=0;}
+fo=w;
+go=Un;
+ho=0;}
 else{
-Jw=Hw.f1;
-if(!Iw)port_rattle_dealloc(rp(r));
+oo=mo.f1;
+if(!no)port_rattle_dealloc(rp(r));
 if(r8(r+40)==0){
-xw=v;
-yw=Jw;
-zw=1;
+bo=v;
+co=oo;
+eo=1;
 goto L92;}
-Aw=v;
-Bw=Jw;
-Cw=1;}
+fo=v;
+go=oo;
+ho=1;}
 L93:port_rattle_dealloc(rp(r+24));
-xw=Aw;
-yw=Bw;
-zw=Cw;
-L92:memcpy(xw,q,1944);
-drop_816(xw);
-Pm=zw;
-Qm=yw;
+bo=fo;
+co=go;
+eo=ho;
+L92:memcpy(bo,q,1544);
+drop_816(bo);
+ye=eo;
+ze=co;
 break;
-case 3:zero_all(h+1512,432);
+case 3:z32(h+1512);
 z48(i);
-zero_all(j,1944);
-zero_all(k,1944);
-zero_all(l,1944);
-zero_all(m,1944);
-zero_all(n,1944);
-Kw=(u64)(u8*)65536;
+zero_all(j,1544);
+zero_all(k,1544);
+zero_all(l,1544);
+zero_all(m,1544);
+zero_all(n,1544);
+po=(u64)(u8*)65536;
 wp(h,(u8*)65536);
 z24(h+8);
 wp(h+32,(u8*)65536);
@@ -39869,9 +39267,9 @@ wp(h+536,(u8*)65536);
 z32(h+544);
 wp(h+576,(u8*)65536);
 z104(h+584);
-w8(h+688,Kw);
+w8(h+688,po);
 z40(h+696);
-w8(h+736,Kw);
+w8(h+736,po);
 z16(h+744);
 wp(h+760,(u8*)65536);
 z32(h+768);
@@ -39913,218 +39311,202 @@ wp(h+1352,(u8*)65536);
 z16(h+1360);
 wp(h+1376,(u8*)65536);
 z48(h+1384);
-w8(h+1432,Kw);
+w8(h+1432,po);
 z40(h+1440);
-w8(h+1480,Kw);
+w8(h+1480,po);
 z16(h+1488);
 wp(h+1504,(u8*)65536);
 z32(h+1512);
-wp(h+1544,(u8*)65536);
-z32(h+1552);
-wp(h+1584,(u8*)65536);
-z32(h+1592);
-wp(h+1624,(u8*)65536);
-z104(h+1632);
-wp(h+1736,(u8*)65536);
-z32(h+1744);
-wp(h+1776,(u8*)65536);
-z40(h+1784);
-wp(h+1824,(u8*)65536);
-z32(h+1832);
-wp(h+1864,(u8*)65536);
-z16(h+1872);
-wp(h+1888,(u8*)65536);
-z48(h+1896);
 wp(i,(u8*)65536);
 z16(i+8);
 wp(i+24,(u8*)65536);
 z16(i+32);
-Lw=Ej&1;
-Mw=0;
-Nw=0;
-L94:Ow=b+(i64)(Nw<<4);
-Pw=r8(Ow+8);
-Qw=rp(Ow);
-Rw=r8(i+8);
-Sw=r8(i+32);
-if(Pw-65537>=0xffffffffffff0001u){
-Tw=*Qw==95;
-if(Pw==2){
-if(!Tw)goto L95;
-switch(Qw[1]){
-case 90:Uw=0;
+qo=lb&1;
+ro=0;
+so=0;
+L94:to=b+(i64)(so<<4);
+uo=r8(to+8);
+vo=rp(to);
+wo=r8(i+8);
+xo=r8(i+32);
+if(uo-65537>=0xffffffffffff0001u){
+yo=*vo==95;
+if(uo==2){
+if(!yo)goto L95;
+switch(vo[1]){
+case 90:zo=0;
 goto L96;
 case 82:break;
 default:goto L95;
 }}
 else{
-if(!Tw)goto L95;
-switch(Qw[1]){
-case 90:Uw=0;
+if(!yo)goto L95;
+switch(vo[1]){
+case 90:zo=0;
 goto L96;
 case 82:break;
-case 95:switch(Qw[2]){
-case 90:Uw=0x100000000u;
+case 95:switch(vo[2]){
+case 90:zo=0x100000000u;
 goto L96;
-case 82:Uw=0x100000001u;
+case 82:zo=0x100000001u;
 goto L96;
 default:goto L95;
 }
 break;
 default:goto L95;
 }}
-Uw=1;
-L96:Vw=Uw;
-Ww=Uw>>32;
-Xw=Ww;
-if(!Lw){
-demangle_363(f,h,Vw,Xw,Qw+(i64)Ww,Pw-Ww,i);
+zo=1;
+L96:Ao=zo;
+Bo=zo>>32;
+Co=Bo;
+if(!qo){
+demangle_363(f,h,Ao,Co,vo+(i64)Bo,uo-Bo,i);
 switch(*f){
-case 0:jx=r8(i+8);
-if(r8(i+16)==jx){
-kx=grow_amortized_68b(i,1);
-if(!kx)goto L97;
-lx=r8(i+8);}
-else lx=jx;
-*(rp(i)+lx)=10;
-mx=lx+1;
-w8(i+8,mx);
-nx=mx;
-ox=Mw;
+case 0:Oo=r8(i+8);
+if(r8(i+16)==Oo){
+Po=grow_amortized_68b(i,1);
+if(!Po)goto L97;
+Qo=r8(i+8);}
+else Qo=Oo;
+*(rp(i)+Qo)=10;
+Ro=Qo+1;
+w8(i+8,Ro);
+So=Ro;
+To=ro;
 goto L98;
-case 1:px=3;
-qx=0;
+case 1:Uo=3;
+Vo=0;
 break;
-case 2:px=f[4];
-qx=r4(f+8);
+case 2:Uo=f[4];
+Vo=r4(f+8);
 break;
 default:NEVER;
 }
-rx=push_refused_bbc(3,Qw,Pw,px,qx,i,i+24);
-hx=1;
-ix=rx;
+Wo=push_refused_bbc(3,vo,uo,Uo,Vo,i,i+24);
+Mo=1;
+No=Wo;
 goto L99;}
-demangle_363(g,h,Vw,Xw,Qw+(i64)Ww,Pw-Ww,i);
+demangle_363(g,h,Ao,Co,vo+(i64)Bo,uo-Bo,i);
 switch(*g){
-case 0:Yw=r8(i+8);
-if(r8(i+16)==Yw){
-Zw=grow_amortized_68b(i,1);
-if(!Zw)break;
-ax=r8(i+8);}
-else ax=Yw;
-*(rp(i)+ax)=10;
-w8(i+8,ax+1);
-bx=push_counts_ddb(g+4,i);
-cx=!(bx&1);
-dx=bx;
+case 0:Do=r8(i+8);
+if(r8(i+16)==Do){
+Eo=grow_amortized_68b(i,1);
+if(!Eo)break;
+Fo=r8(i+8);}
+else Fo=Do;
+*(rp(i)+Fo)=10;
+w8(i+8,Fo+1);
+Go=push_counts_ddb(g+4,i);
+Ho=!(Go&1);
+Io=Go;
 goto L100;
-case 1:ex=push_refused_bbc(3,Qw,Pw,3,0,i,i+24);
-if(!(ex&1)){
-fx=push_counts_ddb(g+4,i);
-cx=0;
-dx=fx;
+case 1:Jo=push_refused_bbc(3,vo,uo,3,0,i,i+24);
+if(!(Jo&1)){
+Ko=push_counts_ddb(g+4,i);
+Ho=0;
+Io=Ko;
 goto L100;}
 break;
-case 2:gx=push_refused_bbc(3,Qw,Pw,g[4],r4(g+8),i,i+24);
-cx=0;
-dx=gx;
+case 2:Lo=push_refused_bbc(3,vo,uo,g[4],r4(g+8),i,i+24);
+Ho=0;
+Io=Lo;
 goto L100;
 default:NEVER;
 }
 goto L97;
-L100:hx=(dx==0&&cx)?Mw:1;
-ix=dx;
+L100:Mo=(Io==0&&Ho)?ro:1;
+No=Io;
 goto L99;}
-L95:sx=push_unnamed_383(Qw,Pw,i,i+24);
-hx=1;
-ix=sx;
-L99:if(ix==0){
-nx=r8(i+8);
-ox=hx;
+L95:Xo=push_unnamed_383(vo,uo,i,i+24);
+Mo=1;
+No=Xo;
+L99:if(No==0){
+So=r8(i+8);
+To=Mo;
 goto L98;}
-L97:w8(i+8,umin64(r8(i+8),Rw));
-w8(i+32,umin64(r8(i+32),Sw));
-tx=write_120(i,d,e);
-ux=r8(i+16)==0;
-if(tx.f0==0){
-if(!ux)port_rattle_dealloc(rp(i));
+L97:w8(i+8,umin64(r8(i+8),wo));
+w8(i+32,umin64(r8(i+32),xo));
+Yo=write_120(i,d,e);
+Zo=r8(i+16)==0;
+if(Yo.f0==0){
+if(!Zo)port_rattle_dealloc(rp(i));
 if(r8(i+40)==0){
-vx=k;
-wx=2;
-xx=1;
+ap=k;
+bp=2;
+cp=1;
 goto L101;}
-yx=k;
-zx=2;
-Ax=1;
+dp=k;
+ep=2;
+fp=1;
 goto L102;}
-Bx=tx.f1;
-if(!ux)port_rattle_dealloc(rp(i));
+gp=Yo.f1;
+if(!Zo)port_rattle_dealloc(rp(i));
 if(r8(i+40)==0){
-vx=j;
-wx=Bx;
-xx=1;
+ap=j;
+bp=gp;
+cp=1;
 goto L101;}
-yx=j;
-zx=Bx;
-Ax=1;
+dp=j;
+ep=gp;
+fp=1;
 goto L102;
-L98:if(!(nx<4096&&r8(i+32)<4096)){
-Cx=write_120(i,d,e);
-Dx=Cx.f0;
-if(Dx!=0){
-Ex=(Dx&1)?Cx.f1:0;
+L98:if(!(So<4096&&r8(i+32)<4096)){
+hp=write_120(i,d,e);
+ip=hp.f0;
+if(ip!=0){
+jp=(ip&1)?hp.f1:0;
 if(r8(i+16)!=0)port_rattle_dealloc(rp(i));
 if(r8(i+40)==0){
-vx=l;
-wx=Ex;
-xx=1;
+ap=l;
+bp=jp;
+cp=1;
 goto L101;}
-yx=l;
-zx=Ex;
-Ax=1;
+dp=l;
+ep=jp;
+fp=1;
 goto L102;}}
-Fx=Nw+1;
-if(Fx!=c){
-Mw=ox;
-Nw=Fx;
+kp=so+1;
+if(kp!=c){
+ro=To;
+so=kp;
 goto L94;}
-Gx=write_120(i,d,e);
-Hx=r8(i+16)==0;
-if(Gx.f0==0){
-if(!Hx)port_rattle_dealloc(rp(i));
+lp=write_120(i,d,e);
+np=r8(i+16)==0;
+if(lp.f0==0){
+if(!np)port_rattle_dealloc(rp(i));
 if(r8(i+40)==0){
-vx=n;
-wx=ox;
-xx=0;
+ap=n;
+bp=To;
+cp=0;
 goto L101;}
-yx=n;
-zx=ox;
-Ax=0;}
+dp=n;
+ep=To;
+fp=0;}
 else{
-Ix=Gx.f1;
-if(!Hx)port_rattle_dealloc(rp(i));
+op=lp.f1;
+if(!np)port_rattle_dealloc(rp(i));
 if(r8(i+40)==0){
-vx=m;
-wx=Ix;
-xx=1;
+ap=m;
+bp=op;
+cp=1;
 goto L101;}
-yx=m;
-zx=Ix;
-Ax=1;}
+dp=m;
+ep=op;
+fp=1;}
 L102:port_rattle_dealloc(rp(i+24));
-vx=yx;
-wx=zx;
-xx=Ax;
-L101:memcpy(vx,h,1944);
-drop_816(vx);
-Pm=xx;
-Qm=wx;
+ap=dp;
+bp=ep;
+cp=fp;
+L101:memcpy(ap,h,1544);
+drop_816(ap);
+ye=cp;
+ze=bp;
 break;
 default:NEVER;
 }
-Jx=(s_8_8){0};Jx.f0=Pm;
-Kx=Jx;Kx.f1=Qm;
-return Kx;
+pp=(s_8_8){0};pp.f0=ye;
+sp=pp;sp.f1=ze;
+return sp;
 }
 
 /* sym_command::lines::push_unnamed */
@@ -58005,12 +57387,12 @@ static void print_entries_4a3(u8* a,u8* b,u8* c,u8* d,u8* e,u8* f,u8 g)
 {
 u8 h[3],k[3],r[3],s[3],t[3],u[3],v[3],w[3];
 A16 u8 i[12],j[12],l[16],m[16],n[24],o[20],p[12],q[32];
-u64 x,C,E,F,H,J,U,V,W,X,Y,Z,ca,fa,ga,ha,ia,ka,la,ma,na,pa,sa,ta,wa,ya,Ca,Ea,Ga,Ia,La,Na,Oa,Qa,Ra,Sa,Ua,Wa,ab,fb,ib,lb,nb,pb,qb,sb,ub,xb,yb,zb,Ab,Fb,Gb,Hb,Ib,Yb,hc,Ac,Dc,Gc,Lc,Zc,dd,id,qd,td,vd,yd,zd,Ad,Bd,Cd,Ed,Fd,Gd,Id,Jd,Kd,Od,Pd,Qd,Td,Ud,Wd,Xd,Zd,ae,be,ce,ee;
-u8 y,O,R,aa,va,xa,Da,Ha,Pa,bb,cb,gb,hb,ob,rb,wb,Mb,Ob,Pb,Tb,Ub,Zb,ac,bc,ec,qc,tc,xc,Rc,gd,sd,xd,Dd,Hd;
-u32 z,A,L,M,N,P,Q,S,T,da,ja,oa,qa,ra,ua,Aa,Ba,Ka,Xa,Ya,Za,db,vb,Eb,Jb,Nb,Qb,Vb,Wb,Xb,cc,lc,Qc,Sc,Tc,Wc,Xc,Yc,fd,hd,pd,ud;
-u8 *B,*D,*G,*I,*K,*ba,*ea,*za,*Fa,*Ja,*Ma,*Ta,*Va,*eb,*jb,*kb,*mb,*tb,*Kb,*Lb,*Rb,*Sb,*dc,*fc,*gc,*ic,*jc,*kc,*mc,*oc,*rc,*uc,*wc,*yc,*zc,*Bc,*Cc,*Ec,*Fc,*Hc,*Ic,*Jc,*Kc,*Mc,*Nc,*Oc,*Pc,*Uc,*Vc,*ad,*bd,*cd,*ed,*jd,*ld,*Ld,*Md,*Nd,*Rd,*Sd,*Vd,*Yd,*de;
-s_64_64 Bb,Cb,Db;
-u16 nc,pc,sc,vc,kd,md,nd,od;
+u64 x,C,E,F,H,J,U,V,W,X,Y,Z,ca,fa,ga,ha,ia,ka,la,ma,na,pa,sa,ta,xa,za,Da,Fa,Ha,Ja,Ma,Oa,Pa,Ra,Sa,Ta,Va,Xa,bb,hb,kb,nb,pb,rb,sb,ub,wb,zb,Ab,Bb,Cb,Hb,Ib,Jb,Kb,ac,jc,Cc,Fc,Ic,Nc,bd,fd,kd,td,vd,yd,Ad,Bd,Cd,Dd,Ed,Gd,Hd,Id,Kd,Ld,Md,Qd,Rd,Sd,Vd,Wd,Yd,Zd,be,ce,de,ee,ge;
+u8 y,O,R,aa,wa,ya,Ea,Ia,Qa,cb,db,ib,jb,qb,tb,yb,Ob,Qb,Rb,Vb,Wb,bc,cc,dc,gc,sc,vc,zc,Tc,id,ud,zd,Fd,Jd;
+u32 z,A,L,M,N,P,Q,S,T,da,ja,oa,qa,ra,va,Ba,Ca,La,Ya,Za,ab,eb,xb,Gb,Lb,Pb,Sb,Xb,Yb,Zb,ec,nc,Sc,Uc,Vc,Yc,Zc,ad,hd,jd,sd,xd;
+u8 *B,*D,*G,*I,*K,*ba,*ea,*ua,*Aa,*Ga,*Ka,*Na,*Ua,*Wa,*fb,*gb,*lb,*mb,*ob,*vb,*Mb,*Nb,*Tb,*Ub,*fc,*hc,*ic,*kc,*lc,*mc,*oc,*qc,*tc,*wc,*yc,*Ac,*Bc,*Dc,*Ec,*Gc,*Hc,*Jc,*Kc,*Lc,*Mc,*Oc,*Pc,*Qc,*Rc,*Wc,*Xc,*cd,*dd,*ed,*gd,*ld,*nd,*Nd,*Od,*Pd,*Td,*Ud,*Xd,*ae,*fe;
+s_64_64 Db,Eb,Fb;
+u16 pc,rc,uc,xc,md,od,pd,qd;
 if(r8(e+8)!=0)w8(e+8,0);
 if(r8(e+32)!=0)w8(e+32,0);
 if(r8(e+56)!=0)w8(e+56,0);
@@ -58046,65 +57428,65 @@ T=r4(f)-q4(K+44);
 U=r8(f+8)-q8(K+48);
 V=(r8(d+8)<<32)|q4(K+40);
 if(!g){
-Ka=L&63;
-La=r8(e+8);
-if(La>Ka){
+La=L&63;
+Ma=r8(e+8);
+if(Ma>La){
 memcpy(t,K+13,3);
 memcpy(u,K+25,3);
-Ma=rp(e)+(i64)((u64)Ka*56);
-x4(Ma,L);
-x4(Ma+4,M);
-x4(Ma+8,N);
-Ma[12]=O;
-memcpy(Ma+13,t,3);
-x4(Ma+16,P);
-x4(Ma+20,Q);
-Ma[24]=R;
-memcpy(Ma+25,u,3);
-x4(Ma+28,S);
-x8(Ma+32,V);
-x4(Ma+40,T);
-x4(Ma+44,0);
-x8(Ma+48,U);}
+Na=rp(e)+(i64)((u64)La*56);
+x4(Na,L);
+x4(Na+4,M);
+x4(Na+8,N);
+Na[12]=O;
+memcpy(Na+13,t,3);
+x4(Na+16,P);
+x4(Na+20,Q);
+Na[24]=R;
+memcpy(Na+25,u,3);
+x4(Na+28,S);
+x8(Na+32,V);
+x4(Na+40,T);
+x4(Na+44,0);
+x8(Na+48,U);}
 else{
-Na=(u64)Ka+1-La;
+Oa=(u64)La+1-Ma;
 memcpy(r,K+13,3);
 memcpy(s,K+25,3);
-Oa=r8(e+16);
-if(Na>Oa-La){
-Pa=grow_amortized_670(e,Na);
-if(!Pa)goto L2;
-Qa=r8(e+16);
-Ra=r8(e+8);}
+Pa=r8(e+16);
+if(Oa>Pa-Ma){
+Qa=grow_amortized_670(e,Oa);
+if(!Qa)goto L2;
+Ra=r8(e+16);
+Sa=r8(e+8);}
 else{
-Qa=Oa;
-Ra=La;}
-Sa=Ra+Na;
-Ta=rp(e);
-if(Ra>=Sa)goto L3;
-Ua=Ra;
-L4:Va=Ta+Ua*56;
-x4(Va,L);
-x4(Va+4,M);
-x4(Va+8,N);
-Va[12]=O;
-memcpy(Va+13,r,3);
-x4(Va+16,P);
-x4(Va+20,Q);
-Va[24]=R;
-memcpy(Va+25,s,3);
-x4(Va+28,S);
-x8(Va+32,V);
-x4(Va+40,T);
-x4(Va+44,0);
-x8(Va+48,U);
-Wa=Ua+1;
-if(Wa!=Sa){
-Ua=Wa;
+Ra=Pa;
+Sa=Ma;}
+Ta=Sa+Oa;
+Ua=rp(e);
+if(Sa>=Ta)goto L3;
+Va=Sa;
+L4:Wa=Ua+Va*56;
+x4(Wa,L);
+x4(Wa+4,M);
+x4(Wa+8,N);
+Wa[12]=O;
+memcpy(Wa+13,r,3);
+x4(Wa+16,P);
+x4(Wa+20,Q);
+Wa[24]=R;
+memcpy(Wa+25,s,3);
+x4(Wa+28,S);
+x8(Wa+32,V);
+x4(Wa+40,T);
+x4(Wa+44,0);
+x8(Wa+48,U);
+Xa=Va+1;
+if(Xa!=Ta){
+Va=Xa;
 goto L4;}
-L3:wp(e,Ta);
-w8(e+8,Sa);
-w8(e+16,Qa);
+L3:wp(e,Ua);
+w8(e+8,Ta);
+w8(e+16,Ra);
 L2:;}
 goto L5;}
 memcpy(v,K+13,3);
@@ -58177,444 +57559,449 @@ aa=ga&1;}}
 ta=r8(e+8);
 if(ta<0x100000000u){
 if(Y<ta){
-if(r8(e+80)>L)*(rp(e+72)+(i64)((u64)L<<4)+9)=1;}
+if(r8(e+80)>L){
+ua=rp(e+72)+(i64)((u64)L*12);
+ua[9]=1;
+ua[8]=0;}}
 else{
-ua=umin64(ta,0x100000000u);
+va=umin64(ta,0x100000000u);
 if(r8(e+16)==ta){
-va=grow_amortized_670(e,1);
-if(!va)goto L8;
-wa=r8(e+56);}
-else wa=X;
-if(r8(e+64)==wa){
-xa=grow_amortized_a3c(e+48);
-if(!xa)goto L8;
-ya=r8(e+56);}
-else ya=wa;
-if(ya>Z){
-za=rp(e+48)+(i64)(Z<<4);
+wa=grow_amortized_670(e,1);
+if(!wa)goto L8;
+xa=r8(e+56);}
+else xa=X;
+if(r8(e+64)==xa){
+ya=grow_amortized_a3c(e+48);
+if(!ya)goto L8;
+za=r8(e+56);}
+else za=xa;
+if(za>Z){
+Aa=rp(e+48)+(i64)(Z<<4);
 if(aa){
-Aa=r4(za+8);
-Ba=ua;}
+Ba=r4(Aa+8);
+Ca=va;}
 else{
-Aa=ua;
-Ba=r4(za+12);}
-x4(za+8,Aa);
-x4(za+12,Ba);
-Ca=r8(e+56);}
-else Ca=ya;
-if(r8(e+64)==Ca){
-Da=grow_amortized_a3c(e+48);
-if(!Da)goto L9;
-Ea=r8(e+56);}
-else Ea=Ca;
-Fa=rp(e+48)+(Ea<<4);
-x8(Fa,W);
-x4(Fa+8,4294967295u);
-x4(Fa+12,4294967295u);
-w8(e+56,Ea+1);
-L9:Ga=r8(e+8);
-if(r8(e+16)==Ga){
-Ha=grow_amortized_670(e,1);
-if(!Ha)goto L8;
-Ia=r8(e+8);}
-else Ia=Ga;
-Ja=rp(e)+Ia*56;
-x4(Ja,L);
-x4(Ja+4,M);
-x4(Ja+8,N);
-Ja[12]=O;
-memcpy(Ja+13,v,3);
-x4(Ja+16,P);
-x4(Ja+20,Q);
-Ja[24]=R;
-memcpy(Ja+25,w,3);
-x4(Ja+28,S);
-x8(Ja+32,V);
-x4(Ja+40,T);
-x4(Ja+44,0);
-x8(Ja+48,U);
-w8(e+8,Ia+1);}}}
+Ba=va;
+Ca=r4(Aa+12);}
+x4(Aa+8,Ba);
+x4(Aa+12,Ca);
+Da=r8(e+56);}
+else Da=za;
+if(r8(e+64)==Da){
+Ea=grow_amortized_a3c(e+48);
+if(!Ea)goto L9;
+Fa=r8(e+56);}
+else Fa=Da;
+Ga=rp(e+48)+(Fa<<4);
+x8(Ga,W);
+x4(Ga+8,4294967295u);
+x4(Ga+12,4294967295u);
+w8(e+56,Fa+1);
+L9:Ha=r8(e+8);
+if(r8(e+16)==Ha){
+Ia=grow_amortized_670(e,1);
+if(!Ia)goto L8;
+Ja=r8(e+8);}
+else Ja=Ha;
+Ka=rp(e)+Ja*56;
+x4(Ka,L);
+x4(Ka+4,M);
+x4(Ka+8,N);
+Ka[12]=O;
+memcpy(Ka+13,v,3);
+x4(Ka+16,P);
+x4(Ka+20,Q);
+Ka[24]=R;
+memcpy(Ka+25,w,3);
+x4(Ka+28,S);
+x8(Ka+32,V);
+x4(Ka+40,T);
+x4(Ka+44,0);
+x8(Ka+48,U);
+w8(e+8,Ja+1);}}}
 L8:goto L5;}}
 switch(D[-36]){
-case 0:Xa=q4(D-32);
-Ya=q4(D-28);
-Za=q4(D-24);
-ab=q8(D-20);
-bb=D[-12];
-cb=D[-8];
-db=q4(D-4);
+case 0:Ya=q4(D-32);
+Za=q4(D-28);
+ab=q4(D-24);
+bb=q8(D-20);
+cb=D[-12];
+db=D[-8];
+eb=q4(D-4);
 z12(p);
 z32(q);
-if(!g){
-switch(Ya){
-case 0:eb=rp(b+24);
-fb=(u64)Xa*48;
-gb=*(eb+(i64)fb);
-if(gb==12){
-switch(bb){
+if(g){
+if(r8(e+80)<=Ya)goto L10;
+fb=rp(e+72)+(i64)((u64)Ya*12);
+if(fb[8]&1&&ab==0)goto L10;
+if((r4(fb+4)&((u32)1<<(Za&31)))==0)goto L10;}
+else{
+if(Za==0){
+gb=rp(b+24);
+hb=(u64)Ya*48;
+ib=*(gb+(i64)hb);
+if(ib!=12){
+jb=ib;
+kb=hb;
+lb=gb;
+goto L11;}
+switch(cb){
 case 0:case 2:goto L10;
-case 1:case 3:goto L11;
+case 1:case 3:goto L12;
 default:NEVER;
-}}
-else{
-hb=gb;
-ib=fb;
-jb=eb;}
-break;
-case 1:kb=rp(b+24);
-lb=(u64)Xa*48;
-hb=*(kb+(i64)lb);
-ib=lb;
-jb=kb;
-break;
-default:goto L11;
-}
-if(hb==25){
-mb=jb+(i64)((u64)q4(jb+(i64)ib+4)*48);
-if(*mb==25){
-nb=(u64)q4(mb+4)*48;
-if(*(jb+(i64)nb)!=25)goto L11;
-ob=0;
-pb=nb;
-L12:qb=(u64)q4(jb+(i64)pb+4)*48;
-if(*(jb+(i64)qb)!=25)goto L11;
-if(ob)goto L10;
-ob=1;
-pb=qb;
-goto L12;}
-rb=0;
-sb=ib;
-L13:tb=jb+(i64)((u64)q4(jb+(i64)sb+4)*48);
-if(*tb==32){
-if(!(tb[1]&1||tb[2]&1)&&tb[3]&1){
-ub=(u64)q4(tb+4)*48;
-if(*(jb+(i64)ub)==25){
-if(rb)goto L10;
-rb=1;
-sb=ub;
-goto L13;}}}}
-L11:vb=r4(f);
-if(r4(f+4)!=vb){
-xb=r8(c+16);
-if(xb-F<8){
-yb=umax64(F,8);
-if(yb>(F^18446744073709551615u)){
-wb=4;
-goto L14;}
-zb=yb+F;
-if(zb>=0x38e38e38e38e38fu){
-wb=4;
-goto L14;}
-Ab=zb*36;
-if(xb==0){
-Bb=port_rattle_alloc(Ab,4);
-if(!(u8)(Bb.f0&1)){
-wb=4;
-goto L14;}
-Cb=Bb;}
-else{
-Db=port_rattle_realloc(G,E,Ab,4);
+}}}
+if(Za>1)goto L12;
+mb=rp(b+24);
+nb=(u64)Ya*48;
+jb=*(mb+(i64)nb);
+kb=nb;
+lb=mb;
+L11:if(jb==25){
+ob=lb+(i64)((u64)q4(lb+(i64)kb+4)*48);
+if(*ob==25){
+pb=(u64)q4(ob+4)*48;
+if(*(lb+(i64)pb)!=25)goto L12;
+qb=0;
+rb=pb;
+L13:sb=(u64)q4(lb+(i64)rb+4)*48;
+if(*(lb+(i64)sb)!=25)goto L12;
+if(qb)goto L10;
+qb=1;
+rb=sb;
+goto L13;}
+tb=0;
+ub=kb;
+L14:vb=lb+(i64)((u64)q4(lb+(i64)ub+4)*48);
+if(*vb==32){
+if(!(vb[1]&1||vb[2]&1)&&vb[3]&1){
+wb=(u64)q4(vb+4)*48;
+if(*(lb+(i64)wb)==25){
+if(tb)goto L10;
+tb=1;
+ub=wb;
+goto L14;}}}}
+L12:xb=r4(f);
+if(r4(f+4)!=xb){
+zb=r8(c+16);
+if(zb-F<8){
+Ab=umax64(F,8);
+if(Ab>(F^18446744073709551615u)){
+yb=4;
+goto L15;}
+Bb=Ab+F;
+if(Bb>=0x38e38e38e38e38fu){
+yb=4;
+goto L15;}
+Cb=Bb*36;
+if(zb==0){
+Db=port_rattle_alloc(Cb,4);
 if(!(u8)(Db.f0&1)){
-wb=4;
-goto L14;}
-Cb=Db;}
-wp(c,(u8*)Cb.f1);
-w8(c+16,zb);
-Eb=r4(f);}
-else Eb=vb;
-Fb=r8(f+8)+1;
-w4(f,Eb+1);
-w8(f+8,Fb);
-Gb=r8(c+8);
-if(Gb==0)Hb=0;
+yb=4;
+goto L15;}
+Eb=Db;}
 else{
-Ib=Gb-1;
-w8(c+8,Ib);
-Hb=Ib;}
-Jb=ab>>32;
-Kb=rp(b+24);
-Lb=Kb+(i64)((u64)Xa*48);
-Mb=*Lb==47;
-Nb=Mb?q4(Lb+4):Xa;
-Ob=cb!=0;
-Pb=Ob||Mb;
-Qb=Ob?db:(Mb?q4(Lb+8):0);
-w4(o,(u32)ab&255);
-w4(o+4,Jb);
-o[8]=bb;
+Fb=port_rattle_realloc(G,E,Cb,4);
+if(!(u8)(Fb.f0&1)){
+yb=4;
+goto L15;}
+Eb=Fb;}
+wp(c,(u8*)Eb.f1);
+w8(c+16,Bb);
+Gb=r4(f);}
+else Gb=xb;
+Hb=r8(f+8)+1;
+w4(f,Gb+1);
+w8(f+8,Hb);
+Ib=r8(c+8);
+if(Ib==0)Jb=0;
+else{
+Kb=Ib-1;
+w8(c+8,Kb);
+Jb=Kb;}
+Lb=bb>>32;
+Mb=rp(b+24);
+Nb=Mb+(i64)((u64)Ya*48);
+Ob=*Nb==47;
+Pb=Ob?q4(Nb+4):Ya;
+Qb=db!=0;
+Rb=Qb||Ob;
+Sb=Qb?eb:(Ob?q4(Nb+8):0);
+w4(o,(u32)bb&255);
+w4(o+4,Lb);
+o[8]=cb;
 z3(o+9);
-w4(o+12,Pb);
-w4(o+16,Qb);
-switch(Ya){
+w4(o+12,Rb);
+w4(o+16,Sb);
+switch(Za){
 case 0:z16(m);
 z24(n);
-Rb=rp(b);
-Sb=Kb+(i64)((u64)Nb*48);
-Tb=*Sb;
-Ub=Sb[1];
-Vb=q4(Sb+4);
-Wb=q4(Sb+8);
-Xb=q4(Sb+12);
-Yb=q8(Sb+16);
-Zb=Wb;
-ac=Wb>>8;
-bc=Wb>>16;
-switch(Tb){
+Tb=rp(b);
+Ub=Mb+(i64)((u64)Pb*48);
+Vb=*Ub;
+Wb=Ub[1];
+Xb=q4(Ub+4);
+Yb=q4(Ub+8);
+Zb=q4(Ub+12);
+ac=q8(Ub+16);
+bc=Yb;
+cc=Yb>>8;
+dc=Yb>>16;
+switch(Vb){
 case 9:w8(l,0);
-*l=Zb;
-l[1]=ac;
-l[2]=bc;
-w4(l+4,Xb);
-w8(l+8,Yb);
-if(Zb==0){
-cc=Yb;
-if(Xb!=cc){
-dc=Rb+(i64)Xb;
-if(!((Yb&4294967295u)-Xb<10||*dc!=95)){
-ec=parts_equal_58b((u8*)t_35ad,10,dc,10);
-if(ec){
-fc=rp(c)+Hb*36;
-*fc=3;
-fc[1]=0;
-x2(fc+2,35);
-z32(fc+4);
-w8(c+8,Hb+1);
-goto L15;}}}
-if(Xb<cc){
-gc=rp(c)+Hb*36;
-*gc=1;
-z3(gc+1);
-x4(gc+4,Xb);
-x4(gc+8,cc);
-z24(gc+12);
-w8(c+8,Hb+1);}}
+*l=bc;
+l[1]=cc;
+l[2]=dc;
+w4(l+4,Zb);
+w8(l+8,ac);
+if(bc==0){
+ec=ac;
+if(Zb!=ec){
+fc=Tb+(i64)Zb;
+if(!((ac&4294967295u)-Zb<10||*fc!=95)){
+gc=parts_equal_58b((u8*)t_35ad,10,fc,10);
+if(gc){
+hc=rp(c)+Jb*36;
+*hc=3;
+hc[1]=0;
+x2(hc+2,35);
+z32(hc+4);
+w8(c+8,Jb+1);
+goto L16;}}}
+if(Zb<ec){
+ic=rp(c)+Jb*36;
+*ic=1;
+z3(ic+1);
+x4(ic+4,Zb);
+x4(ic+8,ec);
+z24(ic+12);
+w8(c+8,Jb+1);}}
 else fill_rare_piece_017(b,c,l,o);
-L15:break;
-case 10:hc=Hb*36;
-ic=rp(c)+hc;
-x4(ic,0);
-x4(ic+4,Nb);
-x4(ic+8,6);
-x4(ic+12,0);
-memcpy(ic+16,o,20);
-jc=rp(c)+(i64)hc;
-jc[36]=3;
-jc[37]=0;
-x2(jc+38,7);
-z32(jc+40);
-w8(c+8,Hb+2);
-break;
-case 11:*m=Zb;
-m[1]=ac;
-m[2]=bc;
-w4(m+4,Xb);
-w8(m+8,Yb);
-fill_within_6bb(b,c,Nb,Vb,m,o);
-break;
-case 12:fill_instance_1f0(b,c,Vb,Wb,o);
-break;
-case 13:own_entity_238(n,b,Wb,o);
-kc=rp(c)+Hb*36;
-lc=r4(n);
+L16:break;
+case 10:jc=Jb*36;
+kc=rp(c)+jc;
 x4(kc,0);
-x4(kc+4,lc);
-x4(kc+8,0);
+x4(kc+4,Pb);
+x4(kc+8,6);
 x4(kc+12,0);
-memcpy(kc+16,n+4,20);
-w8(c+8,Hb+1);
+memcpy(kc+16,o,20);
+lc=rp(c)+(i64)jc;
+lc[36]=3;
+lc[37]=0;
+x2(lc+38,7);
+z32(lc+40);
+w8(c+8,Jb+2);
 break;
-case 14:mc=rp(c)+Hb*36;
+case 11:*m=bc;
+m[1]=cc;
+m[2]=dc;
+w4(m+4,Zb);
+w8(m+8,ac);
+fill_within_6bb(b,c,Pb,Xb,m,o);
+break;
+case 12:fill_instance_1f0(b,c,Xb,Yb,o);
+break;
+case 13:own_entity_238(n,b,Yb,o);
+mc=rp(c)+Jb*36;
+nc=r4(n);
 x4(mc,0);
-x4(mc+4,Vb);
+x4(mc+4,nc);
 x4(mc+8,0);
 x4(mc+12,0);
-memcpy(mc+16,o,20);
-w8(c+8,Hb+1);
+memcpy(mc+16,n+4,20);
+w8(c+8,Jb+1);
 break;
-case 15:fill_tagged_146(c,Vb,Wb,Xb,o);
+case 14:oc=rp(c)+Jb*36;
+x4(oc,0);
+x4(oc+4,Xb);
+x4(oc+8,0);
+x4(oc+12,0);
+memcpy(oc+16,o,20);
+w8(c+8,Jb+1);
 break;
-case 17:nc=abbreviation_6bb(Ub);
-if(nc!=60){
-oc=rp(c)+Hb*36;
-*oc=3;
-oc[1]=0;
-x2(oc+2,nc);
-z32(oc+4);
-w8(c+8,Hb+1);}
+case 15:fill_tagged_146(c,Xb,Yb,Zb,o);
 break;
-case 18:fill_parameter_f0e(b,c,Vb,Wb,0,o);
+case 17:pc=abbreviation_6bb(Wb);
+if(pc!=60){
+qc=rp(c)+Jb*36;
+*qc=3;
+qc[1]=0;
+x2(qc+2,pc);
+z32(qc+4);
+w8(c+8,Jb+1);}
 break;
-case 0:case 1:case 2:case 3:case 4:case 5:case 6:case 7:case 8:case 16:case 19:case 20:case 21:case 22:case 23:case 24:case 25:case 26:case 27:case 28:case 29:case 30:case 31:case 32:case 33:case 34:case 35:case 36:case 37:case 38:case 39:case 40:case 41:case 42:case 43:case 44:case 45:case 46:case 47:pc=q2(Sb+2);
-switch(Tb){
-case 20:qc=Ub-97;
-if(qc<26){
-if((((u64)1<<qc)&1278976)==0){
-rc=rp(c)+Hb*36;
-sc=r2((u8*)t_91f6+(u64)qc*2);
-*rc=3;
-rc[1]=0;
-x2(rc+2,sc);
-z32(rc+4);
-w8(c+8,Hb+1);}}
+case 18:fill_parameter_f0e(b,c,Xb,Yb,0,o);
 break;
-case 21:tc=Ub-97;
-if(tc<21){
-if((((u64)1<<tc)&777794)==0){
-uc=rp(c)+Hb*36;
-vc=r2((u8*)t_1a3f+(u64)tc*2);
-*uc=3;
-uc[1]=0;
-x2(uc+2,vc);
-z32(uc+4);
-w8(c+8,Hb+1);}}
+case 0:case 1:case 2:case 3:case 4:case 5:case 6:case 7:case 8:case 16:case 19:case 20:case 21:case 22:case 23:case 24:case 25:case 26:case 27:case 28:case 29:case 30:case 31:case 32:case 33:case 34:case 35:case 36:case 37:case 38:case 39:case 40:case 41:case 42:case 43:case 44:case 45:case 46:case 47:rc=q2(Ub+2);
+switch(Vb){
+case 20:sc=Wb-97;
+if(sc<26){
+if((((u64)1<<sc)&1278976)==0){
+tc=rp(c)+Jb*36;
+uc=r2((u8*)t_91f6+(u64)sc*2);
+*tc=3;
+tc[1]=0;
+x2(tc+2,uc);
+z32(tc+4);
+w8(c+8,Jb+1);}}
 break;
-case 24:if(Wb!=Vb){
-wc=Rb+(i64)Vb;
-if(!((u64)Wb-Vb<10||*wc!=95)){
-xc=parts_equal_58b((u8*)t_35ad,10,wc,10);
-if(xc){
-yc=rp(c)+Hb*36;
-*yc=3;
-yc[1]=0;
-x2(yc+2,35);
-z32(yc+4);
-w8(c+8,Hb+1);
+case 21:vc=Wb-97;
+if(vc<21){
+if((((u64)1<<vc)&777794)==0){
+wc=rp(c)+Jb*36;
+xc=r2((u8*)t_1a3f+(u64)vc*2);
+*wc=3;
+wc[1]=0;
+x2(wc+2,xc);
+z32(wc+4);
+w8(c+8,Jb+1);}}
+break;
+case 24:if(Yb!=Xb){
+yc=Tb+(i64)Xb;
+if(!((u64)Yb-Xb<10||*yc!=95)){
+zc=parts_equal_58b((u8*)t_35ad,10,yc,10);
+if(zc){
+Ac=rp(c)+Jb*36;
+*Ac=3;
+Ac[1]=0;
+x2(Ac+2,35);
+z32(Ac+4);
+w8(c+8,Jb+1);
 break;}}}
-if(Vb<Wb){
-zc=rp(c)+Hb*36;
-*zc=1;
-z3(zc+1);
-x4(zc+4,Vb);
-x4(zc+8,Wb);
-z24(zc+12);
-w8(c+8,Hb+1);}
+if(Xb<Yb){
+Bc=rp(c)+Jb*36;
+*Bc=1;
+z3(Bc+1);
+x4(Bc+4,Xb);
+x4(Bc+8,Yb);
+z24(Bc+12);
+w8(c+8,Jb+1);}
 break;
-case 25:fill_marked_395(b,c,Vb,o);
+case 25:fill_marked_395(b,c,Xb,o);
 break;
-case 26:fill_reference_bf6(b,c,Vb,4,11,10,o);
+case 26:fill_reference_bf6(b,c,Xb,4,11,10,o);
 break;
-case 27:fill_reference_bf6(b,c,Vb,0,13,12,o);
+case 27:fill_reference_bf6(b,c,Xb,0,13,12,o);
 break;
-case 28:fill_array_c4d(b,c,Xb,o);
+case 28:fill_array_c4d(b,c,Zb,o);
 break;
-case 29:fill_array_c4d(b,c,Wb,o);
+case 29:fill_array_c4d(b,c,Yb,o);
 break;
-case 31:Ac=Hb*36;
-Bc=rp(c)+Ac;
-*Bc=3;
-Bc[1]=0;
-x2(Bc+2,4);
-z32(Bc+4);
-Cc=rp(c)+(i64)Ac;
-x4(Cc+36,0);
-x4(Cc+40,Vb);
-x4(Cc+44,0);
-x4(Cc+48,0);
-memcpy(Cc+52,o,20);
-w8(c+8,Hb+2);
+case 31:Cc=Jb*36;
+Dc=rp(c)+Cc;
+*Dc=3;
+Dc[1]=0;
+x2(Dc+2,4);
+z32(Dc+4);
+Ec=rp(c)+(i64)Cc;
+x4(Ec+36,0);
+x4(Ec+40,Xb);
+x4(Ec+44,0);
+x4(Ec+48,0);
+memcpy(Ec+52,o,20);
+w8(c+8,Jb+2);
 break;
-case 30:fill_member_2fa(b,c,Vb,Wb,o);
+case 30:fill_member_2fa(b,c,Xb,Yb,o);
 break;
-case 32:*k=Ub;
-x2(k+1,pc);
-fill_qualified_left_bf3(b,c,k,Vb,o);
+case 32:*k=Wb;
+x2(k+1,rc);
+fill_qualified_left_bf3(b,c,k,Xb,o);
 break;
-case 33:fill_vector_eb1(c,Vb,Wb,Xb,o);
+case 33:fill_vector_eb1(c,Xb,Yb,Zb,o);
 break;
-case 34:Dc=Hb*36;
-Ec=rp(c)+Dc;
-*Ec=3;
-Ec[1]=0;
-x2(Ec+2,18);
-z32(Ec+4);
-Fc=rp(c)+(i64)Dc;
-x4(Fc+36,0);
-x4(Fc+40,Vb);
-x4(Fc+44,0);
-x4(Fc+48,0);
-memcpy(Fc+52,o,20);
-w8(c+8,Hb+2);
+case 34:Fc=Jb*36;
+Gc=rp(c)+Fc;
+*Gc=3;
+Gc[1]=0;
+x2(Gc+2,18);
+z32(Gc+4);
+Hc=rp(c)+(i64)Fc;
+x4(Hc+36,0);
+x4(Hc+40,Xb);
+x4(Hc+44,0);
+x4(Hc+48,0);
+memcpy(Hc+52,o,20);
+w8(c+8,Jb+2);
 break;
-case 22:fill_float_1e8(c,Vb,Wb,Xb);
+case 22:fill_float_1e8(c,Xb,Yb,Zb);
 break;
-case 23:Gc=Hb*36;
-Hc=rp(c)+Gc;
-*Hc=3;
-Hc[1]=0;
-x2(Hc+2,Ub==107?46:47);
-z32(Hc+4);
-Ic=rp(c)+(i64)Gc;
-x4(Ic+36,0);
-x4(Ic+40,Vb);
-x4(Ic+44,0);
-x4(Ic+48,0);
-memcpy(Ic+52,o,20);
-w8(c+8,Hb+2);
+case 23:Ic=Jb*36;
+Jc=rp(c)+Ic;
+*Jc=3;
+Jc[1]=0;
+x2(Jc+2,Wb==107?46:47);
+z32(Jc+4);
+Kc=rp(c)+(i64)Ic;
+x4(Kc+36,0);
+x4(Kc+40,Xb);
+x4(Kc+44,0);
+x4(Kc+48,0);
+memcpy(Kc+52,o,20);
+w8(c+8,Jb+2);
 break;
-case 0:case 1:case 2:case 3:case 4:case 5:case 6:case 7:case 8:case 9:case 10:case 11:case 12:case 13:case 14:case 15:case 16:case 17:case 18:case 19:case 35:case 36:case 37:case 38:case 39:case 40:case 41:case 42:case 43:case 44:case 45:case 46:case 47:w4(i,Xb);
-x8(i+4,Yb);
-switch(Tb){
-case 36:fill_expansion_7b7(b,c,Vb,o);
+case 0:case 1:case 2:case 3:case 4:case 5:case 6:case 7:case 8:case 9:case 10:case 11:case 12:case 13:case 14:case 15:case 16:case 17:case 18:case 19:case 35:case 36:case 37:case 38:case 39:case 40:case 41:case 42:case 43:case 44:case 45:case 46:case 47:w4(i,Zb);
+x8(i+4,ac);
+switch(Vb){
+case 36:fill_expansion_7b7(b,c,Xb,o);
 break;
-case 44:Jc=Kb+(i64)((u64)Vb*48);
-if(*(Kb+(i64)((u64)(*Jc==47?q4(Jc+4):Vb)*48))!=1){
-Kc=rp(c)+Hb*36;
-x4(Kc,0);
-x4(Kc+4,Vb);
-x4(Kc+8,2);
-x4(Kc+12,0);
-Kc[16]=ab;
-memcpy(Kc+17,o+1,3);
-x4(Kc+20,Jb);
-Kc[24]=bb;
-z3(Kc+25);
-Kc[28]=Pb;
-memcpy(Kc+29,o+13,3);
-x4(Kc+32,Qb);
-w8(c+8,Hb+1);}
+case 44:Lc=Mb+(i64)((u64)Xb*48);
+if(*(Mb+(i64)((u64)(*Lc==47?q4(Lc+4):Xb)*48))!=1){
+Mc=rp(c)+Jb*36;
+x4(Mc,0);
+x4(Mc+4,Xb);
+x4(Mc+8,2);
+x4(Mc+12,0);
+Mc[16]=bb;
+memcpy(Mc+17,o+1,3);
+x4(Mc+20,Lb);
+Mc[24]=cb;
+z3(Mc+25);
+Mc[28]=Rb;
+memcpy(Mc+29,o+13,3);
+x4(Mc+32,Sb);
+w8(c+8,Jb+1);}
 break;
-case 37:w4(j,Wb);
+case 37:w4(j,Yb);
 x8(j+4,r8(i));
-fill_integer_476(b,c,Vb,j,o);
+fill_integer_476(b,c,Xb,j,o);
 break;
-case 38:Lc=Hb+1;
-Mc=rp(c)+Hb*36;
-*Mc=3;
-Mc[1]=0;
-if(Ub&1){
-x2(Mc+2,19);
-z32(Mc+4);
-w8(c+8,Lc);}
+case 38:Nc=Jb+1;
+Oc=rp(c)+Jb*36;
+*Oc=3;
+Oc[1]=0;
+if(Wb&1){
+x2(Oc+2,19);
+z32(Oc+4);
+w8(c+8,Nc);}
 else{
-x2(Mc+2,20);
-z32(Mc+4);
-w8(c+8,Lc);}
+x2(Oc+2,20);
+z32(Oc+4);
+w8(c+8,Nc);}
 break;
-case 39:Nc=rp(c)+Hb*36;
-*Nc=3;
-Nc[1]=0;
-x2(Nc+2,21);
-z32(Nc+4);
-w8(c+8,Hb+1);
+case 39:Pc=rp(c)+Jb*36;
+*Pc=3;
+Pc[1]=0;
+x2(Pc+2,21);
+z32(Pc+4);
+w8(c+8,Jb+1);
 break;
-case 40:Oc=rp(c)+Hb*36;
-x4(Oc,0);
-x4(Oc+4,Vb);
-x4(Oc+8,8);
-x4(Oc+12,0);
-x4(Oc+16,0);
-x4(Oc+20,0);
-Oc[24]=bb;
-z11(Oc+25);
-w8(c+8,Hb+1);
+case 40:Qc=rp(c)+Jb*36;
+x4(Qc,0);
+x4(Qc+4,Xb);
+x4(Qc+8,8);
+x4(Qc+12,0);
+x4(Qc+16,0);
+x4(Qc+20,0);
+Qc[24]=cb;
+z11(Qc+25);
+w8(c+8,Jb+1);
 break;
-case 41:fill_encoding_literal_a7e(c,Vb,o);
+case 41:fill_encoding_literal_a7e(c,Xb,o);
 break;
-case 35:fill_decltype_7a2(c,Vb,o);
+case 35:fill_decltype_7a2(c,Xb,o);
 break;
-case 42:fill_operation_6d8(b,c,Ub,pc,Vb,Wb,o);
+case 42:fill_operation_6d8(b,c,Wb,rc,Xb,Yb,o);
 break;
-case 43:fill_function_parameter_419(c,Vb,Wb);
+case 43:fill_function_parameter_419(c,Xb,Yb);
 break;
 case 0:case 1:case 2:case 3:case 4:case 5:case 6:case 7:case 8:case 9:case 10:case 11:case 12:case 13:case 14:case 15:case 16:case 17:case 18:case 19:case 20:case 21:case 22:case 23:case 24:case 25:case 26:case 27:case 28:case 29:case 30:case 31:case 32:case 33:case 34:case 45:case 46:case 47:break;
 default:NEVER;
@@ -58626,590 +58013,590 @@ break;
 default:NEVER;
 }
 break;
-case 1:fill_right_3bf(b,c,Nb,o);
+case 1:fill_right_3bf(b,c,Pb,o);
 break;
-case 2:fill_first_of_85e(b,c,Nb,o);
+case 2:fill_first_of_85e(b,c,Pb,o);
 break;
-case 3:fill_more_of_557(b,c,Nb,o);
+case 3:fill_more_of_557(b,c,Pb,o);
 break;
-case 4:fill_low_4b1(b,c,Nb,o);
+case 4:fill_low_4b1(b,c,Pb,o);
 break;
-case 5:fill_base_3b5(b,c,Nb,o);
+case 5:fill_base_3b5(b,c,Pb,o);
 break;
-case 6:fill_own_piece_0f9(b,c,Nb,o);
+case 6:fill_own_piece_0f9(b,c,Pb,o);
 break;
-case 7:fill_full_b26(b,c,Nb,o);
+case 7:fill_full_b26(b,c,Pb,o);
 break;
-case 8:Pc=Kb+(i64)((u64)Nb*48);
-if(*Pc==2){
-Qc=q4(Pc+4);
-Rc=Pc[11];
-Sc=q4(Pc+16);
-Tc=q4(Pc+20);
-memcpy(h,Pc+8,3);
-if(bb<2)push_bare_366(b,c,Qc,h,Rc,Sc,Tc,bb);
+case 8:Rc=Mb+(i64)((u64)Pb*48);
+if(*Rc==2){
+Sc=q4(Rc+4);
+Tc=Rc[11];
+Uc=q4(Rc+16);
+Vc=q4(Rc+20);
+memcpy(h,Rc+8,3);
+if(cb<2)push_bare_366(b,c,Sc,h,Tc,Uc,Vc,cb);
 else{
-Uc=rp(c)+Hb*36;
-x4(Uc,0);
-x4(Uc+4,Qc);
-z16(Uc+8);
-Uc[24]=bb;
-z11(Uc+25);
-w8(c+8,Hb+1);}
+Wc=rp(c)+Jb*36;
+x4(Wc,0);
+x4(Wc+4,Sc);
+z16(Wc+8);
+Wc[24]=cb;
+z11(Wc+25);
+w8(c+8,Jb+1);}
 ;}
-else fill_full_b26(b,c,Nb,o);
+else fill_full_b26(b,c,Pb,o);
 break;
-case 9:Vc=Kb+(i64)((u64)Nb*48);
-if(*Vc==46){
-Wc=q4(Vc+4);
-Xc=q4(Vc+8);
-Yc=q4(Vc+12);
-if(Xc<Yc){
-Zc=Hb*36;
-ad=rp(c)+Zc;
-*ad=3;
-ad[1]=0;
-x2(ad+2,3);
-z32(ad+4);
-bd=rp(c)+(i64)Zc;
-bd[36]=1;
-z3(bd+37);
-x4(bd+40,Xc);
-x4(bd+44,Yc);
-z24(bd+48);
-cd=rp(c)+(i64)Zc;
-cd[72]=3;
-cd[73]=0;
-x2(cd+74,22);
-z32(cd+76);
-dd=Hb+3;}
-else dd=Hb;
-ed=rp(c)+dd*36;
-x4(ed,0);
-x4(ed+4,Wc);
-x4(ed+8,7);
-x4(ed+12,0);
-x4(ed+16,0);
-x4(ed+20,0);
-ed[24]=bb;
-z11(ed+25);
-w8(c+8,dd+1);}
+case 9:Xc=Mb+(i64)((u64)Pb*48);
+if(*Xc==46){
+Yc=q4(Xc+4);
+Zc=q4(Xc+8);
+ad=q4(Xc+12);
+if(Zc<ad){
+bd=Jb*36;
+cd=rp(c)+bd;
+*cd=3;
+cd[1]=0;
+x2(cd+2,3);
+z32(cd+4);
+dd=rp(c)+(i64)bd;
+dd[36]=1;
+z3(dd+37);
+x4(dd+40,Zc);
+x4(dd+44,ad);
+z24(dd+48);
+ed=rp(c)+(i64)bd;
+ed[72]=3;
+ed[73]=0;
+x2(ed+74,22);
+z32(ed+76);
+fd=Jb+3;}
+else fd=Jb;
+gd=rp(c)+fd*36;
+x4(gd,0);
+x4(gd+4,Yc);
+x4(gd+8,7);
+x4(gd+12,0);
+x4(gd+16,0);
+x4(gd+20,0);
+gd[24]=cb;
+z11(gd+25);
+w8(c+8,fd+1);}
 break;
-case 11:fill_declared_c70(b,c,Nb,Za,o);
+case 11:fill_declared_c70(b,c,Pb,ab,o);
 break;
-default:fill_expand_aee(b,c,Nb,Za,o);
+default:fill_expand_aee(b,c,Pb,ab,o);
 break;}
 goto L5;}
-wb=3;
-L14:fd=0;
-gd=wb;
-goto L16;}
-L10:w4(q,Xa);
-w4(q+4,Ya);
-w4(q+8,Za);
-x8(q+12,ab);
-q[20]=bb;
+yb=3;
+L15:hd=0;
+id=yb;
+goto L17;
+L10:w4(q,Ya);
+w4(q+4,Za);
+w4(q+8,ab);
+x8(q+12,bb);
+q[20]=cb;
 memcpy(q+21,D-11,3);
-q[24]=cb;
+q[24]=db;
 memcpy(q+25,D-7,3);
-w4(q+28,db);
+w4(q+28,eb);
 print_special_item_011(p,b,q,c,d,e,f,g);
 if(*p==0)goto L5;
-fd=r4(p+8);
-gd=p[4];
-L16:y=1;
-z=gd;
-A=fd;
-goto L17;
-case 1:hd=q4(D-32);
-id=(u64)q4(D-28)-hd;
-jd=rp(b)+(i64)hd;
-break;
-case 3:kd=r2(D-34);
-switch(kd){
-case 0:id=2;
-jd=(u8*)t_0a07;
-break;
-case 1:id=3;
-jd=(u8*)t_ab5d;
-break;
-case 2:id=1;
-jd=(u8*)t_32eb;
-break;
-case 3:id=1;
-jd=(u8*)t_ba5e;
-break;
-case 4:id=1;
-jd=(u8*)t_36a9;
-break;
-case 5:id=2;
-jd=(u8*)t_7154;
-break;
-case 6:id=3;
-jd=(u8*)t_3ca9;
-break;
-case 7:id=5;
-jd=(u8*)t_0f44;
-break;
-case 8:id=1;
-jd=(u8*)t_6848;
-break;
-case 9:id=2;
-jd=(u8*)t_cfa2;
-break;
-case 10:id=1;
-jd=(u8*)t_951d;
-break;
-case 11:id=2;
-jd=(u8*)t_f2c5;
-break;
-case 12:id=2;
-jd=(u8*)t_73e7;
-break;
-case 13:id=3;
-jd=(u8*)t_ab75;
-break;
-case 14:id=3;
-jd=(u8*)t_f6ce;
-break;
-case 15:id=1;
-jd=(u8*)t_2458;
-break;
-case 16:id=1;
-jd=(u8*)t_cfae;
-break;
-case 17:id=10;
-jd=(u8*)t_6d6a;
-break;
-case 18:id=9;
-jd=(u8*)t_8cb3;
-break;
-case 19:id=4;
-jd=(u8*)t_b5be;
-break;
-case 20:id=5;
-jd=(u8*)t_fcbc;
-break;
-case 21:id=7;
-jd=(u8*)t_c11d;
-break;
-case 22:id=2;
-jd=(u8*)t_4f5a;
-break;
-case 23:id=21;
-jd=(u8*)t_5f0f;
-break;
-case 24:id=17;
-jd=(u8*)t_81b5;
-break;
-case 25:id=26;
-jd=(u8*)t_7031;
-break;
-case 26:id=1;
-jd=(u8*)t_dabd;
-break;
-case 27:id=2;
-jd=(u8*)t_b902;
-break;
-case 28:id=1;
-jd=(u8*)t_62b6;
-break;
-case 29:id=11;
-jd=(u8*)t_e1a0;
-break;
-case 30:id=8;
-jd=(u8*)t_d949;
-break;
-case 31:id=2;
-jd=(u8*)t_3d70;
-break;
-case 32:id=1;
-jd=(u8*)t_d10b;
-break;
-case 33:id=14;
-jd=(u8*)t_e088;
-break;
-case 34:id=14;
-jd=(u8*)t_750b;
-break;
-case 35:id=21;
-jd=(u8*)t_62ff;
-break;
-case 36:id=1;
-jd=(u8*)t_3973;
-break;
-case 37:id=24;
-jd=(u8*)t_1a19;
-break;
-case 38:id=4;
-jd=(u8*)t_7285;
-break;
-case 39:id=9;
-jd=(u8*)t_787b;
-break;
-case 40:id=6;
-jd=(u8*)t_3276;
-break;
-case 41:id=1;
-jd=(u8*)t_2d71;
-break;
-case 42:id=15;
-jd=(u8*)t_e78f;
-break;
-case 43:id=5;
-jd=(u8*)t_59d1;
-break;
-case 44:id=22;
-jd=(u8*)t_58bf;
-break;
-case 45:id=26;
-jd=(u8*)t_3b26;
-break;
-case 46:id=5;
-jd=(u8*)t_e6be;
-break;
-case 47:id=15;
-jd=(u8*)t_7cce;
-break;
-case 48:id=9;
-jd=(u8*)t_d453;
-break;
-case 49:id=2;
-jd=(u8*)t_5aef;
-break;
-case 50:id=6;
-jd=(u8*)t_6310;
-break;
-case 51:id=1;
-jd=(u8*)t_c364;
-break;
-case 52:id=6;
-jd=(u8*)t_56c9;
-break;
-case 53:id=1;
-jd=(u8*)t_021f;
-break;
-case 54:id=2;
-jd=(u8*)t_2f86;
-break;
-case 55:id=8;
-jd=(u8*)t_50b1;
-break;
-case 56:id=2;
-jd=(u8*)t_daa9;
-break;
-case 57:id=2;
-jd=(u8*)t_3755;
-break;
-case 58:id=2;
-jd=(u8*)t_bfc2;
-break;
-case 59:id=3;
-jd=(u8*)t_9650;
-break;
-case 60:ld=(u8*)t_z0;
+hd=r4(p+8);
+id=p[4];
+L17:y=1;
+z=id;
+A=hd;
 goto L18;
-case 61:id=9;
-jd=(u8*)t_75e8;
+case 1:jd=q4(D-32);
+kd=(u64)q4(D-28)-jd;
+ld=rp(b)+(i64)jd;
 break;
-case 62:id=9;
-jd=(u8*)t_4982;
+case 3:md=r2(D-34);
+switch(md){
+case 0:kd=2;
+ld=(u8*)t_0a07;
 break;
-case 63:id=18;
-jd=(u8*)t_3a95;
+case 1:kd=3;
+ld=(u8*)t_ab5d;
 break;
-case 64:id=6;
-jd=(u8*)t_f603;
+case 2:kd=1;
+ld=(u8*)t_32eb;
 break;
-case 65:id=15;
-jd=(u8*)t_ae87;
+case 3:kd=1;
+ld=(u8*)t_ba5e;
 break;
-case 66:id=15;
-jd=(u8*)t_d091;
+case 4:kd=1;
+ld=(u8*)t_36a9;
 break;
-case 67:id=24;
-jd=(u8*)t_cd44;
+case 5:kd=2;
+ld=(u8*)t_7154;
 break;
-case 68:id=2;
-jd=(u8*)t_8519;
+case 6:kd=3;
+ld=(u8*)t_3ca9;
 break;
-case 69:id=11;
-jd=(u8*)t_ed57;
+case 7:kd=5;
+ld=(u8*)t_0f44;
 break;
-case 70:id=11;
-jd=(u8*)t_5513;
+case 8:kd=1;
+ld=(u8*)t_6848;
 break;
-case 71:id=20;
-jd=(u8*)t_04a7;
+case 9:kd=2;
+ld=(u8*)t_cfa2;
 break;
-case 72:id=8;
-jd=(u8*)t_5ca3;
+case 10:kd=1;
+ld=(u8*)t_951d;
 break;
-case 73:id=17;
-jd=(u8*)t_b525;
+case 11:kd=2;
+ld=(u8*)t_f2c5;
 break;
-case 74:id=17;
-jd=(u8*)t_29c6;
+case 12:kd=2;
+ld=(u8*)t_73e7;
 break;
-case 75:id=26;
-jd=(u8*)t_4d8e;
+case 13:kd=3;
+ld=(u8*)t_ab75;
 break;
-case 76:id=3;
-jd=(u8*)t_617d;
+case 14:kd=3;
+ld=(u8*)t_f6ce;
 break;
-case 77:id=12;
-jd=(u8*)t_43e8;
+case 15:kd=1;
+ld=(u8*)t_2458;
 break;
-case 78:id=12;
-jd=(u8*)t_cff1;
+case 16:kd=1;
+ld=(u8*)t_cfae;
 break;
-case 79:id=21;
-jd=(u8*)t_1ed6;
+case 17:kd=10;
+ld=(u8*)t_6d6a;
 break;
-case 80:id=9;
-jd=(u8*)t_d4b3;
+case 18:kd=9;
+ld=(u8*)t_8cb3;
 break;
-case 81:id=18;
-jd=(u8*)t_1f49;
+case 19:kd=4;
+ld=(u8*)t_b5be;
 break;
-case 82:id=18;
-jd=(u8*)t_3bc4;
+case 20:kd=5;
+ld=(u8*)t_fcbc;
 break;
-case 83:id=27;
-jd=(u8*)t_7f8c;
+case 21:kd=7;
+ld=(u8*)t_c11d;
 break;
-case 84:id=9;
-jd=(u8*)t_58e1;
+case 22:kd=2;
+ld=(u8*)t_4f5a;
 break;
-case 85:id=18;
-jd=(u8*)t_4be3;
+case 23:kd=21;
+ld=(u8*)t_5f0f;
 break;
-case 86:id=18;
-jd=(u8*)t_ccd0;
+case 24:kd=17;
+ld=(u8*)t_81b5;
 break;
-case 87:id=27;
-jd=(u8*)t_5910;
+case 25:kd=26;
+ld=(u8*)t_7031;
 break;
-case 88:id=15;
-jd=(u8*)t_24b4;
+case 26:kd=1;
+ld=(u8*)t_dabd;
 break;
-case 89:id=24;
-jd=(u8*)t_b69a;
+case 27:kd=2;
+ld=(u8*)t_b902;
 break;
-case 90:id=24;
-jd=(u8*)t_b63f;
+case 28:kd=1;
+ld=(u8*)t_62b6;
 break;
-case 91:id=33;
-jd=(u8*)t_9df6;
+case 29:kd=11;
+ld=(u8*)t_e1a0;
 break;
-case 92:id=11;
-jd=(u8*)t_01d6;
+case 30:kd=8;
+ld=(u8*)t_d949;
 break;
-case 93:id=20;
-jd=(u8*)t_0afd;
+case 31:kd=2;
+ld=(u8*)t_3d70;
 break;
-case 94:id=20;
-jd=(u8*)t_bbf4;
+case 32:kd=1;
+ld=(u8*)t_d10b;
 break;
-case 95:id=29;
-jd=(u8*)t_1a08;
+case 33:kd=14;
+ld=(u8*)t_e088;
 break;
-case 96:id=17;
-jd=(u8*)t_85a1;
+case 34:kd=14;
+ld=(u8*)t_750b;
 break;
-case 97:id=26;
-jd=(u8*)t_6bf8;
+case 35:kd=21;
+ld=(u8*)t_62ff;
 break;
-case 98:id=26;
-jd=(u8*)t_0560;
+case 36:kd=1;
+ld=(u8*)t_3973;
 break;
-case 99:id=35;
-jd=(u8*)t_f4cb;
+case 37:kd=24;
+ld=(u8*)t_1a19;
 break;
-case 100:id=12;
-jd=(u8*)t_c1f5;
+case 38:kd=4;
+ld=(u8*)t_7285;
 break;
-case 101:id=21;
-jd=(u8*)t_0f6a;
+case 39:kd=9;
+ld=(u8*)t_787b;
 break;
-case 102:id=21;
-jd=(u8*)t_0f6e;
+case 40:kd=6;
+ld=(u8*)t_3276;
 break;
-case 103:id=30;
-jd=(u8*)t_ef64;
+case 41:kd=1;
+ld=(u8*)t_2d71;
 break;
-case 104:id=18;
-jd=(u8*)t_afcb;
+case 42:kd=15;
+ld=(u8*)t_e78f;
 break;
-case 105:id=27;
-jd=(u8*)t_ee9e;
+case 43:kd=5;
+ld=(u8*)t_59d1;
 break;
-case 106:id=27;
-jd=(u8*)t_93da;
+case 44:kd=22;
+ld=(u8*)t_58bf;
 break;
-case 107:id=36;
-jd=(u8*)t_1a97;
+case 45:kd=26;
+ld=(u8*)t_3b26;
 break;
-default:md=kd-108;
-if(md<66){
-id=r8((u8*)t_81de+(u64)md*8);
-jd=rp((u8*)t_ae2b+(u64)md*8);}
+case 46:kd=5;
+ld=(u8*)t_e6be;
+break;
+case 47:kd=15;
+ld=(u8*)t_7cce;
+break;
+case 48:kd=9;
+ld=(u8*)t_d453;
+break;
+case 49:kd=2;
+ld=(u8*)t_5aef;
+break;
+case 50:kd=6;
+ld=(u8*)t_6310;
+break;
+case 51:kd=1;
+ld=(u8*)t_c364;
+break;
+case 52:kd=6;
+ld=(u8*)t_56c9;
+break;
+case 53:kd=1;
+ld=(u8*)t_021f;
+break;
+case 54:kd=2;
+ld=(u8*)t_2f86;
+break;
+case 55:kd=8;
+ld=(u8*)t_50b1;
+break;
+case 56:kd=2;
+ld=(u8*)t_daa9;
+break;
+case 57:kd=2;
+ld=(u8*)t_3755;
+break;
+case 58:kd=2;
+ld=(u8*)t_bfc2;
+break;
+case 59:kd=3;
+ld=(u8*)t_9650;
+break;
+case 60:nd=(u8*)t_z0;
+goto L19;
+case 61:kd=9;
+ld=(u8*)t_75e8;
+break;
+case 62:kd=9;
+ld=(u8*)t_4982;
+break;
+case 63:kd=18;
+ld=(u8*)t_3a95;
+break;
+case 64:kd=6;
+ld=(u8*)t_f603;
+break;
+case 65:kd=15;
+ld=(u8*)t_ae87;
+break;
+case 66:kd=15;
+ld=(u8*)t_d091;
+break;
+case 67:kd=24;
+ld=(u8*)t_cd44;
+break;
+case 68:kd=2;
+ld=(u8*)t_8519;
+break;
+case 69:kd=11;
+ld=(u8*)t_ed57;
+break;
+case 70:kd=11;
+ld=(u8*)t_5513;
+break;
+case 71:kd=20;
+ld=(u8*)t_04a7;
+break;
+case 72:kd=8;
+ld=(u8*)t_5ca3;
+break;
+case 73:kd=17;
+ld=(u8*)t_b525;
+break;
+case 74:kd=17;
+ld=(u8*)t_29c6;
+break;
+case 75:kd=26;
+ld=(u8*)t_4d8e;
+break;
+case 76:kd=3;
+ld=(u8*)t_617d;
+break;
+case 77:kd=12;
+ld=(u8*)t_43e8;
+break;
+case 78:kd=12;
+ld=(u8*)t_cff1;
+break;
+case 79:kd=21;
+ld=(u8*)t_1ed6;
+break;
+case 80:kd=9;
+ld=(u8*)t_d4b3;
+break;
+case 81:kd=18;
+ld=(u8*)t_1f49;
+break;
+case 82:kd=18;
+ld=(u8*)t_3bc4;
+break;
+case 83:kd=27;
+ld=(u8*)t_7f8c;
+break;
+case 84:kd=9;
+ld=(u8*)t_58e1;
+break;
+case 85:kd=18;
+ld=(u8*)t_4be3;
+break;
+case 86:kd=18;
+ld=(u8*)t_ccd0;
+break;
+case 87:kd=27;
+ld=(u8*)t_5910;
+break;
+case 88:kd=15;
+ld=(u8*)t_24b4;
+break;
+case 89:kd=24;
+ld=(u8*)t_b69a;
+break;
+case 90:kd=24;
+ld=(u8*)t_b63f;
+break;
+case 91:kd=33;
+ld=(u8*)t_9df6;
+break;
+case 92:kd=11;
+ld=(u8*)t_01d6;
+break;
+case 93:kd=20;
+ld=(u8*)t_0afd;
+break;
+case 94:kd=20;
+ld=(u8*)t_bbf4;
+break;
+case 95:kd=29;
+ld=(u8*)t_1a08;
+break;
+case 96:kd=17;
+ld=(u8*)t_85a1;
+break;
+case 97:kd=26;
+ld=(u8*)t_6bf8;
+break;
+case 98:kd=26;
+ld=(u8*)t_0560;
+break;
+case 99:kd=35;
+ld=(u8*)t_f4cb;
+break;
+case 100:kd=12;
+ld=(u8*)t_c1f5;
+break;
+case 101:kd=21;
+ld=(u8*)t_0f6a;
+break;
+case 102:kd=21;
+ld=(u8*)t_0f6e;
+break;
+case 103:kd=30;
+ld=(u8*)t_ef64;
+break;
+case 104:kd=18;
+ld=(u8*)t_afcb;
+break;
+case 105:kd=27;
+ld=(u8*)t_ee9e;
+break;
+case 106:kd=27;
+ld=(u8*)t_93da;
+break;
+case 107:kd=36;
+ld=(u8*)t_1a97;
+break;
+default:od=md-108;
+if(od<66){
+kd=r8((u8*)t_81de+(u64)od*8);
+ld=rp((u8*)t_ae2b+(u64)od*8);}
 else{
-nd=kd-174;
-if(nd<84){
-id=r8((u8*)t_c78b+(u64)nd*8);
-jd=rp((u8*)t_7cb3+(u64)nd*8);}
+pd=md-174;
+if(pd<84){
+kd=r8((u8*)t_c78b+(u64)pd*8);
+ld=rp((u8*)t_7cb3+(u64)pd*8);}
 else{
-od=kd-258;
-if(od>=48){
-ld=(u8*)t_z0;
-goto L18;}
-id=r8((u8*)t_a27e+(u64)od*8);
-jd=rp((u8*)t_392a+(u64)od*8);}}
+qd=md-258;
+if(qd>=48){
+nd=(u8*)t_z0;
+goto L19;}
+kd=r8((u8*)t_a27e+(u64)qd*8);
+ld=rp((u8*)t_392a+(u64)qd*8);}}
 break;}
 break;
-case 2:pd=r4(D-32);
-id=(u64)r4(D-28)-pd;
-jd=(u8*)t_0193+(i64)pd;
+case 2:sd=r4(D-32);
+kd=(u64)r4(D-28)-sd;
+ld=(u8*)t_0193+(i64)sd;
 break;
-case 4:id=D[-11];
-jd=D-35;
+case 4:kd=D[-11];
+ld=D-35;
 break;
 default:NEVER;
 }
-if(id>r4(f+4)-r4(f)){
+if(kd>r4(f+4)-r4(f)){
 y=1;
 z=3;
 A=0;
-goto L17;}
-switch(id){
-case 0:ld=jd;
+goto L18;}
+switch(kd){
+case 0:nd=ld;
 break;
-case 1:qd=r8(d+8);
-if(r8(d+16)==qd){
-sd=grow_amortized_68b(d,1);
-if(!sd){
+case 1:td=r8(d+8);
+if(r8(d+16)==td){
+ud=grow_amortized_68b(d,1);
+if(!ud){
 y=1;
 z=4;
 A=0;
-goto L17;}
-td=r8(d+8);}
-else td=qd;
-*(rp(d)+td)=*jd;
-w8(d+8,td+1);
-ud=1;
-goto L19;
-default:if(id<3){
-vd=r8(d+8);
-if(r8(d+16)-vd<2){
-xd=grow_amortized_68b(d,2);
-if(!xd){
+goto L18;}
+vd=r8(d+8);}
+else vd=td;
+*(rp(d)+vd)=*ld;
+w8(d+8,vd+1);
+xd=1;
+goto L20;
+default:if(kd<3){
+yd=r8(d+8);
+if(r8(d+16)-yd<2){
+zd=grow_amortized_68b(d,2);
+if(!zd){
 y=1;
 z=4;
 A=0;
-goto L17;}
-yd=r8(d+8);}
-else yd=vd;
-*(rp(d)+yd)=*jd;
-zd=yd+1;
-w8(d+8,zd);
-*(rp(d)+zd)=jd[1];
-w8(d+8,yd+2);
-ud=2;
-goto L19;}
-Ad=r8(d+16);
-Bd=r8(d+8);
-Cd=Ad-Bd;
-if(id==3){
-if(Cd<3){
-Dd=grow_amortized_68b(d,3);
-if(!Dd){
-y=1;
-z=4;
-A=0;
-goto L17;}
-Ed=r8(d+8);}
-else Ed=Bd;
-*(rp(d)+Ed)=*jd;
-Fd=Ed+1;
-w8(d+8,Fd);
-*(rp(d)+Fd)=jd[1];
-Gd=Ed+2;
-w8(d+8,Gd);
-*(rp(d)+Gd)=jd[2];
-w8(d+8,Ed+3);
-ud=3;
-goto L19;}
-if(id>Cd){
-Hd=grow_amortized_68b(d,id);
-if(!Hd){
-y=1;
-z=4;
-A=0;
-goto L17;}
-Id=r8(d+16);
-Jd=r8(d+8);}
-else{
-Id=Ad;
-Jd=Bd;}
-Kd=Jd+id;
-Ld=rp(d);
-z16(d+8);
-Md=Ld+(i64)Jd;
-if((u64)Md-(u64)jd<id){
-copy_bits_4f4(jd,Md,id);
-Nd=Ld;
-Od=Kd;
-Pd=Id;
-Qd=id;
+goto L18;}
+Ad=r8(d+8);}
+else Ad=yd;
+*(rp(d)+Ad)=*ld;
+Bd=Ad+1;
+w8(d+8,Bd);
+*(rp(d)+Bd)=ld[1];
+w8(d+8,Ad+2);
+xd=2;
 goto L20;}
-Rd=Md;
-Sd=Ld;
-Td=Kd;
-Ud=Id;
-Vd=jd;
-Wd=id;
-goto L21;
-}
-L18:Xd=r8(d+8);
-Yd=rp(d);
-Zd=r8(d+16);
+Cd=r8(d+16);
+Dd=r8(d+8);
+Ed=Cd-Dd;
+if(kd==3){
+if(Ed<3){
+Fd=grow_amortized_68b(d,3);
+if(!Fd){
+y=1;
+z=4;
+A=0;
+goto L18;}
+Gd=r8(d+8);}
+else Gd=Dd;
+*(rp(d)+Gd)=*ld;
+Hd=Gd+1;
+w8(d+8,Hd);
+*(rp(d)+Hd)=ld[1];
+Id=Gd+2;
+w8(d+8,Id);
+*(rp(d)+Id)=ld[2];
+w8(d+8,Gd+3);
+xd=3;
+goto L20;}
+if(kd>Ed){
+Jd=grow_amortized_68b(d,kd);
+if(!Jd){
+y=1;
+z=4;
+A=0;
+goto L18;}
+Kd=r8(d+16);
+Ld=r8(d+8);}
+else{
+Kd=Cd;
+Ld=Dd;}
+Md=Ld+kd;
+Nd=rp(d);
 z16(d+8);
-Rd=Yd+(i64)Xd;
-Sd=Yd;
-Td=Xd;
-Ud=Zd;
-Vd=ld;
-Wd=0;
-L21:memmove(Rd,Vd,Wd);
-Nd=Sd;
-Od=Td;
-Pd=Ud;
-Qd=Wd;
-L20:wp(d,Nd);
-w8(d+8,Od);
-w8(d+16,Pd);
-ud=Qd;
-L19:ae=r8(f+8)+1;
-w4(f,r4(f)+ud);
-w8(f+8,ae);
-be=r8(c+8)-1;
-w8(c+8,be);
-ce=be;
+Od=Nd+(i64)Ld;
+if((u64)Od-(u64)ld<kd){
+copy_bits_4f4(ld,Od,kd);
+Pd=Nd;
+Qd=Md;
+Rd=Kd;
+Sd=kd;
+goto L21;}
+Td=Od;
+Ud=Nd;
+Vd=Md;
+Wd=Kd;
+Xd=ld;
+Yd=kd;
 goto L22;
-L5:ce=r8(c+8);
-L22:de=rp(c);
-ee=ce*36;
-if(ce!=0){
-D=de+(i64)ee;
-E=ee;
-F=ce;
-G=de;
+}
+L19:Zd=r8(d+8);
+ae=rp(d);
+be=r8(d+16);
+z16(d+8);
+Td=ae+(i64)Zd;
+Ud=ae;
+Vd=Zd;
+Wd=be;
+Xd=nd;
+Yd=0;
+L22:memmove(Td,Xd,Yd);
+Pd=Ud;
+Qd=Vd;
+Rd=Wd;
+Sd=Yd;
+L21:wp(d,Pd);
+w8(d+8,Qd);
+w8(d+16,Rd);
+xd=Sd;
+L20:ce=r8(f+8)+1;
+w4(f,r4(f)+xd);
+w8(f+8,ce);
+de=r8(c+8)-1;
+w8(c+8,de);
+ee=de;
+goto L23;
+L5:ee=r8(c+8);
+L23:fe=rp(c);
+ge=ee*36;
+if(ee!=0){
+D=fe+(i64)ge;
+E=ge;
+F=ee;
+G=fe;
 goto L1;}
 y=0;
 z=0;
 A=0;}
-L17:*a=y;
+L18:*a=y;
 x4(a+4,z);
 x4(a+8,A);
 return;
@@ -59253,12 +58640,12 @@ static void print_special_item_011(u8* a,u8* b,u8* c,u8* d,u8* e,u8* f,u8* g,u8 
 {
 u8 i[3],j[3],k[3],n[3];
 A16 u8 l[12],m[12],o[16],p[16],q[24],r[20],s[80],t[32],u[12],v[32],w[76],x[32];
-u32 y,z,A,E,G,L,O,Q,U,V,da,ea,wa,xa,Da,Ra,Sa,ab,fb,jb,mb,rb,sb,tb,yb,Hb,nc,pc,qc,tc,uc,vc,Dc;
-u8 B,D,F,P,R,ba,ca,ja,Aa,Ea,Ja,Ma,Qa,ib,kb,lb,pb,qb,vb,wb,xb,Ab,Mb,Pb,Tb,mc,oc;
-u8 *C,*I,*N,*W,*Z,*aa,*oa,*pa,*qa,*ra,*Ca,*Ga,*Ha,*Oa,*gb,*hb,*nb,*ob,*zb,*Bb,*Cb,*Eb,*Fb,*Gb,*Ib,*Kb,*Nb,*Qb,*Sb,*Ub,*Vb,*Xb,*Yb,*ac,*bc,*dc,*ec,*fc,*gc,*ic,*jc,*kc,*lc,*rc,*sc,*xc,*yc,*zc,*Bc,*Ec;
-u64 H,J,K,M,S,T,X,Y,fa,ga,ha,ia,ka,la,ma,na,sa,ta,ua,va,ya,za,Ba,Fa,Ia,Ka,La,Na,Pa,Ta,Ua,Va,Wa,bb,cb,db,eb,ub,Db,Wb,Zb,cc,hc,wc,Ac,Cc,Fc;
-s_64_64 Xa,Ya,Za;
-u16 Jb,Lb,Ob,Rb;
+u32 y,z,A,D,F,K,N,P,T,U,ka,qa,ra,Ja,Ka,Qa,Ra,Za,eb,ib,lb,qb,rb,sb,xb,Gb,mc,oc,pc,sc,tc,uc;
+u8 B,C,E,O,Q,ca,fa,ja,la,oa,pa,wa,Na,hb,jb,kb,ob,pb,ub,vb,wb,zb,Lb,Ob,Sb,lc,nc;
+u64 G,I,J,L,R,S,W,X,ba,da,ea,ga,ia,ma,sa,ta,ua,va,xa,ya,za,Aa,Fa,Ga,Ha,Ia,La,Ma,Oa,Sa,Ta,Ua,Va,ab,bb,cb,db,tb,Cb,Vb,Yb,bc,gc,vc,zc,Bc,Dc;
+u8 *H,*M,*V,*Y,*Z,*aa,*ha,*na,*Ba,*Ca,*Da,*Ea,*Pa,*fb,*gb,*mb,*nb,*yb,*Ab,*Bb,*Db,*Eb,*Fb,*Hb,*Jb,*Mb,*Pb,*Rb,*Tb,*Ub,*Wb,*Xb,*Zb,*ac,*cc,*dc,*ec,*fc,*hc,*ic,*jc,*kc,*qc,*rc,*wc,*xc,*yc,*Ac,*Cc;
+s_64_64 Wa,Xa,Ya;
+u16 Ib,Kb,Nb,Qb;
 z12(u);
 z76(w);
 z32(x);
@@ -59268,530 +58655,529 @@ z=r4(v+4);
 A=r4(v+8);
 B=v[20];
 if(h){
-if(A!=0)goto L1;
-if(r8(f+80)<=y)goto L1;
-C=rp(f+72)+(i64)((u64)y<<4);
-if(!(C[8]&1))goto L1;
-if(C[9]&1)goto L1;
-D=v[12];
-E=r4(v+16);
-F=v[24];
-G=r4(v+28);
-H=((((u64)y<<5)|(z&31))+(((F==0?0:((u64)G<<16)+65536)+(D==0?0:(u64)E+1))<<29))*0x9e3779b97f4a7c15u;
-I=rp(f+48);
-J=r8(f+56);
-K=H;
+if(A==0){
+if(r8(f+80)>y){
+if(*(rp(f+72)+(i64)((u64)y*12)+8)&1){
+C=v[12];
+D=r4(v+16);
+E=v[24];
+F=r4(v+28);
+G=((((u64)y<<5)|(z&31))+(((E==0?0:((u64)F<<16)+65536)+(C==0?0:(u64)D+1))<<29))*0x9e3779b97f4a7c15u;
+H=rp(f+48);
+I=r8(f+56);
+J=G;
+K=0;
 L=0;
-M=0;
-L2:if(M<J){
-N=I+(i64)(M<<4);
-if(r8(N)==H){
-O=G;
-P=F;
-Q=E;
-R=D;
-S=M;}
-else{
-T=fshl64(K,K,1);
-U=r4(N+(i64)(u64)((T&1)==0?8:12));
-V=L+1;
-if(V!=64){
-K=T;
-L=V;
-M=U;
+L1:if(L>=I){
+N=F;
+O=E;
+P=D;
+Q=C;
+R=L;
 goto L2;}
-O=G;
-P=F;
-Q=E;
-R=D;
-S=U;}}
+M=H+(i64)(L<<4);
+if(r8(M)==G){
+N=F;
+O=E;
+P=D;
+Q=C;
+R=L;
+goto L2;}
+S=fshl64(J,J,1);
+T=r4(M+(i64)(u64)((S&1)==0?8:12));
+U=K+1;
+if(U!=64){
+J=S;
+K=U;
+L=T;
+goto L1;}
+N=F;
+O=E;
+P=D;
+Q=C;
+R=T;
+goto L2;}}}}
 else{
-O=G;
-P=F;
-Q=E;
-R=D;
-S=M;}}
-else{
-if(z!=0)goto L1;
-W=rp(b+24);
-X=(u64)y*48;
-if(*(W+(i64)X)!=12){
-Y=X;
-Z=W;
+if(z==0){
+V=rp(b+24);
+W=(u64)y*48;
+if(*(V+(i64)W)!=12){
+X=W;
+Y=V;
 goto L3;}
 switch(B){
-case 0:case 2:O=r4(v+28);
-P=v[24];
-Q=r4(v+16);
-R=v[12];
-S=y&63;
-break;
-case 1:case 3:Y=X;
-Z=W;
+case 0:case 2:N=r4(v+28);
+O=v[24];
+P=r4(v+16);
+Q=v[12];
+R=y&63;
+goto L2;
+case 1:case 3:X=W;
+Y=V;
 goto L3;
 default:NEVER;
-}}
-if(S<r8(f+8)){
-aa=rp(f)+(i64)(S*56);
-if(r4(aa)==y){
-if(r4(aa+4)==z){
-if(r4(aa+8)==A){
-ba=R==1;
-if(aa[12]==1){
-if(!ba)goto L4;
-if(r4(aa+16)!=Q)goto L4;}
-else {
-if(ba)goto L4;}
-if(aa[20]==B){
-ca=P==1;
-if(aa[24]==1){
-if(!ca)goto L4;
-if(r4(aa+28)!=O)goto L4;}
-else {
-if(ca)goto L4;}
-if(r4(aa+40)<=r4(g+4)-r4(g)){
-ea=r4(aa+32);
-fa=r8(e+8);
-ga=(u64)r4(aa+36)-ea;
-ha=ga+fa;
-if(ha>fa){
-ia=r8(e+16);
-if(ga>ia-fa){
-ja=grow_amortized_68b(e,ga);
-if(!ja){
-da=4;
+}}}
+if(z>1)goto L4;
+X=(u64)y*48;
+Y=rp(b+24);
+L3:Z=Y+(i64)X;
+if(*Z==25){
+aa=Y+(i64)((u64)q4(Z+4)*48);
+if(*aa==25){
+ba=(u64)q4(aa+4)*48;
+if(*(Y+(i64)ba)!=25)goto L4;
+ca=0;
+da=ba;
+L5:ea=(u64)q4(Y+(i64)da+4)*48;
+if(*(Y+(i64)ea)!=25)goto L4;
+if(ca)goto L6;
+ca=1;
+da=ea;
 goto L5;}
-ka=r8(e+8);
-la=ka+ga;
-ma=r8(e+16);
-na=ka;}
-else{
-la=ha;
-ma=ia;
-na=fa;}
-oa=rp(e);
-if(na<la)memset(oa+(i64)na,0,ga);
-wp(e,oa);
-w8(e+8,la);
-w8(e+16,ma);}
-else {
-if(fa>ha)w8(e+8,ha);}
-pa=rp(e);
-qa=pa+(i64)fa;
-ra=pa+(i64)ea;
-if(fa-ea<ga)copy_bits_4f4(ra,qa,ga);
-else memmove(qa,ra,ga);
-sa=r8(g+8)+r8(aa+48);
-w4(g,r4(g)+r4(aa+40));
-w8(g+8,sa);
-ta=r8(d+8);
-if(ta!=0)w8(d+8,ta-1);
-*a=0;
-x4(a+4,0);
-x4(a+8,0);
-goto L6;}
-da=3;
-L5:*a=1;
-x4(a+4,da);
-x4(a+8,0);
-goto L6;}}}}}
-L4:ua=q8(v+12);
-va=r8(d+8)-1;
-wa=r8(e+8);
-xa=r4(g);
-ya=r8(g+8);
-memcpy(j,c+21,3);
-memcpy(k,c+25,3);
-za=r8(f+32);
-if(r8(f+40)==za){
-Aa=grow_amortized_ab4(f+24);
-if(!Aa)goto L7;
-Ba=r8(f+32);}
-else Ba=za;
-Ca=rp(f+24)+Ba*56;
-x4(Ca,y);
-x4(Ca+4,z);
-x4(Ca+8,A);
-x8(Ca+12,ua);
-Ca[20]=B;
-memcpy(Ca+21,j,3);
-Ca[24]=P;
-memcpy(Ca+25,k,3);
-x4(Ca+28,O);
-x8(Ca+32,va);
-x4(Ca+40,wa);
-x4(Ca+44,xa);
-x8(Ca+48,ya);
-w8(f+32,Ba+1);
-L7:Da=O;
-Ea=P;
-Fa=ua;
-goto L8;
-L1:if(z>1)goto L9;
-Y=(u64)y*48;
-Z=rp(b+24);
-L3:Ga=Z+(i64)Y;
-if(*Ga==25){
-Ha=Z+(i64)((u64)q4(Ga+4)*48);
-if(*Ha==25){
-Ia=(u64)q4(Ha+4)*48;
-if(*(Z+(i64)Ia)!=25)goto L9;
-Ja=0;
-Ka=Ia;
-L10:La=(u64)q4(Z+(i64)Ka+4)*48;
-if(*(Z+(i64)La)!=25)goto L9;
-if(Ja)goto L11;
-Ja=1;
-Ka=La;
-goto L10;}
-Ma=0;
-Na=Y;
-L12:Oa=Z+(i64)((u64)q4(Z+(i64)Na+4)*48);
-if(*Oa!=32)goto L9;
-if(!(!(Oa[1]&1||Oa[2]&1)&&Oa[3]&1))goto L9;
-Pa=(u64)q4(Oa+4)*48;
-if(*(Z+(i64)Pa)!=25)goto L9;
-if(!Ma){
-Ma=1;
-Na=Pa;
-goto L12;}
-L11:memcpy(t,c,32);
+fa=0;
+ga=X;
+L7:ha=Y+(i64)((u64)q4(Y+(i64)ga+4)*48);
+if(*ha!=32)goto L4;
+if(!(!(ha[1]&1||ha[2]&1)&&ha[3]&1))goto L4;
+ia=(u64)q4(ha+4)*48;
+if(*(Y+(i64)ia)!=25)goto L4;
+if(!fa){
+fa=1;
+ga=ia;
+goto L7;}
+L6:memcpy(t,c,32);
 z80(s);
 run_of_1dc(s,b,t);
-Qa=*s;
+ja=*s;
 memcpy(w,s+4,76);
-if(Qa==1){
+if(ja==1){
 memcpy(x,c,32);
 print_run_fa3(u,x,w,d,f,g,h);
 *a=*u;
 x4(a+4,u[4]);
 x4(a+8,r4(u+8));
-goto L6;}}
-L9:Da=r4(v+28);
-Ea=v[24];
-Fa=q8(v+12);
-L8:Ra=r4(g);
-if(r4(g+4)!=Ra){
-Ta=r8(d+8);
-Ua=r8(d+16);
-if(Ua-Ta<8){
-Va=umax64(Ta,8);
-if(Va>(Ta^18446744073709551615u)){
-Sa=4;
-goto L13;}
-Wa=Va+Ta;
-if(Wa>=0x38e38e38e38e38fu){
-Sa=4;
-goto L13;}
-if(Ua==0){
-Xa=port_rattle_alloc(Wa*36,4);
-if(!(u8)(Xa.f0&1)){
-Sa=4;
-goto L13;}
-Ya=Xa;}
+goto L8;}}
+L4:ka=r4(v+28);
+la=v[24];
+ma=q8(v+12);
+goto L9;
+L2:if(R<r8(f+8)){
+na=rp(f)+(i64)(R*56);
+if(r4(na)==y){
+if(r4(na+4)==z){
+if(r4(na+8)==A){
+oa=Q==1;
+if(na[12]==1){
+if(!oa)goto L10;
+if(r4(na+16)!=P)goto L10;}
+else {
+if(oa)goto L10;}
+if(na[20]==B){
+pa=O==1;
+if(na[24]==1){
+if(!pa)goto L10;
+if(r4(na+28)!=N)goto L10;}
+else {
+if(pa)goto L10;}
+if(r4(na+40)<=r4(g+4)-r4(g)){
+ra=r4(na+32);
+sa=r8(e+8);
+ta=(u64)r4(na+36)-ra;
+ua=ta+sa;
+if(ua>sa){
+va=r8(e+16);
+if(ta>va-sa){
+wa=grow_amortized_68b(e,ta);
+if(!wa){
+qa=4;
+goto L11;}
+xa=r8(e+8);
+ya=xa+ta;
+za=r8(e+16);
+Aa=xa;}
 else{
-Za=port_rattle_realloc(rp(d),Ta*36,Wa*36,4);
-if(!(u8)(Za.f0&1)){
-Sa=4;
+ya=ua;
+za=va;
+Aa=sa;}
+Ba=rp(e);
+if(Aa<ya)memset(Ba+(i64)Aa,0,ta);
+wp(e,Ba);
+w8(e+8,ya);
+w8(e+16,za);}
+else {
+if(sa>ua)w8(e+8,ua);}
+Ca=rp(e);
+Da=Ca+(i64)sa;
+Ea=Ca+(i64)ra;
+if(sa-ra<ta)copy_bits_4f4(Ea,Da,ta);
+else memmove(Da,Ea,ta);
+Fa=r8(g+8)+r8(na+48);
+w4(g,r4(g)+r4(na+40));
+w8(g+8,Fa);
+Ga=r8(d+8);
+if(Ga!=0)w8(d+8,Ga-1);
+*a=0;
+x4(a+4,0);
+x4(a+8,0);
+goto L8;}
+qa=3;
+L11:*a=1;
+x4(a+4,qa);
+x4(a+8,0);
+goto L8;}}}}}
+L10:Ha=q8(v+12);
+Ia=r8(d+8)-1;
+Ja=r8(e+8);
+Ka=r4(g);
+La=r8(g+8);
+memcpy(j,c+21,3);
+memcpy(k,c+25,3);
+Ma=r8(f+32);
+if(r8(f+40)==Ma){
+Na=grow_amortized_ab4(f+24);
+if(!Na)goto L12;
+Oa=r8(f+32);}
+else Oa=Ma;
+Pa=rp(f+24)+Oa*56;
+x4(Pa,y);
+x4(Pa+4,z);
+x4(Pa+8,A);
+x8(Pa+12,Ha);
+Pa[20]=B;
+memcpy(Pa+21,j,3);
+Pa[24]=O;
+memcpy(Pa+25,k,3);
+x4(Pa+28,N);
+x8(Pa+32,Ia);
+x4(Pa+40,Ja);
+x4(Pa+44,Ka);
+x8(Pa+48,La);
+w8(f+32,Oa+1);
+L12:ka=N;
+la=O;
+ma=Ha;
+L9:Qa=r4(g);
+if(r4(g+4)!=Qa){
+Sa=r8(d+8);
+Ta=r8(d+16);
+if(Ta-Sa<8){
+Ua=umax64(Sa,8);
+if(Ua>(Sa^18446744073709551615u)){
+Ra=4;
 goto L13;}
-Ya=Za;}
-wp(d,(u8*)Ya.f1);
-w8(d+16,Wa);
-ab=r4(g);}
-else ab=Ra;
-bb=r8(g+8)+1;
-w4(g,ab+1);
-w8(g+8,bb);
-cb=r8(d+8);
-if(cb==0)db=0;
+Va=Ua+Sa;
+if(Va>=0x38e38e38e38e38fu){
+Ra=4;
+goto L13;}
+if(Ta==0){
+Wa=port_rattle_alloc(Va*36,4);
+if(!(u8)(Wa.f0&1)){
+Ra=4;
+goto L13;}
+Xa=Wa;}
 else{
-eb=cb-1;
-w8(d+8,eb);
-db=eb;}
-fb=Fa>>32;
-gb=rp(b+24);
-hb=gb+(i64)((u64)y*48);
-ib=*hb==47;
-jb=ib?q4(hb+4):y;
-kb=Ea!=0;
-lb=kb||ib;
-mb=kb?Da:(ib?q4(hb+8):0);
-w4(r,(u32)Fa&255);
-w4(r+4,fb);
+Ya=port_rattle_realloc(rp(d),Sa*36,Va*36,4);
+if(!(u8)(Ya.f0&1)){
+Ra=4;
+goto L13;}
+Xa=Ya;}
+wp(d,(u8*)Xa.f1);
+w8(d+16,Va);
+Za=r4(g);}
+else Za=Qa;
+ab=r8(g+8)+1;
+w4(g,Za+1);
+w8(g+8,ab);
+bb=r8(d+8);
+if(bb==0)cb=0;
+else{
+db=bb-1;
+w8(d+8,db);
+cb=db;}
+eb=ma>>32;
+fb=rp(b+24);
+gb=fb+(i64)((u64)y*48);
+hb=*gb==47;
+ib=hb?q4(gb+4):y;
+jb=la!=0;
+kb=jb||hb;
+lb=jb?ka:(hb?q4(gb+8):0);
+w4(r,(u32)ma&255);
+w4(r+4,eb);
 r[8]=B;
 z3(r+9);
-w4(r+12,lb);
-w4(r+16,mb);
+w4(r+12,kb);
+w4(r+16,lb);
 switch(z){
 case 0:z16(p);
 z24(q);
-nb=rp(b);
-ob=gb+(i64)((u64)jb*48);
-pb=*ob;
-qb=ob[1];
-rb=q4(ob+4);
-sb=q4(ob+8);
-tb=q4(ob+12);
-ub=q8(ob+16);
-vb=sb;
-wb=sb>>8;
-xb=sb>>16;
-switch(pb){
+mb=rp(b);
+nb=fb+(i64)((u64)ib*48);
+ob=*nb;
+pb=nb[1];
+qb=q4(nb+4);
+rb=q4(nb+8);
+sb=q4(nb+12);
+tb=q8(nb+16);
+ub=rb;
+vb=rb>>8;
+wb=rb>>16;
+switch(ob){
 case 9:w8(o,0);
-*o=vb;
-o[1]=wb;
-o[2]=xb;
-w4(o+4,tb);
-w8(o+8,ub);
-if(vb==0){
-yb=ub;
-if(tb!=yb){
-zb=nb+(i64)tb;
-if(!((ub&4294967295u)-tb<10||*zb!=95)){
-Ab=parts_equal_58b((u8*)t_35ad,10,zb,10);
-if(Ab){
-Bb=rp(d)+db*36;
-*Bb=3;
-Bb[1]=0;
-x2(Bb+2,35);
-z32(Bb+4);
-w8(d+8,db+1);
+*o=ub;
+o[1]=vb;
+o[2]=wb;
+w4(o+4,sb);
+w8(o+8,tb);
+if(ub==0){
+xb=tb;
+if(sb!=xb){
+yb=mb+(i64)sb;
+if(!((tb&4294967295u)-sb<10||*yb!=95)){
+zb=parts_equal_58b((u8*)t_35ad,10,yb,10);
+if(zb){
+Ab=rp(d)+cb*36;
+*Ab=3;
+Ab[1]=0;
+x2(Ab+2,35);
+z32(Ab+4);
+w8(d+8,cb+1);
 goto L14;}}}
-if(tb<yb){
-Cb=rp(d)+db*36;
-*Cb=1;
-z3(Cb+1);
-x4(Cb+4,tb);
-x4(Cb+8,yb);
-z24(Cb+12);
-w8(d+8,db+1);}}
+if(sb<xb){
+Bb=rp(d)+cb*36;
+*Bb=1;
+z3(Bb+1);
+x4(Bb+4,sb);
+x4(Bb+8,xb);
+z24(Bb+12);
+w8(d+8,cb+1);}}
 else fill_rare_piece_017(b,d,o,r);
 L14:break;
-case 10:Db=db*36;
-Eb=rp(d)+Db;
-x4(Eb,0);
-x4(Eb+4,jb);
-x4(Eb+8,6);
-x4(Eb+12,0);
-memcpy(Eb+16,r,20);
-Fb=rp(d)+(i64)Db;
-Fb[36]=3;
-Fb[37]=0;
-x2(Fb+38,7);
-z32(Fb+40);
-w8(d+8,db+2);
+case 10:Cb=cb*36;
+Db=rp(d)+Cb;
+x4(Db,0);
+x4(Db+4,ib);
+x4(Db+8,6);
+x4(Db+12,0);
+memcpy(Db+16,r,20);
+Eb=rp(d)+(i64)Cb;
+Eb[36]=3;
+Eb[37]=0;
+x2(Eb+38,7);
+z32(Eb+40);
+w8(d+8,cb+2);
 break;
-case 11:*p=vb;
-p[1]=wb;
-p[2]=xb;
-w4(p+4,tb);
-w8(p+8,ub);
-fill_within_6bb(b,d,jb,rb,p,r);
+case 11:*p=ub;
+p[1]=vb;
+p[2]=wb;
+w4(p+4,sb);
+w8(p+8,tb);
+fill_within_6bb(b,d,ib,qb,p,r);
 break;
-case 12:fill_instance_1f0(b,d,rb,sb,r);
+case 12:fill_instance_1f0(b,d,qb,rb,r);
 break;
-case 13:own_entity_238(q,b,sb,r);
-Gb=rp(d)+db*36;
-Hb=r4(q);
-x4(Gb,0);
-x4(Gb+4,Hb);
-x4(Gb+8,0);
-x4(Gb+12,0);
-memcpy(Gb+16,q+4,20);
-w8(d+8,db+1);
+case 13:own_entity_238(q,b,rb,r);
+Fb=rp(d)+cb*36;
+Gb=r4(q);
+x4(Fb,0);
+x4(Fb+4,Gb);
+x4(Fb+8,0);
+x4(Fb+12,0);
+memcpy(Fb+16,q+4,20);
+w8(d+8,cb+1);
 break;
-case 14:Ib=rp(d)+db*36;
-x4(Ib,0);
-x4(Ib+4,rb);
-x4(Ib+8,0);
-x4(Ib+12,0);
-memcpy(Ib+16,r,20);
-w8(d+8,db+1);
+case 14:Hb=rp(d)+cb*36;
+x4(Hb,0);
+x4(Hb+4,qb);
+x4(Hb+8,0);
+x4(Hb+12,0);
+memcpy(Hb+16,r,20);
+w8(d+8,cb+1);
 break;
-case 15:fill_tagged_146(d,rb,sb,tb,r);
+case 15:fill_tagged_146(d,qb,rb,sb,r);
 break;
-case 17:Jb=abbreviation_6bb(qb);
-if(Jb!=60){
-Kb=rp(d)+db*36;
-*Kb=3;
-Kb[1]=0;
-x2(Kb+2,Jb);
-z32(Kb+4);
-w8(d+8,db+1);}
+case 17:Ib=abbreviation_6bb(pb);
+if(Ib!=60){
+Jb=rp(d)+cb*36;
+*Jb=3;
+Jb[1]=0;
+x2(Jb+2,Ib);
+z32(Jb+4);
+w8(d+8,cb+1);}
 break;
-case 18:fill_parameter_f0e(b,d,rb,sb,0,r);
+case 18:fill_parameter_f0e(b,d,qb,rb,0,r);
 break;
-case 0:case 1:case 2:case 3:case 4:case 5:case 6:case 7:case 8:case 16:case 19:case 20:case 21:case 22:case 23:case 24:case 25:case 26:case 27:case 28:case 29:case 30:case 31:case 32:case 33:case 34:case 35:case 36:case 37:case 38:case 39:case 40:case 41:case 42:case 43:case 44:case 45:case 46:case 47:Lb=q2(ob+2);
-switch(pb){
-case 20:Mb=qb-97;
-if(Mb<26){
-if((((u64)1<<Mb)&1278976)==0){
-Nb=rp(d)+db*36;
-Ob=r2((u8*)t_91f6+(u64)Mb*2);
-*Nb=3;
-Nb[1]=0;
-x2(Nb+2,Ob);
-z32(Nb+4);
-w8(d+8,db+1);}}
+case 0:case 1:case 2:case 3:case 4:case 5:case 6:case 7:case 8:case 16:case 19:case 20:case 21:case 22:case 23:case 24:case 25:case 26:case 27:case 28:case 29:case 30:case 31:case 32:case 33:case 34:case 35:case 36:case 37:case 38:case 39:case 40:case 41:case 42:case 43:case 44:case 45:case 46:case 47:Kb=q2(nb+2);
+switch(ob){
+case 20:Lb=pb-97;
+if(Lb<26){
+if((((u64)1<<Lb)&1278976)==0){
+Mb=rp(d)+cb*36;
+Nb=r2((u8*)t_91f6+(u64)Lb*2);
+*Mb=3;
+Mb[1]=0;
+x2(Mb+2,Nb);
+z32(Mb+4);
+w8(d+8,cb+1);}}
 break;
-case 21:Pb=qb-97;
-if(Pb<21){
-if((((u64)1<<Pb)&777794)==0){
-Qb=rp(d)+db*36;
-Rb=r2((u8*)t_1a3f+(u64)Pb*2);
-*Qb=3;
-Qb[1]=0;
-x2(Qb+2,Rb);
-z32(Qb+4);
-w8(d+8,db+1);}}
+case 21:Ob=pb-97;
+if(Ob<21){
+if((((u64)1<<Ob)&777794)==0){
+Pb=rp(d)+cb*36;
+Qb=r2((u8*)t_1a3f+(u64)Ob*2);
+*Pb=3;
+Pb[1]=0;
+x2(Pb+2,Qb);
+z32(Pb+4);
+w8(d+8,cb+1);}}
 break;
-case 24:if(sb!=rb){
-Sb=nb+(i64)rb;
-if(!((u64)sb-rb<10||*Sb!=95)){
-Tb=parts_equal_58b((u8*)t_35ad,10,Sb,10);
-if(Tb){
-Ub=rp(d)+db*36;
-*Ub=3;
-Ub[1]=0;
-x2(Ub+2,35);
-z32(Ub+4);
-w8(d+8,db+1);
+case 24:if(rb!=qb){
+Rb=mb+(i64)qb;
+if(!((u64)rb-qb<10||*Rb!=95)){
+Sb=parts_equal_58b((u8*)t_35ad,10,Rb,10);
+if(Sb){
+Tb=rp(d)+cb*36;
+*Tb=3;
+Tb[1]=0;
+x2(Tb+2,35);
+z32(Tb+4);
+w8(d+8,cb+1);
 break;}}}
-if(rb<sb){
-Vb=rp(d)+db*36;
-*Vb=1;
-z3(Vb+1);
-x4(Vb+4,rb);
-x4(Vb+8,sb);
-z24(Vb+12);
-w8(d+8,db+1);}
+if(qb<rb){
+Ub=rp(d)+cb*36;
+*Ub=1;
+z3(Ub+1);
+x4(Ub+4,qb);
+x4(Ub+8,rb);
+z24(Ub+12);
+w8(d+8,cb+1);}
 break;
-case 25:fill_marked_395(b,d,rb,r);
+case 25:fill_marked_395(b,d,qb,r);
 break;
-case 26:fill_reference_bf6(b,d,rb,4,11,10,r);
+case 26:fill_reference_bf6(b,d,qb,4,11,10,r);
 break;
-case 27:fill_reference_bf6(b,d,rb,0,13,12,r);
+case 27:fill_reference_bf6(b,d,qb,0,13,12,r);
 break;
-case 28:fill_array_c4d(b,d,tb,r);
+case 28:fill_array_c4d(b,d,sb,r);
 break;
-case 29:fill_array_c4d(b,d,sb,r);
+case 29:fill_array_c4d(b,d,rb,r);
 break;
-case 31:Wb=db*36;
-Xb=rp(d)+Wb;
-*Xb=3;
-Xb[1]=0;
-x2(Xb+2,4);
-z32(Xb+4);
-Yb=rp(d)+(i64)Wb;
-x4(Yb+36,0);
-x4(Yb+40,rb);
-x4(Yb+44,0);
-x4(Yb+48,0);
-memcpy(Yb+52,r,20);
-w8(d+8,db+2);
+case 31:Vb=cb*36;
+Wb=rp(d)+Vb;
+*Wb=3;
+Wb[1]=0;
+x2(Wb+2,4);
+z32(Wb+4);
+Xb=rp(d)+(i64)Vb;
+x4(Xb+36,0);
+x4(Xb+40,qb);
+x4(Xb+44,0);
+x4(Xb+48,0);
+memcpy(Xb+52,r,20);
+w8(d+8,cb+2);
 break;
-case 30:fill_member_2fa(b,d,rb,sb,r);
+case 30:fill_member_2fa(b,d,qb,rb,r);
 break;
-case 32:*n=qb;
-x2(n+1,Lb);
-fill_qualified_left_bf3(b,d,n,rb,r);
+case 32:*n=pb;
+x2(n+1,Kb);
+fill_qualified_left_bf3(b,d,n,qb,r);
 break;
-case 33:fill_vector_eb1(d,rb,sb,tb,r);
+case 33:fill_vector_eb1(d,qb,rb,sb,r);
 break;
-case 34:Zb=db*36;
-ac=rp(d)+Zb;
-*ac=3;
-ac[1]=0;
-x2(ac+2,18);
-z32(ac+4);
-bc=rp(d)+(i64)Zb;
-x4(bc+36,0);
-x4(bc+40,rb);
-x4(bc+44,0);
-x4(bc+48,0);
-memcpy(bc+52,r,20);
-w8(d+8,db+2);
+case 34:Yb=cb*36;
+Zb=rp(d)+Yb;
+*Zb=3;
+Zb[1]=0;
+x2(Zb+2,18);
+z32(Zb+4);
+ac=rp(d)+(i64)Yb;
+x4(ac+36,0);
+x4(ac+40,qb);
+x4(ac+44,0);
+x4(ac+48,0);
+memcpy(ac+52,r,20);
+w8(d+8,cb+2);
 break;
-case 22:fill_float_1e8(d,rb,sb,tb);
+case 22:fill_float_1e8(d,qb,rb,sb);
 break;
-case 23:cc=db*36;
-dc=rp(d)+cc;
-*dc=3;
-dc[1]=0;
-x2(dc+2,qb==107?46:47);
-z32(dc+4);
-ec=rp(d)+(i64)cc;
-x4(ec+36,0);
-x4(ec+40,rb);
-x4(ec+44,0);
-x4(ec+48,0);
-memcpy(ec+52,r,20);
-w8(d+8,db+2);
+case 23:bc=cb*36;
+cc=rp(d)+bc;
+*cc=3;
+cc[1]=0;
+x2(cc+2,pb==107?46:47);
+z32(cc+4);
+dc=rp(d)+(i64)bc;
+x4(dc+36,0);
+x4(dc+40,qb);
+x4(dc+44,0);
+x4(dc+48,0);
+memcpy(dc+52,r,20);
+w8(d+8,cb+2);
 break;
-case 0:case 1:case 2:case 3:case 4:case 5:case 6:case 7:case 8:case 9:case 10:case 11:case 12:case 13:case 14:case 15:case 16:case 17:case 18:case 19:case 35:case 36:case 37:case 38:case 39:case 40:case 41:case 42:case 43:case 44:case 45:case 46:case 47:w4(l,tb);
-x8(l+4,ub);
-switch(pb){
-case 36:fill_expansion_7b7(b,d,rb,r);
+case 0:case 1:case 2:case 3:case 4:case 5:case 6:case 7:case 8:case 9:case 10:case 11:case 12:case 13:case 14:case 15:case 16:case 17:case 18:case 19:case 35:case 36:case 37:case 38:case 39:case 40:case 41:case 42:case 43:case 44:case 45:case 46:case 47:w4(l,sb);
+x8(l+4,tb);
+switch(ob){
+case 36:fill_expansion_7b7(b,d,qb,r);
 break;
-case 44:fc=gb+(i64)((u64)rb*48);
-if(*(gb+(i64)((u64)(*fc==47?q4(fc+4):rb)*48))!=1){
-gc=rp(d)+db*36;
-x4(gc,0);
-x4(gc+4,rb);
-x4(gc+8,2);
-x4(gc+12,0);
-gc[16]=Fa;
-memcpy(gc+17,r+1,3);
-x4(gc+20,fb);
-gc[24]=B;
-z3(gc+25);
-gc[28]=lb;
-memcpy(gc+29,r+13,3);
-x4(gc+32,mb);
-w8(d+8,db+1);}
+case 44:ec=fb+(i64)((u64)qb*48);
+if(*(fb+(i64)((u64)(*ec==47?q4(ec+4):qb)*48))!=1){
+fc=rp(d)+cb*36;
+x4(fc,0);
+x4(fc+4,qb);
+x4(fc+8,2);
+x4(fc+12,0);
+fc[16]=ma;
+memcpy(fc+17,r+1,3);
+x4(fc+20,eb);
+fc[24]=B;
+z3(fc+25);
+fc[28]=kb;
+memcpy(fc+29,r+13,3);
+x4(fc+32,lb);
+w8(d+8,cb+1);}
 break;
-case 37:w4(m,sb);
+case 37:w4(m,rb);
 x8(m+4,r8(l));
-fill_integer_476(b,d,rb,m,r);
+fill_integer_476(b,d,qb,m,r);
 break;
-case 38:hc=db+1;
-ic=rp(d)+db*36;
+case 38:gc=cb+1;
+hc=rp(d)+cb*36;
+*hc=3;
+hc[1]=0;
+if(pb&1){
+x2(hc+2,19);
+z32(hc+4);
+w8(d+8,gc);}
+else{
+x2(hc+2,20);
+z32(hc+4);
+w8(d+8,gc);}
+break;
+case 39:ic=rp(d)+cb*36;
 *ic=3;
 ic[1]=0;
-if(qb&1){
-x2(ic+2,19);
+x2(ic+2,21);
 z32(ic+4);
-w8(d+8,hc);}
-else{
-x2(ic+2,20);
-z32(ic+4);
-w8(d+8,hc);}
+w8(d+8,cb+1);
 break;
-case 39:jc=rp(d)+db*36;
-*jc=3;
-jc[1]=0;
-x2(jc+2,21);
-z32(jc+4);
-w8(d+8,db+1);
+case 40:jc=rp(d)+cb*36;
+x4(jc,0);
+x4(jc+4,qb);
+x4(jc+8,8);
+x4(jc+12,0);
+x4(jc+16,0);
+x4(jc+20,0);
+jc[24]=B;
+z11(jc+25);
+w8(d+8,cb+1);
 break;
-case 40:kc=rp(d)+db*36;
-x4(kc,0);
-x4(kc+4,rb);
-x4(kc+8,8);
-x4(kc+12,0);
-x4(kc+16,0);
-x4(kc+20,0);
-kc[24]=B;
-z11(kc+25);
-w8(d+8,db+1);
+case 41:fill_encoding_literal_a7e(d,qb,r);
 break;
-case 41:fill_encoding_literal_a7e(d,rb,r);
+case 35:fill_decltype_7a2(d,qb,r);
 break;
-case 35:fill_decltype_7a2(d,rb,r);
+case 42:fill_operation_6d8(b,d,pb,Kb,qb,rb,r);
 break;
-case 42:fill_operation_6d8(b,d,qb,Lb,rb,sb,r);
-break;
-case 43:fill_function_parameter_419(d,rb,sb);
+case 43:fill_function_parameter_419(d,qb,rb);
 break;
 case 0:case 1:case 2:case 3:case 4:case 5:case 6:case 7:case 8:case 9:case 10:case 11:case 12:case 13:case 14:case 15:case 16:case 17:case 18:case 19:case 20:case 21:case 22:case 23:case 24:case 25:case 26:case 27:case 28:case 29:case 30:case 31:case 32:case 33:case 34:case 45:case 46:case 47:break;
 default:NEVER;
@@ -59803,99 +59189,98 @@ break;
 default:NEVER;
 }
 break;
-case 1:fill_right_3bf(b,d,jb,r);
+case 1:fill_right_3bf(b,d,ib,r);
 break;
-case 2:fill_first_of_85e(b,d,jb,r);
+case 2:fill_first_of_85e(b,d,ib,r);
 break;
-case 3:fill_more_of_557(b,d,jb,r);
+case 3:fill_more_of_557(b,d,ib,r);
 break;
-case 4:fill_low_4b1(b,d,jb,r);
+case 4:fill_low_4b1(b,d,ib,r);
 break;
-case 5:fill_base_3b5(b,d,jb,r);
+case 5:fill_base_3b5(b,d,ib,r);
 break;
-case 6:fill_own_piece_0f9(b,d,jb,r);
+case 6:fill_own_piece_0f9(b,d,ib,r);
 break;
-case 7:fill_full_b26(b,d,jb,r);
+case 7:fill_full_b26(b,d,ib,r);
 break;
-case 8:lc=gb+(i64)((u64)jb*48);
-if(*lc==2){
-mc=r[8];
-nc=q4(lc+4);
-oc=lc[11];
-pc=q4(lc+16);
-qc=q4(lc+20);
-memcpy(i,lc+8,3);
-if(mc<2)push_bare_366(b,d,nc,i,oc,pc,qc,mc);
+case 8:kc=fb+(i64)((u64)ib*48);
+if(*kc==2){
+lc=r[8];
+mc=q4(kc+4);
+nc=kc[11];
+oc=q4(kc+16);
+pc=q4(kc+20);
+memcpy(i,kc+8,3);
+if(lc<2)push_bare_366(b,d,mc,i,nc,oc,pc,lc);
 else{
-rc=rp(d)+db*36;
-x4(rc,0);
-x4(rc+4,nc);
-z16(rc+8);
-rc[24]=mc;
-z11(rc+25);
-w8(d+8,db+1);}
+qc=rp(d)+cb*36;
+x4(qc,0);
+x4(qc+4,mc);
+z16(qc+8);
+qc[24]=lc;
+z11(qc+25);
+w8(d+8,cb+1);}
 ;}
-else fill_full_b26(b,d,jb,r);
+else fill_full_b26(b,d,ib,r);
 break;
-case 9:sc=gb+(i64)((u64)jb*48);
-if(*sc==46){
-tc=q4(sc+4);
-uc=q4(sc+8);
-vc=q4(sc+12);
-if(uc<vc){
-wc=db*36;
-xc=rp(d)+wc;
-*xc=3;
-xc[1]=0;
-x2(xc+2,3);
-z32(xc+4);
-yc=rp(d)+(i64)wc;
-yc[36]=1;
-z3(yc+37);
-x4(yc+40,uc);
-x4(yc+44,vc);
-z24(yc+48);
-zc=rp(d)+(i64)wc;
-zc[72]=3;
-zc[73]=0;
-x2(zc+74,22);
-z32(zc+76);
-Ac=db+3;}
-else Ac=db;
-Bc=rp(d)+Ac*36;
-x4(Bc,0);
-x4(Bc+4,tc);
-x4(Bc+8,7);
-x4(Bc+12,0);
-x4(Bc+16,0);
-x4(Bc+20,0);
-Bc[24]=B;
-z11(Bc+25);
-w8(d+8,Ac+1);}
+case 9:rc=fb+(i64)((u64)ib*48);
+if(*rc==46){
+sc=q4(rc+4);
+tc=q4(rc+8);
+uc=q4(rc+12);
+if(tc<uc){
+vc=cb*36;
+wc=rp(d)+vc;
+*wc=3;
+wc[1]=0;
+x2(wc+2,3);
+z32(wc+4);
+xc=rp(d)+(i64)vc;
+xc[36]=1;
+z3(xc+37);
+x4(xc+40,tc);
+x4(xc+44,uc);
+z24(xc+48);
+yc=rp(d)+(i64)vc;
+yc[72]=3;
+yc[73]=0;
+x2(yc+74,22);
+z32(yc+76);
+zc=cb+3;}
+else zc=cb;
+Ac=rp(d)+zc*36;
+x4(Ac,0);
+x4(Ac+4,sc);
+x4(Ac+8,7);
+x4(Ac+12,0);
+x4(Ac+16,0);
+x4(Ac+20,0);
+Ac[24]=B;
+z11(Ac+25);
+w8(d+8,zc+1);}
 break;
-case 11:fill_declared_c70(b,d,jb,A,r);
+case 11:fill_declared_c70(b,d,ib,A,r);
 break;
-default:fill_expand_aee(b,d,jb,A,r);
+default:fill_expand_aee(b,d,ib,A,r);
 break;}
 if(h){
-Cc=Ta-1;
-Dc=r4(g);
-Ec=rp(d);
-Fc=r8(d+8);
+Bc=Sa-1;
+Cc=rp(d);
+Dc=r8(d+8);
 if(r8(f+80)>y){
-if(Fc<Cc||(((u32)1<<(z&31))&r4(rp(f+72)+(i64)((u64)y<<4)+12))!=0)goto L15;}
+if(Dc<Bc||(((u32)1<<(z&31))&r4(rp(f+72)+(i64)((u64)y*12)+4))!=0)goto L15;}
 else {
-if(Fc<Cc)goto L15;}
-look_df9(f+72,v,Dc,Ec+(i64)(Cc*36),usub64(Fc,Cc));}
+if(Dc<Bc)goto L15;}
+look_df9(f+72,v,Cc+(i64)(Bc*36),usub64(Dc,Bc));}
 L15:*a=0;
 x4(a+4,0);
 x4(a+8,0);
-goto L6;}
-Sa=3;
+goto L8;}
+Ra=3;
 L13:*a=1;
-x4(a+4,Sa);
+x4(a+4,Ra);
 x4(a+8,0);
-L6:return;
+L8:return;
 }
 
 /* cpp_layout::symbol::Symbol::run_of */
@@ -60301,10 +59686,10 @@ return;
 static void print_run_fa3(u8* a,u8* b,u8* c,u8* d,u8* e,u8* f,u8 g)
 {
 A16 u8 h[32],i[12],j[76];
-u64 k,l,o;
-u32 m,p,r,s;
-u8 *n;
-u8 q;
+u64 k,l,n;
+u8 *m;
+u32 o,q,r;
+u8 p;
 z12(i);
 memcpy(h,b,32);
 k=r8(d+8);
@@ -60313,37 +59698,36 @@ open_run_744(i,j,d,f);
 if(*i==0){
 if(g){
 l=k-1;
-m=r4(f);
-n=rp(d);
-o=r8(d+8);
-p=r4(h);
-if(r8(e+80)>p){
-if(o<l||(((u32)1<<(r4(h+4)&31))&r4(rp(e+72)+(i64)((u64)p<<4)+12))!=0){
+m=rp(d);
+n=r8(d+8);
+o=r4(h);
+if(r8(e+80)>o){
+if(n<l||(((u32)1<<(r4(h+4)&31))&r4(rp(e+72)+(i64)((u64)o*12)+4))!=0){
+p=0;
 q=0;
 r=0;
-s=0;
 goto L1;}}
 else{
-if(o<l){
+if(n<l){
+p=0;
 q=0;
 r=0;
-s=0;
 goto L1;}}
-look_df9(e+72,h,m,n+(i64)(l*36),usub64(o,l));
+look_df9(e+72,h,m+(i64)(l*36),usub64(n,l));
+p=0;
 q=0;
-r=0;
-s=0;}
+r=0;}
 else{
+p=0;
 q=0;
-r=0;
-s=0;}}
+r=0;}}
 else{
-q=1;
-r=i[4];
-s=r4(i+8);}
-L1:*a=q;
-x4(a+4,r);
-x4(a+8,s);
+p=1;
+q=i[4];
+r=r4(i+8);}
+L1:*a=p;
+x4(a+4,q);
+x4(a+8,r);
 return;
 }
 
@@ -60460,84 +59844,85 @@ L1:return c;
 }
 
 /* sym_print::sharing::Sharing::look */
-static void look_df9(u8* a,u8* b,u32 c,u8* d,u64 e)
+static void look_df9(u8* a,u8* b,u8* c,u64 d)
 {
-u32 f,q,u,F,G,I;
-u64 g,h,i,j,l,m,n,o,s,v,w,x,y,A,B,C,D,L;
-u8 k,z,J,K;
-u8 *p,*r,*t,*E,*H;
-f=r4(b);
-g=r8(a+8);
-if(g>f)h=g;
+u32 e,p,t,E,G,H,J;
+u64 f,g,h,i,k,l,m,n,r,u,v,w,x,z,A,B,C,L;
+u8 j,y,I,K;
+u8 *o,*q,*s,*D,*F;
+e=r4(b);
+f=r8(a+8);
+if(f>e)g=f;
 else{
-i=(u64)f+1-g;
-j=r8(a+16);
-if(i>j-g){
-k=grow_amortized_74b(a,i);
-l=r8(a+8);
-if(!k){
-h=l;
+h=(u64)e+1-f;
+i=r8(a+16);
+if(h>i-f){
+j=grow_amortized_74b(a,h);
+k=r8(a+8);
+if(!j){
+g=k;
 goto L1;}
-m=r8(a+16);
-n=l;}
+l=r8(a+16);
+m=k;}
 else{
-m=j;
-n=g;}
-o=n+i;
-p=rp(a);
-if(n<o)memset(p+(i64)(n<<4),0,i<<4);
-wp(a,p);
-w8(a+8,o);
-w8(a+16,m);
-h=o;}
-L1:q=r4(b);
-if(h>q){
-r=rp(a)+(i64)((u64)q<<4);
-w4(r+12,((u32)1<<(r4(b+4)&31))|r4(r+12));}
-if(e!=0){
-s=0;
-L2:t=d+(i64)(s*36);
-if(*t==0){
-u=r4(t+4);
-v=r8(a+8);
-if(v>u)w=v;
+l=i;
+m=f;}
+n=m+h;
+o=rp(a);
+if(m<n)memset(o+(i64)(m*12),0,h*12);
+wp(a,o);
+w8(a+8,n);
+w8(a+16,l);
+g=n;}
+L1:p=r4(b);
+if(g>p){
+q=rp(a)+(i64)((u64)p*12);
+w4(q+4,((u32)1<<(r4(b+4)&31))|r4(q+4));}
+if(d!=0){
+r=0;
+L2:s=c+(i64)(r*36);
+if(*s==0){
+t=r4(s+4);
+u=r8(a+8);
+if(u>t)v=u;
 else{
-x=(u64)u+1-v;
-y=r8(a+16);
-if(x>y-v){
-z=grow_amortized_74b(a,x);
-A=r8(a+8);
-if(!z){
-w=A;
+w=(u64)t+1-u;
+x=r8(a+16);
+if(w>x-u){
+y=grow_amortized_74b(a,w);
+z=r8(a+8);
+if(!y){
+v=z;
 goto L3;}
-B=r8(a+16);
-C=A;}
+A=r8(a+16);
+B=z;}
 else{
-B=y;
-C=v;}
-D=C+x;
-E=rp(a);
-if(C<D)memset(E+(i64)(C<<4),0,x<<4);
-wp(a,E);
-w8(a+8,D);
-w8(a+16,B);
-w=D;}
-L3:F=r4(t+4);
-if(w>F){
-G=r4(b);
-if(F!=G){
-H=rp(a)+(i64)((u64)F<<4);
-I=q4(H+4);
-J=H[8]&1||(I!=0&&(q4(H)!=G||I==c));
-K=H[9]&1;
-x4(H,G);
-x4(H+4,c);
-H[8]=J;
-H[9]=K;
-x2(H+10,0);}}}
-L=s+1;
-if(L!=e){
-s=L;
+A=x;
+B=u;}
+C=B+w;
+D=rp(a);
+if(B<C)memset(D+(i64)(B*12),0,w*12);
+wp(a,D);
+w8(a+8,C);
+w8(a+16,A);
+v=C;}
+L3:E=r4(s+4);
+if(v>E){
+F=rp(a)+(i64)((u64)E*12);
+G=r4(s+8);
+if(E==r4(b)){
+if(G==r4(b+4))goto L4;}
+H=q4(F);
+I=F[8];
+J=G&31;
+K=F[9]&1;
+x4(F,H|((u32)1<<J));
+F[8]=(((I&1)?I:(u8)(H>>J))&1)?(u8)(K^1):0;
+F[9]=K;
+x2(F+10,0);}}
+L4:L=r+1;
+if(L!=d){
+r=L;
 goto L2;}}
 return;
 }
@@ -60555,15 +59940,15 @@ e=r8(a+16);
 f=umax64(c+b,4);
 g=umax64(f,e<<1);
 h=e<0x4000000000000000u?g:f;
-if(h<0x800000000000000u){
+if(h<0xaaaaaaaaaaaaaabu){
 if(e==0){
-i=port_rattle_alloc(g<<4,4);
+i=port_rattle_alloc(g*12,4);
 if(!(u8)(i.f0&1)){
 d=0;
 goto L1;}
 j=i;}
 else{
-k=port_rattle_realloc(rp(a),c<<4,h<<4,4);
+k=port_rattle_realloc(rp(a),c*12,h*12,4);
 if(!(u8)(k.f0&1)){
 d=0;
 goto L1;}
@@ -71133,601 +70518,617 @@ return;
 /* sym_print::entries::print_entries */
 static void print_entries_c61(u8* a,u8* b,u8* c,u8* d,u8* e,u8* f,u8 g)
 {
-A16 u8 h[32],i[12],j[32];
-u64 k,p,r,s,u,w,A,B,C,G,H,I,J,K,N,Q,R,S,T,V,W,X,Y,aa,da,ea,ha,ja,na,pa,ra,ta,wa,ya,za,Ba,Ca,Da,Fa,Ha,Ma,Na,Oa,Pa,Ua,Va,Xa,bb,db,fb,hb,ib,jb,kb,mb,nb,ob,qb,rb,sb,wb,xb,yb,Bb,Cb,Eb,Fb,Hb,Ib,Jb,Kb,Mb;
-u8 l,L,ga,ia,oa,sa,Aa,Ja,La,cb,gb,lb,pb;
-u32 m,n,y,z,D,E,F,O,U,Z,ba,ca,fa,la,ma,va,Ia,Ka,Ta,Wa,Za,eb;
-u8 *o,*q,*t,*v,*x,*M,*P,*ka,*qa,*ua,*xa,*Ea,*Ga,*Ya,*ab,*tb,*ub,*vb,*zb,*Ab,*Db,*Gb,*Lb;
-s_64_64 Qa,Ra,Sa;
+A16 u8 h[32],i[20],j[12],k[32];
+u64 l,q,s,t,v,x,B,C,D,H,I,J,K,L,O,R,S,T,U,W,X,Y,Z,ba,ea,fa,ja,la,pa,ra,ta,va,ya,Aa,Ba,Da,Ea,Fa,Ha,Ja,Sa,Ta,Ua,Va,ab,bb,db,hb,jb,lb,nb,ob,pb,qb,sb,tb,ub,wb,xb,yb,Cb,Db,Eb,Hb,Ib,Kb,Lb,Nb,Ob,Pb,Qb,Sb;
+u8 m,M,ia,ka,qa,ua,Ca,Pa,Ra,ib,mb,rb,vb;
+u32 n,o,z,A,E,F,G,P,V,aa,ca,da,ha,na,oa,xa,Ka,La,Ma,Oa,Qa,Za,cb,fb,kb;
+u8 *p,*r,*u,*w,*y,*N,*Q,*ga,*ma,*sa,*wa,*za,*Ga,*Ia,*Na,*eb,*gb,*zb,*Ab,*Bb,*Fb,*Gb,*Jb,*Mb,*Rb;
+s_64_64 Wa,Xa,Ya;
 if(r8(e+8)!=0)w8(e+8,0);
 if(r8(e+32)!=0)w8(e+32,0);
 if(r8(e+56)!=0)w8(e+56,0);
 if(r8(e+80)!=0)w8(e+80,0);
-k=r8(c+8);
-if(k==0){
-l=0;
+l=r8(c+8);
+if(l==0){
 m=0;
-n=0;}
+n=0;
+o=0;}
 else{
-o=rp(c);
-p=k*40;
-q=o+(i64)p;
-r=p;
-s=k;
-t=o;
-L1:u=r8(e+32);
-if(u!=0){
-v=rp(e+24);
-if(r8(v+(i64)(u*56)-24)==s){
-w=u-1;
-w8(e+32,w);
-x=v+w*56;
-y=q4(x);
-z=q4(x+4);
-A=q8(x+8);
-B=q8(x+16);
-C=q8(x+24);
-D=q4(x+40);
-E=r8(d+8);
-F=r4(f)-q4(x+44);
-G=r8(f+8)-q8(x+48);
+p=rp(c);
+q=l*40;
+r=p+(i64)q;
+s=q;
+t=l;
+u=p;
+L1:v=r8(e+32);
+if(v!=0){
+w=rp(e+24);
+if(r8(w+(i64)(v*56)-24)==t){
+x=v-1;
+w8(e+32,x);
+y=w+x*56;
+z=q4(y);
+A=q4(y+4);
+B=q8(y+8);
+C=q8(y+16);
+D=q8(y+24);
+E=q4(y+40);
+F=r8(d+8);
+G=r4(f)-q4(y+44);
+H=r8(f+8)-q8(y+48);
 if(!g){
-va=y&63;
-wa=r8(e+8);
-if(wa>va){
-xa=rp(e)+(i64)((u64)va*56);
-x4(xa,y);
-x4(xa+4,z);
-x8(xa+8,A);
-x8(xa+16,B);
-x8(xa+24,C);
-x4(xa+32,D);
-x4(xa+36,E);
-x4(xa+40,F);
-x4(xa+44,0);
-x8(xa+48,G);
+xa=z&63;
+ya=r8(e+8);
+if(ya>xa){
+za=rp(e)+(i64)((u64)xa*56);
+x4(za,z);
+x4(za+4,A);
+x8(za+8,B);
+x8(za+16,C);
+x8(za+24,D);
+x4(za+32,E);
+x4(za+36,F);
+x4(za+40,G);
+x4(za+44,0);
+x8(za+48,H);
 goto L2;}
-ya=(u64)va+1-wa;
-za=r8(e+16);
-if(ya>za-wa){
-Aa=grow_amortized_670(e,ya);
-if(!Aa)goto L2;
+Aa=(u64)xa+1-ya;
 Ba=r8(e+16);
-Ca=r8(e+8);}
+if(Aa>Ba-ya){
+Ca=grow_amortized_670(e,Aa);
+if(!Ca)goto L2;
+Da=r8(e+16);
+Ea=r8(e+8);}
 else{
-Ba=za;
-Ca=wa;}
-Da=Ca+ya;
-Ea=rp(e);
-if(Ca>=Da)goto L3;
-Fa=Ca;
-L4:Ga=Ea+Fa*56;
-x4(Ga,y);
-x4(Ga+4,z);
-x8(Ga+8,A);
-x8(Ga+16,B);
-x8(Ga+24,C);
-x4(Ga+32,D);
-x4(Ga+36,E);
-x4(Ga+40,F);
-x4(Ga+44,0);
-x8(Ga+48,G);
-Ha=Fa+1;
-if(Ha!=Da){
-Fa=Ha;
+Da=Ba;
+Ea=ya;}
+Fa=Ea+Aa;
+Ga=rp(e);
+if(Ea>=Fa)goto L3;
+Ha=Ea;
+L4:Ia=Ga+Ha*56;
+x4(Ia,z);
+x4(Ia+4,A);
+x8(Ia+8,B);
+x8(Ia+16,C);
+x8(Ia+24,D);
+x4(Ia+32,E);
+x4(Ia+36,F);
+x4(Ia+40,G);
+x4(Ia+44,0);
+x8(Ia+48,H);
+Ja=Ha+1;
+if(Ja!=Fa){
+Ha=Ja;
 goto L4;}
-L3:wp(e,Ea);
-w8(e+8,Da);
-w8(e+16,Ba);
+L3:wp(e,Ga);
+w8(e+8,Fa);
+w8(e+16,Da);
 goto L2;}
-if(F<12)goto L2;
-H=((((u64)y<<5)|(z&31))+(B<<29))*0x9e3779b97f4a7c15u;
-I=r8(e+56);
-if(I==0){
-J=0;
+if(G<12)goto L2;
+I=((((u64)z<<5)|(A&31))+(C<<29))*0x9e3779b97f4a7c15u;
+J=r8(e+56);
+if(J==0){
 K=0;
-L=0;}
+L=0;
+M=0;}
 else{
-M=rp(e+48);
-if(r8(M)==H){
-J=0;
+N=rp(e+48);
+if(r8(N)==I){
 K=0;
-L=0;}
+L=0;
+M=0;}
 else{
-N=H>>63;
-O=r4(M+(i64)(u64)((i64)H>-1?8:12));
-if(I>O){
-P=M+(i64)((u64)O<<4);
-if(r8(P)==H){
-Q=0;
-R=N;
-S=O;}
+O=I>>63;
+P=r4(N+(i64)(u64)((i64)I>-1?8:12));
+if(J>P){
+Q=N+(i64)((u64)P<<4);
+if(r8(Q)==I){
+R=0;
+S=O;
+T=P;}
 else{
-T=fshl64(H,H,2);
-U=r4(P+(i64)(u64)((T&1)==0?8:12));
-if(I>U){
-V=(u64)U<<4;
-if(r8(M+(i64)V)==H){
-Q=O;
-R=T;
+U=fshl64(I,I,2);
+V=r4(Q+(i64)(u64)((U&1)==0?8:12));
+if(J>V){
+W=(u64)V<<4;
+if(r8(N+(i64)W)==I){
+R=P;
 S=U;
+T=V;
 goto L5;}
-W=V;
-X=T;
+X=W;
 Y=U;
-Z=2;
-L6:aa=fshl64(X,X,1);
-ba=r4(M+(i64)W+(i64)(u64)((aa&1)==0?8:12));
-ca=Z+1;
-if((ca!=64)&(I>ba)){
-da=(u64)ba<<4;
-if(r8(M+(i64)da)!=H){
-W=da;
-X=aa;
+Z=V;
+aa=2;
+L6:ba=fshl64(Y,Y,1);
+ca=r4(N+(i64)X+(i64)(u64)((ba&1)==0?8:12));
+da=aa+1;
+if((da!=64)&(J>ca)){
+ea=(u64)ca<<4;
+if(r8(N+(i64)ea)!=I){
+X=ea;
 Y=ba;
 Z=ca;
+aa=da;
 goto L6;}
-Q=Y;
-R=aa;
-S=ba;}
+R=Z;
+S=ba;
+T=ca;}
 else{
-Q=Y;
-R=aa;
-S=ba;}}
+R=Z;
+S=ba;
+T=ca;}}
 else{
-Q=O;
-R=T;
-S=U;}}}
+R=P;
+S=U;
+T=V;}}}
 else{
-Q=0;
-R=N;
-S=O;}
-L5:J=S;
-K=Q;
-L=R&1;}}
-ea=r8(e+8);
-if(ea>=0x100000000u)goto L2;
-if(J<ea){
-if(r8(e+80)<=y)goto L2;
-*(rp(e+72)+(i64)((u64)y<<4)+9)=1;
+R=0;
+S=O;
+T=P;}
+L5:K=T;
+L=R;
+M=S&1;}}
+fa=r8(e+8);
+if(fa>=0x100000000u)goto L2;
+if(K<fa){
+if(r8(e+80)<=z)goto L2;
+ga=rp(e+72)+(i64)((u64)z*12);
+ga[9]=1;
+ga[8]=0;
 goto L2;}
-fa=umin64(ea,0x100000000u);
-if(r8(e+16)==ea){
-ga=grow_amortized_670(e,1);
-if(!ga)goto L2;
-ha=r8(e+56);}
-else ha=I;
-if(r8(e+64)==ha){
-ia=grow_amortized_a3c(e+48);
+ha=umin64(fa,0x100000000u);
+if(r8(e+16)==fa){
+ia=grow_amortized_670(e,1);
 if(!ia)goto L2;
 ja=r8(e+56);}
-else ja=ha;
-if(ja>K){
-ka=rp(e+48)+(i64)(K<<4);
-if(L){
-la=r4(ka+8);
-ma=fa;}
+else ja=J;
+if(r8(e+64)==ja){
+ka=grow_amortized_a3c(e+48);
+if(!ka)goto L2;
+la=r8(e+56);}
+else la=ja;
+if(la>L){
+ma=rp(e+48)+(i64)(L<<4);
+if(M){
+na=r4(ma+8);
+oa=ha;}
 else{
-la=fa;
-ma=r4(ka+12);}
-x4(ka+8,la);
-x4(ka+12,ma);
-na=r8(e+56);}
-else na=ja;
-if(r8(e+64)==na){
-oa=grow_amortized_a3c(e+48);
-if(!oa)goto L7;
+na=ha;
+oa=r4(ma+12);}
+x4(ma+8,na);
+x4(ma+12,oa);
 pa=r8(e+56);}
-else pa=na;
-qa=rp(e+48)+(pa<<4);
-x8(qa,H);
-x4(qa+8,4294967295u);
-x4(qa+12,4294967295u);
-w8(e+56,pa+1);
-L7:ra=r8(e+8);
-if(r8(e+16)==ra){
-sa=grow_amortized_670(e,1);
-if(!sa)goto L2;
-ta=r8(e+8);}
-else ta=ra;
-ua=rp(e)+ta*56;
-x4(ua,y);
-x4(ua+4,z);
-x8(ua+8,A);
-x8(ua+16,B);
-x8(ua+24,C);
-x4(ua+32,D);
-x4(ua+36,E);
-x4(ua+40,F);
-x4(ua+44,0);
-x8(ua+48,G);
-w8(e+8,ta+1);
+else pa=la;
+if(r8(e+64)==pa){
+qa=grow_amortized_a3c(e+48);
+if(!qa)goto L7;
+ra=r8(e+56);}
+else ra=pa;
+sa=rp(e+48)+(ra<<4);
+x8(sa,I);
+x4(sa+8,4294967295u);
+x4(sa+12,4294967295u);
+w8(e+56,ra+1);
+L7:ta=r8(e+8);
+if(r8(e+16)==ta){
+ua=grow_amortized_670(e,1);
+if(!ua)goto L2;
+va=r8(e+8);}
+else va=ta;
+wa=rp(e)+va*56;
+x4(wa,z);
+x4(wa+4,A);
+x8(wa+8,B);
+x8(wa+16,C);
+x8(wa+24,D);
+x4(wa+32,E);
+x4(wa+36,F);
+x4(wa+40,G);
+x4(wa+44,0);
+x8(wa+48,H);
+w8(e+8,va+1);
 goto L2;}}
-switch(q[-40]){
-case 0:z12(i);
+switch(r[-40]){
+case 0:Ka=q4(r-32);
+La=q4(r-28);
+Ma=q4(r-24);
+z12(j);
 if(g){
-memcpy(j,q-32,32);
-print_special_item_e40(i,b,j,c,d,e,f);
-if(*i==0)goto L2;
-Ia=r4(i+8);
-Ja=i[4];}
+if(r8(e+80)>Ka){
+Na=rp(e+72)+(i64)((u64)Ka*12);
+if(!(Na[8]&1&&Ma==0)){
+if((r4(Na+4)&((u32)1<<(La&31)))!=0)goto L8;}}
+w4(k,Ka);
+w4(k+4,La);
+w4(k+8,Ma);
+memcpy(k+12,r-20,20);
+print_special_item_e40(j,b,k,c,d,e,f);
+if(*j==0)goto L2;
+Oa=r4(j+8);
+Pa=j[4];
+goto L9;}
+L8:memcpy(i,r-20,20);
+Qa=r4(f);
+if(r4(f+4)!=Qa){
+Sa=r8(c+16);
+if(Sa-t<8){
+Ta=umax64(t,8);
+if(Ta>(t^18446744073709551615u)){
+Ra=4;
+goto L10;}
+Ua=Ta+t;
+if(Ua>=0x333333333333334u){
+Ra=4;
+goto L10;}
+Va=Ua*40;
+if(Sa==0){
+Wa=port_rattle_alloc(Va,8);
+if(!(u8)(Wa.f0&1)){
+Ra=4;
+goto L10;}
+Xa=Wa;}
 else{
-memcpy(h,q-32,32);
-Ka=r4(f);
-if(r4(f+4)!=Ka){
-Ma=r8(c+16);
-if(Ma-s<8){
-Na=umax64(s,8);
-if(Na>(s^18446744073709551615u)){
-La=4;
-goto L8;}
-Oa=Na+s;
-if(Oa>=0x333333333333334u){
-La=4;
-goto L8;}
-Pa=Oa*40;
-if(Ma==0){
-Qa=port_rattle_alloc(Pa,8);
-if(!(u8)(Qa.f0&1)){
-La=4;
-goto L8;}
-Ra=Qa;}
-else{
-Sa=port_rattle_realloc(t,r,Pa,8);
-if(!(u8)(Sa.f0&1)){
-La=4;
-goto L8;}
-Ra=Sa;}
-wp(c,(u8*)Ra.f1);
-w8(c+16,Oa);
-Ta=r4(f);}
-else Ta=Ka;
-Ua=r8(f+8)+1;
-w4(f,Ta+1);
-w8(f+8,Ua);
-Va=r8(c+8);
-if(Va!=0)w8(c+8,Va-1);
+Ya=port_rattle_realloc(u,s,Va,8);
+if(!(u8)(Ya.f0&1)){
+Ra=4;
+goto L10;}
+Xa=Ya;}
+wp(c,(u8*)Xa.f1);
+w8(c+16,Ua);
+Za=r4(f);}
+else Za=Qa;
+ab=r8(f+8)+1;
+w4(f,Za+1);
+w8(f+8,ab);
+bb=r8(c+8);
+if(bb!=0)w8(c+8,bb-1);
+w4(h,Ka);
+w4(h+4,La);
+w4(h+8,Ma);
+memcpy(h+12,i,20);
 add_parts_d8c(b,c,h);
 goto L2;}
-La=3;
-L8:Ia=0;
-Ja=La;}
-l=1;
-m=Ja;
-n=Ia;
-goto L9;
-case 1:Wa=q4(q-36);
-Xa=(u64)q4(q-32)-Wa;
-Ya=rp(b)+(i64)Wa;
+Ra=3;
+L10:Oa=0;
+Pa=Ra;
+L9:m=1;
+n=Pa;
+o=Oa;
+goto L11;
+case 1:cb=q4(r-36);
+db=(u64)q4(r-32)-cb;
+eb=rp(b)+(i64)cb;
 break;
-case 2:Za=q4(q-36);
-Xa=(u64)q4(q-32)-Za;
-Ya=rp(b+48)+(i64)Za;
+case 2:fb=q4(r-36);
+db=(u64)q4(r-32)-fb;
+eb=rp(b+48)+(i64)fb;
 break;
-case 3:switch(r2(q-38)){
-case 0:Xa=2;
-Ya=(u8*)t_7154;
+case 3:switch(r2(r-38)){
+case 0:db=2;
+eb=(u8*)t_7154;
 break;
-case 1:Xa=1;
-Ya=(u8*)t_dabd;
+case 1:db=1;
+eb=(u8*)t_dabd;
 break;
-case 2:Xa=1;
-Ya=(u8*)t_62b6;
+case 2:db=1;
+eb=(u8*)t_62b6;
 break;
-case 3:Xa=4;
-Ya=(u8*)t_fa21;
+case 3:db=4;
+eb=(u8*)t_fa21;
 break;
-case 4:Xa=3;
-Ya=(u8*)t_6ee9;
+case 4:db=3;
+eb=(u8*)t_6ee9;
 break;
-case 5:Xa=7;
-Ya=(u8*)t_6d4c;
+case 5:db=7;
+eb=(u8*)t_6d4c;
 break;
-case 6:Xa=4;
-Ya=(u8*)t_04e6;
+case 6:db=4;
+eb=(u8*)t_04e6;
 break;
-case 7:Xa=1;
-Ya=(u8*)t_e7ac;
+case 7:db=1;
+eb=(u8*)t_e7ac;
 break;
-case 8:Xa=1;
-Ya=(u8*)t_3343;
+case 8:db=1;
+eb=(u8*)t_3343;
 break;
-case 9:Xa=1;
-Ya=(u8*)t_d10b;
+case 9:db=1;
+eb=(u8*)t_d10b;
 break;
-case 10:Xa=3;
-Ya=(u8*)t_c207;
+case 10:db=3;
+eb=(u8*)t_c207;
 break;
-case 11:Xa=2;
-Ya=(u8*)t_0a07;
+case 11:db=2;
+eb=(u8*)t_0a07;
 break;
-case 12:Xa=1;
-Ya=(u8*)t_2458;
+case 12:db=1;
+eb=(u8*)t_2458;
 break;
-case 13:Xa=2;
-Ya=(u8*)t_0a2d;
+case 13:db=2;
+eb=(u8*)t_0a2d;
 break;
-case 14:Xa=1;
-Ya=(u8*)t_cfae;
+case 14:db=1;
+eb=(u8*)t_cfae;
 break;
-case 15:Xa=1;
-Ya=(u8*)t_32eb;
+case 15:db=1;
+eb=(u8*)t_32eb;
 break;
-case 16:Xa=1;
-Ya=(u8*)t_ba5e;
+case 16:db=1;
+eb=(u8*)t_ba5e;
 break;
-case 17:Xa=2;
-Ya=(u8*)t_b4da;
+case 17:db=2;
+eb=(u8*)t_b4da;
 break;
-case 18:Xa=1;
-Ya=(u8*)t_951d;
+case 18:db=1;
+eb=(u8*)t_951d;
 break;
-case 19:Xa=5;
-Ya=(u8*)t_d821;
+case 19:db=5;
+eb=(u8*)t_d821;
 break;
-case 20:Xa=1;
-Ya=(u8*)t_36a9;
+case 20:db=1;
+eb=(u8*)t_36a9;
 break;
-case 21:Xa=5;
-Ya=(u8*)t_6daf;
+case 21:db=5;
+eb=(u8*)t_6daf;
 break;
-case 22:Xa=7;
-Ya=(u8*)t_ff67;
+case 22:db=7;
+eb=(u8*)t_ff67;
 break;
-case 23:Xa=5;
-Ya=(u8*)t_b2e2;
+case 23:db=5;
+eb=(u8*)t_b2e2;
 break;
-case 24:Xa=4;
-Ya=(u8*)t_e4e8;
+case 24:db=4;
+eb=(u8*)t_e4e8;
 break;
-case 25:Xa=2;
-Ya=(u8*)t_ec4f;
+case 25:db=2;
+eb=(u8*)t_ec4f;
 break;
-case 26:Xa=3;
-Ya=(u8*)t_fdfa;
+case 26:db=3;
+eb=(u8*)t_fdfa;
 break;
-case 27:Xa=10;
-Ya=(u8*)t_8edc;
+case 27:db=10;
+eb=(u8*)t_8edc;
 break;
-case 28:Xa=8;
-Ya=(u8*)t_06b0;
+case 28:db=8;
+eb=(u8*)t_06b0;
 break;
-case 29:Xa=15;
-Ya=(u8*)t_9290;
+case 29:db=15;
+eb=(u8*)t_9290;
 break;
-case 30:Xa=1;
-Ya=(u8*)t_6b23;
+case 30:db=1;
+eb=(u8*)t_6b23;
 break;
-case 31:Xa=5;
-Ya=(u8*)t_faca;
+case 31:db=5;
+eb=(u8*)t_faca;
 break;
-case 32:Xa=4;
-Ya=(u8*)t_a404;
+case 32:db=4;
+eb=(u8*)t_a404;
 break;
-case 33:Xa=4;
-Ya=(u8*)t_f616;
+case 33:db=4;
+eb=(u8*)t_f616;
 break;
-case 34:Xa=3;
-Ya=(u8*)t_4620;
+case 34:db=3;
+eb=(u8*)t_4620;
 break;
-case 35:Xa=3;
-Ya=(u8*)t_7bac;
+case 35:db=3;
+eb=(u8*)t_7bac;
 break;
-case 36:Xa=4;
-Ya=(u8*)t_b5be;
+case 36:db=4;
+eb=(u8*)t_b5be;
 break;
-case 37:Xa=5;
-Ya=(u8*)t_fcbc;
+case 37:db=5;
+eb=(u8*)t_fcbc;
 break;
-case 38:case 112:Xa=1;
-Ya=(u8*)t_d2e2;
+case 38:case 112:db=1;
+eb=(u8*)t_d2e2;
 break;
-case 39:Xa=2;
-Ya=(u8*)t_4f5a;
+case 39:db=2;
+eb=(u8*)t_4f5a;
 break;
-case 97:Xa=2;
-Ya=(u8*)t_4c1d;
+case 97:db=2;
+eb=(u8*)t_4c1d;
 break;
-case 98:Xa=4;
-Ya=(u8*)t_b760;
+case 98:db=4;
+eb=(u8*)t_b760;
 break;
-case 99:Xa=4;
-Ya=(u8*)t_411b;
+case 99:db=4;
+eb=(u8*)t_411b;
 break;
-case 100:Xa=3;
-Ya=(u8*)t_6a3e;
+case 100:db=3;
+eb=(u8*)t_6a3e;
 break;
-case 101:Xa=3;
-Ya=(u8*)t_8c25;
+case 101:db=3;
+eb=(u8*)t_8c25;
 break;
-case 102:Xa=3;
-Ya=(u8*)t_16b5;
+case 102:db=3;
+eb=(u8*)t_16b5;
 break;
-case 104:Xa=2;
-Ya=(u8*)t_c899;
+case 104:db=2;
+eb=(u8*)t_c899;
 break;
-case 105:Xa=5;
-Ya=(u8*)t_db3b;
+case 105:db=5;
+eb=(u8*)t_db3b;
 break;
-case 106:Xa=5;
-Ya=(u8*)t_f417;
+case 106:db=5;
+eb=(u8*)t_f417;
 break;
-case 108:Xa=3;
-Ya=(u8*)t_579a;
+case 108:db=3;
+eb=(u8*)t_579a;
 break;
-case 109:Xa=3;
-Ya=(u8*)t_d764;
+case 109:db=3;
+eb=(u8*)t_d764;
 break;
-case 110:Xa=4;
-Ya=(u8*)t_9cf5;
+case 110:db=4;
+eb=(u8*)t_9cf5;
 break;
-case 111:Xa=4;
-Ya=(u8*)t_fcd0;
+case 111:db=4;
+eb=(u8*)t_fcd0;
 break;
-case 115:Xa=3;
-Ya=(u8*)t_7daa;
+case 115:db=3;
+eb=(u8*)t_7daa;
 break;
-case 116:Xa=3;
-Ya=(u8*)t_2988;
+case 116:db=3;
+eb=(u8*)t_2988;
 break;
-case 117:Xa=2;
-Ya=(u8*)t_2e38;
+case 117:db=2;
+eb=(u8*)t_2e38;
 break;
-case 118:Xa=3;
-Ya=(u8*)t_ab5d;
+case 118:db=3;
+eb=(u8*)t_ab5d;
 break;
-case 120:Xa=3;
-Ya=(u8*)t_1a91;
+case 120:db=3;
+eb=(u8*)t_1a91;
 break;
-case 121:Xa=3;
-Ya=(u8*)t_1506;
+case 121:db=3;
+eb=(u8*)t_1506;
 break;
-case 122:Xa=1;
-Ya=(u8*)t_bb72;
+case 122:db=1;
+eb=(u8*)t_bb72;
 break;
-default:ab=(u8*)t_z0;
-goto L10;
+default:gb=(u8*)t_z0;
+goto L12;
 }
 break;
-case 4:Xa=q[-15];
-Ya=q-39;
+case 4:db=r[-15];
+eb=r-39;
 break;
 default:NEVER;
 }
-if(Xa>r4(f+4)-r4(f)){
-l=1;
-m=3;
-n=0;
-goto L9;}
-switch(Xa){
-case 0:ab=Ya;
+if(db>r4(f+4)-r4(f)){
+m=1;
+n=3;
+o=0;
+goto L11;}
+switch(db){
+case 0:gb=eb;
 break;
-case 1:bb=r8(d+8);
-if(r8(d+16)==bb){
-cb=grow_amortized_68b(d,1);
-if(!cb){
-l=1;
-m=4;
-n=0;
-goto L9;}
-db=r8(d+8);}
-else db=bb;
-*(rp(d)+db)=*Ya;
-w8(d+8,db+1);
-eb=1;
-goto L11;
-default:fb=r8(d+8);
-if(Xa<3){
-if(r8(d+16)-fb<2){
-gb=grow_amortized_68b(d,2);
-if(!gb){
-l=1;
-m=4;
-n=0;
-goto L9;}
-hb=r8(d+8);}
-else hb=fb;
-*(rp(d)+hb)=*Ya;
-ib=hb+1;
-w8(d+8,ib);
-*(rp(d)+ib)=Ya[1];
-w8(d+8,hb+2);
-eb=2;
+case 1:hb=r8(d+8);
+if(r8(d+16)==hb){
+ib=grow_amortized_68b(d,1);
+if(!ib){
+m=1;
+n=4;
+o=0;
 goto L11;}
-jb=r8(d+16);
-kb=jb-fb;
-if(Xa==3){
-if(kb<3){
-lb=grow_amortized_68b(d,3);
-if(!lb){
-l=1;
-m=4;
-n=0;
-goto L9;}
-mb=r8(d+8);}
-else mb=fb;
-*(rp(d)+mb)=*Ya;
-nb=mb+1;
-w8(d+8,nb);
-*(rp(d)+nb)=Ya[1];
-ob=mb+2;
-w8(d+8,ob);
-*(rp(d)+ob)=Ya[2];
-w8(d+8,mb+3);
-eb=3;
-goto L11;}
-if(Xa>kb){
-pb=grow_amortized_68b(d,Xa);
-if(!pb){
-l=1;
-m=4;
-n=0;
-goto L9;}
-qb=r8(d+16);
-rb=r8(d+8);}
-else{
-qb=jb;
-rb=fb;}
-sb=rb+Xa;
-tb=rp(d);
-z16(d+8);
-ub=tb+(i64)rb;
-if((u64)ub-(u64)Ya<Xa){
-copy_bits_4f4(Ya,ub,Xa);
-vb=tb;
-wb=sb;
-xb=qb;
-yb=Xa;
-goto L12;}
-zb=ub;
-Ab=tb;
-Bb=sb;
-Cb=qb;
-Db=Ya;
-Eb=Xa;
+jb=r8(d+8);}
+else jb=hb;
+*(rp(d)+jb)=*eb;
+w8(d+8,jb+1);
+kb=1;
 goto L13;
-}
-L10:Fb=r8(d+8);
-Gb=rp(d);
-Hb=r8(d+16);
+default:lb=r8(d+8);
+if(db<3){
+if(r8(d+16)-lb<2){
+mb=grow_amortized_68b(d,2);
+if(!mb){
+m=1;
+n=4;
+o=0;
+goto L11;}
+nb=r8(d+8);}
+else nb=lb;
+*(rp(d)+nb)=*eb;
+ob=nb+1;
+w8(d+8,ob);
+*(rp(d)+ob)=eb[1];
+w8(d+8,nb+2);
+kb=2;
+goto L13;}
+pb=r8(d+16);
+qb=pb-lb;
+if(db==3){
+if(qb<3){
+rb=grow_amortized_68b(d,3);
+if(!rb){
+m=1;
+n=4;
+o=0;
+goto L11;}
+sb=r8(d+8);}
+else sb=lb;
+*(rp(d)+sb)=*eb;
+tb=sb+1;
+w8(d+8,tb);
+*(rp(d)+tb)=eb[1];
+ub=sb+2;
+w8(d+8,ub);
+*(rp(d)+ub)=eb[2];
+w8(d+8,sb+3);
+kb=3;
+goto L13;}
+if(db>qb){
+vb=grow_amortized_68b(d,db);
+if(!vb){
+m=1;
+n=4;
+o=0;
+goto L11;}
+wb=r8(d+16);
+xb=r8(d+8);}
+else{
+wb=pb;
+xb=lb;}
+yb=xb+db;
+zb=rp(d);
 z16(d+8);
-zb=Gb+(i64)Fb;
-Ab=Gb;
-Bb=Fb;
+Ab=zb+(i64)xb;
+if((u64)Ab-(u64)eb<db){
+copy_bits_4f4(eb,Ab,db);
+Bb=zb;
+Cb=yb;
+Db=wb;
+Eb=db;
+goto L14;}
+Fb=Ab;
+Gb=zb;
+Hb=yb;
+Ib=wb;
+Jb=eb;
+Kb=db;
+goto L15;
+}
+L12:Lb=r8(d+8);
+Mb=rp(d);
+Nb=r8(d+16);
+z16(d+8);
+Fb=Mb+(i64)Lb;
+Gb=Mb;
+Hb=Lb;
+Ib=Nb;
+Jb=gb;
+Kb=0;
+L15:memmove(Fb,Jb,Kb);
+Bb=Gb;
 Cb=Hb;
-Db=ab;
-Eb=0;
-L13:memmove(zb,Db,Eb);
-vb=Ab;
-wb=Bb;
-xb=Cb;
-yb=Eb;
-L12:wp(d,vb);
-w8(d+8,wb);
-w8(d+16,xb);
-eb=yb;
-L11:Ib=r8(f+8)+1;
-w4(f,r4(f)+eb);
-w8(f+8,Ib);
-Jb=r8(c+8)-1;
-w8(c+8,Jb);
-Kb=Jb;
-goto L14;
-L2:Kb=r8(c+8);
-L14:Lb=rp(c);
-Mb=Kb*40;
-if(Kb!=0){
-q=Lb+(i64)Mb;
-r=Mb;
-s=Kb;
-t=Lb;
+Db=Ib;
+Eb=Kb;
+L14:wp(d,Bb);
+w8(d+8,Cb);
+w8(d+16,Db);
+kb=Eb;
+L13:Ob=r8(f+8)+1;
+w4(f,r4(f)+kb);
+w8(f+8,Ob);
+Pb=r8(c+8)-1;
+w8(c+8,Pb);
+Qb=Pb;
+goto L16;
+L2:Qb=r8(c+8);
+L16:Rb=rp(c);
+Sb=Qb*40;
+if(Qb!=0){
+r=Rb+(i64)Sb;
+s=Sb;
+t=Qb;
+u=Rb;
 goto L1;}
-l=0;
 m=0;
-n=0;}
-L9:*a=l;
-x4(a+4,m);
-x4(a+8,n);
+n=0;
+o=0;}
+L11:*a=m;
+x4(a+4,n);
+x4(a+8,o);
 return;
 }
 
@@ -71736,11 +71137,11 @@ static void print_special_item_e40(u8* a,u8* b,u8* c,u8* d,u8* e,u8* f,u8* g)
 {
 u8 h[7],j[7];
 A16 u8 i[32];
-u32 k,l,m,n,v,A,B,E,F,W,X,da,la,pa,Ja,Ua,Wa;
-u64 o,r,t,u,w,y,z,G,H,I,J,L,M,N,O,T,U,V,Y,Z,ba,ea,fa,ga,ha,ma,na,oa,ra,sa,ta,ua,va,wa,xa,ya,Aa,Ba,Ca,Da,Ha,Ka,La,Ma,Na,Pa,Qa,Ra,Sa,Za;
-u8 p,D,K,aa,za,Oa,Xa,Ya;
-u8 *q,*s,*x,*C,*P,*Q,*R,*S,*ca,*qa,*Ea,*Fa,*Ga,*Ia,*Ta,*Va;
-s_64_64 ia,ja,ka;
+u32 k,l,m,n,u,z,A,D,E,V,W,ca,ka,Ha,Sa,Ta,Va,Xa;
+u64 o,q,s,t,v,x,y,F,G,H,I,K,L,M,N,S,T,U,X,Y,aa,da,ea,fa,ga,la,ma,na,pa,qa,ra,sa,ta,ua,va,wa,ya,za,Aa,Ba,Fa,Ia,Ja,Ka,La,Na,Oa,Pa,Qa,Za;
+u8 p,C,J,Z,xa,Ma,Wa,Ya;
+u8 *r,*w,*B,*O,*P,*Q,*R,*ba,*oa,*Ca,*Da,*Ea,*Ga,*Ra,*Ua;
+s_64_64 ha,ia,ja;
 k=q4(c);
 l=q4(c+4);
 m=q4(c+8);
@@ -71750,150 +71151,148 @@ p=c[24];
 memcpy(j,c+25,7);
 if(m==0){
 if(r8(f+80)>k){
-q=rp(f+72)+(i64)((u64)k<<4);
-if(q[8]&1){
-if(!(q[9]&1)){
-r=((((u64)k<<5)|(l&31))+(o<<29))*0x9e3779b97f4a7c15u;
-s=rp(f+48);
-t=r8(f+56);
-u=r;
+if(*(rp(f+72)+(i64)((u64)k*12)+8)&1){
+q=((((u64)k<<5)|(l&31))+(o<<29))*0x9e3779b97f4a7c15u;
+r=rp(f+48);
+s=r8(f+56);
+t=q;
+u=0;
 v=0;
-w=0;
-L1:if(w<t){
-x=s+(i64)(w<<4);
-if(r8(x)==r)y=w;
+L1:if(v<s){
+w=r+(i64)(v<<4);
+if(r8(w)==q)x=v;
 else{
-z=fshl64(u,u,1);
-A=r4(x+(i64)(u64)((z&1)==0?8:12));
-B=v+1;
-if(B!=64){
-u=z;
-v=B;
-w=A;
+y=fshl64(t,t,1);
+z=r4(w+(i64)(u64)((y&1)==0?8:12));
+A=u+1;
+if(A!=64){
+t=y;
+u=A;
+v=z;
 goto L1;}
-y=A;}}
-else y=w;
-if(y<r8(f+8)){
-C=rp(f)+(i64)(y*56);
-if(r4(C)==k){
-if(r4(C+4)==l){
-if(r4(C+8)==0){
-if(r8(C+16)==o){
-if(C[24]==p){
-if(r4(C+40)>r4(g+4)-r4(g)){
-D=1;
-E=3;
+x=z;}}
+else x=v;
+if(x<r8(f+8)){
+B=rp(f)+(i64)(x*56);
+if(r4(B)==k){
+if(r4(B+4)==l){
+if(r4(B+8)==0){
+if(r8(B+16)==o){
+if(B[24]==p){
+if(r4(B+40)>r4(g+4)-r4(g)){
+C=1;
+D=3;
 goto L2;}
-F=r4(C+32);
-G=r8(e+8);
-H=(u64)r4(C+36)-F;
-I=H+G;
-if(I>G){
-J=r8(e+16);
-if(H>J-G){
-K=grow_amortized_68b(e,H);
-if(!K){
-D=1;
-E=4;
+E=r4(B+32);
+F=r8(e+8);
+G=(u64)r4(B+36)-E;
+H=G+F;
+if(H>F){
+I=r8(e+16);
+if(G>I-F){
+J=grow_amortized_68b(e,G);
+if(!J){
+C=1;
+D=4;
 goto L2;}
-L=r8(e+8);
-M=L+H;
-N=r8(e+16);
-O=L;}
+K=r8(e+8);
+L=K+G;
+M=r8(e+16);
+N=K;}
 else{
+L=H;
 M=I;
-N=J;
-O=G;}
-P=rp(e);
-if(O<M)memset(P+(i64)O,0,H);
-wp(e,P);
-w8(e+8,M);
-w8(e+16,N);}
+N=F;}
+O=rp(e);
+if(N<L)memset(O+(i64)N,0,G);
+wp(e,O);
+w8(e+8,L);
+w8(e+16,M);}
 else {
-if(G>I)w8(e+8,I);}
-Q=rp(e);
-R=Q+(i64)G;
-S=Q+(i64)F;
-if(G-F<H)copy_bits_4f4(S,R,H);
-else memmove(R,S,H);
-T=r8(g+8)+r8(C+48);
-w4(g,r4(g)+r4(C+40));
-w8(g+8,T);
-U=r8(d+8);
-if(U==0){
+if(F>H)w8(e+8,H);}
+P=rp(e);
+Q=P+(i64)F;
+R=P+(i64)E;
+if(F-E<G)copy_bits_4f4(R,Q,G);
+else memmove(Q,R,G);
+S=r8(g+8)+r8(B+48);
+w4(g,r4(g)+r4(B+40));
+w8(g+8,S);
+T=r8(d+8);
+if(T==0){
+C=0;
 D=0;
-E=0;
 goto L2;}
-w8(d+8,U-1);
+w8(d+8,T-1);
+C=0;
 D=0;
-E=0;
 goto L2;}}}}}}
-V=r8(d+8)-1;
-W=r8(e+8);
-X=r4(g);
-Y=r8(g+8);
+U=r8(d+8)-1;
+V=r8(e+8);
+W=r4(g);
+X=r8(g+8);
 memcpy(h,c+25,7);
-Z=r8(f+32);
-if(r8(f+40)==Z){
-aa=grow_amortized_ab4(f+24);
-if(!aa)goto L3;
-ba=r8(f+32);}
-else ba=Z;
-ca=rp(f+24)+ba*56;
-x4(ca,k);
-x4(ca+4,l);
-x4(ca+8,0);
-x4(ca+12,n);
-x8(ca+16,o);
-ca[24]=p;
-memcpy(ca+25,h,7);
-x8(ca+32,V);
-x4(ca+40,W);
-x4(ca+44,X);
-x8(ca+48,Y);
-w8(f+32,ba+1);
-L3:;}}}}
-da=r4(g);
-if(r4(g+4)==da){
-D=1;
-E=3;}
+Y=r8(f+32);
+if(r8(f+40)==Y){
+Z=grow_amortized_ab4(f+24);
+if(!Z)goto L3;
+aa=r8(f+32);}
+else aa=Y;
+ba=rp(f+24)+aa*56;
+x4(ba,k);
+x4(ba+4,l);
+x4(ba+8,0);
+x4(ba+12,n);
+x8(ba+16,o);
+ba[24]=p;
+memcpy(ba+25,h,7);
+x8(ba+32,U);
+x4(ba+40,V);
+x4(ba+44,W);
+x8(ba+48,X);
+w8(f+32,aa+1);
+L3:;}}}
+ca=r4(g);
+if(r4(g+4)==ca){
+C=1;
+D=3;}
 else{
-ea=r8(d+8);
-fa=r8(d+16);
-if(fa-ea<8){
-ga=umax64(ea,8);
-if(ga>(ea^18446744073709551615u)){
-D=1;
-E=4;
+da=r8(d+8);
+ea=r8(d+16);
+if(ea-da<8){
+fa=umax64(da,8);
+if(fa>(da^18446744073709551615u)){
+C=1;
+D=4;
 goto L2;}
-ha=ga+ea;
-if(ha>=0x333333333333334u){
-D=1;
-E=4;
+ga=fa+da;
+if(ga>=0x333333333333334u){
+C=1;
+D=4;
 goto L2;}
-if(fa==0){
-ia=port_rattle_alloc(ha*40,8);
-if(!(u8)(ia.f0&1)){
-D=1;
-E=4;
+if(ea==0){
+ha=port_rattle_alloc(ga*40,8);
+if(!(u8)(ha.f0&1)){
+C=1;
+D=4;
 goto L2;}
-ja=ia;}
+ia=ha;}
 else{
-ka=port_rattle_realloc(rp(d),ea*40,ha*40,8);
-if(!(u8)(ka.f0&1)){
-D=1;
-E=4;
+ja=port_rattle_realloc(rp(d),da*40,ga*40,8);
+if(!(u8)(ja.f0&1)){
+C=1;
+D=4;
 goto L2;}
-ja=ka;}
-wp(d,(u8*)ja.f1);
-w8(d+16,ha);
-la=r4(g);}
-else la=da;
-ma=r8(g+8)+1;
-w4(g,la+1);
-w8(g+8,ma);
-na=r8(d+8);
-if(na!=0)w8(d+8,na-1);
+ia=ja;}
+wp(d,(u8*)ia.f1);
+w8(d+16,ga);
+ka=r4(g);}
+else ka=ca;
+la=r8(g+8)+1;
+w4(g,ka+1);
+w8(g+8,la);
+ma=r8(d+8);
+if(ma!=0)w8(d+8,ma-1);
 w4(i,k);
 w4(i+4,l);
 w4(i+8,m);
@@ -71902,101 +71301,102 @@ w8(i+16,o);
 i[24]=p;
 memcpy(i+25,j,7);
 add_parts_d8c(b,d,i);
-oa=ea-1;
-pa=r4(g);
-qa=rp(d);
-ra=r8(d+8);
-sa=r8(f+80);
-ta=(u64)k<<4;
-if(sa>k){
-if(ra<oa||(r4(rp(f+72)+(i64)ta+12)&((u32)1<<(l&31)))!=0){
+na=da-1;
+oa=rp(d);
+pa=r8(d+8);
+qa=r8(f+80);
+ra=(u64)k*12;
+if(qa>k){
+if(pa<na||(r4(rp(f+72)+(i64)ra+4)&((u32)1<<(l&31)))!=0){
+C=0;
 D=0;
-E=0;
 goto L2;}
-ua=usub64(ra,oa);
-va=sa;}
+sa=usub64(pa,na);
+ta=qa;}
 else{
-if(ra<oa){
+if(pa<na){
+C=0;
 D=0;
-E=0;
 goto L2;}
-wa=usub64(ra,oa);
-xa=(u64)k+1-sa;
-ya=r8(f+88);
-if(xa>ya-sa){
-za=grow_amortized_74b(f+72,xa);
-Aa=r8(f+80);
-if(!za){
-ua=wa;
-va=Aa;
+ua=usub64(pa,na);
+va=(u64)k+1-qa;
+wa=r8(f+88);
+if(va>wa-qa){
+xa=grow_amortized_74b(f+72,va);
+ya=r8(f+80);
+if(!xa){
+sa=ua;
+ta=ya;
 goto L4;}
-Ba=r8(f+88);
-Ca=Aa;}
+za=r8(f+88);
+Aa=ya;}
 else{
-Ba=ya;
-Ca=sa;}
-Da=Ca+xa;
-Ea=rp(f+72);
-if(Ca<Da)memset(Ea+(i64)(Ca<<4),0,xa<<4);
-wp(f+72,Ea);
-w8(f+80,Da);
-w8(f+88,Ba);
-ua=wa;
-va=Da;}
-L4:Fa=qa+(i64)(oa*40);
-if(va>k){
-Ga=rp(f+72)+(i64)ta;
-w4(Ga+12,r4(Ga+12)|((u32)1<<(l&31)));}
-if(ra>oa){
-Ha=0;
-L5:Ia=Fa+(i64)(Ha*40);
-if(*Ia==0){
-Ja=r4(Ia+8);
-Ka=r8(f+80);
-if(Ka>Ja)La=Ka;
+za=wa;
+Aa=qa;}
+Ba=Aa+va;
+Ca=rp(f+72);
+if(Aa<Ba)memset(Ca+(i64)(Aa*12),0,va*12);
+wp(f+72,Ca);
+w8(f+80,Ba);
+w8(f+88,za);
+sa=ua;
+ta=Ba;}
+L4:Da=oa+(i64)(na*40);
+if(ta>k){
+Ea=rp(f+72)+(i64)ra;
+w4(Ea+4,r4(Ea+4)|((u32)1<<(l&31)));}
+if(pa>na){
+Fa=0;
+L5:Ga=Da+(i64)(Fa*40);
+if(*Ga==0){
+Ha=r4(Ga+8);
+Ia=r8(f+80);
+if(Ia>Ha)Ja=Ia;
 else{
-Ma=(u64)Ja+1-Ka;
-Na=r8(f+88);
-if(Ma>Na-Ka){
-Oa=grow_amortized_74b(f+72,Ma);
-Pa=r8(f+80);
-if(!Oa){
-La=Pa;
+Ka=(u64)Ha+1-Ia;
+La=r8(f+88);
+if(Ka>La-Ia){
+Ma=grow_amortized_74b(f+72,Ka);
+Na=r8(f+80);
+if(!Ma){
+Ja=Na;
 goto L6;}
-Qa=r8(f+88);
-Ra=Pa;}
+Oa=r8(f+88);
+Pa=Na;}
 else{
-Qa=Na;
-Ra=Ka;}
-Sa=Ra+Ma;
-Ta=rp(f+72);
-if(Ra<Sa)memset(Ta+(i64)(Ra<<4),0,Ma<<4);
-wp(f+72,Ta);
-w8(f+80,Sa);
-w8(f+88,Qa);
-La=Sa;}
-L6:Ua=r4(Ia+8);
-if(!(La<=Ua||Ua==k)){
-Va=rp(f+72)+(i64)((u64)Ua<<4);
-Wa=q4(Va+4);
-Xa=Va[8]&1||(Wa!=0&&(q4(Va)!=k||Wa==pa));
-Ya=Va[9]&1;
-x4(Va,k);
-x4(Va+4,pa);
-Va[8]=Xa;
-Va[9]=Ya;
-x2(Va+10,0);}}
-Za=Ha+1;
-if(Za!=ua){
-Ha=Za;
+Oa=La;
+Pa=Ia;}
+Qa=Pa+Ka;
+Ra=rp(f+72);
+if(Pa<Qa)memset(Ra+(i64)(Pa*12),0,Ka*12);
+wp(f+72,Ra);
+w8(f+80,Qa);
+w8(f+88,Oa);
+Ja=Qa;}
+L6:Sa=r4(Ga+8);
+if(Ja>Sa){
+Ta=r4(Ga+12);
+if(!(Sa==k&&Ta==l)){
+Ua=rp(f+72)+(i64)((u64)Sa*12);
+Va=q4(Ua);
+Wa=Ua[8];
+Xa=Ta&31;
+Ya=Ua[9]&1;
+x4(Ua,Va|((u32)1<<Xa));
+Ua[8]=(((Wa&1)?Wa:(u8)(Va>>Xa))&1)?(u8)(Ya^1):0;
+Ua[9]=Ya;
+x2(Ua+10,0);}}}
+Za=Fa+1;
+if(Za!=sa){
+Fa=Za;
 goto L5;}
-D=0;
-E=0;}
+C=0;
+D=0;}
 else{
-D=0;
-E=0;}}
-L2:*a=D;
-x4(a+4,E);
+C=0;
+D=0;}}
+L2:*a=C;
+x4(a+4,D);
 x4(a+8,0);
 return;
 }
@@ -75534,141 +74934,142 @@ return;
 static void append_e62(u8* a,u8* b,u8* c,u8 d,u8* e,u64 f,u8* g)
 {
 u8 i[32],k[4],l[32],m[32],n[32],p[32],z[4],A[32],ba[4],ca[32];
-A16 u8 h[4],j[4],o[4],q[6],r[32],s[4],t[4],u[4],v[32],w[4],x[4],y[32],B[4],C[4],D[4],E[4],F[4],G[4],H[4],I[4],J[4],K[40],L[4],M[4],N[4],O[4],P[4],Q[4],R[4],S[4],T[4],U[4],V[4],W[40],X[24],Y[40],Z[24],aa[4],da[4],ea[12],fa[12],ga[12],ha[112],ia[104],ja[12],ka[100];
-u32 la,jb,pb,dc,Ec,Gc,ad,bd,ud,vd,xd,zd,Td,ne,qe,Pe,rf,uf,Lf,Mf,eg,gg,xg,yg,Eg,kh,oh,sh,zh,Hh,Nh,Gi,gj,lj,oj,pj,yj,zj,Kj;
-u8 ma,ra,xa,za,Ca,Ia,Ja,La,Ma,Na,Oa,Pa,Qa,Sa,Ta,Xa,Ya,Za,eb,hb,ib,qb,sb,vb,wb,Fb,Jb,Lb,Ob,Rb,Xb,Yb,Zb,ac,ec,hc,ic,kc,lc,mc,nc,qc,sc,vc,yc,Fc,Jc,Oc,Sc,Uc,Vc,Wc,Yc,Zc,ed,gd,od,pd,qd,sd,td,yd,Cd,Ed,Fd,Gd,Id,Jd,Kd,Md,Od,Sd,Vd,ce,fe,le,me,oe,te,xe,Ce,Ee,Fe,Ge,He,Ie,Ke,Oe,Re,Ye,bf,hf,lf,sf,xf,Bf,Ef,Hf,If,Jf,Kf,Pf,Rf,Vf,Wf,Xf,Yf,Zf,ag,bg,cg,fg,jg,mg,ng,og,pg,qg,rg,tg,vg,wg,Ag,Bg,Cg,Dg,Fg,Hg,Ig,Jg,Lg,Mg,Ng,Og,Qg,Ug,Wg,Yg,bh,ch,dh,eh,fh,ih,lh,ph,qh,rh,th,uh,xh,Ah,Ch,Eh,Ih,Kh,Lh,Mh,Oh,Qh,Sh,Uh,Wh,Xh,Yh,Zh,ai,bi,ci,di,fi,gi,hi,ji,si,wi,xi,zi,Ai,Ki,Oi,Ti,aj,cj,fj,kj,mj,nj,qj,rj,Aj,Bj,Cj,Hj,Lj,Mj;
-u64 na,oa,pa,qa,sa,ta,va,Aa,Ba,Da,Ea,Fa,Ka,Ra,Ua,Va,Wa,ab,cb,db,fb,gb,kb,nb,ob,rb,tb,ub,Cb,Db,Eb,Hb,Ib,Nb,Pb,Qb,Sb,Tb,Ub,bc,cc,fc,gc,oc,pc,uc,wc,xc,zc,Ac,Bc,Hc,Ic,Lc,Mc,Nc,Pc,Qc,Rc,Xc,cd,dd,nd,Ad,Bd,Hd,Ld,Nd,Pd,Qd,Rd,Ud,Wd,Xd,Yd,Zd,ae,be,ee,ke,pe,re,se,ve,we,ye,ze,Ae,Je,Le,Me,Ne,Qe,Se,Te,Ue,Ve,We,Xe,af,gf,jf,kf,mf,nf,of,tf,vf,wf,zf,Af,Cf,Df,Gf,Nf,Of,Uf,hg,ig,lg,sg,Kg,Pg,Rg,Sg,Vg,Xg,Zg,ah,gh,hh,jh,mh,nh,vh,wh,yh,Bh,Dh,Fh,Gh,Jh,Ph,Th,Vh,ei,ii,ki,li,ni,oi,pi,ri,ti,vi,yi,Ci,Ei,Hi,Ji,Li,Ni,Qi,Ri,Si,Ui,Vi,Wi,Zi,bj,dj,ej,hj,uj,vj,xj,Ej,Fj,Gj,Ij,Jj,Nj;
-v16 ua,wa;
-u8 *ya,*Ga,*Ha,*bb,*lb,*mb,*xb,*yb,*zb,*Ab,*Bb,*Gb,*Kb,*Mb,*Vb,*Wb,*jc,*rc,*tc,*Cc,*Dc,*Kc,*Tc,*fd,*hd,*id,*jd,*kd,*Dd,*de,*je,*ue,*Be,*De,*Ze,*ff,*pf,*qf,*yf,*Ff,*Qf,*dg,*kg,*ug,*Tg,*Rh,*mi,*qi,*ui,*Bi,*Di,*Fi,*Ii,*Mi,*Pi,*Xi,*Yi,*ij,*jj,*sj,*tj,*wj,*Dj,*Oj,*Pj;
-u16 ld,md,Sf,Tf,zg,Gg;
-s_p_64 ge,he,ie,cf,df,ef;
+A16 u8 h[4],j[4],o[4],q[6],r[32],s[4],t[4],u[4],v[32],w[4],x[4],y[32],B[4],C[4],D[4],E[4],F[4],G[4],H[4],I[4],J[4],K[40],L[4],M[4],N[4],O[4],P[4],Q[4],R[4],S[4],T[4],U[4],V[4],W[40],X[24],Y[40],Z[24],aa[4],da[4],ea[12],fa[112],ga[104],ha[12],ia[100],ja[12];
+u32 ka,db,Rb,sc,uc,Oc,Pc,hd,id,jd,ld,Hd,be,ee,De,ef,hf,zf,Af,Sf,Uf,lg,mg,sg,Yg,ch,gh,nh,vh,Bh,ui,Ji,Wi,bj,ej,fj;
+u8 la,qa,wa,ya,Ba,Ha,Ia,Ka,La,Ma,Na,Oa,Pa,Ra,Sa,Wa,Xa,Ya,eb,gb,jb,kb,tb,xb,zb,Cb,Fb,Lb,Mb,Nb,Ob,Sb,Vb,Wb,Yb,Zb,ac,bc,ec,gc,jc,mc,tc,xc,Cc,Gc,Ic,Jc,Kc,Mc,Nc,Sc,Uc,cd,dd,ed,fd,gd,kd,od,qd,sd,td,vd,xd,yd,Ad,Cd,Gd,Jd,Qd,Td,Zd,ae,ce,he,le,qe,se,te,ue,ve,we,ye,Ce,Fe,Me,Pe,Ve,Ye,ff,lf,pf,sf,vf,wf,xf,yf,Df,Ff,Jf,Kf,Lf,Mf,Nf,Of,Pf,Qf,Tf,Xf,ag,bg,cg,dg,eg,fg,hg,jg,kg,og,pg,qg,rg,tg,vg,wg,xg,zg,Ag,Bg,Cg,Eg,Ig,Kg,Mg,Pg,Qg,Rg,Sg,Tg,Wg,Zg,dh,eh,fh,hh,ih,lh,oh,qh,sh,wh,yh,zh,Ah,Ch,Eh,Gh,Ih,Kh,Lh,Mh,Nh,Oh,Ph,Qh,Rh,Th,Uh,Vh,Xh,gi,ki,li,ni,oi,yi,Ci,Gi,Ki,Li,Qi,Si,Vi,aj,cj,dj,gj,hj;
+u64 ma,na,oa,pa,ra,sa,ua,za,Aa,Ca,Da,Ea,Ja,Qa,Ta,Ua,Va,Za,ab,bb,cb,fb,hb,ib,qb,rb,sb,vb,wb,Bb,Db,Eb,Gb,Hb,Ib,Pb,Qb,Tb,Ub,cc,dc,ic,kc,lc,nc,oc,pc,vc,wc,zc,Ac,Bc,Dc,Ec,Fc,Lc,Qc,Rc,bd,md,nd,ud,zd,Bd,Dd,Ed,Fd,Id,Kd,Ld,Md,Nd,Od,Pd,Sd,Yd,de,fe,ge,je,ke,me,ne,oe,xe,ze,Ae,Be,Ee,Ge,He,Ie,Je,Ke,Le,Oe,Ue,We,Xe,Ze,af,bf,gf,jf,kf,nf,of,qf,rf,uf,Bf,Cf,If,Vf,Wf,Zf,gg,yg,Dg,Fg,Gg,Jg,Lg,Ng,Og,Ug,Vg,Xg,ah,bh,jh,kh,mh,ph,rh,th,uh,xh,Dh,Hh,Jh,Sh,Wh,Yh,Zh,bi,ci,di,fi,hi,ji,mi,qi,si,vi,xi,zi,Bi,Ei,Fi,Hi,Ii,Mi,Pi,Ri,Ti,Ui,Xi,kj,lj,nj;
+v16 ta,va;
+u8 *xa,*Fa,*Ga,*lb,*mb,*nb,*ob,*pb,*ub,*yb,*Ab,*Jb,*Kb,*Xb,*fc,*hc,*qc,*rc,*yc,*Hc,*Tc,*Vc,*Wc,*Xc,*Yc,*pd,*Rd,*Xd,*ie,*pe,*re,*Ne,*Te,*cf,*df,*mf,*tf,*Ef,*Rf,*Yf,*ig,*Hg,*Fh,*ai,*ei,*ii,*pi,*ri,*ti,*wi,*Ai,*Di,*Ni,*Oi,*Yi,*Zi,*ij,*jj,*mj;
+u16 Zc,ad,Gf,Hf,ng,ug;
+s_p_64 Ud,Vd,Wd,Qe,Re,Se;
+z12(ja);
 if(d==0){
-la=r4(b);
-ma=b[4];
-if(ma==0){
-na=umin64(la>>2,(f<<5)+1024);
+ka=r4(b);
+la=b[4];
+if(la==0){
+ma=umin64(ka>>2,(f<<5)+1024);
 if(r8(c+504)!=0)w8(c+504,0);
-w8(c+520,na);
-oa=r8(c+512);
-pa=umin64(oa,na);
-w8(c+528,pa);
+w8(c+520,ma);
+na=r8(c+512);
+oa=umin64(na,ma);
+w8(c+528,oa);
 if(r8(c+544)!=0)w8(c+544,0);
-qa=f&4294967295u;
-w8(c+560,qa);
-w8(c+568,umin64(r8(c+552),qa));
+pa=f&4294967295u;
+w8(c+560,pa);
+w8(c+568,umin64(r8(c+552),pa));
 if(r8(c+584)!=0)w8(c+584,0);
-w8(c+600,qa);
-w8(c+608,umin64(r8(c+592),qa));
+w8(c+600,pa);
+w8(c+608,umin64(r8(c+592),pa));
 c[668]=0;
 if(f<=65536){
 if(f<16){
-ra=are_few_named_14c(e,f);
-if(!ra)goto L1;}
+qa=are_few_named_14c(e,f);
+if(!qa)goto L1;}
 else{
-sa=f-16;
-if(sa==0)goto L2;
-ta=0;
-L3:ua=v16_at(e+ta);
-if((v16_ult(ua,splat(33))|v16_eq(ua,splat(127)))!=0)goto L1;
-va=ta+16;
-if(va<sa){
-ta=va;
+ra=f-16;
+if(ra==0)goto L2;
+sa=0;
+L3:ta=v16_at(e+sa);
+if((v16_ult(ta,splat(33))|v16_eq(ta,splat(127)))!=0)goto L1;
+ua=sa+16;
+if(ua<ra){
+sa=ua;
 goto L3;}
-L2:wa=v16_at(e+sa);
-if((v16_ult(wa,splat(33))|v16_eq(wa,splat(127)))!=0)goto L1;}
+L2:va=v16_at(e+ra);
+if((v16_ult(va,splat(33))|v16_eq(va,splat(127)))!=0)goto L1;}
 w4(U,0);
 w4(V,0);
 if(f!=0){
 if(f!=1&&*e==95){
 if(e[1]==90){
 if(f>=3){
-xa=e[2];
+wa=e[2];
 if(f<5){
-if(xa==90){
+if(wa==90){
 w8(c+672,3);
 w4(Q,0);
 if(f==3)goto L4;
-ya=c+672;
+xa=c+672;
 goto L5;}
-if((f!=3)&(xa==71)){
+if((f!=3)&(wa==71)){
 if(e[3]==86)goto L6;
 goto L7;}
-switch(xa){
+switch(wa){
 case 71:goto L7;
 case 84:if(f==3)goto L8;
 break;
 default:goto L9;
 }}
 else{
-switch(xa){
+switch(wa){
 case 90:w8(c+672,3);
 w4(Q,0);
-ya=c+672;
+xa=c+672;
 goto L5;
 case 71:if(e[3]!=86)goto L7;
 if(e[4]!=90)goto L6;
-if(pa<19){
-za=make_ready_8e3(c+496,19,128);
-if(!(za&1))goto L10;
-Aa=r8(c+512);
-Ba=r8(c+504);}
+if(oa<19){
+ya=make_ready_8e3(c+496,19,128);
+if(!(ya&1))goto L10;
+za=r8(c+512);
+Aa=r8(c+504);}
 else{
-Aa=oa;
-Ba=0;}
-if(Aa-Ba<19){
-Ca=grow_amortized_68b(c+496,19);
-if(!Ca)goto L10;
-Da=r8(c+512);
-Ea=r8(c+504);}
+za=na;
+Aa=0;}
+if(za-Aa<19){
+Ba=grow_amortized_68b(c+496,19);
+if(!Ba)goto L10;
+Ca=r8(c+512);
+Da=r8(c+504);}
 else{
-Da=Aa;
-Ea=Ba;}
-Fa=Ea+19;
-Ga=rp(c+496);
+Ca=za;
+Da=Aa;}
+Ea=Da+19;
+Fa=rp(c+496);
 z16(c+504);
-Ha=Ga+(i64)Ea;
-if((u64)Ha-(u64)(u8*)t_c270<19)copy_bits_4f4((u8*)t_c270,Ha,19);
-else memcpy(Ha,(u8*)t_c270,19);
-wp(c+496,Ga);
-w8(c+504,Fa);
-w8(c+512,Da);
+Ga=Fa+(i64)Da;
+if((u64)Ga-(u64)(u8*)t_c270<19)copy_bits_4f4((u8*)t_c270,Ga,19);
+else memcpy(Ga,(u8*)t_c270,19);
+wp(c+496,Fa);
+w8(c+504,Ea);
+w8(c+512,Ca);
 w8(c+672,5);
 w4(N,0);
 if(f!=5){
-Ia=e[5];
-switch(Ia){
+Ha=e[5];
+switch(Ha){
 case 78:w4(L,0);
 w4(M,1);
 w8(c+672,6);
 if(f!=6){
 switch(e[6]){
 case 75:if(f<=7){
-Ja=1;
-Ka=7;
+Ia=1;
+Ja=7;
 goto L11;}
 switch(e[7]){
-case 82:Ja=3;
-Ka=8;
+case 82:Ia=3;
+Ja=8;
 goto L11;
-case 79:Ja=5;
-Ka=8;
+case 79:Ia=5;
+Ja=8;
 goto L11;
-default:Ja=1;
-Ka=7;
+default:Ia=1;
+Ja=7;
 goto L11;
 }
 break;
-case 82:Ja=2;
-Ka=7;
+case 82:Ia=2;
+Ja=7;
 goto L11;
-case 79:Ja=4;
-Ka=7;
+case 79:Ia=4;
+Ja=7;
 goto L11;
 default:break;}}
-Ja=0;
-Ka=6;
-L11:w8(c+672,Ka);
-M[1]=Ja;
+Ia=0;
+Ja=6;
+L11:w8(c+672,Ja);
+M[1]=Ia;
 nest_at_979(L,c+496,e,f,M);
 *N=*L;
 N[1]=L[1];
@@ -75680,15 +75081,15 @@ begin_name_5a7(N,c+496,e,f);
 goto L12;
 case 83:begin_in_std_146(N,c+496,e,f);
 goto L12;
-default:if((u8)(Ia-97)<26){
+default:if((u8)(Ha-97)<26){
 begin_operator_03d(N,c+496,e,f);
 goto L12;}
 break;}}
 begin_name_5a7(N,c+496,e,f);
-L12:La=N[3];
-Ma=N[2];
-Na=N[1];
-Oa=*N;
+L12:Ka=N[3];
+La=N[2];
+Ma=N[1];
+Na=*N;
 goto L13;
 case 84:break;
 default:goto L9;
@@ -75702,47 +75103,47 @@ case 67:begin_clone_893(V);
 goto L14;
 default:break;}
 L8:begin_special_44d(V,c+496,e,f);
-L14:La=V[3];
-Ma=V[2];
-Na=V[1];
-Oa=*V;
+L14:Ka=V[3];
+La=V[2];
+Ma=V[1];
+Na=*V;
 goto L13;
 L9:w8(c+672,2);
 w4(T,0);
-Pa=e[2];
-switch(Pa){
+Oa=e[2];
+switch(Oa){
 case 78:w4(R,0);
 w4(S,1);
 w8(c+672,3);
 if(f!=3){
 switch(e[3]){
 case 75:if(f<=4){
-Qa=1;
-Ra=4;
+Pa=1;
+Qa=4;
 goto L15;}
 switch(e[4]){
-case 82:Qa=3;
-Ra=5;
+case 82:Pa=3;
+Qa=5;
 goto L15;
-case 79:Qa=5;
-Ra=5;
+case 79:Pa=5;
+Qa=5;
 goto L15;
-default:Qa=1;
-Ra=4;
+default:Pa=1;
+Qa=4;
 goto L15;
 }
 break;
-case 82:Qa=2;
-Ra=4;
+case 82:Pa=2;
+Qa=4;
 goto L15;
-case 79:Qa=4;
-Ra=4;
+case 79:Pa=4;
+Qa=4;
 goto L15;
 default:break;}}
-Qa=0;
-Ra=3;
-L15:w8(c+672,Ra);
-S[1]=Qa;
+Pa=0;
+Qa=3;
+L15:w8(c+672,Qa);
+S[1]=Pa;
 nest_at_979(R,c+496,e,f,S);
 *T=*R;
 T[1]=R[1];
@@ -75754,411 +75155,385 @@ begin_name_5a7(T,c+496,e,f);
 goto L16;
 case 83:begin_in_std_146(T,c+496,e,f);
 goto L16;
-default:if((u8)(Pa-97)>=26)goto L17;
+default:if((u8)(Oa-97)>=26)goto L17;
 begin_operator_03d(T,c+496,e,f);
 goto L16;
 }
 L7:begin_clone_893(U);
-La=U[3];
-Ma=U[2];
-Na=U[1];
-Oa=*U;
+Ka=U[3];
+La=U[2];
+Ma=U[1];
+Na=*U;
 goto L13;
 L6:begin_object_103(U,c+496,e,f);
-La=U[3];
-Ma=U[2];
-Na=U[1];
-Oa=*U;
+Ka=U[3];
+La=U[2];
+Ma=U[1];
+Na=*U;
 goto L13;
-L5:Sa=e[3];
-switch(Sa){
+L5:Ra=e[3];
+switch(Ra){
 case 78:w4(O,0);
 w4(P,1);
-w8(ya,4);
+w8(xa,4);
 if(f>4){
 switch(e[4]){
 case 75:if(f==5){
-Ta=1;
-Ua=5;
+Sa=1;
+Ta=5;
 goto L18;}
 switch(e[5]){
-case 82:Ta=3;
-Ua=6;
+case 82:Sa=3;
+Ta=6;
 goto L18;
-case 79:Ta=5;
-Ua=6;
+case 79:Sa=5;
+Ta=6;
 goto L18;
-default:Ta=1;
-Ua=5;
+default:Sa=1;
+Ta=5;
 goto L18;
 }
 break;
-case 82:Ta=2;
-Ua=5;
+case 82:Sa=2;
+Ta=5;
 goto L18;
-case 79:Ta=4;
-Ua=5;
+case 79:Sa=4;
+Ta=5;
 goto L18;
 default:break;}}
-Ta=0;
-Ua=4;
-L18:w8(ya,Ua);
-P[1]=Ta;
+Sa=0;
+Ta=4;
+L18:w8(xa,Ta);
+P[1]=Sa;
 nest_at_979(O,c+496,e,f,P);
 *Q=*O;
 Q[1]=O[1];
 Q[2]=O[2];
 Q[3]=O[3];
 goto L19;
-case 76:w8(ya,4);
+case 76:w8(xa,4);
 begin_name_5a7(Q,c+496,e,f);
 goto L19;
 case 83:begin_in_std_146(Q,c+496,e,f);
 goto L19;
-default:if((u8)(Sa-97)<26){
+default:if((u8)(Ra-97)<26){
 begin_operator_03d(Q,c+496,e,f);
 goto L19;}
 break;}
 L4:begin_name_5a7(Q,c+496,e,f);
-L19:La=Q[3];
-Ma=Q[2];
-Na=Q[1];
-Oa=*Q;
+L19:Ka=Q[3];
+La=Q[2];
+Ma=Q[1];
+Na=*Q;
 goto L13;}
 w8(c+672,2);
 w4(T,0);
 L17:begin_name_5a7(T,c+496,e,f);
-L16:La=T[3];
-Ma=T[2];
-Na=T[1];
-Oa=*T;
-L13:if(Oa!=1)goto L1;
-Va=f<<3;
-Wa=0;
+L16:Ka=T[3];
+La=T[2];
+Ma=T[1];
+Na=*T;
+L13:if(Na!=1)goto L1;
+Ua=f<<3;
+Va=0;
+Wa=Ka;
 Xa=La;
 Ya=Ma;
-Za=Na;
-L20:if(Za==7){
-ab=r8(c+504);
-if(ab>na)goto L21;
+L20:if(Ya==7){
+Za=r8(c+504);
+if(Za>ma)goto L21;
 if(r8(c+544)!=0)w8(c+544,0);
 z16(c+560);
 if(r8(c+584)!=0)w8(c+584,0);
 z16(c+600);
-bb=rp(c+496);
-cb=r8(g+16);
-db=r8(g+8);
-if(ab>cb-db){
-eb=grow_amortized_68b(g,ab);
-if(!eb){
-hb=1;
-ib=4;
-jb=0;
-goto L22;}
-fb=r8(g+16);
-gb=r8(g+8);}
-else{
-fb=cb;
-gb=db;}
-kb=gb+ab;
-lb=rp(g);
-z16(g+8);
-mb=lb+(i64)gb;
-if((u64)mb-(u64)bb<ab)copy_bits_4f4(bb,mb,ab);
-else memmove(mb,bb,ab);
-wp(g,lb);
-w8(g+8,kb);
-w8(g+16,fb);
-hb=0;
-ib=0;
-jb=0;
+ab=Za;
 goto L22;}
 w8(c+680,r8(c+680)+1);
-switch(Za){
+switch(Ya){
 case 0:w4(I,0);
 w4(J,0);
-nb=r8(c+672);
-if(nb<f){
-ob=r8(c+504);
-pb=ob;
-qb=*(e+nb);
-switch(qb){
+bb=r8(c+672);
+if(bb<f){
+cb=r8(c+504);
+db=cb;
+eb=*(e+bb);
+switch(eb){
 case 80:w4(G,0);
-rb=nb+1;
-if(rb<f){
-switch(*(e+rb)){
+fb=bb+1;
+if(fb<f){
+switch(*(e+fb)){
 case 70:begin_function_7aa(G,c+496,1);
 *J=*G;
 J[1]=G[1];
 J[2]=G[2];
-sb=G[3];
+gb=G[3];
 goto L23;
 case 65:begin_array_86f(G,c+496,e,f,1);
 *J=*G;
 J[1]=G[1];
 J[2]=G[2];
-sb=G[3];
+gb=G[3];
 goto L23;
 default:break;}}
-w8(c+672,rb);
-tb=r8(c+584);
-if(r8(c+608)>tb)ub=tb;
+w8(c+672,fb);
+hb=r8(c+584);
+if(r8(c+608)>hb)ib=hb;
 else{
-vb=make_ready_9a1(c+576);
-if(!(vb&1)){
-wb=0;
+jb=make_ready_9a1(c+576);
+if(!(jb&1)){
+kb=0;
 goto L24;}
-ub=r8(c+584);}
-xb=rp(c+576)+ub*44;
-*xb=0;
-xb[1]=0;
-x2(xb+2,0);
-x4(xb+4,pb);
-z36(xb+8);
-w8(c+584,ub+1);
-wb=1;
-L24:*J=wb;
+ib=r8(c+584);}
+lb=rp(c+576)+ib*44;
+*lb=0;
+lb[1]=0;
+x2(lb+2,0);
+x4(lb+4,db);
+z36(lb+8);
+w8(c+584,ib+1);
+kb=1;
+L24:*J=kb;
 J[1]=0;
 J[2]=0;
-sb=0;
-L23:J[3]=sb;
-yb=J+1;
-zb=J+2;
-Ab=J+3;
-Bb=J;
+gb=0;
+L23:J[3]=gb;
+mb=J+1;
+nb=J+2;
+ob=J+3;
+pb=J;
 goto L25;
 case 70:begin_function_7aa(J,c+496,0);
-yb=J+1;
-zb=J+2;
-Ab=J+3;
-Bb=J;
+mb=J+1;
+nb=J+2;
+ob=J+3;
+pb=J;
 goto L25;
-case 82:Cb=nb+1;
-if(Cb<f){
-if(*(e+Cb)==65){
+case 82:qb=bb+1;
+if(qb<f){
+if(*(e+qb)==65){
 begin_array_86f(I,c+496,e,f,2);
-yb=I+1;
-zb=I+2;
-Ab=I+3;
-Bb=I;
+mb=I+1;
+nb=I+2;
+ob=I+3;
+pb=I;
 goto L25;}}
-w8(c+672,Cb);
-Db=r8(c+584);
-if(r8(c+608)>Db)Eb=Db;
+w8(c+672,qb);
+rb=r8(c+584);
+if(r8(c+608)>rb)sb=rb;
 else{
-Fb=make_ready_9a1(c+576);
-if(!(Fb&1)){
+tb=make_ready_9a1(c+576);
+if(!(tb&1)){
 w4(J,0);
-yb=J+1;
-zb=J+2;
-Ab=J+3;
-Bb=J;
+mb=J+1;
+nb=J+2;
+ob=J+3;
+pb=J;
 goto L25;}
-Eb=r8(c+584);}
-Gb=rp(c+576)+Eb*44;
-*Gb=1;
-Gb[1]=0;
-x2(Gb+2,0);
-x4(Gb+4,pb);
-z36(Gb+8);
-w8(c+584,Eb+1);
+sb=r8(c+584);}
+ub=rp(c+576)+sb*44;
+*ub=1;
+ub[1]=0;
+x2(ub+2,0);
+x4(ub+4,db);
+z36(ub+8);
+w8(c+584,sb+1);
 *J=1;
 J[1]=0;
 J[2]=0;
 J[3]=0;
-yb=J+1;
-zb=J+2;
-Ab=J+3;
-Bb=J;
+mb=J+1;
+nb=J+2;
+ob=J+3;
+pb=J;
 goto L25;
 case 65:begin_array_86f(J,c+496,e,f,0);
-yb=J+1;
-zb=J+2;
-Ab=J+3;
-Bb=J;
+mb=J+1;
+nb=J+2;
+ob=J+3;
+pb=J;
 goto L25;
 case 79:rvalue_at_e1d(J,c+496,e,f);
-yb=J+1;
-zb=J+2;
-Ab=J+3;
-Bb=J;
+mb=J+1;
+nb=J+2;
+ob=J+3;
+pb=J;
 goto L25;
-case 75:w8(c+672,nb+1);
-Hb=r8(c+584);
-if(r8(c+608)>Hb)Ib=Hb;
+case 75:w8(c+672,bb+1);
+vb=r8(c+584);
+if(r8(c+608)>vb)wb=vb;
 else{
-Jb=make_ready_9a1(c+576);
-if(!(Jb&1)){
+xb=make_ready_9a1(c+576);
+if(!(xb&1)){
 w4(J,0);
-yb=J+1;
-zb=J+2;
-Ab=J+3;
-Bb=J;
+mb=J+1;
+nb=J+2;
+ob=J+3;
+pb=J;
 goto L25;}
-Ib=r8(c+584);}
-Kb=rp(c+576)+Ib*44;
-*Kb=3;
-Kb[1]=0;
-x2(Kb+2,0);
-x4(Kb+4,pb);
-z36(Kb+8);
-w8(c+584,Ib+1);
+wb=r8(c+584);}
+yb=rp(c+576)+wb*44;
+*yb=3;
+yb[1]=0;
+x2(yb+2,0);
+x4(yb+4,db);
+z36(yb+8);
+w8(c+584,wb+1);
 *J=1;
 J[1]=1;
 J[2]=0;
 J[3]=0;
-yb=J+1;
-zb=J+2;
-Ab=J+3;
-Bb=J;
+mb=J+1;
+nb=J+2;
+ob=J+3;
+pb=J;
 goto L25;
 case 78:w4(C,0);
 w4(D,0);
-w8(c+672,nb+1);
+w8(c+672,bb+1);
 nest_at_979(C,c+496,e,f,D);
 *J=*C;
 J[1]=C[1];
 J[2]=C[2];
 J[3]=C[3];
-yb=J+1;
-zb=J+2;
-Ab=J+3;
-Bb=J;
+mb=J+1;
+nb=J+2;
+ob=J+3;
+pb=J;
 goto L25;
 case 83:case 90:break;
 case 68:builtin_with_d_cb0(J,c+496,e,f);
-yb=J+1;
-zb=J+2;
-Ab=J+3;
-Bb=J;
+mb=J+1;
+nb=J+2;
+ob=J+3;
+pb=J;
 goto L25;
 case 84:template_parameter_3b0(J,c+496,e,f);
-yb=J+1;
-zb=J+2;
-Ab=J+3;
-Bb=J;
+mb=J+1;
+nb=J+2;
+ob=J+3;
+pb=J;
 goto L25;
-default:if((u8)(qb-49)>=9){
-Lb=qb-97;
-if(Lb>=26){
-yb=J+1;
-zb=J+2;
-Ab=J+3;
-Bb=J;
+default:if((u8)(eb-49)>=9){
+zb=eb-97;
+if(zb>=26){
+mb=J+1;
+nb=J+2;
+ob=J+3;
+pb=J;
 goto L25;}
-if(!(u8)(((u32)65829887>>Lb)&1)){
-yb=J+1;
-zb=J+2;
-Ab=J+3;
-Bb=J;
+if(!(u8)(((u32)65829887>>zb)&1)){
+mb=J+1;
+nb=J+2;
+ob=J+3;
+pb=J;
 goto L25;}
-Mb=rp((u8*)t_e7e8+(u64)Lb*8);
-Nb=r8((u8*)t_f635+(u64)Lb*8);
-w8(c+672,nb+1);
-if(r8(c+528)-ob<Nb){
-Ob=make_ready_8e3(c+496,Nb,128);
-if(!(Ob&1))goto L26;
-Pb=r8(c+504);}
-else Pb=ob;
-Qb=r8(c+512);
-if(Nb>Qb-Pb){
-Rb=grow_amortized_68b(c+496,Nb);
-if(!Rb)goto L26;
-Sb=r8(c+512);
-Tb=r8(c+504);}
+Ab=rp((u8*)t_e7e8+(u64)zb*8);
+Bb=r8((u8*)t_f635+(u64)zb*8);
+w8(c+672,bb+1);
+if(r8(c+528)-cb<Bb){
+Cb=make_ready_8e3(c+496,Bb,128);
+if(!(Cb&1))goto L26;
+Db=r8(c+504);}
+else Db=cb;
+Eb=r8(c+512);
+if(Bb>Eb-Db){
+Fb=grow_amortized_68b(c+496,Bb);
+if(!Fb)goto L26;
+Gb=r8(c+512);
+Hb=r8(c+504);}
 else{
-Sb=Qb;
-Tb=Pb;}
-Ub=Tb+Nb;
-Vb=rp(c+496);
+Gb=Eb;
+Hb=Db;}
+Ib=Hb+Bb;
+Jb=rp(c+496);
 z16(c+504);
-Wb=Vb+(i64)Tb;
-if((u64)Wb-(u64)Mb<Nb)copy_bits_4f4(Mb,Wb,Nb);
-else memmove(Wb,Mb,Nb);
-wp(c+496,Vb);
-w8(c+504,Ub);
-w8(c+512,Sb);
+Kb=Jb+(i64)Hb;
+if((u64)Kb-(u64)Ab<Bb)copy_bits_4f4(Ab,Kb,Bb);
+else memmove(Kb,Ab,Bb);
+wp(c+496,Jb);
+w8(c+504,Ib);
+w8(c+512,Gb);
 *J=1;
 J[1]=2;
 J[2]=0;
 J[3]=0;
-yb=J+1;
-zb=J+2;
-Ab=J+3;
-Bb=J;
+mb=J+1;
+nb=J+2;
+ob=J+3;
+pb=J;
 goto L25;
 L26:w4(J,0);
-yb=J+1;
-zb=J+2;
-Ab=J+3;
-Bb=J;
+mb=J+1;
+nb=J+2;
+ob=J+3;
+pb=J;
 goto L25;}
 break;}
 named_type_132(J,c+496,e,f);
-yb=J+1;
-zb=J+2;
-Ab=J+3;
-Bb=J;}
+mb=J+1;
+nb=J+2;
+ob=J+3;
+pb=J;}
 else{
-yb=J+1;
-zb=J+2;
-Ab=J+3;
-Bb=J;}
-L25:Xb=*Ab;
-Yb=*zb;
-Zb=*yb;
-ac=*Bb;
+mb=J+1;
+nb=J+2;
+ob=J+3;
+pb=J;}
+L25:Lb=*ob;
+Mb=*nb;
+Nb=*mb;
+Ob=*pb;
 goto L27;
 case 1:w4(H,0);
-bc=r8(c+672);
-if(bc<f){
-cc=r8(c+504);
-dc=cc;
-ec=*(e+bc);
-switch(ec){
-case 80:w8(c+672,bc+1);
-fc=r8(c+584);
-if(r8(c+608)>fc)gc=fc;
+Pb=r8(c+672);
+if(Pb<f){
+Qb=r8(c+504);
+Rb=Qb;
+Sb=*(e+Pb);
+switch(Sb){
+case 80:w8(c+672,Pb+1);
+Tb=r8(c+584);
+if(r8(c+608)>Tb)Ub=Tb;
 else{
-hc=make_ready_9a1(c+576);
-if(!(hc&1)){
-ic=0;
+Vb=make_ready_9a1(c+576);
+if(!(Vb&1)){
+Wb=0;
 goto L28;}
-gc=r8(c+584);}
-jc=rp(c+576)+gc*44;
-*jc=0;
-jc[1]=0;
-x2(jc+2,0);
-x4(jc+4,dc);
-z36(jc+8);
-w8(c+584,gc+1);
-ic=1;
-L28:*H=ic;
+Ub=r8(c+584);}
+Xb=rp(c+576)+Ub*44;
+*Xb=0;
+Xb[1]=0;
+x2(Xb+2,0);
+x4(Xb+4,Rb);
+z36(Xb+8);
+w8(c+584,Ub+1);
+Wb=1;
+L28:*H=Wb;
 H[1]=0;
 H[2]=0;
 H[3]=0;
 goto L29;
-case 70:case 65:case 75:kc=0;
-lc=0;
-mc=0;
-nc=0;
+case 70:case 65:case 75:Yb=0;
+Zb=0;
+ac=0;
+bc=0;
 goto L30;
-case 82:w8(c+672,bc+1);
-oc=r8(c+584);
-if(r8(c+608)>oc)pc=oc;
+case 82:w8(c+672,Pb+1);
+cc=r8(c+584);
+if(r8(c+608)>cc)dc=cc;
 else{
-qc=make_ready_9a1(c+576);
-if(!(qc&1)){
+ec=make_ready_9a1(c+576);
+if(!(ec&1)){
 w4(H,0);
 goto L29;}
-pc=r8(c+584);}
-rc=rp(c+576)+pc*44;
-*rc=1;
-rc[1]=0;
-x2(rc+2,0);
-x4(rc+4,dc);
-z36(rc+8);
-w8(c+584,pc+1);
+dc=r8(c+584);}
+fc=rp(c+576)+dc*44;
+*fc=1;
+fc[1]=0;
+x2(fc+2,0);
+x4(fc+4,Rb);
+z36(fc+8);
+w8(c+584,dc+1);
 *H=1;
 H[1]=0;
 H[2]=0;
@@ -76168,7 +75543,7 @@ case 79:rvalue_at_e1d(H,c+496,e,f);
 goto L29;
 case 78:w4(E,0);
 w4(F,0);
-w8(c+672,bc+1);
+w8(c+672,Pb+1);
 nest_at_979(E,c+496,e,f,F);
 *H=*E;
 H[1]=E[1];
@@ -76180,36 +75555,36 @@ case 68:builtin_with_d_cb0(H,c+496,e,f);
 goto L29;
 case 84:template_parameter_3b0(H,c+496,e,f);
 goto L29;
-default:if((u8)(ec-49)>=9){
-sc=ec-97;
-if(sc>=26)goto L29;
-if(!(u8)(((u32)65829887>>sc)&1))goto L29;
-tc=rp((u8*)t_e7e8+(u64)sc*8);
-uc=r8((u8*)t_f635+(u64)sc*8);
-w8(c+672,bc+1);
-if(r8(c+528)-cc<uc){
-vc=make_ready_8e3(c+496,uc,128);
-if(!(vc&1))goto L31;
-wc=r8(c+504);}
-else wc=cc;
-xc=r8(c+512);
-if(uc>xc-wc){
-yc=grow_amortized_68b(c+496,uc);
-if(!yc)goto L31;
-zc=r8(c+512);
-Ac=r8(c+504);}
+default:if((u8)(Sb-49)>=9){
+gc=Sb-97;
+if(gc>=26)goto L29;
+if(!(u8)(((u32)65829887>>gc)&1))goto L29;
+hc=rp((u8*)t_e7e8+(u64)gc*8);
+ic=r8((u8*)t_f635+(u64)gc*8);
+w8(c+672,Pb+1);
+if(r8(c+528)-Qb<ic){
+jc=make_ready_8e3(c+496,ic,128);
+if(!(jc&1))goto L31;
+kc=r8(c+504);}
+else kc=Qb;
+lc=r8(c+512);
+if(ic>lc-kc){
+mc=grow_amortized_68b(c+496,ic);
+if(!mc)goto L31;
+nc=r8(c+512);
+oc=r8(c+504);}
 else{
-zc=xc;
-Ac=wc;}
-Bc=Ac+uc;
-Cc=rp(c+496);
+nc=lc;
+oc=kc;}
+pc=oc+ic;
+qc=rp(c+496);
 z16(c+504);
-Dc=Cc+(i64)Ac;
-if((u64)Dc-(u64)tc<uc)copy_bits_4f4(tc,Dc,uc);
-else memmove(Dc,tc,uc);
-wp(c+496,Cc);
-w8(c+504,Bc);
-w8(c+512,zc);
+rc=qc+(i64)oc;
+if((u64)rc-(u64)hc<ic)copy_bits_4f4(hc,rc,ic);
+else memmove(rc,hc,ic);
+wp(c+496,qc);
+w8(c+504,pc);
+w8(c+512,nc);
 *H=1;
 H[1]=2;
 H[2]=0;
@@ -76219,653 +75594,653 @@ L31:w4(H,0);
 goto L29;}
 break;}
 named_type_132(H,c+496,e,f);}
-L29:kc=H[3];
-lc=H[2];
-mc=H[1];
-nc=*H;
-L30:Xb=kc;
-Yb=lc;
-Zb=mc;
-ac=nc;
+L29:Yb=H[3];
+Zb=H[2];
+ac=H[1];
+bc=*H;
+L30:Lb=Yb;
+Mb=Zb;
+Nb=ac;
+Ob=bc;
 goto L27;
 case 4:if(!(c[632]&1)){
-Ec=r4(c+616);
-Fc=c[635];
-Gc=r8(c+504);
-Hc=r8(c+544);
-if(r8(c+568)>Hc)Ic=Hc;
+sc=r4(c+616);
+tc=c[635];
+uc=r8(c+504);
+vc=r8(c+544);
+if(r8(c+568)>vc)wc=vc;
 else{
-Jc=make_ready_17a(c+536);
-if(!(Jc&1))goto L32;
-Ic=r8(c+544);}
-Kc=rp(c+536)+Ic*12;
-x4(Kc,Ec);
-x4(Kc+4,Gc);
-Kc[8]=0;
-Kc[9]=Fc;
-x2(Kc+10,0);
-w8(c+544,Ic+1);}
-Lc=r8(c+672);
-if(Lc<f){
-if(*(e+Lc)==73){
+xc=make_ready_17a(c+536);
+if(!(xc&1))goto L32;
+wc=r8(c+544);}
+yc=rp(c+536)+wc*12;
+x4(yc,sc);
+x4(yc+4,uc);
+yc[8]=0;
+yc[9]=tc;
+x2(yc+10,0);
+w8(c+544,wc+1);}
+zc=r8(c+672);
+if(zc<f){
+if(*(e+zc)==73){
 memcpy(K,c+616,20);
 z20(K+20);
-Mc=r8(c+504);
-if(r8(c+528)>Mc)Nc=Mc;
+Ac=r8(c+504);
+if(r8(c+528)>Ac)Bc=Ac;
 else{
-Oc=make_ready_8e3(c+496,1,16);
-if(!(Oc&1))goto L32;
-Nc=r8(c+504);}
-*(rp(c+496)+Nc)=60;
-w8(c+504,Nc+1);
-Pc=r8(c+672);
-if(Pc==18446744073709551615u)goto L32;
-w8(c+672,Pc+1);
-Qc=r8(c+584);
-if(r8(c+608)>Qc)Rc=Qc;
+Cc=make_ready_8e3(c+496,1,16);
+if(!(Cc&1))goto L32;
+Bc=r8(c+504);}
+*(rp(c+496)+Bc)=60;
+w8(c+504,Bc+1);
+Dc=r8(c+672);
+if(Dc==18446744073709551615u)goto L32;
+w8(c+672,Dc+1);
+Ec=r8(c+584);
+if(r8(c+608)>Ec)Fc=Ec;
 else{
-Sc=make_ready_9a1(c+576);
-if(!(Sc&1))goto L32;
-Rc=r8(c+584);}
-Tc=rp(c+576)+Rc*44;
-*Tc=6;
-Tc[1]=0;
-x2(Tc+2,0);
-memcpy(Tc+4,K,40);
-w8(c+584,Rc+1);
-Uc=0;
-Vc=1;
-Wc=3;}
+Gc=make_ready_9a1(c+576);
+if(!(Gc&1))goto L32;
+Fc=r8(c+584);}
+Hc=rp(c+576)+Fc*44;
+*Hc=6;
+Hc[1]=0;
+x2(Hc+2,0);
+memcpy(Hc+4,K,40);
+w8(c+584,Fc+1);
+Ic=0;
+Jc=1;
+Kc=3;}
 else{
-Uc=0;
-Vc=0;
-Wc=6;}}
+Ic=0;
+Jc=0;
+Kc=6;}}
 else{
-Uc=0;
-Vc=0;
-Wc=6;}
+Ic=0;
+Jc=0;
+Kc=6;}
 break;
-case 5:Xc=r8(c+672);
-if(Xc<f){
-if(*(e+Xc)==69){
-Yc=c[628];
-if(Yc==0){
-w8(c+672,Xc+1);
-Zc=c[635];
+case 5:Lc=r8(c+672);
+if(Lc<f){
+if(*(e+Lc)==69){
+Mc=c[628];
+if(Mc==0){
+w8(c+672,Lc+1);
+Nc=c[635];
 if(c[632]&1){
-Uc=Zc;
-Vc=0;
-Wc=2;
+Ic=Nc;
+Jc=0;
+Kc=2;
 break;}
-ad=r4(c+616);
-bd=r8(c+504);
-cd=r8(c+544);
-if(r8(c+568)>cd)dd=cd;
+Oc=r4(c+616);
+Pc=r8(c+504);
+Qc=r8(c+544);
+if(r8(c+568)>Qc)Rc=Qc;
 else{
-ed=make_ready_17a(c+536);
-if(!(ed&1))goto L32;
-dd=r8(c+544);}
-fd=rp(c+536)+dd*12;
-x4(fd,ad);
-x4(fd+4,bd);
-fd[8]=0;
-fd[9]=Zc;
-x2(fd+10,0);
-w8(c+544,dd+1);
-Uc=c[635];
-Vc=0;
-Wc=2;
+Sc=make_ready_17a(c+536);
+if(!(Sc&1))goto L32;
+Rc=r8(c+544);}
+Tc=rp(c+536)+Rc*12;
+x4(Tc,Oc);
+x4(Tc+4,Pc);
+Tc[8]=0;
+Tc[9]=Nc;
+x2(Tc+10,0);
+w8(c+544,Rc+1);
+Ic=c[635];
+Jc=0;
+Kc=2;
 break;}
 w4(B,0);
-w8(c+672,Xc+1);
-gd=c[629];
-switch(Yc){
-case 3:addressed_named_a52(B,c+496,e,f,gd);
-hd=B+1;
-id=B+2;
-jd=B+3;
-kd=B;
+w8(c+672,Lc+1);
+Uc=c[629];
+switch(Mc){
+case 3:addressed_named_a52(B,c+496,e,f,Uc);
+Vc=B+1;
+Wc=B+2;
+Xc=B+3;
+Yc=B;
 break;
 case 1:if(c[634]&1){
-ld=q2(c+636);
-md=q2(c+638);
+Zc=q2(c+636);
+ad=q2(c+638);
 memcpy(A+4,c+640,16);
-nd=q8(c+656);
-od=c[664];
-pd=c[665];
-qd=c[666];
-sd=c[667];
-w2(A,ld);
-w2(A+2,md);
-x8(A+20,nd);
-A[28]=od;
-A[29]=pd;
-A[30]=qd;
-A[31]=sd;
-td=c[633]&1;}
+bd=q8(c+656);
+cd=c[664];
+dd=c[665];
+ed=c[666];
+fd=c[667];
+w2(A,Zc);
+w2(A+2,ad);
+x8(A+20,bd);
+A[28]=cd;
+A[29]=dd;
+A[30]=ed;
+A[31]=fd;
+gd=c[633]&1;}
 else{
 z32(A);
-td=0;}
-name_ended_8aa(B,c+496,e,f,gd,td,A,r4(c+616));
-hd=B+1;
-id=B+2;
-jd=B+3;
-kd=B;
+gd=0;}
+name_ended_8aa(B,c+496,e,f,Uc,gd,A,r4(c+616));
+Vc=B+1;
+Wc=B+2;
+Xc=B+3;
+Yc=B;
 break;
 case 2:if(c[634]&1){
-ud=r4(c+616);
+hd=r4(c+616);
 if(c[633]&1){
-enclosing_instance_e2f(z,c+496,e,f,gd,r2(c+630),ud);
-hd=z+1;
-id=z+2;
-jd=z+3;
-kd=z;
+enclosing_instance_e2f(z,c+496,e,f,Uc,r2(c+630),hd);
+Vc=z+1;
+Wc=z+2;
+Xc=z+3;
+Yc=z;
 break;}
-vd=ud;}
-else vd=r4(c+616);
-enclosing_named_54a(B,c+496,e,f,gd,vd);
-hd=B+1;
-id=B+2;
-jd=B+3;
-kd=B;
+id=hd;}
+else id=r4(c+616);
+enclosing_named_54a(B,c+496,e,f,Uc,id);
+Vc=B+1;
+Wc=B+2;
+Xc=B+3;
+Yc=B;
 break;
 default:NEVER;
 }
-Xb=*jd;
-Yb=*id;
-Zb=*hd;
-ac=*kd;
+Lb=*Xc;
+Mb=*Wc;
+Nb=*Vc;
+Ob=*Yc;
 goto L27;}}
 if(c[632]&1){
-Uc=0;
-Vc=0;
-Wc=6;}
+Ic=0;
+Jc=0;
+Kc=6;}
 else{
-xd=r4(c+616);
-yd=c[635];
-zd=r8(c+504);
-Ad=r8(c+544);
-if(r8(c+568)>Ad)Bd=Ad;
+jd=r4(c+616);
+kd=c[635];
+ld=r8(c+504);
+md=r8(c+544);
+if(r8(c+568)>md)nd=md;
 else{
-Cd=make_ready_17a(c+536);
-if(!(Cd&1))goto L32;
-Bd=r8(c+544);}
-Dd=rp(c+536)+Bd*12;
-x4(Dd,xd);
-x4(Dd+4,zd);
-Dd[8]=0;
-Dd[9]=yd;
-x2(Dd+10,0);
-w8(c+544,Bd+1);
-Uc=0;
-Vc=0;
-Wc=6;}
+od=make_ready_17a(c+536);
+if(!(od&1))goto L32;
+nd=r8(c+544);}
+pd=rp(c+536)+nd*12;
+x4(pd,jd);
+x4(pd+4,ld);
+pd[8]=0;
+pd[9]=kd;
+x2(pd+10,0);
+w8(c+544,nd+1);
+Ic=0;
+Jc=0;
+Kc=6;}
 break;
-case 6:case 2:case 3:Uc=Xa;
-Vc=Ya;
-Wc=Za;
+case 6:case 2:case 3:Ic=Wa;
+Jc=Xa;
+Kc=Ya;
 break;
 default:NEVER;
 }
-Ed=Wc;
-Fd=Vc;
-Gd=Uc;
+qd=Kc;
+sd=Jc;
+td=Ic;
 goto L33;
 L32:goto L1;
-L27:if(ac!=1)goto L1;
-Ed=Zb;
-Fd=Yb;
-Gd=Xb;
-L33:if(Ed!=6){
-Id=Ed;
-Jd=Fd;
-Kd=Gd;
+L27:if(Ob!=1)goto L1;
+qd=Nb;
+sd=Mb;
+td=Lb;
+L33:if(qd!=6){
+vd=qd;
+xd=sd;
+yd=td;
 goto L34;}
-Hd=0;
+ud=0;
 L35:w4(aa,0);
-Ld=r8(c+672);
-if(Ld<f){
-Md=*(e+Ld);
-switch(Md){
+zd=r8(c+672);
+if(zd<f){
+Ad=*(e+zd);
+switch(Ad){
 case 67:constructor_f6d(aa,c+496,e,f);
 break;
 case 68:destructor_7cd(aa,c+496,e,f);
 break;
-case 76:w8(c+672,Ld+1);
-Nd=r8(c+504);
-if(r8(c+528)-Nd<2){
-Od=make_ready_8e3(c+496,2,128);
-if(!(Od&1))goto L36;
-Pd=r8(c+504);}
-else Pd=Nd;
-*(rp(c+496)+Pd)=58;
-*(rp(c+496)+(i64)Pd+1)=58;
-Qd=Pd+2;
-w8(c+504,Qd);
-Rd=r8(c+672);
+case 76:w8(c+672,zd+1);
+Bd=r8(c+504);
+if(r8(c+528)-Bd<2){
+Cd=make_ready_8e3(c+496,2,128);
+if(!(Cd&1))goto L36;
+Dd=r8(c+504);}
+else Dd=Bd;
+*(rp(c+496)+Dd)=58;
+*(rp(c+496)+(i64)Dd+1)=58;
+Ed=Dd+2;
+w8(c+504,Ed);
+Fd=r8(c+672);
 z24(X);
-if(Rd<f){
-Sd=*(e+Rd);
-if((u8)(Sd-58)>=247){
-Td=Qd;
-Ud=Rd+1;
-if(Ud<f){
-Vd=*(e+Ud)-48;
-if(Vd<10){
-Wd=Rd+2;
-if(Wd<f){
-if((u8)(*(e+Wd)-48)<10){
-long_name_at_8ad(X,e,f,Rd);
+if(Fd<f){
+Gd=*(e+Fd);
+if((u8)(Gd-58)>=247){
+Hd=Ed;
+Id=Fd+1;
+if(Id<f){
+Jd=*(e+Id)-48;
+if(Jd<10){
+Kd=Fd+2;
+if(Kd<f){
+if((u8)(*(e+Kd)-48)<10){
+long_name_at_8ad(X,e,f,Fd);
 if(*X!=1)goto L36;
-Xd=r8(X+8);
-Yd=r8(X+16);
+Ld=r8(X+8);
+Md=r8(X+16);
 goto L37;}}
-Zd=(u64)Vd+(u8)((u8)(Sd*10)+32);
-if(f-Wd<Zd)goto L38;
-if((u8)(*(e+(i64)Wd)-48)<10)goto L38;
-ae=Zd+Wd;
-be=Wd;
+Nd=(u64)Jd+(u8)((u8)(Gd*10)+32);
+if(f-Kd<Nd)goto L38;
+if((u8)(*(e+(i64)Kd)-48)<10)goto L38;
+Od=Nd+Kd;
+Pd=Kd;
 goto L39;}}
-ce=Sd-48;
-if(f-Ud<ce)goto L38;
-if((u8)(*(e+(i64)Ud)-48)<10)goto L38;
-ae=Ud+ce;
-be=Ud;
-L39:Xd=be;
-Yd=ae;
-L37:w8(c+672,Yd);
-de=e+(i64)Xd;
-ee=Yd-Xd;
-if(Yd!=Xd){
-if(!(ee<10||*de!=95)){
-fe=parts_equal_58b((u8*)t_35ad,10,de,10);
-if(fe){
-ge=(s_p_64){(u8*)t_62ff,21};
+Qd=Gd-48;
+if(f-Id<Qd)goto L38;
+if((u8)(*(e+(i64)Id)-48)<10)goto L38;
+Od=Id+Qd;
+Pd=Id;
+L39:Ld=Pd;
+Md=Od;
+L37:w8(c+672,Md);
+Rd=e+(i64)Ld;
+Sd=Md-Ld;
+if(Md!=Ld){
+if(!(Sd<10||*Rd!=95)){
+Td=parts_equal_58b((u8*)t_35ad,10,Rd,10);
+if(Td){
+Ud=(s_p_64){(u8*)t_62ff,21};
 goto L40;}}}
-he=(s_p_64){0};he.f0=de;
-ie=he;ie.f1=ee;
-ge=ie;
-L40:je=ge.f0;
-ke=ge.f1;
-if(r8(c+528)-Qd<ke){
-le=make_ready_8e3(c+496,ke,128);
-if(!(le&1))goto L36;}
-me=extend_from_slice_674(c+496,je,ke);
-if(me&1)goto L36;
-ne=r8(c+504);
-oe=c[635];
-w4(c+620,Td);
-w4(c+624,ne);
+Vd=(s_p_64){0};Vd.f0=Rd;
+Wd=Vd;Wd.f1=Sd;
+Ud=Wd;
+L40:Xd=Ud.f0;
+Yd=Ud.f1;
+if(r8(c+528)-Ed<Yd){
+Zd=make_ready_8e3(c+496,Yd,128);
+if(!(Zd&1))goto L36;}
+ae=extend_from_slice_674(c+496,Xd,Yd);
+if(ae&1)goto L36;
+be=r8(c+504);
+ce=c[635];
+w4(c+620,Hd);
+w4(c+624,be);
 c[632]=0;
 c[633]=1;
 c[634]=0;
-pe=r8(c+672);
-if(pe>=f){
-Ee=0;
-Fe=5;
+de=r8(c+672);
+if(de>=f){
+se=0;
+te=5;
 goto L41;}
-if(*(e+pe)!=73){
-Ee=0;
-Fe=5;
+if(*(e+de)!=73){
+se=0;
+te=5;
 goto L41;}
-qe=r4(c+616);
-re=r8(c+544);
-if(r8(c+568)>re)se=re;
+ee=r4(c+616);
+fe=r8(c+544);
+if(r8(c+568)>fe)ge=fe;
 else{
-te=make_ready_17a(c+536);
-if(!(te&1))goto L42;
-se=r8(c+544);}
-ue=rp(c+536)+se*12;
-x4(ue,qe);
-x4(ue+4,ne);
-ue[8]=0;
-ue[9]=oe;
-x2(ue+10,0);
-w8(c+544,se+1);
+he=make_ready_17a(c+536);
+if(!(he&1))goto L42;
+ge=r8(c+544);}
+ie=rp(c+536)+ge*12;
+x4(ie,ee);
+x4(ie+4,be);
+ie[8]=0;
+ie[9]=ce;
+x2(ie+10,0);
+w8(c+544,ge+1);
 memcpy(W,c+616,20);
 z20(W+20);
-ve=r8(c+504);
-if(r8(c+528)>ve)we=ve;
+je=r8(c+504);
+if(r8(c+528)>je)ke=je;
 else{
-xe=make_ready_8e3(c+496,1,16);
-if(!(xe&1))goto L42;
-we=r8(c+504);}
-*(rp(c+496)+we)=60;
-w8(c+504,we+1);
-ye=r8(c+672);
-if(ye==18446744073709551615u)goto L42;
-w8(c+672,ye+1);
-ze=r8(c+584);
-if(r8(c+608)>ze){
-Ae=ze;
-Be=W;
+le=make_ready_8e3(c+496,1,16);
+if(!(le&1))goto L42;
+ke=r8(c+504);}
+*(rp(c+496)+ke)=60;
+w8(c+504,ke+1);
+me=r8(c+672);
+if(me==18446744073709551615u)goto L42;
+w8(c+672,me+1);
+ne=r8(c+584);
+if(r8(c+608)>ne){
+oe=ne;
+pe=W;
 goto L43;}
-Ce=make_ready_9a1(c+576);
-if(!(Ce&1))goto L42;
-De=W;
+qe=make_ready_9a1(c+576);
+if(!(qe&1))goto L42;
+re=W;
 goto L44;}}
 L38:goto L36;
 case 85:begin_component_d5a(aa,c+496,e,f);
 break;
-default:if((u8)(Md-97)>=26)goto L45;
+default:if((u8)(Ad-97)>=26)goto L45;
 operator_833(aa,c+496,e,f);
 break;}
 if(*aa!=1)goto L1;
-Ge=aa[1];
-He=aa[2];
-Ie=aa[3];
+ue=aa[1];
+ve=aa[2];
+we=aa[3];
 goto L46;}
-L45:Je=r8(c+504);
-if(r8(c+528)-Je<2){
-Ke=make_ready_8e3(c+496,2,128);
-if(!(Ke&1))goto L36;
-Le=r8(c+504);}
-else Le=Je;
-*(rp(c+496)+Le)=58;
-*(rp(c+496)+(i64)Le+1)=58;
-Me=Le+2;
-w8(c+504,Me);
-Ne=r8(c+672);
+L45:xe=r8(c+504);
+if(r8(c+528)-xe<2){
+ye=make_ready_8e3(c+496,2,128);
+if(!(ye&1))goto L36;
+ze=r8(c+504);}
+else ze=xe;
+*(rp(c+496)+ze)=58;
+*(rp(c+496)+(i64)ze+1)=58;
+Ae=ze+2;
+w8(c+504,Ae);
+Be=r8(c+672);
 z24(Z);
-if(Ne<f){
-Oe=*(e+Ne);
-if((u8)(Oe-58)>=247){
-Pe=Me;
-Qe=Ne+1;
-if(Qe<f){
-Re=*(e+Qe)-48;
-if(Re<10){
-Se=Ne+2;
-if(Se<f){
-if((u8)(*(e+Se)-48)<10){
-long_name_at_8ad(Z,e,f,Ne);
+if(Be<f){
+Ce=*(e+Be);
+if((u8)(Ce-58)>=247){
+De=Ae;
+Ee=Be+1;
+if(Ee<f){
+Fe=*(e+Ee)-48;
+if(Fe<10){
+Ge=Be+2;
+if(Ge<f){
+if((u8)(*(e+Ge)-48)<10){
+long_name_at_8ad(Z,e,f,Be);
 if(*Z!=1)goto L36;
-Te=r8(Z+8);
-Ue=r8(Z+16);
+He=r8(Z+8);
+Ie=r8(Z+16);
 goto L47;}}
-Ve=(u64)Re+(u8)((u8)(Oe*10)+32);
-if(f-Se<Ve)goto L48;
-if((u8)(*(e+(i64)Se)-48)<10)goto L48;
-We=Ve+Se;
-Xe=Se;
+Je=(u64)Fe+(u8)((u8)(Ce*10)+32);
+if(f-Ge<Je)goto L48;
+if((u8)(*(e+(i64)Ge)-48)<10)goto L48;
+Ke=Je+Ge;
+Le=Ge;
 goto L49;}}
-Ye=Oe-48;
-if(f-Qe<Ye)goto L48;
-if((u8)(*(e+(i64)Qe)-48)<10)goto L48;
-We=Qe+Ye;
-Xe=Qe;
-L49:Te=Xe;
-Ue=We;
-L47:w8(c+672,Ue);
-Ze=e+(i64)Te;
-af=Ue-Te;
-if(Ue!=Te){
-if(!(af<10||*Ze!=95)){
-bf=parts_equal_58b((u8*)t_35ad,10,Ze,10);
-if(bf){
-cf=(s_p_64){(u8*)t_62ff,21};
+Me=Ce-48;
+if(f-Ee<Me)goto L48;
+if((u8)(*(e+(i64)Ee)-48)<10)goto L48;
+Ke=Ee+Me;
+Le=Ee;
+L49:He=Le;
+Ie=Ke;
+L47:w8(c+672,Ie);
+Ne=e+(i64)He;
+Oe=Ie-He;
+if(Ie!=He){
+if(!(Oe<10||*Ne!=95)){
+Pe=parts_equal_58b((u8*)t_35ad,10,Ne,10);
+if(Pe){
+Qe=(s_p_64){(u8*)t_62ff,21};
 goto L50;}}}
-df=(s_p_64){0};df.f0=Ze;
-ef=df;ef.f1=af;
-cf=ef;
-L50:ff=cf.f0;
-gf=cf.f1;
-if(r8(c+528)-Me<gf){
-hf=make_ready_8e3(c+496,gf,128);
-if(!(hf&1))goto L36;
-jf=r8(c+504);}
-else jf=Me;
-kf=r8(c+512);
-if(gf>kf-jf){
-lf=grow_amortized_68b(c+496,gf);
-if(!lf)goto L36;
-mf=r8(c+512);
-nf=r8(c+504);}
+Re=(s_p_64){0};Re.f0=Ne;
+Se=Re;Se.f1=Oe;
+Qe=Se;
+L50:Te=Qe.f0;
+Ue=Qe.f1;
+if(r8(c+528)-Ae<Ue){
+Ve=make_ready_8e3(c+496,Ue,128);
+if(!(Ve&1))goto L36;
+We=r8(c+504);}
+else We=Ae;
+Xe=r8(c+512);
+if(Ue>Xe-We){
+Ye=grow_amortized_68b(c+496,Ue);
+if(!Ye)goto L36;
+Ze=r8(c+512);
+af=r8(c+504);}
 else{
-mf=kf;
-nf=jf;}
-of=nf+gf;
-pf=rp(c+496);
+Ze=Xe;
+af=We;}
+bf=af+Ue;
+cf=rp(c+496);
 z16(c+504);
-qf=pf+(i64)nf;
-if((u64)qf-(u64)ff<gf)copy_bits_4f4(ff,qf,gf);
-else memmove(qf,ff,gf);
-wp(c+496,pf);
-w8(c+504,of);
-w8(c+512,mf);
-rf=of;
-sf=c[635];
-w4(c+620,Pe);
-w4(c+624,rf);
+df=cf+(i64)af;
+if((u64)df-(u64)Te<Ue)copy_bits_4f4(Te,df,Ue);
+else memmove(df,Te,Ue);
+wp(c+496,cf);
+w8(c+504,bf);
+w8(c+512,Ze);
+ef=bf;
+ff=c[635];
+w4(c+620,De);
+w4(c+624,ef);
 c[632]=0;
 c[633]=1;
 c[634]=0;
-tf=r8(c+672);
-if(tf>=f){
-Ee=0;
-Fe=5;
+gf=r8(c+672);
+if(gf>=f){
+se=0;
+te=5;
 goto L41;}
-if(*(e+tf)!=73){
-Ee=0;
-Fe=5;
+if(*(e+gf)!=73){
+se=0;
+te=5;
 goto L41;}
-uf=r4(c+616);
-vf=r8(c+544);
-if(r8(c+568)>vf)wf=vf;
+hf=r4(c+616);
+jf=r8(c+544);
+if(r8(c+568)>jf)kf=jf;
 else{
-xf=make_ready_17a(c+536);
-if(!(xf&1))goto L42;
-wf=r8(c+544);}
-yf=rp(c+536)+wf*12;
-x4(yf,uf);
-x4(yf+4,rf);
-yf[8]=0;
-yf[9]=sf;
-x2(yf+10,0);
-w8(c+544,wf+1);
+lf=make_ready_17a(c+536);
+if(!(lf&1))goto L42;
+kf=r8(c+544);}
+mf=rp(c+536)+kf*12;
+x4(mf,hf);
+x4(mf+4,ef);
+mf[8]=0;
+mf[9]=ff;
+x2(mf+10,0);
+w8(c+544,kf+1);
 memcpy(Y,c+616,20);
 z20(Y+20);
-zf=r8(c+504);
-if(r8(c+528)>zf)Af=zf;
+nf=r8(c+504);
+if(r8(c+528)>nf)of=nf;
 else{
-Bf=make_ready_8e3(c+496,1,16);
-if(!(Bf&1))goto L42;
-Af=r8(c+504);}
-*(rp(c+496)+Af)=60;
-w8(c+504,Af+1);
-Cf=r8(c+672);
-if(Cf==18446744073709551615u)goto L42;
-w8(c+672,Cf+1);
-Df=r8(c+584);
-if(r8(c+608)>Df){
-Ae=Df;
-Be=Y;
+pf=make_ready_8e3(c+496,1,16);
+if(!(pf&1))goto L42;
+of=r8(c+504);}
+*(rp(c+496)+of)=60;
+w8(c+504,of+1);
+qf=r8(c+672);
+if(qf==18446744073709551615u)goto L42;
+w8(c+672,qf+1);
+rf=r8(c+584);
+if(r8(c+608)>rf){
+oe=rf;
+pe=Y;
 goto L43;}
-Ef=make_ready_9a1(c+576);
-if(!(Ef&1))goto L42;
-De=Y;
+sf=make_ready_9a1(c+576);
+if(!(sf&1))goto L42;
+re=Y;
 goto L44;}}
 L48:goto L36;
-L44:Ae=r8(c+584);
-Be=De;
-L43:Ff=rp(c+576)+Ae*44;
-*Ff=5;
-Ff[1]=0;
-x2(Ff+2,0);
-memcpy(Ff+4,Be,40);
-w8(c+584,Ae+1);
-Ee=1;
-Fe=3;
-L41:Ge=Fe;
-He=Ee;
-Ie=0;
+L44:oe=r8(c+584);
+pe=re;
+L43:tf=rp(c+576)+oe*44;
+*tf=5;
+tf[1]=0;
+x2(tf+2,0);
+memcpy(tf+4,pe,40);
+w8(c+584,oe+1);
+se=1;
+te=3;
+L41:ue=te;
+ve=se;
+we=0;
 goto L46;
 L42:goto L1;
 L36:goto L1;
-L46:if(Ge==5){
-Gf=r8(c+672);
-if(Gf<f){
-if(*(e+Gf)==69){
-Hf=c[628];
-if(Hf==0){
-w8(c+672,Gf+1);
-If=c[635];
+L46:if(ue==5){
+uf=r8(c+672);
+if(uf<f){
+if(*(e+uf)==69){
+vf=c[628];
+if(vf==0){
+w8(c+672,uf+1);
+wf=c[635];
 if(c[632]&1){
-Jf=If;
-Kf=0;
+xf=wf;
+yf=0;
 goto L51;}
-Lf=r4(c+616);
-Mf=r8(c+504);
-Nf=r8(c+544);
-if(r8(c+568)>Nf)Of=Nf;
+zf=r4(c+616);
+Af=r8(c+504);
+Bf=r8(c+544);
+if(r8(c+568)>Bf)Cf=Bf;
 else{
-Pf=make_ready_17a(c+536);
-if(!(Pf&1))goto L1;
-Of=r8(c+544);}
-Qf=rp(c+536)+Of*12;
-x4(Qf,Lf);
-x4(Qf+4,Mf);
-Qf[8]=0;
-Qf[9]=If;
-x2(Qf+10,0);
-w8(c+544,Of+1);
-Jf=c[635];
-Kf=0;
+Df=make_ready_17a(c+536);
+if(!(Df&1))goto L1;
+Cf=r8(c+544);}
+Ef=rp(c+536)+Cf*12;
+x4(Ef,zf);
+x4(Ef+4,Af);
+Ef[8]=0;
+Ef[9]=wf;
+x2(Ef+10,0);
+w8(c+544,Cf+1);
+xf=c[635];
+yf=0;
 goto L51;}
 w4(da,0);
-w8(c+672,Gf+1);
-Rf=c[629];
-switch(Hf){
-case 3:addressed_named_a52(da,c+496,e,f,Rf);
+w8(c+672,uf+1);
+Ff=c[629];
+switch(vf){
+case 3:addressed_named_a52(da,c+496,e,f,Ff);
 break;
 case 1:if(c[634]&1){
-Sf=q2(c+636);
-Tf=q2(c+638);
+Gf=q2(c+636);
+Hf=q2(c+638);
 memcpy(ca+4,c+640,16);
-Uf=q8(c+656);
-Vf=c[664];
-Wf=c[665];
-Xf=c[666];
-Yf=c[667];
-w2(ca,Sf);
-w2(ca+2,Tf);
-x8(ca+20,Uf);
-ca[28]=Vf;
-ca[29]=Wf;
-ca[30]=Xf;
-ca[31]=Yf;
-Zf=c[633]&1;}
+If=q8(c+656);
+Jf=c[664];
+Kf=c[665];
+Lf=c[666];
+Mf=c[667];
+w2(ca,Gf);
+w2(ca+2,Hf);
+x8(ca+20,If);
+ca[28]=Jf;
+ca[29]=Kf;
+ca[30]=Lf;
+ca[31]=Mf;
+Nf=c[633]&1;}
 else{
 z32(ca);
-Zf=0;}
-name_ended_8aa(da,c+496,e,f,Rf,Zf,ca,r4(c+616));
+Nf=0;}
+name_ended_8aa(da,c+496,e,f,Ff,Nf,ca,r4(c+616));
 break;
 case 2:if(c[634]&1){
 if(c[633]&1){
-enclosing_instance_e2f(ba,c+496,e,f,Rf,r2(c+630),r4(c+616));
-ag=ba[3];
-bg=ba[2];
-cg=ba[1];
-dg=ba;
+enclosing_instance_e2f(ba,c+496,e,f,Ff,r2(c+630),r4(c+616));
+Of=ba[3];
+Pf=ba[2];
+Qf=ba[1];
+Rf=ba;
 goto L52;}}
-enclosing_named_54a(da,c+496,e,f,Rf,r4(c+616));
+enclosing_named_54a(da,c+496,e,f,Ff,r4(c+616));
 break;
 default:NEVER;
 }
-ag=da[3];
-bg=da[2];
-cg=da[1];
-dg=da;
-L52:if(*dg!=1)goto L1;
-Id=cg;
-Jd=bg;
-Kd=ag;
+Of=da[3];
+Pf=da[2];
+Qf=da[1];
+Rf=da;
+L52:if(*Rf!=1)goto L1;
+vd=Qf;
+xd=Pf;
+yd=Of;
 goto L34;}}
 if(!(c[632]&1)){
-eg=r4(c+616);
-fg=c[635];
-gg=r8(c+504);
-hg=r8(c+544);
-if(r8(c+568)>hg)ig=hg;
+Sf=r4(c+616);
+Tf=c[635];
+Uf=r8(c+504);
+Vf=r8(c+544);
+if(r8(c+568)>Vf)Wf=Vf;
 else{
-jg=make_ready_17a(c+536);
-if(!(jg&1))goto L1;
-ig=r8(c+544);}
-kg=rp(c+536)+ig*12;
-x4(kg,eg);
-x4(kg+4,gg);
-kg[8]=0;
-kg[9]=fg;
-x2(kg+10,0);
-w8(c+544,ig+1);}
-lg=Hd+1;
-if(lg!=16){
-Hd=lg;
+Xf=make_ready_17a(c+536);
+if(!(Xf&1))goto L1;
+Wf=r8(c+544);}
+Yf=rp(c+536)+Wf*12;
+x4(Yf,Sf);
+x4(Yf+4,Uf);
+Yf[8]=0;
+Yf[9]=Tf;
+x2(Yf+10,0);
+w8(c+544,Wf+1);}
+Zf=ud+1;
+if(Zf!=16){
+ud=Zf;
 goto L35;}
-mg=6;
-ng=0;
-og=0;
+ag=6;
+bg=0;
+cg=0;
 goto L53;}
-Id=Ge;
-Jd=He;
-Kd=Ie;
-L34:if(Id!=2){
-pg=Id;
-qg=Jd;
-rg=Kd;
+vd=ue;
+xd=ve;
+yd=we;
+L34:if(vd!=2){
+dg=vd;
+eg=xd;
+fg=yd;
 goto L54;}
-Jf=Kd;
-Kf=Jd;
+xf=yd;
+yf=xd;
 L51:w4(w,0);
 w4(x,0);
 z32(y);
-sg=r8(c+584);
-if(sg!=0){
-tg=Kf&1;
-ug=rp(c+576)+(i64)(sg*44);
-vg=ug[-44];
-wg=ug[-43];
-xg=q4(ug-40);
-yg=q4(ug-36);
-zg=q2(ug-32);
-switch(vg){
-case 29:case 28:case 27:case 26:case 4:case 5:case 6:case 7:case 8:case 11:case 12:case 13:case 14:case 15:case 16:case 17:case 18:case 19:case 20:case 21:case 22:case 23:case 24:case 25:if(Jf&1){
+gg=r8(c+584);
+if(gg!=0){
+hg=yf&1;
+ig=rp(c+576)+(i64)(gg*44);
+jg=ig[-44];
+kg=ig[-43];
+lg=q4(ig-40);
+mg=q4(ig-36);
+ng=q2(ig-32);
+switch(jg){
+case 29:case 28:case 27:case 26:case 4:case 5:case 6:case 7:case 8:case 11:case 12:case 13:case 14:case 15:case 16:case 17:case 18:case 19:case 20:case 21:case 22:case 23:case 24:case 25:if(xf&1){
 pass_dependent_123(w,c+496,e,f);
-Ag=w[3];
-Bg=w[2];
-Cg=w[1];
-Dg=*w;
+og=w[3];
+pg=w[2];
+qg=w[1];
+rg=*w;
 goto L55;}
-Eg=q4(ug-4);
+sg=q4(ig-4);
 w4(s,0);
-switch(vg){
-case 22:returned_916(s,c+496,e,f,wg&1);
+switch(jg){
+case 22:returned_916(s,c+496,e,f,kg&1);
 break;
-case 23:parameter_at_85e(s,c+496,e,f,wg&1,0);
+case 23:parameter_at_85e(s,c+496,e,f,kg&1,0);
 break;
-case 24:array_ended_510(s,c+496,e,f,wg,xg,yg);
+case 24:array_ended_510(s,c+496,e,f,kg,lg,mg);
 break;
-case 12:enclosing_parameter_d72(s,c+496,e,f,wg,xg);
+case 12:enclosing_parameter_d72(s,c+496,e,f,kg,lg);
 break;
-case 13:instance_parameter_e2a(s,c+496,e,f,wg,xg,yg);
+case 13:instance_parameter_e2a(s,c+496,e,f,kg,lg,mg);
 break;
-case 11:w2(p,zg);
-memcpy(p+2,ug-30,26);
-x4(p+28,Eg);
-enclosing_front_fa8(s,c+496,wg,xg,yg,p);
+case 11:w2(p,ng);
+memcpy(p+2,ig-30,26);
+x4(p+28,sg);
+enclosing_front_fa8(s,c+496,kg,lg,mg,p);
 break;
-case 17:w4(q,yg);
-w2(q+4,zg);
-lambda_parameter_f9a(s,c+496,e,f,xg,q);
+case 17:w4(q,mg);
+w2(q+4,ng);
+lambda_parameter_f9a(s,c+496,e,f,lg,q);
 break;
-case 18:member_parameter_678(s,c+496,e,f,wg);
+case 18:member_parameter_678(s,c+496,e,f,kg);
 break;
-case 15:w4(r,yg);
-w2(r+4,zg);
-memcpy(r+6,ug-30,26);
-addressed_front_4c5(s,c+496,e,f,wg,xg,r);
+case 15:w4(r,mg);
+w2(r+4,ng);
+memcpy(r+6,ig-30,26);
+addressed_front_4c5(s,c+496,e,f,kg,lg,r);
 break;
-case 16:addressed_parameter_41c(s,c+496,e,f,wg);
+case 16:addressed_parameter_41c(s,c+496,e,f,kg);
 break;
 case 14:*s=0;
 break;
@@ -76873,43 +76248,43 @@ case 19:finish_8cd(s,c+496,e,f);
 break;
 case 20:derived_ended_aef(s,c+496,e,f);
 break;
-case 21:base_ended_299(s,c+496,e,f,xg);
+case 21:base_ended_299(s,c+496,e,f,lg);
 break;
 case 29:enumerator_21c(s,c+496,e,f);
 break;
-case 26:case 25:case 28:Fg=yg;
-Gg=Eg;
+case 26:case 25:case 28:tg=mg;
+ug=sg;
 w4(o,0);
-switch(vg){
-case 26:w2(l,yg>>16);
-w2(l+2,zg);
-memcpy(l+4,ug-30,26);
-w2(l+30,Gg);
-argument_enumerator_f1d(o,c+496,e,f,xg,Fg,l);
+switch(jg){
+case 26:w2(l,mg>>16);
+w2(l+2,ng);
+memcpy(l+4,ig-30,26);
+w2(l+30,ug);
+argument_enumerator_f1d(o,c+496,e,f,lg,tg,l);
 break;
-case 25:w2(m,yg>>16);
-w2(m+2,zg);
-memcpy(m+4,ug-30,26);
-w2(m+30,Gg);
-argument_ended_f01(o,c+496,e,f,xg,Fg,m,tg);
+case 25:w2(m,mg>>16);
+w2(m+2,ng);
+memcpy(m+4,ig-30,26);
+w2(m+30,ug);
+argument_ended_f01(o,c+496,e,f,lg,tg,m,hg);
 break;
-case 28:w2(n,yg>>16);
-w2(n+2,zg);
-memcpy(n+4,ug-30,26);
-w2(n+30,Gg);
-element_ended_bd4(o,c+496,e,f,xg,Fg,n,tg);
+case 28:w2(n,mg>>16);
+w2(n+2,ng);
+memcpy(n+4,ig-30,26);
+w2(n+30,ug);
+element_ended_bd4(o,c+496,e,f,lg,tg,n,hg);
 break;
 case 27:*o=0;
 break;
 default:NEVER;
 }
-Hg=o[1];
-Ig=o[2];
-Jg=o[3];
+vg=o[1];
+wg=o[2];
+xg=o[3];
 *s=*o;
-s[1]=Hg;
-s[2]=Ig;
-s[3]=Jg;
+s[1]=vg;
+s[2]=wg;
+s[3]=xg;
 break;
 case 27:case 10:case 9:case 8:case 4:case 5:case 6:case 7:*s=1;
 s[1]=3;
@@ -76918,416 +76293,416 @@ s[3]=0;
 break;
 default:NEVER;
 }
-Ag=s[3];
-Bg=s[2];
-Cg=s[1];
-Dg=*s;
+og=s[3];
+pg=s[2];
+qg=s[1];
+rg=*s;
 goto L55;
-case 10:Kg=r8(c+672);
-if(Kg<f){
-switch(*(e+Kg)){
+case 10:yg=r8(c+672);
+if(yg<f){
+switch(*(e+yg)){
 case 69:case 46:case 0:break;
-default:w4(v,yg);
-w2(v+4,zg);
-memcpy(v+6,ug-30,26);
+default:w4(v,mg);
+w2(v+4,ng);
+memcpy(v+6,ig-30,26);
 w4(u,0);
 if(v[29]&1){
-expansion_d9b(u,c+496,e,f,0,wg,xg,v);
-Lg=u[3];
-Mg=u[2];
-Ng=u[1];
-Og=*u;}
+expansion_d9b(u,c+496,e,f,0,kg,lg,v);
+zg=u[3];
+Ag=u[2];
+Bg=u[1];
+Cg=*u;}
 else{
-Pg=r8(c+504);
-if(r8(c+528)-Pg<2){
-Qg=make_ready_8e3(c+496,2,128);
-if(!(Qg&1)){
-Lg=0;
-Mg=0;
-Ng=0;
-Og=0;
+Dg=r8(c+504);
+if(r8(c+528)-Dg<2){
+Eg=make_ready_8e3(c+496,2,128);
+if(!(Eg&1)){
+zg=0;
+Ag=0;
+Bg=0;
+Cg=0;
 goto L56;}
-Rg=r8(c+504);}
-else Rg=Pg;
-*(rp(c+496)+Rg)=44;
-*(rp(c+496)+(i64)Rg+1)=32;
-w8(c+504,Rg+2);
-Lg=0;
-Mg=0;
-Ng=0;
-Og=1;}
-L56:Ag=Lg;
-Bg=Mg;
-Cg=Ng;
-Dg=Og;
+Fg=r8(c+504);}
+else Fg=Dg;
+*(rp(c+496)+Fg)=44;
+*(rp(c+496)+(i64)Fg+1)=32;
+w8(c+504,Fg+2);
+zg=0;
+Ag=0;
+Bg=0;
+Cg=1;}
+L56:og=zg;
+pg=Ag;
+qg=Bg;
+rg=Cg;
 goto L55;
 }}
 w4(t,0);
-Sg=r8(c+504);
-if(Sg>=5){
-Tg=rp(c+496)+(i64)Sg;
-Ug=0;
-Vg=0;
-L57:Wg=Ug||*((u8*)t_262b+(i64)Vg)!=*(Tg-5+(i64)Vg);
-Xg=Vg+1;
-if(Xg!=4){
-Ug=Wg;
-Vg=Xg;
+Gg=r8(c+504);
+if(Gg>=5){
+Hg=rp(c+496)+(i64)Gg;
+Ig=0;
+Jg=0;
+L57:Kg=Ig||*((u8*)t_262b+(i64)Jg)!=*(Hg-5+(i64)Jg);
+Lg=Jg+1;
+if(Lg!=4){
+Ig=Kg;
+Jg=Lg;
 goto L57;}
-Yg=0;
-Zg=0;
-L58:ah=Zg+1;
-bh=Yg||*((u8*)t_262b+(i64)ah)!=*(Tg-5+(i64)ah);
-if(ah!=4){
-Yg=bh;
-Zg=ah;
+Mg=0;
+Ng=0;
+L58:Og=Ng+1;
+Pg=Mg||*((u8*)t_262b+(i64)Og)!=*(Hg-5+(i64)Og);
+if(Og!=4){
+Mg=Pg;
+Ng=Og;
 goto L58;}
-if(!(Wg|bh)){
-ch=0;
-dh=0;
-eh=0;
-fh=0;
+if(!(Kg|Pg)){
+Qg=0;
+Rg=0;
+Sg=0;
+Tg=0;
 goto L59;}}
-close_a33(t,c+496,e,f,wg,xg);
-ch=t[3];
-dh=t[2];
-eh=t[1];
-fh=*t;
-L59:Ag=ch;
-Bg=dh;
-Cg=eh;
-Dg=fh;
+close_a33(t,c+496,e,f,kg,lg);
+Qg=t[3];
+Rg=t[2];
+Sg=t[1];
+Tg=*t;
+L59:og=Qg;
+pg=Rg;
+qg=Sg;
+rg=Tg;
 goto L55;
-case 9:w4(y,yg);
-w2(y+4,zg);
-memcpy(y+6,ug-30,26);
-front_ended_ee9(x,c+496,e,f,wg,xg,y);
-Ag=x[3];
-Bg=x[2];
-Cg=x[1];
-Dg=*x;
+case 9:w4(y,mg);
+w2(y+4,ng);
+memcpy(y+6,ig-30,26);
+front_ended_ee9(x,c+496,e,f,kg,lg,y);
+og=x[3];
+pg=x[2];
+qg=x[1];
+rg=*x;
 goto L55;
-case 0:w8(c+584,sg-1);
-gh=r8(c+504);
-if(r8(c+528)>gh)hh=gh;
+case 0:w8(c+584,gg-1);
+Ug=r8(c+504);
+if(r8(c+528)>Ug)Vg=Ug;
 else{
-ih=make_ready_8e3(c+496,1,16);
-if(!(ih&1))goto L60;
-hh=r8(c+504);}
-*(rp(c+496)+hh)=42;
-jh=hh+1;
-w8(c+504,jh);
-kh=jh;
-lh=Jf&1;
-mh=r8(c+544);
-if(r8(c+568)>mh){
+Wg=make_ready_8e3(c+496,1,16);
+if(!(Wg&1))goto L60;
+Vg=r8(c+504);}
+*(rp(c+496)+Vg)=42;
+Xg=Vg+1;
+w8(c+504,Xg);
+Yg=Xg;
+Zg=xf&1;
+ah=r8(c+544);
+if(r8(c+568)>ah){
+bh=ah;
+ch=Yg;
+dh=0;
+eh=Zg;
+goto L61;}
+fh=make_ready_17a(c+536);
+if(!(fh&1))goto L60;
+gh=Yg;
+hh=0;
+ih=Zg;
+break;
+case 1:if(hg)goto L60;
+w8(c+584,gg-1);
+jh=r8(c+504);
+if(r8(c+528)>jh)kh=jh;
+else{
+lh=make_ready_8e3(c+496,1,16);
+if(!(lh&1))goto L60;
+kh=r8(c+504);}
+*(rp(c+496)+kh)=38;
+mh=kh+1;
+w8(c+504,mh);
 nh=mh;
-oh=kh;
-ph=0;
-qh=lh;
+oh=xf&1;
+ph=r8(c+544);
+if(r8(c+568)>ph){
+bh=ph;
+ch=nh;
+dh=1;
+eh=oh;
 goto L61;}
-rh=make_ready_17a(c+536);
-if(!(rh&1))goto L60;
-sh=kh;
-th=0;
-uh=lh;
+qh=make_ready_17a(c+536);
+if(!(qh&1))goto L60;
+gh=nh;
+hh=1;
+ih=oh;
 break;
-case 1:if(tg)goto L60;
-w8(c+584,sg-1);
-vh=r8(c+504);
-if(r8(c+528)>vh)wh=vh;
-else{
-xh=make_ready_8e3(c+496,1,16);
-if(!(xh&1))goto L60;
-wh=r8(c+504);}
-*(rp(c+496)+wh)=38;
-yh=wh+1;
-w8(c+504,yh);
-zh=yh;
-Ah=Jf&1;
-Bh=r8(c+544);
-if(r8(c+568)>Bh){
-nh=Bh;
-oh=zh;
-ph=1;
-qh=Ah;
+case 2:if(hg)goto L60;
+w8(c+584,gg-1);
+rh=r8(c+504);
+if(r8(c+528)-rh<2){
+sh=make_ready_8e3(c+496,2,128);
+if(!(sh&1))goto L60;
+th=r8(c+504);}
+else th=rh;
+*(rp(c+496)+th)=38;
+*(rp(c+496)+(i64)th+1)=38;
+uh=th+2;
+w8(c+504,uh);
+vh=uh;
+wh=xf&1;
+xh=r8(c+544);
+if(r8(c+568)>xh){
+bh=xh;
+ch=vh;
+dh=1;
+eh=wh;
 goto L61;}
-Ch=make_ready_17a(c+536);
-if(!(Ch&1))goto L60;
-sh=zh;
-th=1;
-uh=Ah;
+yh=make_ready_17a(c+536);
+if(!(yh&1))goto L60;
+gh=vh;
+hh=1;
+ih=wh;
 break;
-case 2:if(tg)goto L60;
-w8(c+584,sg-1);
-Dh=r8(c+504);
-if(r8(c+528)-Dh<2){
-Eh=make_ready_8e3(c+496,2,128);
-if(!(Eh&1))goto L60;
-Fh=r8(c+504);}
-else Fh=Dh;
-*(rp(c+496)+Fh)=38;
-*(rp(c+496)+(i64)Fh+1)=38;
-Gh=Fh+2;
-w8(c+504,Gh);
-Hh=Gh;
-Ih=Jf&1;
-Jh=r8(c+544);
-if(r8(c+568)>Jh){
-nh=Jh;
-oh=Hh;
-ph=1;
-qh=Ih;
-goto L61;}
-Kh=make_ready_17a(c+536);
-if(!(Kh&1))goto L60;
-sh=Hh;
-th=1;
-uh=Ih;
-break;
-case 3:if(tg)goto L60;
-w8(c+584,sg-1);
+case 3:if(hg)goto L60;
+w8(c+584,gg-1);
 if(r8(c+528)-r8(c+504)<6){
-Lh=make_ready_8e3(c+496,6,128);
-if(!(Lh&1))goto L60;}
-Mh=extend_from_slice_674(c+496,(u8*)t_f603,6);
-if(Mh&1)goto L60;
-Nh=r8(c+504);
-Oh=Jf&1;
-Ph=r8(c+544);
-if(r8(c+568)>Ph){
-nh=Ph;
-oh=Nh;
-ph=0;
-qh=Oh;
+zh=make_ready_8e3(c+496,6,128);
+if(!(zh&1))goto L60;}
+Ah=extend_from_slice_674(c+496,(u8*)t_f603,6);
+if(Ah&1)goto L60;
+Bh=r8(c+504);
+Ch=xf&1;
+Dh=r8(c+544);
+if(r8(c+568)>Dh){
+bh=Dh;
+ch=Bh;
+dh=0;
+eh=Ch;
 goto L61;}
-Qh=make_ready_17a(c+536);
-if(!(Qh&1))goto L60;
-sh=Nh;
-th=0;
-uh=Oh;
+Eh=make_ready_17a(c+536);
+if(!(Eh&1))goto L60;
+gh=Bh;
+hh=0;
+ih=Ch;
 break;
 default:NEVER;
 }
-nh=r8(c+544);
-oh=sh;
-ph=th;
-qh=uh;
-L61:Rh=rp(c+536)+nh*12;
-x4(Rh,xg);
-x4(Rh+4,oh);
-Rh[8]=ph;
-Rh[9]=qh;
-x2(Rh+10,0);
-w8(c+544,nh+1);
-mg=2;
-ng=ph;
-og=qh;
+bh=r8(c+544);
+ch=gh;
+dh=hh;
+eh=ih;
+L61:Fh=rp(c+536)+bh*12;
+x4(Fh,lg);
+x4(Fh+4,ch);
+Fh[8]=dh;
+Fh[9]=eh;
+x2(Fh+10,0);
+w8(c+544,bh+1);
+ag=2;
+bg=dh;
+cg=eh;
 goto L53;
-L55:if(Dg!=1)goto L1;
-pg=Cg;
-qg=Bg;
-rg=Ag;
+L55:if(rg!=1)goto L1;
+dg=qg;
+eg=pg;
+fg=og;
 goto L54;}
 L60:goto L1;
-L54:if(pg==3){
-Sh=qg&1;
+L54:if(dg==3){
+Gh=eg&1;
 w4(j,0);
-Th=r8(c+672);
-if(Th<f){
-Uh=*(e+Th);
-switch(Uh){
+Hh=r8(c+672);
+if(Hh<f){
+Ih=*(e+Hh);
+switch(Ih){
 case 69:w4(h,0);
-w8(c+672,Th+1);
-Vh=r8(c+584);
-if(Vh==0){
-Wh=0;
-Xh=0;
-Yh=0;
-Zh=0;}
+w8(c+672,Hh+1);
+Jh=r8(c+584);
+if(Jh==0){
+Kh=0;
+Lh=0;
+Mh=0;
+Nh=0;}
 else{
-if(*(rp(c+576)+(i64)(Vh*44)-44)==27){
-if(Sh){
-Wh=0;
-Xh=0;
-Yh=0;
-Zh=0;}
+if(*(rp(c+576)+(i64)(Jh*44)-44)==27){
+if(Gh){
+Kh=0;
+Lh=0;
+Mh=0;
+Nh=0;}
 else{
-w8(c+584,Vh-1);
-Wh=0;
-Xh=0;
-Yh=3;
-Zh=1;}}
+w8(c+584,Jh-1);
+Kh=0;
+Lh=0;
+Mh=3;
+Nh=1;}}
 else{
 z32(i);
 close_list_aff(h,c+496,e,f,i);
-Wh=h[3];
-Xh=h[2];
-Yh=h[1];
-Zh=*h;}}
-ai=Yh;
-bi=Zh;
-ci=Xh;
-di=Wh;
+Kh=h[3];
+Lh=h[2];
+Mh=h[1];
+Nh=*h;}}
+Oh=Mh;
+Ph=Nh;
+Qh=Lh;
+Rh=Kh;
 goto L62;
-case 74:ei=Th+1;
-if(ei<f){
-if(*(e+ei)==69){
-empty_pack_ca2(j,c+496,e,f,Sh);
-ai=j[1];
-bi=*j;
-ci=j[2];
-di=j[3];
+case 74:Sh=Hh+1;
+if(Sh<f){
+if(*(e+Sh)==69){
+empty_pack_ca2(j,c+496,e,f,Gh);
+Oh=j[1];
+Ph=*j;
+Qh=j[2];
+Rh=j[3];
 goto L62;}}
-if(!Sh){
-fi=74;
+if(!Gh){
+Th=74;
 goto L63;}
 first_pack_117(j,c+496,e,f);
-ai=j[1];
-bi=*j;
-ci=j[2];
-di=j[3];
+Oh=j[1];
+Ph=*j;
+Qh=j[2];
+Rh=j[3];
 goto L62;
-default:gi=Uh;
+default:Uh=Ih;
 break;}}
-else gi=0;
-if(Sh){
-hi=gi;
+else Uh=0;
+if(Gh){
+Vh=Uh;
 goto L64;}
-fi=gi;
-L63:ii=r8(c+504);
-if(r8(c+528)-ii<2){
-ji=make_ready_8e3(c+496,2,128);
-if(!(ji&1))goto L65;
-ki=r8(c+504);}
-else ki=ii;
-*(rp(c+496)+ki)=44;
-*(rp(c+496)+(i64)ki+1)=32;
-w8(c+504,ki+2);
-hi=fi;
-L64:switch(hi){
-case 76:if(Sh){
+Th=Uh;
+L63:Wh=r8(c+504);
+if(r8(c+528)-Wh<2){
+Xh=make_ready_8e3(c+496,2,128);
+if(!(Xh&1))goto L65;
+Yh=r8(c+504);}
+else Yh=Wh;
+*(rp(c+496)+Yh)=44;
+*(rp(c+496)+(i64)Yh+1)=32;
+w8(c+504,Yh+2);
+Vh=Th;
+L64:switch(Vh){
+case 76:if(Gh){
 first_literal_8fe(j,c+496,e,f);
-ai=j[1];
-bi=*j;
-ci=j[2];
-di=j[3];
+Oh=j[1];
+Ph=*j;
+Qh=j[2];
+Rh=j[3];
 goto L62;}
 literal_7da(k,c+496,e,f);
-ai=k[1];
-bi=*k;
-ci=k[2];
-di=k[3];
+Oh=k[1];
+Ph=*k;
+Qh=k[2];
+Rh=k[3];
 goto L62;
-case 74:li=r8(c+584);
-if(li==0)goto L65;
-mi=rp(c+576);
-ni=li*44;
-if(*(mi+(i64)ni-44)==27)goto L65;
-oi=r8(c+672);
-if(oi==18446744073709551615u)goto L65;
-w8(c+672,oi+1);
-if(r8(c+608)>li){
-pi=ni;
-qi=mi;
-ri=li;}
+case 74:Zh=r8(c+584);
+if(Zh==0)goto L65;
+ai=rp(c+576);
+bi=Zh*44;
+if(*(ai+(i64)bi-44)==27)goto L65;
+ci=r8(c+672);
+if(ci==18446744073709551615u)goto L65;
+w8(c+672,ci+1);
+if(r8(c+608)>Zh){
+di=bi;
+ei=ai;
+fi=Zh;}
 else{
-si=make_ready_9a1(c+576);
-if(!(si&1))goto L65;
-ti=r8(c+584);
-pi=ti*44;
-qi=rp(c+576);
-ri=ti;}
-ui=qi+pi;
-*ui=27;
-z43(ui+1);
-vi=ri;
-wi=3;
-xi=1;
+gi=make_ready_9a1(c+576);
+if(!(gi&1))goto L65;
+hi=r8(c+584);
+di=hi*44;
+ei=rp(c+576);
+fi=hi;}
+ii=ei+di;
+*ii=27;
+z43(ii+1);
+ji=fi;
+ki=3;
+li=1;
 break;
-default:if(!Sh){
-zi=0;
-Ai=0;
+default:if(!Gh){
+ni=0;
+oi=0;
 goto L66;}
-yi=r8(c+584);
-if(yi==0){
-zi=0;
-Ai=0;
+mi=r8(c+584);
+if(mi==0){
+ni=0;
+oi=0;
 goto L66;}
-Bi=rp(c+576);
-Ci=yi*44;
-Di=Bi+(i64)Ci;
-switch(Di[-44]){
-case 5:if(Di[-28]==0){
-zi=0;
-Ai=0;
+pi=rp(c+576);
+qi=mi*44;
+ri=pi+(i64)qi;
+switch(ri[-44]){
+case 5:if(ri[-28]==0){
+ni=0;
+oi=0;
 goto L66;}
 break;
 case 7:break;
-case 0:case 1:case 2:case 3:case 4:case 6:case 8:case 9:case 10:case 11:case 12:case 13:case 14:case 15:case 16:case 17:case 18:case 19:case 20:case 21:case 22:case 23:case 24:case 25:case 26:case 27:case 28:case 29:zi=0;
-Ai=0;
+case 0:case 1:case 2:case 3:case 4:case 6:case 8:case 9:case 10:case 11:case 12:case 13:case 14:case 15:case 16:case 17:case 18:case 19:case 20:case 21:case 22:case 23:case 24:case 25:case 26:case 27:case 28:case 29:ni=0;
+oi=0;
 goto L66;
 default:NEVER;
 }
-Ei=r8(c+672);
-if(Ei<f){
-Fi=e+(i64)Ei;
-switch(*Fi){
-case 65:case 70:zi=0;
-Ai=0;
+si=r8(c+672);
+if(si<f){
+ti=e+(i64)si;
+switch(*ti){
+case 65:case 70:ni=0;
+oi=0;
 goto L66;
-case 80:case 82:if(usub64(f,Ei)>=2){
-switch(Fi[1]){
-case 70:case 65:zi=0;
-Ai=0;
+case 80:case 82:if(usub64(f,si)>=2){
+switch(ti[1]){
+case 70:case 65:ni=0;
+oi=0;
 goto L66;
 default:break;}}
 break;
 default:break;}}
-Gi=r8(c+504);
-if(r8(c+608)>yi){
-Hi=Ci;
-Ii=Bi;
-Ji=yi;}
+ui=r8(c+504);
+if(r8(c+608)>mi){
+vi=qi;
+wi=pi;
+xi=mi;}
 else{
-Ki=make_ready_9a1(c+576);
-if(!(Ki&1))goto L65;
-Li=r8(c+584);
-Hi=Li*44;
-Ii=rp(c+576);
-Ji=Li;}
-Mi=Ii+Hi;
-*Mi=25;
-Mi[1]=0;
-x2(Mi+2,0);
-x4(Mi+4,Gi);
-z36(Mi+8);
-vi=Ji;
-wi=0;
-xi=0;
+yi=make_ready_9a1(c+576);
+if(!(yi&1))goto L65;
+zi=r8(c+584);
+vi=zi*44;
+wi=rp(c+576);
+xi=zi;}
+Ai=wi+vi;
+*Ai=25;
+Ai[1]=0;
+x2(Ai+2,0);
+x4(Ai+4,ui);
+z36(Ai+8);
+ji=xi;
+ki=0;
+li=0;
 break;}
-w8(c+584,vi+1);
-zi=wi;
-Ai=xi;
-L66:mg=zi;
-ng=Ai;
-og=0;
+w8(c+584,ji+1);
+ni=ki;
+oi=li;
+L66:ag=ni;
+bg=oi;
+cg=0;
 goto L53;
-L62:if(bi!=1)goto L1;
-mg=ai;
-ng=ci;
-og=di;
+L62:if(Ph!=1)goto L1;
+ag=Oh;
+bg=Qh;
+cg=Rh;
 goto L53;
 L65:goto L1;}
-mg=pg;
-ng=qg;
-og=rg;
-L53:Ni=Wa+1;
-if(Ni==Va)goto L1;
-Wa=Ni;
-Xa=og;
-Ya=ng;
-Za=mg;
+ag=dg;
+bg=eg;
+cg=fg;
+L53:Bi=Va+1;
+if(Bi==Ua)goto L1;
+Va=Bi;
+Wa=cg;
+Xa=bg;
+Ya=ag;
 goto L20;}}}
 L10:;}
 L1:if(r8(c+504)==0)goto L67;
@@ -77337,5552 +76712,132 @@ if(r8(c+544)!=0)w8(c+544,0);
 if(r8(c+584)!=0)w8(c+584,0);
 c[668]=0;
 z16(c+560);
-z16(c+600);}
-else{
-Oi=write_less_2c7(c+1544,e,f,la,0,ma);
-if(Oi){
-Pi=rp(c+1544);
-Qi=r8(c+1552);
-Ri=r8(g+16);
-Si=r8(g+8);
-if(Qi>Ri-Si){
-Ti=grow_amortized_68b(g,Qi);
-if(!Ti){
-hb=1;
-ib=4;
-jb=0;
-goto L22;}
-Ui=r8(g+16);
-Vi=r8(g+8);}
-else{
-Ui=Ri;
-Vi=Si;}
-Wi=Vi+Qi;
-Xi=rp(g);
-z16(g+8);
-Yi=Xi+(i64)Vi;
-if((u64)Yi-(u64)Pi<Qi)copy_bits_4f4(Pi,Yi,Qi);
-else memmove(Yi,Pi,Qi);
-wp(g,Xi);
-w8(g+8,Wi);
-w8(g+16,Ui);
-hb=0;
-ib=0;
-jb=0;
-goto L22;}}
-z12(ja);
-z112(ha);
-Zi=r8(c+696);
-if(!((f<Zi)|((Zi&4294967295u)==0))){
-aj=parts_equal_58b(e,Zi,rp(c+688),Zi);
-if(aj){
-read_on_907(ha,c,e+(i64)Zi,f-Zi);
-goto L68;}}
-z12(ga);
-x4(c+24,0);
-x4(c+28,0);
-if(r8(c+40)!=0)w8(c+40,0);
-if(r8(c+64)!=0)w8(c+64,0);
-w8(c+80,0);
-w4(c+88,0);
-run_f89(ga,c+24,e,f,1);
-if(*ga==0){
-if(r8(c+8)!=0)w8(c+8,0);
-bj=r8(c+16);
-if(f>bj){
-cj=grow_amortized_68b(c,f);
-if(!cj){
-fj=4;
-gj=0;
-goto L69;}
-dj=r8(c+16);
-ej=r8(c+8);}
-else{
-dj=bj;
-ej=0;}
-hj=ej+f;
-ij=rp(c);
-z16(c+8);
-jj=ij+(i64)ej;
-if((u64)jj-(u64)e<f)copy_bits_4f4(e,jj,f);
-else memmove(jj,e,f);
-wp(c,ij);
-w8(c+8,hj);
-w8(c+16,dj);
-link_2bc(ha,c);
+z16(c+600);
 goto L68;}
-kj=ga[4];
-lj=r4(ga+8);
-x4(c+24,0);
-x4(c+28,0);
-if(r8(c+40)!=0)w8(c+40,0);
-if(r8(c+64)!=0)w8(c+64,0);
-w8(c+80,0);
-w4(c+88,0);
-fj=kj;
-gj=lj;
-L69:mj=1;
-nj=fj;
-oj=gj;
-goto L70;
-L68:pj=r4(ha+8);
-qj=*ha;
-rj=ha[4];
-memcpy(ka,ha+12,100);
-if(qj==0){
-w4(ia,pj);
-memcpy(ia+4,ka,100);
-print_07f(ja,c,ia,la,ma,g);
-sj=qp(c+96);
-tj=qp(c+120);
-uj=q8(c+136);
-vj=q8(c+112);
-memcpy(c+96,ka+20,64);
-if(vj!=0)port_rattle_dealloc(sj);
-if(uj!=0)port_rattle_dealloc(tj);
-wj=qp(c);
-xj=q8(c+16);
-memcpy(c,ia,24);
-if(xj!=0)port_rattle_dealloc(wj);
-mj=*ja;
-nj=ja[4];
-oj=r4(ja+8);}
-else{
-mj=1;
-nj=rj;
-oj=pj;}
-L70:hb=mj;
-ib=nj;
-jb=oj;}
-else{
-yj=r4(b);
-switch(b[4]){
-case 0:case 2:z12(fa);
-append_in_c46(fa,c+800,e,f,yj,0,g);
-zj=r4(fa+8);
-Aj=fa[4];
-Bj=*fa;
-break;
-case 1:case 3:z12(ea);
-Cj=write_brief_939(c+1736,e,f,yj);
-if(Cj){
-Dj=rp(c+1736);
-Ej=r8(c+1744);
-Fj=r8(g+16);
-Gj=r8(g+8);
-if(Ej>Fj-Gj){
-Hj=grow_amortized_68b(g,Ej);
-if(!Hj){
-Kj=0;
-Lj=4;
-Mj=1;
-goto L71;}
-Ij=r8(g+16);
-Jj=r8(g+8);}
-else{
-Ij=Fj;
-Jj=Gj;}
-Nj=Jj+Ej;
-Oj=rp(g);
-z16(g+8);
-Pj=Oj+(i64)Jj;
-if((u64)Pj-(u64)Dj<Ej)copy_bits_4f4(Dj,Pj,Ej);
-else memmove(Pj,Dj,Ej);
-wp(g,Oj);
-w8(g+8,Nj);
-w8(g+16,Ij);
-Kj=0;
-Lj=0;
-Mj=0;}
-else{
-append_in_c46(ea,c+800,e,f,yj,1,g);
-Kj=r4(ea+8);
-Lj=ea[4];
-Mj=*ea;}
-L71:zj=Kj;
-Aj=Lj;
-Bj=Mj;
-break;
-default:NEVER;
-}
-hb=Bj;
-ib=Aj;
-jb=zj;}
-L22:*a=hb;
-x4(a+4,ib);
-x4(a+8,jb);
-return;
-}
-
-/* itanium::short_way::write_less */
-static u8 write_less_2c7(u8* a,u8* b,u64 c,u32 d,u8 e,u8 f)
-{
-u8 h[32],j[4],k[32],l[32],m[32],o[32],s[4],y[4],z[32],aa[4],ba[32],ea[32],ga[4],ha[32],ia[32],ja[32],la[32],va[4],wa[32],Xa[4],Ya[32],bb[32],db[4],eb[32],fb[32],gb[32],ib[32],mb[4],sb[4],tb[32],Ub[4],Vb[32];
-A16 u8 g[4],i[4],n[4],p[6],q[32],r[4],t[4],u[32],v[4],w[4],x[32],A[4],B[4],C[4],D[4],E[4],F[4],G[4],H[4],I[4],J[40],K[4],L[4],M[4],N[4],O[4],P[4],Q[4],R[4],S[4],T[4],U[4],V[40],W[24],X[40],Y[24],Z[4],ca[4],da[4],fa[4],ka[4],ma[6],na[32],oa[4],pa[4],qa[4],ra[32],sa[4],ta[4],ua[32],xa[4],ya[4],za[4],Aa[4],Ba[4],Ca[4],Da[4],Ea[4],Fa[4],Ga[40],Ha[4],Ia[4],Ja[4],Ka[4],La[4],Ma[4],Na[4],Oa[4],Pa[4],Qa[4],Ra[4],Sa[40],Ta[24],Ua[40],Va[24],Wa[4],Za[4],ab[4],cb[4],hb[4],jb[6],kb[32],lb[4],nb[4],ob[32],pb[4],qb[4],rb[32],ub[4],vb[4],wb[4],xb[4],yb[4],zb[4],Ab[4],Bb[4],Cb[4],Db[40],Eb[4],Fb[4],Gb[4],Hb[4],Ib[4],Jb[4],Kb[4],Lb[4],Mb[4],Nb[4],Ob[4],Pb[40],Qb[24],Rb[40],Sb[24],Tb[4],Wb[4];
-u64 Xb,Zb,ac,bc,hc,ic,kc,pc,qc,sc,tc,uc,zc,Gc,Jc,Kc,Lc,Pc,Rc,Sc,Tc,Uc,Wc,Xc,Yc,Zc,ad,dd,ed,fd,gd,hd,id,jd,md,od,pd,zd,Ad,Bd,Ed,Fd,Kd,Md,Nd,Pd,Qd,Rd,Yd,Zd,ce,de,le,me,re,te,ue,we,xe,ye,Ee,Fe,Ie,Je,Ke,Me,Ne,Oe,Ue,Ze,af,lf,wf,xf,Df,Hf,Jf,Lf,Mf,Nf,Qf,Sf,Tf,Uf,Vf,Wf,Xf,ag,gg,lg,ng,og,rg,sg,ug,vg,wg,Fg,Hg,Ig,Jg,Mg,Og,Pg,Qg,Rg,Sg,Tg,Wg,ch,eh,fh,hh,ih,jh,oh,qh,rh,uh,vh,xh,yh,Bh,Ih,Jh,Ph,ci,di,gi,ni,Fi,Ki,Mi,Ni,Qi,Si,Ui,Vi,bj,cj,ej,hj,ij,qj,rj,tj,wj,yj,Aj,Bj,Ej,Kj,Oj,Qj,Zj,dk,fk,gk,ik,jk,kk,mk,ok,qk,tk,xk,zk,Ck,Ek,Gk,Ik,Kk,Lk,Nk,Sk,Tk,Vk,Wk,Xk,cl,jl,ml,nl,ol,sl,tl,wl,yl,zl,Hl,Il,Jl,Ml,Nl,Sl,Ul,Vl,Xl,Yl,Zl,gm,hm,km,lm,tm,um,zm,Bm,Cm,Em,Fm,Gm,Mm,Nm,Qm,Rm,Sm,Um,Vm,Wm,cn,hn,in,sn,Dn,En,Kn,On,Qn,Sn,Tn,Un,Xn,Zn,ao,bo,co,eo,fo,io,oo,to,vo,wo,zo,Ao,Co,Do,Eo,No,Po,Qo,Ro,Uo,Wo,Xo,Yo,Zo,ap,bp,ep,kp,sp,up,vp,Ap,Bp,Dp,Ep,Hp,Op,Pp,Vp,iq,jq,mq,tq,Lq,Qq,Sq,Tq,Wq,Yq,ar,br,hr,ir,kr,nr,or,wr,xr,zr,Cr,Er,Gr,Hr,Kr,Qr,Ur,Wr,fs,js,ls,ms,os,ps,qs,ss,us,ws,zs,Ds,Fs,Is,Ks,Ms,Os,Qs,Rs,Ts,Ys,Zs,bt,ct,dt,it,pt,st,tt,ut,yt,At,Bt,Ct,Dt,Ft,Gt,Ht,It,Jt,Mt,Nt,Ot,Pt,Qt,Rt,St,Vt,Xt,Yt,gu,hu,iu,lu,mu,ru,tu,uu,wu,xu,yu,Fu,Gu,Ju,Ku,Su,Tu,Yu,av,bv,dv,ev,fv,lv,mv,pv,qv,rv,tv,uv,vv,Bv,Gv,Hv,Rv,cw,dw,jw,nw,pw,rw,sw,tw,ww,yw,zw,Aw,Bw,Cw,Dw,Gw,Mw,Rw,Tw,Uw,Xw,Yw,ax,bx,cx,lx,nx,ox,px,sx,ux,vx,wx,xx,yx,zx,Cx,Ix,Kx,Lx,Nx,Ox,Px,Ux,Wx,Xx,ay,by,dy,ey,hy,oy,py,vy,Iy,Jy,My,Ty,lz,qz,sz,tz,wz,yz,Az,Bz,Hz,Iz,Kz,Nz,Oz,Wz,Xz,Zz,cA,eA,gA,hA,kA,qA,uA,wA,FA,JA,LA,MA,OA,PA,QA,SA,UA,WA,ZA,dB,fB,iB,kB,mB,oB;
-u32 Yb,kd,ae,Be,De,Xe,Ye,rf,sf,tf,vf,Pf,jg,mg,Lg,mh,ph,Gh,Hh,Zh,bi,si,ti,zi,fj,jj,nj,uj,Cj,Ij,Bk,ul,im,Jm,Lm,fn,gn,yn,zn,An,Cn,Wn,ro,uo,To,op,tp,Mp,Np,fq,hq,yq,zq,Fq,lr,pr,tr,Ar,Ir,Or,Hs,Tt,Hu,iv,kv,Ev,Fv,Xv,Yv,Zv,bw,vw,Pw,Sw,rx,Sx,Vx,my,ny,Fy,Hy,Yy,Zy,fz,Lz,Pz,Tz,aA,iA,oA,hB;
-u8 cc,dc,ec,fc,gc,mc,oc,rc,xc,yc,Ac,Bc,Cc,Dc,Ec,Fc,Hc,Ic,Mc,Nc,Oc,ld,nd,qd,sd,Cd,Gd,Id,Ld,Od,Ud,Vd,Wd,Xd,be,ee,fe,he,ie,je,ke,ne,pe,se,ve,Ce,Ge,Le,Pe,Re,Se,Te,Ve,We,bf,df,mf,nf,of,pf,qf,uf,yf,Af,Bf,Cf,Ef,Ff,Gf,If,Kf,Of,Rf,Yf,bg,hg,ig,kg,pg,tg,yg,Ag,Bg,Cg,Dg,Eg,Gg,Kg,Ng,Ug,Xg,dh,gh,nh,sh,wh,zh,Ch,Dh,Eh,Fh,Kh,Mh,Qh,Rh,Sh,Th,Uh,Vh,Wh,Xh,ai,ei,hi,ii,ji,ki,li,mi,oi,qi,ri,vi,wi,xi,yi,Ai,Ci,Di,Ei,Gi,Hi,Ii,Ji,Li,Pi,Ri,Ti,Wi,Xi,Yi,Zi,aj,dj,gj,kj,lj,mj,oj,pj,sj,vj,xj,zj,Dj,Fj,Gj,Hj,Jj,Lj,Nj,Pj,Rj,Sj,Tj,Uj,Vj,Wj,Xj,Yj,ak,bk,ck,ek,nk,rk,sk,uk,vk,Fk,Jk,Pk,Rk,Uk,al,bl,dl,el,fl,gl,hl,il,kl,ll,pl,ql,rl,vl,xl,Al,Bl,Kl,Ol,Ql,Tl,Wl,cm,dm,em,fm,jm,mm,nm,pm,qm,rm,sm,vm,xm,Am,Dm,Km,Om,Tm,Xm,Zm,an,bn,dn,en,jn,ln,tn,un,vn,wn,xn,Bn,Fn,Hn,In,Jn,Ln,Mn,Nn,Pn,Rn,Vn,Yn,go,jo,po,qo,so,xo,Bo,Go,Io,Jo,Ko,Lo,Mo,Oo,So,Vo,cp,fp,lp,np,pp,yp,Cp,Fp,Ip,Jp,Kp,Lp,Qp,Sp,Wp,Xp,Yp,Zp,aq,bq,cq,dq,gq,kq,nq,oq,pq,qq,rq,sq,uq,wq,xq,Bq,Cq,Dq,Eq,Gq,Iq,Jq,Kq,Mq,Nq,Oq,Pq,Rq,Vq,Xq,Zq,cr,dr,er,fr,gr,jr,mr,qr,rr,sr,ur,vr,yr,Br,Dr,Fr,Jr,Lr,Mr,Nr,Pr,Rr,Tr,Vr,Xr,Yr,Zr,as,bs,cs,ds,es,gs,hs,is,ks,ts,xs,ys,As,Bs,Ls,Ps,Vs,Xs,at,gt,ht,jt,kt,lt,mt,nt,ot,qt,rt,vt,wt,xt,Ut,Wt,Zt,au,ju,nu,pu,su,vu,Bu,Cu,Du,Eu,Iu,Lu,Mu,Ou,Pu,Qu,Ru,Uu,Wu,Zu,cv,jv,nv,sv,wv,yv,zv,Av,Cv,Dv,Iv,Kv,Sv,Tv,Uv,Vv,Wv,aw,ew,gw,hw,iw,kw,lw,mw,ow,qw,uw,xw,Ew,Hw,Nw,Ow,Qw,Vw,Zw,ex,gx,hx,ix,jx,kx,mx,qx,tx,Ax,Dx,Jx,Mx,Tx,Yx,cy,fy,iy,jy,ky,ly,qy,sy,wy,xy,yy,zy,Ay,By,Cy,Dy,Gy,Ky,Ny,Oy,Py,Qy,Ry,Sy,Uy,Wy,Xy,bz,cz,dz,ez,gz,iz,jz,kz,mz,nz,oz,pz,rz,vz,xz,zz,Cz,Dz,Ez,Fz,Gz,Jz,Mz,Qz,Rz,Sz,Uz,Vz,Yz,bA,dA,fA,jA,lA,mA,nA,pA,rA,tA,vA,xA,yA,zA,AA,BA,CA,DA,EA,GA,HA,IA,KA,TA,XA,YA,aB,bB,lB,pB;
-v16 jc,lc,Mk,Ok,Ss,Us;
-u8 *nc,*vc,*wc,*Qc,*bd,*cd,*td,*ud,*vd,*xd,*yd,*Dd,*Hd,*Jd,*Sd,*Td,*ge,*oe,*qe,*ze,*Ae,*He,*Qe,*cf,*ef,*ff,*gf,*hf,*zf,*Zf,*fg,*qg,*xg,*zg,*Vg,*bh,*kh,*lh,*th,*Ah,*Lh,*Yh,*fi,*pi,*Oi,*Mj,*hk,*lk,*pk,*wk,*yk,*Ak,*Dk,*Hk,*Qk,*Yk,*Zk,*Cl,*Dl,*El,*Fl,*Gl,*Ll,*Pl,*Rl,*am,*bm,*om,*wm,*ym,*Hm,*Im,*Pm,*Ym,*kn,*mn,*nn,*on,*pn,*Gn,*ho,*no,*yo,*Fo,*Ho,*dp,*jp,*zp,*Gp,*Rp,*eq,*lq,*vq,*Uq,*Sr,*ns,*rs,*vs,*Cs,*Es,*Gs,*Js,*Ns,*Ws,*et,*ft,*zt,*Kt,*Lt,*bu,*cu,*du,*eu,*fu,*ku,*ou,*qu,*zu,*Au,*Nu,*Vu,*Xu,*gv,*hv,*ov,*xv,*Jv,*Lv,*Mv,*Nv,*Ov,*fw,*Fw,*Lw,*Ww,*dx,*fx,*Bx,*Hx,*Qx,*Rx,*Zx,*gy,*ry,*Ey,*Ly,*Vy,*uz,*sA,*NA,*RA,*VA,*cB,*eB,*gB,*jB,*nB;
-u16 Vc,jf,kf,Nh,Oh,ui,Bi,qn,rn,Tp,Up,Aq,Hq,Et,Pv,Qv,ty,uy,az,hz;
-s_p_64 cg,dg,eg,Yg,Zg,ah,ko,lo,mo,gp,hp,ip,Iw,Jw,Kw,Ex,Fx,Gx;
-Xb=umin64(d>>2,(c<<5)+1024);
-Yb=Xb;
-if(r8(a+8)!=0)w8(a+8,0);
-w8(a+24,Xb);
-Zb=r8(a+16);
-ac=umin64(Zb,Xb);
-w8(a+32,ac);
-if(r8(a+48)!=0)w8(a+48,0);
-bc=c&4294967295u;
-w8(a+64,bc);
-w8(a+72,umin64(r8(a+56),bc));
-if(r8(a+88)!=0)w8(a+88,0);
-w8(a+104,bc);
-w8(a+112,umin64(r8(a+96),bc));
-a[172]=0;
-if(e){
-switch(f){
-case 3:cc=run_d0a(a,b,c,Yb);
-if(cc)goto L1;
-break;
-case 2:dc=run_5d6(a,b,c,Yb);
-if(dc)goto L1;
-break;
-case 1:ec=run_a02(a,b,c,Yb);
-if(ec)goto L1;
-break;
-default:NEVER;
-}}
-else{
-fc=c>65536;
-switch(f){
-case 3:if(!fc){
-if(c<16){
-gc=are_few_named_14c(b,c);
-if(!gc)goto L2;}
-else{
-hc=c-16;
-if(hc==0)goto L3;
-ic=0;
-L4:jc=v16_at(b+ic);
-if((v16_ult(jc,splat(33))|v16_eq(jc,splat(127)))!=0)goto L2;
-kc=ic+16;
-if(kc<hc){
-ic=kc;
-goto L4;}
-L3:lc=v16_at(b+hc);
-if((v16_ult(lc,splat(33))|v16_eq(lc,splat(127)))!=0)goto L2;}
-w4(T,0);
-w4(U,0);
-if(c!=0){
-if(c!=1&&*b==95){
-if(b[1]==90){
-if(c>=3){
-mc=b[2];
-if(c<5){
-if(mc==90){
-w8(a+176,3);
-w4(P,0);
-if(c==3)goto L5;
-nc=a+176;
-goto L6;}
-if((c!=3)&(mc==71)){
-if(b[3]==86)goto L7;
-goto L8;}
-switch(mc){
-case 71:goto L8;
-case 84:if(c==3)goto L9;
-break;
-default:goto L10;
-}}
-else{
-switch(mc){
-case 90:w8(a+176,3);
-w4(P,0);
-nc=a+176;
-goto L6;
-case 71:if(b[3]!=86)goto L8;
-if(b[4]!=90)goto L7;
-if(ac<19){
-oc=make_ready_8e3(a,19,128);
-if(!(oc&1))goto L11;
-pc=r8(a+16);
-qc=r8(a+8);}
-else{
-pc=Zb;
-qc=0;}
-if(pc-qc<19){
-rc=grow_amortized_68b(a,19);
-if(!rc)goto L11;
-sc=r8(a+16);
-tc=r8(a+8);}
-else{
-sc=pc;
-tc=qc;}
-uc=tc+19;
-vc=rp(a);
-z16(a+8);
-wc=vc+(i64)tc;
-if((u64)wc-(u64)(u8*)t_c270<19)copy_bits_4f4((u8*)t_c270,wc,19);
-else memcpy(wc,(u8*)t_c270,19);
-wp(a,vc);
-w8(a+8,uc);
-w8(a+16,sc);
-w8(a+176,5);
-w4(M,0);
-if(c!=5){
-xc=b[5];
-switch(xc){
-case 78:w4(K,0);
-w4(L,1);
-w8(a+176,6);
-if(c!=6){
-switch(b[6]){
-case 75:if(c<=7){
-yc=1;
-zc=7;
-goto L12;}
-switch(b[7]){
-case 82:yc=3;
-zc=8;
-goto L12;
-case 79:yc=5;
-zc=8;
-goto L12;
-default:yc=1;
-zc=7;
-goto L12;
-}
-break;
-case 82:yc=2;
-zc=7;
-goto L12;
-case 79:yc=4;
-zc=7;
-goto L12;
-default:break;}}
-yc=0;
-zc=6;
-L12:w8(a+176,zc);
-L[1]=yc;
-nest_at_de1(K,a,b,c,L);
-*M=*K;
-M[1]=K[1];
-M[2]=K[2];
-M[3]=K[3];
-goto L13;
-case 76:w8(a+176,6);
-begin_name_778(M,a,b,c);
-goto L13;
-case 83:begin_in_std_46e(M,a,b,c);
-goto L13;
-default:if((u8)(xc-97)<26){
-begin_operator_2ba(M,a,b,c);
-goto L13;}
-break;}}
-begin_name_778(M,a,b,c);
-L13:Ac=M[3];
-Bc=M[2];
-Cc=M[1];
-Dc=*M;
-goto L14;
-case 84:break;
-default:goto L10;
-}}
-switch(b[3]){
-case 104:begin_thunk_481(U,a,b,c);
-goto L15;
-case 118:begin_virtual_thunk_f37(U,a,b,c);
-goto L15;
-case 67:begin_clone_893(U);
-goto L15;
-default:break;}
-L9:begin_special_44d(U,a,b,c);
-L15:Ac=U[3];
-Bc=U[2];
-Cc=U[1];
-Dc=*U;
-goto L14;
-L10:w8(a+176,2);
-w4(S,0);
-Ec=b[2];
-switch(Ec){
-case 78:w4(Q,0);
-w4(R,1);
-w8(a+176,3);
-if(c!=3){
-switch(b[3]){
-case 75:if(c<=4){
-Fc=1;
-Gc=4;
-goto L16;}
-switch(b[4]){
-case 82:Fc=3;
-Gc=5;
-goto L16;
-case 79:Fc=5;
-Gc=5;
-goto L16;
-default:Fc=1;
-Gc=4;
-goto L16;
-}
-break;
-case 82:Fc=2;
-Gc=4;
-goto L16;
-case 79:Fc=4;
-Gc=4;
-goto L16;
-default:break;}}
-Fc=0;
-Gc=3;
-L16:w8(a+176,Gc);
-R[1]=Fc;
-nest_at_de1(Q,a,b,c,R);
-*S=*Q;
-S[1]=Q[1];
-S[2]=Q[2];
-S[3]=Q[3];
-goto L17;
-case 76:w8(a+176,3);
-begin_name_778(S,a,b,c);
-goto L17;
-case 83:begin_in_std_46e(S,a,b,c);
-goto L17;
-default:if((u8)(Ec-97)>=26)goto L18;
-begin_operator_2ba(S,a,b,c);
-goto L17;
-}
-L8:begin_clone_893(T);
-Ac=T[3];
-Bc=T[2];
-Cc=T[1];
-Dc=*T;
-goto L14;
-L7:begin_object_056(T,a,b,c);
-Ac=T[3];
-Bc=T[2];
-Cc=T[1];
-Dc=*T;
-goto L14;
-L6:Hc=b[3];
-switch(Hc){
-case 78:w4(N,0);
-w4(O,1);
-w8(nc,4);
-if(c>4){
-switch(b[4]){
-case 75:if(c==5){
-Ic=1;
-Jc=5;
-goto L19;}
-switch(b[5]){
-case 82:Ic=3;
-Jc=6;
-goto L19;
-case 79:Ic=5;
-Jc=6;
-goto L19;
-default:Ic=1;
-Jc=5;
-goto L19;
-}
-break;
-case 82:Ic=2;
-Jc=5;
-goto L19;
-case 79:Ic=4;
-Jc=5;
-goto L19;
-default:break;}}
-Ic=0;
-Jc=4;
-L19:w8(nc,Jc);
-O[1]=Ic;
-nest_at_de1(N,a,b,c,O);
-*P=*N;
-P[1]=N[1];
-P[2]=N[2];
-P[3]=N[3];
-goto L20;
-case 76:w8(nc,4);
-begin_name_778(P,a,b,c);
-goto L20;
-case 83:begin_in_std_46e(P,a,b,c);
-goto L20;
-default:if((u8)(Hc-97)<26){
-begin_operator_2ba(P,a,b,c);
-goto L20;}
-break;}
-L5:begin_name_778(P,a,b,c);
-L20:Ac=P[3];
-Bc=P[2];
-Cc=P[1];
-Dc=*P;
-goto L14;}
-w8(a+176,2);
-w4(S,0);
-L18:begin_name_778(S,a,b,c);
-L17:Ac=S[3];
-Bc=S[2];
-Cc=S[1];
-Dc=*S;
-L14:if(Dc!=1)goto L2;
-Kc=c<<3;
-Lc=0;
-Mc=Ac;
-Nc=Bc;
-Oc=Cc;
-L21:if(Oc==7){
-Pc=r8(a+8);
-if(Pc>Xb)goto L2;
-Qc=rp(a);
-if(Pc==0)goto L22;
-Rc=0;
-Sc=0;
-Tc=0;
-L23:Uc=Rc;
-L24:if(Pc-Uc>15){
-Vc=cttz(v16_ult(v16_at(Qc+Uc),splat(3)),16);
-Wc=Uc+Vc;
-if(Vc>=16){
-Uc=Wc;
-goto L24;}
-Xc=Wc;}
-else{
-if(Uc>=Pc){
-Xc=Uc;
-goto L25;}
-Yc=Uc;
-L26:if(*(Qc+Yc)>2){
-Zc=Yc+1;
-if(Zc!=Pc){
-Yc=Zc;
-goto L26;}
-Xc=Pc;}
-else Xc=Yc;}
-L25:if(Tc==0){
-if(Sc<Rc){
-if(Xc!=Rc){
-ad=Xc-Rc;
-bd=Qc+(i64)Rc;
-cd=Qc+(i64)Sc;
-dd=0;
-L27:*(cd+(i64)dd)=*(bd+(i64)dd);
-ed=dd+1;
-if(ed!=ad){
-dd=ed;
-goto L27;}}}
-fd=Sc-Rc+Xc;}
-else fd=Sc;
-if(Xc!=Pc){
-switch(*(Qc+Xc)){
-case 1:gd=Tc+1;
-break;
-case 2:gd=usub64(Tc,1);
-break;
-default:goto L2;
-}
-hd=Xc+1;
-if(hd<Pc){
-Rc=hd;
-Sc=fd;
-Tc=gd;
-goto L23;}}
-if(r8(a+8)>fd)w8(a+8,fd);
-L22:goto L1;}
-w8(a+184,r8(a+184)+1);
-switch(Oc){
-case 0:w4(H,0);
-w4(I,0);
-id=r8(a+176);
-if(id<c){
-jd=r8(a+8);
-kd=jd;
-ld=*(b+id);
-switch(ld){
-case 80:w4(F,0);
-md=id+1;
-if(md<c){
-switch(*(b+md)){
-case 70:begin_function_7aa(F,a,1);
-*I=*F;
-I[1]=F[1];
-I[2]=F[2];
-nd=F[3];
-goto L28;
-case 65:begin_array_86f(F,a,b,c,1);
-*I=*F;
-I[1]=F[1];
-I[2]=F[2];
-nd=F[3];
-goto L28;
-default:break;}}
-w8(a+176,md);
-od=r8(a+88);
-if(r8(a+112)>od)pd=od;
-else{
-qd=make_ready_9a1(a+80);
-if(!(qd&1)){
-sd=0;
-goto L29;}
-pd=r8(a+88);}
-td=rp(a+80)+pd*44;
-*td=0;
-td[1]=0;
-x2(td+2,0);
-x4(td+4,kd);
-z36(td+8);
-w8(a+88,pd+1);
-sd=1;
-L29:*I=sd;
-I[1]=0;
-I[2]=0;
-nd=0;
-L28:I[3]=nd;
-ud=I+1;
-vd=I+2;
-xd=I+3;
-yd=I;
-goto L30;
-case 70:begin_function_7aa(I,a,0);
-ud=I+1;
-vd=I+2;
-xd=I+3;
-yd=I;
-goto L30;
-case 82:zd=id+1;
-if(zd<c){
-if(*(b+zd)==65){
-begin_array_86f(H,a,b,c,2);
-ud=H+1;
-vd=H+2;
-xd=H+3;
-yd=H;
-goto L30;}}
-w8(a+176,zd);
-Ad=r8(a+88);
-if(r8(a+112)>Ad)Bd=Ad;
-else{
-Cd=make_ready_9a1(a+80);
-if(!(Cd&1)){
-w4(I,0);
-ud=I+1;
-vd=I+2;
-xd=I+3;
-yd=I;
-goto L30;}
-Bd=r8(a+88);}
-Dd=rp(a+80)+Bd*44;
-*Dd=1;
-Dd[1]=0;
-x2(Dd+2,0);
-x4(Dd+4,kd);
-z36(Dd+8);
-w8(a+88,Bd+1);
-*I=1;
-I[1]=0;
-I[2]=0;
-I[3]=0;
-ud=I+1;
-vd=I+2;
-xd=I+3;
-yd=I;
-goto L30;
-case 65:begin_array_86f(I,a,b,c,0);
-ud=I+1;
-vd=I+2;
-xd=I+3;
-yd=I;
-goto L30;
-case 79:rvalue_at_e1d(I,a,b,c);
-ud=I+1;
-vd=I+2;
-xd=I+3;
-yd=I;
-goto L30;
-case 75:w8(a+176,id+1);
-Ed=r8(a+88);
-if(r8(a+112)>Ed)Fd=Ed;
-else{
-Gd=make_ready_9a1(a+80);
-if(!(Gd&1)){
-w4(I,0);
-ud=I+1;
-vd=I+2;
-xd=I+3;
-yd=I;
-goto L30;}
-Fd=r8(a+88);}
-Hd=rp(a+80)+Fd*44;
-*Hd=3;
-Hd[1]=0;
-x2(Hd+2,0);
-x4(Hd+4,kd);
-z36(Hd+8);
-w8(a+88,Fd+1);
-*I=1;
-I[1]=1;
-I[2]=0;
-I[3]=0;
-ud=I+1;
-vd=I+2;
-xd=I+3;
-yd=I;
-goto L30;
-case 78:w4(B,0);
-w4(C,0);
-w8(a+176,id+1);
-nest_at_de1(B,a,b,c,C);
-*I=*B;
-I[1]=B[1];
-I[2]=B[2];
-I[3]=B[3];
-ud=I+1;
-vd=I+2;
-xd=I+3;
-yd=I;
-goto L30;
-case 83:case 90:break;
-case 68:builtin_with_d_cb0(I,a,b,c);
-ud=I+1;
-vd=I+2;
-xd=I+3;
-yd=I;
-goto L30;
-case 84:template_parameter_3b0(I,a,b,c);
-ud=I+1;
-vd=I+2;
-xd=I+3;
-yd=I;
-goto L30;
-default:if((u8)(ld-49)>=9){
-Id=ld-97;
-if(Id>=26){
-ud=I+1;
-vd=I+2;
-xd=I+3;
-yd=I;
-goto L30;}
-if(!(u8)(((u32)65829887>>Id)&1)){
-ud=I+1;
-vd=I+2;
-xd=I+3;
-yd=I;
-goto L30;}
-Jd=rp((u8*)t_e7e8+(u64)Id*8);
-Kd=r8((u8*)t_f635+(u64)Id*8);
-w8(a+176,id+1);
-if(r8(a+32)-jd<Kd){
-Ld=make_ready_8e3(a,Kd,128);
-if(!(Ld&1))goto L31;
-Md=r8(a+8);}
-else Md=jd;
-Nd=r8(a+16);
-if(Kd>Nd-Md){
-Od=grow_amortized_68b(a,Kd);
-if(!Od)goto L31;
-Pd=r8(a+16);
-Qd=r8(a+8);}
-else{
-Pd=Nd;
-Qd=Md;}
-Rd=Qd+Kd;
-Sd=rp(a);
-z16(a+8);
-Td=Sd+(i64)Qd;
-if((u64)Td-(u64)Jd<Kd)copy_bits_4f4(Jd,Td,Kd);
-else memmove(Td,Jd,Kd);
-wp(a,Sd);
-w8(a+8,Rd);
-w8(a+16,Pd);
-*I=1;
-I[1]=2;
-I[2]=0;
-I[3]=0;
-ud=I+1;
-vd=I+2;
-xd=I+3;
-yd=I;
-goto L30;
-L31:w4(I,0);
-ud=I+1;
-vd=I+2;
-xd=I+3;
-yd=I;
-goto L30;}
-break;}
-named_type_faa(I,a,b,c);
-ud=I+1;
-vd=I+2;
-xd=I+3;
-yd=I;}
-else{
-ud=I+1;
-vd=I+2;
-xd=I+3;
-yd=I;}
-L30:Ud=*xd;
-Vd=*vd;
-Wd=*ud;
-Xd=*yd;
-goto L32;
-case 1:w4(G,0);
-Yd=r8(a+176);
-if(Yd<c){
-Zd=r8(a+8);
-ae=Zd;
-be=*(b+Yd);
-switch(be){
-case 80:w8(a+176,Yd+1);
-ce=r8(a+88);
-if(r8(a+112)>ce)de=ce;
-else{
-ee=make_ready_9a1(a+80);
-if(!(ee&1)){
-fe=0;
-goto L33;}
-de=r8(a+88);}
-ge=rp(a+80)+de*44;
-*ge=0;
-ge[1]=0;
-x2(ge+2,0);
-x4(ge+4,ae);
-z36(ge+8);
-w8(a+88,de+1);
-fe=1;
-L33:*G=fe;
-G[1]=0;
-G[2]=0;
-G[3]=0;
-goto L34;
-case 70:case 65:case 75:he=0;
-ie=0;
-je=0;
-ke=0;
-goto L35;
-case 82:w8(a+176,Yd+1);
-le=r8(a+88);
-if(r8(a+112)>le)me=le;
-else{
-ne=make_ready_9a1(a+80);
-if(!(ne&1)){
-w4(G,0);
-goto L34;}
-me=r8(a+88);}
-oe=rp(a+80)+me*44;
-*oe=1;
-oe[1]=0;
-x2(oe+2,0);
-x4(oe+4,ae);
-z36(oe+8);
-w8(a+88,me+1);
-*G=1;
-G[1]=0;
-G[2]=0;
-G[3]=0;
-goto L34;
-case 79:rvalue_at_e1d(G,a,b,c);
-goto L34;
-case 78:w4(D,0);
-w4(E,0);
-w8(a+176,Yd+1);
-nest_at_de1(D,a,b,c,E);
-*G=*D;
-G[1]=D[1];
-G[2]=D[2];
-G[3]=D[3];
-goto L34;
-case 83:case 90:break;
-case 68:builtin_with_d_cb0(G,a,b,c);
-goto L34;
-case 84:template_parameter_3b0(G,a,b,c);
-goto L34;
-default:if((u8)(be-49)>=9){
-pe=be-97;
-if(pe>=26)goto L34;
-if(!(u8)(((u32)65829887>>pe)&1))goto L34;
-qe=rp((u8*)t_e7e8+(u64)pe*8);
-re=r8((u8*)t_f635+(u64)pe*8);
-w8(a+176,Yd+1);
-if(r8(a+32)-Zd<re){
-se=make_ready_8e3(a,re,128);
-if(!(se&1))goto L36;
-te=r8(a+8);}
-else te=Zd;
-ue=r8(a+16);
-if(re>ue-te){
-ve=grow_amortized_68b(a,re);
-if(!ve)goto L36;
-we=r8(a+16);
-xe=r8(a+8);}
-else{
-we=ue;
-xe=te;}
-ye=xe+re;
-ze=rp(a);
-z16(a+8);
-Ae=ze+(i64)xe;
-if((u64)Ae-(u64)qe<re)copy_bits_4f4(qe,Ae,re);
-else memmove(Ae,qe,re);
-wp(a,ze);
-w8(a+8,ye);
-w8(a+16,we);
-*G=1;
-G[1]=2;
-G[2]=0;
-G[3]=0;
-goto L34;
-L36:w4(G,0);
-goto L34;}
-break;}
-named_type_faa(G,a,b,c);}
-L34:he=G[3];
-ie=G[2];
-je=G[1];
-ke=*G;
-L35:Ud=he;
-Vd=ie;
-Wd=je;
-Xd=ke;
-goto L32;
-case 4:if(!(a[136]&1)){
-Be=r4(a+120);
-Ce=a[139];
-De=r8(a+8);
-Ee=r8(a+48);
-if(r8(a+72)>Ee)Fe=Ee;
-else{
-Ge=make_ready_17a(a+40);
-if(!(Ge&1))goto L37;
-Fe=r8(a+48);}
-He=rp(a+40)+Fe*12;
-x4(He,Be);
-x4(He+4,De);
-He[8]=0;
-He[9]=Ce;
-x2(He+10,0);
-w8(a+48,Fe+1);}
-Ie=r8(a+176);
-if(Ie<c){
-if(*(b+Ie)==73){
-memcpy(J,a+120,20);
-z20(J+20);
-Je=r8(a+8);
-if(r8(a+32)>Je)Ke=Je;
-else{
-Le=make_ready_8e3(a,1,16);
-if(!(Le&1))goto L37;
-Ke=r8(a+8);}
-*(rp(a)+Ke)=1;
-w8(a+8,Ke+1);
-Me=r8(a+176);
-if(Me==18446744073709551615u)goto L37;
-w8(a+176,Me+1);
-Ne=r8(a+88);
-if(r8(a+112)>Ne)Oe=Ne;
-else{
-Pe=make_ready_9a1(a+80);
-if(!(Pe&1))goto L37;
-Oe=r8(a+88);}
-Qe=rp(a+80)+Oe*44;
-*Qe=6;
-Qe[1]=0;
-x2(Qe+2,0);
-memcpy(Qe+4,J,40);
-w8(a+88,Oe+1);
-Re=0;
-Se=1;
-Te=3;}
-else{
-Re=0;
-Se=0;
-Te=6;}}
-else{
-Re=0;
-Se=0;
-Te=6;}
-break;
-case 5:Ue=r8(a+176);
-if(Ue<c){
-if(*(b+Ue)==69){
-Ve=a[132];
-if(Ve==0){
-w8(a+176,Ue+1);
-We=a[139];
-if(a[136]&1){
-Re=We;
-Se=0;
-Te=2;
-break;}
-Xe=r4(a+120);
-Ye=r8(a+8);
-Ze=r8(a+48);
-if(r8(a+72)>Ze)af=Ze;
-else{
-bf=make_ready_17a(a+40);
-if(!(bf&1))goto L37;
-af=r8(a+48);}
-cf=rp(a+40)+af*12;
-x4(cf,Xe);
-x4(cf+4,Ye);
-cf[8]=0;
-cf[9]=We;
-x2(cf+10,0);
-w8(a+48,af+1);
-Re=a[139];
-Se=0;
-Te=2;
-break;}
-w4(A,0);
-w8(a+176,Ue+1);
-df=a[133];
-switch(Ve){
-case 3:addressed_named_968(A,a,b,c,df);
-ef=A+1;
-ff=A+2;
-gf=A+3;
-hf=A;
-break;
-case 1:if(a[138]&1){
-jf=q2(a+140);
-kf=q2(a+142);
-memcpy(z+4,a+144,16);
-lf=q8(a+160);
-mf=a[168];
-nf=a[169];
-of=a[170];
-pf=a[171];
-w2(z,jf);
-w2(z+2,kf);
-x8(z+20,lf);
-z[28]=mf;
-z[29]=nf;
-z[30]=of;
-z[31]=pf;
-qf=a[137]&1;}
-else{
-z32(z);
-qf=0;}
-name_ended_a18(A,a,b,c,df,qf,z,r4(a+120));
-ef=A+1;
-ff=A+2;
-gf=A+3;
-hf=A;
-break;
-case 2:if(a[138]&1){
-rf=r4(a+120);
-if(a[137]&1){
-enclosing_instance_0fc(y,a,b,c,df,r2(a+134),rf);
-ef=y+1;
-ff=y+2;
-gf=y+3;
-hf=y;
-break;}
-sf=rf;}
-else sf=r4(a+120);
-enclosing_named_18f(A,a,b,c,df,sf);
-ef=A+1;
-ff=A+2;
-gf=A+3;
-hf=A;
-break;
-default:NEVER;
-}
-Ud=*gf;
-Vd=*ff;
-Wd=*ef;
-Xd=*hf;
-goto L32;}}
-if(a[136]&1){
-Re=0;
-Se=0;
-Te=6;}
-else{
-tf=r4(a+120);
-uf=a[139];
-vf=r8(a+8);
-wf=r8(a+48);
-if(r8(a+72)>wf)xf=wf;
-else{
-yf=make_ready_17a(a+40);
-if(!(yf&1))goto L37;
-xf=r8(a+48);}
-zf=rp(a+40)+xf*12;
-x4(zf,tf);
-x4(zf+4,vf);
-zf[8]=0;
-zf[9]=uf;
-x2(zf+10,0);
-w8(a+48,xf+1);
-Re=0;
-Se=0;
-Te=6;}
-break;
-case 6:case 2:case 3:Re=Mc;
-Se=Nc;
-Te=Oc;
-break;
-default:NEVER;
-}
-Af=Te;
-Bf=Se;
-Cf=Re;
-goto L38;
-L37:goto L2;
-L32:if(Xd!=1)goto L2;
-Af=Wd;
-Bf=Vd;
-Cf=Ud;
-L38:if(Af!=6){
-Ef=Af;
-Ff=Bf;
-Gf=Cf;
-goto L39;}
-Df=0;
-L40:w4(Z,0);
-Hf=r8(a+176);
-if(Hf<c){
-If=*(b+Hf);
-switch(If){
-case 67:constructor_ff5(Z,a,b,c);
-break;
-case 68:destructor_97b(Z,a,b,c);
-break;
-case 76:w8(a+176,Hf+1);
-Jf=r8(a+8);
-if(r8(a+32)-Jf<2){
-Kf=make_ready_8e3(a,2,128);
-if(!(Kf&1))goto L41;
-Lf=r8(a+8);}
-else Lf=Jf;
-*(rp(a)+Lf)=58;
-*(rp(a)+(i64)Lf+1)=58;
-Mf=Lf+2;
-w8(a+8,Mf);
-Nf=r8(a+176);
-z24(W);
-if(Nf<c){
-Of=*(b+Nf);
-if((u8)(Of-58)>=247){
-Pf=Mf;
-Qf=Nf+1;
-if(Qf<c){
-Rf=*(b+Qf)-48;
-if(Rf<10){
-Sf=Nf+2;
-if(Sf<c){
-if((u8)(*(b+Sf)-48)<10){
-long_name_at_8ad(W,b,c,Nf);
-if(*W!=1)goto L41;
-Tf=r8(W+8);
-Uf=r8(W+16);
-goto L42;}}
-Vf=(u64)Rf+(u8)((u8)(Of*10)+32);
-if(c-Sf<Vf)goto L43;
-if((u8)(*(b+(i64)Sf)-48)<10)goto L43;
-Wf=Vf+Sf;
-Xf=Sf;
-goto L44;}}
-Yf=Of-48;
-if(c-Qf<Yf)goto L43;
-if((u8)(*(b+(i64)Qf)-48)<10)goto L43;
-Wf=Qf+Yf;
-Xf=Qf;
-L44:Tf=Xf;
-Uf=Wf;
-L42:w8(a+176,Uf);
-Zf=b+(i64)Tf;
-ag=Uf-Tf;
-if(Uf!=Tf){
-if(!(ag<10||*Zf!=95)){
-bg=parts_equal_58b((u8*)t_35ad,10,Zf,10);
-if(bg){
-cg=(s_p_64){(u8*)t_62ff,21};
-goto L45;}}}
-dg=(s_p_64){0};dg.f0=Zf;
-eg=dg;eg.f1=ag;
-cg=eg;
-L45:fg=cg.f0;
-gg=cg.f1;
-if(r8(a+32)-Mf<gg){
-hg=make_ready_8e3(a,gg,128);
-if(!(hg&1))goto L41;}
-ig=extend_from_slice_674(a,fg,gg);
-if(ig&1)goto L41;
-jg=r8(a+8);
-kg=a[139];
-w4(a+124,Pf);
-w4(a+128,jg);
-a[136]=0;
-a[137]=1;
-a[138]=0;
-lg=r8(a+176);
-if(lg>=c){
-Ag=0;
-Bg=5;
-goto L46;}
-if(*(b+lg)!=73){
-Ag=0;
-Bg=5;
-goto L46;}
-mg=r4(a+120);
-ng=r8(a+48);
-if(r8(a+72)>ng)og=ng;
-else{
-pg=make_ready_17a(a+40);
-if(!(pg&1))goto L47;
-og=r8(a+48);}
-qg=rp(a+40)+og*12;
-x4(qg,mg);
-x4(qg+4,jg);
-qg[8]=0;
-qg[9]=kg;
-x2(qg+10,0);
-w8(a+48,og+1);
-memcpy(V,a+120,20);
-z20(V+20);
-rg=r8(a+8);
-if(r8(a+32)>rg)sg=rg;
-else{
-tg=make_ready_8e3(a,1,16);
-if(!(tg&1))goto L47;
-sg=r8(a+8);}
-*(rp(a)+sg)=1;
-w8(a+8,sg+1);
-ug=r8(a+176);
-if(ug==18446744073709551615u)goto L47;
-w8(a+176,ug+1);
-vg=r8(a+88);
-if(r8(a+112)>vg){
-wg=vg;
-xg=V;
-goto L48;}
-yg=make_ready_9a1(a+80);
-if(!(yg&1))goto L47;
-zg=V;
-goto L49;}}
-L43:goto L41;
-case 85:begin_component_d5a(Z,a,b,c);
-break;
-default:if((u8)(If-97)>=26)goto L50;
-operator_c58(Z,a,b,c);
-break;}
-if(*Z!=1)goto L2;
-Cg=Z[1];
-Dg=Z[2];
-Eg=Z[3];
-goto L51;}
-L50:Fg=r8(a+8);
-if(r8(a+32)-Fg<2){
-Gg=make_ready_8e3(a,2,128);
-if(!(Gg&1))goto L41;
-Hg=r8(a+8);}
-else Hg=Fg;
-*(rp(a)+Hg)=58;
-*(rp(a)+(i64)Hg+1)=58;
-Ig=Hg+2;
-w8(a+8,Ig);
-Jg=r8(a+176);
-z24(Y);
-if(Jg<c){
-Kg=*(b+Jg);
-if((u8)(Kg-58)>=247){
-Lg=Ig;
-Mg=Jg+1;
-if(Mg<c){
-Ng=*(b+Mg)-48;
-if(Ng<10){
-Og=Jg+2;
-if(Og<c){
-if((u8)(*(b+Og)-48)<10){
-long_name_at_8ad(Y,b,c,Jg);
-if(*Y!=1)goto L41;
-Pg=r8(Y+8);
-Qg=r8(Y+16);
-goto L52;}}
-Rg=(u64)Ng+(u8)((u8)(Kg*10)+32);
-if(c-Og<Rg)goto L53;
-if((u8)(*(b+(i64)Og)-48)<10)goto L53;
-Sg=Rg+Og;
-Tg=Og;
-goto L54;}}
-Ug=Kg-48;
-if(c-Mg<Ug)goto L53;
-if((u8)(*(b+(i64)Mg)-48)<10)goto L53;
-Sg=Mg+Ug;
-Tg=Mg;
-L54:Pg=Tg;
-Qg=Sg;
-L52:w8(a+176,Qg);
-Vg=b+(i64)Pg;
-Wg=Qg-Pg;
-if(Qg!=Pg){
-if(!(Wg<10||*Vg!=95)){
-Xg=parts_equal_58b((u8*)t_35ad,10,Vg,10);
-if(Xg){
-Yg=(s_p_64){(u8*)t_62ff,21};
-goto L55;}}}
-Zg=(s_p_64){0};Zg.f0=Vg;
-ah=Zg;ah.f1=Wg;
-Yg=ah;
-L55:bh=Yg.f0;
-ch=Yg.f1;
-if(r8(a+32)-Ig<ch){
-dh=make_ready_8e3(a,ch,128);
-if(!(dh&1))goto L41;
-eh=r8(a+8);}
-else eh=Ig;
-fh=r8(a+16);
-if(ch>fh-eh){
-gh=grow_amortized_68b(a,ch);
-if(!gh)goto L41;
-hh=r8(a+16);
-ih=r8(a+8);}
-else{
-hh=fh;
-ih=eh;}
-jh=ih+ch;
-kh=rp(a);
-z16(a+8);
-lh=kh+(i64)ih;
-if((u64)lh-(u64)bh<ch)copy_bits_4f4(bh,lh,ch);
-else memmove(lh,bh,ch);
-wp(a,kh);
-w8(a+8,jh);
-w8(a+16,hh);
-mh=jh;
-nh=a[139];
-w4(a+124,Lg);
-w4(a+128,mh);
-a[136]=0;
-a[137]=1;
-a[138]=0;
-oh=r8(a+176);
-if(oh>=c){
-Ag=0;
-Bg=5;
-goto L46;}
-if(*(b+oh)!=73){
-Ag=0;
-Bg=5;
-goto L46;}
-ph=r4(a+120);
-qh=r8(a+48);
-if(r8(a+72)>qh)rh=qh;
-else{
-sh=make_ready_17a(a+40);
-if(!(sh&1))goto L47;
-rh=r8(a+48);}
-th=rp(a+40)+rh*12;
-x4(th,ph);
-x4(th+4,mh);
-th[8]=0;
-th[9]=nh;
-x2(th+10,0);
-w8(a+48,rh+1);
-memcpy(X,a+120,20);
-z20(X+20);
-uh=r8(a+8);
-if(r8(a+32)>uh)vh=uh;
-else{
-wh=make_ready_8e3(a,1,16);
-if(!(wh&1))goto L47;
-vh=r8(a+8);}
-*(rp(a)+vh)=1;
-w8(a+8,vh+1);
-xh=r8(a+176);
-if(xh==18446744073709551615u)goto L47;
-w8(a+176,xh+1);
-yh=r8(a+88);
-if(r8(a+112)>yh){
-wg=yh;
-xg=X;
-goto L48;}
-zh=make_ready_9a1(a+80);
-if(!(zh&1))goto L47;
-zg=X;
-goto L49;}}
-L53:goto L41;
-L49:wg=r8(a+88);
-xg=zg;
-L48:Ah=rp(a+80)+wg*44;
-*Ah=5;
-Ah[1]=0;
-x2(Ah+2,0);
-memcpy(Ah+4,xg,40);
-w8(a+88,wg+1);
-Ag=1;
-Bg=3;
-L46:Cg=Bg;
-Dg=Ag;
-Eg=0;
-goto L51;
-L47:goto L2;
-L41:goto L2;
-L51:if(Cg==5){
-Bh=r8(a+176);
-if(Bh<c){
-if(*(b+Bh)==69){
-Ch=a[132];
-if(Ch==0){
-w8(a+176,Bh+1);
-Dh=a[139];
-if(a[136]&1){
-Eh=Dh;
-Fh=0;
-goto L56;}
-Gh=r4(a+120);
-Hh=r8(a+8);
-Ih=r8(a+48);
-if(r8(a+72)>Ih)Jh=Ih;
-else{
-Kh=make_ready_17a(a+40);
-if(!(Kh&1))goto L2;
-Jh=r8(a+48);}
-Lh=rp(a+40)+Jh*12;
-x4(Lh,Gh);
-x4(Lh+4,Hh);
-Lh[8]=0;
-Lh[9]=Dh;
-x2(Lh+10,0);
-w8(a+48,Jh+1);
-Eh=a[139];
-Fh=0;
-goto L56;}
-w4(ca,0);
-w8(a+176,Bh+1);
-Mh=a[133];
-switch(Ch){
-case 3:addressed_named_968(ca,a,b,c,Mh);
-break;
-case 1:if(a[138]&1){
-Nh=q2(a+140);
-Oh=q2(a+142);
-memcpy(ba+4,a+144,16);
-Ph=q8(a+160);
-Qh=a[168];
-Rh=a[169];
-Sh=a[170];
-Th=a[171];
-w2(ba,Nh);
-w2(ba+2,Oh);
-x8(ba+20,Ph);
-ba[28]=Qh;
-ba[29]=Rh;
-ba[30]=Sh;
-ba[31]=Th;
-Uh=a[137]&1;}
-else{
-z32(ba);
-Uh=0;}
-name_ended_a18(ca,a,b,c,Mh,Uh,ba,r4(a+120));
-break;
-case 2:if(a[138]&1){
-if(a[137]&1){
-enclosing_instance_0fc(aa,a,b,c,Mh,r2(a+134),r4(a+120));
-Vh=aa[3];
-Wh=aa[2];
-Xh=aa[1];
-Yh=aa;
-goto L57;}}
-enclosing_named_18f(ca,a,b,c,Mh,r4(a+120));
-break;
-default:NEVER;
-}
-Vh=ca[3];
-Wh=ca[2];
-Xh=ca[1];
-Yh=ca;
-L57:if(*Yh!=1)goto L2;
-Ef=Xh;
-Ff=Wh;
-Gf=Vh;
-goto L39;}}
-if(!(a[136]&1)){
-Zh=r4(a+120);
-ai=a[139];
-bi=r8(a+8);
-ci=r8(a+48);
-if(r8(a+72)>ci)di=ci;
-else{
-ei=make_ready_17a(a+40);
-if(!(ei&1))goto L2;
-di=r8(a+48);}
-fi=rp(a+40)+di*12;
-x4(fi,Zh);
-x4(fi+4,bi);
-fi[8]=0;
-fi[9]=ai;
-x2(fi+10,0);
-w8(a+48,di+1);}
-gi=Df+1;
-if(gi!=16){
-Df=gi;
-goto L40;}
-hi=6;
-ii=0;
-ji=0;
-goto L58;}
-Ef=Cg;
-Ff=Dg;
-Gf=Eg;
-L39:if(Ef!=2){
-ki=Ef;
-li=Ff;
-mi=Gf;
-goto L59;}
-Eh=Gf;
-Fh=Ff;
-L56:w4(v,0);
-w4(w,0);
-z32(x);
-ni=r8(a+88);
-if(ni!=0){
-oi=Fh&1;
-pi=rp(a+80)+(i64)(ni*44);
-qi=pi[-44];
-ri=pi[-43];
-si=q4(pi-40);
-ti=q4(pi-36);
-ui=q2(pi-32);
-switch(qi){
-case 29:case 28:case 27:case 26:case 4:case 5:case 6:case 7:case 8:case 11:case 12:case 13:case 14:case 15:case 16:case 17:case 18:case 19:case 20:case 21:case 22:case 23:case 24:case 25:if(Eh&1){
-pass_dependent_3d7(v,a,b,c);
-vi=v[3];
-wi=v[2];
-xi=v[1];
-yi=*v;
-goto L60;}
-zi=q4(pi-4);
-w4(r,0);
-switch(qi){
-case 22:returned_07a(r,a,b,c,ri&1);
-break;
-case 23:parameter_at_257(r,a,b,c,ri&1,0);
-break;
-case 24:array_ended_b9c(r,a,b,c,ri,si,ti);
-break;
-case 12:enclosing_parameter_fc1(r,a,b,c,si,ti);
-break;
-case 13:instance_parameter_240(r,a,b,c,ri,si,ti);
-break;
-case 11:w2(o,ui);
-memcpy(o+2,pi-30,26);
-x4(o+28,zi);
-enclosing_front_fa8(r,a,ri,si,ti,o);
-break;
-case 17:w4(p,ti);
-w2(p+4,ui);
-lambda_parameter_383(r,a,b,c,si,p);
-break;
-case 18:member_parameter_7e4(r,a,b,c,si);
-break;
-case 15:w4(q,ti);
-w2(q+4,ui);
-memcpy(q+6,pi-30,26);
-addressed_front_54d(r,a,b,c,ri,si,q);
-break;
-case 16:addressed_parameter_2cf(r,a,b,c,si);
-break;
-case 14:*r=0;
-break;
-case 19:finish_8cd(r,a,b,c);
-break;
-case 20:derived_ended_aef(r,a,b,c);
-break;
-case 21:base_ended_299(r,a,b,c,si);
-break;
-case 29:enumerator_21c(r,a,b,c);
-break;
-case 26:case 25:case 28:Ai=ti;
-Bi=zi;
-w4(n,0);
-switch(qi){
-case 26:w2(k,ti>>16);
-w2(k+2,ui);
-memcpy(k+4,pi-30,26);
-w2(k+30,Bi);
-argument_enumerator_2d4(n,a,b,c,si,Ai,k);
-break;
-case 25:w2(l,ti>>16);
-w2(l+2,ui);
-memcpy(l+4,pi-30,26);
-w2(l+30,Bi);
-argument_ended_1bb(n,a,b,c,si,Ai,l,oi);
-break;
-case 28:w2(m,ti>>16);
-w2(m+2,ui);
-memcpy(m+4,pi-30,26);
-w2(m+30,Bi);
-element_ended_20b(n,a,b,c,si,Ai,m,oi);
-break;
-case 27:*n=0;
-break;
-default:NEVER;
-}
-Ci=n[1];
-Di=n[2];
-Ei=n[3];
-*r=*n;
-r[1]=Ci;
-r[2]=Di;
-r[3]=Ei;
-break;
-case 27:case 10:case 9:case 8:case 4:case 5:case 6:case 7:*r=1;
-r[1]=3;
-r[2]=0;
-r[3]=0;
-break;
-default:NEVER;
-}
-vi=r[3];
-wi=r[2];
-xi=r[1];
-yi=*r;
-goto L60;
-case 10:Fi=r8(a+176);
-if(Fi<c){
-switch(*(b+Fi)){
-case 69:case 46:case 0:break;
-default:w4(u,ti);
-w2(u+4,ui);
-memcpy(u+6,pi-30,26);
-w4(t,0);
-if(u[29]&1){
-expansion_52e(t,a,b,c,0,si,u);
-Gi=t[3];
-Hi=t[2];
-Ii=t[1];
-Ji=*t;}
-else{
-Ki=r8(a+8);
-if(r8(a+32)-Ki<2){
-Li=make_ready_8e3(a,2,128);
-if(!(Li&1)){
-Gi=0;
-Hi=0;
-Ii=0;
+Ci=write_less_2c7(c+496,e,f,ka,0,la);
+if(!Ci)goto L68;
+ab=r8(c+504);
+L22:Di=rp(c+496);
+Ei=r8(g+16);
+Fi=r8(g+8);
+if(ab>Ei-Fi){
+Gi=grow_amortized_68b(g,ab);
+if(!Gi){
 Ji=0;
-goto L61;}
-Mi=r8(a+8);}
-else Mi=Ki;
-*(rp(a)+Mi)=44;
-*(rp(a)+(i64)Mi+1)=32;
-w8(a+8,Mi+2);
-Gi=0;
-Hi=0;
-Ii=0;
-Ji=1;}
-L61:vi=Gi;
-wi=Hi;
-xi=Ii;
-yi=Ji;
-goto L60;
-}}
-Ni=r8(a+8);
-if(Ni>=5){
-Oi=rp(a)+(i64)Ni;
-Pi=0;
-Qi=0;
-L62:Ri=Pi||*((u8*)t_262b+(i64)Qi)!=*(Oi-5+(i64)Qi);
-Si=Qi+1;
-if(Si!=4){
-Pi=Ri;
-Qi=Si;
-goto L62;}
-Ti=0;
-Ui=0;
-L63:Vi=Ui+1;
-Wi=Ti||*((u8*)t_262b+(i64)Vi)!=*(Oi-5+(i64)Vi);
-if(Vi!=4){
-Ti=Wi;
-Ui=Vi;
-goto L63;}
-if(!(Ri|Wi)){
-Xi=0;
-Yi=0;
-Zi=0;
-aj=0;
-goto L64;}}
-close_39a(s,a,b,c,si);
-Xi=s[3];
-Yi=s[2];
-Zi=s[1];
-aj=*s;
-L64:vi=Xi;
-wi=Yi;
-xi=Zi;
-yi=aj;
-goto L60;
-case 9:w4(x,ti);
-w2(x+4,ui);
-memcpy(x+6,pi-30,26);
-front_ended_665(w,a,b,c,ri,si,x);
-vi=w[3];
-wi=w[2];
-xi=w[1];
-yi=*w;
-goto L60;
-case 0:w8(a+88,ni-1);
-bj=r8(a+8);
-if(r8(a+32)>bj)cj=bj;
-else{
-dj=make_ready_8e3(a,1,16);
-if(!(dj&1))goto L65;
-cj=r8(a+8);}
-*(rp(a)+cj)=42;
-ej=cj+1;
-w8(a+8,ej);
-fj=ej;
-gj=Eh&1;
-hj=r8(a+48);
-if(r8(a+72)>hj){
-ij=hj;
-jj=fj;
-kj=0;
-lj=gj;
-goto L66;}
-mj=make_ready_17a(a+40);
-if(!(mj&1))goto L65;
-nj=fj;
-oj=0;
-pj=gj;
-break;
-case 1:if(oi)goto L65;
-w8(a+88,ni-1);
-qj=r8(a+8);
-if(r8(a+32)>qj)rj=qj;
-else{
-sj=make_ready_8e3(a,1,16);
-if(!(sj&1))goto L65;
-rj=r8(a+8);}
-*(rp(a)+rj)=38;
-tj=rj+1;
-w8(a+8,tj);
-uj=tj;
-vj=Eh&1;
-wj=r8(a+48);
-if(r8(a+72)>wj){
-ij=wj;
-jj=uj;
-kj=1;
-lj=vj;
-goto L66;}
-xj=make_ready_17a(a+40);
-if(!(xj&1))goto L65;
-nj=uj;
-oj=1;
-pj=vj;
-break;
-case 2:if(oi)goto L65;
-w8(a+88,ni-1);
-yj=r8(a+8);
-if(r8(a+32)-yj<2){
-zj=make_ready_8e3(a,2,128);
-if(!(zj&1))goto L65;
-Aj=r8(a+8);}
-else Aj=yj;
-*(rp(a)+Aj)=38;
-*(rp(a)+(i64)Aj+1)=38;
-Bj=Aj+2;
-w8(a+8,Bj);
-Cj=Bj;
-Dj=Eh&1;
-Ej=r8(a+48);
-if(r8(a+72)>Ej){
-ij=Ej;
-jj=Cj;
-kj=1;
-lj=Dj;
-goto L66;}
-Fj=make_ready_17a(a+40);
-if(!(Fj&1))goto L65;
-nj=Cj;
-oj=1;
-pj=Dj;
-break;
-case 3:if(oi)goto L65;
-w8(a+88,ni-1);
-if(r8(a+32)-r8(a+8)<6){
-Gj=make_ready_8e3(a,6,128);
-if(!(Gj&1))goto L65;}
-Hj=extend_from_slice_674(a,(u8*)t_f603,6);
-if(Hj&1)goto L65;
-Ij=r8(a+8);
-Jj=Eh&1;
-Kj=r8(a+48);
-if(r8(a+72)>Kj){
-ij=Kj;
-jj=Ij;
-kj=0;
-lj=Jj;
-goto L66;}
-Lj=make_ready_17a(a+40);
-if(!(Lj&1))goto L65;
-nj=Ij;
-oj=0;
-pj=Jj;
-break;
-default:NEVER;
-}
-ij=r8(a+48);
-jj=nj;
-kj=oj;
-lj=pj;
-L66:Mj=rp(a+40)+ij*12;
-x4(Mj,si);
-x4(Mj+4,jj);
-Mj[8]=kj;
-Mj[9]=lj;
-x2(Mj+10,0);
-w8(a+48,ij+1);
-hi=2;
-ii=kj;
-ji=lj;
-goto L58;
-L60:if(yi!=1)goto L2;
-ki=xi;
-li=wi;
-mi=vi;
-goto L59;}
-L65:goto L2;
-L59:if(ki==3){
-Nj=li&1;
-w4(i,0);
-Oj=r8(a+176);
-if(Oj<c){
-Pj=*(b+Oj);
-switch(Pj){
-case 69:w4(g,0);
-w8(a+176,Oj+1);
-Qj=r8(a+88);
-if(Qj==0){
-Rj=0;
-Sj=0;
-Tj=0;
-Uj=0;}
-else{
-if(*(rp(a+80)+(i64)(Qj*44)-44)==27){
-if(Nj){
-Rj=0;
-Sj=0;
-Tj=0;
-Uj=0;}
-else{
-w8(a+88,Qj-1);
-Rj=0;
-Sj=0;
-Tj=3;
-Uj=1;}}
-else{
-z32(h);
-close_list_3c2(g,a,b,c,h);
-Rj=g[3];
-Sj=g[2];
-Tj=g[1];
-Uj=*g;}}
-Vj=Tj;
-Wj=Uj;
-Xj=Sj;
-Yj=Rj;
-goto L67;
-case 74:Zj=Oj+1;
-if(Zj<c){
-if(*(b+Zj)==69){
-empty_pack_ea9(i,a,b,c,Nj);
-Vj=i[1];
-Wj=*i;
-Xj=i[2];
-Yj=i[3];
-goto L67;}}
-if(!Nj){
-ak=74;
-goto L68;}
-first_pack_117(i,a,b,c);
-Vj=i[1];
-Wj=*i;
-Xj=i[2];
-Yj=i[3];
-goto L67;
-default:bk=Pj;
-break;}}
-else bk=0;
-if(Nj){
-ck=bk;
+Ki=4;
+Li=1;
 goto L69;}
-ak=bk;
-L68:dk=r8(a+8);
-if(r8(a+32)-dk<2){
-ek=make_ready_8e3(a,2,128);
-if(!(ek&1))goto L70;
-fk=r8(a+8);}
-else fk=dk;
-*(rp(a)+fk)=44;
-*(rp(a)+(i64)fk+1)=32;
-w8(a+8,fk+2);
-ck=ak;
-L69:switch(ck){
-case 76:if(Nj){
-first_literal_f44(i,a,b,c);
-Vj=i[1];
-Wj=*i;
-Xj=i[2];
-Yj=i[3];
-goto L67;}
-literal_43d(j,a,b,c);
-Vj=j[1];
-Wj=*j;
-Xj=j[2];
-Yj=j[3];
-goto L67;
-case 74:gk=r8(a+88);
-if(gk==0)goto L70;
-hk=rp(a+80);
-ik=gk*44;
-if(*(hk+(i64)ik-44)==27)goto L70;
-jk=r8(a+176);
-if(jk==18446744073709551615u)goto L70;
-w8(a+176,jk+1);
-if(r8(a+112)>gk){
-kk=ik;
-lk=hk;
-mk=gk;}
+Hi=r8(g+16);
+Ii=r8(g+8);}
 else{
-nk=make_ready_9a1(a+80);
-if(!(nk&1))goto L70;
-ok=r8(a+88);
-kk=ok*44;
-lk=rp(a+80);
-mk=ok;}
-pk=lk+kk;
-*pk=27;
-z43(pk+1);
-qk=mk;
-rk=3;
-sk=1;
-break;
-default:if(!Nj){
-uk=0;
-vk=0;
+Hi=Ei;
+Ii=Fi;}
+Mi=Ii+ab;
+Ni=rp(g);
+z16(g+8);
+Oi=Ni+(i64)Ii;
+if((u64)Oi-(u64)Di<ab)copy_bits_4f4(Di,Oi,ab);
+else memmove(Oi,Di,ab);
+wp(g,Ni);
+w8(g+8,Mi);
+w8(g+16,Hi);
+Ji=0;
+Ki=0;
+Li=0;
+goto L69;
+L68:z12(ha);
+z112(fa);
+Pi=r8(c+696);
+if(!((f<Pi)|((Pi&4294967295u)==0))){
+Qi=parts_equal_58b(e,Pi,rp(c+688),Pi);
+if(Qi){
+read_on_907(fa,c,e+(i64)Pi,f-Pi);
+goto L70;}}
+z12(ea);
+x4(c+24,0);
+x4(c+28,0);
+if(r8(c+40)!=0)w8(c+40,0);
+if(r8(c+64)!=0)w8(c+64,0);
+w8(c+80,0);
+w4(c+88,0);
+run_f89(ea,c+24,e,f,1);
+if(*ea==0){
+if(r8(c+8)!=0)w8(c+8,0);
+Ri=r8(c+16);
+if(f>Ri){
+Si=grow_amortized_68b(c,f);
+if(!Si){
+Vi=4;
+Wi=0;
 goto L71;}
-tk=r8(a+88);
-if(tk==0){
-uk=0;
-vk=0;
-goto L71;}
-wk=rp(a+80);
-xk=tk*44;
-yk=wk+(i64)xk;
-switch(yk[-44]){
-case 5:if(yk[-28]==0){
-uk=0;
-vk=0;
-goto L71;}
-break;
-case 7:break;
-case 0:case 1:case 2:case 3:case 4:case 6:case 8:case 9:case 10:case 11:case 12:case 13:case 14:case 15:case 16:case 17:case 18:case 19:case 20:case 21:case 22:case 23:case 24:case 25:case 26:case 27:case 28:case 29:uk=0;
-vk=0;
-goto L71;
-default:NEVER;
-}
-zk=r8(a+176);
-if(zk<c){
-Ak=b+(i64)zk;
-switch(*Ak){
-case 65:case 70:uk=0;
-vk=0;
-goto L71;
-case 80:case 82:if(usub64(c,zk)>=2){
-switch(Ak[1]){
-case 70:case 65:uk=0;
-vk=0;
-goto L71;
-default:break;}}
-break;
-default:break;}}
-Bk=r8(a+8);
-if(r8(a+112)>tk){
-Ck=xk;
-Dk=wk;
-Ek=tk;}
-else{
-Fk=make_ready_9a1(a+80);
-if(!(Fk&1))goto L70;
-Gk=r8(a+88);
-Ck=Gk*44;
-Dk=rp(a+80);
-Ek=Gk;}
-Hk=Dk+Ck;
-*Hk=25;
-Hk[1]=0;
-x2(Hk+2,0);
-x4(Hk+4,Bk);
-z36(Hk+8);
-qk=Ek;
-rk=0;
-sk=0;
-break;}
-w8(a+88,qk+1);
-uk=rk;
-vk=sk;
-L71:hi=uk;
-ii=vk;
-ji=0;
-goto L58;
-L67:if(Wj!=1)goto L2;
-hi=Vj;
-ii=Xj;
-ji=Yj;
-goto L58;
-L70:goto L2;}
-hi=ki;
-ii=li;
-ji=mi;
-L58:Ik=Lc+1;
-if(Ik==Kc)goto L2;
-Lc=Ik;
-Mc=ji;
-Nc=ii;
-Oc=hi;
-goto L21;}}}
-L11:;}
-L2:break;
-case 2:if(!fc){
-if(c<16){
-Jk=are_few_named_14c(b,c);
-if(!Jk)goto L72;}
-else{
-Kk=c-16;
-if(Kk==0)goto L73;
-Lk=0;
-L74:Mk=v16_at(b+Lk);
-if((v16_ult(Mk,splat(33))|v16_eq(Mk,splat(127)))!=0)goto L72;
-Nk=Lk+16;
-if(Nk<Kk){
-Lk=Nk;
-goto L74;}
-L73:Ok=v16_at(b+Kk);
-if((v16_ult(Ok,splat(33))|v16_eq(Ok,splat(127)))!=0)goto L72;}
-w4(Nb,0);
-w4(Ob,0);
-if(c!=0){
-if(c!=1&&*b==95){
-if(b[1]==90){
-if(c>=3){
-Pk=b[2];
-if(c<5){
-if(Pk==90){
-w8(a+176,3);
-w4(Jb,0);
-if(c==3)goto L75;
-Qk=a+176;
-goto L76;}
-if((c!=3)&(Pk==71)){
-if(b[3]==86)goto L77;
-goto L78;}
-switch(Pk){
-case 71:goto L78;
-case 84:if(c==3)goto L79;
-break;
-default:goto L80;
-}}
-else{
-switch(Pk){
-case 90:w8(a+176,3);
-w4(Jb,0);
-Qk=a+176;
-goto L76;
-case 71:if(b[3]!=86)goto L78;
-if(b[4]!=90)goto L77;
-if(ac<19){
-Rk=make_ready_8e3(a,19,128);
-if(!(Rk&1))goto L81;
-Sk=r8(a+16);
-Tk=r8(a+8);}
-else{
-Sk=Zb;
-Tk=0;}
-if(Sk-Tk<19){
-Uk=grow_amortized_68b(a,19);
-if(!Uk)goto L81;
-Vk=r8(a+16);
-Wk=r8(a+8);}
-else{
-Vk=Sk;
-Wk=Tk;}
-Xk=Wk+19;
-Yk=rp(a);
-z16(a+8);
-Zk=Yk+(i64)Wk;
-if((u64)Zk-(u64)(u8*)t_c270<19)copy_bits_4f4((u8*)t_c270,Zk,19);
-else memcpy(Zk,(u8*)t_c270,19);
-wp(a,Yk);
-w8(a+8,Xk);
-w8(a+16,Vk);
-w8(a+176,5);
-w4(Gb,0);
-if(c!=5){
-al=b[5];
-switch(al){
-case 78:w4(Eb,0);
-w4(Fb,1);
-w8(a+176,6);
-if(c!=6){
-switch(b[6]){
-case 75:if(c<=7){
-bl=1;
-cl=7;
-goto L82;}
-switch(b[7]){
-case 82:bl=3;
-cl=8;
-goto L82;
-case 79:bl=5;
-cl=8;
-goto L82;
-default:bl=1;
-cl=7;
-goto L82;
-}
-break;
-case 82:bl=2;
-cl=7;
-goto L82;
-case 79:bl=4;
-cl=7;
-goto L82;
-default:break;}}
-bl=0;
-cl=6;
-L82:w8(a+176,cl);
-Fb[1]=bl;
-nest_at_979(Eb,a,b,c,Fb);
-*Gb=*Eb;
-Gb[1]=Eb[1];
-Gb[2]=Eb[2];
-Gb[3]=Eb[3];
-goto L83;
-case 76:w8(a+176,6);
-begin_name_9fc(Gb,a,b,c);
-goto L83;
-case 83:begin_in_std_b23(Gb,a,b,c);
-goto L83;
-default:if((u8)(al-97)<26){
-begin_operator_fde(Gb,a,b,c);
-goto L83;}
-break;}}
-begin_name_9fc(Gb,a,b,c);
-L83:dl=Gb[3];
-el=Gb[2];
-fl=Gb[1];
-gl=*Gb;
-goto L84;
-case 84:break;
-default:goto L80;
-}}
-switch(b[3]){
-case 104:begin_thunk_a5d(Ob,a,b,c);
-goto L85;
-case 118:begin_virtual_thunk_603(Ob,a,b,c);
-goto L85;
-case 67:begin_clone_893(Ob);
-goto L85;
-default:break;}
-L79:begin_special_44d(Ob,a,b,c);
-L85:dl=Ob[3];
-el=Ob[2];
-fl=Ob[1];
-gl=*Ob;
-goto L84;
-L80:w8(a+176,2);
-w4(Mb,0);
-hl=b[2];
-switch(hl){
-case 78:w4(Kb,0);
-w4(Lb,1);
-w8(a+176,3);
-if(c!=3){
-switch(b[3]){
-case 75:if(c<=4){
-il=1;
-jl=4;
-goto L86;}
-switch(b[4]){
-case 82:il=3;
-jl=5;
-goto L86;
-case 79:il=5;
-jl=5;
-goto L86;
-default:il=1;
-jl=4;
-goto L86;
-}
-break;
-case 82:il=2;
-jl=4;
-goto L86;
-case 79:il=4;
-jl=4;
-goto L86;
-default:break;}}
-il=0;
-jl=3;
-L86:w8(a+176,jl);
-Lb[1]=il;
-nest_at_979(Kb,a,b,c,Lb);
-*Mb=*Kb;
-Mb[1]=Kb[1];
-Mb[2]=Kb[2];
-Mb[3]=Kb[3];
-goto L87;
-case 76:w8(a+176,3);
-begin_name_9fc(Mb,a,b,c);
-goto L87;
-case 83:begin_in_std_b23(Mb,a,b,c);
-goto L87;
-default:if((u8)(hl-97)>=26)goto L88;
-begin_operator_fde(Mb,a,b,c);
-goto L87;
-}
-L78:begin_clone_893(Nb);
-dl=Nb[3];
-el=Nb[2];
-fl=Nb[1];
-gl=*Nb;
-goto L84;
-L77:begin_object_103(Nb,a,b,c);
-dl=Nb[3];
-el=Nb[2];
-fl=Nb[1];
-gl=*Nb;
-goto L84;
-L76:kl=b[3];
-switch(kl){
-case 78:w4(Hb,0);
-w4(Ib,1);
-w8(Qk,4);
-if(c>4){
-switch(b[4]){
-case 75:if(c==5){
-ll=1;
-ml=5;
-goto L89;}
-switch(b[5]){
-case 82:ll=3;
-ml=6;
-goto L89;
-case 79:ll=5;
-ml=6;
-goto L89;
-default:ll=1;
-ml=5;
-goto L89;
-}
-break;
-case 82:ll=2;
-ml=5;
-goto L89;
-case 79:ll=4;
-ml=5;
-goto L89;
-default:break;}}
-ll=0;
-ml=4;
-L89:w8(Qk,ml);
-Ib[1]=ll;
-nest_at_979(Hb,a,b,c,Ib);
-*Jb=*Hb;
-Jb[1]=Hb[1];
-Jb[2]=Hb[2];
-Jb[3]=Hb[3];
-goto L90;
-case 76:w8(Qk,4);
-begin_name_9fc(Jb,a,b,c);
-goto L90;
-case 83:begin_in_std_b23(Jb,a,b,c);
-goto L90;
-default:if((u8)(kl-97)<26){
-begin_operator_fde(Jb,a,b,c);
-goto L90;}
-break;}
-L75:begin_name_9fc(Jb,a,b,c);
-L90:dl=Jb[3];
-el=Jb[2];
-fl=Jb[1];
-gl=*Jb;
-goto L84;}
-w8(a+176,2);
-w4(Mb,0);
-L88:begin_name_9fc(Mb,a,b,c);
-L87:dl=Mb[3];
-el=Mb[2];
-fl=Mb[1];
-gl=*Mb;
-L84:if(gl!=1)goto L72;
-nl=c<<3;
-ol=0;
-pl=dl;
-ql=el;
-rl=fl;
-L91:if(rl==7){
-if(r8(a+8)>Xb)goto L92;
-goto L1;}
-w8(a+184,r8(a+184)+1);
-switch(rl){
-case 0:w4(Bb,0);
-w4(Cb,0);
-sl=r8(a+176);
-if(sl<c){
-tl=r8(a+8);
-ul=tl;
-vl=*(b+sl);
-switch(vl){
-case 80:w4(zb,0);
-wl=sl+1;
-if(wl<c){
-switch(*(b+wl)){
-case 70:begin_function_7aa(zb,a,1);
-*Cb=*zb;
-Cb[1]=zb[1];
-Cb[2]=zb[2];
-xl=zb[3];
-goto L93;
-case 65:begin_array_86f(zb,a,b,c,1);
-*Cb=*zb;
-Cb[1]=zb[1];
-Cb[2]=zb[2];
-xl=zb[3];
-goto L93;
-default:break;}}
-w8(a+176,wl);
-yl=r8(a+88);
-if(r8(a+112)>yl)zl=yl;
-else{
-Al=make_ready_9a1(a+80);
-if(!(Al&1)){
-Bl=0;
-goto L94;}
-zl=r8(a+88);}
-Cl=rp(a+80)+zl*44;
-*Cl=0;
-Cl[1]=0;
-x2(Cl+2,0);
-x4(Cl+4,ul);
-z36(Cl+8);
-w8(a+88,zl+1);
-Bl=1;
-L94:*Cb=Bl;
-Cb[1]=0;
-Cb[2]=0;
-xl=0;
-L93:Cb[3]=xl;
-Dl=Cb+1;
-El=Cb+2;
-Fl=Cb+3;
-Gl=Cb;
-goto L95;
-case 70:begin_function_7aa(Cb,a,0);
-Dl=Cb+1;
-El=Cb+2;
-Fl=Cb+3;
-Gl=Cb;
-goto L95;
-case 82:Hl=sl+1;
-if(Hl<c){
-if(*(b+Hl)==65){
-begin_array_86f(Bb,a,b,c,2);
-Dl=Bb+1;
-El=Bb+2;
-Fl=Bb+3;
-Gl=Bb;
-goto L95;}}
-w8(a+176,Hl);
-Il=r8(a+88);
-if(r8(a+112)>Il)Jl=Il;
-else{
-Kl=make_ready_9a1(a+80);
-if(!(Kl&1)){
-w4(Cb,0);
-Dl=Cb+1;
-El=Cb+2;
-Fl=Cb+3;
-Gl=Cb;
-goto L95;}
-Jl=r8(a+88);}
-Ll=rp(a+80)+Jl*44;
-*Ll=1;
-Ll[1]=0;
-x2(Ll+2,0);
-x4(Ll+4,ul);
-z36(Ll+8);
-w8(a+88,Jl+1);
-*Cb=1;
-Cb[1]=0;
-Cb[2]=0;
-Cb[3]=0;
-Dl=Cb+1;
-El=Cb+2;
-Fl=Cb+3;
-Gl=Cb;
-goto L95;
-case 65:begin_array_86f(Cb,a,b,c,0);
-Dl=Cb+1;
-El=Cb+2;
-Fl=Cb+3;
-Gl=Cb;
-goto L95;
-case 79:rvalue_at_e1d(Cb,a,b,c);
-Dl=Cb+1;
-El=Cb+2;
-Fl=Cb+3;
-Gl=Cb;
-goto L95;
-case 75:w8(a+176,sl+1);
-Ml=r8(a+88);
-if(r8(a+112)>Ml)Nl=Ml;
-else{
-Ol=make_ready_9a1(a+80);
-if(!(Ol&1)){
-w4(Cb,0);
-Dl=Cb+1;
-El=Cb+2;
-Fl=Cb+3;
-Gl=Cb;
-goto L95;}
-Nl=r8(a+88);}
-Pl=rp(a+80)+Nl*44;
-*Pl=3;
-Pl[1]=0;
-x2(Pl+2,0);
-x4(Pl+4,ul);
-z36(Pl+8);
-w8(a+88,Nl+1);
-*Cb=1;
-Cb[1]=1;
-Cb[2]=0;
-Cb[3]=0;
-Dl=Cb+1;
-El=Cb+2;
-Fl=Cb+3;
-Gl=Cb;
-goto L95;
-case 78:w4(vb,0);
-w4(wb,0);
-w8(a+176,sl+1);
-nest_at_979(vb,a,b,c,wb);
-*Cb=*vb;
-Cb[1]=vb[1];
-Cb[2]=vb[2];
-Cb[3]=vb[3];
-Dl=Cb+1;
-El=Cb+2;
-Fl=Cb+3;
-Gl=Cb;
-goto L95;
-case 83:case 90:break;
-case 68:builtin_with_d_cb0(Cb,a,b,c);
-Dl=Cb+1;
-El=Cb+2;
-Fl=Cb+3;
-Gl=Cb;
-goto L95;
-case 84:template_parameter_3b0(Cb,a,b,c);
-Dl=Cb+1;
-El=Cb+2;
-Fl=Cb+3;
-Gl=Cb;
-goto L95;
-default:if((u8)(vl-49)>=9){
-Ql=vl-97;
-if(Ql>=26){
-Dl=Cb+1;
-El=Cb+2;
-Fl=Cb+3;
-Gl=Cb;
-goto L95;}
-if(!(u8)(((u32)65829887>>Ql)&1)){
-Dl=Cb+1;
-El=Cb+2;
-Fl=Cb+3;
-Gl=Cb;
-goto L95;}
-Rl=rp((u8*)t_e7e8+(u64)Ql*8);
-Sl=r8((u8*)t_f635+(u64)Ql*8);
-w8(a+176,sl+1);
-if(r8(a+32)-tl<Sl){
-Tl=make_ready_8e3(a,Sl,128);
-if(!(Tl&1))goto L96;
-Ul=r8(a+8);}
-else Ul=tl;
-Vl=r8(a+16);
-if(Sl>Vl-Ul){
-Wl=grow_amortized_68b(a,Sl);
-if(!Wl)goto L96;
-Xl=r8(a+16);
-Yl=r8(a+8);}
-else{
-Xl=Vl;
-Yl=Ul;}
-Zl=Yl+Sl;
-am=rp(a);
-z16(a+8);
-bm=am+(i64)Yl;
-if((u64)bm-(u64)Rl<Sl)copy_bits_4f4(Rl,bm,Sl);
-else memmove(bm,Rl,Sl);
-wp(a,am);
-w8(a+8,Zl);
-w8(a+16,Xl);
-*Cb=1;
-Cb[1]=2;
-Cb[2]=0;
-Cb[3]=0;
-Dl=Cb+1;
-El=Cb+2;
-Fl=Cb+3;
-Gl=Cb;
-goto L95;
-L96:w4(Cb,0);
-Dl=Cb+1;
-El=Cb+2;
-Fl=Cb+3;
-Gl=Cb;
-goto L95;}
-break;}
-named_type_748(Cb,a,b,c);
-Dl=Cb+1;
-El=Cb+2;
-Fl=Cb+3;
-Gl=Cb;}
-else{
-Dl=Cb+1;
-El=Cb+2;
-Fl=Cb+3;
-Gl=Cb;}
-L95:cm=*Fl;
-dm=*El;
-em=*Dl;
-fm=*Gl;
-goto L97;
-case 1:w4(Ab,0);
-gm=r8(a+176);
-if(gm<c){
-hm=r8(a+8);
-im=hm;
-jm=*(b+gm);
-switch(jm){
-case 80:w8(a+176,gm+1);
-km=r8(a+88);
-if(r8(a+112)>km)lm=km;
-else{
-mm=make_ready_9a1(a+80);
-if(!(mm&1)){
-nm=0;
-goto L98;}
-lm=r8(a+88);}
-om=rp(a+80)+lm*44;
-*om=0;
-om[1]=0;
-x2(om+2,0);
-x4(om+4,im);
-z36(om+8);
-w8(a+88,lm+1);
-nm=1;
-L98:*Ab=nm;
-Ab[1]=0;
-Ab[2]=0;
-Ab[3]=0;
-goto L99;
-case 70:case 65:case 75:pm=0;
-qm=0;
-rm=0;
-sm=0;
-goto L100;
-case 82:w8(a+176,gm+1);
-tm=r8(a+88);
-if(r8(a+112)>tm)um=tm;
-else{
-vm=make_ready_9a1(a+80);
-if(!(vm&1)){
-w4(Ab,0);
-goto L99;}
-um=r8(a+88);}
-wm=rp(a+80)+um*44;
-*wm=1;
-wm[1]=0;
-x2(wm+2,0);
-x4(wm+4,im);
-z36(wm+8);
-w8(a+88,um+1);
-*Ab=1;
-Ab[1]=0;
-Ab[2]=0;
-Ab[3]=0;
-goto L99;
-case 79:rvalue_at_e1d(Ab,a,b,c);
-goto L99;
-case 78:w4(xb,0);
-w4(yb,0);
-w8(a+176,gm+1);
-nest_at_979(xb,a,b,c,yb);
-*Ab=*xb;
-Ab[1]=xb[1];
-Ab[2]=xb[2];
-Ab[3]=xb[3];
-goto L99;
-case 83:case 90:break;
-case 68:builtin_with_d_cb0(Ab,a,b,c);
-goto L99;
-case 84:template_parameter_3b0(Ab,a,b,c);
-goto L99;
-default:if((u8)(jm-49)>=9){
-xm=jm-97;
-if(xm>=26)goto L99;
-if(!(u8)(((u32)65829887>>xm)&1))goto L99;
-ym=rp((u8*)t_e7e8+(u64)xm*8);
-zm=r8((u8*)t_f635+(u64)xm*8);
-w8(a+176,gm+1);
-if(r8(a+32)-hm<zm){
-Am=make_ready_8e3(a,zm,128);
-if(!(Am&1))goto L101;
-Bm=r8(a+8);}
-else Bm=hm;
-Cm=r8(a+16);
-if(zm>Cm-Bm){
-Dm=grow_amortized_68b(a,zm);
-if(!Dm)goto L101;
-Em=r8(a+16);
-Fm=r8(a+8);}
-else{
-Em=Cm;
-Fm=Bm;}
-Gm=Fm+zm;
-Hm=rp(a);
-z16(a+8);
-Im=Hm+(i64)Fm;
-if((u64)Im-(u64)ym<zm)copy_bits_4f4(ym,Im,zm);
-else memmove(Im,ym,zm);
-wp(a,Hm);
-w8(a+8,Gm);
-w8(a+16,Em);
-*Ab=1;
-Ab[1]=2;
-Ab[2]=0;
-Ab[3]=0;
-goto L99;
-L101:w4(Ab,0);
-goto L99;}
-break;}
-named_type_748(Ab,a,b,c);}
-L99:pm=Ab[3];
-qm=Ab[2];
-rm=Ab[1];
-sm=*Ab;
-L100:cm=pm;
-dm=qm;
-em=rm;
-fm=sm;
-goto L97;
-case 4:if(!(a[136]&1)){
-Jm=r4(a+120);
-Km=a[139];
-Lm=r8(a+8);
-Mm=r8(a+48);
-if(r8(a+72)>Mm)Nm=Mm;
-else{
-Om=make_ready_17a(a+40);
-if(!(Om&1))goto L102;
-Nm=r8(a+48);}
-Pm=rp(a+40)+Nm*12;
-x4(Pm,Jm);
-x4(Pm+4,Lm);
-Pm[8]=0;
-Pm[9]=Km;
-x2(Pm+10,0);
-w8(a+48,Nm+1);}
-Qm=r8(a+176);
-if(Qm<c){
-if(*(b+Qm)==73){
-memcpy(Db,a+120,20);
-z20(Db+20);
-Rm=r8(a+8);
-if(r8(a+32)>Rm)Sm=Rm;
-else{
-Tm=make_ready_8e3(a,1,16);
-if(!(Tm&1))goto L102;
-Sm=r8(a+8);}
-*(rp(a)+Sm)=60;
-w8(a+8,Sm+1);
-Um=r8(a+176);
-if(Um==18446744073709551615u)goto L102;
-w8(a+176,Um+1);
-Vm=r8(a+88);
-if(r8(a+112)>Vm)Wm=Vm;
-else{
-Xm=make_ready_9a1(a+80);
-if(!(Xm&1))goto L102;
-Wm=r8(a+88);}
-Ym=rp(a+80)+Wm*44;
-*Ym=6;
-Ym[1]=0;
-x2(Ym+2,0);
-memcpy(Ym+4,Db,40);
-w8(a+88,Wm+1);
-Zm=0;
-an=1;
-bn=3;}
-else{
-Zm=0;
-an=0;
-bn=6;}}
-else{
-Zm=0;
-an=0;
-bn=6;}
-break;
-case 5:cn=r8(a+176);
-if(cn<c){
-if(*(b+cn)==69){
-dn=a[132];
-if(dn==0){
-w8(a+176,cn+1);
-en=a[139];
-if(a[136]&1){
-Zm=en;
-an=0;
-bn=2;
-break;}
-fn=r4(a+120);
-gn=r8(a+8);
-hn=r8(a+48);
-if(r8(a+72)>hn)in=hn;
-else{
-jn=make_ready_17a(a+40);
-if(!(jn&1))goto L102;
-in=r8(a+48);}
-kn=rp(a+40)+in*12;
-x4(kn,fn);
-x4(kn+4,gn);
-kn[8]=0;
-kn[9]=en;
-x2(kn+10,0);
-w8(a+48,in+1);
-Zm=a[139];
-an=0;
-bn=2;
-break;}
-w4(ub,0);
-w8(a+176,cn+1);
-ln=a[133];
-switch(dn){
-case 3:addressed_named_968(ub,a,b,c,ln);
-mn=ub+1;
-nn=ub+2;
-on=ub+3;
-pn=ub;
-break;
-case 1:if(a[138]&1){
-qn=q2(a+140);
-rn=q2(a+142);
-memcpy(tb+4,a+144,16);
-sn=q8(a+160);
-tn=a[168];
-un=a[169];
-vn=a[170];
-wn=a[171];
-w2(tb,qn);
-w2(tb+2,rn);
-x8(tb+20,sn);
-tb[28]=tn;
-tb[29]=un;
-tb[30]=vn;
-tb[31]=wn;
-xn=a[137]&1;}
-else{
-z32(tb);
-xn=0;}
-name_ended_a18(ub,a,b,c,ln,xn,tb,r4(a+120));
-mn=ub+1;
-nn=ub+2;
-on=ub+3;
-pn=ub;
-break;
-case 2:if(a[138]&1){
-yn=r4(a+120);
-if(a[137]&1){
-enclosing_instance_0fc(sb,a,b,c,ln,r2(a+134),yn);
-mn=sb+1;
-nn=sb+2;
-on=sb+3;
-pn=sb;
-break;}
-zn=yn;}
-else zn=r4(a+120);
-enclosing_named_18f(ub,a,b,c,ln,zn);
-mn=ub+1;
-nn=ub+2;
-on=ub+3;
-pn=ub;
-break;
-default:NEVER;
-}
-cm=*on;
-dm=*nn;
-em=*mn;
-fm=*pn;
-goto L97;}}
-if(a[136]&1){
-Zm=0;
-an=0;
-bn=6;}
-else{
-An=r4(a+120);
-Bn=a[139];
-Cn=r8(a+8);
-Dn=r8(a+48);
-if(r8(a+72)>Dn)En=Dn;
-else{
-Fn=make_ready_17a(a+40);
-if(!(Fn&1))goto L102;
-En=r8(a+48);}
-Gn=rp(a+40)+En*12;
-x4(Gn,An);
-x4(Gn+4,Cn);
-Gn[8]=0;
-Gn[9]=Bn;
-x2(Gn+10,0);
-w8(a+48,En+1);
-Zm=0;
-an=0;
-bn=6;}
-break;
-case 6:case 2:case 3:Zm=pl;
-an=ql;
-bn=rl;
-break;
-default:NEVER;
-}
-Hn=bn;
-In=an;
-Jn=Zm;
-goto L103;
-L102:goto L72;
-L97:if(fm!=1)goto L72;
-Hn=em;
-In=dm;
-Jn=cm;
-L103:if(Hn!=6){
-Ln=Hn;
-Mn=In;
-Nn=Jn;
-goto L104;}
-Kn=0;
-L105:w4(Tb,0);
-On=r8(a+176);
-if(On<c){
-Pn=*(b+On);
-switch(Pn){
-case 67:constructor_f6d(Tb,a,b,c);
-break;
-case 68:destructor_7cd(Tb,a,b,c);
-break;
-case 76:w8(a+176,On+1);
-Qn=r8(a+8);
-if(r8(a+32)-Qn<2){
-Rn=make_ready_8e3(a,2,128);
-if(!(Rn&1))goto L106;
-Sn=r8(a+8);}
-else Sn=Qn;
-*(rp(a)+Sn)=58;
-*(rp(a)+(i64)Sn+1)=58;
-Tn=Sn+2;
-w8(a+8,Tn);
-Un=r8(a+176);
-z24(Qb);
-if(Un<c){
-Vn=*(b+Un);
-if((u8)(Vn-58)>=247){
-Wn=Tn;
-Xn=Un+1;
-if(Xn<c){
-Yn=*(b+Xn)-48;
-if(Yn<10){
-Zn=Un+2;
-if(Zn<c){
-if((u8)(*(b+Zn)-48)<10){
-long_name_at_8ad(Qb,b,c,Un);
-if(*Qb!=1)goto L106;
-ao=r8(Qb+8);
-bo=r8(Qb+16);
-goto L107;}}
-co=(u64)Yn+(u8)((u8)(Vn*10)+32);
-if(c-Zn<co)goto L108;
-if((u8)(*(b+(i64)Zn)-48)<10)goto L108;
-eo=co+Zn;
-fo=Zn;
-goto L109;}}
-go=Vn-48;
-if(c-Xn<go)goto L108;
-if((u8)(*(b+(i64)Xn)-48)<10)goto L108;
-eo=Xn+go;
-fo=Xn;
-L109:ao=fo;
-bo=eo;
-L107:w8(a+176,bo);
-ho=b+(i64)ao;
-io=bo-ao;
-if(bo!=ao){
-if(!(io<10||*ho!=95)){
-jo=parts_equal_58b((u8*)t_35ad,10,ho,10);
-if(jo){
-ko=(s_p_64){(u8*)t_62ff,21};
-goto L110;}}}
-lo=(s_p_64){0};lo.f0=ho;
-mo=lo;mo.f1=io;
-ko=mo;
-L110:no=ko.f0;
-oo=ko.f1;
-if(r8(a+32)-Tn<oo){
-po=make_ready_8e3(a,oo,128);
-if(!(po&1))goto L106;}
-qo=extend_from_slice_674(a,no,oo);
-if(qo&1)goto L106;
-ro=r8(a+8);
-so=a[139];
-w4(a+124,Wn);
-w4(a+128,ro);
-a[136]=0;
-a[137]=1;
-a[138]=0;
-to=r8(a+176);
-if(to>=c){
-Io=0;
-Jo=5;
-goto L111;}
-if(*(b+to)!=73){
-Io=0;
-Jo=5;
-goto L111;}
-uo=r4(a+120);
-vo=r8(a+48);
-if(r8(a+72)>vo)wo=vo;
-else{
-xo=make_ready_17a(a+40);
-if(!(xo&1))goto L112;
-wo=r8(a+48);}
-yo=rp(a+40)+wo*12;
-x4(yo,uo);
-x4(yo+4,ro);
-yo[8]=0;
-yo[9]=so;
-x2(yo+10,0);
-w8(a+48,wo+1);
-memcpy(Pb,a+120,20);
-z20(Pb+20);
-zo=r8(a+8);
-if(r8(a+32)>zo)Ao=zo;
-else{
-Bo=make_ready_8e3(a,1,16);
-if(!(Bo&1))goto L112;
-Ao=r8(a+8);}
-*(rp(a)+Ao)=60;
-w8(a+8,Ao+1);
-Co=r8(a+176);
-if(Co==18446744073709551615u)goto L112;
-w8(a+176,Co+1);
-Do=r8(a+88);
-if(r8(a+112)>Do){
-Eo=Do;
-Fo=Pb;
-goto L113;}
-Go=make_ready_9a1(a+80);
-if(!(Go&1))goto L112;
-Ho=Pb;
-goto L114;}}
-L108:goto L106;
-case 85:begin_component_d5a(Tb,a,b,c);
-break;
-default:if((u8)(Pn-97)>=26)goto L115;
-operator_2f3(Tb,a,b,c);
-break;}
-if(*Tb!=1)goto L72;
-Ko=Tb[1];
-Lo=Tb[2];
-Mo=Tb[3];
-goto L116;}
-L115:No=r8(a+8);
-if(r8(a+32)-No<2){
-Oo=make_ready_8e3(a,2,128);
-if(!(Oo&1))goto L106;
-Po=r8(a+8);}
-else Po=No;
-*(rp(a)+Po)=58;
-*(rp(a)+(i64)Po+1)=58;
-Qo=Po+2;
-w8(a+8,Qo);
-Ro=r8(a+176);
-z24(Sb);
-if(Ro<c){
-So=*(b+Ro);
-if((u8)(So-58)>=247){
-To=Qo;
-Uo=Ro+1;
-if(Uo<c){
-Vo=*(b+Uo)-48;
-if(Vo<10){
-Wo=Ro+2;
-if(Wo<c){
-if((u8)(*(b+Wo)-48)<10){
-long_name_at_8ad(Sb,b,c,Ro);
-if(*Sb!=1)goto L106;
-Xo=r8(Sb+8);
-Yo=r8(Sb+16);
-goto L117;}}
-Zo=(u64)Vo+(u8)((u8)(So*10)+32);
-if(c-Wo<Zo)goto L118;
-if((u8)(*(b+(i64)Wo)-48)<10)goto L118;
-ap=Zo+Wo;
-bp=Wo;
-goto L119;}}
-cp=So-48;
-if(c-Uo<cp)goto L118;
-if((u8)(*(b+(i64)Uo)-48)<10)goto L118;
-ap=Uo+cp;
-bp=Uo;
-L119:Xo=bp;
-Yo=ap;
-L117:w8(a+176,Yo);
-dp=b+(i64)Xo;
-ep=Yo-Xo;
-if(Yo!=Xo){
-if(!(ep<10||*dp!=95)){
-fp=parts_equal_58b((u8*)t_35ad,10,dp,10);
-if(fp){
-gp=(s_p_64){(u8*)t_62ff,21};
-goto L120;}}}
-hp=(s_p_64){0};hp.f0=dp;
-ip=hp;ip.f1=ep;
-gp=ip;
-L120:jp=gp.f0;
-kp=gp.f1;
-if(r8(a+32)-Qo<kp){
-lp=make_ready_8e3(a,kp,128);
-if(!(lp&1))goto L106;}
-np=extend_from_slice_674(a,jp,kp);
-if(np&1)goto L106;
-op=r8(a+8);
-pp=a[139];
-w4(a+124,To);
-w4(a+128,op);
-a[136]=0;
-a[137]=1;
-a[138]=0;
-sp=r8(a+176);
-if(sp>=c){
-Io=0;
-Jo=5;
-goto L111;}
-if(*(b+sp)!=73){
-Io=0;
-Jo=5;
-goto L111;}
-tp=r4(a+120);
-up=r8(a+48);
-if(r8(a+72)>up)vp=up;
-else{
-yp=make_ready_17a(a+40);
-if(!(yp&1))goto L112;
-vp=r8(a+48);}
-zp=rp(a+40)+vp*12;
-x4(zp,tp);
-x4(zp+4,op);
-zp[8]=0;
-zp[9]=pp;
-x2(zp+10,0);
-w8(a+48,vp+1);
-memcpy(Rb,a+120,20);
-z20(Rb+20);
-Ap=r8(a+8);
-if(r8(a+32)>Ap)Bp=Ap;
-else{
-Cp=make_ready_8e3(a,1,16);
-if(!(Cp&1))goto L112;
-Bp=r8(a+8);}
-*(rp(a)+Bp)=60;
-w8(a+8,Bp+1);
-Dp=r8(a+176);
-if(Dp==18446744073709551615u)goto L112;
-w8(a+176,Dp+1);
-Ep=r8(a+88);
-if(r8(a+112)>Ep){
-Eo=Ep;
-Fo=Rb;
-goto L113;}
-Fp=make_ready_9a1(a+80);
-if(!(Fp&1))goto L112;
-Ho=Rb;
-goto L114;}}
-L118:goto L106;
-L114:Eo=r8(a+88);
-Fo=Ho;
-L113:Gp=rp(a+80)+Eo*44;
-*Gp=5;
-Gp[1]=0;
-x2(Gp+2,0);
-memcpy(Gp+4,Fo,40);
-w8(a+88,Eo+1);
-Io=1;
-Jo=3;
-L111:Ko=Jo;
-Lo=Io;
-Mo=0;
-goto L116;
-L112:goto L72;
-L106:goto L72;
-L116:if(Ko==5){
-Hp=r8(a+176);
-if(Hp<c){
-if(*(b+Hp)==69){
-Ip=a[132];
-if(Ip==0){
-w8(a+176,Hp+1);
-Jp=a[139];
-if(a[136]&1){
-Kp=Jp;
-Lp=0;
-goto L121;}
-Mp=r4(a+120);
-Np=r8(a+8);
-Op=r8(a+48);
-if(r8(a+72)>Op)Pp=Op;
-else{
-Qp=make_ready_17a(a+40);
-if(!(Qp&1))goto L72;
-Pp=r8(a+48);}
-Rp=rp(a+40)+Pp*12;
-x4(Rp,Mp);
-x4(Rp+4,Np);
-Rp[8]=0;
-Rp[9]=Jp;
-x2(Rp+10,0);
-w8(a+48,Pp+1);
-Kp=a[139];
-Lp=0;
-goto L121;}
-w4(Wb,0);
-w8(a+176,Hp+1);
-Sp=a[133];
-switch(Ip){
-case 3:addressed_named_968(Wb,a,b,c,Sp);
-break;
-case 1:if(a[138]&1){
-Tp=q2(a+140);
-Up=q2(a+142);
-memcpy(Vb+4,a+144,16);
-Vp=q8(a+160);
-Wp=a[168];
-Xp=a[169];
-Yp=a[170];
-Zp=a[171];
-w2(Vb,Tp);
-w2(Vb+2,Up);
-x8(Vb+20,Vp);
-Vb[28]=Wp;
-Vb[29]=Xp;
-Vb[30]=Yp;
-Vb[31]=Zp;
-aq=a[137]&1;}
-else{
-z32(Vb);
-aq=0;}
-name_ended_a18(Wb,a,b,c,Sp,aq,Vb,r4(a+120));
-break;
-case 2:if(a[138]&1){
-if(a[137]&1){
-enclosing_instance_0fc(Ub,a,b,c,Sp,r2(a+134),r4(a+120));
-bq=Ub[3];
-cq=Ub[2];
-dq=Ub[1];
-eq=Ub;
-goto L122;}}
-enclosing_named_18f(Wb,a,b,c,Sp,r4(a+120));
-break;
-default:NEVER;
-}
-bq=Wb[3];
-cq=Wb[2];
-dq=Wb[1];
-eq=Wb;
-L122:if(*eq!=1)goto L72;
-Ln=dq;
-Mn=cq;
-Nn=bq;
-goto L104;}}
-if(!(a[136]&1)){
-fq=r4(a+120);
-gq=a[139];
-hq=r8(a+8);
-iq=r8(a+48);
-if(r8(a+72)>iq)jq=iq;
-else{
-kq=make_ready_17a(a+40);
-if(!(kq&1))goto L72;
-jq=r8(a+48);}
-lq=rp(a+40)+jq*12;
-x4(lq,fq);
-x4(lq+4,hq);
-lq[8]=0;
-lq[9]=gq;
-x2(lq+10,0);
-w8(a+48,jq+1);}
-mq=Kn+1;
-if(mq!=16){
-Kn=mq;
-goto L105;}
-nq=6;
-oq=0;
-pq=0;
-goto L123;}
-Ln=Ko;
-Mn=Lo;
-Nn=Mo;
-L104:if(Ln!=2){
-qq=Ln;
-rq=Mn;
-sq=Nn;
-goto L124;}
-Kp=Nn;
-Lp=Mn;
-L121:w4(pb,0);
-w4(qb,0);
-z32(rb);
-tq=r8(a+88);
-if(tq!=0){
-uq=Lp&1;
-vq=rp(a+80)+(i64)(tq*44);
-wq=vq[-44];
-xq=vq[-43];
-yq=q4(vq-40);
-zq=q4(vq-36);
-Aq=q2(vq-32);
-switch(wq){
-case 29:case 28:case 27:case 26:case 4:case 5:case 6:case 7:case 8:case 11:case 12:case 13:case 14:case 15:case 16:case 17:case 18:case 19:case 20:case 21:case 22:case 23:case 24:case 25:if(Kp&1){
-pass_dependent_3d7(pb,a,b,c);
-Bq=pb[3];
-Cq=pb[2];
-Dq=pb[1];
-Eq=*pb;
-goto L125;}
-Fq=q4(vq-4);
-w4(lb,0);
-switch(wq){
-case 22:returned_322(lb,a,b,c,xq&1);
-break;
-case 23:parameter_at_3ac(lb,a,b,c,xq&1,0);
-break;
-case 24:array_ended_1b3(lb,a,b,c,xq,yq,zq);
-break;
-case 12:enclosing_parameter_fc1(lb,a,b,c,yq,zq);
-break;
-case 13:instance_parameter_240(lb,a,b,c,xq,yq,zq);
-break;
-case 11:w2(ib,Aq);
-memcpy(ib+2,vq-30,26);
-x4(ib+28,Fq);
-enclosing_front_fa8(lb,a,xq,yq,zq,ib);
-break;
-case 17:w4(jb,zq);
-w2(jb+4,Aq);
-lambda_parameter_383(lb,a,b,c,yq,jb);
-break;
-case 18:member_parameter_7e4(lb,a,b,c,yq);
-break;
-case 15:w4(kb,zq);
-w2(kb+4,Aq);
-memcpy(kb+6,vq-30,26);
-addressed_front_54d(lb,a,b,c,xq,yq,kb);
-break;
-case 16:addressed_parameter_2cf(lb,a,b,c,yq);
-break;
-case 14:*lb=0;
-break;
-case 19:finish_8cd(lb,a,b,c);
-break;
-case 20:derived_ended_aef(lb,a,b,c);
-break;
-case 21:base_ended_299(lb,a,b,c,yq);
-break;
-case 29:enumerator_21c(lb,a,b,c);
-break;
-case 26:case 25:case 28:Gq=zq;
-Hq=Fq;
-w4(hb,0);
-switch(wq){
-case 26:w2(eb,zq>>16);
-w2(eb+2,Aq);
-memcpy(eb+4,vq-30,26);
-w2(eb+30,Hq);
-argument_enumerator_5cf(hb,a,b,c,yq,Gq,eb);
-break;
-case 25:w2(fb,zq>>16);
-w2(fb+2,Aq);
-memcpy(fb+4,vq-30,26);
-w2(fb+30,Hq);
-argument_ended_d25(hb,a,b,c,yq,Gq,fb,uq);
-break;
-case 28:w2(gb,zq>>16);
-w2(gb+2,Aq);
-memcpy(gb+4,vq-30,26);
-w2(gb+30,Hq);
-element_ended_6b8(hb,a,b,c,yq,Gq,gb,uq);
-break;
-case 27:*hb=0;
-break;
-default:NEVER;
-}
-Iq=hb[1];
-Jq=hb[2];
-Kq=hb[3];
-*lb=*hb;
-lb[1]=Iq;
-lb[2]=Jq;
-lb[3]=Kq;
-break;
-case 27:case 10:case 9:case 8:case 4:case 5:case 6:case 7:*lb=1;
-lb[1]=3;
-lb[2]=0;
-lb[3]=0;
-break;
-default:NEVER;
-}
-Bq=lb[3];
-Cq=lb[2];
-Dq=lb[1];
-Eq=*lb;
-goto L125;
-case 10:Lq=r8(a+176);
-if(Lq<c){
-switch(*(b+Lq)){
-case 69:case 46:case 0:break;
-default:w4(ob,zq);
-w2(ob+4,Aq);
-memcpy(ob+6,vq-30,26);
-w4(nb,0);
-if(ob[29]&1){
-expansion_52e(nb,a,b,c,0,yq,ob);
-Mq=nb[3];
-Nq=nb[2];
-Oq=nb[1];
-Pq=*nb;}
-else{
-Qq=r8(a+8);
-if(r8(a+32)-Qq<2){
-Rq=make_ready_8e3(a,2,128);
-if(!(Rq&1)){
-Mq=0;
-Nq=0;
-Oq=0;
-Pq=0;
-goto L126;}
-Sq=r8(a+8);}
-else Sq=Qq;
-*(rp(a)+Sq)=44;
-*(rp(a)+(i64)Sq+1)=32;
-w8(a+8,Sq+2);
-Mq=0;
-Nq=0;
-Oq=0;
-Pq=1;}
-L126:Bq=Mq;
-Cq=Nq;
-Dq=Oq;
-Eq=Pq;
-goto L125;
-}}
-Tq=r8(a+8);
-if(Tq>=5){
-Uq=rp(a)+(i64)Tq;
-Vq=0;
-Wq=0;
-L127:Xq=Vq||*((u8*)t_262b+(i64)Wq)!=*(Uq-5+(i64)Wq);
-Yq=Wq+1;
-if(Yq!=4){
-Vq=Xq;
-Wq=Yq;
-goto L127;}
-Zq=0;
-ar=0;
-L128:br=ar+1;
-cr=Zq||*((u8*)t_262b+(i64)br)!=*(Uq-5+(i64)br);
-if(br!=4){
-Zq=cr;
-ar=br;
-goto L128;}
-if(!(Xq|cr)){
-dr=0;
-er=0;
-fr=0;
-gr=0;
-goto L129;}}
-close_39a(mb,a,b,c,yq);
-dr=mb[3];
-er=mb[2];
-fr=mb[1];
-gr=*mb;
-L129:Bq=dr;
-Cq=er;
-Dq=fr;
-Eq=gr;
-goto L125;
-case 9:w4(rb,zq);
-w2(rb+4,Aq);
-memcpy(rb+6,vq-30,26);
-front_ended_665(qb,a,b,c,xq,yq,rb);
-Bq=qb[3];
-Cq=qb[2];
-Dq=qb[1];
-Eq=*qb;
-goto L125;
-case 0:w8(a+88,tq-1);
-hr=r8(a+8);
-if(r8(a+32)>hr)ir=hr;
-else{
-jr=make_ready_8e3(a,1,16);
-if(!(jr&1))goto L130;
-ir=r8(a+8);}
-*(rp(a)+ir)=42;
-kr=ir+1;
-w8(a+8,kr);
-lr=kr;
-mr=Kp&1;
-nr=r8(a+48);
-if(r8(a+72)>nr){
-or=nr;
-pr=lr;
-qr=0;
-rr=mr;
-goto L131;}
-sr=make_ready_17a(a+40);
-if(!(sr&1))goto L130;
-tr=lr;
-ur=0;
-vr=mr;
-break;
-case 1:if(uq)goto L130;
-w8(a+88,tq-1);
-wr=r8(a+8);
-if(r8(a+32)>wr)xr=wr;
-else{
-yr=make_ready_8e3(a,1,16);
-if(!(yr&1))goto L130;
-xr=r8(a+8);}
-*(rp(a)+xr)=38;
-zr=xr+1;
-w8(a+8,zr);
-Ar=zr;
-Br=Kp&1;
-Cr=r8(a+48);
-if(r8(a+72)>Cr){
-or=Cr;
-pr=Ar;
-qr=1;
-rr=Br;
-goto L131;}
-Dr=make_ready_17a(a+40);
-if(!(Dr&1))goto L130;
-tr=Ar;
-ur=1;
-vr=Br;
-break;
-case 2:if(uq)goto L130;
-w8(a+88,tq-1);
-Er=r8(a+8);
-if(r8(a+32)-Er<2){
-Fr=make_ready_8e3(a,2,128);
-if(!(Fr&1))goto L130;
-Gr=r8(a+8);}
-else Gr=Er;
-*(rp(a)+Gr)=38;
-*(rp(a)+(i64)Gr+1)=38;
-Hr=Gr+2;
-w8(a+8,Hr);
-Ir=Hr;
-Jr=Kp&1;
-Kr=r8(a+48);
-if(r8(a+72)>Kr){
-or=Kr;
-pr=Ir;
-qr=1;
-rr=Jr;
-goto L131;}
-Lr=make_ready_17a(a+40);
-if(!(Lr&1))goto L130;
-tr=Ir;
-ur=1;
-vr=Jr;
-break;
-case 3:if(uq)goto L130;
-w8(a+88,tq-1);
-if(r8(a+32)-r8(a+8)<6){
-Mr=make_ready_8e3(a,6,128);
-if(!(Mr&1))goto L130;}
-Nr=extend_from_slice_674(a,(u8*)t_f603,6);
-if(Nr&1)goto L130;
-Or=r8(a+8);
-Pr=Kp&1;
-Qr=r8(a+48);
-if(r8(a+72)>Qr){
-or=Qr;
-pr=Or;
-qr=0;
-rr=Pr;
-goto L131;}
-Rr=make_ready_17a(a+40);
-if(!(Rr&1))goto L130;
-tr=Or;
-ur=0;
-vr=Pr;
-break;
-default:NEVER;
-}
-or=r8(a+48);
-pr=tr;
-qr=ur;
-rr=vr;
-L131:Sr=rp(a+40)+or*12;
-x4(Sr,yq);
-x4(Sr+4,pr);
-Sr[8]=qr;
-Sr[9]=rr;
-x2(Sr+10,0);
-w8(a+48,or+1);
-nq=2;
-oq=qr;
-pq=rr;
-goto L123;
-L125:if(Eq!=1)goto L72;
-qq=Dq;
-rq=Cq;
-sq=Bq;
-goto L124;}
-L130:goto L72;
-L124:if(qq==3){
-Tr=rq&1;
-w4(cb,0);
-Ur=r8(a+176);
-if(Ur<c){
-Vr=*(b+Ur);
-switch(Vr){
-case 69:w4(ab,0);
-w8(a+176,Ur+1);
-Wr=r8(a+88);
-if(Wr==0){
-Xr=0;
-Yr=0;
-Zr=0;
-as=0;}
-else{
-if(*(rp(a+80)+(i64)(Wr*44)-44)==27){
-if(Tr){
-Xr=0;
-Yr=0;
-Zr=0;
-as=0;}
-else{
-w8(a+88,Wr-1);
-Xr=0;
-Yr=0;
-Zr=3;
-as=1;}}
-else{
-z32(bb);
-close_list_299(ab,a,b,c,bb);
-Xr=ab[3];
-Yr=ab[2];
-Zr=ab[1];
-as=*ab;}}
-bs=Zr;
-cs=as;
-ds=Yr;
-es=Xr;
-goto L132;
-case 74:fs=Ur+1;
-if(fs<c){
-if(*(b+fs)==69){
-empty_pack_079(cb,a,b,c,Tr);
-bs=cb[1];
-cs=*cb;
-ds=cb[2];
-es=cb[3];
-goto L132;}}
-if(!Tr){
-gs=74;
-goto L133;}
-first_pack_117(cb,a,b,c);
-bs=cb[1];
-cs=*cb;
-ds=cb[2];
-es=cb[3];
-goto L132;
-default:hs=Vr;
-break;}}
-else hs=0;
-if(Tr){
-is=hs;
-goto L134;}
-gs=hs;
-L133:js=r8(a+8);
-if(r8(a+32)-js<2){
-ks=make_ready_8e3(a,2,128);
-if(!(ks&1))goto L135;
-ls=r8(a+8);}
-else ls=js;
-*(rp(a)+ls)=44;
-*(rp(a)+(i64)ls+1)=32;
-w8(a+8,ls+2);
-is=gs;
-L134:switch(is){
-case 76:if(Tr){
-first_literal_8ab(cb,a,b,c);
-bs=cb[1];
-cs=*cb;
-ds=cb[2];
-es=cb[3];
-goto L132;}
-literal_9c1(db,a,b,c);
-bs=db[1];
-cs=*db;
-ds=db[2];
-es=db[3];
-goto L132;
-case 74:ms=r8(a+88);
-if(ms==0)goto L135;
-ns=rp(a+80);
-os=ms*44;
-if(*(ns+(i64)os-44)==27)goto L135;
-ps=r8(a+176);
-if(ps==18446744073709551615u)goto L135;
-w8(a+176,ps+1);
-if(r8(a+112)>ms){
-qs=os;
-rs=ns;
-ss=ms;}
-else{
-ts=make_ready_9a1(a+80);
-if(!(ts&1))goto L135;
-us=r8(a+88);
-qs=us*44;
-rs=rp(a+80);
-ss=us;}
-vs=rs+qs;
-*vs=27;
-z43(vs+1);
-ws=ss;
-xs=3;
-ys=1;
-break;
-default:if(!Tr){
-As=0;
-Bs=0;
-goto L136;}
-zs=r8(a+88);
-if(zs==0){
-As=0;
-Bs=0;
-goto L136;}
-Cs=rp(a+80);
-Ds=zs*44;
-Es=Cs+(i64)Ds;
-switch(Es[-44]){
-case 5:if(Es[-28]==0){
-As=0;
-Bs=0;
-goto L136;}
-break;
-case 7:break;
-case 0:case 1:case 2:case 3:case 4:case 6:case 8:case 9:case 10:case 11:case 12:case 13:case 14:case 15:case 16:case 17:case 18:case 19:case 20:case 21:case 22:case 23:case 24:case 25:case 26:case 27:case 28:case 29:As=0;
-Bs=0;
-goto L136;
-default:NEVER;
-}
-Fs=r8(a+176);
-if(Fs<c){
-Gs=b+(i64)Fs;
-switch(*Gs){
-case 65:case 70:As=0;
-Bs=0;
-goto L136;
-case 80:case 82:if(usub64(c,Fs)>=2){
-switch(Gs[1]){
-case 70:case 65:As=0;
-Bs=0;
-goto L136;
-default:break;}}
-break;
-default:break;}}
-Hs=r8(a+8);
-if(r8(a+112)>zs){
-Is=Ds;
-Js=Cs;
-Ks=zs;}
-else{
-Ls=make_ready_9a1(a+80);
-if(!(Ls&1))goto L135;
-Ms=r8(a+88);
-Is=Ms*44;
-Js=rp(a+80);
-Ks=Ms;}
-Ns=Js+Is;
-*Ns=25;
-Ns[1]=0;
-x2(Ns+2,0);
-x4(Ns+4,Hs);
-z36(Ns+8);
-ws=Ks;
-xs=0;
-ys=0;
-break;}
-w8(a+88,ws+1);
-As=xs;
-Bs=ys;
-L136:nq=As;
-oq=Bs;
-pq=0;
-goto L123;
-L132:if(cs!=1)goto L72;
-nq=bs;
-oq=ds;
-pq=es;
-goto L123;
-L135:goto L72;}
-nq=qq;
-oq=rq;
-pq=sq;
-L123:Os=ol+1;
-if(Os==nl)goto L72;
-ol=Os;
-pl=pq;
-ql=oq;
-rl=nq;
-goto L91;}}}
-L81:;}
-L72:break;
-case 1:if(!fc){
-if(c<16){
-Ps=are_few_named_14c(b,c);
-if(!Ps)goto L137;}
-else{
-Qs=c-16;
-if(Qs==0)goto L138;
-Rs=0;
-L139:Ss=v16_at(b+Rs);
-if((v16_ult(Ss,splat(33))|v16_eq(Ss,splat(127)))!=0)goto L137;
-Ts=Rs+16;
-if(Ts<Qs){
-Rs=Ts;
-goto L139;}
-L138:Us=v16_at(b+Qs);
-if((v16_ult(Us,splat(33))|v16_eq(Us,splat(127)))!=0)goto L137;}
-w4(Qa,0);
-w4(Ra,0);
-if(c!=0){
-if(c!=1&&*b==95){
-if(b[1]==90){
-if(c>=3){
-Vs=b[2];
-if(c<5){
-if(Vs==90){
-w8(a+176,3);
-w4(Ma,0);
-if(c==3)goto L140;
-Ws=a+176;
-goto L141;}
-if((c!=3)&(Vs==71)){
-if(b[3]==86)goto L142;
-goto L143;}
-switch(Vs){
-case 71:goto L143;
-case 84:if(c==3)goto L144;
-break;
-default:goto L145;
-}}
-else{
-switch(Vs){
-case 90:w8(a+176,3);
-w4(Ma,0);
-Ws=a+176;
-goto L141;
-case 71:if(b[3]!=86)goto L143;
-if(b[4]!=90)goto L142;
-if(ac<19){
-Xs=make_ready_8e3(a,19,128);
-if(!(Xs&1))goto L146;
-Ys=r8(a+16);
-Zs=r8(a+8);}
-else{
-Ys=Zb;
-Zs=0;}
-if(Ys-Zs<19){
-at=grow_amortized_68b(a,19);
-if(!at)goto L146;
-bt=r8(a+16);
-ct=r8(a+8);}
-else{
-bt=Ys;
-ct=Zs;}
-dt=ct+19;
-et=rp(a);
-z16(a+8);
-ft=et+(i64)ct;
-if((u64)ft-(u64)(u8*)t_c270<19)copy_bits_4f4((u8*)t_c270,ft,19);
-else memcpy(ft,(u8*)t_c270,19);
-wp(a,et);
-w8(a+8,dt);
-w8(a+16,bt);
-w8(a+176,5);
-w4(Ja,0);
-if(c!=5){
-gt=b[5];
-switch(gt){
-case 78:w4(Ha,0);
-w4(Ia,1);
-w8(a+176,6);
-if(c!=6){
-switch(b[6]){
-case 75:if(c<=7){
-ht=1;
-it=7;
-goto L147;}
-switch(b[7]){
-case 82:ht=3;
-it=8;
-goto L147;
-case 79:ht=5;
-it=8;
-goto L147;
-default:ht=1;
-it=7;
-goto L147;
-}
-break;
-case 82:ht=2;
-it=7;
-goto L147;
-case 79:ht=4;
-it=7;
-goto L147;
-default:break;}}
-ht=0;
-it=6;
-L147:w8(a+176,it);
-Ia[1]=ht;
-nest_at_de1(Ha,a,b,c,Ia);
-*Ja=*Ha;
-Ja[1]=Ha[1];
-Ja[2]=Ha[2];
-Ja[3]=Ha[3];
-goto L148;
-case 76:w8(a+176,6);
-begin_name_38a(Ja,a,b,c);
-goto L148;
-case 83:begin_in_std_51a(Ja,a,b,c);
-goto L148;
-default:if((u8)(gt-97)<26){
-begin_operator_bf3(Ja,a,b,c);
-goto L148;}
-break;}}
-begin_name_38a(Ja,a,b,c);
-L148:jt=Ja[3];
-kt=Ja[2];
-lt=Ja[1];
-mt=*Ja;
-goto L149;
-case 84:break;
-default:goto L145;
-}}
-switch(b[3]){
-case 104:begin_thunk_acc(Ra,a,b,c);
-goto L150;
-case 118:begin_virtual_thunk_3f7(Ra,a,b,c);
-goto L150;
-case 67:begin_clone_893(Ra);
-goto L150;
-default:break;}
-L144:begin_special_44d(Ra,a,b,c);
-L150:jt=Ra[3];
-kt=Ra[2];
-lt=Ra[1];
-mt=*Ra;
-goto L149;
-L145:w8(a+176,2);
-w4(Pa,0);
-nt=b[2];
-switch(nt){
-case 78:w4(Na,0);
-w4(Oa,1);
-w8(a+176,3);
-if(c!=3){
-switch(b[3]){
-case 75:if(c<=4){
-ot=1;
-pt=4;
-goto L151;}
-switch(b[4]){
-case 82:ot=3;
-pt=5;
-goto L151;
-case 79:ot=5;
-pt=5;
-goto L151;
-default:ot=1;
-pt=4;
-goto L151;
-}
-break;
-case 82:ot=2;
-pt=4;
-goto L151;
-case 79:ot=4;
-pt=4;
-goto L151;
-default:break;}}
-ot=0;
-pt=3;
-L151:w8(a+176,pt);
-Oa[1]=ot;
-nest_at_de1(Na,a,b,c,Oa);
-*Pa=*Na;
-Pa[1]=Na[1];
-Pa[2]=Na[2];
-Pa[3]=Na[3];
-goto L152;
-case 76:w8(a+176,3);
-begin_name_38a(Pa,a,b,c);
-goto L152;
-case 83:begin_in_std_51a(Pa,a,b,c);
-goto L152;
-default:if((u8)(nt-97)>=26)goto L153;
-begin_operator_bf3(Pa,a,b,c);
-goto L152;
-}
-L143:begin_clone_893(Qa);
-jt=Qa[3];
-kt=Qa[2];
-lt=Qa[1];
-mt=*Qa;
-goto L149;
-L142:begin_object_056(Qa,a,b,c);
-jt=Qa[3];
-kt=Qa[2];
-lt=Qa[1];
-mt=*Qa;
-goto L149;
-L141:qt=b[3];
-switch(qt){
-case 78:w4(Ka,0);
-w4(La,1);
-w8(Ws,4);
-if(c>4){
-switch(b[4]){
-case 75:if(c==5){
-rt=1;
-st=5;
-goto L154;}
-switch(b[5]){
-case 82:rt=3;
-st=6;
-goto L154;
-case 79:rt=5;
-st=6;
-goto L154;
-default:rt=1;
-st=5;
-goto L154;
-}
-break;
-case 82:rt=2;
-st=5;
-goto L154;
-case 79:rt=4;
-st=5;
-goto L154;
-default:break;}}
-rt=0;
-st=4;
-L154:w8(Ws,st);
-La[1]=rt;
-nest_at_de1(Ka,a,b,c,La);
-*Ma=*Ka;
-Ma[1]=Ka[1];
-Ma[2]=Ka[2];
-Ma[3]=Ka[3];
-goto L155;
-case 76:w8(Ws,4);
-begin_name_38a(Ma,a,b,c);
-goto L155;
-case 83:begin_in_std_51a(Ma,a,b,c);
-goto L155;
-default:if((u8)(qt-97)<26){
-begin_operator_bf3(Ma,a,b,c);
-goto L155;}
-break;}
-L140:begin_name_38a(Ma,a,b,c);
-L155:jt=Ma[3];
-kt=Ma[2];
-lt=Ma[1];
-mt=*Ma;
-goto L149;}
-w8(a+176,2);
-w4(Pa,0);
-L153:begin_name_38a(Pa,a,b,c);
-L152:jt=Pa[3];
-kt=Pa[2];
-lt=Pa[1];
-mt=*Pa;
-L149:if(mt!=1)goto L137;
-tt=c<<3;
-ut=0;
-vt=jt;
-wt=kt;
-xt=lt;
-L156:if(xt==7){
-yt=r8(a+8);
-if(yt>Xb)goto L137;
-zt=rp(a);
-if(yt==0)goto L157;
-At=0;
-Bt=0;
-Ct=0;
-L158:Dt=At;
-L159:if(yt-Dt>15){
-Et=cttz(v16_ult(v16_at(zt+Dt),splat(3)),16);
-Ft=Dt+Et;
-if(Et>=16){
-Dt=Ft;
-goto L159;}
-Gt=Ft;}
-else{
-if(Dt>=yt){
-Gt=Dt;
-goto L160;}
-Ht=Dt;
-L161:if(*(zt+Ht)>2){
-It=Ht+1;
-if(It!=yt){
-Ht=It;
-goto L161;}
-Gt=yt;}
-else Gt=Ht;}
-L160:if(Ct==0){
-if(Bt<At){
-if(Gt!=At){
-Jt=Gt-At;
-Kt=zt+(i64)At;
-Lt=zt+(i64)Bt;
-Mt=0;
-L162:*(Lt+(i64)Mt)=*(Kt+(i64)Mt);
-Nt=Mt+1;
-if(Nt!=Jt){
-Mt=Nt;
-goto L162;}}}
-Ot=Bt-At+Gt;}
-else Ot=Bt;
-if(Gt!=yt){
-switch(*(zt+Gt)){
-case 1:Pt=Ct+1;
-break;
-case 2:Pt=usub64(Ct,1);
-break;
-default:goto L137;
-}
-Qt=Gt+1;
-if(Qt<yt){
-At=Qt;
-Bt=Ot;
-Ct=Pt;
-goto L158;}}
-if(r8(a+8)>Ot)w8(a+8,Ot);
-L157:goto L1;}
-w8(a+184,r8(a+184)+1);
-switch(xt){
-case 0:w4(Ea,0);
-w4(Fa,0);
-Rt=r8(a+176);
-if(Rt<c){
-St=r8(a+8);
-Tt=St;
-Ut=*(b+Rt);
-switch(Ut){
-case 80:w4(Ca,0);
-Vt=Rt+1;
-if(Vt<c){
-switch(*(b+Vt)){
-case 70:begin_function_7aa(Ca,a,1);
-*Fa=*Ca;
-Fa[1]=Ca[1];
-Fa[2]=Ca[2];
-Wt=Ca[3];
-goto L163;
-case 65:begin_array_86f(Ca,a,b,c,1);
-*Fa=*Ca;
-Fa[1]=Ca[1];
-Fa[2]=Ca[2];
-Wt=Ca[3];
-goto L163;
-default:break;}}
-w8(a+176,Vt);
-Xt=r8(a+88);
-if(r8(a+112)>Xt)Yt=Xt;
-else{
-Zt=make_ready_9a1(a+80);
-if(!(Zt&1)){
-au=0;
-goto L164;}
-Yt=r8(a+88);}
-bu=rp(a+80)+Yt*44;
-*bu=0;
-bu[1]=0;
-x2(bu+2,0);
-x4(bu+4,Tt);
-z36(bu+8);
-w8(a+88,Yt+1);
-au=1;
-L164:*Fa=au;
-Fa[1]=0;
-Fa[2]=0;
-Wt=0;
-L163:Fa[3]=Wt;
-cu=Fa+1;
-du=Fa+2;
-eu=Fa+3;
-fu=Fa;
-goto L165;
-case 70:begin_function_7aa(Fa,a,0);
-cu=Fa+1;
-du=Fa+2;
-eu=Fa+3;
-fu=Fa;
-goto L165;
-case 82:gu=Rt+1;
-if(gu<c){
-if(*(b+gu)==65){
-begin_array_86f(Ea,a,b,c,2);
-cu=Ea+1;
-du=Ea+2;
-eu=Ea+3;
-fu=Ea;
-goto L165;}}
-w8(a+176,gu);
-hu=r8(a+88);
-if(r8(a+112)>hu)iu=hu;
-else{
-ju=make_ready_9a1(a+80);
-if(!(ju&1)){
-w4(Fa,0);
-cu=Fa+1;
-du=Fa+2;
-eu=Fa+3;
-fu=Fa;
-goto L165;}
-iu=r8(a+88);}
-ku=rp(a+80)+iu*44;
-*ku=1;
-ku[1]=0;
-x2(ku+2,0);
-x4(ku+4,Tt);
-z36(ku+8);
-w8(a+88,iu+1);
-*Fa=1;
-Fa[1]=0;
-Fa[2]=0;
-Fa[3]=0;
-cu=Fa+1;
-du=Fa+2;
-eu=Fa+3;
-fu=Fa;
-goto L165;
-case 65:begin_array_86f(Fa,a,b,c,0);
-cu=Fa+1;
-du=Fa+2;
-eu=Fa+3;
-fu=Fa;
-goto L165;
-case 79:rvalue_at_e1d(Fa,a,b,c);
-cu=Fa+1;
-du=Fa+2;
-eu=Fa+3;
-fu=Fa;
-goto L165;
-case 75:w8(a+176,Rt+1);
-lu=r8(a+88);
-if(r8(a+112)>lu)mu=lu;
-else{
-nu=make_ready_9a1(a+80);
-if(!(nu&1)){
-w4(Fa,0);
-cu=Fa+1;
-du=Fa+2;
-eu=Fa+3;
-fu=Fa;
-goto L165;}
-mu=r8(a+88);}
-ou=rp(a+80)+mu*44;
-*ou=3;
-ou[1]=0;
-x2(ou+2,0);
-x4(ou+4,Tt);
-z36(ou+8);
-w8(a+88,mu+1);
-*Fa=1;
-Fa[1]=1;
-Fa[2]=0;
-Fa[3]=0;
-cu=Fa+1;
-du=Fa+2;
-eu=Fa+3;
-fu=Fa;
-goto L165;
-case 78:w4(ya,0);
-w4(za,0);
-w8(a+176,Rt+1);
-nest_at_de1(ya,a,b,c,za);
-*Fa=*ya;
-Fa[1]=ya[1];
-Fa[2]=ya[2];
-Fa[3]=ya[3];
-cu=Fa+1;
-du=Fa+2;
-eu=Fa+3;
-fu=Fa;
-goto L165;
-case 83:case 90:break;
-case 68:builtin_with_d_cb0(Fa,a,b,c);
-cu=Fa+1;
-du=Fa+2;
-eu=Fa+3;
-fu=Fa;
-goto L165;
-case 84:template_parameter_3b0(Fa,a,b,c);
-cu=Fa+1;
-du=Fa+2;
-eu=Fa+3;
-fu=Fa;
-goto L165;
-default:if((u8)(Ut-49)>=9){
-pu=Ut-97;
-if(pu>=26){
-cu=Fa+1;
-du=Fa+2;
-eu=Fa+3;
-fu=Fa;
-goto L165;}
-if(!(u8)(((u32)65829887>>pu)&1)){
-cu=Fa+1;
-du=Fa+2;
-eu=Fa+3;
-fu=Fa;
-goto L165;}
-qu=rp((u8*)t_e7e8+(u64)pu*8);
-ru=r8((u8*)t_f635+(u64)pu*8);
-w8(a+176,Rt+1);
-if(r8(a+32)-St<ru){
-su=make_ready_8e3(a,ru,128);
-if(!(su&1))goto L166;
-tu=r8(a+8);}
-else tu=St;
-uu=r8(a+16);
-if(ru>uu-tu){
-vu=grow_amortized_68b(a,ru);
-if(!vu)goto L166;
-wu=r8(a+16);
-xu=r8(a+8);}
-else{
-wu=uu;
-xu=tu;}
-yu=xu+ru;
-zu=rp(a);
-z16(a+8);
-Au=zu+(i64)xu;
-if((u64)Au-(u64)qu<ru)copy_bits_4f4(qu,Au,ru);
-else memmove(Au,qu,ru);
-wp(a,zu);
-w8(a+8,yu);
-w8(a+16,wu);
-*Fa=1;
-Fa[1]=2;
-Fa[2]=0;
-Fa[3]=0;
-cu=Fa+1;
-du=Fa+2;
-eu=Fa+3;
-fu=Fa;
-goto L165;
-L166:w4(Fa,0);
-cu=Fa+1;
-du=Fa+2;
-eu=Fa+3;
-fu=Fa;
-goto L165;}
-break;}
-named_type_e9a(Fa,a,b,c);
-cu=Fa+1;
-du=Fa+2;
-eu=Fa+3;
-fu=Fa;}
-else{
-cu=Fa+1;
-du=Fa+2;
-eu=Fa+3;
-fu=Fa;}
-L165:Bu=*eu;
-Cu=*du;
-Du=*cu;
-Eu=*fu;
-goto L167;
-case 1:w4(Da,0);
-Fu=r8(a+176);
-if(Fu<c){
-Gu=r8(a+8);
-Hu=Gu;
-Iu=*(b+Fu);
-switch(Iu){
-case 80:w8(a+176,Fu+1);
-Ju=r8(a+88);
-if(r8(a+112)>Ju)Ku=Ju;
-else{
-Lu=make_ready_9a1(a+80);
-if(!(Lu&1)){
-Mu=0;
-goto L168;}
-Ku=r8(a+88);}
-Nu=rp(a+80)+Ku*44;
-*Nu=0;
-Nu[1]=0;
-x2(Nu+2,0);
-x4(Nu+4,Hu);
-z36(Nu+8);
-w8(a+88,Ku+1);
-Mu=1;
-L168:*Da=Mu;
-Da[1]=0;
-Da[2]=0;
-Da[3]=0;
-goto L169;
-case 70:case 65:case 75:Ou=0;
-Pu=0;
-Qu=0;
-Ru=0;
-goto L170;
-case 82:w8(a+176,Fu+1);
-Su=r8(a+88);
-if(r8(a+112)>Su)Tu=Su;
-else{
-Uu=make_ready_9a1(a+80);
-if(!(Uu&1)){
-w4(Da,0);
-goto L169;}
-Tu=r8(a+88);}
-Vu=rp(a+80)+Tu*44;
-*Vu=1;
-Vu[1]=0;
-x2(Vu+2,0);
-x4(Vu+4,Hu);
-z36(Vu+8);
-w8(a+88,Tu+1);
-*Da=1;
-Da[1]=0;
-Da[2]=0;
-Da[3]=0;
-goto L169;
-case 79:rvalue_at_e1d(Da,a,b,c);
-goto L169;
-case 78:w4(Aa,0);
-w4(Ba,0);
-w8(a+176,Fu+1);
-nest_at_de1(Aa,a,b,c,Ba);
-*Da=*Aa;
-Da[1]=Aa[1];
-Da[2]=Aa[2];
-Da[3]=Aa[3];
-goto L169;
-case 83:case 90:break;
-case 68:builtin_with_d_cb0(Da,a,b,c);
-goto L169;
-case 84:template_parameter_3b0(Da,a,b,c);
-goto L169;
-default:if((u8)(Iu-49)>=9){
-Wu=Iu-97;
-if(Wu>=26)goto L169;
-if(!(u8)(((u32)65829887>>Wu)&1))goto L169;
-Xu=rp((u8*)t_e7e8+(u64)Wu*8);
-Yu=r8((u8*)t_f635+(u64)Wu*8);
-w8(a+176,Fu+1);
-if(r8(a+32)-Gu<Yu){
-Zu=make_ready_8e3(a,Yu,128);
-if(!(Zu&1))goto L171;
-av=r8(a+8);}
-else av=Gu;
-bv=r8(a+16);
-if(Yu>bv-av){
-cv=grow_amortized_68b(a,Yu);
-if(!cv)goto L171;
-dv=r8(a+16);
-ev=r8(a+8);}
-else{
-dv=bv;
-ev=av;}
-fv=ev+Yu;
-gv=rp(a);
-z16(a+8);
-hv=gv+(i64)ev;
-if((u64)hv-(u64)Xu<Yu)copy_bits_4f4(Xu,hv,Yu);
-else memmove(hv,Xu,Yu);
-wp(a,gv);
-w8(a+8,fv);
-w8(a+16,dv);
-*Da=1;
-Da[1]=2;
-Da[2]=0;
-Da[3]=0;
-goto L169;
-L171:w4(Da,0);
-goto L169;}
-break;}
-named_type_e9a(Da,a,b,c);}
-L169:Ou=Da[3];
-Pu=Da[2];
-Qu=Da[1];
-Ru=*Da;
-L170:Bu=Ou;
-Cu=Pu;
-Du=Qu;
-Eu=Ru;
-goto L167;
-case 4:if(!(a[136]&1)){
-iv=r4(a+120);
-jv=a[139];
-kv=r8(a+8);
-lv=r8(a+48);
-if(r8(a+72)>lv)mv=lv;
-else{
-nv=make_ready_17a(a+40);
-if(!(nv&1))goto L172;
-mv=r8(a+48);}
-ov=rp(a+40)+mv*12;
-x4(ov,iv);
-x4(ov+4,kv);
-ov[8]=0;
-ov[9]=jv;
-x2(ov+10,0);
-w8(a+48,mv+1);}
-pv=r8(a+176);
-if(pv<c){
-if(*(b+pv)==73){
-memcpy(Ga,a+120,20);
-z20(Ga+20);
-qv=r8(a+8);
-if(r8(a+32)>qv)rv=qv;
-else{
-sv=make_ready_8e3(a,1,16);
-if(!(sv&1))goto L172;
-rv=r8(a+8);}
-*(rp(a)+rv)=1;
-w8(a+8,rv+1);
-tv=r8(a+176);
-if(tv==18446744073709551615u)goto L172;
-w8(a+176,tv+1);
-uv=r8(a+88);
-if(r8(a+112)>uv)vv=uv;
-else{
-wv=make_ready_9a1(a+80);
-if(!(wv&1))goto L172;
-vv=r8(a+88);}
-xv=rp(a+80)+vv*44;
-*xv=6;
-xv[1]=0;
-x2(xv+2,0);
-memcpy(xv+4,Ga,40);
-w8(a+88,vv+1);
-yv=0;
-zv=1;
-Av=3;}
-else{
-yv=0;
-zv=0;
-Av=6;}}
-else{
-yv=0;
-zv=0;
-Av=6;}
-break;
-case 5:Bv=r8(a+176);
-if(Bv<c){
-if(*(b+Bv)==69){
-Cv=a[132];
-if(Cv==0){
-w8(a+176,Bv+1);
-Dv=a[139];
-if(a[136]&1){
-yv=Dv;
-zv=0;
-Av=2;
-break;}
-Ev=r4(a+120);
-Fv=r8(a+8);
-Gv=r8(a+48);
-if(r8(a+72)>Gv)Hv=Gv;
-else{
-Iv=make_ready_17a(a+40);
-if(!(Iv&1))goto L172;
-Hv=r8(a+48);}
-Jv=rp(a+40)+Hv*12;
-x4(Jv,Ev);
-x4(Jv+4,Fv);
-Jv[8]=0;
-Jv[9]=Dv;
-x2(Jv+10,0);
-w8(a+48,Hv+1);
-yv=a[139];
-zv=0;
-Av=2;
-break;}
-w4(xa,0);
-w8(a+176,Bv+1);
-Kv=a[133];
-switch(Cv){
-case 3:addressed_named_a52(xa,a,b,c,Kv);
-Lv=xa+1;
-Mv=xa+2;
-Nv=xa+3;
-Ov=xa;
-break;
-case 1:if(a[138]&1){
-Pv=q2(a+140);
-Qv=q2(a+142);
-memcpy(wa+4,a+144,16);
-Rv=q8(a+160);
-Sv=a[168];
-Tv=a[169];
-Uv=a[170];
-Vv=a[171];
-w2(wa,Pv);
-w2(wa+2,Qv);
-x8(wa+20,Rv);
-wa[28]=Sv;
-wa[29]=Tv;
-wa[30]=Uv;
-wa[31]=Vv;
-Wv=a[137]&1;}
-else{
-z32(wa);
-Wv=0;}
-name_ended_8aa(xa,a,b,c,Kv,Wv,wa,r4(a+120));
-Lv=xa+1;
-Mv=xa+2;
-Nv=xa+3;
-Ov=xa;
-break;
-case 2:if(a[138]&1){
-Xv=r4(a+120);
-if(a[137]&1){
-enclosing_instance_e2f(va,a,b,c,Kv,r2(a+134),Xv);
-Lv=va+1;
-Mv=va+2;
-Nv=va+3;
-Ov=va;
-break;}
-Yv=Xv;}
-else Yv=r4(a+120);
-enclosing_named_54a(xa,a,b,c,Kv,Yv);
-Lv=xa+1;
-Mv=xa+2;
-Nv=xa+3;
-Ov=xa;
-break;
-default:NEVER;
-}
-Bu=*Nv;
-Cu=*Mv;
-Du=*Lv;
-Eu=*Ov;
-goto L167;}}
-if(a[136]&1){
-yv=0;
-zv=0;
-Av=6;}
-else{
-Zv=r4(a+120);
-aw=a[139];
-bw=r8(a+8);
-cw=r8(a+48);
-if(r8(a+72)>cw)dw=cw;
-else{
-ew=make_ready_17a(a+40);
-if(!(ew&1))goto L172;
-dw=r8(a+48);}
-fw=rp(a+40)+dw*12;
-x4(fw,Zv);
-x4(fw+4,bw);
-fw[8]=0;
-fw[9]=aw;
-x2(fw+10,0);
-w8(a+48,dw+1);
-yv=0;
-zv=0;
-Av=6;}
-break;
-case 6:case 2:case 3:yv=vt;
-zv=wt;
-Av=xt;
-break;
-default:NEVER;
-}
-gw=Av;
-hw=zv;
-iw=yv;
-goto L173;
-L172:goto L137;
-L167:if(Eu!=1)goto L137;
-gw=Du;
-hw=Cu;
-iw=Bu;
-L173:if(gw!=6){
-kw=gw;
-lw=hw;
-mw=iw;
-goto L174;}
-jw=0;
-L175:w4(Wa,0);
-nw=r8(a+176);
-if(nw<c){
-ow=*(b+nw);
-switch(ow){
-case 67:constructor_ff5(Wa,a,b,c);
-break;
-case 68:destructor_97b(Wa,a,b,c);
-break;
-case 76:w8(a+176,nw+1);
-pw=r8(a+8);
-if(r8(a+32)-pw<2){
-qw=make_ready_8e3(a,2,128);
-if(!(qw&1))goto L176;
-rw=r8(a+8);}
-else rw=pw;
-*(rp(a)+rw)=58;
-*(rp(a)+(i64)rw+1)=58;
-sw=rw+2;
-w8(a+8,sw);
-tw=r8(a+176);
-z24(Ta);
-if(tw<c){
-uw=*(b+tw);
-if((u8)(uw-58)>=247){
-vw=sw;
-ww=tw+1;
-if(ww<c){
-xw=*(b+ww)-48;
-if(xw<10){
-yw=tw+2;
-if(yw<c){
-if((u8)(*(b+yw)-48)<10){
-long_name_at_8ad(Ta,b,c,tw);
-if(*Ta!=1)goto L176;
-zw=r8(Ta+8);
-Aw=r8(Ta+16);
-goto L177;}}
-Bw=(u64)xw+(u8)((u8)(uw*10)+32);
-if(c-yw<Bw)goto L178;
-if((u8)(*(b+(i64)yw)-48)<10)goto L178;
-Cw=Bw+yw;
-Dw=yw;
-goto L179;}}
-Ew=uw-48;
-if(c-ww<Ew)goto L178;
-if((u8)(*(b+(i64)ww)-48)<10)goto L178;
-Cw=ww+Ew;
-Dw=ww;
-L179:zw=Dw;
-Aw=Cw;
-L177:w8(a+176,Aw);
-Fw=b+(i64)zw;
-Gw=Aw-zw;
-if(Aw!=zw){
-if(!(Gw<10||*Fw!=95)){
-Hw=parts_equal_58b((u8*)t_35ad,10,Fw,10);
-if(Hw){
-Iw=(s_p_64){(u8*)t_62ff,21};
-goto L180;}}}
-Jw=(s_p_64){0};Jw.f0=Fw;
-Kw=Jw;Kw.f1=Gw;
-Iw=Kw;
-L180:Lw=Iw.f0;
-Mw=Iw.f1;
-if(r8(a+32)-sw<Mw){
-Nw=make_ready_8e3(a,Mw,128);
-if(!(Nw&1))goto L176;}
-Ow=extend_from_slice_674(a,Lw,Mw);
-if(Ow&1)goto L176;
-Pw=r8(a+8);
-Qw=a[139];
-w4(a+124,vw);
-w4(a+128,Pw);
-a[136]=0;
-a[137]=1;
-a[138]=0;
-Rw=r8(a+176);
-if(Rw>=c){
-gx=0;
-hx=5;
-goto L181;}
-if(*(b+Rw)!=73){
-gx=0;
-hx=5;
-goto L181;}
-Sw=r4(a+120);
-Tw=r8(a+48);
-if(r8(a+72)>Tw)Uw=Tw;
-else{
-Vw=make_ready_17a(a+40);
-if(!(Vw&1))goto L182;
-Uw=r8(a+48);}
-Ww=rp(a+40)+Uw*12;
-x4(Ww,Sw);
-x4(Ww+4,Pw);
-Ww[8]=0;
-Ww[9]=Qw;
-x2(Ww+10,0);
-w8(a+48,Uw+1);
-memcpy(Sa,a+120,20);
-z20(Sa+20);
-Xw=r8(a+8);
-if(r8(a+32)>Xw)Yw=Xw;
-else{
-Zw=make_ready_8e3(a,1,16);
-if(!(Zw&1))goto L182;
-Yw=r8(a+8);}
-*(rp(a)+Yw)=1;
-w8(a+8,Yw+1);
-ax=r8(a+176);
-if(ax==18446744073709551615u)goto L182;
-w8(a+176,ax+1);
-bx=r8(a+88);
-if(r8(a+112)>bx){
-cx=bx;
-dx=Sa;
-goto L183;}
-ex=make_ready_9a1(a+80);
-if(!(ex&1))goto L182;
-fx=Sa;
-goto L184;}}
-L178:goto L176;
-case 85:begin_component_d5a(Wa,a,b,c);
-break;
-default:if((u8)(ow-97)>=26)goto L185;
-operator_a8d(Wa,a,b,c);
-break;}
-if(*Wa!=1)goto L137;
-ix=Wa[1];
-jx=Wa[2];
-kx=Wa[3];
-goto L186;}
-L185:lx=r8(a+8);
-if(r8(a+32)-lx<2){
-mx=make_ready_8e3(a,2,128);
-if(!(mx&1))goto L176;
-nx=r8(a+8);}
-else nx=lx;
-*(rp(a)+nx)=58;
-*(rp(a)+(i64)nx+1)=58;
-ox=nx+2;
-w8(a+8,ox);
-px=r8(a+176);
-z24(Va);
-if(px<c){
-qx=*(b+px);
-if((u8)(qx-58)>=247){
-rx=ox;
-sx=px+1;
-if(sx<c){
-tx=*(b+sx)-48;
-if(tx<10){
-ux=px+2;
-if(ux<c){
-if((u8)(*(b+ux)-48)<10){
-long_name_at_8ad(Va,b,c,px);
-if(*Va!=1)goto L176;
-vx=r8(Va+8);
-wx=r8(Va+16);
-goto L187;}}
-xx=(u64)tx+(u8)((u8)(qx*10)+32);
-if(c-ux<xx)goto L188;
-if((u8)(*(b+(i64)ux)-48)<10)goto L188;
-yx=xx+ux;
-zx=ux;
-goto L189;}}
-Ax=qx-48;
-if(c-sx<Ax)goto L188;
-if((u8)(*(b+(i64)sx)-48)<10)goto L188;
-yx=sx+Ax;
-zx=sx;
-L189:vx=zx;
-wx=yx;
-L187:w8(a+176,wx);
-Bx=b+(i64)vx;
-Cx=wx-vx;
-if(wx!=vx){
-if(!(Cx<10||*Bx!=95)){
-Dx=parts_equal_58b((u8*)t_35ad,10,Bx,10);
-if(Dx){
-Ex=(s_p_64){(u8*)t_62ff,21};
-goto L190;}}}
-Fx=(s_p_64){0};Fx.f0=Bx;
-Gx=Fx;Gx.f1=Cx;
-Ex=Gx;
-L190:Hx=Ex.f0;
-Ix=Ex.f1;
-if(r8(a+32)-ox<Ix){
-Jx=make_ready_8e3(a,Ix,128);
-if(!(Jx&1))goto L176;
-Kx=r8(a+8);}
-else Kx=ox;
-Lx=r8(a+16);
-if(Ix>Lx-Kx){
-Mx=grow_amortized_68b(a,Ix);
-if(!Mx)goto L176;
-Nx=r8(a+16);
-Ox=r8(a+8);}
-else{
-Nx=Lx;
-Ox=Kx;}
-Px=Ox+Ix;
-Qx=rp(a);
-z16(a+8);
-Rx=Qx+(i64)Ox;
-if((u64)Rx-(u64)Hx<Ix)copy_bits_4f4(Hx,Rx,Ix);
-else memmove(Rx,Hx,Ix);
-wp(a,Qx);
-w8(a+8,Px);
-w8(a+16,Nx);
-Sx=Px;
-Tx=a[139];
-w4(a+124,rx);
-w4(a+128,Sx);
-a[136]=0;
-a[137]=1;
-a[138]=0;
-Ux=r8(a+176);
-if(Ux>=c){
-gx=0;
-hx=5;
-goto L181;}
-if(*(b+Ux)!=73){
-gx=0;
-hx=5;
-goto L181;}
-Vx=r4(a+120);
-Wx=r8(a+48);
-if(r8(a+72)>Wx)Xx=Wx;
-else{
-Yx=make_ready_17a(a+40);
-if(!(Yx&1))goto L182;
-Xx=r8(a+48);}
-Zx=rp(a+40)+Xx*12;
-x4(Zx,Vx);
-x4(Zx+4,Sx);
-Zx[8]=0;
-Zx[9]=Tx;
-x2(Zx+10,0);
-w8(a+48,Xx+1);
-memcpy(Ua,a+120,20);
-z20(Ua+20);
-ay=r8(a+8);
-if(r8(a+32)>ay)by=ay;
-else{
-cy=make_ready_8e3(a,1,16);
-if(!(cy&1))goto L182;
-by=r8(a+8);}
-*(rp(a)+by)=1;
-w8(a+8,by+1);
-dy=r8(a+176);
-if(dy==18446744073709551615u)goto L182;
-w8(a+176,dy+1);
-ey=r8(a+88);
-if(r8(a+112)>ey){
-cx=ey;
-dx=Ua;
-goto L183;}
-fy=make_ready_9a1(a+80);
-if(!(fy&1))goto L182;
-fx=Ua;
-goto L184;}}
-L188:goto L176;
-L184:cx=r8(a+88);
-dx=fx;
-L183:gy=rp(a+80)+cx*44;
-*gy=5;
-gy[1]=0;
-x2(gy+2,0);
-memcpy(gy+4,dx,40);
-w8(a+88,cx+1);
-gx=1;
-hx=3;
-L181:ix=hx;
-jx=gx;
-kx=0;
-goto L186;
-L182:goto L137;
-L176:goto L137;
-L186:if(ix==5){
-hy=r8(a+176);
-if(hy<c){
-if(*(b+hy)==69){
-iy=a[132];
-if(iy==0){
-w8(a+176,hy+1);
-jy=a[139];
-if(a[136]&1){
-ky=jy;
-ly=0;
-goto L191;}
-my=r4(a+120);
-ny=r8(a+8);
-oy=r8(a+48);
-if(r8(a+72)>oy)py=oy;
-else{
-qy=make_ready_17a(a+40);
-if(!(qy&1))goto L137;
-py=r8(a+48);}
-ry=rp(a+40)+py*12;
-x4(ry,my);
-x4(ry+4,ny);
-ry[8]=0;
-ry[9]=jy;
-x2(ry+10,0);
-w8(a+48,py+1);
-ky=a[139];
-ly=0;
-goto L191;}
-w4(Za,0);
-w8(a+176,hy+1);
-sy=a[133];
-switch(iy){
-case 3:addressed_named_a52(Za,a,b,c,sy);
-break;
-case 1:if(a[138]&1){
-ty=q2(a+140);
-uy=q2(a+142);
-memcpy(Ya+4,a+144,16);
-vy=q8(a+160);
-wy=a[168];
-xy=a[169];
-yy=a[170];
-zy=a[171];
-w2(Ya,ty);
-w2(Ya+2,uy);
-x8(Ya+20,vy);
-Ya[28]=wy;
-Ya[29]=xy;
-Ya[30]=yy;
-Ya[31]=zy;
-Ay=a[137]&1;}
-else{
-z32(Ya);
-Ay=0;}
-name_ended_8aa(Za,a,b,c,sy,Ay,Ya,r4(a+120));
-break;
-case 2:if(a[138]&1){
-if(a[137]&1){
-enclosing_instance_e2f(Xa,a,b,c,sy,r2(a+134),r4(a+120));
-By=Xa[3];
-Cy=Xa[2];
-Dy=Xa[1];
-Ey=Xa;
-goto L192;}}
-enclosing_named_54a(Za,a,b,c,sy,r4(a+120));
-break;
-default:NEVER;
-}
-By=Za[3];
-Cy=Za[2];
-Dy=Za[1];
-Ey=Za;
-L192:if(*Ey!=1)goto L137;
-kw=Dy;
-lw=Cy;
-mw=By;
-goto L174;}}
-if(!(a[136]&1)){
-Fy=r4(a+120);
-Gy=a[139];
-Hy=r8(a+8);
-Iy=r8(a+48);
-if(r8(a+72)>Iy)Jy=Iy;
-else{
-Ky=make_ready_17a(a+40);
-if(!(Ky&1))goto L137;
-Jy=r8(a+48);}
-Ly=rp(a+40)+Jy*12;
-x4(Ly,Fy);
-x4(Ly+4,Hy);
-Ly[8]=0;
-Ly[9]=Gy;
-x2(Ly+10,0);
-w8(a+48,Jy+1);}
-My=jw+1;
-if(My!=16){
-jw=My;
-goto L175;}
-Ny=6;
-Oy=0;
-Py=0;
-goto L193;}
-kw=ix;
-lw=jx;
-mw=kx;
-L174:if(kw!=2){
-Qy=kw;
-Ry=lw;
-Sy=mw;
-goto L194;}
-ky=mw;
-ly=lw;
-L191:w4(sa,0);
-w4(ta,0);
-z32(ua);
-Ty=r8(a+88);
-if(Ty!=0){
-Uy=ly&1;
-Vy=rp(a+80)+(i64)(Ty*44);
-Wy=Vy[-44];
-Xy=Vy[-43];
-Yy=q4(Vy-40);
-Zy=q4(Vy-36);
-az=q2(Vy-32);
-switch(Wy){
-case 29:case 28:case 27:case 26:case 4:case 5:case 6:case 7:case 8:case 11:case 12:case 13:case 14:case 15:case 16:case 17:case 18:case 19:case 20:case 21:case 22:case 23:case 24:case 25:if(ky&1){
-pass_dependent_123(sa,a,b,c);
-bz=sa[3];
-cz=sa[2];
-dz=sa[1];
-ez=*sa;
-goto L195;}
-fz=q4(Vy-4);
-w4(oa,0);
-switch(Wy){
-case 22:returned_087(oa,a,b,c,Xy&1);
-break;
-case 23:parameter_at_d02(oa,a,b,c,Xy&1,0);
-break;
-case 24:array_ended_a11(oa,a,b,c,Xy,Yy,Zy);
-break;
-case 12:enclosing_parameter_d72(oa,a,b,c,Xy,Yy);
-break;
-case 13:instance_parameter_e2a(oa,a,b,c,Xy,Yy,Zy);
-break;
-case 11:w2(la,az);
-memcpy(la+2,Vy-30,26);
-x4(la+28,fz);
-enclosing_front_fa8(oa,a,Xy,Yy,Zy,la);
-break;
-case 17:w4(ma,Zy);
-w2(ma+4,az);
-lambda_parameter_f9a(oa,a,b,c,Yy,ma);
-break;
-case 18:member_parameter_678(oa,a,b,c,Xy);
-break;
-case 15:w4(na,Zy);
-w2(na+4,az);
-memcpy(na+6,Vy-30,26);
-addressed_front_4c5(oa,a,b,c,Xy,Yy,na);
-break;
-case 16:addressed_parameter_41c(oa,a,b,c,Xy);
-break;
-case 14:*oa=0;
-break;
-case 19:finish_8cd(oa,a,b,c);
-break;
-case 20:derived_ended_aef(oa,a,b,c);
-break;
-case 21:base_ended_299(oa,a,b,c,Yy);
-break;
-case 29:enumerator_21c(oa,a,b,c);
-break;
-case 26:case 25:case 28:gz=Zy;
-hz=fz;
-w4(ka,0);
-switch(Wy){
-case 26:w2(ha,Zy>>16);
-w2(ha+2,az);
-memcpy(ha+4,Vy-30,26);
-w2(ha+30,hz);
-argument_enumerator_61d(ka,a,b,c,Yy,gz,ha);
-break;
-case 25:w2(ia,Zy>>16);
-w2(ia+2,az);
-memcpy(ia+4,Vy-30,26);
-w2(ia+30,hz);
-argument_ended_605(ka,a,b,c,Yy,gz,ia,Uy);
-break;
-case 28:w2(ja,Zy>>16);
-w2(ja+2,az);
-memcpy(ja+4,Vy-30,26);
-w2(ja+30,hz);
-element_ended_c50(ka,a,b,c,Yy,gz,ja,Uy);
-break;
-case 27:*ka=0;
-break;
-default:NEVER;
-}
-iz=ka[1];
-jz=ka[2];
-kz=ka[3];
-*oa=*ka;
-oa[1]=iz;
-oa[2]=jz;
-oa[3]=kz;
-break;
-case 27:case 10:case 9:case 8:case 4:case 5:case 6:case 7:*oa=1;
-oa[1]=3;
-oa[2]=0;
-oa[3]=0;
-break;
-default:NEVER;
-}
-bz=oa[3];
-cz=oa[2];
-dz=oa[1];
-ez=*oa;
-goto L195;
-case 10:lz=r8(a+176);
-if(lz<c){
-switch(*(b+lz)){
-case 69:case 46:case 0:break;
-default:w4(ra,Zy);
-w2(ra+4,az);
-memcpy(ra+6,Vy-30,26);
-w4(qa,0);
-if(ra[29]&1){
-expansion_d9b(qa,a,b,c,0,Xy,Yy,ra);
-mz=qa[3];
-nz=qa[2];
-oz=qa[1];
-pz=*qa;}
-else{
-qz=r8(a+8);
-if(r8(a+32)-qz<2){
-rz=make_ready_8e3(a,2,128);
-if(!(rz&1)){
-mz=0;
-nz=0;
-oz=0;
-pz=0;
-goto L196;}
-sz=r8(a+8);}
-else sz=qz;
-*(rp(a)+sz)=44;
-*(rp(a)+(i64)sz+1)=32;
-w8(a+8,sz+2);
-mz=0;
-nz=0;
-oz=0;
-pz=1;}
-L196:bz=mz;
-cz=nz;
-dz=oz;
-ez=pz;
-goto L195;
-}}
-w4(pa,0);
-tz=r8(a+8);
-if(tz>=5){
-uz=rp(a)+(i64)tz;
-vz=0;
-wz=0;
-L197:xz=vz||*((u8*)t_262b+(i64)wz)!=*(uz-5+(i64)wz);
-yz=wz+1;
-if(yz!=4){
-vz=xz;
-wz=yz;
-goto L197;}
-zz=0;
-Az=0;
-L198:Bz=Az+1;
-Cz=zz||*((u8*)t_262b+(i64)Bz)!=*(uz-5+(i64)Bz);
-if(Bz!=4){
-zz=Cz;
-Az=Bz;
-goto L198;}
-if(!(xz|Cz)){
-Dz=0;
-Ez=0;
-Fz=0;
-Gz=0;
-goto L199;}}
-close_a33(pa,a,b,c,Xy,Yy);
-Dz=pa[3];
-Ez=pa[2];
-Fz=pa[1];
-Gz=*pa;
-L199:bz=Dz;
-cz=Ez;
-dz=Fz;
-ez=Gz;
-goto L195;
-case 9:w4(ua,Zy);
-w2(ua+4,az);
-memcpy(ua+6,Vy-30,26);
-front_ended_ee9(ta,a,b,c,Xy,Yy,ua);
-bz=ta[3];
-cz=ta[2];
-dz=ta[1];
-ez=*ta;
-goto L195;
-case 0:w8(a+88,Ty-1);
-Hz=r8(a+8);
-if(r8(a+32)>Hz)Iz=Hz;
-else{
-Jz=make_ready_8e3(a,1,16);
-if(!(Jz&1))goto L200;
-Iz=r8(a+8);}
-*(rp(a)+Iz)=42;
-Kz=Iz+1;
-w8(a+8,Kz);
-Lz=Kz;
-Mz=ky&1;
-Nz=r8(a+48);
-if(r8(a+72)>Nz){
-Oz=Nz;
-Pz=Lz;
-Qz=0;
-Rz=Mz;
-goto L201;}
-Sz=make_ready_17a(a+40);
-if(!(Sz&1))goto L200;
-Tz=Lz;
-Uz=0;
-Vz=Mz;
-break;
-case 1:if(Uy)goto L200;
-w8(a+88,Ty-1);
-Wz=r8(a+8);
-if(r8(a+32)>Wz)Xz=Wz;
-else{
-Yz=make_ready_8e3(a,1,16);
-if(!(Yz&1))goto L200;
-Xz=r8(a+8);}
-*(rp(a)+Xz)=38;
-Zz=Xz+1;
-w8(a+8,Zz);
-aA=Zz;
-bA=ky&1;
-cA=r8(a+48);
-if(r8(a+72)>cA){
-Oz=cA;
-Pz=aA;
-Qz=1;
-Rz=bA;
-goto L201;}
-dA=make_ready_17a(a+40);
-if(!(dA&1))goto L200;
-Tz=aA;
-Uz=1;
-Vz=bA;
-break;
-case 2:if(Uy)goto L200;
-w8(a+88,Ty-1);
-eA=r8(a+8);
-if(r8(a+32)-eA<2){
-fA=make_ready_8e3(a,2,128);
-if(!(fA&1))goto L200;
-gA=r8(a+8);}
-else gA=eA;
-*(rp(a)+gA)=38;
-*(rp(a)+(i64)gA+1)=38;
-hA=gA+2;
-w8(a+8,hA);
-iA=hA;
-jA=ky&1;
-kA=r8(a+48);
-if(r8(a+72)>kA){
-Oz=kA;
-Pz=iA;
-Qz=1;
-Rz=jA;
-goto L201;}
-lA=make_ready_17a(a+40);
-if(!(lA&1))goto L200;
-Tz=iA;
-Uz=1;
-Vz=jA;
-break;
-case 3:if(Uy)goto L200;
-w8(a+88,Ty-1);
-if(r8(a+32)-r8(a+8)<6){
-mA=make_ready_8e3(a,6,128);
-if(!(mA&1))goto L200;}
-nA=extend_from_slice_674(a,(u8*)t_f603,6);
-if(nA&1)goto L200;
-oA=r8(a+8);
-pA=ky&1;
-qA=r8(a+48);
-if(r8(a+72)>qA){
-Oz=qA;
-Pz=oA;
-Qz=0;
-Rz=pA;
-goto L201;}
-rA=make_ready_17a(a+40);
-if(!(rA&1))goto L200;
-Tz=oA;
-Uz=0;
-Vz=pA;
-break;
-default:NEVER;
-}
-Oz=r8(a+48);
-Pz=Tz;
-Qz=Uz;
-Rz=Vz;
-L201:sA=rp(a+40)+Oz*12;
-x4(sA,Yy);
-x4(sA+4,Pz);
-sA[8]=Qz;
-sA[9]=Rz;
-x2(sA+10,0);
-w8(a+48,Oz+1);
-Ny=2;
-Oy=Qz;
-Py=Rz;
-goto L193;
-L195:if(ez!=1)goto L137;
-Qy=dz;
-Ry=cz;
-Sy=bz;
-goto L194;}
-L200:goto L137;
-L194:if(Qy==3){
-tA=Ry&1;
-w4(fa,0);
-uA=r8(a+176);
-if(uA<c){
-vA=*(b+uA);
-switch(vA){
-case 69:w4(da,0);
-w8(a+176,uA+1);
-wA=r8(a+88);
-if(wA==0){
-xA=0;
-yA=0;
-zA=0;
-AA=0;}
-else{
-if(*(rp(a+80)+(i64)(wA*44)-44)==27){
-if(tA){
-xA=0;
-yA=0;
-zA=0;
-AA=0;}
-else{
-w8(a+88,wA-1);
-xA=0;
-yA=0;
-zA=3;
-AA=1;}}
-else{
-z32(ea);
-close_list_148(da,a,b,c,ea);
-xA=da[3];
-yA=da[2];
-zA=da[1];
-AA=*da;}}
-BA=zA;
-CA=AA;
-DA=yA;
-EA=xA;
-goto L202;
-case 74:FA=uA+1;
-if(FA<c){
-if(*(b+FA)==69){
-empty_pack_c74(fa,a,b,c,tA);
-BA=fa[1];
-CA=*fa;
-DA=fa[2];
-EA=fa[3];
-goto L202;}}
-if(!tA){
-GA=74;
-goto L203;}
-first_pack_117(fa,a,b,c);
-BA=fa[1];
-CA=*fa;
-DA=fa[2];
-EA=fa[3];
-goto L202;
-default:HA=vA;
-break;}}
-else HA=0;
-if(tA){
-IA=HA;
-goto L204;}
-GA=HA;
-L203:JA=r8(a+8);
-if(r8(a+32)-JA<2){
-KA=make_ready_8e3(a,2,128);
-if(!(KA&1))goto L205;
-LA=r8(a+8);}
-else LA=JA;
-*(rp(a)+LA)=44;
-*(rp(a)+(i64)LA+1)=32;
-w8(a+8,LA+2);
-IA=GA;
-L204:switch(IA){
-case 76:if(tA){
-first_literal_d00(fa,a,b,c);
-BA=fa[1];
-CA=*fa;
-DA=fa[2];
-EA=fa[3];
-goto L202;}
-literal_8fc(ga,a,b,c);
-BA=ga[1];
-CA=*ga;
-DA=ga[2];
-EA=ga[3];
-goto L202;
-case 74:MA=r8(a+88);
-if(MA==0)goto L205;
-NA=rp(a+80);
-OA=MA*44;
-if(*(NA+(i64)OA-44)==27)goto L205;
-PA=r8(a+176);
-if(PA==18446744073709551615u)goto L205;
-w8(a+176,PA+1);
-if(r8(a+112)>MA){
-QA=OA;
-RA=NA;
-SA=MA;}
-else{
-TA=make_ready_9a1(a+80);
-if(!(TA&1))goto L205;
-UA=r8(a+88);
-QA=UA*44;
-RA=rp(a+80);
-SA=UA;}
-VA=RA+QA;
-*VA=27;
-z43(VA+1);
-WA=SA;
-XA=3;
-YA=1;
-break;
-default:if(!tA){
-aB=0;
-bB=0;
-goto L206;}
-ZA=r8(a+88);
-if(ZA==0){
-aB=0;
-bB=0;
-goto L206;}
-cB=rp(a+80);
-dB=ZA*44;
-eB=cB+(i64)dB;
-switch(eB[-44]){
-case 5:if(eB[-28]==0){
-aB=0;
-bB=0;
-goto L206;}
-break;
-case 7:break;
-case 0:case 1:case 2:case 3:case 4:case 6:case 8:case 9:case 10:case 11:case 12:case 13:case 14:case 15:case 16:case 17:case 18:case 19:case 20:case 21:case 22:case 23:case 24:case 25:case 26:case 27:case 28:case 29:aB=0;
-bB=0;
-goto L206;
-default:NEVER;
-}
-fB=r8(a+176);
-if(fB<c){
-gB=b+(i64)fB;
-switch(*gB){
-case 65:case 70:aB=0;
-bB=0;
-goto L206;
-case 80:case 82:if(usub64(c,fB)>=2){
-switch(gB[1]){
-case 70:case 65:aB=0;
-bB=0;
-goto L206;
-default:break;}}
-break;
-default:break;}}
-hB=r8(a+8);
-if(r8(a+112)>ZA){
-iB=dB;
-jB=cB;
-kB=ZA;}
-else{
-lB=make_ready_9a1(a+80);
-if(!(lB&1))goto L205;
-mB=r8(a+88);
-iB=mB*44;
-jB=rp(a+80);
-kB=mB;}
-nB=jB+iB;
-*nB=25;
-nB[1]=0;
-x2(nB+2,0);
-x4(nB+4,hB);
-z36(nB+8);
-WA=kB;
-XA=0;
-YA=0;
-break;}
-w8(a+88,WA+1);
-aB=XA;
-bB=YA;
-L206:Ny=aB;
-Oy=bB;
-Py=0;
-goto L193;
-L202:if(CA!=1)goto L137;
-Ny=BA;
-Oy=DA;
-Py=EA;
-goto L193;
-L205:goto L137;}
-Ny=Qy;
-Oy=Ry;
-Py=Sy;
-L193:oB=ut+1;
-if(oB==tt)goto L137;
-ut=oB;
-vt=Py;
-wt=Oy;
-xt=Ny;
-goto L156;}}}
-L146:;}
-L137:break;
-default:NEVER;
-}}
-if(r8(a+8)==0)goto L207;
-L92:w8(a+8,0);
-L207:z16(a+24);
-if(r8(a+48)!=0)w8(a+48,0);
-if(r8(a+88)!=0)w8(a+88,0);
-a[172]=0;
-z16(a+64);
-pB=0;
-goto L208;
-L1:if(r8(a+48)!=0)w8(a+48,0);
-z16(a+64);
-if(r8(a+88)==0)pB=1;
-else{
-w8(a+88,0);
-pB=1;}
-L208:z16(a+104);
-return pB;
+Ti=r8(c+16);
+Ui=r8(c+8);}
+else{
+Ti=Ri;
+Ui=0;}
+Xi=Ui+f;
+Yi=rp(c);
+z16(c+8);
+Zi=Yi+(i64)Ui;
+if((u64)Zi-(u64)e<f)copy_bits_4f4(e,Zi,f);
+else memmove(Zi,e,f);
+wp(c,Yi);
+w8(c+8,Xi);
+w8(c+16,Ti);
+link_2bc(fa,c);
+goto L70;}
+aj=ea[4];
+bj=r4(ea+8);
+x4(c+24,0);
+x4(c+28,0);
+if(r8(c+40)!=0)w8(c+40,0);
+if(r8(c+64)!=0)w8(c+64,0);
+w8(c+80,0);
+w4(c+88,0);
+Vi=aj;
+Wi=bj;
+L71:cj=1;
+dj=Vi;
+ej=Wi;
+goto L72;
+L70:fj=r4(fa+8);
+gj=*fa;
+hj=fa[4];
+memcpy(ia,fa+12,100);
+if(gj==0){
+w4(ga,fj);
+memcpy(ga+4,ia,100);
+print_07f(ha,c,ga,ka,la,g);
+ij=qp(c+96);
+jj=qp(c+120);
+kj=q8(c+136);
+lj=q8(c+112);
+memcpy(c+96,ia+20,64);
+if(lj!=0)port_rattle_dealloc(ij);
+if(kj!=0)port_rattle_dealloc(jj);
+mj=qp(c);
+nj=q8(c+16);
+memcpy(c,ga,24);
+if(nj!=0)port_rattle_dealloc(mj);
+cj=*ha;
+dj=ha[4];
+ej=r4(ha+8);}
+else{
+cj=1;
+dj=hj;
+ej=fj;}
+L72:Ji=ej;
+Ki=dj;
+Li=cj;}
+else{
+append_in_c46(ja,c+800,e,f,r4(b),(u32)16777472>>((u32)b[4]<<3),g);
+Ji=r4(ja+8);
+Ki=ja[4];
+Li=*ja;}
+L69:*a=Li;
+x4(a+4,Ki);
+x4(a+8,Ji);
+return;
 }
 
 /* itanium::short_way::run */
@@ -86098,7 +80053,7 @@ else{
 e=umin64(b-c,16);
 f=r8(a+16);
 if(e>f-c){
-g=grow_amortized_53f(a,e);
+g=grow_amortized_74b(a,e);
 if(!g){
 d=0;
 goto L1;}
@@ -86109,39 +80064,6 @@ h=f;
 i=b;}
 w8(a+32,umin64(h,i));
 d=1;}
-L1:return d;
-}
-
-/* std_alloc::vec::Vec::grow_amortized */
-static COLD u8 grow_amortized_53f(u8* a,u64 b)
-{
-u64 c,e,f,g,h;
-u8 d;
-s_64_64 i,j,k;
-c=r8(a+8);
-if(b>(c^18446744073709551615u))d=0;
-else{
-e=r8(a+16);
-f=umax64(c+b,4);
-g=umax64(f,e<<1);
-h=e<0x4000000000000000u?g:f;
-if(h<0xaaaaaaaaaaaaaabu){
-if(e==0){
-i=port_rattle_alloc(g*12,4);
-if(!(u8)(i.f0&1)){
-d=0;
-goto L1;}
-j=i;}
-else{
-k=port_rattle_realloc(rp(a),c*12,h*12,4);
-if(!(u8)(k.f0&1)){
-d=0;
-goto L1;}
-j=k;}
-wp(a,(u8*)j.f1);
-w8(a+16,h);
-d=1;}
-else d=0;}
 L1:return d;
 }
 
@@ -130208,41 +124130,9885 @@ L4:x4(a,0);
 L3:return;
 }
 
-/* rust_short_way::write_brief */
-static u8 write_brief_939(u8* a,u8* b,u64 c,u32 d)
+/* itanium::short_way::write_less */
+static u8 write_less_2c7(u8* a,u8* b,u64 c,u32 d,u8 e,u8 f)
 {
-u64 e,f,g,h;
-u8 i;
-e=(c<<3)+1024;
-f=umin64(d>>2,e);
+u8 h[32],j[4],k[32],l[32],m[32],o[32],s[4],y[4],z[32],aa[4],ba[32],ea[32],ga[4],ha[32],ia[32],ja[32],la[32],va[4],wa[32],Xa[4],Ya[32],bb[32],db[4],eb[32],fb[32],gb[32],ib[32],mb[4],sb[4],tb[32],Ub[4],Vb[32];
+A16 u8 g[4],i[4],n[4],p[6],q[32],r[4],t[4],u[32],v[4],w[4],x[32],A[4],B[4],C[4],D[4],E[4],F[4],G[4],H[4],I[4],J[40],K[4],L[4],M[4],N[4],O[4],P[4],Q[4],R[4],S[4],T[4],U[4],V[40],W[24],X[40],Y[24],Z[4],ca[4],da[4],fa[4],ka[4],ma[6],na[32],oa[4],pa[4],qa[4],ra[32],sa[4],ta[4],ua[32],xa[4],ya[4],za[4],Aa[4],Ba[4],Ca[4],Da[4],Ea[4],Fa[4],Ga[40],Ha[4],Ia[4],Ja[4],Ka[4],La[4],Ma[4],Na[4],Oa[4],Pa[4],Qa[4],Ra[4],Sa[40],Ta[24],Ua[40],Va[24],Wa[4],Za[4],ab[4],cb[4],hb[4],jb[6],kb[32],lb[4],nb[4],ob[32],pb[4],qb[4],rb[32],ub[4],vb[4],wb[4],xb[4],yb[4],zb[4],Ab[4],Bb[4],Cb[4],Db[40],Eb[4],Fb[4],Gb[4],Hb[4],Ib[4],Jb[4],Kb[4],Lb[4],Mb[4],Nb[4],Ob[4],Pb[40],Qb[24],Rb[40],Sb[24],Tb[4],Wb[4];
+u64 Xb,Zb,ac,bc,hc,ic,kc,pc,qc,sc,tc,uc,zc,Gc,Jc,Kc,Lc,Pc,Rc,Sc,Tc,Uc,Wc,Xc,Yc,Zc,ad,dd,ed,fd,gd,hd,id,jd,md,od,pd,zd,Ad,Bd,Ed,Fd,Kd,Md,Nd,Pd,Qd,Rd,Yd,Zd,ce,de,le,me,re,te,ue,we,xe,ye,Ee,Fe,Ie,Je,Ke,Me,Ne,Oe,Ue,Ze,af,lf,wf,xf,Df,Hf,Jf,Lf,Mf,Nf,Qf,Sf,Tf,Uf,Vf,Wf,Xf,ag,gg,lg,ng,og,rg,sg,ug,vg,wg,Fg,Hg,Ig,Jg,Mg,Og,Pg,Qg,Rg,Sg,Tg,Wg,ch,eh,fh,hh,ih,jh,oh,qh,rh,uh,vh,xh,yh,Bh,Ih,Jh,Ph,ci,di,gi,ni,Fi,Ki,Mi,Ni,Qi,Si,Ui,Vi,bj,cj,ej,hj,ij,qj,rj,tj,wj,yj,Aj,Bj,Ej,Kj,Oj,Qj,Zj,dk,fk,gk,ik,jk,kk,mk,ok,qk,tk,xk,zk,Ck,Ek,Gk,Ik,Kk,Lk,Nk,Sk,Tk,Vk,Wk,Xk,cl,jl,ml,nl,ol,sl,tl,wl,yl,zl,Hl,Il,Jl,Ml,Nl,Sl,Ul,Vl,Xl,Yl,Zl,gm,hm,km,lm,tm,um,zm,Bm,Cm,Em,Fm,Gm,Mm,Nm,Qm,Rm,Sm,Um,Vm,Wm,cn,hn,in,sn,Dn,En,Kn,On,Qn,Sn,Tn,Un,Xn,Zn,ao,bo,co,eo,fo,io,oo,to,vo,wo,zo,Ao,Co,Do,Eo,No,Po,Qo,Ro,Uo,Wo,Xo,Yo,Zo,ap,bp,ep,kp,sp,up,vp,Ap,Bp,Dp,Ep,Hp,Op,Pp,Vp,iq,jq,mq,tq,Lq,Qq,Sq,Tq,Wq,Yq,ar,br,hr,ir,kr,nr,or,wr,xr,zr,Cr,Er,Gr,Hr,Kr,Qr,Ur,Wr,fs,js,ls,ms,os,ps,qs,ss,us,ws,zs,Ds,Fs,Is,Ks,Ms,Os,Qs,Rs,Ts,Ys,Zs,bt,ct,dt,it,pt,st,tt,ut,yt,At,Bt,Ct,Dt,Ft,Gt,Ht,It,Jt,Mt,Nt,Ot,Pt,Qt,Rt,St,Vt,Xt,Yt,gu,hu,iu,lu,mu,ru,tu,uu,wu,xu,yu,Fu,Gu,Ju,Ku,Su,Tu,Yu,av,bv,dv,ev,fv,lv,mv,pv,qv,rv,tv,uv,vv,Bv,Gv,Hv,Rv,cw,dw,jw,nw,pw,rw,sw,tw,ww,yw,zw,Aw,Bw,Cw,Dw,Gw,Mw,Rw,Tw,Uw,Xw,Yw,ax,bx,cx,lx,nx,ox,px,sx,ux,vx,wx,xx,yx,zx,Cx,Ix,Kx,Lx,Nx,Ox,Px,Ux,Wx,Xx,ay,by,dy,ey,hy,oy,py,vy,Iy,Jy,My,Ty,lz,qz,sz,tz,wz,yz,Az,Bz,Hz,Iz,Kz,Nz,Oz,Wz,Xz,Zz,cA,eA,gA,hA,kA,qA,uA,wA,FA,JA,LA,MA,OA,PA,QA,SA,UA,WA,ZA,dB,fB,iB,kB,mB,oB;
+u32 Yb,kd,ae,Be,De,Xe,Ye,rf,sf,tf,vf,Pf,jg,mg,Lg,mh,ph,Gh,Hh,Zh,bi,si,ti,zi,fj,jj,nj,uj,Cj,Ij,Bk,ul,im,Jm,Lm,fn,gn,yn,zn,An,Cn,Wn,ro,uo,To,op,tp,Mp,Np,fq,hq,yq,zq,Fq,lr,pr,tr,Ar,Ir,Or,Hs,Tt,Hu,iv,kv,Ev,Fv,Xv,Yv,Zv,bw,vw,Pw,Sw,rx,Sx,Vx,my,ny,Fy,Hy,Yy,Zy,fz,Lz,Pz,Tz,aA,iA,oA,hB;
+u8 cc,dc,ec,fc,gc,mc,oc,rc,xc,yc,Ac,Bc,Cc,Dc,Ec,Fc,Hc,Ic,Mc,Nc,Oc,ld,nd,qd,sd,Cd,Gd,Id,Ld,Od,Ud,Vd,Wd,Xd,be,ee,fe,he,ie,je,ke,ne,pe,se,ve,Ce,Ge,Le,Pe,Re,Se,Te,Ve,We,bf,df,mf,nf,of,pf,qf,uf,yf,Af,Bf,Cf,Ef,Ff,Gf,If,Kf,Of,Rf,Yf,bg,hg,ig,kg,pg,tg,yg,Ag,Bg,Cg,Dg,Eg,Gg,Kg,Ng,Ug,Xg,dh,gh,nh,sh,wh,zh,Ch,Dh,Eh,Fh,Kh,Mh,Qh,Rh,Sh,Th,Uh,Vh,Wh,Xh,ai,ei,hi,ii,ji,ki,li,mi,oi,qi,ri,vi,wi,xi,yi,Ai,Ci,Di,Ei,Gi,Hi,Ii,Ji,Li,Pi,Ri,Ti,Wi,Xi,Yi,Zi,aj,dj,gj,kj,lj,mj,oj,pj,sj,vj,xj,zj,Dj,Fj,Gj,Hj,Jj,Lj,Nj,Pj,Rj,Sj,Tj,Uj,Vj,Wj,Xj,Yj,ak,bk,ck,ek,nk,rk,sk,uk,vk,Fk,Jk,Pk,Rk,Uk,al,bl,dl,el,fl,gl,hl,il,kl,ll,pl,ql,rl,vl,xl,Al,Bl,Kl,Ol,Ql,Tl,Wl,cm,dm,em,fm,jm,mm,nm,pm,qm,rm,sm,vm,xm,Am,Dm,Km,Om,Tm,Xm,Zm,an,bn,dn,en,jn,ln,tn,un,vn,wn,xn,Bn,Fn,Hn,In,Jn,Ln,Mn,Nn,Pn,Rn,Vn,Yn,go,jo,po,qo,so,xo,Bo,Go,Io,Jo,Ko,Lo,Mo,Oo,So,Vo,cp,fp,lp,np,pp,yp,Cp,Fp,Ip,Jp,Kp,Lp,Qp,Sp,Wp,Xp,Yp,Zp,aq,bq,cq,dq,gq,kq,nq,oq,pq,qq,rq,sq,uq,wq,xq,Bq,Cq,Dq,Eq,Gq,Iq,Jq,Kq,Mq,Nq,Oq,Pq,Rq,Vq,Xq,Zq,cr,dr,er,fr,gr,jr,mr,qr,rr,sr,ur,vr,yr,Br,Dr,Fr,Jr,Lr,Mr,Nr,Pr,Rr,Tr,Vr,Xr,Yr,Zr,as,bs,cs,ds,es,gs,hs,is,ks,ts,xs,ys,As,Bs,Ls,Ps,Vs,Xs,at,gt,ht,jt,kt,lt,mt,nt,ot,qt,rt,vt,wt,xt,Ut,Wt,Zt,au,ju,nu,pu,su,vu,Bu,Cu,Du,Eu,Iu,Lu,Mu,Ou,Pu,Qu,Ru,Uu,Wu,Zu,cv,jv,nv,sv,wv,yv,zv,Av,Cv,Dv,Iv,Kv,Sv,Tv,Uv,Vv,Wv,aw,ew,gw,hw,iw,kw,lw,mw,ow,qw,uw,xw,Ew,Hw,Nw,Ow,Qw,Vw,Zw,ex,gx,hx,ix,jx,kx,mx,qx,tx,Ax,Dx,Jx,Mx,Tx,Yx,cy,fy,iy,jy,ky,ly,qy,sy,wy,xy,yy,zy,Ay,By,Cy,Dy,Gy,Ky,Ny,Oy,Py,Qy,Ry,Sy,Uy,Wy,Xy,bz,cz,dz,ez,gz,iz,jz,kz,mz,nz,oz,pz,rz,vz,xz,zz,Cz,Dz,Ez,Fz,Gz,Jz,Mz,Qz,Rz,Sz,Uz,Vz,Yz,bA,dA,fA,jA,lA,mA,nA,pA,rA,tA,vA,xA,yA,zA,AA,BA,CA,DA,EA,GA,HA,IA,KA,TA,XA,YA,aB,bB,lB,pB;
+v16 jc,lc,Mk,Ok,Ss,Us;
+u8 *nc,*vc,*wc,*Qc,*bd,*cd,*td,*ud,*vd,*xd,*yd,*Dd,*Hd,*Jd,*Sd,*Td,*ge,*oe,*qe,*ze,*Ae,*He,*Qe,*cf,*ef,*ff,*gf,*hf,*zf,*Zf,*fg,*qg,*xg,*zg,*Vg,*bh,*kh,*lh,*th,*Ah,*Lh,*Yh,*fi,*pi,*Oi,*Mj,*hk,*lk,*pk,*wk,*yk,*Ak,*Dk,*Hk,*Qk,*Yk,*Zk,*Cl,*Dl,*El,*Fl,*Gl,*Ll,*Pl,*Rl,*am,*bm,*om,*wm,*ym,*Hm,*Im,*Pm,*Ym,*kn,*mn,*nn,*on,*pn,*Gn,*ho,*no,*yo,*Fo,*Ho,*dp,*jp,*zp,*Gp,*Rp,*eq,*lq,*vq,*Uq,*Sr,*ns,*rs,*vs,*Cs,*Es,*Gs,*Js,*Ns,*Ws,*et,*ft,*zt,*Kt,*Lt,*bu,*cu,*du,*eu,*fu,*ku,*ou,*qu,*zu,*Au,*Nu,*Vu,*Xu,*gv,*hv,*ov,*xv,*Jv,*Lv,*Mv,*Nv,*Ov,*fw,*Fw,*Lw,*Ww,*dx,*fx,*Bx,*Hx,*Qx,*Rx,*Zx,*gy,*ry,*Ey,*Ly,*Vy,*uz,*sA,*NA,*RA,*VA,*cB,*eB,*gB,*jB,*nB;
+u16 Vc,jf,kf,Nh,Oh,ui,Bi,qn,rn,Tp,Up,Aq,Hq,Et,Pv,Qv,ty,uy,az,hz;
+s_p_64 cg,dg,eg,Yg,Zg,ah,ko,lo,mo,gp,hp,ip,Iw,Jw,Kw,Ex,Fx,Gx;
+Xb=umin64(d>>2,(c<<5)+1024);
+Yb=Xb;
 if(r8(a+8)!=0)w8(a+8,0);
-w8(a+24,f);
-w8(a+32,umin64(r8(a+16),f));
+w8(a+24,Xb);
+Zb=r8(a+16);
+ac=umin64(Zb,Xb);
+w8(a+32,ac);
 if(r8(a+48)!=0)w8(a+48,0);
-g=e&0xfffffff8u;
-w8(a+64,g);
-w8(a+72,umin64(r8(a+56),g));
+bc=c&4294967295u;
+w8(a+64,bc);
+w8(a+72,umin64(r8(a+56),bc));
+if(r8(a+88)!=0)w8(a+88,0);
+w8(a+104,bc);
+w8(a+112,umin64(r8(a+96),bc));
+a[172]=0;
+if(e){
+switch(f){
+case 3:cc=run_d0a(a,b,c,Yb);
+if(cc)goto L1;
+break;
+case 2:dc=run_5d6(a,b,c,Yb);
+if(dc)goto L1;
+break;
+case 1:ec=run_a02(a,b,c,Yb);
+if(ec)goto L1;
+break;
+default:NEVER;
+}}
+else{
+fc=c>65536;
+switch(f){
+case 3:if(!fc){
+if(c<16){
+gc=are_few_named_14c(b,c);
+if(!gc)goto L2;}
+else{
+hc=c-16;
+if(hc==0)goto L3;
+ic=0;
+L4:jc=v16_at(b+ic);
+if((v16_ult(jc,splat(33))|v16_eq(jc,splat(127)))!=0)goto L2;
+kc=ic+16;
+if(kc<hc){
+ic=kc;
+goto L4;}
+L3:lc=v16_at(b+hc);
+if((v16_ult(lc,splat(33))|v16_eq(lc,splat(127)))!=0)goto L2;}
+w4(T,0);
+w4(U,0);
+if(c!=0){
+if(c!=1&&*b==95){
+if(b[1]==90){
+if(c>=3){
+mc=b[2];
+if(c<5){
+if(mc==90){
+w8(a+176,3);
+w4(P,0);
+if(c==3)goto L5;
+nc=a+176;
+goto L6;}
+if((c!=3)&(mc==71)){
+if(b[3]==86)goto L7;
+goto L8;}
+switch(mc){
+case 71:goto L8;
+case 84:if(c==3)goto L9;
+break;
+default:goto L10;
+}}
+else{
+switch(mc){
+case 90:w8(a+176,3);
+w4(P,0);
+nc=a+176;
+goto L6;
+case 71:if(b[3]!=86)goto L8;
+if(b[4]!=90)goto L7;
+if(ac<19){
+oc=make_ready_8e3(a,19,128);
+if(!(oc&1))goto L11;
+pc=r8(a+16);
+qc=r8(a+8);}
+else{
+pc=Zb;
+qc=0;}
+if(pc-qc<19){
+rc=grow_amortized_68b(a,19);
+if(!rc)goto L11;
+sc=r8(a+16);
+tc=r8(a+8);}
+else{
+sc=pc;
+tc=qc;}
+uc=tc+19;
+vc=rp(a);
+z16(a+8);
+wc=vc+(i64)tc;
+if((u64)wc-(u64)(u8*)t_c270<19)copy_bits_4f4((u8*)t_c270,wc,19);
+else memcpy(wc,(u8*)t_c270,19);
+wp(a,vc);
+w8(a+8,uc);
+w8(a+16,sc);
+w8(a+176,5);
+w4(M,0);
+if(c!=5){
+xc=b[5];
+switch(xc){
+case 78:w4(K,0);
+w4(L,1);
+w8(a+176,6);
+if(c!=6){
+switch(b[6]){
+case 75:if(c<=7){
+yc=1;
+zc=7;
+goto L12;}
+switch(b[7]){
+case 82:yc=3;
+zc=8;
+goto L12;
+case 79:yc=5;
+zc=8;
+goto L12;
+default:yc=1;
+zc=7;
+goto L12;
+}
+break;
+case 82:yc=2;
+zc=7;
+goto L12;
+case 79:yc=4;
+zc=7;
+goto L12;
+default:break;}}
+yc=0;
+zc=6;
+L12:w8(a+176,zc);
+L[1]=yc;
+nest_at_de1(K,a,b,c,L);
+*M=*K;
+M[1]=K[1];
+M[2]=K[2];
+M[3]=K[3];
+goto L13;
+case 76:w8(a+176,6);
+begin_name_778(M,a,b,c);
+goto L13;
+case 83:begin_in_std_46e(M,a,b,c);
+goto L13;
+default:if((u8)(xc-97)<26){
+begin_operator_2ba(M,a,b,c);
+goto L13;}
+break;}}
+begin_name_778(M,a,b,c);
+L13:Ac=M[3];
+Bc=M[2];
+Cc=M[1];
+Dc=*M;
+goto L14;
+case 84:break;
+default:goto L10;
+}}
+switch(b[3]){
+case 104:begin_thunk_481(U,a,b,c);
+goto L15;
+case 118:begin_virtual_thunk_f37(U,a,b,c);
+goto L15;
+case 67:begin_clone_893(U);
+goto L15;
+default:break;}
+L9:begin_special_44d(U,a,b,c);
+L15:Ac=U[3];
+Bc=U[2];
+Cc=U[1];
+Dc=*U;
+goto L14;
+L10:w8(a+176,2);
+w4(S,0);
+Ec=b[2];
+switch(Ec){
+case 78:w4(Q,0);
+w4(R,1);
+w8(a+176,3);
+if(c!=3){
+switch(b[3]){
+case 75:if(c<=4){
+Fc=1;
+Gc=4;
+goto L16;}
+switch(b[4]){
+case 82:Fc=3;
+Gc=5;
+goto L16;
+case 79:Fc=5;
+Gc=5;
+goto L16;
+default:Fc=1;
+Gc=4;
+goto L16;
+}
+break;
+case 82:Fc=2;
+Gc=4;
+goto L16;
+case 79:Fc=4;
+Gc=4;
+goto L16;
+default:break;}}
+Fc=0;
+Gc=3;
+L16:w8(a+176,Gc);
+R[1]=Fc;
+nest_at_de1(Q,a,b,c,R);
+*S=*Q;
+S[1]=Q[1];
+S[2]=Q[2];
+S[3]=Q[3];
+goto L17;
+case 76:w8(a+176,3);
+begin_name_778(S,a,b,c);
+goto L17;
+case 83:begin_in_std_46e(S,a,b,c);
+goto L17;
+default:if((u8)(Ec-97)>=26)goto L18;
+begin_operator_2ba(S,a,b,c);
+goto L17;
+}
+L8:begin_clone_893(T);
+Ac=T[3];
+Bc=T[2];
+Cc=T[1];
+Dc=*T;
+goto L14;
+L7:begin_object_056(T,a,b,c);
+Ac=T[3];
+Bc=T[2];
+Cc=T[1];
+Dc=*T;
+goto L14;
+L6:Hc=b[3];
+switch(Hc){
+case 78:w4(N,0);
+w4(O,1);
+w8(nc,4);
+if(c>4){
+switch(b[4]){
+case 75:if(c==5){
+Ic=1;
+Jc=5;
+goto L19;}
+switch(b[5]){
+case 82:Ic=3;
+Jc=6;
+goto L19;
+case 79:Ic=5;
+Jc=6;
+goto L19;
+default:Ic=1;
+Jc=5;
+goto L19;
+}
+break;
+case 82:Ic=2;
+Jc=5;
+goto L19;
+case 79:Ic=4;
+Jc=5;
+goto L19;
+default:break;}}
+Ic=0;
+Jc=4;
+L19:w8(nc,Jc);
+O[1]=Ic;
+nest_at_de1(N,a,b,c,O);
+*P=*N;
+P[1]=N[1];
+P[2]=N[2];
+P[3]=N[3];
+goto L20;
+case 76:w8(nc,4);
+begin_name_778(P,a,b,c);
+goto L20;
+case 83:begin_in_std_46e(P,a,b,c);
+goto L20;
+default:if((u8)(Hc-97)<26){
+begin_operator_2ba(P,a,b,c);
+goto L20;}
+break;}
+L5:begin_name_778(P,a,b,c);
+L20:Ac=P[3];
+Bc=P[2];
+Cc=P[1];
+Dc=*P;
+goto L14;}
+w8(a+176,2);
+w4(S,0);
+L18:begin_name_778(S,a,b,c);
+L17:Ac=S[3];
+Bc=S[2];
+Cc=S[1];
+Dc=*S;
+L14:if(Dc!=1)goto L2;
+Kc=c<<3;
+Lc=0;
+Mc=Ac;
+Nc=Bc;
+Oc=Cc;
+L21:if(Oc==7){
+Pc=r8(a+8);
+if(Pc>Xb)goto L2;
+Qc=rp(a);
+if(Pc==0)goto L22;
+Rc=0;
+Sc=0;
+Tc=0;
+L23:Uc=Rc;
+L24:if(Pc-Uc>15){
+Vc=cttz(v16_ult(v16_at(Qc+Uc),splat(3)),16);
+Wc=Uc+Vc;
+if(Vc>=16){
+Uc=Wc;
+goto L24;}
+Xc=Wc;}
+else{
+if(Uc>=Pc){
+Xc=Uc;
+goto L25;}
+Yc=Uc;
+L26:if(*(Qc+Yc)>2){
+Zc=Yc+1;
+if(Zc!=Pc){
+Yc=Zc;
+goto L26;}
+Xc=Pc;}
+else Xc=Yc;}
+L25:if(Tc==0){
+if(Sc<Rc){
+if(Xc!=Rc){
+ad=Xc-Rc;
+bd=Qc+(i64)Rc;
+cd=Qc+(i64)Sc;
+dd=0;
+L27:*(cd+(i64)dd)=*(bd+(i64)dd);
+ed=dd+1;
+if(ed!=ad){
+dd=ed;
+goto L27;}}}
+fd=Sc-Rc+Xc;}
+else fd=Sc;
+if(Xc!=Pc){
+switch(*(Qc+Xc)){
+case 1:gd=Tc+1;
+break;
+case 2:gd=usub64(Tc,1);
+break;
+default:goto L2;
+}
+hd=Xc+1;
+if(hd<Pc){
+Rc=hd;
+Sc=fd;
+Tc=gd;
+goto L23;}}
+if(r8(a+8)>fd)w8(a+8,fd);
+L22:goto L1;}
+w8(a+184,r8(a+184)+1);
+switch(Oc){
+case 0:w4(H,0);
+w4(I,0);
+id=r8(a+176);
+if(id<c){
+jd=r8(a+8);
+kd=jd;
+ld=*(b+id);
+switch(ld){
+case 80:w4(F,0);
+md=id+1;
+if(md<c){
+switch(*(b+md)){
+case 70:begin_function_7aa(F,a,1);
+*I=*F;
+I[1]=F[1];
+I[2]=F[2];
+nd=F[3];
+goto L28;
+case 65:begin_array_86f(F,a,b,c,1);
+*I=*F;
+I[1]=F[1];
+I[2]=F[2];
+nd=F[3];
+goto L28;
+default:break;}}
+w8(a+176,md);
+od=r8(a+88);
+if(r8(a+112)>od)pd=od;
+else{
+qd=make_ready_9a1(a+80);
+if(!(qd&1)){
+sd=0;
+goto L29;}
+pd=r8(a+88);}
+td=rp(a+80)+pd*44;
+*td=0;
+td[1]=0;
+x2(td+2,0);
+x4(td+4,kd);
+z36(td+8);
+w8(a+88,pd+1);
+sd=1;
+L29:*I=sd;
+I[1]=0;
+I[2]=0;
+nd=0;
+L28:I[3]=nd;
+ud=I+1;
+vd=I+2;
+xd=I+3;
+yd=I;
+goto L30;
+case 70:begin_function_7aa(I,a,0);
+ud=I+1;
+vd=I+2;
+xd=I+3;
+yd=I;
+goto L30;
+case 82:zd=id+1;
+if(zd<c){
+if(*(b+zd)==65){
+begin_array_86f(H,a,b,c,2);
+ud=H+1;
+vd=H+2;
+xd=H+3;
+yd=H;
+goto L30;}}
+w8(a+176,zd);
+Ad=r8(a+88);
+if(r8(a+112)>Ad)Bd=Ad;
+else{
+Cd=make_ready_9a1(a+80);
+if(!(Cd&1)){
+w4(I,0);
+ud=I+1;
+vd=I+2;
+xd=I+3;
+yd=I;
+goto L30;}
+Bd=r8(a+88);}
+Dd=rp(a+80)+Bd*44;
+*Dd=1;
+Dd[1]=0;
+x2(Dd+2,0);
+x4(Dd+4,kd);
+z36(Dd+8);
+w8(a+88,Bd+1);
+*I=1;
+I[1]=0;
+I[2]=0;
+I[3]=0;
+ud=I+1;
+vd=I+2;
+xd=I+3;
+yd=I;
+goto L30;
+case 65:begin_array_86f(I,a,b,c,0);
+ud=I+1;
+vd=I+2;
+xd=I+3;
+yd=I;
+goto L30;
+case 79:rvalue_at_e1d(I,a,b,c);
+ud=I+1;
+vd=I+2;
+xd=I+3;
+yd=I;
+goto L30;
+case 75:w8(a+176,id+1);
+Ed=r8(a+88);
+if(r8(a+112)>Ed)Fd=Ed;
+else{
+Gd=make_ready_9a1(a+80);
+if(!(Gd&1)){
+w4(I,0);
+ud=I+1;
+vd=I+2;
+xd=I+3;
+yd=I;
+goto L30;}
+Fd=r8(a+88);}
+Hd=rp(a+80)+Fd*44;
+*Hd=3;
+Hd[1]=0;
+x2(Hd+2,0);
+x4(Hd+4,kd);
+z36(Hd+8);
+w8(a+88,Fd+1);
+*I=1;
+I[1]=1;
+I[2]=0;
+I[3]=0;
+ud=I+1;
+vd=I+2;
+xd=I+3;
+yd=I;
+goto L30;
+case 78:w4(B,0);
+w4(C,0);
+w8(a+176,id+1);
+nest_at_de1(B,a,b,c,C);
+*I=*B;
+I[1]=B[1];
+I[2]=B[2];
+I[3]=B[3];
+ud=I+1;
+vd=I+2;
+xd=I+3;
+yd=I;
+goto L30;
+case 83:case 90:break;
+case 68:builtin_with_d_cb0(I,a,b,c);
+ud=I+1;
+vd=I+2;
+xd=I+3;
+yd=I;
+goto L30;
+case 84:template_parameter_3b0(I,a,b,c);
+ud=I+1;
+vd=I+2;
+xd=I+3;
+yd=I;
+goto L30;
+default:if((u8)(ld-49)>=9){
+Id=ld-97;
+if(Id>=26){
+ud=I+1;
+vd=I+2;
+xd=I+3;
+yd=I;
+goto L30;}
+if(!(u8)(((u32)65829887>>Id)&1)){
+ud=I+1;
+vd=I+2;
+xd=I+3;
+yd=I;
+goto L30;}
+Jd=rp((u8*)t_e7e8+(u64)Id*8);
+Kd=r8((u8*)t_f635+(u64)Id*8);
+w8(a+176,id+1);
+if(r8(a+32)-jd<Kd){
+Ld=make_ready_8e3(a,Kd,128);
+if(!(Ld&1))goto L31;
+Md=r8(a+8);}
+else Md=jd;
+Nd=r8(a+16);
+if(Kd>Nd-Md){
+Od=grow_amortized_68b(a,Kd);
+if(!Od)goto L31;
+Pd=r8(a+16);
+Qd=r8(a+8);}
+else{
+Pd=Nd;
+Qd=Md;}
+Rd=Qd+Kd;
+Sd=rp(a);
+z16(a+8);
+Td=Sd+(i64)Qd;
+if((u64)Td-(u64)Jd<Kd)copy_bits_4f4(Jd,Td,Kd);
+else memmove(Td,Jd,Kd);
+wp(a,Sd);
+w8(a+8,Rd);
+w8(a+16,Pd);
+*I=1;
+I[1]=2;
+I[2]=0;
+I[3]=0;
+ud=I+1;
+vd=I+2;
+xd=I+3;
+yd=I;
+goto L30;
+L31:w4(I,0);
+ud=I+1;
+vd=I+2;
+xd=I+3;
+yd=I;
+goto L30;}
+break;}
+named_type_faa(I,a,b,c);
+ud=I+1;
+vd=I+2;
+xd=I+3;
+yd=I;}
+else{
+ud=I+1;
+vd=I+2;
+xd=I+3;
+yd=I;}
+L30:Ud=*xd;
+Vd=*vd;
+Wd=*ud;
+Xd=*yd;
+goto L32;
+case 1:w4(G,0);
+Yd=r8(a+176);
+if(Yd<c){
+Zd=r8(a+8);
+ae=Zd;
+be=*(b+Yd);
+switch(be){
+case 80:w8(a+176,Yd+1);
+ce=r8(a+88);
+if(r8(a+112)>ce)de=ce;
+else{
+ee=make_ready_9a1(a+80);
+if(!(ee&1)){
+fe=0;
+goto L33;}
+de=r8(a+88);}
+ge=rp(a+80)+de*44;
+*ge=0;
+ge[1]=0;
+x2(ge+2,0);
+x4(ge+4,ae);
+z36(ge+8);
+w8(a+88,de+1);
+fe=1;
+L33:*G=fe;
+G[1]=0;
+G[2]=0;
+G[3]=0;
+goto L34;
+case 70:case 65:case 75:he=0;
+ie=0;
+je=0;
+ke=0;
+goto L35;
+case 82:w8(a+176,Yd+1);
+le=r8(a+88);
+if(r8(a+112)>le)me=le;
+else{
+ne=make_ready_9a1(a+80);
+if(!(ne&1)){
+w4(G,0);
+goto L34;}
+me=r8(a+88);}
+oe=rp(a+80)+me*44;
+*oe=1;
+oe[1]=0;
+x2(oe+2,0);
+x4(oe+4,ae);
+z36(oe+8);
+w8(a+88,me+1);
+*G=1;
+G[1]=0;
+G[2]=0;
+G[3]=0;
+goto L34;
+case 79:rvalue_at_e1d(G,a,b,c);
+goto L34;
+case 78:w4(D,0);
+w4(E,0);
+w8(a+176,Yd+1);
+nest_at_de1(D,a,b,c,E);
+*G=*D;
+G[1]=D[1];
+G[2]=D[2];
+G[3]=D[3];
+goto L34;
+case 83:case 90:break;
+case 68:builtin_with_d_cb0(G,a,b,c);
+goto L34;
+case 84:template_parameter_3b0(G,a,b,c);
+goto L34;
+default:if((u8)(be-49)>=9){
+pe=be-97;
+if(pe>=26)goto L34;
+if(!(u8)(((u32)65829887>>pe)&1))goto L34;
+qe=rp((u8*)t_e7e8+(u64)pe*8);
+re=r8((u8*)t_f635+(u64)pe*8);
+w8(a+176,Yd+1);
+if(r8(a+32)-Zd<re){
+se=make_ready_8e3(a,re,128);
+if(!(se&1))goto L36;
+te=r8(a+8);}
+else te=Zd;
+ue=r8(a+16);
+if(re>ue-te){
+ve=grow_amortized_68b(a,re);
+if(!ve)goto L36;
+we=r8(a+16);
+xe=r8(a+8);}
+else{
+we=ue;
+xe=te;}
+ye=xe+re;
+ze=rp(a);
+z16(a+8);
+Ae=ze+(i64)xe;
+if((u64)Ae-(u64)qe<re)copy_bits_4f4(qe,Ae,re);
+else memmove(Ae,qe,re);
+wp(a,ze);
+w8(a+8,ye);
+w8(a+16,we);
+*G=1;
+G[1]=2;
+G[2]=0;
+G[3]=0;
+goto L34;
+L36:w4(G,0);
+goto L34;}
+break;}
+named_type_faa(G,a,b,c);}
+L34:he=G[3];
+ie=G[2];
+je=G[1];
+ke=*G;
+L35:Ud=he;
+Vd=ie;
+Wd=je;
+Xd=ke;
+goto L32;
+case 4:if(!(a[136]&1)){
+Be=r4(a+120);
+Ce=a[139];
+De=r8(a+8);
+Ee=r8(a+48);
+if(r8(a+72)>Ee)Fe=Ee;
+else{
+Ge=make_ready_17a(a+40);
+if(!(Ge&1))goto L37;
+Fe=r8(a+48);}
+He=rp(a+40)+Fe*12;
+x4(He,Be);
+x4(He+4,De);
+He[8]=0;
+He[9]=Ce;
+x2(He+10,0);
+w8(a+48,Fe+1);}
+Ie=r8(a+176);
+if(Ie<c){
+if(*(b+Ie)==73){
+memcpy(J,a+120,20);
+z20(J+20);
+Je=r8(a+8);
+if(r8(a+32)>Je)Ke=Je;
+else{
+Le=make_ready_8e3(a,1,16);
+if(!(Le&1))goto L37;
+Ke=r8(a+8);}
+*(rp(a)+Ke)=1;
+w8(a+8,Ke+1);
+Me=r8(a+176);
+if(Me==18446744073709551615u)goto L37;
+w8(a+176,Me+1);
+Ne=r8(a+88);
+if(r8(a+112)>Ne)Oe=Ne;
+else{
+Pe=make_ready_9a1(a+80);
+if(!(Pe&1))goto L37;
+Oe=r8(a+88);}
+Qe=rp(a+80)+Oe*44;
+*Qe=6;
+Qe[1]=0;
+x2(Qe+2,0);
+memcpy(Qe+4,J,40);
+w8(a+88,Oe+1);
+Re=0;
+Se=1;
+Te=3;}
+else{
+Re=0;
+Se=0;
+Te=6;}}
+else{
+Re=0;
+Se=0;
+Te=6;}
+break;
+case 5:Ue=r8(a+176);
+if(Ue<c){
+if(*(b+Ue)==69){
+Ve=a[132];
+if(Ve==0){
+w8(a+176,Ue+1);
+We=a[139];
+if(a[136]&1){
+Re=We;
+Se=0;
+Te=2;
+break;}
+Xe=r4(a+120);
+Ye=r8(a+8);
+Ze=r8(a+48);
+if(r8(a+72)>Ze)af=Ze;
+else{
+bf=make_ready_17a(a+40);
+if(!(bf&1))goto L37;
+af=r8(a+48);}
+cf=rp(a+40)+af*12;
+x4(cf,Xe);
+x4(cf+4,Ye);
+cf[8]=0;
+cf[9]=We;
+x2(cf+10,0);
+w8(a+48,af+1);
+Re=a[139];
+Se=0;
+Te=2;
+break;}
+w4(A,0);
+w8(a+176,Ue+1);
+df=a[133];
+switch(Ve){
+case 3:addressed_named_968(A,a,b,c,df);
+ef=A+1;
+ff=A+2;
+gf=A+3;
+hf=A;
+break;
+case 1:if(a[138]&1){
+jf=q2(a+140);
+kf=q2(a+142);
+memcpy(z+4,a+144,16);
+lf=q8(a+160);
+mf=a[168];
+nf=a[169];
+of=a[170];
+pf=a[171];
+w2(z,jf);
+w2(z+2,kf);
+x8(z+20,lf);
+z[28]=mf;
+z[29]=nf;
+z[30]=of;
+z[31]=pf;
+qf=a[137]&1;}
+else{
+z32(z);
+qf=0;}
+name_ended_a18(A,a,b,c,df,qf,z,r4(a+120));
+ef=A+1;
+ff=A+2;
+gf=A+3;
+hf=A;
+break;
+case 2:if(a[138]&1){
+rf=r4(a+120);
+if(a[137]&1){
+enclosing_instance_0fc(y,a,b,c,df,r2(a+134),rf);
+ef=y+1;
+ff=y+2;
+gf=y+3;
+hf=y;
+break;}
+sf=rf;}
+else sf=r4(a+120);
+enclosing_named_18f(A,a,b,c,df,sf);
+ef=A+1;
+ff=A+2;
+gf=A+3;
+hf=A;
+break;
+default:NEVER;
+}
+Ud=*gf;
+Vd=*ff;
+Wd=*ef;
+Xd=*hf;
+goto L32;}}
+if(a[136]&1){
+Re=0;
+Se=0;
+Te=6;}
+else{
+tf=r4(a+120);
+uf=a[139];
+vf=r8(a+8);
+wf=r8(a+48);
+if(r8(a+72)>wf)xf=wf;
+else{
+yf=make_ready_17a(a+40);
+if(!(yf&1))goto L37;
+xf=r8(a+48);}
+zf=rp(a+40)+xf*12;
+x4(zf,tf);
+x4(zf+4,vf);
+zf[8]=0;
+zf[9]=uf;
+x2(zf+10,0);
+w8(a+48,xf+1);
+Re=0;
+Se=0;
+Te=6;}
+break;
+case 6:case 2:case 3:Re=Mc;
+Se=Nc;
+Te=Oc;
+break;
+default:NEVER;
+}
+Af=Te;
+Bf=Se;
+Cf=Re;
+goto L38;
+L37:goto L2;
+L32:if(Xd!=1)goto L2;
+Af=Wd;
+Bf=Vd;
+Cf=Ud;
+L38:if(Af!=6){
+Ef=Af;
+Ff=Bf;
+Gf=Cf;
+goto L39;}
+Df=0;
+L40:w4(Z,0);
+Hf=r8(a+176);
+if(Hf<c){
+If=*(b+Hf);
+switch(If){
+case 67:constructor_ff5(Z,a,b,c);
+break;
+case 68:destructor_97b(Z,a,b,c);
+break;
+case 76:w8(a+176,Hf+1);
+Jf=r8(a+8);
+if(r8(a+32)-Jf<2){
+Kf=make_ready_8e3(a,2,128);
+if(!(Kf&1))goto L41;
+Lf=r8(a+8);}
+else Lf=Jf;
+*(rp(a)+Lf)=58;
+*(rp(a)+(i64)Lf+1)=58;
+Mf=Lf+2;
+w8(a+8,Mf);
+Nf=r8(a+176);
+z24(W);
+if(Nf<c){
+Of=*(b+Nf);
+if((u8)(Of-58)>=247){
+Pf=Mf;
+Qf=Nf+1;
+if(Qf<c){
+Rf=*(b+Qf)-48;
+if(Rf<10){
+Sf=Nf+2;
+if(Sf<c){
+if((u8)(*(b+Sf)-48)<10){
+long_name_at_8ad(W,b,c,Nf);
+if(*W!=1)goto L41;
+Tf=r8(W+8);
+Uf=r8(W+16);
+goto L42;}}
+Vf=(u64)Rf+(u8)((u8)(Of*10)+32);
+if(c-Sf<Vf)goto L43;
+if((u8)(*(b+(i64)Sf)-48)<10)goto L43;
+Wf=Vf+Sf;
+Xf=Sf;
+goto L44;}}
+Yf=Of-48;
+if(c-Qf<Yf)goto L43;
+if((u8)(*(b+(i64)Qf)-48)<10)goto L43;
+Wf=Qf+Yf;
+Xf=Qf;
+L44:Tf=Xf;
+Uf=Wf;
+L42:w8(a+176,Uf);
+Zf=b+(i64)Tf;
+ag=Uf-Tf;
+if(Uf!=Tf){
+if(!(ag<10||*Zf!=95)){
+bg=parts_equal_58b((u8*)t_35ad,10,Zf,10);
+if(bg){
+cg=(s_p_64){(u8*)t_62ff,21};
+goto L45;}}}
+dg=(s_p_64){0};dg.f0=Zf;
+eg=dg;eg.f1=ag;
+cg=eg;
+L45:fg=cg.f0;
+gg=cg.f1;
+if(r8(a+32)-Mf<gg){
+hg=make_ready_8e3(a,gg,128);
+if(!(hg&1))goto L41;}
+ig=extend_from_slice_674(a,fg,gg);
+if(ig&1)goto L41;
+jg=r8(a+8);
+kg=a[139];
+w4(a+124,Pf);
+w4(a+128,jg);
+a[136]=0;
+a[137]=1;
+a[138]=0;
+lg=r8(a+176);
+if(lg>=c){
+Ag=0;
+Bg=5;
+goto L46;}
+if(*(b+lg)!=73){
+Ag=0;
+Bg=5;
+goto L46;}
+mg=r4(a+120);
+ng=r8(a+48);
+if(r8(a+72)>ng)og=ng;
+else{
+pg=make_ready_17a(a+40);
+if(!(pg&1))goto L47;
+og=r8(a+48);}
+qg=rp(a+40)+og*12;
+x4(qg,mg);
+x4(qg+4,jg);
+qg[8]=0;
+qg[9]=kg;
+x2(qg+10,0);
+w8(a+48,og+1);
+memcpy(V,a+120,20);
+z20(V+20);
+rg=r8(a+8);
+if(r8(a+32)>rg)sg=rg;
+else{
+tg=make_ready_8e3(a,1,16);
+if(!(tg&1))goto L47;
+sg=r8(a+8);}
+*(rp(a)+sg)=1;
+w8(a+8,sg+1);
+ug=r8(a+176);
+if(ug==18446744073709551615u)goto L47;
+w8(a+176,ug+1);
+vg=r8(a+88);
+if(r8(a+112)>vg){
+wg=vg;
+xg=V;
+goto L48;}
+yg=make_ready_9a1(a+80);
+if(!(yg&1))goto L47;
+zg=V;
+goto L49;}}
+L43:goto L41;
+case 85:begin_component_d5a(Z,a,b,c);
+break;
+default:if((u8)(If-97)>=26)goto L50;
+operator_c58(Z,a,b,c);
+break;}
+if(*Z!=1)goto L2;
+Cg=Z[1];
+Dg=Z[2];
+Eg=Z[3];
+goto L51;}
+L50:Fg=r8(a+8);
+if(r8(a+32)-Fg<2){
+Gg=make_ready_8e3(a,2,128);
+if(!(Gg&1))goto L41;
+Hg=r8(a+8);}
+else Hg=Fg;
+*(rp(a)+Hg)=58;
+*(rp(a)+(i64)Hg+1)=58;
+Ig=Hg+2;
+w8(a+8,Ig);
+Jg=r8(a+176);
+z24(Y);
+if(Jg<c){
+Kg=*(b+Jg);
+if((u8)(Kg-58)>=247){
+Lg=Ig;
+Mg=Jg+1;
+if(Mg<c){
+Ng=*(b+Mg)-48;
+if(Ng<10){
+Og=Jg+2;
+if(Og<c){
+if((u8)(*(b+Og)-48)<10){
+long_name_at_8ad(Y,b,c,Jg);
+if(*Y!=1)goto L41;
+Pg=r8(Y+8);
+Qg=r8(Y+16);
+goto L52;}}
+Rg=(u64)Ng+(u8)((u8)(Kg*10)+32);
+if(c-Og<Rg)goto L53;
+if((u8)(*(b+(i64)Og)-48)<10)goto L53;
+Sg=Rg+Og;
+Tg=Og;
+goto L54;}}
+Ug=Kg-48;
+if(c-Mg<Ug)goto L53;
+if((u8)(*(b+(i64)Mg)-48)<10)goto L53;
+Sg=Mg+Ug;
+Tg=Mg;
+L54:Pg=Tg;
+Qg=Sg;
+L52:w8(a+176,Qg);
+Vg=b+(i64)Pg;
+Wg=Qg-Pg;
+if(Qg!=Pg){
+if(!(Wg<10||*Vg!=95)){
+Xg=parts_equal_58b((u8*)t_35ad,10,Vg,10);
+if(Xg){
+Yg=(s_p_64){(u8*)t_62ff,21};
+goto L55;}}}
+Zg=(s_p_64){0};Zg.f0=Vg;
+ah=Zg;ah.f1=Wg;
+Yg=ah;
+L55:bh=Yg.f0;
+ch=Yg.f1;
+if(r8(a+32)-Ig<ch){
+dh=make_ready_8e3(a,ch,128);
+if(!(dh&1))goto L41;
+eh=r8(a+8);}
+else eh=Ig;
+fh=r8(a+16);
+if(ch>fh-eh){
+gh=grow_amortized_68b(a,ch);
+if(!gh)goto L41;
+hh=r8(a+16);
+ih=r8(a+8);}
+else{
+hh=fh;
+ih=eh;}
+jh=ih+ch;
+kh=rp(a);
+z16(a+8);
+lh=kh+(i64)ih;
+if((u64)lh-(u64)bh<ch)copy_bits_4f4(bh,lh,ch);
+else memmove(lh,bh,ch);
+wp(a,kh);
+w8(a+8,jh);
+w8(a+16,hh);
+mh=jh;
+nh=a[139];
+w4(a+124,Lg);
+w4(a+128,mh);
+a[136]=0;
+a[137]=1;
+a[138]=0;
+oh=r8(a+176);
+if(oh>=c){
+Ag=0;
+Bg=5;
+goto L46;}
+if(*(b+oh)!=73){
+Ag=0;
+Bg=5;
+goto L46;}
+ph=r4(a+120);
+qh=r8(a+48);
+if(r8(a+72)>qh)rh=qh;
+else{
+sh=make_ready_17a(a+40);
+if(!(sh&1))goto L47;
+rh=r8(a+48);}
+th=rp(a+40)+rh*12;
+x4(th,ph);
+x4(th+4,mh);
+th[8]=0;
+th[9]=nh;
+x2(th+10,0);
+w8(a+48,rh+1);
+memcpy(X,a+120,20);
+z20(X+20);
+uh=r8(a+8);
+if(r8(a+32)>uh)vh=uh;
+else{
+wh=make_ready_8e3(a,1,16);
+if(!(wh&1))goto L47;
+vh=r8(a+8);}
+*(rp(a)+vh)=1;
+w8(a+8,vh+1);
+xh=r8(a+176);
+if(xh==18446744073709551615u)goto L47;
+w8(a+176,xh+1);
+yh=r8(a+88);
+if(r8(a+112)>yh){
+wg=yh;
+xg=X;
+goto L48;}
+zh=make_ready_9a1(a+80);
+if(!(zh&1))goto L47;
+zg=X;
+goto L49;}}
+L53:goto L41;
+L49:wg=r8(a+88);
+xg=zg;
+L48:Ah=rp(a+80)+wg*44;
+*Ah=5;
+Ah[1]=0;
+x2(Ah+2,0);
+memcpy(Ah+4,xg,40);
+w8(a+88,wg+1);
+Ag=1;
+Bg=3;
+L46:Cg=Bg;
+Dg=Ag;
+Eg=0;
+goto L51;
+L47:goto L2;
+L41:goto L2;
+L51:if(Cg==5){
+Bh=r8(a+176);
+if(Bh<c){
+if(*(b+Bh)==69){
+Ch=a[132];
+if(Ch==0){
+w8(a+176,Bh+1);
+Dh=a[139];
+if(a[136]&1){
+Eh=Dh;
+Fh=0;
+goto L56;}
+Gh=r4(a+120);
+Hh=r8(a+8);
+Ih=r8(a+48);
+if(r8(a+72)>Ih)Jh=Ih;
+else{
+Kh=make_ready_17a(a+40);
+if(!(Kh&1))goto L2;
+Jh=r8(a+48);}
+Lh=rp(a+40)+Jh*12;
+x4(Lh,Gh);
+x4(Lh+4,Hh);
+Lh[8]=0;
+Lh[9]=Dh;
+x2(Lh+10,0);
+w8(a+48,Jh+1);
+Eh=a[139];
+Fh=0;
+goto L56;}
+w4(ca,0);
+w8(a+176,Bh+1);
+Mh=a[133];
+switch(Ch){
+case 3:addressed_named_968(ca,a,b,c,Mh);
+break;
+case 1:if(a[138]&1){
+Nh=q2(a+140);
+Oh=q2(a+142);
+memcpy(ba+4,a+144,16);
+Ph=q8(a+160);
+Qh=a[168];
+Rh=a[169];
+Sh=a[170];
+Th=a[171];
+w2(ba,Nh);
+w2(ba+2,Oh);
+x8(ba+20,Ph);
+ba[28]=Qh;
+ba[29]=Rh;
+ba[30]=Sh;
+ba[31]=Th;
+Uh=a[137]&1;}
+else{
+z32(ba);
+Uh=0;}
+name_ended_a18(ca,a,b,c,Mh,Uh,ba,r4(a+120));
+break;
+case 2:if(a[138]&1){
+if(a[137]&1){
+enclosing_instance_0fc(aa,a,b,c,Mh,r2(a+134),r4(a+120));
+Vh=aa[3];
+Wh=aa[2];
+Xh=aa[1];
+Yh=aa;
+goto L57;}}
+enclosing_named_18f(ca,a,b,c,Mh,r4(a+120));
+break;
+default:NEVER;
+}
+Vh=ca[3];
+Wh=ca[2];
+Xh=ca[1];
+Yh=ca;
+L57:if(*Yh!=1)goto L2;
+Ef=Xh;
+Ff=Wh;
+Gf=Vh;
+goto L39;}}
+if(!(a[136]&1)){
+Zh=r4(a+120);
+ai=a[139];
+bi=r8(a+8);
+ci=r8(a+48);
+if(r8(a+72)>ci)di=ci;
+else{
+ei=make_ready_17a(a+40);
+if(!(ei&1))goto L2;
+di=r8(a+48);}
+fi=rp(a+40)+di*12;
+x4(fi,Zh);
+x4(fi+4,bi);
+fi[8]=0;
+fi[9]=ai;
+x2(fi+10,0);
+w8(a+48,di+1);}
+gi=Df+1;
+if(gi!=16){
+Df=gi;
+goto L40;}
+hi=6;
+ii=0;
+ji=0;
+goto L58;}
+Ef=Cg;
+Ff=Dg;
+Gf=Eg;
+L39:if(Ef!=2){
+ki=Ef;
+li=Ff;
+mi=Gf;
+goto L59;}
+Eh=Gf;
+Fh=Ff;
+L56:w4(v,0);
+w4(w,0);
+z32(x);
+ni=r8(a+88);
+if(ni!=0){
+oi=Fh&1;
+pi=rp(a+80)+(i64)(ni*44);
+qi=pi[-44];
+ri=pi[-43];
+si=q4(pi-40);
+ti=q4(pi-36);
+ui=q2(pi-32);
+switch(qi){
+case 29:case 28:case 27:case 26:case 4:case 5:case 6:case 7:case 8:case 11:case 12:case 13:case 14:case 15:case 16:case 17:case 18:case 19:case 20:case 21:case 22:case 23:case 24:case 25:if(Eh&1){
+pass_dependent_3d7(v,a,b,c);
+vi=v[3];
+wi=v[2];
+xi=v[1];
+yi=*v;
+goto L60;}
+zi=q4(pi-4);
+w4(r,0);
+switch(qi){
+case 22:returned_07a(r,a,b,c,ri&1);
+break;
+case 23:parameter_at_257(r,a,b,c,ri&1,0);
+break;
+case 24:array_ended_b9c(r,a,b,c,ri,si,ti);
+break;
+case 12:enclosing_parameter_fc1(r,a,b,c,si,ti);
+break;
+case 13:instance_parameter_240(r,a,b,c,ri,si,ti);
+break;
+case 11:w2(o,ui);
+memcpy(o+2,pi-30,26);
+x4(o+28,zi);
+enclosing_front_fa8(r,a,ri,si,ti,o);
+break;
+case 17:w4(p,ti);
+w2(p+4,ui);
+lambda_parameter_383(r,a,b,c,si,p);
+break;
+case 18:member_parameter_7e4(r,a,b,c,si);
+break;
+case 15:w4(q,ti);
+w2(q+4,ui);
+memcpy(q+6,pi-30,26);
+addressed_front_54d(r,a,b,c,ri,si,q);
+break;
+case 16:addressed_parameter_2cf(r,a,b,c,si);
+break;
+case 14:*r=0;
+break;
+case 19:finish_8cd(r,a,b,c);
+break;
+case 20:derived_ended_aef(r,a,b,c);
+break;
+case 21:base_ended_299(r,a,b,c,si);
+break;
+case 29:enumerator_21c(r,a,b,c);
+break;
+case 26:case 25:case 28:Ai=ti;
+Bi=zi;
+w4(n,0);
+switch(qi){
+case 26:w2(k,ti>>16);
+w2(k+2,ui);
+memcpy(k+4,pi-30,26);
+w2(k+30,Bi);
+argument_enumerator_2d4(n,a,b,c,si,Ai,k);
+break;
+case 25:w2(l,ti>>16);
+w2(l+2,ui);
+memcpy(l+4,pi-30,26);
+w2(l+30,Bi);
+argument_ended_1bb(n,a,b,c,si,Ai,l,oi);
+break;
+case 28:w2(m,ti>>16);
+w2(m+2,ui);
+memcpy(m+4,pi-30,26);
+w2(m+30,Bi);
+element_ended_20b(n,a,b,c,si,Ai,m,oi);
+break;
+case 27:*n=0;
+break;
+default:NEVER;
+}
+Ci=n[1];
+Di=n[2];
+Ei=n[3];
+*r=*n;
+r[1]=Ci;
+r[2]=Di;
+r[3]=Ei;
+break;
+case 27:case 10:case 9:case 8:case 4:case 5:case 6:case 7:*r=1;
+r[1]=3;
+r[2]=0;
+r[3]=0;
+break;
+default:NEVER;
+}
+vi=r[3];
+wi=r[2];
+xi=r[1];
+yi=*r;
+goto L60;
+case 10:Fi=r8(a+176);
+if(Fi<c){
+switch(*(b+Fi)){
+case 69:case 46:case 0:break;
+default:w4(u,ti);
+w2(u+4,ui);
+memcpy(u+6,pi-30,26);
+w4(t,0);
+if(u[29]&1){
+expansion_52e(t,a,b,c,0,si,u);
+Gi=t[3];
+Hi=t[2];
+Ii=t[1];
+Ji=*t;}
+else{
+Ki=r8(a+8);
+if(r8(a+32)-Ki<2){
+Li=make_ready_8e3(a,2,128);
+if(!(Li&1)){
+Gi=0;
+Hi=0;
+Ii=0;
+Ji=0;
+goto L61;}
+Mi=r8(a+8);}
+else Mi=Ki;
+*(rp(a)+Mi)=44;
+*(rp(a)+(i64)Mi+1)=32;
+w8(a+8,Mi+2);
+Gi=0;
+Hi=0;
+Ii=0;
+Ji=1;}
+L61:vi=Gi;
+wi=Hi;
+xi=Ii;
+yi=Ji;
+goto L60;
+}}
+Ni=r8(a+8);
+if(Ni>=5){
+Oi=rp(a)+(i64)Ni;
+Pi=0;
+Qi=0;
+L62:Ri=Pi||*((u8*)t_262b+(i64)Qi)!=*(Oi-5+(i64)Qi);
+Si=Qi+1;
+if(Si!=4){
+Pi=Ri;
+Qi=Si;
+goto L62;}
+Ti=0;
+Ui=0;
+L63:Vi=Ui+1;
+Wi=Ti||*((u8*)t_262b+(i64)Vi)!=*(Oi-5+(i64)Vi);
+if(Vi!=4){
+Ti=Wi;
+Ui=Vi;
+goto L63;}
+if(!(Ri|Wi)){
+Xi=0;
+Yi=0;
+Zi=0;
+aj=0;
+goto L64;}}
+close_39a(s,a,b,c,si);
+Xi=s[3];
+Yi=s[2];
+Zi=s[1];
+aj=*s;
+L64:vi=Xi;
+wi=Yi;
+xi=Zi;
+yi=aj;
+goto L60;
+case 9:w4(x,ti);
+w2(x+4,ui);
+memcpy(x+6,pi-30,26);
+front_ended_665(w,a,b,c,ri,si,x);
+vi=w[3];
+wi=w[2];
+xi=w[1];
+yi=*w;
+goto L60;
+case 0:w8(a+88,ni-1);
+bj=r8(a+8);
+if(r8(a+32)>bj)cj=bj;
+else{
+dj=make_ready_8e3(a,1,16);
+if(!(dj&1))goto L65;
+cj=r8(a+8);}
+*(rp(a)+cj)=42;
+ej=cj+1;
+w8(a+8,ej);
+fj=ej;
+gj=Eh&1;
+hj=r8(a+48);
+if(r8(a+72)>hj){
+ij=hj;
+jj=fj;
+kj=0;
+lj=gj;
+goto L66;}
+mj=make_ready_17a(a+40);
+if(!(mj&1))goto L65;
+nj=fj;
+oj=0;
+pj=gj;
+break;
+case 1:if(oi)goto L65;
+w8(a+88,ni-1);
+qj=r8(a+8);
+if(r8(a+32)>qj)rj=qj;
+else{
+sj=make_ready_8e3(a,1,16);
+if(!(sj&1))goto L65;
+rj=r8(a+8);}
+*(rp(a)+rj)=38;
+tj=rj+1;
+w8(a+8,tj);
+uj=tj;
+vj=Eh&1;
+wj=r8(a+48);
+if(r8(a+72)>wj){
+ij=wj;
+jj=uj;
+kj=1;
+lj=vj;
+goto L66;}
+xj=make_ready_17a(a+40);
+if(!(xj&1))goto L65;
+nj=uj;
+oj=1;
+pj=vj;
+break;
+case 2:if(oi)goto L65;
+w8(a+88,ni-1);
+yj=r8(a+8);
+if(r8(a+32)-yj<2){
+zj=make_ready_8e3(a,2,128);
+if(!(zj&1))goto L65;
+Aj=r8(a+8);}
+else Aj=yj;
+*(rp(a)+Aj)=38;
+*(rp(a)+(i64)Aj+1)=38;
+Bj=Aj+2;
+w8(a+8,Bj);
+Cj=Bj;
+Dj=Eh&1;
+Ej=r8(a+48);
+if(r8(a+72)>Ej){
+ij=Ej;
+jj=Cj;
+kj=1;
+lj=Dj;
+goto L66;}
+Fj=make_ready_17a(a+40);
+if(!(Fj&1))goto L65;
+nj=Cj;
+oj=1;
+pj=Dj;
+break;
+case 3:if(oi)goto L65;
+w8(a+88,ni-1);
+if(r8(a+32)-r8(a+8)<6){
+Gj=make_ready_8e3(a,6,128);
+if(!(Gj&1))goto L65;}
+Hj=extend_from_slice_674(a,(u8*)t_f603,6);
+if(Hj&1)goto L65;
+Ij=r8(a+8);
+Jj=Eh&1;
+Kj=r8(a+48);
+if(r8(a+72)>Kj){
+ij=Kj;
+jj=Ij;
+kj=0;
+lj=Jj;
+goto L66;}
+Lj=make_ready_17a(a+40);
+if(!(Lj&1))goto L65;
+nj=Ij;
+oj=0;
+pj=Jj;
+break;
+default:NEVER;
+}
+ij=r8(a+48);
+jj=nj;
+kj=oj;
+lj=pj;
+L66:Mj=rp(a+40)+ij*12;
+x4(Mj,si);
+x4(Mj+4,jj);
+Mj[8]=kj;
+Mj[9]=lj;
+x2(Mj+10,0);
+w8(a+48,ij+1);
+hi=2;
+ii=kj;
+ji=lj;
+goto L58;
+L60:if(yi!=1)goto L2;
+ki=xi;
+li=wi;
+mi=vi;
+goto L59;}
+L65:goto L2;
+L59:if(ki==3){
+Nj=li&1;
+w4(i,0);
+Oj=r8(a+176);
+if(Oj<c){
+Pj=*(b+Oj);
+switch(Pj){
+case 69:w4(g,0);
+w8(a+176,Oj+1);
+Qj=r8(a+88);
+if(Qj==0){
+Rj=0;
+Sj=0;
+Tj=0;
+Uj=0;}
+else{
+if(*(rp(a+80)+(i64)(Qj*44)-44)==27){
+if(Nj){
+Rj=0;
+Sj=0;
+Tj=0;
+Uj=0;}
+else{
+w8(a+88,Qj-1);
+Rj=0;
+Sj=0;
+Tj=3;
+Uj=1;}}
+else{
+z32(h);
+close_list_3c2(g,a,b,c,h);
+Rj=g[3];
+Sj=g[2];
+Tj=g[1];
+Uj=*g;}}
+Vj=Tj;
+Wj=Uj;
+Xj=Sj;
+Yj=Rj;
+goto L67;
+case 74:Zj=Oj+1;
+if(Zj<c){
+if(*(b+Zj)==69){
+empty_pack_ea9(i,a,b,c,Nj);
+Vj=i[1];
+Wj=*i;
+Xj=i[2];
+Yj=i[3];
+goto L67;}}
+if(!Nj){
+ak=74;
+goto L68;}
+first_pack_117(i,a,b,c);
+Vj=i[1];
+Wj=*i;
+Xj=i[2];
+Yj=i[3];
+goto L67;
+default:bk=Pj;
+break;}}
+else bk=0;
+if(Nj){
+ck=bk;
+goto L69;}
+ak=bk;
+L68:dk=r8(a+8);
+if(r8(a+32)-dk<2){
+ek=make_ready_8e3(a,2,128);
+if(!(ek&1))goto L70;
+fk=r8(a+8);}
+else fk=dk;
+*(rp(a)+fk)=44;
+*(rp(a)+(i64)fk+1)=32;
+w8(a+8,fk+2);
+ck=ak;
+L69:switch(ck){
+case 76:if(Nj){
+first_literal_f44(i,a,b,c);
+Vj=i[1];
+Wj=*i;
+Xj=i[2];
+Yj=i[3];
+goto L67;}
+literal_43d(j,a,b,c);
+Vj=j[1];
+Wj=*j;
+Xj=j[2];
+Yj=j[3];
+goto L67;
+case 74:gk=r8(a+88);
+if(gk==0)goto L70;
+hk=rp(a+80);
+ik=gk*44;
+if(*(hk+(i64)ik-44)==27)goto L70;
+jk=r8(a+176);
+if(jk==18446744073709551615u)goto L70;
+w8(a+176,jk+1);
+if(r8(a+112)>gk){
+kk=ik;
+lk=hk;
+mk=gk;}
+else{
+nk=make_ready_9a1(a+80);
+if(!(nk&1))goto L70;
+ok=r8(a+88);
+kk=ok*44;
+lk=rp(a+80);
+mk=ok;}
+pk=lk+kk;
+*pk=27;
+z43(pk+1);
+qk=mk;
+rk=3;
+sk=1;
+break;
+default:if(!Nj){
+uk=0;
+vk=0;
+goto L71;}
+tk=r8(a+88);
+if(tk==0){
+uk=0;
+vk=0;
+goto L71;}
+wk=rp(a+80);
+xk=tk*44;
+yk=wk+(i64)xk;
+switch(yk[-44]){
+case 5:if(yk[-28]==0){
+uk=0;
+vk=0;
+goto L71;}
+break;
+case 7:break;
+case 0:case 1:case 2:case 3:case 4:case 6:case 8:case 9:case 10:case 11:case 12:case 13:case 14:case 15:case 16:case 17:case 18:case 19:case 20:case 21:case 22:case 23:case 24:case 25:case 26:case 27:case 28:case 29:uk=0;
+vk=0;
+goto L71;
+default:NEVER;
+}
+zk=r8(a+176);
+if(zk<c){
+Ak=b+(i64)zk;
+switch(*Ak){
+case 65:case 70:uk=0;
+vk=0;
+goto L71;
+case 80:case 82:if(usub64(c,zk)>=2){
+switch(Ak[1]){
+case 70:case 65:uk=0;
+vk=0;
+goto L71;
+default:break;}}
+break;
+default:break;}}
+Bk=r8(a+8);
+if(r8(a+112)>tk){
+Ck=xk;
+Dk=wk;
+Ek=tk;}
+else{
+Fk=make_ready_9a1(a+80);
+if(!(Fk&1))goto L70;
+Gk=r8(a+88);
+Ck=Gk*44;
+Dk=rp(a+80);
+Ek=Gk;}
+Hk=Dk+Ck;
+*Hk=25;
+Hk[1]=0;
+x2(Hk+2,0);
+x4(Hk+4,Bk);
+z36(Hk+8);
+qk=Ek;
+rk=0;
+sk=0;
+break;}
+w8(a+88,qk+1);
+uk=rk;
+vk=sk;
+L71:hi=uk;
+ii=vk;
+ji=0;
+goto L58;
+L67:if(Wj!=1)goto L2;
+hi=Vj;
+ii=Xj;
+ji=Yj;
+goto L58;
+L70:goto L2;}
+hi=ki;
+ii=li;
+ji=mi;
+L58:Ik=Lc+1;
+if(Ik==Kc)goto L2;
+Lc=Ik;
+Mc=ji;
+Nc=ii;
+Oc=hi;
+goto L21;}}}
+L11:;}
+L2:break;
+case 2:if(!fc){
+if(c<16){
+Jk=are_few_named_14c(b,c);
+if(!Jk)goto L72;}
+else{
+Kk=c-16;
+if(Kk==0)goto L73;
+Lk=0;
+L74:Mk=v16_at(b+Lk);
+if((v16_ult(Mk,splat(33))|v16_eq(Mk,splat(127)))!=0)goto L72;
+Nk=Lk+16;
+if(Nk<Kk){
+Lk=Nk;
+goto L74;}
+L73:Ok=v16_at(b+Kk);
+if((v16_ult(Ok,splat(33))|v16_eq(Ok,splat(127)))!=0)goto L72;}
+w4(Nb,0);
+w4(Ob,0);
+if(c!=0){
+if(c!=1&&*b==95){
+if(b[1]==90){
+if(c>=3){
+Pk=b[2];
+if(c<5){
+if(Pk==90){
+w8(a+176,3);
+w4(Jb,0);
+if(c==3)goto L75;
+Qk=a+176;
+goto L76;}
+if((c!=3)&(Pk==71)){
+if(b[3]==86)goto L77;
+goto L78;}
+switch(Pk){
+case 71:goto L78;
+case 84:if(c==3)goto L79;
+break;
+default:goto L80;
+}}
+else{
+switch(Pk){
+case 90:w8(a+176,3);
+w4(Jb,0);
+Qk=a+176;
+goto L76;
+case 71:if(b[3]!=86)goto L78;
+if(b[4]!=90)goto L77;
+if(ac<19){
+Rk=make_ready_8e3(a,19,128);
+if(!(Rk&1))goto L81;
+Sk=r8(a+16);
+Tk=r8(a+8);}
+else{
+Sk=Zb;
+Tk=0;}
+if(Sk-Tk<19){
+Uk=grow_amortized_68b(a,19);
+if(!Uk)goto L81;
+Vk=r8(a+16);
+Wk=r8(a+8);}
+else{
+Vk=Sk;
+Wk=Tk;}
+Xk=Wk+19;
+Yk=rp(a);
+z16(a+8);
+Zk=Yk+(i64)Wk;
+if((u64)Zk-(u64)(u8*)t_c270<19)copy_bits_4f4((u8*)t_c270,Zk,19);
+else memcpy(Zk,(u8*)t_c270,19);
+wp(a,Yk);
+w8(a+8,Xk);
+w8(a+16,Vk);
+w8(a+176,5);
+w4(Gb,0);
+if(c!=5){
+al=b[5];
+switch(al){
+case 78:w4(Eb,0);
+w4(Fb,1);
+w8(a+176,6);
+if(c!=6){
+switch(b[6]){
+case 75:if(c<=7){
+bl=1;
+cl=7;
+goto L82;}
+switch(b[7]){
+case 82:bl=3;
+cl=8;
+goto L82;
+case 79:bl=5;
+cl=8;
+goto L82;
+default:bl=1;
+cl=7;
+goto L82;
+}
+break;
+case 82:bl=2;
+cl=7;
+goto L82;
+case 79:bl=4;
+cl=7;
+goto L82;
+default:break;}}
+bl=0;
+cl=6;
+L82:w8(a+176,cl);
+Fb[1]=bl;
+nest_at_979(Eb,a,b,c,Fb);
+*Gb=*Eb;
+Gb[1]=Eb[1];
+Gb[2]=Eb[2];
+Gb[3]=Eb[3];
+goto L83;
+case 76:w8(a+176,6);
+begin_name_9fc(Gb,a,b,c);
+goto L83;
+case 83:begin_in_std_b23(Gb,a,b,c);
+goto L83;
+default:if((u8)(al-97)<26){
+begin_operator_fde(Gb,a,b,c);
+goto L83;}
+break;}}
+begin_name_9fc(Gb,a,b,c);
+L83:dl=Gb[3];
+el=Gb[2];
+fl=Gb[1];
+gl=*Gb;
+goto L84;
+case 84:break;
+default:goto L80;
+}}
+switch(b[3]){
+case 104:begin_thunk_a5d(Ob,a,b,c);
+goto L85;
+case 118:begin_virtual_thunk_603(Ob,a,b,c);
+goto L85;
+case 67:begin_clone_893(Ob);
+goto L85;
+default:break;}
+L79:begin_special_44d(Ob,a,b,c);
+L85:dl=Ob[3];
+el=Ob[2];
+fl=Ob[1];
+gl=*Ob;
+goto L84;
+L80:w8(a+176,2);
+w4(Mb,0);
+hl=b[2];
+switch(hl){
+case 78:w4(Kb,0);
+w4(Lb,1);
+w8(a+176,3);
+if(c!=3){
+switch(b[3]){
+case 75:if(c<=4){
+il=1;
+jl=4;
+goto L86;}
+switch(b[4]){
+case 82:il=3;
+jl=5;
+goto L86;
+case 79:il=5;
+jl=5;
+goto L86;
+default:il=1;
+jl=4;
+goto L86;
+}
+break;
+case 82:il=2;
+jl=4;
+goto L86;
+case 79:il=4;
+jl=4;
+goto L86;
+default:break;}}
+il=0;
+jl=3;
+L86:w8(a+176,jl);
+Lb[1]=il;
+nest_at_979(Kb,a,b,c,Lb);
+*Mb=*Kb;
+Mb[1]=Kb[1];
+Mb[2]=Kb[2];
+Mb[3]=Kb[3];
+goto L87;
+case 76:w8(a+176,3);
+begin_name_9fc(Mb,a,b,c);
+goto L87;
+case 83:begin_in_std_b23(Mb,a,b,c);
+goto L87;
+default:if((u8)(hl-97)>=26)goto L88;
+begin_operator_fde(Mb,a,b,c);
+goto L87;
+}
+L78:begin_clone_893(Nb);
+dl=Nb[3];
+el=Nb[2];
+fl=Nb[1];
+gl=*Nb;
+goto L84;
+L77:begin_object_103(Nb,a,b,c);
+dl=Nb[3];
+el=Nb[2];
+fl=Nb[1];
+gl=*Nb;
+goto L84;
+L76:kl=b[3];
+switch(kl){
+case 78:w4(Hb,0);
+w4(Ib,1);
+w8(Qk,4);
+if(c>4){
+switch(b[4]){
+case 75:if(c==5){
+ll=1;
+ml=5;
+goto L89;}
+switch(b[5]){
+case 82:ll=3;
+ml=6;
+goto L89;
+case 79:ll=5;
+ml=6;
+goto L89;
+default:ll=1;
+ml=5;
+goto L89;
+}
+break;
+case 82:ll=2;
+ml=5;
+goto L89;
+case 79:ll=4;
+ml=5;
+goto L89;
+default:break;}}
+ll=0;
+ml=4;
+L89:w8(Qk,ml);
+Ib[1]=ll;
+nest_at_979(Hb,a,b,c,Ib);
+*Jb=*Hb;
+Jb[1]=Hb[1];
+Jb[2]=Hb[2];
+Jb[3]=Hb[3];
+goto L90;
+case 76:w8(Qk,4);
+begin_name_9fc(Jb,a,b,c);
+goto L90;
+case 83:begin_in_std_b23(Jb,a,b,c);
+goto L90;
+default:if((u8)(kl-97)<26){
+begin_operator_fde(Jb,a,b,c);
+goto L90;}
+break;}
+L75:begin_name_9fc(Jb,a,b,c);
+L90:dl=Jb[3];
+el=Jb[2];
+fl=Jb[1];
+gl=*Jb;
+goto L84;}
+w8(a+176,2);
+w4(Mb,0);
+L88:begin_name_9fc(Mb,a,b,c);
+L87:dl=Mb[3];
+el=Mb[2];
+fl=Mb[1];
+gl=*Mb;
+L84:if(gl!=1)goto L72;
+nl=c<<3;
+ol=0;
+pl=dl;
+ql=el;
+rl=fl;
+L91:if(rl==7){
+if(r8(a+8)>Xb)goto L92;
+goto L1;}
+w8(a+184,r8(a+184)+1);
+switch(rl){
+case 0:w4(Bb,0);
+w4(Cb,0);
+sl=r8(a+176);
+if(sl<c){
+tl=r8(a+8);
+ul=tl;
+vl=*(b+sl);
+switch(vl){
+case 80:w4(zb,0);
+wl=sl+1;
+if(wl<c){
+switch(*(b+wl)){
+case 70:begin_function_7aa(zb,a,1);
+*Cb=*zb;
+Cb[1]=zb[1];
+Cb[2]=zb[2];
+xl=zb[3];
+goto L93;
+case 65:begin_array_86f(zb,a,b,c,1);
+*Cb=*zb;
+Cb[1]=zb[1];
+Cb[2]=zb[2];
+xl=zb[3];
+goto L93;
+default:break;}}
+w8(a+176,wl);
+yl=r8(a+88);
+if(r8(a+112)>yl)zl=yl;
+else{
+Al=make_ready_9a1(a+80);
+if(!(Al&1)){
+Bl=0;
+goto L94;}
+zl=r8(a+88);}
+Cl=rp(a+80)+zl*44;
+*Cl=0;
+Cl[1]=0;
+x2(Cl+2,0);
+x4(Cl+4,ul);
+z36(Cl+8);
+w8(a+88,zl+1);
+Bl=1;
+L94:*Cb=Bl;
+Cb[1]=0;
+Cb[2]=0;
+xl=0;
+L93:Cb[3]=xl;
+Dl=Cb+1;
+El=Cb+2;
+Fl=Cb+3;
+Gl=Cb;
+goto L95;
+case 70:begin_function_7aa(Cb,a,0);
+Dl=Cb+1;
+El=Cb+2;
+Fl=Cb+3;
+Gl=Cb;
+goto L95;
+case 82:Hl=sl+1;
+if(Hl<c){
+if(*(b+Hl)==65){
+begin_array_86f(Bb,a,b,c,2);
+Dl=Bb+1;
+El=Bb+2;
+Fl=Bb+3;
+Gl=Bb;
+goto L95;}}
+w8(a+176,Hl);
+Il=r8(a+88);
+if(r8(a+112)>Il)Jl=Il;
+else{
+Kl=make_ready_9a1(a+80);
+if(!(Kl&1)){
+w4(Cb,0);
+Dl=Cb+1;
+El=Cb+2;
+Fl=Cb+3;
+Gl=Cb;
+goto L95;}
+Jl=r8(a+88);}
+Ll=rp(a+80)+Jl*44;
+*Ll=1;
+Ll[1]=0;
+x2(Ll+2,0);
+x4(Ll+4,ul);
+z36(Ll+8);
+w8(a+88,Jl+1);
+*Cb=1;
+Cb[1]=0;
+Cb[2]=0;
+Cb[3]=0;
+Dl=Cb+1;
+El=Cb+2;
+Fl=Cb+3;
+Gl=Cb;
+goto L95;
+case 65:begin_array_86f(Cb,a,b,c,0);
+Dl=Cb+1;
+El=Cb+2;
+Fl=Cb+3;
+Gl=Cb;
+goto L95;
+case 79:rvalue_at_e1d(Cb,a,b,c);
+Dl=Cb+1;
+El=Cb+2;
+Fl=Cb+3;
+Gl=Cb;
+goto L95;
+case 75:w8(a+176,sl+1);
+Ml=r8(a+88);
+if(r8(a+112)>Ml)Nl=Ml;
+else{
+Ol=make_ready_9a1(a+80);
+if(!(Ol&1)){
+w4(Cb,0);
+Dl=Cb+1;
+El=Cb+2;
+Fl=Cb+3;
+Gl=Cb;
+goto L95;}
+Nl=r8(a+88);}
+Pl=rp(a+80)+Nl*44;
+*Pl=3;
+Pl[1]=0;
+x2(Pl+2,0);
+x4(Pl+4,ul);
+z36(Pl+8);
+w8(a+88,Nl+1);
+*Cb=1;
+Cb[1]=1;
+Cb[2]=0;
+Cb[3]=0;
+Dl=Cb+1;
+El=Cb+2;
+Fl=Cb+3;
+Gl=Cb;
+goto L95;
+case 78:w4(vb,0);
+w4(wb,0);
+w8(a+176,sl+1);
+nest_at_979(vb,a,b,c,wb);
+*Cb=*vb;
+Cb[1]=vb[1];
+Cb[2]=vb[2];
+Cb[3]=vb[3];
+Dl=Cb+1;
+El=Cb+2;
+Fl=Cb+3;
+Gl=Cb;
+goto L95;
+case 83:case 90:break;
+case 68:builtin_with_d_cb0(Cb,a,b,c);
+Dl=Cb+1;
+El=Cb+2;
+Fl=Cb+3;
+Gl=Cb;
+goto L95;
+case 84:template_parameter_3b0(Cb,a,b,c);
+Dl=Cb+1;
+El=Cb+2;
+Fl=Cb+3;
+Gl=Cb;
+goto L95;
+default:if((u8)(vl-49)>=9){
+Ql=vl-97;
+if(Ql>=26){
+Dl=Cb+1;
+El=Cb+2;
+Fl=Cb+3;
+Gl=Cb;
+goto L95;}
+if(!(u8)(((u32)65829887>>Ql)&1)){
+Dl=Cb+1;
+El=Cb+2;
+Fl=Cb+3;
+Gl=Cb;
+goto L95;}
+Rl=rp((u8*)t_e7e8+(u64)Ql*8);
+Sl=r8((u8*)t_f635+(u64)Ql*8);
+w8(a+176,sl+1);
+if(r8(a+32)-tl<Sl){
+Tl=make_ready_8e3(a,Sl,128);
+if(!(Tl&1))goto L96;
+Ul=r8(a+8);}
+else Ul=tl;
+Vl=r8(a+16);
+if(Sl>Vl-Ul){
+Wl=grow_amortized_68b(a,Sl);
+if(!Wl)goto L96;
+Xl=r8(a+16);
+Yl=r8(a+8);}
+else{
+Xl=Vl;
+Yl=Ul;}
+Zl=Yl+Sl;
+am=rp(a);
+z16(a+8);
+bm=am+(i64)Yl;
+if((u64)bm-(u64)Rl<Sl)copy_bits_4f4(Rl,bm,Sl);
+else memmove(bm,Rl,Sl);
+wp(a,am);
+w8(a+8,Zl);
+w8(a+16,Xl);
+*Cb=1;
+Cb[1]=2;
+Cb[2]=0;
+Cb[3]=0;
+Dl=Cb+1;
+El=Cb+2;
+Fl=Cb+3;
+Gl=Cb;
+goto L95;
+L96:w4(Cb,0);
+Dl=Cb+1;
+El=Cb+2;
+Fl=Cb+3;
+Gl=Cb;
+goto L95;}
+break;}
+named_type_748(Cb,a,b,c);
+Dl=Cb+1;
+El=Cb+2;
+Fl=Cb+3;
+Gl=Cb;}
+else{
+Dl=Cb+1;
+El=Cb+2;
+Fl=Cb+3;
+Gl=Cb;}
+L95:cm=*Fl;
+dm=*El;
+em=*Dl;
+fm=*Gl;
+goto L97;
+case 1:w4(Ab,0);
+gm=r8(a+176);
+if(gm<c){
+hm=r8(a+8);
+im=hm;
+jm=*(b+gm);
+switch(jm){
+case 80:w8(a+176,gm+1);
+km=r8(a+88);
+if(r8(a+112)>km)lm=km;
+else{
+mm=make_ready_9a1(a+80);
+if(!(mm&1)){
+nm=0;
+goto L98;}
+lm=r8(a+88);}
+om=rp(a+80)+lm*44;
+*om=0;
+om[1]=0;
+x2(om+2,0);
+x4(om+4,im);
+z36(om+8);
+w8(a+88,lm+1);
+nm=1;
+L98:*Ab=nm;
+Ab[1]=0;
+Ab[2]=0;
+Ab[3]=0;
+goto L99;
+case 70:case 65:case 75:pm=0;
+qm=0;
+rm=0;
+sm=0;
+goto L100;
+case 82:w8(a+176,gm+1);
+tm=r8(a+88);
+if(r8(a+112)>tm)um=tm;
+else{
+vm=make_ready_9a1(a+80);
+if(!(vm&1)){
+w4(Ab,0);
+goto L99;}
+um=r8(a+88);}
+wm=rp(a+80)+um*44;
+*wm=1;
+wm[1]=0;
+x2(wm+2,0);
+x4(wm+4,im);
+z36(wm+8);
+w8(a+88,um+1);
+*Ab=1;
+Ab[1]=0;
+Ab[2]=0;
+Ab[3]=0;
+goto L99;
+case 79:rvalue_at_e1d(Ab,a,b,c);
+goto L99;
+case 78:w4(xb,0);
+w4(yb,0);
+w8(a+176,gm+1);
+nest_at_979(xb,a,b,c,yb);
+*Ab=*xb;
+Ab[1]=xb[1];
+Ab[2]=xb[2];
+Ab[3]=xb[3];
+goto L99;
+case 83:case 90:break;
+case 68:builtin_with_d_cb0(Ab,a,b,c);
+goto L99;
+case 84:template_parameter_3b0(Ab,a,b,c);
+goto L99;
+default:if((u8)(jm-49)>=9){
+xm=jm-97;
+if(xm>=26)goto L99;
+if(!(u8)(((u32)65829887>>xm)&1))goto L99;
+ym=rp((u8*)t_e7e8+(u64)xm*8);
+zm=r8((u8*)t_f635+(u64)xm*8);
+w8(a+176,gm+1);
+if(r8(a+32)-hm<zm){
+Am=make_ready_8e3(a,zm,128);
+if(!(Am&1))goto L101;
+Bm=r8(a+8);}
+else Bm=hm;
+Cm=r8(a+16);
+if(zm>Cm-Bm){
+Dm=grow_amortized_68b(a,zm);
+if(!Dm)goto L101;
+Em=r8(a+16);
+Fm=r8(a+8);}
+else{
+Em=Cm;
+Fm=Bm;}
+Gm=Fm+zm;
+Hm=rp(a);
+z16(a+8);
+Im=Hm+(i64)Fm;
+if((u64)Im-(u64)ym<zm)copy_bits_4f4(ym,Im,zm);
+else memmove(Im,ym,zm);
+wp(a,Hm);
+w8(a+8,Gm);
+w8(a+16,Em);
+*Ab=1;
+Ab[1]=2;
+Ab[2]=0;
+Ab[3]=0;
+goto L99;
+L101:w4(Ab,0);
+goto L99;}
+break;}
+named_type_748(Ab,a,b,c);}
+L99:pm=Ab[3];
+qm=Ab[2];
+rm=Ab[1];
+sm=*Ab;
+L100:cm=pm;
+dm=qm;
+em=rm;
+fm=sm;
+goto L97;
+case 4:if(!(a[136]&1)){
+Jm=r4(a+120);
+Km=a[139];
+Lm=r8(a+8);
+Mm=r8(a+48);
+if(r8(a+72)>Mm)Nm=Mm;
+else{
+Om=make_ready_17a(a+40);
+if(!(Om&1))goto L102;
+Nm=r8(a+48);}
+Pm=rp(a+40)+Nm*12;
+x4(Pm,Jm);
+x4(Pm+4,Lm);
+Pm[8]=0;
+Pm[9]=Km;
+x2(Pm+10,0);
+w8(a+48,Nm+1);}
+Qm=r8(a+176);
+if(Qm<c){
+if(*(b+Qm)==73){
+memcpy(Db,a+120,20);
+z20(Db+20);
+Rm=r8(a+8);
+if(r8(a+32)>Rm)Sm=Rm;
+else{
+Tm=make_ready_8e3(a,1,16);
+if(!(Tm&1))goto L102;
+Sm=r8(a+8);}
+*(rp(a)+Sm)=60;
+w8(a+8,Sm+1);
+Um=r8(a+176);
+if(Um==18446744073709551615u)goto L102;
+w8(a+176,Um+1);
+Vm=r8(a+88);
+if(r8(a+112)>Vm)Wm=Vm;
+else{
+Xm=make_ready_9a1(a+80);
+if(!(Xm&1))goto L102;
+Wm=r8(a+88);}
+Ym=rp(a+80)+Wm*44;
+*Ym=6;
+Ym[1]=0;
+x2(Ym+2,0);
+memcpy(Ym+4,Db,40);
+w8(a+88,Wm+1);
+Zm=0;
+an=1;
+bn=3;}
+else{
+Zm=0;
+an=0;
+bn=6;}}
+else{
+Zm=0;
+an=0;
+bn=6;}
+break;
+case 5:cn=r8(a+176);
+if(cn<c){
+if(*(b+cn)==69){
+dn=a[132];
+if(dn==0){
+w8(a+176,cn+1);
+en=a[139];
+if(a[136]&1){
+Zm=en;
+an=0;
+bn=2;
+break;}
+fn=r4(a+120);
+gn=r8(a+8);
+hn=r8(a+48);
+if(r8(a+72)>hn)in=hn;
+else{
+jn=make_ready_17a(a+40);
+if(!(jn&1))goto L102;
+in=r8(a+48);}
+kn=rp(a+40)+in*12;
+x4(kn,fn);
+x4(kn+4,gn);
+kn[8]=0;
+kn[9]=en;
+x2(kn+10,0);
+w8(a+48,in+1);
+Zm=a[139];
+an=0;
+bn=2;
+break;}
+w4(ub,0);
+w8(a+176,cn+1);
+ln=a[133];
+switch(dn){
+case 3:addressed_named_968(ub,a,b,c,ln);
+mn=ub+1;
+nn=ub+2;
+on=ub+3;
+pn=ub;
+break;
+case 1:if(a[138]&1){
+qn=q2(a+140);
+rn=q2(a+142);
+memcpy(tb+4,a+144,16);
+sn=q8(a+160);
+tn=a[168];
+un=a[169];
+vn=a[170];
+wn=a[171];
+w2(tb,qn);
+w2(tb+2,rn);
+x8(tb+20,sn);
+tb[28]=tn;
+tb[29]=un;
+tb[30]=vn;
+tb[31]=wn;
+xn=a[137]&1;}
+else{
+z32(tb);
+xn=0;}
+name_ended_a18(ub,a,b,c,ln,xn,tb,r4(a+120));
+mn=ub+1;
+nn=ub+2;
+on=ub+3;
+pn=ub;
+break;
+case 2:if(a[138]&1){
+yn=r4(a+120);
+if(a[137]&1){
+enclosing_instance_0fc(sb,a,b,c,ln,r2(a+134),yn);
+mn=sb+1;
+nn=sb+2;
+on=sb+3;
+pn=sb;
+break;}
+zn=yn;}
+else zn=r4(a+120);
+enclosing_named_18f(ub,a,b,c,ln,zn);
+mn=ub+1;
+nn=ub+2;
+on=ub+3;
+pn=ub;
+break;
+default:NEVER;
+}
+cm=*on;
+dm=*nn;
+em=*mn;
+fm=*pn;
+goto L97;}}
+if(a[136]&1){
+Zm=0;
+an=0;
+bn=6;}
+else{
+An=r4(a+120);
+Bn=a[139];
+Cn=r8(a+8);
+Dn=r8(a+48);
+if(r8(a+72)>Dn)En=Dn;
+else{
+Fn=make_ready_17a(a+40);
+if(!(Fn&1))goto L102;
+En=r8(a+48);}
+Gn=rp(a+40)+En*12;
+x4(Gn,An);
+x4(Gn+4,Cn);
+Gn[8]=0;
+Gn[9]=Bn;
+x2(Gn+10,0);
+w8(a+48,En+1);
+Zm=0;
+an=0;
+bn=6;}
+break;
+case 6:case 2:case 3:Zm=pl;
+an=ql;
+bn=rl;
+break;
+default:NEVER;
+}
+Hn=bn;
+In=an;
+Jn=Zm;
+goto L103;
+L102:goto L72;
+L97:if(fm!=1)goto L72;
+Hn=em;
+In=dm;
+Jn=cm;
+L103:if(Hn!=6){
+Ln=Hn;
+Mn=In;
+Nn=Jn;
+goto L104;}
+Kn=0;
+L105:w4(Tb,0);
+On=r8(a+176);
+if(On<c){
+Pn=*(b+On);
+switch(Pn){
+case 67:constructor_f6d(Tb,a,b,c);
+break;
+case 68:destructor_7cd(Tb,a,b,c);
+break;
+case 76:w8(a+176,On+1);
+Qn=r8(a+8);
+if(r8(a+32)-Qn<2){
+Rn=make_ready_8e3(a,2,128);
+if(!(Rn&1))goto L106;
+Sn=r8(a+8);}
+else Sn=Qn;
+*(rp(a)+Sn)=58;
+*(rp(a)+(i64)Sn+1)=58;
+Tn=Sn+2;
+w8(a+8,Tn);
+Un=r8(a+176);
+z24(Qb);
+if(Un<c){
+Vn=*(b+Un);
+if((u8)(Vn-58)>=247){
+Wn=Tn;
+Xn=Un+1;
+if(Xn<c){
+Yn=*(b+Xn)-48;
+if(Yn<10){
+Zn=Un+2;
+if(Zn<c){
+if((u8)(*(b+Zn)-48)<10){
+long_name_at_8ad(Qb,b,c,Un);
+if(*Qb!=1)goto L106;
+ao=r8(Qb+8);
+bo=r8(Qb+16);
+goto L107;}}
+co=(u64)Yn+(u8)((u8)(Vn*10)+32);
+if(c-Zn<co)goto L108;
+if((u8)(*(b+(i64)Zn)-48)<10)goto L108;
+eo=co+Zn;
+fo=Zn;
+goto L109;}}
+go=Vn-48;
+if(c-Xn<go)goto L108;
+if((u8)(*(b+(i64)Xn)-48)<10)goto L108;
+eo=Xn+go;
+fo=Xn;
+L109:ao=fo;
+bo=eo;
+L107:w8(a+176,bo);
+ho=b+(i64)ao;
+io=bo-ao;
+if(bo!=ao){
+if(!(io<10||*ho!=95)){
+jo=parts_equal_58b((u8*)t_35ad,10,ho,10);
+if(jo){
+ko=(s_p_64){(u8*)t_62ff,21};
+goto L110;}}}
+lo=(s_p_64){0};lo.f0=ho;
+mo=lo;mo.f1=io;
+ko=mo;
+L110:no=ko.f0;
+oo=ko.f1;
+if(r8(a+32)-Tn<oo){
+po=make_ready_8e3(a,oo,128);
+if(!(po&1))goto L106;}
+qo=extend_from_slice_674(a,no,oo);
+if(qo&1)goto L106;
+ro=r8(a+8);
+so=a[139];
+w4(a+124,Wn);
+w4(a+128,ro);
+a[136]=0;
+a[137]=1;
+a[138]=0;
+to=r8(a+176);
+if(to>=c){
+Io=0;
+Jo=5;
+goto L111;}
+if(*(b+to)!=73){
+Io=0;
+Jo=5;
+goto L111;}
+uo=r4(a+120);
+vo=r8(a+48);
+if(r8(a+72)>vo)wo=vo;
+else{
+xo=make_ready_17a(a+40);
+if(!(xo&1))goto L112;
+wo=r8(a+48);}
+yo=rp(a+40)+wo*12;
+x4(yo,uo);
+x4(yo+4,ro);
+yo[8]=0;
+yo[9]=so;
+x2(yo+10,0);
+w8(a+48,wo+1);
+memcpy(Pb,a+120,20);
+z20(Pb+20);
+zo=r8(a+8);
+if(r8(a+32)>zo)Ao=zo;
+else{
+Bo=make_ready_8e3(a,1,16);
+if(!(Bo&1))goto L112;
+Ao=r8(a+8);}
+*(rp(a)+Ao)=60;
+w8(a+8,Ao+1);
+Co=r8(a+176);
+if(Co==18446744073709551615u)goto L112;
+w8(a+176,Co+1);
+Do=r8(a+88);
+if(r8(a+112)>Do){
+Eo=Do;
+Fo=Pb;
+goto L113;}
+Go=make_ready_9a1(a+80);
+if(!(Go&1))goto L112;
+Ho=Pb;
+goto L114;}}
+L108:goto L106;
+case 85:begin_component_d5a(Tb,a,b,c);
+break;
+default:if((u8)(Pn-97)>=26)goto L115;
+operator_2f3(Tb,a,b,c);
+break;}
+if(*Tb!=1)goto L72;
+Ko=Tb[1];
+Lo=Tb[2];
+Mo=Tb[3];
+goto L116;}
+L115:No=r8(a+8);
+if(r8(a+32)-No<2){
+Oo=make_ready_8e3(a,2,128);
+if(!(Oo&1))goto L106;
+Po=r8(a+8);}
+else Po=No;
+*(rp(a)+Po)=58;
+*(rp(a)+(i64)Po+1)=58;
+Qo=Po+2;
+w8(a+8,Qo);
+Ro=r8(a+176);
+z24(Sb);
+if(Ro<c){
+So=*(b+Ro);
+if((u8)(So-58)>=247){
+To=Qo;
+Uo=Ro+1;
+if(Uo<c){
+Vo=*(b+Uo)-48;
+if(Vo<10){
+Wo=Ro+2;
+if(Wo<c){
+if((u8)(*(b+Wo)-48)<10){
+long_name_at_8ad(Sb,b,c,Ro);
+if(*Sb!=1)goto L106;
+Xo=r8(Sb+8);
+Yo=r8(Sb+16);
+goto L117;}}
+Zo=(u64)Vo+(u8)((u8)(So*10)+32);
+if(c-Wo<Zo)goto L118;
+if((u8)(*(b+(i64)Wo)-48)<10)goto L118;
+ap=Zo+Wo;
+bp=Wo;
+goto L119;}}
+cp=So-48;
+if(c-Uo<cp)goto L118;
+if((u8)(*(b+(i64)Uo)-48)<10)goto L118;
+ap=Uo+cp;
+bp=Uo;
+L119:Xo=bp;
+Yo=ap;
+L117:w8(a+176,Yo);
+dp=b+(i64)Xo;
+ep=Yo-Xo;
+if(Yo!=Xo){
+if(!(ep<10||*dp!=95)){
+fp=parts_equal_58b((u8*)t_35ad,10,dp,10);
+if(fp){
+gp=(s_p_64){(u8*)t_62ff,21};
+goto L120;}}}
+hp=(s_p_64){0};hp.f0=dp;
+ip=hp;ip.f1=ep;
+gp=ip;
+L120:jp=gp.f0;
+kp=gp.f1;
+if(r8(a+32)-Qo<kp){
+lp=make_ready_8e3(a,kp,128);
+if(!(lp&1))goto L106;}
+np=extend_from_slice_674(a,jp,kp);
+if(np&1)goto L106;
+op=r8(a+8);
+pp=a[139];
+w4(a+124,To);
+w4(a+128,op);
+a[136]=0;
+a[137]=1;
+a[138]=0;
+sp=r8(a+176);
+if(sp>=c){
+Io=0;
+Jo=5;
+goto L111;}
+if(*(b+sp)!=73){
+Io=0;
+Jo=5;
+goto L111;}
+tp=r4(a+120);
+up=r8(a+48);
+if(r8(a+72)>up)vp=up;
+else{
+yp=make_ready_17a(a+40);
+if(!(yp&1))goto L112;
+vp=r8(a+48);}
+zp=rp(a+40)+vp*12;
+x4(zp,tp);
+x4(zp+4,op);
+zp[8]=0;
+zp[9]=pp;
+x2(zp+10,0);
+w8(a+48,vp+1);
+memcpy(Rb,a+120,20);
+z20(Rb+20);
+Ap=r8(a+8);
+if(r8(a+32)>Ap)Bp=Ap;
+else{
+Cp=make_ready_8e3(a,1,16);
+if(!(Cp&1))goto L112;
+Bp=r8(a+8);}
+*(rp(a)+Bp)=60;
+w8(a+8,Bp+1);
+Dp=r8(a+176);
+if(Dp==18446744073709551615u)goto L112;
+w8(a+176,Dp+1);
+Ep=r8(a+88);
+if(r8(a+112)>Ep){
+Eo=Ep;
+Fo=Rb;
+goto L113;}
+Fp=make_ready_9a1(a+80);
+if(!(Fp&1))goto L112;
+Ho=Rb;
+goto L114;}}
+L118:goto L106;
+L114:Eo=r8(a+88);
+Fo=Ho;
+L113:Gp=rp(a+80)+Eo*44;
+*Gp=5;
+Gp[1]=0;
+x2(Gp+2,0);
+memcpy(Gp+4,Fo,40);
+w8(a+88,Eo+1);
+Io=1;
+Jo=3;
+L111:Ko=Jo;
+Lo=Io;
+Mo=0;
+goto L116;
+L112:goto L72;
+L106:goto L72;
+L116:if(Ko==5){
+Hp=r8(a+176);
+if(Hp<c){
+if(*(b+Hp)==69){
+Ip=a[132];
+if(Ip==0){
+w8(a+176,Hp+1);
+Jp=a[139];
+if(a[136]&1){
+Kp=Jp;
+Lp=0;
+goto L121;}
+Mp=r4(a+120);
+Np=r8(a+8);
+Op=r8(a+48);
+if(r8(a+72)>Op)Pp=Op;
+else{
+Qp=make_ready_17a(a+40);
+if(!(Qp&1))goto L72;
+Pp=r8(a+48);}
+Rp=rp(a+40)+Pp*12;
+x4(Rp,Mp);
+x4(Rp+4,Np);
+Rp[8]=0;
+Rp[9]=Jp;
+x2(Rp+10,0);
+w8(a+48,Pp+1);
+Kp=a[139];
+Lp=0;
+goto L121;}
+w4(Wb,0);
+w8(a+176,Hp+1);
+Sp=a[133];
+switch(Ip){
+case 3:addressed_named_968(Wb,a,b,c,Sp);
+break;
+case 1:if(a[138]&1){
+Tp=q2(a+140);
+Up=q2(a+142);
+memcpy(Vb+4,a+144,16);
+Vp=q8(a+160);
+Wp=a[168];
+Xp=a[169];
+Yp=a[170];
+Zp=a[171];
+w2(Vb,Tp);
+w2(Vb+2,Up);
+x8(Vb+20,Vp);
+Vb[28]=Wp;
+Vb[29]=Xp;
+Vb[30]=Yp;
+Vb[31]=Zp;
+aq=a[137]&1;}
+else{
+z32(Vb);
+aq=0;}
+name_ended_a18(Wb,a,b,c,Sp,aq,Vb,r4(a+120));
+break;
+case 2:if(a[138]&1){
+if(a[137]&1){
+enclosing_instance_0fc(Ub,a,b,c,Sp,r2(a+134),r4(a+120));
+bq=Ub[3];
+cq=Ub[2];
+dq=Ub[1];
+eq=Ub;
+goto L122;}}
+enclosing_named_18f(Wb,a,b,c,Sp,r4(a+120));
+break;
+default:NEVER;
+}
+bq=Wb[3];
+cq=Wb[2];
+dq=Wb[1];
+eq=Wb;
+L122:if(*eq!=1)goto L72;
+Ln=dq;
+Mn=cq;
+Nn=bq;
+goto L104;}}
+if(!(a[136]&1)){
+fq=r4(a+120);
+gq=a[139];
+hq=r8(a+8);
+iq=r8(a+48);
+if(r8(a+72)>iq)jq=iq;
+else{
+kq=make_ready_17a(a+40);
+if(!(kq&1))goto L72;
+jq=r8(a+48);}
+lq=rp(a+40)+jq*12;
+x4(lq,fq);
+x4(lq+4,hq);
+lq[8]=0;
+lq[9]=gq;
+x2(lq+10,0);
+w8(a+48,jq+1);}
+mq=Kn+1;
+if(mq!=16){
+Kn=mq;
+goto L105;}
+nq=6;
+oq=0;
+pq=0;
+goto L123;}
+Ln=Ko;
+Mn=Lo;
+Nn=Mo;
+L104:if(Ln!=2){
+qq=Ln;
+rq=Mn;
+sq=Nn;
+goto L124;}
+Kp=Nn;
+Lp=Mn;
+L121:w4(pb,0);
+w4(qb,0);
+z32(rb);
+tq=r8(a+88);
+if(tq!=0){
+uq=Lp&1;
+vq=rp(a+80)+(i64)(tq*44);
+wq=vq[-44];
+xq=vq[-43];
+yq=q4(vq-40);
+zq=q4(vq-36);
+Aq=q2(vq-32);
+switch(wq){
+case 29:case 28:case 27:case 26:case 4:case 5:case 6:case 7:case 8:case 11:case 12:case 13:case 14:case 15:case 16:case 17:case 18:case 19:case 20:case 21:case 22:case 23:case 24:case 25:if(Kp&1){
+pass_dependent_3d7(pb,a,b,c);
+Bq=pb[3];
+Cq=pb[2];
+Dq=pb[1];
+Eq=*pb;
+goto L125;}
+Fq=q4(vq-4);
+w4(lb,0);
+switch(wq){
+case 22:returned_322(lb,a,b,c,xq&1);
+break;
+case 23:parameter_at_3ac(lb,a,b,c,xq&1,0);
+break;
+case 24:array_ended_1b3(lb,a,b,c,xq,yq,zq);
+break;
+case 12:enclosing_parameter_fc1(lb,a,b,c,yq,zq);
+break;
+case 13:instance_parameter_240(lb,a,b,c,xq,yq,zq);
+break;
+case 11:w2(ib,Aq);
+memcpy(ib+2,vq-30,26);
+x4(ib+28,Fq);
+enclosing_front_fa8(lb,a,xq,yq,zq,ib);
+break;
+case 17:w4(jb,zq);
+w2(jb+4,Aq);
+lambda_parameter_383(lb,a,b,c,yq,jb);
+break;
+case 18:member_parameter_7e4(lb,a,b,c,yq);
+break;
+case 15:w4(kb,zq);
+w2(kb+4,Aq);
+memcpy(kb+6,vq-30,26);
+addressed_front_54d(lb,a,b,c,xq,yq,kb);
+break;
+case 16:addressed_parameter_2cf(lb,a,b,c,yq);
+break;
+case 14:*lb=0;
+break;
+case 19:finish_8cd(lb,a,b,c);
+break;
+case 20:derived_ended_aef(lb,a,b,c);
+break;
+case 21:base_ended_299(lb,a,b,c,yq);
+break;
+case 29:enumerator_21c(lb,a,b,c);
+break;
+case 26:case 25:case 28:Gq=zq;
+Hq=Fq;
+w4(hb,0);
+switch(wq){
+case 26:w2(eb,zq>>16);
+w2(eb+2,Aq);
+memcpy(eb+4,vq-30,26);
+w2(eb+30,Hq);
+argument_enumerator_5cf(hb,a,b,c,yq,Gq,eb);
+break;
+case 25:w2(fb,zq>>16);
+w2(fb+2,Aq);
+memcpy(fb+4,vq-30,26);
+w2(fb+30,Hq);
+argument_ended_d25(hb,a,b,c,yq,Gq,fb,uq);
+break;
+case 28:w2(gb,zq>>16);
+w2(gb+2,Aq);
+memcpy(gb+4,vq-30,26);
+w2(gb+30,Hq);
+element_ended_6b8(hb,a,b,c,yq,Gq,gb,uq);
+break;
+case 27:*hb=0;
+break;
+default:NEVER;
+}
+Iq=hb[1];
+Jq=hb[2];
+Kq=hb[3];
+*lb=*hb;
+lb[1]=Iq;
+lb[2]=Jq;
+lb[3]=Kq;
+break;
+case 27:case 10:case 9:case 8:case 4:case 5:case 6:case 7:*lb=1;
+lb[1]=3;
+lb[2]=0;
+lb[3]=0;
+break;
+default:NEVER;
+}
+Bq=lb[3];
+Cq=lb[2];
+Dq=lb[1];
+Eq=*lb;
+goto L125;
+case 10:Lq=r8(a+176);
+if(Lq<c){
+switch(*(b+Lq)){
+case 69:case 46:case 0:break;
+default:w4(ob,zq);
+w2(ob+4,Aq);
+memcpy(ob+6,vq-30,26);
+w4(nb,0);
+if(ob[29]&1){
+expansion_52e(nb,a,b,c,0,yq,ob);
+Mq=nb[3];
+Nq=nb[2];
+Oq=nb[1];
+Pq=*nb;}
+else{
+Qq=r8(a+8);
+if(r8(a+32)-Qq<2){
+Rq=make_ready_8e3(a,2,128);
+if(!(Rq&1)){
+Mq=0;
+Nq=0;
+Oq=0;
+Pq=0;
+goto L126;}
+Sq=r8(a+8);}
+else Sq=Qq;
+*(rp(a)+Sq)=44;
+*(rp(a)+(i64)Sq+1)=32;
+w8(a+8,Sq+2);
+Mq=0;
+Nq=0;
+Oq=0;
+Pq=1;}
+L126:Bq=Mq;
+Cq=Nq;
+Dq=Oq;
+Eq=Pq;
+goto L125;
+}}
+Tq=r8(a+8);
+if(Tq>=5){
+Uq=rp(a)+(i64)Tq;
+Vq=0;
+Wq=0;
+L127:Xq=Vq||*((u8*)t_262b+(i64)Wq)!=*(Uq-5+(i64)Wq);
+Yq=Wq+1;
+if(Yq!=4){
+Vq=Xq;
+Wq=Yq;
+goto L127;}
+Zq=0;
+ar=0;
+L128:br=ar+1;
+cr=Zq||*((u8*)t_262b+(i64)br)!=*(Uq-5+(i64)br);
+if(br!=4){
+Zq=cr;
+ar=br;
+goto L128;}
+if(!(Xq|cr)){
+dr=0;
+er=0;
+fr=0;
+gr=0;
+goto L129;}}
+close_39a(mb,a,b,c,yq);
+dr=mb[3];
+er=mb[2];
+fr=mb[1];
+gr=*mb;
+L129:Bq=dr;
+Cq=er;
+Dq=fr;
+Eq=gr;
+goto L125;
+case 9:w4(rb,zq);
+w2(rb+4,Aq);
+memcpy(rb+6,vq-30,26);
+front_ended_665(qb,a,b,c,xq,yq,rb);
+Bq=qb[3];
+Cq=qb[2];
+Dq=qb[1];
+Eq=*qb;
+goto L125;
+case 0:w8(a+88,tq-1);
+hr=r8(a+8);
+if(r8(a+32)>hr)ir=hr;
+else{
+jr=make_ready_8e3(a,1,16);
+if(!(jr&1))goto L130;
+ir=r8(a+8);}
+*(rp(a)+ir)=42;
+kr=ir+1;
+w8(a+8,kr);
+lr=kr;
+mr=Kp&1;
+nr=r8(a+48);
+if(r8(a+72)>nr){
+or=nr;
+pr=lr;
+qr=0;
+rr=mr;
+goto L131;}
+sr=make_ready_17a(a+40);
+if(!(sr&1))goto L130;
+tr=lr;
+ur=0;
+vr=mr;
+break;
+case 1:if(uq)goto L130;
+w8(a+88,tq-1);
+wr=r8(a+8);
+if(r8(a+32)>wr)xr=wr;
+else{
+yr=make_ready_8e3(a,1,16);
+if(!(yr&1))goto L130;
+xr=r8(a+8);}
+*(rp(a)+xr)=38;
+zr=xr+1;
+w8(a+8,zr);
+Ar=zr;
+Br=Kp&1;
+Cr=r8(a+48);
+if(r8(a+72)>Cr){
+or=Cr;
+pr=Ar;
+qr=1;
+rr=Br;
+goto L131;}
+Dr=make_ready_17a(a+40);
+if(!(Dr&1))goto L130;
+tr=Ar;
+ur=1;
+vr=Br;
+break;
+case 2:if(uq)goto L130;
+w8(a+88,tq-1);
+Er=r8(a+8);
+if(r8(a+32)-Er<2){
+Fr=make_ready_8e3(a,2,128);
+if(!(Fr&1))goto L130;
+Gr=r8(a+8);}
+else Gr=Er;
+*(rp(a)+Gr)=38;
+*(rp(a)+(i64)Gr+1)=38;
+Hr=Gr+2;
+w8(a+8,Hr);
+Ir=Hr;
+Jr=Kp&1;
+Kr=r8(a+48);
+if(r8(a+72)>Kr){
+or=Kr;
+pr=Ir;
+qr=1;
+rr=Jr;
+goto L131;}
+Lr=make_ready_17a(a+40);
+if(!(Lr&1))goto L130;
+tr=Ir;
+ur=1;
+vr=Jr;
+break;
+case 3:if(uq)goto L130;
+w8(a+88,tq-1);
+if(r8(a+32)-r8(a+8)<6){
+Mr=make_ready_8e3(a,6,128);
+if(!(Mr&1))goto L130;}
+Nr=extend_from_slice_674(a,(u8*)t_f603,6);
+if(Nr&1)goto L130;
+Or=r8(a+8);
+Pr=Kp&1;
+Qr=r8(a+48);
+if(r8(a+72)>Qr){
+or=Qr;
+pr=Or;
+qr=0;
+rr=Pr;
+goto L131;}
+Rr=make_ready_17a(a+40);
+if(!(Rr&1))goto L130;
+tr=Or;
+ur=0;
+vr=Pr;
+break;
+default:NEVER;
+}
+or=r8(a+48);
+pr=tr;
+qr=ur;
+rr=vr;
+L131:Sr=rp(a+40)+or*12;
+x4(Sr,yq);
+x4(Sr+4,pr);
+Sr[8]=qr;
+Sr[9]=rr;
+x2(Sr+10,0);
+w8(a+48,or+1);
+nq=2;
+oq=qr;
+pq=rr;
+goto L123;
+L125:if(Eq!=1)goto L72;
+qq=Dq;
+rq=Cq;
+sq=Bq;
+goto L124;}
+L130:goto L72;
+L124:if(qq==3){
+Tr=rq&1;
+w4(cb,0);
+Ur=r8(a+176);
+if(Ur<c){
+Vr=*(b+Ur);
+switch(Vr){
+case 69:w4(ab,0);
+w8(a+176,Ur+1);
+Wr=r8(a+88);
+if(Wr==0){
+Xr=0;
+Yr=0;
+Zr=0;
+as=0;}
+else{
+if(*(rp(a+80)+(i64)(Wr*44)-44)==27){
+if(Tr){
+Xr=0;
+Yr=0;
+Zr=0;
+as=0;}
+else{
+w8(a+88,Wr-1);
+Xr=0;
+Yr=0;
+Zr=3;
+as=1;}}
+else{
+z32(bb);
+close_list_299(ab,a,b,c,bb);
+Xr=ab[3];
+Yr=ab[2];
+Zr=ab[1];
+as=*ab;}}
+bs=Zr;
+cs=as;
+ds=Yr;
+es=Xr;
+goto L132;
+case 74:fs=Ur+1;
+if(fs<c){
+if(*(b+fs)==69){
+empty_pack_079(cb,a,b,c,Tr);
+bs=cb[1];
+cs=*cb;
+ds=cb[2];
+es=cb[3];
+goto L132;}}
+if(!Tr){
+gs=74;
+goto L133;}
+first_pack_117(cb,a,b,c);
+bs=cb[1];
+cs=*cb;
+ds=cb[2];
+es=cb[3];
+goto L132;
+default:hs=Vr;
+break;}}
+else hs=0;
+if(Tr){
+is=hs;
+goto L134;}
+gs=hs;
+L133:js=r8(a+8);
+if(r8(a+32)-js<2){
+ks=make_ready_8e3(a,2,128);
+if(!(ks&1))goto L135;
+ls=r8(a+8);}
+else ls=js;
+*(rp(a)+ls)=44;
+*(rp(a)+(i64)ls+1)=32;
+w8(a+8,ls+2);
+is=gs;
+L134:switch(is){
+case 76:if(Tr){
+first_literal_8ab(cb,a,b,c);
+bs=cb[1];
+cs=*cb;
+ds=cb[2];
+es=cb[3];
+goto L132;}
+literal_9c1(db,a,b,c);
+bs=db[1];
+cs=*db;
+ds=db[2];
+es=db[3];
+goto L132;
+case 74:ms=r8(a+88);
+if(ms==0)goto L135;
+ns=rp(a+80);
+os=ms*44;
+if(*(ns+(i64)os-44)==27)goto L135;
+ps=r8(a+176);
+if(ps==18446744073709551615u)goto L135;
+w8(a+176,ps+1);
+if(r8(a+112)>ms){
+qs=os;
+rs=ns;
+ss=ms;}
+else{
+ts=make_ready_9a1(a+80);
+if(!(ts&1))goto L135;
+us=r8(a+88);
+qs=us*44;
+rs=rp(a+80);
+ss=us;}
+vs=rs+qs;
+*vs=27;
+z43(vs+1);
+ws=ss;
+xs=3;
+ys=1;
+break;
+default:if(!Tr){
+As=0;
+Bs=0;
+goto L136;}
+zs=r8(a+88);
+if(zs==0){
+As=0;
+Bs=0;
+goto L136;}
+Cs=rp(a+80);
+Ds=zs*44;
+Es=Cs+(i64)Ds;
+switch(Es[-44]){
+case 5:if(Es[-28]==0){
+As=0;
+Bs=0;
+goto L136;}
+break;
+case 7:break;
+case 0:case 1:case 2:case 3:case 4:case 6:case 8:case 9:case 10:case 11:case 12:case 13:case 14:case 15:case 16:case 17:case 18:case 19:case 20:case 21:case 22:case 23:case 24:case 25:case 26:case 27:case 28:case 29:As=0;
+Bs=0;
+goto L136;
+default:NEVER;
+}
+Fs=r8(a+176);
+if(Fs<c){
+Gs=b+(i64)Fs;
+switch(*Gs){
+case 65:case 70:As=0;
+Bs=0;
+goto L136;
+case 80:case 82:if(usub64(c,Fs)>=2){
+switch(Gs[1]){
+case 70:case 65:As=0;
+Bs=0;
+goto L136;
+default:break;}}
+break;
+default:break;}}
+Hs=r8(a+8);
+if(r8(a+112)>zs){
+Is=Ds;
+Js=Cs;
+Ks=zs;}
+else{
+Ls=make_ready_9a1(a+80);
+if(!(Ls&1))goto L135;
+Ms=r8(a+88);
+Is=Ms*44;
+Js=rp(a+80);
+Ks=Ms;}
+Ns=Js+Is;
+*Ns=25;
+Ns[1]=0;
+x2(Ns+2,0);
+x4(Ns+4,Hs);
+z36(Ns+8);
+ws=Ks;
+xs=0;
+ys=0;
+break;}
+w8(a+88,ws+1);
+As=xs;
+Bs=ys;
+L136:nq=As;
+oq=Bs;
+pq=0;
+goto L123;
+L132:if(cs!=1)goto L72;
+nq=bs;
+oq=ds;
+pq=es;
+goto L123;
+L135:goto L72;}
+nq=qq;
+oq=rq;
+pq=sq;
+L123:Os=ol+1;
+if(Os==nl)goto L72;
+ol=Os;
+pl=pq;
+ql=oq;
+rl=nq;
+goto L91;}}}
+L81:;}
+L72:break;
+case 1:if(!fc){
+if(c<16){
+Ps=are_few_named_14c(b,c);
+if(!Ps)goto L137;}
+else{
+Qs=c-16;
+if(Qs==0)goto L138;
+Rs=0;
+L139:Ss=v16_at(b+Rs);
+if((v16_ult(Ss,splat(33))|v16_eq(Ss,splat(127)))!=0)goto L137;
+Ts=Rs+16;
+if(Ts<Qs){
+Rs=Ts;
+goto L139;}
+L138:Us=v16_at(b+Qs);
+if((v16_ult(Us,splat(33))|v16_eq(Us,splat(127)))!=0)goto L137;}
+w4(Qa,0);
+w4(Ra,0);
+if(c!=0){
+if(c!=1&&*b==95){
+if(b[1]==90){
+if(c>=3){
+Vs=b[2];
+if(c<5){
+if(Vs==90){
+w8(a+176,3);
+w4(Ma,0);
+if(c==3)goto L140;
+Ws=a+176;
+goto L141;}
+if((c!=3)&(Vs==71)){
+if(b[3]==86)goto L142;
+goto L143;}
+switch(Vs){
+case 71:goto L143;
+case 84:if(c==3)goto L144;
+break;
+default:goto L145;
+}}
+else{
+switch(Vs){
+case 90:w8(a+176,3);
+w4(Ma,0);
+Ws=a+176;
+goto L141;
+case 71:if(b[3]!=86)goto L143;
+if(b[4]!=90)goto L142;
+if(ac<19){
+Xs=make_ready_8e3(a,19,128);
+if(!(Xs&1))goto L146;
+Ys=r8(a+16);
+Zs=r8(a+8);}
+else{
+Ys=Zb;
+Zs=0;}
+if(Ys-Zs<19){
+at=grow_amortized_68b(a,19);
+if(!at)goto L146;
+bt=r8(a+16);
+ct=r8(a+8);}
+else{
+bt=Ys;
+ct=Zs;}
+dt=ct+19;
+et=rp(a);
+z16(a+8);
+ft=et+(i64)ct;
+if((u64)ft-(u64)(u8*)t_c270<19)copy_bits_4f4((u8*)t_c270,ft,19);
+else memcpy(ft,(u8*)t_c270,19);
+wp(a,et);
+w8(a+8,dt);
+w8(a+16,bt);
+w8(a+176,5);
+w4(Ja,0);
+if(c!=5){
+gt=b[5];
+switch(gt){
+case 78:w4(Ha,0);
+w4(Ia,1);
+w8(a+176,6);
+if(c!=6){
+switch(b[6]){
+case 75:if(c<=7){
+ht=1;
+it=7;
+goto L147;}
+switch(b[7]){
+case 82:ht=3;
+it=8;
+goto L147;
+case 79:ht=5;
+it=8;
+goto L147;
+default:ht=1;
+it=7;
+goto L147;
+}
+break;
+case 82:ht=2;
+it=7;
+goto L147;
+case 79:ht=4;
+it=7;
+goto L147;
+default:break;}}
+ht=0;
+it=6;
+L147:w8(a+176,it);
+Ia[1]=ht;
+nest_at_de1(Ha,a,b,c,Ia);
+*Ja=*Ha;
+Ja[1]=Ha[1];
+Ja[2]=Ha[2];
+Ja[3]=Ha[3];
+goto L148;
+case 76:w8(a+176,6);
+begin_name_38a(Ja,a,b,c);
+goto L148;
+case 83:begin_in_std_51a(Ja,a,b,c);
+goto L148;
+default:if((u8)(gt-97)<26){
+begin_operator_bf3(Ja,a,b,c);
+goto L148;}
+break;}}
+begin_name_38a(Ja,a,b,c);
+L148:jt=Ja[3];
+kt=Ja[2];
+lt=Ja[1];
+mt=*Ja;
+goto L149;
+case 84:break;
+default:goto L145;
+}}
+switch(b[3]){
+case 104:begin_thunk_acc(Ra,a,b,c);
+goto L150;
+case 118:begin_virtual_thunk_3f7(Ra,a,b,c);
+goto L150;
+case 67:begin_clone_893(Ra);
+goto L150;
+default:break;}
+L144:begin_special_44d(Ra,a,b,c);
+L150:jt=Ra[3];
+kt=Ra[2];
+lt=Ra[1];
+mt=*Ra;
+goto L149;
+L145:w8(a+176,2);
+w4(Pa,0);
+nt=b[2];
+switch(nt){
+case 78:w4(Na,0);
+w4(Oa,1);
+w8(a+176,3);
+if(c!=3){
+switch(b[3]){
+case 75:if(c<=4){
+ot=1;
+pt=4;
+goto L151;}
+switch(b[4]){
+case 82:ot=3;
+pt=5;
+goto L151;
+case 79:ot=5;
+pt=5;
+goto L151;
+default:ot=1;
+pt=4;
+goto L151;
+}
+break;
+case 82:ot=2;
+pt=4;
+goto L151;
+case 79:ot=4;
+pt=4;
+goto L151;
+default:break;}}
+ot=0;
+pt=3;
+L151:w8(a+176,pt);
+Oa[1]=ot;
+nest_at_de1(Na,a,b,c,Oa);
+*Pa=*Na;
+Pa[1]=Na[1];
+Pa[2]=Na[2];
+Pa[3]=Na[3];
+goto L152;
+case 76:w8(a+176,3);
+begin_name_38a(Pa,a,b,c);
+goto L152;
+case 83:begin_in_std_51a(Pa,a,b,c);
+goto L152;
+default:if((u8)(nt-97)>=26)goto L153;
+begin_operator_bf3(Pa,a,b,c);
+goto L152;
+}
+L143:begin_clone_893(Qa);
+jt=Qa[3];
+kt=Qa[2];
+lt=Qa[1];
+mt=*Qa;
+goto L149;
+L142:begin_object_056(Qa,a,b,c);
+jt=Qa[3];
+kt=Qa[2];
+lt=Qa[1];
+mt=*Qa;
+goto L149;
+L141:qt=b[3];
+switch(qt){
+case 78:w4(Ka,0);
+w4(La,1);
+w8(Ws,4);
+if(c>4){
+switch(b[4]){
+case 75:if(c==5){
+rt=1;
+st=5;
+goto L154;}
+switch(b[5]){
+case 82:rt=3;
+st=6;
+goto L154;
+case 79:rt=5;
+st=6;
+goto L154;
+default:rt=1;
+st=5;
+goto L154;
+}
+break;
+case 82:rt=2;
+st=5;
+goto L154;
+case 79:rt=4;
+st=5;
+goto L154;
+default:break;}}
+rt=0;
+st=4;
+L154:w8(Ws,st);
+La[1]=rt;
+nest_at_de1(Ka,a,b,c,La);
+*Ma=*Ka;
+Ma[1]=Ka[1];
+Ma[2]=Ka[2];
+Ma[3]=Ka[3];
+goto L155;
+case 76:w8(Ws,4);
+begin_name_38a(Ma,a,b,c);
+goto L155;
+case 83:begin_in_std_51a(Ma,a,b,c);
+goto L155;
+default:if((u8)(qt-97)<26){
+begin_operator_bf3(Ma,a,b,c);
+goto L155;}
+break;}
+L140:begin_name_38a(Ma,a,b,c);
+L155:jt=Ma[3];
+kt=Ma[2];
+lt=Ma[1];
+mt=*Ma;
+goto L149;}
+w8(a+176,2);
+w4(Pa,0);
+L153:begin_name_38a(Pa,a,b,c);
+L152:jt=Pa[3];
+kt=Pa[2];
+lt=Pa[1];
+mt=*Pa;
+L149:if(mt!=1)goto L137;
+tt=c<<3;
+ut=0;
+vt=jt;
+wt=kt;
+xt=lt;
+L156:if(xt==7){
+yt=r8(a+8);
+if(yt>Xb)goto L137;
+zt=rp(a);
+if(yt==0)goto L157;
+At=0;
+Bt=0;
+Ct=0;
+L158:Dt=At;
+L159:if(yt-Dt>15){
+Et=cttz(v16_ult(v16_at(zt+Dt),splat(3)),16);
+Ft=Dt+Et;
+if(Et>=16){
+Dt=Ft;
+goto L159;}
+Gt=Ft;}
+else{
+if(Dt>=yt){
+Gt=Dt;
+goto L160;}
+Ht=Dt;
+L161:if(*(zt+Ht)>2){
+It=Ht+1;
+if(It!=yt){
+Ht=It;
+goto L161;}
+Gt=yt;}
+else Gt=Ht;}
+L160:if(Ct==0){
+if(Bt<At){
+if(Gt!=At){
+Jt=Gt-At;
+Kt=zt+(i64)At;
+Lt=zt+(i64)Bt;
+Mt=0;
+L162:*(Lt+(i64)Mt)=*(Kt+(i64)Mt);
+Nt=Mt+1;
+if(Nt!=Jt){
+Mt=Nt;
+goto L162;}}}
+Ot=Bt-At+Gt;}
+else Ot=Bt;
+if(Gt!=yt){
+switch(*(zt+Gt)){
+case 1:Pt=Ct+1;
+break;
+case 2:Pt=usub64(Ct,1);
+break;
+default:goto L137;
+}
+Qt=Gt+1;
+if(Qt<yt){
+At=Qt;
+Bt=Ot;
+Ct=Pt;
+goto L158;}}
+if(r8(a+8)>Ot)w8(a+8,Ot);
+L157:goto L1;}
+w8(a+184,r8(a+184)+1);
+switch(xt){
+case 0:w4(Ea,0);
+w4(Fa,0);
+Rt=r8(a+176);
+if(Rt<c){
+St=r8(a+8);
+Tt=St;
+Ut=*(b+Rt);
+switch(Ut){
+case 80:w4(Ca,0);
+Vt=Rt+1;
+if(Vt<c){
+switch(*(b+Vt)){
+case 70:begin_function_7aa(Ca,a,1);
+*Fa=*Ca;
+Fa[1]=Ca[1];
+Fa[2]=Ca[2];
+Wt=Ca[3];
+goto L163;
+case 65:begin_array_86f(Ca,a,b,c,1);
+*Fa=*Ca;
+Fa[1]=Ca[1];
+Fa[2]=Ca[2];
+Wt=Ca[3];
+goto L163;
+default:break;}}
+w8(a+176,Vt);
+Xt=r8(a+88);
+if(r8(a+112)>Xt)Yt=Xt;
+else{
+Zt=make_ready_9a1(a+80);
+if(!(Zt&1)){
+au=0;
+goto L164;}
+Yt=r8(a+88);}
+bu=rp(a+80)+Yt*44;
+*bu=0;
+bu[1]=0;
+x2(bu+2,0);
+x4(bu+4,Tt);
+z36(bu+8);
+w8(a+88,Yt+1);
+au=1;
+L164:*Fa=au;
+Fa[1]=0;
+Fa[2]=0;
+Wt=0;
+L163:Fa[3]=Wt;
+cu=Fa+1;
+du=Fa+2;
+eu=Fa+3;
+fu=Fa;
+goto L165;
+case 70:begin_function_7aa(Fa,a,0);
+cu=Fa+1;
+du=Fa+2;
+eu=Fa+3;
+fu=Fa;
+goto L165;
+case 82:gu=Rt+1;
+if(gu<c){
+if(*(b+gu)==65){
+begin_array_86f(Ea,a,b,c,2);
+cu=Ea+1;
+du=Ea+2;
+eu=Ea+3;
+fu=Ea;
+goto L165;}}
+w8(a+176,gu);
+hu=r8(a+88);
+if(r8(a+112)>hu)iu=hu;
+else{
+ju=make_ready_9a1(a+80);
+if(!(ju&1)){
+w4(Fa,0);
+cu=Fa+1;
+du=Fa+2;
+eu=Fa+3;
+fu=Fa;
+goto L165;}
+iu=r8(a+88);}
+ku=rp(a+80)+iu*44;
+*ku=1;
+ku[1]=0;
+x2(ku+2,0);
+x4(ku+4,Tt);
+z36(ku+8);
+w8(a+88,iu+1);
+*Fa=1;
+Fa[1]=0;
+Fa[2]=0;
+Fa[3]=0;
+cu=Fa+1;
+du=Fa+2;
+eu=Fa+3;
+fu=Fa;
+goto L165;
+case 65:begin_array_86f(Fa,a,b,c,0);
+cu=Fa+1;
+du=Fa+2;
+eu=Fa+3;
+fu=Fa;
+goto L165;
+case 79:rvalue_at_e1d(Fa,a,b,c);
+cu=Fa+1;
+du=Fa+2;
+eu=Fa+3;
+fu=Fa;
+goto L165;
+case 75:w8(a+176,Rt+1);
+lu=r8(a+88);
+if(r8(a+112)>lu)mu=lu;
+else{
+nu=make_ready_9a1(a+80);
+if(!(nu&1)){
+w4(Fa,0);
+cu=Fa+1;
+du=Fa+2;
+eu=Fa+3;
+fu=Fa;
+goto L165;}
+mu=r8(a+88);}
+ou=rp(a+80)+mu*44;
+*ou=3;
+ou[1]=0;
+x2(ou+2,0);
+x4(ou+4,Tt);
+z36(ou+8);
+w8(a+88,mu+1);
+*Fa=1;
+Fa[1]=1;
+Fa[2]=0;
+Fa[3]=0;
+cu=Fa+1;
+du=Fa+2;
+eu=Fa+3;
+fu=Fa;
+goto L165;
+case 78:w4(ya,0);
+w4(za,0);
+w8(a+176,Rt+1);
+nest_at_de1(ya,a,b,c,za);
+*Fa=*ya;
+Fa[1]=ya[1];
+Fa[2]=ya[2];
+Fa[3]=ya[3];
+cu=Fa+1;
+du=Fa+2;
+eu=Fa+3;
+fu=Fa;
+goto L165;
+case 83:case 90:break;
+case 68:builtin_with_d_cb0(Fa,a,b,c);
+cu=Fa+1;
+du=Fa+2;
+eu=Fa+3;
+fu=Fa;
+goto L165;
+case 84:template_parameter_3b0(Fa,a,b,c);
+cu=Fa+1;
+du=Fa+2;
+eu=Fa+3;
+fu=Fa;
+goto L165;
+default:if((u8)(Ut-49)>=9){
+pu=Ut-97;
+if(pu>=26){
+cu=Fa+1;
+du=Fa+2;
+eu=Fa+3;
+fu=Fa;
+goto L165;}
+if(!(u8)(((u32)65829887>>pu)&1)){
+cu=Fa+1;
+du=Fa+2;
+eu=Fa+3;
+fu=Fa;
+goto L165;}
+qu=rp((u8*)t_e7e8+(u64)pu*8);
+ru=r8((u8*)t_f635+(u64)pu*8);
+w8(a+176,Rt+1);
+if(r8(a+32)-St<ru){
+su=make_ready_8e3(a,ru,128);
+if(!(su&1))goto L166;
+tu=r8(a+8);}
+else tu=St;
+uu=r8(a+16);
+if(ru>uu-tu){
+vu=grow_amortized_68b(a,ru);
+if(!vu)goto L166;
+wu=r8(a+16);
+xu=r8(a+8);}
+else{
+wu=uu;
+xu=tu;}
+yu=xu+ru;
+zu=rp(a);
+z16(a+8);
+Au=zu+(i64)xu;
+if((u64)Au-(u64)qu<ru)copy_bits_4f4(qu,Au,ru);
+else memmove(Au,qu,ru);
+wp(a,zu);
+w8(a+8,yu);
+w8(a+16,wu);
+*Fa=1;
+Fa[1]=2;
+Fa[2]=0;
+Fa[3]=0;
+cu=Fa+1;
+du=Fa+2;
+eu=Fa+3;
+fu=Fa;
+goto L165;
+L166:w4(Fa,0);
+cu=Fa+1;
+du=Fa+2;
+eu=Fa+3;
+fu=Fa;
+goto L165;}
+break;}
+named_type_e9a(Fa,a,b,c);
+cu=Fa+1;
+du=Fa+2;
+eu=Fa+3;
+fu=Fa;}
+else{
+cu=Fa+1;
+du=Fa+2;
+eu=Fa+3;
+fu=Fa;}
+L165:Bu=*eu;
+Cu=*du;
+Du=*cu;
+Eu=*fu;
+goto L167;
+case 1:w4(Da,0);
+Fu=r8(a+176);
+if(Fu<c){
+Gu=r8(a+8);
+Hu=Gu;
+Iu=*(b+Fu);
+switch(Iu){
+case 80:w8(a+176,Fu+1);
+Ju=r8(a+88);
+if(r8(a+112)>Ju)Ku=Ju;
+else{
+Lu=make_ready_9a1(a+80);
+if(!(Lu&1)){
+Mu=0;
+goto L168;}
+Ku=r8(a+88);}
+Nu=rp(a+80)+Ku*44;
+*Nu=0;
+Nu[1]=0;
+x2(Nu+2,0);
+x4(Nu+4,Hu);
+z36(Nu+8);
+w8(a+88,Ku+1);
+Mu=1;
+L168:*Da=Mu;
+Da[1]=0;
+Da[2]=0;
+Da[3]=0;
+goto L169;
+case 70:case 65:case 75:Ou=0;
+Pu=0;
+Qu=0;
+Ru=0;
+goto L170;
+case 82:w8(a+176,Fu+1);
+Su=r8(a+88);
+if(r8(a+112)>Su)Tu=Su;
+else{
+Uu=make_ready_9a1(a+80);
+if(!(Uu&1)){
+w4(Da,0);
+goto L169;}
+Tu=r8(a+88);}
+Vu=rp(a+80)+Tu*44;
+*Vu=1;
+Vu[1]=0;
+x2(Vu+2,0);
+x4(Vu+4,Hu);
+z36(Vu+8);
+w8(a+88,Tu+1);
+*Da=1;
+Da[1]=0;
+Da[2]=0;
+Da[3]=0;
+goto L169;
+case 79:rvalue_at_e1d(Da,a,b,c);
+goto L169;
+case 78:w4(Aa,0);
+w4(Ba,0);
+w8(a+176,Fu+1);
+nest_at_de1(Aa,a,b,c,Ba);
+*Da=*Aa;
+Da[1]=Aa[1];
+Da[2]=Aa[2];
+Da[3]=Aa[3];
+goto L169;
+case 83:case 90:break;
+case 68:builtin_with_d_cb0(Da,a,b,c);
+goto L169;
+case 84:template_parameter_3b0(Da,a,b,c);
+goto L169;
+default:if((u8)(Iu-49)>=9){
+Wu=Iu-97;
+if(Wu>=26)goto L169;
+if(!(u8)(((u32)65829887>>Wu)&1))goto L169;
+Xu=rp((u8*)t_e7e8+(u64)Wu*8);
+Yu=r8((u8*)t_f635+(u64)Wu*8);
+w8(a+176,Fu+1);
+if(r8(a+32)-Gu<Yu){
+Zu=make_ready_8e3(a,Yu,128);
+if(!(Zu&1))goto L171;
+av=r8(a+8);}
+else av=Gu;
+bv=r8(a+16);
+if(Yu>bv-av){
+cv=grow_amortized_68b(a,Yu);
+if(!cv)goto L171;
+dv=r8(a+16);
+ev=r8(a+8);}
+else{
+dv=bv;
+ev=av;}
+fv=ev+Yu;
+gv=rp(a);
+z16(a+8);
+hv=gv+(i64)ev;
+if((u64)hv-(u64)Xu<Yu)copy_bits_4f4(Xu,hv,Yu);
+else memmove(hv,Xu,Yu);
+wp(a,gv);
+w8(a+8,fv);
+w8(a+16,dv);
+*Da=1;
+Da[1]=2;
+Da[2]=0;
+Da[3]=0;
+goto L169;
+L171:w4(Da,0);
+goto L169;}
+break;}
+named_type_e9a(Da,a,b,c);}
+L169:Ou=Da[3];
+Pu=Da[2];
+Qu=Da[1];
+Ru=*Da;
+L170:Bu=Ou;
+Cu=Pu;
+Du=Qu;
+Eu=Ru;
+goto L167;
+case 4:if(!(a[136]&1)){
+iv=r4(a+120);
+jv=a[139];
+kv=r8(a+8);
+lv=r8(a+48);
+if(r8(a+72)>lv)mv=lv;
+else{
+nv=make_ready_17a(a+40);
+if(!(nv&1))goto L172;
+mv=r8(a+48);}
+ov=rp(a+40)+mv*12;
+x4(ov,iv);
+x4(ov+4,kv);
+ov[8]=0;
+ov[9]=jv;
+x2(ov+10,0);
+w8(a+48,mv+1);}
+pv=r8(a+176);
+if(pv<c){
+if(*(b+pv)==73){
+memcpy(Ga,a+120,20);
+z20(Ga+20);
+qv=r8(a+8);
+if(r8(a+32)>qv)rv=qv;
+else{
+sv=make_ready_8e3(a,1,16);
+if(!(sv&1))goto L172;
+rv=r8(a+8);}
+*(rp(a)+rv)=1;
+w8(a+8,rv+1);
+tv=r8(a+176);
+if(tv==18446744073709551615u)goto L172;
+w8(a+176,tv+1);
+uv=r8(a+88);
+if(r8(a+112)>uv)vv=uv;
+else{
+wv=make_ready_9a1(a+80);
+if(!(wv&1))goto L172;
+vv=r8(a+88);}
+xv=rp(a+80)+vv*44;
+*xv=6;
+xv[1]=0;
+x2(xv+2,0);
+memcpy(xv+4,Ga,40);
+w8(a+88,vv+1);
+yv=0;
+zv=1;
+Av=3;}
+else{
+yv=0;
+zv=0;
+Av=6;}}
+else{
+yv=0;
+zv=0;
+Av=6;}
+break;
+case 5:Bv=r8(a+176);
+if(Bv<c){
+if(*(b+Bv)==69){
+Cv=a[132];
+if(Cv==0){
+w8(a+176,Bv+1);
+Dv=a[139];
+if(a[136]&1){
+yv=Dv;
+zv=0;
+Av=2;
+break;}
+Ev=r4(a+120);
+Fv=r8(a+8);
+Gv=r8(a+48);
+if(r8(a+72)>Gv)Hv=Gv;
+else{
+Iv=make_ready_17a(a+40);
+if(!(Iv&1))goto L172;
+Hv=r8(a+48);}
+Jv=rp(a+40)+Hv*12;
+x4(Jv,Ev);
+x4(Jv+4,Fv);
+Jv[8]=0;
+Jv[9]=Dv;
+x2(Jv+10,0);
+w8(a+48,Hv+1);
+yv=a[139];
+zv=0;
+Av=2;
+break;}
+w4(xa,0);
+w8(a+176,Bv+1);
+Kv=a[133];
+switch(Cv){
+case 3:addressed_named_a52(xa,a,b,c,Kv);
+Lv=xa+1;
+Mv=xa+2;
+Nv=xa+3;
+Ov=xa;
+break;
+case 1:if(a[138]&1){
+Pv=q2(a+140);
+Qv=q2(a+142);
+memcpy(wa+4,a+144,16);
+Rv=q8(a+160);
+Sv=a[168];
+Tv=a[169];
+Uv=a[170];
+Vv=a[171];
+w2(wa,Pv);
+w2(wa+2,Qv);
+x8(wa+20,Rv);
+wa[28]=Sv;
+wa[29]=Tv;
+wa[30]=Uv;
+wa[31]=Vv;
+Wv=a[137]&1;}
+else{
+z32(wa);
+Wv=0;}
+name_ended_8aa(xa,a,b,c,Kv,Wv,wa,r4(a+120));
+Lv=xa+1;
+Mv=xa+2;
+Nv=xa+3;
+Ov=xa;
+break;
+case 2:if(a[138]&1){
+Xv=r4(a+120);
+if(a[137]&1){
+enclosing_instance_e2f(va,a,b,c,Kv,r2(a+134),Xv);
+Lv=va+1;
+Mv=va+2;
+Nv=va+3;
+Ov=va;
+break;}
+Yv=Xv;}
+else Yv=r4(a+120);
+enclosing_named_54a(xa,a,b,c,Kv,Yv);
+Lv=xa+1;
+Mv=xa+2;
+Nv=xa+3;
+Ov=xa;
+break;
+default:NEVER;
+}
+Bu=*Nv;
+Cu=*Mv;
+Du=*Lv;
+Eu=*Ov;
+goto L167;}}
+if(a[136]&1){
+yv=0;
+zv=0;
+Av=6;}
+else{
+Zv=r4(a+120);
+aw=a[139];
+bw=r8(a+8);
+cw=r8(a+48);
+if(r8(a+72)>cw)dw=cw;
+else{
+ew=make_ready_17a(a+40);
+if(!(ew&1))goto L172;
+dw=r8(a+48);}
+fw=rp(a+40)+dw*12;
+x4(fw,Zv);
+x4(fw+4,bw);
+fw[8]=0;
+fw[9]=aw;
+x2(fw+10,0);
+w8(a+48,dw+1);
+yv=0;
+zv=0;
+Av=6;}
+break;
+case 6:case 2:case 3:yv=vt;
+zv=wt;
+Av=xt;
+break;
+default:NEVER;
+}
+gw=Av;
+hw=zv;
+iw=yv;
+goto L173;
+L172:goto L137;
+L167:if(Eu!=1)goto L137;
+gw=Du;
+hw=Cu;
+iw=Bu;
+L173:if(gw!=6){
+kw=gw;
+lw=hw;
+mw=iw;
+goto L174;}
+jw=0;
+L175:w4(Wa,0);
+nw=r8(a+176);
+if(nw<c){
+ow=*(b+nw);
+switch(ow){
+case 67:constructor_ff5(Wa,a,b,c);
+break;
+case 68:destructor_97b(Wa,a,b,c);
+break;
+case 76:w8(a+176,nw+1);
+pw=r8(a+8);
+if(r8(a+32)-pw<2){
+qw=make_ready_8e3(a,2,128);
+if(!(qw&1))goto L176;
+rw=r8(a+8);}
+else rw=pw;
+*(rp(a)+rw)=58;
+*(rp(a)+(i64)rw+1)=58;
+sw=rw+2;
+w8(a+8,sw);
+tw=r8(a+176);
+z24(Ta);
+if(tw<c){
+uw=*(b+tw);
+if((u8)(uw-58)>=247){
+vw=sw;
+ww=tw+1;
+if(ww<c){
+xw=*(b+ww)-48;
+if(xw<10){
+yw=tw+2;
+if(yw<c){
+if((u8)(*(b+yw)-48)<10){
+long_name_at_8ad(Ta,b,c,tw);
+if(*Ta!=1)goto L176;
+zw=r8(Ta+8);
+Aw=r8(Ta+16);
+goto L177;}}
+Bw=(u64)xw+(u8)((u8)(uw*10)+32);
+if(c-yw<Bw)goto L178;
+if((u8)(*(b+(i64)yw)-48)<10)goto L178;
+Cw=Bw+yw;
+Dw=yw;
+goto L179;}}
+Ew=uw-48;
+if(c-ww<Ew)goto L178;
+if((u8)(*(b+(i64)ww)-48)<10)goto L178;
+Cw=ww+Ew;
+Dw=ww;
+L179:zw=Dw;
+Aw=Cw;
+L177:w8(a+176,Aw);
+Fw=b+(i64)zw;
+Gw=Aw-zw;
+if(Aw!=zw){
+if(!(Gw<10||*Fw!=95)){
+Hw=parts_equal_58b((u8*)t_35ad,10,Fw,10);
+if(Hw){
+Iw=(s_p_64){(u8*)t_62ff,21};
+goto L180;}}}
+Jw=(s_p_64){0};Jw.f0=Fw;
+Kw=Jw;Kw.f1=Gw;
+Iw=Kw;
+L180:Lw=Iw.f0;
+Mw=Iw.f1;
+if(r8(a+32)-sw<Mw){
+Nw=make_ready_8e3(a,Mw,128);
+if(!(Nw&1))goto L176;}
+Ow=extend_from_slice_674(a,Lw,Mw);
+if(Ow&1)goto L176;
+Pw=r8(a+8);
+Qw=a[139];
+w4(a+124,vw);
+w4(a+128,Pw);
+a[136]=0;
+a[137]=1;
+a[138]=0;
+Rw=r8(a+176);
+if(Rw>=c){
+gx=0;
+hx=5;
+goto L181;}
+if(*(b+Rw)!=73){
+gx=0;
+hx=5;
+goto L181;}
+Sw=r4(a+120);
+Tw=r8(a+48);
+if(r8(a+72)>Tw)Uw=Tw;
+else{
+Vw=make_ready_17a(a+40);
+if(!(Vw&1))goto L182;
+Uw=r8(a+48);}
+Ww=rp(a+40)+Uw*12;
+x4(Ww,Sw);
+x4(Ww+4,Pw);
+Ww[8]=0;
+Ww[9]=Qw;
+x2(Ww+10,0);
+w8(a+48,Uw+1);
+memcpy(Sa,a+120,20);
+z20(Sa+20);
+Xw=r8(a+8);
+if(r8(a+32)>Xw)Yw=Xw;
+else{
+Zw=make_ready_8e3(a,1,16);
+if(!(Zw&1))goto L182;
+Yw=r8(a+8);}
+*(rp(a)+Yw)=1;
+w8(a+8,Yw+1);
+ax=r8(a+176);
+if(ax==18446744073709551615u)goto L182;
+w8(a+176,ax+1);
+bx=r8(a+88);
+if(r8(a+112)>bx){
+cx=bx;
+dx=Sa;
+goto L183;}
+ex=make_ready_9a1(a+80);
+if(!(ex&1))goto L182;
+fx=Sa;
+goto L184;}}
+L178:goto L176;
+case 85:begin_component_d5a(Wa,a,b,c);
+break;
+default:if((u8)(ow-97)>=26)goto L185;
+operator_a8d(Wa,a,b,c);
+break;}
+if(*Wa!=1)goto L137;
+ix=Wa[1];
+jx=Wa[2];
+kx=Wa[3];
+goto L186;}
+L185:lx=r8(a+8);
+if(r8(a+32)-lx<2){
+mx=make_ready_8e3(a,2,128);
+if(!(mx&1))goto L176;
+nx=r8(a+8);}
+else nx=lx;
+*(rp(a)+nx)=58;
+*(rp(a)+(i64)nx+1)=58;
+ox=nx+2;
+w8(a+8,ox);
+px=r8(a+176);
+z24(Va);
+if(px<c){
+qx=*(b+px);
+if((u8)(qx-58)>=247){
+rx=ox;
+sx=px+1;
+if(sx<c){
+tx=*(b+sx)-48;
+if(tx<10){
+ux=px+2;
+if(ux<c){
+if((u8)(*(b+ux)-48)<10){
+long_name_at_8ad(Va,b,c,px);
+if(*Va!=1)goto L176;
+vx=r8(Va+8);
+wx=r8(Va+16);
+goto L187;}}
+xx=(u64)tx+(u8)((u8)(qx*10)+32);
+if(c-ux<xx)goto L188;
+if((u8)(*(b+(i64)ux)-48)<10)goto L188;
+yx=xx+ux;
+zx=ux;
+goto L189;}}
+Ax=qx-48;
+if(c-sx<Ax)goto L188;
+if((u8)(*(b+(i64)sx)-48)<10)goto L188;
+yx=sx+Ax;
+zx=sx;
+L189:vx=zx;
+wx=yx;
+L187:w8(a+176,wx);
+Bx=b+(i64)vx;
+Cx=wx-vx;
+if(wx!=vx){
+if(!(Cx<10||*Bx!=95)){
+Dx=parts_equal_58b((u8*)t_35ad,10,Bx,10);
+if(Dx){
+Ex=(s_p_64){(u8*)t_62ff,21};
+goto L190;}}}
+Fx=(s_p_64){0};Fx.f0=Bx;
+Gx=Fx;Gx.f1=Cx;
+Ex=Gx;
+L190:Hx=Ex.f0;
+Ix=Ex.f1;
+if(r8(a+32)-ox<Ix){
+Jx=make_ready_8e3(a,Ix,128);
+if(!(Jx&1))goto L176;
+Kx=r8(a+8);}
+else Kx=ox;
+Lx=r8(a+16);
+if(Ix>Lx-Kx){
+Mx=grow_amortized_68b(a,Ix);
+if(!Mx)goto L176;
+Nx=r8(a+16);
+Ox=r8(a+8);}
+else{
+Nx=Lx;
+Ox=Kx;}
+Px=Ox+Ix;
+Qx=rp(a);
+z16(a+8);
+Rx=Qx+(i64)Ox;
+if((u64)Rx-(u64)Hx<Ix)copy_bits_4f4(Hx,Rx,Ix);
+else memmove(Rx,Hx,Ix);
+wp(a,Qx);
+w8(a+8,Px);
+w8(a+16,Nx);
+Sx=Px;
+Tx=a[139];
+w4(a+124,rx);
+w4(a+128,Sx);
+a[136]=0;
+a[137]=1;
+a[138]=0;
+Ux=r8(a+176);
+if(Ux>=c){
+gx=0;
+hx=5;
+goto L181;}
+if(*(b+Ux)!=73){
+gx=0;
+hx=5;
+goto L181;}
+Vx=r4(a+120);
+Wx=r8(a+48);
+if(r8(a+72)>Wx)Xx=Wx;
+else{
+Yx=make_ready_17a(a+40);
+if(!(Yx&1))goto L182;
+Xx=r8(a+48);}
+Zx=rp(a+40)+Xx*12;
+x4(Zx,Vx);
+x4(Zx+4,Sx);
+Zx[8]=0;
+Zx[9]=Tx;
+x2(Zx+10,0);
+w8(a+48,Xx+1);
+memcpy(Ua,a+120,20);
+z20(Ua+20);
+ay=r8(a+8);
+if(r8(a+32)>ay)by=ay;
+else{
+cy=make_ready_8e3(a,1,16);
+if(!(cy&1))goto L182;
+by=r8(a+8);}
+*(rp(a)+by)=1;
+w8(a+8,by+1);
+dy=r8(a+176);
+if(dy==18446744073709551615u)goto L182;
+w8(a+176,dy+1);
+ey=r8(a+88);
+if(r8(a+112)>ey){
+cx=ey;
+dx=Ua;
+goto L183;}
+fy=make_ready_9a1(a+80);
+if(!(fy&1))goto L182;
+fx=Ua;
+goto L184;}}
+L188:goto L176;
+L184:cx=r8(a+88);
+dx=fx;
+L183:gy=rp(a+80)+cx*44;
+*gy=5;
+gy[1]=0;
+x2(gy+2,0);
+memcpy(gy+4,dx,40);
+w8(a+88,cx+1);
+gx=1;
+hx=3;
+L181:ix=hx;
+jx=gx;
+kx=0;
+goto L186;
+L182:goto L137;
+L176:goto L137;
+L186:if(ix==5){
+hy=r8(a+176);
+if(hy<c){
+if(*(b+hy)==69){
+iy=a[132];
+if(iy==0){
+w8(a+176,hy+1);
+jy=a[139];
+if(a[136]&1){
+ky=jy;
+ly=0;
+goto L191;}
+my=r4(a+120);
+ny=r8(a+8);
+oy=r8(a+48);
+if(r8(a+72)>oy)py=oy;
+else{
+qy=make_ready_17a(a+40);
+if(!(qy&1))goto L137;
+py=r8(a+48);}
+ry=rp(a+40)+py*12;
+x4(ry,my);
+x4(ry+4,ny);
+ry[8]=0;
+ry[9]=jy;
+x2(ry+10,0);
+w8(a+48,py+1);
+ky=a[139];
+ly=0;
+goto L191;}
+w4(Za,0);
+w8(a+176,hy+1);
+sy=a[133];
+switch(iy){
+case 3:addressed_named_a52(Za,a,b,c,sy);
+break;
+case 1:if(a[138]&1){
+ty=q2(a+140);
+uy=q2(a+142);
+memcpy(Ya+4,a+144,16);
+vy=q8(a+160);
+wy=a[168];
+xy=a[169];
+yy=a[170];
+zy=a[171];
+w2(Ya,ty);
+w2(Ya+2,uy);
+x8(Ya+20,vy);
+Ya[28]=wy;
+Ya[29]=xy;
+Ya[30]=yy;
+Ya[31]=zy;
+Ay=a[137]&1;}
+else{
+z32(Ya);
+Ay=0;}
+name_ended_8aa(Za,a,b,c,sy,Ay,Ya,r4(a+120));
+break;
+case 2:if(a[138]&1){
+if(a[137]&1){
+enclosing_instance_e2f(Xa,a,b,c,sy,r2(a+134),r4(a+120));
+By=Xa[3];
+Cy=Xa[2];
+Dy=Xa[1];
+Ey=Xa;
+goto L192;}}
+enclosing_named_54a(Za,a,b,c,sy,r4(a+120));
+break;
+default:NEVER;
+}
+By=Za[3];
+Cy=Za[2];
+Dy=Za[1];
+Ey=Za;
+L192:if(*Ey!=1)goto L137;
+kw=Dy;
+lw=Cy;
+mw=By;
+goto L174;}}
+if(!(a[136]&1)){
+Fy=r4(a+120);
+Gy=a[139];
+Hy=r8(a+8);
+Iy=r8(a+48);
+if(r8(a+72)>Iy)Jy=Iy;
+else{
+Ky=make_ready_17a(a+40);
+if(!(Ky&1))goto L137;
+Jy=r8(a+48);}
+Ly=rp(a+40)+Jy*12;
+x4(Ly,Fy);
+x4(Ly+4,Hy);
+Ly[8]=0;
+Ly[9]=Gy;
+x2(Ly+10,0);
+w8(a+48,Jy+1);}
+My=jw+1;
+if(My!=16){
+jw=My;
+goto L175;}
+Ny=6;
+Oy=0;
+Py=0;
+goto L193;}
+kw=ix;
+lw=jx;
+mw=kx;
+L174:if(kw!=2){
+Qy=kw;
+Ry=lw;
+Sy=mw;
+goto L194;}
+ky=mw;
+ly=lw;
+L191:w4(sa,0);
+w4(ta,0);
+z32(ua);
+Ty=r8(a+88);
+if(Ty!=0){
+Uy=ly&1;
+Vy=rp(a+80)+(i64)(Ty*44);
+Wy=Vy[-44];
+Xy=Vy[-43];
+Yy=q4(Vy-40);
+Zy=q4(Vy-36);
+az=q2(Vy-32);
+switch(Wy){
+case 29:case 28:case 27:case 26:case 4:case 5:case 6:case 7:case 8:case 11:case 12:case 13:case 14:case 15:case 16:case 17:case 18:case 19:case 20:case 21:case 22:case 23:case 24:case 25:if(ky&1){
+pass_dependent_123(sa,a,b,c);
+bz=sa[3];
+cz=sa[2];
+dz=sa[1];
+ez=*sa;
+goto L195;}
+fz=q4(Vy-4);
+w4(oa,0);
+switch(Wy){
+case 22:returned_087(oa,a,b,c,Xy&1);
+break;
+case 23:parameter_at_d02(oa,a,b,c,Xy&1,0);
+break;
+case 24:array_ended_a11(oa,a,b,c,Xy,Yy,Zy);
+break;
+case 12:enclosing_parameter_d72(oa,a,b,c,Xy,Yy);
+break;
+case 13:instance_parameter_e2a(oa,a,b,c,Xy,Yy,Zy);
+break;
+case 11:w2(la,az);
+memcpy(la+2,Vy-30,26);
+x4(la+28,fz);
+enclosing_front_fa8(oa,a,Xy,Yy,Zy,la);
+break;
+case 17:w4(ma,Zy);
+w2(ma+4,az);
+lambda_parameter_f9a(oa,a,b,c,Yy,ma);
+break;
+case 18:member_parameter_678(oa,a,b,c,Xy);
+break;
+case 15:w4(na,Zy);
+w2(na+4,az);
+memcpy(na+6,Vy-30,26);
+addressed_front_4c5(oa,a,b,c,Xy,Yy,na);
+break;
+case 16:addressed_parameter_41c(oa,a,b,c,Xy);
+break;
+case 14:*oa=0;
+break;
+case 19:finish_8cd(oa,a,b,c);
+break;
+case 20:derived_ended_aef(oa,a,b,c);
+break;
+case 21:base_ended_299(oa,a,b,c,Yy);
+break;
+case 29:enumerator_21c(oa,a,b,c);
+break;
+case 26:case 25:case 28:gz=Zy;
+hz=fz;
+w4(ka,0);
+switch(Wy){
+case 26:w2(ha,Zy>>16);
+w2(ha+2,az);
+memcpy(ha+4,Vy-30,26);
+w2(ha+30,hz);
+argument_enumerator_61d(ka,a,b,c,Yy,gz,ha);
+break;
+case 25:w2(ia,Zy>>16);
+w2(ia+2,az);
+memcpy(ia+4,Vy-30,26);
+w2(ia+30,hz);
+argument_ended_605(ka,a,b,c,Yy,gz,ia,Uy);
+break;
+case 28:w2(ja,Zy>>16);
+w2(ja+2,az);
+memcpy(ja+4,Vy-30,26);
+w2(ja+30,hz);
+element_ended_c50(ka,a,b,c,Yy,gz,ja,Uy);
+break;
+case 27:*ka=0;
+break;
+default:NEVER;
+}
+iz=ka[1];
+jz=ka[2];
+kz=ka[3];
+*oa=*ka;
+oa[1]=iz;
+oa[2]=jz;
+oa[3]=kz;
+break;
+case 27:case 10:case 9:case 8:case 4:case 5:case 6:case 7:*oa=1;
+oa[1]=3;
+oa[2]=0;
+oa[3]=0;
+break;
+default:NEVER;
+}
+bz=oa[3];
+cz=oa[2];
+dz=oa[1];
+ez=*oa;
+goto L195;
+case 10:lz=r8(a+176);
+if(lz<c){
+switch(*(b+lz)){
+case 69:case 46:case 0:break;
+default:w4(ra,Zy);
+w2(ra+4,az);
+memcpy(ra+6,Vy-30,26);
+w4(qa,0);
+if(ra[29]&1){
+expansion_d9b(qa,a,b,c,0,Xy,Yy,ra);
+mz=qa[3];
+nz=qa[2];
+oz=qa[1];
+pz=*qa;}
+else{
+qz=r8(a+8);
+if(r8(a+32)-qz<2){
+rz=make_ready_8e3(a,2,128);
+if(!(rz&1)){
+mz=0;
+nz=0;
+oz=0;
+pz=0;
+goto L196;}
+sz=r8(a+8);}
+else sz=qz;
+*(rp(a)+sz)=44;
+*(rp(a)+(i64)sz+1)=32;
+w8(a+8,sz+2);
+mz=0;
+nz=0;
+oz=0;
+pz=1;}
+L196:bz=mz;
+cz=nz;
+dz=oz;
+ez=pz;
+goto L195;
+}}
+w4(pa,0);
+tz=r8(a+8);
+if(tz>=5){
+uz=rp(a)+(i64)tz;
+vz=0;
+wz=0;
+L197:xz=vz||*((u8*)t_262b+(i64)wz)!=*(uz-5+(i64)wz);
+yz=wz+1;
+if(yz!=4){
+vz=xz;
+wz=yz;
+goto L197;}
+zz=0;
+Az=0;
+L198:Bz=Az+1;
+Cz=zz||*((u8*)t_262b+(i64)Bz)!=*(uz-5+(i64)Bz);
+if(Bz!=4){
+zz=Cz;
+Az=Bz;
+goto L198;}
+if(!(xz|Cz)){
+Dz=0;
+Ez=0;
+Fz=0;
+Gz=0;
+goto L199;}}
+close_a33(pa,a,b,c,Xy,Yy);
+Dz=pa[3];
+Ez=pa[2];
+Fz=pa[1];
+Gz=*pa;
+L199:bz=Dz;
+cz=Ez;
+dz=Fz;
+ez=Gz;
+goto L195;
+case 9:w4(ua,Zy);
+w2(ua+4,az);
+memcpy(ua+6,Vy-30,26);
+front_ended_ee9(ta,a,b,c,Xy,Yy,ua);
+bz=ta[3];
+cz=ta[2];
+dz=ta[1];
+ez=*ta;
+goto L195;
+case 0:w8(a+88,Ty-1);
+Hz=r8(a+8);
+if(r8(a+32)>Hz)Iz=Hz;
+else{
+Jz=make_ready_8e3(a,1,16);
+if(!(Jz&1))goto L200;
+Iz=r8(a+8);}
+*(rp(a)+Iz)=42;
+Kz=Iz+1;
+w8(a+8,Kz);
+Lz=Kz;
+Mz=ky&1;
+Nz=r8(a+48);
+if(r8(a+72)>Nz){
+Oz=Nz;
+Pz=Lz;
+Qz=0;
+Rz=Mz;
+goto L201;}
+Sz=make_ready_17a(a+40);
+if(!(Sz&1))goto L200;
+Tz=Lz;
+Uz=0;
+Vz=Mz;
+break;
+case 1:if(Uy)goto L200;
+w8(a+88,Ty-1);
+Wz=r8(a+8);
+if(r8(a+32)>Wz)Xz=Wz;
+else{
+Yz=make_ready_8e3(a,1,16);
+if(!(Yz&1))goto L200;
+Xz=r8(a+8);}
+*(rp(a)+Xz)=38;
+Zz=Xz+1;
+w8(a+8,Zz);
+aA=Zz;
+bA=ky&1;
+cA=r8(a+48);
+if(r8(a+72)>cA){
+Oz=cA;
+Pz=aA;
+Qz=1;
+Rz=bA;
+goto L201;}
+dA=make_ready_17a(a+40);
+if(!(dA&1))goto L200;
+Tz=aA;
+Uz=1;
+Vz=bA;
+break;
+case 2:if(Uy)goto L200;
+w8(a+88,Ty-1);
+eA=r8(a+8);
+if(r8(a+32)-eA<2){
+fA=make_ready_8e3(a,2,128);
+if(!(fA&1))goto L200;
+gA=r8(a+8);}
+else gA=eA;
+*(rp(a)+gA)=38;
+*(rp(a)+(i64)gA+1)=38;
+hA=gA+2;
+w8(a+8,hA);
+iA=hA;
+jA=ky&1;
+kA=r8(a+48);
+if(r8(a+72)>kA){
+Oz=kA;
+Pz=iA;
+Qz=1;
+Rz=jA;
+goto L201;}
+lA=make_ready_17a(a+40);
+if(!(lA&1))goto L200;
+Tz=iA;
+Uz=1;
+Vz=jA;
+break;
+case 3:if(Uy)goto L200;
+w8(a+88,Ty-1);
+if(r8(a+32)-r8(a+8)<6){
+mA=make_ready_8e3(a,6,128);
+if(!(mA&1))goto L200;}
+nA=extend_from_slice_674(a,(u8*)t_f603,6);
+if(nA&1)goto L200;
+oA=r8(a+8);
+pA=ky&1;
+qA=r8(a+48);
+if(r8(a+72)>qA){
+Oz=qA;
+Pz=oA;
+Qz=0;
+Rz=pA;
+goto L201;}
+rA=make_ready_17a(a+40);
+if(!(rA&1))goto L200;
+Tz=oA;
+Uz=0;
+Vz=pA;
+break;
+default:NEVER;
+}
+Oz=r8(a+48);
+Pz=Tz;
+Qz=Uz;
+Rz=Vz;
+L201:sA=rp(a+40)+Oz*12;
+x4(sA,Yy);
+x4(sA+4,Pz);
+sA[8]=Qz;
+sA[9]=Rz;
+x2(sA+10,0);
+w8(a+48,Oz+1);
+Ny=2;
+Oy=Qz;
+Py=Rz;
+goto L193;
+L195:if(ez!=1)goto L137;
+Qy=dz;
+Ry=cz;
+Sy=bz;
+goto L194;}
+L200:goto L137;
+L194:if(Qy==3){
+tA=Ry&1;
+w4(fa,0);
+uA=r8(a+176);
+if(uA<c){
+vA=*(b+uA);
+switch(vA){
+case 69:w4(da,0);
+w8(a+176,uA+1);
+wA=r8(a+88);
+if(wA==0){
+xA=0;
+yA=0;
+zA=0;
+AA=0;}
+else{
+if(*(rp(a+80)+(i64)(wA*44)-44)==27){
+if(tA){
+xA=0;
+yA=0;
+zA=0;
+AA=0;}
+else{
+w8(a+88,wA-1);
+xA=0;
+yA=0;
+zA=3;
+AA=1;}}
+else{
+z32(ea);
+close_list_148(da,a,b,c,ea);
+xA=da[3];
+yA=da[2];
+zA=da[1];
+AA=*da;}}
+BA=zA;
+CA=AA;
+DA=yA;
+EA=xA;
+goto L202;
+case 74:FA=uA+1;
+if(FA<c){
+if(*(b+FA)==69){
+empty_pack_c74(fa,a,b,c,tA);
+BA=fa[1];
+CA=*fa;
+DA=fa[2];
+EA=fa[3];
+goto L202;}}
+if(!tA){
+GA=74;
+goto L203;}
+first_pack_117(fa,a,b,c);
+BA=fa[1];
+CA=*fa;
+DA=fa[2];
+EA=fa[3];
+goto L202;
+default:HA=vA;
+break;}}
+else HA=0;
+if(tA){
+IA=HA;
+goto L204;}
+GA=HA;
+L203:JA=r8(a+8);
+if(r8(a+32)-JA<2){
+KA=make_ready_8e3(a,2,128);
+if(!(KA&1))goto L205;
+LA=r8(a+8);}
+else LA=JA;
+*(rp(a)+LA)=44;
+*(rp(a)+(i64)LA+1)=32;
+w8(a+8,LA+2);
+IA=GA;
+L204:switch(IA){
+case 76:if(tA){
+first_literal_d00(fa,a,b,c);
+BA=fa[1];
+CA=*fa;
+DA=fa[2];
+EA=fa[3];
+goto L202;}
+literal_8fc(ga,a,b,c);
+BA=ga[1];
+CA=*ga;
+DA=ga[2];
+EA=ga[3];
+goto L202;
+case 74:MA=r8(a+88);
+if(MA==0)goto L205;
+NA=rp(a+80);
+OA=MA*44;
+if(*(NA+(i64)OA-44)==27)goto L205;
+PA=r8(a+176);
+if(PA==18446744073709551615u)goto L205;
+w8(a+176,PA+1);
+if(r8(a+112)>MA){
+QA=OA;
+RA=NA;
+SA=MA;}
+else{
+TA=make_ready_9a1(a+80);
+if(!(TA&1))goto L205;
+UA=r8(a+88);
+QA=UA*44;
+RA=rp(a+80);
+SA=UA;}
+VA=RA+QA;
+*VA=27;
+z43(VA+1);
+WA=SA;
+XA=3;
+YA=1;
+break;
+default:if(!tA){
+aB=0;
+bB=0;
+goto L206;}
+ZA=r8(a+88);
+if(ZA==0){
+aB=0;
+bB=0;
+goto L206;}
+cB=rp(a+80);
+dB=ZA*44;
+eB=cB+(i64)dB;
+switch(eB[-44]){
+case 5:if(eB[-28]==0){
+aB=0;
+bB=0;
+goto L206;}
+break;
+case 7:break;
+case 0:case 1:case 2:case 3:case 4:case 6:case 8:case 9:case 10:case 11:case 12:case 13:case 14:case 15:case 16:case 17:case 18:case 19:case 20:case 21:case 22:case 23:case 24:case 25:case 26:case 27:case 28:case 29:aB=0;
+bB=0;
+goto L206;
+default:NEVER;
+}
+fB=r8(a+176);
+if(fB<c){
+gB=b+(i64)fB;
+switch(*gB){
+case 65:case 70:aB=0;
+bB=0;
+goto L206;
+case 80:case 82:if(usub64(c,fB)>=2){
+switch(gB[1]){
+case 70:case 65:aB=0;
+bB=0;
+goto L206;
+default:break;}}
+break;
+default:break;}}
+hB=r8(a+8);
+if(r8(a+112)>ZA){
+iB=dB;
+jB=cB;
+kB=ZA;}
+else{
+lB=make_ready_9a1(a+80);
+if(!(lB&1))goto L205;
+mB=r8(a+88);
+iB=mB*44;
+jB=rp(a+80);
+kB=mB;}
+nB=jB+iB;
+*nB=25;
+nB[1]=0;
+x2(nB+2,0);
+x4(nB+4,hB);
+z36(nB+8);
+WA=kB;
+XA=0;
+YA=0;
+break;}
+w8(a+88,WA+1);
+aB=XA;
+bB=YA;
+L206:Ny=aB;
+Oy=bB;
+Py=0;
+goto L193;
+L202:if(CA!=1)goto L137;
+Ny=BA;
+Oy=DA;
+Py=EA;
+goto L193;
+L205:goto L137;}
+Ny=Qy;
+Oy=Ry;
+Py=Sy;
+L193:oB=ut+1;
+if(oB==tt)goto L137;
+ut=oB;
+vt=Py;
+wt=Oy;
+xt=Ny;
+goto L156;}}}
+L146:;}
+L137:break;
+default:NEVER;
+}}
+if(r8(a+8)==0)goto L207;
+L92:w8(a+8,0);
+L207:z16(a+24);
+if(r8(a+48)!=0)w8(a+48,0);
+if(r8(a+88)!=0)w8(a+88,0);
+a[172]=0;
+z16(a+64);
+pB=0;
+goto L208;
+L1:if(r8(a+48)!=0)w8(a+48,0);
+z16(a+64);
+if(r8(a+88)==0)pB=1;
+else{
+w8(a+88,0);
+pB=1;}
+L208:z16(a+104);
+return pB;
+}
+
+/* sym_languages::languages::append_in */
+static void append_in_c46(u8* a,u8* b,u8* c,u64 d,u32 e,u8 f,u8* g)
+{
+A16 u8 h[12],i[104],j[96],k[12],l[92];
+u64 m,n,p,q,t,u,w,y,A,B,E,R,S,U,Z,aa,ba,da,ea,fa;
+u8 o,r,v,x,z,C,H,J,K,N,O,V,ca;
+u8 *s,*F,*G,*P,*Q,*T,*Y,*ga,*ha;
+u32 D,I,L,M,W,X;
+m=(d<<3)+1024;
+n=umin64(e>>2,m);
+o=r8(b+432)==0;
+if(f&1){
+if(!o)w8(b+432,0);
+w8(b+448,n);
+w8(b+456,umin64(r8(b+440),n));
+if(r8(b+472)!=0)w8(b+472,0);
+p=m&0xfffffff8u;
+w8(b+488,p);
+w8(b+496,umin64(r8(b+480),p));
+b[504]=0;
+if(r8(b+520)!=0)w8(b+520,0);
+q=d&4294967295u;
+w8(b+536,q);
+w8(b+544,umin64(r8(b+528),q));
+if(r8(b+560)!=0)w8(b+560,0);
+if(r8(b+584)!=0)w8(b+584,0);
+w8(b+600,q);
+w8(b+608,umin64(r8(b+592),q));
+r=run_80f(b+424,c,d,e);
+if(r)goto L1;
+if(r8(b+432)!=0)w8(b+432,0);
+z16(b+448);
+if(r8(b+472)!=0)w8(b+472,0);
+z17(b+488);
+if(r8(b+520)!=0)w8(b+520,0);
+z16(b+536);
+if(r8(b+560)!=0)w8(b+560,0);
+if(r8(b+584)==0)s=b+600;
+else{
+w8(b+584,0);
+s=b+600;}}
+else{
+if(!o)w8(b+432,0);
+w8(b+448,n);
+w8(b+456,umin64(r8(b+440),n));
+if(r8(b+472)!=0)w8(b+472,0);
+t=m&0xfffffff8u;
+w8(b+488,t);
+w8(b+496,umin64(r8(b+480),t));
+b[504]=0;
+if(r8(b+520)!=0)w8(b+520,0);
+u=d&4294967295u;
+w8(b+536,u);
+w8(b+544,umin64(r8(b+528),u));
+if(r8(b+560)!=0)w8(b+560,0);
+if(r8(b+584)!=0)w8(b+584,0);
+w8(b+600,u);
+w8(b+608,umin64(r8(b+592),u));
+v=run_41f(b+424,c,d,e);
+if(v)goto L1;
+if(r8(b+432)!=0)w8(b+432,0);
+z16(b+448);
+if(r8(b+472)!=0)w8(b+472,0);
+z17(b+488);
+if(r8(b+520)!=0)w8(b+520,0);
+z16(b+536);
+if(r8(b+560)!=0)w8(b+560,0);
+if(r8(b+584)==0)s=b+600;
+else{
+w8(b+584,0);
+s=b+600;}}
+z16(s);
+z12(k);
+z104(i);
+w=r8(b+640);
+if(!((d<w)|((w&4294967295u)==0))){
+x=parts_equal_58b(c,w,rp(b+632),w);
+if(x){
+read_on_1ef(i,b,c+(i64)w,d-w);
+goto L2;}}
+z12(h);
+x4(b+24,0);
+x4(b+28,0);
+if(r8(b+40)!=0)w8(b+40,0);
+if(r8(b+64)!=0)w8(b+64,0);
+w8(b+80,0);
+w4(b+88,0);
+run_48d(h,b+24,c,d,1);
+if(*h==0){
+if(r8(b+8)!=0)w8(b+8,0);
+y=r8(b+16);
+if(d>y){
+z=grow_amortized_68b(b,d);
+if(!z){
+C=4;
+D=0;
+goto L3;}
+A=r8(b+16);
+B=r8(b+8);}
+else{
+A=y;
+B=0;}
+E=B+d;
+F=rp(b);
+z16(b+8);
+G=F+(i64)B;
+if((u64)G-(u64)c<d)copy_bits_4f4(c,G,d);
+else memmove(G,c,d);
+wp(b,F);
+w8(b+8,E);
+w8(b+16,A);
+link_57d(i,b);
+goto L2;}
+H=h[4];
+I=r4(h+8);
+x4(b+24,0);
+x4(b+28,0);
+if(r8(b+40)!=0)w8(b+40,0);
+if(r8(b+64)!=0)w8(b+64,0);
+w8(b+80,0);
+w4(b+88,0);
+C=H;
+D=I;
+L3:J=1;
+K=C;
+L=D;
+goto L4;
+L2:M=r4(i+8);
+N=*i;
+O=i[4];
+memcpy(l,i+12,92);
+if(N==0){
+w4(j,M);
+memcpy(j+4,l,92);
+print_0c9(k,b,j,e,f,g);
+P=qp(b+96);
+Q=qp(b+120);
+R=q8(b+136);
+S=q8(b+112);
+memcpy(b+96,l+20,56);
+if(S!=0)port_rattle_dealloc(P);
+if(R!=0)port_rattle_dealloc(Q);
+T=qp(b);
+U=q8(b+16);
+memcpy(b,j,24);
+if(U!=0)port_rattle_dealloc(T);
+J=*k;
+K=k[4];
+L=r4(k+8);}
+else{
+J=1;
+K=O;
+L=M;}
+L4:V=J;
+W=K;
+X=L;
+goto L5;
+L1:Y=rp(b+424);
+Z=r8(b+432);
+aa=r8(g+16);
+ba=r8(g+8);
+if(Z>aa-ba){
+ca=grow_amortized_68b(g,Z);
+if(!ca){
+V=1;
+W=4;
+X=0;
+goto L5;}
+da=r8(g+16);
+ea=r8(g+8);}
+else{
+da=aa;
+ea=ba;}
+fa=ea+Z;
+ga=rp(g);
+z16(g+8);
+ha=ga+(i64)ea;
+if((u64)ha-(u64)Y<Z)copy_bits_4f4(Y,ha,Z);
+else memmove(ha,Y,Z);
+wp(g,ga);
+w8(g+8,fa);
+w8(g+16,da);
+V=0;
+W=0;
+X=0;
+L5:*a=V;
+x4(a+4,W);
+x4(a+8,X);
+return;
+}
+
+/* rust_short_way::run */
+static u8 run_41f(u8* a,u8* b,u64 c,u32 d)
+{
+u8 h[1],m[18],p[32],r[32];
+A16 u8 e[40],f[40],g[32],i[40],j[32],k[40],l[32],n[40],o[40],q[24],s[24];
+u64 t,u,v,x,y,A,C,D,G,H,I,J,K,L,N,R,T,U,W,X,Z,aa,ca,da,ga,ha,ia,la,ma,pa,qa,ta,ua,xa,ya,Aa,Ca,Fa,Ga,Ia,Ja,Ka,Ma,Pa,Ra,Sa,Ta,Ua,Wa,Xa,Ya,ab,bb,cb,eb,jb,kb,mb,ob,pb,sb,tb,wb,xb,yb,zb,Bb,Cb,Eb,Fb,Gb,Jb,Kb,Nb,Ob,Pb,Qb,Sb,Tb,Vb,Wb,Xb,ac,bc,ec,fc,hc,ic,kc,lc,mc,pc,qc,tc,uc,wc,xc,zc,Ac,Bc,Ec,Fc,Ic,Jc,Lc,Mc,Oc,Pc,Qc,Tc,Uc,Xc,Yc,ad,bd,dd,ed,fd,id,jd,md,nd,od,qd,sd,ud,xd,zd,Ad,Bd,Cd,Ed,Hd,Id,Jd,Kd,Ld,Rd,Sd,Wd,Yd,Zd,ce,de,fe,ge,je,ke,me,ne,pe,qe,re,ue,ve,ye,Ae,Ce,De,Fe,Ge,He,Ke,Ne,Pe,Qe,Se,Te,Ze,bf,df,ff,gf,hf,mf,nf,qf,tf,uf,vf,xf,yf,Bf,Ef,Ff,Kf,Lf,Mf,Qf,Rf,Uf,Vf,Wf,Yf,Zf,bg,dg,fg,gg,hg,ig,kg,mg,ng,pg,qg,rg,xg,yg,Cg,Eg,Fg,Ig,Jg,Ng,Og,Sg,Tg,Wg,Xg,bh,ch,fh,gh,jh,kh,nh,oh,th,uh,wh,zh,Ah,Fh,Kh,Mh,Nh,Rh,Sh,Vh,Yh,Zh,ai,ci,di,gi,ji,ki,mi,oi,pi,qi,ti,ui,wi,xi,yi,Bi,Ci,Ei,Fi,Gi,Ji,Ki,Mi,Ni,Pi,Qi,Ri,Ui,Vi,Zi,bj,fj,gj,ij,kj,pj,uj,wj,yj,Aj,Cj,Dj,Fj,Gj,Hj,Kj,Mj,Pj,Rj,Sj,Tj,Xj,Yj,ak,ck,dk,fk,gk,hk,lk,mk,qk,sk,uk,wk,xk,zk,Ak,Dk,Ek,Gk,Jk,Kk,Mk,Nk,Pk,Sk,Tk,Vk,Wk,Yk,bl,cl,dl,el,fl,hl,kl,ml,nl,pl,ql,rl,ul,vl,yl,zl,Bl,Cl,El,Fl,Gl,Il,Ll,Ml,Ol,Pl,Rl,Ul,Vl,Xl,Yl,bm,cm,em,fm,im,jm,lm,mm,pm,rm,sm,um,vm,wm,zm,Am,Dm,Em,Gm,Hm,Jm,Mm;
+u8 w,z,E,M,O,P,Q,S,Y,ba,ea,fa,ja,ka,na,oa,ra,sa,va,wa,za,Ba,Da,Ea,La,Na,Qa,Va,db,fb,hb,ib,nb,qb,ub,Ab,Db,Lb,Rb,Ub,cc,gc,jc,rc,vc,yc,Gc,Kc,Nc,Vc,Zc,cd,kd,pd,vd,yd,Gd,Nd,Od,Pd,Qd,Ud,Vd,Xd,ae,be,ee,he,le,oe,we,Be,Ee,Le,Me,Oe,Re,Ue,Ve,We,Xe,Ye,af,lf,pf,rf,sf,zf,Af,Df,Hf,If,Jf,Nf,Of,Pf,Sf,Tf,Xf,cg,eg,og,tg,ug,vg,wg,Ag,Bg,Dg,Gg,Hg,Mg,Qg,Rg,Ug,ah,eh,hh,lh,mh,ph,sh,yh,Bh,Ch,Dh,Eh,Gh,Hh,Ih,Jh,Lh,Qh,Uh,Wh,Xh,ei,fi,ii,li,ni,si,vi,Di,Oi,Xi,Yi,aj,cj,ej,jj,mj,nj,oj,qj,rj,sj,tj,vj,xj,Bj,Ej,Lj,Nj,Qj,Uj,Wj,Zj,bk,ek,kk,nk,pk,tk,yk,Bk,Fk,Hk,Lk,Ok,Qk,Uk,Xk,Zk,gl,il,ll,ol,wl,Al,Hl,Jl,Nl,Ql,Sl,Wl,Zl,dm,gm,km,nm,qm,tm,Bm,Fm,Im,Km;
+u8 *B,*F,*V,*Oa,*gb,*lb,*rb,*vb,*Hb,*Ib,*Mb,*Yb,*Zb,*dc,*nc,*oc,*sc,*Cc,*Dc,*Hc,*Rc,*Sc,*Wc,*gd,*hd,*ld,*td,*Fd,*Md,*Td,*ie,*se,*te,*xe,*ze,*Ie,*Je,*cf,*ef,*Gf,*ag,*lg,*sg,*zg,*Vg,*ih,*qh,*rh,*vh,*xh,*ri,*zi,*Ai,*Hi,*Ii,*Li,*Si,*Ti,*Wi,*dj,*hj,*lj,*zj,*Ij,*Jj,*Oj,*Vj,*ik,*jk,*ok,*rk,*vk,*Ck,*Ik,*Rk,*al,*jl,*sl,*tl,*xl,*Kl,*Tl,*am,*hm,*om,*xm,*ym,*Cm,*Lm;
+s_8_64 Ha,Za,of,Pg,dh,Th,Dl;
+u16 Dd,kf,jg,Lg,Zg,Ph;
+v16 jf,wf,Cf,Kg,Yg,Oh,bi,hi;
+if(c-1<65536){
+if(*b==95&&c>1){
+if(b[1]==82){
+t=r8(a+136);
+if(c>t){
+u=c-t;
+v=r8(a+144);
+if(u>v-t){
+w=grow_amortized_3c2(a+128,u);
+if(!w){
+z=0;
+goto L1;}
+x=r8(a+144);
+y=r8(a+136);}
+else{
+x=v;
+y=t;}
+A=y+u;
+B=rp(a+128);
+if(y<A)memset(B+(i64)(y<<1),0,u<<1);
+wp(a+128,B);
+w8(a+136,A);
+w8(a+144,x);}
+else {
+if(t>c)w8(a+136,c);}
+C=r8(a+160);
+if(r8(a+184)>C)D=C;
+else{
+E=make_ready_e3c(a+152);
+if(!(E&1)){
+z=0;
+goto L1;}
+D=r8(a+160);}
+F=rp(a+152)+(D<<5);
+*F=0;
+F[1]=0;
+z17(F+8);
+w8(a+160,D+1);
+w8(a+192,2);
+G=c<<3;
+H=(u64)r;
+I=(u64)p;
+J=(u64)(m+2);
+K=(u64)m;
+L=0;
+M=0;
+N=0;
+O=1;
+P=0;
+L2:if(P==4)z=r8(a+8)<=(d>>2);
+else{
+w8(a+200,r8(a+200)+1);
+switch(P){
+case 3:Q=O&1;
+R=r8(a+192);
+if(R<c){
+S=*(b+R);
+if(S==69){
+T=r8(a+160);
+if(T==0){
+z=0;
+goto L1;}
+U=T-1;
+w8(a+160,U);
+V=rp(a+152)+(U<<5);
+if(*V!=4){
+z=0;
+goto L1;}
+W=q8(V+8);
+X=q8(V+16);
+Y=V[24];
+w8(a+192,R+1);
+Z=r8(a+8);
+if(r8(a+32)>Z)aa=Z;
+else{
+ba=make_ready_8e3(a,1,16);
+if(!(ba&1)){
+z=0;
+goto L1;}
+aa=r8(a+8);}
+*(rp(a)+aa)=62;
+ca=aa+1;
+w8(a+8,ca);
+if(r8(a+136)<=W){
+z=0;
+goto L1;}
+da=r8(a+96);
+if(da>65534){
+z=0;
+goto L1;}
+ea=2-(Y&1);
+fa=a[80];
+if(r8(a+120)>da){
+ga=da;
+ha=X;
+ia=ca;
+ja=ea;
+ka=fa;
+la=da;
+ma=W;
+na=ea;
+goto L3;}
+oa=make_ready_b73(a+88);
+if(!(oa&1)){
+z=0;
+goto L1;}
+pa=X;
+qa=ca;
+ra=ea;
+sa=fa;
+ta=da;
+ua=W;
+va=ea;
+goto L4;}
+wa=S;}
+else wa=0;
+if(Q){
+switch(wa){
+case 76:xa=R+1;
+if(!((R!=18446744073709551615u)&(xa<c))){
+z=0;
+goto L1;}
+if(*(b+xa)!=95){
+z=0;
+goto L1;}
+w8(a+192,R+2);
+ya=r8(a+8);
+if(r8(a+32)-ya<2){
+za=make_ready_8e3(a,2,128);
+if(!(za&1)){
+z=0;
+goto L1;}
+Aa=r8(a+8);}
+else Aa=ya;
+*(rp(a)+Aa)=39;
+*(rp(a)+(i64)Aa+1)=95;
+w8(a+8,Aa+2);
+Ba=0;
+Ca=0;
+Da=0;
+Ea=3;
+goto L5;
+case 75:if(R==18446744073709551615u){
+z=0;
+goto L1;}
+Fa=R+1;
+Ga=r8(a+8);
+Ha=constant_at_b72(a,b,c,Fa);
+if(Ha.f0!=1){
+z=0;
+goto L1;}
+if(r8(a+136)<=Fa){
+z=0;
+goto L1;}
+Ia=r8(a+96);
+if(Ia>65534){
+z=0;
+goto L1;}
+Ja=Ha.f1;
+Ka=r8(a+8);
+La=a[80];
+if(r8(a+120)>Ia)Ma=Ia;
+else{
+Na=make_ready_b73(a+88);
+if(!(Na&1)){
+z=0;
+goto L1;}
+Ma=r8(a+96);}
+Oa=rp(a+88)+Ma*24;
+x8(Oa,Ga);
+x8(Oa+8,Ka);
+Oa[16]=4;
+Oa[17]=La;
+z6(Oa+18);
+w8(a+96,Ma+1);
+w2(rp(a+128)+(i64)(Fa<<1),(u16)Ia+1);
+w8(a+192,Ja);
+Ba=0;
+Ca=0;
+Da=0;
+Ea=3;
+goto L5;
+default:break;}}
+else{
+Pa=r8(a+8);
+if(r8(a+32)-Pa<2){
+Qa=make_ready_8e3(a,2,128);
+if(!(Qa&1)){
+z=0;
+goto L1;}
+Ra=r8(a+8);}
+else Ra=Pa;
+*(rp(a)+Ra)=44;
+*(rp(a)+(i64)Ra+1)=32;
+Sa=Ra+2;
+w8(a+8,Sa);
+switch(wa){
+case 76:Ta=r8(a+192);
+Ua=Ta+1;
+if(!((Ta!=18446744073709551615u)&(Ua<c))){
+z=0;
+goto L1;}
+if(*(b+Ua)!=95){
+z=0;
+goto L1;}
+w8(a+192,Ta+2);
+if(r8(a+32)-Sa<2){
+Va=make_ready_8e3(a,2,128);
+if(!(Va&1)){
+z=0;
+goto L1;}
+Wa=r8(a+8);}
+else Wa=Sa;
+*(rp(a)+Wa)=39;
+*(rp(a)+(i64)Wa+1)=95;
+w8(a+8,Wa+2);
+Ba=0;
+Ca=0;
+Da=0;
+Ea=3;
+goto L5;
+case 75:Xa=r8(a+192);
+if(Xa==18446744073709551615u){
+z=0;
+goto L1;}
+Ya=Xa+1;
+Za=constant_at_b72(a,b,c,Ya);
+if(Za.f0!=1){
+z=0;
+goto L1;}
+if(r8(a+136)<=Ya){
+z=0;
+goto L1;}
+ab=r8(a+96);
+if(ab>65534){
+z=0;
+goto L1;}
+bb=Za.f1;
+cb=r8(a+8);
+db=a[80];
+if(r8(a+120)>ab)eb=ab;
+else{
+fb=make_ready_b73(a+88);
+if(!(fb&1)){
+z=0;
+goto L1;}
+eb=r8(a+96);}
+gb=rp(a+88)+eb*24;
+x8(gb,Sa);
+x8(gb+8,cb);
+gb[16]=4;
+gb[17]=db;
+z6(gb+18);
+w8(a+96,eb+1);
+w2(rp(a+128)+(i64)(Ya<<1),(u16)ab+1);
+w8(a+192,bb);
+Ba=0;
+Ca=0;
+Da=0;
+Ea=3;
+goto L5;
+default:break;}}
+break;
+case 1:break;
+case 0:hb=O;
+goto L6;
+case 2:ib=M;
+jb=N;
+goto L7;
+default:Ba=M;
+Ca=N;
+Da=O;
+Ea=P;
+goto L5;
+}
+kb=r8(a+192);
+if(kb>=c){
+z=0;
+goto L1;}
+lb=b+(i64)kb;
+switch(*lb){
+case 78:mb=kb+1;
+if(c<=mb){
+z=0;
+goto L1;}
+nb=*(b+mb);
+if(*((u8*)t_eb43+nb)==0){
+z=0;
+goto L1;}
+w8(a+192,kb+2);
+ob=r8(a+160);
+if(r8(a+184)>ob)pb=ob;
+else{
+qb=make_ready_e3c(a+152);
+if(!(qb&1)){
+z=0;
+goto L1;}
+pb=r8(a+160);}
+rb=rp(a+152)+(pb<<5);
+*rb=2;
+rb[1]=nb;
+x8(rb+8,kb);
+x8(rb+16,0);
+rb[24]=0;
+w8(a+160,pb+1);
+hb=0;
+goto L6;
+case 73:w8(a+192,kb+1);
+sb=r8(a+160);
+if(r8(a+184)>sb)tb=sb;
+else{
+ub=make_ready_e3c(a+152);
+if(!(ub&1)){
+z=0;
+goto L1;}
+tb=r8(a+160);}
+vb=rp(a+152)+(tb<<5);
+*vb=3;
+vb[1]=0;
+x8(vb+8,kb);
+x8(vb+16,0);
+vb[24]=0;
+w8(a+160,tb+1);
+hb=0;
+goto L6;
+case 82:wb=kb+1;
+if(wb<c){
+if(*(b+wb)==76){
+xb=kb+2;
+if(xb>=c){
+z=0;
+goto L1;}
+if(*(b+xb)!=95){
+z=0;
+goto L1;}
+yb=kb+3;}
+else yb=wb;}
+else yb=wb;
+zb=r8(a+8);
+if(r8(a+32)==zb){
+Ab=make_ready_8e3(a,1,128);
+if(!(Ab&1)){
+z=0;
+goto L1;}
+Bb=r8(a+8);}
+else Bb=zb;
+Cb=r8(a+16);
+if(Cb==Bb){
+Db=grow_amortized_68b(a,1);
+if(!Db){
+z=0;
+goto L1;}
+Eb=r8(a+16);
+Fb=r8(a+8);}
+else{
+Eb=Cb;
+Fb=Bb;}
+Gb=Fb+1;
+Hb=rp(a);
+z16(a+8);
+Ib=Hb+(i64)Fb;
+if((u64)Ib==(u64)(u8*)t_951d)copy_bits_4f4((u8*)t_951d,Ib,1);
+else *Ib=38;
+wp(a,Hb);
+w8(a+8,Gb);
+w8(a+16,Eb);
+Jb=r8(a+160);
+if(r8(a+184)>Jb)Kb=Jb;
+else{
+Lb=make_ready_e3c(a+152);
+if(!(Lb&1)){
+z=0;
+goto L1;}
+Kb=r8(a+160);}
+Mb=rp(a+152)+(Kb<<5);
+*Mb=9;
+Mb[1]=0;
+x8(Mb+8,kb);
+x8(Mb+16,zb);
+Mb[24]=0;
+w8(a+160,Kb+1);
+w8(a+192,yb);
+Ba=0;
+Ca=0;
+Da=0;
+Ea=1;
+goto L5;
+case 81:Nb=kb+1;
+if(Nb<c){
+if(*(b+Nb)==76){
+Ob=kb+2;
+if(Ob>=c){
+z=0;
+goto L1;}
+if(*(b+Ob)!=95){
+z=0;
+goto L1;}
+Pb=kb+3;}
+else Pb=Nb;}
+else Pb=Nb;
+Qb=r8(a+8);
+if(r8(a+32)-Qb<5){
+Rb=make_ready_8e3(a,5,128);
+if(!(Rb&1)){
+z=0;
+goto L1;}
+Sb=r8(a+8);}
+else Sb=Qb;
+Tb=r8(a+16);
+if(Tb-Sb<5){
+Ub=grow_amortized_68b(a,5);
+if(!Ub){
+z=0;
+goto L1;}
+Vb=r8(a+16);
+Wb=r8(a+8);}
+else{
+Vb=Tb;
+Wb=Sb;}
+Xb=Wb+5;
+Yb=rp(a);
+z16(a+8);
+Zb=Yb+(i64)Wb;
+if((u64)Zb-(u64)(u8*)t_d821<5)copy_bits_4f4((u8*)t_d821,Zb,5);
+else memcpy(Zb,(u8*)t_d821,5);
+wp(a,Yb);
+w8(a+8,Xb);
+w8(a+16,Vb);
+ac=r8(a+160);
+if(r8(a+184)>ac)bc=ac;
+else{
+cc=make_ready_e3c(a+152);
+if(!(cc&1)){
+z=0;
+goto L1;}
+bc=r8(a+160);}
+dc=rp(a+152)+(bc<<5);
+*dc=9;
+dc[1]=0;
+x8(dc+8,kb);
+x8(dc+16,Qb);
+dc[24]=0;
+w8(a+160,bc+1);
+w8(a+192,Pb);
+Ba=0;
+Ca=0;
+Da=0;
+Ea=1;
+goto L5;
+case 80:ec=kb+1;
+fc=r8(a+8);
+if(r8(a+32)-fc<7){
+gc=make_ready_8e3(a,7,128);
+if(!(gc&1)){
+z=0;
+goto L1;}
+hc=r8(a+8);}
+else hc=fc;
+ic=r8(a+16);
+if(ic-hc<7){
+jc=grow_amortized_68b(a,7);
+if(!jc){
+z=0;
+goto L1;}
+kc=r8(a+16);
+lc=r8(a+8);}
+else{
+kc=ic;
+lc=hc;}
+mc=lc+7;
+nc=rp(a);
+z16(a+8);
+oc=nc+(i64)lc;
+if((u64)oc-(u64)(u8*)t_ff67<7)copy_bits_4f4((u8*)t_ff67,oc,7);
+else memcpy(oc,(u8*)t_ff67,7);
+wp(a,nc);
+w8(a+8,mc);
+w8(a+16,kc);
+pc=r8(a+160);
+if(r8(a+184)>pc)qc=pc;
+else{
+rc=make_ready_e3c(a+152);
+if(!(rc&1)){
+z=0;
+goto L1;}
+qc=r8(a+160);}
+sc=rp(a+152)+(qc<<5);
+*sc=9;
+sc[1]=0;
+x8(sc+8,kb);
+x8(sc+16,fc);
+sc[24]=0;
+w8(a+160,qc+1);
+w8(a+192,ec);
+Ba=0;
+Ca=0;
+Da=0;
+Ea=1;
+goto L5;
+case 79:tc=kb+1;
+uc=r8(a+8);
+if(r8(a+32)-uc<5){
+vc=make_ready_8e3(a,5,128);
+if(!(vc&1)){
+z=0;
+goto L1;}
+wc=r8(a+8);}
+else wc=uc;
+xc=r8(a+16);
+if(xc-wc<5){
+yc=grow_amortized_68b(a,5);
+if(!yc){
+z=0;
+goto L1;}
+zc=r8(a+16);
+Ac=r8(a+8);}
+else{
+zc=xc;
+Ac=wc;}
+Bc=Ac+5;
+Cc=rp(a);
+z16(a+8);
+Dc=Cc+(i64)Ac;
+if((u64)Dc-(u64)(u8*)t_b2e2<5)copy_bits_4f4((u8*)t_b2e2,Dc,5);
+else memcpy(Dc,(u8*)t_b2e2,5);
+wp(a,Cc);
+w8(a+8,Bc);
+w8(a+16,zc);
+Ec=r8(a+160);
+if(r8(a+184)>Ec)Fc=Ec;
+else{
+Gc=make_ready_e3c(a+152);
+if(!(Gc&1)){
+z=0;
+goto L1;}
+Fc=r8(a+160);}
+Hc=rp(a+152)+(Fc<<5);
+*Hc=9;
+Hc[1]=0;
+x8(Hc+8,kb);
+x8(Hc+16,uc);
+Hc[24]=0;
+w8(a+160,Fc+1);
+w8(a+192,tc);
+Ba=0;
+Ca=0;
+Da=0;
+Ea=1;
+goto L5;
+case 83:Ic=kb+1;
+Jc=r8(a+8);
+if(r8(a+32)==Jc){
+Kc=make_ready_8e3(a,1,128);
+if(!(Kc&1)){
+z=0;
+goto L1;}
+Lc=r8(a+8);}
+else Lc=Jc;
+Mc=r8(a+16);
+if(Mc==Lc){
+Nc=grow_amortized_68b(a,1);
+if(!Nc){
+z=0;
+goto L1;}
+Oc=r8(a+16);
+Pc=r8(a+8);}
+else{
+Oc=Mc;
+Pc=Lc;}
+Qc=Pc+1;
+Rc=rp(a);
+z16(a+8);
+Sc=Rc+(i64)Pc;
+if((u64)Sc==(u64)(u8*)t_2458)copy_bits_4f4((u8*)t_2458,Sc,1);
+else *Sc=91;
+wp(a,Rc);
+w8(a+8,Qc);
+w8(a+16,Oc);
+Tc=r8(a+160);
+if(r8(a+184)>Tc)Uc=Tc;
+else{
+Vc=make_ready_e3c(a+152);
+if(!(Vc&1)){
+z=0;
+goto L1;}
+Uc=r8(a+160);}
+Wc=rp(a+152)+(Uc<<5);
+*Wc=9;
+Wc[1]=0;
+x8(Wc+8,kb);
+x8(Wc+16,Jc);
+Wc[24]=1;
+w8(a+160,Uc+1);
+w8(a+192,Ic);
+Ba=0;
+Ca=0;
+Da=0;
+Ea=1;
+goto L5;
+case 84:Xc=r8(a+8);
+Yc=kb+1;
+if(r8(a+32)==Xc){
+Zc=make_ready_8e3(a,1,128);
+if(!(Zc&1)){
+z=0;
+goto L1;}
+ad=r8(a+8);}
+else ad=Xc;
+bd=r8(a+16);
+if(bd==ad){
+cd=grow_amortized_68b(a,1);
+if(!cd){
+z=0;
+goto L1;}
+dd=r8(a+16);
+ed=r8(a+8);}
+else{
+dd=bd;
+ed=ad;}
+fd=ed+1;
+gd=rp(a);
+z16(a+8);
+hd=gd+(i64)ed;
+if((u64)hd==(u64)(u8*)t_32eb)copy_bits_4f4((u8*)t_32eb,hd,1);
+else *hd=40;
+wp(a,gd);
+w8(a+8,fd);
+w8(a+16,dd);
+id=r8(a+160);
+if(r8(a+184)>id)jd=id;
+else{
+kd=make_ready_e3c(a+152);
+if(!(kd&1)){
+z=0;
+goto L1;}
+jd=r8(a+160);}
+ld=rp(a+152)+(jd<<5);
+*ld=12;
+ld[1]=0;
+x8(ld+8,kb);
+x8(ld+16,Xc);
+ld[24]=1;
+w8(a+160,jd+1);
+w8(a+192,Yc);
+Ba=0;
+Ca=0;
+Da=0;
+Ea=1;
+goto L5;
+case 66:md=r8(a+8);
+nd=kb+1;
+z24(s);
+od=c-nd;
+if(od>1){
+if(lb[2]==95){
+pd=*((u8*)t_84dd+*(b+(i64)nd));
+if(pd<=61){
+qd=3;
+sd=pd+1;
+goto L8;}
+if(od==2)goto L9;}
+else {
+if(od==2)goto L9;}
+if(lb[3]!=95)goto L9;
+td=b+(i64)nd;
+ud=0;
+vd=0;
+xd=0;
+L10:yd=*((u8*)t_84dd+*(td+(i64)xd));
+if(yd>=62)goto L9;
+zd=ud*62+yd;
+if(!vd){
+ud=zd;
+vd=1;
+xd=1;
+goto L10;}
+if(zd==18446744073709551615u)goto L9;
+qd=4;
+sd=zd+1;
+L8:Ad=sd;
+Bd=qd+kb;
+goto L11;}
+L9:any_number_at_3d4(s,b,c,nd);
+if(*s!=1){
+z=0;
+goto L1;}
+Ad=r8(s+8);
+Bd=r8(s+16);
+L11:if(Ad>=0xfffffffffffffffeu){
+z=0;
+goto L1;}
+Cd=Ad+2;
+if(Cd>=r8(a+136)){
+z=0;
+goto L1;}
+Dd=r2(rp(a+128)+(i64)(Cd<<1));
+if(Dd==0){
+z=0;
+goto L1;}
+Ed=(u64)Dd-1;
+if(Ed>=r8(a+96)){
+z=0;
+goto L1;}
+Fd=rp(a+88)+(i64)(Ed*24);
+Gd=Fd[16];
+switch(Gd){
+case 0:case 2:case 3:Hd=q8(Fd);
+Id=q8(Fd+8);
+if(Id<Hd){
+z=0;
+goto L1;}
+if((u8)(a[80]^Fd[17])&1){
+Jd=r8(a+48);
+if(Jd<Id){
+z=0;
+goto L1;}
+Kd=Id-Hd;
+Ld=r8(a+32)-md;
+Md=rp(a+40)+(i64)Hd;
+if(!((Kd>16)|(Jd-Hd<16)||Ld<16)){
+Qd=extend_from_slice_674(a,Md,16);
+if(Qd&1){
+z=0;
+goto L1;}
+Rd=Kd+md;
+if(r8(a+8)<=Rd)goto L12;
+w8(a+8,Rd);
+goto L12;}
+if(Ld<Kd){
+Nd=make_ready_8e3(a,Kd,128);
+if(!(Nd&1)){
+z=0;
+goto L1;}}
+Od=extend_from_slice_674(a,Md,Kd);
+Pd=Od^1;}
+else{
+if(md<Id){
+z=0;
+goto L1;}
+Sd=Id-Hd;
+if((md-Hd>31)&(Sd<33)){
+if(r8(a+32)-md>31){
+z32(r);
+Td=rp(a)+(i64)Hd;
+if(H-(u64)Td<32)copy_bits_4f4(Td,r,32);
+else memcpy(r,Td,32);
+Ud=extend_from_slice_674(a,r,32);
+if(Ud&1)Vd=0;
+else{
+Wd=Sd+md;
+if(r8(a+8)>Wd){
+w8(a+8,Wd);
+Vd=1;}
+else Vd=1;}
+Pd=Vd;
+goto L13;}}
+Xd=repeat_any_4a2(a,Hd,Id);
+Pd=Xd;}
+L13:if(!(Pd&1)){
+z=0;
+goto L1;}
+L12:w8(a+192,Bd);
+if(r8(a+136)<=kb){
+z=0;
+goto L1;}
+Yd=r8(a+96);
+if(Yd>65534){
+z=0;
+goto L1;}
+Zd=r8(a+8);
+ae=a[80];
+if(r8(a+120)>Yd){
+ga=Yd;
+ha=md;
+ia=Zd;
+ja=Gd;
+ka=ae;
+la=Yd;
+ma=kb;
+na=3;
+goto L3;}
+be=make_ready_b73(a+88);
+if(!(be&1)){
+z=0;
+goto L1;}
+pa=md;
+qa=Zd;
+ra=Gd;
+sa=ae;
+ta=Yd;
+ua=kb;
+va=3;
+goto L4;
+case 1:case 4:z=0;
+goto L1;
+default:NEVER;
+}
+break;
+case 65:ce=r8(a+8);
+w8(a+192,kb+1);
+if(r8(a+32)>ce)de=ce;
+else{
+ee=make_ready_8e3(a,1,16);
+if(!(ee&1)){
+z=0;
+goto L1;}
+de=r8(a+8);}
+*(rp(a)+de)=91;
+w8(a+8,de+1);
+fe=r8(a+160);
+if(r8(a+184)>fe)ge=fe;
+else{
+he=make_ready_e3c(a+152);
+if(!(he&1)){
+z=0;
+goto L1;}
+ge=r8(a+160);}
+ie=rp(a+152)+(ge<<5);
+*ie=14;
+ie[1]=0;
+x8(ie+8,kb);
+x8(ie+16,ce);
+ie[24]=0;
+w8(a+160,ge+1);
+Ba=0;
+Ca=0;
+Da=0;
+Ea=1;
+goto L5;
+case 68:je=r8(a+8);
+ke=kb+1;
+if(r8(a+32)-je<4){
+le=make_ready_8e3(a,4,128);
+if(!(le&1)){
+z=0;
+goto L1;}
+me=r8(a+8);}
+else me=je;
+ne=r8(a+16);
+if(ne-me<4){
+oe=grow_amortized_68b(a,4);
+if(!oe){
+z=0;
+goto L1;}
+pe=r8(a+16);
+qe=r8(a+8);}
+else{
+pe=ne;
+qe=me;}
+re=qe+4;
+se=rp(a);
+z16(a+8);
+te=se+(i64)qe;
+if((u64)te-(u64)(u8*)t_f616<4)copy_bits_4f4((u8*)t_f616,te,4);
+else x4(te,544110948);
+wp(a,se);
+w8(a+8,re);
+w8(a+16,pe);
+ue=r8(a+160);
+if(r8(a+184)>ue)ve=ue;
+else{
+we=make_ready_e3c(a+152);
+if(!(we&1)){
+z=0;
+goto L1;}
+ve=r8(a+160);}
+xe=rp(a+152)+(ve<<5);
+*xe=13;
+xe[1]=0;
+x8(xe+8,kb);
+x8(xe+16,je);
+xe[24]=0;
+w8(a+160,ve+1);
+w8(a+192,ke);
+hb=0;
+goto L6;
+case 97:ye=2;
+ze=(u8*)t_4c1d;
+break;
+case 98:ye=4;
+ze=(u8*)t_b760;
+break;
+case 99:ye=4;
+ze=(u8*)t_411b;
+break;
+case 100:ye=3;
+ze=(u8*)t_6a3e;
+break;
+case 101:ye=3;
+ze=(u8*)t_8c25;
+break;
+case 102:ye=3;
+ze=(u8*)t_16b5;
+break;
+case 104:ye=2;
+ze=(u8*)t_c899;
+break;
+case 105:ye=5;
+ze=(u8*)t_db3b;
+break;
+case 106:ye=5;
+ze=(u8*)t_f417;
+break;
+case 108:ye=3;
+ze=(u8*)t_579a;
+break;
+case 109:ye=3;
+ze=(u8*)t_d764;
+break;
+case 110:ye=4;
+ze=(u8*)t_9cf5;
+break;
+case 111:ye=4;
+ze=(u8*)t_fcd0;
+break;
+case 112:ye=1;
+ze=(u8*)t_d2e2;
+break;
+case 115:ye=3;
+ze=(u8*)t_7daa;
+break;
+case 116:ye=3;
+ze=(u8*)t_2988;
+break;
+case 117:ye=2;
+ze=(u8*)t_2e38;
+break;
+case 118:ye=3;
+ze=(u8*)t_ab5d;
+break;
+case 120:ye=3;
+ze=(u8*)t_1a91;
+break;
+case 121:ye=3;
+ze=(u8*)t_1506;
+break;
+case 122:ye=1;
+ze=(u8*)t_bb72;
+break;
+default:z=0;
+goto L1;
+}
+Ae=r8(a+8);
+w8(a+192,kb+1);
+if(r8(a+32)-Ae<ye){
+Be=make_ready_8e3(a,ye,128);
+if(!(Be&1)){
+z=0;
+goto L1;}
+Ce=r8(a+8);}
+else Ce=Ae;
+De=r8(a+16);
+if(ye>De-Ce){
+Ee=grow_amortized_68b(a,ye);
+if(!Ee){
+z=0;
+goto L1;}
+Fe=r8(a+16);
+Ge=r8(a+8);}
+else{
+Fe=De;
+Ge=Ce;}
+He=Ge+ye;
+Ie=rp(a);
+z16(a+8);
+Je=Ie+(i64)Ge;
+if((u64)Je-(u64)ze<ye)copy_bits_4f4(ze,Je,ye);
+else memmove(Je,ze,ye);
+wp(a,Ie);
+w8(a+8,He);
+w8(a+16,Fe);
+if(r8(a+136)<=kb){
+z=0;
+goto L1;}
+Ke=r8(a+96);
+if(Ke>65534){
+z=0;
+goto L1;}
+Le=a[80];
+if(r8(a+120)>Ke){
+ga=Ke;
+ha=Ae;
+ia=He;
+ja=3;
+ka=Le;
+la=Ke;
+ma=kb;
+na=3;
+goto L3;}
+Me=make_ready_b73(a+88);
+if(!(Me&1)){
+z=0;
+goto L1;}
+pa=Ae;
+qa=He;
+ra=3;
+sa=Le;
+ta=Ke;
+ua=kb;
+va=3;
+goto L4;
+L6:Ne=r8(a+192);
+if(Ne<c){
+Oe=hb&1;
+Pe=Ne;
+L14:switch(*(b+Pe)){
+case 78:Qe=Pe+1;
+if(c<=Qe){
+z=0;
+goto L1;}
+Re=*(b+Qe);
+if(*((u8*)t_eb43+Re)==0){
+z=0;
+goto L1;}
+w8(a+192,Pe+2);
+Se=r8(a+160);
+if(r8(a+184)>Se){
+Te=Se;
+Ue=2;
+Ve=Re;
+goto L15;}
+We=make_ready_e3c(a+152);
+if(!(We&1)){
+z=0;
+goto L1;}
+Xe=2;
+Ye=Re;
+break;
+case 73:w8(a+192,Pe+1);
+Ze=r8(a+160);
+if(r8(a+184)>Ze){
+Te=Ze;
+Ue=3;
+Ve=Oe;
+goto L15;}
+af=make_ready_e3c(a+152);
+if(!(af&1)){
+z=0;
+goto L1;}
+Xe=3;
+Ye=Oe;
+break;
+default:bf=Pe;
+goto L16;
+}
+Te=r8(a+160);
+Ue=Xe;
+Ve=Ye;
+L15:cf=rp(a+152)+(Te<<5);
+*cf=Ue;
+cf[1]=Ve;
+x8(cf+8,Pe);
+x8(cf+16,0);
+cf[24]=0;
+w8(a+160,Te+1);
+df=r8(a+192);
+if(df<c){
+Pe=df;
+goto L14;}
+bf=df;}
+else bf=Ne;
+L16:if(bf>=c){
+z=0;
+goto L1;}
+ef=b+(i64)bf;
+switch(*ef){
+case 67:ff=r8(a+8);
+gf=bf+1;
+if(gf<c){
+if(*(b+gf)==115){
+hf=bf+2;
+if(c-hf>=16){
+jf=v16_at(b+hf);
+kf=cttz(v16_ult(v16_add(jf,splat(198)),splat(246))&v16_ult(v16_add(v16_or(jf,splat(32)),splat(133)),splat(230)),16);
+if(kf>=11){
+if(kf!=11)goto L17;
+lf=jf.b[0];
+if(lf==108){
+if((u8)(jf.b[1]-91)>=254)goto L17;}
+else {
+if(!((lf<58)|((u8)(lf-97)<11)))goto L17;}}
+mf=hf+kf;
+if(*(b+mf)==95){
+nf=mf+1;
+goto L18;}}
+L17:of=any_disambiguator_end_f9c(b,c,gf);
+if(of.f0!=1){
+z=0;
+goto L1;}
+nf=of.f1;}
+else nf=gf;}
+else nf=gf;
+L18:if(nf<c){
+pf=*(b+nf);
+if((u8)(pf-58)>=247){
+qf=nf+1;
+if(c>qf){
+rf=*(b+qf);
+if(rf!=95){
+sf=rf-48;
+if(sf<10){
+tf=nf+2;
+if(c<=tf)goto L19;
+if(*((u8*)t_facb+*(b+tf))!=0)goto L19;
+uf=(u64)sf+(u8)((u8)(pf*10)+32);
+if(c-tf<uf)goto L19;
+vf=uf+tf;
+if(!((uf>16)|(vf<16))){
+wf=v16_at(b+(i64)vf-16);
+if((v16_ne(wf,splat(95))&(v16_ult(v16_add(wf,splat(198)),splat(246))&v16_ult(v16_add(v16_or(wf,splat(32)),splat(133)),splat(230))))==0){
+xf=tf;
+yf=vf;
+goto L20;}}
+zf=are_any_name_bytes_0a3(b,tf,vf);
+if(!zf)goto L19;
+xf=tf;
+yf=vf;}
+else{
+Af=pf-48;
+if(c-qf<Af)goto L19;
+Bf=qf+Af;
+if(Bf>=16){
+Cf=v16_at(b+(i64)Bf-16);
+if((v16_ne(Cf,splat(95))&(v16_ult(v16_add(Cf,splat(198)),splat(246))&v16_ult(v16_add(v16_or(Cf,splat(32)),splat(133)),splat(230))))==0){
+xf=qf;
+yf=Bf;
+goto L20;}}
+Df=are_any_name_bytes_0a3(b,qf,Bf);
+if(!Df)goto L19;
+xf=qf;
+yf=Bf;}
+L20:if(yf<=xf){
+z=0;
+goto L1;}
+Ef=yf-xf;
+Ff=r8(a+32)-ff;
+Gf=b+(i64)xf;
+if((c-xf<16)|(Ef>16)||Ff<16){
+if(Ff<Ef){
+Hf=make_ready_8e3(a,Ef,128);
+if(!(Hf&1)){
+z=0;
+goto L1;}}
+If=extend_from_slice_674(a,Gf,Ef);
+if(If&1){
+z=0;
+goto L1;}}
+else{
+Jf=extend_from_slice_674(a,Gf,16);
+if(Jf&1){
+z=0;
+goto L1;}
+Kf=Ef+ff;
+if(r8(a+8)>Kf)w8(a+8,Kf);}
+w8(a+192,yf);
+if(r8(a+136)<=bf){
+z=0;
+goto L1;}
+Lf=r8(a+96);
+if(Lf>65534){
+z=0;
+goto L1;}
+Mf=r8(a+8);
+Nf=a[80];
+if(r8(a+120)>Lf){
+ga=Lf;
+ha=ff;
+ia=Mf;
+ja=0;
+ka=Nf;
+la=Lf;
+ma=bf;
+na=0;
+goto L3;}
+Of=make_ready_b73(a+88);
+if(!(Of&1)){
+z=0;
+goto L1;}
+pa=ff;
+qa=Mf;
+ra=0;
+sa=Nf;
+ta=Lf;
+ua=bf;
+va=0;
+goto L4;}}}}
+L19:Pf=crate_named_anyhow_a78(a,b,c,nf);
+if(!(Pf&1)){
+z=0;
+goto L1;}
+if(r8(a+136)<=bf){
+z=0;
+goto L1;}
+Qf=r8(a+96);
+if(Qf>65534){
+z=0;
+goto L1;}
+Rf=r8(a+8);
+Sf=a[80];
+if(r8(a+120)>Qf){
+ga=Qf;
+ha=ff;
+ia=Rf;
+ja=0;
+ka=Sf;
+la=Qf;
+ma=bf;
+na=0;
+goto L3;}
+Tf=make_ready_b73(a+88);
+if(!(Tf&1)){
+z=0;
+goto L1;}
+pa=ff;
+qa=Rf;
+ra=0;
+sa=Sf;
+ta=Qf;
+ua=bf;
+va=0;
+goto L4;
+case 66:Uf=r8(a+8);
+Vf=bf+1;
+z24(q);
+Wf=c-Vf;
+if(Wf>1){
+if(ef[2]==95){
+Xf=*((u8*)t_84dd+*(b+(i64)Vf));
+if(Xf<=61){
+Yf=3;
+Zf=Xf+1;
+goto L21;}
+if(Wf==2)goto L22;}
+else {
+if(Wf==2)goto L22;}
+if(ef[3]!=95)goto L22;
+ag=b+(i64)Vf;
+bg=0;
+cg=0;
+dg=0;
+L23:eg=*((u8*)t_84dd+*(ag+(i64)dg));
+if(eg>=62)goto L22;
+fg=bg*62+eg;
+if(!cg){
+bg=fg;
+cg=1;
+dg=1;
+goto L23;}
+if(fg==18446744073709551615u)goto L22;
+Yf=4;
+Zf=fg+1;
+L21:gg=Zf;
+hg=Yf+bf;
+goto L24;}
+L22:any_number_at_3d4(q,b,c,Vf);
+if(*q!=1){
+z=0;
+goto L1;}
+gg=r8(q+8);
+hg=r8(q+16);
+L24:if(gg>=0xfffffffffffffffeu){
+z=0;
+goto L1;}
+ig=gg+2;
+if(ig>=r8(a+136)){
+z=0;
+goto L1;}
+jg=r2(rp(a+128)+(i64)(ig<<1));
+if(jg==0){
+z=0;
+goto L1;}
+kg=(u64)jg-1;
+if(kg>=r8(a+96)){
+z=0;
+goto L1;}
+lg=rp(a+88)+(i64)(kg*24);
+mg=q8(lg);
+ng=q8(lg+8);
+og=lg[16];
+if(og>2||ng<mg){
+z=0;
+goto L1;}
+if((u8)(a[80]^lg[17])&1){
+pg=r8(a+48);
+if(pg<ng){
+z=0;
+goto L1;}
+qg=ng-mg;
+rg=r8(a+32)-Uf;
+sg=rp(a+40)+(i64)mg;
+if(!((qg>16)|(pg-mg<16)||rg<16)){
+wg=extend_from_slice_674(a,sg,16);
+if(wg&1){
+z=0;
+goto L1;}
+xg=qg+Uf;
+if(r8(a+8)<=xg)goto L25;
+w8(a+8,xg);
+goto L25;}
+if(rg<qg){
+tg=make_ready_8e3(a,qg,128);
+if(!(tg&1)){
+z=0;
+goto L1;}}
+ug=extend_from_slice_674(a,sg,qg);
+vg=ug^1;}
+else{
+if(Uf<ng){
+z=0;
+goto L1;}
+yg=ng-mg;
+if((Uf-mg>31)&(yg<33)){
+if(r8(a+32)-Uf>31){
+z32(p);
+zg=rp(a)+(i64)mg;
+if(I-(u64)zg<32)copy_bits_4f4(zg,p,32);
+else memcpy(p,zg,32);
+Ag=extend_from_slice_674(a,p,32);
+if(Ag&1)Bg=0;
+else{
+Cg=yg+Uf;
+if(r8(a+8)>Cg){
+w8(a+8,Cg);
+Bg=1;}
+else Bg=1;}
+vg=Bg;
+goto L26;}}
+Dg=repeat_any_4a2(a,mg,ng);
+vg=Dg;}
+L26:if(!(vg&1)){
+z=0;
+goto L1;}
+L25:w8(a+192,hg);
+if(r8(a+136)<=bf){
+z=0;
+goto L1;}
+Eg=r8(a+96);
+if(Eg>65534){
+z=0;
+goto L1;}
+Fg=r8(a+8);
+Gg=a[80];
+if(r8(a+120)>Eg){
+ga=Eg;
+ha=Uf;
+ia=Fg;
+ja=og;
+ka=Gg;
+la=Eg;
+ma=bf;
+na=og;
+goto L3;}
+Hg=make_ready_b73(a+88);
+if(!(Hg&1)){
+z=0;
+goto L1;}
+pa=Uf;
+qa=Fg;
+ra=og;
+sa=Gg;
+ta=Eg;
+ua=bf;
+va=og;
+goto L4;
+case 77:Ig=bf+1;
+if(Ig<c){
+if(*(b+Ig)==115){
+Jg=bf+2;
+if(c-Jg>=16){
+Kg=v16_at(b+Jg);
+Lg=cttz(v16_ult(v16_add(Kg,splat(198)),splat(246))&v16_ult(v16_add(v16_or(Kg,splat(32)),splat(133)),splat(230)),16);
+if(Lg>=11){
+if(Lg!=11)goto L27;
+Mg=Kg.b[0];
+if(Mg==108){
+if((u8)(Kg.b[1]-91)>=254)goto L27;}
+else {
+if(!((Mg<58)|((u8)(Mg-97)<11)))goto L27;}}
+Ng=Jg+Lg;
+if(*(b+Ng)==95){
+Og=Ng+1;
+goto L28;}}
+L27:Pg=any_disambiguator_end_f9c(b,c,Ig);
+if(Pg.f0!=1){
+z=0;
+goto L1;}
+Og=Pg.f1;}
+else Og=Ig;}
+else Og=Ig;
+L28:if(!(a[80]&1)){
+w8(a+192,Og);
+Sg=r8(a+160);
+if(r8(a+184)>Sg)Tg=Sg;
+else{
+Ug=make_ready_e3c(a+152);
+if(!(Ug&1)){
+z=0;
+goto L1;}
+Tg=r8(a+160);}
+Vg=rp(a+152)+(Tg<<5);
+*Vg=5;
+Vg[1]=0;
+x8(Vg+8,bf);
+x8(Vg+16,0);
+Vg[24]=0;
+w8(a+160,Tg+1);
+memcpy(o,a,40);
+memcpy(a,a+40,40);
+memcpy(a+40,o,40);
+a[80]=a[80]^1;
+Ba=0;
+Ca=0;
+Da=0;
+Ea=0;
+goto L5;}
+Qg=begin_inner_impl_daa(a,Og);
+Rg=Qg;
+break;
+case 88:Wg=bf+1;
+if(Wg<c){
+if(*(b+Wg)==115){
+Xg=bf+2;
+if(c-Xg>=16){
+Yg=v16_at(b+Xg);
+Zg=cttz(v16_ult(v16_add(Yg,splat(198)),splat(246))&v16_ult(v16_add(v16_or(Yg,splat(32)),splat(133)),splat(230)),16);
+if(Zg>=11){
+if(Zg!=11)goto L29;
+ah=Yg.b[0];
+if(ah==108){
+if((u8)(Yg.b[1]-91)>=254)goto L29;}
+else {
+if(!((ah<58)|((u8)(ah-97)<11)))goto L29;}}
+bh=Xg+Zg;
+if(*(b+bh)==95){
+ch=bh+1;
+goto L30;}}
+L29:dh=any_disambiguator_end_f9c(b,c,Wg);
+if(dh.f0!=1){
+z=0;
+goto L1;}
+ch=dh.f1;}
+else ch=Wg;}
+else ch=Wg;
+L30:if(!(a[80]&1)){
+w8(a+192,ch);
+fh=r8(a+160);
+if(r8(a+184)>fh)gh=fh;
+else{
+hh=make_ready_e3c(a+152);
+if(!(hh&1)){
+z=0;
+goto L1;}
+gh=r8(a+160);}
+ih=rp(a+152)+(gh<<5);
+*ih=6;
+ih[1]=0;
+x8(ih+8,bf);
+x8(ih+16,0);
+ih[24]=0;
+w8(a+160,gh+1);
+memcpy(n,a,40);
+memcpy(a,a+40,40);
+memcpy(a+40,n,40);
+a[80]=a[80]^1;
+Ba=0;
+Ca=0;
+Da=0;
+Ea=0;
+goto L5;}
+eh=begin_inner_trait_impl_412(a,ch);
+Rg=eh;
+break;
+case 89:jh=r8(a+8);
+kh=bf+1;
+if(r8(a+32)==jh){
+lh=make_ready_8e3(a,1,128);
+if(!(lh&1)){
+z=0;
+goto L1;}}
+mh=extend_from_slice_674(a,(u8*)t_dabd,1);
+if(mh&1){
+z=0;
+goto L1;}
+nh=r8(a+160);
+if(r8(a+184)>nh)oh=nh;
+else{
+ph=make_ready_e3c(a+152);
+if(!(ph&1)){
+z=0;
+goto L1;}
+oh=r8(a+160);}
+qh=rp(a+152)+(oh<<5);
+*qh=10;
+qh[1]=0;
+x8(qh+8,bf);
+x8(qh+16,jh);
+qh[24]=0;
+w8(a+160,oh+1);
+w8(a+192,kh);
+Ba=0;
+Ca=0;
+Da=0;
+Ea=1;
+goto L5;
+default:z=0;
+goto L1;
+}
+if(Rg==0){
+z=0;
+goto L1;}
+Ba=0;
+Ca=0;
+Da=0;
+Ea=0;
+goto L5;
+L4:ga=r8(a+96);
+ha=pa;
+ia=qa;
+ja=ra;
+ka=sa;
+la=ta;
+ma=ua;
+na=va;
+L3:rh=rp(a+88)+ga*24;
+x8(rh,ha);
+x8(rh+8,ia);
+rh[16]=ja;
+rh[17]=ka;
+z6(rh+18);
+w8(a+96,ga+1);
+w2(rp(a+128)+(i64)(ma<<1),(u16)la+1);
+ib=na;
+jb=ha;
+L7:sh=ib<3;
+L31:th=r8(a+160);
+if(th==0){
+z=0;
+goto L1;}
+uh=th-1;
+w8(a+160,uh);
+vh=rp(a+152);
+wh=uh<<5;
+xh=vh+wh;
+yh=xh[1];
+zh=q8(xh+8);
+Ah=q8(xh+16);
+Bh=xh[24];
+switch(*xh){
+case 2:if(yh>=97){
+if(!sh){
+z=0;
+goto L1;}
+Mh=r8(a+192);
+if(Mh<c){
+if(*(b+Mh)==115){
+Nh=Mh+1;
+if(c-Nh>=16){
+Oh=v16_at(b+Nh);
+Ph=cttz(v16_ult(v16_add(Oh,splat(198)),splat(246))&v16_ult(v16_add(v16_or(Oh,splat(32)),splat(133)),splat(230)),16);
+if(Ph>=11){
+if(Ph!=11)goto L32;
+Qh=Oh.b[0];
+if(Qh==108){
+if((u8)(Oh.b[1]-91)>=254)goto L32;}
+else {
+if(!((Qh<58)|((u8)(Qh-97)<11)))goto L32;}}
+Rh=Nh+Ph;
+if(*(b+Rh)==95){
+Sh=Rh+1;
+goto L33;}}
+L32:Th=any_disambiguator_end_f9c(b,c,Mh);
+if(Th.f0!=1){
+z=0;
+goto L1;}
+Sh=Th.f1;}
+else Sh=Mh;}
+else Sh=Mh;
+L33:if(Sh<c){
+Uh=*(b+Sh);
+if((u8)(Uh-58)>=247){
+Vh=Sh+1;
+if(c>Vh){
+Wh=*(b+Vh);
+if(Wh!=95){
+Xh=Wh-48;
+if(Xh<10){
+Yh=Sh+2;
+if(c<=Yh)goto L34;
+if(*((u8*)t_facb+*(b+Yh))!=0)goto L34;
+Zh=(u64)Xh+(u8)((u8)(Uh*10)+32);
+if(c-Yh<Zh)goto L34;
+ai=Zh+Yh;
+if(!((Zh>16)|(ai<16))){
+bi=v16_at(b+(i64)ai-16);
+if((v16_ne(bi,splat(95))&(v16_ult(v16_add(bi,splat(198)),splat(246))&v16_ult(v16_add(v16_or(bi,splat(32)),splat(133)),splat(230))))==0){
+ci=Yh;
+di=ai;
+goto L35;}}
+ei=are_any_name_bytes_0a3(b,Yh,ai);
+if(!ei)goto L34;
+ci=Yh;
+di=ai;}
+else{
+fi=Uh-48;
+if(c-Vh<fi)goto L34;
+gi=Vh+fi;
+if(gi>=16){
+hi=v16_at(b+(i64)gi-16);
+if((v16_ne(hi,splat(95))&(v16_ult(v16_add(hi,splat(198)),splat(246))&v16_ult(v16_add(v16_or(hi,splat(32)),splat(133)),splat(230))))==0){
+ci=Vh;
+di=gi;
+goto L35;}}
+ii=are_any_name_bytes_0a3(b,Vh,gi);
+if(!ii)goto L34;
+ci=Vh;
+di=gi;}
+L35:if(di<=ci){
+z=0;
+goto L1;}
+ji=r8(a+8);
+ki=di-ci;
+li=(c-ci<16)|(ki>16);
+mi=r8(a+32)-ji;
+if(li||mi<18){
+if(mi<2){
+ni=make_ready_8e3(a,2,128);
+if(!(ni&1))goto L36;
+oi=r8(a+8);}
+else oi=ji;
+*(rp(a)+oi)=58;
+*(rp(a)+(i64)oi+1)=58;
+pi=oi+2;
+w8(a+8,pi);
+qi=r8(a+32)-pi;
+ri=b+(i64)ci;
+if(li||qi<16){
+if(qi<ki){
+si=make_ready_8e3(a,ki,128);
+if(!(si&1))goto L36;
+ti=r8(a+8);}
+else ti=pi;
+ui=r8(a+16);
+if(ki>ui-ti){
+vi=grow_amortized_68b(a,ki);
+if(!vi){
+z=0;
+goto L1;}
+wi=r8(a+16);
+xi=r8(a+8);}
+else{
+wi=ui;
+xi=ti;}
+yi=xi+ki;
+zi=rp(a);
+z16(a+8);
+Ai=zi+(i64)xi;
+if((u64)Ai-(u64)ri<ki)copy_bits_4f4(ri,Ai,ki);
+else memmove(Ai,ri,ki);
+wp(a,zi);
+w8(a+8,yi);
+w8(a+16,wi);
+Bi=yi;
+goto L37;}
+Ci=r8(a+16);
+if(Ci-pi<16){
+Di=grow_amortized_68b(a,16);
+if(!Di)goto L36;
+Ei=r8(a+16);
+Fi=r8(a+8);}
+else{
+Ei=Ci;
+Fi=pi;}
+Gi=Fi+16;
+Hi=rp(a);
+z16(a+8);
+Ii=Hi+(i64)Fi;
+if((u64)Ii-(u64)ri<16)copy_bits_4f4(ri,Ii,16);
+else memmove(Ii,ri,16);
+wp(a,Hi);
+w8(a+8,Gi);
+w8(a+16,Ei);
+Ji=pi+ki;
+if(Gi<=Ji){
+Bi=Gi;
+goto L37;}
+Ki=Ji;}
+else{
+z16(m+2);
+*m=58;
+m[1]=58;
+Li=b+(i64)ci;
+if(J-(u64)Li<16){
+copy_bits_4f4(Li,m+2,16);
+Mi=r8(a+8);}
+else{
+memcpy(m+2,Li,16);
+Mi=ji;}
+Ni=r8(a+16);
+if(Ni-Mi<18){
+Oi=grow_amortized_68b(a,18);
+if(!Oi)goto L36;
+Pi=r8(a+16);
+Qi=r8(a+8);}
+else{
+Pi=Ni;
+Qi=Mi;}
+Ri=Qi+18;
+Si=rp(a);
+z16(a+8);
+Ti=Si+(i64)Qi;
+if((u64)Ti-K<18)copy_bits_4f4(m,Ti,18);
+else memcpy(Ti,m,18);
+wp(a,Si);
+w8(a+8,Ri);
+w8(a+16,Pi);
+Ui=ki+2+ji;
+if(Ri<=Ui){
+Bi=Ri;
+goto L37;}
+Ki=Ui;}
+w8(a+8,Ki);
+Bi=Ki;
+goto L37;
+L36:z=0;
+goto L1;
+L37:w8(a+192,di);
+if(di<c){
+if(*(b+di)==48){
+Vi=r8(a+160);
+if(Vi!=0){
+Wi=rp(a+152)+(i64)(Vi<<5);
+if(Wi[-32]==2){
+if(Wi[-31]>96){
+Xi=unnamed_ended_2a9(a,b,c,zh,jb,ib);
+Yi=Xi;
+goto L38;}}}}}
+if(r8(a+136)<=zh){
+z=0;
+goto L1;}
+Zi=r8(a+96);
+if(Zi>65534){
+z=0;
+goto L1;}
+aj=a[80];
+if(r8(a+120)>Zi)bj=Zi;
+else{
+cj=make_ready_b73(a+88);
+if(!(cj&1)){
+z=0;
+goto L1;}
+bj=r8(a+96);}
+dj=rp(a+88)+bj*24;
+x8(dj,jb);
+x8(dj+8,Bi);
+dj[16]=ib;
+dj[17]=aj;
+z6(dj+18);
+w8(a+96,bj+1);
+w2(rp(a+128)+(i64)(zh<<1),(u16)Zi+1);
+Yi=1;
+goto L38;}}}}
+L34:ej=nest_named_anyhow_896(a,b,c,jb,ib,zh,Sh);
+Yi=ej;
+L38:if(Yi&1)goto L31;
+z=0;
+goto L1;}
+z32(g);
+if(sh&(yh>64)){
+switch(yh){
+case 67:special_named_040(g,a,b,c,jb,ib,zh,(u8*)t_6d4c,7);
+break;
+case 83:special_named_040(g,a,b,c,jb,ib,zh,(u8*)t_04e6,4);
+break;
+default:*h=yh;
+special_named_040(g,a,b,c,jb,ib,zh,h,1);
+break;}
+Ch=*g;
+Dh=g[8];
+Eh=g[9];
+Fh=r8(g+16);
+Gh=g[24];}
+else{
+Ch=0;
+Dh=0;
+Eh=0;
+Fh=0;
+Gh=0;}
+Hh=Ch;
+Ih=Dh;
+Jh=Eh;
+Kh=Fh;
+Lh=Gh;
+break;
+case 0:if(ib>=2){
+z=0;
+goto L1;}
+if(a[80]&1){
+z=0;
+goto L1;}
+fj=r8(a+192);
+if(fj<c){
+if((u8)(*(b+fj)-65)<26){
+if(r8(a+184)>uh){
+gj=wh;
+hj=vh;
+ij=th;}
+else{
+jj=make_ready_e3c(a+152);
+if(!(jj&1)){
+z=0;
+goto L1;}
+kj=r8(a+160);
+gj=kj<<5;
+hj=rp(a+152);
+ij=kj+1;}
+lj=hj+gj;
+*lj=1;
+lj[1]=0;
+z17(lj+8);
+w8(a+160,ij);
+memcpy(k,a,40);
+memcpy(a,a+40,40);
+memcpy(a+40,k,40);
+a[80]=a[80]^1;
+Ba=0;
+Ca=0;
+Da=0;
+Ea=0;
+goto L5;}}
+z32(l);
+if(fj==c){
+mj=1;
+nj=4;
+oj=0;
+pj=0;
+qj=0;}
+else{
+push_suffix_a57(l,a,b,c);
+mj=*l;
+nj=l[8];
+oj=l[9];
+pj=r8(l+16);
+qj=l[24];}
+Hh=mj;
+Ih=nj;
+Jh=oj;
+Kh=pj;
+Lh=qj;
+break;
+case 1:if(!sh){
+z=0;
+goto L1;}
+if(!(a[80]&1)){
+z=0;
+goto L1;}
+memcpy(i,a,40);
+memcpy(a,a+40,40);
+memcpy(a+40,i,40);
 a[80]=0;
-if(r8(a+96)!=0)w8(a+96,0);
-h=c&4294967295u;
-w8(a+112,h);
-w8(a+120,umin64(r8(a+104),h));
-if(r8(a+136)!=0)w8(a+136,0);
-if(r8(a+160)!=0)w8(a+160,0);
-w8(a+176,h);
-w8(a+184,umin64(r8(a+168),h));
-i=run_80f(a,b,c,d);
-if(!i){
-if(r8(a+8)!=0)w8(a+8,0);
-z16(a+24);
-if(r8(a+48)!=0)w8(a+48,0);
-z17(a+64);
-if(r8(a+96)!=0)w8(a+96,0);
-z16(a+112);
-if(r8(a+136)!=0)w8(a+136,0);
-if(r8(a+160)!=0)w8(a+160,0);
-z16(a+176);}
-return i;
+z32(j);
+if(r8(a+192)==c){
+rj=1;
+sj=4;
+tj=0;
+uj=0;
+vj=0;}
+else{
+push_suffix_a57(j,a,b,c);
+rj=*j;
+sj=j[8];
+tj=j[9];
+uj=r8(j+16);
+vj=j[24];}
+Hh=rj;
+Ih=sj;
+Jh=tj;
+Kh=uj;
+Lh=vj;
+break;
+case 12:switch(ib){
+case 0:case 2:case 3:wj=r8(a+192);
+if(wj<c){
+if(*(b+wj)==69){
+if(ib==1){
+z=0;
+goto L1;}
+xj=Bh&1;
+w8(a+192,wj+1);
+yj=xj?2:1;
+zj=xj?(u8*)t_b4da:(u8*)t_ba5e;
+Aj=r8(a+8);
+if(r8(a+32)-Aj<yj){
+Bj=make_ready_8e3(a,yj,128);
+if(!(Bj&1)){
+z=0;
+goto L1;}
+Cj=r8(a+8);}
+else Cj=Aj;
+Dj=r8(a+16);
+if(yj>Dj-Cj){
+Ej=grow_amortized_68b(a,yj);
+if(!Ej){
+z=0;
+goto L1;}
+Fj=r8(a+16);
+Gj=r8(a+8);}
+else{
+Fj=Dj;
+Gj=Cj;}
+Hj=Gj+yj;
+Ij=rp(a);
+z16(a+8);
+Jj=Ij+(i64)Gj;
+if((u64)Jj-(u64)zj<yj)copy_bits_4f4(zj,Jj,yj);
+else memcpy(Jj,zj,yj);
+wp(a,Ij);
+w8(a+8,Hj);
+w8(a+16,Fj);
+if(r8(a+136)<=zh){
+z=0;
+goto L1;}
+Kj=r8(a+96);
+if(Kj>65534){
+z=0;
+goto L1;}
+Lj=a[80];
+if(r8(a+120)>Kj)Mj=Kj;
+else{
+Nj=make_ready_b73(a+88);
+if(!(Nj&1)){
+z=0;
+goto L1;}
+Mj=r8(a+96);}
+Oj=rp(a+88)+Mj*24;
+x8(Oj,Ah);
+x8(Oj+8,Hj);
+Oj[16]=3;
+Oj[17]=Lj;
+z6(Oj+18);
+w8(a+96,Mj+1);
+w2(rp(a+128)+(i64)(zh<<1),(u16)Kj+1);
+Ba=3;
+Ca=Ah;
+Da=0;
+Ea=2;
+goto L5;}}
+Pj=r8(a+8);
+if(r8(a+32)-Pj<2){
+Qj=make_ready_8e3(a,2,128);
+if(!(Qj&1)){
+z=0;
+goto L1;}
+Rj=r8(a+8);}
+else Rj=Pj;
+*(rp(a)+Rj)=44;
+*(rp(a)+(i64)Rj+1)=32;
+w8(a+8,Rj+2);
+Sj=r8(a+160);
+if(r8(a+184)>Sj)Tj=Sj;
+else{
+Uj=make_ready_e3c(a+152);
+if(!(Uj&1)){
+z=0;
+goto L1;}
+Tj=r8(a+160);}
+Vj=rp(a+152)+(Tj<<5);
+*Vj=12;
+Vj[1]=0;
+x8(Vj+8,zh);
+x8(Vj+16,Ah);
+Vj[24]=0;
+w8(a+160,Tj+1);
+Ba=0;
+Ca=0;
+Da=0;
+Ea=1;
+goto L5;
+case 1:case 4:z=0;
+goto L1;
+default:NEVER;
+}
+break;
+case 3:Wj=yh&1;
+switch(ib){
+case 0:if(Wj)goto L39;
+break;
+case 1:if(Wj)goto L39;
+z=0;
+goto L1;
+case 2:if(Wj){
+z=0;
+goto L1;}
+break;
+case 3:case 4:z=0;
+goto L1;
+default:NEVER;
+}
+Xj=r8(a+8);
+if(r8(a+32)>Xj)Yj=Xj;
+else{
+Zj=make_ready_8e3(a,1,16);
+if(!(Zj&1)){
+z=0;
+goto L1;}
+Yj=r8(a+8);}
+*(rp(a)+Yj)=60;
+w8(a+8,Yj+1);
+goto L40;
+L39:ak=r8(a+8);
+if(r8(a+32)-ak<3){
+bk=make_ready_8e3(a,3,128);
+if(!(bk&1)){
+z=0;
+goto L1;}
+ck=r8(a+8);}
+else ck=ak;
+dk=r8(a+16);
+if(dk-ck<3){
+ek=grow_amortized_68b(a,3);
+if(!ek){
+z=0;
+goto L1;}
+fk=r8(a+16);
+gk=r8(a+8);}
+else{
+fk=dk;
+gk=ck;}
+hk=gk+3;
+ik=rp(a);
+z16(a+8);
+jk=ik+(i64)gk;
+if((u64)jk-(u64)(u8*)t_c207<3)copy_bits_4f4((u8*)t_c207,jk,3);
+else memcpy(jk,(u8*)t_c207,3);
+wp(a,ik);
+w8(a+8,hk);
+w8(a+16,fk);
+L40:kk=yh&1;
+lk=r8(a+160);
+if(r8(a+184)>lk)mk=lk;
+else{
+nk=make_ready_e3c(a+152);
+if(!(nk&1)){
+z=0;
+goto L1;}
+mk=r8(a+160);}
+ok=rp(a+152)+(mk<<5);
+*ok=4;
+ok[1]=0;
+x8(ok+8,zh);
+x8(ok+16,jb);
+ok[24]=kk;
+w8(a+160,mk+1);
+Ba=0;
+Ca=0;
+Da=1;
+Ea=3;
+goto L5;
+case 4:switch(ib){
+case 0:case 2:case 3:pk=Bh&1;
+if(r8(a+184)>uh){
+qk=wh;
+rk=vh;
+sk=th;}
+else{
+tk=make_ready_e3c(a+152);
+if(!(tk&1)){
+z=0;
+goto L1;}
+uk=r8(a+160);
+qk=uk<<5;
+rk=rp(a+152);
+sk=uk+1;}
+vk=rk+qk;
+*vk=4;
+vk[1]=0;
+x8(vk+8,zh);
+x8(vk+16,Ah);
+vk[24]=pk;
+w8(a+160,sk);
+Ba=0;
+Ca=0;
+Da=0;
+Ea=3;
+goto L5;
+case 1:case 4:z=0;
+goto L1;
+default:NEVER;
+}
+break;
+case 5:if(!sh){
+z=0;
+goto L1;}
+if(!(a[80]&1)){
+z=0;
+goto L1;}
+memcpy(f,a,40);
+memcpy(a,a+40,40);
+memcpy(a+40,f,40);
+a[80]=0;
+wk=r8(a+8);
+if(r8(a+32)>wk)xk=wk;
+else{
+yk=make_ready_8e3(a,1,16);
+if(!(yk&1)){
+z=0;
+goto L1;}
+xk=r8(a+8);}
+*(rp(a)+xk)=60;
+w8(a+8,xk+1);
+zk=r8(a+160);
+if(r8(a+184)>zk)Ak=zk;
+else{
+Bk=make_ready_e3c(a+152);
+if(!(Bk&1)){
+z=0;
+goto L1;}
+Ak=r8(a+160);}
+Ck=rp(a+152)+(Ak<<5);
+*Ck=9;
+Ck[1]=0;
+x8(Ck+8,zh);
+x8(Ck+16,wk);
+Ck[24]=2;
+w8(a+160,Ak+1);
+Ba=0;
+Ca=0;
+Da=0;
+Ea=1;
+goto L5;
+case 9:switch(Bh){
+case 0:switch(ib){
+case 0:case 2:case 3:if(r8(a+136)<=zh){
+z=0;
+goto L1;}
+Dk=r8(a+96);
+if(Dk>65534){
+z=0;
+goto L1;}
+Ek=r8(a+8);
+Fk=a[80];
+if(r8(a+120)>Dk)Gk=Dk;
+else{
+Hk=make_ready_b73(a+88);
+if(!(Hk&1)){
+z=0;
+goto L1;}
+Gk=r8(a+96);}
+Ik=rp(a+88)+Gk*24;
+x8(Ik,Ah);
+x8(Ik+8,Ek);
+Ik[16]=3;
+Ik[17]=Fk;
+z6(Ik+18);
+w8(a+96,Gk+1);
+w2(rp(a+128)+(i64)(zh<<1),(u16)Dk+1);
+Ba=3;
+Ca=Ah;
+Da=0;
+Ea=2;
+goto L5;
+case 1:case 4:z=0;
+goto L1;
+default:NEVER;
+}
+break;
+case 1:switch(ib){
+case 0:case 2:case 3:Jk=r8(a+8);
+if(r8(a+32)>Jk)Kk=Jk;
+else{
+Lk=make_ready_8e3(a,1,16);
+if(!(Lk&1)){
+z=0;
+goto L1;}
+Kk=r8(a+8);}
+*(rp(a)+Kk)=93;
+Mk=Kk+1;
+w8(a+8,Mk);
+if(r8(a+136)<=zh){
+z=0;
+goto L1;}
+Nk=r8(a+96);
+if(Nk>65534){
+z=0;
+goto L1;}
+Ok=a[80];
+if(r8(a+120)>Nk)Pk=Nk;
+else{
+Qk=make_ready_b73(a+88);
+if(!(Qk&1)){
+z=0;
+goto L1;}
+Pk=r8(a+96);}
+Rk=rp(a+88)+Pk*24;
+x8(Rk,Ah);
+x8(Rk+8,Mk);
+Rk[16]=3;
+Rk[17]=Ok;
+z6(Rk+18);
+w8(a+96,Pk+1);
+w2(rp(a+128)+(i64)(zh<<1),(u16)Nk+1);
+Ba=3;
+Ca=Ah;
+Da=0;
+Ea=2;
+goto L5;
+case 1:case 4:z=0;
+goto L1;
+default:NEVER;
+}
+break;
+case 2:switch(ib){
+case 0:case 2:case 3:Sk=r8(a+8);
+if(r8(a+32)>Sk)Tk=Sk;
+else{
+Uk=make_ready_8e3(a,1,16);
+if(!(Uk&1)){
+z=0;
+goto L1;}
+Tk=r8(a+8);}
+*(rp(a)+Tk)=62;
+Vk=Tk+1;
+w8(a+8,Vk);
+if(r8(a+136)<=zh){
+z=0;
+goto L1;}
+Wk=r8(a+96);
+if(Wk>65534){
+z=0;
+goto L1;}
+Xk=a[80];
+if(r8(a+120)>Wk)Yk=Wk;
+else{
+Zk=make_ready_b73(a+88);
+if(!(Zk&1)){
+z=0;
+goto L1;}
+Yk=r8(a+96);}
+al=rp(a+88)+Yk*24;
+x8(al,Ah);
+x8(al+8,Vk);
+al[16]=0;
+al[17]=Xk;
+z6(al+18);
+w8(a+96,Yk+1);
+w2(rp(a+128)+(i64)(zh<<1),(u16)Wk+1);
+Ba=0;
+Ca=Ah;
+Da=0;
+Ea=2;
+goto L5;
+case 1:case 4:z=0;
+goto L1;
+default:NEVER;
+}
+break;
+default:NEVER;
+}
+break;
+case 13:switch(ib){
+case 0:case 2:bl=r8(a+192);
+if(bl<c){
+if(*(b+bl)==69){
+cl=bl+1;
+if(cl>=c){
+z=0;
+goto L1;}
+if(*(b+cl)!=76){
+z=0;
+goto L1;}
+dl=bl+2;
+if(dl>=c){
+z=0;
+goto L1;}
+if(*(b+dl)!=95){
+z=0;
+goto L1;}
+w8(a+192,bl+3);
+if(r8(a+136)<=zh){
+z=0;
+goto L1;}
+el=r8(a+96);
+if(el>65534){
+z=0;
+goto L1;}
+fl=r8(a+8);
+gl=a[80];
+if(r8(a+120)>el)hl=el;
+else{
+il=make_ready_b73(a+88);
+if(!(il&1)){
+z=0;
+goto L1;}
+hl=r8(a+96);}
+jl=rp(a+88)+hl*24;
+x8(jl,Ah);
+x8(jl+8,fl);
+jl[16]=3;
+jl[17]=gl;
+z6(jl+18);
+w8(a+96,hl+1);
+w2(rp(a+128)+(i64)(zh<<1),(u16)el+1);
+Ba=3;
+Ca=Ah;
+Da=0;
+Ea=2;
+goto L5;}}
+kl=r8(a+8);
+if(r8(a+32)-kl<3){
+ll=make_ready_8e3(a,3,128);
+if(!(ll&1)){
+z=0;
+goto L1;}
+ml=r8(a+8);}
+else ml=kl;
+nl=r8(a+16);
+if(nl-ml<3){
+ol=grow_amortized_68b(a,3);
+if(!ol){
+z=0;
+goto L1;}
+pl=r8(a+16);
+ql=r8(a+8);}
+else{
+pl=nl;
+ql=ml;}
+rl=ql+3;
+sl=rp(a);
+z16(a+8);
+tl=sl+(i64)ql;
+if((u64)tl-(u64)(u8*)t_4620<3)copy_bits_4f4((u8*)t_4620,tl,3);
+else memcpy(tl,(u8*)t_4620,3);
+wp(a,sl);
+w8(a+8,rl);
+w8(a+16,pl);
+ul=r8(a+160);
+if(r8(a+184)>ul)vl=ul;
+else{
+wl=make_ready_e3c(a+152);
+if(!(wl&1)){
+z=0;
+goto L1;}
+vl=r8(a+160);}
+xl=rp(a+152)+(vl<<5);
+*xl=13;
+xl[1]=0;
+x8(xl+8,zh);
+x8(xl+16,Ah);
+xl[24]=0;
+w8(a+160,vl+1);
+Ba=0;
+Ca=0;
+Da=0;
+Ea=0;
+goto L5;
+case 1:case 3:case 4:z=0;
+goto L1;
+default:NEVER;
+}
+break;
+case 14:switch(ib){
+case 0:case 2:case 3:yl=r8(a+192);
+zl=r8(a+8);
+if(r8(a+32)-zl<2){
+Al=make_ready_8e3(a,2,128);
+if(!(Al&1)){
+z=0;
+goto L1;}
+Bl=r8(a+8);}
+else Bl=zl;
+*(rp(a)+Bl)=59;
+*(rp(a)+(i64)Bl+1)=32;
+Cl=Bl+2;
+w8(a+8,Cl);
+Dl=constant_at_b72(a,b,c,yl);
+if(Dl.f0!=1){
+z=0;
+goto L1;}
+if(r8(a+136)<=yl){
+z=0;
+goto L1;}
+El=r8(a+96);
+if(El>65534){
+z=0;
+goto L1;}
+Fl=Dl.f1;
+Gl=r8(a+8);
+Hl=a[80];
+if(r8(a+120)>El)Il=El;
+else{
+Jl=make_ready_b73(a+88);
+if(!(Jl&1)){
+z=0;
+goto L1;}
+Il=r8(a+96);}
+Kl=rp(a+88)+Il*24;
+x8(Kl,Cl);
+x8(Kl+8,Gl);
+Kl[16]=4;
+Kl[17]=Hl;
+z6(Kl+18);
+w8(a+96,Il+1);
+w2(rp(a+128)+(i64)(yl<<1),(u16)El+1);
+w8(a+192,Fl);
+Ll=r8(a+8);
+if(r8(a+32)>Ll)Ml=Ll;
+else{
+Nl=make_ready_8e3(a,1,16);
+if(!(Nl&1)){
+z=0;
+goto L1;}
+Ml=r8(a+8);}
+*(rp(a)+Ml)=93;
+Ol=Ml+1;
+w8(a+8,Ol);
+if(r8(a+136)<=zh){
+z=0;
+goto L1;}
+Pl=r8(a+96);
+if(Pl>65534){
+z=0;
+goto L1;}
+Ql=a[80];
+if(r8(a+120)>Pl)Rl=Pl;
+else{
+Sl=make_ready_b73(a+88);
+if(!(Sl&1)){
+z=0;
+goto L1;}
+Rl=r8(a+96);}
+Tl=rp(a+88)+Rl*24;
+x8(Tl,Ah);
+x8(Tl+8,Ol);
+Tl[16]=3;
+Tl[17]=Ql;
+z6(Tl+18);
+w8(a+96,Rl+1);
+w2(rp(a+128)+(i64)(zh<<1),(u16)Pl+1);
+Ba=3;
+Ca=Ah;
+Da=0;
+Ea=2;
+goto L5;
+case 1:case 4:z=0;
+goto L1;
+default:NEVER;
+}
+break;
+case 6:if(!sh){
+z=0;
+goto L1;}
+if(!(a[80]&1)){
+z=0;
+goto L1;}
+memcpy(e,a,40);
+memcpy(a,a+40,40);
+memcpy(a+40,e,40);
+a[80]=0;
+Ul=r8(a+8);
+if(r8(a+32)>Ul)Vl=Ul;
+else{
+Wl=make_ready_8e3(a,1,16);
+if(!(Wl&1)){
+z=0;
+goto L1;}
+Vl=r8(a+8);}
+*(rp(a)+Vl)=60;
+w8(a+8,Vl+1);
+Xl=r8(a+160);
+if(r8(a+184)>Xl)Yl=Xl;
+else{
+Zl=make_ready_e3c(a+152);
+if(!(Zl&1)){
+z=0;
+goto L1;}
+Yl=r8(a+160);}
+am=rp(a+152)+(Yl<<5);
+*am=10;
+am[1]=0;
+x8(am+8,zh);
+x8(am+16,Ul);
+am[24]=0;
+w8(a+160,Yl+1);
+Ba=0;
+Ca=0;
+Da=0;
+Ea=1;
+goto L5;
+case 7:if(!sh){
+z=0;
+goto L1;}
+bm=r8(a+8);
+if(r8(a+32)>bm)cm=bm;
+else{
+dm=make_ready_8e3(a,1,16);
+if(!(dm&1)){
+z=0;
+goto L1;}
+cm=r8(a+8);}
+*(rp(a)+cm)=60;
+w8(a+8,cm+1);
+em=r8(a+160);
+if(r8(a+184)>em)fm=em;
+else{
+gm=make_ready_e3c(a+152);
+if(!(gm&1)){
+z=0;
+goto L1;}
+fm=r8(a+160);}
+hm=rp(a+152)+(fm<<5);
+*hm=9;
+hm[1]=0;
+x8(hm+8,zh);
+x8(hm+16,bm);
+hm[24]=2;
+w8(a+160,fm+1);
+Ba=0;
+Ca=0;
+Da=0;
+Ea=1;
+goto L5;
+case 8:if(!sh){
+z=0;
+goto L1;}
+im=r8(a+8);
+if(r8(a+32)>im)jm=im;
+else{
+km=make_ready_8e3(a,1,16);
+if(!(km&1)){
+z=0;
+goto L1;}
+jm=r8(a+8);}
+*(rp(a)+jm)=60;
+w8(a+8,jm+1);
+lm=r8(a+160);
+if(r8(a+184)>lm)mm=lm;
+else{
+nm=make_ready_e3c(a+152);
+if(!(nm&1)){
+z=0;
+goto L1;}
+mm=r8(a+160);}
+om=rp(a+152)+(mm<<5);
+*om=10;
+om[1]=0;
+x8(om+8,zh);
+x8(om+16,im);
+om[24]=0;
+w8(a+160,mm+1);
+Ba=0;
+Ca=0;
+Da=0;
+Ea=1;
+goto L5;
+case 10:switch(ib){
+case 0:case 2:case 3:pm=r8(a+8);
+if(r8(a+32)-pm<4){
+qm=make_ready_8e3(a,4,128);
+if(!(qm&1)){
+z=0;
+goto L1;}
+rm=r8(a+8);}
+else rm=pm;
+sm=r8(a+16);
+if(sm-rm<4){
+tm=grow_amortized_68b(a,4);
+if(!tm){
+z=0;
+goto L1;}
+um=r8(a+16);
+vm=r8(a+8);}
+else{
+um=sm;
+vm=rm;}
+wm=vm+4;
+xm=rp(a);
+z16(a+8);
+ym=xm+(i64)vm;
+if((u64)ym-(u64)(u8*)t_fa21<4)copy_bits_4f4((u8*)t_fa21,ym,4);
+else x4(ym,544432416);
+wp(a,xm);
+w8(a+8,wm);
+w8(a+16,um);
+zm=r8(a+160);
+if(r8(a+184)>zm)Am=zm;
+else{
+Bm=make_ready_e3c(a+152);
+if(!(Bm&1)){
+z=0;
+goto L1;}
+Am=r8(a+160);}
+Cm=rp(a+152)+(Am<<5);
+*Cm=11;
+Cm[1]=0;
+x8(Cm+8,zh);
+x8(Cm+16,Ah);
+Cm[24]=0;
+w8(a+160,Am+1);
+Ba=0;
+Ca=0;
+Da=0;
+Ea=0;
+goto L5;
+case 1:case 4:z=0;
+goto L1;
+default:NEVER;
+}
+break;
+case 11:switch(ib){
+case 0:case 2:Dm=r8(a+8);
+if(r8(a+32)>Dm)Em=Dm;
+else{
+Fm=make_ready_8e3(a,1,16);
+if(!(Fm&1)){
+z=0;
+goto L1;}
+Em=r8(a+8);}
+*(rp(a)+Em)=62;
+Gm=Em+1;
+w8(a+8,Gm);
+if(r8(a+136)<=zh){
+z=0;
+goto L1;}
+Hm=r8(a+96);
+if(Hm>65534){
+z=0;
+goto L1;}
+Im=a[80];
+if(r8(a+120)>Hm)Jm=Hm;
+else{
+Km=make_ready_b73(a+88);
+if(!(Km&1)){
+z=0;
+goto L1;}
+Jm=r8(a+96);}
+Lm=rp(a+88)+Jm*24;
+x8(Lm,Ah);
+x8(Lm+8,Gm);
+Lm[16]=0;
+Lm[17]=Im;
+z6(Lm+18);
+w8(a+96,Jm+1);
+w2(rp(a+128)+(i64)(zh<<1),(u16)Hm+1);
+Ba=0;
+Ca=Ah;
+Da=0;
+Ea=2;
+goto L5;
+case 1:case 3:case 4:z=0;
+goto L1;
+default:NEVER;
+}
+break;
+default:NEVER;
+}
+if(Hh!=1){
+z=0;
+goto L1;}
+Ba=Lh;
+Ca=Kh;
+Da=Jh;
+Ea=Ih;
+L5:Mm=L+1;
+if(Mm!=G){
+L=Mm;
+M=Ba;
+N=Ca;
+O=Da;
+P=Ea;
+goto L2;}
+z=0;}}
+else z=0;}
+else z=0;}
+else z=0;
+L1:return z;
+}
+
+/* std_alloc::vec::Vec::grow_amortized */
+static COLD u8 grow_amortized_3c2(u8* a,u64 b)
+{
+u64 c,e,f,g,h;
+u8 d;
+s_64_64 i,j,k;
+c=r8(a+8);
+if(b>(c^18446744073709551615u))d=0;
+else{
+e=r8(a+16);
+f=umax64(c+b,4);
+g=umax64(f,e<<1);
+h=e<0x4000000000000000u?g:f;
+if(h<0x4000000000000000u){
+if(e==0){
+i=port_rattle_alloc(g<<1,2);
+if(!(u8)(i.f0&1)){
+d=0;
+goto L1;}
+j=i;}
+else{
+k=port_rattle_realloc(rp(a),c<<1,h<<1,2);
+if(!(u8)(k.f0&1)){
+d=0;
+goto L1;}
+j=k;}
+wp(a,(u8*)j.f1);
+w8(a+16,h);
+d=1;}
+else d=0;}
+L1:return d;
+}
+
+/* sym_direct::bounded::Bounded::make_ready */
+static u8 make_ready_e3c(u8* a)
+{
+u64 b,c,e,f,h,i;
+u8 d,g;
+b=r8(a+24);
+c=r8(a+8);
+if(b==c)d=0;
+else{
+e=umin64(b-c,16);
+f=r8(a+16);
+if(e>f-c){
+g=grow_amortized_12f(a,e);
+if(!g){
+d=0;
+goto L1;}
+h=r8(a+16);
+i=r8(a+24);}
+else{
+h=f;
+i=b;}
+w8(a+32,umin64(h,i));
+d=1;}
+L1:return d;
+}
+
+/* std_alloc::vec::Vec::grow_amortized */
+static COLD u8 grow_amortized_12f(u8* a,u64 b)
+{
+u64 c,e,f,g,h;
+u8 d;
+s_64_64 i,j,k;
+c=r8(a+8);
+if(b>(c^18446744073709551615u))d=0;
+else{
+e=r8(a+16);
+f=umax64(c+b,4);
+g=umax64(f,e<<1);
+h=e<0x4000000000000000u?g:f;
+if(h<0x400000000000000u){
+if(e==0){
+i=port_rattle_alloc(g<<5,8);
+if(!(u8)(i.f0&1)){
+d=0;
+goto L1;}
+j=i;}
+else{
+k=port_rattle_realloc(rp(a),c<<5,h<<5,8);
+if(!(u8)(k.f0&1)){
+d=0;
+goto L1;}
+j=k;}
+wp(a,(u8*)j.f1);
+w8(a+16,h);
+d=1;}
+else d=0;}
+L1:return d;
+}
+
+/* sym_direct::bounded::Bounded::make_ready */
+static u8 make_ready_b73(u8* a)
+{
+u64 b,c,e,f,h,i;
+u8 d,g;
+b=r8(a+24);
+c=r8(a+8);
+if(b==c)d=0;
+else{
+e=umin64(b-c,16);
+f=r8(a+16);
+if(e>f-c){
+g=grow_amortized_bce(a,e);
+if(!g){
+d=0;
+goto L1;}
+h=r8(a+16);
+i=r8(a+24);}
+else{
+h=f;
+i=b;}
+w8(a+32,umin64(h,i));
+d=1;}
+L1:return d;
+}
+
+/* rust_direct::direct::Direct::constant_at */
+static s_8_64 constant_at_b72(u8* a,u8* b,u64 c,u64 d)
+{
+s_8_64 e,i,j,k,w,x;
+u64 f,h,l,m,n,s,t,u;
+u8 g,o,p,q,r,v;
+if(d<c){
+switch(*(b+d)){
+case 104:case 106:case 109:case 111:case 116:case 121:e=integer_at_209(a,b,c,d+1,0);
+f=e.f1;
+g=e.f0;
+break;
+case 97:case 105:case 108:case 110:case 115:case 120:h=d+1;
+if(h<c){
+if(*(b+h)==110){
+i=integer_at_209(a,b,c,d+2,1);
+j=i;
+goto L1;}}
+k=integer_at_209(a,b,c,h,0);
+j=k;
+L1:f=j.f1;
+g=j.f0;
+break;
+case 98:l=d+1;
+m=d+2;
+if(l!=18446744073709551615u&&m<c){
+if(*(b+m)==95){
+n=d+3;
+switch(*(b+l)){
+case 48:if(r8(a+32)-r8(a+8)<5){
+o=make_ready_8e3(a,5,128);
+if(!(o&1))goto L2;}
+p=extend_from_slice_674(a,(u8*)t_fcbc,5);
+if(!(p&1)){
+f=n;
+g=1;
+break;}
+L2:f=0;
+g=0;
+break;
+case 49:if(r8(a+32)-r8(a+8)<4){
+q=make_ready_8e3(a,4,128);
+if(!(q&1))goto L3;}
+r=extend_from_slice_674(a,(u8*)t_b5be,4);
+if(!(r&1)){
+f=n;
+g=1;
+break;}
+L3:f=0;
+g=0;
+break;
+default:f=0;
+g=0;
+break;}}
+else{
+f=0;
+g=0;}}
+else{
+f=0;
+g=0;}
+break;
+case 112:s=d+1;
+t=r8(a+8);
+if(r8(a+32)>t)u=t;
+else{
+v=make_ready_8e3(a,1,16);
+if(!(v&1)){
+f=0;
+g=0;
+break;}
+u=r8(a+8);}
+*(rp(a)+u)=95;
+w8(a+8,u+1);
+f=s;
+g=1;
+break;
+default:f=0;
+g=0;
+break;}}
+else{
+f=0;
+g=0;}
+w=(s_8_64){0};w.f0=g;
+x=w;x.f1=f;
+return x;
+}
+
+/* rust_direct::direct::Direct::integer_at */
+static s_8_64 integer_at_209(u8* a,u8* b,u64 c,u64 d,u8 e)
+{
+u64 f,h,i,j,l,m,n,o,q,r,t,y,B,D,E,G,H,I;
+u8 g,k,v,w,z,C,F,L;
+u8 *p,*A,*J,*K;
+u128 s,u,x;
+s_8_64 M,N;
+if(c<d){
+f=0;
+g=0;}
+else{
+h=umin64(c-d,c+1)+d;
+if(d>=h){
+j=d;
+goto L1;}
+i=d;
+L2:k=*(b+i);
+if(((u8)(k-48)<10)|((u8)(k-97)<6)){
+l=i+1;
+if(l!=h){
+i=l;
+goto L2;}
+j=h;}
+else j=i;
+L1:if(j==c){
+f=0;
+g=0;}
+else{
+if(*(b+j)==95){
+m=d&4294967295u;
+n=j&4294967295u;
+o=n+1;
+p=b+(i64)m;
+q=n-m;
+if(n==m){
+r=0;
+goto L3;}
+s=0;
+t=0;
+L4:if(s>=((u128)0x1000000000000000u<<64|0x0u)){
+f=0;
+g=0;
+goto L5;}
+u=s<<4;
+v=*(p+(i64)t);
+w=(v<58?208:169)+v;
+if(u>(w^((u128)0xffffffffffffffffu<<64|0xffffffffffffffffu))){
+f=0;
+g=0;
+goto L5;}
+x=u+w;
+y=t+1;
+if(y!=q){
+s=x;
+t=y;
+goto L4;}
+if(x>=((u128)0x1u<<64|0x0u)){
+f=0;
+g=0;
+goto L5;}
+r=x;
+L3:z=e&(r!=0);
+A=z?(u8*)t_3973:(u8*)t_z0;
+B=r8(a+8);
+if(r8(a+32)-B<z){
+C=make_ready_8e3(a,z,128);
+if(!(C&1)){
+f=0;
+g=0;
+goto L5;}
+D=r8(a+8);}
+else D=B;
+E=r8(a+16);
+if(E-D<z){
+F=grow_amortized_68b(a,z);
+if(!F){
+f=0;
+g=0;
+goto L5;}
+G=r8(a+16);
+H=r8(a+8);}
+else{
+G=E;
+H=D;}
+I=H+z;
+J=rp(a);
+z16(a+8);
+K=J+(i64)H;
+if((u64)K-(u64)A<z)copy_bits_4f4(A,K,z);
+else memcpy(K,A,z);
+wp(a,J);
+w8(a+8,I);
+w8(a+16,G);
+L=push_decimal_701(a,r);
+f=(L&1)?o:0;
+g=L;}
+else{
+f=0;
+g=0;}}}
+L5:M=(s_8_64){0};M.f0=g;
+N=M;N.f1=f;
+return N;
+}
+
+/* rust_direct::direct::Direct::push_decimal */
+static u8 push_decimal_701(u8* a,u64 b)
+{
+u8 c[40];
+u8 d,g,h,q,u,A,E,K,O,R;
+u64 e,f,i,j,k,l,m,r,v,w,x,G,H,M,N,P,Q,S,T,U;
+u16 n,B,F;
+u8 *o,*p,*s,*t,*y,*z,*C,*D,*I,*J,*L,*V,*W;
+if(b<10){
+d=(u8)b|48;
+e=r8(a+8);
+if(r8(a+32)>e)f=e;
+else{
+g=make_ready_8e3(a,1,16);
+if(!(g&1)){
+h=0;
+goto L1;}
+f=r8(a+8);}
+*(rp(a)+f)=d;
+w8(a+8,f+1);
+h=1;}
+else{
+z40(c);
+if(b<=9999){
+k=40;
+l=b;
+goto L2;}
+i=b;
+j=40;
+L3:m=i/10000;
+n=i%10000;
+o=(u8*)t_bedf+((u64)(n%100)<<1);
+p=c+(i64)j;
+q=o[1];
+p[-2]=*o;
+p[-1]=q;
+r=j-4;
+s=(u8*)t_bedf+((u64)(n/100)<<1);
+t=c+r;
+u=s[1];
+*t=*s;
+t[1]=u;
+if(i>99999999){
+i=m;
+j=r;
+goto L3;}
+k=r;
+l=m;
+L2:if(l<100){
+if(l<10){
+v=k-1;
+*(c+v)=(u8)l|48;
+w=v;}
+else{
+x=k-2;
+y=(u8*)t_bedf+(l<<1);
+z=c+x;
+A=y[1];
+*z=*y;
+z[1]=A;
+w=x;}}
+else{
+B=l;
+C=(u8*)t_bedf+((u64)(B%100)<<1);
+D=c+(i64)k;
+E=C[1];
+D[-2]=*C;
+D[-1]=E;
+F=B/100;
+if(l<1000){
+G=k-3;
+*(c+G)=(u8)F|48;
+w=G;}
+else{
+H=k-4;
+I=(u8*)t_bedf+((u64)F<<1);
+J=c+H;
+K=I[1];
+*J=*I;
+J[1]=K;
+w=H;}}
+L=c+(i64)w;
+M=40-w;
+N=r8(a+8);
+if(r8(a+32)-N<M){
+O=make_ready_8e3(a,M,128);
+if(!(O&1)){
+h=0;
+goto L1;}
+P=r8(a+8);}
+else P=N;
+Q=r8(a+16);
+if(M>Q-P){
+R=grow_amortized_68b(a,M);
+if(!R){
+h=0;
+goto L1;}
+S=r8(a+16);
+T=r8(a+8);}
+else{
+S=Q;
+T=P;}
+U=T+M;
+V=rp(a);
+z16(a+8);
+W=V+(i64)T;
+if((u64)W-(u64)L<M)copy_bits_4f4(L,W,M);
+else memcpy(W,L,M);
+wp(a,V);
+w8(a+8,U);
+w8(a+16,S);
+h=1;}
+L1:return h;
+}
+
+/* rust_direct::tokens::any_number_at */
+static void any_number_at_3d4(u8* a,u8* b,u64 c,u64 d)
+{
+u64 e,f,g,h,i,j,k,l,n,o,p,q,r,t,u,v,x,y,z;
+u8 *m;
+u8 s,w;
+if(c<d)z24(a);
+else{
+e=umin64(c-d,11)+d;
+if(d>=e){
+g=d;
+goto L1;}
+f=d;
+L2:if(*((u8*)t_84dd+*(b+f))<62){
+h=f+1;
+if(h!=e){
+f=h;
+goto L2;}
+g=e;}
+else g=f;
+L1:if(g!=c){
+if(*(b+g)==95){
+i=d&4294967295u;
+j=g&4294967295u;
+k=j+1;
+if(j!=i){
+m=b+(i64)i;
+n=j-i;
+if(n>10){
+o=0;
+p=0;
+goto L3;}
+q=0;
+r=0;
+L4:s=*((u8*)t_84dd+*(m+(i64)r));
+if(s>=62)goto L5;
+t=q*62+s;
+u=r+1;
+if(u==n){
+v=t;
+goto L6;}
+q=t;
+r=u;
+goto L4;
+L3:w=*((u8*)t_84dd+*(m+(i64)p));
+if(!((o<0x421084210842109u)&(w<62)))goto L5;
+x=o*62;
+if(x>(w^18446744073709551615u))goto L5;
+y=x+w;
+z=p+1;
+if(z!=n){
+o=y;
+p=z;
+goto L3;}
+v=y;
+L6:if(v!=18446744073709551615u){
+l=v+1;
+goto L7;}
+L5:z24(a);
+goto L8;}
+l=0;
+L7:x8(a,1);
+x8(a+8,l);
+x8(a+16,k);
+goto L8;}}
+z24(a);}
+L8:return;
+}
+
+/* rust_direct::hashes::any_disambiguator_end */
+static s_8_64 any_disambiguator_end_f9c(u8* a,u64 b,u64 c)
+{
+A16 u8 d[24];
+u8 *e,*k;
+u64 f,g,i,j,l,n,p,q,r,s;
+u8 h,m,o,t;
+s_8_64 u,v;
+if(c<b){
+e=a+(i64)c;
+if(*e==115){
+f=c+1;
+z24(d);
+g=b-f;
+if(g>1){
+if(e[2]==95){
+h=*((u8*)t_84dd+*(a+(i64)f));
+if(h<=61){
+i=3;
+j=h+1;
+goto L1;}
+if(g==2)goto L2;}
+else {
+if(g==2)goto L2;}
+if(e[3]!=95)goto L2;
+k=a+(i64)f;
+l=0;
+m=0;
+n=0;
+L3:o=*((u8*)t_84dd+*(k+(i64)n));
+if(o>=62)goto L2;
+p=l*62+o;
+if(!m){
+l=p;
+m=1;
+n=1;
+goto L3;}
+if(p==18446744073709551615u)goto L2;
+i=4;
+j=p+1;
+L1:q=j;
+r=i+c;
+goto L4;}
+L2:any_number_at_3d4(d,a,b,f);
+if(*d!=1)goto L5;
+q=r8(d+8);
+r=r8(d+16);
+L4:if(q!=18446744073709551615u){
+s=r;
+t=1;
+goto L6;}
+L5:s=0;
+t=0;}
+else{
+s=c;
+t=1;}}
+else{
+s=c;
+t=1;}
+L6:u=(s_8_64){0};u.f0=t;
+v=u;v.f1=s;
+return v;
+}
+
+/* rust_direct::names::are_any_name_bytes */
+static u8 are_any_name_bytes_0a3(u8* a,u64 b,u64 c)
+{
+u64 d,f,g,h,i,j,o,p,r,s,u;
+v16 e,k,l;
+u8 m,t;
+u8 *n,*q;
+d=c-b;
+if(d>15){
+e=v16_at(a+b);
+if((v16_ne(e,splat(95))&(v16_ult(v16_add(e,splat(198)),splat(246))&v16_ult(v16_add(v16_or(e,splat(32)),splat(133)),splat(230))))!=0){
+g=b;
+h=d;
+goto L1;}
+f=b;
+L2:i=f+16;
+j=c-i;
+if(j>15){
+k=v16_at(a+i);
+if((v16_ne(k,splat(95))&(v16_ult(v16_add(k,splat(198)),splat(246))&v16_ult(v16_add(v16_or(k,splat(32)),splat(133)),splat(230))))==0){
+f=i;
+goto L2;}
+g=i;
+h=j;}
+else{
+g=i;
+h=j;}}
+else{
+g=b;
+h=d;}
+L1:if(!((c<16)|(h>16))){
+l=v16_at(a+(i64)c-16);
+if((v16_ne(l,splat(95))&(v16_ult(v16_add(l,splat(198)),splat(246))&v16_ult(v16_add(v16_or(l,splat(32)),splat(133)),splat(230))))==0){
+m=1;
+goto L3;}}
+n=a+(i64)g;
+if(h<=3){
+p=0;
+goto L4;}
+o=0;
+L5:q=n+o;
+if((u8)((u8)(*((u8*)t_4efc+q[1])+*((u8*)t_4efc+*q))+*((u8*)t_4efc+q[2]))==(u8)(0-*((u8*)t_4efc+q[3]))){
+r=o+4;
+if(h-r>3){
+o=r;
+goto L5;}
+p=r;}
+else p=o;
+L4:if(p>=h){
+m=1;
+goto L3;}
+s=p;
+L6:t=*((u8*)t_4efc+*(n+s))==0;
+u=s+1;
+if((u!=h)&t){
+s=u;
+goto L6;}
+m=t;
+L3:return m;
+}
+
+/* rust_direct::direct::Direct::crate_named_anyhow */
+static u8 crate_named_anyhow_a78(u8* a,u8* b,u64 c,u64 d)
+{
+A16 u8 e[12];
+u64 f,g,h,i,j,k,n,p,r,s,t,w,y,z,A,D;
+u8 *l,*u,*v,*B,*C;
+u8 m,o,q,x;
+z12(e);
+any_name_span_9bc(e,b,c,d);
+if(*e==1){
+f=q8(e+4);
+g=f>>32;
+h=f&4294967295u;
+if(g>h){
+i=r8(a+8);
+j=g-h;
+k=r8(a+32)-i;
+l=b+(i64)h;
+if((j>16)|(c-h<16)||k<16){
+if(k<j){
+m=make_ready_8e3(a,j,128);
+if(!(m&1)){
+o=0;
+goto L1;}
+n=r8(a+8);}
+else n=i;
+p=r8(a+16);
+if(j>p-n){
+q=grow_amortized_68b(a,j);
+if(!q){
+o=0;
+goto L1;}
+r=r8(a+16);
+s=r8(a+8);}
+else{
+r=p;
+s=n;}
+t=s+j;
+u=rp(a);
+z16(a+8);
+v=u+(i64)s;
+if((u64)v-(u64)l<j)copy_bits_4f4(l,v,j);
+else memmove(v,l,j);
+wp(a,u);
+w8(a+8,t);
+w8(a+16,r);}
+else{
+w=r8(a+16);
+if(w-i<16){
+x=grow_amortized_68b(a,16);
+if(!x){
+o=0;
+goto L1;}
+y=r8(a+16);
+z=r8(a+8);}
+else{
+y=w;
+z=i;}
+A=z+16;
+B=rp(a);
+z16(a+8);
+C=B+(i64)z;
+if((u64)C-(u64)l<16)copy_bits_4f4(l,C,16);
+else memmove(C,l,16);
+wp(a,B);
+w8(a+8,A);
+w8(a+16,y);
+D=i+j;
+if(A>D)w8(a+8,D);}
+w8(a+192,g);
+o=1;}
+else o=0;}
+else o=0;
+L1:return o;
+}
+
+/* rust_direct::names::any_name_span */
+static void any_name_span_9bc(u8* a,u8* b,u64 c,u64 d)
+{
+u32 e,j,l,n;
+u64 f,g,h,i,m,o,p,s,t,u,w,x,y,A,B,C,D;
+u8 k,v;
+u8 *q,*r,*z;
+if(c<d){
+e=0;
+f=0;}
+else{
+if(d<c){
+if(*(b+d)==48){
+g=1;
+goto L1;}}
+g=9;
+L1:h=umin64(c-d,g)+d;
+if(d>=h){
+e=0;
+f=0;
+goto L2;}
+i=d;
+j=0;
+L3:k=*(b+i)-48;
+if(k<10){
+l=j*10+k;
+m=i+1;
+if(m!=h){
+i=m;
+j=l;
+goto L3;}
+n=l;
+o=h;}
+else{
+n=j;
+o=i;}
+if(d<o){
+p=o&4294967295u;
+q=b+(i64)p;
+if(c==p){
+r=q;
+s=0;
+t=c;}
+else{
+u=c-p;
+v=*q;
+if(v==95){
+r=q+1;
+s=u-1;
+t=p+1;}
+else{
+if((n!=0)&((u8)(v-48)<10)){
+e=0;
+f=0;
+goto L2;}
+r=q;
+s=u;
+t=p;}}
+w=umin64(s,n);
+if(w<=3){
+y=0;
+goto L4;}
+x=0;
+L5:z=r+x;
+if(*((u8*)t_fd87+*z)==49){
+if(*((u8*)t_fd87+z[1])==49){
+if(*((u8*)t_fd87+z[2])==49){
+if(*((u8*)t_fd87+z[3])==49){
+A=x+4;
+if(w-A>3){
+x=A;
+goto L5;}
+y=A;}
+else y=x;}
+else y=x;}
+else y=x;}
+else y=x;
+L4:if(y>=w){
+C=y;
+goto L6;}
+B=y;
+L7:if(*((u8*)t_fd87+*(r+B))==49){
+D=B+1;
+if(D!=w){
+B=D;
+goto L7;}
+C=w;}
+else C=B;
+L6:if(C<n){
+e=0;
+f=0;}
+else{
+e=1;
+f=((C+t)<<32)|(t&4294967295u);}}
+else{
+e=0;
+f=0;}}
+L2:x4(a,e);
+x8(a+4,f);
+return;
+}
+
+/* rust_direct::direct::Direct::begin_inner_impl */
+static u8 begin_inner_impl_daa(u8* a,u64 b)
+{
+u8 *c,*i,*l;
+u64 d,f,g,h,j;
+u8 e,k;
+c=rp(a+152);
+d=r8(a+160);
+if(d==0){
+e=0;
+goto L1;}
+f=d;
+L2:g=f-1;
+switch(*(c+(i64)(g<<5))){
+case 2:case 3:if(g!=0){
+f=g;
+goto L2;}
+e=0;
+break;
+case 1:case 5:case 6:case 7:case 8:h=r8(a+192);
+if(r8(a+184)>d){
+i=c;
+j=d;}
+else{
+k=make_ready_e3c(a+152);
+if(!(k&1)){
+e=0;
+break;}
+i=rp(a+152);
+j=r8(a+160);}
+l=i+(j<<5);
+*l=7;
+l[1]=0;
+x8(l+8,h);
+x8(l+16,0);
+l[24]=0;
+w8(a+160,j+1);
+w8(a+192,b);
+e=1;
+break;
+case 0:case 4:case 9:case 10:case 11:case 12:case 13:case 14:e=0;
+break;
+default:NEVER;
+}
+L1:return e;
+}
+
+/* rust_direct::direct::Direct::begin_inner_trait_impl */
+static u8 begin_inner_trait_impl_412(u8* a,u64 b)
+{
+u8 *c,*i,*l;
+u64 d,f,g,h,j;
+u8 e,k;
+c=rp(a+152);
+d=r8(a+160);
+if(d==0){
+e=0;
+goto L1;}
+f=d;
+L2:g=f-1;
+switch(*(c+(i64)(g<<5))){
+case 2:case 3:if(g!=0){
+f=g;
+goto L2;}
+e=0;
+break;
+case 1:case 5:case 6:case 7:case 8:h=r8(a+192);
+if(r8(a+184)>d){
+i=c;
+j=d;}
+else{
+k=make_ready_e3c(a+152);
+if(!(k&1)){
+e=0;
+break;}
+i=rp(a+152);
+j=r8(a+160);}
+l=i+(j<<5);
+*l=8;
+l[1]=0;
+x8(l+8,h);
+x8(l+16,0);
+l[24]=0;
+w8(a+160,j+1);
+w8(a+192,b);
+e=1;
+break;
+case 0:case 4:case 9:case 10:case 11:case 12:case 13:case 14:e=0;
+break;
+default:NEVER;
+}
+L1:return e;
+}
+
+/* rust_direct::direct::Direct::unnamed_ended */
+static u8 unnamed_ended_2a9(u8* a,u8* b,u64 c,u64 d,u64 e,u8 f)
+{
+A16 u8 g[12];
+u64 h,j,l,o,p,r,s,u,x,y,z,B,C,F,I,J,K,M;
+u8 i,k,m,t,v,w,D,E,H,L,N;
+u8 *n,*q,*O;
+v16 A,G;
+if(r8(a+136)>d){
+h=r8(a+96);
+if(h>65534)i=0;
+else{
+j=r8(a+8);
+k=a[80];
+if(r8(a+120)>h)l=h;
+else{
+m=make_ready_b73(a+88);
+if(!(m&1)){
+i=0;
+goto L1;}
+l=r8(a+96);}
+n=rp(a+88)+l*24;
+x8(n,e);
+x8(n+8,j);
+n[16]=f;
+n[17]=k;
+z6(n+18);
+w8(a+96,l+1);
+w2(rp(a+128)+(i64)(d<<1),(u16)h+1);
+o=r8(a+160);
+if(o==0)i=0;
+else{
+p=o-1;
+w8(a+160,p);
+q=rp(a+152)+(p<<5);
+if(*q!=2||q[1]<97)i=0;
+else{
+r=q8(q+8);
+s=r8(a+192);
+if(s<c){
+t=*(b+s);
+if((u8)(t-58)>=247){
+u=s+1;
+if(c>u){
+v=*(b+u);
+if(v!=95){
+w=v-48;
+if(w<10){
+x=s+2;
+if(c>x){
+if(*((u8*)t_facb+*(b+x))==0){
+y=(u64)w+(u8)((u8)(t*10)+32);
+if(c-x>=y){
+z=y+x;
+if(!((y>16)|(z<16))){
+A=v16_at(b+(i64)z-16);
+if((v16_ne(A,splat(95))&(v16_ult(v16_add(A,splat(198)),splat(246))&v16_ult(v16_add(v16_or(A,splat(32)),splat(133)),splat(230))))==0){
+B=x;
+C=z;
+goto L2;}}
+D=are_any_name_bytes_0a3(b,x,z);
+if(D){
+B=x;
+C=z;
+goto L2;}}}}}
+else{
+E=t-48;
+if(c-u>=E){
+F=u+E;
+if(F>=16){
+G=v16_at(b+(i64)F-16);
+if((v16_ne(G,splat(95))&(v16_ult(v16_add(G,splat(198)),splat(246))&v16_ult(v16_add(v16_or(G,splat(32)),splat(133)),splat(230))))==0){
+B=u;
+C=F;
+goto L2;}}
+H=are_any_name_bytes_0a3(b,u,F);
+if(H){
+B=u;
+C=F;
+goto L2;}}}}}}}
+z12(g);
+any_name_span_9bc(g,b,c,s);
+if(*g!=1){
+i=0;
+goto L1;}
+I=q8(g+4);
+B=I&4294967295u;
+C=I>>32;
+L2:if(B<C)i=0;
+else{
+w8(a+192,C);
+if(r8(a+136)>r){
+J=r8(a+96);
+if(J>65534)i=0;
+else{
+K=r8(a+8);
+L=a[80];
+if(r8(a+120)>J)M=J;
+else{
+N=make_ready_b73(a+88);
+if(!(N&1)){
+i=0;
+goto L1;}
+M=r8(a+96);}
+O=rp(a+88)+M*24;
+x8(O,e);
+x8(O+8,K);
+O[16]=f;
+O[17]=L;
+z6(O+18);
+w8(a+96,M+1);
+w2(rp(a+128)+(i64)(r<<1),(u16)J+1);
+i=1;}}
+else i=0;}}}}}
+else i=0;
+L1:return i;
+}
+
+/* rust_direct::direct::Direct::nest_named_anyhow */
+static u8 nest_named_anyhow_896(u8* a,u8* b,u64 c,u64 d,u8 e,u64 f,u64 g)
+{
+u8 h[18];
+A16 u8 i[12];
+u64 j,k,l,m,n,p,r,s,t,w,x,z,A,C,F,G,I,J,K,N,O,Q,R,T,U,V,Y,Z,ca,ea;
+u8 o,q,v,y,B,H,S,ba,da,fa;
+u8 *u,*D,*E,*L,*M,*P,*W,*X,*aa,*ga;
+z12(i);
+any_name_span_9bc(i,b,c,g);
+if(*i==1){
+j=q8(i+4);
+k=j>>32;
+l=j&4294967295u;
+if(k>l){
+m=r8(a+8);
+n=k-l;
+o=(n>16)|(c-l<16);
+p=r8(a+32)-m;
+if(o||p<18){
+if(p<2){
+q=make_ready_8e3(a,2,128);
+if(!(q&1))goto L1;
+r=r8(a+8);}
+else r=m;
+*(rp(a)+r)=58;
+*(rp(a)+(i64)r+1)=58;
+s=r+2;
+w8(a+8,s);
+t=r8(a+32)-s;
+u=b+(i64)l;
+if(o||t<16){
+if(t<n){
+v=make_ready_8e3(a,n,128);
+if(!(v&1))goto L1;
+w=r8(a+8);}
+else w=s;
+x=r8(a+16);
+if(n>x-w){
+y=grow_amortized_68b(a,n);
+if(!y){
+B=0;
+goto L2;}
+z=r8(a+16);
+A=r8(a+8);}
+else{
+z=x;
+A=w;}
+C=A+n;
+D=rp(a);
+z16(a+8);
+E=D+(i64)A;
+if((u64)E-(u64)u<n)copy_bits_4f4(u,E,n);
+else memmove(E,u,n);
+wp(a,D);
+w8(a+8,C);
+w8(a+16,z);
+F=C;
+goto L3;}
+G=r8(a+16);
+if(G-s<16){
+H=grow_amortized_68b(a,16);
+if(!H)goto L1;
+I=r8(a+16);
+J=r8(a+8);}
+else{
+I=G;
+J=s;}
+K=J+16;
+L=rp(a);
+z16(a+8);
+M=L+(i64)J;
+if((u64)M-(u64)u<16)copy_bits_4f4(u,M,16);
+else memmove(M,u,16);
+wp(a,L);
+w8(a+8,K);
+w8(a+16,I);
+N=s+n;
+if(K<=N){
+F=K;
+goto L3;}
+O=N;}
+else{
+z16(h+2);
+*h=58;
+h[1]=58;
+P=b+(i64)l;
+if((u64)(h+2)-(u64)P<16){
+copy_bits_4f4(P,h+2,16);
+Q=r8(a+8);}
+else{
+memcpy(h+2,P,16);
+Q=m;}
+R=r8(a+16);
+if(R-Q<18){
+S=grow_amortized_68b(a,18);
+if(!S)goto L1;
+T=r8(a+16);
+U=r8(a+8);}
+else{
+T=R;
+U=Q;}
+V=U+18;
+W=rp(a);
+z16(a+8);
+X=W+(i64)U;
+if((u64)X-(u64)h<18)copy_bits_4f4(h,X,18);
+else memcpy(X,h,18);
+wp(a,W);
+w8(a+8,V);
+w8(a+16,T);
+Y=n+2+m;
+if(V<=Y){
+F=V;
+goto L3;}
+O=Y;}
+w8(a+8,O);
+F=O;
+goto L3;
+L1:B=0;
+goto L2;
+L3:w8(a+192,k);
+if(k<c){
+if(*(b+k)==48){
+Z=r8(a+160);
+if(Z!=0){
+aa=rp(a+152)+(i64)(Z<<5);
+if(aa[-32]==2){
+if(aa[-31]>96){
+ba=unnamed_ended_2a9(a,b,c,f,d,e);
+B=ba;
+goto L2;}}}}}
+if(r8(a+136)>f){
+ca=r8(a+96);
+if(ca>65534)B=0;
+else{
+da=a[80];
+if(r8(a+120)>ca)ea=ca;
+else{
+fa=make_ready_b73(a+88);
+if(!(fa&1)){
+B=0;
+goto L2;}
+ea=r8(a+96);}
+ga=rp(a+88)+ea*24;
+x8(ga,d);
+x8(ga+8,F);
+ga[16]=e;
+ga[17]=da;
+z6(ga+18);
+w8(a+96,ea+1);
+w2(rp(a+128)+(i64)(f<<1),(u16)ca+1);
+B=1;}}
+else B=0;}
+else B=0;}
+else B=0;
+L2:return B;
+}
+
+/* rust_direct::direct::Direct::push_suffix */
+static void push_suffix_a57(u8* a,u8* b,u8* c,u64 d)
+{
+u64 e,g,h,l,m,o,q,r,t,u,v,z,A,C,D,E,I,J,L,M,N;
+u8 *f,*j,*k,*w,*x,*F,*G,*O,*P;
+u8 i,n,p,s,y,B,H,K;
+e=r8(b+192);
+if(d>e){
+f=c+(i64)e;
+g=usub64(d,e);
+if(g==1||*f!=46){
+h=0;
+i=0;}
+else{
+j=f;
+k=f;
+l=g-1;
+L1:m=l-1;
+n=k[1];
+switch(n){
+case 36:case 46:case 95:break;
+default:if(n<48){
+h=0;
+i=0;
+goto L2;}
+if(n>=58){
+if(n<65){
+h=0;
+i=0;
+goto L2;}
+if(!((n<91)|((u8)(n-97)<26))){
+h=0;
+i=0;
+goto L2;}}
+break;}
+if(m!=0){
+k=k+1;
+l=m;
+goto L1;}
+o=r8(b+8);
+if(r8(b+32)-o<2){
+p=make_ready_8e3(b,2,128);
+if(!(p&1)){
+h=0;
+i=0;
+goto L2;}
+q=r8(b+8);}
+else q=o;
+r=r8(b+16);
+if(r-q<2){
+s=grow_amortized_68b(b,2);
+if(!s){
+h=0;
+i=0;
+goto L2;}
+t=r8(b+16);
+u=r8(b+8);}
+else{
+t=r;
+u=q;}
+v=u+2;
+w=rp(b);
+z16(b+8);
+x=w+(i64)u;
+if((u64)x-(u64)(u8*)t_4f5a<2)copy_bits_4f4((u8*)t_4f5a,x,2);
+else x2(x,10272);
+wp(b,w);
+w8(b+8,v);
+w8(b+16,t);
+if(r8(b+32)-v<g){
+y=make_ready_8e3(b,g,128);
+if(!(y&1)){
+h=0;
+i=0;
+goto L2;}
+z=r8(b+8);
+A=r8(b+16);}
+else{
+z=v;
+A=t;}
+if(g>A-z){
+B=grow_amortized_68b(b,g);
+if(!B){
+h=0;
+i=0;
+goto L2;}
+C=r8(b+16);
+D=r8(b+8);}
+else{
+C=A;
+D=z;}
+E=D+g;
+F=rp(b);
+z16(b+8);
+G=F+(i64)D;
+if((u64)G-(u64)j<g)copy_bits_4f4(j,G,g);
+else memmove(G,j,g);
+wp(b,F);
+w8(b+8,E);
+w8(b+16,C);
+if(r8(b+32)==E){
+H=make_ready_8e3(b,1,128);
+if(!(H&1)){
+h=0;
+i=0;
+goto L2;}
+I=r8(b+8);
+J=r8(b+16);}
+else{
+I=E;
+J=C;}
+if(J==I){
+K=grow_amortized_68b(b,1);
+if(!K){
+h=0;
+i=0;
+goto L2;}
+L=r8(b+16);
+M=r8(b+8);}
+else{
+L=J;
+M=I;}
+N=M+1;
+O=rp(b);
+z16(b+8);
+P=O+(i64)M;
+if((u64)P==(u64)(u8*)t_ba5e)copy_bits_4f4((u8*)t_ba5e,P,1);
+else *P=41;
+wp(b,O);
+w8(b+8,N);
+w8(b+16,L);
+h=1;
+i=4;}}
+else{
+h=0;
+i=0;}
+L2:x8(a,h);
+a[8]=i;
+a[9]=0;
+x8(a+16,0);
+a[24]=0;
+return;
+}
+
+/* rust_direct::direct::Direct::special_named */
+static void special_named_040(u8* a,u8* b,u8* c,u64 d,u64 e,u8 f,u64 g,u8* h,u64 i)
+{
+A16 u8 j[12],k[24];
+u64 l,n,o,q,r,t,v,x,y,z,A,C,E,F,H,I,J,K,N,O,P,T,W,Y,Z,ba;
+u8 *m,*s,*da;
+u8 p,u,w,B,D,G,L,M,R,S,V,X,aa,ca;
+v16 Q,U;
+l=r8(b+192);
+if(l<d){
+m=c+(i64)l;
+if(*m==115){
+n=l+1;
+z24(k);
+o=d-n;
+if(o>1){
+if(m[2]==95){
+p=*((u8*)t_84dd+*(c+(i64)n));
+if(p<=61){
+q=3;
+r=p+1;
+goto L1;}
+if(o==2)goto L2;}
+else {
+if(o==2)goto L2;}
+if(m[3]!=95)goto L2;
+s=c+(i64)n;
+t=0;
+u=0;
+v=0;
+L3:w=*((u8*)t_84dd+*(s+(i64)v));
+if(w>=62)goto L2;
+x=t*62+w;
+if(!u){
+t=x;
+u=1;
+v=1;
+goto L3;}
+if(x==18446744073709551615u)goto L2;
+q=4;
+r=x+1;
+L1:y=r;
+z=q+l;
+goto L4;}
+L2:any_number_at_3d4(k,c,d,n);
+if(*k!=1){
+A=0;
+B=0;
+C=0;
+D=0;
+goto L5;}
+y=r8(k+8);
+z=r8(k+16);
+L4:if(y==18446744073709551615u){
+A=0;
+B=0;
+C=0;
+D=0;
+goto L5;}
+E=y+1;
+F=z;}
+else{
+E=0;
+F=l;}}
+else{
+E=0;
+F=l;}
+if(d>F){
+G=*(c+F);
+if(G==48){
+H=F+1;
+I=H;
+J=H;}
+else{
+if((u8)(G-58)>=247){
+K=F+1;
+if(d>K){
+L=*(c+K);
+if(L!=95){
+M=L-48;
+if(M<10){
+N=F+2;
+if(d>N){
+if(*((u8*)t_facb+*(c+N))==0){
+O=(u64)M+(u8)((u8)(G*10)+32);
+if(d-N>=O){
+P=O+N;
+if(!((O>16)|(P<16))){
+Q=v16_at(c+(i64)P-16);
+if((v16_ne(Q,splat(95))&(v16_ult(v16_add(Q,splat(198)),splat(246))&v16_ult(v16_add(v16_or(Q,splat(32)),splat(133)),splat(230))))==0){
+I=N;
+J=P;
+goto L6;}}
+R=are_any_name_bytes_0a3(c,N,P);
+if(R){
+I=N;
+J=P;
+goto L6;}}}}}
+else{
+S=G-48;
+if(d-K>=S){
+T=K+S;
+if(T>=16){
+U=v16_at(c+(i64)T-16);
+if((v16_ne(U,splat(95))&(v16_ult(v16_add(U,splat(198)),splat(246))&v16_ult(v16_add(v16_or(U,splat(32)),splat(133)),splat(230))))==0){
+I=K;
+J=T;
+goto L6;}}
+V=are_any_name_bytes_0a3(c,K,T);
+if(V){
+I=K;
+J=T;
+goto L6;}}}}}}
+z12(j);
+any_name_span_9bc(j,c,d,F);
+W=q8(j+4);
+if(*j!=1){
+A=0;
+B=0;
+C=0;
+D=0;
+goto L5;}
+I=W&4294967295u;
+J=W>>32;}
+L6:X=push_special_c7d(b,h,i,c+(i64)I,J-I,E);
+if(X&1){
+w8(b+192,J);
+if(r8(b+136)>g){
+Y=r8(b+96);
+if(Y>65534){
+A=0;
+B=0;
+C=0;
+D=0;}
+else{
+Z=r8(b+8);
+aa=b[80];
+if(r8(b+120)>Y)ba=Y;
+else{
+ca=make_ready_b73(b+88);
+if(!(ca&1)){
+A=0;
+B=0;
+C=0;
+D=0;
+goto L5;}
+ba=r8(b+96);}
+da=rp(b+88)+ba*24;
+x8(da,e);
+x8(da+8,Z);
+da[16]=f;
+da[17]=aa;
+z6(da+18);
+w8(b+96,ba+1);
+w2(rp(b+128)+(i64)(g<<1),(u16)Y+1);
+A=1;
+B=2;
+C=e;
+D=f;}}
+else{
+A=0;
+B=0;
+C=0;
+D=0;}}
+else{
+A=0;
+B=0;
+C=0;
+D=0;}}
+else{
+A=0;
+B=0;
+C=0;
+D=0;}
+L5:x8(a,A);
+a[8]=B;
+a[9]=0;
+x8(a+16,C);
+a[24]=D;
+return;
+}
+
+/* rust_direct::direct::Direct::push_special */
+static u8 push_special_c7d(u8* a,u8* b,u64 c,u8* d,u64 e,u64 f)
+{
+u64 g,i,k,m,n,o,s,t,v,w,x,B,D,F,H,I,K,L,M,Q,T,U;
+u8 h,j,l,r,u,E,G,J,R,S,V;
+u8 *p,*q,*y,*z,*A,*C,*N,*O,*P;
+g=r8(a+8);
+if(r8(a+32)-g<3){
+h=make_ready_8e3(a,3,128);
+if(!(h&1)){
+j=0;
+goto L1;}
+i=r8(a+8);}
+else i=g;
+k=r8(a+16);
+if(k-i<3){
+l=grow_amortized_68b(a,3);
+if(!l){
+j=0;
+goto L1;}
+m=r8(a+16);
+n=r8(a+8);}
+else{
+m=k;
+n=i;}
+o=n+3;
+p=rp(a);
+z16(a+8);
+q=p+(i64)n;
+if((u64)q-(u64)(u8*)t_6ee9<3)copy_bits_4f4((u8*)t_6ee9,q,3);
+else memcpy(q,(u8*)t_6ee9,3);
+wp(a,p);
+w8(a+8,o);
+w8(a+16,m);
+if(r8(a+32)-o<c){
+r=make_ready_8e3(a,c,128);
+if(!(r&1)){
+j=0;
+goto L1;}
+s=r8(a+8);
+t=r8(a+16);}
+else{
+s=o;
+t=m;}
+if(c>t-s){
+u=grow_amortized_68b(a,c);
+if(!u){
+j=0;
+goto L1;}
+v=r8(a+16);
+w=r8(a+8);}
+else{
+v=t;
+w=s;}
+x=w+c;
+y=rp(a);
+z16(a+8);
+z=y+(i64)w;
+if((u64)z-(u64)b<c)copy_bits_4f4(b,z,c);
+else memmove(z,b,c);
+wp(a,y);
+w8(a+8,x);
+w8(a+16,v);
+if(e==0){
+A=y;
+B=x;}
+else{
+if(r8(a+32)>x){
+C=y;
+D=x;}
+else{
+E=make_ready_8e3(a,1,16);
+if(!(E&1)){
+j=0;
+goto L1;}
+C=rp(a);
+D=r8(a+8);}
+*(C+D)=58;
+F=D+1;
+w8(a+8,F);
+if(r8(a+32)-F<e){
+G=make_ready_8e3(a,e,128);
+if(!(G&1)){
+j=0;
+goto L1;}
+H=r8(a+8);}
+else H=F;
+I=r8(a+16);
+if(e>I-H){
+J=grow_amortized_68b(a,e);
+if(!J){
+j=0;
+goto L1;}
+K=r8(a+16);
+L=r8(a+8);}
+else{
+K=I;
+L=H;}
+M=L+e;
+N=rp(a);
+z16(a+8);
+O=N+(i64)L;
+if((u64)O-(u64)d<e)copy_bits_4f4(d,O,e);
+else memmove(O,d,e);
+wp(a,N);
+w8(a+8,M);
+w8(a+16,K);
+A=N;
+B=M;}
+if(r8(a+32)>B){
+P=A;
+Q=B;}
+else{
+R=make_ready_8e3(a,1,16);
+if(!(R&1)){
+j=0;
+goto L1;}
+P=rp(a);
+Q=r8(a+8);}
+*(P+Q)=35;
+w8(a+8,Q+1);
+S=push_decimal_701(a,f);
+if(S&1){
+T=r8(a+8);
+if(r8(a+32)>T)U=T;
+else{
+V=make_ready_8e3(a,1,16);
+if(!(V&1)){
+j=0;
+goto L1;}
+U=r8(a+8);}
+*(rp(a)+U)=125;
+w8(a+8,U+1);
+j=1;}
+else j=0;
+L1:return j;
 }
 
 /* rust_short_way::run */
@@ -131505,7 +135271,7 @@ Ma=eg;
 Na=vf;
 Oa=0;
 goto L9;}}}}
-L24:ig=crate_named_anyhow_841(a,b,c,Gf);
+L24:ig=crate_named_anyhow_a78(a,b,c,Gf);
 if(!(ig&1)){
 z=0;
 goto L1;}
@@ -131734,7 +135500,7 @@ Va=0;
 Wa=0;
 Xa=0;
 goto L10;}
-jh=begin_inner_impl_f25(a,hh);
+jh=begin_inner_impl_daa(a,hh);
 kh=jh;
 break;
 case 88:ph=vf+1;
@@ -131788,7 +135554,7 @@ Va=0;
 Wa=0;
 Xa=0;
 goto L10;}
-xh=begin_inner_trait_impl_a3f(a,vh);
+xh=begin_inner_trait_impl_412(a,vh);
 kh=xh;
 break;
 case 89:Ch=r8(a+8);
@@ -132052,7 +135818,7 @@ if(oj!=0){
 pj=rp(a+152)+(i64)(oj<<5);
 if(pj[-32]==2){
 if(pj[-31]>96){
-qj=unnamed_ended_c46(a,b,c,Sh,Cb,Bb);
+qj=unnamed_ended_2a9(a,b,c,Sh,Cb,Bb);
 rj=qj;
 goto L43;}}}}}
 if(r8(a+136)<=Sh){
@@ -132080,7 +135846,7 @@ w8(a+96,uj+1);
 w2(rp(a+128)+(i64)(Sh<<1),(u16)sj+1);
 rj=1;
 goto L43;}}}}
-L39:xj=nest_named_anyhow_de3(a,b,c,Cb,Bb,Sh,li);
+L39:xj=nest_named_anyhow_896(a,b,c,Cb,Bb,Sh,li);
 rj=xj;
 L43:if(rj&1)goto L36;
 z=0;
@@ -132088,12 +135854,12 @@ goto L1;}
 z32(g);
 if(Lh&(Rh>64)){
 switch(Rh){
-case 67:special_named_1bc(g,a,b,c,Cb,Bb,Sh,(u8*)t_6d4c,7);
+case 67:special_named_040(g,a,b,c,Cb,Bb,Sh,(u8*)t_6d4c,7);
 break;
-case 83:special_named_1bc(g,a,b,c,Cb,Bb,Sh,(u8*)t_04e6,4);
+case 83:special_named_040(g,a,b,c,Cb,Bb,Sh,(u8*)t_04e6,4);
 break;
 default:*h=Rh;
-special_named_1bc(g,a,b,c,Cb,Bb,Sh,h,1);
+special_named_040(g,a,b,c,Cb,Bb,Sh,h,1);
 break;}
 Vh=*g;
 Wh=g[8];
@@ -132156,7 +135922,7 @@ Hj=0;
 Ij=0;
 Jj=0;}
 else{
-push_suffix_49c(l,a,b,c);
+push_suffix_a57(l,a,b,c);
 Fj=*l;
 Gj=l[8];
 Hj=l[9];
@@ -132186,7 +135952,7 @@ Mj=0;
 Nj=0;
 Oj=0;}
 else{
-push_suffix_49c(j,a,b,c);
+push_suffix_a57(j,a,b,c);
 Kj=*j;
 Lj=j[8];
 Mj=j[9];
@@ -132966,4482 +136732,6 @@ else z=0;
 L1:return z;
 }
 
-/* std_alloc::vec::Vec::grow_amortized */
-static COLD u8 grow_amortized_3c2(u8* a,u64 b)
-{
-u64 c,e,f,g,h;
-u8 d;
-s_64_64 i,j,k;
-c=r8(a+8);
-if(b>(c^18446744073709551615u))d=0;
-else{
-e=r8(a+16);
-f=umax64(c+b,4);
-g=umax64(f,e<<1);
-h=e<0x4000000000000000u?g:f;
-if(h<0x4000000000000000u){
-if(e==0){
-i=port_rattle_alloc(g<<1,2);
-if(!(u8)(i.f0&1)){
-d=0;
-goto L1;}
-j=i;}
-else{
-k=port_rattle_realloc(rp(a),c<<1,h<<1,2);
-if(!(u8)(k.f0&1)){
-d=0;
-goto L1;}
-j=k;}
-wp(a,(u8*)j.f1);
-w8(a+16,h);
-d=1;}
-else d=0;}
-L1:return d;
-}
-
-/* sym_direct::bounded::Bounded::make_ready */
-static u8 make_ready_e3c(u8* a)
-{
-u64 b,c,e,f,h,i;
-u8 d,g;
-b=r8(a+24);
-c=r8(a+8);
-if(b==c)d=0;
-else{
-e=umin64(b-c,16);
-f=r8(a+16);
-if(e>f-c){
-g=grow_amortized_12f(a,e);
-if(!g){
-d=0;
-goto L1;}
-h=r8(a+16);
-i=r8(a+24);}
-else{
-h=f;
-i=b;}
-w8(a+32,umin64(h,i));
-d=1;}
-L1:return d;
-}
-
-/* std_alloc::vec::Vec::grow_amortized */
-static COLD u8 grow_amortized_12f(u8* a,u64 b)
-{
-u64 c,e,f,g,h;
-u8 d;
-s_64_64 i,j,k;
-c=r8(a+8);
-if(b>(c^18446744073709551615u))d=0;
-else{
-e=r8(a+16);
-f=umax64(c+b,4);
-g=umax64(f,e<<1);
-h=e<0x4000000000000000u?g:f;
-if(h<0x400000000000000u){
-if(e==0){
-i=port_rattle_alloc(g<<5,8);
-if(!(u8)(i.f0&1)){
-d=0;
-goto L1;}
-j=i;}
-else{
-k=port_rattle_realloc(rp(a),c<<5,h<<5,8);
-if(!(u8)(k.f0&1)){
-d=0;
-goto L1;}
-j=k;}
-wp(a,(u8*)j.f1);
-w8(a+16,h);
-d=1;}
-else d=0;}
-L1:return d;
-}
-
-/* sym_direct::bounded::Bounded::make_ready */
-static u8 make_ready_b73(u8* a)
-{
-u64 b,c,e,f,h,i;
-u8 d,g;
-b=r8(a+24);
-c=r8(a+8);
-if(b==c)d=0;
-else{
-e=umin64(b-c,16);
-f=r8(a+16);
-if(e>f-c){
-g=grow_amortized_bce(a,e);
-if(!g){
-d=0;
-goto L1;}
-h=r8(a+16);
-i=r8(a+24);}
-else{
-h=f;
-i=b;}
-w8(a+32,umin64(h,i));
-d=1;}
-L1:return d;
-}
-
-/* rust_direct::direct::Direct::constant_at */
-static s_8_64 constant_at_b72(u8* a,u8* b,u64 c,u64 d)
-{
-s_8_64 e,i,j,k,w,x;
-u64 f,h,l,m,n,s,t,u;
-u8 g,o,p,q,r,v;
-if(d<c){
-switch(*(b+d)){
-case 104:case 106:case 109:case 111:case 116:case 121:e=integer_at_209(a,b,c,d+1,0);
-f=e.f1;
-g=e.f0;
-break;
-case 97:case 105:case 108:case 110:case 115:case 120:h=d+1;
-if(h<c){
-if(*(b+h)==110){
-i=integer_at_209(a,b,c,d+2,1);
-j=i;
-goto L1;}}
-k=integer_at_209(a,b,c,h,0);
-j=k;
-L1:f=j.f1;
-g=j.f0;
-break;
-case 98:l=d+1;
-m=d+2;
-if(l!=18446744073709551615u&&m<c){
-if(*(b+m)==95){
-n=d+3;
-switch(*(b+l)){
-case 48:if(r8(a+32)-r8(a+8)<5){
-o=make_ready_8e3(a,5,128);
-if(!(o&1))goto L2;}
-p=extend_from_slice_674(a,(u8*)t_fcbc,5);
-if(!(p&1)){
-f=n;
-g=1;
-break;}
-L2:f=0;
-g=0;
-break;
-case 49:if(r8(a+32)-r8(a+8)<4){
-q=make_ready_8e3(a,4,128);
-if(!(q&1))goto L3;}
-r=extend_from_slice_674(a,(u8*)t_b5be,4);
-if(!(r&1)){
-f=n;
-g=1;
-break;}
-L3:f=0;
-g=0;
-break;
-default:f=0;
-g=0;
-break;}}
-else{
-f=0;
-g=0;}}
-else{
-f=0;
-g=0;}
-break;
-case 112:s=d+1;
-t=r8(a+8);
-if(r8(a+32)>t)u=t;
-else{
-v=make_ready_8e3(a,1,16);
-if(!(v&1)){
-f=0;
-g=0;
-break;}
-u=r8(a+8);}
-*(rp(a)+u)=95;
-w8(a+8,u+1);
-f=s;
-g=1;
-break;
-default:f=0;
-g=0;
-break;}}
-else{
-f=0;
-g=0;}
-w=(s_8_64){0};w.f0=g;
-x=w;x.f1=f;
-return x;
-}
-
-/* rust_direct::direct::Direct::integer_at */
-static s_8_64 integer_at_209(u8* a,u8* b,u64 c,u64 d,u8 e)
-{
-u64 f,h,i,j,l,m,n,o,q,r,t,y,B,D,E,G,H,I;
-u8 g,k,v,w,z,C,F,L;
-u8 *p,*A,*J,*K;
-u128 s,u,x;
-s_8_64 M,N;
-if(c<d){
-f=0;
-g=0;}
-else{
-h=umin64(c-d,c+1)+d;
-if(d>=h){
-j=d;
-goto L1;}
-i=d;
-L2:k=*(b+i);
-if(((u8)(k-48)<10)|((u8)(k-97)<6)){
-l=i+1;
-if(l!=h){
-i=l;
-goto L2;}
-j=h;}
-else j=i;
-L1:if(j==c){
-f=0;
-g=0;}
-else{
-if(*(b+j)==95){
-m=d&4294967295u;
-n=j&4294967295u;
-o=n+1;
-p=b+(i64)m;
-q=n-m;
-if(n==m){
-r=0;
-goto L3;}
-s=0;
-t=0;
-L4:if(s>=((u128)0x1000000000000000u<<64|0x0u)){
-f=0;
-g=0;
-goto L5;}
-u=s<<4;
-v=*(p+(i64)t);
-w=(v<58?208:169)+v;
-if(u>(w^((u128)0xffffffffffffffffu<<64|0xffffffffffffffffu))){
-f=0;
-g=0;
-goto L5;}
-x=u+w;
-y=t+1;
-if(y!=q){
-s=x;
-t=y;
-goto L4;}
-if(x>=((u128)0x1u<<64|0x0u)){
-f=0;
-g=0;
-goto L5;}
-r=x;
-L3:z=e&(r!=0);
-A=z?(u8*)t_3973:(u8*)t_z0;
-B=r8(a+8);
-if(r8(a+32)-B<z){
-C=make_ready_8e3(a,z,128);
-if(!(C&1)){
-f=0;
-g=0;
-goto L5;}
-D=r8(a+8);}
-else D=B;
-E=r8(a+16);
-if(E-D<z){
-F=grow_amortized_68b(a,z);
-if(!F){
-f=0;
-g=0;
-goto L5;}
-G=r8(a+16);
-H=r8(a+8);}
-else{
-G=E;
-H=D;}
-I=H+z;
-J=rp(a);
-z16(a+8);
-K=J+(i64)H;
-if((u64)K-(u64)A<z)copy_bits_4f4(A,K,z);
-else memcpy(K,A,z);
-wp(a,J);
-w8(a+8,I);
-w8(a+16,G);
-L=push_decimal_701(a,r);
-f=(L&1)?o:0;
-g=L;}
-else{
-f=0;
-g=0;}}}
-L5:M=(s_8_64){0};M.f0=g;
-N=M;N.f1=f;
-return N;
-}
-
-/* rust_direct::direct::Direct::push_decimal */
-static u8 push_decimal_701(u8* a,u64 b)
-{
-u8 c[40];
-u8 d,g,h,q,u,A,E,K,O,R;
-u64 e,f,i,j,k,l,m,r,v,w,x,G,H,M,N,P,Q,S,T,U;
-u16 n,B,F;
-u8 *o,*p,*s,*t,*y,*z,*C,*D,*I,*J,*L,*V,*W;
-if(b<10){
-d=(u8)b|48;
-e=r8(a+8);
-if(r8(a+32)>e)f=e;
-else{
-g=make_ready_8e3(a,1,16);
-if(!(g&1)){
-h=0;
-goto L1;}
-f=r8(a+8);}
-*(rp(a)+f)=d;
-w8(a+8,f+1);
-h=1;}
-else{
-z40(c);
-if(b<=9999){
-k=40;
-l=b;
-goto L2;}
-i=b;
-j=40;
-L3:m=i/10000;
-n=i%10000;
-o=(u8*)t_bedf+((u64)(n%100)<<1);
-p=c+(i64)j;
-q=o[1];
-p[-2]=*o;
-p[-1]=q;
-r=j-4;
-s=(u8*)t_bedf+((u64)(n/100)<<1);
-t=c+r;
-u=s[1];
-*t=*s;
-t[1]=u;
-if(i>99999999){
-i=m;
-j=r;
-goto L3;}
-k=r;
-l=m;
-L2:if(l<100){
-if(l<10){
-v=k-1;
-*(c+v)=(u8)l|48;
-w=v;}
-else{
-x=k-2;
-y=(u8*)t_bedf+(l<<1);
-z=c+x;
-A=y[1];
-*z=*y;
-z[1]=A;
-w=x;}}
-else{
-B=l;
-C=(u8*)t_bedf+((u64)(B%100)<<1);
-D=c+(i64)k;
-E=C[1];
-D[-2]=*C;
-D[-1]=E;
-F=B/100;
-if(l<1000){
-G=k-3;
-*(c+G)=(u8)F|48;
-w=G;}
-else{
-H=k-4;
-I=(u8*)t_bedf+((u64)F<<1);
-J=c+H;
-K=I[1];
-*J=*I;
-J[1]=K;
-w=H;}}
-L=c+(i64)w;
-M=40-w;
-N=r8(a+8);
-if(r8(a+32)-N<M){
-O=make_ready_8e3(a,M,128);
-if(!(O&1)){
-h=0;
-goto L1;}
-P=r8(a+8);}
-else P=N;
-Q=r8(a+16);
-if(M>Q-P){
-R=grow_amortized_68b(a,M);
-if(!R){
-h=0;
-goto L1;}
-S=r8(a+16);
-T=r8(a+8);}
-else{
-S=Q;
-T=P;}
-U=T+M;
-V=rp(a);
-z16(a+8);
-W=V+(i64)T;
-if((u64)W-(u64)L<M)copy_bits_4f4(L,W,M);
-else memcpy(W,L,M);
-wp(a,V);
-w8(a+8,U);
-w8(a+16,S);
-h=1;}
-L1:return h;
-}
-
-/* rust_direct::tokens::any_number_at */
-static void any_number_at_3d4(u8* a,u8* b,u64 c,u64 d)
-{
-u64 e,f,g,h,i,j,k,l,n,o,p,q,r,t,u,v,x,y,z;
-u8 *m;
-u8 s,w;
-if(c<d)z24(a);
-else{
-e=umin64(c-d,11)+d;
-if(d>=e){
-g=d;
-goto L1;}
-f=d;
-L2:if(*((u8*)t_84dd+*(b+f))<62){
-h=f+1;
-if(h!=e){
-f=h;
-goto L2;}
-g=e;}
-else g=f;
-L1:if(g!=c){
-if(*(b+g)==95){
-i=d&4294967295u;
-j=g&4294967295u;
-k=j+1;
-if(j!=i){
-m=b+(i64)i;
-n=j-i;
-if(n>10){
-o=0;
-p=0;
-goto L3;}
-q=0;
-r=0;
-L4:s=*((u8*)t_84dd+*(m+(i64)r));
-if(s>=62)goto L5;
-t=q*62+s;
-u=r+1;
-if(u==n){
-v=t;
-goto L6;}
-q=t;
-r=u;
-goto L4;
-L3:w=*((u8*)t_84dd+*(m+(i64)p));
-if(!((o<0x421084210842109u)&(w<62)))goto L5;
-x=o*62;
-if(x>(w^18446744073709551615u))goto L5;
-y=x+w;
-z=p+1;
-if(z!=n){
-o=y;
-p=z;
-goto L3;}
-v=y;
-L6:if(v!=18446744073709551615u){
-l=v+1;
-goto L7;}
-L5:z24(a);
-goto L8;}
-l=0;
-L7:x8(a,1);
-x8(a+8,l);
-x8(a+16,k);
-goto L8;}}
-z24(a);}
-L8:return;
-}
-
-/* rust_direct::hashes::any_disambiguator_end */
-static s_8_64 any_disambiguator_end_f9c(u8* a,u64 b,u64 c)
-{
-A16 u8 d[24];
-u8 *e,*k;
-u64 f,g,i,j,l,n,p,q,r,s;
-u8 h,m,o,t;
-s_8_64 u,v;
-if(c<b){
-e=a+(i64)c;
-if(*e==115){
-f=c+1;
-z24(d);
-g=b-f;
-if(g>1){
-if(e[2]==95){
-h=*((u8*)t_84dd+*(a+(i64)f));
-if(h<=61){
-i=3;
-j=h+1;
-goto L1;}
-if(g==2)goto L2;}
-else {
-if(g==2)goto L2;}
-if(e[3]!=95)goto L2;
-k=a+(i64)f;
-l=0;
-m=0;
-n=0;
-L3:o=*((u8*)t_84dd+*(k+(i64)n));
-if(o>=62)goto L2;
-p=l*62+o;
-if(!m){
-l=p;
-m=1;
-n=1;
-goto L3;}
-if(p==18446744073709551615u)goto L2;
-i=4;
-j=p+1;
-L1:q=j;
-r=i+c;
-goto L4;}
-L2:any_number_at_3d4(d,a,b,f);
-if(*d!=1)goto L5;
-q=r8(d+8);
-r=r8(d+16);
-L4:if(q!=18446744073709551615u){
-s=r;
-t=1;
-goto L6;}
-L5:s=0;
-t=0;}
-else{
-s=c;
-t=1;}}
-else{
-s=c;
-t=1;}
-L6:u=(s_8_64){0};u.f0=t;
-v=u;v.f1=s;
-return v;
-}
-
-/* rust_direct::names::are_any_name_bytes */
-static u8 are_any_name_bytes_0a3(u8* a,u64 b,u64 c)
-{
-u64 d,f,g,h,i,j,o,p,r,s,u;
-v16 e,k,l;
-u8 m,t;
-u8 *n,*q;
-d=c-b;
-if(d>15){
-e=v16_at(a+b);
-if((v16_ne(e,splat(95))&(v16_ult(v16_add(e,splat(198)),splat(246))&v16_ult(v16_add(v16_or(e,splat(32)),splat(133)),splat(230))))!=0){
-g=b;
-h=d;
-goto L1;}
-f=b;
-L2:i=f+16;
-j=c-i;
-if(j>15){
-k=v16_at(a+i);
-if((v16_ne(k,splat(95))&(v16_ult(v16_add(k,splat(198)),splat(246))&v16_ult(v16_add(v16_or(k,splat(32)),splat(133)),splat(230))))==0){
-f=i;
-goto L2;}
-g=i;
-h=j;}
-else{
-g=i;
-h=j;}}
-else{
-g=b;
-h=d;}
-L1:if(!((c<16)|(h>16))){
-l=v16_at(a+(i64)c-16);
-if((v16_ne(l,splat(95))&(v16_ult(v16_add(l,splat(198)),splat(246))&v16_ult(v16_add(v16_or(l,splat(32)),splat(133)),splat(230))))==0){
-m=1;
-goto L3;}}
-n=a+(i64)g;
-if(h<=3){
-p=0;
-goto L4;}
-o=0;
-L5:q=n+o;
-if((u8)((u8)(*((u8*)t_4efc+q[1])+*((u8*)t_4efc+*q))+*((u8*)t_4efc+q[2]))==(u8)(0-*((u8*)t_4efc+q[3]))){
-r=o+4;
-if(h-r>3){
-o=r;
-goto L5;}
-p=r;}
-else p=o;
-L4:if(p>=h){
-m=1;
-goto L3;}
-s=p;
-L6:t=*((u8*)t_4efc+*(n+s))==0;
-u=s+1;
-if((u!=h)&t){
-s=u;
-goto L6;}
-m=t;
-L3:return m;
-}
-
-/* rust_direct::direct::Direct::crate_named_anyhow */
-static u8 crate_named_anyhow_841(u8* a,u8* b,u64 c,u64 d)
-{
-A16 u8 e[12];
-u64 f,g,h,i,j,k,n,p,r,s,t,w,y,z,A,D;
-u8 *l,*u,*v,*B,*C;
-u8 m,o,q,x;
-z12(e);
-any_name_span_9bc(e,b,c,d);
-if(*e==1){
-f=q8(e+4);
-g=f>>32;
-h=f&4294967295u;
-if(g>h){
-i=r8(a+8);
-j=g-h;
-k=r8(a+32)-i;
-l=b+(i64)h;
-if((j>16)|(c-h<16)||k<16){
-if(k<j){
-m=make_ready_8e3(a,j,128);
-if(!(m&1)){
-o=0;
-goto L1;}
-n=r8(a+8);}
-else n=i;
-p=r8(a+16);
-if(j>p-n){
-q=grow_amortized_68b(a,j);
-if(!q){
-o=0;
-goto L1;}
-r=r8(a+16);
-s=r8(a+8);}
-else{
-r=p;
-s=n;}
-t=s+j;
-u=rp(a);
-z16(a+8);
-v=u+(i64)s;
-if((u64)v-(u64)l<j)copy_bits_4f4(l,v,j);
-else memmove(v,l,j);
-wp(a,u);
-w8(a+8,t);
-w8(a+16,r);}
-else{
-w=r8(a+16);
-if(w-i<16){
-x=grow_amortized_68b(a,16);
-if(!x){
-o=0;
-goto L1;}
-y=r8(a+16);
-z=r8(a+8);}
-else{
-y=w;
-z=i;}
-A=z+16;
-B=rp(a);
-z16(a+8);
-C=B+(i64)z;
-if((u64)C-(u64)l<16)copy_bits_4f4(l,C,16);
-else memmove(C,l,16);
-wp(a,B);
-w8(a+8,A);
-w8(a+16,y);
-D=i+j;
-if(A>D)w8(a+8,D);}
-w8(a+192,g);
-o=1;}
-else o=0;}
-else o=0;
-L1:return o;
-}
-
-/* rust_direct::names::any_name_span */
-static void any_name_span_9bc(u8* a,u8* b,u64 c,u64 d)
-{
-u32 e,j,l,n;
-u64 f,g,h,i,m,o,p,s,t,u,w,x,y,A,B,C,D;
-u8 k,v;
-u8 *q,*r,*z;
-if(c<d){
-e=0;
-f=0;}
-else{
-if(d<c){
-if(*(b+d)==48){
-g=1;
-goto L1;}}
-g=9;
-L1:h=umin64(c-d,g)+d;
-if(d>=h){
-e=0;
-f=0;
-goto L2;}
-i=d;
-j=0;
-L3:k=*(b+i)-48;
-if(k<10){
-l=j*10+k;
-m=i+1;
-if(m!=h){
-i=m;
-j=l;
-goto L3;}
-n=l;
-o=h;}
-else{
-n=j;
-o=i;}
-if(d<o){
-p=o&4294967295u;
-q=b+(i64)p;
-if(c==p){
-r=q;
-s=0;
-t=c;}
-else{
-u=c-p;
-v=*q;
-if(v==95){
-r=q+1;
-s=u-1;
-t=p+1;}
-else{
-if((n!=0)&((u8)(v-48)<10)){
-e=0;
-f=0;
-goto L2;}
-r=q;
-s=u;
-t=p;}}
-w=umin64(s,n);
-if(w<=3){
-y=0;
-goto L4;}
-x=0;
-L5:z=r+x;
-if(*((u8*)t_fd87+*z)==49){
-if(*((u8*)t_fd87+z[1])==49){
-if(*((u8*)t_fd87+z[2])==49){
-if(*((u8*)t_fd87+z[3])==49){
-A=x+4;
-if(w-A>3){
-x=A;
-goto L5;}
-y=A;}
-else y=x;}
-else y=x;}
-else y=x;}
-else y=x;
-L4:if(y>=w){
-C=y;
-goto L6;}
-B=y;
-L7:if(*((u8*)t_fd87+*(r+B))==49){
-D=B+1;
-if(D!=w){
-B=D;
-goto L7;}
-C=w;}
-else C=B;
-L6:if(C<n){
-e=0;
-f=0;}
-else{
-e=1;
-f=((C+t)<<32)|(t&4294967295u);}}
-else{
-e=0;
-f=0;}}
-L2:x4(a,e);
-x8(a+4,f);
-return;
-}
-
-/* rust_direct::direct::Direct::begin_inner_impl */
-static u8 begin_inner_impl_f25(u8* a,u64 b)
-{
-u8 *c,*i,*l;
-u64 d,f,g,h,j;
-u8 e,k;
-c=rp(a+152);
-d=r8(a+160);
-if(d==0){
-e=0;
-goto L1;}
-f=d;
-L2:g=f-1;
-switch(*(c+(i64)(g<<5))){
-case 2:case 3:if(g!=0){
-f=g;
-goto L2;}
-e=0;
-break;
-case 1:case 5:case 6:case 7:case 8:h=r8(a+192);
-if(r8(a+184)>d){
-i=c;
-j=d;}
-else{
-k=make_ready_e3c(a+152);
-if(!(k&1)){
-e=0;
-break;}
-i=rp(a+152);
-j=r8(a+160);}
-l=i+(j<<5);
-*l=7;
-l[1]=0;
-x8(l+8,h);
-x8(l+16,0);
-l[24]=0;
-w8(a+160,j+1);
-w8(a+192,b);
-e=1;
-break;
-case 0:case 4:case 9:case 10:case 11:case 12:case 13:case 14:e=0;
-break;
-default:NEVER;
-}
-L1:return e;
-}
-
-/* rust_direct::direct::Direct::begin_inner_trait_impl */
-static u8 begin_inner_trait_impl_a3f(u8* a,u64 b)
-{
-u8 *c,*i,*l;
-u64 d,f,g,h,j;
-u8 e,k;
-c=rp(a+152);
-d=r8(a+160);
-if(d==0){
-e=0;
-goto L1;}
-f=d;
-L2:g=f-1;
-switch(*(c+(i64)(g<<5))){
-case 2:case 3:if(g!=0){
-f=g;
-goto L2;}
-e=0;
-break;
-case 1:case 5:case 6:case 7:case 8:h=r8(a+192);
-if(r8(a+184)>d){
-i=c;
-j=d;}
-else{
-k=make_ready_e3c(a+152);
-if(!(k&1)){
-e=0;
-break;}
-i=rp(a+152);
-j=r8(a+160);}
-l=i+(j<<5);
-*l=8;
-l[1]=0;
-x8(l+8,h);
-x8(l+16,0);
-l[24]=0;
-w8(a+160,j+1);
-w8(a+192,b);
-e=1;
-break;
-case 0:case 4:case 9:case 10:case 11:case 12:case 13:case 14:e=0;
-break;
-default:NEVER;
-}
-L1:return e;
-}
-
-/* rust_direct::direct::Direct::unnamed_ended */
-static u8 unnamed_ended_c46(u8* a,u8* b,u64 c,u64 d,u64 e,u8 f)
-{
-A16 u8 g[12];
-u64 h,j,l,o,p,r,s,u,x,y,z,B,C,F,I,J,K,M;
-u8 i,k,m,t,v,w,D,E,H,L,N;
-u8 *n,*q,*O;
-v16 A,G;
-if(r8(a+136)>d){
-h=r8(a+96);
-if(h>65534)i=0;
-else{
-j=r8(a+8);
-k=a[80];
-if(r8(a+120)>h)l=h;
-else{
-m=make_ready_b73(a+88);
-if(!(m&1)){
-i=0;
-goto L1;}
-l=r8(a+96);}
-n=rp(a+88)+l*24;
-x8(n,e);
-x8(n+8,j);
-n[16]=f;
-n[17]=k;
-z6(n+18);
-w8(a+96,l+1);
-w2(rp(a+128)+(i64)(d<<1),(u16)h+1);
-o=r8(a+160);
-if(o==0)i=0;
-else{
-p=o-1;
-w8(a+160,p);
-q=rp(a+152)+(p<<5);
-if(*q!=2||q[1]<97)i=0;
-else{
-r=q8(q+8);
-s=r8(a+192);
-if(s<c){
-t=*(b+s);
-if((u8)(t-58)>=247){
-u=s+1;
-if(c>u){
-v=*(b+u);
-if(v!=95){
-w=v-48;
-if(w<10){
-x=s+2;
-if(c>x){
-if(*((u8*)t_facb+*(b+x))==0){
-y=(u64)w+(u8)((u8)(t*10)+32);
-if(c-x>=y){
-z=y+x;
-if(!((y>16)|(z<16))){
-A=v16_at(b+(i64)z-16);
-if((v16_ne(A,splat(95))&(v16_ult(v16_add(A,splat(198)),splat(246))&v16_ult(v16_add(v16_or(A,splat(32)),splat(133)),splat(230))))==0){
-B=x;
-C=z;
-goto L2;}}
-D=are_any_name_bytes_0a3(b,x,z);
-if(D){
-B=x;
-C=z;
-goto L2;}}}}}
-else{
-E=t-48;
-if(c-u>=E){
-F=u+E;
-if(F>=16){
-G=v16_at(b+(i64)F-16);
-if((v16_ne(G,splat(95))&(v16_ult(v16_add(G,splat(198)),splat(246))&v16_ult(v16_add(v16_or(G,splat(32)),splat(133)),splat(230))))==0){
-B=u;
-C=F;
-goto L2;}}
-H=are_any_name_bytes_0a3(b,u,F);
-if(H){
-B=u;
-C=F;
-goto L2;}}}}}}}
-z12(g);
-any_name_span_9bc(g,b,c,s);
-if(*g!=1){
-i=0;
-goto L1;}
-I=q8(g+4);
-B=I&4294967295u;
-C=I>>32;
-L2:if(B<C)i=0;
-else{
-w8(a+192,C);
-if(r8(a+136)>r){
-J=r8(a+96);
-if(J>65534)i=0;
-else{
-K=r8(a+8);
-L=a[80];
-if(r8(a+120)>J)M=J;
-else{
-N=make_ready_b73(a+88);
-if(!(N&1)){
-i=0;
-goto L1;}
-M=r8(a+96);}
-O=rp(a+88)+M*24;
-x8(O,e);
-x8(O+8,K);
-O[16]=f;
-O[17]=L;
-z6(O+18);
-w8(a+96,M+1);
-w2(rp(a+128)+(i64)(r<<1),(u16)J+1);
-i=1;}}
-else i=0;}}}}}
-else i=0;
-L1:return i;
-}
-
-/* rust_direct::direct::Direct::nest_named_anyhow */
-static u8 nest_named_anyhow_de3(u8* a,u8* b,u64 c,u64 d,u8 e,u64 f,u64 g)
-{
-u8 h[18];
-A16 u8 i[12];
-u64 j,k,l,m,n,p,r,s,t,w,x,z,A,C,F,G,I,J,K,N,O,Q,R,T,U,V,Y,Z,ca,ea;
-u8 o,q,v,y,B,H,S,ba,da,fa;
-u8 *u,*D,*E,*L,*M,*P,*W,*X,*aa,*ga;
-z12(i);
-any_name_span_9bc(i,b,c,g);
-if(*i==1){
-j=q8(i+4);
-k=j>>32;
-l=j&4294967295u;
-if(k>l){
-m=r8(a+8);
-n=k-l;
-o=(n>16)|(c-l<16);
-p=r8(a+32)-m;
-if(o||p<18){
-if(p<2){
-q=make_ready_8e3(a,2,128);
-if(!(q&1))goto L1;
-r=r8(a+8);}
-else r=m;
-*(rp(a)+r)=58;
-*(rp(a)+(i64)r+1)=58;
-s=r+2;
-w8(a+8,s);
-t=r8(a+32)-s;
-u=b+(i64)l;
-if(o||t<16){
-if(t<n){
-v=make_ready_8e3(a,n,128);
-if(!(v&1))goto L1;
-w=r8(a+8);}
-else w=s;
-x=r8(a+16);
-if(n>x-w){
-y=grow_amortized_68b(a,n);
-if(!y){
-B=0;
-goto L2;}
-z=r8(a+16);
-A=r8(a+8);}
-else{
-z=x;
-A=w;}
-C=A+n;
-D=rp(a);
-z16(a+8);
-E=D+(i64)A;
-if((u64)E-(u64)u<n)copy_bits_4f4(u,E,n);
-else memmove(E,u,n);
-wp(a,D);
-w8(a+8,C);
-w8(a+16,z);
-F=C;
-goto L3;}
-G=r8(a+16);
-if(G-s<16){
-H=grow_amortized_68b(a,16);
-if(!H)goto L1;
-I=r8(a+16);
-J=r8(a+8);}
-else{
-I=G;
-J=s;}
-K=J+16;
-L=rp(a);
-z16(a+8);
-M=L+(i64)J;
-if((u64)M-(u64)u<16)copy_bits_4f4(u,M,16);
-else memmove(M,u,16);
-wp(a,L);
-w8(a+8,K);
-w8(a+16,I);
-N=s+n;
-if(K<=N){
-F=K;
-goto L3;}
-O=N;}
-else{
-z16(h+2);
-*h=58;
-h[1]=58;
-P=b+(i64)l;
-if((u64)(h+2)-(u64)P<16){
-copy_bits_4f4(P,h+2,16);
-Q=r8(a+8);}
-else{
-memcpy(h+2,P,16);
-Q=m;}
-R=r8(a+16);
-if(R-Q<18){
-S=grow_amortized_68b(a,18);
-if(!S)goto L1;
-T=r8(a+16);
-U=r8(a+8);}
-else{
-T=R;
-U=Q;}
-V=U+18;
-W=rp(a);
-z16(a+8);
-X=W+(i64)U;
-if((u64)X-(u64)h<18)copy_bits_4f4(h,X,18);
-else memcpy(X,h,18);
-wp(a,W);
-w8(a+8,V);
-w8(a+16,T);
-Y=n+2+m;
-if(V<=Y){
-F=V;
-goto L3;}
-O=Y;}
-w8(a+8,O);
-F=O;
-goto L3;
-L1:B=0;
-goto L2;
-L3:w8(a+192,k);
-if(k<c){
-if(*(b+k)==48){
-Z=r8(a+160);
-if(Z!=0){
-aa=rp(a+152)+(i64)(Z<<5);
-if(aa[-32]==2){
-if(aa[-31]>96){
-ba=unnamed_ended_c46(a,b,c,f,d,e);
-B=ba;
-goto L2;}}}}}
-if(r8(a+136)>f){
-ca=r8(a+96);
-if(ca>65534)B=0;
-else{
-da=a[80];
-if(r8(a+120)>ca)ea=ca;
-else{
-fa=make_ready_b73(a+88);
-if(!(fa&1)){
-B=0;
-goto L2;}
-ea=r8(a+96);}
-ga=rp(a+88)+ea*24;
-x8(ga,d);
-x8(ga+8,F);
-ga[16]=e;
-ga[17]=da;
-z6(ga+18);
-w8(a+96,ea+1);
-w2(rp(a+128)+(i64)(f<<1),(u16)ca+1);
-B=1;}}
-else B=0;}
-else B=0;}
-else B=0;
-L2:return B;
-}
-
-/* rust_direct::direct::Direct::push_suffix */
-static void push_suffix_49c(u8* a,u8* b,u8* c,u64 d)
-{
-u64 e,g,h,l,m,o,q,r,t,u,v,z,A,C,D,E,I,J,L,M,N;
-u8 *f,*j,*k,*w,*x,*F,*G,*O,*P;
-u8 i,n,p,s,y,B,H,K;
-e=r8(b+192);
-if(d>e){
-f=c+(i64)e;
-g=usub64(d,e);
-if(g==1||*f!=46){
-h=0;
-i=0;}
-else{
-j=f;
-k=f;
-l=g-1;
-L1:m=l-1;
-n=k[1];
-switch(n){
-case 36:case 46:case 95:break;
-default:if(n<48){
-h=0;
-i=0;
-goto L2;}
-if(n>=58){
-if(n<65){
-h=0;
-i=0;
-goto L2;}
-if(!((n<91)|((u8)(n-97)<26))){
-h=0;
-i=0;
-goto L2;}}
-break;}
-if(m!=0){
-k=k+1;
-l=m;
-goto L1;}
-o=r8(b+8);
-if(r8(b+32)-o<2){
-p=make_ready_8e3(b,2,128);
-if(!(p&1)){
-h=0;
-i=0;
-goto L2;}
-q=r8(b+8);}
-else q=o;
-r=r8(b+16);
-if(r-q<2){
-s=grow_amortized_68b(b,2);
-if(!s){
-h=0;
-i=0;
-goto L2;}
-t=r8(b+16);
-u=r8(b+8);}
-else{
-t=r;
-u=q;}
-v=u+2;
-w=rp(b);
-z16(b+8);
-x=w+(i64)u;
-if((u64)x-(u64)(u8*)t_4f5a<2)copy_bits_4f4((u8*)t_4f5a,x,2);
-else x2(x,10272);
-wp(b,w);
-w8(b+8,v);
-w8(b+16,t);
-if(r8(b+32)-v<g){
-y=make_ready_8e3(b,g,128);
-if(!(y&1)){
-h=0;
-i=0;
-goto L2;}
-z=r8(b+8);
-A=r8(b+16);}
-else{
-z=v;
-A=t;}
-if(g>A-z){
-B=grow_amortized_68b(b,g);
-if(!B){
-h=0;
-i=0;
-goto L2;}
-C=r8(b+16);
-D=r8(b+8);}
-else{
-C=A;
-D=z;}
-E=D+g;
-F=rp(b);
-z16(b+8);
-G=F+(i64)D;
-if((u64)G-(u64)j<g)copy_bits_4f4(j,G,g);
-else memmove(G,j,g);
-wp(b,F);
-w8(b+8,E);
-w8(b+16,C);
-if(r8(b+32)==E){
-H=make_ready_8e3(b,1,128);
-if(!(H&1)){
-h=0;
-i=0;
-goto L2;}
-I=r8(b+8);
-J=r8(b+16);}
-else{
-I=E;
-J=C;}
-if(J==I){
-K=grow_amortized_68b(b,1);
-if(!K){
-h=0;
-i=0;
-goto L2;}
-L=r8(b+16);
-M=r8(b+8);}
-else{
-L=J;
-M=I;}
-N=M+1;
-O=rp(b);
-z16(b+8);
-P=O+(i64)M;
-if((u64)P==(u64)(u8*)t_ba5e)copy_bits_4f4((u8*)t_ba5e,P,1);
-else *P=41;
-wp(b,O);
-w8(b+8,N);
-w8(b+16,L);
-h=1;
-i=4;}}
-else{
-h=0;
-i=0;}
-L2:x8(a,h);
-a[8]=i;
-a[9]=0;
-x8(a+16,0);
-a[24]=0;
-return;
-}
-
-/* rust_direct::direct::Direct::special_named */
-static void special_named_1bc(u8* a,u8* b,u8* c,u64 d,u64 e,u8 f,u64 g,u8* h,u64 i)
-{
-A16 u8 j[12],k[24];
-u64 l,n,o,q,r,t,v,x,y,z,A,C,E,F,H,I,J,K,N,O,P,T,W,Y,Z,ba;
-u8 *m,*s,*da;
-u8 p,u,w,B,D,G,L,M,R,S,V,X,aa,ca;
-v16 Q,U;
-l=r8(b+192);
-if(l<d){
-m=c+(i64)l;
-if(*m==115){
-n=l+1;
-z24(k);
-o=d-n;
-if(o>1){
-if(m[2]==95){
-p=*((u8*)t_84dd+*(c+(i64)n));
-if(p<=61){
-q=3;
-r=p+1;
-goto L1;}
-if(o==2)goto L2;}
-else {
-if(o==2)goto L2;}
-if(m[3]!=95)goto L2;
-s=c+(i64)n;
-t=0;
-u=0;
-v=0;
-L3:w=*((u8*)t_84dd+*(s+(i64)v));
-if(w>=62)goto L2;
-x=t*62+w;
-if(!u){
-t=x;
-u=1;
-v=1;
-goto L3;}
-if(x==18446744073709551615u)goto L2;
-q=4;
-r=x+1;
-L1:y=r;
-z=q+l;
-goto L4;}
-L2:any_number_at_3d4(k,c,d,n);
-if(*k!=1){
-A=0;
-B=0;
-C=0;
-D=0;
-goto L5;}
-y=r8(k+8);
-z=r8(k+16);
-L4:if(y==18446744073709551615u){
-A=0;
-B=0;
-C=0;
-D=0;
-goto L5;}
-E=y+1;
-F=z;}
-else{
-E=0;
-F=l;}}
-else{
-E=0;
-F=l;}
-if(d>F){
-G=*(c+F);
-if(G==48){
-H=F+1;
-I=H;
-J=H;}
-else{
-if((u8)(G-58)>=247){
-K=F+1;
-if(d>K){
-L=*(c+K);
-if(L!=95){
-M=L-48;
-if(M<10){
-N=F+2;
-if(d>N){
-if(*((u8*)t_facb+*(c+N))==0){
-O=(u64)M+(u8)((u8)(G*10)+32);
-if(d-N>=O){
-P=O+N;
-if(!((O>16)|(P<16))){
-Q=v16_at(c+(i64)P-16);
-if((v16_ne(Q,splat(95))&(v16_ult(v16_add(Q,splat(198)),splat(246))&v16_ult(v16_add(v16_or(Q,splat(32)),splat(133)),splat(230))))==0){
-I=N;
-J=P;
-goto L6;}}
-R=are_any_name_bytes_0a3(c,N,P);
-if(R){
-I=N;
-J=P;
-goto L6;}}}}}
-else{
-S=G-48;
-if(d-K>=S){
-T=K+S;
-if(T>=16){
-U=v16_at(c+(i64)T-16);
-if((v16_ne(U,splat(95))&(v16_ult(v16_add(U,splat(198)),splat(246))&v16_ult(v16_add(v16_or(U,splat(32)),splat(133)),splat(230))))==0){
-I=K;
-J=T;
-goto L6;}}
-V=are_any_name_bytes_0a3(c,K,T);
-if(V){
-I=K;
-J=T;
-goto L6;}}}}}}
-z12(j);
-any_name_span_9bc(j,c,d,F);
-W=q8(j+4);
-if(*j!=1){
-A=0;
-B=0;
-C=0;
-D=0;
-goto L5;}
-I=W&4294967295u;
-J=W>>32;}
-L6:X=push_special_c7d(b,h,i,c+(i64)I,J-I,E);
-if(X&1){
-w8(b+192,J);
-if(r8(b+136)>g){
-Y=r8(b+96);
-if(Y>65534){
-A=0;
-B=0;
-C=0;
-D=0;}
-else{
-Z=r8(b+8);
-aa=b[80];
-if(r8(b+120)>Y)ba=Y;
-else{
-ca=make_ready_b73(b+88);
-if(!(ca&1)){
-A=0;
-B=0;
-C=0;
-D=0;
-goto L5;}
-ba=r8(b+96);}
-da=rp(b+88)+ba*24;
-x8(da,e);
-x8(da+8,Z);
-da[16]=f;
-da[17]=aa;
-z6(da+18);
-w8(b+96,ba+1);
-w2(rp(b+128)+(i64)(g<<1),(u16)Y+1);
-A=1;
-B=2;
-C=e;
-D=f;}}
-else{
-A=0;
-B=0;
-C=0;
-D=0;}}
-else{
-A=0;
-B=0;
-C=0;
-D=0;}}
-else{
-A=0;
-B=0;
-C=0;
-D=0;}
-L5:x8(a,A);
-a[8]=B;
-a[9]=0;
-x8(a+16,C);
-a[24]=D;
-return;
-}
-
-/* rust_direct::direct::Direct::push_special */
-static u8 push_special_c7d(u8* a,u8* b,u64 c,u8* d,u64 e,u64 f)
-{
-u64 g,i,k,m,n,o,s,t,v,w,x,B,D,F,H,I,K,L,M,Q,T,U;
-u8 h,j,l,r,u,E,G,J,R,S,V;
-u8 *p,*q,*y,*z,*A,*C,*N,*O,*P;
-g=r8(a+8);
-if(r8(a+32)-g<3){
-h=make_ready_8e3(a,3,128);
-if(!(h&1)){
-j=0;
-goto L1;}
-i=r8(a+8);}
-else i=g;
-k=r8(a+16);
-if(k-i<3){
-l=grow_amortized_68b(a,3);
-if(!l){
-j=0;
-goto L1;}
-m=r8(a+16);
-n=r8(a+8);}
-else{
-m=k;
-n=i;}
-o=n+3;
-p=rp(a);
-z16(a+8);
-q=p+(i64)n;
-if((u64)q-(u64)(u8*)t_6ee9<3)copy_bits_4f4((u8*)t_6ee9,q,3);
-else memcpy(q,(u8*)t_6ee9,3);
-wp(a,p);
-w8(a+8,o);
-w8(a+16,m);
-if(r8(a+32)-o<c){
-r=make_ready_8e3(a,c,128);
-if(!(r&1)){
-j=0;
-goto L1;}
-s=r8(a+8);
-t=r8(a+16);}
-else{
-s=o;
-t=m;}
-if(c>t-s){
-u=grow_amortized_68b(a,c);
-if(!u){
-j=0;
-goto L1;}
-v=r8(a+16);
-w=r8(a+8);}
-else{
-v=t;
-w=s;}
-x=w+c;
-y=rp(a);
-z16(a+8);
-z=y+(i64)w;
-if((u64)z-(u64)b<c)copy_bits_4f4(b,z,c);
-else memmove(z,b,c);
-wp(a,y);
-w8(a+8,x);
-w8(a+16,v);
-if(e==0){
-A=y;
-B=x;}
-else{
-if(r8(a+32)>x){
-C=y;
-D=x;}
-else{
-E=make_ready_8e3(a,1,16);
-if(!(E&1)){
-j=0;
-goto L1;}
-C=rp(a);
-D=r8(a+8);}
-*(C+D)=58;
-F=D+1;
-w8(a+8,F);
-if(r8(a+32)-F<e){
-G=make_ready_8e3(a,e,128);
-if(!(G&1)){
-j=0;
-goto L1;}
-H=r8(a+8);}
-else H=F;
-I=r8(a+16);
-if(e>I-H){
-J=grow_amortized_68b(a,e);
-if(!J){
-j=0;
-goto L1;}
-K=r8(a+16);
-L=r8(a+8);}
-else{
-K=I;
-L=H;}
-M=L+e;
-N=rp(a);
-z16(a+8);
-O=N+(i64)L;
-if((u64)O-(u64)d<e)copy_bits_4f4(d,O,e);
-else memmove(O,d,e);
-wp(a,N);
-w8(a+8,M);
-w8(a+16,K);
-A=N;
-B=M;}
-if(r8(a+32)>B){
-P=A;
-Q=B;}
-else{
-R=make_ready_8e3(a,1,16);
-if(!(R&1)){
-j=0;
-goto L1;}
-P=rp(a);
-Q=r8(a+8);}
-*(P+Q)=35;
-w8(a+8,Q+1);
-S=push_decimal_701(a,f);
-if(S&1){
-T=r8(a+8);
-if(r8(a+32)>T)U=T;
-else{
-V=make_ready_8e3(a,1,16);
-if(!(V&1)){
-j=0;
-goto L1;}
-U=r8(a+8);}
-*(rp(a)+U)=125;
-w8(a+8,U+1);
-j=1;}
-else j=0;
-L1:return j;
-}
-
-/* sym_languages::languages::append_in */
-static void append_in_c46(u8* a,u8* b,u8* c,u64 d,u32 e,u8 f,u8* g)
-{
-A16 u8 h[12],i[104],j[96],k[12],l[92];
-u64 m,n,o,p,s,t,u,w,x,B,E,G,I,J,M,Z,aa,ca;
-u8 q,v,y,F,H,K,P,R,S,V,W;
-u8 *r,*C,*D,*N,*O,*X,*Y,*ba;
-u32 z,A,L,Q,T,U;
-if(f==0){
-m=(d<<3)+1024;
-n=umin64(e>>2,m);
-if(r8(b+432)!=0)w8(b+432,0);
-w8(b+448,n);
-w8(b+456,umin64(r8(b+440),n));
-if(r8(b+472)!=0)w8(b+472,0);
-o=m&0xfffffff8u;
-w8(b+488,o);
-w8(b+496,umin64(r8(b+480),o));
-b[504]=0;
-if(r8(b+520)!=0)w8(b+520,0);
-p=d&4294967295u;
-w8(b+536,p);
-w8(b+544,umin64(r8(b+528),p));
-if(r8(b+560)!=0)w8(b+560,0);
-if(r8(b+584)!=0)w8(b+584,0);
-w8(b+600,p);
-w8(b+608,umin64(r8(b+592),p));
-q=run_41f(b+424,c,d,e);
-if(q){
-r=rp(b+424);
-s=r8(b+432);
-t=r8(g+16);
-u=r8(g+8);
-if(s>t-u){
-v=grow_amortized_68b(g,s);
-if(!v){
-y=1;
-z=4;
-A=0;
-goto L1;}
-w=r8(g+16);
-x=r8(g+8);}
-else{
-w=t;
-x=u;}
-B=x+s;
-C=rp(g);
-z16(g+8);
-D=C+(i64)x;
-if((u64)D-(u64)r<s)copy_bits_4f4(r,D,s);
-else memmove(D,r,s);
-wp(g,C);
-w8(g+8,B);
-w8(g+16,w);
-y=0;
-z=0;
-A=0;
-goto L1;}
-if(r8(b+432)!=0)w8(b+432,0);
-z16(b+448);
-if(r8(b+472)!=0)w8(b+472,0);
-z17(b+488);
-if(r8(b+520)!=0)w8(b+520,0);
-z16(b+536);
-if(r8(b+560)!=0)w8(b+560,0);
-if(r8(b+584)!=0)w8(b+584,0);
-z16(b+600);}
-z12(k);
-z104(i);
-E=r8(b+640);
-if(!((d<E)|((E&4294967295u)==0))){
-F=parts_equal_58b(c,E,rp(b+632),E);
-if(F){
-read_on_1ef(i,b,c+(i64)E,d-E);
-goto L2;}}
-z12(h);
-x4(b+24,0);
-x4(b+28,0);
-if(r8(b+40)!=0)w8(b+40,0);
-if(r8(b+64)!=0)w8(b+64,0);
-w8(b+80,0);
-w4(b+88,0);
-run_48d(h,b+24,c,d,1);
-if(*h==0){
-if(r8(b+8)!=0)w8(b+8,0);
-G=r8(b+16);
-if(d>G){
-H=grow_amortized_68b(b,d);
-if(!H){
-K=4;
-L=0;
-goto L3;}
-I=r8(b+16);
-J=r8(b+8);}
-else{
-I=G;
-J=0;}
-M=J+d;
-N=rp(b);
-z16(b+8);
-O=N+(i64)J;
-if((u64)O-(u64)c<d)copy_bits_4f4(c,O,d);
-else memmove(O,c,d);
-wp(b,N);
-w8(b+8,M);
-w8(b+16,I);
-link_57d(i,b);
-goto L2;}
-P=h[4];
-Q=r4(h+8);
-x4(b+24,0);
-x4(b+28,0);
-if(r8(b+40)!=0)w8(b+40,0);
-if(r8(b+64)!=0)w8(b+64,0);
-w8(b+80,0);
-w4(b+88,0);
-K=P;
-L=Q;
-L3:R=1;
-S=K;
-T=L;
-goto L4;
-L2:U=r4(i+8);
-V=*i;
-W=i[4];
-memcpy(l,i+12,92);
-if(V==0){
-w4(j,U);
-memcpy(j+4,l,92);
-print_0c9(k,b,j,e,f,g);
-X=qp(b+96);
-Y=qp(b+120);
-Z=q8(b+136);
-aa=q8(b+112);
-memcpy(b+96,l+20,56);
-if(aa!=0)port_rattle_dealloc(X);
-if(Z!=0)port_rattle_dealloc(Y);
-ba=qp(b);
-ca=q8(b+16);
-memcpy(b,j,24);
-if(ca!=0)port_rattle_dealloc(ba);
-R=*k;
-S=k[4];
-T=r4(k+8);}
-else{
-R=1;
-S=W;
-T=U;}
-L4:y=R;
-z=S;
-A=T;
-L1:*a=y;
-x4(a+4,z);
-x4(a+8,A);
-return;
-}
-
-/* rust_short_way::run */
-static u8 run_41f(u8* a,u8* b,u64 c,u32 d)
-{
-u8 h[1],m[18],p[32],r[32];
-A16 u8 e[40],f[40],g[32],i[40],j[32],k[40],l[32],n[40],o[40],q[24],s[24];
-u64 t,u,v,x,y,A,C,D,G,H,I,J,K,L,N,R,T,U,W,X,Z,aa,ca,da,ga,ha,ia,la,ma,pa,qa,ta,ua,xa,ya,Aa,Ca,Fa,Ga,Ia,Ja,Ka,Ma,Pa,Ra,Sa,Ta,Ua,Wa,Xa,Ya,ab,bb,cb,eb,jb,kb,mb,ob,pb,sb,tb,wb,xb,yb,zb,Bb,Cb,Eb,Fb,Gb,Jb,Kb,Nb,Ob,Pb,Qb,Sb,Tb,Vb,Wb,Xb,ac,bc,ec,fc,hc,ic,kc,lc,mc,pc,qc,tc,uc,wc,xc,zc,Ac,Bc,Ec,Fc,Ic,Jc,Lc,Mc,Oc,Pc,Qc,Tc,Uc,Xc,Yc,ad,bd,dd,ed,fd,id,jd,md,nd,od,qd,sd,ud,xd,zd,Ad,Bd,Cd,Ed,Hd,Id,Jd,Kd,Ld,Rd,Sd,Wd,Yd,Zd,ce,de,fe,ge,je,ke,me,ne,pe,qe,re,ue,ve,ye,Ae,Ce,De,Fe,Ge,He,Ke,Ne,Pe,Qe,Se,Te,Ze,bf,df,ff,gf,hf,mf,nf,qf,tf,uf,vf,xf,yf,Bf,Ef,Ff,Kf,Lf,Mf,Qf,Rf,Uf,Vf,Wf,Yf,Zf,bg,dg,fg,gg,hg,ig,kg,mg,ng,pg,qg,rg,xg,yg,Cg,Eg,Fg,Ig,Jg,Ng,Og,Sg,Tg,Wg,Xg,bh,ch,fh,gh,jh,kh,nh,oh,th,uh,wh,zh,Ah,Fh,Kh,Mh,Nh,Rh,Sh,Vh,Yh,Zh,ai,ci,di,gi,ji,ki,mi,oi,pi,qi,ti,ui,wi,xi,yi,Bi,Ci,Ei,Fi,Gi,Ji,Ki,Mi,Ni,Pi,Qi,Ri,Ui,Vi,Zi,bj,fj,gj,ij,kj,pj,uj,wj,yj,Aj,Cj,Dj,Fj,Gj,Hj,Kj,Mj,Pj,Rj,Sj,Tj,Xj,Yj,ak,ck,dk,fk,gk,hk,lk,mk,qk,sk,uk,wk,xk,zk,Ak,Dk,Ek,Gk,Jk,Kk,Mk,Nk,Pk,Sk,Tk,Vk,Wk,Yk,bl,cl,dl,el,fl,hl,kl,ml,nl,pl,ql,rl,ul,vl,yl,zl,Bl,Cl,El,Fl,Gl,Il,Ll,Ml,Ol,Pl,Rl,Ul,Vl,Xl,Yl,bm,cm,em,fm,im,jm,lm,mm,pm,rm,sm,um,vm,wm,zm,Am,Dm,Em,Gm,Hm,Jm,Mm;
-u8 w,z,E,M,O,P,Q,S,Y,ba,ea,fa,ja,ka,na,oa,ra,sa,va,wa,za,Ba,Da,Ea,La,Na,Qa,Va,db,fb,hb,ib,nb,qb,ub,Ab,Db,Lb,Rb,Ub,cc,gc,jc,rc,vc,yc,Gc,Kc,Nc,Vc,Zc,cd,kd,pd,vd,yd,Gd,Nd,Od,Pd,Qd,Ud,Vd,Xd,ae,be,ee,he,le,oe,we,Be,Ee,Le,Me,Oe,Re,Ue,Ve,We,Xe,Ye,af,lf,pf,rf,sf,zf,Af,Df,Hf,If,Jf,Nf,Of,Pf,Sf,Tf,Xf,cg,eg,og,tg,ug,vg,wg,Ag,Bg,Dg,Gg,Hg,Mg,Qg,Rg,Ug,ah,eh,hh,lh,mh,ph,sh,yh,Bh,Ch,Dh,Eh,Gh,Hh,Ih,Jh,Lh,Qh,Uh,Wh,Xh,ei,fi,ii,li,ni,si,vi,Di,Oi,Xi,Yi,aj,cj,ej,jj,mj,nj,oj,qj,rj,sj,tj,vj,xj,Bj,Ej,Lj,Nj,Qj,Uj,Wj,Zj,bk,ek,kk,nk,pk,tk,yk,Bk,Fk,Hk,Lk,Ok,Qk,Uk,Xk,Zk,gl,il,ll,ol,wl,Al,Hl,Jl,Nl,Ql,Sl,Wl,Zl,dm,gm,km,nm,qm,tm,Bm,Fm,Im,Km;
-u8 *B,*F,*V,*Oa,*gb,*lb,*rb,*vb,*Hb,*Ib,*Mb,*Yb,*Zb,*dc,*nc,*oc,*sc,*Cc,*Dc,*Hc,*Rc,*Sc,*Wc,*gd,*hd,*ld,*td,*Fd,*Md,*Td,*ie,*se,*te,*xe,*ze,*Ie,*Je,*cf,*ef,*Gf,*ag,*lg,*sg,*zg,*Vg,*ih,*qh,*rh,*vh,*xh,*ri,*zi,*Ai,*Hi,*Ii,*Li,*Si,*Ti,*Wi,*dj,*hj,*lj,*zj,*Ij,*Jj,*Oj,*Vj,*ik,*jk,*ok,*rk,*vk,*Ck,*Ik,*Rk,*al,*jl,*sl,*tl,*xl,*Kl,*Tl,*am,*hm,*om,*xm,*ym,*Cm,*Lm;
-s_8_64 Ha,Za,of,Pg,dh,Th,Dl;
-u16 Dd,kf,jg,Lg,Zg,Ph;
-v16 jf,wf,Cf,Kg,Yg,Oh,bi,hi;
-if(c-1<65536){
-if(*b==95&&c>1){
-if(b[1]==82){
-t=r8(a+136);
-if(c>t){
-u=c-t;
-v=r8(a+144);
-if(u>v-t){
-w=grow_amortized_3c2(a+128,u);
-if(!w){
-z=0;
-goto L1;}
-x=r8(a+144);
-y=r8(a+136);}
-else{
-x=v;
-y=t;}
-A=y+u;
-B=rp(a+128);
-if(y<A)memset(B+(i64)(y<<1),0,u<<1);
-wp(a+128,B);
-w8(a+136,A);
-w8(a+144,x);}
-else {
-if(t>c)w8(a+136,c);}
-C=r8(a+160);
-if(r8(a+184)>C)D=C;
-else{
-E=make_ready_e3c(a+152);
-if(!(E&1)){
-z=0;
-goto L1;}
-D=r8(a+160);}
-F=rp(a+152)+(D<<5);
-*F=0;
-F[1]=0;
-z17(F+8);
-w8(a+160,D+1);
-w8(a+192,2);
-G=c<<3;
-H=(u64)r;
-I=(u64)p;
-J=(u64)(m+2);
-K=(u64)m;
-L=0;
-M=0;
-N=0;
-O=1;
-P=0;
-L2:if(P==4)z=r8(a+8)<=(d>>2);
-else{
-w8(a+200,r8(a+200)+1);
-switch(P){
-case 3:Q=O&1;
-R=r8(a+192);
-if(R<c){
-S=*(b+R);
-if(S==69){
-T=r8(a+160);
-if(T==0){
-z=0;
-goto L1;}
-U=T-1;
-w8(a+160,U);
-V=rp(a+152)+(U<<5);
-if(*V!=4){
-z=0;
-goto L1;}
-W=q8(V+8);
-X=q8(V+16);
-Y=V[24];
-w8(a+192,R+1);
-Z=r8(a+8);
-if(r8(a+32)>Z)aa=Z;
-else{
-ba=make_ready_8e3(a,1,16);
-if(!(ba&1)){
-z=0;
-goto L1;}
-aa=r8(a+8);}
-*(rp(a)+aa)=62;
-ca=aa+1;
-w8(a+8,ca);
-if(r8(a+136)<=W){
-z=0;
-goto L1;}
-da=r8(a+96);
-if(da>65534){
-z=0;
-goto L1;}
-ea=2-(Y&1);
-fa=a[80];
-if(r8(a+120)>da){
-ga=da;
-ha=X;
-ia=ca;
-ja=ea;
-ka=fa;
-la=da;
-ma=W;
-na=ea;
-goto L3;}
-oa=make_ready_b73(a+88);
-if(!(oa&1)){
-z=0;
-goto L1;}
-pa=X;
-qa=ca;
-ra=ea;
-sa=fa;
-ta=da;
-ua=W;
-va=ea;
-goto L4;}
-wa=S;}
-else wa=0;
-if(Q){
-switch(wa){
-case 76:xa=R+1;
-if(!((R!=18446744073709551615u)&(xa<c))){
-z=0;
-goto L1;}
-if(*(b+xa)!=95){
-z=0;
-goto L1;}
-w8(a+192,R+2);
-ya=r8(a+8);
-if(r8(a+32)-ya<2){
-za=make_ready_8e3(a,2,128);
-if(!(za&1)){
-z=0;
-goto L1;}
-Aa=r8(a+8);}
-else Aa=ya;
-*(rp(a)+Aa)=39;
-*(rp(a)+(i64)Aa+1)=95;
-w8(a+8,Aa+2);
-Ba=0;
-Ca=0;
-Da=0;
-Ea=3;
-goto L5;
-case 75:if(R==18446744073709551615u){
-z=0;
-goto L1;}
-Fa=R+1;
-Ga=r8(a+8);
-Ha=constant_at_b72(a,b,c,Fa);
-if(Ha.f0!=1){
-z=0;
-goto L1;}
-if(r8(a+136)<=Fa){
-z=0;
-goto L1;}
-Ia=r8(a+96);
-if(Ia>65534){
-z=0;
-goto L1;}
-Ja=Ha.f1;
-Ka=r8(a+8);
-La=a[80];
-if(r8(a+120)>Ia)Ma=Ia;
-else{
-Na=make_ready_b73(a+88);
-if(!(Na&1)){
-z=0;
-goto L1;}
-Ma=r8(a+96);}
-Oa=rp(a+88)+Ma*24;
-x8(Oa,Ga);
-x8(Oa+8,Ka);
-Oa[16]=4;
-Oa[17]=La;
-z6(Oa+18);
-w8(a+96,Ma+1);
-w2(rp(a+128)+(i64)(Fa<<1),(u16)Ia+1);
-w8(a+192,Ja);
-Ba=0;
-Ca=0;
-Da=0;
-Ea=3;
-goto L5;
-default:break;}}
-else{
-Pa=r8(a+8);
-if(r8(a+32)-Pa<2){
-Qa=make_ready_8e3(a,2,128);
-if(!(Qa&1)){
-z=0;
-goto L1;}
-Ra=r8(a+8);}
-else Ra=Pa;
-*(rp(a)+Ra)=44;
-*(rp(a)+(i64)Ra+1)=32;
-Sa=Ra+2;
-w8(a+8,Sa);
-switch(wa){
-case 76:Ta=r8(a+192);
-Ua=Ta+1;
-if(!((Ta!=18446744073709551615u)&(Ua<c))){
-z=0;
-goto L1;}
-if(*(b+Ua)!=95){
-z=0;
-goto L1;}
-w8(a+192,Ta+2);
-if(r8(a+32)-Sa<2){
-Va=make_ready_8e3(a,2,128);
-if(!(Va&1)){
-z=0;
-goto L1;}
-Wa=r8(a+8);}
-else Wa=Sa;
-*(rp(a)+Wa)=39;
-*(rp(a)+(i64)Wa+1)=95;
-w8(a+8,Wa+2);
-Ba=0;
-Ca=0;
-Da=0;
-Ea=3;
-goto L5;
-case 75:Xa=r8(a+192);
-if(Xa==18446744073709551615u){
-z=0;
-goto L1;}
-Ya=Xa+1;
-Za=constant_at_b72(a,b,c,Ya);
-if(Za.f0!=1){
-z=0;
-goto L1;}
-if(r8(a+136)<=Ya){
-z=0;
-goto L1;}
-ab=r8(a+96);
-if(ab>65534){
-z=0;
-goto L1;}
-bb=Za.f1;
-cb=r8(a+8);
-db=a[80];
-if(r8(a+120)>ab)eb=ab;
-else{
-fb=make_ready_b73(a+88);
-if(!(fb&1)){
-z=0;
-goto L1;}
-eb=r8(a+96);}
-gb=rp(a+88)+eb*24;
-x8(gb,Sa);
-x8(gb+8,cb);
-gb[16]=4;
-gb[17]=db;
-z6(gb+18);
-w8(a+96,eb+1);
-w2(rp(a+128)+(i64)(Ya<<1),(u16)ab+1);
-w8(a+192,bb);
-Ba=0;
-Ca=0;
-Da=0;
-Ea=3;
-goto L5;
-default:break;}}
-break;
-case 1:break;
-case 0:hb=O;
-goto L6;
-case 2:ib=M;
-jb=N;
-goto L7;
-default:Ba=M;
-Ca=N;
-Da=O;
-Ea=P;
-goto L5;
-}
-kb=r8(a+192);
-if(kb>=c){
-z=0;
-goto L1;}
-lb=b+(i64)kb;
-switch(*lb){
-case 78:mb=kb+1;
-if(c<=mb){
-z=0;
-goto L1;}
-nb=*(b+mb);
-if(*((u8*)t_eb43+nb)==0){
-z=0;
-goto L1;}
-w8(a+192,kb+2);
-ob=r8(a+160);
-if(r8(a+184)>ob)pb=ob;
-else{
-qb=make_ready_e3c(a+152);
-if(!(qb&1)){
-z=0;
-goto L1;}
-pb=r8(a+160);}
-rb=rp(a+152)+(pb<<5);
-*rb=2;
-rb[1]=nb;
-x8(rb+8,kb);
-x8(rb+16,0);
-rb[24]=0;
-w8(a+160,pb+1);
-hb=0;
-goto L6;
-case 73:w8(a+192,kb+1);
-sb=r8(a+160);
-if(r8(a+184)>sb)tb=sb;
-else{
-ub=make_ready_e3c(a+152);
-if(!(ub&1)){
-z=0;
-goto L1;}
-tb=r8(a+160);}
-vb=rp(a+152)+(tb<<5);
-*vb=3;
-vb[1]=0;
-x8(vb+8,kb);
-x8(vb+16,0);
-vb[24]=0;
-w8(a+160,tb+1);
-hb=0;
-goto L6;
-case 82:wb=kb+1;
-if(wb<c){
-if(*(b+wb)==76){
-xb=kb+2;
-if(xb>=c){
-z=0;
-goto L1;}
-if(*(b+xb)!=95){
-z=0;
-goto L1;}
-yb=kb+3;}
-else yb=wb;}
-else yb=wb;
-zb=r8(a+8);
-if(r8(a+32)==zb){
-Ab=make_ready_8e3(a,1,128);
-if(!(Ab&1)){
-z=0;
-goto L1;}
-Bb=r8(a+8);}
-else Bb=zb;
-Cb=r8(a+16);
-if(Cb==Bb){
-Db=grow_amortized_68b(a,1);
-if(!Db){
-z=0;
-goto L1;}
-Eb=r8(a+16);
-Fb=r8(a+8);}
-else{
-Eb=Cb;
-Fb=Bb;}
-Gb=Fb+1;
-Hb=rp(a);
-z16(a+8);
-Ib=Hb+(i64)Fb;
-if((u64)Ib==(u64)(u8*)t_951d)copy_bits_4f4((u8*)t_951d,Ib,1);
-else *Ib=38;
-wp(a,Hb);
-w8(a+8,Gb);
-w8(a+16,Eb);
-Jb=r8(a+160);
-if(r8(a+184)>Jb)Kb=Jb;
-else{
-Lb=make_ready_e3c(a+152);
-if(!(Lb&1)){
-z=0;
-goto L1;}
-Kb=r8(a+160);}
-Mb=rp(a+152)+(Kb<<5);
-*Mb=9;
-Mb[1]=0;
-x8(Mb+8,kb);
-x8(Mb+16,zb);
-Mb[24]=0;
-w8(a+160,Kb+1);
-w8(a+192,yb);
-Ba=0;
-Ca=0;
-Da=0;
-Ea=1;
-goto L5;
-case 81:Nb=kb+1;
-if(Nb<c){
-if(*(b+Nb)==76){
-Ob=kb+2;
-if(Ob>=c){
-z=0;
-goto L1;}
-if(*(b+Ob)!=95){
-z=0;
-goto L1;}
-Pb=kb+3;}
-else Pb=Nb;}
-else Pb=Nb;
-Qb=r8(a+8);
-if(r8(a+32)-Qb<5){
-Rb=make_ready_8e3(a,5,128);
-if(!(Rb&1)){
-z=0;
-goto L1;}
-Sb=r8(a+8);}
-else Sb=Qb;
-Tb=r8(a+16);
-if(Tb-Sb<5){
-Ub=grow_amortized_68b(a,5);
-if(!Ub){
-z=0;
-goto L1;}
-Vb=r8(a+16);
-Wb=r8(a+8);}
-else{
-Vb=Tb;
-Wb=Sb;}
-Xb=Wb+5;
-Yb=rp(a);
-z16(a+8);
-Zb=Yb+(i64)Wb;
-if((u64)Zb-(u64)(u8*)t_d821<5)copy_bits_4f4((u8*)t_d821,Zb,5);
-else memcpy(Zb,(u8*)t_d821,5);
-wp(a,Yb);
-w8(a+8,Xb);
-w8(a+16,Vb);
-ac=r8(a+160);
-if(r8(a+184)>ac)bc=ac;
-else{
-cc=make_ready_e3c(a+152);
-if(!(cc&1)){
-z=0;
-goto L1;}
-bc=r8(a+160);}
-dc=rp(a+152)+(bc<<5);
-*dc=9;
-dc[1]=0;
-x8(dc+8,kb);
-x8(dc+16,Qb);
-dc[24]=0;
-w8(a+160,bc+1);
-w8(a+192,Pb);
-Ba=0;
-Ca=0;
-Da=0;
-Ea=1;
-goto L5;
-case 80:ec=kb+1;
-fc=r8(a+8);
-if(r8(a+32)-fc<7){
-gc=make_ready_8e3(a,7,128);
-if(!(gc&1)){
-z=0;
-goto L1;}
-hc=r8(a+8);}
-else hc=fc;
-ic=r8(a+16);
-if(ic-hc<7){
-jc=grow_amortized_68b(a,7);
-if(!jc){
-z=0;
-goto L1;}
-kc=r8(a+16);
-lc=r8(a+8);}
-else{
-kc=ic;
-lc=hc;}
-mc=lc+7;
-nc=rp(a);
-z16(a+8);
-oc=nc+(i64)lc;
-if((u64)oc-(u64)(u8*)t_ff67<7)copy_bits_4f4((u8*)t_ff67,oc,7);
-else memcpy(oc,(u8*)t_ff67,7);
-wp(a,nc);
-w8(a+8,mc);
-w8(a+16,kc);
-pc=r8(a+160);
-if(r8(a+184)>pc)qc=pc;
-else{
-rc=make_ready_e3c(a+152);
-if(!(rc&1)){
-z=0;
-goto L1;}
-qc=r8(a+160);}
-sc=rp(a+152)+(qc<<5);
-*sc=9;
-sc[1]=0;
-x8(sc+8,kb);
-x8(sc+16,fc);
-sc[24]=0;
-w8(a+160,qc+1);
-w8(a+192,ec);
-Ba=0;
-Ca=0;
-Da=0;
-Ea=1;
-goto L5;
-case 79:tc=kb+1;
-uc=r8(a+8);
-if(r8(a+32)-uc<5){
-vc=make_ready_8e3(a,5,128);
-if(!(vc&1)){
-z=0;
-goto L1;}
-wc=r8(a+8);}
-else wc=uc;
-xc=r8(a+16);
-if(xc-wc<5){
-yc=grow_amortized_68b(a,5);
-if(!yc){
-z=0;
-goto L1;}
-zc=r8(a+16);
-Ac=r8(a+8);}
-else{
-zc=xc;
-Ac=wc;}
-Bc=Ac+5;
-Cc=rp(a);
-z16(a+8);
-Dc=Cc+(i64)Ac;
-if((u64)Dc-(u64)(u8*)t_b2e2<5)copy_bits_4f4((u8*)t_b2e2,Dc,5);
-else memcpy(Dc,(u8*)t_b2e2,5);
-wp(a,Cc);
-w8(a+8,Bc);
-w8(a+16,zc);
-Ec=r8(a+160);
-if(r8(a+184)>Ec)Fc=Ec;
-else{
-Gc=make_ready_e3c(a+152);
-if(!(Gc&1)){
-z=0;
-goto L1;}
-Fc=r8(a+160);}
-Hc=rp(a+152)+(Fc<<5);
-*Hc=9;
-Hc[1]=0;
-x8(Hc+8,kb);
-x8(Hc+16,uc);
-Hc[24]=0;
-w8(a+160,Fc+1);
-w8(a+192,tc);
-Ba=0;
-Ca=0;
-Da=0;
-Ea=1;
-goto L5;
-case 83:Ic=kb+1;
-Jc=r8(a+8);
-if(r8(a+32)==Jc){
-Kc=make_ready_8e3(a,1,128);
-if(!(Kc&1)){
-z=0;
-goto L1;}
-Lc=r8(a+8);}
-else Lc=Jc;
-Mc=r8(a+16);
-if(Mc==Lc){
-Nc=grow_amortized_68b(a,1);
-if(!Nc){
-z=0;
-goto L1;}
-Oc=r8(a+16);
-Pc=r8(a+8);}
-else{
-Oc=Mc;
-Pc=Lc;}
-Qc=Pc+1;
-Rc=rp(a);
-z16(a+8);
-Sc=Rc+(i64)Pc;
-if((u64)Sc==(u64)(u8*)t_2458)copy_bits_4f4((u8*)t_2458,Sc,1);
-else *Sc=91;
-wp(a,Rc);
-w8(a+8,Qc);
-w8(a+16,Oc);
-Tc=r8(a+160);
-if(r8(a+184)>Tc)Uc=Tc;
-else{
-Vc=make_ready_e3c(a+152);
-if(!(Vc&1)){
-z=0;
-goto L1;}
-Uc=r8(a+160);}
-Wc=rp(a+152)+(Uc<<5);
-*Wc=9;
-Wc[1]=0;
-x8(Wc+8,kb);
-x8(Wc+16,Jc);
-Wc[24]=1;
-w8(a+160,Uc+1);
-w8(a+192,Ic);
-Ba=0;
-Ca=0;
-Da=0;
-Ea=1;
-goto L5;
-case 84:Xc=r8(a+8);
-Yc=kb+1;
-if(r8(a+32)==Xc){
-Zc=make_ready_8e3(a,1,128);
-if(!(Zc&1)){
-z=0;
-goto L1;}
-ad=r8(a+8);}
-else ad=Xc;
-bd=r8(a+16);
-if(bd==ad){
-cd=grow_amortized_68b(a,1);
-if(!cd){
-z=0;
-goto L1;}
-dd=r8(a+16);
-ed=r8(a+8);}
-else{
-dd=bd;
-ed=ad;}
-fd=ed+1;
-gd=rp(a);
-z16(a+8);
-hd=gd+(i64)ed;
-if((u64)hd==(u64)(u8*)t_32eb)copy_bits_4f4((u8*)t_32eb,hd,1);
-else *hd=40;
-wp(a,gd);
-w8(a+8,fd);
-w8(a+16,dd);
-id=r8(a+160);
-if(r8(a+184)>id)jd=id;
-else{
-kd=make_ready_e3c(a+152);
-if(!(kd&1)){
-z=0;
-goto L1;}
-jd=r8(a+160);}
-ld=rp(a+152)+(jd<<5);
-*ld=12;
-ld[1]=0;
-x8(ld+8,kb);
-x8(ld+16,Xc);
-ld[24]=1;
-w8(a+160,jd+1);
-w8(a+192,Yc);
-Ba=0;
-Ca=0;
-Da=0;
-Ea=1;
-goto L5;
-case 66:md=r8(a+8);
-nd=kb+1;
-z24(s);
-od=c-nd;
-if(od>1){
-if(lb[2]==95){
-pd=*((u8*)t_84dd+*(b+(i64)nd));
-if(pd<=61){
-qd=3;
-sd=pd+1;
-goto L8;}
-if(od==2)goto L9;}
-else {
-if(od==2)goto L9;}
-if(lb[3]!=95)goto L9;
-td=b+(i64)nd;
-ud=0;
-vd=0;
-xd=0;
-L10:yd=*((u8*)t_84dd+*(td+(i64)xd));
-if(yd>=62)goto L9;
-zd=ud*62+yd;
-if(!vd){
-ud=zd;
-vd=1;
-xd=1;
-goto L10;}
-if(zd==18446744073709551615u)goto L9;
-qd=4;
-sd=zd+1;
-L8:Ad=sd;
-Bd=qd+kb;
-goto L11;}
-L9:any_number_at_3d4(s,b,c,nd);
-if(*s!=1){
-z=0;
-goto L1;}
-Ad=r8(s+8);
-Bd=r8(s+16);
-L11:if(Ad>=0xfffffffffffffffeu){
-z=0;
-goto L1;}
-Cd=Ad+2;
-if(Cd>=r8(a+136)){
-z=0;
-goto L1;}
-Dd=r2(rp(a+128)+(i64)(Cd<<1));
-if(Dd==0){
-z=0;
-goto L1;}
-Ed=(u64)Dd-1;
-if(Ed>=r8(a+96)){
-z=0;
-goto L1;}
-Fd=rp(a+88)+(i64)(Ed*24);
-Gd=Fd[16];
-switch(Gd){
-case 0:case 2:case 3:Hd=q8(Fd);
-Id=q8(Fd+8);
-if(Id<Hd){
-z=0;
-goto L1;}
-if((u8)(a[80]^Fd[17])&1){
-Jd=r8(a+48);
-if(Jd<Id){
-z=0;
-goto L1;}
-Kd=Id-Hd;
-Ld=r8(a+32)-md;
-Md=rp(a+40)+(i64)Hd;
-if(!((Kd>16)|(Jd-Hd<16)||Ld<16)){
-Qd=extend_from_slice_674(a,Md,16);
-if(Qd&1){
-z=0;
-goto L1;}
-Rd=Kd+md;
-if(r8(a+8)<=Rd)goto L12;
-w8(a+8,Rd);
-goto L12;}
-if(Ld<Kd){
-Nd=make_ready_8e3(a,Kd,128);
-if(!(Nd&1)){
-z=0;
-goto L1;}}
-Od=extend_from_slice_674(a,Md,Kd);
-Pd=Od^1;}
-else{
-if(md<Id){
-z=0;
-goto L1;}
-Sd=Id-Hd;
-if((md-Hd>31)&(Sd<33)){
-if(r8(a+32)-md>31){
-z32(r);
-Td=rp(a)+(i64)Hd;
-if(H-(u64)Td<32)copy_bits_4f4(Td,r,32);
-else memcpy(r,Td,32);
-Ud=extend_from_slice_674(a,r,32);
-if(Ud&1)Vd=0;
-else{
-Wd=Sd+md;
-if(r8(a+8)>Wd){
-w8(a+8,Wd);
-Vd=1;}
-else Vd=1;}
-Pd=Vd;
-goto L13;}}
-Xd=repeat_any_4a2(a,Hd,Id);
-Pd=Xd;}
-L13:if(!(Pd&1)){
-z=0;
-goto L1;}
-L12:w8(a+192,Bd);
-if(r8(a+136)<=kb){
-z=0;
-goto L1;}
-Yd=r8(a+96);
-if(Yd>65534){
-z=0;
-goto L1;}
-Zd=r8(a+8);
-ae=a[80];
-if(r8(a+120)>Yd){
-ga=Yd;
-ha=md;
-ia=Zd;
-ja=Gd;
-ka=ae;
-la=Yd;
-ma=kb;
-na=3;
-goto L3;}
-be=make_ready_b73(a+88);
-if(!(be&1)){
-z=0;
-goto L1;}
-pa=md;
-qa=Zd;
-ra=Gd;
-sa=ae;
-ta=Yd;
-ua=kb;
-va=3;
-goto L4;
-case 1:case 4:z=0;
-goto L1;
-default:NEVER;
-}
-break;
-case 65:ce=r8(a+8);
-w8(a+192,kb+1);
-if(r8(a+32)>ce)de=ce;
-else{
-ee=make_ready_8e3(a,1,16);
-if(!(ee&1)){
-z=0;
-goto L1;}
-de=r8(a+8);}
-*(rp(a)+de)=91;
-w8(a+8,de+1);
-fe=r8(a+160);
-if(r8(a+184)>fe)ge=fe;
-else{
-he=make_ready_e3c(a+152);
-if(!(he&1)){
-z=0;
-goto L1;}
-ge=r8(a+160);}
-ie=rp(a+152)+(ge<<5);
-*ie=14;
-ie[1]=0;
-x8(ie+8,kb);
-x8(ie+16,ce);
-ie[24]=0;
-w8(a+160,ge+1);
-Ba=0;
-Ca=0;
-Da=0;
-Ea=1;
-goto L5;
-case 68:je=r8(a+8);
-ke=kb+1;
-if(r8(a+32)-je<4){
-le=make_ready_8e3(a,4,128);
-if(!(le&1)){
-z=0;
-goto L1;}
-me=r8(a+8);}
-else me=je;
-ne=r8(a+16);
-if(ne-me<4){
-oe=grow_amortized_68b(a,4);
-if(!oe){
-z=0;
-goto L1;}
-pe=r8(a+16);
-qe=r8(a+8);}
-else{
-pe=ne;
-qe=me;}
-re=qe+4;
-se=rp(a);
-z16(a+8);
-te=se+(i64)qe;
-if((u64)te-(u64)(u8*)t_f616<4)copy_bits_4f4((u8*)t_f616,te,4);
-else x4(te,544110948);
-wp(a,se);
-w8(a+8,re);
-w8(a+16,pe);
-ue=r8(a+160);
-if(r8(a+184)>ue)ve=ue;
-else{
-we=make_ready_e3c(a+152);
-if(!(we&1)){
-z=0;
-goto L1;}
-ve=r8(a+160);}
-xe=rp(a+152)+(ve<<5);
-*xe=13;
-xe[1]=0;
-x8(xe+8,kb);
-x8(xe+16,je);
-xe[24]=0;
-w8(a+160,ve+1);
-w8(a+192,ke);
-hb=0;
-goto L6;
-case 97:ye=2;
-ze=(u8*)t_4c1d;
-break;
-case 98:ye=4;
-ze=(u8*)t_b760;
-break;
-case 99:ye=4;
-ze=(u8*)t_411b;
-break;
-case 100:ye=3;
-ze=(u8*)t_6a3e;
-break;
-case 101:ye=3;
-ze=(u8*)t_8c25;
-break;
-case 102:ye=3;
-ze=(u8*)t_16b5;
-break;
-case 104:ye=2;
-ze=(u8*)t_c899;
-break;
-case 105:ye=5;
-ze=(u8*)t_db3b;
-break;
-case 106:ye=5;
-ze=(u8*)t_f417;
-break;
-case 108:ye=3;
-ze=(u8*)t_579a;
-break;
-case 109:ye=3;
-ze=(u8*)t_d764;
-break;
-case 110:ye=4;
-ze=(u8*)t_9cf5;
-break;
-case 111:ye=4;
-ze=(u8*)t_fcd0;
-break;
-case 112:ye=1;
-ze=(u8*)t_d2e2;
-break;
-case 115:ye=3;
-ze=(u8*)t_7daa;
-break;
-case 116:ye=3;
-ze=(u8*)t_2988;
-break;
-case 117:ye=2;
-ze=(u8*)t_2e38;
-break;
-case 118:ye=3;
-ze=(u8*)t_ab5d;
-break;
-case 120:ye=3;
-ze=(u8*)t_1a91;
-break;
-case 121:ye=3;
-ze=(u8*)t_1506;
-break;
-case 122:ye=1;
-ze=(u8*)t_bb72;
-break;
-default:z=0;
-goto L1;
-}
-Ae=r8(a+8);
-w8(a+192,kb+1);
-if(r8(a+32)-Ae<ye){
-Be=make_ready_8e3(a,ye,128);
-if(!(Be&1)){
-z=0;
-goto L1;}
-Ce=r8(a+8);}
-else Ce=Ae;
-De=r8(a+16);
-if(ye>De-Ce){
-Ee=grow_amortized_68b(a,ye);
-if(!Ee){
-z=0;
-goto L1;}
-Fe=r8(a+16);
-Ge=r8(a+8);}
-else{
-Fe=De;
-Ge=Ce;}
-He=Ge+ye;
-Ie=rp(a);
-z16(a+8);
-Je=Ie+(i64)Ge;
-if((u64)Je-(u64)ze<ye)copy_bits_4f4(ze,Je,ye);
-else memmove(Je,ze,ye);
-wp(a,Ie);
-w8(a+8,He);
-w8(a+16,Fe);
-if(r8(a+136)<=kb){
-z=0;
-goto L1;}
-Ke=r8(a+96);
-if(Ke>65534){
-z=0;
-goto L1;}
-Le=a[80];
-if(r8(a+120)>Ke){
-ga=Ke;
-ha=Ae;
-ia=He;
-ja=3;
-ka=Le;
-la=Ke;
-ma=kb;
-na=3;
-goto L3;}
-Me=make_ready_b73(a+88);
-if(!(Me&1)){
-z=0;
-goto L1;}
-pa=Ae;
-qa=He;
-ra=3;
-sa=Le;
-ta=Ke;
-ua=kb;
-va=3;
-goto L4;
-L6:Ne=r8(a+192);
-if(Ne<c){
-Oe=hb&1;
-Pe=Ne;
-L14:switch(*(b+Pe)){
-case 78:Qe=Pe+1;
-if(c<=Qe){
-z=0;
-goto L1;}
-Re=*(b+Qe);
-if(*((u8*)t_eb43+Re)==0){
-z=0;
-goto L1;}
-w8(a+192,Pe+2);
-Se=r8(a+160);
-if(r8(a+184)>Se){
-Te=Se;
-Ue=2;
-Ve=Re;
-goto L15;}
-We=make_ready_e3c(a+152);
-if(!(We&1)){
-z=0;
-goto L1;}
-Xe=2;
-Ye=Re;
-break;
-case 73:w8(a+192,Pe+1);
-Ze=r8(a+160);
-if(r8(a+184)>Ze){
-Te=Ze;
-Ue=3;
-Ve=Oe;
-goto L15;}
-af=make_ready_e3c(a+152);
-if(!(af&1)){
-z=0;
-goto L1;}
-Xe=3;
-Ye=Oe;
-break;
-default:bf=Pe;
-goto L16;
-}
-Te=r8(a+160);
-Ue=Xe;
-Ve=Ye;
-L15:cf=rp(a+152)+(Te<<5);
-*cf=Ue;
-cf[1]=Ve;
-x8(cf+8,Pe);
-x8(cf+16,0);
-cf[24]=0;
-w8(a+160,Te+1);
-df=r8(a+192);
-if(df<c){
-Pe=df;
-goto L14;}
-bf=df;}
-else bf=Ne;
-L16:if(bf>=c){
-z=0;
-goto L1;}
-ef=b+(i64)bf;
-switch(*ef){
-case 67:ff=r8(a+8);
-gf=bf+1;
-if(gf<c){
-if(*(b+gf)==115){
-hf=bf+2;
-if(c-hf>=16){
-jf=v16_at(b+hf);
-kf=cttz(v16_ult(v16_add(jf,splat(198)),splat(246))&v16_ult(v16_add(v16_or(jf,splat(32)),splat(133)),splat(230)),16);
-if(kf>=11){
-if(kf!=11)goto L17;
-lf=jf.b[0];
-if(lf==108){
-if((u8)(jf.b[1]-91)>=254)goto L17;}
-else {
-if(!((lf<58)|((u8)(lf-97)<11)))goto L17;}}
-mf=hf+kf;
-if(*(b+mf)==95){
-nf=mf+1;
-goto L18;}}
-L17:of=any_disambiguator_end_f9c(b,c,gf);
-if(of.f0!=1){
-z=0;
-goto L1;}
-nf=of.f1;}
-else nf=gf;}
-else nf=gf;
-L18:if(nf<c){
-pf=*(b+nf);
-if((u8)(pf-58)>=247){
-qf=nf+1;
-if(c>qf){
-rf=*(b+qf);
-if(rf!=95){
-sf=rf-48;
-if(sf<10){
-tf=nf+2;
-if(c<=tf)goto L19;
-if(*((u8*)t_facb+*(b+tf))!=0)goto L19;
-uf=(u64)sf+(u8)((u8)(pf*10)+32);
-if(c-tf<uf)goto L19;
-vf=uf+tf;
-if(!((uf>16)|(vf<16))){
-wf=v16_at(b+(i64)vf-16);
-if((v16_ne(wf,splat(95))&(v16_ult(v16_add(wf,splat(198)),splat(246))&v16_ult(v16_add(v16_or(wf,splat(32)),splat(133)),splat(230))))==0){
-xf=tf;
-yf=vf;
-goto L20;}}
-zf=are_any_name_bytes_0a3(b,tf,vf);
-if(!zf)goto L19;
-xf=tf;
-yf=vf;}
-else{
-Af=pf-48;
-if(c-qf<Af)goto L19;
-Bf=qf+Af;
-if(Bf>=16){
-Cf=v16_at(b+(i64)Bf-16);
-if((v16_ne(Cf,splat(95))&(v16_ult(v16_add(Cf,splat(198)),splat(246))&v16_ult(v16_add(v16_or(Cf,splat(32)),splat(133)),splat(230))))==0){
-xf=qf;
-yf=Bf;
-goto L20;}}
-Df=are_any_name_bytes_0a3(b,qf,Bf);
-if(!Df)goto L19;
-xf=qf;
-yf=Bf;}
-L20:if(yf<=xf){
-z=0;
-goto L1;}
-Ef=yf-xf;
-Ff=r8(a+32)-ff;
-Gf=b+(i64)xf;
-if((c-xf<16)|(Ef>16)||Ff<16){
-if(Ff<Ef){
-Hf=make_ready_8e3(a,Ef,128);
-if(!(Hf&1)){
-z=0;
-goto L1;}}
-If=extend_from_slice_674(a,Gf,Ef);
-if(If&1){
-z=0;
-goto L1;}}
-else{
-Jf=extend_from_slice_674(a,Gf,16);
-if(Jf&1){
-z=0;
-goto L1;}
-Kf=Ef+ff;
-if(r8(a+8)>Kf)w8(a+8,Kf);}
-w8(a+192,yf);
-if(r8(a+136)<=bf){
-z=0;
-goto L1;}
-Lf=r8(a+96);
-if(Lf>65534){
-z=0;
-goto L1;}
-Mf=r8(a+8);
-Nf=a[80];
-if(r8(a+120)>Lf){
-ga=Lf;
-ha=ff;
-ia=Mf;
-ja=0;
-ka=Nf;
-la=Lf;
-ma=bf;
-na=0;
-goto L3;}
-Of=make_ready_b73(a+88);
-if(!(Of&1)){
-z=0;
-goto L1;}
-pa=ff;
-qa=Mf;
-ra=0;
-sa=Nf;
-ta=Lf;
-ua=bf;
-va=0;
-goto L4;}}}}
-L19:Pf=crate_named_anyhow_841(a,b,c,nf);
-if(!(Pf&1)){
-z=0;
-goto L1;}
-if(r8(a+136)<=bf){
-z=0;
-goto L1;}
-Qf=r8(a+96);
-if(Qf>65534){
-z=0;
-goto L1;}
-Rf=r8(a+8);
-Sf=a[80];
-if(r8(a+120)>Qf){
-ga=Qf;
-ha=ff;
-ia=Rf;
-ja=0;
-ka=Sf;
-la=Qf;
-ma=bf;
-na=0;
-goto L3;}
-Tf=make_ready_b73(a+88);
-if(!(Tf&1)){
-z=0;
-goto L1;}
-pa=ff;
-qa=Rf;
-ra=0;
-sa=Sf;
-ta=Qf;
-ua=bf;
-va=0;
-goto L4;
-case 66:Uf=r8(a+8);
-Vf=bf+1;
-z24(q);
-Wf=c-Vf;
-if(Wf>1){
-if(ef[2]==95){
-Xf=*((u8*)t_84dd+*(b+(i64)Vf));
-if(Xf<=61){
-Yf=3;
-Zf=Xf+1;
-goto L21;}
-if(Wf==2)goto L22;}
-else {
-if(Wf==2)goto L22;}
-if(ef[3]!=95)goto L22;
-ag=b+(i64)Vf;
-bg=0;
-cg=0;
-dg=0;
-L23:eg=*((u8*)t_84dd+*(ag+(i64)dg));
-if(eg>=62)goto L22;
-fg=bg*62+eg;
-if(!cg){
-bg=fg;
-cg=1;
-dg=1;
-goto L23;}
-if(fg==18446744073709551615u)goto L22;
-Yf=4;
-Zf=fg+1;
-L21:gg=Zf;
-hg=Yf+bf;
-goto L24;}
-L22:any_number_at_3d4(q,b,c,Vf);
-if(*q!=1){
-z=0;
-goto L1;}
-gg=r8(q+8);
-hg=r8(q+16);
-L24:if(gg>=0xfffffffffffffffeu){
-z=0;
-goto L1;}
-ig=gg+2;
-if(ig>=r8(a+136)){
-z=0;
-goto L1;}
-jg=r2(rp(a+128)+(i64)(ig<<1));
-if(jg==0){
-z=0;
-goto L1;}
-kg=(u64)jg-1;
-if(kg>=r8(a+96)){
-z=0;
-goto L1;}
-lg=rp(a+88)+(i64)(kg*24);
-mg=q8(lg);
-ng=q8(lg+8);
-og=lg[16];
-if(og>2||ng<mg){
-z=0;
-goto L1;}
-if((u8)(a[80]^lg[17])&1){
-pg=r8(a+48);
-if(pg<ng){
-z=0;
-goto L1;}
-qg=ng-mg;
-rg=r8(a+32)-Uf;
-sg=rp(a+40)+(i64)mg;
-if(!((qg>16)|(pg-mg<16)||rg<16)){
-wg=extend_from_slice_674(a,sg,16);
-if(wg&1){
-z=0;
-goto L1;}
-xg=qg+Uf;
-if(r8(a+8)<=xg)goto L25;
-w8(a+8,xg);
-goto L25;}
-if(rg<qg){
-tg=make_ready_8e3(a,qg,128);
-if(!(tg&1)){
-z=0;
-goto L1;}}
-ug=extend_from_slice_674(a,sg,qg);
-vg=ug^1;}
-else{
-if(Uf<ng){
-z=0;
-goto L1;}
-yg=ng-mg;
-if((Uf-mg>31)&(yg<33)){
-if(r8(a+32)-Uf>31){
-z32(p);
-zg=rp(a)+(i64)mg;
-if(I-(u64)zg<32)copy_bits_4f4(zg,p,32);
-else memcpy(p,zg,32);
-Ag=extend_from_slice_674(a,p,32);
-if(Ag&1)Bg=0;
-else{
-Cg=yg+Uf;
-if(r8(a+8)>Cg){
-w8(a+8,Cg);
-Bg=1;}
-else Bg=1;}
-vg=Bg;
-goto L26;}}
-Dg=repeat_any_4a2(a,mg,ng);
-vg=Dg;}
-L26:if(!(vg&1)){
-z=0;
-goto L1;}
-L25:w8(a+192,hg);
-if(r8(a+136)<=bf){
-z=0;
-goto L1;}
-Eg=r8(a+96);
-if(Eg>65534){
-z=0;
-goto L1;}
-Fg=r8(a+8);
-Gg=a[80];
-if(r8(a+120)>Eg){
-ga=Eg;
-ha=Uf;
-ia=Fg;
-ja=og;
-ka=Gg;
-la=Eg;
-ma=bf;
-na=og;
-goto L3;}
-Hg=make_ready_b73(a+88);
-if(!(Hg&1)){
-z=0;
-goto L1;}
-pa=Uf;
-qa=Fg;
-ra=og;
-sa=Gg;
-ta=Eg;
-ua=bf;
-va=og;
-goto L4;
-case 77:Ig=bf+1;
-if(Ig<c){
-if(*(b+Ig)==115){
-Jg=bf+2;
-if(c-Jg>=16){
-Kg=v16_at(b+Jg);
-Lg=cttz(v16_ult(v16_add(Kg,splat(198)),splat(246))&v16_ult(v16_add(v16_or(Kg,splat(32)),splat(133)),splat(230)),16);
-if(Lg>=11){
-if(Lg!=11)goto L27;
-Mg=Kg.b[0];
-if(Mg==108){
-if((u8)(Kg.b[1]-91)>=254)goto L27;}
-else {
-if(!((Mg<58)|((u8)(Mg-97)<11)))goto L27;}}
-Ng=Jg+Lg;
-if(*(b+Ng)==95){
-Og=Ng+1;
-goto L28;}}
-L27:Pg=any_disambiguator_end_f9c(b,c,Ig);
-if(Pg.f0!=1){
-z=0;
-goto L1;}
-Og=Pg.f1;}
-else Og=Ig;}
-else Og=Ig;
-L28:if(!(a[80]&1)){
-w8(a+192,Og);
-Sg=r8(a+160);
-if(r8(a+184)>Sg)Tg=Sg;
-else{
-Ug=make_ready_e3c(a+152);
-if(!(Ug&1)){
-z=0;
-goto L1;}
-Tg=r8(a+160);}
-Vg=rp(a+152)+(Tg<<5);
-*Vg=5;
-Vg[1]=0;
-x8(Vg+8,bf);
-x8(Vg+16,0);
-Vg[24]=0;
-w8(a+160,Tg+1);
-memcpy(o,a,40);
-memcpy(a,a+40,40);
-memcpy(a+40,o,40);
-a[80]=a[80]^1;
-Ba=0;
-Ca=0;
-Da=0;
-Ea=0;
-goto L5;}
-Qg=begin_inner_impl_f25(a,Og);
-Rg=Qg;
-break;
-case 88:Wg=bf+1;
-if(Wg<c){
-if(*(b+Wg)==115){
-Xg=bf+2;
-if(c-Xg>=16){
-Yg=v16_at(b+Xg);
-Zg=cttz(v16_ult(v16_add(Yg,splat(198)),splat(246))&v16_ult(v16_add(v16_or(Yg,splat(32)),splat(133)),splat(230)),16);
-if(Zg>=11){
-if(Zg!=11)goto L29;
-ah=Yg.b[0];
-if(ah==108){
-if((u8)(Yg.b[1]-91)>=254)goto L29;}
-else {
-if(!((ah<58)|((u8)(ah-97)<11)))goto L29;}}
-bh=Xg+Zg;
-if(*(b+bh)==95){
-ch=bh+1;
-goto L30;}}
-L29:dh=any_disambiguator_end_f9c(b,c,Wg);
-if(dh.f0!=1){
-z=0;
-goto L1;}
-ch=dh.f1;}
-else ch=Wg;}
-else ch=Wg;
-L30:if(!(a[80]&1)){
-w8(a+192,ch);
-fh=r8(a+160);
-if(r8(a+184)>fh)gh=fh;
-else{
-hh=make_ready_e3c(a+152);
-if(!(hh&1)){
-z=0;
-goto L1;}
-gh=r8(a+160);}
-ih=rp(a+152)+(gh<<5);
-*ih=6;
-ih[1]=0;
-x8(ih+8,bf);
-x8(ih+16,0);
-ih[24]=0;
-w8(a+160,gh+1);
-memcpy(n,a,40);
-memcpy(a,a+40,40);
-memcpy(a+40,n,40);
-a[80]=a[80]^1;
-Ba=0;
-Ca=0;
-Da=0;
-Ea=0;
-goto L5;}
-eh=begin_inner_trait_impl_a3f(a,ch);
-Rg=eh;
-break;
-case 89:jh=r8(a+8);
-kh=bf+1;
-if(r8(a+32)==jh){
-lh=make_ready_8e3(a,1,128);
-if(!(lh&1)){
-z=0;
-goto L1;}}
-mh=extend_from_slice_674(a,(u8*)t_dabd,1);
-if(mh&1){
-z=0;
-goto L1;}
-nh=r8(a+160);
-if(r8(a+184)>nh)oh=nh;
-else{
-ph=make_ready_e3c(a+152);
-if(!(ph&1)){
-z=0;
-goto L1;}
-oh=r8(a+160);}
-qh=rp(a+152)+(oh<<5);
-*qh=10;
-qh[1]=0;
-x8(qh+8,bf);
-x8(qh+16,jh);
-qh[24]=0;
-w8(a+160,oh+1);
-w8(a+192,kh);
-Ba=0;
-Ca=0;
-Da=0;
-Ea=1;
-goto L5;
-default:z=0;
-goto L1;
-}
-if(Rg==0){
-z=0;
-goto L1;}
-Ba=0;
-Ca=0;
-Da=0;
-Ea=0;
-goto L5;
-L4:ga=r8(a+96);
-ha=pa;
-ia=qa;
-ja=ra;
-ka=sa;
-la=ta;
-ma=ua;
-na=va;
-L3:rh=rp(a+88)+ga*24;
-x8(rh,ha);
-x8(rh+8,ia);
-rh[16]=ja;
-rh[17]=ka;
-z6(rh+18);
-w8(a+96,ga+1);
-w2(rp(a+128)+(i64)(ma<<1),(u16)la+1);
-ib=na;
-jb=ha;
-L7:sh=ib<3;
-L31:th=r8(a+160);
-if(th==0){
-z=0;
-goto L1;}
-uh=th-1;
-w8(a+160,uh);
-vh=rp(a+152);
-wh=uh<<5;
-xh=vh+wh;
-yh=xh[1];
-zh=q8(xh+8);
-Ah=q8(xh+16);
-Bh=xh[24];
-switch(*xh){
-case 2:if(yh>=97){
-if(!sh){
-z=0;
-goto L1;}
-Mh=r8(a+192);
-if(Mh<c){
-if(*(b+Mh)==115){
-Nh=Mh+1;
-if(c-Nh>=16){
-Oh=v16_at(b+Nh);
-Ph=cttz(v16_ult(v16_add(Oh,splat(198)),splat(246))&v16_ult(v16_add(v16_or(Oh,splat(32)),splat(133)),splat(230)),16);
-if(Ph>=11){
-if(Ph!=11)goto L32;
-Qh=Oh.b[0];
-if(Qh==108){
-if((u8)(Oh.b[1]-91)>=254)goto L32;}
-else {
-if(!((Qh<58)|((u8)(Qh-97)<11)))goto L32;}}
-Rh=Nh+Ph;
-if(*(b+Rh)==95){
-Sh=Rh+1;
-goto L33;}}
-L32:Th=any_disambiguator_end_f9c(b,c,Mh);
-if(Th.f0!=1){
-z=0;
-goto L1;}
-Sh=Th.f1;}
-else Sh=Mh;}
-else Sh=Mh;
-L33:if(Sh<c){
-Uh=*(b+Sh);
-if((u8)(Uh-58)>=247){
-Vh=Sh+1;
-if(c>Vh){
-Wh=*(b+Vh);
-if(Wh!=95){
-Xh=Wh-48;
-if(Xh<10){
-Yh=Sh+2;
-if(c<=Yh)goto L34;
-if(*((u8*)t_facb+*(b+Yh))!=0)goto L34;
-Zh=(u64)Xh+(u8)((u8)(Uh*10)+32);
-if(c-Yh<Zh)goto L34;
-ai=Zh+Yh;
-if(!((Zh>16)|(ai<16))){
-bi=v16_at(b+(i64)ai-16);
-if((v16_ne(bi,splat(95))&(v16_ult(v16_add(bi,splat(198)),splat(246))&v16_ult(v16_add(v16_or(bi,splat(32)),splat(133)),splat(230))))==0){
-ci=Yh;
-di=ai;
-goto L35;}}
-ei=are_any_name_bytes_0a3(b,Yh,ai);
-if(!ei)goto L34;
-ci=Yh;
-di=ai;}
-else{
-fi=Uh-48;
-if(c-Vh<fi)goto L34;
-gi=Vh+fi;
-if(gi>=16){
-hi=v16_at(b+(i64)gi-16);
-if((v16_ne(hi,splat(95))&(v16_ult(v16_add(hi,splat(198)),splat(246))&v16_ult(v16_add(v16_or(hi,splat(32)),splat(133)),splat(230))))==0){
-ci=Vh;
-di=gi;
-goto L35;}}
-ii=are_any_name_bytes_0a3(b,Vh,gi);
-if(!ii)goto L34;
-ci=Vh;
-di=gi;}
-L35:if(di<=ci){
-z=0;
-goto L1;}
-ji=r8(a+8);
-ki=di-ci;
-li=(c-ci<16)|(ki>16);
-mi=r8(a+32)-ji;
-if(li||mi<18){
-if(mi<2){
-ni=make_ready_8e3(a,2,128);
-if(!(ni&1))goto L36;
-oi=r8(a+8);}
-else oi=ji;
-*(rp(a)+oi)=58;
-*(rp(a)+(i64)oi+1)=58;
-pi=oi+2;
-w8(a+8,pi);
-qi=r8(a+32)-pi;
-ri=b+(i64)ci;
-if(li||qi<16){
-if(qi<ki){
-si=make_ready_8e3(a,ki,128);
-if(!(si&1))goto L36;
-ti=r8(a+8);}
-else ti=pi;
-ui=r8(a+16);
-if(ki>ui-ti){
-vi=grow_amortized_68b(a,ki);
-if(!vi){
-z=0;
-goto L1;}
-wi=r8(a+16);
-xi=r8(a+8);}
-else{
-wi=ui;
-xi=ti;}
-yi=xi+ki;
-zi=rp(a);
-z16(a+8);
-Ai=zi+(i64)xi;
-if((u64)Ai-(u64)ri<ki)copy_bits_4f4(ri,Ai,ki);
-else memmove(Ai,ri,ki);
-wp(a,zi);
-w8(a+8,yi);
-w8(a+16,wi);
-Bi=yi;
-goto L37;}
-Ci=r8(a+16);
-if(Ci-pi<16){
-Di=grow_amortized_68b(a,16);
-if(!Di)goto L36;
-Ei=r8(a+16);
-Fi=r8(a+8);}
-else{
-Ei=Ci;
-Fi=pi;}
-Gi=Fi+16;
-Hi=rp(a);
-z16(a+8);
-Ii=Hi+(i64)Fi;
-if((u64)Ii-(u64)ri<16)copy_bits_4f4(ri,Ii,16);
-else memmove(Ii,ri,16);
-wp(a,Hi);
-w8(a+8,Gi);
-w8(a+16,Ei);
-Ji=pi+ki;
-if(Gi<=Ji){
-Bi=Gi;
-goto L37;}
-Ki=Ji;}
-else{
-z16(m+2);
-*m=58;
-m[1]=58;
-Li=b+(i64)ci;
-if(J-(u64)Li<16){
-copy_bits_4f4(Li,m+2,16);
-Mi=r8(a+8);}
-else{
-memcpy(m+2,Li,16);
-Mi=ji;}
-Ni=r8(a+16);
-if(Ni-Mi<18){
-Oi=grow_amortized_68b(a,18);
-if(!Oi)goto L36;
-Pi=r8(a+16);
-Qi=r8(a+8);}
-else{
-Pi=Ni;
-Qi=Mi;}
-Ri=Qi+18;
-Si=rp(a);
-z16(a+8);
-Ti=Si+(i64)Qi;
-if((u64)Ti-K<18)copy_bits_4f4(m,Ti,18);
-else memcpy(Ti,m,18);
-wp(a,Si);
-w8(a+8,Ri);
-w8(a+16,Pi);
-Ui=ki+2+ji;
-if(Ri<=Ui){
-Bi=Ri;
-goto L37;}
-Ki=Ui;}
-w8(a+8,Ki);
-Bi=Ki;
-goto L37;
-L36:z=0;
-goto L1;
-L37:w8(a+192,di);
-if(di<c){
-if(*(b+di)==48){
-Vi=r8(a+160);
-if(Vi!=0){
-Wi=rp(a+152)+(i64)(Vi<<5);
-if(Wi[-32]==2){
-if(Wi[-31]>96){
-Xi=unnamed_ended_c46(a,b,c,zh,jb,ib);
-Yi=Xi;
-goto L38;}}}}}
-if(r8(a+136)<=zh){
-z=0;
-goto L1;}
-Zi=r8(a+96);
-if(Zi>65534){
-z=0;
-goto L1;}
-aj=a[80];
-if(r8(a+120)>Zi)bj=Zi;
-else{
-cj=make_ready_b73(a+88);
-if(!(cj&1)){
-z=0;
-goto L1;}
-bj=r8(a+96);}
-dj=rp(a+88)+bj*24;
-x8(dj,jb);
-x8(dj+8,Bi);
-dj[16]=ib;
-dj[17]=aj;
-z6(dj+18);
-w8(a+96,bj+1);
-w2(rp(a+128)+(i64)(zh<<1),(u16)Zi+1);
-Yi=1;
-goto L38;}}}}
-L34:ej=nest_named_anyhow_de3(a,b,c,jb,ib,zh,Sh);
-Yi=ej;
-L38:if(Yi&1)goto L31;
-z=0;
-goto L1;}
-z32(g);
-if(sh&(yh>64)){
-switch(yh){
-case 67:special_named_1bc(g,a,b,c,jb,ib,zh,(u8*)t_6d4c,7);
-break;
-case 83:special_named_1bc(g,a,b,c,jb,ib,zh,(u8*)t_04e6,4);
-break;
-default:*h=yh;
-special_named_1bc(g,a,b,c,jb,ib,zh,h,1);
-break;}
-Ch=*g;
-Dh=g[8];
-Eh=g[9];
-Fh=r8(g+16);
-Gh=g[24];}
-else{
-Ch=0;
-Dh=0;
-Eh=0;
-Fh=0;
-Gh=0;}
-Hh=Ch;
-Ih=Dh;
-Jh=Eh;
-Kh=Fh;
-Lh=Gh;
-break;
-case 0:if(ib>=2){
-z=0;
-goto L1;}
-if(a[80]&1){
-z=0;
-goto L1;}
-fj=r8(a+192);
-if(fj<c){
-if((u8)(*(b+fj)-65)<26){
-if(r8(a+184)>uh){
-gj=wh;
-hj=vh;
-ij=th;}
-else{
-jj=make_ready_e3c(a+152);
-if(!(jj&1)){
-z=0;
-goto L1;}
-kj=r8(a+160);
-gj=kj<<5;
-hj=rp(a+152);
-ij=kj+1;}
-lj=hj+gj;
-*lj=1;
-lj[1]=0;
-z17(lj+8);
-w8(a+160,ij);
-memcpy(k,a,40);
-memcpy(a,a+40,40);
-memcpy(a+40,k,40);
-a[80]=a[80]^1;
-Ba=0;
-Ca=0;
-Da=0;
-Ea=0;
-goto L5;}}
-z32(l);
-if(fj==c){
-mj=1;
-nj=4;
-oj=0;
-pj=0;
-qj=0;}
-else{
-push_suffix_49c(l,a,b,c);
-mj=*l;
-nj=l[8];
-oj=l[9];
-pj=r8(l+16);
-qj=l[24];}
-Hh=mj;
-Ih=nj;
-Jh=oj;
-Kh=pj;
-Lh=qj;
-break;
-case 1:if(!sh){
-z=0;
-goto L1;}
-if(!(a[80]&1)){
-z=0;
-goto L1;}
-memcpy(i,a,40);
-memcpy(a,a+40,40);
-memcpy(a+40,i,40);
-a[80]=0;
-z32(j);
-if(r8(a+192)==c){
-rj=1;
-sj=4;
-tj=0;
-uj=0;
-vj=0;}
-else{
-push_suffix_49c(j,a,b,c);
-rj=*j;
-sj=j[8];
-tj=j[9];
-uj=r8(j+16);
-vj=j[24];}
-Hh=rj;
-Ih=sj;
-Jh=tj;
-Kh=uj;
-Lh=vj;
-break;
-case 12:switch(ib){
-case 0:case 2:case 3:wj=r8(a+192);
-if(wj<c){
-if(*(b+wj)==69){
-if(ib==1){
-z=0;
-goto L1;}
-xj=Bh&1;
-w8(a+192,wj+1);
-yj=xj?2:1;
-zj=xj?(u8*)t_b4da:(u8*)t_ba5e;
-Aj=r8(a+8);
-if(r8(a+32)-Aj<yj){
-Bj=make_ready_8e3(a,yj,128);
-if(!(Bj&1)){
-z=0;
-goto L1;}
-Cj=r8(a+8);}
-else Cj=Aj;
-Dj=r8(a+16);
-if(yj>Dj-Cj){
-Ej=grow_amortized_68b(a,yj);
-if(!Ej){
-z=0;
-goto L1;}
-Fj=r8(a+16);
-Gj=r8(a+8);}
-else{
-Fj=Dj;
-Gj=Cj;}
-Hj=Gj+yj;
-Ij=rp(a);
-z16(a+8);
-Jj=Ij+(i64)Gj;
-if((u64)Jj-(u64)zj<yj)copy_bits_4f4(zj,Jj,yj);
-else memcpy(Jj,zj,yj);
-wp(a,Ij);
-w8(a+8,Hj);
-w8(a+16,Fj);
-if(r8(a+136)<=zh){
-z=0;
-goto L1;}
-Kj=r8(a+96);
-if(Kj>65534){
-z=0;
-goto L1;}
-Lj=a[80];
-if(r8(a+120)>Kj)Mj=Kj;
-else{
-Nj=make_ready_b73(a+88);
-if(!(Nj&1)){
-z=0;
-goto L1;}
-Mj=r8(a+96);}
-Oj=rp(a+88)+Mj*24;
-x8(Oj,Ah);
-x8(Oj+8,Hj);
-Oj[16]=3;
-Oj[17]=Lj;
-z6(Oj+18);
-w8(a+96,Mj+1);
-w2(rp(a+128)+(i64)(zh<<1),(u16)Kj+1);
-Ba=3;
-Ca=Ah;
-Da=0;
-Ea=2;
-goto L5;}}
-Pj=r8(a+8);
-if(r8(a+32)-Pj<2){
-Qj=make_ready_8e3(a,2,128);
-if(!(Qj&1)){
-z=0;
-goto L1;}
-Rj=r8(a+8);}
-else Rj=Pj;
-*(rp(a)+Rj)=44;
-*(rp(a)+(i64)Rj+1)=32;
-w8(a+8,Rj+2);
-Sj=r8(a+160);
-if(r8(a+184)>Sj)Tj=Sj;
-else{
-Uj=make_ready_e3c(a+152);
-if(!(Uj&1)){
-z=0;
-goto L1;}
-Tj=r8(a+160);}
-Vj=rp(a+152)+(Tj<<5);
-*Vj=12;
-Vj[1]=0;
-x8(Vj+8,zh);
-x8(Vj+16,Ah);
-Vj[24]=0;
-w8(a+160,Tj+1);
-Ba=0;
-Ca=0;
-Da=0;
-Ea=1;
-goto L5;
-case 1:case 4:z=0;
-goto L1;
-default:NEVER;
-}
-break;
-case 3:Wj=yh&1;
-switch(ib){
-case 0:if(Wj)goto L39;
-break;
-case 1:if(Wj)goto L39;
-z=0;
-goto L1;
-case 2:if(Wj){
-z=0;
-goto L1;}
-break;
-case 3:case 4:z=0;
-goto L1;
-default:NEVER;
-}
-Xj=r8(a+8);
-if(r8(a+32)>Xj)Yj=Xj;
-else{
-Zj=make_ready_8e3(a,1,16);
-if(!(Zj&1)){
-z=0;
-goto L1;}
-Yj=r8(a+8);}
-*(rp(a)+Yj)=60;
-w8(a+8,Yj+1);
-goto L40;
-L39:ak=r8(a+8);
-if(r8(a+32)-ak<3){
-bk=make_ready_8e3(a,3,128);
-if(!(bk&1)){
-z=0;
-goto L1;}
-ck=r8(a+8);}
-else ck=ak;
-dk=r8(a+16);
-if(dk-ck<3){
-ek=grow_amortized_68b(a,3);
-if(!ek){
-z=0;
-goto L1;}
-fk=r8(a+16);
-gk=r8(a+8);}
-else{
-fk=dk;
-gk=ck;}
-hk=gk+3;
-ik=rp(a);
-z16(a+8);
-jk=ik+(i64)gk;
-if((u64)jk-(u64)(u8*)t_c207<3)copy_bits_4f4((u8*)t_c207,jk,3);
-else memcpy(jk,(u8*)t_c207,3);
-wp(a,ik);
-w8(a+8,hk);
-w8(a+16,fk);
-L40:kk=yh&1;
-lk=r8(a+160);
-if(r8(a+184)>lk)mk=lk;
-else{
-nk=make_ready_e3c(a+152);
-if(!(nk&1)){
-z=0;
-goto L1;}
-mk=r8(a+160);}
-ok=rp(a+152)+(mk<<5);
-*ok=4;
-ok[1]=0;
-x8(ok+8,zh);
-x8(ok+16,jb);
-ok[24]=kk;
-w8(a+160,mk+1);
-Ba=0;
-Ca=0;
-Da=1;
-Ea=3;
-goto L5;
-case 4:switch(ib){
-case 0:case 2:case 3:pk=Bh&1;
-if(r8(a+184)>uh){
-qk=wh;
-rk=vh;
-sk=th;}
-else{
-tk=make_ready_e3c(a+152);
-if(!(tk&1)){
-z=0;
-goto L1;}
-uk=r8(a+160);
-qk=uk<<5;
-rk=rp(a+152);
-sk=uk+1;}
-vk=rk+qk;
-*vk=4;
-vk[1]=0;
-x8(vk+8,zh);
-x8(vk+16,Ah);
-vk[24]=pk;
-w8(a+160,sk);
-Ba=0;
-Ca=0;
-Da=0;
-Ea=3;
-goto L5;
-case 1:case 4:z=0;
-goto L1;
-default:NEVER;
-}
-break;
-case 5:if(!sh){
-z=0;
-goto L1;}
-if(!(a[80]&1)){
-z=0;
-goto L1;}
-memcpy(f,a,40);
-memcpy(a,a+40,40);
-memcpy(a+40,f,40);
-a[80]=0;
-wk=r8(a+8);
-if(r8(a+32)>wk)xk=wk;
-else{
-yk=make_ready_8e3(a,1,16);
-if(!(yk&1)){
-z=0;
-goto L1;}
-xk=r8(a+8);}
-*(rp(a)+xk)=60;
-w8(a+8,xk+1);
-zk=r8(a+160);
-if(r8(a+184)>zk)Ak=zk;
-else{
-Bk=make_ready_e3c(a+152);
-if(!(Bk&1)){
-z=0;
-goto L1;}
-Ak=r8(a+160);}
-Ck=rp(a+152)+(Ak<<5);
-*Ck=9;
-Ck[1]=0;
-x8(Ck+8,zh);
-x8(Ck+16,wk);
-Ck[24]=2;
-w8(a+160,Ak+1);
-Ba=0;
-Ca=0;
-Da=0;
-Ea=1;
-goto L5;
-case 9:switch(Bh){
-case 0:switch(ib){
-case 0:case 2:case 3:if(r8(a+136)<=zh){
-z=0;
-goto L1;}
-Dk=r8(a+96);
-if(Dk>65534){
-z=0;
-goto L1;}
-Ek=r8(a+8);
-Fk=a[80];
-if(r8(a+120)>Dk)Gk=Dk;
-else{
-Hk=make_ready_b73(a+88);
-if(!(Hk&1)){
-z=0;
-goto L1;}
-Gk=r8(a+96);}
-Ik=rp(a+88)+Gk*24;
-x8(Ik,Ah);
-x8(Ik+8,Ek);
-Ik[16]=3;
-Ik[17]=Fk;
-z6(Ik+18);
-w8(a+96,Gk+1);
-w2(rp(a+128)+(i64)(zh<<1),(u16)Dk+1);
-Ba=3;
-Ca=Ah;
-Da=0;
-Ea=2;
-goto L5;
-case 1:case 4:z=0;
-goto L1;
-default:NEVER;
-}
-break;
-case 1:switch(ib){
-case 0:case 2:case 3:Jk=r8(a+8);
-if(r8(a+32)>Jk)Kk=Jk;
-else{
-Lk=make_ready_8e3(a,1,16);
-if(!(Lk&1)){
-z=0;
-goto L1;}
-Kk=r8(a+8);}
-*(rp(a)+Kk)=93;
-Mk=Kk+1;
-w8(a+8,Mk);
-if(r8(a+136)<=zh){
-z=0;
-goto L1;}
-Nk=r8(a+96);
-if(Nk>65534){
-z=0;
-goto L1;}
-Ok=a[80];
-if(r8(a+120)>Nk)Pk=Nk;
-else{
-Qk=make_ready_b73(a+88);
-if(!(Qk&1)){
-z=0;
-goto L1;}
-Pk=r8(a+96);}
-Rk=rp(a+88)+Pk*24;
-x8(Rk,Ah);
-x8(Rk+8,Mk);
-Rk[16]=3;
-Rk[17]=Ok;
-z6(Rk+18);
-w8(a+96,Pk+1);
-w2(rp(a+128)+(i64)(zh<<1),(u16)Nk+1);
-Ba=3;
-Ca=Ah;
-Da=0;
-Ea=2;
-goto L5;
-case 1:case 4:z=0;
-goto L1;
-default:NEVER;
-}
-break;
-case 2:switch(ib){
-case 0:case 2:case 3:Sk=r8(a+8);
-if(r8(a+32)>Sk)Tk=Sk;
-else{
-Uk=make_ready_8e3(a,1,16);
-if(!(Uk&1)){
-z=0;
-goto L1;}
-Tk=r8(a+8);}
-*(rp(a)+Tk)=62;
-Vk=Tk+1;
-w8(a+8,Vk);
-if(r8(a+136)<=zh){
-z=0;
-goto L1;}
-Wk=r8(a+96);
-if(Wk>65534){
-z=0;
-goto L1;}
-Xk=a[80];
-if(r8(a+120)>Wk)Yk=Wk;
-else{
-Zk=make_ready_b73(a+88);
-if(!(Zk&1)){
-z=0;
-goto L1;}
-Yk=r8(a+96);}
-al=rp(a+88)+Yk*24;
-x8(al,Ah);
-x8(al+8,Vk);
-al[16]=0;
-al[17]=Xk;
-z6(al+18);
-w8(a+96,Yk+1);
-w2(rp(a+128)+(i64)(zh<<1),(u16)Wk+1);
-Ba=0;
-Ca=Ah;
-Da=0;
-Ea=2;
-goto L5;
-case 1:case 4:z=0;
-goto L1;
-default:NEVER;
-}
-break;
-default:NEVER;
-}
-break;
-case 13:switch(ib){
-case 0:case 2:bl=r8(a+192);
-if(bl<c){
-if(*(b+bl)==69){
-cl=bl+1;
-if(cl>=c){
-z=0;
-goto L1;}
-if(*(b+cl)!=76){
-z=0;
-goto L1;}
-dl=bl+2;
-if(dl>=c){
-z=0;
-goto L1;}
-if(*(b+dl)!=95){
-z=0;
-goto L1;}
-w8(a+192,bl+3);
-if(r8(a+136)<=zh){
-z=0;
-goto L1;}
-el=r8(a+96);
-if(el>65534){
-z=0;
-goto L1;}
-fl=r8(a+8);
-gl=a[80];
-if(r8(a+120)>el)hl=el;
-else{
-il=make_ready_b73(a+88);
-if(!(il&1)){
-z=0;
-goto L1;}
-hl=r8(a+96);}
-jl=rp(a+88)+hl*24;
-x8(jl,Ah);
-x8(jl+8,fl);
-jl[16]=3;
-jl[17]=gl;
-z6(jl+18);
-w8(a+96,hl+1);
-w2(rp(a+128)+(i64)(zh<<1),(u16)el+1);
-Ba=3;
-Ca=Ah;
-Da=0;
-Ea=2;
-goto L5;}}
-kl=r8(a+8);
-if(r8(a+32)-kl<3){
-ll=make_ready_8e3(a,3,128);
-if(!(ll&1)){
-z=0;
-goto L1;}
-ml=r8(a+8);}
-else ml=kl;
-nl=r8(a+16);
-if(nl-ml<3){
-ol=grow_amortized_68b(a,3);
-if(!ol){
-z=0;
-goto L1;}
-pl=r8(a+16);
-ql=r8(a+8);}
-else{
-pl=nl;
-ql=ml;}
-rl=ql+3;
-sl=rp(a);
-z16(a+8);
-tl=sl+(i64)ql;
-if((u64)tl-(u64)(u8*)t_4620<3)copy_bits_4f4((u8*)t_4620,tl,3);
-else memcpy(tl,(u8*)t_4620,3);
-wp(a,sl);
-w8(a+8,rl);
-w8(a+16,pl);
-ul=r8(a+160);
-if(r8(a+184)>ul)vl=ul;
-else{
-wl=make_ready_e3c(a+152);
-if(!(wl&1)){
-z=0;
-goto L1;}
-vl=r8(a+160);}
-xl=rp(a+152)+(vl<<5);
-*xl=13;
-xl[1]=0;
-x8(xl+8,zh);
-x8(xl+16,Ah);
-xl[24]=0;
-w8(a+160,vl+1);
-Ba=0;
-Ca=0;
-Da=0;
-Ea=0;
-goto L5;
-case 1:case 3:case 4:z=0;
-goto L1;
-default:NEVER;
-}
-break;
-case 14:switch(ib){
-case 0:case 2:case 3:yl=r8(a+192);
-zl=r8(a+8);
-if(r8(a+32)-zl<2){
-Al=make_ready_8e3(a,2,128);
-if(!(Al&1)){
-z=0;
-goto L1;}
-Bl=r8(a+8);}
-else Bl=zl;
-*(rp(a)+Bl)=59;
-*(rp(a)+(i64)Bl+1)=32;
-Cl=Bl+2;
-w8(a+8,Cl);
-Dl=constant_at_b72(a,b,c,yl);
-if(Dl.f0!=1){
-z=0;
-goto L1;}
-if(r8(a+136)<=yl){
-z=0;
-goto L1;}
-El=r8(a+96);
-if(El>65534){
-z=0;
-goto L1;}
-Fl=Dl.f1;
-Gl=r8(a+8);
-Hl=a[80];
-if(r8(a+120)>El)Il=El;
-else{
-Jl=make_ready_b73(a+88);
-if(!(Jl&1)){
-z=0;
-goto L1;}
-Il=r8(a+96);}
-Kl=rp(a+88)+Il*24;
-x8(Kl,Cl);
-x8(Kl+8,Gl);
-Kl[16]=4;
-Kl[17]=Hl;
-z6(Kl+18);
-w8(a+96,Il+1);
-w2(rp(a+128)+(i64)(yl<<1),(u16)El+1);
-w8(a+192,Fl);
-Ll=r8(a+8);
-if(r8(a+32)>Ll)Ml=Ll;
-else{
-Nl=make_ready_8e3(a,1,16);
-if(!(Nl&1)){
-z=0;
-goto L1;}
-Ml=r8(a+8);}
-*(rp(a)+Ml)=93;
-Ol=Ml+1;
-w8(a+8,Ol);
-if(r8(a+136)<=zh){
-z=0;
-goto L1;}
-Pl=r8(a+96);
-if(Pl>65534){
-z=0;
-goto L1;}
-Ql=a[80];
-if(r8(a+120)>Pl)Rl=Pl;
-else{
-Sl=make_ready_b73(a+88);
-if(!(Sl&1)){
-z=0;
-goto L1;}
-Rl=r8(a+96);}
-Tl=rp(a+88)+Rl*24;
-x8(Tl,Ah);
-x8(Tl+8,Ol);
-Tl[16]=3;
-Tl[17]=Ql;
-z6(Tl+18);
-w8(a+96,Rl+1);
-w2(rp(a+128)+(i64)(zh<<1),(u16)Pl+1);
-Ba=3;
-Ca=Ah;
-Da=0;
-Ea=2;
-goto L5;
-case 1:case 4:z=0;
-goto L1;
-default:NEVER;
-}
-break;
-case 6:if(!sh){
-z=0;
-goto L1;}
-if(!(a[80]&1)){
-z=0;
-goto L1;}
-memcpy(e,a,40);
-memcpy(a,a+40,40);
-memcpy(a+40,e,40);
-a[80]=0;
-Ul=r8(a+8);
-if(r8(a+32)>Ul)Vl=Ul;
-else{
-Wl=make_ready_8e3(a,1,16);
-if(!(Wl&1)){
-z=0;
-goto L1;}
-Vl=r8(a+8);}
-*(rp(a)+Vl)=60;
-w8(a+8,Vl+1);
-Xl=r8(a+160);
-if(r8(a+184)>Xl)Yl=Xl;
-else{
-Zl=make_ready_e3c(a+152);
-if(!(Zl&1)){
-z=0;
-goto L1;}
-Yl=r8(a+160);}
-am=rp(a+152)+(Yl<<5);
-*am=10;
-am[1]=0;
-x8(am+8,zh);
-x8(am+16,Ul);
-am[24]=0;
-w8(a+160,Yl+1);
-Ba=0;
-Ca=0;
-Da=0;
-Ea=1;
-goto L5;
-case 7:if(!sh){
-z=0;
-goto L1;}
-bm=r8(a+8);
-if(r8(a+32)>bm)cm=bm;
-else{
-dm=make_ready_8e3(a,1,16);
-if(!(dm&1)){
-z=0;
-goto L1;}
-cm=r8(a+8);}
-*(rp(a)+cm)=60;
-w8(a+8,cm+1);
-em=r8(a+160);
-if(r8(a+184)>em)fm=em;
-else{
-gm=make_ready_e3c(a+152);
-if(!(gm&1)){
-z=0;
-goto L1;}
-fm=r8(a+160);}
-hm=rp(a+152)+(fm<<5);
-*hm=9;
-hm[1]=0;
-x8(hm+8,zh);
-x8(hm+16,bm);
-hm[24]=2;
-w8(a+160,fm+1);
-Ba=0;
-Ca=0;
-Da=0;
-Ea=1;
-goto L5;
-case 8:if(!sh){
-z=0;
-goto L1;}
-im=r8(a+8);
-if(r8(a+32)>im)jm=im;
-else{
-km=make_ready_8e3(a,1,16);
-if(!(km&1)){
-z=0;
-goto L1;}
-jm=r8(a+8);}
-*(rp(a)+jm)=60;
-w8(a+8,jm+1);
-lm=r8(a+160);
-if(r8(a+184)>lm)mm=lm;
-else{
-nm=make_ready_e3c(a+152);
-if(!(nm&1)){
-z=0;
-goto L1;}
-mm=r8(a+160);}
-om=rp(a+152)+(mm<<5);
-*om=10;
-om[1]=0;
-x8(om+8,zh);
-x8(om+16,im);
-om[24]=0;
-w8(a+160,mm+1);
-Ba=0;
-Ca=0;
-Da=0;
-Ea=1;
-goto L5;
-case 10:switch(ib){
-case 0:case 2:case 3:pm=r8(a+8);
-if(r8(a+32)-pm<4){
-qm=make_ready_8e3(a,4,128);
-if(!(qm&1)){
-z=0;
-goto L1;}
-rm=r8(a+8);}
-else rm=pm;
-sm=r8(a+16);
-if(sm-rm<4){
-tm=grow_amortized_68b(a,4);
-if(!tm){
-z=0;
-goto L1;}
-um=r8(a+16);
-vm=r8(a+8);}
-else{
-um=sm;
-vm=rm;}
-wm=vm+4;
-xm=rp(a);
-z16(a+8);
-ym=xm+(i64)vm;
-if((u64)ym-(u64)(u8*)t_fa21<4)copy_bits_4f4((u8*)t_fa21,ym,4);
-else x4(ym,544432416);
-wp(a,xm);
-w8(a+8,wm);
-w8(a+16,um);
-zm=r8(a+160);
-if(r8(a+184)>zm)Am=zm;
-else{
-Bm=make_ready_e3c(a+152);
-if(!(Bm&1)){
-z=0;
-goto L1;}
-Am=r8(a+160);}
-Cm=rp(a+152)+(Am<<5);
-*Cm=11;
-Cm[1]=0;
-x8(Cm+8,zh);
-x8(Cm+16,Ah);
-Cm[24]=0;
-w8(a+160,Am+1);
-Ba=0;
-Ca=0;
-Da=0;
-Ea=0;
-goto L5;
-case 1:case 4:z=0;
-goto L1;
-default:NEVER;
-}
-break;
-case 11:switch(ib){
-case 0:case 2:Dm=r8(a+8);
-if(r8(a+32)>Dm)Em=Dm;
-else{
-Fm=make_ready_8e3(a,1,16);
-if(!(Fm&1)){
-z=0;
-goto L1;}
-Em=r8(a+8);}
-*(rp(a)+Em)=62;
-Gm=Em+1;
-w8(a+8,Gm);
-if(r8(a+136)<=zh){
-z=0;
-goto L1;}
-Hm=r8(a+96);
-if(Hm>65534){
-z=0;
-goto L1;}
-Im=a[80];
-if(r8(a+120)>Hm)Jm=Hm;
-else{
-Km=make_ready_b73(a+88);
-if(!(Km&1)){
-z=0;
-goto L1;}
-Jm=r8(a+96);}
-Lm=rp(a+88)+Jm*24;
-x8(Lm,Ah);
-x8(Lm+8,Gm);
-Lm[16]=0;
-Lm[17]=Im;
-z6(Lm+18);
-w8(a+96,Jm+1);
-w2(rp(a+128)+(i64)(zh<<1),(u16)Hm+1);
-Ba=0;
-Ca=Ah;
-Da=0;
-Ea=2;
-goto L5;
-case 1:case 3:case 4:z=0;
-goto L1;
-default:NEVER;
-}
-break;
-default:NEVER;
-}
-if(Hh!=1){
-z=0;
-goto L1;}
-Ba=Lh;
-Ca=Kh;
-Da=Jh;
-Ea=Ih;
-L5:Mm=L+1;
-if(Mm!=G){
-L=Mm;
-M=Ba;
-N=Ca;
-O=Da;
-P=Ea;
-goto L2;}
-z=0;}}
-else z=0;}
-else z=0;}
-else z=0;
-L1:return z;
-}
-
 /* sym_languages::legacy::append_named */
 static void append_named_70e(u8* a,u8* b,u8* c,u8 d,u8* e,u64 f,u64 g,u64 h,u8* i)
 {
@@ -137569,8 +136859,8 @@ return t;
 static void drop_816(u8* a)
 {
 A16 u8 b[744];
-u8 *c,*d,*f,*h,*j,*l,*n,*p,*r,*t,*v,*x,*z,*B,*D,*F,*H,*J,*L,*N,*Q,*S,*U,*W,*Y,*aa,*ca,*ea;
-u64 e,g,i,k,m,o,q,s,u,w,y,A,C,E,G,I,K,M,O,P,R,T,V,X,Z,ba,da,fa;
+u8 *c,*d,*f,*h,*j,*l,*n,*p,*r,*t,*v,*x,*z,*B,*D,*F,*H,*J,*L,*N;
+u64 e,g,i,k,m,o,q,s,u,w,y,A,C,E,G,I,K,M,O,P;
 c=qp(a);
 d=qp(a+32);
 e=q8(a+48);
@@ -137612,22 +136902,6 @@ N=qp(a+760);
 O=q8(a+776);
 P=q8(a+16);
 memcpy(b,a+800,744);
-Q=qp(a+1544);
-R=q8(a+1560);
-S=qp(a+1584);
-T=q8(a+1600);
-U=qp(a+1624);
-V=q8(a+1640);
-W=qp(a+1736);
-X=q8(a+1752);
-Y=qp(a+1776);
-Z=q8(a+1792);
-aa=qp(a+1824);
-ba=q8(a+1840);
-ca=qp(a+1864);
-da=q8(a+1880);
-ea=qp(a+1888);
-fa=q8(a+1904);
 if(P!=0)port_rattle_dealloc(c);
 if(e!=0)port_rattle_dealloc(d);
 if(g!=0)port_rattle_dealloc(f);
@@ -137649,14 +136923,6 @@ if(K!=0)port_rattle_dealloc(J);
 if(M!=0)port_rattle_dealloc(L);
 if(O!=0)port_rattle_dealloc(N);
 drop_f4c(b);
-if(R!=0)port_rattle_dealloc(Q);
-if(T!=0)port_rattle_dealloc(S);
-if(V!=0)port_rattle_dealloc(U);
-if(X!=0)port_rattle_dealloc(W);
-if(Z!=0)port_rattle_dealloc(Y);
-if(ba!=0)port_rattle_dealloc(aa);
-if(da!=0)port_rattle_dealloc(ca);
-if(fa!=0)port_rattle_dealloc(ea);
 return;
 }
 
@@ -140066,7 +139332,7 @@ L5:append_named_70e(h,b,c,d,e,f,B,C,g);
 goto L6;}}
 L4:append_e62(h,b,c,d,e,f,g);
 L6:if(*h==0){
-E=rewrite_43c(b,c+1944,d,e,f,i,g);
+E=rewrite_43c(b,c+1544,d,e,f,i,g);
 if(E&1){
 *a=1;
 x4(a+4,4);
@@ -145069,62 +144335,35 @@ return;
 /* sym_languages::languages::LanguagesDemangler::append */
 static void append_6a1(u8* a,u8* b,u8* c,u8 d,u8* e,u64 f,u8* g)
 {
-A16 u8 h[12],i[12],j[12],k[112],l[104],m[12],n[100];
-u32 o,r,D,Z,ea,ha,ia,ra,sa,Da;
-u8 p,t,y,B,C,H,M,T,V,Y,da,fa,ga,ja,ka,ta,ua,va,Aa,Ea,Fa;
-u64 q,s,v,w,x,z,A,E,J,K,L,N,O,P,S,U,W,X,aa,na,oa,qa,xa,ya,za,Ba,Ca,Ga;
-u8 *u,*F,*G,*I,*Q,*R,*ba,*ca,*la,*ma,*pa,*wa,*Ha,*Ia;
+A16 u8 h[12],i[112],j[104],k[12],l[100],m[12];
+u32 n,q,B,G,J,K,T;
+u8 o,s,t,v,x,A,F,H,I,L,M,U,V,aa;
+u64 p,r,u,w,y,z,C,P,Q,S,X,Y,Z,ba,ca,da;
+u8 *D,*E,*N,*O,*R,*W,*ea,*fa;
+z12(m);
 if(d==0){
-o=r4(b);
-p=b[4];
-if(p==0){
-q=umin64(o>>2,(f<<5)+1024);
-r=q;
+n=r4(b);
+o=b[4];
+if(o==0){
+p=umin64(n>>2,(f<<5)+1024);
+q=p;
 if(r8(c+504)!=0)w8(c+504,0);
-w8(c+520,q);
-w8(c+528,umin64(r8(c+512),q));
+w8(c+520,p);
+w8(c+528,umin64(r8(c+512),p));
 if(r8(c+544)!=0)w8(c+544,0);
-s=f&4294967295u;
-w8(c+560,s);
-w8(c+568,umin64(r8(c+552),s));
+r=f&4294967295u;
+w8(c+560,r);
+w8(c+568,umin64(r8(c+552),r));
 if(r8(c+584)!=0)w8(c+584,0);
-w8(c+600,s);
-w8(c+608,umin64(r8(c+592),s));
+w8(c+600,r);
+w8(c+608,umin64(r8(c+592),r));
 c[668]=0;
-t=run_48b(c+496,e,f,r);
-if(t){
+s=run_48b(c+496,e,f,q);
+if(s){
 if(r8(c+544)!=0)w8(c+544,0);
 z16(c+560);
 if(r8(c+584)!=0)w8(c+584,0);
 z16(c+600);
-u=rp(c+496);
-v=r8(c+504);
-w=r8(g+16);
-x=r8(g+8);
-if(v>w-x){
-y=grow_amortized_68b(g,v);
-if(!y){
-B=1;
-C=4;
-D=0;
-goto L1;}
-z=r8(g+16);
-A=r8(g+8);}
-else{
-z=w;
-A=x;}
-E=A+v;
-F=rp(g);
-z16(g+8);
-G=F+(i64)A;
-if((u64)G-(u64)u<v)copy_bits_4f4(u,G,v);
-else memmove(G,u,v);
-wp(g,F);
-w8(g+8,E);
-w8(g+16,z);
-B=0;
-C=0;
-D=0;
 goto L1;}
 if(r8(c+504)!=0)w8(c+504,0);
 z16(c+520);
@@ -145134,178 +144373,129 @@ c[668]=0;
 z16(c+560);
 z16(c+600);}
 else{
-H=write_less_2c7(c+1544,e,f,o,1,p);
-if(H){
-I=rp(c+1544);
-J=r8(c+1552);
-K=r8(g+16);
-L=r8(g+8);
-if(J>K-L){
-M=grow_amortized_68b(g,J);
-if(!M){
-B=1;
-C=4;
-D=0;
-goto L1;}
-N=r8(g+16);
-O=r8(g+8);}
-else{
-N=K;
-O=L;}
-P=O+J;
-Q=rp(g);
-z16(g+8);
-R=Q+(i64)O;
-if((u64)R-(u64)I<J)copy_bits_4f4(I,R,J);
-else memmove(R,I,J);
-wp(g,Q);
-w8(g+8,P);
-w8(g+16,N);
-B=0;
-C=0;
-D=0;
-goto L1;}}
-z12(m);
-z112(k);
-S=r8(c+696);
-if(!((f<S)|((S&4294967295u)==0))){
-T=parts_equal_58b(e,S,rp(c+688),S);
-if(T){
-read_on_afe(k,c,e+(i64)S,f-S);
+t=write_less_2c7(c+496,e,f,n,1,o);
+if(t)goto L1;}
+z12(k);
+z112(i);
+u=r8(c+696);
+if(!((f<u)|((u&4294967295u)==0))){
+v=parts_equal_58b(e,u,rp(c+688),u);
+if(v){
+read_on_afe(i,c,e+(i64)u,f-u);
 goto L2;}}
-z12(j);
+z12(h);
 x4(c+24,0);
 x4(c+28,0);
 if(r8(c+40)!=0)w8(c+40,0);
 if(r8(c+64)!=0)w8(c+64,0);
 w8(c+80,0);
 w4(c+88,0);
-run_888(j,c+24,e,f,1);
-if(*j==0){
+run_888(h,c+24,e,f,1);
+if(*h==0){
 if(r8(c+8)!=0)w8(c+8,0);
-U=r8(c+16);
-if(f>U){
-V=grow_amortized_68b(c,f);
-if(!V){
-Y=4;
-Z=0;
+w=r8(c+16);
+if(f>w){
+x=grow_amortized_68b(c,f);
+if(!x){
+A=4;
+B=0;
 goto L3;}
-W=r8(c+16);
-X=r8(c+8);}
+y=r8(c+16);
+z=r8(c+8);}
 else{
-W=U;
-X=0;}
-aa=X+f;
-ba=rp(c);
+y=w;
+z=0;}
+C=z+f;
+D=rp(c);
 z16(c+8);
-ca=ba+(i64)X;
-if((u64)ca-(u64)e<f)copy_bits_4f4(e,ca,f);
-else memmove(ca,e,f);
-wp(c,ba);
-w8(c+8,aa);
-w8(c+16,W);
-link_ba9(k,c);
+E=D+(i64)z;
+if((u64)E-(u64)e<f)copy_bits_4f4(e,E,f);
+else memmove(E,e,f);
+wp(c,D);
+w8(c+8,C);
+w8(c+16,y);
+link_ba9(i,c);
 goto L2;}
-da=j[4];
-ea=r4(j+8);
+F=h[4];
+G=r4(h+8);
 x4(c+24,0);
 x4(c+28,0);
 if(r8(c+40)!=0)w8(c+40,0);
 if(r8(c+64)!=0)w8(c+64,0);
 w8(c+80,0);
 w4(c+88,0);
-Y=da;
-Z=ea;
-L3:fa=1;
-ga=Y;
-ha=Z;
+A=F;
+B=G;
+L3:H=1;
+I=A;
+J=B;
 goto L4;
-L2:ia=r4(k+8);
-ja=*k;
-ka=k[4];
-memcpy(n,k+12,100);
-if(ja==0){
-w4(l,ia);
-memcpy(l+4,n,100);
-print_07f(m,c,l,o,p,g);
-la=qp(c+96);
-ma=qp(c+120);
-na=q8(c+136);
-oa=q8(c+112);
-memcpy(c+96,n+20,64);
-if(oa!=0)port_rattle_dealloc(la);
-if(na!=0)port_rattle_dealloc(ma);
-pa=qp(c);
-qa=q8(c+16);
-memcpy(c,l,24);
-if(qa!=0)port_rattle_dealloc(pa);
-fa=*m;
-ga=m[4];
-ha=r4(m+8);}
+L2:K=r4(i+8);
+L=*i;
+M=i[4];
+memcpy(l,i+12,100);
+if(L==0){
+w4(j,K);
+memcpy(j+4,l,100);
+print_07f(k,c,j,n,o,g);
+N=qp(c+96);
+O=qp(c+120);
+P=q8(c+136);
+Q=q8(c+112);
+memcpy(c+96,l+20,64);
+if(Q!=0)port_rattle_dealloc(N);
+if(P!=0)port_rattle_dealloc(O);
+R=qp(c);
+S=q8(c+16);
+memcpy(c,j,24);
+if(S!=0)port_rattle_dealloc(R);
+H=*k;
+I=k[4];
+J=r4(k+8);}
 else{
-fa=1;
-ga=ka;
-ha=ia;}
-L4:B=fa;
-C=ga;
-D=ha;}
-else{
-ra=r4(b);
-switch(b[4]){
-case 0:case 2:z12(i);
-append_in_c46(i,c+800,e,f,ra,0,g);
-sa=r4(i+8);
-ta=i[4];
-ua=*i;
-break;
-case 1:case 3:z12(h);
-va=write_brief_939(c+1736,e,f,ra);
-if(va){
-wa=rp(c+1736);
-xa=r8(c+1744);
-ya=r8(g+16);
-za=r8(g+8);
-if(xa>ya-za){
-Aa=grow_amortized_68b(g,xa);
-if(!Aa){
-Da=0;
-Ea=4;
-Fa=1;
+H=1;
+I=M;
+J=K;}
+L4:T=J;
+U=I;
+V=H;
+goto L5;
+L1:W=rp(c+496);
+X=r8(c+504);
+Y=r8(g+16);
+Z=r8(g+8);
+if(X>Y-Z){
+aa=grow_amortized_68b(g,X);
+if(!aa){
+T=0;
+U=4;
+V=1;
 goto L5;}
-Ba=r8(g+16);
-Ca=r8(g+8);}
+ba=r8(g+16);
+ca=r8(g+8);}
 else{
-Ba=ya;
-Ca=za;}
-Ga=Ca+xa;
-Ha=rp(g);
+ba=Y;
+ca=Z;}
+da=ca+X;
+ea=rp(g);
 z16(g+8);
-Ia=Ha+(i64)Ca;
-if((u64)Ia-(u64)wa<xa)copy_bits_4f4(wa,Ia,xa);
-else memmove(Ia,wa,xa);
-wp(g,Ha);
-w8(g+8,Ga);
-w8(g+16,Ba);
-Da=0;
-Ea=0;
-Fa=0;}
+fa=ea+(i64)ca;
+if((u64)fa-(u64)W<X)copy_bits_4f4(W,fa,X);
+else memmove(fa,W,X);
+wp(g,ea);
+w8(g+8,da);
+w8(g+16,ba);
+T=0;
+U=0;
+V=0;}
 else{
-append_in_c46(h,c+800,e,f,ra,1,g);
-Da=r4(h+8);
-Ea=h[4];
-Fa=*h;}
-L5:sa=Da;
-ta=Ea;
-ua=Fa;
-break;
-default:NEVER;
-}
-B=ua;
-C=ta;
-D=sa;}
-L1:*a=B;
-x4(a+4,C);
-x4(a+8,D);
+append_in_c46(m,c+800,e,f,r4(b),(u32)16777472>>((u32)b[4]<<3),g);
+T=r4(m+8);
+U=m[4];
+V=*m;}
+L5:*a=V;
+x4(a+4,U);
+x4(a+8,T);
 return;
 }
 
@@ -145458,7 +144648,7 @@ L5:append_named_795(h,b,c,d,e,f,B,C,g);
 goto L6;}}
 L4:append_6a1(h,b,c,d,e,f,g);
 L6:if(*h==0){
-E=rewrite_43c(b,c+1944,d,e,f,i,g);
+E=rewrite_43c(b,c+1544,d,e,f,i,g);
 if(E&1){
 *a=1;
 x4(a+4,4);
@@ -155001,3550 +154191,2833 @@ return;
 /* symfilt_command::command::filter_in */
 static void filter_in_fc4(u8* a,u8* b,u8* c,u8* d)
 {
-u8 i[24],j[16],k[32],l[16],m[32],n[80],o[16],p[40],q[16],r[16],s[16],t[16],u[16],v[48],w[32],x[32],y[104],z[40],A[16],B[32],C[24],D[16],E[32],F[16],G[24],H[16],I[16],J[40],K[16],L[16],M[16],N[16],O[16],P[48],Q[32],R[40],S[32],T[16],U[48],V[40],W[16],X[32],Y[32],Z[32],aa[104],ba[32],ca[40],da[32],ea[16],fa[48],ga[32],ha[16],ia[16],ja[16],mb[30],qb[24],rb[16],sb[32],tb[16],ub[32],vb[80],wb[16],xb[40],yb[16],zb[16],Ab[16],Bb[16],Cb[16],Db[48],Eb[32],Fb[32],Gb[104],Hb[40],Ib[16],Jb[32],Kb[24],Lb[16],Mb[32],Nb[16],Ob[24],Pb[16],Qb[16],Rb[40],Sb[16],Tb[16],Ub[16],Vb[16],Wb[16],Xb[48],Yb[32],Zb[40],ac[32],bc[16],cc[48],dc[40],ec[16],fc[32],gc[32],hc[32],ic[104],jc[32],kc[40],lc[32],mc[16],nc[48],oc[32],pc[16],qc[16],rc[16],sc[24],tc[16],uc[32],vc[16],wc[32],xc[80],yc[16],zc[40],Ac[16],Bc[16],Cc[16],Dc[16],Ec[16],Fc[48],Gc[32],Hc[32],Ic[104],Jc[40],Kc[16],Lc[32],Mc[24],Nc[16],Oc[32],Pc[16],Qc[24],Rc[16],Sc[16],Tc[40],Uc[16],Vc[16],Wc[16],Xc[16],Yc[16],Zc[48],ad[32],bd[40],cd[32],dd[16],ed[48],fd[40],gd[16],hd[32],id[32],jd[32],kd[104],ld[32],md[40],nd[32],od[16],pd[48],qd[32],sd[16],td[16],ud[16],Bd[30],Cd[30],Dd[30],Nd[30],Sd[30],Td[30],Ud[30],Wd[30],be[24],ce[16],de[32],ee[16],fe[32],ge[80],he[16],ie[40],je[16],ke[16],le[16],me[16],ne[16],oe[48],pe[32],qe[32],re[104],se[40],te[16],ue[32],ve[24],we[16],xe[32],ye[16],ze[24],Ae[16],Be[16],Ce[40],De[16],Ee[16],Fe[16],Ge[16],He[16],Ie[48],Je[32],Ke[40],Le[32],Me[16],Ne[48],Oe[40],Pe[16],Qe[32],Re[32],Se[32],Te[104],Ue[32],Ve[40],We[32],Xe[16],Ye[48],Ze[32],af[16],bf[16],cf[16],gg[30],kg[24],lg[16],mg[32],ng[16],og[32],pg[80],qg[16],rg[40],sg[16],tg[16],ug[16],vg[16],wg[16],xg[48],yg[32],zg[32],Ag[104],Bg[40],Cg[16],Dg[32],Eg[24],Fg[16],Gg[32],Hg[16],Ig[24],Jg[16],Kg[16],Lg[40],Mg[16],Ng[16],Og[16],Pg[16],Qg[16],Rg[48],Sg[32],Tg[40],Ug[32],Vg[16],Wg[48],Xg[40],Yg[16],Zg[32],ah[32],bh[32],ch[104],dh[32],eh[40],fh[32],gh[16],hh[48],ih[32],jh[16],kh[16],lh[16],mh[24],nh[16],oh[32],ph[16],qh[32],rh[80],sh[16],th[40],uh[16],vh[16],wh[16],xh[16],yh[16],zh[48],Ah[32],Bh[32],Ch[104],Dh[40],Eh[16],Fh[32],Gh[24],Hh[16],Ih[32],Jh[16],Kh[24],Lh[16],Mh[16],Nh[40],Oh[16],Ph[16],Qh[16],Rh[16],Sh[16],Th[48],Uh[32],Vh[40],Wh[32],Xh[16],Yh[48],Zh[40],ai[16],bi[32],ci[32],di[32],ei[104],fi[32],gi[40],hi[32],ii[16],ji[48],ki[32],li[16],mi[16],ni[16],ti[30],ui[30],vi[30],Fi[30],Ki[30],Li[30],Mi[30],Oi[30],Pi[30];
-A16 u8 e[12],f[48],g[48],h[16],ka[24],la[16],ma[32],na[16],oa[32],pa[80],qa[16],ra[40],sa[16],ta[16],ua[16],va[16],wa[16],xa[48],ya[32],za[32],Aa[104],Ba[40],Ca[16],Da[32],Ea[24],Fa[16],Ga[32],Ha[16],Ia[24],Ja[16],Ka[16],La[40],Ma[16],Na[16],Oa[16],Pa[16],Qa[16],Ra[48],Sa[32],Ta[40],Ua[32],Va[16],Wa[48],Xa[40],Ya[16],Za[32],ab[32],bb[32],cb[104],db[32],eb[40],fb[32],gb[16],hb[48],ib[32],jb[16],kb[16],lb[16],nb[80],ob[24],pb[2152],vd[2152],xd[2152],yd[2152],zd[2152],Ad[2152],Ed[12],Fd[1944],Gd[1944],Hd[12],Id[48],Jd[48],Kd[16],Ld[1944],Md[1944],Od[80],Pd[24],Qd[2032],Rd[2032],Vd[8],Xd[12],Yd[48],Zd[48],ae[16],df[24],ef[16],ff[32],gf[16],hf[32],jf[80],kf[16],lf[40],mf[16],nf[16],of[16],pf[16],qf[16],rf[48],sf[32],tf[32],uf[104],vf[40],wf[16],xf[32],yf[24],zf[16],Af[32],Bf[16],Cf[24],Df[16],Ef[16],Ff[40],Gf[16],Hf[16],If[16],Jf[16],Kf[16],Lf[48],Mf[32],Nf[40],Of[32],Pf[16],Qf[48],Rf[40],Sf[16],Tf[32],Uf[32],Vf[32],Wf[104],Xf[32],Yf[40],Zf[32],ag[16],bg[48],cg[32],dg[16],eg[16],fg[16],hg[80],ig[24],jg[2152],oi[2152],pi[2152],qi[2152],ri[2152],si[2152],wi[12],xi[1944],yi[1944],zi[12],Ai[48],Bi[48],Ci[16],Di[1944],Ei[1944],Gi[80],Hi[24],Ii[2032],Ji[2032],Ni[8];
-u32 Qi,Pm,hu;
-u8 Ri,Si,Ti,Ui,Vi,Wi,ej,uj,vj,wj,Dj,Lj,Pj,Qj,Rj,Tj,Uj,Vj,Yj,Zj,ak,bk,dk,ek,rk,sk,Ik,Rk,Yk,gl,ml,ul,Al,Dl,Ql,cm,hm,rm,Lm,Mm,Xm,nn,on,pn,qn,yn,Cn,Dn,En,Gn,Hn,In,Ln,Mn,Nn,On,Qn,Rn,fo,go,wo,Fo,Mo,Uo,ap,ip,pp,up,Jp,Vp,aq,kq,mq,nq,wq,Mq,Nq,Oq,Vq,dr,hr,ir,jr,lr,mr,nr,qr,rr,sr,tr,vr,wr,Jr,Kr,as,js,qs,ys,Es,Ms,Ss,Vs,it,ut,zt,Jt,du,eu,pu,Fu,Gu,Hu,Iu,Qu,Uu,Vu,Wu,Yu,Zu,av,dv,ev,fv,gv,iv,jv,wv,xv,Nv,Wv,dw,lw,rw,zw,Fw,Iw,Vw,hx,mx,wx;
-u64 Xi,Yi,aj,cj,dj,fj,gj,hj,ij,kj,lj,oj,pj,qj,rj,sj,tj,zj,Bj,Cj,Ej,Gj,Hj,Jj,Kj,Oj,Sj,Wj,fk,gk,hk,ik,mk,ok,pk,tk,uk,xk,yk,zk,Ak,Bk,Ck,Ek,Gk,Hk,Jk,Kk,Lk,Ok,Pk,Qk,Sk,Tk,Uk,Vk,Wk,Xk,Zk,al,bl,dl,hl,il,jl,kl,ll,nl,ol,pl,sl,tl,vl,wl,xl,Bl,El,Gl,Hl,Il,Jl,Kl,Ll,Ml,Ol,Pl,Rl,Sl,Tl,Wl,Xl,Yl,Zl,am,bm,em,fm,im,jm,lm,mm,nm,om,pm,qm,sm,vm,xm,ym,Bm,Dm,Em,Hm,Jm,Km,Nm,Om,Rm,Tm,Wm,Ym,Zm,an,bn,dn,en,hn,in,jn,kn,ln,mn,rn,tn,un,wn,xn,Bn,Fn,Jn,Sn,Tn,Un,Vn,Zn,bo,co,ho,io,lo,mo,no,oo,po,qo,so,uo,vo,xo,yo,zo,Co,Do,Eo,Go,Ho,Io,Jo,Ko,Lo,No,Oo,Po,Ro,Vo,Wo,Xo,Yo,Zo,bp,cp,dp,gp,hp,jp,kp,lp,sp,vp,zp,Ap,Bp,Cp,Dp,Ep,Fp,Hp,Ip,Kp,Lp,Mp,Pp,Qp,Rp,Sp,Tp,Up,Xp,Yp,bq,cq,eq,fq,gq,hq,iq,jq,lq,pq,qq,sq,uq,vq,xq,yq,zq,Aq,Cq,Dq,Gq,Hq,Iq,Jq,Kq,Lq,Rq,Tq,Uq,Wq,Yq,Zq,br,cr,gr,kr,or,xr,yr,zr,Ar,Er,Gr,Hr,Lr,Mr,Pr,Qr,Rr,Sr,Tr,Ur,Wr,Yr,Zr,bs,cs,ds,gs,hs,is,ks,ls,ms,ns,os,ps,rs,ss,ts,vs,zs,As,Bs,Cs,Ds,Fs,Gs,Hs,Ks,Ls,Ns,Os,Ps,Ts,Ws,Ys,Zs,at,bt,ct,dt,et,gt,ht,jt,kt,lt,ot,pt,qt,rt,st,tt,wt,xt,At,Bt,Dt,Et,Ft,Gt,Ht,It,Kt,Nt,Pt,Qt,Tt,Vt,Wt,Zt,bu,cu,fu,gu,ju,lu,ou,qu,ru,su,tu,vu,wu,zu,Au,Bu,Cu,Du,Eu,Ju,Lu,Mu,Ou,Pu,Tu,Xu,bv,kv,lv,mv,nv,rv,tv,uv,yv,zv,Cv,Dv,Ev,Fv,Gv,Hv,Jv,Lv,Mv,Ov,Pv,Qv,Tv,Uv,Vv,Xv,Yv,Zv,aw,bw,cw,ew,fw,gw,iw,mw,nw,ow,pw,qw,sw,tw,uw,xw,yw,Aw,Bw,Cw,Gw,Jw,Lw,Mw,Nw,Ow,Pw,Qw,Rw,Tw,Uw,Ww,Xw,Yw,bx,cx,dx,ex,fx,gx,jx,kx,nx,ox,qx,rx,sx,tx,ux,vx,xx;
-s_64_64 Zi,Qm,rq,iu;
-u8 *bj,*jj,*nj,*xj,*yj,*Aj,*Fj,*Ij,*Xj,*jk,*nk,*Fk,*Mk,*Nk,*cl,*fl,*ql,*rl,*yl,*zl,*Fl,*Ul,*Vl,*gm,*km,*tm,*um,*wm,*zm,*Am,*Cm,*Fm,*Gm,*Im,*Sm,*Um,*Vm,*cn,*gn,*sn,*vn,*Kn,*Wn,*ao,*to,*Ao,*Bo,*Qo,*To,*ep,*fp,*np,*op,*yp,*Np,*Op,*Zp,*dq,*oq,*tq,*Bq,*Fq,*Pq,*Qq,*Sq,*Xq,*ar,*pr,*Br,*Fr,*Xr,*es,*fs,*us,*xs,*Is,*Js,*Qs,*Rs,*Xs,*mt,*nt,*yt,*Ct,*Lt,*Mt,*Ot,*Rt,*St,*Ut,*Xt,*Yt,*au,*ku,*mu,*nu,*uu,*yu,*Ku,*Nu,*cv,*ov,*sv,*Kv,*Rv,*Sv,*hw,*kw,*vw,*ww,*Dw,*Ew,*Kw,*Zw,*ax,*lx,*px;
-s_8_8 mj,ck,qk,dm,fn,Pn,eo,Wp,Eq,ur,Ir,vt,xu,hv,vv,ix;
-u128 Mj,Nj,Dk,el,Cl,Nl,zn,An,ro,So,tp,Gp,er,fr,Vr,ws,Us,ft,Ru,Su,Iv,jw,Hw,Sw;
-u16 kk,lk,wk,Xn,Yn,ko,Cr,Dr,Or,pv,qv,Bv;
-v16 vk,jo,Nr,Av;
-Qi=q4(b);
-Ri=b[4];
-Si=b[6];
-Ti=b[7];
-Ui=b[5];
-Vi=b[9];
-z30(Pi);
-Wi=Ui==0;
-if(Vi&1){
-z30(Oi);
-if(Wi){
-z30(Mi);
-Xi=((u64)Ri<<32)|Qi;
-w8(Ni,Xi);
-z30(Li);
-z30(Ki);
-z30(Fi);
-zero_all(Ii+1352,680);
-zero_all(Ji,2032);
-*Gi=Ti;
-z7(Gi+1);
-wp(Gi+8,(u8*)65536);
-z64(Gi+16);
-wp(Hi,(u8*)65536);
-z16(Hi+8);
-Yi=(u64)(u8*)65536;
-z40(Ii+1784);
-z32(Ii+1744);
-z32(Ii+1832);
-z16(Ii+1872);
-z48(Ii+1896);
-z16(Ii+1960);
-z16(Ii+1984);
-z16(Ii+2008);
-wp(Ii,(u8*)65536);
-z24(Ii+8);
-wp(Ii+32,(u8*)65536);
-z16(Ii+40);
-wp(Ii+56,(u8*)65536);
-z32(Ii+64);
-wp(Ii+96,(u8*)65536);
-z16(Ii+104);
-wp(Ii+120,(u8*)65536);
-z32(Ii+128);
-wp(Ii+160,(u8*)65536);
-z80(Ii+168);
-wp(Ii+248,(u8*)65536);
-z16(Ii+256);
-wp(Ii+272,(u8*)65536);
-z40(Ii+280);
-wp(Ii+320,(u8*)65536);
-z16(Ii+328);
-wp(Ii+344,(u8*)65536);
-z16(Ii+352);
-wp(Ii+368,(u8*)65536);
-z16(Ii+376);
-wp(Ii+392,(u8*)65536);
-z16(Ii+400);
-wp(Ii+416,(u8*)65536);
-z16(Ii+424);
-wp(Ii+440,(u8*)65536);
-z48(Ii+448);
-wp(Ii+496,(u8*)65536);
-z32(Ii+504);
-wp(Ii+536,(u8*)65536);
-z32(Ii+544);
-wp(Ii+576,(u8*)65536);
-z104(Ii+584);
-w8(Ii+688,Yi);
-z40(Ii+696);
-w8(Ii+736,Yi);
-z16(Ii+744);
-wp(Ii+760,(u8*)65536);
-z32(Ii+768);
-wp(Ii+800,(u8*)65536);
-z24(Ii+808);
-wp(Ii+832,(u8*)65536);
-z16(Ii+840);
-wp(Ii+856,(u8*)65536);
-z32(Ii+864);
-wp(Ii+896,(u8*)65536);
-z16(Ii+904);
-wp(Ii+920,(u8*)65536);
-z24(Ii+928);
-wp(Ii+952,(u8*)65536);
-z16(Ii+960);
-wp(Ii+976,(u8*)65536);
-z16(Ii+984);
-wp(Ii+1000,(u8*)65536);
-z40(Ii+1008);
-wp(Ii+1048,(u8*)65536);
-z16(Ii+1056);
-wp(Ii+1072,(u8*)65536);
-z16(Ii+1080);
-wp(Ii+1096,(u8*)65536);
-z16(Ii+1104);
-wp(Ii+1120,(u8*)65536);
-z16(Ii+1128);
-wp(Ii+1144,(u8*)65536);
-z16(Ii+1152);
-wp(Ii+1168,(u8*)65536);
-z48(Ii+1176);
-wp(Ii+1224,(u8*)65536);
-z32(Ii+1232);
-wp(Ii+1264,(u8*)65536);
-z40(Ii+1272);
-wp(Ii+1312,(u8*)65536);
-z32(Ii+1320);
-wp(Ii+1352,(u8*)65536);
-z16(Ii+1360);
-wp(Ii+1376,(u8*)65536);
-z48(Ii+1384);
-w8(Ii+1432,Yi);
-z40(Ii+1440);
-w8(Ii+1480,Yi);
-z16(Ii+1488);
-wp(Ii+1504,(u8*)65536);
-z32(Ii+1512);
-wp(Ii+1544,(u8*)65536);
-z32(Ii+1552);
-wp(Ii+1584,(u8*)65536);
-z32(Ii+1592);
-wp(Ii+1624,(u8*)65536);
-z104(Ii+1632);
-wp(Ii+1736,(u8*)65536);
-wp(Ii+1776,(u8*)65536);
-wp(Ii+1824,(u8*)65536);
-wp(Ii+1864,(u8*)65536);
-wp(Ii+1888,(u8*)65536);
-w8(Ii+1944,Xi);
-wp(Ii+1952,(u8*)65536);
-wp(Ii+1976,(u8*)65536);
-wp(Ii+2000,(u8*)65536);
-w4(Ii+2024,65);
-w4(Ii+2028,0);
-Zi=port_rattle_alloc(16384,1);
-if((u8)(Zi.f0&1)){
-aj=Zi.f1;
-bj=(u8*)aj;
-zero_all(bj,16384);
-cj=r8(c+8224);
-if(cj!=0){
-dj=cj;
-ej=0;
-L1:w8(c+8224,dj-1);
-fj=r8(c+8200);
-gj=r8(c+8192);
-if(fj==gj){
-hj=port_read(0,bj,16384);
-if((i64)hj<0){
+u8 i[30],r[30],s[30],t[30],D[30],I[30],J[30],K[30],M[30],R[30],aa[30],ba[30],ca[30],ma[30],ra[30],sa[30],ta[30],va[30],wa[30];
+A16 u8 e[12],f[48],g[48],h[16],j[80],k[24],l[1752],m[1752],n[1752],o[1752],p[1752],q[1752],u[12],v[1544],w[1544],x[12],y[48],z[48],A[16],B[1544],C[1544],E[80],F[24],G[1632],H[1632],L[8],N[12],O[48],P[48],Q[16],S[80],T[24],U[1752],V[1752],W[1752],X[1752],Y[1752],Z[1752],da[12],ea[1544],fa[1544],ga[12],ha[48],ia[48],ja[16],ka[1544],la[1544],na[80],oa[24],pa[1632],qa[1632],ua[8];
+u32 xa;
+u8 ya,za,Aa,Ba,Ca,Da,La,bb,cb,db,kb,sb,wb,xb,yb,Ab,Bb,Cb,Fb,Gb,Hb,Ib,Kb,Lb,Yb,Zb,pc,yc,Fc,Nc,Tc,bd,hd,kd,zd,Ld,Qd,ae,ue,ve,we,Ee,Ue,Ve,We,Xe,ff,kf,lf,mf,of,pf,qf,tf,uf,vf,wf,yf,zf,Mf,Nf,dg,mg,tg,Bg,Hg,Pg,Vg,Yg,lh,xh,Ch,Mh,Oh,Ph,Yh,oi,pi,qi,xi,Fi,Ji,Ki,Li,Ni,Oi,Pi,Si,Ti,Ui,Vi,Xi,Yi,lj,mj,Cj,Lj,Sj,ak,gk,ok,uk,xk,Kk,Wk,bl,ll,Fl,Gl,Hl,Pl,fm,gm,hm,im,qm,um,vm,wm,ym,zm,Am,Dm,Em,Fm,Gm,Im,Jm,Wm,Xm,nn,wn,Dn,Ln,Rn,Zn,go,jo,wo,Io,No,Xo;
+u64 Ea,Fa,Ha,Ja,Ka,Ma,Na,Oa,Pa,Ra,Sa,Va,Wa,Xa,Ya,Za,ab,gb,ib,jb,lb,nb,ob,qb,rb,vb,zb,Db,Mb,Nb,Ob,Pb,Tb,Vb,Wb,ac,bc,ec,fc,gc,hc,ic,jc,lc,nc,oc,qc,rc,sc,vc,wc,xc,zc,Ac,Bc,Cc,Dc,Ec,Gc,Hc,Ic,Kc,Oc,Pc,Qc,Rc,Sc,Uc,Vc,Wc,Zc,ad,cd,dd,ed,id,ld,nd,od,pd,qd,sd,td,ud,xd,yd,Ad,Bd,Cd,Fd,Gd,Hd,Id,Jd,Kd,Nd,Od,Rd,Sd,Ud,Vd,Wd,Xd,Yd,Zd,be,ee,ge,he,ke,me,ne,qe,se,te,xe,ye,Ae,Ce,De,Fe,Ge,He,Ie,Ke,Le,Oe,Pe,Qe,Re,Se,Te,Ye,af,bf,df,ef,jf,nf,rf,Af,Bf,Cf,Df,Hf,Jf,Kf,Of,Pf,Sf,Tf,Uf,Vf,Wf,Xf,Zf,bg,cg,eg,fg,gg,jg,kg,lg,ng,og,pg,qg,rg,sg,ug,vg,wg,yg,Cg,Dg,Eg,Fg,Gg,Ig,Jg,Kg,Ng,Og,Qg,Rg,Sg,Wg,Zg,bh,ch,dh,eh,fh,gh,hh,jh,kh,mh,nh,oh,rh,sh,th,uh,vh,wh,zh,Ah,Dh,Eh,Gh,Hh,Ih,Jh,Kh,Lh,Nh,Rh,Sh,Uh,Wh,Xh,Zh,ai,bi,ci,ei,fi,ii,ji,ki,li,mi,ni,ti,vi,wi,yi,Ai,Bi,Di,Ei,Ii,Mi,Qi,Zi,aj,bj,cj,gj,ij,jj,nj,oj,rj,sj,tj,uj,vj,wj,yj,Aj,Bj,Dj,Ej,Fj,Ij,Jj,Kj,Mj,Nj,Oj,Pj,Qj,Rj,Tj,Uj,Vj,Xj,bk,ck,dk,ek,fk,hk,ik,jk,mk,nk,pk,qk,rk,vk,yk,Ak,Bk,Ck,Dk,Ek,Fk,Gk,Ik,Jk,Lk,Mk,Nk,Qk,Rk,Sk,Tk,Uk,Vk,Yk,Zk,cl,dl,fl,gl,hl,il,jl,kl,ml,pl,rl,sl,vl,xl,yl,Bl,Dl,El,Il,Jl,Ll,Nl,Ol,Ql,Rl,Sl,Tl,Vl,Wl,Zl,am,bm,cm,dm,em,jm,lm,mm,om,pm,tm,xm,Bm,Km,Lm,Mm,Nm,Rm,Tm,Um,Ym,Zm,cn,dn,en,fn,gn,hn,jn,ln,mn,on,pn,qn,tn,un,vn,xn,yn,zn,An,Bn,Cn,En,Fn,Gn,In,Mn,Nn,On,Pn,Qn,Sn,Tn,Un,Xn,Yn,ao,bo,co,ho,ko,mo,no,oo,po,qo,ro,so,uo,vo,xo,yo,zo,Co,Do,Eo,Fo,Go,Ho,Ko,Lo,Oo,Po,Ro,So,To,Uo,Vo,Wo,Yo;
+s_64_64 Ga,ze,Th,Kl;
+u8 *Ia,*Qa,*Ua,*eb,*fb,*hb,*mb,*pb,*Eb,*Qb,*Ub,*mc,*tc,*uc,*Jc,*Mc,*Xc,*Yc,*fd,*gd,*md,*Dd,*Ed,*Pd,*Td,*ce,*de,*fe,*ie,*je,*le,*oe,*pe,*re,*Be,*Je,*Ne,*Ze,*cf,*sf,*Ef,*If,*ag,*hg,*ig,*xg,*Ag,*Lg,*Mg,*Tg,*Ug,*ah,*ph,*qh,*Bh,*Fh,*Qh,*Vh,*di,*hi,*ri,*si,*ui,*zi,*Ci,*Ri,*dj,*hj,*zj,*Gj,*Hj,*Wj,*Zj,*kk,*lk,*sk,*tk,*zk,*Ok,*Pk,*al,*el,*nl,*ol,*ql,*tl,*ul,*wl,*zl,*Al,*Cl,*Ml,*Ul,*Yl,*km,*nm,*Cm,*Om,*Sm,*kn,*rn,*sn,*Hn,*Kn,*Vn,*Wn,*eo,*fo,*lo,*Ao,*Bo,*Mo,*Qo;
+s_8_8 Ta,Jb,Xb,Md,Me,xf,Lf,yh,gi,Wi,kj,Xk,Xl,Hm,Vm,Jo;
+u128 tb,ub,kc,Lc,jd,vd,gf,hf,Yf,zg,Xg,ih,Gi,Hi,xj,Yj,wk,Hk,rm,sm,in,Jn,io,to;
+u16 Rb,Sb,dc,Ff,Gf,Rf,ej,fj,qj,Pm,Qm,bn;
+v16 cc,Qf,pj,an;
+xa=q4(b);
+ya=b[4];
+za=b[6];
+Aa=b[7];
+Ba=b[5];
+Ca=b[9];
+z30(wa);
+Da=Ba==0;
+if(Ca&1){
+z30(va);
+if(Da){
+z30(ta);
+Ea=((u64)ya<<32)|xa;
+w8(ua,Ea);
+z30(sa);
+z30(ra);
+z30(ma);
+z128(pa+1504);
+zero_all(qa,1632);
+*na=Aa;
+z7(na+1);
+wp(na+8,(u8*)65536);
+z64(na+16);
+wp(oa,(u8*)65536);
+z16(oa+8);
+Fa=(u64)(u8*)65536;
+wp(pa,(u8*)65536);
+z24(pa+8);
+wp(pa+32,(u8*)65536);
+z16(pa+40);
+wp(pa+56,(u8*)65536);
+z32(pa+64);
+wp(pa+96,(u8*)65536);
+z16(pa+104);
+wp(pa+120,(u8*)65536);
+z32(pa+128);
+wp(pa+160,(u8*)65536);
+z80(pa+168);
+wp(pa+248,(u8*)65536);
+z16(pa+256);
+wp(pa+272,(u8*)65536);
+z40(pa+280);
+wp(pa+320,(u8*)65536);
+z16(pa+328);
+wp(pa+344,(u8*)65536);
+z16(pa+352);
+wp(pa+368,(u8*)65536);
+z16(pa+376);
+wp(pa+392,(u8*)65536);
+z16(pa+400);
+wp(pa+416,(u8*)65536);
+z16(pa+424);
+wp(pa+440,(u8*)65536);
+z48(pa+448);
+wp(pa+496,(u8*)65536);
+z32(pa+504);
+wp(pa+536,(u8*)65536);
+z32(pa+544);
+wp(pa+576,(u8*)65536);
+z104(pa+584);
+w8(pa+688,Fa);
+z40(pa+696);
+w8(pa+736,Fa);
+z16(pa+744);
+wp(pa+760,(u8*)65536);
+z32(pa+768);
+wp(pa+800,(u8*)65536);
+z24(pa+808);
+wp(pa+832,(u8*)65536);
+z16(pa+840);
+wp(pa+856,(u8*)65536);
+z32(pa+864);
+wp(pa+896,(u8*)65536);
+z16(pa+904);
+wp(pa+920,(u8*)65536);
+z24(pa+928);
+wp(pa+952,(u8*)65536);
+z16(pa+960);
+wp(pa+976,(u8*)65536);
+z16(pa+984);
+wp(pa+1000,(u8*)65536);
+z40(pa+1008);
+wp(pa+1048,(u8*)65536);
+z16(pa+1056);
+wp(pa+1072,(u8*)65536);
+z16(pa+1080);
+wp(pa+1096,(u8*)65536);
+z16(pa+1104);
+wp(pa+1120,(u8*)65536);
+z16(pa+1128);
+wp(pa+1144,(u8*)65536);
+z16(pa+1152);
+wp(pa+1168,(u8*)65536);
+z48(pa+1176);
+wp(pa+1224,(u8*)65536);
+z32(pa+1232);
+wp(pa+1264,(u8*)65536);
+z40(pa+1272);
+wp(pa+1312,(u8*)65536);
+z32(pa+1320);
+wp(pa+1352,(u8*)65536);
+z16(pa+1360);
+wp(pa+1376,(u8*)65536);
+z48(pa+1384);
+w8(pa+1432,Fa);
+z40(pa+1440);
+w8(pa+1480,Fa);
+z16(pa+1488);
+wp(pa+1504,(u8*)65536);
+z32(pa+1512);
+w8(pa+1544,Ea);
+wp(pa+1552,(u8*)65536);
+z16(pa+1560);
+wp(pa+1576,(u8*)65536);
+z16(pa+1584);
+wp(pa+1600,(u8*)65536);
+z16(pa+1608);
+w4(pa+1624,65);
+w4(pa+1628,0);
+Ga=port_rattle_alloc(16384,1);
+if((u8)(Ga.f0&1)){
+Ha=Ga.f1;
+Ia=(u8*)Ha;
+zero_all(Ia,16384);
+Ja=r8(c+8224);
+if(Ja!=0){
+Ka=Ja;
+La=0;
+L1:w8(c+8224,Ka-1);
+Ma=r8(c+8200);
+Na=r8(c+8192);
+if(Ma==Na){
+Oa=port_read(0,Ia,16384);
+if((i64)Oa<0){
 port_rattle_errno();
 goto L2;}
-ij=umin64(hj,16384);}
+Pa=umin64(Oa,16384);}
 else{
-jj=c+(i64)gj;
-kj=umin64(fj-gj,16384);
-if(aj-(u64)jj<kj)copy_bits_4f4(jj,bj,kj);
-else memmove(bj,jj,kj);
-lj=r8(c+8192);
-w8(c+8192,umin64(kj,r8(c+8200)-lj)+lj);
-ij=kj;}
-if(ij==0){
-mj=end_segment_e03(Ni,Ii,Gi,Hi,d);
-if(mj.f0==0){
-nj=rp(Hi);
-oj=r8(Hi+8);
-if(oj==0)goto L3;
-pj=0;
-L4:qj=oj-pj;
-rj=port_write(1,nj+(i64)pj,qj);
-if((i64)rj<0)port_rattle_errno();
+Qa=c+(i64)Na;
+Ra=umin64(Ma-Na,16384);
+if(Ha-(u64)Qa<Ra)copy_bits_4f4(Qa,Ia,Ra);
+else memmove(Ia,Qa,Ra);
+Sa=r8(c+8192);
+w8(c+8192,umin64(Ra,r8(c+8200)-Sa)+Sa);
+Pa=Ra;}
+if(Pa==0){
+Ta=end_segment_e03(ua,pa,na,oa,d);
+if(Ta.f0==0){
+Ua=rp(oa);
+Va=r8(oa+8);
+if(Va==0)goto L3;
+Wa=0;
+L4:Xa=Va-Wa;
+Ya=port_write(1,Ua+(i64)Wa,Xa);
+if((i64)Ya<0)port_rattle_errno();
 else{
-sj=umin64(rj,qj);
-if(sj!=0){
-tj=sj+pj;
-if(tj>=oj)goto L3;
-pj=tj;
+Za=umin64(Ya,Xa);
+if(Za!=0){
+ab=Za+Wa;
+if(ab>=Va)goto L3;
+Wa=ab;
 goto L4;}}
 w8(d+8,r8(d+8)+1);
-uj=1;
+bb=1;
 goto L5;
-L3:port_rattle_dealloc(bj);
-memcpy(Ji,Ii,2032);
-drop_097(Ji);
-if(r8(Hi+16)!=0)port_rattle_dealloc(nj);
-if(r8(Gi+24)!=0)port_rattle_dealloc(rp(Gi+8));
-memcpy(Ki+6,Gi+56,24);
-vj=0;
-wj=0;
+L3:port_rattle_dealloc(Ia);
+memcpy(qa,pa,1632);
+drop_097(qa);
+if(r8(oa+16)!=0)port_rattle_dealloc(Ua);
+if(r8(na+24)!=0)port_rattle_dealloc(rp(na+8));
+memcpy(ra+6,na+56,24);
+cb=0;
+db=0;
 goto L6;}
-uj=mj.f1;
-L5:port_rattle_dealloc(bj);
-xj=rp(Ii+1952);
-yj=rp(Ii+1976);
-zj=r8(Ii+1992);
-Aj=rp(Ii+2000);
-Bj=r8(Ii+2016);
-Cj=r8(Ii+1968);
-memcpy(xi,Ii,1944);
-drop_816(xi);
-if(Cj!=0)port_rattle_dealloc(xj);
-if(zj!=0)port_rattle_dealloc(yj);
-if(Bj!=0)port_rattle_dealloc(Aj);
-if(r8(Hi+16)!=0)port_rattle_dealloc(rp(Hi));
-if(r8(Gi+24)!=0)port_rattle_dealloc(rp(Gi+8));
-z24(Ki+6);
-vj=1;
-wj=uj;
+bb=Ta.f1;
+L5:port_rattle_dealloc(Ia);
+eb=rp(pa+1552);
+fb=rp(pa+1576);
+gb=r8(pa+1592);
+hb=rp(pa+1600);
+ib=r8(pa+1616);
+jb=r8(pa+1568);
+memcpy(ea,pa,1544);
+drop_816(ea);
+if(jb!=0)port_rattle_dealloc(eb);
+if(gb!=0)port_rattle_dealloc(fb);
+if(ib!=0)port_rattle_dealloc(hb);
+if(r8(oa+16)!=0)port_rattle_dealloc(rp(oa));
+if(r8(na+24)!=0)port_rattle_dealloc(rp(na+8));
+z24(ra+6);
+cb=1;
+db=bb;
 goto L6;}
-Dj=ej;
-Ej=0;
-L7:Fj=bj+(i64)Ej;
-z16(Ci);
-first_segment_4a3(Ci,*Gi,Fj,ij-Ej,Dj);
-Gj=r8(Ci);
-if(Gj==0)goto L8;
-Hj=0;
-L9:Ij=Fj+(i64)Hj;
-Jj=Gj-Hj;
-z48(Bi);
-Kj=r8(Gi+16);
-Lj=Kj==0;
-Mj=r16(Gi+32);
-if(Lj&&Mj==0){
-if(Gi[50]&1){
-pass_6c7(Bi,Gi,Ij,Jj);
-Nj=r16(Bi);
-Oj=r8(Bi+16);
-Pj=Bi[24]&1;
+kb=La;
+lb=0;
+L7:mb=Ia+(i64)lb;
+z16(ja);
+first_segment_4a3(ja,*na,mb,Pa-lb,kb);
+nb=r8(ja);
+if(nb==0)goto L8;
+ob=0;
+L9:pb=mb+(i64)ob;
+qb=nb-ob;
+z48(ia);
+rb=r8(na+16);
+sb=rb==0;
+tb=r16(na+32);
+if(sb&&tb==0){
+if(na[50]&1){
+pass_6c7(ia,na,pb,qb);
+ub=r16(ia);
+vb=r8(ia+16);
+wb=ia[24]&1;
 goto L10;}
-Qj=*Gi;
-Rj=Gi[48];
-if(Jj==0)Sj=0;
+xb=*na;
+yb=na[48];
+if(qb==0)zb=0;
 else{
-Tj=Gi[49];
-Uj=Qj+49;
-Vj=Qj==2;
-Wj=0;
-L11:Xj=Ij+Wj;
-if(*Xj==95){
-if(Wj==0){
-switch(Rj){
-case 0:Yj=Qj;
+Ab=na[49];
+Bb=xb+49;
+Cb=xb==2;
+Db=0;
+L11:Eb=pb+Db;
+if(*Eb==95){
+if(Db==0){
+switch(yb){
+case 0:Fb=xb;
 goto L12;
-case 1:if(Vj){
-switch(Tj){
-case 46:case 36:Zj=1;
-ak=49;
+case 1:if(Cb){
+switch(Ab){
+case 46:case 36:Gb=1;
+Hb=49;
 goto L13;
 default:break;}}
 break;
-case 2:if(Vj){
-switch(Tj){
-case 46:case 36:Zj=1;
-ak=49;
+case 2:if(Cb){
+switch(Ab){
+case 46:case 36:Gb=1;
+Hb=49;
 goto L13;
 default:break;}}
 break;
 default:NEVER;
 }}
 else{
-bk=*((u8*)t_e4d8+Xj[-1]);
-if(Uj>bk){
-if(bk<=(Qj==0?48:49)){
-dk=0;
-ek=0;
-fk=Wj;
+Ib=*((u8*)t_e4d8+Eb[-1]);
+if(Bb>Ib){
+if(Ib<=(xb==0?48:49)){
+Kb=0;
+Lb=0;
+Mb=Db;
 goto L14;}
-ck=place_in_stretch_597(Qj,Ij,Wj,Rj);
-dk=ck.f1;
-ek=ck.f0;
-fk=Wj;
+Jb=place_in_stretch_597(xb,pb,Db,yb);
+Kb=Jb.f1;
+Lb=Jb.f0;
+Mb=Db;
 goto L14;}}}
-gk=Wj+1;
-hk=Jj-gk;
-if(hk<16)ik=0;
+Nb=Db+1;
+Ob=qb-Nb;
+if(Ob<16)Pb=0;
 else{
-jk=Ij+(i64)gk;
-kk=cttz(v16_eq(v16_at(jk),splat(95)),16);
-if((hk<32)|(kk<16))ik=kk;
+Qb=pb+(i64)Nb;
+Rb=cttz(v16_eq(v16_at(Qb),splat(95)),16);
+if((Ob<32)|(Rb<16))Pb=Rb;
 else{
-lk=cttz(v16_eq(v16_at(jk+16),splat(95)),16);
-if(lk<16)ik=lk|16;
+Sb=cttz(v16_eq(v16_at(Qb+16),splat(95)),16);
+if(Sb<16)Pb=Sb|16;
 else{
-if(hk<=95){
-ik=32;
+if(Ob<=95){
+Pb=32;
 goto L15;}
-mk=32;
-L16:nk=jk+(i64)mk;
-if((((v16_eq(v16_at(nk),splat(95))|v16_eq(v16_at(nk+16),splat(95)))|v16_eq(v16_at(nk+32),splat(95)))|v16_eq(v16_at(nk+48),splat(95)))==0){
-ok=mk+64;
-if(hk-ok>63){
-mk=ok;
+Tb=32;
+L16:Ub=Qb+(i64)Tb;
+if((((v16_eq(v16_at(Ub),splat(95))|v16_eq(v16_at(Ub+16),splat(95)))|v16_eq(v16_at(Ub+32),splat(95)))|v16_eq(v16_at(Ub+48),splat(95)))==0){
+Vb=Tb+64;
+if(Ob-Vb>63){
+Tb=Vb;
 goto L16;}
-ik=ok;}
-else ik=mk;}}}
-L15:pk=ik+gk;
-if(pk<Jj){
-Wj=pk;
+Pb=Vb;}
+else Pb=Tb;}}}
+L15:Wb=Pb+Nb;
+if(Wb<qb){
+Db=Wb;
 goto L11;}
-Sj=pk;}
-if(*((u8*)t_e4d8+*(Ij+(i64)Sj-1))>(Qj==0?48:49)){
-qk=place_in_stretch_597(Qj,Ij,Sj,Rj);
-rk=qk.f0;
-sk=qk.f1;}
+zb=Wb;}
+if(*((u8*)t_e4d8+*(pb+(i64)zb-1))>(xb==0?48:49)){
+Xb=place_in_stretch_597(xb,pb,zb,yb);
+Yb=Xb.f0;
+Zb=Xb.f1;}
 else{
-rk=0;
-sk=0;}
-if(Sj==0){
-Yj=Qj;
+Yb=0;
+Zb=0;}
+if(zb==0){
+Fb=xb;
 goto L12;}
-dk=sk;
-ek=rk;
-fk=Sj;
-L14:w2(Gi+48,(u16)((u32)dk<<8)|ek);
-tk=fk;
+Kb=Zb;
+Lb=Yb;
+Mb=zb;
+L14:w2(na+48,(u16)((u32)Kb<<8)|Lb);
+ac=Mb;
 goto L17;}
-Yj=*Gi;
-L12:Zj=Yj==2;
-ak=Yj==1?50:49;
-L13:if(ak>*((u8*)t_e4d8+*Ij))goto L18;
-uk=0;
-L19:if(Jj-uk>15){
-vk=v16_at(Ij+uk);
-wk=cttz(v16_ne(vk,splat(36))&(v16_ne(vk,splat(46))&(v16_ne(vk,splat(95))&(v16_ult(v16_add(vk,splat(198)),splat(246))&v16_ult(v16_add(v16_or(vk,splat(32)),splat(133)),splat(230))))),16);
-xk=uk+wk;
-if(wk>=16){
-uk=xk;
+Fb=*na;
+L12:Gb=Fb==2;
+Hb=Fb==1?50:49;
+L13:if(Hb>*((u8*)t_e4d8+*pb))goto L18;
+bc=0;
+L19:if(qb-bc>15){
+cc=v16_at(pb+bc);
+dc=cttz(v16_ne(cc,splat(36))&(v16_ne(cc,splat(46))&(v16_ne(cc,splat(95))&(v16_ult(v16_add(cc,splat(198)),splat(246))&v16_ult(v16_add(v16_or(cc,splat(32)),splat(133)),splat(230))))),16);
+ec=bc+dc;
+if(dc>=16){
+bc=ec;
 goto L19;}
-yk=xk;}
-else yk=uk;
-if(yk>=Jj){
-Ak=yk;
+fc=ec;}
+else fc=bc;
+if(fc>=qb){
+hc=fc;
 goto L20;}
-zk=yk;
-L21:if(ak>*((u8*)t_e4d8+*(Ij+zk)))Ak=zk;
+gc=fc;
+L21:if(Hb>*((u8*)t_e4d8+*(pb+gc)))hc=gc;
 else{
-Bk=zk+1;
-if(Bk!=Jj){
-zk=Bk;
+ic=gc+1;
+if(ic!=qb){
+gc=ic;
 goto L21;}
-Ak=Jj;}
-L20:if(Ak==0)goto L18;
-Ck=Ak;
-L22:if(Ck==0)Dk=Mj+Ak;
+hc=qb;}
+L20:if(hc==0)goto L18;
+jc=hc;
+L22:if(jc==0)kc=tb+hc;
 else{
-Ek=Ck-1;
-if(*(Ij+Ek)==46){
-Ck=Ek;
+lc=jc-1;
+if(*(pb+lc)==46){
+jc=lc;
 goto L22;}
-if(Mj+Ck>65536-Kj){
-Fk=rp(Gi+8);
-Gk=r8(Hi+16);
-Hk=r8(Hi+8);
-if(Kj>Gk-Hk){
-Ik=grow_amortized_68b(Hi,Kj);
-if(!Ik)goto L23;
-Jk=r8(Hi+16);
-Kk=r8(Hi+8);}
+if(tb+jc>65536-rb){
+mc=rp(na+8);
+nc=r8(oa+16);
+oc=r8(oa+8);
+if(rb>nc-oc){
+pc=grow_amortized_68b(oa,rb);
+if(!pc)goto L23;
+qc=r8(oa+16);
+rc=r8(oa+8);}
 else{
-Jk=Gk;
-Kk=Hk;}
-Lk=Kk+Kj;
-Mk=rp(Hi);
-z16(Hi+8);
-Nk=Mk+(i64)Kk;
-if((u64)Nk-(u64)Fk<Kj){
-copy_bits_4f4(Fk,Nk,Kj);
-w8(Hi+8,Lk);
-w8(Hi+16,Jk);}
+qc=nc;
+rc=oc;}
+sc=rc+rb;
+tc=rp(oa);
+z16(oa+8);
+uc=tc+(i64)rc;
+if((u64)uc-(u64)mc<rb){
+copy_bits_4f4(mc,uc,rb);
+w8(oa+8,sc);
+w8(oa+16,qc);}
 else{
-memmove(Nk,Fk,Kj);
-w8(Hi+8,Lk);
-w8(Hi+16,Jk);
-if(Lj)goto L24;}
-w8(Gi+16,0);
-L24:w16(Gi+32,0);
-Gi[50]=1;
-Nj=Mj;
-Oj=Ak;
-Pj=1;
+memmove(uc,mc,rb);
+w8(oa+8,sc);
+w8(oa+16,qc);
+if(sb)goto L24;}
+w8(na+16,0);
+L24:w16(na+32,0);
+na[50]=1;
+ub=tb;
+vb=hc;
+wb=1;
 goto L10;}
-Ok=Mj;
-Pk=Kj+Ok;
-if(Pk>Kj){
-Qk=r8(Gi+24);
-if(Qk-Kj<Ok){
-Rk=grow_amortized_68b(Gi+8,Ok);
-if(!Rk)goto L23;
-Sk=r8(Gi+16);
-Tk=Sk+Ok;
-Uk=r8(Gi+24);
-Vk=Sk;}
+vc=tb;
+wc=rb+vc;
+if(wc>rb){
+xc=r8(na+24);
+if(xc-rb<vc){
+yc=grow_amortized_68b(na+8,vc);
+if(!yc)goto L23;
+zc=r8(na+16);
+Ac=zc+vc;
+Bc=r8(na+24);
+Cc=zc;}
 else{
-Tk=Pk;
-Uk=Qk;
-Vk=Kj;}
-if(Vk<Tk)memset(rp(Gi+8)+(i64)Vk,46,Ok);
-w8(Gi+16,Tk);
-w8(Gi+24,Uk);
-Wk=Tk;}
+Ac=wc;
+Bc=xc;
+Cc=rb;}
+if(Cc<Ac)memset(rp(na+8)+(i64)Cc,46,vc);
+w8(na+16,Ac);
+w8(na+24,Bc);
+Dc=Ac;}
 else{
-if(Kj>Pk){
-w8(Gi+16,Pk);
-Wk=Pk;}
-else Wk=Kj;}
-Xk=r8(Gi+24);
-if(Ck>Xk-Wk){
-Yk=grow_amortized_68b(Gi+8,Ck);
-if(!Yk)goto L23;
-Zk=r8(Gi+24);
-al=r8(Gi+16);}
+if(rb>wc){
+w8(na+16,wc);
+Dc=wc;}
+else Dc=rb;}
+Ec=r8(na+24);
+if(jc>Ec-Dc){
+Fc=grow_amortized_68b(na+8,jc);
+if(!Fc)goto L23;
+Gc=r8(na+24);
+Hc=r8(na+16);}
 else{
-Zk=Xk;
-al=Wk;}
-bl=al+Ck;
-cl=rp(Gi+8)+(i64)al;
-if((u64)cl-(u64)Ij<Ck)copy_bits_4f4(Ij,cl,Ck);
-else memmove(cl,Ij,Ck);
-w8(Gi+16,bl);
-w8(Gi+24,Zk);
-Dk=Ak-Ck;}
-w16(Gi+32,Dk);
-dl=Ak;
+Gc=Ec;
+Hc=Dc;}
+Ic=Hc+jc;
+Jc=rp(na+8)+(i64)Hc;
+if((u64)Jc-(u64)pb<jc)copy_bits_4f4(pb,Jc,jc);
+else memmove(Jc,pb,jc);
+w8(na+16,Ic);
+w8(na+24,Gc);
+kc=hc-jc;}
+w16(na+32,kc);
+Kc=hc;
 goto L25;
-L18:z48(Ai);
-if(!Zj){
-fl=rp(Gi+8);
-if(Kj-65537>=0xffffffffffff0001u){
-gl=*fl==95;
-if(Kj==2){
-if(!gl)goto L26;
-switch(fl[1]){
-case 90:hl=0;
+L18:z48(ha);
+if(!Gb){
+Mc=rp(na+8);
+if(rb-65537>=0xffffffffffff0001u){
+Nc=*Mc==95;
+if(rb==2){
+if(!Nc)goto L26;
+switch(Mc[1]){
+case 90:Oc=0;
 goto L27;
 case 82:break;
 default:goto L26;
 }}
 else{
-if(!gl)goto L26;
-switch(fl[1]){
-case 90:hl=0;
+if(!Nc)goto L26;
+switch(Mc[1]){
+case 90:Oc=0;
 goto L27;
 case 82:break;
-case 95:switch(fl[2]){
-case 90:hl=0x100000000u;
+case 95:switch(Mc[2]){
+case 90:Oc=0x100000000u;
 goto L27;
-case 82:hl=0x100000001u;
+case 82:Oc=0x100000001u;
 goto L27;
 default:goto L26;
 }
 break;
 default:goto L26;
 }}
-hl=1;
-L27:il=hl>>32;
-z12(zi);
-append_c08(zi,Ni,Ii,hl,il,fl+(i64)il,Kj-il,Hi);
-if(*zi!=0){
-if(zi[4]!=4){
-kl=r8(Hi+16);
-ll=r8(Hi+8);
-if(Kj>kl-ll){
-ml=grow_amortized_68b(Hi,Kj);
-if(!ml)goto L28;
-nl=r8(Hi+16);
-ol=r8(Hi+8);}
+Oc=1;
+L27:Pc=Oc>>32;
+z12(ga);
+append_c08(ga,ua,pa,Oc,Pc,Mc+(i64)Pc,rb-Pc,oa);
+if(*ga!=0){
+if(ga[4]!=4){
+Rc=r8(oa+16);
+Sc=r8(oa+8);
+if(rb>Rc-Sc){
+Tc=grow_amortized_68b(oa,rb);
+if(!Tc)goto L28;
+Uc=r8(oa+16);
+Vc=r8(oa+8);}
 else{
-nl=kl;
-ol=ll;}
-pl=ol+Kj;
-ql=rp(Hi)+(i64)ol;
-if((u64)ql-(u64)fl<Kj)copy_bits_4f4(fl,ql,Kj);
-else memmove(ql,fl,Kj);
-w8(Hi+8,pl);
-w8(Hi+16,nl);
-jl=16;
+Uc=Rc;
+Vc=Sc;}
+Wc=Vc+rb;
+Xc=rp(oa)+(i64)Vc;
+if((u64)Xc-(u64)Mc<rb)copy_bits_4f4(Mc,Xc,rb);
+else memmove(Xc,Mc,rb);
+w8(oa+8,Wc);
+w8(oa+16,Uc);
+Qc=16;
 goto L29;}
 L28:goto L30;}
-jl=8;
-L29:w8(Gi+56,uadd64(r8(Gi+56),1));
-rl=Gi+56+(i64)jl;
-w8(rl,uadd64(r8(rl),1));
+Qc=8;
+L29:w8(na+56,uadd64(r8(na+56),1));
+Yc=na+56+(i64)Qc;
+w8(Yc,uadd64(r8(Yc),1));
 goto L31;}
-L26:sl=r8(Hi+16);
-tl=r8(Hi+8);
-if(Kj>sl-tl){
-ul=grow_amortized_68b(Hi,Kj);
-if(!ul)goto L30;
-vl=r8(Hi+16);
-wl=r8(Hi+8);}
+L26:Zc=r8(oa+16);
+ad=r8(oa+8);
+if(rb>Zc-ad){
+bd=grow_amortized_68b(oa,rb);
+if(!bd)goto L30;
+cd=r8(oa+16);
+dd=r8(oa+8);}
 else{
-vl=sl;
-wl=tl;}
-xl=wl+Kj;
-yl=rp(Hi);
-z16(Hi+8);
-zl=yl+(i64)wl;
-if((u64)zl-(u64)fl<Kj){
-copy_bits_4f4(fl,zl,Kj);
-w8(Hi+8,xl);
-w8(Hi+16,vl);}
+cd=Zc;
+dd=ad;}
+ed=dd+rb;
+fd=rp(oa);
+z16(oa+8);
+gd=fd+(i64)dd;
+if((u64)gd-(u64)Mc<rb){
+copy_bits_4f4(Mc,gd,rb);
+w8(oa+8,ed);
+w8(oa+16,cd);}
 else{
-memmove(zl,fl,Kj);
-w8(Hi+8,xl);
-w8(Hi+16,vl);
-if(Lj)goto L32;}
-L31:w8(Gi+16,0);
-L32:z18(Gi+32);
-el=Mj;
+memmove(gd,Mc,rb);
+w8(oa+8,ed);
+w8(oa+16,cd);
+if(sb)goto L32;}
+L31:w8(na+16,0);
+L32:z18(na+32);
+Lc=tb;
 goto L33;}
-end_within_5b8(Ai,Gi,Ni,Ii,Hi);
-if(*Ai==0){
-el=r16(Ai+16);
+end_within_5b8(ha,na,ua,pa,oa);
+if(*ha==0){
+Lc=r16(ha+16);
 goto L33;}
 L30:goto L23;
-L33:Nj=el;
-Oj=1;
-Pj=1;
+L33:ub=Lc;
+vb=1;
+wb=1;
 goto L10;
-L23:Al=2;
+L23:hd=2;
 goto L34;
-L10:if(Nj!=0){
-Bl=r8(Hi+8);
-Cl=0;
-L35:if(r8(Hi+16)==Bl){
-Dl=grow_amortized_68b(Hi,1);
-if(!Dl){
-Al=2;
+L10:if(ub!=0){
+id=r8(oa+8);
+jd=0;
+L35:if(r8(oa+16)==id){
+kd=grow_amortized_68b(oa,1);
+if(!kd){
+hd=2;
 goto L34;}
-El=r8(Hi+8);}
-else El=Bl;
-Fl=rp(Hi);
-*(Fl+El)=46;
-Gl=El+1;
-w8(Hi+8,Gl);
-if(Gl<16384){
-Hl=Gl;
+ld=r8(oa+8);}
+else ld=id;
+md=rp(oa);
+*(md+ld)=46;
+nd=ld+1;
+w8(oa+8,nd);
+if(nd<16384){
+od=nd;
 goto L36;}
-Il=0;
-L37:Jl=Gl-Il;
-Kl=port_write(1,Fl+(i64)Il,Jl);
-if((i64)Kl<0)port_rattle_errno();
+pd=0;
+L37:qd=nd-pd;
+sd=port_write(1,md+(i64)pd,qd);
+if((i64)sd<0)port_rattle_errno();
 else{
-Ll=umin64(Kl,Jl);
-if(Ll!=0){
-Ml=Ll+Il;
-if(Ml<Gl){
-Il=Ml;
+td=umin64(sd,qd);
+if(td!=0){
+ud=td+pd;
+if(ud<nd){
+pd=ud;
 goto L37;}
-w8(Hi+8,0);
-Hl=0;
+w8(oa+8,0);
+od=0;
 goto L36;}}
 w8(d+8,r8(d+8)+1);
-Al=1;
+hd=1;
 goto L34;
-L36:Nl=Cl+1;
-if(Nl<Nj){
-Bl=Hl;
-Cl=Nl;
+L36:vd=jd+1;
+if(vd<ub){
+id=od;
+jd=vd;
 goto L35;}}
-if(!Pj){
-dl=Oj;
+if(!wb){
+Kc=vb;
 goto L25;}
-tk=Oj;
-L17:Ol=r8(Hi+16);
-Pl=r8(Hi+8);
-if(tk>Ol-Pl){
-Ql=grow_amortized_68b(Hi,tk);
-if(!Ql){
-Al=2;
+ac=vb;
+L17:xd=r8(oa+16);
+yd=r8(oa+8);
+if(ac>xd-yd){
+zd=grow_amortized_68b(oa,ac);
+if(!zd){
+hd=2;
 goto L34;}
-Rl=r8(Hi+16);
-Sl=r8(Hi+8);}
+Ad=r8(oa+16);
+Bd=r8(oa+8);}
 else{
-Rl=Ol;
-Sl=Pl;}
-Tl=Sl+tk;
-Ul=rp(Hi);
-Vl=Ul+(i64)Sl;
-if((u64)Vl-(u64)Ij<tk)copy_bits_4f4(Ij,Vl,tk);
-else memmove(Vl,Ij,tk);
-w8(Hi+8,Tl);
-w8(Hi+16,Rl);
-if(Tl<16384){
-dl=tk;
+Ad=xd;
+Bd=yd;}
+Cd=Bd+ac;
+Dd=rp(oa);
+Ed=Dd+(i64)Bd;
+if((u64)Ed-(u64)pb<ac)copy_bits_4f4(pb,Ed,ac);
+else memmove(Ed,pb,ac);
+w8(oa+8,Cd);
+w8(oa+16,Ad);
+if(Cd<16384){
+Kc=ac;
 goto L25;}
-Wl=0;
-L38:Xl=Tl-Wl;
-Yl=port_write(1,Ul+(i64)Wl,Xl);
-if((i64)Yl<0)port_rattle_errno();
+Fd=0;
+L38:Gd=Cd-Fd;
+Hd=port_write(1,Dd+(i64)Fd,Gd);
+if((i64)Hd<0)port_rattle_errno();
 else{
-Zl=umin64(Yl,Xl);
-if(Zl!=0){
-am=Zl+Wl;
-if(am<Tl){
-Wl=am;
+Id=umin64(Hd,Gd);
+if(Id!=0){
+Jd=Id+Fd;
+if(Jd<Cd){
+Fd=Jd;
 goto L38;}
-w8(Hi+8,0);
-dl=tk;
+w8(oa+8,0);
+Kc=ac;
 goto L25;}}
 w8(d+8,r8(d+8)+1);
-Al=1;
+hd=1;
 goto L34;
-L25:bm=dl+Hj;
-if(bm<Gj){
-Hj=bm;
+L25:Kd=Kc+ob;
+if(Kd<nb){
+ob=Kd;
 goto L9;}
-L8:cm=Ci[9];
-if(Ci[8]&1){
-dm=end_segment_e03(Ni,Ii,Gi,Hi,d);
-if(dm.f0!=0){
-Al=dm.f1;
+L8:Ld=ja[9];
+if(ja[8]&1){
+Md=end_segment_e03(ua,pa,na,oa,d);
+if(Md.f0!=0){
+hd=Md.f1;
 goto L34;}}
-em=Gj+Ej;
-if(em<ij){
-Dj=cm;
-Ej=em;
+Nd=nb+lb;
+if(Nd<Pa){
+kb=Ld;
+lb=Nd;
 goto L7;}
-fm=r8(Gi+16);
-if(fm-65537>=0xffffffffffff0001u){
-gm=rp(Gi+8);
-hm=*gm==95;
-if(fm==2){
-if(!hm)goto L39;
-switch(gm[1]){
-case 90:im=0;
+Od=r8(na+16);
+if(Od-65537>=0xffffffffffff0001u){
+Pd=rp(na+8);
+Qd=*Pd==95;
+if(Od==2){
+if(!Qd)goto L39;
+switch(Pd[1]){
+case 90:Rd=0;
 goto L40;
 case 82:break;
 default:goto L39;
 }}
 else{
-if(!hm)goto L39;
-switch(gm[1]){
-case 90:im=0;
+if(!Qd)goto L39;
+switch(Pd[1]){
+case 90:Rd=0;
 goto L40;
 case 82:break;
-case 95:switch(gm[2]){
-case 90:im=0x100000000u;
+case 95:switch(Pd[2]){
+case 90:Rd=0x100000000u;
 goto L40;
-case 82:im=0x100000001u;
+case 82:Rd=0x100000001u;
 goto L40;
 default:goto L39;
 }
 break;
 default:goto L39;
 }}
-im=1;
-L40:jm=im>>32;
-read_ahead_34b(Ii,im,gm+(i64)jm,fm-jm);}
-L39:km=rp(Hi);
-lm=r8(Hi+8);
-if(lm==0)goto L41;
-mm=0;
-L42:nm=lm-mm;
-om=port_write(1,km+(i64)mm,nm);
-if((i64)om<0)port_rattle_errno();
+Rd=1;
+L40:Sd=Rd>>32;
+read_ahead_34b(pa,Rd,Pd+(i64)Sd,Od-Sd);}
+L39:Td=rp(oa);
+Ud=r8(oa+8);
+if(Ud==0)goto L41;
+Vd=0;
+L42:Wd=Ud-Vd;
+Xd=port_write(1,Td+(i64)Vd,Wd);
+if((i64)Xd<0)port_rattle_errno();
 else{
-pm=umin64(om,nm);
-if(pm!=0){
-qm=pm+mm;
-if(qm<lm){
-mm=qm;
+Yd=umin64(Xd,Wd);
+if(Yd!=0){
+Zd=Yd+Vd;
+if(Zd<Ud){
+Vd=Zd;
 goto L42;}
-w8(Hi+8,0);
+w8(oa+8,0);
 goto L41;}}
 w8(d+8,r8(d+8)+1);
-rm=1;
+ae=1;
 goto L43;
-L41:sm=r8(c+8224);
-if(sm==0)goto L2;
-dj=sm;
-ej=cm;
+L41:be=r8(c+8224);
+if(be==0)goto L2;
+Ka=be;
+La=Ld;
 goto L1;
-L34:rm=Al;
-L43:port_rattle_dealloc(bj);
-tm=rp(Ii+1952);
-um=rp(Ii+1976);
-vm=r8(Ii+1992);
-wm=rp(Ii+2000);
-xm=r8(Ii+2016);
-ym=r8(Ii+1968);
-memcpy(yi,Ii,1944);
-drop_816(yi);
-if(ym!=0)port_rattle_dealloc(tm);
-if(vm!=0)port_rattle_dealloc(um);
-if(xm!=0)port_rattle_dealloc(wm);
-if(r8(Hi+16)!=0)port_rattle_dealloc(rp(Hi));
-if(r8(Gi+24)!=0)port_rattle_dealloc(rp(Gi+8));
-z24(Ki+6);
-vj=1;
-wj=rm;
+L34:ae=hd;
+L43:port_rattle_dealloc(Ia);
+ce=rp(pa+1552);
+de=rp(pa+1576);
+ee=r8(pa+1592);
+fe=rp(pa+1600);
+ge=r8(pa+1616);
+he=r8(pa+1568);
+memcpy(fa,pa,1544);
+drop_816(fa);
+if(he!=0)port_rattle_dealloc(ce);
+if(ee!=0)port_rattle_dealloc(de);
+if(ge!=0)port_rattle_dealloc(fe);
+if(r8(oa+16)!=0)port_rattle_dealloc(rp(oa));
+if(r8(na+24)!=0)port_rattle_dealloc(rp(na+8));
+z24(ra+6);
+cb=1;
+db=ae;
 goto L6;}
 L2:w8(c+8216,r8(c+8216)+1);
-port_rattle_dealloc(bj);
-zm=rp(Ii+1952);
-Am=rp(Ii+1976);
-Bm=r8(Ii+1992);
-Cm=rp(Ii+2000);
-Dm=r8(Ii+2016);
-Em=r8(Ii+1968);
-memcpy(Di,Ii,1944);
-drop_816(Di);
-if(Em!=0)port_rattle_dealloc(zm);
-if(Bm!=0)port_rattle_dealloc(Am);
-if(Dm!=0)port_rattle_dealloc(Cm);
-if(r8(Hi+16)!=0)port_rattle_dealloc(rp(Hi));
-if(r8(Gi+24)!=0)port_rattle_dealloc(rp(Gi+8));
-memcpy(Ki+6,Fi+6,24);
-vj=1;
-wj=0;}
+port_rattle_dealloc(Ia);
+ie=rp(pa+1552);
+je=rp(pa+1576);
+ke=r8(pa+1592);
+le=rp(pa+1600);
+me=r8(pa+1616);
+ne=r8(pa+1568);
+memcpy(ka,pa,1544);
+drop_816(ka);
+if(ne!=0)port_rattle_dealloc(ie);
+if(ke!=0)port_rattle_dealloc(je);
+if(me!=0)port_rattle_dealloc(le);
+if(r8(oa+16)!=0)port_rattle_dealloc(rp(oa));
+if(r8(na+24)!=0)port_rattle_dealloc(rp(na+8));
+memcpy(ra+6,ma+6,24);
+cb=1;
+db=0;}
 else{
-Fm=rp(Ii+1952);
-Gm=rp(Ii+1976);
-Hm=r8(Ii+1992);
-Im=rp(Ii+2000);
-Jm=r8(Ii+2016);
-Km=r8(Ii+1968);
-memcpy(Ei,Ii,1944);
-drop_816(Ei);
-if(Km!=0)port_rattle_dealloc(Fm);
-if(Hm!=0)port_rattle_dealloc(Gm);
-if(Jm!=0)port_rattle_dealloc(Im);
-if(r8(Hi+16)!=0)port_rattle_dealloc(rp(Hi));
-if(r8(Gi+24)!=0)port_rattle_dealloc(rp(Gi+8));
-z24(Ki+6);
-vj=1;
-wj=2;}
-L6:memcpy(Li+6,Ki+6,24);
-memcpy(Mi+6,Li+6,24);
-memcpy(Oi+6,Mi+6,24);
-Lm=vj;
-Mm=wj;}
+oe=rp(pa+1552);
+pe=rp(pa+1576);
+qe=r8(pa+1592);
+re=rp(pa+1600);
+se=r8(pa+1616);
+te=r8(pa+1568);
+memcpy(la,pa,1544);
+drop_816(la);
+if(te!=0)port_rattle_dealloc(oe);
+if(qe!=0)port_rattle_dealloc(pe);
+if(se!=0)port_rattle_dealloc(re);
+if(r8(oa+16)!=0)port_rattle_dealloc(rp(oa));
+if(r8(na+24)!=0)port_rattle_dealloc(rp(na+8));
+z24(ra+6);
+cb=1;
+db=2;}
+L6:memcpy(sa+6,ra+6,24);
+memcpy(ta+6,sa+6,24);
+memcpy(va+6,ta+6,24);
+ue=cb;
+ve=db;}
 else{
-Nm=((u64)Ri<<32)|Qi;
-z30(vi);
-w8(wi,Nm);
-wi[8]=Si&1;
-wi[9]=1;
-w2(wi+10,0);
-z30(ui);
-z30(ti);
-z30(gg);
-zero_all(jg,2152);
-z24(kg);
-z16(lg);
-z32(mg);
-z16(ng);
-z32(og);
-z80(pg);
-z16(qg);
-z40(rg);
-z16(sg);
-z16(tg);
-z16(ug);
-z16(vg);
-z16(wg);
-z48(xg);
-z32(yg);
-z32(zg);
-z104(Ag);
-z40(Bg);
-z16(Cg);
-z32(Dg);
-z24(Eg);
-z16(Fg);
-z32(Gg);
-z16(Hg);
-z24(Ig);
-z16(Jg);
-z16(Kg);
-z40(Lg);
-z16(Mg);
-z16(Ng);
-z16(Og);
-z16(Pg);
-z16(Qg);
-z48(Rg);
-z32(Sg);
-z40(Tg);
-z32(Ug);
-z16(Vg);
-z48(Wg);
-z40(Xg);
-z16(Yg);
-z32(Zg);
-z32(ah);
-z32(bh);
-z104(ch);
-z32(dh);
-z40(eh);
-z32(fh);
-z16(gh);
-z48(hh);
-z32(ih);
-z16(jh);
-z16(kh);
-z16(lh);
-z24(mh);
-z16(nh);
-z32(oh);
-z16(ph);
-z32(qh);
-z80(rh);
-z16(sh);
-z40(th);
-z16(uh);
-z16(vh);
-z16(wh);
-z16(xh);
-z16(yh);
-z48(zh);
-z32(Ah);
-z32(Bh);
-z104(Ch);
-z40(Dh);
-z16(Eh);
-z32(Fh);
-z24(Gh);
-z16(Hh);
-z32(Ih);
-z16(Jh);
-z24(Kh);
-z16(Lh);
-z16(Mh);
-z40(Nh);
-z16(Oh);
-z16(Ph);
-z16(Qh);
-z16(Rh);
-z16(Sh);
-z48(Th);
-z32(Uh);
-z40(Vh);
-z32(Wh);
-z16(Xh);
-z48(Yh);
-z40(Zh);
-z16(ai);
-z32(bi);
-z32(ci);
-z32(di);
-z104(ei);
-z32(fi);
-z40(gi);
-z32(hi);
-z16(ii);
-z48(ji);
-z32(ki);
-z16(li);
-z16(mi);
-z16(ni);
-zero_all(oi,2152);
-zero_all(pi,2152);
-zero_all(qi,2152);
-zero_all(ri,2152);
-zero_all(si,2152);
-*hg=Ti;
-z7(hg+1);
-wp(hg+8,(u8*)65536);
-z64(hg+16);
-wp(ig,(u8*)65536);
-z16(ig+8);
-Om=(u64)(u8*)65536;
-z32(Xf);
-z40(Yf);
-z32(Zf);
-z16(ag);
-z48(bg);
-z32(cg);
-z16(dg);
-z16(eg);
-z16(fg);
-z24(df);
-z16(ef);
-z32(ff);
-z16(gf);
-z32(hf);
-z80(jf);
-z16(kf);
-z40(lf);
-z16(mf);
-z16(nf);
-z16(of);
-z16(pf);
-z16(qf);
-z48(rf);
-z32(sf);
-z32(tf);
-z104(uf);
-z40(vf);
-z16(wf);
-z32(xf);
-z24(yf);
-z16(zf);
-z32(Af);
-z16(Bf);
-z24(Cf);
-z16(Df);
-z16(Ef);
-z40(Ff);
-z16(Gf);
-z16(Hf);
-z16(If);
-z16(Jf);
-z16(Kf);
-z48(Lf);
-z32(Mf);
-z40(Nf);
-z32(Of);
-z16(Pf);
-z48(Qf);
-z40(Rf);
-z16(Sf);
-z32(Tf);
-z32(Uf);
-z32(Vf);
-z104(Wf);
-memcpy(be,df,24);
-memcpy(ce,ef,16);
-memcpy(de,ff,32);
-memcpy(ee,gf,16);
-memcpy(fe,hf,32);
-memcpy(ge,jf,80);
-memcpy(he,kf,16);
-memcpy(ie,lf,40);
-memcpy(je,mf,16);
-memcpy(ke,nf,16);
-memcpy(le,of,16);
-memcpy(me,pf,16);
-memcpy(ne,qf,16);
-memcpy(oe,rf,48);
-memcpy(pe,sf,32);
-memcpy(qe,tf,32);
-memcpy(re,uf,104);
-memcpy(se,vf,40);
-memcpy(te,wf,16);
-memcpy(ue,xf,32);
-memcpy(ve,yf,24);
-memcpy(we,zf,16);
-memcpy(xe,Af,32);
-memcpy(ye,Bf,16);
-memcpy(ze,Cf,24);
-memcpy(Ae,Df,16);
-memcpy(Be,Ef,16);
-memcpy(Ce,Ff,40);
-memcpy(De,Gf,16);
-memcpy(Ee,Hf,16);
-memcpy(Fe,If,16);
-memcpy(Ge,Jf,16);
-memcpy(He,Kf,16);
-memcpy(Ie,Lf,48);
-memcpy(Je,Mf,32);
-memcpy(Ke,Nf,40);
-memcpy(Le,Of,32);
-memcpy(Me,Pf,16);
-memcpy(Ne,Qf,48);
-memcpy(Oe,Rf,40);
-memcpy(Pe,Sf,16);
-memcpy(Qe,Tf,32);
-memcpy(Re,Uf,32);
-memcpy(Se,Vf,32);
-memcpy(Te,Wf,104);
-memcpy(Ue,Xf,32);
-memcpy(Ve,Yf,40);
-memcpy(We,Zf,32);
-memcpy(Xe,ag,16);
-memcpy(Ye,bg,48);
-memcpy(Ze,cg,32);
-memcpy(af,dg,16);
-memcpy(bf,eg,16);
-memcpy(cf,fg,16);
-Pm=r4(wi+8);
-memcpy(mh,be,24);
-memcpy(nh,ce,16);
-memcpy(oh,de,32);
-memcpy(ph,ee,16);
-memcpy(qh,fe,32);
-memcpy(rh,ge,80);
-memcpy(sh,he,16);
-memcpy(th,ie,40);
-memcpy(uh,je,16);
-memcpy(vh,ke,16);
-memcpy(wh,le,16);
-memcpy(xh,me,16);
-memcpy(yh,ne,16);
-memcpy(zh,oe,48);
-memcpy(Ah,pe,32);
-memcpy(Bh,qe,32);
-memcpy(Ch,re,104);
-memcpy(Dh,se,40);
-memcpy(Eh,te,16);
-memcpy(Fh,ue,32);
-memcpy(Gh,ve,24);
-memcpy(Hh,we,16);
-memcpy(Ih,xe,32);
-memcpy(Jh,ye,16);
-memcpy(Kh,ze,24);
-memcpy(Lh,Ae,16);
-memcpy(Mh,Be,16);
-memcpy(Nh,Ce,40);
-memcpy(Oh,De,16);
-memcpy(Ph,Ee,16);
-memcpy(Qh,Fe,16);
-memcpy(Rh,Ge,16);
-memcpy(Sh,He,16);
-memcpy(Th,Ie,48);
-memcpy(Uh,Je,32);
-memcpy(Vh,Ke,40);
-memcpy(Wh,Le,32);
-memcpy(Xh,Me,16);
-memcpy(Yh,Ne,48);
-memcpy(Zh,Oe,40);
-memcpy(ai,Pe,16);
-memcpy(bi,Qe,32);
-memcpy(ci,Re,32);
-memcpy(di,Se,32);
-memcpy(ei,Te,104);
-memcpy(fi,Ue,32);
-memcpy(gi,Ve,40);
-memcpy(hi,We,32);
-memcpy(ii,Xe,16);
-memcpy(ji,Ye,48);
-memcpy(ki,Ze,32);
-memcpy(li,af,16);
-memcpy(mi,bf,16);
-memcpy(ni,cf,16);
-memcpy(kg,mh,24);
-memcpy(lg,nh,16);
-memcpy(mg,oh,32);
-memcpy(ng,ph,16);
-memcpy(og,qh,32);
-memcpy(pg,rh,80);
-memcpy(qg,sh,16);
-memcpy(rg,th,40);
-memcpy(sg,uh,16);
-memcpy(tg,vh,16);
-memcpy(ug,wh,16);
-memcpy(vg,xh,16);
-memcpy(wg,yh,16);
-memcpy(xg,zh,48);
-memcpy(yg,Ah,32);
-memcpy(zg,Bh,32);
-memcpy(Ag,Ch,104);
-memcpy(Bg,Dh,40);
-memcpy(Cg,Eh,16);
-memcpy(Dg,Fh,32);
-memcpy(Eg,Gh,24);
-memcpy(Fg,Hh,16);
-memcpy(Gg,Ih,32);
-memcpy(Hg,Jh,16);
-memcpy(Ig,Kh,24);
-memcpy(Jg,Lh,16);
-memcpy(Kg,Mh,16);
-memcpy(Lg,Nh,40);
-memcpy(Mg,Oh,16);
-memcpy(Ng,Ph,16);
-memcpy(Og,Qh,16);
-memcpy(Pg,Rh,16);
-memcpy(Qg,Sh,16);
-memcpy(Rg,Th,48);
-memcpy(Sg,Uh,32);
-memcpy(Tg,Vh,40);
-memcpy(Ug,Wh,32);
-memcpy(Vg,Xh,16);
-memcpy(Wg,Yh,48);
-memcpy(Xg,Zh,40);
-memcpy(Yg,ai,16);
-memcpy(Zg,bi,32);
-memcpy(ah,ci,32);
-memcpy(bh,di,32);
-memcpy(ch,ei,104);
-memcpy(dh,fi,32);
-memcpy(eh,gi,40);
-memcpy(fh,hi,32);
-memcpy(gh,ii,16);
-memcpy(hh,ji,48);
-memcpy(ih,ki,32);
-memcpy(jh,li,16);
-memcpy(kh,mi,16);
-memcpy(lh,ni,16);
-wp(jg,(u8*)65536);
-memcpy(jg+8,kg,24);
-wp(jg+32,(u8*)65536);
-memcpy(jg+40,lg,16);
-wp(jg+56,(u8*)65536);
-memcpy(jg+64,mg,32);
-wp(jg+96,(u8*)65536);
-memcpy(jg+104,ng,16);
-wp(jg+120,(u8*)65536);
-memcpy(jg+128,og,32);
-wp(jg+160,(u8*)65536);
-memcpy(jg+168,pg,80);
-wp(jg+248,(u8*)65536);
-memcpy(jg+256,qg,16);
-wp(jg+272,(u8*)65536);
-memcpy(jg+280,rg,40);
-wp(jg+320,(u8*)65536);
-memcpy(jg+328,sg,16);
-wp(jg+344,(u8*)65536);
-memcpy(jg+352,tg,16);
-wp(jg+368,(u8*)65536);
-memcpy(jg+376,ug,16);
-wp(jg+392,(u8*)65536);
-memcpy(jg+400,vg,16);
-wp(jg+416,(u8*)65536);
-memcpy(jg+424,wg,16);
-wp(jg+440,(u8*)65536);
-memcpy(jg+448,xg,48);
-wp(jg+496,(u8*)65536);
-memcpy(jg+504,yg,32);
-wp(jg+536,(u8*)65536);
-memcpy(jg+544,zg,32);
-wp(jg+576,(u8*)65536);
-memcpy(jg+584,Ag,104);
-w8(jg+688,Om);
-memcpy(jg+696,Bg,40);
-w8(jg+736,Om);
-memcpy(jg+744,Cg,16);
-wp(jg+760,(u8*)65536);
-memcpy(jg+768,Dg,32);
-wp(jg+800,(u8*)65536);
-memcpy(jg+808,Eg,24);
-wp(jg+832,(u8*)65536);
-memcpy(jg+840,Fg,16);
-wp(jg+856,(u8*)65536);
-memcpy(jg+864,Gg,32);
-wp(jg+896,(u8*)65536);
-memcpy(jg+904,Hg,16);
-wp(jg+920,(u8*)65536);
-memcpy(jg+928,Ig,24);
-wp(jg+952,(u8*)65536);
-memcpy(jg+960,Jg,16);
-wp(jg+976,(u8*)65536);
-memcpy(jg+984,Kg,16);
-wp(jg+1000,(u8*)65536);
-memcpy(jg+1008,Lg,40);
-wp(jg+1048,(u8*)65536);
-memcpy(jg+1056,Mg,16);
-wp(jg+1072,(u8*)65536);
-memcpy(jg+1080,Ng,16);
-wp(jg+1096,(u8*)65536);
-memcpy(jg+1104,Og,16);
-wp(jg+1120,(u8*)65536);
-memcpy(jg+1128,Pg,16);
-wp(jg+1144,(u8*)65536);
-memcpy(jg+1152,Qg,16);
-wp(jg+1168,(u8*)65536);
-memcpy(jg+1176,Rg,48);
-wp(jg+1224,(u8*)65536);
-memcpy(jg+1232,Sg,32);
-wp(jg+1264,(u8*)65536);
-memcpy(jg+1272,Tg,40);
-wp(jg+1312,(u8*)65536);
-memcpy(jg+1320,Ug,32);
-wp(jg+1352,(u8*)65536);
-memcpy(jg+1360,Vg,16);
-wp(jg+1376,(u8*)65536);
-memcpy(jg+1384,Wg,48);
-w8(jg+1432,Om);
-memcpy(jg+1440,Xg,40);
-w8(jg+1480,Om);
-memcpy(jg+1488,Yg,16);
-wp(jg+1504,(u8*)65536);
-memcpy(jg+1512,Zg,32);
-wp(jg+1544,(u8*)65536);
-memcpy(jg+1552,ah,32);
-wp(jg+1584,(u8*)65536);
-memcpy(jg+1592,bh,32);
-wp(jg+1624,(u8*)65536);
-memcpy(jg+1632,ch,104);
-wp(jg+1736,(u8*)65536);
-memcpy(jg+1744,dh,32);
-wp(jg+1776,(u8*)65536);
-memcpy(jg+1784,eh,40);
-wp(jg+1824,(u8*)65536);
-memcpy(jg+1832,fh,32);
-wp(jg+1864,(u8*)65536);
-memcpy(jg+1872,gh,16);
-wp(jg+1888,(u8*)65536);
-memcpy(jg+1896,hh,48);
-wp(jg+1944,(u8*)65536);
-memcpy(jg+1952,ih,32);
-wp(jg+1984,(u8*)65536);
-memcpy(jg+1992,jh,16);
-wp(jg+2008,(u8*)65536);
-memcpy(jg+2016,kh,16);
-wp(jg+2032,(u8*)65536);
-memcpy(jg+2040,lh,16);
-w8(jg+2056,Nm);
-w8(jg+2064,Pm);
-wp(jg+2072,(u8*)65536);
-z16(jg+2080);
-wp(jg+2096,(u8*)65536);
-z16(jg+2104);
-wp(jg+2120,(u8*)65536);
-z16(jg+2128);
-w4(jg+2144,65);
-w4(jg+2148,0);
-Qm=port_rattle_alloc(16384,1);
-if((u8)(Qm.f0&1)){
-Rm=Qm.f1;
-Sm=(u8*)Rm;
-zero_all(Sm,16384);
-Tm=r8(c+8224);
-if(Tm!=0){
-Vm=(u8*)65536;
-Wm=Tm;
-Xm=0;
-L44:w8(c+8224,Wm-1);
-Ym=r8(c+8200);
-Zm=r8(c+8192);
-if(Ym==Zm){
-an=port_read(0,Sm,16384);
-if((i64)an<0){
+we=za&1;
+xe=((u64)ya<<32)|xa;
+z30(ca);
+w8(da,xe);
+da[8]=we;
+da[9]=1;
+w2(da+10,0);
+z30(ba);
+z30(aa);
+z30(R);
+zero_all(U+1384,368);
+zero_all(V,1752);
+zero_all(W,1752);
+zero_all(X,1752);
+zero_all(Y,1752);
+zero_all(Z,1752);
+*S=Aa;
+z7(S+1);
+wp(S+8,(u8*)65536);
+z64(S+16);
+wp(T,(u8*)65536);
+z16(T+8);
+ye=(u64)(u8*)65536;
+w8(U+1656,xe);
+U[1664]=we;
+U[1665]=1;
+wp(U,(u8*)65536);
+z24(U+8);
+wp(U+32,(u8*)65536);
+z16(U+40);
+wp(U+56,(u8*)65536);
+z32(U+64);
+wp(U+96,(u8*)65536);
+z16(U+104);
+wp(U+120,(u8*)65536);
+z32(U+128);
+wp(U+160,(u8*)65536);
+z80(U+168);
+wp(U+248,(u8*)65536);
+z16(U+256);
+wp(U+272,(u8*)65536);
+z40(U+280);
+wp(U+320,(u8*)65536);
+z16(U+328);
+wp(U+344,(u8*)65536);
+z16(U+352);
+wp(U+368,(u8*)65536);
+z16(U+376);
+wp(U+392,(u8*)65536);
+z16(U+400);
+wp(U+416,(u8*)65536);
+z16(U+424);
+wp(U+440,(u8*)65536);
+z48(U+448);
+wp(U+496,(u8*)65536);
+z32(U+504);
+wp(U+536,(u8*)65536);
+z32(U+544);
+wp(U+576,(u8*)65536);
+z104(U+584);
+w8(U+688,ye);
+z40(U+696);
+w8(U+736,ye);
+z16(U+744);
+wp(U+760,(u8*)65536);
+z32(U+768);
+wp(U+800,(u8*)65536);
+z24(U+808);
+wp(U+832,(u8*)65536);
+z16(U+840);
+wp(U+856,(u8*)65536);
+z32(U+864);
+wp(U+896,(u8*)65536);
+z16(U+904);
+wp(U+920,(u8*)65536);
+z24(U+928);
+wp(U+952,(u8*)65536);
+z16(U+960);
+wp(U+976,(u8*)65536);
+z16(U+984);
+wp(U+1000,(u8*)65536);
+z40(U+1008);
+wp(U+1048,(u8*)65536);
+z16(U+1056);
+wp(U+1072,(u8*)65536);
+z16(U+1080);
+wp(U+1096,(u8*)65536);
+z16(U+1104);
+wp(U+1120,(u8*)65536);
+z16(U+1128);
+wp(U+1144,(u8*)65536);
+z16(U+1152);
+wp(U+1168,(u8*)65536);
+z48(U+1176);
+wp(U+1224,(u8*)65536);
+z32(U+1232);
+wp(U+1264,(u8*)65536);
+z40(U+1272);
+wp(U+1312,(u8*)65536);
+z32(U+1320);
+wp(U+1352,(u8*)65536);
+z16(U+1360);
+wp(U+1376,(u8*)65536);
+z48(U+1384);
+w8(U+1432,ye);
+z40(U+1440);
+w8(U+1480,ye);
+z16(U+1488);
+wp(U+1504,(u8*)65536);
+z32(U+1512);
+wp(U+1544,(u8*)65536);
+z32(U+1552);
+wp(U+1584,(u8*)65536);
+z16(U+1592);
+wp(U+1608,(u8*)65536);
+z16(U+1616);
+wp(U+1632,(u8*)65536);
+z16(U+1640);
+w4(U+1668,0);
+wp(U+1672,(u8*)65536);
+z16(U+1680);
+wp(U+1696,(u8*)65536);
+z16(U+1704);
+wp(U+1720,(u8*)65536);
+z16(U+1728);
+w4(U+1744,65);
+w4(U+1748,0);
+ze=port_rattle_alloc(16384,1);
+if((u8)(ze.f0&1)){
+Ae=ze.f1;
+Be=(u8*)Ae;
+zero_all(Be,16384);
+Ce=r8(c+8224);
+if(Ce!=0){
+De=Ce;
+Ee=0;
+L44:w8(c+8224,De-1);
+Fe=r8(c+8200);
+Ge=r8(c+8192);
+if(Fe==Ge){
+He=port_read(0,Be,16384);
+if((i64)He<0){
 port_rattle_errno();
-Um=Vm;
 goto L45;}
-bn=umin64(an,16384);}
+Ie=umin64(He,16384);}
 else{
-cn=c+(i64)Zm;
-dn=umin64(Ym-Zm,16384);
-if(Rm-(u64)cn<dn)copy_bits_4f4(cn,Sm,dn);
-else memmove(Sm,cn,dn);
-en=r8(c+8192);
-w8(c+8192,umin64(dn,r8(c+8200)-en)+en);
-bn=dn;}
-if(bn==0){
-fn=end_segment_474(wi,jg,hg,ig,d);
-if(fn.f0==0){
-gn=rp(ig);
-hn=r8(ig+8);
-if(hn==0)goto L46;
-in=0;
-L47:jn=hn-in;
-kn=port_write(1,gn+(i64)in,jn);
-if((i64)kn<0)port_rattle_errno();
+Je=c+(i64)Ge;
+Ke=umin64(Fe-Ge,16384);
+if(Ae-(u64)Je<Ke)copy_bits_4f4(Je,Be,Ke);
+else memmove(Be,Je,Ke);
+Le=r8(c+8192);
+w8(c+8192,umin64(Ke,r8(c+8200)-Le)+Le);
+Ie=Ke;}
+if(Ie==0){
+Me=end_segment_474(da,U,S,T,d);
+if(Me.f0==0){
+Ne=rp(T);
+Oe=r8(T+8);
+if(Oe==0)goto L46;
+Pe=0;
+L47:Qe=Oe-Pe;
+Re=port_write(1,Ne+(i64)Pe,Qe);
+if((i64)Re<0)port_rattle_errno();
 else{
-ln=umin64(kn,jn);
-if(ln!=0){
-mn=ln+in;
-if(mn>=hn)goto L46;
-in=mn;
+Se=umin64(Re,Qe);
+if(Se!=0){
+Te=Se+Pe;
+if(Te>=Oe)goto L46;
+Pe=Te;
 goto L47;}}
 w8(d+8,r8(d+8)+1);
-nn=1;
+Ue=1;
 goto L48;
-L46:port_rattle_dealloc(Sm);
-memcpy(si,jg,2152);
-drop_b01(si);
-if(r8(ig+16)!=0)port_rattle_dealloc(gn);
-if(r8(hg+24)!=0)port_rattle_dealloc(rp(hg+8));
-memcpy(ti+6,hg+56,24);
-on=0;
-pn=0;
+L46:port_rattle_dealloc(Be);
+memcpy(Z,U,1752);
+drop_b01(Z);
+if(r8(T+16)!=0)port_rattle_dealloc(Ne);
+if(r8(S+24)!=0)port_rattle_dealloc(rp(S+8));
+memcpy(aa+6,S+56,24);
+Ve=0;
+We=0;
 goto L49;}
-nn=fn.f1;
-L48:port_rattle_dealloc(Sm);
-memcpy(ri,jg,2152);
-drop_b01(ri);
-if(r8(ig+16)!=0)port_rattle_dealloc(rp(ig));
-if(r8(hg+24)!=0)port_rattle_dealloc(rp(hg+8));
-z24(ti+6);
-on=1;
-pn=nn;
+Ue=Me.f1;
+L48:port_rattle_dealloc(Be);
+memcpy(Y,U,1752);
+drop_b01(Y);
+if(r8(T+16)!=0)port_rattle_dealloc(rp(T));
+if(r8(S+24)!=0)port_rattle_dealloc(rp(S+8));
+z24(aa+6);
+Ve=1;
+We=Ue;
 goto L49;}
-qn=Xm;
-rn=0;
-L50:sn=Sm+(i64)rn;
-z16(ae);
-first_segment_4a3(ae,*hg,sn,bn-rn,qn);
-tn=r8(ae);
-if(tn==0)goto L51;
-un=0;
-L52:vn=sn+(i64)un;
-wn=tn-un;
-z48(Zd);
-xn=r8(hg+16);
-yn=xn==0;
-zn=r16(hg+32);
-if(yn&&zn==0){
-if(hg[50]&1){
-pass_6c7(Zd,hg,vn,wn);
-An=r16(Zd);
-Bn=r8(Zd+16);
-Cn=Zd[24]&1;
+Xe=Ee;
+Ye=0;
+L50:Ze=Be+(i64)Ye;
+z16(Q);
+first_segment_4a3(Q,*S,Ze,Ie-Ye,Xe);
+af=r8(Q);
+if(af==0)goto L51;
+bf=0;
+L52:cf=Ze+(i64)bf;
+df=af-bf;
+z48(P);
+ef=r8(S+16);
+ff=ef==0;
+gf=r16(S+32);
+if(ff&&gf==0){
+if(S[50]&1){
+pass_6c7(P,S,cf,df);
+hf=r16(P);
+jf=r8(P+16);
+kf=P[24]&1;
 goto L53;}
-Dn=*hg;
-En=hg[48];
-if(wn==0)Fn=0;
+lf=*S;
+mf=S[48];
+if(df==0)nf=0;
 else{
-Gn=hg[49];
-Hn=Dn+49;
-In=Dn==2;
-Jn=0;
-L54:Kn=vn+Jn;
-if(*Kn==95){
-if(Jn==0){
-switch(En){
-case 0:Ln=Dn;
+of=S[49];
+pf=lf+49;
+qf=lf==2;
+rf=0;
+L54:sf=cf+rf;
+if(*sf==95){
+if(rf==0){
+switch(mf){
+case 0:tf=lf;
 goto L55;
-case 1:if(In){
-switch(Gn){
-case 46:case 36:Mn=1;
-Nn=49;
+case 1:if(qf){
+switch(of){
+case 46:case 36:uf=1;
+vf=49;
 goto L56;
 default:break;}}
 break;
-case 2:if(In){
-switch(Gn){
-case 46:case 36:Mn=1;
-Nn=49;
+case 2:if(qf){
+switch(of){
+case 46:case 36:uf=1;
+vf=49;
 goto L56;
 default:break;}}
 break;
 default:NEVER;
 }}
 else{
-On=*((u8*)t_e4d8+Kn[-1]);
-if(Hn>On){
-if(On<=(Dn==0?48:49)){
-Qn=0;
-Rn=0;
-Sn=Jn;
+wf=*((u8*)t_e4d8+sf[-1]);
+if(pf>wf){
+if(wf<=(lf==0?48:49)){
+yf=0;
+zf=0;
+Af=rf;
 goto L57;}
-Pn=place_in_stretch_597(Dn,vn,Jn,En);
-Qn=Pn.f1;
-Rn=Pn.f0;
-Sn=Jn;
+xf=place_in_stretch_597(lf,cf,rf,mf);
+yf=xf.f1;
+zf=xf.f0;
+Af=rf;
 goto L57;}}}
-Tn=Jn+1;
-Un=wn-Tn;
-if(Un<16)Vn=0;
+Bf=rf+1;
+Cf=df-Bf;
+if(Cf<16)Df=0;
 else{
-Wn=vn+(i64)Tn;
-Xn=cttz(v16_eq(v16_at(Wn),splat(95)),16);
-if((Un<32)|(Xn<16))Vn=Xn;
+Ef=cf+(i64)Bf;
+Ff=cttz(v16_eq(v16_at(Ef),splat(95)),16);
+if((Cf<32)|(Ff<16))Df=Ff;
 else{
-Yn=cttz(v16_eq(v16_at(Wn+16),splat(95)),16);
-if(Yn<16)Vn=Yn|16;
+Gf=cttz(v16_eq(v16_at(Ef+16),splat(95)),16);
+if(Gf<16)Df=Gf|16;
 else{
-if(Un<=95){
-Vn=32;
+if(Cf<=95){
+Df=32;
 goto L58;}
-Zn=32;
-L59:ao=Wn+(i64)Zn;
-if((((v16_eq(v16_at(ao),splat(95))|v16_eq(v16_at(ao+16),splat(95)))|v16_eq(v16_at(ao+32),splat(95)))|v16_eq(v16_at(ao+48),splat(95)))==0){
-bo=Zn+64;
-if(Un-bo>63){
-Zn=bo;
+Hf=32;
+L59:If=Ef+(i64)Hf;
+if((((v16_eq(v16_at(If),splat(95))|v16_eq(v16_at(If+16),splat(95)))|v16_eq(v16_at(If+32),splat(95)))|v16_eq(v16_at(If+48),splat(95)))==0){
+Jf=Hf+64;
+if(Cf-Jf>63){
+Hf=Jf;
 goto L59;}
-Vn=bo;}
-else Vn=Zn;}}}
-L58:co=Vn+Tn;
-if(co<wn){
-Jn=co;
+Df=Jf;}
+else Df=Hf;}}}
+L58:Kf=Df+Bf;
+if(Kf<df){
+rf=Kf;
 goto L54;}
-Fn=co;}
-if(*((u8*)t_e4d8+*(vn+(i64)Fn-1))>(Dn==0?48:49)){
-eo=place_in_stretch_597(Dn,vn,Fn,En);
-fo=eo.f0;
-go=eo.f1;}
+nf=Kf;}
+if(*((u8*)t_e4d8+*(cf+(i64)nf-1))>(lf==0?48:49)){
+Lf=place_in_stretch_597(lf,cf,nf,mf);
+Mf=Lf.f0;
+Nf=Lf.f1;}
 else{
-fo=0;
-go=0;}
-if(Fn==0){
-Ln=Dn;
+Mf=0;
+Nf=0;}
+if(nf==0){
+tf=lf;
 goto L55;}
-Qn=go;
-Rn=fo;
-Sn=Fn;
-L57:w2(hg+48,(u16)((u32)Qn<<8)|Rn);
-ho=Sn;
+yf=Nf;
+zf=Mf;
+Af=nf;
+L57:w2(S+48,(u16)((u32)yf<<8)|zf);
+Of=Af;
 goto L60;}
-Ln=*hg;
-L55:Mn=Ln==2;
-Nn=Ln==1?50:49;
-L56:if(Nn>*((u8*)t_e4d8+*vn))goto L61;
-io=0;
-L62:if(wn-io>15){
-jo=v16_at(vn+io);
-ko=cttz(v16_ne(jo,splat(36))&(v16_ne(jo,splat(46))&(v16_ne(jo,splat(95))&(v16_ult(v16_add(jo,splat(198)),splat(246))&v16_ult(v16_add(v16_or(jo,splat(32)),splat(133)),splat(230))))),16);
-lo=io+ko;
-if(ko>=16){
-io=lo;
+tf=*S;
+L55:uf=tf==2;
+vf=tf==1?50:49;
+L56:if(vf>*((u8*)t_e4d8+*cf))goto L61;
+Pf=0;
+L62:if(df-Pf>15){
+Qf=v16_at(cf+Pf);
+Rf=cttz(v16_ne(Qf,splat(36))&(v16_ne(Qf,splat(46))&(v16_ne(Qf,splat(95))&(v16_ult(v16_add(Qf,splat(198)),splat(246))&v16_ult(v16_add(v16_or(Qf,splat(32)),splat(133)),splat(230))))),16);
+Sf=Pf+Rf;
+if(Rf>=16){
+Pf=Sf;
 goto L62;}
-mo=lo;}
-else mo=io;
-if(mo>=wn){
-oo=mo;
+Tf=Sf;}
+else Tf=Pf;
+if(Tf>=df){
+Vf=Tf;
 goto L63;}
-no=mo;
-L64:if(Nn>*((u8*)t_e4d8+*(vn+no)))oo=no;
+Uf=Tf;
+L64:if(vf>*((u8*)t_e4d8+*(cf+Uf)))Vf=Uf;
 else{
-po=no+1;
-if(po!=wn){
-no=po;
+Wf=Uf+1;
+if(Wf!=df){
+Uf=Wf;
 goto L64;}
-oo=wn;}
-L63:if(oo==0)goto L61;
-qo=oo;
-L65:if(qo==0)ro=zn+oo;
+Vf=df;}
+L63:if(Vf==0)goto L61;
+Xf=Vf;
+L65:if(Xf==0)Yf=gf+Vf;
 else{
-so=qo-1;
-if(*(vn+so)==46){
-qo=so;
+Zf=Xf-1;
+if(*(cf+Zf)==46){
+Xf=Zf;
 goto L65;}
-if(zn+qo>65536-xn){
-to=rp(hg+8);
-uo=r8(ig+16);
-vo=r8(ig+8);
-if(xn>uo-vo){
-wo=grow_amortized_68b(ig,xn);
-if(!wo)goto L66;
-xo=r8(ig+16);
-yo=r8(ig+8);}
+if(gf+Xf>65536-ef){
+ag=rp(S+8);
+bg=r8(T+16);
+cg=r8(T+8);
+if(ef>bg-cg){
+dg=grow_amortized_68b(T,ef);
+if(!dg)goto L66;
+eg=r8(T+16);
+fg=r8(T+8);}
+else{
+eg=bg;
+fg=cg;}
+gg=fg+ef;
+hg=rp(T);
+z16(T+8);
+ig=hg+(i64)fg;
+if((u64)ig-(u64)ag<ef){
+copy_bits_4f4(ag,ig,ef);
+w8(T+8,gg);
+w8(T+16,eg);}
+else{
+memmove(ig,ag,ef);
+w8(T+8,gg);
+w8(T+16,eg);
+if(ff)goto L67;}
+w8(S+16,0);
+L67:w16(S+32,0);
+S[50]=1;
+hf=gf;
+jf=Vf;
+kf=1;
+goto L53;}
+jg=gf;
+kg=ef+jg;
+if(kg>ef){
+lg=r8(S+24);
+if(lg-ef<jg){
+mg=grow_amortized_68b(S+8,jg);
+if(!mg)goto L66;
+ng=r8(S+16);
+og=ng+jg;
+pg=r8(S+24);
+qg=ng;}
+else{
+og=kg;
+pg=lg;
+qg=ef;}
+if(qg<og)memset(rp(S+8)+(i64)qg,46,jg);
+w8(S+16,og);
+w8(S+24,pg);
+rg=og;}
+else{
+if(ef>kg){
+w8(S+16,kg);
+rg=kg;}
+else rg=ef;}
+sg=r8(S+24);
+if(Xf>sg-rg){
+tg=grow_amortized_68b(S+8,Xf);
+if(!tg)goto L66;
+ug=r8(S+24);
+vg=r8(S+16);}
+else{
+ug=sg;
+vg=rg;}
+wg=vg+Xf;
+xg=rp(S+8)+(i64)vg;
+if((u64)xg-(u64)cf<Xf)copy_bits_4f4(cf,xg,Xf);
+else memmove(xg,cf,Xf);
+w8(S+16,wg);
+w8(S+24,ug);
+Yf=Vf-Xf;}
+w16(S+32,Yf);
+yg=Vf;
+goto L68;
+L61:z48(O);
+if(!uf){
+Ag=rp(S+8);
+if(ef-65537>=0xffffffffffff0001u){
+Bg=*Ag==95;
+if(ef==2){
+if(!Bg)goto L69;
+switch(Ag[1]){
+case 90:Cg=0;
+goto L70;
+case 82:break;
+default:goto L69;
+}}
+else{
+if(!Bg)goto L69;
+switch(Ag[1]){
+case 90:Cg=0;
+goto L70;
+case 82:break;
+case 95:switch(Ag[2]){
+case 90:Cg=0x100000000u;
+goto L70;
+case 82:Cg=0x100000001u;
+goto L70;
+default:goto L69;
+}
+break;
+default:goto L69;
+}}
+Cg=1;
+L70:Dg=Cg>>32;
+z12(N);
+append_4ee(N,da,U,Cg,Dg,Ag+(i64)Dg,ef-Dg,T);
+if(*N!=0){
+if(N[4]!=4){
+Fg=r8(T+16);
+Gg=r8(T+8);
+if(ef>Fg-Gg){
+Hg=grow_amortized_68b(T,ef);
+if(!Hg)goto L71;
+Ig=r8(T+16);
+Jg=r8(T+8);}
+else{
+Ig=Fg;
+Jg=Gg;}
+Kg=Jg+ef;
+Lg=rp(T)+(i64)Jg;
+if((u64)Lg-(u64)Ag<ef)copy_bits_4f4(Ag,Lg,ef);
+else memmove(Lg,Ag,ef);
+w8(T+8,Kg);
+w8(T+16,Ig);
+Eg=16;
+goto L72;}
+L71:goto L73;}
+Eg=8;
+L72:w8(S+56,uadd64(r8(S+56),1));
+Mg=S+56+(i64)Eg;
+w8(Mg,uadd64(r8(Mg),1));
+goto L74;}
+L69:Ng=r8(T+16);
+Og=r8(T+8);
+if(ef>Ng-Og){
+Pg=grow_amortized_68b(T,ef);
+if(!Pg)goto L73;
+Qg=r8(T+16);
+Rg=r8(T+8);}
+else{
+Qg=Ng;
+Rg=Og;}
+Sg=Rg+ef;
+Tg=rp(T);
+z16(T+8);
+Ug=Tg+(i64)Rg;
+if((u64)Ug-(u64)Ag<ef){
+copy_bits_4f4(Ag,Ug,ef);
+w8(T+8,Sg);
+w8(T+16,Qg);}
+else{
+memmove(Ug,Ag,ef);
+w8(T+8,Sg);
+w8(T+16,Qg);
+if(ff)goto L75;}
+L74:w8(S+16,0);
+L75:z18(S+32);
+zg=gf;
+goto L76;}
+end_within_78f(O,S,da,U,T);
+if(*O==0){
+zg=r16(O+16);
+goto L76;}
+L73:goto L66;
+L76:hf=zg;
+jf=1;
+kf=1;
+goto L53;
+L66:Vg=2;
+goto L77;
+L53:if(hf!=0){
+Wg=r8(T+8);
+Xg=0;
+L78:if(r8(T+16)==Wg){
+Yg=grow_amortized_68b(T,1);
+if(!Yg){
+Vg=2;
+goto L77;}
+Zg=r8(T+8);}
+else Zg=Wg;
+ah=rp(T);
+*(ah+Zg)=46;
+bh=Zg+1;
+w8(T+8,bh);
+if(bh<16384){
+ch=bh;
+goto L79;}
+dh=0;
+L80:eh=bh-dh;
+fh=port_write(1,ah+(i64)dh,eh);
+if((i64)fh<0)port_rattle_errno();
+else{
+gh=umin64(fh,eh);
+if(gh!=0){
+hh=gh+dh;
+if(hh<bh){
+dh=hh;
+goto L80;}
+w8(T+8,0);
+ch=0;
+goto L79;}}
+w8(d+8,r8(d+8)+1);
+Vg=1;
+goto L77;
+L79:ih=Xg+1;
+if(ih<hf){
+Wg=ch;
+Xg=ih;
+goto L78;}}
+if(!kf){
+yg=jf;
+goto L68;}
+Of=jf;
+L60:jh=r8(T+16);
+kh=r8(T+8);
+if(Of>jh-kh){
+lh=grow_amortized_68b(T,Of);
+if(!lh){
+Vg=2;
+goto L77;}
+mh=r8(T+16);
+nh=r8(T+8);}
+else{
+mh=jh;
+nh=kh;}
+oh=nh+Of;
+ph=rp(T);
+qh=ph+(i64)nh;
+if((u64)qh-(u64)cf<Of)copy_bits_4f4(cf,qh,Of);
+else memmove(qh,cf,Of);
+w8(T+8,oh);
+w8(T+16,mh);
+if(oh<16384){
+yg=Of;
+goto L68;}
+rh=0;
+L81:sh=oh-rh;
+th=port_write(1,ph+(i64)rh,sh);
+if((i64)th<0)port_rattle_errno();
+else{
+uh=umin64(th,sh);
+if(uh!=0){
+vh=uh+rh;
+if(vh<oh){
+rh=vh;
+goto L81;}
+w8(T+8,0);
+yg=Of;
+goto L68;}}
+w8(d+8,r8(d+8)+1);
+Vg=1;
+goto L77;
+L68:wh=yg+bf;
+if(wh<af){
+bf=wh;
+goto L52;}
+L51:xh=Q[9];
+if(Q[8]&1){
+yh=end_segment_474(da,U,S,T,d);
+if(yh.f0!=0){
+Vg=yh.f1;
+goto L77;}}
+zh=af+Ye;
+if(zh<Ie){
+Xe=xh;
+Ye=zh;
+goto L50;}
+Ah=r8(S+16);
+if(Ah-65537>=0xffffffffffff0001u){
+Bh=rp(S+8);
+Ch=*Bh==95;
+if(Ah==2){
+if(!Ch)goto L82;
+switch(Bh[1]){
+case 90:Dh=0;
+goto L83;
+case 82:break;
+default:goto L82;
+}}
+else{
+if(!Ch)goto L82;
+switch(Bh[1]){
+case 90:Dh=0;
+goto L83;
+case 82:break;
+case 95:switch(Bh[2]){
+case 90:Dh=0x100000000u;
+goto L83;
+case 82:Dh=0x100000001u;
+goto L83;
+default:goto L82;
+}
+break;
+default:goto L82;
+}}
+Dh=1;
+L83:Eh=Dh>>32;
+read_ahead_34b(U,Dh,Bh+(i64)Eh,Ah-Eh);}
+L82:Fh=rp(T);
+Gh=r8(T+8);
+if(Gh==0)goto L84;
+Hh=0;
+L85:Ih=Gh-Hh;
+Jh=port_write(1,Fh+(i64)Hh,Ih);
+if((i64)Jh<0)port_rattle_errno();
+else{
+Kh=umin64(Jh,Ih);
+if(Kh!=0){
+Lh=Kh+Hh;
+if(Lh<Gh){
+Hh=Lh;
+goto L85;}
+w8(T+8,0);
+goto L84;}}
+w8(d+8,r8(d+8)+1);
+Mh=1;
+goto L86;
+L84:Nh=r8(c+8224);
+if(Nh==0)goto L45;
+De=Nh;
+Ee=xh;
+goto L44;
+L77:Mh=Vg;
+L86:port_rattle_dealloc(Be);
+memcpy(X,U,1752);
+drop_b01(X);
+if(r8(T+16)!=0)port_rattle_dealloc(rp(T));
+if(r8(S+24)!=0)port_rattle_dealloc(rp(S+8));
+z24(aa+6);
+Ve=1;
+We=Mh;
+goto L49;}
+L45:w8(c+8216,r8(c+8216)+1);
+port_rattle_dealloc(Be);
+memcpy(W,U,1752);
+drop_b01(W);
+if(r8(T+16)!=0)port_rattle_dealloc(rp(T));
+if(r8(S+24)!=0)port_rattle_dealloc(rp(S+8));
+memcpy(aa+6,R+6,24);
+Ve=1;
+We=0;}
+else{
+memcpy(V,U,1752);
+drop_b01(V);
+if(r8(T+16)!=0)port_rattle_dealloc(rp(T));
+if(r8(S+24)!=0)port_rattle_dealloc(rp(S+8));
+z24(aa+6);
+Ve=1;
+We=2;}
+L49:memcpy(ba+6,aa+6,24);
+memcpy(ca+6,ba+6,24);
+memcpy(va+6,ca+6,24);
+ue=Ve;
+ve=We;}
+memcpy(wa+6,va+6,24);
+Oh=ue;
+Ph=ve;
+Qh=wa+6;}
+else{
+z30(M);
+if(Da){
+z30(K);
+Rh=((u64)ya<<32)|xa;
+w8(L,Rh);
+z30(J);
+z30(I);
+z30(D);
+z128(G+1504);
+zero_all(H,1632);
+*E=Aa;
+z7(E+1);
+wp(E+8,(u8*)65536);
+z64(E+16);
+wp(F,(u8*)65536);
+z16(F+8);
+Sh=(u64)(u8*)65536;
+wp(G,(u8*)65536);
+z24(G+8);
+wp(G+32,(u8*)65536);
+z16(G+40);
+wp(G+56,(u8*)65536);
+z32(G+64);
+wp(G+96,(u8*)65536);
+z16(G+104);
+wp(G+120,(u8*)65536);
+z32(G+128);
+wp(G+160,(u8*)65536);
+z80(G+168);
+wp(G+248,(u8*)65536);
+z16(G+256);
+wp(G+272,(u8*)65536);
+z40(G+280);
+wp(G+320,(u8*)65536);
+z16(G+328);
+wp(G+344,(u8*)65536);
+z16(G+352);
+wp(G+368,(u8*)65536);
+z16(G+376);
+wp(G+392,(u8*)65536);
+z16(G+400);
+wp(G+416,(u8*)65536);
+z16(G+424);
+wp(G+440,(u8*)65536);
+z48(G+448);
+wp(G+496,(u8*)65536);
+z32(G+504);
+wp(G+536,(u8*)65536);
+z32(G+544);
+wp(G+576,(u8*)65536);
+z104(G+584);
+w8(G+688,Sh);
+z40(G+696);
+w8(G+736,Sh);
+z16(G+744);
+wp(G+760,(u8*)65536);
+z32(G+768);
+wp(G+800,(u8*)65536);
+z24(G+808);
+wp(G+832,(u8*)65536);
+z16(G+840);
+wp(G+856,(u8*)65536);
+z32(G+864);
+wp(G+896,(u8*)65536);
+z16(G+904);
+wp(G+920,(u8*)65536);
+z24(G+928);
+wp(G+952,(u8*)65536);
+z16(G+960);
+wp(G+976,(u8*)65536);
+z16(G+984);
+wp(G+1000,(u8*)65536);
+z40(G+1008);
+wp(G+1048,(u8*)65536);
+z16(G+1056);
+wp(G+1072,(u8*)65536);
+z16(G+1080);
+wp(G+1096,(u8*)65536);
+z16(G+1104);
+wp(G+1120,(u8*)65536);
+z16(G+1128);
+wp(G+1144,(u8*)65536);
+z16(G+1152);
+wp(G+1168,(u8*)65536);
+z48(G+1176);
+wp(G+1224,(u8*)65536);
+z32(G+1232);
+wp(G+1264,(u8*)65536);
+z40(G+1272);
+wp(G+1312,(u8*)65536);
+z32(G+1320);
+wp(G+1352,(u8*)65536);
+z16(G+1360);
+wp(G+1376,(u8*)65536);
+z48(G+1384);
+w8(G+1432,Sh);
+z40(G+1440);
+w8(G+1480,Sh);
+z16(G+1488);
+wp(G+1504,(u8*)65536);
+z32(G+1512);
+w8(G+1544,Rh);
+wp(G+1552,(u8*)65536);
+z16(G+1560);
+wp(G+1576,(u8*)65536);
+z16(G+1584);
+wp(G+1600,(u8*)65536);
+z16(G+1608);
+w4(G+1624,65);
+w4(G+1628,0);
+Th=port_rattle_alloc(16384,1);
+if((u8)(Th.f0&1)){
+Uh=Th.f1;
+Vh=(u8*)Uh;
+zero_all(Vh,16384);
+Wh=r8(c+8224);
+if(Wh!=0){
+Xh=Wh;
+Yh=0;
+L87:w8(c+8224,Xh-1);
+Zh=r8(c+8200);
+ai=r8(c+8192);
+if(Zh==ai){
+bi=port_read(0,Vh,16384);
+if((i64)bi<0){
+port_rattle_errno();
+goto L88;}
+ci=umin64(bi,16384);}
+else{
+di=c+(i64)ai;
+ei=umin64(Zh-ai,16384);
+if(Uh-(u64)di<ei)copy_bits_4f4(di,Vh,ei);
+else memmove(Vh,di,ei);
+fi=r8(c+8192);
+w8(c+8192,umin64(ei,r8(c+8200)-fi)+fi);
+ci=ei;}
+if(ci==0){
+gi=end_segment_767(L,G,E,F,d);
+if(gi.f0==0){
+hi=rp(F);
+ii=r8(F+8);
+if(ii==0)goto L89;
+ji=0;
+L90:ki=ii-ji;
+li=port_write(1,hi+(i64)ji,ki);
+if((i64)li<0)port_rattle_errno();
+else{
+mi=umin64(li,ki);
+if(mi!=0){
+ni=mi+ji;
+if(ni>=ii)goto L89;
+ji=ni;
+goto L90;}}
+w8(d+8,r8(d+8)+1);
+oi=1;
+goto L91;
+L89:port_rattle_dealloc(Vh);
+memcpy(H,G,1632);
+drop_097(H);
+if(r8(F+16)!=0)port_rattle_dealloc(hi);
+if(r8(E+24)!=0)port_rattle_dealloc(rp(E+8));
+memcpy(I+6,E+56,24);
+pi=0;
+qi=0;
+goto L92;}
+oi=gi.f1;
+L91:port_rattle_dealloc(Vh);
+ri=rp(G+1552);
+si=rp(G+1576);
+ti=r8(G+1592);
+ui=rp(G+1600);
+vi=r8(G+1616);
+wi=r8(G+1568);
+memcpy(v,G,1544);
+drop_816(v);
+if(wi!=0)port_rattle_dealloc(ri);
+if(ti!=0)port_rattle_dealloc(si);
+if(vi!=0)port_rattle_dealloc(ui);
+if(r8(F+16)!=0)port_rattle_dealloc(rp(F));
+if(r8(E+24)!=0)port_rattle_dealloc(rp(E+8));
+z24(I+6);
+pi=1;
+qi=oi;
+goto L92;}
+xi=Yh;
+yi=0;
+L93:zi=Vh+(i64)yi;
+z16(A);
+first_segment_4a3(A,*E,zi,ci-yi,xi);
+Ai=r8(A);
+if(Ai==0)goto L94;
+Bi=0;
+L95:Ci=zi+(i64)Bi;
+Di=Ai-Bi;
+z48(z);
+Ei=r8(E+16);
+Fi=Ei==0;
+Gi=r16(E+32);
+if(Fi&&Gi==0){
+if(E[50]&1){
+pass_6c7(z,E,Ci,Di);
+Hi=r16(z);
+Ii=r8(z+16);
+Ji=z[24]&1;
+goto L96;}
+Ki=*E;
+Li=E[48];
+if(Di==0)Mi=0;
+else{
+Ni=E[49];
+Oi=Ki+49;
+Pi=Ki==2;
+Qi=0;
+L97:Ri=Ci+Qi;
+if(*Ri==95){
+if(Qi==0){
+switch(Li){
+case 0:Si=Ki;
+goto L98;
+case 1:if(Pi){
+switch(Ni){
+case 46:case 36:Ti=1;
+Ui=49;
+goto L99;
+default:break;}}
+break;
+case 2:if(Pi){
+switch(Ni){
+case 46:case 36:Ti=1;
+Ui=49;
+goto L99;
+default:break;}}
+break;
+default:NEVER;
+}}
+else{
+Vi=*((u8*)t_e4d8+Ri[-1]);
+if(Oi>Vi){
+if(Vi<=(Ki==0?48:49)){
+Xi=0;
+Yi=0;
+Zi=Qi;
+goto L100;}
+Wi=place_in_stretch_597(Ki,Ci,Qi,Li);
+Xi=Wi.f1;
+Yi=Wi.f0;
+Zi=Qi;
+goto L100;}}}
+aj=Qi+1;
+bj=Di-aj;
+if(bj<16)cj=0;
+else{
+dj=Ci+(i64)aj;
+ej=cttz(v16_eq(v16_at(dj),splat(95)),16);
+if((bj<32)|(ej<16))cj=ej;
+else{
+fj=cttz(v16_eq(v16_at(dj+16),splat(95)),16);
+if(fj<16)cj=fj|16;
+else{
+if(bj<=95){
+cj=32;
+goto L101;}
+gj=32;
+L102:hj=dj+(i64)gj;
+if((((v16_eq(v16_at(hj),splat(95))|v16_eq(v16_at(hj+16),splat(95)))|v16_eq(v16_at(hj+32),splat(95)))|v16_eq(v16_at(hj+48),splat(95)))==0){
+ij=gj+64;
+if(bj-ij>63){
+gj=ij;
+goto L102;}
+cj=ij;}
+else cj=gj;}}}
+L101:jj=cj+aj;
+if(jj<Di){
+Qi=jj;
+goto L97;}
+Mi=jj;}
+if(*((u8*)t_e4d8+*(Ci+(i64)Mi-1))>(Ki==0?48:49)){
+kj=place_in_stretch_597(Ki,Ci,Mi,Li);
+lj=kj.f0;
+mj=kj.f1;}
+else{
+lj=0;
+mj=0;}
+if(Mi==0){
+Si=Ki;
+goto L98;}
+Xi=mj;
+Yi=lj;
+Zi=Mi;
+L100:w2(E+48,(u16)((u32)Xi<<8)|Yi);
+nj=Zi;
+goto L103;}
+Si=*E;
+L98:Ti=Si==2;
+Ui=Si==1?50:49;
+L99:if(Ui>*((u8*)t_e4d8+*Ci))goto L104;
+oj=0;
+L105:if(Di-oj>15){
+pj=v16_at(Ci+oj);
+qj=cttz(v16_ne(pj,splat(36))&(v16_ne(pj,splat(46))&(v16_ne(pj,splat(95))&(v16_ult(v16_add(pj,splat(198)),splat(246))&v16_ult(v16_add(v16_or(pj,splat(32)),splat(133)),splat(230))))),16);
+rj=oj+qj;
+if(qj>=16){
+oj=rj;
+goto L105;}
+sj=rj;}
+else sj=oj;
+if(sj>=Di){
+uj=sj;
+goto L106;}
+tj=sj;
+L107:if(Ui>*((u8*)t_e4d8+*(Ci+tj)))uj=tj;
+else{
+vj=tj+1;
+if(vj!=Di){
+tj=vj;
+goto L107;}
+uj=Di;}
+L106:if(uj==0)goto L104;
+wj=uj;
+L108:if(wj==0)xj=Gi+uj;
+else{
+yj=wj-1;
+if(*(Ci+yj)==46){
+wj=yj;
+goto L108;}
+if(Gi+wj>65536-Ei){
+zj=rp(E+8);
+Aj=r8(F+16);
+Bj=r8(F+8);
+if(Ei>Aj-Bj){
+Cj=grow_amortized_68b(F,Ei);
+if(!Cj)goto L109;
+Dj=r8(F+16);
+Ej=r8(F+8);}
+else{
+Dj=Aj;
+Ej=Bj;}
+Fj=Ej+Ei;
+Gj=rp(F);
+z16(F+8);
+Hj=Gj+(i64)Ej;
+if((u64)Hj-(u64)zj<Ei){
+copy_bits_4f4(zj,Hj,Ei);
+w8(F+8,Fj);
+w8(F+16,Dj);}
+else{
+memmove(Hj,zj,Ei);
+w8(F+8,Fj);
+w8(F+16,Dj);
+if(Fi)goto L110;}
+w8(E+16,0);
+L110:w16(E+32,0);
+E[50]=1;
+Hi=Gi;
+Ii=uj;
+Ji=1;
+goto L96;}
+Ij=Gi;
+Jj=Ei+Ij;
+if(Jj>Ei){
+Kj=r8(E+24);
+if(Kj-Ei<Ij){
+Lj=grow_amortized_68b(E+8,Ij);
+if(!Lj)goto L109;
+Mj=r8(E+16);
+Nj=Mj+Ij;
+Oj=r8(E+24);
+Pj=Mj;}
+else{
+Nj=Jj;
+Oj=Kj;
+Pj=Ei;}
+if(Pj<Nj)memset(rp(E+8)+(i64)Pj,46,Ij);
+w8(E+16,Nj);
+w8(E+24,Oj);
+Qj=Nj;}
+else{
+if(Ei>Jj){
+w8(E+16,Jj);
+Qj=Jj;}
+else Qj=Ei;}
+Rj=r8(E+24);
+if(wj>Rj-Qj){
+Sj=grow_amortized_68b(E+8,wj);
+if(!Sj)goto L109;
+Tj=r8(E+24);
+Uj=r8(E+16);}
+else{
+Tj=Rj;
+Uj=Qj;}
+Vj=Uj+wj;
+Wj=rp(E+8)+(i64)Uj;
+if((u64)Wj-(u64)Ci<wj)copy_bits_4f4(Ci,Wj,wj);
+else memmove(Wj,Ci,wj);
+w8(E+16,Vj);
+w8(E+24,Tj);
+xj=uj-wj;}
+w16(E+32,xj);
+Xj=uj;
+goto L111;
+L104:z48(y);
+if(!Ti){
+Zj=rp(E+8);
+if(Ei-65537>=0xffffffffffff0001u){
+ak=*Zj==95;
+if(Ei==2){
+if(!ak)goto L112;
+switch(Zj[1]){
+case 90:bk=0;
+goto L113;
+case 82:break;
+default:goto L112;
+}}
+else{
+if(!ak)goto L112;
+switch(Zj[1]){
+case 90:bk=0;
+goto L113;
+case 82:break;
+case 95:switch(Zj[2]){
+case 90:bk=0x100000000u;
+goto L113;
+case 82:bk=0x100000001u;
+goto L113;
+default:goto L112;
+}
+break;
+default:goto L112;
+}}
+bk=1;
+L113:ck=bk>>32;
+z12(x);
+append_247(x,L,G,bk,ck,Zj+(i64)ck,Ei-ck,F);
+if(*x!=0){
+if(x[4]!=4){
+ek=r8(F+16);
+fk=r8(F+8);
+if(Ei>ek-fk){
+gk=grow_amortized_68b(F,Ei);
+if(!gk)goto L114;
+hk=r8(F+16);
+ik=r8(F+8);}
+else{
+hk=ek;
+ik=fk;}
+jk=ik+Ei;
+kk=rp(F)+(i64)ik;
+if((u64)kk-(u64)Zj<Ei)copy_bits_4f4(Zj,kk,Ei);
+else memmove(kk,Zj,Ei);
+w8(F+8,jk);
+w8(F+16,hk);
+dk=16;
+goto L115;}
+L114:goto L116;}
+dk=8;
+L115:w8(E+56,uadd64(r8(E+56),1));
+lk=E+56+(i64)dk;
+w8(lk,uadd64(r8(lk),1));
+goto L117;}
+L112:mk=r8(F+16);
+nk=r8(F+8);
+if(Ei>mk-nk){
+ok=grow_amortized_68b(F,Ei);
+if(!ok)goto L116;
+pk=r8(F+16);
+qk=r8(F+8);}
+else{
+pk=mk;
+qk=nk;}
+rk=qk+Ei;
+sk=rp(F);
+z16(F+8);
+tk=sk+(i64)qk;
+if((u64)tk-(u64)Zj<Ei){
+copy_bits_4f4(Zj,tk,Ei);
+w8(F+8,rk);
+w8(F+16,pk);}
+else{
+memmove(tk,Zj,Ei);
+w8(F+8,rk);
+w8(F+16,pk);
+if(Fi)goto L118;}
+L117:w8(E+16,0);
+L118:z18(E+32);
+Yj=Gi;
+goto L119;}
+end_within_1cf(y,E,L,G,F);
+if(*y==0){
+Yj=r16(y+16);
+goto L119;}
+L116:goto L109;
+L119:Hi=Yj;
+Ii=1;
+Ji=1;
+goto L96;
+L109:uk=2;
+goto L120;
+L96:if(Hi!=0){
+vk=r8(F+8);
+wk=0;
+L121:if(r8(F+16)==vk){
+xk=grow_amortized_68b(F,1);
+if(!xk){
+uk=2;
+goto L120;}
+yk=r8(F+8);}
+else yk=vk;
+zk=rp(F);
+*(zk+yk)=46;
+Ak=yk+1;
+w8(F+8,Ak);
+if(Ak<16384){
+Bk=Ak;
+goto L122;}
+Ck=0;
+L123:Dk=Ak-Ck;
+Ek=port_write(1,zk+(i64)Ck,Dk);
+if((i64)Ek<0)port_rattle_errno();
+else{
+Fk=umin64(Ek,Dk);
+if(Fk!=0){
+Gk=Fk+Ck;
+if(Gk<Ak){
+Ck=Gk;
+goto L123;}
+w8(F+8,0);
+Bk=0;
+goto L122;}}
+w8(d+8,r8(d+8)+1);
+uk=1;
+goto L120;
+L122:Hk=wk+1;
+if(Hk<Hi){
+vk=Bk;
+wk=Hk;
+goto L121;}}
+if(!Ji){
+Xj=Ii;
+goto L111;}
+nj=Ii;
+L103:Ik=r8(F+16);
+Jk=r8(F+8);
+if(nj>Ik-Jk){
+Kk=grow_amortized_68b(F,nj);
+if(!Kk){
+uk=2;
+goto L120;}
+Lk=r8(F+16);
+Mk=r8(F+8);}
+else{
+Lk=Ik;
+Mk=Jk;}
+Nk=Mk+nj;
+Ok=rp(F);
+Pk=Ok+(i64)Mk;
+if((u64)Pk-(u64)Ci<nj)copy_bits_4f4(Ci,Pk,nj);
+else memmove(Pk,Ci,nj);
+w8(F+8,Nk);
+w8(F+16,Lk);
+if(Nk<16384){
+Xj=nj;
+goto L111;}
+Qk=0;
+L124:Rk=Nk-Qk;
+Sk=port_write(1,Ok+(i64)Qk,Rk);
+if((i64)Sk<0)port_rattle_errno();
+else{
+Tk=umin64(Sk,Rk);
+if(Tk!=0){
+Uk=Tk+Qk;
+if(Uk<Nk){
+Qk=Uk;
+goto L124;}
+w8(F+8,0);
+Xj=nj;
+goto L111;}}
+w8(d+8,r8(d+8)+1);
+uk=1;
+goto L120;
+L111:Vk=Xj+Bi;
+if(Vk<Ai){
+Bi=Vk;
+goto L95;}
+L94:Wk=A[9];
+if(A[8]&1){
+Xk=end_segment_767(L,G,E,F,d);
+if(Xk.f0!=0){
+uk=Xk.f1;
+goto L120;}}
+Yk=Ai+yi;
+if(Yk<ci){
+xi=Wk;
+yi=Yk;
+goto L93;}
+Zk=r8(E+16);
+if(Zk-65537>=0xffffffffffff0001u){
+al=rp(E+8);
+bl=*al==95;
+if(Zk==2){
+if(!bl)goto L125;
+switch(al[1]){
+case 90:cl=0;
+goto L126;
+case 82:break;
+default:goto L125;
+}}
+else{
+if(!bl)goto L125;
+switch(al[1]){
+case 90:cl=0;
+goto L126;
+case 82:break;
+case 95:switch(al[2]){
+case 90:cl=0x100000000u;
+goto L126;
+case 82:cl=0x100000001u;
+goto L126;
+default:goto L125;
+}
+break;
+default:goto L125;
+}}
+cl=1;
+L126:dl=cl>>32;
+read_ahead_34b(G,cl,al+(i64)dl,Zk-dl);}
+L125:el=rp(F);
+fl=r8(F+8);
+if(fl==0)goto L127;
+gl=0;
+L128:hl=fl-gl;
+il=port_write(1,el+(i64)gl,hl);
+if((i64)il<0)port_rattle_errno();
+else{
+jl=umin64(il,hl);
+if(jl!=0){
+kl=jl+gl;
+if(kl<fl){
+gl=kl;
+goto L128;}
+w8(F+8,0);
+goto L127;}}
+w8(d+8,r8(d+8)+1);
+ll=1;
+goto L129;
+L127:ml=r8(c+8224);
+if(ml==0)goto L88;
+Xh=ml;
+Yh=Wk;
+goto L87;
+L120:ll=uk;
+L129:port_rattle_dealloc(Vh);
+nl=rp(G+1552);
+ol=rp(G+1576);
+pl=r8(G+1592);
+ql=rp(G+1600);
+rl=r8(G+1616);
+sl=r8(G+1568);
+memcpy(w,G,1544);
+drop_816(w);
+if(sl!=0)port_rattle_dealloc(nl);
+if(pl!=0)port_rattle_dealloc(ol);
+if(rl!=0)port_rattle_dealloc(ql);
+if(r8(F+16)!=0)port_rattle_dealloc(rp(F));
+if(r8(E+24)!=0)port_rattle_dealloc(rp(E+8));
+z24(I+6);
+pi=1;
+qi=ll;
+goto L92;}
+L88:w8(c+8216,r8(c+8216)+1);
+port_rattle_dealloc(Vh);
+tl=rp(G+1552);
+ul=rp(G+1576);
+vl=r8(G+1592);
+wl=rp(G+1600);
+xl=r8(G+1616);
+yl=r8(G+1568);
+memcpy(B,G,1544);
+drop_816(B);
+if(yl!=0)port_rattle_dealloc(tl);
+if(vl!=0)port_rattle_dealloc(ul);
+if(xl!=0)port_rattle_dealloc(wl);
+if(r8(F+16)!=0)port_rattle_dealloc(rp(F));
+if(r8(E+24)!=0)port_rattle_dealloc(rp(E+8));
+memcpy(I+6,D+6,24);
+pi=1;
+qi=0;}
+else{
+zl=rp(G+1552);
+Al=rp(G+1576);
+Bl=r8(G+1592);
+Cl=rp(G+1600);
+Dl=r8(G+1616);
+El=r8(G+1568);
+memcpy(C,G,1544);
+drop_816(C);
+if(El!=0)port_rattle_dealloc(zl);
+if(Bl!=0)port_rattle_dealloc(Al);
+if(Dl!=0)port_rattle_dealloc(Cl);
+if(r8(F+16)!=0)port_rattle_dealloc(rp(F));
+if(r8(E+24)!=0)port_rattle_dealloc(rp(E+8));
+z24(I+6);
+pi=1;
+qi=2;}
+L92:memcpy(J+6,I+6,24);
+memcpy(K+6,J+6,24);
+memcpy(M+6,K+6,24);
+Fl=pi;
+Gl=qi;}
+else{
+Hl=za&1;
+Il=((u64)ya<<32)|xa;
+z30(t);
+w8(u,Il);
+u[8]=Hl;
+u[9]=0;
+w2(u+10,0);
+z30(s);
+z30(r);
+z30(i);
+zero_all(l+1384,368);
+zero_all(m,1752);
+zero_all(n,1752);
+zero_all(o,1752);
+zero_all(p,1752);
+zero_all(q,1752);
+*j=Aa;
+z7(j+1);
+wp(j+8,(u8*)65536);
+z64(j+16);
+wp(k,(u8*)65536);
+z16(k+8);
+Jl=(u64)(u8*)65536;
+w8(l+1656,Il);
+l[1664]=Hl;
+wp(l,(u8*)65536);
+z24(l+8);
+wp(l+32,(u8*)65536);
+z16(l+40);
+wp(l+56,(u8*)65536);
+z32(l+64);
+wp(l+96,(u8*)65536);
+z16(l+104);
+wp(l+120,(u8*)65536);
+z32(l+128);
+wp(l+160,(u8*)65536);
+z80(l+168);
+wp(l+248,(u8*)65536);
+z16(l+256);
+wp(l+272,(u8*)65536);
+z40(l+280);
+wp(l+320,(u8*)65536);
+z16(l+328);
+wp(l+344,(u8*)65536);
+z16(l+352);
+wp(l+368,(u8*)65536);
+z16(l+376);
+wp(l+392,(u8*)65536);
+z16(l+400);
+wp(l+416,(u8*)65536);
+z16(l+424);
+wp(l+440,(u8*)65536);
+z48(l+448);
+wp(l+496,(u8*)65536);
+z32(l+504);
+wp(l+536,(u8*)65536);
+z32(l+544);
+wp(l+576,(u8*)65536);
+z104(l+584);
+w8(l+688,Jl);
+z40(l+696);
+w8(l+736,Jl);
+z16(l+744);
+wp(l+760,(u8*)65536);
+z32(l+768);
+wp(l+800,(u8*)65536);
+z24(l+808);
+wp(l+832,(u8*)65536);
+z16(l+840);
+wp(l+856,(u8*)65536);
+z32(l+864);
+wp(l+896,(u8*)65536);
+z16(l+904);
+wp(l+920,(u8*)65536);
+z24(l+928);
+wp(l+952,(u8*)65536);
+z16(l+960);
+wp(l+976,(u8*)65536);
+z16(l+984);
+wp(l+1000,(u8*)65536);
+z40(l+1008);
+wp(l+1048,(u8*)65536);
+z16(l+1056);
+wp(l+1072,(u8*)65536);
+z16(l+1080);
+wp(l+1096,(u8*)65536);
+z16(l+1104);
+wp(l+1120,(u8*)65536);
+z16(l+1128);
+wp(l+1144,(u8*)65536);
+z16(l+1152);
+wp(l+1168,(u8*)65536);
+z48(l+1176);
+wp(l+1224,(u8*)65536);
+z32(l+1232);
+wp(l+1264,(u8*)65536);
+z40(l+1272);
+wp(l+1312,(u8*)65536);
+z32(l+1320);
+wp(l+1352,(u8*)65536);
+z16(l+1360);
+wp(l+1376,(u8*)65536);
+z48(l+1384);
+w8(l+1432,Jl);
+z40(l+1440);
+w8(l+1480,Jl);
+z16(l+1488);
+wp(l+1504,(u8*)65536);
+z32(l+1512);
+wp(l+1544,(u8*)65536);
+z32(l+1552);
+wp(l+1584,(u8*)65536);
+z16(l+1592);
+wp(l+1608,(u8*)65536);
+z16(l+1616);
+wp(l+1632,(u8*)65536);
+z16(l+1640);
+w4(l+1668,0);
+wp(l+1672,(u8*)65536);
+z16(l+1680);
+wp(l+1696,(u8*)65536);
+z16(l+1704);
+wp(l+1720,(u8*)65536);
+z16(l+1728);
+w4(l+1744,65);
+w4(l+1748,0);
+Kl=port_rattle_alloc(16384,1);
+if((u8)(Kl.f0&1)){
+Ll=Kl.f1;
+Ml=(u8*)Ll;
+zero_all(Ml,16384);
+Nl=r8(c+8224);
+if(Nl!=0){
+Ol=Nl;
+Pl=0;
+L130:w8(c+8224,Ol-1);
+Ql=r8(c+8200);
+Rl=r8(c+8192);
+if(Ql==Rl){
+Sl=port_read(0,Ml,16384);
+if((i64)Sl<0){
+port_rattle_errno();
+goto L131;}
+Tl=umin64(Sl,16384);}
+else{
+Ul=c+(i64)Rl;
+Vl=umin64(Ql-Rl,16384);
+if(Ll-(u64)Ul<Vl)copy_bits_4f4(Ul,Ml,Vl);
+else memmove(Ml,Ul,Vl);
+Wl=r8(c+8192);
+w8(c+8192,umin64(Vl,r8(c+8200)-Wl)+Wl);
+Tl=Vl;}
+if(Tl==0){
+Xl=end_segment_013(u,l,j,k,d);
+if(Xl.f0==0){
+Yl=rp(k);
+Zl=r8(k+8);
+if(Zl==0)goto L132;
+am=0;
+L133:bm=Zl-am;
+cm=port_write(1,Yl+(i64)am,bm);
+if((i64)cm<0)port_rattle_errno();
+else{
+dm=umin64(cm,bm);
+if(dm!=0){
+em=dm+am;
+if(em>=Zl)goto L132;
+am=em;
+goto L133;}}
+w8(d+8,r8(d+8)+1);
+fm=1;
+goto L134;
+L132:port_rattle_dealloc(Ml);
+memcpy(q,l,1752);
+drop_b01(q);
+if(r8(k+16)!=0)port_rattle_dealloc(Yl);
+if(r8(j+24)!=0)port_rattle_dealloc(rp(j+8));
+memcpy(r+6,j+56,24);
+gm=0;
+hm=0;
+goto L135;}
+fm=Xl.f1;
+L134:port_rattle_dealloc(Ml);
+memcpy(p,l,1752);
+drop_b01(p);
+if(r8(k+16)!=0)port_rattle_dealloc(rp(k));
+if(r8(j+24)!=0)port_rattle_dealloc(rp(j+8));
+z24(r+6);
+gm=1;
+hm=fm;
+goto L135;}
+im=Pl;
+jm=0;
+L136:km=Ml+(i64)jm;
+z16(h);
+first_segment_4a3(h,*j,km,Tl-jm,im);
+lm=r8(h);
+if(lm==0)goto L137;
+mm=0;
+L138:nm=km+(i64)mm;
+om=lm-mm;
+z48(g);
+pm=r8(j+16);
+qm=pm==0;
+rm=r16(j+32);
+if(qm&&rm==0){
+if(j[50]&1){
+pass_6c7(g,j,nm,om);
+sm=r16(g);
+tm=r8(g+16);
+um=g[24]&1;
+goto L139;}
+vm=*j;
+wm=j[48];
+if(om==0)xm=0;
+else{
+ym=j[49];
+zm=vm+49;
+Am=vm==2;
+Bm=0;
+L140:Cm=nm+Bm;
+if(*Cm==95){
+if(Bm==0){
+switch(wm){
+case 0:Dm=vm;
+goto L141;
+case 1:if(Am){
+switch(ym){
+case 46:case 36:Em=1;
+Fm=49;
+goto L142;
+default:break;}}
+break;
+case 2:if(Am){
+switch(ym){
+case 46:case 36:Em=1;
+Fm=49;
+goto L142;
+default:break;}}
+break;
+default:NEVER;
+}}
+else{
+Gm=*((u8*)t_e4d8+Cm[-1]);
+if(zm>Gm){
+if(Gm<=(vm==0?48:49)){
+Im=0;
+Jm=0;
+Km=Bm;
+goto L143;}
+Hm=place_in_stretch_597(vm,nm,Bm,wm);
+Im=Hm.f1;
+Jm=Hm.f0;
+Km=Bm;
+goto L143;}}}
+Lm=Bm+1;
+Mm=om-Lm;
+if(Mm<16)Nm=0;
+else{
+Om=nm+(i64)Lm;
+Pm=cttz(v16_eq(v16_at(Om),splat(95)),16);
+if((Mm<32)|(Pm<16))Nm=Pm;
+else{
+Qm=cttz(v16_eq(v16_at(Om+16),splat(95)),16);
+if(Qm<16)Nm=Qm|16;
+else{
+if(Mm<=95){
+Nm=32;
+goto L144;}
+Rm=32;
+L145:Sm=Om+(i64)Rm;
+if((((v16_eq(v16_at(Sm),splat(95))|v16_eq(v16_at(Sm+16),splat(95)))|v16_eq(v16_at(Sm+32),splat(95)))|v16_eq(v16_at(Sm+48),splat(95)))==0){
+Tm=Rm+64;
+if(Mm-Tm>63){
+Rm=Tm;
+goto L145;}
+Nm=Tm;}
+else Nm=Rm;}}}
+L144:Um=Nm+Lm;
+if(Um<om){
+Bm=Um;
+goto L140;}
+xm=Um;}
+if(*((u8*)t_e4d8+*(nm+(i64)xm-1))>(vm==0?48:49)){
+Vm=place_in_stretch_597(vm,nm,xm,wm);
+Wm=Vm.f0;
+Xm=Vm.f1;}
+else{
+Wm=0;
+Xm=0;}
+if(xm==0){
+Dm=vm;
+goto L141;}
+Im=Xm;
+Jm=Wm;
+Km=xm;
+L143:w2(j+48,(u16)((u32)Im<<8)|Jm);
+Ym=Km;
+goto L146;}
+Dm=*j;
+L141:Em=Dm==2;
+Fm=Dm==1?50:49;
+L142:if(Fm>*((u8*)t_e4d8+*nm))goto L147;
+Zm=0;
+L148:if(om-Zm>15){
+an=v16_at(nm+Zm);
+bn=cttz(v16_ne(an,splat(36))&(v16_ne(an,splat(46))&(v16_ne(an,splat(95))&(v16_ult(v16_add(an,splat(198)),splat(246))&v16_ult(v16_add(v16_or(an,splat(32)),splat(133)),splat(230))))),16);
+cn=Zm+bn;
+if(bn>=16){
+Zm=cn;
+goto L148;}
+dn=cn;}
+else dn=Zm;
+if(dn>=om){
+fn=dn;
+goto L149;}
+en=dn;
+L150:if(Fm>*((u8*)t_e4d8+*(nm+en)))fn=en;
+else{
+gn=en+1;
+if(gn!=om){
+en=gn;
+goto L150;}
+fn=om;}
+L149:if(fn==0)goto L147;
+hn=fn;
+L151:if(hn==0)in=rm+fn;
+else{
+jn=hn-1;
+if(*(nm+jn)==46){
+hn=jn;
+goto L151;}
+if(rm+hn>65536-pm){
+kn=rp(j+8);
+ln=r8(k+16);
+mn=r8(k+8);
+if(pm>ln-mn){
+nn=grow_amortized_68b(k,pm);
+if(!nn)goto L152;
+on=r8(k+16);
+pn=r8(k+8);}
+else{
+on=ln;
+pn=mn;}
+qn=pn+pm;
+rn=rp(k);
+z16(k+8);
+sn=rn+(i64)pn;
+if((u64)sn-(u64)kn<pm){
+copy_bits_4f4(kn,sn,pm);
+w8(k+8,qn);
+w8(k+16,on);}
+else{
+memmove(sn,kn,pm);
+w8(k+8,qn);
+w8(k+16,on);
+if(qm)goto L153;}
+w8(j+16,0);
+L153:w16(j+32,0);
+j[50]=1;
+sm=rm;
+tm=fn;
+um=1;
+goto L139;}
+tn=rm;
+un=pm+tn;
+if(un>pm){
+vn=r8(j+24);
+if(vn-pm<tn){
+wn=grow_amortized_68b(j+8,tn);
+if(!wn)goto L152;
+xn=r8(j+16);
+yn=xn+tn;
+zn=r8(j+24);
+An=xn;}
+else{
+yn=un;
+zn=vn;
+An=pm;}
+if(An<yn)memset(rp(j+8)+(i64)An,46,tn);
+w8(j+16,yn);
+w8(j+24,zn);
+Bn=yn;}
+else{
+if(pm>un){
+w8(j+16,un);
+Bn=un;}
+else Bn=pm;}
+Cn=r8(j+24);
+if(hn>Cn-Bn){
+Dn=grow_amortized_68b(j+8,hn);
+if(!Dn)goto L152;
+En=r8(j+24);
+Fn=r8(j+16);}
+else{
+En=Cn;
+Fn=Bn;}
+Gn=Fn+hn;
+Hn=rp(j+8)+(i64)Fn;
+if((u64)Hn-(u64)nm<hn)copy_bits_4f4(nm,Hn,hn);
+else memmove(Hn,nm,hn);
+w8(j+16,Gn);
+w8(j+24,En);
+in=fn-hn;}
+w16(j+32,in);
+In=fn;
+goto L154;
+L147:z48(f);
+if(!Em){
+Kn=rp(j+8);
+if(pm-65537>=0xffffffffffff0001u){
+Ln=*Kn==95;
+if(pm==2){
+if(!Ln)goto L155;
+switch(Kn[1]){
+case 90:Mn=0;
+goto L156;
+case 82:break;
+default:goto L155;
+}}
+else{
+if(!Ln)goto L155;
+switch(Kn[1]){
+case 90:Mn=0;
+goto L156;
+case 82:break;
+case 95:switch(Kn[2]){
+case 90:Mn=0x100000000u;
+goto L156;
+case 82:Mn=0x100000001u;
+goto L156;
+default:goto L155;
+}
+break;
+default:goto L155;
+}}
+Mn=1;
+L156:Nn=Mn>>32;
+z12(e);
+append_014(e,u,l,Mn,Nn,Kn+(i64)Nn,pm-Nn,k);
+if(*e!=0){
+if(e[4]!=4){
+Pn=r8(k+16);
+Qn=r8(k+8);
+if(pm>Pn-Qn){
+Rn=grow_amortized_68b(k,pm);
+if(!Rn)goto L157;
+Sn=r8(k+16);
+Tn=r8(k+8);}
+else{
+Sn=Pn;
+Tn=Qn;}
+Un=Tn+pm;
+Vn=rp(k)+(i64)Tn;
+if((u64)Vn-(u64)Kn<pm)copy_bits_4f4(Kn,Vn,pm);
+else memmove(Vn,Kn,pm);
+w8(k+8,Un);
+w8(k+16,Sn);
+On=16;
+goto L158;}
+L157:goto L159;}
+On=8;
+L158:w8(j+56,uadd64(r8(j+56),1));
+Wn=j+56+(i64)On;
+w8(Wn,uadd64(r8(Wn),1));
+goto L160;}
+L155:Xn=r8(k+16);
+Yn=r8(k+8);
+if(pm>Xn-Yn){
+Zn=grow_amortized_68b(k,pm);
+if(!Zn)goto L159;
+ao=r8(k+16);
+bo=r8(k+8);}
+else{
+ao=Xn;
+bo=Yn;}
+co=bo+pm;
+eo=rp(k);
+z16(k+8);
+fo=eo+(i64)bo;
+if((u64)fo-(u64)Kn<pm){
+copy_bits_4f4(Kn,fo,pm);
+w8(k+8,co);
+w8(k+16,ao);}
+else{
+memmove(fo,Kn,pm);
+w8(k+8,co);
+w8(k+16,ao);
+if(qm)goto L161;}
+L160:w8(j+16,0);
+L161:z18(j+32);
+Jn=rm;
+goto L162;}
+end_within_666(f,j,u,l,k);
+if(*f==0){
+Jn=r16(f+16);
+goto L162;}
+L159:goto L152;
+L162:sm=Jn;
+tm=1;
+um=1;
+goto L139;
+L152:go=2;
+goto L163;
+L139:if(sm!=0){
+ho=r8(k+8);
+io=0;
+L164:if(r8(k+16)==ho){
+jo=grow_amortized_68b(k,1);
+if(!jo){
+go=2;
+goto L163;}
+ko=r8(k+8);}
+else ko=ho;
+lo=rp(k);
+*(lo+ko)=46;
+mo=ko+1;
+w8(k+8,mo);
+if(mo<16384){
+no=mo;
+goto L165;}
+oo=0;
+L166:po=mo-oo;
+qo=port_write(1,lo+(i64)oo,po);
+if((i64)qo<0)port_rattle_errno();
+else{
+ro=umin64(qo,po);
+if(ro!=0){
+so=ro+oo;
+if(so<mo){
+oo=so;
+goto L166;}
+w8(k+8,0);
+no=0;
+goto L165;}}
+w8(d+8,r8(d+8)+1);
+go=1;
+goto L163;
+L165:to=io+1;
+if(to<sm){
+ho=no;
+io=to;
+goto L164;}}
+if(!um){
+In=tm;
+goto L154;}
+Ym=tm;
+L146:uo=r8(k+16);
+vo=r8(k+8);
+if(Ym>uo-vo){
+wo=grow_amortized_68b(k,Ym);
+if(!wo){
+go=2;
+goto L163;}
+xo=r8(k+16);
+yo=r8(k+8);}
 else{
 xo=uo;
 yo=vo;}
-zo=yo+xn;
-Ao=rp(ig);
-z16(ig+8);
+zo=yo+Ym;
+Ao=rp(k);
 Bo=Ao+(i64)yo;
-if((u64)Bo-(u64)to<xn){
-copy_bits_4f4(to,Bo,xn);
-w8(ig+8,zo);
-w8(ig+16,xo);}
-else{
-memmove(Bo,to,xn);
-w8(ig+8,zo);
-w8(ig+16,xo);
-if(yn)goto L67;}
-w8(hg+16,0);
-L67:w16(hg+32,0);
-hg[50]=1;
-An=zn;
-Bn=oo;
-Cn=1;
-goto L53;}
-Co=zn;
-Do=xn+Co;
-if(Do>xn){
-Eo=r8(hg+24);
-if(Eo-xn<Co){
-Fo=grow_amortized_68b(hg+8,Co);
-if(!Fo)goto L66;
-Go=r8(hg+16);
-Ho=Go+Co;
-Io=r8(hg+24);
-Jo=Go;}
-else{
-Ho=Do;
-Io=Eo;
-Jo=xn;}
-if(Jo<Ho)memset(rp(hg+8)+(i64)Jo,46,Co);
-w8(hg+16,Ho);
-w8(hg+24,Io);
-Ko=Ho;}
-else{
-if(xn>Do){
-w8(hg+16,Do);
-Ko=Do;}
-else Ko=xn;}
-Lo=r8(hg+24);
-if(qo>Lo-Ko){
-Mo=grow_amortized_68b(hg+8,qo);
-if(!Mo)goto L66;
-No=r8(hg+24);
-Oo=r8(hg+16);}
-else{
-No=Lo;
-Oo=Ko;}
-Po=Oo+qo;
-Qo=rp(hg+8)+(i64)Oo;
-if((u64)Qo-(u64)vn<qo)copy_bits_4f4(vn,Qo,qo);
-else memmove(Qo,vn,qo);
-w8(hg+16,Po);
-w8(hg+24,No);
-ro=oo-qo;}
-w16(hg+32,ro);
-Ro=oo;
-goto L68;
-L61:z48(Yd);
-if(!Mn){
-To=rp(hg+8);
-if(xn-65537>=0xffffffffffff0001u){
-Uo=*To==95;
-if(xn==2){
-if(!Uo)goto L69;
-switch(To[1]){
-case 90:Vo=0;
-goto L70;
-case 82:break;
-default:goto L69;
-}}
-else{
-if(!Uo)goto L69;
-switch(To[1]){
-case 90:Vo=0;
-goto L70;
-case 82:break;
-case 95:switch(To[2]){
-case 90:Vo=0x100000000u;
-goto L70;
-case 82:Vo=0x100000001u;
-goto L70;
-default:goto L69;
-}
-break;
-default:goto L69;
-}}
-Vo=1;
-L70:Wo=Vo>>32;
-z12(Xd);
-append_4ee(Xd,wi,jg,Vo,Wo,To+(i64)Wo,xn-Wo,ig);
-if(*Xd!=0){
-if(Xd[4]!=4){
-Yo=r8(ig+16);
-Zo=r8(ig+8);
-if(xn>Yo-Zo){
-ap=grow_amortized_68b(ig,xn);
-if(!ap)goto L71;
-bp=r8(ig+16);
-cp=r8(ig+8);}
-else{
-bp=Yo;
-cp=Zo;}
-dp=cp+xn;
-ep=rp(ig)+(i64)cp;
-if((u64)ep-(u64)To<xn)copy_bits_4f4(To,ep,xn);
-else memmove(ep,To,xn);
-w8(ig+8,dp);
-w8(ig+16,bp);
-Xo=16;
-goto L72;}
-L71:goto L73;}
-Xo=8;
-L72:w8(hg+56,uadd64(r8(hg+56),1));
-fp=hg+56+(i64)Xo;
-w8(fp,uadd64(r8(fp),1));
-goto L74;}
-L69:gp=r8(ig+16);
-hp=r8(ig+8);
-if(xn>gp-hp){
-ip=grow_amortized_68b(ig,xn);
-if(!ip)goto L73;
-jp=r8(ig+16);
-kp=r8(ig+8);}
-else{
-jp=gp;
-kp=hp;}
-lp=kp+xn;
-np=rp(ig);
-z16(ig+8);
-op=np+(i64)kp;
-if((u64)op-(u64)To<xn){
-copy_bits_4f4(To,op,xn);
-w8(ig+8,lp);
-w8(ig+16,jp);}
-else{
-memmove(op,To,xn);
-w8(ig+8,lp);
-w8(ig+16,jp);
-if(yn)goto L75;}
-L74:w8(hg+16,0);
-L75:z18(hg+32);
-So=zn;
-goto L76;}
-end_within_78f(Yd,hg,wi,jg,ig);
-if(*Yd==0){
-So=r16(Yd+16);
-goto L76;}
-L73:goto L66;
-L76:An=So;
-Bn=1;
-Cn=1;
-goto L53;
-L66:pp=2;
-goto L77;
-L53:if(An!=0){
-sp=r8(ig+8);
-tp=0;
-L78:if(r8(ig+16)==sp){
-up=grow_amortized_68b(ig,1);
-if(!up){
-pp=2;
-goto L77;}
-vp=r8(ig+8);}
-else vp=sp;
-yp=rp(ig);
-*(yp+vp)=46;
-zp=vp+1;
-w8(ig+8,zp);
-if(zp<16384){
-Ap=zp;
-goto L79;}
-Bp=0;
-L80:Cp=zp-Bp;
-Dp=port_write(1,yp+(i64)Bp,Cp);
-if((i64)Dp<0)port_rattle_errno();
-else{
-Ep=umin64(Dp,Cp);
-if(Ep!=0){
-Fp=Ep+Bp;
-if(Fp<zp){
-Bp=Fp;
-goto L80;}
-w8(ig+8,0);
-Ap=0;
-goto L79;}}
-w8(d+8,r8(d+8)+1);
-pp=1;
-goto L77;
-L79:Gp=tp+1;
-if(Gp<An){
-sp=Ap;
-tp=Gp;
-goto L78;}}
-if(!Cn){
-Ro=Bn;
-goto L68;}
-ho=Bn;
-L60:Hp=r8(ig+16);
-Ip=r8(ig+8);
-if(ho>Hp-Ip){
-Jp=grow_amortized_68b(ig,ho);
-if(!Jp){
-pp=2;
-goto L77;}
-Kp=r8(ig+16);
-Lp=r8(ig+8);}
-else{
-Kp=Hp;
-Lp=Ip;}
-Mp=Lp+ho;
-Np=rp(ig);
-Op=Np+(i64)Lp;
-if((u64)Op-(u64)vn<ho)copy_bits_4f4(vn,Op,ho);
-else memmove(Op,vn,ho);
-w8(ig+8,Mp);
-w8(ig+16,Kp);
-if(Mp<16384){
-Ro=ho;
-goto L68;}
-Pp=0;
-L81:Qp=Mp-Pp;
-Rp=port_write(1,Np+(i64)Pp,Qp);
-if((i64)Rp<0)port_rattle_errno();
-else{
-Sp=umin64(Rp,Qp);
-if(Sp!=0){
-Tp=Sp+Pp;
-if(Tp<Mp){
-Pp=Tp;
-goto L81;}
-w8(ig+8,0);
-Ro=ho;
-goto L68;}}
-w8(d+8,r8(d+8)+1);
-pp=1;
-goto L77;
-L68:Up=Ro+un;
-if(Up<tn){
-un=Up;
-goto L52;}
-L51:Vp=ae[9];
-if(ae[8]&1){
-Wp=end_segment_474(wi,jg,hg,ig,d);
-if(Wp.f0!=0){
-pp=Wp.f1;
-goto L77;}}
-Xp=tn+rn;
-if(Xp<bn){
-qn=Vp;
-rn=Xp;
-goto L50;}
-Yp=r8(hg+16);
-if(Yp-65537>=0xffffffffffff0001u){
-Zp=rp(hg+8);
-aq=*Zp==95;
-if(Yp==2){
-if(!aq)goto L82;
-switch(Zp[1]){
-case 90:bq=0;
-goto L83;
-case 82:break;
-default:goto L82;
-}}
-else{
-if(!aq)goto L82;
-switch(Zp[1]){
-case 90:bq=0;
-goto L83;
-case 82:break;
-case 95:switch(Zp[2]){
-case 90:bq=0x100000000u;
-goto L83;
-case 82:bq=0x100000001u;
-goto L83;
-default:goto L82;
-}
-break;
-default:goto L82;
-}}
-bq=1;
-L83:cq=bq>>32;
-read_ahead_34b(jg,bq,Zp+(i64)cq,Yp-cq);}
-L82:dq=rp(ig);
-eq=r8(ig+8);
-if(eq==0)goto L84;
-fq=0;
-L85:gq=eq-fq;
-hq=port_write(1,dq+(i64)fq,gq);
-if((i64)hq<0)port_rattle_errno();
-else{
-iq=umin64(hq,gq);
-if(iq!=0){
-jq=iq+fq;
-if(jq<eq){
-fq=jq;
-goto L85;}
-w8(ig+8,0);
-goto L84;}}
-w8(d+8,r8(d+8)+1);
-kq=1;
-goto L86;
-L84:lq=r8(c+8224);
-if(lq==0){
-Um=dq;
-goto L45;}
-Vm=dq;
-Wm=lq;
-Xm=Vp;
-goto L44;
-L77:kq=pp;
-L86:port_rattle_dealloc(Sm);
-memcpy(qi,jg,2152);
-drop_b01(qi);
-if(r8(ig+16)!=0)port_rattle_dealloc(rp(ig));
-if(r8(hg+24)!=0)port_rattle_dealloc(rp(hg+8));
-z24(ti+6);
-on=1;
-pn=kq;
-goto L49;}
-Um=(u8*)65536;
-L45:w8(c+8216,r8(c+8216)+1);
-port_rattle_dealloc(Sm);
-memcpy(pi,jg,2152);
-drop_b01(pi);
-if(r8(ig+16)!=0)port_rattle_dealloc(Um);
-if(r8(hg+24)!=0)port_rattle_dealloc(rp(hg+8));
-memcpy(ti+6,gg+6,24);
-on=1;
-pn=0;}
-else{
-memcpy(oi,jg,2152);
-drop_b01(oi);
-z24(ti+6);
-on=1;
-pn=2;}
-L49:memcpy(ui+6,ti+6,24);
-memcpy(vi+6,ui+6,24);
-memcpy(Oi+6,vi+6,24);
-Lm=on;
-Mm=pn;}
-memcpy(Pi+6,Oi+6,24);
-mq=Lm;
-nq=Mm;
-oq=Pi+6;}
-else{
-z30(Wd);
-if(Wi){
-z30(Ud);
-pq=((u64)Ri<<32)|Qi;
-w8(Vd,pq);
-z30(Td);
-z30(Sd);
-z30(Nd);
-zero_all(Qd+1264,768);
-zero_all(Rd,2032);
-*Od=Ti;
-z7(Od+1);
-wp(Od+8,(u8*)65536);
-z64(Od+16);
-wp(Pd,(u8*)65536);
-z16(Pd+8);
-qq=(u64)(u8*)65536;
-z32(Qd+1512);
-z32(Qd+1552);
-z32(Qd+1592);
-z104(Qd+1632);
-z32(Qd+1744);
-z40(Qd+1784);
-z32(Qd+1832);
-z16(Qd+1872);
-z48(Qd+1896);
-z16(Qd+1960);
-z16(Qd+1984);
-z16(Qd+2008);
-wp(Qd,(u8*)65536);
-z24(Qd+8);
-wp(Qd+32,(u8*)65536);
-z16(Qd+40);
-wp(Qd+56,(u8*)65536);
-z32(Qd+64);
-wp(Qd+96,(u8*)65536);
-z16(Qd+104);
-wp(Qd+120,(u8*)65536);
-z32(Qd+128);
-wp(Qd+160,(u8*)65536);
-z80(Qd+168);
-wp(Qd+248,(u8*)65536);
-z16(Qd+256);
-wp(Qd+272,(u8*)65536);
-z40(Qd+280);
-wp(Qd+320,(u8*)65536);
-z16(Qd+328);
-wp(Qd+344,(u8*)65536);
-z16(Qd+352);
-wp(Qd+368,(u8*)65536);
-z16(Qd+376);
-wp(Qd+392,(u8*)65536);
-z16(Qd+400);
-wp(Qd+416,(u8*)65536);
-z16(Qd+424);
-wp(Qd+440,(u8*)65536);
-z48(Qd+448);
-wp(Qd+496,(u8*)65536);
-z32(Qd+504);
-wp(Qd+536,(u8*)65536);
-z32(Qd+544);
-wp(Qd+576,(u8*)65536);
-z104(Qd+584);
-w8(Qd+688,qq);
-z40(Qd+696);
-w8(Qd+736,qq);
-z16(Qd+744);
-wp(Qd+760,(u8*)65536);
-z32(Qd+768);
-wp(Qd+800,(u8*)65536);
-z24(Qd+808);
-wp(Qd+832,(u8*)65536);
-z16(Qd+840);
-wp(Qd+856,(u8*)65536);
-z32(Qd+864);
-wp(Qd+896,(u8*)65536);
-z16(Qd+904);
-wp(Qd+920,(u8*)65536);
-z24(Qd+928);
-wp(Qd+952,(u8*)65536);
-z16(Qd+960);
-wp(Qd+976,(u8*)65536);
-z16(Qd+984);
-wp(Qd+1000,(u8*)65536);
-z40(Qd+1008);
-wp(Qd+1048,(u8*)65536);
-z16(Qd+1056);
-wp(Qd+1072,(u8*)65536);
-z16(Qd+1080);
-wp(Qd+1096,(u8*)65536);
-z16(Qd+1104);
-wp(Qd+1120,(u8*)65536);
-z16(Qd+1128);
-wp(Qd+1144,(u8*)65536);
-z16(Qd+1152);
-wp(Qd+1168,(u8*)65536);
-z48(Qd+1176);
-wp(Qd+1224,(u8*)65536);
-z32(Qd+1232);
-wp(Qd+1264,(u8*)65536);
-z40(Qd+1272);
-wp(Qd+1312,(u8*)65536);
-z32(Qd+1320);
-wp(Qd+1352,(u8*)65536);
-z16(Qd+1360);
-wp(Qd+1376,(u8*)65536);
-z48(Qd+1384);
-w8(Qd+1432,qq);
-z40(Qd+1440);
-w8(Qd+1480,qq);
-z16(Qd+1488);
-wp(Qd+1504,(u8*)65536);
-wp(Qd+1544,(u8*)65536);
-wp(Qd+1584,(u8*)65536);
-wp(Qd+1624,(u8*)65536);
-wp(Qd+1736,(u8*)65536);
-wp(Qd+1776,(u8*)65536);
-wp(Qd+1824,(u8*)65536);
-wp(Qd+1864,(u8*)65536);
-wp(Qd+1888,(u8*)65536);
-w8(Qd+1944,pq);
-wp(Qd+1952,(u8*)65536);
-wp(Qd+1976,(u8*)65536);
-wp(Qd+2000,(u8*)65536);
-w4(Qd+2024,65);
-w4(Qd+2028,0);
-rq=port_rattle_alloc(16384,1);
-if((u8)(rq.f0&1)){
-sq=rq.f1;
-tq=(u8*)sq;
-zero_all(tq,16384);
-uq=r8(c+8224);
-if(uq!=0){
-vq=uq;
-wq=0;
-L87:w8(c+8224,vq-1);
-xq=r8(c+8200);
-yq=r8(c+8192);
-if(xq==yq){
-zq=port_read(0,tq,16384);
-if((i64)zq<0){
-port_rattle_errno();
-goto L88;}
-Aq=umin64(zq,16384);}
-else{
-Bq=c+(i64)yq;
-Cq=umin64(xq-yq,16384);
-if(sq-(u64)Bq<Cq)copy_bits_4f4(Bq,tq,Cq);
-else memmove(tq,Bq,Cq);
-Dq=r8(c+8192);
-w8(c+8192,umin64(Cq,r8(c+8200)-Dq)+Dq);
-Aq=Cq;}
-if(Aq==0){
-Eq=end_segment_767(Vd,Qd,Od,Pd,d);
-if(Eq.f0==0){
-Fq=rp(Pd);
-Gq=r8(Pd+8);
-if(Gq==0)goto L89;
-Hq=0;
-L90:Iq=Gq-Hq;
-Jq=port_write(1,Fq+(i64)Hq,Iq);
-if((i64)Jq<0)port_rattle_errno();
-else{
-Kq=umin64(Jq,Iq);
-if(Kq!=0){
-Lq=Kq+Hq;
-if(Lq>=Gq)goto L89;
-Hq=Lq;
-goto L90;}}
-w8(d+8,r8(d+8)+1);
-Mq=1;
-goto L91;
-L89:port_rattle_dealloc(tq);
-memcpy(Rd,Qd,2032);
-drop_097(Rd);
-if(r8(Pd+16)!=0)port_rattle_dealloc(Fq);
-if(r8(Od+24)!=0)port_rattle_dealloc(rp(Od+8));
-memcpy(Sd+6,Od+56,24);
-Nq=0;
-Oq=0;
-goto L92;}
-Mq=Eq.f1;
-L91:port_rattle_dealloc(tq);
-Pq=rp(Qd+1952);
-Qq=rp(Qd+1976);
-Rq=r8(Qd+1992);
-Sq=rp(Qd+2000);
-Tq=r8(Qd+2016);
-Uq=r8(Qd+1968);
-memcpy(Fd,Qd,1944);
-drop_816(Fd);
-if(Uq!=0)port_rattle_dealloc(Pq);
-if(Rq!=0)port_rattle_dealloc(Qq);
-if(Tq!=0)port_rattle_dealloc(Sq);
-if(r8(Pd+16)!=0)port_rattle_dealloc(rp(Pd));
-if(r8(Od+24)!=0)port_rattle_dealloc(rp(Od+8));
-z24(Sd+6);
-Nq=1;
-Oq=Mq;
-goto L92;}
-Vq=wq;
-Wq=0;
-L93:Xq=tq+(i64)Wq;
-z16(Kd);
-first_segment_4a3(Kd,*Od,Xq,Aq-Wq,Vq);
-Yq=r8(Kd);
-if(Yq==0)goto L94;
-Zq=0;
-L95:ar=Xq+(i64)Zq;
-br=Yq-Zq;
-z48(Jd);
-cr=r8(Od+16);
-dr=cr==0;
-er=r16(Od+32);
-if(dr&&er==0){
-if(Od[50]&1){
-pass_6c7(Jd,Od,ar,br);
-fr=r16(Jd);
-gr=r8(Jd+16);
-hr=Jd[24]&1;
-goto L96;}
-ir=*Od;
-jr=Od[48];
-if(br==0)kr=0;
-else{
-lr=Od[49];
-mr=ir+49;
-nr=ir==2;
-or=0;
-L97:pr=ar+or;
-if(*pr==95){
-if(or==0){
-switch(jr){
-case 0:qr=ir;
-goto L98;
-case 1:if(nr){
-switch(lr){
-case 46:case 36:rr=1;
-sr=49;
-goto L99;
-default:break;}}
-break;
-case 2:if(nr){
-switch(lr){
-case 46:case 36:rr=1;
-sr=49;
-goto L99;
-default:break;}}
-break;
-default:NEVER;
-}}
-else{
-tr=*((u8*)t_e4d8+pr[-1]);
-if(mr>tr){
-if(tr<=(ir==0?48:49)){
-vr=0;
-wr=0;
-xr=or;
-goto L100;}
-ur=place_in_stretch_597(ir,ar,or,jr);
-vr=ur.f1;
-wr=ur.f0;
-xr=or;
-goto L100;}}}
-yr=or+1;
-zr=br-yr;
-if(zr<16)Ar=0;
-else{
-Br=ar+(i64)yr;
-Cr=cttz(v16_eq(v16_at(Br),splat(95)),16);
-if((zr<32)|(Cr<16))Ar=Cr;
-else{
-Dr=cttz(v16_eq(v16_at(Br+16),splat(95)),16);
-if(Dr<16)Ar=Dr|16;
-else{
-if(zr<=95){
-Ar=32;
-goto L101;}
-Er=32;
-L102:Fr=Br+(i64)Er;
-if((((v16_eq(v16_at(Fr),splat(95))|v16_eq(v16_at(Fr+16),splat(95)))|v16_eq(v16_at(Fr+32),splat(95)))|v16_eq(v16_at(Fr+48),splat(95)))==0){
-Gr=Er+64;
-if(zr-Gr>63){
-Er=Gr;
-goto L102;}
-Ar=Gr;}
-else Ar=Er;}}}
-L101:Hr=Ar+yr;
-if(Hr<br){
-or=Hr;
-goto L97;}
-kr=Hr;}
-if(*((u8*)t_e4d8+*(ar+(i64)kr-1))>(ir==0?48:49)){
-Ir=place_in_stretch_597(ir,ar,kr,jr);
-Jr=Ir.f0;
-Kr=Ir.f1;}
-else{
-Jr=0;
-Kr=0;}
-if(kr==0){
-qr=ir;
-goto L98;}
-vr=Kr;
-wr=Jr;
-xr=kr;
-L100:w2(Od+48,(u16)((u32)vr<<8)|wr);
-Lr=xr;
-goto L103;}
-qr=*Od;
-L98:rr=qr==2;
-sr=qr==1?50:49;
-L99:if(sr>*((u8*)t_e4d8+*ar))goto L104;
-Mr=0;
-L105:if(br-Mr>15){
-Nr=v16_at(ar+Mr);
-Or=cttz(v16_ne(Nr,splat(36))&(v16_ne(Nr,splat(46))&(v16_ne(Nr,splat(95))&(v16_ult(v16_add(Nr,splat(198)),splat(246))&v16_ult(v16_add(v16_or(Nr,splat(32)),splat(133)),splat(230))))),16);
-Pr=Mr+Or;
-if(Or>=16){
-Mr=Pr;
-goto L105;}
-Qr=Pr;}
-else Qr=Mr;
-if(Qr>=br){
-Sr=Qr;
-goto L106;}
-Rr=Qr;
-L107:if(sr>*((u8*)t_e4d8+*(ar+Rr)))Sr=Rr;
-else{
-Tr=Rr+1;
-if(Tr!=br){
-Rr=Tr;
-goto L107;}
-Sr=br;}
-L106:if(Sr==0)goto L104;
-Ur=Sr;
-L108:if(Ur==0)Vr=er+Sr;
-else{
-Wr=Ur-1;
-if(*(ar+Wr)==46){
-Ur=Wr;
-goto L108;}
-if(er+Ur>65536-cr){
-Xr=rp(Od+8);
-Yr=r8(Pd+16);
-Zr=r8(Pd+8);
-if(cr>Yr-Zr){
-as=grow_amortized_68b(Pd,cr);
-if(!as)goto L109;
-bs=r8(Pd+16);
-cs=r8(Pd+8);}
-else{
-bs=Yr;
-cs=Zr;}
-ds=cs+cr;
-es=rp(Pd);
-z16(Pd+8);
-fs=es+(i64)cs;
-if((u64)fs-(u64)Xr<cr){
-copy_bits_4f4(Xr,fs,cr);
-w8(Pd+8,ds);
-w8(Pd+16,bs);}
-else{
-memmove(fs,Xr,cr);
-w8(Pd+8,ds);
-w8(Pd+16,bs);
-if(dr)goto L110;}
-w8(Od+16,0);
-L110:w16(Od+32,0);
-Od[50]=1;
-fr=er;
-gr=Sr;
-hr=1;
-goto L96;}
-gs=er;
-hs=cr+gs;
-if(hs>cr){
-is=r8(Od+24);
-if(is-cr<gs){
-js=grow_amortized_68b(Od+8,gs);
-if(!js)goto L109;
-ks=r8(Od+16);
-ls=ks+gs;
-ms=r8(Od+24);
-ns=ks;}
-else{
-ls=hs;
-ms=is;
-ns=cr;}
-if(ns<ls)memset(rp(Od+8)+(i64)ns,46,gs);
-w8(Od+16,ls);
-w8(Od+24,ms);
-os=ls;}
-else{
-if(cr>hs){
-w8(Od+16,hs);
-os=hs;}
-else os=cr;}
-ps=r8(Od+24);
-if(Ur>ps-os){
-qs=grow_amortized_68b(Od+8,Ur);
-if(!qs)goto L109;
-rs=r8(Od+24);
-ss=r8(Od+16);}
-else{
-rs=ps;
-ss=os;}
-ts=ss+Ur;
-us=rp(Od+8)+(i64)ss;
-if((u64)us-(u64)ar<Ur)copy_bits_4f4(ar,us,Ur);
-else memmove(us,ar,Ur);
-w8(Od+16,ts);
-w8(Od+24,rs);
-Vr=Sr-Ur;}
-w16(Od+32,Vr);
-vs=Sr;
-goto L111;
-L104:z48(Id);
-if(!rr){
-xs=rp(Od+8);
-if(cr-65537>=0xffffffffffff0001u){
-ys=*xs==95;
-if(cr==2){
-if(!ys)goto L112;
-switch(xs[1]){
-case 90:zs=0;
-goto L113;
-case 82:break;
-default:goto L112;
-}}
-else{
-if(!ys)goto L112;
-switch(xs[1]){
-case 90:zs=0;
-goto L113;
-case 82:break;
-case 95:switch(xs[2]){
-case 90:zs=0x100000000u;
-goto L113;
-case 82:zs=0x100000001u;
-goto L113;
-default:goto L112;
-}
-break;
-default:goto L112;
-}}
-zs=1;
-L113:As=zs>>32;
-z12(Hd);
-append_247(Hd,Vd,Qd,zs,As,xs+(i64)As,cr-As,Pd);
-if(*Hd!=0){
-if(Hd[4]!=4){
-Cs=r8(Pd+16);
-Ds=r8(Pd+8);
-if(cr>Cs-Ds){
-Es=grow_amortized_68b(Pd,cr);
-if(!Es)goto L114;
-Fs=r8(Pd+16);
-Gs=r8(Pd+8);}
-else{
-Fs=Cs;
-Gs=Ds;}
-Hs=Gs+cr;
-Is=rp(Pd)+(i64)Gs;
-if((u64)Is-(u64)xs<cr)copy_bits_4f4(xs,Is,cr);
-else memmove(Is,xs,cr);
-w8(Pd+8,Hs);
-w8(Pd+16,Fs);
-Bs=16;
-goto L115;}
-L114:goto L116;}
-Bs=8;
-L115:w8(Od+56,uadd64(r8(Od+56),1));
-Js=Od+56+(i64)Bs;
-w8(Js,uadd64(r8(Js),1));
-goto L117;}
-L112:Ks=r8(Pd+16);
-Ls=r8(Pd+8);
-if(cr>Ks-Ls){
-Ms=grow_amortized_68b(Pd,cr);
-if(!Ms)goto L116;
-Ns=r8(Pd+16);
-Os=r8(Pd+8);}
-else{
-Ns=Ks;
-Os=Ls;}
-Ps=Os+cr;
-Qs=rp(Pd);
-z16(Pd+8);
-Rs=Qs+(i64)Os;
-if((u64)Rs-(u64)xs<cr){
-copy_bits_4f4(xs,Rs,cr);
-w8(Pd+8,Ps);
-w8(Pd+16,Ns);}
-else{
-memmove(Rs,xs,cr);
-w8(Pd+8,Ps);
-w8(Pd+16,Ns);
-if(dr)goto L118;}
-L117:w8(Od+16,0);
-L118:z18(Od+32);
-ws=er;
-goto L119;}
-end_within_1cf(Id,Od,Vd,Qd,Pd);
-if(*Id==0){
-ws=r16(Id+16);
-goto L119;}
-L116:goto L109;
-L119:fr=ws;
-gr=1;
-hr=1;
-goto L96;
-L109:Ss=2;
-goto L120;
-L96:if(fr!=0){
-Ts=r8(Pd+8);
-Us=0;
-L121:if(r8(Pd+16)==Ts){
-Vs=grow_amortized_68b(Pd,1);
-if(!Vs){
-Ss=2;
-goto L120;}
-Ws=r8(Pd+8);}
-else Ws=Ts;
-Xs=rp(Pd);
-*(Xs+Ws)=46;
-Ys=Ws+1;
-w8(Pd+8,Ys);
-if(Ys<16384){
-Zs=Ys;
-goto L122;}
-at=0;
-L123:bt=Ys-at;
-ct=port_write(1,Xs+(i64)at,bt);
-if((i64)ct<0)port_rattle_errno();
-else{
-dt=umin64(ct,bt);
-if(dt!=0){
-et=dt+at;
-if(et<Ys){
-at=et;
-goto L123;}
-w8(Pd+8,0);
-Zs=0;
-goto L122;}}
-w8(d+8,r8(d+8)+1);
-Ss=1;
-goto L120;
-L122:ft=Us+1;
-if(ft<fr){
-Ts=Zs;
-Us=ft;
-goto L121;}}
-if(!hr){
-vs=gr;
-goto L111;}
-Lr=gr;
-L103:gt=r8(Pd+16);
-ht=r8(Pd+8);
-if(Lr>gt-ht){
-it=grow_amortized_68b(Pd,Lr);
-if(!it){
-Ss=2;
-goto L120;}
-jt=r8(Pd+16);
-kt=r8(Pd+8);}
-else{
-jt=gt;
-kt=ht;}
-lt=kt+Lr;
-mt=rp(Pd);
-nt=mt+(i64)kt;
-if((u64)nt-(u64)ar<Lr)copy_bits_4f4(ar,nt,Lr);
-else memmove(nt,ar,Lr);
-w8(Pd+8,lt);
-w8(Pd+16,jt);
-if(lt<16384){
-vs=Lr;
-goto L111;}
-ot=0;
-L124:pt=lt-ot;
-qt=port_write(1,mt+(i64)ot,pt);
-if((i64)qt<0)port_rattle_errno();
-else{
-rt=umin64(qt,pt);
-if(rt!=0){
-st=rt+ot;
-if(st<lt){
-ot=st;
-goto L124;}
-w8(Pd+8,0);
-vs=Lr;
-goto L111;}}
-w8(d+8,r8(d+8)+1);
-Ss=1;
-goto L120;
-L111:tt=vs+Zq;
-if(tt<Yq){
-Zq=tt;
-goto L95;}
-L94:ut=Kd[9];
-if(Kd[8]&1){
-vt=end_segment_767(Vd,Qd,Od,Pd,d);
-if(vt.f0!=0){
-Ss=vt.f1;
-goto L120;}}
-wt=Yq+Wq;
-if(wt<Aq){
-Vq=ut;
-Wq=wt;
-goto L93;}
-xt=r8(Od+16);
-if(xt-65537>=0xffffffffffff0001u){
-yt=rp(Od+8);
-zt=*yt==95;
-if(xt==2){
-if(!zt)goto L125;
-switch(yt[1]){
-case 90:At=0;
-goto L126;
-case 82:break;
-default:goto L125;
-}}
-else{
-if(!zt)goto L125;
-switch(yt[1]){
-case 90:At=0;
-goto L126;
-case 82:break;
-case 95:switch(yt[2]){
-case 90:At=0x100000000u;
-goto L126;
-case 82:At=0x100000001u;
-goto L126;
-default:goto L125;
-}
-break;
-default:goto L125;
-}}
-At=1;
-L126:Bt=At>>32;
-read_ahead_34b(Qd,At,yt+(i64)Bt,xt-Bt);}
-L125:Ct=rp(Pd);
-Dt=r8(Pd+8);
-if(Dt==0)goto L127;
-Et=0;
-L128:Ft=Dt-Et;
-Gt=port_write(1,Ct+(i64)Et,Ft);
-if((i64)Gt<0)port_rattle_errno();
-else{
-Ht=umin64(Gt,Ft);
-if(Ht!=0){
-It=Ht+Et;
-if(It<Dt){
-Et=It;
-goto L128;}
-w8(Pd+8,0);
-goto L127;}}
-w8(d+8,r8(d+8)+1);
-Jt=1;
-goto L129;
-L127:Kt=r8(c+8224);
-if(Kt==0)goto L88;
-vq=Kt;
-wq=ut;
-goto L87;
-L120:Jt=Ss;
-L129:port_rattle_dealloc(tq);
-Lt=rp(Qd+1952);
-Mt=rp(Qd+1976);
-Nt=r8(Qd+1992);
-Ot=rp(Qd+2000);
-Pt=r8(Qd+2016);
-Qt=r8(Qd+1968);
-memcpy(Gd,Qd,1944);
-drop_816(Gd);
-if(Qt!=0)port_rattle_dealloc(Lt);
-if(Nt!=0)port_rattle_dealloc(Mt);
-if(Pt!=0)port_rattle_dealloc(Ot);
-if(r8(Pd+16)!=0)port_rattle_dealloc(rp(Pd));
-if(r8(Od+24)!=0)port_rattle_dealloc(rp(Od+8));
-z24(Sd+6);
-Nq=1;
-Oq=Jt;
-goto L92;}
-L88:w8(c+8216,r8(c+8216)+1);
-port_rattle_dealloc(tq);
-Rt=rp(Qd+1952);
-St=rp(Qd+1976);
-Tt=r8(Qd+1992);
-Ut=rp(Qd+2000);
-Vt=r8(Qd+2016);
-Wt=r8(Qd+1968);
-memcpy(Ld,Qd,1944);
-drop_816(Ld);
-if(Wt!=0)port_rattle_dealloc(Rt);
-if(Tt!=0)port_rattle_dealloc(St);
-if(Vt!=0)port_rattle_dealloc(Ut);
-if(r8(Pd+16)!=0)port_rattle_dealloc(rp(Pd));
-if(r8(Od+24)!=0)port_rattle_dealloc(rp(Od+8));
-memcpy(Sd+6,Nd+6,24);
-Nq=1;
-Oq=0;}
-else{
-Xt=rp(Qd+1952);
-Yt=rp(Qd+1976);
-Zt=r8(Qd+1992);
-au=rp(Qd+2000);
-bu=r8(Qd+2016);
-cu=r8(Qd+1968);
-memcpy(Md,Qd,1944);
-drop_816(Md);
-if(cu!=0)port_rattle_dealloc(Xt);
-if(Zt!=0)port_rattle_dealloc(Yt);
-if(bu!=0)port_rattle_dealloc(au);
-if(r8(Pd+16)!=0)port_rattle_dealloc(rp(Pd));
-if(r8(Od+24)!=0)port_rattle_dealloc(rp(Od+8));
-z24(Sd+6);
-Nq=1;
-Oq=2;}
-L92:memcpy(Td+6,Sd+6,24);
-memcpy(Ud+6,Td+6,24);
-memcpy(Wd+6,Ud+6,24);
-du=Nq;
-eu=Oq;}
-else{
-fu=((u64)Ri<<32)|Qi;
-z30(Dd);
-w8(Ed,fu);
-Ed[8]=Si&1;
-Ed[9]=0;
-w2(Ed+10,0);
-z30(Cd);
-z30(Bd);
-z30(mb);
-zero_all(pb,2152);
-z24(qb);
-z16(rb);
-z32(sb);
-z16(tb);
-z32(ub);
-z80(vb);
-z16(wb);
-z40(xb);
-z16(yb);
-z16(zb);
-z16(Ab);
-z16(Bb);
-z16(Cb);
-z48(Db);
-z32(Eb);
-z32(Fb);
-z104(Gb);
-z40(Hb);
-z16(Ib);
-z32(Jb);
-z24(Kb);
-z16(Lb);
-z32(Mb);
-z16(Nb);
-z24(Ob);
-z16(Pb);
-z16(Qb);
-z40(Rb);
-z16(Sb);
-z16(Tb);
-z16(Ub);
-z16(Vb);
-z16(Wb);
-z48(Xb);
-z32(Yb);
-z40(Zb);
-z32(ac);
-z16(bc);
-z48(cc);
-z40(dc);
-z16(ec);
-z32(fc);
-z32(gc);
-z32(hc);
-z104(ic);
-z32(jc);
-z40(kc);
-z32(lc);
-z16(mc);
-z48(nc);
-z32(oc);
-z16(pc);
-z16(qc);
-z16(rc);
-z24(sc);
-z16(tc);
-z32(uc);
-z16(vc);
-z32(wc);
-z80(xc);
-z16(yc);
-z40(zc);
-z16(Ac);
-z16(Bc);
-z16(Cc);
-z16(Dc);
-z16(Ec);
-z48(Fc);
-z32(Gc);
-z32(Hc);
-z104(Ic);
-z40(Jc);
-z16(Kc);
-z32(Lc);
-z24(Mc);
-z16(Nc);
-z32(Oc);
-z16(Pc);
-z24(Qc);
-z16(Rc);
-z16(Sc);
-z40(Tc);
-z16(Uc);
-z16(Vc);
-z16(Wc);
-z16(Xc);
-z16(Yc);
-z48(Zc);
-z32(ad);
-z40(bd);
-z32(cd);
-z16(dd);
-z48(ed);
-z40(fd);
-z16(gd);
-z32(hd);
-z32(id);
-z32(jd);
-z104(kd);
-z32(ld);
-z40(md);
-z32(nd);
-z16(od);
-z48(pd);
-z32(qd);
-z16(sd);
-z16(td);
-z16(ud);
-zero_all(vd,2152);
-zero_all(xd,2152);
-zero_all(yd,2152);
-zero_all(zd,2152);
-zero_all(Ad,2152);
-*nb=Ti;
-z7(nb+1);
-wp(nb+8,(u8*)65536);
-z64(nb+16);
-wp(ob,(u8*)65536);
-z16(ob+8);
-gu=(u64)(u8*)65536;
-z32(db);
-z40(eb);
-z32(fb);
-z16(gb);
-z48(hb);
-z32(ib);
-z16(jb);
-z16(kb);
-z16(lb);
-z24(ka);
-z16(la);
-z32(ma);
-z16(na);
-z32(oa);
-z80(pa);
-z16(qa);
-z40(ra);
-z16(sa);
-z16(ta);
-z16(ua);
-z16(va);
-z16(wa);
-z48(xa);
-z32(ya);
-z32(za);
-z104(Aa);
-z40(Ba);
-z16(Ca);
-z32(Da);
-z24(Ea);
-z16(Fa);
-z32(Ga);
-z16(Ha);
-z24(Ia);
-z16(Ja);
-z16(Ka);
-z40(La);
-z16(Ma);
-z16(Na);
-z16(Oa);
-z16(Pa);
-z16(Qa);
-z48(Ra);
-z32(Sa);
-z40(Ta);
-z32(Ua);
-z16(Va);
-z48(Wa);
-z40(Xa);
-z16(Ya);
-z32(Za);
-z32(ab);
-z32(bb);
-z104(cb);
-memcpy(i,ka,24);
-memcpy(j,la,16);
-memcpy(k,ma,32);
-memcpy(l,na,16);
-memcpy(m,oa,32);
-memcpy(n,pa,80);
-memcpy(o,qa,16);
-memcpy(p,ra,40);
-memcpy(q,sa,16);
-memcpy(r,ta,16);
-memcpy(s,ua,16);
-memcpy(t,va,16);
-memcpy(u,wa,16);
-memcpy(v,xa,48);
-memcpy(w,ya,32);
-memcpy(x,za,32);
-memcpy(y,Aa,104);
-memcpy(z,Ba,40);
-memcpy(A,Ca,16);
-memcpy(B,Da,32);
-memcpy(C,Ea,24);
-memcpy(D,Fa,16);
-memcpy(E,Ga,32);
-memcpy(F,Ha,16);
-memcpy(G,Ia,24);
-memcpy(H,Ja,16);
-memcpy(I,Ka,16);
-memcpy(J,La,40);
-memcpy(K,Ma,16);
-memcpy(L,Na,16);
-memcpy(M,Oa,16);
-memcpy(N,Pa,16);
-memcpy(O,Qa,16);
-memcpy(P,Ra,48);
-memcpy(Q,Sa,32);
-memcpy(R,Ta,40);
-memcpy(S,Ua,32);
-memcpy(T,Va,16);
-memcpy(U,Wa,48);
-memcpy(V,Xa,40);
-memcpy(W,Ya,16);
-memcpy(X,Za,32);
-memcpy(Y,ab,32);
-memcpy(Z,bb,32);
-memcpy(aa,cb,104);
-memcpy(ba,db,32);
-memcpy(ca,eb,40);
-memcpy(da,fb,32);
-memcpy(ea,gb,16);
-memcpy(fa,hb,48);
-memcpy(ga,ib,32);
-memcpy(ha,jb,16);
-memcpy(ia,kb,16);
-memcpy(ja,lb,16);
-hu=r4(Ed+8);
-memcpy(sc,i,24);
-memcpy(tc,j,16);
-memcpy(uc,k,32);
-memcpy(vc,l,16);
-memcpy(wc,m,32);
-memcpy(xc,n,80);
-memcpy(yc,o,16);
-memcpy(zc,p,40);
-memcpy(Ac,q,16);
-memcpy(Bc,r,16);
-memcpy(Cc,s,16);
-memcpy(Dc,t,16);
-memcpy(Ec,u,16);
-memcpy(Fc,v,48);
-memcpy(Gc,w,32);
-memcpy(Hc,x,32);
-memcpy(Ic,y,104);
-memcpy(Jc,z,40);
-memcpy(Kc,A,16);
-memcpy(Lc,B,32);
-memcpy(Mc,C,24);
-memcpy(Nc,D,16);
-memcpy(Oc,E,32);
-memcpy(Pc,F,16);
-memcpy(Qc,G,24);
-memcpy(Rc,H,16);
-memcpy(Sc,I,16);
-memcpy(Tc,J,40);
-memcpy(Uc,K,16);
-memcpy(Vc,L,16);
-memcpy(Wc,M,16);
-memcpy(Xc,N,16);
-memcpy(Yc,O,16);
-memcpy(Zc,P,48);
-memcpy(ad,Q,32);
-memcpy(bd,R,40);
-memcpy(cd,S,32);
-memcpy(dd,T,16);
-memcpy(ed,U,48);
-memcpy(fd,V,40);
-memcpy(gd,W,16);
-memcpy(hd,X,32);
-memcpy(id,Y,32);
-memcpy(jd,Z,32);
-memcpy(kd,aa,104);
-memcpy(ld,ba,32);
-memcpy(md,ca,40);
-memcpy(nd,da,32);
-memcpy(od,ea,16);
-memcpy(pd,fa,48);
-memcpy(qd,ga,32);
-memcpy(sd,ha,16);
-memcpy(td,ia,16);
-memcpy(ud,ja,16);
-memcpy(qb,sc,24);
-memcpy(rb,tc,16);
-memcpy(sb,uc,32);
-memcpy(tb,vc,16);
-memcpy(ub,wc,32);
-memcpy(vb,xc,80);
-memcpy(wb,yc,16);
-memcpy(xb,zc,40);
-memcpy(yb,Ac,16);
-memcpy(zb,Bc,16);
-memcpy(Ab,Cc,16);
-memcpy(Bb,Dc,16);
-memcpy(Cb,Ec,16);
-memcpy(Db,Fc,48);
-memcpy(Eb,Gc,32);
-memcpy(Fb,Hc,32);
-memcpy(Gb,Ic,104);
-memcpy(Hb,Jc,40);
-memcpy(Ib,Kc,16);
-memcpy(Jb,Lc,32);
-memcpy(Kb,Mc,24);
-memcpy(Lb,Nc,16);
-memcpy(Mb,Oc,32);
-memcpy(Nb,Pc,16);
-memcpy(Ob,Qc,24);
-memcpy(Pb,Rc,16);
-memcpy(Qb,Sc,16);
-memcpy(Rb,Tc,40);
-memcpy(Sb,Uc,16);
-memcpy(Tb,Vc,16);
-memcpy(Ub,Wc,16);
-memcpy(Vb,Xc,16);
-memcpy(Wb,Yc,16);
-memcpy(Xb,Zc,48);
-memcpy(Yb,ad,32);
-memcpy(Zb,bd,40);
-memcpy(ac,cd,32);
-memcpy(bc,dd,16);
-memcpy(cc,ed,48);
-memcpy(dc,fd,40);
-memcpy(ec,gd,16);
-memcpy(fc,hd,32);
-memcpy(gc,id,32);
-memcpy(hc,jd,32);
-memcpy(ic,kd,104);
-memcpy(jc,ld,32);
-memcpy(kc,md,40);
-memcpy(lc,nd,32);
-memcpy(mc,od,16);
-memcpy(nc,pd,48);
-memcpy(oc,qd,32);
-memcpy(pc,sd,16);
-memcpy(qc,td,16);
-memcpy(rc,ud,16);
-wp(pb,(u8*)65536);
-memcpy(pb+8,qb,24);
-wp(pb+32,(u8*)65536);
-memcpy(pb+40,rb,16);
-wp(pb+56,(u8*)65536);
-memcpy(pb+64,sb,32);
-wp(pb+96,(u8*)65536);
-memcpy(pb+104,tb,16);
-wp(pb+120,(u8*)65536);
-memcpy(pb+128,ub,32);
-wp(pb+160,(u8*)65536);
-memcpy(pb+168,vb,80);
-wp(pb+248,(u8*)65536);
-memcpy(pb+256,wb,16);
-wp(pb+272,(u8*)65536);
-memcpy(pb+280,xb,40);
-wp(pb+320,(u8*)65536);
-memcpy(pb+328,yb,16);
-wp(pb+344,(u8*)65536);
-memcpy(pb+352,zb,16);
-wp(pb+368,(u8*)65536);
-memcpy(pb+376,Ab,16);
-wp(pb+392,(u8*)65536);
-memcpy(pb+400,Bb,16);
-wp(pb+416,(u8*)65536);
-memcpy(pb+424,Cb,16);
-wp(pb+440,(u8*)65536);
-memcpy(pb+448,Db,48);
-wp(pb+496,(u8*)65536);
-memcpy(pb+504,Eb,32);
-wp(pb+536,(u8*)65536);
-memcpy(pb+544,Fb,32);
-wp(pb+576,(u8*)65536);
-memcpy(pb+584,Gb,104);
-w8(pb+688,gu);
-memcpy(pb+696,Hb,40);
-w8(pb+736,gu);
-memcpy(pb+744,Ib,16);
-wp(pb+760,(u8*)65536);
-memcpy(pb+768,Jb,32);
-wp(pb+800,(u8*)65536);
-memcpy(pb+808,Kb,24);
-wp(pb+832,(u8*)65536);
-memcpy(pb+840,Lb,16);
-wp(pb+856,(u8*)65536);
-memcpy(pb+864,Mb,32);
-wp(pb+896,(u8*)65536);
-memcpy(pb+904,Nb,16);
-wp(pb+920,(u8*)65536);
-memcpy(pb+928,Ob,24);
-wp(pb+952,(u8*)65536);
-memcpy(pb+960,Pb,16);
-wp(pb+976,(u8*)65536);
-memcpy(pb+984,Qb,16);
-wp(pb+1000,(u8*)65536);
-memcpy(pb+1008,Rb,40);
-wp(pb+1048,(u8*)65536);
-memcpy(pb+1056,Sb,16);
-wp(pb+1072,(u8*)65536);
-memcpy(pb+1080,Tb,16);
-wp(pb+1096,(u8*)65536);
-memcpy(pb+1104,Ub,16);
-wp(pb+1120,(u8*)65536);
-memcpy(pb+1128,Vb,16);
-wp(pb+1144,(u8*)65536);
-memcpy(pb+1152,Wb,16);
-wp(pb+1168,(u8*)65536);
-memcpy(pb+1176,Xb,48);
-wp(pb+1224,(u8*)65536);
-memcpy(pb+1232,Yb,32);
-wp(pb+1264,(u8*)65536);
-memcpy(pb+1272,Zb,40);
-wp(pb+1312,(u8*)65536);
-memcpy(pb+1320,ac,32);
-wp(pb+1352,(u8*)65536);
-memcpy(pb+1360,bc,16);
-wp(pb+1376,(u8*)65536);
-memcpy(pb+1384,cc,48);
-w8(pb+1432,gu);
-memcpy(pb+1440,dc,40);
-w8(pb+1480,gu);
-memcpy(pb+1488,ec,16);
-wp(pb+1504,(u8*)65536);
-memcpy(pb+1512,fc,32);
-wp(pb+1544,(u8*)65536);
-memcpy(pb+1552,gc,32);
-wp(pb+1584,(u8*)65536);
-memcpy(pb+1592,hc,32);
-wp(pb+1624,(u8*)65536);
-memcpy(pb+1632,ic,104);
-wp(pb+1736,(u8*)65536);
-memcpy(pb+1744,jc,32);
-wp(pb+1776,(u8*)65536);
-memcpy(pb+1784,kc,40);
-wp(pb+1824,(u8*)65536);
-memcpy(pb+1832,lc,32);
-wp(pb+1864,(u8*)65536);
-memcpy(pb+1872,mc,16);
-wp(pb+1888,(u8*)65536);
-memcpy(pb+1896,nc,48);
-wp(pb+1944,(u8*)65536);
-memcpy(pb+1952,oc,32);
-wp(pb+1984,(u8*)65536);
-memcpy(pb+1992,pc,16);
-wp(pb+2008,(u8*)65536);
-memcpy(pb+2016,qc,16);
-wp(pb+2032,(u8*)65536);
-memcpy(pb+2040,rc,16);
-w8(pb+2056,fu);
-w8(pb+2064,hu);
-wp(pb+2072,(u8*)65536);
-z16(pb+2080);
-wp(pb+2096,(u8*)65536);
-z16(pb+2104);
-wp(pb+2120,(u8*)65536);
-z16(pb+2128);
-w4(pb+2144,65);
-w4(pb+2148,0);
-iu=port_rattle_alloc(16384,1);
-if((u8)(iu.f0&1)){
-ju=iu.f1;
-ku=(u8*)ju;
-zero_all(ku,16384);
-lu=r8(c+8224);
-if(lu!=0){
-nu=(u8*)65536;
-ou=lu;
-pu=0;
-L130:w8(c+8224,ou-1);
-qu=r8(c+8200);
-ru=r8(c+8192);
-if(qu==ru){
-su=port_read(0,ku,16384);
-if((i64)su<0){
-port_rattle_errno();
-mu=nu;
-goto L131;}
-tu=umin64(su,16384);}
-else{
-uu=c+(i64)ru;
-vu=umin64(qu-ru,16384);
-if(ju-(u64)uu<vu)copy_bits_4f4(uu,ku,vu);
-else memmove(ku,uu,vu);
-wu=r8(c+8192);
-w8(c+8192,umin64(vu,r8(c+8200)-wu)+wu);
-tu=vu;}
-if(tu==0){
-xu=end_segment_013(Ed,pb,nb,ob,d);
-if(xu.f0==0){
-yu=rp(ob);
-zu=r8(ob+8);
-if(zu==0)goto L132;
-Au=0;
-L133:Bu=zu-Au;
-Cu=port_write(1,yu+(i64)Au,Bu);
-if((i64)Cu<0)port_rattle_errno();
-else{
-Du=umin64(Cu,Bu);
-if(Du!=0){
-Eu=Du+Au;
-if(Eu>=zu)goto L132;
-Au=Eu;
-goto L133;}}
-w8(d+8,r8(d+8)+1);
-Fu=1;
-goto L134;
-L132:port_rattle_dealloc(ku);
-memcpy(Ad,pb,2152);
-drop_b01(Ad);
-if(r8(ob+16)!=0)port_rattle_dealloc(yu);
-if(r8(nb+24)!=0)port_rattle_dealloc(rp(nb+8));
-memcpy(Bd+6,nb+56,24);
-Gu=0;
-Hu=0;
-goto L135;}
-Fu=xu.f1;
-L134:port_rattle_dealloc(ku);
-memcpy(zd,pb,2152);
-drop_b01(zd);
-if(r8(ob+16)!=0)port_rattle_dealloc(rp(ob));
-if(r8(nb+24)!=0)port_rattle_dealloc(rp(nb+8));
-z24(Bd+6);
-Gu=1;
-Hu=Fu;
-goto L135;}
-Iu=pu;
-Ju=0;
-L136:Ku=ku+(i64)Ju;
-z16(h);
-first_segment_4a3(h,*nb,Ku,tu-Ju,Iu);
-Lu=r8(h);
-if(Lu==0)goto L137;
-Mu=0;
-L138:Nu=Ku+(i64)Mu;
-Ou=Lu-Mu;
-z48(g);
-Pu=r8(nb+16);
-Qu=Pu==0;
-Ru=r16(nb+32);
-if(Qu&&Ru==0){
-if(nb[50]&1){
-pass_6c7(g,nb,Nu,Ou);
-Su=r16(g);
-Tu=r8(g+16);
-Uu=g[24]&1;
-goto L139;}
-Vu=*nb;
-Wu=nb[48];
-if(Ou==0)Xu=0;
-else{
-Yu=nb[49];
-Zu=Vu+49;
-av=Vu==2;
-bv=0;
-L140:cv=Nu+bv;
-if(*cv==95){
-if(bv==0){
-switch(Wu){
-case 0:dv=Vu;
-goto L141;
-case 1:if(av){
-switch(Yu){
-case 46:case 36:ev=1;
-fv=49;
-goto L142;
-default:break;}}
-break;
-case 2:if(av){
-switch(Yu){
-case 46:case 36:ev=1;
-fv=49;
-goto L142;
-default:break;}}
-break;
-default:NEVER;
-}}
-else{
-gv=*((u8*)t_e4d8+cv[-1]);
-if(Zu>gv){
-if(gv<=(Vu==0?48:49)){
-iv=0;
-jv=0;
-kv=bv;
-goto L143;}
-hv=place_in_stretch_597(Vu,Nu,bv,Wu);
-iv=hv.f1;
-jv=hv.f0;
-kv=bv;
-goto L143;}}}
-lv=bv+1;
-mv=Ou-lv;
-if(mv<16)nv=0;
-else{
-ov=Nu+(i64)lv;
-pv=cttz(v16_eq(v16_at(ov),splat(95)),16);
-if((mv<32)|(pv<16))nv=pv;
-else{
-qv=cttz(v16_eq(v16_at(ov+16),splat(95)),16);
-if(qv<16)nv=qv|16;
-else{
-if(mv<=95){
-nv=32;
-goto L144;}
-rv=32;
-L145:sv=ov+(i64)rv;
-if((((v16_eq(v16_at(sv),splat(95))|v16_eq(v16_at(sv+16),splat(95)))|v16_eq(v16_at(sv+32),splat(95)))|v16_eq(v16_at(sv+48),splat(95)))==0){
-tv=rv+64;
-if(mv-tv>63){
-rv=tv;
-goto L145;}
-nv=tv;}
-else nv=rv;}}}
-L144:uv=nv+lv;
-if(uv<Ou){
-bv=uv;
-goto L140;}
-Xu=uv;}
-if(*((u8*)t_e4d8+*(Nu+(i64)Xu-1))>(Vu==0?48:49)){
-vv=place_in_stretch_597(Vu,Nu,Xu,Wu);
-wv=vv.f0;
-xv=vv.f1;}
-else{
-wv=0;
-xv=0;}
-if(Xu==0){
-dv=Vu;
-goto L141;}
-iv=xv;
-jv=wv;
-kv=Xu;
-L143:w2(nb+48,(u16)((u32)iv<<8)|jv);
-yv=kv;
-goto L146;}
-dv=*nb;
-L141:ev=dv==2;
-fv=dv==1?50:49;
-L142:if(fv>*((u8*)t_e4d8+*Nu))goto L147;
-zv=0;
-L148:if(Ou-zv>15){
-Av=v16_at(Nu+zv);
-Bv=cttz(v16_ne(Av,splat(36))&(v16_ne(Av,splat(46))&(v16_ne(Av,splat(95))&(v16_ult(v16_add(Av,splat(198)),splat(246))&v16_ult(v16_add(v16_or(Av,splat(32)),splat(133)),splat(230))))),16);
-Cv=zv+Bv;
-if(Bv>=16){
-zv=Cv;
-goto L148;}
-Dv=Cv;}
-else Dv=zv;
-if(Dv>=Ou){
-Fv=Dv;
-goto L149;}
-Ev=Dv;
-L150:if(fv>*((u8*)t_e4d8+*(Nu+Ev)))Fv=Ev;
-else{
-Gv=Ev+1;
-if(Gv!=Ou){
-Ev=Gv;
-goto L150;}
-Fv=Ou;}
-L149:if(Fv==0)goto L147;
-Hv=Fv;
-L151:if(Hv==0)Iv=Ru+Fv;
-else{
-Jv=Hv-1;
-if(*(Nu+Jv)==46){
-Hv=Jv;
-goto L151;}
-if(Ru+Hv>65536-Pu){
-Kv=rp(nb+8);
-Lv=r8(ob+16);
-Mv=r8(ob+8);
-if(Pu>Lv-Mv){
-Nv=grow_amortized_68b(ob,Pu);
-if(!Nv)goto L152;
-Ov=r8(ob+16);
-Pv=r8(ob+8);}
-else{
-Ov=Lv;
-Pv=Mv;}
-Qv=Pv+Pu;
-Rv=rp(ob);
-z16(ob+8);
-Sv=Rv+(i64)Pv;
-if((u64)Sv-(u64)Kv<Pu){
-copy_bits_4f4(Kv,Sv,Pu);
-w8(ob+8,Qv);
-w8(ob+16,Ov);}
-else{
-memmove(Sv,Kv,Pu);
-w8(ob+8,Qv);
-w8(ob+16,Ov);
-if(Qu)goto L153;}
-w8(nb+16,0);
-L153:w16(nb+32,0);
-nb[50]=1;
-Su=Ru;
-Tu=Fv;
-Uu=1;
-goto L139;}
-Tv=Ru;
-Uv=Pu+Tv;
-if(Uv>Pu){
-Vv=r8(nb+24);
-if(Vv-Pu<Tv){
-Wv=grow_amortized_68b(nb+8,Tv);
-if(!Wv)goto L152;
-Xv=r8(nb+16);
-Yv=Xv+Tv;
-Zv=r8(nb+24);
-aw=Xv;}
-else{
-Yv=Uv;
-Zv=Vv;
-aw=Pu;}
-if(aw<Yv)memset(rp(nb+8)+(i64)aw,46,Tv);
-w8(nb+16,Yv);
-w8(nb+24,Zv);
-bw=Yv;}
-else{
-if(Pu>Uv){
-w8(nb+16,Uv);
-bw=Uv;}
-else bw=Pu;}
-cw=r8(nb+24);
-if(Hv>cw-bw){
-dw=grow_amortized_68b(nb+8,Hv);
-if(!dw)goto L152;
-ew=r8(nb+24);
-fw=r8(nb+16);}
-else{
-ew=cw;
-fw=bw;}
-gw=fw+Hv;
-hw=rp(nb+8)+(i64)fw;
-if((u64)hw-(u64)Nu<Hv)copy_bits_4f4(Nu,hw,Hv);
-else memmove(hw,Nu,Hv);
-w8(nb+16,gw);
-w8(nb+24,ew);
-Iv=Fv-Hv;}
-w16(nb+32,Iv);
-iw=Fv;
-goto L154;
-L147:z48(f);
-if(!ev){
-kw=rp(nb+8);
-if(Pu-65537>=0xffffffffffff0001u){
-lw=*kw==95;
-if(Pu==2){
-if(!lw)goto L155;
-switch(kw[1]){
-case 90:mw=0;
-goto L156;
-case 82:break;
-default:goto L155;
-}}
-else{
-if(!lw)goto L155;
-switch(kw[1]){
-case 90:mw=0;
-goto L156;
-case 82:break;
-case 95:switch(kw[2]){
-case 90:mw=0x100000000u;
-goto L156;
-case 82:mw=0x100000001u;
-goto L156;
-default:goto L155;
-}
-break;
-default:goto L155;
-}}
-mw=1;
-L156:nw=mw>>32;
-z12(e);
-append_014(e,Ed,pb,mw,nw,kw+(i64)nw,Pu-nw,ob);
-if(*e!=0){
-if(e[4]!=4){
-pw=r8(ob+16);
-qw=r8(ob+8);
-if(Pu>pw-qw){
-rw=grow_amortized_68b(ob,Pu);
-if(!rw)goto L157;
-sw=r8(ob+16);
-tw=r8(ob+8);}
-else{
-sw=pw;
-tw=qw;}
-uw=tw+Pu;
-vw=rp(ob)+(i64)tw;
-if((u64)vw-(u64)kw<Pu)copy_bits_4f4(kw,vw,Pu);
-else memmove(vw,kw,Pu);
-w8(ob+8,uw);
-w8(ob+16,sw);
-ow=16;
-goto L158;}
-L157:goto L159;}
-ow=8;
-L158:w8(nb+56,uadd64(r8(nb+56),1));
-ww=nb+56+(i64)ow;
-w8(ww,uadd64(r8(ww),1));
-goto L160;}
-L155:xw=r8(ob+16);
-yw=r8(ob+8);
-if(Pu>xw-yw){
-zw=grow_amortized_68b(ob,Pu);
-if(!zw)goto L159;
-Aw=r8(ob+16);
-Bw=r8(ob+8);}
-else{
-Aw=xw;
-Bw=yw;}
-Cw=Bw+Pu;
-Dw=rp(ob);
-z16(ob+8);
-Ew=Dw+(i64)Bw;
-if((u64)Ew-(u64)kw<Pu){
-copy_bits_4f4(kw,Ew,Pu);
-w8(ob+8,Cw);
-w8(ob+16,Aw);}
-else{
-memmove(Ew,kw,Pu);
-w8(ob+8,Cw);
-w8(ob+16,Aw);
-if(Qu)goto L161;}
-L160:w8(nb+16,0);
-L161:z18(nb+32);
-jw=Ru;
-goto L162;}
-end_within_666(f,nb,Ed,pb,ob);
-if(*f==0){
-jw=r16(f+16);
-goto L162;}
-L159:goto L152;
-L162:Su=jw;
-Tu=1;
-Uu=1;
-goto L139;
-L152:Fw=2;
-goto L163;
-L139:if(Su!=0){
-Gw=r8(ob+8);
-Hw=0;
-L164:if(r8(ob+16)==Gw){
-Iw=grow_amortized_68b(ob,1);
-if(!Iw){
-Fw=2;
-goto L163;}
-Jw=r8(ob+8);}
-else Jw=Gw;
-Kw=rp(ob);
-*(Kw+Jw)=46;
-Lw=Jw+1;
-w8(ob+8,Lw);
-if(Lw<16384){
-Mw=Lw;
-goto L165;}
-Nw=0;
-L166:Ow=Lw-Nw;
-Pw=port_write(1,Kw+(i64)Nw,Ow);
-if((i64)Pw<0)port_rattle_errno();
-else{
-Qw=umin64(Pw,Ow);
-if(Qw!=0){
-Rw=Qw+Nw;
-if(Rw<Lw){
-Nw=Rw;
-goto L166;}
-w8(ob+8,0);
-Mw=0;
-goto L165;}}
-w8(d+8,r8(d+8)+1);
-Fw=1;
-goto L163;
-L165:Sw=Hw+1;
-if(Sw<Su){
-Gw=Mw;
-Hw=Sw;
-goto L164;}}
-if(!Uu){
-iw=Tu;
+if((u64)Bo-(u64)nm<Ym)copy_bits_4f4(nm,Bo,Ym);
+else memmove(Bo,nm,Ym);
+w8(k+8,zo);
+w8(k+16,xo);
+if(zo<16384){
+In=Ym;
 goto L154;}
-yv=Tu;
-L146:Tw=r8(ob+16);
-Uw=r8(ob+8);
-if(yv>Tw-Uw){
-Vw=grow_amortized_68b(ob,yv);
-if(!Vw){
-Fw=2;
-goto L163;}
-Ww=r8(ob+16);
-Xw=r8(ob+8);}
+Co=0;
+L167:Do=zo-Co;
+Eo=port_write(1,Ao+(i64)Co,Do);
+if((i64)Eo<0)port_rattle_errno();
 else{
-Ww=Tw;
-Xw=Uw;}
-Yw=Xw+yv;
-Zw=rp(ob);
-ax=Zw+(i64)Xw;
-if((u64)ax-(u64)Nu<yv)copy_bits_4f4(Nu,ax,yv);
-else memmove(ax,Nu,yv);
-w8(ob+8,Yw);
-w8(ob+16,Ww);
-if(Yw<16384){
-iw=yv;
-goto L154;}
-bx=0;
-L167:cx=Yw-bx;
-dx=port_write(1,Zw+(i64)bx,cx);
-if((i64)dx<0)port_rattle_errno();
-else{
-ex=umin64(dx,cx);
-if(ex!=0){
-fx=ex+bx;
-if(fx<Yw){
-bx=fx;
+Fo=umin64(Eo,Do);
+if(Fo!=0){
+Go=Fo+Co;
+if(Go<zo){
+Co=Go;
 goto L167;}
-w8(ob+8,0);
-iw=yv;
+w8(k+8,0);
+In=Ym;
 goto L154;}}
 w8(d+8,r8(d+8)+1);
-Fw=1;
+go=1;
 goto L163;
-L154:gx=iw+Mu;
-if(gx<Lu){
-Mu=gx;
+L154:Ho=In+mm;
+if(Ho<lm){
+mm=Ho;
 goto L138;}
-L137:hx=h[9];
+L137:Io=h[9];
 if(h[8]&1){
-ix=end_segment_013(Ed,pb,nb,ob,d);
-if(ix.f0!=0){
-Fw=ix.f1;
+Jo=end_segment_013(u,l,j,k,d);
+if(Jo.f0!=0){
+go=Jo.f1;
 goto L163;}}
-jx=Lu+Ju;
-if(jx<tu){
-Iu=hx;
-Ju=jx;
+Ko=lm+jm;
+if(Ko<Tl){
+im=Io;
+jm=Ko;
 goto L136;}
-kx=r8(nb+16);
-if(kx-65537>=0xffffffffffff0001u){
-lx=rp(nb+8);
-mx=*lx==95;
-if(kx==2){
-if(!mx)goto L168;
-switch(lx[1]){
-case 90:nx=0;
+Lo=r8(j+16);
+if(Lo-65537>=0xffffffffffff0001u){
+Mo=rp(j+8);
+No=*Mo==95;
+if(Lo==2){
+if(!No)goto L168;
+switch(Mo[1]){
+case 90:Oo=0;
 goto L169;
 case 82:break;
 default:goto L168;
 }}
 else{
-if(!mx)goto L168;
-switch(lx[1]){
-case 90:nx=0;
+if(!No)goto L168;
+switch(Mo[1]){
+case 90:Oo=0;
 goto L169;
 case 82:break;
-case 95:switch(lx[2]){
-case 90:nx=0x100000000u;
+case 95:switch(Mo[2]){
+case 90:Oo=0x100000000u;
 goto L169;
-case 82:nx=0x100000001u;
+case 82:Oo=0x100000001u;
 goto L169;
 default:goto L168;
 }
 break;
 default:goto L168;
 }}
-nx=1;
-L169:ox=nx>>32;
-read_ahead_34b(pb,nx,lx+(i64)ox,kx-ox);}
-L168:px=rp(ob);
-qx=r8(ob+8);
-if(qx==0)goto L170;
-rx=0;
-L171:sx=qx-rx;
-tx=port_write(1,px+(i64)rx,sx);
-if((i64)tx<0)port_rattle_errno();
+Oo=1;
+L169:Po=Oo>>32;
+read_ahead_34b(l,Oo,Mo+(i64)Po,Lo-Po);}
+L168:Qo=rp(k);
+Ro=r8(k+8);
+if(Ro==0)goto L170;
+So=0;
+L171:To=Ro-So;
+Uo=port_write(1,Qo+(i64)So,To);
+if((i64)Uo<0)port_rattle_errno();
 else{
-ux=umin64(tx,sx);
-if(ux!=0){
-vx=ux+rx;
-if(vx<qx){
-rx=vx;
+Vo=umin64(Uo,To);
+if(Vo!=0){
+Wo=Vo+So;
+if(Wo<Ro){
+So=Wo;
 goto L171;}
-w8(ob+8,0);
+w8(k+8,0);
 goto L170;}}
 w8(d+8,r8(d+8)+1);
-wx=1;
+Xo=1;
 goto L172;
-L170:xx=r8(c+8224);
-if(xx==0){
-mu=px;
-goto L131;}
-nu=px;
-ou=xx;
-pu=hx;
+L170:Yo=r8(c+8224);
+if(Yo==0)goto L131;
+Ol=Yo;
+Pl=Io;
 goto L130;
-L163:wx=Fw;
-L172:port_rattle_dealloc(ku);
-memcpy(yd,pb,2152);
-drop_b01(yd);
-if(r8(ob+16)!=0)port_rattle_dealloc(rp(ob));
-if(r8(nb+24)!=0)port_rattle_dealloc(rp(nb+8));
-z24(Bd+6);
-Gu=1;
-Hu=wx;
+L163:Xo=go;
+L172:port_rattle_dealloc(Ml);
+memcpy(o,l,1752);
+drop_b01(o);
+if(r8(k+16)!=0)port_rattle_dealloc(rp(k));
+if(r8(j+24)!=0)port_rattle_dealloc(rp(j+8));
+z24(r+6);
+gm=1;
+hm=Xo;
 goto L135;}
-mu=(u8*)65536;
 L131:w8(c+8216,r8(c+8216)+1);
-port_rattle_dealloc(ku);
-memcpy(xd,pb,2152);
-drop_b01(xd);
-if(r8(ob+16)!=0)port_rattle_dealloc(mu);
-if(r8(nb+24)!=0)port_rattle_dealloc(rp(nb+8));
-memcpy(Bd+6,mb+6,24);
-Gu=1;
-Hu=0;}
+port_rattle_dealloc(Ml);
+memcpy(n,l,1752);
+drop_b01(n);
+if(r8(k+16)!=0)port_rattle_dealloc(rp(k));
+if(r8(j+24)!=0)port_rattle_dealloc(rp(j+8));
+memcpy(r+6,i+6,24);
+gm=1;
+hm=0;}
 else{
-memcpy(vd,pb,2152);
-drop_b01(vd);
-z24(Bd+6);
-Gu=1;
-Hu=2;}
-L135:memcpy(Cd+6,Bd+6,24);
-memcpy(Dd+6,Cd+6,24);
-memcpy(Wd+6,Dd+6,24);
-du=Gu;
-eu=Hu;}
-memcpy(Pi+6,Wd+6,24);
-mq=du;
-nq=eu;
-oq=Pi+6;}
-*a=mq;
-a[1]=nq;
-memcpy(a+8,oq,24);
+memcpy(m,l,1752);
+drop_b01(m);
+if(r8(k+16)!=0)port_rattle_dealloc(rp(k));
+if(r8(j+24)!=0)port_rattle_dealloc(rp(j+8));
+z24(r+6);
+gm=1;
+hm=2;}
+L135:memcpy(s+6,r+6,24);
+memcpy(t+6,s+6,24);
+memcpy(M+6,t+6,24);
+Fl=gm;
+Gl=hm;}
+memcpy(wa+6,M+6,24);
+Oh=Fl;
+Ph=Gl;
+Qh=wa+6;}
+*a=Oh;
+a[1]=Ph;
+memcpy(a+8,Qh,24);
 return;
 }
 
@@ -159338,14 +157811,14 @@ u32 k,H;
 u8 l,m,r,v,B,G;
 u64 n,o,p,q,s,t,u,w,x,y,z,A,C,D,E,F;
 z12(j);
-k=r4(c+2024);
+k=r4(c+1624);
 if((k<64)|((k&7)==0)){
 append_looked_2f6(j,b,c,d,e,f,g,h);
 *a=*j;
 x4(a+4,j[4]);
 x4(a+8,r4(j+8));}
 else{
-w4(c+2024,k+1);
+w4(c+1624,k+1);
 z12(i);
 if(g>=21){
 if(f[2]==78){
@@ -159437,8 +157910,8 @@ u64 p,v,w,B,C,E,F,J,M,P,Q,R,S,U,V,W,Y,Z,aa,ba,ca,ea,fa,ga,ha,ja,ra,sa,ta,ua,wa,x
 u8 *q,*s,*x,*A,*K,*L,*ia,*ka;
 u16 r,la;
 u8 y,D,G,N,O,T,X,da,ma,pa,qa,va,za,Fa,Ka;
-if(r4(b)==r4(c+1944)){
-if(b[4]==c[1948]){
+if(r4(b)==r4(c+1544)){
+if(b[4]==c[1548]){
 m=mark_of_209(f,g);
 if(m.f0==1){
 n=m.f1;
@@ -159446,20 +157919,20 @@ wp(i,f);
 w8(i+8,g);
 o=n&16383;
 p=(u64)o<<2;
-if(r8(c+1960)>o){
-q=rp(c+1952)+(i64)p;
+if(r8(c+1560)>o){
+q=rp(c+1552)+(i64)p;
 if(r2(q)==(u16)(n>>16)){
 r=r2(q+2);
-if(r8(c+1984)>r){
-s=rp(c+1976)+(i64)((u64)r*20);
+if(r8(c+1584)>r){
+s=rp(c+1576)+(i64)((u64)r*20);
 if(r4(s+4)==e){
 if(*s==d){
 t=r4(s+8);
 u=r4(s+12);
 v=(u64)u+t;
-w=r8(c+2008);
+w=r8(c+1608);
 if(w>=v){
-x=rp(c+2000);
+x=rp(c+1600);
 wp(j,x+(i64)t);
 w8(j+8,u);
 y=ne_2ae(j,i);
@@ -159490,7 +157963,7 @@ else memmove(L,A,z);
 wp(h,K);
 w8(h+8,J);
 w8(h+16,E);
-w4(c+2024,0);
+w4(c+1624,0);
 G=0;
 H=0;
 I=0;
@@ -159566,32 +158039,32 @@ else{
 if(S==3||(g-ha<2||*(f+(i64)ha)!=46))goto L6;
 fa=S;
 ga=ha;}
-L7:append_named_70e(k,c+1944,c,d,f,g,fa,ga,h);
+L7:append_named_70e(k,c+1544,c,d,f,g,fa,ga,h);
 goto L8;}}
-L6:append_e62(k,c+1944,c,d,f,g,h);
+L6:append_e62(k,c+1544,c,d,f,g,h);
 L8:if(*k==0){
-if(r8(c+1960)>o){
+if(r8(c+1560)>o){
 ia=rp(h)+(i64)M;
 ja=r8(h+8)-M;
-ka=rp(c+1952)+(i64)p;
+ka=rp(c+1552)+(i64)p;
 la=n>>16;
 ma=r2(ka)==la;
 w2(ka,la);
-if(ma)w4(c+2024,0);
+if(ma)w4(c+1624,0);
 else{
-na=r4(c+2024);
-w4(c+2024,na+1);
+na=r4(c+1624);
+w4(c+1624,na+1);
 if(na>=64){
 G=0;
 H=0;
 I=0;
 goto L2;}}
-keep_946(c+1952,o,d,e,f,g,ia,ja);
+keep_946(c+1552,o,d,e,f,g,ia,ja);
 G=0;
 H=0;
 I=0;}
 else{
-begin_639(c+1952);
+begin_639(c+1552);
 G=0;
 H=0;
 I=0;}}
@@ -160525,16 +158998,16 @@ L2:return;
 /* symfilt_command::sym_recent++recent++RecentLists+Destruct::drop */
 static void drop_097(u8* a)
 {
-A16 u8 b[1944];
+A16 u8 b[1544];
 u8 *c,*d,*f;
 u64 e,g,h;
-c=qp(a+1952);
-d=qp(a+1976);
-e=q8(a+1992);
-f=qp(a+2000);
-g=q8(a+2016);
-h=q8(a+1968);
-memcpy(b,a,1944);
+c=qp(a+1552);
+d=qp(a+1576);
+e=q8(a+1592);
+f=qp(a+1600);
+g=q8(a+1616);
+h=q8(a+1568);
+memcpy(b,a,1544);
 drop_816(b);
 if(h!=0)port_rattle_dealloc(c);
 if(e!=0)port_rattle_dealloc(d);
@@ -160826,10 +159299,10 @@ A16 u8 i[12];
 u32 j,l;
 u8 k;
 z12(i);
-j=r4(c+2144);
+j=r4(c+1744);
 if((j<64)|((j&7)==0))append_looked_adf(i,b,c,d,e,f,g,h);
 else{
-w4(c+2144,j+1);
+w4(c+1744,j+1);
 append_3f1(i,b,c,d,f,g,h);}
 k=i[4];
 l=r4(i+8);
@@ -160850,10 +159323,10 @@ u8 *q,*s,*x,*A,*K,*L,*N,*P;
 u16 r,Q;
 u8 y,D,G,R;
 z12(l);
-if(b[8]==c[2064]){
-if(b[9]==c[2065]){
-if(r4(b)==r4(c+2056)){
-if(b[4]==c[2060]){
+if(b[8]==c[1664]){
+if(b[9]==c[1665]){
+if(r4(b)==r4(c+1656)){
+if(b[4]==c[1660]){
 m=mark_of_209(f,g);
 if(m.f0==1){
 n=m.f1;
@@ -160862,20 +159335,20 @@ wp(i,f);
 w8(i+8,g);
 o=n&16383;
 p=(u64)o<<2;
-if(r8(c+2080)>o){
-q=rp(c+2072)+(i64)p;
+if(r8(c+1680)>o){
+q=rp(c+1672)+(i64)p;
 if(r2(q)==(u16)(n>>16)){
 r=r2(q+2);
-if(r8(c+2104)>r){
-s=rp(c+2096)+(i64)((u64)r*20);
+if(r8(c+1704)>r){
+s=rp(c+1696)+(i64)((u64)r*20);
 if(r4(s+4)==e){
 if(*s==d){
 t=r4(s+8);
 u=r4(s+12);
 v=(u64)u+t;
-w=r8(c+2128);
+w=r8(c+1728);
 if(w>=v){
-x=rp(c+2120);
+x=rp(c+1720);
 wp(j,x+(i64)t);
 w8(j+8,u);
 y=ne_2ae(j,i);
@@ -160906,36 +159379,36 @@ else memmove(L,A,z);
 wp(h,K);
 w8(h+8,J);
 w8(h+16,E);
-w4(c+2144,0);
+w4(c+1744,0);
 G=0;
 H=0;
 I=0;
 goto L2;}}}}}}}
 L1:M=r8(h+8);
-append_3f1(k,c+2056,c,d,f,g,h);
+append_3f1(k,c+1656,c,d,f,g,h);
 if(*k==0){
-if(r8(c+2080)>o){
+if(r8(c+1680)>o){
 N=rp(h)+(i64)M;
 O=r8(h+8)-M;
-P=rp(c+2072)+(i64)p;
+P=rp(c+1672)+(i64)p;
 Q=n>>16;
 R=r2(P)==Q;
 w2(P,Q);
-if(R)w4(c+2144,0);
+if(R)w4(c+1744,0);
 else{
-S=r4(c+2144);
-w4(c+2144,S+1);
+S=r4(c+1744);
+w4(c+1744,S+1);
 if(S>=64){
 G=0;
 H=0;
 I=0;
 goto L2;}}
-keep_946(c+2072,o,d,e,f,g,N,O);
+keep_946(c+1672,o,d,e,f,g,N,O);
 G=0;
 H=0;
 I=0;}
 else{
-begin_639(c+2072);
+begin_639(c+1672);
 G=0;
 H=0;
 I=0;}}
@@ -161350,24 +159823,24 @@ return da;
 /* symfilt_command::sym_recent++recent++RecentLists+Destruct::drop */
 static void drop_b01(u8* a)
 {
-A16 u8 b[1944];
+A16 u8 b[1544];
 u8 *c,*d,*f,*h,*j,*l,*n;
 u64 e,g,i,k,m,o,p;
-c=qp(a+1944);
-d=qp(a+1984);
-e=q8(a+2000);
-f=qp(a+2008);
-g=q8(a+2024);
-h=qp(a+2032);
-i=q8(a+2048);
-j=qp(a+2072);
-k=q8(a+2088);
-l=qp(a+2096);
-m=q8(a+2112);
-n=qp(a+2120);
-o=q8(a+2136);
-p=q8(a+1960);
-memcpy(b,a,1944);
+c=qp(a+1544);
+d=qp(a+1584);
+e=q8(a+1600);
+f=qp(a+1608);
+g=q8(a+1624);
+h=qp(a+1632);
+i=q8(a+1648);
+j=qp(a+1672);
+k=q8(a+1688);
+l=qp(a+1696);
+m=q8(a+1712);
+n=qp(a+1720);
+o=q8(a+1736);
+p=q8(a+1560);
+memcpy(b,a,1544);
 drop_816(b);
 if(p!=0)port_rattle_dealloc(c);
 if(e!=0)port_rattle_dealloc(d);
@@ -161663,10 +160136,10 @@ A16 u8 i[12];
 u32 j,l;
 u8 k;
 z12(i);
-j=r4(c+2024);
+j=r4(c+1624);
 if((j<64)|((j&7)==0))append_looked_7fd(i,b,c,d,e,f,g,h);
 else{
-w4(c+2024,j+1);
+w4(c+1624,j+1);
 append_e62(i,b,c,d,f,g,h);}
 k=i[4];
 l=r4(i+8);
@@ -161687,8 +160160,8 @@ u8 *q,*s,*x,*A,*K,*L,*N,*P;
 u16 r,Q;
 u8 y,D,G,R;
 z12(l);
-if(r4(b)==r4(c+1944)){
-if(b[4]==c[1948]){
+if(r4(b)==r4(c+1544)){
+if(b[4]==c[1548]){
 m=mark_of_209(f,g);
 if(m.f0==1){
 n=m.f1;
@@ -161697,20 +160170,20 @@ wp(i,f);
 w8(i+8,g);
 o=n&16383;
 p=(u64)o<<2;
-if(r8(c+1960)>o){
-q=rp(c+1952)+(i64)p;
+if(r8(c+1560)>o){
+q=rp(c+1552)+(i64)p;
 if(r2(q)==(u16)(n>>16)){
 r=r2(q+2);
-if(r8(c+1984)>r){
-s=rp(c+1976)+(i64)((u64)r*20);
+if(r8(c+1584)>r){
+s=rp(c+1576)+(i64)((u64)r*20);
 if(r4(s+4)==e){
 if(*s==d){
 t=r4(s+8);
 u=r4(s+12);
 v=(u64)u+t;
-w=r8(c+2008);
+w=r8(c+1608);
 if(w>=v){
-x=rp(c+2000);
+x=rp(c+1600);
 wp(j,x+(i64)t);
 w8(j+8,u);
 y=ne_2ae(j,i);
@@ -161741,36 +160214,36 @@ else memmove(L,A,z);
 wp(h,K);
 w8(h+8,J);
 w8(h+16,E);
-w4(c+2024,0);
+w4(c+1624,0);
 G=0;
 H=0;
 I=0;
 goto L2;}}}}}}}
 L1:M=r8(h+8);
-append_e62(k,c+1944,c,d,f,g,h);
+append_e62(k,c+1544,c,d,f,g,h);
 if(*k==0){
-if(r8(c+1960)>o){
+if(r8(c+1560)>o){
 N=rp(h)+(i64)M;
 O=r8(h+8)-M;
-P=rp(c+1952)+(i64)p;
+P=rp(c+1552)+(i64)p;
 Q=n>>16;
 R=r2(P)==Q;
 w2(P,Q);
-if(R)w4(c+2024,0);
+if(R)w4(c+1624,0);
 else{
-S=r4(c+2024);
-w4(c+2024,S+1);
+S=r4(c+1624);
+w4(c+1624,S+1);
 if(S>=64){
 G=0;
 H=0;
 I=0;
 goto L2;}}
-keep_946(c+1952,o,d,e,f,g,N,O);
+keep_946(c+1552,o,d,e,f,g,N,O);
 G=0;
 H=0;
 I=0;}
 else{
-begin_639(c+1952);
+begin_639(c+1552);
 G=0;
 H=0;
 I=0;}}
@@ -162467,19 +160940,19 @@ u32 k,n;
 u64 l;
 u8 m,o,p;
 z12(j);
-k=r4(c+2144);
+k=r4(c+1744);
 if((k<64)|((k&7)==0)){
 append_looked_34c(j,b,c,d,e,f,g,h);
 *a=*j;
 x4(a+4,j[4]);
 x4(a+8,r4(j+8));}
 else{
-w4(c+2144,k+1);
+w4(c+1744,k+1);
 z12(i);
 l=r8(h+8);
 append_e62(i,b,c,d,f,g,h);
 if(*i==0){
-m=rewrite_43c(b,c+1944,d,f,g,l,h);
+m=rewrite_43c(b,c+1544,d,f,g,l,h);
 n=0;
 o=m<<2;
 p=m;}
@@ -162503,10 +160976,10 @@ u64 p,v,w,B,C,E,F,J,M,R,X;
 u8 *q,*s,*x,*A,*K,*L,*Q,*S;
 u16 r,T;
 u8 y,D,G,N,U,Y,Z,aa;
-if(b[8]==c[2064]){
-if(b[9]==c[2065]){
-if(r4(b)==r4(c+2056)){
-if(b[4]==c[2060]){
+if(b[8]==c[1664]){
+if(b[9]==c[1665]){
+if(r4(b)==r4(c+1656)){
+if(b[4]==c[1660]){
 m=mark_of_209(f,g);
 if(m.f0==1){
 n=m.f1;
@@ -162514,20 +160987,20 @@ wp(k,f);
 w8(k+8,g);
 o=n&16383;
 p=(u64)o<<2;
-if(r8(c+2080)>o){
-q=rp(c+2072)+(i64)p;
+if(r8(c+1680)>o){
+q=rp(c+1672)+(i64)p;
 if(r2(q)==(u16)(n>>16)){
 r=r2(q+2);
-if(r8(c+2104)>r){
-s=rp(c+2096)+(i64)((u64)r*20);
+if(r8(c+1704)>r){
+s=rp(c+1696)+(i64)((u64)r*20);
 if(r4(s+4)==e){
 if(*s==d){
 t=r4(s+8);
 u=r4(s+12);
 v=(u64)u+t;
-w=r8(c+2128);
+w=r8(c+1728);
 if(w>=v){
-x=rp(c+2120);
+x=rp(c+1720);
 wp(l,x+(i64)t);
 w8(l+8,u);
 y=ne_2ae(l,k);
@@ -162558,39 +161031,39 @@ else memmove(L,A,z);
 wp(h,K);
 w8(h+8,J);
 w8(h+16,E);
-w4(c+2144,0);
+w4(c+1744,0);
 G=0;
 H=0;
 I=0;
 goto L2;}}}}}}}
 L1:M=r8(h+8);
 z12(j);
-append_e62(j,c+2056,c,d,f,g,h);
+append_e62(j,c+1656,c,d,f,g,h);
 if(*j==0){
-N=rewrite_43c(c+2056,c+1944,d,f,g,M,h);
+N=rewrite_43c(c+1656,c+1544,d,f,g,M,h);
 if(!(N&1)){
-if(r8(c+2080)<=o){
-begin_639(c+2072);
+if(r8(c+1680)<=o){
+begin_639(c+1672);
 G=0;
 H=0;
 I=0;
 goto L2;}
 Q=rp(h)+(i64)M;
 R=r8(h+8)-M;
-S=rp(c+2072)+(i64)p;
+S=rp(c+1672)+(i64)p;
 T=n>>16;
 U=r2(S)==T;
 w2(S,T);
-if(U)w4(c+2144,0);
+if(U)w4(c+1744,0);
 else{
-V=r4(c+2144);
-w4(c+2144,V+1);
+V=r4(c+1744);
+w4(c+1744,V+1);
 if(V>=64){
 G=0;
 H=0;
 I=0;
 goto L2;}}
-keep_946(c+2072,o,d,e,f,g,Q,R);
+keep_946(c+1672,o,d,e,f,g,Q,R);
 G=0;
 H=0;
 I=0;
@@ -162611,7 +161084,7 @@ z12(i);
 X=r8(h+8);
 append_e62(i,b,c,d,f,g,h);
 if(*i==0){
-Y=rewrite_43c(b,c+1944,d,f,g,X,h);
+Y=rewrite_43c(b,c+1544,d,f,g,X,h);
 Z=Y;
 aa=Y<<2;
 ba=0;}
@@ -163022,3550 +161495,2833 @@ return da;
 /* symfilt_command::command::filter_in */
 static void filter_in_d80(u8* a,u8* b,u8* c,u8* d)
 {
-u8 i[24],j[16],k[32],l[16],m[32],n[80],o[16],p[40],q[16],r[16],s[16],t[16],u[16],v[48],w[32],x[32],y[104],z[40],A[16],B[32],C[24],D[16],E[32],F[16],G[24],H[16],I[16],J[40],K[16],L[16],M[16],N[16],O[16],P[48],Q[32],R[40],S[32],T[16],U[48],V[40],W[16],X[32],Y[32],Z[32],aa[104],ba[32],ca[40],da[32],ea[16],fa[48],ga[32],ha[16],ia[16],ja[16],mb[30],qb[24],rb[16],sb[32],tb[16],ub[32],vb[80],wb[16],xb[40],yb[16],zb[16],Ab[16],Bb[16],Cb[16],Db[48],Eb[32],Fb[32],Gb[104],Hb[40],Ib[16],Jb[32],Kb[24],Lb[16],Mb[32],Nb[16],Ob[24],Pb[16],Qb[16],Rb[40],Sb[16],Tb[16],Ub[16],Vb[16],Wb[16],Xb[48],Yb[32],Zb[40],ac[32],bc[16],cc[48],dc[40],ec[16],fc[32],gc[32],hc[32],ic[104],jc[32],kc[40],lc[32],mc[16],nc[48],oc[32],pc[16],qc[16],rc[16],sc[24],tc[16],uc[32],vc[16],wc[32],xc[80],yc[16],zc[40],Ac[16],Bc[16],Cc[16],Dc[16],Ec[16],Fc[48],Gc[32],Hc[32],Ic[104],Jc[40],Kc[16],Lc[32],Mc[24],Nc[16],Oc[32],Pc[16],Qc[24],Rc[16],Sc[16],Tc[40],Uc[16],Vc[16],Wc[16],Xc[16],Yc[16],Zc[48],ad[32],bd[40],cd[32],dd[16],ed[48],fd[40],gd[16],hd[32],id[32],jd[32],kd[104],ld[32],md[40],nd[32],od[16],pd[48],qd[32],sd[16],td[16],ud[16],Bd[30],Cd[30],Dd[30],Nd[30],Sd[30],Td[30],Ud[30],Wd[30],be[24],ce[16],de[32],ee[16],fe[32],ge[80],he[16],ie[40],je[16],ke[16],le[16],me[16],ne[16],oe[48],pe[32],qe[32],re[104],se[40],te[16],ue[32],ve[24],we[16],xe[32],ye[16],ze[24],Ae[16],Be[16],Ce[40],De[16],Ee[16],Fe[16],Ge[16],He[16],Ie[48],Je[32],Ke[40],Le[32],Me[16],Ne[48],Oe[40],Pe[16],Qe[32],Re[32],Se[32],Te[104],Ue[32],Ve[40],We[32],Xe[16],Ye[48],Ze[32],af[16],bf[16],cf[16],gg[30],kg[24],lg[16],mg[32],ng[16],og[32],pg[80],qg[16],rg[40],sg[16],tg[16],ug[16],vg[16],wg[16],xg[48],yg[32],zg[32],Ag[104],Bg[40],Cg[16],Dg[32],Eg[24],Fg[16],Gg[32],Hg[16],Ig[24],Jg[16],Kg[16],Lg[40],Mg[16],Ng[16],Og[16],Pg[16],Qg[16],Rg[48],Sg[32],Tg[40],Ug[32],Vg[16],Wg[48],Xg[40],Yg[16],Zg[32],ah[32],bh[32],ch[104],dh[32],eh[40],fh[32],gh[16],hh[48],ih[32],jh[16],kh[16],lh[16],mh[24],nh[16],oh[32],ph[16],qh[32],rh[80],sh[16],th[40],uh[16],vh[16],wh[16],xh[16],yh[16],zh[48],Ah[32],Bh[32],Ch[104],Dh[40],Eh[16],Fh[32],Gh[24],Hh[16],Ih[32],Jh[16],Kh[24],Lh[16],Mh[16],Nh[40],Oh[16],Ph[16],Qh[16],Rh[16],Sh[16],Th[48],Uh[32],Vh[40],Wh[32],Xh[16],Yh[48],Zh[40],ai[16],bi[32],ci[32],di[32],ei[104],fi[32],gi[40],hi[32],ii[16],ji[48],ki[32],li[16],mi[16],ni[16],ti[30],ui[30],vi[30],Fi[30],Ki[30],Li[30],Mi[30],Oi[30],Pi[30];
-A16 u8 e[12],f[48],g[48],h[16],ka[24],la[16],ma[32],na[16],oa[32],pa[80],qa[16],ra[40],sa[16],ta[16],ua[16],va[16],wa[16],xa[48],ya[32],za[32],Aa[104],Ba[40],Ca[16],Da[32],Ea[24],Fa[16],Ga[32],Ha[16],Ia[24],Ja[16],Ka[16],La[40],Ma[16],Na[16],Oa[16],Pa[16],Qa[16],Ra[48],Sa[32],Ta[40],Ua[32],Va[16],Wa[48],Xa[40],Ya[16],Za[32],ab[32],bb[32],cb[104],db[32],eb[40],fb[32],gb[16],hb[48],ib[32],jb[16],kb[16],lb[16],nb[80],ob[24],pb[2152],vd[2152],xd[2152],yd[2152],zd[2152],Ad[2152],Ed[12],Fd[1944],Gd[1944],Hd[12],Id[48],Jd[48],Kd[16],Ld[1944],Md[1944],Od[80],Pd[24],Qd[2032],Rd[2032],Vd[8],Xd[12],Yd[48],Zd[48],ae[16],df[24],ef[16],ff[32],gf[16],hf[32],jf[80],kf[16],lf[40],mf[16],nf[16],of[16],pf[16],qf[16],rf[48],sf[32],tf[32],uf[104],vf[40],wf[16],xf[32],yf[24],zf[16],Af[32],Bf[16],Cf[24],Df[16],Ef[16],Ff[40],Gf[16],Hf[16],If[16],Jf[16],Kf[16],Lf[48],Mf[32],Nf[40],Of[32],Pf[16],Qf[48],Rf[40],Sf[16],Tf[32],Uf[32],Vf[32],Wf[104],Xf[32],Yf[40],Zf[32],ag[16],bg[48],cg[32],dg[16],eg[16],fg[16],hg[80],ig[24],jg[2152],oi[2152],pi[2152],qi[2152],ri[2152],si[2152],wi[12],xi[1944],yi[1944],zi[12],Ai[48],Bi[48],Ci[16],Di[1944],Ei[1944],Gi[80],Hi[24],Ii[2032],Ji[2032],Ni[8];
-u32 Qi,Pm,hu;
-u8 Ri,Si,Ti,Ui,Vi,Wi,ej,uj,vj,wj,Dj,Lj,Pj,Qj,Rj,Tj,Uj,Vj,Yj,Zj,ak,bk,dk,ek,rk,sk,Ik,Rk,Yk,gl,ml,ul,Al,Dl,Ql,cm,hm,rm,Lm,Mm,Xm,nn,on,pn,qn,yn,Cn,Dn,En,Gn,Hn,In,Ln,Mn,Nn,On,Qn,Rn,fo,go,wo,Fo,Mo,Uo,ap,ip,pp,up,Jp,Vp,aq,kq,mq,nq,wq,Mq,Nq,Oq,Vq,dr,hr,ir,jr,lr,mr,nr,qr,rr,sr,tr,vr,wr,Jr,Kr,as,js,qs,ys,Es,Ms,Ss,Vs,it,ut,zt,Jt,du,eu,pu,Fu,Gu,Hu,Iu,Qu,Uu,Vu,Wu,Yu,Zu,av,dv,ev,fv,gv,iv,jv,wv,xv,Nv,Wv,dw,lw,rw,zw,Fw,Iw,Vw,hx,mx,wx;
-u64 Xi,Yi,aj,cj,dj,fj,gj,hj,ij,kj,lj,oj,pj,qj,rj,sj,tj,zj,Bj,Cj,Ej,Gj,Hj,Jj,Kj,Oj,Sj,Wj,fk,gk,hk,ik,mk,ok,pk,tk,uk,xk,yk,zk,Ak,Bk,Ck,Ek,Gk,Hk,Jk,Kk,Lk,Ok,Pk,Qk,Sk,Tk,Uk,Vk,Wk,Xk,Zk,al,bl,dl,hl,il,jl,kl,ll,nl,ol,pl,sl,tl,vl,wl,xl,Bl,El,Gl,Hl,Il,Jl,Kl,Ll,Ml,Ol,Pl,Rl,Sl,Tl,Wl,Xl,Yl,Zl,am,bm,em,fm,im,jm,lm,mm,nm,om,pm,qm,sm,vm,xm,ym,Bm,Dm,Em,Hm,Jm,Km,Nm,Om,Rm,Tm,Wm,Ym,Zm,an,bn,dn,en,hn,in,jn,kn,ln,mn,rn,tn,un,wn,xn,Bn,Fn,Jn,Sn,Tn,Un,Vn,Zn,bo,co,ho,io,lo,mo,no,oo,po,qo,so,uo,vo,xo,yo,zo,Co,Do,Eo,Go,Ho,Io,Jo,Ko,Lo,No,Oo,Po,Ro,Vo,Wo,Xo,Yo,Zo,bp,cp,dp,gp,hp,jp,kp,lp,sp,vp,zp,Ap,Bp,Cp,Dp,Ep,Fp,Hp,Ip,Kp,Lp,Mp,Pp,Qp,Rp,Sp,Tp,Up,Xp,Yp,bq,cq,eq,fq,gq,hq,iq,jq,lq,pq,qq,sq,uq,vq,xq,yq,zq,Aq,Cq,Dq,Gq,Hq,Iq,Jq,Kq,Lq,Rq,Tq,Uq,Wq,Yq,Zq,br,cr,gr,kr,or,xr,yr,zr,Ar,Er,Gr,Hr,Lr,Mr,Pr,Qr,Rr,Sr,Tr,Ur,Wr,Yr,Zr,bs,cs,ds,gs,hs,is,ks,ls,ms,ns,os,ps,rs,ss,ts,vs,zs,As,Bs,Cs,Ds,Fs,Gs,Hs,Ks,Ls,Ns,Os,Ps,Ts,Ws,Ys,Zs,at,bt,ct,dt,et,gt,ht,jt,kt,lt,ot,pt,qt,rt,st,tt,wt,xt,At,Bt,Dt,Et,Ft,Gt,Ht,It,Kt,Nt,Pt,Qt,Tt,Vt,Wt,Zt,bu,cu,fu,gu,ju,lu,ou,qu,ru,su,tu,vu,wu,zu,Au,Bu,Cu,Du,Eu,Ju,Lu,Mu,Ou,Pu,Tu,Xu,bv,kv,lv,mv,nv,rv,tv,uv,yv,zv,Cv,Dv,Ev,Fv,Gv,Hv,Jv,Lv,Mv,Ov,Pv,Qv,Tv,Uv,Vv,Xv,Yv,Zv,aw,bw,cw,ew,fw,gw,iw,mw,nw,ow,pw,qw,sw,tw,uw,xw,yw,Aw,Bw,Cw,Gw,Jw,Lw,Mw,Nw,Ow,Pw,Qw,Rw,Tw,Uw,Ww,Xw,Yw,bx,cx,dx,ex,fx,gx,jx,kx,nx,ox,qx,rx,sx,tx,ux,vx,xx;
-s_64_64 Zi,Qm,rq,iu;
-u8 *bj,*jj,*nj,*xj,*yj,*Aj,*Fj,*Ij,*Xj,*jk,*nk,*Fk,*Mk,*Nk,*cl,*fl,*ql,*rl,*yl,*zl,*Fl,*Ul,*Vl,*gm,*km,*tm,*um,*wm,*zm,*Am,*Cm,*Fm,*Gm,*Im,*Sm,*Um,*Vm,*cn,*gn,*sn,*vn,*Kn,*Wn,*ao,*to,*Ao,*Bo,*Qo,*To,*ep,*fp,*np,*op,*yp,*Np,*Op,*Zp,*dq,*oq,*tq,*Bq,*Fq,*Pq,*Qq,*Sq,*Xq,*ar,*pr,*Br,*Fr,*Xr,*es,*fs,*us,*xs,*Is,*Js,*Qs,*Rs,*Xs,*mt,*nt,*yt,*Ct,*Lt,*Mt,*Ot,*Rt,*St,*Ut,*Xt,*Yt,*au,*ku,*mu,*nu,*uu,*yu,*Ku,*Nu,*cv,*ov,*sv,*Kv,*Rv,*Sv,*hw,*kw,*vw,*ww,*Dw,*Ew,*Kw,*Zw,*ax,*lx,*px;
-s_8_8 mj,ck,qk,dm,fn,Pn,eo,Wp,Eq,ur,Ir,vt,xu,hv,vv,ix;
-u128 Mj,Nj,Dk,el,Cl,Nl,zn,An,ro,So,tp,Gp,er,fr,Vr,ws,Us,ft,Ru,Su,Iv,jw,Hw,Sw;
-u16 kk,lk,wk,Xn,Yn,ko,Cr,Dr,Or,pv,qv,Bv;
-v16 vk,jo,Nr,Av;
-Qi=q4(b);
-Ri=b[4];
-Si=b[6];
-Ti=b[7];
-Ui=b[5];
-Vi=b[9];
-z30(Pi);
-Wi=Ui==0;
-if(Vi&1){
-z30(Oi);
-if(Wi){
-z30(Mi);
-Xi=((u64)Ri<<32)|Qi;
-w8(Ni,Xi);
-z30(Li);
-z30(Ki);
-z30(Fi);
-zero_all(Ii+1352,680);
-zero_all(Ji,2032);
-*Gi=Ti;
-z7(Gi+1);
-wp(Gi+8,(u8*)65536);
-z64(Gi+16);
-wp(Hi,(u8*)65536);
-z16(Hi+8);
-Yi=(u64)(u8*)65536;
-z40(Ii+1784);
-z32(Ii+1744);
-z32(Ii+1832);
-z16(Ii+1872);
-z48(Ii+1896);
-z16(Ii+1960);
-z16(Ii+1984);
-z16(Ii+2008);
-wp(Ii,(u8*)65536);
-z24(Ii+8);
-wp(Ii+32,(u8*)65536);
-z16(Ii+40);
-wp(Ii+56,(u8*)65536);
-z32(Ii+64);
-wp(Ii+96,(u8*)65536);
-z16(Ii+104);
-wp(Ii+120,(u8*)65536);
-z32(Ii+128);
-wp(Ii+160,(u8*)65536);
-z80(Ii+168);
-wp(Ii+248,(u8*)65536);
-z16(Ii+256);
-wp(Ii+272,(u8*)65536);
-z40(Ii+280);
-wp(Ii+320,(u8*)65536);
-z16(Ii+328);
-wp(Ii+344,(u8*)65536);
-z16(Ii+352);
-wp(Ii+368,(u8*)65536);
-z16(Ii+376);
-wp(Ii+392,(u8*)65536);
-z16(Ii+400);
-wp(Ii+416,(u8*)65536);
-z16(Ii+424);
-wp(Ii+440,(u8*)65536);
-z48(Ii+448);
-wp(Ii+496,(u8*)65536);
-z32(Ii+504);
-wp(Ii+536,(u8*)65536);
-z32(Ii+544);
-wp(Ii+576,(u8*)65536);
-z104(Ii+584);
-w8(Ii+688,Yi);
-z40(Ii+696);
-w8(Ii+736,Yi);
-z16(Ii+744);
-wp(Ii+760,(u8*)65536);
-z32(Ii+768);
-wp(Ii+800,(u8*)65536);
-z24(Ii+808);
-wp(Ii+832,(u8*)65536);
-z16(Ii+840);
-wp(Ii+856,(u8*)65536);
-z32(Ii+864);
-wp(Ii+896,(u8*)65536);
-z16(Ii+904);
-wp(Ii+920,(u8*)65536);
-z24(Ii+928);
-wp(Ii+952,(u8*)65536);
-z16(Ii+960);
-wp(Ii+976,(u8*)65536);
-z16(Ii+984);
-wp(Ii+1000,(u8*)65536);
-z40(Ii+1008);
-wp(Ii+1048,(u8*)65536);
-z16(Ii+1056);
-wp(Ii+1072,(u8*)65536);
-z16(Ii+1080);
-wp(Ii+1096,(u8*)65536);
-z16(Ii+1104);
-wp(Ii+1120,(u8*)65536);
-z16(Ii+1128);
-wp(Ii+1144,(u8*)65536);
-z16(Ii+1152);
-wp(Ii+1168,(u8*)65536);
-z48(Ii+1176);
-wp(Ii+1224,(u8*)65536);
-z32(Ii+1232);
-wp(Ii+1264,(u8*)65536);
-z40(Ii+1272);
-wp(Ii+1312,(u8*)65536);
-z32(Ii+1320);
-wp(Ii+1352,(u8*)65536);
-z16(Ii+1360);
-wp(Ii+1376,(u8*)65536);
-z48(Ii+1384);
-w8(Ii+1432,Yi);
-z40(Ii+1440);
-w8(Ii+1480,Yi);
-z16(Ii+1488);
-wp(Ii+1504,(u8*)65536);
-z32(Ii+1512);
-wp(Ii+1544,(u8*)65536);
-z32(Ii+1552);
-wp(Ii+1584,(u8*)65536);
-z32(Ii+1592);
-wp(Ii+1624,(u8*)65536);
-z104(Ii+1632);
-wp(Ii+1736,(u8*)65536);
-wp(Ii+1776,(u8*)65536);
-wp(Ii+1824,(u8*)65536);
-wp(Ii+1864,(u8*)65536);
-wp(Ii+1888,(u8*)65536);
-w8(Ii+1944,Xi);
-wp(Ii+1952,(u8*)65536);
-wp(Ii+1976,(u8*)65536);
-wp(Ii+2000,(u8*)65536);
-w4(Ii+2024,65);
-w4(Ii+2028,0);
-Zi=port_rattle_alloc(16384,1);
-if((u8)(Zi.f0&1)){
-aj=Zi.f1;
-bj=(u8*)aj;
-zero_all(bj,16384);
-cj=r8(c+8224);
-if(cj!=0){
-dj=cj;
-ej=0;
-L1:w8(c+8224,dj-1);
-fj=r8(c+8200);
-gj=r8(c+8192);
-if(fj==gj){
-hj=port_read(0,bj,16384);
-if((i64)hj<0){
+u8 i[30],r[30],s[30],t[30],D[30],I[30],J[30],K[30],M[30],R[30],aa[30],ba[30],ca[30],ma[30],ra[30],sa[30],ta[30],va[30],wa[30];
+A16 u8 e[12],f[48],g[48],h[16],j[80],k[24],l[1752],m[1752],n[1752],o[1752],p[1752],q[1752],u[12],v[1544],w[1544],x[12],y[48],z[48],A[16],B[1544],C[1544],E[80],F[24],G[1632],H[1632],L[8],N[12],O[48],P[48],Q[16],S[80],T[24],U[1752],V[1752],W[1752],X[1752],Y[1752],Z[1752],da[12],ea[1544],fa[1544],ga[12],ha[48],ia[48],ja[16],ka[1544],la[1544],na[80],oa[24],pa[1632],qa[1632],ua[8];
+u32 xa;
+u8 ya,za,Aa,Ba,Ca,Da,La,bb,cb,db,kb,sb,wb,xb,yb,Ab,Bb,Cb,Fb,Gb,Hb,Ib,Kb,Lb,Yb,Zb,pc,yc,Fc,Nc,Tc,bd,hd,kd,zd,Ld,Qd,ae,ue,ve,we,Ee,Ue,Ve,We,Xe,ff,kf,lf,mf,of,pf,qf,tf,uf,vf,wf,yf,zf,Mf,Nf,dg,mg,tg,Bg,Hg,Pg,Vg,Yg,lh,xh,Ch,Mh,Oh,Ph,Yh,oi,pi,qi,xi,Fi,Ji,Ki,Li,Ni,Oi,Pi,Si,Ti,Ui,Vi,Xi,Yi,lj,mj,Cj,Lj,Sj,ak,gk,ok,uk,xk,Kk,Wk,bl,ll,Fl,Gl,Hl,Pl,fm,gm,hm,im,qm,um,vm,wm,ym,zm,Am,Dm,Em,Fm,Gm,Im,Jm,Wm,Xm,nn,wn,Dn,Ln,Rn,Zn,go,jo,wo,Io,No,Xo;
+u64 Ea,Fa,Ha,Ja,Ka,Ma,Na,Oa,Pa,Ra,Sa,Va,Wa,Xa,Ya,Za,ab,gb,ib,jb,lb,nb,ob,qb,rb,vb,zb,Db,Mb,Nb,Ob,Pb,Tb,Vb,Wb,ac,bc,ec,fc,gc,hc,ic,jc,lc,nc,oc,qc,rc,sc,vc,wc,xc,zc,Ac,Bc,Cc,Dc,Ec,Gc,Hc,Ic,Kc,Oc,Pc,Qc,Rc,Sc,Uc,Vc,Wc,Zc,ad,cd,dd,ed,id,ld,nd,od,pd,qd,sd,td,ud,xd,yd,Ad,Bd,Cd,Fd,Gd,Hd,Id,Jd,Kd,Nd,Od,Rd,Sd,Ud,Vd,Wd,Xd,Yd,Zd,be,ee,ge,he,ke,me,ne,qe,se,te,xe,ye,Ae,Ce,De,Fe,Ge,He,Ie,Ke,Le,Oe,Pe,Qe,Re,Se,Te,Ye,af,bf,df,ef,jf,nf,rf,Af,Bf,Cf,Df,Hf,Jf,Kf,Of,Pf,Sf,Tf,Uf,Vf,Wf,Xf,Zf,bg,cg,eg,fg,gg,jg,kg,lg,ng,og,pg,qg,rg,sg,ug,vg,wg,yg,Cg,Dg,Eg,Fg,Gg,Ig,Jg,Kg,Ng,Og,Qg,Rg,Sg,Wg,Zg,bh,ch,dh,eh,fh,gh,hh,jh,kh,mh,nh,oh,rh,sh,th,uh,vh,wh,zh,Ah,Dh,Eh,Gh,Hh,Ih,Jh,Kh,Lh,Nh,Rh,Sh,Uh,Wh,Xh,Zh,ai,bi,ci,ei,fi,ii,ji,ki,li,mi,ni,ti,vi,wi,yi,Ai,Bi,Di,Ei,Ii,Mi,Qi,Zi,aj,bj,cj,gj,ij,jj,nj,oj,rj,sj,tj,uj,vj,wj,yj,Aj,Bj,Dj,Ej,Fj,Ij,Jj,Kj,Mj,Nj,Oj,Pj,Qj,Rj,Tj,Uj,Vj,Xj,bk,ck,dk,ek,fk,hk,ik,jk,mk,nk,pk,qk,rk,vk,yk,Ak,Bk,Ck,Dk,Ek,Fk,Gk,Ik,Jk,Lk,Mk,Nk,Qk,Rk,Sk,Tk,Uk,Vk,Yk,Zk,cl,dl,fl,gl,hl,il,jl,kl,ml,pl,rl,sl,vl,xl,yl,Bl,Dl,El,Il,Jl,Ll,Nl,Ol,Ql,Rl,Sl,Tl,Vl,Wl,Zl,am,bm,cm,dm,em,jm,lm,mm,om,pm,tm,xm,Bm,Km,Lm,Mm,Nm,Rm,Tm,Um,Ym,Zm,cn,dn,en,fn,gn,hn,jn,ln,mn,on,pn,qn,tn,un,vn,xn,yn,zn,An,Bn,Cn,En,Fn,Gn,In,Mn,Nn,On,Pn,Qn,Sn,Tn,Un,Xn,Yn,ao,bo,co,ho,ko,mo,no,oo,po,qo,ro,so,uo,vo,xo,yo,zo,Co,Do,Eo,Fo,Go,Ho,Ko,Lo,Oo,Po,Ro,So,To,Uo,Vo,Wo,Yo;
+s_64_64 Ga,ze,Th,Kl;
+u8 *Ia,*Qa,*Ua,*eb,*fb,*hb,*mb,*pb,*Eb,*Qb,*Ub,*mc,*tc,*uc,*Jc,*Mc,*Xc,*Yc,*fd,*gd,*md,*Dd,*Ed,*Pd,*Td,*ce,*de,*fe,*ie,*je,*le,*oe,*pe,*re,*Be,*Je,*Ne,*Ze,*cf,*sf,*Ef,*If,*ag,*hg,*ig,*xg,*Ag,*Lg,*Mg,*Tg,*Ug,*ah,*ph,*qh,*Bh,*Fh,*Qh,*Vh,*di,*hi,*ri,*si,*ui,*zi,*Ci,*Ri,*dj,*hj,*zj,*Gj,*Hj,*Wj,*Zj,*kk,*lk,*sk,*tk,*zk,*Ok,*Pk,*al,*el,*nl,*ol,*ql,*tl,*ul,*wl,*zl,*Al,*Cl,*Ml,*Ul,*Yl,*km,*nm,*Cm,*Om,*Sm,*kn,*rn,*sn,*Hn,*Kn,*Vn,*Wn,*eo,*fo,*lo,*Ao,*Bo,*Mo,*Qo;
+s_8_8 Ta,Jb,Xb,Md,Me,xf,Lf,yh,gi,Wi,kj,Xk,Xl,Hm,Vm,Jo;
+u128 tb,ub,kc,Lc,jd,vd,gf,hf,Yf,zg,Xg,ih,Gi,Hi,xj,Yj,wk,Hk,rm,sm,in,Jn,io,to;
+u16 Rb,Sb,dc,Ff,Gf,Rf,ej,fj,qj,Pm,Qm,bn;
+v16 cc,Qf,pj,an;
+xa=q4(b);
+ya=b[4];
+za=b[6];
+Aa=b[7];
+Ba=b[5];
+Ca=b[9];
+z30(wa);
+Da=Ba==0;
+if(Ca&1){
+z30(va);
+if(Da){
+z30(ta);
+Ea=((u64)ya<<32)|xa;
+w8(ua,Ea);
+z30(sa);
+z30(ra);
+z30(ma);
+z128(pa+1504);
+zero_all(qa,1632);
+*na=Aa;
+z7(na+1);
+wp(na+8,(u8*)65536);
+z64(na+16);
+wp(oa,(u8*)65536);
+z16(oa+8);
+Fa=(u64)(u8*)65536;
+wp(pa,(u8*)65536);
+z24(pa+8);
+wp(pa+32,(u8*)65536);
+z16(pa+40);
+wp(pa+56,(u8*)65536);
+z32(pa+64);
+wp(pa+96,(u8*)65536);
+z16(pa+104);
+wp(pa+120,(u8*)65536);
+z32(pa+128);
+wp(pa+160,(u8*)65536);
+z80(pa+168);
+wp(pa+248,(u8*)65536);
+z16(pa+256);
+wp(pa+272,(u8*)65536);
+z40(pa+280);
+wp(pa+320,(u8*)65536);
+z16(pa+328);
+wp(pa+344,(u8*)65536);
+z16(pa+352);
+wp(pa+368,(u8*)65536);
+z16(pa+376);
+wp(pa+392,(u8*)65536);
+z16(pa+400);
+wp(pa+416,(u8*)65536);
+z16(pa+424);
+wp(pa+440,(u8*)65536);
+z48(pa+448);
+wp(pa+496,(u8*)65536);
+z32(pa+504);
+wp(pa+536,(u8*)65536);
+z32(pa+544);
+wp(pa+576,(u8*)65536);
+z104(pa+584);
+w8(pa+688,Fa);
+z40(pa+696);
+w8(pa+736,Fa);
+z16(pa+744);
+wp(pa+760,(u8*)65536);
+z32(pa+768);
+wp(pa+800,(u8*)65536);
+z24(pa+808);
+wp(pa+832,(u8*)65536);
+z16(pa+840);
+wp(pa+856,(u8*)65536);
+z32(pa+864);
+wp(pa+896,(u8*)65536);
+z16(pa+904);
+wp(pa+920,(u8*)65536);
+z24(pa+928);
+wp(pa+952,(u8*)65536);
+z16(pa+960);
+wp(pa+976,(u8*)65536);
+z16(pa+984);
+wp(pa+1000,(u8*)65536);
+z40(pa+1008);
+wp(pa+1048,(u8*)65536);
+z16(pa+1056);
+wp(pa+1072,(u8*)65536);
+z16(pa+1080);
+wp(pa+1096,(u8*)65536);
+z16(pa+1104);
+wp(pa+1120,(u8*)65536);
+z16(pa+1128);
+wp(pa+1144,(u8*)65536);
+z16(pa+1152);
+wp(pa+1168,(u8*)65536);
+z48(pa+1176);
+wp(pa+1224,(u8*)65536);
+z32(pa+1232);
+wp(pa+1264,(u8*)65536);
+z40(pa+1272);
+wp(pa+1312,(u8*)65536);
+z32(pa+1320);
+wp(pa+1352,(u8*)65536);
+z16(pa+1360);
+wp(pa+1376,(u8*)65536);
+z48(pa+1384);
+w8(pa+1432,Fa);
+z40(pa+1440);
+w8(pa+1480,Fa);
+z16(pa+1488);
+wp(pa+1504,(u8*)65536);
+z32(pa+1512);
+w8(pa+1544,Ea);
+wp(pa+1552,(u8*)65536);
+z16(pa+1560);
+wp(pa+1576,(u8*)65536);
+z16(pa+1584);
+wp(pa+1600,(u8*)65536);
+z16(pa+1608);
+w4(pa+1624,65);
+w4(pa+1628,0);
+Ga=port_rattle_alloc(16384,1);
+if((u8)(Ga.f0&1)){
+Ha=Ga.f1;
+Ia=(u8*)Ha;
+zero_all(Ia,16384);
+Ja=r8(c+8224);
+if(Ja!=0){
+Ka=Ja;
+La=0;
+L1:w8(c+8224,Ka-1);
+Ma=r8(c+8200);
+Na=r8(c+8192);
+if(Ma==Na){
+Oa=port_read(0,Ia,16384);
+if((i64)Oa<0){
 port_rattle_errno();
 goto L2;}
-ij=umin64(hj,16384);}
+Pa=umin64(Oa,16384);}
 else{
-jj=c+(i64)gj;
-kj=umin64(fj-gj,16384);
-if(aj-(u64)jj<kj)copy_bits_4f4(jj,bj,kj);
-else memmove(bj,jj,kj);
-lj=r8(c+8192);
-w8(c+8192,umin64(kj,r8(c+8200)-lj)+lj);
-ij=kj;}
-if(ij==0){
-mj=end_segment_e66(Ni,Ii,Gi,Hi,d);
-if(mj.f0==0){
-nj=rp(Hi);
-oj=r8(Hi+8);
-if(oj==0)goto L3;
-pj=0;
-L4:qj=oj-pj;
-rj=port_write(1,nj+(i64)pj,qj);
-if((i64)rj<0)port_rattle_errno();
+Qa=c+(i64)Na;
+Ra=umin64(Ma-Na,16384);
+if(Ha-(u64)Qa<Ra)copy_bits_4f4(Qa,Ia,Ra);
+else memmove(Ia,Qa,Ra);
+Sa=r8(c+8192);
+w8(c+8192,umin64(Ra,r8(c+8200)-Sa)+Sa);
+Pa=Ra;}
+if(Pa==0){
+Ta=end_segment_e66(ua,pa,na,oa,d);
+if(Ta.f0==0){
+Ua=rp(oa);
+Va=r8(oa+8);
+if(Va==0)goto L3;
+Wa=0;
+L4:Xa=Va-Wa;
+Ya=port_write(1,Ua+(i64)Wa,Xa);
+if((i64)Ya<0)port_rattle_errno();
 else{
-sj=umin64(rj,qj);
-if(sj!=0){
-tj=sj+pj;
-if(tj>=oj)goto L3;
-pj=tj;
+Za=umin64(Ya,Xa);
+if(Za!=0){
+ab=Za+Wa;
+if(ab>=Va)goto L3;
+Wa=ab;
 goto L4;}}
 w8(d+8,r8(d+8)+1);
-uj=1;
+bb=1;
 goto L5;
-L3:port_rattle_dealloc(bj);
-memcpy(Ji,Ii,2032);
-drop_097(Ji);
-if(r8(Hi+16)!=0)port_rattle_dealloc(nj);
-if(r8(Gi+24)!=0)port_rattle_dealloc(rp(Gi+8));
-memcpy(Ki+6,Gi+56,24);
-vj=0;
-wj=0;
+L3:port_rattle_dealloc(Ia);
+memcpy(qa,pa,1632);
+drop_097(qa);
+if(r8(oa+16)!=0)port_rattle_dealloc(Ua);
+if(r8(na+24)!=0)port_rattle_dealloc(rp(na+8));
+memcpy(ra+6,na+56,24);
+cb=0;
+db=0;
 goto L6;}
-uj=mj.f1;
-L5:port_rattle_dealloc(bj);
-xj=rp(Ii+1952);
-yj=rp(Ii+1976);
-zj=r8(Ii+1992);
-Aj=rp(Ii+2000);
-Bj=r8(Ii+2016);
-Cj=r8(Ii+1968);
-memcpy(xi,Ii,1944);
-drop_816(xi);
-if(Cj!=0)port_rattle_dealloc(xj);
-if(zj!=0)port_rattle_dealloc(yj);
-if(Bj!=0)port_rattle_dealloc(Aj);
-if(r8(Hi+16)!=0)port_rattle_dealloc(rp(Hi));
-if(r8(Gi+24)!=0)port_rattle_dealloc(rp(Gi+8));
-z24(Ki+6);
-vj=1;
-wj=uj;
+bb=Ta.f1;
+L5:port_rattle_dealloc(Ia);
+eb=rp(pa+1552);
+fb=rp(pa+1576);
+gb=r8(pa+1592);
+hb=rp(pa+1600);
+ib=r8(pa+1616);
+jb=r8(pa+1568);
+memcpy(ea,pa,1544);
+drop_816(ea);
+if(jb!=0)port_rattle_dealloc(eb);
+if(gb!=0)port_rattle_dealloc(fb);
+if(ib!=0)port_rattle_dealloc(hb);
+if(r8(oa+16)!=0)port_rattle_dealloc(rp(oa));
+if(r8(na+24)!=0)port_rattle_dealloc(rp(na+8));
+z24(ra+6);
+cb=1;
+db=bb;
 goto L6;}
-Dj=ej;
-Ej=0;
-L7:Fj=bj+(i64)Ej;
-z16(Ci);
-first_segment_4a3(Ci,*Gi,Fj,ij-Ej,Dj);
-Gj=r8(Ci);
-if(Gj==0)goto L8;
-Hj=0;
-L9:Ij=Fj+(i64)Hj;
-Jj=Gj-Hj;
-z48(Bi);
-Kj=r8(Gi+16);
-Lj=Kj==0;
-Mj=r16(Gi+32);
-if(Lj&&Mj==0){
-if(Gi[50]&1){
-pass_6c7(Bi,Gi,Ij,Jj);
-Nj=r16(Bi);
-Oj=r8(Bi+16);
-Pj=Bi[24]&1;
+kb=La;
+lb=0;
+L7:mb=Ia+(i64)lb;
+z16(ja);
+first_segment_4a3(ja,*na,mb,Pa-lb,kb);
+nb=r8(ja);
+if(nb==0)goto L8;
+ob=0;
+L9:pb=mb+(i64)ob;
+qb=nb-ob;
+z48(ia);
+rb=r8(na+16);
+sb=rb==0;
+tb=r16(na+32);
+if(sb&&tb==0){
+if(na[50]&1){
+pass_6c7(ia,na,pb,qb);
+ub=r16(ia);
+vb=r8(ia+16);
+wb=ia[24]&1;
 goto L10;}
-Qj=*Gi;
-Rj=Gi[48];
-if(Jj==0)Sj=0;
+xb=*na;
+yb=na[48];
+if(qb==0)zb=0;
 else{
-Tj=Gi[49];
-Uj=Qj+49;
-Vj=Qj==2;
-Wj=0;
-L11:Xj=Ij+Wj;
-if(*Xj==95){
-if(Wj==0){
-switch(Rj){
-case 0:Yj=Qj;
+Ab=na[49];
+Bb=xb+49;
+Cb=xb==2;
+Db=0;
+L11:Eb=pb+Db;
+if(*Eb==95){
+if(Db==0){
+switch(yb){
+case 0:Fb=xb;
 goto L12;
-case 1:if(Vj){
-switch(Tj){
-case 46:case 36:Zj=1;
-ak=49;
+case 1:if(Cb){
+switch(Ab){
+case 46:case 36:Gb=1;
+Hb=49;
 goto L13;
 default:break;}}
 break;
-case 2:if(Vj){
-switch(Tj){
-case 46:case 36:Zj=1;
-ak=49;
+case 2:if(Cb){
+switch(Ab){
+case 46:case 36:Gb=1;
+Hb=49;
 goto L13;
 default:break;}}
 break;
 default:NEVER;
 }}
 else{
-bk=*((u8*)t_e4d8+Xj[-1]);
-if(Uj>bk){
-if(bk<=(Qj==0?48:49)){
-dk=0;
-ek=0;
-fk=Wj;
+Ib=*((u8*)t_e4d8+Eb[-1]);
+if(Bb>Ib){
+if(Ib<=(xb==0?48:49)){
+Kb=0;
+Lb=0;
+Mb=Db;
 goto L14;}
-ck=place_in_stretch_597(Qj,Ij,Wj,Rj);
-dk=ck.f1;
-ek=ck.f0;
-fk=Wj;
+Jb=place_in_stretch_597(xb,pb,Db,yb);
+Kb=Jb.f1;
+Lb=Jb.f0;
+Mb=Db;
 goto L14;}}}
-gk=Wj+1;
-hk=Jj-gk;
-if(hk<16)ik=0;
+Nb=Db+1;
+Ob=qb-Nb;
+if(Ob<16)Pb=0;
 else{
-jk=Ij+(i64)gk;
-kk=cttz(v16_eq(v16_at(jk),splat(95)),16);
-if((hk<32)|(kk<16))ik=kk;
+Qb=pb+(i64)Nb;
+Rb=cttz(v16_eq(v16_at(Qb),splat(95)),16);
+if((Ob<32)|(Rb<16))Pb=Rb;
 else{
-lk=cttz(v16_eq(v16_at(jk+16),splat(95)),16);
-if(lk<16)ik=lk|16;
+Sb=cttz(v16_eq(v16_at(Qb+16),splat(95)),16);
+if(Sb<16)Pb=Sb|16;
 else{
-if(hk<=95){
-ik=32;
+if(Ob<=95){
+Pb=32;
 goto L15;}
-mk=32;
-L16:nk=jk+(i64)mk;
-if((((v16_eq(v16_at(nk),splat(95))|v16_eq(v16_at(nk+16),splat(95)))|v16_eq(v16_at(nk+32),splat(95)))|v16_eq(v16_at(nk+48),splat(95)))==0){
-ok=mk+64;
-if(hk-ok>63){
-mk=ok;
+Tb=32;
+L16:Ub=Qb+(i64)Tb;
+if((((v16_eq(v16_at(Ub),splat(95))|v16_eq(v16_at(Ub+16),splat(95)))|v16_eq(v16_at(Ub+32),splat(95)))|v16_eq(v16_at(Ub+48),splat(95)))==0){
+Vb=Tb+64;
+if(Ob-Vb>63){
+Tb=Vb;
 goto L16;}
-ik=ok;}
-else ik=mk;}}}
-L15:pk=ik+gk;
-if(pk<Jj){
-Wj=pk;
+Pb=Vb;}
+else Pb=Tb;}}}
+L15:Wb=Pb+Nb;
+if(Wb<qb){
+Db=Wb;
 goto L11;}
-Sj=pk;}
-if(*((u8*)t_e4d8+*(Ij+(i64)Sj-1))>(Qj==0?48:49)){
-qk=place_in_stretch_597(Qj,Ij,Sj,Rj);
-rk=qk.f0;
-sk=qk.f1;}
+zb=Wb;}
+if(*((u8*)t_e4d8+*(pb+(i64)zb-1))>(xb==0?48:49)){
+Xb=place_in_stretch_597(xb,pb,zb,yb);
+Yb=Xb.f0;
+Zb=Xb.f1;}
 else{
-rk=0;
-sk=0;}
-if(Sj==0){
-Yj=Qj;
+Yb=0;
+Zb=0;}
+if(zb==0){
+Fb=xb;
 goto L12;}
-dk=sk;
-ek=rk;
-fk=Sj;
-L14:w2(Gi+48,(u16)((u32)dk<<8)|ek);
-tk=fk;
+Kb=Zb;
+Lb=Yb;
+Mb=zb;
+L14:w2(na+48,(u16)((u32)Kb<<8)|Lb);
+ac=Mb;
 goto L17;}
-Yj=*Gi;
-L12:Zj=Yj==2;
-ak=Yj==1?50:49;
-L13:if(ak>*((u8*)t_e4d8+*Ij))goto L18;
-uk=0;
-L19:if(Jj-uk>15){
-vk=v16_at(Ij+uk);
-wk=cttz(v16_ne(vk,splat(36))&(v16_ne(vk,splat(46))&(v16_ne(vk,splat(95))&(v16_ult(v16_add(vk,splat(198)),splat(246))&v16_ult(v16_add(v16_or(vk,splat(32)),splat(133)),splat(230))))),16);
-xk=uk+wk;
-if(wk>=16){
-uk=xk;
+Fb=*na;
+L12:Gb=Fb==2;
+Hb=Fb==1?50:49;
+L13:if(Hb>*((u8*)t_e4d8+*pb))goto L18;
+bc=0;
+L19:if(qb-bc>15){
+cc=v16_at(pb+bc);
+dc=cttz(v16_ne(cc,splat(36))&(v16_ne(cc,splat(46))&(v16_ne(cc,splat(95))&(v16_ult(v16_add(cc,splat(198)),splat(246))&v16_ult(v16_add(v16_or(cc,splat(32)),splat(133)),splat(230))))),16);
+ec=bc+dc;
+if(dc>=16){
+bc=ec;
 goto L19;}
-yk=xk;}
-else yk=uk;
-if(yk>=Jj){
-Ak=yk;
+fc=ec;}
+else fc=bc;
+if(fc>=qb){
+hc=fc;
 goto L20;}
-zk=yk;
-L21:if(ak>*((u8*)t_e4d8+*(Ij+zk)))Ak=zk;
+gc=fc;
+L21:if(Hb>*((u8*)t_e4d8+*(pb+gc)))hc=gc;
 else{
-Bk=zk+1;
-if(Bk!=Jj){
-zk=Bk;
+ic=gc+1;
+if(ic!=qb){
+gc=ic;
 goto L21;}
-Ak=Jj;}
-L20:if(Ak==0)goto L18;
-Ck=Ak;
-L22:if(Ck==0)Dk=Mj+Ak;
+hc=qb;}
+L20:if(hc==0)goto L18;
+jc=hc;
+L22:if(jc==0)kc=tb+hc;
 else{
-Ek=Ck-1;
-if(*(Ij+Ek)==46){
-Ck=Ek;
+lc=jc-1;
+if(*(pb+lc)==46){
+jc=lc;
 goto L22;}
-if(Mj+Ck>65536-Kj){
-Fk=rp(Gi+8);
-Gk=r8(Hi+16);
-Hk=r8(Hi+8);
-if(Kj>Gk-Hk){
-Ik=grow_amortized_68b(Hi,Kj);
-if(!Ik)goto L23;
-Jk=r8(Hi+16);
-Kk=r8(Hi+8);}
+if(tb+jc>65536-rb){
+mc=rp(na+8);
+nc=r8(oa+16);
+oc=r8(oa+8);
+if(rb>nc-oc){
+pc=grow_amortized_68b(oa,rb);
+if(!pc)goto L23;
+qc=r8(oa+16);
+rc=r8(oa+8);}
 else{
-Jk=Gk;
-Kk=Hk;}
-Lk=Kk+Kj;
-Mk=rp(Hi);
-z16(Hi+8);
-Nk=Mk+(i64)Kk;
-if((u64)Nk-(u64)Fk<Kj){
-copy_bits_4f4(Fk,Nk,Kj);
-w8(Hi+8,Lk);
-w8(Hi+16,Jk);}
+qc=nc;
+rc=oc;}
+sc=rc+rb;
+tc=rp(oa);
+z16(oa+8);
+uc=tc+(i64)rc;
+if((u64)uc-(u64)mc<rb){
+copy_bits_4f4(mc,uc,rb);
+w8(oa+8,sc);
+w8(oa+16,qc);}
 else{
-memmove(Nk,Fk,Kj);
-w8(Hi+8,Lk);
-w8(Hi+16,Jk);
-if(Lj)goto L24;}
-w8(Gi+16,0);
-L24:w16(Gi+32,0);
-Gi[50]=1;
-Nj=Mj;
-Oj=Ak;
-Pj=1;
+memmove(uc,mc,rb);
+w8(oa+8,sc);
+w8(oa+16,qc);
+if(sb)goto L24;}
+w8(na+16,0);
+L24:w16(na+32,0);
+na[50]=1;
+ub=tb;
+vb=hc;
+wb=1;
 goto L10;}
-Ok=Mj;
-Pk=Kj+Ok;
-if(Pk>Kj){
-Qk=r8(Gi+24);
-if(Qk-Kj<Ok){
-Rk=grow_amortized_68b(Gi+8,Ok);
-if(!Rk)goto L23;
-Sk=r8(Gi+16);
-Tk=Sk+Ok;
-Uk=r8(Gi+24);
-Vk=Sk;}
+vc=tb;
+wc=rb+vc;
+if(wc>rb){
+xc=r8(na+24);
+if(xc-rb<vc){
+yc=grow_amortized_68b(na+8,vc);
+if(!yc)goto L23;
+zc=r8(na+16);
+Ac=zc+vc;
+Bc=r8(na+24);
+Cc=zc;}
 else{
-Tk=Pk;
-Uk=Qk;
-Vk=Kj;}
-if(Vk<Tk)memset(rp(Gi+8)+(i64)Vk,46,Ok);
-w8(Gi+16,Tk);
-w8(Gi+24,Uk);
-Wk=Tk;}
+Ac=wc;
+Bc=xc;
+Cc=rb;}
+if(Cc<Ac)memset(rp(na+8)+(i64)Cc,46,vc);
+w8(na+16,Ac);
+w8(na+24,Bc);
+Dc=Ac;}
 else{
-if(Kj>Pk){
-w8(Gi+16,Pk);
-Wk=Pk;}
-else Wk=Kj;}
-Xk=r8(Gi+24);
-if(Ck>Xk-Wk){
-Yk=grow_amortized_68b(Gi+8,Ck);
-if(!Yk)goto L23;
-Zk=r8(Gi+24);
-al=r8(Gi+16);}
+if(rb>wc){
+w8(na+16,wc);
+Dc=wc;}
+else Dc=rb;}
+Ec=r8(na+24);
+if(jc>Ec-Dc){
+Fc=grow_amortized_68b(na+8,jc);
+if(!Fc)goto L23;
+Gc=r8(na+24);
+Hc=r8(na+16);}
 else{
-Zk=Xk;
-al=Wk;}
-bl=al+Ck;
-cl=rp(Gi+8)+(i64)al;
-if((u64)cl-(u64)Ij<Ck)copy_bits_4f4(Ij,cl,Ck);
-else memmove(cl,Ij,Ck);
-w8(Gi+16,bl);
-w8(Gi+24,Zk);
-Dk=Ak-Ck;}
-w16(Gi+32,Dk);
-dl=Ak;
+Gc=Ec;
+Hc=Dc;}
+Ic=Hc+jc;
+Jc=rp(na+8)+(i64)Hc;
+if((u64)Jc-(u64)pb<jc)copy_bits_4f4(pb,Jc,jc);
+else memmove(Jc,pb,jc);
+w8(na+16,Ic);
+w8(na+24,Gc);
+kc=hc-jc;}
+w16(na+32,kc);
+Kc=hc;
 goto L25;
-L18:z48(Ai);
-if(!Zj){
-fl=rp(Gi+8);
-if(Kj-65537>=0xffffffffffff0001u){
-gl=*fl==95;
-if(Kj==2){
-if(!gl)goto L26;
-switch(fl[1]){
-case 90:hl=0;
+L18:z48(ha);
+if(!Gb){
+Mc=rp(na+8);
+if(rb-65537>=0xffffffffffff0001u){
+Nc=*Mc==95;
+if(rb==2){
+if(!Nc)goto L26;
+switch(Mc[1]){
+case 90:Oc=0;
 goto L27;
 case 82:break;
 default:goto L26;
 }}
 else{
-if(!gl)goto L26;
-switch(fl[1]){
-case 90:hl=0;
+if(!Nc)goto L26;
+switch(Mc[1]){
+case 90:Oc=0;
 goto L27;
 case 82:break;
-case 95:switch(fl[2]){
-case 90:hl=0x100000000u;
+case 95:switch(Mc[2]){
+case 90:Oc=0x100000000u;
 goto L27;
-case 82:hl=0x100000001u;
+case 82:Oc=0x100000001u;
 goto L27;
 default:goto L26;
 }
 break;
 default:goto L26;
 }}
-hl=1;
-L27:il=hl>>32;
-z12(zi);
-append_aff(zi,Ni,Ii,hl,il,fl+(i64)il,Kj-il,Hi);
-if(*zi!=0){
-if(zi[4]!=4){
-kl=r8(Hi+16);
-ll=r8(Hi+8);
-if(Kj>kl-ll){
-ml=grow_amortized_68b(Hi,Kj);
-if(!ml)goto L28;
-nl=r8(Hi+16);
-ol=r8(Hi+8);}
+Oc=1;
+L27:Pc=Oc>>32;
+z12(ga);
+append_aff(ga,ua,pa,Oc,Pc,Mc+(i64)Pc,rb-Pc,oa);
+if(*ga!=0){
+if(ga[4]!=4){
+Rc=r8(oa+16);
+Sc=r8(oa+8);
+if(rb>Rc-Sc){
+Tc=grow_amortized_68b(oa,rb);
+if(!Tc)goto L28;
+Uc=r8(oa+16);
+Vc=r8(oa+8);}
 else{
-nl=kl;
-ol=ll;}
-pl=ol+Kj;
-ql=rp(Hi)+(i64)ol;
-if((u64)ql-(u64)fl<Kj)copy_bits_4f4(fl,ql,Kj);
-else memmove(ql,fl,Kj);
-w8(Hi+8,pl);
-w8(Hi+16,nl);
-jl=16;
+Uc=Rc;
+Vc=Sc;}
+Wc=Vc+rb;
+Xc=rp(oa)+(i64)Vc;
+if((u64)Xc-(u64)Mc<rb)copy_bits_4f4(Mc,Xc,rb);
+else memmove(Xc,Mc,rb);
+w8(oa+8,Wc);
+w8(oa+16,Uc);
+Qc=16;
 goto L29;}
 L28:goto L30;}
-jl=8;
-L29:w8(Gi+56,uadd64(r8(Gi+56),1));
-rl=Gi+56+(i64)jl;
-w8(rl,uadd64(r8(rl),1));
+Qc=8;
+L29:w8(na+56,uadd64(r8(na+56),1));
+Yc=na+56+(i64)Qc;
+w8(Yc,uadd64(r8(Yc),1));
 goto L31;}
-L26:sl=r8(Hi+16);
-tl=r8(Hi+8);
-if(Kj>sl-tl){
-ul=grow_amortized_68b(Hi,Kj);
-if(!ul)goto L30;
-vl=r8(Hi+16);
-wl=r8(Hi+8);}
+L26:Zc=r8(oa+16);
+ad=r8(oa+8);
+if(rb>Zc-ad){
+bd=grow_amortized_68b(oa,rb);
+if(!bd)goto L30;
+cd=r8(oa+16);
+dd=r8(oa+8);}
 else{
-vl=sl;
-wl=tl;}
-xl=wl+Kj;
-yl=rp(Hi);
-z16(Hi+8);
-zl=yl+(i64)wl;
-if((u64)zl-(u64)fl<Kj){
-copy_bits_4f4(fl,zl,Kj);
-w8(Hi+8,xl);
-w8(Hi+16,vl);}
+cd=Zc;
+dd=ad;}
+ed=dd+rb;
+fd=rp(oa);
+z16(oa+8);
+gd=fd+(i64)dd;
+if((u64)gd-(u64)Mc<rb){
+copy_bits_4f4(Mc,gd,rb);
+w8(oa+8,ed);
+w8(oa+16,cd);}
 else{
-memmove(zl,fl,Kj);
-w8(Hi+8,xl);
-w8(Hi+16,vl);
-if(Lj)goto L32;}
-L31:w8(Gi+16,0);
-L32:z18(Gi+32);
-el=Mj;
+memmove(gd,Mc,rb);
+w8(oa+8,ed);
+w8(oa+16,cd);
+if(sb)goto L32;}
+L31:w8(na+16,0);
+L32:z18(na+32);
+Lc=tb;
 goto L33;}
-end_within_c5e(Ai,Gi,Ni,Ii,Hi);
-if(*Ai==0){
-el=r16(Ai+16);
+end_within_c5e(ha,na,ua,pa,oa);
+if(*ha==0){
+Lc=r16(ha+16);
 goto L33;}
 L30:goto L23;
-L33:Nj=el;
-Oj=1;
-Pj=1;
+L33:ub=Lc;
+vb=1;
+wb=1;
 goto L10;
-L23:Al=2;
+L23:hd=2;
 goto L34;
-L10:if(Nj!=0){
-Bl=r8(Hi+8);
-Cl=0;
-L35:if(r8(Hi+16)==Bl){
-Dl=grow_amortized_68b(Hi,1);
-if(!Dl){
-Al=2;
+L10:if(ub!=0){
+id=r8(oa+8);
+jd=0;
+L35:if(r8(oa+16)==id){
+kd=grow_amortized_68b(oa,1);
+if(!kd){
+hd=2;
 goto L34;}
-El=r8(Hi+8);}
-else El=Bl;
-Fl=rp(Hi);
-*(Fl+El)=46;
-Gl=El+1;
-w8(Hi+8,Gl);
-if(Gl<16384){
-Hl=Gl;
+ld=r8(oa+8);}
+else ld=id;
+md=rp(oa);
+*(md+ld)=46;
+nd=ld+1;
+w8(oa+8,nd);
+if(nd<16384){
+od=nd;
 goto L36;}
-Il=0;
-L37:Jl=Gl-Il;
-Kl=port_write(1,Fl+(i64)Il,Jl);
-if((i64)Kl<0)port_rattle_errno();
+pd=0;
+L37:qd=nd-pd;
+sd=port_write(1,md+(i64)pd,qd);
+if((i64)sd<0)port_rattle_errno();
 else{
-Ll=umin64(Kl,Jl);
-if(Ll!=0){
-Ml=Ll+Il;
-if(Ml<Gl){
-Il=Ml;
+td=umin64(sd,qd);
+if(td!=0){
+ud=td+pd;
+if(ud<nd){
+pd=ud;
 goto L37;}
-w8(Hi+8,0);
-Hl=0;
+w8(oa+8,0);
+od=0;
 goto L36;}}
 w8(d+8,r8(d+8)+1);
-Al=1;
+hd=1;
 goto L34;
-L36:Nl=Cl+1;
-if(Nl<Nj){
-Bl=Hl;
-Cl=Nl;
+L36:vd=jd+1;
+if(vd<ub){
+id=od;
+jd=vd;
 goto L35;}}
-if(!Pj){
-dl=Oj;
+if(!wb){
+Kc=vb;
 goto L25;}
-tk=Oj;
-L17:Ol=r8(Hi+16);
-Pl=r8(Hi+8);
-if(tk>Ol-Pl){
-Ql=grow_amortized_68b(Hi,tk);
-if(!Ql){
-Al=2;
+ac=vb;
+L17:xd=r8(oa+16);
+yd=r8(oa+8);
+if(ac>xd-yd){
+zd=grow_amortized_68b(oa,ac);
+if(!zd){
+hd=2;
 goto L34;}
-Rl=r8(Hi+16);
-Sl=r8(Hi+8);}
+Ad=r8(oa+16);
+Bd=r8(oa+8);}
 else{
-Rl=Ol;
-Sl=Pl;}
-Tl=Sl+tk;
-Ul=rp(Hi);
-Vl=Ul+(i64)Sl;
-if((u64)Vl-(u64)Ij<tk)copy_bits_4f4(Ij,Vl,tk);
-else memmove(Vl,Ij,tk);
-w8(Hi+8,Tl);
-w8(Hi+16,Rl);
-if(Tl<16384){
-dl=tk;
+Ad=xd;
+Bd=yd;}
+Cd=Bd+ac;
+Dd=rp(oa);
+Ed=Dd+(i64)Bd;
+if((u64)Ed-(u64)pb<ac)copy_bits_4f4(pb,Ed,ac);
+else memmove(Ed,pb,ac);
+w8(oa+8,Cd);
+w8(oa+16,Ad);
+if(Cd<16384){
+Kc=ac;
 goto L25;}
-Wl=0;
-L38:Xl=Tl-Wl;
-Yl=port_write(1,Ul+(i64)Wl,Xl);
-if((i64)Yl<0)port_rattle_errno();
+Fd=0;
+L38:Gd=Cd-Fd;
+Hd=port_write(1,Dd+(i64)Fd,Gd);
+if((i64)Hd<0)port_rattle_errno();
 else{
-Zl=umin64(Yl,Xl);
-if(Zl!=0){
-am=Zl+Wl;
-if(am<Tl){
-Wl=am;
+Id=umin64(Hd,Gd);
+if(Id!=0){
+Jd=Id+Fd;
+if(Jd<Cd){
+Fd=Jd;
 goto L38;}
-w8(Hi+8,0);
-dl=tk;
+w8(oa+8,0);
+Kc=ac;
 goto L25;}}
 w8(d+8,r8(d+8)+1);
-Al=1;
+hd=1;
 goto L34;
-L25:bm=dl+Hj;
-if(bm<Gj){
-Hj=bm;
+L25:Kd=Kc+ob;
+if(Kd<nb){
+ob=Kd;
 goto L9;}
-L8:cm=Ci[9];
-if(Ci[8]&1){
-dm=end_segment_e66(Ni,Ii,Gi,Hi,d);
-if(dm.f0!=0){
-Al=dm.f1;
+L8:Ld=ja[9];
+if(ja[8]&1){
+Md=end_segment_e66(ua,pa,na,oa,d);
+if(Md.f0!=0){
+hd=Md.f1;
 goto L34;}}
-em=Gj+Ej;
-if(em<ij){
-Dj=cm;
-Ej=em;
+Nd=nb+lb;
+if(Nd<Pa){
+kb=Ld;
+lb=Nd;
 goto L7;}
-fm=r8(Gi+16);
-if(fm-65537>=0xffffffffffff0001u){
-gm=rp(Gi+8);
-hm=*gm==95;
-if(fm==2){
-if(!hm)goto L39;
-switch(gm[1]){
-case 90:im=0;
+Od=r8(na+16);
+if(Od-65537>=0xffffffffffff0001u){
+Pd=rp(na+8);
+Qd=*Pd==95;
+if(Od==2){
+if(!Qd)goto L39;
+switch(Pd[1]){
+case 90:Rd=0;
 goto L40;
 case 82:break;
 default:goto L39;
 }}
 else{
-if(!hm)goto L39;
-switch(gm[1]){
-case 90:im=0;
+if(!Qd)goto L39;
+switch(Pd[1]){
+case 90:Rd=0;
 goto L40;
 case 82:break;
-case 95:switch(gm[2]){
-case 90:im=0x100000000u;
+case 95:switch(Pd[2]){
+case 90:Rd=0x100000000u;
 goto L40;
-case 82:im=0x100000001u;
+case 82:Rd=0x100000001u;
 goto L40;
 default:goto L39;
 }
 break;
 default:goto L39;
 }}
-im=1;
-L40:jm=im>>32;
-read_ahead_495(Ii,im,gm+(i64)jm,fm-jm);}
-L39:km=rp(Hi);
-lm=r8(Hi+8);
-if(lm==0)goto L41;
-mm=0;
-L42:nm=lm-mm;
-om=port_write(1,km+(i64)mm,nm);
-if((i64)om<0)port_rattle_errno();
+Rd=1;
+L40:Sd=Rd>>32;
+read_ahead_495(pa,Rd,Pd+(i64)Sd,Od-Sd);}
+L39:Td=rp(oa);
+Ud=r8(oa+8);
+if(Ud==0)goto L41;
+Vd=0;
+L42:Wd=Ud-Vd;
+Xd=port_write(1,Td+(i64)Vd,Wd);
+if((i64)Xd<0)port_rattle_errno();
 else{
-pm=umin64(om,nm);
-if(pm!=0){
-qm=pm+mm;
-if(qm<lm){
-mm=qm;
+Yd=umin64(Xd,Wd);
+if(Yd!=0){
+Zd=Yd+Vd;
+if(Zd<Ud){
+Vd=Zd;
 goto L42;}
-w8(Hi+8,0);
+w8(oa+8,0);
 goto L41;}}
 w8(d+8,r8(d+8)+1);
-rm=1;
+ae=1;
 goto L43;
-L41:sm=r8(c+8224);
-if(sm==0)goto L2;
-dj=sm;
-ej=cm;
+L41:be=r8(c+8224);
+if(be==0)goto L2;
+Ka=be;
+La=Ld;
 goto L1;
-L34:rm=Al;
-L43:port_rattle_dealloc(bj);
-tm=rp(Ii+1952);
-um=rp(Ii+1976);
-vm=r8(Ii+1992);
-wm=rp(Ii+2000);
-xm=r8(Ii+2016);
-ym=r8(Ii+1968);
-memcpy(yi,Ii,1944);
-drop_816(yi);
-if(ym!=0)port_rattle_dealloc(tm);
-if(vm!=0)port_rattle_dealloc(um);
-if(xm!=0)port_rattle_dealloc(wm);
-if(r8(Hi+16)!=0)port_rattle_dealloc(rp(Hi));
-if(r8(Gi+24)!=0)port_rattle_dealloc(rp(Gi+8));
-z24(Ki+6);
-vj=1;
-wj=rm;
+L34:ae=hd;
+L43:port_rattle_dealloc(Ia);
+ce=rp(pa+1552);
+de=rp(pa+1576);
+ee=r8(pa+1592);
+fe=rp(pa+1600);
+ge=r8(pa+1616);
+he=r8(pa+1568);
+memcpy(fa,pa,1544);
+drop_816(fa);
+if(he!=0)port_rattle_dealloc(ce);
+if(ee!=0)port_rattle_dealloc(de);
+if(ge!=0)port_rattle_dealloc(fe);
+if(r8(oa+16)!=0)port_rattle_dealloc(rp(oa));
+if(r8(na+24)!=0)port_rattle_dealloc(rp(na+8));
+z24(ra+6);
+cb=1;
+db=ae;
 goto L6;}
 L2:w8(c+8216,r8(c+8216)+1);
-port_rattle_dealloc(bj);
-zm=rp(Ii+1952);
-Am=rp(Ii+1976);
-Bm=r8(Ii+1992);
-Cm=rp(Ii+2000);
-Dm=r8(Ii+2016);
-Em=r8(Ii+1968);
-memcpy(Di,Ii,1944);
-drop_816(Di);
-if(Em!=0)port_rattle_dealloc(zm);
-if(Bm!=0)port_rattle_dealloc(Am);
-if(Dm!=0)port_rattle_dealloc(Cm);
-if(r8(Hi+16)!=0)port_rattle_dealloc(rp(Hi));
-if(r8(Gi+24)!=0)port_rattle_dealloc(rp(Gi+8));
-memcpy(Ki+6,Fi+6,24);
-vj=1;
-wj=0;}
+port_rattle_dealloc(Ia);
+ie=rp(pa+1552);
+je=rp(pa+1576);
+ke=r8(pa+1592);
+le=rp(pa+1600);
+me=r8(pa+1616);
+ne=r8(pa+1568);
+memcpy(ka,pa,1544);
+drop_816(ka);
+if(ne!=0)port_rattle_dealloc(ie);
+if(ke!=0)port_rattle_dealloc(je);
+if(me!=0)port_rattle_dealloc(le);
+if(r8(oa+16)!=0)port_rattle_dealloc(rp(oa));
+if(r8(na+24)!=0)port_rattle_dealloc(rp(na+8));
+memcpy(ra+6,ma+6,24);
+cb=1;
+db=0;}
 else{
-Fm=rp(Ii+1952);
-Gm=rp(Ii+1976);
-Hm=r8(Ii+1992);
-Im=rp(Ii+2000);
-Jm=r8(Ii+2016);
-Km=r8(Ii+1968);
-memcpy(Ei,Ii,1944);
-drop_816(Ei);
-if(Km!=0)port_rattle_dealloc(Fm);
-if(Hm!=0)port_rattle_dealloc(Gm);
-if(Jm!=0)port_rattle_dealloc(Im);
-if(r8(Hi+16)!=0)port_rattle_dealloc(rp(Hi));
-if(r8(Gi+24)!=0)port_rattle_dealloc(rp(Gi+8));
-z24(Ki+6);
-vj=1;
-wj=2;}
-L6:memcpy(Li+6,Ki+6,24);
-memcpy(Mi+6,Li+6,24);
-memcpy(Oi+6,Mi+6,24);
-Lm=vj;
-Mm=wj;}
+oe=rp(pa+1552);
+pe=rp(pa+1576);
+qe=r8(pa+1592);
+re=rp(pa+1600);
+se=r8(pa+1616);
+te=r8(pa+1568);
+memcpy(la,pa,1544);
+drop_816(la);
+if(te!=0)port_rattle_dealloc(oe);
+if(qe!=0)port_rattle_dealloc(pe);
+if(se!=0)port_rattle_dealloc(re);
+if(r8(oa+16)!=0)port_rattle_dealloc(rp(oa));
+if(r8(na+24)!=0)port_rattle_dealloc(rp(na+8));
+z24(ra+6);
+cb=1;
+db=2;}
+L6:memcpy(sa+6,ra+6,24);
+memcpy(ta+6,sa+6,24);
+memcpy(va+6,ta+6,24);
+ue=cb;
+ve=db;}
 else{
-Nm=((u64)Ri<<32)|Qi;
-z30(vi);
-w8(wi,Nm);
-wi[8]=Si&1;
-wi[9]=1;
-w2(wi+10,0);
-z30(ui);
-z30(ti);
-z30(gg);
-zero_all(jg,2152);
-z24(kg);
-z16(lg);
-z32(mg);
-z16(ng);
-z32(og);
-z80(pg);
-z16(qg);
-z40(rg);
-z16(sg);
-z16(tg);
-z16(ug);
-z16(vg);
-z16(wg);
-z48(xg);
-z32(yg);
-z32(zg);
-z104(Ag);
-z40(Bg);
-z16(Cg);
-z32(Dg);
-z24(Eg);
-z16(Fg);
-z32(Gg);
-z16(Hg);
-z24(Ig);
-z16(Jg);
-z16(Kg);
-z40(Lg);
-z16(Mg);
-z16(Ng);
-z16(Og);
-z16(Pg);
-z16(Qg);
-z48(Rg);
-z32(Sg);
-z40(Tg);
-z32(Ug);
-z16(Vg);
-z48(Wg);
-z40(Xg);
-z16(Yg);
-z32(Zg);
-z32(ah);
-z32(bh);
-z104(ch);
-z32(dh);
-z40(eh);
-z32(fh);
-z16(gh);
-z48(hh);
-z32(ih);
-z16(jh);
-z16(kh);
-z16(lh);
-z24(mh);
-z16(nh);
-z32(oh);
-z16(ph);
-z32(qh);
-z80(rh);
-z16(sh);
-z40(th);
-z16(uh);
-z16(vh);
-z16(wh);
-z16(xh);
-z16(yh);
-z48(zh);
-z32(Ah);
-z32(Bh);
-z104(Ch);
-z40(Dh);
-z16(Eh);
-z32(Fh);
-z24(Gh);
-z16(Hh);
-z32(Ih);
-z16(Jh);
-z24(Kh);
-z16(Lh);
-z16(Mh);
-z40(Nh);
-z16(Oh);
-z16(Ph);
-z16(Qh);
-z16(Rh);
-z16(Sh);
-z48(Th);
-z32(Uh);
-z40(Vh);
-z32(Wh);
-z16(Xh);
-z48(Yh);
-z40(Zh);
-z16(ai);
-z32(bi);
-z32(ci);
-z32(di);
-z104(ei);
-z32(fi);
-z40(gi);
-z32(hi);
-z16(ii);
-z48(ji);
-z32(ki);
-z16(li);
-z16(mi);
-z16(ni);
-zero_all(oi,2152);
-zero_all(pi,2152);
-zero_all(qi,2152);
-zero_all(ri,2152);
-zero_all(si,2152);
-*hg=Ti;
-z7(hg+1);
-wp(hg+8,(u8*)65536);
-z64(hg+16);
-wp(ig,(u8*)65536);
-z16(ig+8);
-Om=(u64)(u8*)65536;
-z32(Xf);
-z40(Yf);
-z32(Zf);
-z16(ag);
-z48(bg);
-z32(cg);
-z16(dg);
-z16(eg);
-z16(fg);
-z24(df);
-z16(ef);
-z32(ff);
-z16(gf);
-z32(hf);
-z80(jf);
-z16(kf);
-z40(lf);
-z16(mf);
-z16(nf);
-z16(of);
-z16(pf);
-z16(qf);
-z48(rf);
-z32(sf);
-z32(tf);
-z104(uf);
-z40(vf);
-z16(wf);
-z32(xf);
-z24(yf);
-z16(zf);
-z32(Af);
-z16(Bf);
-z24(Cf);
-z16(Df);
-z16(Ef);
-z40(Ff);
-z16(Gf);
-z16(Hf);
-z16(If);
-z16(Jf);
-z16(Kf);
-z48(Lf);
-z32(Mf);
-z40(Nf);
-z32(Of);
-z16(Pf);
-z48(Qf);
-z40(Rf);
-z16(Sf);
-z32(Tf);
-z32(Uf);
-z32(Vf);
-z104(Wf);
-memcpy(be,df,24);
-memcpy(ce,ef,16);
-memcpy(de,ff,32);
-memcpy(ee,gf,16);
-memcpy(fe,hf,32);
-memcpy(ge,jf,80);
-memcpy(he,kf,16);
-memcpy(ie,lf,40);
-memcpy(je,mf,16);
-memcpy(ke,nf,16);
-memcpy(le,of,16);
-memcpy(me,pf,16);
-memcpy(ne,qf,16);
-memcpy(oe,rf,48);
-memcpy(pe,sf,32);
-memcpy(qe,tf,32);
-memcpy(re,uf,104);
-memcpy(se,vf,40);
-memcpy(te,wf,16);
-memcpy(ue,xf,32);
-memcpy(ve,yf,24);
-memcpy(we,zf,16);
-memcpy(xe,Af,32);
-memcpy(ye,Bf,16);
-memcpy(ze,Cf,24);
-memcpy(Ae,Df,16);
-memcpy(Be,Ef,16);
-memcpy(Ce,Ff,40);
-memcpy(De,Gf,16);
-memcpy(Ee,Hf,16);
-memcpy(Fe,If,16);
-memcpy(Ge,Jf,16);
-memcpy(He,Kf,16);
-memcpy(Ie,Lf,48);
-memcpy(Je,Mf,32);
-memcpy(Ke,Nf,40);
-memcpy(Le,Of,32);
-memcpy(Me,Pf,16);
-memcpy(Ne,Qf,48);
-memcpy(Oe,Rf,40);
-memcpy(Pe,Sf,16);
-memcpy(Qe,Tf,32);
-memcpy(Re,Uf,32);
-memcpy(Se,Vf,32);
-memcpy(Te,Wf,104);
-memcpy(Ue,Xf,32);
-memcpy(Ve,Yf,40);
-memcpy(We,Zf,32);
-memcpy(Xe,ag,16);
-memcpy(Ye,bg,48);
-memcpy(Ze,cg,32);
-memcpy(af,dg,16);
-memcpy(bf,eg,16);
-memcpy(cf,fg,16);
-Pm=r4(wi+8);
-memcpy(mh,be,24);
-memcpy(nh,ce,16);
-memcpy(oh,de,32);
-memcpy(ph,ee,16);
-memcpy(qh,fe,32);
-memcpy(rh,ge,80);
-memcpy(sh,he,16);
-memcpy(th,ie,40);
-memcpy(uh,je,16);
-memcpy(vh,ke,16);
-memcpy(wh,le,16);
-memcpy(xh,me,16);
-memcpy(yh,ne,16);
-memcpy(zh,oe,48);
-memcpy(Ah,pe,32);
-memcpy(Bh,qe,32);
-memcpy(Ch,re,104);
-memcpy(Dh,se,40);
-memcpy(Eh,te,16);
-memcpy(Fh,ue,32);
-memcpy(Gh,ve,24);
-memcpy(Hh,we,16);
-memcpy(Ih,xe,32);
-memcpy(Jh,ye,16);
-memcpy(Kh,ze,24);
-memcpy(Lh,Ae,16);
-memcpy(Mh,Be,16);
-memcpy(Nh,Ce,40);
-memcpy(Oh,De,16);
-memcpy(Ph,Ee,16);
-memcpy(Qh,Fe,16);
-memcpy(Rh,Ge,16);
-memcpy(Sh,He,16);
-memcpy(Th,Ie,48);
-memcpy(Uh,Je,32);
-memcpy(Vh,Ke,40);
-memcpy(Wh,Le,32);
-memcpy(Xh,Me,16);
-memcpy(Yh,Ne,48);
-memcpy(Zh,Oe,40);
-memcpy(ai,Pe,16);
-memcpy(bi,Qe,32);
-memcpy(ci,Re,32);
-memcpy(di,Se,32);
-memcpy(ei,Te,104);
-memcpy(fi,Ue,32);
-memcpy(gi,Ve,40);
-memcpy(hi,We,32);
-memcpy(ii,Xe,16);
-memcpy(ji,Ye,48);
-memcpy(ki,Ze,32);
-memcpy(li,af,16);
-memcpy(mi,bf,16);
-memcpy(ni,cf,16);
-memcpy(kg,mh,24);
-memcpy(lg,nh,16);
-memcpy(mg,oh,32);
-memcpy(ng,ph,16);
-memcpy(og,qh,32);
-memcpy(pg,rh,80);
-memcpy(qg,sh,16);
-memcpy(rg,th,40);
-memcpy(sg,uh,16);
-memcpy(tg,vh,16);
-memcpy(ug,wh,16);
-memcpy(vg,xh,16);
-memcpy(wg,yh,16);
-memcpy(xg,zh,48);
-memcpy(yg,Ah,32);
-memcpy(zg,Bh,32);
-memcpy(Ag,Ch,104);
-memcpy(Bg,Dh,40);
-memcpy(Cg,Eh,16);
-memcpy(Dg,Fh,32);
-memcpy(Eg,Gh,24);
-memcpy(Fg,Hh,16);
-memcpy(Gg,Ih,32);
-memcpy(Hg,Jh,16);
-memcpy(Ig,Kh,24);
-memcpy(Jg,Lh,16);
-memcpy(Kg,Mh,16);
-memcpy(Lg,Nh,40);
-memcpy(Mg,Oh,16);
-memcpy(Ng,Ph,16);
-memcpy(Og,Qh,16);
-memcpy(Pg,Rh,16);
-memcpy(Qg,Sh,16);
-memcpy(Rg,Th,48);
-memcpy(Sg,Uh,32);
-memcpy(Tg,Vh,40);
-memcpy(Ug,Wh,32);
-memcpy(Vg,Xh,16);
-memcpy(Wg,Yh,48);
-memcpy(Xg,Zh,40);
-memcpy(Yg,ai,16);
-memcpy(Zg,bi,32);
-memcpy(ah,ci,32);
-memcpy(bh,di,32);
-memcpy(ch,ei,104);
-memcpy(dh,fi,32);
-memcpy(eh,gi,40);
-memcpy(fh,hi,32);
-memcpy(gh,ii,16);
-memcpy(hh,ji,48);
-memcpy(ih,ki,32);
-memcpy(jh,li,16);
-memcpy(kh,mi,16);
-memcpy(lh,ni,16);
-wp(jg,(u8*)65536);
-memcpy(jg+8,kg,24);
-wp(jg+32,(u8*)65536);
-memcpy(jg+40,lg,16);
-wp(jg+56,(u8*)65536);
-memcpy(jg+64,mg,32);
-wp(jg+96,(u8*)65536);
-memcpy(jg+104,ng,16);
-wp(jg+120,(u8*)65536);
-memcpy(jg+128,og,32);
-wp(jg+160,(u8*)65536);
-memcpy(jg+168,pg,80);
-wp(jg+248,(u8*)65536);
-memcpy(jg+256,qg,16);
-wp(jg+272,(u8*)65536);
-memcpy(jg+280,rg,40);
-wp(jg+320,(u8*)65536);
-memcpy(jg+328,sg,16);
-wp(jg+344,(u8*)65536);
-memcpy(jg+352,tg,16);
-wp(jg+368,(u8*)65536);
-memcpy(jg+376,ug,16);
-wp(jg+392,(u8*)65536);
-memcpy(jg+400,vg,16);
-wp(jg+416,(u8*)65536);
-memcpy(jg+424,wg,16);
-wp(jg+440,(u8*)65536);
-memcpy(jg+448,xg,48);
-wp(jg+496,(u8*)65536);
-memcpy(jg+504,yg,32);
-wp(jg+536,(u8*)65536);
-memcpy(jg+544,zg,32);
-wp(jg+576,(u8*)65536);
-memcpy(jg+584,Ag,104);
-w8(jg+688,Om);
-memcpy(jg+696,Bg,40);
-w8(jg+736,Om);
-memcpy(jg+744,Cg,16);
-wp(jg+760,(u8*)65536);
-memcpy(jg+768,Dg,32);
-wp(jg+800,(u8*)65536);
-memcpy(jg+808,Eg,24);
-wp(jg+832,(u8*)65536);
-memcpy(jg+840,Fg,16);
-wp(jg+856,(u8*)65536);
-memcpy(jg+864,Gg,32);
-wp(jg+896,(u8*)65536);
-memcpy(jg+904,Hg,16);
-wp(jg+920,(u8*)65536);
-memcpy(jg+928,Ig,24);
-wp(jg+952,(u8*)65536);
-memcpy(jg+960,Jg,16);
-wp(jg+976,(u8*)65536);
-memcpy(jg+984,Kg,16);
-wp(jg+1000,(u8*)65536);
-memcpy(jg+1008,Lg,40);
-wp(jg+1048,(u8*)65536);
-memcpy(jg+1056,Mg,16);
-wp(jg+1072,(u8*)65536);
-memcpy(jg+1080,Ng,16);
-wp(jg+1096,(u8*)65536);
-memcpy(jg+1104,Og,16);
-wp(jg+1120,(u8*)65536);
-memcpy(jg+1128,Pg,16);
-wp(jg+1144,(u8*)65536);
-memcpy(jg+1152,Qg,16);
-wp(jg+1168,(u8*)65536);
-memcpy(jg+1176,Rg,48);
-wp(jg+1224,(u8*)65536);
-memcpy(jg+1232,Sg,32);
-wp(jg+1264,(u8*)65536);
-memcpy(jg+1272,Tg,40);
-wp(jg+1312,(u8*)65536);
-memcpy(jg+1320,Ug,32);
-wp(jg+1352,(u8*)65536);
-memcpy(jg+1360,Vg,16);
-wp(jg+1376,(u8*)65536);
-memcpy(jg+1384,Wg,48);
-w8(jg+1432,Om);
-memcpy(jg+1440,Xg,40);
-w8(jg+1480,Om);
-memcpy(jg+1488,Yg,16);
-wp(jg+1504,(u8*)65536);
-memcpy(jg+1512,Zg,32);
-wp(jg+1544,(u8*)65536);
-memcpy(jg+1552,ah,32);
-wp(jg+1584,(u8*)65536);
-memcpy(jg+1592,bh,32);
-wp(jg+1624,(u8*)65536);
-memcpy(jg+1632,ch,104);
-wp(jg+1736,(u8*)65536);
-memcpy(jg+1744,dh,32);
-wp(jg+1776,(u8*)65536);
-memcpy(jg+1784,eh,40);
-wp(jg+1824,(u8*)65536);
-memcpy(jg+1832,fh,32);
-wp(jg+1864,(u8*)65536);
-memcpy(jg+1872,gh,16);
-wp(jg+1888,(u8*)65536);
-memcpy(jg+1896,hh,48);
-wp(jg+1944,(u8*)65536);
-memcpy(jg+1952,ih,32);
-wp(jg+1984,(u8*)65536);
-memcpy(jg+1992,jh,16);
-wp(jg+2008,(u8*)65536);
-memcpy(jg+2016,kh,16);
-wp(jg+2032,(u8*)65536);
-memcpy(jg+2040,lh,16);
-w8(jg+2056,Nm);
-w8(jg+2064,Pm);
-wp(jg+2072,(u8*)65536);
-z16(jg+2080);
-wp(jg+2096,(u8*)65536);
-z16(jg+2104);
-wp(jg+2120,(u8*)65536);
-z16(jg+2128);
-w4(jg+2144,65);
-w4(jg+2148,0);
-Qm=port_rattle_alloc(16384,1);
-if((u8)(Qm.f0&1)){
-Rm=Qm.f1;
-Sm=(u8*)Rm;
-zero_all(Sm,16384);
-Tm=r8(c+8224);
-if(Tm!=0){
-Vm=(u8*)65536;
-Wm=Tm;
-Xm=0;
-L44:w8(c+8224,Wm-1);
-Ym=r8(c+8200);
-Zm=r8(c+8192);
-if(Ym==Zm){
-an=port_read(0,Sm,16384);
-if((i64)an<0){
+we=za&1;
+xe=((u64)ya<<32)|xa;
+z30(ca);
+w8(da,xe);
+da[8]=we;
+da[9]=1;
+w2(da+10,0);
+z30(ba);
+z30(aa);
+z30(R);
+zero_all(U+1384,368);
+zero_all(V,1752);
+zero_all(W,1752);
+zero_all(X,1752);
+zero_all(Y,1752);
+zero_all(Z,1752);
+*S=Aa;
+z7(S+1);
+wp(S+8,(u8*)65536);
+z64(S+16);
+wp(T,(u8*)65536);
+z16(T+8);
+ye=(u64)(u8*)65536;
+w8(U+1656,xe);
+U[1664]=we;
+U[1665]=1;
+wp(U,(u8*)65536);
+z24(U+8);
+wp(U+32,(u8*)65536);
+z16(U+40);
+wp(U+56,(u8*)65536);
+z32(U+64);
+wp(U+96,(u8*)65536);
+z16(U+104);
+wp(U+120,(u8*)65536);
+z32(U+128);
+wp(U+160,(u8*)65536);
+z80(U+168);
+wp(U+248,(u8*)65536);
+z16(U+256);
+wp(U+272,(u8*)65536);
+z40(U+280);
+wp(U+320,(u8*)65536);
+z16(U+328);
+wp(U+344,(u8*)65536);
+z16(U+352);
+wp(U+368,(u8*)65536);
+z16(U+376);
+wp(U+392,(u8*)65536);
+z16(U+400);
+wp(U+416,(u8*)65536);
+z16(U+424);
+wp(U+440,(u8*)65536);
+z48(U+448);
+wp(U+496,(u8*)65536);
+z32(U+504);
+wp(U+536,(u8*)65536);
+z32(U+544);
+wp(U+576,(u8*)65536);
+z104(U+584);
+w8(U+688,ye);
+z40(U+696);
+w8(U+736,ye);
+z16(U+744);
+wp(U+760,(u8*)65536);
+z32(U+768);
+wp(U+800,(u8*)65536);
+z24(U+808);
+wp(U+832,(u8*)65536);
+z16(U+840);
+wp(U+856,(u8*)65536);
+z32(U+864);
+wp(U+896,(u8*)65536);
+z16(U+904);
+wp(U+920,(u8*)65536);
+z24(U+928);
+wp(U+952,(u8*)65536);
+z16(U+960);
+wp(U+976,(u8*)65536);
+z16(U+984);
+wp(U+1000,(u8*)65536);
+z40(U+1008);
+wp(U+1048,(u8*)65536);
+z16(U+1056);
+wp(U+1072,(u8*)65536);
+z16(U+1080);
+wp(U+1096,(u8*)65536);
+z16(U+1104);
+wp(U+1120,(u8*)65536);
+z16(U+1128);
+wp(U+1144,(u8*)65536);
+z16(U+1152);
+wp(U+1168,(u8*)65536);
+z48(U+1176);
+wp(U+1224,(u8*)65536);
+z32(U+1232);
+wp(U+1264,(u8*)65536);
+z40(U+1272);
+wp(U+1312,(u8*)65536);
+z32(U+1320);
+wp(U+1352,(u8*)65536);
+z16(U+1360);
+wp(U+1376,(u8*)65536);
+z48(U+1384);
+w8(U+1432,ye);
+z40(U+1440);
+w8(U+1480,ye);
+z16(U+1488);
+wp(U+1504,(u8*)65536);
+z32(U+1512);
+wp(U+1544,(u8*)65536);
+z32(U+1552);
+wp(U+1584,(u8*)65536);
+z16(U+1592);
+wp(U+1608,(u8*)65536);
+z16(U+1616);
+wp(U+1632,(u8*)65536);
+z16(U+1640);
+w4(U+1668,0);
+wp(U+1672,(u8*)65536);
+z16(U+1680);
+wp(U+1696,(u8*)65536);
+z16(U+1704);
+wp(U+1720,(u8*)65536);
+z16(U+1728);
+w4(U+1744,65);
+w4(U+1748,0);
+ze=port_rattle_alloc(16384,1);
+if((u8)(ze.f0&1)){
+Ae=ze.f1;
+Be=(u8*)Ae;
+zero_all(Be,16384);
+Ce=r8(c+8224);
+if(Ce!=0){
+De=Ce;
+Ee=0;
+L44:w8(c+8224,De-1);
+Fe=r8(c+8200);
+Ge=r8(c+8192);
+if(Fe==Ge){
+He=port_read(0,Be,16384);
+if((i64)He<0){
 port_rattle_errno();
-Um=Vm;
 goto L45;}
-bn=umin64(an,16384);}
+Ie=umin64(He,16384);}
 else{
-cn=c+(i64)Zm;
-dn=umin64(Ym-Zm,16384);
-if(Rm-(u64)cn<dn)copy_bits_4f4(cn,Sm,dn);
-else memmove(Sm,cn,dn);
-en=r8(c+8192);
-w8(c+8192,umin64(dn,r8(c+8200)-en)+en);
-bn=dn;}
-if(bn==0){
-fn=end_segment_a2b(wi,jg,hg,ig,d);
-if(fn.f0==0){
-gn=rp(ig);
-hn=r8(ig+8);
-if(hn==0)goto L46;
-in=0;
-L47:jn=hn-in;
-kn=port_write(1,gn+(i64)in,jn);
-if((i64)kn<0)port_rattle_errno();
+Je=c+(i64)Ge;
+Ke=umin64(Fe-Ge,16384);
+if(Ae-(u64)Je<Ke)copy_bits_4f4(Je,Be,Ke);
+else memmove(Be,Je,Ke);
+Le=r8(c+8192);
+w8(c+8192,umin64(Ke,r8(c+8200)-Le)+Le);
+Ie=Ke;}
+if(Ie==0){
+Me=end_segment_a2b(da,U,S,T,d);
+if(Me.f0==0){
+Ne=rp(T);
+Oe=r8(T+8);
+if(Oe==0)goto L46;
+Pe=0;
+L47:Qe=Oe-Pe;
+Re=port_write(1,Ne+(i64)Pe,Qe);
+if((i64)Re<0)port_rattle_errno();
 else{
-ln=umin64(kn,jn);
-if(ln!=0){
-mn=ln+in;
-if(mn>=hn)goto L46;
-in=mn;
+Se=umin64(Re,Qe);
+if(Se!=0){
+Te=Se+Pe;
+if(Te>=Oe)goto L46;
+Pe=Te;
 goto L47;}}
 w8(d+8,r8(d+8)+1);
-nn=1;
+Ue=1;
 goto L48;
-L46:port_rattle_dealloc(Sm);
-memcpy(si,jg,2152);
-drop_b01(si);
-if(r8(ig+16)!=0)port_rattle_dealloc(gn);
-if(r8(hg+24)!=0)port_rattle_dealloc(rp(hg+8));
-memcpy(ti+6,hg+56,24);
-on=0;
-pn=0;
+L46:port_rattle_dealloc(Be);
+memcpy(Z,U,1752);
+drop_b01(Z);
+if(r8(T+16)!=0)port_rattle_dealloc(Ne);
+if(r8(S+24)!=0)port_rattle_dealloc(rp(S+8));
+memcpy(aa+6,S+56,24);
+Ve=0;
+We=0;
 goto L49;}
-nn=fn.f1;
-L48:port_rattle_dealloc(Sm);
-memcpy(ri,jg,2152);
-drop_b01(ri);
-if(r8(ig+16)!=0)port_rattle_dealloc(rp(ig));
-if(r8(hg+24)!=0)port_rattle_dealloc(rp(hg+8));
-z24(ti+6);
-on=1;
-pn=nn;
+Ue=Me.f1;
+L48:port_rattle_dealloc(Be);
+memcpy(Y,U,1752);
+drop_b01(Y);
+if(r8(T+16)!=0)port_rattle_dealloc(rp(T));
+if(r8(S+24)!=0)port_rattle_dealloc(rp(S+8));
+z24(aa+6);
+Ve=1;
+We=Ue;
 goto L49;}
-qn=Xm;
-rn=0;
-L50:sn=Sm+(i64)rn;
-z16(ae);
-first_segment_4a3(ae,*hg,sn,bn-rn,qn);
-tn=r8(ae);
-if(tn==0)goto L51;
-un=0;
-L52:vn=sn+(i64)un;
-wn=tn-un;
-z48(Zd);
-xn=r8(hg+16);
-yn=xn==0;
-zn=r16(hg+32);
-if(yn&&zn==0){
-if(hg[50]&1){
-pass_6c7(Zd,hg,vn,wn);
-An=r16(Zd);
-Bn=r8(Zd+16);
-Cn=Zd[24]&1;
+Xe=Ee;
+Ye=0;
+L50:Ze=Be+(i64)Ye;
+z16(Q);
+first_segment_4a3(Q,*S,Ze,Ie-Ye,Xe);
+af=r8(Q);
+if(af==0)goto L51;
+bf=0;
+L52:cf=Ze+(i64)bf;
+df=af-bf;
+z48(P);
+ef=r8(S+16);
+ff=ef==0;
+gf=r16(S+32);
+if(ff&&gf==0){
+if(S[50]&1){
+pass_6c7(P,S,cf,df);
+hf=r16(P);
+jf=r8(P+16);
+kf=P[24]&1;
 goto L53;}
-Dn=*hg;
-En=hg[48];
-if(wn==0)Fn=0;
+lf=*S;
+mf=S[48];
+if(df==0)nf=0;
 else{
-Gn=hg[49];
-Hn=Dn+49;
-In=Dn==2;
-Jn=0;
-L54:Kn=vn+Jn;
-if(*Kn==95){
-if(Jn==0){
-switch(En){
-case 0:Ln=Dn;
+of=S[49];
+pf=lf+49;
+qf=lf==2;
+rf=0;
+L54:sf=cf+rf;
+if(*sf==95){
+if(rf==0){
+switch(mf){
+case 0:tf=lf;
 goto L55;
-case 1:if(In){
-switch(Gn){
-case 46:case 36:Mn=1;
-Nn=49;
+case 1:if(qf){
+switch(of){
+case 46:case 36:uf=1;
+vf=49;
 goto L56;
 default:break;}}
 break;
-case 2:if(In){
-switch(Gn){
-case 46:case 36:Mn=1;
-Nn=49;
+case 2:if(qf){
+switch(of){
+case 46:case 36:uf=1;
+vf=49;
 goto L56;
 default:break;}}
 break;
 default:NEVER;
 }}
 else{
-On=*((u8*)t_e4d8+Kn[-1]);
-if(Hn>On){
-if(On<=(Dn==0?48:49)){
-Qn=0;
-Rn=0;
-Sn=Jn;
+wf=*((u8*)t_e4d8+sf[-1]);
+if(pf>wf){
+if(wf<=(lf==0?48:49)){
+yf=0;
+zf=0;
+Af=rf;
 goto L57;}
-Pn=place_in_stretch_597(Dn,vn,Jn,En);
-Qn=Pn.f1;
-Rn=Pn.f0;
-Sn=Jn;
+xf=place_in_stretch_597(lf,cf,rf,mf);
+yf=xf.f1;
+zf=xf.f0;
+Af=rf;
 goto L57;}}}
-Tn=Jn+1;
-Un=wn-Tn;
-if(Un<16)Vn=0;
+Bf=rf+1;
+Cf=df-Bf;
+if(Cf<16)Df=0;
 else{
-Wn=vn+(i64)Tn;
-Xn=cttz(v16_eq(v16_at(Wn),splat(95)),16);
-if((Un<32)|(Xn<16))Vn=Xn;
+Ef=cf+(i64)Bf;
+Ff=cttz(v16_eq(v16_at(Ef),splat(95)),16);
+if((Cf<32)|(Ff<16))Df=Ff;
 else{
-Yn=cttz(v16_eq(v16_at(Wn+16),splat(95)),16);
-if(Yn<16)Vn=Yn|16;
+Gf=cttz(v16_eq(v16_at(Ef+16),splat(95)),16);
+if(Gf<16)Df=Gf|16;
 else{
-if(Un<=95){
-Vn=32;
+if(Cf<=95){
+Df=32;
 goto L58;}
-Zn=32;
-L59:ao=Wn+(i64)Zn;
-if((((v16_eq(v16_at(ao),splat(95))|v16_eq(v16_at(ao+16),splat(95)))|v16_eq(v16_at(ao+32),splat(95)))|v16_eq(v16_at(ao+48),splat(95)))==0){
-bo=Zn+64;
-if(Un-bo>63){
-Zn=bo;
+Hf=32;
+L59:If=Ef+(i64)Hf;
+if((((v16_eq(v16_at(If),splat(95))|v16_eq(v16_at(If+16),splat(95)))|v16_eq(v16_at(If+32),splat(95)))|v16_eq(v16_at(If+48),splat(95)))==0){
+Jf=Hf+64;
+if(Cf-Jf>63){
+Hf=Jf;
 goto L59;}
-Vn=bo;}
-else Vn=Zn;}}}
-L58:co=Vn+Tn;
-if(co<wn){
-Jn=co;
+Df=Jf;}
+else Df=Hf;}}}
+L58:Kf=Df+Bf;
+if(Kf<df){
+rf=Kf;
 goto L54;}
-Fn=co;}
-if(*((u8*)t_e4d8+*(vn+(i64)Fn-1))>(Dn==0?48:49)){
-eo=place_in_stretch_597(Dn,vn,Fn,En);
-fo=eo.f0;
-go=eo.f1;}
+nf=Kf;}
+if(*((u8*)t_e4d8+*(cf+(i64)nf-1))>(lf==0?48:49)){
+Lf=place_in_stretch_597(lf,cf,nf,mf);
+Mf=Lf.f0;
+Nf=Lf.f1;}
 else{
-fo=0;
-go=0;}
-if(Fn==0){
-Ln=Dn;
+Mf=0;
+Nf=0;}
+if(nf==0){
+tf=lf;
 goto L55;}
-Qn=go;
-Rn=fo;
-Sn=Fn;
-L57:w2(hg+48,(u16)((u32)Qn<<8)|Rn);
-ho=Sn;
+yf=Nf;
+zf=Mf;
+Af=nf;
+L57:w2(S+48,(u16)((u32)yf<<8)|zf);
+Of=Af;
 goto L60;}
-Ln=*hg;
-L55:Mn=Ln==2;
-Nn=Ln==1?50:49;
-L56:if(Nn>*((u8*)t_e4d8+*vn))goto L61;
-io=0;
-L62:if(wn-io>15){
-jo=v16_at(vn+io);
-ko=cttz(v16_ne(jo,splat(36))&(v16_ne(jo,splat(46))&(v16_ne(jo,splat(95))&(v16_ult(v16_add(jo,splat(198)),splat(246))&v16_ult(v16_add(v16_or(jo,splat(32)),splat(133)),splat(230))))),16);
-lo=io+ko;
-if(ko>=16){
-io=lo;
+tf=*S;
+L55:uf=tf==2;
+vf=tf==1?50:49;
+L56:if(vf>*((u8*)t_e4d8+*cf))goto L61;
+Pf=0;
+L62:if(df-Pf>15){
+Qf=v16_at(cf+Pf);
+Rf=cttz(v16_ne(Qf,splat(36))&(v16_ne(Qf,splat(46))&(v16_ne(Qf,splat(95))&(v16_ult(v16_add(Qf,splat(198)),splat(246))&v16_ult(v16_add(v16_or(Qf,splat(32)),splat(133)),splat(230))))),16);
+Sf=Pf+Rf;
+if(Rf>=16){
+Pf=Sf;
 goto L62;}
-mo=lo;}
-else mo=io;
-if(mo>=wn){
-oo=mo;
+Tf=Sf;}
+else Tf=Pf;
+if(Tf>=df){
+Vf=Tf;
 goto L63;}
-no=mo;
-L64:if(Nn>*((u8*)t_e4d8+*(vn+no)))oo=no;
+Uf=Tf;
+L64:if(vf>*((u8*)t_e4d8+*(cf+Uf)))Vf=Uf;
 else{
-po=no+1;
-if(po!=wn){
-no=po;
+Wf=Uf+1;
+if(Wf!=df){
+Uf=Wf;
 goto L64;}
-oo=wn;}
-L63:if(oo==0)goto L61;
-qo=oo;
-L65:if(qo==0)ro=zn+oo;
+Vf=df;}
+L63:if(Vf==0)goto L61;
+Xf=Vf;
+L65:if(Xf==0)Yf=gf+Vf;
 else{
-so=qo-1;
-if(*(vn+so)==46){
-qo=so;
+Zf=Xf-1;
+if(*(cf+Zf)==46){
+Xf=Zf;
 goto L65;}
-if(zn+qo>65536-xn){
-to=rp(hg+8);
-uo=r8(ig+16);
-vo=r8(ig+8);
-if(xn>uo-vo){
-wo=grow_amortized_68b(ig,xn);
-if(!wo)goto L66;
-xo=r8(ig+16);
-yo=r8(ig+8);}
+if(gf+Xf>65536-ef){
+ag=rp(S+8);
+bg=r8(T+16);
+cg=r8(T+8);
+if(ef>bg-cg){
+dg=grow_amortized_68b(T,ef);
+if(!dg)goto L66;
+eg=r8(T+16);
+fg=r8(T+8);}
+else{
+eg=bg;
+fg=cg;}
+gg=fg+ef;
+hg=rp(T);
+z16(T+8);
+ig=hg+(i64)fg;
+if((u64)ig-(u64)ag<ef){
+copy_bits_4f4(ag,ig,ef);
+w8(T+8,gg);
+w8(T+16,eg);}
+else{
+memmove(ig,ag,ef);
+w8(T+8,gg);
+w8(T+16,eg);
+if(ff)goto L67;}
+w8(S+16,0);
+L67:w16(S+32,0);
+S[50]=1;
+hf=gf;
+jf=Vf;
+kf=1;
+goto L53;}
+jg=gf;
+kg=ef+jg;
+if(kg>ef){
+lg=r8(S+24);
+if(lg-ef<jg){
+mg=grow_amortized_68b(S+8,jg);
+if(!mg)goto L66;
+ng=r8(S+16);
+og=ng+jg;
+pg=r8(S+24);
+qg=ng;}
+else{
+og=kg;
+pg=lg;
+qg=ef;}
+if(qg<og)memset(rp(S+8)+(i64)qg,46,jg);
+w8(S+16,og);
+w8(S+24,pg);
+rg=og;}
+else{
+if(ef>kg){
+w8(S+16,kg);
+rg=kg;}
+else rg=ef;}
+sg=r8(S+24);
+if(Xf>sg-rg){
+tg=grow_amortized_68b(S+8,Xf);
+if(!tg)goto L66;
+ug=r8(S+24);
+vg=r8(S+16);}
+else{
+ug=sg;
+vg=rg;}
+wg=vg+Xf;
+xg=rp(S+8)+(i64)vg;
+if((u64)xg-(u64)cf<Xf)copy_bits_4f4(cf,xg,Xf);
+else memmove(xg,cf,Xf);
+w8(S+16,wg);
+w8(S+24,ug);
+Yf=Vf-Xf;}
+w16(S+32,Yf);
+yg=Vf;
+goto L68;
+L61:z48(O);
+if(!uf){
+Ag=rp(S+8);
+if(ef-65537>=0xffffffffffff0001u){
+Bg=*Ag==95;
+if(ef==2){
+if(!Bg)goto L69;
+switch(Ag[1]){
+case 90:Cg=0;
+goto L70;
+case 82:break;
+default:goto L69;
+}}
+else{
+if(!Bg)goto L69;
+switch(Ag[1]){
+case 90:Cg=0;
+goto L70;
+case 82:break;
+case 95:switch(Ag[2]){
+case 90:Cg=0x100000000u;
+goto L70;
+case 82:Cg=0x100000001u;
+goto L70;
+default:goto L69;
+}
+break;
+default:goto L69;
+}}
+Cg=1;
+L70:Dg=Cg>>32;
+z12(N);
+append_931(N,da,U,Cg,Dg,Ag+(i64)Dg,ef-Dg,T);
+if(*N!=0){
+if(N[4]!=4){
+Fg=r8(T+16);
+Gg=r8(T+8);
+if(ef>Fg-Gg){
+Hg=grow_amortized_68b(T,ef);
+if(!Hg)goto L71;
+Ig=r8(T+16);
+Jg=r8(T+8);}
+else{
+Ig=Fg;
+Jg=Gg;}
+Kg=Jg+ef;
+Lg=rp(T)+(i64)Jg;
+if((u64)Lg-(u64)Ag<ef)copy_bits_4f4(Ag,Lg,ef);
+else memmove(Lg,Ag,ef);
+w8(T+8,Kg);
+w8(T+16,Ig);
+Eg=16;
+goto L72;}
+L71:goto L73;}
+Eg=8;
+L72:w8(S+56,uadd64(r8(S+56),1));
+Mg=S+56+(i64)Eg;
+w8(Mg,uadd64(r8(Mg),1));
+goto L74;}
+L69:Ng=r8(T+16);
+Og=r8(T+8);
+if(ef>Ng-Og){
+Pg=grow_amortized_68b(T,ef);
+if(!Pg)goto L73;
+Qg=r8(T+16);
+Rg=r8(T+8);}
+else{
+Qg=Ng;
+Rg=Og;}
+Sg=Rg+ef;
+Tg=rp(T);
+z16(T+8);
+Ug=Tg+(i64)Rg;
+if((u64)Ug-(u64)Ag<ef){
+copy_bits_4f4(Ag,Ug,ef);
+w8(T+8,Sg);
+w8(T+16,Qg);}
+else{
+memmove(Ug,Ag,ef);
+w8(T+8,Sg);
+w8(T+16,Qg);
+if(ff)goto L75;}
+L74:w8(S+16,0);
+L75:z18(S+32);
+zg=gf;
+goto L76;}
+end_within_121(O,S,da,U,T);
+if(*O==0){
+zg=r16(O+16);
+goto L76;}
+L73:goto L66;
+L76:hf=zg;
+jf=1;
+kf=1;
+goto L53;
+L66:Vg=2;
+goto L77;
+L53:if(hf!=0){
+Wg=r8(T+8);
+Xg=0;
+L78:if(r8(T+16)==Wg){
+Yg=grow_amortized_68b(T,1);
+if(!Yg){
+Vg=2;
+goto L77;}
+Zg=r8(T+8);}
+else Zg=Wg;
+ah=rp(T);
+*(ah+Zg)=46;
+bh=Zg+1;
+w8(T+8,bh);
+if(bh<16384){
+ch=bh;
+goto L79;}
+dh=0;
+L80:eh=bh-dh;
+fh=port_write(1,ah+(i64)dh,eh);
+if((i64)fh<0)port_rattle_errno();
+else{
+gh=umin64(fh,eh);
+if(gh!=0){
+hh=gh+dh;
+if(hh<bh){
+dh=hh;
+goto L80;}
+w8(T+8,0);
+ch=0;
+goto L79;}}
+w8(d+8,r8(d+8)+1);
+Vg=1;
+goto L77;
+L79:ih=Xg+1;
+if(ih<hf){
+Wg=ch;
+Xg=ih;
+goto L78;}}
+if(!kf){
+yg=jf;
+goto L68;}
+Of=jf;
+L60:jh=r8(T+16);
+kh=r8(T+8);
+if(Of>jh-kh){
+lh=grow_amortized_68b(T,Of);
+if(!lh){
+Vg=2;
+goto L77;}
+mh=r8(T+16);
+nh=r8(T+8);}
+else{
+mh=jh;
+nh=kh;}
+oh=nh+Of;
+ph=rp(T);
+qh=ph+(i64)nh;
+if((u64)qh-(u64)cf<Of)copy_bits_4f4(cf,qh,Of);
+else memmove(qh,cf,Of);
+w8(T+8,oh);
+w8(T+16,mh);
+if(oh<16384){
+yg=Of;
+goto L68;}
+rh=0;
+L81:sh=oh-rh;
+th=port_write(1,ph+(i64)rh,sh);
+if((i64)th<0)port_rattle_errno();
+else{
+uh=umin64(th,sh);
+if(uh!=0){
+vh=uh+rh;
+if(vh<oh){
+rh=vh;
+goto L81;}
+w8(T+8,0);
+yg=Of;
+goto L68;}}
+w8(d+8,r8(d+8)+1);
+Vg=1;
+goto L77;
+L68:wh=yg+bf;
+if(wh<af){
+bf=wh;
+goto L52;}
+L51:xh=Q[9];
+if(Q[8]&1){
+yh=end_segment_a2b(da,U,S,T,d);
+if(yh.f0!=0){
+Vg=yh.f1;
+goto L77;}}
+zh=af+Ye;
+if(zh<Ie){
+Xe=xh;
+Ye=zh;
+goto L50;}
+Ah=r8(S+16);
+if(Ah-65537>=0xffffffffffff0001u){
+Bh=rp(S+8);
+Ch=*Bh==95;
+if(Ah==2){
+if(!Ch)goto L82;
+switch(Bh[1]){
+case 90:Dh=0;
+goto L83;
+case 82:break;
+default:goto L82;
+}}
+else{
+if(!Ch)goto L82;
+switch(Bh[1]){
+case 90:Dh=0;
+goto L83;
+case 82:break;
+case 95:switch(Bh[2]){
+case 90:Dh=0x100000000u;
+goto L83;
+case 82:Dh=0x100000001u;
+goto L83;
+default:goto L82;
+}
+break;
+default:goto L82;
+}}
+Dh=1;
+L83:Eh=Dh>>32;
+read_ahead_495(U,Dh,Bh+(i64)Eh,Ah-Eh);}
+L82:Fh=rp(T);
+Gh=r8(T+8);
+if(Gh==0)goto L84;
+Hh=0;
+L85:Ih=Gh-Hh;
+Jh=port_write(1,Fh+(i64)Hh,Ih);
+if((i64)Jh<0)port_rattle_errno();
+else{
+Kh=umin64(Jh,Ih);
+if(Kh!=0){
+Lh=Kh+Hh;
+if(Lh<Gh){
+Hh=Lh;
+goto L85;}
+w8(T+8,0);
+goto L84;}}
+w8(d+8,r8(d+8)+1);
+Mh=1;
+goto L86;
+L84:Nh=r8(c+8224);
+if(Nh==0)goto L45;
+De=Nh;
+Ee=xh;
+goto L44;
+L77:Mh=Vg;
+L86:port_rattle_dealloc(Be);
+memcpy(X,U,1752);
+drop_b01(X);
+if(r8(T+16)!=0)port_rattle_dealloc(rp(T));
+if(r8(S+24)!=0)port_rattle_dealloc(rp(S+8));
+z24(aa+6);
+Ve=1;
+We=Mh;
+goto L49;}
+L45:w8(c+8216,r8(c+8216)+1);
+port_rattle_dealloc(Be);
+memcpy(W,U,1752);
+drop_b01(W);
+if(r8(T+16)!=0)port_rattle_dealloc(rp(T));
+if(r8(S+24)!=0)port_rattle_dealloc(rp(S+8));
+memcpy(aa+6,R+6,24);
+Ve=1;
+We=0;}
+else{
+memcpy(V,U,1752);
+drop_b01(V);
+if(r8(T+16)!=0)port_rattle_dealloc(rp(T));
+if(r8(S+24)!=0)port_rattle_dealloc(rp(S+8));
+z24(aa+6);
+Ve=1;
+We=2;}
+L49:memcpy(ba+6,aa+6,24);
+memcpy(ca+6,ba+6,24);
+memcpy(va+6,ca+6,24);
+ue=Ve;
+ve=We;}
+memcpy(wa+6,va+6,24);
+Oh=ue;
+Ph=ve;
+Qh=wa+6;}
+else{
+z30(M);
+if(Da){
+z30(K);
+Rh=((u64)ya<<32)|xa;
+w8(L,Rh);
+z30(J);
+z30(I);
+z30(D);
+z128(G+1504);
+zero_all(H,1632);
+*E=Aa;
+z7(E+1);
+wp(E+8,(u8*)65536);
+z64(E+16);
+wp(F,(u8*)65536);
+z16(F+8);
+Sh=(u64)(u8*)65536;
+wp(G,(u8*)65536);
+z24(G+8);
+wp(G+32,(u8*)65536);
+z16(G+40);
+wp(G+56,(u8*)65536);
+z32(G+64);
+wp(G+96,(u8*)65536);
+z16(G+104);
+wp(G+120,(u8*)65536);
+z32(G+128);
+wp(G+160,(u8*)65536);
+z80(G+168);
+wp(G+248,(u8*)65536);
+z16(G+256);
+wp(G+272,(u8*)65536);
+z40(G+280);
+wp(G+320,(u8*)65536);
+z16(G+328);
+wp(G+344,(u8*)65536);
+z16(G+352);
+wp(G+368,(u8*)65536);
+z16(G+376);
+wp(G+392,(u8*)65536);
+z16(G+400);
+wp(G+416,(u8*)65536);
+z16(G+424);
+wp(G+440,(u8*)65536);
+z48(G+448);
+wp(G+496,(u8*)65536);
+z32(G+504);
+wp(G+536,(u8*)65536);
+z32(G+544);
+wp(G+576,(u8*)65536);
+z104(G+584);
+w8(G+688,Sh);
+z40(G+696);
+w8(G+736,Sh);
+z16(G+744);
+wp(G+760,(u8*)65536);
+z32(G+768);
+wp(G+800,(u8*)65536);
+z24(G+808);
+wp(G+832,(u8*)65536);
+z16(G+840);
+wp(G+856,(u8*)65536);
+z32(G+864);
+wp(G+896,(u8*)65536);
+z16(G+904);
+wp(G+920,(u8*)65536);
+z24(G+928);
+wp(G+952,(u8*)65536);
+z16(G+960);
+wp(G+976,(u8*)65536);
+z16(G+984);
+wp(G+1000,(u8*)65536);
+z40(G+1008);
+wp(G+1048,(u8*)65536);
+z16(G+1056);
+wp(G+1072,(u8*)65536);
+z16(G+1080);
+wp(G+1096,(u8*)65536);
+z16(G+1104);
+wp(G+1120,(u8*)65536);
+z16(G+1128);
+wp(G+1144,(u8*)65536);
+z16(G+1152);
+wp(G+1168,(u8*)65536);
+z48(G+1176);
+wp(G+1224,(u8*)65536);
+z32(G+1232);
+wp(G+1264,(u8*)65536);
+z40(G+1272);
+wp(G+1312,(u8*)65536);
+z32(G+1320);
+wp(G+1352,(u8*)65536);
+z16(G+1360);
+wp(G+1376,(u8*)65536);
+z48(G+1384);
+w8(G+1432,Sh);
+z40(G+1440);
+w8(G+1480,Sh);
+z16(G+1488);
+wp(G+1504,(u8*)65536);
+z32(G+1512);
+w8(G+1544,Rh);
+wp(G+1552,(u8*)65536);
+z16(G+1560);
+wp(G+1576,(u8*)65536);
+z16(G+1584);
+wp(G+1600,(u8*)65536);
+z16(G+1608);
+w4(G+1624,65);
+w4(G+1628,0);
+Th=port_rattle_alloc(16384,1);
+if((u8)(Th.f0&1)){
+Uh=Th.f1;
+Vh=(u8*)Uh;
+zero_all(Vh,16384);
+Wh=r8(c+8224);
+if(Wh!=0){
+Xh=Wh;
+Yh=0;
+L87:w8(c+8224,Xh-1);
+Zh=r8(c+8200);
+ai=r8(c+8192);
+if(Zh==ai){
+bi=port_read(0,Vh,16384);
+if((i64)bi<0){
+port_rattle_errno();
+goto L88;}
+ci=umin64(bi,16384);}
+else{
+di=c+(i64)ai;
+ei=umin64(Zh-ai,16384);
+if(Uh-(u64)di<ei)copy_bits_4f4(di,Vh,ei);
+else memmove(Vh,di,ei);
+fi=r8(c+8192);
+w8(c+8192,umin64(ei,r8(c+8200)-fi)+fi);
+ci=ei;}
+if(ci==0){
+gi=end_segment_d86(L,G,E,F,d);
+if(gi.f0==0){
+hi=rp(F);
+ii=r8(F+8);
+if(ii==0)goto L89;
+ji=0;
+L90:ki=ii-ji;
+li=port_write(1,hi+(i64)ji,ki);
+if((i64)li<0)port_rattle_errno();
+else{
+mi=umin64(li,ki);
+if(mi!=0){
+ni=mi+ji;
+if(ni>=ii)goto L89;
+ji=ni;
+goto L90;}}
+w8(d+8,r8(d+8)+1);
+oi=1;
+goto L91;
+L89:port_rattle_dealloc(Vh);
+memcpy(H,G,1632);
+drop_097(H);
+if(r8(F+16)!=0)port_rattle_dealloc(hi);
+if(r8(E+24)!=0)port_rattle_dealloc(rp(E+8));
+memcpy(I+6,E+56,24);
+pi=0;
+qi=0;
+goto L92;}
+oi=gi.f1;
+L91:port_rattle_dealloc(Vh);
+ri=rp(G+1552);
+si=rp(G+1576);
+ti=r8(G+1592);
+ui=rp(G+1600);
+vi=r8(G+1616);
+wi=r8(G+1568);
+memcpy(v,G,1544);
+drop_816(v);
+if(wi!=0)port_rattle_dealloc(ri);
+if(ti!=0)port_rattle_dealloc(si);
+if(vi!=0)port_rattle_dealloc(ui);
+if(r8(F+16)!=0)port_rattle_dealloc(rp(F));
+if(r8(E+24)!=0)port_rattle_dealloc(rp(E+8));
+z24(I+6);
+pi=1;
+qi=oi;
+goto L92;}
+xi=Yh;
+yi=0;
+L93:zi=Vh+(i64)yi;
+z16(A);
+first_segment_4a3(A,*E,zi,ci-yi,xi);
+Ai=r8(A);
+if(Ai==0)goto L94;
+Bi=0;
+L95:Ci=zi+(i64)Bi;
+Di=Ai-Bi;
+z48(z);
+Ei=r8(E+16);
+Fi=Ei==0;
+Gi=r16(E+32);
+if(Fi&&Gi==0){
+if(E[50]&1){
+pass_6c7(z,E,Ci,Di);
+Hi=r16(z);
+Ii=r8(z+16);
+Ji=z[24]&1;
+goto L96;}
+Ki=*E;
+Li=E[48];
+if(Di==0)Mi=0;
+else{
+Ni=E[49];
+Oi=Ki+49;
+Pi=Ki==2;
+Qi=0;
+L97:Ri=Ci+Qi;
+if(*Ri==95){
+if(Qi==0){
+switch(Li){
+case 0:Si=Ki;
+goto L98;
+case 1:if(Pi){
+switch(Ni){
+case 46:case 36:Ti=1;
+Ui=49;
+goto L99;
+default:break;}}
+break;
+case 2:if(Pi){
+switch(Ni){
+case 46:case 36:Ti=1;
+Ui=49;
+goto L99;
+default:break;}}
+break;
+default:NEVER;
+}}
+else{
+Vi=*((u8*)t_e4d8+Ri[-1]);
+if(Oi>Vi){
+if(Vi<=(Ki==0?48:49)){
+Xi=0;
+Yi=0;
+Zi=Qi;
+goto L100;}
+Wi=place_in_stretch_597(Ki,Ci,Qi,Li);
+Xi=Wi.f1;
+Yi=Wi.f0;
+Zi=Qi;
+goto L100;}}}
+aj=Qi+1;
+bj=Di-aj;
+if(bj<16)cj=0;
+else{
+dj=Ci+(i64)aj;
+ej=cttz(v16_eq(v16_at(dj),splat(95)),16);
+if((bj<32)|(ej<16))cj=ej;
+else{
+fj=cttz(v16_eq(v16_at(dj+16),splat(95)),16);
+if(fj<16)cj=fj|16;
+else{
+if(bj<=95){
+cj=32;
+goto L101;}
+gj=32;
+L102:hj=dj+(i64)gj;
+if((((v16_eq(v16_at(hj),splat(95))|v16_eq(v16_at(hj+16),splat(95)))|v16_eq(v16_at(hj+32),splat(95)))|v16_eq(v16_at(hj+48),splat(95)))==0){
+ij=gj+64;
+if(bj-ij>63){
+gj=ij;
+goto L102;}
+cj=ij;}
+else cj=gj;}}}
+L101:jj=cj+aj;
+if(jj<Di){
+Qi=jj;
+goto L97;}
+Mi=jj;}
+if(*((u8*)t_e4d8+*(Ci+(i64)Mi-1))>(Ki==0?48:49)){
+kj=place_in_stretch_597(Ki,Ci,Mi,Li);
+lj=kj.f0;
+mj=kj.f1;}
+else{
+lj=0;
+mj=0;}
+if(Mi==0){
+Si=Ki;
+goto L98;}
+Xi=mj;
+Yi=lj;
+Zi=Mi;
+L100:w2(E+48,(u16)((u32)Xi<<8)|Yi);
+nj=Zi;
+goto L103;}
+Si=*E;
+L98:Ti=Si==2;
+Ui=Si==1?50:49;
+L99:if(Ui>*((u8*)t_e4d8+*Ci))goto L104;
+oj=0;
+L105:if(Di-oj>15){
+pj=v16_at(Ci+oj);
+qj=cttz(v16_ne(pj,splat(36))&(v16_ne(pj,splat(46))&(v16_ne(pj,splat(95))&(v16_ult(v16_add(pj,splat(198)),splat(246))&v16_ult(v16_add(v16_or(pj,splat(32)),splat(133)),splat(230))))),16);
+rj=oj+qj;
+if(qj>=16){
+oj=rj;
+goto L105;}
+sj=rj;}
+else sj=oj;
+if(sj>=Di){
+uj=sj;
+goto L106;}
+tj=sj;
+L107:if(Ui>*((u8*)t_e4d8+*(Ci+tj)))uj=tj;
+else{
+vj=tj+1;
+if(vj!=Di){
+tj=vj;
+goto L107;}
+uj=Di;}
+L106:if(uj==0)goto L104;
+wj=uj;
+L108:if(wj==0)xj=Gi+uj;
+else{
+yj=wj-1;
+if(*(Ci+yj)==46){
+wj=yj;
+goto L108;}
+if(Gi+wj>65536-Ei){
+zj=rp(E+8);
+Aj=r8(F+16);
+Bj=r8(F+8);
+if(Ei>Aj-Bj){
+Cj=grow_amortized_68b(F,Ei);
+if(!Cj)goto L109;
+Dj=r8(F+16);
+Ej=r8(F+8);}
+else{
+Dj=Aj;
+Ej=Bj;}
+Fj=Ej+Ei;
+Gj=rp(F);
+z16(F+8);
+Hj=Gj+(i64)Ej;
+if((u64)Hj-(u64)zj<Ei){
+copy_bits_4f4(zj,Hj,Ei);
+w8(F+8,Fj);
+w8(F+16,Dj);}
+else{
+memmove(Hj,zj,Ei);
+w8(F+8,Fj);
+w8(F+16,Dj);
+if(Fi)goto L110;}
+w8(E+16,0);
+L110:w16(E+32,0);
+E[50]=1;
+Hi=Gi;
+Ii=uj;
+Ji=1;
+goto L96;}
+Ij=Gi;
+Jj=Ei+Ij;
+if(Jj>Ei){
+Kj=r8(E+24);
+if(Kj-Ei<Ij){
+Lj=grow_amortized_68b(E+8,Ij);
+if(!Lj)goto L109;
+Mj=r8(E+16);
+Nj=Mj+Ij;
+Oj=r8(E+24);
+Pj=Mj;}
+else{
+Nj=Jj;
+Oj=Kj;
+Pj=Ei;}
+if(Pj<Nj)memset(rp(E+8)+(i64)Pj,46,Ij);
+w8(E+16,Nj);
+w8(E+24,Oj);
+Qj=Nj;}
+else{
+if(Ei>Jj){
+w8(E+16,Jj);
+Qj=Jj;}
+else Qj=Ei;}
+Rj=r8(E+24);
+if(wj>Rj-Qj){
+Sj=grow_amortized_68b(E+8,wj);
+if(!Sj)goto L109;
+Tj=r8(E+24);
+Uj=r8(E+16);}
+else{
+Tj=Rj;
+Uj=Qj;}
+Vj=Uj+wj;
+Wj=rp(E+8)+(i64)Uj;
+if((u64)Wj-(u64)Ci<wj)copy_bits_4f4(Ci,Wj,wj);
+else memmove(Wj,Ci,wj);
+w8(E+16,Vj);
+w8(E+24,Tj);
+xj=uj-wj;}
+w16(E+32,xj);
+Xj=uj;
+goto L111;
+L104:z48(y);
+if(!Ti){
+Zj=rp(E+8);
+if(Ei-65537>=0xffffffffffff0001u){
+ak=*Zj==95;
+if(Ei==2){
+if(!ak)goto L112;
+switch(Zj[1]){
+case 90:bk=0;
+goto L113;
+case 82:break;
+default:goto L112;
+}}
+else{
+if(!ak)goto L112;
+switch(Zj[1]){
+case 90:bk=0;
+goto L113;
+case 82:break;
+case 95:switch(Zj[2]){
+case 90:bk=0x100000000u;
+goto L113;
+case 82:bk=0x100000001u;
+goto L113;
+default:goto L112;
+}
+break;
+default:goto L112;
+}}
+bk=1;
+L113:ck=bk>>32;
+z12(x);
+append_35b(x,L,G,bk,ck,Zj+(i64)ck,Ei-ck,F);
+if(*x!=0){
+if(x[4]!=4){
+ek=r8(F+16);
+fk=r8(F+8);
+if(Ei>ek-fk){
+gk=grow_amortized_68b(F,Ei);
+if(!gk)goto L114;
+hk=r8(F+16);
+ik=r8(F+8);}
+else{
+hk=ek;
+ik=fk;}
+jk=ik+Ei;
+kk=rp(F)+(i64)ik;
+if((u64)kk-(u64)Zj<Ei)copy_bits_4f4(Zj,kk,Ei);
+else memmove(kk,Zj,Ei);
+w8(F+8,jk);
+w8(F+16,hk);
+dk=16;
+goto L115;}
+L114:goto L116;}
+dk=8;
+L115:w8(E+56,uadd64(r8(E+56),1));
+lk=E+56+(i64)dk;
+w8(lk,uadd64(r8(lk),1));
+goto L117;}
+L112:mk=r8(F+16);
+nk=r8(F+8);
+if(Ei>mk-nk){
+ok=grow_amortized_68b(F,Ei);
+if(!ok)goto L116;
+pk=r8(F+16);
+qk=r8(F+8);}
+else{
+pk=mk;
+qk=nk;}
+rk=qk+Ei;
+sk=rp(F);
+z16(F+8);
+tk=sk+(i64)qk;
+if((u64)tk-(u64)Zj<Ei){
+copy_bits_4f4(Zj,tk,Ei);
+w8(F+8,rk);
+w8(F+16,pk);}
+else{
+memmove(tk,Zj,Ei);
+w8(F+8,rk);
+w8(F+16,pk);
+if(Fi)goto L118;}
+L117:w8(E+16,0);
+L118:z18(E+32);
+Yj=Gi;
+goto L119;}
+end_within_2c9(y,E,L,G,F);
+if(*y==0){
+Yj=r16(y+16);
+goto L119;}
+L116:goto L109;
+L119:Hi=Yj;
+Ii=1;
+Ji=1;
+goto L96;
+L109:uk=2;
+goto L120;
+L96:if(Hi!=0){
+vk=r8(F+8);
+wk=0;
+L121:if(r8(F+16)==vk){
+xk=grow_amortized_68b(F,1);
+if(!xk){
+uk=2;
+goto L120;}
+yk=r8(F+8);}
+else yk=vk;
+zk=rp(F);
+*(zk+yk)=46;
+Ak=yk+1;
+w8(F+8,Ak);
+if(Ak<16384){
+Bk=Ak;
+goto L122;}
+Ck=0;
+L123:Dk=Ak-Ck;
+Ek=port_write(1,zk+(i64)Ck,Dk);
+if((i64)Ek<0)port_rattle_errno();
+else{
+Fk=umin64(Ek,Dk);
+if(Fk!=0){
+Gk=Fk+Ck;
+if(Gk<Ak){
+Ck=Gk;
+goto L123;}
+w8(F+8,0);
+Bk=0;
+goto L122;}}
+w8(d+8,r8(d+8)+1);
+uk=1;
+goto L120;
+L122:Hk=wk+1;
+if(Hk<Hi){
+vk=Bk;
+wk=Hk;
+goto L121;}}
+if(!Ji){
+Xj=Ii;
+goto L111;}
+nj=Ii;
+L103:Ik=r8(F+16);
+Jk=r8(F+8);
+if(nj>Ik-Jk){
+Kk=grow_amortized_68b(F,nj);
+if(!Kk){
+uk=2;
+goto L120;}
+Lk=r8(F+16);
+Mk=r8(F+8);}
+else{
+Lk=Ik;
+Mk=Jk;}
+Nk=Mk+nj;
+Ok=rp(F);
+Pk=Ok+(i64)Mk;
+if((u64)Pk-(u64)Ci<nj)copy_bits_4f4(Ci,Pk,nj);
+else memmove(Pk,Ci,nj);
+w8(F+8,Nk);
+w8(F+16,Lk);
+if(Nk<16384){
+Xj=nj;
+goto L111;}
+Qk=0;
+L124:Rk=Nk-Qk;
+Sk=port_write(1,Ok+(i64)Qk,Rk);
+if((i64)Sk<0)port_rattle_errno();
+else{
+Tk=umin64(Sk,Rk);
+if(Tk!=0){
+Uk=Tk+Qk;
+if(Uk<Nk){
+Qk=Uk;
+goto L124;}
+w8(F+8,0);
+Xj=nj;
+goto L111;}}
+w8(d+8,r8(d+8)+1);
+uk=1;
+goto L120;
+L111:Vk=Xj+Bi;
+if(Vk<Ai){
+Bi=Vk;
+goto L95;}
+L94:Wk=A[9];
+if(A[8]&1){
+Xk=end_segment_d86(L,G,E,F,d);
+if(Xk.f0!=0){
+uk=Xk.f1;
+goto L120;}}
+Yk=Ai+yi;
+if(Yk<ci){
+xi=Wk;
+yi=Yk;
+goto L93;}
+Zk=r8(E+16);
+if(Zk-65537>=0xffffffffffff0001u){
+al=rp(E+8);
+bl=*al==95;
+if(Zk==2){
+if(!bl)goto L125;
+switch(al[1]){
+case 90:cl=0;
+goto L126;
+case 82:break;
+default:goto L125;
+}}
+else{
+if(!bl)goto L125;
+switch(al[1]){
+case 90:cl=0;
+goto L126;
+case 82:break;
+case 95:switch(al[2]){
+case 90:cl=0x100000000u;
+goto L126;
+case 82:cl=0x100000001u;
+goto L126;
+default:goto L125;
+}
+break;
+default:goto L125;
+}}
+cl=1;
+L126:dl=cl>>32;
+read_ahead_495(G,cl,al+(i64)dl,Zk-dl);}
+L125:el=rp(F);
+fl=r8(F+8);
+if(fl==0)goto L127;
+gl=0;
+L128:hl=fl-gl;
+il=port_write(1,el+(i64)gl,hl);
+if((i64)il<0)port_rattle_errno();
+else{
+jl=umin64(il,hl);
+if(jl!=0){
+kl=jl+gl;
+if(kl<fl){
+gl=kl;
+goto L128;}
+w8(F+8,0);
+goto L127;}}
+w8(d+8,r8(d+8)+1);
+ll=1;
+goto L129;
+L127:ml=r8(c+8224);
+if(ml==0)goto L88;
+Xh=ml;
+Yh=Wk;
+goto L87;
+L120:ll=uk;
+L129:port_rattle_dealloc(Vh);
+nl=rp(G+1552);
+ol=rp(G+1576);
+pl=r8(G+1592);
+ql=rp(G+1600);
+rl=r8(G+1616);
+sl=r8(G+1568);
+memcpy(w,G,1544);
+drop_816(w);
+if(sl!=0)port_rattle_dealloc(nl);
+if(pl!=0)port_rattle_dealloc(ol);
+if(rl!=0)port_rattle_dealloc(ql);
+if(r8(F+16)!=0)port_rattle_dealloc(rp(F));
+if(r8(E+24)!=0)port_rattle_dealloc(rp(E+8));
+z24(I+6);
+pi=1;
+qi=ll;
+goto L92;}
+L88:w8(c+8216,r8(c+8216)+1);
+port_rattle_dealloc(Vh);
+tl=rp(G+1552);
+ul=rp(G+1576);
+vl=r8(G+1592);
+wl=rp(G+1600);
+xl=r8(G+1616);
+yl=r8(G+1568);
+memcpy(B,G,1544);
+drop_816(B);
+if(yl!=0)port_rattle_dealloc(tl);
+if(vl!=0)port_rattle_dealloc(ul);
+if(xl!=0)port_rattle_dealloc(wl);
+if(r8(F+16)!=0)port_rattle_dealloc(rp(F));
+if(r8(E+24)!=0)port_rattle_dealloc(rp(E+8));
+memcpy(I+6,D+6,24);
+pi=1;
+qi=0;}
+else{
+zl=rp(G+1552);
+Al=rp(G+1576);
+Bl=r8(G+1592);
+Cl=rp(G+1600);
+Dl=r8(G+1616);
+El=r8(G+1568);
+memcpy(C,G,1544);
+drop_816(C);
+if(El!=0)port_rattle_dealloc(zl);
+if(Bl!=0)port_rattle_dealloc(Al);
+if(Dl!=0)port_rattle_dealloc(Cl);
+if(r8(F+16)!=0)port_rattle_dealloc(rp(F));
+if(r8(E+24)!=0)port_rattle_dealloc(rp(E+8));
+z24(I+6);
+pi=1;
+qi=2;}
+L92:memcpy(J+6,I+6,24);
+memcpy(K+6,J+6,24);
+memcpy(M+6,K+6,24);
+Fl=pi;
+Gl=qi;}
+else{
+Hl=za&1;
+Il=((u64)ya<<32)|xa;
+z30(t);
+w8(u,Il);
+u[8]=Hl;
+u[9]=0;
+w2(u+10,0);
+z30(s);
+z30(r);
+z30(i);
+zero_all(l+1384,368);
+zero_all(m,1752);
+zero_all(n,1752);
+zero_all(o,1752);
+zero_all(p,1752);
+zero_all(q,1752);
+*j=Aa;
+z7(j+1);
+wp(j+8,(u8*)65536);
+z64(j+16);
+wp(k,(u8*)65536);
+z16(k+8);
+Jl=(u64)(u8*)65536;
+w8(l+1656,Il);
+l[1664]=Hl;
+wp(l,(u8*)65536);
+z24(l+8);
+wp(l+32,(u8*)65536);
+z16(l+40);
+wp(l+56,(u8*)65536);
+z32(l+64);
+wp(l+96,(u8*)65536);
+z16(l+104);
+wp(l+120,(u8*)65536);
+z32(l+128);
+wp(l+160,(u8*)65536);
+z80(l+168);
+wp(l+248,(u8*)65536);
+z16(l+256);
+wp(l+272,(u8*)65536);
+z40(l+280);
+wp(l+320,(u8*)65536);
+z16(l+328);
+wp(l+344,(u8*)65536);
+z16(l+352);
+wp(l+368,(u8*)65536);
+z16(l+376);
+wp(l+392,(u8*)65536);
+z16(l+400);
+wp(l+416,(u8*)65536);
+z16(l+424);
+wp(l+440,(u8*)65536);
+z48(l+448);
+wp(l+496,(u8*)65536);
+z32(l+504);
+wp(l+536,(u8*)65536);
+z32(l+544);
+wp(l+576,(u8*)65536);
+z104(l+584);
+w8(l+688,Jl);
+z40(l+696);
+w8(l+736,Jl);
+z16(l+744);
+wp(l+760,(u8*)65536);
+z32(l+768);
+wp(l+800,(u8*)65536);
+z24(l+808);
+wp(l+832,(u8*)65536);
+z16(l+840);
+wp(l+856,(u8*)65536);
+z32(l+864);
+wp(l+896,(u8*)65536);
+z16(l+904);
+wp(l+920,(u8*)65536);
+z24(l+928);
+wp(l+952,(u8*)65536);
+z16(l+960);
+wp(l+976,(u8*)65536);
+z16(l+984);
+wp(l+1000,(u8*)65536);
+z40(l+1008);
+wp(l+1048,(u8*)65536);
+z16(l+1056);
+wp(l+1072,(u8*)65536);
+z16(l+1080);
+wp(l+1096,(u8*)65536);
+z16(l+1104);
+wp(l+1120,(u8*)65536);
+z16(l+1128);
+wp(l+1144,(u8*)65536);
+z16(l+1152);
+wp(l+1168,(u8*)65536);
+z48(l+1176);
+wp(l+1224,(u8*)65536);
+z32(l+1232);
+wp(l+1264,(u8*)65536);
+z40(l+1272);
+wp(l+1312,(u8*)65536);
+z32(l+1320);
+wp(l+1352,(u8*)65536);
+z16(l+1360);
+wp(l+1376,(u8*)65536);
+z48(l+1384);
+w8(l+1432,Jl);
+z40(l+1440);
+w8(l+1480,Jl);
+z16(l+1488);
+wp(l+1504,(u8*)65536);
+z32(l+1512);
+wp(l+1544,(u8*)65536);
+z32(l+1552);
+wp(l+1584,(u8*)65536);
+z16(l+1592);
+wp(l+1608,(u8*)65536);
+z16(l+1616);
+wp(l+1632,(u8*)65536);
+z16(l+1640);
+w4(l+1668,0);
+wp(l+1672,(u8*)65536);
+z16(l+1680);
+wp(l+1696,(u8*)65536);
+z16(l+1704);
+wp(l+1720,(u8*)65536);
+z16(l+1728);
+w4(l+1744,65);
+w4(l+1748,0);
+Kl=port_rattle_alloc(16384,1);
+if((u8)(Kl.f0&1)){
+Ll=Kl.f1;
+Ml=(u8*)Ll;
+zero_all(Ml,16384);
+Nl=r8(c+8224);
+if(Nl!=0){
+Ol=Nl;
+Pl=0;
+L130:w8(c+8224,Ol-1);
+Ql=r8(c+8200);
+Rl=r8(c+8192);
+if(Ql==Rl){
+Sl=port_read(0,Ml,16384);
+if((i64)Sl<0){
+port_rattle_errno();
+goto L131;}
+Tl=umin64(Sl,16384);}
+else{
+Ul=c+(i64)Rl;
+Vl=umin64(Ql-Rl,16384);
+if(Ll-(u64)Ul<Vl)copy_bits_4f4(Ul,Ml,Vl);
+else memmove(Ml,Ul,Vl);
+Wl=r8(c+8192);
+w8(c+8192,umin64(Vl,r8(c+8200)-Wl)+Wl);
+Tl=Vl;}
+if(Tl==0){
+Xl=end_segment_63d(u,l,j,k,d);
+if(Xl.f0==0){
+Yl=rp(k);
+Zl=r8(k+8);
+if(Zl==0)goto L132;
+am=0;
+L133:bm=Zl-am;
+cm=port_write(1,Yl+(i64)am,bm);
+if((i64)cm<0)port_rattle_errno();
+else{
+dm=umin64(cm,bm);
+if(dm!=0){
+em=dm+am;
+if(em>=Zl)goto L132;
+am=em;
+goto L133;}}
+w8(d+8,r8(d+8)+1);
+fm=1;
+goto L134;
+L132:port_rattle_dealloc(Ml);
+memcpy(q,l,1752);
+drop_b01(q);
+if(r8(k+16)!=0)port_rattle_dealloc(Yl);
+if(r8(j+24)!=0)port_rattle_dealloc(rp(j+8));
+memcpy(r+6,j+56,24);
+gm=0;
+hm=0;
+goto L135;}
+fm=Xl.f1;
+L134:port_rattle_dealloc(Ml);
+memcpy(p,l,1752);
+drop_b01(p);
+if(r8(k+16)!=0)port_rattle_dealloc(rp(k));
+if(r8(j+24)!=0)port_rattle_dealloc(rp(j+8));
+z24(r+6);
+gm=1;
+hm=fm;
+goto L135;}
+im=Pl;
+jm=0;
+L136:km=Ml+(i64)jm;
+z16(h);
+first_segment_4a3(h,*j,km,Tl-jm,im);
+lm=r8(h);
+if(lm==0)goto L137;
+mm=0;
+L138:nm=km+(i64)mm;
+om=lm-mm;
+z48(g);
+pm=r8(j+16);
+qm=pm==0;
+rm=r16(j+32);
+if(qm&&rm==0){
+if(j[50]&1){
+pass_6c7(g,j,nm,om);
+sm=r16(g);
+tm=r8(g+16);
+um=g[24]&1;
+goto L139;}
+vm=*j;
+wm=j[48];
+if(om==0)xm=0;
+else{
+ym=j[49];
+zm=vm+49;
+Am=vm==2;
+Bm=0;
+L140:Cm=nm+Bm;
+if(*Cm==95){
+if(Bm==0){
+switch(wm){
+case 0:Dm=vm;
+goto L141;
+case 1:if(Am){
+switch(ym){
+case 46:case 36:Em=1;
+Fm=49;
+goto L142;
+default:break;}}
+break;
+case 2:if(Am){
+switch(ym){
+case 46:case 36:Em=1;
+Fm=49;
+goto L142;
+default:break;}}
+break;
+default:NEVER;
+}}
+else{
+Gm=*((u8*)t_e4d8+Cm[-1]);
+if(zm>Gm){
+if(Gm<=(vm==0?48:49)){
+Im=0;
+Jm=0;
+Km=Bm;
+goto L143;}
+Hm=place_in_stretch_597(vm,nm,Bm,wm);
+Im=Hm.f1;
+Jm=Hm.f0;
+Km=Bm;
+goto L143;}}}
+Lm=Bm+1;
+Mm=om-Lm;
+if(Mm<16)Nm=0;
+else{
+Om=nm+(i64)Lm;
+Pm=cttz(v16_eq(v16_at(Om),splat(95)),16);
+if((Mm<32)|(Pm<16))Nm=Pm;
+else{
+Qm=cttz(v16_eq(v16_at(Om+16),splat(95)),16);
+if(Qm<16)Nm=Qm|16;
+else{
+if(Mm<=95){
+Nm=32;
+goto L144;}
+Rm=32;
+L145:Sm=Om+(i64)Rm;
+if((((v16_eq(v16_at(Sm),splat(95))|v16_eq(v16_at(Sm+16),splat(95)))|v16_eq(v16_at(Sm+32),splat(95)))|v16_eq(v16_at(Sm+48),splat(95)))==0){
+Tm=Rm+64;
+if(Mm-Tm>63){
+Rm=Tm;
+goto L145;}
+Nm=Tm;}
+else Nm=Rm;}}}
+L144:Um=Nm+Lm;
+if(Um<om){
+Bm=Um;
+goto L140;}
+xm=Um;}
+if(*((u8*)t_e4d8+*(nm+(i64)xm-1))>(vm==0?48:49)){
+Vm=place_in_stretch_597(vm,nm,xm,wm);
+Wm=Vm.f0;
+Xm=Vm.f1;}
+else{
+Wm=0;
+Xm=0;}
+if(xm==0){
+Dm=vm;
+goto L141;}
+Im=Xm;
+Jm=Wm;
+Km=xm;
+L143:w2(j+48,(u16)((u32)Im<<8)|Jm);
+Ym=Km;
+goto L146;}
+Dm=*j;
+L141:Em=Dm==2;
+Fm=Dm==1?50:49;
+L142:if(Fm>*((u8*)t_e4d8+*nm))goto L147;
+Zm=0;
+L148:if(om-Zm>15){
+an=v16_at(nm+Zm);
+bn=cttz(v16_ne(an,splat(36))&(v16_ne(an,splat(46))&(v16_ne(an,splat(95))&(v16_ult(v16_add(an,splat(198)),splat(246))&v16_ult(v16_add(v16_or(an,splat(32)),splat(133)),splat(230))))),16);
+cn=Zm+bn;
+if(bn>=16){
+Zm=cn;
+goto L148;}
+dn=cn;}
+else dn=Zm;
+if(dn>=om){
+fn=dn;
+goto L149;}
+en=dn;
+L150:if(Fm>*((u8*)t_e4d8+*(nm+en)))fn=en;
+else{
+gn=en+1;
+if(gn!=om){
+en=gn;
+goto L150;}
+fn=om;}
+L149:if(fn==0)goto L147;
+hn=fn;
+L151:if(hn==0)in=rm+fn;
+else{
+jn=hn-1;
+if(*(nm+jn)==46){
+hn=jn;
+goto L151;}
+if(rm+hn>65536-pm){
+kn=rp(j+8);
+ln=r8(k+16);
+mn=r8(k+8);
+if(pm>ln-mn){
+nn=grow_amortized_68b(k,pm);
+if(!nn)goto L152;
+on=r8(k+16);
+pn=r8(k+8);}
+else{
+on=ln;
+pn=mn;}
+qn=pn+pm;
+rn=rp(k);
+z16(k+8);
+sn=rn+(i64)pn;
+if((u64)sn-(u64)kn<pm){
+copy_bits_4f4(kn,sn,pm);
+w8(k+8,qn);
+w8(k+16,on);}
+else{
+memmove(sn,kn,pm);
+w8(k+8,qn);
+w8(k+16,on);
+if(qm)goto L153;}
+w8(j+16,0);
+L153:w16(j+32,0);
+j[50]=1;
+sm=rm;
+tm=fn;
+um=1;
+goto L139;}
+tn=rm;
+un=pm+tn;
+if(un>pm){
+vn=r8(j+24);
+if(vn-pm<tn){
+wn=grow_amortized_68b(j+8,tn);
+if(!wn)goto L152;
+xn=r8(j+16);
+yn=xn+tn;
+zn=r8(j+24);
+An=xn;}
+else{
+yn=un;
+zn=vn;
+An=pm;}
+if(An<yn)memset(rp(j+8)+(i64)An,46,tn);
+w8(j+16,yn);
+w8(j+24,zn);
+Bn=yn;}
+else{
+if(pm>un){
+w8(j+16,un);
+Bn=un;}
+else Bn=pm;}
+Cn=r8(j+24);
+if(hn>Cn-Bn){
+Dn=grow_amortized_68b(j+8,hn);
+if(!Dn)goto L152;
+En=r8(j+24);
+Fn=r8(j+16);}
+else{
+En=Cn;
+Fn=Bn;}
+Gn=Fn+hn;
+Hn=rp(j+8)+(i64)Fn;
+if((u64)Hn-(u64)nm<hn)copy_bits_4f4(nm,Hn,hn);
+else memmove(Hn,nm,hn);
+w8(j+16,Gn);
+w8(j+24,En);
+in=fn-hn;}
+w16(j+32,in);
+In=fn;
+goto L154;
+L147:z48(f);
+if(!Em){
+Kn=rp(j+8);
+if(pm-65537>=0xffffffffffff0001u){
+Ln=*Kn==95;
+if(pm==2){
+if(!Ln)goto L155;
+switch(Kn[1]){
+case 90:Mn=0;
+goto L156;
+case 82:break;
+default:goto L155;
+}}
+else{
+if(!Ln)goto L155;
+switch(Kn[1]){
+case 90:Mn=0;
+goto L156;
+case 82:break;
+case 95:switch(Kn[2]){
+case 90:Mn=0x100000000u;
+goto L156;
+case 82:Mn=0x100000001u;
+goto L156;
+default:goto L155;
+}
+break;
+default:goto L155;
+}}
+Mn=1;
+L156:Nn=Mn>>32;
+z12(e);
+append_3c5(e,u,l,Mn,Nn,Kn+(i64)Nn,pm-Nn,k);
+if(*e!=0){
+if(e[4]!=4){
+Pn=r8(k+16);
+Qn=r8(k+8);
+if(pm>Pn-Qn){
+Rn=grow_amortized_68b(k,pm);
+if(!Rn)goto L157;
+Sn=r8(k+16);
+Tn=r8(k+8);}
+else{
+Sn=Pn;
+Tn=Qn;}
+Un=Tn+pm;
+Vn=rp(k)+(i64)Tn;
+if((u64)Vn-(u64)Kn<pm)copy_bits_4f4(Kn,Vn,pm);
+else memmove(Vn,Kn,pm);
+w8(k+8,Un);
+w8(k+16,Sn);
+On=16;
+goto L158;}
+L157:goto L159;}
+On=8;
+L158:w8(j+56,uadd64(r8(j+56),1));
+Wn=j+56+(i64)On;
+w8(Wn,uadd64(r8(Wn),1));
+goto L160;}
+L155:Xn=r8(k+16);
+Yn=r8(k+8);
+if(pm>Xn-Yn){
+Zn=grow_amortized_68b(k,pm);
+if(!Zn)goto L159;
+ao=r8(k+16);
+bo=r8(k+8);}
+else{
+ao=Xn;
+bo=Yn;}
+co=bo+pm;
+eo=rp(k);
+z16(k+8);
+fo=eo+(i64)bo;
+if((u64)fo-(u64)Kn<pm){
+copy_bits_4f4(Kn,fo,pm);
+w8(k+8,co);
+w8(k+16,ao);}
+else{
+memmove(fo,Kn,pm);
+w8(k+8,co);
+w8(k+16,ao);
+if(qm)goto L161;}
+L160:w8(j+16,0);
+L161:z18(j+32);
+Jn=rm;
+goto L162;}
+end_within_76b(f,j,u,l,k);
+if(*f==0){
+Jn=r16(f+16);
+goto L162;}
+L159:goto L152;
+L162:sm=Jn;
+tm=1;
+um=1;
+goto L139;
+L152:go=2;
+goto L163;
+L139:if(sm!=0){
+ho=r8(k+8);
+io=0;
+L164:if(r8(k+16)==ho){
+jo=grow_amortized_68b(k,1);
+if(!jo){
+go=2;
+goto L163;}
+ko=r8(k+8);}
+else ko=ho;
+lo=rp(k);
+*(lo+ko)=46;
+mo=ko+1;
+w8(k+8,mo);
+if(mo<16384){
+no=mo;
+goto L165;}
+oo=0;
+L166:po=mo-oo;
+qo=port_write(1,lo+(i64)oo,po);
+if((i64)qo<0)port_rattle_errno();
+else{
+ro=umin64(qo,po);
+if(ro!=0){
+so=ro+oo;
+if(so<mo){
+oo=so;
+goto L166;}
+w8(k+8,0);
+no=0;
+goto L165;}}
+w8(d+8,r8(d+8)+1);
+go=1;
+goto L163;
+L165:to=io+1;
+if(to<sm){
+ho=no;
+io=to;
+goto L164;}}
+if(!um){
+In=tm;
+goto L154;}
+Ym=tm;
+L146:uo=r8(k+16);
+vo=r8(k+8);
+if(Ym>uo-vo){
+wo=grow_amortized_68b(k,Ym);
+if(!wo){
+go=2;
+goto L163;}
+xo=r8(k+16);
+yo=r8(k+8);}
 else{
 xo=uo;
 yo=vo;}
-zo=yo+xn;
-Ao=rp(ig);
-z16(ig+8);
+zo=yo+Ym;
+Ao=rp(k);
 Bo=Ao+(i64)yo;
-if((u64)Bo-(u64)to<xn){
-copy_bits_4f4(to,Bo,xn);
-w8(ig+8,zo);
-w8(ig+16,xo);}
-else{
-memmove(Bo,to,xn);
-w8(ig+8,zo);
-w8(ig+16,xo);
-if(yn)goto L67;}
-w8(hg+16,0);
-L67:w16(hg+32,0);
-hg[50]=1;
-An=zn;
-Bn=oo;
-Cn=1;
-goto L53;}
-Co=zn;
-Do=xn+Co;
-if(Do>xn){
-Eo=r8(hg+24);
-if(Eo-xn<Co){
-Fo=grow_amortized_68b(hg+8,Co);
-if(!Fo)goto L66;
-Go=r8(hg+16);
-Ho=Go+Co;
-Io=r8(hg+24);
-Jo=Go;}
-else{
-Ho=Do;
-Io=Eo;
-Jo=xn;}
-if(Jo<Ho)memset(rp(hg+8)+(i64)Jo,46,Co);
-w8(hg+16,Ho);
-w8(hg+24,Io);
-Ko=Ho;}
-else{
-if(xn>Do){
-w8(hg+16,Do);
-Ko=Do;}
-else Ko=xn;}
-Lo=r8(hg+24);
-if(qo>Lo-Ko){
-Mo=grow_amortized_68b(hg+8,qo);
-if(!Mo)goto L66;
-No=r8(hg+24);
-Oo=r8(hg+16);}
-else{
-No=Lo;
-Oo=Ko;}
-Po=Oo+qo;
-Qo=rp(hg+8)+(i64)Oo;
-if((u64)Qo-(u64)vn<qo)copy_bits_4f4(vn,Qo,qo);
-else memmove(Qo,vn,qo);
-w8(hg+16,Po);
-w8(hg+24,No);
-ro=oo-qo;}
-w16(hg+32,ro);
-Ro=oo;
-goto L68;
-L61:z48(Yd);
-if(!Mn){
-To=rp(hg+8);
-if(xn-65537>=0xffffffffffff0001u){
-Uo=*To==95;
-if(xn==2){
-if(!Uo)goto L69;
-switch(To[1]){
-case 90:Vo=0;
-goto L70;
-case 82:break;
-default:goto L69;
-}}
-else{
-if(!Uo)goto L69;
-switch(To[1]){
-case 90:Vo=0;
-goto L70;
-case 82:break;
-case 95:switch(To[2]){
-case 90:Vo=0x100000000u;
-goto L70;
-case 82:Vo=0x100000001u;
-goto L70;
-default:goto L69;
-}
-break;
-default:goto L69;
-}}
-Vo=1;
-L70:Wo=Vo>>32;
-z12(Xd);
-append_931(Xd,wi,jg,Vo,Wo,To+(i64)Wo,xn-Wo,ig);
-if(*Xd!=0){
-if(Xd[4]!=4){
-Yo=r8(ig+16);
-Zo=r8(ig+8);
-if(xn>Yo-Zo){
-ap=grow_amortized_68b(ig,xn);
-if(!ap)goto L71;
-bp=r8(ig+16);
-cp=r8(ig+8);}
-else{
-bp=Yo;
-cp=Zo;}
-dp=cp+xn;
-ep=rp(ig)+(i64)cp;
-if((u64)ep-(u64)To<xn)copy_bits_4f4(To,ep,xn);
-else memmove(ep,To,xn);
-w8(ig+8,dp);
-w8(ig+16,bp);
-Xo=16;
-goto L72;}
-L71:goto L73;}
-Xo=8;
-L72:w8(hg+56,uadd64(r8(hg+56),1));
-fp=hg+56+(i64)Xo;
-w8(fp,uadd64(r8(fp),1));
-goto L74;}
-L69:gp=r8(ig+16);
-hp=r8(ig+8);
-if(xn>gp-hp){
-ip=grow_amortized_68b(ig,xn);
-if(!ip)goto L73;
-jp=r8(ig+16);
-kp=r8(ig+8);}
-else{
-jp=gp;
-kp=hp;}
-lp=kp+xn;
-np=rp(ig);
-z16(ig+8);
-op=np+(i64)kp;
-if((u64)op-(u64)To<xn){
-copy_bits_4f4(To,op,xn);
-w8(ig+8,lp);
-w8(ig+16,jp);}
-else{
-memmove(op,To,xn);
-w8(ig+8,lp);
-w8(ig+16,jp);
-if(yn)goto L75;}
-L74:w8(hg+16,0);
-L75:z18(hg+32);
-So=zn;
-goto L76;}
-end_within_121(Yd,hg,wi,jg,ig);
-if(*Yd==0){
-So=r16(Yd+16);
-goto L76;}
-L73:goto L66;
-L76:An=So;
-Bn=1;
-Cn=1;
-goto L53;
-L66:pp=2;
-goto L77;
-L53:if(An!=0){
-sp=r8(ig+8);
-tp=0;
-L78:if(r8(ig+16)==sp){
-up=grow_amortized_68b(ig,1);
-if(!up){
-pp=2;
-goto L77;}
-vp=r8(ig+8);}
-else vp=sp;
-yp=rp(ig);
-*(yp+vp)=46;
-zp=vp+1;
-w8(ig+8,zp);
-if(zp<16384){
-Ap=zp;
-goto L79;}
-Bp=0;
-L80:Cp=zp-Bp;
-Dp=port_write(1,yp+(i64)Bp,Cp);
-if((i64)Dp<0)port_rattle_errno();
-else{
-Ep=umin64(Dp,Cp);
-if(Ep!=0){
-Fp=Ep+Bp;
-if(Fp<zp){
-Bp=Fp;
-goto L80;}
-w8(ig+8,0);
-Ap=0;
-goto L79;}}
-w8(d+8,r8(d+8)+1);
-pp=1;
-goto L77;
-L79:Gp=tp+1;
-if(Gp<An){
-sp=Ap;
-tp=Gp;
-goto L78;}}
-if(!Cn){
-Ro=Bn;
-goto L68;}
-ho=Bn;
-L60:Hp=r8(ig+16);
-Ip=r8(ig+8);
-if(ho>Hp-Ip){
-Jp=grow_amortized_68b(ig,ho);
-if(!Jp){
-pp=2;
-goto L77;}
-Kp=r8(ig+16);
-Lp=r8(ig+8);}
-else{
-Kp=Hp;
-Lp=Ip;}
-Mp=Lp+ho;
-Np=rp(ig);
-Op=Np+(i64)Lp;
-if((u64)Op-(u64)vn<ho)copy_bits_4f4(vn,Op,ho);
-else memmove(Op,vn,ho);
-w8(ig+8,Mp);
-w8(ig+16,Kp);
-if(Mp<16384){
-Ro=ho;
-goto L68;}
-Pp=0;
-L81:Qp=Mp-Pp;
-Rp=port_write(1,Np+(i64)Pp,Qp);
-if((i64)Rp<0)port_rattle_errno();
-else{
-Sp=umin64(Rp,Qp);
-if(Sp!=0){
-Tp=Sp+Pp;
-if(Tp<Mp){
-Pp=Tp;
-goto L81;}
-w8(ig+8,0);
-Ro=ho;
-goto L68;}}
-w8(d+8,r8(d+8)+1);
-pp=1;
-goto L77;
-L68:Up=Ro+un;
-if(Up<tn){
-un=Up;
-goto L52;}
-L51:Vp=ae[9];
-if(ae[8]&1){
-Wp=end_segment_a2b(wi,jg,hg,ig,d);
-if(Wp.f0!=0){
-pp=Wp.f1;
-goto L77;}}
-Xp=tn+rn;
-if(Xp<bn){
-qn=Vp;
-rn=Xp;
-goto L50;}
-Yp=r8(hg+16);
-if(Yp-65537>=0xffffffffffff0001u){
-Zp=rp(hg+8);
-aq=*Zp==95;
-if(Yp==2){
-if(!aq)goto L82;
-switch(Zp[1]){
-case 90:bq=0;
-goto L83;
-case 82:break;
-default:goto L82;
-}}
-else{
-if(!aq)goto L82;
-switch(Zp[1]){
-case 90:bq=0;
-goto L83;
-case 82:break;
-case 95:switch(Zp[2]){
-case 90:bq=0x100000000u;
-goto L83;
-case 82:bq=0x100000001u;
-goto L83;
-default:goto L82;
-}
-break;
-default:goto L82;
-}}
-bq=1;
-L83:cq=bq>>32;
-read_ahead_495(jg,bq,Zp+(i64)cq,Yp-cq);}
-L82:dq=rp(ig);
-eq=r8(ig+8);
-if(eq==0)goto L84;
-fq=0;
-L85:gq=eq-fq;
-hq=port_write(1,dq+(i64)fq,gq);
-if((i64)hq<0)port_rattle_errno();
-else{
-iq=umin64(hq,gq);
-if(iq!=0){
-jq=iq+fq;
-if(jq<eq){
-fq=jq;
-goto L85;}
-w8(ig+8,0);
-goto L84;}}
-w8(d+8,r8(d+8)+1);
-kq=1;
-goto L86;
-L84:lq=r8(c+8224);
-if(lq==0){
-Um=dq;
-goto L45;}
-Vm=dq;
-Wm=lq;
-Xm=Vp;
-goto L44;
-L77:kq=pp;
-L86:port_rattle_dealloc(Sm);
-memcpy(qi,jg,2152);
-drop_b01(qi);
-if(r8(ig+16)!=0)port_rattle_dealloc(rp(ig));
-if(r8(hg+24)!=0)port_rattle_dealloc(rp(hg+8));
-z24(ti+6);
-on=1;
-pn=kq;
-goto L49;}
-Um=(u8*)65536;
-L45:w8(c+8216,r8(c+8216)+1);
-port_rattle_dealloc(Sm);
-memcpy(pi,jg,2152);
-drop_b01(pi);
-if(r8(ig+16)!=0)port_rattle_dealloc(Um);
-if(r8(hg+24)!=0)port_rattle_dealloc(rp(hg+8));
-memcpy(ti+6,gg+6,24);
-on=1;
-pn=0;}
-else{
-memcpy(oi,jg,2152);
-drop_b01(oi);
-z24(ti+6);
-on=1;
-pn=2;}
-L49:memcpy(ui+6,ti+6,24);
-memcpy(vi+6,ui+6,24);
-memcpy(Oi+6,vi+6,24);
-Lm=on;
-Mm=pn;}
-memcpy(Pi+6,Oi+6,24);
-mq=Lm;
-nq=Mm;
-oq=Pi+6;}
-else{
-z30(Wd);
-if(Wi){
-z30(Ud);
-pq=((u64)Ri<<32)|Qi;
-w8(Vd,pq);
-z30(Td);
-z30(Sd);
-z30(Nd);
-zero_all(Qd+1264,768);
-zero_all(Rd,2032);
-*Od=Ti;
-z7(Od+1);
-wp(Od+8,(u8*)65536);
-z64(Od+16);
-wp(Pd,(u8*)65536);
-z16(Pd+8);
-qq=(u64)(u8*)65536;
-z32(Qd+1512);
-z32(Qd+1552);
-z32(Qd+1592);
-z104(Qd+1632);
-z32(Qd+1744);
-z40(Qd+1784);
-z32(Qd+1832);
-z16(Qd+1872);
-z48(Qd+1896);
-z16(Qd+1960);
-z16(Qd+1984);
-z16(Qd+2008);
-wp(Qd,(u8*)65536);
-z24(Qd+8);
-wp(Qd+32,(u8*)65536);
-z16(Qd+40);
-wp(Qd+56,(u8*)65536);
-z32(Qd+64);
-wp(Qd+96,(u8*)65536);
-z16(Qd+104);
-wp(Qd+120,(u8*)65536);
-z32(Qd+128);
-wp(Qd+160,(u8*)65536);
-z80(Qd+168);
-wp(Qd+248,(u8*)65536);
-z16(Qd+256);
-wp(Qd+272,(u8*)65536);
-z40(Qd+280);
-wp(Qd+320,(u8*)65536);
-z16(Qd+328);
-wp(Qd+344,(u8*)65536);
-z16(Qd+352);
-wp(Qd+368,(u8*)65536);
-z16(Qd+376);
-wp(Qd+392,(u8*)65536);
-z16(Qd+400);
-wp(Qd+416,(u8*)65536);
-z16(Qd+424);
-wp(Qd+440,(u8*)65536);
-z48(Qd+448);
-wp(Qd+496,(u8*)65536);
-z32(Qd+504);
-wp(Qd+536,(u8*)65536);
-z32(Qd+544);
-wp(Qd+576,(u8*)65536);
-z104(Qd+584);
-w8(Qd+688,qq);
-z40(Qd+696);
-w8(Qd+736,qq);
-z16(Qd+744);
-wp(Qd+760,(u8*)65536);
-z32(Qd+768);
-wp(Qd+800,(u8*)65536);
-z24(Qd+808);
-wp(Qd+832,(u8*)65536);
-z16(Qd+840);
-wp(Qd+856,(u8*)65536);
-z32(Qd+864);
-wp(Qd+896,(u8*)65536);
-z16(Qd+904);
-wp(Qd+920,(u8*)65536);
-z24(Qd+928);
-wp(Qd+952,(u8*)65536);
-z16(Qd+960);
-wp(Qd+976,(u8*)65536);
-z16(Qd+984);
-wp(Qd+1000,(u8*)65536);
-z40(Qd+1008);
-wp(Qd+1048,(u8*)65536);
-z16(Qd+1056);
-wp(Qd+1072,(u8*)65536);
-z16(Qd+1080);
-wp(Qd+1096,(u8*)65536);
-z16(Qd+1104);
-wp(Qd+1120,(u8*)65536);
-z16(Qd+1128);
-wp(Qd+1144,(u8*)65536);
-z16(Qd+1152);
-wp(Qd+1168,(u8*)65536);
-z48(Qd+1176);
-wp(Qd+1224,(u8*)65536);
-z32(Qd+1232);
-wp(Qd+1264,(u8*)65536);
-z40(Qd+1272);
-wp(Qd+1312,(u8*)65536);
-z32(Qd+1320);
-wp(Qd+1352,(u8*)65536);
-z16(Qd+1360);
-wp(Qd+1376,(u8*)65536);
-z48(Qd+1384);
-w8(Qd+1432,qq);
-z40(Qd+1440);
-w8(Qd+1480,qq);
-z16(Qd+1488);
-wp(Qd+1504,(u8*)65536);
-wp(Qd+1544,(u8*)65536);
-wp(Qd+1584,(u8*)65536);
-wp(Qd+1624,(u8*)65536);
-wp(Qd+1736,(u8*)65536);
-wp(Qd+1776,(u8*)65536);
-wp(Qd+1824,(u8*)65536);
-wp(Qd+1864,(u8*)65536);
-wp(Qd+1888,(u8*)65536);
-w8(Qd+1944,pq);
-wp(Qd+1952,(u8*)65536);
-wp(Qd+1976,(u8*)65536);
-wp(Qd+2000,(u8*)65536);
-w4(Qd+2024,65);
-w4(Qd+2028,0);
-rq=port_rattle_alloc(16384,1);
-if((u8)(rq.f0&1)){
-sq=rq.f1;
-tq=(u8*)sq;
-zero_all(tq,16384);
-uq=r8(c+8224);
-if(uq!=0){
-vq=uq;
-wq=0;
-L87:w8(c+8224,vq-1);
-xq=r8(c+8200);
-yq=r8(c+8192);
-if(xq==yq){
-zq=port_read(0,tq,16384);
-if((i64)zq<0){
-port_rattle_errno();
-goto L88;}
-Aq=umin64(zq,16384);}
-else{
-Bq=c+(i64)yq;
-Cq=umin64(xq-yq,16384);
-if(sq-(u64)Bq<Cq)copy_bits_4f4(Bq,tq,Cq);
-else memmove(tq,Bq,Cq);
-Dq=r8(c+8192);
-w8(c+8192,umin64(Cq,r8(c+8200)-Dq)+Dq);
-Aq=Cq;}
-if(Aq==0){
-Eq=end_segment_d86(Vd,Qd,Od,Pd,d);
-if(Eq.f0==0){
-Fq=rp(Pd);
-Gq=r8(Pd+8);
-if(Gq==0)goto L89;
-Hq=0;
-L90:Iq=Gq-Hq;
-Jq=port_write(1,Fq+(i64)Hq,Iq);
-if((i64)Jq<0)port_rattle_errno();
-else{
-Kq=umin64(Jq,Iq);
-if(Kq!=0){
-Lq=Kq+Hq;
-if(Lq>=Gq)goto L89;
-Hq=Lq;
-goto L90;}}
-w8(d+8,r8(d+8)+1);
-Mq=1;
-goto L91;
-L89:port_rattle_dealloc(tq);
-memcpy(Rd,Qd,2032);
-drop_097(Rd);
-if(r8(Pd+16)!=0)port_rattle_dealloc(Fq);
-if(r8(Od+24)!=0)port_rattle_dealloc(rp(Od+8));
-memcpy(Sd+6,Od+56,24);
-Nq=0;
-Oq=0;
-goto L92;}
-Mq=Eq.f1;
-L91:port_rattle_dealloc(tq);
-Pq=rp(Qd+1952);
-Qq=rp(Qd+1976);
-Rq=r8(Qd+1992);
-Sq=rp(Qd+2000);
-Tq=r8(Qd+2016);
-Uq=r8(Qd+1968);
-memcpy(Fd,Qd,1944);
-drop_816(Fd);
-if(Uq!=0)port_rattle_dealloc(Pq);
-if(Rq!=0)port_rattle_dealloc(Qq);
-if(Tq!=0)port_rattle_dealloc(Sq);
-if(r8(Pd+16)!=0)port_rattle_dealloc(rp(Pd));
-if(r8(Od+24)!=0)port_rattle_dealloc(rp(Od+8));
-z24(Sd+6);
-Nq=1;
-Oq=Mq;
-goto L92;}
-Vq=wq;
-Wq=0;
-L93:Xq=tq+(i64)Wq;
-z16(Kd);
-first_segment_4a3(Kd,*Od,Xq,Aq-Wq,Vq);
-Yq=r8(Kd);
-if(Yq==0)goto L94;
-Zq=0;
-L95:ar=Xq+(i64)Zq;
-br=Yq-Zq;
-z48(Jd);
-cr=r8(Od+16);
-dr=cr==0;
-er=r16(Od+32);
-if(dr&&er==0){
-if(Od[50]&1){
-pass_6c7(Jd,Od,ar,br);
-fr=r16(Jd);
-gr=r8(Jd+16);
-hr=Jd[24]&1;
-goto L96;}
-ir=*Od;
-jr=Od[48];
-if(br==0)kr=0;
-else{
-lr=Od[49];
-mr=ir+49;
-nr=ir==2;
-or=0;
-L97:pr=ar+or;
-if(*pr==95){
-if(or==0){
-switch(jr){
-case 0:qr=ir;
-goto L98;
-case 1:if(nr){
-switch(lr){
-case 46:case 36:rr=1;
-sr=49;
-goto L99;
-default:break;}}
-break;
-case 2:if(nr){
-switch(lr){
-case 46:case 36:rr=1;
-sr=49;
-goto L99;
-default:break;}}
-break;
-default:NEVER;
-}}
-else{
-tr=*((u8*)t_e4d8+pr[-1]);
-if(mr>tr){
-if(tr<=(ir==0?48:49)){
-vr=0;
-wr=0;
-xr=or;
-goto L100;}
-ur=place_in_stretch_597(ir,ar,or,jr);
-vr=ur.f1;
-wr=ur.f0;
-xr=or;
-goto L100;}}}
-yr=or+1;
-zr=br-yr;
-if(zr<16)Ar=0;
-else{
-Br=ar+(i64)yr;
-Cr=cttz(v16_eq(v16_at(Br),splat(95)),16);
-if((zr<32)|(Cr<16))Ar=Cr;
-else{
-Dr=cttz(v16_eq(v16_at(Br+16),splat(95)),16);
-if(Dr<16)Ar=Dr|16;
-else{
-if(zr<=95){
-Ar=32;
-goto L101;}
-Er=32;
-L102:Fr=Br+(i64)Er;
-if((((v16_eq(v16_at(Fr),splat(95))|v16_eq(v16_at(Fr+16),splat(95)))|v16_eq(v16_at(Fr+32),splat(95)))|v16_eq(v16_at(Fr+48),splat(95)))==0){
-Gr=Er+64;
-if(zr-Gr>63){
-Er=Gr;
-goto L102;}
-Ar=Gr;}
-else Ar=Er;}}}
-L101:Hr=Ar+yr;
-if(Hr<br){
-or=Hr;
-goto L97;}
-kr=Hr;}
-if(*((u8*)t_e4d8+*(ar+(i64)kr-1))>(ir==0?48:49)){
-Ir=place_in_stretch_597(ir,ar,kr,jr);
-Jr=Ir.f0;
-Kr=Ir.f1;}
-else{
-Jr=0;
-Kr=0;}
-if(kr==0){
-qr=ir;
-goto L98;}
-vr=Kr;
-wr=Jr;
-xr=kr;
-L100:w2(Od+48,(u16)((u32)vr<<8)|wr);
-Lr=xr;
-goto L103;}
-qr=*Od;
-L98:rr=qr==2;
-sr=qr==1?50:49;
-L99:if(sr>*((u8*)t_e4d8+*ar))goto L104;
-Mr=0;
-L105:if(br-Mr>15){
-Nr=v16_at(ar+Mr);
-Or=cttz(v16_ne(Nr,splat(36))&(v16_ne(Nr,splat(46))&(v16_ne(Nr,splat(95))&(v16_ult(v16_add(Nr,splat(198)),splat(246))&v16_ult(v16_add(v16_or(Nr,splat(32)),splat(133)),splat(230))))),16);
-Pr=Mr+Or;
-if(Or>=16){
-Mr=Pr;
-goto L105;}
-Qr=Pr;}
-else Qr=Mr;
-if(Qr>=br){
-Sr=Qr;
-goto L106;}
-Rr=Qr;
-L107:if(sr>*((u8*)t_e4d8+*(ar+Rr)))Sr=Rr;
-else{
-Tr=Rr+1;
-if(Tr!=br){
-Rr=Tr;
-goto L107;}
-Sr=br;}
-L106:if(Sr==0)goto L104;
-Ur=Sr;
-L108:if(Ur==0)Vr=er+Sr;
-else{
-Wr=Ur-1;
-if(*(ar+Wr)==46){
-Ur=Wr;
-goto L108;}
-if(er+Ur>65536-cr){
-Xr=rp(Od+8);
-Yr=r8(Pd+16);
-Zr=r8(Pd+8);
-if(cr>Yr-Zr){
-as=grow_amortized_68b(Pd,cr);
-if(!as)goto L109;
-bs=r8(Pd+16);
-cs=r8(Pd+8);}
-else{
-bs=Yr;
-cs=Zr;}
-ds=cs+cr;
-es=rp(Pd);
-z16(Pd+8);
-fs=es+(i64)cs;
-if((u64)fs-(u64)Xr<cr){
-copy_bits_4f4(Xr,fs,cr);
-w8(Pd+8,ds);
-w8(Pd+16,bs);}
-else{
-memmove(fs,Xr,cr);
-w8(Pd+8,ds);
-w8(Pd+16,bs);
-if(dr)goto L110;}
-w8(Od+16,0);
-L110:w16(Od+32,0);
-Od[50]=1;
-fr=er;
-gr=Sr;
-hr=1;
-goto L96;}
-gs=er;
-hs=cr+gs;
-if(hs>cr){
-is=r8(Od+24);
-if(is-cr<gs){
-js=grow_amortized_68b(Od+8,gs);
-if(!js)goto L109;
-ks=r8(Od+16);
-ls=ks+gs;
-ms=r8(Od+24);
-ns=ks;}
-else{
-ls=hs;
-ms=is;
-ns=cr;}
-if(ns<ls)memset(rp(Od+8)+(i64)ns,46,gs);
-w8(Od+16,ls);
-w8(Od+24,ms);
-os=ls;}
-else{
-if(cr>hs){
-w8(Od+16,hs);
-os=hs;}
-else os=cr;}
-ps=r8(Od+24);
-if(Ur>ps-os){
-qs=grow_amortized_68b(Od+8,Ur);
-if(!qs)goto L109;
-rs=r8(Od+24);
-ss=r8(Od+16);}
-else{
-rs=ps;
-ss=os;}
-ts=ss+Ur;
-us=rp(Od+8)+(i64)ss;
-if((u64)us-(u64)ar<Ur)copy_bits_4f4(ar,us,Ur);
-else memmove(us,ar,Ur);
-w8(Od+16,ts);
-w8(Od+24,rs);
-Vr=Sr-Ur;}
-w16(Od+32,Vr);
-vs=Sr;
-goto L111;
-L104:z48(Id);
-if(!rr){
-xs=rp(Od+8);
-if(cr-65537>=0xffffffffffff0001u){
-ys=*xs==95;
-if(cr==2){
-if(!ys)goto L112;
-switch(xs[1]){
-case 90:zs=0;
-goto L113;
-case 82:break;
-default:goto L112;
-}}
-else{
-if(!ys)goto L112;
-switch(xs[1]){
-case 90:zs=0;
-goto L113;
-case 82:break;
-case 95:switch(xs[2]){
-case 90:zs=0x100000000u;
-goto L113;
-case 82:zs=0x100000001u;
-goto L113;
-default:goto L112;
-}
-break;
-default:goto L112;
-}}
-zs=1;
-L113:As=zs>>32;
-z12(Hd);
-append_35b(Hd,Vd,Qd,zs,As,xs+(i64)As,cr-As,Pd);
-if(*Hd!=0){
-if(Hd[4]!=4){
-Cs=r8(Pd+16);
-Ds=r8(Pd+8);
-if(cr>Cs-Ds){
-Es=grow_amortized_68b(Pd,cr);
-if(!Es)goto L114;
-Fs=r8(Pd+16);
-Gs=r8(Pd+8);}
-else{
-Fs=Cs;
-Gs=Ds;}
-Hs=Gs+cr;
-Is=rp(Pd)+(i64)Gs;
-if((u64)Is-(u64)xs<cr)copy_bits_4f4(xs,Is,cr);
-else memmove(Is,xs,cr);
-w8(Pd+8,Hs);
-w8(Pd+16,Fs);
-Bs=16;
-goto L115;}
-L114:goto L116;}
-Bs=8;
-L115:w8(Od+56,uadd64(r8(Od+56),1));
-Js=Od+56+(i64)Bs;
-w8(Js,uadd64(r8(Js),1));
-goto L117;}
-L112:Ks=r8(Pd+16);
-Ls=r8(Pd+8);
-if(cr>Ks-Ls){
-Ms=grow_amortized_68b(Pd,cr);
-if(!Ms)goto L116;
-Ns=r8(Pd+16);
-Os=r8(Pd+8);}
-else{
-Ns=Ks;
-Os=Ls;}
-Ps=Os+cr;
-Qs=rp(Pd);
-z16(Pd+8);
-Rs=Qs+(i64)Os;
-if((u64)Rs-(u64)xs<cr){
-copy_bits_4f4(xs,Rs,cr);
-w8(Pd+8,Ps);
-w8(Pd+16,Ns);}
-else{
-memmove(Rs,xs,cr);
-w8(Pd+8,Ps);
-w8(Pd+16,Ns);
-if(dr)goto L118;}
-L117:w8(Od+16,0);
-L118:z18(Od+32);
-ws=er;
-goto L119;}
-end_within_2c9(Id,Od,Vd,Qd,Pd);
-if(*Id==0){
-ws=r16(Id+16);
-goto L119;}
-L116:goto L109;
-L119:fr=ws;
-gr=1;
-hr=1;
-goto L96;
-L109:Ss=2;
-goto L120;
-L96:if(fr!=0){
-Ts=r8(Pd+8);
-Us=0;
-L121:if(r8(Pd+16)==Ts){
-Vs=grow_amortized_68b(Pd,1);
-if(!Vs){
-Ss=2;
-goto L120;}
-Ws=r8(Pd+8);}
-else Ws=Ts;
-Xs=rp(Pd);
-*(Xs+Ws)=46;
-Ys=Ws+1;
-w8(Pd+8,Ys);
-if(Ys<16384){
-Zs=Ys;
-goto L122;}
-at=0;
-L123:bt=Ys-at;
-ct=port_write(1,Xs+(i64)at,bt);
-if((i64)ct<0)port_rattle_errno();
-else{
-dt=umin64(ct,bt);
-if(dt!=0){
-et=dt+at;
-if(et<Ys){
-at=et;
-goto L123;}
-w8(Pd+8,0);
-Zs=0;
-goto L122;}}
-w8(d+8,r8(d+8)+1);
-Ss=1;
-goto L120;
-L122:ft=Us+1;
-if(ft<fr){
-Ts=Zs;
-Us=ft;
-goto L121;}}
-if(!hr){
-vs=gr;
-goto L111;}
-Lr=gr;
-L103:gt=r8(Pd+16);
-ht=r8(Pd+8);
-if(Lr>gt-ht){
-it=grow_amortized_68b(Pd,Lr);
-if(!it){
-Ss=2;
-goto L120;}
-jt=r8(Pd+16);
-kt=r8(Pd+8);}
-else{
-jt=gt;
-kt=ht;}
-lt=kt+Lr;
-mt=rp(Pd);
-nt=mt+(i64)kt;
-if((u64)nt-(u64)ar<Lr)copy_bits_4f4(ar,nt,Lr);
-else memmove(nt,ar,Lr);
-w8(Pd+8,lt);
-w8(Pd+16,jt);
-if(lt<16384){
-vs=Lr;
-goto L111;}
-ot=0;
-L124:pt=lt-ot;
-qt=port_write(1,mt+(i64)ot,pt);
-if((i64)qt<0)port_rattle_errno();
-else{
-rt=umin64(qt,pt);
-if(rt!=0){
-st=rt+ot;
-if(st<lt){
-ot=st;
-goto L124;}
-w8(Pd+8,0);
-vs=Lr;
-goto L111;}}
-w8(d+8,r8(d+8)+1);
-Ss=1;
-goto L120;
-L111:tt=vs+Zq;
-if(tt<Yq){
-Zq=tt;
-goto L95;}
-L94:ut=Kd[9];
-if(Kd[8]&1){
-vt=end_segment_d86(Vd,Qd,Od,Pd,d);
-if(vt.f0!=0){
-Ss=vt.f1;
-goto L120;}}
-wt=Yq+Wq;
-if(wt<Aq){
-Vq=ut;
-Wq=wt;
-goto L93;}
-xt=r8(Od+16);
-if(xt-65537>=0xffffffffffff0001u){
-yt=rp(Od+8);
-zt=*yt==95;
-if(xt==2){
-if(!zt)goto L125;
-switch(yt[1]){
-case 90:At=0;
-goto L126;
-case 82:break;
-default:goto L125;
-}}
-else{
-if(!zt)goto L125;
-switch(yt[1]){
-case 90:At=0;
-goto L126;
-case 82:break;
-case 95:switch(yt[2]){
-case 90:At=0x100000000u;
-goto L126;
-case 82:At=0x100000001u;
-goto L126;
-default:goto L125;
-}
-break;
-default:goto L125;
-}}
-At=1;
-L126:Bt=At>>32;
-read_ahead_495(Qd,At,yt+(i64)Bt,xt-Bt);}
-L125:Ct=rp(Pd);
-Dt=r8(Pd+8);
-if(Dt==0)goto L127;
-Et=0;
-L128:Ft=Dt-Et;
-Gt=port_write(1,Ct+(i64)Et,Ft);
-if((i64)Gt<0)port_rattle_errno();
-else{
-Ht=umin64(Gt,Ft);
-if(Ht!=0){
-It=Ht+Et;
-if(It<Dt){
-Et=It;
-goto L128;}
-w8(Pd+8,0);
-goto L127;}}
-w8(d+8,r8(d+8)+1);
-Jt=1;
-goto L129;
-L127:Kt=r8(c+8224);
-if(Kt==0)goto L88;
-vq=Kt;
-wq=ut;
-goto L87;
-L120:Jt=Ss;
-L129:port_rattle_dealloc(tq);
-Lt=rp(Qd+1952);
-Mt=rp(Qd+1976);
-Nt=r8(Qd+1992);
-Ot=rp(Qd+2000);
-Pt=r8(Qd+2016);
-Qt=r8(Qd+1968);
-memcpy(Gd,Qd,1944);
-drop_816(Gd);
-if(Qt!=0)port_rattle_dealloc(Lt);
-if(Nt!=0)port_rattle_dealloc(Mt);
-if(Pt!=0)port_rattle_dealloc(Ot);
-if(r8(Pd+16)!=0)port_rattle_dealloc(rp(Pd));
-if(r8(Od+24)!=0)port_rattle_dealloc(rp(Od+8));
-z24(Sd+6);
-Nq=1;
-Oq=Jt;
-goto L92;}
-L88:w8(c+8216,r8(c+8216)+1);
-port_rattle_dealloc(tq);
-Rt=rp(Qd+1952);
-St=rp(Qd+1976);
-Tt=r8(Qd+1992);
-Ut=rp(Qd+2000);
-Vt=r8(Qd+2016);
-Wt=r8(Qd+1968);
-memcpy(Ld,Qd,1944);
-drop_816(Ld);
-if(Wt!=0)port_rattle_dealloc(Rt);
-if(Tt!=0)port_rattle_dealloc(St);
-if(Vt!=0)port_rattle_dealloc(Ut);
-if(r8(Pd+16)!=0)port_rattle_dealloc(rp(Pd));
-if(r8(Od+24)!=0)port_rattle_dealloc(rp(Od+8));
-memcpy(Sd+6,Nd+6,24);
-Nq=1;
-Oq=0;}
-else{
-Xt=rp(Qd+1952);
-Yt=rp(Qd+1976);
-Zt=r8(Qd+1992);
-au=rp(Qd+2000);
-bu=r8(Qd+2016);
-cu=r8(Qd+1968);
-memcpy(Md,Qd,1944);
-drop_816(Md);
-if(cu!=0)port_rattle_dealloc(Xt);
-if(Zt!=0)port_rattle_dealloc(Yt);
-if(bu!=0)port_rattle_dealloc(au);
-if(r8(Pd+16)!=0)port_rattle_dealloc(rp(Pd));
-if(r8(Od+24)!=0)port_rattle_dealloc(rp(Od+8));
-z24(Sd+6);
-Nq=1;
-Oq=2;}
-L92:memcpy(Td+6,Sd+6,24);
-memcpy(Ud+6,Td+6,24);
-memcpy(Wd+6,Ud+6,24);
-du=Nq;
-eu=Oq;}
-else{
-fu=((u64)Ri<<32)|Qi;
-z30(Dd);
-w8(Ed,fu);
-Ed[8]=Si&1;
-Ed[9]=0;
-w2(Ed+10,0);
-z30(Cd);
-z30(Bd);
-z30(mb);
-zero_all(pb,2152);
-z24(qb);
-z16(rb);
-z32(sb);
-z16(tb);
-z32(ub);
-z80(vb);
-z16(wb);
-z40(xb);
-z16(yb);
-z16(zb);
-z16(Ab);
-z16(Bb);
-z16(Cb);
-z48(Db);
-z32(Eb);
-z32(Fb);
-z104(Gb);
-z40(Hb);
-z16(Ib);
-z32(Jb);
-z24(Kb);
-z16(Lb);
-z32(Mb);
-z16(Nb);
-z24(Ob);
-z16(Pb);
-z16(Qb);
-z40(Rb);
-z16(Sb);
-z16(Tb);
-z16(Ub);
-z16(Vb);
-z16(Wb);
-z48(Xb);
-z32(Yb);
-z40(Zb);
-z32(ac);
-z16(bc);
-z48(cc);
-z40(dc);
-z16(ec);
-z32(fc);
-z32(gc);
-z32(hc);
-z104(ic);
-z32(jc);
-z40(kc);
-z32(lc);
-z16(mc);
-z48(nc);
-z32(oc);
-z16(pc);
-z16(qc);
-z16(rc);
-z24(sc);
-z16(tc);
-z32(uc);
-z16(vc);
-z32(wc);
-z80(xc);
-z16(yc);
-z40(zc);
-z16(Ac);
-z16(Bc);
-z16(Cc);
-z16(Dc);
-z16(Ec);
-z48(Fc);
-z32(Gc);
-z32(Hc);
-z104(Ic);
-z40(Jc);
-z16(Kc);
-z32(Lc);
-z24(Mc);
-z16(Nc);
-z32(Oc);
-z16(Pc);
-z24(Qc);
-z16(Rc);
-z16(Sc);
-z40(Tc);
-z16(Uc);
-z16(Vc);
-z16(Wc);
-z16(Xc);
-z16(Yc);
-z48(Zc);
-z32(ad);
-z40(bd);
-z32(cd);
-z16(dd);
-z48(ed);
-z40(fd);
-z16(gd);
-z32(hd);
-z32(id);
-z32(jd);
-z104(kd);
-z32(ld);
-z40(md);
-z32(nd);
-z16(od);
-z48(pd);
-z32(qd);
-z16(sd);
-z16(td);
-z16(ud);
-zero_all(vd,2152);
-zero_all(xd,2152);
-zero_all(yd,2152);
-zero_all(zd,2152);
-zero_all(Ad,2152);
-*nb=Ti;
-z7(nb+1);
-wp(nb+8,(u8*)65536);
-z64(nb+16);
-wp(ob,(u8*)65536);
-z16(ob+8);
-gu=(u64)(u8*)65536;
-z32(db);
-z40(eb);
-z32(fb);
-z16(gb);
-z48(hb);
-z32(ib);
-z16(jb);
-z16(kb);
-z16(lb);
-z24(ka);
-z16(la);
-z32(ma);
-z16(na);
-z32(oa);
-z80(pa);
-z16(qa);
-z40(ra);
-z16(sa);
-z16(ta);
-z16(ua);
-z16(va);
-z16(wa);
-z48(xa);
-z32(ya);
-z32(za);
-z104(Aa);
-z40(Ba);
-z16(Ca);
-z32(Da);
-z24(Ea);
-z16(Fa);
-z32(Ga);
-z16(Ha);
-z24(Ia);
-z16(Ja);
-z16(Ka);
-z40(La);
-z16(Ma);
-z16(Na);
-z16(Oa);
-z16(Pa);
-z16(Qa);
-z48(Ra);
-z32(Sa);
-z40(Ta);
-z32(Ua);
-z16(Va);
-z48(Wa);
-z40(Xa);
-z16(Ya);
-z32(Za);
-z32(ab);
-z32(bb);
-z104(cb);
-memcpy(i,ka,24);
-memcpy(j,la,16);
-memcpy(k,ma,32);
-memcpy(l,na,16);
-memcpy(m,oa,32);
-memcpy(n,pa,80);
-memcpy(o,qa,16);
-memcpy(p,ra,40);
-memcpy(q,sa,16);
-memcpy(r,ta,16);
-memcpy(s,ua,16);
-memcpy(t,va,16);
-memcpy(u,wa,16);
-memcpy(v,xa,48);
-memcpy(w,ya,32);
-memcpy(x,za,32);
-memcpy(y,Aa,104);
-memcpy(z,Ba,40);
-memcpy(A,Ca,16);
-memcpy(B,Da,32);
-memcpy(C,Ea,24);
-memcpy(D,Fa,16);
-memcpy(E,Ga,32);
-memcpy(F,Ha,16);
-memcpy(G,Ia,24);
-memcpy(H,Ja,16);
-memcpy(I,Ka,16);
-memcpy(J,La,40);
-memcpy(K,Ma,16);
-memcpy(L,Na,16);
-memcpy(M,Oa,16);
-memcpy(N,Pa,16);
-memcpy(O,Qa,16);
-memcpy(P,Ra,48);
-memcpy(Q,Sa,32);
-memcpy(R,Ta,40);
-memcpy(S,Ua,32);
-memcpy(T,Va,16);
-memcpy(U,Wa,48);
-memcpy(V,Xa,40);
-memcpy(W,Ya,16);
-memcpy(X,Za,32);
-memcpy(Y,ab,32);
-memcpy(Z,bb,32);
-memcpy(aa,cb,104);
-memcpy(ba,db,32);
-memcpy(ca,eb,40);
-memcpy(da,fb,32);
-memcpy(ea,gb,16);
-memcpy(fa,hb,48);
-memcpy(ga,ib,32);
-memcpy(ha,jb,16);
-memcpy(ia,kb,16);
-memcpy(ja,lb,16);
-hu=r4(Ed+8);
-memcpy(sc,i,24);
-memcpy(tc,j,16);
-memcpy(uc,k,32);
-memcpy(vc,l,16);
-memcpy(wc,m,32);
-memcpy(xc,n,80);
-memcpy(yc,o,16);
-memcpy(zc,p,40);
-memcpy(Ac,q,16);
-memcpy(Bc,r,16);
-memcpy(Cc,s,16);
-memcpy(Dc,t,16);
-memcpy(Ec,u,16);
-memcpy(Fc,v,48);
-memcpy(Gc,w,32);
-memcpy(Hc,x,32);
-memcpy(Ic,y,104);
-memcpy(Jc,z,40);
-memcpy(Kc,A,16);
-memcpy(Lc,B,32);
-memcpy(Mc,C,24);
-memcpy(Nc,D,16);
-memcpy(Oc,E,32);
-memcpy(Pc,F,16);
-memcpy(Qc,G,24);
-memcpy(Rc,H,16);
-memcpy(Sc,I,16);
-memcpy(Tc,J,40);
-memcpy(Uc,K,16);
-memcpy(Vc,L,16);
-memcpy(Wc,M,16);
-memcpy(Xc,N,16);
-memcpy(Yc,O,16);
-memcpy(Zc,P,48);
-memcpy(ad,Q,32);
-memcpy(bd,R,40);
-memcpy(cd,S,32);
-memcpy(dd,T,16);
-memcpy(ed,U,48);
-memcpy(fd,V,40);
-memcpy(gd,W,16);
-memcpy(hd,X,32);
-memcpy(id,Y,32);
-memcpy(jd,Z,32);
-memcpy(kd,aa,104);
-memcpy(ld,ba,32);
-memcpy(md,ca,40);
-memcpy(nd,da,32);
-memcpy(od,ea,16);
-memcpy(pd,fa,48);
-memcpy(qd,ga,32);
-memcpy(sd,ha,16);
-memcpy(td,ia,16);
-memcpy(ud,ja,16);
-memcpy(qb,sc,24);
-memcpy(rb,tc,16);
-memcpy(sb,uc,32);
-memcpy(tb,vc,16);
-memcpy(ub,wc,32);
-memcpy(vb,xc,80);
-memcpy(wb,yc,16);
-memcpy(xb,zc,40);
-memcpy(yb,Ac,16);
-memcpy(zb,Bc,16);
-memcpy(Ab,Cc,16);
-memcpy(Bb,Dc,16);
-memcpy(Cb,Ec,16);
-memcpy(Db,Fc,48);
-memcpy(Eb,Gc,32);
-memcpy(Fb,Hc,32);
-memcpy(Gb,Ic,104);
-memcpy(Hb,Jc,40);
-memcpy(Ib,Kc,16);
-memcpy(Jb,Lc,32);
-memcpy(Kb,Mc,24);
-memcpy(Lb,Nc,16);
-memcpy(Mb,Oc,32);
-memcpy(Nb,Pc,16);
-memcpy(Ob,Qc,24);
-memcpy(Pb,Rc,16);
-memcpy(Qb,Sc,16);
-memcpy(Rb,Tc,40);
-memcpy(Sb,Uc,16);
-memcpy(Tb,Vc,16);
-memcpy(Ub,Wc,16);
-memcpy(Vb,Xc,16);
-memcpy(Wb,Yc,16);
-memcpy(Xb,Zc,48);
-memcpy(Yb,ad,32);
-memcpy(Zb,bd,40);
-memcpy(ac,cd,32);
-memcpy(bc,dd,16);
-memcpy(cc,ed,48);
-memcpy(dc,fd,40);
-memcpy(ec,gd,16);
-memcpy(fc,hd,32);
-memcpy(gc,id,32);
-memcpy(hc,jd,32);
-memcpy(ic,kd,104);
-memcpy(jc,ld,32);
-memcpy(kc,md,40);
-memcpy(lc,nd,32);
-memcpy(mc,od,16);
-memcpy(nc,pd,48);
-memcpy(oc,qd,32);
-memcpy(pc,sd,16);
-memcpy(qc,td,16);
-memcpy(rc,ud,16);
-wp(pb,(u8*)65536);
-memcpy(pb+8,qb,24);
-wp(pb+32,(u8*)65536);
-memcpy(pb+40,rb,16);
-wp(pb+56,(u8*)65536);
-memcpy(pb+64,sb,32);
-wp(pb+96,(u8*)65536);
-memcpy(pb+104,tb,16);
-wp(pb+120,(u8*)65536);
-memcpy(pb+128,ub,32);
-wp(pb+160,(u8*)65536);
-memcpy(pb+168,vb,80);
-wp(pb+248,(u8*)65536);
-memcpy(pb+256,wb,16);
-wp(pb+272,(u8*)65536);
-memcpy(pb+280,xb,40);
-wp(pb+320,(u8*)65536);
-memcpy(pb+328,yb,16);
-wp(pb+344,(u8*)65536);
-memcpy(pb+352,zb,16);
-wp(pb+368,(u8*)65536);
-memcpy(pb+376,Ab,16);
-wp(pb+392,(u8*)65536);
-memcpy(pb+400,Bb,16);
-wp(pb+416,(u8*)65536);
-memcpy(pb+424,Cb,16);
-wp(pb+440,(u8*)65536);
-memcpy(pb+448,Db,48);
-wp(pb+496,(u8*)65536);
-memcpy(pb+504,Eb,32);
-wp(pb+536,(u8*)65536);
-memcpy(pb+544,Fb,32);
-wp(pb+576,(u8*)65536);
-memcpy(pb+584,Gb,104);
-w8(pb+688,gu);
-memcpy(pb+696,Hb,40);
-w8(pb+736,gu);
-memcpy(pb+744,Ib,16);
-wp(pb+760,(u8*)65536);
-memcpy(pb+768,Jb,32);
-wp(pb+800,(u8*)65536);
-memcpy(pb+808,Kb,24);
-wp(pb+832,(u8*)65536);
-memcpy(pb+840,Lb,16);
-wp(pb+856,(u8*)65536);
-memcpy(pb+864,Mb,32);
-wp(pb+896,(u8*)65536);
-memcpy(pb+904,Nb,16);
-wp(pb+920,(u8*)65536);
-memcpy(pb+928,Ob,24);
-wp(pb+952,(u8*)65536);
-memcpy(pb+960,Pb,16);
-wp(pb+976,(u8*)65536);
-memcpy(pb+984,Qb,16);
-wp(pb+1000,(u8*)65536);
-memcpy(pb+1008,Rb,40);
-wp(pb+1048,(u8*)65536);
-memcpy(pb+1056,Sb,16);
-wp(pb+1072,(u8*)65536);
-memcpy(pb+1080,Tb,16);
-wp(pb+1096,(u8*)65536);
-memcpy(pb+1104,Ub,16);
-wp(pb+1120,(u8*)65536);
-memcpy(pb+1128,Vb,16);
-wp(pb+1144,(u8*)65536);
-memcpy(pb+1152,Wb,16);
-wp(pb+1168,(u8*)65536);
-memcpy(pb+1176,Xb,48);
-wp(pb+1224,(u8*)65536);
-memcpy(pb+1232,Yb,32);
-wp(pb+1264,(u8*)65536);
-memcpy(pb+1272,Zb,40);
-wp(pb+1312,(u8*)65536);
-memcpy(pb+1320,ac,32);
-wp(pb+1352,(u8*)65536);
-memcpy(pb+1360,bc,16);
-wp(pb+1376,(u8*)65536);
-memcpy(pb+1384,cc,48);
-w8(pb+1432,gu);
-memcpy(pb+1440,dc,40);
-w8(pb+1480,gu);
-memcpy(pb+1488,ec,16);
-wp(pb+1504,(u8*)65536);
-memcpy(pb+1512,fc,32);
-wp(pb+1544,(u8*)65536);
-memcpy(pb+1552,gc,32);
-wp(pb+1584,(u8*)65536);
-memcpy(pb+1592,hc,32);
-wp(pb+1624,(u8*)65536);
-memcpy(pb+1632,ic,104);
-wp(pb+1736,(u8*)65536);
-memcpy(pb+1744,jc,32);
-wp(pb+1776,(u8*)65536);
-memcpy(pb+1784,kc,40);
-wp(pb+1824,(u8*)65536);
-memcpy(pb+1832,lc,32);
-wp(pb+1864,(u8*)65536);
-memcpy(pb+1872,mc,16);
-wp(pb+1888,(u8*)65536);
-memcpy(pb+1896,nc,48);
-wp(pb+1944,(u8*)65536);
-memcpy(pb+1952,oc,32);
-wp(pb+1984,(u8*)65536);
-memcpy(pb+1992,pc,16);
-wp(pb+2008,(u8*)65536);
-memcpy(pb+2016,qc,16);
-wp(pb+2032,(u8*)65536);
-memcpy(pb+2040,rc,16);
-w8(pb+2056,fu);
-w8(pb+2064,hu);
-wp(pb+2072,(u8*)65536);
-z16(pb+2080);
-wp(pb+2096,(u8*)65536);
-z16(pb+2104);
-wp(pb+2120,(u8*)65536);
-z16(pb+2128);
-w4(pb+2144,65);
-w4(pb+2148,0);
-iu=port_rattle_alloc(16384,1);
-if((u8)(iu.f0&1)){
-ju=iu.f1;
-ku=(u8*)ju;
-zero_all(ku,16384);
-lu=r8(c+8224);
-if(lu!=0){
-nu=(u8*)65536;
-ou=lu;
-pu=0;
-L130:w8(c+8224,ou-1);
-qu=r8(c+8200);
-ru=r8(c+8192);
-if(qu==ru){
-su=port_read(0,ku,16384);
-if((i64)su<0){
-port_rattle_errno();
-mu=nu;
-goto L131;}
-tu=umin64(su,16384);}
-else{
-uu=c+(i64)ru;
-vu=umin64(qu-ru,16384);
-if(ju-(u64)uu<vu)copy_bits_4f4(uu,ku,vu);
-else memmove(ku,uu,vu);
-wu=r8(c+8192);
-w8(c+8192,umin64(vu,r8(c+8200)-wu)+wu);
-tu=vu;}
-if(tu==0){
-xu=end_segment_63d(Ed,pb,nb,ob,d);
-if(xu.f0==0){
-yu=rp(ob);
-zu=r8(ob+8);
-if(zu==0)goto L132;
-Au=0;
-L133:Bu=zu-Au;
-Cu=port_write(1,yu+(i64)Au,Bu);
-if((i64)Cu<0)port_rattle_errno();
-else{
-Du=umin64(Cu,Bu);
-if(Du!=0){
-Eu=Du+Au;
-if(Eu>=zu)goto L132;
-Au=Eu;
-goto L133;}}
-w8(d+8,r8(d+8)+1);
-Fu=1;
-goto L134;
-L132:port_rattle_dealloc(ku);
-memcpy(Ad,pb,2152);
-drop_b01(Ad);
-if(r8(ob+16)!=0)port_rattle_dealloc(yu);
-if(r8(nb+24)!=0)port_rattle_dealloc(rp(nb+8));
-memcpy(Bd+6,nb+56,24);
-Gu=0;
-Hu=0;
-goto L135;}
-Fu=xu.f1;
-L134:port_rattle_dealloc(ku);
-memcpy(zd,pb,2152);
-drop_b01(zd);
-if(r8(ob+16)!=0)port_rattle_dealloc(rp(ob));
-if(r8(nb+24)!=0)port_rattle_dealloc(rp(nb+8));
-z24(Bd+6);
-Gu=1;
-Hu=Fu;
-goto L135;}
-Iu=pu;
-Ju=0;
-L136:Ku=ku+(i64)Ju;
-z16(h);
-first_segment_4a3(h,*nb,Ku,tu-Ju,Iu);
-Lu=r8(h);
-if(Lu==0)goto L137;
-Mu=0;
-L138:Nu=Ku+(i64)Mu;
-Ou=Lu-Mu;
-z48(g);
-Pu=r8(nb+16);
-Qu=Pu==0;
-Ru=r16(nb+32);
-if(Qu&&Ru==0){
-if(nb[50]&1){
-pass_6c7(g,nb,Nu,Ou);
-Su=r16(g);
-Tu=r8(g+16);
-Uu=g[24]&1;
-goto L139;}
-Vu=*nb;
-Wu=nb[48];
-if(Ou==0)Xu=0;
-else{
-Yu=nb[49];
-Zu=Vu+49;
-av=Vu==2;
-bv=0;
-L140:cv=Nu+bv;
-if(*cv==95){
-if(bv==0){
-switch(Wu){
-case 0:dv=Vu;
-goto L141;
-case 1:if(av){
-switch(Yu){
-case 46:case 36:ev=1;
-fv=49;
-goto L142;
-default:break;}}
-break;
-case 2:if(av){
-switch(Yu){
-case 46:case 36:ev=1;
-fv=49;
-goto L142;
-default:break;}}
-break;
-default:NEVER;
-}}
-else{
-gv=*((u8*)t_e4d8+cv[-1]);
-if(Zu>gv){
-if(gv<=(Vu==0?48:49)){
-iv=0;
-jv=0;
-kv=bv;
-goto L143;}
-hv=place_in_stretch_597(Vu,Nu,bv,Wu);
-iv=hv.f1;
-jv=hv.f0;
-kv=bv;
-goto L143;}}}
-lv=bv+1;
-mv=Ou-lv;
-if(mv<16)nv=0;
-else{
-ov=Nu+(i64)lv;
-pv=cttz(v16_eq(v16_at(ov),splat(95)),16);
-if((mv<32)|(pv<16))nv=pv;
-else{
-qv=cttz(v16_eq(v16_at(ov+16),splat(95)),16);
-if(qv<16)nv=qv|16;
-else{
-if(mv<=95){
-nv=32;
-goto L144;}
-rv=32;
-L145:sv=ov+(i64)rv;
-if((((v16_eq(v16_at(sv),splat(95))|v16_eq(v16_at(sv+16),splat(95)))|v16_eq(v16_at(sv+32),splat(95)))|v16_eq(v16_at(sv+48),splat(95)))==0){
-tv=rv+64;
-if(mv-tv>63){
-rv=tv;
-goto L145;}
-nv=tv;}
-else nv=rv;}}}
-L144:uv=nv+lv;
-if(uv<Ou){
-bv=uv;
-goto L140;}
-Xu=uv;}
-if(*((u8*)t_e4d8+*(Nu+(i64)Xu-1))>(Vu==0?48:49)){
-vv=place_in_stretch_597(Vu,Nu,Xu,Wu);
-wv=vv.f0;
-xv=vv.f1;}
-else{
-wv=0;
-xv=0;}
-if(Xu==0){
-dv=Vu;
-goto L141;}
-iv=xv;
-jv=wv;
-kv=Xu;
-L143:w2(nb+48,(u16)((u32)iv<<8)|jv);
-yv=kv;
-goto L146;}
-dv=*nb;
-L141:ev=dv==2;
-fv=dv==1?50:49;
-L142:if(fv>*((u8*)t_e4d8+*Nu))goto L147;
-zv=0;
-L148:if(Ou-zv>15){
-Av=v16_at(Nu+zv);
-Bv=cttz(v16_ne(Av,splat(36))&(v16_ne(Av,splat(46))&(v16_ne(Av,splat(95))&(v16_ult(v16_add(Av,splat(198)),splat(246))&v16_ult(v16_add(v16_or(Av,splat(32)),splat(133)),splat(230))))),16);
-Cv=zv+Bv;
-if(Bv>=16){
-zv=Cv;
-goto L148;}
-Dv=Cv;}
-else Dv=zv;
-if(Dv>=Ou){
-Fv=Dv;
-goto L149;}
-Ev=Dv;
-L150:if(fv>*((u8*)t_e4d8+*(Nu+Ev)))Fv=Ev;
-else{
-Gv=Ev+1;
-if(Gv!=Ou){
-Ev=Gv;
-goto L150;}
-Fv=Ou;}
-L149:if(Fv==0)goto L147;
-Hv=Fv;
-L151:if(Hv==0)Iv=Ru+Fv;
-else{
-Jv=Hv-1;
-if(*(Nu+Jv)==46){
-Hv=Jv;
-goto L151;}
-if(Ru+Hv>65536-Pu){
-Kv=rp(nb+8);
-Lv=r8(ob+16);
-Mv=r8(ob+8);
-if(Pu>Lv-Mv){
-Nv=grow_amortized_68b(ob,Pu);
-if(!Nv)goto L152;
-Ov=r8(ob+16);
-Pv=r8(ob+8);}
-else{
-Ov=Lv;
-Pv=Mv;}
-Qv=Pv+Pu;
-Rv=rp(ob);
-z16(ob+8);
-Sv=Rv+(i64)Pv;
-if((u64)Sv-(u64)Kv<Pu){
-copy_bits_4f4(Kv,Sv,Pu);
-w8(ob+8,Qv);
-w8(ob+16,Ov);}
-else{
-memmove(Sv,Kv,Pu);
-w8(ob+8,Qv);
-w8(ob+16,Ov);
-if(Qu)goto L153;}
-w8(nb+16,0);
-L153:w16(nb+32,0);
-nb[50]=1;
-Su=Ru;
-Tu=Fv;
-Uu=1;
-goto L139;}
-Tv=Ru;
-Uv=Pu+Tv;
-if(Uv>Pu){
-Vv=r8(nb+24);
-if(Vv-Pu<Tv){
-Wv=grow_amortized_68b(nb+8,Tv);
-if(!Wv)goto L152;
-Xv=r8(nb+16);
-Yv=Xv+Tv;
-Zv=r8(nb+24);
-aw=Xv;}
-else{
-Yv=Uv;
-Zv=Vv;
-aw=Pu;}
-if(aw<Yv)memset(rp(nb+8)+(i64)aw,46,Tv);
-w8(nb+16,Yv);
-w8(nb+24,Zv);
-bw=Yv;}
-else{
-if(Pu>Uv){
-w8(nb+16,Uv);
-bw=Uv;}
-else bw=Pu;}
-cw=r8(nb+24);
-if(Hv>cw-bw){
-dw=grow_amortized_68b(nb+8,Hv);
-if(!dw)goto L152;
-ew=r8(nb+24);
-fw=r8(nb+16);}
-else{
-ew=cw;
-fw=bw;}
-gw=fw+Hv;
-hw=rp(nb+8)+(i64)fw;
-if((u64)hw-(u64)Nu<Hv)copy_bits_4f4(Nu,hw,Hv);
-else memmove(hw,Nu,Hv);
-w8(nb+16,gw);
-w8(nb+24,ew);
-Iv=Fv-Hv;}
-w16(nb+32,Iv);
-iw=Fv;
-goto L154;
-L147:z48(f);
-if(!ev){
-kw=rp(nb+8);
-if(Pu-65537>=0xffffffffffff0001u){
-lw=*kw==95;
-if(Pu==2){
-if(!lw)goto L155;
-switch(kw[1]){
-case 90:mw=0;
-goto L156;
-case 82:break;
-default:goto L155;
-}}
-else{
-if(!lw)goto L155;
-switch(kw[1]){
-case 90:mw=0;
-goto L156;
-case 82:break;
-case 95:switch(kw[2]){
-case 90:mw=0x100000000u;
-goto L156;
-case 82:mw=0x100000001u;
-goto L156;
-default:goto L155;
-}
-break;
-default:goto L155;
-}}
-mw=1;
-L156:nw=mw>>32;
-z12(e);
-append_3c5(e,Ed,pb,mw,nw,kw+(i64)nw,Pu-nw,ob);
-if(*e!=0){
-if(e[4]!=4){
-pw=r8(ob+16);
-qw=r8(ob+8);
-if(Pu>pw-qw){
-rw=grow_amortized_68b(ob,Pu);
-if(!rw)goto L157;
-sw=r8(ob+16);
-tw=r8(ob+8);}
-else{
-sw=pw;
-tw=qw;}
-uw=tw+Pu;
-vw=rp(ob)+(i64)tw;
-if((u64)vw-(u64)kw<Pu)copy_bits_4f4(kw,vw,Pu);
-else memmove(vw,kw,Pu);
-w8(ob+8,uw);
-w8(ob+16,sw);
-ow=16;
-goto L158;}
-L157:goto L159;}
-ow=8;
-L158:w8(nb+56,uadd64(r8(nb+56),1));
-ww=nb+56+(i64)ow;
-w8(ww,uadd64(r8(ww),1));
-goto L160;}
-L155:xw=r8(ob+16);
-yw=r8(ob+8);
-if(Pu>xw-yw){
-zw=grow_amortized_68b(ob,Pu);
-if(!zw)goto L159;
-Aw=r8(ob+16);
-Bw=r8(ob+8);}
-else{
-Aw=xw;
-Bw=yw;}
-Cw=Bw+Pu;
-Dw=rp(ob);
-z16(ob+8);
-Ew=Dw+(i64)Bw;
-if((u64)Ew-(u64)kw<Pu){
-copy_bits_4f4(kw,Ew,Pu);
-w8(ob+8,Cw);
-w8(ob+16,Aw);}
-else{
-memmove(Ew,kw,Pu);
-w8(ob+8,Cw);
-w8(ob+16,Aw);
-if(Qu)goto L161;}
-L160:w8(nb+16,0);
-L161:z18(nb+32);
-jw=Ru;
-goto L162;}
-end_within_76b(f,nb,Ed,pb,ob);
-if(*f==0){
-jw=r16(f+16);
-goto L162;}
-L159:goto L152;
-L162:Su=jw;
-Tu=1;
-Uu=1;
-goto L139;
-L152:Fw=2;
-goto L163;
-L139:if(Su!=0){
-Gw=r8(ob+8);
-Hw=0;
-L164:if(r8(ob+16)==Gw){
-Iw=grow_amortized_68b(ob,1);
-if(!Iw){
-Fw=2;
-goto L163;}
-Jw=r8(ob+8);}
-else Jw=Gw;
-Kw=rp(ob);
-*(Kw+Jw)=46;
-Lw=Jw+1;
-w8(ob+8,Lw);
-if(Lw<16384){
-Mw=Lw;
-goto L165;}
-Nw=0;
-L166:Ow=Lw-Nw;
-Pw=port_write(1,Kw+(i64)Nw,Ow);
-if((i64)Pw<0)port_rattle_errno();
-else{
-Qw=umin64(Pw,Ow);
-if(Qw!=0){
-Rw=Qw+Nw;
-if(Rw<Lw){
-Nw=Rw;
-goto L166;}
-w8(ob+8,0);
-Mw=0;
-goto L165;}}
-w8(d+8,r8(d+8)+1);
-Fw=1;
-goto L163;
-L165:Sw=Hw+1;
-if(Sw<Su){
-Gw=Mw;
-Hw=Sw;
-goto L164;}}
-if(!Uu){
-iw=Tu;
+if((u64)Bo-(u64)nm<Ym)copy_bits_4f4(nm,Bo,Ym);
+else memmove(Bo,nm,Ym);
+w8(k+8,zo);
+w8(k+16,xo);
+if(zo<16384){
+In=Ym;
 goto L154;}
-yv=Tu;
-L146:Tw=r8(ob+16);
-Uw=r8(ob+8);
-if(yv>Tw-Uw){
-Vw=grow_amortized_68b(ob,yv);
-if(!Vw){
-Fw=2;
-goto L163;}
-Ww=r8(ob+16);
-Xw=r8(ob+8);}
+Co=0;
+L167:Do=zo-Co;
+Eo=port_write(1,Ao+(i64)Co,Do);
+if((i64)Eo<0)port_rattle_errno();
 else{
-Ww=Tw;
-Xw=Uw;}
-Yw=Xw+yv;
-Zw=rp(ob);
-ax=Zw+(i64)Xw;
-if((u64)ax-(u64)Nu<yv)copy_bits_4f4(Nu,ax,yv);
-else memmove(ax,Nu,yv);
-w8(ob+8,Yw);
-w8(ob+16,Ww);
-if(Yw<16384){
-iw=yv;
-goto L154;}
-bx=0;
-L167:cx=Yw-bx;
-dx=port_write(1,Zw+(i64)bx,cx);
-if((i64)dx<0)port_rattle_errno();
-else{
-ex=umin64(dx,cx);
-if(ex!=0){
-fx=ex+bx;
-if(fx<Yw){
-bx=fx;
+Fo=umin64(Eo,Do);
+if(Fo!=0){
+Go=Fo+Co;
+if(Go<zo){
+Co=Go;
 goto L167;}
-w8(ob+8,0);
-iw=yv;
+w8(k+8,0);
+In=Ym;
 goto L154;}}
 w8(d+8,r8(d+8)+1);
-Fw=1;
+go=1;
 goto L163;
-L154:gx=iw+Mu;
-if(gx<Lu){
-Mu=gx;
+L154:Ho=In+mm;
+if(Ho<lm){
+mm=Ho;
 goto L138;}
-L137:hx=h[9];
+L137:Io=h[9];
 if(h[8]&1){
-ix=end_segment_63d(Ed,pb,nb,ob,d);
-if(ix.f0!=0){
-Fw=ix.f1;
+Jo=end_segment_63d(u,l,j,k,d);
+if(Jo.f0!=0){
+go=Jo.f1;
 goto L163;}}
-jx=Lu+Ju;
-if(jx<tu){
-Iu=hx;
-Ju=jx;
+Ko=lm+jm;
+if(Ko<Tl){
+im=Io;
+jm=Ko;
 goto L136;}
-kx=r8(nb+16);
-if(kx-65537>=0xffffffffffff0001u){
-lx=rp(nb+8);
-mx=*lx==95;
-if(kx==2){
-if(!mx)goto L168;
-switch(lx[1]){
-case 90:nx=0;
+Lo=r8(j+16);
+if(Lo-65537>=0xffffffffffff0001u){
+Mo=rp(j+8);
+No=*Mo==95;
+if(Lo==2){
+if(!No)goto L168;
+switch(Mo[1]){
+case 90:Oo=0;
 goto L169;
 case 82:break;
 default:goto L168;
 }}
 else{
-if(!mx)goto L168;
-switch(lx[1]){
-case 90:nx=0;
+if(!No)goto L168;
+switch(Mo[1]){
+case 90:Oo=0;
 goto L169;
 case 82:break;
-case 95:switch(lx[2]){
-case 90:nx=0x100000000u;
+case 95:switch(Mo[2]){
+case 90:Oo=0x100000000u;
 goto L169;
-case 82:nx=0x100000001u;
+case 82:Oo=0x100000001u;
 goto L169;
 default:goto L168;
 }
 break;
 default:goto L168;
 }}
-nx=1;
-L169:ox=nx>>32;
-read_ahead_495(pb,nx,lx+(i64)ox,kx-ox);}
-L168:px=rp(ob);
-qx=r8(ob+8);
-if(qx==0)goto L170;
-rx=0;
-L171:sx=qx-rx;
-tx=port_write(1,px+(i64)rx,sx);
-if((i64)tx<0)port_rattle_errno();
+Oo=1;
+L169:Po=Oo>>32;
+read_ahead_495(l,Oo,Mo+(i64)Po,Lo-Po);}
+L168:Qo=rp(k);
+Ro=r8(k+8);
+if(Ro==0)goto L170;
+So=0;
+L171:To=Ro-So;
+Uo=port_write(1,Qo+(i64)So,To);
+if((i64)Uo<0)port_rattle_errno();
 else{
-ux=umin64(tx,sx);
-if(ux!=0){
-vx=ux+rx;
-if(vx<qx){
-rx=vx;
+Vo=umin64(Uo,To);
+if(Vo!=0){
+Wo=Vo+So;
+if(Wo<Ro){
+So=Wo;
 goto L171;}
-w8(ob+8,0);
+w8(k+8,0);
 goto L170;}}
 w8(d+8,r8(d+8)+1);
-wx=1;
+Xo=1;
 goto L172;
-L170:xx=r8(c+8224);
-if(xx==0){
-mu=px;
-goto L131;}
-nu=px;
-ou=xx;
-pu=hx;
+L170:Yo=r8(c+8224);
+if(Yo==0)goto L131;
+Ol=Yo;
+Pl=Io;
 goto L130;
-L163:wx=Fw;
-L172:port_rattle_dealloc(ku);
-memcpy(yd,pb,2152);
-drop_b01(yd);
-if(r8(ob+16)!=0)port_rattle_dealloc(rp(ob));
-if(r8(nb+24)!=0)port_rattle_dealloc(rp(nb+8));
-z24(Bd+6);
-Gu=1;
-Hu=wx;
+L163:Xo=go;
+L172:port_rattle_dealloc(Ml);
+memcpy(o,l,1752);
+drop_b01(o);
+if(r8(k+16)!=0)port_rattle_dealloc(rp(k));
+if(r8(j+24)!=0)port_rattle_dealloc(rp(j+8));
+z24(r+6);
+gm=1;
+hm=Xo;
 goto L135;}
-mu=(u8*)65536;
 L131:w8(c+8216,r8(c+8216)+1);
-port_rattle_dealloc(ku);
-memcpy(xd,pb,2152);
-drop_b01(xd);
-if(r8(ob+16)!=0)port_rattle_dealloc(mu);
-if(r8(nb+24)!=0)port_rattle_dealloc(rp(nb+8));
-memcpy(Bd+6,mb+6,24);
-Gu=1;
-Hu=0;}
+port_rattle_dealloc(Ml);
+memcpy(n,l,1752);
+drop_b01(n);
+if(r8(k+16)!=0)port_rattle_dealloc(rp(k));
+if(r8(j+24)!=0)port_rattle_dealloc(rp(j+8));
+memcpy(r+6,i+6,24);
+gm=1;
+hm=0;}
 else{
-memcpy(vd,pb,2152);
-drop_b01(vd);
-z24(Bd+6);
-Gu=1;
-Hu=2;}
-L135:memcpy(Cd+6,Bd+6,24);
-memcpy(Dd+6,Cd+6,24);
-memcpy(Wd+6,Dd+6,24);
-du=Gu;
-eu=Hu;}
-memcpy(Pi+6,Wd+6,24);
-mq=du;
-nq=eu;
-oq=Pi+6;}
-*a=mq;
-a[1]=nq;
-memcpy(a+8,oq,24);
+memcpy(m,l,1752);
+drop_b01(m);
+if(r8(k+16)!=0)port_rattle_dealloc(rp(k));
+if(r8(j+24)!=0)port_rattle_dealloc(rp(j+8));
+z24(r+6);
+gm=1;
+hm=2;}
+L135:memcpy(s+6,r+6,24);
+memcpy(t+6,s+6,24);
+memcpy(M+6,t+6,24);
+Fl=gm;
+Gl=hm;}
+memcpy(wa+6,M+6,24);
+Oh=Fl;
+Ph=Gl;
+Qh=wa+6;}
+*a=Oh;
+a[1]=Ph;
+memcpy(a+8,Qh,24);
 return;
 }
 
@@ -166854,14 +164610,14 @@ u32 k,H;
 u8 l,m,r,v,B,G;
 u64 n,o,p,q,s,t,u,w,x,y,z,A,C,D,E,F;
 z12(j);
-k=r4(c+2024);
+k=r4(c+1624);
 if((k<64)|((k&7)==0)){
 append_looked_f40(j,b,c,d,e,f,g,h);
 *a=*j;
 x4(a+4,j[4]);
 x4(a+8,r4(j+8));}
 else{
-w4(c+2024,k+1);
+w4(c+1624,k+1);
 z12(i);
 if(g>=21){
 if(f[2]==78){
@@ -166953,8 +164709,8 @@ u64 p,v,w,B,C,E,F,J,M,P,Q,R,S,U,V,W,Y,Z,aa,ba,ca,ea,fa,ga,ha,ja,ra,sa,ta,ua,wa,x
 u8 *q,*s,*x,*A,*K,*L,*ia,*ka;
 u16 r,la;
 u8 y,D,G,N,O,T,X,da,ma,pa,qa,va,za,Fa,Ka;
-if(r4(b)==r4(c+1944)){
-if(b[4]==c[1948]){
+if(r4(b)==r4(c+1544)){
+if(b[4]==c[1548]){
 m=mark_of_209(f,g);
 if(m.f0==1){
 n=m.f1;
@@ -166962,20 +164718,20 @@ wp(i,f);
 w8(i+8,g);
 o=n&16383;
 p=(u64)o<<2;
-if(r8(c+1960)>o){
-q=rp(c+1952)+(i64)p;
+if(r8(c+1560)>o){
+q=rp(c+1552)+(i64)p;
 if(r2(q)==(u16)(n>>16)){
 r=r2(q+2);
-if(r8(c+1984)>r){
-s=rp(c+1976)+(i64)((u64)r*20);
+if(r8(c+1584)>r){
+s=rp(c+1576)+(i64)((u64)r*20);
 if(r4(s+4)==e){
 if(*s==d){
 t=r4(s+8);
 u=r4(s+12);
 v=(u64)u+t;
-w=r8(c+2008);
+w=r8(c+1608);
 if(w>=v){
-x=rp(c+2000);
+x=rp(c+1600);
 wp(j,x+(i64)t);
 w8(j+8,u);
 y=ne_2ae(j,i);
@@ -167006,7 +164762,7 @@ else memmove(L,A,z);
 wp(h,K);
 w8(h+8,J);
 w8(h+16,E);
-w4(c+2024,0);
+w4(c+1624,0);
 G=0;
 H=0;
 I=0;
@@ -167082,32 +164838,32 @@ else{
 if(S==3||(g-ha<2||*(f+(i64)ha)!=46))goto L6;
 fa=S;
 ga=ha;}
-L7:append_named_795(k,c+1944,c,d,f,g,fa,ga,h);
+L7:append_named_795(k,c+1544,c,d,f,g,fa,ga,h);
 goto L8;}}
-L6:append_6a1(k,c+1944,c,d,f,g,h);
+L6:append_6a1(k,c+1544,c,d,f,g,h);
 L8:if(*k==0){
-if(r8(c+1960)>o){
+if(r8(c+1560)>o){
 ia=rp(h)+(i64)M;
 ja=r8(h+8)-M;
-ka=rp(c+1952)+(i64)p;
+ka=rp(c+1552)+(i64)p;
 la=n>>16;
 ma=r2(ka)==la;
 w2(ka,la);
-if(ma)w4(c+2024,0);
+if(ma)w4(c+1624,0);
 else{
-na=r4(c+2024);
-w4(c+2024,na+1);
+na=r4(c+1624);
+w4(c+1624,na+1);
 if(na>=64){
 G=0;
 H=0;
 I=0;
 goto L2;}}
-keep_946(c+1952,o,d,e,f,g,ia,ja);
+keep_946(c+1552,o,d,e,f,g,ia,ja);
 G=0;
 H=0;
 I=0;}
 else{
-begin_639(c+1952);
+begin_639(c+1552);
 G=0;
 H=0;
 I=0;}}
@@ -167986,10 +165742,10 @@ A16 u8 i[12];
 u32 j,l;
 u8 k;
 z12(i);
-j=r4(c+2144);
+j=r4(c+1744);
 if((j<64)|((j&7)==0))append_looked_3d1(i,b,c,d,e,f,g,h);
 else{
-w4(c+2144,j+1);
+w4(c+1744,j+1);
 append_55b(i,b,c,d,f,g,h);}
 k=i[4];
 l=r4(i+8);
@@ -168010,10 +165766,10 @@ u8 *q,*s,*x,*A,*K,*L,*N,*P;
 u16 r,Q;
 u8 y,D,G,R;
 z12(l);
-if(b[8]==c[2064]){
-if(b[9]==c[2065]){
-if(r4(b)==r4(c+2056)){
-if(b[4]==c[2060]){
+if(b[8]==c[1664]){
+if(b[9]==c[1665]){
+if(r4(b)==r4(c+1656)){
+if(b[4]==c[1660]){
 m=mark_of_209(f,g);
 if(m.f0==1){
 n=m.f1;
@@ -168022,20 +165778,20 @@ wp(i,f);
 w8(i+8,g);
 o=n&16383;
 p=(u64)o<<2;
-if(r8(c+2080)>o){
-q=rp(c+2072)+(i64)p;
+if(r8(c+1680)>o){
+q=rp(c+1672)+(i64)p;
 if(r2(q)==(u16)(n>>16)){
 r=r2(q+2);
-if(r8(c+2104)>r){
-s=rp(c+2096)+(i64)((u64)r*20);
+if(r8(c+1704)>r){
+s=rp(c+1696)+(i64)((u64)r*20);
 if(r4(s+4)==e){
 if(*s==d){
 t=r4(s+8);
 u=r4(s+12);
 v=(u64)u+t;
-w=r8(c+2128);
+w=r8(c+1728);
 if(w>=v){
-x=rp(c+2120);
+x=rp(c+1720);
 wp(j,x+(i64)t);
 w8(j+8,u);
 y=ne_2ae(j,i);
@@ -168066,36 +165822,36 @@ else memmove(L,A,z);
 wp(h,K);
 w8(h+8,J);
 w8(h+16,E);
-w4(c+2144,0);
+w4(c+1744,0);
 G=0;
 H=0;
 I=0;
 goto L2;}}}}}}}
 L1:M=r8(h+8);
-append_55b(k,c+2056,c,d,f,g,h);
+append_55b(k,c+1656,c,d,f,g,h);
 if(*k==0){
-if(r8(c+2080)>o){
+if(r8(c+1680)>o){
 N=rp(h)+(i64)M;
 O=r8(h+8)-M;
-P=rp(c+2072)+(i64)p;
+P=rp(c+1672)+(i64)p;
 Q=n>>16;
 R=r2(P)==Q;
 w2(P,Q);
-if(R)w4(c+2144,0);
+if(R)w4(c+1744,0);
 else{
-S=r4(c+2144);
-w4(c+2144,S+1);
+S=r4(c+1744);
+w4(c+1744,S+1);
 if(S>=64){
 G=0;
 H=0;
 I=0;
 goto L2;}}
-keep_946(c+2072,o,d,e,f,g,N,O);
+keep_946(c+1672,o,d,e,f,g,N,O);
 G=0;
 H=0;
 I=0;}
 else{
-begin_639(c+2072);
+begin_639(c+1672);
 G=0;
 H=0;
 I=0;}}
@@ -168791,10 +166547,10 @@ A16 u8 i[12];
 u32 j,l;
 u8 k;
 z12(i);
-j=r4(c+2024);
+j=r4(c+1624);
 if((j<64)|((j&7)==0))append_looked_219(i,b,c,d,e,f,g,h);
 else{
-w4(c+2024,j+1);
+w4(c+1624,j+1);
 append_6a1(i,b,c,d,f,g,h);}
 k=i[4];
 l=r4(i+8);
@@ -168815,8 +166571,8 @@ u8 *q,*s,*x,*A,*K,*L,*N,*P;
 u16 r,Q;
 u8 y,D,G,R;
 z12(l);
-if(r4(b)==r4(c+1944)){
-if(b[4]==c[1948]){
+if(r4(b)==r4(c+1544)){
+if(b[4]==c[1548]){
 m=mark_of_209(f,g);
 if(m.f0==1){
 n=m.f1;
@@ -168825,20 +166581,20 @@ wp(i,f);
 w8(i+8,g);
 o=n&16383;
 p=(u64)o<<2;
-if(r8(c+1960)>o){
-q=rp(c+1952)+(i64)p;
+if(r8(c+1560)>o){
+q=rp(c+1552)+(i64)p;
 if(r2(q)==(u16)(n>>16)){
 r=r2(q+2);
-if(r8(c+1984)>r){
-s=rp(c+1976)+(i64)((u64)r*20);
+if(r8(c+1584)>r){
+s=rp(c+1576)+(i64)((u64)r*20);
 if(r4(s+4)==e){
 if(*s==d){
 t=r4(s+8);
 u=r4(s+12);
 v=(u64)u+t;
-w=r8(c+2008);
+w=r8(c+1608);
 if(w>=v){
-x=rp(c+2000);
+x=rp(c+1600);
 wp(j,x+(i64)t);
 w8(j+8,u);
 y=ne_2ae(j,i);
@@ -168869,36 +166625,36 @@ else memmove(L,A,z);
 wp(h,K);
 w8(h+8,J);
 w8(h+16,E);
-w4(c+2024,0);
+w4(c+1624,0);
 G=0;
 H=0;
 I=0;
 goto L2;}}}}}}}
 L1:M=r8(h+8);
-append_6a1(k,c+1944,c,d,f,g,h);
+append_6a1(k,c+1544,c,d,f,g,h);
 if(*k==0){
-if(r8(c+1960)>o){
+if(r8(c+1560)>o){
 N=rp(h)+(i64)M;
 O=r8(h+8)-M;
-P=rp(c+1952)+(i64)p;
+P=rp(c+1552)+(i64)p;
 Q=n>>16;
 R=r2(P)==Q;
 w2(P,Q);
-if(R)w4(c+2024,0);
+if(R)w4(c+1624,0);
 else{
-S=r4(c+2024);
-w4(c+2024,S+1);
+S=r4(c+1624);
+w4(c+1624,S+1);
 if(S>=64){
 G=0;
 H=0;
 I=0;
 goto L2;}}
-keep_946(c+1952,o,d,e,f,g,N,O);
+keep_946(c+1552,o,d,e,f,g,N,O);
 G=0;
 H=0;
 I=0;}
 else{
-begin_639(c+1952);
+begin_639(c+1552);
 G=0;
 H=0;
 I=0;}}
@@ -169595,19 +167351,19 @@ u32 k,n;
 u64 l;
 u8 m,o,p;
 z12(j);
-k=r4(c+2144);
+k=r4(c+1744);
 if((k<64)|((k&7)==0)){
 append_looked_31c(j,b,c,d,e,f,g,h);
 *a=*j;
 x4(a+4,j[4]);
 x4(a+8,r4(j+8));}
 else{
-w4(c+2144,k+1);
+w4(c+1744,k+1);
 z12(i);
 l=r8(h+8);
 append_6a1(i,b,c,d,f,g,h);
 if(*i==0){
-m=rewrite_43c(b,c+1944,d,f,g,l,h);
+m=rewrite_43c(b,c+1544,d,f,g,l,h);
 n=0;
 o=m<<2;
 p=m;}
@@ -169631,10 +167387,10 @@ u64 p,v,w,B,C,E,F,J,M,R,X;
 u8 *q,*s,*x,*A,*K,*L,*Q,*S;
 u16 r,T;
 u8 y,D,G,N,U,Y,Z,aa;
-if(b[8]==c[2064]){
-if(b[9]==c[2065]){
-if(r4(b)==r4(c+2056)){
-if(b[4]==c[2060]){
+if(b[8]==c[1664]){
+if(b[9]==c[1665]){
+if(r4(b)==r4(c+1656)){
+if(b[4]==c[1660]){
 m=mark_of_209(f,g);
 if(m.f0==1){
 n=m.f1;
@@ -169642,20 +167398,20 @@ wp(k,f);
 w8(k+8,g);
 o=n&16383;
 p=(u64)o<<2;
-if(r8(c+2080)>o){
-q=rp(c+2072)+(i64)p;
+if(r8(c+1680)>o){
+q=rp(c+1672)+(i64)p;
 if(r2(q)==(u16)(n>>16)){
 r=r2(q+2);
-if(r8(c+2104)>r){
-s=rp(c+2096)+(i64)((u64)r*20);
+if(r8(c+1704)>r){
+s=rp(c+1696)+(i64)((u64)r*20);
 if(r4(s+4)==e){
 if(*s==d){
 t=r4(s+8);
 u=r4(s+12);
 v=(u64)u+t;
-w=r8(c+2128);
+w=r8(c+1728);
 if(w>=v){
-x=rp(c+2120);
+x=rp(c+1720);
 wp(l,x+(i64)t);
 w8(l+8,u);
 y=ne_2ae(l,k);
@@ -169686,39 +167442,39 @@ else memmove(L,A,z);
 wp(h,K);
 w8(h+8,J);
 w8(h+16,E);
-w4(c+2144,0);
+w4(c+1744,0);
 G=0;
 H=0;
 I=0;
 goto L2;}}}}}}}
 L1:M=r8(h+8);
 z12(j);
-append_6a1(j,c+2056,c,d,f,g,h);
+append_6a1(j,c+1656,c,d,f,g,h);
 if(*j==0){
-N=rewrite_43c(c+2056,c+1944,d,f,g,M,h);
+N=rewrite_43c(c+1656,c+1544,d,f,g,M,h);
 if(!(N&1)){
-if(r8(c+2080)<=o){
-begin_639(c+2072);
+if(r8(c+1680)<=o){
+begin_639(c+1672);
 G=0;
 H=0;
 I=0;
 goto L2;}
 Q=rp(h)+(i64)M;
 R=r8(h+8)-M;
-S=rp(c+2072)+(i64)p;
+S=rp(c+1672)+(i64)p;
 T=n>>16;
 U=r2(S)==T;
 w2(S,T);
-if(U)w4(c+2144,0);
+if(U)w4(c+1744,0);
 else{
-V=r4(c+2144);
-w4(c+2144,V+1);
+V=r4(c+1744);
+w4(c+1744,V+1);
 if(V>=64){
 G=0;
 H=0;
 I=0;
 goto L2;}}
-keep_946(c+2072,o,d,e,f,g,Q,R);
+keep_946(c+1672,o,d,e,f,g,Q,R);
 G=0;
 H=0;
 I=0;
@@ -169739,7 +167495,7 @@ z12(i);
 X=r8(h+8);
 append_6a1(i,b,c,d,f,g,h);
 if(*i==0){
-Y=rewrite_43c(b,c+1944,d,f,g,X,h);
+Y=rewrite_43c(b,c+1544,d,f,g,X,h);
 Z=Y;
 aa=Y<<2;
 ba=0;}
@@ -170431,14 +168187,14 @@ A16 u8 h[16],i[12];
 u32 j,m,n;
 u8 k,l;
 z12(i);
-j=r4(b+2016);
+j=r4(b+1616);
 if((j<64)|((j&7)==0)){
 append_looked_b64(i,b,c,d,e,f,g);
 *a=*i;
 x4(a+4,i[4]);
 x4(a+8,r4(i+8));}
 else{
-w4(b+2016,j+1);
+w4(b+1616,j+1);
 demangle_45e(h,b,c,d,e,f,g);
 k=*h;
 switch(k){
@@ -170479,20 +168235,20 @@ wp(j,e);
 w8(j+8,f);
 n=m&16383;
 o=(u64)n<<2;
-if(r8(b+1952)>n){
-p=rp(b+1944)+(i64)o;
+if(r8(b+1552)>n){
+p=rp(b+1544)+(i64)o;
 if(r2(p)==(u16)(m>>16)){
 q=r2(p+2);
-if(r8(b+1976)>q){
-r=rp(b+1968)+(i64)((u64)q*20);
+if(r8(b+1576)>q){
+r=rp(b+1568)+(i64)((u64)q*20);
 if(r4(r+4)==d){
 if(*r==c){
 s=r4(r+8);
 t=r4(r+12);
 u=(u64)t+s;
-v=r8(b+2000);
+v=r8(b+1600);
 if(v>=u){
-w=rp(b+1992);
+w=rp(b+1592);
 wp(k,w+(i64)s);
 w8(k+8,t);
 x=ne_2ae(k,j);
@@ -170523,7 +168279,7 @@ else memmove(K,z,y);
 wp(g,J);
 w8(g+8,I);
 w8(g+16,D);
-w4(b+2016,0);
+w4(b+1616,0);
 F=0;
 G=0;
 H=0;
@@ -170531,28 +168287,28 @@ goto L2;}}}}}}}
 L1:L=r8(g+8);
 demangle_45e(i,b,c,d,e,f,g);
 switch(*i){
-case 0:if(r8(b+1952)<=n){
-begin_639(b+1944);
+case 0:if(r8(b+1552)<=n){
+begin_639(b+1544);
 F=0;
 G=0;
 H=0;
 goto L2;}
 M=rp(g)+(i64)L;
 N=r8(g+8)-L;
-O=rp(b+1944)+(i64)o;
+O=rp(b+1544)+(i64)o;
 P=m>>16;
 Q=r2(O)==P;
 w2(O,P);
-if(Q)w4(b+2016,0);
+if(Q)w4(b+1616,0);
 else{
-R=r4(b+2016);
-w4(b+2016,R+1);
+R=r4(b+1616);
+w4(b+1616,R+1);
 if(R>=64){
 F=0;
 G=0;
 H=0;
 goto L2;}}
-keep_946(b+1944,n,c,d,e,f,M,N);
+keep_946(b+1544,n,c,d,e,f,M,N);
 F=0;
 G=0;
 H=0;
@@ -170991,16 +168747,16 @@ return ca;
 /* symfilt_command::sym_recent++recent++RecentLists+Destruct::drop */
 static void drop_982(u8* a)
 {
-A16 u8 b[1944];
+A16 u8 b[1544];
 u8 *c,*d,*f;
 u64 e,g,h;
-c=qp(a+1944);
-d=qp(a+1968);
-e=q8(a+1984);
-f=qp(a+1992);
-g=q8(a+2008);
-h=q8(a+1960);
-memcpy(b,a,1944);
+c=qp(a+1544);
+d=qp(a+1568);
+e=q8(a+1584);
+f=qp(a+1592);
+g=q8(a+1608);
+h=q8(a+1560);
+memcpy(b,a,1544);
 drop_816(b);
 if(h!=0)port_rattle_dealloc(c);
 if(e!=0)port_rattle_dealloc(d);
@@ -171292,14 +169048,14 @@ A16 u8 h[16],i[12];
 u32 j,m,n;
 u8 k,l;
 z12(i);
-j=r4(b+2016);
+j=r4(b+1616);
 if((j<64)|((j&7)==0)){
 append_looked_c4a(i,b,c,d,e,f,g);
 *a=*i;
 x4(a+4,i[4]);
 x4(a+8,r4(i+8));}
 else{
-w4(b+2016,j+1);
+w4(b+1616,j+1);
 demangle_363(h,b,c,d,e,f,g);
 k=*h;
 switch(k){
@@ -171340,20 +169096,20 @@ wp(j,e);
 w8(j+8,f);
 n=m&16383;
 o=(u64)n<<2;
-if(r8(b+1952)>n){
-p=rp(b+1944)+(i64)o;
+if(r8(b+1552)>n){
+p=rp(b+1544)+(i64)o;
 if(r2(p)==(u16)(m>>16)){
 q=r2(p+2);
-if(r8(b+1976)>q){
-r=rp(b+1968)+(i64)((u64)q*20);
+if(r8(b+1576)>q){
+r=rp(b+1568)+(i64)((u64)q*20);
 if(r4(r+4)==d){
 if(*r==c){
 s=r4(r+8);
 t=r4(r+12);
 u=(u64)t+s;
-v=r8(b+2000);
+v=r8(b+1600);
 if(v>=u){
-w=rp(b+1992);
+w=rp(b+1592);
 wp(k,w+(i64)s);
 w8(k+8,t);
 x=ne_2ae(k,j);
@@ -171384,7 +169140,7 @@ else memmove(K,z,y);
 wp(g,J);
 w8(g+8,I);
 w8(g+16,D);
-w4(b+2016,0);
+w4(b+1616,0);
 F=0;
 G=0;
 H=0;
@@ -171392,28 +169148,28 @@ goto L2;}}}}}}}
 L1:L=r8(g+8);
 demangle_363(i,b,c,d,e,f,g);
 switch(*i){
-case 0:if(r8(b+1952)<=n){
-begin_639(b+1944);
+case 0:if(r8(b+1552)<=n){
+begin_639(b+1544);
 F=0;
 G=0;
 H=0;
 goto L2;}
 M=rp(g)+(i64)L;
 N=r8(g+8)-L;
-O=rp(b+1944)+(i64)o;
+O=rp(b+1544)+(i64)o;
 P=m>>16;
 Q=r2(O)==P;
 w2(O,P);
-if(Q)w4(b+2016,0);
+if(Q)w4(b+1616,0);
 else{
-R=r4(b+2016);
-w4(b+2016,R+1);
+R=r4(b+1616);
+w4(b+1616,R+1);
 if(R>=64){
 F=0;
 G=0;
 H=0;
 goto L2;}}
-keep_946(b+1944,n,c,d,e,f,M,N);
+keep_946(b+1544,n,c,d,e,f,M,N);
 F=0;
 G=0;
 H=0;

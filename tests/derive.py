@@ -106,7 +106,7 @@ class Table:
         return (node.kind, node.cls, node.production) in self.own
 
     def rule_name(self, node):
-        """The name of a production; where only the wide grammar has the production at a kind and at bytes, also these."""
+        """The name of a production; where only the wide grammar has the production at this kind and these bytes, also the kind and the bytes."""
         return f"{node.production}, of {node.kind} {node.cls or ''} (wide)" if self.is_own(node) else node.production
 
 
@@ -278,11 +278,11 @@ class Spelling:
         self.nodes = collections.Counter()
         self.candidates = []
         self.encodings = 0
-        # for each argument of the list in which a name just ended, whether it is a pack, or None without a list; whether the name so far
+        # where a name just ended in a list of arguments: for each argument whether it is a pack; otherwise None. Whether the name so far
         # needs no candidate: it is one already, or is never one
         self.arguments, self.listed = None, True
         self.types_around = 0
-        # how many of the first candidates all compilers count alike, or None as long as they count all alike
+        # how many of the first candidates all compilers count alike; None as long as they count all candidates alike
         self.counted_alike = None
         # the parameters that were named so far, and how many of them name packs
         self.named, self.packed = [], 0

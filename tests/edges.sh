@@ -1,5 +1,5 @@
 #!/bin/bash
-# Tests the edges of the two programs' processes, of which no contract says anything: statuses 2 and 3 with their words on standard error,
+# Tests the edges of the two programs' processes, about which no contract says anything: statuses 2 and 3 with their words on standard error,
 # and the words of argument files: tests/edges.sh SYMFILT [DEMANGLE]. The status is 1 where one of these is wrong.
 set -u
 [ $# -eq 1 ] || [ $# -eq 2 ] || { echo "usage: $0 SYMFILT [DEMANGLE]" >&2; exit 2; }

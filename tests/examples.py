@@ -113,7 +113,7 @@ class Examples:
             self.tell(f"{name}, line {text.count(chr(10), 0, found.start()) + 1}", told.returncode == 0 and told.stdout == (wanted or ""), told)
 
     def header(self, name, front, arena):
-        """The fragments of a header's first comment, whose lines have this front."""
+        """The fragments in a header's first comment. Each line of the comment begins with `front`."""
         with open(os.path.join(self.prefix, "include", name), encoding="utf-8") as file:
             comment = re.split(r"\*/|^#", file.read(), maxsplit=1, flags=re.M)[0]
         lines = [line[len(front) :] if line.startswith(front) else "" for line in comment.splitlines()]

@@ -1,5 +1,5 @@
 #!/usr/bin/env python3
-"""Reads what `demangle --json` writes by Python's reader of JSON and by jq, and names what comes out otherwise than it has to.
+"""Reads what `demangle --json` writes by Python's reader of JSON and by jq, and names what comes out wrong.
 
     tests/json_lines.py DEMANGLE [--seed N] [--count N]
 
@@ -7,7 +7,7 @@ The names are of each sort; some of them can't be in a text of JSON as they are,
 a text. Each line has to be UTF-8 without control characters, and has to be one object for both readers; jq is left out where it isn't
 installed. What the object of a name says is compared with what the program says of the name without `--json`. Each part has to be a stretch
 of its text; the parts are in the order of their starts, and of two parts one is within the other, or they are apart. The status is 1 where
-something comes out otherwise, 2 where the program can't be run.
+something comes out wrong, 2 where the program can't be run.
 """
 
 import argparse
@@ -45,7 +45,7 @@ FOO_BAR = "scope:0+3@4-9 crate:0+3@4-9 base:5+3@9-13"
 DEMO_MAIN = "scope:0+4@3-8 crate:0+4@3-8 base:6+4@8-13"
 LITERAL = "base:0+13@2-7 parameters:13+13@7-10 parameter:14+11@7-10"
 
-# options, names, and what the object of each name has to say beside the name
+# options, names, and what the object of each name has to say in addition to the name
 NAMES = [
     ([], b"_Z1fv", text("f()", ITANIUM, "function", F)),
     ([], b"__Z1fv", text("f()", ITANIUM, "function", "base:0+1@3-5 parameters:1+2@5-6")),

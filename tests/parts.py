@@ -1,5 +1,5 @@
 #!/usr/bin/env python3
-"""Asks the library for the parts of names, by the package for Python, and names what comes out otherwise than it has to.
+"""Asks the library for the parts of names, by the package for Python, and names what comes out wrong.
 
     tests/parts.py ROWS [FILE..]
 
@@ -7,7 +7,7 @@ ROWS is `crates/check_rows/stdin`, from which the rows `parts` are taken. Each F
 the one that a call without parts answers. The parts are slices of the text in the order of their starts, and of two parts one is within the
 other, or they are apart. The bytes that spell a part are in the name, and within the bytes that spell the part around it. A function's text
 consists of its outermost parts, with only a blank, `::`, or the brackets of a suffix between them. SYMDEMANGLE_LIBRARY names the library
-where the package brings none. The status is 1 where something comes out otherwise.
+where the package brings none. The status is 1 where something comes out wrong.
 """
 
 import re
@@ -87,7 +87,7 @@ def loose(text, parts):
 
 
 def fault_of(name):
-    """What comes out otherwise for a name, or None."""
+    """What comes out wrong for a name, or None."""
     try:
         found = symdemangle.parts(name)
     except symdemangle.Refused as why:
@@ -112,7 +112,7 @@ def fault_of(name):
 
 
 def fault_of_row(symbol, kind, text, parts):
-    """What comes out otherwise than a row says, or None."""
+    """What differs from what a row says, or None."""
     try:
         found = symdemangle.parts(symbol)
     except symdemangle.Refused as why:

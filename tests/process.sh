@@ -1,9 +1,9 @@
 #!/bin/bash
 # Tests what only a process of demangle shows: tests/process.sh DEMANGLE.
 #
-# These are: its statuses where a stream fails, with the reason; an output whose reader has gone; arguments of any bytes; files of
+# It shows its statuses where a stream fails, with the reason; an output whose reader has gone; arguments of any bytes; files of
 # arguments, also devices; what is said where a file is given in the place of a name; and colours on a terminal. The status is 1 where one
-# of these comes out otherwise.
+# of these comes out wrong.
 set -u
 [ $# -eq 1 ] || { echo "usage: $0 DEMANGLE" >&2; exit 2; }
 demangle=$(realpath "$(command -v "$1")") || { echo "$0: there is no $1" >&2; exit 2; }

@@ -2,8 +2,8 @@
 # Calls demangle as programs and people call a demangler: tests/tools.sh DEMANGLE.
 #
 # A program that is installed makes its call itself; otherwise the script makes the call as the program does. Then each call is made with
-# two stand-ins, one that forwards all as it is and one that fails. The call has to fail with one of them, since a call that doesn't tests
-# nothing. The status is 1 where a call comes out otherwise.
+# two stand-ins, one that forwards all as it is and one that fails. The call has to fail with one of them: a call that fails with neither
+# tests nothing. The status is 1 where a call comes out wrong.
 set -u
 [ $# -eq 1 ] || { echo "usage: $0 DEMANGLE" >&2; exit 2; }
 demangle=$(realpath "$(command -v "$1")") || { echo "$0: there is no $1" >&2; exit 2; }

@@ -1,5 +1,5 @@
-"""Writes answers that are alike for the arms or the exits of a function: from these in the code and the table alike.txt to answers in the
-function's file of answers."""
+"""Writes answers that are alike for all arms or all exits of a function, into the function's file of answers: from its arms and exits in the
+code, and from the table alike.txt."""
 import os
 import re
 
@@ -14,7 +14,7 @@ def arms(crates, path, function, begins, *by_hand):
     """Each arm, with the step of the last call in it."""
     body = dict(bodies(read(f"{crates}/{path}")))[function]
     steps = calls(body, begins)
-    # an arm may be of a constant of a module beside the file
+    # an arm may match a constant of a module beside the file
     text = read(f"{crates}/{os.path.dirname(path)}/{begins}.rt", "")
     numbers = dict(re.findall(r"^pub const (\w+): \w+ = (\d+);", text, re.M))
     for arm, _ in arms_of(body, begins):
@@ -22,8 +22,8 @@ def arms(crates, path, function, begins, *by_hand):
             yield numbers.get(arm, arm), steps.get(arm, ("", ""))[1]
 
 def exits(crates, path, function, *calls):
-    """Each clause of what is so where a function answers, at each call at which it may end with a refusal; with the step that forwards
-    it."""
+    """Each clause that a function ensures, at each call at which the function may end with a refusal; with the step that forwards
+    the refusal."""
     contract = re.search(rf"^ *(?:pub(?:\([a-z]+\))? )?fn {function}\b.*?^ *{{\n", read(f"{crates}/{path}"), re.M | re.S)[0]
     for call in calls:
         step = "from_residual" if call == calls[0] else f"from_residual-in_err-{call}"

@@ -3,11 +3,11 @@
 
     tools/clauses.py [TREE [OTHER]]
 
-A line is a crate, a function (with the type or the trait whose it is), and one of its clauses with blanks made one: a
-`requires`, an `ensures`, a law or data of a trait, a ghost field, a model. Without a second tree it lists those of the first (this
-repository's, if none is named). With one it prints what only one of them has, `-` before those of the first and `+` before those of
-the second, and ends with status 1 if there are any. A function counts as public if it is `pub`, or is in a trait or in an `impl`
-of one. Comments, and where in a crate a function is, don't count.
+A line is a crate, a function (with its type or trait), and one of its clauses with each run of blanks as one: a
+`requires`, an `ensures`, a law or data of a trait, a ghost field, a model. Without a second tree it lists the clauses of the first
+(this repository, if none is named). With a second tree it prints the lines that only one of them has, `-` before those of the first
+and `+` before those of the second, and ends with status 1 if there are any. A function counts as public if it is `pub`, or is in a
+trait or in an `impl` of one. Comments, and where in a crate a function is, don't count.
 """
 import re
 import sys

@@ -10,26 +10,26 @@ OWN, OUTSIDE, INSIDE, SIGNATURE, TREE, PIECE = "own", "outside", "inside", "sign
 BYTES, NUMBER, TRUTH, QUALIFIERS, MARK = "bytes", "number", "truth", "qualifiers", "mark"
 SIGNED, DISCRIMINATOR = "signed", "discriminator"
 
-# what is said of the arguments of a sort, by the word that says it
+# the texts for arguments of a sort, by the word that requests them
 SORTS = defaultdict(dict)
 for sort, lines in sections("cpp_sorts.txt"):
     for word, _, text in (line.partition(" ") for line, _ in lines):
         SORTS[word][sort] = text
 
-# Each tree with its arguments: (name, (argument, what it is), ..). What goes through a tree by its arguments alone is written from here.
-# An alias is a tree of a node, and none of its own.
+# Each tree with its arguments: (name, (argument, what it is), ..). Clauses that follow from a tree's arguments alone are written from these.
+# An alias is the tree of a node, and isn't a tree of its own.
 TREES, ALIASES = [], []
 # how each is pressed: the sort of its spelling, and its parts
 SPELLED = {}
 COMPONENTS, ENCODINGS = [], []
-# what is said of a tree below it, by the word that says it: for most words a text; for some the texts of all lines with the word
+# the lines below a tree in the table, by their first word: for most words a text; for some the texts of all lines with the word
 BELOW = defaultdict(dict)
 OF_LINES = ("fits", "from", "node", "before", "by_hand", "unfolding")
-# the right sides of clauses that aren't as a tree's arguments say, by definition or law: none where there is no clause; and whole clauses
+# the right sides of clauses that don't follow from a tree's arguments, by definition or law: none if there is no clause; and whole clauses
 CLAUSES, CASES = defaultdict(dict), defaultdict(dict)
-# <type> ::= <letter> <type>: tree, production, letter; the text after the type; and what is said of its number
+# <type> ::= <letter> <type>: tree, production, letter; the text after the type; and the lines about its number
 WRAPPERS, TEXTS, NUMBERED = [], {}, {}
-# names of arguments elsewhere, by where that is: of a tree's argument, or of those of this name
+# names of arguments in other places, by place: of a tree's argument, or of all arguments with this name
 NAMES = defaultdict(dict)
 
 def enter(name, arguments, sort="", *spelling):
@@ -43,7 +43,7 @@ def enter(name, arguments, sort="", *spelling):
         SPELLED[name] = (sort, *spelling)
 
 def enter_below(name, line):
-    """Enters what is said of a tree below it."""
+    """Enters a line below a tree."""
     word, _, rest = line.partition(" ")
     of, _, right = rest.partition(" ")
     if word == "clause":
@@ -60,7 +60,7 @@ def enter_below(name, line):
         BELOW[word][name] = rest
 
 def enter_wrapper(name, letter, text, numbered):
-    """Enters a component that is a letter before a type, and is printed as that type with a text after it."""
+    """Enters a component that is a letter before a type, and that is printed as this type with a text after it."""
     enter(name, ["t:tree"], "component", f'codes "{letter}"', "type.as_type")
     enter_below(name, "fits takes_all slot ≡ true")
     WRAPPERS.append((name, camel(name), letter))
@@ -87,7 +87,7 @@ def called(names, tree, argument):
     return names.get((tree, argument), names.get(argument, argument))
 
 def named(names, first=(), last=()):
-    """The trees with these names of arguments, some of them in front and some at the end."""
+    """The trees with these names of arguments; some trees come first, and some last."""
     def place(row):
         if row[0] in first:
             return first.index(row[0])

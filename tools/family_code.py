@@ -1,4 +1,4 @@
-"""Writes the code of cpp_link for what rare productions denote, a function for each family of productions, from their rows in
+"""Writes the code of cpp_link that links rare productions, a function for each family of productions, from the productions' rows in
 grammar.py."""
 import re
 
@@ -9,13 +9,13 @@ from rules import ABOVE, coded_cases, families
 from meanings import CODE, TABLE, made, said
 from rust_layout import arm, split
 
-# each file, what it says, and its families, each with what is said of it
+# each file, its first comment, and its families, each with its comment
 FILES = [(*head.split(": ", 1), [line.split(": ", 1) for line, _ in lines]) for head, lines in sections("cpp_families.txt")]
 
 # ## What a row means
 
 def outcome(means):
-    """What a row means, in code. Of a pair's trees one may be made: then the left one is there, or there is no right one."""
+    """What a row means, in code. Of a pair's two trees only one may be made, if the left one exists already or there is no right one."""
     if not means.startswith("pair("):
         return said("means", means, CODE)
     letter, left, right = split(re.fullmatch(r"pair\((.*)\)", means)[1])

@@ -19,14 +19,14 @@ def sentence(path):
     return first.replace("|", "\\|"), "*" if written else ""
 
 def table(title, folder, ending):
-    """A table of the files of a folder but its list, or nothing where there are none."""
+    """A table of the files of a folder except its list, or nothing if there are none."""
     names = sorted(os.listdir(folder)) if os.path.isdir(folder) else []
     rows = [f"| `{name[:-len(ending)]}`{mark} | {says} |" for name in names if name.endswith(ending) and name not in ("Lib.antt", "lib.rt")
             for says, mark in [sentence(f"{folder}/{name}")]]
     return ["", f"| {title} | |", "|---|---|", *rows] if rows else []
 
 def section(folder):
-    """What the page says of a crate."""
+    """The section of a crate."""
     root = f"{folder}/src/lib.rt"
     says = ["", sentence(root)[0]] if os.path.exists(root) else []
     return ["", f"## `{os.path.basename(folder)}`", *says, *table("Code", f"{folder}/src", ".rt"),

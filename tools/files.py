@@ -17,7 +17,7 @@ def read(path, otherwise=NOTHING):
         return file.read()
 
 def sources(folder):
-    """The path of each source below a folder. What checks leave in `out` is no source."""
+    """The path of each source below a folder. Files that checks leave in `out` are no sources."""
     for at, folders, names in os.walk(folder):
         folders[:] = [name for name in folders if name != "out"]
         yield from (os.path.join(at, name) for name in sorted(names) if name.endswith((".rt", ".antt")))
@@ -55,7 +55,7 @@ def columns(line):
     return [column.strip() for column in re.split(r" \|(?= |$)", line)]
 
 def entries(name):
-    """The entries of a table by their first words, each with its other words. One with a blank in it is in quotes."""
+    """The entries of a table by their first words, each with its other words. A word with a blank in it is in quotes."""
     found = {}
     for line, _ in sections(name):
         sort, *words = shlex.split(line)
@@ -63,9 +63,9 @@ def entries(name):
     return found
 
 def fill(text, /, **holes):
-    """The text, in which each `@HOLE@` is filled: with a text or a number, or with lines, which take the place of its line. What ends in
-    `_COUNT` is how many lines there are. Lines that begin with `@HOLE:` are written for each item, whose parts are `@0@`, `@1@`, ..: all
-    after the colon."""
+    """The text with each `@HOLE@` filled: by a text or a number, or by lines, which replace the line of the hole. A hole that ends in
+    `_COUNT` is the number of lines. A line that begins with `@HOLE:` is written once for each item, without this front; the item's parts
+    are `@0@`, `@1@`, .."""
     def filled(match):
         name = match[1].lower()
         value = holes[name] if name in holes else len(holes[name.removesuffix("_count")])
@@ -78,10 +78,10 @@ def fill(text, /, **holes):
     return re.sub(r"@([A-Z_]+)@|(?m:^@([A-Z_]+):.*\n(?:@\2:.*\n)*)", lambda match: (filled if match[1] else of_each)(match), text)
 
 def template(name, /, **holes):
-    """The text of a template, filled: of a file with `.in` after its name, since the gate asks for each other `.rt` and `.antt`."""
+    """The text of a template, filled: of a file with `.in` after its name, since the gate checks every file that ends in `.rt` or `.antt`."""
     return fill(read(f"{TEMPLATES}/{name}.in"), **holes)
 
 def whole(path, /, **holes):
-    """A file's path in the folder of the crates, and its text: that of the template of its crate with its name, filled."""
+    """A file's path in the folder of the crates, and its text: the filled template with the file's name in the folder of its crate."""
     crate, *_, name = path.split("/")
     return path, template(f"{crate}/{name}", **holes)

@@ -1,5 +1,5 @@
 #!/usr/bin/env python3
-"""Tells what the gate costs, in seconds of processor.
+"""Prints what the gate costs, in seconds of processor time.
 
     tools/gate_times.py CRATE [EDIT..]
     tools/gate_times.py --functions CRATE
@@ -7,18 +7,18 @@
 
 The first prints what a crate costs: its proof, its tests' proof and run, and each of its must-fail edits over the work
 that those before it kept, at one job, as `rt ci` takes them. With names of edits it leaves out the proof and the tests,
-and says of each edit what the prover refuses.
+and prints for each edit what the prover refuses.
 
 With `--functions` it proves the crate from nothing, and prints each function's seconds, the dearest first: its code as
 the logic has it, its goals, the rest (statements, ties, answers), and how many goals its text has, which is clauses
 times ways out. Then come the lemma files. A function above 15 s, or with more than 12 goals and no answers, is one to
 look at; docs/TESTING.md has the budget.
 
-With `--gate` it runs a command (`rt ci`, if none is named), passes on what that prints, and tells what each crate took: its
+With `--gate` it runs a command (`rt ci`, if none is named), prints what the command prints, and what each crate took: its
 proof, its tests, the proof that its edits begin with, its edits, and the builds of its program. It looks at the processes five
-times a second, so up to a second in a hundred is counted only in the last line. It ends with the command's status.
+times a second, so up to a hundredth of the time is counted only in the last line. It ends with the command's status.
 
-The first two work on a copy of the crate and those below it, with the kept work that they have: check these before. A
+The first two work on a copy of the crate and the crates below it, with the work that was kept for these: check them before. A
 crate of 60 functions takes some five minutes, and `rt` (the toolchain's command) has to be on the path.
 """
 import os
@@ -38,7 +38,7 @@ from files import lines_of_crates
 ROOT = Path(__file__).resolve().parent.parent
 
 def processor_seconds():
-    """The seconds of processor of the commands that have ended."""
+    """The seconds of processor time of the commands that have ended."""
     used = resource.getrusage(resource.RUSAGE_CHILDREN)
     return used.ru_utime + used.ru_stime
 
@@ -70,7 +70,7 @@ def below(name):
 # ## A crate, and its edits
 
 def report(label, seconds, rest=""):
-    """Prints a line of what something took."""
+    """Prints a line with the seconds that something took."""
     print(f"{label:44}{seconds:8.1f} s  {rest}".rstrip(), flush=True)
 
 def edited(crate, edit):
@@ -85,7 +85,7 @@ def edited(crate, edit):
     return path, text, changed
 
 def time_edit(crate, edit, tells):
-    """The seconds that it takes to refuse an edit; prints which clauses weren't proved, if these are asked for."""
+    """The seconds that it takes to refuse an edit. If asked for, it prints the clauses that weren't proved."""
     path, text, changed = edited(crate, edit)
     path.write_text(changed)
     seconds, printed = timed(crate, "rt", "check", "--jobs", "1")
@@ -97,7 +97,7 @@ def time_edit(crate, edit, tells):
     return seconds
 
 def time_crate(name, crate, chosen):
-    """Times a crate's proof, tests and edits; or these edits."""
+    """Times a crate's proof, tests and edits, or only the named edits."""
     if not chosen:
         shutil.rmtree(crate / "out", ignore_errors=True)
     proof, printed = timed(crate, "rt", "check", "--jobs", "1")
@@ -153,7 +153,7 @@ def watch(root, stop, seconds, tasks):
             under |= {number for number, (_, parent, _) in found.items() if parent in known}
         for number in under & found.keys():
             start, _, seconds[number, found[number][0]] = found[number]
-            # (a command line is read once it is the checker's)
+            # (the command line is read again until it is the checker's)
             if tasks.get((number, start)) is None:
                 tasks[number, start] = task_of(number)
 
@@ -191,7 +191,7 @@ PARTS = ("Answers Code Given Goals Invariants Kinds Layout Lts Met Mir Named Pai
 BEGINS = r"^\s*(?:pub(?:\([a-z]+\))? )?(?:const )?fn "
 
 def words_of_check(crate, copy, kept):
-    """The checker's command for a crate of the repository, over nothing but what was built below it."""
+    """The checker's command for a crate of the repository, over only the crates that were built below it."""
     kit = Path(subprocess.run(["rt", "doc"], stdout=subprocess.PIPE, text=True).stdout.strip()).parent
     rlibs = {name: copy / "crates" / name / "out/rlib" / f"{name}.rlib" for name in below(crate)}
     source = "src/main.rt" if (copy / "crates" / crate / "src/main.rt").is_file() else "src/lib.rt"
@@ -204,7 +204,7 @@ def words_of_check(crate, copy, kept):
             "--links", f"{crate}="]
 
 def goals_by_text(crate):
-    """Of each function, by its name alone: the clauses that it ensures and the ways out of it, counted in its text."""
+    """For each function, by its name alone: how many clauses it ensures and how many ways out it has, counted in its text."""
     found = defaultdict(lambda: (0, 1))
     for file in sorted((crate / "src").rglob("*.rt")):
         text = re.sub(r"//.*", "", file.read_text())
@@ -229,7 +229,7 @@ def by_function(kept, scale):
     return found
 
 def time_functions(name, copy):
-    """Proves a crate from nothing, and tells its functions' seconds."""
+    """Proves a crate from nothing, and prints its functions' seconds."""
     crate, kept, columns = copy / "crates" / name, str(copy / "kept"), ["code", "goals", "rest", "files"]
     os.mkdir(kept)
     began = time.time()

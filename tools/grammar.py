@@ -1,7 +1,7 @@
 #!/usr/bin/env python3
 """The C++ grammar as a table, and what is written from it.
 
-    grammar.py laws        checks the laws of the three grammars, and says how large they are
+    grammar.py laws        checks the laws of the three grammars, and prints how large they are
 
 The rules are in the tables that rules.py reads."""
 from functools import lru_cache
@@ -28,7 +28,7 @@ def wide():
     return found
 
 def lawful(extended=True, widened=False):
-    """Enters one of the grammars, and returns what its laws say of each kind."""
+    """Enters one of the grammars, and returns what its laws give for each kind."""
     build(extended, widened)
     bad, *found = laws()
     assert not bad, bad
@@ -36,8 +36,8 @@ def lawful(extended=True, widened=False):
 
 def files(crates):
     """What is written: each file's path in the folder of the crates, and its text."""
-    # what may come after each kind, and how many chains begin it, are the wide grammar's; how low its lowest tree is, is the other's, whose
-    # trees the wide grammar has
+    # what may follow each kind, and how many chains begin it, is by the wide grammar; the height of its lowest tree is by the ABI's
+    # grammar, since the wide one has all of that grammar's trees
     _, _, height = lawful()
     later = grammar_code.alternatives()
     lawful(extended=False)

@@ -14,7 +14,7 @@ def on(chars, production):
     return f'on "{singles}" {defined(production)}'
 
 def alternatives():
-    """Those of each kind, as a list of them."""
+    """The alternatives of each kind, as a list."""
     return {kind: listed(on(klass(cls, production), production) for cls, production in rules) for kind, (_, rules) in K.items()}
 
 def symbol(symbol, number, byte, part):
@@ -30,14 +30,14 @@ def letter(number):
     return "\\" + char if char in '"\\' else char if 32 < ord(char) < 127 else f"\\x{ord(char):02x}"
 
 def base(numbers):
-    """What the letters of a row with these productions count from: the least number from which each is a byte, and none is the blank."""
+    """The number that a row's letters count from: the least one for which the letter of each production is a byte and isn't the blank."""
     found = next(base for base in range(len(P)) if BLANK not in (number - base for number in numbers)
                  and max(numbers, default=0) - base < 256)
     assert found <= min(numbers, default=found), f"productions of one kind have numbers too far apart: {numbers}"
     return found
 
 def rows():
-    """The row of each kind in the table: its letters, and what they count from."""
+    """The row of each kind in the table: its letters, and the number that they count from."""
     numbers = {production: number for number, production in enumerate(P)}
     for kind, (_, rules) in K.items():
         taken = {byte: numbers[production] for cls, production in rules for byte in klass(cls, production)}
@@ -45,11 +45,11 @@ def rows():
         yield kind, letter_row({byte: letter(number - first) for byte, number in taken.items()}), first
 
 def rust_rules(of, row, letters, number):
-    """The calls that look a rule up, by the row of a kind, its letters, and the number of the production of a letter."""
+    """The calls that look a rule up: by a kind's row, the row's letters, and the number of a letter's production."""
     return template("cpp_grammar/rules.rt", table=of, row=row, letters=letters, number=number, count=len(P))
 
 def table():
-    """What the table of the ABI's grammar is filled with: the rule that a kind takes at a byte, and the rules' symbols."""
+    """What fills the table of the ABI's grammar: the rule that a kind takes at a byte, and the rules' symbols."""
     kinds, used = list(rows()), {symbol for _, symbols in P.values() for symbol in symbols}
     assert not any(first for _, _, first in kinds), "letters don't count from 0"
     def cell(part):
@@ -68,7 +68,7 @@ def parts(symbols):
     return listed(symbol(part, "Number {0}", "Byte {1}", "part Kind.{}".format) for part in symbols)
 
 def abi_files():
-    """The files of the grammar that is entered: its kinds and productions, its table, and the same as definitions."""
+    """The files of the entered grammar: its kinds and productions, its table, and the same as definitions."""
     may_be_empty = [kind for kind, (empty, _) in K.items() if empty]
     numbers = {production: number for number, production in enumerate(P)}
     yield whole("cpp_grammar/src/kind.rt", kinds=K, numbered=enumerate(K), empty=may_be_empty)
@@ -83,7 +83,7 @@ def abi_files():
                 kinds=[(number, snake(kind).upper()) for number, kind in enumerate(K)])
 
 def wide_files(after, depth, height):
-    """Those of the wide grammar: what a kind takes at a byte, what begins it and may come after it, and how its trees are bounded."""
+    """The files of the wide grammar: what a kind takes at a byte, what begins it and may come after it, and the bounds of its trees."""
     yield whole("cpp_grammar/src/wide_table.rt", kinds=list(rows()),
                 rules=rust_rules("wide", "&WIDE_ROWS[kind as usize]", "&row.letters", "row.base as usize + letter as usize"))
     yield whole("cpp_grammar/specs/Wide.antt", alike=imports(alternatives().values()), alternatives=alternatives())
@@ -92,6 +92,6 @@ def wide_files(after, depth, height):
     yield whole("cpp_grammar/specs/Follow.antt", after=merged, ranks=ranks, heights=heights)
 
 def files_before(later, earlier):
-    """That of the kinds that began otherwise before there were vector types and the like, by the alternatives of both grammars."""
+    """The file of the kinds that begin in more ways with vector types and the like, by the alternatives of both grammars."""
     changed = {kind: earlier[kind] for kind in later if earlier[kind] != later[kind]}
     yield whole("cpp_grammar/specs/Before.antt", alike=imports(changed.values()), alternatives=changed)

@@ -1,4 +1,4 @@
-"""The laws of a grammar's table (rules.py): from what has been entered to its faults, what may follow each kind, how many chains begin it
+"""The laws of a grammar's table (rules.py): from its rules to its faults, what may follow each kind, how many chains begin it
 and how high its lowest tree is."""
 from rules import DIGITS, DIG, K, MARKED, P, TOKENS
 
@@ -74,7 +74,7 @@ def following():
     return after, tokens
 
 def chains():
-    """How many chains may be on one another at the beginning of each kind."""
+    """How many chains may follow one another at the beginning of each kind."""
     depth = {}
     def measure(kind):
         if kind not in depth:

@@ -1,6 +1,6 @@
-"""What is shown of cpp_layout's functions that have an arm for each of some nodes: the arms are read in the code. For the nodes
-without an arm a lemma in proofs/Others.antt says what their parts are; for those with one, that what the arm's call adds are
-the parts of the tree."""
+"""Writes the answers of cpp_layout's functions that have arms for some nodes; the arms are read in the code. For the nodes without an
+arm a lemma in proofs/Others.antt says what their parts are. For a node with an arm the answer says that the arm's call adds the parts of
+the node's tree."""
 import os
 import re
 
@@ -17,23 +17,23 @@ CONTEXT, DETAIL = "(context_of c.args.ctx)", "c.args.ctx.detail"
 BINDERS = {"d": "(d : Detail) ", "c": "(c : items.Context) "}
 SAID = {"d": DETAIL, "c": CONTEXT}
 ARMS = {section: [columns(line) for line, _ in lines] for section, lines in sections("cpp_arms.txt")}
-# the functions that add parts: the lemma of other nodes, its variables, what they show, what the tree shows, and a definition that it is by
+# the functions that add parts: the lemma of other nodes, its variables, what these nodes show, what the tree shows, and a definition to unfold
 WHOLE = [(*f"{names} ".split(" ")[:3], *shown, *[""] * (3 - len(shown))) for names, *shown in ARMS["whole"]]
-# those that have arms for the pieces of names, and what the tree shows
+# the functions that have arms for the pieces of names, and what the tree shows
 PIECES = ARMS["pieces"]
-# those that add none, and say what they find
+# the functions that add no parts, and answer what they find
 VALUES = ("ends_in_angle", "precedence")
 # the left parts are added by three functions, each for the nodes that the one before has no arms for
 LEFT = ["fill_left", "fill_left_type", "fill_left_argument"]
 
 def filled(text, none=""):
-    """A text of a table, with what its words mean."""
+    """A text of a table, with its words replaced by what they mean."""
     for word, meant in {"CONTEXT": CONTEXT, "DETAIL": DETAIL, "SYMBOL": "c.args.self.now c.args.ctx", "SHOWN": SHOWN, "NONE": none}.items():
         text = re.sub(rf"\b{word}\b", meant, text)
     return text
 
 def said_of_arms(word):
-    """What the table of trees says of arms by a word, by function and node."""
+    """What the table of trees says about arms below a word, by function and node."""
     lines = [(line.partition(" "), node.name) for node in nodes() for line in BELOW[word].get(node.tree, [])]
     return {(function, node): filled(said) for (function, _, said), node in lines}
 
@@ -47,32 +47,32 @@ def bodies(text):
         yield function[2], function[3]
 
 def arms(body, begins="Node|Piece"):
-    """What a match has arms for, and the text of each arm."""
+    """The patterns of a match, and the text of each arm."""
     starts = [*re.finditer(rf"^ +(?:(?:\w+::)*(?:{begins})::(\w+)|\w+ =>)", body, re.M)]
     return [(start[1], body[start.end():after.start() if after else None]) for start, after in zip(starts, [*starts[1:], None]) if start[1]]
 
 def calls(body, begins="Node|Piece"):
-    """For each arm, the function that is called last, and the step that this is."""
+    """For each arm, the function that is called last, and the step of this call."""
     step = Steps()
     return {node: (call, step(call, node)) for node, text in arms(body, begins) for call in re.findall(r"(?:self\.|=> )(\w+)\(", text)}
 
 # ## What is shown
 
 def applied_to(text, tree):
-    """What is shown, of a tree."""
+    """What is shown, applied to a tree."""
     if text in ("[]", "0") or text.startswith("fixed"):
         return text
     return text.replace(" t)", f" {tree})") if " t)" in text else f"{text} {tree}"
 
 def record_of(function):
-    """The name of what is known of a node for which a function has no arm."""
+    """The name of the record of facts about a node for which a function has no arm."""
     return "IsOther" + camel(function.removeprefix("fill_"))
 
 # the types of a node's arguments
 ARGUMENTS = {node.name: [TYPES[sort][0] for _, sort in node.arguments] for node in nodes()}
 
 class Function:
-    """A function with arms: the nodes that it has them for, the call and the step of each, and the call whose text it may add."""
+    """A function with arms: their nodes, the call and the step of each arm, and the call that gives a text which the arm may add."""
     def __init__(self, name, body):
         self.name, self.steps = name, calls(body)
         self.nodes = [node for node, _ in arms(body)]
@@ -81,15 +81,15 @@ class Function:
         self.others = [without(node, [(f"x{place}", type) for place, type in enumerate(ARGUMENTS.get(node, []))]) for node in self.nodes]
 
     def none(self):
-        """That a node is none of those with an arm."""
+        """The fact that a node is none of those with an arm."""
         return "(record { " + "; ".join(f"not_{node.lower()} = c.in_default.not-{node}" for node in self.nodes) + " })"
 
     def record(self):
-        """What is known of a node for which there is no arm."""
+        """The record of facts about a node for which there is no arm."""
         return template("cpp_layout/other_record.antt", function=self.name, record=record_of(self.name), nodes=self.others).rstrip("\n")
 
     def lemma(self, lemma, variables, of_others, of_tree, by):
-        """That the tree of such a node has no parts of its own."""
+        """The lemma that the tree of such a node has no parts of its own."""
         says = f"{applied_to(of_others, '{0}')} ≡ {applied_to(of_tree, '{0}')}"
         return template("cpp_layout/other_lemma.antt", record_of_them=self.record(), lemma=lemma, record=record_of(self.name),
                         binders="".join(BINDERS[variable] for variable in variables), variables="".join(f"{v} " for v in variables),
@@ -97,7 +97,7 @@ class Function:
                         unfolded=" ".join(filter(None, [of_tree.split()[0], by])), nodes=self.others).rstrip("\n")
 
     def answer(self, node, facts, unfolded):
-        """An arm's answer: that the last part was added, and what is shown by it."""
+        """An arm's answer: that the last part was added, and what the list then shows."""
         call, step = self.steps[node]
         room = " _ _" if call in ("push_item", "push_list") else " _ _ _"
         added = f"(c.{step}.ensures.shows{room} (starts {SHOWN} _))" if call.startswith("push_") else f"c.{step}.ensures.shows"
@@ -142,13 +142,13 @@ def others(found):
                  full=found["fill_full"].others)
 
 def whole_file(function, shown):
-    """The file of the answers of a function that has none by hand."""
+    """The file of answers of a function that has no answers by hand."""
     body = "\n\n".join("\n".join(lines) for lines in shown)
     return template("cpp_layout/answers.antt", script="tools/trees.py", uses=imports(dict(ARMS["names"]), body, "use"), function=function,
                     answers=body)
 
 def edits(crates):
-    """The path of each file with what is shown, how its text changes, and by what."""
+    """The path of each file with such answers, how its text changes, and which script changes it."""
     folder, wanted = f"{crates}/cpp_layout/src", [*LEFT, *(row[0] for row in [*WHOLE, *PIECES])]
     found = {name: Function(name, body) for file in sorted(os.listdir(folder)) for name, body in bodies(read(f"{folder}/{file}"))
              if name in wanted}
@@ -167,7 +167,7 @@ def edits(crates):
             yield path(function), lambda text, own: own, [whole_file(function, shown)]
     file, text = others(found)
     yield file, lambda before, own: own, [text]
-    # false of the nodes for which functions have arms
+    # false for the nodes for which functions have arms
     for name, functions in (("IsNoName", LEFT[:1]), ("IsNoType", LEFT[:2])):
         matched = [node for function in functions for node in found[function].nodes] + ["Reargued"]
         own = sorted((node for node in nodes() if node.name in matched), key=lambda node: matched.index(node.name))

@@ -1,5 +1,5 @@
-"""Writes the ways of pressing once more, over components that say whether they were compared: module MarkedPressing of cpp_press_laws,
-from its module Pressing, by the table cpp_marked.txt. MarkedComponents is written by hand."""
+"""Writes module MarkedPressing of cpp_press_laws from its module Pressing, by the table cpp_marked.txt: the ways of pressing, over
+components that say whether they were compared. MarkedComponents is written by hand."""
 import re
 
 from annotated import Module, read, used

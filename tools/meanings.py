@@ -1,5 +1,5 @@
-"""What each production does: from its row and the table of its words, cpp_words.txt, to definitions of cpp_grammar, to how many nodes it
-makes and to the code of what is made. grammar.py calls it; cpp_names.txt says what the words of a row mean."""
+"""What each production does: from its row, and from cpp_words.txt, the table of the words of rows, to definitions of cpp_grammar, to the
+number of nodes that it makes, and to the code that makes them. grammar.py calls it; cpp_names.txt says what the words of a row mean."""
 import re
 
 import cpp_trees
@@ -12,14 +12,14 @@ from rust_layout import split
 
 # ## The table of words
 
-# what a part is called in a step
+# the name of a part in a step
 PARTS = ["first", "second", "third"]
 HOLES = {"$1": r"(?P<hole_1>\d)", "$2": r"(?P<hole_2>\d)", "$c": "(?P<hole_c>.)",
          **{f"${inner}": f"(?P<hole_{inner}>.*)" for inner in "mwqabd"}}
 TABLE = {head: [columns(line) for line, _ in lines] for head, lines in sections("cpp_words.txt")}
 
 class Word:
-    """A word with numbers of parts; and its forms: in definitions, in code, and in code of a step. Each is empty where it is by hand."""
+    """A word with numbers of parts, and its forms: in definitions, in code, and in code of a step. A form by hand is empty."""
     def __init__(self, word, *forms):
         pattern = re.escape(word)
         for hole, group in HOLES.items():
@@ -27,7 +27,7 @@ class Word:
         self.pattern, self.forms = re.compile(pattern), [*forms, "", ""]
 
     def said(self, text, form, nodes_made):
-        """What a text is, if it is this word; with parts, letters and how many nodes are made."""
+        """What a text means, if it is this word; with parts, letters and how many nodes are made."""
         found = self.pattern.fullmatch(text) if self.forms[form] else None
         if not found:
             return ""
@@ -43,13 +43,13 @@ DEFINITION, CODE, STEP = 0, 1, 2
 WORDS = {section: [Word(*line) for line in TABLE[section]] for section in ("means", "made", "arguments", "places", "steps")}
 
 def said(section, text, form=DEFINITION, nodes_made=0):
-    """What a text of such words is, if it is one."""
+    """What a text means, if it is made of a section's words; otherwise nothing."""
     return next(filter(None, (word.said(text, form, nodes_made) for word in WORDS[section])), "")
 
 # ## What is made
 
 def filled(path, names, given):
-    """A node or a piece of what it is given: with names, if there are several."""
+    """A node or a piece with its arguments: with their names, if there are several."""
     if len(names) > 1:
         return f"{path} {{ {', '.join(f'{name}: {part}' for name, part in zip(names, given))} }}"
     return f"{path}({', '.join(given)})" if given else path
@@ -95,7 +95,7 @@ def gain(text):
     return f"{word}_of {part}"
 
 class Step:
-    """What is done before a part: as a row says it, and as definitions have it; and the tree that the first part becomes, if it does."""
+    """What is done before a part: as a row says it, and as definitions have it; and the tree that the first part becomes, if it becomes one."""
     def __init__(self, text=""):
         self.text, self.made, self.is_name = text, "", text.startswith("name = ")
         self.definition = said("steps", text) if text else "quiet"
@@ -111,7 +111,7 @@ class Step:
         return most_made(self.definition[len("becomes "):]) if word == "becomes" else int(word in ("tests", "holds"))
 
 def steps(text):
-    """What is done before each part as far as it is said by its number, and before the others."""
+    """What is done before each part that the row names by its number, and before the others."""
     at, others = {}, Step()
     for part in text.split("; ") if text else []:
         where, what = part.split(": ")
@@ -136,7 +136,7 @@ class Row:
         return self.steps[part] if part < len(self.steps) else self.others
 
     def definition(self):
-        """The row as the definition has it: what it does beside most, around what its parts become."""
+        """The row as the definition has it: what it does that most rows don't, around what its parts become."""
         form, before, onward = named(self.form), listed(map(named, self.before)), named(self.onward)
         row = f"plain {braced(form)}"
         if self.before and self.onward != "quiet":
@@ -152,12 +152,12 @@ class Row:
         return f"with_number_tested ({row})" if self.tests_number else row
 
     def quiet(self):
-        """Before how many of its parts nothing is done: none, the first ones, or all, which are five at most."""
+        """Before how many of the row's parts nothing is done: none, the first ones, or all (five at most)."""
         loud = [part for part, before in enumerate(self.before) if before != "quiet"]
         return loud[0] if loud else ALL_PARTS if self.onward == "quiet" else len(self.before)
 
     def made_before(self):
-        """How many nodes are made at most before each part, as far as some are."""
+        """How many nodes are made at most before each part, up to the last part before which some are made."""
         assert not self.others.made_before()
         counts = [step.made_before() for step in self.steps]
         while counts and not counts[-1]:
@@ -175,7 +175,7 @@ class Row:
             return sum(most_made(braced(tree)) for tree in pair(self.means)[1:])
         return int(word in ("cell", "item", "a_name", "in_place"))
 
-# how a row names the arguments of what is in it: each text of definitions, as the row has it
+# how a row names arguments: each text of definitions, as the row has it
 NAMES = [(re.compile(old), new) for old, new in TABLE["named"]]
 
 def named(text):
@@ -191,12 +191,12 @@ def most_made(tree):
     return int(not tree.startswith("(only "))
 
 def rows(texts):
-    """The rows, of their words."""
+    """The rows, from their words."""
     return {production: Row(**row) for production, row in texts.items()}
 
 # ## Definitions
 
-# the arguments of trees: what reads each, its constructor, its type, and what there is if it is another; and what reads one of a sort
+# the arguments of trees: what reads each, its constructor, its type, and the value for another constructor; and what reads a sort
 ARGUMENTS = [given for _, _, *given in (line for line in TABLE["sorts"] if line[2:])]
 READERS = {sort: reader for _, sort, reader, *_ in (line for line in TABLE["sorts"] if line[2:])}
 
@@ -206,7 +206,7 @@ def makers(table):
     return [tree for tree in cpp_trees.TREES if tree[0] in used]
 
 def antt_builders(table):
-    """What they make of their arguments, as definitions."""
+    """What these makers make of their arguments, as definitions."""
     trees, built = makers(table), {}
     for name, *arguments in trees:
         given = [f"({READERS.get(sort, 'tree_in')} (argument xs {place}))" for place, (_, sort) in enumerate(arguments)]

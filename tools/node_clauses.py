@@ -1,5 +1,5 @@
-"""What goes through C++'s nodes by their arguments alone: from the rows of cpp_trees.py to the clauses of cpp_tree's definitions and laws.
-Where the table has a clause of a node's tree, that is the clause."""
+"""The clauses of cpp_tree's definitions and laws that follow from the arguments of C++'s nodes: from the rows of cpp_trees.py. Where the
+table has a clause for a node's tree, this clause is written."""
 import re
 
 from cpp_trees import BELOW, BYTES, CLAUSES, ENCODINGS, NAMES, PIECES, SIGNED, SORTS, VIEWED, called, named
@@ -8,7 +8,7 @@ from node_code import nodes, placed
 from notation import alone_or, applied, braced, listed, rewritten
 from tree_clauses import SCOPED, SUBTREES, arguments, cases, joined_by
 
-# the types of a node's arguments, and for some the letters of arguments where nodes are told apart
+# the types of a node's arguments, and for some types the letters of arguments in lemmas that tell nodes apart
 TYPES = {sort: re.fullmatch(r"(.*?)(?: ([a-z]+))?", text).groups() for sort, text in SORTS["type"].items()}
 
 # ## Nodes
@@ -52,7 +52,7 @@ def fields_of():
     return [line if len(line) <= 160 else line.replace(" = ", " =\n    ") for line in lines]
 
 def tree_from():
-    """And the tree of it, by its production."""
+    """The tree of such fields, by its production."""
     rows = []
     for tree in views():
         parts, numbers = iter(range(len(tree))), iter(range(len(tree)))
@@ -67,22 +67,22 @@ def tree_from():
 # ## Folds
 
 def product(facts):
-    """Facts as one."""
+    """Several facts as one."""
     return alone_or(facts, lambda several: " × ".join(f"({fact})" if " < " in fact else fact for fact in several))
 
 def both_are(facts):
-    """What is free in a node of two parts, from the facts of the parts: these come before them."""
+    """What is free in a node of two parts, from the facts of the parts. These come before the parts."""
     noted = [f"({'free_at' if fact.startswith('at ') else 'piece_frees'} y.nodes {fact.split()[1]})" for fact in facts]
     return alone_or(facts, lambda several: applied("both-are", [*noted, *[f"({fact})" for fact in several]]))
 
 def depending(parts):
-    """What depends on another argument, of a node by its parts."""
+    """The fact of a node that depends on another argument, by the facts of the node's parts."""
     if len(parts) == 2:
         return applied("joined", [f"({part})" for part in parts])
     return parts[0] if parts[0].startswith("piece") else f"passed ({parts[0]})"
 
 def passed(facts):
-    """That it is passed on by a node of one part."""
+    """The clause of a node of one part, which has the fact of this part."""
     if len(facts) > 1:
         return rewritten(facts)
     return facts[0] if facts[0].startswith("piece") else f"ap passed ({facts[0]})"
@@ -90,7 +90,7 @@ def passed(facts):
 JOINED = {"product": product, "both_are": both_are, "depending": depending, "passed": passed}
 
 def of_arguments(said, joined, none):
-    """What is said of a node by its arguments, as the table says it of them."""
+    """The clause of a node, by what the table says of its arguments."""
     is_scoped = ";" in said
     forms = dict(zip(SCOPED, said.split("; "))) if is_scoped else SORTS[said]
     def right(node, given):
@@ -100,7 +100,7 @@ def of_arguments(said, joined, none):
     return right
 
 def folds():
-    """Those that are folds of nodes: path, name, and the lines."""
+    """The declarations that are folds of nodes: path, name, and the lines."""
     for path, name, before, after, said, joined, none, others, names in (columns(line) for line, _ in sections("cpp_node_folds.txt")):
         right = of_arguments(said, JOINED.get(joined) or joined_by(joined), none or None)
         yield path, name, node_cases(name, before.split(), after.split(), right, others or None, NAMES[names])
@@ -116,7 +116,7 @@ def noted_nodes():
             yield node.name, [(next(letters[sort] if TYPES[sort][1] else others), TYPES[sort][0]) for _, sort in node.arguments]
 
 def without(node, given):
-    """That n is another node than one with such arguments: the field that says so, the node as it is matched, and why it isn't."""
+    """The fact that n isn't a node with such arguments: the field for this, the node as it is matched, and the proof."""
     field, own = f"not_{node.lower()}", applied(f"Node.{node}", [name for name, _ in given])
     premise = "".join(f"({name} : {type}) " for name, type in given) + "→ " if given else ""
     refuted = applied(f"other.{field}", [name for name, _ in given])
@@ -125,7 +125,7 @@ def without(node, given):
 def declarations():
     """The path and the name of each declaration, and the lines of its clauses."""
     encodings = node_cases("is_encoding", [], [], lambda node, given: "true" if node.tree in ENCODINGS else None, "false")
-    # what is known of a node without a note: it is none of those with one; and nothing is noted of it
+    # what is known of a node without a note: it is none of the nodes with a note, and nothing is noted of it
     others = [without(*noted) for noted in noted_nodes()]
     nothing = [f"other-node ns {own} other = {refuted}" for _, own, refuted in others]
     found = {"specs/Nodes": {"tree_of": tree_of(), "is_encoding": encodings},

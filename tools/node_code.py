@@ -1,6 +1,5 @@
-"""The nodes that trees are read into, and the code of cpp_tree that goes through them by their arguments alone: the nodes themselves, what
-is noted of them, and what is seen of them; and the answers of the functions that have an arm for each node. trees.py writes it, from the
-table of cpp_trees.py."""
+"""The code of cpp_tree that follows from the arguments of its nodes: the nodes, what is noted of each, and the view of each; and the
+answers of the functions that have an arm for each node. trees.py writes it, from the table of cpp_trees.py."""
 import re
 from functools import lru_cache
 
@@ -10,7 +9,7 @@ from notation import Steps, answer, camel, together
 from rust_layout import arm
 
 class Node:
-    """A node: its name, its tree's, its arguments, the sorts of the tree's, and its fields (each with its name in code, sort and type)."""
+    """A node: its name, its tree's, its arguments, the sorts of the tree's arguments, and its fields (each with name in code, sort, type)."""
     def __init__(self, words, tree, *given):
         others = [tuple(word.split(":")) for word in words if ":" in word]
         self.name = next((word for word in words if ":" not in word), camel(tree))
@@ -19,7 +18,7 @@ class Node:
         self.fields = [(called(NAMED, tree, name), sort, types[name]) for name, sort in self.arguments]
 
     def said(self, word):
-        """What the table says by a word: of this node, or of those of its tree."""
+        """What the table says below a word: for this node, or for all nodes of its tree."""
         return BELOW[f"{word}.{self.name}"].get(self.tree) or BELOW[word].get(self.tree)
 
     def parts(self, *sorts):
@@ -27,11 +26,11 @@ class Node:
         return [name for (name, _, _), sort in zip(self.fields, self.sorts) if sort in sorts]
 
     def known(self):
-        """By each field's name, what is known of it: a part of b where there are several."""
+        """By each field's name, the fact that is known of it: a part of b where there are several facts."""
         return {field: fact for (field, _, _), (_, _, fact) in zip(self.fields, placed(self.arguments)) if fact}
 
     def view(self):
-        """What is seen of a node that shows no more: the code of its numbers, its texts and its parts."""
+        """The view of a node that shows no more than this: the code of its numbers, its texts and its parts."""
         numbers = [SORTS["number"][sort].format(name) for name, sort, _ in self.fields if sort in SORTS["number"]]
         said = self.said("numbers")
         texts = [SORTS["text"][sort].format(name) for name, sort, _ in self.fields if sort in SORTS["text"]]
@@ -78,7 +77,7 @@ def pattern(path, node, given, indent):
     return "\n".join([f"{path}{node.name} {{", *lines, f"{indent}}}"])
 
 def arms(path, indent, of):
-    """An arm for each node of which there is something to say."""
+    """An arm for each node that there is something to say about."""
     for node, right in ((node, of(node)) for node in nodes()):
         if right:
             given = [name for name, _, _ in node.fields if re.search(rf"(?<![\w.:]){name}(?!\w)", right)]
@@ -120,7 +119,7 @@ TABLE, HELD = "(over c.args.symbol.now c.args.nodes.now)", "(length c.args.nodes
 UNFOLDING = "fields_of erase tree_of"
 
 def required(contract, given, known):
-    """What a call requires, of what it is given or of what its caller requires."""
+    """What a call requires, from its arguments or from what its caller requires."""
     taken, facts = dict(zip(re.findall(r"(\w+): ", contract[1]), given.split(", "))), []
     for name, text in re.findall(r"requires (?:(\w+) )?{ (.*) }", contract[2]):
         of = next((word for word in re.findall(r"(?<![\w.])\w+", text) if word in taken and word != "symbol"), None)
@@ -128,7 +127,7 @@ def required(contract, given, known):
     return f"record {{ {'; '.join(f'{name} = {fact}' for name, fact in facts)} }}" if facts[0][0] else facts[0][1]
 
 def noted_answers(crates, others):
-    """That each arm notes what there is to note: by what it calls, which asks that the arguments are below."""
+    """The answers that each arm notes what there is to note. The function that it calls requires the arguments to be earlier nodes."""
     code, step, lines = read(f"{crates}/cpp_tree/src/notes.rt"), Steps(), []
     for node, right in ((node, noting(node)) for node in nodes()):
         if not right:
@@ -145,7 +144,7 @@ def noted_answers(crates, others):
     return template("cpp_tree/noted.antt", answers=[*lines, "", *answer("returns-in_default", "\n".join(bare))])
 
 def told(node, shown, step):
-    """The answers for a node of which another call says more: by which lemma, from what, and where that requires a bound."""
+    """The answers for a node whose view another call completes: by which lemma, from which facts, and where this call requires a bound."""
     lemma, fields, others, *bound = node.said("told").split(" | ")
     call = node.said("seen").partition("(")[0]
     own = step(call, node.name)
@@ -172,7 +171,7 @@ def viewed(node, shown, step):
     yield answer(f"returns-in-{node.name}", value, UNFOLDING if fields == "refl" else None)
 
 def seen_answers():
-    """That each arm of a node's view shows the node: by the calls that it makes."""
+    """The answers that each arm of a node's view shows the node, by the calls that the arm makes."""
     step, lines = Steps(), []
     for node in nodes():
         shown = f"{TABLE} {HELD} c.in-{node.name}.is c.requires.node"

@@ -27,7 +27,7 @@ def listed(items):
     return "".join(f"{item} ∷ " for item in items) + "[]"
 
 def alone_or(parts, joined):
-    """The one part, or what several are joined to."""
+    """The only part, or several parts joined."""
     return parts[0] if len(parts) == 1 else joined(parts)
 
 def greatest(numbers):
@@ -35,15 +35,15 @@ def greatest(numbers):
     return reduce(lambda whole, more: f"max {braced(whole)} {braced(more)}", numbers) if numbers else ""
 
 def together(facts):
-    """Facts as one: the trivial one if there are none, the one, or all in parentheses."""
+    """Several facts as one: the trivial fact if there are none, the only one, or all in parentheses."""
     return alone_or(facts, lambda several: f"({', '.join(several)})") if facts else "tt"
 
 def rewritten(facts):
-    """That both sides are the same once these facts are rewritten."""
+    """The proof that both sides are the same once these facts are rewritten."""
     return f"rw ({', '.join(facts)}) refl" if facts else "refl"
 
 def answer(goal, value, unfolding=None, given="c"):
-    """The lines of an answer to a goal: `value` follows the sign, in the same line or with its own."""
+    """The lines of an answer to a goal: `value` follows the equals sign, in the same line or in lines of its own."""
     return [f"pub {goal} : goal.{goal}", *([f"unfolding {unfolding}"] if unfolding else []), f"{goal} {given} ={value}"]
 
 class Steps:

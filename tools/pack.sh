@@ -3,8 +3,8 @@
 #
 #   tools/pack.sh OUT [PREFIX [LIBDIR]]
 #
-# In the folder OUT it puts libsymdemangle.a, libsymdemangle_arena.a, the shared library with its links, and what pkg-config and
-# CMake read, for libraries that will be in PREFIX/LIBDIR (/usr/local and lib). It needs a C compiler and binutils.
+# It writes to OUT libsymdemangle.a, libsymdemangle_arena.a, the shared library with its links, and the files of pkg-config and
+# CMake for libraries that will be in PREFIX/LIBDIR (/usr/local and lib). It needs a C compiler and binutils.
 set -eu
 [ $# -ge 1 ] && [ $# -le 3 ] || { echo "usage: $0 OUT [PREFIX [LIBDIR]]" >&2; exit 2; }
 mkdir -p "$1"
@@ -35,8 +35,8 @@ compile strings c99
 compile heap c99
 compile arena c11
 
-# One object, in which calls from one part to another are bound, and whose only names are those of the header: the proved calls
-# end in _of.
+# Makes one object, which binds the calls between its parts, and keeps the header's names alone: the proved calls, which end in _of,
+# become local.
 one_object() { # one_object NAME PART..
     name=$1
     shift
@@ -56,7 +56,7 @@ strip --strip-unneeded "$out/$shared"
 ln -sf "$shared" "$out/libsymdemangle.so.$abi"
 ln -sf "libsymdemangle.so.$abi" "$out/libsymdemangle.so"
 
-fill() { # fill FILE NAME : a template of callers/archive with what it names
+fill() { # fill FILE NAME : a template of callers/archive, with its holes filled
     include=$(realpath -m --relative-to="$prefix/$libdir/cmake/symdemangle" "$prefix/include")
     sed -e "s|@PREFIX@|$prefix|g" -e "s|@LIBDIR@|$libdir|g" -e "s|@NAME@|$2|g" -e "s|@VERSION@|$version|g" \
         -e "s|@MAJOR@|$major|g" -e "s|@MINOR@|$minor|g" -e "s|@ABI@|$abi|g" -e "s|@INCLUDE@|$include|g" "callers/archive/$1"

@@ -1,5 +1,5 @@
-"""Of the proofs that a symbol's bytes pay for what is pressed of it (Short of cpp_press_laws): the lists of productions that are shown
-alike, from the clauses that show them, and for each kind which lemma each of its productions has, from the grammar."""
+"""Writes parts of the proofs that a symbol's bytes pay for its pressed spelling (Short of cpp_press_laws): lists of productions that have
+the same proof, from the clauses that prove them, and for each kind the lemma of each of its productions, from the grammar."""
 import re
 
 import grammar
@@ -8,7 +8,7 @@ from notation import braced, dashed
 from rules import PAYS
 
 FOLDER = "cpp_press_laws/proofs/Short"
-# the lists, each with its file: the lemma whose clauses are read is called `pays`, and that which is used `gains`
+# the lists, each with its file: clauses are read from the lemma `pays`, and the lemma `gains` is used
 LISTS = {"type": "Types", "free": "Lists", "idle": "Lists", "qualified": "Qualified", "name": "Names", "further": "Names"}
 def listed(text, function, lemma):
     """The productions of a list, by class if it has any."""

@@ -7,7 +7,7 @@ from files import columns, read, sections, template, whole
 from notation import answer, is_used
 
 (_, NAMED), (_, OF_SORTS), (_, ADDS), *SHOWN = sections("cpp_shown.txt")
-# names that rows and contracts may name, by module, and what modules are called
+# the names that rows and contracts may use, by module, and the short names of modules
 NAMES = {module: names for module, names in (line.split(" ", 1) for line, _ in NAMED) if not names.startswith("as ")}
 MODULES = {line.split(" as ")[1]: line.split(" as ")[0] for line, _ in NAMED if " as " in line}
 # for each sort of argument, the type, what is required, and what it denotes
@@ -18,7 +18,7 @@ REQUIRED = {"its own": "own { is_again (entry_at self.now.table.nodes node).node
             "a table": "table { IsTable (table_of self.now) }"}
 
 class Row:
-    """A function of cpp_shown.txt: its name, what it is for, its line of the grammar, of what it is, what it shows, why; its arguments."""
+    """A function of cpp_shown.txt: its name, its purpose, its line of the grammar, what it belongs to, what it shows, why; its arguments."""
     def __init__(self, head, lines):
         self.name, self.says = head.split(": ", 1)
         said = dict(line.split(" ", 1) for line, _ in lines)
@@ -37,7 +37,7 @@ class Row:
         return {**said, "c": "(context_of ctx)", "d": self.detail}
 
     def steps(self):
-        """What is added from first to last: each the function, what it is given, and whether it is a text that may be empty."""
+        """What is added from first to last: for each the function, its arguments, and whether it is a text that may be empty."""
         sorts = dict(self.takes)
         def text(word):
             return word if sorts.get(word) == "text" else f"texts::{word}"
@@ -82,7 +82,7 @@ class Row:
         for call, given, is_part in reversed(list(self.steps())):
             seen.append(call)
             step = call if seen.count(call) == 1 else f"{call}-{seen.count(call)}"
-            # the functions that add parts of only one detail take no detail
+            # functions that add parts in only one detail take no detail
             told = "_ _" if given[-1] in ("ctx", self.detail) else "_ _ _"
             chain = f"(c.{step}.ensures.shows {told} {chain})"
             chain = f"(part-text c.args.self.now {detail} _ _ _ {chain})" if is_part else chain

@@ -1,5 +1,5 @@
-"""What is said of each of C++'s productions by its row, by its family, or because it is common: from the grammar's rows to the clauses of
-cpp_grammar, cpp_term and cpp_link."""
+"""The clauses of cpp_grammar, cpp_term and cpp_link that each of C++'s productions has by its row, by its family, or because it is common:
+from the grammar's rows."""
 import re
 
 import grammar
@@ -10,9 +10,9 @@ from notation import applied, listed, snake, together
 from rules import ALIKE, coded_cases, defined_cases, families, imports
 from tree_clauses import SCOPED, SUBTREES
 
-# what reads an argument of a sort: with arguments in its parameters a tree is annotated
+# what reads an argument of a sort: a tree with arguments in its parameters is annotated
 READ = {sort: sort for sort in (BYTES, NUMBER, TRUTH, QUALIFIERS, MARK, SIGNED, DISCRIMINATOR)}
-# what is read of arguments, and of values of parts: by name what reads it, and the holes of what is said of it
+# what is read from arguments, and from values of parts: by name the function that reads it, and the holes of its clause
 READ_OF = (
     ({name: f"is_{name}" if name in ("listed", "there") else f"{name}_of" for name in (
         "tree", "piece", "listed", "qualifiers", "ref", "letter", "there", "mark", "text", "signed", "adjustment")},
@@ -23,7 +23,7 @@ READ_OF = (
       "whole": "argument_noted", "first": "(a_tree x)", "public": ""}))
 
 def read_noted():
-    """That what is read of an annotated thing is what is read of it, and the same for one of a list."""
+    """The lemma that a value read from an annotated tree is the annotated value, and the same for an element of a list."""
     for names, holes in READ_OF:
         for name, function in names.items():
             front, back, unfolded = ("annotate s (", ")", " annotate") if name.split("_")[0] in ("tree", "piece") else ("", "", "")
@@ -37,11 +37,11 @@ def by_production(function, values, others):
     """A clause for each production that has a value, and one for the others."""
     return [f"{function} {case} = {value}" for case, value in defined_cases(values)] + [f"{function} _ = {others}"]
 
-# What a kind has at most, less the nodes that its bytes pay for: two a byte.
+# The most nodes of a kind, less those that its bytes pay for: two for each byte.
 SLACK_BASE = 10
 
 def slack():
-    """For each kind, as few as its productions allow: cpp_link's Bound proves that these suffice."""
+    """For each kind, the fewest such nodes that its productions allow: cpp_link's Bound proves that these suffice."""
     kinds, productions, rows = grammar.wide()
     def needed(production, least):
         eats, symbols = productions[production]
@@ -67,7 +67,7 @@ def encodings_in(tree):
     return [place for place, (_, sort) in enumerate(tree[1:]) if sort in (OWN, OUTSIDE)]
 
 def built_good():
-    """That what a row makes is closed where its arguments are."""
+    """The lemma that what a row makes is closed if its arguments are."""
     def value(tree):
         scoped = [f"(all {i}).closed" for i, (_, sort) in enumerate(tree[1:]) if sort in SCOPED]
         scopes = [f"(all {i}).scopes n" for i, (_, sort) in enumerate(tree[1:]) if sort in SUBTREES]
@@ -83,7 +83,7 @@ def are_shut():
     return by_maker("AreShut {} xs", value, "Unit {0}")
 
 def built_noted():
-    """That what is made of annotated arguments is the annotated tree."""
+    """The lemma that makers give the annotated tree for annotated arguments."""
     def value(tree):
         apart = encodings_in(tree)
         shut = {place: "h" if len(apart) == 1 else f"h.{number}" for number, place in enumerate(apart)}
@@ -104,20 +104,20 @@ def family_specs():
     return whole("cpp_link/specs/Families.antt", clauses=defined_cases(of_each))
 
 def family_code():
-    """The same in code, as arms."""
+    """The family of each production in code, as arms."""
     return [f"        Production::{pattern} => Family::{family}," for family, productions in families().items()
             for _, pattern, _ in coded_cases(dict.fromkeys(productions))]
 
 def arms_of(productions):
-    """The arms of a match over a family's productions: those that mean the same have one."""
+    """The arms of a match over a family's productions: productions that mean the same have one arm."""
     return [case for case, _, _ in coded_cases(dict.fromkeys(productions))]
 
 def isnt(case):
-    """That a production isn't this one, or none of those that mean the same."""
+    """The fact that a production isn't this one, or is none of those that mean the same."""
     return f"((one : {case}) → p ≡ Production.{case} one → ⊥)" if case in ALIKE else f"(p ≡ Production.{case} → ⊥)"
 
 def family_law(family, productions):
-    """That a production of a family is one of those that its function has an arm for, and that one of the family Common isn't rare."""
+    """The lemma that the function of a family has an arm for each of its productions, and that a production of the family Common isn't rare."""
     is_common, cases = family == "Common", arms_of(productions)
     others = ["rare"] if is_common else [f"n{place}" for place in range(len(cases))]
     premises = " → IsRare p" if is_common else "".join(f"\n    → {isnt(case)}" for case in cases) + "\n   "
@@ -127,7 +127,7 @@ def family_law(family, productions):
                     clauses=clauses).rstrip("\n")
 
 def family_laws():
-    """The same for each family."""
+    """The lemmas of `family_law`, for each family."""
     laws = [family_law(*family) for family in families().items()]
     return whole("cpp_link/proofs/FamilyArms.antt", alike=imports(laws), laws=laws)
 
@@ -137,7 +137,7 @@ def family_answers(family, productions):
     return template("cpp_link/unreachable.antt", name=snake(family), others=others)
 
 def common_answers():
-    """The names and the answers of the functions with an arm for each common production: others are rare, or are passed on."""
+    """The names and the answers of the functions with an arm for each common production. Other productions are rare, or are forwarded."""
     others = [f"  not_{snake(name)} = c.in_default.not-{name};" for name in common()]
     handed = [template("cpp_link/handed.antt", production=name, at="" if name == common()[0] else f"-in-{name}").rstrip("\n")
               for name in common()]
@@ -145,20 +145,20 @@ def common_answers():
     yield "finish_rule", template("cpp_link/finish_rule.antt", others=others, handed=handed)
 
 def arms(function, productions):
-    """The arms of a match that hand these productions to a function, as rt fmt lays them out."""
+    """The arms of a match that forward these productions to a function, as rt fmt lays them out."""
     for name in productions:
         line = f"            Production::{name} => self.{function}(symbol, Production::{name}, frame, parts),"
         given = [f"                {one}," for one in ("symbol", f"Production::{name}", "frame", "parts")]
         yield from [line] if len(line) <= 100 else [f"            Production::{name} => self.{function}(", *given, "            ),"]
 
 def arms_within(field, function, productions):
-    """Likewise, to a function of a field."""
+    """Likewise, for a function of a field."""
     for name in productions:
         yield from (f"            Production::{name} => self", f"                .{field}",
                     f"                .{function}(symbol, Production::{name}, frame, parts),")
 
 def may_leave(crates):
-    """What may leave a tree that is no candidate yet: what begins the kinds whose trees become candidates later, names aside."""
+    """The productions that may leave a tree that is no candidate yet: those of kinds whose trees become candidates later, except for names."""
     text = read(f"{crates}/cpp_link/proofs/CandidatesFew.antt")
     kinds = set(re.findall(r"nat_eq k (\w+)", re.search(r"^becomes_candidate k =\n((?:    .*\n)+)", text, re.M)[1]))
     names = set(re.findall(r"^makes_name Production\.(\w+) = true$", text, re.M))
@@ -183,7 +183,7 @@ def declarations(crates):
     before = {production: listed(row.made_before()) for production, row in rows.items() if row.made_before()}
     at_end = {production: row.made_at_end() for production, row in rows.items() if row.made_at_end()}
     yield "cpp_grammar/proofs/ClosedValues.antt", "built_good", built_good()
-    # whether a maker takes encodings, and that one which does isn't one that takes none
+    # whether a maker takes encodings, and the lemma that a maker which takes some isn't one that takes none
     takes = by_maker("takes_encodings {}", lambda tree: encodings_in(tree) and "true", "false")
     none = by_maker("none_are_taken {} xs h", lambda tree: encodings_in(tree) and "absurd (true≢false h)", "tt")
     yield from (("cpp_term/proofs/MeaningNoted.antt", name, lines) for name, lines in (

@@ -11,7 +11,7 @@ import sys
 from files import load, read, sections, template
 
 HERE = os.path.dirname(os.path.abspath(__file__))
-# what is said of rows whose symbols are printed, and of those that are pressed
+# the comments on rows of symbols that are printed, and on rows of symbols that are pressed
 SORTS = {sort: [tuple(line.split(" ", 1)) for line, _ in lines] for sort, lines in sections("rows.txt")}
 REFUSED = {"BadReference": "refers_badly {0} {1}", "BadValue": "counts_badly {0} {1}", "Malformed": "has_no_shape {0}"}
 
@@ -61,7 +61,7 @@ def generated(reference, generator):
     return list(seen.values())
 
 def listed_presses(reference):
-    """The short symbols that are pressed, each with the spelling that the reference agrees with. Other rows have bytes that are no text."""
+    """The short symbols that are pressed, each with the spelling that the reference gives, too. Long symbols and other names are left out."""
     with open(f"{HERE}/../crates/check_rows/stdin", "rb") as file:
         rows = [line.rstrip(b"\n").split(b"\t") for line in file]
     for words in rows:
@@ -71,7 +71,7 @@ def listed_presses(reference):
             yield text
 
 def generated_presses(reference, generator):
-    """Symbols that were read: a given number whose spelling changes, and a given number whose spelling stays."""
+    """Symbols that are read: a given number whose spelling changes, and a given number whose spelling stays."""
     seen = {}
     for seed, count, size, changed, same in ((21, 8000, 8, 60, 20), (22, 8000, 14, 50, 10)):
         left = {True: changed, False: same}

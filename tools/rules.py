@@ -19,11 +19,11 @@ P, ROWS = {}, {}
 K, MARKED = {}, []         # (kind, class, production)
 # productions that mean the same and differ in what may come in them, by an enum of their own: name -> its productions
 ALIKE = {}
-# the family of each production, and its place among the arms of that; and the common ones that have code before their parts
+# the family of each production, and its place among the family's arms; and the common productions with code before their parts
 FAMILY, WITH_CODE_BEFORE, MOST_ARMS = {}, set(), 256
-# the lemma of what a production's bytes pay for, where it isn't called as the production is: in one kind, or in any
+# the lemma of what a production's bytes pay for, if its name isn't the production's: in one kind, or in any
 PAYS = {}
-# the ABI's lines above a production, and what is said of productions that mean the same
+# the ABI's lines above a production, and the comment on productions that mean the same
 ABOVE = {}
 # the number of the production that no row of letters has, since its byte is the blank
 BLANK = ord(" ")
@@ -39,14 +39,14 @@ CLASSES = {
     "@WIDE_BUILTIN": "".join(code[1] for code, _ in words.WIDE_BUILTINS), "@INTEGER_TYPE": letters_of({words.INTEGER}, False),
     "@NULL_TYPE": letters_of({words.NULL}, True), "@CHARACTER_TYPE": letters_of({words.CHARACTER}, True),
     "@ABBREVIATION": "".join(letter for letter, _ in words.ABBREVIATIONS), "@SPECIAL": "".join(letter for letter, _ in words.SPECIALS),
-    # of those of a name the ones after T
+    # of the letters for names, those after T
     "@NAMED_SPECIAL": "".join(code[1] for code, _ in words.NAMED_SPECIALS if code[0] == "T"),
 }
 for code, _ in words.OPERATORS:
     CLASSES["@OPERATOR_" + code[0].upper()] = CLASSES.get("@OPERATOR_" + code[0].upper(), "") + code[1]
 
 def production(name, eats, symbols, row):
-    """Enters a production, which may be entered again as it is."""
+    """Enters a production. It may be entered again unchanged."""
     entered = (eats, symbols)
     assert not symbols or P.get(name, entered) == entered, f"{name} is entered with other symbols"
     assert not row or ROWS.get(name, row) == row, f"{name} is entered with another row"
@@ -55,13 +55,13 @@ def production(name, eats, symbols, row):
         ROWS[name] = row
 
 def row_of(texts):
-    """A row, by its words."""
+    """A row, from its words."""
     row = dict(text.split(" ", 1) for text in texts if text.split()[0] not in ("family", "pays"))
     return {**row, "nodes": int(row["nodes"])} if "nodes" in row else row
 
 def enter_aside(name, texts):
-    """Enters what is said of a production beside its row: its family, where those without a place come after those with one, and the lemma
-    of what its bytes pay for, of each kind or of one."""
+    """Enters what a production has apart from its row: its family, in which productions without a place come after those with one, and the
+    lemma of what its bytes pay for, in each kind or in one."""
     for word, rest in (text.split(" ", 1) for text in texts):
         if word == "family":
             family, *place = rest.split()
@@ -81,7 +81,7 @@ def families():
     return found
 
 class Reader:
-    """What rules refer to: groups, and the first rule of each production."""
+    """The names that rules refer to: groups, and the first rule of each production."""
     def __init__(self, extended):
         self.extended, self.groups, self.first = extended, {}, {}
 
@@ -103,7 +103,7 @@ class Reader:
             yield self.rule(f"{letter} {name} Type | means {tree}(t0) | family CompoundType 0", [f"<type> ::= {letter} <type>"])
 
     def named(self, text):
-        """The rules of groups and of productions, less one."""
+        """The rules of groups and of productions, except one."""
         names, _, but = text.partition(" but ")
         for name in names.split():
             assert name == "wrappers" or name in self.groups or name in self.first, f"no rule {name}"
@@ -146,7 +146,7 @@ def build(extended=True, widened=False):
 
 def put_in_order():
     """Puts the productions in the order of their numbers. Those of the ABI's grammar come first, since the letters of its rows are these
-    numbers. The last of them have the bytes that aren't printed, and one of the wide grammar's own has the number that is no letter."""
+    numbers. The last of them have the numbers of control bytes, and one of the wide grammar's own productions has the number of the blank."""
     common = {rule[1] for kind, (_, rules) in K.items() for rule in rules if (kind, *rule) not in MARKED}
     first, own = ([(name, P[name]) for name in P if (name in common) == there] for there in (True, False))
     own.reverse()
@@ -160,7 +160,7 @@ def put_in_order():
 MOST_VARIANTS = 256
 
 def group_of(production):
-    """The name of those that mean the same as a production, if it is one of several."""
+    """The name of the productions that mean the same as this one, if there are several."""
     return next((name for name, members in ALIKE.items() if production in members), None)
 
 def defined(production):
@@ -192,12 +192,12 @@ def coded_cases(values):
     return [(case, f"{case}(_)" if case in ALIKE else coded(case), value) for case, value in met(values)]
 
 def imports(lines):
-    """The lines by which definitions import those that mean the same, as far as these lines name them; each begins a new line."""
+    """The lines by which definitions import productions that mean the same, if these lines name them. Each import begins a new line."""
     named = [name for name in ALIKE if re.search(rf"(?<!Production\.)\b{name}\b", "\n".join(lines))]
     return "".join(f"\nuse Rattle.cpp_grammar.specs.declared.production.{name}.{{{name}}}" for name in named)
 
 def variants(productions):
-    """The variants of the enum: the productions, and for those that mean the same one that has them."""
+    """The variants of the enum: the productions, and one variant for all productions that mean the same."""
     groups = {members[0]: f"{name}({name})" for name, members in ALIKE.items()}
     found = [groups.get(production, production) for production in productions if not group_of(production) or production in groups]
     assert len(found) <= MOST_VARIANTS, "more productions than variants: some that mean the same may be an enum of their own"

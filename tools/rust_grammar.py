@@ -8,7 +8,7 @@ from notation import listed, runs
 from table_code import after_each, letter_row, symbol_row
 
 def basic_letters(*sorts):
-    """The letters of basic types, or of those of which there are such constants."""
+    """The letters of basic types, or of the basic types that have such constants."""
     return "".join(letter for letter, text, constants in words.BASIC_TYPES if not sorts or constants in sorts)
 
 BASIC, SIGNED, UNSIGNED = basic_letters(), basic_letters(words.SIGNED), basic_letters(words.UNSIGNED)
@@ -30,7 +30,7 @@ for head, _ in sections("rust_grammar.txt"):
     else:
         KINDS[name] = {taken[0]: CLASSES.get(taken[2:], taken[2:]) for taken in said.split()}, given == ["empty"]
 RULES = dict(sorted(RULES.items()))
-# and of each production its letter, whether it takes its byte, and its symbols
+# for each production its letter, whether it takes its byte, and its symbols
 RULE_OF = {production: (letter, takes, symbols) for letter, (production, takes, symbols) in RULES.items()}
 
 def symbol(name):
@@ -59,7 +59,7 @@ def files(crates):
     yield whole("rust_grammar/specs/BasicLetters.antt", signed=SIGNED, unsigned=UNSIGNED,
                 ranges=", ".join(low if low == high else f"{low} to {high}" for low, high in ranges),
                 letters=listed(f"range {ord(low)} {ord(high)}" for low, high in ranges))
-    # the texts of basic types, in code and in definitions, and that none has a text below the letters
+    # the texts of basic types, in code and in definitions, and the lemma that no byte below the letters has a text
     yield whole("rust_tree/src/basic_types.rt", texts=texts)
     yield "rust_tree/specs/BasicTypes.antt", template("rust_tree/BasicTexts.antt", texts=texts)
     facts = ", ".join(f"ne_eqb {ord(letter)} n (λ e. omega (arith, e, h))" for letter in BASIC)

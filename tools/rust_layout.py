@@ -2,7 +2,7 @@
 import re
 
 def split(text):
-    """What is between the commas of a text that are in no brackets; a letter in quotes may be one."""
+    """The pieces between the commas of a text that are in no brackets. A bracket or a comma may be a letter in quotes."""
     parts, depth = [""], 0
     for i, char in enumerate(text):
         if text[i - 1:i] != "'" or text[i + 1:i + 2] != "'":
@@ -14,7 +14,7 @@ def split(text):
     return [part.strip() for part in parts if part.strip()]
 
 class Made:
-    """A call with what it is given, or a structure with its named fields."""
+    """A call with its arguments, or a structure with its named fields."""
     def __init__(self, name, given, is_named):
         self.name, self.given, self.is_named = name, given, is_named
 
@@ -45,7 +45,7 @@ def lines(tree, indent, broken=False):
     if isinstance(tree, str) or not broken and tree.fits() and len(f"{indent}{tree}") < 100:
         return [str(tree)]
     if not tree.is_named and len(tree.given) == 1:
-        # what is made of the one thing goes on in its line, down to what is read of a part
+        # a single argument goes on in the line of its call, down to what is read from a part
         only = tree.given[0][1]
         is_read = isinstance(only, Made) and only.name.startswith("self.") and all(isinstance(part, str) for _, part in only.given)
         first, *rest = [f"\n{indent}    {only},\n{indent}"] if is_read else lines(only, indent, True)

@@ -1,6 +1,5 @@
-"""What goes through Rust's nodes by their arguments alone: from the nodes that productions make (rust_parts.py) to the clauses of
-rust_tree, to the answers for the views of nodes, and to the code that shows lists, its answers and its lemmas, by the templates of
-templates/rust_tree."""
+"""What follows from the arguments of Rust's nodes: from the nodes that productions make (rust_parts.py) to the clauses of rust_tree, to the
+answers for the views of nodes, and to the code that shows lists, its answers and its lemmas, by the templates of templates/rust_tree."""
 import textwrap
 
 from files import template
@@ -13,7 +12,7 @@ from rust_trees import FAMILIES, MUTUAL, NUMERIC
 TEXTUAL = ("path", "type", "bindings")
 SUBTREES = (*MUTUAL, "constant")
 NAMED = ("name", "identifier")
-# the sorts of parts of which something has to hold
+# the sorts of parts that a condition has to hold of
 HELD = (*SUBTREES, *NAMED, "abi", "binder")
 
 # ## What goes through nodes by their arguments alone
@@ -32,7 +31,7 @@ def unwrapped(text, count):
     return text[1:-1] if count == 1 and text[0] == "(" else text
 
 def by_node(clause, indent="", without=()):
-    """For each family a run of clauses, of those nodes that a production makes."""
+    """For each family a run of clauses, one for each node that a production makes."""
     for of in MUTUAL:
         clauses = [clause(of, made) for made in NODES if made.of == of and made.production not in without]
         yield ["\n".join(indent + line for line in "\n".join([f"-- {WRITTEN}", *clauses]).split("\n"))]
@@ -45,7 +44,7 @@ def node_tree(of, made):
     return broken(f"{of}_of {'s ' if of in TEXTUAL else ''}all {node_pattern(made)} =", f"tree.{made.tree} {' '.join(values)}")
 
 def conditions(made):
-    """The parts of a node of which something has to hold, each with its field, and with the fact that it does where h has those of all."""
+    """The parts of a node that a condition has to hold of, each with its field, and with its fact, where h has the facts of all parts."""
     held = [(part.name, field) for field, part in made.pairs if part.name in HELD]
     return [(name, field, f"h.{place}" if len(held) > 1 else "h") for place, (name, field) in enumerate(held)]
 
@@ -65,23 +64,23 @@ def node_need(of, made):
     return broken(f"{of}_need{'s' if of in ('path', 'type') else ''} nodes {node_pattern(made)} =", greatest(needed) or "0")
 
 def tree_grown(of, made):
-    """That a node's tree stays as nodes are added."""
+    """The law that a node's tree stays the same as nodes are added."""
     same = rewritten([f"{part}-same {field} {fact}" for part, field, fact in conditions(made) if part in SUBTREES])
     return f"{of}_of-grown {'s text ' if of in TEXTUAL else ''}{node_pattern(made)} h = {same}"
 
 def need_grown(of, made):
-    """That its need stays."""
+    """The law that a node's need stays the same."""
     same = rewritten([f"{part}-need {field} {fact}" for part, field, fact in conditions(made) if part in MUTUAL])
     return f"{of}-needs {node_pattern(made)} h = {same}"
 
 def parts_grown(of, made):
-    """That what holds of its parts still holds."""
+    """The law that what holds of a node's parts still holds."""
     forms = {"abi": "HasAbi-grown abi {1}", "binder": "{1}", **dict.fromkeys(NAMED, "HasName-grown name {1}")}
     held = [forms.get(part, f"{part}-grown all more {{0}} {{1}}").format(field, fact) for part, field, fact in conditions(made)]
     return broken(f"{of}_parts-grown {node_pattern(made)} h =", together(held), "  ")
 
 def node_view(of, made):
-    """What is seen of a node: its production, its numbers, its name and its parts."""
+    """The view of a node: its production, its numbers, its name and its parts."""
     name = next((field for field, part in made.pairs if part.name in NAMED), None)
     numbers = ["disambiguator" if part.name == "identifier" else field for field, part in made.pairs
                if part.name in (*NUMERIC, "identifier")]
@@ -96,7 +95,7 @@ def node_view(of, made):
     return broken(f"view_of_{of} {node_pattern(made)} =", f"{own} {text} {len(parts)} ({listed([*parts, '0', '0', '0'][:3])})")
 
 def node_seen(of, made):
-    """That what is seen of a node is its tree's."""
+    """The law that a node's view is its tree's."""
     held = conditions(made)
     parts = [(part, field, fact) for part, field, fact in held if part in SUBTREES]
     named = next((fact for part, _, fact in held if part in NAMED), None)
@@ -117,13 +116,13 @@ def filled(name, of, **holes):
     return template(f"rust_tree/{name}", of=of, own=of.capitalize(), family=FAMILIES[of], name=called, need=need, **holes).rstrip("\n")
 
 def of_subtrees(name, families=UNTYPED):
-    """What is said of a node of each family but types, which may be paths too."""
+    """The clauses for a node of each family except types, which may be paths, too."""
     return [filled(f"{name}.antt", of) for of in families]
 
 # ## Views of nodes, by the arms of the code
 
 def view_answers(of):
-    """That each arm of a family's view shows its node, by its call."""
+    """The answers that each arm of a family's view shows its node, by the arm's call."""
     own, step, lines = "ty" if of == "type" else of, Steps(), []
     leaves = [(leaf, []) for leaf in {"path": [], "type": ["Basic"]}.get(of, ["None"])]
     for arm, parts in [*leaves, *((made.variant, [part.name for part in made.parts]) for made in NODES if made.of == of)]:
@@ -143,7 +142,7 @@ def view_answers(of):
 
 # ## Lists
 
-# the lists: what separates their items, and whether they are asked for where it has to be fast
+# the lists: what separates their items, and whether their code is inlined
 LISTS = {"arguments": (", ", True), "types": (", ", True), "bounds": (" + ", False), "bindings": (", ", False)}
 
 def list_filled(name, of):
@@ -156,7 +155,7 @@ def list_filled(name, of):
                   text="self.now.bytes self.now.table.text " if is_textual else "")
 
 def in_lists():
-    """Whether there are items, for each list, and then what adds them, within a block."""
+    """For each list, the test whether there are items, and then, within a block, the code that adds them."""
     return [textwrap.indent(list_filled(name, of), "    ") for name in ("any_list.rt", "push_list.rt") for of in LISTS]
 
 def list_answers():

@@ -1,6 +1,5 @@
-"""Writes what is said of each of Rust's productions by its parts alone, and of each sort of part: whole files, and in files by hand
-declarations, each below a line that says so. What is said is in rust_parts.py, rust_spelled.py, rust_trees.py and
-rust_nodes.py."""
+"""Writes what follows from the parts of each of Rust's productions, and from each sort of part: whole files, and declarations in files by
+hand, each below a line that says so. The texts come from rust_parts.py, rust_spelled.py, rust_trees.py and rust_nodes.py."""
 import rust_grammar
 from files import read, template
 from rust_parts import NODES, PARTS, WRITTEN, agrees, made_gives, made_in_code, made_in_specs, read_in_code, read_in_specs
@@ -15,7 +14,7 @@ from splicing import with_runs
 # ## The files
 
 def whole_files():
-    """The files of which all is written."""
+    """The files that are written whole."""
     yield "rust_v0/src/operands.rt", template("rust_v0/operands.rt", operands="\n\n".join(map(read_in_code, PARTS.values())))
     yield "rust_v0/specs/CodeOperands.antt", template("rust_v0/CodeOperands.antt", operands="\n\n".join(map(read_in_specs, PARTS.values())))
     yield "rust_v0/proofs/OperandLemmas.antt", template("rust_v0/OperandLemmas.antt", lemmas="\n\n".join(map(agrees, PARTS.values())))
@@ -23,7 +22,7 @@ def whole_files():
     yield from list_answers()
 
 def declarations():
-    """The paths of hand-written files, and the declarations that are in them one after the other, once for each run of them."""
+    """The paths of hand-written files with runs of written declarations: a path and the declarations of each run."""
     yield "rust_grammar/specs/Productions.antt", [["\n".join([f"-- {WRITTEN}", "abbrev pub number_of : Production → ℕ",
             *[f"number_of {production} = {k}" for k, production in enumerate(rust_grammar.PRODUCTIONS)]])]]
     yield "rust_v0/src/semantics.rt", [[made_in_code(made) for made in NODES]]
@@ -58,6 +57,6 @@ def declarations():
     yield "rust_press/proofs/PressKept.antt", [[means(one) for one in kept], *[clauses(of) for of in MUTUAL]]
 
 def files(crates):
-    """The files that are written, or have declarations that are: their paths in the folder of the crates, and their texts."""
+    """The files that are written whole or in part: their paths in the folder of the crates, and their texts."""
     yield from whole_files()
     yield from ((path, with_runs(read(f"{crates}/{path}"), runs, WRITTEN)) for path, runs in declarations())

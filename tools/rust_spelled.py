@@ -1,5 +1,5 @@
-"""What the proofs show of Rust's productions: from the sorts of their parts to the sorts of their values, to why what is read can be
-spelled, and to why what is pressed is read as the same tree."""
+"""What is proved for each of Rust's productions: from the sorts of their parts to the sorts of their values, to the proof that trees which
+are read can be spelled, and to the proof that what is pressed is read as the same tree."""
 from itertools import product
 from types import SimpleNamespace
 
@@ -13,16 +13,16 @@ from rust_parts import BY_NAME, WRITTEN, parts_of
 VALUES, KIND_SORTS = ([line.split() for line, _ in lines] for _, lines in sections("rust_sorts.txt"))
 
 def slot(part):
-    """What a production asks for where it has such a part."""
+    """What a production requires of such a part."""
     return part.slot or f"{'maybe' if part.missing else 'one'} {part.name}"
 
 def production_sort(letter):
-    """The sort of what the rule of a letter makes: that of a kind that has the rule, the narrowest one if it is a name."""
+    """The sort of what the rule of a letter makes: the sort of a kind with this rule, and for a name the narrowest such sort."""
     kind = next(kind for kind in ("NAME", *rust_grammar.KINDS) if letter in rust_grammar.KINDS[kind][0])
     return dict(KIND_SORTS).get(kind, kind.lower())
 
 def sorts():
-    """Runs of declarations: the sorts, and that of a value; where each is among them; what productions ask for, and what they make."""
+    """Runs of declarations: the sorts, and the sort of a value; the place of each sort among them; what productions require and make."""
     asked = {production: listed(map(slot, parts_of(production))) for production in rust_grammar.RULE_OF if parts_of(production)}
     values = [(number, sort, f"value.{own}" if alone else f"(value.{own} _)") for number, (sort, own, *alone) in enumerate(VALUES)]
     made = {production: production_sort(letter) for production, (letter, _, _) in rust_grammar.RULE_OF.items()}
@@ -31,7 +31,7 @@ def sorts():
     return [[of_values, of_value], [places], of_productions]
 
 def slot_then(part):
-    """That a part which is asked for is there, of its sort."""
+    """The lemma that a required part is there, and is of its sort."""
     name, is_filled = part.name, "(record { is = fill.is })"
     fronts = [f"{name}_then make slots ({front.valued.replace('value.', '')} ∷ rest) f fill each = each ({front.tree}, rest) {is_filled}"
               for front in part.fronts]
@@ -40,7 +40,7 @@ def slot_then(part):
                     asked=" ".join(f"sorts.{word}" for word in slot(part).split())).rstrip("\n")
 
 def made_of_slots(made):
-    """That a production makes its sort of the parts that it asks for."""
+    """The lemma that a production makes a value of its sort from the parts that it requires."""
     lines, rest = [f"made rules.{made.production} at parts fill ="], "parts"
     for k, part in enumerate(made.parts):
         lines.append(f"    {part.name}_then sorts.{made.of} _ {rest} _ fill (λ x{k} fill.")
@@ -49,13 +49,13 @@ def made_of_slots(made):
 
 # ## What is read can be spelled
 
-# what binds lifetimes is said by hand
+# the clauses of productions that bind lifetimes are by hand
 BINDERS = ("Function", "Dyn")
 # what needs nothing to be spelled
 FREE = ("unsafe", "truth")
 
 def good_then(part):
-    """That a part can be spelled where all can."""
+    """The lemma that a part can be spelled if all parts can."""
     lemma, taken = f"{dashed(part.name)}-then", part.lifetimes and part.lifetimes.replace("@", "x")
     whole = f"({part.good} × ({taken} ≤ b))" if taken else part.good
     fronts = [f"unfolding {taken.split()[0]}"] if part.name in ("type", "arguments", "bindings") else []
@@ -66,7 +66,7 @@ def good_then(part):
                     last=last).rstrip("\n")
 
 def made_good(made):
-    """That what a production makes can be spelled where its parts can."""
+    """The lemma that what a production makes can be spelled if its parts can."""
     lines, rest, good = [f"made rules.{made.production} at parts inner byte good endings ="], "parts", "good"
     for k, part in enumerate(made.parts):
         lines.append(f"    {dashed(part.name)}-then rules.{made.production} at.bound _ {rest} _ {good} (λ x{k} r{k} x{k}-is g{k}.")
@@ -108,13 +108,13 @@ class Kept:
         press = [part.press.replace("@", name) for part, name in self.pairs] + [f"letter {byte}" for byte in self.bytes]
         return f"({' and '.join(press[first:])})"
     def fact(self):
-        """What values of the parts have to mean."""
+        """The fact that the values of the parts have to mean."""
         if self.takes:
             return f"({'Ends' if self.ends else 'Makes'} {self.rule} {self.byte} c {self.value})"
         return f"(λ values. (at : At) → at.bound ≡ c → meaning_of (production_of {self.rule}.number) at values ≡ plain at {self.value})"
 
 def means(kept):
-    """What the values of the parts mean together, by the forms in which they come: a type's by which of two they are."""
+    """What the values of the parts mean together, by their forms: a type has one of two forms."""
     typed = next((name for part, name in kept.pairs if not part.values), None)
     arguments = " ".join("(d : ℕ) (m : tree.Name)" if name == "i" else f"({name} : {part.tree})" for part, name in kept.pairs)
     values = [(part.values or "vs").replace("@.disambiguator", "d").replace("@.name", "m").replace("@", name) for part, name in kept.pairs]
@@ -130,7 +130,7 @@ def means(kept):
     return "\n".join([*lines, *(f"{kept.means} {' '.join(form)} {end}" for form in forms for end in ends)])
 
 def kept_parts(kept):
-    """The parts of a clause, one after the other: each is pressed, is read as its values, and these are known to those after it."""
+    """The parts of a clause, one after the other: each is pressed and read as its values, which the later parts know."""
     taken, at = ("({} ∷ [])".format(kept.byte), "at there same") if kept.takes else ("[]", "at same")
     conditions = [k for k, part in enumerate(kept.made.parts) if part.name not in FREE]
     lines, known, front, facts = [], "[]", "(", ["i.disambiguator i.name" if name == "i" else name for name in kept.names]
@@ -152,11 +152,11 @@ def kept_parts(kept):
         if not values:
             facts.append(f"v{k} h{k}")
     own = f"λ {at}. {kept.means} {' '.join(facts)} at"
-    # each part opens two parentheses, its lemma's and that of what is known after it
+    # each part opens two parentheses: one for its lemma, and one for what is known after it
     return [*lines, (front + own + ")" if values else front[:-1] + own) + ")" * (2 * len(kept.kinds)), f"(λ {at} values r. r {at})"]
 
 def kept_clause(kept):
-    """Why what is pressed of such a tree is read as it."""
+    """The proof that the pressed spelling of such a tree is read as this tree."""
     made = kept.made
     front = f"{made.of}-kept s c fits inside minus{' kind has' if made.of == 'path' else ''} {kept.tree} good closed ="
     takes = "takes-ends" if kept.ends else "takes-plain" if kept.takes else "chains-plain"

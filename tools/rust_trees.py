@@ -1,10 +1,9 @@
-"""What goes through Rust's trees by their arguments alone: from the trees that productions make (rust_parts.py) to the clauses of
-rust_press."""
+"""The clauses of rust_press that follow from the arguments of Rust's trees: from the trees that productions make (rust_parts.py)."""
 import sameness
 from rust_parts import NODES, WRITTEN
 from rust_spelled import names_of
 
-# the trees of each family, by constructor, each with the sorts of its arguments; those that no production makes of parts by hand
+# the trees of each family, by constructor, each with the sorts of its arguments; trees that no production makes of parts are by hand
 FAMILIES = {"path": "Path", "arguments": "Arguments", "type": "Ty", "types": "Tys", "bounds": "Bounds", "bindings": "Bindings",
             "constant": "Constant"}
 LEAVES = {"arguments": {"no_arguments": []}, "type": {"basic": ["letter"], "path_type": ["path"]}, "types": {"no_types": []},
@@ -16,7 +15,7 @@ MUTUAL = [of for of in FAMILIES if of != "constant"]
 NUMERIC = ("letter", "lifetime", "some_lifetime", "disambiguator", "binder")
 
 def by_family(families, indent, signature, clauses, others=""):
-    """A declaration for each family: its signature, its clauses by constructor and what is said of others. `@` is the family."""
+    """A declaration for each family: its signature, its clauses by constructor, and the clause for other trees. `@` is the family."""
     found = []
     for of in families:
         lines = [f"-- {WRITTEN}", signature, *[clauses(of, constructor, sorts) for constructor, sorts in TREES[of].items()], others]
@@ -25,7 +24,7 @@ def by_family(families, indent, signature, clauses, others=""):
     return found
 
 def of_sort(sort, numeric, others):
-    """What is said of an argument by its sort."""
+    """The text for an argument, by its sort."""
     return numeric if sort in NUMERIC else others.format("truth" if sort == "unsafe" else sort)
 
 def same(families, indent):
@@ -36,7 +35,7 @@ def same(families, indent):
     return by_family(families, indent, f"{'' if indent else 'abbrev '}pub same_@ : @@ → @@ → Bool", clause, "same_@ _ _ = false")
 
 def equal(families, indent):
-    """That trees which are found the same are equal."""
+    """The lemma that trees which are found the same are equal."""
     def fact(place, count):
         whole = "h"
         for _ in range(count - 1 - max(place, 1)):
@@ -49,14 +48,14 @@ def equal(families, indent):
     return by_family(families, indent, "pub equal-@ : (a b : @@) → same_@ a b ≡ true → a ≡ b", clause, "equal-@ _ _ h = cc")
 
 def itself(families, indent):
-    """That each tree is found the same as itself."""
+    """The lemma that each tree is found the same as itself."""
     def clause(of, constructor, sorts):
         facts = [of_sort(sort, f"eq-eqb a{i} a{i} refl", f"{{0}}-itself a{i}") for i, sort in enumerate(sorts)]
         return f"@-itself {sameness.numbered(constructor, len(sorts))} = {sameness.itself(facts)}"
     return by_family(families, indent, "pub @-itself : (a : @@) → same_@ a a ≡ true", clause)
 
 def summed(function, public, sum_of):
-    """A number of each tree, by those of its subtrees."""
+    """A number of each tree, by the numbers of its subtrees."""
     def name(of):
         return function if of == "path" else f"{function}_of_{of}"
     def clause(of, constructor, sorts):

@@ -1,5 +1,5 @@
-"""That trees are the same by their constructors and argument by argument, in both languages: from a constructor with what its arguments are
-to the clauses of the test, of its soundness and of its reflexivity."""
+"""The test whether trees are the same, by their constructors and argument by argument, in both languages: from a constructor with the sorts
+of its arguments to the clauses of the test, of its soundness and of its reflexivity."""
 
 def numbered(constructor, count, letter="a"):
     """A constructor with arguments of its own."""
@@ -11,13 +11,13 @@ def same_clause(function, constructor, tests):
     return f"{function} {numbered(constructor, len(tests))} {numbered(constructor, len(tests), 'b')} = {own or 'true'}"
 
 def equal_clause(function, constructor, lemmas, facts, first=()):
-    """That these are equal, by a lemma and a fact of each argument."""
+    """The clause that such trees are equal, by a lemma and a fact of each argument."""
     lines = [f"{function} {numbered(constructor, len(lemmas))} {numbered(constructor, len(lemmas), 'b')} h =", *first]
     lines += [f"    let e{i} : a{i} ≡ b{i} = {lemma} a{i} b{i} {fact} in" for i, (lemma, fact) in enumerate(zip(lemmas, facts))]
     return [*lines[:-1], lines[-1] + (" cc" if lemmas else " refl")]
 
 def itself(facts):
-    """That a tree is the same as itself, by the facts of its arguments."""
+    """The clause that a tree is the same as itself, by the facts of its arguments."""
     whole = facts[0] if facts else "refl"
     for fact in facts[1:]:
         whole = f"all ({whole}) ({fact})"

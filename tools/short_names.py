@@ -38,7 +38,7 @@ def escaped(text):
     return "".join(c if c >= " " else f"\\x{ord(c):02x}" for c in text)
 
 def flags(firsts):
-    """For each byte 1 if it is one of some, else 0, within a byte string, 32 in a line."""
+    """For each byte 1 if it is in a set, else 0, within a byte string, 32 in a line."""
     bits = ["1" if chr(byte) in firsts else "0" for byte in range(256)]
     return ["    " + "".join(bits[k:k + 32]) + ("\\" if k < 224 else "") for k in range(0, 256, 32)]
 

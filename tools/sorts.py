@@ -1,6 +1,6 @@
 """Sorts of the values of C++'s parts and of the arguments of its trees: checks that each row fits the parts of its production, and writes
-what the definition checks the same with. grammar.py calls it. What each maker takes is in cpp_trees.txt; cpp_words.txt says what other
-words take and give, and what code of its own gives."""
+the definition's table for the same check. grammar.py calls it. What each maker takes is in cpp_trees.txt; cpp_words.txt says what other
+words take and give, and what a row with its own code gives."""
 import re
 from itertools import groupby
 
@@ -11,11 +11,11 @@ from notation import listed
 from meanings import TABLE
 from rules import TOKENS
 
-# the sorts, and those of arguments by what cpp_trees.txt says of them; and those of what code of its own gives
+# the sorts; the sorts of arguments, by their words in cpp_trees.txt; and the sorts of what a row with its own code gives
 ALL = [sort for sort, *_ in TABLE["sorts"]]
 OF_ARGUMENT = {own[0]: sort for sort, *own in TABLE["sorts"] if own}
 OWN = {word: sorts.split() for word, sorts, *_ in TABLE["own"]}
-# what each word gives, and what it is given; and of each maker what its tree is, and what its arguments are
+# what each word gives and takes; and for each maker the sorts of its tree and of its arguments
 WORDS = {word: takes for word, *takes in TABLE["takes"]}
 WORDS.update({line[1].split()[0]: [line[4], *([f"part {line[5]}".replace(" any", "")] if line[5] else [])]
               for line in TABLE["arguments"] if line[4:]})
@@ -25,7 +25,7 @@ MAKERS = {tree: ["pieces" if tree in cpp_trees.PIECES else "trees", *(OF_ARGUMEN
 TURNING, READ_ALONE = ("becomes", "tests", "holds"), ("first", "second")
 
 def parsed(text):
-    """A text of definitions as words and what is in parentheses; a list as its items."""
+    """A text of definitions as words and the contents of parentheses; a list as its items."""
     stack = [[]]
     for word in re.findall(r"[()∷]|[^\s()∷]+", text):
         if word == "(":
@@ -39,12 +39,12 @@ def parsed(text):
     return stack[0]
 
 class Fitting:
-    """A production with what its parts may be as far as they are read, and what is wrong with its row."""
+    """A production with the sorts that its parts may have as far as they are read, and the faults of its row."""
     def __init__(self, production, known):
         self.production, self.known = production, known
 
     def want(self, is_so, says):
-        """What has to be so of the row."""
+        """Checks a condition on the row."""
         assert is_so, f"the row of {self.production}: {says}"
 
     def part(self, number, sorts):
@@ -54,7 +54,7 @@ class Fitting:
         self.want(not sorts or self.known[place] & set(sorts), f"part {number} is {self.known[place:place + 1]} and none of {sorts}")
 
     def words(self, said, wanted):
-        """Words that are wanted to give this, and what they are given."""
+        """Checks that words give this, and checks their arguments."""
         while len(said) == 1 and isinstance(said[0], list):
             said = said[0]
         word, *given = [said] if isinstance(said, str) else said
@@ -73,7 +73,7 @@ class Fitting:
                 self.words(next(given, []), what)
 
     def gives(self, text):
-        """The sorts of what it denotes."""
+        """The sorts of what the production denotes."""
         word, *rest = parsed(text)
         if word == "handed":
             return self.known[int(rest[0])]
@@ -82,7 +82,7 @@ class Fitting:
         return set(OWN.get(rest[0], ["trees"])) if word == "own" else {WORDS[word][0]}
 
 def of_part(symbol, kinds, known):
-    """What a part of this symbol may be, by what is known of kinds."""
+    """The sorts that a part of this symbol may have, by what is known of kinds."""
     if symbol in TOKENS:
         return {"texts"}
     return {"none_read"} if symbol not in kinds else known[symbol] | ({"none_read"} if kinds[symbol][0] else set())
@@ -127,7 +127,7 @@ def check(kinds, productions, table):
     return found
 
 def given(found):
-    """The sorts of each, for those that aren't only trees."""
+    """The sorts of each kind whose values aren't only trees."""
     return {name: listed(sorted(sorts, key=ALL.index)) for name, sorts in found.items() if set(sorts) != {"trees"}}
 
 def files(kinds, productions, table):

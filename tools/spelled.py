@@ -1,4 +1,4 @@
-"""Writes cpp_spelled's table of what each production's row is to the parts of a name, by the clauses of `sort_of` in its definitions."""
+"""Writes cpp_spelled's table of the sort of each production's row, by the clauses of `sort_of` in the definitions."""
 import re
 
 from files import read, whole

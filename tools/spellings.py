@@ -7,19 +7,19 @@ from files import sections, template
 from notation import braced, camel
 from tree_clauses import pattern
 
-# the ways of what is an encoding of its own
+# the ways of parts that are an encoding of their own
 OF_THEIR_OWN = ("as_encoding", "as_signature")
 NO_FACT, CODES = "(omega arith)", r'codes "\w+"'
 
 class Part:
-    """A part of a spelling: bytes, or a subtree in a way. Of two subtrees it says which it is."""
+    """A part of a spelling: bytes, or a subtree with its way. If there are two subtrees, the part says which one it is."""
     def __init__(self, text):
         tree = re.fullmatch(r"(\w+)\.(as_\w+|under_qualifiers)", text)
         self.text, self.tree, self.way = text, tree and tree.group(1), tree and tree.group(2)
         self.side = ""
 
     def spelled(self, here, says=False):
-        """How it is spelled."""
+        """How the part is spelled."""
         # the parameters of a lambda with parameters of its own are an encoding of their own
         if self.way == "as_signature":
             return f"begun (λ here. (ways_of here {self.tree}).as_parameters)"
@@ -28,7 +28,7 @@ class Part:
         return f"says {self.text[6:]}" if says and re.fullmatch(CODES, self.text) else f"text {braced(self.text)}"
 
     def size(self):
-        """Its length: a number, and what is added to it."""
+        """The length of the part: a number, and what is added to it."""
         if self.tree:
             own = f"{self.tree} (size {self.tree})"
             forms = {**dict.fromkeys(("as_type", "as_prefix"), f"part_of {own}"), "under_qualifiers": f"bare_of {own}",
@@ -55,7 +55,7 @@ class Part:
                 if not term.startswith("codes")]
 
     def side_of(self, fact):
-        """The fact of this subtree, from that of either."""
+        """The fact of this subtree, from the fact of either one."""
         return f"(λ x w. {fact} x ({self.side} w))" if self.side else fact
 
     def onto(self):
@@ -75,7 +75,7 @@ def total(parts):
     return " + ".join(([str(number)] if number or not others else []) + others)
 
 def arithmetic(*parts):
-    """Arithmetic with what it needs to know of these parts."""
+    """Arithmetic with the facts that it needs about these parts."""
     facts = [fact for part in parts for fact in part.facts()]
     return f"(omega ({', '.join(['arith', *facts])}))" if facts else NO_FACT
 
@@ -103,7 +103,7 @@ def size(of):
     return f"{least}{total(of.parts)}" if of.parts else None
 
 def keeping(of):
-    """Components stay, and those of a subtree that is closed are kept apart from others."""
+    """The law that components stay, where the components of a closed subtree are kept apart from others."""
     known, fact = "⊥ here (OrOpen R)" if of.sort == "encoding" else "open_ n R", "(λ x w. h x (inr w))" if of.sort == "prefix" else "h"
     def law(part, *rest):
         known_of = f"{known} {braced(part.spelled(of.here) if part.tree else part.text)}"
@@ -130,7 +130,7 @@ def keeping(of):
     return law(*of.parts)
 
 def growing(of):
-    """That components grow as a tree is spelled."""
+    """The law that components grow as a tree is spelled."""
     def law(part, *rest):
         if not part.tree:
             return f"front {braced(part.text)} ({law(*rest)})" if rest else f"text-grows {braced(part.text)}"
@@ -144,7 +144,7 @@ def growing(of):
     return law(*of.parts)
 
 def short(of):
-    """That a spelling is no longer than its size."""
+    """The law that a spelling is no longer than its size."""
     whole = braced(total(of.parts)) if of.sort == "type" else f"(size {of.shape})"
     def law(bound, part, *rest):
         here, text = of.here, braced(part.text)
@@ -166,7 +166,7 @@ def short(of):
     return law(whole, *of.parts)
 
 def needed(of):
-    """What a tree needs so that it fits, and the slot that the type in it is in."""
+    """What a tree needs so that it fits, and the slot of the type in the tree."""
     return BELOW["fits"].get(of.name), BELOW["slot"].get(of.name, "any_type")
 
 def fitting(of):
@@ -176,7 +176,7 @@ def fitting(of):
     return " × ".join([*(f"({test})" if "≡" in test else test for test in tests), inner])
 
 def adding(of):
-    """That such a type, where it fits, adds its components."""
+    """The law that such a type, where it fits, adds its components."""
     tests, slot = needed(of)
     text, fits = braced(of.parts[0].text), f"fits.{len(tests)}" if tests else "fits"
     inner = f"(adds {of.parts[1].tree}).at fit.as_type {slot} around allowed (place + length {text}) cs {fits}"
@@ -189,7 +189,7 @@ def onto(of):
     return f"{' onto '.join(part.onto() for part in of.parts)} onto rest"
 
 def joined(of, rest):
-    """A tree's parts, one after the other, are what the tree is with what follows."""
+    """The law that a tree's parts, one after the other, are the tree before what follows."""
     parts = [part.spelled(of.here) if part.tree and part.way != "as_signature" else f"({part.spelled(of.here)})" for part in of.parts]
     return " ".join([["refl", "two", "three", "four"][len(parts) - 1], *([*parts, rest] if len(parts) > 1 else [])])
 
@@ -198,7 +198,7 @@ def joined(of, rest):
 TYPES = {BYTES: "List ℕ", QUALIFIERS: "Qualifiers"}
 
 def lemmas(trees):
-    """Path, and the lemma of each of them."""
+    """The path and the lemma of each type with bytes before it."""
     for of in spellings(trees):
         tests, slot = needed(of)
         if not tests or slot != "any_type":
@@ -214,12 +214,12 @@ def lemmas(trees):
 
 # ## Declarations
 
-# what is said of a spelling, by the words of cpp_spellings.txt
+# the clauses of a spelling, by the words of cpp_spellings.txt
 LAWS = {"said": lambda of: spelled(of.parts, of.here, True), "spelled": lambda of: spelled(of.parts, of.here), "onto": onto,
         "joined": joined, "fitting": fitting, "short": short, "keeping": keeping, "growing": growing, "adding": adding, "size": size}
 
 def clauses(said, of):
-    """What is said of a spelling by its sort, if anything is."""
+    """The clauses of a spelling by its sort, if there are any."""
     form, (law, *given) = next((said[sort] for sort in of.sorts if sort in said), ""), said.get("law", "none").split()
     own = LAWS[law](of, *given) if "{law}" in form else ""
     return form.format(own=of.shape, sort=of.sort, law=own) if form and own is not None else None

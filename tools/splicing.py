@@ -1,6 +1,6 @@
-"""Puts what a script writes into files by hand: from a file's text and the lines of a declaration to the text with them, below a line that
-says who writes them; and from templates/wrappers.txt what files by hand have for each wrapper, a letter before a type. trees.py calls
-it."""
+"""Puts what a script writes into files by hand: from a file's text and the lines of a declaration to the text with these lines, below a line
+that says who writes them; and from templates/wrappers.txt what files by hand have for each wrapper (a letter before a type). trees.py
+calls it."""
 import re
 import textwrap
 
@@ -32,24 +32,24 @@ def with_declarations(text, owns, mark=WRITTEN):
     return text
 
 def replaced(text, begun, ends, lines, mark=f"// {WRITTEN}"):
-    """The text, with these lines after the next line that says who writes them, up to what ends them."""
+    """The text, with these lines after the next line that says who writes them, up to the text that ends them."""
     start = text.index("\n", text.index(mark, begun)) + 1
     end = re.compile(ends, re.M).search(text, start).start()
     return text[:start] + "".join(f"{line}\n" for line in lines) + text[end:]
 
 def with_arms(text, function, lines):
-    """The text, with these lines as the arms after the line that says so, up to the others or the end; or as an enum's variants."""
+    """The text, with these lines as the arms after the line that says who writes them, up to other arms or the end; or as an enum's variants."""
     begun = re.search(rf"\benum {function} {{|\bfn {function}\((?s:.*?)\n *{{\n", text).end()
     indent = re.compile(rf"^( *)// {re.escape(WRITTEN)}", re.M).search(text, begun)[1]
     return replaced(text, begun, rf"^(?:{indent}_ =>|{indent[4:]}\}})", lines)
 
 def with_requires(text, function, lines):
-    """The text, with these lines as those of a function's contract that come after the line that says so."""
+    """The text, with these lines as the clauses of a function's contract after the line that says who writes them."""
     return replaced(text, re.search(rf"\bfn {function}\(", text).end(), r"^ +ensures ", lines)
 
 def rewritten(text, name, lines):
-    """The text, with these lines as the clauses of a name, or the fields of a record: as all, where the comment above says who writes them,
-    or else as those after the line that says so, up to a comment."""
+    """The text, with these lines as the clauses of a name, or the fields of a record: as all of them, if the comment above says who writes
+    them, and otherwise as those after the line that says so, up to a comment."""
     own = re.escape(name)
     signature = re.search(rf"^( *)(?:(?:unfoldable|abbrev|pub) )*{own} : |^()pub record {own} .*where$", text, re.M)
     assert signature, f"there is no {name}"
@@ -63,7 +63,7 @@ def rewritten(text, name, lines):
     return text[:first] + "".join(f"\n{indent}{line}" for clause in lines for line in clause.split("\n")) + text[end:]
 
 def with_imports(text, constants):
-    """The text, with the names of trees, of their makers, of what views call them and of kinds imported that its declarations name."""
+    """The text, with the imports of the names that its declarations use: of trees, of their makers, of productions in views, and of kinds."""
     trees, alone = [tree for tree, *_ in cpp_trees.TREES], r"(?<![\w.]){0}(?!\w)"
     for module, names, used in (
             (r"cpp_(?:grammar|term)\.specs\.Term", trees, r"(?<!\w)\({0} "),
@@ -81,7 +81,7 @@ def with_imports(text, constants):
     return text
 
 def with_constants(text, constants):
-    """Code, with the names of what views call trees imported, as rt fmt lays them out."""
+    """Code, with the imports of the productions that views name, as rt fmt lays them out."""
     block = re.search(r"(?<=^use crate::tree_production::\{\n).*?^(?=\};\n)", text, re.M | re.S)
     used = sorted(name for name in constants if re.search(rf"(?<!\w){name}(?!\w)", text[block.end():]))
     lines = textwrap.wrap(" ".join(f"{name}," for name in used), 95)
@@ -110,7 +110,7 @@ def filled(text):
             for tree, production, letter in WRAPPERS]
 
 def with_names(text):
-    """The text, where what is named after each wrapper is imported beside what is named after the wrapper before it."""
+    """The text with imports: a name made from each wrapper's name, next to the one for the wrapper before."""
     for (before, *_), (after, *_) in zip(WRAPPERS, WRAPPERS[1:]):
         text = re.sub(rf"^(use .*[{{ ])((?:\w+-)?){before}((?:-\w+)?)(?=[,}}])(?!.*[ -]{after}[-,}}])", rf"\1\2{before}\3, \2{after}\3",
                       text, flags=re.M)
@@ -126,7 +126,7 @@ def with_texts(text, templates):
     return text
 
 def with_numbers(text):
-    """The text, with the number of each wrapper's tree: a new one has the next after the last."""
+    """The text, with the number of each wrapper's tree: a new wrapper has the number after the last one."""
     for name, says in NUMBERED.items():
         if not re.search(rf"^pub const {name}: ", text, re.M):
             last = max(map(int, re.findall(r"^pub const \w+: u16 = (\d+);", text, re.M)))
@@ -134,7 +134,7 @@ def with_numbers(text):
     return text
 
 def wrapper_edits():
-    """The path of each file by hand that has something for each wrapper, how its text changes, and by what."""
+    """The path of each file by hand that has something for each wrapper, how its text changes, and which script changes it."""
     yield NUMBERS, with_numbers, []
     # each section of the templates begins with its mark and the path of its file
     for mark, path, text in re.findall(r"^(===|\+\+\+|>>>) (.*)\n((?:(?!===|\+\+\+|>>>).*\n)*)", read(f"{TEMPLATES}/wrappers.txt"), re.M):

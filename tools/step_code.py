@@ -1,5 +1,5 @@
-"""The code of cpp_link for what is done before the parts of a production, the facts that a function is called with, and the
-answers of those that forward what they have no arm for, from the rows of grammar.py. trees.py writes it."""
+"""The code of cpp_link for what is done before the parts of a production, the facts that functions are called with, and the answers of
+the functions that forward productions without an arm, from the rows of grammar.py. trees.py writes it."""
 import re
 
 import grammar
@@ -28,13 +28,13 @@ def code(step):
     """What is done, in code."""
     return ITS_TYPES if step.text == "in its types" else said("steps", step.text, CODE) or made_step(step)
 
-# what code by hand does: tests, packs, an M, and what the ABI's grammar doesn't have
+# steps with code by hand: tests, packs, an M, and steps that the ABI's grammar doesn't have
 def is_by_hand(step):
-    """Whether a step is one of these."""
+    """Whether a step has code by hand."""
     return step.definition.split()[0] in ("tests", "holds", "unread", "quiet") or "packed(" in step.made
 
 def is_piece(step):
-    """Whether it puts a piece after the name so far."""
+    """Whether a step puts a piece after the name so far."""
     return step.is_name and step.made.startswith("name + ") and not step.is_listed and not step.is_candidate
 
 def steps():
@@ -60,7 +60,7 @@ def arms():
             lines += [f"            Production::{production} => {shown}"] if shown == ITS_TYPES else arm(f"Production::{production}", shown)
         yield FILE, function, lines
 
-# the functions that are called in turn, each with what the one before it hasn't done
+# the functions that are called in turn, each for the productions that the one before it has no arm for
 ASKED = ["step_second", "step_second_of_name", "step_second_of_piece"]
 
 def others_than(function, found, functions):
@@ -69,7 +69,7 @@ def others_than(function, found, functions):
     return by_hand + [production for before in ASKED[:ASKED.index(function)] for production in functions[before]]
 
 def asked():
-    """Each function that is called with what others haven't done, and the facts that the production is none of theirs."""
+    """Each function that is called for other functions' remaining productions, and the facts that these have no arm for the production."""
     found = steps()
     for function in ASKED:
         others = others_than(function, found, of_function(found))
@@ -78,13 +78,13 @@ def asked():
 # ## Answers
 
 def passed_on(caller, callee, found, functions):
-    """That a forwarding call meets its requirements, and that what it ensures is what is to be ensured: each as one record."""
+    """The answers that a forwarding call's requirements are met, and that it ensures what its caller has to ensure: each as one record."""
     others = [f"  {snake(name)} = c.{f'in_default.not-{name}' if name in functions[caller] else f'requires.{snake(name)}'};"
               for name in others_than(callee, found, functions)]
     return template("cpp_link/passed_on.antt", caller=caller, callee=callee, others=others)
 
 def shown_piece(text):
-    """A piece of a name as a tree and in code, by what is read of the first part; the call that reads it; and why the two agree."""
+    """A piece of a name as a tree and in code, by what is read from the first part; the call that reads it; and the proof that both agree."""
     if "(" not in text:
         return "values.piece_of v", "{0}.result", "piece_in", "{0}.ensures.is"
     name, inside = re.fullmatch(r"(\w+)\((.*)\)", text).groups()
@@ -105,14 +105,14 @@ def pieces(done):
                        **dict(zip(("named", "extended", "prefix"), calls)))
 
 def answers():
-    """The answers of each function that forwards, and of the one that makes a name by a piece: their files, and their texts."""
+    """The answers of each function that forwards, and of the function that makes a name from a piece: their files, and their texts."""
     found = steps()
     functions, path = of_function(found), "cpp_link/proofs/linked/Linked/{}/Answers.antt".format
     for caller, callee in zip(ASKED, ASKED[1:]):
         yield path(caller), passed_on(caller, callee, found, functions)
     yield path("step_second_of_piece"), template("cpp_link/pieces.antt") + "".join(pieces(functions["step_second_of_piece"]))
 
-# ## Which candidates become of a production
+# ## The candidates of a production
 
 def symbol(part):
     """A symbol of a rule, in definitions."""
@@ -121,8 +121,8 @@ def symbol(part):
 FLOWS = [(re.compile(r" \| ".join(said)), lemma) for *said, lemma in TABLE["flows"]]
 
 def flow(production, row, parts):
-    """How the candidates of a production flow, by its row: its lemma, with what it requires; nothing where it is by hand, or as
-    for most."""
+    """How the candidates of a production flow, by its row: the lemma, with what it requires; nothing if the clause is by hand, or is
+    that of most productions."""
     before = row.before[1] if len(row.before) == 2 and row.before[0] == "quiet" and row.onward == "quiet" else ""
     first, second = [*parts, "", ""][:2]
     lemma = next((lemma for pattern, lemma in FLOWS if pattern.fullmatch(f"{before} | {row.form} | {row.gain}")), "")
@@ -130,7 +130,7 @@ def flow(production, row, parts):
                         second=symbol(second), kind=snake(second).upper(), after=dict(TABLE["after_names"]).get(second, ""))
 
 def flows():
-    """How candidates flow, for each production whose row says it."""
+    """How candidates flow, for each production with a row that says it."""
     _, productions, rows = grammar.wide()
     found = {name: flow(name, row, productions[name][1]) for name, row in rows.items()}
     return [f"flows Production.{name} around place = {lemma}" for name, lemma in found.items() if lemma]

@@ -1,7 +1,7 @@
 """What the tables of both languages' grammars have in common, as code: from the rules of kinds and from the symbols of rules to the rows of
 a table."""
 
-# a table has a column for each of these bytes, and in it the letter of what is taken there, or a blank
+# a table has a column for each of these bytes, with the letter of what is taken at the byte, or a blank
 COLUMNS = [chr(byte) for byte in range(ord("$"), ord("z") + 1)]
 MOST_SYMBOLS = 5
 

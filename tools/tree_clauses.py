@@ -1,5 +1,5 @@
-"""What goes through C++'s trees by their arguments alone: from the rows of cpp_trees.py, and from cpp_folds.txt, to the clauses of
-definitions and laws. Where the table has a clause of a tree's own, that is the clause."""
+"""The clauses of definitions and laws that follow from the arguments of C++'s trees: from the rows of cpp_trees.py, and from cpp_folds.txt.
+Where the table has a clause for a tree, this clause is written."""
 import re
 
 import cpp_trees
@@ -25,7 +25,7 @@ def arguments(tree, *sorts):
     return [(name, sort) for name, sort in tree[1:] if sort in sorts]
 
 def names(tree, *sorts):
-    """Their names."""
+    """The names of these arguments."""
     return [name for name, sort in arguments(tree, *sorts)]
 
 def cases(function, before, after, right, others=None, trees=TREES, crate=""):
@@ -40,17 +40,17 @@ def cases(function, before, after, right, others=None, trees=TREES, crate=""):
     return [*lines, applied(function, [*before, "_", *after]) + f" = {others}"] if others is not None else lines
 
 def carried(lines):
-    """The same for trees whose parameters carry their arguments."""
+    """The clauses for trees whose parameters carry their arguments."""
     return [line.replace("(parameter k)", "(parameter k argument)") for line in lines]
 
 # ## Trees by what is computed of their subtrees
 
 def again(tree, parts, said):
-    """The tree again, of what is made of its subtrees."""
+    """The tree again, over what its subtrees become."""
     return applied(said.get("made", "") + tree[0], [f"({parts[name]})" if name in parts else name for name, _ in tree[1:]])
 
 def equal(tree, facts, said):
-    """That a tree is another one, since its subtrees are: the constructor over the facts of these."""
+    """The proof that a tree equals another one, since their subtrees are equal: the constructor over these facts."""
     of = dict(zip(facts, said.get("letters", "xy")))
     given = [of.get(name) or (f"({said['apart']} {name})" if "apart" in said and sort in APART else name) for name, sort in tree[1:]]
     letters = list(of.values())
@@ -60,12 +60,12 @@ def equal(tree, facts, said):
     constructor = f"(λ {' '.join(letters)}. {own})" if letters else braced(own)
     return applied("ap" if len(facts) == 1 else "both", [constructor, *(f"({fact})" for fact in facts.values())])
 
-# how what is computed of subtrees is joined to what is said of the tree; and how facts are
+# how what is computed from subtrees is joined to the value of the tree; and how facts are joined
 OF_TREES = {"again": again, "equal": equal}
 JOINED = {"rewritten": rewritten, "rewritten alone": lambda facts: alone_or(facts, rewritten), "together": together}
 
 def joined_by(text):
-    """How facts are joined, by a text of a table: in a way of its own, with a text between them, or by a lemma."""
+    """How facts are joined, by a text of a table: in a special way, with a text between them, or by a lemma."""
     if text in JOINED:
         return JOINED[text]
     if "{" in text:
@@ -116,7 +116,7 @@ def same_tree():
     return [*[same_clause("same_tree", tree[0], tests(tree)) for tree in TREES], "same_tree _ _ = false"]
 
 def equal_tree():
-    """That trees which `same_tree` finds the same are equal."""
+    """The lemma that trees which `same_tree` finds the same are equal."""
     lines = []
     for name, *given in TREES:
         facts = {1: ["h"], 2: ["(both h).0", "(both h).1"]}.get(len(given), [f"p.{i}" for i in range(len(given))])
@@ -126,7 +126,7 @@ def equal_tree():
     return [*lines, "equal-tree _ _ h = absurd (never h)"]
 
 def tree_itself():
-    """That `same_tree` finds each tree the same as itself."""
+    """The lemma that `same_tree` finds each tree the same as itself."""
     def fact(name, sort):
         return f"eq-eqb {name} {name} refl" if sort == NUMBER else f"{SAME[sort]}-itself {name}"
     return cases("tree-itself", [], [], lambda tree: itself([fact(*argument) for argument in tree[1:]]))
@@ -138,7 +138,7 @@ def shut_parts(subtrees):
     return f"(or_parts {' '.join(f'(is_open {name})' for name in subtrees)} closed)"
 
 def closed_packs():
-    """That a closed tree names no packs."""
+    """The lemma that a closed tree names no packs."""
     def right(tree):
         subtrees = names(tree, *SCOPED)
         if len(subtrees) < 2:
@@ -148,7 +148,7 @@ def closed_packs():
     return cases("closed-packs", ["scope"], ["closed"], right, "refl", named(PRESSED))
 
 def reads():
-    """That each tree is read, by its arguments and by what is known of its subtrees."""
+    """The lemma that each tree is read, by its arguments and by what is known of its subtrees."""
     def right(tree):
         if cpp_trees.SPELLED.get(tree[0], ("",))[0].startswith("nowhere"):
             return f"reads-nowhere {pattern(tree)} _"
@@ -159,12 +159,12 @@ def reads():
 # ## What is inside
 
 def itself_as(tree, name):
-    """As what a subtree may be a component itself: lists, pieces and names without their tags are none."""
+    """How a subtree may be a component itself: lists, pieces and names without their tags are none."""
     said = dict(pair.split("=") for pair in BELOW["itself"].get(tree[0], "").split())
     return said.get(name, "" if dict(tree[1:])[name] == PIECE else "Itself")
 
 def inside_shut():
-    """That what is inside a closed tree is closed."""
+    """The lemma that what is inside a closed tree is closed."""
     def right(tree, name, closed):
         kind, below = itself_as(tree, name), f"inside-shut {name} x {closed}"
         return f"{kind.lower()}-shut {name} x (Inside {name} x) {closed} ({below}) i" if kind else f"{below} i"

@@ -1,5 +1,5 @@
-"""Writes the declarations that go through C++'s trees, nodes and productions by their rows alone, from cpp_trees.py and grammar.py: each is
-in a file by hand, in a paragraph whose first line says that this script writes it."""
+"""Writes the declarations that follow from the rows of C++'s trees, nodes and productions, from cpp_trees.py and grammar.py. Each is in a
+file by hand, in a paragraph that begins with a line that says that this script writes it."""
 import re
 
 import cpp_trees
@@ -40,7 +40,7 @@ def arms_by_production():
     yield "cpp_spelling/src/types.rt", "is_component", lines
 
 def whole_files(crates):
-    """The files of which all is written, by their paths in the folder of the crates, and their texts."""
+    """The files that are written whole, by their paths in the folder of the crates, and their texts."""
     rare = {family: productions for family, productions in families().items() if family != "Common"}
     return {
         **dict([clauses.family_specs(), clauses.family_laws()]),
@@ -61,7 +61,7 @@ def declarations(crates):
     yield "cpp_link/proofs/CandidatesFlow.antt", "flows", step_code.flows()
 
 def edits(crates):
-    """What is written into files by hand: the path of each, how its text changes, and by what."""
+    """What is written into files by hand: the path of each, how its text changes, and which script changes it."""
     yield from ((path, rewritten, [name, lines]) for path, name, lines in declarations(crates))
     yield from splicing.wrapper_edits()
     yield from layouts.edits(crates)
@@ -71,7 +71,7 @@ def edits(crates):
     yield from ((path, with_arms, [function, lines]) for path, function, lines in arms_by_production())
 
 def files(crates):
-    """The files that are written, or have declarations that are: their paths in the folder of the crates, and their texts."""
+    """The files that are written whole or in part: their paths in the folder of the crates, and their texts."""
     texts = whole_files(crates)
     for path, edit, given in edits(crates):
         texts[path] = edit(texts.get(path) or read(f"{crates}/{path}"), *given)

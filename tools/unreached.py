@@ -1,11 +1,11 @@
 #!/usr/bin/env python3
-"""What nothing names: definitions and lemmas of specs/ and proofs/ that nothing else mentions (a re-export does not count), and names of
-crates.txt that no file of their crate has. Names what it finds, and ends with status 1 then.
+"""Finds what nothing names: definitions and lemmas of specs/ and proofs/ that nothing else mentions (a re-export does not count), and
+names of crates.txt that no file of their crate has. Prints them, and ends with status 1 if there are any.
 
     tools/unreached.py [ROOT]
 
-Names are compared as words, so a definition that shares its name with another that is used isn't found. Rows and limits are left out: they
-are computed and used by nothing. A crate may have to list one that it doesn't name, where a clause of a lower one speaks of it: try."""
+Names are compared as words, so an unused definition isn't found if another one with its name is used. Rows and limits are left out: they
+are computed, and nothing uses them. A crate may have to list another one without naming it, if a clause of a lower crate mentions it: try."""
 import os
 import re
 import sys

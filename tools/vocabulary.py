@@ -1,5 +1,5 @@
-"""The words that symbols are made of: from tables/vocabulary.txt to the lists that grammar.py, words.py and rust_grammar.py write every
-table of them from, code and definitions."""
+"""The words that symbols are made of: reads tables/vocabulary.txt into lists. From these lists grammar.py, words.py and rust_grammar.py
+write every table of words, in code and in definitions."""
 import re
 
 import cpp_trees
@@ -7,7 +7,7 @@ from files import entries
 
 TABLE = entries("vocabulary.txt")
 
-# what a literal of a builtin type is, where it is none that isn't read
+# the sort of a builtin type's literals; none where such literals aren't read
 INTEGER, CHARACTER, NULL = "integer", "character", "null"
 BUILTINS, WIDE_BUILTINS, OPERATORS = TABLE["builtin"], TABLE["wide_builtin"], TABLE["operator"]
 ABBREVIATIONS, SPECIALS, NAMED_SPECIALS, ENDINGS = TABLE["abbreviation"], TABLE["special"], TABLE["named_special"], TABLE["ending"]
@@ -16,12 +16,12 @@ ALL_SPECIALS = SPECIALS + TABLE["wide_special"]
 PLAIN_TEXTS = [(name, *text) if text else (name, cpp_trees.TEXTS[name]) for name, *text in TABLE["text"]]
 PLAIN_TEXTS += [(name, text) for name, text in cpp_trees.TEXTS.items() if name not in dict(PLAIN_TEXTS)]
 
-# Rust's basic types, and which constants of a type there are
+# Rust's basic types, and the sort of constants of each
 BASIC_TYPES = TABLE["basic"]
 SIGNED, UNSIGNED = "signed", "unsigned"
 
 PRECEDENCES = list(TABLE["precedences"][0])
-# how an operand is printed that isn't put in parentheses
+# how an operand without parentheses is printed
 NONE, LEFT, BOTH, LIST = "nothing", "left", "both", "list"
 
 def precedence(name):
@@ -29,7 +29,7 @@ def precedence(name):
     return PRECEDENCES.index(name.removesuffix("+1")) + name.endswith("+1")
 
 FORMS = {name: row for name, *row in TABLE["form"]}
-# what an operation has where its row ends: no text, and no operand
+# what an operation has after the end of its row: no text, and no operand
 REST = (None, None, "", NONE, "", NONE, "")
 
 def operation(form, *given):

@@ -13,9 +13,9 @@ QUALIFIERS = [[word for bit, word in ((4, "const"), (2, "volatile"), (1, "restri
 SUFFIXES = ["".join(f" {word}" for word in [*qualifiers, *mark, *end])
             for end in ([], ["noexcept"]) for mark in ([], ["&"], ["&&"]) for qualifiers in QUALIFIERS]
 BLANKED = ["".join(f"{word} " for word in qualifiers) for qualifiers in QUALIFIERS[1:]]
-# those of both grammars
+# the builtin types of both grammars
 BUILTINS = [(code, text) for code, text, literal in words.BUILTINS] + words.WIDE_BUILTINS
-# the special names of names whose codes don't begin with a T
+# the special names that belong to a name and have a code without T
 OTHER_FRONTS = [code for code, _ in words.NAMED_SPECIALS if code[0] != "T"]
 # the tables of codes and their texts, by their names in definitions
 NAMINGS = {"builtin_texts": BUILTINS, "operator_texts": words.OPERATORS, "abbreviation_texts": words.ABBREVIATIONS,
@@ -25,7 +25,7 @@ NAMINGS = {"builtin_texts": BUILTINS, "operator_texts": words.OPERATORS, "abbrev
 # ## Definitions
 
 def ended(rows):
-    """The rows of a list, each with what is after it: the end of the list after the last."""
+    """The rows of a list, each with the text after it: after the last row, the end of the list."""
     return [(*row, "" if number < len(rows) else " []") for number, row in enumerate(rows, 1)]
 
 def grammar_texts():
@@ -61,7 +61,7 @@ GROUPS = {
     "OPERATION": OPERATION_TEXTS, "OPERATOR": ["operator" + text for _, text in words.OPERATORS], "COUNT": [],
 }
 BEGINS = dict(zip(GROUPS, accumulate([0, *map(len, GROUPS.values())])))
-# the functions of texts, each with its groups, in their order: each leaves what is past its own texts to the next one
+# the functions of texts, each with its groups, in their order: each leaves numbers past its own texts to the next function
 TEXT_FUNCTIONS = {name: groups for name, *groups in words.TABLE["function"]}
 
 def text_lists():
@@ -84,7 +84,7 @@ def layout_texts():
                  **{function: [arm for group in groups for arm in text_arms(group)] for function, groups in TEXT_FUNCTIONS.items()})
 
 def text_answers():
-    """The answers of the functions of texts: past the last one there is none. That of `remaining_text` is by the prover."""
+    """The answers of the functions of texts: past the last text there is none. The prover finds the answer of `remaining_text`."""
     for name, after in zip(TEXT_FUNCTIONS, [*list(TEXT_FUNCTIONS)[1:], None]):
         past = f"omega (arith, {'' if name == 'fixed_text' else 'c.requires, '}c.in_default)"
         goal, value = (f"{after}-requires", past) if after else ("returns-in_default", f"past_last c.args.number ({past})")
@@ -96,7 +96,7 @@ def text_answers():
 # ## cpp_layout's numbers of codes
 
 class Coded:
-    """A function from a letter to the number of a text of a group: what it looks up, its rows, its letters, its list and its lemma."""
+    """A function from a letter to the number of a group's text: what it looks up, its rows, its letters, its list and its lemma."""
     def __init__(self, name, letters, table, code, says):
         self.name, self.says, self.dropped = name, says, name.startswith("last_of")
         self.letters, self.lemma, looked_up = f"{letters}_letters", f"no_{letters}", f"look_up ({code}) {table}"
@@ -122,7 +122,7 @@ def layout_operations():
         return f"Operand::From({operand})" if isinstance(operand, int) else f"Operand::{HOW[operand]}"
     # the precedences that the code names
     ends = [(name, what, words.PRECEDENCES.index(name))
-            for name, what in (("PRIMARY", "binds most"), ("UNARY", "an operator before its operand makes"))]
+            for name, what in (("PRIMARY", "operand that needs no parentheses"), ("UNARY", "operator before its operand"))]
     rows = [(f"{own} => {text(front)}, {how(left)}, {text(between)}, {how(right)}, {text(back)}", code.rstrip())
             for code, own, front, left, between, right, back in [*words.OPERATIONS, ("no operation", 0, *words.REST[2:])]]
     return whole("cpp_layout/src/operation_rows.rt", ends=ends, rows=rows, count=len(rows),
@@ -136,7 +136,7 @@ def not_among(argument, numbers):
     return ", ".join(f"ne_eqb c.args.{argument} {number} (omega (arith, c.in_default))" for number in numbers)
 
 def code_answers():
-    """The answers of the functions of codes, and that each arm's place is that of its code in the table."""
+    """The answers of the functions of codes, and the answer that each arm's place is the place of its code in the table."""
     for of in CODED:
         letters, is_builtin = [ord(letter) for letter in of.codes], of.name == "builtin"
         uses = [f"Rattle.cpp_grammar.specs.Texts.{{{', '.join(['look_up', 'same_bytes', *NAMINGS])}}}"] if is_builtin else []
@@ -151,7 +151,7 @@ def code_answers():
 # ## cpp_link's tables
 
 def link_tables(productions, rows, skips):
-    """The symbols of each production, and its row, by its name; and what is known of each, as definitions."""
+    """The symbols of each production, and its row, by the production's name; and what is known of each production, as definitions."""
     known = [(name, coded(name), len(parts), str(name in skips).lower(), rows[name].quiet()) for name, parts in productions.items()]
     yield whole("cpp_link/src/tables.rt", enums=", ".join(sorted([*ALIKE, "Production"])), count=len(known), productions=known,
                 **{name.lower(): list(productions).index(name) for name in ("Lambda", "Unnamed")})

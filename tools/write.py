@@ -4,10 +4,10 @@
     tools/write.py [--check] [CRATES]
 
 CRATES is the folder of the crates, the one beside this script's folder if it isn't given. Some scripts read what others write, so
-all run again until nothing changes. Names each file that changed. With `--check` it writes nothing, names what it would change, and
-ends with status 1 if there is anything, as it does for a file that says wrongly which script writes it, and for a script that can't be
-run. What the scripts write is laid out as `rt fmt` has it. The rows that rows.py writes are left out, since their answers are another
-implementation's."""
+all run again until nothing changes. Prints the name of each file that changed. With `--check` it writes nothing, prints the files that it
+would change, and ends with status 1 if there are any, if a file says wrongly which script writes it, or if a script can't be
+run. What the scripts write is laid out as `rt fmt` has it. The rows that rows.py writes are left out, since another implementation
+gives their answers."""
 import os
 import sys
 
@@ -63,7 +63,7 @@ def write_all(crates):
     sys.exit(f"{sys.argv[0]}: after {MOST_ROUNDS} rounds {', '.join(paths)} still change")
 
 def faults(crates):
-    """What differs from what the scripts write, and what says wrongly that a script writes it."""
+    """The files that differ from what the scripts write, and those that say wrongly that a script writes them."""
     own = {}
     for script, path, text in written(crates):
         found = read(f"{crates}/{path}", None)
@@ -78,7 +78,7 @@ def faults(crates):
     yield from not_runnable(os.path.join(HERE, ".."))
 
 def not_runnable(root):
-    """The files of the tests and tools that begin as scripts do and can't be run."""
+    """The files of the tests and tools that begin like scripts and can't be run."""
     for folder in ("tests", "tools", "bench", ".ci"):
         for place, _, names in os.walk(os.path.join(root, folder)):
             for path in (os.path.join(place, name) for name in names):

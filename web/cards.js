@@ -81,7 +81,7 @@ export const opensAtOnce = (name) => name.length < OPEN_AT_ONCE;
 /** A part in a few words: what it is, its text, and which bytes of the symbol spell it. */
 const inWords = ({ called, text, from, to }) => `${called}: ${text ? cut(text, NEAR) : "not in the text"}, bytes ${n(from)} to ${n(to)}`;
 
-/** The same beside the text, where the part is lit. */
+/** A part in a few words, to be shown next to the text, in which the part is lit. */
 const beside = ({ called, text, from, to }) => `${called}: bytes ${n(from)} to ${n(to)}${text ? "" : ", not in the text"}`;
 
 /** A piece of a text; `spans` gets the element of each part, by its number. */

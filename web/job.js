@@ -1,4 +1,4 @@
-// A file that is filtered in pieces: how far it is, what became of it, and its download.
+// A file that is filtered in pieces: how much of it is done, its result, and its download.
 import { $, inBytes, inTime, many, n } from "./show.js";
 
 const PREVIEW = 4000; // bytes of the result that are shown

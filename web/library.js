@@ -1,6 +1,6 @@
 // The calls of callers/c/symdemangle.h over the WebAssembly module. It runs in a worker, and in Node for the tests.
 //
-// What is lent to a call lies after the module's own data, laid anew for each call: its result, its bytes, its buffer, its parts, and
+// What is lent to a call lies after the module's own data, and is laid out anew for each call: its result, its bytes, its buffer, its parts, and
 // the block from which its lists come. A call gives back all memory by its end. Where the buffer or the block is too small, it is
 // made larger and the call is repeated.
 
@@ -59,8 +59,8 @@ export class Library {
         }
     }
 
-    /** Lays out what a call is lent, `call`s with the places, and answers its status, offset, bytes and figures; of a call for the parts of
-     *  a name how many there are, too. */
+    /** Lays out what a call is lent, `call`s with the places, and answers its status, offset, bytes and figures; for a call that finds a
+     *  name's parts, also how many there are. */
     #run(given, call, hasParts = false) {
         for (;;) {
             const result = this.#base;
@@ -104,8 +104,8 @@ export class Library {
             calls.symdemangle_text(at.bytes, at.length, limit, flags, at.buffer, at.capacity, at.result)));
     }
 
-    /** The text of a name, with what the name is and the parts of its text: the role of each, the bytes of the text that it is, and those of the
-     *  name that spell it. */
+    /** The text of a name, with what the name is and the parts of its text, each with its role, its bytes of the text, and the bytes of the name
+     *  that spell it. */
     parts(name, limit, flags) {
         const answer = this.#run(name, (calls, at) => calls.symdemangle_parts(
             at.bytes, at.length, limit, flags, at.buffer, at.capacity, at.parts, at.partCapacity, at.result), true);

@@ -33,7 +33,7 @@ let asked = 0; // the id of the newest question
 let answered = 0;
 let shown; // the last view
 let isStopped = false; // a person ended the work, so it isn't begun again by itself
-const waiting = new Map(); // details that were asked: where they go, and of what name, by id; and parts: of which view, and which names
+const waiting = new Map(); // what was asked, by id: for details where they go and of which name, for parts of which view and which names
 
 function start() {
     worker = new Worker("worker.js", { type: "module" });

@@ -30,7 +30,7 @@ function matches(pattern, text, at) {
     return pattern.exec(text)?.[0].length ?? 0;
 }
 
-/** Where the word of a run begins; nothing where it has none. */
+/** Where the word of a run begins; nothing where the run has none. */
 function wordAt(run) {
     let stretch = 0; // where the part that is ASCII begins
     let first; // the first underscore with which a word may begin
@@ -53,8 +53,8 @@ function isTooLong(run) {
     return word.length > LONGEST_WORD || (3 * word.length > LONGEST_WORD && new TextEncoder().encode(word).length > LONGEST_WORD);
 }
 
-/** The names of a word with their places in it: without what follows on it beyond ASCII, else all of it, else its parts that are ASCII. One
- * that isn't read is the word. */
+/** The names of a word, with their places in it: the word without the dots and the letters beyond ASCII at its end, if that is read;
+ * otherwise the whole word, if it is read; otherwise its ASCII parts that are read; and if there are none, the word. */
 function namesIn(word, isRead) {
     const front = without(word, (letter) => isDot(letter) || !isAscii(letter));
     if (isRead(front)) return [[front, 0]];
@@ -83,14 +83,14 @@ const KINDS = Uint8Array.from({ length: 256 }, (_, byte) => {
     return "\\\x1b".includes(letter) ? ESCAPE : "[;:".includes(letter) ? COLOUR : BREAK;
 });
 
-/** The end of a text's front after which all is of a run. */
+/** Where the run at the end of a text begins: the text's end, where there is no such run. */
 function beforeRun(bytes) {
     let end = bytes.length;
     while (end > 0 && KINDS[bytes[end - 1]] === RUN) end -= 1;
     return end;
 }
 
-/** The last place where no escape can be open: after a byte that is of none, or before the first of one; nothing where there is none. */
+/** The last place where no escape can be open: after a byte that is in no run and no escape, or before an escape; nothing where there is none. */
 function lastCut(bytes) {
     for (let at = bytes.length; at > 0; at -= 1) {
         const kind = KINDS[bytes[at - 1]];
@@ -205,7 +205,7 @@ export class PieceFilter {
     }
 }
 
-/** A place where no escape can be open, near the middle, else one between words, or 0 where there is one word alone. */
+/** A place near the middle where no escape can be open; otherwise one between words; 0 where there is only one word. */
 function placeBetween(bytes) {
     const middle = bytes.length >> 1;
     for (let cut = middle; cut < bytes.length; cut += 1) if (KINDS[bytes[cut]] === BREAK || KINDS[bytes[cut]] === ESCAPE) return cut;

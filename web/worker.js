@@ -34,7 +34,7 @@ function unitAt(text, offset) {
     return units;
 }
 
-/** Whether a name is a legacy one of Rust's: it has such a hash, and is read otherwise than as C++. */
+/** Whether a name is a legacy name of Rust: it has the hash of one, and its answer isn't the one as a name of C++. */
 function isLegacyRust(bytes, word, options, answer) {
     if (!options.legacy || !/17h[0-9a-f]{16}E/.test(word)) return false;
     const { status, bytes: text } = library.text(bytes, options.limit, flagsOf({ ...options, legacy: false }));

@@ -1,9 +1,10 @@
 /* The allocator of libsymdemangle_arena.a. It defines the three functions that the library calls for memory (heap.h) in the place
    of those over malloc: what they give out lies in the block that the thread lent (symdemangle_arena.h).
 
-   Blocks are one after the other, each after a head. One that is given back makes room as soon as all after it are given
-   back; the library gives back everything by the end of a call, so between calls the block is empty. What is given out is
-   aligned to 16 bytes, as malloc's is, overlaps with nothing that is in use, and keeps its bytes when it grows. */
+   Blocks are one after the other, each after a head. A block that is given back makes room as soon as all blocks after it
+   are given back; the library gives back everything by the end of a call, so between calls the block is empty. What is
+   given out is aligned to 16 bytes, as malloc's is, overlaps with nothing that is in use, and keeps its bytes when it
+   grows. */
 #include <stddef.h>
 #include <stdint.h>
 #include <string.h>
@@ -12,7 +13,7 @@
 #include "proved.h"
 #include "symdemangle_arena.h"
 
-/* What is before each block: where the one before it has its head, and whether this one was given back. */
+/* The head of a block: where the head of the block before is, and whether this block was given back. */
 struct head {
     size_t before, is_free;
 };
@@ -45,11 +46,11 @@ size_t symdemangle_arena_most(void)
     return here.most;
 }
 
-/* The printer notes texts for speed, and goes on without notes where there is no room for them. So a block in which they have room
-   may have none for what is needed after them, where a smaller block has it; and nothing tells the two sorts of memory apart.
-   A call that prints and found no room is therefore made again as if the block were smaller by just as much that what reached
-   furthest has no room in it, until it answers or takes nothing. Between two such sizes each call would be the same, so a larger
-   block never refuses what a smaller one answers. */
+/* The printer notes texts for speed, and goes on without notes where there is no room for them. So a block with room for notes may
+   have no room for what is needed after them, though a smaller block has it; and nothing tells notes from memory that is needed. A
+   call that prints and found no room is therefore made again as if the block were smaller, by just so much that what reached
+   furthest has no room, until the call answers or takes nothing. A call with a size between two tries would do the same as one of
+   them, so a larger block never refuses what a smaller one answers. */
 void symdemangle_begin_of(struct symdemangle_tries *tries)
 {
     tries->size = here.size;
@@ -77,7 +78,7 @@ static struct head *head_at(size_t at)
     return (struct head *)(void *)(here.base + at);
 }
 
-/* Makes the block whose head is at `last`, after which nothing is in use, one of `size` bytes, where there is room. */
+/* Gives the block whose head is at `last`, after which nothing is in use, `size` bytes, if there is room. */
 static int sets_size(size_t last, size_t size)
 {
     size_t left = here.size - last;

@@ -1,4 +1,4 @@
-/* The calls of symdemangle.h that need no memory of their own: they test for null, and hand on to the proved calls what can be lent
+/* The calls of symdemangle.h that need no memory of their own: they test for null, and forward to the proved calls what can be lent
    to them. */
 #include "proved.h"
 
@@ -115,8 +115,8 @@ static int lends(const void *bytes, size_t length)
     return bytes || !length;
 }
 
-/* Makes a proved call that prints, and over a lent block again while that may help. The others take only what they need, so for them it
-   never does. */
+/* Makes a proved call that prints, and repeats it over a lent block while that may help. Other calls take only what they need, so that
+   repeating them never helps. */
 #define MAKE(call, status)                                    \
     do {                                                      \
         struct symdemangle_tries tries;                       \

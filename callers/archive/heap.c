@@ -1,8 +1,8 @@
 /* The library's memory, over malloc, realloc and free, or those that SYMDEMANGLE_MALLOC, _REALLOC and _FREE name.
 
    The lists of a call begin small and grow some ten times, which would take a seventh of what pressing a symbol takes. So each block
-   has at least 512 bytes, in which a list grows where it is; and up to 1,024 it grows by a new block and a copy, which takes less
-   than half the instructions of glibc's realloc. A sanitizer sees blocks of just the size that was asked for. */
+   has at least 512 bytes, so that a short list grows in place; up to 1,024 bytes a list moves to a new block by a copy, which takes less
+   than half the instructions of glibc's realloc. A sanitizer sees blocks of exactly the requested size. */
 #include <stddef.h>
 #include <string.h>
 
@@ -28,7 +28,7 @@
 
 enum { LEAST = SYMDEMANGLE_LEAST, SMALL = 1024 };
 
-/* A call, where gcc would copy in a loop, word by word, since it knows that there are few. */
+/* memcpy as a call: gcc, which knows that there are few words, would copy them in a loop, one by one. */
 static void *(*volatile const copied)(void *, const void *, size_t) = memcpy;
 
 static struct tried tried_at(void *block)

@@ -1,4 +1,4 @@
-/* The proved calls of crates/symdemangle, which the calls of symdemangle.h hand on to: no pointer here is null, whatever its length.
+/* The proved calls of crates/symdemangle, to which the calls of symdemangle.h forward: no pointer here is null, whatever its length.
    What each does is said where it is proved; packages don't have these names. */
 #ifndef SYMDEMANGLE_PROVED_H
 #define SYMDEMANGLE_PROVED_H
@@ -7,7 +7,7 @@
 
 void symdemangle_text_of(const char *name, size_t name_length, uint32_t limit, uint32_t flags, char *buffer, size_t capacity,
                          symdemangle_result *result);
-/* What a name has beside its text: how many parts that has, and the numbers of its kind and its mangling. */
+/* What a name has in addition to its text: how many parts the text has, and the numbers of the name's kind and mangling. */
 struct symdemangle_found {
     size_t count;
     uint32_t kind, mangling;

@@ -58,7 +58,7 @@ static uint32_t string(void)
     return status;
 }
 
-/* Want of memory is the status of one name, so this is the first refusal. */
+/* Lack of memory is the status of one name only, so this is the first refusal. */
 static uint32_t texts(void)
 {
     static const char names[] = "_RNvC3fo_RNvMC3fooINtB2_1AhE3baz";

@@ -7,7 +7,7 @@
    - A larger block never refuses a name or a text that a smaller one answers. Printing takes some memory for speed alone, so before they
      answer SYMDEMANGLE_MEMORY symdemangle_text and symdemangle_filter try again with less and less of the block; such an answer takes
      up to three times as long as one try, and over a hundred times for a text of thousands of words that were made so that each takes a
-     little more than the one before. Of symdemangle_texts, which keeps what it took for earlier names, neither is so.
+     little more than the one before. Neither holds for symdemangle_texts, which keeps what it took for earlier names.
    - A call gives back all that it takes, so the block is empty again after it and serves the next call. symdemangle_string and
      symdemangle_free, whose string would outlive the call, aren't in this library.
    - A handler that may interrupt a call of its thread swaps a block of its own in, and back at its end:
@@ -32,7 +32,7 @@
    its stack a handler needs the kernel's frame (the system tells how much by getauxval(AT_MINSIGSTKSZ): 12 KB where the
    processor has AMX) and what a call uses, of which symdemangle.h tells: give 32 KiB. The old SIGSTKSZ of 8 KiB is too little.
 
-   The library itself is proved. That the block is given out rightly is tested, not proved; so it is of malloc. */
+   The library itself is proved. That the block is given out correctly is tested, not proved; likewise for malloc. */
 #ifndef SYMDEMANGLE_ARENA_H
 #define SYMDEMANGLE_ARENA_H
 
@@ -52,7 +52,7 @@ typedef struct {
    each answers SYMDEMANGLE_MEMORY. */
 void symdemangle_arena_set(void *block, size_t size);
 
-/* Swaps this thread's block, and what is in use of it, with another. */
+/* Swaps this thread's block, with what is in use of it, for another. */
 void symdemangle_arena_swap(symdemangle_arena *with);
 
 /* The most bytes that were in use since the block was set: what a call needed. */

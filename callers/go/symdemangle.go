@@ -25,12 +25,12 @@ const (
 	Legacy       Flags = C.SYMDEMANGLE_LEGACY        // Rust's older names are shown as Rust paths
 	Underscore   Flags = C.SYMDEMANGLE_UNDERSCORE    // a name may begin with __Z or __R, as on macOS
 	ASCIIWords   Flags = C.SYMDEMANGLE_ASCII_WORDS   // of Filter: words end at bytes from 0x80, and begin where runs do
-	Types        Flags = C.SYMDEMANGLE_TYPES         // of Text: a name that begins as no symbol does is read as a C++ type
+	Types        Flags = C.SYMDEMANGLE_TYPES         // of Text: a name that doesn't begin like a symbol is read as a C++ type
 	Short        Flags = C.SYMDEMANGLE_SHORT         // C++ names without what std's templates have by default: std::vector<int>, std::string
 	KeepInline   Flags = C.SYMDEMANGLE_KEEP_INLINE   // with Short: inline namespaces stay, and different texts stay different
 )
 
-// What the first library didn't know: a call that is refused for these is made again without them.
+// Flags that the first library didn't know: a call that is refused for them is made again without them.
 const newer = Flags(C.SYMDEMANGLE_WITHIN) | Types | Short | KeepInline
 
 // DefaultLimit is what a text may cost where no other limit is named.
@@ -58,7 +58,7 @@ func (e *Error) Error() string {
 	return message
 }
 
-// Buffers of calls are kept, so that a call needn't clear one; large ones aren't.
+// Buffers of calls are kept, except large ones, so that a call needn't clear a new one.
 var buffers = sync.Pool{New: func() any { return new([]byte) }}
 
 const largestKept = 1 << 16
@@ -122,7 +122,7 @@ func (o Options) Text(name string) (string, error) {
 }
 
 // Filter is a text with each word that is a symbol replaced by its text. Words are those of the program demangle, or with ASCIIWords
-// others; over a library that is older than these they begin where a run of their letters does.
+// those that end at bytes from 0x80; over a library that doesn't know such words, a word begins where a run of its letters does.
 func (o Options) Filter(text string) (string, error) {
 	words := o.Flags &^ Types
 	if words&ASCIIWords == 0 {
@@ -133,9 +133,9 @@ func (o Options) Filter(text string) (string, error) {
 	})
 }
 
-// Part is a part of a text: what it is, as "base" or "generic_argument", how many bytes of the text are before it, its own bytes, and how many
-// bytes of the name are before those that spell it and before their end. An underscore that was dropped counts. A part that the text doesn't
-// have, as the hash of an older Rust name, is at the text's end, with no bytes of it.
+// Part is a part of a text: what it is, as "base" or "generic_argument"; where it starts in the text; its own bytes; and where the bytes of
+// the name that spell it start and end. An underscore that was dropped counts. A part that the text doesn't have, as the hash of an older
+// Rust name, is at the text's end, with no bytes of it.
 type Part struct {
 	Role  string
 	Start int
@@ -145,7 +145,7 @@ type Part struct {
 }
 
 // Parsed is a text, what its name is, as "function", how the name is mangled ("itanium", "rust-v0", "rust-legacy"), and the parts of the
-// text in the order of their starts: of two, one is within the other, or they are apart. A newer library may tell more roles and kinds.
+// text in the order of their starts: of two parts, one is within the other, or they are apart. A newer library may tell more roles and kinds.
 type Parsed struct {
 	Text     string
 	Kind     string
@@ -173,7 +173,7 @@ var manglings = map[C.uint32_t]string{
 	C.SYMDEMANGLE_ITANIUM: "itanium", C.SYMDEMANGLE_RUST_V0: "rust-v0", C.SYMDEMANGLE_RUST_LEGACY: "rust-legacy",
 }
 
-// wordOf is a constant string of the library, or the number that has none.
+// wordOf is the library's word for a number, or the number if it has none.
 func wordOf(word *C.char, number C.uint32_t) string {
 	if word == nil {
 		return fmt.Sprint(number)
@@ -182,7 +182,7 @@ func wordOf(word *C.char, number C.uint32_t) string {
 }
 
 // Parts is the text of a name with its parts, if it has one. Short texts and types have none: Short and Types are refused. An installed
-// library that is older than this call doesn't have it, and ends a program that makes it.
+// library may be older than this call: a program that makes the call over it ends.
 func (o Options) Parts(name string) (*Parsed, error) {
 	told := C.symdemangle_name{length: 4096, count: 32}
 	for {
@@ -213,7 +213,7 @@ func parsed(text string, found []C.symdemangle_part, told *C.symdemangle_name) *
 	return &Parsed{text, wordOf(C.symdemangle_kind(told.kind), told.kind), mangling, parts}
 }
 
-// Texts are the texts of many names, by one call of the library: the name where it has none, and then an error that says why.
+// Texts are the texts of many names, by one call of the library: for a name without a text, the name, and an error that says why.
 func (o Options) Texts(names []string) ([]string, []error) {
 	texts, errs := append([]string(nil), names...), make([]error, len(names))
 	if len(names) == 0 {
@@ -268,12 +268,12 @@ func Text(name string, flags Flags) (string, error) {
 	return Options{Flags: flags}.Text(name)
 }
 
-// Parts is the text of a name with its parts, if that costs at most DefaultLimit.
+// Parts is the text of a name with its parts, if the text costs at most DefaultLimit.
 func Parts(name string, flags Flags) (*Parsed, error) {
 	return Options{Flags: flags}.Parts(name)
 }
 
-// Filter is a text with each word that is a symbol replaced by its text, if that costs at most DefaultLimit.
+// Filter is a text with each word that is a symbol replaced by its text, if this text costs at most DefaultLimit.
 func Filter(text string, flags Flags) (string, error) {
 	return Options{Flags: flags}.Filter(text)
 }

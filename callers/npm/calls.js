@@ -79,7 +79,7 @@ export function filterBytes(text, options = {}) {
     return { bytes, tally };
 }
 
-/** The same of a string. */
+/** Likewise for a string. */
 export function filterText(text, options = {}) {
     return decoder.decode(filterBytes(text, options).bytes);
 }

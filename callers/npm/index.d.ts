@@ -1,4 +1,4 @@
-/** What a text may cost where nothing else is said: its bytes, and 1 for each item that it is put together from. */
+/** What a text may cost by default: its bytes, and 1 for each item that it is put together from. */
 export const DEFAULT_LIMIT: 1000000;
 
 /** How names are read and shown. */
@@ -7,9 +7,9 @@ export interface Options {
     brief?: boolean;
     /** Leaves out what follows a C++ function's name, and its return type. */
     noParameters?: boolean;
-    /** Reads newer and rarer C++ forms, too: true where nothing else is said. */
+    /** Reads newer and rarer C++ forms, too: true by default. */
     wide?: boolean;
-    /** Shows Rust's older names as Rust paths: true where nothing else is said. */
+    /** Shows Rust's older names as Rust paths: true by default. */
     legacy?: boolean;
     /** Shortens C++ names: std::vector<int>, std::string. Different names may have one short text. */
     short?: boolean;
@@ -19,7 +19,7 @@ export interface Options {
     limit?: number;
 }
 
-/** How many words of a text begin as symbols do, were replaced by a text, and were not. */
+/** Of a text's words that begin like symbols: how many there are, how many were replaced by a text, and how many weren't. */
 export interface Tally {
     words: number;
     replaced: number;
@@ -38,9 +38,9 @@ export type Role =
     | "special" | "return_type" | "scope" | "base" | "abi_tag" | "generic_arguments" | "generic_argument" | "parameters" | "parameter"
     | "qualifiers" | "object" | "suffix" | "crate" | "impl" | "self_type" | "trait" | "hash" | "instantiating_crate";
 
-/** A part of a text: what it is, how many bytes of the text are before it, and how many it has; and how many bytes of the name are before those
- *  that spell it, and before their end. An underscore that was dropped counts. A part that the text doesn't have, as the hash of an older Rust
- *  name, is at the text's end, with no bytes of it. */
+/** A part of a text: what it is; where it starts in the text, and how many bytes it has; and where the bytes of the name that spell it start
+ *  and end. An underscore that was dropped counts. A part that the text doesn't have, as the hash of an older Rust name, is at the text's end,
+ *  with no bytes of it. */
 export interface Part {
     role: Role;
     start: number;
@@ -73,7 +73,7 @@ export function tryDemangle(name: string | Uint8Array, options?: Options): strin
 export function demangleAll(names: Iterable<string | Uint8Array>, options?: Options): string[];
 /** A text with each word that is a symbol replaced by its text. */
 export function filterText(text: string, options?: Options): string;
-/** The same of bytes, and how many such words there were. */
+/** Likewise for bytes, with the tally of the text's words. */
 export function filterBytes(text: string | Uint8Array, options?: Options): { bytes: Uint8Array; tally: Tally };
 /** The text of a name with its parts; throws Refused where it has none. Short texts have no parts. */
 export function parts(name: string | Uint8Array, options?: Options): Parsed;

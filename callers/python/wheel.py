@@ -60,7 +60,7 @@ PLATFORMS = dict(zip(NAMES.values(), (elf_platform, windows_platform, macos_plat
 
 
 def first_of(*names):
-    """The first of some paths from this folder that is there."""
+    """The first one of these paths from this folder that exists."""
     paths = [os.path.join(HERE, name) for name in names]
     for path in paths:
         if os.path.exists(path):

@@ -26,12 +26,12 @@
    - Rust's older names are Rust's where cplus_demangle may choose (as in nm and c++filt), their hash isn't shown, and
      rustc_demangle reads them; __cxa_demangle and the style gnu-v3 read them as names of C++.
    - Of cplus_demangle's options DMGL_PARAMS, DMGL_TYPES and the styles are kept (c++filt -p, -t, -s); names of Ada, D and Java are
-     none here.
+     refused.
    - They call malloc, as the real ones do: none may run in a signal handler.
 
-   With SYMDEMANGLE_NEXT=1 in the environment a name that CXA's or CPLUS's calls refuse, but for one whose text costs too much, is
-   handed on to the call of the same name that the program would have had without this file. What that then does is no longer
-   bounded. */
+   With SYMDEMANGLE_NEXT=1 in the environment a name that CXA's or CPLUS's calls refuse is forwarded to the call of the same name that
+   the program would have had without this file, unless its text costs too much or memory ran out. What that call does is no
+   longer bounded. */
 #define _GNU_SOURCE
 #include "symdemangle.h"
 
@@ -42,7 +42,7 @@
 enum { LIMIT = SYMDEMANGLE_DEFAULT_LIMIT };
 
 #if defined CPLUS || defined RUSTC
-/* Whether a name is one of Rust's older mangling by its ends: _ZN, a digit, .., 17h, 16 digits, E, and a suffix that there may be. */
+/* Whether a name is one of Rust's older mangling by its ends: _ZN, a digit, .., 17h, 16 digits, E, and perhaps a suffix. */
 static int is_legacy(const char *mangled)
 {
     const char *end = strchr(mangled, '.');
@@ -64,8 +64,8 @@ char *__cxa_demangle(const char *mangled, char *buffer, size_t *size, int *statu
 char *cplus_demangle(const char *mangled, int options);
 char *cplus_demangle_v3(const char *mangled, int options);
 
-/* Puts a text and a 0 into `buffer`, a block of malloc's of *size bytes, which grows where it has to, or into a new one if that is
-   null; null where memory runs out, and the buffer is as it was. */
+/* Puts a text and a 0 into `buffer`, a block of malloc's of *size bytes, which grows where it has to, or into a new block if
+   `buffer` is null. Answers null where memory runs out; then the buffer is as it was. */
 static char *put(const char *text, size_t length, char *buffer, size_t *size)
 {
     if (!buffer || *size <= length) {
@@ -80,7 +80,7 @@ static char *put(const char *text, size_t length, char *buffer, size_t *size)
     return buffer;
 }
 
-/* The text of a name, put so; null with a status where there is none, and the buffer is as it was. */
+/* Puts the text of a name into the buffer, as put does. Null with a status where there is no text: the buffer is then as it was. */
 static char *text_of(const char *mangled, uint32_t flags, char *buffer, size_t *size, uint32_t *status)
 {
     symdemangle_result result;
@@ -100,7 +100,7 @@ static char *text_of(const char *mangled, uint32_t flags, char *buffer, size_t *
     return buffer;
 }
 
-/* The name of a type is read as that of its typeinfo name, whose text has these words before it. */
+/* The name of a type is read as its typeinfo name, whose text begins with these words. */
 static char *type_of(const char *name, uint32_t flags, char *buffer, size_t *size, uint32_t *status)
 {
     static const char words[] = "typeinfo name for ";
@@ -119,7 +119,7 @@ static char *type_of(const char *name, uint32_t flags, char *buffer, size_t *siz
     return text;
 }
 
-/* The call of this name that comes after this one, if what was refused is to be handed on; else null. */
+/* The call of this name that comes after this one, if refused names are to be forwarded; else null. */
 static void *next_of(const char *call, uint32_t status)
 {
     const char *wanted = status == SYMDEMANGLE_TOO_LONG || status == SYMDEMANGLE_MEMORY ? 0 : getenv("SYMDEMANGLE_NEXT");
@@ -176,7 +176,7 @@ static int styles_of(int options)
     return !styles && &current_demangling_style ? current_demangling_style & STYLES : styles;
 }
 
-static char *handed_on(const char *call, const char *mangled, int options, uint32_t status)
+static char *forwarded(const char *call, const char *mangled, int options, uint32_t status)
 {
     char *(*next)(const char *, int);
     void *found = next_of(call, status);
@@ -184,7 +184,7 @@ static char *handed_on(const char *call, const char *mangled, int options, uint3
     return found ? next(mangled, options) : 0;
 }
 
-/* Null where the name isn't mangled, or not in a style that is asked for; without a style each is. */
+/* Null where the name isn't mangled, or isn't in a requested style; without a style, all are requested. */
 static char *text_with(const char *call, const char *mangled, int options)
 {
     int styles = styles_of(options), any = !styles || styles & AUTO;
@@ -201,7 +201,7 @@ static char *text_with(const char *call, const char *mangled, int options)
     } else if (options & TYPES && (any || styles & GNU_V3)) {
         text = type_of(mangled, flags, 0, 0, &status);
     }
-    return text ? text : handed_on(call, mangled, options, status);
+    return text ? text : forwarded(call, mangled, options, status);
 }
 
 char *cplus_demangle(const char *mangled, int options)

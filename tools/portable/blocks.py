@@ -53,7 +53,7 @@ class Blocks:
         return Written(function, parameters, arrays, self.variables, unused, self.with_labels(lines))
 
     def with_labels(self, lines):
-        """The lines with labels before their statements, without those that no way leads to."""
+        """The lines, each label before its statement; labels that no goto names are dropped."""
         text = []
         for line in lines:
             line = LABEL.sub(lambda it: "" if it[2] and it[1] not in self.wanted else self.label(it[1]) + it[2], line)
@@ -79,7 +79,7 @@ class Blocks:
         return short
 
     def flush(self, lines, only_reads):
-        """Writes the values that wait to be used, or those alone that read memory, before something is written there."""
+        """Writes the values that wait to be used, or only those that read memory, before something is written there."""
         pending = self.computing.pending
         for name in [name for name, it in pending.items() if it.reads or not only_reads]:
             it = pending.pop(name)
@@ -133,7 +133,7 @@ class Blocks:
             lines.append(f"{short}={self.computing.operand(whole, it.type).text};{short}.{place}={part.stored()};")
 
     def moves(self, label, target, lines):
-        """Gives the target's phis their values by this way. Each is read before what it reads is written."""
+        """Gives the target's phis their values by this way. Each value is computed before a variable that it uses is overwritten."""
         left = []
         for phi in self.function.phis[target]:
             if phi.name in self.values.uses:
@@ -156,7 +156,7 @@ class Blocks:
         return any(word.search(it.text) for other, (_, _, it) in enumerate(left) if other != at)
 
     def with_spare(self, left, lines):
-        """Where each is read by another one: the first is kept in a variable of its own."""
+        """Breaks a cycle, in which each variable is used by another one: the old value of the first is kept in a spare variable."""
         first, type_, _ = left[0]
         self.spares += 1
         spare = self.variable(f"spare {self.spares}", type_)

@@ -1,10 +1,10 @@
-"""Changes a function's blocks as the kit's code generator does too, where C compilers don't:
+"""Makes two changes to a function's blocks that the kit's code generator makes too, and C compilers don't:
 
-    a block reads a byte, and one way on from it uses that  ->  the byte is read on that way
+    a block reads a byte that only one successor uses       ->  that successor reads the byte
     (u64)(a << 2)                                           ->  (u64)a << 2, which is part of an address
 
-What is moved comes first in the block to which that way alone leads, so that it is computed at most as often as before. What reads
-memory isn't moved past what writes there."""
+A moved instruction comes first in a block that has no other predecessor, so it is computed at most as often as before. A load isn't
+moved past a store."""
 
 from dataclasses import replace
 
@@ -54,7 +54,7 @@ class Nearer:
             del blocks[label]
 
     def widen_shifts(self):
-        """A shift that loses no bits, and of which only the wider number is used, becomes one of the wider number."""
+        """A shift that loses no bits, and that only a widening cast uses, is done after the cast."""
         shifts, pairs = {}, []
         for label in self.function.order:
             for it in self.function.blocks[label]:
@@ -68,7 +68,7 @@ class Nearer:
             self.widen(label, shift, it)
 
     def widen(self, label, shift, cast):
-        """Changes a shift and the cast of what it gives, which are in one block."""
+        """Swaps a shift and the cast of its result, which are in one block."""
         block, wider = self.function.blocks[label], f"{shift.name} wider"
         if not any(it is shift for it in block):
             return
@@ -79,7 +79,7 @@ class Nearer:
         self.add(wider, label, 1)
 
     def only_way(self, name, label):
-        """The block with all uses of a value in it and below, to which one way leads, from this block."""
+        """The block that only this block leads to, if all uses of the value are in it or below it."""
         found = None
         for used in self.uses.get(name, ()):
             if used == label:

@@ -15,8 +15,8 @@ symdemangle.Refused: malformed symbol at 4
 
 Each call takes the same options: `brief` leaves out template and generic arguments, `no_parameters` what follows a C++ function's
 name, `wide=False` reads the ABI's first grammar alone, `legacy=False` Rust's older names as names of C++, `types` reads a name that
-begins as no symbol does as a C++ type (`PKc`), `short` leaves out what the templates of std have by default, and its inline namespaces
-unless `keep_inline` is given, and `limit`, from 0 to 4294967295, is what a text may cost. Names are strings or bytes;
+doesn't begin like a symbol as a C++ type (`PKc`), `short` leaves out what the templates of std have by default, and its inline
+namespaces unless `keep_inline` is given, and `limit`, from 0 to 4294967295, is what a text may cost. Names are strings or bytes;
 where they aren't UTF-8, strings have them as surrogates, as file names in Python.
 
 A call takes up to 600 bytes of memory for a byte of the name, and `press` 750 (measured), whatever the limit. So cut names that someone
@@ -68,7 +68,7 @@ Name = Union[str, bytes, bytearray, memoryview]
 
 _OK, _MEMORY, _BUFFER, _FLAGS, _NO_SYMBOL = 0, 5, 6, 8, 11
 _BRIEF, _NO_PARAMETERS, _WIDE, _LEGACY, _UNDERSCORE, _ASCII_WORDS, _WITHIN, _TYPES, _SHORT, _KEEP_INLINE = (1 << i for i in range(10))
-# What the first library didn't know: where a call is refused for these, it is made again without them.
+# Flags that the first library didn't know: a call that is refused for them is made again without them.
 _NEWER = _WITHIN | _TYPES | _SHORT | _KEEP_INLINE
 
 
@@ -91,8 +91,8 @@ class Counts(NamedTuple):
 
 
 class Part(NamedTuple):
-    """A part of a text: what it is, as "base" or "generic_argument", how many bytes of the text are before it, how many it has, how many bytes
-    of the name are before those that spell it and before their end, and the part's own text. The name is as it was given: an underscore that
+    """A part of a text: what it is, as "base" or "generic_argument", where it starts in the text, how many bytes it has, where the bytes of
+    the name that spell it start and end, and the part's own text. The name is as it was given: an underscore that
     was dropped counts. A part that the text doesn't have, as the hash of an older Rust name, is at the text's end, and has no bytes of it."""
 
     role: str
@@ -105,7 +105,7 @@ class Part(NamedTuple):
 
 class Parsed(NamedTuple):
     """A text, what its name is, as "function", how the name is mangled ("itanium", "rust-v0", "rust-legacy"), and the parts of the text in
-    the order of their starts: of two, one is within the other, or they are apart. A newer library may tell more roles and kinds."""
+    the order of their starts: of two parts, one is within the other, or they are apart. A newer library may tell more roles and kinds."""
 
     text: str
     kind: str
@@ -128,7 +128,7 @@ class Parsed(NamedTuple):
 
 
 class Tally(NamedTuple):
-    """How many words of a text begin as symbols do, were replaced by a text, and were not."""
+    """Of a text's words that begin like symbols: how many there are, how many were replaced by a text, and how many weren't."""
 
     words: int
     replaced: int
@@ -137,8 +137,8 @@ class Tally(NamedTuple):
 
 @dataclass(frozen=True)
 class Options:
-    """How names are read and shown. With `types` a name that begins as no symbol does is read as a C++ type. The words of a filtered text
-    are those of the program `demangle`; with `within=False` those of `symfilt`, which begin where a run does; with `ascii_words` these,
+    """How names are read and shown. With `types` a name that doesn't begin like a symbol is read as a C++ type. The words of a filtered
+    text are those of the program `demangle`; with `within=False` those of `symfilt`, which begin where a run does; with `ascii_words` these,
     ended at bytes from 0x80. A library that is older than `types`, `within` and `short` is asked without them."""
 
     brief: bool = False
@@ -203,7 +203,7 @@ class _Tally(ctypes.Structure):
     _fields_ = [("words", ctypes.c_uint64), ("replaced", ctypes.c_uint64), ("refused", ctypes.c_uint64)]
 
 
-# What the library that a wheel brings is called, and an installed one.
+# The file names of the library: of one that a wheel brings, and of an installed one.
 _FILES = {
     "win32": ("symdemangle.dll", "symdemangle.dll"),
     "darwin": ("libsymdemangle.dylib", "libsymdemangle.0.1.dylib"),
@@ -251,7 +251,7 @@ def _asked(options: Keywords) -> Options:
 
 
 def _bytes(given: Name, argument: str) -> bytes:
-    """The bytes of a name or text. UnicodeEncodeError where a string has none, as half of a surrogate pair."""
+    """The bytes of a name or text. Raises UnicodeEncodeError for a string without bytes, as half of a surrogate pair."""
     if isinstance(given, str):
         return given.encode("utf-8", "surrogateescape")
     return _given_bytes(given, argument, "str or bytes")
@@ -357,7 +357,7 @@ def _text(name: bytes, options: Options) -> Union[bytes, tuple[int, int]]:
 
 
 def _long_text(name: bytes, options: Options, size: int) -> Union[bytes, tuple[int, int]]:
-    """The same of a name whose text is long, or by a library that is asked without newer flags."""
+    """Likewise for a name with a long text, or for a library that doesn't know newer flags."""
 
     def call(flags: int, *buffer: object) -> int:
         return int(_library.symdemangle_text(name, len(name), options.limit, flags, *buffer))
@@ -392,7 +392,7 @@ def demangle(name: Name, **options: Unpack[Keywords]) -> str:
 
 
 def _joined(names: list[Name]) -> tuple[bytes, list[int]]:
-    """The bytes of many names, one after the other, and how many each has. A string that has none is empty, so no symbol."""
+    """The bytes of many names, one after the other, and how many each has. A string without bytes counts as empty, so it is no symbol."""
     try:
         string = "".join(names)  # type: ignore[arg-type]
         if string.isascii():
@@ -459,12 +459,12 @@ def filter_bytes(text: Union[bytes, bytearray, memoryview], **options: Unpack[Ke
     return _filtered(_given_bytes(text, "text"), _asked(options))[0]
 
 
-# What of a string has no bytes.
+# The characters of a string that have no bytes.
 _WITHOUT_BYTES = re.compile("([\ud800-\udc7f\udd00-\udfff]+)")
 
 
 def filter_text(text: Name, **options: Unpack[Keywords]) -> str:
-    """The same of a string. What of it has no bytes, as half of a surrogate pair, belongs to no word."""
+    """Likewise for a string. A character without bytes, as half of a surrogate pair, belongs to no word."""
     asked = _asked(options)
     try:
         return _string(_filtered(_bytes(text, "text"), asked)[0])

@@ -6,7 +6,7 @@ import sys
 
 from . import DEFAULT_LIMIT, Options, Refused, __version__, filter_bytes, filter_stream, try_demangle
 
-# Of a reader that has gone: what a shell has for a program that SIGPIPE ends.
+# The status when the reader has gone: the one that a shell reports for a program that SIGPIPE ends.
 READER_GONE = 141
 
 

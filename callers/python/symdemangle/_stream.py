@@ -9,7 +9,7 @@ from typing import Callable
 # The library leaves longer words as they are.
 LONGEST_WORD = 65_536
 
-# What a byte is to a cut: of a run, the first of an escape, within the escape of a colour, or none of these.
+# The class of a byte, for cuts: in a run, the first of an escape, within the escape of a colour, or none of these.
 _RUN, _ESCAPE, _COLOUR, _BREAK = b"a", b"\\", b";", b" "
 
 
@@ -31,14 +31,14 @@ def _kinds(within: bool, ascii_words: bool) -> bytes:
 _ESCAPES = re.compile(
     rb"(?:\x1b|\\e|\\033|\\x1[bB]|\\u001[bB])\[[0-9;:]*[A-Za-z]|\\[nrt]|\\u[0-9A-Fa-f]{4}|\\x[0-9A-Fa-f]{2}"
 )
-# The underscores of a run with which a word may begin, where words begin within runs, and where each run is one.
+# The underscore with which a word may begin: where words begin within runs, and where each run is a word.
 _WITHIN = re.compile(rb"(?<![A-Za-z0-9_])_")
 _AT_ONCE = re.compile(rb"\A_")
 _ASCII = bytes(range(128))
 
 
 def _short(run: bytes) -> bytes:
-    """A few bytes after which words begin as they do after a run in which none may begin."""
+    """A few bytes in place of a run in which no word may begin: words after them begin as after the run."""
     stretch = run[len(run.rstrip(_ASCII)) :]
     return stretch[:1] + b"a" + stretch[-1:] if stretch else run[-1:]
 
@@ -56,7 +56,7 @@ class Pieces:
         self._passes = False  # whether the rest of a run goes out as it is
 
     def push(self, piece: bytes) -> None:
-        """Takes a piece. It is cut where no escape can be open: after a byte that is of none, or before the first of one."""
+        """Takes a piece. It is cut where no escape can be open: after a byte outside escapes, or before the first of an escape."""
         if self._passes:
             piece = self._pass(piece)
         kinds, at = piece.translate(self._kinds), len(self._held)
@@ -82,7 +82,7 @@ class Pieces:
             self._written = 0
 
     def _pass(self, piece: bytes) -> bytes:
-        """Writes the front of a piece that belongs to the run before it; what follows."""
+        """Writes the front of a piece that belongs to the run before it; answers the rest."""
         rest = piece.translate(self._kinds).lstrip(_RUN)
         if rest:
             self._passes = False

@@ -6,13 +6,13 @@ InvalidName = Refused
 
 
 def demangle(mangled_name: str, external_only: bool = True) -> str:
-    """The text of a symbol, or the name where it begins as no C++ symbol does; of a type, too, where not external_only. InvalidName says
-    why another has none."""
+    """The text of a symbol, or of a type if not external_only; the name itself if it doesn't begin like a C++ symbol. InvalidName says why
+    another name has no text."""
     if external_only and not mangled_name.startswith("_Z"):
         return mangled_name
     return try_demangle(mangled_name, types=not external_only)
 
 
 def demangleb(mangled_name: bytes, external_only: bool = True) -> bytes:
-    """The same of bytes."""
+    """Likewise for bytes."""
     return demangle(mangled_name.decode("utf-8", "surrogateescape"), external_only).encode("utf-8", "surrogateescape")

@@ -2,8 +2,8 @@
 //! reading one takes, and their pressed spelling, by a proved library.
 //!
 //! A name that begins with `_R` is read as Rust, one that begins with `_Z` as C++, or as Rust where it is `_ZN..17h<16 digits>E`;
-//! before either an underscore may be, as on macOS.
-//! Names in a symbol are bytes, so texts are bytes too; what shows itself has U+FFFD for what isn't UTF-8.
+//! an underscore may be before either, as on macOS.
+//! Names in a symbol are bytes, so texts are bytes too; a name that shows itself has U+FFFD for bytes that aren't UTF-8.
 //!
 //! A call takes up to 600 bytes of memory for a byte of the name, and [`press_into`] 750 (measured), whatever the limit. So names that someone
 //! else chose should be cut: 4,096 bytes hold nearly all real ones.
@@ -59,7 +59,7 @@ use core::ops::Range;
 use library::{NamePart, Outcome, Status};
 pub use words::{NameKind, Role};
 
-/// What a text may cost where nothing else is said: its bytes, and 1 for each item that it is put together from.
+/// What a text may cost by default: its bytes, and 1 for each item that it is put together from.
 pub const DEFAULT_LIMIT: u32 = 1_000_000;
 
 /// Why a name has no answer. `at` is the number of bytes before the first bad one.
@@ -86,12 +86,12 @@ pub enum Error {
     Memory,
     /// More than 16,777,216 bytes.
     TooManyBytes,
-    /// It begins as no symbol does.
+    /// The name doesn't begin like a symbol.
     NoSymbol,
-    /// It is read, and has no pressed spelling yet.
+    /// The symbol is read, and has no pressed spelling yet.
     NoSpelling,
-    /// The library that was linked is older than an option that was asked for. No option of this version is answered so: over a library
-    /// that doesn't know [`Options::within`] or [`Options::types`], calls do without.
+    /// The library that was linked is older than an option that was asked for. No option of this version gives this error: over a library
+    /// that doesn't know [`Options::within`] or [`Options::types`], calls do without these.
     OlderLibrary,
 }
 
@@ -176,13 +176,13 @@ impl Options {
         Options { wide, ..self }
     }
 
-    /// Shows Rust's older names (`_ZN..17h<16 digits>E`) as the Rust paths that they stand for, and not as the names of C++ that they
-    /// are, too. No text of any other name changes.
+    /// Shows Rust's older names (`_ZN..17h<16 digits>E`) as the Rust paths that they denote, and not as names of C++, which they are,
+    /// too. No text of any other name changes.
     pub const fn legacy(self, legacy: bool) -> Options {
         Options { legacy, ..self }
     }
 
-    /// Reads a name that begins as no symbol does as a C++ type, as `typeid(x).name()` gives it. Over a library that is older than this
+    /// Reads a name that doesn't begin like a symbol as a C++ type, as `typeid(x).name()` gives it. Over a library that is older than this
     /// option no types are read.
     pub const fn types(self, types: bool) -> Options {
         Options { types, ..self }
@@ -204,7 +204,7 @@ impl Options {
         Options { limit, ..self }
     }
 
-    /// A name that shows itself so; one that has no text shows as it is.
+    /// A name that shows itself by these options; a name without a text shows as it is.
     #[must_use]
     pub fn demangle(self, name: &str) -> Demangle<'_> {
         let text = self.text(name.as_bytes()).ok();
@@ -235,7 +235,7 @@ impl Options {
     }
 }
 
-/// A name with its text, if it has one, by [`Options::default`]: it shows itself, and one without a text shows as it is.
+/// A name with its text, if it has one, by [`Options::default`]: it shows itself, and a name without a text shows as it is.
 #[must_use]
 pub fn demangle(name: &str) -> Demangle<'_> {
     Options::default().demangle(name)
@@ -344,7 +344,7 @@ pub struct Counts {
     pub steps: u32,
 }
 
-/// How many words of a text begin as symbols do.
+/// The words of a text that begin like symbols, counted.
 #[repr(C)]
 #[derive(Clone, Copy, Debug, Default, PartialEq, Eq, Hash)]
 pub struct Tally {
@@ -419,7 +419,7 @@ pub struct Parsed {
     pub kind: NameKind,
     /// How the name is mangled.
     pub mangling: Mangling,
-    /// In the order of their starts; of two, one is within the other, or they are apart.
+    /// In the order of their starts; of two parts, one is within the other, or they are apart.
     pub parts: Vec<Part>,
 }
 
@@ -513,7 +513,7 @@ pub fn press_wide_into(name: &[u8], buffer: &mut Vec<u8>) -> Result<(), Error> {
     write_into(buffer, |buffer| library::press(name, true, buffer))
 }
 
-/// The work that reading a name takes, which no limit bounds. Of the options the grammar alone says anything here.
+/// The work that reading a name takes, which no limit bounds. Of the options only the grammar matters here.
 ///
 /// # Errors
 ///

@@ -13,7 +13,7 @@ pub struct NamePart {
     pub to: u32,
 }
 
-/// What a name is, beside its text.
+/// What a name is, in addition to its text.
 #[repr(C)]
 #[derive(Clone, Copy, Default)]
 pub struct Told {
@@ -46,14 +46,14 @@ impl Status {
 }
 
 impl Outcome {
-    /// What it means, of a call whose buffer was large enough.
+    /// What the answer means, for a call whose buffer was large enough.
     pub fn answer(self) -> Result<(), Error> {
         self.status.answer(self.offset)
     }
 }
 
 impl Status {
-    /// What it means with this offset, of a call whose buffer was large enough.
+    /// What the answer means with this offset, for a call whose buffer was large enough.
     pub fn answer(self, at: u32) -> Result<(), Error> {
         match self.0 {
             0 => Ok(()),

@@ -6,7 +6,7 @@ use sym_core::Refusal;
 /// What is in a list before a call appends to it.
 pub const BEFORE: &[u8] = b"> ";
 
-/// What became of a row over the calls made so far. Where memory ran out, only that is recorded.
+/// Whether a row holds by the calls made so far. Where memory ran out, only that is recorded.
 #[derive(Clone, Copy)]
 pub struct Verdict {
     pub alloc: Global,
@@ -60,7 +60,7 @@ impl Verdict {
         }
     }
 
-    /// Notes whether a call answers what the row says. A call that breaks another promise has no answer.
+    /// Notes whether a call answers what the row says. `None` is the answer of a call that broke another promise.
     pub fn soundly_says(&mut self, answer: Result<Option<Vec<u8>>, Refusal>, wanted: &[u8]) {
         match answer {
             Ok(Some(text)) => self.text(&text, wanted),

@@ -139,7 +139,7 @@ fn linked_at_once<M: Calls>(alloc: Global, row: Row<'_>) -> Result<Vec<u8>, Refu
     M::text_as(&symbol, row.limit, row.detail)
 }
 
-/// The text of a symbol that is fed in pieces, or none where the reader stepped otherwise than it has to.
+/// The text of a symbol that is fed in pieces, or none if the reader took a wrong step.
 fn in_pieces<M: Calls>(
     alloc: Global,
     pieces: &[&[u8]],
@@ -225,7 +225,7 @@ fn read_and_pressed<M: PressCalls>(alloc: Global, s: &[u8]) -> Result<Vec<u8>, R
     M::press(alloc, &symbol)
 }
 
-/// The pressed spelling of a symbol that is fed byte by byte; none where the reader stepped otherwise than it has to.
+/// The pressed spelling of a symbol that is fed byte by byte; none if the reader took a wrong step.
 fn fed_and_pressed<M: PressCalls>(alloc: Global, s: &[u8]) -> Result<Option<Vec<u8>>, Refusal> {
     let bytes: Vec<&[u8]> = s.chunks(1).collect(alloc)?;
     match M::read_fed(alloc, &bytes)? {

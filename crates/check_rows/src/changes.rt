@@ -28,7 +28,7 @@ fn changed(alloc: Global, s: &[u8], place: usize, change: Change) -> Result<Vec<
     Ok(changed)
 }
 
-/// The answer for a symbol that is changed at a place: if a field begins with the place and a blank, what follows these.
+/// The answer for a symbol that is changed at a place: what a field has after the place and a blank, if it begins with these.
 fn answer_at<'a>(
     alloc: Global,
     field: Option<&&'a [u8]>,
@@ -41,7 +41,7 @@ fn answer_at<'a>(
     }
 }
 
-/// Requests the text of a changed symbol, which may be longer than symbols may be.
+/// Requests the text of a changed symbol. A changed symbol with too many bytes fails the row.
 fn ask_changed(
     verdict: &mut Verdict,
     lists: &mut AllLists,
@@ -61,7 +61,7 @@ fn ask_changed(
     }
 }
 
-/// Requests the text of a symbol that is changed at a place. The symbol has to be malformed there, unless another answer is given; answers whether one is.
+/// Requests the text of a symbol that is changed at a place. The symbol has to be malformed there, unless another answer is given. Answers whether one is given.
 fn ask_at(
     verdict: &mut Verdict,
     lists: &mut AllLists,

@@ -149,7 +149,8 @@ fn ask_filters(
     Ok(())
 }
 
-/// Checks that the program with these options makes this text of a text that it filters, and that the static library does so, too.
+/// Checks that the program with these options filters a text to this one, and that the static
+/// library does so, too.
 ///
 /// # Errors
 ///

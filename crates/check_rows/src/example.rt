@@ -12,7 +12,7 @@ use sym_print::Detail;
 /// The limit of the example.
 const LIMIT: u32 = 1_000_000;
 
-/// The line of a symbol without its end.
+/// The line of a symbol without its newline.
 fn line_of(alloc: Global, s: &[u8]) -> Result<Vec<u8>, Refusal> {
     let mut line = lines(alloc, &[s])?;
     line.pop();

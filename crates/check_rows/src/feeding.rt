@@ -11,7 +11,8 @@ pub fn most_steps(len: usize) -> usize {
     len.saturating_mul(32).saturating_add(48)
 }
 
-/// Whether a reader refuses as soon as its bytes show the reason, by how many bytes it had before the last piece and has with it.
+/// Whether a reader refuses as soon as its bytes show the reason, by how many bytes it had before
+/// and after the last piece.
 fn is_prompt(refusal: Refusal, before: u32, len: u32, ended: bool) -> bool {
     match refusal {
         Refusal::Malformed { at } => before <= at && (at < len || ended),
@@ -21,7 +22,7 @@ fn is_prompt(refusal: Refusal, before: u32, len: u32, ended: bool) -> bool {
 }
 
 /// Feeds one piece to a reader that has taken this many steps, and steps until the piece is consumed. Answers the count of
-/// steps by then, or none where a step isn't as it has to be.
+/// steps by then, or none if a step is wrong.
 fn feed<G: Grammar>(
     reader: &mut Reader<G>,
     grammar: &G,
@@ -77,7 +78,7 @@ fn feed_all<G: Grammar>(
     Ok(last.is_some())
 }
 
-/// A reader that was fed these pieces to the end; none where the reader stepped otherwise than it has to.
+/// A reader that was fed these pieces to the end; none if the reader took a wrong step.
 pub fn fed<G: Grammar>(
     alloc: Global,
     grammar: &G,

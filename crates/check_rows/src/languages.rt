@@ -134,7 +134,7 @@ pub fn ask_wide_pressed(verdict: &mut Verdict, lists: &mut Lists<Wide>, row: Row
     ask(verdict, &WidePressing, lists, row);
 }
 
-/// Checks the pressed spelling of a symbol that has no text. It is refused for the same reason, unless the symbol is only too long, and is read.
+/// Checks pressing a symbol that has no text: it is refused for the same reason, unless the symbol is read and only its text is too long.
 pub fn ask_unpressed(verdict: &mut Verdict, lists: &mut Lists<Abi>, row: Row<'_>) {
     if !fits(row.s) {
         verdict.require(false);

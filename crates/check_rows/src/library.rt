@@ -200,8 +200,8 @@ fn underscored(alloc: Global, name: &[u8]) -> Result<Vec<u8>, AllocError> {
     Ok(longer)
 }
 
-/// Checks a call's answer for a name, as it is and after an underscore that the flag allows. The call has to say that there is no symbol
-/// after an underscore without the flag, nor in the name without its first byte.
+/// Checks a call's answer for a name, as it is and after an underscore that the flag allows. The call has to find no symbol
+/// after an underscore that no flag allows, nor in the name without its first byte.
 fn ask_for_name(verdict: &mut Verdict, asked: Asked<'_>, wanted: &[u8]) {
     let name = asked.bytes;
     let Ok(longer) = underscored(verdict.alloc, name) else {
@@ -258,7 +258,7 @@ fn are_put(outcome: Outcome, counts: SymbolCounts, wanted: Counts) -> bool {
     is_told && are_same
 }
 
-/// Checks the counting call: it has to report the counts of a symbol that is read, or the reason why it isn't, as a demangler answered these.
+/// Checks the counting call: it has to report what a demangler answered, the counts of a symbol or the reason why the symbol isn't read.
 pub fn ask_library_to_count(verdict: &mut Verdict, row: Row<'_>, answer: Demangled) {
     let s = row.s;
     let mut counts = uncounted();
@@ -323,7 +323,7 @@ fn ask_with_wrong_ends(verdict: &mut Verdict, s: &[u8], flags: u32) {
     ask_status_of_all(verdict, s, &[len], &mut one, NO_FLAG, FLAGS);
 }
 
-/// Checks that the call over one name, with what was left of the buffer, agrees with the call over many names on that name.
+/// Checks that the call over one name, with the same rest of the buffer, agrees with the call over many names on that name.
 fn ask_alone(verdict: &mut Verdict, asked: Asked<'_>, told: Outcome, left: &[u8]) {
     let Ok(mut buffer) = vec![in verdict.alloc; UNWRITTEN; left.len()] else {
         verdict.lack();
@@ -446,12 +446,12 @@ pub fn ask_library_to_press(verdict: &mut Verdict, s: &[u8], wanted: &[u8]) {
     ask_library_to_press_by(verdict, s, 0, wanted);
 }
 
-/// Checks the spelling that this call answers with C++ by the wide grammar.
+/// Checks the spelling that the call for pressing answers with C++ by the wide grammar.
 pub fn ask_library_to_press_wide(verdict: &mut Verdict, s: &[u8], wanted: &[u8]) {
     ask_library_to_press_by(verdict, s, WIDE, wanted);
 }
 
-/// Checks the spelling that this call answers with flags.
+/// Checks the spelling that the call for pressing answers with these flags.
 fn ask_library_to_press_by(verdict: &mut Verdict, s: &[u8], flags: u32, wanted: &[u8]) {
     let asked = Asked::new(Call::Press, s, 0, flags);
     if is_named(s) {

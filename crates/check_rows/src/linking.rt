@@ -9,7 +9,7 @@ use std::alloc::Global;
 use sym_core::Refusal;
 use sym_demangle::Linker;
 
-/// Whether a finished linker that took this many steps answers again that nothing is left to do; none where it doesn't.
+/// `Some(true)` if a finished linker took this many steps and answers again that nothing is left to do; otherwise none.
 fn done_again<M: Calls>(linker: &mut Linker<M>, taken: usize) -> Result<Option<bool>, Refusal>
     ensures { IfOk result (λ step. IfSome step (λ done. done ≡ true → linker.new.done ≡ true)) }
 {
@@ -26,7 +26,7 @@ fn refuses_again<M: Calls>(linker: &mut Linker<M>, refusal: Refusal, taken: usiz
 }
 
 /// One step of a linker that has taken this many steps: whether nothing is left to do then. None where the step isn't counted, or where a
-/// repeated call answers otherwise.
+/// repeated call gives another answer.
 fn step<M: Calls>(linker: &mut Linker<M>, taken: usize) -> Result<Option<bool>, Refusal>
     ensures { IfOk result (λ step. IfSome step (λ done. done ≡ true → linker.new.done ≡ true)) }
 {
@@ -46,7 +46,7 @@ fn step<M: Calls>(linker: &mut Linker<M>, taken: usize) -> Result<Option<bool>, 
     }
 }
 
-/// Steps until nothing is left to do, and answers how many steps that took. None where it takes more steps than these.
+/// Steps until nothing is left to do, and answers how many steps that took. None where it takes more than `most` steps.
 fn step_all<M: Calls>(linker: &mut Linker<M>, most: usize) -> Result<Option<usize>, Refusal>
     ensures { IfOk result (λ taken. IfSome taken (λ _. linker.new.done ≡ true)) }
 {
@@ -77,7 +77,7 @@ fn rows_of<M: Calls>(alloc: Global, s: &[u8]) -> Result<usize, Refusal>
     Ok(shape.rows().len())
 }
 
-/// How many steps a reader takes that is fed byte by byte; none where a step isn't as it has to be.
+/// How many steps a reader takes that is fed byte by byte; none if a step is wrong.
 fn reading_steps<M: Calls>(alloc: Global, s: &[u8]) -> Result<Option<usize>, Refusal> {
     let bytes: Vec<&[u8]> = s.chunks(1).collect(alloc)?;
     match fed(alloc, &M::grammar(), &bytes)? {
@@ -92,8 +92,8 @@ fn has_counts<M: Calls>(symbol: &M::Symbol, rows: usize, steps: usize) -> bool {
     counts.rows as usize == rows && counts.steps as usize == steps
 }
 
-/// A symbol of this many rows that is linked step by step, after a reader that took these steps. None where a step isn't as it
-/// has to be, or the symbol's counts are others.
+/// A symbol of this many rows that is linked step by step, after a reader that took these steps.
+/// None if a step is wrong, or if the symbol has other counts.
 fn linked_after<M: Calls>(
     alloc: Global,
     s: &[u8],
@@ -115,8 +115,8 @@ fn linked_after<M: Calls>(
     }
 }
 
-/// A symbol that is read and linked step by step, with each step counted. None where a step isn't as it has to be, or the
-/// symbol's counts are others.
+/// A symbol that is read and linked step by step, with each step counted. None if a step is wrong,
+/// or if the symbol has other counts.
 pub fn linked_in_steps<M: Calls>(alloc: Global, s: &[u8]) -> Result<Option<M::Symbol>, Refusal>
     requires { FitsSymbol s.now }
 {

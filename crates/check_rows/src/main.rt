@@ -1,4 +1,4 @@
-//! Gives the symbols of rows to every call that answers symbols, and names the rows for which a call answers otherwise. A row has a symbol
+//! Gives the symbols of rows to every call that answers symbols, and names the rows for which a call gives another answer. A row has a symbol
 //! and the answer that it has to get. `docs/TESTING.md` says how rows are written.
 #![tactic(auto)]
 
@@ -36,7 +36,7 @@ const FAILED: u8 = 1;
 /// The status where memory ran out, or reading or writing failed.
 const FAULT: u8 = 3;
 
-/// What became of the rows: whether there were any, whether one of them doesn't hold, and whether memory ran out for one of them.
+/// What was found of the rows: whether there were any, whether one of them doesn't hold, and whether memory ran out for one of them.
 #[derive(Clone, Copy)]
 struct Outcome {
     some: bool,
@@ -72,7 +72,8 @@ fn check_each<R: Print + AllocGlobal>(
     Ok(outcome)
 }
 
-/// What holds the lists of both grammars. The proof of a function that has the lists as arguments of their own is about everything in them.
+/// Holds the lists of both grammars. Without this trait, the proof of a function that takes the
+/// lists would be about everything in them.
 trait Held {
     fn lists(&mut self) -> &mut AllLists;
 }

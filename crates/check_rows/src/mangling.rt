@@ -22,7 +22,7 @@ pub trait Calls: Mangling {
     fn read(alloc: Global, s: &[u8]) -> Result<Self::Symbol, Refusal>
         requires { FitsSymbol s.now };
 
-    /// The symbol that a reader was fed in pieces, or none where the reader stepped otherwise than it has to.
+    /// The symbol that a reader was fed in pieces, or none if the reader took a wrong step.
     fn read_fed(alloc: Global, pieces: &[&[u8]]) -> Result<Option<Self::Symbol>, Refusal>;
 
     fn text(symbol: &Self::Symbol, limit: u32) -> Result<Vec<u8>, Refusal>;

@@ -22,7 +22,7 @@ fn answers_again<Y: Layout>(
     printer.steps() == taken && printer.step(y) == answer && printer.steps() == taken
 }
 
-/// The step of a printer with this number: whether nothing is left to do then. None where the step isn't counted, or where a repeated call answers otherwise.
+/// The step of a printer with this number: whether nothing is left to do then. None where the step isn't counted, or where a repeated call gives another answer.
 fn step<Y: Layout>(
     printer: &mut Printer<Y::Ctx>,
     y: &Y,
@@ -41,8 +41,8 @@ fn step<Y: Layout>(
     Ok(Some(answer?))
 }
 
-/// The text of an item that is printed step by step, with each step counted. None where a step isn't as it has to be, or where there are
-/// more steps than one more than the limit.
+/// The text of an item that is printed step by step, with each step counted. None if a step is wrong, or if there are more than `limit + 1`
+/// steps.
 pub fn printed_in_steps<Y: Layout>(
     alloc: Global,
     y: &Y,

@@ -30,7 +30,7 @@ use sym_languages::{Abi, Wide};
 /// What a row has where a symbol has no pressed spelling.
 const NO_SPELLING: &[u8] = b"no spelling yet";
 
-/// The number of these digits.
+/// The number that digits spell.
 fn number(digits: &[u8]) -> Option<u32> {
     match str::from_utf8(digits) {
         Ok(digits) => match digits.parse::<u32>() {
@@ -79,7 +79,7 @@ fn row_at<'a>(detail: &[u8], cost: &[u8], word: &'a [u8], text: &'a [u8]) -> Opt
     })
 }
 
-/// Checks the text of a symbol at a limit of its cost, and that it is too long at one less and at 0.
+/// Checks the text of a symbol at a limit of its cost, and that the text is too long at a limit of one less, and of 0.
 fn ask_for_text(verdict: &mut Verdict, lists: &mut AllLists, row: Row<'_>) {
     let cost = row.limit;
     verdict.require(cost > 0);
@@ -132,7 +132,7 @@ fn spelled_text(alloc: Global, row: Row<'_>, len: u32) -> Result<Option<Vec<u8>>
     Ok(None)
 }
 
-/// Checks that a text of this length is answered at a limit of its cost, and that it is too long at one less.
+/// Checks that a text of this length is answered at a limit of its cost, and is too long at a limit of one less.
 fn ask_for_length(verdict: &mut Verdict, lists: &mut AllLists, row: Row<'_>, len: u32) {
     verdict.require(row.limit > 0 && fits(row.s));
     if !fits(row.s) {
@@ -337,7 +337,7 @@ fn of_nameless(verdict: &mut Verdict, fields: &[&[u8]]) {
     }
 }
 
-/// Checks what a row `type` says: the text of a type at a limit of its cost, and that it is too long at one less.
+/// Checks what a row `type` says: the text of a type at a limit of its cost, and that the text is too long at a limit of one less.
 fn of_type(verdict: &mut Verdict, fields: &[&[u8]]) {
     let [cost, name, text] = fields else {
         verdict.require(false);
@@ -511,7 +511,7 @@ fn of_changes(
     }
 }
 
-/// Checks what a row says that is neither a text nor a refusal.
+/// Checks a row that says neither a text nor a refusal.
 fn of_other(
     verdict: &mut Verdict,
     lists: &mut AllLists,
@@ -535,7 +535,8 @@ fn of_other(
     Ok(())
 }
 
-/// Checks what a row says of a legacy name, by each grammar of C++, or what a row says that is neither a text nor a refusal.
+/// Checks what a row says of a legacy name, by each grammar of C++, or a row that says neither a
+/// text nor a refusal.
 fn of_legacy_or_other(
     verdict: &mut Verdict,
     lists: &mut AllLists,
@@ -556,7 +557,7 @@ fn of_legacy_or_other(
     Ok(())
 }
 
-/// Checks by each call what a row of these fields says.
+/// Checks by each call what a row with these fields says.
 fn ask_fields(
     verdict: &mut Verdict,
     lists: &mut AllLists,
@@ -576,7 +577,7 @@ fn ask_fields(
     Ok(())
 }
 
-/// Checks by each call what a row says, whose fields are separated by tabs.
+/// Checks by each call what a row says. Tabs separate its fields.
 fn ask_row(verdict: &mut Verdict, lists: &mut AllLists, row: &[u8]) -> Result<(), AllocError> {
     let fields: Vec<&[u8]> = row.split(|byte| *byte == b'\t').collect(verdict.alloc)?;
     match fields.as_slice() {

@@ -89,7 +89,7 @@ fn ask_in_pieces(verdict: &mut Verdict, filtering: Filtering, text: &[u8], wante
     }
 }
 
-/// Filters a text while a read or a write fails, at each call in turn, and while no read is left.
+/// Filters a text while a read or a write fails, at each call in turn, and from a source that allows no read.
 fn ask_with_failures(verdict: &mut Verdict, filtering: Filtering, text: &[u8], wanted: &[u8]) {
     let pieces = [Call::Moves(PIECE); CALLS];
     for good in 0..CALLS {

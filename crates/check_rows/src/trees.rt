@@ -68,7 +68,7 @@ fn end_node(parts: u32, tree: &mut Vec<u8>) -> Result<(), AllocError> {
     Ok(())
 }
 
-/// The tree of this number, or nothing.
+/// The tree with this number, or nothing.
 fn tree_at(alloc: Global, trees: &[Vec<u8>], number: u32) -> Result<Vec<u8>, AllocError> {
     match trees.get(number as usize) {
         Some(tree) => Vec::from_slice(alloc, tree),

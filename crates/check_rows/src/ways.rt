@@ -37,7 +37,7 @@ fn is_short_in_rust(alloc: Global, s: &[u8], detail: Detail) -> bool
     }
 }
 
-/// Checks the way of a symbol that has a text by a mangling.
+/// Checks, by a mangling, the way of a symbol that has a text.
 fn ask_way_by<M: Calls>(
     verdict: &mut Verdict,
     s: &[u8],

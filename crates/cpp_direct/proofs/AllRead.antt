@@ -1,4 +1,4 @@
--- What was read so far, in one place to import it from.
+-- Lemmas on names, lists, types and encodings that were read, exported from one place.
 pub use Rattle.cpp_direct.proofs.PrintedNests.{IsPiece, constructor-prints, destructor-prints, instance-as, joins, operator-opening, operator-piece, source-opening, source-piece, tagged-names, tagged-prints, within-as, within-class, within-names, within-tagged}
 pub use Rattle.cpp_direct.proofs.PrintedLocals.{address-prints, component-prints, enclosed-prints, entity-shows, function-encloses, lambda-list-prints, local-prints, member-prints, name-encloses, name-shows, object-enclosing, piece-prints, returned-enclosing}
 pub use Rattle.cpp_direct.proofs.Ending.{cut-kept, cut-text, ends-so, item-comes, next-separated, next-written, no-void, nothing-ended, parameter-goes_on, plain-text, qualifiers-text, types-scoped, void-read}

@@ -6,8 +6,8 @@ use Rattle.cpp_direct.proofs.Elements.{IsNumberRead, no-integer-type, number-unm
 
 -- ## What comes next
 
--- Arguments of a name were read, or elements of a pack among them, and the known ones were recorded. What precedes the next one is
--- written.
+-- Arguments of a name were read, or elements of a pack among the arguments, and the known ones were recorded. The text before the
+-- next one is written.
 pub record AwaitsNext (s : Symbol) (w : Direct) (is_pack : Bool) (place number : ℕ) (known : Arguments) : Type 0 where
   pub kept : Kept s w
   pub open kept use *
@@ -28,7 +28,7 @@ pub record AwaitsNext (s : Symbol) (w : Direct) (is_pack : Bool) (place number :
   pub among : AreAmong is_pack (detail_of s) w.text.list.items known (before ++ ts)
   pub goes : GoesOn s (arguments_or_pack is_pack before before_text) owner (below s scope rest) front template ts place state
 
--- nothing is read yet of the arguments of a name
+-- no argument of a name is read yet
 pub none-next : (s : Symbol) (w : Direct) → IsWriting s w (Step.List true) → EndsNamed (reverse w.waiting.list.items)
     → (n : AwaitsNext s w false w.at 0 nowhere) × (reverse w.waiting.list.items ≡ n.owner ∷ n.rest)
 none-next s w p named =
@@ -60,7 +60,7 @@ none-next s w p named =
       a.0,
     )
 
--- or some of them are, and a comma is written
+-- some arguments of a name are read, and a comma is written
 abbrev pub known-next : (s : Symbol) (old mid : Direct) (is_pack : Bool) (last number : ℕ) (known : Arguments) (p : AwaitsKnownArgument s old is_pack last known)
     → Writes old mid (codes ", ") → number ≡ last + 1 → AwaitsNext s mid is_pack old.at number known
 known-next s old mid is_pack last number known p writes number_is =
@@ -88,12 +88,12 @@ known-next s old mid is_pack last number known p writes number_is =
       goes = p.goes;
     }
 
--- what is among arguments is also among elements
+-- what is among arguments is also among the elements of a pack
 among-listed : {detail : Detail} {text : List ℕ} {place : Argument} {number : ℕ} {ts : List Term} → IsAmong false detail text place number ts
     → IsAmong true detail text place number ts
 among-listed h = record { bytes = h.bytes; placed = h.placed; own = h.own; there = h.there; prints = inl h.prints }
 
--- and then the elements of a pack come
+-- the elements of a pack come next
 abbrev pack-next : (s : Symbol) (w : Direct) (place number : ℕ) (known : Arguments) → AwaitsNext s w false place number known → StandsAt s.bytes place (74 ∷ [])
     → AwaitsNext s w true (place + 1) number (record known { before = number })
 pack-next s w place number known p letter =
@@ -133,7 +133,7 @@ argument-scoped : (scope : Scope) (around : Around) (is_pack : Bool) (from numbe
 argument-scoped scope around false from number known opened = none-scoped scope around (Open.Argument from number known ∷ opened) refl
 argument-scoped scope around true from number known opened = none-scoped scope around (Open.Element from number known ∷ opened) refl
 
--- the entry of an argument is opened, or that of an element of the pack
+-- an entry opens for an argument, or for an element of the pack
 argument-next : (s : Symbol) (old new : Direct) (is_pack : Bool) (from number place : ℕ) (known : Arguments) (p : AwaitsNext s old is_pack place number known)
     → from ≡ length old.text.list.items → reverse new.waiting.list.items ≡ argument_entry is_pack from number known ∷ argument_around is_pack p.owner p.rest
     → new.text ≡ old.text → new.candidates ≡ old.candidates → new.has_scope ≡ old.has_scope → new.at ≡ place → AwaitsArgumentOfName s new
@@ -167,7 +167,7 @@ argument-next s old new is_pack from number place known p from_is opened text ca
       awaits = subst (λ n. Expects s Kind.Argument goes.0 element.inner n p.state) (sym at) element.awaits;
     }
 
--- it may be a type
+-- an argument may be a type
 pub argument-type : (s : Symbol) (w : Direct) → AwaitsArgumentOfName s w → IsWriting s w Step.Type
 argument-type s w a = record { kept = a.kept; is_before = (a.awaited, inr (inl (any-argument s a.around a.os w.at a.state a.awaits))) }
 
@@ -182,7 +182,7 @@ argument-begins s old new from p named from_is waits text candidates scope_same 
     argument-next s old new false from 0 old.at nowhere n.0 from_is
     (ap reverse waits ∙ reverse-last old.waiting.list.items entry ∙ ap (λ ws. entry ∷ ws) n.1) text candidates scope_same at
 
--- or the first element of the pack
+-- the first element of the pack begins
 pub element-begins : (s : Symbol) (old new : Direct) (from : ℕ) → IsWriting s old (Step.List true)
     → EndsNamed (reverse old.waiting.list.items) → StandsAt s.bytes old.at (74 ∷ []) → from ≡ length old.text.list.items
     → new.waiting.list.items ≡ (old.waiting.list.items ++ Open.Pack ∷ []) ++ Open.Element from 0 nowhere ∷ [] → new.text ≡ old.text
@@ -195,7 +195,7 @@ element-begins s old new from p named letter from_is waits text candidates scope
     (ap reverse waits ∙ reverse-last (old.waiting.list.items ++ Open.Pack ∷ []) entry
     ∙ ap (λ ws. entry ∷ ws) (reverse-last old.waiting.list.items Open.Pack ∙ ap (λ ws. Open.Pack ∷ ws) n.1)) text candidates scope_same at)
 
--- or another one
+-- another argument or element begins
 pub next-argument-begins : (s : Symbol) (old mid new : Direct) (is_pack : Bool) (last from number : ℕ) (known : Arguments) → AwaitsKnownArgument s old is_pack last known
     → Writes old mid (codes ", ") → from ≡ length mid.text.list.items → number ≡ last + 1
     → new.waiting.list.items ≡ mid.waiting.list.items ++ argument_entry is_pack from number known ∷ [] → new.text ≡ mid.text → new.candidates ≡ mid.candidates
@@ -206,7 +206,7 @@ next-argument-begins s old mid new is_pack last from number known p writes from_
     (ap reverse waits ∙ reverse-last mid.waiting.list.items entry
     ∙ ap (λ ws. entry ∷ ws) (ap (λ v. reverse v.list.items) writes.waiting ∙ p.open_is)) text candidates scope_same (at ∙ writes.at)
 
--- or the first element of a pack after other arguments
+-- the first element of a pack begins, after other arguments
 pub pack-after : (s : Symbol) (old mid new : Direct) (last from number : ℕ) (known : Arguments) → AwaitsKnownArgument s old false last known
     → StandsAt s.bytes old.at (74 ∷ []) → Writes old mid (codes ", ") → from ≡ length mid.text.list.items → number ≡ last + 1
     → new.waiting.list.items ≡ (mid.waiting.list.items ++ Open.Pack ∷ []) ++ Open.Element from number (record known { before = number }) ∷ []
@@ -222,7 +222,7 @@ pack-after s old mid new last from number known p letter writes from_is number_i
 
 -- ## What was read
 
--- an argument, or an element of the pack
+-- an argument, or an element of the pack, was read
 argument-read : (s : Symbol) (w : Direct) (kept : Kept s w) (is_pack is_reference : Bool) (from number : ℕ) (known : Arguments) (os : List Opened) (t : Term) (begun bytes : List ℕ)
     → w.text.list.items ≡ begun ++ bytes → PrintsListed is_pack (detail_of s) t bytes is_reference → Comes s os (tree t true) w.at kept.state
     → Stands s kept.scope (reverse w.waiting.list.items) os begun → slice_get w.waiting.list.items (length w.waiting.list.items - 1) ≡ Some (argument_entry is_pack from number known)
@@ -273,7 +273,7 @@ type-listed : {detail : Detail} (in_pack : Bool) (t : Term) (b : List ℕ) (r : 
 type-listed false t b r p = p
 type-listed true t b r p = inl p
 
--- which is a type
+-- an argument or an element that is a type was read
 pub value-argument : (s : Symbol) (w : Direct) (is_pack is_reference : Bool) (from number : ℕ) (known : Arguments) → IsWriting s w (Step.Value is_reference false)
     → slice_get w.waiting.list.items (length w.waiting.list.items - 1) ≡ Some (argument_entry is_pack from number known)
     → IsArgumentRead s w is_pack from number known is_reference
@@ -282,14 +282,14 @@ value-argument s w is_pack is_reference from number known p found =
     argument-read s w p.kept is_pack is_reference from number known v.os v.own v.front v.bytes v.written (type-listed is_pack v.own v.bytes is_reference v.prints)
     v.comes v.stands found
 
--- or an element that is a reference with text on both sides of a name
+-- an element that is a reference with text on both sides of a name was read
 pub element-passed : (s : Symbol) (w : Direct) (from number : ℕ) (known : Arguments) → IsElementPassed s w true
     → slice_get w.waiting.list.items (length w.waiting.list.items - 1) ≡ Some (Open.Element from number known) → IsArgumentRead s w true from number known true
 element-passed s w from number known p found =
     let v = p.read in
     argument-read s w v.kept true true from number known v.os v.own v.front v.bytes v.written (inr (refl, p.refers refl)) v.comes v.stands found
 
--- or a literal
+-- a literal was read as an argument or an element
 pub literal-read : (s : Symbol) (old begun new : Direct) (from number place : ℕ) (known : Arguments) (p : AwaitsNext s old false place number known)
     → reverse old.waiting.list.items ≡ p.owner ∷ p.rest → from ≡ length old.text.list.items
     → begun.waiting.list.items ≡ old.waiting.list.items ++ Open.Argument from number known ∷ [] → begun.text ≡ old.text
@@ -372,7 +372,7 @@ enumerator-begins s mid pushed new from place number n known q opened letter fro
       begins = subst (λ k. TreeOpens s Kind.LiteralType e.inner q.goes.0 k q.state) (sym (at ∙ two.at ∙ n_is)) e.opens;
     }
 
--- the first argument
+-- an enumerator comes as the first argument
 pub first-enumerator-expected : (s : Symbol) (old pushed new : Direct) (from n : ℕ) → IsWriting s old (Step.List true) → EndsNamed (reverse old.waiting.list.items)
     → StandsAt s.bytes old.at (76 ∷ []) → from ≡ length old.text.list.items → n ≡ old.at + 1 → Writes (record old { at = n }) pushed (codes "(")
     → new.waiting.list.items ≡ pushed.waiting.list.items ++ Open.ArgumentEnumerator from 0 nowhere ∷ [] → new.text ≡ pushed.text → new.candidates ≡ pushed.candidates
@@ -381,7 +381,7 @@ first-enumerator-expected s old pushed new from n p named letter from_is n_is tw
     let q = none-next s old p named in
     enumerator-begins s old pushed new from old.at 0 n nowhere q.0 q.1 letter from_is n_is two waits text candidates scope_same at
 
--- or another one
+-- an enumerator comes as another argument
 pub argument-enumerator-expected : (s : Symbol) (old mid pushed new : Direct) (last from number n : ℕ) (known : Arguments) → AwaitsKnownArgument s old false last known
     → StandsAt s.bytes old.at (76 ∷ []) → Writes old mid (codes ", ") → from ≡ length mid.text.list.items → number ≡ last + 1 → n ≡ mid.at + 1
     → Writes (record mid { at = n }) pushed (codes "(") → new.waiting.list.items ≡ pushed.waiting.list.items ++ Open.ArgumentEnumerator from number known ∷ []
@@ -390,7 +390,7 @@ argument-enumerator-expected s old mid pushed new last from number n known p let
     enumerator-begins s mid pushed new from old.at number n known (known-next s old mid false last number known p one number_is)
     (ap (λ v. reverse v.list.items) one.waiting ∙ p.open_is) letter from_is (n_is ∙ ap (λ k. k + 1) one.at) two waits text candidates scope_same at
 
--- its type is read
+-- the type of an enumerator is read
 pub value-argument-enumerator : (s : Symbol) (w : Direct) (is_reference : Bool) (from number : ℕ) (known : Arguments) → IsWriting s w (Step.Value is_reference false)
     → slice_get w.waiting.list.items (length w.waiting.list.items - 1) ≡ Some (Open.ArgumentEnumerator from number known) → AwaitsArgumentNumber s w from number known
 value-argument-enumerator s w is_reference from number known p found =
@@ -428,7 +428,7 @@ value-argument-enumerator s w is_reference from number known p found =
       goes = waits.14 v.own w.at p.state v.comes;
     }
 
--- and so are its number and an E
+-- the number of an enumerator and its E are read
 pub argument-enumerator-read : (s : Symbol) (old begun pushed middle ended new : Direct) (from number : ℕ) (known : Arguments) (a : AwaitsArgumentNumber s old from number known)
     → EndsOtherwise old.text.list.items → begun.text ≡ old.text → begun.candidates ≡ old.candidates → begun.has_scope ≡ old.has_scope → begun.at ≡ old.at
     → reverse begun.waiting.list.items ≡ a.owner ∷ a.rest → Writes begun pushed (codes ")") → (read : IsNumberRead s.bytes pushed middle)
@@ -527,12 +527,12 @@ pub last-there : (ts : List Term) (t : Term) → slice_get (ts ++ t ∷ []) (len
 last-there [] t = refl
 last-there (v ∷ ts) t = last-there ts t
 
--- what is among some is among all that include these
+-- an argument that is at its place is also among other trees, where one of them is the same tree
 among-others : {in_pack : Bool} {detail : Detail} {text : List ℕ} {place : Argument} {number : ℕ} {ts : List Term} (h : IsAmong in_pack detail text place number ts) (k : ℕ)
     (us : List Term) → slice_get us k ≡ Some h.own → IsAmong in_pack detail text place k us
 among-others h k us is = record { bytes = h.bytes; placed = h.placed; own = h.own; there = is; prints = h.prints }
 
--- an argument, and any element
+-- the text of an argument, or of an element of a pack, read as an argument
 single-prints : {detail : Detail} (is_pack : Bool) (t : Term) (b : List ℕ) (r : Bool) → PrintsListed is_pack detail t b r → (is_pack ≡ true → ⊥) → Prints detail t b r
 single-prints false t b r p none = p
 single-prints true t b r p none = absurd (none refl)
@@ -541,7 +541,7 @@ element-prints : {detail : Detail} (is_pack : Bool) (t : Term) (b : List ℕ) (r
 element-prints false t b r p = inl p
 element-prints true t b r p = p
 
--- one more is known
+-- one more argument is known
 pub known-more : {detail : Detail} (is_pack : Bool) (text : List ℕ) (from to number : ℕ) (is_reference : Bool) (known more : Arguments) (ts : List Term) (t : Term)
     (before bytes : List ℕ) → text ≡ before ++ bytes → from ≡ length before → to ≡ length text → number ≡ length ts → PrintsListed is_pack detail t bytes is_reference
     → (is_pack ≡ true → known.before ≤ number) → more.before ≡ known.before → KnowsMore known more number from to is_reference → AreAmong is_pack detail text known ts
@@ -579,7 +579,7 @@ known-more {detail} is_pack text from to number is_reference known more ts t bef
           subst (λ (q : Argument). IsAmong in_pack detail text q k (ts ++ t ∷ [])) (sym h.1) (among-others g k (ts ++ t ∷ []) (earlier-there ts t g.own k g.there))
     ]
 
--- the one that was read is known
+-- the argument that was read is known
 argument-known : (s : Symbol) (old : Direct) (is_pack : Bool) (from to number : ℕ) (known more : Arguments) (is_reference : Bool)
     (p : IsArgumentRead s old is_pack from number known is_reference) → to ≡ length old.text.list.items → more.before ≡ known.before
     → KnowsMore known more number from to is_reference → AreAmong is_pack (detail_of s) old.text.list.items more (p.before ++ (p.ts ++ p.t ∷ []))
@@ -589,7 +589,7 @@ argument-known s old is_pack from to number known more is_reference p to_is same
     (led_by (detail_of s) (arguments_or_pack is_pack p.before p.before_text) p.front p.name ++ in_front_of_next p.ts p.texts) p.bytes p.written p.from_is to_is
     p.number_is p.prints (λ e. omega (arith, p.come_before.count_is e, p.number_is, length-append p.before p.ts)) same knows p.among)
 
--- another one may follow
+-- another argument may follow
 pub argument-awaits : (s : Symbol) (old new : Direct) (is_pack : Bool) (from to number : ℕ) (known more : Arguments) (is_reference : Bool)
     (p : IsArgumentRead s old is_pack from number known is_reference) → reverse new.waiting.list.items ≡ argument_around is_pack p.owner p.rest
     → new.text ≡ old.text → new.candidates ≡ old.candidates → new.has_scope ≡ old.has_scope → new.at ≡ old.at → to ≡ length old.text.list.items
@@ -652,7 +652,7 @@ argument-closes s w n last known p stands at_is =
     (list-ends s w false known (known-passes s w false last known p) stands (no-pack-around s w false last known p (reverse w.waiting.list.items) p.open_is)
     (λ k o. single-known s w last known p k o.0, λ e. absurd (false≢true (sym p.come_before.no_pack ∙ e))))
 
--- or an empty pack
+-- an empty pack may be the last argument
 pub pack-ends-empty : (s : Symbol) (w : Direct) (n last before : ℕ) (known : Arguments) → AwaitsKnownArgument s w false last known → before ≡ last + 1
     → StandsAt s.bytes w.at (74 ∷ 69 ∷ 69 ∷ []) → n ≡ w.at + 3 → IsListEnded s (record w { at = n }) (record known { has_pack = true; before = before; elements = 0 })
 unfolding known-passes

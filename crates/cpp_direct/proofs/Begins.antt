@@ -14,11 +14,11 @@ encoded-whole s opened_ e at st comes = record {
   ends_in = λ suffix there whole is. opened_.ends_in e at suffix st comes there whole is;
 }
 
--- where no local entity is named, an encoding ends the symbol
+-- in a symbol that names no local entity, an encoding ends the symbol
 whole-behind : (s : Symbol) (lead : List ℕ) (e : Term) (at : ℕ) (st : State) → is_local s.bytes ≡ false → EndsBehind s lead e at → EncodedBehind s lead e at st
 whole-behind s lead e at st apart p = record { whole = λ f. p; entity = λ is. absurd (false≢true (sym apart ∙ is)); member = λ is. absurd (false≢true (sym apart ∙ is)) }
 
--- nor an object's guard variable
+-- a symbol that names neither a local entity nor a guard variable isn't that of an object's guard variable
 no-object : (s : List ℕ) → is_local s ≡ false → is_guard s ≡ false → is_object s ≡ false
 no-object s apart other = rw (apart, other) refl
 
@@ -46,7 +46,7 @@ encoding-awaited s w no_text no_candidate starts at_is apart other =
 pub encoding-expected : (s : Symbol) (w : Direct) (p : AwaitsEncoding s w) → EncodingOpened s p.outer w.at p.state
 encoding-expected s w p = encoding-opens s p.outer p.around w.at p.state p.awaits
 
--- after such a name there may be items
+-- items may follow the name of an encoding
 items-taken : (s : Symbol) (w : Direct) (p : AwaitsEncoding s w) (v : Value) (at : ℕ) (st : State) → ItemsOpened s p.outer w.at v at st
     → TakesItems s w.text.list.items v at st
 unfolding in_types
@@ -61,7 +61,7 @@ items-taken s w p v at st items = record {
   onward = λ l here now last. p.onward (encoding_of v (no_items l)) here now (items.onward l here now last);
 }
 
--- or none
+-- after the name of an encoding its items follow, or none
 pub items-await : (s : Symbol) (w : Direct) (p : AwaitsEncoding s w) (v : Value) (at : ℕ) (st : State) → Comes s (encoding-expected s w p).inner v at st
     → AwaitsItems s w.text.list.items v at st
 unfolding no_items may_be_empty
@@ -69,7 +69,7 @@ items-await s w p v at st comes =
     let t = items-taken s w p v at st ((encoding-expected s w p).onward v at st comes) in
     record { ends = t.onward nothing_there at st (expects-empty s Kind.Items t.around t.inner at st t.awaits refl); items = λ typed. t }
 
--- the name of an encoding is one
+-- where an encoding is expected, its name is expected
 pub name-awaited : (s : Symbol) (w : Direct) → AwaitsEncoding s w → AwaitsName s w
 name-awaited s w p = record {
   kept = p.kept;
@@ -101,7 +101,7 @@ base-awaited s opened_ made k w apart other base text_is filled no_candidate sho
       });
 }
 
--- after the bytes of a thunk the base encoding is expected
+-- the base encoding is expected after the bytes of a thunk
 thunk-awaited : (s : Symbol) (opened_ : SymbolOpened s) (by : Adjustment) (w : Direct) → is_local s.bytes ≡ false → is_guard s.bytes ≡ false
     → BaseOpened s opened_.inner 2 (thunk (adjusting by)) w.at first_state → w.text.list.items ≡ thunk_text (adjusting by) → w.candidates.list.items ≡ []
     → AwaitsEncoding s w
@@ -109,7 +109,7 @@ thunk-awaited s opened_ by w apart other base text_is no_candidate =
     base-awaited s opened_ (thunk (adjusting by)) (thunk_text (adjusting by)) w apart other base text_is (thunk-filled (adjusting by)) no_candidate
     (thunk-shows (detail_of s) (adjusting by))
 
--- what was read without a text and written after it, where nothing was written before
+-- a text that is written after bytes that have no text is all that is written, if nothing was written before
 thunk-written : (old middle new : Direct) (text : List ℕ) → IsFresh old → Reads old middle [] → Writes middle new text
     → (new.text.list.items ≡ text) × (new.candidates.list.items ≡ [])
 thunk-written old middle new text fresh reads writes = (
@@ -129,7 +129,7 @@ thunk-begins s old middle new fresh apart other starts first second is reads wri
     let written = thunk-written old middle new (codes "non-virtual thunk to ") fresh reads writes in
     thunk-awaited s opened_ by new apart other (subst (λ n. BaseOpened s opened_.inner 2 (thunk (adjusting by)) n first_state) (sym writes.at) opens) written.0 written.1
 
--- a virtual one begins
+-- a virtual thunk begins
 pub virtual-thunk-begins : (s : Symbol) (old first_ middle new : Direct) → IsFresh old → is_local s.bytes ≡ false → is_guard s.bytes ≡ false
     → StandsAt s.bytes 0 (95 ∷ 90 ∷ []) → StandsAt s.bytes 2 (84 ∷ [])
     → StandsAt s.bytes 3 (118 ∷ []) → IsOffsetAt s.bytes 4 first_.at → Reads old first_ [] → IsOffsetAt s.bytes first_.at middle.at → Reads first_ middle []
@@ -161,7 +161,7 @@ clone-begins s old new letter fresh apart other wide is starts bytes writes =
 
 -- ## Special objects
 
--- a letter that has a text as that of a special object, and isn't that of a template's argument or of no symbol, is the letter of a type's
+-- a letter in the table of special objects, other than A and M, is the letter of a special object of a type
 special-known : (letter : ℕ) → letter ≢ 65 → letter ≢ 77 → look_up (letter ∷ []) special_texts ≢ [] → is_special_letter letter ≡ true
 unfolding is_special_letter special_texts code_in codes_pass among
 special-known letter of_type of_none there =
@@ -169,7 +169,7 @@ special-known letter of_type of_none there =
     subst (λ is. (is || among special_letters letter) ≡ true) (ne_eqb letter 77 of_none)
     (subst (λ is. (is || (nat_eq letter 77 || among special_letters letter)) ≡ true) (ne_eqb letter 65 of_type) known)
 
--- a letter that has a text is in the symbol
+-- the letter of a special object, if it has a text, is in the symbol after the T
 pub special-stands : (s : List ℕ) (letter : ℕ) → look_up (letter ∷ []) special_texts ≢ [] → StandsAt s 2 (84 ∷ [])
     → (letter ≢ 0 → StandsAt s 3 (letter ∷ [])) → StandsAt s 2 (84 ∷ letter ∷ [])
 unfolding look_up special_texts same_bytes
@@ -205,7 +205,7 @@ special-begins s w letter apart other starts stands of_type of_none at_is writte
     type-begins s w Open.Special here.inner apart other at_is none_ waiting refl
     (letter, written, (λ e. filled (sym written ∙ e)), λ t at st comes. encoded-whole s opened_ (special letter t) at st (here.onward t at st comes)) here.awaits
 
--- a construction table does
+-- a construction table begins
 pub table-begins : (s : Symbol) (w : Direct) → s.is_wide ≡ true → is_local s.bytes ≡ false → is_guard s.bytes ≡ false
     → StandsAt s.bytes 0 (95 ∷ 90 ∷ []) → StandsAt s.bytes 2 (84 ∷ []) → StandsAt s.bytes 3 (67 ∷ []) → w.at ≡ 4
     → w.text.list.items ≡ [] → w.candidates.list.items ≡ [] → w.waiting.list.items ≡ Open.Derived ∷ [] → IsWriting s w Step.Type
@@ -222,8 +222,8 @@ table-begins s w wide apart other starts first second at_is no_text none_ waitin
 
 -- ## Nested names
 
--- where the name of a function or of data is expected, after the N and a member function's qualifiers a nested name's first
--- piece is
+-- expects the first piece of a nested name after its N and the qualifiers of a member function, where the name of a function or
+-- of data is expected
 pub nest-awaited : (s : Symbol) (w : Direct) (kept : Kept s w) (purpose : Purpose) (encoding : ℕ) (inner : List Opened) (at first : ℕ) (place : MarkPlace)
     → is_type purpose ≡ false → Expects s Kind.CompleteName (in_name encoding) inner at kept.state → StandsAt s.bytes at (78 ∷ []) → first ≡ at + 1
     → IsMarkPlace s.bytes first place → w.at ≡ place.end
@@ -245,7 +245,7 @@ nest-awaited s w kept purpose encoding inner at first place own expects letter n
       serves = serves nest.inner nest.onward;
     }
 
--- the name of a symbol's encoding is expected
+-- expects the first piece of a nested name, as the name of a symbol's encoding
 pub nested-begins : (s : Symbol) (old : Direct) (first : ℕ) (place : MarkPlace) → AwaitsName s old → StandsAt s.bytes old.at (78 ∷ []) → first ≡ old.at + 1
     → IsMarkPlace s.bytes first place → AwaitsNest s (record old { at = place.end }) (Purpose.Name place.mark)
 nested-begins s old first place p letter next is =

@@ -3,7 +3,7 @@ use Rattle.cpp_direct.proofs.AllGround.{◌≡◌, refl, ap, sym, ◌∙◌, sub
 use Rattle.cpp_direct.proofs.AllRead.{cut-kept, cut-text, popped}
 use Rattle.cpp_direct.proofs.FunctionsWithin.{name-inside}
 
--- the base class is expected after the derived one and its offset
+-- the base class is expected after the derived class and its offset
 pub base-expected : (s : Symbol) (w read shut told new : Direct) (to : ℕ) (p : IsElementRead s w Open.Derived) (digits : List ℕ) (end : ℕ)
     → IsDigitsAt s.bytes w.at digits end → StandsAt s.bytes end (95 ∷ []) → read.at ≡ end + 1 → Reads w read [] → to ≡ length w.text.list.items
     → shut.text ≡ read.text → shut.candidates ≡ read.candidates → shut.has_scope ≡ read.has_scope → shut.at ≡ read.at
@@ -30,7 +30,7 @@ base-expected s w read shut told new to p digits end is line at reads to_is same
     (record { derived = e.own; bytes = e.bytes; prints = e.element 0; to_is = to_is ∙ ap length whole; written = grown }, normal digits, base.onward)
     (none-scoped e.scope (in_name 2) (Open.Base to ∷ p.rest) refl)
 
--- the text of a base class follows that of the derived one
+-- the text of a base class follows that of the derived class
 pub base-written : (s : Symbol) (w : Direct) (to : ℕ) (p : IsElementRead s w (Open.Base to)) → w.text.list.items ≡ p.read.stands.0.bytes ++ codes "construction vtable for " ++ p.read.bytes
 base-written s w to p = p.read.written ∙ ap (λ l. l ++ p.read.bytes) p.read.stands.0.written
 
@@ -56,7 +56,7 @@ table-ended s w pushed again new to p one two cuts =
       shows = subst (λ l. Shows (detail_of s) made l) (sym text) (table-shows h.derived e.own e.stands.1 e.bytes h.bytes (e.element 0) h.prints);
     }
 
--- it is within what is written
+-- the derived class is within what is written
 pub derived-inside : (s : Symbol) (w pushed : Direct) (to : ℕ) → IsElementRead s w (Open.Base to) → Writes w pushed (codes "-in-") → to ≤ length pushed.text.list.items
 derived-inside s w pushed to p one =
     let h = p.read.stands.0 in

@@ -1,4 +1,4 @@
--- A type that names an argument of a function's template is read, and so is what expands a pack.
+-- Types that name an argument of a function's template, and parameters that expand a pack, are read.
 use Rattle.cpp_direct.proofs.AllGround.{after, appended, applied, argument_so_far, between, byte_of, close, Continuation, count, counted_value, Detail, element, enclosed_argument, ends_arguments, expansion, index_of, instance, is_code, is_function_type, is_void, Kind, length_if_pack, listed_so_far, listed_value, lvalue, may_be_empty, meaning, number_of_kind, parameter, parameter_named, parameter_so_far, parts_of, Production, rvalue, Term, types_of, under_expansion, with_packs, with_type, added, AreCandidates, AreExpanded, AreParametersRead, Argument, argument_of, Arguments, arguments_in, ArgumentsGoOn, AwaitsNextArgument, AwaitsType, below, Candidate, comma_text, detail_of, Direct, EncodedBehind, expansion_letters, hidden, in_front_of_next, IsFunctionEnded, IsKnown, IsDependentNow, IsMarkedBy, IsNamedAgain, IsNaming, IsPackOf, IsPackThere, IsPlaced, IsScope, IsScoped, IsSingle, IsTemplate, IsWriting, Kept, list_of, Lists, made_by, Mark, most_by_digit, Open, Owns, parameter_digits, ParametersGoOn, Pattern, pattern_letters, place_of, PrintAllBy, PrintsAs, PrintsGiven, PrintsMade, Scope, scoped_in, separator, Symbol, with_argument, Writes, Comes, Expects, IsReferable, IsTyped, Opened, StandsAt, TypeOpens, as_const, candidate, with_candidate, tree, State, Around, is_there, letter_of, part, piece_of, tree_of, is_listed, Bool, ◌≡◌, ◌≢◌, ℕ, zero, suc, ◌+◌, ◌-◌, ◌≤◌, ◌<◌, length, List, [], ◌∷◌, ◌++◌, take, drop, reverse, slice_get, get_or, true, false, replicate, Some, None, nat_le, ◌&&◌, refl, ap, sym, ◌∙◌, subst, arith, append_assoc, append-nil, Ok, codes, le-leb, lt-ltb, length-append, slice_get_within, get_or_from_slice_get, get_or-append_seam, Token, IsNumberToken, NumberKind, Step, reverse-last, template-stays, candidate-found, kept-argument, kept-grown, kept-same, kept-written, made-here, piece-found, placed-stays, value-added, value-comes, candidate-inside, kept-as, kept-with, const-opens, reference-type-opens, solid-opens, substitution-opens, parameter-given, rvalue-given, argument-awaits, element-awaits, all-more, next-prints-in, next-prints-by, parameters-as, pack-stays, unfolding_behind}
 use Rattle.cpp_direct.proofs.AllRead.{element-goes-on, element-scoped, some-elements, template-listed, again-substituted, named-here, next-separated, nothing-ended, parameter-goes_on}
 use Rattle.cpp_direct.proofs.Handed.{noted-added, noted-within}
@@ -31,7 +31,7 @@ parameter-found : (around : Around) (k at : ℕ) (st : State) (all : Term) → a
 unfolding parameter_named with_packs appended
 parameter-found around k at st all scope below none = rw (scope, lt-ltb k (count all) below, none, parameter_named) refl
 
--- what it names is found
+-- the argument that a parameter names is found
 number-tested : (around : Around) (k at : ℕ) (st later : State) → k ≤ most_by_digit → parameter_named around at k st ≡ Ok later
     → ◌≡◌ {A = Continuation} (between Production.Parameter around at (values.text (parameter_digits k) ∷ []) st)
     (Ok (record { context = after (parameter k) true around; values = tree (parameter k) true ∷ []; state = later }))
@@ -53,7 +53,7 @@ number-comes s kind around os k at st later typed few named expects stands =
     let arguments = next-part p (number-fills (parameter_token k) number (parameter-number k few) both.1) (number-tested around k at st later few (named at)) in
     solid.onward (parameter k) true (at + 1 + length (parameter_digits k ++ 95 ∷ [])) later refl (closes p (none-fills Kind.ArgumentsAlone arguments refl) refl).comes
 
--- in its scope it is a candidate
+-- a parameter becomes a candidate in its scope
 pub parameter-comes : (s : Symbol) (kind : Kind) (around : Around) (os : List Opened) (k at : ℕ) (st : State) → IsTyped kind → k ≤ most_by_digit
     → IsScope k around → Expects s kind around os at st → StandsAt s.bytes at (84 ∷ (parameter_digits k ++ 95 ∷ []))
     → Comes s os (tree (parameter k) true) (at + 1 + length (parameter_digits k ++ 95 ∷ [])) (with_candidate around (parameter k) st)
@@ -88,7 +88,7 @@ named-placed : (s : Symbol) (w : Direct) (all : Arguments) (k : ℕ) (p : Argume
     → (bytes : List ℕ) × (a.scope.names k ≡ Some (record { bytes = bytes; reference = p.is_reference })) × IsPlaced w.text.list.items p bytes
 named-placed s w all k p a found is single = placed-there s w all k p a.kept a.around a.scoped found is single
 
--- so it can be written once more
+-- the argument that a parameter names is within what is written
 there-inside : (s : Symbol) (w : Direct) (all : Arguments) (k : ℕ) (p : Argument) (kept : Kept s w) (around : Around) → IsScoped kept.scope around (reverse w.waiting.list.items)
     → argument_of (reverse w.waiting.list.items) ≡ Some all → p ≡ place_of all k → IsSingle all k → (p.from ≤ p.to) × (p.to ≤ length w.text.list.items)
 there-inside s w all k p kept around scoped found is single =
@@ -104,7 +104,7 @@ pub operand-inside : (s : Symbol) (w : Direct) (all : Arguments) (k : ℕ) (p : 
     → argument_of (reverse w.waiting.list.items) ≡ Some all → p ≡ place_of all k → IsSingle all k → (p.from ≤ p.to) × (p.to ≤ length w.text.list.items)
 operand-inside s w all k p a found is single = there-inside s w all k p a.kept a.goes.0 (element-scoped s w a) found is single
 
--- a parameter may name it
+-- a parameter may name the argument
 scope-named : (s : Symbol) (w : Direct) (all : Arguments) (k : ℕ) (a : AwaitsType s w) → argument_of (reverse w.waiting.list.items) ≡ Some all
     → IsSingle all k → IsScope k a.around
 scope-named s w all k a found single = (a.scoped all found).1.1 k single
@@ -137,7 +137,7 @@ parameter-done s old mid new all k p n a few letter line found is single real wr
 
 -- ## Parameters as expressions
 
--- what it names is found, and no candidate is made
+-- the argument that a parameter names as an expression is found, and no candidate is made
 operand-tested : (around : Around) (k at : ℕ) (st : State) → k ≤ most_by_digit → IsScope k around
     → ◌≡◌ {A = Continuation} (between Production.ParameterExpression around at (values.text (parameter_digits k) ∷ []) st)
     (Ok (record { context = around; values = tree (parameter k) true ∷ []; state = st }))
@@ -147,7 +147,7 @@ operand-tested around k at st few scope =
     (sym (digits-count k few))
     (rw (parameter-found around k (at - 1) st scope.all scope.scope_is scope.there.1 (ap length_if_pack scope.there.0 ∙ scope.no_pack), argument_so_far) refl)
 
--- it is accepted as an argument
+-- a parameter as an expression is accepted as an argument
 operand-comes : (s : Symbol) (around : Around) (os : List Opened) (k at : ℕ) (st : State) → s.is_wide ≡ true → k ≤ most_by_digit → IsScope k around
     → Expects s Kind.Argument around os at st → StandsAt s.bytes at (88 ∷ []) → StandsAt s.bytes (at + 1) (84 ∷ [])
     → StandsAt s.bytes (at + 1 + 1) (parameter_digits k ++ 95 ∷ []) → StandsAt s.bytes (at + 1 + 1 + length (parameter_digits k ++ 95 ∷ [])) (69 ∷ [])
@@ -162,7 +162,7 @@ operand-comes s around os k at st wide few scope expects x letter line ends =
     let operand = closes Production.ExpressionWithT (closes p (none-fills Kind.ArgumentsAlone arguments refl) refl) refl in
     (closes Production.Expression (fixed-fills (next-part Production.Expression operand refl) ends) refl).comes
 
--- it is read, and its argument is written once more
+-- a parameter as an expression is read, and its argument is written once more
 pub operand-done : (s : Symbol) (old mid new : Direct) (all : Arguments) (k : ℕ) (p : Argument) (n : ℕ) (ws : List Open) (owner noted : Open) → AwaitsNextArgument s old → s.is_wide ≡ true
     → k ≤ most_by_digit → StandsAt s.bytes old.at (88 ∷ []) → StandsAt s.bytes (old.at + 1) (84 ∷ []) → StandsAt s.bytes (old.at + 1 + 1) (parameter_digits k ++ 95 ∷ [])
     → StandsAt s.bytes (old.at + 1 + 1 + length (parameter_digits k ++ 95 ∷ [])) (69 ∷ [])
@@ -209,7 +209,7 @@ operand-done s old mid new all k p n ws owner noted a wide few x letter line end
 
 -- ## References to parameters
 
--- An rvalue reference to it is read; where the argument is a reference, it is that argument itself.
+-- An rvalue reference to a parameter is read. If the argument is a reference, the rvalue reference is that argument itself.
 pub forwarded-done : (s : Symbol) (old mid one new : Direct) (all : Arguments) (k : ℕ) (p : Argument) (n from : ℕ) (a : AwaitsType s old) → k ≤ most_by_digit → IsReferable a.kind
     → StandsAt s.bytes old.at (79 ∷ []) → StandsAt s.bytes (old.at + 1) (84 ∷ []) → StandsAt s.bytes (old.at + 1 + 1) (parameter_digits k ++ 95 ∷ [])
     → argument_of (reverse old.waiting.list.items) ≡ Some all → p ≡ place_of all k → IsSingle all k → all.encoding ≢ 0 → p.is_reference ≡ true
@@ -242,7 +242,7 @@ forwarded-done s old mid one new all k p n from a few referable mark letter line
 
 -- ## The argument once more
 
--- it is written once more
+-- a type that a substitution names again is within what is written
 pub again-inside : (s : Symbol) (w : Direct) (k : Candidate) → IsNamedAgain s w k → (k.from ≤ k.to) × (k.to ≤ length w.text.list.items)
 again-inside s w k p = candidate-inside s (record w { at = p.before }) (counted_value NumberKind.Seq36 p.digits) k p.awaits.kept p.ordered p.found
 
@@ -271,21 +271,21 @@ dependent-again s w new k all p found real writes =
 
 -- ## A parameter that expands a pack
 
--- where types are expanded, and no pack was named yet
+-- the state in which types are expanded, before a pack is named
 abbrev pub begun : State → State
 begun st = record st { packs = None }
 
--- a pack of this many elements was named
+-- the state once a pack of this many elements is named
 abbrev named_many : ℕ → State → State
 named_many n st = record st { packs = Some n }
 
--- it is a candidate there
+-- under an expansion, a parameter that names a pack is found, and becomes a candidate
 pack-found : (around : Around) (k at : ℕ) (st : State) (ts : List Term) → IsPackThere around k ts
     → parameter_named (under_expansion around) at k (begun st) ≡ Ok (with_candidate around (parameter k) (named_many (count (list_of ts)) st))
 unfolding parameter_named with_packs appended under_expansion length_if_pack
 pack-found around k at st ts p = rw (p.scope_is, lt-ltb k (count p.all) p.there.1, p.there.0, parameter_named) refl
 
--- the parameter is accepted
+-- the parameter that names the pack is accepted
 pack-comes : (s : Symbol) (kind : Kind) (around : Around) (os : List Opened) (k at : ℕ) (st : State) (ts : List Term) → IsTyped kind → k ≤ most_by_digit → IsPackThere around k ts
     → Expects s kind (under_expansion around) os at (begun st) → StandsAt s.bytes at (84 ∷ (parameter_digits k ++ 95 ∷ []))
     → Comes s os (tree (parameter k) true) (at + 1 + length (parameter_digits k ++ 95 ∷ [])) (with_candidate around (parameter k) (named_many (count (list_of ts)) st))
@@ -300,7 +300,7 @@ trees_of Pattern.Lvalue t = t ∷ lvalue t ∷ []
 trees_of Pattern.ConstLvalue t = t ∷ as_const t ∷ lvalue (as_const t) ∷ []
 trees_of Pattern.Rvalue t = t ∷ rvalue t ∷ []
 
--- they become candidates
+-- the state once these trees are candidates
 abbrev with_trees : Around → List Term → State → State
 with_trees around [] st = st
 with_trees around (t ∷ ts) st = with_trees around ts (with_candidate around t st)
@@ -320,7 +320,7 @@ marked-comes s byte made around os k at st ts few there opens stands =
     (o.onward (parameter k) (at + 1 + 1 + length (parameter_digits k ++ 95 ∷ [])) own
     (pack-comes s Kind.Type around o.inner k (at + 1) st ts tt few there o.awaits both.1))
 
--- what the pattern makes of it is accepted
+-- what the pattern makes of the parameter is accepted
 pattern-comes : (s : Symbol) (pattern : Pattern) (around : Around) (os : List Opened) (k at : ℕ) (st : State) (ts : List Term) → k ≤ most_by_digit → IsPackThere around k ts
     → Expects s Kind.Type (under_expansion around) os at (begun st) → StandsAt s.bytes at (pattern_letters pattern ++ 84 ∷ (parameter_digits k ++ 95 ∷ []))
     → Comes s os (tree (made_by pattern (parameter k)) true) (at + length (pattern_letters pattern ++ 84 ∷ (parameter_digits k ++ 95 ∷ [])))
@@ -346,7 +346,7 @@ pattern-comes s Pattern.ConstLvalue around os k at st ts few there expects stand
 pattern-comes s Pattern.Rvalue around os k at st ts few there expects stands =
     marked-comes s 79 rvalue around os k at st ts few there (λ first. reference-type-opens s Kind.Type false (under_expansion around) os at (begun st) tt expects first) stands
 
--- the candidates after it
+-- the state after an expansion, with its candidates
 abbrev pub with_expansion : Pattern → (k size : ℕ) → Around → State → State
 with_expansion pattern k size around st =
     with_candidate around (expansion (made_by pattern (parameter k)))
@@ -368,7 +368,7 @@ expansion-comes s pattern around os k at st ts few there expects stands =
     let refers = fill expanded (tree (made_by pattern (parameter k)) true) (at + 1 + 1 + length letters) made comes in
     (filled-at (at + length (expansion_letters pattern k)) (closes Production.ItemWithD (closes Production.Expansion refers refl) refl) (omega arith)).comes
 
--- its letters are side by side
+-- the letters of an expansion are side by side
 pub letters-stand : (s : List ℕ) (pattern : Pattern) (k at second third named digits : ℕ) → StandsAt s at (68 ∷ []) → second ≡ at + 1 → StandsAt s second (112 ∷ [])
     → third ≡ second + 1 → StandsAt s third (pattern_letters pattern) → named ≡ third + length (pattern_letters pattern) → StandsAt s named (84 ∷ [])
     → digits ≡ named + 1 → StandsAt s digits (parameter_digits k ++ 95 ∷ []) → StandsAt s at (expansion_letters pattern k)
@@ -393,7 +393,7 @@ none-left : (l : List Term) → length l ≡ 0 → l ≡ []
 none-left [] e = refl
 none-left (t ∷ ts) e = absurd (omega (arith, e))
 
--- all were written
+-- once all elements are written, no element remains
 all-expanded : {detail : Detail} (pattern : Pattern) (before w : Direct) (ts : List Term) (number : ℕ) → length ts ≡ number → (f : AreExpanded detail pattern before w ts number)
     → f.rest ≡ []
 all-expanded pattern before w ts number all f = none-left f.rest (omega (arith, all, f.count, ap length f.all, length-append f.done f.rest))
@@ -412,7 +412,7 @@ comma-between [] (suc k) bytes e = absurd (omega (arith, e))
 comma-between (d ∷ done) zero bytes e = absurd (omega (arith, e))
 comma-between (d ∷ done) (suc k) bytes e = refl
 
--- where an element is
+-- an element of the pack is within what is written
 pub expanded-inside : {detail : Detail} (pattern : Pattern) (before w one : Direct) (ts : List Term) (argument : Arguments) (number : ℕ) (place : Argument)
     → IsPackOf detail before.text.list.items argument ts
     → AreExpanded detail pattern before w ts number → place ≡ place_of argument (argument.before + number) → IsKnown argument (argument.before + number) → Writes w one (comma_text number)
@@ -425,7 +425,7 @@ expanded-inside pattern before w one ts argument number place p f is known write
       omega (arith, ap (λ (k : Argument). k.to) is, inside.1, ap length writes.text, length-append {A = ℕ}, ap length f.writes.text),
     )
 
--- what the pattern makes of one more is written
+-- what the pattern makes of one more element is written
 pub expanded-more : {detail : Detail} (pattern : Pattern) (before w one two new : Direct) (ts : List Term) (argument : Arguments) (number : ℕ) (place : Argument) (marks : List ℕ)
     → IsPackOf detail before.text.list.items argument ts → AreExpanded detail pattern before w ts number
     → place ≡ place_of argument (argument.before + number) → IsKnown argument (argument.before + number) → Writes w one (comma_text number)
@@ -464,7 +464,7 @@ expanded-more {detail} pattern before w one two new ts argument number place mar
       };
     }
 
--- this many unknown candidates
+-- trees become candidates with unknown texts
 trees-hidden : (s : Symbol) (scope : Scope) (text : List ℕ) (around : Around) (ts : List Term) (ks : List Candidate) (st : State) → AreCandidates s scope text ks st.candidates
     → AreCandidates s scope text (ks ++ replicate (length ts) hidden) (with_trees around ts st).candidates
 trees-hidden s scope text around [] ks st known = subst (λ l. AreCandidates s scope text l st.candidates) (sym (append-nil ks)) known
@@ -472,7 +472,7 @@ trees-hidden s scope text around (t ∷ ts) ks st known =
     subst (λ l. AreCandidates s scope text l (with_trees around ts (with_candidate around t st)).candidates) (append_assoc ks (hidden ∷ []) (replicate (length ts) hidden))
     (trees-hidden s scope text around ts (ks ++ hidden ∷ []) (with_candidate around t st) (one-hidden s scope text ks st.candidates (candidate around t) known))
 
--- each tree that a pattern makes is one, and so is the expansion
+-- each tree that a pattern makes becomes an unknown candidate, and so does the expansion
 expansion-hidden : (s : Symbol) (scope : Scope) (text : List ℕ) (ks : List Candidate) (around : Around) (pattern : Pattern) (k size : ℕ) (st : State)
     → AreCandidates s scope text ks st.candidates
     → AreCandidates s scope text (ks ++ replicate (2 + length (pattern_letters pattern)) hidden) (with_expansion pattern k size around st).candidates
@@ -489,7 +489,7 @@ expansion-hidden s scope text ks around Pattern.Rvalue k size st known =
     let p = parameter k in
     trees-hidden s scope text around (p ∷ rvalue p ∷ expansion (rvalue p) ∷ []) ks st known
 
--- so what is known of the candidates before is known of those with them
+-- after an expansion a writer keeps what it kept
 abbrev expansion-kept : (s : Symbol) (w new : Direct) (around : Around) (pattern : Pattern) (k size : ℕ) (kept : Kept s w)
     → new.text ≡ w.text → new.candidates.list.items ≡ w.candidates.list.items ++ replicate (2 + length (pattern_letters pattern)) hidden
     → new.has_scope ≡ w.has_scope → Kept s new
@@ -497,7 +497,7 @@ expansion-kept s w new around pattern k size kept text candidates scope_ =
     kept-as s w new (with_expansion pattern k size around kept.state) kept text candidates scope_
     (expansion-hidden s kept.scope w.text.list.items w.candidates.list.items around pattern k size kept.state kept.keeps.candidates)
 
--- parameters continue after it
+-- parameters continue after an expansion
 expansion-goes : (s : Symbol) (pattern : Pattern) (w : Direct) (is_first : Bool) (mark : Mark) (start : ℕ) (argument : Arguments)
     (a : AreParametersRead s w 3 is_first mark start argument) → argument.has_pack ≡ true → argument.before ≤ most_by_digit
     → StandsAt s.bytes w.at (expansion_letters pattern argument.before)
@@ -517,7 +517,7 @@ expansion-goes s pattern w is_first mark start argument a has_pack below stands 
       parameter-goes_on s argument (λ x there then_. EncodedBehind s a.lead x there then_) a.make a.ts w.at a.state a.goes t end later (item.onward t end later comes),
     )
 
--- the elements are at their places where a comma is written
+-- the elements stay at their places when a comma is written
 pub pack-separated : (s : Symbol) {extra : ℕ} (w mid : Direct) (is_first : Bool) (mark : Mark) (start : ℕ) (argument : Arguments) (end : ℕ)
     (a : AreParametersRead s w extra is_first mark start argument) (has_pack : argument.has_pack ≡ true) → Writes (record w { at = end }) mid (separator is_first)
     → IsPackOf (detail_of s) mid.text.list.items argument (a.is_function.names.1 has_pack).elements
@@ -526,7 +526,7 @@ pack-separated s w mid is_first mark start argument end a has_pack one =
     subst (λ l. IsPackOf (detail_of s) l argument packed.elements) (sym one.text)
     (pack-stays w.text.list.items (separator is_first) argument packed.elements packed.are)
 
--- it is read, and what it makes of each element is written
+-- an expansion is read, and what its pattern makes of each element is written
 pub expansion-read : (s : Symbol) (pattern : Pattern) (old mid last new : Direct) (is_first : Bool) (mark : Mark) (start : ℕ) (argument : Arguments) (end : ℕ)
     (a : AreParametersRead s old 3 is_first mark start argument) (has_pack : argument.has_pack ≡ true) → argument.elements ≢ 0
     → argument.before ≤ most_by_digit → StandsAt s.bytes old.at (expansion_letters pattern argument.before)
@@ -572,7 +572,7 @@ expansion-read s pattern old mid last new is_first mark start argument end a has
       },
     )
 
--- where there is no element the function ends
+-- the expansion of an empty pack is read, and the function ends
 pub nothing-read : (s : Symbol) (pattern : Pattern) (old new : Direct) (is_first : Bool) (mark : Mark) (start : ℕ) (argument : Arguments)
     (a : AreParametersRead s old 3 is_first mark start argument) (has_pack : argument.has_pack ≡ true) → argument.elements ≡ 0
     → argument.before ≤ most_by_digit → StandsAt s.bytes old.at (expansion_letters pattern argument.before)

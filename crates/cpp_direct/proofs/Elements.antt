@@ -4,7 +4,7 @@ use Rattle.cpp_direct.proofs.AllRead.{ends-so, element-kind, element-goes-on, en
 
 -- ## Digits
 
--- a zero before more digits counts nothing
+-- a zero before more digits is left out
 pub normal-step : (xs : List ℕ) (at : ℕ) → at + 1 < length xs → get_or xs at 0 ≡ 48 → normal (drop (at + 1) xs) ≡ normal (drop at xs)
 unfolding normal
 normal-step xs at inside zero_there =
@@ -15,7 +15,7 @@ normal-step xs at inside zero_there =
     front d [] some is = absurd (omega (arith, some))
     front d (e ∷ ds) some is = rw is refl
 
--- another digit stays
+-- a digit other than zero stays
 pub normal-other : (xs : List ℕ) (at : ℕ) → at + 1 < length xs → get_or xs at 0 ≢ 48 → normal (drop at xs) ≡ drop at xs
 unfolding normal
 normal-other xs at inside other =
@@ -26,7 +26,7 @@ normal-other xs at inside other =
     front d [] not_zero = refl
     front d (e ∷ ds) not_zero = rw (ne_eqb d 48 not_zero, normal) refl
 
--- and neither does a last one
+-- digits stay as they are if there is at most one
 pub normal-short : (ds : List ℕ) → length ds ≤ 1 → normal ds ≡ ds
 unfolding normal
 normal-short [] few = refl
@@ -40,14 +40,14 @@ pub plain-digits : (ns ds : List ℕ) (n : Bool) → ns ≡ normal ds → n ≡ 
 unfolding signed_digits
 plain-digits ns ds n is e = is ∙ sym (ap (λ b. number_text (signed_digits b ds)) e)
 
--- and zero has no sign
+-- zero has no sign
 pub zero-digits : (ns ds : List ℕ) (n : Bool) → ns ≡ normal ds → n ≡ true → true ≡ is_zero ns → ns ≡ number_text (signed_digits n ds)
 unfolding signed_digits
 zero-digits ns ds n is e zero_there =
     is ∙ sym (ap (λ b. number_text (signed_digits b ds)) e
     ∙ ap (λ (b : Bool). cond (true && not b) (codes "-") [] ++ normal ds) (ap is_zero (sym is) ∙ sym zero_there))
 
--- another negative number has one
+-- a negative number other than zero has a sign
 pub minus-digits : (ns ds : List ℕ) (n : Bool) → ns ≡ normal ds → n ≡ true → false ≡ is_zero ns → codes "-" ++ ns ≡ number_text (signed_digits n ds)
 unfolding signed_digits
 minus-digits ns ds n is e other =
@@ -122,7 +122,7 @@ cast-text : (letter : ℕ) (n : Signed) → is_plain_integer (builtin (letter �
     → codes "(" ++ look_up (letter ∷ []) builtin_texts ++ codes ")" ++ number_text n ≡ integer_text letter n
 cast-text letter n e = rw (e, integer_text) refl
 
--- an integer without its type was read
+-- an integer was read that is written without its type
 pub plain-integer-read : (s : List ℕ) (old middle there new : Direct) (letter : ℕ) (ending : List ℕ) → (letter ≢ 0 → StandsAt s old.at (letter ∷ []))
     → true ≡ is_integer_letter letter → true ≡ is_plain_integer (builtin (letter ∷ [])) → middle.at ≡ old.at + 1 → Reads old middle []
     → IsNumberRead s middle there → ending ≡ look_up (letter ∷ []) literal_endings → Reads there new ending → there.at ≡ new.at → IsIntegerRead s old new
@@ -139,7 +139,7 @@ plain-integer-read s old middle there new letter ending first is plain next begu
           (reads-then old there new (number_text n) ending (reads-then old middle there [] (number_text n) begun read.4) written),
     )
 
--- an integer after its type was read
+-- an integer was read that is written after its type
 pub cast-integer-read : (s : List ℕ) (old middle new : Direct) (letter : ℕ) → (letter ≢ 0 → StandsAt s old.at (letter ∷ []))
     → true ≡ is_integer_letter letter → false ≡ is_plain_integer (builtin (letter ∷ [])) → middle.at ≡ old.at + 1
     → Reads old middle (codes "(" ++ look_up (letter ∷ []) builtin_texts ++ codes ")") → IsNumberRead s middle new → IsIntegerRead s old new
@@ -263,7 +263,7 @@ integer-literal-read s old begun middle new first next nothing read ended =
 
 -- ## Enumerators
 
--- an argument was begun that is an enumerator
+-- an argument that is an enumerator was begun
 pub enumerator-expected : (s : Symbol) (old begun pushed new : Direct) (a : AwaitsNextArgument s old) → StandsAt s.bytes old.at (76 ∷ [])
     → begun.at ≡ old.at + 1 → Reads old begun [] → Writes begun pushed (codes "(")
     → new.text.list.items ≡ pushed.text.list.items → new.candidates ≡ pushed.candidates → new.has_scope ≡ pushed.has_scope
@@ -292,7 +292,7 @@ enumerator-expected s old begun pushed new a stands next nothing writes text can
       begins = subst (λ k. TreeOpens s Kind.LiteralType e.inner a.goes.0 k a.state) (sym (at ∙ writes.at ∙ next)) e.opens;
     }
 
--- a type after a bracket at the end of one is none of these
+-- if a text doesn't end in the name of a type whose integers omit the type, neither do the bytes after a bracket in it
 pub no-integer-type : (text front bytes : List ℕ) → text ≡ front ++ codes "(" ++ bytes → EndsOtherwise text → EndsAsInteger bytes → ⊥
 no-integer-type text front bytes e other ending = go ending.1
   where
@@ -308,7 +308,7 @@ no-integer-type text front bytes e other ending = go ending.1
     go (inr (inr (inl is))) = false≢true (sym other.long ∙ ends-so text front (codes "(long") (whole (codes "long") is))
     go (inr (inr (inr is))) = false≢true (sym other.blank_long ∙ ends-so text (front ++ codes "(" ++ ending.0) (codes " long") (behind (codes " long") is))
 
--- the number of an enumerator was read after its type, and an E
+-- the number of an enumerator and its E were read after the type
 pub enumerator-read : (s : Symbol) (old begun pushed middle new : Direct) (a : AwaitsNumber s old)
     → EndsOtherwise old.text.list.items → begun.text ≡ old.text → begun.candidates ≡ old.candidates → begun.has_scope ≡ old.has_scope → begun.at ≡ old.at
     → reverse begun.waiting.list.items ≡ a.opened → Writes begun pushed (codes ")") → (read : IsNumberRead s.bytes pushed middle)

@@ -5,7 +5,7 @@ use Rattle.cpp_direct.proofs.PrintedLocals.{object-enclosing, function-encloses,
 
 -- ## The end
 
--- an encoding that ends with the symbol is the symbol
+-- if an encoding ends with the symbol, the encoding's text is written of the whole symbol
 pub whole-plain : (s : Symbol) (e : Term) (at : ℕ) (text : List ℕ) → Encoded s e at → Shows (detail_of s) e text → at ≡ length s.bytes → IsWhole s text
 whole-plain s e at text encoded shows ended = record {
   whole = symbol e [];
@@ -14,7 +14,7 @@ whole-plain s e at text encoded shows ended = record {
   cost = symbol-cost (detail_of s) e text shows;
 }
 
--- with a suffix it is the symbol too
+-- if a suffix follows an encoding, the suffix in parentheses follows the encoding's text
 pub whole-suffixed : (s : Symbol) (e : Term) (at : ℕ) (text suffix : List ℕ) → Encoded s e at → Shows (detail_of s) e text → StandsAt s.bytes at suffix
     → at + length suffix ≡ length s.bytes → IsSuffix suffix → IsWhole s (text ++ codes " (" ++ suffix ++ codes ")")
 whole-suffixed s e at text [] encoded shows stands ended is = absurd is
@@ -25,14 +25,14 @@ whole-suffixed s e at text (d ∷ rest) encoded shows stands ended is = record {
   cost = suffix-cost (detail_of s) e text shows d rest;
 }
 
--- the rest of a symbol from a place on is there, and the symbol ends with it
+-- the rest of a symbol is at its place, and ends the symbol
 pub rest-stands : (s suffix : List ℕ) (at : ℕ) → at ≤ length s → suffix ≡ take (length s - at) (drop at s)
     → StandsAt s at suffix × (at + length suffix ≡ length s)
 rest-stands s suffix at inside is =
     let same : suffix ≡ drop at s = is ∙ take_rest s at in
     (([], sym same ∙ sym (append-nil suffix)), omega (arith, inside, ap length same, length-drop at s))
 
--- an encoding whose qualifiers are written
+-- the qualifiers of an encoding are written
 pub marks-written : (s : Symbol) (old new : Direct) (mark : Mark) → IsEncodingEnded s old mark → Writes old new (mark_text mark)
     → IsEncodingEnded s new Mark.Plain
 marks-written s old new mark p writes = record {
@@ -48,7 +48,7 @@ marks-written s old new mark p writes = record {
   same = p.same;
 }
 
--- an encoding in which no entity is ends the symbol
+-- an encoding that contains no entity ends the symbol
 pub symbol-ended : (s : Symbol) (w : Direct) → IsEncodingEnded s w Mark.Plain → is_local s.bytes ≡ false → IsSymbolEnded s w
 symbol-ended s w p apart =
     let behind : EndsBehind s p.lead p.e w.at = p.behind.whole apart in
@@ -59,7 +59,7 @@ symbol-ended s w p apart =
       shows = subst (λ l. Shows (detail_of s) behind.made l) (sym p.written ∙ append-nil w.text.list.items) (behind.shows p.bytes p.shows);
     }
 
--- the symbol is written where it has no suffix
+-- a symbol without a suffix is written
 pub ends-plain : (s : Symbol) (suffix : List ℕ) (w : Direct) → IsSymbolEnded s w → w.at ≤ length s.bytes → suffix ≡ take (length s.bytes - w.at) (drop w.at s.bytes)
     → length suffix ≡ 0 → IsWriting s w Step.Ended
 ends-plain s suffix w p inside is none = record {
@@ -68,7 +68,7 @@ ends-plain s suffix w p inside is none = record {
       (omega (arith, none, (rest-stands s.bytes suffix w.at inside is).1));
 }
 
--- and also where it has one
+-- a symbol with a suffix is written
 pub ends-suffixed : (s : Symbol) (suffix : List ℕ) (w first second last : Direct) → IsSymbolEnded s w → w.at ≤ length s.bytes
     → suffix ≡ take (length s.bytes - w.at) (drop w.at s.bytes) → IsSuffix suffix
     → Writes w first (codes " (") → Writes first second suffix → Writes second last (codes ")") → IsWriting s last Step.Ended
@@ -85,7 +85,7 @@ ends-suffixed s suffix w first second last p inside is is_suffix one two three =
 
 -- ## Names
 
--- what follows an encoding with these qualifiers
+-- the text of these qualifiers after an encoding
 pub plain-text : (mark : Mark) → encoding_text (qualifiers (has_const mark)) (called_on mark) ≡ mark_text mark
 unfolding encoding_text qualifier_text ref_text
 plain-text Mark.Plain = refl
@@ -98,7 +98,7 @@ plain-text Mark.ConstRvalue = refl
 pub qualifiers-text : (v : Value) (mark : Mark) (own : Term) → IsNamedSo v own mark → encoding_text (qualifiers_of v) (ref_of v) ≡ mark_text mark
 qualifiers-text v mark own is = rw (is.qualifiers_are, is.mark_is) (plain-text mark)
 
--- a name without items is an encoding
+-- a name that no items follow is an encoding
 pub object-ended : (s : Symbol) (w : Direct) (mark : Mark) (is_instance : Bool) (argument_ : Arguments) (from : ℕ)
     → IsNameEnded s w mark is_instance argument_ from → IsEncodingEnded s w mark
 object-ended s w mark is_instance argument_ from p =
@@ -131,7 +131,7 @@ separated : (is_first : Bool) (ts : List Term) (l : List ℕ) → (is_first ≡ 
 separated true ts l none some = append-nil l ∙ ap (λ us. in_front_of_next us l) (sym (none refl))
 separated false ts l none some = sym (next-written ts l (some refl))
 
--- what precedes a parameter is the text of those before it
+-- the text before a parameter is that of the parameters before it, with a comma if there are any
 pub next-separated : (s : Symbol) {extra : ℕ} (w : Direct) (is_first : Bool) (mark : Mark) (start : ℕ) (argument : Arguments)
     (a : AreParametersRead s w extra is_first mark start argument) (text : List ℕ) → text ≡ w.text.list.items ++ separator is_first
     → text ≡ a.front ++ codes "(" ++ in_front_of_next a.ts a.texts
@@ -139,7 +139,7 @@ next-separated s w is_first mark start argument a text is =
     is ∙ ap (λ l. l ++ separator is_first) a.written ∙ append_assoc (a.front ++ codes "(") a.texts (separator is_first)
     ∙ ap (λ l. a.front ++ codes "(" ++ l) (separated is_first a.ts a.texts a.none a.some)
 
--- a name becomes one whose parameters continue after none
+-- after a name, parameters continue with none read yet
 pub none-go_on : (s : Symbol) (argument : Arguments) (lead : List ℕ) (v : Value) (at : ℕ) (st : State) (p : TakesItems s lead v at st)
     → HasScope argument p.around → ParametersGoOn s argument lead (λ l. encoding_of v l) [] at st
 none-go_on s argument lead v at st p scoped = record { around = p.around; inner = p.inner; outside = p.outside; scoped = scoped; awaits = p.awaits; onward = p.onward }
@@ -159,7 +159,7 @@ parameter-goes_on s argument becomes make ts at st p t here now goes = record {
       (p.onward (tree (list t (no_items l)) true) there then_ (goes.onward l there then_ comes));
 }
 
--- a parameter comes next, for what is then open once the parameter is taken
+-- a parameter comes next, and the open entries wait for it
 pub item-comes : (s : Symbol) (old new : Direct) (kept : Kept s old) (argument : Arguments) (becomes : Term → (at : ℕ) → State → Type 0) (make : Term → Term) (ts : List Term) (at : ℕ)
     (goes : ItemsGoOn s argument becomes make ts at kept.state) (ws : List Open) → new.text ≡ old.text → new.candidates ≡ old.candidates → new.has_scope ≡ old.has_scope
     → new.at ≡ at → reverse new.waiting.list.items ≡ ws
@@ -172,7 +172,7 @@ item-comes s old new kept argument becomes make ts at goes ws text candidates sc
     (stands element.inner (λ t here now comes. parameter-goes_on s argument becomes make ts at kept.state goes t here now (element.onward t here now comes)))
     scoped
 
--- what precedes it is written
+-- a parameter is expected, once the text before it is written
 pub parameter-expected : (s : Symbol) (w last : Direct) (is_first : Bool) (mark : Mark) (start : ℕ) (argument : Arguments)
     → AreParametersRead s w 3 is_first mark start argument → Writes w last (separator is_first) → IsWriting s last Step.Type
 parameter-expected s w last is_first mark start argument a one =
@@ -190,7 +190,7 @@ pub no-text : (l : List ℕ) (from : ℕ) → from ≡ length l → from ≡ 0 �
 no-text [] from is none = refl
 no-text (b ∷ bs) from is none = absurd (omega (arith, is, none))
 
--- in the types of an encoding parameters may name the arguments that its name ends in
+-- in the types of an encoding, parameters may name the arguments that its name ends in
 pub types-scoped : {detail : Detail} (text : List ℕ) (argument : Arguments) (around : Around) (own : Term) → IsEncodedAt argument.encoding around
     → around.scope ≡ arguments_of own → HasArguments detail text argument own → HasScope argument around
 types-scoped text argument around own encoded scope_is names = (
@@ -213,7 +213,7 @@ fronts-of : (is_bare : Bool) (front : List ℕ) (start : ℕ) (lead name : List 
 fronts-of true front start lead name is none all = ([], is ∙ sym (append-nil (lead ++ name)), all refl ∙ ap length is)
 fronts-of false front start lead name is none all = ([], is, none refl)
 
--- the name of a function is read that has no return type
+-- the name of a function that has no return type is read
 pub parameters-begin : (s : Symbol) (w : Direct) (mark : Mark) (is_instance : Bool) (argument : Arguments) (from start : ℕ)
     → IsNameScoped s w mark is_instance argument from → is_instance ≡ false
     → (s.is_bare ≡ false → start ≡ 0) → (s.is_bare ≡ true → start ≡ length w.text.list.items) → AwaitsParameters s w mark start argument
@@ -260,7 +260,7 @@ first-expected s w first last mark start argument p one text candidates scope_sa
 
 -- ## What precedes an encoding's text
 
--- where the candidates are gone, or before a local entity nowhere, the rest is kept
+-- a writer keeps what may be named when its candidates are removed or, before a local entity, become nowhere
 pub left-kept : (s : Symbol) (old new : Direct)
     → ((is_local s.bytes ≡ false) × (new.candidates.list.items ≡ [])) ⊎ AreLeft Hiding.All old.candidates.list.items new.candidates.list.items
     → new.has_scope ≡ old.has_scope → (kept : Kept s old) → (k : Kept s new) × (is_local s.bytes ≡ true → kept.state ≡ k.state)
@@ -290,7 +290,7 @@ left-kept s old new without scope_same kept = go without
       λ e. refl,
     )
 
--- where that is removed, the remaining candidates are some of the old ones, and all of them before a local entity
+-- what a writer keeps when the text before a place is removed; before a local entity its state stays
 pub cut-kept : (s : Symbol) (old new : Direct) (start : ℕ) → Cuts s.bytes old new start → (kept : Kept s old) → (k : Kept s new) × (is_local s.bytes ≡ true → kept.state ≡ k.state)
 cut-kept s old new start cuts kept = go cuts.candidates
   where
@@ -307,7 +307,7 @@ cut-kept s old new start cuts kept = go cuts.candidates
     )
     go (inr without) = left-kept s old new without cuts.scope kept
 
--- and the text is what followed it
+-- once the text before a place is removed, the text is what followed it
 pub cut-text : {s : List ℕ} (old new : Direct) (start : ℕ) (aside text : List ℕ) → Cuts s old new start → start ≡ length aside → old.text.list.items ≡ aside ++ text
     → new.text.list.items ≡ text
 cut-text old new start aside text cuts start_is written =
@@ -343,7 +343,7 @@ front-begins s w new mark argument from start scoped apart start_is text candida
     text candidates scope_same at (ap reverse waiting ∙ reverse-last w.waiting.list.items (Open.Front mark start argument)) (λ os onward. (has, onward))
     (entry-scoped p.scope goes.around (Open.Front mark start argument) argument rest refl refl scoped.named goes.scoped)
 
--- it is read still where something else changes
+-- a return type that was read stays read if only the open entries change
 pub front-same : (s : Symbol) (w new : Direct) (mark : Mark) (start : ℕ) (argument : Arguments) → IsFrontRead s w mark start argument
     → new.text ≡ w.text → new.candidates ≡ w.candidates → new.has_scope ≡ w.has_scope → new.at ≡ w.at → IsFrontRead s new mark start argument
 front-same s w new mark start argument p text candidates scope_same at = record {
@@ -358,8 +358,8 @@ front-same s w new mark start argument p text candidates scope_same at = record 
   goes = subst (λ n. ParametersGoOn s argument p.lead (encoding_of p.v) (p.returned ∷ []) n p.state) (sym at) p.goes;
 }
 
--- An encoding that has a return type ends what the one without it does: the return type precedes the text where there is no
--- local entity. Before an entity a function shows no return type.
+-- An encoding with a return type ends the symbol like the same encoding without one: its return type precedes the text if there
+-- is no local entity. Before an entity a function shows no return type.
 returned-behind : (s : Symbol) {scope : Scope} {argument : Arguments} {mark : Mark} {v : Value} {name text : List ℕ} (is : IsInstance (detail_of s) scope text argument mark v name)
     (r items : Term) (at : ℕ) (st : State) (lead front : List ℕ) → (is_local s.bytes ≡ true → front ≡ lead)
     → (is_local s.bytes ≡ false → (bytes : List ℕ) → Shows (detail_of s) (plain_encoding mark is.own items) bytes
@@ -391,7 +391,7 @@ returned-behind s {mark = mark} {v = v} is r items at st lead front hidden shown
       };
     }
 
--- after the return type expects parameters, where this was written since
+-- expects parameters after the return type, once the text before them is written
 front-leads : (s : Symbol) (w last : Direct) (mark : Mark) (start to : ℕ) (argument : Arguments) (p : IsFrontRead s w mark start argument) (front lead : List ℕ)
     → Keeps s p.scope last p.state.candidates
     → IsOwnName (detail_of s) p.scope last.text.list.items argument p.is_instance.own p.name → Fronts s.is_bare front to lead p.name → last.text.list.items ≡ front
@@ -490,7 +490,7 @@ void-read s argument becomes make at st p stands =
     p.onward (tree (list t nil) true) (at + 1) st
     (goes.onward nothing_there (at + 1) st (expects-empty s Kind.Items p.around goes.inner (at + 1) st goes.awaits refl))
 
--- a name with its parameters is a function, followed at most by something that prints nothing
+-- a name with its parameters is a function; after them may come an item that prints nothing
 items-ended : (s : Symbol) {scope : Scope} {extra : ℕ} {ts : List Term} {texts text : List ℕ} (here : Direct) (mark : Mark) (start : ℕ) (argument : Arguments)
     (p : HasParameters s extra scope text mark start argument ts texts) (shown : List ℕ) (e items : Term) → here.text.list.items ≡ p.front ++ codes "(" ++ shown → (kept : Kept s here)
     → e ≡ function p.is_function.own (qualifiers (has_const mark)) (called_on mark) absent items
@@ -517,7 +517,7 @@ items-ended s here mark start argument p shown e items written kept is printed b
       behind = behind;
     }
 
--- one with a lone void is a function without parameters
+-- a name with a lone void is a function without parameters
 pub void-ended : (s : Symbol) (w first here : Direct) (mark : Mark) (start : ℕ) (argument : Arguments) → AwaitsParameters s w mark start argument
     → StandsAt s.bytes w.at (118 ∷ [])
     → Writes w first (codes "(") → here.text ≡ first.text → here.candidates ≡ first.candidates → here.has_scope ≡ first.has_scope → here.at ≡ first.at + 1
@@ -545,7 +545,7 @@ function-ended s w mark start argument r apart =
     (subst (λ u. EncodedBehind s p.lead (p.make u) w.at p.state) (list-with-none p.ts)
     (p.goes.onward nothing_there w.at p.state (expects-empty s Kind.Items p.goes.around p.goes.inner w.at p.state p.goes.awaits refl)))
 
--- also where the last of them prints nothing
+-- likewise if the last parameter prints nothing
 pub nothing-ended : (s : Symbol) (w here : Direct) (is_first : Bool) (mark : Mark) (start : ℕ) (argument : Arguments)
     (p : AreParametersRead s w 3 is_first mark start argument) (t : Term) (kept : Kept s here)
     → here.text ≡ w.text → is_empty (types_of p.is_function.own) t ≡ true → is_void t ≡ false
@@ -620,21 +620,21 @@ function-named s w new mark start p bare leaves =
       same = left.1;
     }
 
--- the name is within what is written
+-- the name of a function is within what is written
 pub name-within : (s : Symbol) (w : Direct) (mark : Mark) (start : ℕ) (p : IsFunctionEnded s w mark start) → s.is_bare ≡ true → start ≤ length w.text.list.items
 name-within s w mark start p bare =
     let fronts = subst (λ b. Fronts b p.front start p.lead p.name) bare p.fronts in
     let named = p.lead ++ p.name in
     omega (arith, fronts.2, ap length p.written, length-append (p.front ++ codes "(") p.texts, length-append p.front (codes "("), ap length fronts.1, length-append named fronts.0)
 
--- a text with this end
+-- the test of how a text ends compares its last bytes alone
 pub ends-so : (text front last : List ℕ) → text ≡ front ++ last → ends_with nat_eq text last ≡ pointwise nat_eq last last
 ends-so text front last e =
     let size : length text - length last ≡ length front = omega (arith, ap length e, length-append front last) in
     ap (λ n. pointwise nat_eq last (drop n text)) size ∙ ap (λ l. pointwise nat_eq last (drop (length front) l)) e
     ∙ ap (λ l. pointwise nat_eq last l) (drop-append_seam front last)
 
--- parameters with another end aren't a lone void
+-- parameters aren't a lone void if the text doesn't end in a bracket and void
 pub no-void : (text name parameters : List ℕ) → text ≡ name ++ codes "(" ++ parameters → ends_with nat_eq text (codes "(void") ≡ false
     → parameters ≢ codes "void"
 no-void text name parameters e other same =

@@ -1,4 +1,4 @@
--- What answers use: the crate's lemmas, its definitions and the libraries, in one place to import it from.
+-- The lemmas, definitions and libraries that answers use, exported from one place.
 pub use Rattle.cpp_direct.proofs.Basics.{AreExpanded, AreLeft, Arguments, AwaitsKnownArgument, AwaitsParameter, AwaitsSignature, Candidate, Detail, Hiding, IsAddressNamed, IsDigitsAt, IsElementPassed, IsEnclosingNamed, IsInstanceNamed, IsLeft, IsName, IsNameAt, IsNameEnded, IsNameScoped, IsNestKnown, IsNumberToken, IsOwn, IsPackOf, IsReferable, IsScopedWithin, IsSeqAt, IsSizeAt, IsWriting, Kind, List, Lists, NameClass, Nest, None, NumberKind, Open, PrintsAs, ReachesNameBytes, Reads, Some, StandsAt, Stays, Step, TakesFunction, Term, Writes, [], added_unless, ap, append-nil, append_assoc, argument_of, arith, bit_or, builtin_texts, by_digit, by_digits, codes, counted_value, detail_by, drop, drop-append_seam, ends_with, eqb-true, false, false≢true, get_or, hidden, hidden_behind, if◌then◌else◌, inl, inr, is_name_byte, is_type, lambda_digits, lambda_number, length, length-chunk, length-drop, look_up, lvalue, nat_eq, nil, nowhere, operator_texts, parameter_digits, pointer, qualified, qualifiers, refl, reverse, rvalue, set-get_or, short_numbers, slice_set, source, source_text, special_texts, subst, suc, sym, symbol_by, take, take_rest, true, unnumbered, with_hidden, zip2_of_maps, zip2_splat, ℕ, ◌++◌, ◌+◌, ◌-◌, ◌==◌, ◌∙◌, ◌∷◌, ◌≡◌, ◌≢◌, ◌≤◌}
 pub use Rattle.cpp_direct.proofs.Kept.{AreGoneOver, all-gone, candidate-inside, none-named, one-gone, opened-so, reverse-last}
 pub use Rattle.cpp_direct.proofs.LettersTested.{operator-listed}

@@ -1,5 +1,4 @@
--- Functions within something else, a function that contains a type or one whose address is an argument: from their names to
--- their ends.
+-- Functions read after a text, since they contain a type or their address is an argument: from their names to their ends.
 use Rattle.cpp_direct.proofs.AllGround.{Comes, Discriminator, Expects, IsDiscriminatorAt, IsNameAt, IsPieceAt, Opened, StandsAt, local_in, with_candidate, added, AddressWithin, AreLeft, AreNamed, Arguments, AwaitsArgumentOfName, AwaitsFront, AwaitsLed, AwaitsLedParameters, AwaitsNamedType, AwaitsNest, AwaitsTypeName, below, called_on, detail_of, Direct, Encloses, has_const, HasArguments, HasLed, HasNameSo, HasScope, in_front_of_next, IsAddressed, IsAddressedRead, IsAddressNamed, IsBuiltinAt, IsElementIn, IsElementRead, IsEnclosingNamed, IsEnclosingParameterRead, IsEnclosingRead, IsGiven, IsInnerFrontRead, IsLedFunction, IsLedFunctionRead, IsLedParameterRead, IsMarkPlace, IsNesting, IsOwn, IsScoped, IsTypeRead, IsWriting, ItemsGoOn, ItemsOf, Kept, list_of, Mark, mark_text, MarkPlace, no_scope, nowhere, Open, PrintsName, PrintsPiece, qualifiers, Reads, Scope, Serves, Shows, Stands, Symbol, TypeWithin, Writes, absent, address_of, after, alone, arguments_of, Around, builtin, encoding_of, function, has_return_type, in_name, in_types, is_function_type, Kind, list, may_be_empty, named, nil, no_items, nothing_there, parameters, source, source_text, State, Term, tree, tree_of, types_of, Value, ends_with, nat_eq, ◌≡◌, ◌≢◌, refl, ap, sym, ◌∙◌, subst, ℕ, ◌+◌, List, [], ◌∷◌, ◌++◌, length, reverse, true, false, arith, codes, append-nil, append_assoc, Bool, ◌-◌, take, slice_get, Some, ◌&&◌, ◌≤◌, length-append, false≢true, Hiding, Purpose, Step, kept-read, kept-same, kept-written, reverse-last, value-added, front-left, kept-closed, kept-cut, value-comes, expects-empty, stands-split, element-awaits, address-opens, reads-of, reads-then, element-in, type-in, list-in, list-with-none, next-prints-in, none-print-in, as-name, source-prints, has-none, has-parameters, encoding-plain, encoding-returned, object-encoded, function-shows, mark-opens, parameters-kept, void-shows, made-void, made-with, as-in, has-member, has-plain, arguments-named, entry-scoped, name-unmarked}
 use Rattle.cpp_direct.proofs.AllRead.{nest-awaited, no-void, item-comes, next-written, parameter-goes_on, qualifiers-text, types-scoped, plain-text, void-read, some-elements, last-found, encoding-opens, name-source, local-type-opens, nowhere-scoped, arguments-given, named-there, scope_at, scope-kept, nest-comes, closed-prints, object-enclosing, local-prints, address-prints, function-encloses, name-encloses, name-shows, returned-enclosing, builtin-item, popped}
 
@@ -13,7 +12,7 @@ LeadsSo = Scope → (own : Term) → (front name : List ℕ) → Type 0
 
 -- ## Names
 
--- Expects the name of a function, and makes something of the function.
+-- Expects the name of a function; `becomes` says what the function becomes.
 record NameOpened (s : Symbol) (becomes : Term → (at : ℕ) → State → Type 0) (at : ℕ) (st : State) : Type 0 where
   pub inner : List Opened
   pub awaits : Expects s Kind.CompleteName (in_name at) inner at st
@@ -39,12 +38,12 @@ name-opens s os around at st becomes expects then_ =
       };
     }
 
--- its types may name these arguments
+-- the types of a function may name these arguments
 pub items-scoped : {s : Symbol} {encoding : ℕ} {becomes : Term → (at : ℕ) → State → Type 0} (argument : Arguments) (v : Value) (at : ℕ) (st : State)
     (p : ItemsOf s encoding becomes v at st) → HasScope argument p.around → ItemsGoOn s argument becomes (λ l. encoding_of v l) [] at st
 items-scoped argument v at st p scoped = record { around = p.around; inner = p.inner; outside = p.outside; scoped = scoped; awaits = p.awaits; onward = p.onward }
 
--- the arguments that its name ends in are known now, and its types may name them
+-- the arguments that a function's name ends in are known now, and its types may name them
 pub now-scoped : {s : Symbol} {mark : Mark} {from : ℕ} {becomes : Term → (at : ℕ) → State → Type 0} (old new : Direct) (to : ℕ) (argument noted : Arguments) (kept : Kept s old)
     (p : HasNameSo s old.text.list.items mark from) → ItemsOf s argument.encoding becomes p.v old.at kept.state → old.has_scope ≡ false → new.has_scope ≡ true
     → new.text ≡ old.text → new.candidates ≡ old.candidates → argument ≡ record noted { encoding = argument.encoding }
@@ -67,14 +66,14 @@ now-scoped {s = s} old new to argument noted kept p items first now text candida
           (types-scoped here argument items.around p.own (λ real. (items.encoding_is, items.no_lambda)) (items.scope_is ∙ ap arguments_of p.named_so.tree_is) names),
     )
 
--- its return type was read
+-- the return type of a function was read
 pub returned-first : {s : Symbol} {argument : Arguments} {becomes : Term → (at : ℕ) → State → Type 0} (make : Term → Term) (r : Term) (at : ℕ) (st : State)
     (p : ItemsGoOn s argument becomes make (r ∷ []) at st) → ItemsGoOn s argument becomes (λ l. make (list r l)) [] at st
 returned-first make r at st p = record { around = p.around; inner = p.inner; outside = p.outside; scoped = p.scoped; awaits = p.awaits; onward = p.onward }
 
 -- ## Parameters
 
--- no parameter is there yet
+-- a function with no parameter read yet
 abbrev pub led-by : (s : Symbol) (extra : ℕ) (mark : Mark) (own returned : Term) (make : Term → Term) (front name : List ℕ) → PrintsName (detail_of s) own name
     → (has_return_type own ≡ false → returned ≡ absent)
     → ((t rest : Term) → make (list t rest) ≡ function own (qualifiers (has_const mark)) (called_on mark) returned (parameters (list t rest)))
@@ -91,7 +90,7 @@ led-by s extra mark own returned make front name prints none makes = record {
   elements = none-print-in (detail_of s) (types_of own) extra;
 }
 
--- one more is
+-- a function with one more parameter read
 abbrev led-more : (s : Symbol) {extra : ℕ} {mark : Mark} {ts : List Term} {texts : List ℕ} (f : IsLedFunction (detail_of s) extra mark ts texts) (t : Term) (bytes : List ℕ)
     → IsElementIn (detail_of s) (types_of f.own) extra t bytes → IsLedFunction (detail_of s) extra mark (ts ++ t ∷ []) (in_front_of_next ts texts ++ bytes)
 led-more s {extra = extra} {ts = ts} {texts = texts} f t bytes element = record {
@@ -123,7 +122,7 @@ plain-awaits {s = s} {extra = extra} {mark = mark} w kept p no_return leads goes
 
 -- ## Return types
 
--- after its return type, which is a builtin one, a function expects its parameters
+-- after a builtin return type, a function expects its parameters
 pub returned-awaits : {s : Symbol} {extra : ℕ} {mark : Mark} {from : ℕ} {argument : Arguments} {Leads : LeadsSo} {Within : WithinOpen} (w : Direct) (n : ℕ) (kept : Kept s w)
     (p : HasNameSo s w.text.list.items mark from) → has_return_type p.own ≡ true → Leads kept.scope p.own p.lead p.name
     → ItemsGoOn s argument (Within kept.scope (reverse w.waiting.list.items) p.lead) (λ l. encoding_of p.v l) [] w.at kept.state
@@ -159,7 +158,7 @@ front-awaits {s = s} {from = from} {argument = argument} Leads Within w new entr
     (ap reverse waiting ∙ reverse-last w.waiting.list.items entry)
     (λ os onward. stands os (record { from = from; has = p; leads = leads; returns = returns }, onward)) scoped
 
--- it is read
+-- the return type of a function is read
 pub front-read : {s : Symbol} {mark : Mark} {argument : Arguments} {entry : Open} {Leads : LeadsSo} {Within : WithinOpen} (w : Direct) (is_reference is_dependent : Bool)
     → IsWriting s w (Step.Value is_reference is_dependent) → slice_get w.waiting.list.items (length w.waiting.list.items - 1) ≡ Some entry
     → ((scope : Scope) (rest : List Open) (os : List Opened) (text : List ℕ) → Stands s scope (entry ∷ rest) os text
@@ -180,7 +179,7 @@ front-read {s = s} {entry = entry} w is_reference is_dependent p found awaits =
       goes = waits.1 v.own w.at p.state v.comes;
     }
 
--- it is removed
+-- the return type of a function is removed
 pub front-cut : {s : Symbol} {extra : ℕ} {mark : Mark} {argument : Arguments} {entry : Open} {Leads : LeadsSo} {Within : WithinOpen} (w shut new : Direct) (to : ℕ)
     (p : IsInnerFrontRead s w mark argument entry Leads Within) → IsAddressed s p.scope to argument p.own p.lead p.name
     → shut.text ≡ w.text → shut.candidates ≡ w.candidates → shut.has_scope ≡ w.has_scope → shut.at ≡ w.at
@@ -223,7 +222,7 @@ led-expected {s = s} {argument = argument} {entry = entry} {rest = rest} {ts = t
     item-comes s w w kept argument (Within kept.scope rest h.front) h.make ts w.at goes (entry ∷ rest) refl refl refl refl waits
     (λ os onward. stands os (ts, texts, h, written, onward)) (scoped goes.around goes.scoped)
 
--- and so does the first one
+-- the first parameter comes next
 pub first-led : {s : Symbol} {extra : ℕ} {mark : Mark} {argument : Arguments} {Leads : LeadsSo} {Within : WithinOpen} (Now : Term → List ℕ → List ℕ → Type 0) (w first last : Direct) (entry : Open)
     (p : AwaitsLedParameters s w extra mark argument Leads Within) → Now p.own p.front p.name → Writes w first (codes "(")
     → last.waiting.list.items ≡ first.waiting.list.items ++ entry ∷ [] → last.text ≡ first.text → last.candidates ≡ first.candidates
@@ -238,7 +237,7 @@ first-led {s = s} {argument = argument} {Within = Within} Now w first last entry
     (ap (λ v. v.list.items) text ∙ one.text ∙ ap (λ l. l ++ codes "(") p.written ∙ sym (append-nil (p.front ++ p.name ++ codes "(")))
     (subst (λ n. ItemsGoOn s argument (Within p.scope (reverse w.waiting.list.items) p.front) p.make [] n p.state) (sym (at ∙ one.at)) p.goes) stands scoped
 
--- another one does
+-- another parameter comes next
 pub next-led : {s : Symbol} {extra : ℕ} {mark : Mark} {argument : Arguments} {entry : Open} {Leads : LeadsSo} {Within : WithinOpen} (w last : Direct)
     (p : IsLedParameterRead s w extra mark argument entry Leads Within) → Writes w last (codes ", ")
     → ((os : List Opened) → AwaitsLed s extra mark argument (Leads p.scope) (Within p.scope p.rest) os last.text.list.items → Stands s p.scope (entry ∷ p.rest) os last.text.list.items)
@@ -249,7 +248,7 @@ next-led {s = s} {argument = argument} {Within = Within} w last p one stands sco
     (one.text ∙ ap (λ l. l ++ codes ", ") p.written ∙ append_assoc front p.texts (codes ", ") ∙ ap (λ l. front ++ l) (sym (next-written p.ts p.texts p.some)))
     (subst (λ n. ItemsGoOn s argument (Within p.scope p.rest p.front) p.make p.ts n p.state) (sym one.at) p.goes) stands scoped
 
--- one is read
+-- a parameter is read
 pub led-read : {s : Symbol} {extra : ℕ} {mark : Mark} {argument : Arguments} {entry : Open} {Leads : LeadsSo} {Within : WithinOpen} {rest : List Open} (w : Direct) (os : List Opened)
     (kept : Kept s w) (t : Term) (front bytes : List ℕ) → reverse w.waiting.list.items ≡ entry ∷ rest → w.text.list.items ≡ front ++ bytes → Comes s os (tree t true) w.at kept.state
     → (waits : AwaitsLed s extra mark argument (Leads kept.scope) (Within kept.scope rest) os front) → IsElementIn (detail_of s) (types_of waits.2.own) extra t bytes
@@ -270,7 +269,7 @@ led-read {s = s} {rest = rest} w os kept t front bytes open_is written comes wai
       goes = waits.4 t w.at kept.state comes;
     }
 
--- likewise a type that may name the function's arguments
+-- likewise for a parameter whose type may name the function's arguments
 pub type-led : {s : Symbol} {extra : ℕ} {mark : Mark} {argument : Arguments} {entry : Open} {Leads : LeadsSo} {Within : WithinOpen} (w : Direct) (is_reference is_dependent : Bool)
     → 3 ≤ extra → IsWriting s w (Step.Value is_reference is_dependent) → slice_get w.waiting.list.items (length w.waiting.list.items - 1) ≡ Some entry
     → ((scope : Scope) (rest : List Open) (os : List Opened) (text : List ℕ) → Stands s scope (entry ∷ rest) os text
@@ -288,7 +287,7 @@ type-led {s = s} {extra = extra} {entry = entry} w is_reference is_dependent mos
 
 -- ## Their ends
 
--- the name is within what is written
+-- the name of a function is within what is written
 pub name-inside : (text front name rest : List ℕ) (to : ℕ) → text ≡ front ++ name ++ rest → to ≡ length (front ++ name) → to ≤ length text
 name-inside text front name rest to written to_is = omega (arith, to_is, ap length written, length-append (front ++ name) rest)
 
@@ -310,7 +309,7 @@ function-read {Within = Within} {rest = rest} w mark place kept e own front byte
       (subst (λ n. Within kept.scope rest front e n kept.state) (sym at) within);
 }
 
--- a function that has no return type shows what it is shown as without one
+-- a function whose name has no return type shows the same as one without a return type
 shown-plain : (s : Symbol) {extra : ℕ} {mark : Mark} {ts : List Term} {texts : List ℕ} (f : IsLedFunction (detail_of s) extra mark ts texts) (e items : Term) (bytes : List ℕ)
     → e ≡ function f.own (qualifiers (has_const mark)) (called_on mark) f.returned items
     → Shows (detail_of s) (function f.own (qualifiers (has_const mark)) (called_on mark) absent items) bytes
@@ -318,7 +317,7 @@ shown-plain : (s : Symbol) {extra : ℕ} {mark : Mark} {ts : List Term} {texts :
 shown-plain s {mark = mark} f e items bytes is shows none =
     subst (λ t. Shows (detail_of s) t bytes) (sym (is ∙ ap (λ r. function f.own (qualifiers (has_const mark)) (called_on mark) r items) (f.none none))) shows
 
--- a lone void is read and written
+-- a lone void is read, and empty brackets are written
 pub void-shown : {s : Symbol} {Leads : LeadsSo} {Now : Term → List ℕ → Type 0} {Within : WithinOpen} {extra : ℕ} {mark : Mark} {argument : Arguments} (w new : Direct) (n : ℕ)
     (p : AwaitsLedParameters s w extra mark argument Leads Within) → Now p.own p.front → StandsAt s.bytes w.at (118 ∷ []) → n ≡ w.at + 1
     → Writes (record w { at = n }) new (codes "()") → s.is_bare ≡ false → IsLedFunctionRead s new mark Now Within
@@ -338,7 +337,7 @@ void-shown {s = s} {Within = Within} {mark = mark} {argument = argument} w new n
     (ap (λ v. reverse v.list.items) one.waiting) (one.at ∙ at)
     (void-read s argument (Within p.scope (reverse w.waiting.list.items) p.front) p.make w.at p.state p.goes stands)
 
--- where only the names of functions are shown, nothing is written for it
+-- a lone void is read, and nothing is written if only the names of functions are shown
 pub void-unshown : {s : Symbol} {Leads : LeadsSo} {Now : Term → List ℕ → Type 0} {Within : WithinOpen} {extra : ℕ} {mark : Mark} {argument : Arguments} (w : Direct) (n : ℕ)
     (p : AwaitsLedParameters s w extra mark argument Leads Within) → Now p.own p.front → StandsAt s.bytes w.at (118 ∷ []) → n ≡ w.at + 1 → s.is_bare ≡ true
     → IsLedFunctionRead s (record w { at = n }) Mark.Plain Now Within
@@ -351,12 +350,12 @@ void-unshown {s = s} {Within = Within} {mark = mark} {argument = argument} w n p
     (name-shows (has-none s bare) p.own p.name p.prints (qualifiers (has_const mark)) (called_on mark) p.returned nil))
     refl at (void-read s argument (Within p.scope (reverse w.waiting.list.items) p.front) p.make w.at p.state p.goes stands)
 
--- and so is that of a function with one parameter read
+-- after a parameter, the name of the function is within what is written
 pub led-inside : {s : Symbol} {extra : ℕ} {mark : Mark} {argument : Arguments} {entry : Open} {Leads : LeadsSo} {Within : WithinOpen} (w : Direct) (to : ℕ)
     (p : IsLedParameterRead s w extra mark argument entry Leads Within) → to ≡ length (p.front ++ p.name) → to ≤ length w.text.list.items
 led-inside w to p to_is = name-inside w.text.list.items p.front p.name (codes "(" ++ p.texts) to (p.written ∙ append_assoc (p.front ++ p.name) (codes "(") p.texts) to_is
 
--- what was opened for the parameters is closed
+-- the entry that was opened for the parameters is removed
 led-popped : {s : Symbol} {extra : ℕ} {mark : Mark} {argument : Arguments} {entry : Open} {Leads : LeadsSo} {Within : WithinOpen} (w shut : Direct)
     (p : IsLedParameterRead s w extra mark argument entry Leads Within) → shut.waiting.list.items ≡ take (length w.waiting.list.items - 1) w.waiting.list.items
     → reverse shut.waiting.list.items ≡ p.rest
@@ -375,7 +374,7 @@ parameters-end {s = s} {w = w} {extra = extra} {mark = mark} {Within = Within} p
       (p.goes.onward nothing_there w.at p.state (expects-empty s Kind.Items p.goes.around p.goes.inner w.at p.state p.goes.awaits refl)),
 )
 
--- they are read and written
+-- the parameters of a function are read and written
 pub function-shown : {s : Symbol} {Leads : LeadsSo} {Now : Term → List ℕ → Type 0} {Within : WithinOpen} {extra : ℕ} {mark : Mark} {argument : Arguments} {entry : Open} (w shut last : Direct)
     (p : IsLedParameterRead s w extra mark argument entry Leads Within) (text : List ℕ) → Now p.own p.front → text ≡ w.text.list.items → ends_with nat_eq text (codes "(void") ≡ false
     → extra ≤ 6 → shut.text ≡ w.text → shut.candidates ≡ w.candidates → shut.has_scope ≡ w.has_scope → shut.at ≡ w.at
@@ -397,7 +396,7 @@ function-shown {s = s} {extra = extra} {mark = mark} w shut last p whole_text le
     (shown-plain s p.is_led (p.make (list_of p.ts)) (list_of p.ts) bytes end.0 shows)
     (ap (λ v. reverse v.list.items) one.waiting ∙ led-popped w shut p waits) (one.at ∙ at) end.1
 
--- what was written after the name is removed, where only the names of functions are shown
+-- if only the names of functions are shown, what was written after the name is removed
 pub function-unshown : {s : Symbol} {Leads : LeadsSo} {Now : Term → List ℕ → Type 0} {Within : WithinOpen} {extra : ℕ} {mark : Mark} {argument : Arguments} {entry : Open} (w shut new : Direct) (to : ℕ)
     (p : IsLedParameterRead s w extra mark argument entry Leads Within) (text : List ℕ) → Now p.own p.front → text ≡ w.text.list.items → ends_with nat_eq text (codes "(void") ≡ false
     → to ≡ length (p.front ++ p.name) → AreNamed (p.front ++ p.name) p.scope
@@ -420,7 +419,7 @@ function-unshown {s = s} {mark = mark} w shut new to p whole_text leads same oth
     (name-shows (has-none s bare) p.own p.name p.prints (qualifiers (has_const mark)) (called_on mark) p.returned (list_of p.ts)))
     (ap (λ v. reverse v.list.items) waiting ∙ led-popped w shut p waits) (at ∙ same_at) end.1
 
--- its qualifiers are written
+-- the qualifiers of a function are written
 pub marks-shown : {s : Symbol} {Leads : Term → List ℕ → Type 0} {Within : WithinOpen} (old new : Direct) (mark : Mark) → IsLedFunctionRead s old mark Leads Within
     → Writes old new (mark_text mark) → IsLedFunctionRead s new Mark.Plain Leads Within
 marks-shown {s = s} old new mark p writes =
@@ -429,7 +428,7 @@ marks-shown {s = s} old new mark p writes =
 
 -- ## Types in functions, from their Z to their end
 
--- the name of a function that contains a type
+-- expects the name of a function that contains a type, after a Z
 enclosing-opens : (s : Symbol) (w : Direct) (a : AwaitsNamedType s w) → StandsAt s.bytes w.at (90 ∷ [])
     → NameOpened s (TypeWithin s (below s a.scope (reverse w.waiting.list.items)) w.text.list.items) (w.at + 1) a.state
 unfolding is_function_type
@@ -450,7 +449,7 @@ enclosing-opens s w a letter =
       a.stands,
     ))
 
--- a nested one is expected, after an N and the qualifiers of a member function
+-- the nested name of a function is expected, after an N and the qualifiers of a member function
 pub nest-within : (s : Symbol) (old : Direct) (first second : ℕ) (place : MarkPlace) → AwaitsNamedType s old → StandsAt s.bytes old.at (90 ∷ [])
     → first ≡ old.at + 1 → StandsAt s.bytes first (78 ∷ []) → second ≡ first + 1 → IsMarkPlace s.bytes second place
     → AwaitsNest s (record old { at = place.end }) (Purpose.Enclosing place.mark first)
@@ -488,7 +487,7 @@ source-within s old start new name from a letter same_text same_candidates same_
           (sym (reads.waiting ∙ same_waiting)) (items-scoped nowhere (tree own false) new.at a.state items (nowhere-scoped items.around));
     }
 
--- a nested one is read
+-- a nested name is read
 pub name-within : (s : Symbol) (old : Direct) (kept : Kept s old) (t : Term) (mark : Mark) (encoding : ℕ) (is_instance : Bool)
     → IsNesting s kept.scope Kind.NestTail old t kept.state → has_return_type t ≡ is_instance → StandsAt s.bytes old.at (69 ∷ [])
     → old.nest.purpose ≡ Purpose.Enclosing mark encoding → IsEnclosingNamed s (record old { at = old.at + 1 }) mark is_instance old.nest.from
@@ -503,7 +502,7 @@ name-within s old kept t mark encoding is_instance n returns here is_name =
       goes = items-scoped nowhere (named t (qualifiers (has_const mark)) (called_on mark)) (old.at + 1) kept.state items (nowhere-scoped items.around);
     }
 
--- one is read
+-- a parameter is read
 pub parameter-read-within : (s : Symbol) (w : Direct) (mark : Mark) (from to : ℕ) → IsElementRead s w (Open.Enclosing mark from to)
     → IsEnclosingParameterRead s w mark from to
 parameter-read-within s w mark from to p =
@@ -561,11 +560,11 @@ type-within s old pushed read last new from awaits one p n is prints two digit t
 
 -- ## Addresses of functions, as arguments of a name, from their X to their last E
 
--- what precedes the parts of a nested name
+-- the bytes before the parts of a nested name, in the address of a function
 abbrev pub address_letters : List ℕ
 address_letters = codes "XadL_ZN"
 
--- the name of a function whose address is an argument
+-- expects the name of a function whose address is an argument
 address-opens-name : (s : Symbol) (w : Direct) (a : AwaitsArgumentOfName s w) → StandsAt s.bytes w.at (codes "XadL_Z")
     → NameOpened s (AddressWithin s (below s a.scope (reverse w.waiting.list.items)) (w.text.list.items ++ codes "&")) (w.at + 6) a.state
 address-opens-name s w a letters =
@@ -595,7 +594,7 @@ address-nested s old pushed opened_ encoding second place a letters encoding_is 
           (subst (λ ws. Stands s a.scope ws e.inner (old.text.list.items ++ codes "&")) (sym waits) taken),
     ))
 
--- its name is read
+-- the name of a function whose address is an argument is read
 pub name-addressed : (s : Symbol) (old : Direct) (kept : Kept s old) (t : Term) (mark : Mark) → IsNesting s kept.scope Kind.NestTail old t kept.state
     → (IsOwn old.nest.purpose → old.nest.is_instance && old.nest.has_class ≡ false → has_return_type t ≡ false)
     → (old.nest.is_instance && old.nest.has_class ≡ true → has_return_type t ≡ true)
@@ -616,7 +615,7 @@ name-addressed s old kept t mark n no_return returns names here is_name =
       stands = serves.2;
     }
 
--- the open entry accepts its types
+-- after the name of a function whose address is an argument, the function's items may follow
 pub address-items : (s : Symbol) (old new : Direct) (mark : Mark) (encoding : ℕ) (p : IsAddressNamed s old mark)
     → old.waiting.list.items ≡ new.waiting.list.items ++ Open.Address encoding ∷ [] → old.has_scope ≡ false
     → ItemsOf s encoding (AddressWithin s (below s no_scope (reverse new.waiting.list.items)) p.lead) p.v old.at p.state
@@ -638,7 +637,7 @@ front-addressed s w new mark from to argument kept p returns addressed goes wait
     front-awaits (λ scope. IsAddressed s scope to argument) (λ scope waits. AddressWithin s (below s no_scope waits)) w new entry kept p addressed returns goes
     waiting text candidates scope_same at (λ os h. h) (entry-scoped kept.scope goes.around entry argument (reverse w.waiting.list.items) refl refl addressed.named goes.scoped)
 
--- Its E is read and that of its address, which is accepted like a type.
+-- The E of a function and the E of its address are read, and the address is accepted like a type.
 pub address-ended : (s : Symbol) (w new : Direct) → IsAddressedRead s w Mark.Plain → StandsAt s.bytes w.at (69 ∷ 69 ∷ []) → new.text ≡ w.text
     → AreLeft Hiding.Dependent w.candidates.list.items new.candidates.list.items → new.waiting ≡ w.waiting → new.at ≡ w.at + 2 → IsWriting s new (Step.Value false false)
 address-ended s w new p letters text are waiting at =

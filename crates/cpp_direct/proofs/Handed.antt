@@ -4,7 +4,7 @@ use Rattle.cpp_direct.proofs.AllRead.{TakesElements, last-found, list-waits, som
 use Rattle.cpp_direct.specs.AllStates.{opening_text}
 use Rattle.cpp_direct.proofs.Elements.{element-added}
 
--- it is marked
+-- a type was read that the innermost entry is to mark
 pub value-marked : (s : Symbol) (w : Direct) (is_reference marked_reference is_dependent : Bool) (entry : Open) (from : ℕ) (made : Term → Term) (mark : List ℕ)
     → IsWriting s w (Step.Value is_reference is_dependent) → slice_get w.waiting.list.items (length w.waiting.list.items - 1) ≡ Some entry
     → ((scope : Scope) (rest : List Open) (os : List Opened) (text : List ℕ) → Stands s scope (entry ∷ rest) os text → Marks s (below s scope rest) os text from made)
@@ -35,11 +35,11 @@ value-marked s w is_reference marked_reference is_dependent entry from made mark
       stands = marks.5;
     }
 
--- it is the first type in a function type or in an array
+-- a type that was read is the first type in a function type or in an array
 abbrev pub first-type : (s : Symbol) (w : Direct) (is_reference : Bool) → IsWriting s w (Step.Value is_reference false) → FirstType s
 first-type s w is_reference p = record { own = p.is_before.own; bytes = p.is_before.bytes; is_reference = is_reference; prints = p.is_before.prints }
 
--- it is an element or a parameter
+-- a type that was read is an element or a parameter
 abbrev pub value-element : (s : Symbol) (w : Direct) (is_reference : Bool) (o : Open) → IsWriting s w (Step.Value is_reference false)
     → slice_get w.waiting.list.items (length w.waiting.list.items - 1) ≡ Some o → IsElementRead s w o
 value-element s w is_reference o p found =
@@ -61,7 +61,7 @@ value-element s w is_reference o p found =
       };
     }
 
--- a parameter was read
+-- a parameter of a function was read
 pub parameter-got : (s : Symbol) (w : Direct) (mark : Mark) (start : ℕ) (argument : Arguments) (kept : Kept s w) (rest : List Open) (os : List Opened) (t : Term)
     (front bytes : List ℕ) (waits : Stands s kept.scope (Open.Parameters mark start argument ∷ rest) os front)
     → reverse w.waiting.list.items ≡ Open.Parameters mark start argument ∷ rest
@@ -90,7 +90,7 @@ parameter-read s w mark start argument p =
     parameter-got s w mark start argument p.read.kept p.rest p.read.os p.read.own p.read.front p.read.bytes p.read.stands p.open_is p.read.written p.read.comes
     (element-in (types_of p.read.stands.2.is_function.own) 3 p.read.own p.read.bytes (p.read.element 3))
 
--- it is a type
+-- a type that was read is a parameter
 pub value-parameter : (s : Symbol) (w : Direct) (is_reference is_dependent : Bool) (mark : Mark) (start : ℕ) (argument : Arguments)
     → IsWriting s w (Step.Value is_reference is_dependent)
     → slice_get w.waiting.list.items (length w.waiting.list.items - 1) ≡ Some (Open.Parameters mark start argument) → AreParametersRead s w 3 false mark start argument
@@ -116,7 +116,7 @@ special-read s w p =
           (special-shows letter (λ e. waits.2 (front_is ∙ e)) p.read.own p.read.bytes (p.read.element 0));
     }
 
--- it is the type of an enumerator
+-- a type that was read is the type of an enumerator
 pub value-enumerator : (s : Symbol) (w : Direct) (is_reference : Bool) → IsWriting s w (Step.Value is_reference false)
     → slice_get w.waiting.list.items (length w.waiting.list.items - 1) ≡ Some Open.Enumerator → AwaitsNumber s w
 value-enumerator s w is_reference p found =
@@ -160,7 +160,7 @@ value-enumerator s w is_reference p found =
     go (Open.Pack ∷ owner ∷ rest) is waits = number (of_pack waits.0 waits.1) (Open.Pack ∷ owner ∷ rest) owner rest is (refl, waits.2) waits.3
     go (owner ∷ rest) is waits = number of_template (owner ∷ rest) owner rest is refl waits
 
--- an entry that accepts a type which names no argument of the function's template
+-- an entry of any other kind accepts only types that name no argument of the function's template
 pub passed-closed : (o : Open) → ((x : ℕ) → o ≡ Open.Pointer x → ⊥) → ((x : ℕ) → o ≡ Open.Lvalue x → ⊥) → ((x : ℕ) → o ≡ Open.Rvalue x → ⊥)
     → ((x : ℕ) → o ≡ Open.Const x → ⊥) → ((x : Mark) (y : ℕ) (z : Arguments) → o ≡ Open.Parameters x y z → ⊥)
     → ((x : Mark) (y : ℕ) (z : Arguments) → o ≡ Open.Front x y z → ⊥) → IsPassedClosed o
@@ -172,7 +172,7 @@ passed-closed (Open.Parameters x y z) p l r c f k = absurd (f x y z refl)
 passed-closed (Open.Front x y z) p l r c f k = absurd (k x y z refl)
 passed-closed _ p l r c f k = tt
 
--- an entry that isn't one of those that wait for something else
+-- an entry that accepts only types that name no argument accepts elements, unless it is one of those excluded here
 pub takes-elements : (o : Open) → IsPassedClosed o → ((x : Bool) → o ≡ Open.Returned x → ⊥) → ((x : Bool) → o ≡ Open.Signature x → ⊥)
     → (o ≡ Open.Special → ⊥) → (o ≡ Open.Derived → ⊥) → ((x : ℕ) → o ≡ Open.Base x → ⊥) → (o ≡ Open.Enumerator → ⊥) → ((x : Mark) (y z : ℕ) → o ≡ Open.Enclosing x y z → ⊥)
     → ((x : Mark) (y t : ℕ) (z : Arguments) → o ≡ Open.EnclosingInstance x y t z → ⊥)
@@ -218,7 +218,7 @@ argument-read s w o p takes =
 
 -- ## A list notes that one of its elements names arguments of the function's template
 
--- the open entry notes it
+-- the changed entry notes that one of its arguments names arguments of the function's template
 noted-now : (o noted : Open) → IsDependentNow o noted → is_noted noted ≡ true
 noted-now (Open.TypeArguments from is_dependent) noted is = ap is_noted is
 noted-now (Open.NestArguments nest) noted is = ap is_noted is.1
@@ -226,7 +226,7 @@ noted-now (Open.FirstArguments nest) noted is = ap is_noted is.1
 noted-now (Open.LevelArguments is_dependent) noted is = ap is_noted is
 noted-now _ noted is = absurd is
 
--- and that entry is in a type
+-- an entry for arguments that may name those of the function's template is within a type
 pub noted-within : (o noted : Open) → IsDependentNow o noted → is_within_type o ≡ true
 noted-within (Open.TypeArguments from is_dependent) noted is = refl
 noted-within (Open.NestArguments nest) noted is = ap is_type is.0
@@ -247,7 +247,7 @@ noted-nest {detail} {names} front name text nest t type p = record {
   names_class = λ h plain. absurd (false≢true (sym plain));
 }
 
--- the template before it stays
+-- the changed entry has the same template before its arguments
 noted-template : (detail : Detail) (names : Names) (o noted : Open) (front : List ℕ) (t : Term) (name text : List ℕ) → IsDependentNow o noted
     → IsTemplate detail names o front t name text → IsTemplate detail names noted front t name text
 noted-template detail names (Open.TypeArguments from is_dependent) noted front t name text is p = subst (λ o. IsTemplate detail names o front t name text) (sym is) p
@@ -258,7 +258,7 @@ noted-template detail names (Open.FirstArguments nest) noted front t name text i
 noted-template detail names (Open.LevelArguments is_dependent) noted front t name text is p = subst (λ o. IsTemplate detail names o front t name text) (sym is) p
 noted-template detail names _ noted front t name text is p = absurd is
 
--- it becomes the same instance
+-- the changed entry becomes the same instance
 noted-owns : (s : Symbol) (scope : Scope) (o noted : Open) (rest : List Open) (front : List ℕ) (u : Term) (at : ℕ) (st : State) → IsDependentNow o noted
     → IsNaming scope rest → Owns s o (below s scope rest) front u at st → Owns s noted (below s scope rest) front u at st
 noted-owns s scope (Open.TypeArguments from is_dependent) noted rest front u at st is naming p =
@@ -271,7 +271,7 @@ noted-owns s scope (Open.LevelArguments is_dependent) noted rest front u at st i
     subst (λ o. Owns s o (below s scope rest) front u at st) (sym is) (p.0, p.1, (λ named. naming), p.3)
 noted-owns s scope _ noted rest front u at st is naming p = absurd is
 
--- expects a type as an argument
+-- an entry for arguments that may name those of the function's template expects a type as an argument
 noted-awaits : (s : Symbol) (scope : Scope) (o noted : Open) (rest : List Open) (os : List Opened) (text : List ℕ) → IsDependentNow o noted
     → Stands s scope (o ∷ rest) os text → AwaitsElementOf s scope.names of_template o (below s scope rest) os text
 noted-awaits s scope (Open.TypeArguments from is_dependent) noted rest os text is p = p
@@ -280,7 +280,7 @@ noted-awaits s scope (Open.FirstArguments nest) noted rest os text is p = p
 noted-awaits s scope (Open.LevelArguments is_dependent) noted rest os text is p = p
 noted-awaits s scope _ noted rest os text is p = absurd is
 
--- such an argument of the innermost entry was read, which notes it
+-- an argument that names arguments of the function's template was read, and the innermost entry notes this
 pub noted-added : (s : Symbol) (w new : Direct) (kept : Kept s w) (ws : List Open) (owner noted : Open) (front : List ℕ) (template : Term) (name : List ℕ) (ts : List Term)
     (texts : List ℕ) (t : Term) (bytes : List ℕ) (is_reference : Bool) → IsTemplate (detail_of s) kept.scope.names owner front template name w.text.list.items
     → PrintAllAs (detail_of s) kept.scope.names (is_noted owner) 3 ts texts → PrintsGiven (detail_of s) kept.scope.names t bytes is_reference
@@ -328,7 +328,7 @@ noted-added s w new kept ws owner noted front template name ts texts t bytes is_
       );
     }
 
--- it is a type
+-- a type that names arguments of the function's template was read as an argument, and the innermost entry notes this
 pub listed-noted : (s : Symbol) (w new : Direct) (is_reference : Bool) (ws : List Open) (owner noted : Open) → IsWriting s w (Step.Value is_reference true)
     → w.waiting.list.items ≡ ws ++ owner ∷ [] → IsDependentNow owner noted → new.waiting.list.items ≡ ws ++ noted ∷ []
     → new.text ≡ w.text → new.candidates ≡ w.candidates → new.has_scope ≡ w.has_scope → new.at ≡ w.at → IsWriting s new (Step.List false)
@@ -343,7 +343,7 @@ listed-noted s w new is_reference ws owner noted p waits is now_waits text candi
 
 -- ## Return types
 
--- it is the return type of a function
+-- a type that was read is the return type of a function
 pub value-front : (s : Symbol) (w : Direct) (is_reference is_dependent : Bool) (mark : Mark) (start : ℕ) (argument : Arguments)
     → IsWriting s w (Step.Value is_reference is_dependent)
     → slice_get w.waiting.list.items (length w.waiting.list.items - 1) ≡ Some (Open.Front mark start argument) → IsFrontRead s w mark start argument
@@ -365,7 +365,7 @@ value-front s w is_reference is_dependent mark start argument p found =
 
 -- ## Function types
 
--- it is the return type of a function type
+-- a type that was read is the return type of a function type
 pub value-returned : (s : Symbol) (w : Direct) (is_reference is_pointer : Bool) → IsWriting s w (Step.Value is_reference false)
     → slice_get w.waiting.list.items (length w.waiting.list.items - 1) ≡ Some (Open.Returned is_pointer) → IsReturned s w is_pointer
 value-returned s w is_reference is_pointer p found =
@@ -380,7 +380,7 @@ value-returned s w is_reference is_pointer p found =
       goes = waits.1 p.is_before.own w.at p.state p.is_before.comes;
     }
 
--- it is a parameter of one
+-- a type that was read is a parameter of a function type
 pub value-signature : (s : Symbol) (w : Direct) (is_reference is_pointer : Bool) → IsWriting s w (Step.Value is_reference false)
     → slice_get w.waiting.list.items (length w.waiting.list.items - 1) ≡ Some (Open.Signature is_pointer) → AwaitsSignature s w is_pointer false
 value-signature s w is_reference is_pointer p found =

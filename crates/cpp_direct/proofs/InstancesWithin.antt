@@ -1,14 +1,14 @@
--- Instances of function templates that contain a type, whose parameters may name their arguments: from their names to their ends.
+-- Instances of function templates that contain a type, from name to end: types of parameters may name an instance's arguments.
 use Rattle.cpp_direct.proofs.AllGround.{StandsAt, AreLeft, Arguments, AwaitsLedParameters, below, detail_of, Direct, HasArguments, IsAddressed, IsBuiltinAt, IsElementRead, IsEnclosingNamed, IsEnclosingParameterRead, IsInstanceNamed, IsInstanceParameterRead, IsNesting, IsOwn, IsScopedWithin, IsWriting, ItemsGoOn, ItemsOf, Kept, Mark, no_scope, nowhere, Scope, Serves, Symbol, TypeWithin, encoding_of, has_return_type, Kind, Term, types_of, ◌≡◌, refl, ap, sym, ◌∙◌, subst, ℕ, ◌+◌, ◌-◌, [], ◌∷◌, ◌++◌, length, reverse, take, Bool, true, false, ◌&&◌, Hiding, Open, Purpose, Step, kept-same, kept-closed, reverse-last, element-in, as-name, entry-scoped, has-member}
 use Rattle.cpp_direct.proofs.AllRead.{nowhere-scoped, nest-comes, closed-prints, popped}
 use Rattle.cpp_direct.proofs.FunctionsWithin.{front-awaits, items-scoped, led-read, now-scoped, returned-awaits}
 
--- its name ends in arguments
+-- the name of an instance ends in arguments
 pub has-arguments : (is_instance has_class : Bool) → is_instance && has_class ≡ true → is_instance ≡ true
 has-arguments true has_class both = refl
 has-arguments false has_class both = both
 
--- its nested name is read
+-- the nested name of an instance is read
 pub instance-within : (s : Symbol) (old : Direct) (kept : Kept s old) (t : Term) (mark : Mark) (encoding : ℕ)
     → IsNesting s kept.scope Kind.NestTail old t kept.state → has_return_type t ≡ true → HasArguments (detail_of s) old.text.list.items old.argument t
     → StandsAt s.bytes old.at (69 ∷ []) → old.nest.purpose ≡ Purpose.Enclosing mark encoding
@@ -24,7 +24,7 @@ instance-within s old kept t mark encoding n returns names here is_name =
       items = serves t old.nest.is_listed (old.at + 1) kept.state (nest-comes s old kept.state t n here);
     }
 
--- its types needn't name its arguments
+-- the types of an instance needn't name its arguments
 pub instance-named : (s : Symbol) (w : Direct) (mark : Mark) (encoding from : ℕ) → IsInstanceNamed s w mark encoding from → IsEnclosingNamed s w mark true from
 instance-named s w mark encoding from p = record {
   kept = p.kept;
@@ -33,7 +33,7 @@ instance-named s w mark encoding from p = record {
   goes = items-scoped nowhere p.v w.at p.state p.items (nowhere-scoped p.items.around);
 }
 
--- all of its types may name its arguments
+-- all types of an instance may name its arguments
 instance-scoped : (s : Symbol) (old : Direct) (mark : Mark) (from to : ℕ) (argument : Arguments) (p : IsInstanceNamed s old mark argument.encoding from) → old.has_scope ≡ false
     → argument ≡ record (old.argument) { encoding = argument.encoding } → to ≡ length old.text.list.items
     → (now : Kept s (record old { has_scope = true })) × IsAddressed s now.scope to argument p.own p.lead p.name
@@ -43,7 +43,7 @@ instance-scoped s old mark from to argument p first same to_is =
     (subst (λ (k : Scope). ItemsOf s argument.encoding (TypeWithin s (below s k (reverse old.waiting.list.items)) p.lead) p.v old.at p.state) (p.keeps.unknown first).0 p.items)
     first refl refl refl same p.names to_is
 
--- it expects its return type,
+-- an instance expects its return type
 pub instance-front : (s : Symbol) (old new : Direct) (mark : Mark) (from to : ℕ) (argument : Arguments) → IsInstanceNamed s old mark argument.encoding from
     → old.has_scope ≡ false → new.has_scope ≡ true → new.text ≡ old.text → new.candidates ≡ old.candidates
     → new.waiting.list.items ≡ old.waiting.list.items ++ Open.EnclosingFront mark from to argument ∷ [] → new.at ≡ old.at
@@ -54,7 +54,7 @@ instance-front s old new mark from to argument p first now text candidates waiti
     front-awaits (λ k. IsScopedWithin s k from to argument) (λ k waits. TypeWithin s (below s no_scope waits)) (record old { has_scope = true }) new entry q.0 p.has (p.from_is, q.1) p.returns q.2
     waiting text candidates now at (λ os h. h) (entry-scoped q.0.scope q.2.around entry argument (reverse old.waiting.list.items) refl refl q.1.named q.2.scoped)
 
--- or, after one that is a builtin type, its parameters
+-- after a builtin return type, an instance expects its parameters
 pub instance-awaits : (s : Symbol) (old : Direct) (mark : Mark) (from to end : ℕ) (argument : Arguments) → IsInstanceNamed s old mark argument.encoding from
     → old.has_scope ≡ false → argument ≡ record (old.argument) { encoding = argument.encoding } → to ≡ length old.text.list.items → IsBuiltinAt s.bytes old.at end
     → AwaitsLedParameters s (record old { has_scope = true; at = end }) 6 mark argument (λ k. IsScopedWithin s k from to argument) (λ k waits. TypeWithin s (below s no_scope waits))
@@ -62,7 +62,7 @@ instance-awaits s old mark from to end argument p first same to_is is =
     let q = instance-scoped s old mark from to argument p first same to_is in
     returned-awaits (record old { has_scope = true }) end q.0 p.has p.returns (p.from_is, q.1) q.2 is
 
--- a parameter is read that prints on both sides of a name
+-- a parameter that prints on both sides of a name is read
 pub element-instance : (s : Symbol) (w : Direct) (mark : Mark) (from to : ℕ) (argument : Arguments) → IsElementRead s w (Open.EnclosingInstance mark from to argument)
     → IsInstanceParameterRead s w mark from to
 element-instance s w mark from to argument p =
@@ -72,7 +72,7 @@ element-instance s w mark from to argument p =
           (element-in (types_of read.stands.2.own) 6 read.own read.bytes (read.element 6)),
     )
 
--- its parameters are read, and its arguments can't be named any more
+-- the parameters of an instance are read, and its arguments can't be named any more
 pub instance-closed : (s : Symbol) (w shut new : Direct) (mark : Mark) (from to : ℕ) (p : IsInstanceParameterRead s w mark from to)
     → shut.waiting.list.items ≡ take (length w.waiting.list.items - 1) w.waiting.list.items
     → new.waiting.list.items ≡ shut.waiting.list.items ++ Open.Enclosing mark from to ∷ [] → new.text ≡ w.text

@@ -4,11 +4,11 @@ use Rattle.cpp_grammar.specs.Values as values
 
 -- ## Pieces of a text
 
--- a piece is in its place still where more is written
+-- a piece stays at its place when more is written
 pub piece-stays : (text front bytes back more : List ℕ) → text ≡ front ++ bytes ++ back → text ++ more ≡ front ++ bytes ++ (back ++ more)
 piece-stays text front bytes back more e = ap (λ l. l ++ more) e ∙ append_assoc (front ++ bytes) back more
 
--- a piece by its place
+-- a piece of a text is what is between its two places
 pub piece-found : (text bytes : List ℕ) (from to : ℕ) → IsBetween text from to bytes
     → (from ≤ to) × (to ≤ length text) × (take (to - from) (drop from text) ≡ bytes)
 piece-found text bytes from to p = (omega (arith, p.from_is, p.to_is), inside, found)
@@ -24,7 +24,7 @@ piece-found text bytes from to p = (omega (arith, p.from_is, p.to_is), inside, f
         ∙ ap (λ l. take (length bytes) (drop (length p.front) l)) (p.written ∙ append_assoc p.front bytes p.back)
         ∙ ap (λ l. take (length bytes) l) (drop-append_seam p.front (bytes ++ p.back)) ∙ take-append_seam bytes p.back
 
--- it is between two places still where more is written
+-- a piece stays between its two places when more is written
 pub placed-moved : (text more bytes : List ℕ) {new : List ℕ} {from to at end : ℕ} → new ≡ text ++ more → at ≡ from → end ≡ to
     → IsBetween text from to bytes → IsBetween new at end bytes
 placed-moved text more bytes grown at_is end_is p = record {
@@ -35,7 +35,7 @@ placed-moved text more bytes grown at_is end_is p = record {
   to_is = end_is ∙ p.to_is;
 }
 
--- and so is what ends it
+-- the last piece of a text is between its two places
 pub placed-last : {text : List ℕ} (front bytes : List ℕ) (from to : ℕ) → text ≡ front ++ bytes → from ≡ length front → to ≡ length text
     → IsBetween text from to bytes
 placed-last front bytes from to written from_is to_is = record {
@@ -48,7 +48,7 @@ placed-last front bytes from to written from_is to_is = record {
 
 -- ## Candidates
 
--- candidates hold elsewhere where each does
+-- candidates of one text are those of another if each of them is
 pub candidates-as : (s : Symbol) (scope other : Scope) (text new : List ℕ) → ((k : Candidate) (c : values.Candidate) → IsCandidate s scope text k c → IsCandidate s other new k c)
     → (ks : List Candidate) (cs : List values.Candidate) → AreCandidates s scope text ks cs → AreCandidates s other new ks cs
 candidates-as s scope other text new each [] [] p = tt
@@ -56,13 +56,13 @@ candidates-as s scope other text new each (k ∷ ks) (c ∷ cs) p = ((λ e. each
 candidates-as s scope other text new each [] (c ∷ cs) p = absurd p
 candidates-as s scope other text new each (k ∷ ks) [] p = absurd p
 
--- they still hold where more is written
+-- candidates stay candidates when more is written
 pub candidates-stay : (s : Symbol) (scope : Scope) (text more : List ℕ) (ks : List Candidate) (cs : List values.Candidate) → AreCandidates s scope text ks cs
     → AreCandidates s scope (text ++ more) ks cs
 candidates-stay s scope text more = candidates-as s scope scope text (text ++ more) (λ k c p.
     record { bytes = p.bytes; placed = placed-moved text more p.bytes refl refl refl p.placed; prints = p.prints; made_in = p.made_in })
 
--- one more
+-- candidates stay candidates when one more is added
 pub candidates-more : {s : Symbol} {scope : Scope} (text : List ℕ) (ks : List Candidate) (cs : List values.Candidate) (k : Candidate) (c : values.Candidate)
     → AreCandidates s scope text ks cs → (k.from ≤ k.to → IsCandidate s scope text k c) → AreCandidates s scope text (ks ++ k ∷ []) (cs ++ c ∷ [])
 candidates-more text [] [] k c p is = (is, tt)
@@ -85,22 +85,22 @@ candidates-added s scope text ks cs front bytes from t around r d p written from
 
 -- ## What a writer keeps
 
--- a text is in its place still where more is written
+-- a text stays at its place when more is written
 pub placed-stays : (text more : List ℕ) (p : Argument) (bytes : List ℕ) → IsPlaced text p bytes → IsPlaced (text ++ more) p bytes
 placed-stays text more p bytes h = placed-moved text more bytes refl refl refl h
 
--- none is known
+-- no argument is known if all are nowhere
 pub none-known : (k : ℕ) → IsKnown nowhere k → ⊥
 none-known k o = omega (arith, o)
 
--- and nothing may be named
+-- without a scope no argument may be named
 pub none-named : (text : List ℕ) → AreNamed text no_scope
 none-named text number single = absurd (none-known number single.0)
 
 pub none-single : HasSingles no_scope
 none-single number own e = cc e
 
--- there is no candidate, and nothing may be named
+-- what a writer keeps if there is no candidate, and nothing may be named
 pub none-kept : (s : Symbol) (w : Direct) → w.candidates.list.items ≡ [] → (w.has_scope ≡ false → is_object s.bytes ≡ false) → Keeps s no_scope w []
 none-kept s w none typed = record {
   candidates = subst (λ ks. AreCandidates s no_scope w.text.list.items ks []) (sym none) tt;
@@ -109,7 +109,7 @@ none-kept s w none typed = record {
   unknown = λ e. (refl, typed e);
 }
 
--- what was written has this text and these candidates
+-- what a writer with this text and these candidates keeps
 pub keeps-as : (s : Symbol) {scope : Scope} (old new : Direct) (cs : List values.Candidate) {text : List ℕ} {ks : List Candidate}
     → new.text.list.items ≡ text → new.candidates.list.items ≡ ks → new.has_scope ≡ old.has_scope
     → AreCandidates s scope text ks cs → AreNamed text scope → HasSingles scope → (old.has_scope ≡ false → (scope ≡ no_scope) × (is_object s.bytes ≡ false))
@@ -122,7 +122,7 @@ keeps-as s {scope = scope} old new cs {text = text} text_is candidates_are scope
   unknown = λ none. unknown (sym scope_same ∙ none);
 }
 
--- with other candidates
+-- what a writer keeps that has other candidates
 abbrev pub kept-as : (s : Symbol) (old new : Direct) (st : State) (kept : Kept s old) {ks : List Candidate} → new.text ≡ old.text
     → new.candidates.list.items ≡ ks → new.has_scope ≡ old.has_scope → AreCandidates s kept.scope old.text.list.items ks st.candidates → Kept s new
 kept-as s old new st kept text candidates scope_same are = record {
@@ -136,7 +136,7 @@ abbrev pub kept-same : (s : Symbol) (old new : Direct) → new.text ≡ old.text
     → Kept s old → Kept s new
 kept-same s old new text candidates scope_same kept = kept-as s old new kept.state kept text (ap (λ v. v.list.items) candidates) scope_same kept.keeps.candidates
 
--- these bytes were written
+-- some bytes were written
 abbrev pub kept-grown : (s : Symbol) (old new : Direct) (bytes : List ℕ) → new.text.list.items ≡ old.text.list.items ++ bytes
     → new.candidates ≡ old.candidates → new.has_scope ≡ old.has_scope → Kept s old → Kept s new
 kept-grown s old new bytes text candidates scope_same kept = record {
@@ -152,7 +152,7 @@ kept-grown s old new bytes text candidates scope_same kept = record {
 abbrev pub kept-written : (s : Symbol) (old new : Direct) (bytes : List ℕ) → Writes old new bytes → Kept s old → Kept s new
 kept-written s old new bytes writes kept = kept-grown s old new bytes writes.text writes.candidates writes.scope kept
 
--- likewise where something was read
+-- likewise if the text was written for something that was read
 abbrev pub kept-read : (s : Symbol) (old new : Direct) (bytes : List ℕ) → Reads old new bytes → Kept s old → Kept s new
 kept-read s old new bytes reads kept = kept-grown s old new bytes reads.text reads.candidates reads.scope kept
 
@@ -176,7 +176,7 @@ keeps-unless s old new kept true front bytes from t around d written from_is pri
 keeps-unless s old new kept false front bytes from t around d written from_is prints made_in text added_is scope_same =
     (kept-with s old new kept front bytes from t around false d written from_is (prints refl) made_in text added_is scope_same).keeps
 
--- likewise unless it is one already
+-- likewise unless it is a candidate already
 abbrev pub kept-unless : (s : Symbol) (old new : Direct) (kept : Kept s old) (listed : Bool) (front bytes : List ℕ) (from : ℕ) (t : Term) (around : Around) (d : Bool)
     → old.text.list.items ≡ front ++ bytes → from ≡ length front → (listed ≡ false → PrintsAs (detail_of s) kept.scope.names d t bytes false)
     → (d ≡ true → IsMadeIn kept.scope around.encoding)
@@ -211,7 +211,7 @@ awaited-in s scope old new around os {ws = ws} text waits outside stands scoped 
   scoped = subst (λ ws. IsScoped scope around ws) (sym waits) scoped;
 }
 
--- it comes next
+-- a type comes next
 pub type-comes : (s : Symbol) (old new : Direct) (kept : Kept s old) (around : Around) (os : List Opened) {ws : List Open}
     → new.text ≡ old.text → new.candidates ≡ old.candidates → new.has_scope ≡ old.has_scope → reverse new.waiting.list.items ≡ ws
     → around.prefix ≡ outermost → ExpectsType s around os new.at kept.state → Stands s kept.scope ws os old.text.list.items → IsScoped kept.scope around ws
@@ -240,7 +240,7 @@ value-comes s w kept os t front bytes r d written prints waits naming comes stan
   });
 }
 
--- it became a candidate
+-- a type that was read became a candidate
 pub value-added : (s : Symbol) (old new : Direct) (kept : Kept s old) (os : List Opened) (around : Around) (t : Term) (front bytes : List ℕ) (from : ℕ) (r d : Bool)
     {ws : List Open} → old.text.list.items ≡ front ++ bytes → from ≡ length front → PrintsAs (detail_of s) kept.scope.names d t bytes r
     → (d ≡ true → IsMadeIn kept.scope around.encoding) → new.text ≡ old.text → new.candidates.list.items ≡ added old from r d → new.has_scope ≡ old.has_scope
@@ -250,7 +250,7 @@ value-added s old new kept os around t front bytes from r d written from_is prin
     value-comes s new (kept-with s old new kept front bytes from t around r d written from_is prints made_in text added_is scope_same) os t front bytes r d
     (ap (λ v. v.list.items) text ∙ written) prints waits naming comes stands
 
--- what may be named within a type may be named in what is open in it
+-- types in an entry may name what types around it may name, if the entry is within a type, and otherwise nothing
 pub scoped-within : (scope : Scope) (around : Around) (o : Open) (rest : List Open) → arguments_in o ≡ None
     → (is_within_type o ≡ true → IsScoped scope around rest) → IsScoped scope around (o ∷ rest)
 scoped-within scope around o rest none scoped a found = go (is_within_type o) refl found
@@ -259,7 +259,7 @@ scoped-within scope around o rest none scoped a found = go (is_within_type o) re
     go true is e = scoped is a e
     go false is e = cc (sym none ∙ e)
 
--- in their encoding, and in none of its lambdas, types may name arguments
+-- types may name arguments only in the encoding that has these arguments, and in none of its lambdas
 pub encoded-here : (scope : Scope) (around : Around) (open_ : List Open) → IsScoped scope around open_ → IsNaming scope open_
     → (around.encoding ≡ scope.arguments.encoding) × (around.in_lambda ≡ false)
 encoded-here scope around open_ scoped naming = (scoped scope.arguments naming.0).1.0 naming.1
@@ -267,7 +267,7 @@ encoded-here scope around open_ scoped naming = (scoped scope.arguments naming.0
 pub made-here : (scope : Scope) (around : Around) (open_ : List Open) → IsScoped scope around open_ → IsNaming scope open_ → IsMadeIn scope around.encoding
 made-here scope around open_ scoped naming = ((encoded-here scope around open_ scoped naming).0, naming.1)
 
--- what a substitution names
+-- a candidate with a text, which a substitution names, prints this text
 pub candidate-found : {s : Symbol} {scope : Scope} (text : List ℕ) (ks : List Candidate) (cs : List values.Candidate) (n : ℕ) (k : Candidate)
     → AreCandidates s scope text ks cs → k.from ≤ k.to → slice_get ks n ≡ Some k → (c : values.Candidate) × (slice_get cs n ≡ Some c) × IsCandidate s scope text k c
 candidate-found text [] cs n k p ordered found = cc found
@@ -279,7 +279,7 @@ candidate-found {s} {scope} text (x ∷ ks) (y ∷ cs) zero k p ordered found = 
     Named None = ⊥
 candidate-found text (x ∷ ks) (y ∷ cs) (suc n) k p ordered found = candidate-found text ks cs n k p.1 ordered found
 
--- so its text can be written once more
+-- the text of a candidate is within what is written
 pub candidate-inside : (s : Symbol) (w : Direct) (n : ℕ) (k : Candidate) → Kept s w → k.from ≤ k.to
     → slice_get w.candidates.list.items n ≡ Some k → (k.from ≤ k.to) × (k.to ≤ length w.text.list.items)
 candidate-inside s w n k kept ordered found =
@@ -295,7 +295,7 @@ reverse-last xs x = reverse-append xs (x ∷ [])
 
 -- ## Nested names
 
--- the name of a function or of data names none
+-- a nested name that names arguments is a type
 pub type-named : (purpose : Purpose) (d : Bool) → (IsOwn purpose → d ≡ false) → d ≡ true → is_type purpose ≡ true
 type-named Purpose.Type d closed e = refl
 type-named (Purpose.Name mark) d closed e = cc (sym (closed tt) ∙ e)
@@ -316,7 +316,7 @@ nest-stays front bytes text more nest t p = record {
   names_class = p.names_class;
 }
 
--- and a template before its arguments
+-- a template before its arguments stays one where more is written
 pub template-stays : (detail : Detail) (names : Names) (owner : Open) (front : List ℕ) (t : Term) (name text more : List ℕ) → IsTemplate detail names owner front t name text
     → IsTemplate detail names owner front t name (text ++ more)
 template-stays detail names (Open.TypeArguments from is_dependent) front t name text more p = p
@@ -361,14 +361,14 @@ list-begins s old mid new ks kept owner front name t lists opening_ template wri
       );
     }
 
--- what was opened, where there was memory, is what comes next
+-- what was opened comes next, if there was memory
 pub opened-so : (r : Option Step) (step : Step) (A : Type 0) (P : Step → Type 0) → IfSome r (λ next. (next ≡ step) × A) → (A → P step) → IfSome r P
 opened-so None step A P is goes = tt
 opened-so (Some next) step A P is goes = subst P (sym is.0) (goes is.1)
 
--- ## Where what was written after a place is removed
+-- ## What was written after a place is removed
 
--- a candidate that ends in the front of a text is one of that
+-- a candidate of a text that ends within its front is a candidate of the front
 pub candidate-kept : {s : Symbol} {scope : Scope} (text kept rest : List ℕ) (k : Candidate) (c : values.Candidate) → text ≡ kept ++ rest → IsCandidate s scope text k c
     → k.to ≤ length kept → IsCandidate s scope kept k c
 candidate-kept text kept rest k c is p within =
@@ -398,7 +398,7 @@ one-left hiding scope left text kept stay k n c (inr none) p ordered =
     let never : 1 ≤ 0 = subst (λ (m : Candidate). m.from ≤ m.to) none ordered in
     absurd (omega (arith, never))
 
--- Where the candidates that don't stay are nowhere, all are candidates if each that stays is one.
+-- If the candidates that stay are candidates of the new text, all are, once the others are nowhere.
 pub candidates-left : (s : Symbol) (hiding : Hiding) (scope left : Scope) (text kept : List ℕ)
     → ((k : Candidate) (c : values.Candidate) → Stays hiding k → IsCandidate s scope text k c → IsCandidate s left kept k c) → (ks ns : List Candidate) (cs : List values.Candidate)
     → AreLeft hiding ks ns → AreCandidates s scope text ks cs → AreCandidates s left kept ns cs
@@ -410,7 +410,7 @@ candidates-left s hiding scope left text kept stay [] (n ∷ ns) cs are p = absu
 candidates-left s hiding scope left text kept stay (k ∷ ks) [] cs are p = absurd are
 candidates-left s hiding scope left text kept stay (k ∷ ks) (n ∷ ns) [] are p = absurd p
 
--- what a writer keeps where what follows this is removed, if the arguments that may be named are in what stays
+-- what a writer keeps when the text after a place is removed, if the arguments that may be named stay
 abbrev pub kept-cut : (s : Symbol) (old new : Direct) (kept : Kept s old) (left rest : List ℕ) (to : ℕ) → old.text.list.items ≡ left ++ rest → to ≡ length left
     → new.text.list.items ≡ left → AreLeft (Hiding.After to) old.candidates.list.items new.candidates.list.items → new.has_scope ≡ old.has_scope
     → AreNamed left kept.scope → Kept s new
@@ -423,11 +423,11 @@ kept-cut s old new kept left rest to written to_is left_is are scope_same named 
       old.candidates.list.items new.candidates.list.items kept.state.candidates are kept.keeps.candidates) named kept.keeps.single kept.keeps.unknown;
 }
 
--- the front of a text that was shortened
+-- the bytes before a place, where what was after it is removed
 pub front-left : (text left rest : List ℕ) (to : ℕ) → text ≡ left ++ rest → to ≡ length left → take to text ≡ left
 front-left text left rest to written to_is = ap (λ n. take n text) to_is ∙ ap (λ l. take (length left) l) written ∙ take-append_seam left rest
 
--- a candidate that names no arguments is one where none may be named
+-- a candidate that names no arguments stays one where none may be named
 pub closed-kept : (s : Symbol) (scope : Scope) (text : List ℕ) (k : Candidate) (c : values.Candidate) → Stays Hiding.Dependent k → IsCandidate s scope text k c
     → IsCandidate s no_scope text k c
 closed-kept s scope text k c closed own = record {
@@ -438,7 +438,7 @@ closed-kept s scope text k c closed own = record {
   made_in = λ e. cc (sym closed ∙ e);
 }
 
--- what a writer keeps where arguments aren't named any more, and candidates that name them are nowhere
+-- what a writer keeps once arguments can't be named any more, and candidates that name them are nowhere
 abbrev pub kept-closed : (s : Symbol) (old new : Direct) (kept : Kept s old) → AreLeft Hiding.Dependent old.candidates.list.items new.candidates.list.items
     → new.text ≡ old.text → is_object s.bytes ≡ false → Kept s new
 kept-closed s old new kept are text typed = record {
@@ -454,15 +454,15 @@ kept-closed s old new kept are text typed = record {
   };
 }
 
--- ## One after the other
+-- ## Candidates are visited one after the other
 
--- those before a place were visited, and the others are as they were
+-- the candidates before a place were visited, and the others are as they were
 abbrev pub AreGoneOver : (hiding : Hiding) → (at : ℕ) → (old now : List Candidate) → Type 0
 AreGoneOver hiding zero old now = now ≡ old
 AreGoneOver hiding (suc at) (k ∷ old) (n ∷ now) = IsLeft hiding k n × AreGoneOver hiding at old now
 AreGoneOver hiding (suc at) _ _ = ⊥
 
--- so was the next one
+-- the next candidate was visited, too
 pub one-gone : (hiding : Hiding) (at : ℕ) (old now : List Candidate) (n other : Candidate) → AreGoneOver hiding at old now → at < length now
     → IsLeft hiding (get_or now at other) n → AreGoneOver hiding (suc at) old (slice_set now at n)
 one-gone hiding zero (k ∷ old) (m ∷ now) n other gone below is = (subst (λ x. IsLeft hiding x n) (cc gone) is, cc gone)
@@ -471,7 +471,7 @@ one-gone hiding (suc at) (k ∷ old) (m ∷ now) n other gone below is = (gone.0
 one-gone hiding (suc at) [] (m ∷ now) n other gone below is = absurd gone
 one-gone hiding at old [] n other gone below is = absurd (omega (arith, below))
 
--- and so were all at the end
+-- at the end all candidates were visited
 pub all-gone : (hiding : Hiding) (at : ℕ) (old now : List Candidate) → AreGoneOver hiding at old now → length now ≤ at → AreLeft hiding old now
 all-gone hiding zero [] [] gone over = tt
 all-gone hiding zero (k ∷ old) [] gone over = cc gone

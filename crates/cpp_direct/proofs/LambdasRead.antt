@@ -14,7 +14,7 @@ lambda-unmarked : (digit : Option ℕ) → IsLambdaDigit digit → IsUnmarked (l
 lambda-unmarked None is = refl
 lambda-unmarked (Some d) is = more-unmarked (d + 2) [] (is-no-mark (d + 2) (λ e. omega (arith, is.0, e)) (λ e. omega (arith, is.0, e))) refl
 
--- it is read, and written
+-- a lambda without parameters is read and written
 pub lambda-told : (s : Symbol) (old new : Direct) (digit : Option ℕ) → IsLambdaDigit digit → StandsAt s.bytes old.at (85 ∷ lambda_bytes (lambda_digits digit))
     → new.at ≡ old.at + length (85 ∷ lambda_bytes (lambda_digits digit)) → Reads old new (codes "{lambda()#" ++ lambda_number digit ++ codes "}")
     → (p : Term) × (n : List ℕ) × IsPieceAt s old.at p new.at × PrintsPiece (detail_of s) p n × Reads old new n
@@ -26,17 +26,17 @@ lambda-told s old new digit is stands ends reads = (
   reads,
 )
 
--- its first bytes are there, with parameters
+-- the first bytes of a lambda that has parameters
 abbrev lambda_front : List ℕ
 lambda_front = codes "::{lambda("
 
--- the bracket of its parameters, as a text of its own
+-- the bracket before a lambda's parameters, as a text of its own
 pub lambda-bracket : (f b l : List ℕ) → (f ++ (b ++ codes "::{lambda(")) ++ l ≡ (f ++ (b ++ codes "::{lambda")) ++ codes "(" ++ l
 lambda-bracket f b l = simp append_assoc
 
 -- ## Their parameters
 
--- the first one comes next
+-- the first parameter of a lambda comes next
 begun : (s : Symbol) (old new : Direct) (from : ℕ) (holder : Holder) (kept : Kept s old) (h : IsLed (detail_of s) holder from)
     → old.text.list.items ≡ h.front ++ h.bytes → (made : Term → (at : ℕ) → State → Type 0) → LambdaOpened s made (old.at + 1 + 1) kept.state
     → ((p : Term) (at : ℕ) (st : State) → made p at st → LambdaComes s holder (below s kept.scope (reverse old.waiting.list.items)) h.front h.e p at st)
@@ -68,7 +68,7 @@ begun s old new from holder kept h written made first becomes entry =
     first.outside (inr (inl (subst (λ k. Expects s Kind.Item first.around first.inner k kept.state) (omega (arith, entry.at)) first.awaits))) stands_
     (none-scoped kept.scope first.around (Open.Lambda from holder ∷ rest) refl)
 
--- of a lambda in a function,
+-- the first parameter of a lambda in a function comes next
 pub begun-in-function : (s : Symbol) (old new : Direct) (from : ℕ) → AwaitsTypeName s old from → IsLambdaOpened s.bytes old new from Holder.Function
     → IsWriting s new Step.Type
 begun-in-function s old new from a entry =
@@ -82,7 +82,7 @@ begun-in-function s old new from a entry =
     (subst (λ k. Expects s Kind.TypeEntity (after r.e true entity.around) entity.inner k r.state) (sym a.at_is) entity.awaits) entry.stands)
     (λ p at st comes. (w.0, w.1, λ digit last told. entity.onward p at st comes digit last told, w.3)) entry
 
--- of one in a nested name,
+-- the first parameter of a lambda in a nested name comes next
 pub begun-in-name : (s : Symbol) (old new : Direct) → IsWriting s old Step.Component → old.nest.is_dependent ≡ false
     → IsLambdaOpened s.bytes old new old.nest.from (Holder.Name old.nest.purpose) → IsWriting s new Step.Type
 begun-in-name s old new p closed_ entry =
@@ -95,7 +95,7 @@ begun-in-name s old new p closed_ entry =
     (lambda-opens s Kind.Component a.inner n.around t a.listed old.at p.state tt entry.short a.awaits entry.stands)
     (λ u at st comes. (n.outer, n.around, a.onward (within t u) at st comes, n.scoped.scoped, n.serves)) entry
 
--- and of one that has a member function
+-- the first parameter of a lambda that has a member function comes next
 pub begun-in-member : (s : Symbol) (old new : Direct) (mark : Mark) → AwaitsFirst s old mark → IsLambdaOpened s.bytes old new 0 (Holder.Member mark)
     → IsWriting s new Step.Type
 begun-in-member s old new mark a entry =
@@ -126,7 +126,7 @@ lambda-parameter-read s w from holder p =
       goes = waits.5 p.read.own w.at p.read.state p.read.comes;
     }
 
--- another one comes next
+-- another parameter comes next
 pub lambda-next : (s : Symbol) (w last : Direct) (from : ℕ) (holder : Holder) → IsLambdaParameterRead s w from holder → Writes w last (codes ", ")
     → IsWriting s last Step.Type
 lambda-next s w last from holder p one =
@@ -145,7 +145,7 @@ lambda-next s w last from holder p one =
 
 -- ## Their end
 
--- it is read
+-- a lambda is read
 pub lambda-ended : (s : Symbol) (w : Direct) (next : ℕ) (pushed numbered new : Direct) (from : ℕ) (holder : Holder)
     (p : IsLambdaParameterRead s w from holder) → p.texts ≢ codes "void" → StandsAt s.bytes w.at (69 ∷ []) → next ≡ w.at + 1
     → Writes (record w { at = next }) pushed (codes ")#") → (number : Option ℕ) → IsLambdaDigit number → StandsAt s.bytes pushed.at (lambda_digits number ++ 95 ∷ [])
@@ -192,7 +192,7 @@ ended-in-function s old last new from p digit is read candidates text waiting sc
     (λ e. absurd (false≢true e)) text candidates scope (ap (λ v. reverse v.list.items) (waiting ∙ read.waiting)) (λ e. absurd (false≢true e))
     (subst (λ k. Comes s w.0 (tree t true) k (with_candidate w.1 t p.state)) (sym here) (w.2 digit last.at is)) w.3
 
--- after a lambda in a nested name this continues
+-- a nested name continues after a lambda in it
 pub ended-in-name : (s : Symbol) (w : Direct) (from : ℕ) (purpose : Purpose) → IsLambdaRead s w from (Holder.Name purpose)
     → IsWriting s (record w { nest = record { from = from; class_from = from; class_to = from; purpose = purpose; is_listed = false; has_class = false; is_instance = false; is_dependent = false } }) Step.Tail
 ended-in-name s w from purpose p =
@@ -223,7 +223,7 @@ ended-in-name s w from purpose p =
       );
     }
 
--- after one that has a member function expects that
+-- after a lambda that has a member function, expects the function
 pub ended-in-member : (s : Symbol) (w : Direct) (from : ℕ) (mark : Mark) → IsLambdaRead s w from (Holder.Member mark) → AwaitsMemberFunction s w mark
 ended-in-member s w from mark p = record {
   kept = p.kept;

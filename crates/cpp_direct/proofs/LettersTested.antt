@@ -1,4 +1,4 @@
--- What is computed at each letter of a list holds at a letter among them: the letters that have texts, codes of two, and those of operators.
+-- What is computed for each letter of a list holds for one of them: letters with texts, codes of two letters, operators' codes.
 use Rattle.cpp_direct.proofs.Basics.{◌≡◌, ℕ, ◌<◌, List, [], ◌∷◌, Bool, true, false, ◌||◌, ◌&&◌, nat_eq, slice_get, Option, Some, None, refl, ap, sym, subst, ◌∙◌, ltb, ◌≢◌, ◌⊎◌, inl, inr, Ok, arith, false≢true, eqb-true, ltb-true, and_parts, alternatives, among, between, builtin_texts, choose, close, Continuation, Forest, found, in_ranges, is_chain, is_in, Kind, look_up, meaning, Naming, number_of, number_of_kind, opening, Operation, operator, operator_or_literal, operator_texts, parts_of, pick, Production, productions, same_bytes, integer_letters, State, Around, letter, piece, letter_of, part, same_choice, kept, Sym, unfolding_behind}
 
 -- each of the bytes passes a test
@@ -6,7 +6,7 @@ unfoldable pub each_passes : (ℕ → Bool) → List ℕ → Bool
 each_passes test [] = true
 each_passes test (c ∷ cs) = test c && each_passes test cs
 
--- so one among them does
+-- each byte among them passes the test
 pub tested : (cs : List ℕ) (test : ℕ → Bool) → each_passes test cs ≡ true → (byte : ℕ) → among cs byte ≡ true → test byte ≡ true
 unfolding among each_passes
 tested [] test all byte is = absurd (false≢true is)
@@ -26,7 +26,7 @@ pub small : (byte : ℕ) → is_small byte ≡ true → byte < 256
 unfolding is_small
 small byte is = ltb-true byte 256 is
 
--- this production is taken
+-- the production that is taken is this one
 unfoldable pub takes : Production → Option Production → Bool
 takes p None = false
 takes p (Some q) = nat_eq (number_of q) (number_of p)
@@ -176,7 +176,7 @@ byte-is b is =
     let more : 0 < b = ltb-true 0 b both.0 in
     (ltb-true b 256 both.1, λ e. omega (arith, e, more))
 
--- within a nested name what begins with a c has its own kind, and any other operator is chosen as elsewhere
+-- within a nested name, an operator that begins with a c has its own kind, and any other one is chosen as elsewhere
 is_component : ℕ → ℕ → Bool
 is_component first second = (nat_eq first 99 && is_mark (choose Kind.OperatorAfterC second)) || same_choice (choose Kind.Operator first) (choose Kind.OtherOperator first)
 
@@ -184,7 +184,7 @@ is_component first second = (nat_eq first 99 && is_mark (choose Kind.OperatorAft
 is_code : ℕ → ℕ → Bool
 is_code first second = ((is_byte first && is_byte second) && is_code_by (choose Kind.Operator first) second) && is_component first second
 
--- They are read as that operator.
+-- The two letters are read as that operator.
 pub record IsOperator (first second : ℕ) : Type 0 where
   pub production : Production
   pub kind : Kind

@@ -20,17 +20,17 @@ last-found xs x found = go (reverse xs) refl
               ∙ get_or_from_slice_get xs (length xs - 1) x y found),
         )
 
--- likewise, and what was open before it, where it is removed
+-- the innermost open entry, and the entries around it once it is removed
 opened-last : (ws ps : List Open) (x owner : Open) (rest : List Open) → reverse ws ≡ owner ∷ rest → ws ≡ ps ++ x ∷ [] → (owner ≡ x) × (rest ≡ reverse ps)
 opened-last ws ps x owner rest turned is = let e : owner ∷ rest ≡ x ∷ reverse ps = sym turned ∙ ap reverse is ∙ reverse-last ps x in (cc e, cc e)
 
--- it is this one
+-- the innermost open entry is this one
 pub waits-last : (items xs : List Open) (x y : Open) → xs ≡ items → Some x ≡ slice_get xs (length xs - 1) → x ≡ y → slice_get items (length items - 1) ≡ Some y
 waits-last items xs x y same found is = ap (λ l. slice_get l (length l - 1)) (sym same) ∙ sym found ∙ ap (λ o. Some o) is
 
 -- ## Lists
 
--- one more element after these
+-- a list with one more element isn't empty
 pub some-elements : (ts : List Term) (t : Term) → ts ++ t ∷ [] ≢ []
 some-elements [] t e = cc e
 some-elements (u ∷ ts) t e = cc e
@@ -152,7 +152,7 @@ closed-arguments s w owner p = (
   λ o. let h = p.known.1 o in record { all = list_with p.ts p.tail; all_are = refl; elements = h.0; there = h.1; are = h.2 },
 )
 
--- the arguments of a type
+-- the arguments of a type end
 pub type-closed : (s : Symbol) (w new : Direct) (from : ℕ) (is_dependent : Bool) → IsClosed s w (Open.TypeArguments from is_dependent)
     → Lists w new (added w from false is_dependent) → IsWriting s new (Step.Value false is_dependent)
 type-closed s w new from is_dependent p lists =
@@ -184,7 +184,7 @@ instance-nest {detail} names front name text nest is_listed is_instance t ts tai
       ts tail l is (subst (λ d. PrintAllAs detail names d 3 ts l) plain all);
 }
 
--- the arguments of a piece of a nested name
+-- the arguments of a piece of a nested name end
 pub nest-closed : (s : Symbol) (w : Direct) (nest : Nest) → IsClosed s w (Open.NestArguments nest)
     → IsWriting s (record w { nest = record nest { is_listed = false; is_instance = true } }) Step.Tail
 nest-closed s w nest p =
@@ -213,7 +213,7 @@ nest-closed s w nest p =
       );
     }
 
--- the arguments of the first piece of a nested name
+-- the arguments of the first piece of a nested name end
 pub first-closed : (s : Symbol) (w new : Direct) (nest : Nest) → IsClosed s w (Open.FirstArguments nest)
     → Lists w new (added w nest.from false nest.is_dependent) → IsWriting s (record new { nest = nest }) Step.Component
 first-closed s w new nest p lists =
@@ -249,7 +249,7 @@ first-closed s w new nest p lists =
       );
     }
 
--- the arguments of the name of an encoding
+-- the arguments of the name of an encoding end
 pub name-closed : (s : Symbol) (w : Direct) (from : ℕ) → IsClosed s w (Open.NameArguments from) → IsNameEnded s w Mark.Plain true w.argument from
 name-closed s w from p =
     let t = instance p.template (list_with p.ts p.tail) in
@@ -282,7 +282,7 @@ pub no-pack : (w : Direct) (owner : Open) → slice_get w.waiting.list.items (le
     → (rest : List Open) → reverse w.waiting.list.items ≡ Open.Pack ∷ rest → ⊥
 no-pack w owner found other rest e = other (cc (sym (last-found w.waiting.list.items owner found).1 ∙ e))
 
--- The arguments of a name end, which are no pack, with these after their elements.
+-- The arguments of a name, which are no pack, end after their elements and this tail.
 ended-so : (s : Symbol) (w : Direct) (first : Bool) (to : ℕ) (tail : Term) (argument : Arguments) → IsTail tail → (p : IsWriting s w (Step.List first))
     → ((rest : List Open) → reverse w.waiting.list.items ≡ Open.Pack ∷ rest → ⊥)
     → ((o : Open) (rest : List Open) (front : List ℕ) (template : Term) → ArgumentsGoOn s o (below s p.scope rest) front template p.is_before.1 w.at p.state
@@ -326,7 +326,7 @@ list-ends s w first argument p stands apart are_known =
     ended-so s w first (w.at + 1) nil argument (inl refl) p apart (λ o rest front template goes.
     goes.5 nothing_there w.at p.state (expects-empty s Kind.ArgumentList goes.0 goes.1 w.at p.state goes.4 refl) stands) are_known
 
--- an empty pack and an E end them too
+-- an empty pack and an E end the arguments, too
 pub empty-pack-ends : (s : Symbol) (w : Direct) (first : Bool) (argument : Arguments) (p : IsWriting s w (Step.List first))
     → StandsAt s.bytes w.at (74 ∷ 69 ∷ 69 ∷ []) → ((rest : List Open) → reverse w.waiting.list.items ≡ Open.Pack ∷ rest → ⊥)
     → AreKnown (detail_of s) w.text.list.items argument p.is_before.1 (list (pack nil) nil) → IsListEnded s (record w { at = w.at + 3 }) argument
@@ -346,7 +346,7 @@ empty-pack-ends s w first argument p stands apart are_known =
     (behind.5 nothing_there (w.at + 1 + 1) p.state
     (expects-empty s Kind.ArgumentList behind.0 behind.1 (w.at + 1 + 1) p.state behind.4 refl) ends.1))) are_known
 
--- if it is the whole list, it is known
+-- an empty pack is known if it is the whole list
 pub none-packed : {detail : Detail} (text : List ℕ) (is_first : Bool) (ts : List Term) → (is_first ≡ true → ts ≡ [])
     → AreKnown detail text (record nowhere { has_pack = is_first }) ts (list (pack nil) nil)
 unfolding element count
@@ -429,14 +429,14 @@ argument-expected s w new first p text candidates waiting scope_same at =
       goes = subst (λ n. GoesOn s place.listing place.owner (below s p.scope place.rest) place.front place.template ts n p.state) (sym at) p.is_before.7;
     }
 
--- the comma is written
+-- a comma is written before another element
 pub another-expected : (s : Symbol) (w new self : Direct) (first : Bool) → IsWriting s w (Step.List first) → first ≡ false
     → Writes w new (codes ", ") → self ≡ new → AwaitsNextArgument s self
 another-expected s w new self first p is writes same =
     subst (λ d. AwaitsNextArgument s d) (sym same)
     (argument-expected s w new false (subst (λ f. IsWriting s w (Step.List f)) is p) writes.text writes.candidates writes.waiting writes.scope writes.at)
 
--- none is written at the first
+-- no comma is written before the first element
 pub first-expected : (s : Symbol) (w self : Direct) (first : Bool) → IsWriting s w (Step.List first) → first ≡ true → self ≡ w → AwaitsNextArgument s self
 first-expected s w self first p is same =
     subst (λ d. AwaitsNextArgument s d) (sym same)
@@ -509,7 +509,7 @@ TakesArguments (Open.NameArguments from) = Unit {0}
 TakesArguments (Open.LevelArguments is_dependent) = Unit {0}
 TakesArguments _ = ⊥
 
--- or is a pack of such types
+-- the open entry accepts arguments, or is a pack
 abbrev pub TakesElements : Open → Type 0
 TakesElements Open.Pack = Unit {0}
 TakesElements o = TakesArguments o
@@ -523,8 +523,8 @@ template-takes detail names (Open.NameArguments from) front t name text is = tt
 template-takes detail names (Open.LevelArguments is_dependent) front t name text is = tt
 template-takes detail names _ front t name text is = absurd is
 
--- an element of theirs is expected as the open entries have it; they have no arguments that types name, and the type of an
--- enumerator is expected likewise
+-- The open entries accept a type as an argument exactly if the list of arguments does. Types name none of the list's arguments.
+-- The type of an enumerator is accepted, too.
 arguments-stand : (s : Symbol) (scope : Scope) (owner : Open) (rest : List Open) (os : List Opened) (text : List ℕ) → TakesArguments owner
     → (AwaitsElementOf s scope.names of_template owner (below s scope rest) os text → Stands s scope (owner ∷ rest) os text)
     × (Stands s scope (owner ∷ rest) os text → AwaitsElementOf s scope.names of_template owner (below s scope rest) os text) × (arguments_in owner ≡ None)
@@ -536,7 +536,7 @@ arguments-stand s scope (Open.NameArguments from) rest os text takes = (λ p. p,
 arguments-stand s scope (Open.LevelArguments is_dependent) rest os text takes = (λ p. p, λ p. p, refl, λ e. e)
 arguments-stand s scope _ rest os text takes = absurd takes
 
--- in arguments types may name what they may name around them, and in a pack nothing
+-- types in arguments may name what types around them may name, and types in a pack name nothing
 list-scoped : (s : Symbol) (scope : Scope) (around : Around) (opened : List Open) (text : List ℕ) (p : IsListing (detail_of s) scope.names opened text)
     → scoped_in p.owner (below s scope p.rest) around → IsScoped scope around opened
 list-scoped s scope around opened text p scoped = go p.listing p.belongs
@@ -548,7 +548,7 @@ list-scoped s scope around opened text p scoped = go p.listing p.belongs
     go (of_pack before written) is =
         subst (λ ws. IsScoped scope around ws) (sym is.0) (none-scoped scope around (Open.Pack ∷ p.owner ∷ p.rest) refl)
 
--- the entry is open this way
+-- if a list waits for an element, so do the open entries
 list-stands : (s : Symbol) (scope : Scope) (opened : List Open) (os : List Opened) (text : List ℕ) → ListWaits s scope opened os text
     → Stands s scope opened os text
 list-stands s scope opened os text w =
@@ -573,7 +573,7 @@ waits-of s scope owner rest os text p = record {
   onward = p.8;
 }
 
--- and an entry that is open this way is a list
+-- open entries that accept an element, and wait, are a list
 pub list-waits : (s : Symbol) {scope : Scope} (o : Open) (rest : List Open) (os : List Opened) (text : List ℕ) → TakesElements o
     → Stands s scope (o ∷ rest) os text → ListWaits s scope (o ∷ rest) os text
 list-waits s Open.Pack [] os text takes p = absurd p
@@ -615,7 +615,7 @@ element-stands s w a os onward =
           a.ts t w.at here a.state now a.goes (onward t here now comes);
     })
 
--- and its types may name what they may name around it
+-- the types of an element may name what types around the list may name
 pub element-scoped : (s : Symbol) (w : Direct) (a : AwaitsNextArgument s w) → IsScoped a.scope a.goes.0 (reverse w.waiting.list.items)
 element-scoped s w a = list-scoped s a.scope a.goes.0 (reverse w.waiting.list.items) w.text.list.items a.place a.goes.3
 

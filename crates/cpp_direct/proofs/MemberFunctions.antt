@@ -55,7 +55,7 @@ entity-read s old pushed new mark a one p n is prints two =
 
 -- ## Its member function
 
--- a source name is the name of one
+-- a source name is the name of a member function
 pub source-component : (s : Symbol) (old new : Direct) (name : List ℕ) → IsNameAt s.bytes old.at name new.at → name ≢ [] → Reads old new (source_text name)
     → (p : Term) × (n : List ℕ) × IsComponentAt s old.at p new.at × PrintsPiece (detail_of s) p n × Reads old new n
 source-component s old new name is filled reads = (
@@ -66,7 +66,7 @@ source-component s old new name is filled reads = (
   reads,
 )
 
--- and so is the operator of a call
+-- the operator of a call is the name of a member function
 pub call-component : (s : Symbol) (old new : Direct) → StandsAt s.bytes old.at (99 ∷ 108 ∷ []) → new.at ≡ old.at + 2 → Reads old new (codes "operator()")
     → (p : Term) × (n : List ℕ) × IsComponentAt s old.at p new.at × PrintsPiece (detail_of s) p n × Reads old new n
 unfolding look_up operator_texts same_bytes opening_text
@@ -79,7 +79,7 @@ call-component s old new stands at reads = (
   reads,
 )
 
--- it is read: expects the parameters
+-- the name of a member function is read: expects the parameters
 pub function-named : (s : Symbol) (old kept_ pushed read : Direct) (end : ℕ) (mark : Mark) (a : AwaitsMemberFunction s old mark) → Lists old kept_ (added old 0 false false)
     → Writes kept_ pushed (codes "::") → (p : Term) (n : List ℕ) → IsComponentAt s pushed.at p read.at → PrintsPiece (detail_of s) p n → Reads pushed read n
     → StandsAt s.bytes read.at (69 ∷ []) → end ≡ read.at + 1 → AwaitsMemberParameters s (record read { at = end }) mark
@@ -110,7 +110,7 @@ function-named s old kept_ pushed read end mark a lists one p n is prints two en
 
 -- ## Its parameters, and its end
 
--- one is read
+-- a parameter of a member function is read
 pub member-parameter-read : (s : Symbol) (w : Direct) (mark : Mark) (to : ℕ) → IsElementRead s w (Open.Member mark to) → IsMemberParameterRead s w mark to
 member-parameter-read s w mark to p =
     let read = p.read in

@@ -3,7 +3,7 @@ use Rattle.cpp_direct.proofs.AllGround.{◌≡◌, ◌≢◌, ℕ, ◌+◌, List
 use Rattle.cpp_direct.proofs.AllRead.{IsClosed, element-kind, element-scoped, element-stands, instance-as}
 use Rattle.cpp_direct.proofs.PrintedLevels.{member-as}
 
--- one begins: the name of the template is read, and its arguments are expected
+-- a member begins: the name of the template is read, and its arguments are expected
 pub level-begins : (s : Symbol) (old named new : Direct) (first second at : ℕ) → AwaitsNextArgument s old → s.is_wide ≡ true → StandsAt s.bytes old.at (88 ∷ [])
     → first ≡ old.at + 1 → StandsAt s.bytes first (115 ∷ []) → second ≡ first + 1 → StandsAt s.bytes second (114 ∷ []) → at ≡ second + 1
     → (name : List ℕ) × IsNameAt s.bytes at name named.at × (name ≢ []) × Reads (record old { at = at }) named (source_text name)
@@ -44,7 +44,7 @@ level-begins s old named new first second at a wide letter first_is first_letter
       ),
     )
 
--- its arguments are read
+-- the arguments of the template are read
 pub level-closed : (s : Symbol) (w : Direct) (is_dependent : Bool) → IsClosed s w (Open.LevelArguments is_dependent) → AwaitsMember s w is_dependent
 level-closed s w is_dependent p = record {
   kept = p.kept;

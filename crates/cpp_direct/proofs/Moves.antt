@@ -1,4 +1,4 @@
--- The moves of a reader that goes from left to right: a rule opens, its next part is expected, and it closes.
+-- The moves of a reader that goes from left to right: a rule opens, its next part is expected, and the rule closes.
 use Rattle.cpp_direct.proofs.Basics.{◌≡◌, ℕ, ◌+◌, ◌<◌, List, [], ◌∷◌, ◌++◌, length, slice_get, true, not, Some, Result, Ok, Err, refl, ap, subst, ◌∙◌, Bool, false, ◌&&◌, Option, sym, arith, if◌then◌else◌, after, alone, alternatives, among, AreTrees, between, byte_of, choose, close, Continuation, cpp, extended, Forest, Found, found, grown, in_ranges, is_chain, is_in, IsTree, Kind, kinds, may_be_empty, named_so_far, Next, nothing, number_of, number_of_kind, NumberKind, opening, parts_of, pick, Production, Refusal, rule_of, spell_all, standing, Sym, symbols_of, TakesRule, Term, Tree, unfold_forest, unfold_tree, wide_alternatives, wide_choose, ◌>>=◌, State, Around, Value, nothing_there, tree, outermost, Symbol, table_by, cpp_language, Awaits, Opened, opened, ReadsRest, StandsAt, Comes, Needs, ExpectsSym, Expects, IsNameAt, IsNumberAt, false≢true, and_parts, not-true, Token, bytes_of, IsNumberToken}
 use Rattle.cpp_grammar.specs.Values.{text}
 use Rattle.cpp_grammar.proofs.ClosedTrees.{at_number, its_symbols}
@@ -23,14 +23,14 @@ pub takes-it : (s : Symbol) (kind : Kind) (p : Production) (byte : ℕ) (taken :
     → taken ≡ (if not (is_chain p) then byte ∷ [] else []) → TakesRule (table_by s.is_wide) (number_of_kind kind) (rule_of p) taken
 takes-it s kind p byte taken chosen small takes = takes-by s.is_wide kind (number_of_kind kind) byte p taken (kind-at kind) chosen small takes
 
--- a production that only the wide grammar has
+-- a kind takes a production that only the wide grammar has
 pub takes-wide : (s : Symbol) (kind : Kind) (p : Production) (byte : ℕ) (taken : List ℕ) → s.is_wide ≡ true → wide_choose kind byte ≡ Some p → byte < 256
     → taken ≡ (if not (is_chain p) then byte ∷ [] else []) → TakesRule (table_by s.is_wide) (number_of_kind kind) (rule_of p) taken
 takes-wide s kind p byte taken wide chosen small takes = tables.takes-wide s.is_wide kind (number_of_kind kind) byte p taken wide (kind-at kind) chosen small takes
 
 -- ## Bytes at a place
 
--- places are compared
+-- bytes at a place are at an equal place
 pub stands-moved : (s : List ℕ) (at to : ℕ) (bytes : List ℕ) → at ≡ to → StandsAt s at bytes → StandsAt s to bytes
 stands-moved s at to bytes same = subst (λ k. StandsAt s k bytes) same
 
@@ -52,7 +52,7 @@ opens-by s kind p taken around os at st takes begins expects stands =
     subst (λ l. Needs s os (standing (rule_of p) taken at around st) [] l (at + length taken) st) (its_symbols p)
     (moves.opens (cpp_language s) s.bytes (number_of_kind kind) (rule_of p) taken around os at st st takes (begins-so p taken around at st begins) expects stands)
 
--- likewise where the production begins well with whatever parts are in the symbol
+-- likewise where the opening of the production succeeds, whatever parts are in the symbol
 pub opens-where : (s : Symbol) (kind : Kind) (p : Production) (byte : ℕ) (taken : List ℕ) (around : Around) (os : List Opened) (at : ℕ) (st : State)
     → choose kind byte ≡ Some p → byte < 256 → taken ≡ (if not (is_chain p) then byte ∷ [] else [])
     → ((f : Forest) → AreTrees (table_by s.is_wide) (parts_of p) f → StandsAt s.bytes (at + length taken) (spell_all f) → opening p f at st ≡ Ok st)
@@ -63,7 +63,7 @@ opens-where s kind p byte taken around os at st chosen small takes begins expect
     (moves.opens-where (cpp_language s) s.bytes (number_of_kind kind) (rule_of p) taken around os at st st (takes-it s kind p byte taken chosen small takes)
     (λ f shaped there. ap (λ q. opening q f at st) (at_number p) ∙ begins f (subst (λ l. AreTrees (table_by s.is_wide) l f) (its_symbols p) shaped) there) expects stands)
 
--- a kind takes a production at its byte, whose parts are read
+-- a kind takes a production at its byte, and the production's parts are read
 unfoldable pub reads-rule : (s : Symbol) (kind : Kind) (p : Production) (byte : ℕ) (taken : List ℕ) (around : Around) (at : ℕ) (st inner after : State)
     (bytes : List ℕ) (vs : List Value) (w : Value)
     → choose kind byte ≡ Some p → byte < 256 → taken ≡ (if not (is_chain p) then byte ∷ [] else [])
@@ -81,7 +81,7 @@ pub goes-so : (p : Production) (taken : List ℕ) (at0 : ℕ) (around : Around) 
 unfolding cpp
 goes-so p taken at0 around before known st next goes = ap (λ q. between q around at0 known st) (at_number p) ∙ goes
 
--- a part of a production is read, and those after it
+-- a part of a production is read, and then the parts after it
 unfoldable pub joins : (s : Symbol) (p : Production) (taken : List ℕ) (at0 : ℕ) (around : Around) (before : State) (known : List Value) (x : Sym)
     (todo : List Sym) (at : ℕ) (st : State) (context : Around) (values : List Value) (state after inner : State) (v : List Value)
     (first more : List ℕ) (vs : List Value)
@@ -94,7 +94,7 @@ joins s p taken at0 around before known x todo at st context values state after 
     (record { context = context; values = values; state = state }) after inner v first more vs
     (goes-so p taken at0 around before known st (record { context = context; values = values; state = state }) goes) one rest
 
--- no part is left
+-- no part of the rule remains to be read
 unfoldable pub none-left : (s : Symbol) (p : Production) (taken : List ℕ) (at0 : ℕ) (around : Around) (before : State) (known : List Value) (at : ℕ) (st : State)
     → ReadsRest s (standing (rule_of p) taken at0 around before) known [] at [] st known st
 none-left s p taken at0 around before known at st = moves.none-left (cpp_language s) s.bytes (standing (rule_of p) taken at0 around before) known at st
@@ -126,8 +126,8 @@ ends s p taken at0 around before known os at st w after needs closes =
     moves.ends (cpp_language s) s.bytes (standing (rule_of p) taken at0 around before) known os at st w after needs
     (closed-so p taken at0 around before known st w after closes)
 
--- Two rules that continue alike are closed alike: the reader handles both the same way up to the last part, and closes both the
--- same way.
+-- Two rules that continue alike are closed alike: the reader handles both rules the same way up to the last part, and then closes
+-- them.
 pub comes-alike : (s : Symbol) (os : List Opened) (p q : Production) (taken : List ℕ) (at0 : ℕ) (around : Around) (before : State) (x : Sym) (v w : Value) (at : ℕ)
     (st now : State) (context : Around) (vs ws : List Value) (state : State)
     → ◌≡◌ {A = Continuation} (between p around at0 (v ∷ []) st) (Ok (record { context = context; values = vs; state = state }))
@@ -183,7 +183,7 @@ pub hole : (s : Symbol) (kind : Kind) (around : Around) (os : List Opened) (at :
     → Hole s (OfKind (number_of_kind kind)) around os at st
 hole s kind around os at st expects = record { expects = expects }
 
--- and an accepted value has filled one
+-- an accepted value has filled a hole
 pub came : (s : Symbol) (os : List Opened) (v : Value) (at : ℕ) (st : State) → Comes s os v at st → Filled s os v at st
 came s os v at st comes = record { comes = comes }
 
@@ -206,7 +206,7 @@ pub fill : {s : Symbol} {x : Sym} {around : Around} {os : List Opened} {at : ℕ
     (now : State) → Comes s os v to now → Filled s os v to now
 fill h v to now comes = record { comes = comes }
 
--- places are compared
+-- a hole that is filled up to a place is filled up to an equal place
 pub filled-at : {s : Symbol} {os : List Opened} {v : Value} {at : ℕ} {st : State} (to : ℕ) → Filled s os v at st → at ≡ to → Filled s os v to st
 filled-at {s = s} {os = os} {v = v} {st = st} to f same = subst (λ k. Filled s os v k st) same f
 
@@ -216,7 +216,7 @@ hole-at {s = s} {x = x} {around = around} {os = os} {st = st} to h same = subst 
 
 -- ## Productions that are chosen
 
--- A kind takes a production, and these bytes with it: one, or none.
+-- A kind takes a production, which consumes these bytes: one byte or none.
 pub record Taken (s : Symbol) (kind : Kind) (p : Production) (bytes : List ℕ) : Type 0 where
   pub takes_rule : TakesRule (table_by s.is_wide) (number_of_kind kind) (rule_of p) bytes
   pub begins : (f : Forest) (at : ℕ) (st : State) → opening p f at st ≡ Ok st
@@ -237,11 +237,11 @@ begins-untested _ is f at st = refl
 unfoldable pub is_eater : Option Production → Production → ℕ → Bool
 is_eater choice p byte = takes p choice && (is_small byte && (not (is_chain p) && is_untested p))
 
--- a production is taken at a byte, which it leaves
+-- a production is taken at a byte, which it doesn't consume
 unfoldable pub is_leaver : Option Production → Production → ℕ → Bool
 is_leaver choice p byte = takes p choice && (is_small byte && (is_chain p && is_untested p))
 
--- by the ABI's grammar
+-- likewise by the ABI's grammar
 unfoldable pub is_eaten : Kind → Production → ℕ → Bool
 unfolding is_eater takes is_small is_untested choose alternatives pick is_in in_ranges among is_chain number_of
 is_eaten kind p byte = is_eater (choose kind byte) p byte
@@ -250,12 +250,12 @@ unfoldable pub is_left : Kind → Production → ℕ → Bool
 unfolding is_leaver takes is_small is_untested choose alternatives pick is_in in_ranges among is_chain number_of
 is_left kind p byte = is_leaver (choose kind byte) p byte
 
--- a production that begins well, at a byte that selects it
+-- a kind takes a production, if the byte selects it and its opening succeeds
 pub chosen-byte : (s : Symbol) (kind : Kind) (p : Production) (byte : ℕ) → choose kind byte ≡ Some p → byte < 256 → is_chain p ≡ false
     → ((f : Forest) (at : ℕ) (st : State) → opening p f at st ≡ Ok st) → Taken s kind p (byte ∷ [])
 chosen-byte s kind p byte chosen below chain begun = record { takes_rule = takes-it s kind p byte (byte ∷ []) chosen below (rw chain refl); begins = begun }
 
--- so a production is taken and its byte consumed
+-- a production is taken, and its byte is consumed
 pub eats : (s : Symbol) (kind : Kind) (p : Production) (byte : ℕ) → is_eaten kind p byte ≡ true → Taken s kind p (byte ∷ [])
 unfolding is_eaten is_eater takes is_small is_untested choose alternatives pick is_in in_ranges among is_chain number_of
 eats s kind p byte is =
@@ -264,7 +264,7 @@ eats s kind p byte is =
     let third = and_parts (not (is_chain p)) (is_untested p) second.1 in
     chosen-byte s kind p byte (taken p (choose kind byte) first.0) (small byte second.0) (not-true (is_chain p) third.0) (begins-untested p third.1)
 
--- or left
+-- a production is taken, and its byte isn't consumed
 pub leaves : (s : Symbol) (kind : Kind) (p : Production) (byte : ℕ) → is_left kind p byte ≡ true → Taken s kind p []
 unfolding is_left is_leaver takes is_small is_untested choose alternatives pick is_in in_ranges among is_chain number_of
 leaves s kind p byte is =
@@ -276,7 +276,7 @@ leaves s kind p byte is =
       begins = begins-untested p third.1;
     }
 
--- by the wide grammar
+-- likewise by the wide grammar
 unfoldable pub is_eaten_widely : Kind → Production → ℕ → Bool
 unfolding is_eater takes is_small is_untested wide_choose wide_alternatives pick is_in in_ranges among is_chain number_of
 is_eaten_widely kind p byte = is_eater (wide_choose kind byte) p byte
@@ -308,7 +308,7 @@ byte-opens {s = s} {kind = kind} {p = p} {byte = byte} {around = around} {os = o
           (opens-by s kind p (byte ∷ []) around os at st t.takes_rule (λ f. t.begins f at st) h.expects stands));
     }
 
--- the first part of a production that doesn't take its byte
+-- expects the first part of a production that doesn't take its byte
 pub chain-opens : {s : Symbol} {kind : Kind} {p : Production} {around : Around} {os : List Opened} {at : ℕ} {st : State} {x : Sym} {todo : List Sym}
     {context : Around} {values : List Value} {state : State}
     → Taken s kind p [] → Hole s (OfKind (number_of_kind kind)) around os at st
@@ -358,14 +358,14 @@ pub none-fills : {s : Symbol} {around : Around} {os : List Opened} {at : ℕ} {s
     → may_be_empty kind ≡ true → Filled s os nothing_there at st
 none-fills {s = s} {around = around} {os = os} {at = at} {st = st} kind h may = record { comes = expects-empty s kind around os at st h.expects may }
 
--- a fixed byte of the rule
+-- a fixed byte fills its hole
 pub fixed-fills : {s : Symbol} {b : ℕ} {around : Around} {os : List Opened} {at : ℕ} {st : State} → Hole s (Byte b) around os at st
     → StandsAt s.bytes at (b ∷ []) → Filled s os nothing_there (at + 1) st
 unfolding cpp
 fixed-fills {s = s} {b = b} {around = around} {os = os} {at = at} {st = st} h stands =
     record { comes = moves.expects-byte (cpp_language s) s.bytes b around os at st h.expects stands }
 
--- a name
+-- a name fills its hole
 pub name-fills : {s : Symbol} {around : Around} {os : List Opened} {at : ℕ} {st : State} (name : List ℕ) (end : ℕ) → Hole s Name around os at st
     → IsNameAt s.bytes at name end → Filled s os (text name) end st
 unfolding cpp
@@ -376,7 +376,7 @@ name-fills {s = s} {around = around} {os = os} {at = at} {st = st} name end h is
     } in
     subst (λ l. Filled s os (text l) end st) is.own (filled-at end came (sym is.ends))
 
--- a number of a kind
+-- a number of a kind fills its hole
 pub number-fills : {s : Symbol} {kind : NumberKind} {around : Around} {os : List Opened} {at : ℕ} {st : State} (t : Token) → Hole s (Number kind) around os at st
     → IsNumberToken kind t → StandsAt s.bytes at (bytes_of t) → Filled s os (text t.own) (at + length (bytes_of t)) st
 unfolding cpp
@@ -385,7 +385,7 @@ number-fills {s = s} {kind = kind} {around = around} {os = os} {at = at} {st = s
       (names-by s.is_wide (Number kind) t is) refl stands;
 }
 
--- one that has these digits
+-- a number that has these digits fills its hole
 pub digits-fill : {s : Symbol} {kind : NumberKind} {around : Around} {os : List Opened} {at : ℕ} {st : State} (digits : List ℕ) (end : ℕ)
     → Hole s (Number kind) around os at st → IsNumberAt kind s.bytes at digits end → Filled s os (text digits) end st
 digits-fill {s = s} {os = os} {st = st} digits end h is =
@@ -402,7 +402,7 @@ first-named around piece st first = ap (λ x. named_so_far around (extended x pi
 
 -- ## Kinds with more alternatives
 
--- what a kind with more trees expects, one with fewer does
+-- where a kind with more trees is expected, so is a kind with fewer
 pub fewer : {s : Symbol} {x y : Sym} {around : Around} {os : List Opened} {at : ℕ} {st : State}
     → ((t : Tree) → IsTree (table_by s.is_wide) y t → IsTree (table_by s.is_wide) x t) → Hole s x around os at st → Hole s y around os at st
 fewer same h = record {
@@ -426,7 +426,7 @@ any-argument s around os at st expects bytes vs after read stands =
     let argument = item-by s.is_wide read.shape read.shaped in
     expects bytes vs after (record { shape = argument.tree; shaped = argument.is; spelled = argument.spells ∙ read.spelled; unfolds = argument.says around at st ∙ read.unfolds }) stands
 
--- and the first type of a lambda
+-- a type is the first type of a lambda
 pub any-first : (s : Symbol) (around : Around) (os : List Opened) (at : ℕ) (st : State) → Expects s Kind.FirstOfLambda around os at st → Expects s Kind.Item around os at st
 unfolding number_of_kind
 any-first s around os at st expects bytes vs after read stands =

@@ -1,5 +1,5 @@
--- The moves in encodings and in whole symbols: a symbol begins and ends, with a suffix or without, an encoding has a name and items,
--- and names are nested or not.
+-- The moves in encodings and in whole symbols: a symbol begins and ends, with a suffix or without, an encoding has a name and
+-- items, and names are nested or not.
 use Rattle.cpp_direct.proofs.AllGround.{◌≡◌, ◌≢◌, ℕ, ◌+◌, ◌<◌, length, List, [], ◌∷◌, take, ◌++◌, Bool, true, false, nat_le, ◌||◌, ◌&&◌, cond, None, Some, Ok, refl, ap, sym, subst, ◌∙◌, arith, codes, length-append, AllByRecursion, zero-add, take-append_seam, nat_tests, take_all, adjusting, alone, alternatives, among, any_value, applied, between, by_table, byte_of, choose, clone, close, explicit_object, extended, first_around, first_state, first_tree, in_name, in_ranges, in_std, is_chain, is_in, Kind, lvalue_only, may_be_empty, meaning, named_so_far, non_virtual, number_of_kind, opening, operator, parts_of, pick, Production, RefQualifier, rule_of, rvalue_only, source, standing, StandsFor, Sym, SYMBOL, symbol, Term, thunk, unfold_cpp, State, outermost, Around, Value, nothing_there, letter, piece, tree, tree_of, qualifiers_of, ref_of, signed_of, signed_digits, is_there, mark_of, letter_of, part, piece_of, is_special_letter, is_suffix_byte, mangled_of, special_letters, Symbol, BaseOpened, Comes, EncodingOpened, Expects, GuardOpened, IsNameAt, IsOffsetAt, IsSuffix, Named, NestOpened, Opened, SpecialOpened, StandsAt, SymbolOpened, TableOpened, const_letter, cpp_language, nest_marks, opened, named-by, named-outside, operator-fills, integer-fills, stands-by, unfolding_behind}
 use Rattle.cpp_grammar.specs.Values.{text, text_of}
 use Rattle.cpp_direct.proofs.Moves.{awaited, digits-fill, Hole, Filled, hole, open_at, fill, filled-at, hole-at, chosen-byte, eats, eats-widely, leaves, is_eaten, is_eaten_widely, byte-opens, chain-opens, byte-fills, next-part, closes, none-fills, fixed-fills, name-fills, first-named, is_left, stands-split}
@@ -19,7 +19,7 @@ encoding-opens s os around at st expects =
     let items = next-part p (fill name v here now comes) refl in
     awaited items (λ l there then_ last. (closes p (fill items l there then_ last) refl).comes))
 
--- what follows the T of a special name
+-- expects what follows the T of a special name
 special-expected : (s : Symbol) (os : List Opened) (around : Around) (at : ℕ) (st : State) → Expects s Kind.Encoding around os at st → StandsAt s.bytes at (84 ∷ [])
     → Hole s (Sym.Kind (number_of_kind Kind.Special)) (in_name at) (opened (standing (rule_of Production.Special) (84 ∷ []) at around st) [] [] ∷ os) (at + 1) st
 unfolding is_eaten number_of_kind parts_of between close unfolding_behind meaning part byte_of tree_of text_of piece_of letter_of is_there
@@ -80,7 +80,7 @@ virtual-thunk-opens s os around at middle end st expects first second is then_ =
 
 -- ## After a G
 
--- what follows the G of a special name
+-- expects what follows the G of a special name
 other-expected : (s : Symbol) (os : List Opened) (around : Around) (at : ℕ) (st : State) → Expects s Kind.Encoding around os at st → StandsAt s.bytes at (71 ∷ [])
     → Hole s (Sym.Kind (number_of_kind Kind.SpecialAfterG)) (in_name at)
     (opened (standing (rule_of Production.OtherSpecial) [] at around st) (letter 71 ∷ []) [] ∷ os) (at + 1) st
@@ -115,7 +115,7 @@ clone-opens s os around b at st wide is expects stands =
 
 -- ## Names
 
--- the parts of a nested name: const where its third part is present, and called on what its fourth says
+-- the parts of a nested name: it is const if its third part is present, and called on what its fourth says
 nest-goes : (s : Symbol) (os : List Opened) (around : Around) (q r : Value) (at : ℕ) (st : State) (here : ℕ) (now : State)
     → Filled s (opened (standing (rule_of Production.NestedName) (78 ∷ []) at around st) (nothing_there ∷ nothing_there ∷ q ∷ [])
     (Sym.Kind (number_of_kind Kind.Nest) ∷ []) ∷ os) r here now
@@ -126,7 +126,7 @@ nest-goes s os around q r at st here now f =
     let nest = next-part p f refl in
     awaited nest (λ t listed there then_ last. (closes p (fill nest (tree t listed) there then_ last) refl).comes)
 
--- what says that a function is const
+-- the value of the K that makes a function const, or nothing
 abbrev quality : (const : Bool) → Value
 quality true = letter 75
 quality false = nothing_there
@@ -164,7 +164,7 @@ nested-opens s kind os around const on at st taken other expects stands = go on 
         next-part Production.NestedName (filled-at (at + 2) const_ (omega arith)) refl
     ref-awaited false there = next-part Production.NestedName (none-fills Kind.MaybeConst (const-awaited there) refl) refl
 
-    -- with the letter of a reference, which is one of these
+    -- with the letter of a ref-qualifier, which is this byte
     referred : (byte : ℕ) → is_eaten Kind.MaybeRef Production.Mark byte ≡ true → StandsAt s.bytes at (78 ∷ (const_letter const ++ byte ∷ []))
         → NestOpened s os around const (mark_of (letter byte)) (at + length (78 ∷ (const_letter const ++ byte ∷ []))) st
     referred byte taken there =
@@ -190,14 +190,14 @@ pub name-nested : (s : Symbol) (os : List Opened) (around : Around) (const : Boo
 unfolding is_eaten
 name-nested s os around const on at st other expects stands = nested-opens s Kind.CompleteName os around const on at st refl other expects stands
 
--- so does that of a local entity
+-- the nested name of a local entity begins in the same way
 pub entity-nested : (s : Symbol) (os : List Opened) (around : Around) (const : Bool) (on : RefQualifier) (at : ℕ) (st : State)
     → on ≢ explicit_object → Expects s Kind.Entity around os at st → StandsAt s.bytes at (nest_marks const on)
     → NestOpened s os around const on (at + length (nest_marks const on)) st
 unfolding is_eaten
 entity-nested s os around const on at st other expects stands = nested-opens s Kind.Entity os around const on at st refl other expects stands
 
--- a source name, with or without arguments after it
+-- a source name as the name of an encoding; arguments may follow it
 pub name-source : (s : Symbol) (os : List Opened) (around : Around) (at : ℕ) (name : List ℕ) (end : ℕ) (st : State)
     → Expects s Kind.CompleteName around os at st → around.prefix ≡ outermost → IsNameAt s.bytes at name end
     → Named s os around (alone (source false name)) end st
@@ -268,7 +268,7 @@ suffix-byte b is =
     in-class false false true l h = refl
     in-class false false false l h = h
 
--- what these bytes of a suffix denote; there may be none
+-- the value of some bytes of a suffix, or of none
 more-comes : (s : Symbol) (bs : List ℕ) (os : List Opened) (around : Around) (at : ℕ) (st : State)
     → AllByRecursion (λ c. is_suffix_byte c ≡ true) bs → Expects s Kind.SuffixMore around os at st → StandsAt s.bytes at bs
     → (v : Value) × (text_of v ≡ bs) × Comes s os v (at + length bs) st
@@ -320,7 +320,7 @@ unfolding unfold_cpp first_tree tree_of number_of_kind
 symbol-read s t end reads =
     stands-by s.is_wide s.bytes reads.shape t reads.shaped (reads.spelled ∙ take_all (length s.bytes) s.bytes (omega arith)) (rw reads.unfolds refl)
 
--- a symbol begins with _Z and its encoding, and ends there or with a suffix
+-- a symbol begins with _Z and its encoding, and ends after the encoding or after a suffix
 pub symbol-starts : (s : Symbol) → StandsAt s.bytes 0 (95 ∷ 90 ∷ []) → SymbolOpened s
 unfolding is_eaten number_of_kind parts_of may_be_empty between close unfolding_behind meaning part byte_of tree_of text_of piece_of letter_of is_there
 symbol-starts s stands =

@@ -36,7 +36,7 @@ goes-on : {s : Symbol} {kind : Kind} {around : Around} {inner outer : List Opene
     → ListGoesOn s kind outer around t at st
 goes-on t h closed = awaited h (λ l to now comes. (closed l to now (fill h l to now comes)).comes)
 
--- an element of a list of arguments is expected, which is a candidate already or never one, or isn't one yet
+-- expects an element of a list of arguments; the element is a candidate already, never becomes one, or isn't one yet
 pub argument-awaits : (s : Symbol) (kind : Kind) (os : List Opened) (around : Around) (at : ℕ) (st : State) (listed : Bool)
     → IsArgumentKind kind → Expects s kind around os at st
     → Awaits s Kind.Argument around at st (λ inner. (t : Term) (at : ℕ) (st : State) → Comes s inner (tree t listed) at st → ListGoesOn s kind os around t at st)
@@ -151,7 +151,7 @@ integer-element s kind os around b negative digits at end st kind_is letter_is e
 
 -- ## Enumerators
 
--- the type of an enumerator is accepted as a candidate, which it becomes unless it is one
+-- the type of an enumerator is accepted, and becomes a candidate unless it is one
 enumeration-passes : (s : Symbol) (os : List Opened) (around : Around) (place : ℕ) (before : State) (t : Term) (listed : Bool) (at : ℕ) (st : State)
     → Comes s (opened (standing (rule_of Production.IntegerLiteral) [] place around before) [] (Sym.Kind (number_of_kind Kind.Integer) ∷ []) ∷ os)
     (tree t listed) at st
@@ -164,7 +164,7 @@ enumeration-passes s os around place before t false at st comes =
     comes-alike s os p p [] place around before (Sym.Kind (number_of_kind Kind.Integer)) (tree t false) (tree t true) at st (with_candidate around t st) around
     (tree t false ∷ []) (tree t true ∷ []) (with_candidate around t st) refl refl (λ more end. refl) comes
 
--- an argument begins that is an enumerator
+-- an argument that is an enumerator begins
 pub enumerator-opens : (s : Symbol) (kind : Kind) (os : List Opened) (around : Around) (at : ℕ) (st : State) → IsArgumentKind kind
     → Expects s kind around os at st → StandsAt s.bytes at (76 ∷ []) → EnumeratorOpened s kind os around (at + 1) st
 unfolding is_eaten is_left number_of_kind parts_of between close unfolding_behind meaning part byte_of tree_of text_of piece_of letter_of is_there signed_of with_type is_listed
@@ -182,7 +182,7 @@ enumerator-opens s kind os around at st is expects stands =
 
 -- ## Addresses
 
--- an argument begins that is the address of what an encoding names
+-- the address of what an encoding names begins, as an argument
 pub address-opens : (s : Symbol) (os : List Opened) (around : Around) (at : ℕ) (st : State) → Expects s Kind.Argument around os at st
     → StandsAt s.bytes at (88 ∷ 97 ∷ 100 ∷ 76 ∷ 95 ∷ 90 ∷ []) → AddressOpened s os around (at + 6) st
 unfolding is_eaten number_of_kind parts_of between close unfolding_behind meaning part byte_of tree_of text_of piece_of letter_of is_there operation_by operation_or_address is_code
@@ -219,7 +219,7 @@ named-so : (around : Around) (name : List ℕ) (at : ℕ) (st : State) → aroun
 unfolding between extended after text_of part
 named-so around name at st first = ap (λ x. between Production.SimpleId (record around { prefix = x }) at (text name ∷ []) st) first
 
--- an argument begins with Xsr and the name of a template, before the arguments of that
+-- an argument begins with Xsr and the name of a template, before the template's own arguments
 pub level-opens : (s : Symbol) (os : List Opened) (around : Around) (at : ℕ) (st : State) (name : List ℕ) (end : ℕ) → s.is_wide ≡ true → around.prefix ≡ outermost
     → Expects s Kind.Argument around os at st → StandsAt s.bytes at (88 ∷ []) → StandsAt s.bytes (at + 1) (115 ∷ [])
     → StandsAt s.bytes (at + 1 + 1) (114 ∷ []) → IsNameAt s.bytes (at + 1 + 1 + 1) name end

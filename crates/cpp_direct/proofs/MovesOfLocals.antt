@@ -55,7 +55,7 @@ internal-comes s os around e at name end st expects stands is =
     let own = byte-opens (eats s Kind.Entity p 76 refl) (hole s Kind.Entity (after e true around) os at st expects) stands refl refl in
     (closes p (none-fills Kind.MaybeArguments (next-part p (name-fills name end own is) refl) refl) refl).comes
 
--- either of them
+-- an entity with internal linkage or without it
 name-comes : (s : Symbol) (os : List Opened) (around : Around) (e : Term) (at : ℕ) (internal : Bool) (name : List ℕ) (end : ℕ) (st : State)
     → Expects s Kind.Entity (after e true around) os at st → (internal ≡ true → StandsAt s.bytes at (76 ∷ []))
     → IsNameAt s.bytes (at + cond internal 1 0) name end → Comes s os (tree (within e (source internal name)) false) end st
@@ -97,7 +97,7 @@ local-opens s os around at st expects stands =
 
 -- ## Types in functions
 
--- a source name is the first piece of a nested one in an encoding
+-- a source name is the first piece of a nested name in an encoding
 source-first : (s : Symbol) (os : List Opened) (around : Around) (e : Term) (at : ℕ) (name : List ℕ) (end : ℕ) (st : State)
     → Expects s Kind.Nest (after e true around) os at st → IsNameAt s.bytes at name end
     → NestGoesOn s Kind.NestRestAlone os around (within e (source false name)) false end st
@@ -107,7 +107,7 @@ source-first s os around e at name end st expects is =
     let own = chain-opens (leaves s Kind.Nest p 48 refl) (hole s Kind.Nest (after e true around) os at st expects) refl refl in
     goes-on (fewer (rests-by s.is_wide) (next-part p (name-fills name end own is) refl)) (λ v to later f. closes p f refl)
 
--- what a lambda makes of the nested name that it begins in an encoding
+-- expects a lambda as the first piece of a nested name in an encoding
 lambda-first : (s : Symbol) (os : List Opened) (around : Around) (e : Term) (at : ℕ) (st : State) → Expects s Kind.Nest (after e true around) os at st
     → StandsAt s.bytes at (85 ∷ []) → Hole s (OfKind (number_of_kind Kind.Anonymous)) (after e true around)
     (opened (standing (rule_of Production.NestLocalType) (85 ∷ []) at (after e true around) st) [] (OfKind (number_of_kind Kind.NestRest) ∷ []) ∷ os) (at + 1) st
@@ -149,7 +149,7 @@ void-read s around at st =
 abbrev pub lambda_bytes : (digits : List ℕ) → List ℕ
 lambda_bytes digits = 108 ∷ 118 ∷ 69 ∷ (digits ++ 95 ∷ [])
 
--- it is read
+-- a lambda without parameters is read
 lambda-read : (s : Symbol) (around : Around) (at : ℕ) (digits : List ℕ) (st : State) → AreDigitsOf NumberKind.Decimal digits
     → number_tested (at - 1) digits st ≡ Ok st
     → direct.Reads (cpp_language s) s.bytes (OfKind (number_of_kind Kind.Anonymous)) around at (lambda_bytes digits ++ []) st
@@ -188,7 +188,7 @@ digits-of (Some d) is =
     let low : d ≤ 57 = omega (arith, is.1) in
     ((rw (le-leb 48 d is.0, le-leb d 57 low) refl, tt), tt)
 
--- the number of a lambda, which isn't a great one
+-- a lambda's number with at most one digit is less than ten
 pub number-is : (digit : Option ℕ) → IsLambdaDigit digit → local_number (lambda_digits digit) < 10
 unfolding local_number
 number-is None is = omega arith
@@ -220,7 +220,7 @@ lambda-piece s at digit end is stands ends_ =
           lambda-goes s os around e (lambda nil (local_number digits)) at st end st (read (after e true around) (open_at anonymous) st anonymous);
     }
 
--- such a type begins with a Z and the encoding that contains it
+-- a type in a function begins with a Z and the encoding that contains it
 pub local-type-opens : (s : Symbol) (kind : Kind) (os : List Opened) (around : Around) (at : ℕ) (st : State) → IsNamedKind kind
     → Expects s kind around os at st → StandsAt s.bytes at (90 ∷ []) → LocalTypeOpened s os around (at + 1) st
 unfolding is_eaten number_of_kind parts_of between close unfolding_behind meaning part byte_of tree_of text_of piece_of letter_of is_there
@@ -241,7 +241,7 @@ local-type-opens s kind os around at st named_ expects stands =
 
 -- ## Lambdas
 
--- Expects the first parameter of a lambda, and makes something of the lambda.
+-- Expects the first parameter of a lambda; `becomes` says what the lambda becomes.
 pub record LambdaOpened (s : Symbol) (becomes : Term → (at : ℕ) → State → Type 0) (at : ℕ) (st : State) : Type 0 where
   pub around : Around
   pub outside : around.prefix ≡ outermost
@@ -249,7 +249,7 @@ pub record LambdaOpened (s : Symbol) (becomes : Term → (at : ℕ) → State �
   pub awaits : Expects s Kind.Item around inner at st
   pub onward : (t : Term) (at : ℕ) (st : State) → Comes s inner (tree t true) at st → ItemsGoOn s nowhere (LambdaEnds s becomes) (λ l. l) (t ∷ []) at st
 
--- no parameter names an argument there
+-- where no argument is known, parameters name none
 pub nowhere-scoped : (around : Around) → HasScope nowhere around
 nowhere-scoped around = (λ placed. absurd (placed refl), λ k single. absurd (none-known k single.0), λ e. cc e)
 
@@ -301,7 +301,7 @@ anonymous-opens s here above at st becomes short anonymous stands then_ =
           };
     }
 
--- as a type in a function, or as a component of a name
+-- a lambda begins as a type in a function, or as a component of a name
 pub lambda-opens : (s : Symbol) (kind : Kind) (os : List Opened) (around : Around) (e : Term) (listed : Bool) (at : ℕ) (st : State) → IsPieceKind kind
     → short_numbers 0 s.bytes ≡ true → Expects s kind (after e listed around) os at st → StandsAt s.bytes at (85 ∷ 108 ∷ [])
     → LambdaOpened s (λ p end now. Comes s os (tree (within e p) false) end now) (at + 1 + 1) st
@@ -314,7 +314,7 @@ lambda-opens s kind os around e listed at st is_piece short expects stands =
     anonymous-opens s here (open_at anonymous) (at + 1) st (λ u end now. Comes s os (tree (within e u) false) end now) short anonymous places.1
     (λ u end now f. (closes p (none-fills Kind.MaybeArguments (next-part p f refl) refl) refl).comes)
 
--- or as the first piece of a nested one in an encoding
+-- a lambda begins as the first piece of a nested name in an encoding
 pub first-lambda-opens : (s : Symbol) (os : List Opened) (around : Around) (e : Term) (at : ℕ) (st : State)
     → short_numbers 0 s.bytes ≡ true → Expects s Kind.Nest (after e true around) os at st → StandsAt s.bytes at (85 ∷ 108 ∷ [])
     → LambdaOpened s (λ p end now. NestGoesOn s Kind.NestRestAlone os around (within e p) false end now) (at + 1 + 1) st

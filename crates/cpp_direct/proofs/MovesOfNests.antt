@@ -1,4 +1,4 @@
--- The parts of a nested name are read one after another, and their tags.
+-- The parts of a nested name and their tags are read one after another.
 use Rattle.cpp_direct.proofs.Basics.{◌≡◌, ℕ, ◌+◌, List, [], ◌∷◌, Ok, Some, true, false, refl, subst, arith, inl, inr, Bool, sym, slice_get, abbreviation, after, alone, appended, applied, between, byte_of, choose, close, constructor, counted_value, destructor, extended, found, in_std, inside, instance, is_chain, Kind, listed_so_far, meaning, named_so_far, no_items, number_of_kind, opening, operator, parts_of, Production, rule_of, source, standing, substituted, Term, with_prefix, with_tag, within, State, outermost, Around, Value, nothing_there, tree, piece, is_there, letter_of, part, piece_of, tree_of, prefix_tree, prefix_listed, is_abbreviated, IsConstructorDigit, IsDestructorDigit, Symbol, AwaitsArguments, AwaitsComponent, AwaitsInstance, Comes, Expects, IsFirstRest, IsNameAt, IsRest, IsSeqAt, IsTagAt, Named, NestGoesOn, NestNamed, Opened, SamePasses, StandsAt, bare_name, opened, unless_listed, with_candidate, le-leb, lt-ltb, NumberKind, unfolding_behind}
 use Rattle.cpp_grammar.specs.Values.{Candidate, text_of}
 use Rattle.cpp_direct.proofs.Tables.{lists-by, rests-by}
@@ -9,7 +9,7 @@ use Rattle.sym_shape.specs.declared.rule.Sym.TheVariants.{Kind as OfKind, Byte}
 
 -- ## Pieces
 
--- the name of an entity
+-- a source name is the name of an entity
 pub piece-comes : (s : Symbol) (os : List Opened) (around : Around) (at : ℕ) (st : State) (name : List ℕ) (end : ℕ)
     → Expects s Kind.Unqualified around os at st → IsNameAt s.bytes at name end → Comes s os (piece (source false name)) end st
 unfolding is_eaten is_left number_of_kind parts_of between close unfolding_behind meaning part byte_of tree_of text_of piece_of letter_of is_there
@@ -36,7 +36,7 @@ nest-source s os around at st name end first expects is =
     let rest = next-part p (name-fills name end own is) (first-named around (source false name) st first) in
     goes-on (fewer (rests-by s.is_wide) rest) (λ v to later f. closes p f refl)
 
--- what follows an S
+-- expects what follows an S at the front of a nested name
 behind-s : (s : Symbol) (os : List Opened) (around : Around) (at : ℕ) (st : State) → Expects s Kind.Nest around os at st → StandsAt s.bytes at (83 ∷ [])
     → Hole s (OfKind (number_of_kind Kind.NestAfterS)) around (opened (standing (rule_of Production.NestWithS) (83 ∷ []) at around st) [] [] ∷ os) (at + 1) st
 unfolding is_eaten number_of_kind parts_of between close unfolding_behind meaning part byte_of tree_of text_of piece_of letter_of is_there
@@ -142,7 +142,7 @@ first-arguments s os around t listed at st expects stands =
     let next = next-part p (fixed-fills (next-part p (fill arguments l to later comes) refl) ended) refl in
     component-awaited false next (λ w onto newer came. goes-on (next-part p (fill next (tree w false) onto newer came) refl) (λ v to now f. closes p f refl)))
 
--- arguments of a substituted name, after which it may end in the wide grammar
+-- arguments of a substituted name; in the wide grammar the nested name may end after them
 pub instance-arguments : (s : Symbol) (os : List Opened) (around : Around) (t : Term) (listed : Bool) (at : ℕ) (st : State)
     → Expects s Kind.NestRestOrEnd (after t listed around) os at st → StandsAt s.bytes at (73 ∷ []) → AwaitsInstance s os around t listed at st
 unfolding is_eaten number_of_kind parts_of between close unfolding_behind meaning part byte_of tree_of text_of piece_of letter_of is_there after inside named_so_far prefix_tree prefix_listed
@@ -168,7 +168,7 @@ component-outside s inner outer around t at st passes a = record {
       record { inner = g.inner; awaits = g.awaits; passes = λ v onto newer came. passes v onto newer (g.passes v onto newer came) };
 }
 
--- and after which a component follows
+-- arguments of a substituted name, after which a component follows
 known-arguments : (s : Symbol) (os : List Opened) (around : Around) (t : Term) (listed : Bool) (at : ℕ) (st : State)
     → Expects s Kind.NestRestOrEnd (after t listed around) os at st → StandsAt s.bytes at (73 ∷ []) → AwaitsArguments s os around t listed at st
 known-arguments s os around t listed at st expects stands =
@@ -200,7 +200,7 @@ nest-end s os around t listed at st expects stands =
 
 -- ## Components
 
--- what is named by a production that expects arguments
+-- a name was read by a production that expects arguments after it
 pub named-by : {s : Symbol} {os : List Opened} (p : Production) {taken : List ℕ} {at0 : ℕ} {around outer : Around} {before : State} {u : Term} {at : ℕ} {st : State}
     → Hole s (OfKind (number_of_kind Kind.MaybeArguments)) (after u false outer) (opened (standing (rule_of p) taken at0 around before) (tree u false ∷ []) [] ∷ os) at st
     → ((byte : ℕ) (here : Around) (began later : State) (v : Value)
@@ -335,7 +335,7 @@ component-destructor s os around t listed at st digit expects stands is =
 
 -- ## Tags
 
--- A name with a tag was read, where one without was expected.
+-- A name with a tag was read where a name without one was expected.
 pub record Tagged (s : Symbol) (outer : List Opened) (around : Around) (t : Term) (at : ℕ) (st : State) : Type 0 where
   pub inner : List Opened
   pub awaits : Expects s Kind.MaybeArguments (after t false around) inner at st

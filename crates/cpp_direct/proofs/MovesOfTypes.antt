@@ -22,7 +22,7 @@ unfolding close unfolding_behind meaning listed_value with_type with_unqualified
 qualified-closes around at before t true st other = rw other refl
 qualified-closes around at before t false st other = rw other refl
 
--- the alternatives of a type by its kind are chosen there
+-- where a type that may have a qualifier is expected, a plain type is chosen, and at a K a const type
 whole-taken : (kind : Kind) → IsQualifiable kind → (is_left kind Production.PlainType 80 ≡ true) × (is_eaten kind Production.ConstType 75 ≡ true)
 unfolding is_eaten is_left
 whole-taken Kind.Type whole = (refl, refl)
@@ -30,7 +30,7 @@ whole-taken Kind.Item whole = (refl, refl)
 whole-taken Kind.ItemButRef whole = (refl, refl)
 whole-taken _ whole = absurd whole
 
--- such a type is a type of any kind
+-- a kind that may have a qualifier is a kind of type
 pub typed : (k : Kind) → IsQualifiable k → IsTyped k
 typed Kind.Type is = tt
 typed Kind.Item is = tt
@@ -70,7 +70,7 @@ solid-opens s _ around os at st typed expects = absurd typed
 
 -- ## Builtin types
 
--- a builtin type is accepted, which is no candidate
+-- a builtin type, which is no candidate, is accepted
 pub builtin-comes : (s : Symbol) (kind : Kind) (around : Around) (os : List Opened) (at : ℕ) (st : State) (b : ℕ) → IsTyped kind
     → is_builtin b ≡ true → Expects s kind around os at st → StandsAt s.bytes at (b ∷ []) → Comes s os (tree (builtin (b ∷ [])) true) (at + 1) st
 unfolding is_eaten number_of_kind parts_of between close unfolding_behind meaning part byte_of tree_of text_of piece_of letter_of is_there is_function_type is_builtin each_passes
@@ -87,14 +87,14 @@ builtin-with-d-taken byte is = (
   tested builtin_letters_with_d (λ b. is_left Kind.ItemAfterD Production.ItemIsType b) refl byte is,
 )
 
--- one with a code of two letters is accepted after its D
+-- a builtin type with a code of two letters is accepted after its D
 after-d-comes : {s : Symbol} {around : Around} {os : List Opened} {at : ℕ} {st : State} (b : ℕ) → is_builtin_with_d b ≡ true
     → Hole s (Sym.Kind (number_of_kind Kind.AfterD)) around os at st → StandsAt s.bytes at (b ∷ [])
     → Filled s os (tree (builtin (68 ∷ b ∷ [])) true) (at + 1) st
 unfolding is_eaten number_of_kind parts_of between close unfolding_behind meaning part byte_of tree_of text_of piece_of letter_of is_there
 after-d-comes {s = s} b is h stands = byte-fills (eats s Kind.AfterD Production.BuiltinWithD b (builtin-with-d-taken b is).0) h stands refl refl
 
--- and where an item is expected
+-- likewise where an item is expected
 item-after-d-comes : {s : Symbol} {around : Around} {os : List Opened} {at : ℕ} {st : State} (b : ℕ) → is_builtin_with_d b ≡ true
     → Hole s (Sym.Kind (number_of_kind Kind.ItemAfterD)) around os at st → StandsAt s.bytes at (b ∷ [])
     → Filled s os (tree (builtin (68 ∷ b ∷ [])) true) (at + 1) st
@@ -103,7 +103,7 @@ item-after-d-comes {s = s} b is h stands =
     let p = Production.ItemIsType in
     closes p (after-d-comes b is (chain-opens (leaves s Kind.ItemAfterD p b (builtin-with-d-taken b is).1) h refl refl) stands) refl
 
--- and so is one with a code of two letters
+-- a builtin type with a code of two letters is accepted
 pub builtin-with-d-comes : (s : Symbol) (kind : Kind) (around : Around) (os : List Opened) (at : ℕ) (st : State) (b : ℕ) → IsTyped kind
     → is_builtin_with_d b ≡ true → Expects s kind around os at st → StandsAt s.bytes at (68 ∷ b ∷ [])
     → Comes s os (tree (builtin (68 ∷ b ∷ [])) true) (at + 2) st
@@ -283,7 +283,7 @@ substituted-so around place c st no_module closed none = ap (λ m. whole m (is_o
       | false ↦ with_packs place around.in_expansion packs st >>= λ s. Ok (found (tree c.tree true) s)
     ]
 
--- one that names parameters, in the encoding that it was made in
+-- a substitution for a type that names parameters is found, in the encoding that the type was made in
 pub substituted-open : (around : Around) (place : ℕ) (c : Candidate) (st : State) → is_module c.tree ≡ false → c.encoding ≡ around.encoding → around.in_lambda ≡ false
     → packs_in around.scope c.tree ≡ None → substituted around place (Some c) st ≡ Ok (found (tree c.tree true) st)
 unfolding substituted with_packs
@@ -397,7 +397,7 @@ function-opens s kind os around at st whole outside expects stands =
       passes = λ l there then_ last. w.onward (plain_function r l) false there then_ (closes p (fill rest (signature l any_value) there then_ last) refl).comes;
     })
 
--- and after PF that of the function type pointed to
+-- after PF the return type of the function type pointed to is expected
 pub pointed-function-opens : (s : Symbol) (kind : Kind) (os : List Opened) (around : Around) (at : ℕ) (st : State) → IsQualifiable kind
     → around.prefix ≡ outermost → Expects s kind around os at st → StandsAt s.bytes at (80 ∷ 70 ∷ []) → FunctionOpened s os around true (at + 2) st
 pointed-function-opens s kind os around at st whole outside expects stands =

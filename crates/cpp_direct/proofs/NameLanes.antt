@@ -21,7 +21,7 @@ module _ (q : ℕ → Bool) (d : List ℕ) (i : ℕ) (z : List ℕ) (f : ℕ →
       subst (λ x. stops x ≡ false) (get_or-chunk i 16 d n 0 to)
       (not-true _ (prefix_len_passes (λ x. not (stops x)) (chunk i 16 d) n 0 (omega (arith, leading_from_mask_l stops (chunk i 16 d) unset, long, to))))
 
-  -- where no lane is set, each byte passes: a byte passes where its lane isn't set
+  -- if no lane is set, each byte passes, since a byte passes if its lane isn't set
   pub none_of : agree_below (λ x. stops x || q x) (λ _. true) 256 ≡ true → (k : ℕ) → i ≤ k → k < i + 16 → q (get_or d k 0) ≡ true
   none_of all k low high =
       let n = k - i in
@@ -29,7 +29,7 @@ module _ (q : ℕ → Bool) (d : List ℕ) (i : ℕ) (z : List ℕ) (f : ℕ →
       (sym (ap (λ b. b || q (get_or d (i + n) 0)) (clear n (omega (arith, low, high))))
       ∙ agree_below_at (λ x. stops x || q x) (λ _. true) 256 (get_or d (i + n) 0) all (fits (i + n)).fits)
 
--- the bytes before a place, and sixteen from one that isn't after it
+-- bytes before a place may be in a name, and so may sixteen bytes from a place that isn't after it
 pub reached-on : (bytes : List ℕ) (at from : ℕ) → ReachesNameBytes NameClass.Cpp bytes at → from ≤ at
     → ((k : ℕ) → from ≤ k → k < from + 16 → is_name_byte NameClass.Cpp (get_or bytes k 0) ≡ true) → ReachesNameBytes NameClass.Cpp bytes (from + 16)
 reached-on bytes at from before low more k less = go (nat_lt k at) refl

@@ -7,7 +7,7 @@ use Rattle.std.specs.Result.{result_ok}
 
 -- ## Tokens
 
--- what is between two places after a third one
+-- the bytes between two places, counted from an earlier place
 pub piece-at : (s before own behind rest : List ℕ) (at from to : ℕ) → at ≤ length s → drop at s ≡ (before ++ own ++ behind) ++ rest
     → from ≡ at + length before → to ≡ at + length before + length own → (from ≤ to) × (to ≤ length s) × (take (to - from) (drop from s) ≡ own)
 piece-at s before own behind rest at from to le e from_is to_is =
@@ -72,12 +72,12 @@ seq-there s at ds end n digits stands ends is =
 
 -- ## What is written
 
--- what follows from what holds where there is a value
+-- if P holds where there is a value, and Q follows from P, Q holds where there is a value
 pub some-by : {T P Q : Type 0} (r : Option T) → OnSome r P → (P → Q) → OnSome r Q
 some-by None h f = tt
 some-by (Some x) h f = f h
 
--- a text was written after a place that was changed
+-- a text was written after the place was changed
 pub reads-written : (old middle new : Direct) (bytes text : List ℕ) → Writes middle new bytes → middle.text ≡ old.text → middle.candidates ≡ old.candidates
     → middle.waiting ≡ old.waiting → middle.nest ≡ old.nest → middle.has_scope ≡ old.has_scope → bytes ≡ text → Reads old new text
 reads-written old middle new bytes text w same_text same_candidates same_waiting same_nest same_scope is = record {
@@ -90,14 +90,14 @@ reads-written old middle new bytes text w same_text same_candidates same_waiting
 
 -- ## Substitutions
 
--- what is at a number in a list
+-- an entry of a list, by its number
 pub there-at : {X : Type 0} (ks slice : List X) (index counted : ℕ) (k : X) → slice ≡ ks → index ≡ counted → true ≡ nat_lt index (length slice)
     → k ≡ get_or slice index k → slice_get ks counted ≡ Some k
 there-at ks slice index counted k same number inside is =
     ap (λ l. slice_get l counted) (sym same) ∙ ap (λ n. slice_get slice n) (sym number)
     ∙ slice_get_read slice (length slice) index k refl (ltb-true index (length slice) (sym inside)) is
 
--- what was read in two steps
+-- two steps that read something are one step that reads both
 pub reads-then : (a b c : Direct) (x y : List ℕ) → Reads a b x → Reads b c y → Reads a c (x ++ y)
 reads-then a b c x y first second = record {
   text = second.text ∙ ap (λ l. l ++ y) first.text ∙ append_assoc a.text.list.items x y;
@@ -141,7 +141,7 @@ digit-is b low high = cc (le-leb 48 b low, le-leb b 57 high)
 pub digit-byte : (b : ℕ) → is_decimal_digit b ≡ true → b ≢ 0
 digit-byte b digit none = cc (digit, ap (λ n. is_decimal_digit n) none)
 
--- how the bytes between two places are cut out
+-- the bytes between two places, as they are cut out
 pub own-is : (s : List ℕ) (from size : ℕ) → take (from + size - from) (drop from s) ≡ take size (drop from s)
 own-is s from size = ap (λ n. take n (drop from s)) (difference from size)
   where
@@ -182,7 +182,7 @@ begins-no-number (b ∷ bs) some bare = bare
 byte-may : (b : ℕ) → b < 256 → nat_lt 32 b ≡ true → not (nat_eq b 127) ≡ true → is_name_byte NameClass.Cpp b ≡ true
 byte-may b small low other = grind (arith, nat_tests)
 
--- one byte more may be in a name
+-- one more byte may be in a name
 pub reached-more : (bytes : List ℕ) (at : ℕ) (are : Bool) → (are ≡ true → ReachesNameBytes NameClass.Cpp bytes at) → get_or bytes at 0 < 256
     → (are && nat_lt 32 (get_or bytes at 0) && not (nat_eq (get_or bytes at 0) 127)) ≡ true → ReachesNameBytes NameClass.Cpp bytes (at + 1)
 reached-more bytes at are before small e k less = go (nat_lt k at) refl
@@ -200,7 +200,7 @@ reached-more bytes at are before small e k less = go (nat_lt k at) refl
     go true d = before parts.0 k (ltb-true k at d)
     go false d = subst (λ n. is_name_byte NameClass.Cpp (get_or bytes n 0) ≡ true) (omega (arith, less, ltb-false k at d)) (byte-may b small parts.1 both.1)
 
--- what is cut out of bytes that may be in a name may be there as well
+-- a piece of bytes that may be in a name consists of bytes that may be in a name
 pub own-each : (s : List ℕ) (from size : ℕ) (own : List ℕ) → from ≤ length s → size ≤ length s - from → own ≡ take size (drop from s)
     → ReachesNameBytes NameClass.Cpp s (length s) → ReachesNameBytes NameClass.Cpp own (length own)
 own-each s from size own within few own_is each k less =

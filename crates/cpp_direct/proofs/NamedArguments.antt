@@ -1,4 +1,4 @@
--- The arguments of the symbol's own name, which its types may name from there on, and their texts.
+-- The arguments of the symbol's own name and their texts: types after the name may name them.
 use Rattle.cpp_direct.proofs.AllGround.{arguments_of, Around, Detail, element, found, length_if_pack, State, substituted, Term, tree, types_of, ◌≡◌, ◌≢◌, ℕ, ◌-◌, List, take, drop, reverse, Bool, Ok, true, false, Option, Some, None, is_some, nat_lt, not, ◌&&◌, ◌||◌, ◌<◌, refl, ap, sym, ◌∙◌, subst, false≢true, and_parts, lt-ltb, ltb-true, AreCandidates, AreNamed, AreSingle, Argument, argument_of, Arguments, Candidate, detail_of, Direct, encoding_place, HasArguments, HasSingles, IsCandidate, IsGiven, IsMadeIn, IsNameEnded, IsNameScoped, IsNaming, IsPlaced, IsScoped, IsSingle, Keeps, Kept, Mark, Names, no_scope, Open, place_of, Prints, PrintsAs, PrintsGiven, Scope, Symbol, candidates-as, encoded-here, piece-found, no-pack-named, substituted-open, types-given, no-module, arguments-named}
 use Rattle.cpp_direct.specs.AllStates.{Named}
 use Rattle.cpp_grammar.specs.Values as values
@@ -9,15 +9,15 @@ abbrev single_text : (is_single : Bool) → Named → Option Named
 single_text true own = Some own
 single_text false own = None
 
--- it is known, and no element of the pack
+-- the argument with this number is known, and no element of the pack
 abbrev is_single : Arguments → (number : ℕ) → Bool
 is_single a number = nat_lt number a.count && (not a.has_pack || nat_lt number a.before)
 
--- what is at a place
+-- the text at an argument's place
 abbrev own_at : (text : List ℕ) → Argument → Named
 own_at text p = record { bytes = take (p.to - p.from) (drop p.from text); reference = p.is_reference }
 
--- likewise, if that is known and no element of the pack
+-- likewise by number, if the argument is known and no element of the pack
 abbrev names_at : (text : List ℕ) → Arguments → Names
 names_at text a number = single_text (is_single a number) (own_at text (place_of a number))
 
@@ -43,7 +43,7 @@ text-there text a number bytes single placed =
     let named : List ℕ → Option Named = λ l. Some (record { bytes = l; reference = p.is_reference }) in
     ap (λ b. single_text b (own_at text p)) (single-by number a.count a.before a.has_pack single.0 single.1) ∙ ap named found.2
 
--- what has one is known, and no element of the pack
+-- an argument that has a text is known, and no element of the pack
 text-single : (text : List ℕ) (a : Arguments) (number : ℕ) (n : Named) → names_at text a number ≡ Some n
     → IsSingle a number × (own_at text (place_of a number) ≡ n)
 text-single text a number n e =
@@ -72,7 +72,7 @@ arguments-given {detail} text a own has number n is =
 
 -- ## Where they may be named from
 
--- what was made where no argument may be named names none
+-- a candidate that was made where no argument may be named names none
 candidate-given : (s : Symbol) (scope : Scope) (text : List ℕ) (k : Candidate) (c : values.Candidate) → IsCandidate s no_scope text k c → IsCandidate s scope text k c
 candidate-given s scope text k c p = record {
   bytes = p.bytes;
@@ -95,7 +95,7 @@ named-there text a own names number single =
     let h = names.0 number single in
     (h.bytes, text-there text a number h.bytes single h.placed, h.placed)
 
--- where none could be named before
+-- what a writer keeps once arguments may be named, if none could be named before
 pub scope-kept : (s : Symbol) (old new : Direct) (kept : Kept s old) (a : Arguments) (own : Term) → HasArguments (detail_of s) old.text.list.items a own
     → old.has_scope ≡ false → new.has_scope ≡ true → new.text ≡ old.text → new.candidates ≡ old.candidates
     → Keeps s (scope_at old.text.list.items a) new kept.state.candidates
@@ -152,7 +152,7 @@ named-here s w kept around all scoped found real =
     let same : kept.scope.arguments ≡ all = (scoped all found).0 in
     (found ∙ ap (λ (a : Arguments). Some a) (sym same), λ none. real (ap (λ (a : Arguments). a.encoding) (sym same) ∙ none))
 
--- those that may be named are no packs
+-- the arguments that may be named are no packs
 named-single : (s : Symbol) (scope : Scope) (around : Around) (open_ : List Open) (arguments : Term) → HasSingles scope → IsScoped scope around open_
     → argument_of open_ ≡ Some scope.arguments → around.scope ≡ Some arguments → AreSingle scope.names arguments
 named-single s scope around open_ arguments own scoped found is k n e =
@@ -160,7 +160,7 @@ named-single s scope around open_ arguments own scoped found is k n e =
     let same : here.all ≡ arguments = cc (sym here.scope_is ∙ is) in
     subst (λ l. length_if_pack (element l k) ≡ None) same (ap length_if_pack here.there.0 ∙ here.no_pack)
 
--- what names them may be named again among the same types
+-- a candidate that names arguments may be named again among the same types
 pub again-substituted : (s : Symbol) {scope : Scope} (around : Around) (open_ : List Open) (c : values.Candidate) (st : State) (bytes : List ℕ) (r : Bool)
     → HasSingles scope → IsScoped scope around open_ → IsNaming scope open_ → IsMadeIn scope c.encoding
     → PrintsGiven (detail_of s) scope.names c.tree bytes r → (place : ℕ) → substituted around place (Some c) st ≡ Ok (found (tree c.tree true) st)

@@ -1,12 +1,10 @@
--- A component of a nested name is written: the state of the writer then.
+-- The state of a writer once a component of a nested name is written.
 use Rattle.cpp_direct.proofs.AllGround.{◌≡◌, ◌≢◌, ℕ, ◌+◌, ◌-◌, inl, inr, length, List, [], ◌∷◌, ◌++◌, take, drop, reverse, Bool, true, false, refl, ap, sym, ◌∙◌, subst, arith, codes, append_assoc, append-nil, false≢true, arguments_of, Around, constructor, destructor, has_return_type, instance, is_structor, opening_text, operator, source, source_text, State, Term, within, AwaitsClass, below, detail_of, Direct, is_angle, IsConstructorDigit, IsDestructorDigit, IsNestNamed, IsNestSoFar, IsOperatorAt, IsOperatorRead, IsOwn, IsWriting, Kept, Nest, Open, operator_text, Prints, PrintsAs, Purpose, Reads, Scope, Serves, Symbol, Writes, Opened, StandsAt, IsNameAt, Named, NestNamed, AwaitsComponent, Step, name-unmarked, kept-grown, piece-found, placed-last, placed-moved, prints-as, stands-join, component-source, component-internal, component-operator, component-constructor, component-destructor, IsOperator, operator-listed, ◌⊎◌, ◌≤◌}
 use Rattle.cpp_direct.proofs.AllRead.{closed-prints, nest-scoped, nest-further, within-tagged, IsPiece, source-opening, source-piece, operator-opening, operator-piece, within-names, within-as, within-class, constructor-prints, destructor-prints}
 
--- ## Pieces of a text
-
 -- ## A text is written
 
--- This was written after what was, and the nested name begins and serves as before.
+-- These bytes were written at the end of the text, and the nested name begins and serves as before.
 pub record Goes (old new : Direct) (bytes : List ℕ) : Type 0 where
   pub text : new.text.list.items ≡ old.text.list.items ++ bytes
   pub candidates : new.candidates ≡ old.candidates
@@ -122,7 +120,7 @@ destructor-awaits s old between new digit w m p letter next is has closed =
     (component-destructor s awaits.inner n.around t awaits.listed old.at p.state digit awaits.awaits (stands-join s.bytes old.at (68 ∷ []) (digit ∷ []) letter next) is))
     (destructor-prints t n.bytes n.is_nest.class (closed-prints p.scope.names closed n.is_nest.prints) (n.is_nest.names_class has closed) digit) refl refl
 
--- The class is written: the component is named.
+-- Once its class is written, a constructor or a destructor is a named component.
 named-again : (s : Symbol) (old new : Direct) (p : AwaitsClass s old) → Goes old new p.class → new.at ≡ old.at
     → new.nest ≡ record old.nest { is_listed = false; has_class = false; is_instance = false } → IsNestNamed s new
 named-again s old new p g at nest =
@@ -160,7 +158,7 @@ named-again s old new p g at nest =
       no_structor = λ e. absurd (false≢true (sym classless ∙ e));
     }
 
--- likewise by what is at the place of the class
+-- likewise if the class is copied from its place
 pub class-named : (s : Symbol) (old between : Direct) (p : AwaitsClass s old)
     → Writes old between (take (old.nest.class_to - old.nest.class_from) (drop old.nest.class_from old.text.list.items))
     → IsNestNamed s (record between { nest = record between.nest { is_listed = false; has_class = false; is_instance = false } })
@@ -181,7 +179,7 @@ class-named s old between p w =
 
 -- ## A piece of a name
 
--- what a nested name becomes by a piece that is a class between two places
+-- a writer whose nested name ends in a piece that is a class, between two places
 abbrev pub renamed : Direct → (from to : ℕ) → Direct
 renamed w from to = record w { nest = record w.nest { class_from = from; class_to = to; is_listed = false; has_class = true; is_instance = false } }
 
@@ -231,12 +229,12 @@ abbrev pub letters : (internal : Bool) → ℕ
 letters true = 1
 letters false = 0
 
--- another place
+-- a writer that is at another place
 pub moves-to : (old new : Direct) (at by : ℕ) → new ≡ record old { at = at } → at ≡ old.at + by → Moves old new by
 moves-to old new at by same e =
     subst (λ (d : Direct). Moves old d by) (sym same) (record { text = refl; candidates = refl; waiting = refl; scope = refl; nest = refl; at = e })
 
--- Likewise for a writer that continues.
+-- Likewise for a writer that first moves, and writes the colons before the piece.
 piece-follows : (s : Symbol) (old start marked read : Direct) (by from to : ℕ) (piece : Term) (x : List ℕ) (p : IsWriting s old Step.Component)
     → IsPiece (detail_of s) piece x → opening_text piece ≡ codes "<" → Moves old start by → Writes start marked (codes "::") → Reads marked read x
     → NestNamed s p.is_before.1.outer p.is_before.1.around (within p.is_before.0 piece) read.at p.state

@@ -8,7 +8,7 @@ use Rattle.cpp_grammar.specs.Values as values
 
 -- ## What types may name
 
--- where a nested name continues, they may name the same
+-- types in a nested name that continues may name the same as before
 pub nest-scoped : (s : Symbol) {scope : Scope} (old new : Direct) (around : Around) → new.waiting.list.items ≡ old.waiting.list.items
     → new.nest.purpose ≡ old.nest.purpose → new.nest.is_dependent ≡ old.nest.is_dependent → IsNestScoped s scope old around → IsNestScoped s scope new around
 nest-scoped s {scope} old new around waiting_is purpose_same dependent_same n = record {
@@ -16,7 +16,7 @@ nest-scoped s {scope} old new around waiting_is purpose_same dependent_same n = 
   naming = λ e. subst (λ (o : List Open). IsNaming scope (reverse o)) (sym waiting_is) (n.naming (sym dependent_same ∙ e));
 }
 
--- where one begins they name what they may
+-- types in a nested name that begins may name what types may name at its beginning
 nest-placed : (s : Symbol) {scope : Scope} (old new : Direct) (around : Around) (purpose : Purpose)
     → (is_type purpose ≡ true → IsScoped scope around (reverse old.waiting.list.items)) → new.waiting ≡ old.waiting → new.nest.purpose ≡ purpose
     → (new.nest.is_dependent ≡ true → IsNaming scope (reverse old.waiting.list.items)) → IsNestScoped s scope new around
@@ -25,7 +25,7 @@ nest-placed s {scope} old new around purpose scoped waiting_is purpose_is naming
   naming = λ e. subst (λ o. IsNaming scope (reverse o.list.items)) (sym waiting_is) (naming e);
 }
 
--- it is written further, or something else changed
+-- a nested name stays one when more is written, or when the rest of the writer changes
 abbrev pub nest-further : (s : Symbol) {scope : Scope} (old new : Direct) {t : Term} (n : IsNestSoFar s scope old t) (u : Term) (bytes : List ℕ)
     → new.text.list.items ≡ n.front ++ bytes → new.waiting.list.items ≡ old.waiting.list.items → new.nest.purpose ≡ old.nest.purpose
     → new.nest.is_dependent ≡ old.nest.is_dependent → IsNest (detail_of s) scope.names n.front bytes new.text.list.items new.nest u → IsNestSoFar s scope new u
@@ -41,17 +41,17 @@ nest-further s {scope} old new n u bytes written waiting_is purpose_same depende
       (subst (λ (p : Purpose). Serves s p (below s scope (reverse old.waiting.list.items)) n.outer n.front) (sym purpose_same) n.serves);
 }
 
--- a candidate that names any is in their encoding
+-- if a nested name names arguments, it is in the encoding that has them
 nest-here : (s : Symbol) {scope : Scope} (w : Direct) (around : Around) → IsNestScoped s scope w around → (IsOwn w.nest.purpose → w.nest.is_dependent ≡ false)
     → w.nest.is_dependent ≡ true → IsMadeIn scope around.encoding
 nest-here s {scope} w around n closed e =
     made-here scope around (reverse w.waiting.list.items) (n.scoped (type-named w.nest.purpose w.nest.is_dependent closed e)) (n.naming e)
 
--- what names none prints its text anywhere
+-- a tree that names no arguments prints its text anywhere
 pub closed-prints : {detail : Detail} (names : Names) {d : Bool} {t : Term} {bytes : List ℕ} → d ≡ false → PrintsAs detail names d t bytes false → Prints detail t bytes false
 closed-prints {detail} names {t = t} {bytes = bytes} closed prints = subst (λ b. PrintsAs detail names b t bytes false) closed prints
 
--- it is no function type
+-- a tree that prints a text is no function type
 no-function : (detail : Detail) (names : Names) (d : Bool) (t : Term) (bytes : List ℕ) → PrintsAs detail names d t bytes false → is_function_type t ≡ false
 no-function detail names true t bytes prints = prints.no_function
 no-function detail names false t bytes prints = prints.no_function
@@ -76,7 +76,7 @@ named-goes-on s w n = record {
   );
 }
 
--- a tag follows it
+-- a tag follows a name
 pub named-tagged : (s : Symbol) (old new : Direct) (tag : List ℕ) → s.is_wide ≡ true → IsNestNamed s old → IsTagAt s.bytes old.at tag new.at
     → Reads old new (tag_text tag) → IsNestNamed s new
 unfolding with_tag has_return_type arguments_of is_structor
@@ -124,7 +124,7 @@ named-tagged s old new tag wide n is reads =
       no_structor = λ e. n.no_structor (classed e);
     }
 
--- arguments follow it
+-- arguments follow a name
 pub named-opens : (s : Symbol) (old mid new : Direct) → IsNestNamed s old → StandsAt s.bytes old.at (73 ∷ [])
     → Lists old mid (added old old.nest.from false old.nest.is_dependent) → OpensArguments (detail_of s) mid new (Open.NestArguments mid.nest)
     → IsWriting s new (Step.List true)
@@ -154,7 +154,7 @@ named-opens s old mid new n here lists opening_ =
 
 -- ## A substituted name
 
--- what follows it is read
+-- what follows a substituted name is read
 pub known-goes-on : (s : Symbol) (w : Direct) → IsNestKnown s w → IsWriting s w Step.Rest
 known-goes-on s w n = record { kept = n.kept; is_before = (n.own, Kind.NestRestOrEnd, tt, n.nesting) }
 
@@ -164,12 +164,12 @@ nest-outside : (s : Symbol) (kind : Kind) (inner outer : List Opened) (around : 
 nest-outside s kind inner outer around t listed at st passes g =
     record { inner = g.inner; awaits = g.awaits; passes = λ v to later came. passes v to later (g.passes v to later came) }
 
--- in the wide grammar it may end after its arguments
+-- in the wide grammar, a substituted name may end after its arguments
 may-end : (s : Symbol) (outer : List Opened) (around : Around) (t : Term) (listed : Bool) (at : ℕ) (st : State) → s.is_wide ≡ true
     → NestGoesOn s Kind.NestMoreOrEnd outer around t listed at st → NestGoesOn s Kind.NestTail outer around t listed at st
 may-end s outer around t listed at st wide g = record { inner = g.inner; awaits = any-tail s (after t listed around) g.inner at st wide g.awaits; passes = g.passes }
 
--- in the wide grammar arguments follow it, where it is a type
+-- in the wide grammar, arguments follow a substituted name if the nested name is a type
 pub known-opens : (s : Symbol) (old new : Direct) → IsNestKnown s old → s.is_wide ≡ true → old.nest.purpose ≡ Purpose.Type → StandsAt s.bytes old.at (73 ∷ [])
     → OpensArguments (detail_of s) old new (Open.NestArguments old.nest) → IsWriting s new (Step.List true)
 unfolding inside
@@ -263,7 +263,7 @@ pub nest-comes : (s : Symbol) {scope : Scope} (old : Direct) (st : State) (t : T
 nest-comes s old st t n here = n.goes.passes (tree t old.nest.is_listed) (old.at + 1) st
     (nest-end s n.goes.inner n.around t old.nest.is_listed old.at st n.goes.awaits here)
 
--- it is a type
+-- a finished nested name is a type
 pub type-ended : (s : Symbol) (old new : Direct) (kept : Kept s old) (t : Term)
     → IsNesting s kept.scope Kind.NestTail old t kept.state → StandsAt s.bytes old.at (69 ∷ []) → old.nest.purpose ≡ Purpose.Type
     → Lists (record old { at = old.at + 1 }) new (added_unless old old.nest.is_listed old.nest.from old.nest.is_dependent)
@@ -282,13 +282,13 @@ type-ended s old new kept t n here is_type lists =
     (comes-moved s serves.0 (tree t true) (old.at + 1) new.at (unless_listed listed serves.1 t kept.state) (sym lists.at)
     (serves.2 t listed (old.at + 1) kept.state (no-function (detail_of s) kept.scope.names d t n.bytes n.is_nest.prints) (nest-comes s old kept.state t n here))) serves.4
 
--- the arguments that it ends in were noted, or none are known
+-- the arguments that a nested name ends in were noted, or none are known
 pub arguments-noted : {detail : Detail} (b : Bool) (text : List ℕ) (a r : Arguments) (t : Term) → (b ≡ true → r ≡ a) → (b ≡ false → r ≡ nowhere)
     → (b ≡ true → HasArguments detail text a t) → HasArguments detail text r t
 arguments-noted {detail} true text a r t known none has = subst (λ (k : Arguments). HasArguments detail text k t) (sym (known refl)) (has refl)
 arguments-noted {detail} false text a r t known none has = subst (λ (k : Arguments). HasArguments detail text k t) (sym (none refl)) (no-arguments text t)
 
--- it is the name of the encoding
+-- a finished nested name is the name of the encoding
 pub name-comes : (s : Symbol) (old : Direct) (kept : Kept s old) (t : Term) (mark : Mark) (is_function : Bool) (argument_ : Arguments)
     → IsNesting s kept.scope Kind.NestTail old t kept.state
     → (is_function ≡ false → has_return_type t ≡ false) → (is_function ≡ true → has_return_type t ≡ true)
@@ -306,7 +306,7 @@ name-comes s old kept t mark is_function argument_ n no_return returns names her
       awaits = serves t old.nest.is_listed (old.at + 1) kept.state (nest-comes s old kept.state t n here);
     }
 
--- the E of a nested name that an operator ends
+-- the E of a nested name is read after an operator that ends it
 pub operator-ends : (s : Symbol) (w : Direct) (mark : Mark) → IsOperatorRead s w → StandsAt s.bytes w.at (69 ∷ [])
     → w.nest.purpose ≡ Purpose.Name mark → IsNameEnded s (record w { at = w.at + 1 }) mark false nowhere w.nest.from
 unfolding may_be_empty
@@ -363,7 +363,7 @@ classless-nest {detail} names front bytes nest t from_is class_from class_to non
   names_class = λ e closed. absurd (false≢true (sym none ∙ e));
 }
 
--- a first piece was read
+-- the first piece of a nested name was read
 abbrev first-so-far : (s : Symbol) (old new : Direct) (purpose : Purpose) (a : AwaitsNest s old purpose) (t : Term) (bytes : List ℕ)
     → new.text.list.items ≡ old.text.list.items ++ bytes → new.waiting ≡ old.waiting → new.nest.purpose ≡ purpose
     → (new.nest.is_dependent ≡ true → IsNaming a.scope (reverse old.waiting.list.items))
@@ -391,7 +391,7 @@ first-nesting s old new purpose a kind t bytes text_is waiting_is purpose_is nam
   goes = goes;
 }
 
--- the rest is expected after it
+-- the rest of a nested name is expected after its first piece
 nest-begins : (s : Symbol) (old new : Direct) (purpose : Purpose) (a : AwaitsNest s old purpose) (t : Term) (bytes : List ℕ)
     → new.text.list.items ≡ old.text.list.items ++ bytes → new.candidates ≡ old.candidates → new.waiting ≡ old.waiting → new.has_scope ≡ old.has_scope
     → new.nest.purpose ≡ purpose → new.nest.is_dependent ≡ false
@@ -407,7 +407,7 @@ nest-begins s old new purpose a t bytes text_is candidates_are waiting_is scope_
   );
 }
 
--- and after a substituted name
+-- the rest of a nested name is expected after a substituted name
 known-begins : (s : Symbol) (old new : Direct) (purpose : Purpose) (a : AwaitsNest s old purpose) (t : Term) (bytes : List ℕ)
     → new.text.list.items ≡ old.text.list.items ++ bytes → new.candidates ≡ old.candidates → new.waiting ≡ old.waiting → new.has_scope ≡ old.has_scope
     → new.nest.purpose ≡ purpose → (new.nest.is_dependent ≡ true → IsNaming a.scope (reverse old.waiting.list.items))
@@ -422,7 +422,7 @@ known-begins s old new purpose a t bytes text_is candidates_are waiting_is scope
   no_structor = no_structor;
 }
 
--- a nest whose class is written between these places
+-- the nested name so far, with the places between which its class is written
 abbrev pub nest_of : (from class_from class_to : ℕ) → Purpose → (is_listed has_class : Bool) → Nest
 nest_of from class_from class_to purpose is_listed has_class = record {
   from = from;

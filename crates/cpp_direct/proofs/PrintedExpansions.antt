@@ -1,14 +1,14 @@
--- What a parameter prints that expands a pack: what its pattern makes of each type of the pack.
+-- What a parameter that expands a pack prints: what its pattern makes of each type of the pack.
 use Rattle.cpp_direct.proofs.AllGround.{argument, arguments_of, as_item, at_index, comma_before, Context, count, Detail, element, expand, expand_parts, expand_rest, expansion, expansion_parts, indexed, is_below, is_empty, is_none_of, is_void, left, left_parts, length_if_pack, lvalue, not_empty, pack, pack_length, packs_of, parameter, parts_in, qualified, right, right_parts, rvalue, says, Term, types_of, Pattern, le-ltb, lt-ltb, Prints, PrintsAround, PrintsIn, PrintsListed, PrintsMade, IsMarkedBy, written_of, IsElementIn, PrintEachBy, PrintAllBy, joined, list_of, made_by, inl, inr, ◌≡◌, refl, ap, ◌∙◌, ℕ, ◌+◌, ◌*◌, ◌≤◌, List, [], ◌∷◌, ◌++◌, length, Bool, true, false, arith, codes, length-append, sym, subst, append-nil, append_assoc, ◌≢◌, slice_get, Some, zero, suc, ◌<◌, text_of, cost_of, further, joined-further, type-in, text_shown, cost_shown, shown_by, const-in, constant, lvalue-in, parameter-around, parameter-in, rvalue-again, rvalue-around, rvalue-in}
 use Rattle.std.proofs.Math.Dec.{eqb-suc-zero}
 
--- where the argument with this number is a pack of these types
+-- in the context, the argument with this number is a pack of these types
 record IsPacked (c : Context) (k : ℕ) (ts : List Term) : Type 0 where
   pub all : Term
   pub scope_is : c.scope ≡ Some all
   pub pack_is : element all k ≡ pack (list_of ts)
 
--- what a pattern makes of each type of it
+-- the tree that a pattern makes of a parameter that names the pack
 abbrev each : Pattern → (number : ℕ) → Term
 each pattern k = made_by pattern (parameter k)
 
@@ -57,7 +57,7 @@ makes-in {detail} d k Pattern.Rvalue b marks true p is = (
 makes-in {detail} d k Pattern.Rvalue b marks false p is =
     (true, subst (λ m. PrintsIn detail d 3 (rvalue (parameter k)) (b ++ m) true) (sym is) (rvalue-in d 3 (parameter k) b (parameter-in d k b false p)))
 
--- what it makes of a reference with text on both sides of a name
+-- what a pattern makes of a reference with text on both sides of a name
 around-in : {detail : Detail} (d : Context) (k : ℕ) (pattern : Pattern) (b marks : List ℕ) → PrintsAround detail (argument d k) b → IsMarkedBy pattern true marks
     → IsElementIn detail d 3 (each pattern k) (b ++ marks)
 around-in {detail} d k Pattern.Same b marks p is =
@@ -81,7 +81,7 @@ each-prints {detail} c k i ts pattern own b packed at p =
     subst (λ l. IsElementIn detail d 3 (each pattern k) l) (sym p.5) (listed-in d k pattern p.0 p.2 p.1
     (subst (λ t. PrintsListed true detail t p.0 p.1) (sym (argument-at c k i ts own packed at)) p.3) p.4)
 
--- ## After the first one
+-- ## After the first element
 
 packs-are : (c : Context) (k : ℕ) (ts : List Term) (pattern : Pattern) → IsPacked c k ts → packs_of c (each pattern k) ≡ Some (count (list_of ts))
 unfolding packs_of pack_length length_if_pack
@@ -90,7 +90,7 @@ packs-are c k ts Pattern.Lvalue p = rw (p.scope_is, p.pack_is) refl
 packs-are c k ts Pattern.ConstLvalue p = rw (p.scope_is, p.pack_is) refl
 packs-are c k ts Pattern.Rvalue p = rw (p.scope_is, p.pack_is) refl
 
--- what follows the first ones
+-- what follows the first elements
 rest-ends : (c : Context) (k : ℕ) (ts : List Term) (pattern : Pattern) (n : ℕ) → IsPacked c k ts → length ts ≤ n → expand_rest c (each pattern k) n ≡ []
 unfolding expand_rest is_below
 rest-ends c k ts pattern n p le = rw (packs-are c k ts pattern p, le-ltb n (count (list_of ts)) (omega (arith, le, count-of ts)), expand_rest) refl
@@ -174,8 +174,8 @@ expanded {detail} c k pattern t rest b texts packed one others =
       void = λ h. cc h;
     }
 
--- The types of a name whose arguments include a pack of these: an expansion of it prints what its pattern makes of each
--- element.
+-- Among the types of a name whose arguments include a pack of these elements, an expansion of the pack prints what its pattern
+-- makes of each element.
 pub expansion-element : {detail : Detail} (name all : Term) (k : ℕ) (ts : List Term) (pattern : Pattern) (bytes : List ℕ) → ts ≢ []
     → arguments_of name ≡ Some all → element all k ≡ pack (list_of ts)
     → PrintAllBy (PrintsMade detail pattern) ts bytes → IsElementIn detail (types_of name) 6 (expansion (made_by pattern (parameter k))) bytes

@@ -48,7 +48,7 @@ right-cost detail c r ts l all =
       cost_append detail front close,
     )
 
--- ## What it is as an element
+-- ## A function type as an element
 
 sections : (b s o l k : List ℕ) → (b ++ s) ++ (o ++ l ++ k) ≡ b ++ (s ++ o) ++ l ++ k
 sections b s o l k = simp append_assoc
@@ -116,7 +116,7 @@ function-element {detail} extra is_pointer r b is_reference ts l p all apart =
     (sym (ap parameters (list-with-none ts) ∙ parameters-kept detail closed 0 ts l (all-in detail closed 0 ts l all) apart))
     (plain-element extra is_pointer r b is_reference ts l p all)
 
--- With a lone void it prints no parameters.
+-- A function type with a lone void prints no parameters.
 pub void-function-element : {detail : Detail} (extra : ℕ) (is_pointer : Bool) (r : Term) (b : List ℕ) (is_reference : Bool) → Prints detail r b is_reference
     → IsElement detail extra (pointed is_pointer (plain_function r (list_with (builtin (118 ∷ []) ∷ []) nil))) (b ++ opening_text is_pointer ++ codes ")")
 unfolding parameters is_void is_nil
@@ -161,9 +161,9 @@ array-right-cost detail c digits t =
     let behind = says "]" ∷ as_item right c t ∷ [] in
     omega (arith, cost_shown detail right c (array digits t) (front ++ behind) refl refl, cost_append detail front behind, part-cost detail digits)
 
--- ## What an array is as an element
+-- ## An array as an element
 
--- A reference to an array prints its elements' type and its size, and a mark between them,
+-- A reference to an array prints its elements' type and its size, and a mark between them.
 pub array-around : {detail : Detail} (digits : List ℕ) → IsUnmarked digits → (t : Term) (b : List ℕ) (r : Bool) → Prints detail t b r
     → PrintsAround detail (lvalue (array digits t)) (b ++ array_opening Access.Lvalue ++ digits ++ codes "]")
 unfolding parts_in left_parts right_parts marked_parts reference_parts closing_right head head_with is_reference is_funarr not_empty is_empty is_open pack_length is_void
@@ -189,7 +189,7 @@ array-around {detail} digits plain t b r p = let a = array digits t in record {
   no_void = refl;
 }
 
--- and so does an array, with a mark where it is pointed or referred to.
+-- An array prints its elements' type and its size, and a mark between them if it is behind a pointer or a reference.
 pub array-element : {detail : Detail} (extra : ℕ) (access : Access) (digits : List ℕ) → IsUnmarked digits → (t : Term) (b : List ℕ) (r : Bool) → Prints detail t b r
     → IsElement detail extra (accessed access (array digits t)) (b ++ array_opening access ++ digits ++ codes "]")
 unfolding parts_in left_parts right_parts marked_parts reference_parts closing_right head head_with is_reference is_funarr not_empty is_empty is_open pack_length is_void

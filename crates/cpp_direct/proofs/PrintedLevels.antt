@@ -1,15 +1,15 @@
--- What a member of an instance prints, whose names aren't looked up.
+-- What a member of a template's instance prints, where its name isn't looked up.
 use Rattle.cpp_direct.proofs.AllGround.{alone, Context, Detail, first_of, is_function_type, is_open, left, length_if_pack, operation_of_code, operations, pack_length, right, same_bytes, source, Term, ◌≡◌, ◌≢◌, refl, ◌∙◌, ℕ, List, [], ◌∷◌, ◌++◌, Bool, true, false, arith, codes, length-append, text_of, as_item, says, source_text, prefix_item, component_parts, last_piece, opening_text, left_parts, right_parts, parts_in, not_empty, operation_parts, operand_parts, printed, text_part, member_of, written_of, Prints, PrintsIn, PrintsAs, Names, IsUnmarked, text_shown, cost_shown, prints-in, made-given}
 use Rattle.cpp_direct.proofs.AllRead.{joins}
 use Rattle.cpp_direct.proofs.PrintedNames.{besides, own-in, own-prints, source-prints}
 
--- the instance, colons and the name
+-- the parts of a member: the instance, colons and the name
 member-parts : (detail : Detail) (c : Context) (u : Term) (name : List ℕ)
     → parts_in detail c left (member_of u name) ≡ as_item left c u ∷ says "::" ∷ as_item left c (alone (source false name)) ∷ []
 unfolding parts_in left_parts operation_parts operand_parts text_part printed operation_of_code operations same_bytes
 member-parts detail c u name = refl
 
--- in a context
+-- a member of an instance, in a context
 member-in : {detail : Detail} (c : Context) (extra : ℕ) (u : Term) (b : List ℕ) → PrintsIn detail c extra u b false → (name : List ℕ) → name ≢ [] → IsUnmarked name
     → PrintsIn detail c extra (member_of u name) (b ++ codes "::" ++ source_text name) false
 unfolding parts_in right_parts not_empty besides

@@ -13,7 +13,7 @@ pub joined-further : (b : List ℕ) (bs : List (List ℕ)) → joined (b ∷ bs)
 joined-further b [] = sym (append-nil b)
 joined-further b (c ∷ bs) = ap (λ s. b ++ codes ", " ++ s) (joined-further c bs) ∙ append_assoc b (codes ", ") (c ++ further bs)
 
--- the parts of a list after another element, and those of the whole
+-- the parts of a list that follows another element, and the parts of a whole list
 more-is : (c : Context) (e rest : Term) → is_empty c e ≡ false
     → more_parts c (list e rest) ≡ says ", " ∷ as_item left c e ∷ as_item right c e ∷ list_part more c rest
 unfolding more_parts
@@ -26,7 +26,7 @@ first-is c e rest filled = rw (filled, first_parts) refl
 element-text : (l r x b y : List ℕ) → l ++ r ≡ b → x ≡ y → l ++ (r ++ x) ≡ b ++ y
 element-text l r x b y e f = sym (append_assoc l r x) ∙ ap (λ k. k ++ x) e ∙ ap (λ k. b ++ k) f
 
--- After the elements of a list this follows, and prints nothing there. It may cost this much.
+-- A tree ends a list after the list's elements, and prints nothing there. It costs at most `most`.
 record EndsList (detail : Detail) (c : Context) (most : ℕ) (tail : Term) : Type 0 where
   first_text : text_of (shown_by detail (list_part first c tail)) ≡ []
   first_cost : cost_of (shown_by detail (list_part first c tail)) ≤ 1 + most
@@ -37,7 +37,7 @@ ends-bare : {detail : Detail} (c : Context) (most : ℕ) → EndsList detail c m
 unfolding list_part parts_in not_empty
 ends-bare c most = record { first_text = refl; first_cost = omega arith; more_text = refl; more_cost = omega arith }
 
--- an element that is empty there does
+-- an element that is empty in the context ends a list
 ends-nothing : {detail : Detail} (c : Context) (t : Term) → is_empty c t ≡ true → EndsList detail c 1 (list t nil)
 unfolding list_part first_parts more_parts parts_in not_empty
 ends-nothing {detail} c t none =
@@ -56,13 +56,13 @@ unfolding is_empty
 ends-list {detail} c tail (inl is) = subst (EndsList detail c 1) (sym is) (ends-bare c 1)
 ends-list {detail} c tail (inr is) = subst (EndsList detail c 1) (sym is) (ends-nothing c (pack nil) refl)
 
--- no parameter is free in it, and it names no packs
+-- no parameter is free in the end of a list, and it names no packs
 tail-closed : (tail : Term) → IsTail tail → (is_open tail ≡ false) × ((scope : Term) → pack_length scope tail ≡ None)
 unfolding is_open pack_length first_of
 tail-closed tail (inl is) = rw is (refl, λ scope. refl)
 tail-closed tail (inr is) = rw is (refl, λ scope. refl)
 
--- an element anywhere is one in a context
+-- an element anywhere is an element in a context
 pub element-in : {detail : Detail} (c : Context) (extra : ℕ) (t : Term) (b : List ℕ) → IsElement detail extra t b → IsElementIn detail c extra t b
 element-in c extra t b p = record { both_texts = p.both_texts c; cost = p.cost c; filled = p.filled c; void = p.void }
 
@@ -138,23 +138,23 @@ all-more detail c few most le ts l all = all-by (IsElementIn detail c few) (IsEl
 pub all-in : (detail : Detail) (c : Context) (extra : ℕ) (ts : List Term) (l : List ℕ) → PrintAll detail extra ts l → PrintAllIn detail c extra ts l
 all-in detail c extra ts l all = all-by (IsElement detail extra) (IsElementIn detail c extra) (λ t b p. element-in c extra t b p) ts l all
 
--- What a list prints in a context whose last elements may be empty,
+-- What a list prints in a context where its last elements may be empty.
 pub list-text-before : (detail : Detail) (c : Context) (extra : ℕ) (ts : List Term) (tail : Term) (l : List ℕ) → IsTail tail → PrintAllIn detail c extra ts l
     → text_of (shown_by detail (list_part first c (list_with ts tail))) ≡ l
 list-text-before detail c extra ts tail l is all = (first-shown c extra ts tail all.0 1 (ends-list c tail is) all.1).0 ∙ all.2
 
--- at a cost that its text bounds
+-- The text of a list bounds its cost in a context where its last elements may be empty.
 pub list-cost-before : (detail : Detail) (c : Context) (extra : ℕ) (ts : List Term) (tail : Term) (l : List ℕ) → extra ≤ 6 → IsTail tail
     → PrintAllIn detail c extra ts l → cost_of (shown_by detail (list_part first c (list_with ts tail))) ≤ 2 + extra + 4 * length l
 list-cost-before detail c extra ts tail l few is all = omega (arith, (first-shown c extra ts tail all.0 1 (ends-list c tail is) all.1).1 few, ap length all.2)
 
--- What a list prints in a context,
+-- What a list prints in a context.
 pub list-text-in : (detail : Detail) (c : Context) (extra : ℕ) (ts : List Term) (l : List ℕ) → PrintAllIn detail c extra ts l
     → text_of (shown_by detail (list_part first c (list_of ts))) ≡ l
 list-text-in detail c extra ts l all =
     subst (λ k. text_of (shown_by detail (list_part first c k)) ≡ l) (list-with-none ts) ((first-shown c extra ts nil all.0 0 (ends-bare c 0) all.1).0 ∙ all.2)
 
--- at a cost that its text bounds
+-- The text of a list bounds its cost in a context.
 pub list-cost-in : (detail : Detail) (c : Context) (extra : ℕ) (ts : List Term) (l : List ℕ) → extra ≤ 6 → PrintAllIn detail c extra ts l
     → cost_of (shown_by detail (list_part first c (list_of ts))) ≤ 1 + extra + 4 * length l
 list-cost-in detail c extra ts l few all =
@@ -169,7 +169,7 @@ pub list-in : (detail : Detail) (c : Context) (extra : ℕ) (ts : List Term) (l 
     → PrintsItems detail c (list_of ts) l
 list-in detail c extra ts l few all = (list-text-in detail c extra ts l all, omega (arith, list-cost-in detail c extra ts l few all, few))
 
--- also where the last of them is empty there
+-- likewise if the last item is empty in the context
 pub list-before : (detail : Detail) (c : Context) (ts : List Term) (t : Term) (l : List ℕ) → is_empty c t ≡ true → PrintAllIn detail c 3 ts l
     → PrintsItems detail c (list_with ts (list t nil)) l
 list-before detail c ts t l none all =
@@ -178,17 +178,17 @@ list-before detail c ts t l none all =
       omega (arith, shown.1 (omega arith), ap length all.2),
     )
 
--- What a list prints,
+-- What a list prints anywhere.
 pub list-text : (detail : Detail) (c : Context) (extra : ℕ) (ts : List Term) (l : List ℕ) → PrintAll detail extra ts l
     → text_of (shown_by detail (list_part first c (list_of ts))) ≡ l
 list-text detail c extra ts l all = list-text-in detail c extra ts l (all-in detail c extra ts l all)
 
--- at a cost that its text bounds
+-- The text of a list bounds its cost.
 pub list-cost : (detail : Detail) (c : Context) (extra : ℕ) (ts : List Term) (l : List ℕ) → extra ≤ 6 → PrintAll detail extra ts l
     → cost_of (shown_by detail (list_part first c (list_of ts))) ≤ 1 + extra + 4 * length l
 list-cost detail c extra ts l few all = list-cost-in detail c extra ts l few (all-in detail c extra ts l all)
 
--- ## What else is known of a list
+-- ## Free parameters and packs in a list
 
 each-closed : (detail : Detail) (extra : ℕ) (ts : List Term) (tail : Term) (texts : List (List ℕ)) → is_open tail ≡ false → PrintEach detail extra ts texts
     → is_open (list_with ts tail) ≡ false
@@ -207,12 +207,12 @@ each-packless scope by none (t ∷ ts) tail (b ∷ bs) ends each = rw (none t b 
 each-packless scope by none [] tail (b ∷ bs) ends each = elim each [ ]
 each-packless scope by none (t ∷ ts) tail [] ends each = elim each [ ]
 
--- No parameter is free in a list of such trees.
+-- No parameter is free in a list of trees that print their texts.
 pub list-closed : (detail : Detail) (extra : ℕ) (ts : List Term) (tail : Term) (l : List ℕ) → IsTail tail → PrintAll detail extra ts l
     → is_open (list_with ts tail) ≡ false
 list-closed detail extra ts tail l is all = each-closed detail extra ts tail all.0 (tail-closed tail is).0 all.1
 
--- It names no packs.
+-- A list of trees that print their texts names no packs.
 pub list-packless : (detail : Detail) (scope : Term) (extra : ℕ) (ts : List Term) (tail : Term) (l : List ℕ) → IsTail tail → PrintAll detail extra ts l
     → pack_length scope (list_with ts tail) ≡ None
 list-packless detail scope extra ts tail l is all =
@@ -231,7 +231,7 @@ type-element extra t b r p = record {
   void = p.void;
 }
 
--- A reference that prints on both sides of a name is one, too,
+-- A reference that prints on both sides of a name is an element, too.
 pub around-element : {detail : Detail} (extra : ℕ) (t : Term) (b : List ℕ) → PrintsAround detail t b → IsElement detail extra t b
 around-element extra t b p = record {
   both_texts = p.both_texts;
@@ -242,7 +242,7 @@ around-element extra t b p = record {
   void = λ e. cc (sym p.no_void ∙ e);
 }
 
--- and so is what is listed.
+-- What may be listed as an argument, or as an element of a pack, is an element.
 pub listed-element : {detail : Detail} (in_pack : Bool) (extra : ℕ) (t : Term) (b : List ℕ) (r : Bool) → PrintsListed in_pack detail t b r → IsElement detail extra t b
 listed-element false extra t b r p = type-element extra t b r p
 listed-element true extra t b r (inl p) = type-element extra t b r p
@@ -326,19 +326,19 @@ next-prints-by by [] l t b all p = go all.0 all.1 all.2
     go (c ∷ texts) each is = absurd each
 next-prints-by by (u ∷ ts) l t b all p = another-prints by u ts l t b all p
 
--- One more element prints after those before it,
+-- One more element prints after those before it.
 pub next-prints : {detail : Detail} (extra : ℕ) (ts : List Term) (l : List ℕ) (t : Term) (b : List ℕ) → PrintAll detail extra ts l → IsElement detail extra t b
     → PrintAll detail extra (ts ++ t ∷ []) (in_front_of_next ts l ++ b)
 next-prints {detail} extra ts l t b all p = next-prints-by (IsElement detail extra) ts l t b all p
 
--- also in a context.
+-- Likewise for elements in a context.
 pub next-prints-in : {detail : Detail} (c : Context) (extra : ℕ) (ts : List Term) (l : List ℕ) (t : Term) (b : List ℕ) → PrintAllIn detail c extra ts l
     → IsElementIn detail c extra t b → PrintAllIn detail c extra (ts ++ t ∷ []) (in_front_of_next ts l ++ b)
 next-prints-in {detail} c extra ts l t b all p = next-prints-by (IsElementIn detail c extra) ts l t b all p
 
 -- ## Elements where parameters name arguments with these texts
 
--- What is an element anywhere is one there,
+-- An element anywhere is an element where parameters name arguments with these texts.
 pub element-as : (detail : Detail) (names : Names) (is_dependent : Bool) (extra : ℕ) (t : Term) (b : List ℕ) → IsElement detail extra t b
     → IsElementAs detail names is_dependent extra t b
 element-as detail names false extra t b p = p
@@ -349,7 +349,7 @@ pub element-given : (detail : Detail) (names : Names) (is_dependent : Bool) (ext
 element-given detail names false extra t b p = element-as detail names true extra t b p
 element-given detail names true extra t b p = p
 
--- and so are all of a list.
+-- Likewise for all elements of a list.
 pub all-as : (detail : Detail) (names : Names) (is_dependent : Bool) (extra : ℕ) (ts : List Term) (l : List ℕ) → PrintAll detail extra ts l
     → PrintAllAs detail names is_dependent extra ts l
 all-as detail names is_dependent extra ts l all =
@@ -360,13 +360,13 @@ pub all-given : (detail : Detail) (names : Names) (is_dependent : Bool) (extra :
 all-given detail names is_dependent extra ts l all =
     all-by (IsElementAs detail names is_dependent extra) (IsElementGiven detail names extra) (λ t b p. element-given detail names is_dependent extra t b p) ts l all
 
--- In a context where parameters name such arguments the list prints.
+-- In a context where parameters name arguments with these texts, the list prints its text.
 pub all-as-in : (detail : Detail) (names : Names) (is_dependent : Bool) (c : Context) (extra : ℕ) (ts : List Term) (l : List ℕ) → IsGiven detail names c
     → PrintAllAs detail names is_dependent extra ts l → PrintAllIn detail c extra ts l
 all-as-in detail names is_dependent c extra ts l given all =
     all-by (IsElementAs detail names is_dependent extra) (IsElementIn detail c extra) (λ t b p. (element-given detail names is_dependent extra t b p).prints c given) ts l all
 
--- They name no packs if these arguments are none.
+-- The elements of a list name no packs if the arguments that may be named are no packs.
 pub list-packless-as : (detail : Detail) (names : Names) (is_dependent : Bool) (arguments : Term) (extra : ℕ) (ts : List Term) (tail : Term) (l : List ℕ)
     → AreSingle names arguments → IsTail tail → PrintAllAs detail names is_dependent extra ts l → pack_length arguments (list_with ts tail) ≡ None
 list-packless-as detail names is_dependent arguments extra ts tail l single is all =

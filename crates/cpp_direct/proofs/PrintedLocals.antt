@@ -7,7 +7,7 @@ use Rattle.cpp_direct.proofs.PrintedFunctions.{closed-list, packless-list}
 
 -- ## Types in functions
 
--- a piece of a nested name is one
+-- a piece of a nested name prints its text
 pub piece-prints : {detail : Detail} (p : Term) (x : List ℕ) → IsPiece detail p x → opening_text p ≡ codes "<" → PrintsPiece detail p x
 piece-prints p x is opening = record {
   piece_text = is.piece_text;
@@ -74,7 +74,7 @@ component-prints {detail} t b h p n q =
       );
     }) (rw (h.is_closed, q.is_closed) refl) (λ scope. rw (h.packless scope, q.packless scope) refl) q.opening (λ c. refl)
 
--- A piece in an encoding prints both.
+-- A piece in an encoding prints the encoding and itself.
 pub enclosed-prints : {detail : Detail} (e : Term) (b : List ℕ) → Encloses detail e b → (p : Term) (n : List ℕ) → PrintsPiece detail p n
     → Prints detail (within e p) (b ++ codes "::" ++ n) false
 unfolding parts_in right_parts not_empty is_open pack_length last_piece besides first_of
@@ -92,7 +92,7 @@ enclosed-prints {detail} e b h p n q =
       );
     }) (rw (h.is_closed, q.is_closed) refl) (λ scope. rw (h.packless scope, q.packless scope) refl) q.opening (λ c. refl)
 
--- A member function in an encoding has the text of its name there, in which this piece is the last.
+-- The name of a member function in an encoding prints the name so far and its last piece.
 pub member-prints : {detail : Detail} (e t : Term) (b : List ℕ) → Prints detail t b false → (p : Term) (n : List ℕ) → PrintsPiece detail p n → (digit : Discriminator)
     → PrintsName detail (local e (within t p) (discriminator_of (discriminator_value digit))) (b ++ codes "::" ++ n)
 unfolding parts_in left_parts right_parts piece_parts not_empty entity_of
@@ -163,21 +163,21 @@ encloses-as d t b same front shut packless p = record {
   packless = packless;
 }
 
--- without a return type a function shows the same either way
+-- a function without a return type shows the same before an entity and elsewhere
 bare-is-full : (parameters_shown : Bool) (name : Term) (q : Qualifiers) (ref : RefQualifier) (items : Term)
     → function_bare parameters_shown name q ref items ≡ function_full parameters_shown name q ref absent items
 unfolding function_full
 bare-is-full true name q ref items = refl
 bare-is-full false name q ref items = refl
 
--- And so do functions that have no return type.
+-- A function that has no return type shows the same before an entity.
 pub function-encloses : (d : Detail) (name : Term) (q : Qualifiers) (ref : RefQualifier) (items : Term) (b : List ℕ)
     → Shows d (function name q ref absent items) b → Encloses d (function name q ref absent items) b
 unfolding bare_parts full_parts prefix_item component_parts is_open pack_length
 function-encloses d name q ref items b p =
     encloses-as d (function name q ref absent items) b (bare-is-full (has_parameters d) name q ref items) (λ c p. refl) refl (λ k. refl) p
 
--- The return type of a function that has one isn't shown there.
+-- The return type of a function that has one isn't shown before an entity.
 pub returned-enclosing : (d : Detail) (name : Term) (q : Qualifiers) (ref : RefQualifier) (returned items : Term) (b : List ℕ)
     → Encloses d (function name q ref absent items) b → Encloses d (function name q ref returned items) b
 unfolding bare_parts prefix_item component_parts is_open pack_length parts_in
@@ -193,7 +193,7 @@ returned-enclosing d name q ref returned items b p =
       packless = λ scope. refl;
     }
 
--- Data print the same before an entity.
+-- Data print the same text before an entity and elsewhere.
 pub object-enclosing : (d : Detail) (v : Value) (b : List ℕ) → Shows d (encoding_of v nil) b → Encloses d (encoding_of v nil) b
 unfolding bare_parts full_parts prefix_item component_parts is_open pack_length
 object-enclosing d v b p =
@@ -220,7 +220,7 @@ name-shows {detail} alone name b p q ref returned items =
       shown_cost = omega (arith, p.cost closed, cost_shown detail full closed f (as_item left closed name ∷ []) is refl);
     }
 
--- A return type isn't shown there.
+-- A return type isn't shown if functions are shown by their names only.
 pub returned-shows : {detail : Detail} → has_parameters detail ≡ false → (name : Term) (q : Qualifiers) (ref : RefQualifier) (returned items : Term) (b : List ℕ)
     → Shows detail (function name q ref absent items) b → Shows detail (function name q ref returned items) b
 returned-shows {detail} alone name q ref returned items b p =
@@ -234,7 +234,7 @@ returned-shows {detail} alone name q ref returned items b p =
       shown_cost = omega (arith, p.shown_cost, cost_shown detail full closed e ps is refl, cost_shown detail full closed plain ps plain_is refl);
     }
 
--- A function shows its name also before what is in it.
+-- A function also shows its name before an entity in it.
 pub name-encloses : {detail : Detail} → has_parameters detail ≡ false → (name : Term) (b : List ℕ) → PrintsName detail name b → (q : Qualifiers) (ref : RefQualifier)
     (returned items : Term) → Encloses detail (function name q ref returned items) b
 name-encloses {detail} alone name b p q ref returned items =

@@ -5,7 +5,7 @@ use Rattle.cpp_direct.proofs.Unmarked.{source-unmarked, operator-unmarked, abbre
 use Rattle.cpp_direct.proofs.PrintedParts.{text_shown, cost_shown, alone_shown, first_cost_shown, length-filled, shown_by, first_shown, text_append, cost_append, part-text, part-cost}
 use Rattle.cpp_direct.proofs.PrintedTypes.{made-prints}
 
--- what a tree is besides its text at the left
+-- what a tree has apart from its text at the left
 pub record Besides : Type 0 where
   pub behind : List (PartOf Item)
   pub reference : Bool
@@ -31,7 +31,7 @@ besides c t = record {
   integer = is_plain_integer t;
 }
 
--- nothing at all
+-- a tree that has only its text at the left
 abbrev pub nothing_besides : Context → Term → Besides
 nothing_besides c t = record {
   behind = [];
@@ -45,7 +45,7 @@ nothing_besides c t = record {
   integer = false;
 }
 
--- a tree that is just a name or a value prints its text in a context,
+-- a tree that is just a name or a value prints its text in a context
 pub own-in : {detail : Detail} (c : Context) (extra : ℕ) (t : Term) (bytes : List ℕ) → text_of (written_of detail left c t) ≡ bytes
     → 1 + cost_of (written_of detail left c t) + cost_of (written_of detail right c t) ≤ extra + 4 * length bytes → 1 ≤ length bytes
     → besides c t ≡ nothing_besides c t → PrintsIn detail c extra t bytes false
@@ -62,7 +62,7 @@ own-in {detail} c extra t bytes left_text cost some is = record {
   some = some;
 }
 
--- and anywhere
+-- a tree that is just a name or a value prints its text anywhere
 pub own-prints : {detail : Detail} (t : Term) (bytes : List ℕ) → PrintsName detail t bytes → is_open t ≡ false → ((scope : Term) → pack_length scope t ≡ None)
     → opening_text (last_piece t) ≡ codes "<" → ((c : Context) → besides c t ≡ nothing_besides c t) → Prints detail t bytes false
 unfolding besides length_if_pack prefix_item component_parts is_plain_integer
@@ -95,11 +95,11 @@ source-filled name filled = go _
     go true = omega arith
     go false = length-filled name filled
 
--- what prints this way names something by it
+-- a tree that prints a text names something by it
 pub as-name : {detail : Detail} (t : Term) (b : List ℕ) (reference : Bool) → Prints detail t b reference → PrintsName detail t b
 as-name t b reference p = record { left_text = p.left_text; cost = p.cost }
 
--- What names something, and is one text at the base, names its class by that.
+-- What names something, and has one text at the base, names its class by that text.
 pub base-names : {detail : Detail} (t : Term) (b class : List ℕ) → PrintsName detail t b → ((c : Context) → parts_in detail c base t ≡ text class ∷ [])
     → ((c : Context) → written_in detail c base t ≡ unmarked_parts (has_arguments detail) (parts_in detail c base t)) → IsUnmarked class
     → NamesClass detail t class
@@ -115,7 +115,7 @@ base-names {detail} t b class n base_is written plain = record {
   );
 }
 
--- one of some letters, or one more
+-- what holds for some letters and for one more holds for each of them
 at-letter : (P : ℕ → Type 0) (letter c : ℕ) (before : Bool) → (before ≡ true → P letter) → P c → (before || nat_eq letter c) ≡ true → P letter
 at-letter P letter c before others there e = go before refl e
   where
@@ -123,7 +123,7 @@ at-letter P letter c before others there e = go before refl e
     go true is h = others is
     go false is h = subst P (sym (eqb-true letter c h)) there
 
--- the name of a type whose integers don't show it
+-- the name of a type whose integers omit the type ends in `int` or `long`
 builtin-ends : (letter : ℕ) → is_plain_integer (builtin (letter ∷ [])) ≡ true → EndsAsInteger (look_up (letter ∷ []) builtin_texts)
 unfolding is_plain_integer look_up builtin_texts same_bytes
 builtin-ends letter e =
@@ -140,7 +140,7 @@ source-prints {detail} internal name filled plain =
     own-prints t (source_text name)
     (one-text-names t (source_text name) (λ c. refl) (λ c. refl) (λ c. refl) (source-unmarked name plain) (source-filled name filled)) refl (λ scope. refl) refl (λ c. refl)
 
--- It names its class by itself.
+-- A source name names its class by itself.
 pub source-class : {detail : Detail} (internal : Bool) (name : List ℕ) → name ≢ [] → IsUnmarked name → NamesClass detail (alone (source internal name)) (source_text name)
 unfolding parts_in base_parts piece_parts
 source-class internal name filled plain =
@@ -153,7 +153,7 @@ pub piece-text : (d : Detail) (c : Context) (internal : Bool) (name : List ℕ) 
 unfolding parts_in piece_parts
 piece-text d c internal name plain = text_shown d piece c (source internal name) (text (source_text name) ∷ []) refl refl ∙ alone_shown d (source_text name) (source-unmarked name plain)
 
--- and what it costs
+-- the cost of a source name as a piece
 pub piece-cost : (d : Detail) (c : Context) (internal : Bool) (name : List ℕ) → cost_of (written_of d piece c (source internal name)) ≡ 1 + length (source_text name)
 unfolding parts_in piece_parts not_empty
 piece-cost d c internal name = omega (
@@ -170,7 +170,7 @@ operator-text detail c first second =
     let x = operator_text first second in
     text_shown detail piece c (operator first second) (text x ∷ []) refl refl ∙ alone_shown detail x (operator-unmarked first second)
 
--- and what it costs
+-- the cost of an operator as a piece
 pub operator-cost : (detail : Detail) (c : Context) (first second : ℕ)
     → cost_of (written_of detail piece c (operator first second)) ≡ 1 + length (operator_text first second)
 unfolding parts_in piece_parts not_empty
@@ -200,7 +200,7 @@ std-names {detail} p x texts costs some = record {
   cost = λ c. omega (arith, some, std-cost detail c p x (costs c), cost_shown detail right c (in_std p) [] refl refl, length-append (codes "std::") x);
 }
 
--- A source name in std prints that way.
+-- A source name in std prints `std::` and itself.
 pub std-prints : {detail : Detail} (internal : Bool) (name : List ℕ) → name ≢ [] → IsUnmarked name
     → Prints detail (in_std (source internal name)) (codes "std::" ++ source_text name) false
 unfolding parts_in left_parts right_parts piece_parts not_empty is_open pack_length last_piece opening_text besides
@@ -216,12 +216,12 @@ operator-names {detail} a b =
     let filled : 1 ≤ length (operator_text a b) = omega (arith, length-append (codes "operator") (look_up (a ∷ b ∷ []) operator_texts)) in
     one-text-names (alone (operator a b)) (operator_text a b) (λ c. refl) (λ c. refl) (λ c. refl) (operator-unmarked a b) filled
 
--- It prints that way, unless a blank is between it and arguments.
+-- An operator prints its text, unless a blank is between it and its arguments.
 pub operator-prints : {detail : Detail} (a b : ℕ) → is_angle a b ≡ false → Prints detail (alone (operator a b)) (operator_text a b) false
 unfolding parts_in left_parts right_parts piece_parts not_empty is_open pack_length last_piece opening_text besides
 operator-prints {detail} a b plain = own-prints (alone (operator a b)) (operator_text a b) (operator-names a b) refl (λ scope. refl) (rw plain refl) (λ c. refl)
 
--- Likewise in std.
+-- An operator in std names something by its text after `std::`.
 pub std-operator-names : {detail : Detail} (a b : ℕ) → PrintsName detail (in_std (operator a b)) (codes "std::" ++ operator_text a b)
 std-operator-names {detail} a b =
     let filled : 1 ≤ length (operator_text a b) = omega (arith, length-append (codes "operator") (look_up (a ∷ b ∷ []) operator_texts)) in
@@ -232,7 +232,7 @@ unfolding parts_in left_parts right_parts piece_parts not_empty is_open pack_len
 std-operator-prints {detail} a b plain =
     own-prints (in_std (operator a b)) (codes "std::" ++ operator_text a b) (std-operator-names a b) refl (λ scope. refl) (rw plain refl) (λ c. refl)
 
--- It names its class without std.
+-- A source name in std names its class without `std::`.
 pub std-class : {detail : Detail} (internal : Bool) (name : List ℕ) → name ≢ [] → IsUnmarked name → NamesClass detail (in_std (source internal name)) (source_text name)
 unfolding parts_in base_parts piece_parts
 std-class internal name filled plain =
@@ -250,7 +250,7 @@ abbreviation-prints {detail} letter filled =
     own-prints t (look_up (letter ∷ []) abbreviation_texts)
     (one-text-names t b (λ c. refl) (λ c. refl) (λ c. refl) (abbreviation-unmarked (letter ∷ [])) (length-filled b filled)) refl (λ scope. refl) refl (λ c. refl)
 
--- It names its class by what follows `std::`.
+-- An abbreviation names its class by what follows `std::`.
 pub abbreviation-class : {detail : Detail} (letter : ℕ) → look_up (letter ∷ []) abbreviation_texts ≢ []
     → IsUnmarked (drop 5 (look_up (letter ∷ []) abbreviation_texts))
     → NamesClass detail (abbreviation letter) (drop 5 (look_up (letter ∷ []) abbreviation_texts))
@@ -285,7 +285,7 @@ builtin-prints {detail} letter filled = let t = builtin (letter ∷ []) in let b
   integer = λ e. builtin-ends letter e;
 }
 
--- So does one with a code of two letters.
+-- A builtin type with a code of two letters prints its text.
 pub builtin-with-d-prints : {detail : Detail} (letter : ℕ) → look_up (68 ∷ letter ∷ []) builtin_texts ≢ []
     → Prints detail (builtin (68 ∷ letter ∷ [])) (look_up (68 ∷ letter ∷ []) builtin_texts) false
 unfolding parts_in left_parts right_parts piece_parts not_empty is_open pack_length last_piece opening_text besides
@@ -328,7 +328,7 @@ sign-cost detail n = go n.negative
     go true = omega arith
     go false = omega arith
 
--- There are digits where there were.
+-- Digits without leading zeros aren't empty if the digits with them aren't.
 pub normal-filled : (digits : List ℕ) → digits ≢ [] → normal digits ≢ []
 unfolding normal
 normal-filled [] e = e
@@ -339,7 +339,7 @@ normal-filled (d ∷ c ∷ ds) e = go (nat_eq d 48) (normal-filled (c ∷ ds) (�
     go true behind = behind
     go false behind = λ f. cc f
 
--- They have no marks where there were none.
+-- Digits without leading zeros have no marks if the digits with them have none.
 pub normal-unmarked : (digits : List ℕ) → IsUnmarked digits → IsUnmarked (normal digits)
 unfolding normal
 normal-unmarked [] plain = plain
@@ -425,14 +425,14 @@ enumerator-prints {detail} t b r p cast n filled digits_plain =
       );
     }) p.is_closed (λ scope. p.packless scope) refl (λ c. refl)
 
--- and so does one of a builtin type
+-- An integer of a builtin type that needs a cast prints its type in front, too.
 pub cast-integer-prints : {detail : Detail} (letter : ℕ) → is_plain_integer (builtin (letter ∷ [])) ≡ false → look_up (letter ∷ []) builtin_texts ≢ []
     → (n : Signed) → n.digits ≢ [] → IsUnmarked n.digits
     → Prints detail (integer (builtin (letter ∷ [])) n) (codes "(" ++ look_up (letter ∷ []) builtin_texts ++ codes ")" ++ sign_text n ++ n.digits) false
 cast-integer-prints letter cast there n filled digits_plain =
     enumerator-prints (builtin (letter ∷ [])) (look_up (letter ∷ []) builtin_texts) false (builtin-prints letter there) cast n filled digits_plain
 
--- a type with another name isn't one whose integers omit it
+-- a type whose name doesn't end in `int` or `long` isn't one whose integers omit the type
 pub not-integer : {detail : Detail} (t : Term) (b : List ℕ) (r : Bool) → Prints detail t b r → (EndsAsInteger b → ⊥) → is_plain_integer t ≡ false
 not-integer t b r p other = go (is_plain_integer t) refl
   where

@@ -3,7 +3,7 @@ use Rattle.cpp_direct.proofs.AllGround.{as_item, base_parts, base_tagged, base_w
 use Rattle.cpp_grammar.specs.Items.{piece}
 use Rattle.cpp_direct.proofs.PrintedNames.{besides, own-in, own-prints, source-filled, piece-text, piece-cost, operator-text, operator-cost, std-prints, as-name, base-names}
 
--- a text, a mark and a text
+-- a text, a mark and another text are joined
 pub joins : (x m y b n : List ℕ) → x ≡ b → y ≡ n → x ++ (m ++ (y ++ [])) ≡ b ++ m ++ n
 joins x m y b n e f = rw (e, f, append-nil n) (sym (append_assoc b m n))
 
@@ -22,7 +22,7 @@ pub record IsPiece (detail : Detail) (p : Term) (x : List ℕ) : Type 0 where
   pub packless : (scope : Term) → pack_length scope p ≡ None
   pub no_structor : (t : Term) → is_structor (within t p) ≡ false
 
--- a source name is one
+-- a source name is a piece
 pub source-piece : {detail : Detail} (internal : Bool) (name : List ℕ) → name ≢ [] → IsUnmarked name → IsPiece detail (source internal name) (source_text name)
 unfolding within_parts base_within base_tagged own_piece without_tags piece_parts is_open pack_length is_structor
 source-piece {detail} internal name filled plain = record {
@@ -38,12 +38,12 @@ source-piece {detail} internal name filled plain = record {
   no_structor = λ t. refl;
 }
 
--- and arguments after it are in brackets
+-- arguments after a source name are in brackets
 pub source-opening : (internal : Bool) (name : List ℕ) → opening_text (source internal name) ≡ codes "<"
 unfolding opening_text
 source-opening internal name = refl
 
--- and so is an operator
+-- an operator is a piece
 pub operator-piece : {detail : Detail} (a b : ℕ) → IsPiece detail (operator a b) (operator_text a b)
 unfolding within_parts base_within base_tagged own_piece without_tags piece_parts is_open pack_length is_structor
 operator-piece {detail} a b = record {
@@ -59,12 +59,12 @@ operator-piece {detail} a b = record {
   no_structor = λ t. refl;
 }
 
--- except for << and <, where a blank precedes the bracket
+-- arguments after an operator other than << and < are in brackets, with no blank before these
 pub operator-opening : (a b : ℕ) → is_angle a b ≡ false → opening_text (operator a b) ≡ codes "<"
 unfolding opening_text
 operator-opening a b plain = rw plain refl
 
--- what is written of a piece within something that is written in some form
+-- what is written of a piece within a scope: the scope's text in some form, colons and the piece
 pub within-text : (detail : Detail) (c : Context) (form : Form) (context : Context) (t : Term) (b : List ℕ) → text_of (written_of detail form context t) ≡ b
     → (p : Term) (x : List ℕ) → within_parts c t p ≡ joined_to form context c t p
     → text_of (written_of detail piece c p) ≡ x → text_of (written_of detail left c (within t p)) ≡ b ++ codes "::" ++ x
@@ -78,7 +78,7 @@ pub within-cost : (detail : Detail) (c : Context) (form : Form) (context : Conte
 unfolding parts_in left_parts not_empty
 within-cost detail c form context t p component = omega (arith, cost_shown detail left c (within t p) (joined_to form context c t p) component refl)
 
--- A piece in a class or a namespace prints both in a context,
+-- A piece in a class or a namespace prints its scope and itself in a context.
 within-in : {detail : Detail} (c : Context) (extra : ℕ) (t : Term) (b : List ℕ) → PrintsIn detail c extra t b false
     → (p : Term) (x : List ℕ) → component_parts c t p ≡ joined_to left c c t p → IsPiece detail p x → PrintsIn detail c extra (within t p) (b ++ codes "::" ++ x) false
 unfolding parts_in right_parts not_empty besides
@@ -95,7 +95,7 @@ within-in {detail} c extra t b prints p x prefix is =
       length-append {A = ℕ},
     )) (omega (arith, length-append (b ++ codes "::") x, length-append b (codes "::"))) refl
 
--- and names something by them.
+-- A piece in a class or a namespace names something by the texts of its scope and itself.
 pub within-names : {detail : Detail} (t : Term) (b : List ℕ) → Prints detail t b false → (p : Term) (x : List ℕ) → IsPiece detail p x
     → PrintsName detail (within t p) (b ++ codes "::" ++ x)
 within-names t b prints p x is = record {
@@ -103,7 +103,7 @@ within-names t b prints p x is = record {
   cost = λ c. omega (arith, (within-in c 0 t b (prints-in c 0 t b false prints) p x (prints.as_prefix c p) is).cost);
 }
 
--- It does so anywhere,
+-- A piece in a class or a namespace prints its scope and itself anywhere.
 pub within-prints : {detail : Detail} (t : Term) (b : List ℕ) → Prints detail t b false → (p : Term) (x : List ℕ) → IsPiece detail p x → opening_text p ≡ codes "<"
     → Prints detail (within t p) (b ++ codes "::" ++ x) false
 unfolding is_open pack_length last_piece besides first_of
@@ -111,7 +111,7 @@ within-prints t b prints p x is opening =
     own-prints (within t p) (b ++ codes "::" ++ x) (within-names t b prints p x is) (rw (prints.is_closed, is.is_closed) refl)
     (λ scope. rw (prints.packless scope, is.packless scope) refl) opening (λ c. refl)
 
--- or where parameters name arguments with these texts.
+-- A piece in a class or a namespace prints its scope and itself where parameters name arguments with these texts.
 pub within-as : (detail : Detail) (names : Names) (is_dependent : Bool) (t : Term) (b : List ℕ) → PrintsAs detail names is_dependent t b false
     → (p : Term) (x : List ℕ) → IsPiece detail p x → opening_text p ≡ codes "<" → PrintsAs detail names is_dependent (within t p) (b ++ codes "::" ++ x) false
 unfolding pack_length last_piece first_of is_function_type length_if_pack prefix_item component_parts
@@ -120,7 +120,7 @@ within-as detail names true t b prints p x is opening =
     made-given names (within t p) (b ++ codes "::" ++ x) false (λ c given. within-in c 3 t b (prints.prints c given) p x (prints.as_prefix c p) is)
     (λ arguments single. rw (prints.packless arguments single, is.packless arguments) refl) refl refl (λ c p. refl) opening
 
--- It names its class without its scope.
+-- A piece in a scope names its class without the scope.
 pub within-class : {detail : Detail} (t : Term) (b : List ℕ) → Prints detail t b false → (p : Term) (x : List ℕ) → IsPiece detail p x
     → NamesClass detail (within t p) x
 unfolding parts_in base_parts
@@ -147,7 +147,7 @@ constructor-prints {detail} t b class p n digit =
       );
     }) (rw p.is_closed refl) (λ scope. rw (p.packless scope) refl) refl (λ c. refl)
 
--- A destructor prints it after a tilde.
+-- A destructor prints the name of its class after a tilde.
 pub destructor-prints : {detail : Detail} (t : Term) (b class : List ℕ) → Prints detail t b false → NamesClass detail t class → (digit : ℕ)
     → Prints detail (within t (destructor digit)) (b ++ codes "::~" ++ class) false
 unfolding parts_in left_parts right_parts piece_parts not_empty is_open pack_length last_piece opening_text besides within_parts first_of
@@ -183,7 +183,7 @@ instance-is detail c t arguments e =
 bracketed : (o e b k x y : List ℕ) → x ≡ b → y ≡ k → (x ++ (o ++ y)) ++ e ≡ b ++ o ++ k ++ e
 bracketed o e b k x y f g = rw (f, g) (ap (λ s. s ++ e) (sym (append_assoc b o k)))
 
--- the elements, which are one item or none
+-- the elements of a list are one item or none
 list-printed : (detail : Detail) (c : Context) (arguments : Term)
     → shown_by detail (list_part first c arguments) ≡ printed_by detail (list_part first c arguments)
 list-printed detail c arguments = ap (λ ps. printed_by detail ps) (list-unmarked (has_arguments detail) first c arguments)
@@ -213,7 +213,7 @@ instance-cost detail c t opening ts tail l is all =
       list-cost-before detail c 3 ts tail l (omega arith) is all,
     )
 
--- A name with arguments prints them in brackets in a context,
+-- A name with arguments prints them in brackets in a context.
 instance-in : {detail : Detail} (c : Context) (extra : ℕ) (t : Term) (b : List ℕ) → PrintsIn detail c extra t b false → opening_text (last_piece t) ≡ codes "<"
     → (ts : List Term) (tail : Term) (l : List ℕ) → IsTail tail → PrintAllIn detail c 3 ts l
     → PrintsIn detail c extra (instance t (list_with ts tail)) (b ++ opening_bracket detail ++ l ++ closing_bracket detail) false
@@ -229,7 +229,7 @@ instance-in {detail} c extra t b p opening ts tail l is all =
       length-append {A = ℕ},
     )) (omega (arith, p.some, length-append {A = ℕ})) refl
 
--- anywhere,
+-- A name with arguments prints them in brackets anywhere.
 pub instance-prints : {detail : Detail} (t : Term) (b : List ℕ) → Prints detail t b false
     → (ts : List Term) (tail : Term) (l : List ℕ) → IsTail tail → PrintAll detail 3 ts l
     → Prints detail (instance t (list_with ts tail)) (b ++ opening_bracket detail ++ l ++ closing_bracket detail) false
@@ -240,7 +240,7 @@ instance-prints {detail} t b p ts tail l is all =
     (rw (p.is_closed, list-closed detail 3 ts tail l is all) refl) (λ scope. rw (p.packless scope, list-packless detail scope 3 ts tail l is all) refl)
     refl (λ c p. refl) refl (λ e. cc e) (λ e. cc e)
 
--- or where parameters name arguments with these texts.
+-- A name with arguments prints them in brackets where parameters name arguments with these texts.
 pub instance-as : (detail : Detail) (names : Names) (is_dependent : Bool) (t : Term) (b : List ℕ) → PrintsAs detail names is_dependent t b false
     → (ts : List Term) (tail : Term) (l : List ℕ) → IsTail tail → PrintAllAs detail names is_dependent 3 ts l
     → PrintsAs detail names is_dependent (instance t (list_with ts tail)) (b ++ opening_bracket detail ++ l ++ closing_bracket detail) false
@@ -252,7 +252,7 @@ instance-as detail names true t b p ts tail l is all =
     (λ arguments single. rw (p.packless arguments single, list-packless-as detail names true arguments 3 ts tail l single is all) refl)
     refl refl (λ c p. refl) refl
 
--- Its class is named without them.
+-- A name with arguments names its class as it does without them.
 pub instance-class : {detail : Detail} (t : Term) (b class : List ℕ) → Prints detail t b false → NamesClass detail t class
     → (ts : List Term) (tail : Term) (l : List ℕ) → IsTail tail → PrintAll detail 3 ts l → NamesClass detail (instance t (list_with ts tail)) class
 unfolding parts_in right_parts base_parts not_empty
@@ -272,7 +272,7 @@ instance-class {detail} t b class p n ts tail l is all = let i = instance t (lis
 
 -- ## Tags
 
--- what follows the name
+-- the text after a name that has a tag
 behind-text : (detail : Detail) (tag : List ℕ) → IsUnmarked tag → text_of (shown_by detail (says "[abi:" ∷ text tag ∷ says "]" ∷ [])) ≡ tag_text tag
 unfolding not_empty
 behind-text detail tag plain = ap (λ l. codes "[abi:" ++ l) (first_shown detail tag (says "]" ∷ []) plain)
@@ -308,7 +308,7 @@ unfolding parts_in right_parts not_empty
 tagged-costs detail extra of_structor t b tag c cost =
     omega (arith, cost, tagged-cost detail of_structor t tag c, cost_shown detail right c (tagged of_structor t tag) [] refl refl, tag-length b tag)
 
--- A name with a tag prints it after itself.
+-- A name with a tag prints the tag after itself.
 pub tagged-names : {detail : Detail} (of_structor : Bool) (t : Term) (b : List ℕ) → PrintsName detail t b → (tag : List ℕ) → IsUnmarked tag
     → PrintsName detail (tagged of_structor t tag) (b ++ tag_text tag)
 tagged-names {detail} of_structor t b p tag plain = record {
@@ -316,7 +316,7 @@ tagged-names {detail} of_structor t b p tag plain = record {
   cost = λ c. omega (arith, tagged-costs detail 0 of_structor t b tag c (omega (arith, p.cost c)));
 }
 
--- A type with a tag does so,
+-- A type with a tag prints the tag after itself.
 pub tagged-prints : {detail : Detail} (of_structor : Bool) (t : Term) (b : List ℕ) → Prints detail t b false → (tag : List ℕ) → IsUnmarked tag
     → Prints detail (tagged of_structor t tag) (b ++ tag_text tag) false
 unfolding parts_in left_parts right_parts piece_parts not_empty is_open pack_length last_piece opening_text besides
@@ -324,7 +324,7 @@ tagged-prints {detail} of_structor t b p tag plain =
     let n = tagged-names of_structor t b (record { left_text = p.left_text; cost = p.cost }) tag plain in
     own-prints (tagged of_structor t tag) (b ++ tag_text tag) n p.is_closed p.packless refl (λ c. refl)
 
--- also where parameters name arguments with these texts.
+-- A type with a tag prints the tag after itself where parameters name arguments with these texts.
 pub tagged-as : (detail : Detail) (names : Names) (is_dependent of_structor : Bool) (t : Term) (b : List ℕ) → PrintsAs detail names is_dependent t b false
     → (tag : List ℕ) → IsUnmarked tag → PrintsAs detail names is_dependent (tagged of_structor t tag) (b ++ tag_text tag) false
 unfolding besides pack_length last_piece opening_text is_function_type length_if_pack prefix_item component_parts
@@ -346,7 +346,7 @@ within-tagged t b prints p x is tag plain =
     base-names (with_tag own tag) (bytes ++ tag_text tag) x (tagged-names (is_structor own) own bytes (within-names t b prints p x is) tag plain)
     (λ c. is.tagged_is c t) (λ c. refl) is.plain
 
--- one in std
+-- a tagged name in std
 pub std-tagged : {detail : Detail} (internal : Bool) (name : List ℕ) → name ≢ [] → IsUnmarked name → (tag : List ℕ) → IsUnmarked tag
     → NamesClass detail (with_tag (in_std (source internal name)) tag) (source_text name)
 unfolding with_tag parts_in base_parts base_tagged own_piece without_tags is_structor piece_parts not_empty
@@ -356,7 +356,7 @@ std-tagged internal name filled plain tag tag_plain =
     base-names (with_tag own tag) (b ++ tag_text tag) (source_text name)
     (tagged-names (is_structor own) own b (as-name own b false (std-prints internal name filled plain)) tag tag_plain) (λ c. refl) (λ c. refl) (source-unmarked name plain)
 
--- a tagged name with one more tag names its class as before, where at the base it has the same text, at a cost of at most one more
+-- a name with one more tag names its class as before, if at the base it has the same text and costs at most one more
 again-by : {detail : Detail} (of_structor : Bool) (t : Term) (b : List ℕ) → Prints detail t b false → (before tag class : List ℕ) → IsUnmarked before → IsUnmarked tag
     → NamesClass detail (tagged of_structor t before) class
     → ((c : Context) → text_of (written_of detail base c (tagged of_structor (tagged of_structor t before) tag)) ≡ text_of (written_of detail base c (tagged of_structor t before)))

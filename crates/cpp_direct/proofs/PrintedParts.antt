@@ -25,7 +25,7 @@ has-none s bare = ap (λ b. has_parameters (detail_by b s.is_brief)) bare ∙ ba
 abbrev pub printed_by : Detail → List (PartOf Item) → Unshared
 printed_by d ps = printed_parts (written d) (not_empty ps)
 
--- and with texts that have no marks where arguments aren't shown
+-- what parts print in a detail, without marks in their texts where arguments aren't shown
 abbrev pub shown_by : Detail → List (PartOf Item) → Unshared
 shown_by d ps = printed_by d (unmarked_parts (has_arguments d) ps)
 
@@ -42,7 +42,7 @@ unmarked-falls shown n (text [] ∷ ps) below = unmarked-falls shown n ps below
 unmarked-falls shown n (text (b ∷ bs) ∷ ps) below = unmarked-falls shown n ps below
 unmarked-falls shown n (sub i ∷ ps) below = (below.0, unmarked-falls shown n ps below.1)
 
--- the last text may be another one
+-- the ranks of parts stay below a bound if the last text is another one
 last-falls : (n x y : ℕ) (ps : List (PartOf Item)) → RanksBelow rank n (not_empty (ps ++ text (x ∷ []) ∷ []))
     → RanksBelow rank n (not_empty (ps ++ text (y ∷ []) ∷ []))
 unfolding not_empty
@@ -51,7 +51,7 @@ last-falls n x y (text [] ∷ ps) below = last-falls n x y ps below
 last-falls n x y (text (b ∷ bs) ∷ ps) below = last-falls n x y ps below
 last-falls n x y (sub i ∷ ps) below = (below.0, last-falls n x y ps below.1)
 
--- and so may the first
+-- the ranks of parts stay below a bound if the first text is left out
 first-falls : (n : ℕ) (b : List ℕ) (ps : List (PartOf Item)) → RanksBelow rank n (not_empty (text b ∷ ps)) → RanksBelow rank n (not_empty ps)
 unfolding not_empty
 first-falls n [] ps below = below
@@ -83,7 +83,7 @@ in-falls d c left t below = name-falls d c left t below (λ a b e. same-instance
 in-falls d c low t below = name-falls d c low t below (λ a b e. same-instance c low t a b e refl)
 in-falls d c form t below = unmarked-falls (has_arguments d) (rank_in c form t) (parts_in d c form t) (below d)
 
--- the rank falls to each part of what is written
+-- each part of what is written of an item has a lower rank than the item
 pub written_falls : (d : Detail) (item : Item) → RanksBelow rank (rank item) (written_parts d item)
 unfolding written_parts parts rank
 written_falls d item = in-falls d item.context item.form item.tree (λ e. ranks_fall e item)
@@ -93,7 +93,7 @@ pub writes_parts : (d : Detail) (form : Form) (context : Context) (t : Term) →
 unfolding written_parts
 writes_parts d form context t = printed-parts (written_parts d) rank (written_falls d) (record { tree = t; form = form; context = context })
 
--- the text of a tree in a form, where its parts are known, and it is no instance
+-- the text of a tree in a form, if its parts are known and it is no instance
 pub text_shown : (d : Detail) (form : Form) (context : Context) (t : Term) (ps : List (PartOf Item)) → parts_in d context form t ≡ ps
     → written_in d context form t ≡ unmarked_parts (has_arguments d) (parts_in d context form t)
     → text_of (written_of d form context t) ≡ text_of (shown_by d ps)
@@ -105,7 +105,7 @@ pub cost_shown : (d : Detail) (form : Form) (context : Context) (t : Term) (ps :
     → cost_of (written_of d form context t) ≡ cost_of (shown_by d ps)
 cost_shown d form context t ps e same = ap cost_of (writes_parts d form context t) ∙ ap (λ xs. cost_of (printed_by d xs)) same ∙ ap (λ xs. cost_of (shown_by d xs)) e
 
--- a text precedes what is after it, be it empty or not
+-- a first text precedes what the other parts print, whether it is empty or not
 first-printed : (d : Detail) (b : List ℕ) (ps : List (PartOf Item)) → text_of (printed_by d (text b ∷ ps)) ≡ b ++ text_of (printed_by d ps)
 unfolding not_empty
 first-printed d [] ps = refl
@@ -120,7 +120,7 @@ unfolding not_empty
 first-cost-printed d [] ps = omega arith
 first-cost-printed d (b ∷ bs) ps = omega arith
 
--- and costs its length
+-- a first text costs its length
 pub first_cost_shown : (d : Detail) (b : List ℕ) (ps : List (PartOf Item)) → cost_of (shown_by d (text b ∷ ps)) ≡ length b + cost_of (shown_by d ps)
 first_cost_shown d b ps = omega (arith, first-cost-printed d (unmarked (has_arguments d) b) (unmarked_parts (has_arguments d) ps), length-unmarked (has_arguments d) b)
 
@@ -151,7 +151,7 @@ pub text-append : (detail : Detail) (ps qs : List (PartOf Item))
     → text_of (printed_by detail (ps ++ qs)) ≡ text_of (printed_by detail ps) ++ text_of (printed_by detail qs)
 text-append detail ps qs = parts-joined (λ i. written detail i) ps qs
 
--- and cost what both do
+-- the costs of two lists of parts are added
 pub cost-append : (detail : Detail) (ps qs : List (PartOf Item))
     → 1 + cost_of (printed_by detail (ps ++ qs)) ≡ cost_of (printed_by detail ps) + cost_of (printed_by detail qs)
 unfolding not_empty
@@ -181,13 +181,13 @@ cost_append detail ps qs =
       cost-append detail (unmarked_parts (has_arguments detail) ps) (unmarked_parts (has_arguments detail) qs),
     )
 
--- a text that is a part unless it is empty
+-- a part that is left out if its text is empty prints its text
 pub part-text : (detail : Detail) (b : List ℕ) → IsUnmarked b → text_of (shown_by detail (text_part b)) ≡ b
 unfolding text_part not_empty
 part-text detail [] plain = refl
 part-text detail (b ∷ bs) plain = alone_shown detail (b ∷ bs) plain
 
--- and costs its length
+-- a part that is left out if its text is empty costs one more than its length
 pub part-cost : (detail : Detail) (b : List ℕ) → cost_of (shown_by detail (text_part b)) ≡ 1 + length b
 unfolding text_part not_empty
 part-cost detail [] = omega arith

@@ -10,13 +10,13 @@ signed_text : (x y z b l q : List ℕ) → x ≡ b → y ≡ l → z ≡ q → (
 signed_text x y z b l q e f g =
     rw (e, f, g) (ap (λ s. s ++ (codes ")" ++ q)) (sym (append_assoc b (codes "(") l)) ∙ sym (append_assoc (b ++ codes "(" ++ l) (codes ")") q))
 
--- a function that has no return type is shown this way
+-- the parts of a function that has no return type
 plain_parts : (detail : Detail) → has_parameters detail ≡ true → (name : Term) (q : Qualifiers) (ref : RefQualifier) (items : Term)
     → parts_in detail closed full (function name q ref absent items) ≡ function_bare true name q ref items
 unfolding parts_in full_parts function_full
 plain_parts detail shown name q ref items = ap (λ b. function_full b name q ref absent items) shown
 
--- where its object is no parameter, a parenthesis begins them
+-- a parenthesis begins the parameters of a function whose object is no parameter
 opened_plainly : (name : Term) (q : Qualifiers) (ref : RefQualifier) (items : Term) → begins_parameters ref items ≡ codes "("
     → function_bare true name q ref items ≡ (as_item left closed name ∷ says "(" ∷ list_part first (types_of name) items) ++ (says ")" ∷ text_part (encoding_text q ref))
 unfolding function_bare
@@ -91,7 +91,7 @@ returned_parts detail shown name q ref r items there = ap (λ b. function_full b
 fronted_text : (x y z b l : List ℕ) → x ≡ b → y ≡ l → z ≡ [] → (x ++ (codes " " ++ [])) ++ y ++ (z ++ []) ≡ b ++ codes " " ++ l
 fronted_text x y z b l e f g = rw (e, f, g) (append-nil (b ++ codes " " ++ l))
 
--- A function that has a return type prints it before what it prints without.
+-- A function that has a return type prints that type, and then what the function without it prints.
 pub front-shows : {detail : Detail} → has_parameters detail ≡ true → (name : Term) (q : Qualifiers) (ref : RefQualifier) (items : Term) (l : List ℕ)
     → Shows detail (function name q ref absent items) l → (r : Term) (b : List ℕ) (is_reference : Bool) → PrintsIn detail (types_of name) 3 r b is_reference
     → Shows detail (function name q ref r items) (b ++ codes " " ++ l)
@@ -169,7 +169,7 @@ table_text k x r m y z b c e f =
     ap (λ l. k ++ ((x ++ l) ++ (m ++ (y ++ (z ++ []))))) (append-nil r) ∙ ap (λ l. k ++ (l ++ (m ++ (y ++ (z ++ []))))) e
     ∙ ap (λ l. k ++ (b ++ (m ++ (y ++ l)))) (append-nil z) ∙ ap (λ l. k ++ (b ++ (m ++ l))) f ∙ simp append_assoc
 
--- A construction table prints what it is, its base class, and the derived one.
+-- A construction table prints what it is, its base class, and its derived class.
 pub table-shows : {detail : Detail} (derived parent : Term) (digits b c : List ℕ) → IsElement detail 0 parent b → IsElement detail 0 derived c
     → Shows detail (construction derived digits parent) (codes "construction vtable for " ++ b ++ codes "-in-" ++ c)
 unfolding parts_in full_parts not_empty
@@ -204,7 +204,7 @@ thunk-filled (adjusting (non_virtual a)) = omega arith
 thunk-filled (adjusting (by_table a b)) = omega arith
 thunk-filled (covariant a b) = omega arith
 
--- An encoding after a text shows both.
+-- An encoding after a text shows the text and itself.
 led-shows : (d : Detail) (made : Term) (k : List ℕ) (e : Term) (b : List ℕ) → parts_in d closed full made ≡ text k ∷ as_item full closed e ∷ []
     → written_in d closed full made ≡ unmarked_parts (has_arguments d) (parts_in d closed full made) → IsUnmarked k → 1 ≤ length k → Shows d e b
     → Shows d made (k ++ b)
@@ -230,7 +230,7 @@ pub clone-filled : (b : Bool) → 1 ≤ length {A = ℕ} (elim b [ true ↦ code
 clone-filled true = omega arith
 clone-filled false = omega arith
 
--- So does a clone.
+-- A clone prints what it is, and the encoding that it is a clone of.
 pub clone-shows : (d : Detail) (letter : ℕ) (e : Term) (b : List ℕ) → Shows d e b → Shows d (clone letter e) (clone_text letter ++ b)
 unfolding parts_in full_parts not_empty clone_text
 clone-shows d letter e b p = led-shows d (clone letter e) (clone_text letter) e b refl refl (clone-plain (nat_eq letter 116)) (clone-filled (nat_eq letter 116)) p
@@ -279,19 +279,19 @@ parameters-kept detail c extra (t ∷ []) l all apart = parameters-same t nil (�
     go (b ∷ []) each is e = apart (sym is ∙ each.0.void e)
     go (b ∷ d ∷ bs) each is e = elim each.1 [ ]
 
--- likewise elements whose last one isn't void
+-- likewise for elements if the last one isn't void
 pub parameters-before : (ts : List Term) (t : Term) → is_void t ≡ false → parameters (list_with ts (list t nil)) ≡ list_with ts (list t nil)
 unfolding parameters is_nil
 parameters-before [] t apart = parameters-same t nil (λ e f. false≢true (sym apart ∙ e))
 parameters-before (u ∷ []) t apart = parameters-same u (list t nil) (λ e f. cc f)
 parameters-before (u ∷ v ∷ ts) t apart = parameters-same u (list_with (v ∷ ts) (list t nil)) (λ e f. cc f)
 
--- A name that has no return type makes a function without one of its items.
+-- All items after a name that has no return type are the parameters of a function without a return type.
 pub encoding-plain : (v : Value) (mark : Mark) (own : Term) → IsNamedSo v own mark → has_return_type own ≡ false → (t rest : Term) → encoding_of v (list t rest) ≡ plain_encoding mark own (list t rest)
 unfolding encoding_of
 encoding-plain v mark own is none t rest = rw (ap has_return_type is.tree_is ∙ none, encoding_of) (rw (is.tree_is, is.qualifiers_are, is.mark_is) refl)
 
--- The first item of a name that has one is the return type.
+-- The first item of a name that has a return type is that type.
 pub encoding-returned : (v : Value) (mark : Mark) (own : Term) → IsNamedSo v own mark → has_return_type own ≡ true → (r items : Term)
     → encoding_of v (list r items) ≡ function own (qualifiers (has_const mark)) (called_on mark) r (parameters items)
 unfolding encoding_of
@@ -327,7 +327,7 @@ void-shows {detail} shown name b p q ref =
     subst (λ l. Shows detail (function name q ref absent nil) l) (none_bracketed b (encoding_text q ref))
     (function-shows shown name b p nil [] (list-in detail (types_of name) 6 [] [] (omega arith) (none-print-in detail (types_of name) 6)) q ref (nothing-opens ref))
 
--- Without items it shows the name.
+-- An encoding without items shows its name.
 pub object-encoded : {detail : Detail} (v : Value) (b : List ℕ) → PrintsName detail (tree_of v) b
     → Shows detail (encoding_of v nil) (b ++ encoding_text (qualifiers_of v) (ref_of v))
 object-encoded {detail} v b p = subst (λ f. Shows detail f (b ++ encoding_text (qualifiers_of v) (ref_of v))) (sym (encoding-object v))
@@ -340,7 +340,7 @@ pub symbol-text : (d : Detail) (e : Term) (b : List ℕ) → Shows d e b → tex
 unfolding parts_in root_parts not_empty
 symbol-text d e b s = text_shown d root closed (symbol e []) (as_item full closed e ∷ []) refl refl ∙ append-nil (text_of (written_of d full closed e)) ∙ s.shown_text
 
--- It costs at most four for each byte of the text.
+-- A symbol costs at most four for each byte of its text.
 pub symbol-cost : (d : Detail) (e : Term) (b : List ℕ) → Shows d e b → cost_of (written d (root_item (symbol e []))) ≤ 4 * length b
 unfolding parts_in root_parts not_empty
 symbol-cost d e b s = omega (arith, s.shown_cost, cost_shown d root closed (symbol e []) (as_item full closed e ∷ []) refl refl)
@@ -348,7 +348,7 @@ symbol-cost d e b s = omega (arith, s.shown_cost, cost_shown d root closed (symb
 suffixed : (x b s : List ℕ) → x ≡ b → x ++ (codes " (" ++ (s ++ (codes ")" ++ []))) ≡ b ++ codes " (" ++ s ++ codes ")"
 suffixed x b s e = rw e (sym (append_assoc b (codes " (") (s ++ codes ")")) ∙ sym (append_assoc (b ++ codes " (") s (codes ")")))
 
--- With a suffix it shows that too.
+-- A symbol with a suffix shows the suffix, too.
 pub suffix-text : (d : Detail) (e : Term) (b : List ℕ) → Shows d e b → (c : ℕ) (rest : List ℕ) → IsUnmarked (c ∷ rest)
     → text_of (written d (root_item (symbol e (c ∷ rest)))) ≡ b ++ codes " (" ++ (c ∷ rest) ++ codes ")"
 unfolding parts_in root_parts not_empty
@@ -357,7 +357,7 @@ suffix-text d e b s c rest plain =
     ∙ ap (λ l. text_of (written_of d full closed e) ++ (codes " (" ++ (l ++ codes ")"))) (unmarked-same (has_arguments d) (c ∷ rest) plain)
     ∙ suffixed (text_of (written_of d full closed e)) b (c ∷ rest) s.shown_text
 
--- That costs at most four for each byte of the text as well.
+-- A symbol with a suffix costs at most four for each byte of its text as well.
 pub suffix-cost : (d : Detail) (e : Term) (b : List ℕ) → Shows d e b → (c : ℕ) (rest : List ℕ)
     → cost_of (written d (root_item (symbol e (c ∷ rest)))) ≤ 4 * length (b ++ codes " (" ++ (c ∷ rest) ++ codes ")")
 unfolding parts_in root_parts not_empty

@@ -18,7 +18,7 @@ closing : (c : Context) (t : Term) → is_funarr (head c t) ≡ false → closin
 unfolding closing_right
 closing c t e = rw (e, closing_right) refl
 
--- what colons follow as a prefix is no module
+-- a tree that prints as a prefix before colons is no module
 pub no-module : (t : Term) → ((c : Context) (p : Term) → component_parts c t p ≡ joined_to left c c t p) → is_module t ≡ false
 unfolding is_module component_parts attached_parts before_piece
 no-module (operation a b x y) joined = go (nat_eq a 87) (nat_eq b 64) x (joined closed nil)
@@ -71,7 +71,7 @@ made-prints t b r h is_closed packless no_pack as_prefix opening integer referen
   integer = integer;
 }
 
--- What prints in each context where parameters name arguments with these texts prints wherever they do.
+-- What prints in each context where parameters name arguments with these texts is printed as `PrintsGiven` says.
 pub made-given : {detail : Detail} (names : Names) (t : Term) (b : List ℕ) (r : Bool) → ((c : Context) → IsGiven detail names c → PrintsIn detail c 3 t b r)
     → ((arguments : Term) → AreSingle names arguments → pack_length arguments t ≡ None) → is_function_type t ≡ false → length_if_pack t ≡ None
     → ((c : Context) (p : Term) → component_parts c t p ≡ joined_to left c c t p) → opening_text (last_piece t) ≡ codes "<" → PrintsGiven detail names t b r
@@ -80,7 +80,7 @@ made-given names t b r prints packless no_function no_pack as_prefix opening =
 
 -- ## Where parameters name arguments with these texts
 
--- What prints anywhere prints there,
+-- What prints anywhere prints where parameters name arguments with these texts.
 pub prints-given : {detail : Detail} (names : Names) (t : Term) (b : List ℕ) (r : Bool) → Prints detail t b r → PrintsGiven detail names t b r
 prints-given names t b r p =
     made-given names t b r (λ c given. prints-in c 3 t b r p) (λ arguments single. p.packless arguments) p.no_function p.no_pack p.as_prefix p.opening
@@ -95,12 +95,12 @@ pub prints-as-given : (detail : Detail) (names : Names) (is_dependent : Bool) (t
 prints-as-given detail names false t b r p = prints-given names t b r p
 prints-as-given detail names true t b r p = p
 
--- In a context where they do it prints.
+-- In a context where parameters name arguments with these texts, a tree prints its text.
 pub as-in : (detail : Detail) (names : Names) (is_dependent : Bool) (c : Context) (t : Term) (b : List ℕ) (r : Bool) → IsGiven detail names c
     → PrintsAs detail names is_dependent t b r → PrintsIn detail c 3 t b r
 as-in detail names is_dependent c t b r given p = (prints-as-given detail names is_dependent t b r p).prints c given
 
--- The types of a function's name are such a context if its arguments have these texts.
+-- If a function's arguments have these texts, parameters in the function's types name arguments with these texts.
 pub types-given : {detail : Detail} (names : Names) (name all : Term) → arguments_of name ≡ Some all
     → ((k : ℕ) (n : Named) → names k ≡ Some n → (own : Term) × (element all k ≡ own) × Prints detail own n.bytes n.reference) → IsGiven detail names (types_of name)
 unfolding argument types_of indexed
@@ -130,7 +130,7 @@ marked-cost {detail} c t made mark m = omega (
   cost_shown detail right c made (as_item right c t ∷ []) m.right_is refl,
 )
 
--- it prints so in a context
+-- a marked type prints the type and its mark in a context
 marked-in : {detail : Detail} (c : Context) (extra : ℕ) (t made : Term) (mark b : List ℕ) (r q : Bool) → PrintsIn detail c extra t b r → IsMarked detail c t made mark
     → is_reference (head c made) ≡ q → is_funarr (head c made) ≡ false → is_empty c made ≡ false → is_function_type made ≡ false → is_void made ≡ false
     → PrintsIn detail c extra made (b ++ mark) q
@@ -148,7 +148,7 @@ marked-in {detail} c extra t made mark b r q p m reference_is no_function_head f
   some = omega (arith, m.some, length-append b mark);
 }
 
--- and so it does wherever the type does
+-- a marked type prints the type and its mark wherever the type prints
 marked-as : (detail : Detail) (names : Names) (is_dependent : Bool) (t made : Term) (mark b : List ℕ) (r q : Bool)
     → ((c : Context) (extra : ℕ) → PrintsIn detail c extra t b r → IsMarked detail c t made mark)
     → ((c : Context) (extra : ℕ) → PrintsIn detail c extra t b r → (is_reference (head c made) ≡ q) × (is_funarr (head c made) ≡ false))
@@ -211,7 +211,7 @@ unfolding is_funarr collapsed
 collapsed-no_function lref = refl
 collapsed-no_function _ = refl
 
--- An rvalue reference does so, too.
+-- An rvalue reference prints its type, which is no reference, and its mark, too.
 rvalue-marks : (detail : Detail) (c : Context) (t : Term) → is_reference (head c t) ≡ false → is_funarr (head c t) ≡ false → IsMarked detail c t (rvalue t) (codes "&&")
 unfolding parts_in left_parts right_parts
 rvalue-marks detail c t e f = record { left_is = reference c left t "&&" e f; right_is = closing c t f; written = refl; plain = refl; some = omega arith }
@@ -245,7 +245,7 @@ unfolding qualified_right is_function_type length_if_pack
 qualified_right-is c (function_type linkage noexcept ref returned parameters) e = cc e
 qualified_right-is c t e = refl
 
--- A constant type, which is no reference, prints the word after it.
+-- A constant type, which is no reference, prints the word const after its type.
 const-marks : (detail : Detail) (c : Context) (t : Term) → is_function_type t ≡ false → is_reference (head c t) ≡ false → is_funarr (head c t) ≡ false
     → IsMarked detail c t (qualified constant t) (codes " const")
 unfolding parts_in left_parts right_parts
@@ -267,7 +267,7 @@ const-as detail names is_dependent t b p =
 
 -- ## Parameters
 
--- What a lambda declares of its parameters prints nothing. So of a tree that prints a text a parameter prints the text.
+-- What a lambda declares of its parameters prints nothing, so a parameter prints the text of the tree that it names.
 named : {detail : Detail} (form : Form) (k : ℕ) (a : Term) (b : List ℕ) (r : Bool) → Prints detail a b r → parameter_parts form k a ≡ as_item form closed a ∷ []
 unfolding parameter_parts parts_in left_parts not_empty piece_parts
 named {detail} form k (declaring heads parameters) b r p =
@@ -298,7 +298,7 @@ parameter-in {detail} c k b r p =
       some = omega (arith, p.cost closed);
     }
 
--- It does so where the argument has this text.
+-- A parameter prints its argument where the argument has this text.
 pub parameter-given : {detail : Detail} (names : Names) (k : ℕ) (n : Named) → names k ≡ Some n → PrintsGiven detail names (parameter k) n.bytes n.reference
 unfolding pack_length is_function_type length_if_pack prefix_item component_parts last_piece opening_text
 parameter-given names k n e =
@@ -333,7 +333,7 @@ rvalue-again {detail} c k b p =
       some = inner.some;
     }
 
--- It does so where the argument has this text.
+-- An rvalue reference to a reference prints the same where the argument has this text.
 pub rvalue-given : {detail : Detail} (names : Names) (k : ℕ) (b : List ℕ) → names k ≡ Some (record { bytes = b; reference = true })
     → PrintsGiven detail names (rvalue (parameter k)) b true
 unfolding pack_length is_function_type length_if_pack prefix_item component_parts last_piece opening_text
@@ -348,7 +348,7 @@ unfolding parameter_parts head head_with is_reference
 named-around form k (declaring heads parameters) b p = cc (p.is_reference_head closed)
 named-around form k _ b p = refl
 
--- A parameter prints it,
+-- A parameter prints a reference with text on both sides of a name.
 pub parameter-around : {detail : Detail} (c : Context) (k : ℕ) (b : List ℕ) → PrintsAround detail (argument c k) b → IsElementIn detail c 3 (parameter k) b
 unfolding parts_in left_parts right_parts not_empty is_empty is_void
 parameter-around {detail} c k b p =
@@ -368,7 +368,7 @@ parameter-around {detail} c k b p =
       void = λ e. cc e;
     }
 
--- and so does an rvalue reference to it.
+-- An rvalue reference to a parameter that names a reference with text on both sides prints that reference.
 pub rvalue-around : {detail : Detail} (c : Context) (k : ℕ) (b : List ℕ) → PrintsAround detail (argument c k) b → IsElementIn detail c 3 (rvalue (parameter k)) b
 unfolding parts_in left_parts right_parts not_empty head head_closed head_with argument own_argument is_empty is_void reference_parts closing_right
 rvalue-around {detail} c k b p =

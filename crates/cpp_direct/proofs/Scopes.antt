@@ -3,7 +3,7 @@ use Rattle.cpp_direct.proofs.Basics.{arguments_of, Around, before_arguments, cou
 use Rattle.cpp_direct.proofs.Kept.{none-known, placed-stays}
 use Rattle.cpp_grammar.specs.Values as values
 
--- trees stay at their places where more is written
+-- trees stay at their places when more is written
 
 one-stays : {detail : Detail} {in_pack : Bool} (text more : List ℕ) (p : Argument) (k : ℕ) (ts : List Term) → IsAmong in_pack detail text p k ts
     → IsAmong in_pack detail (text ++ more) p k ts
@@ -12,7 +12,7 @@ one-stays text more p k ts h = record { bytes = h.bytes; placed = placed-stays t
 pub pack-stays : {detail : Detail} (text more : List ℕ) (a : Arguments) (ts : List Term) → IsPackOf detail text a ts → IsPackOf detail (text ++ more) a ts
 pack-stays text more a ts h = record { size = h.size; among = λ k known. one-stays text more (place_of a (a.before + k)) k ts (h.among k known) }
 
--- so do the arguments of a name
+-- the arguments of a name stay at their places when more is written
 pub arguments-stay : {detail : Detail} (text more : List ℕ) (a : Arguments) (name : Term) → HasArguments detail text a name
     → HasArguments detail (text ++ more) a name
 arguments-stay text more a name has = (
@@ -28,17 +28,17 @@ arguments-stay text more a name has = (
   λ o. let h = has.1 o in record { all = h.all; all_are = h.all_are; elements = h.elements; there = h.there; are = pack-stays text more a h.elements h.are },
 )
 
--- nothing is to be shown of unknown arguments
+-- if no argument is known, nothing is claimed of arguments
 pub no-arguments : {detail : Detail} (text : List ℕ) (name : Term) → HasArguments detail text nowhere name
 no-arguments text name = (λ k single. absurd (none-known k single.0), λ e. cc e)
 
--- they also stay while they are read
+-- arguments stay at their places while they are read
 pub among-stay : {detail : Detail} (is_pack : Bool) (text more : List ℕ) (a : Arguments) (ts : List Term) → AreAmong is_pack detail text a ts
     → AreAmong is_pack detail (text ++ more) a ts
 among-stay is_pack text more a ts known =
     (λ k o single. one-stays text more (place_of a k) k ts (known.0 k o single), λ e k o. one-stays text more (place_of a k) k ts (known.1 e k o))
 
--- and after the last of them
+-- arguments stay at their places after the last of them is read
 pub known-stay : {detail : Detail} (text more : List ℕ) (a : Arguments) (ts : List Term) (tail : Term) → AreKnown detail text a ts tail
     → AreKnown detail (text ++ more) a ts tail
 known-stay text more a ts tail known = (
@@ -54,7 +54,7 @@ element-there [] tail k t e = cc e
 element-there (u ∷ ts) tail zero t e = (cc e, omega arith)
 element-there (u ∷ ts) tail (suc k) t e = let h = element-there ts tail k t e in (h.0, omega (arith, h.1))
 
--- and a function's
+-- the symbol's own name keeps its text and its arguments when more is written
 pub name-stays : {detail : Detail} {scope : Scope} (text new more : List ℕ) (a : Arguments) (own : Term) (name : List ℕ) → new ≡ text ++ more
     → IsOwnName detail scope text a own name → IsOwnName detail scope new a own name
 name-stays {detail} text new more a own name grown p = record {
@@ -64,7 +64,7 @@ name-stays {detail} text new more a own name grown p = record {
   named = p.named;
 }
 
--- with its parameters
+-- a function stays with its name when more is written, and may have other parameters
 abbrev pub parameters-as : (s : Symbol) {extra more_extra : ℕ} {scope : Scope} (text new more : List ℕ) (mark : Mark) (start : ℕ) (a : Arguments) {ts us : List Term} {texts more_texts : List ℕ}
     (p : HasParameters s extra scope text mark start a ts texts) → new ≡ text ++ more → PrintAllIn (detail_of s) (types_of p.is_function.own) more_extra us more_texts
     → HasParameters s more_extra scope new mark start a us more_texts
@@ -90,7 +90,7 @@ entry-scoped scope around entry p rest apart own named h q e =
     let same : p ≡ q = cc (sym own ∙ is) in
     (named ∙ same, subst (λ (k : Arguments). HasScope k around) same h)
 
--- where they are doesn't depend on which encoding is theirs
+-- the places of arguments don't depend on whose encoding they are in
 pub arguments-named : {detail : Detail} (text : List ℕ) (place : ℕ) (a : Arguments) (name : Term) → HasArguments detail text a name
     → HasArguments detail text (record a { encoding = place }) name
 arguments-named text place a name has = (
@@ -117,18 +117,18 @@ scoped-inside scope around open_ scoped a found =
       ),
     )
 
--- elsewhere none does
+-- if the open entries have no arguments that types may name, types name none
 pub none-scoped : (scope : Scope) (around : Around) (open_ : List Open) → argument_of open_ ≡ None → IsScoped scope around open_
 none-scoped scope around open_ none q e = absurd (false≢true (ap is_some (sym none ∙ e)))
 
 -- ## Names with arguments
 
--- a constructor or a destructor has no return type before its arguments
+-- a constructor or a destructor that has arguments has no return type
 pub structor-returns : (t a : Term) → is_structor t ≡ true → has_return_type (instance t a) ≡ false
 unfolding has_return_type arguments_of before_arguments
 structor-returns t a h = rw h refl
 
--- the name of a function that is no constructor and no destructor has one before its arguments
+-- any other name that has arguments has a return type
 pub instance-returns : (t a : Term) → is_structor t ≡ false → has_return_type (instance t a) ≡ true
 unfolding has_return_type arguments_of before_arguments
 instance-returns t a h = rw h refl
@@ -138,12 +138,12 @@ pub member-named : (t : Term) (mark : Mark) → IsNamedSo (values.named t (quali
 unfolding tree_of qualifiers_of ref_of
 member-named t mark = record { tree_is = refl; qualifiers_are = refl; mark_is = refl }
 
--- and any other is read as it is
+-- any other name is read as it is
 pub plain-named : (t : Term) → IsNamedSo (tree t false) t Mark.Plain
 unfolding tree_of qualifiers_of ref_of
 plain-named t = record { tree_is = refl; qualifiers_are = refl; mark_is = refl }
 
--- they are written that way
+-- the name of a member function is written
 abbrev pub has-member : (s : Symbol) (text : List ℕ) (mark : Mark) (from : ℕ) (t : Term) (lead name : List ℕ) → text ≡ lead ++ name → from ≡ length lead
     → PrintsName (detail_of s) t name → HasNameSo s text mark from
 has-member s text mark from t lead name written from_is prints = record {

@@ -111,7 +111,7 @@ own-stands : (s : List ℕ) (at : ℕ) (t : Token) → t.before ≡ [] → Stand
 own-stands s at t bare stands =
     (stands-split s at t.own t.behind (subst (λ b. StandsAt s at (b ++ t.own ++ t.behind)) bare ((stands-split s at (bytes_of t) [] stands).0))).0
 
--- Whatever the parts of a lambda are, its number has 64 bits.
+-- The number of a lambda fits 64 bits, whatever its parts are.
 pub lambda-begins : (wide : Bool) (s : List ℕ) (at place : ℕ) (st : State) → short_numbers 0 s ≡ true → (f : Forest) → AreTrees (table_by wide) (parts_of Production.Lambda) f
     → StandsAt s at (spell_all f) → opening Production.Lambda f place st ≡ Ok st
 unfolding parts_of opening last_token

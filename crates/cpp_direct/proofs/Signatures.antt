@@ -1,4 +1,4 @@
--- A writer within a function type: where it begins, after its return type, between its parameters, and after it; and within an array.
+-- A writer within a function type, from its beginning to its return type, its parameters and its end; and within an array.
 use Rattle.cpp_direct.proofs.AllGround.{◌≡◌, ◌≢◌, inl, inr, ℕ, ◌+◌, ◌-◌, length, List, [], ◌∷◌, ◌++◌, reverse, Bool, true, false, refl, ap, sym, take, ◌∙◌, subst, arith, codes, append_assoc, append-nil, nat_eq, ◌≤◌, drop, slice_get, Some, if◌then◌else◌, ends_with, among, Around, array, builtin, Detail, is_name_byte, Kind, list, lvalue, nil, outermost, pointer, State, Term, tree, Access, AreCandidates, Arguments, AwaitsParameter, AwaitsSignature, below, Candidate, detail_of, Direct, ElementOf, hidden, hidden_behind, is_builtin, IsArrayRead, IsElement, IsElementPassed, IsElementRead, IsFunctionRead, IsReadable, IsReturned, IsScoped, IsUnmarked, IsWriting, list_with, Mark, Marks, Open, OpensEntry, PrintAll, Prints, PrintsAround, Scope, Stands, Symbol, TakesFunction, with_hidden, Writes, Comes, Expects, FunctionOpened, IsQualifiable, IsReferable, IsSizeAt, NoReference, Opened, SignatureGoesOn, StandsAt, access_letters, accessed, array_opening, candidate, is_lvalue, is_marked, plain_function, pointed, reference, reference_letter, with_accessed, with_candidate, with_pointed, NameClass, Step, kept-grown, kept-same, kept-written, candidates-more, reverse-last, type-comes, kept-as, stands-split, parameter-opens, reference-opens, signature-ends, builtin-comes, function-opens, pointed-function-opens, array-opens, list-more, none-print, none-text, none-scoped, each-unmarked, name-byte, all-reached, own-each, normal-unmarked}
 use Rattle.cpp_direct.proofs.AllRead.{no-void, TakesElements, last-found, comma, in-front, popped, reference_entry, whole-awaited}
 use Rattle.cpp_direct.specs.AllStates.{opening_text}
@@ -8,7 +8,7 @@ use Rattle.cpp_grammar.specs.Values as values
 
 -- ## The return type
 
--- it is expected after the letters
+-- the return type is expected after the letters of a function type
 return-opens : (s : Symbol) (is_pointer : Bool) (kind : Kind) (os : List Opened) (around : Around) (at : ℕ) (st : State) → IsQualifiable kind
     → around.prefix ≡ outermost → Expects s kind around os at st → StandsAt s.bytes at (if is_pointer then 80 ∷ 70 ∷ [] else 70 ∷ [])
     → FunctionOpened s os around is_pointer (at + (if is_pointer then 2 else 1)) st
@@ -72,7 +72,7 @@ parameter-next s old new is_pointer is_first a text candidates waiting scope_sam
       goes = subst (λ n. SignatureGoesOn s a.taker.outer a.taker.made_in is_pointer (λ l. plain_function a.first.own (list_with a.ts l)) n a.state) (sym at) a.goes;
     }
 
--- a signature continues after one more
+-- a signature continues after one more parameter
 one-more : (s : Symbol) (outer : List Opened) (made_in : Around) (is_pointer : Bool) (returned : Term) (ts : List Term) (t : Term) (at : ℕ) (st : State)
     → SignatureGoesOn s outer made_in is_pointer (λ l. plain_function returned (list_with ts (list t l))) at st
     → SignatureGoesOn s outer made_in is_pointer (λ l. plain_function returned (list_with (ts ++ t ∷ []) l)) at st
@@ -86,7 +86,7 @@ one-more s outer made_in is_pointer returned ts t at st g = record {
       (with_pointed is_pointer made_in (plain_function returned u) then_)) (sym (list-more ts t l)) (g.passes l there then_ comes);
 }
 
--- where a parameter is accepted, it is the signature's
+-- the innermost entry accepts a parameter that the signature accepts
 signature-stands : (s : Symbol) (w : Direct) (is_pointer : Bool) (a : AwaitsParameter s w is_pointer) (os : List Opened)
     → ((t : Term) (at : ℕ) (st : State) → Comes s os (tree t true) at st
     → SignatureGoesOn s a.taker.outer a.taker.made_in is_pointer (λ l. plain_function a.first.own (list_with a.ts (list t l))) at st)
@@ -116,13 +116,13 @@ same-byte s at a b p q = let e : a ∷ p.0 ≡ b ∷ q.0 = sym p.1 ∙ q.1 in cc
 pub no-reference : (s : List ℕ) (at b : ℕ) → (b ≢ 0 → StandsAt s at (b ∷ [])) → b ≢ 0 → b ≢ 82 → b ≢ 79 → NoReference s at
 no-reference s at b stands some other another = ((λ p. other (same-byte s at b 82 (stands some) p)), λ p. another (same-byte s at b 79 (stands some) p))
 
--- the entry that waits for the referenced type is there
+-- the entry that waits for the referenced type is open
 reference-stands : (s : Symbol) (scope : Scope) (is_lvalue : Bool) (rest : List Open) (os : List Opened) (text : List ℕ) (from : ℕ)
     → Marks s (below s scope rest) os text from (reference is_lvalue) → Stands s scope (reference_entry is_lvalue from ∷ rest) os text
 reference-stands s scope true rest os text from marks = marks
 reference-stands s scope false rest os text from marks = marks
 
--- no parameter of a template is named there
+-- in the referenced type no parameter of a template is named
 reference-scoped : (scope : Scope) (around : Around) (is_lvalue : Bool) (from : ℕ) (is_pointer : Bool) (rest : List Open)
     → IsScoped scope around (reference_entry is_lvalue from ∷ Open.Signature is_pointer ∷ rest)
 reference-scoped scope around true from is_pointer rest = none-scoped scope around (Open.Lvalue from ∷ Open.Signature is_pointer ∷ rest) refl
@@ -176,7 +176,7 @@ signature-closed s old new is_pointer is_first a ends apart text candidates scop
     kept-apart true e = apart-behind (codes " (*)") (subst (λ b. old.text.list.items ≡ a.taker.front ++ (a.first.bytes ++ opening_text b) ++ a.texts) e a.written)
     kept-apart false e = apart-behind (codes " ") (subst (λ b. old.text.list.items ≡ a.taker.front ++ (a.first.bytes ++ opening_text b) ++ a.texts) e a.written)
 
--- and a lone void is no parameter
+-- an E ends a function type whose lone void is no parameter
 pub void-closed : (s : Symbol) (old new : Direct) (is_pointer : Bool) (a : AwaitsSignature s old is_pointer true)
     → StandsAt s.bytes old.at (118 ∷ 69 ∷ []) → new.text ≡ old.text → new.candidates ≡ old.candidates → new.has_scope ≡ old.has_scope → new.waiting ≡ old.waiting
     → new.at ≡ old.at + 2 → IsFunctionRead s new is_pointer
@@ -205,14 +205,14 @@ void-closed s old new is_pointer a stands text candidates scope_same waits at =
           (signature-ends s a.taker.outer a.taker.made_in is_pointer (λ l. plain_function a.first.own (list v l)) (old.at + 1) a.state g both.1));
     }
 
--- ## Forwarded
+-- ## A function type is forwarded
 
 -- one more unknown candidate
 pub one-hidden : (s : Symbol) (scope : Scope) (text : List ℕ) (ks : List Candidate) (cs : List values.Candidate) (c : values.Candidate)
     → AreCandidates s scope text ks cs → AreCandidates s scope text (ks ++ hidden ∷ []) (cs ++ c ∷ [])
 one-hidden s scope text ks cs c p = candidates-more text ks cs hidden c p (λ ordered. absurd (omega (arith, ordered)))
 
--- it becomes a candidate, and so does what points or refers to it
+-- an array becomes a candidate, and so does a pointer or a reference to it
 hidden-accessed : (s : Symbol) (scope : Scope) (access : Access) (ks : List Candidate) (text : List ℕ) (made_in : Around) (t : Term) (st : State)
     → AreCandidates s scope text ks st.candidates
     → AreCandidates s scope text (hidden_behind (is_marked access) ks) (with_accessed access made_in t st).candidates
@@ -230,7 +230,7 @@ hidden-candidates : (s : Symbol) (scope : Scope) (w : Direct) (is_pointer : Bool
 hidden-candidates s scope w true text made_in t st p = hidden-accessed s scope Access.Pointer w.candidates.list.items text made_in t st p
 hidden-candidates s scope w false text made_in t st p = hidden-accessed s scope Access.Plain w.candidates.list.items text made_in t st p
 
--- what waits for the function type, once its own entry is removed
+-- what waits for a function type, once the entry that was open for it is removed
 pub still-popped : (s : Symbol) (old new : Direct) (is_pointer : Bool) (p : IsFunctionRead s old is_pointer) (left : List Open) (size : ℕ)
     → new.waiting ≡ old.waiting → size ≡ length new.waiting.list.items → left ≡ take (size - 1) new.waiting.list.items → reverse left ≡ p.taker.rest
 still-popped s old new is_pointer p left size same length_is is =
@@ -263,7 +263,7 @@ function-handed s old new is_pointer p text candidates scope_same waits at =
       refers = λ e. cc e;
     }
 
--- an entry that accepts a function type, and isn't parameters or a special object, accepts elements
+-- an entry that accepts a function type accepts elements, unless it is parameters or a special object
 pub takes-as-element : (o : Open) (rest : List Open) → TakesFunction (o ∷ rest) → ((x : Mark) (y : ℕ) (z : Arguments) → o ≡ Open.Parameters x y z → ⊥)
     → (o ≡ Open.Special → ⊥) → ((x : Mark) (y t : ℕ) → o ≡ Open.Enclosing x y t → ⊥)
     → ((x : Mark) (y t : ℕ) (w : Arguments) → o ≡ Open.EnclosingInstance x y t w → ⊥) → ((x y : ℕ) (w : Arguments) → o ≡ Open.Element x y w → ⊥) → TakesElements o
@@ -323,7 +323,7 @@ value-array s w is_reference access from to p found =
       comes = waits.5 p.is_before.own w.at p.state p.is_before.comes;
     }
 
--- its size is written
+-- the digits of an array's size have no marks
 size-unmarked : (s : List ℕ) (from to : ℕ) (digits : List ℕ) → IsReadable s → from ≤ to → to ≤ length s → take (to - from) (drop from s) ≡ digits
     → IsUnmarked digits
 size-unmarked s from to digits readable ordered inside is =

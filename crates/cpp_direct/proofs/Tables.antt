@@ -29,7 +29,7 @@ pub takes-wide : (is_wide : Bool) (kind : Kind) (k byte : ℕ) (p : Production) 
 takes-wide true kind k byte p taken is at chosen small takes = takes-in-wide kind k byte p taken at chosen small takes
 takes-wide false kind k byte p taken is at chosen small takes = let clash : false ≡ true = is in absurd cc
 
--- what may be empty there
+-- a kind may be empty in either table as in the grammar
 pub empty-by : (is_wide : Bool) (k : ℕ) (kind : Kind) → slice_get kinds k ≡ Some kind → (table_by is_wide).may_be_empty k ≡ may_be_empty kind
 empty-by true k kind at = wide_empty_at k kind at
 empty-by false k kind at = empty_at_kind k kind at
@@ -52,7 +52,7 @@ unfolding rule_taken
 rule-same None big rule same is = let clash : None ≡ Some rule = is in absurd cc
 rule-same (Some p) big rule same is = ap rule_taken (kept (Some p) big p same refl) ∙ is
 
--- a kind with more alternatives, in whichever order, has the trees of one that has fewer
+-- a kind with more alternatives, in whichever order, has all trees of a kind that has fewer
 grows : (j k : ℕ) (small big : Kind) → slice_get kinds j ≡ Some small → slice_get kinds k ≡ Some big
     → each_below 256 (λ b. same_choice (wide_choose small b) (wide_choose big b)) ≡ true → may_be_empty small ≡ may_be_empty big → (t : Tree)
     → IsTree wide (Sym.Kind j) t → IsTree wide (Sym.Kind k) t
@@ -81,7 +81,7 @@ unfolding kinds may_be_empty in_ranges among is_in pick number_of wide_choose wi
 rests-by true t is = grows NEST_REST_ALONE NEST_REST Kind.NestRestAlone Kind.NestRest refl refl refl refl t is
 rests-by false t is = rest_any t is
 
--- arguments are a list of them from the first one on
+-- a list of arguments is also a list from its first argument on
 pub lists-by : (is_wide : Bool) (t : Tree) → IsTree (table_by is_wide) (Sym.Kind ARGUMENT_LIST) t → IsTree (table_by is_wide) (Sym.Kind ARGUMENTS_FIRST) t
 unfolding kinds may_be_empty in_ranges among is_in pick number_of wide_choose wide_alternatives same_choice each_below
 lists-by true t is = grows ARGUMENT_LIST ARGUMENTS_FIRST Kind.ArgumentList Kind.ArgumentsFirst refl refl refl refl t is
@@ -93,19 +93,19 @@ unfolding kinds may_be_empty in_ranges among is_in pick number_of wide_choose wi
 tails-by true is t tree = grows NEST_TAIL NEST_MORE_OR_END Kind.NestTail Kind.NestMoreOrEnd refl refl refl refl t tree
 tails-by false is t tree = let clash : false ≡ true = is in absurd cc
 
--- a type is an argument,
+-- a type is an argument
 pub item-by : (is_wide : Bool) (t : Tree) → IsTree (table_by is_wide) (Sym.Kind ITEM) t → Replaces (table_by is_wide) ARGUMENT t
 item-by true t is = wide_argument t is
 item-by false t is = abi_argument t is
 
--- and the first type of a lambda
+-- a type is the first type of a lambda
 pub first-by : (is_wide : Bool) (t : Tree) → IsTree (table_by is_wide) (Sym.Kind ITEM) t → Replaces (table_by is_wide) FIRST_OF_LAMBDA t
 first-by true t is = wide_first t is
 first-by false t is = abi_first t is
 
 -- ## Symbols
 
--- what a whole tree says, the symbol denotes
+-- the symbol denotes what its whole tree says
 pub stands-by : (is_wide : Bool) (s : List ℕ) (shape : Tree) (t : Term) → IsTree (table_by is_wide) (Sym.Kind SYMBOL) shape → spell shape ≡ s
     → unfold_cpp shape ≡ Ok t → StandsFor (mangled_by is_wide) s (Ok t)
 stands-by true s shape t shaped spelled is = (shape, shaped, spelled, sym (meaning_stays shape t shaped is))

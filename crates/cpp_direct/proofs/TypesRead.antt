@@ -4,11 +4,11 @@ use Rattle.cpp_direct.proofs.LettersTested.{code-listed, codes_pass, each_passes
 
 -- ## What calls give
 
--- this very byte is there
+-- the byte that was compared is at its place
 pub there : (s : List ℕ) (at b d : ℕ) → b ≡ d → 1 ≤ d → (b ≢ 0 → StandsAt s at (b ∷ [])) → StandsAt s at (d ∷ [])
 there s at b d is some stands = subst (λ k. StandsAt s at (k ∷ [])) is (stands (λ z. omega (arith, is, some, z)))
 
--- and so is one more after others
+-- one more byte is at its place, after the bytes before it
 pub then-there : (s front : List ℕ) (at next b d : ℕ) → StandsAt s at front → next ≡ at + length front → b ≡ d → 1 ≤ d
     → (b ≢ 0 → StandsAt s next (b ∷ [])) → StandsAt s at (front ++ d ∷ [])
 then-there s front at next b d first next_is is some stands =
@@ -41,7 +41,7 @@ mark-answer s old mid new mark from r d a waits text candidates scope at lists =
 
 -- ## Names of types
 
--- it became a candidate, unless it was one
+-- the name of a type became a candidate, unless it was one
 abbrev named-kept : (s : Symbol) (old new : Direct) (from : ℕ) (listed r : Bool) (a : IsTypeNamed s old from listed r)
     → Lists old new (added_unless old listed from false) → Kept s new
 named-kept s old new from listed r a lists =
@@ -59,7 +59,7 @@ bare-done s old new from listed r a lists =
     (subst (λ k. Comes s a.outer (tree a.own true) k state) (sym lists.at) (a.named.bare old.at a.state a.prints.no_function
     (expects-empty s Kind.ArgumentsAlone (after a.own listed a.around) a.named.inner old.at a.state a.named.awaits refl))) a.stands
 
--- and arguments do
+-- arguments follow the name of a type
 pub argued-done : (s : Symbol) (old mid new : Direct) (from : ℕ) (listed r : Bool) → IsTypeNamed s old from listed r → r ≡ false → StandsAt s.bytes mid.at (73 ∷ [])
     → Lists old mid (added_unless old listed from false) → OpensArguments (detail_of s) mid new (Open.TypeArguments from false) → IsWriting s new (Step.List true)
 unfolding inside
@@ -94,18 +94,18 @@ pub letter-listed : (table : List Naming) (cs : List ℕ) (letter : ℕ) → cod
 unfolding code_in
 letter-listed table cs letter all has = code-listed table (λ code. code_in code cs) (letter ∷ []) all has
 
--- a letter with such a text is one of these
+-- a letter with the text of a builtin type is the letter of one
 pub builtin-listed : (letter : ℕ) → look_up (letter ∷ []) builtin_texts ≢ [] → is_builtin letter ≡ true
 unfolding is_builtin builtin_texts code_in codes_pass among
 builtin-listed letter has = letter-listed builtin_texts builtin_letters letter refl has
 
--- a letter of these has a text after a D
+-- a letter of a builtin type that comes after a D has a text
 builtin-with-d-text : (letter : ℕ) → is_builtin_with_d letter ≡ true → look_up (68 ∷ letter ∷ []) builtin_texts ≢ []
 unfolding is_builtin_with_d builtin_texts look_up same_bytes each_passes is_filled
 builtin-with-d-text letter is =
     filled (look_up (68 ∷ letter ∷ []) builtin_texts) (tested builtin_letters_with_d (λ b. is_filled (look_up (68 ∷ b ∷ []) builtin_texts)) refl letter is)
 
--- and so is one of an abbreviation
+-- a letter with the text of an abbreviation is the letter of one
 pub abbreviation-listed : (letter : ℕ) → look_up (letter ∷ []) abbreviation_texts ≢ [] → is_abbreviated letter ≡ true
 unfolding is_abbreviated abbreviation_texts code_in codes_pass among
 abbreviation-listed letter has = letter-listed abbreviation_texts abbreviation_letters letter refl has
@@ -120,7 +120,7 @@ no-abbreviation letter is none = let clash : false ≡ true = subst (λ l. is_ab
 
 -- ## Types
 
--- where a type is, it may have a qualifier
+-- where a type is expected, it may have a qualifier
 pub whole-awaited : (s : Symbol) (w : Direct) → IsWriting s w Step.Type → (a : AwaitsType s w) × IsQualifiable a.kind
 whole-awaited s w p = elim p.is_before.1 [
   | inl awaits ↦ (record { kept = p.kept; awaited = p.is_before.0; kind = Kind.Type; typed = tt; referable = inl tt; awaits = awaits }, tt)
@@ -133,7 +133,7 @@ pub awaits-type : (s : Symbol) (w : Direct) (is_plain : Bool) → IsWriting s w 
 awaits-type s w true p = record { kept = p.kept; awaited = p.is_before.0; kind = Kind.Plain; typed = tt; referable = inl tt; awaits = p.is_before.1 }
 awaits-type s w false p = (whole-awaited s w p).0
 
--- a type is read that is no candidate
+-- a type that is no candidate is read
 value-done : (s : Symbol) (old new : Direct) (a : AwaitsType s old) (t : Term) (bytes : List ℕ) → Prints (detail_of s) t bytes false
     → new.text.list.items ≡ old.text.list.items ++ bytes → new.candidates ≡ old.candidates → new.waiting ≡ old.waiting → new.has_scope ≡ old.has_scope
     → Comes s a.os (tree t true) new.at a.state → IsWriting s new (Step.Value false false)
@@ -157,7 +157,7 @@ pub no-builtin-with-d : (letter : ℕ) → is_builtin_with_d letter ≡ true →
 unfolding is_builtin_with_d among
 no-builtin-with-d letter is none = let clash : false ≡ true = subst (λ l. is_builtin_with_d l ≡ true) none is in cc clash
 
--- and so is one with a code of two letters
+-- a builtin type with a code of two letters is read
 pub builtin-with-d-done : (s : Symbol) (old new : Direct) (letter : ℕ) → AwaitsType s old → StandsAt s.bytes old.at (68 ∷ [])
     → (letter ≢ 0 → StandsAt s.bytes (old.at + 1) (letter ∷ []))
     → is_builtin_with_d letter ≡ true → new.text.list.items ≡ old.text.list.items ++ look_up (68 ∷ letter ∷ []) builtin_texts
@@ -170,7 +170,7 @@ builtin-with-d-done s old new letter a first stands is text candidates waits sco
     (builtin-with-d-comes s a.kind a.around a.os old.at a.state letter a.typed is a.awaits
     (stands-join s.bytes old.at (68 ∷ []) (letter ∷ []) first (stands (no-builtin-with-d letter is)))))
 
--- and either is an item of a list
+-- a builtin type is an item of a list
 pub builtin-item : (s : Symbol) (around : Around) (os : List Opened) (at end : ℕ) (st : State) → IsBuiltinAt s.bytes at end → Expects s Kind.Item around os at st
     → (r : Term) × Comes s os (tree r true) end st
 builtin-item s around os at end st is expects = elim is.1 [
@@ -185,7 +185,7 @@ builtin-item s around os at end st is expects = elim is.1 [
 
 -- ## Names
 
--- where a type is expected a name may be
+-- where a type is expected, it may be a name
 pub names-awaited : (s : Symbol) (w : Direct) → AwaitsType s w → AwaitsNamedType s w
 names-awaited s w a = record {
   kept = a.kept;
@@ -225,7 +225,7 @@ source-named s old new from name a is some reads begins =
     (source-opens s a.kind a.around a.os old.at a.state name new.at a.is_named a.outside a.begins is)
     reads.candidates reads.scope reads.text begins (source-prints false name some (name-unmarked s.bytes old.at name new.at is)) (λ e. refl) reads.waiting
 
--- a name in std
+-- a name in std is read
 pub std-named : (s : Symbol) (old mid new : Direct) (from : ℕ) (name : List ℕ) → AwaitsNamedType s old → StandsAt s.bytes old.at (83 ∷ [])
     → StandsAt s.bytes (old.at + 1) (116 ∷ [])
     → mid.text.list.items ≡ old.text.list.items ++ codes "std::" → mid.candidates ≡ old.candidates → mid.waiting ≡ old.waiting
@@ -238,7 +238,7 @@ std-named s old mid new from name a s_stands t_stands text candidates waits scop
     (reads.text ∙ ap (λ l. l ++ source_text name) text ∙ append_assoc old.text.list.items (codes "std::") (source_text name))
     begins (std-prints false name some (name-unmarked s.bytes mid.at name new.at is)) (λ e. refl) (reads.waiting ∙ waits)
 
--- an abbreviation
+-- an abbreviation is read
 pub abbreviation-named : (s : Symbol) (old new : Direct) (from letter : ℕ) → AwaitsNamedType s old → StandsAt s.bytes old.at (83 ∷ [])
     → (letter ≢ 0 → StandsAt s.bytes (old.at + 1) (letter ∷ [])) → look_up (letter ∷ []) abbreviation_texts ≢ []
     → new.text.list.items ≡ old.text.list.items ++ look_up (letter ∷ []) abbreviation_texts → new.candidates ≡ old.candidates → new.waiting ≡ old.waiting
@@ -252,7 +252,7 @@ abbreviation-named s old new from letter a s_stands stands has text candidates w
     (stands-join s.bytes old.at (83 ∷ []) (letter ∷ []) s_stands (stands (no-abbreviation letter is)))))
     candidates scope text begins (abbreviation-prints letter has) (λ e. refl) waits
 
--- a substitution
+-- a substitution is read
 pub substitution-named : (s : Symbol) (old mid new : Direct) (n from : ℕ) (digits : List ℕ) (k : Candidate) → AwaitsNamedType s old → StandsAt s.bytes old.at (83 ∷ [])
     → IsSeqAt s.bytes (old.at + 1) digits mid.at → k.from ≤ k.to → slice_get old.candidates.list.items (counted_value NumberKind.Seq36 digits) ≡ Some k
     → Reads (record old { at = n }) mid [] → Writes mid new (take (k.to - k.from) (drop k.from mid.text.list.items)) → from ≡ length old.text.list.items
@@ -270,7 +270,7 @@ substitution-named s old mid new n from digits k a stands is ordered found reads
     (subst (λ n. IsSeqAt s.bytes (old.at + 1) digits n) (sym writes.at) is))
     (writes.candidates ∙ reads.candidates) (writes.scope ∙ reads.scope) written begins prints (λ e. cc e) (writes.waiting ∙ reads.waiting)
 
--- a name of an argument
+-- a substitution is read for a type that names an argument
 pub named-again : (s : Symbol) (old new : Direct) (n : ℕ) (digits : List ℕ) (k : Candidate) → AwaitsNamedType s old → StandsAt s.bytes old.at (83 ∷ [])
     → IsSeqAt s.bytes (old.at + 1) digits new.at → k.from ≤ k.to → slice_get old.candidates.list.items (counted_value NumberKind.Seq36 digits) ≡ Some k
     → Reads (record old { at = n }) new [] → k.is_dependent ≡ true → IsNamedAgain s new k
@@ -306,7 +306,7 @@ type-opened s old new entry from made a t begins stands scoped entered =
     (inl (subst (λ k. Expects s Kind.Type a.around t.inner k a.state) (sym entered.at) t.awaits))
     (stands (a.os, a.around, begins, t.onward, a.scoped, a.stands)) scoped
 
--- after a P
+-- a type is expected after a P
 pub pointer-opened : (s : Symbol) (old new : Direct) (from : ℕ) → AwaitsType s old → from ≡ length old.text.list.items
     → StandsAt s.bytes old.at (80 ∷ []) → OpensEntry old new (Open.Pointer from) → IsWriting s new Step.Type
 pointer-opened s old new from a begins stands entered =
@@ -318,7 +318,7 @@ abbrev pub reference_entry : (is_lvalue : Bool) → (from : ℕ) → Open
 reference_entry true from = Open.Lvalue from
 reference_entry false from = Open.Rvalue from
 
--- after an R, and after an O
+-- a type is expected after an R, and after an O
 pub reference-opened : (s : Symbol) (old new : Direct) (is_lvalue : Bool) (from : ℕ) (a : AwaitsType s old) → from ≡ length old.text.list.items
     → StandsAt s.bytes old.at (reference_letter is_lvalue ∷ []) → OpensEntry old new (reference_entry is_lvalue from) → IsWriting s new Step.Type
 reference-opened s old new true from a begins stands entered =
@@ -330,7 +330,7 @@ reference-opened s old new false from a begins stands entered =
     type-opened s old new (Open.Rvalue from) from rvalue a (reference-type-opens s a.kind false a.around a.os old.at a.state may a.awaits stands) begins
     (λ m. m) a.scoped entered
 
--- expects a plain type after a K, where a whole one is expected
+-- expects a plain type after a K, where a whole type is expected
 pub const-opened : (s : Symbol) (old new : Direct) (from : ℕ) → IsWriting s old Step.Type → from ≡ length old.text.list.items
     → StandsAt s.bytes old.at (75 ∷ []) → OpensEntry old new (Open.Const from) → IsWriting s new Step.Plain
 const-opened s old new from p begins stands entered =

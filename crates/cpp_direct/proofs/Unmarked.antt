@@ -22,11 +22,11 @@ name-byte byte is = test-unmarked (is_name_byte NameClass.Cpp) refl refl byte is
 digit-byte : (byte : ℕ) → is_decimal_digit byte ≡ true → is_mark byte ≡ false
 digit-byte byte is = test-unmarked is_decimal_digit refl refl byte is
 
--- a name has none
+-- a name has no marks
 pub name-unmarked : (s : List ℕ) (at : ℕ) (name : List ℕ) (end : ℕ) → IsNameAt s at name end → IsUnmarked name
 name-unmarked s at name end is = subst IsUnmarked is.own (each-unmarked (λ b. is_name_byte NameClass.Cpp b ≡ true) name-byte is.token.own is.is_name.each)
 
--- nor have digits
+-- digits have no marks
 pub digits-unmarked : (digits : List ℕ) → AllByRecursion (λ b. is_decimal_digit b ≡ true) digits → IsUnmarked digits
 digits-unmarked digits each = each-unmarked (λ b. is_decimal_digit b ≡ true) digit-byte digits each
 
@@ -34,7 +34,7 @@ suffix-byte : (byte : ℕ) → is_suffix_byte byte ≡ true → is_mark byte ≡
 unfolding is_suffix_byte among
 suffix-byte byte is = test-unmarked is_suffix_byte refl refl byte is
 
--- nor has a suffix
+-- a suffix has no marks
 pub suffix-unmarked : (suffix : List ℕ) → IsSuffix suffix → IsUnmarked suffix
 suffix-unmarked [] is = absurd is
 suffix-unmarked (d ∷ []) is = absurd is
@@ -86,7 +86,7 @@ pub operator-unmarked : (a b : ℕ) → IsUnmarked (operator_text a b)
 unfolding operator_texts
 operator-unmarked a b = unmarked-append (codes "operator") (look_up (a ∷ b ∷ []) operator_texts) refl (looked-up operator_texts refl (a ∷ b ∷ []))
 
--- ## Texts by what they say
+-- ## Texts of definitions
 
 pub thunk-unmarked : (kind : Thunk) → IsUnmarked (thunk_text kind)
 unfolding thunk_text

@@ -2,7 +2,7 @@
 use Rattle.cpp_direct.proofs.AllGround.{◌≡◌, ◌≢◌, ℕ, ◌+◌, length, List, [], ◌∷◌, ◌++◌, Bool, true, false, not, cond, refl, ap, sym, subst, ◌∙◌, arith, append_assoc, codes, append-nil, false≢true, after, alone, any_value, arguments_of, encoding_of, first_around, first_state, has_return_type, in_name, in_std, in_types, inside, instance, is_structor, Kind, may_be_empty, no_items, object, of_name, operator, source, source_text, State, Term, tree_of, Value, with_tag, piece, tree, qualifiers_of, ref_of, nothing_there, named, unqualified, added, AwaitsEncoding, AwaitsEntity, AwaitsSource, detail_of, Direct, Encoded, encoding_place, EntityBehind, HasName, is_angle, is_local, IsFresh, IsNameEnded, IsOperatorAt, IsSymbolEnded, IsUnscoped, IsWriting, ItemsOf, Kept, Lists, no_scope, nowhere, OpensArguments, operator_text, Prints, PrintsName, Reads, Shows, Symbol, tag_text, Writes, Comes, Discriminator, EncodingOpened, GuardOpened, IsDiscriminatorAt, IsEntityAt, IsNameAt, IsTagAt, LocalOpened, Named, Opened, StandsAt, SymbolOpened, entity_in, Mark, Open, Step, name-unmarked, no-arguments, alone-arguments, expects-empty, stands-join, stands-split, kept-grown, kept-read, kept-same, none-kept, list-begins, kept-with, reads-then, reads-of, arguments-open, piece-comes, tag-follows, operator-listed, as-name, source-prints, std-prints, operator-names, operator-prints, std-operator-names, std-operator-prints, guarded-shows, has-plain}
 use Rattle.cpp_direct.proofs.AllRead.{encoding-expected, items-await, encoded-whole, tagged-names, tagged-prints, name-source, name-internal, name-operator, name-std, operator-piece-comes, symbol-starts, encoding-opens, guard-opens, local-opens, entity-shows}
 
--- what isn't so
+-- a test whose negation is true is false
 pub not-so : (b other : Bool) → b ≡ other → not b ≡ true → other ≡ false
 not-so true other e h = absurd (false≢true h)
 not-so false other e h = sym e
@@ -34,7 +34,7 @@ name-has s false w p at name end letter at_is is =
     named-has s w p (alone (source false name)) end
     (name-source s encoding.inner (in_name w.at) w.at name end p.state encoding.awaits refl (subst (λ n. IsNameAt s.bytes n name end) here is))
 
--- A name was read and written that is in no class.
+-- A name that is in no class was read and written.
 unscoped-read : (s : Symbol) (old new : Direct) (takes : Bool) (own : Term) (bytes : List ℕ) (kept : Kept s old) (encoding : ℕ)
     → HasName s old.text.list.items encoding own new.at kept.state
     → Reads old new bytes → PrintsName (detail_of s) own bytes → (takes ≡ true → Prints (detail_of s) own bytes false) → has_return_type own ≡ false
@@ -79,7 +79,7 @@ operator-unscoped s old new first second takes p is plain reads from from_is =
     (name-operator s encoding.inner (in_name old.at) old.at p.state first second (operator-listed first second is.known) encoding.awaits refl is.stands)))
     reads (operator-names first second) (λ e. operator-prints first second (plain e)) refl refl from from_is
 
--- what was read after an St was read after it and its text
+-- a step that writes the text of an St and a step that reads a name after it are one step
 std-reads : (old marked read : Direct) (n : ℕ) (bytes : List ℕ) → Writes (record old { at = n }) marked (codes "std::") → Reads marked read bytes
     → Reads old read (codes "std::" ++ bytes)
 std-reads old marked read n bytes w r =
@@ -123,9 +123,9 @@ std-operator-unscoped s old marked read first second a b takes p letter next mar
     (operator-piece-comes s inner (in_name old.at) (old.at + 2) p.state a b (operator-listed a b there.known) expects there.stands))))
     (std-reads old marked read second (operator_text a b) w r) (std-operator-names a b) (λ e. std-operator-prints a b (plain e)) refl refl from from_is
 
--- ## What comes after it
+-- ## What comes after the name
 
--- no arguments
+-- no arguments follow the name
 pub unscoped-bare : (s : Symbol) (w : Direct) (from : ℕ) (takes : Bool) → IsUnscoped s w from takes → IsNameEnded s w Mark.Plain false nowhere from
 unfolding may_be_empty
 unscoped-bare s w from takes p = record {
@@ -138,7 +138,7 @@ unscoped-bare s w from takes p = record {
       (expects-empty s Kind.MaybeArguments (after p.own false (in_name p.encoding)) p.has.inner w.at p.state p.has.awaits refl);
 }
 
--- a tag follows it
+-- a tag follows the name
 pub unscoped-tagged : (s : Symbol) (old new : Direct) (from : ℕ) (takes : Bool) (tag : List ℕ) → s.is_wide ≡ true → IsUnscoped s old from takes
     → IsTagAt s.bytes old.at tag new.at → Reads old new (tag_text tag) → IsUnscoped s new from takes
 unfolding with_tag has_return_type arguments_of is_structor
@@ -167,7 +167,7 @@ unscoped-tagged s old new from takes tag wide p is reads =
       no_structor = p.no_structor;
     }
 
--- arguments
+-- arguments follow the name
 pub unscoped-argued : (s : Symbol) (read kept new : Direct) (from : ℕ) (takes : Bool) → IsUnscoped s read from takes → takes ≡ true → StandsAt s.bytes read.at (73 ∷ [])
     → Lists read kept (added read from false false) → OpensArguments (detail_of s) kept new (Open.NameArguments from) → IsWriting s new (Step.List true)
 unfolding in_name inside
@@ -197,7 +197,7 @@ object-comes s opened_ encoding_ v at st comes =
     let items = encoding_.onward v at st comes in
     items.onward nothing_there at st (expects-empty s Kind.Items (in_types 2 (tree_of v)) items.inner at st items.awaits refl)
 
--- expects the encoding that contains an entity, after this text, which is shown before that of an entity
+-- expects the encoding that contains an entity, after a text that is shown before the encoding's
 entity-awaited : (s : Symbol) (opened_ : SymbolOpened s) (w : Direct) (lead : List ℕ) (outer : List Opened) (made : Term → Term) → is_local s.bytes ≡ true
     → w.text.list.items ≡ lead → w.candidates.list.items ≡ [] → (w.text.list.items ≡ [] → w.at ≡ encoding_place s.bytes) → LocalOpened s outer (in_name 2) w.at first_state
     → ((t : Term) (at : ℕ) (st : State) → Comes s outer (named t unqualified any_value) at st → Comes s opened_.inner (tree (made t) true) at st)
@@ -234,7 +234,7 @@ entity-awaited s opened_ w lead outer made is_there text_is none begins here com
   };
 }
 
--- where items may follow the name of a symbol's encoding, that ends the symbol with them
+-- the name of a symbol's encoding, and the items that may follow it, end the symbol
 items-whole : (s : Symbol) (opened_ : SymbolOpened s) (encoding_ : EncodingOpened s opened_.inner 2 first_state) (v : Value) (at : ℕ) (st : State)
     → Comes s encoding_.inner v at st → ItemsOf s 2 (λ f end last. Encoded s f end) v at st
 unfolding in_types
@@ -251,11 +251,11 @@ items-whole s opened_ encoding_ v at st comes =
       onward = λ l end last came. encoded-whole s opened_ (encoding_of v (no_items l)) end last (items.onward l end last came);
     }
 
--- one byte is at a place
+-- only one byte is at a place
 one-byte : (s : List ℕ) (at a b : ℕ) → StandsAt s at (a ∷ []) → StandsAt s at (b ∷ []) → a ≡ b
 one-byte s at a b x y = cc (sym x.1 ∙ y.1)
 
--- likewise for a symbol that has no other text
+-- a symbol of a local entity begins, with no text before the encoding's
 pub local-begins : (s : Symbol) (w : Direct) → IsFresh w → is_local s.bytes ≡ true → StandsAt s.bytes 0 (95 ∷ 90 ∷ []) → StandsAt s.bytes 2 (90 ∷ [])
     → AwaitsEncoding s (record w { at = 3 })
 unfolding tree_of qualifiers_of ref_of first_state
@@ -267,7 +267,7 @@ local-begins s w fresh is_there starts letter =
     (λ t at st comes. object-comes s opened_ encoding_ (named t unqualified any_value) at st comes) (λ t bytes p. p)
     (λ two. (refl, items-whole s opened_ encoding_))
 
--- likewise for a guard variable
+-- a symbol of a local entity's guard variable begins
 pub guard-begins : (s : Symbol) (old new : Direct) → IsFresh old → is_local s.bytes ≡ true → StandsAt s.bytes 0 (95 ∷ 90 ∷ []) → StandsAt s.bytes 2 (71 ∷ 86 ∷ [])
     → StandsAt s.bytes 4 (90 ∷ []) → Writes old new (codes "guard variable for ") → AwaitsEncoding s (record new { at = 5 })
 unfolding tree_of qualifiers_of ref_of first_state

@@ -1,4 +1,4 @@
--- What is written of a tree is what it shows once what is between marks is left out.
+-- Once the bytes between marks are left out, what is written of a tree is what the tree shows.
 use Rattle.cpp_direct.proofs.AllGround.{◌≡◌, ◌≢◌, ◌⊎◌, inl, inr, refl, ap, sym, subst, ◌∙◌, ℕ, zero, suc, ◌≤◌, List, [], ◌∷◌, ◌++◌, length, Bool, true, false, Option, Some, None, arith, append-nil, append_assoc, OnSome, closes, Context, Detail, first, Form, has_arguments, HasNoZero, instance, instance_parts, is_mark, Item, left, left_parts, list_part, low, low_parts, not_empty, opens, parts, parts_in, rank, root_item, shown, Term, visible, PartOf, text, sub, printed_parts, printed_to, Unshared, text_of, cost_of, more-unmarked, unmarked-hidden, unmarked-seen, stretch-left, detail_by, detail_of, IsShown, IsUnmarked, IsWhole, Symbol, unmarked, unmarked_byte, unmarked_parts, written, written_in, written_instance, written_parts, parts-joined, list-unmarked, is_mark, more-unmarked, unmarked-same, length-unmarked}
 use Rattle.sym_print.specs.Unfold.{printed}
 
@@ -22,11 +22,11 @@ unmarked-join (x ∷ xs) ys = ap (λ l. unmarked_byte false x ∷ l) (unmarked-j
 
 -- ## Parts
 
--- in a stretch nothing is visible of it
+-- in a stretch that is left out, nothing of this text is visible
 abbrev IsHidden : Unshared → Type 0
 IsHidden u = (depth : ℕ) (rest : List ℕ) → visible (suc depth) (text_of u ++ rest) ≡ visible (suc depth) rest
 
--- outside of all stretches the text of the other one is visible
+-- outside of all stretches, the second text is what is visible of the first
 abbrev IsSeen : (u shown : Unshared) → Type 0
 IsSeen u v = (rest : List ℕ) → visible 0 (text_of u ++ rest) ≡ unmarked false (text_of v) ++ visible 0 rest
 
@@ -63,7 +63,7 @@ parts-seen f h each (sub i ∷ ps) rest =
 
 -- ## Instances
 
--- so what follows the name of a template up to the last mark is left out
+-- what is written after the name of a template, up to the last mark, is left out
 abbrev marked_text : (f : Item → Unshared) (c : Context) (a : Term) → List ℕ
 marked_text f c a = text_of (printed_parts f (not_empty (list_part first c a ++ (text (closes ∷ []) ∷ []))))
 
@@ -125,7 +125,7 @@ views d c left t = inl refl
 views d c low t = inl refl
 views d c form t = inl refl
 
--- this much is written of an item and of what it prints, each down to a depth
+-- a relation between what is written of an item and what it prints holds if it holds for plain parts and for instances
 step : (Q : List (PartOf Item) → List (PartOf Item) → Type 0) (d : Detail) → has_arguments d ≡ false
     → ((ps : List (PartOf Item)) → Q (not_empty (unmarked_parts false ps)) (not_empty ps))
     → ((c : Context) (t a : Term) → Q (not_empty (written_instance false c t a)) (not_empty (instance_parts false c t a)))
@@ -174,7 +174,7 @@ unfolding printed visible
 visible-written d brief i =
     ap (visible 0) (sym (append-nil (text_of (written d i)))) ∙ seen-to d brief (suc (rank i)) i [] ∙ append-nil (unmarked false (text_of (shown d i)))
 
--- It costs no more.
+-- What an item shows costs no more than what is written of it.
 shown-cost : (d : Detail) → has_arguments d ≡ false → (i : Item) → cost_of (shown d i) ≤ cost_of (written d i)
 unfolding printed
 shown-cost d brief i = cost-to d brief (suc (rank i)) i
@@ -238,7 +238,7 @@ whole-by : (is_bare : Bool) → has_arguments (detail_by is_bare false) ≡ true
 whole-by true = refl
 whole-by false = refl
 
--- What is left of what was written of a whole symbol is what it shows,
+-- What is visible of what was written of a whole symbol is what the symbol shows.
 pub brief-shown : (s : Symbol) → s.is_brief ≡ true → (old new : List ℕ) → IsWhole s old → new ≡ visible 0 old → HasNoZero new → IsShown s (length old) new
 brief-shown s brief old new p is plain =
     let d = detail_of s in
@@ -252,7 +252,7 @@ brief-shown s brief old new p is plain =
       cost = omega (arith, p.cost, shown-cost d none i);
     }
 
--- and where arguments are shown that is all of it.
+-- If arguments are shown, all of what was written of a whole symbol is shown.
 pub whole-shown : (s : Symbol) → s.is_brief ≡ false → (bytes : List ℕ) → IsWhole s bytes → IsShown s (length bytes) bytes
 unfolding printed
 whole-shown s whole bytes p =
@@ -261,7 +261,7 @@ whole-shown s whole bytes p =
     let same : written d i ≡ shown d i = same-to d (ap (λ b. has_arguments (detail_by s.is_bare b)) whole ∙ whole-by s.is_bare) (suc (rank i)) i in
     record { whole = p.whole; stands = p.stands; text_is = ap text_of (sym same) ∙ p.text_is; cost = omega (arith, p.cost, ap cost_of same) }
 
--- The same holds for what is left where something is.
+-- What is visible is shown if anything is visible, and if no byte of it is 0.
 pub left-shown : {T : Type 0} (r : Option T) (s : Symbol) → s.is_brief ≡ true → (old new : List ℕ) → IsWhole s old → OnSome r (new ≡ visible 0 old)
     → OnSome r (HasNoZero new) → OnSome r (IsShown s (length old) new)
 left-shown None s brief old new p is plain = tt

@@ -1,4 +1,4 @@
--- What the open rules still need, for everything that is read, in one place to import it from.
+-- The definitions of what open rules still need, exported from one place.
 pub use Rattle.cpp_direct.specs.Holes.{AwaitsComponent, AwaitsElement, AwaitsElementAs, Comes, Expects, IsListKind, IsNameAt, IsNumberAt, IsReferable, IsSeqAt, IsTagAt, IsTyped, ListGoesOn, Named, NestGoesOn, NestNamed, Opened, ReadsRest, SamePasses, StandsAt, TypeNamed, bare_name, candidate, cpp_language, opened, unless_listed, with_candidate}
 pub use Rattle.cpp_direct.specs.HolesOfArrays.{ArrayOpened, IsSizeAt, access_letters, accessed, array_opening, is_lvalue, is_marked, with_accessed}
 pub use Rattle.cpp_direct.specs.HolesOfFunctions.{FunctionOpened, ParameterOpened, ReferenceOpened, SignatureGoesOn, plain_function, pointed, reference, reference_letter, with_pointed}

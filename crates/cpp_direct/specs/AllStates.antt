@@ -1,4 +1,4 @@
--- Where a writer is and what it has written, as the proofs need it, in one place to import it from.
+-- The definitions of where a writer is and of what it has written, exported from one place.
 unfoldable pub use Rattle.cpp_direct.specs.Bytes.{is_abbreviated, is_builtin, is_builtin_with_d, short_numbers}
 pub use Rattle.cpp_direct.specs.Bytes.{is_guard, is_local, is_object}
 unfoldable pub use Rattle.cpp_direct.specs.ItemBytes.{is_integer_letter, is_special_letter, is_suffix_byte}

@@ -1,4 +1,4 @@
--- What is said of trees, of the grammar and of texts below this crate, as the proofs need it, in one place to import it from.
+-- The definitions of trees, of the grammar and of texts in the crates below this one, exported from one place.
 pub use Rattle.cpp_grammar.specs.Answer.{root_item, shown}
 unfoldable pub use Rattle.cpp_grammar.specs.Between.{after, applied, argument_so_far, between, extended, in_name, in_signature, in_types, index_of, inside, listed_so_far, named_so_far, no_items, parameter_so_far, under_expansion, with_tag}
 pub use Rattle.cpp_grammar.specs.Between.{Continuation}

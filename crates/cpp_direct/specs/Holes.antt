@@ -1,5 +1,5 @@
--- A symbol that is read from left to right while nothing is known of what follows: what the open rules still need, and that the
--- whole is read once they have it.
+-- What the open rules of a symbol still need, while it is read from left to right and nothing is known of the bytes that follow:
+-- once they have it, the whole symbol is read.
 use Rattle.std.specs.Prelude.{◌≡◌, ℕ, ◌+◌, List, [], ◌∷◌, ◌++◌, length, Bool, true, false}
 use Rattle.sym_core.specs.declared.NameClass.TheVariants.{Cpp}
 use Rattle.sym_core.specs.declared.NumberKind.{NumberKind}
@@ -29,7 +29,7 @@ Opened = direct.Opened Value State Around
 abbrev pub opened : Open State Around → (known : List Value) → (todo : List Sym) → Opened
 opened rule known todo = direct.opened rule known todo
 
--- what is left of a rule's parts is read
+-- the remaining parts of a rule are read
 abbrev pub ReadsRest : (s : Symbol) (rule : Open State Around) (known : List Value) (todo : List Sym) (at : ℕ) (bytes : List ℕ) (before : State)
     (vs : List Value) (after : State) → Type 0
 ReadsRest s rule known todo at bytes before vs after = direct.ReadsRest (cpp_language s) s.bytes rule known todo at bytes before vs after
@@ -37,7 +37,7 @@ ReadsRest s rule known todo at bytes before vs after = direct.ReadsRest (cpp_lan
 abbrev pub StandsAt : (s : List ℕ) → (at : ℕ) → (bytes : List ℕ) → Type 0
 StandsAt s at bytes = direct.StandsAt s at bytes
 
--- The innermost open rule has its next value: in C++ each part has one.
+-- The innermost open rule gets its next value; in C++ each part has one value.
 abbrev pub Comes : (s : Symbol) → List Opened → Value → (at : ℕ) → State → Type 0
 Comes s os v at state = direct.Comes (cpp_language s) s.bytes os (v ∷ []) at state
 
@@ -50,7 +50,7 @@ ExpectsSym s x around os at state = direct.Expects (cpp_language s) s.bytes x ar
 abbrev pub Expects : (s : Symbol) → Kind → Around → List Opened → (at : ℕ) → State → Type 0
 Expects s kind around os at state = ExpectsSym s (OfKind (number_of_kind kind)) around os at state
 
--- Expects a part of this kind, after which the reader continues this way.
+-- Expects a part of this kind; `Onward` says how the reader continues after the part.
 pub record Awaits (s : Symbol) (kind : Kind) (around : Around) (at : ℕ) (st : State) (Onward : List Opened → Type 0) : Type 0 where
   pub inner : List Opened
   pub awaits : Expects s kind around inner at st
@@ -62,18 +62,18 @@ pub record Awaits (s : Symbol) (kind : Kind) (around : Around) (at : ℕ) (st : 
 abbrev pub candidate : Around → Term → Candidate
 candidate around t = record { tree = t; encoding = around.encoding; in_lambda = around.in_lambda; counted = by_all }
 
--- one more candidate, made here
+-- the state with one more candidate, made here
 abbrev pub with_candidate : Around → Term → State → State
 with_candidate around t state = record state { candidates = state.candidates ++ candidate around t ∷ [] }
 
--- one more unless it is a candidate already or never is one
+-- the state with one more candidate, unless the tree is a candidate already or never becomes one
 abbrev pub unless_listed : (listed : Bool) → Around → Term → State → State
 unless_listed true around t state = state
 unless_listed false around t state = with_candidate around t state
 
 -- ## What is read
 
--- a name is at the place, with these bytes, and this is the place after it
+-- a name is at the place, with these bytes, and `end` is the place after it
 pub record IsNameAt (s : List ℕ) (at : ℕ) (name : List ℕ) (end : ℕ) : Type 0 where
   pub token : Token
   pub is_name : IsName Cpp token
@@ -81,11 +81,11 @@ pub record IsNameAt (s : List ℕ) (at : ℕ) (name : List ℕ) (end : ℕ) : Ty
   pub stands : StandsAt s at (bytes_of token)
   pub ends : end ≡ at + length (bytes_of token)
 
--- a tag is at the place, and this is the place after it
+-- a tag is at the place, and `end` is the place after it
 abbrev pub IsTagAt : (s : List ℕ) → (at : ℕ) → (tag : List ℕ) → (end : ℕ) → Type 0
 IsTagAt s at tag end = StandsAt s at (66 ∷ []) × IsNameAt s (at + 1) tag end
 
--- a number of this kind is at the place, with these digits or none, and this is the place after it
+-- a number of this kind is at the place, with these digits or none, and `end` is the place after it
 pub record IsNumberAt (kind : NumberKind) (s : List ℕ) (at : ℕ) (digits : List ℕ) (end : ℕ) : Type 0 where
   pub token : Token
   pub is_number : IsNumberToken kind token
@@ -93,7 +93,7 @@ pub record IsNumberAt (kind : NumberKind) (s : List ℕ) (at : ℕ) (digits : Li
   pub stands : StandsAt s at (bytes_of token)
   pub ends : end ≡ at + length (bytes_of token)
 
--- the number of a substitution
+-- the number of a substitution is at the place, with these digits, and `end` is the place after it
 abbrev pub IsSeqAt : (s : List ℕ) → (at : ℕ) → (digits : List ℕ) → (end : ℕ) → Type 0
 IsSeqAt s at digits end = IsNumberAt Seq36 s at digits end
 
@@ -105,30 +105,30 @@ IsTyped Kind.Plain = Unit {0}
 IsTyped Kind.ItemButRef = Unit {0}
 IsTyped _ = ⊥
 
--- and a reference as one of these
+-- a reference may be expected as one of these kinds
 abbrev pub IsReferable : Kind → Type 0
 IsReferable Kind.Type = Unit {0}
 IsReferable Kind.Item = Unit {0}
 IsReferable Kind.Plain = Unit {0}
 IsReferable _ = ⊥
 
--- and a list of items as one of these
+-- a list of items may be expected as one of these kinds
 abbrev pub IsListKind : Kind → Type 0
 IsListKind Kind.ArgumentList = Unit {0}
 IsListKind Kind.PackList = Unit {0}
 IsListKind Kind.Items = Unit {0}
 IsListKind _ = ⊥
 
--- what is accepted inside is accepted outside as well
+-- what the inner rules accept, the outer rules accept, too
 abbrev pub SamePasses : (s : Symbol) → (inner outer : List Opened) → Type 0
 SamePasses s inner outer = (v : Value) (at : ℕ) (st : State) → Comes s inner v at st → Comes s outer v at st
 
--- a type accepted inside makes the outer one, which is a candidate
+-- if the inner rules accept a type, the outer ones accept the type made of it, which becomes a candidate
 abbrev pub TypePasses : (s : Symbol) → (inner outer : List Opened) → Around → (made : Term → Term) → Type 0
 TypePasses s inner outer around made =
     (t : Term) (at : ℕ) (st : State) → Comes s inner (tree t true) at st → Comes s outer (tree (made t) true) at (with_candidate around (made t) st)
 
--- A name was read that is a type, with or without arguments after it.
+-- The name of a type was read; arguments may follow it.
 pub record TypeNamed (s : Symbol) (outer : List Opened) (around : Around) (t : Term) (listed : Bool) (at : ℕ) (st : State) : Type 0 where
   pub inner : List Opened
   pub awaits : Expects s Kind.ArgumentsAlone (after t listed around) inner at st
@@ -141,7 +141,7 @@ pub record TypeNamed (s : Symbol) (outer : List Opened) (around : Around) (t : T
 abbrev pub bare_name : Term → Value
 bare_name u = named u unqualified any_value
 
--- A name was read that is the name of an encoding or a component, with or without arguments after it, or tags.
+-- The name of an encoding or of a component was read; arguments or tags may follow it.
 pub record Named (s : Symbol) (outer : List Opened) (around : Around) (t : Term) (at : ℕ) (st : State) : Type 0 where
   pub inner : List Opened
   pub awaits : Expects s Kind.MaybeArguments (after t false around) inner at st
@@ -149,7 +149,7 @@ pub record Named (s : Symbol) (outer : List Opened) (around : Around) (t : Term)
   pub argued : (a : Term) (at : ℕ) (st : State) → Comes s inner (tree a true) at st → Comes s outer (tree (instance t a) false) at st
   pub renamed : (u : Term) (at : ℕ) (st : State) → Comes s inner (bare_name u) at st → Comes s outer (tree u false) at st
 
--- This much of a nested name is read, and what it becomes is accepted outside.
+-- A nested name is read as far as this tree, and expects its rest as this kind; the outer rules accept the whole.
 pub record NestGoesOn (s : Symbol) (kind : Kind) (outer : List Opened) (around : Around) (t : Term) (listed : Bool) (at : ℕ) (st : State) : Type 0 where
   pub inner : List Opened
   pub awaits : Expects s kind (after t listed around) inner at st
@@ -162,7 +162,7 @@ pub record AwaitsComponent (s : Symbol) (outer : List Opened) (around : Around) 
   pub awaits : Expects s Kind.Component (after t listed around) inner at st
   pub onward : (u : Term) (at : ℕ) (st : State) → Comes s inner (tree u false) at st → NestGoesOn s Kind.NestTail outer around u false at st
 
--- A std name was read at the front of a nested one, or a component, with or without arguments after it, or tags.
+-- A component was read, or a name in std at the front of a nested name; arguments or tags may follow it.
 pub record NestNamed (s : Symbol) (outer : List Opened) (around : Around) (t : Term) (at : ℕ) (st : State) : Type 0 where
   pub inner : List Opened
   pub awaits : Expects s Kind.MaybeArguments (after t false around) inner at st
@@ -175,11 +175,11 @@ abbrev pub ListGoesOn : (s : Symbol) (kind : Kind) (outer : List Opened) (around
 ListGoesOn s kind outer around t at st = Awaits s kind around at st (λ inner.
     (l : Value) (at : ℕ) (st : State) → Comes s inner l at st → Comes s outer (tree (list t (no_items l)) true) at st)
 
--- Expects an element of a list, which is read as this.
+-- Expects an element of a list, read as a part of the kind `as_kind`.
 abbrev pub AwaitsElementAs : (s : Symbol) (as_kind kind : Kind) (outer : List Opened) (around : Around) (at : ℕ) (st : State) → Type 0
 AwaitsElementAs s as_kind kind outer around at st = Awaits s as_kind around at st (λ inner.
     (t : Term) (at : ℕ) (st : State) → Comes s inner (tree t true) at st → ListGoesOn s kind outer around t at st)
 
--- an element that is a type
+-- expects an element that is a type
 abbrev pub AwaitsElement : (s : Symbol) (kind : Kind) (outer : List Opened) (around : Around) (at : ℕ) (st : State) → Type 0
 AwaitsElement s kind outer around at st = AwaitsElementAs s Kind.Item kind outer around at st

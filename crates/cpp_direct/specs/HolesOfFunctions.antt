@@ -1,4 +1,4 @@
--- What is expected within a function type, and what becomes of it.
+-- What is expected within a function type, and what the rules around it accept then.
 use Rattle.std.specs.Prelude.{◌≡◌, ℕ, ◌+◌, List, Bool, true, false}
 use Rattle.cpp_grammar.specs.declared.kind.Kind.{Kind}
 use Rattle.cpp_grammar.specs.Term.{Term, any_value, function_type, pointer, lvalue, rvalue, list}
@@ -16,12 +16,12 @@ abbrev pub pointed : (is_pointer : Bool) → Term → Term
 pointed true t = pointer t
 pointed false t = t
 
--- each of them is a candidate
+-- the state once the function type is a candidate, and so is the pointer to it if there is one
 abbrev pub with_pointed : (is_pointer : Bool) → Around → Term → State → State
 with_pointed true around t st = with_candidate around (pointer t) (with_candidate around t st)
 with_pointed false around t st = with_candidate around t st
 
--- This much is read of a function type, or of a pointer to one, and parameters continue.
+-- A function type, or a pointer to one, is read up to a place among its parameters, and expects the rest of them.
 pub record SignatureGoesOn (s : Symbol) (outer : List Opened) (made_in : Around) (is_pointer : Bool) (made : Term → Term) (at : ℕ) (st : State) : Type 0 where
   pub around : Around
   pub outside : around.prefix ≡ outermost
@@ -36,7 +36,7 @@ FunctionOpened s outer around is_pointer at st = Awaits s Kind.Type around at st
     (r : Term) (at : ℕ) (st : State) → Comes s inner (tree r true) at st
     → SignatureGoesOn s outer around is_pointer (λ l. plain_function r l) at st)
 
--- A parameter is expected that is no reference.
+-- A parameter that is no reference is expected.
 pub record ParameterOpened (s : Symbol) (outer : List Opened) (made_in : Around) (is_pointer : Bool) (made : Term → Term) (at : ℕ) (st : State) : Type 0 where
   pub around : Around
   pub outside : around.prefix ≡ outermost
@@ -45,12 +45,12 @@ pub record ParameterOpened (s : Symbol) (outer : List Opened) (made_in : Around)
   pub onward : (t : Term) (at : ℕ) (st : State) → Comes s inner (tree t true) at st
       → SignatureGoesOn s outer made_in is_pointer (λ l. made (list t l)) at st
 
--- a reference to this
+-- an lvalue reference or an rvalue reference to a type
 abbrev pub reference : (is_lvalue : Bool) → Term → Term
 reference true t = lvalue t
 reference false t = rvalue t
 
--- and the letter before it
+-- the letter of a reference
 abbrev pub reference_letter : (is_lvalue : Bool) → ℕ
 reference_letter true = 82
 reference_letter false = 79

@@ -1,4 +1,4 @@
--- What is expected in lists, in encodings and in whole symbols that are read from left to right, and what becomes of it.
+-- What is expected in lists, in encodings and in whole symbols, and what the rules around it accept then.
 use Rattle.std.specs.Prelude.{◌≡◌, ℕ, ◌+◌, List, [], ◌∷◌, ◌++◌, length, Bool, true, false, Ok}
 use Rattle.std.specs.List.{AllByRecursion}
 use Rattle.sym_core.specs.declared.NumberKind.TheVariants.{Digits}
@@ -40,11 +40,11 @@ PackOpened s outer around at st = Awaits s Kind.PackList around at st (λ inner.
     (l : Value) (at : ℕ) (st : State) → Comes s inner l at st → StandsAt s.bytes at (69 ∷ [])
     → ListGoesOn s Kind.ArgumentList outer around (pack (no_items l)) (at + 1) st)
 
--- the digits of an integer are at the place, and this is the place after them
+-- the digits of an integer are at the place, and `end` is the place after them
 abbrev pub IsDigitsAt : (s : List ℕ) → (at : ℕ) → (digits : List ℕ) → (end : ℕ) → Type 0
 IsDigitsAt s at digits end = IsNumberAt Digits s at digits end
 
--- what precedes the digits of an integer
+-- what precedes the digits of an integer: an n if it is negative
 abbrev pub minus_sign : Bool → List ℕ
 minus_sign true = 110 ∷ []
 minus_sign false = []
@@ -75,25 +75,26 @@ abbrev pub EncodingOpened : (s : Symbol) (outer : List Opened) (at : ℕ) (st : 
 EncodingOpened s outer at st = Awaits s Kind.CompleteName (in_name at) at st (λ inner.
     (v : Value) (here : ℕ) (st : State) → Comes s inner v here st → ItemsOpened s outer at v here st)
 
--- Expects the type of a special object of an encoding that begins at a place.
+-- Expects the type that a special object belongs to, in an encoding that begins at a place.
 abbrev pub SpecialOpened : (s : Symbol) (outer : List Opened) (encoding letter : ℕ) (at : ℕ) (st : State) → Type 0
 SpecialOpened s outer encoding letter at st = Awaits s Kind.Type (in_name encoding) at st (λ inner.
     (t : Term) (at : ℕ) (st : State) → Comes s inner (tree t true) at st → Comes s outer (tree (special letter t) true) at st)
 
--- Expects the base class of a construction table, after its derived class, an offset and a _, and makes something of the table.
+-- Expects the base class of a construction table, after its derived class, an offset and a _; `becomes` says what the table
+-- becomes.
 abbrev pub BaseClassOpened : (s : Symbol) (becomes : Term → (at : ℕ) → State → Type 0) (encoding : ℕ) (derived : Term) (at : ℕ) (st : State) → Type 0
 BaseClassOpened s becomes encoding derived at st =
     (digits : List ℕ) (end : ℕ) → IsDigitsAt s.bytes at digits end → StandsAt s.bytes end (95 ∷ [])
     → Awaits s Kind.Type (in_name encoding) (end + 1) st (λ inner.
     (t : Term) (at : ℕ) (st : State) → Comes s inner (tree t true) at st → becomes (construction derived (normal digits) t) at st)
 
--- Expects the derived class of one, of an encoding that begins at a place.
+-- Expects the derived class of a construction table, in an encoding that begins at a place.
 abbrev pub TableOpened : (s : Symbol) (outer : List Opened) (encoding : ℕ) (at : ℕ) (st : State) → Type 0
 TableOpened s outer encoding at st = Awaits s Kind.Type (in_name encoding) at st (λ inner.
     (t : Term) (at : ℕ) (st : State) → Comes s inner (tree t true) at st
     → BaseClassOpened s (λ e end now. Comes s outer (tree e true) end now) encoding t at st)
 
--- an offset of a thunk is at the place, and this is the place after its _
+-- an offset of a thunk is at the place, and `end` is the place after its _
 pub record IsOffsetAt (s : List ℕ) (at : ℕ) (end : ℕ) : Type 0 where
   pub negative : Bool
   pub digits : List ℕ
@@ -103,17 +104,17 @@ pub record IsOffsetAt (s : List ℕ) (at : ℕ) (end : ℕ) : Type 0 where
   pub line : StandsAt s behind (95 ∷ [])
   pub ends : end ≡ behind + 1
 
--- Expects the base encoding of a thunk or of a clone that begins at a place, and makes this of it.
+-- Expects the base encoding of a thunk or a clone that begins at a place; `made` makes the thunk or the clone of it.
 abbrev pub BaseOpened : (s : Symbol) (outer : List Opened) (encoding : ℕ) (made : Term → Term) (at : ℕ) (st : State) → Type 0
 BaseOpened s outer encoding made at st = Awaits s Kind.Encoding (in_name encoding) at st (λ inner.
     (e : Term) (at : ℕ) (st : State) → Comes s inner (tree e true) at st → Comes s outer (tree (made e) true) at st)
 
--- the letter of a function that is const
+-- the letter of a const function, or none
 abbrev pub const_letter : (const : Bool) → List ℕ
 const_letter true = 75 ∷ []
 const_letter false = []
 
--- and the one after it, which says what the function may be called on
+-- the letters of a function's qualifiers: const, and the ref-qualifier
 abbrev pub mark_letters : (const : Bool) → RefQualifier → List ℕ
 mark_letters const any_value = const_letter const
 mark_letters const lvalue_only = const_letter const ++ 82 ∷ []
@@ -138,7 +139,7 @@ IsSuffix [] = ⊥
 IsSuffix (d ∷ []) = ⊥
 IsSuffix (d ∷ b ∷ bs) = (d ≡ 46) × AllByRecursion (λ c. is_suffix_byte c ≡ true) (b ∷ bs)
 
--- Expects the encoding of a symbol, which ends the symbol or precedes its suffix.
+-- Expects the encoding of a symbol; the encoding ends the symbol, or a suffix follows it.
 pub record SymbolOpened (s : Symbol) : Type 0 where
   pub inner : List Opened
   pub awaits : Expects s Kind.Encoding first_around inner 2 first_state

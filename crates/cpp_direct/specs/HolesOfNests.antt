@@ -15,7 +15,7 @@ IsRest Kind.NestMoreOrEnd = Unit {0}
 IsRest Kind.NestTail = Unit {0}
 IsRest _ = ⊥
 
--- and after its first piece as one of these
+-- a nested name may continue after its first piece as one of these kinds
 abbrev pub IsFirstRest : Kind → Type 0
 IsFirstRest Kind.NestRestAlone = Unit {0}
 IsFirstRest Kind.NestRestOrEnd = Unit {0}

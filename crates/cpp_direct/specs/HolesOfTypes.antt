@@ -1,4 +1,4 @@
--- What is expected within a type, and what becomes of it.
+-- What is expected within a type, and what the rules around it accept then.
 use Rattle.std.specs.Prelude.{◌≡◌, ℕ, List, [], ◌∷◌, Bool, true, false}
 use Rattle.cpp_grammar.specs.declared.kind.Kind.{Kind}
 use Rattle.cpp_grammar.specs.Term.{Term, qualified}
@@ -7,7 +7,7 @@ use Rattle.cpp_grammar.specs.References.{is_function_type}
 use Rattle.cpp_direct.specs.Symbol.{Symbol}
 use Rattle.cpp_direct.specs.Holes.{Awaits, Comes, Opened, StandsAt, TypeNamed, TypePasses, unless_listed}
 
--- only const
+-- a type with const as its only qualifier
 abbrev pub as_const : Term → Term
 as_const t = qualified (record { restrict = false; volatile = false; const = true }) t
 
@@ -28,12 +28,13 @@ IsNamedKind Kind.Solid = Unit {0}
 IsNamedKind Kind.LiteralType = Unit {0}
 IsNamedKind _ = ⊥
 
--- Expects a type of this kind within another, which is made of it.
+-- Expects a type of this kind; the outer rules accept the type that is made of it.
 abbrev pub TypeOpens : (s : Symbol) (kind : Kind) (outer : List Opened) (around : Around) (made : Term → Term) (at : ℕ) (st : State) → Type 0
 TypeOpens s kind outer around made at st = Awaits s kind around at st (λ inner.
     TypePasses s inner outer around made)
 
--- a tree of this kind, other than a function type, becomes a candidate unless it is one already or never is one
+-- the outer rules accept each tree that the inner ones accept, except for function types; the tree becomes a candidate unless it
+-- is one already or never becomes one
 abbrev pub TreePasses : (s : Symbol) → (inner outer : List Opened) → Around → Type 0
 TreePasses s inner outer around =
     (t : Term) (listed : Bool) (at : ℕ) (st : State) → is_function_type t ≡ false → Comes s inner (tree t listed) at st

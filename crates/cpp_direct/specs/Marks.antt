@@ -16,7 +16,7 @@ has_const marks.ConstLvalue = true
 has_const marks.Rvalue = false
 has_const marks.ConstRvalue = true
 
--- what it may be called on
+-- the ref-qualifier of the function
 abbrev pub called_on : Mark → RefQualifier
 called_on marks.Plain = any_value
 called_on marks.Const = any_value
@@ -25,7 +25,7 @@ called_on marks.ConstLvalue = lvalue_only
 called_on marks.Rvalue = rvalue_only
 called_on marks.ConstRvalue = rvalue_only
 
--- what follows its parameters
+-- the text of the qualifiers, after the function's parameters
 abbrev pub mark_text : Mark → List ℕ
 mark_text marks.Plain = []
 mark_text marks.Const = codes " const"
@@ -34,7 +34,7 @@ mark_text marks.ConstLvalue = codes " const &"
 mark_text marks.Rvalue = codes " &&"
 mark_text marks.ConstRvalue = codes " const &&"
 
--- The letters of these qualifiers are at the place, and this is the place after them.
+-- The letters of `place.mark` are at the place, and `place.end` is the place after them.
 pub record IsMarkPlace (s : List ℕ) (at : ℕ) (place : MarkPlace) : Type 0 where
   pub stands : StandsAt s at (mark_letters (has_const place.mark) (called_on place.mark))
   pub ends : place.end ≡ at + length (mark_letters (has_const place.mark) (called_on place.mark))

@@ -42,17 +42,17 @@ abbrev pub parameter_digits : (number : ℕ) → List ℕ
 parameter_digits zero = []
 parameter_digits (suc before) = (48 + before) ∷ []
 
--- that holds up to this number
+-- the greatest number of a parameter that has at most one digit
 abbrev pub most_by_digit : ℕ
 most_by_digit = 10
 
--- of these arguments those are known that were known before, and the one with this number, which is between these places
+-- each known argument was known before, or has this number and its text between the two places
 abbrev pub KnowsMore : (old new : Arguments) → (number from to : ℕ) → (is_reference : Bool) → Type 0
 KnowsMore old new number from to is_reference =
     (k : ℕ) → IsKnown new k
     → ((k ≡ number) × (place_of new k ≡ record { from = from; to = to; is_reference = is_reference })) ⊎ (IsKnown old k × (place_of new k ≡ place_of old k))
 
--- nothing is written yet
+-- nothing is written yet, there is no candidate, and no entry is open
 pub record IsFresh (w : Direct) : Type 0 where
   pub no_text : w.text.list.items ≡ []
   pub no_candidate : w.candidates.list.items ≡ []
@@ -68,7 +68,7 @@ pub record AwaitsEncoding (s : Symbol) (w : Direct) : Type 0 where
   pub awaits : Expects s Kind.Encoding around outer w.at state
   pub onward : (e : Term) (at : ℕ) (st : State) → Comes s outer (tree e true) at st → EncodedBehind s w.text.list.items e at st
 
--- its name is expected, or that of an object
+-- the name of an encoding is expected, or that of an object
 pub record AwaitsName (s : Symbol) (w : Direct) : Type 0 where
   pub kept : Kept s w
   pub open kept use *
@@ -77,14 +77,14 @@ pub record AwaitsName (s : Symbol) (w : Direct) : Type 0 where
   pub awaits : Expects s Kind.CompleteName (in_name encoding) outer w.at state
   pub onward : (v : Value) (at : ℕ) (st : State) → Comes s outer v at st → AwaitsItems s w.text.list.items v at st
 
--- expects the name of an encoding that began before, after the L of internal linkage or without one
+-- expects a source name as the name of an encoding, after the L of internal linkage or without an L
 pub record AwaitsSource (s : Symbol) (w : Direct) (is_internal : Bool) : Type 0 where
   pub before : ℕ
   pub awaits : AwaitsEncoding s (record w { at = before })
   pub letter : is_internal ≡ true → StandsAt s.bytes before (76 ∷ [])
   pub at_is : w.at ≡ before + cond is_internal 1 0
 
--- the name of an encoding was read after a text, with or without arguments after it, or tags
+-- the name of an encoding was read after a text; arguments or tags may follow it
 pub record HasName (s : Symbol) (lead : List ℕ) (encoding : ℕ) (t : Term) (at : ℕ) (st : State) : Type 0 where
   pub inner : List Opened
   pub awaits : Expects s Kind.MaybeArguments (after t false (in_name encoding)) inner at st
@@ -92,7 +92,7 @@ pub record HasName (s : Symbol) (lead : List ℕ) (encoding : ℕ) (t : Term) (a
   pub argued : (a : Term) (at : ℕ) (st : State) → Comes s inner (tree a true) at st → AwaitsItems s lead (tree (instance t a) false) at st
   pub renamed : (u : Term) (at : ℕ) (st : State) → Comes s inner (bare_name u) at st → AwaitsItems s lead (tree u false) at st
 
--- The name of an encoding that is in no class was read, and written from a place on. It accepts arguments, or may have none.
+-- The name of an encoding that is in no class was read, and written from a place on. If it `takes` arguments, they may follow.
 pub record IsUnscoped (s : Symbol) (w : Direct) (from : ℕ) (takes : Bool) : Type 0 where
   pub kept : Kept s w
   pub open kept use *
@@ -108,7 +108,7 @@ pub record IsUnscoped (s : Symbol) (w : Direct) (from : ℕ) (takes : Bool) : Ty
   pub no_return : has_return_type own ≡ false
   pub no_structor : is_structor own ≡ false
 
--- a type is expected
+-- a type is expected, as one of the kinds of types
 pub record AwaitsType (s : Symbol) (w : Direct) : Type 0 where
   pub kept : Kept s w
   pub open kept use *
@@ -140,7 +140,7 @@ pub record IsNamedAgain (s : Symbol) (w : Direct) (k : Candidate) : Type 0 where
   pub ordered : k.from ≤ k.to
   pub is : k.is_dependent ≡ true
 
--- the name of a type was read, which is a candidate already or not, and was written from a place on
+-- the name of a type was read, and written from a place on; the type is a candidate already or not
 pub record IsTypeNamed (s : Symbol) (w : Direct) (from : ℕ) (is_listed is_reference : Bool) : Type 0 where
   pub kept : Kept s w
   pub open kept use *
@@ -158,7 +158,7 @@ pub record IsTypeNamed (s : Symbol) (w : Direct) (from : ℕ) (is_listed is_refe
   pub stands : Stands s scope (reverse w.waiting.list.items) outer front
   pub scoped : IsScoped scope around (reverse w.waiting.list.items)
 
--- A type was read that the waiting entry marks. It was written from a place on, except for its mark.
+-- A type was read that the innermost entry is to mark. It was written from a place on, except for its mark.
 pub record AwaitsMark (s : Symbol) (w : Direct) (mark : List ℕ) (from : ℕ) (is_reference is_dependent : Bool) : Type 0 where
   pub kept : Kept s w
   pub open kept use *
@@ -178,17 +178,17 @@ pub record AwaitsMark (s : Symbol) (w : Direct) (mark : List ℕ) (from : ℕ) (
   pub made_here : is_dependent ≡ true → IsMadeIn scope made_in.encoding
   pub stands : Stands s scope rest outer front
 
--- what waits for an argument of a name, or for an element of a pack among them
+-- the entry that waits for an argument of a name, or for an element of a pack among the arguments
 abbrev pub argument_entry : (is_pack : Bool) → (from number : ℕ) → (known : Arguments) → Open
 argument_entry false from number known = opens.Argument from number known
 argument_entry true from number known = opens.Element from number known
 
--- and the entry open around that
+-- the entries that are open around an argument of a name, or around an element of a pack
 abbrev pub argument_around : (is_pack : Bool) → (owner : Open) → (rest : List Open) → List Open
 argument_around false owner rest = owner ∷ rest
 argument_around true owner rest = opens.Pack ∷ owner ∷ rest
 
--- An argument of a name was read, or an element of a pack among them, after n others. It is a type, or an argument and a literal.
+-- An argument of a name was read, or an element of a pack among the arguments, after `number` others: a type or a literal.
 pub record IsArgumentRead (s : Symbol) (w : Direct) (is_pack : Bool) (from number : ℕ) (known : Arguments) (is_reference : Bool) : Type 0 where
   pub kept : Kept s w
   pub open kept use *
@@ -214,7 +214,7 @@ pub record IsArgumentRead (s : Symbol) (w : Direct) (is_pack : Bool) (from numbe
   pub prints : PrintsListed is_pack (detail_of s) t bytes is_reference
   pub goes : GoesOn s (arguments_or_pack is_pack before before_text) owner (below s scope rest) front template (ts ++ t ∷ []) w.at state
 
--- Expects another argument after n + 1, with the known ones recorded.
+-- Expects another argument or element after `last` + 1 arguments; `known` are the known ones.
 pub record AwaitsKnownArgument (s : Symbol) (w : Direct) (is_pack : Bool) (last : ℕ) (known : Arguments) : Type 0 where
   pub kept : Kept s w
   pub open kept use *
@@ -272,7 +272,7 @@ pub record IsNestNamed (s : Symbol) (w : Direct) : Type 0 where
   pub structor : w.nest.has_class ≡ false → is_structor own ≡ true
   pub no_structor : w.nest.has_class ≡ true → is_structor own ≡ false
 
--- An operator was read that ends a nested name: no arguments are read after it.
+-- An operator that ends a nested name was read: no arguments are read after it.
 pub record IsOperatorRead (s : Symbol) (w : Direct) : Type 0 where
   pub kept : Kept s w
   pub open kept use *
@@ -309,7 +309,7 @@ pub record AwaitsClass (s : Symbol) (w : Direct) : Type 0 where
   pub structor : is_structor own ≡ true
   pub serves : Serves s w.nest.purpose (below s scope (reverse w.waiting.list.items)) outer front
 
--- the known ones among arguments are at their places, and those that are in a pack
+-- the known arguments are at their places, and so are the known elements of a pack
 abbrev pub AreKnown : (detail : Detail) (text : List ℕ) → Arguments → List Term → (tail : Term) → Type 0
 AreKnown detail text a ts tail =
     ((number : ℕ) → IsSingle a number → IsAmong false detail text (place_of a number) number ts)
@@ -336,7 +336,7 @@ pub record IsListEnded (s : Symbol) (w : Direct) (argument : Arguments) : Type 0
   pub owns : Owns s owner (below s scope rest) front (instance template (list_with ts tail)) w.at state
   pub known : AreKnown (detail_of s) w.text.list.items argument ts tail
 
--- Expects an element, with the comma before it written.
+-- Expects an element of a list. The text before the element is written, with a comma if other elements precede it.
 pub record AwaitsNextArgument (s : Symbol) (w : Direct) : Type 0 where
   pub kept : Kept s w
   pub open kept use *
@@ -347,7 +347,7 @@ pub record AwaitsNextArgument (s : Symbol) (w : Direct) : Type 0 where
   pub written : w.text.list.items ≡ led_by (detail_of s) place.listing place.front place.name ++ in_front_of_next ts texts
   pub goes : GoesOn s place.listing place.owner (below s scope place.rest) place.front place.template ts w.at state
 
--- A literal of a builtin type was read and written, which is an element of a list.
+-- A literal of a builtin type, which is an element of a list, was read and written.
 pub record IsLiteralRead (s : Symbol) (old new : Direct) : Type 0 where
   pub own : Term
   pub bytes : List ℕ
@@ -356,7 +356,7 @@ pub record IsLiteralRead (s : Symbol) (old new : Direct) : Type 0 where
   pub goes_on : (kind : Kind) (around : Around) (os : List Opened) (st : State) → IsArgumentKind kind → Expects s kind around os old.at st
       → ListGoesOn s kind os around own new.at st
 
--- The type of an enumerator was read, which is an element. Expects its number.
+-- The type of an enumerator, which is an element, was read. Expects the enumerator's number.
 pub record AwaitsNumber (s : Symbol) (w : Direct) : Type 0 where
   pub kept : Kept s w
   pub open kept use *
@@ -373,7 +373,7 @@ pub record AwaitsNumber (s : Symbol) (w : Direct) : Type 0 where
   pub written : w.text.list.items ≡ led_by (detail_of s) place.listing place.front place.name ++ in_front_of_next ts texts ++ codes "(" ++ bytes
   pub goes : EnumeratorGoesOn s place.listing place.owner (below s scope place.rest) place.front place.template ts type w.at state
 
--- Likewise for one that is the argument of a name with this number, whose text begins at this place.
+-- Likewise for an enumerator that is an argument of a name: `number` others precede it, and its text begins at `from`.
 pub record AwaitsArgumentNumber (s : Symbol) (w : Direct) (from number : ℕ) (known : Arguments) : Type 0 where
   pub kept : Kept s w
   pub open kept use *
@@ -398,14 +398,14 @@ pub record AwaitsArgumentNumber (s : Symbol) (w : Direct) (from number : ℕ) (k
   pub among : AreAmong false (detail_of s) w.text.list.items known ts
   pub goes : EnumeratorGoesOn s of_template owner (below s scope rest) front template ts type w.at state
 
--- A text ends in no type whose integers are without it.
+-- The text doesn't end in the name of a type whose integers omit the type.
 pub record EndsOtherwise (text : List ℕ) : Type 0 where
   pub int : ends_with nat_eq text (codes "(int") ≡ false
   pub blank_int : ends_with nat_eq text (codes " int") ≡ false
   pub long : ends_with nat_eq text (codes "(long") ≡ false
   pub blank_long : ends_with nat_eq text (codes " long") ≡ false
 
--- An instance was read and written that has a member as an element. Expects the member's name, between two Es.
+-- An instance was read and written for an element that is a member of it. Expects the member's name, between two Es.
 pub record AwaitsMember (s : Symbol) (w : Direct) (is_dependent : Bool) : Type 0 where
   pub kept : Kept s w
   pub open kept use *
@@ -419,8 +419,8 @@ pub record AwaitsMember (s : Symbol) (w : Direct) (is_dependent : Bool) : Type 0
   pub follows : MemberComes s outer own w.at state
   pub stands : Stands s scope (reverse w.waiting.list.items) outer front
 
--- The name of an encoding was read and written from a place on, except for its qualifier. The known arguments among these are
--- at their places.
+-- The name of an encoding was read and written from a place on, except for its qualifier. The known arguments that the name ends
+-- in are at their places.
 pub record IsNameEnded (s : Symbol) (w : Direct) (mark : Mark) (is_instance : Bool) (argument : Arguments) (from : ℕ) : Type 0 where
   pub kept : Kept s w
   pub open kept use *
@@ -431,7 +431,7 @@ pub record IsNameEnded (s : Symbol) (w : Direct) (mark : Mark) (is_instance : Bo
   pub names : HasArguments (detail_of s) w.text.list.items argument own
   pub awaits : AwaitsItems s lead v w.at state
 
--- Likewise, and the known ones of these arguments are those that types may name from here on.
+-- Likewise, and types may name the known arguments from here on.
 pub record IsNameScoped (s : Symbol) (w : Direct) (mark : Mark) (is_instance : Bool) (argument : Arguments) (from : ℕ) : Type 0 where
   pub ended : IsNameEnded s w mark is_instance argument from
   pub given : IsGiven (detail_of s) ended.scope.names (types_of ended.own)
@@ -439,7 +439,7 @@ pub record IsNameScoped (s : Symbol) (w : Direct) (mark : Mark) (is_instance : B
   pub items : TakesItems s ended.lead ended.v w.at ended.state
   pub encoded : argument.encoding ≢ 0 → (from ≡ 0) × (argument.encoding ≡ encoding_place s.bytes)
 
--- The return type of a function was read, and follows the function's name and what is written before it.
+-- The return type of a function was read, and written after the function's name and the text before the name.
 pub record IsFrontRead (s : Symbol) (w : Direct) (mark : Mark) (start : ℕ) (argument : Arguments) : Type 0 where
   pub kept : Kept s w
   pub open kept use *
@@ -453,7 +453,7 @@ pub record IsFrontRead (s : Symbol) (w : Direct) (mark : Mark) (start : ℕ) (ar
   pub written : w.text.list.items ≡ front ++ bytes
   pub goes : ParametersGoOn s argument lead (encoding_of v) (returned ∷ []) w.at state
 
--- A function's name was read and written, with what precedes it. Expects its parameters.
+-- A function's name was read and written, with what precedes the name. Expects the function's parameters.
 pub record AwaitsParameters (s : Symbol) (w : Direct) (mark : Mark) (start : ℕ) (argument : Arguments) : Type 0 where
   pub kept : Kept s w
   pub open kept use *
@@ -462,7 +462,7 @@ pub record AwaitsParameters (s : Symbol) (w : Direct) (mark : Mark) (start : ℕ
   pub written : w.text.list.items ≡ front
   pub goes : ParametersGoOn s argument lead make [] w.at state
 
--- this is forwarded to the open entries only where it names no argument of the function's template
+-- an entry that accepts only types that name no argument of the function's template
 abbrev pub IsPassedClosed : Open → Type 0
 IsPassedClosed (opens.Pointer from) = ⊥
 IsPassedClosed (opens.Lvalue from) = ⊥
@@ -472,7 +472,7 @@ IsPassedClosed (opens.Front mark start argument) = ⊥
 IsPassedClosed (opens.Parameters mark start argument) = ⊥
 IsPassedClosed _ = Unit {0}
 
--- what is open for arguments that include one naming an argument of the function's template
+-- an entry for arguments, as it is before and after it notes that one of them names an argument of the function's template
 abbrev pub IsDependentNow : (old new : Open) → Type 0
 IsDependentNow (opens.TypeArguments from is_dependent) new = new ≡ opens.TypeArguments from true
 IsDependentNow (opens.NestArguments nest) new = (nest.purpose ≡ purposes.Type) × (new ≡ opens.NestArguments (record nest { is_dependent = true }))
@@ -480,8 +480,8 @@ IsDependentNow (opens.FirstArguments nest) new = (nest.purpose ≡ purposes.Type
 IsDependentNow (opens.LevelArguments is_dependent) new = new ≡ opens.LevelArguments true
 IsDependentNow _ new = ⊥
 
--- These parameters of a function were read, or none where the first one is expected. Each may cost this much more than its
--- text.
+-- Parameters of a function were read: none if the first one is expected, and otherwise at least one. Each may cost `extra` beyond
+-- its text.
 pub record AreParametersRead (s : Symbol) (w : Direct) (extra : ℕ) (is_first : Bool) (mark : Mark) (start : ℕ) (argument : Arguments) : Type 0 where
   pub kept : Kept s w
   pub open kept use *
@@ -496,12 +496,12 @@ pub record AreParametersRead (s : Symbol) (w : Direct) (extra : ℕ) (is_first :
   pub written : w.text.list.items ≡ front ++ codes "(" ++ texts
   pub goes : ParametersGoOn s argument lead make ts w.at state
 
--- what precedes an element of a list, the first one or another one
+-- what precedes an element of a list: nothing before the first one, and a comma and a space before any other
 abbrev pub separator : (is_first : Bool) → List ℕ
 separator true = []
 separator false = codes ", "
 
--- what precedes the element of a list with this number
+-- what precedes the element with this number in a list
 abbrev pub comma_text : (number : ℕ) → List ℕ
 comma_text zero = []
 comma_text (suc k) = codes ", "
@@ -510,7 +510,7 @@ comma_text (suc k) = codes ", "
 abbrev pub expansion_letters : Pattern → (number : ℕ) → List ℕ
 expansion_letters pattern number = 68 ∷ 112 ∷ (pattern_letters pattern ++ 84 ∷ (parameter_digits number ++ 95 ∷ []))
 
--- What a pattern makes of the first n elements of a pack was written, or of all.
+-- What a pattern makes of the first `number` elements of a pack was written.
 pub record AreExpanded (detail : Detail) (pattern : Pattern) (old new : Direct) (ts : List Term) (number : ℕ) : Type 0 where
   pub done : List Term
   pub rest : List Term
@@ -562,7 +562,7 @@ pub record IsSymbolEnded (s : Symbol) (w : Direct) : Type 0 where
 
 -- ## Function types
 
--- A type was read after a text, as an element or a parameter of these open entries.
+-- A type was read after a text; these open entries accept it as an element or a parameter.
 pub record ElementOf (s : Symbol) (w : Direct) (waits : List Open) : Type 0 where
   pub kept : Kept s w
   pub open kept use *
@@ -575,13 +575,13 @@ pub record ElementOf (s : Symbol) (w : Direct) (waits : List Open) : Type 0 wher
   pub comes : Comes s os (tree own true) w.at state
   pub stands : Stands s scope waits os front
 
--- Likewise, and this is what is open.
+-- Likewise, and `o` is the innermost open entry.
 pub record IsElementRead (s : Symbol) (w : Direct) (o : Open) : Type 0 where
   pub rest : List Open
   pub open_is : reverse w.waiting.list.items ≡ o ∷ rest
   pub read : ElementOf s w (o ∷ rest)
 
--- Likewise for a type that prints on both sides of a name, where the open entry accepts it. It may be a reference.
+-- Likewise for a type that may print on both sides of a name, and may be a reference; the innermost entry accepts such types.
 pub record IsElementPassed (s : Symbol) (w : Direct) (is_reference : Bool) : Type 0 where
   pub read : ElementOf s w (reverse w.waiting.list.items)
   pub takes : TakesFunction (reverse w.waiting.list.items)
@@ -609,7 +609,7 @@ pub record IsArrayRead (s : Symbol) (w : Direct) (access : Access) (from to : �
   pub comes : Comes s taker.outer (tree (accessed access (array (values.normal digits) first.own)) true) w.at
       (with_accessed access taker.made_in (array (values.normal digits) first.own) state)
 
--- The return type of a function type was read, or a parameter.
+-- The return type of a function type was read, and some parameters or none; more parameters may follow.
 pub record AwaitsSignature (s : Symbol) (w : Direct) (is_pointer is_first : Bool) : Type 0 where
   pub kept : Kept s w
   pub open kept use *
@@ -665,11 +665,11 @@ abbrev pub truth_text : Bool → List ℕ
 truth_text true = codes "true"
 truth_text false = codes "false"
 
--- a number with its sign
+-- the text of a number with its sign
 abbrev pub number_text : Signed → List ℕ
 number_text n = sign_text n ++ n.digits
 
--- an integer of a builtin type with this letter
+-- the text of an integer whose builtin type has this letter
 abbrev pub integer_text : (letter : ℕ) → Signed → List ℕ
 integer_text letter n = elim (is_plain_integer (builtin (letter ∷ []))) [
   | true ↦ number_text n ++ look_up (letter ∷ []) literal_endings

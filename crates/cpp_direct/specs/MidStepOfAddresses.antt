@@ -21,7 +21,7 @@ pub record AwaitsArgumentOfName (s : Symbol) (w : Direct) : Type 0 where
   pub awaits : Expects s Kind.Argument around os w.at state
 
 -- The name of a function whose address is an argument was read and written after a text. The open entry accepts the name. The
--- known arguments that it ends in are at their places.
+-- known arguments that the name ends in are at their places.
 pub record IsAddressNamed (s : Symbol) (w : Direct) (mark : Mark) : Type 0 where
   pub kept : Kept s w
   pub open kept use *
@@ -34,23 +34,24 @@ pub record IsAddressNamed (s : Symbol) (w : Direct) (mark : Mark) : Type 0 where
   pub comes : Comes s os v w.at state
   pub stands : Stands s scope (reverse w.waiting.list.items) os lead
 
--- The return type of such a function was read, and written after its name.
+-- The return type of a function whose address is an argument was read, and written after the function's name.
 abbrev pub IsAddressedFrontRead : (s : Symbol) → (w : Direct) → Mark → (to : ℕ) → Arguments → Type 0
 IsAddressedFrontRead s w mark to argument =
     IsInnerFrontRead s w mark argument (opens.AddressedFront mark to argument) (λ scope. IsAddressed s scope to argument)
     (λ scope waits. AddressWithin s (below s no_scope waits))
 
--- Its name is written, and its return type was read if it has one. Expects its parameters.
+-- The name of a function whose address is an argument is written, and its return type was read if it has one. Expects its
+-- parameters.
 abbrev pub AwaitsAddressedParameters : (s : Symbol) → (w : Direct) → Mark → (to : ℕ) → Arguments → Type 0
 AwaitsAddressedParameters s w mark to argument =
     AwaitsLedParameters s w 3 mark argument (λ scope. IsAddressed s scope to argument) (λ scope waits. AddressWithin s (below s no_scope waits))
 
--- A parameter of such a function was read.
+-- A parameter of a function whose address is an argument was read.
 abbrev pub IsAddressedParameterRead : (s : Symbol) → (w : Direct) → Mark → (to : ℕ) → Type 0
 IsAddressedParameterRead s w mark to =
     (argument : Arguments) × IsLedParameterRead s w 3 mark argument (opens.Addressed mark to argument) (λ scope. IsAddressed s scope to argument)
     (λ scope waits. AddressWithin s (below s no_scope waits))
 
--- Such a function was read and written, except for its qualifier. It is in no object's name.
+-- A function whose address is an argument was read and written, except for its qualifier. The function is in no object's name.
 abbrev pub IsAddressedRead : (s : Symbol) → (w : Direct) → Mark → Type 0
 IsAddressedRead s w mark = IsLedFunctionRead s w mark (λ own front. is_object s.bytes ≡ false) (λ scope waits. AddressWithin s (below s no_scope waits))

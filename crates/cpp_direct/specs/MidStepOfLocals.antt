@@ -34,8 +34,8 @@ pub record AwaitsEntity (s : Symbol) (w : Direct) (is_internal : Bool) : Type 0 
 
 -- ## Types in functions
 
--- The name of a function that contains a type was read and written from a place on, except for its qualifier. Expects its
--- return type if it is an instance of a function template.
+-- The name of a function that contains a type was read and written from a place on, except for its qualifier. Expects the
+-- function's return type if the function is an instance of a function template.
 pub record IsEnclosingNamed (s : Symbol) (w : Direct) (mark : Mark) (is_instance : Bool) (from : ℕ) : Type 0 where
   pub kept : Kept s w
   pub open kept use *
@@ -44,14 +44,14 @@ pub record IsEnclosingNamed (s : Symbol) (w : Direct) (mark : Mark) (is_instance
   pub returns : has_return_type own ≡ is_instance
   pub goes : ItemsGoOn s nowhere (TypeWithin s (below s scope (reverse w.waiting.list.items)) lead) (λ l. encoding_of v l) [] w.at state
 
--- A builtin type is at the place, with a code of one letter or of two, and this is the place after it.
+-- A builtin type is at the place, with a code of one letter or of two, and `end` is the place after it.
 abbrev pub IsBuiltinAt : List ℕ → (at end : ℕ) → Type 0
 IsBuiltinAt bytes at end =
     (letter : ℕ) × (((look_up (letter ∷ []) builtin_texts ≢ []) × (letter ≢ 0 → StandsAt bytes at (letter ∷ [])) × (end ≡ at + 1))
     ⊎ ((is_builtin_with_d letter ≡ true) × StandsAt bytes at (68 ∷ letter ∷ []) × (end ≡ at + 2)))
 
 -- The name of an instance of a function template that contains a type was read and written from a place on, except for its
--- qualifier. Expects its return type. Its encoding begins at this place, and its known arguments are at theirs.
+-- qualifier. Expects the return type. The instance's encoding begins at `encoding`, and its known arguments are at their places.
 pub record IsInstanceNamed (s : Symbol) (w : Direct) (mark : Mark) (encoding from : ℕ) : Type 0 where
   pub kept : Kept s w
   pub open kept use *
@@ -61,8 +61,8 @@ pub record IsInstanceNamed (s : Symbol) (w : Direct) (mark : Mark) (encoding fro
   pub names : HasArguments (detail_of s) w.text.list.items w.argument own
   pub items : ItemsOf s encoding (TypeWithin s (below s scope (reverse w.waiting.list.items)) lead) v w.at state
 
--- The name of a function was read after a text, and its return type if it has one. Expects its parameters. This holds of its
--- name, of where it was read and of the open entries.
+-- The name of a function was read after a text, and its return type if it has one. Expects its parameters. `Leads` holds of the
+-- name and the text before it, and `Within` of the function once the parameters are read.
 pub record AwaitsLedParameters (s : Symbol) (w : Direct) (extra : ℕ) (mark : Mark) (argument : Arguments)
     (Leads : Scope → (own : Term) → (front name : List ℕ) → Type 0)
     (Within : Scope → List Open → (front : List ℕ) → (e : Term) → (at : ℕ) → State → Type 0) : Type 0 where
@@ -73,7 +73,7 @@ pub record AwaitsLedParameters (s : Symbol) (w : Direct) (extra : ℕ) (mark : M
   pub written : w.text.list.items ≡ front ++ name
   pub goes : ItemsGoOn s argument (Within scope (reverse w.waiting.list.items) front) make [] w.at state
 
--- A parameter was read of a function for which this was opened.
+-- A parameter of a function was read, with this entry open for it.
 pub record IsLedParameterRead (s : Symbol) (w : Direct) (extra : ℕ) (mark : Mark) (argument : Arguments) (entry : Open)
     (Leads : Scope → (own : Term) → (front name : List ℕ) → Type 0)
     (Within : Scope → List Open → (front : List ℕ) → (e : Term) → (at : ℕ) → State → Type 0) : Type 0 where
@@ -94,19 +94,19 @@ abbrev pub AwaitsEnclosingParameters : (s : Symbol) → (w : Direct) → Mark �
 AwaitsEnclosingParameters s w mark from =
     AwaitsLedParameters s w 6 mark nowhere (λ scope own front name. from ≡ length front) (λ scope waits. TypeWithin s (below s scope waits))
 
--- One was read.
+-- A parameter of a function that contains a type was read.
 abbrev pub IsEnclosingParameterRead : (s : Symbol) → (w : Direct) → Mark → (from to : ℕ) → Type 0
 IsEnclosingParameterRead s w mark from to =
     IsLedParameterRead s w 6 mark nowhere (opens.Enclosing mark from to) (λ scope. IsEnclosing from to) (λ scope waits. TypeWithin s (below s scope waits))
 
--- One of an instance of a function template was read, whose types may name its arguments.
+-- A parameter of an instance of a function template was read. Its type may name the instance's arguments.
 abbrev pub IsInstanceParameterRead : (s : Symbol) → (w : Direct) → Mark → (from to : ℕ) → Type 0
 IsInstanceParameterRead s w mark from to =
     (argument : Arguments) × IsLedParameterRead s w 6 mark argument (opens.EnclosingInstance mark from to argument) (λ scope. IsScopedWithin s scope from to argument)
     (λ scope waits. TypeWithin s (below s no_scope waits))
 
--- The return type was read of a function for which this was opened, and written after its name. This holds of its name, of where
--- it was read and of the open entries.
+-- The return type of a function was read, with this entry open for it, and written after the function's name. `Leads` holds of
+-- the name and the text before it, and `Within` of the function once the parameters are read.
 pub record IsInnerFrontRead (s : Symbol) (w : Direct) (mark : Mark) (argument : Arguments) (entry : Open)
     (Leads : Scope → (own : Term) → (front name : List ℕ) → Type 0)
     (Within : Scope → List Open → (front : List ℕ) → (e : Term) → (at : ℕ) → State → Type 0) : Type 0 where
@@ -122,14 +122,14 @@ pub record IsInnerFrontRead (s : Symbol) (w : Direct) (mark : Mark) (argument : 
   pub reads : w.text.list.items ≡ text ++ bytes
   pub goes : ItemsGoOn s argument (Within scope rest lead) (λ l. encoding_of v l) (returned ∷ []) w.at state
 
--- That of an instance of a function template was read which contains a type.
+-- The return type of an instance of a function template was read. The instance contains a type.
 abbrev pub IsEnclosingFrontRead : (s : Symbol) → (w : Direct) → Mark → (from to : ℕ) → Arguments → Type 0
 IsEnclosingFrontRead s w mark from to argument =
     IsInnerFrontRead s w mark argument (opens.EnclosingFront mark from to argument) (λ scope. IsScopedWithin s scope from to argument)
     (λ scope waits. TypeWithin s (below s no_scope waits))
 
--- A function was read and written after a text, except for its qualifier. Its name and that text satisfy this. The place where it was read and
--- the open entries satisfy it, too.
+-- A function was read and written after a text, except for its qualifier. `Leads` holds of its name and that text, and `Within`
+-- of the function and the place after it.
 pub record IsLedFunctionRead (s : Symbol) (w : Direct) (mark : Mark) (Leads : (own : Term) → (front : List ℕ) → Type 0)
     (Within : Scope → List Open → (front : List ℕ) → (e : Term) → (at : ℕ) → State → Type 0) : Type 0 where
   pub kept : Kept s w
@@ -144,12 +144,12 @@ pub record IsLedFunctionRead (s : Symbol) (w : Direct) (mark : Mark) (Leads : (o
   pub written : w.text.list.items ++ mark_text mark ≡ front ++ bytes
   pub within : Within scope (reverse w.waiting.list.items) front e w.at state
 
--- A function that contains a type was read and written this way, from a place on.
+-- A function that contains a type was read, and written from a place on, except for its qualifier.
 abbrev pub IsEnclosingRead : (s : Symbol) → (w : Direct) → Mark → (from : ℕ) → Type 0
 IsEnclosingRead s w mark from =
     IsLedFunctionRead s w mark (λ own front. from ≡ length front) (λ scope waits. TypeWithin s (below s scope waits))
 
--- Expects the name of a type after the E of the function that contains it, which was written from a place on.
+-- Expects the name of a type after the E of the function that contains the type. The function was written from a place on.
 pub record AwaitsTypeName (s : Symbol) (w : Direct) (from : ℕ) : Type 0 where
   pub before : ℕ
   pub read : IsEnclosingRead s (record w { at = before }) marks.Plain from
@@ -158,7 +158,7 @@ pub record AwaitsTypeName (s : Symbol) (w : Direct) (from : ℕ) : Type 0 where
 
 -- ## Lambdas
 
--- The parameters of a lambda are open, after its first bytes, which are at the place.
+-- The first bytes of a lambda were read and written, and an entry waits for its parameters.
 pub record IsLambdaOpened (s : List ℕ) (old new : Direct) (from : ℕ) (holder : Holder) : Type 0 where
   pub short : short_numbers 0 s ≡ true
   pub stands : StandsAt s old.at (85 ∷ 108 ∷ [])
@@ -168,7 +168,7 @@ pub record IsLambdaOpened (s : List ℕ) (old new : Direct) (from : ℕ) (holder
   pub at : new.at ≡ old.at + 2
   pub waiting : new.waiting.list.items ≡ old.waiting.list.items ++ opens.Lambda from holder ∷ []
 
--- A parameter of a lambda was read: a type in a function, or a component of a nested name.
+-- A parameter of a lambda was read. `holder` says what the lambda is a part of.
 pub record IsLambdaParameterRead (s : Symbol) (w : Direct) (from : ℕ) (holder : Holder) : Type 0 where
   pub kept : Kept s w
   pub open kept use *
@@ -183,7 +183,7 @@ pub record IsLambdaParameterRead (s : Symbol) (w : Direct) (from : ℕ) (holder 
   pub written : w.text.list.items ≡ front ++ (bytes ++ codes "::{lambda(") ++ texts
   pub goes : ItemsGoOn s nowhere (LambdaWithin s holder (below s scope rest) front e) (λ l. l) ts w.at state
 
--- A lambda was read, and written after its scope.
+-- A lambda was read, and written after what contains it.
 pub record IsLambdaRead (s : Symbol) (w : Direct) (from : ℕ) (holder : Holder) : Type 0 where
   pub kept : Kept s w
   pub open kept use *
@@ -207,7 +207,7 @@ pub record AwaitsFirst (s : Symbol) (w : Direct) (mark : Mark) : Type 0 where
   pub encloses : Encloses (detail_of s) e w.text.list.items
   pub first : FirstOpened s (λ t at st. ItemsOf s 2 (λ f end last. Encoded s f end) (member_in e t (qualifiers (has_const mark)) (called_on mark)) at st) e w.at state
 
--- The entity was read and written. Expects its member function.
+-- A local entity was read and written. Expects its member function.
 pub record AwaitsMemberFunction (s : Symbol) (w : Direct) (mark : Mark) : Type 0 where
   pub kept : Kept s w
   pub open kept use *
@@ -216,11 +216,11 @@ pub record AwaitsMemberFunction (s : Symbol) (w : Direct) (mark : Mark) : Type 0
   pub prints : Prints (detail_of s) own w.text.list.items false
   pub goes : MemberGoesOn s mark e own w.at state
 
--- what waits for the member function: the end of the symbol
+-- a member function of a local entity is an encoding that ends the symbol
 abbrev pub MemberWithin : (s : Symbol) → Scope → List Open → (front : List ℕ) → (e : Term) → (at : ℕ) → State → Type 0
 MemberWithin s scope waits front e at st = Encoded s e at
 
--- the name of a member function, with nothing written before it
+-- the name of a member function has no return type, and nothing is written before it
 abbrev pub LeadsMember : (own : Term) → (front : List ℕ) → Type 0
 LeadsMember own front = (front ≡ []) × (has_return_type own ≡ false)
 
@@ -228,10 +228,10 @@ LeadsMember own front = (front ≡ []) × (has_return_type own ≡ false)
 abbrev pub AwaitsMemberParameters : (s : Symbol) → (w : Direct) → Mark → Type 0
 AwaitsMemberParameters s w mark = AwaitsLedParameters s w 6 mark nowhere (λ scope own front name. LeadsMember own front) (MemberWithin s)
 
--- One was read.
+-- A parameter of a member function was read.
 abbrev pub IsMemberParameterRead : (s : Symbol) → (w : Direct) → Mark → (to : ℕ) → Type 0
 IsMemberParameterRead s w mark to = IsLedParameterRead s w 6 mark nowhere (opens.Member mark to) (λ scope. IsMember to) (MemberWithin s)
 
--- It was read and written, except for its qualifiers.
+-- A member function was read and written, except for its qualifiers.
 abbrev pub IsMemberRead : (s : Symbol) → (w : Direct) → Mark → Type 0
 IsMemberRead s w mark = IsLedFunctionRead s w mark LeadsMember (MemberWithin s)

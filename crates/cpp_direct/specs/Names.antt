@@ -14,7 +14,7 @@ pub record IsReadable (s : List ℕ) : Type 0 where
   pub fits : FitsSymbol s
   pub plain : ReachesNameBytes Cpp s (length s)
 
--- The length of a name is at the place. The name's own bytes, as many as that, would be from here on.
+-- The length of a name is at the place: it is `size`, and the name's own bytes would begin at `from`.
 pub record IsLengthRead (s : List ℕ) (at from size : ℕ) : Type 0 where
   pub digits : List ℕ
   pub are_digits : AreDigitsOf Length digits
@@ -23,13 +23,13 @@ pub record IsLengthRead (s : List ℕ) (at from size : ℕ) : Type 0 where
   pub size_is : size ≡ value_of Length digits
   pub some : 0 < size
 
--- The code of an operator is at the place, and this is the place after it.
+-- The code of an operator is at the place, and `end` is the place after it.
 pub record IsOperatorAt (s : List ℕ) (at : ℕ) (first second : ℕ) (end : ℕ) : Type 0 where
   pub known : look_up (first ∷ second ∷ []) operator_texts ≢ []
   pub stands : StandsAt s at (first ∷ second ∷ [])
   pub ends : end ≡ at + 2
 
--- it is that of << or <
+-- the code is that of << or <
 abbrev pub is_angle : (first second : ℕ) → Bool
 is_angle first second = same_bytes (first ∷ second ∷ []) (codes "ls") || same_bytes (first ∷ second ∷ []) (codes "lt")
 
@@ -49,7 +49,7 @@ IsDestructorDigit is_wide digit = ((48 ≤ digit) × (digit ≤ 50)) ⊎ ((is_wi
 abbrev pub tag_text : (tag : List ℕ) → List ℕ
 tag_text tag = codes "[abi:" ++ tag ++ codes "]"
 
--- A name is at the place, and its own bytes are those from here to there.
+-- A name is at the place, and its own bytes are between `place.from` and `place.to`.
 pub record IsNamePlace (s : List ℕ) (at : ℕ) (place : NamePlace) : Type 0 where
   pub name : List ℕ
   pub is : IsNameAt s at name place.to

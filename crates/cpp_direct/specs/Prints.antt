@@ -16,20 +16,21 @@ use Rattle.cpp_direct.specs.declared.open.Holder.{Holder}
 use Rattle.cpp_direct.specs.declared.open.Holder.TheVariants as holders
 use Rattle.cpp_direct.specs.declared.open.Pattern.TheVariants as patterns
 
--- what is written of a tree in a form, wherever it is, in a detail
+-- what is written of a tree, in a detail, a form and a context
 abbrev pub written_of : Detail → Form → Context → Term → Unshared
 written_of detail form context t = written detail (record { tree = t; form = form; context = context })
 
--- a tree, in a form and in a context of its own, colons and a piece of a name
+-- the parts of a name: a tree, in a form and in a context of its own, then colons and a piece
 abbrev pub joined_to : Form → (own context : Context) → (t p : Term) → List (PartOf Item)
 joined_to form own context t p = as_item form own t ∷ says "::" ∷ as_item piece context p ∷ []
 
--- the name of a builtin type whose integers omit it is one of these words, or ends in one after a blank
+-- the bytes are `int` or `long`, or end in one of these words after a blank, as do the names of types whose integers omit the
+-- type
 abbrev pub EndsAsInteger : List ℕ → Type 0
 EndsAsInteger bytes =
     (front : List ℕ) × ((bytes ≡ codes "int") ⊎ (bytes ≡ front ++ codes " int") ⊎ (bytes ≡ codes "long") ⊎ (bytes ≡ front ++ codes " long"))
 
--- A tree with this text. It is a type, or the name of something; whether it is a reference is known.
+-- A tree with this text: a type, or the name of something. `reference` says whether it is a reference.
 pub record Prints (detail : Detail) (t : Term) (bytes : List ℕ) (reference : Bool) : Type 0 where
   pub left_text : (context : Context) → text_of (written_of detail left context t) ≡ bytes
   pub right_text : (context : Context) → text_of (written_of detail right context t) ≡ []
@@ -52,7 +53,7 @@ pub record PrintsName (detail : Detail) (t : Term) (bytes : List ℕ) : Type 0 w
   pub left_text : (context : Context) → text_of (written_of detail left context t) ≡ bytes
   pub cost : (context : Context) → 1 + cost_of (written_of detail left context t) + cost_of (written_of detail right context t) ≤ 4 * length bytes
 
--- A tree with this text in a context. It may cost this much more than one that has this text wherever it is.
+-- A tree with this text in a context. It may cost `extra` more than a tree that has the text in every context.
 pub record PrintsIn (detail : Detail) (context : Context) (extra : ℕ) (t : Term) (bytes : List ℕ) (reference : Bool) : Type 0 where
   pub left_text : text_of (written_of detail left context t) ≡ bytes
   pub right_text : text_of (written_of detail right context t) ≡ []
@@ -75,7 +76,8 @@ pub record PrintsAround (detail : Detail) (t : Term) (bytes : List ℕ) : Type 0
   pub packless : (scope : Term) → pack_length scope t ≡ None
   pub no_void : is_void t ≡ false
 
--- A tree that has this text as an argument, or as an element of a pack, where it may be such a reference.
+-- A tree that has this text as an argument or as an element of a pack. An element may be a reference that prints on both sides of
+-- a name.
 abbrev pub PrintsListed : (in_pack : Bool) → (detail : Detail) → Term → (bytes : List ℕ) → (reference : Bool) → Type 0
 PrintsListed false detail t bytes reference = Prints detail t bytes reference
 PrintsListed true detail t bytes reference = Prints detail t bytes reference ⊎ ((reference ≡ true) × PrintsAround detail t bytes)
@@ -91,15 +93,15 @@ pub record Named : Type 0 where
 abbrev pub Names : Type 0
 Names = (number : ℕ) → Option Named
 
--- in this context parameters name arguments with these texts
+-- in the context, parameters name arguments that have the texts in `names`
 abbrev pub IsGiven : (detail : Detail) → Names → Context → Type 0
 IsGiven detail names context = (number : ℕ) (own : Named) → names number ≡ Some own → Prints detail (argument context number) own.bytes own.reference
 
--- of these arguments those that may be named are no packs
+-- the arguments that may be named are no packs
 abbrev pub AreSingle : Names → (arguments : Term) → Type 0
 AreSingle names arguments = (number : ℕ) (own : Named) → names number ≡ Some own → length_if_pack (element arguments number) ≡ None
 
--- A tree that has this text where parameters name arguments with these texts.
+-- A tree that has this text wherever parameters name arguments with the texts in `names`.
 pub record PrintsGiven (detail : Detail) (names : Names) (t : Term) (bytes : List ℕ) (reference : Bool) : Type 0 where
   pub prints : (context : Context) → IsGiven detail names context → PrintsIn detail context 3 t bytes reference
   pub packless : (arguments : Term) → AreSingle names arguments → pack_length arguments t ≡ None
@@ -108,7 +110,7 @@ pub record PrintsGiven (detail : Detail) (names : Names) (t : Term) (bytes : Lis
   pub as_prefix : (context : Context) (p : Term) → component_parts context t p ≡ joined_to left context context t p
   pub opening : opening_text (last_piece t) ≡ codes "<"
 
--- a tree that has this text there, or anywhere
+-- a tree that has this text wherever parameters name the arguments in `names`, if it is dependent, and otherwise anywhere
 abbrev pub PrintsAs : (detail : Detail) → Names → (is_dependent : Bool) → Term → (bytes : List ℕ) → (reference : Bool) → Type 0
 PrintsAs detail names false t bytes reference = Prints detail t bytes reference
 PrintsAs detail names true t bytes reference = PrintsGiven detail names t bytes reference
@@ -129,7 +131,7 @@ made_by patterns.Lvalue t = lvalue t
 made_by patterns.ConstLvalue t = lvalue (as_const t)
 made_by patterns.Rvalue t = rvalue t
 
--- What it has after the text of a type, which is a reference or isn't. An rvalue reference to a reference is that reference.
+-- The marks that a pattern has after the text of a type. An rvalue reference to a reference is that reference, and has none.
 abbrev pub IsMarkedBy : Pattern → (reference : Bool) → (marks : List ℕ) → Type 0
 IsMarkedBy patterns.Same reference marks = marks ≡ []
 IsMarkedBy patterns.Lvalue reference marks = (reference ≡ false) × (marks ≡ codes "&")
@@ -142,13 +144,13 @@ abbrev pub PrintsMade : (detail : Detail) → Pattern → Term → List ℕ → 
 PrintsMade detail pattern t bytes =
     (own : List ℕ) × (reference : Bool) × (marks : List ℕ) × PrintsListed true detail t own reference × IsMarkedBy pattern reference marks × (bytes ≡ own ++ marks)
 
--- A tree that names its class this way before a constructor or a destructor.
+-- A tree whose class has this name before a constructor or a destructor.
 pub record NamesClass (detail : Detail) (t : Term) (class : List ℕ) : Type 0 where
   pub base_text : (context : Context) → text_of (written_of detail base context t) ≡ class
   pub base_cost : (context : Context) → cost_of (written_of detail left context t) + cost_of (written_of detail right context t) + cost_of (written_of detail base context t)
       ≤ 4 * (length (text_of (written_of detail left context t)) + length class)
 
--- A piece of a name with this text, where it is a component of another name.
+-- A piece of a name that has this text as a component of another name.
 pub record PrintsPiece (detail : Detail) (p : Term) (bytes : List ℕ) : Type 0 where
   pub piece_text : (context : Context) → text_of (written_of detail piece context p) ≡ bytes
   pub piece_cost : (context : Context) → cost_of (written_of detail piece context p) ≤ 4 * length bytes
@@ -162,7 +164,7 @@ pub record Shows (detail : Detail) (t : Term) (bytes : List ℕ) : Type 0 where
   pub shown_text : text_of (written_of detail full closed t) ≡ bytes
   pub shown_cost : 1 + cost_of (written_of detail full closed t) ≤ 4 * length bytes
 
--- An encoding that has this text before what is in it, in a detail.
+-- An encoding that has this text before the name of an entity in it, in a detail.
 pub record Encloses (detail : Detail) (t : Term) (bytes : List ℕ) : Type 0 where
   pub as_prefix : (context : Context) (p : Term) → component_parts context t p ≡ joined_to bare closed context t p
   pub bare_text : text_of (written_of detail bare closed t) ≡ bytes
@@ -170,13 +172,13 @@ pub record Encloses (detail : Detail) (t : Term) (bytes : List ℕ) : Type 0 whe
   pub is_closed : is_open t ≡ false
   pub packless : (scope : Term) → pack_length scope t ≡ None
 
--- what precedes a lambda has this text: the function that contains it, or the name so far that it extends
+-- what precedes a lambda has this text: the function that contains the lambda, or the name so far that the lambda extends
 abbrev pub Leads : (detail : Detail) → Holder → Term → (bytes : List ℕ) → Type 0
 Leads detail holders.Function e bytes = Encloses detail e bytes
 Leads detail (holders.Name purpose) e bytes = Prints detail e bytes false
 Leads detail (holders.Member mark) e bytes = Encloses detail e bytes
 
--- Such a text is written, from a place on.
+-- The text before a lambda is written, from a place on.
 pub record IsLed (detail : Detail) (holder : Holder) (from : ℕ) : Type 0 where
   pub e : Term
   pub front : List ℕ
@@ -201,7 +203,7 @@ joined [] = []
 joined (b ∷ []) = b
 joined (b ∷ c ∷ bs) = b ++ codes ", " ++ joined (c ∷ bs)
 
--- A tree prints this text as the element of a list. It may cost this much more than a type with that text.
+-- A tree prints this text as an element of a list. It may cost `extra` more than a type with the same text.
 pub record IsElement (detail : Detail) (extra : ℕ) (t : Term) (bytes : List ℕ) : Type 0 where
   pub both_texts : (context : Context) → text_of (written_of detail left context t) ++ text_of (written_of detail right context t) ≡ bytes
   pub cost : (context : Context) → 1 + cost_of (written_of detail left context t) + cost_of (written_of detail right context t) ≤ extra + 4 * length bytes
@@ -217,13 +219,13 @@ pub record IsElementIn (detail : Detail) (context : Context) (extra : ℕ) (t : 
   pub filled : is_empty context t ≡ false
   pub void : is_void t ≡ true → bytes ≡ codes "void"
 
--- Each tree prints its text, in this sense.
+-- Each tree prints its text, in the sense of `by`.
 abbrev pub PrintEachBy : (by : Term → List ℕ → Type 0) → List Term → List (List ℕ) → Type 0
 PrintEachBy by [] [] = Unit {0}
 PrintEachBy by (t ∷ ts) (b ∷ bs) = by t b × PrintEachBy by ts bs
 PrintEachBy by _ _ = ⊥
 
--- these elements print so
+-- the elements print this text, in the sense of `by`, with a comma and a blank between any two
 abbrev pub PrintAllBy : (by : Term → List ℕ → Type 0) → List Term → (bytes : List ℕ) → Type 0
 PrintAllBy by ts bytes = (texts : List (List ℕ)) × PrintEachBy by ts texts × (joined texts ≡ bytes)
 
@@ -240,16 +242,16 @@ PrintEachIn detail context extra ts texts = PrintEachBy (IsElementIn detail cont
 abbrev pub PrintAllIn : (detail : Detail) → Context → (extra : ℕ) → List Term → (bytes : List ℕ) → Type 0
 PrintAllIn detail context extra ts bytes = PrintAllBy (IsElementIn detail context extra) ts bytes
 
--- A tree prints this text as the element of a list where parameters name arguments with these texts.
+-- A tree prints this text as an element of a list wherever parameters name arguments with the texts in `names`.
 pub record IsElementGiven (detail : Detail) (names : Names) (extra : ℕ) (t : Term) (bytes : List ℕ) : Type 0 where
   pub prints : (context : Context) → IsGiven detail names context → IsElementIn detail context extra t bytes
   pub packless : (arguments : Term) → AreSingle names arguments → pack_length arguments t ≡ None
 
--- an element that prints so there, or anywhere
+-- an element that prints this text wherever parameters name the arguments in `names`, if it is dependent, and otherwise anywhere
 abbrev pub IsElementAs : (detail : Detail) → Names → (is_dependent : Bool) → (extra : ℕ) → Term → (bytes : List ℕ) → Type 0
 IsElementAs detail names false extra t bytes = IsElement detail extra t bytes
 IsElementAs detail names true extra t bytes = IsElementGiven detail names extra t bytes
 
--- these elements print so
+-- the elements print this text wherever parameters name the arguments in `names`, if they are dependent, and otherwise anywhere
 abbrev pub PrintAllAs : (detail : Detail) → Names → (is_dependent : Bool) → (extra : ℕ) → List Term → (bytes : List ℕ) → Type 0
 PrintAllAs detail names is_dependent extra ts bytes = PrintAllBy (IsElementAs detail names is_dependent extra) ts bytes

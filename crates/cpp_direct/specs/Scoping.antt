@@ -20,7 +20,7 @@ use Rattle.cpp_direct.specs.Prints.{Named, Names, Prints, PrintsAs, PrintsListed
 
 -- ## Places
 
--- where the encoding begins that a symbol has after no text
+-- the place where the encoding of a symbol begins if no text precedes it: after _Z, or after _ZZ in that of a local entity
 abbrev pub encoding_place : List ℕ → ℕ
 encoding_place s = cond (is_local s) 3 2
 
@@ -34,16 +34,16 @@ pub record IsBetween (text : List ℕ) (from to : ℕ) (bytes : List ℕ) : Type
 
 -- ## Arguments of templates
 
--- this text is at a place
+-- these bytes are at an argument's place in a text
 abbrev pub IsPlaced : (text : List ℕ) → Argument → (bytes : List ℕ) → Type 0
 IsPlaced text p bytes = IsBetween text p.from p.to bytes
 
--- no argument has a known position
+-- no argument has a known place
 abbrev pub nowhere : Arguments
 nowhere = record { from = 0; ends = replicate MOST_KNOWN 0; references = replicate MOST_KNOWN false; count = 0; encoding = 0; has_pack = false; before = 0; elements = 0 }
 
--- where the text with this number begins: the first one at a place, and any other after the end of the one before it, a comma
--- and a space
+-- where the text of the argument with this number begins: the first one at a place, and any other after the end of the one before
+-- it, a comma and a space
 abbrev pub begin_by : (from : ℕ) → (ends : List ℕ) → (number : ℕ) → ℕ
 begin_by from ends zero = from
 begin_by from ends (suc before) = get_or ends before 0 + 2
@@ -52,15 +52,15 @@ begin_by from ends (suc before) = get_or ends before 0 + 2
 abbrev pub place_of : Arguments → (number : ℕ) → Argument
 place_of a number = record { from = begin_by a.from a.ends number; to = get_or a.ends number 0; is_reference = get_or a.references number false }
 
--- it is known
+-- the argument with this number is known
 abbrev pub IsKnown : Arguments → (number : ℕ) → Type 0
 IsKnown a number = number < a.count
 
--- it is known, and no element of the pack
+-- the argument with this number is known, and no element of the pack
 abbrev pub IsSingle : Arguments → (number : ℕ) → Type 0
 IsSingle a number = IsKnown a number × (a.has_pack ≡ true → number < a.before)
 
--- what has this number among arguments, or among elements of a pack, is at a place
+-- the text of the argument with this number, or of the element of a pack, is at a place
 pub record IsAmong (in_pack : Bool) (detail : Detail) (text : List ℕ) (p : Argument) (number : ℕ) (ts : List Term) : Type 0 where
   pub bytes : List ℕ
   pub placed : IsPlaced text p bytes
@@ -83,7 +83,7 @@ pub record IsArgument (detail : Detail) (text : List ℕ) (p : Argument) (number
   pub there : (element all number ≡ own) × (number < count all)
   pub prints : Prints detail own bytes p.is_reference
 
--- among arguments the one with this number is a pack of these elements
+-- the argument with this number is a pack of these elements
 abbrev pub HasPack : (all : Term) → (number : ℕ) → List Term → Type 0
 HasPack all number ts = (element all number ≡ pack (list_of ts)) × (number < count all)
 
@@ -95,12 +95,12 @@ pub record OwnPack (detail : Detail) (text : List ℕ) (a : Arguments) (name : T
   pub there : HasPack all a.before elements
   pub are : IsPackOf detail text a elements
 
--- the known arguments of a name are at their places, and those of them that are in a pack
+-- the known arguments of a name are at their places, and so are the known elements of a pack among them
 abbrev pub HasArguments : (detail : Detail) (text : List ℕ) → Arguments → (name : Term) → Type 0
 HasArguments detail text a name =
     ((number : ℕ) → IsSingle a number → IsArgument detail text (place_of a number) number name) × (a.has_pack ≡ true → OwnPack detail text a name)
 
--- a parameter may name that argument here
+-- a parameter may name the argument with this number here; the argument is no pack
 pub record IsScope (number : ℕ) (around : Around) : Type 0 where
   pub own : Term
   pub all : Term
@@ -108,17 +108,17 @@ pub record IsScope (number : ℕ) (around : Around) : Type 0 where
   pub there : (element all number ≡ own) × (number < count all)
   pub no_pack : length_if_pack own ≡ None
 
--- a parameter may name a pack of these elements
+-- a parameter may name a pack of these elements here
 pub record IsPackThere (around : Around) (number : ℕ) (ts : List Term) : Type 0 where
   pub all : Term
   pub scope_is : around.scope ≡ Some all
   pub there : HasPack all number ts
 
--- if the place is known, the innermost encoding begins there, and none of its lambdas is read
+-- if the place is known, the innermost encoding begins there, and no lambda in it is being read
 abbrev pub IsEncodedAt : (place : ℕ) → Around → Type 0
 IsEncodedAt place around = place ≢ 0 → (around.encoding ≡ place) × (around.in_lambda ≡ false)
 
--- parameters may name the known arguments here, and the pack
+-- parameters may name the known arguments here, and the pack among them
 abbrev pub HasScope : Arguments → Around → Type 0
 HasScope a around =
     IsEncodedAt a.encoding around × ((number : ℕ) → IsSingle a number → IsScope number around)
@@ -129,7 +129,7 @@ abbrev pub is_type : Purpose → Bool
 is_type purposes.Type = true
 is_type _ = false
 
--- what is in it is in a type
+-- what the entry waits for is within a type
 abbrev pub is_within_type : Open → Bool
 is_within_type (opens.Pointer from) = true
 is_within_type (opens.Lvalue from) = true
@@ -141,7 +141,7 @@ is_within_type (opens.FirstArguments nest) = is_type nest.purpose
 is_within_type (opens.LevelArguments is_dependent) = true
 is_within_type _ = false
 
--- the arguments that its types may name
+-- the arguments that types may name in what the entry waits for
 abbrev pub arguments_in : Open → Option Arguments
 arguments_in (opens.Front mark start argument) = Some argument
 arguments_in (opens.Parameters mark start argument) = Some argument
@@ -151,39 +151,39 @@ arguments_in (opens.AddressedFront mark to argument) = Some argument
 arguments_in (opens.Addressed mark to argument) = Some argument
 arguments_in _ = None
 
--- the arguments that a type may name
+-- the arguments that a type may name where these entries are open
 abbrev pub argument_of : List Open → Option Arguments
 argument_of [] = None
 argument_of (o ∷ rest) = elim (is_within_type o) [ true ↦ argument_of rest | false ↦ arguments_in o ]
 
--- What types may name: the arguments of the symbol's own name, where they are known, or of the name of a function whose address is
--- read, and their texts.
+-- What types may name: the known arguments of the symbol's own name, or of the name of a function whose address is read, and
+-- their texts.
 pub record Scope : Type 0 where
   pub arguments : Arguments
   pub names : Names
 
--- nothing
+-- nothing may be named
 abbrev pub no_scope : Scope
 no_scope = record { arguments = nowhere; names = λ number. None }
 
--- the arguments that may be named have these texts at their places
+-- each argument that may be named has the text that the scope gives it at its place
 abbrev pub AreNamed : (text : List ℕ) → Scope → Type 0
 AreNamed text scope =
     (number : ℕ) → IsSingle scope.arguments number → (bytes : List ℕ)
     × (scope.names number ≡ Some (record { bytes = bytes; reference = (place_of scope.arguments number).is_reference }))
     × IsPlaced text (place_of scope.arguments number) bytes
 
--- those of them that have texts are no packs
+-- the arguments that have texts are no packs
 abbrev pub HasSingles : Scope → Type 0
 HasSingles scope = (number : ℕ) (own : Named) → scope.names number ≡ Some own → IsSingle scope.arguments number
 
 -- ## Candidates
 
--- it was made in the encoding whose arguments may be named, and the beginning of that is known
+-- the encoding is the one whose arguments may be named, and its beginning is known
 abbrev pub IsMadeIn : Scope → (encoding : ℕ) → Type 0
 IsMadeIn scope encoding = (encoding ≡ scope.arguments.encoding) × (scope.arguments.encoding ≢ 0)
 
--- What a substitution may name prints the text at its place. Where it names arguments they are those that types may name.
+-- A candidate prints the text at its place. If it names arguments of the function's template, types may name these arguments.
 pub record IsCandidate (s : Symbol) (scope : Scope) (text : List ℕ) (k : Candidate) (c : values.Candidate) : Type 0 where
   pub bytes : List ℕ
   pub placed : IsBetween text k.from k.to bytes
@@ -191,30 +191,30 @@ pub record IsCandidate (s : Symbol) (scope : Scope) (text : List ℕ) (k : Candi
   pub prints : PrintsAs (detail_of s) scope.names k.is_dependent c.tree bytes k.is_reference
   pub made_in : k.is_dependent ≡ true → IsMadeIn scope c.encoding
 
--- each candidate satisfies this, except for those that end before they begin, which are unknown
+-- each candidate prints the text at its place, except for those that end before they begin: their texts are unknown
 abbrev pub AreCandidates : (s : Symbol) → Scope → (text : List ℕ) → List Candidate → List values.Candidate → Type 0
 AreCandidates s scope text [] [] = Unit {0}
 AreCandidates s scope text (k ∷ ks) (c ∷ cs) = (k.from ≤ k.to → IsCandidate s scope text k c) × AreCandidates s scope text ks cs
 AreCandidates s scope text _ _ = ⊥
 
--- What a writer keeps: its candidates, and the arguments that types may name. None of these is known before the symbol's own
--- name, except for those of a function whose address is an argument of that name. After an object's name there are no types.
+-- What a writer keeps: its candidates, and the arguments that types may name. Before the end of the symbol's own name no argument
+-- is known, except for those of a function whose address is an argument of that name. After an object's name there are no types.
 pub record Keeps (s : Symbol) (scope : Scope) (w : Direct) (cs : List values.Candidate) : Type 0 where
   pub candidates : AreCandidates s scope w.text.list.items w.candidates.list.items cs
   pub named : AreNamed w.text.list.items scope
   pub single : HasSingles scope
   pub unknown : w.has_scope ≡ false → (scope ≡ no_scope) × (is_object s.bytes ≡ false)
 
--- a writer keeps this up to here
+-- what a writer keeps, with a state and a scope
 pub record Kept (s : Symbol) (w : Direct) : Type 0 where
   pub state : State
   pub scope : Scope
   pub keeps : Keeps s scope w state.candidates
 
--- if there are any, parameters may name them
+-- if types may name arguments where these entries are open, the scope has these arguments, and parameters may name them here
 abbrev pub IsScoped : Scope → Around → List Open → Type 0
 IsScoped scope around open_ = (a : Arguments) → argument_of open_ ≡ Some a → (scope.arguments ≡ a) × HasScope a around
 
--- types name its arguments here, and the beginning of their encoding is known
+-- types may name the arguments of the scope here, and the beginning of the arguments' encoding is known
 abbrev pub IsNaming : Scope → List Open → Type 0
 IsNaming scope open_ = (argument_of open_ ≡ Some scope.arguments) × (scope.arguments.encoding ≢ 0)

@@ -36,12 +36,12 @@ symbol_as is_wide Brief bytes = symbol_by is_wide false true bytes
 symbol_as is_wide NoParameters bytes = symbol_by is_wide true false bytes
 symbol_as is_wide BriefNoParameters bytes = symbol_by is_wide true true bytes
 
--- the table of that grammar
+-- the table of the wide grammar, or of the ABI's
 abbrev pub table_by : (is_wide : Bool) → Table
 table_by true = wide
 table_by false = abi
 
--- the promise about the symbols of that grammar
+-- the promise about the symbols of the wide grammar, or of the ABI's
 abbrev pub mangled_by : (is_wide : Bool) → Mangled Term
 mangled_by true = wide_mangled
 mangled_by false = cpp_mangled

@@ -1,5 +1,5 @@
--- What a writer's lists say while a symbol is read: the open entries wait for what comes next, and what was written is its
--- text.
+-- What a writer's lists say while a symbol is read: the open entries wait for what comes next, and the written bytes are the text
+-- of what was read.
 use Rattle.sym_print.specs.declared.detail.Detail.{Detail}
 use Rattle.std.specs.Prelude.{◌≡◌, ◌≢◌, ◌⊎◌, ℕ, ◌+◌, ◌*◌, ◌≤◌, ◌<◌, List, [], ◌∷◌, ◌++◌, ◌-◌, length, take, drop, reverse, Bool, true, false, Option, Some, None, Ok, codes, ◌&&◌}
 use Rattle.sym_print.specs.Unshared.{text_of, cost_of}
@@ -51,21 +51,21 @@ pub record Encoded (s : Symbol) (e : Term) (at : ℕ) : Type 0 where
   pub ends_in : (suffix : List ℕ) → StandsAt s.bytes at suffix → at + length suffix ≡ length s.bytes → IsSuffix suffix
       → StandsFor (mangled_of s) s.bytes (Ok (symbol e suffix))
 
--- An encoding with this tree ends the symbol at the place, after a text: what the whole makes of it shows the text before its
--- own. For a thunk that text says that it is one; otherwise it is empty.
+-- An encoding with this tree ends the symbol at the place. The symbol shows `lead` and then the encoding: `lead` says what a
+-- thunk or a clone is, and is empty for other symbols.
 pub record EndsBehind (s : Symbol) (lead : List ℕ) (e : Term) (at : ℕ) : Type 0 where
   pub made : Term
   pub encoded : Encoded s made at
   pub shows : (bytes : List ℕ) → Shows (detail_of s) e bytes → Shows (detail_of s) made (lead ++ bytes)
 
--- Likewise for an entity in the encoding, with this name: it shows the text, and that of the encoding and of the name.
+-- Likewise for an entity with this name in the encoding: the symbol shows `lead`, the encoding and the name.
 pub record EntityBehind (s : Symbol) (lead : List ℕ) (e : Term) (name : List ℕ) (at : ℕ) : Type 0 where
   pub made : Term
   pub encoded : Encoded s made at
   pub shows : (bytes : List ℕ) → Encloses (detail_of s) e bytes → Shows (detail_of s) made (lead ++ (bytes ++ codes "::" ++ source_text name))
 
--- The name of an encoding that begins at a place was read, and items may follow. Together they make an encoding, which becomes
--- something.
+-- The name of an encoding that begins at a place was read, and items may follow. `becomes` says what the encoding becomes that
+-- the name and the items make.
 pub record ItemsOf (s : Symbol) (encoding : ℕ) (becomes : Term → (at : ℕ) → State → Type 0) (v : Value) (at : ℕ) (st : State) : Type 0 where
   pub around : Around
   pub inner : List Opened
@@ -76,22 +76,23 @@ pub record ItemsOf (s : Symbol) (encoding : ℕ) (becomes : Term → (at : ℕ) 
   pub awaits : Expects s Kind.Items around inner at st
   pub onward : (l : Value) (at : ℕ) (st : State) → Comes s inner l at st → becomes (encoding_of v (no_items l)) at st
 
--- Likewise for a member function of a local entity: what is read as the encoding has the same text before what is in it, and its own name
--- is read next.
+-- Likewise for a member function of a local entity: what is read as the encoding has the encoding's text before the entity, and
+-- the member function's name is expected next.
 pub record MemberBehind (s : Symbol) (lead : List ℕ) (e : Term) (at : ℕ) (st : State) : Type 0 where
   pub none : lead ≡ []
   pub made : Term
   pub encloses : (bytes : List ℕ) → Encloses (detail_of s) e bytes → Encloses (detail_of s) made bytes
   pub opens : MemberOpened s (λ v there now. ItemsOf s 2 (λ f end last. Encoded s f end) v there now) made at st
 
--- An encoding with this tree ends at the place, after a text. It ends the symbol, or a local entity follows it, or a member of one.
+-- An encoding with this tree ends at the place, after a text. The symbol ends there, or the name of a local entity, or of its
+-- member function, follows.
 pub record EncodedBehind (s : Symbol) (lead : List ℕ) (e : Term) (at : ℕ) (st : State) : Type 0 where
   pub whole : is_local s.bytes ≡ false → EndsBehind s lead e at
   pub entity : is_local s.bytes ≡ true → (internal : Bool) (name : List ℕ) (digit : Discriminator) (end : ℕ) → IsEntityAt s.bytes at internal name digit end
       → EntityBehind s lead e name end
   pub member : is_local s.bytes ≡ true → StandsAt s.bytes 2 (90 ∷ []) → MemberBehind s lead e at st
 
--- the name of an encoding after a text was read, and items may follow
+-- the name of an encoding was read after a text, and items may follow
 pub record TakesItems (s : Symbol) (lead : List ℕ) (v : Value) (at : ℕ) (st : State) : Type 0 where
   pub around : Around
   pub inner : List Opened
@@ -102,7 +103,7 @@ pub record TakesItems (s : Symbol) (lead : List ℕ) (v : Value) (at : ℕ) (st 
   pub awaits : Expects s Kind.Items around inner at st
   pub onward : (l : Value) (at : ℕ) (st : State) → Comes s inner l at st → EncodedBehind s lead (encoding_of v (no_items l)) at st
 
--- the name of an encoding after a text was read, or of the symbol's object, after which no items follow
+-- the name of an encoding was read after a text; items may follow, unless it is the name of the symbol's object
 pub record AwaitsItems (s : Symbol) (lead : List ℕ) (v : Value) (at : ℕ) (st : State) : Type 0 where
   pub ends : EncodedBehind s lead (encoding_of v nil) at st
   pub items : is_object s.bytes ≡ false → TakesItems s lead v at st
@@ -114,7 +115,7 @@ pub record IsWhole (s : Symbol) (text : List ℕ) : Type 0 where
   pub text_is : text_of (written (detail_of s) (root_item whole)) ≡ text
   pub cost : cost_of (written (detail_of s) (root_item whole)) ≤ 4 * length text
 
--- The symbol is shown by this text, which costs at most four times its length.
+-- The symbol is shown as this text, at a cost of at most four times `most`.
 pub record IsShown (s : Symbol) (most : ℕ) (text : List ℕ) : Type 0 where
   pub whole : Term
   pub stands : StandsFor (mangled_of s) s.bytes (Ok whole)
@@ -143,12 +144,12 @@ pub record HasNameSo (s : Symbol) (text : List ℕ) (mark : Mark) (from : ℕ) :
   pub from_is : from ≡ length lead
   pub prints : PrintsName (detail_of s) own name
 
--- a nested name is that of a function or of data
+-- a nested name is read as the name of a function or of data, not as a type
 abbrev pub IsOwn : Purpose → Type 0
 IsOwn purposes.Type = ⊥
 IsOwn _ = Unit {0}
 
--- a name so far, with these bytes after a front
+-- a nested name so far, with these bytes after a front
 pub record IsNest (detail : Detail) (names : Names) (front bytes text : List ℕ) (nest : Nest) (t : Term) : Type 0 where
   pub back : List ℕ
   pub written : text ≡ front ++ bytes ++ back
@@ -161,7 +162,7 @@ pub record IsNest (detail : Detail) (names : Names) (front bytes text : List ℕ
 
 -- ## Lists
 
--- a list of these elements, and of those after them
+-- a list of these elements, and then of those in `rest`
 abbrev pub list_with : List Term → Term → Term
 list_with [] rest = rest
 list_with (t ∷ ts) rest = list t (list_with ts rest)
@@ -170,12 +171,12 @@ list_with (t ∷ ts) rest = list t (list_with ts rest)
 abbrev pub IsTail : Term → Type 0
 IsTail rest = (rest ≡ nil) ⊎ (rest ≡ list (pack nil) nil)
 
--- the text of elements so far, before the next one
+-- the text of the elements so far, and a comma and a space after it if there are any
 abbrev pub in_front_of_next : List Term → List ℕ → List ℕ
 in_front_of_next [] l = l
 in_front_of_next (t ∷ ts) l = l ++ codes ", "
 
--- Parameters continue after these. Together they make an encoding, which becomes something. They may name arguments.
+-- Parameters continue after these, and may name arguments. `becomes` says what the encoding becomes that all of them make.
 pub record ItemsGoOn (s : Symbol) (argument : Arguments) (becomes : Term → (at : ℕ) → State → Type 0) (make : Term → Term) (ts : List Term) (at : ℕ) (st : State) : Type 0 where
   pub around : Around
   pub inner : List Opened
@@ -184,7 +185,7 @@ pub record ItemsGoOn (s : Symbol) (argument : Arguments) (becomes : Term → (at
   pub awaits : Expects s Kind.Items around inner at st
   pub onward : (l : Value) (at : ℕ) (st : State) → Comes s inner l at st → becomes (make (list_with ts (no_items l))) at st
 
--- They are those of an encoding after a text.
+-- The parameters of an encoding after a text continue after these.
 abbrev pub ParametersGoOn : (s : Symbol) → (argument : Arguments) → (lead : List ℕ) → (make : Term → Term) → (ts : List Term) → (at : ℕ) → State → Type 0
 ParametersGoOn s argument lead make ts at st = ItemsGoOn s argument (λ e here now. EncodedBehind s lead e here now) make ts at st
 
@@ -192,16 +193,16 @@ ParametersGoOn s argument lead make ts at st = ItemsGoOn s argument (λ e here n
 abbrev pub plain_encoding : (mark : Mark) → (own : Term) → (items : Term) → Term
 plain_encoding mark own items = function own (qualifiers (has_const mark)) (called_on mark) absent (parameters items)
 
--- This name of the symbol's own prints this text. The known arguments that it ends in are at their places, and are those that types may
--- name.
+-- The symbol's own name prints this text. The known arguments that the name ends in are at their places, and are those that types
+-- may name.
 pub record IsOwnName (detail : Detail) (scope : Scope) (text : List ℕ) (argument : Arguments) (own : Term) (name : List ℕ) : Type 0 where
   pub prints : PrintsName detail own name
   pub names : HasArguments detail text argument own
   pub given : IsGiven detail scope.names (types_of own)
   pub named : scope.arguments ≡ argument
 
--- A function's name and the parameters so far, with their texts, and what each may cost beyond its text. All parameters make a
--- function that has no return type.
+-- A function's name and its parameters so far, with their texts; each parameter may cost `extra` beyond its text. All parameters
+-- together make a function that has no return type.
 pub record IsFunction (detail : Detail) (extra : ℕ) (scope : Scope) (text : List ℕ) (argument : Arguments) (mark : Mark) (make : Term → Term) (ts : List Term) (name texts : List ℕ) : Type 0 where
   pub own : Term
   pub makes : (t rest : Term) → make (list t rest) ≡ plain_encoding mark own (list t rest)
@@ -209,8 +210,8 @@ pub record IsFunction (detail : Detail) (extra : ℕ) (scope : Scope) (text : Li
   pub open is_own use *
   pub elements : PrintAllIn detail (types_of own) extra ts texts
 
--- What is written of a function before its parameters. Its text begins at this place in it. Where only the names of functions
--- are shown, it ends there.
+-- What is written of a function before its parameters. The function's text begins at `start`, or ends there if only the names of
+-- functions are shown.
 abbrev pub Fronts : (is_bare : Bool) → (front : List ℕ) → (start : ℕ) → (lead name : List ℕ) → Type 0
 Fronts false front start lead name = (aside : List ℕ) × (front ≡ aside ++ lead ++ name) × (start ≡ length aside)
 Fronts true front start lead name =
@@ -225,7 +226,7 @@ pub record HasParameters (s : Symbol) (extra : ℕ) (scope : Scope) (text : List
   pub is_function : IsFunction (detail_of s) extra scope text argument mark make ts name texts
   pub fronts : Fronts s.is_bare front start lead name
 
--- They are written after a text. All parameters make a function that has some return type, or none.
+-- A function and its parameters are written after a text. All parameters make a function that has some return type, or none.
 pub record IsLedFunction (detail : Detail) (extra : ℕ) (mark : Mark) (ts : List Term) (texts : List ℕ) : Type 0 where
   pub front : List ℕ
   pub name : List ℕ
@@ -237,22 +238,22 @@ pub record IsLedFunction (detail : Detail) (extra : ℕ) (mark : Mark) (ts : Lis
   pub none : has_return_type own ≡ false → returned ≡ absent
   pub elements : PrintAllIn detail (types_of own) extra ts texts
 
--- They are written, and this holds of the function's name after that text.
+-- Likewise, and `Leads` holds of the function's name and the text before the name.
 pub record HasLed (detail : Detail) (extra : ℕ) (mark : Mark) (Leads : (own : Term) → (front name : List ℕ) → Type 0) (ts : List Term) (texts : List ℕ) : Type 0 where
   pub is_led : IsLedFunction detail extra mark ts texts
   pub open is_led use *
   pub leads : Leads own front name
 
--- It is written from a place on, up to another one.
+-- The name of a function that contains a type is written between two places.
 abbrev pub IsEnclosing : (from to : ℕ) → (own : Term) → (front name : List ℕ) → Type 0
 IsEnclosing from to own front name = (from ≡ length front) × (to ≡ length (front ++ name))
 
--- The name of a member function of a local entity begins what is written, up to a place. It has no return type.
+-- The name of a member function of a local entity is the first that is written, up to a place. The name has no return type.
 abbrev pub IsMember : (to : ℕ) → (own : Term) → (front name : List ℕ) → Type 0
 IsMember to own front name = (front ≡ []) × (to ≡ length (front ++ name)) × (has_return_type own ≡ false)
 
--- The name of a function whose address is an argument is written up to this place. The known arguments that it ends in are at their
--- places in what is written up to there, and are those that types may name. It is in no object's name.
+-- The name of a function whose address is an argument is written up to a place. The known arguments that the name ends in are at
+-- their places before that, and are those that types may name. The function is in no object's name.
 pub record IsAddressed (s : Symbol) (scope : Scope) (to : ℕ) (argument : Arguments) (own : Term) (front name : List ℕ) : Type 0 where
   pub to_is : to ≡ length (front ++ name)
   pub given : IsGiven (detail_of s) scope.names (types_of own)
@@ -260,11 +261,11 @@ pub record IsAddressed (s : Symbol) (scope : Scope) (to : ℕ) (argument : Argum
   pub there : AreNamed (front ++ name) scope
   pub typed : is_object s.bytes ≡ false
 
--- Likewise that of an instance of a function template which contains a type, from a place on.
+-- Likewise for the name of an instance of a function template that contains a type, from a place on.
 abbrev pub IsScopedWithin : (s : Symbol) → Scope → (from to : ℕ) → Arguments → (own : Term) → (front name : List ℕ) → Type 0
 IsScopedWithin s scope from to argument own front name = (from ≡ length front) × IsAddressed s scope to argument own front name
 
--- The name of such a function is written, and this holds of it after what precedes it. The function has a return type.
+-- The name of a function that has a return type is written, and `Leads` holds of the name and the text before it.
 pub record HasInnerFront (s : Symbol) (text : List ℕ) (mark : Mark) (Leads : (own : Term) → (front name : List ℕ) → Type 0) : Type 0 where
   pub from : ℕ
   pub has : HasNameSo s text mark from
@@ -280,7 +281,8 @@ pub record IsInstance (detail : Detail) (scope : Scope) (text : List ℕ) (argum
   pub is_own : IsOwnName detail scope text argument own name
   pub open is_own use *
 
--- It is written, up to this place, after a text that is empty where there is no local entity.
+-- The name of a function that has a return type is written up to this place, after a text that is empty unless an entity is
+-- local.
 pub record HasInstance (s : Symbol) (scope : Scope) (text : List ℕ) (mark : Mark) (start : ℕ) (argument : Arguments) : Type 0 where
   pub v : Value
   pub lead : List ℕ
@@ -292,35 +294,36 @@ pub record HasInstance (s : Symbol) (scope : Scope) (text : List ℕ) (mark : Ma
 
 -- ## What is open
 
--- What is open below: what waits for a value, after this text; what types may name there; and that they do so.
+-- What is open below an entry: what waits for a value after a text; what types may name there; and that they may name the scope's
+-- arguments.
 pub record Below : Type 1 where
   pub waits : List Opened → (text : List ℕ) → Type 0
   pub scoped : Around → Type 0
   pub naming : Type 0
 
--- types may name in it what they may name below, if it is in a type
+-- types in the entry may name what types below may name, if the entry is in a type
 abbrev pub scoped_in : Open → Below → Around → Type 0
 scoped_in entry below around = is_within_type entry ≡ true → below.scoped around
 
--- An accepted type is marked.
+-- The entry accepts a type and marks it, and the entry below accepts the marked type.
 abbrev pub Marks : (s : Symbol) → Below → List Opened → (text : List ℕ) → (from : ℕ) → (made : Term → Term) → Type 0
 Marks s below os text from made =
     (outer : List Opened) × (around : Around) × (from ≡ length text) × TypePasses s os outer around made × below.scoped around × below.waits outer text
 
--- An encoding with this tree ends at the place, and the entry below accepts a type that is in it, after this text.
+-- An encoding with this tree ends at the place; the entry below accepts a type that is in the encoding, after this text.
 abbrev pub TypeWithin : (s : Symbol) → Below → (front : List ℕ) → (e : Term) → (at : ℕ) → State → Type 0
 TypeWithin s below front e at st =
     (outer : List Opened) × (around : Around)
     × (StandsAt s.bytes at (69 ∷ []) → EntityOpened s (λ t end now. Comes s outer (tree t true) end (with_candidate around t now)) e (at + 1) st)
     × below.waits outer front
 
--- A function with this tree ends at the place, and its address is accepted by the entry below, after this text without its &.
+-- A function with this tree ends at the place; the entry below accepts its address, after this text without the & at its end.
 abbrev pub AddressWithin : (s : Symbol) → Below → (front : List ℕ) → (e : Term) → (at : ℕ) → State → Type 0
 AddressWithin s below front e at st =
     (outer : List Opened) × (before : List ℕ) × (front ≡ before ++ codes "&")
     × (StandsAt s.bytes at (69 ∷ 69 ∷ []) → Comes s outer (tree (address_of e) true) (at + 2) st) × below.waits outer before
 
--- An accepted nested name is what it is read as, and what types may name in it.
+-- What an accepted nested name becomes, by the purpose for which it is read, and what types in it may name.
 abbrev pub Serves : (s : Symbol) → Purpose → Below → List Opened → (front : List ℕ) → Type 0
 Serves s purposes.Type below os front =
     (outer : List Opened) × (around : Around)
@@ -338,7 +341,8 @@ Serves s (purposes.Address mark) below os front =
     → Comes s outer (named t (qualifiers (has_const mark)) (called_on mark)) at st)
     × below.waits outer front
 
--- This much was read of the nested name of a member function with these qualifiers, in an encoding: what the whole becomes.
+-- The nested name of a member function with these qualifiers, in an encoding, is read as far as a tree; the whole names the
+-- symbol's encoding.
 pub record MemberGoesOn (s : Symbol) (mark : Mark) (e t : Term) (at : ℕ) (st : State) : Type 0 where
   pub outer : List Opened
   pub around : Around
@@ -346,8 +350,8 @@ pub record MemberGoesOn (s : Symbol) (mark : Mark) (e t : Term) (at : ℕ) (st :
   pub ends : (u : Term) (listed : Bool) (at : ℕ) (st : State) → Comes s outer (tree u listed) at st
       → ItemsOf s 2 (λ f end last. Encoded s f end) (member_in e u (qualifiers (has_const mark)) (called_on mark)) at st
 
--- A lambda was read after this tree, as a type in a function before its discriminator, or as a component of a nested name: what
--- it becomes.
+-- What a lambda becomes that was read after a tree: a type in a function, before its discriminator; a component of a nested name;
+-- or an entity with a member function.
 abbrev pub LambdaComes : (s : Symbol) → Holder → Below → (front : List ℕ) → (e : Term) → (lambda : Term) → (at : ℕ) → State → Type 0
 LambdaComes s holders.Function below front e p at st =
     (outer : List Opened) × (around : Around)
@@ -359,11 +363,11 @@ LambdaComes s (holders.Name purpose) below front e p at st =
     × (is_type purpose ≡ true → below.scoped around) × Serves s purpose below outer front
 LambdaComes s (holders.Member mark) below front e p at st = (front ≡ []) × MemberGoesOn s mark e (within e p) at st
 
--- Its parameters were read, before the E after them.
+-- What a lambda becomes once its parameters are read, up to the E after them.
 abbrev pub LambdaWithin : (s : Symbol) → Holder → Below → (front : List ℕ) → (e : Term) → (items : Term) → (at : ℕ) → State → Type 0
 LambdaWithin s holder below front e items at st = LambdaEnds s (LambdaComes s holder below front e) items at st
 
--- An instance is read, after this text: what it becomes.
+-- What an instance becomes that was read after this text, by the entry that was open for its arguments.
 abbrev pub Owns : (s : Symbol) → Open → Below → (front : List ℕ) → Term → (at : ℕ) → State → Type 0
 Owns s (opens.TypeArguments from is_dependent) below front u at st =
     (outer : List Opened) × (around : Around) × Comes s outer (tree u true) at (with_candidate around u st)
@@ -379,7 +383,7 @@ Owns s (opens.LevelArguments is_dependent) below front u at st =
     (outer : List Opened) × MemberComes s outer u at st × (is_dependent ≡ true → below.naming) × below.waits outer front
 Owns s _ below front u at st = ⊥
 
--- elements continue after these, up to an E, with what the list that they make becomes
+-- elements continue after these, up to an E; `closes` says what the list of all of them becomes
 abbrev pub ElementsGoOn : (s : Symbol) → Kind → (scoped : Around → Type 0) → (closes : Term → (at : ℕ) → State → Type 0) → List Term → (at : ℕ) → State → Type 0
 ElementsGoOn s kind scoped closes ts at st =
     (around : Around) × (inner : List Opened) × (around.prefix ≡ outermost) × scoped around × Expects s kind around inner at st
@@ -390,22 +394,22 @@ abbrev pub ArgumentsGoOn : (s : Symbol) → Open → Below → (front : List ℕ
 ArgumentsGoOn s owner below front template ts at st =
     ElementsGoOn s Kind.ArgumentList (scoped_in owner below) (λ l now then. Owns s owner below front (instance template l) now then) ts at st
 
--- the list that is read: the arguments of a template, or a pack among them, after these and their text
+-- the list that is read: the arguments of a template, or a pack among them, after the arguments `before` with the text `written`
 pub data Listing : Type 0 where
   of_template : Listing
   of_pack : (before : List Term) → (written : List ℕ) → Listing
 
--- what its elements are read as
+-- the kind as which the rest of the list is expected
 abbrev pub element_kind : Listing → Kind
 element_kind of_template = Kind.ArgumentList
 element_kind (of_pack before written) = Kind.PackList
 
--- what each of them may cost beyond its text
+-- what each element of the list may cost beyond its text
 abbrev pub extra_of : Listing → ℕ
 extra_of of_template = 3
 extra_of (of_pack before written) = 0
 
--- whether it is noted that arguments of the open entry, or its name, name arguments of the function's template
+-- whether the open entry notes that its name, or one of its arguments so far, names arguments of the function's template
 abbrev pub is_noted : Open → Bool
 is_noted (opens.TypeArguments from is_dependent) = is_dependent
 is_noted (opens.NestArguments nest) = nest.is_dependent
@@ -413,12 +417,12 @@ is_noted (opens.FirstArguments nest) = nest.is_dependent
 is_noted (opens.LevelArguments is_dependent) = is_dependent
 is_noted _ = false
 
--- whether elements of the list may do so
+-- whether elements of the list may name arguments of the function's template
 abbrev pub may_name : Listing → Open → Bool
 may_name of_template owner = is_noted owner
 may_name (of_pack before written) owner = false
 
--- the text before them
+-- the text before the elements of the list
 abbrev pub led_by : Detail → Listing → (front name : List ℕ) → List ℕ
 led_by detail of_template front name = front ++ name ++ opening_bracket detail
 led_by detail (of_pack before written) front name = front ++ name ++ opening_bracket detail ++ in_front_of_next before written
@@ -434,7 +438,7 @@ abbrev pub GoesOn : (s : Symbol) → Listing → Open → Below → (front : Lis
 GoesOn s listing owner below front template ts at st =
     ElementsGoOn s (element_kind listing) (scoped_in owner below) (λ l now then. Closes s listing owner below front template l now then) ts at st
 
--- those that are known are among these: arguments, or some of them and elements of a pack after them
+-- each known argument is at its place, and is one of these: arguments, or some arguments and then elements of a pack
 abbrev pub AreAmong : (is_pack : Bool) → (detail : Detail) (text : List ℕ) → Arguments → List Term → Type 0
 AreAmong is_pack detail text a ts =
     ((number : ℕ) → IsKnown a number → (is_pack ≡ true → number < a.before) → IsAmong false detail text (place_of a number) number ts)
@@ -452,7 +456,7 @@ IsTemplate detail names (opens.NameArguments from) front template name text =
 IsTemplate detail names (opens.LevelArguments is_dependent) front template name text = Prints detail template name false
 IsTemplate detail names _ front template name text = ⊥
 
--- accepts a type as an element
+-- accepts a type as an element of the list
 abbrev pub AwaitsElementOf : (s : Symbol) → Names → Listing → Open → Below → List Opened → (text : List ℕ) → Type 0
 AwaitsElementOf s names listing owner below os text =
     (front : List ℕ) × (template : Term) × (name : List ℕ) × (ts : List Term) × (elements : List ℕ)
@@ -460,19 +464,19 @@ AwaitsElementOf s names listing owner below os text =
     × (text ≡ led_by (detail_of s) listing front name ++ in_front_of_next ts elements)
     × ((t : Term) (at : ℕ) (st : State) → Comes s os (tree t true) at st → GoesOn s listing owner below front template (ts ++ t ∷ []) at st)
 
--- the arguments of a name, or a pack among them after these and their text
+-- the list of a name's arguments, or of a pack among them, after the arguments `before` with the text `written`
 abbrev pub arguments_or_pack : (is_pack : Bool) → (before : List Term) → (written : List ℕ) → Listing
 arguments_or_pack false before written = of_template
 arguments_or_pack true before written = of_pack before written
 
--- these arguments precede a pack, and none precede a plain argument; none of them ends in a pack so far
+-- these arguments precede the pack if a pack is read, and otherwise there are none; no pack is known so far
 pub record ComeBefore (detail : Detail) (is_pack : Bool) (known : Arguments) (before : List Term) (written : List ℕ) : Type 0 where
   pub none : is_pack ≡ false → before ≡ []
   pub prints : PrintAll detail 3 before written
   pub count_is : is_pack ≡ true → known.before ≡ length before
   pub no_pack : known.has_pack ≡ false
 
--- accepts a type as an argument of a name with this number, or as an element of such a pack
+-- accepts a type as an argument of a name, or as an element of a pack among the arguments; `number` others precede it
 abbrev pub AwaitsArgument : (s : Symbol) → Names → (is_pack : Bool) → (from number : ℕ) → (known : Arguments) → (owner : Open) → Below → List Opened
     → (text : List ℕ) → Type 0
 AwaitsArgument s names is_pack from number known owner below os text =
@@ -491,7 +495,7 @@ EnumeratorGoesOn s listing owner below front template ts t at st =
     → IsDigitsAt s.bytes (at + length (minus_sign negative)) digits end → StandsAt s.bytes end (69 ∷ [])
     → GoesOn s listing owner below front template (ts ++ integer t (signed_digits negative digits) ∷ []) (end + 1) st
 
--- accepts a type as that of an enumerator, which is an element
+-- accepts a type as the type of an enumerator that is an element
 abbrev pub AwaitsEnumerator : (s : Symbol) → Names → Listing → Open → Below → List Opened → (text : List ℕ) → Type 0
 AwaitsEnumerator s names listing owner below os text =
     (front : List ℕ) × (template : Term) × (name : List ℕ) × (ts : List Term) × (elements : List ℕ)
@@ -499,7 +503,7 @@ AwaitsEnumerator s names listing owner below os text =
     × (text ≡ led_by (detail_of s) listing front name ++ in_front_of_next ts elements ++ codes "(")
     × ((t : Term) (at : ℕ) (st : State) → Comes s os (tree t true) at st → EnumeratorGoesOn s listing owner below front template ts t at st)
 
--- accepts a type as that of an enumerator, which is the argument of a name with this number
+-- accepts a type as the type of an enumerator that is an argument of a name; `number` others precede the enumerator
 abbrev pub AwaitsArgumentEnumerator : (s : Symbol) → Names → (from number : ℕ) → (known : Arguments) → (owner : Open) → Below → List Opened → (text : List ℕ) → Type 0
 AwaitsArgumentEnumerator s names from number known owner below os text =
     (front : List ℕ) × (template : Term) × (name : List ℕ) × (ts : List Term) × (elements : List ℕ)
@@ -508,12 +512,12 @@ AwaitsArgumentEnumerator s names from number known owner below os text =
     × (number ≡ length ts) × AreAmong false (detail_of s) text known ts
     × ((t : Term) (at : ℕ) (st : State) → Comes s os (tree t true) at st → EnumeratorGoesOn s of_template owner below front template ts t at st)
 
--- the open entry is this list of this owner
+-- the innermost entry is the owner of the arguments, or is a pack that is one of the owner's arguments
 abbrev pub Belongs : (detail : Detail) → Names → Listing → (opened : List Open) → (owner : Open) → (rest : List Open) → Type 0
 Belongs detail names of_template opened owner rest = opened ≡ owner ∷ rest
 Belongs detail names (of_pack before written) opened owner rest = (opened ≡ opens.Pack ∷ owner ∷ rest) × PrintAllAs detail names (is_noted owner) 3 before written
 
--- a list is open, and what it belongs to
+-- a list is open, and so is what it belongs to
 pub record IsListing (detail : Detail) (names : Names) (opened : List Open) (text : List ℕ) : Type 0 where
   pub listing : Listing
   pub owner : Open
@@ -535,7 +539,7 @@ EndsNamed (opens.NestArguments nest ∷ rest) = Unit {0}
 EndsNamed (opens.NameArguments from ∷ rest) = Unit {0}
 EndsNamed _ = ⊥
 
--- an entry that accepts an element or a parameter may accept a function type or an array, and so may a special object
+-- the innermost entry accepts a function type or an array: it waits for an element, a parameter or the type of a special object
 abbrev pub TakesFunction : List Open → Type 0
 TakesFunction (opens.TypeArguments from is_dependent ∷ rest) = Unit {0}
 TakesFunction (opens.NestArguments nest ∷ rest) = Unit {0}
@@ -550,25 +554,26 @@ TakesFunction (opens.Enclosing mark from to ∷ rest) = Unit {0}
 TakesFunction (opens.EnclosingInstance mark from to argument ∷ rest) = Unit {0}
 TakesFunction _ = ⊥
 
--- the entry below, if it waits this way
+-- what is open below an entry, where `waits` says what these entries accept
 abbrev pub outside : Scope → List Open → (waits : List Opened → List ℕ → Type 0) → Below
 outside scope rest waits = record { waits = waits; scoped = λ around. IsScoped scope around rest; naming = IsNaming scope rest }
 
--- These accept a function type or an array after a text: what waits for it, and what is open around it, where it is made.
+-- The open entries accept a function type or an array after a text; `made_in` is where it is made, and `outer` what is open for
+-- it.
 pub record IsTaken (below : Below) (rest : List Open) (front : List ℕ) : Type 0 where
   pub outer : List Opened
   pub made_in : Around
   pub takes : TakesFunction rest
   pub stands : below.waits outer front
 
--- the type that is read first in one: the return type, or that of the elements
+-- the type that is read first in a function type or an array: the return type, or the type of the elements
 pub record FirstType (s : Symbol) : Type 0 where
   pub own : Term
   pub bytes : List ℕ
   pub is_reference : Bool
   pub prints : Prints (detail_of s) own bytes is_reference
 
--- The derived class of a construction table is written up to a place, and then what the table is.
+-- The derived class of a construction table is written up to a place, and after it the words that say what the table is.
 pub record HasDerived (s : Symbol) (text : List ℕ) (to : ℕ) : Type 0 where
   pub derived : Term
   pub bytes : List ℕ
@@ -576,22 +581,22 @@ pub record HasDerived (s : Symbol) (text : List ℕ) (to : ℕ) : Type 0 where
   pub to_is : to ≡ length bytes
   pub written : text ≡ bytes ++ codes "construction vtable for "
 
--- Accepts a parameter of such a function, after these; the open entry waits for the function.
+-- Accepts a parameter of a function, after those that were read; `Within` says what waits for the function.
 abbrev pub AwaitsLed : (s : Symbol) → (extra : ℕ) → Mark → Arguments → (Leads : (own : Term) → (front name : List ℕ) → Type 0)
     → (Within : (front : List ℕ) → (e : Term) → (at : ℕ) → State → Type 0) → List Opened → (text : List ℕ) → Type 0
 AwaitsLed s extra mark argument Leads Within os text =
     (ts : List Term) × (texts : List ℕ) × (h : HasLed (detail_of s) extra mark Leads ts texts) × (text ≡ h.front ++ h.name ++ codes "(" ++ in_front_of_next ts texts)
     × ((t : Term) (at : ℕ) (st : State) → Comes s os (tree t true) at st → ItemsGoOn s argument (Within h.front) h.make (ts ++ t ∷ []) at st)
 
--- Accepts its return type.
+-- Accepts the return type of a function; `Within` says what waits for the function.
 abbrev pub AwaitsFront : (s : Symbol) → Mark → Arguments → (Leads : (own : Term) → (front name : List ℕ) → Type 0)
     → (Within : (front : List ℕ) → (e : Term) → (at : ℕ) → State → Type 0) → List Opened → (text : List ℕ) → Type 0
 AwaitsFront s mark argument Leads Within os text =
     (a : HasInnerFront s text mark Leads)
     × ((t : Term) (at : ℕ) (st : State) → Comes s os (tree t true) at st → ItemsGoOn s argument (Within a.lead) (λ l. encoding_of a.v l) (t ∷ []) at st)
 
--- The innermost entry accepts a type, after what is written, or the name of a function whose address is read. While the types
--- of that function are read, the entries around it name nothing.
+-- The innermost entry accepts a type, after what is written, or the name of a function whose address is read. While types of a
+-- function are read that may name its own arguments, the entries around it name nothing.
 abbrev pub Stands : (s : Symbol) → Scope → List Open → List Opened → (text : List ℕ) → Type 0
 Stands s scope [] os text = ⊥
 Stands s scope (opens.Pointer from ∷ rest) os text = Marks s (outside scope rest (Stands s scope rest)) os text from pointer
@@ -666,18 +671,18 @@ Stands s scope (opens.Pack ∷ owner ∷ rest) os text =
     × AwaitsElementOf s scope.names (of_pack before written) owner (outside scope rest (Stands s scope rest)) os text
 Stands s scope (owner ∷ rest) os text = AwaitsElementOf s scope.names of_template owner (outside scope rest (Stands s scope rest)) os text
 
--- what is open below these
+-- these entries, as what is open below another entry
 abbrev pub below : (s : Symbol) → Scope → List Open → Below
 below s scope rest = outside scope rest (Stands s scope rest)
 
 -- ## What comes next
 
--- where a nested name has been read up to here: what types may name in it, if it is a type
+-- what types may name in a nested name that is read up to here, if the nested name is a type
 pub record IsNestScoped (s : Symbol) (scope : Scope) (w : Direct) (around : Around) : Type 0 where
   pub scoped : is_type w.nest.purpose ≡ true → IsScoped scope around (reverse w.waiting.list.items)
   pub naming : w.nest.is_dependent ≡ true → IsNaming scope (reverse w.waiting.list.items)
 
--- this much of a nested name was read and written
+-- a nested name was read and written as far as this tree
 pub record IsNestSoFar (s : Symbol) (scope : Scope) (w : Direct) (t : Term) : Type 0 where
   pub around : Around
   pub outer : List Opened
@@ -699,7 +704,7 @@ abbrev pub ExpectsType : (s : Symbol) → Around → List Opened → (at : ℕ) 
 ExpectsType s around os at st =
     Expects s Kind.Type around os at st ⊎ Expects s Kind.Item around os at st ⊎ (Expects s Kind.ItemButRef around os at st × NoReference s.bytes at)
 
--- expects a type, with these entries open
+-- a type is expected, and the open entries accept it
 pub record AwaitsTypeIn (s : Symbol) (scope : Scope) (w : Direct) : Type 0 where
   pub os : List Opened
   pub around : Around
@@ -707,7 +712,7 @@ pub record AwaitsTypeIn (s : Symbol) (scope : Scope) (w : Direct) : Type 0 where
   pub stands : Stands s scope (reverse w.waiting.list.items) os w.text.list.items
   pub scoped : IsScoped scope around (reverse w.waiting.list.items)
 
--- a type was read, and written after a front, with these entries open
+-- a type was read, and written after a front, and these open entries accept it
 pub record IsTypeRead (s : Symbol) (scope : Scope) (w : Direct) (st : State) (waits : List Open) (is_reference is_dependent : Bool) : Type 0 where
   pub os : List Opened
   pub own : Term
@@ -738,7 +743,7 @@ IsBefore s scope w st steps.Tail =
 IsBefore s scope w st steps.Component = (t : Term) × (n : IsNestSoFar s scope w t) × AwaitsComponent s n.outer n.around t w.at st
 IsBefore s scope w st steps.Ended = IsWhole s w.text.list.items
 
--- a writer that has come this far, and what comes next
+-- what a writer keeps, and where it is before the next step
 pub record IsWriting (s : Symbol) (w : Direct) (step : Step) : Type 0 where
   pub kept : Kept s w
   pub open kept use *

@@ -36,7 +36,7 @@ pub record Lists (old new : Direct) (ks : List Candidate) : Type 0 where
   pub scope : new.has_scope ≡ old.has_scope
   pub at : new.at ≡ old.at
 
--- a byte was read, and this was opened
+-- a byte was read, and this entry was opened
 pub record OpensEntry (old new : Direct) (entry : Open) : Type 0 where
   pub waiting : new.waiting.list.items ≡ old.waiting.list.items ++ entry ∷ []
   pub at : new.at ≡ old.at + 1
@@ -45,7 +45,7 @@ pub record OpensEntry (old new : Direct) (entry : Open) : Type 0 where
   pub nest : new.nest ≡ old.nest
   pub scope : new.has_scope ≡ old.has_scope
 
--- likewise for arguments, whose bracket was written
+-- likewise, and the bracket before arguments was written
 pub record OpensArguments (detail : Detail) (old new : Direct) (entry : Open) : Type 0 where
   pub waiting : new.waiting.list.items ≡ old.waiting.list.items ++ entry ∷ []
   pub at : new.at ≡ old.at + 1
@@ -54,17 +54,17 @@ pub record OpensArguments (detail : Detail) (old new : Direct) (entry : Open) : 
   pub nest : new.nest ≡ old.nest
   pub scope : new.has_scope ≡ old.has_scope
 
--- the candidates, and what is written from a place on
+-- the candidates, and one more: what is written from a place on
 abbrev pub added : Direct → (from : ℕ) → (is_reference is_dependent : Bool) → List Candidate
 added w from is_reference is_dependent =
     w.candidates.list.items ++ record { from = from; to = length w.text.list.items; is_reference = is_reference; is_dependent = is_dependent } ∷ []
 
--- likewise unless that is one already
+-- likewise unless the text is a candidate already
 abbrev pub added_unless : Direct → (is_listed : Bool) → (from : ℕ) → (is_dependent : Bool) → List Candidate
 added_unless w true from is_dependent = w.candidates.list.items
 added_unless w false from is_dependent = added w from false is_dependent
 
--- the candidates, and the text of an argument of the function's template
+-- the candidates, and one more: the text of an argument of the function's template
 abbrev pub with_argument : Direct → Argument → List Candidate
 with_argument w argument =
     w.candidates.list.items ++ record { from = argument.from; to = argument.to; is_reference = argument.is_reference; is_dependent = true } ∷ []
@@ -79,17 +79,17 @@ Stays (hidings.After to) k = k.to ≤ to
 Stays hidings.Dependent k = k.is_dependent ≡ false
 Stays hidings.All k = ⊥
 
--- it stays what it was, or it is nowhere
+-- a candidate stays what it was, or is nowhere
 abbrev pub IsLeft : Hiding → (old new : Candidate) → Type 0
 IsLeft hiding old new = ((new ≡ old) × Stays hiding old) ⊎ (new ≡ hidden)
 
--- and so is each of them
+-- each candidate stays what it was, or is nowhere
 abbrev pub AreLeft : Hiding → (old new : List Candidate) → Type 0
 AreLeft hiding [] [] = Unit {0}
 AreLeft hiding (k ∷ ks) (n ∷ ns) = IsLeft hiding k n × AreLeft hiding ks ns
 AreLeft hiding _ _ = ⊥
 
--- candidates, with one for a function type, and one for the pointer to it, if it is one
+-- candidates with one more for a function type, and one for the pointer to it if there is one
 abbrev pub hidden_behind : (is_pointer : Bool) → List Candidate → List Candidate
 hidden_behind true ks = (ks ++ hidden ∷ []) ++ hidden ∷ []
 hidden_behind false ks = ks ++ hidden ∷ []
@@ -97,8 +97,8 @@ hidden_behind false ks = ks ++ hidden ∷ []
 abbrev pub with_hidden : Direct → (is_pointer : Bool) → List Candidate
 with_hidden w is_pointer = hidden_behind is_pointer w.candidates.list.items
 
--- What was written up to a place was removed from what is written of a symbol. If there was any, there is no candidate then, or
--- before a local entity each of them is nowhere.
+-- What was written up to a place was removed. If anything was, no candidates remain; in the symbol of a local entity they remain,
+-- but each is nowhere.
 pub record Cuts (s : List ℕ) (old new : Direct) (start : ℕ) : Type 0 where
   pub text : new.text.list.items ≡ drop start old.text.list.items
   pub candidates : ((start ≡ 0) × (new.candidates ≡ old.candidates)) ⊎ ((is_local s ≡ false) × (new.candidates.list.items ≡ []))
@@ -106,7 +106,8 @@ pub record Cuts (s : List ℕ) (old new : Direct) (start : ℕ) : Type 0 where
   pub scope : new.has_scope ≡ old.has_scope
   pub at : new.at ≡ old.at
 
--- What was written after a place was removed. There is no candidate then, or before a local entity each of them is nowhere.
+-- What was written after a place was removed. No candidates remain; in the symbol of a local entity they remain, but each is
+-- nowhere.
 pub record Leaves (s : List ℕ) (old new : Direct) (end : ℕ) : Type 0 where
   pub text : new.text.list.items ≡ take end old.text.list.items
   pub candidates : ((is_local s ≡ false) × (new.candidates.list.items ≡ [])) ⊎ AreLeft hidings.All old.candidates.list.items new.candidates.list.items

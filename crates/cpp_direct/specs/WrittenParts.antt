@@ -1,5 +1,5 @@
--- What is written of a tree while its symbol is read: what it prints, and template arguments even where they aren't shown, between
--- marks.
+-- What is written of a tree while its symbol is read: what the tree prints, and, between marks, template arguments that aren't
+-- shown.
 use Rattle.std.specs.Prelude.{ℕ, List, [], ◌∷◌, ◌++◌, Bool, true, false}
 use Rattle.sym_print.specs.declared.detail.Detail.{Detail}
 use Rattle.sym_print.specs.Details.{has_arguments}
@@ -27,7 +27,7 @@ opening_bracket d = opening_byte (has_arguments d) ∷ []
 abbrev pub closing_bracket : Detail → List ℕ
 closing_bracket d = closing_byte (has_arguments d) ∷ []
 
--- a byte of a text: where arguments aren't shown, 0 for a mark
+-- a byte as a text has it: if arguments aren't shown, 0 instead of a mark
 abbrev pub unmarked_byte : (shown : Bool) → ℕ → ℕ
 unmarked_byte shown byte = elim (is_mark byte) [ true ↦ elim shown [ true ↦ byte | false ↦ 0 ] | false ↦ byte ]
 
@@ -35,7 +35,7 @@ abbrev pub unmarked : (shown : Bool) → List ℕ → List ℕ
 unmarked shown [] = []
 unmarked shown (byte ∷ bytes) = unmarked_byte shown byte ∷ unmarked shown bytes
 
--- parts with such texts
+-- parts, with 0 instead of each mark in their texts if arguments aren't shown
 abbrev pub unmarked_parts : (shown : Bool) → List (PartOf Item) → List (PartOf Item)
 unmarked_parts shown [] = []
 unmarked_parts shown (text bytes ∷ ps) = text (unmarked shown bytes) ∷ unmarked_parts shown ps

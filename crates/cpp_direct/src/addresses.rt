@@ -16,7 +16,7 @@ use crate::marks::mark_at;
 use crate::open::{Arguments, Mark, Open, Purpose, Step};
 use crate::tokens::byte_at;
 
-/// What precedes the parts of a nested name in the address of a function that has one.
+/// The bytes before the parts of a function's nested name, in the address of the function.
 // <template-arg> ::= X ad L _Z N
 const ADDRESS: &[u8] = b"XadL_ZN";
 
@@ -31,8 +31,8 @@ fn is_address_at(s: &[u8], at: usize) -> bool
 }
 
 impl Direct {
-    /// Reads an argument of a name up to the first type in it, with the entry that accepts a type open already. In the wide
-    /// grammar it may be the address of a function.
+    /// Reads an argument of a name up to the first type in it, with the entry that accepts a type
+    /// open already. In the wide grammar the argument may be the address of a function.
     // <template-arg> ::= <type> | X <expression> E
     #[inline(always)]
     pub(crate) fn argument_at<G: Grammar>(&mut self, s: &[u8]) -> Option<Step>
@@ -46,8 +46,9 @@ impl Direct {
         Some(Step::Type)
     }
 
-    /// Reads the first bytes of the address of a function, up to its name, in a symbol that isn't a long one: candidates are
-    /// visited where its return type ends, and where the function ends.
+    /// Reads the first bytes of the address of a function, up to the function's name. A long symbol
+    /// is given up, since all candidates are visited where the function's return type ends, and
+    /// where the function ends.
     // <expression> ::= ad L <mangled-name> E
     #[inline(never)]
     fn begin_address<G: Grammar>(&mut self, s: &[u8]) -> Option<Step>
@@ -71,8 +72,8 @@ impl Direct {
         self.nest_at::<G>(s, Purpose::Address { mark: place.mark })
     }
 
-    /// The name of a function is read whose address is an argument. Its return type or its parameters follow, and their types
-    /// may name the function's own arguments.
+    /// The name of a function whose address is an argument is read. The function's return type or
+    /// its parameters follow, and their types may name the function's own arguments.
     // <encoding> ::= <function name> <bare-function-type>
     #[inline(never)]
     pub(crate) fn addressed_named<G: Grammar>(&mut self, s: &[u8], mark: Mark) -> Option<Step>
@@ -83,7 +84,7 @@ impl Direct {
         let Open::Address { encoding } = self.waiting.pop()? else {
             return None;
         };
-        // data, or a function among the types of another one
+        // the address of data, or of a function among the types of another function
         if self.has_scope || byte_at(s, self.at) == b'E' {
             return None;
         }
@@ -101,7 +102,8 @@ impl Direct {
         Some(Step::Type)
     }
 
-    /// The return type of such a function is read and not shown: its parameters follow.
+    /// The return type of a function whose address is an argument is read and not shown: the
+    /// function's parameters follow.
     // <bare-function-type> ::= <return type> <parameter type>+
     pub(crate) fn addressed_front<G: Grammar>(
         &mut self,
@@ -119,7 +121,8 @@ impl Direct {
         self.addressed_parameters::<G>(s, mark, to, argument)
     }
 
-    /// Reads the parameters of such a function, up to the first type in them.
+    /// Reads the parameters of a function whose address is an argument, up to the first type in
+    /// them.
     // <bare-function-type> ::= <parameter type>+ | v
     fn addressed_parameters<G: Grammar>(
         &mut self,
@@ -146,8 +149,9 @@ impl Direct {
         Some(Step::Type)
     }
 
-    /// A parameter of such a function is read: another one follows, or its end. Where only the names of functions are shown,
-    /// what follows the name is removed.
+    /// A parameter of a function whose address is an argument is read: another one follows, or the
+    /// function's end. Where only the names of functions are shown, what follows the name is
+    /// removed.
     // <bare-function-type> ::= <parameter type>+
     pub(crate) fn addressed_parameter<G: Grammar>(
         &mut self,
@@ -176,7 +180,7 @@ impl Direct {
         self.addressed_marked::<G>(s, mark)
     }
 
-    /// Writes the qualifiers of such a function.
+    /// Writes the qualifiers of a function whose address is an argument.
     fn addressed_marked<G: Grammar>(&mut self, s: &[u8], mark: Mark) -> Option<Step>
         requires read { IsAddressedRead (symbol_by G.IS_WIDE G.IS_BARE G.IS_BRIEF s.now) self.old mark }
         ensures { IfSome result (IsWriting (symbol_by G.IS_WIDE G.IS_BARE G.IS_BRIEF s.now) self.new) }
@@ -185,8 +189,8 @@ impl Direct {
         self.addressed::<G>(s)
     }
 
-    /// Reads the E after such a function, and the one after its address, which is an argument of the name before it. The
-    /// function's own arguments can't be named any more.
+    /// Reads the E after a function whose address is an argument of a name, and the E after the
+    /// address. The function's own arguments can't be named any more.
     // <template-arg> ::= X ad L <mangled-name> E E
     fn addressed<G: Grammar>(&mut self, s: &[u8]) -> Option<Step>
         requires read { IsAddressedRead (symbol_by G.IS_WIDE G.IS_BARE G.IS_BRIEF s.now) self.old marks.Plain }

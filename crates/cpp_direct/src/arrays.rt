@@ -1,4 +1,4 @@
-// Arrays, and what points or refers to them, as elements of lists, as parameters and in special names.
+// Arrays, pointers and references to them: as elements of lists, as parameters, in special names.
 
 ghost use Rattle.std.specs.Prelude.{◌≡◌, length};
 ghost use Rattle.std.specs.Option.{IfSome};
@@ -38,7 +38,7 @@ fn array_opening(access: Access) -> &'static [u8]
     }
 }
 
-/// Whether it is behind a pointer or a reference.
+/// Whether the array is behind a pointer or a reference.
 fn is_marked(access: Access) -> bool
     ensures { result ≡ is_marked access }
 {
@@ -49,7 +49,7 @@ fn is_marked(access: Access) -> bool
     }
 }
 
-/// Whether it is behind a reference.
+/// Whether the array is behind a reference.
 fn is_lvalue(access: Access) -> bool
     ensures { result ≡ is_lvalue access }
 {
@@ -61,8 +61,8 @@ fn is_lvalue(access: Access) -> bool
 }
 
 impl Direct {
-    /// Begins an array, or a pointer or reference to one, where it is an element, a parameter, or the subject of a special
-    /// object.
+    /// Begins an array, or a pointer or reference to one, as an element, as a parameter, or as the
+    /// type that a special object belongs to.
     // <array-type> ::= A [<array bound number>] _ <element type>
     #[inline(never)]
     pub(crate) fn begin_array<G: Grammar>(&mut self, s: &[u8], access: Access) -> Option<Step>
@@ -88,7 +88,7 @@ impl Direct {
         Some(Step::Type)
     }
 
-    /// The type of an array's elements is read: writes its size, and forwards it.
+    /// The type of an array's elements is read: writes the array's size, and forwards the array.
     // <array-type> ::= A [<array bound number>] _ <element type>
     pub(crate) fn array_ended<G: Grammar>(
         &mut self,

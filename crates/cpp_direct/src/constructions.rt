@@ -35,7 +35,8 @@ impl Direct {
         Some(Step::Type)
     }
 
-    /// The derived class of a construction table is read: the base class follows its offset, and is written before it.
+    /// The derived class of a construction table is read. The base class follows the offset, and is
+    /// written before the derived class.
     // <special-name> ::= TC <derived type> <offset number> _ <base type>
     #[inline(never)]
     pub(crate) fn derived_ended<G: Grammar>(&mut self, s: &[u8]) -> Option<Step>

@@ -12,18 +12,20 @@ use crate::symbols::{NO_NEST, NOWHERE};
 use std::alloc::Global;
 use sym_direct::Bounded;
 
-/// The lists that texts are written with, one after the other.
+/// The lists with which one text after another is written.
 #[derive(Drop)]
 pub struct Direct {
     pub(crate) text: Bounded<u8>,
     pub(crate) candidates: Bounded<Candidate>,
     pub(crate) waiting: Bounded<Open>,
     pub(crate) nest: Nest,
-    /// the arguments of the name that was read last: the first of them, if they are literals, or types other than function types
-    /// and arrays, and the elements of a pack after them, of such types or references to arrays
+    /// the known arguments of the name that was read last: its first ones, as far as they are
+    /// literals, or types other than function types and arrays; after these the elements of a pack,
+    /// as far as they are types other than function types and arrays, or references to arrays
     pub(crate) argument: Arguments,
-    /// whether the arguments are known that types may name: those of the symbol's own name, or, while its types are read, of a
-    /// function whose address is an argument; or no types follow the name
+    /// whether the arguments that types may name are known: those of the symbol's own name, or
+    /// those of a function whose address is an argument, while that function's types are read; it
+    /// is also true if no types follow the symbol's own name
     pub(crate) has_scope: bool,
     pub(crate) at: usize,
 }
@@ -49,7 +51,8 @@ impl Direct {
         self.text.as_slice()
     }
 
-    /// Removes what isn't to be shown from what was written. A text that can't be told from one with marks in it is given up.
+    /// Removes from the written text what isn't to be shown. A text that might have had marks of
+    /// its own is given up.
     #[inline(always)]
     pub fn show<G: Grammar>(&mut self, _s: &[u8]) -> Option<()>
         requires { IsWhole (symbol_by G.IS_WIDE G.IS_BARE G.IS_BRIEF _s.now) self.old.text.list.items }
@@ -62,8 +65,9 @@ impl Direct {
         Some(())
     }
 
-    /// Clears the lists and reserves their room for a symbol: this many bytes of text, at most 32 for each of the symbol's
-    /// and a kilobyte, and an entry for each byte in the other lists.
+    /// Clears the lists and reserves their room for a symbol: `bytes` for the text, at most 32 for
+    /// each byte of the symbol and a kilobyte, and in each other list an entry for each byte of the
+    /// symbol.
     #[inline(always)]
     pub fn restart(&mut self, s: &[u8], bytes: u32)
         requires fits { FitsSymbol s.now }
@@ -82,7 +86,7 @@ impl Direct {
         self.has_scope = false;
     }
 
-    /// A symbol is done: the candidates and the open entries are forgotten.
+    /// Forgets the candidates and the open entries, once a symbol is done.
     #[inline(always)]
     pub fn forget(&mut self)
         ensures text { self.new.text ≡ self.old.text }

@@ -21,8 +21,8 @@ use crate::marks::mark_at;
 use crate::open::{Arguments, Mark, Open, Purpose, Step};
 use crate::tokens::byte_at;
 
-/// The longest symbol, in bytes, that is scanned once more, or whose candidates are, at a lambda with parameters, at parameters
-/// that aren't shown or at the address of a function.
+/// The longest symbol, in bytes, that is scanned once more at a lambda with parameters, or that has
+/// its candidates visited at parameters that aren't shown or at the address of a function.
 pub(crate) const LONGEST_GONE_OVER: usize = 1_024;
 
 /// The place after the builtin type at a place.
@@ -94,9 +94,10 @@ impl Direct {
         self.enclosing_parameters::<G>(s, mark, from)
     }
 
-    /// The name of an instance of a function template is read that contains a type. The function's return type follows, and is
-    /// not written. In a symbol that isn't a long one, outside the types of another function, the types of its parameters may
-    /// name its own arguments: candidates are visited where the function ends.
+    /// The name of an instance of a function template that contains a type is read. The instance's
+    /// return type follows, and is not written. The types of its parameters may name its own
+    /// arguments, unless the symbol is long or the instance is among the types of another function:
+    /// candidates are visited where the instance ends.
     // <bare-function-type> ::= <return type> <parameter type>+
     pub(crate) fn enclosing_instance<G: Grammar>(
         &mut self,
@@ -122,7 +123,7 @@ impl Direct {
         self.instance_parameters::<G>(s, mark, encoding, from, behind)
     }
 
-    /// Reads the return type of such a function, a builtin one.
+    /// Reads the return type of an instance that contains a type, if it is a builtin type.
     // <bare-function-type> ::= <return type> <parameter type>+
     fn instance_parameters<G: Grammar>(
         &mut self,
@@ -147,7 +148,7 @@ impl Direct {
         self.instance_opened::<G>(s, mark, from, to, argument)
     }
 
-    /// Expects the return type of such a function, another one.
+    /// Expects the return type of an instance that contains a type, if it isn't a builtin type.
     // <bare-function-type> ::= <return type> <parameter type>+
     fn instance_front<G: Grammar>(
         &mut self,
@@ -175,7 +176,8 @@ impl Direct {
         Some(Step::Type)
     }
 
-    /// The return type of such a function is read and not shown: its parameters follow.
+    /// The return type of an instance that contains a type is read and not shown: the instance's
+    /// parameters follow.
     // <bare-function-type> ::= <return type> <parameter type>+
     pub(crate) fn enclosing_front<G: Grammar>(
         &mut self,
@@ -194,7 +196,7 @@ impl Direct {
         self.instance_opened::<G>(s, mark, from, to, argument)
     }
 
-    /// Reads the parameters of such a function, up to the first type in them.
+    /// Reads the parameters of an instance that contains a type, up to the first type in them.
     // <bare-function-type> ::= <parameter type>+
     #[inline(always)]
     fn instance_opened<G: Grammar>(
@@ -220,7 +222,8 @@ impl Direct {
         Some(Step::Type)
     }
 
-    /// A parameter of such a function is read: another one follows, or the type. Its own arguments can't be named any more then.
+    /// A parameter of an instance that contains a type is read: another one follows, or the
+    /// contained type. Once all are read, the instance's own arguments can't be named any more.
     // <bare-function-type> ::= <parameter type>+
     pub(crate) fn instance_parameter<G: Grammar>(
         &mut self,
@@ -243,9 +246,9 @@ impl Direct {
         self.enclosing_parameter::<G>(s, mark, from, to)
     }
 
-    /// Reads the parameters of a function that contains a type, up to the first type in them. Where only the names of functions
-    /// are shown, a symbol in which the function has parameters has to be short: they are removed at their end, with all that
-    /// they made.
+    /// Reads the parameters of a function that contains a type, up to the first type in them. If
+    /// only the names of functions are shown, a symbol in which the function has parameters has to
+    /// be short: at their end their text is removed, and so are the texts of candidates in it.
     // <bare-function-type> ::= <parameter type>+ | v
     fn enclosing_parameters<G: Grammar>(&mut self, s: &[u8], mark: Mark, from: u32) -> Option<Step>
         requires fits { IsReadable s.now }
@@ -270,8 +273,8 @@ impl Direct {
         Some(Step::Type)
     }
 
-    /// A parameter is read of a function that contains a type: another one follows, or the type. Where only the names of
-    /// functions are shown, what follows the name is removed.
+    /// A parameter of a function that contains a type is read: another one follows, or the
+    /// contained type. If only the names of functions are shown, what follows the name is removed.
     // <bare-function-type> ::= <parameter type>+
     pub(crate) fn enclosing_parameter<G: Grammar>(
         &mut self,
@@ -294,7 +297,7 @@ impl Direct {
         }
         let _open = self.waiting.pop();
         if G::IS_BARE {
-            // the arguments that types may name stay where they are
+            // nothing is removed while types may name arguments: their texts stay where they are
             if self.has_scope {
                 return None;
             }

@@ -15,8 +15,8 @@ use crate::open::{Open, Step};
 use crate::tokens::byte_at;
 
 impl Direct {
-    /// Whether the innermost entry accepts what prints on both sides of a name: an element, a parameter, or the subject of a
-    /// special object.
+    /// Whether the innermost entry accepts a type that prints on both sides of a name: whether it
+    /// waits for an element, for a parameter, or for the type that a special object belongs to.
     pub(crate) fn takes_element(&self) -> bool
         ensures { result ≡ true → TakesFunction (reverse self.now.waiting.list.items) }
     {
@@ -36,7 +36,8 @@ impl Direct {
         }
     }
 
-    /// Begins a function type, or a pointer to one, where it is an element, a parameter, or the subject of a special object.
+    /// Begins a function type, or a pointer to one, as an element, as a parameter, or as the type
+    /// that a special object belongs to.
     // <function-type> ::= F <bare-function-type> E
     #[inline(never)]
     pub(crate) fn begin_function<G: Grammar>(&mut self, s: &[u8], is_pointer: bool) -> Option<Step>
@@ -140,8 +141,8 @@ impl Direct {
         self.pass_element::<G>(s, false)
     }
 
-    /// Forwards what prints on both sides of a name to the entry that accepts it. Of a pack's elements, those that are
-    /// references become known.
+    /// Forwards a type that prints on both sides of a name to the entry that accepts it. A
+    /// reference that is an element of a pack becomes known.
     pub(crate) fn pass_element<G: Grammar>(&mut self, s: &[u8], is_reference: bool) -> Option<Step>
         requires fits { IsReadable s.now }
         requires passed { IsElementPassed (symbol_by G.IS_WIDE G.IS_BARE G.IS_BRIEF s.now) self.old is_reference }

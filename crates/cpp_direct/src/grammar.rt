@@ -4,7 +4,8 @@ ghost use Rattle.std.specs.Prelude.{Bool};
 
 /// A grammar of C++ symbols, and how much of a symbol is shown.
 pub trait Grammar {
-    /// Whether it is the wide one, which has what compilers write beside the ABI's symbols.
+    /// Whether the grammar is the wide one: it also has what compilers write in addition to the
+    /// ABI's symbols.
     const IS_WIDE: bool;
 
     /// Whether only the names of functions are shown.
@@ -20,8 +21,8 @@ pub trait Grammar {
     ghost IS_BRIEF: { Bool };
 }
 
-/// The wide grammar or that of the ABI's symbols, with only the names of functions shown or functions shown whole, and names
-/// without their template arguments or with them.
+/// A grammar, the wide one or that of the ABI's symbols, and how much is shown: functions by their
+/// names only or whole, and names without their template arguments or with them.
 pub struct Shown<const WIDE: bool, const BARE: bool, const BRIEF: bool>;
 
 impl<const WIDE: bool, const BARE: bool, const BRIEF: bool> Grammar for Shown<WIDE, BARE, BRIEF> {

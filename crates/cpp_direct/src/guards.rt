@@ -15,7 +15,7 @@ use crate::open::Step;
 use crate::tokens::byte_at;
 
 impl Direct {
-    /// The first bytes of the symbol of a guard variable of an object, after whose name no types follow.
+    /// The first bytes of the symbol of an object's guard variable. No types follow the name.
     // <special-name> ::= GV <object name>
     #[inline(never)]
     pub(crate) fn begin_object<G: Grammar>(&mut self, s: &[u8]) -> Option<Step>

@@ -19,7 +19,8 @@ use crate::symbols::NOWHERE;
 use crate::tokens::byte_at;
 
 impl Arguments {
-    /// Where the text of the argument with this number begins, if those before it are known. A comma and a space are between them.
+    /// Where the text of the argument with this number begins, if the arguments before it are
+    /// known. A comma and a space separate neighbouring texts.
     fn begin(&self, number: u8) -> Option<u16>
         ensures { IfSome result (λ from. from ≡ begin_by self.now.from self.now.ends number) }
     {
@@ -55,7 +56,8 @@ impl Arguments {
         self.at(number)
     }
 
-    /// Likewise, and the argument with this number is known, if those before it are: its text is from one place to another.
+    /// The known arguments, with one more that has this number if those before it are known. Its
+    /// text is between two places.
     fn with(self, number: u8, from: u32, to: u32, is_reference: bool) -> Arguments
         ensures more { KnowsMore self result number from to is_reference }
         ensures rest { (result.before ≡ self.before) × (result.has_pack ≡ self.has_pack) }
@@ -93,7 +95,7 @@ fn is_element_at(s: &[u8], at: usize) -> bool {
     }
 }
 
-/// Likewise except for a reference to an array, which is known as an element of a pack.
+/// Likewise, except for a reference to an array, which may be known as an element of a pack.
 fn is_unknown_at(s: &[u8], at: usize) -> bool {
     match s.get(at..) {
         Some([b'R', b'A', ..]) => false,
@@ -117,7 +119,7 @@ impl Direct {
         }
     }
 
-    /// The first element of a list, which is a type. Where it is an argument of a name, T_ denotes it.
+    /// The first element of a list is a type. If the list has the arguments of a name, T_ denotes this type.
     // <template-args> ::= I <template-arg>* E
     #[inline(always)]
     pub(crate) fn first_type<G: Grammar>(&mut self, s: &[u8]) -> Option<Step>
@@ -140,7 +142,8 @@ impl Direct {
         self.argument_at::<G>(s)
     }
 
-    /// The first element of a list, which is a literal. Where it is an argument of a name, those after it are known.
+    /// The first element of a list is a literal. If the list has the arguments of a name, later
+    /// ones become known, too.
     // <template-args> ::= I <template-arg>* E
     #[inline(never)]
     pub(crate) fn first_literal<G: Grammar>(&mut self, s: &[u8]) -> Option<Step>
@@ -165,7 +168,9 @@ impl Direct {
         self.argument_ended::<G>(s, from, 0, NOWHERE, false)
     }
 
-    /// The first argument of a list, which is a pack of something. Where it is an argument of a name, it may be the only one.
+    /// The first argument of a list is a pack that isn't empty. If the list has the arguments of a
+    /// name, the elements of the pack become known, unless the first is a literal, a function type
+    /// or an array.
     // <template-arg> ::= J <template-arg>* E
     #[inline(never)]
     pub(crate) fn first_pack<G: Grammar>(&mut self, s: &[u8]) -> Option<Step>
@@ -192,7 +197,8 @@ impl Direct {
         Some(Step::Type)
     }
 
-    /// An argument of a name is read, or an element of a pack among them, after n others: the place of its text becomes known.
+    /// An argument of a name is read, or an element of a pack among the arguments, after n others:
+    /// the place of its text becomes known.
     #[inline(always)]
     fn note_argument<G: Grammar>(
         &mut self,
@@ -211,8 +217,8 @@ impl Direct {
         known.with(number, from, to, is_reference)
     }
 
-    /// An element of a pack is read, after n arguments of a name: others follow, or the end of the pack, and after it that of
-    /// the arguments.
+    /// An element of a pack is read, after n arguments of a name: other elements follow, or the end
+    /// of the pack and then the end of the arguments.
     // <template-arg> ::= J <template-arg>* E
     pub(crate) fn element_ended<G: Grammar>(
         &mut self,
@@ -270,7 +276,8 @@ impl Direct {
         Some(Step::Type)
     }
 
-    /// An argument of a name is read, after n others: others follow, or the end. Literals are read at once.
+    /// An argument of a name is read, after n others: more arguments follow, or their end. Literals
+    /// are read at once.
     // <template-args> ::= I <template-arg>* E
     pub(crate) fn argument_ended<G: Grammar>(
         &mut self,
@@ -296,7 +303,8 @@ impl Direct {
         Some(Step::List { is_first: false })
     }
 
-    /// The arguments of a name up to the last one are known: others follow, or the end.
+    /// The arguments of a name are known, up to the last one that was read: more arguments follow,
+    /// or their end.
     // <template-args> ::= I <template-arg>* E
     #[inline(always)]
     fn argument_known<G: Grammar>(&mut self, s: &[u8], last: u8, known: Arguments) -> Option<Step>
@@ -391,7 +399,7 @@ impl Direct {
         self.named_type::<G>(s)
     }
 
-    /// The type of such an enumerator is read: reads its number.
+    /// Reads the number of an enumerator that is an argument of a name, after its type.
     // <expr-primary> ::= L <type> <value number> E
     #[inline(never)]
     pub(crate) fn argument_enumerator<G: Grammar>(

@@ -37,7 +37,7 @@ impl Direct {
         self.lambda_number(s)
     }
 
-    /// Reads the number of a lambda, one of the first nine, and writes it and what follows it.
+    /// Reads the number of a lambda, one of the first nine, and writes the number and the text after it.
     // <closure-type-name> ::= Ul <lambda-sig> E [<nonnegative number>] _
     fn lambda_number(&mut self, s: &[u8]) -> Option<()>
         ensures { OnSome result ((number : Option ℕ) × IsLambdaDigit number × StandsAt s.now self.old.at (lambda_digits number ++ 95 ∷ [])
@@ -96,7 +96,7 @@ impl Direct {
         if byte_at(s, self.at) != b'l' {
             return None;
         }
-        // its number is tested before its parameters, and isn't known yet
+        // the lambda's number is tested before its parameters, and isn't known yet
         if s.len() > LONGEST_GONE_OVER || !are_numbers_short(s) {
             return None;
         }
@@ -132,8 +132,9 @@ impl Direct {
         self.lambda_ended::<G>(s, from, holder)
     }
 
-    /// A lambda is read. One in a function is a type. A nested name that has it as a component continues after it, but a
-    /// constructor that is named after it is given up. A member function's name ends after it.
+    /// A lambda is read. One in a function is a type. A nested name continues after a lambda in it,
+    /// but a constructor that is named after a lambda is given up. After a lambda that has a member
+    /// function comes the function's name.
     // <local-name> ::= Z <function encoding> E <entity name> [<discriminator>]
     // <prefix> ::= <prefix> <unqualified-name>
     fn lambda_ended<G: Grammar>(&mut self, s: &[u8], from: u32, holder: Holder) -> Option<Step>

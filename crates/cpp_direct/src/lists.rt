@@ -38,7 +38,7 @@ pub fn normal(digits: &[u8]) -> &[u8]
     &digits[at..]
 }
 
-/// Whether it is just the digit 0.
+/// Whether the digits are just a 0.
 #[tactic(auto, unfolding(cpp_grammar::specs::Values::is_zero))]
 #[inline(always)]
 fn is_zero(digits: &[u8]) -> bool
@@ -86,7 +86,8 @@ pub fn is_plain_literal_at(s: &[u8], at: usize) -> bool
 }
 
 impl Direct {
-    /// Reads an argument or an element of a pack up to the first type in it, or the end of either.
+    /// Reads an argument or an element of a pack up to the first type in it, or reads the end of
+    /// the list.
     // <template-args> ::= I <template-arg>* E
     pub(crate) fn list_at<G: Grammar>(&mut self, s: &[u8], is_first: bool) -> Option<Step>
         requires fits { IsReadable s.now }
@@ -266,7 +267,8 @@ impl Direct {
         Some(())
     }
 
-    /// Whether what is written ends in a type whose integers omit it, after a bracket or a blank.
+    /// Whether the written text ends in the name of a type whose integers omit the type, after a
+    /// bracket or a blank.
     pub(crate) fn ends_as_integer(&self) -> bool
         ensures { result ≡ false → EndsOtherwise self.now.text.list.items }
     {
@@ -314,7 +316,7 @@ impl Direct {
         Some(())
     }
 
-    /// Reads a truth value after its type, at whose letter the writer is.
+    /// Reads a truth value with its type; the writer is at the letter of the type.
     fn boolean(&mut self, s: &[u8]) -> Option<()>
         requires { StandsAt s.now self.old.at (98 ∷ []) }
         ensures { OnSome result ((digit : ℕ) × ((digit ≡ 48) ⊎ (digit ≡ 49)) × StandsAt s.now self.old.at (98 ∷ digit ∷ [])
@@ -330,7 +332,7 @@ impl Direct {
         }
     }
 
-    /// Reads an integer with its type, at whose letter the writer is.
+    /// Reads an integer with its type; the writer is at the letter of the type.
     fn integer(&mut self, s: &[u8]) -> Option<()>
         requires { IsReadable s.now }
         ensures { OnSome result ((letter : ℕ) × (is_negative : Bool) × (digits : List ℕ) × (is_integer_letter letter ≡ true)

@@ -87,7 +87,7 @@ impl Direct {
         self.finish::<G>(s)
     }
 
-    /// Reads a discriminator, if there is one. It isn't written.
+    /// Reads a discriminator, if there is one, and writes nothing.
     // <discriminator> ::= _ <non-negative number> | __ <non-negative number> _
     pub(crate) fn discriminator(&mut self, s: &[u8]) -> Option<()>
         requires { IsReadable s.now }

@@ -40,7 +40,7 @@ pub fn mark_at(s: &[u8], at: usize) -> Option<MarkPlace>
     }
 }
 
-/// Those of a const one.
+/// The qualifiers of a const member function.
 // <CV-qualifiers> [<ref-qualifier>]
 #[inline(always)]
 fn const_mark_at(s: &[u8], _at: usize, behind: usize) -> Option<MarkPlace>

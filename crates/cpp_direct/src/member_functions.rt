@@ -139,7 +139,7 @@ impl Direct {
         }
         let _open = self.waiting.pop();
         if G::IS_BARE {
-            // the arguments that types may name stay where they are
+            // nothing is removed while types may name arguments: their texts stay where they are
             if self.has_scope {
                 return None;
             }

@@ -12,10 +12,10 @@ use crate::tokens::byte_at;
 use std::simd::prelude::*;
 use sym_core::{NameClass, find_name};
 
-/// This many bytes are examined together.
+/// How many bytes are examined together.
 const LANES: usize = 16;
 
-/// Whether the next bytes from a place on, those examined together, may be in a name.
+/// Whether the sixteen bytes from a place on, which are examined together, may be in a name.
 #[inline(always)]
 fn are_lanes_named(bytes: &[u8], at: usize) -> bool
     requires { at + 16 ≤ length bytes.now }
@@ -58,7 +58,7 @@ pub fn are_name_bytes(bytes: &[u8]) -> bool
     are_lanes_named(bytes, last)
 }
 
-/// Where a name has its own bytes: those after its length.
+/// Where the own bytes of a name are: those after its length.
 #[derive(Clone, Copy)]
 pub struct NamePlace {
     pub from: usize,
@@ -73,7 +73,7 @@ pub fn is_digit(byte: u8) -> bool
     b'0' <= byte && byte <= b'9'
 }
 
-/// The n bytes of a name after its length, at a place.
+/// The own bytes of the name at a place: the `size` bytes after its length.
 #[inline(always)]
 fn own_at(s: &[u8], _at: usize, from: usize, size: usize) -> Option<NamePlace>
     requires readable { IsReadable s.now }
@@ -92,7 +92,7 @@ fn own_at(s: &[u8], _at: usize, from: usize, size: usize) -> Option<NamePlace>
     Some(NamePlace { from, to })
 }
 
-/// Likewise where the length has more than two digits.
+/// The own bytes of the name at a place, if its length has more than two digits.
 #[inline(never)]
 fn long_name_at(s: &[u8], at: usize) -> Option<NamePlace>
     requires { IsReadable s.now }
@@ -108,7 +108,7 @@ fn long_name_at(s: &[u8], at: usize) -> Option<NamePlace>
     })
 }
 
-/// Where the name that is at a place has its own bytes.
+/// The place of the own bytes of the name that is at a place.
 // <source-name> ::= <positive length number> <identifier>
 #[inline(always)]
 pub fn name_at(s: &[u8], at: usize) -> Option<NamePlace>

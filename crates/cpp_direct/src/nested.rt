@@ -18,10 +18,10 @@ use crate::open::{Arguments, Nest, Open, Purpose, Step};
 use crate::symbols::NOWHERE;
 use crate::tokens::byte_at;
 
-/// The length of `std::`, which begins the text of each abbreviation: the name of its class follows.
+/// The length of `std::`, which precedes the name of the class in the text of each abbreviation.
 const STD_LENGTH: u32 = 5;
 
-/// A first piece that is a candidate already, and whose class is unknown.
+/// The first piece of a nested name, if it is a candidate already and its class is unknown.
 #[inline(always)]
 fn listed_nest(from: u32, purpose: Purpose, is_dependent: bool) -> Nest
     ensures { result ≡ record { from = from; class_from = from; class_to = from; purpose = purpose; is_listed = true; has_class = false; is_instance = false; is_dependent = is_dependent } }
@@ -38,7 +38,7 @@ fn listed_nest(from: u32, purpose: Purpose, is_dependent: bool) -> Nest
     }
 }
 
-/// Whether it is the digit of a constructor.
+/// Whether a byte is the digit of a constructor.
 // <ctor-dtor-name> ::= C1 | C2 | C3, and by the wide grammar C4 | C5
 #[inline(always)]
 fn is_constructor_digit<G: Grammar>(digit: u8) -> bool
@@ -53,7 +53,7 @@ fn is_constructor_digit<G: Grammar>(digit: u8) -> bool
     G::IS_WIDE && digit <= b'5'
 }
 
-/// Whether it is the digit of a destructor.
+/// Whether a byte is the digit of a destructor.
 // <ctor-dtor-name> ::= D0 | D1 | D2, and by the wide grammar D4 | D5
 #[inline(always)]
 fn is_destructor_digit<G: Grammar>(digit: u8) -> bool
@@ -134,7 +134,8 @@ impl Direct {
         self.nest_known::<G>(s)
     }
 
-    /// A substituted name is read, at the front of a nested one. In the wide grammar a type may end after its arguments.
+    /// A substituted name is read, at the front of a nested one. In the wide grammar a type may end
+    /// after the arguments of this name.
     // <nested-name> ::= N <substitution> <template-args> E
     #[inline(always)]
     fn nest_known<G: Grammar>(&mut self, s: &[u8]) -> Option<Step>
@@ -207,7 +208,6 @@ impl Direct {
     }
 
     /// Opens the arguments of a component, or of a name in std or a substitution.
-    // a function of its own: all that it is inlined in would clear the room of its entry, whether arguments follow or not
     #[inline(always)]
     fn open_nest<G: Grammar>(&mut self) -> Option<Step>
         ensures { IfSome result (λ next. (next ≡ steps.List true) × OpensArguments (detail_by G.IS_BARE G.IS_BRIEF) self.old self.new (opens.NestArguments self.old.nest)) }
@@ -251,7 +251,7 @@ impl Direct {
         Some(Step::Component)
     }
 
-    /// What is read of a nested name is a candidate, since a component follows.
+    /// What is read of a nested name becomes a candidate, since a component follows.
     #[inline(always)]
     fn go_on<G: Grammar>(&mut self, _s: &[u8]) -> Option<()>
         requires { IsWriting (symbol_by G.IS_WIDE G.IS_BARE G.IS_BRIEF _s.now) self.old steps.Tail }
@@ -282,14 +282,15 @@ impl Direct {
         Some(Step::Component)
     }
 
-    /// Whether it ends in the arguments of a function that is no constructor or destructor.
+    /// Whether the nested name ends in arguments of a function other than a constructor or a
+    /// destructor.
     pub(crate) fn is_function_instance(&self) -> bool
         ensures { result ≡ self.now.nest.is_instance && self.now.nest.has_class }
     {
         self.nest.is_instance && self.nest.has_class
     }
 
-    /// The arguments that it ends in, as far as they are known.
+    /// The arguments that the nested name ends in, as far as they are known.
     pub(crate) fn noted(&self) -> Arguments
         ensures known { self.now.nest.is_instance ≡ true → result ≡ self.now.argument }
         ensures none { self.now.nest.is_instance ≡ false → result ≡ nowhere }

@@ -1,12 +1,14 @@
-// The entries open around what is being read, and what comes next.
+// The open entries around what is being read, and what comes next.
 
-/// What a substitution may name: its text, by its place in the text so far. One that ends before it begins has none.
+/// What a substitution may name, as a span of the text so far. A candidate that ends before it
+/// begins has no text.
 #[derive(Clone, Copy)]
 pub struct Candidate {
     pub from: u32,
     pub to: u32,
     pub is_reference: bool,
-    /// It names arguments of the function's template: this is its text only in the types of that function.
+    /// The candidate names arguments of the function's template: it has this text only among the
+    /// types of that function.
     pub is_dependent: bool,
 }
 
@@ -29,10 +31,10 @@ pub struct Argument {
     pub is_reference: bool,
 }
 
-/// How many arguments of a name may be known, with the elements of a pack in its place.
+/// How many arguments of a name may be known, counting the elements of a pack in place of the pack.
 pub const MOST_KNOWN: usize = 8;
 
-/// The qualifiers of a member function: whether it is const, and what it may be called on.
+/// The qualifiers of a member function: const, and the ref-qualifier `&` or `&&`.
 #[derive(Clone, Copy)]
 pub enum Mark {
     Plain,
@@ -43,35 +45,35 @@ pub enum Mark {
     ConstRvalue,
 }
 
-/// The first arguments of a name, as far as they are known. If one of them is a pack, its elements are in its place. Between
-/// the texts of any two are a comma and a space.
+/// The first arguments of a name, as far as they are known. If one of them is a pack, its elements
+/// are in its place. A comma and a space separate neighbouring texts.
 #[derive(Clone, Copy)]
 pub struct Arguments {
-    /// the place where the encoding begins whose types may name them, 0 if this isn't known
+    /// the place of the encoding whose types may name the arguments, 0 if the place isn't known
     pub encoding: u16,
     /// where the text of the first one begins
     pub from: u16,
     /// where the text of each of them ends
     pub ends: [u16; MOST_KNOWN],
-    /// whether it is a reference
+    /// whether each of them is a reference
     pub references: [bool; MOST_KNOWN],
     /// how many are known
     pub count: u8,
     /// whether the last of them is a pack
     pub has_pack: bool,
-    /// how many arguments precede it
+    /// how many arguments precede the pack
     pub before: u8,
-    /// and how many elements it has
+    /// how many elements the pack has
     pub elements: u8,
 }
 
-/// What a parameter that expands a pack makes of each of its types.
+/// What an expansion makes of each type of the pack.
 #[derive(Clone, Copy)]
 pub enum Pattern {
     /// the type itself
     Same,
     Lvalue,
-    /// an lvalue reference to it as a constant
+    /// an lvalue reference to the type, which is made const
     ConstLvalue,
     Rvalue,
 }
@@ -81,39 +83,43 @@ pub enum Pattern {
 pub enum Purpose {
     /// a type
     Type,
-    /// the name of the encoding, of a member function with these qualifiers
+    /// the name of the encoding; if it is that of a member function, the function has these
+    /// qualifiers
     Name { mark: Mark },
-    /// the name of a function that contains a type, with these qualifiers, of an encoding that begins at this place
+    /// the name of a function that contains a type; it has these qualifiers, and its encoding
+    /// begins at this place
     Enclosing { mark: Mark, encoding: u16 },
-    /// the name of a function whose address is an argument, with these qualifiers
+    /// the name of a function whose address is an argument; the function has these qualifiers
     Address { mark: Mark },
 }
 
 /// What a lambda with parameters is a part of.
 #[derive(Clone, Copy)]
 pub enum Holder {
-    /// the function that contains it: it is a type
+    /// a function that contains the lambda, which is a type
     Function,
-    /// a nested name that is read as this
+    /// a nested name, which is read for this purpose
     Name { purpose: Purpose },
-    /// the name of a function that is its member, in the function that contains it, with these qualifiers
+    /// the name of the lambda's member function, which has these qualifiers, in a function that
+    /// contains the lambda
     Member { mark: Mark },
 }
 
-/// A nested name so far: where its text begins, and where the name of the class is that a constructor would repeat.
+/// A nested name so far: where its text is, and the class name that a constructor would repeat.
 #[derive(Clone, Copy)]
 pub struct Nest {
     pub from: u32,
     pub class_from: u32,
     pub class_to: u32,
     pub purpose: Purpose,
-    /// It is a candidate already.
+    /// The nested name is a candidate already.
     pub is_listed: bool,
-    /// Its last piece is the name of a class.
+    /// The last piece is the name of a class.
     pub has_class: bool,
-    /// It ends in arguments. No class name precedes those of a constructor or a destructor.
+    /// The nested name ends in arguments. If they are those of a constructor or a destructor,
+    /// `has_class` is false.
     pub is_instance: bool,
-    /// It names arguments of the function's template.
+    /// The nested name names arguments of the function's template.
     pub is_dependent: bool,
 }
 
@@ -125,7 +131,7 @@ pub enum Access {
     Lvalue,
 }
 
-/// The entries that wait for the type that is being read.
+/// The open entries, by what each expects.
 #[derive(Clone, Copy)]
 pub enum Open {
     Pointer {
@@ -157,76 +163,84 @@ pub enum Open {
     NameArguments {
         from: u32,
     },
-    /// the arguments of a name that has a member as an argument of what was opened before, and whether one of them names an
-    /// argument of the function's template
+    /// the arguments of a template, where a member of the instance is an element of what was opened
+    /// before; whether one of them names an argument of the function's template
     LevelArguments {
         is_dependent: bool,
     },
-    /// the return type of a function, which is written after its name; what was written up to this place is no part of the text
+    /// the return type of a function: it is written from this place on, after the function's name
+    /// and what precedes the name
     Front {
         mark: Mark,
         start: u32,
         argument: Arguments,
     },
-    /// the parameters of a function, whose text begins at this place
+    /// the parameters of a function: its text begins at this place, or ends there if only the names
+    /// of functions are shown
     Parameters {
         mark: Mark,
         start: u32,
         argument: Arguments,
     },
-    /// the return type of an instance of a function template that contains a type; the type's text begins at the first of these
-    /// places, with the function's name, and the name ends at the other
+    /// the return type of an instance of a function template that contains a type: the contained
+    /// type's text begins at `from`, with the instance's name, and this name ends at `to`
     EnclosingFront {
         mark: Mark,
         from: u32,
         to: u32,
         argument: Arguments,
     },
-    /// the parameters of a function that contains a type; the type's text begins at the first of these places, with the
-    /// function's name, and the name ends at the other
+    /// the parameters of a function that contains a type: the contained type's text begins at
+    /// `from`, with the function's name, and this name ends at `to`
     Enclosing {
         mark: Mark,
         from: u32,
         to: u32,
     },
-    /// those of such an instance, whose types may name its arguments
+    /// the parameters of an instance of a function template that contains a type: their types may
+    /// name the instance's arguments
     EnclosingInstance {
         mark: Mark,
         from: u32,
         to: u32,
         argument: Arguments,
     },
-    /// the name of a function whose address is an argument, of an encoding that begins at this place
+    /// the name of a function whose address is an argument; the function's encoding begins at this
+    /// place
     Address {
         encoding: u16,
     },
-    /// the return type of such a function; its name ends at this place
+    /// the return type of a function whose address is an argument; the function's name ends at this
+    /// place
     AddressedFront {
         mark: Mark,
         to: u32,
         argument: Arguments,
     },
-    /// its parameters
+    /// the parameters of a function whose address is an argument
     Addressed {
         mark: Mark,
         to: u32,
         argument: Arguments,
     },
-    /// the parameters of a lambda, which is a part of this; its text begins at this place
+    /// the parameters of a lambda, which is a part of `holder`; the text of what contains the
+    /// lambda begins at this place
     Lambda {
         from: u32,
         holder: Holder,
     },
-    /// the parameters of a function that is a member of a local entity; its name ends at this place
+    /// the parameters of a function that is a member of a local entity; the function's name ends at
+    /// this place
     Member {
         mark: Mark,
         to: u32,
     },
-    /// the name of a special symbol
+    /// the type that a special object belongs to
     Special,
     /// the derived class of a construction table
     Derived,
-    /// its base class, after the text of the derived one, which ends at this place
+    /// the base class of a construction table, after the text of the derived class, which ends at
+    /// this place
     Base {
         to: u32,
     },
@@ -234,7 +248,8 @@ pub enum Open {
     Returned {
         is_pointer: bool,
     },
-    /// its parameters
+    /// the parameters of a function type that is an element or a parameter, plain or after a
+    /// pointer
     Signature {
         is_pointer: bool,
     },
@@ -245,27 +260,29 @@ pub enum Open {
         from: u32,
         to: u32,
     },
-    /// the argument of a name with this number, whose text begins at this place: an element of what was opened before
+    /// an argument of a name: `number` others precede it, and its text begins at this place
     Argument {
         from: u32,
         number: u8,
         known: Arguments,
     },
-    /// the number of an enumerator that is the argument of a name with this number, whose text begins at this place
+    /// an enumerator that is an argument of a name: its type, then its number; the argument's text
+    /// begins at this place
     ArgumentEnumerator {
         from: u32,
         number: u8,
         known: Arguments,
     },
-    /// the elements of a pack, an argument of what was opened before
+    /// the elements of a pack, which is an argument of what was opened before
     Pack,
-    /// the element with this number of a pack that is the first argument of a name; its text begins at this place
+    /// an element of a pack among the arguments of a name: `number` arguments and elements precede
+    /// it, and its text begins at this place
     Element {
         from: u32,
         number: u8,
         known: Arguments,
     },
-    /// the number of an enumerator, an element of what was opened before
+    /// an enumerator, an element of what was opened before: its type, then its number
     Enumerator,
 }
 
@@ -276,12 +293,12 @@ pub enum Step {
     Type,
     /// a type after a const
     Plain,
-    /// a type was read, and whether it names arguments of the function's template
+    /// a type was read; it may be a reference, and may name arguments of the function's template
     Value {
         is_reference: bool,
         is_dependent: bool,
     },
-    /// an argument or an element of a pack, or the end of either
+    /// an argument or an element of a pack, or the end of the list
     List {
         is_first: bool,
     },

@@ -54,7 +54,8 @@ fn parameter_number(s: &[u8], at: usize) -> Option<ParameterNumber>
 /// template.
 const MOST_LEVELS: usize = 16;
 
-/// Whether what is in it is in a type: a mark, or the arguments of a type.
+/// Whether what an entry waits for is within a type: the entry is a mark, or has the arguments of a
+/// type.
 fn is_within_type(entry: Open) -> bool
     ensures { result ≡ is_within_type entry }
 {
@@ -81,7 +82,7 @@ fn is_type(purpose: Purpose) -> bool
     }
 }
 
-/// The arguments that its types may name.
+/// The arguments that types may name in what an entry waits for.
 fn arguments_in(entry: Open) -> Option<Arguments>
     ensures { result ≡ arguments_in entry }
 {
@@ -169,7 +170,8 @@ fn expansion_at(s: &[u8], at: usize) -> Option<Expansion>
     })
 }
 
-/// What a pattern has after the text of a type. For a reference it isn't known which kind it is.
+/// What a pattern adds after the text of a type. If the type is a reference, it isn't known of
+/// which kind.
 fn marks_of(pattern: Pattern, is_reference: bool) -> Option<&'static [u8]>
     ensures { IfSome result (λ marks. IsMarkedBy pattern is_reference marks.now) }
 {
@@ -197,7 +199,7 @@ fn marks_of(pattern: Pattern, is_reference: bool) -> Option<&'static [u8]>
 }
 
 impl Direct {
-    /// A parameter of a function comes next, the first one or another one.
+    /// A parameter of a function comes next: writes what precedes it, or reads the expansion of a pack.
     #[inline(always)]
     pub(crate) fn next_parameter<G: Grammar>(
         &mut self,
@@ -218,7 +220,7 @@ impl Direct {
         Some(Step::Type)
     }
 
-    /// Writes what precedes an element of a list, the first one or another one.
+    /// Writes what precedes an element of a list: a comma and a space, unless it is the first.
     #[inline(always)]
     fn separate(&mut self, is_first: bool) -> Option<()>
         ensures { OnSome result (Writes self.old self.new (separator is_first)) }
@@ -229,7 +231,8 @@ impl Direct {
         self.push_pair(b',', b' ')
     }
 
-    /// The last parameter may expand the pack among the arguments of the function's template. An empty one isn't written.
+    /// The last parameter may expand the pack among the arguments of the function's template. The
+    /// expansion of an empty pack isn't written.
     // <type> ::= Dp <type>
     #[inline(never)]
     fn expansion<G: Grammar>(
@@ -276,7 +279,7 @@ impl Direct {
         Some(())
     }
 
-    /// Writes what precedes the element of a list with this number.
+    /// Writes what precedes the element with this number in a list.
     fn comma(&mut self, number: u8) -> Option<()>
         ensures { OnSome result (Writes self.old self.new (comma_text number)) }
     {
@@ -300,8 +303,8 @@ impl Direct {
         self.push(marks)
     }
 
-    /// The parameter of an expansion, what its pattern makes of it, and the expansion become candidates. Their texts are
-    /// nowhere.
+    /// The parameter of an expansion, what its pattern makes of the parameter, and the expansion
+    /// become candidates. Their texts are nowhere.
     fn add_expansion(&mut self, pattern: Pattern) -> Option<()>
         ensures candidates { OnSome result (self.new.candidates.list.items ≡ self.old.candidates.list.items ++ replicate (2 + length (pattern_letters pattern)) hidden) }
         ensures text { self.new.text ≡ self.old.text }
@@ -319,7 +322,8 @@ impl Direct {
         }
     }
 
-    /// The arguments that types may name in the open entry, if it is few levels within the types of a function.
+    /// The arguments that types may name at this place, unless too many levels of types are around
+    /// it.
     fn argument(&self) -> Option<Arguments>
         ensures { IfSome result (λ a. argument_of (reverse self.now.waiting.list.items) ≡ Some a) }
     {
@@ -391,7 +395,8 @@ impl Direct {
         Some(Step::List { is_first: false })
     }
 
-    /// Reads an rvalue reference, up to the first type in it. One to an argument that is itself a reference is that argument.
+    /// Reads an rvalue reference, up to the first type in it. An rvalue reference to an argument
+    /// that is itself a reference is that argument.
     // <type> ::= O <type>
     #[inline(never)]
     pub(crate) fn rvalue_at<G: Grammar>(&mut self, s: &[u8]) -> Option<Step>
@@ -424,8 +429,8 @@ impl Direct {
         })
     }
 
-    /// Whether a nested name that is read as this may name the arguments of the symbol's own name: a type may, among the types
-    /// of that function.
+    /// Whether a nested name that is read for this purpose may name the arguments that types may
+    /// name here: a type may.
     pub(crate) fn may_depend(&self, purpose: Purpose) -> bool
         ensures is_type { result ≡ true → is_type purpose ≡ true }
         ensures named { result ≡ true → (a : Arguments) × (argument_of (reverse self.now.waiting.list.items) ≡ Some a) × (a.encoding ≢ 0) }
@@ -439,7 +444,8 @@ impl Direct {
         }
     }
 
-    /// A type that names arguments of the function's template is named once more, among the types of that function.
+    /// A substitution names a type again that names arguments of the function's template, among the
+    /// types of that function.
     // <substitution> ::= S <seq-id> _ | S_
     #[inline(never)]
     pub(crate) fn dependent_again<G: Grammar>(
@@ -452,7 +458,7 @@ impl Direct {
         ensures { IfSome result (IsWriting (symbol_by G.IS_WIDE G.IS_BARE G.IS_BRIEF _s.now) self.new) }
     {
         let named = self.argument()?;
-        // in another encoding it isn't the same type
+        // in another encoding the candidate isn't the same type
         if named.encoding == 0 {
             return None;
         }

@@ -40,7 +40,8 @@ pub const NOWHERE: Arguments = Arguments {
     elements: 0,
 };
 
-/// Whether a function whose name is written from a place on may have a return type. After a thunk's text it would have to be moved.
+/// Whether a function whose name is written from a place on may have a return type. After a thunk's
+/// text it may not, since that text would have to be moved.
 fn has_front(s: &[u8], from: u32) -> bool
     ensures { result ≡ true → is_local s.now ≡ false → from ≡ 0 }
 {
@@ -50,7 +51,7 @@ fn has_front(s: &[u8], from: u32) -> bool
     from == 0
 }
 
-/// The place where the encoding begins whose name is written from a place on, 0 if a text precedes it.
+/// The place of the encoding whose name is written from here on, 0 if a text precedes the name.
 fn encoding_place(s: &[u8], from: u32) -> u16
     ensures first { result ≢ 0 → from ≡ 0 }
     ensures is { result ≢ 0 → result ≡ encoding_place s.now }
@@ -78,7 +79,8 @@ impl Direct {
         self.list_on::<G>(s, passed)
     }
 
-    /// Reads a type up to the first type in it, or what follows a piece of a nested name, where that comes next.
+    /// Reads a type up to the first type in it, or what follows a piece of a nested name, if that
+    /// comes next.
     #[inline(always)]
     fn read<G: Grammar>(&mut self, s: &[u8], step: Step) -> Option<Step>
         requires fits { IsReadable s.now }
@@ -108,7 +110,7 @@ impl Direct {
         }
     }
 
-    /// Forwards a type to the entry that waits for it, where one was read.
+    /// Forwards a type to the entry that waits for it, if one was read.
     #[inline(always)]
     fn pass_on<G: Grammar>(&mut self, s: &[u8], step: Step) -> Option<Step>
         requires fits { IsReadable s.now }
@@ -124,7 +126,7 @@ impl Direct {
         }
     }
 
-    /// Reads an argument or an element of a pack, where one comes next, or the end of either.
+    /// Reads an argument, an element of a pack or the end of a list, if that comes next.
     #[inline(always)]
     fn list_on<G: Grammar>(&mut self, s: &[u8], step: Step) -> Option<Step>
         requires fits { IsReadable s.now }
@@ -205,7 +207,8 @@ impl Direct {
         if letter == b'A' {
             return None;
         }
-        // the M begins no symbol's name: it means the GI of a module's initializer
+        // no symbol has an M after its T: in the table of texts, the M is that of GI, a module's
+        // initializer
         if letter == b'M' {
             return None;
         }
@@ -233,7 +236,7 @@ impl Direct {
         self.nest_at::<G>(s, Purpose::Name { mark: place.mark })
     }
 
-    /// The name of an encoding is read: nothing is left, or the function's types.
+    /// The name of an encoding is read: the function's types follow, or nothing.
     // <encoding> ::= <function name> <bare-function-type> | <data name>
     pub(crate) fn name_ended<G: Grammar>(
         &mut self,
@@ -258,7 +261,8 @@ impl Direct {
         self.begin_parameters::<G>(s, mark, start, argument)
     }
 
-    /// The arguments of the symbol's own name, which its types may name, are known now. It has one name.
+    /// The arguments of the symbol's own name, which its types may name, are known from here on. A
+    /// symbol has only one such name.
     #[inline(always)]
     fn begin_scope(&mut self, s: &[u8], argument: Arguments, from: u32) -> Option<Arguments>
         ensures is { IfSome result (λ a. (a ≡ record argument { encoding = a.encoding }) × (a.encoding ≢ 0 → (from ≡ 0) × (a.encoding ≡ encoding_place s.now))) }
@@ -275,8 +279,8 @@ impl Direct {
         })
     }
 
-    /// Where the text of a function that has no return type begins, after its name was written, or where it ends if nothing
-    /// else is shown.
+    /// Where the text of a function that has no return type begins, once its name is written. If
+    /// only the names of functions are shown, where the text ends.
     #[inline(always)]
     fn start<G: Grammar>(&self) -> u32
         ensures whole { G.IS_BARE ≡ false → result ≡ 0 }
@@ -288,7 +292,8 @@ impl Direct {
         0
     }
 
-    /// Expects the return type of a function. It is written after the name, and then the name once more.
+    /// Expects the return type of a function, which is written after the function's name. After it
+    /// the name is written once more.
     // <bare-function-type> ::= <return type> <parameter type>+
     #[inline(never)]
     fn begin_front<G: Grammar>(
@@ -343,7 +348,8 @@ impl Direct {
         self.begin_parameters::<G>(s, mark, start, argument)
     }
 
-    /// A function that contains a local entity doesn't show its return type: the text begins after it.
+    /// A function that contains a local entity doesn't show its return type: the text begins after
+    /// that type.
     #[inline(never)]
     fn front_hidden<G: Grammar>(
         &mut self,
@@ -363,7 +369,8 @@ impl Direct {
         self.begin_parameters::<G>(s, mark, begins, argument)
     }
 
-    /// Reads the parameters of a function up to the first type in them. Its text begins at a place.
+    /// Reads the parameters of a function up to the first type in them. The function's text begins
+    /// at a place.
     // <bare-function-type> ::= <parameter type>+ | v
     #[inline(always)]
     fn begin_parameters<G: Grammar>(
@@ -448,7 +455,8 @@ impl Direct {
         self.end::<G>(s, mark)
     }
 
-    /// The end of an encoding, after its text without its qualifier: a local entity follows, or the end of the symbol.
+    /// The end of an encoding, once its text is written without its qualifier: a local entity
+    /// follows, or the end of the symbol.
     #[inline(always)]
     pub(crate) fn end<G: Grammar>(&mut self, s: &[u8], mark: Mark) -> Option<Step>
         requires fits { IsReadable s.now }
@@ -459,7 +467,8 @@ impl Direct {
         self.encoded::<G>(s)
     }
 
-    /// The end of an encoding, after its text: a local entity follows, or the end of the symbol.
+    /// The end of an encoding, once its text is written: a local entity follows, or the end of the
+    /// symbol.
     #[inline(always)]
     fn encoded<G: Grammar>(&mut self, s: &[u8]) -> Option<Step>
         requires fits { IsReadable s.now }

@@ -100,7 +100,7 @@ fn are_suffix_bytes(bytes: &[u8]) -> bool
     bytes.iter().all(|byte| is_suffix_byte(*byte))
 }
 
-/// Whether it is a point and at least one byte of a suffix.
+/// Whether the bytes are a dot and at least one byte of a suffix.
 pub fn is_suffix(bytes: &[u8]) -> bool
     ensures { result ≡ true → IsSuffix bytes.now }
 {
@@ -125,7 +125,7 @@ fn is_seq_digit(byte: u8) -> bool
     is_digit(byte) || (b'A' <= byte && byte <= b'Z')
 }
 
-/// What a number with this digit alone counts.
+/// The number of a substitution that has only this digit.
 #[inline(always)]
 fn value_by_digit(digit: u8) -> usize
     ensures { result ≡ counted_value NumberKind.Seq36 (digit ∷ []) }
@@ -164,7 +164,7 @@ fn seq_at(s: &[u8], at: usize) -> Option<SeqPlace>
     })
 }
 
-/// Likewise where the number has more than one digit.
+/// Likewise if the number has more than one digit.
 #[inline(never)]
 fn long_seq_at(s: &[u8], at: usize) -> Option<SeqPlace>
     requires fits { IsReadable s.now }
@@ -211,7 +211,8 @@ impl Direct {
         Some(())
     }
 
-    /// Reads the number of a substitution, and finds what it names, if that one's text is kept.
+    /// Reads the number of a substitution, and finds the candidate that it names, if the
+    /// candidate's text is kept.
     // <substitution> ::= S <seq-id> _ | S_
     #[inline(always)]
     pub(crate) fn substitution(&mut self, s: &[u8]) -> Option<Candidate>

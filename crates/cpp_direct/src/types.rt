@@ -27,7 +27,8 @@ fn is_array_behind(s: &[u8], at: usize) -> bool
     }
 }
 
-/// The entry for arguments that include one naming an argument of the function's template, if these may name one.
+/// The entry for arguments, once one of them names an argument of the function's template, if they
+/// may name one.
 pub fn dependent(entry: Open) -> Option<Open>
     ensures { IfSome result (IsDependentNow entry) }
 {
@@ -328,7 +329,8 @@ impl Direct {
         }
     }
 
-    /// Forwards such a type to the argument of a name, or the element of a pack, that waits for it.
+    /// Forwards a type that names no argument of the function's template to the entry of an
+    /// argument of a name, or of an element of a pack.
     #[inline(always)]
     fn pass_to_argument<G: Grammar>(
         &mut self,
@@ -361,7 +363,7 @@ impl Direct {
         }
     }
 
-    /// Forwards a type that names arguments of the function's template, as the arguments of a type may do.
+    /// Forwards a type that names arguments of the function's template to the waiting entry.
     // <template-arg> ::= <type>
     #[inline(never)]
     fn pass_dependent<G: Grammar>(&mut self, s: &[u8]) -> Option<Step>

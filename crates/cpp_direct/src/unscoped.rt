@@ -65,8 +65,8 @@ impl Direct {
         self.unscoped_named::<G>(s, from, true)
     }
 
-    /// The name of an encoding is read, which was written from a place on. Arguments may follow it, if it accepts them, and in
-    /// the wide grammar a tag before them.
+    /// The name of an encoding is read, and written from a place on. Arguments may follow the name,
+    /// if it accepts them, and in the wide grammar a tag before them.
     // <unqualified-name> ::= <unqualified-name> <abi-tags>
     fn unscoped_named<G: Grammar>(&mut self, s: &[u8], from: u32, takes: bool) -> Option<Step>
         requires fits { IsReadable s.now }
@@ -98,7 +98,8 @@ impl Direct {
         self.open_arguments::<G>(Open::NameArguments { from })
     }
 
-    /// Reads an operator, and answers whether arguments after it are read: there is a blank between << or < and its arguments.
+    /// Reads an operator, and answers whether arguments after it are read: not after << or <, where
+    /// a blank precedes them.
     // <operator-name> ::= nw | na | dl | da | ps | ng | ..
     #[inline(never)]
     pub(crate) fn operator_name(&mut self, s: &[u8]) -> Option<bool>

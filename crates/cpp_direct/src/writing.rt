@@ -78,7 +78,7 @@ impl Direct {
         })
     }
 
-    /// The text of an argument of the function's template becomes a candidate, which names this.
+    /// The text of an argument of the function's template becomes a candidate that names it.
     #[inline(always)]
     pub(crate) fn add_argument(&mut self, argument: Argument) -> Option<()>
         ensures candidates { OnSome result (self.new.candidates.list.items ≡ with_argument self.old argument) }
@@ -96,7 +96,8 @@ impl Direct {
         })
     }
 
-    /// A function type becomes a candidate, and so does the pointer to it, if it is one. Their texts are nowhere.
+    /// A function type becomes a candidate, and so does the pointer to it if there is one. Their
+    /// texts are nowhere.
     pub(crate) fn add_hidden(&mut self, is_pointer: bool) -> Option<()>
         ensures candidates { OnSome result (self.new.candidates.list.items ≡ with_hidden self.old is_pointer) }
         ensures text { self.new.text ≡ self.old.text }
@@ -111,7 +112,7 @@ impl Direct {
         self.candidates.push(HIDDEN)
     }
 
-    /// Likewise unless it is one already.
+    /// What is written from a place on becomes a candidate, unless it is one already.
     #[inline(always)]
     pub(crate) fn add_unless(
         &mut self,
@@ -137,8 +138,8 @@ impl Direct {
         self.text.repeat(from as usize, to as usize)
     }
 
-    /// Removes what was written up to a place. If there was any, there are no candidates then, or before a local entity all of
-    /// them are nowhere.
+    /// Removes what was written up to a place. If anything was, no candidates remain; in the symbol
+    /// of a local entity they remain, but all of them are nowhere.
     #[inline(always)]
     pub(crate) fn cut(&mut self, s: &[u8], start: u32) -> Option<()>
         ensures { OnSome result (Cuts s.now self.old self.new start) }
@@ -158,7 +159,8 @@ impl Direct {
         Some(())
     }
 
-    /// Removes what was written after a place. There are no candidates then, or before a local entity all of them are nowhere.
+    /// Removes what was written after a place. No candidates remain; in the symbol of a local
+    /// entity they remain, but all of them are nowhere.
     #[inline(always)]
     pub(crate) fn keep(&mut self, s: &[u8], end: u32)
         requires within { end ≤ length self.old.text.list.items }
@@ -172,7 +174,7 @@ impl Direct {
         self.candidates.begin(0);
     }
 
-    /// All candidates are then nowhere.
+    /// The texts of all candidates are nowhere from here on.
     #[inline(never)]
     fn hide_all(&mut self)
         ensures candidates { AreLeft hidings.All self.old.candidates.list.items self.new.candidates.list.items }
@@ -197,7 +199,8 @@ impl Direct {
         Some(())
     }
 
-    /// The arguments that types may name can't be named any more. Candidates that name them are then nowhere.
+    /// The arguments that types may name can't be named any more. Candidates that name them lose
+    /// their text.
     pub(crate) fn end_scope(&mut self)
         ensures candidates { AreLeft hidings.Dependent self.old.candidates.list.items self.new.candidates.list.items }
         ensures scope { self.new.has_scope ≡ false }
@@ -229,7 +232,7 @@ impl Direct {
         self.open_type(entry, Step::List { is_first: true })
     }
 
-    /// Ends arguments that were opened that way.
+    /// Ends arguments with a bracket, or with a mark where they are to be left out.
     #[inline(always)]
     pub(crate) fn end_arguments<G: Grammar>(&mut self) -> Option<()>
         ensures { OnSome result (Writes self.old self.new (closing_bracket (detail_by G.IS_BARE G.IS_BRIEF))) }

@@ -1,13 +1,7 @@
--- In the ABI's grammar there is no tag, so what follows a parameter or a substitution is what follows any other name. Nor does
--- a pack begin with an I, so the arguments from the first on are as those after it.
-use Rattle.std.proofs.Common.{◌≡◌, refl, sym, ◌∙◌, ℕ}
-use Rattle.sym_shape.specs.declared.rule.Sym.TheVariants.{Kind as OfKind}
-use Rattle.sym_shape.specs.Table.{Table}
-use Rattle.sym_shape.specs.Tree.{Tree, branch, empty, token, fixed, IsTree}
+-- In the ABI's grammar there is no tag, so the same may follow a parameter or a substitution as any other name. No pack
+-- begins with an I, so the arguments from the first one on are like those after it.
+use Rattle.cpp_grammar.proofs.Basics.{◌≡◌, refl, sym, ◌∙◌, ℕ, Kind as OfKind, Table, Tree, branch, empty, token, fixed, IsTree, MAYBE_ARGUMENTS, ARGUMENTS_ALONE, NEST_REST, NEST_REST_ALONE, ARGUMENT_LIST, ARGUMENTS_FIRST, kinds, alternatives, choose, may_be_empty, abi}
 use Rattle.cpp_grammar.specs.declared.kind.Kind.{Kind}
-use Rattle.cpp_grammar.specs.KindNumbers.{MAYBE_ARGUMENTS, ARGUMENTS_ALONE, NEST_REST, NEST_REST_ALONE, ARGUMENT_LIST, ARGUMENTS_FIRST}
-use Rattle.cpp_grammar.specs.Grammar.{kinds, alternatives, choose, may_be_empty}
-use Rattle.cpp_grammar.specs.Table.{abi}
 use Rattle.cpp_grammar.proofs.Choosing.{rule_at_kind, empty_at_kind}
 
 pub alike : (g : Table) (j k : ℕ) → ((byte : ℕ) → g.rule j byte ≡ g.rule k byte) → g.may_be_empty j ≡ g.may_be_empty k → (t : Tree) → IsTree g (OfKind j) t → IsTree g (OfKind k) t

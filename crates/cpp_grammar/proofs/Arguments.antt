@@ -1,26 +1,7 @@
--- A type is an argument, and the first type of a lambda, too: another tree of the same bytes, which denotes the same.
-use Rattle.std.proofs.Common.{◌≡◌, ℕ, ◌+◌, ◌-◌, List, [], ◌∷◌, ◌++◌, length, slice_get, Bool, true, false, cond, ◌||◌, ◌&&◌, nat_eq, Option, Some, None, Result, Ok, Err, refl, ap, sym, ◌∙◌, subst, lit≤, arith, append-nil}
-use Rattle.std.proofs.lemmas.Bool.{true≢false, eqb-true, and_parts}
-use Rattle.sym_core.specs.declared.refusal.Refusal.{Refusal}
-use Rattle.sym_core.specs.Token.{Token}
-use Rattle.sym_shape.specs.declared.rule.Rule.{Rule}
-use Rattle.sym_shape.specs.declared.rule.Sym.TheVariants.{Kind as OfKind}
-use Rattle.sym_shape.specs.Table.{Table, symbols_of}
-use Rattle.sym_shape.specs.Tree.{Tree, Forest, branch, empty, token, fixed, nothing, grown, spell, TakesRule, IsTree, AreTrees}
-use Rattle.sym_link.specs.Reading.{Found, Next, ◌>>=◌}
-use Rattle.sym_link.specs.Unfold.{alone, found, standing, unfold_tree, unfold_forest}
+-- A type is also an argument, and also the first type of a lambda: another tree of the same bytes denotes the same there.
+use Rattle.cpp_grammar.proofs.Basics.{◌≡◌, ℕ, ◌+◌, ◌-◌, List, [], ◌∷◌, ◌++◌, length, slice_get, Bool, true, false, cond, ◌||◌, ◌&&◌, nat_eq, Option, Some, None, Result, Ok, Err, refl, ap, sym, ◌∙◌, subst, lit≤, arith, append-nil, true≢false, eqb-true, and_parts, Refusal, Token, Rule, Kind as OfKind, Table, symbols_of, Tree, Forest, branch, empty, token, fixed, nothing, grown, spell, TakesRule, IsTree, AreTrees, Found, Next, ◌>>=◌, alone, found, standing, unfold_tree, unfold_forest, Production, ITEM, SOLID, SOLID_BUT_T, ARGUMENT, ARGUMENT_AFTER_T, FIRST_OF_LAMBDA, FIRST_AFTER_T, LEVELED_PARAMETER, Alternative, in_ranges, among, is_in, pick, alternatives, kinds, productions, number_of, number_of_kind, parts_of, is_chain, may_be_empty, wide_alternatives, rule_of, rule_taken, padded, sheet, abi, wide_sheet, wide, sheet_with, State, Around, Value, nothing_there, text, part, parameter_named, parameter_so_far, index_of, between, listed_so_far, meaning, opening, close, production_at, byte_of, cpp}
 use Rattle.cpp_grammar.specs.declared.kind.Kind.{Kind}
-use Rattle.cpp_grammar.specs.declared.production.Production.{Production}
-use Rattle.cpp_grammar.specs.KindNumbers.{ITEM, SOLID, SOLID_BUT_T, ARGUMENT, ARGUMENT_AFTER_T, FIRST_OF_LAMBDA, FIRST_AFTER_T, LEVELED_PARAMETER}
-use Rattle.cpp_grammar.specs.Grammar.{Alternative, in_ranges, among, is_in, pick, alternatives, kinds, productions, number_of, number_of_kind, parts_of, is_chain, may_be_empty}
-use Rattle.cpp_grammar.specs.Wide.{wide_alternatives}
-use Rattle.cpp_grammar.specs.Table.{rule_of, rule_taken, padded, sheet, abi, wide_sheet, wide, sheet_with}
-use Rattle.cpp_grammar.specs.Values.{State, Around, Value, nothing_there, text, part}
-use Rattle.cpp_grammar.specs.References.{parameter_named}
-use Rattle.cpp_grammar.specs.Between.{parameter_so_far, index_of, between, listed_so_far}
-use Rattle.cpp_grammar.specs.Meaning.{meaning}
 use Rattle.cpp_grammar.specs.Unfolding as unfolding_
-use Rattle.cpp_grammar.specs.Unfolding.{opening, close, production_at, byte_of, cpp}
 use Rattle.cpp_grammar.proofs.Choosing.{sheet_at}
 use Rattle.cpp_grammar.proofs.Growing.{same_choice, each_below, below, same_production, kept, table_with, rule_with}
 
@@ -53,18 +34,18 @@ tree_one empty around place state = one nothing_there state
 tree_one (token t) around place state = one (text t.own) state
 tree_one (fixed byte) around place state = one nothing_there state
 
--- where the value of a part is one, what follows it has to be the same for a single one
+-- if a part has one value, what follows it only has to be the same for a single value
 pub first_same : (m : Result Read Refusal) → One m → (f h g k : Read → Result Read Refusal) → ((v : Value) (s : State) → (f (found (v ∷ []) s) >>= g) ≡ (h (found (v ∷ []) s) >>= k)) → ((m >>= f) >>= g) ≡ ((m >>= h) >>= k)
 first_same _ (refused e) f h g k same = refl
 first_same _ (one v s) f h g k same = same v s
 
--- likewise where it is a part of a part
+-- likewise for a part of a part
 second_same : (m : Result Read Refusal) → One m → (f g h k l n : Read → Result Read Refusal)
     → ((v : Value) (s : State) → (((f (found (v ∷ []) s) >>= g) >>= h) >>= k) ≡ (l (found (v ∷ []) s) >>= n)) → ((((m >>= f) >>= g) >>= h) >>= k) ≡ ((m >>= l) >>= n)
 second_same _ (refused e) f g h k l n same = refl
 second_same _ (one v s) f g h k l n same = same v s
 
--- two continuations of one part, or a refusal
+-- two continuations of one part agree on the part if they agree on each of its values
 then_same : {A : Type 0} (m : Result A Refusal) (f : A → Result Read Refusal) (a b c d e g : Read → Result Read Refusal)
     → ((r : Read) → ((a r >>= b) >>= c) ≡ ((d r >>= e) >>= g)) → ((((m >>= f) >>= a) >>= b) >>= c) ≡ ((((m >>= f) >>= d) >>= e) >>= g)
 then_same (Err x) f a b c d e g same = refl
@@ -76,14 +57,14 @@ then_same (Ok n) f a b c d e g same = go (f n)
 
 -- ## What it denotes
 
--- a type that is a parameter, and the argument that is one
+-- a parameter as a type, and as an argument
 abbrev as_type : (digits : Token) (arguments : Tree) → Tree
 as_type digits arguments = branch (rule_of Production.PlainType) [] (grown (branch (rule_of Production.Parameter) (84 ∷ []) (grown (token digits) (grown arguments nothing))) nothing)
 
 abbrev with_t : Forest → Tree
 with_t parts = branch (rule_of Production.ArgumentWithT) (84 ∷ []) (grown (branch (rule_of Production.ParameterArgument) [] parts) nothing)
 
--- the place it names is that of its T
+-- a parameter is named at the place of its `T`, whether it is read as a type or as an argument
 named_same : (digits : Token) (arguments : Tree) (around : Around) (place : ℕ) (state : State) →
     unfold_tree cpp around place (with_t (grown (token digits) (grown arguments nothing))) state ≡ unfold_tree cpp around place (as_type digits arguments) state
 unfolding cpp opening production_at productions rule_of number_of between close unfolding_.behind meaning part byte_of parameter_named parameter_so_far listed_so_far index_of
@@ -136,7 +117,7 @@ first_same_as t around place state =
     (λ p. unfold_forest cpp argument ([] ++ p.value) (at + length (spell t)) nothing p.state)
     (λ i. close Production.ArgumentWithT (byte_of (84 ∷ [])) around place state i.value i.state >>= alone) (λ v s. refl))
 
--- any other type with code of its own
+-- any other type with code of its own denotes the same as an argument and as a type
 plain_same : (t : Tree) (around : Around) (place : ℕ) (state : State) →
     unfold_tree cpp around place (branch (rule_of Production.PlainArgument) [] (grown t nothing)) state ≡ unfold_tree cpp around place (branch (rule_of Production.PlainType) [] (grown t nothing)) state
 unfolding cpp opening production_at productions rule_of number_of between close unfolding_.behind meaning part byte_of
@@ -155,7 +136,7 @@ unfoldable pub item_stays : (chosen argument : Option Production) → Bool
 item_stays None argument = true
 item_stays (Some p) argument = nat_eq (number_of p) (number_of Production.PlainType) || same_choice (Some p) argument
 
--- and that begins as it does elsewhere, except for a parameter, after whose T its own production goes on
+-- a type with code of its own begins as it does elsewhere; but a parameter continues after its T with a production of its own
 unfoldable pub solid_stays : (behind_t : Production) → (byte : ℕ) → (chosen other argument : Option Production) → Bool
 solid_stays behind_t byte None other argument = true
 solid_stays behind_t byte (Some p) other argument = elim (nat_eq (number_of p) (number_of Production.Parameter)) [
@@ -163,7 +144,7 @@ solid_stays behind_t byte (Some p) other argument = elim (nat_eq (number_of p) (
   | false ↦ same_choice (Some p) other && same_choice (Some Production.PlainArgument) argument
 ]
 
--- and likewise in a table, where this kind is an argument or a first type
+-- `item_stays` and `solid_stays` hold in this table, where this kind is an argument or a first type
 pub record Begins (begins : Kind → List Alternative) (kind : Kind) (behind_t : Production) : Type 0 where
   pub items : each_below 256 (λ b. item_stays (pick (begins Kind.Item) b) (pick (begins kind) b)) ≡ true
   pub solids : each_below 256 (λ b. solid_stays behind_t b (pick (begins Kind.Solid) b) (pick (begins Kind.SolidButT) b) (pick (begins kind) b)) ≡ true
@@ -225,7 +206,7 @@ module _ (begins : Kind → List Alternative) where
   unfolding rule_taken
   chained k kind p at picked eats = record { byte = 95; is_byte = lit≤ tt; found = rule_with begins k kind 95 at ∙ ap rule_taken picked; takes = ap (λ e. cond e (95 ∷ []) []) (sym eats) }
 
-  -- a parameter, in the place of a type that is one
+  -- a parameter of this kind, in the place of a type that is a parameter
   abbrev pub AsParameter : (kind : ℕ) → (behind_t : Production) → Type 0
   AsParameter kind behind_t = (parts : Forest) → AreTrees (table_with begins) (symbols_of (rule_of Production.Parameter)) parts
       → TakesRule (table_with begins) kind (rule_of behind_t) (84 ∷ [])

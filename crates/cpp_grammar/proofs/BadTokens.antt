@@ -1,26 +1,7 @@
 -- A well shaped symbol is refused only for a bad token.
-use Rattle.std.proofs.Common.{ℕ, ◌+◌, ◌-◌, ◌^◌, List, [], ◌∷◌, ◌++◌, length, Bool, true, false, not, ◌||◌, ◌&&◌, cond, nat_eq, nat_lt, slice_get, Option, Some, None, Result, Ok, Err}
-use Rattle.std.specs.Result.{IfErr}
-use Rattle.sym_core.specs.declared.refusal.Refusal.{Refusal}
-use Rattle.sym_core.specs.declared.NumberKind.TheVariants.{Seq36}
-use Rattle.sym_core.specs.Value.{counted_value}
-use Rattle.sym_shape.specs.Tree.{Tree, Forest, branch, empty, token, fixed, nothing, grown, spell}
-use Rattle.sym_link.specs.Reading.{Open, ◌>>=◌}
-use Rattle.sym_link.specs.Unfold.{found, alone, standing, unfold_tree, unfold_forest}
-use Rattle.sym_demangle.specs.Mangled.{IsBadToken}
-use Rattle.cpp_grammar.specs.declared.production.Production.{Production}
-use Rattle.cpp_grammar.specs.Term.{Term, parameter}
-use Rattle.cpp_grammar.specs.Scope.{count, element, is_list, has_pack, length_if_pack, is_open, pack_length, Free, none_free, one_free, several_free, free_in}
-use Rattle.cpp_grammar.specs.Values.{Lists, both_lists, longer_list, shorter_list, no_list, Candidate, State, Around, prefix_tree, Value, tree, text_of, part, local_number}
-use Rattle.cpp_grammar.specs.References.{appended, with_packs, packs_in, is_module, substituted, parameter_named}
-use Rattle.cpp_grammar.specs.Between.{listed_so_far, parameter_so_far, index_of, between, next, argument_so_far}
-use Rattle.cpp_grammar.specs.Row.{Action, quiet, goes, becomes, tests, holds, unread, before_part}
-use Rattle.cpp_grammar.specs.Meant.{tested as tested_, done}
-use Rattle.cpp_grammar.specs.Rows.{row_of}
-use Rattle.cpp_grammar.specs.Rescoping.{generic_so_far, parameter_here, is_foreign, in_scope, under_scope, with_free, restated, substituted_wide, numbered, place_in, named_in, left_at, with_lists, listed_by, opening_wide, is_instance, holder_so_far, module_named, module_so_far, between_wide, close_wide, cpp_wide, unfold_wide, argument_here}
+use Rattle.cpp_grammar.proofs.Basics.{ℕ, ◌+◌, ◌-◌, ◌^◌, List, [], ◌∷◌, ◌++◌, length, Bool, true, false, not, ◌||◌, ◌&&◌, cond, nat_eq, nat_lt, slice_get, Option, Some, None, Result, Ok, Err, IfErr, Refusal, Seq36, counted_value, Tree, Forest, branch, empty, token, fixed, nothing, grown, spell, Open, ◌>>=◌, found, alone, standing, unfold_tree, unfold_forest, IsBadToken, Production, Term, parameter, count, element, is_list, has_pack, length_if_pack, is_open, pack_length, Free, none_free, one_free, several_free, free_in, Lists, both_lists, longer_list, shorter_list, no_list, Candidate, State, Around, prefix_tree, Value, tree, text_of, part, local_number, appended, with_packs, packs_in, is_module, substituted, parameter_named, listed_so_far, parameter_so_far, index_of, between, next, argument_so_far, Action, quiet, goes, becomes, tests, holds, unread, before_part, tested as tested_, done, row_of, generic_so_far, parameter_here, is_foreign, in_scope, under_scope, with_free, restated, substituted_wide, numbered, place_in, named_in, left_at, with_lists, listed_by, opening_wide, is_instance, holder_so_far, module_named, module_so_far, between_wide, close_wide, cpp_wide, unfold_wide, argument_here, last_token, number_tested, opening, close, production_at, byte_of, cpp, first_around, first_state, first_tree, unfold_cpp}
 use Rattle.cpp_grammar.proofs.Chosen.{either, if_there}
 use Rattle.cpp_grammar.proofs.Ways.{Way, reading_by, abi_way, wide_way}
-use Rattle.cpp_grammar.specs.Unfolding.{last_token, number_tested, opening, close, production_at, byte_of, cpp, first_around, first_state, first_tree, unfold_cpp}
 
 -- this is refused only for a bad token
 abbrev IsBad : {A : Type 0} → Result A Refusal → Type 0

@@ -1,20 +1,8 @@
 -- The rule that the table has is that of the production that a kind takes.
-use Rattle.std.proofs.Common.{◌≡◌, ◌≢◌, ℕ, zero, suc, ◌+◌, ◌<◌, ◌≤◌, List, [], ◌∷◌, ◌++◌, length, map, get_or, slice_get, Bool, true, false, not, cond, Option, ◌&&◌, ◌||◌, leb, nat_eq, nat_le, Some, None, inl, inr, refl, ap, sym, ◌∙◌, arith}
-use Rattle.std.specs.Option.{option_map}
-use Rattle.std.proofs.lemmas.List.{take_all}
+use Rattle.cpp_grammar.proofs.Basics.{◌≡◌, ◌≢◌, ℕ, zero, suc, ◌+◌, ◌<◌, ◌≤◌, List, [], ◌∷◌, ◌++◌, length, map, get_or, slice_get, Bool, true, false, not, cond, Option, ◌&&◌, ◌||◌, leb, nat_eq, nat_le, Some, None, inl, inr, refl, ap, sym, ◌∙◌, arith, option_map, take_all, slice_get-map, get_or_from_slice_get, slice_get_cases, true≢false, le-leb, lt-leb, eqb-true, and_parts, cases_Bool, cases_order, leb_tells, eqb_tells, Rule, TakesRule, range, in_range, classes_of, choice_at, Production, Alternative, in_ranges, among, is_in, pick, alternatives, choose, kinds, number_of_kind, may_be_empty, wide_alternatives, wide_choose, rule_of, rule_taken, ranges_of, class_of, choice_of, sheet_with, blank, sheet, abi, wide_sheet, wide}
 use Rattle.std.proofs.lemmas.List.Folds.{list_any-append}
-use Rattle.std.proofs.lemmas.Option.{slice_get-map, get_or_from_slice_get, slice_get_cases}
-use Rattle.std.proofs.lemmas.Bool.{true≢false, le-leb, lt-leb, eqb-true, and_parts, cases_Bool, cases_order}
-use Rattle.std.proofs.lemmas.Bool.Decides.{leb_tells, eqb_tells}
-use Rattle.sym_shape.specs.declared.rule.Rule.{Rule}
-use Rattle.sym_shape.specs.Tree.{TakesRule}
-use Rattle.sym_shape.specs.Sheet.{range, in_range, classes_of, choice_at}
 use Rattle.sym_shape.specs.Sheet as sheets
 use Rattle.cpp_grammar.specs.declared.kind.Kind.{Kind}
-use Rattle.cpp_grammar.specs.declared.production.Production.{Production}
-use Rattle.cpp_grammar.specs.Grammar.{Alternative, in_ranges, among, is_in, pick, alternatives, choose, kinds, number_of_kind, may_be_empty}
-use Rattle.cpp_grammar.specs.Wide.{wide_alternatives, wide_choose}
-use Rattle.cpp_grammar.specs.Table.{rule_of, rule_taken, ranges_of, class_of, choice_of, sheet_with, blank, sheet, abi, wide_sheet, wide}
 use Rattle.cpp_grammar.proofs.Chosen.{either_cond}
 
 is_above : (c byte : ℕ) → c ≤ byte → byte ≢ c → c < byte
@@ -76,7 +64,7 @@ kind_count : abi.kinds ≡ length kinds
 unfolding abi sheet kinds
 kind_count = refl
 
--- each number of the table is that of a kind
+-- each number below the table's count of kinds is that of a kind
 pub is_kind : (k : ℕ) → k < abi.kinds → slice_get kinds k ≡ None → ⊥
 is_kind k lt none = elim (slice_get_cases kinds k).1 [
   | inl there ↦ (let clash : None ≡ Some there.0 = sym none ∙ there.2 in absurd cc)
@@ -123,7 +111,7 @@ is_wide_kind k lt none = elim (slice_get_cases kinds k).1 [
 
 -- ## The production of a tree
 
--- what holds for each of these productions
+-- whether a condition holds for each of these productions
 unfoldable pub each_passes : (Production → Bool) → List Alternative → Bool
 each_passes passes [] = true
 each_passes passes (a ∷ rest) = passes a.production && each_passes passes rest
@@ -157,7 +145,7 @@ chosen_rule k rule taken lt takes = go (slice_get kinds k) refl
     go None none = absurd (is_wide_kind k lt none)
     go (Some kind) at = by kind at (wide_choose kind takes.byte) refl (sym (wide_rule_at k kind takes.byte at) ∙ takes.found)
 
--- what holds for each production of a kind holds for that of its trees
+-- what holds for each production of a kind holds for the productions of its trees
 pub taken_passes : (passes : ℕ → Production → Bool) → ((kind : Kind) → each_passes (passes (number_of_kind kind)) (wide_alternatives kind) ≡ true) → (k : ℕ) (rule : Rule) (c : Chosen k rule) →
     passes k c.production ≡ true
 unfolding wide_choose

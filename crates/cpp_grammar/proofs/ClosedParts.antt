@@ -1,20 +1,5 @@
--- The steps between the parts of a production keep what is closed closed.
-use Rattle.std.proofs.Common.{◌≡◌, refl, sym, ◌∙◌, subst, ℕ, ◌-◌, List, [], ◌∷◌, length, Bool, true, false, not, ◌&&◌, cond, nat_eq, Option, Some, None, Ok, Err}
-use Rattle.sym_core.specs.declared.refusal.Refusal.TheVariants.{BadReference}
-use Rattle.sym_core.specs.declared.NumberKind.TheVariants.{Seq36}
-use Rattle.sym_core.specs.Value.{counted_value}
-use Rattle.std.proofs.lemmas.Bool.{true≢false, false≢true}
-use Rattle.sym_link.specs.Reading.{Next, ◌>>=◌}
-use Rattle.cpp_grammar.specs.declared.production.Production.{Production}
-use Rattle.cpp_grammar.specs.Rescoping.{in_constraint_of, is_unseen, in_literal, generic_number, generic_so_far, parameter_here, argument_here, with_holder, is_instance, holder_so_far, with_held, place_in, named_in, named_by_both, module_of, module_named, module_so_far, between_wide}
-use Rattle.cpp_grammar.specs.Term.{Term, holder, parameter}
-use Rattle.cpp_grammar.specs.Scope.{is_open}
-use Rattle.cpp_grammar.specs.Values.{Candidate, State, Around, prefix_tree, prefix_listed, Value, nothing_there, tree, tree_of, text_of, part}
-use Rattle.cpp_grammar.specs.References.{appended, is_module, parameter_named}
-use Rattle.cpp_grammar.specs.Between.{in_signature, under_expansion, after, inside, Continuation, listed_so_far, parameter_so_far, argument_so_far, index_of, next, between}
-use Rattle.cpp_grammar.specs.Row.{Where, as_before, in_its_name, in_its_types, in_a_signature, under_it, nameless, after_part, after_the_name, Action, quiet, goes, becomes, tests, holds, unread, before_part}
-use Rattle.cpp_grammar.specs.Meant.{made, is_listing, around_part, packs_within, gained, replaced, tested, done}
-use Rattle.cpp_grammar.specs.Rows.{row_of}
+-- The steps between the parts of a production leave closed trees closed.
+use Rattle.cpp_grammar.proofs.Basics.{◌≡◌, refl, sym, ◌∙◌, subst, ℕ, ◌-◌, List, [], ◌∷◌, length, Bool, true, false, not, ◌&&◌, cond, nat_eq, Option, Some, None, Ok, Err, BadReference, Seq36, counted_value, true≢false, false≢true, Next, ◌>>=◌, Production, in_constraint_of, is_unseen, in_literal, generic_number, generic_so_far, parameter_here, argument_here, with_holder, is_instance, holder_so_far, with_held, place_in, named_in, named_by_both, module_of, module_named, module_so_far, between_wide, Term, holder, parameter, is_open, Candidate, State, Around, prefix_tree, prefix_listed, Value, nothing_there, tree, tree_of, text_of, part, appended, is_module, parameter_named, in_signature, under_expansion, after, inside, Continuation, listed_so_far, parameter_so_far, argument_so_far, index_of, next, between, Where, as_before, in_its_name, in_its_types, in_a_signature, under_it, nameless, after_part, after_the_name, Action, quiet, goes, becomes, tests, holds, unread, before_part, made, is_listing, around_part, packs_within, gained, replaced, tested, done, row_of}
 use Rattle.cpp_grammar.proofs.Ways.{has_signature}
 use Rattle.cpp_grammar.proofs.Chosen.{either}
 use Rattle.cpp_grammar.proofs.Steps.{second_of_both, all_pass, step_passes, is_here, goes_here}
@@ -22,7 +7,7 @@ use Rattle.cpp_grammar.proofs.ClosedValues.{all_where, Good, AllGood, GoodPrefix
 use Rattle.cpp_grammar.proofs.Declared.{read_of, read_abi}
 use Rattle.cpp_grammar.proofs.ClosedStates.{Bare, Within, IsOld, AllOld, old_get, Grows, grows_same, grows_one, grows_held, grows_packs, before_arguments_grow, gained_grows, parameter_good, parameter_grows, ok_same, behind_bind}
 
--- what surrounds a part, which is in the same encoding
+-- what surrounds a part in the same encoding
 pub record Fits (own : Bool) (around inner : Around) : Type 0 where
   pub encoding : inner.encoding ≡ around.encoding
   pub scope : around.scope ≡ None → inner.scope ≡ None
@@ -36,7 +21,7 @@ pub record Goes (own : Bool) (s : Type 0) (around : Around) (at : ℕ) (state : 
   pub fits : Fits own around n.context
   pub bare : s → Bare own n.context
 
--- likewise, where no parameters are named under it
+-- likewise, under the condition that no parameters are named
 abbrev GoesOn : (own : Bool) → Around → (at : ℕ) → State → Next Value State Around → Type 0
 GoesOn own around at state n = Goes own (Bare own around) around at state n
 
@@ -95,7 +80,7 @@ unfolding replaced
 replaced_good s v [] good all = tt
 replaced_good s v (w ∷ ws) good all = (good, all.1)
 
--- the first value is a tree now, which may be the name so far
+-- the first value becomes a tree, which may be the name so far
 becomes_goes : (own : Bool) (around : Around) (at : ℕ) (state : State) (t : Term) (is_in is_name : Bool) (vs : List Value) (new : State) (n : Next Value State Around) → GoodPrefix (Bare own around) around.prefix →
     Good (Bare own around) t → AllGood (Bare own around) vs → Grows own around at state new →
     ◌≡◌ {A = Continuation} (Ok (record { context = cond is_name (after t is_in around) around; values = replaced (tree t is_in) vs; state = new })) (Ok n) → GoesOn own around at state n
@@ -109,7 +94,7 @@ candidate_grows : (own : Bool) (around : Around) (at : ℕ) (t : Term) (state : 
 candidate_grows own around at t state true good = grows_one own around at t state good
 candidate_grows own around at t state false good = grows_same own around at state state refl
 
--- a parameter that is itself an argument leaves the candidates
+-- unless the parameter is the name so far, the candidates stay as they are
 kept_grows : (own : Bool) (around : Around) (at : ℕ) (state now : State) (is_name : Bool) → Grows own around at state now → Grows own around at state (cond is_name now (record now { candidates = state.candidates }))
 kept_grows own around at state now true grows = grows
 kept_grows own around at state now false grows = grows_same own around at state (record now { candidates = state.candidates }) refl
@@ -158,7 +143,7 @@ done_goes own unread around place vs state n at here pre all e = let clash : ◌
 within : (own : Bool) (p : Production) (around : Around) (at : ℕ) (state : State) (n : Next Value State Around) → GoesOn own around at state n → Goes own (Within own p around) around at state n
 within own p around at state n g = record { values = all_where (Bare own around) (Within own p around) n.values (λ w. w.0) g.values; grows = g.grows; fits = g.fits; bare = λ w. g.bare w.0 }
 
--- in a signature only its own parameters are named
+-- in a lambda's signature only the lambda's own parameters are named
 signature_goes : (own : Bool) (p : Production) (around : Around) (at : ℕ) (vs : List Value) (state : State) (n : Next Value State Around) → has_signature p ≡ true → AllGood (Within own p around) vs →
     ◌≡◌ {A = Continuation} (next vs (in_signature around) state) (Ok n) → Goes own (Within own p around) around at state n
 unfolding in_signature
@@ -166,13 +151,13 @@ signature_goes own p around at vs state n is all e =
     goes_by own (Within own p around) around at state vs (in_signature around) state n all (grows_same own around at state state refl) (fits_signature own around)
     (λ within. (refl, λ o. absurd (true≢false (sym is ∙ within.1 o)))) e
 
--- likewise where each production is in one
+-- likewise where the surroundings stay as they are
 quiet_goes : (own : Bool) (p : Production) (around : Around) (at : ℕ) (vs : List Value) (state : State) (n : Next Value State Around) → GoodPrefix (Bare own around) around.prefix → AllGood (Within own p around) vs →
     ◌≡◌ {A = Continuation} (next vs around state) (Ok n) → Goes own (Within own p around) around at state n
 quiet_goes own p around at vs state n pre all e =
     goes_by own (Within own p around) around at state vs around state n all (grows_same own around at state state refl) (fits_same own around pre).fits (λ within. within.0) e
 
--- with the values of any production
+-- likewise for any production with parts in the encoding around it
 pub goes_within : (own : Bool) (production : Production) (around : Around) (place : ℕ) (vs : List Value) (state : State) (n : Next Value State Around) (at : ℕ) → StaysInside production →
     GoodPrefix (Bare own around) around.prefix → AllGood (Within own production around) vs → between production around place vs state ≡ Ok n → Goes own (Within own production around) around at state n
 unfolding between has_signature in_signature all_pass goes_here is_here

@@ -1,37 +1,18 @@
 -- The candidates that a part appends are closed where no parameters are named around it.
-use Rattle.std.proofs.Common.{◌≡◌, refl, ap, sym, ◌∙◌, subst, ℕ, zero, suc, ◌-◌, ◌<◌, ◌≤◌, List, [], ◌∷◌, ◌++◌, Bool, true, false, not, ◌||◌, ◌&&◌, nat_eq, nat_lt, slice_get, Option, Some, None, Result, Ok, Err, ◌⊎◌, inl, inr, arith}
-use Rattle.std.proofs.lemmas.Bool.{eqb-true, true≢false, false≢true}
+use Rattle.cpp_grammar.proofs.Basics.{◌≡◌, refl, ap, sym, ◌∙◌, subst, ℕ, zero, suc, ◌-◌, ◌<◌, ◌≤◌, List, [], ◌∷◌, ◌++◌, Bool, true, false, not, ◌||◌, ◌&&◌, nat_eq, nat_lt, slice_get, Option, Some, None, Result, Ok, Err, ◌⊎◌, inl, inr, arith, eqb-true, true≢false, false≢true, Refusal, BadReference, Found, ◌>>=◌, found, Production, Term, parameter, lambda, generic_lambda, list, absent, count, element, is_list, has_pack, length_if_pack, is_open, pack_length, Free, none_free, one_free, several_free, free_in, ScopesAreClosed, Seq36, counted_value, Counted, by_all, by_newer, by_gcc, Candidate, Lists, both_lists, longer_list, shorter_list, no_list, Counting, State, Around, prefix_tree, prefix_listed, Value, nothing_there, tree, piece, pair, is_listed, text_of, local_number, part, tree_of, appended, appended_by, is_function_type, with_type, with_unqualified, with_prefix, with_packs, packs_in, is_module, substituted, parameter_named, is_unseen, is_passed_over, name_if, is_declaring, lambda_with, as_generic_lambda, with_holder, counted_unless, counted_base, counted_held, with_constructor, with_held, place_in, named_in, is_by_all, counted_so_far, awaiting, noting, left_at, with_lists, listed_by, is_foreign, in_scope, under_scope, with_free, restated, substituted_wide, numbered, close_wide, parameters, signature_with, meaning, close, no_items, gained, row_of}
 use Rattle.std.proofs.lemmas.List.{append_assoc, append-nil}
-use Rattle.sym_core.specs.declared.refusal.Refusal.{Refusal}
-use Rattle.sym_core.specs.declared.refusal.Refusal.TheVariants.{BadReference}
-use Rattle.sym_link.specs.Reading.{Found, ◌>>=◌}
-use Rattle.sym_link.specs.Unfold.{found}
-use Rattle.cpp_grammar.specs.declared.production.Production.{Production}
-use Rattle.cpp_grammar.specs.Term.{Term, parameter, lambda, generic_lambda, list, absent}
-use Rattle.cpp_grammar.specs.Scope.{count, element, is_list, has_pack, length_if_pack, is_open, pack_length, Free, none_free, one_free, several_free, free_in}
-use Rattle.cpp_grammar.specs.Closed.{ScopesAreClosed}
-use Rattle.sym_core.specs.declared.NumberKind.TheVariants.{Seq36}
-use Rattle.sym_core.specs.Value.{counted_value}
-use Rattle.cpp_grammar.specs.Values.{Counted, by_all, by_newer, by_gcc, Candidate, Lists, both_lists, longer_list, shorter_list, no_list, Counting, State, Around, prefix_tree, prefix_listed, Value, nothing_there, tree, piece, pair, is_listed, text_of, local_number, part, tree_of}
-use Rattle.cpp_grammar.specs.References.{appended, appended_by, is_function_type, with_type, with_unqualified, with_prefix, with_packs, packs_in, is_module, substituted, parameter_named}
-use Rattle.cpp_grammar.specs.Rescoping.{is_unseen, is_passed_over, name_if, is_declaring, lambda_with, as_generic_lambda, with_holder, counted_unless, counted_base, counted_held, with_constructor, with_held, place_in, named_in, is_by_all, counted_so_far, awaiting, noting, left_at, with_lists, listed_by, is_foreign, in_scope, under_scope, with_free, restated, substituted_wide, numbered, close_wide}
-use Rattle.cpp_grammar.specs.Meaning.{parameters, signature_with, meaning}
 use Rattle.cpp_grammar.specs.Unfolding as unfolding_
-use Rattle.cpp_grammar.specs.Unfolding.{close}
-use Rattle.cpp_grammar.specs.Between.{no_items}
 use Rattle.cpp_grammar.specs.Row.{Gain, nothing, the_prefix, type_of, unqualified_of, itself}
-use Rattle.cpp_grammar.specs.Meant.{gained}
-use Rattle.cpp_grammar.specs.Rows.{row_of}
 use Rattle.cpp_grammar.proofs.Ways.{has_signature}
 use Rattle.cpp_grammar.proofs.Declared.{makes_declared, read_of}
 use Rattle.cpp_grammar.proofs.Chosen.{either, either_cond, if_there}
 use Rattle.cpp_grammar.proofs.ClosedValues.{good_where, all_where, prefix_where, Good, AllGood, GoodPrefix, HasClosedName, held, good_nothing, good_tree, good_held, good_part, good_prefix, meaning_good}
 
--- No parameters are named here. Where those in a lambda's signature are its own, they are named in none.
+-- No parameters are named here: there is no scope, and if a lambda's parameters are its own, this isn't in its signature.
 abbrev pub Bare : (own : Bool) → Around → Type 0
 Bare own around = (around.scope ≡ None) × (own ≡ true → around.in_lambda ≡ false)
 
--- no parameters are in the parts of this production, except that those of a lambda may have its own
+-- likewise for the parts of this production, which are in no signature if a lambda's parameters are its own
 abbrev pub Within : (own : Bool) → Production → Around → Type 0
 Within own p around = Bare own around × (own ≡ true → has_signature p ≡ false)
 
@@ -39,17 +20,17 @@ Within own p around = Bare own around × (own ≡ true → has_signature p ≡ f
 abbrev pub IsOutside : (own : Bool) → Candidate → Type 0
 IsOutside own c = own ≡ true → c.in_lambda ≡ false
 
--- a candidate that was made in the encoding around it
+-- a candidate that was made in the encoding of these surroundings
 abbrev IsHere : (own : Bool) → Around → Candidate → Type 0
 IsHere own around c = (c.encoding ≡ around.encoding) × (around.scope ≡ None → IsOutside own c → is_open c.tree ≡ false)
 
--- a candidate before a place
+-- a candidate that was appended earlier: in this encoding, or in one that begins before a place
 pub record IsOld (own : Bool) (around : Around) (at : ℕ) (c : Candidate) : Type 0 where
   pub scopes : ScopesAreClosed c.tree
   pub closed : Bare own around → around.in_lambda ≡ false → IsOutside own c → c.encoding ≡ around.encoding → is_open c.tree ≡ false
   pub place : (c.encoding ≡ around.encoding) ⊎ (c.encoding < at)
 
--- a candidate that was made before a place
+-- a candidate that a part appended: in this encoding, or in one within it that begins before a place
 pub record IsNew (own : Bool) (around : Around) (end : ℕ) (c : Candidate) : Type 0 where
   pub scopes : ScopesAreClosed c.tree
   pub place : IsHere own around c ⊎ ((around.encoding < c.encoding) × (c.encoding < end))
@@ -257,7 +238,7 @@ gained_grows own (type_of k) around vs v state end pre all good = with_type_grow
 gained_grows own (unqualified_of k) around vs v state end pre all good = with_unqualified_grows own around end (part vs k) state (good_part (Bare own around) vs k all)
 gained_grows own itself around vs v state end pre all good = grows_one own around end (tree_of v) state good
 
--- other packs don't matter
+-- changing the packs doesn't change which candidates are appended
 pub grows_packs : (own : Bool) (around : Around) (end : ℕ) (old new : State) (packs : Option ℕ) → Grows own around end old new → Grows own around end old (record new { packs = packs })
 grows_packs own around end old new packs grows = record { more = grows.more; is = grows.is; each = grows.each }
 
@@ -280,7 +261,7 @@ pub record Comes (own : Bool) (around : Around) (end : ℕ) (old : State) (r : F
   pub good : Good (Bare own around) (held r.value)
   pub grows : Grows own around end old r.state
 
--- likewise, unless it is declared
+-- likewise, but the value of a declaration needn't be closed
 pub record Yields (own : Bool) (p : Production) (around : Around) (end : ℕ) (old : State) (r : Found Value State) : Type 0 where
   pub good : Good (YieldsOf own p around) (held r.value)
   pub grows : Grows own around end old r.state
@@ -313,7 +294,7 @@ close_good production byte around place began vs state r end old pre all name e 
 
 -- ## The reading of the wide grammar
 
--- the value of a substitution is good, and no candidate
+-- the value of a substitution is good, and no candidate is added
 abbrev IsNamed : Around → State → Found Value State → Type 0
 IsNamed around state r = Good (Bare true around) (held r.value) × (r.state.candidates ≡ state.candidates)
 
@@ -374,7 +355,7 @@ unfolding substituted_wide
 wide_substituted_good around place at None state r old e = let clash : ◌≡◌ {A = Result (Found Value State) Refusal} (Err (BadReference place)) (Ok r) = e in absurd cc
 wide_substituted_good around place at (Some c) state r old e = wide_named_good around place at c state r (old c refl) e
 
--- what a number names in a list is among the candidates
+-- what a number names in a list has a good value, and no candidate is added
 named_in_good : (is_shorter : Bool) (around : Around) (place at n : ℕ) (state : State) (r : Found Value State) → AllOld true around at state.candidates →
     substituted_wide around place (named_in is_shorter state.candidates n) state ≡ Ok r → IsNamed around state r
 unfolding named_in
@@ -400,14 +381,14 @@ neither : (a b : Bool) → (a || b) ≡ false → b ≡ false
 neither true b e = absurd (true≢false e)
 neither false b e = e
 
--- a lambda has no free parameters: the case depends on whether its signature has or declares some
+-- a lambda has no free parameters, whether or not its signature declares some or has free ones
 lambda_good : (s : Type 0) (t : Term) (number : ℕ) → ScopesAreClosed t → Good s (lambda_with t number)
 unfolding lambda_with is_open
 lambda_good s t number scopes =
     either (Good s) (is_declaring t || is_open t) (generic_lambda t number) (lambda t number) (λ is. record { closed = λ h. refl; scopes = λ n. scopes })
     (λ is. record { closed = λ h. neither (is_declaring t) (is_open t) is; scopes = λ n. scopes })
 
--- what is found, and no candidate
+-- a value is found, and no candidate is added
 found_comes : (around : Around) (state : State) (v : Value) (r : Found Value State) (end : ℕ) → Good (Bare true around) (held v) →
     ◌≡◌ {A = Result (Found Value State) Refusal} (Ok (found v state)) (Ok r) → Comes true around end state r
 found_comes around state v r end good e = comes_by true around end state state v r good (grows_same true around end state state refl) e
@@ -446,7 +427,7 @@ unfolding counted_base
 counted_grows around end (pair second own base) state good = grows_same true around end state state refl
 counted_grows around end base state good = unless_grows around end (is_listed base) by_gcc (tree_of base) state (good_tree (Bare true around) base good)
 
--- what is declared is found, and no candidate
+-- a declaration is found, and no candidate is added
 declared_yields : (p : Production) (byte : ℕ) (around : Around) (vs : List Value) (state : State) (r : Found Value State) (end : ℕ) → makes_declared p ≡ true → GoodPrefix (Bare true around) around.prefix →
     AllGood (Within true p around) vs → HasClosedName p vs → ◌≡◌ {A = Result (Found Value State) Refusal} (Ok (found (meaning p byte around vs) state)) (Ok r) → Yields true p around end state r
 declared_yields p byte around vs state r end is pre all name e =
@@ -455,7 +436,7 @@ declared_yields p byte around vs state r end is pre all name e =
     subst (λ x. Yields true p around end state x) (ok_same (found (meaning p byte around vs) state) r e)
     (record { good = record { closed = λ y. absurd (true≢false (sym is ∙ y.1 refl)); scopes = good.scopes }; grows = grows_same true around end state state refl })
 
--- an encoding or a literal, or the name that it is alone
+-- the value of an encoding or of a literal, or only its name
 name_if_good : (s : Type 0) (has_free : Bool) (name v : Value) → Good s (tree_of name) → Good s (held v) → Good s (held (name_if has_free name v))
 unfolding name_if held
 name_if_good s true name v n g = n
@@ -506,7 +487,7 @@ wide_close_good Production.DeclaredFirst byte around place began vs state r end 
 wide_close_good Production.FirstWithT byte around place began vs state r end old pre all name e = declared_yields Production.FirstWithT byte around vs state r end refl pre all tt e
 wide_close_good Production.Constraint byte around place began vs state r end old pre all name e =
     yields true Production.Constraint around end state r (found_comes around state nothing_there r end (good_nothing (Bare true around)) e)
--- nothing is in the place of what is declared
+-- nothing is in the place of the declaration
 wide_close_good Production.DeclaredArgument byte around place began [] state r end old pre all name e =
     yields true Production.DeclaredArgument around end state r (made_good true Production.DeclaredArgument byte around began [] state r end pre tt tt e)
 wide_close_good Production.DeclaredArgument byte around place began (v ∷ vs) state r end old pre all name e =

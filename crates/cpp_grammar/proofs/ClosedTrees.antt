@@ -1,34 +1,8 @@
 -- In the tree of a symbol the arguments that are a scope have no free parameters.
-use Rattle.std.proofs.Common.{◌≡◌, refl, ap, sym, ◌∙◌, subst, ℕ, suc, ◌+◌, ◌-◌, ◌<◌, ◌≤◌, List, [], ◌∷◌, ◌++◌, length, Bool, true, false, not, ◌&&◌, ◌||◌, ◌^◌, nat_eq, nat_lt, Option, Some, None, Result, Ok, Err, inl, inr, lit≤, arith}
-use Rattle.std.proofs.lemmas.Bool.{true≢false, false≢true, cases_Bool}
-use Rattle.std.proofs.lemmas.List.{length-append}
-use Rattle.sym_core.specs.declared.refusal.Refusal.{Refusal}
-use Rattle.sym_core.specs.declared.refusal.Refusal.TheVariants.{BadValue}
-use Rattle.sym_shape.specs.declared.rule.Rule.{Rule}
-use Rattle.sym_shape.specs.declared.rule.Sym.{Sym}
-use Rattle.sym_shape.specs.declared.rule.Sym.TheVariants.{Kind as OfKind}
-use Rattle.sym_shape.specs.Table.{symbols_of}
-use Rattle.sym_shape.specs.Law.{IsSymbol, AreSymbols}
-use Rattle.sym_shape.specs.Tree.{Tree, Forest, branch, empty, token, fixed, nothing, grown, spell, spell_all, TakesRule, IsTree, AreTrees}
+use Rattle.cpp_grammar.proofs.Basics.{◌≡◌, refl, ap, sym, ◌∙◌, subst, ℕ, suc, ◌+◌, ◌-◌, ◌<◌, ◌≤◌, List, [], ◌∷◌, ◌++◌, length, Bool, true, false, not, ◌&&◌, ◌||◌, ◌^◌, nat_eq, nat_lt, Option, Some, None, Result, Ok, Err, inl, inr, lit≤, arith, true≢false, false≢true, cases_Bool, length-append, Refusal, BadValue, Rule, Sym, Kind as OfKind, symbols_of, IsSymbol, AreSymbols, Tree, Forest, branch, empty, token, fixed, nothing, grown, spell, spell_all, TakesRule, IsTree, AreTrees, Found, Open, Next, ◌>>=◌, found, alone, standing, unfold_tree, unfold_forest, Production, Operation, KIND_COUNT, SYMBOL, SPECIAL, SPECIAL_MARK, SPECIAL_AFTER_G, COMPLETE_NAME, ITEMS, kinds, productions, number_of, number_of_kind, parts_of, is_chain, wide_alternatives, wide, wide_sheet, rule_of, padded, wide_sound, Term, is_open, ScopesAreClosed, Candidate, prefix_at, qualified_at, Counting, State, Around, Value, nothing_there, text, tree_of, part, local_number, in_name, in_types, no_items, between, meaning, last_token, number_tested, opening, close, production_at, byte_of, cpp, first_around, first_state, first_tree, unfold_cpp, passed_over, name_if, expecting, expecting_item, calling, ending, noting, opening_wide, cpp_wide, unfold_wide}
 use Rattle.sym_shape.proofs.Firsts.{taken_eats}
-use Rattle.sym_link.specs.Reading.{Found, Open, Next, ◌>>=◌}
-use Rattle.sym_link.specs.Unfold.{found, alone, standing, unfold_tree, unfold_forest}
 use Rattle.cpp_grammar.specs.declared.kind.Kind.{Kind}
-use Rattle.cpp_grammar.specs.declared.production.Production.{Production}
-use Rattle.cpp_grammar.specs.declared.production.Operation.{Operation}
-use Rattle.cpp_grammar.specs.KindNumbers.{KIND_COUNT, SYMBOL, SPECIAL, SPECIAL_MARK, SPECIAL_AFTER_G, COMPLETE_NAME, ITEMS}
-use Rattle.cpp_grammar.specs.Grammar.{kinds, productions, number_of, number_of_kind, parts_of, is_chain}
-use Rattle.cpp_grammar.specs.Wide.{wide_alternatives}
-use Rattle.cpp_grammar.specs.Table.{wide, wide_sheet, rule_of, padded}
-use Rattle.cpp_grammar.specs.TableLaws.{wide_sound}
-use Rattle.cpp_grammar.specs.Term.{Term}
-use Rattle.cpp_grammar.specs.Scope.{is_open}
-use Rattle.cpp_grammar.specs.Closed.{ScopesAreClosed}
-use Rattle.cpp_grammar.specs.Values.{Candidate, prefix_at, qualified_at, Counting, State, Around, Value, nothing_there, text, tree_of, part, local_number}
-use Rattle.cpp_grammar.specs.Between.{in_name, in_types, no_items, between}
-use Rattle.cpp_grammar.specs.Meaning.{meaning}
 use Rattle.cpp_grammar.specs.Unfolding as unfolding_
-use Rattle.cpp_grammar.specs.Unfolding.{last_token, number_tested, opening, close, production_at, byte_of, cpp, first_around, first_state, first_tree, unfold_cpp}
 use Rattle.cpp_grammar.proofs.Choosing.{each_passes, chosen_rule, taken_passes, implied}
 use Rattle.cpp_grammar.proofs.ClosedValues.{good_where, Good, AllGood, GoodPrefix, HasClosedName, held, good_tree, good_encoding, good_no_items}
 use Rattle.cpp_grammar.proofs.ClosedStates.{Bare, Within, YieldsOf, Yields, yields, AllOld, AllNew, Grows, old_later, grows_same, grows_then, old_append, old_grows, ok_same, behind_bind, close_good, noting_same, wide_close_good}
@@ -36,7 +10,6 @@ use Rattle.cpp_grammar.proofs.ClosedParts.{Fits, Moves, StaysInside, abi_moves, 
 use Rattle.cpp_grammar.proofs.Ways.{has_signature, Way, reading_by, abi_way, wide_way, differs, name_by, types_by, IsPlain, abi_plain, wide_plain}
 use Rattle.cpp_grammar.proofs.Declared.{is_declaration, is_first, declares, makes_declared, only_declared, skips, parts_apart, declared_apart, is_nothing, some_values, read_of, read_abi, read_none, read_then, hides, next_apart}
 use Rattle.cpp_grammar.proofs.Steps.{first_of_both, second_of_both, all_pass}
-use Rattle.cpp_grammar.specs.Rescoping.{passed_over, name_if, expecting, expecting_item, calling, ending, noting, opening_wide, cpp_wide, unfold_wide}
 use Rattle.cpp_grammar.proofs.Chosen.{either}
 
 -- ## Productions and their rules
@@ -79,7 +52,7 @@ unfoldable pub has_encoding : List Sym → Bool
 has_encoding [] = false
 has_encoding (x ∷ xs) = is_encoding x || has_encoding xs
 
--- an encoding follows a byte
+-- a production with an encoding among its parts takes a byte
 behind_a_byte : (p : Production) → is_chain p && has_encoding (parts_of p) ≡ false
 unfolding is_chain parts_of has_encoding is_encoding number_of_kind
 behind_a_byte Production.Mark = refl
@@ -109,7 +82,7 @@ taken_rule k rule taken lt takes =
     let c = chosen_rule k rule taken lt takes in
     record { production = c.production; is = c.is; encoding = implied (opens c.production) (nat_eq k 4) (taken_passes (λ n p. not (opens p) || nat_eq n 4) only_encodings k rule c) }
 
--- a production of a kind that declares nothing
+-- a kind that declares nothing takes no production of declarations
 kind_plain : (k : ℕ) (rule : Rule) (taken : List ℕ) → k < wide.kinds → TakesRule wide k rule taken → declares (OfKind k) ≡ false → makes_declared (production_at rule.number) ≡ false
 kind_plain k rule taken lt takes plain =
     let c = chosen_rule k rule taken lt takes in
@@ -128,7 +101,7 @@ pub record TreeComes (own : Bool) (around : Around) (end : ℕ) (old : State) (r
   pub good : Good (Bare own around) (held value)
   pub grows : Grows own around end old r.state
 
--- no parameters are in what is of this kind, unless it is declared
+-- no parameters are in a part of this kind, unless it is a declaration
 abbrev pub UnlessDeclared : (own : Bool) → Sym → Around → Type 0
 UnlessDeclared own x around = Bare own around × (own ≡ true → declares x ≡ false)
 
@@ -319,7 +292,7 @@ unfolding name_by in_name
 name_closed own true at name h good = h
 name_closed own false at name h good = good.closed (refl, λ o. refl)
 
--- candidates of the encoding around this one, and of this one
+-- candidates that are old in the encoding around this one are old in this one
 pub old_within : (own : Bool) (around inner : Around) (at : ℕ) (cs : List Candidate) → inner.encoding ≡ at → around.encoding < at → AllOld own around at cs → AllOld own inner at cs
 old_within own around inner at [] is lt all = tt
 old_within own around inner at (c ∷ cs) is lt all =
@@ -378,7 +351,7 @@ takes_byte p rule k taken is takes has = go (is_chain p) refl (behind_a_byte p)
     go true e none = absurd (true≢false (sym there ∙ none))
     go false e none = omega (arith, ap length (taken_eats wide k rule taken takes (ap (λ x. x.eats) is ∙ ap not e)))
 
--- a rule that is there
+-- a rule that is open at a place
 abbrev pub Whole : Rule → List ℕ → ℕ → Around → State → Open State Around
 Whole rule taken at around state = standing rule taken at around state
 
@@ -394,7 +367,7 @@ first_good : (v : Value) (vs : List Value) → vs ≡ v ∷ [] → ScopesAreClos
 unfolding first_tree
 first_good v vs is good = subst (λ ws. ScopesAreClosed (first_tree ws)) (sym is) good
 
--- the parts that are left, behind some values
+-- what holds of all parts of a production holds of those after the one that was read
 pub left_apart : (p : Production) (first : Bool) (vs us : List Value) (x : Sym) (xs : List Sym) (value : Value) → us ≡ value ∷ [] → parts_apart p first (x ∷ xs) ≡ true → parts_apart p (is_nothing (vs ++ us)) xs ≡ true
 unfolding parts_apart
 left_apart p first vs us x xs value is apart =
@@ -408,14 +381,14 @@ rule_apart p rule is =
 -- ## Either reading
 
 module _ (w : Way) (keeps : KeepsClosed w) where
-  -- what special names denote, as the plain reading has it
+  -- special names denote what they denote in the ABI's reading
   plain_means : (p : Production) → opens p ≡ true → differs p ≡ false → (around : Around) (place byte : ℕ) (began : State) (vs : List Value) (state : State) (one : Found Value State) →
       Good (Bare w.own around) (held (meaning p byte around vs)) → w.close p byte around place began vs state ≡ Ok one → Good (Bare w.own around) (held one.value) × (one.state ≡ state)
   plain_means p opening apart around place byte began vs state one good e =
       let same = inner_closes p opening byte around place began vs state one (sym (keeps.plain.close p apart byte around place began vs state) ∙ e) in
       (subst (λ x. Good (Bare w.own around) (held x.value)) same good, ap (λ x. x.state) (sym same))
 
-  -- what an encoding denotes, or its name alone
+  -- what an encoding denotes, or only its name
   encoding_means : (around : Around) (at place byte : ℕ) (began : State) (u v : Value) (state : State) (one : Found Value State) → Good (Bare w.own (name_by (w.passes around) at)) (held u) →
       ScopesAreClosed (no_items v) → w.close Production.Encoding byte around place began (u ∷ v ∷ []) state ≡ Ok one → Good (Bare w.own around) (held one.value) × (one.state ≡ state)
   unfolding name_if meaning held part

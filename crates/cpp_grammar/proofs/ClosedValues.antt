@@ -1,19 +1,9 @@
 -- What productions denote is closed where the values of their parts are.
-use Rattle.std.proofs.Common.{◌≡◌, refl, ℕ, zero, suc, List, [], ◌∷◌, ◌++◌, Bool, true, false, ◌||◌, ◌&&◌, nat_eq}
-use Rattle.std.proofs.lemmas.Bool.{true≢false}
-use Rattle.cpp_grammar.specs.declared.production.Production.{Production}
-use Rattle.cpp_grammar.specs.Term.{RefQualifier, lvalue_only, rvalue_only, Term, symbol, function, within, instance, local, of_default, inheriting, lvalue, rvalue, encoding_literal, operation, nil, list, absent}
-use Rattle.cpp_grammar.specs.Scope.{arguments_of, is_open, has_return_type}
-use Rattle.cpp_grammar.specs.Closed.{HasNoneFree, ScopesAreClosed}
-use Rattle.cpp_grammar.specs.Values.{Around, Prefix, outermost, behind, prefix_tree, Value, nothing_there, letter, tree, piece, named, signature, pair, tree_of, piece_of, letter_of, qualifiers_of, ref_of, is_there, part}
-use Rattle.cpp_grammar.specs.Between.{extended, applied, no_items, with_tag, inherited}
-use Rattle.cpp_grammar.specs.Meaning.{is_void, is_nil, parameters, encoding_of, default_entity, listed_value, with_item, reference_to, signature_or, operator_or_literal, operation_or_address, operation_by, is_code, is_comma, ends_arguments, in_parentheses, enclosed_argument, enclosed_element, meaning, declared_first, signature_with}
+use Rattle.cpp_grammar.proofs.Basics.{◌≡◌, refl, ℕ, zero, suc, List, [], ◌∷◌, ◌++◌, Bool, true, false, ◌||◌, ◌&&◌, nat_eq, true≢false, Production, RefQualifier, lvalue_only, rvalue_only, Term, symbol, function, within, instance, local, of_default, inheriting, lvalue, rvalue, encoding_literal, operation, nil, list, absent, arguments_of, is_open, has_return_type, HasNoneFree, ScopesAreClosed, Around, Prefix, outermost, behind, prefix_tree, Value, nothing_there, letter, tree, piece, named, signature, pair, tree_of, piece_of, letter_of, qualifiers_of, ref_of, is_there, part, extended, applied, no_items, with_tag, inherited, is_void, is_nil, parameters, encoding_of, default_entity, listed_value, with_item, reference_to, signature_or, operator_or_literal, operation_or_address, operation_by, is_code, is_comma, ends_arguments, in_parentheses, enclosed_argument, enclosed_element, meaning, declared_first, signature_with, all_given, given, made, meant, row_of}
 use Rattle.cpp_grammar.specs.Makers.{Maker, new_symbol, new_special, new_of_name, new_construction, new_clone, new_in_std, new_instance, new_local, new_abbreviation, new_source, new_operator, new_literal_operator, new_constructor, new_unnamed, new_string_literal, new_conversion, new_builtin, new_sized_float, new_constrained, new_vendor, new_pointer, new_lvalue, new_rvalue, new_array, new_bounded, new_member_pointer, new_function_type, new_qualified, new_vector, new_complex, new_expansion, new_integer, new_boolean, new_null_pointer, new_decltype, new_encoding_literal, new_operation, new_function_parameter, new_pack, new_enumeration, new_bindings}
 use Rattle.cpp_grammar.specs.Builders.{Argument, argument, built, tree_in}
 use Rattle.cpp_grammar.specs.Row.{Source, tree_at, list_at, parameters_at, piece_at, the_name, qualified_by, Made, of, only, extending, tagging, applying, packing, Own, nested_name, encoding, non_virtual_thunk, virtual_thunk, covariant_thunk, local_name, in_default, nest_end, closure, inheriting as inheriting_, by_letters, enclosed, elements, first_of_operator, reference, lvalue_signature, rvalue_signature, Form, handed, finished, either, the_byte, makes, a_piece, a_pair, cell, item, a_name, in_place, own, declared_before}
 use Rattle.cpp_grammar.specs.Own.{own_meaning}
-use Rattle.cpp_grammar.specs.Meant.{all_given, given, made, meant}
-use Rattle.cpp_grammar.specs.Rows.{row_of}
 use Rattle.cpp_grammar.proofs.Chosen as chosen
 
 -- the tree is closed under one condition, and the scopes in it are under another
@@ -21,7 +11,7 @@ pub record GoodIf (q s : Type 0) (t : Term) : Type 0 where
   pub closed : s → is_open t ≡ false
   pub scopes : q → ScopesAreClosed t
 
--- the tree or the piece of a name that a value is
+-- the tree or the piece of a name that a value holds
 unfoldable pub held : Value → Term
 held (tree t listed) = t
 held (piece p) = p
@@ -69,12 +59,12 @@ none_free (of_default digits entity) h = none_free entity h
 none_free (symbol e suffix) h = tt
 none_free _ h = tt
 
--- what an encoding's name is known to be
+-- an encoding's name has no free parameters; nothing is said of other productions
 abbrev pub HasClosedName : Production → List Value → Type 0
 HasClosedName Production.Encoding vs = is_open (tree_of (part vs 0)) ≡ false
 HasClosedName _ vs = Unit {0}
 
--- every value except an encoding, whose name is known to be closed
+-- every form except that of an encoding, which needs a name without free parameters
 abbrev IsOther : Form → Type 0
 IsOther (own encoding most) = ⊥
 IsOther _ = Unit {0}
@@ -178,7 +168,7 @@ module _ {q : Type 0} where
   good_signature_or s ref (letter b) g = g
   good_signature_or s ref v g = g
 
-  -- what a lambda declares of its parameters
+  -- the declaration before a lambda's first type, with that type, is good if both are
   good_declared : (s : Type 0) (head v : Value) → GoodIf q s (tree_of head) → GoodIf q s (held v) → GoodIf q s (held (declared_first head v))
   unfolding declared_first held
   good_declared s head (pair key first heads) g h = good_list s first _ (good_first s first heads h) (good_list s (tree_of head) heads g (good_second s first heads h))
@@ -379,7 +369,7 @@ module _ {q : Type 0} where
       good_encoding s (part vs 0) (no_items (part vs 1)) name (good_part s vs 0 all).scopes (good_no_items s (part vs 1) (good_part s vs 1 all)).scopes
   meaning_good s production byte around vs pre all name = meant_good s (row_of production).form byte around vs tt pre all
 
--- so are values, and a prefix
+-- good values stay good in one list, and under a stronger condition; so does a prefix
 pub all_append : (s : Type 0) (vs ws : List Value) → AllGood s vs → AllGood s ws → AllGood s (vs ++ ws)
 all_append s [] ws f g = g
 all_append s (v ∷ vs) ws f g = (f.0, all_append s vs ws f.1 g)

@@ -1,16 +1,7 @@
--- What is declared of a parameter names parameters that are declared with it, wherever it is read. So the reading of the wide grammar finds it
--- closed nowhere, and no production uses the value of it that isn't in a signature.
-use Rattle.std.proofs.Common.{◌≡◌, refl, ap, sym, ◌∙◌, List, [], ◌∷◌, ◌++◌, Bool, true, false, not, ◌||◌, ◌&&◌, nat_eq}
-use Rattle.std.proofs.lemmas.Bool.{true≢false, false≢true}
-use Rattle.sym_shape.specs.declared.rule.Sym.{Sym}
-use Rattle.sym_shape.specs.declared.rule.Sym.TheVariants.{Kind as OfKind}
+-- The declaration of a parameter names parameters that are declared with it, wherever it is read. So by the wide reading it is
+-- closed nowhere, and no production outside a signature uses its value.
+use Rattle.cpp_grammar.proofs.Basics.{◌≡◌, refl, ap, sym, ◌∙◌, List, [], ◌∷◌, ◌++◌, Bool, true, false, not, ◌||◌, ◌&&◌, nat_eq, true≢false, false≢true, Sym, Kind as OfKind, Production, Operation, DECLARATION_AFTER_T, DECLARATIONS, FIRST_OF_LAMBDA, FIRST_AFTER_T, number_of_kind, parts_of, wide_alternatives, Value, nothing_there}
 use Rattle.cpp_grammar.specs.declared.kind.Kind.{Kind}
-use Rattle.cpp_grammar.specs.declared.production.Production.{Production}
-use Rattle.cpp_grammar.specs.declared.production.Operation.{Operation}
-use Rattle.cpp_grammar.specs.KindNumbers.{DECLARATION_AFTER_T, DECLARATIONS, FIRST_OF_LAMBDA, FIRST_AFTER_T}
-use Rattle.cpp_grammar.specs.Grammar.{number_of_kind, parts_of}
-use Rattle.cpp_grammar.specs.Wide.{wide_alternatives}
-use Rattle.cpp_grammar.specs.Values.{Value, nothing_there}
 use Rattle.cpp_grammar.proofs.Choosing.{each_passes}
 use Rattle.cpp_grammar.proofs.ClosedValues.{Good, AllGood, all_append, good_nothing, held}
 use Rattle.cpp_grammar.proofs.Ways.{has_signature}
@@ -20,7 +11,7 @@ unfoldable pub is_declaration : Sym → Bool
 is_declaration (OfKind k) = nat_eq k DECLARATION_AFTER_T || nat_eq k DECLARATIONS
 is_declaration _ = false
 
--- and of a lambda's first type, with what is declared before it
+-- likewise the kinds of a lambda's first type, with the declarations before it
 unfoldable pub is_first : Sym → Bool
 is_first (OfKind k) = nat_eq k FIRST_OF_LAMBDA || nat_eq k FIRST_AFTER_T
 is_first _ = false
@@ -28,7 +19,7 @@ is_first _ = false
 unfoldable pub declares : Sym → Bool
 declares x = is_declaration x || is_first x
 
--- their productions that have parts
+-- the productions of declarations that have parts
 unfoldable pub makes_declared : Production → Bool
 makes_declared Production.ValueOf = true
 makes_declared Production.OfConcept = true
@@ -44,12 +35,12 @@ unfolding makes_declared declares is_declaration is_first number_of_kind wide_al
 only_declared Kind.Symbol = refl
 only_declared _ = refl
 
--- the production whose first part is declared, and isn't in what it denotes
+-- the production that skips its first part, a declaration
 unfoldable pub skips : Production → Bool
 skips Production.DeclaredArgument = true
 skips _ = false
 
--- parts of such a kind are in a signature, except that one
+-- parts that are declarations are in a signature, except for a first part that is skipped
 unfoldable pub parts_apart : Production → (first : Bool) → List Sym → Bool
 parts_apart p first [] = true
 parts_apart p first (x ∷ xs) = (not (declares x) || (has_signature p || (first && skips p))) && parts_apart p false xs
@@ -69,7 +60,7 @@ unfolding is_nothing
 some_values [] v = refl
 some_values (u ∷ vs) v = refl
 
--- the values of parts, in which nothing is in the place of one that isn't used
+-- the values of parts, with nothing in the place of one that isn't used
 unfoldable pub read_of : Production → (own : Bool) → List Value → List Value
 read_of Production.DeclaredArgument true (v ∷ vs) = nothing_there ∷ vs
 read_of p own vs = vs
@@ -116,7 +107,7 @@ same_skipped p new old same = go (skips p) refl
     go true is = ap (λ vs. is_nothing vs && skips p) (sym (same is))
     go false is = ap (λ b. is_nothing old && b) is ∙ never (is_nothing old) ∙ sym (ap (λ b. is_nothing new && b) is ∙ never (is_nothing new))
 
--- so the next part of a production declares nothing, unless it is in a signature or isn't used
+-- the next part of a production declares nothing, unless it is in a signature or isn't used
 pub next_apart : (p : Production) (own : Bool) (old new : List Value) (x : Sym) → (not (declares x) || (has_signature p || (is_nothing old && skips p))) ≡ true → (skips p ≡ true → new ≡ old) → hides p own new ≡ false →
     own ≡ true → has_signature p ≡ false → declares x ≡ false
 next_apart p own old new x apart same unhidden is none =

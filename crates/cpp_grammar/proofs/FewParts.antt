@@ -1,19 +1,10 @@
 -- Each item has at most eight parts.
-use Rattle.std.specs.Prelude.{◌≡◌, refl, ℕ, zero, suc, ◌+◌, ◌^◌, ◌≤◌, length, List, [], ◌∷◌, ◌++◌, Bool, true, false, ◌&&◌, cond, nat_eq, nat_le, nat_lt, Option, Some, None, codes, decimal}
+use Rattle.cpp_grammar.proofs.Basics.{◌≡◌, refl, ℕ, zero, suc, ◌+◌, ◌^◌, ◌≤◌, length, List, [], ◌∷◌, ◌++◌, Bool, true, false, ◌&&◌, cond, nat_eq, nat_le, nat_lt, Option, Some, None, codes, decimal, arith, length-append, Detail, has_arguments, has_parameters, as_item, begins_parameters, says, text_part, list_part, piece_parts, before_piece, attached_parts, component_parts, within_parts, last_piece, opening_text, instance_parts, marked_parts, reference_parts, qualified_left, blank_last, qualifier_text, expansion_parts, sign_part, is_plain_integer, integer_parts, builtin_code, member_parts, array_left, float_parts, no_operation, precedence_of, operand_parts, operation_parts, printed, left_parts, low_parts, function_right, ref_text, closing_right, qualified_right, right_parts, base_within, base_tagged, base_parts, types_of, encoding_text, function_bare, function_full, full_parts, bare_parts, root_parts, first_parts, more_parts, at_index, is_below, comma_before, expand_rest, expand_parts, parts_in, not_empty, parts, own_piece, most_parts, most_of, generic_parts, name_of_own, own_name, parameter_parts, declared_rest, declared_parts, front_of_name, element, without_tags, leb-true, Operand, look_up, same_bytes, literal_endings}
 use Prim.Native.String.{String}
-use Rattle.std.proofs.Common.{arith}
-use Rattle.std.proofs.lemmas.List.{length-append}
-use Rattle.sym_print.specs.declared.detail.Detail.{Detail}
-use Rattle.sym_print.specs.Details.{has_arguments, has_parameters}
 use Rattle.sym_print.specs.Unfold.{PartOf, text, sub}
 use Rattle.cpp_grammar.specs.Term.{Qualifiers, RefQualifier, Signed, Term, symbol, function, object, of_name, alone, in_std, within, instance, local, holder, tagged, abbreviation, parameter, source, constructor, destructor, inheriting, lambda, generic_lambda, bindings, declaring, sized_float, pointer, lvalue, rvalue, array, bounded, member_pointer, function_type, qualified, expansion, integer, operation, function_parameter, pack, nil, list, absent}
 use Rattle.cpp_grammar.specs.Items.{Form, root, full, bare, left, right, low, base, piece, first, more, expand, declared, Context, Item, closed, signature_in, argument, head, is_reference, is_funarr, packs_of, is_empty}
-use Rattle.cpp_grammar.specs.Parts.{as_item, begins_parameters, says, text_part, list_part, piece_parts, before_piece, attached_parts, component_parts, within_parts, last_piece, opening_text, instance_parts, marked_parts, reference_parts, qualified_left, blank_last, qualifier_text, expansion_parts, sign_part, is_plain_integer, integer_parts, builtin_code, member_parts, array_left, float_parts, no_operation, precedence_of, operand_parts, operation_parts, printed, left_parts, low_parts, function_right, ref_text, closing_right, qualified_right, right_parts, base_within, base_tagged, base_parts, types_of, encoding_text, function_bare, function_full, full_parts, bare_parts, root_parts, first_parts, more_parts, at_index, is_below, comma_before, expand_rest, expand_parts, parts_in, not_empty, parts, own_piece, most_parts, most_of, generic_parts, name_of_own, own_name, parameter_parts, declared_rest, declared_parts, front_of_name}
-use Rattle.cpp_grammar.specs.Scope.{element, without_tags}
-use Rattle.std.proofs.lemmas.Bool.{leb-true}
-use Rattle.cpp_grammar.specs.declared.operand.Operand.{Operand}
 use Rattle.cpp_grammar.specs.Operations.{Operation, operations, operation_of_code}
-use Rattle.cpp_grammar.specs.Texts.{look_up, same_bytes, literal_endings}
 use Rattle.cpp_grammar.proofs.Chosen.{either, either_cond}
 use Rattle.cpp_grammar.proofs.Steps.{first_of_both, second_of_both}
 
@@ -57,7 +48,7 @@ generic_few c (declaring heads parameters) number =
     append_few 4 3 (says "{lambda<" ∷ as_item (declared 0) c heads ∷ says ">(" ∷ list_part first c parameters) (says ")#" ∷ text (decimal number) ∷ says "}" ∷ []) (omega (arith, list_few first c parameters)) (omega arith)
 generic_few c parameters number = omega (arith, append_few 2 3 (says "{lambda(" ∷ list_part first c parameters) (says ")#" ∷ text (decimal number) ∷ says "}" ∷ []) (omega (arith, list_few first c parameters)) (omega arith))
 
--- the name of a lambda's own parameter, or an item
+-- the name of a lambda's own parameter has at most two parts
 name_few : (k : ℕ) (head : Term) → HasFew 2 (name_of_own k head)
 unfolding name_of_own
 name_few k absent = omega arith
@@ -155,7 +146,7 @@ operand_few c Operand.AsType t = omega arith
 operand_few c Operand.AsList t = list_few first c t
 operand_few c (Operand.From least) t = choice_few 3 (nat_le least (precedence_of t)) _ _ (omega arith) (omega arith)
 
--- each operation of the table has at most seven
+-- each operation of the table has at most seven parts
 unfoldable all_few : List Operation → Bool
 all_few [] = true
 all_few (o ∷ os) = nat_le (most_of o) 7 && all_few os

@@ -1,25 +1,10 @@
 -- Each tree of the earlier grammar is one of the grammar, and each of the grammar is one of the wide one.
-use Rattle.std.proofs.Common.{◌≡◌, ℕ, zero, suc, ◌<◌, List, [], ◌∷◌, map, get_or, slice_get, Bool, true, false, ◌&&◌, nat_eq, Option, Some, None, inl, inr, refl, ap, sym, ◌∙◌, subst, arith}
-use Rattle.std.proofs.lemmas.Bool.{eqb-true, and_parts, false≢true, cases_lt}
-use Rattle.std.proofs.lemmas.Option.{slice_get_cases, slice_get-map, unwrap_or-slice_get}
-use Rattle.std.specs.Option.{option_map, unwrap_or}
-use Rattle.sym_shape.specs.declared.rule.Rule.{Rule}
-use Rattle.sym_shape.specs.declared.rule.Sym.{Sym}
-use Rattle.sym_shape.specs.declared.rule.Sym.TheVariants.{Kind as OfKind, Name, Number, Byte}
-use Rattle.sym_shape.specs.Sheet.{choice_at, table_of}
-use Rattle.sym_shape.specs.Table.{Table, symbols_of}
-use Rattle.sym_shape.specs.Tree.{Tree, Forest, branch, empty, token, fixed, nothing, grown, TakesRule, IsTree, AreTrees}
-use Rattle.sym_core.specs.declared.NameClass.TheVariants.{Cpp}
+use Rattle.cpp_grammar.proofs.Basics.{◌≡◌, ℕ, zero, suc, ◌<◌, List, [], ◌∷◌, map, get_or, slice_get, Bool, true, false, ◌&&◌, nat_eq, Option, Some, None, inl, inr, refl, ap, sym, ◌∙◌, subst, arith, eqb-true, and_parts, false≢true, cases_lt, slice_get_cases, slice_get-map, unwrap_or-slice_get, option_map, unwrap_or, Rule, Sym, Kind as OfKind, Name, Number, Byte, choice_at, table_of, Table, symbols_of, Tree, Forest, branch, empty, token, fixed, nothing, grown, TakesRule, IsTree, AreTrees, Cpp, Production, Operation, Alternative, in_ranges, among, is_in, pick, alternatives, choose, kinds, productions, number_of, wide_alternatives, wide_choose, rule_taken, sheet_with, sheet, blank, abi, sheet_before, abi_before, wide_sheet, wide}
 use Rattle.cpp_grammar.specs.declared.kind.Kind.{Kind}
-use Rattle.cpp_grammar.specs.declared.production.Production.{Production}
-use Rattle.cpp_grammar.specs.declared.production.Operation.{Operation}
-use Rattle.cpp_grammar.specs.Grammar.{Alternative, in_ranges, among, is_in, pick, alternatives, choose, kinds, productions, number_of}
 use Rattle.cpp_grammar.specs.Before.{alternatives_before}
-use Rattle.cpp_grammar.specs.Wide.{wide_alternatives, wide_choose}
-use Rattle.cpp_grammar.specs.Table.{rule_taken, sheet_with, sheet, blank, abi, sheet_before, abi_before, wide_sheet, wide}
 use Rattle.cpp_grammar.proofs.Choosing.{sheet_at, picked}
 
--- the later choice is the earlier one
+-- if there is an earlier choice, the later one is the same
 unfoldable pub same_choice : (earlier later : Option Production) → Bool
 same_choice None later = true
 same_choice (Some p) None = false
@@ -29,7 +14,7 @@ unfoldable pub each_below : ℕ → (ℕ → Bool) → Bool
 each_below zero p = true
 each_below (suc n) p = p n && each_below n p
 
--- what some alternatives choose the later ones choose too
+-- the later alternatives choose what the earlier ones choose
 unfoldable keeps_choices : (earlier later : List Alternative) → Bool
 keeps_choices earlier later = each_below 256 (λ b. same_choice (pick earlier b) (pick later b))
 
@@ -59,7 +44,7 @@ below (suc n) p b each lt =
       | inr at ↦ subst (λ k. p k ≡ true) (omega (arith, at, lt)) both.0
     ]
 
--- productions with one number are one
+-- productions with the same number are the same
 pub same_production : (p q : Production) → nat_eq (number_of p) (number_of q) ≡ true → p ≡ q
 same_production p q same = same_some p q (sym (numbered p) ∙ ap (slice_get productions) (eqb-true (number_of p) (number_of q) same) ∙ numbered q)
   where
@@ -77,7 +62,7 @@ unfolding keeps_choices
 kept_choice earlier later byte p each lt at =
     kept (pick earlier byte) (pick later byte) p (below 256 (λ b. same_choice (pick earlier b) (pick later b)) byte each lt) at
 
--- what the grammar chooses the wide one chooses
+-- the wide grammar chooses what the ABI's grammar chooses
 pub wide_kept : (kind : Kind) (byte : ℕ) (p : Production) → byte < 256 → choose kind byte ≡ Some p → wide_choose kind byte ≡ Some p
 unfolding choose wide_choose
 wide_kept kind byte p lt at = kept_choice (alternatives kind) (wide_alternatives kind) byte p (abi_kept kind) lt at

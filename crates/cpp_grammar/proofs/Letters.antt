@@ -1,19 +1,6 @@
--- The tables are held against the grammar at each kind and byte, by computing.
-use Rattle.std.proofs.Common.{◌≡◌, ℕ, ◌+◌, ◌-◌, ◌*◌, ◌<◌, get_or, slice_get, List, length, map, ltb, Bool, true, Option, Some, None, refl, ap, sym, subst, ◌∙◌, arith, inl, inr}
-use Rattle.std.proofs.lemmas.Bool.{ltb-true}
-use Rattle.std.proofs.lemmas.Bool.Decides.{leb_tells}
-use Rattle.std.proofs.lemmas.Option.{slice_get_cases}
-use Rattle.std.specs.List.{range_with_len}
-use Rattle.sym_shape.specs.Listing.{letter_below, unless_blank, counts_after}
-use Rattle.sym_shape.specs.Table.{symbols_of}
-use Rattle.sym_shape.proofs.Listed.{alike_at, alike_in, after_at}
-use Rattle.cpp_grammar.specs.declared.table.Head.{Head}
-use Rattle.cpp_grammar.specs.declared.table.TheConstants.{LETTERS, SYMBOLS, AFTER}
+-- The tables are compared with the grammar at each kind and byte, by computing.
+use Rattle.cpp_grammar.proofs.Basics.{◌≡◌, ℕ, ◌+◌, ◌-◌, ◌*◌, ◌<◌, get_or, slice_get, List, length, map, ltb, Bool, true, Option, Some, None, refl, ap, sym, subst, ◌∙◌, arith, inl, inr, ltb-true, leb_tells, slice_get_cases, range_with_len, letter_below, unless_blank, counts_after, symbols_of, alike_at, alike_in, after_at, Head, LETTERS, SYMBOLS, AFTER, Production, KIND_COUNT, PRODUCTION_COUNT, in_ranges, among, is_in, pick, number_of_kind, alternatives, choose, parts_of, is_chain, kinds, productions, number_of, abi, abi_listed, listed_rule, sheet, padded, rule_of, rule_taken}
 use Rattle.cpp_grammar.specs.declared.kind.Kind.{Kind}
-use Rattle.cpp_grammar.specs.declared.production.Production.{Production}
-use Rattle.cpp_grammar.specs.KindNumbers.{KIND_COUNT, PRODUCTION_COUNT}
-use Rattle.cpp_grammar.specs.Grammar.{in_ranges, among, is_in, pick, number_of_kind, alternatives, choose, parts_of, is_chain, kinds, productions, number_of}
-use Rattle.cpp_grammar.specs.Table.{abi, abi_listed, listed_rule, sheet, padded, rule_of, rule_taken}
 use Rattle.cpp_grammar.proofs.Choosing.{rule_at_kind, is_kind}
 
 -- the letter of a kind's row below a byte, which is the number of a production; `row` is the default
@@ -30,12 +17,12 @@ unfoldable pub chosen : Option Kind → ℕ → Option Production
 chosen None byte = None
 chosen (Some kind) byte = choose kind byte
 
--- the number of a production, or none
+-- whether this is the number of a production, or no number
 unfoldable pub is_number : Option ℕ → Bool
 is_number None = true
 is_number (Some number) = ltb number PRODUCTION_COUNT
 
--- the rows have the productions of the grammar, those of the first kinds and those of the others
+-- the rows have the productions of the grammar: for these first kinds, and for the others
 abbrev FIRST_KINDS : ℕ
 FIRST_KINDS = 88
 
@@ -101,7 +88,7 @@ places head = refl
 pub place_at : (head : Head) (n : ℕ) → n < PRODUCTION_COUNT → abi_listed (n * 6 + 6) ≡ symbols_of (listed_rule head n)
 place_at head n = alike_at (λ n. abi_listed (n * 6 + 6)) (λ n. symbols_of (listed_rule head n)) PRODUCTION_COUNT n (places head)
 
--- what the code lists of each place is how many symbols follow it
+-- for each place the code lists how many symbols follow it
 after_each : AFTER ≡ counts_after SYMBOLS
 after_each = refl
 

@@ -1,3 +1,4 @@
+pub mod Basics
 pub mod Choosing
 pub mod Chosen
 pub mod Alone

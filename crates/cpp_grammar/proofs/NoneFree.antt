@@ -1,13 +1,5 @@
--- From values without free parameters a production makes one without any.
-use Rattle.std.proofs.Common.{◌≡◌, ℕ, List, [], ◌∷◌, false}
-use Rattle.cpp_grammar.specs.declared.production.Production.{Production}
-use Rattle.cpp_grammar.specs.Term.{Term, list}
-use Rattle.cpp_grammar.specs.Scope.{is_open}
-use Rattle.cpp_grammar.specs.Values.{Around, Prefix, outermost, behind, prefix_tree, Value, tree_of, part}
-use Rattle.cpp_grammar.specs.Between.{no_items}
-use Rattle.cpp_grammar.specs.Meaning.{parameters, encoding_of, meaning}
-use Rattle.cpp_grammar.specs.Row.{Made}
-use Rattle.cpp_grammar.specs.Meant.{made}
+-- From values without free parameters a production makes a value without free parameters.
+use Rattle.cpp_grammar.proofs.Basics.{◌≡◌, ℕ, List, [], ◌∷◌, false, Production, Term, list, is_open, Around, Prefix, outermost, behind, prefix_tree, Value, tree_of, part, no_items, parameters, encoding_of, meaning, Made, made}
 use Rattle.cpp_grammar.proofs.ClosedValues.{held, GoodIf, AllIf, PrefixIf, good_tree, good_part, good_pair, good_parameters, good_prefix, good_encoding, made_tree_good, meaning_good}
 
 -- no parameters are free in the tree
@@ -22,7 +14,7 @@ abbrev pub PrefixHasNone : Prefix → Type 0
 PrefixHasNone outermost = Unit {0}
 PrefixHasNone (behind t listed) = HasNone t
 
--- so it is closed, and nothing is said of its scopes
+-- a tree without free parameters is closed, and nothing is said of its scopes
 good : (t : Term) → HasNone t → GoodIf ⊥ (Unit {0}) t
 good t none = record { closed = λ h. none; scopes = λ n. absurd n }
 
@@ -46,7 +38,7 @@ none_prefix prefix none = (good_prefix (Unit {0}) prefix (prefix_good prefix non
 pub none_encoding : (v : Value) (items : Term) → HasNone (encoding_of v items)
 none_encoding v items = (good_encoding {q = ⊥} (Unit {0}) v items (λ n. absurd n) (λ n. absurd n) (λ n. absurd n)).closed tt
 
--- the parameters of a lambda
+-- no parameter is free in a lambda's list of parameters, if none is in the values of its parts
 pub none_signature : (vs : List Value) → AllNone vs → HasNone (parameters (list (tree_of (part vs 0)) (no_items (part vs 1))))
 none_signature vs all = (good_parameters (Unit {0}) (list (tree_of (part vs 0)) (no_items (part vs 1))) (good_pair (Unit {0}) vs 0 1 (all_good vs all))).closed tt
 

@@ -1,19 +1,10 @@
 -- The parts of an item have smaller ranks than the item.
-use Rattle.std.specs.Prelude.{◌≡◌, refl, ℕ, zero, suc, ◌+◌, ◌-◌, ◌^◌, ◌<◌, ◌≤◌, List, [], ◌∷◌, ◌++◌, Bool, true, false, cond, nat_eq, nat_le, nat_lt, Option, Some, None, codes, decimal}
+use Rattle.cpp_grammar.proofs.Basics.{◌≡◌, refl, ℕ, zero, suc, ◌+◌, ◌-◌, ◌^◌, ◌<◌, ◌≤◌, List, [], ◌∷◌, ◌++◌, Bool, true, false, cond, nat_eq, nat_le, nat_lt, Option, Some, None, codes, decimal, arith, false≢true, ltb-true, Detail, has_arguments, has_parameters, element, arguments_of, pack_length, without_tags, as_item, says, text_part, list_part, piece_parts, prefix_item, before_piece, attached_parts, component_parts, within_parts, instance_parts, marked_parts, reference_parts, qualified_left, blank_last, qualifier_text, expansion_parts, sign_part, is_plain_integer, integer_parts, builtin_code, member_parts, array_left, entity_of, float_parts, precedence_of, operand_parts, operation_parts, printed, left_parts, low_parts, function_right, ref_text, closing_right, qualified_right, right_parts, base_within, base_tagged, base_parts, types_of, encoding_text, function_bare, function_full, full_parts, bare_parts, root_parts, first_parts, more_parts, at_index, is_below, comma_before, expand_rest, expand_parts, parts_in, not_empty, parts, own_piece, generic_parts, name_of_own, own_name, parameter_parts, declared_rest, declared_parts, front_of_name, or_none, pack_count, weight, scope_weight, weight_in, rank_in, rank, light, Operand, look_up, literal_endings}
 use Prim.Native.String.{String}
-use Rattle.std.proofs.Common.{arith}
-use Rattle.std.proofs.lemmas.Bool.{false≢true, ltb-true}
-use Rattle.sym_print.specs.declared.detail.Detail.{Detail}
-use Rattle.sym_print.specs.Details.{has_arguments, has_parameters}
 use Rattle.sym_print.specs.Unfold.{PartOf, text, sub, RanksBelow}
 use Rattle.cpp_grammar.specs.Term.{Qualifiers, RefQualifier, Signed, Term, symbol, function, object, special, thunk, of_name, construction, clone, alone, in_std, within, instance, local, holder, tagged, of_default, abbreviation, parameter, source, constructor, destructor, inheriting, lambda, generic_lambda, conversion, sized_float, constrained, pointer, lvalue, rvalue, array, bounded, member_pointer, function_type, qualified, vector, complex, expansion, integer, operation, function_parameter, pack, nil, list, absent, decltype, enumeration, bindings, declaring}
-use Rattle.cpp_grammar.specs.Scope.{element, arguments_of, pack_length, without_tags}
 use Rattle.cpp_grammar.specs.Items.{Form, root, full, bare, left, right, low, base, piece, first, more, expand, declared, Signature, in_none, undeclared, declared_in, Context, Item, closed, indexed, own_argument, signature_in, argument, head, is_reference, is_funarr, packs_of, is_empty}
-use Rattle.cpp_grammar.specs.Parts.{as_item, says, text_part, list_part, piece_parts, prefix_item, before_piece, attached_parts, component_parts, within_parts, instance_parts, marked_parts, reference_parts, qualified_left, blank_last, qualifier_text, expansion_parts, sign_part, is_plain_integer, integer_parts, builtin_code, member_parts, array_left, entity_of, float_parts, precedence_of, operand_parts, operation_parts, printed, left_parts, low_parts, function_right, ref_text, closing_right, qualified_right, right_parts, base_within, base_tagged, base_parts, types_of, encoding_text, function_bare, function_full, full_parts, bare_parts, root_parts, first_parts, more_parts, at_index, is_below, comma_before, expand_rest, expand_parts, parts_in, not_empty, parts, own_piece, generic_parts, name_of_own, own_name, parameter_parts, declared_rest, declared_parts, front_of_name}
-use Rattle.cpp_grammar.specs.Ranks.{or_none, pack_count, weight, scope_weight, weight_in, rank_in, rank, light}
-use Rattle.cpp_grammar.specs.declared.operand.Operand.{Operand}
 use Rattle.cpp_grammar.specs.Operations.{Operation}
-use Rattle.cpp_grammar.specs.Texts.{look_up, literal_endings}
 
 -- ## Lists of parts
 
@@ -127,7 +118,7 @@ argument_weight c k = scoped c.scope
     scoped None = own_light c.in_signature
     scoped (Some arguments) = omega (arith, indexed_light c.index (element arguments k), light_less (element arguments k), element_weight arguments k)
 
--- the name of a lambda's own parameter is texts
+-- the name of a lambda's own parameter consists of texts
 name_falls : (r k : ℕ) (head : Term) → RanksBelow rank r (name_of_own k head)
 unfolding name_of_own
 name_falls r k absent = tt
@@ -373,7 +364,7 @@ base_falls d c (abbreviation letter) = tt
 base_falls d c (parameter k) = parameter_falls _ base k (argument c k) (argument_weight c k) refl
 base_falls d c t = left_falls d c t
 
--- the types of an encoding weigh less than it
+-- the types of an encoding weigh no more in their own context than in the encoding
 types_weight : (name t : Term) → weight_in (types_of name) t ≤ weight (weight 0 None name) (arguments_of name) t
 unfolding weight_in types_of
 types_weight name t = weight_grows (scope_weight (arguments_of name)) (weight 0 None name) (arguments_of name) t (arguments_weight name)

@@ -1,21 +1,8 @@
 -- A small reader over the table, to compute the definitions at single symbols.
-use Rattle.std.specs.Prelude.{ℕ, zero, suc, ◌+◌, ◌*◌, List, [], ◌∷◌, length, take, drop, Bool, true, false, nat_eq, nat_le, ◌||◌, ◌&&◌, not, slice_get, Option, Some, None, Result, Ok, Err}
-use Rattle.sym_core.specs.declared.refusal.Refusal.{Refusal}
+use Rattle.cpp_grammar.proofs.Basics.{ℕ, zero, suc, ◌+◌, ◌*◌, List, [], ◌∷◌, length, take, drop, Bool, true, false, nat_eq, nat_le, ◌||◌, ◌&&◌, not, slice_get, Option, Some, None, Result, Ok, Err, Refusal, Length, Digits, Cpp, Sym, Kind as OfKind, Name, Number, Byte, value_of, is_name_byte, Tree, Forest, branch, empty, token, fixed, nothing, grown, Detail, kinds, choose, parts_of, is_chain, may_be_empty, rule_of, Term, unfold_cpp}
 use Rattle.sym_core.specs.declared.NumberKind.{NumberKind}
-use Rattle.sym_core.specs.declared.NumberKind.TheVariants.{Length, Digits}
 use Rattle.sym_core.specs.Number.{is_decimal_digit, is_digit_of}
-use Rattle.sym_core.specs.declared.NameClass.TheVariants.{Cpp}
-use Rattle.sym_shape.specs.declared.rule.Sym.{Sym}
-use Rattle.sym_shape.specs.declared.rule.Sym.TheVariants.{Kind as OfKind, Name, Number, Byte}
-use Rattle.sym_core.specs.Value.{value_of}
-use Rattle.sym_core.specs.Token.{is_name_byte}
-use Rattle.sym_shape.specs.Tree.{Tree, Forest, branch, empty, token, fixed, nothing, grown}
-use Rattle.sym_print.specs.declared.detail.Detail.{Detail}
 use Rattle.cpp_grammar.specs.declared.kind.Kind.{Kind}
-use Rattle.cpp_grammar.specs.Grammar.{kinds, choose, parts_of, is_chain, may_be_empty}
-use Rattle.cpp_grammar.specs.Table.{rule_of}
-use Rattle.cpp_grammar.specs.Term.{Term}
-use Rattle.cpp_grammar.specs.Unfolding.{unfold_cpp}
 use Rattle.cpp_grammar.specs.Answer.{text_of_symbol, cost_of_symbol}
 
 infixl 10 ◌and_then◌
@@ -80,7 +67,7 @@ unfoldable mutual
   read_all (suc n) [] bytes = Some (nothing, bytes)
   read_all (suc n) (s ∷ ss) bytes = read_symbol n s bytes and_then λ r. read_all n ss r.1 and_then λ q. Some (grown r.0 q.0, q.1)
 
--- the value of a single symbol
+-- what is seen of a single symbol: no shape, a refusal, or a text and its cost
 pub data Seen : Type 0 where
   no_shape : Seen
   refused : Refusal → Seen

@@ -1,22 +1,10 @@
 -- Symbols that only the reading of the wide grammar accepts, with shapes of the ABI's grammar.
-use Rattle.std.specs.Prelude.{◌≡◌, refl, ℕ, true, Bool, List, [], ◌∷◌, ◌&&◌, Some, None}
+use Rattle.cpp_grammar.proofs.Basics.{◌≡◌, refl, ℕ, true, Bool, List, [], ◌∷◌, ◌&&◌, Some, None, Detail, in_ranges, among, is_in, pick, number_of_kind, alternatives, choose, parts_of, is_chain, may_be_empty, kinds, productions, number_of, padded, rule_of, is_in_constraint, is_at_literal, prefix_tree, prefix_listed, tree_of, piece_of, is_listed, qualifiers_of, ref_of, letter_of, is_there, mark_of, text_of, signed_of, adjustment_of, normal, is_zero, signed_digits, local_number, part, both_free, free_in, count, element, is_list, is_alone, has_pack, arguments_of, before_arguments, is_structor, has_return_type, is_open, first_of, length_if_pack, pack_length, appended, is_function_type, with_type, with_unqualified, with_prefix, with_packs, packs_in, is_module, substituted, parameter_named, in_name, in_types, in_signature, under_expansion, after, inside, extended, applied, no_items, named_so_far, listed_so_far, parameter_so_far, index_of, between, is_void, is_nil, parameters, encoding_of, listed_value, discriminator_of, with_item, reference_to, signature_or, operator_or_literal, meaning, signature_with, same_bytes, look_up, builtin_texts, operator_texts, abbreviation_texts, special_texts, named_special_texts, literal_endings, indexed, argument, collapsed, head_with, head_closed, head, is_reference, is_funarr, packs_of, is_none_of, is_empty, own_argument, signature_of, text_part, list_part, qualifier_text, ref_text, blank_last, begins_with, source_text, piece_parts, prefix_item, before_piece, attached_parts, component_parts, within_parts, last_piece, opening_text, instance_parts, marked_parts, reference_parts, qualified_left, expansion_parts, sign_part, is_plain_integer, builtin_code, integer_parts, member_parts, array_left, entity_of, left_parts, low_parts, function_right, closing_right, qualified_right, right_parts, base_within, base_parts, types_of, encoding_text, function_bare, begins_parameters, function_full, thunk_text, full_parts, bare_parts, root_parts, first_parts, more_parts, at_index, is_below, comma_before, expand_rest, expand_parts, parts_in, not_empty, parts, generic_parts, parameter_parts, or_none, pack_count, weight, scope_weight, weight_in, rank_in, rank}
 use Rattle.std.specs.Fmt.{digits}
 use Rattle.sym_print.specs.Unfold.{printed_to, printed}
-use Rattle.sym_print.specs.declared.detail.Detail.{Detail}
 use Rattle.cpp_grammar.proofs.Row.{Row, prints, refers_badly}
-use Rattle.cpp_grammar.specs.Grammar.{in_ranges, among, is_in, pick, number_of_kind, alternatives, choose, parts_of, is_chain, may_be_empty, kinds, productions, number_of}
-use Rattle.cpp_grammar.specs.Table.{padded, rule_of}
-use Rattle.cpp_grammar.specs.Values.{is_in_constraint, is_at_literal, prefix_tree, prefix_listed, tree_of, piece_of, is_listed, qualifiers_of, ref_of, letter_of, is_there, mark_of, text_of, signed_of, adjustment_of, normal, is_zero, signed_digits, local_number, part}
-use Rattle.cpp_grammar.specs.Scope.{both_free, free_in, count, element, is_list, is_alone, has_pack, arguments_of, before_arguments, is_structor, has_return_type, is_open, first_of, length_if_pack, pack_length}
-use Rattle.cpp_grammar.specs.References.{appended, is_function_type, with_type, with_unqualified, with_prefix, with_packs, packs_in, is_module, substituted, parameter_named}
-use Rattle.cpp_grammar.specs.Between.{in_name, in_types, in_signature, under_expansion, after, inside, extended, applied, no_items, named_so_far, listed_so_far, parameter_so_far, index_of, between}
-use Rattle.cpp_grammar.specs.Meaning.{is_void, is_nil, parameters, encoding_of, listed_value, discriminator_of, with_item, reference_to, signature_or, operator_or_literal, meaning, signature_with}
 use Rattle.cpp_grammar.specs.Standing.{enclosed_argument, ends_arguments, operation_by, operation_or_address, is_code}
 use Rattle.cpp_grammar.specs.Unfolding.{last_token, number_tested, opening, behind, close, production_at, byte_of, first_around, first_state, first_tree}
-use Rattle.cpp_grammar.specs.Texts.{same_bytes, look_up, builtin_texts, operator_texts, abbreviation_texts, special_texts, named_special_texts, literal_endings}
-use Rattle.cpp_grammar.specs.Items.{indexed, argument, collapsed, head_with, head_closed, head, is_reference, is_funarr, packs_of, is_none_of, is_empty, own_argument, signature_of}
-use Rattle.cpp_grammar.specs.Parts.{text_part, list_part, qualifier_text, ref_text, blank_last, begins_with, source_text, piece_parts, prefix_item, before_piece, attached_parts, component_parts, within_parts, last_piece, opening_text, instance_parts, marked_parts, reference_parts, qualified_left, expansion_parts, sign_part, is_plain_integer, builtin_code, integer_parts, member_parts, array_left, entity_of, left_parts, low_parts, function_right, closing_right, qualified_right, right_parts, base_within, base_parts, types_of, encoding_text, function_bare, begins_parameters, function_full, thunk_text, full_parts, bare_parts, root_parts, first_parts, more_parts, at_index, is_below, comma_before, expand_rest, expand_parts, parts_in, not_empty, parts, generic_parts, parameter_parts}
-use Rattle.cpp_grammar.specs.Ranks.{or_none, pack_count, weight, scope_weight, weight_in, rank_in, rank}
 use Rattle.cpp_grammar.specs.Rescoping.{in_constraint_of, is_unseen, in_literal, is_passed_over, passed_over, name_around, types_around, name_if, generic_number, generic_so_far, parameter_here, is_foreign, lambda_with, as_generic_lambda, in_scope, under_scope, with_free, restated, named_by_both, module_of, module_named, module_so_far, substituted_wide, numbered, is_by_all, is_by_newer, is_before_holder, is_in_list, place_in, named_in, counted_unless, counted_base, joined, counted_so_far, is_by_some, is_prefix_at, is_qualified_at, fits, can_be_named, has_head, left, left_by, left_at, with_lists, listed_by, head_of_name, head_of, head_at, may_be, first_head, rest_of, heads_of, behind_first, behind_another, types_in, awaited_by_piece, awaited_by, awaiting, calling, ending, expecting, expecting_item, noting, opening_wide, between_wide, close_wide, cpp_wide, unfold_wide, is_declaring}
 use Rattle.cpp_grammar.proofs.Reader.{Seen, no_shape, front_digits, is_length_form, number_at, are_name_bytes, is_own, name_at, seen_tree, shape_of, read_kind, read_symbol, read_all}
 use Rattle.cpp_grammar.proofs.Row.{same_refusal, same_seen}

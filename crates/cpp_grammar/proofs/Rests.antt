@@ -1,24 +1,7 @@
--- What follows a name in a nested one follows a substituted name too: another tree of the same bytes, which denotes the same.
-use Rattle.std.proofs.Common.{◌≡◌, ℕ, ◌+◌, List, [], ◌∷◌, ◌++◌, length, Bool, true, false, ◌&&◌, nat_eq, Option, Some, None, Result, refl, ap, sym, ◌∙◌, subst, add-zero, append-nil, lit≤}
-use Rattle.std.proofs.lemmas.Bool.{eqb-true, and_parts}
-use Rattle.sym_core.specs.declared.refusal.Refusal.{Refusal}
-use Rattle.sym_shape.specs.declared.rule.Sym.TheVariants.{Kind as OfKind}
-use Rattle.sym_shape.specs.Table.{symbols_of}
-use Rattle.sym_shape.specs.Tree.{Tree, Forest, branch, empty, token, fixed, nothing, grown, spell, TakesRule, IsTree, AreTrees}
-use Rattle.sym_link.specs.Reading.{◌>>=◌}
-use Rattle.sym_link.specs.Unfold.{alone, found, standing, unfold_tree, unfold_forest}
+-- What follows a name in a nested name also follows a substituted name: another tree of the same bytes denotes the same there.
+use Rattle.cpp_grammar.proofs.Basics.{◌≡◌, ℕ, ◌+◌, List, [], ◌∷◌, ◌++◌, length, Bool, true, false, ◌&&◌, nat_eq, Option, Some, None, Result, refl, ap, sym, ◌∙◌, subst, add-zero, append-nil, lit≤, eqb-true, and_parts, Refusal, Kind as OfKind, symbols_of, Tree, Forest, branch, empty, token, fixed, nothing, grown, spell, TakesRule, IsTree, AreTrees, ◌>>=◌, alone, found, standing, unfold_tree, unfold_forest, Production, NEST_REST, NEST_REST_OR_END, NEST_MORE_OR_END, in_ranges, among, is_in, pick, alternatives, kinds, productions, number_of, number_of_kind, parts_of, is_chain, may_be_empty, rule_of, padded, sheet, abi, instance, State, Around, prefix_tree, prefix_listed, Value, nothing_there, tree, tree_of, part, appended, with_prefix, inside, after, no_items, named_so_far, listed_so_far, between, meaning, opening, close, production_at, byte_of, cpp}
 use Rattle.cpp_grammar.specs.declared.kind.Kind.{Kind}
-use Rattle.cpp_grammar.specs.declared.production.Production.{Production}
-use Rattle.cpp_grammar.specs.KindNumbers.{NEST_REST, NEST_REST_OR_END, NEST_MORE_OR_END}
-use Rattle.cpp_grammar.specs.Grammar.{in_ranges, among, is_in, pick, alternatives, kinds, productions, number_of, number_of_kind, parts_of, is_chain, may_be_empty}
-use Rattle.cpp_grammar.specs.Table.{rule_of, padded, sheet, abi}
-use Rattle.cpp_grammar.specs.Term.{instance}
-use Rattle.cpp_grammar.specs.Values.{State, Around, prefix_tree, prefix_listed, Value, nothing_there, tree, tree_of, part}
-use Rattle.cpp_grammar.specs.References.{appended, with_prefix}
-use Rattle.cpp_grammar.specs.Between.{inside, after, no_items, named_so_far, listed_so_far, between}
-use Rattle.cpp_grammar.specs.Meaning.{meaning}
 use Rattle.cpp_grammar.specs.Unfolding as unfolding_
-use Rattle.cpp_grammar.specs.Unfolding.{opening, close, production_at, byte_of, cpp}
 use Rattle.cpp_grammar.proofs.Growing.{same_choice, each_below, below, same_production}
 use Rattle.cpp_grammar.proofs.Arguments.{Read, One, refused, one, tree_one, first_same, takes_its, picked_at, same_at, none_empty}
 

@@ -1,11 +1,7 @@
 -- Rows of symbols with their answers, and a test that computes them.
-use Rattle.std.specs.Prelude.{ℕ, List, [], ◌∷◌, Bool, true, false, ◌&&◌, nat_eq, codes}
+use Rattle.cpp_grammar.proofs.Basics.{ℕ, List, [], ◌∷◌, Bool, true, false, ◌&&◌, nat_eq, codes, Refusal, BadReference, BadValue, Detail, same_bytes}
 use Prim.Native.String.{String}
-use Rattle.sym_core.specs.declared.refusal.Refusal.{Refusal}
-use Rattle.sym_core.specs.declared.refusal.Refusal.TheVariants.{BadReference, BadValue}
-use Rattle.sym_print.specs.declared.detail.Detail.{Detail}
 use Rattle.sym_print.specs.declared.detail.Detail.TheVariants.{Full, Brief}
-use Rattle.cpp_grammar.specs.Texts.{same_bytes}
 use Rattle.cpp_grammar.proofs.Reader.{Seen, no_shape, refused, seen, see}
 
 pub record Row : Type 0 where

@@ -1,40 +1,9 @@
--- What the reading of the ABI's grammar doesn't refuse is the same in that of the wide grammar: what it reads in a lambda's
+-- What the ABI's reading doesn't refuse is the same in the wide grammar's reading: what the ABI's reading reads in a lambda's
 -- signature has no free parameters.
-use Rattle.std.proofs.Common.{◌≡◌, refl, ap, sym, ◌∙◌, subst, ℕ, zero, suc, ◌+◌, ◌-◌, List, [], ◌∷◌, ◌++◌, length, Bool, true, false, not, ◌||◌, ◌&&◌, cond, nat_eq, nat_lt, ◌<◌, slice_get, Option, Some, None, Result, Ok, Err, lit≤}
-use Rattle.std.proofs.lemmas.Bool.{eq-eqb, true≢false, false≢true}
-use Rattle.std.specs.Result.{IfOk}
-use Rattle.sym_core.specs.declared.refusal.Refusal.{Refusal}
-use Rattle.sym_core.specs.declared.refusal.Refusal.TheVariants.{BadReference}
-use Rattle.sym_core.specs.declared.NumberKind.TheVariants.{Seq36}
-use Rattle.sym_core.specs.Value.{counted_value}
-use Rattle.sym_shape.specs.declared.rule.Rule.{Rule}
-use Rattle.sym_shape.specs.declared.rule.Sym.{Sym}
-use Rattle.sym_shape.specs.declared.rule.Sym.TheVariants.{Kind as OfKind}
-use Rattle.sym_shape.specs.Table.{symbols_of}
-use Rattle.sym_shape.specs.Law.{IsSymbol, AreSymbols}
-use Rattle.sym_shape.specs.Tree.{Tree, Forest, branch, empty, token, fixed, nothing, grown, spell, TakesRule, IsTree, AreTrees}
-use Rattle.sym_link.specs.Reading.{Found, Next, Open, ◌>>=◌}
-use Rattle.sym_link.specs.Unfold.{found, alone, standing, unfold_tree, unfold_forest}
+use Rattle.cpp_grammar.proofs.Basics.{◌≡◌, refl, ap, sym, ◌∙◌, subst, ℕ, zero, suc, ◌+◌, ◌-◌, List, [], ◌∷◌, ◌++◌, length, Bool, true, false, not, ◌||◌, ◌&&◌, cond, nat_eq, nat_lt, ◌<◌, slice_get, Option, Some, None, Result, Ok, Err, lit≤, eq-eqb, true≢false, false≢true, IfOk, Refusal, BadReference, Seq36, counted_value, Rule, Sym, Kind as OfKind, symbols_of, IsSymbol, AreSymbols, Tree, Forest, branch, empty, token, fixed, nothing, grown, spell, TakesRule, IsTree, AreTrees, Found, Next, Open, ◌>>=◌, found, alone, standing, unfold_tree, unfold_forest, Production, Operation, SYMBOL, SPECIAL, SPECIAL_MARK, SPECIAL_AFTER_G, is_in, number_of_kind, parts_of, wide_alternatives, wide, Term, parameter, lambda, generic_lambda, list, count, element, is_open, length_if_pack, by_all, Candidate, Counting, prefix_at, qualified_at, shown, is_in_constraint, is_at_literal, State, Around, prefix_tree, prefix_listed, Value, nothing_there, text, tree, piece, tree_of, is_listed, text_of, local_number, part, appended, is_function_type, with_type, with_unqualified, with_prefix, with_packs, packs_in, is_module, substituted, parameter_named, in_name, in_types, in_signature, under_expansion, after, inside, no_items, Continuation, listed_so_far, parameter_so_far, index_of, between, next, argument_so_far, made, is_listing, around_part, packs_within, gained, replaced, tested as tested_, done, row_of, parameters, meaning, opening, close, production_at, byte_of, cpp, first_around, first_state, first_tree, unfold_cpp, is_unseen, in_literal, is_passed_over, passed_over, name_around, types_around, name_if, generic_so_far, parameter_here, is_declaring, lambda_with, as_generic_lambda, is_before_holder, is_by_newer, is_by_all, is_in_list, place_in, named_in, joined, counted_so_far, awaiting, expecting, expecting_item, calling, ending, noting, opening_wide, is_foreign, restated, substituted_wide, numbered, between_wide, close_wide, cpp_wide, unfold_wide, argument_here, generic_number, wide_sound}
 use Rattle.cpp_grammar.specs.declared.kind.Kind.{Kind}
-use Rattle.cpp_grammar.specs.declared.production.Production.{Production}
-use Rattle.cpp_grammar.specs.declared.production.Operation.{Operation}
-use Rattle.cpp_grammar.specs.KindNumbers.{SYMBOL, SPECIAL, SPECIAL_MARK, SPECIAL_AFTER_G}
-use Rattle.cpp_grammar.specs.Grammar.{is_in, number_of_kind, parts_of}
-use Rattle.cpp_grammar.specs.Wide.{wide_alternatives}
-use Rattle.cpp_grammar.specs.Table.{wide}
-use Rattle.cpp_grammar.specs.Term.{Term, parameter, lambda, generic_lambda, list}
-use Rattle.cpp_grammar.specs.Scope.{count, element, is_open, length_if_pack}
-use Rattle.cpp_grammar.specs.Values.{by_all, Candidate, Counting, prefix_at, qualified_at, shown, is_in_constraint, is_at_literal, State, Around, prefix_tree, prefix_listed, Value, nothing_there, text, tree, piece, tree_of, is_listed, text_of, local_number, part}
-use Rattle.cpp_grammar.specs.References.{appended, is_function_type, with_type, with_unqualified, with_prefix, with_packs, packs_in, is_module, substituted, parameter_named}
-use Rattle.cpp_grammar.specs.Between.{in_name, in_types, in_signature, under_expansion, after, inside, no_items, Continuation, listed_so_far, parameter_so_far, index_of, between, next, argument_so_far}
 use Rattle.cpp_grammar.specs.Row.{Gain, nothing, the_prefix, type_of, unqualified_of, itself, Where, as_before, in_its_name, in_its_types, in_a_signature, under_it, nameless, after_part, after_the_name, Action, quiet, goes, becomes, tests, holds, unread, before_part}
-use Rattle.cpp_grammar.specs.Meant.{made, is_listing, around_part, packs_within, gained, replaced, tested as tested_, done}
-use Rattle.cpp_grammar.specs.Rows.{row_of}
-use Rattle.cpp_grammar.specs.Meaning.{parameters, meaning}
 use Rattle.cpp_grammar.specs.Unfolding as unfolding_
-use Rattle.cpp_grammar.specs.Unfolding.{opening, close, production_at, byte_of, cpp, first_around, first_state, first_tree, unfold_cpp}
-use Rattle.cpp_grammar.specs.Rescoping.{is_unseen, in_literal, is_passed_over, passed_over, name_around, types_around, name_if, generic_so_far, parameter_here, is_declaring, lambda_with, as_generic_lambda, is_before_holder, is_by_newer, is_by_all, is_in_list, place_in, named_in, joined, counted_so_far, awaiting, expecting, expecting_item, calling, ending, noting, opening_wide, is_foreign, restated, substituted_wide, numbered, between_wide, close_wide, cpp_wide, unfold_wide, argument_here, generic_number}
-use Rattle.cpp_grammar.specs.TableLaws.{wide_sound}
 use Rattle.cpp_grammar.proofs.Choosing.{each_passes, chosen_rule, taken_passes, implied}
 use Rattle.cpp_grammar.proofs.Chosen.{either, if_there}
 use Rattle.cpp_grammar.proofs.ClosedValues.{held}
@@ -46,14 +15,14 @@ use Rattle.cpp_grammar.proofs.Steps.{first_of_both, second_of_both, all_pass, st
 
 -- ## What is closed
 
--- productions whose parts are closed wherever they are: a signature's, and those that denote one of their parts
+-- productions whose parts are closed wherever they are: a lambda's, and those of special names
 unfoldable has_closed_parts : Production → Bool
 has_closed_parts Production.Lambda = true
 has_closed_parts Production.Special = true
 has_closed_parts Production.OtherSpecial = true
 has_closed_parts _ = false
 
--- those that denote what special names denote
+-- productions of encodings that are special names
 unfoldable has_specials : Production → Bool
 has_specials Production.Special = true
 has_specials Production.OtherSpecial = true
@@ -76,7 +45,7 @@ one_of [] n c all e = absurd cc
 one_of (d ∷ cs) zero c all e = let same : d ≡ c = cc in subst (λ x. x.in_lambda ≡ true → HasNone x.tree) same all.0
 one_of (d ∷ cs) (suc n) c all e = one_of cs n c all.2 e
 
--- so all compilers count them alike
+-- candidates that all compilers count come before no name with its M
 none_held : (cs : List Candidate) → AllHaveNone cs → is_before_holder cs ≡ false
 unfolding is_before_holder is_by_newer
 none_held [] all = refl
@@ -123,7 +92,7 @@ all_then : (vs ws : List Value) → AllNone vs → AllNone ws → AllNone (vs ++
 all_then [] ws f g = g
 all_then (v ∷ vs) ws f g = (f.0, all_then vs ws f.1 g)
 
--- in a signature the name so far is closed, and no arguments are named; all is shown
+-- in a signature the name so far is closed, and no arguments are named; everything is shown
 record Settled (around : Around) : Type 0 where
   prefix : around.in_lambda ≡ true → PrefixHasNone around.prefix
   bare : around.in_lambda ≡ true → around.scope ≡ None
@@ -319,7 +288,7 @@ argument_stays around place k state n settled e =
     named_here around place k state (λ s. next (tree (parameter k) true ∷ []) around (record s { candidates = state.candidates }))
     (next (tree (parameter (generic_number k)) true ∷ []) around state) n settled e
 
--- so no encoding is passed over
+-- outside of a signature no encoding is passed over
 both_false : (b : Bool) → (b && false) ≡ false
 both_false true = refl
 both_false false = refl
@@ -360,7 +329,7 @@ between_stays Production.Holder around place (v ∷ []) state n settled e = let 
 between_stays Production.NamedModule around place (v ∷ []) state n settled e = let clash : ◌≡◌ {A = Continuation} (Err (BadReference place)) (Ok n) = e in absurd cc
 between_stays _ around place vs state n settled e = e
 
--- what isn't refused isn't foreign
+-- a candidate that the ABI's reading doesn't refuse isn't foreign, so the wide reading names it, too
 named_stays : (around : Around) (place : ℕ) (c : Candidate) (state : State) (r : Found Value State) → (c.in_lambda ≡ true → HasNone c.tree) → substituted around place (Some c) state ≡ Ok r →
     substituted_wide around place (Some c) state ≡ Ok r
 unfolding substituted substituted_wide is_foreign
@@ -404,13 +373,13 @@ named_none_ around place c state r e = go (is_module c.tree) (is_open c.tree) ar
     go false true false true is h = let clash : ◌≡◌ {A = Result (Found Value State) Refusal} (Err (BadReference place)) (Ok r) = h in absurd cc
     go false true false false is h = named false (λ l. absurd (false≢true l)) h
 
--- the value of a production
+-- the wide reading closes a production to the same value
 record Closes (around : Around) (wide : Result (Found Value State) Refusal) (r : Found Value State) : Type 0 where
   is : wide ≡ Ok r
   value : around.in_lambda ≡ true → HasNone (held r.value)
   candidates : AllHaveNone r.state.candidates
 
--- a number names the candidate of that number
+-- in either list a number names the candidate at that place
 numbered_stays : (around : Around) (place n : ℕ) (state : State) → AllHaveNone state.candidates → numbered around place n state ≡ substituted_wide around place (slice_get state.candidates n) state
 unfolding numbered named_in
 numbered_stays around place n state all =
@@ -457,7 +426,7 @@ closed_stays p byte around began vs state r settled all cs e read is =
       candidates = subst (λ x. AllHaveNone x.state.candidates) same (behind_none p byte around began vs state settled all cs);
     }
 
--- what isn't passed over isn't its name alone
+-- an encoding that isn't passed over isn't replaced by its name
 named_stays_ : {passed : Bool} → passed ≡ false → (open_ : Bool) (name v : Value) (state : State) → ◌≡◌ {A = Result (Found Value State) Refusal} (Ok (found (name_if (passed && open_) name v) state)) (Ok (found v state))
 unfolding name_if
 named_stays_ is open_ name v state = let said : Bool → Result (Found Value State) Refusal = λ b. Ok (found (name_if (b && open_) name v) state) in ap said is
@@ -492,7 +461,7 @@ unfoldable are_special : List Sym → Bool
 are_special [] = true
 are_special (x ∷ xs) = is_special x && are_special xs
 
--- their productions
+-- the productions of the kinds of special names
 unfoldable makes_special : Production → Bool
 makes_special Production.SpecialType = true
 makes_special Production.ParameterObject = true
@@ -527,7 +496,7 @@ special_or p true l f h = refl
 special_or true false l f h = absurd (false≢true (f refl))
 special_or false false l f h = h
 
--- the production of a tree of such a kind
+-- the production of a tree of a special name's kind
 special_taken : (k : ℕ) (rule : Rule) (taken : List ℕ) → k < wide.kinds → TakesRule wide k rule taken → is_special (OfKind k) ≡ true → makes_special (production_at rule.number) ≡ true
 special_taken k rule taken lt takes special =
     let c = chosen_rule k rule taken lt takes in
@@ -550,7 +519,7 @@ special_closes Production.Clone byte around place began vs state one h e = subst
 special_closes Production.Mark byte around place began vs state one h e = subst (λ x. HasNone (held x.value)) (ok_same _ one e) refl
 special_closes _ byte around place began vs state one h e = absurd (false≢true h)
 
--- the values of parts, which are closed where something holds
+-- the wide reading has the same values of parts, which are closed under this condition
 record Stays (b : Bool) (wide : Result (Found (List Value) State) Refusal) (r : Found (List Value) State) : Type 0 where
   is : wide ≡ Ok r
   values : b ≡ true → AllNone r.value
@@ -633,7 +602,7 @@ mutual
         candidates = rest.candidates;
       }
 
--- The tree that a symbol denotes by the ABI's grammar it also denotes by the wide one.
+-- A symbol that denotes a tree by the ABI's grammar denotes the same tree by the wide one.
 pub meaning_stays : (shape : Tree) (t : Term) → IsTree wide (OfKind SYMBOL) shape → unfold_cpp shape ≡ Ok t → unfold_wide shape ≡ Ok t
 unfolding unfold_cpp unfold_wide first_around first_state
 meaning_stays shape t is e =

@@ -1,7 +1,5 @@
 -- What holds for each step of a row holds for what is done before any of its parts.
-use Rattle.std.proofs.Common.{◌≡◌, refl, ℕ, zero, suc, List, [], ◌∷◌, Bool, true, false, ◌&&◌, get_or}
-use Rattle.std.proofs.lemmas.Bool.{false≢true}
-use Rattle.cpp_grammar.specs.Row.{Action, goes, Where, in_its_name, in_its_types, in_a_signature, Row, before_part}
+use Rattle.cpp_grammar.proofs.Basics.{◌≡◌, refl, ℕ, zero, suc, List, [], ◌∷◌, Bool, true, false, ◌&&◌, get_or, false≢true, Action, goes, Where, in_its_name, in_its_types, in_a_signature, Row, before_part}
 
 -- the condition holds for these steps, and for what is done before each part after theirs
 unfoldable pub all_pass : (Action → Bool) → List Action → Action → Bool

@@ -1,31 +1,8 @@
--- By the ABI's grammar nothing is declared of a lambda's parameters: what it reads of the first of them is no pair.
-use Rattle.std.proofs.Common.{◌≡◌, refl, ap, sym, ◌∙◌, subst, ℕ, ◌+◌, List, [], ◌∷◌, ◌++◌, length, Bool, true, false, not, ◌||◌, ◌&&◌, nat_eq, ◌<◌, lit≤, Ok, Err}
-use Rattle.std.proofs.lemmas.Bool.{true≢false, false≢true, eqb-true}
-use Rattle.sym_core.specs.declared.refusal.Refusal.TheVariants.{BadReference}
-use Rattle.sym_shape.specs.declared.rule.Rule.{Rule}
-use Rattle.sym_shape.specs.declared.rule.Sym.{Sym}
-use Rattle.sym_shape.specs.declared.rule.Sym.TheVariants.{Kind as OfKind}
-use Rattle.sym_shape.specs.Table.{symbols_of}
-use Rattle.sym_shape.specs.Law.{IsSymbol, AreSymbols}
-use Rattle.sym_shape.specs.Tree.{Tree, Forest, branch, empty, token, fixed, nothing, grown, spell, TakesRule, IsTree, AreTrees}
-use Rattle.sym_link.specs.Reading.{Found, Next, Open, ◌>>=◌}
-use Rattle.sym_link.specs.Unfold.{found, alone, standing, unfold_tree, unfold_forest}
+-- The ABI's grammar has no declarations of a lambda's parameters: what it reads as a lambda's first type is no pair.
+use Rattle.cpp_grammar.proofs.Basics.{◌≡◌, refl, ap, sym, ◌∙◌, subst, ℕ, ◌+◌, List, [], ◌∷◌, ◌++◌, length, Bool, true, false, not, ◌||◌, ◌&&◌, nat_eq, ◌<◌, lit≤, Ok, Err, true≢false, false≢true, eqb-true, BadReference, Rule, Sym, Kind as OfKind, symbols_of, IsSymbol, AreSymbols, Tree, Forest, branch, empty, token, fixed, nothing, grown, spell, TakesRule, IsTree, AreTrees, Found, Next, Open, ◌>>=◌, found, alone, standing, unfold_tree, unfold_forest, Production, Operation, FIRST_OF_LAMBDA, FIRST_AFTER_T, number_of_kind, parts_of, wide_alternatives, wide, Term, list, nil, State, Around, Value, nothing_there, text, pair, part, is_declaring, Continuation, between, meaning, opening, close, production_at, byte_of, cpp, wide_sound}
 use Rattle.cpp_grammar.specs.declared.kind.Kind.{Kind}
-use Rattle.cpp_grammar.specs.declared.production.Production.{Production}
-use Rattle.cpp_grammar.specs.declared.production.Operation.{Operation}
-use Rattle.cpp_grammar.specs.KindNumbers.{FIRST_OF_LAMBDA, FIRST_AFTER_T}
-use Rattle.cpp_grammar.specs.Grammar.{number_of_kind, parts_of}
-use Rattle.cpp_grammar.specs.Wide.{wide_alternatives}
-use Rattle.cpp_grammar.specs.Table.{wide}
-use Rattle.cpp_grammar.specs.Term.{Term, list, nil}
-use Rattle.cpp_grammar.specs.Values.{State, Around, Value, nothing_there, text, pair, part}
 use Rattle.cpp_grammar.specs.Standing.{is_void, is_nil, parameters, signature_with, listed_value}
-use Rattle.cpp_grammar.specs.Rescoping.{is_declaring}
-use Rattle.cpp_grammar.specs.Between.{Continuation, between}
-use Rattle.cpp_grammar.specs.Meaning.{meaning}
 use Rattle.cpp_grammar.specs.Unfolding as unfolding_
-use Rattle.cpp_grammar.specs.Unfolding.{opening, close, production_at, byte_of, cpp}
-use Rattle.cpp_grammar.specs.TableLaws.{wide_sound}
 use Rattle.cpp_grammar.proofs.Choosing.{each_passes, chosen_rule, taken_passes, implied}
 use Rattle.cpp_grammar.proofs.Chosen.{either}
 use Rattle.cpp_grammar.proofs.ClosedStates.{ok_same, behind_bind}
@@ -39,7 +16,7 @@ unfoldable pub is_pair : Value → Bool
 is_pair (pair key first heads) = true
 is_pair _ = false
 
--- values of which the first is no pair
+-- values that don't begin with a pair
 unfoldable pub starts : List Value → Bool
 starts [] = false
 starts (v ∷ vs) = not (is_pair v)
@@ -59,7 +36,7 @@ undeclared_signature (v ∷ vs) t h = unpaired_signature v t (unpaired (is_pair 
     unpaired true e = absurd (false≢true e)
     unpaired false e = refl
 
--- and types are no signature that declares some
+-- a list of types is no signature that declares parameters
 pub plain_parameters : (first rest : Term) → is_declaring (parameters (list first rest)) ≡ false
 unfolding parameters is_declaring
 plain_parameters first rest = either (λ x. is_declaring x ≡ false) (is_void first && is_nil rest) nil (list first rest) (λ is. refl) (λ is. refl)
@@ -70,7 +47,7 @@ unfoldable pub begins_first : List Sym → Bool
 begins_first [] = false
 begins_first (x ∷ xs) = is_first x
 
--- the productions whose first part is of such a kind
+-- the productions whose first part is a lambda's first type
 unfoldable pub has_first : Production → Bool
 has_first Production.Lambda = true
 has_first Production.FirstWithT = true
@@ -82,7 +59,7 @@ first_parts Production.Mark = refl
 first_parts (Production.Operation Operation.ExpressionC) = refl
 first_parts _ = refl
 
--- the productions of such a kind
+-- the productions of a lambda's first type
 unfoldable makes_first : Production → Bool
 makes_first Production.RestrictType = true
 makes_first Production.VolatileType = true
@@ -142,7 +119,7 @@ refused_forest (grown t f) rule xs place state r trees is some e =
     let goes = behind_bind (between (production_at rule.rule.number) rule.context rule.place [] state) (λ next. unfold_tree cpp next.context place t next.state >>= λ part. unfold_forest cpp rule (next.values ++ part.value) (place + length (spell t)) f part.state) r e in
     refuses (production_at rule.rule.number) rule.context rule.place state goes.value is goes.is
 
--- every other one denotes no pair, or its first part
+-- every other production of a lambda's first type denotes no pair, or its first part
 first_closes : (p : Production) (byte : ℕ) (around : Around) (place : ℕ) (began : State) (vs : List Value) (state : State) (one : Found Value State) → makes_first p ≡ true → is_refused p ≡ false → (has_first p ≡ true → starts vs ≡ true) →
     close p byte around place began vs state ≡ Ok one → starts (one.value ∷ []) ≡ true
 unfolding makes_first is_refused has_first close unfolding_.behind meaning listed_value starts is_pair part
@@ -160,7 +137,7 @@ first_closes _ byte around place began vs state one h is first e = absurd (false
 
 -- ## Trees
 
--- the values that come after one stay behind it
+-- the first value stays first as further parts are read
 later_start : (f : Forest) (rule : Open State Around) (vs : List Value) (place : ℕ) (state : State) (r : Found (List Value) State) → has_first (production_at rule.rule.number) ≡ true → starts vs ≡ true →
     unfold_forest cpp rule vs place f state ≡ Ok r → starts r.value ≡ true
 unfolding cpp starts
@@ -227,7 +204,7 @@ mutual
       later_start f rule (n.values ++ comes.value.value) later comes.value.state r h
       (ap (λ vs. starts (vs ++ comes.value.value)) (values_stay p rule.context rule.place [] state n h goes.is) ∙ starting) comes.next
 
--- the parts of a lambda begin with such a kind
+-- the parts of such a production begin with a lambda's first type
 pub lambda_begins : (p : Production) → has_first p ≡ true → begins_first (parts_of p) ≡ true
 lambda_begins p h = implied (has_first p) (begins_first (parts_of p)) (first_parts p) h
 

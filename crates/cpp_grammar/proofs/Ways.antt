@@ -1,20 +1,6 @@
 -- The two readings of C++ as a single one, which takes what is done before the parts of a production, between them and after them.
-use Rattle.std.proofs.Common.{◌≡◌, refl, ℕ, List, [], ◌∷◌, Bool, true, false, Result, Ok}
-use Rattle.std.specs.Prelude.{◌&&◌}
-use Rattle.std.proofs.lemmas.Bool.{true≢false, false≢true}
-use Rattle.sym_core.specs.declared.refusal.Refusal.{Refusal}
-use Rattle.sym_shape.specs.Tree.{Forest}
-use Rattle.sym_link.specs.Reading.{Found, Reading}
-use Rattle.sym_link.specs.Unfold.{found}
-use Rattle.cpp_grammar.specs.declared.production.Production.{Production}
-use Rattle.cpp_grammar.specs.Values.{is_at_literal, State, Around, Value, nothing_there, text, tree_of, part}
-use Rattle.cpp_grammar.specs.Term.{Term}
-use Rattle.cpp_grammar.specs.Scope.{is_open}
-use Rattle.cpp_grammar.specs.Between.{Continuation, next, in_name, in_types, between}
-use Rattle.cpp_grammar.specs.Meaning.{meaning}
+use Rattle.cpp_grammar.proofs.Basics.{◌≡◌, refl, ℕ, List, [], ◌∷◌, Bool, true, false, Result, Ok, ◌&&◌, true≢false, false≢true, Refusal, Forest, Found, Reading, found, Production, is_at_literal, State, Around, Value, nothing_there, text, tree_of, part, Term, is_open, Continuation, next, in_name, in_types, between, meaning, opening, close, production_at, byte_of, is_passed_over, passed_over, name_around, types_around, name_if, opening_wide, between_wide, close_wide}
 use Rattle.cpp_grammar.specs.Unfolding as unfolding_
-use Rattle.cpp_grammar.specs.Unfolding.{opening, close, production_at, byte_of}
-use Rattle.cpp_grammar.specs.Rescoping.{is_passed_over, passed_over, name_around, types_around, name_if, opening_wide, between_wide, close_wide}
 use Rattle.cpp_grammar.proofs.Steps.{first_of_both}
 
 -- `own` says whether the parameters in a lambda's signature are the lambda's own, and `passes` whether an encoding here is passed over
@@ -59,7 +45,8 @@ differs Production.EncodingLiteral = true
 differs Production.Encoding = true
 differs _ = false
 
--- the productions with parts in a signature, or of which each is in one: lambdas, what is declared of a parameter, and constraints on arguments
+-- the productions with parts in a signature, or always in one themselves: lambdas, declarations of parameters, constraints on
+-- arguments
 unfoldable pub has_signature : Production → Bool
 has_signature Production.Lambda = true
 has_signature Production.ValueOf = true
@@ -79,9 +66,9 @@ name_by passes place = elim passes [ true ↦ passed_over place | false ↦ in_n
 unfoldable pub types_by : (passes : Bool) → (place : ℕ) → (name : Term) → Around
 types_by passes place name = elim (passes && is_open name) [ true ↦ passed_over place | false ↦ in_types place name ]
 
--- all others agree with the reading of the ABI's grammar
+-- all other productions agree with the reading of the ABI's grammar
 pub record IsPlain (w : Way) : Type 0 where
-  -- an encoding is passed over in a lambda's signature or in a constraint alone, and its parts are surrounded by what is said above
+  -- an encoding is passed over only in a lambda's signature or in a constraint, and `name_by` says what surrounds its name
   pub passing : (around : Around) → w.passes around ≡ true → (w.own ≡ true) × (around.in_lambda ≡ true)
   pub name : (around : Around) (place : ℕ) (state : State) → w.between Production.Encoding around place [] state ≡ next [] (name_by (w.passes around) place) state
   pub types : (around : Around) (place : ℕ) (v : Value) (state : State) → w.between Production.Encoding around place (v ∷ []) state ≡ next (v ∷ []) (types_by (w.passes around) place (tree_of v)) state

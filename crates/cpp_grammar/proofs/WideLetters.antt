@@ -1,19 +1,7 @@
--- The table of the wide grammar is held against it at each kind and byte, by computing.
-use Rattle.std.proofs.Common.{◌≡◌, ℕ, ◌+◌, ◌-◌, ◌<◌, get_or, slice_get, [], map, true, Option, Some, None, refl, ap, sym, subst, ◌∙◌, arith, inl, inr}
-use Rattle.std.proofs.lemmas.Bool.{ltb-true}
-use Rattle.std.proofs.lemmas.Bool.Decides.{leb_tells}
-use Rattle.std.proofs.lemmas.Option.{slice_get_cases}
-use Rattle.std.specs.List.{range_with_len}
-use Rattle.sym_shape.specs.Listing.{letter_below, unless_blank}
-use Rattle.sym_shape.proofs.Listed.{alike_in}
+-- The table of the wide grammar is compared with it at each kind and byte, by computing.
+use Rattle.cpp_grammar.proofs.Basics.{◌≡◌, ℕ, ◌+◌, ◌-◌, ◌<◌, get_or, slice_get, [], map, true, Option, Some, None, refl, ap, sym, subst, ◌∙◌, arith, inl, inr, ltb-true, leb_tells, slice_get_cases, range_with_len, letter_below, unless_blank, alike_in, WIDE_ROWS, Production, KIND_COUNT, PRODUCTION_COUNT, in_ranges, among, is_in, pick, kinds, productions, wide_alternatives, wide_choose, wide, wide_sheet, rule_taken}
 use Rattle.cpp_grammar.specs.declared.wide_table.Row.{Row}
-use Rattle.cpp_grammar.specs.declared.wide_table.TheConstants.{WIDE_ROWS}
 use Rattle.cpp_grammar.specs.declared.kind.Kind.{Kind}
-use Rattle.cpp_grammar.specs.declared.production.Production.{Production}
-use Rattle.cpp_grammar.specs.KindNumbers.{KIND_COUNT, PRODUCTION_COUNT}
-use Rattle.cpp_grammar.specs.Grammar.{in_ranges, among, is_in, pick, kinds, productions}
-use Rattle.cpp_grammar.specs.Wide.{wide_alternatives, wide_choose}
-use Rattle.cpp_grammar.specs.Table.{wide, wide_sheet, rule_taken}
 use Rattle.cpp_grammar.proofs.Choosing.{wide_rule_at, is_wide_kind}
 use Rattle.cpp_grammar.proofs.Letters.{numbered, is_number}
 
@@ -35,7 +23,7 @@ unfoldable pub chosen : Option Kind → ℕ → Option Production
 chosen None byte = None
 chosen (Some kind) byte = wide_choose kind byte
 
--- the rows have the productions of the grammar, those of the first kinds and those of the others
+-- the rows have the productions of the grammar: for these first kinds, and for the others
 abbrev FIRST_KINDS : ℕ
 FIRST_KINDS = 88
 

@@ -1,5 +1,5 @@
--- What surrounds the parts of a production, and what is done before each of them. A name grows from part to part: each piece is
--- added to the name so far, and a name that something is added to is a candidate, unless it is one already or never is one.
+-- What surrounds the parts of a production, and what is done before each of them. Each piece is added to the name so far, and a
+-- name that something is added to becomes a candidate, unless it is one already or never becomes one.
 use Rattle.std.specs.Prelude.{ℕ, List, length}
 use Rattle.cpp_grammar.specs.declared.production.Production.{Production}
 use Rattle.cpp_grammar.specs.Values.{State, Around, Value, part}

@@ -5,9 +5,9 @@ use Rattle.cpp_grammar.specs.Scope.{element, pack_length}
 
 -- ## Items
 
--- Left and right are what precedes and follows a declared name; low is left of a reference under an lvalue reference; base is
--- the name of a constructor's class; bare is an encoding without its return type. First and more are a list's elements; expand
--- is the elements of an expansion from a number on, and declared what is declared of a lambda's parameters from a number on.
+-- Left and right are what precedes and follows a declared name; low is like left, of a reference under an lvalue reference; base
+-- is the name of a constructor's class; bare is an encoding without its return type. First and more are a list's elements; expand
+-- is an expansion's elements from a number on, and declared is the declarations of a lambda's parameters from a number on.
 pub data Form : Type 0 where
   root : Form
   full : Form
@@ -22,21 +22,21 @@ pub data Form : Type 0 where
   expand : ℕ → Form
   declared : ℕ → Form
 
--- in which signature of a lambda that has parameters of its own: in none, in one that declares no parameters, or in one in which
--- this is declared of them before its types
+-- the signature around a tree, of a lambda with parameters of its own: none, one that declares no parameters, or one with these
+-- declarations before its types
 pub data Signature : Type 0 where
   in_none : Signature
   undeclared : Signature
   declared_in : (heads parameters : Term) → Signature
 
--- where a tree is printed: the arguments that its parameters name, the index into their packs, and in which signature it is of
--- a lambda that has parameters of its own
+-- where a tree is printed: the arguments that its parameters name, the index into their packs, and the signature around it, of a
+-- lambda with parameters of its own
 pub record Context : Type 0 where
   pub scope : Option Term
   pub index : Option ℕ
   pub in_signature : Signature
 
--- a tree in a form; of a list the elements from here on
+-- a tree in a form; for a list, its elements from this one on
 pub record Item : Type 0 where
   pub tree : Term
   pub form : Form
@@ -52,11 +52,11 @@ unfoldable pub signature_of : Term → Signature
 signature_of (declaring heads parameters) = declared_in heads parameters
 signature_of parameters = undeclared
 
--- in this signature, in this context
+-- the context inside this signature
 abbrev pub signature_in : Context → Term → Context
 signature_in context parameters = record { scope = None; index = context.index; in_signature = signature_of parameters }
 
--- for a pack, its element at the index
+-- a pack's element at the index, or any other tree itself
 unfoldable pub indexed : Option ℕ → Term → Term
 indexed (Some i) (pack elements) = element elements i
 indexed index t = t
@@ -65,7 +65,7 @@ indexed index t = t
 abbrev pub auto : Term
 auto = builtin (68 ∷ 97 ∷ [])
 
--- what denotes each parameter of a lambda's own: the signature that declares them, if one does
+-- what each of a lambda's own parameters denotes: the signature that declares them, if one does
 unfoldable pub own_argument : Signature → Term
 own_argument in_none = absent
 own_argument undeclared = auto

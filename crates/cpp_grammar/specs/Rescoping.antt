@@ -1,7 +1,7 @@
--- The reading of the wide grammar (ABI 5.1.8, 5.1.10). It differs from that of the ABI's grammar in four points: the
--- parameters of a lambda's signature are the lambda's own; a substitution may name a tree that was made where its parameters
--- meant others than those meant where it is named; there are names with an M, inherited constructors and concepts with
--- arguments, which compilers count differently; and before a component of a nested name a substitution names a module.
+-- The reading of the wide grammar (ABI 5.1.8, 5.1.10). It differs from that of the ABI's grammar in four points: the parameters
+-- of a lambda's signature are the lambda's own; a substitution may name a tree whose parameters had another meaning where it was
+-- made; there are names with an M, inherited constructors and concepts with arguments, which compilers count differently; and
+-- before a component of a nested name a substitution names a module.
 use Rattle.std.specs.Prelude.{ℕ, zero, suc, ◌-◌, ◌^◌, List, [], ◌∷◌, Bool, true, false, not, ◌||◌, ◌&&◌, nat_eq, nat_lt, cond, slice_get, Option, Some, None, Result, Ok, Err}
 use Rattle.sym_core.specs.declared.refusal.Refusal.{Refusal}
 use Rattle.sym_core.specs.declared.refusal.Refusal.TheVariants.{BadReference}
@@ -21,11 +21,11 @@ use Rattle.cpp_grammar.specs.Unfolding.{opening, close, production_at, byte_of, 
 
 -- ## Parameters
 
--- the number of a lambda's own parameter: all that are past any argument are one
+-- the number of a lambda's own parameter: one of more than 32 bits is the greatest of 32 bits
 unfoldable pub generic_number : ℕ → ℕ
 generic_number k = cond (nat_lt k (2 ^ 32)) k (2 ^ 32 - 1)
 
--- a lambda's own parameter, in its signature, is good whatever its number, and a candidate
+-- a lambda's own parameter, in its signature, is accepted whatever its number is, and becomes a candidate
 unfoldable pub generic_so_far : Around → ℕ → List Value → State → Continuation
 generic_so_far around k vs state = listed_so_far around (parameter (generic_number k)) vs (appended around (parameter (generic_number k)) state)
 
@@ -45,7 +45,7 @@ argument_here around place k state = elim around.in_lambda [
 
 -- ## Constraints
 
--- Nothing is looked up in a constraint (Q <constraint-expression>): its parameters are no arguments' names.
+-- Nothing is looked up in a constraint (Q <constraint-expression>): its parameters name no arguments.
 unfoldable pub in_constraint_of : Around → Around
 in_constraint_of around = record { scope = None; encoding = around.encoding; in_lambda = true; in_expansion = around.in_expansion; prefix = outermost; showing = in_constraint }
 
@@ -65,15 +65,16 @@ is_passed_over around = around.in_lambda && is_at_literal around.showing
 unfoldable pub passed_over : (place : ℕ) → Around
 passed_over place = record { scope = None; encoding = place; in_lambda = true; in_expansion = false; prefix = outermost; showing = in_constraint }
 
--- in the name of an encoding
+-- what surrounds the name of an encoding
 unfoldable pub name_around : Around → (place : ℕ) → Around
 name_around around place = elim (is_passed_over around) [ true ↦ passed_over place | false ↦ in_name place ]
 
--- In its types: where the name has free parameters they have them, too, and otherwise the name is their scope.
+-- What surrounds an encoding's types: if it is passed over and its name has free parameters, they may have free ones, too;
+-- otherwise the name is their scope.
 unfoldable pub types_around : Around → (place : ℕ) → (name : Term) → Around
 types_around around place name = elim (is_passed_over around && is_open name) [ true ↦ passed_over place | false ↦ in_types place name ]
 
--- An encoding whose name has free parameters is that name alone, and so is a literal that denotes it.
+-- An encoding whose name has free parameters denotes only that name, and so does a literal that denotes the encoding.
 unfoldable pub name_if : Bool → (name : Value) → Value → Value
 name_if has_free name v = elim has_free [ true ↦ tree (tree_of name) true | false ↦ v ]
 
@@ -91,9 +92,10 @@ as_generic_lambda v = v
 
 -- ## Names with an M
 
--- The initializer of a variable or of a data member has a prefix: that one's name, with an M after it. Compilers since GCC 13
--- and Clang 13 count it, with its M, among the candidates, and earlier ones don't count it; a symbol doesn't say which one made
--- it. So there are two lists: the longer one has what some compiler counts, and the shorter one what all of them count.
+-- What is in the initializer of a variable or of a data member has a prefix: the name of the variable or member, with an M after
+-- it. Compilers since GCC 13 and Clang 13 count the name, with its M, among the candidates, and earlier ones don't count it; a
+-- symbol doesn't say which one made it. So there are two lists: the longer one has what some compiler counts, and the shorter one
+-- what all of them count.
 
 -- The name before an M became a candidate as a prefix, unless a number names it or it's a parameter. With its M it takes the
 -- place of that candidate, which no compiler counts.
@@ -104,8 +106,8 @@ unfoldable pub is_instance : Term → Bool
 is_instance (instance template arguments) = true
 is_instance _ = false
 
--- After arguments an M is refused: compilers also differ in whether they count the name of the arguments' template, and what
--- the arguments name by its number has been read by then.
+-- After arguments an M is refused: compilers also differ in whether they count the name of the arguments' template, and by then
+-- the arguments, which may name candidates by number, have been read.
 unfoldable pub holder_so_far : Around → (place : ℕ) → State → Continuation
 holder_so_far around place state = elim (is_instance (prefix_tree around.prefix)) [
   | true ↦ Err (BadReference place)
@@ -133,12 +135,12 @@ counted_held (alone name) = by_clang
 counted_held (in_std name) = by_clang
 counted_held _ = by_some
 
--- No S names the constructor: its candidate is absent.
+-- No S names the constructor: its candidate is the absent tree.
 unfoldable pub with_constructor : (listed : Bool) → Counted → Around → State → State
 with_constructor false by_gcc around state = appended_by by_gcc around absent state
 with_constructor listed counted around state = state
 
--- before such arguments, after a base class or the name of a concept
+-- the state before a constructor's or a concept's arguments, once the name before them is counted
 unfoldable pub with_held : (listed : Bool) → Around → Term → State → State
 with_held listed around t state = with_constructor listed (counted_held t) around (counted_unless listed (counted_held t) around t state)
 
@@ -169,11 +171,11 @@ place_in is_shorter (c ∷ cs) number = elim (is_in_list is_shorter c cs) [
   | true ↦ elim number [ zero ↦ zero | suc k ↦ suc (place_in is_shorter cs k) ]
 ]
 
--- the candidate that has this number there
+-- the candidate that has this number in the longer or in the shorter list
 unfoldable pub named_in : (is_shorter : Bool) → List Candidate → (number : ℕ) → Option Candidate
 named_in is_shorter cs number = slice_get cs (place_in is_shorter cs number)
 
--- Candidates that other compilers count than those of an earlier one make the longer list none that a compiler has.
+-- If two candidates are counted by different compilers, neither by all, no compiler may have the longer list.
 unfoldable pub joined : Counted → Counted → Counted
 joined by_all counted = counted
 joined by_newer by_newer = by_newer
@@ -194,8 +196,8 @@ is_by_some _ = false
 
 -- ## Heads
 
--- The head of a tree is a number that tells the outermost forms of types apart, and lambdas from other names. It is 0 for all other
--- forms, and for a template with arguments, whose template alone may be named.
+-- The head of a tree is a number that tells the outermost forms of types apart, and lambdas from other names. It is 0 for all
+-- other forms, and for a template with arguments, since an S may name the template alone.
 unfoldable pub head_of_name : (last : Term) → ℕ
 head_of_name (lambda parameters number) = 2
 head_of_name (generic_lambda parameters number) = 2
@@ -226,7 +228,7 @@ unfoldable pub is_qualified_at : (place : ℕ) → Expected → Bool
 is_qualified_at place (qualified_at at) = nat_eq at place
 is_qualified_at place _ = false
 
--- The head that is known of what the S at this place names.
+-- The head of what the S at this place names, if it is known.
 unfoldable pub head_at : (place : ℕ) → Expected → ℕ
 head_at place (item_at at head) = elim (nat_eq at place) [ true ↦ head | false ↦ 0 ]
 head_at place _ = 0
@@ -248,16 +250,16 @@ unfoldable pub can_be_named : Expected → (place : ℕ) → Option Candidate �
 can_be_named expected place None = false
 can_be_named expected place (Some c) = fits (is_prefix_at place expected) (is_qualified_at place expected) c.tree
 
--- and whether it may have the head that is expected there
+-- whether a list has a candidate for the S at this place that may have the head that is expected there
 unfoldable pub has_head : Expected → (place : ℕ) → Option Candidate → Bool
 has_head expected place None = false
 has_head expected place (Some c) = may_be (head_at place expected) (head_of c.tree)
 
 -- ## The functions of a lambda
 
--- The initializer of a variable or of a data member is where a lambda has an M before it. What is named within the lambda is one of its
--- functions. Where a type of that function is an S alone, the function is the lambda's operator(), or what calls it, and has the types of
--- the lambda's signature, in their order; after a return type, if the lambda has parameters of its own.
+-- A lambda with an M before it is in the initializer of a variable or of a data member. A name within the lambda is that of one
+-- of its functions. If a type of that function is an S alone, the function is the lambda's operator(), or calls it, and has the
+-- types of the lambda's signature, in their order; after a return type, if the lambda has parameters of its own.
 
 unfoldable pub first_head : (types : Term) → ℕ
 first_head (list t rest) = head_of t
@@ -296,7 +298,7 @@ awaited_by_piece place (lambda signature number) = heads_of place signature
 awaited_by_piece place (generic_lambda signature number) = behind_another (heads_of place (types_in signature))
 awaited_by_piece place _ = nothing_awaited
 
--- what is awaited of this name, if it's that of a lambda
+-- what is awaited after this name, if it is a lambda's
 unfoldable pub awaited_by : (place : ℕ) → (name : Term) → Awaited
 awaited_by place (within prefix last) = awaited_by_piece place last
 awaited_by place _ = nothing_awaited
@@ -304,27 +306,28 @@ awaited_by place _ = nothing_awaited
 unfoldable pub awaiting : Around → (name : Term) → Counting → Counting
 awaiting around name counting = record counting { awaited = awaited_by around.encoding name }
 
--- At the next piece of the name the lambda's function is named.
+-- The next piece of the name is a function of the lambda.
 unfoldable pub calling : Counting → Counting
 calling counting = record counting { awaited = record counting.awaited { is_called = true } }
 
--- If the name ends first, none is.
+-- If the name ends with the lambda, no function is named.
 unfoldable pub ending : Counting → Counting
 ending counting = elim counting.awaited.is_called [ true ↦ counting | false ↦ record counting { awaited = nothing_awaited } ]
 
 unfoldable pub expecting : Expected → Counting → Counting
 expecting expected counting = record counting { expected = expected }
 
--- Where a type of that function begins, it's expected that it has the head that is awaited first.
+-- Where a type of that function begins, its head is expected to be the first awaited one.
 unfoldable pub expecting_item : Around → (place : ℕ) → Counting → Counting
 expecting_item around place counting = elim ((around.in_lambda || not counting.awaited.is_called) || not (nat_eq counting.awaited.encoding around.encoding)) [
   | true ↦ counting
   | false ↦ record counting { expected = item_at place counting.awaited.first; awaited = behind_first counting.awaited }
 ]
 
--- ## The list that is left
+-- ## The list that remains
 
--- Where both lists are left, and only one has a candidate that fits, that list is left from there on. A list in which none fits isn't.
+-- If both lists remain and only one has a candidate that fits, that list remains. If one list remains, it stays if its
+-- candidate fits.
 unfoldable pub left : Lists → (longer_fits shorter_fits : Bool) → Lists
 left both_lists true false = longer_list
 left both_lists false true = shorter_list
@@ -332,12 +335,12 @@ left longer_list true shorter_fits = longer_list
 left shorter_list longer_fits true = shorter_list
 left _ longer_fits shorter_fits = no_list
 
--- Where both fit by their form, their heads decide.
+-- If the candidates of both fit by their forms, their heads decide.
 unfoldable pub left_by : Lists → (longer_fits shorter_fits longer_has shorter_has : Bool) → Lists
 left_by both_lists true true longer_has shorter_has = left both_lists longer_has shorter_has
 left_by lists longer_fits shorter_fits longer_has shorter_has = left lists longer_fits shorter_fits
 
--- the lists that are left by the S at this place with this number, by which the lists name two candidates
+-- the lists that remain after the S at this place with this number, if the two lists name different candidates by it
 unfoldable pub left_at : (place number : ℕ) → State → Lists
 left_at place number state = elim (is_by_some (counted_so_far by_all state.candidates)) [
   | true ↦ no_list
@@ -352,7 +355,7 @@ with_lists lists state = record state { counting = record state.counting { lists
 
 -- ## Modules
 
--- A module's name is a candidate, which is named before a component of a nested name alone. It has no free parameters.
+-- A module's name is a candidate that is named only before a component of a nested name. It has no free parameters.
 unfoldable pub named_by_both : List Candidate → (number : ℕ) → Option Candidate
 named_by_both cs number = elim (nat_eq (place_in false cs number) (place_in true cs number)) [ true ↦ named_in false cs number | false ↦ None ]
 
@@ -365,11 +368,12 @@ module_named number state = module_of (named_by_both state.candidates number)
 
 -- ## Substitutions
 
--- A candidate's free parameters may denote others here than where it was made: in another encoding, or in a lambda's signature.
+-- A candidate's free parameters may denote other arguments here than where it was made: in another encoding, or in a lambda's
+-- signature.
 unfoldable pub is_foreign : Around → Candidate → Bool
 is_foreign around c = is_open c.tree && (around.in_lambda || (c.in_lambda || not (nat_eq c.encoding around.encoding)))
 
--- A tree whose one free parameter has this number, in the scope here, which has such an argument.
+-- A tree with one free parameter, of this number: the scope here has an argument of that number.
 unfoldable pub in_scope : Around → (place : ℕ) → Term → (number : ℕ) → State → Result (Found Value State) Refusal
 in_scope around place t k state = elim around.scope [
   | None ↦ Err (BadReference place)
@@ -379,8 +383,8 @@ in_scope around place t k state = elim around.scope [
   ]
 ]
 
--- A tree with several free parameters, this being the greatest number: in the scope here there is an argument for each, and
--- none of its arguments is a pack.
+-- A tree with several free parameters, this being the greatest number: the scope here has an argument for each, and no pack among
+-- its arguments.
 unfoldable pub under_scope : Around → (place : ℕ) → Term → (greatest : ℕ) → State → Result (Found Value State) Refusal
 under_scope around place t m state = elim around.scope [
   | None ↦ Err (BadReference place)
@@ -390,7 +394,7 @@ under_scope around place t m state = elim around.scope [
   ]
 ]
 
--- outside a signature
+-- a tree that was made elsewhere, read outside a signature, by its free parameters
 unfoldable pub with_free : Free → Around → (place : ℕ) → Term → State → Result (Found Value State) Refusal
 with_free none_free around place t state = Err (BadReference place)
 with_free (one_free k) around place t state = in_scope around place t k state
@@ -412,13 +416,13 @@ substituted_wide around place (Some c) state = elim (is_foreign around c) [
   | false ↦ substituted around place (Some c) state
 ]
 
--- by the list that is left
+-- what a number names by the list that remains
 unfoldable pub listed_by : Lists → Around → (place number : ℕ) → State → Result (Found Value State) Refusal
 listed_by longer_list around place number state = substituted_wide around place (named_in false state.candidates number) state
 listed_by shorter_list around place number state = substituted_wide around place (named_in true state.candidates number) state
 listed_by _ around place number state = Err (BadReference place)
 
--- A substitution names the candidate that its number names by both lists, or by the one that is left.
+-- A substitution names the candidate that its number names by both lists, or by the one that remains.
 unfoldable pub numbered : Around → (place : ℕ) → (number : ℕ) → State → Result (Found Value State) Refusal
 numbered around place number state = elim (nat_eq (place_in false state.candidates number) (place_in true state.candidates number)) [
   | true ↦ substituted_wide around place (named_in false state.candidates number) state
@@ -441,8 +445,8 @@ noting counting state = elim (is_by_all (counted_so_far by_all state.candidates)
   | false ↦ record state { counting = counting }
 ]
 
--- Where a production begins: the S that a nested name begins with is the byte before, and a type under qualifiers begins here. So does
--- a type of an encoding or of a signature, and a piece of a name after another; a nested name ends here.
+-- What is noted where a production begins: the S of a nested name is the byte before; a type under qualifiers, a type of an
+-- encoding or of a signature, or a further piece of a name begins here; or a nested name ends here.
 unfoldable pub opening_wide : Production → Around → Forest → (place : ℕ) → State → Result State Refusal
 opening_wide Production.NestTemplate around parts place state = Ok (noting (expecting (prefix_at (place - 1)) state.counting) state)
 opening_wide Production.QualifiedPlain around parts place state = Ok (noting (expecting (qualified_at place) state.counting) state)

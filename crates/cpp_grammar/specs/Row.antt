@@ -43,7 +43,7 @@ pub data Source : Type 0 where
 -- a tree that a row makes
 pub data Made : Type 0 where
   of : Maker → List Source → Made
-  -- an existing one
+  -- an existing tree
   only : Source → Made
   -- the name so far with one more piece, or with one more tag
   extending : Made → Made
@@ -53,17 +53,17 @@ pub data Made : Type 0 where
   -- a pack of the elements in a part
   packing : ℕ → Made
 
--- Whether a tree is marked as listed: as one that is a candidate already, or never is one. A name that something is added to
+-- Whether a tree is marked as listed: as one that is a candidate already, or never becomes one. A name that something is added to
 -- becomes a candidate unless it is listed.
 pub data Listing : Type 0 where
   listed : Listing
   unlisted : Listing
   as_part : ℕ → Listing
-  -- unless this part is present
+  -- listed unless this part is present
   unless_there : ℕ → Listing
   as_part_alone : ℕ → (arguments : ℕ) → Listing
 
--- what has code of its own: specs/Own
+-- what productions with code of their own denote: specs/Own
 pub data Own : Type 0 where
   nested_name : Own
   encoding : Own
@@ -100,7 +100,7 @@ pub data Form : Type 0 where
   -- what a part denotes; and the same tree, which is a candidate by now
   handed : ℕ → Form
   finished : ℕ → Form
-  -- what a part denotes, or another, where it is absent
+  -- what a part denotes, or what another part does, where the first is absent
   either : (part other : ℕ) → Form
   -- the byte that the production takes
   the_byte : Form
@@ -127,7 +127,7 @@ pub data Where : Type 0 where
   under_it : Where
   -- where no name begins yet
   nameless : Where
-  -- in a name, whose part so far is this tree, or is what it was
+  -- in a name: the name so far is the tree in this part, or the one that it was before
   after_part : ℕ → Listing → Where
   after_the_name : Where
 

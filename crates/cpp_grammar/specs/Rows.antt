@@ -258,7 +258,7 @@ row_of Production.NestEnd = plain (own nest_end (nodes 0))
 row_of Production.AnyConstructor = plain (handed 0)
 -- <ctor-dtor-name> ::= D0 | D1 | D2, or what else begins with D
 row_of Production.Destructor = after_steps (quiet ∷ becomes_name (extending (only (piece_at 0))) ∷ []) (a_name unlisted)
--- of operators those that begin with c stand apart, since one of them is a type's
+-- operators that begin with c have rules of their own, since one of these codes is a type's
 row_of Production.ComponentWithC = plain (handed 0)
 -- <unqualified-name> ::= <operator-name>, within a nested name, perhaps with <template-args>
 row_of Production.OtherOperatorName = after_steps (quiet ∷ becomes_name (extending (only (piece_at 0))) ∷ []) (a_name unlisted)

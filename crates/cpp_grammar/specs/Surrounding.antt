@@ -40,8 +40,8 @@ extended (behind t listed) piece = within t piece
 unfoldable pub with_tag : Term → List ℕ → Term
 with_tag t tag = tagged (is_structor t) t tag
 
--- A name, with arguments where there are some. A name that follows it is the same with tags, and perhaps arguments after these:
--- it takes its place.
+-- A name, with arguments if there are some. If a name follows it, that is this name with tags, perhaps with arguments after
+-- these, and takes its place.
 unfoldable pub applied : Term → Value → Term
 applied t (named u qualifiers ref) = u
 applied t v = elim (is_there v) [ true ↦ instance t (tree_of v) | false ↦ t ]
@@ -66,7 +66,7 @@ next vs around state = Ok (record { values = vs; context = around; state = state
 unfoldable pub named_so_far : Around → Term → List Value → State → Continuation
 named_so_far around t vs state = next (tree t false ∷ vs) (after t false around) state
 
--- a name that is a candidate already, or never is one
+-- a name that is a candidate already, or never becomes one
 unfoldable pub listed_so_far : Around → Term → List Value → State → Continuation
 listed_so_far around t vs state = next (tree t true ∷ vs) (after t true around) state
 
@@ -74,7 +74,7 @@ listed_so_far around t vs state = next (tree t true ∷ vs) (after t true around
 unfoldable pub parameter_so_far : Around → (place : ℕ) → ℕ → List Value → State → Continuation
 parameter_so_far around place k vs state = parameter_named around place k state >>= λ s. listed_so_far around (parameter k) vs s
 
--- a parameter in an expression is tested in the same way, and no candidate
+-- a parameter in an expression is tested in the same way, and becomes no candidate
 unfoldable pub argument_so_far : Around → (place : ℕ) → ℕ → State → Continuation
 argument_so_far around place k state = parameter_named around place k state >>= λ s. next (tree (parameter k) true ∷ []) around (record s { candidates = state.candidates })
 

@@ -18,7 +18,7 @@ use Rattle.cpp_grammar.specs.Follow.{after_ranges, rank, height}
 use Rattle.cpp_grammar.specs.Before.{alternatives_before}
 use Rattle.cpp_grammar.specs.Wide.{wide_alternatives}
 
--- five symbols; the last ones don't count
+-- symbols filled up to this many; those that are added don't count
 unfoldable pub padded : ℕ → List Sym → List Sym
 padded zero symbols = []
 padded (suc n) [] = Byte 0 ∷ padded n []
@@ -85,6 +85,6 @@ abi_before = table_of blank sheet_before Cpp
 unfoldable pub wide_sheet : List KindSheet
 wide_sheet = map (sheet_with wide_alternatives) kinds
 
--- the wide table: that of C++ symbols, with what compilers write beside them
+-- the wide table: that of C++ symbols, with what compilers write in addition to them
 unfoldable pub wide : Table
 wide = table_of blank wide_sheet Cpp

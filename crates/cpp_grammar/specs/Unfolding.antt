@@ -21,13 +21,13 @@ use Rattle.cpp_grammar.specs.Meaning.{meaning}
 
 -- ## Before the parts of a production
 
--- the digits of the last token among these; for a lambda or an unnamed type they are its number
+-- the digits of the last token among these trees; for a lambda or an unnamed type they are its number
 unfoldable pub last_token : Forest → List ℕ → List ℕ
 last_token nothing digits = digits
 last_token (grown (token t) rest) digits = last_token rest t.own
 last_token (grown part rest) digits = last_token rest digits
 
--- The number of a lambda or an unnamed type has 64 bits. It is tested at its U, before what is between: its row says so.
+-- The number of a lambda or an unnamed type has 64 bits. It is tested at the U, before the parts in between: the row says so.
 unfoldable pub number_tested : ℕ → List ℕ → State → Result State Refusal
 number_tested place digits state = elim (nat_lt (local_number digits) (2 ^ 64)) [ true ↦ Ok state | false ↦ Err (BadValue place) ]
 

@@ -5,7 +5,7 @@ use Rattle.sym_core.specs.Value.{counted_value}
 use Rattle.cpp_grammar.specs.Term.{Qualifiers, RefQualifier, any_value, lvalue_only, rvalue_only, explicit_object, Signed, Adjustment, non_virtual, Term, destructor, absent}
 
 -- By which compilers a candidate is counted: by all, by those since GCC 13 and Clang 13, by GCC alone, by Clang alone, or by some
--- of which the reading doesn't know.
+-- that the reading doesn't know.
 pub data Counted : Type 0 where
   by_all : Counted
   by_newer : Counted
@@ -13,32 +13,32 @@ pub data Counted : Type 0 where
   by_clang : Counted
   by_some : Counted
 
--- a tree that a substitution may name, the place where the encoding begins in which it was made, whether it was made in a
--- lambda's signature of that encoding, or in what is declared of an argument, and by which compilers it's counted
+-- a tree that a substitution may name, where the encoding that it was made in begins, whether it was made in a lambda's signature
+-- of that encoding, or in the declaration of an argument, and by which compilers it's counted
 pub record Candidate : Type 0 where
   pub tree : Term
   pub encoding : ℕ
   pub in_lambda : Bool
   pub counted : Counted
 
--- The lists that the compiler may have that made the symbol: the longer one has the candidates that some compiler counts, and the
--- shorter one those that all compilers count.
+-- The lists of candidates of the compilers that may have made the symbol: the longer one has the candidates that some compiler
+-- counts, and the shorter one those that all compilers count.
 pub data Lists : Type 0 where
   both_lists : Lists
   longer_list : Lists
   shorter_list : Lists
   no_list : Lists
 
--- the place of the last S of which it's known what it may name: what a nested name begins with, a type under qualifiers, or one of the
--- types of a lambda's function, which has this head
+-- the place of the last S with something known about what it names: it begins a nested name, or it is a type under qualifiers, or
+-- a type, with this head, of a lambda's function
 pub data Expected : Type 0 where
   anything : Expected
   prefix_at : (place : ℕ) → Expected
   qualified_at : (place : ℕ) → Expected
   item_at : (place head : ℕ) → Expected
 
--- The heads of the next four types of the encoding that begins at this place, and whether its name goes on after the lambda that has
--- these types. A head is the number of a tree's form, and 0 where nothing is known of it.
+-- The heads of the next four types of the encoding that begins at this place, and whether its name goes on after the lambda that
+-- has these types. A head is the number of a tree's form, and 0 if the form is unknown.
 pub record Awaited : Type 0 where
   pub encoding : ℕ
   pub is_called : Bool
@@ -50,7 +50,7 @@ pub record Awaited : Type 0 where
 abbrev pub nothing_awaited : Awaited
 nothing_awaited = record { encoding = 0; is_called = false; first = 0; second = 0; third = 0; fourth = 0 }
 
--- which lists are left, what is expected, and what is awaited
+-- which lists remain, what is expected, and what is awaited
 pub record Counting : Type 0 where
   pub lists : Lists
   pub expected : Expected
@@ -66,7 +66,7 @@ pub record State : Type 0 where
   pub packs : Option ℕ
   pub counting : Counting
 
--- the name so far, and whether it is a candidate already or never is one
+-- the name so far, and whether it is a candidate already or never becomes one
 pub data Prefix : Type 0 where
   outermost : Prefix
   behind : Term → (listed : Bool) → Prefix
@@ -93,9 +93,9 @@ unfoldable pub is_at_literal : Showing → Bool
 is_at_literal at_literal = true
 is_at_literal _ = false
 
--- What surrounds a part: the arguments that parameters name there, the place where the innermost encoding begins,
--- whether the part is in a lambda's signature of that encoding, in what is declared of an argument or in a constraint, whether
--- it is under an expansion, the name so far, and whether the part is shown.
+-- What surrounds a part: the arguments that parameters name there, the place where the innermost encoding begins, whether the
+-- part is in a lambda's signature of that encoding, in the declaration of an argument or in a constraint, whether it is under an
+-- expansion, the name so far, and whether the part is shown.
 pub record Around : Type 0 where
   pub scope : Option Term
   pub encoding : ℕ
@@ -111,7 +111,7 @@ pub data Value : Type 0 where
   text : List ℕ → Value
   signed : Signed → Value
   adjusted : Adjustment → Value
-  -- a tree, and whether it is a candidate already or never is one
+  -- a tree, and whether it is a candidate already or never becomes one
   tree : Term → (listed : Bool) → Value
   -- a piece of a name, before a name is made of it
   piece : Term → Value
@@ -135,7 +135,7 @@ tree_of (signature t ref) = t
 tree_of (pair second left right) = left
 tree_of _ = absent
 
--- the piece of a name; a digit is that of a destructor
+-- the piece of a name; a lone digit is that of a destructor
 unfoldable pub piece_of : Value → Term
 piece_of (piece p) = p
 piece_of (letter digit) = destructor digit
@@ -182,7 +182,7 @@ adjustment_of _ = non_virtual (record { negative = false; digits = [] })
 
 -- ## Numbers
 
--- digits without leading zeros, 0 for zero, and none where there are none
+-- digits without leading zeros: 0 for zero, and no digits for no digits
 unfoldable pub normal : List ℕ → List ℕ
 normal [] = []
 normal (d ∷ []) = d ∷ []

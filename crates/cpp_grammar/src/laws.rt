@@ -23,9 +23,8 @@ use crate::abi::Abi;
 use crate::wide::Wide;
 use sym_shape::grown_keeps;
 
-/// Each tree of the grammar before vector types, noexcept function types and complex types were added is one of
-/// [`Abi`](crate::Abi). So a symbol that was well shaped keeps its rows, and the first bad byte of any other symbol isn't
-/// earlier.
+/// Each tree of the earlier grammar, which had no vector, noexcept function or complex types, is a tree of [`Abi`](crate::Abi).
+/// So a symbol that was well shaped keeps its rows, and the first bad byte of any other symbol isn't earlier.
 pub fn earlier_trees_stay()
     ensures trees { GrowsInto abi_before abi }
     ensures rows { (s : List ℕ) (before now : List Row) → AreRowsOf abi_before s before → AreRowsOf abi s now → now ≡ before }
@@ -34,9 +33,10 @@ pub fn earlier_trees_stay()
     grown_keeps::<Abi>();
 }
 
-/// Each tree of [`Abi`](crate::Abi) is one of [`Wide`](crate::Wide): the ABI's grammar is the wide one without what that marks
-/// as its own. So a symbol that is well shaped has the same rows there, and the first bad byte of any other symbol isn't
-/// earlier there.
+/// Each tree of [`Abi`](crate::Abi) is one of [`Wide`](crate::Wide): the ABI's grammar is the wide
+/// grammar without the forms that the wide grammar marks as its own. So a symbol that is well
+/// shaped by `Abi` has the same rows by `Wide`, and the first bad byte of any other symbol isn't
+/// earlier by `Wide`.
 pub fn abi_trees_stay()
     ensures trees { GrowsInto abi wide }
     ensures rows { (s : List ℕ) (before now : List Row) → AreRowsOf abi s before → AreRowsOf wide s now → now ≡ before }
@@ -61,15 +61,17 @@ pub fn no_first_packs_in_abi()
     ensures others { (shape : Tree) → IsTree abi (Kind ARGUMENTS_FIRST) shape → IsTree abi (Kind ARGUMENT_LIST) shape }
 {}
 
-/// The reading of the wide grammar differs from that of the ABI's grammar only in what that refuses: a lambda's signature may
-/// name the lambda's own parameters, a substitution may name a tree that was made where its parameters mean others than here,
-/// or a module, and a name may have an M. What a shape denotes by the one reading it denotes by the other.
+/// The wide grammar's reading differs from the ABI's reading only where the ABI's reading refuses a
+/// shape: a lambda's signature may name the lambda's own parameters, a substitution may name a
+/// module, or a tree whose parameters had another meaning where it was made, and a name may have an
+/// `M`. A shape that denotes a tree by the ABI's reading denotes the same tree by the wide reading.
 pub fn abi_meanings_stay()
     ensures { (shape : Tree) (t : Term) → IsTree wide (Kind 0) shape → unfold_cpp shape ≡ Ok t → unfold_wide shape ≡ Ok t }
 {}
 
-/// The tree that a symbol denotes in [`Abi`](crate::Abi) it denotes in [`Wide`](crate::Wide) too, and its answer is the same
-/// there. What is refused for a reference may be read there.
+/// A symbol that denotes a tree in [`Abi`](crate::Abi) denotes the same tree in
+/// [`Wide`](crate::Wide), and has the same answer there. A symbol that `Abi` refuses for a reference
+/// may have a text in `Wide`.
 pub fn abi_answers_stay()
     ensures reads { (s : List ℕ) (t : Term) → StandsFor cpp_mangled s (Ok t) → StandsFor wide_mangled s (Ok t) }
     ensures answers { (detail : Detail) (s : List ℕ) (limit : ℕ) (t : Term) → AreBytes s → StandsFor cpp_mangled s (Ok t) → answer wide_mangled detail s limit ≡ answer cpp_mangled detail s limit }
@@ -88,8 +90,8 @@ pub fn parts_are_few_and_smaller()
     ensures smaller { (detail : Detail) (item : Item) → RanksBelow rank (rank item) (parts detail item) }
 {}
 
-/// A well shaped symbol that can't be read is refused for a bad reference or for a number that is out of range, and for nothing
-/// else.
+/// A well shaped symbol that can't be read is refused only for a bad reference, or for a number
+/// that is out of range.
 pub fn refuses_bad_tokens()
     ensures abi { RefusesBadTokens cpp_mangled }
     ensures wide { RefusesBadTokens wide_mangled }

@@ -8,7 +8,7 @@ use crate::{table, wide_table};
 use sym_core::NameClass;
 use sym_shape::{Grammar, Rule, Sym};
 
-/// The grammar of [`Abi`](crate::Abi), with what compilers write beside the symbols of the ABI's chapter.
+/// The grammar of [`Abi`](crate::Abi), with what compilers write in addition to the symbols of the ABI's chapter.
 ///
 /// - Names: constructors and destructors with the digits 4 and 5, inherited constructors, conversions to types, friends, ABI
 ///   tags, functions with an explicit object, nested names that are a substitution and its arguments, what is in the
@@ -16,10 +16,10 @@ use sym_shape::{Grammar, Rule, Sym};
 ///   enumerations without a name, structured bindings.
 /// - Special names: construction vtables, template parameter objects, initializers of modules, the routines of thread-local
 ///   variables, transaction clones.
-/// - Types: decimal, half and sized floats, integers of any width, elements of a pack, `auto` of which a concept is asked,
-///   types of expressions, arrays whose length is an expression.
-/// - Arguments: first ones that are packs and begin with an I, what is declared of them and asked of them, parameters of a
-///   level, expressions, literals of floating and of qualified types.
+/// - Types: decimal, half and sized floats, integers of any width, elements of a pack, `auto`
+///   constrained by a concept, types of expressions, arrays whose length is an expression.
+/// - Arguments: a first one that is a pack and begins with an I, declarations and constraints of
+///   arguments, parameters of a level, expressions, literals of floating and of qualified types.
 pub struct Wide;
 
 /// Whether a kind may be empty.

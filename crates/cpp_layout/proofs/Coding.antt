@@ -1,12 +1,6 @@
 -- The texts of codes, by their numbers.
-use Rattle.std.proofs.Common.{◌≡◌, refl, sym, ◌∙◌, ap, arith, ℕ, zero, suc, ◌+◌, ◌<◌, ◌≤◌, List, [], ◌∷◌, ◌++◌, length, slice_get, ◌*◌, Bool, true, false, nat_eq, nat_lt, ◌&&◌, ◌||◌, codes, Some, None, inl, inr}
-use Rattle.std.proofs.lemmas.Bool.{eqb-true, ltb-true}
-use Rattle.std.proofs.lemmas.Bool.Decides.{eqb_tells}
-use Rattle.std.proofs.lemmas.Option.{slice_get_past}
-use Rattle.cpp_grammar.specs.Texts.{Naming, same_bytes, look_up, builtin_texts, operator_texts, abbreviation_texts, special_texts, named_special_texts, literal_endings}
+use Rattle.cpp_layout.proofs.Basics.{◌≡◌, refl, sym, ◌∙◌, ap, arith, ℕ, zero, suc, ◌+◌, ◌<◌, ◌≤◌, List, [], ◌∷◌, ◌++◌, length, slice_get, ◌*◌, Bool, true, false, nat_eq, nat_lt, ◌&&◌, ◌||◌, codes, Some, None, inl, inr, eqb-true, ltb-true, eqb_tells, slice_get_past, Naming, same_bytes, look_up, builtin_texts, operator_texts, abbreviation_texts, special_texts, named_special_texts, literal_endings, fixed_text, texts, operator_letter, operator_code, COUNT, NONE, OPERATOR, OPERATORS, OPERATOR_ALONE}
 use Rattle.cpp_layout.proofs.CodeLetters.{builtin_letters, d_letters, abbreviation_letters, special_letters, named_special_letters, ending_letters}
-use Rattle.cpp_layout.specs.Texts.{fixed_text, texts, operator_letter, operator_code}
-use Rattle.cpp_layout.specs.declared.texts.TheConstants.{COUNT, NONE, OPERATOR, OPERATORS, OPERATOR_ALONE}
 
 abbrev pub all_below : (ℕ → Bool) → ℕ → Bool
 all_below p zero = true
@@ -32,7 +26,7 @@ or-second : (a b : Bool) → a || b ≡ true → a ≡ false → b ≡ true
 or-second true b e n = cc n
 or-second false b e n = e
 
--- the code of a number
+-- the code of the naming with this number; empty past the last one
 abbrev code_at : List Naming → ℕ → List ℕ
 code_at ns k = elim (slice_get ns k) [ Some n ↦ n.code | None ↦ [] ]
 
@@ -45,12 +39,12 @@ same_bytes_sound (x ∷ xs) [] e = cc e
 
 -- ## Texts
 
--- only one text is empty
+-- the only empty text is that of `NONE`
 pub some_text : (n : ℕ) → n < COUNT → nat_eq n NONE ≡ false → 0 < length (fixed_text n)
 unfolding builtin_texts operator_texts abbreviation_texts special_texts named_special_texts literal_endings
 some_text n less other = ltb-true 0 (length (fixed_text n)) (or-second _ _ (holds_below (λ m. nat_eq m NONE || nat_lt 0 (length (fixed_text m))) COUNT n refl less) other)
 
--- and past the last one there is none
+-- a number past the last one has the empty text
 pub past_last : (n : ℕ) → COUNT ≤ n → [] ≡ fixed_text n
 unfolding builtin_texts operator_texts abbreviation_texts special_texts named_special_texts literal_endings
 past_last n past = rw (slice_get_past texts n past) refl

@@ -1,24 +1,8 @@
--- What a lambda declares of its parameters.
-use Rattle.std.proofs.Common.{◌≡◌, refl, sym, ap, subst, ◌∙◌, ℕ, zero, suc, ◌+◌, ◌^◌, ◌<◌, ◌≤◌, List, [], ◌∷◌, ◌++◌, Bool, true, false, nat_lt, Option, None, Some, decimal, append-nil, arith}
-use Rattle.std.proofs.lemmas.Bool.{true≢false, eq-eqb, ne_eqb, le-ltb, lt-ltb}
-use Rattle.sym_print.specs.declared.detail.Detail.{Detail}
-use Rattle.sym_print.specs.Unfold.{PartOf, text, sub}
+-- The parameters that lambdas declare: their names, and what a lambda prints that declares parameters.
+use Rattle.cpp_layout.proofs.Basics.{◌≡◌, refl, sym, ap, subst, ◌∙◌, ℕ, zero, suc, ◌+◌, ◌^◌, ◌<◌, ◌≤◌, List, [], ◌∷◌, ◌++◌, Bool, true, false, nat_lt, Option, None, Some, decimal, append-nil, arith, true≢false, eq-eqb, ne_eqb, le-ltb, lt-ltb, Detail, PartOf, text, sub, letter_name, as_item, says, list_part, comma_before, generic_parts, piece_parts, declared_letter, front_of_name, name_of_own, own_name, parameter_parts, declared_rest, declared_parts, element, Term, reargued, reargued_none, reargued_twice, element_reargued, trees, tree_at, tree_of, tree_if_there, is_again, Node, Thunk, fixed_text, BLANK, BRACE, COMMA, DECLARING, RIGHT_NUMBER, TYPES, Context, ReadSymbol, table_of, form_of, context_of, shown_in, printed_tree, item_in, text_if}
 use Rattle.cpp_grammar.specs.Items as heads
-use Rattle.cpp_grammar.specs.Parts.{letter_name}
 use Rattle.cpp_term.specs.Items as items
-use Rattle.cpp_term.specs.Parts.{as_item, says, list_part, comma_before, generic_parts, piece_parts, declared_letter, front_of_name, name_of_own, own_name, parameter_parts, declared_rest, declared_parts}
-use Rattle.cpp_term.specs.Scope.{element}
 use Rattle.cpp_term.specs.Term as term
-use Rattle.cpp_term.specs.Term.{Term}
-use Rattle.cpp_term.specs.Reargued.{reargued}
-use Rattle.cpp_term.proofs.Reargued.{reargued_none, reargued_twice, element_reargued}
-use Rattle.cpp_tree.specs.Nodes.{trees, tree_at, tree_of, tree_if_there, is_again}
-use Rattle.cpp_tree.specs.declared.node.Node.{Node}
-use Rattle.cpp_tree.specs.declared.node.Thunk.{Thunk}
-use Rattle.cpp_layout.specs.Texts.{fixed_text}
-use Rattle.cpp_layout.specs.declared.texts.TheConstants.{BLANK, BRACE, COMMA, DECLARING, RIGHT_NUMBER, TYPES}
-use Rattle.cpp_layout.specs.declared.context.Context.{Context}
-use Rattle.cpp_layout.specs.Layout.{ReadSymbol, table_of, form_of, context_of, shown_in, printed_tree, item_in, text_if}
 use Rattle.cpp_layout.proofs.Growing.{list-some, parameter-same}
 
 abbrev Others : Type 0
@@ -45,7 +29,7 @@ module _ (s : List ℕ) (us : List Thunk) (ts : List Term) (given : Option Term)
       by (Node.Reargued x z) flat other = absurd (true≢false flat)
       by _ flat other = refl
 
-  -- what is declared has a name and a number
+  -- a declared parameter's name is its front and its number
   pub name-some : (k : ℕ) → (n ≡ Node.Absent → ⊥) → text (front_of_name t) ∷ text (decimal k) ∷ [] ≡ name_of_own k t
   unfolding tree_of name_of_own reargued is_again
   name-some k other = subst (λ u. text (front_of_name u) ∷ text (decimal k) ∷ [] ≡ name_of_own k u) (sym is) (by n flat other)
@@ -55,7 +39,7 @@ module _ (s : List ℕ) (us : List Thunk) (ts : List Term) (given : Option Term)
       by (Node.Reargued x z) flat other = absurd (true≢false flat)
       by _ flat other = refl
 
-  -- an argument that is no signature that declares parameters prints its own parts
+  -- an argument prints its own parts, unless it is a signature that declares parameters
   argument-own : (form : heads.Form) (k : ℕ) → ((h p : ℕ) → n ≡ Node.Declaring h p → ⊥) → as_item form items.closed t ∷ [] ≡ parameter_parts form k t
   unfolding tree_of parameter_parts reargued is_again
   argument-own form k other = subst (λ u. as_item form items.closed u ∷ [] ≡ parameter_parts form k u) (sym is) (by n flat other)
@@ -90,13 +74,13 @@ module _ (s : List ℕ) (us : List Thunk) (ts : List Term) (given : Option Term)
       by (Node.Reargued x z) flat other = absurd (true≢false flat)
       by _ flat other = refl
 
--- a lambda that declares nothing is shown with the arguments that its signature has
+-- a generic lambda prints as a plain one does, if its signature declares nothing
 pub generic-plain : (s : List ℕ) (us : List Thunk) (ts : List Term) (given : Option Term) (n : Node) (flat : is_again n ≡ false) (c : items.Context) (number : ℕ) (t u v : Term) → u ≡ t → v ≡ u → v ≡ reargued given (tree_of s us ts n)
     → ((h p : ℕ) → n ≡ Node.Declaring h p → ⊥) → piece_parts c (term.lambda (reargued None t) number) ≡ piece_parts c (term.generic_lambda t number)
 generic-plain s us ts given n flat c number t u v own same is other =
     ap (λ x. piece_parts c (term.lambda x number)) (reargued_none t) ∙ generic-own s us ts given n flat t (sym own ∙ sym same ∙ is) c number other
 
--- a pack's name begins as that of what is in the pack
+-- the name of a pack of parameters begins by the letter of the declaration within the pack
 pub front-pack : (a b : ℕ) (x y : Term) → b ≡ 112 → letter_name (declared_letter x) ≡ front_of_name (term.operation a b x y)
 unfolding front_of_name
 front-pack a b x y is = rw (front_of_name, eq-eqb b 112 is) refl
@@ -127,7 +111,7 @@ unfolding own_name
 own-kept heads.right k t u same = refl
 own-kept form k t u same = same
 
--- the name of a parameter of a signature that declares it, where the signature is read as a node
+-- a parameter prints the name that the signature gives it, if its argument is a signature that declares parameters
 pub argument-named : (form : heads.Form) (k : ℕ) (given : Option Term) (h p t u v : Term) → u ≡ t → v ≡ u → v ≡ term.declaring (reargued given h) (reargued given p) → own_name form k (element h k) ≡ parameter_parts form k t
 unfolding parameter_parts
 argument-named form k given h p t u v argument same is =
@@ -152,7 +136,7 @@ own-other (suc (suc (suc (suc (suc (suc form)))))) k t less other = absurd (omeg
 
 -- ## Lambdas
 
--- without an argument from the context, a tree has its own
+-- without an argument from the context, a node's tree is printed as it is
 pub own-tree : (y : ReadSymbol) (index : Option ℕ) (d : Detail) (c : Context) (node : ℕ) → c ≡ record { index = index; detail = d; argument = None } → printed_tree y c node ≡ tree_at (trees (table_of y)) node
 unfolding tree_if_there
 own-tree y index d c node is = ap (λ (x : Context). printed_tree y x node) is ∙ reargued_none (tree_at (trees (table_of y)) node)
@@ -167,7 +151,7 @@ pub declaring-whole : (c : items.Context) (h p : Term) (number : ℕ)
     ≡ declaring_parts c h p number
 declaring-whole c h p number = refl
 
--- its parameters name what its own signature declares
+-- a generic lambda prints these parts, with its own signature as the argument of its parameters
 pub generic-declaring : (c : items.Context) (given : Option Term) (t u v h p : Term) (number : ℕ) → u ≡ t → v ≡ u → v ≡ term.declaring (reargued given h) (reargued given p)
     → declaring_parts c (reargued (Some t) h) (reargued (Some t) p) number ≡ piece_parts c (term.generic_lambda t number)
 unfolding piece_parts generic_parts

@@ -1,23 +1,9 @@
--- The parts of encodings.
-use Rattle.std.proofs.Common.{Option, None, Some, zero, suc, ◌≡◌, ℕ, ◌<◌, ◌≤◌, ◌+◌, List, [], ◌∷◌, ◌++◌, length, Bool, true, false, if◌then◌else◌, nat_eq, refl, sym, ap, subst, ◌∙◌, arith, append-nil, append_assoc}
-use Rattle.std.specs.Prelude.{codes}
-use Rattle.sym_print.specs.Unfold.{PartOf, text}
+-- The parts of encodings, function types and expansions.
+use Rattle.cpp_layout.proofs.Basics.{Option, None, Some, zero, suc, ◌≡◌, ℕ, ◌<◌, ◌≤◌, ◌+◌, List, [], ◌∷◌, ◌++◌, length, Bool, true, false, if◌then◌else◌, nat_eq, refl, sym, ap, subst, ◌∙◌, arith, append-nil, append_assoc, codes, PartOf, text, encoding_text, qualifier_text, is_below, clone_text, as_item, list_part, text_part, begins_parameters, function_bare, function_full, root_parts, expand_parts, expand_rest, comma_before, at_index, types_of, function_right, qualified_right, expansion_parts, Term, reargued, true≢false, tree_of, is_again, Node, Mark, Thunk, fixed_text, suffix_of, BLANK, BLANK_LEFT, CLONE, OTHER_CLONE, COMMA, DOTS, LEFT, LEFT_THIS, RIGHT, text_if, clone_suffix}
 use Rattle.cpp_grammar.specs.Items as heads
 use Rattle.cpp_term.specs.Items as items
-use Rattle.cpp_grammar.specs.Parts.{encoding_text, qualifier_text, is_below, clone_text}
-use Rattle.cpp_term.specs.Parts.{as_item, list_part, text_part, begins_parameters, function_bare, function_full, root_parts, expand_parts, expand_rest, comma_before, at_index, types_of, function_right, qualified_right, expansion_parts}
 use Rattle.cpp_term.specs.Term as term
 use Rattle.cpp_grammar.specs.Term as values
-use Rattle.cpp_term.specs.Term.{Term}
-use Rattle.cpp_term.specs.Reargued.{reargued}
-use Rattle.std.proofs.lemmas.Bool.{true≢false}
-use Rattle.cpp_tree.specs.Nodes.{tree_of, is_again}
-use Rattle.cpp_tree.specs.declared.node.Node.{Node}
-use Rattle.cpp_tree.specs.declared.node.Mark.{Mark}
-use Rattle.cpp_tree.specs.declared.node.Thunk.{Thunk}
-use Rattle.cpp_layout.specs.Texts.{fixed_text, suffix_of}
-use Rattle.cpp_layout.specs.declared.texts.TheConstants.{BLANK, BLANK_LEFT, CLONE, OTHER_CLONE, COMMA, DOTS, LEFT, LEFT_THIS, RIGHT}
-use Rattle.cpp_layout.specs.Layout.{text_if, clone_suffix}
 
 pub part-none : (b : List ℕ) (rest : List (PartOf items.Item)) → b ≡ [] → rest ≡ text_part b ++ rest
 unfolding text_part
@@ -27,7 +13,7 @@ suffix-plain : (q : values.Qualifiers) (m : values.RefQualifier) → suffix_of q
 unfolding suffix_of
 suffix-plain q m = append-nil (encoding_text q m)
 
--- what begins the parameters of a function with an explicit object: it has none, or the first one is its object
+-- the text before the parameters of a function with an explicit object: LEFT if there are none, otherwise LEFT_THIS
 pub opens-none : (m : values.RefQualifier) (parameters : Term) → m ≡ values.explicit_object → parameters ≡ term.nil → fixed_text LEFT ≡ begins_parameters m parameters
 unfolding begins_parameters
 opens-none m parameters explicit none = rw (explicit, none) refl
@@ -87,14 +73,12 @@ module _ (c : items.Context) (p : Term) (o : Option ℕ) where
   expansion-more zero more e = absurd (omega (arith, more))
   expansion-more (suc m) more e = rw e refl
 
--- ## No lists
-
 -- ## Encodings
 
 pub object-whole : (i : PartOf items.Item) (q : values.Qualifiers) (m : values.RefQualifier) → i ∷ (text_part (suffix_of q m false) ++ []) ≡ i ∷ text_part (encoding_text q m)
 object-whole i q m = ap (λ l. i ∷ l) (append-nil (text_part (suffix_of q m false)) ∙ ap text_part (suffix-plain q m))
 
--- after the text before it
+-- the parts of a special name: its text, its item and its qualifiers
 pub special_name-whole : (t u : List ℕ) (i : PartOf items.Item) (q : values.Qualifiers) (m : values.RefQualifier) → t ≡ u
     → text t ∷ i ∷ (text_part (suffix_of q m false) ++ []) ≡ text u ∷ i ∷ text_part (encoding_text q m)
 special_name-whole t u i q m same = rw same (ap (λ l. text u ∷ i ∷ l) (append-nil (text_part (suffix_of q m false)) ∙ ap text_part (suffix-plain q m)))

@@ -1,29 +1,11 @@
 -- Lists of parts that grow.
-use Rattle.std.proofs.Common.{Bool, true, false, not, if◌then◌else◌, nat_eq, None, ◌≡◌, ℕ, ◌-◌, ◌<◌, ◌≤◌, List, [], ◌∷◌, ◌++◌, length, take, drop, refl, ap, subst, ◌∙◌, arith, append-nil}
-use Rattle.std.proofs.lemmas.Bool.{eq-eqb, ne_eqb}
-use Rattle.std.proofs.lemmas.List.{length-take, length-drop}
-use Rattle.sym_core.specs.declared.Span.{Span}
-use Rattle.sym_print.specs.declared.layout.Part.{Part}
+use Rattle.cpp_layout.proofs.Basics.{Bool, true, false, not, if◌then◌else◌, nat_eq, None, ◌≡◌, ℕ, ◌-◌, ◌<◌, ◌≤◌, List, [], ◌∷◌, ◌++◌, length, take, drop, refl, ap, subst, ◌∙◌, arith, append-nil, eq-eqb, ne_eqb, length-take, length-drop, Span, Part, Item, Detail, PartOf, text, sub, IsText, Stacked, Held, with_part, not_empty, list_part, text_part, as_item, member_parts, array_left, float_parts, closing_right, left_parts, right_parts, first_parts, more_parts, expand_parts, parts_in, Term, Context, reargued_none, trees, tree_at, tree_if_there, bytes_at, IsWithin, IsAliasBelow, fixed_text, BLANK, BRAIN_FLOAT, COLONS_STAR, COMMA, FLOAT, LEFT, LEFT_BRACKET, RIGHT, RIGHT_BRACKET, VECTOR, WIDER, TAG, ReadSymbol, table_of, tree_in, form_of, context_of, text_if, marked, referred, shown_in, printed_tree, item_in, MayCome, IsOwn, unshared_of, bytes_of_part, shown, Shows}
 use Rattle.sym_print.specs.declared.layout.Part.TheVariants as part
-use Rattle.sym_print.specs.declared.layout.Item.{Item}
-use Rattle.sym_print.specs.declared.detail.Detail.{Detail}
-use Rattle.sym_print.specs.Unfold.{PartOf, text, sub}
 use Rattle.sym_print.specs.Building.{◌then◌}
-use Rattle.sym_print.specs.Joined.{IsText}
-use Rattle.sym_print.specs.Stacked.{Stacked}
-use Rattle.sym_print.specs.Held.{Held, with_part}
 use Rattle.sym_print.proofs.Stacking.{stacked-nothing, stacked-text, stacked-item}
 use Rattle.cpp_grammar.specs.Items as heads
 use Rattle.cpp_term.specs.Items as items
-use Rattle.cpp_term.specs.Parts.{not_empty, list_part, text_part, as_item, member_parts, array_left, float_parts, closing_right, left_parts, right_parts, first_parts, more_parts, expand_parts, parts_in}
 use Rattle.cpp_term.specs.Term as term
-use Rattle.cpp_term.specs.Term.{Term}
-use Rattle.cpp_layout.specs.declared.context.Context.{Context}
-use Rattle.cpp_term.proofs.Reargued.{reargued_none}
-use Rattle.cpp_tree.specs.Nodes.{trees, tree_at, tree_if_there, bytes_at, IsWithin, IsAliasBelow}
-use Rattle.cpp_layout.specs.Texts.{fixed_text}
-use Rattle.cpp_layout.specs.declared.texts.TheConstants.{BLANK, BRAIN_FLOAT, COLONS_STAR, COMMA, FLOAT, LEFT, LEFT_BRACKET, RIGHT, RIGHT_BRACKET, VECTOR, WIDER, TAG}
-use Rattle.cpp_layout.specs.Layout.{ReadSymbol, table_of, tree_in, form_of, context_of, text_if, marked, referred, shown_in, printed_tree, item_in, MayCome, IsOwn, unshared_of, bytes_of_part, shown, Shows}
 
 abbrev Others : Type 0
 Others = List (PartOf items.Item)
@@ -32,7 +14,7 @@ pub starts : (y : ReadSymbol) (d : Detail) (held : Held Context) → Shows y d h
 unfolding not_empty
 starts y d held = record { stacked = stacked-nothing (unshared_of y) (bytes_of_part y) (MayCome (table_of y)) held.items; capacity = refl }
 
--- the parts are the same as others with the same description
+-- a list that shows some parts also shows equal parts
 pub fills : {below : Held Context} (y : ReadSymbol) (d : Detail) (held : Held Context) (others whole : Others) → Shows y d below held others → others ≡ whole → Shows y d below held whole
 fills {below} y d held others whole shows e = subst (Shows y d below held) e shows
 
@@ -83,7 +65,7 @@ pub no-text : {below : Held Context} (y : ReadSymbol) (d : Detail) (held : Held 
 unfolding not_empty
 no-text y d held b others e shows = rw e (record { stacked = shows.stacked; capacity = shows.capacity })
 
--- a text part is that text, or nothing
+-- `text_part` before other parts is that text, or nothing where the text is empty
 pub part-text : {below : Held Context} (y : ReadSymbol) (d : Detail) (held : Held Context) (b : List ℕ) (others : Others) → Shows y d below held (text b ∷ others) → Shows y d below held (text_part b ++ others)
 unfolding not_empty text_part
 part-text y d held [] others shows = record { stacked = shows.stacked; capacity = shows.capacity }
@@ -100,7 +82,7 @@ unfolding list_part
 list-some form c term.nil rest other = absurd (other refl)
 list-some form c _ rest other = refl
 
--- a form below 6 is of the tree itself
+-- an item in a form below 6 has the tree itself
 tree-in : (form : ℕ) (t : Term) → form < 6 → tree_in form t ≡ t
 tree-in form t less = rw (ne_eqb form 6 (omega (arith, less))) refl
 
@@ -109,7 +91,7 @@ pub list-here : (ts : List Term) (node form : ℕ) (c : Context) (rest : Others)
 list-here ts node form c rest less other =
     ap (λ t. as_item (form_of form 0) (context_of c) t ∷ rest) (tree-in form (shown_in ts c (tree_at ts node)) less) ∙ list-some (form_of form 0) (context_of c) (shown_in ts c (tree_at ts node)) rest other
 
--- ## By tests
+-- ## Parts that depend on a test
 
 pub marked-by : (b : Bool) (i : PartOf items.Item) (m n : ℕ) → i ∷ text (fixed_text (if b then m else n)) ∷ [] ≡ marked b i (fixed_text m) (fixed_text n)
 marked-by true i m n = refl
@@ -166,7 +148,7 @@ module _ (c : items.Context) (t : Term) where
   unfolding right_parts
   bounded-right bound = refl
 
--- the text of a float of this many bits
+-- the parts of a floating type, by the letter at its end
 pub float-brain : (digits : List ℕ) (end : ℕ) → end ≡ 98 → text (fixed_text BRAIN_FLOAT) ∷ [] ≡ float_parts digits end
 unfolding float_parts
 float-brain digits end is = rw (float_parts, eq-eqb end 98 is) refl
@@ -185,7 +167,7 @@ parameter-same ts form node inner t less e closed =
     ap (λ u. sub (record { tree = u; form = form_of form 0; context = context_of inner }) ∷ []) (tree-in form (shown_in ts inner (tree_at ts node)) less ∙ e)
     ∙ ap (λ x. sub (record { tree = t; form = form_of form 0; context = x }) ∷ []) closed
 
--- an item's context may be replaced by another context that says the same
+-- parts shown in a detail are shown in an equal detail
 pub told-so : {below : Held Context} (y : ReadSymbol) (d e : Detail) (held : Held Context) (others : Others) → d ≡ e → Shows y d below held others → Shows y e below held others
 told-so {below} y d e held others is shows = subst (λ x. Shows y x below held others) is shows
 
@@ -205,7 +187,7 @@ module _ (y : ReadSymbol) (c told : Context) (is : c ≡ told) (old new : Held C
 pub told-parts : {below held : Held Context} (y : ReadSymbol) (c told : Context) (parts_of : Context → Others) → c ≡ told → Shows y c.detail below held (parts_of c) → Shows y told.detail below held (parts_of told)
 told-parts {below} {held} y c told parts_of is shows = subst (λ (x : Context). Shows y x.detail below held (parts_of x)) is shows
 
--- without context, an item is that of the tree
+-- without an index and an argument, an item has the node's own tree
 module _ (y : ReadSymbol) (d : Detail) (form node : ℕ) where
   pub closed-item : item_in (trees (table_of y)) node form 0 (record { index = None; detail = d; argument = None }) ≡ record { tree = tree_in form (tree_at (trees (table_of y)) node); form = form_of form 0; context = items.closed }
   unfolding tree_if_there
@@ -232,7 +214,7 @@ module _ (c : items.Context) (e r : Term) where
   unfolding more_parts
   more-some h = rw (more_parts, h) (ap (λ l. text (fixed_text COMMA) ∷ as_item heads.left c e ∷ as_item heads.right c e ∷ l) (append-nil (list_part heads.more c r)))
 
--- ## Bytes of a part's own
+-- ## A part's own bytes
 
 own-may : (y : ReadSymbol) (p : Part Context) (b : List ℕ) → IsOwn p b → 0 < length b → length b ≤ 24 → MayCome (table_of y) p
 own-may y (part.Own bytes count) b is some few = (omega (arith, is.1, some), omega (arith, is.1, few), is.2)

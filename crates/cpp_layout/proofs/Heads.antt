@@ -1,13 +1,10 @@
 -- The head of a type, from what is noted of it.
-use Rattle.std.proofs.Common.{◌≡◌, ℕ, ◌<◌, length, Option, None, sym, ap, ◌∙◌}
+use Rattle.cpp_layout.proofs.Basics.{◌≡◌, ℕ, ◌<◌, length, Option, None, sym, ap, ◌∙◌, reargued, reargued_none, Table, IsTable, class_is, entry_at, head_of, tree_at, tree_if_there, trees}
 use Rattle.cpp_term.specs.Items as items
-use Rattle.cpp_term.specs.Reargued.{reargued}
-use Rattle.cpp_term.proofs.Reargued.{reargued_none}
 use Rattle.cpp_tree.specs.declared.node.Head.{Head}
 use Rattle.cpp_tree.specs.declared.node.HeadClass.{HeadClass}
-use Rattle.cpp_tree.specs.Nodes.{Table, IsTable, class_is, entry_at, head_of, tree_at, tree_if_there, trees}
 
--- where there is no argument, the head is the one that is noted
+-- without an argument, the head that is noted of a node is the head of its tree
 pub noted-head : (y : Table) → IsTable y → (node : ℕ) → node < length y.nodes → (index given : Option ℕ) → given ≡ None → (h : Head) → (entry_at y.nodes node).class ≡ HeadClass.Known h
     → head_of h ≡ items.head (record { index = index }) (reargued (tree_if_there (trees y) given) (tree_at (trees y) node))
 unfolding class_is items.head items.head_of_class tree_if_there

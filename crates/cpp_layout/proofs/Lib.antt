@@ -1,3 +1,4 @@
+pub mod Basics
 pub mod Growing
 pub mod Others
 pub mod Suffixes

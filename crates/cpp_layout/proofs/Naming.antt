@@ -1,25 +1,9 @@
 -- The parts of names.
-use Rattle.std.proofs.Common.{zero, suc, ◌≡◌, ◌≢◌, ◌<◌, refl, sym, ◌∙◌, ap, subst, arith, slice_index, length, ℕ, List, [], ◌∷◌, ◌++◌, Bool, true, false, nat_eq, ◌&&◌, ◌||◌, cond, codes, decimal, if◌then◌else◌, Option}
-use Rattle.std.proofs.lemmas.Bool.{eqb-true, eq-eqb, ne_eqb}
-use Rattle.std.specs.List.{starts_with}
-use Rattle.sym_core.specs.declared.Span.{Span}
-use Rattle.sym_print.specs.Unfold.{PartOf, text}
-use Rattle.cpp_grammar.specs.Parts.{begins_with, source_text}
+use Rattle.cpp_layout.proofs.Basics.{zero, suc, ◌≡◌, ◌≢◌, ◌<◌, refl, sym, ◌∙◌, ap, subst, arith, slice_index, length, ℕ, List, [], ◌∷◌, ◌++◌, Bool, true, false, nat_eq, ◌&&◌, ◌||◌, cond, codes, decimal, if◌then◌else◌, Option, eqb-true, eq-eqb, ne_eqb, starts_with, Span, PartOf, text, begins_with, source_text, same_bytes, Term, as_item, list_part, piece_parts, prefix_item, before_piece, component_parts, attached_parts, within_parts, base_within, opening_text, last_piece, entity_of, instance_parts, Node, Thunk, reargued, true≢false, tree_at, tree_of, piece_of, is_again, fixed_text, ANONYMOUS, AT, BLANK_LESS, BRACE, COLONS, CONVERSION, ENUM, GREATER, LAMBDA, LEFT_BRACE, LEFT_BRACKET, LESS, LITERAL, RIGHT_BRACES, RIGHT_BRACKET, RIGHT_NUMBER, UNNAMED, IsNoSource}
 use Rattle.cpp_grammar.specs.Items as heads
-use Rattle.cpp_grammar.specs.Texts.{same_bytes}
 use Rattle.cpp_term.specs.Term as term
-use Rattle.cpp_term.specs.Term.{Term}
 use Rattle.cpp_term.specs.Items as items
-use Rattle.cpp_term.specs.Parts.{as_item, list_part, piece_parts, prefix_item, before_piece, component_parts, attached_parts, within_parts, base_within, opening_text, last_piece, entity_of, instance_parts}
 use Rattle.cpp_tree.specs.declared.node.Piece.{Piece}
-use Rattle.cpp_tree.specs.declared.node.Node.{Node}
-use Rattle.cpp_tree.specs.declared.node.Thunk.{Thunk}
-use Rattle.cpp_term.specs.Reargued.{reargued}
-use Rattle.std.proofs.lemmas.Bool.{true≢false}
-use Rattle.cpp_tree.specs.Nodes.{tree_at, tree_of, piece_of, is_again}
-use Rattle.cpp_layout.specs.Texts.{fixed_text}
-use Rattle.cpp_layout.specs.declared.texts.TheConstants.{ANONYMOUS, AT, BLANK_LESS, BRACE, COLONS, CONVERSION, ENUM, GREATER, LAMBDA, LEFT_BRACE, LEFT_BRACKET, LESS, LITERAL, RIGHT_BRACES, RIGHT_BRACKET, RIGHT_NUMBER, UNNAMED}
-use Rattle.cpp_layout.specs.Layout.{IsNoSource}
 
 pub begins : (xs ys : List ℕ) → begins_with xs ys ≡ starts_with nat_eq ys xs
 unfolding begins_with
@@ -27,7 +11,7 @@ begins [] ys = refl
 begins (x ∷ xs) [] = refl
 begins (x ∷ xs) (y ∷ ys) = ap (λ b. nat_eq x y && b) (begins xs ys)
 
--- what differs in its first byte doesn't begin with it
+-- a text whose first byte isn't x doesn't begin with x and further bytes
 pub begins-otherwise : (x : ℕ) (xs ys : List ℕ) → (0 < length ys → slice_index ys 0 ≢ x) → begins_with (x ∷ xs) ys ≡ false
 unfolding begins_with
 begins-otherwise x xs [] other = refl
@@ -208,7 +192,7 @@ entity-other s us ts given n flat t is other = subst (λ u. u ≡ entity_of u) (
 
 -- ## The last piece
 
--- how many entities a name is under
+-- how many local names and default arguments are around the entity of a name
 unfoldable pub layers : Term → ℕ
 layers (term.local encoding entity discriminator) = suc (layers entity)
 layers (term.of_default digits entity) = suc (layers entity)

@@ -1,26 +1,14 @@
 -- The operations of code are those of the table.
-use Rattle.std.proofs.Common.{◌≡◌, refl, ap, ◌∙◌, subst, arith, append-nil, ℕ, zero, suc, ◌+◌, ◌*◌, ◌<◌, ◌≤◌, List, [], ◌∷◌, ◌++◌, length, drop, get_or, slice_get, Bool, true, false, nat_eq, nat_lt, ◌&&◌, ◌||◌, Option, Some, None, inl, inr}
-use Rattle.std.specs.Prelude.{nat_le}
-use Rattle.std.proofs.lemmas.Bool.{and_parts, or_parts, eq-eqb, ne_eqb, ltb-true}
-use Rattle.std.proofs.lemmas.Bool.Decides.{eqb_tells}
-use Rattle.std.proofs.lemmas.Option.{slice_get_within}
-use Rattle.cpp_grammar.specs.Texts.{same_bytes, builtin_texts, operator_texts, abbreviation_texts, special_texts, named_special_texts, literal_endings}
+use Rattle.cpp_layout.proofs.Basics.{◌≡◌, refl, ap, ◌∙◌, subst, arith, append-nil, ℕ, zero, suc, ◌+◌, ◌*◌, ◌<◌, ◌≤◌, List, [], ◌∷◌, ◌++◌, length, drop, get_or, slice_get, Bool, true, false, nat_eq, nat_lt, ◌&&◌, ◌||◌, Option, Some, None, inl, inr, nat_le, and_parts, or_parts, eq-eqb, ne_eqb, ltb-true, eqb_tells, slice_get_within, same_bytes, builtin_texts, operator_texts, abbreviation_texts, special_texts, named_special_texts, literal_endings, printed, no_operation, PartOf, Term, text_part, as_item, says, precedence_of, operand_parts, operation_parts, most_of, fixed_text, COUNT, LEFT, RIGHT, text_if}
 use Rattle.cpp_grammar.specs.Operations as table
 use Rattle.cpp_grammar.specs.declared.operand.Operand.{Operand}
 use Rattle.cpp_grammar.specs.Operations.{operations, operation_of_code}
 use Rattle.cpp_grammar.specs.Items as heads
-use Rattle.cpp_grammar.specs.Parts.{printed, no_operation}
 use Rattle.cpp_layout.specs.declared.operation_rows.Operation.{Operation}
 use Rattle.cpp_layout.specs.declared.operation_rows.TheConstants.{OPERATIONS}
 use Rattle.cpp_layout.specs.Operations.{with_code, number_of, place_of, HasTexts}
 use Rattle.cpp_layout.proofs.Coding.{all_below, holds_below}
-use Rattle.sym_print.specs.Unfold.{PartOf}
 use Rattle.cpp_term.specs.Items as items
-use Rattle.cpp_term.specs.Term.{Term}
-use Rattle.cpp_term.specs.Parts.{text_part, as_item, says, precedence_of, operand_parts, operation_parts, most_of}
-use Rattle.cpp_layout.specs.Texts.{fixed_text}
-use Rattle.cpp_layout.specs.declared.texts.TheConstants.{COUNT, LEFT, RIGHT}
-use Rattle.cpp_layout.specs.Layout.{text_if}
 
 -- ## The places of codes
 
@@ -28,7 +16,7 @@ abbrev pub any_number : List table.Operation → ℕ → Bool
 any_number [] n = false
 any_number (o ∷ os) n = nat_eq n (number_of o.code) || any_number os n
 
--- a code that is none of these is past the last place
+-- the place of a code that no operation has is after the last operation
 pub none_placed : (n : ℕ) (os : List table.Operation) → any_number os n ≡ false → length os ≡ place_of n os
 unfolding place_of
 none_placed n [] none = refl
@@ -38,11 +26,11 @@ none_placed n (o ∷ os) none =
 
 -- ## The rows of code
 
--- the operations of the table, and that of a code that isn't in it
+-- the operations of the table, and then the operation of unknown codes
 abbrev rows : List table.Operation
 rows = operations ++ no_operation ∷ []
 
--- operations of code as those of the table, with their codes
+-- operations of the code as operations of the table, with the codes of the first list
 abbrev coded : List table.Operation → List Operation → List table.Operation
 coded (p ∷ ps) (o ∷ os) = with_code p.code o ∷ coded ps os
 coded _ _ = []
@@ -72,7 +60,7 @@ same-test a b [] less pair = cc pair
 same-test a b (c ∷ []) less pair = cc pair
 same-test a b (c ∷ d ∷ e ∷ l) less pair = cc pair
 
--- at a code's place is its operation
+-- the operation at a code's place is the operation of that code
 found-at : (a b : ℕ) (os : List table.Operation) → b < 256 → all_pairs os ≡ true
     → slice_get (os ++ no_operation ∷ []) (place_of (a * 256 + b) os) ≡ Some (elim (operation_of_code (a ∷ b ∷ []) os) [ Some o ↦ o | None ↦ no_operation ])
 unfolding operation_of_code place_of
@@ -116,7 +104,7 @@ all-coded = refl
 pub row_coded : (k : ℕ) (p : table.Operation) (d : Operation) → slice_get rows k ≡ Some p → with_code p.code (get_or OPERATIONS k d) ≡ p
 row_coded k p d is = row-at rows OPERATIONS k p d all-coded is
 
--- a number of each row
+-- a number of each row is below the bound, if a test of all rows answers true
 each-below : (number : Operation → ℕ) (bound k : ℕ) (d : Operation) → all_below (λ n. nat_lt (number (get_or OPERATIONS n d)) bound) (length OPERATIONS) ≡ true
     → k < length OPERATIONS → number (get_or OPERATIONS k d) < bound
 each-below number bound k d all less = ltb-true (number (get_or OPERATIONS k d)) bound (holds_below (λ n. nat_lt (number (get_or OPERATIONS n d)) bound) (length OPERATIONS) k all less)

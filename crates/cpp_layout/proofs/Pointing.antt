@@ -1,30 +1,14 @@
 -- What pointers to pointers print.
-use Rattle.std.proofs.Common.{◌≡◌, ℕ, zero, suc, ◌<◌, ◌≤◌, ◌+◌, ◌*◌, ◌-◌, List, [], ◌∷◌, ◌++◌, true, false, length, take, drop, replicate, Some, None, codes, refl, sym, ap, ◌∙◌, arith}
-use Rattle.std.specs.List.{All}
+use Rattle.cpp_layout.proofs.Basics.{◌≡◌, ℕ, zero, suc, ◌<◌, ◌≤◌, ◌+◌, ◌*◌, ◌-◌, List, [], ◌∷◌, ◌++◌, true, false, length, take, drop, replicate, Some, None, codes, refl, sym, ap, ◌∙◌, arith, All, Item, Part, Detail, IsText, Unshared, done, bytes, item, printed-parts, Term, pointer, qualified, qualifier_text, parts, qualified_left, qualified_right, text_part, parts_in, not_empty, left_parts, right_parts, marked_parts, closing_right, as_item, says, rank, ranks_fall, IsTable, IsPlacedBelow, trees, tree_under, Context, ReadSymbol, table_of, item_in, context_of, unshared_of, bytes_of_part, MayBeAsked, MayCome, pointers, constant_pointers, constant_stars, run_text, just_const, IsPointer}
 use Rattle.std.proofs.lemmas.List.{take-replicate, length-replicate, take-append-le, length-append, append_assoc}
 use Rattle.std.proofs.Math.Seq.{take-length}
 use Rattle.std.proofs.lemmas.List.Elements.{All-replicate, All-cons, All-nil}
-use Rattle.sym_print.specs.declared.layout.Item.{Item}
-use Rattle.sym_print.specs.declared.layout.Part.{Part}
 use Rattle.sym_print.specs.declared.layout.Part.TheVariants as part
-use Rattle.sym_print.specs.declared.detail.Detail.{Detail}
-use Rattle.sym_print.specs.Joined.{IsText}
-use Rattle.sym_print.specs.Unshared.{Unshared, done, bytes, item}
 use Rattle.sym_print.specs.Unfold.{text, printed_parts, printed}
-use Rattle.sym_print.proofs.Unfolding.{printed-parts}
 use Rattle.cpp_grammar.specs.Items as heads
 use Rattle.cpp_term.specs.Items as items
-use Rattle.cpp_term.specs.Term.{Term, pointer, qualified}
-use Rattle.cpp_grammar.specs.Parts.{qualifier_text}
-use Rattle.cpp_term.specs.Parts.{parts, qualified_left, qualified_right, text_part, parts_in, not_empty, left_parts, right_parts, marked_parts, closing_right, as_item, says}
-use Rattle.cpp_term.specs.Ranks.{rank}
-use Rattle.cpp_term.proofs.RanksNoted.{ranks_fall}
 use Rattle.cpp_tree.specs.declared.node.Placed.{Placed}
-use Rattle.cpp_tree.specs.Nodes.{IsTable, IsPlacedBelow, trees, tree_under}
-use Rattle.cpp_layout.specs.declared.context.Context.{Context}
-use Rattle.cpp_layout.specs.Layout.{ReadSymbol, table_of, item_in, context_of, unshared_of, bytes_of_part, MayBeAsked, MayCome}
 use Rattle.sym_print.specs.Runs.{nested, texts_of, IsRun}
-use Rattle.cpp_layout.specs.Pointers.{pointers, constant_pointers, constant_stars, run_text, just_const, IsPointer}
 
 -- the texts of pointers to constant pointers
 abbrev constant_texts : ℕ → List (List ℕ)
@@ -35,7 +19,7 @@ abbrev no_texts : ℕ → List (List ℕ)
 no_texts zero = []
 no_texts (suc n) = [] ∷ [] ∷ no_texts n
 
--- a pointer within others is one more
+-- n pointers around a pointer are n + 1 pointers
 pointers-within : (n : ℕ) (t : Term) → pointers n (pointer t) ≡ pointers (suc n) t
 unfolding pointers
 pointers-within zero t = refl
@@ -206,7 +190,7 @@ module _ (y : ReadSymbol) (node form at : ℕ) (c : Context) where
   unfolding tree_under
   is-right e = ap (λ f. printed (parts c.detail) rank (item_in (trees (table_of y)) node f at c)) e
 
--- the item with another type
+-- an item with its type replaced
 abbrev pub item_of_type : Item Context → Placed → Item Context
 item_of_type i p = record { node = p.node; form = i.form; at = 0; ctx = record { index = i.ctx.index; detail = i.ctx.detail; argument = p.under } }
 

@@ -1,14 +1,7 @@
 -- The texts after a function's parameters, by their numbers.
-use Rattle.std.proofs.Common.{◌≡◌, refl, ap, sym, ◌∙◌, arith, ℕ, ◌+◌, ◌*◌, ◌<◌, length, Bool, true, false}
+use Rattle.cpp_layout.proofs.Basics.{◌≡◌, refl, ap, sym, ◌∙◌, arith, ℕ, ◌+◌, ◌*◌, ◌<◌, length, Bool, true, false, encoding_text, qualifier_text, ref_text, Mark, Qualifiers, mark_of, qualifiers_of, bit, mark_number, qualifiers_number, fixed_text, shown_mark, suffix_of, SUFFIX}
 use Rattle.cpp_grammar.specs.Term as values
 use Rattle.cpp_grammar.specs.Term.{RefQualifier, any_value, lvalue_only, rvalue_only, explicit_object}
-use Rattle.cpp_grammar.specs.Parts.{encoding_text, qualifier_text, ref_text}
-use Rattle.cpp_tree.specs.declared.node.Mark.{Mark}
-use Rattle.cpp_tree.specs.declared.node.Qualifiers.{Qualifiers}
-use Rattle.cpp_tree.specs.Nodes.{mark_of, qualifiers_of}
-use Rattle.cpp_tree.specs.Fields.{bit, mark_number, qualifiers_number}
-use Rattle.cpp_layout.specs.Texts.{fixed_text, shown_mark, suffix_of}
-use Rattle.cpp_layout.specs.declared.texts.TheConstants.{SUFFIX}
 
 abbrev pub number_of : (r v c : Bool) → Mark → (n : Bool) → ℕ
 number_of r v c m n = SUFFIX + (bit r + 2 * bit v + 4 * bit c) + 8 * mark_number (mark_of m) + 24 * bit n
@@ -117,7 +110,7 @@ suffix_some false true true Mark.Rvalue true other more = omega arith
 suffix_some true true true Mark.Rvalue true other more = omega arith
 suffix_some r v c Mark.ExplicitObject n other more = absurd (other refl)
 
--- an explicit object is no mark after the parameters
+-- an explicit object is never the mark after the parameters
 never-shown : (x : RefQualifier) → explicit_object ≡ shown_mark x → ⊥
 unfolding shown_mark
 never-shown any_value e = cc e
@@ -132,7 +125,7 @@ shown-suffix q lvalue_only n = refl
 shown-suffix q rvalue_only n = refl
 shown-suffix q explicit_object n = refl
 
--- m is the mark that is shown of w
+-- m is the mark that is shown for w; a, e and f are the numbers of the qualifiers, of m and of noexcept
 module _ (q : Qualifiers) (w m : Mark) (n : Bool) (a e f : ℕ) (s : mark_of m ≡ shown_mark (mark_of w)) (p : a ≡ qualifiers_number (qualifiers_of q)) (k : e ≡ mark_number (mark_of m)) (l : f ≡ bit n) where
   other : mark_of m ≡ explicit_object → ⊥
   other is = never-shown (mark_of w) (sym is ∙ s)

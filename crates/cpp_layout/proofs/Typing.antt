@@ -1,27 +1,11 @@
 -- The parts of types and of other template arguments.
-use Rattle.std.proofs.Common.{◌≡◌, refl, sym, ◌∙◌, ap, subst, arith, ℕ, ◌+◌, ◌*◌, ◌<◌, ◌≤◌, List, [], ◌∷◌, ◌++◌, length, Bool, true, false, cond, codes, if◌then◌else◌, append-nil, Option}
+use Rattle.cpp_layout.proofs.Basics.{◌≡◌, refl, sym, ◌∙◌, ap, subst, arith, ℕ, ◌+◌, ◌*◌, ◌<◌, ◌≤◌, List, [], ◌∷◌, ◌++◌, length, Bool, true, false, cond, codes, if◌then◌else◌, append-nil, Option, PartOf, text, qualifier_text, ref_text, encoding_text, blank_last, look_up, literal_endings, builtin_texts, operator_texts, abbreviation_texts, special_texts, named_special_texts, Term, as_item, text_part, says, qualified_left, reference_parts, marked_parts, sign_part, is_plain_integer, builtin_code, integer_parts, Node, Thunk, Mark, Qualifiers, reargued, true≢false, tree_of, signed_of, qualifiers_of, is_again, bit, qualifiers_number, fixed_text, suffix_of, BLANKED, FALSE, LEFT, MINUS, RIGHT, TRUE, marked, referred, text_if, qualifiers_behind, IsNoType}
 use Prim.Native.String.{String}
-use Rattle.sym_print.specs.Unfold.{PartOf, text}
-use Rattle.cpp_grammar.specs.Parts.{qualifier_text, ref_text, encoding_text, blank_last}
 use Rattle.cpp_grammar.specs.Items as heads
 use Rattle.cpp_grammar.specs.Term as values
-use Rattle.cpp_grammar.specs.Texts.{look_up, literal_endings, builtin_texts, operator_texts, abbreviation_texts, special_texts, named_special_texts}
 use Rattle.cpp_term.specs.Term as term
-use Rattle.cpp_term.specs.Term.{Term}
 use Rattle.cpp_term.specs.Items as items
-use Rattle.cpp_term.specs.Parts.{as_item, text_part, says, qualified_left, reference_parts, marked_parts, sign_part, is_plain_integer, builtin_code, integer_parts}
-use Rattle.cpp_tree.specs.declared.node.Node.{Node}
-use Rattle.cpp_tree.specs.declared.node.Thunk.{Thunk}
-use Rattle.cpp_tree.specs.declared.node.Mark.{Mark}
 use Rattle.cpp_tree.specs.declared.node.Signed.{Signed}
-use Rattle.cpp_tree.specs.declared.node.Qualifiers.{Qualifiers}
-use Rattle.cpp_term.specs.Reargued.{reargued}
-use Rattle.std.proofs.lemmas.Bool.{true≢false}
-use Rattle.cpp_tree.specs.Nodes.{tree_of, signed_of, qualifiers_of, is_again}
-use Rattle.cpp_tree.specs.Fields.{bit, qualifiers_number}
-use Rattle.cpp_layout.specs.Texts.{fixed_text, suffix_of}
-use Rattle.cpp_layout.specs.declared.texts.TheConstants.{BLANKED, FALSE, LEFT, MINUS, RIGHT, TRUE}
-use Rattle.cpp_layout.specs.Layout.{marked, referred, text_if, qualifiers_behind, IsNoType}
 
 -- ## Qualifiers
 

@@ -20,11 +20,11 @@ constant_pointers (suc n) t = pointer (qualified just_const (constant_pointers n
 abbrev pub IsPointer : Term → Type 0
 IsPointer t = (to : Term) × (t ≡ pointer to)
 
--- what pointers to constant types print left of a name
+-- what pointers to constant types print before a name
 abbrev pub constant_stars : (pairs : ℕ) → List ℕ
 constant_stars zero = []
 constant_stars (suc n) = constant_stars n ++ codes " const*"
 
--- each run's text is a part of this one: of the stars of pointers, or of what pointers to constant types print
+-- the text that each run's text is a slice of: stars, and then what pointers to constant types print
 unfoldable pub run_text : List ℕ
 run_text = replicate 512 42 ++ constant_stars 64

@@ -6,7 +6,7 @@ use Rattle.cpp_grammar.specs.Texts.{Naming, builtin_texts, operator_texts, abbre
 use Rattle.cpp_grammar.specs.Parts.{encoding_text}
 use Rattle.cpp_layout.specs.TextLists.{plain_texts, suffix_texts, blanked_texts, operation_texts}
 
--- texts as a table has them, after others
+-- the texts of a table, each changed by f, before other texts
 abbrev pub named_texts : (List ℕ → List ℕ) → List Naming → List (List ℕ) → List (List ℕ)
 named_texts f [] others = others
 named_texts f (n ∷ ns) others = f n.text ∷ named_texts f ns others
@@ -25,7 +25,7 @@ fixed_text number = elim (slice_get texts number) [ Some text ↦ text | None �
 
 -- ## What follows a function's parameters
 
--- an explicit object is no mark there
+-- the mark that is shown after the parameters: none for an explicit object
 unfoldable pub shown_mark : RefQualifier → RefQualifier
 shown_mark explicit_object = any_value
 shown_mark m = m
@@ -33,7 +33,7 @@ shown_mark m = m
 unfoldable pub suffix_of : Qualifiers → RefQualifier → (noexcept : Bool) → List ℕ
 suffix_of q m noexcept = encoding_text q m ++ cond noexcept (codes " noexcept") []
 
--- the letters of an operator's code, and the two as one number
+-- one letter of an operator's code, by its place, and the code's two letters as one number
 abbrev pub operator_letter : (place number : ℕ) → ℕ
 operator_letter place number = elim (slice_get operator_texts number) [ Some n ↦ get_or n.code place 0 | None ↦ 0 ]
 

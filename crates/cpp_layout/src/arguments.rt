@@ -1,4 +1,4 @@
-// The parts of template arguments that are no types, and of what these are made of.
+// The parts of integers and of operands in template arguments.
 #![tactic(auto)]
 
 ghost use Rattle.std.specs.Prelude.{◌≡◌, ◌+◌, ◌<◌, ◌≤◌, ◌++◌, List, length, false};
@@ -49,7 +49,7 @@ impl Symbol {
         }
     }
 
-    /// The precedence of a node as an expression: what is neither an operation nor an address needs no parentheses.
+    /// The precedence of a node as an expression. An expression that is neither an operation nor an address needs no parentheses.
     #[tactic(auto, unfolding(cpp_term::specs::Parts::precedence_of, cpp_term::specs::Reargued::reargued, cpp_tree::specs::Nodes::tree_of))]
     fn precedence(&self, node: u32, ctx: Context) -> u8
         requires own { is_again (entry_at self.now.table.nodes node).node ≡ false }

@@ -28,7 +28,7 @@ pub(crate) fn is_plain(letter: u8) -> bool
     }
 }
 
-/// The text after the name of the concept that constrains a placeholder type, by the last letter of its code.
+/// The text after the name of the concept that constrains a placeholder type, by the last letter of the type's code.
 #[tactic(auto, unfolding(cpp_grammar::specs::Parts::placeholder_text))]
 pub(crate) fn placeholder(letter: u8) -> u16
     ensures text { fixed_text result ≡ placeholder_text letter }
@@ -40,7 +40,7 @@ pub(crate) fn placeholder(letter: u8) -> u16
     }
 }
 
-/// Whether it is the code of the operator << or <.
+/// Whether a code is that of the operator << or <.
 pub fn is_angle_code(first: u8, second: u8) -> bool
     ensures { result ≡ same_bytes (first ∷ second ∷ []) (codes "ls") || same_bytes (first ∷ second ∷ []) (codes "lt") }
 {
@@ -110,7 +110,7 @@ pub fn special_text(letter: u8) -> &'static [u8]
     texts::fixed_text(special(letter))
 }
 
-/// What follows the digits of an integer of a builtin type, or nothing.
+/// The text after the digits of an integer of a builtin type with this letter, or none.
 #[inline(always)]
 pub fn ending_text(letter: u8) -> &'static [u8]
     ensures { result.now ≡ look_up (letter ∷ []) literal_endings }

@@ -1,4 +1,4 @@
-// The context that an item carries besides its node.
+// The context that an item carries in addition to its node.
 
 #![tactic(auto)]
 
@@ -8,8 +8,8 @@ ghost use Rattle.cpp_tree.specs.Nodes.{under_kept};
 use cpp_tree::node::under_of;
 use sym_print::Detail;
 
-/// An index into packs, how much is shown, and what replaces the free parameters' own arguments here, if anything does: an
-/// argument, or a list with one for each.
+/// An index into packs, how much is shown, and what replaces the free parameters' own arguments, if
+/// anything does: one argument, or a list with an argument for each.
 #[derive(Clone, Copy, Debug, PartialEq, Eq)]
 pub struct Context {
     pub index: Option<u32>,
@@ -24,7 +24,7 @@ pub struct Place {
     pub ctx: Context,
 }
 
-/// 0, or the number after an index or a node.
+/// 0 for none; otherwise the index or the node, plus 1.
 fn number_of(value: Option<u32>) -> u64 {
     match value {
         None => 0,
@@ -44,8 +44,8 @@ impl Context {
         }
     }
 
-    /// The context of an encoding's types: they have no index, and are under the argument that this word names, if it names
-    /// one.
+    /// The context of an encoding's types: it has no index, and its argument is the one that the word `under`
+    /// names, if it names one.
     pub fn of_types(detail: Detail, under: u32) -> Context
         ensures { result ≡ record { index = None; detail = detail; argument = under_kept under } }
     {
@@ -56,7 +56,7 @@ impl Context {
         }
     }
 
-    /// A number of the context: another one for each argument and each index below 65,535.
+    /// A number that tells contexts apart by the argument, and by the index if that is below 65,535.
     pub(crate) fn number(self) -> u64 {
         number_of(self.index).wrapping_add(number_of(self.argument) << 16)
     }

@@ -1,4 +1,4 @@
-// The parameters that a lambda declares: what is declared of each, and its name.
+// The parameters that a lambda declares: the declaration of each, and its name.
 #![tactic(auto)]
 
 ghost use Rattle.std.specs.Prelude.{◌≡◌, ◌+◌, ◌<◌, ◌≤◌, ◌∷◌, [], ◌++◌, List, length, decimal, false};
@@ -70,7 +70,8 @@ impl Symbol {
         }
     }
 
-    /// The name of a parameter of this number that is declared in this list, in a form; one past the list's end is `auto`.
+    /// The name, in a form, of the parameter with this number in a list of declarations; past the
+    /// list's end it is `auto`.
     pub(crate) fn fill_own_name<S: PartList<Context>>(
         &self,
         parts: &mut S,
@@ -129,7 +130,7 @@ impl Symbol {
         self.push_text(parts, texts::DECLARING);
     }
 
-    /// Adds what is declared of the parameters after one of this number.
+    /// Adds the declarations of the parameters after the one with this number.
     fn push_declared<S: PartList<Context>>(&self, parts: &mut S, rest: u32, at: u32, ctx: Context)
         requires context { IsAliasBelow (length self.now.table.nodes) ctx.argument }
         requires table { IsTable (table_of self.now) }
@@ -149,7 +150,7 @@ impl Symbol {
         }
     }
 
-    /// What is declared of a lambda's parameters from one on, each with its name.
+    /// The declarations of a lambda's parameters from the given one on, each with its name.
     // <lambda-sig> ::= <template-param-decl>* <parameter type>+
     pub(crate) fn fill_declared<S: PartList<Context>>(
         &self,

@@ -84,7 +84,7 @@ impl Symbol {
         }
     }
 
-    /// The number of the text that begins a function's parameters: the first of them may be its object.
+    /// The number of the text before a function's parameters. The first parameter may be an explicit object.
     // <nested-name> ::= N H <prefix> <unqualified-name> E
     #[tactic(auto, unfolding(cpp_term::specs::Parts::begins_parameters))]
     fn opening_number(&self, mark: Mark, parameters: u32, under: u32, detail: Detail) -> u16
@@ -244,7 +244,7 @@ impl Symbol {
         }
     }
 
-    /// Likewise without the return type.
+    /// The parts of a function without its return type: its name, and its types if the detail shows parameters.
     fn fill_bare<S: PartList<Context>>(
         &self,
         parts: &mut S,
@@ -337,7 +337,7 @@ impl Symbol {
         }
     }
 
-    /// Adds the suffix of a clone in brackets, if there is one.
+    /// Adds the suffix of a clone in parentheses, if there is one.
     pub(crate) fn push_clone_suffix<S: PartList<Context>>(&self, parts: &mut S, suffix: Span)
         requires room { 3 ≤ S.room parts.old }
         requires suffix { IsWithin suffix self.now.bytes }

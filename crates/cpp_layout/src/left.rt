@@ -1,4 +1,4 @@
-// The parts of names and types, left of a declared name.
+// The left parts of names and types: what they print before a declared name.
 #![tactic(auto)]
 
 ghost use Rattle.std.specs.Prelude.{◌≡◌, ◌+◌, ◌<◌, ◌≤◌, length, false};
@@ -156,7 +156,7 @@ impl Symbol {
         }
     }
 
-    /// The left parts of a node in a form that has no others.
+    /// The left parts of a node. Other forms, in which the node prints the same, call this.
     fn fill_as_left<S: PartList<Context>>(&self, parts: &mut S, node: u32, ctx: Context)
         requires context { IsAliasBelow (length self.now.table.nodes) ctx.argument }
         requires own { is_again (entry_at self.now.table.nodes node).node ≡ false }
@@ -169,7 +169,8 @@ impl Symbol {
         self.fill_left(parts, node, ctx);
     }
 
-    /// The left parts of a node under a reference to it: a reference is shown as one to an lvalue.
+    /// The left parts of the type to which a reference refers. If this type is itself a reference, it is
+    /// shown as an lvalue reference.
     pub(crate) fn fill_low<S: PartList<Context>>(&self, parts: &mut S, node: u32, ctx: Context)
         requires context { IsAliasBelow (length self.now.table.nodes) ctx.argument }
         requires own { is_again (entry_at self.now.table.nodes node).node ≡ false }

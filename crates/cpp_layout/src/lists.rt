@@ -41,7 +41,7 @@ impl Symbol {
         }
     }
 
-    /// The parts of a list's elements after others.
+    /// The parts of a list's elements that follow others.
     #[inline]
     pub(crate) fn fill_more<S: PartList<Context>>(
         &self,
@@ -114,7 +114,7 @@ impl Symbol {
         }
     }
 
-    /// The parts of a node in the form of elements after others.
+    /// The parts of a node in the form of elements that follow others.
     #[inline]
     pub(crate) fn fill_more_of<S: PartList<Context>>(&self, parts: &mut S, node: u32, ctx: Context)
         requires context { IsAliasBelow (length self.now.table.nodes) ctx.argument }

@@ -25,12 +25,12 @@ use itoa::Buffer;
 use sym_core::Span;
 use sym_print::{Part, PartList};
 
-/// Whether it is the name of an unnamed namespace.
+/// Whether a name is that of an unnamed namespace.
 #[inline(always)]
 fn is_anonymous(name: &[u8]) -> bool
     ensures { result ≡ begins_with (codes "_GLOBAL__N") name.now }
 {
-    // the first byte decides it for most names
+    // for most names the first byte decides
     if name.is_empty() || name[0] != b'_' {
         return false;
     }
@@ -38,7 +38,7 @@ fn is_anonymous(name: &[u8]) -> bool
 }
 
 /// What an unnamed namespace is shown as.
-// It is out of line: with all fixed texts within it, what calls `name_text` would be too large for the kit to inline.
+// It is out of line: with all fixed texts within it, the callers of `name_text` would be too large for the kit to inline.
 #[inline(never)]
 fn anonymous_text() -> &'static [u8]
     ensures { result.now ≡ fixed_text ANONYMOUS }
@@ -68,7 +68,7 @@ fn own(text: &[u8]) -> Part<Context>
     Part::Own(bytes, text.len() as u8)
 }
 
-/// Whether it is the operator << or <.
+/// Whether a piece is the operator << or <.
 fn is_angle(piece: Piece) -> bool
     ensures { (s : List ℕ) (ts : List term.Term) → fixed_text (if result then BLANK_LESS else LESS) ≡ opening_text (piece_of s ts piece) }
 {
@@ -79,7 +79,7 @@ fn is_angle(piece: Piece) -> bool
 }
 
 impl Symbol {
-    /// Adds what a source name prints: its bytes, or that it is an unnamed namespace.
+    /// Adds what a source name prints: its bytes, or the text of an unnamed namespace.
     #[inline(always)]
     pub(crate) fn push_name<S: PartList<Context>>(&self, parts: &mut S, name: Span)
         requires room { 0 < S.room parts.old }
@@ -107,7 +107,7 @@ impl Symbol {
         parts.push_part(own(digits.as_bytes()));
     }
 
-    /// Adds the text of a number, if it has one.
+    /// Adds the fixed text with a number, unless the number is that of no text.
     #[inline(always)]
     pub(crate) fn push_some<S: PartList<Context>>(&self, parts: &mut S, number: u16)
         requires room { 0 < S.room parts.old }
@@ -190,8 +190,8 @@ impl Symbol {
         }
     }
 
-    /// Adds a prefix: a name, the variable whose initializer contains a piece, which is shown as its name, or the encoding
-    /// around a local entity, which is shown without its return type.
+    /// Adds a prefix. A variable whose initializer contains the piece is shown by its name, and an encoding around a local
+    /// entity without its return type.
     #[inline(always)]
     pub(crate) fn push_prefix<S: PartList<Context>>(&self, parts: &mut S, prefix: u32, ctx: Context)
         requires context { IsAliasBelow (length self.now.table.nodes) ctx.argument }
@@ -214,7 +214,7 @@ impl Symbol {
         }
     }
 
-    /// The parts of a name within another.
+    /// The parts of a name within another name.
     // <nested-name> ::= N [<CV-qualifiers>] [<ref-qualifier>] <prefix> <unqualified-name> E
     pub(crate) fn fill_within<S: PartList<Context>>(
         &self,
@@ -241,7 +241,7 @@ impl Symbol {
         }
     }
 
-    /// The parts of a piece after its prefix, and before the module that it is attached to, if it is to one.
+    /// The parts of a piece after its prefix. A prefix that is a module, or has one, attaches the piece to that module.
     fn fill_component<S: PartList<Context>>(
         &self,
         parts: &mut S,
@@ -297,7 +297,7 @@ impl Symbol {
         }
     }
 
-    /// The parts of a piece that is attached to a module, after its prefix, if it has one.
+    /// The parts of a piece that is attached to a module: its prefix, if it has one, the piece, and the module after an `@`.
     // <unqualified-name> ::= <module-name> <unqualified-name>
     fn fill_attached<S: PartList<Context>>(
         &self,
@@ -326,8 +326,8 @@ impl Symbol {
         self.push_before(parts, prefix, around);
     }
 
-    /// The entity of a local name. Its default argument isn't shown.
-    // It is out of line: with it `fill_form` would be too large for the kit to inline, and be called for each item.
+    /// The entity of a local name. The default argument that contains it isn't shown.
+    // It is out of line: with it `fill_form` would be too large for the kit to inline, and would be called for each item.
     #[inline(never)]
     pub(crate) fn own_entity(&self, entity: u32, ctx: Context) -> Place
         requires table { IsTable (table_of self.now) }
@@ -369,7 +369,7 @@ impl Symbol {
         }
     }
 
-    /// The parts of a template's instance: without its arguments in the brief form.
+    /// The parts of an instance of a template. The brief detail leaves out its arguments.
     // <template-args> ::= I <template-arg>+ E
     pub(crate) fn fill_instance<S: PartList<Context>>(
         &self,
@@ -397,7 +397,7 @@ impl Symbol {
         }
     }
 
-    /// The parts of a constructor's class in a name within another.
+    /// The name of a constructor's class that is within another name.
     pub(crate) fn fill_base_within<S: PartList<Context>>(
         &self,
         parts: &mut S,
@@ -421,8 +421,8 @@ impl Symbol {
         }
     }
 
-    /// The name of a constructor's class under its tags: its piece. The tags of a constructor's own name are examined one by
-    /// one.
+    /// The name of a constructor's class under a tag: the class's own piece without tags. The tags
+    /// of a constructor's own name are examined one by one.
     pub(crate) fn fill_base_tagged<S: PartList<Context>>(
         &self,
         parts: &mut S,

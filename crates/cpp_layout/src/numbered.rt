@@ -143,7 +143,7 @@ pub(crate) fn ending(letter: u8) -> u16
     }
 }
 
-/// The letter before the last one in the code of a special name of a name.
+/// The letter before the last one in the code of a special name that a name follows.
 #[tactic(auto, unfolding(cpp_grammar::specs::Texts::special_front))]
 pub fn special_front(letter: u8) -> u8
     ensures { result ≡ special_front letter }

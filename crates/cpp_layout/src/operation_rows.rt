@@ -10,13 +10,13 @@ ghost use Rattle.cpp_layout.specs.Operations.{with_code, HasTexts, place_of};
 use crate::texts::{NONE, OPERATION};
 use cpp_grammar::operand::Operand;
 
-/// The precedence of what binds most.
+/// The precedence of what operand that needs no parentheses.
 pub(crate) const PRIMARY: u8 = 0;
 
-/// The precedence of what an operator before its operand makes.
+/// The precedence of what operator before its operand.
 pub(crate) const UNARY: u8 = 2;
 
-/// The precedence of an operation, and what is printed: the numbers of texts, and how its operands are.
+/// The precedence of an operation, the numbers of the texts that it prints, and how its operands are printed.
 #[derive(Clone, Copy)]
 pub struct Operation {
     pub precedence: u8,

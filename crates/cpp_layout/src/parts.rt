@@ -94,7 +94,7 @@ impl Symbol {
         }
     }
 
-    /// Adds the text of a number, if it has one.
+    /// Adds the fixed text with a number, unless the number is that of no text.
     #[inline(always)]
     pub(crate) fn push_own_text<S: PartList<Context>>(&self, parts: &mut S, number: u16)
         requires room { length (text_part (fixed_text number)) ≤ S.room parts.old }
@@ -165,7 +165,7 @@ impl Symbol {
         self.push_item(parts, node, form, 0, Context::closed(detail));
     }
 
-    /// Adds an item of an encoding's types, which are under the argument that this word names, if it names one.
+    /// Adds an item of an encoding's types, which are under the argument that the word `under` names, if it names one.
     #[inline(always)]
     pub(crate) fn push_typed<S: PartList<Context>>(
         &self,

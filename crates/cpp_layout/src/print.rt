@@ -40,7 +40,7 @@ fn has_next(packs: Option<u32>, at: u32) -> bool
 }
 
 impl Symbol {
-    /// Adds an expansion's elements after one.
+    /// Adds an expansion's elements after the one at this place.
     fn push_next<S: PartList<Context>>(&self, parts: &mut S, pattern: u32, at: u32, ctx: Context)
         requires context { IsAliasBelow (length self.now.table.nodes) ctx.argument }
         requires table { IsTable (table_of self.now) }
@@ -55,7 +55,7 @@ impl Symbol {
         }
     }
 
-    /// The parts of an expansion's elements from one on.
+    /// The parts of an expansion's elements from this place on.
     fn fill_expand<S: PartList<Context>>(&self, parts: &mut S, pattern: u32, at: u32, ctx: Context)
         requires context { IsAliasBelow (length self.now.table.nodes) ctx.argument }
         requires table { IsTable (table_of self.now) }
@@ -95,7 +95,7 @@ impl Symbol {
         self.fill_own(parts, place.node, form, at, place.ctx);
     }
 
-    /// Likewise for a node that isn't an alias.
+    /// The parts, in a form, of a node that isn't an alias.
     #[inline(always)]
     fn fill_own<S: PartList<Context>>(
         &self,

@@ -1,4 +1,4 @@
-// The parts of qualified types, left of a name.
+// The left parts of qualified types: what they print before a declared name.
 #![tactic(auto)]
 
 ghost use Rattle.std.specs.Prelude.{◌≡◌, ◌+◌, ◌<◌, ◌≤◌, ◌++◌, [], List, length};

@@ -1,4 +1,4 @@
-// The parts of types, right of a name.
+// The right parts of types: what they print after a declared name.
 #![tactic(auto)]
 
 ghost use Rattle.std.specs.Prelude.{◌≡◌, ◌+◌, ◌<◌, ◌≤◌, length, false};
@@ -13,7 +13,7 @@ use cpp_tree::node::{Node, Qualifiers};
 use sym_print::PartList;
 
 impl Symbol {
-    /// The right parts of a qualified type: a function has its qualifiers there.
+    /// The right parts of a qualified type. The qualifiers of a function type are among them.
     pub(crate) fn fill_qualified_right<S: PartList<Context>>(
         &self,
         parts: &mut S,

@@ -16,16 +16,17 @@ use cpp_tree::node::Placed;
 use sym_core::Span;
 use sym_print::{Item, Part, Run};
 
-/// How many pointers left of a name are taken at once: the text of runs has that many stars.
+/// The most pointers whose left parts are taken at once: the text of runs has that many stars.
 const MOST_STARS: u32 = 512;
 
-/// How many pointers to constant types left of a name are taken at once.
+/// The most pointers to constant types whose left parts are taken at once.
 const MOST_CONSTANT: u32 = 64;
 
-/// Where the text of those begins in the text of runs, seven bytes for each.
+/// Where the text of pointers to constant types begins in the text of runs. Each has seven bytes.
 const CONSTANT_STARS: u32 = 512;
 
-/// The text of which each run's text is a part: stars, and then what pointers to constant types print.
+/// The text that each run's text is a slice of: stars, and then what pointers to constant types
+/// print.
 #[tactic(auto, unfolding(crate::specs::Pointers::run_text))]
 #[inline(always)]
 pub(crate) fn run_text() -> &'static [u8]
@@ -42,8 +43,8 @@ struct Pointers {
 }
 
 impl Symbol {
-    /// The innermost of some pointers to pointers, of which `ty` is the outermost, and how many are around it: at most `most`.
-    /// Where `ty` is no pointer to a pointer, none is around it.
+    /// The innermost of nested pointers, the outermost being `ty`, and how many are around it: at
+    /// most `most`, and none where `ty` is no pointer to a pointer.
     // <type> ::= P <type>
     fn pointers(&self, ty: Placed, most: u32) -> Pointers
         requires table { IsTable (table_of self.now) }
@@ -69,7 +70,7 @@ impl Symbol {
         Pointers { levels, inner }
     }
 
-    /// Likewise of pointers to constant pointers: each of them that is counted is a pointer and a const.
+    /// The same for pointers to constant pointers. Each pointer is counted together with its const.
     // <type> ::= P <type>
     // <type> ::= <CV-qualifiers> <type>
     fn constant_pointers(&self, ty: Placed, most: u32) -> Pointers
@@ -117,7 +118,7 @@ impl Symbol {
         }
     }
 
-    /// Where the run of pointers ends that begins at an item.
+    /// Where the run of pointers that begins at an item ends.
     pub(crate) fn run_of(&self, item: Item<Context>) -> Option<Run<Context>>
         requires may_come { MayBeAsked self.now (Part.Sub item) }
         ensures run { IfSome result (λ run. IsRun (unshared_of self.now) (bytes_of_part self.now) (MayBeAsked self.now) item run) }
@@ -129,7 +130,7 @@ impl Symbol {
         }
     }
 
-    /// Where a run ends that is left of a name: each pointer is a star after what it points to.
+    /// Where a run of left parts ends: each pointer prints a star after what it points to.
     #[inline(always)]
     fn run_left(&self, item: Item<Context>) -> Option<Run<Context>>
         requires may_come { MayBeAsked self.now (Part.Sub item) }
@@ -150,7 +151,7 @@ impl Symbol {
         })
     }
 
-    /// Where a run of pointers to constant pointers ends that is left of a name.
+    /// Where a run of left parts of pointers to constant pointers ends.
     #[inline(always)]
     fn run_constant(&self, item: Item<Context>) -> Option<Run<Context>>
         requires may_come { MayBeAsked self.now (Part.Sub item) }
@@ -171,7 +172,7 @@ impl Symbol {
         })
     }
 
-    /// Where a run ends that is right of a name: pointers have no text there, nor has const.
+    /// Where a run of right parts ends: pointers print nothing there, and neither does const.
     #[inline(always)]
     fn run_right(&self, item: Item<Context>) -> Option<Run<Context>>
         requires may_come { MayBeAsked self.now (Part.Sub item) }
@@ -189,7 +190,7 @@ impl Symbol {
         })
     }
 
-    /// Where a run of pointers to constant pointers ends that is right of a name.
+    /// Where a run of right parts of pointers to constant pointers ends.
     #[inline(always)]
     fn run_constant_right(&self, item: Item<Context>) -> Option<Run<Context>>
         requires may_come { MayBeAsked self.now (Part.Sub item) }
@@ -219,7 +220,7 @@ fn type_in(item: Item<Context>) -> Placed
     }
 }
 
-/// The item with another type.
+/// An item with its type replaced.
 #[inline(always)]
 fn item_at(item: Item<Context>, ty: Placed) -> Item<Context>
     ensures { result ≡ record { node = ty.node; form = item.form; at = 0; ctx = record { index = item.ctx.index; detail = item.ctx.detail; argument = ty.under } } }

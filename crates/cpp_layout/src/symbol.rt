@@ -83,7 +83,7 @@ impl Model for Symbol {
 }
 
 impl Symbol {
-    /// The symbol with these nodes, one of them being the whole.
+    /// The symbol with these nodes. The node `root` is that of the whole symbol.
     pub fn new(bytes: Vec<u8>, nodes: Nodes, root: u32, rows: u32, steps: u32) -> Symbol
         requires { IsRead (record { bytes = bytes.items; table = nodes; root = root; rows = rows; steps = steps }) }
         ensures { result ≡ record { bytes = bytes.items; table = nodes; root = root; rows = rows; steps = steps } }
@@ -97,7 +97,7 @@ impl Symbol {
         }
     }
 
-    /// The lists of a symbol that is given up: its bytes, and its nodes. It takes no memory.
+    /// The lists of a symbol that is no longer needed: its bytes and its nodes. It takes no memory.
     pub fn into_lists(self) -> (Vec<u8>, Nodes)
         ensures bytes { result.0.items ≡ self.bytes }
         ensures nodes { result.1 ≡ self.table }
@@ -184,7 +184,7 @@ impl Symbol {
         }
     }
 
-    /// A node as it is stored, made of earlier ones.
+    /// A node as it is stored. Its parts are earlier nodes.
     #[inline(always)]
     pub(crate) fn stored(&self, node: u32, ctx: Context) -> Node
         requires table { IsTable (table_of self.now) }
@@ -228,7 +228,7 @@ impl Symbol {
         }
     }
 
-    /// A node's view, and at once its parts, which are earlier nodes. The node is below `counts().nodes`. It takes no memory.
+    /// A node's view and, with it, its parts, which are earlier nodes. The node is below `counts().nodes`. It takes no memory.
     pub fn view_at(&self, node: u32) -> NodeView
         requires { node < length self.now.table.nodes }
         ensures fields { seen_fields (table_of self.now) result ≡ fields_at (table_of self.now) node }
@@ -241,9 +241,9 @@ impl Symbol {
 
     /// The view of a node, which is below `counts().nodes`. It takes no memory.
     ///
-    /// The node's tree, where a parameter is only its number, is its production over these numbers, the bytes of these texts
-    /// and the trees of its parts, and for `WIDE_THUNK` over its offsets. Two nodes have equal trees exactly where these are
-    /// equal.
+    /// A node's tree, in which a parameter is only its number, is made of its production, the numbers, the bytes of the
+    /// texts and the trees of the parts, and for `WIDE_THUNK` also of its offsets. Two nodes have equal trees exactly where
+    /// all of these are equal.
     pub fn node(&self, node: u32) -> View
         requires { node < length self.now.table.nodes }
         ensures fields { IsView self.now.bytes result (fields_at (table_of self.now) node) }
@@ -275,7 +275,7 @@ impl Symbol {
         offsets_of(&self.bytes, &self.nodes, self.nodes.node(&self.bytes, node))
     }
 
-    /// What a thunk adjusts.
+    /// The offsets of the thunk with this number, if there is one.
     pub fn thunk(&self, number: u32) -> Option<Thunk>
         ensures { result ≡ slice_get self.now.table.thunks number }
     {
@@ -287,7 +287,7 @@ impl Symbol {
         *self.bytes.allocator()
     }
 
-    /// The bytes of a span within the symbol, as each text of a node's view is. It takes no memory.
+    /// The bytes of a span within the symbol. Each text of a node's view is a span within it. It takes no memory.
     pub fn bytes_of(&self, span: Span) -> &[u8]
         requires { IsWithin span self.now.bytes }
         ensures { result.now ≡ bytes_at self.now.bytes span }
@@ -295,7 +295,7 @@ impl Symbol {
         &self.bytes[span.from as usize..span.to as usize]
     }
 
-    /// What a type points to, if it is a pointer. Of an alias it is not said.
+    /// What a type points to, if its node is a pointer. An alias yields `None`.
     // <type> ::= P <type>
     #[inline(always)]
     pub(crate) fn pointed(&self, ty: Placed) -> Option<Placed>
@@ -313,7 +313,7 @@ impl Symbol {
         }
     }
 
-    /// The type that is const, if a type is that and nothing more. Of an alias it is not said.
+    /// The type under a const, if const is the type's only qualifier. An alias yields `None`.
     // <type> ::= <CV-qualifiers> <type>
     #[inline(always)]
     pub(crate) fn constant(&self, ty: Placed) -> Option<Placed>
@@ -336,8 +336,8 @@ impl Symbol {
         }
     }
 
-    /// The head of a type, if it is noted of the type itself: it isn't where the head is that of an element of a pack, or where the type
-    /// may be under an argument.
+    /// The noted head of a type, if it may be used: not where the context has an argument, nor where the
+    /// head is that of an element of a pack.
     #[inline(always)]
     fn noted_head(&self, node: u32, ctx: Context) -> Option<Head>
         requires table { IsTable (table_of self.now) }
@@ -395,7 +395,7 @@ impl Symbol {
         }
     }
 
-    /// Whether a node prints nothing: an expansion over empty packs, or a list of such.
+    /// Whether a node prints nothing: an expansion over empty packs, or a list of expansions over empty packs.
     pub(crate) fn prints_nothing(&self, node: u32, ctx: Context) -> bool
         requires table { IsTable (table_of self.now) }
         requires node { node < length self.now.table.nodes }
@@ -427,7 +427,7 @@ impl Symbol {
         )
     }
 
-    /// The argument of the parameter with a number: the context's, if there is one, or else its own.
+    /// The argument of the parameter with a number: the context's argument, if it has one, or otherwise the parameter's own.
     #[inline(always)]
     #[tactic(auto, unfolding(cpp_term::specs::Reargued::argument_or, cpp_tree::specs::Nodes::tree_if_there))]
     fn given_or(&self, given: Option<u32>, number: u32, own: u32) -> u32

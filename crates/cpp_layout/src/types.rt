@@ -1,4 +1,4 @@
-// The parts of types, left of a name.
+// The left parts of references and of floating types, and the parts of parameters.
 #![tactic(auto)]
 
 ghost use Rattle.std.specs.Prelude.{◌+◌, ◌<◌, ◌≤◌, ◌∷◌, [], length};
@@ -19,7 +19,7 @@ use sym_core::Span;
 use sym_print::PartList;
 
 impl Symbol {
-    /// The left parts of a reference: those of the type where that is a reference itself.
+    /// The left parts of a reference. If the referenced type is a reference too, only that type is printed.
     pub(crate) fn fill_reference<S: PartList<Context>>(
         &self,
         parts: &mut S,

@@ -1,20 +1,6 @@
--- A part is made of what a production denotes, where nodes were added for it.
-use Rattle.std.proofs.Common.{◌≡◌, sym, ◌∙◌, ap, subst, arith, ℕ, Bool, ◌+◌, ◌<◌, ◌≤◌, List, length, Result, Ok, Err}
-use Rattle.std.specs.Prelude.{IfOk, IfErr, OnOk, OnErr, IsErrAnd}
-use Rattle.std.proofs.lemmas.Result.{err_from_is_err_and}
-use Rattle.sym_core.specs.declared.refusal.Refusal.{Refusal}
-use Rattle.sym_core.specs.declared.refusal.Refusal.TheVariants.{Memory}
-use Rattle.cpp_term.specs.Term.{Term}
+-- A part is made of what a production denotes, once the nodes for it have been added.
+use Rattle.cpp_link.proofs.Basics.{◌≡◌, sym, ◌∙◌, ap, subst, arith, ℕ, Bool, ◌+◌, ◌<◌, ◌≤◌, List, length, Result, Ok, Err, IfOk, IfErr, OnOk, OnErr, IsErrAnd, err_from_is_err_and, Refusal, Memory, Term, tree_at, Linked, Part, Outcome, trees_in, value_in, value_of, outcome_value, IsThere, Grows, AddsNodes, nodes_of_outcome, KeepsRoom, LacksRoom}
 use Rattle.cpp_term.specs.Values as values
-use Rattle.cpp_tree.specs.Nodes.{tree_at}
-use Rattle.cpp_link.specs.declared.linked.Linked.{Linked}
-use Rattle.cpp_link.specs.declared.part.Part.{Part}
-use Rattle.cpp_link.specs.declared.part.Outcome.{Outcome}
-use Rattle.cpp_link.specs.Parts.{trees_in, value_in, value_of, outcome_value, IsThere}
-use Rattle.cpp_link.specs.Grows.{Grows}
-use Rattle.cpp_link.specs.Progress.{AddsNodes}
-use Rattle.cpp_link.specs.Making.{nodes_of_outcome}
-use Rattle.cpp_link.specs.Room.{KeepsRoom, LacksRoom}
 
 at_most_two : (outcome : Outcome) → nodes_of_outcome outcome ≤ 2
 unfolding nodes_of_outcome
@@ -26,7 +12,7 @@ at_most_two (Outcome.Applied name arguments) = omega arith
 at_most_two _ = omega arith
 
 module _ (s : List ℕ) (old new : Linked) (outcome : Outcome) where
-  -- all that is ensured of a part that is made
+  -- all that is known of a part that is made
   abbrev AddsPart : Result Part Refusal → Type 0
   AddsPart result = record {
     grows : Grows s old.nodes new.nodes 2;
@@ -77,7 +63,7 @@ module _ (s : List ℕ) (old new : Linked) (outcome : Outcome) where
         subst (λ r. AddsPart r) (sym passed) refused
 
     module _ (number : ℕ) (adds : AddsNodes s old new count (Ok number)) where
-      -- the part denotes the same
+      -- a part is made that denotes the outcome
       pub added : length new.nodes.thunks + length old.nodes.nodes ≤ length old.nodes.thunks + length new.nodes.nodes
           → (part : Part) → value_in s new.nodes part ≡ outcome_value s old.nodes outcome → IsThere s (length new.nodes.nodes) part → AddsPart (Ok part)
       added adjusts part same there = record {

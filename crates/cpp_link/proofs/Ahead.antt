@@ -1,17 +1,5 @@
 -- How many parts the productions have, and which of them always have a row.
-use Rattle.std.proofs.Common.{◌≡◌, refl, sym, ◌∙◌, ap, ℕ, ◌<◌, List, length, true, false, ◌||◌}
-use Rattle.sym_shape.specs.declared.rule.Rule.{Rule}
-use Rattle.sym_shape.specs.Table.{symbols_of}
-use Rattle.sym_shape.specs.Tree.{TakesRule}
-use Rattle.sym_link.specs.Threads.{IsCount, IsAhead}
-use Rattle.sym_link.proofs.Standing.{are_rows, ahead_by_rows}
-use Rattle.cpp_grammar.specs.declared.production.Production.{Production}
-use Rattle.cpp_grammar.specs.declared.production.Operation.{Operation}
-use Rattle.cpp_grammar.specs.Grammar.{number_of_kind, parts_of, may_be_empty, kinds}
-use Rattle.cpp_grammar.specs.Table.{sheet_with, blank, wide_sheet, wide}
-use Rattle.cpp_grammar.specs.Unfolding.{production_at}
-use Rattle.cpp_grammar.proofs.ClosedTrees.{at_number, its_symbols, taken_rule}
-use Rattle.cpp_link.specs.Tables.{skips_parts}
+use Rattle.cpp_link.proofs.Basics.{◌≡◌, refl, sym, ◌∙◌, ap, ℕ, ◌<◌, List, length, true, false, ◌||◌, Rule, symbols_of, TakesRule, IsCount, IsAhead, are_rows, ahead_by_rows, Production, Operation, number_of_kind, parts_of, may_be_empty, kinds, sheet_with, blank, wide_sheet, wide, production_at, at_number, its_symbols, taken_rule, skips_parts}
 
 -- a rule has the parts of its production
 its_parts : (kind : ℕ) (rule : Rule) (taken : List ℕ) (number : ℕ) → kind < wide.kinds → TakesRule wide kind rule taken → rule.number ≡ number

@@ -1,18 +1,7 @@
 -- One more candidate.
-use Rattle.std.proofs.Common.{◌≡◌, refl, ◌∙◌, ap, subst, ℕ, suc, ◌<◌, List, [], ◌∷◌, ◌++◌, length, Some, None}
+use Rattle.cpp_link.proofs.Basics.{◌≡◌, refl, ◌∙◌, ap, subst, ℕ, suc, ◌<◌, List, [], ◌∷◌, ◌++◌, length, Some, None, Term, appended, State, Surroundings, Candidate, counted_of, candidate_by, Stored, trees_in, around_of, candidate_of, candidates_of, AreNodesThere, Marks, with_candidate, with_marks}
 use Rattle.cpp_grammar.specs.Values as plain
-use Rattle.cpp_term.specs.Term.{Term}
-use Rattle.cpp_term.specs.References.{appended}
-use Rattle.cpp_term.specs.Values.{State}
-use Rattle.cpp_references.specs.declared.around.Surroundings.{Surroundings}
-use Rattle.cpp_references.specs.declared.candidates.Candidate.{Candidate}
 use Rattle.cpp_references.specs.declared.candidates.Counted.{Counted}
-use Rattle.cpp_references.specs.Around.{counted_of}
-use Rattle.cpp_link.specs.Counting.{candidate_by}
-use Rattle.cpp_tree.specs.Nodes.{Stored}
-use Rattle.cpp_link.specs.Parts.{trees_in, around_of, candidate_of, candidates_of, AreNodesThere}
-use Rattle.cpp_link.specs.declared.part.Marks.{Marks}
-use Rattle.cpp_link.specs.Reads.{with_candidate, with_marks}
 
 pub candidates_push : (ts : List Term) (cs : List Candidate) (c : Candidate) → candidates_of ts (cs ++ c ∷ []) ≡ candidates_of ts cs ++ candidate_of ts c ∷ []
 candidates_push ts [] c = refl
@@ -26,7 +15,7 @@ pub nodes_push : (n : ℕ) (cs : List Candidate) (c : Candidate) → AreNodesThe
 nodes_push n [] c there below = (below, tt)
 nodes_push n (d ∷ cs) c there below = (there.0, nodes_push n cs c there.1 below)
 
--- one named candidate, and none
+-- one tree is appended to the candidates
 pub one_noted : (counted : Counted) (ts : List Term) (kept : Surroundings) (node : ℕ) (before : State) → with_candidate (counted_of counted) (around_of ts kept) ts (Some node) before
     ≡ record before { candidates = before.candidates ++ candidate_by ts kept node counted ∷ [] }
 unfolding with_candidate appended around_of counted_of
@@ -40,7 +29,7 @@ pub none_noted : (counted : plain.Counted) (ts : List Term) (kept : Surroundings
 unfolding with_candidate
 none_noted counted ts kept before = refl
 
--- two trees, or fewer, become candidates
+-- up to two trees become candidates
 pub noted_marks : (marks : Marks) (s : List ℕ) (y z : Stored) (kept : Surroundings) (cs ds es : List Candidate) (state : State) → z ≡ y
     → with_candidate (counted_of marks.first_by) (around_of (trees_in s y) kept) (trees_in s y) marks.first (record state { candidates = candidates_of (trees_in s y) cs }) ≡ record state { candidates = candidates_of (trees_in s y) ds }
     → with_candidate (counted_of marks.second_by) (around_of (trees_in s z) kept) (trees_in s z) marks.second (record state { candidates = candidates_of (trees_in s z) ds }) ≡ record state { candidates = candidates_of (trees_in s z) es }

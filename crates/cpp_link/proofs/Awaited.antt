@@ -1,33 +1,10 @@
--- The heads of types and what is awaited, by nodes.
-use Rattle.std.proofs.Common.{◌≡◌, refl, sym, ◌∙◌, ap, ℕ, zero, suc, List, [], Bool, true, false, Option, Ok}
-use Rattle.std.proofs.lemmas.Bool.{true≢false}
-use Rattle.cpp_grammar.specs.declared.production.Production.{Production}
+-- The heads of types, and which types are awaited, read from nodes.
+use Rattle.cpp_link.proofs.Basics.{◌≡◌, refl, sym, ◌∙◌, ap, ℕ, zero, suc, List, [], Bool, true, false, Option, Ok, true≢false, Production, by_all, nothing_awaited, Counting, is_by_all, Term, reargued, head_of_name, head_of, first_head, rest_of, heads_of, types_in, awaited_by_piece, awaited_by, awaiting, counted_so_far, noting, State, Around, Value, behind, Stored, tree_at, is_again, Node, Piece, Thunk, Candidates, Linked, Part, counting_of, IsCounted, state_of, trees_in, candidates_of, MakesPart, counted_of, both, piece_head, node_head, nth_head}
 use Rattle.cpp_grammar.specs.Values as plain
-use Rattle.cpp_grammar.specs.Values.{by_all, nothing_awaited, Counting}
-use Rattle.cpp_grammar.specs.Rescoping.{is_by_all}
 use Rattle.cpp_term.specs.Term as term
-use Rattle.cpp_term.specs.Term.{Term}
-use Rattle.cpp_term.specs.Reargued.{reargued}
-use Rattle.cpp_term.specs.Rescoping.{head_of_name, head_of, first_head, rest_of, heads_of, types_in, awaited_by_piece, awaited_by, awaiting, counted_so_far, noting}
-use Rattle.cpp_term.specs.Values.{State, Around, Value}
-use Rattle.cpp_term.specs.Unfolding.{behind}
 use Rattle.cpp_tree.specs.Nodes as nodes
-use Rattle.cpp_tree.specs.Nodes.{Stored, tree_at, is_again}
-use Rattle.cpp_tree.specs.declared.node.Node.{Node}
-use Rattle.cpp_tree.specs.declared.node.Piece.{Piece}
-use Rattle.cpp_tree.specs.declared.node.Thunk.{Thunk}
-use Rattle.cpp_link.specs.declared.candidates.Candidates.{Candidates}
-use Rattle.cpp_link.specs.declared.linked.Linked.{Linked}
-use Rattle.cpp_link.specs.declared.part.Part.{Part}
-use Rattle.cpp_link.specs.Counting.{counting_of, IsCounted}
-use Rattle.cpp_link.specs.Making.{state_of}
-use Rattle.cpp_link.specs.Parts.{trees_in, candidates_of}
-use Rattle.cpp_link.specs.Progress.{MakesPart}
-use Rattle.cpp_references.specs.Around.{counted_of}
-use Rattle.cpp_term.proofs.Notes.{both}
 use Rattle.cpp_link.proofs.Listed.{so_far_same}
 use Rattle.cpp_link.proofs.Viewing.{same_state}
-use Rattle.cpp_link.specs.Reads.{piece_head, node_head, nth_head}
 
 -- ## Heads
 
@@ -126,7 +103,7 @@ same_heads : (place a b c d x y z w : ℕ) → a ≡ x → b ≡ y → c ≡ z �
     ◌≡◌ {A = plain.Awaited} (record { encoding = place; is_called = false; first = a; second = b; third = c; fourth = d }) (record { encoding = place; is_called = false; first = x; second = y; third = z; fourth = w })
 same_heads place a b c d x y z w e f g h = rw (e, f, g, h) refl
 
--- from the heads of the first four types
+-- what is awaited, given the heads of the first four types
 pub heads_are : (place a b c d : ℕ) (types : Term) → a ≡ nth_head 0 types → b ≡ nth_head 1 types → c ≡ nth_head 2 types → d ≡ nth_head 3 types →
     ◌≡◌ {A = plain.Awaited} (record { encoding = place; is_called = false; first = a; second = b; third = c; fourth = d }) (heads_of place types)
 unfolding heads_of nth_head
@@ -163,7 +140,7 @@ pub nothing_after : (byte : ℕ) (around : Around) (began : State) (vs : List Va
 unfolding behind
 nothing_after byte around began vs state = refl
 
--- what was made before how candidates are counted was noted otherwise
+-- a part that was made stays so when only the counting of candidates changes
 pub made_counted : (s : List ℕ) (old mid new : Linked) (most count : ℕ) (part : Part) → new.nodes ≡ mid.nodes → new.candidates ≡ mid.candidates → MakesPart s old mid most count (Ok part) → MakesPart s old new most count (Ok part)
 made_counted s old mid new most count part ns cs made = record {
   there = rw ns made.there;
@@ -177,11 +154,11 @@ made_counted s old mid new most count part ns cs made = record {
 }
 
 module _ (s : List ℕ) (mid new : Linked) where
-  -- by whom the candidates are counted
+  -- the candidates' `by` says which compilers count them
   counted_is : IsCounted mid.candidates → counted_so_far by_all (state_of s mid).candidates ≡ counted_of mid.candidates.by
   counted_is counted = so_far_same (trees_in s mid.nodes) [] by_all mid.candidates.list.items ∙ sym counted.by
 
-  -- the lambda's types, which these are, are awaited
+  -- the types of the lambda that this name denotes are awaited
   pub awaits : (around : Around) (name : Term) (state : State) → state ≡ state_of s mid → new.nodes ≡ mid.nodes → new.candidates ≡ mid.candidates → new.packs ≡ mid.packs → IsCounted mid.candidates
       → (a : plain.Awaited) → a ≡ awaited_by around.encoding name
       → counting_of new.counting ≡ elim (is_by_all (counted_of mid.candidates.by)) [ true ↦ counting_of mid.counting | false ↦ record (counting_of mid.counting) { awaited = a } ]

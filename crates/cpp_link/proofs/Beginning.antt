@@ -1,38 +1,7 @@
 -- A rule begins as the wide reading says.
-use Rattle.std.proofs.Common.{◌≡◌, refl, sym, ◌∙◌, ap, subst, arith, ℕ, ◌-◌, ◌≤◌, List, [], length, Bool, true, false, Result, Ok, Err}
-use Rattle.std.specs.Prelude.{OnOk, OnErr, IfErr, nat_eq, vec_capacity, if◌then◌else◌}
-use Rattle.sym_core.specs.declared.refusal.Refusal.{Refusal}
-use Rattle.sym_core.specs.declared.refusal.Refusal.TheVariants.{Memory}
-use Rattle.sym_shape.specs.declared.rule.Row.{Row}
-use Rattle.sym_shape.specs.Tree.{Forest}
-use Rattle.sym_link.specs.Reading.{Open}
-use Rattle.sym_link.specs.Unfold.{standing}
-use Rattle.sym_link.specs.Linking.{Adds, Pays}
-use Rattle.sym_link.specs.Threads.{BeginsAs, BeginsIn}
-use Rattle.sym_link.specs.Room.{KeepRoom}
-use Rattle.cpp_grammar.specs.declared.production.Production.{Production}
-use Rattle.cpp_grammar.specs.Unfolding.{production_at}
+use Rattle.cpp_link.proofs.Basics.{◌≡◌, refl, sym, ◌∙◌, ap, subst, arith, ℕ, ◌-◌, ◌≤◌, List, [], length, Bool, true, false, Result, Ok, Err, OnOk, OnErr, IfErr, nat_eq, vec_capacity, if◌then◌else◌, Refusal, Memory, Row, Forest, Open, standing, Adds, Pays, BeginsAs, BeginsIn, KeepRoom, Production, production_at, by_all, is_by_all, Term, State, Around, opening, cpp, counted_so_far, noting, tree_at, Surroundings, counted_of, Linked, Rescoping, counting_of, link_begin, link_opening, wide_view, wide_counted, is_numbered, trees_in, packs_of, around_of, IsKeptThere, Begins, lists_of as lists_in, IsKept, Surrounds, Holds, cpp_view}
 use Rattle.cpp_grammar.specs.Values as plain
-use Rattle.cpp_grammar.specs.Values.{by_all}
-use Rattle.cpp_grammar.specs.Rescoping.{is_by_all}
-use Rattle.cpp_term.specs.Term.{Term}
-use Rattle.cpp_term.specs.Values.{State, Around}
-use Rattle.cpp_term.specs.Unfolding.{opening, cpp}
-use Rattle.cpp_term.specs.Rescoping.{counted_so_far, noting}
-use Rattle.cpp_tree.specs.Nodes.{tree_at}
-use Rattle.cpp_references.specs.declared.around.Surroundings.{Surroundings}
-use Rattle.cpp_references.specs.Around.{counted_of}
 use Rattle.cpp_link.specs.declared.counting.Counting.{Counting}
-use Rattle.cpp_link.specs.declared.linked.Linked.{Linked}
-use Rattle.cpp_link.specs.declared.rescoping.Rescoping.{Rescoping}
-use Rattle.cpp_link.specs.Counting.{counting_of}
-use Rattle.cpp_link.specs.LinkReading.{link_begin}
-use Rattle.cpp_link.specs.LinkRescoping.{link_opening, wide_view, wide_counted}
-use Rattle.cpp_link.specs.Numbered.{is_numbered}
-use Rattle.cpp_link.specs.Parts.{trees_in, packs_of, around_of, IsKeptThere}
-use Rattle.cpp_link.specs.Progress.{Begins}
-use Rattle.cpp_link.specs.Room.{lists_of as lists_in}
-use Rattle.cpp_link.specs.View.{IsKept, Surrounds, Holds, cpp_view}
 use Rattle.cpp_link.proofs.Endings.{first_begins, opens_plain, begins_kept}
 use Rattle.cpp_link.proofs.Listed.{so_far_same}
 
@@ -101,7 +70,7 @@ opening_alike Production.NestNext o parts is alike = ap (λ s. Ok s) (nothing_no
 opening_alike Production.NestEnd o parts is alike = ap (λ s. Ok s) (nothing_noted _ o.before alike) ∙ sym (plain_begins o parts (ap is_numbered is))
 opening_alike _ o parts is alike = refl
 
--- nothing is expected where a symbol begins
+-- a rule that begins at place 0 leaves the state as it is, where all compilers count alike
 pub first_opens : (p : Production) (o : Open State Around) (parts : Forest) → o.place ≡ 0 → is_by_all (counted_so_far by_all o.before.candidates) ≡ true → link_opening p o parts ≡ Ok o.before
 unfolding link_opening
 first_opens Production.NestTemplate o parts first alike = ap (λ s. Ok s) (nothing_noted _ o.before alike)
@@ -111,7 +80,7 @@ first_opens Production.NestNext o parts first alike = ap (λ s. Ok s) (nothing_n
 first_opens Production.NestEnd o parts first alike = ap (λ s. Ok s) (nothing_noted _ o.before alike)
 first_opens _ o parts first alike = first_begins o parts first
 
--- the productions where nothing is noted
+-- this production notes nothing where its rule begins
 pub record NotesNothing (p : Production) : Type 0 where
   pub not_template : p ≡ Production.NestTemplate → ⊥
   pub not_qualified : p ≡ Production.QualifiedPlain → ⊥
@@ -129,7 +98,7 @@ opening_other Production.NestEnd o parts other = absurd (other.not_end refl)
 opening_other _ o parts other = refl
 
 module _ (s : List ℕ) (rows : List Row) (old : Linked) (context : Surroundings) (row : Row) where
-  -- by whom the candidates of the state are counted
+  -- the compilers that count the state's candidates are those that `candidates.by` gives
   counted_is : (state : State) → Holds s old state → counted_so_far by_all state.candidates ≡ counted_of old.candidates.by
   counted_is state holds = ap (λ cs. counted_so_far by_all cs) (sym holds.candidates) ∙ so_far_same (trees_in s old.nodes) [] by_all old.candidates.list.items ∙ sym holds.there.1.by
 
@@ -157,7 +126,7 @@ module _ (s : List ℕ) (rows : List Row) (old : Linked) (context : Surroundings
     refused = refused;
   }
 
-  -- it's noted what may be named, or which types are awaited
+  -- `noting` changes only the counting: what may be named, and which types are awaited
   pub noted_begins : (p : Production) (e : Around → ℕ → plain.Counting → plain.Counting) (noted : Counting) (kept : Surroundings)
       → ((o : Open State Around) (parts : Forest) → link_opening p o parts ≡ Ok (noting (e o.context o.place o.before.counting) o.before))
       → production_at row.rule ≡ p → counting_of noted ≡ e (around_of (trees_in s old.nodes) context) row.from (counting_of old.counting) → is_by_all (counted_of old.candidates.by) ≡ false

@@ -1,12 +1,5 @@
 -- The productions that end with a number, by their own numbers.
-use Rattle.std.proofs.Common.{◌≡◌, refl, sym, ◌∙◌, ap, arith, ℕ, zero, suc, ◌+◌, ◌-◌, List, [], ◌∷◌, map, get_or, Bool, true, false, ◌&&◌, ◌||◌}
-use Rattle.std.specs.Prelude.{nat_eq}
-use Rattle.std.proofs.lemmas.Bool.{false≢true, and_parts, eqb-true, ne_eqb}
-use Rattle.cpp_grammar.specs.Grammar.{productions}
-use Rattle.cpp_grammar.specs.Unfolding.{production_at}
-use Rattle.cpp_term.proofs.Notes.{both}
-use Rattle.cpp_link.specs.Numbered.{is_numbered}
-use Rattle.cpp_link.specs.declared.tables.TheConstants.{LAMBDA, UNNAMED}
+use Rattle.cpp_link.proofs.Basics.{◌≡◌, refl, sym, ◌∙◌, ap, arith, ℕ, zero, suc, ◌+◌, ◌-◌, List, [], ◌∷◌, map, get_or, Bool, true, false, ◌&&◌, ◌||◌, nat_eq, false≢true, and_parts, eqb-true, ne_eqb, productions, production_at, both, is_numbered, LAMBDA, UNNAMED}
 use Rattle.cpp_link.proofs.Reading.{count_got}
 
 unfoldable same : Bool → Bool → Bool
@@ -21,7 +14,7 @@ same_is true false e = absurd (false≢true e)
 same_is false true e = absurd (false≢true e)
 same_is false false e = refl
 
--- of a list that begins with number k, those with the numbers a and b are true, and no others
+-- in a list whose first entry has number k, the entries numbered a and b are true, and no others
 unfoldable told_by : List Bool → (k a b : ℕ) → Bool
 told_by [] k a b = nat_eq (suc a - k) 0 && nat_eq (suc b - k) 0
 told_by (x ∷ xs) k a b = same x (nat_eq k a || nat_eq k b) && told_by xs (suc k) a b

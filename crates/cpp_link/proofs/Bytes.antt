@@ -1,29 +1,8 @@
--- The byte at the place of an open rule serves as the one that it takes: a rule that takes none means the same by any byte.
-use Rattle.std.proofs.Common.{◌≡◌, refl, sym, ◌∙◌, ap, subst, ℕ, zero, suc, List, [], ◌∷◌, ◌++◌, drop, Bool, true, false, not, ◌&&◌, ◌||◌, if◌then◌else◌, Result, Ok}
-use Rattle.std.specs.Prelude.{slice_index}
-use Rattle.std.proofs.lemmas.Bool.{false≢true, and_parts}
-use Rattle.sym_core.specs.declared.refusal.Refusal.{Refusal}
-use Rattle.sym_shape.specs.declared.rule.Rule.{Rule}
-use Rattle.sym_link.specs.Reading.{Found, Open}
+-- The byte at an open rule's place serves as the byte that the rule takes: a rule that takes none means the same with any byte.
+use Rattle.cpp_link.proofs.Basics.{◌≡◌, refl, sym, ◌∙◌, ap, subst, ℕ, zero, suc, List, [], ◌∷◌, ◌++◌, drop, Bool, true, false, not, ◌&&◌, ◌||◌, if◌then◌else◌, Result, Ok, slice_index, false≢true, and_parts, Refusal, Rule, Found, Open, found, Production, is_chain, Source, code, taken, letter_or_taken, letter_or, qualified_by, Made, of, only, extending, applying, Own, by_letters, first_of_operator, reference, character, suffix, one_digit, Form, the_byte, makes, a_piece, a_pair, own, row_of, wide, rule_of, production_at, byte_of, Taken, taken_rule, at_number, Argument, some_qualifiers, tree_in, truth_in, built, State, Value, tree, piece, Around, part, extended, applied, meaning, given, all_given, made, is_listing, meant, state_after, own_meaning, behind, close, link_meaning, link_close}
 use Rattle.sym_link.specs.Threads.{IsThere}
-use Rattle.sym_link.specs.Unfold.{found}
-use Rattle.cpp_grammar.specs.declared.production.Production.{Production}
-use Rattle.cpp_grammar.specs.Grammar.{is_chain}
-use Rattle.cpp_grammar.specs.Row.{Source, code, taken, letter_or_taken, letter_or, qualified_by, Made, of, only, extending, applying, Own, by_letters, first_of_operator, reference, character, suffix, one_digit, Form, the_byte, makes, a_piece, a_pair, own}
-use Rattle.cpp_grammar.specs.Rows.{row_of}
-use Rattle.cpp_grammar.specs.Table.{wide, rule_of}
-use Rattle.cpp_grammar.specs.Unfolding.{production_at, byte_of}
-use Rattle.cpp_grammar.proofs.ClosedTrees.{Taken, taken_rule, at_number}
-use Rattle.cpp_term.specs.Builders.{Argument, some_qualifiers, tree_in, truth_in, built}
-use Rattle.cpp_term.specs.Values.{State, Value, tree, piece, Around, part}
-use Rattle.cpp_term.specs.Between.{extended, applied}
-use Rattle.cpp_term.specs.Meaning.{meaning}
-use Rattle.cpp_term.specs.Meant.{given, all_given, made, is_listing, meant, state_after}
-use Rattle.cpp_term.specs.Own.{own_meaning}
-use Rattle.cpp_term.specs.Unfolding.{behind, close}
-use Rattle.cpp_link.specs.LinkReading.{link_meaning, link_close}
 
--- ## Rows that don't speak of the byte
+-- ## Rows that don't mention the byte
 
 unfoldable is_byteless : Source → Bool
 is_byteless (code front) = false
@@ -114,7 +93,7 @@ module _ (b c : ℕ) (around : Around) (vs : List Value) where
   any_meant (own o most) is = any_own o is
   any_meant _ is = refl
 
--- the row of a rule that takes no byte doesn't speak of it
+-- the row of a rule that takes no byte doesn't mention the byte
 chain_byteless : (p : Production) → not (is_chain p) || means_byteless (row_of p).form ≡ true
 unfolding is_chain row_of means_byteless own_byteless makes_byteless all_byteless is_byteless
 chain_byteless Production.Mark = refl
@@ -124,7 +103,7 @@ or_false : (a b : Bool) → a ≡ true → not a || b ≡ true → b ≡ true
 or_false true b is e = e
 or_false false b is e = absurd (false≢true is)
 
--- so it means the same by any byte
+-- a production that takes no byte means the same with any byte
 any_meaning : (p : Production) (b c : ℕ) (around : Around) (vs : List Value) → is_chain p ≡ true → meaning p b around vs ≡ meaning p c around vs
 unfolding meaning
 any_meaning p b c around vs chain = any_meant b c around vs (row_of p).form (or_false (is_chain p) (means_byteless (row_of p).form) chain (chain_byteless p))

@@ -1,29 +1,9 @@
--- What a production appends to the candidates, it has made as nodes: a name or a type that is made is appended at most once,
--- then or later. What is made and not appended yet is pending.
-use Rattle.std.proofs.Common.{◌≡◌, refl, ap, sym, ◌∙◌, subst, arith, ℕ, zero, suc, ◌+◌, ◌-◌, ◌≤◌, List, [], ◌∷◌, ◌++◌, length, length-append, get_or, Bool, true, false, not, ◌&&◌, ◌||◌, nat_eq, nat_lt, cond, Option, Some, None, Result, Ok, Err}
-use Rattle.std.proofs.lemmas.Bool.{false≢true, and_parts}
-use Rattle.sym_core.specs.declared.refusal.Refusal.{Refusal}
-use Rattle.sym_core.specs.declared.refusal.Refusal.TheVariants.{BadReference}
-use Rattle.sym_shape.specs.declared.rule.Sym.{Sym}
-use Rattle.sym_shape.specs.declared.rule.Sym.TheVariants.{Kind as OfKind}
-use Rattle.sym_link.specs.Reading.{Found, Next, ◌>>=◌}
-use Rattle.sym_link.specs.Unfold.{found}
-use Rattle.cpp_grammar.specs.declared.production.Production.{Production}
-use Rattle.cpp_grammar.specs.KindNumbers.{VENDOR_ARGUMENTS, PARAMETER_AFTER_T, NEST, NEST_AFTER_S, NEST_REST, NEST_TAIL, NEST_REST_OR_END, NEST_REST_ALONE, NEST_MORE_OR_END, COMPONENT, CONSTRUCTOR_AFTER_C, HELD_COMPONENT, COMPONENT_AFTER_C, ABBREVIATION, ITEM_AFTER_D, AFTER_D, SOLID, SOLID_BUT_T, TYPE_AFTER_S, TYPE_IN_STD, UNNESTED_NAME, LITERAL_TYPE, LITERAL_SOLID, MAYBE_ARGUMENTS, ARGUMENTS, ARGUMENTS_ALONE, MAYBE_TAGS, ARGUMENT_AFTER_T, LEVELED_PARAMETER, ANY_ARRAY, ARRAY_REST, BASE_ARGUMENTS, CONVERTED_SOLID, CONVERTED_AFTER_D, DECLTYPE_AFTER_D, UNRESOLVED_TYPE, NAME_AFTER_MODULE, NAME_IN_MODULE, NEST_ON}
+-- A production appends to the candidates only nodes that it makes: a name or a type is appended at most once, when it is made or
+-- later. What is made and not appended yet is pending.
+use Rattle.cpp_link.proofs.Basics.{◌≡◌, refl, ap, sym, ◌∙◌, subst, arith, ℕ, zero, suc, ◌+◌, ◌-◌, ◌≤◌, List, [], ◌∷◌, ◌++◌, length, length-append, get_or, Bool, true, false, not, ◌&&◌, ◌||◌, nat_eq, nat_lt, cond, Option, Some, None, Result, Ok, Err, false≢true, and_parts, Refusal, BadReference, Sym, Kind as OfKind, Found, Next, ◌>>=◌, found, Production, VENDOR_ARGUMENTS, PARAMETER_AFTER_T, NEST, NEST_AFTER_S, NEST_REST, NEST_TAIL, NEST_REST_OR_END, NEST_REST_ALONE, NEST_MORE_OR_END, COMPONENT, CONSTRUCTOR_AFTER_C, HELD_COMPONENT, COMPONENT_AFTER_C, ABBREVIATION, ITEM_AFTER_D, AFTER_D, SOLID, SOLID_BUT_T, TYPE_AFTER_S, TYPE_IN_STD, UNNESTED_NAME, LITERAL_TYPE, LITERAL_SOLID, MAYBE_ARGUMENTS, ARGUMENTS, ARGUMENTS_ALONE, MAYBE_TAGS, ARGUMENT_AFTER_T, LEVELED_PARAMETER, ANY_ARRAY, ARRAY_REST, BASE_ARGUMENTS, CONVERTED_SOLID, CONVERTED_AFTER_D, DECLTYPE_AFTER_D, UNRESOLVED_TYPE, NAME_AFTER_MODULE, NAME_IN_MODULE, NEST_ON, row_of, ok_same, behind_bind, Term, parameter, count, element, is_open, length_if_pack, pack_length, appended, is_function_type, with_type, with_unqualified, with_prefix, with_packs, is_module, substituted, parameter_named, Continuation, after, argument_at, index_of, between, made, meant, around_part, packs_within, gained, replaced, tested, done, state_after, meaning, behind, close, makes_before, makes_at_end, one_if_there, one_if_arguments, nodes_made, nodes_before, nodes_at_end}
 use Rattle.cpp_grammar.specs.Row.{of, only, extending, tagging, applying, packing, Where, under_it, nothing, the_prefix, type_of, unqualified_of, itself, Action, quiet, goes, becomes, tests, holds, unread, Row, before_part}
-use Rattle.cpp_grammar.specs.Rows.{row_of}
-use Rattle.cpp_grammar.proofs.ClosedStates.{ok_same, behind_bind}
 use Rattle.cpp_grammar.specs.Values as plain
-use Rattle.cpp_term.specs.Term.{Term, parameter}
-use Rattle.cpp_term.specs.Scope.{count, element, is_open, length_if_pack, pack_length}
 use Rattle.cpp_term.specs.Values.{State, Around, Candidate, prefix_tree, prefix_listed, Value, nothing_there, tree, named, tree_of, is_listed, is_there, part}
-use Rattle.cpp_term.specs.References.{appended, is_function_type, with_type, with_unqualified, with_prefix, with_packs, is_module, substituted, parameter_named}
-use Rattle.cpp_term.specs.Between.{Continuation, after, argument_at, index_of, between}
-use Rattle.cpp_term.specs.Meant.{made, meant, around_part, packs_within, gained, replaced, tested, done, state_after}
-use Rattle.cpp_term.specs.Meaning.{meaning}
-use Rattle.cpp_term.specs.Unfolding.{behind, close}
-use Rattle.cpp_link.specs.NodeCount.{makes_before, makes_at_end, one_if_there, one_if_arguments}
-use Rattle.cpp_link.specs.RowNodes.{nodes_made, nodes_before, nodes_at_end}
 use Rattle.cpp_link.proofs.RowNodes.{same_before_nodes, same_end_nodes}
 
 -- ## What is pending
@@ -36,7 +16,7 @@ unlisted v = cond (is_listed v) 0 1
 unfoldable pub unlisted_around : Around → ℕ
 unlisted_around around = cond (prefix_listed around.prefix) 0 1
 
--- components of nested names, and other kinds whose trees become candidates later, if they do
+-- the kinds whose trees become candidates later, if they do: components of nested names, and others
 unfoldable pub is_component : ℕ → Bool
 is_component k = nat_eq k COMPONENT || nat_eq k CONSTRUCTOR_AFTER_C || nat_eq k HELD_COMPONENT || nat_eq k COMPONENT_AFTER_C || nat_eq k TYPE_IN_STD || nat_eq k NAME_AFTER_MODULE || nat_eq k NAME_IN_MODULE
 
@@ -47,30 +27,30 @@ becomes_candidate k =
     || nat_eq k ARGUMENT_AFTER_T || nat_eq k LEVELED_PARAMETER || nat_eq k UNNESTED_NAME || nat_eq k ANY_ARRAY || nat_eq k ARRAY_REST
     || nat_eq k LITERAL_SOLID || nat_eq k CONVERTED_SOLID || nat_eq k CONVERTED_AFTER_D || nat_eq k DECLTYPE_AFTER_D || nat_eq k UNRESOLVED_TYPE || nat_eq k PARAMETER_AFTER_T
 
--- what continues with the name so far, and arguments after it
+-- the kinds that continue the name so far, and the arguments after a base class
 unfoldable pub goes_on : ℕ → Bool
 goes_on k = nat_eq k NEST_REST || nat_eq k NEST_TAIL || nat_eq k NEST_REST_OR_END || nat_eq k NEST_REST_ALONE || nat_eq k NEST_MORE_OR_END || nat_eq k NEST_ON || nat_eq k BASE_ARGUMENTS
 
 unfoldable pub is_arguments : ℕ → Bool
 is_arguments k = nat_eq k MAYBE_ARGUMENTS || nat_eq k ARGUMENTS || nat_eq k ARGUMENTS_ALONE || nat_eq k VENDOR_ARGUMENTS || nat_eq k MAYBE_TAGS
 
--- a name with tags in the place of the arguments after it, which isn't a candidate yet
+-- one for a tagged name in the place of the arguments after a name: it isn't a candidate yet
 unfoldable pub in_place : Value → ℕ
 in_place (named t qualifiers ref) = 1
 in_place _ = 0
 
--- what is pending after a part with this value
+-- how many trees are pending after a part with this value
 unfoldable pub pending : Sym → Value → ℕ
 pending (OfKind k) v = cond (is_component k) 1 (cond (becomes_candidate k) (unlisted v) (cond (is_arguments k) (in_place v) 0))
 pending _ v = 0
 
--- what is pending before it, and it may append
+-- how many trees are pending before a part with this value, which may append them
 unfoldable pub pending_around : Sym → Around → Value → ℕ
 pending_around (OfKind k) around v = cond (goes_on k) (unlisted_around around)
     (cond (is_arguments k) (cond (is_there v) (unlisted_around around) 0) 0)
 pending_around _ around v = 0
 
--- what makes a name, which is no candidate yet
+-- the productions that make a name that isn't a candidate yet
 unfoldable pub makes_name : Production → Bool
 makes_name Production.InternalName = true
 makes_name Production.InModule = true
@@ -149,7 +129,7 @@ may_leave Production.NestDecltype = true
 may_leave Production.NestModule = true
 may_leave _ = false
 
--- what continues with the name so far
+-- the productions that continue the name so far
 unfoldable pub takes_name : Production → Bool
 takes_name Production.NestArguments = true
 takes_name Production.NestInstance = true
@@ -158,12 +138,12 @@ takes_name Production.NestEnd = true
 takes_name Production.BaseArguments = true
 takes_name _ = false
 
--- arguments after it
+-- the productions that are the arguments after a name
 unfoldable pub begins_arguments : Production → Bool
 begins_arguments Production.Arguments = true
 begins_arguments _ = false
 
--- what is pending after a production, and before it
+-- how many trees are pending after a production, and before it
 unfoldable pub leaves : Production → Value → ℕ
 leaves p v = cond (makes_name p) 1 (cond (may_leave p) (unlisted v) 0)
 
@@ -172,20 +152,20 @@ starts_with p around = cond (takes_name p) (unlisted_around around) (cond (begin
 
 -- ## From part to part
 
--- after a part with this value this much is pending, and the rest continues with it
+-- after a part with this value, `now` trees are pending, and the other parts continue with that number
 pub record Later (x : Sym) (over : ℕ) (rest : List Value → ℕ → Type 0) (next : Next Value State Around) (v : Value) : Type 0 where
   pub now : ℕ
   pub few : now + pending_around x next.context v ≤ over + pending x v
   pub goes : rest (next.values ++ v ∷ []) now
 
--- what is appended before a part was pending or is made there
+-- every tree that is appended before a part was pending, or is made there
 pub record Onward (x : Sym) (made now : ℕ) (state : State) (rest : List Value → ℕ → Type 0) (next : Next Value State Around) : Type 0 where
   pub over : ℕ
   pub few : length next.state.candidates + over ≤ length state.candidates + made + now
   pub later : (v : Value) → Later x over rest next v
 
--- What is pending after parts with these values. Where the production closes, what is appended, and what its value leaves
--- pending, was pending or is made there.
+-- After parts with these values, `now` trees are pending. Where the production closes, the trees that it appends and those that
+-- its value leaves pending were pending before, or are made there.
 abbrev pub Flow : Production → Around → (place : ℕ) → List Sym → List Value → (now : ℕ) → Type 0
 Flow p around place [] vs now =
     (byte : ℕ) (began state : State) (one : Found Value State) → close p byte around place began vs state ≡ Ok one
@@ -258,7 +238,7 @@ packs-keep place true (Some m) state new e = go state.packs e
     go None h = ap (λ s. s.candidates) (sym (ok_same (record state { packs = Some m }) new h))
     go (Some n) h = tested (nat_eq m n) h
 
--- what a substitution names is a candidate already
+-- a tree that a substitution names is a candidate already
 pub substituted-none : (around : Around) (place : ℕ) (o : Option Candidate) (state : State) (one : Found Value State)
     → substituted around place o state ≡ Ok one
     → length one.state.candidates + unlisted one.value ≤ length state.candidates
@@ -317,7 +297,7 @@ pub came : {x : Sym} {made now : ℕ} {state : State} {rest : List Value → ℕ
     → Onward x made now state rest n → Onward x made now state rest next
 came {x} {made} {now} {state} {rest} n next e on = subst (λ m. Onward x made now state rest m) (ok_same n next e) on
 
--- a part before which nothing is appended, and before which nothing is pending
+-- a part before which no tree is appended, and none is pending
 pub none-appended : {x : Sym} {made : ℕ} {state : State} {rest : List Value → ℕ → Type 0} (next : Next Value State Around)
     → length next.state.candidates ≤ length state.candidates + made → ((v : Value) → pending_around x next.context v ≡ 0)
     → ((v : Value) → rest (next.values ++ v ∷ []) 0) → Onward x made 0 state rest next
@@ -329,7 +309,7 @@ none-appended {x} {made} {state} {rest} next few none later_ = record {
 
 -- ## By rows
 
--- likewise for a row, whose value leaves this much pending
+-- likewise for a row, where `leave` says how many trees a value leaves pending
 abbrev pub RowFlow : Row → (Value → ℕ) → Around → (place : ℕ) → List Sym → List Value → (now : ℕ) → Type 0
 RowFlow row leave around place [] vs now =
     (byte : ℕ) (began state : State)
@@ -339,7 +319,7 @@ RowFlow row leave around place (x ∷ xs) vs now =
     (state : State) (next : Next Value State Around) → done (before_part row (length vs)) around place vs state ≡ Ok next
     → Onward x (nodes_before (before_part row (length vs)) vs) now state (RowFlow row leave around place xs) next
 
--- what a production leaves by its row
+-- likewise for a production, by its row
 abbrev pub By : Production → Around → (place : ℕ) → List Sym → List Value → (now : ℕ) → Type 0
 By p = RowFlow (row_of p) (leaves p)
 
@@ -371,7 +351,7 @@ of-row p is around place (x ∷ xs) vs now flow = λ state next e. (
       later = λ v. record { now = (on.later v).now; few = (on.later v).few; goes = of-row p is around place xs (next.values ++ v ∷ []) (on.later v).now (on.later v).goes };
     })
 
--- ## Rows that leave nothing pending from part to part
+-- ## Rows that leave no tree pending from part to part
 
 unfoldable pub takes_pending : Sym → Bool
 takes_pending (OfKind k) = goes_on k || is_arguments k
@@ -395,7 +375,7 @@ both-of : (a b : Bool) → not a && b ≡ true → (a ≡ false) × (b ≡ true)
 both-of false b h = (refl, h)
 both-of true b h = absurd (false≢true h)
 
--- what is appended before a part is made there
+-- the actions that append only what they make
 unfoldable pub keeps : Action → Bool
 keeps (goes nothing w) = true
 keeps (goes gain w) = false
@@ -471,7 +451,7 @@ plain-flow p around place keep closes (x ∷ xs) none vs = λ state next e. (
 
 -- ## Names before arguments
 
--- how much of it is pending after what may be arguments
+-- how many trees are pending after these arguments, which may be absent, if n are pending before them
 unfoldable pub behind_name : ℕ → Value → ℕ
 behind_name n v = cond (is_there v) 0 n + in_place v
 
@@ -487,7 +467,7 @@ spent-or-not n nothing_there = omega arith
 spent-or-not n (named t qualifiers ref) = omega arith
 spent-or-not n _ = omega arith
 
--- after a name that was made, or one that is a candidate already, what follows continues with it
+-- the part after a name continues it, whether the name was made or is a candidate already
 pub rest-step : (row : Row) (leave : Value → ℕ) (around : Around) (place k made now : ℕ) (state : State) (vs : List Value) (t : Term) (listed : Bool)
     (new : State)
     → ((a : Around) (v : Value) → pending_around (OfKind k) a v ≡ unlisted_around a) → ((v : Value) → pending (OfKind k) v ≡ unlisted v)

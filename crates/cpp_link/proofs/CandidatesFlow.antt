@@ -1,31 +1,7 @@
 -- Each production appends to the candidates what was pending or what it makes.
-use Rattle.std.proofs.Common.{◌≡◌, refl, sym, ◌∙◌, subst, arith, ℕ, ◌+◌, ◌-◌, ◌≤◌, List, [], ◌∷◌, Bool, true, false, not, ◌&&◌, cond, Result, Ok, Err}
-use Rattle.std.specs.Prelude.{slice_get}
-use Rattle.sym_core.specs.declared.refusal.Refusal.{Refusal}
-use Rattle.sym_core.specs.declared.refusal.Refusal.TheVariants.{BadReference}
-use Rattle.sym_core.specs.declared.NumberKind.TheVariants.{Decimal, Seq36}
-use Rattle.sym_core.specs.Value.{counted_value}
-use Rattle.sym_shape.specs.declared.rule.Sym.{Sym}
-use Rattle.sym_shape.specs.declared.rule.Sym.TheVariants.{Kind as OfKind, Name, Number, Byte}
-use Rattle.sym_link.specs.Reading.{Found}
-use Rattle.cpp_grammar.specs.declared.production.Production.{Production}
-use Rattle.cpp_grammar.specs.declared.production.Operation.{Operation}
-use Rattle.cpp_grammar.specs.KindNumbers.{VENDOR_ARGUMENTS, PARAMETER_AFTER_T, INTEGER, ANONYMOUS, OPERATOR, OTHER_OPERATOR, OPERATOR_AFTER_C, CONSTRUCTOR_DIGIT, COMPONENT_AFTER_D, BINDING_AFTER_D, SOURCE_OR_LOCAL, NEST, NEST_AFTER_S, AFTER_D, ITEM_AFTER_D, SOLID, SOLID_BUT_T, ARGUMENT_AFTER_T, LEVELED_PARAMETER, ANY_ARRAY, ARRAY_REST, LITERAL_TYPE, CONVERTED_SOLID, DECLTYPE_AFTER_D, UNRESOLVED_TYPE, UNRESOLVED_NAME, UNQUALIFIED, NEST_REST, NEST_REST_OR_END, NEST_REST_ALONE, NEST_TAIL, NEST_MORE_OR_END, COMPONENT, COMPONENT_AFTER_C, CONSTRUCTOR_AFTER_C, HOLDER_MARK, HELD_COMPONENT, ABBREVIATION, TYPE_AFTER_S, TYPE_IN_STD, UNNESTED_NAME, MAYBE_ARGUMENTS, MAYBE_TAGS, ARGUMENTS, ARGUMENTS_ALONE, ARGUMENTS_FIRST, BASE_ARGUMENTS, HELD_ARGUMENTS, LITERAL_SOLID, CONVERTED_AFTER_D, FIRST_MODULE, NAMED_MODULE, NAME_AFTER_MODULE, NAME_IN_MODULE, NEST_ON}
-use Rattle.cpp_grammar.specs.Grammar.{parts_of, number_of_kind}
+use Rattle.cpp_link.proofs.Basics.{◌≡◌, refl, sym, ◌∙◌, subst, arith, ℕ, ◌+◌, ◌-◌, ◌≤◌, List, [], ◌∷◌, Bool, true, false, not, ◌&&◌, cond, Result, Ok, Err, slice_get, Refusal, BadReference, Decimal, Seq36, counted_value, Sym, Kind as OfKind, Name, Number, Byte, Found, Production, Operation, VENDOR_ARGUMENTS, PARAMETER_AFTER_T, INTEGER, ANONYMOUS, OPERATOR, OTHER_OPERATOR, OPERATOR_AFTER_C, CONSTRUCTOR_DIGIT, COMPONENT_AFTER_D, BINDING_AFTER_D, SOURCE_OR_LOCAL, NEST, NEST_AFTER_S, AFTER_D, ITEM_AFTER_D, SOLID, SOLID_BUT_T, ARGUMENT_AFTER_T, LEVELED_PARAMETER, ANY_ARRAY, ARRAY_REST, LITERAL_TYPE, CONVERTED_SOLID, DECLTYPE_AFTER_D, UNRESOLVED_TYPE, UNRESOLVED_NAME, UNQUALIFIED, NEST_REST, NEST_REST_OR_END, NEST_REST_ALONE, NEST_TAIL, NEST_MORE_OR_END, COMPONENT, COMPONENT_AFTER_C, CONSTRUCTOR_AFTER_C, HOLDER_MARK, HELD_COMPONENT, ABBREVIATION, TYPE_AFTER_S, TYPE_IN_STD, UNNESTED_NAME, MAYBE_ARGUMENTS, MAYBE_TAGS, ARGUMENTS, ARGUMENTS_ALONE, ARGUMENTS_FIRST, BASE_ARGUMENTS, HELD_ARGUMENTS, LITERAL_SOLID, CONVERTED_AFTER_D, FIRST_MODULE, NAMED_MODULE, NAME_AFTER_MODULE, NAME_IN_MODULE, NEST_ON, parts_of, number_of_kind, row_of, Term, in_std, instance, parameter, appended, with_type, with_prefix, parameter_named, argument, built, bytes_in, tree_in, truth_in, number_in, Continuation, after, inside, argument_at, index_of, no_items, applied, all_given, given, made, meant, is_listing, around_part, packs_within, gained, replaced, tested, done, state_after, own_meaning, listed_value, close, one_if_there, one_if_arguments, nodes_made, nodes_before, nodes_of, nodes_at_end, behind_bind}
 use Rattle.cpp_grammar.specs.Row.{Made, unlisted, unless_there, Form, handed, finished, either, a_name, as_before, as_part, after_part, nameless, Gain, nothing, type_of, unqualified_of, itself, Action, quiet, goes, becomes, tests, Row, before_part}
-use Rattle.cpp_grammar.specs.Rows.{row_of}
-use Rattle.cpp_term.specs.Term.{Term, in_std, instance, parameter}
 use Rattle.cpp_term.specs.Values.{State, Around, prefix_tree, prefix_listed, Value, nothing_there, tree, named, tree_of, piece_of, text_of, is_listed, is_there, part}
-use Rattle.cpp_term.specs.References.{appended, with_type, with_prefix, parameter_named}
-use Rattle.cpp_term.specs.Builders.{argument, built, bytes_in, tree_in, truth_in, number_in}
-use Rattle.cpp_term.specs.Between.{Continuation, after, inside, argument_at, index_of, no_items, applied}
-use Rattle.cpp_term.specs.Meant.{all_given, given, made, meant, is_listing, around_part, packs_within, gained, replaced, tested, done, state_after}
-use Rattle.cpp_term.specs.Own.{own_meaning}
-use Rattle.cpp_term.specs.Meaning.{listed_value}
-use Rattle.cpp_term.specs.Unfolding.{close}
-use Rattle.cpp_link.specs.NodeCount.{one_if_there, one_if_arguments}
-use Rattle.cpp_link.specs.RowNodes.{nodes_made, nodes_before, nodes_of, nodes_at_end}
-use Rattle.cpp_grammar.proofs.ClosedStates.{behind_bind}
 use Rattle.cpp_link.proofs.CandidatesFew as few_
 use Rattle.cpp_link.proofs.CandidatesFew.{is_component, becomes_candidate, goes_on, is_arguments, in_place, behind_name, pending, pending_around, makes_name, may_leave, takes_name, begins_arguments, leaves, starts_with, takes_pending, take_nothing, keeps, all_keep, closes_by_row, Flow, RowFlow, By, going, appended-one, typed-one, unqualified-one, prefix-one, substituted-none, parameter-one, came, none-appended, plain-flow, of-row, there-or-not, spent-or-not, rest-step}
 
@@ -35,7 +11,8 @@ plain form gain = record { before = []; onward = quiet; form = form; gain = gain
 abbrev after_steps : List Action → Form → Row
 after_steps before form = record { before = before; onward = quiet; form = form; gain = nothing; restores_packs = false; tests_number = false }
 
--- a name is made before the second part; a name that is a candidate already, or never is one; a module before a name; the name of a parameter
+-- rows of names: a name that is made before the second part; a name that is a candidate already, or never becomes one; a module
+-- before a name; a parameter
 abbrev named_row : Made → Form → Row
 named_row m form = after_steps (quiet ∷ becomes m false true false ∷ []) form
 
@@ -48,11 +25,11 @@ module_row m = after_steps (goes nothing nameless ∷ becomes m true true false 
 abbrev parameter_row : (after_t : Bool) → Row
 parameter_row after_t = after_steps (quiet ∷ tests after_t true ∷ []) (a_name (unless_there 1))
 
--- how much a value leaves
+-- how many trees a value leaves pending
 abbrev Left : Type 0
 Left = Value → ℕ
 
--- nothing is pending before these
+-- nothing is pending before parts of this symbol
 abbrev Untaken : Sym → Type 0
 Untaken x = (around : Around) (v : Value) → pending_around x around v ≡ 0
 
@@ -62,7 +39,7 @@ AfterName k = ((w : Value) → pending (OfKind k) w ≡ in_place w) × ((around 
 
 -- ## Names
 
--- a name is made, and is pending where nothing follows
+-- a name is made, and is pending if nothing follows
 named-flow : (m : Made) (form : Form) (leave : Left) (around : Around) (place : ℕ) (x : Sym) (k : ℕ) → ((vs : List Value) → nodes_made m vs ≡ 1) → ((vs : List Value) → nodes_at_end form vs ≡ one_if_arguments (part vs 1))
     → ((v : Value) → leave v ≤ 1) → Untaken x → AfterName k → RowFlow (named_row m form) leave around place (x ∷ OfKind k ∷ []) [] 0
 unfolding few_.unlisted_around before_part done replaced after prefix_listed state_after gained nodes_before part
@@ -80,7 +57,7 @@ named-flow m form leave around place x k one ends few none follows = λ state ne
           later = λ w. record { now = behind_name 1 w; few = omega (arith, spent-or-not 1 w, follows.0 w, follows.1 (after t false around) w); goes = closes (tree t false) w };
         }))
 
--- a name that is a candidate already, or never is one, before its arguments
+-- a name that is a candidate already, or never becomes one, before its arguments
 listed-flow : (m : Made) (leave : Left) (around : Around) (place : ℕ) (x : Sym) (k : ℕ) → ((v : Value) → leave v ≡ 0) → Untaken x → AfterName k
     → RowFlow (listed_row m) leave around place (x ∷ OfKind k ∷ []) [] 0
 unfolding few_.unlisted_around before_part done replaced after prefix_listed state_after gained nodes_before nodes_at_end part
@@ -121,7 +98,7 @@ whole-flow m leave around place x k one few none follows = λ state next e. came
           later = λ w. record { now = 1; few = omega (arith, follows.1 (after t true around) w, no_more (is_there w)); goes = closes (tree t true) w };
         }))
 
--- a name after a module, which is no candidate yet
+-- a name after a module; the name may be pending
 module-name-flow : (m : Made) (leave : Left) (around : Around) (place : ℕ) (x : Sym) → ((v : Value) → leave v ≤ 1) → Untaken x → RowFlow (module_row m) leave around place (x ∷ OfKind NAME_AFTER_MODULE ∷ []) [] 0
 unfolding pending pending_around goes_on is_arguments is_component becomes_candidate before_part done around_part packs_within replaced state_after gained meant nodes_before nodes_at_end part
 module-name-flow m leave around place x few none = λ state next e. came (going [] (inside around) state) next e (none-appended (going [] (inside around) state) (omega arith) (λ v. none (inside around) v) begun)
@@ -135,7 +112,7 @@ module-name-flow m leave around place x few none = λ state next e. came (going 
           later = λ w. record { now = 1; few = omega arith; goes = λ byte began last. omega (arith, few w) };
         }))
 
--- a name is a candidate after it, or its arguments are one, or it is one already
+-- a listed name without arguments leaves no tree pending; any other name leaves those that were pending or are made
 spent-behind : (a : Bool) (w : Value) → cond (a && not (is_there w)) 0 1 ≤ one_if_arguments w + behind_name (cond a 0 1) w
 unfolding is_there one_if_arguments one_if_there behind_name in_place
 spent-behind true nothing_there = omega arith
@@ -164,7 +141,7 @@ parameter-flow after_t around place = λ state next e. came (going [] around sta
           later = λ w. record { now = behind_name 0 w; few = spent-or-not 0 w; goes = closes (tree t true) w };
         }))
 
--- a parameter in an expression is made, and is no candidate: what is pending around it may become one before its arguments
+-- a parameter in an expression is made, and is no candidate; a name that is pending before it may become one before its arguments
 expression-parameter : (around : Around) (place : ℕ) → By Production.ParameterExpression around place (Number Decimal ∷ OfKind ARGUMENTS_ALONE ∷ []) [] 0
 unfolding pending pending_around few_.unlisted_around goes_on is_arguments is_component becomes_candidate row_of before_part done tested replaced state_after gained nodes_before nodes_at_end leaves makes_name may_leave part
 expression-parameter around place = λ state next e. came (going [] around state) next e (none-appended (going [] around state) (omega arith) (λ v. refl) begun)
@@ -188,7 +165,7 @@ expression-parameter around place = λ state next e. came (going [] around state
           later = λ w. record { now = 0; few = omega (arith, at_most_one (is_there w) (prefix_listed around.prefix)); goes = closes (tree t true) w 0 };
         }))
 
--- an abbreviation or what a reference names, or a name in std, before its arguments
+-- a type that begins with `S` (an abbreviation, what a substitution names, or a name in std), before its arguments
 with-s-type : (around : Around) (place : ℕ) → By Production.TypeWithS around place (OfKind TYPE_AFTER_S ∷ OfKind ARGUMENTS_ALONE ∷ []) [] 0
 unfolding pending pending_around few_.unlisted few_.unlisted_around goes_on is_arguments is_component becomes_candidate row_of before_part done around_part packs_within gained after prefix_listed is_listing is_listed meant state_after nodes_before nodes_at_end leaves makes_name may_leave part
 with-s-type around place = λ state next e. came (going [] around state) next e (record {
@@ -207,9 +184,9 @@ with-s-type around place = λ state next e. came (going [] around state) next e 
       later = λ w. record { now = behind_name (few_.unlisted v) w; few = spent-or-not (few_.unlisted v) w; goes = closes v w };
     })
 
--- ## What is forwarded
+-- ## Forwarded values
 
--- where the value of the only part is the whole's
+-- the production's value is that of its only part
 handed-flow : (leave : Left) (around : Around) (place : ℕ) (x : Sym) → Untaken x → ((v : Value) → leave v ≤ pending x v) → RowFlow (plain (handed 0) nothing) leave around place (x ∷ []) [] 0
 unfolding before_part done state_after gained meant nodes_before nodes_at_end part
 handed-flow leave around place x none few = λ state next e. came (going [] around state) next e (record {
@@ -218,7 +195,7 @@ handed-flow leave around place x none few = λ state next e. came (going [] arou
   later = λ v. record { now = pending x v; few = omega (arith, none around v); goes = λ byte began state. omega (arith, few v) };
 })
 
--- where that of the second is, after a number
+-- the production's value is that of its second part, after a number
 second-flow : (leave : Left) (around : Around) (place : ℕ) (x : Sym) → Untaken x → ((v : Value) → leave v ≤ pending x v) → RowFlow (plain (handed 1) nothing) leave around place (Number Decimal ∷ x ∷ []) [] 0
 unfolding before_part done state_after gained meant nodes_before nodes_at_end part pending pending_around
 second-flow leave around place x none few = λ state next e. came (going [] around state) next e (none-appended (going [] around state) (omega arith) (λ v. refl) begun)
@@ -230,7 +207,7 @@ second-flow leave around place x none few = λ state next e. came (going [] arou
       later = λ w. record { now = pending x w; few = omega (arith, none around w); goes = λ byte began state. omega (arith, few w) };
     })
 
--- where it becomes a candidate
+-- the forwarded value becomes a candidate
 typed-flow : (leave : Left) (around : Around) (place : ℕ) (x : Sym) → Untaken x → ((v : Value) → pending x v ≡ few_.unlisted v) → ((v : Value) → leave (listed_value v) ≡ 0)
     → RowFlow (plain (finished 0) (type_of 0)) leave around place (x ∷ []) [] 0
 unfolding before_part done state_after gained meant nodes_before nodes_at_end part
@@ -240,7 +217,7 @@ typed-flow leave around place x none is left = λ state next e. came (going [] a
   later = λ v. record { now = few_.unlisted v; few = omega (arith, none around v, is v); goes = λ byte began state. omega (arith, left v, typed-one around v state) };
 })
 
--- unless it is a function type
+-- likewise, unless the value is a function type
 unqualified-flow : (leave : Left) (around : Around) (place : ℕ) (x : Sym) → Untaken x → ((v : Value) → pending x v ≡ few_.unlisted v) → ((v : Value) → leave (listed_value v) ≡ 0)
     → RowFlow (plain (finished 0) (unqualified_of 0)) leave around place (x ∷ []) [] 0
 unfolding before_part done state_after gained meant nodes_before nodes_at_end part
@@ -250,12 +227,12 @@ unqualified-flow leave around place x none is left = λ state next e. came (goin
   later = λ v. record { now = few_.unlisted v; few = omega (arith, none around v, is v); goes = λ byte began state. omega (arith, left v, unqualified-one around v state) };
 })
 
--- where the type that is made becomes one
+-- the type that is made becomes a candidate
 own-type : (form : Form) (leave : Left) (around : Around) (place : ℕ) (vs : List Value) → ((byte : ℕ) → leave (meant form byte around vs) ≡ 0) → ((us : List Value) → nodes_at_end form us ≡ 1) → RowFlow (plain form itself) leave around place [] vs 0
 unfolding state_after gained
 own-type form leave around place vs left one = λ byte began state. omega (arith, left byte, one vs, appended-one around (tree_of (meant form byte around vs)) state)
 
--- where a type becomes one before what refers to it
+-- a type becomes a candidate before the type that refers to it
 of-type-flow : (form : Form) (leave : Left) (around : Around) (place : ℕ) (x y : Sym) → Untaken x → Untaken y → ((v : Value) → pending x v ≡ few_.unlisted v)
     → ((byte : ℕ) (vs : List Value) → leave (meant form byte around vs) ≤ nodes_at_end form vs)
     → RowFlow (after_steps (quiet ∷ goes (type_of 0) as_before ∷ []) form) leave around place (x ∷ y ∷ []) [] 0
@@ -276,7 +253,7 @@ of-type-flow form leave around place x y none free is left = λ state next e. ca
 
 -- ## Nested names
 
--- a piece is added to the name so far, and what follows continues with it
+-- a piece is added to the name so far, and what follows continues the longer name
 nest-flow : (m : Made) (leave : Left) (around : Around) (place : ℕ) (x : Sym) → ((v : Value) → leave v ≡ few_.unlisted v) → ((vs : List Value) → nodes_made m vs ≡ 1) → Untaken x
     → RowFlow (named_row m (handed 1)) leave around place (x ∷ OfKind NEST_REST ∷ []) [] 0
 unfolding pending pending_around goes_on is_arguments is_component becomes_candidate before_part done replaced state_after gained meant nodes_before nodes_at_end part
@@ -354,7 +331,7 @@ nest-module around place = λ state next e. came (going [] around state) next e 
         (rest-step (row_of Production.NestModule) (leaves Production.NestModule) around place NEST_ON 0 1 state (v ∷ []) (tree_of v) false state (λ a w. refl) (λ w. refl) (omega arith)
         (λ w. λ byte began last. omega arith))
 
--- the reading of the ABI's grammar has no name with its M
+-- the ABI's grammar has no name with an `M`
 holder-component : (around : Around) (place : ℕ) → By Production.Holder around place (OfKind HOLDER_MARK ∷ OfKind HELD_COMPONENT ∷ []) [] 0
 unfolding pending_around goes_on is_arguments row_of before_part done nodes_before
 holder-component around place = λ state next e. came (going [] around state) next e (none-appended (going [] around state) (omega arith) (λ v. refl) held)
@@ -440,7 +417,7 @@ base-arguments around place = λ state next e. came (going [] (inside around) (w
     ended-by : (v : Value) → By Production.BaseArguments around place (Byte 69 ∷ OfKind HELD_ARGUMENTS ∷ []) (v ∷ []) 0
     ended-by v = λ state next e. came (going (v ∷ []) around state) next e (none-appended (going (v ∷ []) around state) (omega arith) (λ b. refl) (λ b. instanced v b))
 
--- after the name of a base class its arguments continue with it
+-- the arguments after the name of a base class continue that name
 base-flow : (leave : Left) (around : Around) (place : ℕ) (x : Sym) → Untaken x → ((v : Value) → pending x v ≡ few_.unlisted v) → ((v : Value) → leave v ≡ 0)
     → RowFlow (after_steps (quiet ∷ goes nothing (after_part 0 (as_part 0)) ∷ []) (either 1 0)) leave around place (x ∷ OfKind BASE_ARGUMENTS ∷ []) [] 0
 unfolding pending pending_around few_.unlisted few_.unlisted_around goes_on is_arguments is_component becomes_candidate before_part done around_part packs_within is_listing is_listed after prefix_listed state_after gained nodes_before nodes_at_end part
@@ -458,7 +435,7 @@ base-flow leave around place x none one left = λ state next e. came (going [] a
   };
 })
 
--- a type is the name so far, as it is, and what follows continues with it
+-- a type becomes the name so far unchanged, and what follows continues it
 type-name-flow : (leave : Left) (around : Around) (place : ℕ) (x : Sym) → Untaken x → ((v : Value) → pending x v ≡ few_.unlisted v) → ((v : Value) → leave v ≡ few_.unlisted v)
     → RowFlow (after_steps (quiet ∷ goes nothing (after_part 0 (as_part 0)) ∷ []) (handed 1)) leave around place (x ∷ OfKind NEST_REST_ALONE ∷ []) [] 0
 unfolding pending pending_around few_.unlisted few_.unlisted_around goes_on is_arguments is_component becomes_candidate before_part done around_part packs_within is_listing is_listed after prefix_listed state_after gained meant nodes_before nodes_at_end part
@@ -485,7 +462,7 @@ substitution-closes around place vs = λ byte began state one e. omega (
   substituted-none around (place - 1) (slice_get state.candidates (counted_value Seq36 (text_of (part vs 0)))) state one e,
 )
 
--- the reading of the ABI's grammar has no inherited constructor
+-- the ABI's grammar has no inherited constructor
 inheriting-closes : (around : Around) (place : ℕ) (vs : List Value) → Flow Production.Inheriting around place [] vs 0
 unfolding close
 inheriting-closes around place vs = λ byte began state one e. absurd (let clash : ◌≡◌ {A = Result (Found Value State) Refusal} (Err (BadReference place)) (Ok one) = e in cc)
@@ -666,6 +643,6 @@ flows Production.VolatileLiteral around place = own_type Production.VolatileLite
 flows Production.Tag around place = made_name Production.Tag refl around place _ _ Name MAYBE_ARGUMENTS refl (λ vs. refl) (λ vs. refl) (λ a v. refl) maybe-arguments
 flows Production.Friend around place = made_name Production.Friend refl around place _ _ (OfKind UNQUALIFIED) MAYBE_ARGUMENTS refl (λ vs. refl) (λ vs. refl) (λ a v. refl) maybe-arguments
 flows Production.NestTag around place = nested Production.NestTag refl around place _ Name refl (λ v. refl) (λ vs. refl) (λ a v. refl)
--- no other becomes a candidate before its end
+-- no other production appends a candidate before its end
 flows (Production.Operation Operation.ExpressionC) around place = simple (Production.Operation Operation.ExpressionC) refl around place (parts_of (Production.Operation Operation.ExpressionC)) refl refl (λ vs. λ byte began state. omega arith)
 flows p around place = simple p refl around place (parts_of p) refl refl (λ vs. λ byte began state. omega arith)

@@ -1,38 +1,9 @@
 -- A symbol has fewer candidates than nodes.
-use Rattle.std.proofs.Common.{◌≡◌, refl, ap, sym, ◌∙◌, subst, arith, ℕ, ◌+◌, ◌-◌, ◌<◌, ◌≤◌, List, [], ◌∷◌, ◌++◌, length, Bool, true, false, not, ◌&&◌, ◌||◌, cond, nat_lt, ◌^◌, Option, Some, None, Result, Ok, Err, slice_get, lit≤}
-use Rattle.std.proofs.lemmas.Bool.{false≢true, and_parts}
-use Rattle.sym_core.specs.declared.refusal.Refusal.{Refusal}
-use Rattle.sym_core.specs.declared.refusal.Refusal.TheVariants.{BadValue}
-use Rattle.sym_shape.specs.declared.rule.Rule.{Rule}
-use Rattle.sym_shape.specs.declared.rule.Sym.{Sym}
-use Rattle.sym_shape.specs.declared.rule.Sym.TheVariants.{Kind as OfKind, Name, Number, Byte}
-use Rattle.sym_shape.specs.Table.{Token, symbols_of}
-use Rattle.sym_shape.specs.Law.{IsSymbol, AreSymbols}
-use Rattle.sym_shape.specs.Tree.{Tree, Forest, branch, empty, token, fixed, nothing, grown, spell, IsTree, AreTrees}
-use Rattle.sym_link.specs.Reading.{Found, Open, Next, Reading, ◌>>=◌}
-use Rattle.sym_link.specs.Unfold.{found, alone, standing, unfold_tree, unfold_forest}
-use Rattle.sym_link.specs.Tally.{Tally, tally, tallied}
-use Rattle.sym_link.proofs.Tally.{plain, tree_untallied}
+use Rattle.cpp_link.proofs.Basics.{◌≡◌, refl, ap, sym, ◌∙◌, subst, arith, ℕ, ◌+◌, ◌-◌, ◌<◌, ◌≤◌, List, [], ◌∷◌, ◌++◌, length, Bool, true, false, not, ◌&&◌, ◌||◌, cond, nat_lt, ◌^◌, Option, Some, None, Result, Ok, Err, slice_get, lit≤, false≢true, and_parts, Refusal, BadValue, Rule, Sym, Kind as OfKind, Name, Number, Byte, Token, symbols_of, IsSymbol, AreSymbols, Tree, Forest, branch, empty, token, fixed, nothing, grown, spell, IsTree, AreTrees, Found, Open, Next, Reading, ◌>>=◌, found, alone, standing, unfold_tree, unfold_forest, Tally, tally, tallied, plain, tree_untallied, Production, SYMBOL, Alternative, is_in, pick, kinds, may_be_empty, number_of_kind, parts_of, wide_alternatives, wide_choose, wide, rule_of, rule_taken, wide_sound, local_number, last_token, production_at, byte_of, kinds_numbered, number_at, wide_rule_at, wide_empty_at, is_wide_kind, ok_same, behind_bind, at_number, its_symbols, same_rule, known, State, Around, Value, nothing_there, named, text, is_listed, is_there, between, meaning, number_tested, opening, behind, close, cpp, first_around, first_state, makes_before, makes_at_end, cpp_makes, counted_nodes, nodes_of_shape}
 use Rattle.cpp_grammar.specs.declared.kind.Kind.{Kind}
-use Rattle.cpp_grammar.specs.declared.production.Production.{Production}
-use Rattle.cpp_grammar.specs.KindNumbers.{SYMBOL}
-use Rattle.cpp_grammar.specs.Grammar.{Alternative, is_in, pick, kinds, may_be_empty, number_of_kind, parts_of}
-use Rattle.cpp_grammar.specs.Wide.{wide_alternatives, wide_choose}
-use Rattle.cpp_grammar.specs.Table.{wide, rule_of, rule_taken}
-use Rattle.cpp_grammar.specs.TableLaws.{wide_sound}
-use Rattle.cpp_grammar.specs.Values.{local_number}
-use Rattle.cpp_grammar.specs.Unfolding.{last_token, production_at, byte_of}
-use Rattle.cpp_grammar.proofs.Choosing.{kinds_numbered, number_at, wide_rule_at, wide_empty_at, is_wide_kind}
-use Rattle.cpp_grammar.proofs.ClosedStates.{ok_same, behind_bind}
-use Rattle.cpp_grammar.proofs.ClosedTrees.{at_number, its_symbols, same_rule, known}
 use Rattle.cpp_grammar.specs.Values as leaf_
 use Rattle.cpp_grammar.specs.Unfolding as unfolding_
 use Rattle.cpp_term.proofs.TreesNoted.{read_with_arguments}
-use Rattle.cpp_term.specs.Values.{State, Around, Value, nothing_there, named, text, is_listed, is_there}
-use Rattle.cpp_term.specs.Between.{between}
-use Rattle.cpp_term.specs.Meaning.{meaning}
-use Rattle.cpp_term.specs.Unfolding.{number_tested, opening, behind, close, cpp, first_around, first_state}
-use Rattle.cpp_link.specs.NodeCount.{makes_before, makes_at_end, cpp_makes, counted_nodes, nodes_of_shape}
 use Rattle.cpp_link.proofs.CandidatesFew.{unlisted, unlisted_around, is_component, becomes_candidate, goes_on, is_arguments, in_place, pending, pending_around, makes_name, may_leave, takes_name, begins_arguments, leaves, starts_with, Flow}
 use Rattle.cpp_link.proofs.CandidatesFlow.{flows}
 
@@ -72,7 +43,7 @@ place-small (named t qualifiers ref) = omega arith
 place-small nothing_there = omega arith
 place-small _ = omega arith
 
--- what is pending after a kind is left by its production
+-- a production leaves at least as many trees pending as are pending after its kind
 pending-left : (k : ℕ) (p : Production) (v : Value) → fits k p ≡ true → (begins_arguments p ≡ true → in_place v ≡ 0) → pending (OfKind k) v ≤ leaves p v
 unfolding fits pending leaves unlisted
 pending-left k p v h alone_ =
@@ -101,7 +72,7 @@ pending-left k p v h alone_ =
     go false false true false l true few one plain e f h = omega (arith, plain refl)
     go false false true false l false few one plain e f h = absurd (false≢true h)
 
--- what a production begins with is pending before its kind
+-- a production begins with at most as many pending trees as are pending before its kind
 pending-first : (k : ℕ) (p : Production) (around : Around) (v : Value) → fits k p ≡ true → (begins_arguments p ≡ true → is_there v ≡ true)
     → starts_with p around ≤ pending_around (OfKind k) around v
 unfolding fits starts_with pending_around
@@ -134,7 +105,7 @@ arguments-there Production.Arguments byte around place began vs state one e h =
 arguments-there Production.Mark byte around place began vs state one e h = absurd (false≢true h)
 arguments-there _ byte around place began vs state one e h = absurd (false≢true h)
 
--- and no name
+-- arguments that are read aren't a tagged name
 arguments-alone : (p : Production) (byte : ℕ) (around : Around) (place : ℕ) (began : State) (vs : List Value) (state : State)
     (one : Found Value State)
     → close p byte around place began vs state ≡ Ok one → begins_arguments p ≡ true → in_place one.value ≡ 0
@@ -170,7 +141,7 @@ rule-taken k byte rule lt takes = go (slice_get kinds k) refl
     go None none = absurd (is_wide_kind k lt none)
     go (Some kind) at = chosen kind at (wide_choose kind byte) refl (sym (wide_rule_at k kind byte at) ∙ takes)
 
--- nothing is pending after a kind that is empty
+-- a kind that may be empty leaves no tree pending
 never-empty : (kind : Kind) → not (may_be_empty kind) || not (is_component (number_of_kind kind) || becomes_candidate
     (number_of_kind kind)) ≡ true
 unfolding may_be_empty number_of_kind is_component becomes_candidate
@@ -203,7 +174,7 @@ empty-leaves k lt may = go (slice_get kinds k) refl
 abbrev counted : Reading Value (Tally State) Around
 counted = tallied cpp cpp_makes
 
--- what is appended, and what is pending, was pending or is made
+-- every tree that is appended, or pending at the end, was pending before or is made
 record Few (x : Sym) (around : Around) (old : State) (m : ℕ) (r : Found (List Value) (Tally State)) : Type 0 where
   value : Value
   is : r.value ≡ value ∷ []
@@ -218,7 +189,7 @@ abbrev AllFew : Forest → Type 0
 AllFew nothing = Unit {0}
 AllFew (grown t f) = TreeFew t × AllFew f
 
--- after all parts of a production
+-- likewise after all parts of a production
 record Ends (p : Production) (around : Around) (place : ℕ) (state : State) (m now : ℕ) (r : Found (List Value) (Tally State)) : Type 0 where
   left : ℕ
   closes : Flow p around place [] r.value left
@@ -337,7 +308,7 @@ branch-few rule taken parts all Name around at old m r lt is e = absurd is
 branch-few rule taken parts all (Number kind) around at old m r lt is e = absurd is
 branch-few rule taken parts all (Byte b) around at old m r lt is e = absurd is
 
--- a value that appends nothing
+-- a value that is read without appending a candidate
 leaf-few : (x : Sym) (around : Around) (old : State) (m : ℕ) (v : Value) (r : Found (List Value) (Tally State)) → pending x v ≡ 0
     → ◌≡◌ {A = Result (Found (List Value) (Tally State)) Refusal} (Ok (found (v ∷ []) (tally old m))) (Ok r) → Few x around old m r
 leaf-few x around old m v r none e =

@@ -1,23 +1,10 @@
 -- What a lambda denotes, whether it declares parameters or not.
-use Rattle.std.proofs.Common.{◌≡◌, refl, ap, subst, arith, ℕ, ◌+◌, List, true, false, Option}
-use Rattle.std.proofs.lemmas.Bool.{true≢false}
-use Rattle.std.specs.Prelude.{◌&&◌, if◌then◌else◌}
+use Rattle.cpp_link.proofs.Basics.{◌≡◌, refl, ap, subst, arith, ℕ, ◌+◌, List, true, false, Option, true≢false, ◌&&◌, if◌then◌else◌, Term, Value, tree_of, is_void, is_nil, parameters, signature_with, reargued, is_declaring, is_again, Node, Thunk, Part, one_if_declared, value_of}
 use Rattle.cpp_term.specs.Term as term
-use Rattle.cpp_term.specs.Term.{Term}
 use Rattle.cpp_term.specs.Values as values
-use Rattle.cpp_term.specs.Values.{Value, tree_of}
-use Rattle.cpp_term.specs.Meaning.{is_void, is_nil, parameters, signature_with}
-use Rattle.cpp_term.specs.Reargued.{reargued}
-use Rattle.cpp_term.specs.Rescoping.{is_declaring}
 use Rattle.cpp_tree.specs.Nodes as nodes
-use Rattle.cpp_tree.specs.Nodes.{is_again}
-use Rattle.cpp_tree.specs.declared.node.Node.{Node}
-use Rattle.cpp_tree.specs.declared.node.Thunk.{Thunk}
-use Rattle.cpp_link.specs.declared.part.Part.{Part}
-use Rattle.cpp_link.specs.NodeCount.{one_if_declared}
-use Rattle.cpp_link.specs.Parts.{value_of}
 
--- ## It declares some
+-- ## A lambda that declares parameters
 
 pub declaring_means : (first : Value) (key : ℕ) (t heads rest items : Term) (given number : ℕ) → first ≡ values.pair key t heads → rest ≡ items → given ≡ number
     → values.piece (term.lambda (term.declaring heads (parameters (term.list t rest))) given) ≡ values.piece (term.lambda (signature_with first (parameters (term.list (tree_of first) items))) number)
@@ -29,7 +16,7 @@ pub declaring_makes : (first : Value) (key : ℕ) (t heads rest items : Term) �
 unfolding tree_of one_if_declared
 declaring_makes first key t heads rest items pair same = rw (pair, same) refl
 
--- ## It declares none
+-- ## A lambda that declares no parameters
 
 signature_alone : (s : List ℕ) (ts : List Term) (p : Part) (t : Term) → ((letter left right : ℕ) → p ≡ Part.Pair letter left right → ⊥) → t ≡ signature_with (value_of s ts p) t
 unfolding signature_with value_of
@@ -54,7 +41,7 @@ pub undeclared_makes : (s : List ℕ) (ts : List Term) (p : Part) (first : Value
 undeclared_makes s ts p first t rest items other is same others =
     omega (arith, none_declared s ts p other, ap one_if_declared is, ap {B = ℕ} (λ u. if is_void u && is_nil rest then 0 else 1) same, ap {B = ℕ} (λ u. if is_void (tree_of first) && is_nil u then 0 else 1) others)
 
--- ## A signature that declares some
+-- ## A signature that declares parameters
 
 pub signature_declares : (s : List ℕ) (us : List Thunk) (ts : List Term) (given : Option Term) (node : Node) (heads types : ℕ) → node ≡ Node.Declaring heads types → is_declaring (reargued given (nodes.tree_of s us ts node)) ≡ true
 unfolding is_declaring nodes.tree_of reargued

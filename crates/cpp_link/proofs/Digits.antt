@@ -1,7 +1,5 @@
 -- Bytes of the symbol, and digits without leading zeros.
-use Rattle.std.proofs.Common.{◌≡◌, refl, sym, ◌∙◌, ap, arith, ℕ, zero, suc, ◌+◌, ◌-◌, ◌<◌, ◌≤◌, List, [], ◌∷◌, length, take, drop, get_or, true, false}
-use Rattle.std.specs.Prelude.{nat_eq, slice_range}
-use Rattle.cpp_grammar.specs.Values.{normal, is_zero}
+use Rattle.cpp_link.proofs.Basics.{◌≡◌, refl, sym, ◌∙◌, ap, arith, ℕ, zero, suc, ◌+◌, ◌-◌, ◌<◌, ◌≤◌, List, [], ◌∷◌, length, take, drop, get_or, true, false, nat_eq, slice_range, normal, is_zero}
 
 taken : (s : List ℕ) (f n : ℕ) → f < length s → take (suc n) (drop f s) ≡ get_or s f 0 ∷ take n (drop (suc f) s)
 taken [] f n less = absurd (omega (arith, less))
@@ -41,14 +39,14 @@ normal_none : normal [] ≡ []
 unfolding normal
 normal_none = refl
 
--- a zero before other digits is passed
+-- a zero before other digits is skipped
 pub passes_zero : (s : List ℕ) (f t : ℕ) → 1 < t - f → t ≤ length s → nat_eq (get_or s f 0) 48 ≡ true → normal (slice_range s f t) ≡ normal (slice_range s (f + 1) t)
 passes_zero s f t more within zero_is =
     let one = first_byte s f t (omega (arith, more)) within in
     let two = first_byte s (f + 1) t (omega (arith, more)) within in
     ap normal (one ∙ ap (λ xs. get_or s f 0 ∷ xs) two) ∙ normal_zero (get_or s f 0) (get_or s (f + 1) 0) (slice_range s (f + 1 + 1) t) zero_is ∙ ap normal (sym two)
 
--- other digits stay
+-- digits that don't begin with a zero stay
 pub stays_digits : (s : List ℕ) (f t : ℕ) → 0 < t - f → t ≤ length s → nat_eq (get_or s f 0) 48 ≡ false → slice_range s f t ≡ normal (slice_range s f t)
 stays_digits s f t more within other =
     let one = first_byte s f t (omega (arith, more)) within in
@@ -59,7 +57,7 @@ short s f t zero is few within = let none = no_bytes s f t is in none ∙ sym no
 short s f t (suc zero) is few within = let one = lone_byte s f t is within in one ∙ sym (normal_lone (get_or s f 0)) ∙ ap normal (sym one)
 short s f t (suc (suc n)) is few within = absurd (omega (arith, few))
 
--- one digit at most stays
+-- a text of at most one digit stays
 pub stays_short : (s : List ℕ) (f t : ℕ) → t - f ≤ 1 → t ≤ length s → slice_range s f t ≡ normal (slice_range s f t)
 stays_short s f t few within = short s f t (t - f) refl few within
 

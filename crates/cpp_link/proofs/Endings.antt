@@ -1,41 +1,10 @@
 -- The number at the end of a lambda or an unnamed type.
-use Rattle.std.proofs.Common.{◌≡◌, refl, sym, ◌∙◌, ap, subst, arith, ℕ, zero, suc, ◌+◌, ◌-◌, ◌^◌, ◌<◌, ◌≤◌, List, [], ◌∷◌, ◌++◌, length, take, drop, get_or, Bool, true, false, Result, Ok, Err, append_assoc, length-append}
-use Rattle.std.specs.Prelude.{nat_eq, nat_lt, slice_range, if◌then◌else◌}
-use Rattle.std.proofs.lemmas.Bool.{true≢false, false≢true, eqb-true}
-use Rattle.std.proofs.lemmas.List.{drop-drop, get_or-drop, length-drop}
-use Rattle.std.proofs.Math.Seq.{drop-append_seam, take-append_seam, get_or-append_seam}
-use Rattle.sym_core.specs.declared.refusal.Refusal.{Refusal}
-use Rattle.sym_core.specs.declared.refusal.Refusal.TheVariants.{BadValue}
-use Rattle.sym_shape.specs.declared.rule.Row.{Row}
-use Rattle.sym_shape.specs.declared.rule.Rule.{Rule}
-use Rattle.sym_shape.specs.declared.rule.Sym.{Sym}
-use Rattle.sym_shape.specs.declared.rule.Sym.TheVariants.{Kind, Name, Number, Byte}
-use Rattle.sym_shape.specs.Table.{Table, Token, symbols_of}
-use Rattle.sym_shape.specs.Tree.{Tree, Forest, branch, empty, token, fixed, nothing, grown, spell, spell_all, IsTree, AreTrees, row_count, row_count_all, tree_count, rows_of, rows_of_all}
+use Rattle.cpp_link.proofs.Basics.{◌≡◌, refl, sym, ◌∙◌, ap, subst, arith, ℕ, zero, suc, ◌+◌, ◌-◌, ◌^◌, ◌<◌, ◌≤◌, List, [], ◌∷◌, ◌++◌, length, take, drop, get_or, Bool, true, false, Result, Ok, Err, append_assoc, length-append, nat_eq, nat_lt, slice_range, if◌then◌else◌, true≢false, false≢true, eqb-true, drop-drop, get_or-drop, length-drop, drop-append_seam, take-append_seam, get_or-append_seam, Refusal, BadValue, Row, Rule, Sym, Kind, Name, Number, Byte, Table, Token, symbols_of, Tree, Forest, branch, empty, token, fixed, nothing, grown, spell, spell_all, IsTree, AreTrees, row_count, row_count_all, tree_count, rows_of, rows_of_all, Open, standing, IsRuleRow, Production, Operation, parts_of, wide, last_token, production_at, local_number, at_number, its_symbols, taken_rule, number_tested, opening, cpp, State, Around, Surroundings, Linked, Term, packs_of, around_of, IsKeptThere, is_numbered, IsRange, link_begin, Surrounds, IsKept, Holds}
 use Rattle.sym_shape.proofs.Forests.{length-rows_of_all}
-use Rattle.sym_link.specs.Reading.{Open}
-use Rattle.sym_link.specs.Unfold.{standing}
-use Rattle.sym_link.specs.Linking.{IsRuleRow}
-use Rattle.cpp_grammar.specs.declared.production.Production.{Production}
-use Rattle.cpp_grammar.specs.declared.production.Operation.{Operation}
-use Rattle.cpp_grammar.specs.Grammar.{parts_of}
-use Rattle.cpp_grammar.specs.Table.{wide}
-use Rattle.cpp_grammar.specs.Unfolding.{last_token, production_at}
-use Rattle.cpp_grammar.specs.Values.{local_number}
-use Rattle.cpp_grammar.proofs.ClosedTrees.{at_number, its_symbols, taken_rule}
-use Rattle.cpp_term.specs.Unfolding.{number_tested, opening, cpp}
-use Rattle.cpp_term.specs.Values.{State, Around}
-use Rattle.cpp_references.specs.declared.around.Surroundings.{Surroundings}
-use Rattle.cpp_link.specs.declared.linked.Linked.{Linked}
-use Rattle.cpp_term.specs.Term.{Term}
-use Rattle.cpp_link.specs.Parts.{packs_of, around_of, IsKeptThere}
-use Rattle.cpp_link.specs.Numbered.{is_numbered, IsRange}
-use Rattle.cpp_link.specs.LinkReading.{link_begin}
-use Rattle.cpp_link.specs.View.{Surrounds, IsKept, Holds}
 
 -- ## Parts that end in a token
 
--- the last of the rows
+-- the last of these rows
 record LastRow (rows : List Row) (from to : ℕ) : Type 0 where
   pub others : List Row
   pub last : Row
@@ -123,7 +92,7 @@ ends_with_number Production.Unnamed is = refl
 ends_with_number (Production.Operation Operation.ExpressionC) is = absurd (false≢true is)
 ends_with_number _ is = absurd (false≢true is)
 
--- the last row of the rule's rows has the digits
+-- this row, the last one of a rule, has these digits
 record HasDigits (s : List ℕ) (row : Row) (digits : List ℕ) : Type 0 where
   pub range : IsRange s row
   pub is : slice_range s row.from row.to ≡ digits
@@ -194,7 +163,7 @@ pub none_before : (n : ℕ) → (1 ≤ n → ⊥) → n ≡ 0
 none_before zero none = refl
 none_before (suc n) none = absurd (none (omega arith))
 
--- at the first place nothing is tested
+-- a rule that begins at place 0 begins without a test
 pub first_begins : (o : Open State Around) (parts : Forest) → o.place ≡ 0 → link_begin o parts ≡ Ok o.before
 unfolding link_begin
 first_begins o parts first = ap (λ n. if nat_eq n 0 then Ok o.before else cpp.begin o parts) first

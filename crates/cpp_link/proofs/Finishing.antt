@@ -1,40 +1,12 @@
 -- A rule closes as the reading says.
 use Rattle.std.proofs.Common.{◌≡◌, refl, sym, ◌∙◌, ap, subst, arith, ℕ, ◌+◌, ◌-◌, ◌<◌, ◌≤◌, ◌⊎◌, inl, inr, drop, take, length-drop, List, [], ◌∷◌, ◌++◌, length, Result, Ok, Err}
-use Rattle.std.proofs.lemmas.Result.{err_from_is_err_and}
-use Rattle.std.specs.Prelude.{slice_index, Vec, vec_capacity, IfErr, IsErrAnd, OnOk, OnErr}
-use Rattle.std.specs.Global.{Global}
-use Rattle.sym_core.specs.declared.refusal.Refusal.{Refusal}
-use Rattle.sym_core.specs.declared.refusal.Refusal.TheVariants.{Memory}
-use Rattle.sym_link.proofs.Lists.{rest_all}
-use Rattle.sym_link.specs.declared.language.Frame.{Frame}
-use Rattle.sym_link.specs.Reading.{Open, Found, Reading}
-use Rattle.sym_link.specs.Unfold.{found}
-use Rattle.sym_link.specs.Driving.{Fails}
-use Rattle.sym_link.specs.Linking.{View, AddsFew, owed_behind}
+use Rattle.cpp_link.proofs.Basics.{err_from_is_err_and, slice_index, Vec, vec_capacity, IfErr, IsErrAnd, OnOk, OnErr, Global, Refusal, Memory, rest_all, Frame, Open, Found, Reading, found, Fails, View, AddsFew, owed_behind, IsAt, ClosesAll, Production, wide, production_at, State, Value, Around, both, Linked, Surroundings, Part, owes, closes_of, closes, ends_of, ends_closes, Finishes, MakesPart, link_close, state_of, trees_in, value_in, values_in, packs_of, around_of, IsThere, LacksRoom, IsWhole, cpp_view}
 use Rattle.sym_link.specs.Threads as open_
-use Rattle.sym_link.specs.Threads.{IsAt, ClosesAll}
-use Rattle.cpp_grammar.specs.declared.production.Production.{Production}
-use Rattle.cpp_grammar.specs.Table.{wide}
-use Rattle.cpp_grammar.specs.Unfolding.{production_at}
-use Rattle.cpp_term.specs.Values.{State, Value, Around}
-use Rattle.cpp_term.proofs.Notes.{both}
-use Rattle.cpp_link.specs.declared.linked.Linked.{Linked}
-use Rattle.cpp_references.specs.declared.around.Surroundings.{Surroundings}
-use Rattle.cpp_link.specs.declared.part.Part.{Part}
-use Rattle.cpp_link.specs.Owed.{owes}
-use Rattle.cpp_link.specs.Closes.{closes_of, closes, ends_of}
-use Rattle.cpp_link.specs.ClosesLaws.{ends_closes}
 use Rattle.cpp_link.specs.ViewLaws.{cpp_laws}
-use Rattle.cpp_link.specs.Progress.{Finishes, MakesPart}
-use Rattle.cpp_link.specs.LinkReading.{link_close}
-use Rattle.cpp_link.specs.Making.{state_of}
-use Rattle.cpp_link.specs.Parts.{trees_in, value_in, values_in, packs_of, around_of, IsThere}
-use Rattle.cpp_link.specs.Room.{LacksRoom}
-use Rattle.cpp_link.specs.View.{IsWhole, cpp_view}
 use Rattle.cpp_link.proofs.Rooms.{roomy_ok, roomy_refused}
 use Rattle.cpp_link.proofs.Viewing.{parts_are, held_state}
 
--- What a rule closes to by this reading of the language, if it is of this production and these are its parts.
+-- What a rule of this production with these parts closes to, by this reading of the language.
 module _ (reading : Reading Value State Around) (closing : Production → Around → (place : ℕ) → (began : State) → List Value → State → Result (Found Value State) Refusal) (s : List ℕ)
     (reads : (rule : Open State Around) (known : List Value) (state : State) → open_.IsThere wide s rule → reading.close rule known state ≡ closing (production_at rule.rule.number) rule.context rule.place rule.before known state)
     (old : Linked) (frame : Frame Surroundings) (parts given : List Part) (p : Production) (numbered : p ≡ production_at frame.rule) (same : given ≡ drop frame.base parts) where
@@ -57,7 +29,7 @@ module _ (reading : Reading Value State Around) (closing : Production → Around
           → closing (production_at n) context k rule.before vs state ≡ closing (production_at m) code i rule.before us held
       same_close m n i k code context us vs held state number place surrounded known same = rw (number, place, surrounded, known, same) refl
 
-  -- a part was put that denotes what the rule closes to
+  -- the part that was put denotes what the rule closes to
   put_right : (new : Linked) (new_parts : List Part) (made : Part) (done : Unit {0})
       → ((began : State) → began.packs ≡ packs_of frame.kept → closing p around frame.place began (values_in s old.nodes given) (state_of s old) ≡ Ok (found (value_in s new.nodes made) (state_of s new)))
       → IsThere s (length new.nodes.nodes) made → IsWhole s new → new_parts ≡ take frame.base parts ++ made ∷ []
@@ -74,18 +46,18 @@ module _ (reading : Reading Value State Around) (closing : Production → Around
     ),
   )
 
-  -- the refusal of what the rule closes to is that of the reading
+  -- a refusal where the rule closes is also the reading's refusal
   pub refused_right : (new : Linked) (new_parts : List Part) (e : Refusal) → ((began : State) → Fails e (closing p around frame.place began (values_in s old.nodes given) (state_of s old)))
       → ClosesAll view s old new frame parts new_parts (Err e)
   refused_right new new_parts e refused rule known state is = subst (λ read. Fails e read) (sym (given_is rule known state is)) (refused rule.before)
 
--- by the ABI's reading
+-- how a rule closes by the ABI's reading
 abbrev pub plain_closing : List ℕ → Production → Around → (place : ℕ) → (began : State) → List Value → State → Result (Found Value State) Refusal
 plain_closing s p around place began vs state = link_close s p (slice_index s place) around place began vs state
 
 -- ## How many nodes are made
 
--- they are no more than the rule may add after its parts
+-- the nodes that are made are no more than the rule may add after its parts
 ends_few : (s : List ℕ) (old new : Linked) (frame : Frame Surroundings) (parts own : List Part) (p : Production) → p ≡ production_at frame.rule → own ≡ drop frame.base parts → 4 ≤ length old.nodes.nodes
     → length new.nodes.nodes ≤ length old.nodes.nodes + ends_of p own → AddsFew (cpp_view s) old new frame parts
 unfolding closes
@@ -103,15 +75,15 @@ few_adds s old new frame parts few =
     let held : owes frame.rule (length (drop frame.base parts)) ≡ owes frame.rule (length parts - frame.base) = ap (λ n. owes frame.rule n) (length-drop frame.base parts) in
     omega (arith, few, (cpp_laws s).closing frame.rule (drop frame.base parts), held)
 
--- this many nodes are made of these parts, and so of the rule's
+-- as many nodes are made of the rule's own parts as `made` says
 made_where_closed : (made : Production → List Value → ℕ) (s : List ℕ) (old new : Linked) (frame : Frame Surroundings) (parts own : List Part) (p : Production) → own ≡ drop frame.base parts → p ≡ production_at frame.rule
     → length new.nodes.nodes ≡ length old.nodes.nodes + made p (values_in s old.nodes own)
     → length new.nodes.nodes ≡ length old.nodes.nodes + made (production_at frame.rule) (values_in s old.nodes (drop frame.base parts))
 made_where_closed made s old new frame parts own p same numbered is = rw (← same, ← numbered) is
 
--- ## What is left
+-- ## What remains to be shown
 
--- The frame's rule is of this production, and a call was to make the part that its own parts, those from its base on, denote.
+-- The frame's rule is of this production, and a call was to make one part of the rule's own parts, which begin at its base.
 module _ (reading : Reading Value State Around) (closing : Production → Around → (place : ℕ) → (began : State) → List Value → State → Result (Found Value State) Refusal) (s : List ℕ)
     (reads : (rule : Open State Around) (known : List Value) (state : State) → open_.IsThere wide s rule → reading.close rule known state ≡ closing (production_at rule.rule.number) rule.context rule.place rule.before known state)
     (made : Production → List Value → ℕ) (old new : Linked) (frame : Frame Surroundings) (parts new_parts : Vec Part Global) (given : List Part) (p : Production)
@@ -145,13 +117,13 @@ module _ (reading : Reading Value State Around) (closing : Production → Around
   lacking_at call gave result e is memory lacks =
       refused_at call gave result e is (subst (λ x. ClosesAll by_reading s old new frame parts.items new_parts.items (Err x)) (sym memory) (λ rule known state at. tt)) (λ same. lacks)
 
-  -- its refusal is passed on
+  -- the refusal of that call is passed on
   pub refused_finishes : (e : Refusal) → Makes (Err e) → (result : Result (Unit {0}) Refusal) → IsErrAnd result (λ y. y ≡ e)
       → ((began : State) → Fails e (closing p (around_of (trees_in s old.nodes) frame.kept) frame.place began (values_in s old.nodes own) (state_of s old))) → Finishes by_reading made s old new frame parts new_parts result
   refused_finishes e gave result is refused =
       refused_at (Err e) gave result e is (refused_right reading closing s reads old frame parts.items own p numbered own_parts new new_parts.items e refused) (λ memory. inl (gave.full memory))
 
-  -- there was no memory, and the rule isn't closed whatever is read
+  -- there was no memory: the rule isn't closed, whatever the reading says
   pub lacking_finishes : (e : Refusal) → Makes (Err e) → e ≡ Memory → (result : Result (Unit {0}) Refusal) → IsErrAnd result (λ y. y ≡ e) → Finishes by_reading made s old new frame parts new_parts result
   lacking_finishes e gave memory result is = lacking_at (Err e) gave result e is memory (inl (gave.full memory))
 

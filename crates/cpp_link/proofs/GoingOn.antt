@@ -1,50 +1,13 @@
 -- The linker continues to the next part of a rule as the reading says.
-use Rattle.std.proofs.Common.{subst, ◌≡◌, refl, sym, ◌∙◌, ap, arith, ℕ, suc, ◌+◌, ◌-◌, ◌<◌, ◌≤◌, inl, List, [], ◌∷◌, ◌++◌, length, take, drop, Result, Ok, Err}
-use Rattle.std.proofs.lemmas.List.{length-drop, take-append-drop}
-use Rattle.std.proofs.lemmas.Result.{err_from_is_err_and}
-use Rattle.std.specs.Prelude.{Vec, vec_capacity, IsErrAnd}
-use Rattle.std.specs.Global.{Global}
-use Rattle.sym_core.specs.declared.refusal.Refusal.{Refusal}
-use Rattle.sym_core.specs.declared.refusal.Refusal.TheVariants.{Memory}
-use Rattle.sym_link.proofs.Lists.{rest_all}
-use Rattle.sym_link.specs.declared.language.Frame.{Frame}
-use Rattle.sym_link.specs.Reading.{Open, Next, Reading}
-use Rattle.sym_link.specs.Driving.{Fails}
-use Rattle.sym_link.specs.Linking.{View, Adds, AddsFew, owed_behind, owed_next}
-use Rattle.sym_link.specs.Threads.{IsAt, GoesOn}
-use Rattle.cpp_grammar.specs.declared.production.Production.{Production}
-use Rattle.cpp_grammar.specs.Unfolding.{production_at}
-use Rattle.cpp_term.specs.Values.{State, Value, Around}
-use Rattle.cpp_term.specs.Between.{Continuation, between}
-use Rattle.cpp_term.specs.Meant.{done}
-use Rattle.cpp_term.specs.Unfolding.{cpp}
-use Rattle.cpp_term.proofs.Notes.{both}
-use Rattle.cpp_link.specs.declared.linked.Linked.{Linked}
-use Rattle.cpp_references.specs.declared.around.Surroundings.{Surroundings}
-use Rattle.cpp_link.specs.declared.candidates.Candidates.{Candidates}
-use Rattle.cpp_link.specs.declared.part.Part.{Part}
-use Rattle.cpp_link.specs.declared.part.Step.{Step}
-use Rattle.cpp_link.specs.Making.{state_of}
-use Rattle.cpp_link.specs.Owed.{owes}
-use Rattle.cpp_link.specs.Parts.{trees_in, values_in, around_of, candidates_of, IsClosed, AreCandidatesThere}
-use Rattle.cpp_link.specs.LinkReading.{linked}
-use Rattle.cpp_link.specs.Reads.{goes_on}
-use Rattle.cpp_link.specs.Closes.{closes_of, closes}
-use Rattle.cpp_link.specs.ClosesLaws.{quiet_owed, closes_pushed}
-use Rattle.cpp_link.specs.NodeCount.{makes_before}
-use Rattle.cpp_link.specs.Progress.{Advances}
-use Rattle.cpp_link.specs.Room.{KeepsRoom, LacksRoom}
-use Rattle.cpp_link.specs.Stepping.{IsStepOf, Takes, CountsStep, nodes_of_step}
-use Rattle.cpp_link.specs.Tables.{quiet_parts}
-use Rattle.cpp_link.specs.View.{IsPaid, Surrounds, cpp_view}
+use Rattle.cpp_link.proofs.Basics.{subst, ◌≡◌, refl, sym, ◌∙◌, ap, arith, ℕ, suc, ◌+◌, ◌-◌, ◌<◌, ◌≤◌, inl, List, [], ◌∷◌, ◌++◌, length, take, drop, Result, Ok, Err, length-drop, take-append-drop, err_from_is_err_and, Vec, vec_capacity, IsErrAnd, Global, Refusal, Memory, rest_all, Frame, Open, Next, Reading, Fails, View, Adds, AddsFew, owed_behind, owed_next, IsAt, GoesOn, Production, production_at, State, Value, Around, Continuation, between, done, cpp, both, Linked, Surroundings, Candidates, Part, Step, state_of, owes, trees_in, values_in, around_of, candidates_of, IsClosed, AreCandidatesThere, linked, goes_on, closes_of, closes, quiet_owed, closes_pushed, makes_before, Advances, KeepsRoom, LacksRoom, IsStepOf, Takes, CountsStep, nodes_of_step, quiet_parts, IsPaid, Surrounds, cpp_view}
 use Rattle.cpp_link.proofs.Stepping.{step_owed}
 use Rattle.cpp_link.proofs.Places.{values_length}
 use Rattle.cpp_link.proofs.RowNodes.{quiet_part}
 use Rattle.cpp_link.proofs.Rooms.{roomy_ok, roomy_refused}
 use Rattle.cpp_link.proofs.Viewing.{parts_are, parts_all, held_state}
 
--- What is done before the next part of the frame's rule by this reading of the language, once the parts from its base on are
--- these.
+-- What is done before the next part of the frame's rule by this reading of the language, if these are the parts from the rule's
+-- base on.
 module _ (reading : Reading Value State Around) (before : Production → Around → ℕ → List Value → State → Continuation)
     (reads : (rule : Open State Around) (known : List Value) (state : State) → reading.between rule known state ≡ before (production_at rule.rule.number) rule.context rule.place known state)
     (s : List ℕ) (old : Linked) (frame : Frame Surroundings) (parts own : List Part) (production : Production) (same : own ≡ drop frame.base parts) (numbered : production ≡ production_at frame.rule) where
@@ -71,7 +34,7 @@ module _ (reading : Reading Value State Around) (before : Production → Around 
   abbrev gone : (mid : Linked) (new_parts : List Part) (then : Surroundings) → State → Next Value State Around
   gone mid new_parts then state = record { values = values_in s mid.nodes (drop frame.base new_parts); context = around_of (trees_in s mid.nodes) then; state = state }
 
-  -- the step that was taken, with what is marked then, is that of the reading, and these are the candidates after it
+  -- the step that was taken is the reading's, with the candidates as they are after marking
   pub goes_right : (mid : Linked) (more : Candidates) (new_parts : List Part) (step : Step) (then : Surroundings) (marking : Continuation → Continuation)
       → ((n : Next Value State Around) → before production around frame.place (values_in s old.nodes own) (state_of s old) ≡ Ok n → IsClosed around → IsClosed n.context)
       → before production around frame.place (values_in s old.nodes own) (record (state_of s old) { packs = old.packs })
@@ -94,7 +57,7 @@ module _ (reading : Reading Value State Around) (before : Production → Around 
         parts_all s (record mid { candidates = more }) (drop frame.base new_parts) takes.there,
       )
 
-  -- the refusal of a step is that of the reading
+  -- a refusal of the step is also the reading's refusal
   pub refused_right : (new : Linked) (new_parts : List Part) (e : Refusal)
       → Fails e (before production around frame.place (values_in s old.nodes own) (record (state_of s old) { packs = old.packs }))
       → GoesOn view s (Surrounds s) old new frame parts new_parts (Err e)
@@ -167,7 +130,7 @@ pub quiet_few : (s : List ℕ) (old : Linked) (frame : Frame Surroundings) (part
 unfolding closes
 quiet_few s old frame parts = omega (arith, closes_pushed (production_at frame.rule) (drop frame.base parts))
 
--- those of a step that was taken
+-- the nodes of a step that was taken
 pub steps_few : (s : List ℕ) (old new : Linked) (frame : Frame Surroundings) (parts new_parts : List Part) (then : Surroundings) → IsPaid old → length old.nodes.nodes ≤ length new.nodes.nodes
     → (let taken : Result Surroundings Refusal = Ok then in CountsStep (production_at frame.rule) old new (drop frame.base parts) (drop frame.base new_parts) taken)
     → (cpp_view s).size new + closes frame.rule (drop frame.base new_parts ++ Part.Nothing ∷ []) ≤ (cpp_view s).size old + closes frame.rule (drop frame.base parts)
@@ -178,7 +141,7 @@ steps_few s old new frame parts new_parts then paid least counts =
     sizes : (m n behind before : ℕ) → 4 ≤ m → m ≤ n → n + behind ≤ m + before → n - 4 + behind ≤ m - 4 + before
     sizes m n behind before begun least few = omega (arith, begun, least, few)
 
--- those of a step that was refused
+-- the nodes of a step that was refused
 pub refused_few : (s : List ℕ) (old new : Linked) (frame : Frame Surroundings) (parts : List Part) → IsPaid old
     → length new.nodes.nodes ≤ length old.nodes.nodes + closes_of (production_at frame.rule) (drop frame.base parts) → AddsFew (cpp_view s) old new frame parts
 unfolding closes
@@ -187,13 +150,13 @@ refused_few s old new frame parts paid few = sizes (length old.nodes.nodes) (len
     sizes : (m n before : ℕ) → 4 ≤ m → n ≤ m + before → n - 4 ≤ m - 4 + before
     sizes m n before begun few = omega (arith, begun, few)
 
--- a step of the parts' production, of a slice from the base on, is one of the rule's
+-- a step of the production, on the parts from the base on, is a step of the rule
 pub step_of_rule : (frame : Frame Surroundings) (parts given : List Part) (p : Production) (step : Step) → given ≡ parts → p ≡ production_at frame.rule
     → IsStepOf p (length (take (length given - frame.base) (drop frame.base given))) step → IsStepOf (production_at frame.rule) (length (drop frame.base parts)) step
 step_of_rule frame parts given p step value numbered of =
     subst (λ q. IsStepOf q (length (drop frame.base parts)) step) numbered (subst (λ ps. IsStepOf p (length ps) step) (rest_all given frame.base ∙ ap (λ ps. drop frame.base ps) value) of)
 
--- ## What is left
+-- ## What remains to be shown
 
 module _ (view : View Linked Part Surroundings Value State Around) (s : List ℕ) (old new : Linked) (frame : Frame Surroundings) (parts new_parts : Vec Part Global) (keeps : KeepsRoom old new) (capacity : vec_capacity parts ≤ vec_capacity new_parts) where
   -- a refusal is passed on
@@ -206,7 +169,7 @@ module _ (view : View Linked Part Surroundings Value State Around) (s : List ℕ
       record { goes = goes; adds = tt; few = few; makes = tt; pays = tt; count = tt; roomy = roomy_refused old new parts new_parts (Err e) e refl keeps capacity (λ memory. inl (full memory)) } in
       subst (λ r. Advances view s old new frame parts new_parts r) (sym passed) refused
 
-  -- there was no memory, and the rule isn't continued whatever is read
+  -- there was no memory: the rule isn't continued, whatever the reading says
   pub lacking_advances : (result : Result Surroundings Refusal) (e : Refusal) → IsErrAnd result (λ y. y ≡ e) → e ≡ Memory → AddsFew (cpp_view s) old new frame parts.items → LacksRoom old new
       → Advances view s old new frame parts new_parts result
   lacking_advances result e is memory few lacks =

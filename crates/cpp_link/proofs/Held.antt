@@ -1,35 +1,12 @@
--- What is done with a name with its M, and with numbers of candidates, is what the wide reading says.
-use Rattle.std.proofs.Common.{◌≡◌, refl, sym, ◌∙◌, ap, subst, arith, ℕ, ◌<◌, List, [], ◌∷◌, length, Bool, true, false, nat_eq, Option, Some, None, Result, Ok, Err}
-use Rattle.std.proofs.lemmas.Bool.{true≢false, false≢true, eqb-true}
-use Rattle.sym_core.specs.declared.refusal.Refusal.{Refusal}
-use Rattle.sym_core.specs.declared.refusal.Refusal.TheVariants.{BadReference}
-use Rattle.sym_link.specs.Reading.{Found}
-use Rattle.cpp_grammar.specs.declared.production.Production.{Production}
+-- What is done with a name with its `M`, and with numbers of candidates, is what the wide reading says.
+use Rattle.cpp_link.proofs.Basics.{◌≡◌, refl, sym, ◌∙◌, ap, subst, arith, ℕ, ◌<◌, List, [], ◌∷◌, length, Bool, true, false, nat_eq, Option, Some, None, Result, Ok, Err, true≢false, false≢true, eqb-true, Refusal, BadReference, Found, Production, Term, holder, absent, Continuation, inside, after, listed_so_far, appended, appended_by, both, with_holder, counted_unless, counted_held, with_constructor, with_held, is_instance, holder_so_far, place_in, named_in, left_at, with_lists, listed_by, substituted_wide, numbered, between_wide, Stored, tree_at, IsAliasBelow, Node, Surroundings, Step, steps_apart, with_mark, going_marked, lists_after, named_left, named_after, Naming, counted_of, trees_in, prefix_in, prefix_of, name_of, around_of, IsPrefixThere, Marks, goes_on, with_candidate, constructor_by, with_marks, behind_first, named_if, appended_if, makes_before, made_before, IsStepOf}
 use Rattle.cpp_grammar.specs.Values.{Counted, by_all, by_newer, by_gcc, by_clang, by_some, Lists, both_lists, longer_list, shorter_list, no_list}
-use Rattle.cpp_term.specs.Term.{Term, holder, absent}
 use Rattle.cpp_term.specs.Values.{State, Around, Value, tree, tree_of, part, behind, prefix_tree, prefix_listed}
-use Rattle.cpp_term.specs.Between.{Continuation, inside, after, listed_so_far}
-use Rattle.cpp_term.specs.References.{appended, appended_by}
-use Rattle.cpp_term.proofs.Notes.{both}
-use Rattle.cpp_term.specs.Rescoping.{with_holder, counted_unless, counted_held, with_constructor, with_held, is_instance, holder_so_far, place_in, named_in, left_at, with_lists, listed_by, substituted_wide, numbered, between_wide}
 use Rattle.cpp_tree.specs.Nodes as nodes
-use Rattle.cpp_tree.specs.Nodes.{Stored, tree_at, IsAliasBelow}
-use Rattle.cpp_tree.specs.declared.node.Node.{Node}
-use Rattle.cpp_references.specs.declared.around.Surroundings.{Surroundings}
-use Rattle.cpp_link.specs.declared.part.Step.{Step}
-use Rattle.cpp_link.specs.LinkRescoping.{steps_apart, with_mark, going_marked, lists_after, named_left, named_after}
-use Rattle.cpp_references.specs.declared.around.Naming.{Naming}
-use Rattle.cpp_references.specs.Around.{counted_of}
-use Rattle.cpp_link.specs.Parts.{trees_in, prefix_in, prefix_of, name_of, around_of, IsPrefixThere}
-use Rattle.cpp_link.specs.declared.part.Marks.{Marks}
-use Rattle.cpp_link.specs.Reads.{goes_on, with_candidate, constructor_by, with_marks, behind_first, named_if, appended_if}
-use Rattle.cpp_link.specs.NodeCount.{makes_before}
-use Rattle.cpp_link.specs.Owed.{made_before}
-use Rattle.cpp_link.specs.Stepping.{IsStepOf}
 
 -- ## What is done before a part
 
--- the part it comes before
+-- what is done for a name with its `M` is done before its second part
 pub held_second : (p : Production) (l : Bool) (before : ℕ) → p ≡ Production.Holder → steps_apart p l before ≡ true → before ≡ 1
 unfolding steps_apart
 held_second p l before is apart = eqb-true before 1 (ap (λ q. steps_apart q l before) (sym is) ∙ apart)
@@ -64,7 +41,7 @@ held_read s y kept place (v ∷ []) state packs name one prefix none =
     by true t h = absurd (true≢false h)
     by false t h = refl
 
--- after arguments it is refused
+-- after arguments an M is refused
 pub held_refused : (around : Around) (place : ℕ) (vs : List Value) (state : State) → length vs ≡ 1 → is_instance (prefix_tree around.prefix) ≡ true
     → between_wide Production.Holder around place vs state ≡ Err (BadReference place)
 unfolding between_wide holder_so_far
@@ -77,7 +54,7 @@ held_refused around place (v ∷ []) state one named = by (is_instance (prefix_t
     by true h = refl
     by false h = absurd (false≢true h)
 
--- likewise the name of a concept
+-- before the arguments of a constructor or a concept, only the marking of candidates is done
 pub base_read : (s : List ℕ) (y : Stored) (kept then : Surroundings) (place : ℕ) (vs : List Value) (state : State) (packs : Option ℕ) → length vs ≡ 0
     → around_of (trees_in s y) then ≡ inside (around_of (trees_in s y) kept)
     → between_wide Production.HeldArguments (around_of (trees_in s y) kept) place vs (record state { packs = packs })
@@ -97,7 +74,7 @@ unfolding between_wide goes_on going_marked with_mark with_candidate
 declared_read s y kept place (v ∷ vs) state packs none = absurd (omega (arith, none))
 declared_read s y kept place [] state packs none = refl
 
--- how many nodes are made
+-- a name with its `M` makes one node before its second part
 pub held_makes : (known : List Value) → length known ≡ 1 → 1 ≡ makes_before Production.Holder known
 unfolding makes_before made_before
 held_makes (v ∷ []) one = refl
@@ -124,7 +101,7 @@ pub no_marks : (around : Around) (ts : List Term) (marks : Marks) (state : State
 unfolding with_marks with_candidate
 no_marks around ts marks state first second = rw (first, second) refl
 
--- a name with its M, once or twice
+-- a name becomes a candidate with its `M`, and before that unless it has become one as a prefix
 pub twice_noted : (again : Bool) (around : Around) (ts : List Term) (node : ℕ) (state : State) (marks : Marks) → prefix_listed around.prefix ≡ again
     → marks.first ≡ elim again as (λ _. Option ℕ) [ true ↦ Some node | false ↦ None ] → counted_of marks.first_by ≡ by_all → marks.second ≡ Some node → counted_of marks.second_by ≡ by_newer
     → with_marks around ts marks state ≡ with_holder around (tree_at ts node) state
@@ -139,7 +116,7 @@ twice_noted again around ts node state marks listed first all second newer =
     go true = refl
     go false = refl
 
--- a constructor, after its base class
+-- an inherited constructor becomes a candidate after its base class, if it is counted
 pub constructor_noted : (counted : Counted) (around : Around) (ts : List Term) (state : State) → tree_at ts 0 ≡ absent → with_constructor false counted around state ≡ with_candidate by_gcc around ts (constructor_by counted) state
 unfolding with_constructor with_candidate constructor_by
 constructor_noted by_gcc around ts state is = ap (λ t. appended_by by_gcc around t state) (sym is)
@@ -148,7 +125,7 @@ constructor_noted by_newer around ts state is = refl
 constructor_noted by_clang around ts state is = refl
 constructor_noted by_some around ts state is = refl
 
--- a base class or the name of a concept
+-- a base class or a concept's name becomes a candidate
 pub held_noted : (counted : Counted) (around : Around) (ts : List Term) (node : ℕ) (state : State) → counted_unless false counted around (tree_at ts node) state ≡ with_candidate counted around ts (Some node) state
 unfolding counted_unless with_candidate appended
 held_noted by_all around ts node state = refl
@@ -180,7 +157,7 @@ pub is_listed_prefix : (ts : List Term) (kept : Surroundings) (n : Naming) (list
 unfolding around_of
 is_listed_prefix ts kept n listed is so = ap (λ n. prefix_listed (prefix_of ts (prefix_in n kept.name))) is ∙ so
 
--- the name before the arguments
+-- the name before the arguments, if it isn't a candidate yet
 pub unlisted_prefix : (ts : List Term) (kept : Surroundings) → kept.naming ≡ Naming.Unlisted → (around_of ts kept).prefix ≡ behind (tree_at ts kept.name) false
 unfolding around_of prefix_of prefix_in
 unlisted_prefix ts kept is = ap (λ n. prefix_of ts (prefix_in n kept.name)) is
@@ -189,7 +166,7 @@ pub unlisted_below : (n : ℕ) (kept : Surroundings) → kept.naming ≡ Naming.
 unfolding prefix_in
 unlisted_below n kept is there = subst (λ m. IsPrefixThere n (prefix_in m kept.name)) is there
 
--- no name, or one that is listed
+-- no name before the arguments, or one that is a candidate already
 pub outermost_prefix : (ts : List Term) (kept : Surroundings) (state : State) → kept.naming ≡ Naming.Outermost → with_held (prefix_listed (around_of ts kept).prefix) (around_of ts kept) (prefix_tree (around_of ts kept).prefix) state ≡ state
 unfolding around_of prefix_of prefix_in prefix_listed with_held with_constructor counted_unless
 outermost_prefix ts kept state is = ap (λ n. with_held (prefix_listed (prefix_of ts (prefix_in n kept.name))) (around_of ts kept) (prefix_tree (prefix_of ts (prefix_in n kept.name))) state) is
@@ -203,7 +180,7 @@ listed_prefix ts kept state is = ap (λ n. with_held (prefix_listed (prefix_of t
 abbrev Named : Type 0
 Named = Result (Found Value State) Refusal
 
--- A substitution denotes the candidate that its number names after the S, and the lists that are left then stay.
+-- A substitution denotes the candidate that its number names at its `S`; the lists that remain then are kept.
 pub numbered_is : (around : Around) (place number : ℕ) (state : State)
     → numbered around place number state ≡ substituted_wide around place (named_after place number state) (with_lists (lists_after place number state) state)
 unfolding numbered named_after lists_after listed_by named_left with_lists substituted_wide

@@ -1,29 +1,7 @@
 -- What is done with an inherited constructor is what the wide reading says.
-use Rattle.std.proofs.Common.{◌≡◌, refl, sym, ℕ, ◌<◌, List, length, drop, true, false, Option, Some, None, Err}
-use Rattle.sym_core.specs.declared.refusal.Refusal.TheVariants.{BadReference}
-use Rattle.sym_link.specs.declared.language.Frame.{Frame}
-use Rattle.sym_link.specs.Threads.{ClosesAll}
-use Rattle.cpp_grammar.specs.declared.production.Production.{Production}
-use Rattle.cpp_grammar.specs.Unfolding.{production_at}
+use Rattle.cpp_link.proofs.Basics.{◌≡◌, refl, sym, ℕ, ◌<◌, List, length, drop, true, false, Option, Some, None, Err, BadReference, Frame, ClosesAll, Production, production_at, Term, by_gcc, appended_by, counted_unless, counted_base, State, Around, Value, Prefix, is_listed, extended, inherited, behind, close, Stored, tree_at, IsAliasBelow, Surroundings, Linked, Part, link_close, linked, with_candidate, inheriting_at_end, trees_in, value_of, around_of, IsKeptThere, around_stays, cpp_view}
 use Rattle.cpp_term.specs.Term as term
-use Rattle.cpp_term.specs.Term.{Term}
-use Rattle.cpp_grammar.specs.Values.{by_gcc}
-use Rattle.cpp_term.specs.References.{appended_by}
-use Rattle.cpp_term.specs.Rescoping.{counted_unless, counted_base}
 use Rattle.cpp_term.specs.Values as values
-use Rattle.cpp_term.specs.Values.{State, Around, Value, Prefix, is_listed}
-use Rattle.cpp_term.specs.Between.{extended, inherited}
-use Rattle.cpp_term.specs.Unfolding.{behind, close}
-use Rattle.cpp_tree.specs.Nodes.{Stored, tree_at, IsAliasBelow}
-use Rattle.cpp_references.specs.declared.around.Surroundings.{Surroundings}
-use Rattle.cpp_link.specs.declared.linked.Linked.{Linked}
-use Rattle.cpp_link.specs.declared.part.Part.{Part}
-use Rattle.cpp_link.specs.LinkReading.{link_close, linked}
-use Rattle.cpp_link.specs.Reads.{with_candidate}
-use Rattle.cpp_link.specs.NodeCount.{inheriting_at_end}
-use Rattle.cpp_link.specs.Parts.{trees_in, value_of, around_of, IsKeptThere}
-use Rattle.cpp_link.specs.Staying.{around_stays}
-use Rattle.cpp_link.specs.View.{cpp_view}
 use Rattle.cpp_link.proofs.Bytes.{byte_serves}
 use Rattle.cpp_link.proofs.Finishing.{plain_closing, refused_right}
 
@@ -35,7 +13,7 @@ unfolding counted_base counted_unless value_of
 counted_alone s ts around (Part.Pair letter left right) state other = absurd (other letter left right refl)
 counted_alone s ts around _ state other = refl
 
--- the base class is counted once the constructor's node is there
+-- the base class is counted once the constructor's node exists
 pub counted_after : (s : List ℕ) (y z : Stored) (kept : Surroundings) (base : Option ℕ) (before mid : State) → ((i : ℕ) → i < length y.nodes → tree_at (trees_in s z) i ≡ tree_at (trees_in s y) i)
     → IsKeptThere (length y.nodes) kept → IsAliasBelow (length y.nodes) base → before ≡ mid
     → with_candidate by_gcc (around_of (trees_in s y) kept) (trees_in s y) base before ≡ with_candidate by_gcc (around_of (trees_in s z) kept) (trees_in s z) base mid
@@ -50,7 +28,7 @@ nothing_behind byte around began vs state = refl
 
 -- ## Where it closes
 
--- the ABI's reading refuses it
+-- the ABI's reading refuses an inherited constructor
 pub inheriting_unread : (s : List ℕ) (old new : Linked) (frame : Frame Surroundings) (parts new_parts : List Part) → production_at frame.rule ≡ Production.Inheriting
     → ClosesAll (cpp_view s) s old new frame parts new_parts (Err (BadReference frame.place))
 unfolding link_close close

@@ -1,46 +1,14 @@
 -- The reading that the linker follows says of each symbol what C++'s reading says.
-use Rattle.std.proofs.Common.{slice_get, ◌≡◌, refl, sym, ◌∙◌, ap, subst, arith, ℕ, ◌+◌, ◌-◌, ◌^◌, ◌<◌, ◌||◌, ◌⊎◌, inl, inr, List, [], ◌∷◌, ◌++◌, length, take, drop, Bool, true, false, not, Option, Some, None, Ok, Err, append-nil}
-use Rattle.std.specs.Prelude.{Result, nat_eq, nat_lt, if◌then◌else◌}
-use Rattle.std.proofs.lemmas.Bool.{true≢false, false≢true, cases_Bool, eqb-true}
-use Rattle.std.proofs.Math.Seq.{take-append_seam}
-use Rattle.sym_core.specs.declared.refusal.Refusal.{Refusal}
-use Rattle.sym_core.specs.declared.refusal.Refusal.TheVariants.{BadValue}
-use Rattle.sym_shape.specs.declared.rule.Rule.{Rule}
-use Rattle.sym_shape.specs.declared.rule.Sym.TheVariants.{Kind as OfKind}
-use Rattle.sym_shape.specs.Table.{Token, symbols_of}
-use Rattle.sym_shape.specs.Tree.{Tree, Forest, branch, empty, token, fixed, nothing, grown, spell, spell_all, TakesRule, IsTree, AreTrees}
-use Rattle.sym_link.specs.Reading.{Found, Open, ◌>>=◌}
-use Rattle.sym_link.specs.Unfold.{found, alone, standing, unfold_tree, unfold_forest}
-use Rattle.sym_link.specs.Tally.{Tally, tally, Makes, tallied}
-use Rattle.sym_link.proofs.Tally.{plain, forest_untallied}
-use Rattle.cpp_grammar.specs.declared.production.Production.{Production}
+use Rattle.cpp_link.proofs.Basics.{slice_get, ◌≡◌, refl, sym, ◌∙◌, ap, subst, arith, ℕ, ◌+◌, ◌-◌, ◌^◌, ◌<◌, ◌||◌, ◌⊎◌, inl, inr, List, [], ◌∷◌, ◌++◌, length, take, drop, Bool, true, false, not, Option, Some, None, Ok, Err, append-nil, Result, nat_eq, nat_lt, if◌then◌else◌, true≢false, false≢true, cases_Bool, eqb-true, take-append_seam, Refusal, BadValue, Rule, Kind as OfKind, Token, symbols_of, Tree, Forest, branch, empty, token, fixed, nothing, grown, spell, spell_all, TakesRule, IsTree, AreTrees, Found, Open, ◌>>=◌, found, alone, standing, unfold_tree, unfold_forest, Tally, tally, Makes, tallied, plain, forest_untallied, Production, SYMBOL, SUFFIX_FIRST, SUFFIX_MORE, HEX_DIGITS, HEX_MORE, parts_of, number_of_kind, kinds, productions, number_of, is_chain, pick, is_in, in_ranges, among, may_be_empty, wide_alternatives, wide_choose, wide, rule_of, rule_taken, wide_sheet, sheet_with, blank, wide_rule_at, is_wide_kind, wide_sound, last_token, production_at, byte_of, local_number, Taken, taken_rule, at_number, its_symbols, same_rule, State, Around, Value, nothing_there, text, piece, tree_of, text_of, part, list, lambda, unnamed, between, in_signature, no_items, parameters, signature_with, meaning, number_tested, opening, behind, close, cpp, first_around, first_state, is_numbered, as_generic_lambda, opening_wide, between_wide, close_wide, cpp_wide, link_opening, link_close_wide, linked_wide, in_64_bits, link_meaning, link_close, link_begin, linked}
 use Rattle.cpp_grammar.specs.declared.kind.Kind.{Kind}
-use Rattle.cpp_grammar.specs.KindNumbers.{SYMBOL, SUFFIX_FIRST, SUFFIX_MORE, HEX_DIGITS, HEX_MORE}
-use Rattle.cpp_grammar.specs.Grammar.{parts_of, number_of_kind, kinds, productions, number_of, is_chain, pick, is_in, in_ranges, among, may_be_empty}
-use Rattle.cpp_grammar.specs.Wide.{wide_alternatives, wide_choose}
-use Rattle.cpp_grammar.specs.Table.{wide, rule_of, rule_taken, wide_sheet, sheet_with, blank}
-use Rattle.cpp_grammar.proofs.Choosing.{wide_rule_at, is_wide_kind}
-use Rattle.cpp_grammar.specs.TableLaws.{wide_sound}
-use Rattle.cpp_grammar.specs.Unfolding.{last_token, production_at, byte_of}
-use Rattle.cpp_grammar.specs.Values.{local_number}
-use Rattle.cpp_grammar.proofs.ClosedTrees.{Taken, taken_rule, at_number, its_symbols, same_rule}
-use Rattle.cpp_term.specs.Values.{State, Around, Value, nothing_there, text, piece, tree_of, text_of, part}
-use Rattle.cpp_term.specs.Term.{list, lambda, unnamed}
-use Rattle.cpp_term.specs.Between.{between, in_signature, no_items}
-use Rattle.cpp_term.specs.Meaning.{parameters, signature_with, meaning}
-use Rattle.cpp_term.specs.Unfolding.{number_tested, opening, behind, close, cpp, first_around, first_state}
-use Rattle.cpp_link.specs.Numbered.{is_numbered}
 use Rattle.cpp_grammar.proofs.Ways.{differs}
-use Rattle.cpp_term.specs.Rescoping.{as_generic_lambda, opening_wide, between_wide, close_wide, cpp_wide}
 use Rattle.cpp_term.proofs.NotedWays.{NotedWay, reading_noted_by, IsPlainNoted, abi_noted, wide_noted, abi_is_noted, wide_is_noted}
-use Rattle.cpp_link.specs.LinkRescoping.{link_opening, link_close_wide, linked_wide}
-use Rattle.cpp_link.specs.LinkReading.{in_64_bits, link_meaning, link_close, link_begin, linked}
 use Rattle.cpp_link.proofs.Endings.{opens_plain, last_behind}
 use Rattle.cpp_link.proofs.SameReadings.{BeginsSame, ClosesSame, tree_same}
 
 -- ## The result of a chain of readings
 
--- both have a result
+-- the first reading has a result, and so has the second, from the first one's value
 abbrev pub Both : {A B : Type 0} → Result A Refusal → (A → Result B Refusal) → B → Type 0
 Both {A = A} m f y = (x : A) × (m ≡ Ok x) × (f x ≡ Ok y)
 
@@ -92,7 +60,7 @@ unfolding rule_taken
 chosen_byte true rule is = sym (same_rule Production.SuffixByte rule is)
 chosen_byte false rule is = absurd cc
 
--- the kinds of what a suffix consists of
+-- the kinds in a suffix
 data OfSuffix : ℕ → Type 0 where
   in_front : OfSuffix 2
   behind_it : OfSuffix 3
@@ -121,7 +89,7 @@ unfolding rule_taken
 chosen_digit true rule is = sym (same_rule Production.HexDigit rule is)
 chosen_digit false rule is = absurd cc
 
--- the kinds of what such digits consist of
+-- the kinds in digits of base 16
 data OfDigits : ℕ → Type 0 where
   first_digit : OfDigits HEX_DIGITS
   more_digits : OfDigits HEX_MORE
@@ -145,7 +113,7 @@ suffix_there xs t rest byte is =
     let size : length t + 1 ≡ length (byte ∷ t) = omega arith in
     ap (λ n. take n xs) size ∙ ap (λ x. take (length (byte ∷ t)) x) (is ∙ ap (λ x. byte ∷ (x ++ rest)) (append-nil t)) ∙ take-append_seam (byte ∷ t) rest
 
--- a suffix or one of its bytes, which closes over this text
+-- the bytes that a suffix, or one of its bytes, closes to are those of the symbol from its place on
 text_closes : (s : List ℕ) (byte place : ℕ) (context : Around) (before begun : State) (inner : Found (List Value) State) (v : Value) (t rest : List ℕ)
     → inner.value ≡ v ∷ [] → text_of v ≡ t → drop place s ≡ (byte ∷ []) ++ ((t ++ []) ++ rest)
     → text (take (length (text_of (part inner.value 0)) + 1) (drop place s)) ≡ text (byte ∷ text_of (part inner.value 0))
@@ -159,7 +127,7 @@ state_of_tally t = t.state
 values_same : (f g : Found (List Value) State) → ◌≡◌ {A = Result (Found (List Value) State) Refusal} (Ok f) (Ok g) → g.value ≡ f.value
 values_same f g is = ap (λ (h : Found (List Value) State). h.value) (sym (ok_is f g is))
 
--- a lambda
+-- the open rule of a lambda
 abbrev lambda_open : (taken : List ℕ) (place : ℕ) → Around → State → Open State Around
 lambda_open taken place context before = standing (rule_of Production.Lambda) taken place context before
 
@@ -173,7 +141,7 @@ last_of a b c t =
     last_behind a (grown b (grown c (grown (token t) nothing))) t.own []
     (λ ds. last_behind b (grown c (grown (token t) nothing)) t.own ds (λ es. last_behind c (grown (token t) nothing) t.own es (λ fs. refl)))
 
--- the rule closes to what C++'s reading closes it to
+-- the production's rule closes as it does in C++'s reading
 abbrev ClosesRule : NotedWay → List ℕ → Production → Type 0
 ClosesRule way s p =
     (kind : ℕ) (taken : List ℕ) (parts : Forest) (place : ℕ) (context : Around) (before begun : State) (inner : Found (List Value) State) (rest : List ℕ)
@@ -184,16 +152,16 @@ ClosesRule way s p =
 
 -- ## The four productions, by either reading
 
--- before the parts of a lambda the same is done
+-- before a lambda's parts this reading does what C++'s reading does
 abbrev IsPlainLambda : NotedWay → Type 0
 IsPlainLambda way = (around : Around) (place : ℕ) (vs : List Value) (state : State) → way.between Production.Lambda around place vs state ≡ between Production.Lambda around place vs state
 
--- and where a rule begins whose value the linker says otherwise
+-- likewise where a rule begins that the linker reads in a way of its own
 abbrev OpensPlain : NotedWay → Type 0
 OpensPlain way = (p : Production) → is_plain p ≡ false → (around : Around) (parts : Forest) (place : ℕ) (state : State) → way.opening p around parts place state ≡ opening p parts place state
 
 module _ (way : NotedWay) (plain_way : IsPlainNoted way) (plain_lambda : IsPlainLambda way) (plain_opening : OpensPlain way) where
-  -- before a part of a production that agrees with the ABI's grammar the same is done
+  -- if the production's steps are those of the ABI's reading, so are its rule's
   plain_step : (rule : Open State Around) (p : Production) → production_at rule.rule.number ≡ p
       → ((around : Around) (place : ℕ) (vs : List Value) (state : State) → way.between p around place vs state ≡ between p around place vs state) → (known : List Value) (at : ℕ) (first : Tree) (rest : Forest) (state : State)
       → unfold_forest (reading_noted_by way) rule known at (grown first rest) state
@@ -343,7 +311,7 @@ module _ (way : NotedWay) (plain_way : IsPlainNoted way) (plain_lambda : IsPlain
   unnamed_closes s kind taken nothing place context before begun inner rest takes trees at is_begun is_inner = absurd trees
   unnamed_closes s kind taken (grown tree (grown second others)) place context before begun inner rest takes trees at is_begun is_inner = absurd trees.1
 
-  -- the value of a tree is single
+  -- a tree has exactly one value
   one_value : (tree : Tree) (context : Around) (place : ℕ) (state : State) (one : Found (List Value) State) → unfold_tree (reading_noted_by way) context place tree state ≡ Ok one
       → (v : Value) × (one.value ≡ v ∷ [])
   unfolding cpp reading_noted_by
@@ -357,7 +325,7 @@ module _ (way : NotedWay) (plain_way : IsPlainNoted way) (plain_lambda : IsPlain
       let whole = both_ok ((reading_noted_by way).close o inner.0.value inner.0.state) alone one inner.2 in
       (whole.0.value, values_same (found (whole.0.value ∷ []) whole.0.state) one whole.2)
 
-  -- one part of a lambda after the values of those before it
+  -- the value of one part of a lambda, after the values of those before it
   lambda_part : (taken : List ℕ) (place : ℕ) (context : Around) (before : State) (known : List Value) (at : ℕ) (first : Tree) (rest : Forest) (state : State) (inner : Found (List Value) State)
       → unfold_forest (reading_noted_by way) (lambda_open taken place context before) known at (grown first rest) state ≡ Ok inner
       → (v : Value) × (after : State) × (unfold_forest (reading_noted_by way) (lambda_open taken place context before) (known ++ v ∷ []) (at + length (spell first)) rest after ≡ Ok inner)
@@ -407,7 +375,7 @@ module _ (way : NotedWay) (plain_way : IsPlainNoted way) (plain_lambda : IsPlain
   numbered_plain Production.Unnamed other s = unnamed_closes s
   numbered_plain _ other s = absurd (true≢false other)
 
--- each rule that is in a symbol closes to the same
+-- each rule in a symbol closes to the same in both readings
 pub closes_same : (s : List ℕ) → ClosesSame wide s cpp (linked s).close
 unfolding cpp reading_noted_by abi_noted
 closes_same s kind rule taken parts place context before begun inner rest known is at is_begun is_inner =
@@ -425,7 +393,7 @@ closes_same s kind rule taken parts place context before begun inner rest known 
     Equal : Rule → Type 0
     Equal r = (linked s).close (standing r taken place context before) inner.value inner.state ≡ cpp.close (standing r taken place context before) inner.value inner.state
 
--- and likewise in the wide grammar
+-- likewise in the wide grammar
 wide_plain_closes : (s : List ℕ) (p : Production) (byte : ℕ) (around : Around) (place : ℕ) (began : State) (vs : List Value) (state : State) → is_plain p ≡ true
     → link_close_wide s p byte around place began vs state ≡ close_wide p byte around place began vs state
 unfolding link_close_wide close_wide link_meaning is_plain
@@ -486,7 +454,7 @@ wide_closes_same s kind rule taken parts place context before begun inner rest k
 unfoldable numbered_at : Kind → ℕ → Bool
 numbered_at kind byte = elim (wide_choose kind byte) [ None ↦ false | Some p ↦ is_numbered p ]
 
--- none does at the byte that begins a symbol
+-- no kind takes a production with a number at the byte that begins a symbol
 none_numbered : (kind : Kind) → numbered_at kind 95 ≡ false
 unfolding numbered_at wide_choose wide_alternatives pick is_in in_ranges among is_numbered
 none_numbered Kind.Symbol = refl
@@ -569,7 +537,7 @@ or_none : (x : Bool) → x || false ≡ true → x ≡ true
 or_none true is = refl
 or_none false is = is
 
--- a symbol begins with this byte
+-- a symbol begins with byte 95, `_`
 pub symbol_begins : (shape : Tree) → IsTree wide (OfKind SYMBOL) shape → (more : List ℕ) × (spell shape ≡ 95 ∷ more)
 unfolding wide_choose wide_alternatives pick kinds is_in in_ranges among rule_taken wide wide_sheet sheet_with blank may_be_empty
 symbol_begins empty is = absurd (false≢true is)
@@ -618,7 +586,7 @@ module _ (s : List ℕ) (shape : Tree) (is : IsTree wide (OfKind SYMBOL) shape) 
         tree_same wide wide_sound s (tallied cpp makes) (tallied (linked s) makes).begin (tallied (linked s) makes).close counts_begin counts_close (OfKind SYMBOL) first_around 0 shape (tally first_state 0) []
         wide_sound.start is at_front
 
--- And likewise in the wide grammar.
+-- Likewise in the wide grammar.
 module _ (s : List ℕ) (shape : Tree) (is : IsTree wide (OfKind SYMBOL) shape) (spelled : spell shape ≡ s) where
   abbrev wide_more : List ℕ
   wide_more = (symbol_begins shape is).0

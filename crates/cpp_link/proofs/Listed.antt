@@ -1,16 +1,6 @@
 -- The numbers of candidates in the two lists that compilers may have.
-use Rattle.std.proofs.Common.{◌≡◌, refl, sym, ◌∙◌, ap, subst, arith, ℕ, zero, suc, ◌+◌, ◌-◌, ◌<◌, ◌≤◌, ◌⊎◌, inl, inr, List, [], ◌∷◌, ◌++◌, length, length-append, get_or, Bool, true, false, not, ◌&&◌, ◌||◌}
-use Rattle.std.specs.Prelude.{slice_set}
-use Rattle.std.proofs.lemmas.Bool.{false≢true, cases_lt}
-use Rattle.std.proofs.lemmas.List.{get_or_append_left}
-use Rattle.std.proofs.Math.Seq.{get_or-append_seam}
-use Rattle.cpp_grammar.specs.Values.{Counted, by_all, by_newer, by_gcc, by_clang, by_some}
-use Rattle.cpp_grammar.specs.Rescoping.{is_by_all, is_by_newer, joined}
-use Rattle.cpp_term.specs.Term.{Term}
+use Rattle.cpp_link.proofs.Basics.{◌≡◌, refl, sym, ◌∙◌, ap, subst, arith, ℕ, zero, suc, ◌+◌, ◌-◌, ◌<◌, ◌≤◌, ◌⊎◌, inl, inr, List, [], ◌∷◌, ◌++◌, length, length-append, get_or, Bool, true, false, not, ◌&&◌, ◌||◌, slice_set, false≢true, cases_lt, get_or_append_left, get_or-append_seam, Counted, by_all, by_newer, by_gcc, by_clang, by_some, is_by_all, is_by_newer, joined, Term, is_before_holder, is_in_list, place_in, counted_so_far, both, Candidate}
 use Rattle.cpp_term.specs.Values as values
-use Rattle.cpp_term.specs.Rescoping.{is_before_holder, is_in_list, place_in, counted_so_far}
-use Rattle.cpp_term.proofs.Notes.{both}
-use Rattle.cpp_references.specs.declared.candidates.Candidate.{Candidate}
 use Rattle.cpp_references.specs.Around.{counted_of, candidate_of, candidates_of, AreNodesThere}
 use Rattle.cpp_link.specs.Counting.{marks, inside, place_of, IsListed, placed, with_place}
 use Rattle.cpp_link.proofs.Appending.{candidates_push, many_candidates}
@@ -50,7 +40,7 @@ unfolding counted_so_far
 all_before x [] is = all_is x is
 all_before x (c ∷ cs) is = (joined_all x c.counted (all_before (joined x c.counted) cs is)).0
 
--- the first one is counted by all, and so are the others
+-- if all compilers count each of these candidates, they count the first one and each of the others
 all_first : (c : values.Candidate) (cs : List values.Candidate) → is_by_all (counted_so_far by_all (c ∷ cs)) ≡ true → (c.counted ≡ by_all) × (is_by_all (counted_so_far by_all cs) ≡ true)
 unfolding counted_so_far joined
 all_first c cs is = let first = all_before c.counted cs is in (first, subst (λ x. is_by_all (counted_so_far x cs) ≡ true) first is)
@@ -99,7 +89,7 @@ place_there sh (c ∷ cs) k less = go (is_in_list sh c cs) k less (λ j. place_t
     go true zero less more = omega arith
     go true (suc j) less more = omega (arith, more j (omega (arith, less)))
 
--- others have none
+-- a number past the list has no place
 pub place_past : (sh : Bool) (cs : List values.Candidate) (k : ℕ) → inside sh cs ≤ k → length cs ≤ place_in sh cs k
 unfolding place_in inside
 place_past sh [] k past = omega arith
@@ -158,7 +148,7 @@ module _ (sh : Bool) (d : values.Candidate) (plain : is_by_newer d.counted ≡ f
       go true zero less more = refl
       go true (suc j) less more = ap suc (more j (omega (arith, less)))
 
-  -- its number is the next one, if it's in the list
+  -- the number of the added candidate is the next one, if it is in the list
   pub place_last : is_in_list sh d [] ≡ true → (cs : List values.Candidate) (k : ℕ) → k ≡ inside sh cs → place_in sh (cs ++ d ∷ []) k ≡ length cs
   unfolding place_in inside
   place_last last [] k is = rw is (ap (λ b. elim b as (λ _. ℕ) [ false ↦ suc 0 | true ↦ zero ]) last)
@@ -174,7 +164,7 @@ module _ (sh : Bool) (d : values.Candidate) (plain : is_by_newer d.counted ≡ f
 
 -- ## A name with its M, which takes the place of the one before it
 
--- whether the last one is counted by all
+-- whether all compilers count the last candidate
 unfoldable pub last_all : List values.Candidate → Bool
 last_all [] = false
 last_all (c ∷ []) = is_by_all c.counted
@@ -217,7 +207,7 @@ module _ (d : values.Candidate) (holds : d.counted ≡ by_newer) where
   longer_same c [] = longer_two c ∙ sym (longer_one c)
   longer_same c (e ∷ cs) = ap (λ n. elim (is_in_list false c (e ∷ cs)) as (λ _. ℕ) [ true ↦ suc n | false ↦ n ]) (longer_same e cs)
 
-  -- the last number of the longer list is its own
+  -- what was the last number of the longer list now names the added candidate
   pub longer_last : (c : values.Candidate) (cs : List values.Candidate) (k : ℕ) → suc k ≡ inside false (c ∷ cs) → place_in false ((c ∷ cs) ++ d ∷ []) k ≡ length (c ∷ cs)
   unfolding place_in inside is_in_list is_before_holder
   longer_last c [] k is =
@@ -231,7 +221,7 @@ module _ (d : values.Candidate) (holds : d.counted ≡ by_newer) where
       go true zero is more = absurd (omega (arith, is, some_longer e cs))
       go true (suc j) is more = ap suc (more j (omega (arith, is)))
 
-  -- the numbers before it have the same places
+  -- the numbers before that one keep their places
   pub longer_before : (c : values.Candidate) (cs : List values.Candidate) (k : ℕ) → suc k < inside false (c ∷ cs) → place_in false ((c ∷ cs) ++ d ∷ []) k ≡ place_in false (c ∷ cs) k
   unfolding place_in inside is_in_list is_before_holder
   longer_before c [] k less = absurd (omega (arith, less, longer_one c))
@@ -255,7 +245,7 @@ module _ (d : values.Candidate) (holds : d.counted ≡ by_newer) where
   unfolding inside is_in_list is_before_holder last_all
   shorter_one c = refl
 
-  -- the shorter list has neither
+  -- the shorter list has neither the added candidate nor the one before it
   pub shorter_less : (c : values.Candidate) (cs : List values.Candidate) → inside true ((c ∷ cs) ++ d ∷ []) + elim (last_all (c ∷ cs)) [ true ↦ 1 | false ↦ 0 ] ≡ inside true (c ∷ cs)
   unfolding inside last_all is_in_list is_before_holder
   shorter_less c [] = omega (arith, shorter_none c, shorter_one c)
@@ -389,7 +379,7 @@ module _ (sh : Bool) (apart : ℕ) (cs : List Candidate) (c : Candidate) (listed
     many : inside sh (marks (cs ++ c ∷ [])) ≡ inside sh (marks cs) + inside sh (mark ∷ [])
     many = ap (λ xs. inside sh xs) pushed ∙ inside_more sh mark plain (marks cs)
 
-    -- one that isn't in the list
+    -- a candidate is added that isn't in the list
     pub listed_out : inside sh (mark ∷ []) ≡ 0 → IsListed sh (apart + 1) (cs ++ c ∷ [])
     listed_out out = record {
       count = omega (arith, many, out, listed.count, length_more cs c);
@@ -399,7 +389,7 @@ module _ (sh : Bool) (apart : ℕ) (cs : List Candidate) (c : Candidate) (listed
     }
 
     module _ (last : is_in_list sh mark [] ≡ true) (alone : inside sh (mark ∷ []) ≡ 1) where
-      -- one whose own place is its number
+      -- a candidate is added that holds its own place
       pub listed_same : inside sh (marks cs) ≡ length cs → place_of sh c ≡ length cs → IsListed sh apart (cs ++ c ∷ [])
       listed_same all own = record {
         count = omega (arith, many, alone, listed.count, length_more cs c);
@@ -414,7 +404,7 @@ module _ (sh : Bool) (apart : ℕ) (cs : List Candidate) (c : Candidate) (listed
               ap (λ n. place_of sh (get_or (cs ++ c ∷ []) n d)) (here ∙ all) ∙ ap (place_of sh) (get_or-append_seam cs c [] d) ∙ own
               ∙ sym (many_candidates [] cs) ∙ sym (place_last sh mark plain last (marks cs) k here) ∙ ap (λ xs. place_in sh xs k) (sym pushed)
 
-      -- one whose place the candidate of its number holds
+      -- a candidate is added, and the entry with its number holds its place
       pub listed_put : (number place : ℕ) → number ≡ length cs - apart → place ≡ length cs → IsListed sh apart (with_place sh (cs ++ c ∷ []) number place)
       listed_put number place number_is place_is = record {
         count = ap (λ xs. apart + inside sh xs) (with_same sh [] (cs ++ c ∷ []) number place) ∙ omega (arith, many, alone, listed.count, length_more cs c) ∙ sym (with_length sh (cs ++ c ∷ []) number place);
@@ -489,7 +479,7 @@ module _ (apart : ℕ) (b : Candidate) (bs : List Candidate) (c : Candidate) (ho
       go true is few = omega (arith, is, few, listed.count, length_more before c, ap (λ xs. inside true xs) held_pushed)
       go false is few = omega (arith, is, few, listed.count, length_more before c, ap (λ xs. inside true xs) held_pushed)
 
--- the last one decides it
+-- `last_all` says whether all compilers count the last candidate
 pub last_is : (cs : List Candidate) (d : Candidate) → 0 < length cs → last_all (marks cs) ≡ is_by_all (counted_of (get_or cs (length cs - 1) d).counted)
 unfolding last_all
 last_is [] d some = absurd (omega (arith, some))
@@ -505,7 +495,7 @@ unfolding counted_so_far
 so_far_more x [] d = refl
 so_far_more x (c ∷ cs) d = so_far_more (joined x c.counted) cs d
 
--- whatever the trees are
+-- which compilers count the list doesn't depend on the trees
 pub so_far_same : (ts us : List Term) (x : Counted) (cs : List Candidate) → counted_so_far x (candidates_of ts cs) ≡ counted_so_far x (candidates_of us cs)
 unfolding counted_so_far
 so_far_same ts us x [] = refl

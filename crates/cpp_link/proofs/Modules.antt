@@ -1,29 +1,9 @@
 -- What is done with a module that a substitution names is what the wide reading says.
-use Rattle.std.proofs.Common.{◌≡◌, refl, sym, ◌∙◌, ap, arith, ℕ, ◌-◌, List, [], ◌∷◌, length, Bool, true, false, not, ◌&&◌, Option, Some, None, Err}
-use Rattle.std.proofs.lemmas.Bool.{eqb-true}
-use Rattle.sym_core.specs.Value.{counted_value}
-use Rattle.sym_core.specs.declared.NumberKind.TheVariants.{Seq36}
-use Rattle.sym_core.specs.declared.refusal.Refusal.TheVariants.{BadReference}
-use Rattle.cpp_grammar.specs.declared.production.Production.{Production}
-use Rattle.cpp_term.specs.Term.{Term}
-use Rattle.cpp_term.specs.Scope.{is_open}
-use Rattle.cpp_term.specs.Values.{State, Around, Value, part, text_of}
-use Rattle.cpp_term.specs.Between.{Continuation, listed_so_far}
-use Rattle.cpp_term.specs.References.{is_module}
-use Rattle.cpp_term.specs.Rescoping.{named_by_both, module_of, module_named, module_so_far, between_wide}
-use Rattle.cpp_tree.specs.Nodes.{Stored, tree_at}
-use Rattle.cpp_references.specs.declared.around.Surroundings.{Surroundings}
-use Rattle.cpp_references.specs.declared.candidates.Candidate.{Candidate}
-use Rattle.cpp_link.specs.declared.part.Step.{Step}
-use Rattle.cpp_link.specs.LinkRescoping.{steps_apart, with_mark, going_marked}
-use Rattle.cpp_link.specs.Parts.{trees_in, around_of, candidates_of}
-use Rattle.cpp_link.specs.Reads.{goes_on, behind_first, named_if, maybe_candidate}
-use Rattle.cpp_link.specs.NodeCount.{makes_before}
-use Rattle.cpp_link.specs.Owed.{made_before}
+use Rattle.cpp_link.proofs.Basics.{◌≡◌, refl, sym, ◌∙◌, ap, arith, ℕ, ◌-◌, List, [], ◌∷◌, length, Bool, true, false, not, ◌&&◌, Option, Some, None, Err, eqb-true, counted_value, Seq36, BadReference, Production, Term, is_open, State, Around, Value, part, text_of, Continuation, listed_so_far, is_module, named_by_both, module_of, module_named, module_so_far, between_wide, Stored, tree_at, Surroundings, Candidate, Step, steps_apart, with_mark, going_marked, trees_in, around_of, candidates_of, goes_on, behind_first, named_if, maybe_candidate, makes_before, made_before}
 
 -- ## What a number names
 
--- the module among the candidates, by the candidate that both lists name
+-- the module that a number names, read from the candidate that both lists name
 pub module_is : (ts : List Term) (cs : List Candidate) (number : ℕ) (named : Option Candidate) (state : State) → maybe_candidate ts named ≡ named_by_both (candidates_of ts cs) number → state.candidates ≡ candidates_of ts cs
     → module_named number state ≡ module_of (maybe_candidate ts named)
 unfolding module_named
@@ -43,12 +23,12 @@ nothing_named ts = refl
 
 -- ## What is done before a part
 
--- the part it comes before
+-- what is done for a module that a substitution names is done before the module's second part
 pub module_second : (p : Production) (l : Bool) (before : ℕ) → p ≡ Production.NamedModule → steps_apart p l before ≡ true → before ≡ 1
 unfolding steps_apart
 module_second p l before is apart = eqb-true before 1 (ap (λ q. steps_apart q l before) (sym is) ∙ apart)
 
--- a module is the name so far
+-- a module that is named becomes the name so far
 pub module_read : (s : List ℕ) (y : Stored) (kept : Surroundings) (place : ℕ) (vs : List Value) (state : State) (packs : Option ℕ) (digits : List ℕ) (node : ℕ) → length vs ≡ 1 → digits ≡ text_of (part vs 0)
     → module_named (counted_value Seq36 digits) state ≡ Some (tree_at (trees_in s y) node)
     → between_wide Production.NamedModule (around_of (trees_in s y) kept) place vs (record state { packs = packs })
@@ -60,7 +40,7 @@ module_read s y kept place (v ∷ []) state packs digits node one own named =
     ap (λ m. elim m as (λ _. Continuation) [ None ↦ Err (BadReference (place - 1)) | Some t ↦ listed_so_far (around_of (trees_in s y) kept) t [] (record state { packs = packs }) ])
     (ap (λ ds. module_of (named_by_both state.candidates (counted_value Seq36 ds))) (sym own) ∙ named)
 
--- what is no module is refused
+-- a number that names no module is refused
 pub module_refused : (around : Around) (place : ℕ) (vs : List Value) (state : State) (packs : Option ℕ) (digits : List ℕ) → length vs ≡ 1 → digits ≡ text_of (part vs 0) → module_named (counted_value Seq36 digits) state ≡ None
     → between_wide Production.NamedModule around place vs (record state { packs = packs }) ≡ Err (BadReference (place - 1))
 unfolding between_wide module_so_far module_named part
@@ -70,7 +50,7 @@ module_refused around place (v ∷ []) state packs digits one own none =
     ap (λ m. elim m as (λ _. Continuation) [ None ↦ Err (BadReference (place - 1)) | Some t ↦ listed_so_far around t [] (record state { packs = packs }) ])
     (ap (λ ds. module_of (named_by_both state.candidates (counted_value Seq36 ds))) (sym own) ∙ none)
 
--- no node is made
+-- a module that a substitution names makes no node
 pub module_makes : (known : List Value) → length known ≡ 1 → 0 ≡ makes_before Production.NamedModule known
 unfolding makes_before made_before
 module_makes (v ∷ []) one = refl

@@ -1,25 +1,8 @@
--- What an S names by two lists.
-use Rattle.std.proofs.Common.{◌≡◌, refl, sym, ◌∙◌, ap, subst, arith, ℕ, zero, suc, ◌+◌, ◌<◌, ◌≤◌, ◌⊎◌, inl, inr, List, [], ◌∷◌, length, Bool, true, false, Option, Some, None}
-use Rattle.std.specs.Prelude.{slice_get, nat_eq, MatchOption, IfSome}
-use Rattle.std.proofs.lemmas.Bool.{false≢true, eqb-true, eq-eqb, ne_eqb}
+-- What an `S` names by two lists.
+use Rattle.cpp_link.proofs.Basics.{◌≡◌, refl, sym, ◌∙◌, ap, subst, arith, ℕ, zero, suc, ◌+◌, ◌<◌, ◌≤◌, ◌⊎◌, inl, inr, List, [], ◌∷◌, length, Bool, true, false, Option, Some, None, slice_get, nat_eq, MatchOption, IfSome, false≢true, eqb-true, eq-eqb, ne_eqb, both_lists, longer_list, shorter_list, no_list, by_all, is_by_all, is_by_some, left_by, Term, State, place_in, named_in, named_by_both, counted_so_far, can_be_named, has_head, left_at, both, Candidate, candidate_at, candidate_there, Lists, Linked, lists_after, named_left, named_after, state_of, IsNamed, trees_in, candidates_of, AreNodesThere, maybe_candidate}
 use Rattle.cpp_grammar.specs.Values as plain
-use Rattle.cpp_grammar.specs.Values.{both_lists, longer_list, shorter_list, no_list, by_all}
-use Rattle.cpp_grammar.specs.Rescoping.{is_by_all, is_by_some, left_by}
-use Rattle.cpp_term.specs.Term.{Term}
 use Rattle.cpp_term.specs.Values as values
-use Rattle.cpp_term.specs.Values.{State}
-use Rattle.cpp_term.specs.Rescoping.{place_in, named_in, named_by_both, counted_so_far, can_be_named, has_head, left_at}
-use Rattle.cpp_term.proofs.Notes.{both}
-use Rattle.cpp_references.specs.declared.candidates.Candidate.{Candidate}
-use Rattle.cpp_references.proofs.Numbering.{candidate_at, candidate_there}
-use Rattle.cpp_link.specs.declared.counting.Lists.{Lists}
-use Rattle.cpp_link.specs.declared.linked.Linked.{Linked}
 use Rattle.cpp_link.specs.Counting.{marks, lists_of, expected_of, is_one_place, IsCounted}
-use Rattle.cpp_link.specs.LinkRescoping.{lists_after, named_left, named_after}
-use Rattle.cpp_link.specs.Making.{state_of}
-use Rattle.cpp_link.specs.Naming.{IsNamed}
-use Rattle.cpp_link.specs.Parts.{trees_in, candidates_of, AreNodesThere}
-use Rattle.cpp_link.specs.Reads.{maybe_candidate}
 use Rattle.cpp_link.proofs.Listed.{one_place, place_same, place_behind, so_far_same}
 
 none_at : {X : Type 0} (xs : List X) (k : ℕ) → length xs ≤ k → slice_get xs k ≡ None
@@ -36,7 +19,7 @@ some_all : {X : Type 0} (o : Option X) (P : Type 0) → P → IfSome o (λ x. P)
 some_all None P p = tt
 some_all (Some x) P p = p
 
--- the candidate of the list that is left
+-- the candidate of the list that remains
 abbrev pub picked : Lists → (longer shorter : Option Candidate) → Option Candidate
 picked Lists.Longer longer shorter = longer
 picked Lists.Shorter longer shorter = shorter
@@ -73,7 +56,7 @@ module _ (s : List ℕ) (l : Linked) (place number : ℕ) where
   unfolding maybe_candidate
   past_named is_shorter past = sym (at_named is_shorter None (sym (none_at items (at is_shorter) past)))
 
-  -- where both lists have one place
+  -- where both lists have the same place
   alike : at false ≡ at true → nat_eq (place_in false cs number) (place_in true cs number) ≡ true
   alike same = eq-eqb _ _ (at_is false ∙ same ∙ sym (at_is true))
 
@@ -85,7 +68,7 @@ module _ (s : List ℕ) (l : Linked) (place number : ℕ) where
   unfolding lists_after
   alike_lists same = ap (λ b. elim b as (λ _. plain.Lists) [ true ↦ state.counting.lists | false ↦ left_at place number state ]) (alike same)
 
-  -- where they have two
+  -- where they have different places
   apart : (at false ≡ at true → ⊥) → nat_eq (place_in false cs number) (place_in true cs number) ≡ false
   apart other = ne_eqb _ _ (λ same. other (sym (at_is false) ∙ same ∙ at_is true))
 
@@ -97,7 +80,7 @@ module _ (s : List ℕ) (l : Linked) (place number : ℕ) where
   unfolding lists_after
   apart_lists other = ap (λ b. elim b as (λ _. plain.Lists) [ true ↦ state.counting.lists | false ↦ left_at place number state ]) (apart other)
 
-  -- where they have none
+  -- where neither has a place
   none_named : length items ≤ at false → length items ≤ at true → named_after place number state ≡ None
   unfolding named_after named_left
   none_named longer shorter = go (nat_eq (place_in false cs number) (place_in true cs number))
@@ -146,7 +129,7 @@ module _ (s : List ℕ) (l : Linked) (place number : ℕ) where
     there_at : (c : Option Candidate) (k : ℕ) → c ≡ slice_get items k → IfSome c (λ d. d.node < length l.nodes.nodes)
     there_at c k is = subst (λ o. IfSome o (λ d. d.node < length l.nodes.nodes)) (sym is) (candidate_there _ items k there)
 
-    -- both lists have one candidate
+    -- both lists name the same candidate
     pub named_alike : (c : Option Candidate) → c ≡ slice_get items (at false) → at false ≡ at true → IsNamed s l place number c l.counting.lists
     named_alike c is same = record {
       is = at_named false c is ∙ sym (alike_named same);
@@ -164,7 +147,7 @@ module _ (s : List ℕ) (l : Linked) (place number : ℕ) where
         let second = one_place true (marks items) number all in
         named_alike c (is ∙ ap (λ k. slice_get items k) (sym first)) (first ∙ sym second)
 
-    -- neither has one
+    -- neither list has a candidate of this number
     pub named_past : (lists : Lists) → length items ≤ number → IsNamed s l place number None lists
     unfolding maybe_candidate
     named_past lists past = record {
@@ -173,19 +156,19 @@ module _ (s : List ℕ) (l : Linked) (place number : ℕ) where
       there = tt;
     }
 
-    -- no list has that many
+    -- neither list has that many candidates
     pub named_nowhere : (bound : ℕ) → bound ≤ number → (c : Option Candidate) → ((n : ℕ) → bound ≤ n → c ≡ slice_get items n) → (lists : Lists) → IsNamed s l place number c lists
     named_nowhere bound past c at lists =
         let nothing : c ≡ None = at (number + length items) (omega (arith, past)) ∙ none_at items (number + length items) (omega arith) in
         subst (λ o. IsNamed s l place number o lists) (sym nothing) (named_past lists (past_at items number (sym (at number past) ∙ nothing)))
 
-    -- the lists that are left by these two candidates
+    -- the lists that remain, given the two candidates
     abbrev left_of : (longer shorter : Option values.Candidate) → plain.Lists
     left_of longer shorter =
         left_by state.counting.lists (can_be_named state.counting.expected place longer) (can_be_named state.counting.expected place shorter)
         (has_head state.counting.expected place longer) (has_head state.counting.expected place shorter)
 
-    -- the longer list is none that a compiler has
+    -- no compiler has the longer list
     pub named_none : (o p : Option ℕ) → IsAt false o → IsAt true p → is_one_place o p ≡ false → is_by_some (counted_so_far by_all (marks items)) ≡ true → IsNamed s l place number None Lists.Neither
     unfolding maybe_candidate left_at named_left
     named_none o p longer shorter two some = record { is = sym (go (other_place o p longer shorter two)); lists = tt; there = tt }
@@ -198,7 +181,7 @@ module _ (s : List ℕ) (l : Linked) (place number : ℕ) where
             ]) cs number) (ap is_by_some (so_far_same ts [] by_all items) ∙ some)
         go (inr past) = none_named past.0 past.1
 
-    -- one list is left, or none
+    -- one list remains, or none
     pub named_by_one : (o p : Option ℕ) (first second : Option Candidate) (fits_longer fits_shorter has_longer has_shorter : Bool) (lists : Lists) → IsAt false o → IsAt true p → is_one_place o p ≡ false
         → is_by_some (counted_so_far by_all (marks items)) ≡ false → first ≡ slice_get items (at false) → second ≡ slice_get items (at true)
         → fits_longer ≡ can_be_named (expected_of l.counting.expected) place (maybe_candidate ts first) → fits_shorter ≡ can_be_named (expected_of l.counting.expected) place (maybe_candidate ts second)
@@ -254,14 +237,14 @@ module _ (s : List ℕ) (l : Linked) (place number : ℕ) where
         let first = one_place false (marks items) number all in
         let second = one_place true (marks items) number all in (both_is (first ∙ sym second) c (is ∙ ap (λ k. slice_get items k) (sym first)), there_at c number is)
 
-    -- where both lists have one place, or two
+    -- both lists name one candidate if the number has the same place in both
     pub both_one : (o p : Option ℕ) (c : Option Candidate) → IsAt false o → IsAt true p → c ≡ slice_get items (at false) → is_one_place o p ≡ true → IsBoth c
     both_one o p c longer shorter is one = (both_is (same_place o p longer shorter one) c is, there_at c (at false) is)
 
     pub both_two : (o p : Option ℕ) → IsAt false o → IsAt true p → is_one_place o p ≡ false → IsBoth None
     both_two o p longer shorter two = (both_none (other_place o p longer shorter two), tt)
 
-    -- where no list has that many
+    -- neither list has that many candidates
     pub both_nowhere : (bound : ℕ) → bound ≤ number → (c : Option Candidate) → ((n : ℕ) → bound ≤ n → c ≡ slice_get items n) → IsBoth None
     both_nowhere bound past c named =
         let nothing : c ≡ None = named (number + length items) (omega (arith, past)) ∙ none_at items (number + length items) (omega arith) in

@@ -1,22 +1,6 @@
 -- What is made before the parts of a rule and where it closes is what its production makes.
 use Rattle.std.proofs.Common.{◌≡◌, refl, ◌∙◌, ap, arith, ℕ, ◌+◌, ◌-◌, ◌<◌, ◌≤◌, List, [], ◌∷◌, length, drop, length-drop, Ok, Err}
-use Rattle.std.specs.Prelude.{Result, OnOk}
-use Rattle.sym_core.specs.declared.refusal.Refusal.{Refusal}
-use Rattle.sym_link.specs.declared.language.Frame.{Frame}
-use Rattle.sym_link.specs.Reading.{Open}
-use Rattle.sym_link.specs.Threads.{IsAt}
-use Rattle.cpp_grammar.specs.declared.production.Production.{Production}
-use Rattle.cpp_grammar.specs.Unfolding.{production_at}
-use Rattle.cpp_term.specs.Term.{Term}
-use Rattle.cpp_term.specs.Values.{State, Value, Around, is_there}
-use Rattle.cpp_link.specs.declared.linked.Linked.{Linked}
-use Rattle.cpp_references.specs.declared.around.Surroundings.{Surroundings}
-use Rattle.cpp_link.specs.declared.part.Part.{Part}
-use Rattle.cpp_link.specs.Owed.{made_at_end}
-use Rattle.cpp_link.specs.Parts.{trees_in, value_of, values_in}
-use Rattle.cpp_link.specs.Tables.{quiet_parts}
-use Rattle.cpp_link.specs.NodeCount.{makes_before, makes_at_end, one_if_there, pack_before}
-use Rattle.cpp_link.specs.View.{cpp_view}
+use Rattle.cpp_link.proofs.Basics.{Result, OnOk, Refusal, Frame, Open, IsAt, Production, production_at, Term, State, Value, Around, is_there, Linked, Surroundings, Part, made_at_end, trees_in, value_of, values_in, quiet_parts, makes_before, makes_at_end, one_if_there, pack_before, cpp_view}
 use Rattle.cpp_link.proofs.Places.{values_length}
 use Rattle.cpp_link.proofs.RowNodes.{quiet_makes}
 use Rattle.cpp_link.proofs.Viewing.{parts_are}
@@ -32,7 +16,7 @@ quiet_made s old frame parts held counted less =
           (omega (arith, values_length s (trees_in s old.nodes) (drop frame.base parts), length-drop frame.base parts, counted, less)),
     )
 
--- what a production makes of these parts, the frame's rule makes of its own
+-- what a production makes of these parts is what the frame's rule makes of its own parts
 pub made_before_part : (s : List ℕ) (old : Linked) (frame : Frame Surroundings) (parts own : List Part) (p : Production) (made : ℕ) → own ≡ drop frame.base parts → p ≡ production_at frame.rule
     → made ≡ makes_before p (values_in s old.nodes own) → made ≡ makes_before (production_at frame.rule) (values_in s old.nodes (drop frame.base parts))
 made_before_part s old frame parts own p made same numbered is = rw (← same, ← numbered) is

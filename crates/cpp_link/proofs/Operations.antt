@@ -1,14 +1,6 @@
--- What is read of operations.
-use Rattle.std.proofs.Common.{◌≡◌, refl, ℕ, List, true, false, Option}
-use Rattle.std.proofs.lemmas.Bool.{true≢false}
-use Rattle.cpp_term.specs.Term.{Term, operation, address_of}
-use Rattle.cpp_term.specs.Meaning.{operation_or_address, is_comma, ends_arguments}
-use Rattle.cpp_term.specs.Reargued.{reargued}
-use Rattle.cpp_tree.specs.declared.node.Node.{Node}
-use Rattle.cpp_tree.specs.declared.node.Thunk.{Thunk}
+-- What is read from operations.
+use Rattle.cpp_link.proofs.Basics.{◌≡◌, refl, ℕ, List, true, false, Option, true≢false, Term, operation, address_of, operation_or_address, is_comma, ends_arguments, reargued, Node, Thunk, tree_at, is_again, comma_node, ending_node}
 use Rattle.cpp_tree.specs.Nodes as nodes
-use Rattle.cpp_tree.specs.Nodes.{tree_at, is_again}
-use Rattle.cpp_link.specs.Reads.{comma_node, ending_node}
 
 pub comma_is : (s : List ℕ) (us : List Thunk) (ts : List Term) (given : Option Term) (node : Node) → is_again node ≡ false → is_comma (reargued given (nodes.tree_of s us ts node)) ≡ comma_node node
 unfolding is_comma nodes.tree_of comma_node reargued is_again
@@ -22,7 +14,7 @@ ending_is s us ts given (Node.Reargued t a) own = absurd (true≢false own)
 ending_is s us ts given Node.Absent own = refl
 ending_is s us ts given _ own = refl
 
--- the operation that takes the address of what a node denotes, whatever the argument under which its parts are
+-- the operation that takes the address of a node's tree, whichever argument the node's parts are under
 pub address_is : (s : List ℕ) (us : List Thunk) (ts : List Term) (given : Option Term) (encoding first second : ℕ) (t right : Term) → t ≡ reargued given (nodes.tree_of s us ts (Node.EncodingLiteral encoding))
     → operation_or_address true first second t right ≡ address_of (tree_at ts encoding)
 unfolding operation_or_address nodes.tree_of reargued

@@ -1,23 +1,6 @@
--- The value of a substitution for a tree whose parameter isn't meant here.
-use Rattle.std.proofs.Common.{◌≡◌, refl, sym, ◌∙◌, ap, subst, ℕ, List, true, false, Option, Some, None, Result, Ok, Err}
-use Rattle.std.specs.Prelude.{OnOk}
-use Rattle.sym_core.specs.declared.refusal.Refusal.{Refusal}
-use Rattle.sym_core.specs.declared.refusal.Refusal.TheVariants.{BadReference}
-use Rattle.sym_link.specs.Reading.{Found}
+-- The value of a substitution, by whether its candidate's free parameters may denote other arguments here.
+use Rattle.cpp_link.proofs.Basics.{◌≡◌, refl, sym, ◌∙◌, ap, subst, ℕ, List, true, false, Option, Some, None, Result, Ok, Err, OnOk, Refusal, BadReference, Found, substituted, is_foreign, restated, with_lists, numbered, substituted_wide, both, Candidate as Noted, Lists, Linked, Part, lists_after, substituted_nodes, state_of, IsNamed, trees_in, candidate_of, MakesPart, maybe_candidate}
 use Rattle.cpp_term.specs.Values.{Around, State, Candidate, Value}
-use Rattle.cpp_term.specs.References.{substituted}
-use Rattle.cpp_term.specs.Rescoping.{is_foreign, restated, with_lists, numbered, substituted_wide}
-use Rattle.cpp_term.proofs.Notes.{both}
-use Rattle.cpp_references.specs.declared.candidates.Candidate.{Candidate as Noted}
-use Rattle.cpp_link.specs.declared.counting.Lists.{Lists}
-use Rattle.cpp_link.specs.declared.linked.Linked.{Linked}
-use Rattle.cpp_link.specs.declared.part.Part.{Part}
-use Rattle.cpp_link.specs.LinkRescoping.{lists_after, substituted_nodes}
-use Rattle.cpp_link.specs.Making.{state_of}
-use Rattle.cpp_link.specs.Naming.{IsNamed}
-use Rattle.cpp_link.specs.Parts.{trees_in, candidate_of}
-use Rattle.cpp_link.specs.Progress.{MakesPart}
-use Rattle.cpp_link.specs.Reads.{maybe_candidate}
 use Rattle.cpp_link.specs.View.{GoesOn}
 use Rattle.cpp_link.proofs.Held.{numbered_is}
 
@@ -63,7 +46,7 @@ module _ (s : List ℕ) (l : Linked) (around : Around) (place number : ℕ) (lis
       let none = subst (λ x. IsNamed s l place number x lists) is named in
       numbered_is around place number (state_of s l) ∙ ap (λ x. substituted_wide around place x (with_lists (lists_after place number (state_of s l)) (state_of s l))) (sym none.is) ∙ named_nothing around place (with_lists (lists_after place number (state_of s l)) (state_of s l))
 
-  -- what was made after the lists were told apart
+  -- a part that is made after the lists were chosen is also made from the state before the choice
   pub made_relisted : (new : Linked) (most count : ℕ) (result : Result Part Refusal) → MakesPart s relisted new most count result → MakesPart s l new most count result
   made_relisted new most count result made = record {
     there = made.there;

@@ -1,30 +1,6 @@
 -- What is done in a constraint, at a literal in it that denotes an encoding, and in that encoding, is what the wide reading says.
-use Rattle.std.proofs.Common.{◌≡◌, refl, sym, ◌∙◌, ap, subst, arith, ℕ, ◌<◌, ◌≤◌, List, [], ◌∷◌, length, Bool, true, false, ◌&&◌, nat_eq, nat_lt, Option, Some, None, Result, Ok}
-use Rattle.std.proofs.lemmas.Bool.{true≢false, false≢true, and_parts, eqb-true, ltb-true}
-use Rattle.sym_core.specs.declared.refusal.Refusal.{Refusal}
-use Rattle.sym_core.specs.declared.refusal.Refusal.TheVariants.{Memory}
-use Rattle.sym_link.specs.Driving.{Fails}
-use Rattle.sym_link.specs.Reading.{Found}
-use Rattle.sym_link.specs.Unfold.{found}
-use Rattle.cpp_grammar.specs.declared.production.Production.{Production}
-use Rattle.cpp_grammar.specs.Values.{at_literal, is_in_constraint, is_at_literal}
-use Rattle.cpp_term.specs.Term.{Term}
-use Rattle.cpp_term.specs.Scope.{is_open}
-use Rattle.cpp_term.specs.Values.{State, Around, Value, tree, tree_of, part}
-use Rattle.cpp_term.specs.Between.{next, in_name, in_types}
-use Rattle.cpp_term.specs.Rescoping.{in_constraint_of, is_unseen, in_literal, is_passed_over, passed_over, name_around, types_around, name_if, between_wide}
-use Rattle.cpp_term.specs.Unfolding.{behind}
-use Rattle.cpp_term.proofs.Notes.{both}
-use Rattle.cpp_tree.specs.Nodes.{Stored, tree_at, IsAliasBelow}
+use Rattle.cpp_link.proofs.Basics.{◌≡◌, refl, sym, ◌∙◌, ap, subst, arith, ℕ, ◌<◌, ◌≤◌, List, [], ◌∷◌, length, Bool, true, false, ◌&&◌, nat_eq, nat_lt, Option, Some, None, Result, Ok, true≢false, false≢true, and_parts, eqb-true, ltb-true, Refusal, Memory, Fails, Found, found, Production, at_literal, is_in_constraint, is_at_literal, Term, is_open, State, Around, Value, tree, tree_of, part, next, in_name, in_types, in_constraint_of, is_unseen, in_literal, is_passed_over, passed_over, name_around, types_around, name_if, between_wide, behind, both, Stored, tree_at, IsAliasBelow, Surroundings, Step, link_close, link_meaning, link_close_wide, IsOpenName, name_or, steps_apart, going_marked, makes_before, made_before, trees_in, arguments_in, is_lambda, is_constraint, is_literal, showing_in, around_of, goes_on, with_candidate}
 use Rattle.cpp_references.specs.declared.around.Scope.{Scope}
-use Rattle.cpp_references.specs.declared.around.Surroundings.{Surroundings}
-use Rattle.cpp_link.specs.declared.part.Step.{Step}
-use Rattle.cpp_link.specs.LinkReading.{link_close, link_meaning}
-use Rattle.cpp_link.specs.LinkRescoping.{link_close_wide, IsOpenName, name_or, steps_apart, going_marked}
-use Rattle.cpp_link.specs.NodeCount.{makes_before}
-use Rattle.cpp_link.specs.Owed.{made_before}
-use Rattle.cpp_link.specs.Parts.{trees_in, arguments_in, is_lambda, is_constraint, is_literal, showing_in, around_of}
-use Rattle.cpp_link.specs.Reads.{goes_on, with_candidate}
 use Rattle.cpp_link.proofs.Rescoped.{going_unmarked}
 
 -- ## Surroundings
@@ -53,14 +29,14 @@ pub passed_is : (ts : List Term) (kept : Surroundings) → is_passed_over (aroun
 unfolding is_passed_over around_of
 passed_is ts kept = scope_passed kept.scope
 
--- elsewhere than in a constraint a literal is read as it is
+-- outside of a constraint the surroundings of a literal stay
 pub literal_as_before : (ts : List Term) (kept : Surroundings) → is_constraint kept.scope ≡ false → around_of ts kept ≡ in_literal (around_of ts kept)
 unfolding in_literal
 literal_as_before ts kept other =
     let around : Around = around_of ts kept in
     sym (ap (λ b. elim b as (λ _. Around) [ true ↦ record around { showing = at_literal } | false ↦ around ]) (unseen_is ts kept ∙ other))
 
--- and in one the encoding that it denotes is passed over
+-- in a constraint the encoding that a literal denotes is passed over
 pub literal_in_constraint : (ts : List Term) (kept : Surroundings) → is_constraint kept.scope ≡ true → around_of ts (record kept { scope = Scope.Literal }) ≡ in_literal (around_of ts kept)
 unfolding around_of arguments_in is_lambda is_constraint showing_in in_literal is_unseen is_in_constraint
 literal_in_constraint ts kept here = go kept.scope here
@@ -78,7 +54,7 @@ pub name_apart : (around : Around) (place : ℕ) → is_passed_over around ≡ f
 unfolding name_around
 name_apart around place is = sym (ap (λ b. elim b as (λ _. Around) [ true ↦ passed_over place | false ↦ in_name place ]) is)
 
--- and of its types
+-- the surroundings of the types of an encoding
 pub types_passed : (around : Around) (place : ℕ) (name : Term) → (is_passed_over around && is_open name) ≡ true → passed_over place ≡ types_around around place name
 unfolding types_around
 types_passed around place name is = sym (ap (λ b. elim b as (λ _. Around) [ true ↦ passed_over place | false ↦ in_types place name ]) is)
@@ -140,7 +116,7 @@ encoding_read s y kept then place (v ∷ []) state packs few name types =
     entered s y kept then Production.Encoding place (v ∷ []) state packs (λ same. absurd cc) (λ same. absurd cc) (ap (λ a. next (v ∷ []) a (record state { packs = packs })) (sym (types refl)))
 encoding_read s y kept then place (v ∷ w ∷ vs) state packs few name types = absurd (omega (arith, few))
 
--- no node is made then
+-- a constraint makes no node before its parts
 pub constraint_makes : (known : List Value) → 0 ≡ makes_before Production.Constraint known
 unfolding makes_before made_before
 constraint_makes known = refl
@@ -155,7 +131,7 @@ encoding_makes known = refl
 
 -- ## Where a rule closes
 
--- What is made, or the name where it has free parameters, is what the wide reading says.
+-- What is made, or the name if it has free parameters, is what the wide reading says.
 pub named_is : (old new : List Term) (passed : Bool) (name made meant : Value) (found_ : Option ℕ) (n : ℕ) → passed ≡ true → IsOpenName old (tree_of name) found_ → IsAliasBelow n found_
     → ((i : ℕ) → i < n → tree_at new i ≡ tree_at old i) → made ≡ meant → name_or new found_ made ≡ name_if (passed && is_open (tree_of name)) name meant
 unfolding name_or name_if
@@ -164,7 +140,7 @@ named_is old new true name made meant None n passed is below stays same = same �
 named_is old new true name made meant (Some i) n passed is below stays same =
     ap (λ t. tree t true) (stays i below ∙ is.1) ∙ sym (ap (λ b. elim b as (λ _. Value) [ true ↦ tree (tree_of name) true | false ↦ meant ]) is.0)
 
--- A part of this value closes it.
+-- A part with this value closes the rule.
 pub named_closes : (old new : List Term) (passed : Bool) (name made meant v : Value) (found_ : Option ℕ) (n : ℕ) (held then : State) → passed ≡ true → IsOpenName old (tree_of name) found_ → IsAliasBelow n found_
     → ((i : ℕ) → i < n → tree_at new i ≡ tree_at old i) → made ≡ meant → held ≡ then → v ≡ name_or new found_ made
     → ◌≡◌ {A = Result (Found Value State) Refusal} (Ok (found (name_if (passed && is_open (tree_of name)) name meant) held)) (Ok (found v then))
@@ -176,17 +152,17 @@ found_same v w x y is =
     let same : found v x ≡ found w y = cc in
     (ap (λ (f : Found Value State). f.value) same, ap (λ (f : Found Value State). f.state) same)
 
--- what has a value is refused for want of memory alone
+-- a result with a value is refused only for want of memory
 pub ok_refused : (e : Refusal) (one : Found Value State) → Fails e (Ok one) → e ≡ Memory
 ok_refused Memory one fails = refl
 ok_refused _ one fails = absurd cc
 
--- a node that is there is there among more
+-- existing nodes survive additions
 pub alias_more : (m n : ℕ) (found_ : Option ℕ) → m ≤ n → IsAliasBelow m found_ → IsAliasBelow n found_
 alias_more m n None le below = tt
 alias_more m n (Some i) le below = omega (arith, le, below)
 
--- where nothing is passed over it is what is made
+-- where nothing is passed over, the value is that of what is made
 pub unnamed_is : (passed has_free : Bool) (name meant : Value) → passed ≡ false → name_if (passed && has_free) name meant ≡ meant
 unfolding name_if
 unnamed_is true has_free name meant passed = absurd (true≢false passed)

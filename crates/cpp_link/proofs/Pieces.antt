@@ -1,24 +1,11 @@
 -- A piece of a name follows the name so far.
-use Rattle.std.proofs.Common.{◌≡◌, sym, ◌∙◌, ap, subst, lit<, ℕ, List, [], ◌∷◌, length, get_or, true, false}
-use Rattle.cpp_grammar.specs.declared.production.Production.{Production}
+use Rattle.cpp_link.proofs.Basics.{◌≡◌, sym, ◌∙◌, ap, subst, lit<, ℕ, List, [], ◌∷◌, length, get_or, true, false, Production, between, extended, named_so_far, Node, Piece, piece_of, IsBelow, Surroundings, Linked, Step, made_before, makes_before, trees_in, tree_of_node, around_of, prefix_of, name_of, IsStepThere, goes_on, behind_first, named_if, appended_if, IsStepOf, nodes_of_step}
 use Rattle.cpp_term.specs.Term as term
 use Rattle.cpp_term.specs.Values as values
-use Rattle.cpp_term.specs.Between.{between, extended, named_so_far}
-use Rattle.cpp_tree.specs.declared.node.Node.{Node}
-use Rattle.cpp_tree.specs.declared.node.Piece.{Piece}
-use Rattle.cpp_tree.specs.Nodes.{piece_of, IsBelow}
 use Rattle.cpp_references.specs.declared.around.Prefix.{Prefix}
-use Rattle.cpp_references.specs.declared.around.Surroundings.{Surroundings}
-use Rattle.cpp_link.specs.declared.linked.Linked.{Linked}
-use Rattle.cpp_link.specs.declared.part.Step.{Step}
-use Rattle.cpp_link.specs.Owed.{made_before}
-use Rattle.cpp_link.specs.NodeCount.{makes_before}
-use Rattle.cpp_link.specs.Parts.{trees_in, tree_of_node, around_of, prefix_of, name_of, IsStepThere}
-use Rattle.cpp_link.specs.Reads.{goes_on, behind_first, named_if, appended_if}
-use Rattle.cpp_link.specs.Stepping.{IsStepOf, nodes_of_step}
 
 module _ (s : List ℕ) (l : Linked) (place : ℕ) (kept : Surroundings) (v : values.Value) where
-  -- all that is ensured of a step after the first part
+  -- all that is known of a step after the first part
   abbrev IsBehindFirst : Production → Step → Type 0
   IsBehindFirst p step = record {
     is : (state : values.State) → between p (around_of (trees_in s l.nodes) kept) place (v ∷ []) (record state { packs = l.packs }) ≡ goes_on s l.nodes kept (v ∷ []) state l.packs step;
@@ -27,7 +14,7 @@ module _ (s : List ℕ) (l : Linked) (place : ℕ) (kept : Surroundings) (v : va
     makes : nodes_of_step step ≡ makes_before p (v ∷ []);
   }
 
-  -- the name of this production is the one so far with this piece
+  -- before its second part, this production adds the piece to the name so far
   abbrev Extends : Production → term.Term → Type 0
   Extends p piece = (around : values.Around) (state : values.State) → between p around place (v ∷ []) state ≡ named_so_far around (extended around.prefix piece) [] state
 

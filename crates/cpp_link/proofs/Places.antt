@@ -1,17 +1,7 @@
 -- Parts by their numbers.
-use Rattle.std.proofs.Common.{◌≡◌, refl, ap, arith, lit≤, ℕ, zero, suc, ◌<◌, ◌≤◌, Bool, true, false, not, ◌&&◌, List, [], ◌∷◌, length, get_or}
-use Rattle.std.specs.Prelude.{nat_eq}
-use Rattle.std.proofs.lemmas.Bool.{false≢true, eqb-true, eqb-false}
-use Rattle.cpp_term.specs.Term.{Term, instance}
-use Rattle.cpp_term.specs.Between.{applied}
-use Rattle.cpp_term.specs.Values.{Value, tree, part, tree_of, is_there}
-use Rattle.cpp_tree.specs.Nodes.{tree_at}
+use Rattle.cpp_link.proofs.Basics.{◌≡◌, refl, ap, arith, lit≤, ℕ, zero, suc, ◌<◌, ◌≤◌, Bool, true, false, not, ◌&&◌, List, [], ◌∷◌, length, get_or, nat_eq, false≢true, eqb-true, eqb-false, Term, instance, applied, Value, tree, part, tree_of, is_there, tree_at, Part, one_if_there, one_if_arguments, name_closes, value_of, values_of, IsThere, AreThere}
 use Rattle.cpp_tree.specs.declared.node.Qualifiers.{Qualifiers}
 use Rattle.cpp_tree.specs.declared.node.Mark.{Mark}
-use Rattle.cpp_link.specs.declared.part.Part.{Part}
-use Rattle.cpp_link.specs.NodeCount.{one_if_there, one_if_arguments}
-use Rattle.cpp_link.specs.Closes.{name_closes}
-use Rattle.cpp_link.specs.Parts.{value_of, values_of, IsThere, AreThere}
 
 pub part_at : (s : List ℕ) (ts : List Term) (ps : List Part) (k : ℕ) → value_of s ts (get_or ps k Part.Nothing) ≡ part (values_of s ts ps) k
 unfolding value_of values_of part
@@ -77,7 +67,7 @@ many_more (suc (suc (suc (suc n)))) some one two three = omega arith
 
 -- ## A name with arguments
 
--- one makes a node at its end
+-- a name with arguments makes a node at its end
 pub there_closes : (s : List ℕ) (ts : List Term) (ps : List Part) → is_there (part (values_of s ts ps) 1) ≡ true → 1 ≤ name_closes ps
 unfolding name_closes value_of values_of part is_there
 there_closes s ts [] there = absurd (false≢true there)
@@ -87,7 +77,7 @@ there_closes s ts (p ∷ q ∷ ps) there = lit≤ tt
 
 -- ## What follows a name
 
--- neither absent nor a name that takes its place: its arguments
+-- the part after a name is the name's arguments: it is neither absent nor a tagged name that takes the name's place
 pub record AreArguments (s : List ℕ) (ts : List Term) (t : Term) (p : Part) : Type 0 where
   pub instance_of : applied t (value_of s ts p) ≡ instance t (tree_of (value_of s ts p))
   pub there : is_there (value_of s ts p) ≡ true

@@ -1,20 +1,13 @@
 -- A candidate that was added is numbered in both lists.
-use Rattle.std.proofs.Common.{◌≡◌, refl, sym, ◌∙◌, ap, subst, arith, ℕ, zero, suc, ◌+◌, ◌-◌, ◌<◌, ◌≤◌, List, [], ◌∷◌, ◌++◌, length, get_or, Bool, true, false}
-use Rattle.std.specs.Prelude.{vec_capacity}
-use Rattle.std.proofs.lemmas.Bool.{false≢true}
-use Rattle.cpp_grammar.specs.Values.{Counted, by_all, by_newer, by_gcc, by_clang, by_some}
-use Rattle.cpp_grammar.specs.Rescoping.{is_by_all, is_by_newer, joined}
-use Rattle.cpp_term.specs.Rescoping.{is_before_holder, is_in_list, place_in, counted_so_far}
-use Rattle.cpp_references.specs.declared.candidates.Candidate.{Candidate}
+use Rattle.cpp_link.proofs.Basics.{◌≡◌, refl, sym, ◌∙◌, ap, subst, arith, ℕ, zero, suc, ◌+◌, ◌-◌, ◌<◌, ◌≤◌, List, [], ◌∷◌, ◌++◌, length, get_or, Bool, true, false, vec_capacity, false≢true, Counted, by_all, by_newer, by_gcc, by_clang, by_some, is_by_all, is_by_newer, joined, is_before_holder, is_in_list, place_in, counted_so_far, Candidate, Candidates}
 use Rattle.cpp_references.specs.declared.candidates.Counted.{Counted as Noted}
 use Rattle.cpp_references.specs.declared.candidates.Counted.TheVariants as noted
 use Rattle.cpp_references.specs.Around.{counted_of, candidate_of, candidates_of, AreNodesThere}
-use Rattle.cpp_link.specs.declared.candidates.Candidates.{Candidates}
 use Rattle.cpp_link.specs.Counting.{marks, inside, place_of, placed, with_place, IsListed, AreListed, AreNumbered}
 use Rattle.cpp_link.proofs.Appending.{candidates_push}
 use Rattle.cpp_link.proofs.Listed.{all_inside, some_longer, last_all, last_is, listed_out, listed_same, listed_put, holder_longer, holder_shorter, longer_kept, shorter_kept, so_far_more, with_same, with_length, with_nodes}
 
--- one that is counted so, alone in the list
+-- a list of one candidate has one number if the candidate is in it, and none otherwise
 alone_is : (sh : Bool) (c : Candidate) (b : Bool) → is_in_list sh (candidate_of [] c) [] ≡ b → inside sh (candidate_of [] c ∷ []) ≡ elim b [ true ↦ 1 | false ↦ 0 ]
 unfolding inside
 alone_is sh c b is = ap (λ x. elim x as (λ _. ℕ) [ true ↦ 1 | false ↦ 0 ]) is
@@ -43,13 +36,13 @@ with_both (c ∷ cs) zero p (suc j) q = refl
 with_both (c ∷ cs) (suc i) p zero q = refl
 with_both (c ∷ cs) (suc i) p (suc j) q = ap (λ xs. c ∷ xs) (with_both cs i p j q)
 
--- by whom the longer list is counted then
+-- which compilers count the longer list, once a candidate has been added
 by_more : (x : Counted) (cs items : List Candidate) (c : Candidate) → x ≡ counted_so_far by_all (marks cs) → marks items ≡ marks (cs ++ c ∷ []) → joined x (counted_of c.counted) ≡ counted_so_far by_all (marks items)
 by_more x cs items c is same =
     ap (λ y. joined y (counted_of c.counted)) is ∙ sym (so_far_more by_all (marks cs) (candidate_of [] c)) ∙ ap (λ xs. counted_so_far by_all xs) (sym (candidates_push [] cs c) ∙ sym same)
 
 module _ (n m : ℕ) (by : Noted) (cs : List Candidate) (c : Candidate) (listed : AreListed n m by cs) where
-  -- one that all compilers count
+  -- a candidate that all compilers count
   module _ (all : c.counted ≡ noted.ByAll) where
     is_all : is_by_all (counted_of c.counted) ≡ true
     unfolding is_by_all counted_of
@@ -73,7 +66,7 @@ module _ (n m : ℕ) (by : Noted) (cs : List Candidate) (c : Candidate) (listed 
       by = by_same _ (with_same true [] (with_place false (cs ++ c ∷ []) i own) j own ∙ with_same false [] (cs ++ c ∷ []) i own);
     }
 
-    -- where all count alike it holds its own place
+    -- where all compilers count alike, the candidate holds its own place
     pub one_listed : is_by_all (counted_of by) ≡ true → c.longer ≡ length cs → c.shorter ≡ length cs → AreListed n m by (cs ++ c ∷ [])
     unfolding place_of
     one_listed alike longer shorter =
@@ -90,7 +83,7 @@ module _ (n m : ℕ) (by : Noted) (cs : List Candidate) (c : Candidate) (listed 
             many [] = refl
             many (d ∷ ds) = ap suc (many ds)
 
-  -- one that some count, and takes no other's place
+  -- a candidate that only some compilers count, and that takes no other's place
   pub longer_listed : (now : Noted) (i own : ℕ) → is_by_all (counted_of c.counted) ≡ false → is_by_newer (counted_of c.counted) ≡ false → counted_of now ≡ joined (counted_of by) (counted_of c.counted)
       → own ≡ length cs → i ≡ own - n → AreListed n (m + 1) now (with_place false (cs ++ c ∷ []) i own)
   longer_listed now i own some plain joins here first = record {
@@ -99,7 +92,7 @@ module _ (n m : ℕ) (by : Noted) (cs : List Candidate) (c : Candidate) (listed 
     by = joins ∙ by_more (counted_of by) cs (with_place false (cs ++ c ∷ []) i own) c listed.by (with_same false [] (cs ++ c ∷ []) i own);
   }
 
--- a name with its M, before which there is a candidate, or none
+-- a name with its `M`, after another candidate
 pub holder_listed : (n m : ℕ) (by : Noted) (cs : List Candidate) (c : Candidate) → AreListed n m by cs → c.counted ≡ noted.ByNewer → (now : Noted) (more i own : ℕ) (other : Candidate) → counted_of now ≡ joined (counted_of by) (counted_of noted.ByNewer)
     → own ≡ length cs → 0 < own → more ≡ elim (is_by_all (counted_of (get_or cs (own - 1) other).counted)) [ true ↦ 2 | false ↦ 1 ] → i ≡ own - (n + 1)
     → AreListed (n + 1) (m + more) now (with_place false (cs ++ c ∷ []) i own)

@@ -1,9 +1,5 @@
 -- Where nothing is done before a part of a production, the wide reading does nothing of its own either.
-use Rattle.std.proofs.Common.{◌≡◌, refl, sym, subst, arith, ℕ, ◌<◌, Bool, true, false, ◌&&◌}
-use Rattle.std.specs.Prelude.{nat_eq}
-use Rattle.cpp_grammar.specs.declared.production.Production.{Production}
-use Rattle.cpp_link.specs.Tables.{quiet_parts}
-use Rattle.cpp_link.specs.LinkRescoping.{steps_apart}
+use Rattle.cpp_link.proofs.Basics.{◌≡◌, refl, sym, subst, arith, ℕ, ◌<◌, Bool, true, false, ◌&&◌, nat_eq, Production, quiet_parts, steps_apart}
 
 -- the first part of a parameter isn't the second
 first : (l : Bool) (before : ℕ) → before < 1 → (l && nat_eq before 1) ≡ false

@@ -1,28 +1,11 @@
--- What is read of nodes.
-use Rattle.std.proofs.Common.{◌≡◌, refl, sym, ◌∙◌, ap, ℕ, zero, suc, List, [], ◌∷◌, map, get_or, slice_get, Bool, true, false, ◌&&◌, Option, Some, None}
-use Rattle.std.specs.Prelude.{IfSome}
-use Rattle.cpp_grammar.specs.declared.production.Production.{Production}
-use Rattle.cpp_grammar.specs.Grammar.{productions}
-use Rattle.cpp_grammar.specs.Unfolding.{production_at}
+-- What is read from nodes.
+use Rattle.cpp_link.proofs.Basics.{◌≡◌, refl, sym, ◌∙◌, ap, ℕ, zero, suc, List, [], ◌∷◌, map, get_or, slice_get, Bool, true, false, ◌&&◌, Option, Some, None, IfSome, Production, productions, production_at, Term, absent, has_return_type, is_structor, is_void, is_nil, parameters, encoding_of, is_instance, counted_held, fits, Value, tree_of, qualifiers_of, ref_of, tree_at, tree_if_there, is_again, IsBelow, IsAliasBelow, reargued, both, true≢false, Node, Piece, Thunk, void_node, nil_node, instance_node, held_node, node_fits, cell_under, parameters_by, encoding_by, IsSplitThere}
 use Rattle.cpp_grammar.specs.Term.{Qualifiers, RefQualifier}
 use Rattle.cpp_term.specs.Term as term
-use Rattle.cpp_term.specs.Term.{Term, absent}
-use Rattle.cpp_term.specs.Scope.{has_return_type, is_structor}
-use Rattle.cpp_term.specs.Meaning.{is_void, is_nil, parameters, encoding_of}
-use Rattle.cpp_term.specs.Rescoping.{is_instance, counted_held, fits}
-use Rattle.cpp_term.specs.Values.{Value, tree_of, qualifiers_of, ref_of}
 use Rattle.cpp_tree.specs.Nodes as nodes
-use Rattle.cpp_tree.specs.Nodes.{tree_at, tree_if_there, is_again, IsBelow, IsAliasBelow}
 use Rattle.cpp_link.specs.declared.signatures.Split.{Split}
-use Rattle.cpp_term.specs.Reargued.{reargued}
-use Rattle.cpp_term.proofs.Notes.{both}
 use Rattle.cpp_term.proofs.Reargued.{reargued_none}
-use Rattle.std.proofs.lemmas.Bool.{true≢false}
-use Rattle.cpp_tree.specs.declared.node.Node.{Node}
-use Rattle.cpp_tree.specs.declared.node.Piece.{Piece}
 use Rattle.cpp_tree.specs.Notes.{is_structor_node, is_structor_piece}
-use Rattle.cpp_tree.specs.declared.node.Thunk.{Thunk}
-use Rattle.cpp_link.specs.Reads.{void_node, nil_node, instance_node, held_node, node_fits, cell_under, parameters_by, encoding_by, IsSplitThere}
 
 -- ## Productions by their numbers
 
@@ -47,7 +30,7 @@ count_got f k = go productions k
 
 -- ## Lists
 
--- a node that isn't an alias says what its tree is, whatever the argument under which its parts are
+-- a node that isn't an alias says whether its tree is the type void, whichever argument its parts are under
 pub void_is : (s : List ℕ) (us : List Thunk) (ts : List Term) (given : Option Term) (node : Node) → is_again node ≡ false → is_void (reargued given (nodes.tree_of s us ts node)) ≡ void_node node
 unfolding is_void nodes.tree_of void_node reargued is_again
 void_is s us ts given (Node.Reargued t a) own = absurd (true≢false own)
@@ -70,7 +53,7 @@ unfolding is_nil reargued
 nil_again given term.absent = refl
 nil_again given _ = refl
 
--- the parameters that a list says under an argument
+-- the parameters of a list that is re-read are the list's parameters, re-read under the same argument
 parameters_again : (given : Option Term) (t : Term) → parameters (reargued given t) ≡ reargued given (parameters t)
 unfolding parameters reargued
 parameters_again given (term.list first rest) =

@@ -1,50 +1,8 @@
 -- What the wide reading says of a rule that is open, in terms of the frame and the nodes.
-use Rattle.std.proofs.Common.{◌≡◌, refl, sym, ◌∙◌, ap, subst, arith, ℕ, ◌+◌, ◌-◌, ◌<◌, ◌≤◌, List, [], ◌∷◌, length, take, drop, Bool, true, false, ◌&&◌, ◌||◌, nat_eq, Option, Ok, Err}
-use Rattle.std.specs.Prelude.{slice_index, Result, OnOk}
-use Rattle.std.proofs.lemmas.List.{length-drop}
-use Rattle.std.proofs.lemmas.Bool.{true≢false, false≢true, and_parts, eqb-true}
-use Rattle.sym_core.specs.declared.refusal.Refusal.{Refusal}
-use Rattle.sym_link.specs.declared.language.Frame.{Frame}
-use Rattle.sym_link.specs.Reading.{Open, Found, Next}
-use Rattle.sym_link.specs.Linking.{Puts}
+use Rattle.cpp_link.proofs.Basics.{◌≡◌, refl, sym, ◌∙◌, ap, subst, arith, ℕ, ◌+◌, ◌-◌, ◌<◌, ◌≤◌, List, [], ◌∷◌, length, take, drop, Bool, true, false, ◌&&◌, ◌||◌, nat_eq, Option, Ok, Err, slice_index, Result, OnOk, length-drop, true≢false, false≢true, and_parts, eqb-true, Refusal, Frame, Open, Found, Next, Puts, IsAt, Goes, GoesOn, ClosesAll, tallied_view, between_tallied, finish_tallied, Production, wide, generic_number, production_at, byte_of, Term, auto, is_open, State, Value, tree, tree_of, Around, part, text_of, is_in_constraint, is_at_literal, counted_value, Decimal, parameter_named, Continuation, next, in_name, in_types, parameter_so_far, argument_so_far, index_of, between, listed_so_far, meaning, cpp, generic_so_far, parameter_here, argument_here, is_unseen, in_literal, is_passed_over, passed_over, name_around, types_around, is_declaring, lambda_with, as_generic_lambda, between_wide, close_wide, cpp_wide, Stored, tree_at, piece_of, Piece, Linked, Part, Rescoping, Surroundings, Step, link_close, link_meaning, link_close_wide, linked_wide, wide_ends, is_parameter, is_parameter_argument, steps_apart, with_mark, going_marked, generic_read, wide_at_end, wide_view, wide_makes, wide_counted, counting_of, state_of, makes_before, makes_at_end, trees_in, value_of, values_of, values_in, is_lambda, around_of, candidates_of, AreCandidatesThere, goes_on, candidates_stay, Surrounds, cpp_view}
 use Rattle.sym_link.specs.Threads as open_
-use Rattle.sym_link.specs.Threads.{IsAt, Goes, GoesOn, ClosesAll}
-use Rattle.sym_link.specs.Tally.{tallied_view}
-use Rattle.sym_link.proofs.Tally.{between_tallied, finish_tallied}
-use Rattle.cpp_grammar.specs.declared.production.Production.{Production}
-use Rattle.cpp_grammar.specs.Table.{wide}
-use Rattle.cpp_grammar.specs.Rescoping.{generic_number}
-use Rattle.cpp_grammar.specs.Unfolding.{production_at, byte_of}
 use Rattle.cpp_term.specs.Term as term
-use Rattle.cpp_term.specs.Term.{Term}
-use Rattle.cpp_term.specs.Items.{auto}
-use Rattle.cpp_term.specs.Scope.{is_open}
 use Rattle.cpp_term.specs.Values as values
-use Rattle.cpp_term.specs.Values.{State, Value, tree, tree_of, Around, part, text_of}
-use Rattle.cpp_grammar.specs.Values.{is_in_constraint, is_at_literal}
-use Rattle.sym_core.specs.Value.{counted_value}
-use Rattle.sym_core.specs.declared.NumberKind.TheVariants.{Decimal}
-use Rattle.cpp_term.specs.References.{parameter_named}
-use Rattle.cpp_term.specs.Between.{Continuation, next, in_name, in_types, parameter_so_far, argument_so_far, index_of, between, listed_so_far}
-use Rattle.cpp_term.specs.Meaning.{meaning}
-use Rattle.cpp_term.specs.Unfolding.{cpp}
-use Rattle.cpp_term.specs.Rescoping.{generic_so_far, parameter_here, argument_here, is_unseen, in_literal, is_passed_over, passed_over, name_around, types_around, is_declaring, lambda_with, as_generic_lambda, between_wide, close_wide, cpp_wide}
-use Rattle.cpp_tree.specs.Nodes.{Stored, tree_at, piece_of}
-use Rattle.cpp_tree.specs.declared.node.Piece.{Piece}
-use Rattle.cpp_link.specs.declared.linked.Linked.{Linked}
-use Rattle.cpp_link.specs.declared.part.Part.{Part}
-use Rattle.cpp_link.specs.declared.rescoping.Rescoping.{Rescoping}
-use Rattle.cpp_references.specs.declared.around.Surroundings.{Surroundings}
-use Rattle.cpp_link.specs.declared.part.Step.{Step}
-use Rattle.cpp_link.specs.LinkReading.{link_close, link_meaning}
-use Rattle.cpp_link.specs.LinkRescoping.{link_close_wide, linked_wide, wide_ends, is_parameter, is_parameter_argument, steps_apart, with_mark, going_marked, generic_read, wide_at_end, wide_view, wide_makes, wide_counted}
-use Rattle.cpp_link.specs.Counting.{counting_of}
-use Rattle.cpp_link.specs.Making.{state_of}
-use Rattle.cpp_link.specs.NodeCount.{makes_before, makes_at_end}
-use Rattle.cpp_link.specs.Parts.{trees_in, value_of, values_of, values_in, is_lambda, around_of, candidates_of, AreCandidatesThere}
-use Rattle.cpp_link.specs.Reads.{goes_on}
-use Rattle.cpp_link.specs.Staying.{candidates_stay}
-use Rattle.cpp_link.specs.View.{Surrounds, cpp_view}
 use Rattle.cpp_link.proofs.Bytes.{byte_serves}
 use Rattle.cpp_link.proofs.NodeCount.{before_read}
 use Rattle.cpp_link.proofs.Places.{values_length}
@@ -56,13 +14,13 @@ use Rattle.cpp_link.proofs.Within.{at_plain, goes_within, closes_within}
 second : (l : Bool) (before : ℕ) → (l && nat_eq before 1) ≡ true → (l ≡ true) × (before ≡ 1)
 second l before is = let both_ = and_parts l (nat_eq before 1) is in (both_.0, eqb-true before 1 both_.1)
 
--- outside of a lambda's signature a parameter is named as in the other reading
+-- outside of a lambda's signature a parameter is named as in the ABI's reading
 named_outside : (in_lambda : Bool) (around : Around) (place k : ℕ) (state : State) → (in_lambda && true) ≡ false
     → elim in_lambda [ true ↦ generic_so_far around k [] state | false ↦ parameter_so_far around place k [] state ] ≡ parameter_so_far around place k [] state
 named_outside true around place k state e = absurd (true≢false e)
 named_outside false around place k state e = refl
 
--- nor is an encoding passed over
+-- outside of a lambda's signature no encoding is passed over
 entered : (in_lambda here : Bool) (own other : Around) → (in_lambda && true) ≡ false → elim (in_lambda && here) [ true ↦ own | false ↦ other ] ≡ other
 entered true here own other e = absurd (true≢false e)
 entered false here own other e = refl
@@ -71,7 +29,7 @@ typed : (in_lambda here has_free : Bool) (own other : Around) → (in_lambda && 
 typed true here has_free own other e = absurd (true≢false e)
 typed false here has_free own other e = refl
 
--- where the wide reading does nothing of its own, it agrees with the other reading
+-- where the wide reading does nothing of its own, it agrees with the ABI's reading
 apart_between : (p : Production) (around : Around) (place : ℕ) (vs : List Value) (state : State) → steps_apart p around.in_lambda (length vs) ≡ false → between_wide p around place vs state ≡ between p around place vs state
 unfolding between_wide between steps_apart parameter_here argument_here parameter_named parameter_so_far listed_so_far argument_so_far is_unseen in_literal is_passed_over name_around types_around
 apart_between Production.Parameter around place (v ∷ []) state apart = named_outside around.in_lambda around place (index_of v) state apart
@@ -99,7 +57,7 @@ pub wide_reads : (s : List ℕ) (rule : Open State Around) (known : List Value) 
 unfolding cpp_wide
 wide_reads s rule known state = refl
 
--- What was done where the wide reading does nothing of its own is what it says.
+-- Where the wide reading does nothing of its own, what was done by the ABI's reading is also what the wide reading says.
 pub apart_goes : (s : List ℕ) (old new : Linked) (frame : Frame Surroundings) (parts new_parts : List Part) (before : ℕ) (result : Result Surroundings Refusal) → before ≡ length parts - frame.base
     → steps_apart (production_at frame.rule) (is_lambda frame.kept.scope) before ≡ false
     → GoesOn (cpp_view s) s (Surrounds s) old new frame parts new_parts result → GoesOn (wide_view s) s (Surrounds s) old new frame parts new_parts result
@@ -118,14 +76,14 @@ apart_goes s old new frame parts new_parts before result counted apart goes rule
     same_test : (m n : ℕ) (a b : Bool) (h k : ℕ) → m ≡ n → a ≡ b → h ≡ k → steps_apart (production_at m) a h ≡ false → steps_apart (production_at n) b k ≡ false
     same_test m n a b h k e f g is = rw (← e, ← f, ← g) is
 
--- what the rule continues with where the candidates have this mark
+-- what the rule continues with, if this is the state once the candidates are marked
 pub marking_is : (production : Production) (around : Around) (n : Next Value State Around) (state : State) → with_mark production around n.values n.state ≡ state → going_marked production around (Ok n) ≡ Ok (record n { state = state })
 unfolding going_marked
 marking_is production around n state is = ap (λ x. Ok (record n { state = x })) is
 
 -- ## Where a rule closes
 
--- the productions that the wide reading closes in its own way
+-- this production isn't one that the wide reading closes in its own way
 pub record IsNoneApart (p : Production) : Type 0 where
   pub not_substitution : p ≡ Production.Substitution → ⊥
   pub not_lambda : p ≡ Production.Lambda → ⊥
@@ -145,7 +103,7 @@ apart_close s Production.Encoding byte around place began vs state other = absur
 apart_close s Production.EncodingLiteral byte around place began vs state other = absurd (other.not_encoding_literal refl)
 apart_close s _ byte around place began vs state other = refl
 
--- a rule that the wide reading closes as the other one does, in these surroundings
+-- a call that closes a rule by the ABI's reading closes it by the wide reading, if both close it alike in these surroundings
 pub same_closes : (s : List ℕ) (old new : Linked) (frame : Frame Surroundings) (parts new_parts : List Part) (result : Result (Unit {0}) Refusal)
     → ((byte place : ℕ) (began : State) (vs : List Value) (state : State) → link_close_wide s (production_at frame.rule) byte (around_of (trees_in s old.nodes) frame.kept) place began vs state
     ≡ link_close s (production_at frame.rule) byte (around_of (trees_in s old.nodes) frame.kept) place began vs state)
@@ -159,13 +117,13 @@ same_closes s old new frame parts new_parts result same closes rule known state 
         → link_close_wide s (production_at n) (byte_of rule.taken) b rule.place rule.before known state ≡ link_close s (production_at n) (byte_of rule.taken) b rule.place rule.before known state
     by m n a b number surrounds h = rw (← number, ← surrounds) h
 
--- a rule of any other production closes as in the other reading
+-- likewise for a production that the wide reading doesn't close in its own way
 pub apart_closes : (s : List ℕ) (old new : Linked) (frame : Frame Surroundings) (parts new_parts : List Part) (result : Result (Unit {0}) Refusal) → IsNoneApart (production_at frame.rule)
     → ClosesAll (cpp_view s) s old new frame parts new_parts result → ClosesAll (wide_view s) s old new frame parts new_parts result
 apart_closes s old new frame parts new_parts result other =
     same_closes s old new frame parts new_parts result (λ byte place began vs state. apart_close s (production_at frame.rule) byte (around_of (trees_in s old.nodes) frame.kept) place began vs state other)
 
--- by the wide reading
+-- how a rule closes by the wide reading
 abbrev pub wide_closing : List ℕ → Production → Around → (place : ℕ) → (began : State) → List Value → State → Result (Found Value State) Refusal
 wide_closing s p around place began vs state = link_close_wide s p (slice_index s place) around place began vs state
 
@@ -186,7 +144,7 @@ wide_byte_serves s rule known state there = by (production_at rule.rule.number) 
 
 -- ## How many nodes are made
 
--- what continues to the next part by the wide reading, and makes n nodes before it, continues to it where they are counted
+-- a call that continues to the next part by the wide reading, and makes n nodes, also continues to it where nodes are counted
 pub goes_counted : (s : List ℕ) (old : Rescoping) (new : Linked) (frame : Frame Surroundings) (parts new_parts : List Part) (result : Result Surroundings Refusal) → 4 ≤ length old.linked.nodes.nodes
     → OnOk result (length new.nodes.nodes ≡ length old.linked.nodes.nodes + makes_before (production_at frame.rule) (values_in s old.linked.nodes (drop frame.base parts)))
     → GoesOn (wide_view s) s (Surrounds s) old.linked new frame parts new_parts result
@@ -196,7 +154,7 @@ goes_counted s old new frame parts new_parts result begun made goes =
     (between_tallied (wide_view s) wide_makes s (Surrounds s) old.linked new frame parts new_parts result
     (λ rule known state is. before_read s old.linked new frame parts result begun made rule known state (at_plain s old.linked frame (drop frame.base parts) rule known state is)) goes)
 
--- likewise, where the wide reading never does anything of its own before the parts of the rule's production
+-- likewise, if the wide reading does nothing of its own before the parts of the rule's production
 pub plain_goes : (s : List ℕ) (old : Rescoping) (new : Linked) (frame : Frame Surroundings) (parts new_parts : List Part) (result : Result Surroundings Refusal) → 4 ≤ length old.linked.nodes.nodes
     → steps_apart (production_at frame.rule) (is_lambda frame.kept.scope) (length parts - frame.base) ≡ false
     → OnOk result (length new.nodes.nodes ≡ length old.linked.nodes.nodes + makes_before (production_at frame.rule) (values_in s old.linked.nodes (drop frame.base parts)))
@@ -210,7 +168,7 @@ unfolding wide_at_end
 apart_end Production.Substitution around place known state apart = absurd (apart refl)
 apart_end _ around place known state apart = refl
 
--- what closes a rule by the wide reading, and makes n nodes, closes it where they are counted
+-- a call that closes a rule by the wide reading, and makes n nodes, also closes it where nodes are counted
 pub closes_counted : (s : List ℕ) (old : Rescoping) (new : Linked) (frame : Frame Surroundings) (parts new_parts : List Part) (result : Result (Unit {0}) Refusal) → 4 ≤ length old.linked.nodes.nodes
     → OnOk result (length new.nodes.nodes ≡ length old.linked.nodes.nodes + wide_ends s old.linked frame.place frame.kept (production_at frame.rule) (values_in s old.linked.nodes (drop frame.base parts)))
     → ClosesAll (wide_view s) s old.linked new frame parts new_parts result → ClosesAll (wide_counted s) s old (record { linked = new }) frame parts new_parts result
@@ -238,7 +196,7 @@ closes_counted s old new frame parts new_parts result begun made closes =
 
 -- ## An alias
 
--- the state in which its node was added
+-- the state after an alias's node was added
 pub kept_state : (s : List ℕ) (old new : Linked) (packs : Option ℕ) → ((i : ℕ) → i < length old.nodes.nodes → tree_at (trees_in s new.nodes) i ≡ tree_at (trees_in s old.nodes) i)
     → AreCandidatesThere (length old.nodes.nodes) old.candidates → new.candidates ≡ old.candidates → new.counting ≡ old.counting
     → ◌≡◌ {A = State} (record (state_of s old) { packs = packs }) (record (state_of s new) { packs = packs })
@@ -278,7 +236,7 @@ pub no_pack : (p : Production) (l : Bool) (before : ℕ) → steps_apart p l bef
 unfolding steps_apart
 no_pack p l before is pack = absurd (false≢true (ap (λ q. steps_apart q l before) (sym pack) ∙ is))
 
--- the other productions before whose parts the wide reading does something of its own
+-- apart from parameters, the wide reading does nothing of its own before a part of this production
 pub record IsNoneRead (p : Production) : Type 0 where
   pub not_holder : p ≡ Production.Holder → ⊥
   pub not_held_arguments : p ≡ Production.HeldArguments → ⊥
@@ -288,7 +246,7 @@ pub record IsNoneRead (p : Production) : Type 0 where
   pub not_encoding : p ≡ Production.Encoding → ⊥
   pub not_named_module : p ≡ Production.NamedModule → ⊥
 
--- what is none of these is a parameter of a lambda
+-- if the wide reading does something of its own before a part of such a production, this is a parameter in a lambda's signature
 pub apart_generic : (p : Production) (l : Bool) (before : ℕ) → steps_apart p l before ≡ true → IsNoneRead p → (is_parameter p ≡ true) × ((l ≡ true) × (before ≡ 1))
 unfolding steps_apart is_parameter
 apart_generic Production.Parameter l before is other = (refl, second l before is)
@@ -304,7 +262,7 @@ apart_generic Production.Encoding l before is other = absurd (other.not_encoding
 apart_generic Production.NamedModule l before is other = absurd (other.not_named_module refl)
 apart_generic _ l before is other = absurd (false≢true is)
 
--- there is no mark then
+-- only names with their `M` and the arguments of constructors and concepts mark candidates
 pub unmarked : (p : Production) (around : Around) (vs : List Value) (state : State) → (p ≡ Production.Holder → ⊥) → (p ≡ Production.HeldArguments → ⊥) → with_mark p around vs state ≡ state
 unfolding with_mark
 unmarked Production.Holder around vs state held own = absurd (held refl)

@@ -1,19 +1,11 @@
 -- What calls say of room, in terms of the lists.
-use Rattle.std.proofs.Common.{◌≡◌, refl, sym, ◌∙◌, ◌≤◌, ◌<◌, ◌+◌, ◌⊎◌, inl, inr, ◌∷◌, length, arith, Ok, Err}
-use Rattle.std.specs.Prelude.{Vec, vec_capacity, Result}
-use Rattle.std.specs.Global.{Global}
-use Rattle.sym_core.specs.declared.refusal.Refusal.{Refusal}
-use Rattle.sym_core.specs.declared.refusal.Refusal.TheVariants.{Memory}
-use Rattle.sym_link.specs.Room.{one_by_one, KeepRoom, LackRoom, OnlyForRoom}
-use Rattle.cpp_link.specs.declared.part.Part.{Part}
-use Rattle.cpp_link.specs.declared.linked.Linked.{Linked}
-use Rattle.cpp_link.specs.Room.{lists_of, KeepsRoom, LacksRoom, IsRoomy}
+use Rattle.cpp_link.proofs.Basics.{◌≡◌, refl, sym, ◌∙◌, ◌≤◌, ◌<◌, ◌+◌, ◌⊎◌, inl, inr, ◌∷◌, length, arith, Ok, Err, Vec, vec_capacity, Result, Global, Refusal, Memory, one_by_one, KeepRoom, LackRoom, OnlyForRoom, Part, Linked, lists_of, KeepsRoom, LacksRoom, IsRoomy}
 
 pub same_room : (old new : Linked) → new.nodes ≡ old.nodes → new.candidates ≡ old.candidates → KeepsRoom old new
 same_room old new nodes candidates =
     rw (nodes, candidates) (record { nodes = omega arith; thunks = omega arith; candidates = omega arith })
 
--- another call after one
+-- if each of two calls in a row keeps the room, so do both together
 pub keeps_on : (old mid new : Linked) → KeepsRoom old mid → KeepsRoom mid new → KeepsRoom old new
 keeps_on old mid new first second =
     record { nodes = omega (arith, first.nodes, second.nodes); thunks = omega (arith, first.thunks, second.thunks); candidates = omega (arith, first.candidates, second.candidates) }
@@ -40,7 +32,7 @@ module _ {A : Type 0} (old new : Linked) (parts new_parts : Vec Part Global) (re
   roomy_ok done is keeps capacity =
       record { keeps = keeps; capacity = capacity; full = λ memory. (let clash : ◌≡◌ {A = Result A Refusal} (Ok done) (Err Memory) = sym is ∙ memory in absurd cc) }
 
-  -- a call that passes a refusal on, which is one for want of room
+  -- a call that passes on a refusal, which is for want of room if it is `Memory`
   pub roomy_refused : (e : Refusal) → result ≡ Err e → KeepsRoom old new → vec_capacity parts ≤ vec_capacity new_parts
       → (e ≡ Memory → LacksRoom old new ⊎ (vec_capacity parts < length new_parts.items + 1)) → IsRoomy old new parts new_parts result
   roomy_refused e is keeps capacity full =

@@ -1,16 +1,5 @@
 -- What is counted of a production is what its row says.
-use Rattle.std.proofs.Common.{◌≡◌, refl, ◌∙◌, ap, arith, ℕ, zero, suc, ◌+◌, ◌<◌, List, [], ◌∷◌, length, get_or, Bool, true, false}
-use Rattle.std.specs.Prelude.{if◌then◌else◌, cond, ◌&&◌}
-use Rattle.cpp_grammar.specs.declared.production.Production.{Production}
-use Rattle.cpp_grammar.specs.Row.{Action, quiet, goes, becomes, tests, holds, unread, before_part, quiet_before, quiet_from}
-use Rattle.cpp_grammar.specs.Rows.{row_of}
-use Rattle.cpp_term.specs.Values.{Value, part, tree_of}
-use Rattle.cpp_term.specs.Between.{no_items}
-use Rattle.cpp_term.specs.Meaning.{is_void, is_nil}
-use Rattle.cpp_link.specs.NodeCount.{makes_before, makes_at_end, std_before, pack_before, name_at_end, lambda_at_end, one_if_declared}
-use Rattle.cpp_link.specs.Owed.{made_before, made_at_end}
-use Rattle.cpp_link.specs.RowNodes.{nodes_made, nodes_before, nodes_of, nodes_at_end}
-use Rattle.cpp_link.specs.Tables.{quiet_parts}
+use Rattle.cpp_link.proofs.Basics.{◌≡◌, refl, ◌∙◌, ap, arith, ℕ, zero, suc, ◌+◌, ◌<◌, List, [], ◌∷◌, length, get_or, Bool, true, false, if◌then◌else◌, cond, ◌&&◌, Production, Action, quiet, goes, becomes, tests, holds, unread, before_part, quiet_before, quiet_from, row_of, Value, part, tree_of, no_items, is_void, is_nil, makes_before, makes_at_end, std_before, pack_before, name_at_end, lambda_at_end, one_if_declared, made_before, made_at_end, nodes_made, nodes_before, nodes_of, nodes_at_end, quiet_parts}
 
 -- ## How many nodes are made
 
@@ -65,7 +54,7 @@ pub quiet_part : (p : Production) (k : ℕ) → k < quiet_parts p → before_par
 unfolding before_part quiet_before
 quiet_part p k less = quiet_at (row_of p).before (row_of p).onward 0 k (omega (arith, less, same_quiet p))
 
--- and nothing is made
+-- before these parts no node is made
 pub quiet_makes : (p : Production) (vs : List Value) → length vs < quiet_parts p → makes_before p vs ≡ 0
 unfolding nodes_before
 quiet_makes p vs less = same_before_nodes p vs ∙ ap (λ b. nodes_before b vs) (quiet_part p (length vs) less)

@@ -1,26 +1,14 @@
 -- Two readings that differ only where rules begin and close give a tree the same meaning if they agree there on each of its
 -- rules.
-use Rattle.std.proofs.Common.{◌≡◌, refl, sym, ◌∙◌, ap, ℕ, ◌+◌, ◌<◌, List, [], ◌∷◌, ◌++◌, length, drop, Ok, Err, append_assoc}
-use Rattle.std.specs.Prelude.{Result}
-use Rattle.std.proofs.lemmas.List.{drop-drop}
-use Rattle.std.proofs.Math.Seq.{drop-append_seam}
-use Rattle.sym_core.specs.declared.refusal.Refusal.{Refusal}
-use Rattle.sym_shape.specs.declared.rule.Rule.{Rule}
-use Rattle.sym_shape.specs.declared.rule.Sym.{Sym}
-use Rattle.sym_shape.specs.declared.rule.Sym.TheVariants.{Kind, Name, Number, Byte}
-use Rattle.sym_shape.specs.Table.{Table, symbols_of}
-use Rattle.sym_shape.specs.Law.{IsSymbol, AreSymbols}
-use Rattle.sym_shape.specs.Tree.{Tree, Forest, branch, empty, token, fixed, nothing, grown, spell, spell_all, IsTree, AreTrees}
-use Rattle.sym_link.specs.Reading.{Found, Open, Reading, ◌>>=◌}
+use Rattle.cpp_link.proofs.Basics.{◌≡◌, refl, sym, ◌∙◌, ap, ℕ, ◌+◌, ◌<◌, List, [], ◌∷◌, ◌++◌, length, drop, Ok, Err, append_assoc, Result, drop-drop, drop-append_seam, Refusal, Rule, Sym, Kind, Name, Number, Byte, Table, symbols_of, IsSymbol, AreSymbols, Tree, Forest, branch, empty, token, fixed, nothing, grown, spell, spell_all, IsTree, AreTrees, Found, Open, Reading, ◌>>=◌, alone, standing, unfold_tree, unfold_forest}
 use Rattle.sym_link.specs.Sound.{IsSound}
-use Rattle.sym_link.specs.Unfold.{alone, standing, unfold_tree, unfold_forest}
 
--- what follows is the same where the first has a result
+-- what follows a result is the same if it is the same for the result's value
 pub bind_known : {A B : Type 0} (m : Result A Refusal) (f g : A → Result B Refusal) → ((x : A) → m ≡ Ok x → f x ≡ g x) → (m >>= f) ≡ (m >>= g)
 bind_known (Ok x) f g same = same x refl
 bind_known (Err e) f g same = refl
 
--- the same reading, in which rules begin and close otherwise
+-- a reading with another way to begin and close rules
 abbrev pub changed : {V S C : Type 0} → Reading V S C → (begin : Open S C → Forest → Result S Refusal)
     → (close : Open S C → List V → S → Result (Found V S) Refusal) → Reading V S C
 changed reading begin close =

@@ -1,26 +1,6 @@
--- The named arguments are those of a name in which no parameter is free: none is free in them, nor in one of them.
-use Rattle.std.proofs.Common.{◌≡◌, subst, ℕ, ◌-◌, List, [], ◌∷◌, length, Bool, true, false, ◌&&◌, cond, Option, Some, None, Result, Ok, Err}
-use Rattle.std.specs.Prelude.{IfOk}
-use Rattle.sym_core.specs.declared.refusal.Refusal.{Refusal}
-use Rattle.sym_core.specs.declared.refusal.Refusal.TheVariants.{BadReference}
-use Rattle.sym_core.specs.Value.{counted_value}
-use Rattle.sym_core.specs.declared.NumberKind.TheVariants.{Seq36}
-use Rattle.sym_link.specs.Reading.{Next, ◌>>=◌}
-use Rattle.cpp_grammar.specs.declared.production.Production.{Production}
-use Rattle.cpp_grammar.specs.Row.{Where, as_before, in_its_name, in_its_types, in_a_signature, under_it, nameless, after_part, after_the_name, Action, quiet, goes, becomes, tests, holds, unread, before_part}
-use Rattle.cpp_grammar.specs.Rows.{row_of}
-use Rattle.cpp_term.specs.Term.{Term, holder, parameter}
-use Rattle.cpp_term.specs.Items.{auto}
-use Rattle.cpp_grammar.specs.Rescoping.{generic_number}
-use Rattle.cpp_term.specs.Values.{State, Around, prefix_tree, Value, tree, tree_of, text_of, part}
-use Rattle.cpp_term.specs.References.{parameter_named}
-use Rattle.cpp_term.specs.Between.{Continuation, in_name, in_types, in_signature, under_expansion, after, inside, listed_so_far, parameter_so_far, argument_so_far, argument_at, index_of, next, between}
-use Rattle.cpp_term.specs.Meant.{made, around_part, tested, done}
-use Rattle.cpp_term.specs.Rescoping.{parameter_here, argument_here, generic_so_far, with_holder, is_instance, holder_so_far, module_named, module_so_far, in_constraint_of, is_unseen, in_literal, is_passed_over, passed_over, name_around, types_around, between_wide}
-use Rattle.cpp_term.specs.Scope.{is_open}
-use Rattle.cpp_grammar.specs.Values.{at_literal}
+-- Named arguments are those of a name without free parameters: neither their list nor any of them has a free parameter.
+use Rattle.cpp_link.proofs.Basics.{◌≡◌, subst, ℕ, ◌-◌, List, [], ◌∷◌, length, Bool, true, false, ◌&&◌, cond, Option, Some, None, Result, Ok, Err, IfOk, Refusal, BadReference, counted_value, Seq36, Next, ◌>>=◌, Production, Where, as_before, in_its_name, in_its_types, in_a_signature, under_it, nameless, after_part, after_the_name, Action, quiet, goes, becomes, tests, holds, unread, before_part, row_of, Term, holder, parameter, auto, generic_number, State, Around, prefix_tree, Value, tree, tree_of, text_of, part, parameter_named, Continuation, in_name, in_types, in_signature, under_expansion, after, inside, listed_so_far, parameter_so_far, argument_so_far, argument_at, index_of, next, between, made, around_part, tested, done, parameter_here, argument_here, generic_so_far, with_holder, is_instance, holder_so_far, module_named, module_so_far, in_constraint_of, is_unseen, in_literal, is_passed_over, passed_over, name_around, types_around, between_wide, is_open, at_literal, IsClosed}
 use Rattle.cpp_references.proofs.Arguments.{closed_are}
-use Rattle.cpp_link.specs.Parts.{IsClosed}
 
 -- ## What surrounds the next part
 

@@ -1,34 +1,11 @@
 -- A step is taken as the reading says.
-use Rattle.std.proofs.Common.{◌≡◌, refl, sym, ◌∙◌, ap, subst, add-one, arith, ℕ, zero, suc, ◌+◌, ◌<◌, ◌≤◌, Bool, true, false, List, [], ◌∷◌, ◌++◌, length, take, drop, get_or, Option, Some, None, Result, Ok, Err}
-use Rattle.std.specs.Prelude.{IfOk}
-use Rattle.sym_core.specs.declared.refusal.Refusal.{Refusal}
-use Rattle.cpp_grammar.specs.declared.production.Production.{Production}
-use Rattle.cpp_term.specs.Term.{Term}
+use Rattle.cpp_link.proofs.Basics.{◌≡◌, refl, sym, ◌∙◌, ap, subst, add-one, arith, ℕ, zero, suc, ◌+◌, ◌<◌, ◌≤◌, Bool, true, false, List, [], ◌∷◌, ◌++◌, length, take, drop, get_or, Option, Some, None, Result, Ok, Err, IfOk, Refusal, Production, Term, State, Value, Around, Continuation, Stored, over, tree_at, IsTable, Node, Linked, Part, Surroundings, Step, Candidates, by_all, Grows, state_of, made_before, owes_of, pack_makes, closes_of, quiet_owed, made_owed, closes_pushed, closes_behind, closes_made, trees_in, tree_of_node, value_of, values_of, values_in, around_of, candidates_of, AreThere, IsKeptThere, AreCandidatesThere, behind_first, named_if, appended_if, with_candidate, goes_on, values_stay, around_stays, candidates_stay, IsStepOf, Takes, nodes_of_step}
 use Rattle.cpp_term.specs.Values as values
-use Rattle.cpp_term.specs.Values.{State, Value, Around}
-use Rattle.cpp_term.specs.Between.{Continuation}
-use Rattle.cpp_tree.specs.Nodes.{Stored, over, tree_at, IsTable}
-use Rattle.cpp_tree.specs.declared.node.Node.{Node}
-use Rattle.cpp_link.specs.declared.linked.Linked.{Linked}
-use Rattle.cpp_link.specs.declared.part.Part.{Part}
-use Rattle.cpp_references.specs.declared.around.Surroundings.{Surroundings}
-use Rattle.cpp_link.specs.declared.part.Step.{Step}
-use Rattle.cpp_link.specs.declared.candidates.Candidates.{Candidates}
-use Rattle.cpp_grammar.specs.Values.{by_all}
-use Rattle.cpp_link.specs.Grows.{Grows}
-use Rattle.cpp_link.specs.Making.{state_of}
-use Rattle.cpp_link.specs.Owed.{made_before, owes_of}
-use Rattle.cpp_link.specs.Closes.{pack_makes, closes_of}
-use Rattle.cpp_link.specs.ClosesLaws.{quiet_owed, made_owed, closes_pushed, closes_behind, closes_made}
-use Rattle.cpp_link.specs.Parts.{trees_in, tree_of_node, value_of, values_of, values_in, around_of, candidates_of, AreThere, IsKeptThere, AreCandidatesThere}
-use Rattle.cpp_link.specs.Reads.{behind_first, named_if, appended_if, with_candidate, goes_on}
-use Rattle.cpp_link.specs.Staying.{values_stay, around_stays, candidates_stay}
-use Rattle.cpp_link.specs.Stepping.{IsStepOf, Takes, nodes_of_step}
 use Rattle.cpp_link.proofs.Making.{parts_more}
 
 -- ## Nodes that steps make
 
--- where a production makes a node after its first part, any step is one of it there
+-- after the first part of a production that makes a node there, any step is one of the production
 pub first_steps : (p : Production) (result : Result Step Refusal) → get_or (made_before p) 1 0 ≡ 1 → IfOk result (λ step. IsStepOf p 1 step)
 first_steps p (Err e) one = tt
 first_steps p (Ok (Step.Go candidate then packs)) one = tt
@@ -43,7 +20,7 @@ step_owed p held (Step.Made node listed is_name is_candidate packs) of = made_ow
 
 -- ## Parts
 
--- the parts after the first
+-- the values of the parts after the first
 rest_values : (s : List ℕ) (ts : List Term) (base : ℕ) (parts : List Part) → behind_first (values_of s ts (drop base parts)) ≡ values_of s ts (drop (suc base) parts)
 unfolding behind_first values_of
 rest_values s ts zero [] = refl
@@ -57,7 +34,7 @@ rest_there s n zero (p ∷ ps) there = there.1
 rest_there s n (suc base) [] there = tt
 rest_there s n (suc base) (p ∷ ps) there = rest_there s n base ps there
 
--- the tree that is the first part now exists, with those after it
+-- the tree that is now the first part exists, and so do the parts after it
 first_there : (s : List ℕ) (n base : ℕ) (parts new_parts : List Part) (node : ℕ) (listed : Bool) → AreThere s n (drop base parts) → node < n
     → drop base new_parts ≡ Part.Tree node listed ∷ drop (base + 1) parts → AreThere s n (drop base new_parts)
 first_there s n base parts new_parts node listed there less own =
@@ -85,7 +62,7 @@ same_going vs ws a b x y values context state = rw (values, context, state) refl
 grown : (s : List ℕ) (y z : Stored) → IsTable (over s y) → z ≡ y → Grows s y z 0
 grown s y z table same = rw same (record { table = table; stays = λ i less. refl; least = omega arith; few = omega arith; thunks = omega arith; few_thunks = omega arith })
 
--- nothing is made: a tree may become a candidate
+-- no node is made; a tree may become a candidate
 pub takes_go : (s : List ℕ) (old new : Linked) (kept : Surroundings) (base : ℕ) (parts : List Part) (candidate : Option ℕ) (then : Surroundings) (packs : Option ℕ)
     → IsTable (over s old.nodes) → new.nodes ≡ old.nodes → AreCandidatesThere (length old.nodes.nodes) new.candidates
     → IsKeptThere (length old.nodes.nodes) then → AreThere s (length old.nodes.nodes) (drop base parts)
@@ -103,7 +80,7 @@ takes_go s old new kept base parts candidate then packs table same candidates ar
   is = same_going _ _ _ _ _ _ (ap (λ y. values_in s y (drop base parts)) (sym same)) (ap (λ y. around_of (trees_in s y) then) (sym same)) is;
 }
 
--- the first part is an existing tree, and precedes the next one
+-- the first part becomes an existing tree, which may precede the next part as the name so far
 pub takes_named : (s : List ℕ) (l : Linked) (kept then : Surroundings) (base : ℕ) (parts new_parts : List Part) (node : ℕ) (listed is_name : Bool)
     → IsTable (over s l.nodes) → AreCandidatesThere (length l.nodes.nodes) l.candidates
     → AreThere s (length l.nodes.nodes) (drop base parts) → node < length l.nodes.nodes
@@ -122,7 +99,7 @@ takes_named s l kept then base parts new_parts node listed is_name table candida
   is = same_going _ _ _ _ _ _ (first_values s (trees_in s l.nodes) base parts new_parts node listed own) (sym around) refl;
 }
 
--- the first part is the tree of a node that has been made
+-- likewise with the tree of a node that has been made
 pub takes_made : (s : List ℕ) (old new : Linked) (kept then : Surroundings) (base : ℕ) (parts new_parts : List Part) (node : Node) (number : ℕ) (listed is_name is_candidate : Bool) (packs : Option ℕ)
     → Grows s old.nodes new.nodes 1 → new.nodes.thunks ≡ old.nodes.thunks → AreCandidatesThere (length new.nodes.nodes) new.candidates
     → IsKeptThere (length old.nodes.nodes) kept → AreThere s (length old.nodes.nodes) (drop base parts)
@@ -194,18 +171,18 @@ pack_there first some = refl
 first_rest : (first part : Part) (rest : List Part) → first ≡ part → rest ≡ [] → first ∷ rest ≡ part ∷ []
 first_rest first part rest is none = rw (is, none) refl
 
--- nothing is made, and the parts stay
+-- no node is made, and the parts stay
 pub go_counts : (p : Production) (old new : Linked) (own : List Part) → new.nodes ≡ old.nodes → length new.nodes.nodes + closes_of p (own ++ Part.Nothing ∷ []) ≤ length old.nodes.nodes + closes_of p own
 go_counts p old new own same = omega (arith, closes_pushed p own, ap (λ y. length y.nodes) same)
 
--- the first part is another one
+-- the first part is replaced
 pub named_counts : (p : Production) (l : Linked) (base : ℕ) (parts new_parts : List Part) (part : Part) → 0 < length (drop base parts) → drop base new_parts ≡ part ∷ drop (base + 1) parts
     → length l.nodes.nodes + closes_of p (drop base new_parts ++ Part.Nothing ∷ []) ≤ length l.nodes.nodes + closes_of p (drop base parts)
 named_counts p l base parts new_parts part some own =
     let split = first_of base parts some in
     rw (own, split.1) (omega (arith, closes_behind p split.0 part (drop (base + 1) parts)))
 
--- it is that of a node that has been made
+-- the first part is replaced by that of a node that has been made
 pub made_counts : (p : Production) (old new : Linked) (base : ℕ) (parts new_parts : List Part) (part : Part) → 0 < length (drop base parts) → get_or (made_before p) (length (drop base parts)) 0 ≡ 1
     → (p ≡ Production.PackArgument → drop base parts ≡ Part.Nothing ∷ [] → ⊥) → length new.nodes.nodes ≤ length old.nodes.nodes + 1
     → drop base new_parts ≡ part ∷ drop (base + 1) parts
@@ -217,7 +194,7 @@ made_counts p old new base parts new_parts part some one no_pack more own =
     (λ is none. pack_there split.0 (λ nothing. no_pack is (split.1 ∙ first_rest split.0 Part.Nothing rest nothing none))) in
     rw (own, split.1) (omega (arith, counts, more))
 
--- also where it is refused
+-- likewise where making the node is refused
 pub made_refused : (p : Production) (old new : Linked) (base : ℕ) (parts : List Part) → 0 < length (drop base parts) → get_or (made_before p) (length (drop base parts)) 0 ≡ 1
     → (p ≡ Production.PackArgument → drop base parts ≡ Part.Nothing ∷ [] → ⊥) → length new.nodes.nodes ≤ length old.nodes.nodes + 1
     → length new.nodes.nodes ≤ length old.nodes.nodes + closes_of p (drop base parts)
@@ -226,7 +203,7 @@ made_refused p old new base parts some one no_pack more =
     let again : drop base parts ≡ split.0 ∷ drop (base + 1) parts = split.1 in
     omega (arith, made_counts p old new base parts parts split.0 some one no_pack more again)
 
--- no elements make nothing
+-- a pack without elements makes no node
 pub none_made : (result : Result Step Refusal) (first : Part) → first ≡ Part.Nothing → IfOk result (λ step. nodes_of_step step ≡ pack_makes first) → IfOk result (λ step. nodes_of_step step ≡ 0)
 unfolding pack_makes
 none_made (Ok step) first none makes = makes ∙ ap pack_makes none

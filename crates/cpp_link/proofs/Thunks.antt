@@ -1,10 +1,6 @@
 -- The thunk that was added last.
-use Rattle.std.proofs.Common.{◌≡◌, refl, ℕ, List, [], ◌∷◌, ◌++◌, length, Some}
-use Rattle.std.specs.Prelude.{slice_get}
+use Rattle.cpp_link.proofs.Basics.{◌≡◌, refl, ℕ, List, [], ◌∷◌, ◌++◌, length, Some, slice_get, Term, tree_at, thunk_of, Thunk}
 use Rattle.cpp_term.specs.Term as term
-use Rattle.cpp_term.specs.Term.{Term}
-use Rattle.cpp_tree.specs.Nodes.{tree_at, thunk_of}
-use Rattle.cpp_tree.specs.declared.node.Thunk.{Thunk}
 
 last_is : (us : List Thunk) (u : Thunk) → slice_get (us ++ u ∷ []) (length us) ≡ Some u
 last_is [] u = refl

@@ -1,4 +1,4 @@
--- Parts that denote values exist, and denote the values that they have.
+-- The parts of an open rule exist, and denote the values that the reading has for them.
 use Rattle.std.proofs.Common.{◌≡◌, refl, sym, ◌∙◌, ap, subst, ℕ, ◌-◌, List, [], ◌∷◌, length, take, drop, Option}
 use Rattle.sym_link.proofs.Lists.{rest_all}
 use Rattle.sym_link.specs.declared.language.Frame.{Frame}
@@ -21,7 +21,7 @@ parts_are s l (p ∷ ps) (v ∷ vs) are = let rest = parts_are s l ps vs are.1 i
 parts_are s l [] (v ∷ vs) are = absurd are
 parts_are s l (p ∷ ps) [] are = absurd are
 
--- the state is that in which the nodes are
+-- states with equal candidates, equal packs and equal counting are equal
 pub same_state : (cs ds : List Candidate) (p q : Option ℕ) (a b : Counting) → cs ≡ ds → p ≡ q → a ≡ b
     → ◌≡◌ {A = State} (record { candidates = cs; packs = p; counting = a }) (record { candidates = ds; packs = q; counting = b })
 same_state cs ds p q a b candidates packs counting = rw (candidates, packs, counting) refl
@@ -35,7 +35,7 @@ pub open_there : (s : List ℕ) (l : Linked) (frame : Frame Surroundings) (parts
 open_there s l frame parts own o same =
     subst (λ ps. AreThere s (length l.nodes.nodes) ps) (sym same) (parts_are s l (drop frame.base parts) o.known o.at.parts).0
 
--- and those of a slice from its base on
+-- the parts in the slice from the rule's base on exist
 pub own_there : (s : List ℕ) (l : Linked) (frame : Frame Surroundings) (parts given : List Part) → IsOpenAt (cpp_view s) s l frame parts → given ≡ parts
     → AreThere s (length l.nodes.nodes) (take (length given - frame.base) (drop frame.base given))
 own_there s l frame parts given o same = open_there s l frame parts _ o (rest_all given frame.base ∙ ap (λ ps. drop frame.base ps) same)

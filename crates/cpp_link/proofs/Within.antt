@@ -1,21 +1,7 @@
--- What holds of a language whose linking is within something, or follows another reading, from what holds of the language
--- without that.
-use Rattle.std.proofs.Common.{ℕ, List, drop}
-use Rattle.std.specs.Prelude.{Result}
-use Rattle.sym_core.specs.declared.refusal.Refusal.{Refusal}
-use Rattle.sym_link.specs.declared.language.Frame.{Frame}
-use Rattle.sym_link.specs.Reading.{Open}
-use Rattle.sym_link.specs.Linking.{View, HasRoom}
-use Rattle.sym_link.specs.Threads.{IsAt, IsOpenAt, GoesOn, ClosesAll}
-use Rattle.cpp_term.specs.Values.{State, Around, Value}
-use Rattle.cpp_link.specs.declared.linked.Linked.{Linked}
-use Rattle.cpp_link.specs.declared.part.Part.{Part}
-use Rattle.cpp_references.specs.declared.around.Surroundings.{Surroundings}
-use Rattle.cpp_link.specs.declared.rescoping.Rescoping.{Rescoping}
-use Rattle.cpp_link.specs.LinkRescoping.{within, wide_view}
-use Rattle.cpp_link.specs.View.{cpp_view}
+-- Laws of a language that wraps the linking of another, or follows another reading, from the laws of that other language.
+use Rattle.cpp_link.proofs.Basics.{ℕ, List, drop, Result, Refusal, Frame, Open, View, HasRoom, IsAt, IsOpenAt, GoesOn, ClosesAll, State, Around, Value, Linked, Part, Surroundings, Rescoping, within, wide_view, cpp_view}
 
--- ## Within
+-- ## A language that wraps the linking of another
 
 module _ {S : Type 0} (view : View Linked Part Surroundings Value S Around) (s : List ℕ) (l : Rescoping) where
   pub room_within : (more : ℕ) → HasRoom (within view) s l more → HasRoom view s l.linked more

@@ -1,5 +1,5 @@
 -- A rule that closes in the step that begins it adds at most two nodes, together with those that the rule around it adds there.
--- A test of the grammar's rules that computes.
+-- This is a test of the grammar's rules, by computing.
 use Rattle.std.proofs.Common.{◌≡◌, refl, sym, ◌∙◌, ap, subst, arith, ℕ, zero, suc, ◌+◌, ◌<◌, ◌≤◌, List, [], ◌∷◌, length, drop, get_or, Bool, true, false, not, ◌&&◌, ◌||◌, cond, if◌then◌else◌, Some, inl, inr}
 use Rattle.std.specs.Prelude.{nat_le}
 use Rattle.std.proofs.lemmas.Bool.{false≢true, and_parts, leb-true, cases_Bool, cases_eq, cases_lt}
@@ -30,7 +30,7 @@ use Rattle.cpp_link.specs.ClosesLaws.{name_one, closes_owed}
 
 -- ## The test
 
--- what a production adds at most where it closes after n parts
+-- the most that a pack adds where it closes after n parts; then the most that any production adds
 unfoldable pack_most_at : (held : ℕ) → ℕ
 pack_most_at zero = 1
 pack_most_at (suc held) = owes_of Production.PackArgument (suc held)
@@ -43,7 +43,7 @@ closes_most Production.TypeTag held = 1
 closes_most Production.PackArgument held = pack_most_at held
 closes_most p held = owes_of p held
 
--- where it does, it and the rule around it add at most two
+-- if a production closes after n parts, its rule and the one around it add at most two nodes
 abbrev adds_two : (before behind : ℕ) → Production → (held : ℕ) → Bool
 adds_two before behind p held = nat_le (before + owes_of p 0 + closes_most p held) (behind + owes_of p held + 2)
 
@@ -55,7 +55,7 @@ may_be_rowless (Byte b ∷ ss) = may_be_rowless ss
 may_be_rowless (Name ∷ ss) = false
 may_be_rowless (Number kind ∷ ss) = false
 
--- this holds of a production with n parts and these symbols left, wherever it closes in the step that begins it
+-- a production with n parts and these symbols left adds at most two nodes, wherever it closes in the step that begins it
 abbrev closes_two : (before behind : ℕ) → Production → (held : ℕ) → List Sym → Bool
 closes_two before behind p held [] = adds_two before behind p 0
 closes_two before behind p held (Kind k ∷ ss) = not (wide.may_be_empty k) || closes_two before behind p (held + 1) ss
@@ -63,12 +63,12 @@ closes_two before behind p held (Byte b ∷ ss) = closes_two before behind p (he
 closes_two before behind p held (Name ∷ ss) = not (may_be_rowless ss) || (adds_two before behind p (held + 1) && adds_two before behind p 0)
 closes_two before behind p held (Number kind ∷ ss) = not (may_be_rowless ss) || (adds_two before behind p (held + 1) && adds_two before behind p 0)
 
--- and of each rule of a kind
+-- likewise for each rule of a kind
 abbrev choices_two : (before behind : ℕ) → List Choice → Bool
 choices_two before behind [] = true
 choices_two before behind (c ∷ cs) = closes_two before behind (production_at c.rule.number) 0 (symbols_of c.rule) && choices_two before behind cs
 
--- and of each rule that may begin in a production with n parts and these symbols left
+-- likewise for each rule that may begin in a production with n parts and these symbols left
 abbrev begins_two : Production → (before held : ℕ) → List Sym → Bool
 begins_two p before held [] = true
 begins_two p before held (Kind k ∷ ss) = choices_two before (owes_of p (held + 1)) (get_or wide_sheet k blank).choices && (not (wide.may_be_empty k) || begins_two p before (held + 1) ss)
@@ -247,7 +247,7 @@ ended before behind q own n is two =
     let most : closes_of q own ≤ closes_most q n = subst (λ k. closes_of q own ≤ closes_most q k) is (most_right q own) in
     omega (arith, most, leb-true (before + owes_of q 0 + closes_most q n) (behind + owes_of q n + 2) two)
 
--- what is added to the rule around it and to the rule itself, in a step that begins and closes it
+-- what is added to a rule and to the rule around it, in a step that begins and closes the rule: at most two nodes
 pub record AtOnce (around : ℕ) (held next : ℕ) (number : ℕ) (at_once : ℕ) : Type 0 where
   pub closed : (own : List Part) → length own ≡ at_once → owes around held + owes number 0 + closes number own ≤ owes around next + owes number (length own) + 2
   pub refused : owes around held + closes number [] ≤ owes around next + 2

@@ -9,7 +9,7 @@ use Rattle.cpp_grammar.specs.Values.{State, Value}
 use Rattle.cpp_grammar.specs.Unfolding.{cpp, first_around, first_state}
 use Rattle.cpp_link.specs.NodeCount.{nodes_of_shape}
 
--- Each candidate of a symbol that is read was made as a node, beside the four at the front of each table.
+-- Each candidate of a symbol that is read was made as a node, in addition to the four nodes at the front of each table.
 abbrev pub CandidatesAreFew : Type 0
 CandidatesAreFew =
     (shape : Tree) → IsTree wide (Kind 0) shape → (read : Found (List Value) State)

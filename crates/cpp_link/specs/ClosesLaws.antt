@@ -1,4 +1,4 @@
--- What a rule may add after its parts, as they become more.
+-- What a rule may add after its parts, as parts are added.
 use Rattle.std.proofs.Common.{◌≡◌, refl, arith, lit≤, ℕ, zero, suc, ◌+◌, ◌≤◌, List, [], ◌∷◌, ◌++◌, length, drop, get_or, length-append}
 use Rattle.cpp_grammar.specs.declared.production.Production.{Production}
 use Rattle.cpp_link.specs.declared.part.Part.{Part}
@@ -32,7 +32,7 @@ pub quiet_owed : (p : Production) (held : ℕ) → owes_of p (suc held) ≤ owes
 unfolding owes_of
 quiet_owed p held = omega (arith, sum_next (made_before p) held)
 
--- and one node less, where it has made that before this part
+-- a production owes one node less after a part, if it makes one before it
 pub made_owed : (p : Production) (held : ℕ) → get_or (made_before p) held 0 ≡ 1 → 1 + owes_of p (suc held) ≤ owes_of p held
 unfolding owes_of
 made_owed p held one = omega (arith, sum_next (made_before p) held, one)
@@ -103,7 +103,7 @@ longer p own part =
     let more : length (own ++ part ∷ []) ≡ suc (length own) = omega (arith, length-append own (part ∷ [])) in
     rw more (quiet_owed p (length own))
 
--- the first part may be another one
+-- after the first part is replaced and an absent part is added, the rule may add no more nodes than before
 pub closes_behind : (p : Production) (first part : Part) (rest : List Part) → closes_of p ((part ∷ rest) ++ Part.Nothing ∷ []) ≤ closes_of p (first ∷ rest)
 unfolding closes_of
 closes_behind Production.InternalName first part rest = name_behind first part rest
@@ -126,7 +126,7 @@ pub closes_pushed : (p : Production) (own : List Part) → closes_of p (own ++ P
 closes_pushed p (first ∷ rest) = closes_behind p first first rest
 closes_pushed p [] = first_pushed p
 
--- and a node less, where it has been made before this part
+-- a rule that makes one node after its first part may add one node less from then on
 abbrev behind_first : List ℕ
 behind_first = 0 ∷ 1 ∷ []
 

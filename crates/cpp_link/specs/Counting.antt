@@ -35,7 +35,7 @@ counting_of c = record { lists = lists_of c.lists; expected = expected_of c.expe
 
 -- ## Numbers of candidates
 
--- by whom each is counted, whatever the trees are
+-- by which compilers each candidate is counted, regardless of its tree
 abbrev pub marks : List Candidate → List values.Candidate
 marks cs = candidates_of [] cs
 
@@ -49,7 +49,7 @@ unfoldable pub place_of : (is_shorter : Bool) → Candidate → ℕ
 place_of false c = c.longer
 place_of true c = c.shorter
 
--- this many candidates aren't in the list, and the first ones hold the places of those that are
+-- `apart` candidates aren't in the list, and the first entries hold the places of those that are in it
 pub record IsListed (is_shorter : Bool) (apart : ℕ) (cs : List Candidate) : Type 0 where
   pub count : apart + inside is_shorter (marks cs) ≡ length cs
   pub place : (number : ℕ) (other : Candidate) → number < inside is_shorter (marks cs) → place_of is_shorter (get_or cs number other) ≡ place_in is_shorter (marks cs) number
@@ -96,7 +96,7 @@ unfoldable pub placed : (is_shorter : Bool) → (place : ℕ) → Candidate → 
 placed false place c = record c { longer = place }
 placed true place c = record c { shorter = place }
 
--- the candidates, of which the one with this number holds this place
+-- the candidates, where the one with this number holds this place
 abbrev pub with_place : (is_shorter : Bool) → List Candidate → (number place : ℕ) → List Candidate
 with_place is_shorter [] number place = []
 with_place is_shorter (c ∷ cs) zero place = placed is_shorter place c ∷ cs

@@ -1,4 +1,4 @@
--- As many values go into a part of C++ as were known.
+-- A step of C++ keeps the number of values.
 use Rattle.std.proofs.Common.{◌≡◌, refl, ◌-◌, ℕ, suc, List, [], ◌∷◌, length, cond, true, Result, Ok, Err}
 use Rattle.std.specs.Result.{IfOk}
 use Rattle.sym_core.specs.declared.refusal.Refusal.{Refusal}

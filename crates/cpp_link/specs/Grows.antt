@@ -1,4 +1,4 @@
--- Nodes to which others are added.
+-- Tables that get more nodes.
 use Rattle.std.specs.Prelude.{◌≡◌, ℕ, ◌+◌, ◌<◌, ◌≤◌, ◌^◌, List, length}
 use Rattle.cpp_tree.specs.Nodes.{Stored, over, tree_at, IsTable}
 use Rattle.cpp_link.specs.Parts.{trees_in}
@@ -12,7 +12,7 @@ pub record Grows (s : List ℕ) (old new : Stored) (more : ℕ) : Type 0 where
   pub thunks : length old.thunks ≤ length new.thunks
   pub few_thunks : length new.thunks ≤ length old.thunks + 1
 
--- the table is one, and has room for n more nodes
+-- what is stored is a table, with room for n more nodes
 pub record HasPlace (s : List ℕ) (y : Stored) (more : ℕ) : Type 0 where
   pub table : IsTable (over s y)
   pub nodes : length y.nodes + more < 2 ^ 32

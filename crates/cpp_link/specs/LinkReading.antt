@@ -1,5 +1,5 @@
--- C++'s reading as the linker follows it: of a text it knows only the bytes, and not which token of the symbol it was, and of a
--- symbol's first rule only the place. It says of each symbol what C++'s reading says.
+-- C++'s reading as the linker follows it: it knows the bytes of a text, but not which token of the symbol they are; of a symbol's
+-- first rule it knows only the place. It gives each symbol the same meaning as C++'s reading.
 use Rattle.std.specs.Prelude.{ℕ, ◌+◌, ◌-◌, ◌^◌, List, length, take, drop, nat_eq, nat_lt, if◌then◌else◌, Result, Ok}
 use Rattle.sym_core.specs.declared.refusal.Refusal.{Refusal}
 use Rattle.sym_shape.specs.Tree.{Forest}
@@ -14,12 +14,12 @@ use Rattle.cpp_term.specs.Between.{no_items}
 use Rattle.cpp_term.specs.Meaning.{parameters, signature_with, meaning}
 use Rattle.cpp_term.specs.Unfolding.{behind, close, cpp}
 
--- a number, or the greatest one of 64 bits where it is beyond them
+-- a number, or the greatest one of 64 bits if it needs more
 unfoldable pub in_64_bits : ℕ → ℕ
 in_64_bits n = if nat_lt n (2 ^ 64) then n else (2 ^ 64 - 1)
 
--- What a production that begins at a place denotes: a suffix, as digits of base 16, is n bytes from there on, one more than those after its first, and
--- the number of a lambda or an unnamed type has 64 bits.
+-- What a production that begins at a place denotes. A suffix, or digits of base 16, are the symbol's bytes from that place on,
+-- one byte more than the text of their part; the number of a lambda or an unnamed type has 64 bits.
 unfoldable pub link_meaning : List ℕ → Production → (byte place : ℕ) → Around → List Value → Value
 link_meaning s Production.Suffix byte place around vs = text (take (length (text_of (part vs 0)) + 1) (drop place s))
 link_meaning s Production.SuffixByte byte place around vs = text (take (length (text_of (part vs 0)) + 1) (drop place s))
@@ -32,12 +32,12 @@ link_meaning s production byte place around vs = meaning production byte around 
 unfoldable pub link_close : List ℕ → Production → (byte : ℕ) → Around → (place : ℕ) → (began : State) → List Value → State
     → Result (Found Value State) Refusal
 link_close s Production.Substitution byte around place began vs state = close Production.Substitution byte around place began vs state
--- nor has the ABI's grammar an inherited constructor
+-- the ABI's grammar has no inherited constructor
 link_close s Production.Inheriting byte around place began vs state = close Production.Inheriting byte around place began vs state
 link_close s production byte around place began vs state =
     Ok (found (link_meaning s production byte place around vs) (behind production byte around began vs state))
 
--- no lambda and no unnamed type is at the first place
+-- no lambda and no unnamed type begins at the first place
 unfoldable pub link_begin : Open State Around → Forest → Result State Refusal
 link_begin rule parts = if nat_eq rule.place 0 then Ok rule.before else cpp.begin rule parts
 

@@ -45,8 +45,8 @@ link_close_wide s Production.EncodingLiteral byte around place began vs state =
     Ok (found (name_if (is_unseen around && is_open (tree_of (part vs 1))) (part vs 1) (link_meaning s Production.EncodingLiteral byte place around vs)) state)
 link_close_wide s production byte around place began vs state = link_close s production byte around place began vs state
 
--- At an S of a nested name, at a type under qualifiers and at a type of an encoding it's noted what may be named, and in a name which types
--- are awaited.
+-- At the `S` of a nested name, at a type under qualifiers and at a type of an encoding, notes what may be named there; in a name,
+-- notes which types are awaited.
 unfoldable pub link_opening : Production → Open State Around → Forest → Result State Refusal
 link_opening Production.NestTemplate rule parts = Ok (noting (expecting (prefix_at (rule.place - 1)) rule.before.counting) rule.before)
 link_opening Production.QualifiedPlain rule parts = Ok (noting (expecting (qualified_at rule.place) rule.before.counting) rule.before)
@@ -79,9 +79,9 @@ unfoldable pub is_parameter_argument : Production → Bool
 is_parameter_argument Production.ParameterExpression = true
 is_parameter_argument _ = false
 
--- Before the part after n others of a production the wide reading does something of its own: in a lambda's signature a
--- parameter is named, or what the lambda declares is read; a name becomes a candidate with its M; or the base class of an
--- inherited constructor, with the constructor, or the name of a concept is counted.
+-- Whether the wide reading does something of its own before the part after n others: in a lambda's signature a parameter is
+-- named, or what the lambda declares is read; a name becomes a candidate with its M; or the base class of an inherited
+-- constructor, with the constructor, or the name of a concept is counted.
 unfoldable pub steps_apart : Production → (in_lambda : Bool) → (before : ℕ) → Bool
 steps_apart Production.Parameter in_lambda before = in_lambda && nat_eq before 1
 steps_apart Production.NestParameter in_lambda before = in_lambda && nat_eq before 1
@@ -96,14 +96,14 @@ steps_apart Production.EncodingLiteral in_lambda before = in_lambda && nat_eq be
 steps_apart Production.Encoding in_lambda before = in_lambda && nat_lt before 2
 steps_apart _ in_lambda before = false
 
--- What becomes a candidate then, once the parts denote these values: a name with its M, a base class and the constructor, or a
--- concept's name.
+-- The state with its new candidates, before the part after parts with these values: a name with its M, a base class and the
+-- constructor, or a concept's name.
 unfoldable pub with_mark : Production → Around → List Value → State → State
 with_mark Production.Holder around vs state = with_holder around (tree_of (part vs 0)) state
 with_mark Production.HeldArguments around vs state = with_held (prefix_listed around.prefix) around (prefix_tree around.prefix) state
 with_mark _ around vs state = state
 
--- what is done, and what becomes a candidate then
+-- a step, with the candidates that are marked after it
 unfoldable pub going_marked : Production → Around → Continuation → Continuation
 going_marked production around (Ok next) = Ok (record next { state = with_mark production around next.values next.state })
 going_marked production around (Err e) = Err e
@@ -117,20 +117,20 @@ generic_read false around k state = generic_so_far around k [] state
 abbrev pub number_in : List Value → ℕ
 number_in known = counted_value Seq36 (text_of (part known 0))
 
--- the lists that are left after an S at this place with this number
+-- the lists that remain after an `S` at this place with this number
 unfoldable pub lists_after : (place number : ℕ) → State → Lists
 lists_after place number state = elim (nat_eq (place_in false state.candidates number) (place_in true state.candidates number)) [
   | true ↦ state.counting.lists
   | false ↦ left_at place number state
 ]
 
--- the candidate of a number in the list that is left
+-- the candidate of a number in the list that remains
 unfoldable pub named_left : Lists → List Candidate → (number : ℕ) → Option Candidate
 named_left longer_list cs number = named_in false cs number
 named_left shorter_list cs number = named_in true cs number
 named_left _ cs number = None
 
--- the candidate that such an S names
+-- the candidate that an `S` at this place with this number names
 unfoldable pub named_after : (place number : ℕ) → State → Option Candidate
 named_after place number state = elim (nat_eq (place_in false state.candidates number) (place_in true state.candidates number)) [
   | true ↦ named_in false state.candidates number
@@ -148,14 +148,14 @@ abbrev pub IsOpenName : List Term → Term → Option ℕ → Type 0
 IsOpenName ts name None = is_open name ≡ false
 IsOpenName ts name (Some node) = (is_open name ≡ true) × (tree_at ts node ≡ name)
 
--- the name at this node, or the value where there is none
+-- the name at this node, or the value if no node is given
 unfoldable pub name_or : List Term → Option ℕ → Value → Value
 name_or ts None v = v
 name_or ts (Some node) v = tree (tree_at ts node) true
 
 -- ## What a symbol makes
 
--- a tree that was made elsewhere has an alias with an argument
+-- the nodes of a substitution: an alias with an argument, if the tree was made elsewhere
 unfoldable pub substituted_nodes : Around → Option Candidate → ℕ
 substituted_nodes around None = 0
 substituted_nodes around (Some c) = elim (is_foreign around c) [ true ↦ 1 | false ↦ 0 ]
@@ -164,7 +164,7 @@ unfoldable pub wide_at_end : Production → Around → (place : ℕ) → List Va
 wide_at_end Production.Substitution around place known state = substituted_nodes around (named_by place state known)
 wide_at_end p around place known state = makes_at_end p known
 
--- of a rule with these parts, which closes when this much is linked
+-- the nodes that a rule with these parts makes where it closes, given what is linked so far
 abbrev pub wide_ends : List ℕ → Linked → (place : ℕ) → Surroundings → Production → List Value → ℕ
 wide_ends s l place kept p known = wide_at_end p (around_of (trees_in s l.nodes) kept) place known (state_of s l)
 
@@ -183,11 +183,11 @@ are_wide_nodes shape nodes = nodes ≡ wide_nodes_of_shape shape
 
 -- ## The language
 
--- C++'s language by the wide grammar: the nodes are the same, and the reading is another one
+-- C++'s language by the wide grammar: the same nodes, with another reading
 abbrev pub wide_view : List ℕ → View Linked Part Surroundings Value State Around
 wide_view s = record (cpp_view s) { reading = linked_wide s }
 
--- a language of what is linked within
+-- a language, with its linked symbol held in one of the wide grammar
 abbrev pub within : {S : Type 0} → View Linked Part Surroundings Value S Around → View Rescoping Part Surroundings Value S Around
 within view = record {
   table = view.table;

@@ -17,7 +17,7 @@ nodes_of_outcome (Outcome.Applied name arguments) = 2
 nodes_of_outcome (Outcome.DeclaringLambda heads first rest number) = 2
 nodes_of_outcome _ = 1
 
--- the state in which the nodes are
+-- the state that a linked symbol denotes
 abbrev pub state_of : List ℕ → Linked → State
 state_of s l = record { candidates = candidates_of (trees_in s l.nodes) l.candidates.list.items; packs = l.packs; counting = counting_of l.counting }
 
@@ -53,6 +53,6 @@ IsRare Production.TaggedStdType = ⊥
 IsRare Production.Special = ⊥
 IsRare _ = Unit {0}
 
--- one of the commonest
+-- a production that is one of the commonest
 abbrev pub IsCommon : Production → Type 0
 IsCommon production = IsRare production → ⊥

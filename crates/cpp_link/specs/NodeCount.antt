@@ -18,9 +18,9 @@ use Rattle.cpp_references.specs.declared.around.Surroundings.{Surroundings}
 use Rattle.cpp_link.specs.Owed.{made_before, made_at_end}
 use Rattle.cpp_link.specs.View.{cpp_view}
 
--- ## What a production makes whose parts so far have these values
+-- ## What a production makes when its parts so far have these values
 
--- one node if this is present
+-- one node if this value is present
 unfoldable pub one_if_there : Value → ℕ
 one_if_there v = if is_there v then 1 else 0
 
@@ -40,7 +40,7 @@ unfoldable pub pack_before : List Value → ℕ
 pack_before (elements ∷ []) = one_if_there elements
 pack_before _ = 0
 
--- before its next part
+-- the nodes that a production makes before its next part
 unfoldable pub makes_before : Production → List Value → ℕ
 makes_before Production.NestStd known = std_before known
 makes_before Production.PackArgument known = pack_before known
@@ -50,7 +50,7 @@ makes_before p known = get_or (made_before p) (length known) 0
 unfoldable pub name_at_end : List Value → ℕ
 name_at_end known = one_if_arguments (part known 1)
 
--- a signature that declares parameters, which are with its first type
+-- one node if this is the first part of a signature that declares parameters: their declarations and its first type
 unfoldable pub one_if_declared : Value → ℕ
 one_if_declared (pair second left right) = 1
 one_if_declared v = 0
@@ -72,7 +72,7 @@ enclosed_at_end known = if ends_arguments (tree_of (part known 0)) then 1 else 0
 unfoldable pub elements_at_end : List Value → ℕ
 elements_at_end known = if is_comma (tree_of (part known 0)) then 2 else 1
 
--- an operation is made of operands, and no expression is an alias
+-- an operation is made of operands; any other expression is an existing one
 unfoldable pub operation_at_end : Value → ℕ
 operation_at_end (pair second left right) = 1
 operation_at_end v = 0

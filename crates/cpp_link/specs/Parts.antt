@@ -40,7 +40,7 @@ value_in s y p = value_of s (trees_in s y) p
 abbrev pub values_in : List ℕ → Stored → List Part → List Value
 values_in s y ps = values_of s (trees_in s y) ps
 
--- what a production denotes: a part, or one whose node isn't made yet
+-- the value of an outcome: that of its part, whether or not the part's node is made yet
 unfoldable pub outcome_value : List ℕ → Stored → Outcome → Value
 outcome_value s y (Outcome.Given part) = value_in s y part
 outcome_value s y (Outcome.There node listed) = values.tree (tree_at (trees_in s y) node) listed
@@ -90,7 +90,7 @@ IsOutcomeThere s held n (Outcome.Lambda first rest number) = (first < n) × (res
 IsOutcomeThere s held n (Outcome.Declaring heads number) = heads < n
 IsOutcomeThere s held n (Outcome.DeclaringLambda heads first rest number) = (heads < n) × (first < n) × (rest < n)
 
--- the candidates are nodes, and their numbers in both lists are noted
+-- each candidate is an existing node, and the candidates are numbered in both lists
 abbrev pub AreCandidatesThere : ℕ → Candidates → Type 0
 AreCandidatesThere n cs = AreNodesThere n cs.list.items × IsCounted cs
 

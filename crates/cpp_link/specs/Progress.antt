@@ -1,4 +1,4 @@
--- What a call leaves that continues to the next part of a frame's rule, or closes it.
+-- What holds after a call that continues to the next part of a frame's rule, or closes the rule.
 use Rattle.std.specs.Prelude.{◌≡◌, ℕ, ◌+◌, ◌<◌, ◌≤◌, List, [], ◌∷◌, ◌++◌, length, drop, Vec, Result, IfOk, IfErr, OnOk, OnErr}
 use Rattle.std.specs.Global.{Global}
 use Rattle.sym_core.specs.declared.refusal.Refusal.{Refusal}
@@ -32,7 +32,7 @@ pub record AddsNodes (s : List ℕ) (old new : Linked) (count : ℕ) (result : R
   pub keeps : KeepsRoom old new
   pub full : OnErr result (LacksRoom old new)
 
--- A rule's part was made of n nodes, if it was made. There are never more of them than may be made where the rule ends.
+-- A rule's part was made of `count` nodes, if it was made. In any case at most as many are made as may be where the rule ends.
 pub record MakesPart (s : List ℕ) (old new : Linked) (most count : ℕ) (result : Result Part Refusal) : Type 0 where
   pub there : IfOk result (λ part. IsThere s (length new.nodes.nodes) part)
   pub grows : OnOk result (view.GoesOn s old new)

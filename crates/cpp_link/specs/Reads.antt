@@ -39,7 +39,7 @@ unfoldable pub instance_node : Node → Bool
 instance_node (Node.Instance template arguments) = true
 instance_node _ = false
 
--- by whom a name is counted that arguments follow, of an inherited constructor or of a concept
+-- which compilers count the name before the arguments of an inherited constructor or of a concept
 unfoldable pub held_node : Node → plain.Counted
 held_node (Node.Within prefix piece) = by_gcc
 held_node (Node.Instance template arguments) = by_gcc
@@ -47,12 +47,12 @@ held_node (Node.Alone piece) = by_clang
 held_node (Node.InStd piece) = by_clang
 held_node _ = by_some
 
--- the node of an inherited constructor, which is counted with its base class: it is absent
+-- the candidate of an inherited constructor, which GCC counts after its base class: the absent node
 unfoldable pub constructor_by : plain.Counted → Option ℕ
 constructor_by by_gcc = Some 0
 constructor_by counted = None
 
--- whether it fits as what an S names, before a nested name or under qualifiers
+-- whether an S may name the node at the front of a nested name, or under qualifiers
 unfoldable pub node_fits : Node → (is_prefix is_qualified : Bool) → Bool
 node_fits Node.Absent is_prefix is_qualified = false
 node_fits (Node.Holder name) is_prefix is_qualified = is_prefix
@@ -91,12 +91,12 @@ unfoldable pub comma_node : Node → Bool
 comma_node (Node.Operation first second left right) = is_code 99 109 first second
 comma_node _ = false
 
--- or also > or >>
+-- an operation whose operator is a comma, > or >>
 unfoldable pub ending_node : Node → Bool
 ending_node (Node.Operation first second left right) = is_code 99 109 first second || is_code 103 116 first second || is_code 114 115 first second
 ending_node _ = false
 
--- the first element and the others of a list that has some, and the argument under which both are
+-- the first element of a nonempty list and its other elements, and the argument under which both are
 unfoldable pub cell_under : Node → Option ℕ → Option Split
 cell_under (Node.Cell first rest) under = Some (record { first = first; rest = rest; under = under })
 cell_under _ under = None
@@ -107,7 +107,7 @@ split_of list = cell_under list.node list.under
 abbrev pub IsSplitThere : ℕ → Split → Type 0
 IsSplitThere n items = (items.first < n) × ((items.rest < n) × IsAliasBelow n items.under)
 
--- the parameters of the items that these are
+-- the parameters among the items of a list, given its first element and the others
 unfoldable pub parameters_by : List Term → Option Split → Term → Term
 parameters_by ts None items = items
 parameters_by ts (Some l) items = elim (is_void (tree_at ts l.first) && is_nil (tree_at ts l.rest)) [ true ↦ nil | false ↦ items ]
@@ -120,13 +120,13 @@ encoding_by ts name (Some l) items = elim (has_return_type (tree_of name)) [
   | false ↦ term.function (tree_of name) (qualifiers_of name) (ref_of name) absent (parameters items)
 ]
 
--- a tree more or less among the candidates, which is counted by these compilers
+-- the state with one more candidate, counted by these compilers: the tree of this node, if one is given
 unfoldable pub with_candidate : plain.Counted → Around → List Term → Option ℕ → State → State
 with_candidate counted around ts None state = state
 with_candidate by_all around ts (Some n) state = appended around (tree_at ts n) state
 with_candidate counted around ts (Some n) state = appended_by counted around (tree_at ts n) state
 
--- two trees, or fewer, one after the other
+-- the state with up to two more candidates, one after the other
 unfoldable pub with_marks : Around → List Term → Marks → State → State
 with_marks around ts marks state = with_candidate (counted_of marks.second_by) around ts marks.second (with_candidate (counted_of marks.first_by) around ts marks.first state)
 

@@ -24,7 +24,7 @@ use Rattle.cpp_link.specs.Counts.{parameter_counts, argument_counts, between_cou
 use Rattle.cpp_link.specs.LinkRescoping.{wide_makes, wide_view, within, wide_counted}
 use Rattle.cpp_link.specs.ViewLaws.{cpp_laws, cpp_threads}
 
--- ## As many values go into a part as were known
+-- ## A step keeps the number of values
 
 here_counts : (around : Around) (place k : ℕ) (vs : List Value) (state : State) → IfOk (parameter_here around place k vs state) (λ next. length next.values ≡ suc (length vs))
 unfolding parameter_here generic_so_far listed_so_far

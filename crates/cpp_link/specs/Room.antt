@@ -7,7 +7,7 @@ use Rattle.sym_link.specs.Room.{Listed, one_by_one}
 use Rattle.cpp_link.specs.declared.part.Part.{Part}
 use Rattle.cpp_link.specs.declared.linked.Linked.{Linked}
 
--- the nodes, what thunks adjust, and the candidates
+-- the lists of nodes, of thunks and of candidates
 abbrev pub lists_of : Linked → List Listed
 lists_of l =
     record { room = l.nodes.node_room; held = length l.nodes.nodes; most = 1 }
@@ -19,7 +19,7 @@ pub record KeepsRoom (old new : Linked) : Type 0 where
   pub thunks : old.nodes.thunk_room ≤ new.nodes.thunk_room
   pub candidates : vec_capacity old.candidates.list ≤ vec_capacity new.candidates.list
 
--- the nodes had no room for one more, or what thunks adjust, or the candidates
+-- the list of nodes, of thunks or of candidates had no room for one more
 abbrev pub LacksRoom : (old new : Linked) → Type 0
 LacksRoom old new =
     (old.nodes.node_room < length new.nodes.nodes + 1)

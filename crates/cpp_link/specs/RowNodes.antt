@@ -6,22 +6,22 @@ use Rattle.cpp_term.specs.Between.{no_items}
 use Rattle.cpp_term.specs.Meaning.{is_void, is_nil}
 use Rattle.cpp_link.specs.NodeCount.{one_if_there, one_if_arguments, one_if_declared, inheriting_at_end, enclosed_at_end, elements_at_end, operation_at_end}
 
--- for a tree: none for an existing one, nor for a tagged name, which takes the place of another
+-- the nodes made for a tree: none for an existing one, nor for a tagged name, which takes the place of another
 unfoldable pub nodes_made : Made → List Value → ℕ
 nodes_made (only source) vs = 0
 nodes_made (applying m k) vs = one_if_arguments (part vs k)
 nodes_made (packing k) vs = one_if_there (part vs k)
 nodes_made m vs = 1
 
--- before a part
+-- the nodes that are made before a part
 unfoldable pub nodes_before : Action → List Value → ℕ
 nodes_before (becomes m is_in is_name is_candidate) vs = nodes_made m vs
 nodes_before (tests after_t is_name) vs = 1
 nodes_before holds vs = 1
 nodes_before _ vs = 0
 
--- The list of a lambda's parameters isn't made of a lone void: the empty list is at the front of each table. A substitution
--- makes at most trees with other arguments here: they are made as parts are.
+-- The list of a lambda's parameters isn't made of a lone void: the empty list is at the front of each table. A substitution makes
+-- no node here.
 unfoldable pub nodes_of : Own → (most : ℕ) → List Value → ℕ
 nodes_of closure most vs = cond (is_void (tree_of (part vs 0)) && is_nil (no_items (part vs 1))) 0 1 + one_if_declared (part vs 0)
 nodes_of substitution most vs = 0
@@ -31,7 +31,7 @@ nodes_of enclosed most vs = enclosed_at_end vs
 nodes_of elements most vs = elements_at_end vs
 nodes_of o most vs = most
 
--- once the parts are read
+-- the nodes that are made once the parts are read
 unfoldable pub nodes_at_end : Form → List Value → ℕ
 nodes_at_end (makes m listing) vs = nodes_made m vs
 nodes_at_end (a_pair letter left right) vs = nodes_made left vs + nodes_made right vs

@@ -21,7 +21,7 @@ pub record IsPart (s : List ℕ) (l : Linked) (part : Part) (value : Value) : Ty
   pub there : IsThere s (length l.nodes.nodes) part
   pub is : value_in s l.nodes part ≡ value
 
--- these are the surroundings of a part
+-- what is kept denotes these surroundings of a part
 pub record Surrounds (s : List ℕ) (l : Linked) (kept : Surroundings) (around : Around) : Type 0 where
   pub there : IsKeptThere (length l.nodes.nodes) kept
   pub is : around_of (trees_in s l.nodes) kept ≡ around
@@ -39,7 +39,7 @@ pub record Holds (s : List ℕ) (l : Linked) (state : State) : Type 0 where
   pub packs : l.packs ≡ state.packs
   pub counting : counting_of l.counting ≡ state.counting
 
--- the new table is the old one and more
+-- the new table extends the old one
 pub record GoesOn (s : List ℕ) (old new : Linked) : Type 0 where
   pub least : length old.nodes.nodes ≤ length new.nodes.nodes
   pub stays : (i : ℕ) → i < length old.nodes.nodes → tree_at (trees_in s new.nodes) i ≡ tree_at (trees_in s old.nodes) i
@@ -49,7 +49,7 @@ pub record IsWhole (s : List ℕ) (l : Linked) : Type 0 where
   pub table : IsTable (over s l.nodes)
   pub there : AreCandidatesThere (length l.nodes.nodes) l.candidates
 
--- the table has its first four nodes, and a thunk is adjusted by a node
+-- the table has its first four nodes, and at most as many thunks as nodes
 pub record IsPaid (l : Linked) : Type 0 where
   pub begun : 4 ≤ length l.nodes.nodes
   pub thunks : length l.nodes.thunks ≤ length l.nodes.nodes

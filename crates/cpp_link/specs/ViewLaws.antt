@@ -78,7 +78,7 @@ cpp_threads s = record {
   one = refl;
 }
 
--- and likewise where the nodes are counted
+-- likewise where the nodes are counted
 pub counted_laws : (s : List ℕ) → IsLinking (cpp_counted s)
 counted_laws s = tallied_laws (cpp_view s) cpp_makes (cpp_laws s)
 

@@ -15,8 +15,9 @@ use crate::tables::{LAMBDA, UNNAMED};
 use sym_core::{Refusal, value10};
 use sym_shape::rule::Row;
 
-/// Whether the production with a number ends with a number that counts as one more than its digits do. The production isn't
-/// looked up, since this is asked of each rule.
+/// Whether the production with this number is a lambda or an unnamed type: its last part is a
+/// number that counts as one more than its digits. The production isn't looked up, since this is
+/// asked for each rule.
 #[inline(always)]
 fn is_numbered(number: u16) -> bool
     ensures { result ≡ is_numbered (production_at number) }
@@ -35,7 +36,8 @@ fn fits(digits: &[u8]) -> bool
     }
 }
 
-/// Whether the number in the last row of the rule of a row has 64 bits at most. Without such a row it has too many.
+/// Whether the number in the last row of a row's rule has at most 64 bits. If there is no such row,
+/// the answer is no.
 fn last_fits(symbol: &[u8], rows: &[Row], row: Row) -> bool
     ensures { row.end - 1 < length rows.now → (other : Row) → IsRange symbol.now (get_or rows.now (row.end - 1) other)
         → result ≡ nat_lt (local_number (slice_range symbol.now (get_or rows.now (row.end - 1) other).from (get_or rows.now (row.end - 1) other).to)) (2 ^ 64) }
@@ -72,7 +74,7 @@ impl Linked {
         if !is_numbered(row.rule) {
             return Ok(kept);
         }
-        // the `U` comes first, so no such rule is a symbol's first
+        // the `U` comes first, so no rule with such a number begins a symbol
         let Some(at) = row.from.checked_sub(1) else {
             return Ok(kept);
         };

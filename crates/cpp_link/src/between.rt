@@ -50,8 +50,8 @@ fn candidate_if(is_candidate: bool, node: u32) -> Option<u32>
     if is_candidate { Some(node) } else { None }
 }
 
-/// The number of a production's parts before which nothing is done. These are most, so the rule's number is asked for that
-/// before anything else is examined.
+/// How many of a production's first parts have nothing done before them. Since nothing is done
+/// before most parts, this is looked up first, by the rule's number.
 #[inline(always)]
 pub(crate) fn quiet_parts(number: u16) -> usize
     ensures { result ≡ quiet_parts (production_at number) }
@@ -63,7 +63,7 @@ pub(crate) fn quiet_parts(number: u16) -> usize
 }
 
 impl Linked {
-    /// A tree becomes a candidate or none does, and the packs have this length.
+    /// A tree becomes a candidate, if one is given, and the packs have this length.
     ///
     /// # Errors
     ///

@@ -35,7 +35,7 @@ use sym_core::Refusal;
 use sym_link::language::Frame;
 use sym_link::parts::put;
 
-/// The head of a name that ends in this piece: lambdas are told from others.
+/// The head of a name that ends in this piece: only lambdas are distinguished.
 #[tactic(auto, unfolding(crate::specs::Reads::piece_head))]
 fn head_of_name(piece: Piece) -> u8
     ensures { result ≡ piece_head piece }
@@ -47,7 +47,7 @@ fn head_of_name(piece: Piece) -> u8
     }
 }
 
-/// The head of a tree, a number for its outermost form, and 0 for those that aren't told apart.
+/// The head of a tree: a number for its outermost form, or 0 for forms that aren't distinguished.
 #[tactic(auto, unfolding(crate::specs::Reads::node_head))]
 pub(crate) fn head_of(node: Node) -> u8
     ensures { result ≡ node_head node }
@@ -126,7 +126,7 @@ impl Linked {
         }
     }
 
-    /// What is awaited of a name that ends in this piece, in the encoding that begins at this place.
+    /// What is awaited after a name that ends in this piece, in the encoding that begins at this place.
     #[tactic(auto, unfolding(cpp_tree::specs::Nodes::piece_of, cpp_term::specs::Rescoping::awaited_by_piece))]
     fn awaited_by_piece(&self, symbol: &[u8], encoding: u32, piece: Piece) -> Awaited
         requires table { IsTable (over symbol.now self.now.nodes) }
@@ -143,7 +143,7 @@ impl Linked {
         }
     }
 
-    /// What is awaited of this name, if it's that of a lambda.
+    /// What is awaited after this name, if it is a lambda's.
     fn awaited_by(&self, symbol: &[u8], encoding: u32, name: u32) -> Awaited
         requires table { IsTable (over symbol.now self.now.nodes) }
         requires below { name < length self.now.nodes.nodes }
@@ -168,7 +168,7 @@ impl Linked {
         self.counting.awaited = awaited;
     }
 
-    /// The rule of a name with an `M` in it closes: if it's that of a lambda, the lambda's types are awaited.
+    /// The rule of a name with an `M` in it closes: if it is a lambda's name, the lambda's types are awaited.
     ///
     /// # Errors
     ///
@@ -199,7 +199,7 @@ impl Linked {
         Ok(made)
     }
 
-    /// The frame's rule, a name with an `M` in it, closes: what it is takes the place of its parts.
+    /// The frame's rule, a name with an `M` in it, closes: its meaning takes the place of its parts.
     ///
     /// # Errors
     ///

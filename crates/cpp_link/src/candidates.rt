@@ -15,20 +15,20 @@ use std::alloc::Global;
 use sym_core::Refusal;
 use sym_link::parts::push_part;
 
-/// The trees that a substitution may name, in the order in which they were made. The first ones hold the places of those that are
-/// in the longer and in the shorter list.
+/// The trees that a substitution may name, in the order in which they were made. If n of them are
+/// in the longer list, the first n entries hold their places; likewise for the shorter list.
 #[derive(Drop)]
 pub struct Candidates {
     pub list: Vec<Candidate>,
     /// The number of candidates that aren't in the longer list.
     pub not_longer: usize,
-    /// The number of those that aren't in the shorter list.
+    /// The number of candidates that aren't in the shorter list.
     pub not_shorter: usize,
     /// By whom the longer list is counted.
     pub by: Counted,
 }
 
-/// The candidate with this number holds this place for the longer list.
+/// Makes the entry with this number hold this place for the longer list.
 fn place_longer(list: &mut Vec<Candidate>, number: usize, place: usize)
     requires number { number < length list.old.items }
     ensures items { list.new.items ≡ with_place false list.old.items number place }
@@ -41,7 +41,7 @@ fn place_longer(list: &mut Vec<Candidate>, number: usize, place: usize)
     };
 }
 
-/// The candidate with this number holds this place for the shorter list.
+/// Makes the entry with this number hold this place for the shorter list.
 fn place_shorter(list: &mut Vec<Candidate>, number: usize, place: usize)
     requires number { number < length list.old.items }
     ensures items { list.new.items ≡ with_place true list.old.items number place }
@@ -54,7 +54,8 @@ fn place_shorter(list: &mut Vec<Candidate>, number: usize, place: usize)
     };
 }
 
-/// How many candidates aren't in the shorter list because of a name with its `M` after one that is counted by these compilers.
+/// How many candidates the shorter list leaves out, if a name with its `M` follows a candidate that
+/// these compilers count.
 fn count_left_out(before: Counted) -> usize
     ensures { result ≡ elim (is_by_all (counted_of before)) [ true ↦ 2 | false ↦ 1 ] }
 {
@@ -65,7 +66,7 @@ fn count_left_out(before: Counted) -> usize
 }
 
 impl Candidates {
-    /// There are none.
+    /// A list without candidates.
     pub fn new(alloc: Global) -> Candidates {
         Candidates {
             list: Vec::new(alloc),
@@ -75,7 +76,7 @@ impl Candidates {
         }
     }
 
-    /// Forgets them, and keeps their memory.
+    /// Forgets the candidates, and keeps their memory.
     pub fn clear(&mut self)
         ensures items { self.new.list.items ≡ [] }
         ensures counted { IsCounted self.new }
@@ -104,7 +105,7 @@ impl Candidates {
     }
 
     /// The last candidate, a name with its `M`, takes the place of the one before it in the longer list, and the shorter list has
-    /// neither.
+    /// neither of the two.
     fn number_holder(&mut self, own: usize)
         requires pushed { IsPushed self.old own counts.ByNewer }
         ensures { AreNumbered self.old self.new }
@@ -146,7 +147,7 @@ impl Candidates {
         }
     }
 
-    /// Likewise. Where all compilers count alike, it holds its own place.
+    /// Likewise; where all compilers count alike, the candidate holds its own place.
     #[inline(always)]
     fn number(&mut self, own: usize, counted: Counted)
         requires pushed { IsPushed self.old own counted }

@@ -32,7 +32,7 @@ impl Linked {
         self.type_candidate(symbol, kept, part)
     }
 
-    /// What follows a production, given its parts and the part that it is.
+    /// What follows a production, given its parts and the part that it became.
     #[tactic(auto, unfolding(cpp_term::specs::Unfolding::behind, crate::specs::LinkReading::link_meaning, crate::specs::Reads::with_candidate))]
     #[inline(always)]
     pub fn after_rule(

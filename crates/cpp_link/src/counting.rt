@@ -10,8 +10,8 @@ ghost use Rattle.cpp_link.specs.Counting.{lists_of, expected_of, awaited_of, cou
 use crate::part::Surroundings;
 pub use cpp_references::candidates::Counted;
 
-/// The lists of candidates that the compiler may have that made the symbol: the longer one has those that some compiler counts,
-/// and the shorter one those that all compilers count.
+/// The lists of candidates of the compilers that may have made the symbol: the longer one has the
+/// candidates that some compiler counts, and the shorter one those that all compilers count.
 #[derive(Clone, Copy)]
 pub enum Lists {
     Both,
@@ -20,8 +20,8 @@ pub enum Lists {
     Neither,
 }
 
-/// The place of the last `S` of which it is known what it may name: what a nested name begins with, a type under qualifiers, or a
-/// parameter type of a lambda's function, which has this head.
+/// The place of the last `S` with something known about what it names: it begins a nested name, or
+/// it is a type under qualifiers, or a parameter type, with this head, of a lambda's function.
 #[derive(Clone, Copy)]
 pub enum Expected {
     Anything,
@@ -30,8 +30,9 @@ pub enum Expected {
     ItemAt(u32, u8),
 }
 
-/// The heads of the next four types of the encoding that begins at this place; 0 where nothing is known of one. They are those of a
-/// lambda, and awaited once a function of it is called.
+/// The heads of the next four types of the encoding that begins at this place; 0 for a type with an
+/// unknown head. They are the heads of a lambda's types, and are awaited once the name continues
+/// after the lambda.
 #[derive(Clone, Copy)]
 pub struct Awaited {
     pub encoding: u32,
@@ -42,7 +43,7 @@ pub struct Awaited {
     pub fourth: u8,
 }
 
-/// Which lists are left, what is expected, and what is awaited.
+/// Which lists remain, what is expected, and what is awaited.
 #[derive(Clone, Copy)]
 pub struct Counting {
     pub lists: Lists,
@@ -50,7 +51,7 @@ pub struct Counting {
     pub awaited: Awaited,
 }
 
-/// Both lists are left, nothing is expected, and nothing is known of any type.
+/// Both lists remain, nothing is expected, and nothing is known of any type.
 pub const NOTHING_COUNTED: Counting = Counting {
     lists: Lists::Both,
     expected: Expected::Anything,
@@ -75,7 +76,7 @@ impl Awaited {
         kept.in_lambda() || !self.is_called || self.encoding != kept.encoding
     }
 
-    /// What is awaited behind the first of these types.
+    /// What is awaited after the first of these types.
     #[tactic(auto, unfolding(cpp_grammar::specs::Rescoping::behind_first))]
     pub fn behind_first(self) -> Awaited
         ensures { awaited_of result ≡ rescoping.behind_first (awaited_of self) }
@@ -90,7 +91,7 @@ impl Awaited {
         }
     }
 
-    /// What is awaited where another type comes before these.
+    /// What is awaited when another type comes before these.
     #[tactic(auto, unfolding(cpp_grammar::specs::Rescoping::behind_another))]
     pub fn behind_another(self) -> Awaited
         ensures { awaited_of result ≡ rescoping.behind_another (awaited_of self) }
@@ -107,8 +108,8 @@ impl Awaited {
 }
 
 impl Counting {
-    /// A type begins at this place in these surroundings: if it's one of the encoding's of which types are awaited, its head is
-    /// expected.
+    /// A type begins at this place in these surroundings: if types of its encoding are awaited, the
+    /// first awaited head is expected.
     pub fn expecting_item(self, kept: Surroundings, place: u32) -> Counting
         ensures { (ts : List Term) → counting_of result ≡ expecting_item (around_of ts kept) place (counting_of self) }
     {
@@ -122,7 +123,7 @@ impl Counting {
         }
     }
 
-    /// A piece of a name begins: if a lambda is before it, this is a function of it.
+    /// A piece of a name begins: after a lambda, it names a function of the lambda.
     #[tactic(auto, unfolding(cpp_grammar::specs::Rescoping::calling))]
     pub fn calling(self) -> Counting
         ensures { counting_of result ≡ rescoping.calling (counting_of self) }
@@ -137,7 +138,7 @@ impl Counting {
         }
     }
 
-    /// A nested name ends: if a lambda is before that, it isn't called.
+    /// A nested name ends: if it ends with a lambda, no types are awaited.
     #[tactic(auto, unfolding(cpp_grammar::specs::Rescoping::ending))]
     pub fn ending(self) -> Counting
         ensures { counting_of result ≡ rescoping.ending (counting_of self) }
@@ -199,7 +200,8 @@ impl Expected {
     }
 }
 
-/// The lists that are left where the two name two candidates, by whether each of these fits.
+/// The lists that remain where the two lists name different candidates, by whether each candidate
+/// fits.
 #[tactic(auto, unfolding(crate::specs::Counting::lists_of, cpp_grammar::specs::Rescoping::left))]
 pub fn left(lists: Lists, longer_fits: bool, shorter_fits: bool) -> Lists
     ensures { lists_of result ≡ rescoping.left (lists_of lists) longer_fits shorter_fits }
@@ -233,7 +235,7 @@ pub fn left(lists: Lists, longer_fits: bool, shorter_fits: bool) -> Lists
     }
 }
 
-/// Likewise, where each also may have the head that is expected, or not: where both fit, this decides.
+/// Likewise, and by whether each candidate may have the expected head: this decides if both fit.
 #[tactic(auto, unfolding(crate::specs::Counting::lists_of, cpp_grammar::specs::Rescoping::left, cpp_grammar::specs::Rescoping::left_by))]
 pub fn left_by(
     lists: Lists,

@@ -9,7 +9,7 @@ ghost use Rattle.cpp_grammar.specs.Unfolding.{production_at};
 use crate::tables::{PART_COUNTS, PRODUCTIONS, SKIPS_PARTS};
 use cpp_grammar::production::Production;
 
-/// The production of a number.
+/// The production with a number.
 // It is looked up at each use: some 7 % of linking's instructions, with the other tables. A copy kept in the frame would have
 // to be proved to be its rule's.
 pub fn production_of(number: u16) -> Production

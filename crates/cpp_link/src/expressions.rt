@@ -39,7 +39,7 @@ pub(crate) fn in_parentheses(expression: u32) -> Node
     }
 }
 
-/// Whether the second two letters are the first two.
+/// Whether the two letters of a code are these two.
 #[tactic(auto, unfolding(cpp_grammar::specs::Standing::is_code))]
 fn is_code(a: u8, b: u8, first: u8, second: u8) -> bool
     ensures { result ≡ is_code a b first second }
@@ -47,7 +47,7 @@ fn is_code(a: u8, b: u8, first: u8, second: u8) -> bool
     first == a && second == b
 }
 
-/// Whether it is an operation whose operator is a comma.
+/// Whether the node is an operation whose operator is a comma.
 #[tactic(auto, unfolding(crate::specs::Reads::comma_node))]
 fn is_comma(node: Node) -> bool
     ensures { result ≡ comma_node node }
@@ -58,7 +58,8 @@ fn is_comma(node: Node) -> bool
     }
 }
 
-/// Whether its operator is a comma, `>` or `>>`, which would seem to continue or to end template arguments.
+/// Whether the node's operator is a comma, `>` or `>>`, which would seem to continue or to end
+/// template arguments.
 #[tactic(auto, unfolding(crate::specs::Reads::ending_node))]
 fn ends_arguments(node: Node) -> bool
     ensures { result ≡ ending_node node }
@@ -73,7 +74,7 @@ fn ends_arguments(node: Node) -> bool
     }
 }
 
-/// The letters of an operator.
+/// The first letter of an operator.
 #[tactic(auto, unfolding(cpp_term::specs::Meaning::first_letter, cpp_tree::specs::Nodes::piece_of))]
 pub(crate) fn first_letter(piece: Piece) -> u8
     ensures { (s : List ℕ) (ts : List Term) → result ≡ first_letter (nodes.piece_of s ts piece) }
@@ -84,7 +85,7 @@ pub(crate) fn first_letter(piece: Piece) -> u8
     }
 }
 
-/// The second of them.
+/// The second letter of an operator.
 #[tactic(auto, unfolding(cpp_term::specs::Meaning::second_letter, cpp_tree::specs::Nodes::piece_of))]
 pub(crate) fn second_letter(piece: Piece) -> u8
     ensures { (s : List ℕ) (ts : List Term) → result ≡ second_letter (nodes.piece_of s ts piece) }
@@ -96,8 +97,8 @@ pub(crate) fn second_letter(piece: Piece) -> u8
 }
 
 impl Linked {
-    /// The operation of the operator with this first letter and this second one: the address of an encoding is a node of its
-    /// own.
+    /// The operation of the operator with these two letters: the address of an encoding is a node
+    /// of its own.
     #[tactic(auto, unfolding(cpp_tree::specs::Nodes::tree_of))]
     fn operation(&self, symbol: &[u8], first: u8, second: u8, left: u32, right: u32) -> Node
         requires table { IsTable (over symbol.now self.now.nodes) }
@@ -122,7 +123,7 @@ impl Linked {
         }
     }
 
-    /// The operation of an operator with this first letter, with the second letter and the operands in the first part, or an
+    /// The operation whose operator begins with this letter, given its second letter and its operands in the first part; or an
     /// existing expression.
     #[tactic(auto, unfolding(crate::specs::Parts::outcome_value, crate::specs::Parts::value_of, cpp_term::specs::Meaning::operation_by, crate::specs::Making::nodes_of_outcome, crate::specs::NodeCount::operation_at_end))]
     pub(crate) fn operation_by(&self, symbol: &[u8], first: u8, parts: &[Part]) -> Outcome
@@ -179,7 +180,7 @@ impl Linked {
         Outcome::Given(self.given(symbol, parts, 0))
     }
 
-    /// A list of expressions: one whose operator is a comma is in parentheses.
+    /// A list of expressions: an element whose operator is a comma is put in parentheses.
     #[tactic(auto, unfolding(crate::specs::Parts::outcome_value, cpp_tree::specs::Nodes::tree_of, cpp_term::specs::Meaning::enclosed_element, crate::specs::Making::nodes_of_outcome, crate::specs::NodeCount::elements_at_end))]
     pub(crate) fn elements(&self, symbol: &[u8], parts: &[Part]) -> Outcome
         requires table { IsTable (over symbol.now self.now.nodes) }
@@ -198,7 +199,7 @@ impl Linked {
         made(Node::Cell { first, rest }, true)
     }
 
-    /// The letter of the part with this number, or this one.
+    /// The letter of the part with this number, or this one if the part has none.
     #[inline(always)]
     pub(crate) fn letter_or(&self, symbol: &[u8], parts: &[Part], k: usize, byte: u8) -> u8
         ensures { result ≡ cond (nat_eq (letter_of (part (values_in symbol.now self.now.nodes parts.now) k)) 0) byte (letter_of (part (values_in symbol.now self.now.nodes parts.now) k)) }

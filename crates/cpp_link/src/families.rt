@@ -9,9 +9,9 @@ use cpp_grammar::production::Production;
 /// calls, since the stack frame of each has room for the locals of all its arms.
 #[derive(Clone, Copy)]
 pub enum Family {
-    /// A rare name in one of its parts.
+    /// A rare name, which is one of its production's parts.
     GivenName,
-    /// A rare name in its first part, perhaps with arguments or tags.
+    /// A rare name, which is its production's first part, perhaps with arguments or tags.
     AppliedName,
     /// A piece of a name.
     Piece,
@@ -39,7 +39,7 @@ pub enum Family {
     Operation,
     /// An operator's second letter and its operands, or a list of expressions.
     Operands,
-    /// A fold, or what else is made of a pack.
+    /// A fold, or another production of packs.
     Pack,
     /// A requires expression, or what it requires.
     Requirement,
@@ -47,7 +47,7 @@ pub enum Family {
     Unresolved,
     /// A literal.
     Literal,
-    /// One of the commonest, which are in none of the others.
+    /// One of the commonest productions, which are in no other family.
     Common,
 }
 

@@ -41,7 +41,8 @@ impl Linked {
     ///
     /// # Errors
     ///
-    /// `BadReference` one byte before the place, at the `S`, where it may name no such candidate.
+    /// `BadReference` one byte before the place, at the `S`, where it names no candidate that it
+    /// may name.
     fn substitute(
         &mut self,
         symbol: &[u8],
@@ -72,7 +73,8 @@ impl Linked {
         Ok(Part::Tree { node, listed: true })
     }
 
-    /// A rule closes that denotes this: its node is made, and a type may become a candidate.
+    /// Closes a rule that denotes this outcome: its node is made, and a type may become a
+    /// candidate.
     ///
     /// # Errors
     ///
@@ -181,7 +183,8 @@ impl Linked {
         self.add_node_and_candidate(symbol, production, place, kept, parts, outcome)
     }
 
-    /// The frame's rule closes, of this production, over all its parts: what it means takes their place.
+    /// The frame's rule, which is of this production, closes over all its parts: its meaning takes
+    /// their place.
     ///
     /// # Errors
     ///
@@ -246,7 +249,8 @@ impl Linked {
         put(parts, frame.base, made)
     }
 
-    /// Likewise. The room for the call's outcome is made only where it is called.
+    /// Likewise, by a call of `finish_rare`. The room for its outcome is made only where it is
+    /// called.
     ///
     /// # Errors
     ///
@@ -274,8 +278,8 @@ impl Linked {
         }
     }
 
-    /// The frame's rule closes over all its parts: what it means takes their place. The common productions have code of their
-    /// own.
+    /// The frame's rule closes over all its parts: its meaning takes their place. The common
+    /// productions have code of their own.
     ///
     /// # Errors
     ///

@@ -1,5 +1,5 @@
-// Names with an `M`, in the wide grammar, and inherited constructors. Compilers differ in what they count of these among the
-// candidates.
+// Names with an `M`, in the wide grammar, and inherited constructors. Compilers differ in which of
+// these they count among the candidates.
 
 ghost use Rattle.std.specs.Prelude.{◌≡◌, ℕ, ◌+◌, ◌-◌, ◌<◌, ◌≤◌, ◌^◌, MatchOption, length, slice_get, slice_index, true, false, IfSome, IfOk, IfErr, OnOk};
 ghost use Rattle.sym_core.specs.Number.{FitsSymbol};
@@ -42,7 +42,7 @@ use sym_core::{Refusal, Span, value36};
 use sym_link::language::Frame;
 use sym_link::parts::put;
 
-/// Whether it is a template with arguments.
+/// Whether the node is a template with arguments.
 #[tactic(auto, unfolding(crate::specs::Reads::instance_node))]
 fn is_instance_node(node: Node) -> bool
     ensures { result ≡ instance_node node }
@@ -53,7 +53,7 @@ fn is_instance_node(node: Node) -> bool
     }
 }
 
-/// Whether two heads may be those of one tree: where nothing is known of one, any head may be the other.
+/// Whether two heads may be those of one tree: if one isn't known, the other may be any head.
 #[tactic(auto, unfolding(cpp_grammar::specs::Rescoping::may_be))]
 fn may_be(head: u8, other: u8) -> bool
     ensures { result ≡ may_be head other }
@@ -61,7 +61,7 @@ fn may_be(head: u8, other: u8) -> bool
     head == 0 || other == 0 || head == other
 }
 
-/// Whether a node fits as what an `S` names, before a nested name or under qualifiers.
+/// Whether an `S` may name the node at the front of a nested name, or under qualifiers.
 #[tactic(auto, unfolding(crate::specs::Reads::node_fits))]
 fn node_fits(node: Node, is_prefix: bool, is_qualified: bool) -> bool
     ensures { result ≡ node_fits node is_prefix is_qualified }
@@ -130,7 +130,7 @@ impl Linked {
         )
     }
 
-    /// Whether it may have the head that is expected there.
+    /// Whether the candidate may have the head that is expected there.
     fn has_head(&self, symbol: &[u8], place: u32, candidate: Option<Candidate>) -> bool
         requires table { IsTable (over symbol.now self.now.nodes) }
         requires there { IfSome candidate (λ c. c.node < length self.now.nodes.nodes) }
@@ -144,7 +144,7 @@ impl Linked {
         may_be(expected, own)
     }
 
-    /// The candidate that this number names at this place, and the lists that are left then.
+    /// The candidate that this number names at this place, and the lists that remain then.
     fn named_apart(&self, symbol: &[u8], place: u32, number: u64) -> (Option<Candidate>, Lists)
         requires table { IsTable (over symbol.now self.now.nodes) }
         requires candidates { AreCandidatesThere (length self.now.nodes.nodes) self.now.candidates }
@@ -178,7 +178,7 @@ impl Linked {
         }
     }
 
-    /// The candidate that these digits name at this place, and the lists that are left then.
+    /// The candidate that these digits name at this place, and the lists that remain then.
     pub(crate) fn named_by_lists(
         &self,
         symbol: &[u8],
@@ -276,7 +276,8 @@ impl Linked {
         Ok(made)
     }
 
-    /// The frame's rule, an inherited constructor, closes: what it is takes the place of its parts.
+    /// The frame's rule, an inherited constructor, closes: its meaning takes the place of its
+    /// parts.
     ///
     /// # Errors
     ///

@@ -15,6 +15,7 @@ pub mod finish;
 pub mod holders;
 pub mod language;
 pub mod linked;
+mod literals;
 pub mod meaning;
 pub mod name_meaning;
 pub mod numbers;
@@ -45,8 +46,8 @@ pub fn nodes_are_few()
     ensures { (tree : Tree) → IsTree wide (Kind 0) tree → cost owes tree ≤ 2 * length (spell tree) }
 {}
 
-/// Each candidate of a symbol that is read was made as a node, beside the four at the front of each table: a symbol has at
-/// least four nodes more than candidates.
+/// Each candidate of a symbol that is read was made as a node, in addition to the four at the front of each table: a symbol has
+/// at least four nodes more than candidates.
 pub fn candidates_are_few()
     ensures { CandidatesAreFew }
 {}

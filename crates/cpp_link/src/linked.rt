@@ -32,7 +32,7 @@ pub struct Linked {
 }
 
 impl Linked {
-    /// Nothing is linked.
+    /// Nothing is linked yet.
     pub fn new(alloc: Global) -> Linked {
         Linked {
             nodes: Nodes::new(alloc),

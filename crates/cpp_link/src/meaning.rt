@@ -1,4 +1,4 @@
-// What productions denote, given their parts: a part, or one whose node isn't made yet.
+// What productions denote, given their parts: a part, or a part whose node isn't made yet.
 
 ghost use Rattle.std.specs.Prelude.{◌≡◌, ◌<◌, ◌≤◌, length, slice_index, true, ◌^◌};
 ghost use Rattle.cpp_term.specs.Meaning.{meaning};
@@ -19,7 +19,7 @@ use crate::part::{Outcome, Part, Surroundings};
 use cpp_grammar::production::Production;
 use cpp_tree::node::{Mark, Node, Piece, Qualifiers};
 
-/// A node that is still to be made, which is a tree.
+/// A tree whose node is still to be made.
 #[inline(always)]
 pub fn made(node: Node, listed: bool) -> Outcome
     ensures { result ≡ Outcome.Made node listed }
@@ -54,7 +54,7 @@ pub(crate) fn items(first: u32, rest: u32, mark: Mark) -> Outcome
     }
 }
 
-/// The type of these qualifiers.
+/// A type under these qualifiers.
 #[inline(always)]
 pub(crate) fn qualified(restrict: bool, volatile: bool, const_: bool, ty: u32) -> Outcome
     ensures { result ≡ Outcome.Made (Node.Qualified (record { restrict = restrict; volatile = volatile; const_ = const_ }) ty) true }

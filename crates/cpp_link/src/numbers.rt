@@ -63,8 +63,8 @@ pub fn signed_digits(symbol: &[u8], negative: bool, text: Span) -> Signed
     }
 }
 
-/// The number of a lambda or an unnamed type, or the greatest of 64 bits where it is beyond them, which is refused where the
-/// type begins.
+/// The number of a lambda or an unnamed type. For a number beyond 64 bits, which is refused where
+/// the type begins, it is the greatest of 64 bits.
 #[tactic(auto, unfolding(cpp_grammar::specs::Values::local_number, crate::specs::LinkReading::in_64_bits))]
 pub fn local_number(symbol: &[u8], text: Span) -> u64
     requires { IsWithin text symbol.now }
@@ -76,7 +76,7 @@ pub fn local_number(symbol: &[u8], text: Span) -> u64
     }
 }
 
-/// As many bytes from a place on as a text has, and one more.
+/// The bytes from a place on, one more than a text has.
 pub fn from_byte(symbol: &[u8], place: u32, text: Span) -> Span
     requires place { place < length symbol.now }
     requires fits { FitsSymbol symbol.now }

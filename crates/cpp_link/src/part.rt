@@ -6,7 +6,7 @@ use cpp_references::candidates::Counted;
 use cpp_tree::node::{Adjustment, Mark, Node, Piece, Qualifiers, Signed, Thunk};
 use sym_core::Span;
 
-/// What a part of a symbol denotes. A tree is a node, and whether it is a candidate already or never is one.
+/// What a part of a symbol denotes. A tree is a node, and whether it is a candidate already or never becomes one.
 #[derive(Clone, Copy)]
 pub enum Part {
     Nothing,
@@ -45,7 +45,7 @@ pub struct Marks {
     pub second_by: Counted,
 }
 
-/// None.
+/// No trees.
 pub const NO_MARKS: Marks = Marks {
     first: None,
     first_by: Counted::ByAll,
@@ -53,7 +53,7 @@ pub const NO_MARKS: Marks = Marks {
     second_by: Counted::ByAll,
 };
 
-/// What a production denotes: a part, or one whose node isn't made yet.
+/// What a production denotes: a part, or a part whose node isn't made yet.
 #[derive(Clone, Copy)]
 pub enum Outcome {
     Given(Part),
@@ -82,7 +82,8 @@ pub enum Outcome {
         letter: u8,
         value: Signed,
     },
-    /// A pair with one tree still to be made: the right one, or the left one, without which there is no right one.
+    /// A pair with one tree still to be made: the right one, or the left one of a pair that has no
+    /// right one.
     MadeOperand {
         letter: u8,
         left: Option<u32>,
@@ -108,7 +109,7 @@ pub enum Outcome {
         heads: u32,
         number: u64,
     },
-    /// One whose signature has some.
+    /// A lambda that declares parameters of its own, and whose signature has types.
     DeclaringLambda {
         heads: u32,
         first: u32,
@@ -120,13 +121,13 @@ pub enum Outcome {
 /// What is done before the next part of a rule: the state and the surroundings of the part.
 #[derive(Clone, Copy)]
 pub enum Step {
-    /// A tree becomes a candidate or none does, and these are the surroundings of the part.
+    /// A tree becomes a candidate, if one is given, and these are the surroundings of the part.
     Go {
         candidate: Option<u32>,
         then: Surroundings,
         packs: Option<u32>,
     },
-    /// An existing node is what the first part is now. It may precede the next part as the name so far.
+    /// The first part is now this existing node. It may precede the next part as the name so far.
     Named {
         node: u32,
         listed: bool,

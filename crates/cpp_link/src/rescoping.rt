@@ -1,5 +1,5 @@
-// Linking a symbol by the wide grammar: in a lambda's signature parameters are the lambda's own, such a lambda is a piece of
-// its own, and a substitution denotes its tree with the arguments that are meant where it occurs.
+// Linking a symbol by the wide grammar: in a lambda's signature parameters are the lambda's own, a lambda with such parameters is
+// a piece of another sort, and a substitution denotes its tree with the arguments that are meant where it occurs.
 
 ghost use Rattle.std.specs.Prelude.{◌≡◌, ℕ, ◌-◌, ◌<◌, ◌≤◌, ◌^◌, ◌∷◌, [], MatchOption, not, ◌&&◌, ◌||◌, List, length, true, false, Ok, IfOk, IfErr};
 ghost use Rattle.sym_core.specs.Value.{counted_value};
@@ -17,10 +17,10 @@ ghost use Rattle.cpp_term.specs.Values as values;
 ghost use Rattle.cpp_term.specs.Rescoping.{name_around, types_around, is_foreign, module_named, restated, numbered, is_declaring, as_generic_lambda, with_holder, counted_held, with_held, between_wide};
 ghost use Rattle.cpp_tree.specs.Nodes.{over, tree_at, bytes_at, piece_of, IsAliasBelow, IsPieceBelow, IsWithin, IsTable};
 ghost use Rattle.cpp_link.specs.Grows.{HasPlace};
-ghost use Rattle.cpp_link.specs.LinkRescoping.{IsOpenName, name_or, is_parameter, is_parameter_argument, steps_apart, with_mark, going_marked, generic_read, number_in, named_by, substituted_nodes, wide_ends, wide_view};
+ghost use Rattle.cpp_link.specs.LinkRescoping.{is_parameter, is_parameter_argument, steps_apart, with_mark, going_marked, generic_read, number_in, named_by, substituted_nodes, wide_ends, wide_view};
 ghost use Rattle.cpp_link.specs.Making.{state_of};
 ghost use Rattle.cpp_link.specs.NodeCount.{makes_before};
-ghost use Rattle.cpp_link.specs.Parts.{trees_in, value_of, value_in, values_in, is_lambda, is_constraint, is_literal, around_of, candidate_of, candidates_of, IsClosed, IsThere, AreThere, AreCandidatesThere, IsKeptThere, IsStepThere};
+ghost use Rattle.cpp_link.specs.Parts.{trees_in, value_in, values_in, is_lambda, is_literal, around_of, candidate_of, candidates_of, IsClosed, IsThere, AreThere, AreCandidatesThere, IsKeptThere, IsStepThere};
 ghost use Rattle.cpp_link.specs.Progress.{Advances, Begins, Finishes, MakesPart};
 ghost use Rattle.cpp_references.specs.Around.{counted_of};
 ghost use Rattle.cpp_term.specs.References.{is_module};
@@ -63,7 +63,7 @@ impl Rescoping {
     }
 }
 
-/// By whom a name is counted that arguments follow: a base class, where it is nested or has arguments of its own, or a concept's name.
+/// Which compilers count a name that arguments follow: a base class that is nested or has arguments, or a concept's name.
 #[tactic(auto, unfolding(crate::specs::Reads::held_node, cpp_references::specs::Around::counted_of))]
 fn held_node(node: Node) -> Counted
     ensures { counted_of result ≡ held_node node }
@@ -91,7 +91,7 @@ fn constructor_by(by: Counted) -> Option<u32>
     }
 }
 
-/// The marks of a name with its `M`, which becomes a candidate before that unless it has become one as a prefix.
+/// The marks of a name with its `M`: it becomes a candidate with the `M`, and before that unless it has become one as a prefix.
 fn holder_marks(kept: Surroundings, name: u32) -> Marks
     ensures is { (ts : List Term) (state : values.State) → with_marks (around_of ts kept) ts result state ≡ with_holder (around_of ts kept) (tree_at ts name) state }
     ensures first { (n : ℕ) → name < n → IsAliasBelow n result.first }
@@ -130,7 +130,7 @@ fn is_parameter_argument(production: Production) -> bool
     }
 }
 
-/// The number of a lambda's own parameter: all that are past any argument are one.
+/// The number of a lambda's own parameter: all numbers past any argument count as one.
 #[tactic(auto, unfolding(cpp_grammar::specs::Rescoping::generic_number))]
 fn generic_number(counted: Option<u64>) -> u32
     ensures { (k : ℕ) → MatchOption counted (2 ^ 64 ≤ k) (λ v. v ≡ k) → result ≡ generic_number k }
@@ -146,21 +146,9 @@ fn generic_number(counted: Option<u64>) -> u32
     }
 }
 
-/// This name, or the part where there is none.
-#[tactic(auto, unfolding(crate::specs::Parts::value_of, crate::specs::LinkRescoping::name_or))]
-fn name_or(name: Option<u32>, part: Part) -> Part
-    ensures is { (s : List ℕ) (ts : List Term) → value_of s ts result ≡ name_or ts name (value_of s ts part) }
-    ensures there { (s : List ℕ) (n : ℕ) → IsAliasBelow n name → IsThere s n part → IsThere s n result }
-{
-    match name {
-        Some(node) => Part::Tree { node, listed: true },
-        None => part,
-    }
-}
-
 impl Linked {
-    /// The rule of a row begins where not all compilers count alike: of the `S` of a nested name, and of a type under qualifiers,
-    /// the form says what it may name.
+    /// The rule of a row begins where not all compilers count alike: the form says what the `S` of a nested name, or of a type
+    /// under qualifiers, may name.
     ///
     /// # Errors
     ///
@@ -289,7 +277,7 @@ impl Linked {
         }
     }
 
-    /// Whether an encoding is passed over whose name has free parameters.
+    /// Whether an encoding is passed over, and this is its name and has free parameters.
     fn goes_on_open(&self, symbol: &[u8], kept: Surroundings, name: u32) -> bool
         requires table { IsTable (over symbol.now self.now.nodes) }
         requires below { name < length self.now.nodes.nodes }
@@ -327,8 +315,8 @@ impl Linked {
         self.in_encoding(kept, place, closed_arguments(&self.nodes, symbol, name))
     }
 
-    /// What the wide reading does of its own before the next part, except for the mark: at a parameter, what a lambda declares, a
-    /// constraint, an encoding, a name with its `M`, arguments after a base class or a concept's name, or a module.
+    /// What the wide reading does of its own before the next part, apart from the marks: at a parameter, what a lambda declares,
+    /// a constraint, an encoding, a name with its `M`, arguments after a base class or a concept's name, or a module.
     ///
     /// # Errors
     ///
@@ -447,7 +435,7 @@ impl Linked {
         }
     }
 
-    /// By whom a name is counted that arguments follow.
+    /// Which compilers count a name that arguments follow.
     fn held_by(&self, symbol: &[u8], node: u32) -> Counted
         requires table { IsTable (over symbol.now self.now.nodes) }
         requires below { node < length self.now.nodes.nodes }
@@ -512,7 +500,7 @@ impl Linked {
         Ok(then)
     }
 
-    /// Whether a candidate's free parameters may denote others here than where it was made.
+    /// Whether a candidate's free parameters may denote other arguments here than where it was made.
     #[tactic(auto, unfolding(cpp_term::specs::Rescoping::is_foreign, crate::specs::Parts::around_of))]
     fn is_foreign(&self, symbol: &[u8], kept: Surroundings, candidate: Candidate) -> bool
         requires table { IsTable (over symbol.now self.now.nodes) }
@@ -635,7 +623,7 @@ impl Linked {
         }
     }
 
-    /// The piece itself, unless it is a lambda whose signature declares parameters or has free ones: that has parameters of its
+    /// The piece itself; but a lambda whose signature declares parameters or has free ones becomes one with parameters of its
     /// own (ABI 5.1.8).
     // <closure-type-name> ::= Ul <lambda-sig> E [ <nonnegative number> ] _
     #[tactic(auto, unfolding(cpp_tree::specs::Nodes::piece_of))]
@@ -656,7 +644,7 @@ impl Linked {
         }
     }
 
-    /// The part, as `piece_as_generic_lambda` has it where it is a piece.
+    /// The part; a piece as `piece_as_generic_lambda` answers it.
     #[tactic(auto, unfolding(crate::specs::Parts::value_of))]
     fn as_generic_lambda(&self, symbol: &[u8], part: Part) -> Part
         requires table { IsTable (over symbol.now self.now.nodes) }
@@ -670,7 +658,7 @@ impl Linked {
         }
     }
 
-    /// The frame's rule, a lambda, closes: what it is takes the place of its parts.
+    /// The frame's rule, a lambda, closes: its meaning takes the place of its parts.
     ///
     /// # Errors
     ///
@@ -697,137 +685,5 @@ impl Linked {
             &parts[frame.base..],
         )?;
         put(parts, frame.base, self.as_generic_lambda(symbol, made))
-    }
-
-    /// The name in the part with this number, where it has free parameters.
-    fn open_name(&self, symbol: &[u8], parts: &[Part], number: usize) -> Option<u32>
-        requires table { IsTable (over symbol.now self.now.nodes) }
-        requires there { AreThere symbol.now (length self.now.nodes.nodes) parts.now }
-        ensures is { IsOpenName (trees_in symbol.now self.now.nodes) (tree_of (values.part (values_in symbol.now self.now.nodes parts.now) number)) result }
-        ensures there { IsAliasBelow (length self.now.nodes.nodes) result }
-    {
-        let name = self.node(symbol, self.given(symbol, parts, number));
-        if self.nodes.is_open(symbol, name) {
-            return Some(name);
-        }
-        None
-    }
-
-    /// The frame's rule, an encoding that is passed over, closes: what it is takes the place of its parts. Where its name has free
-    /// parameters, it is that name.
-    ///
-    /// # Errors
-    ///
-    /// `Memory` where a list couldn't grow.
-    #[tactic(auto, using(crate::proofs::Viewing::own_there, crate::proofs::Viewing::open_whole, crate::proofs::Viewing::open_kept))]
-    #[inline(never)]
-    fn finish_passed_over(
-        &mut self,
-        symbol: &[u8],
-        frame: &Frame<Surroundings>,
-        parts: &mut Vec<Part>,
-    ) -> Result<(), Refusal>
-        requires encoding { production_at frame.now.rule ≡ productions.Encoding }
-        requires passed { is_literal frame.now.kept.scope ≡ true }
-        requires room { HasRoom (cpp_view symbol.now) symbol.now self.old (owed_behind (cpp_view symbol.now) frame.now parts.old.items) }
-        requires open { IsOpenAt (cpp_view symbol.now) symbol.now self.old frame.now parts.old.items }
-        requires base { frame.now.base ≤ length parts.old.items }
-        requires place { frame.now.place < length symbol.now }
-        ensures { Finishes (wide_view symbol.now) (wide_ends symbol.now self.old frame.now.place frame.now.kept) symbol.now self.old self.new frame.now parts.old parts.new result }
-    {
-        let own = &parts[frame.base..];
-        let name = self.open_name(symbol, own, 0);
-        let made = self.close_production(
-            symbol,
-            Production::Encoding,
-            frame.place,
-            frame.kept,
-            own,
-        )?;
-        put(parts, frame.base, name_or(name, made))
-    }
-
-    /// The frame's rule, an encoding, closes.
-    ///
-    /// # Errors
-    ///
-    /// `Memory` where a list couldn't grow.
-    #[inline(always)]
-    pub(crate) fn finish_encoding(
-        &mut self,
-        symbol: &[u8],
-        frame: &Frame<Surroundings>,
-        parts: &mut Vec<Part>,
-    ) -> Result<(), Refusal>
-        requires encoding { production_at frame.now.rule ≡ productions.Encoding }
-        requires room { HasRoom (cpp_view symbol.now) symbol.now self.old (owed_behind (cpp_view symbol.now) frame.now parts.old.items) }
-        requires open { IsOpenAt (cpp_view symbol.now) symbol.now self.old frame.now parts.old.items }
-        requires base { frame.now.base ≤ length parts.old.items }
-        requires place { frame.now.place < length symbol.now }
-        ensures { Finishes (wide_view symbol.now) (wide_ends symbol.now self.old frame.now.place frame.now.kept) symbol.now self.old self.new frame.now parts.old parts.new result }
-    {
-        if frame.kept.is_passed_over() {
-            return self.finish_passed_over(symbol, frame, parts);
-        }
-        self.finish_rule(symbol, frame, parts)
-    }
-
-    /// The frame's rule, a literal in a constraint that denotes an encoding, closes: what it is takes the place of its parts. Where
-    /// the encoding is a name with free parameters, it is that name.
-    ///
-    /// # Errors
-    ///
-    /// `Memory` where a list couldn't grow.
-    #[tactic(auto, using(crate::proofs::Viewing::own_there, crate::proofs::Viewing::open_whole, crate::proofs::Viewing::open_kept))]
-    #[inline(never)]
-    fn finish_unseen(
-        &mut self,
-        symbol: &[u8],
-        frame: &Frame<Surroundings>,
-        parts: &mut Vec<Part>,
-    ) -> Result<(), Refusal>
-        requires literal { production_at frame.now.rule ≡ productions.EncodingLiteral }
-        requires unseen { is_constraint frame.now.kept.scope ≡ true }
-        requires room { HasRoom (cpp_view symbol.now) symbol.now self.old (owed_behind (cpp_view symbol.now) frame.now parts.old.items) }
-        requires open { IsOpenAt (cpp_view symbol.now) symbol.now self.old frame.now parts.old.items }
-        requires base { frame.now.base ≤ length parts.old.items }
-        requires place { frame.now.place < length symbol.now }
-        ensures { Finishes (wide_view symbol.now) (wide_ends symbol.now self.old frame.now.place frame.now.kept) symbol.now self.old self.new frame.now parts.old parts.new result }
-    {
-        let own = &parts[frame.base..];
-        let name = self.open_name(symbol, own, 1);
-        let made = self.make_rare(
-            symbol,
-            Production::EncodingLiteral,
-            frame.place,
-            frame.kept,
-            own,
-        )?;
-        put(parts, frame.base, name_or(name, made))
-    }
-
-    /// The frame's rule, a literal that denotes an encoding, closes.
-    ///
-    /// # Errors
-    ///
-    /// `Memory` where a list couldn't grow.
-    #[inline(always)]
-    pub(crate) fn finish_literal(
-        &mut self,
-        symbol: &[u8],
-        frame: &Frame<Surroundings>,
-        parts: &mut Vec<Part>,
-    ) -> Result<(), Refusal>
-        requires literal { production_at frame.now.rule ≡ productions.EncodingLiteral }
-        requires room { HasRoom (cpp_view symbol.now) symbol.now self.old (owed_behind (cpp_view symbol.now) frame.now parts.old.items) }
-        requires open { IsOpenAt (cpp_view symbol.now) symbol.now self.old frame.now parts.old.items }
-        requires base { frame.now.base ≤ length parts.old.items }
-        requires place { frame.now.place < length symbol.now }
-        ensures { Finishes (wide_view symbol.now) (wide_ends symbol.now self.old frame.now.place frame.now.kept) symbol.now self.old self.new frame.now parts.old parts.new result }
-    {
-        if frame.kept.is_unseen() {
-            return self.finish_unseen(symbol, frame, parts);
-        }
-        self.finish_rule(symbol, frame, parts)
     }
 }

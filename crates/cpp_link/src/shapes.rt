@@ -1,4 +1,4 @@
-// What productions denote that distinguish cases of their parts.
+// What the productions that distinguish cases of their parts denote.
 
 ghost use Rattle.std.specs.Prelude.{◌≡◌, ℕ, ◌+◌, ◌<◌, ◌≤◌, List, length, true, false, not, ◌&&◌, if◌then◌else◌};
 ghost use Rattle.cpp_term.specs.Term as term;
@@ -170,7 +170,7 @@ impl Linked {
         made(Node::Rvalue(inner), true)
     }
 
-    /// What the rest of a signature denotes that has a mark.
+    /// What the rest of a signature with a mark denotes.
     #[tactic(auto, unfolding(cpp_term::specs::Meaning::signature_or, crate::specs::Parts::outcome_value, crate::specs::Parts::value_of, crate::specs::Making::nodes_of_outcome))]
     pub fn signature_or(&self, symbol: &[u8], mark: Mark, rest: Part) -> Outcome
         requires table { IsTable (over symbol.now self.now.nodes) }
@@ -199,7 +199,7 @@ impl Linked {
         }
     }
 
-    /// The entity of a local name that is in a default argument.
+    /// The entity of a local name in a default argument.
     #[tactic(auto, unfolding(cpp_term::specs::Meaning::default_entity, crate::specs::Parts::outcome_value, crate::specs::Parts::value_of, cpp_tree::specs::Nodes::tree_of, crate::specs::Making::nodes_of_outcome))]
     pub fn default_entity(&self, symbol: &[u8], parts: &[Part]) -> Outcome
         requires table { IsTable (over symbol.now self.now.nodes) }
@@ -218,7 +218,7 @@ impl Linked {
         }
     }
 
-    /// The part with this number, or another, where it is absent.
+    /// The part with this number, or another one if it is absent.
     pub fn either(&self, symbol: &[u8], parts: &[Part], k: usize, other: usize) -> Part
         ensures is { value_in symbol.now self.now.nodes result ≡ elim (is_there (part (values_in symbol.now self.now.nodes parts.now) k)) [ true ↦ part (values_in symbol.now self.now.nodes parts.now) k | false ↦ part (values_in symbol.now self.now.nodes parts.now) other ] }
         ensures there { AreThere symbol.now (length self.now.nodes.nodes) parts.now → IsThere symbol.now (length self.now.nodes.nodes) result }
@@ -281,7 +281,7 @@ impl Linked {
         }
     }
 
-    /// What a lambda denotes that declares parameters of its own.
+    /// What a lambda that declares parameters of its own denotes.
     #[tactic(auto, unfolding(crate::specs::Parts::outcome_value, cpp_term::specs::Meaning::parameters, crate::specs::Making::nodes_of_outcome))]
     fn declaring_lambda(
         &self,
@@ -310,7 +310,7 @@ impl Linked {
         }
     }
 
-    /// What a lambda denotes that declares none.
+    /// What a lambda that declares no parameters denotes.
     #[tactic(auto, unfolding(crate::specs::Parts::outcome_value, crate::specs::Parts::value_of, cpp_tree::specs::Nodes::piece_of, cpp_term::specs::Meaning::parameters, crate::specs::Making::nodes_of_outcome))]
     fn undeclared_lambda(&self, symbol: &[u8], first: u32, rest: u32, number: u64) -> Outcome
         requires table { IsTable (over symbol.now self.now.nodes) }
@@ -334,7 +334,7 @@ impl Linked {
         }
     }
 
-    /// What is declared of one more of a lambda's parameters, before its first type.
+    /// The declaration of one more of a lambda's parameters, before its first type.
     #[tactic(auto, unfolding(crate::specs::Parts::outcome_value, crate::specs::Parts::value_of, cpp_tree::specs::Nodes::tree_of, cpp_term::specs::Meaning::declared_first, cpp_term::specs::Values::tree_of, crate::specs::Making::nodes_of_outcome))]
     pub fn declared_first(&self, symbol: &[u8], parts: &[Part]) -> Outcome
         requires table { IsTable (over symbol.now self.now.nodes) }

@@ -1,4 +1,4 @@
-// Encodings and function types: what is read of lists.
+// Encodings and function types: what is read from lists.
 
 ghost use Rattle.std.specs.Prelude.{◌≡◌, ◌<◌, ◌^◌, ◌&&◌, length, IfSome, true};
 ghost use Rattle.cpp_term.specs.Values as values;
@@ -17,7 +17,7 @@ use cpp_references::again::{OpenedNode, opened};
 use cpp_tree::node::{Node, under_word};
 use cpp_tree::nodes::{ABSENT, NIL};
 
-/// Whether it is void.
+/// Whether the node is the type void.
 #[tactic(auto, unfolding(crate::specs::Reads::void_node))]
 fn is_void(node: Node) -> bool
     ensures { result ≡ void_node node }
@@ -28,7 +28,7 @@ fn is_void(node: Node) -> bool
     }
 }
 
-/// Whether it is the empty list.
+/// Whether the node is the empty list.
 #[tactic(auto, unfolding(crate::specs::Reads::nil_node))]
 fn is_nil(node: Node) -> bool
     ensures { result ≡ nil_node node }
@@ -39,7 +39,8 @@ fn is_nil(node: Node) -> bool
     }
 }
 
-/// The first element and the others of a list that has some, and the argument under which both are.
+/// The first element of a nonempty list and its other elements, and the argument under which both
+/// are.
 #[derive(Clone, Copy)]
 pub(crate) struct Split {
     pub first: u32,
@@ -47,7 +48,7 @@ pub(crate) struct Split {
     pub under: Option<u32>,
 }
 
-/// The first element and the others of a list that has some.
+/// The first element of a nonempty list, and its other elements.
 #[tactic(auto, unfolding(crate::specs::Reads::split_of))]
 fn split_of(list: OpenedNode) -> Option<Split>
     ensures { result ≡ split_of list }
@@ -62,7 +63,7 @@ fn split_of(list: OpenedNode) -> Option<Split>
     }
 }
 
-/// Whether these are a lone void.
+/// Whether the elements are a lone void.
 fn is_lone(first: Node, rest: Node) -> bool
     ensures { result ≡ (void_node first && nil_node rest) }
 {
@@ -70,7 +71,7 @@ fn is_lone(first: Node, rest: Node) -> bool
 }
 
 impl Linked {
-    /// Whether these are a lone void.
+    /// Whether the elements of a list are a lone void.
     pub fn is_lone_void(&self, symbol: &[u8], first: u32, rest: u32) -> bool
         requires table { IsTable (over symbol.now self.now.nodes) }
         requires first { first < length self.now.nodes.nodes }
@@ -82,7 +83,7 @@ impl Linked {
         is_lone(item, others)
     }
 
-    /// The first element and the others of a list that has some.
+    /// The first element of a nonempty list, and its other elements.
     fn split(&self, symbol: &[u8], list: u32) -> Option<Split>
         requires table { IsTable (over symbol.now self.now.nodes) }
         requires below { list < length self.now.nodes.nodes }

@@ -222,7 +222,7 @@ impl Linked {
         }
     }
 
-    /// What is done after a name in std and what may follow it: its arguments, or the name itself with tags.
+    /// What is done once a name in std is read, with what may follow it: its arguments, or the name itself with tags.
     #[tactic(auto, unfolding(cpp_term::specs::Between::named_so_far, cpp_term::specs::Between::applied, cpp_term::specs::Values::tree_of, cpp_term::specs::Values::is_there, cpp_tree::specs::Nodes::tree_of, crate::specs::Parts::value_of, crate::specs::Reads::goes_on, crate::specs::Reads::behind_first, crate::specs::Reads::named_if, crate::specs::Reads::appended_if, crate::specs::Owed::made_before, crate::specs::NodeCount::one_if_arguments, crate::specs::NodeCount::one_if_there))]
     pub(crate) fn std_name(&self, symbol: &[u8], name: u32, behind: Part) -> Step
         requires table { IsTable (over symbol.now self.now.nodes) }

@@ -30,7 +30,8 @@ fn in_signature_of(scope: Scope) -> Scope
 }
 
 impl Linked {
-    /// In an encoding that begins at this place, where parameters name these arguments.
+    /// What surrounds a part of an encoding that begins at this place, where parameters name these
+    /// arguments.
     #[tactic(auto, unfolding(crate::specs::Parts::around_of, crate::specs::Parts::arguments_in, crate::specs::Parts::is_lambda, crate::specs::Parts::showing_in, crate::specs::Parts::prefix_in, crate::specs::Parts::prefix_of, cpp_tree::specs::Nodes::tree_if_there))]
     #[inline(always)]
     pub(crate) fn in_encoding(
@@ -55,7 +56,7 @@ impl Linked {
         then
     }
 
-    /// After this name.
+    /// What surrounds a part after this name.
     #[tactic(auto, unfolding(crate::specs::Parts::around_of, crate::specs::Parts::prefix_in, crate::specs::Parts::prefix_of, cpp_term::specs::Between::after))]
     #[inline(always)]
     pub(crate) fn behind_name(&self, kept: Surroundings, node: u32, listed: bool) -> Surroundings
@@ -74,7 +75,7 @@ impl Linked {
         then
     }
 
-    /// In the signature of a lambda.
+    /// What surrounds a part in the signature of a lambda.
     #[tactic(auto, unfolding(crate::specs::Parts::around_of, crate::specs::Parts::arguments_in, crate::specs::Parts::is_lambda, crate::specs::Parts::showing_in, crate::specs::Parts::prefix_in, crate::specs::Parts::prefix_of, cpp_tree::specs::Nodes::tree_if_there, cpp_term::specs::Between::in_signature))]
     #[inline(always)]
     pub(crate) fn in_signature(&self, kept: Surroundings) -> Surroundings
@@ -87,7 +88,7 @@ impl Linked {
         then
     }
 
-    /// In a constraint.
+    /// What surrounds a part in a constraint.
     #[tactic(auto, unfolding(crate::specs::Parts::around_of, crate::specs::Parts::arguments_in, crate::specs::Parts::is_lambda, crate::specs::Parts::showing_in, crate::specs::Parts::prefix_in, crate::specs::Parts::prefix_of, cpp_tree::specs::Nodes::tree_if_there, cpp_term::specs::Rescoping::in_constraint_of))]
     #[inline(always)]
     pub(crate) fn in_constraint(&self, kept: Surroundings) -> Surroundings
@@ -100,7 +101,7 @@ impl Linked {
         then
     }
 
-    /// At the encoding that a literal denotes.
+    /// What surrounds the encoding that a literal denotes.
     #[inline(always)]
     pub(crate) fn in_literal(&self, kept: Surroundings) -> Surroundings
         requires kept { IsKeptThere (length self.now.nodes.nodes) kept }
@@ -115,7 +116,8 @@ impl Linked {
         then
     }
 
-    /// In an encoding that begins at this place, which a literal in a constraint denotes.
+    /// What surrounds the parts of an encoding that begins at this place and that a literal in a
+    /// constraint denotes.
     #[tactic(auto, unfolding(crate::specs::Parts::around_of, crate::specs::Parts::arguments_in, crate::specs::Parts::is_lambda, crate::specs::Parts::showing_in, crate::specs::Parts::prefix_in, crate::specs::Parts::prefix_of, cpp_tree::specs::Nodes::tree_if_there, cpp_term::specs::Rescoping::passed_over))]
     #[inline(always)]
     pub(crate) fn passed_over(&self, kept: Surroundings, place: u32) -> Surroundings
@@ -130,7 +132,7 @@ impl Linked {
         then
     }
 
-    /// Under an expansion.
+    /// What surrounds a part under an expansion.
     #[tactic(auto, unfolding(crate::specs::Parts::around_of, cpp_term::specs::Between::under_expansion))]
     #[inline(always)]
     pub(crate) fn under_expansion(&self, kept: Surroundings) -> Surroundings
@@ -143,7 +145,7 @@ impl Linked {
         then
     }
 
-    /// With no name so far.
+    /// What surrounds a part where no name has begun.
     #[tactic(auto, unfolding(crate::specs::Parts::around_of, crate::specs::Parts::prefix_in, crate::specs::Parts::prefix_of, cpp_term::specs::Between::inside))]
     #[inline(always)]
     pub(crate) fn inside(&self, kept: Surroundings) -> Surroundings

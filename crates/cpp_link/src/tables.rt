@@ -824,7 +824,7 @@ pub(crate) const SKIPS_PARTS: [bool; 270] = [
     true, // ConstructionVtable
 ];
 
-/// Before how many of its parts nothing is done in each: before none, the first, or all, which are five at most.
+/// For each, the number of first parts before which nothing is done: none, one, or all, which are five at most.
 pub(crate) const QUIET_PARTS: [u8; 270] = [
     5, // LeftFoldFrom
     5, // FoldSigns
@@ -1101,5 +1101,5 @@ pub(crate) const QUIET_PARTS: [u8; 270] = [
 /// The number of a lambda's production, which ends with a number that counts as one more than its digits do.
 pub(crate) const LAMBDA: u16 = 88;
 
-/// The number of an unnamed type's production, which ends with such a number, too.
+/// The number of an unnamed type's production, whose last number counts as one more than its digits do, too.
 pub(crate) const UNNAMED: u16 = 89;

@@ -67,7 +67,7 @@ pub fn piece_of(part: Part) -> Piece
     }
 }
 
-/// The node of a list that may be missing, and is then empty.
+/// The node of a list. A missing list is empty.
 #[tactic(auto, unfolding(crate::specs::Parts::value_of, cpp_term::specs::Values::tree_of, cpp_term::specs::Between::no_items))]
 #[inline(always)]
 pub fn list_of(part: Part) -> u32
@@ -84,7 +84,7 @@ pub fn list_of(part: Part) -> u32
     }
 }
 
-/// Whether the tree is a candidate already, or never is one.
+/// Whether the tree is a candidate already, or never becomes one.
 #[tactic(auto, unfolding(crate::specs::Parts::value_of, cpp_term::specs::Values::is_listed))]
 #[inline(always)]
 pub fn is_listed(part: Part) -> bool
@@ -96,7 +96,7 @@ pub fn is_listed(part: Part) -> bool
     }
 }
 
-/// Whether there is something.
+/// Whether the part is present.
 #[tactic(auto, unfolding(crate::specs::Parts::value_of, cpp_term::specs::Values::is_there))]
 #[inline(always)]
 pub fn is_there(part: Part) -> bool
@@ -150,7 +150,7 @@ pub fn letter_of(part: Part) -> u8
     }
 }
 
-/// The letter of a part, or this one, where the part has none.
+/// The letter of a part, or this one if the part has none.
 pub fn letter_or(part: Part, other: u8) -> u8
     ensures { (s : List ℕ) (ts : List Term) → result ≡ cond (nat_eq (letter_of (value_of s ts part)) 0) other (letter_of (value_of s ts part)) }
 {

@@ -51,8 +51,9 @@ fn steps_apart(production: Production, kept: Surroundings, before: usize) -> boo
 }
 
 impl Rescoping {
-    /// Does what is to be done before the next part of the frame's rule, which is of this production, where that may be something
-    /// of the wide reading's own, and answers the surroundings of that part.
+    /// Does what is to be done before the next part of the frame's rule, which is of this
+    /// production, and answers the surroundings of that part. It may be something that only the
+    /// wide reading does.
     ///
     /// # Errors
     ///
@@ -89,14 +90,14 @@ impl Rescoping {
         }
     }
 
-    /// What is done before the next part of the frame's rule where something is, and the surroundings of that part. The
-    /// common productions have code of their own.
+    /// Does what is to be done before the next part of the frame's rule, if anything is, and
+    /// answers the surroundings of that part. The common productions have code of their own.
     ///
     /// # Errors
     ///
     /// Those of `before_part`.
-    // It is a call, with all that it does inlined in it, so that the driver's loop stays small. It has the common productions
-    // once more, so that it tells productions apart only once.
+    // It is a call, with all that it does inlined in it, so that the driver's loop stays small. It
+    // repeats the common productions, so that productions are told apart only once.
     #[inline(never)]
     fn between_by_step(
         &mut self,

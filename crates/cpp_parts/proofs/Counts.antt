@@ -1,19 +1,10 @@
 -- The text of a symbol has at most as many marks as printing it takes steps.
-use Rattle.std.proofs.Common.{◌≡◌, ℕ, ◌+◌, ◌-◌, ◌≤◌, List, [], ◌∷◌, length, take, drop, Bool, true, false, Option, Some, None, arith}
-use Rattle.cpp_grammar.specs.Term.{Term, symbol, function, object, thunk, clone, instance, local, holder, tagged, abbreviation}
-use Rattle.cpp_grammar.specs.Parts.{entity_of}
-use Rattle.sym_print.specs.Unshared.{Unshared, done, bytes, item, text_of, steps_of_parts}
-use Rattle.sym_parts.specs.Marked.{Marked, text, marked, marks_in, ◌before◌}
+use Rattle.cpp_parts.proofs.Basics.{◌≡◌, ℕ, ◌+◌, ◌-◌, ◌≤◌, List, [], ◌∷◌, length, take, drop, Bool, true, false, Option, Some, None, arith, Term, symbol, function, object, thunk, clone, instance, local, holder, tagged, abbreviation, entity_of, Unshared, done, bytes, item, text_of, steps_of_parts, Marked, text, marked, marks_in, ◌before◌, Role, Ordinal, Numbering, alone, numbered, only, plain, suffixed, whole, alone_if_any, words, returned, behind, scoped, in_std, abbreviated, are_colons, named, element_of, rest_of, within, inside, next, ordinal_of, elements, elements_after, element, in_brackets, parameters, arguments, name, called, is_absent, returning, special_name, encoding, symbol_marked}
 use Rattle.sym_parts.specs.Marked as marks
-use Rattle.sym_parts.specs.declared.role.Role.{Role}
 use Rattle.sym_parts.specs.declared.role.Role.TheVariants as role
-use Rattle.sym_parts.specs.declared.spelling.Ordinal.{Ordinal}
-use Rattle.cpp_parts.specs.declared.numbering.Numbering.{Numbering}
 use Rattle.cpp_parts.specs.declared.numbering.Numbering.TheVariants as numbering
-use Rattle.sym_parts.specs.Plain.{alone, numbered, only, plain, suffixed, whole}
-use Rattle.cpp_parts.specs.Roles.{alone_if_any, words, returned, behind, scoped, in_std, abbreviated, are_colons, named, element_of, rest_of, within, inside, next, ordinal_of, elements, elements_after, element, in_brackets, parameters, arguments, name, called, is_absent, returning, special_name, encoding, symbol_marked}
 
--- the marks of two texts in turn
+-- two marked texts in turn have as many marks as both together
 joined : (m others : Marked) → marks_in (m before others) ≡ marks_in m + marks_in others
 unfolding marks_in ◌before◌
 joined marks.done others = omega arith
@@ -128,7 +119,7 @@ mutual
   few-element r o p (Some t) (bytes b rest) right = omega (arith, few-lone r (ordinal_of o) (text_of (bytes b rest)) (text_of right))
   few-element r o p None left right = omega (arith, few-lone r (ordinal_of o) (text_of left) (text_of right))
 
--- brackets with a list, and what is after them
+-- a list in brackets has one mark more than the list, and what follows it has at most as many marks as steps
 few-listed : (r : Role) (opening close : List ℕ) (m : Marked) (most : ℕ) (u : Unshared) → marks_in m ≤ most
     → marks_in (marked r only (text opening (m before text close marks.done)) (behind u)) ≤ 1 + (most + steps_of_parts u)
 unfolding marks_in
@@ -235,7 +226,7 @@ few-suffixed (item one rest) = omega (arith, few-plain (item one rest))
 few-suffixed (bytes b done) = omega (arith, few-plain (bytes b done))
 few-suffixed (bytes b (item one rest)) = omega (arith, few-plain (bytes b (item one rest)))
 
--- the marks of a whole symbol
+-- a whole symbol has at most as many marks as printing it takes steps
 pub few-symbol : (t : Term) (u : Unshared) → marks_in (symbol_marked t u) ≤ steps_of_parts u
 unfolding symbol_marked
 few-symbol (symbol e suffix) (item one rest) =

@@ -1,23 +1,7 @@
 -- Tasks that are added before others, and the marks that they lead to.
-use Rattle.std.proofs.Common.{◌≡◌, ℕ, ◌+◌, ◌*◌, ◌≤◌, ◌<◌, List, ◌∷◌, ◌++◌, length, refl, sym, ap, ◌∙◌, arith, append_assoc, append-nil, subst}
-use Rattle.std.specs.List.{All}
-use Rattle.std.proofs.lemmas.List.Elements.{All-cons}
-use Rattle.cpp_layout.specs.declared.context.Context.{Context}
-use Rattle.cpp_layout.specs.Layout.{ReadSymbol, table_of, unshared_of}
-use Rattle.cpp_tree.specs.Views.{plain_tree}
-use Rattle.sym_print.specs.declared.layout.Item.{Item}
-use Rattle.sym_print.specs.Unshared.{cost_of, steps_of}
-use Rattle.sym_parts.specs.declared.role.Role.{Role}
-use Rattle.sym_parts.specs.declared.spelling.Ordinal.{Ordinal}
-use Rattle.cpp_parts.specs.declared.numbering.Numbering.{Numbering}
+use Rattle.cpp_parts.proofs.Basics.{◌≡◌, ℕ, ◌+◌, ◌*◌, ◌≤◌, ◌<◌, List, ◌∷◌, ◌++◌, length, refl, sym, ap, ◌∙◌, arith, append_assoc, append-nil, subst, All, All-cons, Context, ReadSymbol, table_of, unshared_of, plain_tree, Item, cost_of, steps_of, Role, Ordinal, Numbering, skip, begin, marks_of, marks_of-before, alone, elements, name, encoding, count_of, marks_of_task, marks_of_tasks, IsTask, IsPayable, weight_of_task, weight_of_tasks, Grows, Task}
 use Rattle.sym_parts.specs.Marked.{Marked, text, marked, text_of, ◌before◌}
 use Rattle.sym_parts.specs.Marked as marks
-use Rattle.sym_parts.specs.Marks.{skip, begin, marks_of}
-use Rattle.sym_parts.proofs.Turns.{marks_of-before}
-use Rattle.sym_parts.specs.Plain.{alone}
-use Rattle.cpp_parts.specs.Roles.{elements, name, encoding}
-use Rattle.cpp_parts.specs.Tasks.{count_of, marks_of_task, marks_of_tasks, IsTask, IsPayable, weight_of_task, weight_of_tasks, Grows}
-use Rattle.cpp_parts.specs.declared.task.Task.{Task}
 use Rattle.cpp_parts.specs.declared.task.Task.TheVariants as task
 
 -- of three marked texts in a row, the first two may be put together first
@@ -27,7 +11,7 @@ before-assoc marks.done n others = refl
 before-assoc (text b rest) n others = ap (text b) (before-assoc rest n others)
 before-assoc (marked r o inside rest) n others = ap (marked r o inside) (before-assoc rest n others)
 
--- a marked text before nothing
+-- a marked text before nothing is the same marked text
 pub before-done : (m : Marked) → m before marks.done ≡ m
 unfolding ◌before◌
 before-done marks.done = refl
@@ -47,7 +31,7 @@ module _ (y : ReadSymbol) (most : ℕ) where
         };
   }
 
-  -- of tasks that are added one after the other, those added later have their marks first
+  -- the marks of tasks that are added later come first
   pub grow-then : (old between new : List Task) (m n : Marked) (s t : ℕ) → Grows y most old between m s → Grows y most between new n t → Grows y most old new (n before m) (s + t)
   grow-then old between new m n s t first second = record {
     adds = λ others behind taken adds.
@@ -70,7 +54,7 @@ module _ (y : ReadSymbol) (most : ℕ) where
     };
   }
 
-  -- a task that begins a stretch, before the tasks for what is in the stretch
+  -- a task that begins a stretch, and the tasks for what is in the stretch, add the stretch's mark and what is within it
   pub grow-begin : (old between new : List Task) (role : Role) (ordinal : Ordinal) (n : ℕ) (inside : Marked) (s : ℕ) → new ≡ task.Begin role ordinal n ∷ between → n ≡ length (text_of inside)
       → Grows y most old between inside s → Grows y most old new (marked role ordinal inside marks.done) (s + 1)
   unfolding marks_of ◌before◌ marks_of_tasks marks_of_task IsTask weight_of_tasks weight_of_task
@@ -120,7 +104,7 @@ module _ (y : ReadSymbol) (most : ℕ) where
   grow-elements old new role numbers node i is below payable fits =
       grow-task old new (task.Elements role numbers node i) (elements role numbers (plain_tree (table_of y) node) (unshared_of y i)) is refl (below, payable, fits)
 
-  -- tasks for one part of this many bytes
+  -- the tasks for one part of this many bytes add the part
   pub grow-alone : (old between new : List Task) (role : Role) (ordinal : Ordinal) (n : ℕ) (b : List ℕ) → between ≡ task.Skip n ∷ old → new ≡ task.Begin role ordinal n ∷ between → n ≡ length b
       → Grows y most old new (alone role ordinal b marks.done) 2
   unfolding text_of

@@ -1,12 +1,7 @@
 -- What a symbol is, by the productions of its nodes.
-use Rattle.std.proofs.Common.{◌≡◌, ℕ, ◌<◌, List, [], ◌∷◌, length, get_or, slice_get, Option, Some, None, Bool, true, false, refl, ap, ◌∙◌, arith}
-use Rattle.std.specs.Prelude.{nat_eq, ◌+◌, ◌*◌, ◌==◌, if◌then◌else◌}
+use Rattle.cpp_parts.proofs.Basics.{◌≡◌, ℕ, ◌<◌, List, [], ◌∷◌, length, get_or, slice_get, Option, Some, None, Bool, true, false, refl, ap, ◌∙◌, arith, nat_eq, ◌+◌, ◌*◌, ◌==◌, if◌then◌else◌, Fields, fields, fields_of, name_fields, named_fields, thunk_fields, local_fields, qualifiers_number, mark_number, tree_from, offsets_of, FUNCTION, OBJECT, LOCAL, NUMBERED_LOCAL, GUARD, OF_NAME, NESTED_OPERATOR, SYMBOL, own_name, piece_of, is_lambda_piece, is_lambda, is_in_lambda, is_call, piece_kind, named_kind, is_string, object_kind, of_name_kind, thunk_kind, encoding_kind, kind_of_symbol, is_any, is_string_by, is_lambda_by, is_constructor_by, is_operator_by, inner_part_by, called_kind, local_kind, piece_kind_by, other_kind_by}
 use Rattle.cpp_grammar.specs.Term.{Term, symbol, function, object, thunk, of_name, alone, in_std, within, instance, local, holder, tagged, of_default, operator, builtin, absent, non_virtual, by_table, Thunk, adjusting, covariant, Qualifiers, RefQualifier}
-use Rattle.cpp_tree.specs.Fields.{Fields, fields, fields_of, name_fields, named_fields, thunk_fields, local_fields, qualifiers_number, mark_number, tree_from, offsets_of}
-use Rattle.cpp_tree.specs.declared.tree_production.TheConstants.{FUNCTION, OBJECT, LOCAL, NUMBERED_LOCAL, GUARD, OF_NAME, NESTED_OPERATOR, SYMBOL}
 use Rattle.sym_parts.specs.declared.kind.NameKind.TheVariants as kind
-use Rattle.cpp_parts.specs.Kinds.{own_name, piece_of, is_lambda_piece, is_lambda, is_in_lambda, is_call, piece_kind, named_kind, is_string, object_kind, of_name_kind, thunk_kind, encoding_kind, kind_of_symbol}
-use Rattle.cpp_parts.specs.KindNumbers.{is_any, is_string_by, is_lambda_by, is_constructor_by, is_operator_by, inner_part_by, called_kind, local_kind, piece_kind_by, other_kind_by}
 
 -- the first part of a tree
 abbrev pub first : Term → Term
@@ -15,14 +10,14 @@ first t = get_or (fields_of t).parts 0 absent
 some-same : (a b : Term) → Some a ≡ Some b → a ≡ b
 some-same a b same = cc (same)
 
--- what holds of both productions that a test chooses from
+-- a property that both productions have is also one of the production that a test chooses
 chosen : (b : Bool) (f g : Fields) (P : ℕ → Type 0) → P f.production → P g.production → P (if b then f else g).production
 chosen true f g P p q = p
 chosen false f g P p q = q
 
 -- ## Own names
 
--- a name that has its own name in a part, if there is such a part
+-- a name is its own name, or has the own name of the part with this number
 abbrev pub IsInside : Term → Option ℕ → Type 0
 IsInside t None = own_name t ≡ t
 IsInside t (Some k) = (k < length (fields_of t).parts) × ((p : Term) → slice_get (fields_of t).parts k ≡ Some p → own_name t ≡ own_name p)
@@ -67,7 +62,7 @@ inner-name t = refl
 
 -- ## Pieces
 
--- what a piece is, by the production of the name that has it
+-- what the piece of a name is, by the name's production
 abbrev pub IsPieceBy : Term → (production : ℕ) → Type 0
 IsPieceBy t n =
     (piece_kind false (piece_of t) ≡ piece_kind_by n) × (is_string (piece_of t) ≡ is_string_by n) × (is_lambda_piece (piece_of t) ≡ is_lambda_by n)
@@ -106,7 +101,7 @@ piece-by (builtin (d ∷ l ∷ [])) = chosen (d == 68) _ _ (λ n. IsPieceBy (bui
 piece-by (builtin (d ∷ l ∷ m ∷ more)) = (refl, refl, refl)
 piece-by t = (refl, refl, refl)
 
--- only the operator in a prefix may be the call of a lambda
+-- only an operator after a prefix may be the call of a lambda
 within-same : (q p : Term) → ((fields_of (within q p)).production ≡ NESTED_OPERATOR → ⊥) → (b : Bool) → piece_kind b p ≡ piece_kind false p
 unfolding piece_kind fields_of name_fields
 within-same q (operator x y) h b = absurd (h refl)
@@ -120,7 +115,7 @@ same-kind t h = refl
 pub named-other : (t : Term) → ((fields_of t).production ≡ NESTED_OPERATOR → ⊥) → named_kind t ≡ piece_kind_by (fields_of t).production
 named-other t h = same-kind t h ∙ (piece-by t).0
 
--- what tree fields make, where their production is known
+-- the tree of fields whose production is known
 read : (P : ℕ) (f : Fields) (o : Option Thunk) → f.production ≡ P → tree_from f o ≡ tree_from (record f { production = P }) o
 read P f o is = ap (λ n. tree_from (record f { production = n }) o) is
 

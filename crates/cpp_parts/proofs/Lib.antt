@@ -1,3 +1,4 @@
+pub mod Basics
 mod Counts
 mod Growing
 mod Measuring

@@ -1,19 +1,6 @@
 -- The lengths of marked texts, by the lengths of what is printed.
-use Rattle.std.proofs.Common.{◌≡◌, ℕ, ◌+◌, ◌≤◌, List, [], ◌++◌, length, refl, ap, ◌∙◌, arith, length-append}
-use Rattle.cpp_grammar.specs.Term.{Term}
-use Rattle.cpp_layout.specs.declared.context.Context.{Context}
-use Rattle.cpp_layout.specs.Layout.{ReadSymbol, unshared_of, bytes_of_part}
-use Rattle.sym_print.specs.declared.layout.Part.{Part}
-use Rattle.sym_print.specs.declared.layout.Part.TheVariants.{Sub}
-use Rattle.sym_print.specs.Joined.{IsText, text_of_part, cost_of_part}
-use Rattle.sym_print.specs.Unshared.{Unshared, text_of}
-use Rattle.sym_parts.specs.Marked.{Marked, text, marked, ◌before◌}
+use Rattle.cpp_parts.proofs.Basics.{◌≡◌, ℕ, ◌+◌, ◌≤◌, List, [], ◌++◌, length, refl, ap, ◌∙◌, arith, length-append, Term, Context, ReadSymbol, unshared_of, bytes_of_part, Part, Sub, IsText, text_of_part, cost_of_part, Unshared, text_of, Marked, text, marked, ◌before◌, Role, Numbering, text_of-before, plain, elements}
 use Rattle.sym_parts.specs.Marked as marks
-use Rattle.sym_parts.specs.declared.role.Role.{Role}
-use Rattle.cpp_parts.specs.declared.numbering.Numbering.{Numbering}
-use Rattle.sym_parts.proofs.Marks.{text_of-before}
-use Rattle.sym_parts.specs.Plain.{plain}
-use Rattle.cpp_parts.specs.Roles.{elements}
 use Rattle.cpp_parts.proofs.Texts.{text-elements}
 
 -- the text of a part that is no item

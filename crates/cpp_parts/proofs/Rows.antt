@@ -1,18 +1,9 @@
 -- The definitions of parts, computed for what some trees print.
-use Rattle.std.specs.Prelude.{◌≡◌, ℕ, List, [], ◌∷◌, codes}
+use Rattle.cpp_parts.proofs.Basics.{◌≡◌, ℕ, List, [], ◌∷◌, codes, refl, Term, tagged, expansion, pack, list, absent, Unshared, done, bytes, item, numbered, only, Role, Ordinal, Stretch, element, element_of, elements, elements_after, inside, name, named, next, ordinal_of, rest_of, within, false}
 use Prim.Native.String.{String}
-use Rattle.std.proofs.Common.{refl}
-use Rattle.cpp_grammar.specs.Term.{Term, tagged, expansion, pack, list, absent}
-use Rattle.sym_print.specs.Unshared.{Unshared, done, bytes, item}
 use Rattle.sym_parts.specs.Marked.{◌before◌, stretches_from, stretches_of, text_of}
-use Rattle.sym_parts.specs.Plain.{numbered, only}
-use Rattle.sym_parts.specs.declared.role.Role.{Role}
 use Rattle.sym_parts.specs.declared.role.Role.TheVariants as role
-use Rattle.sym_parts.specs.declared.spelling.Ordinal.{Ordinal}
-use Rattle.sym_parts.specs.declared.stretch.Stretch.{Stretch}
-use Rattle.cpp_parts.specs.Roles.{element, element_of, elements, elements_after, inside, name, named, next, ordinal_of, rest_of, within}
 use Rattle.cpp_parts.specs.declared.numbering.Numbering.TheVariants as numbering
-use Rattle.std.specs.Prelude.{false}
 
 -- ## Lists
 
@@ -45,14 +36,14 @@ row-items : parameters_in (list absent (list absent absent)) (first (shown "a") 
 unfolding ◌before◌ element element_of elements elements_after inside next ordinal_of rest_of stretches_from text_of within
 row-items = refl
 
--- a, b, c, d, of which b and c are a pack
+-- a, b, c, d, where b and c are a pack
 row-pack : parameters_in (list absent (list (pack (list absent (list absent absent))) (list absent absent)))
     (first (shown "a") (later (several (first (shown "b") (later (shown "c") done))) (later (shown "d") done)))
     ≡ parameter (numbered 0) 0 1 ∷ parameter (part_of_item 1 1) 3 1 ∷ parameter (part_of_item 1 2) 6 1 ∷ parameter (numbered 2) 9 1 ∷ []
 unfolding ◌before◌ element element_of elements elements_after inside next ordinal_of rest_of stretches_from text_of within
 row-pack = refl
 
--- a, b, c, of which b and c are an expansion
+-- a, b, c, where b and c are an expansion
 row-expansion : parameters_in (list absent (list (expansion absent) absent)) (first (shown "a") (later (several (first (shown "b") (later (shown "c") done))) done))
     ≡ parameter (numbered 0) 0 1 ∷ parameter (numbered 1) 3 1 ∷ parameter (numbered 1) 6 1 ∷ []
 unfolding ◌before◌ element element_of elements elements_after inside next ordinal_of rest_of stretches_from text_of within

@@ -1,23 +1,11 @@
 -- The tree of a node by the node's production, and so how its text is marked.
-use Rattle.std.proofs.Common.{◌≡◌, ℕ, List, length, get_or, slice_get, Option, Some, None, Bool, false, refl, sym, ap, ◌∙◌}
+use Rattle.cpp_parts.proofs.Basics.{◌≡◌, ℕ, List, length, get_or, slice_get, Option, Some, None, Bool, false, refl, sym, ap, ◌∙◌, Term, symbol, function, object, thunk, clone, instance, local, holder, tagged, of_default, abbreviation, list, pack, expansion, absent, Qualifiers, RefQualifier, Thunk, adjusting, covariant, non_virtual, by_table, entity_of, ReadSymbol, table_of, plain_tree, Fields, fields_of, thunk_fields, local_fields, tree_from, offsets_of, ABSENT, LIST, SYMBOL, FUNCTION, OBJECT, CLONE, THUNK, TABLE_THUNK, COVARIANT_THUNK, WIDE_THUNK, INSTANCE, LOCAL, NUMBERED_LOCAL, HOLDER, TAGGED, OF_DEFAULT, ABBREVIATION, PACK, EXPANSION, Unshared, done, bytes, item, plain, name, named, encoding, special_name, is_absent, element_of, rest_of, within, inside, ordinal_of, returning, ◌before◌, name_by, encoding_by, Numbering}
 use Rattle.std.proofs.lemmas.Option.{get_or_from_slice_get}
-use Rattle.cpp_grammar.specs.Term.{Term, symbol, function, object, thunk, clone, instance, local, holder, tagged, of_default, abbreviation, list, pack, expansion, absent, Qualifiers, RefQualifier, Thunk, adjusting, covariant, non_virtual, by_table}
-use Rattle.cpp_grammar.specs.Parts.{entity_of}
-use Rattle.cpp_layout.specs.Layout.{ReadSymbol, table_of}
-use Rattle.cpp_tree.specs.Views.{plain_tree}
-use Rattle.cpp_tree.specs.Fields.{Fields, fields_of, thunk_fields, local_fields, tree_from, offsets_of}
-use Rattle.cpp_tree.specs.declared.tree_production.TheConstants.{ABSENT, LIST, SYMBOL, FUNCTION, OBJECT, CLONE, THUNK, TABLE_THUNK, COVARIANT_THUNK, WIDE_THUNK, INSTANCE, LOCAL, NUMBERED_LOCAL, HOLDER, TAGGED, OF_DEFAULT, ABBREVIATION, PACK, EXPANSION}
-use Rattle.sym_print.specs.Unshared.{Unshared, done, bytes, item}
-use Rattle.sym_parts.specs.Plain.{plain}
-use Rattle.cpp_parts.specs.Roles.{name, named, encoding, special_name, is_absent, element_of, rest_of, within, inside, ordinal_of, returning}
-use Rattle.sym_parts.specs.Marked.{◌before◌}
-use Rattle.cpp_parts.specs.Sorts.{name_by, encoding_by}
-use Rattle.cpp_parts.specs.declared.numbering.Numbering.{Numbering}
 use Rattle.cpp_parts.specs.declared.numbering.Numbering.TheVariants as numbering
 use Rattle.cpp_parts.specs.declared.sorts.NameSort.TheVariants as names
 use Rattle.cpp_parts.specs.declared.sorts.EncodingSort.TheVariants as encodings
 
--- what tree fields make, where their production is known
+-- the tree of fields whose production is known
 read : (P : ℕ) (f : Fields) (o : Option Thunk) → f.production ≡ P → tree_from f o ≡ tree_from (record f { production = P }) o
 read P f o is = ap (λ n. tree_from (record f { production = n }) o) is
 
@@ -40,7 +28,7 @@ second-is t p is = get_or_from_slice_get (fields_of t).parts 1 p absent is
 pub third-is : (t p : Term) → slice_get (fields_of t).parts 2 ≡ Some p → third t ≡ p
 third-is t p is = get_or_from_slice_get (fields_of t).parts 2 p absent is
 
--- how many parts a tree has, by an equal tree
+-- a tree has as many parts as an equal tree
 pub parts-of : (t s : Term) (n : ℕ) → t ≡ s → length (fields_of s).parts ≡ n → length (fields_of t).parts ≡ n
 parts-of t s n is count = ap (λ u. length (fields_of u).parts) is ∙ count
 
@@ -102,7 +90,7 @@ module _ (t : Term) (whole : t ≡ tree_from (fields_of t) (offsets_of t)) where
   pub is-symbol : (fields_of t).production ≡ SYMBOL → (suffix : List ℕ) × (t ≡ symbol (first t) suffix)
   is-symbol p = (_, whole ∙ read SYMBOL (fields_of t) (offsets_of t) p)
 
--- ## Trees of no such sort
+-- ## Trees of none of these sorts
 
 pub name-other : (tags : ℕ) (t : Term) (u : Unshared) → ((fields_of t).production ≡ INSTANCE → ⊥) → ((fields_of t).production ≡ TAGGED → ⊥) → ((fields_of t).production ≡ LOCAL → ⊥)
     → ((fields_of t).production ≡ NUMBERED_LOCAL → ⊥) → ((fields_of t).production ≡ HOLDER → ⊥) → ((fields_of t).production ≡ ABBREVIATION → ⊥) → name tags t u ≡ named u
@@ -151,7 +139,7 @@ within-other (pack a) p e = absurd (p refl)
 within-other (expansion a) p e = absurd (e refl)
 within-other t p e = refl
 
--- the numbers of the elements of an element
+-- how an element's own elements are numbered
 
 pub inside-pack : (o : Numbering) (t e : Term) (n : ℕ) → o ≡ numbering.Items n → t ≡ pack e → numbering.Elements n 1 ≡ inside o t
 unfolding inside

@@ -1,15 +1,5 @@
--- The first of some parts, and the others.
-use Rattle.std.proofs.Common.{◌≡◌, ℕ, ◌+◌, ◌≤◌, List, ◌∷◌, length, refl, sym, ap, ◌∙◌, arith, length-append}
-use Rattle.std.proofs.lemmas.List.Elements.{All-head, All-tail, All-same}
-use Rattle.cpp_layout.specs.declared.context.Context.{Context}
-use Rattle.cpp_layout.specs.Layout.{ReadSymbol, unshared_of, bytes_of_part, MayBeAsked}
-use Rattle.sym_print.specs.declared.layout.Item.{Item}
-use Rattle.sym_print.specs.declared.layout.Part.{Part}
-use Rattle.sym_print.specs.declared.layout.Part.TheVariants.{Sub}
-use Rattle.sym_print.specs.Joined.{IsText}
-use Rattle.sym_print.specs.Unshared.{Unshared, item, bytes, text_of, cost_of, cost_of_parts}
-use Rattle.sym_print.proofs.Noting.{length_of_text}
-use Rattle.cpp_parts.specs.Tasks.{printed_by, ArePayable, IsPayable}
+-- Parts that are split into the first one and the others.
+use Rattle.cpp_parts.proofs.Basics.{◌≡◌, ℕ, ◌+◌, ◌≤◌, List, ◌∷◌, length, refl, sym, ap, ◌∙◌, arith, length-append, All-head, All-tail, All-same, Context, ReadSymbol, unshared_of, bytes_of_part, MayBeAsked, Item, Part, Sub, IsText, Unshared, item, bytes, text_of, cost_of, cost_of_parts, length_of_text, printed_by, ArePayable, IsPayable}
 
 -- a part that is no item is a text
 text_unless : (part : Part Context) → ((x : Item Context) → part ≡ Sub x → ⊥) → IsText part
@@ -32,7 +22,7 @@ costs-text u most b rest is within =
     let costs : cost_of_parts u ≡ length b + cost_of_parts rest = ap cost_of_parts is in
     (omega (arith, costs, within), omega (arith, costs, within))
 
--- an item comes first
+-- parts that begin with an item are split into this item and the rest
 pub split-item : (y : ReadSymbol) (most : ℕ) (parts rest : List (Part Context)) (first : Part Context) (i : Item Context) → parts ≡ first ∷ rest → first ≡ Sub i → ArePayable y most parts
     → (printed_by y parts ≡ item (unshared_of y i) (printed_by y rest)) × IsPayable y most i × (cost_of (unshared_of y i) + cost_of_parts (printed_by y rest) ≤ most) × ArePayable y most rest
 split-item y most parts rest first i is first_is payable =
@@ -42,7 +32,7 @@ split-item y most parts rest first i is first_is payable =
     let costs = costs-item (printed_by y parts) most (unshared_of y i) (printed_by y rest) prints payable.1 in
     (prints, (All-head (MayBeAsked y) (Sub i) rest may, costs.0), costs.1, (All-tail (MayBeAsked y) (Sub i) rest may, costs.2))
 
--- a text comes first
+-- parts that begin with a text are split into this text and the rest
 pub split-text : (y : ReadSymbol) (most : ℕ) (parts rest : List (Part Context)) (first : Part Context) → parts ≡ first ∷ rest → ((x : Item Context) → first ≡ Sub x → ⊥) → ArePayable y most parts
     → (printed_by y parts ≡ bytes (bytes_of_part y first) (printed_by y rest)) × IsText first × MayBeAsked y first × (length (bytes_of_part y first) + cost_of_parts (printed_by y rest) ≤ most) × ArePayable y most rest
 split-text y most parts rest first is no_item payable =
@@ -52,7 +42,7 @@ split-text y most parts rest first is no_item payable =
     let costs = costs-text (printed_by y parts) most (bytes_of_part y first) (printed_by y rest) prints payable.1 in
     (prints, is_text, All-head (MayBeAsked y) first rest may, costs.0, (All-tail (MayBeAsked y) first rest may, costs.1))
 
--- adding up lengths, one item more: the sum with the item's text, and what is left for the rest
+-- once an item is added to a sum of lengths: the sum includes the item's text, and the rest may cost what is left
 pub adds-item : (u one rest : Unshared) (total n all most : ℕ) → u ≡ item one rest → total + length (text_of u) ≡ all → total + cost_of_parts u ≤ most → n ≡ length (text_of one)
     → ((total + n) + length (text_of rest) ≡ all) × ((total + n) + cost_of_parts rest ≤ most)
 adds-item u one rest total n all most is sum paid long =

@@ -1,26 +1,13 @@
--- What is printed as it is, and parts without other parts in them.
-use Rattle.std.proofs.Common.{◌≡◌, ℕ, ◌+◌, ◌-◌, ◌<◌, subst, List, [], ◌∷◌, Option, Some, None, Bool, true, false, length, take, drop, min, refl, sym, ap, ◌∙◌, arith, length-take, length-drop}
-use Rattle.cpp_grammar.specs.Term.{Term, symbol}
-use Rattle.cpp_layout.specs.Layout.{ReadSymbol, table_of}
-use Rattle.cpp_tree.specs.Views.{plain_tree}
+-- What is printed without a mark, and parts that contain no other parts.
+use Rattle.cpp_parts.proofs.Basics.{◌≡◌, ℕ, ◌+◌, ◌-◌, ◌<◌, subst, List, [], ◌∷◌, Option, Some, None, Bool, true, false, length, take, drop, min, refl, sym, ap, ◌∙◌, arith, length-take, length-drop, Term, symbol, ReadSymbol, table_of, plain_tree, Unshared, done, bytes, item, text_of, Marked, text, marked, ◌before◌, Role, Ordinal, Numbering, alone, numbered, only, plain, suffixed, whole, alone_if_any, words, returned, behind, elements, elements_after, element, element_of, rest_of, within, inside, next, ordinal_of, in_brackets, parameters, arguments, named, are_colons, scoped, in_std, name, abbreviated, called, returning, special_name, encoding, symbol_marked, fields_of, SYMBOL, elements_here, name_by, encoding_by, AreNamesBelow}
 use Rattle.cpp_parts.proofs.Sorting.{by-no-name}
 use Rattle.cpp_parts.specs.declared.sorts.NameSort.{NameSort}
 use Rattle.cpp_parts.specs.declared.sorts.NameSort.TheVariants as names
-use Rattle.sym_print.specs.Unshared.{Unshared, done, bytes, item, text_of}
-use Rattle.sym_parts.specs.Marked.{Marked, text, marked, ◌before◌}
 use Rattle.sym_parts.specs.Marked as marks
-use Rattle.sym_parts.specs.declared.role.Role.{Role}
 use Rattle.sym_parts.specs.declared.role.Role.TheVariants as role
-use Rattle.sym_parts.specs.declared.spelling.Ordinal.{Ordinal}
-use Rattle.cpp_parts.specs.declared.numbering.Numbering.{Numbering}
-use Rattle.sym_parts.specs.Plain.{alone, numbered, only, plain, suffixed, whole}
-use Rattle.cpp_parts.specs.Roles.{alone_if_any, words, returned, behind, elements, elements_after, element, element_of, rest_of, within, inside, next, ordinal_of, in_brackets, parameters, arguments, named, are_colons, scoped, in_std, name, abbreviated, called, returning, special_name, encoding, symbol_marked}
-use Rattle.cpp_tree.specs.Fields.{fields_of}
-use Rattle.cpp_tree.specs.declared.tree_production.TheConstants.{SYMBOL}
-use Rattle.cpp_parts.specs.Sorts.{elements_here, name_by, encoding_by, AreNamesBelow}
 use Rattle.cpp_parts.specs.declared.sorts.EncodingSort.TheVariants as encodings
 
--- no part without bytes
+-- where there are no bytes, there is no part
 none-alone : (r : Role) (b : List ℕ) (rest : Marked) (n : ℕ) → n ≡ length b → n ≡ 0 → rest ≡ alone_if_any r b rest
 unfolding alone_if_any
 none-alone r [] rest n long none = refl
@@ -75,7 +62,7 @@ after-item r o t u one rest is = sym (ap (elements_after r o t) is)
 
 -- ## Texts that are cut
 
--- a text's bytes without the last one, and the last byte by itself, which an empty text doesn't have
+-- the lengths of a text without its last byte and of this byte alone, which an empty text doesn't have
 pub last-lengths : (b : List ℕ) (count blank : ℕ) → length b ≡ count → blank ≡ min count 1
     → (blank ≡ length (drop (length b - 1) b)) × (length (take (length b - 1) b) ≡ count - blank)
 last-lengths b count blank long is =
@@ -281,7 +268,7 @@ unfolding named
 named-text-item-item u b rest one others other more is behind_is last =
     ap (whole role.Base only) (is ∙ ap (bytes b) (behind_is ∙ ap (item one) last)) ∙ sym (ap named (is ∙ ap (bytes b) (behind_is ∙ ap (item one) last)))
 
--- how many bytes are the first ones of a text, and how many are after them
+-- the lengths of the first n bytes of a text and of the rest
 pub front-lengths : (n : ℕ) (b : List ℕ) (count front : ℕ) → count ≡ length b → front ≡ min count n → (front ≡ length (take n b)) × (count - front ≡ length (drop n b))
 front-lengths n b count front long is = (omega (arith, long, is, length-take n b), omega (arith, long, is, length-drop n b))
 

@@ -1,19 +1,9 @@
 -- The text of a symbol without its marks is what the symbol prints.
-use Rattle.std.proofs.Common.{◌≡◌, ℕ, ◌+◌, ◌-◌, List, [], ◌∷◌, ◌++◌, length, take, drop, Bool, true, false, Option, Some, None, refl, sym, ap, ◌∙◌, append_assoc, append-nil}
+use Rattle.cpp_parts.proofs.Basics.{◌≡◌, ℕ, ◌+◌, ◌-◌, List, [], ◌∷◌, ◌++◌, length, take, drop, Bool, true, false, Option, Some, None, refl, sym, ap, ◌∙◌, append_assoc, append-nil, Term, symbol, function, object, thunk, clone, instance, local, holder, tagged, abbreviation, entity_of, Unshared, done, bytes, item, text_of, Marked, text, marked, ◌before◌, text_of-before, Role, Ordinal, Numbering, alone, numbered, only, plain, suffixed, whole, alone_if_any, words, returned, behind, scoped, in_std, abbreviated, are_colons, named, element_of, rest_of, within, inside, next, ordinal_of, elements, elements_after, element, in_brackets, parameters, arguments, name, called, is_absent, returning, special_name, encoding, symbol_marked}
 use Rattle.std.proofs.lemmas.List.{take-append-drop}
-use Rattle.cpp_grammar.specs.Term.{Term, symbol, function, object, thunk, clone, instance, local, holder, tagged, abbreviation}
-use Rattle.cpp_grammar.specs.Parts.{entity_of}
-use Rattle.sym_print.specs.Unshared.{Unshared, done, bytes, item, text_of}
-use Rattle.sym_parts.specs.Marked.{Marked, text, marked, ◌before◌}
 use Rattle.sym_parts.specs.Marked as marks
-use Rattle.sym_parts.proofs.Marks.{text_of-before}
-use Rattle.sym_parts.specs.declared.role.Role.{Role}
 use Rattle.sym_parts.specs.declared.role.Role.TheVariants as role
-use Rattle.sym_parts.specs.declared.spelling.Ordinal.{Ordinal}
-use Rattle.cpp_parts.specs.declared.numbering.Numbering.{Numbering}
 use Rattle.cpp_parts.specs.declared.numbering.Numbering.TheVariants as numbering
-use Rattle.sym_parts.specs.Plain.{alone, numbered, only, plain, suffixed, whole}
-use Rattle.cpp_parts.specs.Roles.{alone_if_any, words, returned, behind, scoped, in_std, abbreviated, are_colons, named, element_of, rest_of, within, inside, next, ordinal_of, elements, elements_after, element, in_brackets, parameters, arguments, name, called, is_absent, returning, special_name, encoding, symbol_marked}
 
 -- the text of a marked text
 abbrev shown : Marked → List ℕ
@@ -110,7 +100,7 @@ text-lone : (r : Role) (o : Ordinal) (left right : List ℕ) → shown (marked r
 unfolding marks.text_of
 text-lone r o left right = append-nil _ ∙ ap (λ t. left ++ t) (append-nil right)
 
--- a comma before others
+-- the text of a comma before others
 text-comma : (comma : List ℕ) (m : Marked) (t : List ℕ) → shown m ≡ t → shown (text comma m) ≡ comma ++ t
 unfolding marks.text_of
 text-comma comma m t same = ap (λ a. comma ++ a) same
@@ -153,7 +143,7 @@ mutual
   text-element r o p (Some t) (bytes b rest) right = text-lone r (ordinal_of o) _ _
   text-element r o p None left right = text-lone r (ordinal_of o) _ _
 
--- brackets with a list, and what is after them
+-- the text of a list in brackets, and of what is after it
 text-listed : (r : Role) (opening close : List ℕ) (m : Marked) (t : List ℕ) (u : Unshared) → shown m ≡ t
     → shown (marked r only (text opening (m before text close marks.done)) (behind u)) ≡ opening ++ (t ++ (close ++ text_of u))
 unfolding marks.text_of
@@ -163,7 +153,7 @@ text-listed r opening close m t u same =
     ∙ append_assoc opening (t ++ close) (text_of u)
     ∙ ap (λ a. opening ++ a) (append_assoc t close (text_of u))
 
--- brackets without a list
+-- the text of brackets without a list, and of what is after them
 text-empty : (r : Role) (opening close : List ℕ) (u : Unshared) → shown (marked r only (text opening (text close marks.done)) (behind u)) ≡ opening ++ (close ++ text_of u)
 unfolding marks.text_of
 text-empty r opening close u =

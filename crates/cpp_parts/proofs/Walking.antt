@@ -1,27 +1,8 @@
 -- The walk: what was found, and what the tasks that are left lead to.
-use Rattle.std.proofs.Common.{◌≡◌, ℕ, ◌+◌, ◌*◌, ◌<◌, ◌≤◌, List, [], ◌∷◌, ◌++◌, length, refl, sym, ap, ◌∙◌, arith, append_assoc, append-nil}
-use Rattle.std.specs.List.{All}
-use Rattle.std.proofs.lemmas.List.Elements.{All-same, All-nil, All-head, All-tail}
-use Rattle.cpp_layout.specs.declared.context.Context.{Context}
-use Rattle.cpp_layout.specs.Layout.{ReadSymbol, table_of, whole_of, unshared_of, MayBeAsked}
-use Rattle.cpp_tree.specs.Views.{plain_tree}
-use Rattle.sym_print.specs.declared.layout.Item.{Item}
-use Rattle.sym_print.specs.declared.layout.Part.{Part}
-use Rattle.sym_print.specs.Unshared.{Unshared, steps_of, steps_of_parts, cost_of}
+use Rattle.cpp_parts.proofs.Basics.{◌≡◌, ℕ, ◌+◌, ◌*◌, ◌<◌, ◌≤◌, List, [], ◌∷◌, ◌++◌, length, refl, sym, ap, ◌∙◌, arith, append_assoc, append-nil, All, All-same, All-nil, All-head, All-tail, Context, ReadSymbol, table_of, whole_of, unshared_of, MayBeAsked, plain_tree, Item, Part, Unshared, steps_of, steps_of_parts, cost_of, Marked, ◌before◌, stretches_of, Mark, marks_of, stretches_at, skipped, Role, Ordinal, Numbering, encoding, name, elements, symbol_marked, length_of_text, stretches_at-marks_of, skipped-marks_of, skipped-append, Stretch, marks_of_task, marks_of_tasks, IsTask, IsPayable, ArePayable, printed_by, weight_of_task, weight_of_tasks, Adds, Grows, Lists, Task}
 use Rattle.sym_parts.specs.Found.{Found}
-use Rattle.sym_parts.specs.Marked.{Marked, ◌before◌, stretches_of}
 use Rattle.sym_parts.specs.Marked as marks
-use Rattle.sym_parts.specs.Marks.{Mark, marks_of, stretches_at, skipped}
-use Rattle.sym_parts.specs.declared.role.Role.{Role}
-use Rattle.sym_parts.specs.declared.spelling.Ordinal.{Ordinal}
-use Rattle.cpp_parts.specs.declared.numbering.Numbering.{Numbering}
-use Rattle.cpp_parts.specs.Roles.{encoding, name, elements, symbol_marked}
 use Rattle.cpp_parts.proofs.Texts.{text-symbol}
-use Rattle.sym_print.proofs.Noting.{length_of_text}
-use Rattle.sym_parts.proofs.Turns.{stretches_at-marks_of, skipped-marks_of, skipped-append}
-use Rattle.sym_parts.specs.declared.stretch.Stretch.{Stretch}
-use Rattle.cpp_parts.specs.Tasks.{marks_of_task, marks_of_tasks, IsTask, IsPayable, ArePayable, printed_by, weight_of_task, weight_of_tasks, Adds, Grows, Lists}
-use Rattle.cpp_parts.specs.declared.task.Task.{Task}
 use Rattle.cpp_parts.specs.declared.task.Task.TheVariants as task
 use Rattle.cpp_parts.proofs.Growing.{before-done}
 

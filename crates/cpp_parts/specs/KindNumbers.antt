@@ -48,7 +48,7 @@ piece_kind_by p =
     else if is_any p CONVERSION STD_CONVERSION NESTED_CONVERSION then kind.Conversion
     else kind.Function
 
--- the kind of what is neither a function nor an object, by the production of its encoding, and by its letter, if it has one
+-- the kind of an encoding that is neither a function nor an object, by its production and, if it has one, by its letter
 unfoldable pub other_kind_by : (production letter : ℕ) → NameKind
 other_kind_by p letter =
     if nat_eq p SPECIAL then special_kind letter

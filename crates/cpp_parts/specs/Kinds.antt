@@ -15,7 +15,7 @@ own_name (of_default digits entity) = own_name entity
 own_name (holder name) = own_name name
 own_name t = t
 
--- the piece at the end of such a name
+-- the piece at the end of an own name
 unfoldable pub piece_of : Term → Term
 piece_of (alone piece) = piece
 piece_of (in_std piece) = piece
@@ -42,7 +42,7 @@ is_in_lambda t = false
 unfoldable pub is_call : (first second : ℕ) → Bool
 is_call first second = nat_eq first 99 && nat_eq second 108
 
--- a function by the piece at the end of its name; the call of a lambda isn't an operator
+-- the kind of a function by the piece at the end of its name; the call of a lambda isn't an operator
 unfoldable pub piece_kind : (in_lambda : Bool) → Term → NameKind
 piece_kind in_lambda (constructor digit) = kind.Constructor
 piece_kind in_lambda (inheriting digit base) = kind.Constructor
@@ -52,7 +52,7 @@ piece_kind in_lambda (literal_operator bytes) = kind.LiteralOperator
 piece_kind in_lambda (conversion type) = kind.Conversion
 piece_kind in_lambda t = kind.Function
 
--- a function by its name without arguments
+-- the kind of a function by its name without arguments
 abbrev pub named_kind : Term → NameKind
 named_kind name = piece_kind (is_in_lambda name) (piece_of name)
 
@@ -62,24 +62,24 @@ unfoldable pub is_string : Term → Bool
 is_string string_literal = true
 is_string t = false
 
--- what has no parameters, by its name
+-- the kind of an encoding without parameters, by its name
 unfoldable pub object_kind : Term → NameKind
 object_kind (local encoding entity discriminator) = if is_string (piece_of (own_name entity)) then kind.StringLiteral else kind.LocalVariable
 object_kind name = kind.Variable
 
--- what belongs to a type, by the last letter of its code: V, T, I, S or A. The initializer of a module has a code of this sort, and is a function.
+-- the kind of a special name of a type, by the last letter of its code, V, T, I, S or A; a module's initializer is a function
 unfoldable pub special_kind : (letter : ℕ) → NameKind
 special_kind letter =
     if nat_eq letter 86 then kind.Vtable else if nat_eq letter 84 then kind.Vtt else if nat_eq letter 73 then kind.Typeinfo
     else if nat_eq letter 83 then kind.TypeinfoName else if nat_eq letter 65 then kind.TemplateObject else kind.Function
 
--- what belongs to a variable, by the last letter of its code: V, H, W or R
+-- the kind of a special name of a variable, by the last letter of its code, V, H, W or R
 unfoldable pub of_name_kind : (letter : ℕ) → NameKind
 of_name_kind letter =
     if nat_eq letter 86 then kind.Guard else if nat_eq letter 72 then kind.TlsInit else if nat_eq letter 87 then kind.TlsWrapper
     else kind.ReferenceTemporary
 
--- a thunk by what it adjusts
+-- the kind of a thunk by what it adjusts
 unfoldable pub thunk_kind : Thunk → NameKind
 thunk_kind (adjusting (non_virtual offset)) = kind.Thunk
 thunk_kind (adjusting (by_table offset entry)) = kind.VirtualThunk
@@ -87,7 +87,7 @@ thunk_kind (covariant this result) = kind.CovariantThunk
 
 -- ## Symbols
 
--- an encoding; the tree of each symbol is an encoding
+-- the kind of an encoding; the tree of each symbol is an encoding
 unfoldable pub encoding_kind : Term → NameKind
 encoding_kind (function name q mark returned parameters) = named_kind (own_name name)
 encoding_kind (object name q mark) = object_kind name
@@ -98,7 +98,7 @@ encoding_kind (construction derived digits parent) = kind.ConstructionVtable
 encoding_kind (clone letter encoding) = kind.TransactionClone
 encoding_kind t = kind.Variable
 
--- a whole symbol; its suffix doesn't matter
+-- the kind of a whole symbol; its suffix doesn't matter
 unfoldable pub kind_of_symbol : Term → NameKind
 kind_of_symbol (symbol encoding suffix) = encoding_kind encoding
 kind_of_symbol t = kind.Variable

@@ -23,7 +23,7 @@ alone_if_any r (b ∷ bs) rest = alone r only (b ∷ bs) rest
 unfoldable pub words : (specials : ℕ) → List ℕ → (rest : Marked) → Marked
 words specials b rest = alone role.Special (numbered specials) (take (length b - 1) b) (text (drop (length b - 1) b) rest)
 
--- the rest of a return type, where it has one
+-- the rest of a return type after the parameters, if there is one
 unfoldable pub returned : Unshared → Marked
 returned (item right rest) = alone_if_any role.ReturnType (text_of right) (plain rest)
 returned printed = plain printed
@@ -71,7 +71,7 @@ unfoldable pub rest_of : Term → Term
 rest_of (list e rest) = rest
 rest_of pattern = pattern
 
--- what the elements of an element are: those of a pack, or a pattern that is expanded
+-- where an element's own elements are: in the list of a pack, or in a pattern that is expanded
 unfoldable pub within : Term → Option Term
 within (pack elements) = Some elements
 within (expansion pattern) = Some pattern
@@ -139,7 +139,7 @@ arguments t printed = plain printed
 
 -- ## Names and encodings
 
--- A name that is followed by this many of its tags: for an instance, the name of its template and the arguments; for a tagged name, the name and the tag.
+-- A name before this many of its tags: an instance has its template's name and the arguments, a tagged name its name and a tag.
 unfoldable pub name : (tags : ℕ) → Term → Unshared → Marked
 name tags (instance template args) (item inner rest) = name tags template inner before arguments args rest
 name tags (tagged of_structor inner tag) (item printed rest) = name (tags + 1) inner printed before whole role.AbiTag (numbered tags) rest
@@ -162,7 +162,7 @@ unfoldable pub returning : (nothing : Bool) → (name_of params : Term) → Unsh
 returning false n params (item left (bytes blank rest)) = alone role.ReturnType only (text_of left) (text blank (called n params rest))
 returning nothing n params printed = called n params printed
 
--- what a special name is, and what it belongs to
+-- the words of a special name, and what the name belongs to
 unfoldable pub special_name : (specials : ℕ) → Unshared → Marked
 special_name specials (bytes b rest) = words specials b (whole role.Object only rest)
 special_name specials printed = plain printed

@@ -47,7 +47,7 @@ count_of (numbering.Items n) = n
 count_of (numbering.Elements n e) = e
 count_of (numbering.Alike ordinal) = 0
 
--- A task of the symbol, whose items cost at most this much. Its count has room for all that the item prints.
+-- A task of the symbol. Its item costs at most this much, and its count has room for all that the item prints.
 unfoldable pub IsTask : ReadSymbol → (most : ℕ) → Task → Type 0
 IsTask y most (task.Encoding specials node i) = (node < length y.table.nodes) × IsPayable y most i × (specials + cost_of (unshared_of y i) ≤ most)
 IsTask y most (task.Name tags node i) = (node < length y.table.nodes) × IsPayable y most i × (tags + cost_of (unshared_of y i) ≤ most)
@@ -65,7 +65,7 @@ unfoldable pub weight_of_tasks : ReadSymbol → List Task → ℕ
 weight_of_tasks y [] = 0
 weight_of_tasks y (first ∷ rest) = weight_of_task y first + weight_of_tasks y rest
 
--- Tasks were added before others: they lead to these marks first, are tasks of the symbol if the others are, and take at most this many steps.
+-- Tasks were added before others: they lead to these marks first, are the symbol's if the others are, and take at most `steps`.
 pub record Adds (y : ReadSymbol) (most : ℕ) (others tasks : List Task) (m : Marked) (steps : ℕ) : Type 0 where
   pub marks : marks_of_tasks y tasks ≡ marks_of m ++ marks_of_tasks y others
   pub all : All (IsTask y most) others → All (IsTask y most) tasks
@@ -75,7 +75,7 @@ pub record Adds (y : ReadSymbol) (most : ℕ) (others tasks : List Task) (m : Ma
 pub record Grows (y : ReadSymbol) (most : ℕ) (old new : List Task) (m : Marked) (steps : ℕ) : Type 0 where
   pub adds : (others : List Task) (behind : Marked) (taken : ℕ) → Adds y most others old behind taken → Adds y most others new (m before behind) (taken + steps)
 
--- What was found before, together with these marks, equals what is found now, together with those; and both advance by equally many bytes.
+-- Together with the marks `these`, what was found before gives the same stretches and place as what is found now with `those`.
 pub record Lists (old new : Found) (these those : List Mark) : Type 0 where
   pub stretches : old.stretches ++ stretches_at old.place these ≡ new.stretches ++ stretches_at new.place those
   pub place : old.place + skipped these ≡ new.place + skipped those

@@ -200,7 +200,7 @@ fn named_kind(y: &Symbol, node: u32) -> NameKind
     piece_kind(found.production)
 }
 
-/// The kind of an entity in a function, by its name there.
+/// The kind of an entity in a function: a string literal, or a local variable.
 #[tactic(auto, unfolding(crate::specs::KindNumbers::local_kind))]
 fn local_kind(is_string: bool) -> NameKind
     ensures { result ≡ local_kind is_string }
@@ -219,7 +219,7 @@ fn is_string_name(y: &Symbol, node: u32) -> bool
     is_string(y.node(own_node(y, node)).production)
 }
 
-/// The kind of what has no parameters, by its name.
+/// The kind of an encoding without parameters, by its name.
 fn object_kind(y: &Symbol, node: u32) -> NameKind
     requires { node < length y.now.table.nodes }
     ensures { result ≡ object_kind (plain_tree (table_of y.now) node) }
@@ -234,7 +234,7 @@ fn object_kind(y: &Symbol, node: u32) -> NameKind
     NameKind::Variable
 }
 
-/// The kind of what belongs to a type, by the last letter of its code.
+/// The kind of a special name that belongs to a type, by the last letter of the name's code.
 #[tactic(auto, unfolding(crate::specs::Kinds::special_kind))]
 fn special_kind(letter: u64) -> NameKind
     ensures { result ≡ special_kind letter }
@@ -257,7 +257,7 @@ fn special_kind(letter: u64) -> NameKind
     NameKind::Function
 }
 
-/// The kind of what belongs to a variable, by the last letter of its code.
+/// The kind of a special name that belongs to a variable, by the last letter of the name's code.
 #[tactic(auto, unfolding(crate::specs::Kinds::of_name_kind))]
 fn of_name_kind(letter: u64) -> NameKind
     ensures { result ≡ of_name_kind letter }
@@ -274,7 +274,7 @@ fn of_name_kind(letter: u64) -> NameKind
     NameKind::ReferenceTemporary
 }
 
-/// The kind of what is neither a function nor an object, by the production of its encoding, and by its letter, if it has one.
+/// The kind of an encoding that is neither a function nor an object, by its production and, if it has one, by its letter.
 #[tactic(auto, unfolding(crate::specs::KindNumbers::other_kind_by))]
 fn other_kind(found: u16, letter: u64) -> NameKind
     ensures { result ≡ other_kind_by found letter }

@@ -9,12 +9,12 @@ ghost use Rattle.sym_parts.specs.Marked.{stretches_of};
 ghost use Rattle.sym_parts.specs.Placed.{AreStretchesPlaced};
 ghost use Rattle.cpp_parts.specs.Roles.{symbol_marked};
 
-/// The text without its marks is what is printed.
+/// A marked text without its marks is the printed text.
 pub fn marks_change_no_text()
     ensures { (t : Term) (printed : Unshared) → marks.text_of (symbol_marked t printed) ≡ text_of printed }
 {}
 
-/// The stretches are slices of what is printed, in the order of their starts; of two stretches one is within the other, or they are apart.
+/// The stretches are slices of the printed text, in the order of their starts; two stretches are apart or one is in the other.
 pub fn stretches_are_placed()
     ensures { (t : Term) (printed : Unshared) → AreStretchesPlaced (length (text_of printed)) (stretches_of (symbol_marked t printed)) }
 {}

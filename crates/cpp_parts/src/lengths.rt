@@ -1,4 +1,4 @@
-// How long the texts of parts are.
+// The lengths of the texts that parts print.
 #![tactic(auto)]
 
 ghost use Rattle.std.specs.Prelude.{◌≡◌, ◌≤◌, length, IfOk, IfErr};

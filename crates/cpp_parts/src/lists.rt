@@ -1,4 +1,4 @@
-// Tasks for lists, and for what is in brackets.
+// Tasks for lists, and for lists in brackets.
 #![tactic(auto)]
 
 ghost use Rattle.std.specs.Prelude.{◌≡◌, ◌+◌, ◌*◌, ◌<◌, ◌≤◌, ◌-◌, ℕ, List, [], ◌∷◌, length, take, drop, OnOk, IfErr, Some};

@@ -1,4 +1,4 @@
-// Tasks for what is printed as it is, and for parts without other parts in them.
+// Tasks for what is printed without a mark, and for parts that contain no other parts.
 #![tactic(auto)]
 
 ghost use Rattle.std.specs.Prelude.{◌≡◌, ◌+◌, ◌*◌, ◌<◌, ◌≤◌, ◌-◌, ℕ, List, [], ◌∷◌, length, take, drop, OnOk, IfErr};
@@ -40,7 +40,7 @@ pub(crate) fn push_plain(
     tasks.push(Task::Skip(length))
 }
 
-/// One part that has all the bytes that these parts print.
+/// One part, to which all bytes that these parts print belong.
 ///
 /// # Errors
 ///
@@ -82,7 +82,7 @@ pub(crate) fn push_alone(
     tasks.push(Task::Begin(role, ordinal, count))
 }
 
-/// The words of a special name, after those of this many others. With the blank at their end they have this many bytes.
+/// The words of a special name, after those of `specials` others. With the blank at their end they have `count` bytes.
 ///
 /// # Errors
 ///
@@ -106,7 +106,7 @@ pub(crate) fn push_words(
     push_alone(y, tasks, Role::Special, ordinal, count - blank, most)
 }
 
-/// The rest of a return type, where it has one.
+/// The rest of a return type after the parameters, if there is one.
 ///
 /// # Errors
 ///

@@ -145,7 +145,7 @@ pub(crate) fn rest_node(y: &Symbol, node: u32) -> u32
     node
 }
 
-/// What the elements of an element are: those of a pack, or a pattern that is expanded.
+/// Where an element's own elements are: in the list of a pack, or in a pattern that is expanded.
 pub(crate) fn node_within(y: &Symbol, node: u32) -> Option<u32>
     requires { node < length y.now.table.nodes }
     ensures is { MatchOption result (within (plain_tree (table_of y.now) node) ≡ None) (λ inner. within (plain_tree (table_of y.now) node) ≡ Some (plain_tree (table_of y.now) inner)) }

@@ -15,7 +15,7 @@ pub(crate) enum Split<'a> {
     Item(Item<Context>, &'a [Part<Context>]),
 }
 
-/// Splits the parts of an item, or the last ones of them.
+/// Splits the parts of an item, or the last few of them, into the first one and the others.
 pub(crate) fn first_of<'a>(_y: &Symbol, parts: &'a [Part<Context>], _most: u32) -> Split<'a>
     requires { ArePayable _y.now _most parts.now }
     ensures { IsSplit _y.now _most parts.now result }

@@ -1,4 +1,4 @@
-// What is still to be done.
+// The tasks that are left while the stretches of a text are listed.
 #![tactic(auto)]
 
 ghost use Rattle.std.specs.Prelude.{◌≡◌, ◌∷◌, [], OnOk, IfErr, MatchOption, List, reverse};
@@ -14,7 +14,7 @@ use sym_parts::{Ordinal, Role};
 use sym_print::Item;
 use sym_room::push_within;
 
-/// A task: to advance by bytes, to begin a stretch, or to list the parts of an item. A task of an item has the node of the item's tree.
+/// A task: to advance by bytes, to begin a stretch, or to list the parts of an item, which comes with the node of its tree.
 #[derive(Clone, Copy)]
 pub(crate) enum Task {
     /// To advance by this many bytes.

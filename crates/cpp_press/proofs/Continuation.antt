@@ -1,19 +1,8 @@
--- The turns of the writer keep what is written and what is still to be written.
-use Rattle.std.proofs.Common.{◌≡◌, ℕ, ◌+◌, ◌<◌, length, List, [], ◌∷◌, ◌++◌, Option, Some, None, refl, ap, sym, subst, arith, ◌∙◌, append_assoc, append-nil, length-append}
+-- No turn of the writer changes the whole spelling: what is written, followed by what is still to be written.
+use Rattle.cpp_press.proofs.Basics.{◌≡◌, ℕ, ◌+◌, ◌<◌, length, List, [], ◌∷◌, ◌++◌, Option, Some, None, refl, ap, sym, subst, arith, ◌∙◌, append_assoc, append-nil, length-append, Term, ReadSymbol, whole_of, Component, Spelling, first_equal, ended, ways_of, pressed, spelled_components, Likeness, Task, Way, ◌onto◌, written, in_way, ending, plain_at, press_task, press_tasks, IsTask, AreTasks, task_weight, tasks_weight, noted, likeness_of, ArePlaces, AreFirst, AreOfNodes, behind, Goes, HasFewComponents}
 use Rattle.std.specs.Option.{option_to_list}
 use Rattle.sym_spell.specs.Pressing.{Pressed}
 use Rattle.sym_spell.proofs.Spellings.{and-nothing}
-use Rattle.cpp_grammar.specs.Term.{Term}
-use Rattle.cpp_layout.specs.Layout.{ReadSymbol, whole_of}
-use Rattle.cpp_press_laws.specs.Components.{Component, Spelling, first_equal, ended}
-use Rattle.cpp_press_laws.specs.Pressing.{ways_of, pressed}
-use Rattle.cpp_press_laws.specs.Apart.{spelled_components}
-use Rattle.cpp_press.specs.declared.components.Likeness.{Likeness}
-use Rattle.cpp_spelling.specs.declared.task.Task.{Task}
-use Rattle.cpp_spelling.specs.declared.task.Way.{Way}
-use Rattle.cpp_spelling.specs.Tasks.{◌onto◌, written, in_way, ending, plain_at, press_task, press_tasks, IsTask, AreTasks, task_weight, tasks_weight}
-use Rattle.cpp_press.specs.Places.{noted, likeness_of, ArePlaces, AreFirst, AreOfNodes, behind, Goes}
-use Rattle.cpp_press.specs.OfRead.{HasFewComponents}
 use Rattle.cpp_spelling.proofs.Pushed.{tasks-push, weight-push, tasks-less}
 use Rattle.cpp_press.proofs.Placing.{places-go}
 use Rattle.cpp_press.proofs.Counting.{few-components}
@@ -46,7 +35,7 @@ top y {older = older} {t = t} last = ap (press_tasks y) last.is ∙ tasks-push y
 again : (out : List ℕ) (f g : Spelling) (cs : List Component) → f ≡ g → behind out (f (length out) cs) ≡ behind out (g (length out) cs)
 again out f g cs same = ap {A = Spelling} (λ (h : Spelling). behind out (h (length out) cs)) same
 
--- the bytes that are written are those of a text that was to be written
+-- once a text is written, the whole is the bytes so far, then the text, then the bytes of the rest
 bytes-behind : (f : Spelling) (xs ys : List ℕ) (cs : List Component) (p q : ℕ) → p ≡ q
     → ◌≡◌ {A = Pressed Component} (behind (xs ++ ys) (f p cs)) (record { bytes = xs ++ (ys ++ (f q cs).bytes); components = (f q cs).components })
 bytes-behind f xs ys cs p q same = rw (same, append_assoc xs ys (f q cs).bytes) refl
@@ -73,7 +62,7 @@ own-more y (c ∷ cs) node e low own = (own.0, own-more y cs node e low own.1)
 
 -- ## Turns
 
--- other tasks replace a tree or a template
+-- the invariant still holds once other tasks replace the task for a tree or a template
 pub changed-goes : {y : ReadSymbol} {ns : List ℕ} {whole : Term} {first : Likeness
     → Option ℕ} {count : ℕ} {tasks older new : List Task} {out : List ℕ} {t : Task}
     → Goes y ns whole first count tasks out → IsLast tasks older t → AreTasks y new

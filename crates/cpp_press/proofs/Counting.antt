@@ -1,21 +1,8 @@
--- Components that are trees of nodes. There are at most as many components with a tree that no earlier component has as there are nodes.
-use Rattle.std.proofs.Common.{◌≡◌, ℕ, ◌+◌, ◌<◌, ◌≤◌, length, List, [], ◌∷◌, ◌++◌, Bool, true, false, refl, ap, arith, sym, subst, ◌∙◌}
-use Rattle.std.specs.Prelude.{◌||◌}
-use Rattle.std.specs.List.{IsDistinct, list_any, AllByRecursion}
-use Rattle.std.proofs.Math.Dec.{eqb}
-use Rattle.std.proofs.lemmas.Bool.{eqb-true}
+-- If components are trees of nodes, at most as many of them as there are nodes have a tree that no earlier component has.
+use Rattle.cpp_press.proofs.Basics.{◌≡◌, ℕ, ◌+◌, ◌<◌, ◌≤◌, length, List, [], ◌∷◌, ◌++◌, Bool, true, false, refl, ap, arith, sym, subst, ◌∙◌, ◌||◌, IsDistinct, list_any, AllByRecursion, eqb, eqb-true, Term, ReadSymbol, whole_of, same_tree, spelled_components, Component, tree-itself, plain_at, AreOfNodes, HasFewComponents}
 use Rattle.std.proofs.lemmas.Map.Keys.{IsDistinct-cons}
 use Rattle.std.proofs.lemmas.Map.Steps.{length-le_from_distinct_below}
-use Rattle.cpp_grammar.specs.Term.{Term}
-use Rattle.cpp_layout.specs.Layout.{ReadSymbol, whole_of}
-use Rattle.cpp_press_laws.specs.Same.{same_tree}
-use Rattle.cpp_press_laws.specs.Apart.{spelled_components}
 use Rattle.cpp_press_laws.specs.Repeated.{is_spelled, repeated}
-use Rattle.cpp_press_laws.specs.Components.{Component}
-use Rattle.cpp_press_laws.proofs.Components.Sameness.{tree-itself}
-use Rattle.cpp_spelling.specs.Tasks.{plain_at}
-use Rattle.cpp_press.specs.Places.{AreOfNodes}
-use Rattle.cpp_press.specs.OfRead.{HasFewComponents}
 use Rattle.cpp_press.proofs.NodesOfRead.{components-below}
 
 true-false : true ≡ false → ⊥
@@ -44,7 +31,7 @@ spelled-later t (d ∷ before) c is = go (same_tree t d.tree) is (spelled-later 
 
 -- ## Nodes of spelled trees
 
--- each of these nodes has a tree that is spelled
+-- the tree of each of these nodes is the tree of a component so far
 AreKnown : ReadSymbol → (before : List Component) → List ℕ → Type 0
 AreKnown y before [] = Unit {0}
 AreKnown y before (x ∷ xs) = ((x < length y.table.nodes) × (is_spelled (plain_at y x) before ≡ true)) × AreKnown y before xs
@@ -66,7 +53,7 @@ known-below y before (x ∷ xs) are q is = go (eqb q x) refl is (known-below y b
     go true same so more = omega (arith, eqb-true q x same, are.0.0)
     go false same so more = more so
 
--- a node whose tree isn't spelled is none of these nodes
+-- a node whose tree isn't spelled yet differs from all nodes whose trees are spelled
 other-node : (y : ReadSymbol) (before : List Component) (t : Term) (i : ℕ) (xs : List ℕ) → plain_at y i ≡ t → is_spelled t before ≡ false
     → AreKnown y before xs
     → AllByRecursion (λ x. eqb i x ≡ false) xs

@@ -1,3 +1,4 @@
+pub mod Basics
 mod Open
 mod Placing
 mod NodesOfRead

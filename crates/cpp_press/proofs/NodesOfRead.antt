@@ -1,6 +1,5 @@
 -- A symbol that was read has at most as many components as nodes.
-use Rattle.std.proofs.Common.{◌≡◌, ℕ, ◌+◌, ◌≤◌, List, length, Ok, Err, sym, arith}
-use Rattle.std.specs.Prelude.{Result}
+use Rattle.cpp_press.proofs.Basics.{◌≡◌, ℕ, ◌+◌, ◌≤◌, List, length, Ok, Err, sym, arith, Result, Term, spelled_components}
 use Rattle.sym_core.specs.declared.refusal.Refusal.{Refusal}
 use Rattle.sym_core.specs.declared.refusal.Refusal.TheVariants.{Malformed}
 use Rattle.sym_shape.specs.declared.rule.Sym.TheVariants.{Kind}
@@ -9,11 +8,9 @@ use Rattle.sym_demangle.specs.Mangled.{misshapen, well_shaped}
 use Rattle.sym_demangle.specs.Standing.{AreNodesOf}
 use Rattle.cpp_grammar.specs.Mangled.{IsReading}
 use Rattle.cpp_grammar.specs.Table.{abi}
-use Rattle.cpp_grammar.specs.Term.{Term}
 use Rattle.cpp_grammar.specs.Unfolding.{cpp, first_around, first_state, first_tree, unfold_cpp}
 use Rattle.cpp_grammar.proofs.Growing.{abi_wide}
 use Rattle.cpp_grammar.proofs.ClosedStates.{behind_bind}
-use Rattle.cpp_press_laws.specs.Apart.{spelled_components}
 use Rattle.cpp_press_laws.proofs.Components.FewPressed.{components-few}
 use Rattle.cpp_link.specs.NodeCount.{are_nodes}
 use Rattle.cpp_link.proofs.CandidatesTrees.{candidates-few}

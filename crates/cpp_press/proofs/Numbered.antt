@@ -1,30 +1,15 @@
--- Keys of nodes, and a map of them after one key more.
-use Rattle.std.proofs.Common.{◌≡◌, ℕ, zero, suc, ◌+◌, ◌-◌, ◌<◌, ◌≤◌, length, take, slice_get, List, [], ◌∷◌, ◌++◌, get_or, Option, Some, None, Bool, true, false, refl, ap, arith, sym, subst, ◌∙◌, length-append}
-use Rattle.std.specs.Prelude.{map, cond}
-use Rattle.std.specs.List.{All}
-use Rattle.std.proofs.Math.Dec.{eqb}
-use Rattle.std.proofs.lemmas.Bool.{lt-ltb, le-ltb, eqb-true, eq-eqb}
+-- Keys of nodes, and a map of keys after one more key.
+use Rattle.cpp_press.proofs.Basics.{◌≡◌, ℕ, zero, suc, ◌+◌, ◌-◌, ◌<◌, ◌≤◌, length, take, slice_get, List, [], ◌∷◌, ◌++◌, get_or, Option, Some, None, Bool, true, false, refl, ap, arith, sym, subst, ◌∙◌, length-append, map, cond, All, eqb, lt-ltb, le-ltb, eqb-true, eq-eqb, fields_of, Term, ReadSymbol, whole_of, plain_at, Told, tree_told, same_tree, equal-tree, tree-itself, ComeNext, IsKey, IsKeyOf, IsPartNumber, both_at, key_cmp, part_number, AreBelow, TellApart, number_at, AreFirsts, AreKeys, IsLookUp, first-below, firsts-more, none-first, found_in, mark_of}
 use Rattle.std.proofs.lemmas.List.{length-take, length-map, get_or_append_left, get_or-append-add, append_assoc}
-use Rattle.cpp_tree.specs.Fields.{fields_of}
 use Rattle.cpp_tree.specs.Views.{IsSlotBelow}
 use Rattle.cpp_press.proofs.Telling.{one_tree, three_parts}
 use Rattle.std.specs.BTreeMap.{get}
 use Rattle.std.specs.Ordering.{is_eq}
 use Rattle.sym_core.specs.declared.Span.{Span}
-use Rattle.cpp_grammar.specs.Term.{Term}
-use Rattle.cpp_layout.specs.Layout.{ReadSymbol, whole_of}
 use Rattle.cpp_press.specs.declared.numbering.Key.{Key}
-use Rattle.cpp_spelling.specs.Tasks.{plain_at}
-use Rattle.cpp_press.specs.Details.{Told, tree_told}
-use Rattle.cpp_press_laws.specs.Same.{same_tree}
-use Rattle.cpp_press_laws.proofs.Components.Sameness.{equal-tree, tree-itself}
-use Rattle.cpp_press.specs.Numbers.{ComeNext, IsKey, IsKeyOf, IsPartNumber, both_at, key_cmp, part_number}
-use Rattle.sym_spell.specs.Numbers.{AreBelow, TellApart, number_at}
 use Rattle.sym_spell.proofs.Entering.{old-number}
-use Rattle.sym_spell.proofs.FirstOnes.{AreFirsts, AreKeys, IsLookUp, first-below, firsts-more, none-first}
 use Rattle.sym_spell.specs.declared.firsts.Firsts.{Firsts}
 use Rattle.sym_spell.proofs.Placed.{same-first}
-use Rattle.cpp_press.specs.Marks.{found_in, mark_of}
 use Rattle.sym_spell.proofs.Orders.{equal-is, first-tied, then-tied, number-tied, number-itself, list-tied, list-itself, same-look}
 
 -- ## Four texts and three parts
@@ -38,7 +23,7 @@ four-texts f d (x ∷ y ∷ []) given a b c e long is one two three four = absur
 four-texts f d (x ∷ y ∷ z ∷ []) given a b c e long is one two three four = absurd (omega (arith, long))
 four-texts f d (x ∷ y ∷ z ∷ w ∷ v ∷ more) given a b c e long is one two three four = absurd (omega (arith, long))
 
--- the answer for a part of a node is that part
+-- an option that is part k of a node, or `None` if the node has no part k, is item k of the node's parts
 pub slot_is : (count : ℕ) (parts : List ℕ) (k d : ℕ) (o : Option ℕ) → k < length parts → (k < count → o ≡ Some (get_or parts k d)) → (count ≤ k → o ≡ None)
     → o ≡ slice_get (take count parts) k
 slot_is count [] k d o low some none = absurd (omega (arith, low))
@@ -62,7 +47,7 @@ part_is at ns [] k m low is = is
 part_is at ns (p ∷ parts) zero m low is = (p, low 0 0 (omega arith), refl, is)
 part_is at ns (p ∷ parts) (suc k) m low is = part_is at ns parts k m (λ j d h. low (suc j) d (omega (arith, h))) is
 
--- the number of a part of a tree whose parts are these nodes
+-- the number of part k of a tree whose parts are the trees of these nodes
 pub part_numbered : (at : ℕ → Term) (ns parts : List ℕ) (n k m : ℕ) (o : Option ℕ) (given : List Term) → length ns ≡ n → All (λ part. part < n) parts
     → map at parts ≡ given → o ≡ slice_get parts k → m ≡ part_number ns o → IsPartNumber at ns (slice_get given k) m
 part_numbered at ns parts n k m o given same low are is number =
@@ -75,7 +60,7 @@ few_parts at count parts given are few =
 
 -- ## Keys
 
--- two keys that agree in each field, which the map takes for one key
+-- two keys agree in each field, so that the map takes them for one key
 pub record AreOne (a b : Key) : Type 0 where
   pub production : a.production ≡ b.production
   pub own_numbers : a.numbers ≡ b.numbers
@@ -107,7 +92,7 @@ key-grown at ns n t key h = record {
   third = part-grown at ns n (slice_get (fields_of t).parts 2) key.third_part h.third;
 }
 
--- a key that agrees with a node's key in each field is a key of the node
+-- a key that agrees in each field with a key of a tree is a key of that tree
 taken-over : (at : ℕ → Term) (ns : List ℕ) (a b : Key) (t : Term) → IsKeyOf at ns t a → AreOne a b → IsKeyOf at ns t b
 taken-over at ns a b t h same = record {
   production = sym same.production ∙ h.production;
@@ -255,7 +240,7 @@ looked-up keys = record {
 
 -- ## The nodes of a symbol after other nodes
 
--- the key of a node is the same by the first nodes of its own symbol and by the first nodes of all nodes before it
+-- a part has the same number by the first nodes of its own symbol as by the first nodes of all nodes so far
 part-after : (one at : ℕ → Term) (firsts own : List ℕ) (part : Option Term) (m : ℕ) → ((i : ℕ) → i < length own → at (length firsts + i) ≡ one i)
     → IsPartNumber one own part m → IsPartNumber at (firsts ++ own) part m
 part-after one at firsts own None m next is = is
@@ -293,7 +278,7 @@ after-below at firsts own first bound few are i low =
       first-below at (IsKey at) (firsts ++ own) first are (length firsts + i) (omega (arith, low, length-append firsts own)),
     )
 
--- the table of first nodes, after one more node of a symbol
+-- the map of first nodes, after one more node of a symbol
 pub after-more : (y : ReadSymbol) (at : ℕ → Term) (firsts own : List ℕ) (before node n : ℕ) (start : Key → Option ℕ) (old : Firsts Key) (new : Key → Option ℕ) (key : Key)
     → ComeNext y at firsts before start → length own ≡ node → node < length y.table.nodes
     → IsKeyOf (plain_at y) own (plain_at y node) key
@@ -326,7 +311,7 @@ at-other one other i =
     ap (λ b. cond b (plain_at one (n + i)) (plain_at other (n + i - n))) (le-ltb (n + i) n (omega arith))
     ∙ ap (plain_at other) (omega arith)
 
--- an empty map has no first nodes
+-- after an empty map, the nodes of a symbol come next, with no node before them
 pub begins-alone : (y : ReadSymbol) (first : Key → Option ℕ) → ((q : Key) → first q ≡ None) → ComeNext y (plain_at y) [] 0 first
 begins-alone y first empty = record {
   known = none-first (plain_at y) (IsKey (plain_at y)) [] first refl empty;
@@ -360,7 +345,7 @@ get_or-any [] i d e low = absurd (omega (arith, low))
 get_or-any (x ∷ l) zero d e low = refl
 get_or-any (x ∷ l) (suc i) d e low = get_or-any l i d e (omega (arith, low))
 
--- an item of a list is the one at its place
+-- the item that `get_or` finds at a place within a list is the item at that place
 pub item-is : (l : List ℕ) (i at a : ℕ) → a ≡ get_or l i a → i ≡ at → at < length l → a ≡ number_at l at
 item-is l i at a is same low = is ∙ ap (λ k. get_or l k a) same ∙ get_or-any l at a 0 low
 

@@ -1,4 +1,4 @@
--- A tree whose parameters have arguments is open exactly if it is open without them.
+-- A tree whose parameters have arguments is open exactly if the tree without these arguments is open.
 use Rattle.std.proofs.Common.{◌≡◌, refl}
 use Rattle.cpp_grammar.specs.Scope as plain
 use Rattle.cpp_term.specs.Scope as noted

@@ -1,16 +1,5 @@
--- One component more.
-use Rattle.std.proofs.Common.{◌≡◌, ℕ, ◌+◌, ◌<◌, length, List, [], ◌∷◌, ◌++◌, Bool, true, false, Option, Some, None, refl, ap, sym, arith, ◌∙◌}
-use Rattle.std.specs.Prelude.{cond, ◌&&◌, ◌||◌, not, nat_eq, get_or, is_some}
-use Rattle.std.proofs.lemmas.Bool.{eqb-true, eq-eqb}
-use Rattle.cpp_grammar.specs.Term.{Term}
-use Rattle.cpp_grammar.specs.Scope.{is_open}
-use Rattle.cpp_layout.specs.Layout.{ReadSymbol}
-use Rattle.cpp_press_laws.specs.Same.{same_tree}
-use Rattle.cpp_press_laws.specs.Components.{Component, is_same, first_equal}
-use Rattle.cpp_press_laws.proofs.Components.Sameness.{equal-tree, tree-itself}
-use Rattle.cpp_press.specs.declared.components.Likeness.{Likeness}
-use Rattle.cpp_spelling.specs.Tasks.{plain_at}
-use Rattle.cpp_press.specs.Places.{like, noted, likeness_of, ArePlaces, AreFirst}
+-- The first components of each likeness, after one more component.
+use Rattle.cpp_press.proofs.Basics.{◌≡◌, ℕ, ◌+◌, ◌<◌, length, List, [], ◌∷◌, ◌++◌, Bool, true, false, Option, Some, None, refl, ap, sym, arith, ◌∙◌, cond, ◌&&◌, ◌||◌, not, nat_eq, get_or, is_some, eqb-true, eq-eqb, Term, is_open, ReadSymbol, same_tree, Component, is_same, first_equal, equal-tree, tree-itself, Likeness, plain_at, like, noted, likeness_of, ArePlaces, AreFirst}
 
 true-false : true ≡ false → ⊥
 true-false bad = cc
@@ -41,7 +30,7 @@ later-is e t c from (d ∷ cs) = go (is_same e t d) (later-is e t c (from + 1) c
     go true is = refl
     go false is = is ∙ more (first_equal e t (from + 1) cs) (is_same e t c)
 
--- trees have one likeness exactly where they compare as equal
+-- trees have one likeness exactly if they compare as equal
 compared-alike : (t u : Term) (m n e f : ℕ) → (m ≡ n → t ≡ u) → (t ≡ u → m ≡ n)
     → is_same f u (record { tree = t; encoding = e })
     ≡ like (record { number = m; encoding = cond (is_open t) e 0 }) (record { number = n; encoding = cond (is_open u) f 0 })
@@ -115,7 +104,7 @@ places-go y ns first new cs count node e are places low long is j f there =
     long
     ∙ sym (later-is f (plain_at y j) (record { tree = plain_at y node; encoding = e }) 0 cs)
 
--- the numbers of the first components, after one component more
+-- the numbers of the first components, after one more component
 pub noted-fresh : (old : Likeness → Option ℕ) (one q : Likeness) (count : ℕ) (o new : Option ℕ) → old one ≡ o → is_some o ≡ false
     → new ≡ cond (like one q) (Some count) (old q) → new ≡ noted old one count q
 noted-fresh old one q count None new there none is = is ∙ sym (ap (λ p. choose p (old q) (like one q) count) there)

@@ -1,14 +1,8 @@
--- Trees with the same details over equal parts are equal.
-use Rattle.std.proofs.Common.{◌≡◌, ℕ, zero, suc, ◌+◌, ◌≤◌, length, List, [], ◌∷◌, ◌++◌, get_or, Option, Some, None, Bool, true, false, refl, ap, arith, sym, subst, ◌∙◌}
-use Rattle.std.specs.Prelude.{nat_eq, slice_get, ◌==◌, if◌then◌else◌, cond}
-use Rattle.std.proofs.lemmas.Bool.{eqb-true}
-use Rattle.std.proofs.lemmas.List.{append_cancel_right}
+-- Trees of one production with the same details and equal parts are equal.
+use Rattle.cpp_press.proofs.Basics.{◌≡◌, ℕ, zero, suc, ◌+◌, ◌≤◌, length, List, [], ◌∷◌, ◌++◌, get_or, Option, Some, None, Bool, true, false, refl, ap, arith, sym, subst, ◌∙◌, nat_eq, slice_get, ◌==◌, if◌then◌else◌, cond, eqb-true, append_cancel_right, Signed, Adjustment, non_virtual, by_table, Thunk, adjusting, covariant, Term, Fields, bit, fields_of, offsets_of, tree_from, Told, offsets_told, fields_told, tree_told}
 use Rattle.std.proofs.lemmas.Option.{slice_get_past}
-use Rattle.cpp_grammar.specs.Term.{Signed, Adjustment, non_virtual, by_table, Thunk, adjusting, covariant, Term}
-use Rattle.cpp_tree.specs.Fields.{Fields, bit, fields_of, offsets_of, tree_from}
 use Rattle.cpp_tree.specs.declared.tree_production.TheConstants.{WIDE_THUNK}
 use Rattle.cpp_tree.proofs.Rebuilding.{tree-made}
-use Rattle.cpp_press.specs.Details.{Told, offsets_told, fields_told, tree_told}
 
 -- ## The details of offsets
 
@@ -63,7 +57,7 @@ offsets_back (Some (covariant (by_table a b) (by_table c d))) =
 abbrev fields : (production : ℕ) → (numbers : List ℕ) → (texts : List (List ℕ)) → (parts : List Term) → Fields
 fields production numbers texts parts = record { production = production; numbers = numbers; texts = texts; parts = parts }
 
--- the details of a tree that is no thunk, which has no offsets
+-- the details of a tree that isn't a thunk: its numbers and texts, with two zeros and two empty texts after them
 abbrev narrow : (numbers : List ℕ) → (texts : List (List ℕ)) → Told
 narrow numbers texts = record { numbers = numbers ++ 0 ∷ 0 ∷ []; texts = texts ++ [] ∷ [] ∷ [] }
 
@@ -117,7 +111,7 @@ three_parts xs ys few less one two three = same_parts xs ys each
     each (suc (suc (suc k))) =
         slice_get_past xs (suc (suc (suc k))) (omega (arith, few)) ∙ sym (slice_get_past ys (suc (suc (suc k))) (omega (arith, less)))
 
--- trees of one production with the same details over equal parts are equal
+-- trees of one production with the same details and equal parts are equal
 pub one_tree : (one other : Term) → (fields_of one).production ≡ (fields_of other).production → (fields_of one).parts ≡ (fields_of other).parts
     → tree_told one ≡ tree_told other → one ≡ other
 one_tree one other e f same =

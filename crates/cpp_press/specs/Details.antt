@@ -1,6 +1,6 @@
--- The details of a node, beside its production and its parts: the numbers and texts of its view (`cpp_tree`). The view of a thunk doesn't
--- have its offsets, for which there is a separate call, so its details are the offsets. Trees with the same details over equal parts are
--- equal.
+-- The details of a node are what it has apart from its production and its parts: the numbers and texts of its view
+-- (`cpp_tree`). The view of a thunk leaves out the thunk's offsets, which a separate call gives, so the details of a thunk are
+-- its offsets. Trees of one production with the same details and equal parts are equal.
 use Rattle.std.specs.Prelude.{ℕ, List, [], ◌∷◌, ◌++◌, ◌==◌, if◌then◌else◌, map, Option, Some, None}
 use Rattle.cpp_grammar.specs.Term.{non_virtual, by_table, Thunk, adjusting, covariant, Term}
 use Rattle.cpp_tree.specs.Nodes.{bytes_at}
@@ -40,6 +40,6 @@ fields_told given offsets =
 abbrev pub tree_told : Term → Told
 tree_told t = fields_told (fields_of t) (offsets_of t)
 
--- the details that the code has, with their texts as bytes of the symbol
+-- the code's details, each span replaced by the symbol's bytes there
 abbrev pub told_in : List ℕ → Details → Told
 told_in s details = record { numbers = details.numbers; texts = map (bytes_at s) details.texts }

@@ -10,7 +10,7 @@ use Rattle.sym_spell.proofs.Orders.{first-tied, number-tied, list-tied}
 use Rattle.cpp_press.specs.declared.numbering.Key.{Key}
 use Rattle.cpp_press.specs.Numbers.{key_cmp}
 
--- a number that a key's parts, numbers and first text make
+-- a number made of a key's production, parts, numbers and first text
 abbrev pub mark_of : Key → ℕ
 mark_of key =
     key.production * 59 + (key.first_part * 101 + key.second_part * 307 + key.third_part * 419)
@@ -32,7 +32,7 @@ marked-alike a b same =
     let text = list-tied a.first_text.now b.first_text.now h6.0 in
     rw (first_part, second_part, third_part, production, numbers, text) refl
 
--- the first node with a key, as a table that is in order finds it
+-- the first node with a key, as the table of first nodes finds it
 abbrev pub found_in : Firsts Key → Key → Option ℕ
 found_in keys = first_in key_cmp mark_of keys.places.items keys.seen.items (get key_cmp keys.more)
 

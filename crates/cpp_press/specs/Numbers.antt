@@ -1,4 +1,4 @@
--- The keys of trees, which number their parts, and a map of keys.
+-- The keys of trees, which have the numbers of the trees' parts, and a map of keys.
 use Rattle.std.specs.Prelude.{◌≡◌, ℕ, ◌+◌, ◌-◌, ◌<◌, ◌≤◌, List, [], ◌∷◌, length, get_or, slice_get, cond, nat_lt, Option, Some, None}
 use Rattle.std.specs.Cmp.Lexicographic.{slice_cmp}
 use Rattle.std.specs.Ordering.{nat_cmp, ordering_then}
@@ -11,12 +11,12 @@ use Rattle.cpp_press.specs.declared.numbering.Key.{Key}
 use Rattle.cpp_spelling.specs.Tasks.{plain_at}
 use Rattle.cpp_press.specs.Details.{tree_told}
 
--- one more than the number of a part, or 0
+-- one more than the number of a part, or 0 for no part
 abbrev pub part_number : List ℕ → Option ℕ → ℕ
 part_number numbers None = 0
 part_number numbers (Some part) = get_or numbers part 0 + 1
 
--- the number of a part that is a numbered tree, or 0 for no part
+-- one more than the number of a part, which is one of the numbered trees, or 0 for no part
 abbrev pub IsPartNumber : (at : ℕ → Term) → (numbers : List ℕ) → Option Term → ℕ → Type 0
 IsPartNumber at numbers None n = n ≡ 0
 IsPartNumber at numbers (Some t) n = (p : ℕ) × (p < length numbers) × (at p ≡ t) × (n ≡ get_or numbers p 0 + 1)
@@ -31,7 +31,7 @@ pub record IsKeyOf (at : ℕ → Term) (numbers : List ℕ) (t : Term) (key : Ke
   pub second : IsPartNumber at numbers (slice_get (fields_of t).parts 1) key.second_part
   pub third : IsPartNumber at numbers (slice_get (fields_of t).parts 2) key.third_part
 
--- the key of the tree with this number
+-- the key is a key of the tree at place `i`
 abbrev pub IsKey : (at : ℕ → Term) → (numbers : List ℕ) → ℕ → Key → Type 0
 IsKey at numbers i key = IsKeyOf at numbers (at i) key
 

@@ -10,9 +10,9 @@ use Rattle.cpp_link.specs.NodeCount.{are_nodes}
 
 -- How many components are spelled out.
 pub record HasFewComponents (y : ReadSymbol) : Type 0 where
-  -- Without the components whose tree is spelled out again, there are at most as many components as nodes.
+  -- Apart from components whose tree was spelled out before, there are at most as many components as nodes.
   pub apart : length (spelled_components (whole_of y)) ≤ length y.table.nodes + length (repeated_components (whole_of y))
-  -- If some bytes are read as the symbol, with the nodes of their one shape, each component is a node of its own,
-  -- beside the four with which a table begins.
+  -- If some bytes are read as the symbol's tree, and their shape has as many nodes as the symbol, each component has a
+  -- node of its own, apart from the four nodes with which a table begins.
   pub of_read : (s : List ℕ) → IsReading s (Ok (whole_of y)) → AreNodesOf abi are_nodes s (length y.table.nodes)
       → 4 + length (spelled_components (whole_of y)) ≤ length y.table.nodes

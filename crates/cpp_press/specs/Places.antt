@@ -22,7 +22,7 @@ like a b = nat_eq a.number b.number && nat_eq a.encoding b.encoding
 abbrev pub likeness_cmp : Likeness → Likeness → Ordering
 likeness_cmp a b = ordering_then (nat_cmp a.number b.number) (nat_cmp a.encoding b.encoding)
 
--- whether the number of the first component with a likeness is at a place: the likeness belongs to no encoding, and its number is below the number of places
+-- whether a likeness has a place in this list: it belongs to no encoding, and its number is below the list's length
 abbrev pub has_place : (closed : List (Option ℕ)) → Likeness → Bool
 has_place closed q = nat_eq q.encoding 0 && nat_lt q.number (length closed)
 
@@ -32,7 +32,7 @@ first_of closed more q = cond (has_place closed q) (get_or closed q.number None)
 abbrev pub known_in : Components → Likeness → Option ℕ
 known_in components = first_of components.closed.items (get likeness_cmp components.first)
 
--- the first components after one component more
+-- the first components, after one more component
 abbrev pub noted : (Likeness → Option ℕ) → (one : Likeness) → (count : ℕ) → Likeness → Option ℕ
 noted first one count q = elim (first one) [ Some number ↦ first q | None ↦ cond (like one q) (Some count) (first q) ]
 
@@ -40,7 +40,7 @@ noted first one count q = elim (first one) [ Some number ↦ first q | None ↦ 
 abbrev pub likeness_of : ReadSymbol → (numbers : List ℕ) → (node encoding : ℕ) → Likeness
 likeness_of y numbers node encoding = record { number = get_or numbers node 0; encoding = cond (is_open (plain_at y node)) encoding 0 }
 
--- The number of the first component with a likeness is the number that the definition says.
+-- For the likeness of each node, `first` has the number that the definition says: that of the first equal component.
 abbrev pub ArePlaces : ReadSymbol → (numbers : List ℕ) → (Likeness → Option ℕ) → List Component → Type 0
 ArePlaces y numbers first cs =
     (node encoding : ℕ) → node < length y.table.nodes → first (likeness_of y numbers node encoding) ≡ first_equal encoding (plain_at y node) 0 cs

@@ -21,7 +21,7 @@ pub struct Likeness {
 /// How many components there are, and the number of the first component with each likeness.
 #[derive(Drop)]
 pub struct Components {
-    /// The first components that belong to no encoding, at the numbers of their trees.
+    /// The number of the first component that belongs to no encoding, at the number of its tree.
     pub closed: Vec<Option<u64>>,
     /// All other first components.
     pub first: BTreeMap<Likeness, u64>,
@@ -29,7 +29,7 @@ pub struct Components {
 }
 
 impl Components {
-    /// No components yet. The trees of components will have numbers below this one.
+    /// No components yet. The trees of components will have numbers below `numbers`.
     ///
     /// # Errors
     ///
@@ -47,7 +47,7 @@ impl Components {
         })
     }
 
-    /// Whether components with a likeness are kept at a place, which is the number of their tree.
+    /// Whether the first component with a likeness is kept in `closed`, at the number of its tree.
     fn has_place(&self, likeness: Likeness) -> bool
         ensures { result ≡ has_place self.now.closed.items likeness }
     {
@@ -67,7 +67,7 @@ impl Components {
         }
     }
 
-    /// Counts one component more.
+    /// Counts one more component, with this likeness.
     ///
     /// # Errors
     ///
@@ -87,7 +87,7 @@ impl Components {
         Ok(())
     }
 
-    /// The next component is the first of this likeness.
+    /// Notes the next component as the first with this likeness.
     fn note(&mut self, likeness: Likeness) -> Result<(), Refusal>
         ensures first { OnOk result ((q : Likeness) → known_in self.new q ≡ cond (like likeness q) (Some self.old.count) (known_in self.old q)) }
         ensures count { OnOk result (self.new.count ≡ self.old.count) }

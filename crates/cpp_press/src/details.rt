@@ -1,4 +1,4 @@
-// The details of a node, beside its production and its parts.
+// The details of a node: what it has apart from its production and its parts.
 #![tactic(auto)]
 
 ghost use Rattle.std.specs.Prelude.{◌≡◌, ◌<◌, length};
@@ -14,7 +14,7 @@ use cpp_tree::node::{Adjustment, Signed, Thunk};
 use cpp_tree::tree_production::WIDE_THUNK;
 use sym_core::Span;
 
-/// The numbers and texts of a node: those of its view, or the offsets of a thunk whose view leaves them out.
+/// The numbers and texts of a node: those of its view, or a thunk's offsets, which the view leaves out.
 #[derive(Clone, Copy)]
 pub struct Details {
     pub numbers: [u64; 4],
@@ -27,7 +27,7 @@ const NO_TEXT: Span = Span { from: 0, to: 0 };
 /// The number of an offset that is absent.
 const NO_OFFSET: u64 = 2;
 
-/// The number of an offset: 1 for a minus.
+/// The number of an offset: 1 with a minus, 0 without.
 #[tactic(auto, unfolding(cpp_tree::specs::Fields::bit))]
 fn sign(offset: Signed) -> u64
     ensures { result ≡ bit offset.negative }
@@ -35,7 +35,7 @@ fn sign(offset: Signed) -> u64
     if offset.negative { 1 } else { 0 }
 }
 
-/// The offsets by which a thunk adjusts its object, and those by which it adjusts its result, if it does.
+/// The offsets by which a thunk adjusts its object, and any offsets by which it adjusts its result.
 #[inline(never)]
 #[tactic(auto, unfolding(crate::specs::Details::offsets_told, cpp_tree::specs::Nodes::thunk_of, cpp_tree::specs::Nodes::adjustment_of))]
 fn offsets_of_thunk(symbol: &Symbol, thunk: Option<Thunk>) -> Details

@@ -20,8 +20,8 @@ use std::alloc::Global;
 use sym_core::Refusal;
 use sym_spell::{Firsts, Marked, Numbers, text_mark};
 
-/// The key of a node: what nodes with equal trees have in common. It has the node's details, and for each part one more than
-/// the first node that is equal to it, or 0 for no part. Keys are ordered by their parts first, so a new key mostly goes near the end.
+/// The key of a node: what nodes with equal trees have in common. It has the node's production and details, and for each part one more
+/// than the first node equal to this part, or 0 for no part. Keys are ordered by parts first, so a new key mostly goes near the end.
 #[derive(Clone, Copy, PartialEq, Eq, PartialOrd, Ord)]
 struct Key<'a> {
     first_part: u32,
@@ -52,7 +52,7 @@ impl<'a> Marked for Key<'a> {
     ghost alike = { marked-alike };
 }
 
-/// A part of a node with n parts, if the node has it.
+/// A part of a node with `count` parts, if the node has a part at this place.
 fn part_at(count: u32, place: u32, part: u32) -> Option<u32>
     ensures some { place < count → result ≡ Some part }
     ensures none { count ≤ place → result ≡ None }
@@ -72,7 +72,7 @@ fn part_number(firsts: &[u32], part: Option<u32>) -> u32
     }
 }
 
-/// The key of a node, by the first nodes that equal the nodes before it.
+/// The key of a node, by the first node that equals each node before it.
 fn key_of<'a>(symbol: &'a Symbol, firsts: &[u32], node: u32) -> Key<'a>
     requires node { node < length symbol.now.table.nodes }
     requires before { length firsts.now ≡ node }
@@ -97,8 +97,8 @@ fn key_of<'a>(symbol: &'a Symbol, firsts: &[u32], node: u32) -> Key<'a>
     }
 }
 
-/// The first node that is equal to each node of a symbol: an earlier one, or the node itself. The symbol's nodes follow n other nodes,
-/// whose first nodes are in the table. The first nodes of the symbol are added to it.
+/// For each node of a symbol, the first node that is equal to it: an earlier one, or the node itself. `before` other nodes come before
+/// the symbol's nodes, and their first nodes are in the table `keys`. The symbol's first nodes are added to this table.
 ///
 /// # Errors
 ///
@@ -128,7 +128,7 @@ fn firsts_after<'a>(
     Ok(own)
 }
 
-/// The first node that is equal to each node of a symbol: an earlier one, or the node itself.
+/// For each node of a symbol, the first node that is equal to it: an earlier one, or the node itself.
 ///
 /// # Errors
 ///

@@ -93,12 +93,12 @@ fn template_standing_of(
     }
 }
 
-/// The spellings of most symbols have at most this many bytes, and at most this many tasks wait while they are spelled.
+/// The spellings of most symbols have at most `COMMON_BYTES` bytes, and at most `COMMON_TASKS` tasks wait while they are spelled.
 const COMMON_BYTES: usize = 128;
 
 const COMMON_TASKS: usize = 16;
 
-/// The pressed spelling of a C++ symbol, by the first nodes that equal its nodes.
+/// The pressed spelling of a C++ symbol. `firsts` has the first node that equals each node.
 fn press_tasks(alloc: Global, symbol: &Symbol, firsts: &[u32]) -> Result<Vec<u8>, Refusal>
     requires firsts { AreFirst symbol.now firsts.now }
     ensures pressed { IfOk result (λ out. out.items ≡ pressed (whole_of symbol.now)) }

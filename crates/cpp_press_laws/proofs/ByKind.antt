@@ -1,8 +1,8 @@
--- What is known of what was read, kind by kind of the grammar's table. `Known` says what is known of a kind and how the parts
--- of a production come to the whole; `Rules` takes a shape apart; the others have the productions of the kinds, from the leaves
--- on, each from the lemma of `Fits` about its tree. `Shapes` is the induction over all shapes: whatever was read as a kind fits
--- as one. Where a kind has several productions, clauses name the one that was read (`one-read`): a new production of a kind is
--- one clause more, wherever it is in the grammar.
+-- What is known of what was read, for each kind of the grammar's table. `Known` says what is known of a kind, and how the parts
+-- of a production give the whole; `Rules` takes a shape apart. The other files have the productions of the kinds, beginning
+-- with the leaves; each follows from the lemma of `Fits` about its tree. `Shapes` is the induction over all shapes: what was read
+-- as a kind fits as that kind. If a kind has several productions, clauses name the one that was read (`one-read`): a new
+-- production of a kind takes one more clause, wherever it is in the grammar.
 pub mod Rules
 pub mod Leaves
 pub mod Packs

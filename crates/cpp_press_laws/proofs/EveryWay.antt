@@ -1,6 +1,6 @@
 -- Each tree that fits is read back in each of the ways in which it may be spelled.
--- `Every` has the ways and the cases that are alike, the others a sort of trees each, from those of `ReadBack`; `Law` is the
--- induction over all trees, and what it comes to: a tree that fits is read as what was pressed, and so is a symbol.
+-- `Every` has the ways and what several sorts of trees share. Each of the other files has trees of one sort, by the lemmas of
+-- `ReadBack`. `Law` is the induction over all trees: the pressed spelling of each tree and symbol that fits is read as it.
 pub mod Every
 pub mod Types
 pub mod Names

@@ -1,6 +1,6 @@
--- What a reader reads fits: it can be spelled so that it is read again, wherever the reader's candidates are. `Fits` of the
--- definitions says what fits, and `Read` what it means for a tree that was read to fit. The other files take the productions by
--- sorts: a tree made of parts that fit fits in each place where its rule may be. `ByKind` takes these one by one.
+-- What a reader reads fits: it can be spelled so that it is read again, wherever the reader's candidates are. `specs/Fits` says
+-- what fits, and `Read` what it means that a tree that was read fits. The other files have the productions, by sorts: if the
+-- parts of a tree fit, so does the tree, wherever its rule may be. `ByKind` uses these lemmas production by production.
 pub mod Packs
 pub mod FunctionsStand
 pub mod Read

@@ -1,3 +1,4 @@
+pub mod Basics
 mod Rows
 pub mod Ways
 pub mod Slots

@@ -1,22 +1,14 @@
--- Pressing twice gives what pressing once gives, and pressed bytes tell trees apart, if what is pressed is read as it
--- was.
-use Rattle.std.proofs.Common.{◌≡◌, Ok, ap, arith, sym, ◌∙◌}
-use Rattle.std.specs.Prelude.{Result, length, ◌≤◌}
-use Rattle.sym_core.specs.declared.refusal.Refusal.{Refusal}
+-- Pressing twice gives what pressing once gives, and pressed bytes tell trees apart, if pressed bytes are read as the tree
+-- that was pressed.
+use Rattle.cpp_press_laws.proofs.Basics.{◌≡◌, Ok, ap, arith, sym, ◌∙◌, Result, length, ◌≤◌, Refusal, Tree as Shape, spell, IsTree, abi, Term, unfold_cpp, pressed, AreReadAs, PressedIsRead, PressedOnce, PressedTellsApart}
 use Rattle.sym_shape.specs.declared.rule.Sym.TheVariants.{Kind}
-use Rattle.sym_shape.specs.Tree.{Tree as Shape, spell, IsTree}
 use Rattle.sym_shape.proofs.Uniqueness.{one_tree}
-use Rattle.cpp_grammar.specs.Table.{abi}
 use Rattle.cpp_grammar.specs.TableLaws.{lawful}
-use Rattle.cpp_grammar.specs.Term.{Term}
-use Rattle.cpp_grammar.specs.Unfolding.{unfold_cpp}
-use Rattle.cpp_press_laws.specs.Pressing.{pressed}
-use Rattle.cpp_press_laws.specs.PressLaws.{AreReadAs, PressedIsRead, PressedOnce, PressedTellsApart}
 
 one-result : (a b : Term) → ◌≡◌ {A = Result Term Refusal} (Ok a) (Ok b) → a ≡ b
 one-result a b h = cc
 
--- One such shape is enough, since no other shape of the grammar spells the same bytes.
+-- It is enough that one shape is read as the tree, since no other shape of the grammar spells the same bytes.
 pub read-by-one : (t : Term) (shape : Shape) → IsTree abi (Kind 0) shape → spell shape ≡ pressed t → unfold_cpp shape ≡ Ok t → AreReadAs (pressed t) t
 read-by-one t shape is spelled reads = record {
   shape = shape;

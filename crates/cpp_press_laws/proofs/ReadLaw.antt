@@ -1,8 +1,5 @@
--- Each tree that was read fits, so its pressed bytes are read as it.
-use Rattle.std.proofs.Common.{◌≤◌, length, arith}
-use Rattle.cpp_press_laws.specs.Pressing.{pressed}
-use Rattle.cpp_press_laws.specs.Apart.{spelled_components}
-use Rattle.cpp_press_laws.specs.PressLaws.{PressedIsRead}
+-- Each tree that was read fits, so its pressed bytes are read as that tree.
+use Rattle.cpp_press_laws.proofs.Basics.{◌≤◌, length, arith, pressed, spelled_components, PressedIsRead}
 use Rattle.cpp_press_laws.proofs.EveryWay.Law.{fitting-symbol}
 use Rattle.cpp_press_laws.proofs.Components.AddedTrees.{fitting-few, arguments-counted}
 use Rattle.cpp_press_laws.proofs.ByKind.Shapes.{symbol-read-fits}

@@ -1,4 +1,4 @@
--- A symbol's tree, pressed, has no more components spelled out than the symbol spells.
+-- Pressing a symbol's tree spells out at most as many components as the symbol has candidates.
 use Rattle.std.specs.Prelude.{◌≡◌, ◌≤◌, List, length, Ok}
 use Rattle.sym_shape.specs.Tree.{Tree as Shape}
 use Rattle.sym_link.specs.Reading.{Found}

@@ -1,5 +1,5 @@
--- Where a tree can be spelled so that it is read again. Each component comes before, or has a spelling where it is,
--- whose parts have theirs after the components that are spelled before them. The ways here are those of `ways_of`.
+-- Where a tree can be spelled so that it is read again: each component in it has an equal component before it, or can be spelled
+-- out in its place, after the components before it. The ways here are those of `ways_of`.
 use Rattle.std.specs.Prelude.{◌≡◌, ℕ, ◌+◌, ◌<◌, ◌⊎◌, length, List, [], ◌∷◌, ◌++◌, Option, Some, None, Bool, true, false, cond, not, ◌&&◌, ◌||◌, ◌^◌, nat_lt, codes}
 use Rattle.sym_core.specs.declared.NumberKind.TheVariants.{Decimal, Digits}
 use Rattle.sym_spell.specs.Pressing.{◌and◌, text}
@@ -19,12 +19,12 @@ use Rattle.cpp_press_laws.specs.Spellable.{IsSpellableName, AreSpellableDigits, 
 
 -- ## References
 
--- the packs that a tree names have the length that is allowed
+-- a tree names no packs, or it is in an expansion and its packs have the allowed length
 abbrev pub PacksFit : Around → (allowed : Option ℕ) → (packs : Option ℕ) → Type 0
 PacksFit around allowed packs = (packs ≡ None) ⊎ ((around.in_expansion ≡ true) × (packs ≡ allowed))
 
--- A tree may be referred to where it is, if it comes before. In the signature of a lambda, a tree with free parameters
--- may not.
+-- Where a reference to a tree is allowed: the packs that the tree names have the allowed length, and in the signature of a
+-- lambda the tree has no free parameters.
 pub record MayBeReferred (around : Around) (allowed : Option ℕ) (t : Term) : Type 0 where
   pub lambda : is_open t && around.in_lambda ≡ false
   pub packs : PacksFit around allowed (packs_in around.scope t)
@@ -35,29 +35,29 @@ pub record MayBeReferred (around : Around) (allowed : Option ℕ) (t : Term) : T
 abbrev pub Standing : Type 1
 Standing = (place : ℕ) → List Component → Type 0
 
--- what may hold in surroundings, where packs may have a length
+-- what may hold in surroundings that allow packs a length, at a place after components
 abbrev pub Fitting : Type 1
 Fitting = Around → (allowed : Option ℕ) → Standing
 
--- what holds after what a spelling writes
+-- what holds after the bytes and the components that a spelling adds
 abbrev pub Behind : Spelling → Standing → Standing
 Behind spelling stands place cs = stands (place + length (spelling place cs).bytes) (spelling place cs).components
 
--- no equal component comes before
+-- no component before is equal to the tree
 abbrev pub IsFirst : Around → Term → List Component → Type 0
 IsFirst around own cs = first_equal around.encoding own 0 cs ≡ None
 
--- a component: it may be referred to, and where no equal one comes before, it can be spelled out
+-- a component: it may be referred to, and if no equal component comes before, it can be spelled out
 abbrev pub as_component : Term → Fitting → Fitting
 as_component own spelled around allowed place cs = MayBeReferred around allowed own × (IsFirst around own cs
     → spelled around allowed place cs)
 
--- a component without a spelling of its own: an equal one comes before
+-- a component that can't be spelled out, so an equal component must come before
 abbrev pub as_reference : Term → Fitting
 as_reference own = as_component own (λ around allowed place cs. ⊥)
 
--- Before arguments, a template name is a component. Where an equal one comes before, the arguments follow a reference to it;
--- else they follow its spelling, which ends a component.
+-- Before arguments, a template name is a component. If an equal component comes before, the arguments follow a reference to
+-- it; otherwise they follow its spelling, which ends a component.
 abbrev pub as_template : Term → Fitting → (front : ℕ → Spelling) → (arguments : Fitting) → Fitting
 as_template own spelled front arguments around allowed place cs =
     MayBeReferred around allowed own
@@ -69,18 +69,18 @@ as_template own spelled front arguments around allowed place cs =
 abbrev pub behind_bytes : List ℕ → Fitting → Fitting
 behind_bytes bytes fitting around allowed place cs = fitting around allowed (place + length bytes) cs
 
--- a name of one piece after a prefix
+-- a name of one piece, read after this prefix
 abbrev pub one_piece : Prefix → (may : Bool) → Fitting → Fitting
 one_piece prefix may piece around allowed place cs = (around.prefix ≡ prefix) × (may ≡ true) × piece around allowed place cs
 
--- one fact where a test holds, and another where it doesn't
+-- the first fact if a test holds, otherwise the second
 unfoldable pub either : Bool → (one other : Type 0) → Type 0
 either true one other = one
 either false one other = other
 
 -- ## Where types are
 
--- anywhere; right under qualifiers; as an item of a list; as a parameter of a function type; as the type of a literal
+-- anywhere; right under qualifiers; an item of a list; a parameter of a function type; the type of a literal
 pub data Slot : Type 0 where
   any_type : Slot
   bare_type : Slot
@@ -88,12 +88,12 @@ pub data Slot : Type 0 where
   parameter_type : Slot
   literal_type : Slot
 
--- all types but those that no literal has
+-- all slots except that of a literal's type
 unfoldable pub takes_all : Slot → Bool
 takes_all literal_type = false
 takes_all _ = true
 
--- qualified types are under no qualifiers
+-- all slots except that of a literal's type and that under qualifiers
 unfoldable pub takes_qualified : Slot → Bool
 takes_qualified bare_type = false
 takes_qualified literal_type = false
@@ -104,7 +104,7 @@ takes_expansions item_type = true
 takes_expansions parameter_type = true
 takes_expansions _ = false
 
--- a builtin type's letter, or the letter after its D
+-- a builtin type has one letter, or a D and a second letter
 abbrev pub IsBuiltin : Slot → (code : List ℕ) → Type 0
 IsBuiltin literal_type (b ∷ []) = (b < 256) × (choose Kind.LiteralType b ≡ Some Production.Builtin)
 IsBuiltin slot (b ∷ []) = (b < 256) × (choose Kind.Solid b ≡ Some Production.Builtin)
@@ -118,7 +118,7 @@ IsAbbreviation letter = (letter < 256) × (choose Kind.Abbreviation letter ≡ S
 unfoldable pub has_letters : Qualifiers → Bool
 has_letters q = q.restrict || q.volatile || q.const
 
--- a parameter names an argument of the scope, of packs whose length is allowed
+-- a parameter names an argument of the scope; if the argument is a pack, its length is allowed
 pub record NamesArgument (around : Around) (allowed : Option ℕ) (k : ℕ) : Type 0 where
   pub arguments : Term
   pub scoped : around.scope ≡ Some arguments
@@ -180,7 +180,7 @@ IsSpellableSuffix [] = Unit {0}
 IsSpellableSuffix (dot ∷ []) = ⊥
 IsSpellableSuffix (dot ∷ b ∷ bs) = (dot ≡ 46) × (b < 256) × (choose Kind.SuffixFirst b ≡ Some Production.SuffixByte) × AreSuffixBytes bs
 
--- each mark but that of a function whose object is its first parameter, which the wide grammar alone reads
+-- each mark except that of an explicit object, a mark that only the wide grammar reads
 abbrev pub IsAbiMark : RefQualifier → Type 0
 IsAbiMark explicit_object = ⊥
 IsAbiMark _ = Unit {0}
@@ -201,13 +201,13 @@ unfoldable pub letters_of : Role → List ℕ
 letters_of in_type = []
 letters_of (in_name_with q ref) = name_letters q ref
 
--- a piece that is the whole entity
+-- the pieces that may be the whole entity, by its role
 unfoldable pub names_in : Role → Term → Bool
 names_in in_type p = begins_name p
 names_in (in_name_with q ref) p = names_entity p
 
--- Where a tree can be in each of its ways. A template name before the arguments that end a prefix, a name between N and E, or an
--- entity, has a field of its own, since no name that ends in arguments is one.
+-- Where a tree can be, in each of its ways. The `_template` fields are for a template name whose arguments end a prefix, a name
+-- between N and E, or an entity: a name that already ends in arguments can't be such a template name.
 pub record Fits : Type 1 where
   pub as_type : Slot → Fitting
   pub as_prefix : Fitting
@@ -250,7 +250,7 @@ fits_nowhere = record {
   as_elements = λ in_pack. nowhere;
 }
 
--- a component that isn't a name made of pieces: as a prefix and before arguments there is only a reference to it
+-- a component that isn't a name made of pieces: as a prefix and before arguments it can only be a reference
 unfoldable pub type_fits : Term → (Slot → Fitting) → Fits
 type_fits own spelled = record fits_nowhere {
   as_type = λ slot. as_component own (spelled slot);
@@ -269,12 +269,12 @@ argument_fits fitting = record fits_nowhere { as_argument = fitting }
 unfoldable pub encoding_fits : ((allowed : Option ℕ) → Standing) → Fits
 encoding_fits standing = record fits_nowhere { as_encoding = standing }
 
--- an encoding's own name has no letters
+-- there are no letters
 abbrev pub IsWithoutLetters : List ℕ → Type 0
 IsWithoutLetters [] = Unit {0}
 IsWithoutLetters (l ∷ ls) = ⊥
 
--- a name that needs no N without letters, and between N and E after letters
+-- a name that needs an N only for letters: without letters it is spelled alone, and after letters between N and E
 unfoldable pub by_letters : (letters : List ℕ) → (own between : Fitting) → Fitting
 by_letters [] own between = own
 by_letters (l ∷ ls) own between = behind_bytes (codes "N" ++ l ∷ ls) between
@@ -282,7 +282,7 @@ by_letters (l ∷ ls) own between = behind_bytes (codes "N" ++ l ∷ ls) between
 -- where a tree can be
 unfoldable pub fits_of : Term → Fits
 fits_of (symbol e suffix) = fits_nowhere
--- encodings: in its own name an encoding gives no scope, and in its types its last arguments are the scope
+-- encodings: the own name of an encoding has no scope, and its types have the name's last arguments as their scope
 fits_of (function name q ref returned parameters) =
     encoding_fits (λ allowed here cs.
     (fits_of name).as_name q ref (in_name here) allowed here cs
@@ -310,7 +310,7 @@ fits_of (alone p) = record fits_nowhere {
       (λ n. (ways_of n p).as_piece);
   as_argument = λ in_pack. as_component (alone p) (one_piece outermost (names_type p) (fits_of p).as_piece);
 }
--- a piece after St; an operator is between N and E in a type
+-- a piece after St; in a type, an operator is between N and E
 fits_of (in_std p) =
     let std : Fitting = λ around allowed place cs. (names_function p ≡ true) × (fits_of p).as_piece around allowed (place + 2) cs in
     let typed_std : Fitting = behind_bytes (elim (is_operator p) [ true ↦ codes "N" | false ↦ [] ]) std in
@@ -326,7 +326,7 @@ fits_of (in_std p) =
           (λ n. text (elim (typed && is_operator p) [ true ↦ codes "N" | false ↦ [] ]) and text (codes "St") and (ways_of n p).as_piece);
       as_argument = λ in_pack. as_component (in_std p) typed_std;
     }
--- a piece after a prefix; in the scope of an encoding it is the first one of an entity's name
+-- a piece after a prefix; after an encoding, it is the first piece of an entity's name
 fits_of (within prefix p) =
     let joined : Fitting = λ around allowed place cs.
     (fits_of prefix).as_prefix around allowed place cs
@@ -459,7 +459,7 @@ fits_of (address_of e) = argument_fits (λ in_pack around allowed place cs. (fit
 fits_of (pack elements) =
     argument_fits (λ in_pack around allowed place cs.
     (in_pack ≡ false) × (fits_of elements).as_elements true around allowed (place + 1) cs)
--- lists; a lone void is spelled for no parameters
+-- lists; an empty list of parameters is spelled as a lone void
 fits_of nil = record fits_nowhere {
   as_parameters = λ slot. anywhere;
   as_more_parameters = λ slot. anywhere;
@@ -476,8 +476,8 @@ fits_of (list first rest) =
           (fits_of first).as_argument in_pack around allowed place cs
           × Behind (ways_of around.encoding first).as_argument ((fits_of rest).as_elements in_pack around allowed) place cs;
     }
--- Generated by tools/trees.py. Construction vtables, clones, what holds others in its initializer, constructors that are inherited, lambdas with
--- parameters of their own, conversions, floats with a number of bits, entities of default arguments, and expressions are read by the wide grammar alone
+-- Generated by tools/trees.py. Only the wide grammar reads construction vtables, clones, entities whose initializers hold others, inherited constructors, lambdas
+-- with parameters of their own, conversions, floats with a number of bits, entities of default arguments, and expressions.
 fits_of (construction derived digits parent) = fits_nowhere
 fits_of (clone letter e) = fits_nowhere
 fits_of (holder name) = fits_nowhere

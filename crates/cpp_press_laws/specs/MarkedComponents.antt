@@ -11,7 +11,7 @@ pub record Marked : Type 0 where
   pub component : Component
   pub was_compared : Bool
 
--- what the components are, without their marks
+-- the components without their marks
 abbrev pub unmarked : List Marked → List Component
 unmarked [] = []
 unmarked (c ∷ cs) = c.component ∷ unmarked cs
@@ -26,7 +26,7 @@ ended was_compared encoding own place components = record {
   components = components ++ record { component = record { tree = own; encoding = encoding }; was_compared = was_compared } ∷ [];
 }
 
--- a component that was compared with those before it, and is equal to none of them; and one that wasn't compared
+-- a component that was compared with those before it, and is equal to none of them; then a component that wasn't compared
 abbrev pub compared : (encoding : ℕ) → Term → Spelling
 compared = ended true
 
@@ -36,7 +36,7 @@ not_compared = ended false
 unfoldable pub reference : (number : ℕ) → Spelling
 reference number = text (codes "S" ++ seq_id number ++ codes "_")
 
--- a reference to the tree and one spelling, if an equal component comes before; otherwise another spelling
+-- if an equal component comes before, a reference to it and the spelling `behind`; otherwise the spelling `other`
 unfoldable pub referred : (encoding : ℕ) → Term → (behind other : Spelling) → Spelling
 referred encoding own behind other place components =
     elim (first_equal encoding own 0 (unmarked components)) [
@@ -44,7 +44,7 @@ referred encoding own behind other place components =
       | None ↦ other place components
     ]
 
--- a reference to the first component that is equal to the tree, or its spelling
+-- a reference to the first component that is equal to the tree; if there is none, the tree's spelling
 unfoldable pub component : (encoding : ℕ) → Term → Spelling → Spelling
 component encoding own spelling place components =
     elim (first_equal encoding own 0 (unmarked components)) [

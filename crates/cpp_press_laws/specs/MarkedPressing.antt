@@ -9,7 +9,7 @@ use Rattle.cpp_press_laws.specs.Texts.{counted, ordinal, signed_text, qualifier_
 use Rattle.cpp_press_laws.specs.MarkedComponents.{compared, not_compared, Spelling, referred, component}
 use Rattle.cpp_press_laws.specs.Pressing.{is_operator, is_nested, is_one_piece}
 
--- How a tree is spelled depends on where it is. So each tree has these ways; only those count in which it can be.
+-- How a tree is spelled depends on where it is, so each tree has these ways. Only the ways in which it can be spelled count.
 pub record Ways : Type 0 where
   -- a type; one right under qualifiers; a prefix; a name between N and E; a piece of a name
   pub as_type : Spelling
@@ -88,7 +88,7 @@ name_ways encoding name type own prefix between before =
       as_argument = typed;
     }
 
--- A template name and its arguments. Where the name can be a reference, nothing needs an N; else the name is spelled out,
+-- A template name and its arguments. If the name can be a reference, nothing needs an N; otherwise the name is spelled out,
 -- between N and E where it needs them.
 unfoldable pub template_before : (encoding : ℕ) → Term → (needs_N : Bool) → (between arguments : Spelling) → Spelling
 template_before encoding template needs_N between arguments =
@@ -105,7 +105,7 @@ local_text around entity between discriminator letters =
 
 -- ## Trees
 
--- an encoding is spelled with its own place, which its components are kept with
+-- the spelling of an encoding gets the encoding's own place, and its components are kept with that place
 unfoldable pub begun : ((encoding : ℕ) → Spelling) → Spelling
 begun spelling place components = spelling place place components
 
@@ -161,8 +161,8 @@ ways_of n (list first rest) =
     let r = ways_of n rest in
     let more = f.as_type and r.as_more_parameters in
     record no_ways { as_parameters = more; as_more_parameters = more; as_elements = f.as_argument and r.as_elements }
--- The others, each as its row of SPELLED. Of what the wide grammar alone reads these aren't
--- pressed: local entities of default arguments, constructors that are inherited, arrays whose length is an expression,
+-- The other trees, each as its row of cpp_trees.txt says. Five forms that only the wide grammar reads
+-- aren't pressed: local entities of default arguments, inherited constructors, arrays whose length is an expression,
 -- placeholders that a concept constrains, and expressions
 ways_of n (special l type) = encoding_ways (λ here. text (codes "T" ++ l ∷ []) and (ways_of here type).as_type)
 ways_of n (thunk kind e) = encoding_ways (λ here. text (thunk_text kind) and (ways_of here e).as_encoding)

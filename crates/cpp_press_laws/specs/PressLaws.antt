@@ -1,4 +1,4 @@
--- What pressing keeps: pressed bytes are spelled by a shape of the grammar, which is read as the tree that was pressed.
+-- What pressing keeps: pressed bytes are spelled by a shape of the grammar, and this shape is read as the pressed tree.
 use Rattle.std.specs.Prelude.{◌≡◌, ℕ, ◌≤◌, List, length, Ok}
 use Rattle.sym_shape.specs.declared.rule.Sym.TheVariants.{Kind}
 use Rattle.sym_shape.specs.Tree.{Tree as Shape, spell, IsTree}
@@ -18,18 +18,18 @@ pub record AreReadAs (bytes : List ℕ) (t : Term) : Type 0 where
   pub spelled : spell shape ≡ bytes
   pub each : (other : Shape) → IsTree abi (Kind 0) other → spell other ≡ bytes → unfold_cpp other ≡ Ok t
 
--- If some symbol is read as a tree, the tree's pressed bytes are read as the same tree. They are at most 2^64 - 1, as
--- those of any list.
+-- If some symbol is read as a tree, the tree's pressed bytes are read as the same tree. There may be at most 2^64 - 1 of
+-- these bytes, as in any list.
 abbrev pub PressedIsRead : Type 0
 PressedIsRead = (shape : Shape) (t : Term) → IsReadFrom shape t → length (pressed t) ≤ 18446744073709551615 → AreReadAs (pressed t) t
 
--- what is pressed is pressed again unchanged
+-- pressed bytes are read as a tree that is pressed to the same bytes
 abbrev pub PressedOnce : Type 0
 PressedOnce =
     (shape : Shape) (t : Term) → IsReadFrom shape t → length (pressed t) ≤ 18446744073709551615
     → (other : Shape) (again : Term) → IsReadFrom other again → spell other ≡ pressed t → pressed again ≡ pressed t
 
--- Pressed bytes tell trees apart: if two trees that symbols are read as have the same pressed bytes, they are the same
+-- Pressed bytes tell trees apart: if two trees are read from symbols and have the same pressed bytes, they are the same
 -- tree.
 abbrev pub PressedTellsApart : Type 0
 PressedTellsApart =

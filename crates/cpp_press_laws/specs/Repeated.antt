@@ -1,4 +1,4 @@
--- The components whose tree is spelled out again, though a component before them has it.
+-- Components whose tree is spelled out again, although an earlier component has the same tree.
 use Rattle.std.specs.Prelude.{◌≡◌, List, [], ◌∷◌, ◌++◌, ◌⊎◌, Bool, true, false, ◌||◌}
 use Rattle.cpp_grammar.specs.Term.{Term}
 use Rattle.cpp_grammar.specs.Scope.{is_open}
@@ -19,7 +19,7 @@ repeated before (c ∷ cs) = elim (is_spelled c.tree before) [ true ↦ c ∷ re
 abbrev pub repeated_components : Term → List Component
 repeated_components t = repeated [] (spelled_components t)
 
--- each has free parameters, or is a template name at a place in the tree where no reference may be
+-- each of these has free parameters, or is a template name at a place in the tree where no reference may be
 abbrev pub HaveReasons : Term → (repeated : List Component) → Type 0
 HaveReasons tree [] = Unit {0}
 HaveReasons tree (c ∷ cs) = ((is_open c.tree ≡ true) ⊎ IsNeverReferred c.tree tree) × HaveReasons tree cs

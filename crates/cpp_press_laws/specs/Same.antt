@@ -30,7 +30,7 @@ same_thunk (adjusting a) (adjusting b) = same_adjustment a b
 same_thunk (covariant a b) (covariant c d) = same_adjustment a c && same_adjustment b d
 same_thunk _ _ = false
 
--- no digits are not those of zero
+-- an absent discriminator differs from each discriminator with digits, even from that with the digit 0
 unfoldable pub same_discriminator : Option (List ℕ) → Option (List ℕ) → Bool
 same_discriminator None None = true
 same_discriminator (Some a) (Some b) = same_bytes a b

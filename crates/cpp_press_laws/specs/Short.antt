@@ -9,10 +9,10 @@ use Rattle.cpp_press_laws.specs.Pressing.{pressed}
 abbrev pub pressed_a_byte : ℕ
 pressed_a_byte = 64
 
--- The bytes are at most `pressed_a_byte` times those of the symbol, for each symbol that fits and is read as the tree.
+-- The bytes are at most `pressed_a_byte` times as many as the bytes of each symbol that fits and is read as the tree.
 abbrev pub IsShort : Term → (bytes : List ℕ) → Type 0
 IsShort tree bytes = (s : List ℕ) → FitsSymbol s → IsReading s (Ok tree) → length bytes ≤ pressed_a_byte * length s
 
--- the pressed spelling of each tree is as short
+-- the pressed spelling of each tree is short in this sense
 abbrev pub PressedIsShort : Type 0
 PressedIsShort = (tree : Term) → IsShort tree (pressed tree)

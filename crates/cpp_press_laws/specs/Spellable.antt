@@ -1,5 +1,5 @@
--- What holds of the parts of each tree that some symbol is read as: names, numbers, letters and bytes are those that the
--- grammar can spell.
+-- What holds of the parts of each tree that some symbol is read as: the grammar can spell its names, numbers, letters and
+-- bytes.
 use Rattle.std.specs.Prelude.{◌≡◌, ℕ, ◌<◌, ◌≤◌, List, [], ◌∷◌, length, true, false, slice_get, Some, Ok}
 use Rattle.sym_core.specs.declared.NumberKind.{NumberKind}
 use Rattle.sym_core.specs.declared.NumberKind.TheVariants.{Digits}
@@ -17,23 +17,23 @@ use Rattle.cpp_grammar.specs.Values.{Around, State, letter, piece, normal, is_ze
 use Rattle.cpp_grammar.specs.Between.{Continuation, between}
 use Rattle.cpp_grammar.specs.Unfolding.{opening, close}
 
--- a name as it can be spelled: its bytes, and its length, which a name has whose first byte is no digit
+-- a name that can be spelled: its bytes are bytes of names, its length has at most nine digits, and its first byte is no digit
 pub record IsSpellableName (name : List ℕ) : Type 0 where
   pub each : AreNameBytes Cpp name
   pub short : length name ≤ 999999999
   pub first : IsSeparator Cpp [] name
 
--- digits as they are spelled: those of the number's kind, without zeros in front
+-- digits that can be spelled: those of the number's kind, without zeros in front
 pub record AreSpellableDigits (kind : NumberKind) (digits : List ℕ) : Type 0 where
   pub are : AreDigitsOf kind digits
   pub normal_are : normal digits ≡ digits
 
--- a number as it is spelled: digits without zeros in front, and no minus before zero
+-- a number that can be spelled: digits without zeros in front, and no minus before zero
 pub record IsSpellableNumber (n : Signed) : Type 0 where
   pub digits : AreSpellableDigits Digits n.digits
   pub minus : n.negative ≡ true → is_zero n.digits ≡ false
 
--- an operator of two letters: the first chooses a production, whose part is the second
+-- an operator of two letters: the first chooses a production, and the second is the production's one part
 pub record IsOperator (first second : ℕ) : Type 0 where
   pub production : Production
   pub kind : Kind
@@ -49,7 +49,7 @@ pub record IsOperator (first second : ℕ) : Type 0 where
   pub means : (around : Around) (place : ℕ) (began s : State)
       → close production first around place began (letter second ∷ []) s ≡ Ok (found (piece (operator first second)) s)
 
--- the bytes after the first of a suffix: none, or each a byte of suffixes
+-- the bytes after the first byte of a suffix: each is a byte that suffixes may have
 abbrev pub AreSuffixBytes : List ℕ → Type 0
 AreSuffixBytes [] = Unit {0}
 AreSuffixBytes (b ∷ bs) = (b < 256) × (choose Kind.SuffixMore b ≡ Some Production.SuffixByte) × AreSuffixBytes bs

@@ -1,4 +1,4 @@
--- Pressed parts of a symbol are read as those parts, after whatever was spelled before them.
+-- The pressed spelling of a part of a symbol is read as this part, after whatever was spelled before it.
 use Rattle.std.specs.Prelude.{◌≡◌, ℕ, ◌≤◌, ◌⊎◌, List, [], ◌∷◌, length, true, Option, Some, None, Ok}
 use Rattle.sym_shape.specs.declared.rule.Sym.{Sym}
 use Rattle.sym_shape.specs.declared.rule.Sym.TheVariants.{Kind as OfKind}
@@ -26,12 +26,12 @@ Written = spell.Pressed Component
 abbrev pub written : (bytes : List ℕ) → (components : List Component) → Written
 written bytes components = record { bytes = bytes; components = components }
 
--- the packs that the innermost expansion has named so far have the length that they may have
+-- the packs that the innermost expansion has named so far, if any, have the allowed length
 abbrev pub IsAllowed : Option ℕ → Option ℕ → Type 0
 IsAllowed allowed packs = (packs ≡ None) ⊎ (packs ≡ allowed)
 
--- The bytes written at a place are those of a shape for a symbol of the grammar. It is read there as a value with Q,
--- and the components are what may be named after it.
+-- The bytes written at a place spell a shape for a symbol of the grammar. The shape is read there as a value for which Q
+-- holds, and the candidates after it are the components.
 pub record Reads (around : Around) (allowed : Option ℕ) (symbol : Sym) (Q : Value → Type 0) (place : ℕ) (start : State) (w : Written) : Type 0 where
   pub shape : Shape
   pub spelled : spell shape ≡ w.bytes
@@ -43,12 +43,12 @@ pub record Reads (around : Around) (allowed : Option ℕ) (symbol : Sym) (Q : Va
   pub candidates : components_of state.candidates ≡ w.components
   pub packs : IsAllowed allowed state.packs
 
--- what is read at a place after components, in any state there
+-- what is written at a place is read as a value for which Q holds, in any state whose candidates are these components
 abbrev pub ReadsAt : Around → Option ℕ → Sym → (Value → Type 0) → (place : ℕ) → List Component → Written → Type 0
 ReadsAt around allowed symbol Q place components w =
     (s : State) → components_of s.candidates ≡ components → IsAllowed allowed s.packs → Reads around allowed symbol Q place s w
 
--- the value of a part is one that is known
+-- the value is the given one
 abbrev pub Is : Value → Value → Type 0
 Is v w = w ≡ v
 
@@ -69,8 +69,8 @@ IsSmall around = (arguments : Term) → around.scope ≡ Some arguments → coun
 
 -- ## The laws
 
--- Each part is read as its tree where it is pressed: at any place, after any components, in any state in which they are the
--- candidates, where the tree fits and its numbers have 64 bits.
+-- Each part is read as its tree where it is pressed, if the tree fits there and lengths have 64 bits: at any place, after any
+-- components, and in any state whose candidates are these components.
 abbrev pub IsReadBehind : Kind → Term → (ℕ → Spelling) → Fitting → Type 0
 IsReadBehind kind t spelled fits =
     (around : Around) (allowed : Option ℕ) (place : ℕ) (cs : List Component) → IsSmall around → HasRoom (spelled around.encoding place cs)

@@ -34,7 +34,7 @@ mark_letter explicit_object = codes "H"
 unfoldable pub name_letters : Qualifiers → RefQualifier → List ℕ
 name_letters q ref = qualifier_letters q ++ mark_letter ref
 
--- the code of a special name of a name, by its last letter (ABI 5.1, `<special-name>`)
+-- the code of a special name that is about a name, by the code's last letter (ABI 5.1, `<special-name>`)
 abbrev pub special_code : ℕ → List ℕ
 special_code letter = special_front letter ∷ letter ∷ []
 
@@ -47,7 +47,7 @@ unfoldable pub thunk_text : Thunk → List ℕ
 thunk_text (adjusting a) = codes "T" ++ offset_text a
 thunk_text (covariant a b) = codes "Tc" ++ offset_text a ++ offset_text b
 
--- one digit comes after one underscore, more come after two and before a third (ABI 5.1, `<discriminator>`)
+-- one digit comes after one underscore; more digits come after two underscores and before a third (ABI 5.1, `<discriminator>`)
 unfoldable pub discriminator_text : Option (List ℕ) → List ℕ
 discriminator_text None = []
 discriminator_text (Some (d ∷ [])) = codes "_" ++ (d ∷ [])

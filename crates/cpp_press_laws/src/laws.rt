@@ -9,21 +9,22 @@ ghost use Rattle.cpp_press_laws.specs.Same.{same_tree};
 ghost use Rattle.cpp_press_laws.specs.Short.{PressedIsShort};
 ghost use Rattle.cpp_press_laws.specs.Subtrees.{EncodingsAreRead, SymbolsFit, TypesAreRead};
 
-/// If some C++ symbol is read as a tree, the pressed spelling of the tree is well shaped, and every shape that spells
-/// it is read as the same tree: no qualifier, no discriminator and no suffix is lost. The pressed bytes are at most
-/// 2^64 - 1, as those of any list.
+/// If some C++ symbol is read as a tree, the pressed spelling of the tree is well shaped, and every
+/// shape that spells it is read as the same tree: no qualifier, no discriminator and no suffix is
+/// lost. There may be at most 2^64 - 1 pressed bytes, as in any list.
 pub fn pressed_is_read()
     ensures { PressedIsRead }
 {}
 
-/// A tree that a pressed spelling is read as is pressed to the same bytes, if these are at most 2^64 - 1.
+/// If a pressed spelling is read as a tree, this tree is pressed to the same bytes, if they are at most 2^64 - 1.
 pub fn pressed_once()
     ensures { PressedOnce }
 {}
 
-/// Each type and each encoding is read as itself where it is pressed, at any place after any components, where it fits there
-/// (`fits_of`): each component comes before or can be spelled out. The tree that a symbol is read as fits from the symbol's
-/// first byte on. The laws of whole symbols follow.
+/// Each type and each encoding is read as itself where it is pressed, at any place and after any
+/// components, if it fits there (`fits_of`): each component in it has an equal component before it, or
+/// can be spelled out. The tree that a symbol is read as fits from the symbol's first byte on. The
+/// laws of whole symbols follow.
 pub fn subtrees_are_read()
     ensures types { TypesAreRead }
     ensures encodings { EncodingsAreRead }
@@ -35,30 +36,31 @@ pub fn pressed_tells_apart()
     ensures { PressedTellsApart }
 {}
 
-/// Pressing takes two trees for the same where they are equal, and nowhere else: no mark, number, name or discriminator is left
-/// out.
+/// The test of `same_tree` takes two trees for the same exactly if they are equal: it leaves out no mark, number, name or
+/// discriminator.
 pub fn trees_are_compared()
     ensures equal { (one other : Term) → same_tree one other ≡ true → one ≡ other }
     ensures itself { (tree : Term) → same_tree tree tree ≡ true }
 {}
 
-/// A component that was compared with those before it, where it is, is equal to none of them; with free parameters, to
-/// none of its own encoding. Only a template name can be a component that wasn't compared, and only where its arguments
-/// end the name of an entity after `Z..E`, or an encoding's own name with qualifiers or a reference mark: no reference
-/// may be there. The spelling with these marks is the pressed spelling, byte by byte.
+/// A component that was compared with those before it is equal to none of them; a component with
+/// free parameters was compared only with those of its own encoding. Only a template name can be a
+/// component that wasn't compared, and only if its arguments end the name of an entity after
+/// `Z..E`, or an encoding's own name with qualifiers or a reference mark: no reference may be there.
+/// The spelling with these marks is the pressed spelling, byte by byte.
 pub fn components_are_apart()
     ensures marked { ComponentsAreMarked }
     ensures apart { ComponentsAreApart }
 {}
 
-/// A component whose tree is spelled out already, in whatever encoding, has free parameters, or is a template name at a
-/// place in the symbol where no reference may be.
+/// If the tree of a component is spelled out already, in whatever encoding, the component has free
+/// parameters, or is a template name at a place in the symbol where no reference may be.
 pub fn repeated_components_have_reasons()
     ensures { RepeatedComponentsHaveReasons }
 {}
 
-/// At most as many components of a symbol's tree are spelled out as the symbol has candidates: what the symbol names by
-/// a reference is a reference again, and what it spells out is spelled out at most once.
+/// At most as many components of a symbol's tree are spelled out as the symbol has candidates: where the symbol has a
+/// reference, the spelling has one again, and what the symbol spells out is spelled out at most once.
 pub fn components_are_few()
     ensures { ComponentsAreFew }
 {}

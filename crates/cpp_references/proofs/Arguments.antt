@@ -1,10 +1,5 @@
--- The arguments that a name ends in: where no parameter is free in the name none is in them, nor in one of them.
-use Rattle.std.proofs.Common.{◌≡◌, refl, ap, subst, ℕ, zero, suc, Bool, true, false, Option, Some, None}
-use Rattle.std.specs.Prelude.{IfSome}
-use Rattle.cpp_term.specs.Term.{Term, instance, local, of_default, list}
-use Rattle.cpp_term.specs.Scope.{is_open, arguments_of, element}
-use Rattle.cpp_term.specs.Between.{closed_arguments}
-use Rattle.cpp_term.proofs.Notes.{or_left, or_right}
+-- The arguments that a name ends in: if no parameter is free in the name, none is free in the arguments, nor in any of them.
+use Rattle.cpp_references.proofs.Basics.{◌≡◌, refl, ap, subst, ℕ, zero, suc, Bool, true, false, Option, Some, None, IfSome, Term, instance, local, of_default, list, is_open, arguments_of, element, closed_arguments, or_left, or_right}
 
 arguments_closed : (t : Term) → is_open t ≡ false → IfSome (arguments_of t) (λ a. is_open a ≡ false)
 unfolding is_open arguments_of

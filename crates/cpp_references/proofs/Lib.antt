@@ -1,4 +1,5 @@
 pub mod Arguments
+pub mod Basics
 pub mod Functions
 pub mod MeantHere
 pub mod Named

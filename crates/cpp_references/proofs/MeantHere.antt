@@ -1,23 +1,9 @@
 -- The value here of a tree that was made elsewhere.
-use Rattle.std.proofs.Common.{◌≡◌, ◌∙◌, sym, ap, ℕ, Bool, true, false, not, ◌&&◌, Option, Some, None, Result, Ok, Err}
-use Rattle.std.specs.Prelude.{nat_lt}
-use Rattle.sym_core.specs.declared.refusal.Refusal.{Refusal}
-use Rattle.sym_core.specs.declared.refusal.Refusal.TheVariants.{BadReference}
-use Rattle.sym_link.specs.Reading.{Found, ◌>>=◌}
-use Rattle.sym_link.specs.Unfold.{found}
-use Rattle.cpp_grammar.specs.Scope.{Free, none_free, one_free, several_free}
+use Rattle.cpp_references.proofs.Basics.{◌≡◌, ◌∙◌, sym, ap, ℕ, Bool, true, false, not, ◌&&◌, Option, Some, None, Result, Ok, Err, nat_lt, Refusal, BadReference, Found, ◌>>=◌, found, Free, none_free, one_free, several_free, reargued, Term, count, element, is_list, has_pack, free_in, pack_length, Around, State, Value, tree, with_packs, in_scope, under_scope, with_free, restated, both, free_is}
 use Rattle.cpp_term.specs.Items.{auto}
-use Rattle.cpp_term.specs.Reargued.{reargued}
-use Rattle.cpp_term.specs.Term.{Term}
-use Rattle.cpp_term.specs.Scope.{count, element, is_list, has_pack, free_in, pack_length}
-use Rattle.cpp_term.specs.Values.{Around, State, Value, tree}
-use Rattle.cpp_term.specs.References.{with_packs}
-use Rattle.cpp_term.specs.Rescoping.{in_scope, under_scope, with_free, restated}
-use Rattle.cpp_term.proofs.Notes.{both}
-use Rattle.cpp_tree.specs.Nodes.{free_is}
 use Rattle.cpp_tree.specs.declared.node.Free.{Free as Noted}
 
--- which parameters are free in a node's tree
+-- if one free parameter is noted, the tree has exactly this free parameter
 pub one_is : {g : Free} (f : Noted) (k : ℕ) → f ≡ Noted.One k → free_is f ≡ g → one_free k ≡ g
 unfolding free_is
 one_is f k is free = sym (ap free_is is) ∙ free
@@ -45,7 +31,7 @@ module _ (around : Around) (place : ℕ) (t : Term) (state : State) where
   unfolding restated
   outside is = ap (λ b. elim b as (λ _. Named) [ true ↦ Ok (found (tree (reargued (Some auto) t) true) state) | false ↦ of_free (free_in t) ]) is
 
-  -- elsewhere it depends on which parameters are free
+  -- outside a lambda's signature, what is meant depends on which parameters are free
   pub restated_by : around.in_lambda ≡ false → (f : Free) → f ≡ free_in t → restated around place t state ≡ of_free f
   restated_by apart f is = outside apart ∙ ap of_free (sym is)
 

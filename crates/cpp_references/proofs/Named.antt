@@ -1,17 +1,7 @@
 -- What a parameter names.
-use Rattle.std.proofs.Common.{◌≡◌, ◌∙◌, ap, subst, ℕ, List, true, false, Option, Some, None, Result, Ok, Err}
-use Rattle.std.specs.Prelude.{nat_lt, IfSome}
-use Rattle.sym_core.specs.declared.refusal.Refusal.{Refusal}
-use Rattle.sym_core.specs.declared.refusal.Refusal.TheVariants.{BadReference}
-use Rattle.sym_link.specs.Reading.{◌>>=◌}
+use Rattle.cpp_references.proofs.Basics.{◌≡◌, ◌∙◌, ap, subst, ℕ, List, true, false, Option, Some, None, Result, Ok, Err, nat_lt, IfSome, Refusal, BadReference, ◌>>=◌, Term, parameter, absent, is_open, count, element, length_if_pack, Around, State, appended, with_packs, parameter_named, argument_at, tree_at, tree_if_there}
 use Rattle.sym_core.specs.declared.refusal.Refusal.TheVariants as refusals
 use Rattle.sym_link.specs.Driving.{Fails}
-use Rattle.cpp_term.specs.Term.{Term, parameter, absent}
-use Rattle.cpp_term.specs.Scope.{is_open, count, element, length_if_pack}
-use Rattle.cpp_term.specs.Values.{Around, State}
-use Rattle.cpp_term.specs.References.{appended, with_packs, parameter_named}
-use Rattle.cpp_term.specs.Between.{argument_at}
-use Rattle.cpp_tree.specs.Nodes.{tree_at, tree_if_there}
 
 pub fails_is : {A : Type 0} (e : Refusal) (r : Result A Refusal) → r ≡ Err e → Fails e r
 fails_is refusals.Memory r is = tt

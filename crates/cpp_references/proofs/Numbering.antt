@@ -1,10 +1,6 @@
 -- Candidates by their numbers.
-use Rattle.std.proofs.Common.{◌≡◌, refl, ℕ, zero, suc, ◌<◌, List, [], ◌∷◌}
-use Rattle.std.specs.Prelude.{slice_get, IfSome}
-use Rattle.cpp_term.specs.Term.{Term}
+use Rattle.cpp_references.proofs.Basics.{◌≡◌, refl, ℕ, zero, suc, ◌<◌, List, [], ◌∷◌, slice_get, IfSome, Term, candidates_of, AreNodesThere, maybe_candidate}
 use Rattle.cpp_references.specs.declared.candidates.Candidate.{Candidate}
-use Rattle.cpp_references.specs.Around.{candidates_of, AreNodesThere}
-use Rattle.cpp_references.specs.References.{maybe_candidate}
 
 -- a candidate by its number
 pub candidate_at : (ts : List Term) (cs : List Candidate) (k : ℕ) → maybe_candidate ts (slice_get cs k) ≡ slice_get (candidates_of ts cs) k

@@ -30,7 +30,7 @@ unfoldable pub parameter_read : Around → List ℕ → Stored → State → Res
 parameter_read around s y state (Ok r) = Ok (appended around (tree_of_node s y r.0) (record state { packs = r.1 }))
 parameter_read around s y state (Err e) = Err e
 
--- a tree with the argument that is meant here, or with those of a scope, where that is this node
+-- a tree re-read with the argument at this node: the one that is meant here, or the list of a scope's arguments
 unfoldable pub argument_read : List Term → Term → State → Result (ℕ × Option ℕ) Refusal → Result (Found Value State) Refusal
 argument_read ts t state (Ok r) = Ok (found (values.tree (reargued (Some (tree_at ts r.0)) t) true) (record state { packs = r.1 }))
 argument_read ts t state (Err e) = Err e

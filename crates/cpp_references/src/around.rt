@@ -4,15 +4,16 @@ ghost use Rattle.std.specs.Prelude.{◌≡◌, ℕ, List};
 ghost use Rattle.cpp_term.specs.Term.{Term};
 ghost use Rattle.cpp_references.specs.Around.{scope_of, is_lambda, is_constraint, is_literal, name_of, packs_of, around_of, IsKeptThere};
 
-/// The name so far, and whether it is a candidate already or never is one.
+/// The name so far, and whether it is a candidate already or never becomes one.
 #[derive(Clone, Copy)]
 pub enum Prefix {
     Outermost,
     Behind { node: u32, listed: bool },
 }
 
-/// What parameters name: nothing; nothing as in the signature of a lambda or in what is declared of an argument, as in a
-/// constraint, or as where an encoding begins that a literal there denotes; or arguments.
+/// What parameters name: nothing; nothing in the signature of a lambda or in the declaration of an
+/// argument; nothing in a constraint; nothing where a literal in a constraint begins an encoding;
+/// or arguments.
 #[derive(Clone, Copy)]
 pub enum Scope {
     Nothing,
@@ -22,7 +23,7 @@ pub enum Scope {
     Arguments,
 }
 
-/// Whether there is a name so far, and whether it is a candidate already or never is one.
+/// Whether there is a name so far, and whether it is a candidate already or never becomes one.
 #[derive(Clone, Copy)]
 pub enum Naming {
     Outermost,
@@ -30,7 +31,7 @@ pub enum Naming {
     Listed,
 }
 
-/// What surrounds a part, and the length of the packs where its rule began.
+/// What surrounds a part, and the length that the packs had where its rule began.
 ///
 /// Its fields leave no gap in memory, since it goes from call to call.
 #[derive(Clone, Copy)]
@@ -65,7 +66,8 @@ impl Surroundings {
         }
     }
 
-    /// Whether it is in the signature of a lambda, in what is declared of an argument, or in a constraint.
+    /// Whether the part is in the signature of a lambda, in the declaration of an argument, or in a
+    /// constraint.
     #[tactic(auto, unfolding(crate::specs::Around::is_lambda))]
     #[inline(always)]
     pub fn in_lambda(self) -> bool
@@ -80,7 +82,7 @@ impl Surroundings {
         }
     }
 
-    /// Whether it is in a constraint.
+    /// Whether the part is in a constraint.
     #[tactic(auto, unfolding(crate::specs::Around::is_constraint))]
     #[inline(always)]
     pub fn is_unseen(self) -> bool
@@ -92,7 +94,7 @@ impl Surroundings {
         }
     }
 
-    /// Whether an encoding begins that a literal in a constraint denotes.
+    /// Whether an encoding that a literal in a constraint denotes begins here.
     #[tactic(auto, unfolding(crate::specs::Around::is_literal))]
     #[inline(always)]
     pub fn is_passed_over(self) -> bool
@@ -134,7 +136,7 @@ impl Surroundings {
         }
     }
 
-    /// Likewise, where a rule begins when the packs have this length.
+    /// The same surroundings, for a rule that begins when the packs have this length.
     #[tactic(auto, unfolding(crate::specs::Around::around_of, crate::specs::Around::packs_in))]
     #[inline(always)]
     pub fn with_packs(self, packs: Option<u32>) -> Surroundings

@@ -30,17 +30,18 @@ pub enum Counted {
     ByGcc,
     /// By Clang alone.
     ByClang,
-    /// By some of which the reading doesn't know.
+    /// By some compilers that the reading doesn't know.
     BySome,
 }
 
-/// A tree that a substitution may name, the place where the encoding begins in which it was made, and whether it was made in the
-/// signature of a lambda.
+/// A tree that a substitution may name, where the encoding that it was made in begins, and whether
+/// it was made in the signature of a lambda.
 #[derive(Clone, Copy)]
 pub struct Candidate {
     pub node: u32,
     pub encoding: u32,
-    /// The place among all candidates of the one whose number in the longer list is the place of this one, if there is one.
+    /// The place of the candidate whose number in the longer list is this entry's own place, if
+    /// there is one.
     pub longer: usize,
     /// Likewise in the shorter list.
     pub shorter: usize,
@@ -49,7 +50,7 @@ pub struct Candidate {
 }
 
 impl Counted {
-    /// Whether all compilers count it.
+    /// Whether all compilers count the candidate.
     #[tactic(auto, unfolding(crate::specs::Around::counted_of, cpp_grammar::specs::Rescoping::is_by_all))]
     #[inline(always)]
     pub fn is_by_all(self) -> bool
@@ -64,7 +65,7 @@ impl Counted {
         }
     }
 
-    /// Whether those since GCC 13 and Clang 13 count it.
+    /// Whether compilers since GCC 13 and Clang 13 count the candidate.
     #[tactic(auto, unfolding(crate::specs::Around::counted_of, cpp_grammar::specs::Rescoping::is_by_newer))]
     pub fn is_by_newer(self) -> bool
         ensures { result ≡ is_by_newer (counted_of self) }
@@ -78,7 +79,7 @@ impl Counted {
         }
     }
 
-    /// Whether it is counted by some of which the reading doesn't know.
+    /// Whether some compilers that the reading doesn't know count the candidate.
     #[tactic(auto, unfolding(crate::specs::Around::counted_of, cpp_grammar::specs::Rescoping::is_by_some))]
     pub fn is_by_some(self) -> bool
         ensures { result ≡ is_by_some (counted_of self) }
@@ -92,7 +93,8 @@ impl Counted {
         }
     }
 
-    /// By whom the longer list is counted, once it has a candidate more that is counted by others.
+    /// Which compilers count the longer list once it has one more candidate, which these other
+    /// compilers count.
     #[tactic(auto, unfolding(crate::specs::Around::counted_of, cpp_grammar::specs::Rescoping::joined))]
     pub fn joined(self, other: Counted) -> Counted
         ensures { counted_of result ≡ joined (counted_of self) (counted_of other) }
@@ -138,7 +140,7 @@ pub fn numbered(candidates: &[Candidate], counted: Option<u64>) -> Option<Candid
     }
 }
 
-/// The candidate that these digits name: none are the first, and 0 is the next.
+/// The candidate that these digits name: no digits name the first, and 0 names the next.
 pub fn named(candidates: &[Candidate], symbol: &[u8], digits: Span) -> Option<Candidate>
     requires digits { IsWithin digits symbol.now }
     ensures { result ≡ slice_get candidates.now (counted_value kinds.Seq36 (bytes_at symbol.now digits)) }
@@ -149,7 +151,7 @@ pub fn named(candidates: &[Candidate], symbol: &[u8], digits: Span) -> Option<Ca
     )
 }
 
-/// Whether a tree with free parameters may not be named here.
+/// Whether a tree may not be named here, since it has free parameters and was made elsewhere.
 fn is_foreign(kept: Surroundings, is_open: bool, encoding: u32) -> bool
     ensures { result ≡ (is_open && (is_lambda kept.scope || not (nat_eq encoding kept.encoding))) }
 {

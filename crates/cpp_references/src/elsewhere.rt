@@ -1,4 +1,5 @@
-// What a tree that was made elsewhere, in another encoding or in the signature of a lambda, has for its free parameters here.
+// The arguments here for the free parameters of a tree that was made elsewhere: in another
+// encoding, or in the signature of a lambda.
 
 ghost use Rattle.std.specs.Prelude.{◌≡◌, ◌+◌, ◌<◌, ◌^◌, Some, List, length, IfOk, IfErr};
 ghost use Rattle.sym_core.specs.declared.refusal.Refusal.TheVariants as refusals;
@@ -78,7 +79,8 @@ fn argument_by(
     }
 }
 
-/// The scope where several parameters are free in a tree which was made elsewhere, this being the greatest number.
+/// The scope for a tree that was made elsewhere and has several free parameters, of which the greatest
+/// has this number.
 ///
 /// # Errors
 ///
@@ -116,8 +118,8 @@ fn scope_by(
 ///
 /// # Errors
 ///
-/// `BadReference` outside the signature of a lambda, as `argument_by` where one parameter is free in it and as `scope_by` where
-/// several are.
+/// `BadReference` outside the signature of a lambda: as `argument_by` if one parameter is free in
+/// the tree, and as `scope_by` if several are.
 #[tactic(auto, unfolding(crate::specs::References::argument_read, crate::specs::Around::around_of))]
 pub fn argument_here(
     nodes: &Nodes,

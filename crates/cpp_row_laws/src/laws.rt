@@ -9,8 +9,8 @@ ghost use Rattle.cpp_link.specs.Owed.{made_at_end};
 ghost use Rattle.cpp_link.specs.Tables.{quiet_parts};
 ghost use Rattle.cpp_link.specs.RowNodes.{nodes_at_end, nodes_before};
 
-/// How many of its parts have nothing done before them in a production, how many nodes it makes before each part and at its
-/// end, and how many it makes at most, is what its row says.
+/// A production's row says how many of its parts have nothing done before them, how many nodes it
+/// makes before each part and at its end, and how many it makes at most.
 pub fn counts_are_rows()
     ensures quiet { (p : Production) → quiet_parts p ≡ quiet_before (row_of p) }
     ensures most { (p : Production) → made_at_end p ≡ most_at_end (row_of p).form }

@@ -5,7 +5,7 @@ use Rattle.sym_parts.specs.declared.spelling.Span.{Span}
 use Rattle.cpp_spelled.specs.Spelled.{last_end, parameters_in}
 use Rattle.cpp_spelled.specs.declared.outline.Reached.{Reached}
 
--- the last of these spans
+-- the end of the last of these spans is their `last_end`
 last_is : (other s : Span) (ss : List Span) → (get_or (s ∷ ss) (length ss) other).to ≡ last_end s.to ss
 unfolding last_end
 last_is other s [] = refl

@@ -1,4 +1,4 @@
--- What is listed of each production, by its number.
+-- The sort that is listed for each production, by the production's number.
 use Rattle.std.proofs.Common.{◌≡◌, refl, ℕ, zero, suc, List, [], ◌∷◌, map, get_or, slice_get, Some, None}
 use Rattle.cpp_grammar.specs.Grammar.{productions}
 use Rattle.cpp_grammar.specs.declared.production.Production.{Production}

@@ -8,20 +8,20 @@ use Rattle.cpp_spelled.specs.Outline.{nowhere, outlined, next_number, outline_fr
 use Rattle.cpp_spelled.specs.declared.outline.Reached.{Reached}
 use Rattle.cpp_spelled.specs.declared.sought.TheConstants.{PASSED_OVER}
 
--- no row is passed over up to a place that isn't ahead
+-- a number `past` that isn't ahead passes over no row
 none_past : (rows : List Row) (n p : ℕ) (xs : List Row) → p ≤ n → outline_from rows n p xs ≡ outline_from rows n n xs
 unfolding outline_from
 none_past rows n p [] at = refl
 none_past rows n p (row ∷ rest) at = rw (le-ltb n p at, le-ltb n n (omega arith)) refl
 
--- rows up to a place are passed over
+-- the rows before the number `past` are passed over
 passes : (rows : List Row) (k n p : ℕ) (xs : List Row) → p ≡ n + k → outline_from rows n p xs ≡ outline_from rows p p (drop k xs)
 unfolding outline_from
 passes rows zero n p xs at = subst (λ m. outline_from rows n p xs ≡ outline_from rows m p xs) (omega (arith, at)) refl
 passes rows (suc k) n p [] at = refl
 passes rows (suc k) n p (row ∷ rest) at = rw (lt-ltb n p (omega (arith, at))) (passes rows k (n + 1) p rest (omega (arith, at)))
 
--- from a row on to the next one of the outline
+-- the outline from a row on begins at the next row that isn't passed over
 jumps : (rows : List Row) (n p m : ℕ) → m ≡ max n p → outline_from rows n p (drop n rows) ≡ outline_from rows m m (drop m rows)
 jumps rows n p m at = go (nat_lt n p) refl
   where
@@ -36,14 +36,14 @@ jumps rows n p m at = go (nat_lt n p) refl
         let is : n ≡ m = omega (arith, behind, at) in
         subst (λ x. outline_from rows n p (drop n rows) ≡ outline_from rows x x (drop x rows)) is (none_past rows n p (drop n rows) behind)
 
--- the rows from one on: that row, and what follows it
+-- the outline from a row on: this row, and what follows it
 step : (rows : List Row) (n m : ℕ) → n < length rows → m ≡ max (n + 1) (next_number n (get_or rows n nowhere))
     → outline_from rows n n (drop n rows) ≡ outlined rows n (get_or rows n nowhere) ∷ outline_from rows m m (drop m rows)
 unfolding outline_from
 step rows n m inside at =
     rw (drop_more rows n nowhere inside, le-ltb n n (omega arith)) (ap (λ xs. outlined rows n (get_or rows n nowhere) ∷ xs) (jumps rows (n + 1) (next_number n (get_or rows n nowhere)) m at))
 
--- one more row of the outline is listed
+-- once one more row is listed, the listed rows and the rest of the outline are still the whole outline
 pub keeps : (rows : List Row) (listed : List Reached) (n m : ℕ) (row : Row) (x : Reached)
     → listed ++ outline_from rows n n (drop n rows) ≡ outline_of rows
     → n < length rows → row ≡ get_or rows n nowhere → x ≡ outlined rows n row → m ≡ max (n + 1) (next_number n row)
@@ -55,12 +55,12 @@ keeps rows listed n m row x so inside there made at =
     ∙ ap (λ xs. listed ++ xs) (sym (step rows n m inside next))
     ∙ so
 
--- what a row of an outline is
+-- the sort of a row of an outline
 sort_is : (n : ℕ) (row : Row) (x : Reached) (rows : List Row) → x ≡ outlined rows n row → x.sort ≡ sort_in row
 unfolding outlined
 sort_is n row x rows made = ap (λ y. y.sort) made
 
--- the next row's number, where rows in a row are gone through
+-- the number of the next row, if the rows within this one are listed
 pub next_open : (n m : ℕ) (row : Row) (x : Reached) (rows : List Row) (b : Bool)
     → x ≡ outlined rows n row → b ≡ is PASSED_OVER x.sort → b ≡ false → m ≡ n + 1 → m ≡ max (n + 1) (next_number n row)
 unfolding next_number
@@ -68,7 +68,7 @@ next_open n m row x rows b made test gone at =
     let closed : is PASSED_OVER (sort_in row) ≡ false = ap (λ s. is PASSED_OVER s) (sym (sort_is n row x rows made)) ∙ sym test ∙ gone in
     rw closed (omega (arith, at))
 
--- the next row's number, where rows in a row are passed over
+-- the number of the next row, if the rows within this one are passed over
 pub next_closed : (n m : ℕ) (row : Row) (x : Reached) (rows : List Row) (b : Bool)
     → x ≡ outlined rows n row → b ≡ is PASSED_OVER x.sort → b ≡ true → m ≡ max (n + 1) x.row.end → m ≡ max (n + 1) (next_number n row)
 unfolding next_number outlined
@@ -76,7 +76,7 @@ next_closed n m row x rows b made test shut at =
     let closed : is PASSED_OVER (sort_in row) ≡ true = ap (λ s. is PASSED_OVER s) (sym (sort_is n row x rows made)) ∙ sym test ∙ shut in
     rw closed (at ∙ ap (λ y. max (n + 1) y.row.end) made)
 
--- no row is left
+-- if no row is left, the listed rows are the whole outline
 pub ended : (rows : List Row) (listed : List Reached) (n : ℕ) → listed ++ outline_from rows n n (drop n rows) ≡ outline_of rows → length rows ≤ n → listed ≡ outline_of rows
 unfolding outline_from
 ended rows listed n so at =

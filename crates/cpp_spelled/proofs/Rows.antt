@@ -12,12 +12,12 @@ use Rattle.cpp_spelled.specs.Within.{IsRowWithin}
 use Rattle.cpp_spelled.specs.declared.outline.Reached.{Reached}
 use Rattle.cpp_spelled.specs.declared.sought.Sought.{Sought}
 
--- what holds of both holds of the one that is chosen
+-- what holds of both holds of the one that a test chooses
 pub either : {X : Type 0} (P : X → Type 0) (b : Bool) (x y : X) → P x → P y → P (if b then x else y)
 either P true x y first second = first
 either P false x y first second = second
 
--- bytes between two places
+-- bytes between two places are within the symbol, if both places are
 pub span_within : (n from to : ℕ) → from ≤ n → to ≤ n → IsSpanWithin n (span from to)
 span_within n from to before behind = go (nat_le from to) refl
   where

@@ -1,5 +1,5 @@
--- The outline of a symbol: the rows that are around the parts of its name, in the order of their bytes, and what each is to them. Types
--- and literals are in it, and what is in them isn't.
+-- The outline of a symbol: the rows around the parts of its name, in the order of their bytes, each with its sort. The row of a
+-- type or of a literal is in the outline, and the rows within it aren't.
 use Rattle.std.specs.Prelude.{ℕ, ◌+◌, List, [], ◌∷◌, slice_index_or, nat_eq, nat_le, nat_lt, if◌then◌else◌}
 use Rattle.sym_shape.specs.declared.rule.Row.{Row}
 use Rattle.sym_shape.specs.declared.rule.TheConstants.{TOKEN}
@@ -18,9 +18,9 @@ nowhere = record { rule = TOKEN; after = 0; from = 0; to = 0; end = 0 }
 abbrev pub row_at : List Row → ℕ → Row
 row_at rows number = slice_index_or rows number nowhere
 
--- The bytes of a row up to the row of the last symbol of its rule, if that is the first or the second in it; else all. The
--- rules of lists end in the rest of the list, so these bytes are an item without those after it; for a tag, they leave out what
--- follows it.
+-- The bytes of a row up to the row of its rule's last symbol, if that is the first or the second row within it; otherwise all its
+-- bytes. The rules of lists end in the rest of the list, so these bytes are an item without the later ones; for a tag, they
+-- leave out what follows the tag.
 unfoldable pub own_bytes : List Row → (number : ℕ) → Row → Span
 own_bytes rows number row =
     if nat_le row.end (number + 1) then span row.from row.to
@@ -54,7 +54,7 @@ outline_of rows = outline_from rows 0 0 rows
 
 -- ## What is found in an outline
 
--- the outline from the first of what is sought on
+-- the outline from its first sought row on
 unfoldable pub from_first : Sought → List Reached → List Reached
 from_first s [] = []
 from_first s (x ∷ xs) = if is s x.sort then x ∷ xs else from_first s xs
@@ -64,17 +64,17 @@ unfoldable pub or_else : List Reached → List Reached → List Reached
 or_else [] ys = ys
 or_else (x ∷ xs) ys = x ∷ xs
 
--- the outline from the last of what is sought on
+-- the outline from its last sought row on
 unfoldable pub from_last : Sought → List Reached → List Reached
 from_last s [] = []
 from_last s (x ∷ xs) = or_else (from_last s xs) (if is s x.sort then x ∷ xs else [])
 
--- the own bytes of all that is sought
+-- the own bytes of all sought rows
 unfoldable pub bytes_of_all : Sought → List Reached → List Span
 bytes_of_all s [] = []
 bytes_of_all s (x ∷ xs) = if is s x.sort then x.own ∷ bytes_of_all s xs else bytes_of_all s xs
 
--- where the first row begins, or the other place
+-- where the first row begins; the given place if there is no row
 unfoldable pub begin_or : List Reached → ℕ → ℕ
 begin_or [] place = place
 begin_or (x ∷ xs) place = x.row.from

@@ -71,7 +71,7 @@ sort_of Production.Items = sort.Parameter
 sort_of Production.Suffix = sort.Suffix
 sort_of _ = sort.Closed
 
--- what the row of a production with a number is
+-- the sort of a row, by the number of its production
 unfoldable pub sort_at : (rule : ℕ) → Sort
 sort_at rule = elim (slice_get productions rule) [ Some production ↦ sort_of production | None ↦ sort.Closed ]
 

@@ -28,7 +28,7 @@ words_in object (x ∷ xs) =
 
 -- ## Names
 
--- where the base begins: after an `St`, or with the name where one reference is all of it
+-- where the base begins: after an `St`, with the name where one reference is the whole name, and otherwise with its component
 unfoldable pub base_begin : Reached → (outline : List Reached) → ℕ
 base_begin x outline =
     if is IN_STD x.sort then x.first.from
@@ -67,7 +67,7 @@ unfoldable pub elements_ahead : List Reached → ℕ
 elements_ahead [] = 0
 elements_ahead (x ∷ xs) = if is ARGUMENT x.sort then 0 else (if is ELEMENT x.sort then 1 + elements_ahead xs else elements_ahead xs)
 
--- the arguments, each with its elements; `before` is how many of those precede them
+-- the arguments, each with its elements; `before` is how many elements precede them
 unfoldable pub arguments_in : (before : ℕ) → List Reached → List Item
 arguments_in before [] = []
 arguments_in before (x ∷ xs) =
@@ -76,12 +76,12 @@ arguments_in before (x ∷ xs) =
 
 -- ## Types
 
--- the first of these spans, or the other
+-- the first of these spans; where there are none, the other span
 unfoldable pub first_or : List Span → Span → Span
 first_or [] other = other
 first_or (s ∷ ss) other = s
 
--- where the last of these spans ends
+-- where the last of these spans ends; the given end if there are none
 unfoldable pub last_end : ℕ → List Span → ℕ
 last_end end [] = end
 last_end end (s ∷ ss) = last_end s.to ss
@@ -101,7 +101,7 @@ unfoldable pub without_return : Bool → List Span → List Span
 without_return true (s ∷ ss) = ss
 without_return _ ss = ss
 
--- ## All
+-- ## All parts
 
 -- these bytes, or those of the base where there are none
 unfoldable pub or_base : Span → (base : Span) → Span
@@ -121,7 +121,7 @@ unfoldable pub suffix_in : List Reached → (base : Span) → Span
 suffix_in [] base = base
 suffix_in (x ∷ xs) base = span x.row.from x.row.to
 
--- what spells the parts that come once, of a name with this outline, whose last component begins `name`
+-- what spells the parts that come once, by a name's outline and by `name`, which is the outline from the last component on
 unfoldable pub once_in : (outline name : List Reached) → (base : Span) → (types : List Span) → (returns : Bool) → List Spelled
 once_in outline name base types returns =
     spelled role.ReturnType (first_or types base)
@@ -132,7 +132,7 @@ once_in outline name base types returns =
     ∷ spelled role.Suffix (suffix_in (from_first SUFFIX outline) base)
     ∷ []
 
--- what spells the parts of a name with this outline, whose last component begins `name`
+-- what spells all parts, by a name's outline and by `name`, which is the outline from the last component on
 unfoldable pub spelling_in : (outline name : List Reached) → (returns : Bool) → Spelling
 spelling_in outline name returns =
     let base : Span = base_in outline name in

@@ -1,4 +1,4 @@
-// What spells the words of special names, tags, arguments and parameters.
+// Which bytes spell the words of special names, and which the tags, arguments and parameters of a name.
 #![tactic(auto)]
 
 ghost use Rattle.std.specs.Prelude.{◌≡◌, ◌+◌, IfErr, IfOk, map};

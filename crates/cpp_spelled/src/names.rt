@@ -1,4 +1,4 @@
-// What spells the parts of a name that come once.
+// Which bytes spell the parts of a name that come once.
 #![tactic(auto)]
 
 ghost use Rattle.std.specs.Prelude.{◌≡◌, IfErr, IfOk};
@@ -76,7 +76,7 @@ fn scope_end(name: &[Reached], base: Span) -> u32
     }
 }
 
-/// Where the scope of a local name ends: before the base of a nested name, or with the function.
+/// Where the scope of a local name ends: before the base of its nested name, or otherwise with the function.
 #[tactic(auto, unfolding(crate::specs::Spelled::local_end))]
 fn local_end(row: &Reached, begin: &[Reached], base: Span) -> u32
     ensures { result ≡ spelled.local_end row.now begin.now base }
@@ -140,7 +140,7 @@ pub(crate) fn without_return(returns: bool, types: &[Span]) -> &[Span]
     }
 }
 
-/// The first of these spans, or the other.
+/// The first of these spans; where there are none, the other span.
 #[tactic(auto, unfolding(crate::specs::Spelled::first_or))]
 fn first_or(types: &[Span], other: Span) -> Span
     ensures { result ≡ spelled.first_or types.now other }
@@ -184,7 +184,8 @@ fn of_role(role: Role, span: Span) -> Spelled
     Spelled { role, span }
 }
 
-/// What spells the parts that come once, of a name with this outline, whose last component begins `name`.
+/// What spells the parts that come once, by a name's outline and by `name`, which is the outline from the
+/// last component on.
 ///
 /// # Errors
 ///

@@ -16,12 +16,12 @@ use sym_parts::Span;
 use sym_room::push_within;
 use sym_shape::{Row, TOKEN};
 
-/// A row of an outline: what it is to the parts of the name, and what of its bytes and of the rows after it spells them.
+/// A row of an outline, with its sort, the row after it, and its bytes that spell a part.
 #[derive(Clone, Copy)]
 pub(crate) struct Reached {
     pub(crate) sort: Sort,
     pub(crate) row: Row,
-    /// The row after it, which is the first one in it, if there is one in it.
+    /// The next row, which is the first one within this row, if it has any.
     pub(crate) first: Row,
     /// Its bytes up to the row of the last symbol of its rule: without the rest of a list, or what follows a tag.
     pub(crate) own: Span,
@@ -66,7 +66,8 @@ fn sort_in(row: Row) -> Sort
     sort
 }
 
-/// The bytes of a row up to the row of the last symbol of its rule, if that is the first or the second in it; else all.
+/// The bytes of a row up to the row of its rule's last symbol, if that is the first or the second
+/// row within it; otherwise all its bytes.
 #[tactic(auto, unfolding(crate::specs::Outline::own_bytes))]
 fn own_bytes(rows: &[Row], number: usize, row: Row) -> Span
     requires { number + 1 < 2 ^ 64 }
@@ -123,7 +124,7 @@ pub(crate) fn outline_of(alloc: Global, rows: &[Row]) -> Result<Vec<Reached>, Re
     }
 }
 
-/// An outline from the first of these on.
+/// An outline from its first sought row on.
 #[tactic(auto, unfolding(crate::specs::Outline::from_first))]
 pub(crate) fn from_first(sought: Sought, outline: &[Reached]) -> &[Reached]
     ensures { result.now ≡ from_first sought outline.now }
@@ -142,7 +143,7 @@ pub(crate) fn from_first(sought: Sought, outline: &[Reached]) -> &[Reached]
     }
 }
 
-/// An outline from the last of these on.
+/// An outline from its last sought row on.
 #[tactic(auto, unfolding(crate::specs::Outline::from_last, crate::specs::Outline::or_else))]
 pub(crate) fn from_last(sought: Sought, outline: &[Reached]) -> &[Reached]
     ensures { result.now ≡ from_last sought outline.now }
@@ -162,7 +163,7 @@ pub(crate) fn from_last(sought: Sought, outline: &[Reached]) -> &[Reached]
     }
 }
 
-/// Where the first row of an outline begins, or the other place.
+/// Where the first row of an outline begins; the given place if it has no row.
 #[tactic(auto, unfolding(crate::specs::Outline::begin_or))]
 pub(crate) fn begin_or(outline: &[Reached], place: u32) -> u32
     ensures { result ≡ begin_or outline.now place }

@@ -7,7 +7,7 @@ ghost use Rattle.cpp_spelled.specs.Sorts.{number_of_sort};
 /// What a row is to the parts of a name, by its production. Sorts that are sought together follow one another.
 #[derive(Clone, Copy)]
 pub(crate) enum Sort {
-    /// A type, a literal, a token, or another row in which no part of the name is.
+    /// A type, a literal, a token, or another row that contains no part of the name.
     Closed,
     /// The suffix after the encoding.
     Suffix,

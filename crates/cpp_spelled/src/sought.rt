@@ -6,7 +6,7 @@ ghost use Rattle.cpp_spelled.specs.Sorts.{is};
 
 use crate::sort::Sort;
 
-/// What is sought in an outline: rows of a sort, or of those from one to another.
+/// What is sought in an outline: rows of a sort, or of the sorts from one to another.
 #[derive(Clone, Copy)]
 pub(crate) struct Sought {
     pub(crate) first: Sort,
@@ -23,7 +23,7 @@ impl Sought {
     }
 }
 
-/// Rows that are passed over with all that is in them.
+/// Rows that are passed over with all rows within them.
 pub(crate) const PASSED_OVER: Sought = Sought {
     first: Sort::Closed,
     last: Sort::Temporary,
@@ -34,7 +34,7 @@ pub(crate) const SUFFIX: Sought = Sought {
     last: Sort::Suffix,
 };
 
-/// What special names belong to.
+/// Special names without their `T` or `G`.
 pub(crate) const OBJECT: Sought = Sought {
     first: Sort::Object,
     last: Sort::Temporary,
@@ -71,7 +71,7 @@ pub(crate) const BEGIN: Sought = Sought {
     last: Sort::Begin,
 };
 
-/// Components; the last one has the base.
+/// Components; the last one contains the base.
 pub(crate) const COMPONENT: Sought = Sought {
     first: Sort::Component,
     last: Sort::Whole,

@@ -54,9 +54,9 @@ fn by_outline(alloc: Global, rows: &[Row], returns: bool) -> Result<Spelling, Re
 /// says whether the function has a return type. Rows don't show this for a name that ends in a substitution and
 /// `<template-args>`.
 ///
-/// The base is the last component without its tags and arguments. The scope is what precedes it, from the first byte of the
-/// `<nested-name>`'s first component on, or from that of the `<encoding>` that a `<local-name>` is in. A `<substitution>` that
-/// is a whole name is both. Arguments are each `<template-arg>`, and parameters each `<type>` of the `<bare-function-type>`,
+/// The base is the last component without its tags and arguments. The scope is what precedes it: from the first component of
+/// the `<nested-name>` on, or from the `<encoding>` that a `<local-name>` is in. A `<substitution>` that is a whole name is both
+/// scope and base. Arguments are each `<template-arg>`, and parameters each `<type>` of the `<bare-function-type>`,
 /// also a lone `v`, which spells no part of the text. The words of a `<special-name>` are spelled by what precedes the
 /// `<encoding>`, the `<type>` or the `<name>` that it belongs to.
 ///

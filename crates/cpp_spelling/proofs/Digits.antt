@@ -1,9 +1,6 @@
 -- Numbers as the code writes them.
-use Rattle.std.proofs.Common.{◌≡◌, ℕ, zero, suc, ◌-◌, ◌<◌, length, List, [], ◌∷◌, ◌++◌, ap, arith, ◌∙◌, append_assoc}
+use Rattle.cpp_spelling.proofs.Basics.{◌≡◌, ℕ, zero, suc, ◌-◌, ◌<◌, length, List, [], ◌∷◌, ◌++◌, ap, arith, ◌∙◌, append_assoc, digits-ten, digits-capital, decimal, ordinal, counted, seq_id}
 use Rattle.sym_spell.specs.Digits.{digits_of, digits_in, decimal_digit, digit36}
-use Rattle.sym_spell.proofs.Spellings.{digits-ten, digits-capital}
-use Rattle.cpp_press_laws.specs.Texts.{decimal, ordinal, counted}
-use Rattle.cpp_press_laws.specs.Components.{seq_id}
 
 glued : (a before tens last b c d : List ℕ) → b ≡ a ++ before → c ≡ b ++ tens → d ≡ c ++ last → d ≡ a ++ (before ++ (tens ++ last))
 glued a before tens last b c d one two three =

@@ -1,16 +1,5 @@
 -- The entity of a local name.
-use Rattle.std.proofs.Common.{◌≡◌, ℕ, refl, ap, ◌∙◌}
-use Rattle.std.specs.Prelude.{false}
-use Rattle.std.proofs.lemmas.Bool.{true≢false}
-use Rattle.cpp_grammar.specs.Term.{Term, within, instance, tagged}
-use Rattle.cpp_grammar.specs.Scope.{without_tags}
-use Rattle.cpp_term.specs.Erased.{erase}
-use Rattle.cpp_tree.specs.Nodes.{tree_of, is_again}
-use Rattle.cpp_tree.specs.declared.node.Node.{Node}
-use Rattle.cpp_layout.specs.Layout.{ReadSymbol}
-use Rattle.cpp_press_laws.specs.Pressing.{is_behind_encoding, is_one_piece}
-use Rattle.cpp_spelling.specs.Tasks.{node_tree}
-use Rattle.cpp_spelling.specs.Spelled.{is_piece_behind}
+use Rattle.cpp_spelling.proofs.Basics.{◌≡◌, ℕ, refl, ap, ◌∙◌, false, true≢false, Term, within, instance, tagged, without_tags, erase, tree_of, is_again, Node, ReadSymbol, is_behind_encoding, is_one_piece, node_tree, is_piece_behind}
 
 pub instance-piece : (t u a : Term) → t ≡ instance u a → is_one_piece t ≡ is_piece_behind u
 unfolding is_one_piece is_piece_behind is_behind_encoding without_tags

@@ -1,3 +1,4 @@
+pub mod Basics
 pub mod Digits
 pub mod Entities
 pub mod Made

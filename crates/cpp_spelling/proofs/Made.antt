@@ -1,21 +1,10 @@
--- The trees of nodes by what the nodes are made of; in these trees parameters are only their numbers.
-use Rattle.std.proofs.Common.{◌≡◌, ◌∙◌, ap, sym, subst, arith, ℕ, ◌+◌, ◌<◌, ◌≤◌, List, length, Option, Some, None}
-use Rattle.std.specs.Prelude.{false}
-use Rattle.cpp_term.specs.Erased.{erase}
+-- The trees of nodes, by what the nodes are made of. In these trees, a parameter is only its number.
+use Rattle.cpp_spelling.proofs.Basics.{◌≡◌, ◌∙◌, ap, sym, subst, arith, ℕ, ◌+◌, ◌<◌, ◌≤◌, List, length, Option, Some, None, false, erase, Table, trees, tree_at, tree_of, tree_if_there, under_kept, is_again, entry_at, qualifiers_of, mark_of, IsBelow, IsPieceBelow, IsAliasBelow, IsFlat, IsTable, Node, erased_again, ReadSymbol, table_of, Spelling, Way, ◌onto◌, in_way, in_name, plain_at, node_tree, encoding_onto, weight}
 use Rattle.cpp_term.proofs.Notes.{both}
 use Rattle.cpp_term.proofs.Reargued.{erase_reargued}
-use Rattle.cpp_tree.specs.Nodes.{Table, trees, tree_at, tree_of, tree_if_there, under_kept, is_again, entry_at, qualifiers_of, mark_of, IsBelow, IsPieceBelow, IsAliasBelow, IsFlat, IsTable}
-use Rattle.cpp_tree.specs.declared.node.Node.{Node}
 use Rattle.cpp_tree.specs.declared.node.Piece.{Piece}
 use Rattle.cpp_tree.specs.declared.node.Qualifiers.{Qualifiers}
 use Rattle.cpp_tree.specs.declared.node.Mark.{Mark}
-use Rattle.cpp_tree.proofs.Trees.{erased_again}
-use Rattle.cpp_layout.specs.Layout.{ReadSymbol, table_of}
-use Rattle.cpp_press_laws.specs.Components.{Spelling}
-use Rattle.cpp_spelling.specs.declared.task.Way.{Way}
-use Rattle.cpp_spelling.specs.Tasks.{◌onto◌, in_way, in_name, plain_at, node_tree}
-use Rattle.cpp_spelling.specs.Spelled.{encoding_onto}
-use Rattle.cpp_spelling.specs.Weight.{weight}
 
 there-later : (m n : ℕ) (o : Option ℕ) → IsAliasBelow m o → m ≤ n → IsAliasBelow n o
 there-later m n None b most = tt
@@ -77,11 +66,11 @@ below-later s held m n (Node.Whole e suffix) b most = (omega (arith, b.0, most),
 below-later s held m n (Node.Reargued t a) b most = (omega (arith, b.0, most), omega (arith, b.1, most))
 below-later s held m n _ b most = tt
 
--- a node is made of nodes
+-- each node of a table is made of nodes of the table
 pub made : (y : Table) (i : ℕ) → IsTable y → i < length y.nodes → IsBelow y.bytes (length y.thunks) (length y.nodes) (entry_at y.nodes i).node
 made y i table less = below-later y.bytes (length y.thunks) i (length y.nodes) (entry_at y.nodes i).node (table.each i less).below (omega (arith, less))
 
--- the tree that an alias denotes is stored, and is no alias
+-- the node that an alias re-reads is in the table, and is no alias itself
 pub again-before : (y : Table) (i t a : ℕ) → IsTable y → i < length y.nodes → (entry_at y.nodes i).node ≡ Node.Reargued t a
     → (t < length y.nodes) × (is_again (entry_at y.nodes t).node ≡ false)
 again-before y i t a table less is =
@@ -96,7 +85,7 @@ again-tree y i t a table less is =
 
 -- ## Functions
 
--- the types of a function are spelled alike under any arguments
+-- a function is spelled as its name, its return type and its parameters
 pub function-spelled : (y : ReadSymbol) (here : ℕ) (node : Node) (name returned parameters under : ℕ) (q : Qualifiers) (m : Mark) (rest : Spelling) → node ≡ Node.Function name q m returned parameters under
     → ◌≡◌ {A = Spelling} (in_way here (Way.Name q m) (plain_at y name) onto in_way here Way.Type (plain_at y returned) onto in_way here Way.Parameters (plain_at y parameters) onto rest) (encoding_onto here (node_tree y node) rest)
 unfolding encoding_onto erase tree_of in_way

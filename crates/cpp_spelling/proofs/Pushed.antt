@@ -1,11 +1,6 @@
--- A list of tasks with one task more.
-use Rattle.std.proofs.Common.{◌≡◌, ◌+◌, List, [], ◌∷◌, ◌++◌, sym, ap, arith, ◌∙◌}
-use Rattle.sym_spell.specs.Pressing.{◌and◌}
-use Rattle.sym_spell.proofs.Spellings.{and-assoc, and-nothing, nothing-and}
-use Rattle.cpp_layout.specs.Layout.{ReadSymbol}
-use Rattle.cpp_press_laws.specs.Components.{Spelling}
+-- A list of tasks with one more task.
+use Rattle.cpp_spelling.proofs.Basics.{◌≡◌, ◌+◌, List, [], ◌∷◌, ◌++◌, sym, ap, arith, ◌∙◌, ◌and◌, and-assoc, and-nothing, nothing-and, ReadSymbol, Spelling, ◌onto◌, press_task, press_tasks, IsTask, AreTasks, task_weight, tasks_weight}
 use Rattle.cpp_spelling.specs.declared.task.Task.{Task}
-use Rattle.cpp_spelling.specs.Tasks.{◌onto◌, press_task, press_tasks, IsTask, AreTasks, task_weight, tasks_weight}
 
 pub tasks-push : (y : ReadSymbol) (xs : List Task) (t : Task) → press_tasks y (xs ++ t ∷ []) ≡ press_task y t onto press_tasks y xs
 unfolding press_tasks ◌onto◌

@@ -1,11 +1,6 @@
 -- What follows from how a tree compares with the components before it.
-use Rattle.std.proofs.Common.{◌≡◌, ℕ, Bool, true, false, Option, Some, None, refl, ap, sym}
-use Rattle.cpp_grammar.specs.Term.{Term}
+use Rattle.cpp_spelling.proofs.Basics.{◌≡◌, ℕ, Bool, true, false, Option, Some, None, refl, ap, sym, Term, Way, is_compared, is_name, compared, standing_of, template_standing_of}
 use Rattle.cpp_spelling.specs.declared.steps.Standing.{Standing}
-use Rattle.cpp_spelling.specs.declared.task.Way.{Way}
-use Rattle.cpp_spelling.specs.Spelled.{is_compared}
-use Rattle.cpp_press_laws.specs.Pressing.{is_name}
-use Rattle.cpp_spelling.specs.Standings.{compared, standing_of, template_standing_of}
 
 abbrev standing_by : Bool → Option ℕ → Standing
 standing_by b first = elim b [ true ↦ compared first | false ↦ Standing.Apart ]

@@ -1,12 +1,8 @@
 -- A name without its tags: which node has the name's tree without tags.
-use Rattle.std.proofs.Common.{◌≡◌, ◌<◌, ℕ, length, Some, None, refl, ap, subst, ◌∙◌}
-use Rattle.cpp_grammar.specs.Scope.{without_tags}
+use Rattle.cpp_spelling.proofs.Basics.{◌≡◌, ◌<◌, ℕ, length, Some, None, refl, ap, subst, ◌∙◌, without_tags, erase, Table, trees, tree_at, entry_at, tree_under, untagged_is, IsTable, erased_place}
 use Rattle.cpp_term.specs.Term.{Term, tagged}
 use Rattle.cpp_term.specs.Scope as noted
-use Rattle.cpp_term.specs.Erased.{erase}
-use Rattle.cpp_tree.specs.Nodes.{Table, trees, tree_at, entry_at, tree_under, untagged_is, IsTable}
 use Rattle.cpp_tree.specs.declared.node.Placed.{Placed}
-use Rattle.cpp_tree.proofs.Trees.{erased_place}
 
 untagged-erased : (t : Term) → erase (noted.without_tags t) ≡ without_tags (erase t)
 unfolding noted.without_tags without_tags erase

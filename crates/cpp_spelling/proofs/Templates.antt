@@ -1,16 +1,5 @@
 -- Template names and their arguments, by how the names compare with the components before them.
-use Rattle.std.proofs.Common.{◌≡◌, ℕ, List, [], Bool, true, false, Some, None, ap, sym, ◌∙◌}
-use Rattle.std.specs.Prelude.{codes, ◌&&◌, ◌++◌}
-use Rattle.sym_spell.specs.Pressing.{◌and◌, text, nothing}
-use Rattle.sym_spell.proofs.Spellings.{and-assoc, nothing-and}
-use Rattle.cpp_grammar.specs.Term.{Term, alone, in_std, within, instance, tagged}
-use Rattle.cpp_grammar.specs.Scope.{without_tags}
-use Rattle.cpp_press_laws.specs.Texts.{counted}
-use Rattle.cpp_press_laws.specs.Components.{Component, Spelling, first_equal, component, spelled_out, referred, reference, ended}
-use Rattle.cpp_press_laws.specs.Pressing.{ways_of, no_ways, type_ways, name_ways, piece_ways, argument_ways, encoding_ways, in_N_and_E, template_before, is_operator, is_nested, is_name}
-use Rattle.cpp_spelling.specs.Tasks.{◌onto◌, written, in_way, before, bracketed, ending}
-use Rattle.cpp_spelling.specs.Spelled.{arguments_onto}
-use Rattle.cpp_spelling.specs.Standings.{needs_N, is_instance, template_onto}
+use Rattle.cpp_spelling.proofs.Basics.{◌≡◌, ℕ, List, [], Bool, true, false, Some, None, ap, sym, ◌∙◌, codes, ◌&&◌, ◌++◌, ◌and◌, text, nothing, and-assoc, nothing-and, Term, alone, in_std, within, instance, tagged, without_tags, counted, Component, Spelling, first_equal, component, spelled_out, referred, reference, ended, ways_of, no_ways, type_ways, name_ways, piece_ways, argument_ways, encoding_ways, in_N_and_E, template_before, is_operator, is_nested, is_name, ◌onto◌, written, in_way, before, bracketed, ending, arguments_onto, needs_N, is_instance, template_onto}
 use Rattle.cpp_spelling.proofs.Ways.{under, three, arguments-is}
 
 true-false : true ≡ false → ⊥

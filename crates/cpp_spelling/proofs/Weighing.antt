@@ -1,7 +1,5 @@
--- Each tree takes some steps.
-use Rattle.std.proofs.Common.{◌≤◌, arith}
-use Rattle.cpp_grammar.specs.Term.{Term, absent}
-use Rattle.cpp_spelling.specs.Weight.{weight}
+-- The weight of each tree is at least 12.
+use Rattle.cpp_spelling.proofs.Basics.{◌≤◌, arith, Term, absent, weight}
 
 pub weight-some : (t : Term) → 12 ≤ weight t
 unfolding weight

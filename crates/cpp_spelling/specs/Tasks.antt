@@ -109,7 +109,7 @@ unfoldable pub tasks_weight : ReadSymbol → List Task → ℕ
 tasks_weight y [] = 0
 tasks_weight y (task ∷ tasks) = task_weight y task + tasks_weight y tasks
 
--- there is room for n more tasks
+-- there is room for `many` more tasks
 abbrev pub HasRoom : Vec Task Global → (many : ℕ) → Type 0
 HasRoom tasks many = vec_len tasks + many ≤ vec_capacity tasks
 

@@ -229,7 +229,7 @@ pub fn then_nested(symbol: &Symbol, prefix: u32, piece: Piece, encoding: u64, ta
     then_fixed(symbol, b"N", tasks);
 }
 
-/// A name and one tag more (ABI 5.1.2, `<unqualified-name> ::= <unqualified-name> <abi-tags>`).
+/// A name and one more tag (ABI 5.1.2, `<unqualified-name> ::= <unqualified-name> <abi-tags>`).
 #[tactic(auto, unfolding(crate::specs::Bytes::text_bytes))]
 fn then_tag(symbol: &Symbol, name: u32, tag: Span, encoding: u64, tasks: &mut Vec<Task>)
     requires name { name < length symbol.now.table.nodes }
@@ -245,7 +245,7 @@ fn then_tag(symbol: &Symbol, name: u32, tag: Span, encoding: u64, tasks: &mut Ve
     then_tree(symbol, name, Way::Between, encoding, tasks);
 }
 
-/// A name and one tag more, between N and E if the name is within another one.
+/// A name and one more tag, between N and E if the name is within another one.
 #[tactic(auto, unfolding(crate::specs::Spelled::tagged_onto))]
 pub fn then_tagged(symbol: &Symbol, name: u32, tag: Span, encoding: u64, tasks: &mut Vec<Task>)
     requires table { IsTable (table_of symbol.now) }
@@ -325,7 +325,7 @@ pub fn then_prefix(symbol: &Symbol, node: Node, encoding: u64, tasks: &mut Vec<T
     }
 }
 
-/// Whether a name needs an N, since its function has qualifiers, which are letters after the N.
+/// Whether a function's name needs an N for the letters of the function's qualifiers and mark.
 #[tactic(auto, unfolding(crate::specs::Spelled::has_letters))]
 fn has_letters(qualifiers: Qualifiers, mark: Mark) -> bool
     ensures { result ≡ has_letters (qualifiers_of qualifiers) (mark_of mark) }

@@ -70,7 +70,7 @@ pub fn is_compared(way: Way, node: Node) -> bool
     }
 }
 
-/// A type after a letter (ABI 5.1.5).
+/// A type after its letters (ABI 5.1.5).
 fn then_behind(
     symbol: &Symbol,
     letters: &'static [u8],
@@ -117,7 +117,7 @@ fn then_function_type(
     then_text(symbol, first, tasks);
 }
 
-/// A type over other types (ABI 5.1.5).
+/// A type made of other types (ABI 5.1.5).
 #[tactic(auto, unfolding(crate::specs::Spelled::compound_onto, cpp_term::specs::Erased::erase, cpp_tree::specs::Nodes::tree_of, cpp_tree::specs::Nodes::is_again, crate::specs::Weight::weight, crate::specs::Bytes::text_bytes))]
 fn then_compound(symbol: &Symbol, node: Node, encoding: u64, tasks: &mut Vec<Task>)
     requires own { is_again node ≡ false }
@@ -312,7 +312,7 @@ fn then_more_parameters(symbol: &Symbol, node: Node, encoding: u64, tasks: &mut 
     }
 }
 
-/// The parameters of a function (ABI 5.1.5.3, `<bare-function-type>`). No parameters are spelled as a v.
+/// The parameters of a function (ABI 5.1.5.3, `<bare-function-type>`). An empty list of parameters is spelled as a v.
 #[tactic(auto, unfolding(crate::specs::Spelled::parameters_onto, cpp_term::specs::Erased::erase, cpp_tree::specs::Nodes::tree_of, cpp_tree::specs::Nodes::is_again, crate::specs::Weight::weight, crate::specs::Bytes::text_bytes))]
 fn then_parameters(symbol: &Symbol, node: Node, encoding: u64, tasks: &mut Vec<Task>)
     requires own { is_again node ≡ false }

@@ -1,11 +1,7 @@
--- The types of a lambda's functions that are awaited are the same with arguments.
-use Rattle.std.proofs.Common.{◌≡◌, refl, ap, ◌∙◌, ℕ, Bool, false}
-use Rattle.cpp_grammar.specs.Term.{Term, alone, in_std, within, lambda, generic_lambda, declaring, list}
-use Rattle.cpp_grammar.specs.Values.{Awaited, Counting, Around}
-use Rattle.cpp_grammar.specs.Rescoping.{head_of_name, head_of, first_head, rest_of, heads_of, behind_another, types_in, awaited_by_piece, awaited_by, awaiting, expecting_item}
+-- For trees with arguments the same types of a lambda's functions are awaited.
+use Rattle.cpp_term.proofs.Basics.{◌≡◌, refl, ap, ◌∙◌, ℕ, Bool, false, Term, alone, in_std, within, lambda, generic_lambda, declaring, list, Awaited, Counting, Around, head_of_name, head_of, first_head, rest_of, heads_of, behind_another, types_in, awaited_by_piece, awaited_by, awaiting, expecting_item, Place, in_own, annotate, noted_around}
 use Rattle.cpp_term.specs.Term as term_
 use Rattle.cpp_term.specs.Rescoping as wide_
-use Rattle.cpp_term.specs.Annotated.{Place, in_own, annotate, noted_around}
 
 -- ## Heads
 

@@ -1,30 +1,9 @@
 -- What is done between and after the parts of a production, annotated.
 use Rattle.std.proofs.Common.{◌≡◌, refl, ap, sym, ◌∙◌, subst, ℕ, suc, ◌-◌, List, [], ◌∷◌, length, Bool, true, false, not, cond, slice_get, Option, Some, None, Result, Ok, Err, ◌&&◌, nat_lt, ◌⊎◌, inl, inr, true≢false, ◌||◌}
-use Rattle.std.proofs.lemmas.Bool.{false≢true}
-use Rattle.sym_core.specs.declared.refusal.Refusal.{Refusal}
-use Rattle.sym_core.specs.declared.refusal.Refusal.TheVariants.{BadReference}
-use Rattle.sym_link.specs.Reading.{◌>>=◌, Next}
-use Rattle.sym_link.specs.Unfold.{found}
-use Rattle.sym_core.specs.declared.NumberKind.TheVariants.{Decimal, Seq36}
-use Rattle.sym_core.specs.Value.{counted_value}
-use Rattle.cpp_grammar.specs.declared.production.Production.{Production}
-use Rattle.cpp_grammar.specs.Rescoping.{awaiting, generic_number, generic_so_far, parameter_here, argument_here, is_declaring, lambda_with, as_generic_lambda, with_holder, is_instance, holder_so_far, named_by_both, module_of, module_named, module_so_far, numbered, counted_unless, counted_base, counted_held, with_constructor, with_held, in_constraint_of, is_unseen, in_literal, name_if, between_wide, close_wide}
-use Rattle.cpp_grammar.specs.Scope.{count, element, is_open, length_if_pack}
-use Rattle.cpp_grammar.specs.Term.{Term, list, holder, parameter, absent}
+use Rattle.cpp_term.proofs.Basics.{false≢true, Refusal, BadReference, ◌>>=◌, Next, found, Decimal, Seq36, counted_value, Production, awaiting, generic_number, generic_so_far, parameter_here, argument_here, is_declaring, lambda_with, as_generic_lambda, with_holder, is_instance, holder_so_far, named_by_both, module_of, module_named, module_so_far, numbered, counted_unless, counted_base, counted_held, with_constructor, with_held, in_constraint_of, is_unseen, in_literal, name_if, between_wide, close_wide, count, element, is_open, length_if_pack, Term, list, holder, parameter, absent, Counted, by_gcc, Around, prefix_tree, prefix_listed, Value, State, Candidate, local_number, tree_of, text_of, is_listed, part, appended, with_type, with_unqualified, with_packs, is_module, substituted, parameter_named, in_signature, under_expansion, after, inside, no_items, listed_so_far, next, parameter_so_far, argument_so_far, index_of, between, parameters, meaning, signature_with, close, made, is_listing, around_part, packs_within, gained, replaced, tested, done, row_of, StaysInside, is_nothing, has_signature, all_pass, step_passes, is_here, Place, nowhere, around_place, place_in, in_own, argument_in, annotate, noted_scope, noted_value, noted_values, noted_prefix, noted_around}
 use Rattle.cpp_grammar.specs.Values as leaf_
-use Rattle.cpp_grammar.specs.Values.{Counted, by_gcc, Around, prefix_tree, prefix_listed, Value, State, Candidate, local_number, tree_of, text_of, is_listed, part}
-use Rattle.cpp_grammar.specs.References.{appended, with_type, with_unqualified, with_packs, is_module, substituted, parameter_named}
-use Rattle.cpp_grammar.specs.Between.{in_signature, under_expansion, after, inside, no_items, listed_so_far, next, parameter_so_far, argument_so_far, index_of, between}
-use Rattle.cpp_grammar.specs.Meaning.{parameters, meaning, signature_with}
 use Rattle.cpp_grammar.specs.Unfolding as unfolding_
-use Rattle.cpp_grammar.specs.Unfolding.{close}
 use Rattle.cpp_grammar.specs.Row.{Gain, nothing, the_prefix, type_of, unqualified_of, itself, Where, as_before, in_its_name, in_its_types, in_a_signature, under_it, nameless, after_part, after_the_name, Action, quiet, goes, becomes, tests, holds, unread, Row, before_part}
-use Rattle.cpp_grammar.specs.Meant.{made, is_listing, around_part, packs_within, gained, replaced, tested, done}
-use Rattle.cpp_grammar.specs.Rows.{row_of}
-use Rattle.cpp_grammar.proofs.ClosedParts.{StaysInside}
-use Rattle.cpp_grammar.proofs.Declared.{is_nothing}
-use Rattle.cpp_grammar.proofs.Ways.{has_signature}
-use Rattle.cpp_grammar.proofs.Steps.{all_pass, step_passes, is_here}
 use Rattle.cpp_term.specs.Items as item_
 use Rattle.cpp_term.specs.Scope as scope_
 use Rattle.cpp_term.specs.Term as term_
@@ -35,18 +14,17 @@ use Rattle.cpp_term.specs.Meaning as noted_
 use Rattle.cpp_term.specs.Meant as meant_
 use Rattle.cpp_term.specs.Unfolding as unfolded_
 use Rattle.cpp_term.specs.Rescoping as wide_
-use Rattle.cpp_term.specs.Annotated.{Place, nowhere, around_place, place_in, in_own, argument_in, annotate, noted_scope, noted_value, noted_values, noted_prefix, noted_around}
 use Rattle.cpp_term.proofs.Notes.{both, or_right, choose, choose_cond, open_noted, closed_noted}
 use Rattle.cpp_term.proofs.SeenNoted.{is_instance_noted, counted_held_noted, is_declaring_noted}
 use Rattle.cpp_term.proofs.MeaningNoted.{part_noted, tree_part, tree_noted, text_noted, text_part, prefix_tree_noted, prefix_listed_noted, Inside, Shut, lambda_noted, takes_encodings, is_of_none, made_inside, made_noted, listing_noted, listed_noted, meaning_noted}
 use Rattle.cpp_term.proofs.StatesNoted.{Alongside, IsOutside, Settled, own_place, Alike, alike_bind, Same, Moves, moves_none, noting_moves, moves_then, one_moves, type_moves, unqualified_moves, prefix_moves, Comes, AreNoted, get_noted, module_noted, substituted_noted, both_named_noted, wide_numbered_noted, held_moves, more_moves, parameter_noted}
 use Rattle.cpp_term.proofs.AwaitedNoted.{awaiting_noted}
 
--- what is inside has the same scope, or none
+-- what is inside has the same scope, or is in a lambda's signature without one
 abbrev pub InScope : Around → Around → Type 0
 InScope around inner = ((inner.scope ≡ around.scope) × (inner.in_lambda ≡ around.in_lambda)) ⊎ ((inner.scope ≡ None) × (inner.in_lambda ≡ true))
 
--- the productions of the kinds of what is declared
+-- the productions of declarations
 unfoldable pub is_declared : Production → Bool
 is_declared Production.TypeOf = true
 is_declared Production.ValueOf = true
@@ -56,7 +34,7 @@ is_declared Production.PackOf = true
 is_declared Production.Declarations = true
 is_declared _ = false
 
--- productions that are read in signatures, or of which each part is declared or no tree
+-- productions that are read in signatures, or that have only declarations and values without trees as parts
 unfoldable pub is_quiet : Production → Bool
 is_quiet Production.TemplateOf = true
 is_quiet Production.PackOf = true
@@ -73,11 +51,11 @@ is_alone _ = false
 abbrev pub MayGo : Production → List Value → Type 0
 MayGo p vs = (is_nothing vs || not (is_alone p)) ≡ true
 
--- what the parameters of a production's parts name: in a lambda's signature they may be its own
+-- what the parameters of a production's parts name: in a lambda's signature, they may name the lambda's own parameters
 unfoldable pub parts_place : (own : Bool) → Production → Around → Place
 parts_place own p around = elim (has_signature p && own) [ true ↦ in_own | false ↦ around_place own around ]
 
--- the inputs of the next part, both ways
+-- the inputs of the next part, with arguments and without
 pub record Goes (own : Bool) (s : Place) (around : Around) (x : State) (y : value_.State) (n : Next Value State Around) (m : Next value_.Value value_.State value_.Around) : Type 0 where
   pub values : m.values ≡ noted_values s n.values
   pub context : m.context ≡ noted_around own n.context
@@ -99,7 +77,7 @@ same_goes : (own : Bool) (around : Around) (x : State) (y : value_.State) (vs : 
     Goes own (around_place own around) around x y (record { context = around; values = vs; state = x }) (record { context = noted_around own around; values = noted_values (around_place own around) vs; state = y })
 same_goes own around x y vs packs = record { values = refl; context = refl; moves = moves_none own around x x y y refl refl packs; scope = inl (refl, refl); place = inl refl }
 
--- a parameter that is good names an argument
+-- a parameter that isn't refused names an argument
 named_argument : (own : Bool) (around : Around) (place k : ℕ) (x a : State) → parameter_named around place k x ≡ Ok a → term_.parameter k (between_.argument_at (noted_around own around) k) ≡ annotate (around_place own around) (parameter k)
 unfolding parameter_named between_.argument_at noted_around noted_scope place_in argument_in annotate
 named_argument own around place k x a e = go around.scope e
@@ -141,7 +119,7 @@ unfolding meant_.replaced replaced noted_values noted_value
 replaced_noted s t u is_in [] e = refl
 replaced_noted s t u is_in (v ∷ vs) e = ap (λ w. value_.tree w is_in ∷ noted_values s vs) e
 
--- the first value is a tree now, which may be the name so far
+-- the first value becomes a tree, which may be the name so far
 becomes_goes : (own : Bool) (around : Around) (x new : State) (y other : value_.State) (t : Term) (u : term_.Term) (is_in is_name : Bool) (vs : List Value) → u ≡ annotate (around_place own around) t → Moves own around x y new other →
     Goes own (around_place own around) around x y (record { context = cond is_name (after t is_in around) around; values = replaced (leaf_.tree t is_in) vs; state = new })
     (record { context = cond is_name (between_.after u is_in (noted_around own around)) (noted_around own around); values = meant_.replaced (value_.tree u is_in) (noted_values (around_place own around) vs); state = other })
@@ -155,7 +133,7 @@ candidate_moves : (own : Bool) (around : Around) (x : State) (y : value_.State) 
 candidate_moves own around x y t u true packs e = one_moves own around t u x y packs e
 candidate_moves own around x y t u false packs e = moves_none own around x x y y refl refl packs
 
--- a parameter that is itself an argument leaves the candidates
+-- unless the parameter is the name so far, both candidate lists stay as they are
 kept_moves : (own : Bool) (around : Around) (x a : State) (y b : value_.State) (is_name : Bool) → Moves own around x y a b →
     Moves own around x y (cond is_name a (record a { candidates = x.candidates })) (cond is_name b (record b { candidates = y.candidates }))
 kept_moves own around x a y b true m = m
@@ -216,7 +194,7 @@ goes_noted own (after_part k listing) around place vs x new y other here m = rec
 goes_noted own after_the_name around place vs x new y other here m =
     record { values = refl; context = after_noted own around (prefix_tree around.prefix) _ true (prefix_tree_noted (around_place own around) around.prefix); moves = m; scope = inl (refl, refl); place = inl refl }
 
--- what is done is as in the encoding around it, and a tree is made of no encodings
+-- this action enters no other encoding and no signature, and makes no tree of encodings
 unfoldable is_plain : Action → Bool
 is_plain (goes gain w) = is_here w
 is_plain (becomes m is_in is_name is_candidate) = is_of_none m
@@ -285,7 +263,7 @@ behind_noted own production byte around began first vs x y h packs e =
     choose_cond (Moves own around x y) (row_of production).restores_packs (record new { packs = began.packs }) new (record other { packs = first.packs }) other
     (packs_move own around x new y other began.packs first.packs e.0 moves_) moves_
 
--- the value of a production, both ways
+-- the value of a production, with arguments and without
 made_close : (own : Bool) (production : Production) (byte : ℕ) (around : Around) (began : State) (first : value_.State) (vs : List Value) (x : State) (y : value_.State) → Inside production vs → Same own around x y → Alongside began first →
     Comes own around x y (found (meaning production byte around vs) (unfolding_.behind production byte around began vs x))
     (found (noted_.meaning production byte (noted_around own around) (noted_values (around_place own around) vs)) (unfolded_.behind production byte (noted_around own around) first (noted_values (around_place own around) vs) y))
@@ -472,14 +450,14 @@ wide_between_noted Production.EncodingLiteral around place (v ∷ []) x y stays 
 wide_between_noted Production.Encoding around place vs x y stays loud may settled same = absurd stays
 wide_between_noted p around place vs x y stays loud may settled same = between_noted true p around place vs x y stays loud may same.packs
 
--- the cases of a lambda are decided alike, and what is in its signature is under its own parameters
+-- a lambda of an annotated signature is the annotated lambda, at any place: the signature is under the lambda's own parameters
 lambda_with_noted : (s : Place) (t : Term) (number : ℕ) → wide_.lambda_with (annotate in_own t) number ≡ annotate s (lambda_with t number)
 unfolding lambda_with wide_.lambda_with annotate
 lambda_with_noted s t number =
     choose (λ a b. b ≡ annotate s a) (is_declaring t || is_open t) (wide_.is_declaring (annotate in_own t) || scope_.is_open (annotate in_own t)) _ _ _ _ (both (λ a b. a || b) (is_declaring_noted in_own t) (open_noted in_own t)) (λ is. refl)
     (λ is. ap (λ u. term_.lambda u number) (closed_noted in_own s t (or_right (is_declaring t) (is_open t) is)))
 
--- `meaning_noted` says it at the place of the values
+-- a lambda of annotated parts is the annotated lambda, at any place; `meaning_noted` says this only at the place of the parts
 own_lambda : (s : Place) (byte : ℕ) (around : Around) (other : value_.Around) (vs : List Value) →
     wide_.as_generic_lambda (noted_.meaning Production.Lambda byte other (noted_values in_own vs)) ≡ noted_value s (as_generic_lambda (meaning Production.Lambda byte around vs))
 unfolding as_generic_lambda wide_.as_generic_lambda meaning noted_.meaning noted_value annotate

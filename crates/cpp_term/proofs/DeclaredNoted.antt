@@ -1,40 +1,13 @@
--- What is declared names parameters that are declared with it. So it is annotated as in a signature, wherever it is read.
-use Rattle.std.proofs.Common.{◌≡◌, refl, ap, sym, ◌∙◌, subst, ℕ, List, [], ◌∷◌, ◌++◌, Bool, true, false, not, ◌||◌, ◌&&◌, ◌⊎◌, inl, inr, ◌<◌, None, Result, Ok, Err}
-use Rattle.std.proofs.lemmas.Bool.{true≢false, false≢true}
-use Rattle.sym_core.specs.declared.refusal.Refusal.{Refusal}
-use Rattle.sym_shape.specs.declared.rule.Rule.{Rule}
-use Rattle.sym_shape.specs.declared.rule.Sym.{Sym}
-use Rattle.sym_shape.specs.declared.rule.Sym.TheVariants.{Kind as OfKind, Byte}
-use Rattle.sym_shape.specs.Table.{symbols_of}
-use Rattle.sym_shape.specs.Tree.{Tree, branch, empty, token, fixed, TakesRule, IsTree}
-use Rattle.sym_link.specs.Reading.{Found, Next}
-use Rattle.sym_link.specs.Unfold.{found, unfold_tree}
+-- Declarations name parameters that are declared with them. So they are annotated as in a signature, wherever they are read.
+use Rattle.cpp_term.proofs.Basics.{◌≡◌, refl, ap, sym, ◌∙◌, subst, ℕ, List, [], ◌∷◌, ◌++◌, Bool, true, false, not, ◌||◌, ◌&&◌, ◌⊎◌, inl, inr, ◌<◌, None, Result, Ok, Err, true≢false, false≢true, Refusal, Rule, Sym, Kind as OfKind, Byte, symbols_of, Tree, branch, empty, token, fixed, TakesRule, IsTree, Found, Next, found, unfold_tree, Production, Operation, number_of_kind, parts_of, wide_alternatives, wide, rule_of, State, Around, Value, tree_of, part, in_signature, between, listed_value, meaning, close, production_at, between_wide, close_wide, each_passes, chosen_rule, taken_passes, implied, StaysInside, ok_same, is_encoding, at_number, its_symbols, is_declaration, is_first, skips, hides, is_nothing, some_values, same_skipped, none_hidden, first_of_both, second_of_both, all_pass, has_signature, Way, reading_by, Place, around_place, place_in, in_own, annotate, noted_value, noted_values, noted_around}
 use Rattle.cpp_grammar.specs.declared.kind.Kind.{Kind}
-use Rattle.cpp_grammar.specs.declared.production.Production.{Production}
-use Rattle.cpp_grammar.specs.declared.production.Operation.{Operation}
-use Rattle.cpp_grammar.specs.Grammar.{number_of_kind, parts_of}
-use Rattle.cpp_grammar.specs.Wide.{wide_alternatives}
-use Rattle.cpp_grammar.specs.Table.{wide, rule_of}
 use Rattle.cpp_grammar.specs.Values as leaf_
-use Rattle.cpp_grammar.specs.Values.{State, Around, Value, tree_of, part}
-use Rattle.cpp_grammar.specs.Between.{in_signature, between}
-use Rattle.cpp_grammar.specs.Meaning.{listed_value, meaning}
 use Rattle.cpp_grammar.specs.Unfolding as unfolding_
-use Rattle.cpp_grammar.specs.Unfolding.{close, production_at}
-use Rattle.cpp_grammar.specs.Rescoping.{between_wide, close_wide}
-use Rattle.cpp_grammar.proofs.Choosing.{each_passes, chosen_rule, taken_passes, implied}
-use Rattle.cpp_grammar.proofs.ClosedParts.{StaysInside}
-use Rattle.cpp_grammar.proofs.ClosedStates.{ok_same}
-use Rattle.cpp_grammar.proofs.ClosedTrees.{is_encoding, at_number, its_symbols}
-use Rattle.cpp_grammar.proofs.Declared.{is_declaration, is_first, skips, hides, is_nothing, some_values, same_skipped, none_hidden}
-use Rattle.cpp_grammar.proofs.Steps.{first_of_both, second_of_both, all_pass}
-use Rattle.cpp_grammar.proofs.Ways.{has_signature, Way, reading_by}
 use Rattle.cpp_term.specs.Values as value_
 use Rattle.cpp_term.specs.Between as between_
 use Rattle.cpp_term.specs.Meaning as noted_
 use Rattle.cpp_term.specs.Unfolding as unfolded_
 use Rattle.cpp_term.specs.Rescoping as wide_
-use Rattle.cpp_term.specs.Annotated.{Place, around_place, place_in, in_own, annotate, noted_value, noted_values, noted_around}
 use Rattle.cpp_term.proofs.Notes.{both}
 use Rattle.cpp_term.proofs.MeaningNoted.{Inside, Shut, tree_part, meaning_noted}
 use Rattle.cpp_term.proofs.StatesNoted.{Alongside, Settled, own_place, Alike, Same, Moves, moves_none, Comes}
@@ -43,7 +16,7 @@ use Rattle.cpp_term.proofs.BetweenNoted.{InScope, is_quiet, is_declared, is_alon
 
 -- ## Kinds and productions
 
--- the productions of a lambda's first type, those with a part of such a kind
+-- the productions with a part of the kind of a lambda's first type, except a lambda
 unfoldable pub in_first : Production → Bool
 in_first Production.DeclaredFirst = true
 in_first Production.FirstWithT = true
@@ -67,7 +40,7 @@ same_bool_is true b e = sym e
 same_bool_is false true e = absurd (false≢true e)
 same_bool_is false false e = refl
 
--- a kind's productions are of the kinds of what is declared, or none is
+-- the productions of a kind are all declarations, or none is
 pub declared_kinds : (kind : Kind) → each_passes (λ p. same_bool (is_declared p) (is_declaration (OfKind (number_of_kind kind))) && (not (in_first p) || is_first (OfKind (number_of_kind kind)))) (wide_alternatives kind) ≡ true
 unfolding same_bool is_declared is_declaration in_first is_first number_of_kind wide_alternatives each_passes
 declared_kinds Kind.Symbol = refl
@@ -88,7 +61,7 @@ of_its_kind k rule taken lt takes =
     subst (λ p. OfItsKind k p) same
     (record { declared = same_bool_is (is_declared c.production) (is_declaration (OfKind k)) (first_of_both a b passes); first = implied (in_first c.production) (is_first (OfKind k)) (second_of_both a b passes) })
 
--- the parts of a production are declared only where they are in signatures, or where the value isn't used
+-- a production has declarations as parts only in signatures, or where their values aren't used
 unfoldable pub part_placed : Production → (hidden : Bool) → Sym → Bool
 part_placed p hidden x =
     (elim hidden [
@@ -96,7 +69,7 @@ part_placed p hidden x =
       | false ↦ elim (is_quiet p) [ true ↦ is_declaration x || (is_byte x || is_first x) | false ↦ not (is_declaration x) ]
     ]) && (not (is_first x) || (is_lambda p || in_first p))
 
--- behind the first part of a literal of an encoding is that encoding
+-- a later part is in no production with a single part, and in a literal of an encoding it is that encoding
 unfoldable pub later_placed : Production → (first : Bool) → Sym → Bool
 later_placed p first x = first || (not (is_alone p) && (not (is_literal p) || is_encoding x))
 
@@ -114,7 +87,7 @@ pub rule_placed : (p : Production) (rule : Rule) → rule ≡ rule_of p → part
 rule_placed p rule is =
     ap (λ q. parts_placed q true (symbols_of rule)) (ap (λ x. production_at x.number) is ∙ at_number p) ∙ ap (parts_placed p true) (ap symbols_of is ∙ its_symbols p) ∙ all_placed p
 
--- the parts that are left, behind some values
+-- the parts after the one that was read are placed as well
 pub left_placed : (p : Production) (first : Bool) (vs us : List Value) (x : Sym) (xs : List Sym) (value : Value) → us ≡ value ∷ [] → parts_placed p first (x ∷ xs) ≡ true → parts_placed p (is_nothing (vs ++ us)) xs ≡ true
 unfolding parts_placed
 left_placed p first vs us x xs value is placed =
@@ -151,11 +124,11 @@ literal_next p first x placed later literal = go first (not (is_alone p)) (is_li
 
 -- ## Places
 
--- where what is of this kind is annotated
+-- where a part of this kind is annotated
 unfoldable pub place_at : (own : Bool) → Sym → Around → Place
 place_at own x around = elim (is_declaration x && own) [ true ↦ in_own | false ↦ around_place own around ]
 
--- and what a production denotes
+-- where the value of a production is annotated
 unfoldable pub yield_place : (own : Bool) → Production → Around → Place
 yield_place own p around = elim (is_declared p && own) [ true ↦ in_own | false ↦ around_place own around ]
 
@@ -192,7 +165,7 @@ unfolding noted_values
 values_then s [] v w e = ap (λ x. x ∷ []) e
 values_then s (u ∷ vs) v w e = ap (λ ws. noted_value s u ∷ ws) (values_then s vs v w e)
 
--- one more value
+-- annotating one more value appends it to the annotated values
 pub parts_then : (p : Production) (own : Bool) (s : Place) (vs : List Value) (v : Value) (w : value_.Value) → (hides p own vs ≡ true → w ≡ noted_value in_own v) → (hides p own vs ≡ false → w ≡ noted_value s v) →
     noted_parts p own s vs ++ (w ∷ []) ≡ noted_parts p own s (vs ++ (v ∷ []))
 unfolding noted_parts noted_values hides
@@ -203,14 +176,14 @@ parts_then p own s vs v w hidden used = values_then s vs v w (used refl)
 
 -- ## Before a part
 
--- results that are alike in more
+-- results that are alike by one relation are alike by a weaker one
 pub alike_map : {A B : Type 0} (R Q : A → B → Type 0) (x : Result A Refusal) (y : Result B Refusal) → ((a : A) (b : B) → x ≡ Ok a → R a b → Q a b) → Alike R x y → Alike Q x y
 alike_map R Q (Ok a) (Ok b) f r = f a b refl r
 alike_map R Q (Err e) (Err d) f r = r
 alike_map R Q (Ok a) (Err d) f r = absurd r
 alike_map R Q (Err e) (Ok b) f r = absurd r
 
--- the inputs of the next part, both ways
+-- the inputs of the next part, with arguments and without
 pub record Onward (own : Bool) (p : Production) (around : Around) (x : State) (y : value_.State) (n : Next Value State Around) (m : Next value_.Value value_.State value_.Around) : Type 0 where
   pub values : m.values ≡ noted_parts p own (parts_place own p around) n.values
   pub context : m.context ≡ noted_around own n.context
@@ -299,7 +272,7 @@ wide_goes p around place vs x y stays may settled same =
 
 -- ## After the parts of a production
 
--- the value of a production, both ways
+-- the value of a production, with arguments and without
 pub record Yield (own : Bool) (p : Production) (around : Around) (x : State) (y : value_.State) (a : Found Value State) (b : Found value_.Value value_.State) : Type 0 where
   pub value : b.value ≡ noted_value (yield_place own p around) a.value
   pub moves : Moves own around x y a.state b.state
@@ -314,7 +287,7 @@ abi_closes p byte around place began first vs x y h settled same e =
     (λ a b is c. record { value = c.value ∙ ap (λ s. noted_value s a.value) (sym (never_own (is_declared p) in_own (around_place false around))); moves = c.moves })
     (close_noted p byte around place began first vs x y h settled same e))
 
--- in a signature the values of the parts are where the value of the production is
+-- in a signature the values of the parts are annotated at the place where the value of the production is
 first_value : (p : Production) (byte : ℕ) (around : Around) (vs : List Value) → Inside p vs → Settled around → around.in_lambda ≡ true →
     noted_.meaning p byte (noted_around true around) (noted_values in_own vs) ≡ noted_value (around_place true around) (meaning p byte around vs)
 first_value p byte around vs h settled l =
@@ -341,7 +314,7 @@ wide_closes p byte around place began first vs x y h settled inside same e =
 
 -- ## From a part to what contains it
 
--- where the value of a part is annotated, which is used: as the parts are, or no matter where
+-- where the value of a part is annotated, if it is used: at the place of the production's parts, or anywhere
 pub data Placed (own : Bool) (s : Place) (x : Sym) (inner : Around) : Type 0 where
   there : place_at own x inner ≡ s → Placed own s x inner
   alone : inner.scope ≡ None → own ≡ false → Placed own s x inner
@@ -376,7 +349,7 @@ part_of : (p : Production) (x : Sym) → part_placed p false x ≡ true → (eli
 unfolding part_placed
 part_of p x placed = first_of_both (elim (is_quiet p) as (λ b. Bool) [ true ↦ is_declaration x || (is_byte x || is_first x) | false ↦ not (is_declaration x) ]) (not (is_first x) || (is_lambda p || in_first p)) placed
 
--- and of one whose value is
+-- the place of a part whose value is used
 pub used_placed : (p : Production) (own : Bool) (around inner : Around) (old new : List Value) (x : Sym) → part_placed p (is_nothing old && skips p) x ≡ true → (skips p ≡ true → new ≡ old) → hides p own new ≡ false →
     (around_place own inner ≡ parts_place own p around) ⊎ (((inner.scope ≡ None) × (own ≡ false)) ⊎ ((own ≡ true) × (is_quiet p ≡ true))) → Settled inner → (own ≡ true → is_first x ≡ true → inner.in_lambda ≡ true) →
     Placed own (parts_place own p around) x inner

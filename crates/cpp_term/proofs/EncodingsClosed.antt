@@ -1,38 +1,9 @@
 -- In a run without arguments, the parts of a production that are encodings have no free parameters, and neither has the subject
 -- of a special name.
-use Rattle.std.proofs.Common.{◌≡◌, refl, ap, sym, ◌∙◌, subst, ℕ, zero, suc, ◌+◌, ◌<◌, ◌≤◌, List, [], ◌∷◌, ◌++◌, length, Bool, true, false, not, ◌||◌, ◌&&◌, nat_eq, inl, inr, Result, Ok, lit≤, arith}
-use Rattle.std.proofs.lemmas.Bool.{true≢false, false≢true, eqb-true}
-use Rattle.std.proofs.lemmas.List.{append-nil, append_assoc}
-use Rattle.sym_core.specs.declared.refusal.Refusal.{Refusal}
-use Rattle.sym_shape.specs.declared.rule.Rule.{Rule}
-use Rattle.sym_shape.specs.declared.rule.Sym.{Sym}
-use Rattle.sym_shape.specs.declared.rule.Sym.TheVariants.{Kind as OfKind}
-use Rattle.sym_shape.specs.Table.{symbols_of}
-use Rattle.sym_shape.specs.Law.{AreSymbols}
-use Rattle.sym_shape.specs.Tree.{Tree, Forest, branch, empty, nothing, grown, spell, TakesRule, IsTree, AreTrees}
-use Rattle.sym_link.specs.Reading.{Found, Open, Next, ◌>>=◌}
+use Rattle.cpp_term.proofs.Basics.{◌≡◌, refl, ap, sym, ◌∙◌, subst, ℕ, zero, suc, ◌+◌, ◌<◌, ◌≤◌, List, [], ◌∷◌, ◌++◌, length, Bool, true, false, not, ◌||◌, ◌&&◌, nat_eq, inl, inr, Result, Ok, lit≤, arith, true≢false, false≢true, eqb-true, append-nil, append_assoc, Refusal, Rule, Sym, Kind as OfKind, symbols_of, AreSymbols, Tree, Forest, branch, empty, nothing, grown, spell, TakesRule, IsTree, AreTrees, Found, Open, Next, ◌>>=◌, Production, Operation, ENCODING, SPECIAL, SPECIAL_MARK, SPECIAL_AFTER_G, number_of_kind, parts_of, wide, rule_of, wide_sound, is_open, State, Around, Value, nothing_there, tree_of, part, in_name, no_items, between, meaning, close, production_at, byte_of, is_unseen, name_if, chosen_rule, taken_passes, implied, AllGood, GoodPrefix, good_tree, good_part, Bare, Within, AllOld, old_later, old_grows, ok_same, behind_bind, StaysInside, is_declaration, is_first, declares, parts_apart, is_nothing, read_of, read_none, has_signature, Way, reading_by, abi_way, differs, is_encoding, has_encoding, opens, or_true, at_number, its_symbols, stays, takes_byte, Whole, old_fits, grows_fits, old_inner, known, name_comes, same_found, stepped, inner_closes, KeepsClosed, forest_good, tree_good_by, trees_good_by, left_apart, rule_apart, one_read}
 use Rattle.sym_link.specs.Unfold.{found, alone, unfold_tree, unfold_forest}
-use Rattle.cpp_grammar.specs.declared.production.Production.{Production}
-use Rattle.cpp_grammar.specs.declared.production.Operation.{Operation}
-use Rattle.cpp_grammar.specs.KindNumbers.{ENCODING, SPECIAL, SPECIAL_MARK, SPECIAL_AFTER_G}
-use Rattle.cpp_grammar.specs.Grammar.{number_of_kind, parts_of}
-use Rattle.cpp_grammar.specs.Table.{wide, rule_of}
-use Rattle.cpp_grammar.specs.TableLaws.{wide_sound}
-use Rattle.cpp_grammar.specs.Scope.{is_open}
-use Rattle.cpp_grammar.specs.Values.{State, Around, Value, nothing_there, tree_of, part}
-use Rattle.cpp_grammar.specs.Between.{in_name, no_items, between}
-use Rattle.cpp_grammar.specs.Meaning.{meaning}
 use Rattle.cpp_grammar.specs.Unfolding as unfolding_
-use Rattle.cpp_grammar.specs.Unfolding.{close, production_at, byte_of}
-use Rattle.cpp_grammar.specs.Rescoping.{is_unseen, name_if}
-use Rattle.cpp_grammar.proofs.Choosing.{chosen_rule, taken_passes, implied}
-use Rattle.cpp_grammar.proofs.ClosedValues.{AllGood, GoodPrefix, good_tree, good_part}
 use Rattle.cpp_grammar.proofs.NoneFree.{none_encoding}
-use Rattle.cpp_grammar.proofs.ClosedStates.{Bare, Within, AllOld, old_later, old_grows, ok_same, behind_bind}
-use Rattle.cpp_grammar.proofs.ClosedParts.{StaysInside}
-use Rattle.cpp_grammar.proofs.Declared.{is_declaration, is_first, declares, parts_apart, is_nothing, read_of, read_none}
-use Rattle.cpp_grammar.proofs.Ways.{has_signature, Way, reading_by, abi_way, differs}
-use Rattle.cpp_grammar.proofs.ClosedTrees.{is_encoding, has_encoding, opens, or_true, at_number, its_symbols, stays, takes_byte, Whole, old_fits, grows_fits, old_inner, known, name_comes, same_found, stepped, inner_closes, KeepsClosed, forest_good, tree_good_by, trees_good_by, left_apart, rule_apart, one_read}
 use Rattle.cpp_term.proofs.KindsNoted.{is_special_kind, in_special, encodings_open, special_types}
 use Rattle.cpp_term.proofs.MeaningNoted.{Inside, Shut}
 use Rattle.cpp_term.proofs.Passing.{IsSeen, is_literal, Sees}
@@ -54,7 +25,7 @@ nameless_ at vs state = record { context = in_name at; values = vs; state = stat
 
 -- ## Encodings among the parts of a production
 
--- the values after the parts so far are those of the next parts
+-- what is done before a part keeps the values of the parts so far
 abbrev Keeps : Way → Production → Type 0
 Keeps way p = (around : Around) (place : ℕ) (vs : List Value) (state : State) (n : Next Value State Around) → way.between p around place vs state ≡ Ok n → n.values ≡ vs
 
@@ -209,7 +180,7 @@ module _ (way : Way) (keeps : KeepsClosed way) (sees : Sees way) where
   inner_closed Production.Mark o f rule from state r is trees lt le old e byte around = absurd (false≢true o)
   inner_closed _ o f rule from state r is trees lt le old e byte around = absurd (false≢true o)
 
-  -- where an encoding isn't passed over, it is read as the plain reading does
+  -- an encoding that isn't passed over is read as in the ABI's reading
   opens_close : (p : Production) → opens p ≡ true → (byte : ℕ) (around : Around) (place : ℕ) (began : State) (vs : List Value) (state : State) → IsSeen around → way.close p byte around place began vs state ≡ close p byte around place began vs state
   unfolding opens differs name_if close unfolding_.behind
   opens_close Production.Encoding o byte around place began vs state seen =

@@ -1,23 +1,12 @@
 -- What was annotated is erased again.
-use Rattle.std.proofs.Common.{◌≡◌, refl, ap, sym, ◌∙◌, List, Result, Ok, Err}
-use Rattle.sym_core.specs.declared.refusal.Refusal.{Refusal}
+use Rattle.cpp_term.proofs.Basics.{◌≡◌, refl, ap, sym, ◌∙◌, List, Result, Ok, Err, Refusal, Kind, Tree, IsTree, Found, ◌>>=◌, unfold_tree, wide, Term, symbol, function, object, special, thunk, of_name, construction, clone, alone, in_std, within, instance, local, holder, tagged, of_default, lambda, generic_lambda, conversion, pointer, lvalue, rvalue, array, constrained, bounded, member_pointer, function_type, qualified, vector, complex, expansion, integer, encoding_literal, address_of, pack, list, decltype, inheriting, operation, enumeration, bindings, declaring, unfold_cpp, unfold_wide, Place, nowhere, in_own, place_of, annotate, noted_tree, erase, CarriesArguments}
 use Rattle.sym_core.specs.declared.refusal.Refusal.TheVariants as refusals
-use Rattle.sym_shape.specs.declared.rule.Sym.TheVariants.{Kind}
-use Rattle.sym_shape.specs.Tree.{Tree, IsTree}
 use Rattle.sym_link.specs.Driving.{Fails}
-use Rattle.sym_link.specs.Reading.{Found, ◌>>=◌}
-use Rattle.sym_link.specs.Unfold.{unfold_tree}
-use Rattle.cpp_grammar.specs.Table.{wide}
-use Rattle.cpp_grammar.specs.Term.{Term, symbol, function, object, special, thunk, of_name, construction, clone, alone, in_std, within, instance, local, holder, tagged, of_default, lambda, generic_lambda, conversion, pointer, lvalue, rvalue, array, constrained, bounded, member_pointer, function_type, qualified, vector, complex, expansion, integer, encoding_literal, address_of, pack, list, decltype, inheriting, operation, enumeration, bindings, declaring}
-use Rattle.cpp_grammar.specs.Unfolding.{unfold_cpp}
-use Rattle.cpp_grammar.specs.Rescoping.{unfold_wide}
 use Rattle.cpp_term.specs.Term as term_
 use Rattle.cpp_term.specs.Scope as scope_
 use Rattle.cpp_term.specs.Values.{Value, State}
 use Rattle.cpp_term.specs.Unfolding as unfolded_
 use Rattle.cpp_term.specs.Rescoping as wide_
-use Rattle.cpp_term.specs.Annotated.{Place, nowhere, in_own, place_of, annotate, noted_tree}
-use Rattle.cpp_term.specs.Erased.{erase, CarriesArguments}
 use Rattle.cpp_term.proofs.Notes.{both}
 use Rattle.cpp_term.proofs.TreesNoted.{unfold_noted, wide_unfold_noted}
 
@@ -74,7 +63,7 @@ erased s _ = refl
 pub carries_arguments : (t : Term) → CarriesArguments (annotate nowhere t)
 carries_arguments t = ap (annotate nowhere) (erased nowhere t)
 
--- a tree with arguments, and the tree without them, which is read
+-- the tree that is read is this one without its arguments
 pub record IsSymbolTree (read : Result Term Refusal) (t : term_.Term) : Type 0 where
   pub plain : read ≡ Ok (erase t)
   pub carries : CarriesArguments t
@@ -111,7 +100,7 @@ unfolding tree_read
 fails_by read reading refusals.Memory same fails = tt
 fails_by read reading refusal same fails = refused_alike read (tree_read reading) refusal same (ap tree_read fails)
 
--- a shape that is read is that of a symbol, whose tree is that of its one value
+-- if a shape is read, the tree of its symbol is the tree of the one value that was read
 pub reading_stands : (shape : Tree) (r : Found (List Value) State) → IsTree wide (Kind 0) shape → unfold_tree unfolded_.cpp unfolded_.first_around 0 shape unfolded_.first_state ≡ Ok r →
     IsSymbolTree (unfold_cpp shape) (unfolded_.first_tree r.value)
 unfolding unfolded_.unfold_cpp tree_read
@@ -122,7 +111,7 @@ pub wide_reading_stands : (shape : Tree) (r : Found (List Value) State) → IsTr
 unfolding wide_.unfold_wide tree_read
 wide_reading_stands shape r is e = stands_by (unfold_wide shape) (unfold_tree wide_.cpp_wide unfolded_.first_around 0 shape unfolded_.first_state) r (wide_unfold_noted shape is) e
 
--- a shape whose reading fails is that of a symbol that is refused
+-- if the reading of a shape fails, its symbol is refused for the same reason
 pub reading_fails : (shape : Tree) (refusal : Refusal) → IsTree wide (Kind 0) shape → Fails refusal (unfold_tree unfolded_.cpp unfolded_.first_around 0 shape unfolded_.first_state) → Fails refusal (unfold_cpp shape)
 unfolding unfolded_.unfold_cpp tree_read
 reading_fails shape refusal is fails = fails_by (unfold_cpp shape) (unfold_tree unfolded_.cpp unfolded_.first_around 0 shape unfolded_.first_state) refusal (unfold_noted shape is) fails

@@ -1,26 +1,7 @@
 -- The parts of a production that stays in its encoding, annotated.
-use Rattle.std.proofs.Common.{◌≡◌, refl, ap, sym, ◌∙◌, subst, ℕ, ◌+◌, ◌<◌, ◌≤◌, List, [], ◌∷◌, ◌++◌, length, Bool, true, false, ◌||◌, ◌&&◌, None, Ok, inl, inr, arith}
-use Rattle.std.proofs.lemmas.Bool.{true≢false}
-use Rattle.sym_shape.specs.declared.rule.Sym.{Sym}
-use Rattle.sym_shape.specs.declared.rule.Sym.TheVariants.{Kind as OfKind}
-use Rattle.sym_shape.specs.Law.{IsSymbol, AreSymbols}
-use Rattle.sym_shape.specs.Tree.{Tree, Forest, nothing, grown, spell, IsTree, AreTrees}
-use Rattle.sym_link.specs.Reading.{Found, Open, ◌>>=◌}
-use Rattle.sym_link.specs.Unfold.{unfold_tree, unfold_forest}
-use Rattle.cpp_grammar.specs.declared.production.Production.{Production}
-use Rattle.cpp_grammar.specs.Table.{wide}
-use Rattle.cpp_grammar.specs.Scope.{is_open}
+use Rattle.cpp_term.proofs.Basics.{◌≡◌, refl, ap, sym, ◌∙◌, subst, ℕ, ◌+◌, ◌<◌, ◌≤◌, List, [], ◌∷◌, ◌++◌, length, Bool, true, false, ◌||◌, ◌&&◌, None, Ok, inl, inr, arith, true≢false, Sym, Kind as OfKind, IsSymbol, AreSymbols, Tree, Forest, nothing, grown, spell, IsTree, AreTrees, Found, Open, ◌>>=◌, unfold_tree, unfold_forest, Production, wide, is_open, Candidate, State, Around, Value, production_at, AllGood, GoodPrefix, held, Bare, Within, AllOld, AllNew, Grows, old_grows, StaysInside, Way, reading_by, is_first, skips, parts_apart, is_nothing, read_of, hides, is_encoding, has_encoding, TreeYields, KeepsClosed, tree_good_by, old_fits, grows_fits, or_true, left_apart, one_read, skipped_stays, Place, nowhere, in_own, around_place, place_in, annotate, noted_value, noted_values, noted_around}
 use Rattle.cpp_grammar.specs.Values as leaf_
-use Rattle.cpp_grammar.specs.Values.{Candidate, State, Around, Value}
-use Rattle.cpp_grammar.specs.Unfolding.{production_at}
-use Rattle.cpp_grammar.proofs.ClosedValues.{AllGood, GoodPrefix, held}
-use Rattle.cpp_grammar.proofs.ClosedStates.{Bare, Within, AllOld, AllNew, Grows, old_grows}
-use Rattle.cpp_grammar.proofs.ClosedParts.{StaysInside}
-use Rattle.cpp_grammar.proofs.Ways.{Way, reading_by}
-use Rattle.cpp_grammar.proofs.Declared.{is_first, skips, parts_apart, is_nothing, read_of, hides}
-use Rattle.cpp_grammar.proofs.ClosedTrees.{is_encoding, has_encoding, TreeYields, KeepsClosed, tree_good_by, old_fits, grows_fits, or_true, left_apart, one_read, skipped_stays}
 use Rattle.cpp_term.specs.Values as value_
-use Rattle.cpp_term.specs.Annotated.{Place, nowhere, in_own, around_place, place_in, annotate, noted_value, noted_values, noted_around}
 use Rattle.cpp_term.proofs.KindsNoted.{is_special_kind}
 use Rattle.cpp_term.proofs.Notes.{both, or_left, or_right, closed_noted}
 use Rattle.cpp_term.proofs.StatesNoted.{Settled, Alike, alike_bind, Same, Moves, moves_none, moves_then, same_moves, IsNoted, AllNoted}
@@ -115,7 +96,7 @@ one_noted s vs v is = ap (noted_values s) is
 
 -- ## Trees and forests
 
--- a tree of a kind of special names: where nothing is named
+-- the kinds of special names: nothing is named in them
 unfoldable pub is_special : Sym → Bool
 is_special (OfKind k) = is_special_kind k
 is_special _ = false
@@ -124,7 +105,7 @@ unfoldable pub has_special : List Sym → Bool
 has_special [] = false
 has_special (x ∷ xs) = is_special x || has_special xs
 
--- the values of parts, both ways, where their parameters name this
+-- the values of parts, with arguments and without, at this place
 pub record Many (own : Bool) (s : Place) (around : Around) (x : State) (y : value_.State) (a : Found (List Value) State) (b : Found (List value_.Value) value_.State) : Type 0 where
   pub values : b.value ≡ noted_values s a.value
   pub moves : Moves own around x y a.state b.state
@@ -138,16 +119,16 @@ abbrev pub AllTreesNoted : Way → NotedWay → Forest → Type 0
 AllTreesNoted way noted_way nothing = Unit {0}
 AllTreesNoted way noted_way (grown t f) = TreeNoted way noted_way t × AllTreesNoted way noted_way f
 
--- the values of the parts of a production, both ways
+-- the values of a production's parts, with arguments and without
 pub record Parts (own : Bool) (p : Production) (around : Around) (x : State) (y : value_.State) (a : Found (List Value) State) (b : Found (List value_.Value) value_.State) : Type 0 where
   pub values : b.value ≡ noted_parts p own (parts_place own p around) a.value
   pub moves : Moves own around x y a.state b.state
 
--- an existing rule, annotated
+-- an open rule, annotated
 abbrev pub noted_open : (own : Bool) → Open State Around → value_.State → Open value_.State value_.Around
 noted_open own rule first = record { rule = rule.rule; taken = rule.taken; place = rule.place; context = noted_around own rule.context; before = first }
 
--- the value of a part, as it is annotated with the others
+-- a part's value is annotated in the same way by itself and with the other values
 outer_value : (way : Way) (s : Place) (x : Sym) (inner : Around) (t : Tree) (r : Found (List Value) State) (at end : ℕ) (old : State) → Placed way.own s x inner → (c : TreeYields way.own x inner end old r) → IsTree wide x t → unfold_tree (reading_by way) inner at t old ≡ Ok r →
     noted_value (place_at way.own x inner) c.value ≡ noted_value s c.value
 unfolding noted_values value_.part

@@ -1,20 +1,14 @@
 -- What annotating keeps in a context: packs, arguments, heads, and which elements are empty.
-use Rattle.std.proofs.Common.{◌≡◌, refl, ap, sym, ◌∙◌, cond, ℕ, Bool, true, false, ◌&&◌, Option, Some, None}
-use Rattle.cpp_grammar.specs.Term.{Term, parameter, rvalue, qualified, expansion, pack, list, absent, declaring}
-use Rattle.cpp_grammar.specs.Scope.{element, arguments_of, Free, none_free, one_free, several_free, free_in, pack_length}
-use Rattle.cpp_grammar.specs.Items.{Signature, in_none, undeclared, declared_in, Context, auto, indexed, own_argument, argument, Head, lref, collapsed, head_with, head_closed, head, packs_of, is_none_of, is_empty}
-use Rattle.cpp_grammar.specs.References.{packs_in}
+use Rattle.cpp_term.proofs.Basics.{◌≡◌, refl, ap, sym, ◌∙◌, cond, ℕ, Bool, true, false, ◌&&◌, Option, Some, None, Term, parameter, rvalue, qualified, expansion, pack, list, absent, declaring, element, arguments_of, Free, none_free, one_free, several_free, free_in, pack_length, Signature, in_none, undeclared, declared_in, Context, auto, indexed, own_argument, argument, Head, lref, collapsed, head_with, head_closed, head, packs_of, is_none_of, is_empty, packs_in, given_for, reargued, bare, Place, nowhere, in_own, in_declared, place_of, place_in, place_within, argument_in, annotate, context_place, noted_context}
 use Rattle.cpp_term.specs.Term as term_
 use Rattle.cpp_term.specs.Scope as scope_
 use Rattle.cpp_term.specs.Items as item_
-use Rattle.cpp_term.specs.Reargued.{given_for, reargued, bare}
 use Rattle.cpp_term.proofs.Reargued.{pack_reargued}
-use Rattle.cpp_term.specs.Annotated.{Place, nowhere, in_own, in_declared, place_of, place_in, place_within, argument_in, annotate, context_place, noted_context}
 use Rattle.cpp_term.proofs.Notes.{both, element_noted, types_place, NameThis, renoted, packs_noted}
 
 -- ## Packs
 
--- where the types of an encoding are
+-- what the parameters in an encoding's types name
 pub within_types : (name : Term) → place_of (scope_.arguments_of (annotate nowhere name)) ≡ place_within (arguments_of name) in_none
 unfolding place_in place_within
 within_types name = types_place name ∙ same (arguments_of name)
@@ -23,7 +17,7 @@ within_types name = types_place name ∙ same (arguments_of name)
     same None = refl
     same (Some arguments) = refl
 
--- a signature that declares parameters is what each of them is given
+-- a tree that is re-read under a signature that declares parameters is annotated under that signature
 pub declared_noted : (heads parameters t : Term) → reargued (Some (annotate in_own (declaring heads parameters))) (annotate in_own t) ≡ annotate (in_declared (annotate in_own (declaring heads parameters))) t
 unfolding annotate argument_in given_for
 declared_noted heads parameters t = renoted (in_declared s) in_own s t (names (free_in t))
@@ -40,7 +34,7 @@ cond_none : (b : Bool) → ◌≡◌ {A = Option ℕ} (cond b None None) None
 cond_none true = refl
 cond_none false = refl
 
--- it is no pack
+-- without a scope no tree has packs, in whatever signature it is
 packs_within : (s : Signature) (t : Term) → scope_.pack_length (annotate (place_within None s) t) ≡ None
 unfolding place_within place_in packs_in annotate scope_.length_if_pack
 packs_within in_none t = packs_noted None false t
@@ -64,7 +58,7 @@ indexed_noted s None t = refl
 indexed_noted s (Some i) (pack elements) = element_noted s elements i
 indexed_noted s (Some i) _ = refl
 
--- under a scope
+-- an argument of a scope, for a pack its element at the index
 pub argument_noted : (index : Option ℕ) (arguments : Term) (k : ℕ) → item_.indexed index (scope_.element (annotate nowhere arguments) k) ≡ annotate nowhere (indexed index (element arguments k))
 argument_noted index arguments k = ap (item_.indexed index) (element_noted nowhere arguments k) ∙ indexed_noted nowhere index (element arguments k)
 

@@ -1,13 +1,7 @@
 -- Laws of the table that imply `Insides`: encodings are made by productions that open one, and what a special name is about
 -- occurs only in the kinds of special names.
-use Rattle.std.proofs.Common.{◌≡◌, refl, ℕ, Bool, true, false, not, ◌||◌, nat_eq}
+use Rattle.cpp_term.proofs.Basics.{◌≡◌, refl, ℕ, Bool, true, false, not, ◌||◌, nat_eq, Production, SPECIAL, SPECIAL_AFTER_G, number_of_kind, wide_alternatives, each_passes, opens}
 use Rattle.cpp_grammar.specs.declared.kind.Kind.{Kind}
-use Rattle.cpp_grammar.specs.declared.production.Production.{Production}
-use Rattle.cpp_grammar.specs.KindNumbers.{SPECIAL, SPECIAL_AFTER_G}
-use Rattle.cpp_grammar.specs.Grammar.{number_of_kind}
-use Rattle.cpp_grammar.specs.Wide.{wide_alternatives}
-use Rattle.cpp_grammar.proofs.Choosing.{each_passes}
-use Rattle.cpp_grammar.proofs.ClosedTrees.{opens}
 
 -- the kinds of special names
 unfoldable pub is_special_kind : ℕ → Bool

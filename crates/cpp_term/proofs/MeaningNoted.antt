@@ -1,22 +1,12 @@
 -- What productions denote, annotated.
-use Rattle.std.proofs.Common.{◌≡◌, refl, ap, sym, ◌∙◌, ℕ, zero, suc, List, [], ◌∷◌, Bool, true, false, not, ◌&&◌, cond, nat_eq, Option, Some, None}
-use Rattle.std.proofs.lemmas.Bool.{true≢false, false≢true, and_parts}
-use Rattle.cpp_grammar.specs.declared.production.Production.{Production}
-use Rattle.cpp_grammar.specs.Term.{RefQualifier, any_value, lvalue_only, rvalue_only, non_virtual, by_table, adjusting, covariant, Term, instance, local, of_default, inheriting, operator, builtin, lvalue, rvalue, encoding_literal, list, lambda}
-use Rattle.cpp_grammar.specs.Scope.{arguments_of, before_arguments, is_structor, has_return_type, is_open}
+use Rattle.cpp_term.proofs.Basics.{◌≡◌, refl, ap, sym, ◌∙◌, ℕ, zero, suc, List, [], ◌∷◌, Bool, true, false, not, ◌&&◌, cond, nat_eq, Option, Some, None, true≢false, false≢true, and_parts, Production, RefQualifier, any_value, lvalue_only, rvalue_only, non_virtual, by_table, adjusting, covariant, Term, instance, local, of_default, inheriting, operator, builtin, lvalue, rvalue, encoding_literal, list, lambda, arguments_of, before_arguments, is_structor, has_return_type, is_open, Around, Prefix, prefix_tree, prefix_listed, Value, unqualified, tree_of, piece_of, is_listed, qualifiers_of, ref_of, letter_of, is_there, mark_of, text_of, signed_of, adjustment_of, normal, signed_digits, local_number, part, meaning, is_unseen, Source, Made, Listing, Own, Form, given, all_given, made, is_listing, meant, row_of, Place, nowhere, around_place, place_of, place_in, annotate, noted_value, noted_values, noted_prefix, noted_around}
 use Rattle.cpp_grammar.specs.Values as leaf_
-use Rattle.cpp_grammar.specs.Values.{Around, Prefix, prefix_tree, prefix_listed, Value, unqualified, tree_of, piece_of, is_listed, qualifiers_of, ref_of, letter_of, is_there, mark_of, text_of, signed_of, adjustment_of, normal, signed_digits, local_number, part}
 use Rattle.cpp_grammar.specs.Between as going_
 use Rattle.cpp_grammar.specs.Meaning as meaning_
-use Rattle.cpp_grammar.specs.Meaning.{meaning}
-use Rattle.cpp_grammar.specs.Rescoping.{is_unseen}
 use Rattle.cpp_grammar.specs.Makers.{Maker, new_symbol, new_special, new_of_name, new_construction, new_clone, new_in_std, new_instance, new_local, new_abbreviation, new_source, new_operator, new_literal_operator, new_constructor, new_unnamed, new_string_literal, new_conversion, new_builtin, new_sized_float, new_constrained, new_vendor, new_pointer, new_lvalue, new_rvalue, new_array, new_bounded, new_member_pointer, new_function_type, new_qualified, new_vector, new_complex, new_expansion, new_integer, new_boolean, new_null_pointer, new_decltype, new_encoding_literal, new_operation, new_function_parameter, new_pack, new_enumeration, new_bindings}
 use Rattle.cpp_grammar.specs.Builders.{Argument, a_tree, some_bytes, a_number, a_truth, some_qualifiers, a_mark, a_signed, a_discriminator, tree_in, bytes_in, number_in, truth_in, qualifiers_in, mark_in, signed_in, discriminator_in, argument, built}
 use Rattle.cpp_grammar.specs.Row as row_
-use Rattle.cpp_grammar.specs.Row.{Source, Made, Listing, Own, Form}
 use Rattle.cpp_grammar.specs.Own.{own_meaning}
-use Rattle.cpp_grammar.specs.Meant.{given, all_given, made, is_listing, meant}
-use Rattle.cpp_grammar.specs.Rows.{row_of}
 use Rattle.cpp_term.specs.Term as term_
 use Rattle.cpp_term.specs.Scope as scope_
 use Rattle.cpp_term.specs.Values as value_
@@ -25,7 +15,6 @@ use Rattle.cpp_term.specs.Meaning as noted_
 use Rattle.cpp_term.specs.Builders as builder_
 use Rattle.cpp_term.specs.Own as code_
 use Rattle.cpp_term.specs.Meant as meant_
-use Rattle.cpp_term.specs.Annotated.{Place, nowhere, around_place, place_of, place_in, annotate, noted_value, noted_values, noted_prefix, noted_around}
 use Rattle.cpp_term.proofs.Notes.{both, choose, choose_cond, arguments_noted, noted_in, types_place, closed_noted}
 use Rattle.cpp_term.proofs.SeenNoted.{is_structor_noted, is_nil_noted, is_comma_noted, ends_arguments_noted}
 
@@ -336,7 +325,7 @@ Inside Production.EncodingLiteral vs = is_open (tree_of (part vs 1)) ≡ false
 Inside Production.Encoding vs = ⊥
 Inside _ vs = Unit {0}
 
--- in a constraint the wide grammar's reading passes over a literal of an encoding, whose name may have free parameters
+-- the wide grammar's reading passes over a literal of an encoding in a constraint; the name of such an encoding may have free parameters
 abbrev pub Shut : (own : Bool) → Production → Around → List Value → Type 0
 Shut true Production.EncodingLiteral around vs = is_unseen around ≡ false → is_open (tree_of (part vs 1)) ≡ false
 Shut own p around vs = Inside p vs

@@ -1,19 +1,8 @@
--- The two readings of C++ over trees with arguments, as one, and what makes one of them the annotated form of one without.
-use Rattle.std.proofs.Common.{◌≡◌, refl, ap, ◌∙◌, ℕ, ◌-◌, ◌^◌, List, [], ◌∷◌, Bool, true, false, ◌&&◌, nat_lt, Result, Ok, Err}
-use Rattle.std.proofs.lemmas.Bool.{true≢false}
-use Rattle.sym_core.specs.declared.refusal.Refusal.{Refusal}
-use Rattle.sym_shape.specs.Tree.{Forest}
-use Rattle.sym_link.specs.Reading.{Found, Reading}
-use Rattle.sym_link.specs.Unfold.{found}
-use Rattle.cpp_grammar.specs.declared.production.Production.{Production}
+-- Both readings of C++ over trees with arguments, as one; and when such a reading is the annotated form of one without them.
+use Rattle.cpp_term.proofs.Basics.{◌≡◌, refl, ap, ◌∙◌, ℕ, ◌-◌, ◌^◌, List, [], ◌∷◌, Bool, true, false, ◌&&◌, nat_lt, Result, Ok, Err, true≢false, Refusal, Forest, Found, Reading, found, Production, last_token, production_at, byte_of, local_number, BadValue, StaysInside, Way, abi_way, wide_way, differs, noted_around}
 use Rattle.cpp_grammar.specs.Values as leaf_
 use Rattle.cpp_grammar.specs.Unfolding as leaf_opening
 use Rattle.cpp_grammar.specs.Rescoping as leaf_wide
-use Rattle.cpp_grammar.specs.Unfolding.{last_token, production_at, byte_of}
-use Rattle.cpp_grammar.specs.Values.{local_number}
-use Rattle.sym_core.specs.declared.refusal.Refusal.TheVariants.{BadValue}
-use Rattle.cpp_grammar.proofs.ClosedParts.{StaysInside}
-use Rattle.cpp_grammar.proofs.Ways.{Way, abi_way, wide_way, differs}
 use Rattle.cpp_term.specs.Term.{Term}
 use Rattle.cpp_term.specs.Scope.{is_open}
 use Rattle.cpp_term.specs.Values.{State, Around, Value, nothing_there, text, tree_of, part}
@@ -21,7 +10,6 @@ use Rattle.cpp_term.specs.Between.{Continuation, next, in_name, in_types, betwee
 use Rattle.cpp_term.specs.Meaning.{meaning}
 use Rattle.cpp_term.specs.Unfolding.{number_tested, opening, behind, close}
 use Rattle.cpp_term.specs.Rescoping.{is_passed_over, passed_over, name_around, types_around, name_if, opening_wide, between_wide, close_wide}
-use Rattle.cpp_term.specs.Annotated.{noted_around}
 use Rattle.cpp_term.proofs.MeaningNoted.{Shut}
 use Rattle.cpp_term.proofs.AwaitedNoted.{item_noted}
 use Rattle.cpp_term.proofs.StatesNoted.{Alongside, Settled, Alike, Same, Moves, moves_none, noting_moves}
@@ -57,7 +45,7 @@ noted_name_by passes place = elim passes [ true ↦ passed_over place | false �
 unfoldable pub noted_types_by : (passes : Bool) → (place : ℕ) → (name : Term) → Around
 noted_types_by passes place name = elim (passes && is_open name) [ true ↦ passed_over place | false ↦ in_types place name ]
 
--- except for references, constraints and encodings it agrees with the reading of the ABI's grammar
+-- a reading agrees with that of the ABI's grammar, except for references, constraints and encodings
 pub record IsPlainNoted (v : NotedWay) : Type 0 where
   pub name : (around : Around) (place : ℕ) (state : State) → v.between Production.Encoding around place [] state ≡ next [] (noted_name_by (v.passes around) place) state
   pub types : (around : Around) (place : ℕ) (u : Value) (state : State) → v.between Production.Encoding around place (u ∷ []) state ≡ next (u ∷ []) (noted_types_by (v.passes around) place (tree_of u)) state
@@ -67,7 +55,7 @@ pub record IsPlainNoted (v : NotedWay) : Type 0 where
   pub close : (p : Production) → differs p ≡ false → (byte : ℕ) (around : Around) (place : ℕ) (began : State) (vs : List Value) (state : State) →
       v.close p byte around place began vs state ≡ close p byte around place began vs state
 
--- within an encoding it agrees with the other, with arguments
+-- a reading with arguments agrees within an encoding with one without them
 pub record IsNotedBy (w : Way) (v : NotedWay) : Type 0 where
   pub plain : IsPlainNoted v
   pub sees : Sees w

@@ -1,22 +1,15 @@
 -- The parts of an annotated item are those of the item.
-use Rattle.std.proofs.Common.{◌≡◌, refl, ap, sym, ◌∙◌, ℕ, zero, suc, ◌+◌, List, [], ◌∷◌, ◌++◌, Bool, true, false, cond, nat_eq, nat_le, Option, Some, None, codes, decimal, nat_lt, ◌^◌}
+use Rattle.cpp_term.proofs.Basics.{◌≡◌, refl, ap, sym, ◌∙◌, ℕ, zero, suc, ◌+◌, List, [], ◌∷◌, ◌++◌, Bool, true, false, cond, nat_eq, nat_le, Option, Some, None, codes, decimal, nat_lt, ◌^◌, Detail, PartOf, text, sub, Qualifiers, RefQualifier, any_value, lvalue_only, rvalue_only, explicit_object, Signed, Term, symbol, function, object, of_name, alone, in_std, within, instance, local, holder, tagged, of_default, abbreviation, parameter, source, constructor, destructor, inheriting, lambda, generic_lambda, bindings, builtin, sized_float, pointer, lvalue, rvalue, array, bounded, member_pointer, function_type, qualified, expansion, integer, operation, function_parameter, pack, nil, list, absent, declaring, element, arguments_of, without_tags, letter_name, qualifier_text, ref_text, blank_last, encoding_text, is_below, reargued, Place, nowhere, in_own, place_of, place_in, place_within, context_place, argument_in, annotate, noted_scope, noted_context, noted_item, noted_part, noted_parts}
 use Prim.Native.String.{String}
-use Rattle.sym_print.specs.declared.detail.Detail.{Detail}
 use Rattle.sym_print.specs.Details.{has_arguments, has_parameters}
-use Rattle.sym_print.specs.Unfold.{PartOf, text, sub}
-use Rattle.cpp_grammar.specs.Term.{Qualifiers, RefQualifier, any_value, lvalue_only, rvalue_only, explicit_object, Signed, Term, symbol, function, object, of_name, alone, in_std, within, instance, local, holder, tagged, of_default, abbreviation, parameter, source, constructor, destructor, inheriting, lambda, generic_lambda, bindings, builtin, sized_float, pointer, lvalue, rvalue, array, bounded, member_pointer, function_type, qualified, expansion, integer, operation, function_parameter, pack, nil, list, absent, declaring}
-use Rattle.cpp_grammar.specs.Scope.{element, arguments_of, without_tags}
 use Rattle.cpp_grammar.specs.Items.{Form, root, full, bare, left, right, low, base, piece, first, more, expand, declared, Signature, in_none, undeclared, declared_in, signature_of, indexed, own_argument, Context, signature_in, Item, closed, argument, head, is_reference, is_funarr, packs_of, is_empty}
 use Rattle.cpp_grammar.specs.Parts as leaf_
-use Rattle.cpp_grammar.specs.Parts.{letter_name, qualifier_text, ref_text, blank_last, encoding_text, is_below}
 use Rattle.cpp_grammar.specs.declared.operand.Operand.{Operand}
 use Rattle.cpp_grammar.specs.Operations.{Operation}
 use Rattle.cpp_grammar.specs.Texts.{look_up, named_special_texts, literal_endings}
 use Rattle.cpp_term.specs.Items as item_
 use Rattle.cpp_term.specs.Scope as scope_
 use Rattle.cpp_term.specs.Parts as part_
-use Rattle.cpp_term.specs.Reargued.{reargued}
-use Rattle.cpp_term.specs.Annotated.{Place, nowhere, in_own, place_of, place_in, place_within, context_place, argument_in, annotate, noted_scope, noted_context, noted_item, noted_part, noted_parts}
 use Rattle.cpp_term.proofs.Notes.{both, choose, choose_cond, element_noted}
 use Rattle.cpp_term.proofs.HeadsNoted.{within_types, declared_noted, argument_noted, packs_of_noted, head_noted, empty_noted}
 use Rattle.cpp_term.proofs.SeenNoted.{opening_text_noted, precedence_of_noted}

@@ -1,23 +1,6 @@
--- An encoding is passed over as the part of a literal in a constraint alone. So nothing else is read where one is passed over.
-use Rattle.std.proofs.Common.{◌≡◌, refl, ap, sym, ◌∙◌, ℕ, ◌-◌, List, [], ◌∷◌, length, Bool, true, false, ◌&&◌, cond, ◌⊎◌, inl, inr, Ok, Err}
-use Rattle.sym_core.specs.declared.refusal.Refusal.TheVariants.{BadReference}
-use Rattle.sym_core.specs.declared.NumberKind.TheVariants.{Seq36}
-use Rattle.sym_core.specs.Value.{counted_value}
-use Rattle.sym_link.specs.Reading.{Next}
-use Rattle.cpp_grammar.specs.declared.production.Production.{Production}
-use Rattle.cpp_grammar.specs.Term.{Term, holder, parameter}
-use Rattle.cpp_grammar.specs.Values.{is_at_literal, State, Around, prefix_tree, prefix_listed, Value, tree, tree_of, text_of, part}
-use Rattle.cpp_grammar.specs.References.{appended, parameter_named}
-use Rattle.cpp_grammar.specs.Between.{Continuation, in_name, in_types, in_signature, under_expansion, after, inside, next, listed_so_far, parameter_so_far, argument_so_far, index_of, between}
-use Rattle.cpp_grammar.specs.Row.{Where, in_its_name, in_its_types, Action, quiet, goes, becomes, tests, holds, unread, before_part}
-use Rattle.cpp_grammar.specs.Meant.{made, around_part, packs_within, gained, replaced, tested, done}
-use Rattle.cpp_grammar.specs.Rows.{row_of}
+-- An encoding is passed over only as a part of a literal in a constraint. So no other part is read where one is passed over.
+use Rattle.cpp_term.proofs.Basics.{◌≡◌, refl, ap, sym, ◌∙◌, ℕ, ◌-◌, List, [], ◌∷◌, length, Bool, true, false, ◌&&◌, cond, ◌⊎◌, inl, inr, Ok, Err, BadReference, Seq36, counted_value, Next, Production, Term, holder, parameter, is_at_literal, State, Around, prefix_tree, prefix_listed, Value, tree, tree_of, text_of, part, appended, parameter_named, Continuation, in_name, in_types, in_signature, under_expansion, after, inside, next, listed_so_far, parameter_so_far, argument_so_far, index_of, between, Where, in_its_name, in_its_types, Action, quiet, goes, becomes, tests, holds, unread, before_part, made, around_part, packs_within, gained, replaced, tested, done, row_of, is_open, either, if_there, ok_same, behind_bind, is_nothing, Way, abi_way, wide_way}
 use Rattle.cpp_grammar.specs.Rescoping.{generic_number, generic_so_far, parameter_here, argument_here, with_holder, is_instance, holder_so_far, with_held, module_named, module_so_far, in_constraint_of, is_unseen, in_literal, is_passed_over, passed_over, name_around, types_around, between_wide}
-use Rattle.cpp_grammar.specs.Scope.{is_open}
-use Rattle.cpp_grammar.proofs.Chosen.{either, if_there}
-use Rattle.cpp_grammar.proofs.ClosedStates.{ok_same, behind_bind}
-use Rattle.cpp_grammar.proofs.Declared.{is_nothing}
-use Rattle.cpp_grammar.proofs.Ways.{Way, abi_way, wide_way}
 
 -- an encoding that begins here isn't passed over
 abbrev pub IsSeen : Around → Type 0
@@ -27,7 +10,7 @@ unfoldable pub is_literal : Production → Bool
 is_literal Production.EncodingLiteral = true
 is_literal _ = false
 
--- the encoding of a literal in a constraint
+-- this part is the encoding of a literal in a constraint
 abbrev pub IsLiteral : (own : Bool) → Production → Around → List Value → Type 0
 IsLiteral own p around vs = (own ≡ true) × (is_literal p ≡ true) × (is_unseen around ≡ true) × (is_nothing vs ≡ false)
 

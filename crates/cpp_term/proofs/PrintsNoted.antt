@@ -1,22 +1,11 @@
 -- An annotated item prints what the item does.
-use Rattle.std.proofs.Common.{◌≡◌, refl, ap, sym, ◌∙◌, subst, ℕ, List, [], ◌∷◌, Result, Ok, Err}
-use Rattle.sym_core.specs.declared.refusal.Refusal.{Refusal}
-use Rattle.sym_print.specs.declared.detail.Detail.{Detail}
-use Rattle.sym_print.specs.Unfold.{PartOf, text, sub, printed, AreAlike}
+use Rattle.cpp_term.proofs.Basics.{◌≡◌, refl, ap, sym, ◌∙◌, subst, ℕ, List, [], ◌∷◌, Result, Ok, Err, Refusal, Detail, PartOf, text, sub, printed, AreAlike, Term, Item, parts, rank, shown, root_item, answer_within, place_within, noted_item, noted_part, noted_parts, noted_scope, noted_context, noted_tree, noted_shown, noted_answer, erase, CarriesArguments}
 use Rattle.sym_print.proofs.Unfolding.{alike-prints}
-use Rattle.cpp_grammar.specs.Term.{Term}
-use Rattle.cpp_grammar.specs.Items.{Item}
-use Rattle.cpp_grammar.specs.Parts.{parts}
-use Rattle.cpp_grammar.specs.Ranks.{rank}
-use Rattle.cpp_grammar.specs.Answer.{shown, root_item, answer_within}
 use Rattle.cpp_grammar.proofs.RanksFall.{ranks_fall}
 use Rattle.sym_print.specs.Answer.{text_within}
 use Rattle.cpp_term.specs.Items as item_
 use Rattle.cpp_term.specs.Parts as part_
 use Rattle.cpp_term.specs.Ranks as rank_
-use Rattle.cpp_term.specs.Annotated.{place_within, noted_item, noted_part, noted_parts, noted_scope, noted_context, noted_tree}
-use Rattle.cpp_term.specs.Answer.{noted_shown, noted_answer}
-use Rattle.cpp_term.specs.Erased.{erase, CarriesArguments}
 use Rattle.cpp_term.specs.Term as term_
 use Rattle.cpp_term.proofs.PartsNoted.{parts_noted}
 use Rattle.cpp_term.proofs.RanksNoted as noted_ranks
@@ -37,12 +26,12 @@ alike d i j e = subst (λ ps. AreAlike Noted (parts d i) ps) (sym (ap (part_.par
 pub prints_noted : (d : Detail) (i : Item) → printed (parts d) rank i ≡ printed (part_.parts d) rank_.rank (noted_item i)
 prints_noted d i = alike-prints Noted (parts d) rank (ranks_fall d) (part_.parts d) rank_.rank (noted_ranks.ranks_fall d) (alike d) i (noted_item i) refl
 
--- The tree of a symbol prints what it does without its arguments.
+-- The tree of a symbol prints the same without its arguments.
 pub shows_noted : (d : Detail) (t : term_.Term) → CarriesArguments t → noted_shown d t ≡ shown d (root_item (erase t))
 unfolding noted_item noted_context noted_scope place_within
 shows_noted d t carries = ap (noted_shown d) (sym carries) ∙ sym (prints_noted d (root_item (erase t)))
 
--- An annotated result gives the answer.
+-- An annotated result gives the same answer.
 pub answer_noted : (d : Detail) (limit : ℕ) (r : Result Term Refusal) → noted_answer d limit (noted_tree r) ≡ answer_within d limit r
 unfolding noted_tree noted_item noted_context noted_scope place_within
 answer_noted d limit (Ok t) = ap (text_within limit) (sym (prints_noted d (root_item t)))

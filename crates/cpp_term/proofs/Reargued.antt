@@ -1,14 +1,9 @@
 -- What another argument of the free parameters keeps of a tree, and what it changes.
-use Rattle.std.proofs.Common.{◌≡◌, refl, ap, ◌∙◌, ℕ, zero, suc, ◌<◌, arith, Bool, true, false, cond, not, ◌||◌, ◌&&◌, nat_lt, Option, Some, None}
-use Rattle.std.proofs.lemmas.Bool.{true≢false, ltb-true}
-use Rattle.cpp_grammar.specs.Items.{is_none_of, lref, collapsed}
-use Rattle.cpp_grammar.specs.Scope.{Free, none_free, one_free, several_free, both_free, first_of}
+use Rattle.cpp_term.proofs.Basics.{◌≡◌, refl, ap, ◌∙◌, ℕ, zero, suc, ◌<◌, arith, Bool, true, false, cond, not, ◌||◌, ◌&&◌, nat_lt, Option, Some, None, true≢false, ltb-true, is_none_of, lref, collapsed, Free, none_free, one_free, several_free, both_free, first_of, erase, if_alone, given_for, argument_or, given_alone, reargued, reargued_if_there, bare, HeadFrom, of_its_own, of_argument, collapsed_of_argument, collapsed_from, head_from, class_from, is_empty_with}
 use Rattle.cpp_grammar.specs.Term as term_
 use Rattle.cpp_term.specs.Term.{Term, alone, in_std, within, instance, local, holder, tagged, of_default, parameter, constructor, destructor, lambda, conversion, pointer, lvalue, rvalue, array, constrained, bounded, member_pointer, function_type, qualified, vector, complex, expansion, integer, pack, list, absent, decltype, inheriting, operation, enumeration, bindings, declaring}
 use Rattle.cpp_term.specs.Scope.{count, element, is_list, is_alone, has_pack, arguments_of, before_arguments, is_structor, without_tags, has_return_type, is_open, free_in, length_if_pack, pack_length}
 use Rattle.cpp_term.specs.Items.{Context, HeadClass, known, of_element, collapsed_of_element, collapsed_class, class_of, packs_of, is_empty}
-use Rattle.cpp_term.specs.Erased.{erase}
-use Rattle.cpp_term.specs.Reargued.{if_alone, given_for, argument_or, given_alone, reargued, reargued_if_there, bare, HeadFrom, of_its_own, of_argument, collapsed_of_argument, collapsed_from, head_from, class_from, is_empty_with}
 use Rattle.cpp_term.proofs.Notes.{both, or_left, or_right}
 
 -- ## The tree
@@ -330,7 +325,7 @@ given_alone_twice a none_free = refl
 given_alone_twice a (one_free k) = given_twice a k
 given_alone_twice a (several_free m) = refl
 
--- a tree with the head of its one parameter gets only that one's argument
+-- if a tree's head is that of its one parameter, re-reading the tree needs only this parameter's argument
 pub reargued_lone : (a t : Term) → (head_from t ≡ of_its_own → ⊥) → reargued (Some (given_alone a (free_in t))) t ≡ reargued (Some a) t
 unfolding reargued argument_or head_from collapsed_from free_in given_alone
 reargued_lone a (rvalue t) other = ap (λ x. rvalue x) (reargued_lone a t (λ own. other (ap collapsed_from own)))

@@ -1,27 +1,15 @@
--- The state that is threaded through the bytes, annotated: the candidates of an encoding by its scope, and closed ones in any
--- way.
-use Rattle.std.proofs.Common.{◌≡◌, refl, ap, sym, ◌∙◌, subst, ℕ, zero, suc, List, [], ◌∷◌, ◌++◌, Bool, true, false, not, ◌||◌, ◌&&◌, nat_eq, nat_lt, slice_get, Option, Some, None, Result, Ok, Err}
-use Rattle.std.proofs.lemmas.Bool.{eqb-true, true≢false, false≢true, and_parts}
-use Rattle.std.proofs.lemmas.List.{append_assoc, append-nil}
-use Rattle.sym_core.specs.declared.refusal.Refusal.{Refusal}
-use Rattle.sym_core.specs.declared.refusal.Refusal.TheVariants.{BadReference}
-use Rattle.sym_link.specs.Reading.{Found, ◌>>=◌}
-use Rattle.sym_link.specs.Unfold.{found}
-use Rattle.cpp_grammar.specs.Term.{Term, holder, parameter, function_type, operation}
+-- The state that is passed from byte to byte, annotated: the candidates of an encoding by the encoding's scope, and closed
+-- candidates in any way.
+use Rattle.cpp_term.proofs.Basics.{◌≡◌, refl, ap, sym, ◌∙◌, subst, ℕ, zero, suc, List, [], ◌∷◌, ◌++◌, Bool, true, false, not, ◌||◌, ◌&&◌, nat_eq, nat_lt, slice_get, Option, Some, None, Result, Ok, Err, eqb-true, true≢false, false≢true, and_parts, append_assoc, append-nil, Refusal, BadReference, Found, ◌>>=◌, found, Term, holder, parameter, function_type, operation, Counted, by_all, by_newer, Lists, longer_list, shorter_list, both_lists, no_list, Expected, Counting, Around, prefix_tree, prefix_listed, Value, State, Candidate, tree_of, is_listed, appended, appended_by, is_function_type, with_type, with_unqualified, with_prefix, with_packs, packs_in, is_module, substituted, parameter_named, with_holder, is_before_holder, is_by_newer, is_by_all, is_by_some, is_in_list, named_in, named_by_both, joined, counted_so_far, fits, can_be_named, is_prefix_at, is_qualified_at, has_head, head_at, may_be, left_by, left_at, with_lists, listed_by, noting, is_foreign, in_scope, under_scope, with_free, restated, substituted_wide, numbered, reargued, given_for, Place, nowhere, around_place, place_in, in_own, in_arguments, argument_in, annotate, noted_scope, noted_value, noted_prefix, noted_around}
 use Rattle.cpp_grammar.specs.Scope.{count, element, is_list, has_pack, is_open, length_if_pack, pack_length, Free, none_free, one_free, several_free, free_in}
 use Rattle.cpp_grammar.specs.Values as leaf_
-use Rattle.cpp_grammar.specs.Values.{Counted, by_all, by_newer, Lists, longer_list, shorter_list, both_lists, no_list, Expected, Counting, Around, prefix_tree, prefix_listed, Value, State, Candidate, tree_of, is_listed}
-use Rattle.cpp_grammar.specs.References.{appended, appended_by, is_function_type, with_type, with_unqualified, with_prefix, with_packs, packs_in, is_module, substituted, parameter_named}
 use Rattle.cpp_grammar.specs.Rescoping as rescoping_
-use Rattle.cpp_grammar.specs.Rescoping.{with_holder, is_before_holder, is_by_newer, is_by_all, is_by_some, is_in_list, named_in, named_by_both, joined, counted_so_far, fits, can_be_named, is_prefix_at, is_qualified_at, has_head, head_at, may_be, left_by, left_at, with_lists, listed_by, noting, is_foreign, in_scope, under_scope, with_free, restated, substituted_wide, numbered}
 use Rattle.cpp_term.specs.Term as term_
 use Rattle.cpp_term.specs.Scope as scope_
 use Rattle.cpp_term.specs.Values as value_
 use Rattle.cpp_term.specs.References as noted_
 use Rattle.cpp_term.specs.Rescoping as wide_
 use Rattle.cpp_term.specs.Items as item_
-use Rattle.cpp_term.specs.Reargued.{reargued, given_for}
-use Rattle.cpp_term.specs.Annotated.{Place, nowhere, around_place, place_in, in_own, in_arguments, argument_in, annotate, noted_scope, noted_value, noted_prefix, noted_around}
 use Rattle.cpp_term.proofs.Reargued.{given_same, given_element}
 use Rattle.cpp_term.proofs.Notes.{both, choose, count_noted, element_noted, pack_noted, open_noted, closed_noted, length_noted, packs_noted, NameThis, renoted, free_noted}
 use Rattle.cpp_term.proofs.SeenNoted.{is_list_noted}
@@ -45,7 +33,7 @@ alike_bind R Q (Err e) (Ok b) f g r next = absurd r
 
 -- ## Candidates
 
--- a candidate with its arguments, for what is in an encoding
+-- a candidate with its arguments, in these surroundings
 pub record IsNoted (own : Bool) (around : Around) (c : Candidate) (d : value_.Candidate) : Type 0 where
   pub encoding : d.encoding ≡ c.encoding
   -- the scope by which it was annotated
@@ -65,12 +53,12 @@ AllNoted own around _ _ = ⊥
 abbrev pub Alongside : State → value_.State → Type 0
 Alongside x y = (y.packs ≡ x.packs) × (y.counting ≡ x.counting)
 
--- two states that are alike
+-- two states that are alike: one is the other with arguments
 pub record Same (own : Bool) (around : Around) (x : State) (y : value_.State) : Type 0 where
   pub packs : Alongside x y
   pub all : AllNoted own around x.candidates y.candidates
 
--- from two states to two others: candidates are appended
+-- two states become two others, to which the same candidates were appended
 pub record Moves (own : Bool) (around : Around) (x : State) (y : value_.State) (later : State) (noted : value_.State) : Type 0 where
   pub more : List Candidate
   pub others : List value_.Candidate
@@ -200,13 +188,13 @@ get_noted own around (c ∷ cs) (d ∷ ds) (suc n) all = get_noted own around cs
 get_noted own around [] (d ∷ ds) n all = absurd all
 get_noted own around (c ∷ cs) [] n all = absurd all
 
--- the value of a part, both ways
+-- the value of a part, with arguments and without
 pub record Comes (own : Bool) (around : Around) (x : State) (y : value_.State) (a : Found Value State) (b : Found value_.Value value_.State) : Type 0 where
   pub value : b.value ≡ noted_value (around_place own around) a.value
   pub moves : Moves own around x y a.state b.state
 
--- A candidate that may be named here has its arguments by the scope here: an open candidate was made in no signature whose
--- parameters are its own.
+-- A candidate that may be named here has its arguments by the scope here: if it is open, it was made outside of any signature
+-- whose parameters are the lambda's own.
 abbrev pub IsOutside : (own : Bool) → Option Candidate → Type 0
 IsOutside own None = Unit {0}
 IsOutside own (Some c) = is_open c.tree ≡ true → own ≡ true → c.in_lambda ≡ false
@@ -221,7 +209,7 @@ noted_here own around c d n outside e = go (is_open c.tree) around.in_lambda (na
     go true false false is-open is-lambda is-same h = absurd cc
     go true false true is-open is-lambda is-same h = n.here (eqb-true c.encoding around.encoding is-same) is-lambda (outside is-open)
 
--- a tree that is found, once its packs are as long as the others
+-- a tree that a reference names, once its packs are as long as the earlier ones
 found_noted : (own : Bool) (around : Around) (place : ℕ) (t : Term) (u : term_.Term) (m n : Option ℕ) (x : State) (y : value_.State) → u ≡ annotate (around_place own around) t → n ≡ m →
     Alongside x y → Alike (Comes own around x y)
     (with_packs place around.in_expansion m x >>= λ z. Ok (found (leaf_.tree t true) z)) (noted_.with_packs place around.in_expansion n y >>= λ z. Ok (found (value_.tree u true) z))
@@ -484,7 +472,7 @@ listed_by_noted shorter_list around place number x y settled same =
 listed_by_noted both_lists around place number x y settled same = refl
 listed_by_noted no_list around place number x y settled same = refl
 
--- compilers count one list as they count the other
+-- a number names the same candidate with arguments and without
 pub wide_numbered_noted : (around : Around) (place number : ℕ) (x : State) (y : value_.State) → Settled around → Same true around x y →
     Alike (Comes true around x y) (numbered around place number x) (wide_.numbered (noted_around true around) place number y)
 unfolding numbered wide_.numbered with_lists wide_.with_lists

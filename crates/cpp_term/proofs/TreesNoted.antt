@@ -1,42 +1,10 @@
 -- Unfolding with arguments is unfolding without, annotated.
-use Rattle.std.proofs.Common.{◌≡◌, refl, ap, sym, ◌∙◌, subst, nat_eq, ℕ, suc, ◌+◌, ◌<◌, ◌≤◌, List, [], ◌∷◌, ◌++◌, length, Bool, true, false, not, ◌||◌, ◌&&◌, Option, None, Result, Ok, Err, inl, inr, arith, lit≤}
-use Rattle.std.proofs.lemmas.Bool.{true≢false, false≢true, cases_Bool}
-use Rattle.sym_core.specs.declared.refusal.Refusal.{Refusal}
-use Rattle.sym_shape.specs.declared.rule.Rule.{Rule}
-use Rattle.sym_shape.specs.declared.rule.Sym.{Sym}
-use Rattle.sym_shape.specs.declared.rule.Sym.TheVariants.{Kind as OfKind}
-use Rattle.sym_shape.specs.Table.{symbols_of}
-use Rattle.sym_shape.specs.Law.{IsSymbol}
-use Rattle.sym_shape.specs.Tree.{Tree, Forest, branch, empty, token, fixed, nothing, grown, spell, TakesRule, IsTree, AreTrees}
-use Rattle.sym_link.specs.Reading.{Found, Open, Next, ◌>>=◌}
+use Rattle.cpp_term.proofs.Basics.{◌≡◌, refl, ap, sym, ◌∙◌, subst, nat_eq, ℕ, suc, ◌+◌, ◌<◌, ◌≤◌, List, [], ◌∷◌, ◌++◌, length, Bool, true, false, not, ◌||◌, ◌&&◌, Option, None, Result, Ok, Err, inl, inr, arith, lit≤, true≢false, false≢true, cases_Bool, Refusal, Rule, Sym, Kind as OfKind, symbols_of, IsSymbol, Tree, Forest, branch, empty, token, fixed, nothing, grown, spell, TakesRule, IsTree, AreTrees, Found, Open, Next, ◌>>=◌, Production, Operation, SYMBOL, SPECIAL, SPECIAL_MARK, SPECIAL_AFTER_G, COMPLETE_NAME, ITEMS, parts_of, number_of_kind, wide, rule_of, wide_sound, Term, is_open, arguments_of, in_name, in_types, between, no_items, meaning, passed_over, name_if, cpp_wide, unfold_wide, Good, GoodPrefix, held, good_tree, Bare, Within, AllOld, AllNew, Grows, old_later, old_grows, StaysInside, chosen_rule, taken_passes, either, first_of_both, name_by, types_by, Way, reading_by, abi_way, wide_way, differs, is_declaration, is_first, declares, is_nothing, read_none, is_encoding, opens, at_number, its_symbols, stays, takes_byte, Whole, taken_rule, KeepsClosed, abi_keeps, wide_keeps, Detail, answer_within, noted_answer, Place, nowhere, around_place, place_in, annotate, noted_scope, noted_value, noted_values, noted_prefix, noted_around, noted_tree}
 use Rattle.sym_link.specs.Unfold.{found, alone, unfold_tree, unfold_forest}
-use Rattle.cpp_grammar.specs.declared.production.Production.{Production}
-use Rattle.cpp_grammar.specs.declared.production.Operation.{Operation}
-use Rattle.cpp_grammar.specs.KindNumbers.{SYMBOL, SPECIAL, SPECIAL_MARK, SPECIAL_AFTER_G, COMPLETE_NAME, ITEMS}
-use Rattle.cpp_grammar.specs.Grammar.{parts_of, number_of_kind}
-use Rattle.cpp_grammar.specs.Table.{wide, rule_of}
-use Rattle.cpp_grammar.specs.TableLaws.{wide_sound}
-use Rattle.cpp_grammar.specs.Term.{Term}
-use Rattle.cpp_grammar.specs.Scope.{is_open, arguments_of}
 use Rattle.cpp_grammar.specs.Values.{shown, is_at_literal, Candidate, State, Around, Value, tree_of, part}
-use Rattle.cpp_grammar.specs.Between.{in_name, in_types, between, no_items}
-use Rattle.cpp_grammar.specs.Meaning.{meaning}
-use Rattle.cpp_grammar.specs.Rescoping.{passed_over, name_if, cpp_wide, unfold_wide}
 use Rattle.cpp_grammar.specs.Unfolding as unfolding_
 use Rattle.cpp_grammar.specs.Unfolding.{last_token, number_tested, opening, production_at, byte_of, close, cpp}
-use Rattle.cpp_grammar.proofs.ClosedValues.{Good, GoodPrefix, held, good_tree}
-use Rattle.cpp_grammar.proofs.ClosedStates.{Bare, Within, AllOld, AllNew, Grows, old_later, old_grows}
-use Rattle.cpp_grammar.proofs.ClosedParts.{StaysInside}
-use Rattle.cpp_grammar.proofs.Choosing.{chosen_rule, taken_passes}
-use Rattle.cpp_grammar.proofs.Chosen.{either}
-use Rattle.cpp_grammar.proofs.Steps.{first_of_both}
-use Rattle.cpp_grammar.proofs.Ways.{name_by, types_by, Way, reading_by, abi_way, wide_way, differs}
-use Rattle.cpp_grammar.proofs.Declared.{is_declaration, is_first, declares, is_nothing, read_none}
 use Rattle.cpp_grammar.proofs.ClosedTrees as trees_
-use Rattle.cpp_grammar.proofs.ClosedTrees.{is_encoding, opens, at_number, its_symbols, stays, takes_byte, Whole, taken_rule, KeepsClosed, abi_keeps, wide_keeps}
-use Rattle.sym_print.specs.declared.detail.Detail.{Detail}
-use Rattle.cpp_grammar.specs.Answer.{answer_within}
-use Rattle.cpp_term.specs.Answer.{noted_answer}
 use Rattle.cpp_term.proofs.PrintsNoted.{answer_noted}
 use Rattle.cpp_term.specs.Term as term_
 use Rattle.cpp_term.specs.Scope as scope_
@@ -45,7 +13,6 @@ use Rattle.cpp_term.specs.Between as between_
 use Rattle.cpp_term.specs.Rescoping as wide_
 use Rattle.cpp_term.specs.Unfolding as unfolded_
 use Rattle.cpp_term.specs.Meaning as noted_
-use Rattle.cpp_term.specs.Annotated.{Place, nowhere, around_place, place_in, annotate, noted_scope, noted_value, noted_values, noted_prefix, noted_around, noted_tree}
 use Rattle.cpp_term.proofs.EncodingsClosed.{one_production, insides}
 use Rattle.cpp_term.proofs.Notes.{both, choose, or_left, or_right, closed_noted, open_noted, scope_noted}
 use Rattle.cpp_term.proofs.MeaningNoted.{Shut, three, part_noted, tree_noted, qualifiers_noted, ref_noted, items_noted, encoding_noted}
@@ -57,7 +24,7 @@ use Rattle.cpp_term.proofs.NotedWays.{noted_name_by, noted_types_by, NotedWay, r
 use Rattle.cpp_term.proofs.KindsNoted.{is_special_kind, encodings_open}
 use Rattle.cpp_term.proofs.ForestNoted.{is_special, has_special, Many, TreeNoted, AllTreesNoted, noted_open, Parts, forest_noted, cancel, value_closed}
 
--- only the production of special names has a part of that kind
+-- only productions that begin encodings have a part that is a special name
 plain_special : (p : Production) → opens p || not (has_special (parts_of p)) ≡ true
 unfolding opens has_special is_special is_special_kind parts_of number_of_kind
 plain_special Production.Mark = refl
@@ -72,7 +39,7 @@ no_special p h = go (opens p) (has_special (parts_of p)) h (plain_special p)
     go false true h k = absurd (false≢true k)
     go true b h k = absurd (true≢false h)
 
--- a kind of encodings is none of what is declared
+-- a production that begins an encoding is no declaration
 opens_plain : (p : Production) → opens p ≡ true → is_declared p ≡ false
 unfolding opens is_declared
 opens_plain Production.Mark h = absurd (false≢true h)
@@ -81,7 +48,7 @@ opens_plain _ h = cc
 encoding_kind : (k : ℕ) (rule : Rule) (taken : List ℕ) (p : Production) → k < wide.kinds → TakesRule wide k rule taken → rule ≡ rule_of p → opens p ≡ true → is_declaration (OfKind k) ≡ false
 encoding_kind k rule taken p lt takes is h = sym (of_its_kind k rule taken lt takes).declared ∙ ap is_declared (ap (λ x. production_at x.number) is ∙ at_number p) ∙ opens_plain p h
 
--- a production of the kind of encodings begins one
+-- only productions that begin encodings are of the kind of encodings
 plain_kind : (k : ℕ) (rule : Rule) (taken : List ℕ) (p : Production) → k < wide.kinds → TakesRule wide k rule taken → rule ≡ rule_of p → opens p ≡ false → is_encoding (OfKind k) ≡ false
 unfolding is_encoding
 plain_kind k rule taken p lt takes is plain =
@@ -94,7 +61,7 @@ plain_kind k rule taken p lt takes is plain =
 
 -- ## Encodings
 
--- in the name of an encoding that begins here, or in its types
+-- earlier candidates stay annotated in the name of an encoding that begins here, and in its types
 all_within : (own : Bool) (around inner : Around) (at : ℕ) (cs : List Candidate) (ds : List value_.Candidate) → inner.encoding ≡ at → around.encoding < at → AllOld own around at cs → AllNoted own around cs ds → AllNoted own inner cs ds
 all_within own around inner at [] [] is lt old all = tt
 all_within own around inner at (c ∷ cs) (d ∷ ds) is lt old all =
@@ -105,7 +72,7 @@ all_within own around inner at (c ∷ cs) (d ∷ ds) is lt old all =
 all_within own around inner at [] (d ∷ ds) is lt old all = absurd all
 all_within own around inner at (c ∷ cs) [] is lt old all = absurd all
 
--- what the name appended, in the types: it is closed, unless it is in a signature
+-- the candidates that the name appended stay annotated in the types: they are closed, unless the name is in a signature
 all_types : (own : Bool) (inner other : Around) (end : ℕ) (cs : List Candidate) (ds : List value_.Candidate) → inner.encoding ≡ other.encoding → inner.scope ≡ None → AllNew own inner end cs → AllNoted own inner cs ds → AllNoted own other cs ds
 all_types own inner other end [] [] is none new all = tt
 all_types own inner other end (c ∷ cs) (d ∷ ds) is none new all = (
@@ -144,7 +111,7 @@ moves_out own around inner at end x later y noted is lt grows m = record {
   each = all_out own around inner at end m.more m.others is lt (subst (λ cs. AllNew own inner end cs) (cancel x.candidates grows.more m.more (sym grows.is ∙ m.is)) grows.each) m.each;
 }
 
--- nothing is named in the name of an encoding, and in its types its arguments
+-- in the name of an encoding parameters name nothing, and in its types they name its arguments
 name_place : (own : Bool) (at : ℕ) → around_place own (in_name at) ≡ nowhere
 unfolding in_name place_in
 name_place true at = refl
@@ -155,13 +122,13 @@ unfolding in_types
 items_place true at name = refl
 items_place false at name = refl
 
--- what an encoding denotes, both ways
+-- what an encoding denotes, with arguments and without
 record Ends (own : Bool) (around : Around) (a : Found (List Value) State) (b : Found (List value_.Value) value_.State) (u : Found Value State) (v : Found value_.Value value_.State) : Type 0 where
   value : v.value ≡ noted_value (around_place own around) u.value
   state : u.state ≡ a.state
   noted : v.state ≡ b.state
 
--- by the values of its parts
+-- likewise by the values of its parts
 record Inner (way : Way) (noted_way : NotedWay) (p : Production) (around : Around) (place : ℕ) (x : State) (y : value_.State) (a : Found (List Value) State) (b : Found (List value_.Value) value_.State) : Type 0 where
   ends : (byte : ℕ) (began : State) (first : value_.State) →
       Alike (Ends way.own around a b) (way.close p byte around place began a.value a.state) (noted_way.close p byte (noted_around way.own around) place first b.value b.state)
@@ -237,7 +204,7 @@ types_seen : (passes : Bool) (at : ℕ) (name : Term) → IsSeen (types_by passe
 unfolding types_by passed_over in_types is_at_literal
 types_seen passes at name = either {A = Around} (λ a. IsSeen a) (passes && is_open name) _ _ (λ is. refl) (λ is. refl)
 
--- where it is passed over, it is in a signature, and so is its name
+-- an encoding that is passed over is in a signature, and so is its name
 passed_place : (own passes : Bool) (around : Around) (at : ℕ) → Settled around → (passes ≡ true → (own ≡ true) × (around.in_lambda ≡ true)) → passes ≡ true → around_place own (name_by passes at) ≡ around_place own around
 unfolding name_by passed_over place_in
 passed_place true true around at settled inside is = let l = (inside refl).1 in sym (own_place around (settled l) l)
@@ -373,7 +340,7 @@ module _ (way : Way) (keeps : KeepsClosed way) (noted_way : NotedWay) (ways : Is
       (noted x (in_name at) from state other known is le (λ opening. absurd (true≢false (sym opening ∙ plain))) (λ special. (refl, λ o. refl))
       (λ own first. absurd (true≢false (sym first ∙ or_right (is_declaration x) (is_first x) named))) (λ l. absurd (false≢true l)) (λ other_. refl) tt old same)
 
-  -- special names are read as the plain reading does
+  -- special names are read as in the ABI's reading
   plain_ends : (p : Production) → opens p ≡ true → differs p ≡ false → (around : Around) (place : ℕ) (a : Found (List Value) State) (b : Found (List value_.Value) value_.State) (byte : ℕ) (began : State) (first : value_.State) →
       noted_.meaning p byte (noted_around way.own around) b.value ≡ noted_value (around_place way.own around) (meaning p byte around a.value) →
       Alike (Ends way.own around a b) (way.close p byte around place began a.value a.state) (noted_way.close p byte (noted_around way.own around) place first b.value b.state)
@@ -620,7 +587,7 @@ unfold_noted shape is =
     (tree_noted_ abi_way abi_keeps abi_noted abi_is_noted shape (OfKind SYMBOL) unfolding_.first_around 0 unfolding_.first_state unfolded_.first_state (trees_.known 0 (lit≤ tt)) is (omega arith) (λ opening. absurd (false≢true opening)) (λ special. absurd (false≢true special)) (λ own first. absurd (false≢true first)) (λ l. absurd (false≢true l)) (λ plain. refl) tt tt
     (record { packs = (refl, refl); all = tt }))
 
--- And likewise in the wide grammar.
+-- Likewise in the wide grammar.
 pub wide_unfold_noted : (shape : Tree) → IsTree wide (OfKind SYMBOL) shape → wide_.unfold_wide shape ≡ noted_tree (unfold_wide shape)
 unfolding cpp_wide wide_.cpp_wide reading_by reading_noted_by wide_way wide_noted wide_.unfold_wide unfold_wide unfolding_.first_around unfolding_.first_state unfolded_.first_around unfolded_.first_state is_encoding is_special is_special_kind is_declaration is_first is_at_literal place_at noted_around noted_scope noted_prefix place_in
 wide_unfold_noted shape is =
@@ -628,7 +595,7 @@ wide_unfold_noted shape is =
     (tree_noted_ wide_way wide_keeps wide_noted wide_is_noted shape (OfKind SYMBOL) unfolding_.first_around 0 unfolding_.first_state unfolded_.first_state (trees_.known 0 (lit≤ tt)) is (omega arith) (λ opening. absurd (false≢true opening)) (λ special. absurd (false≢true special)) (λ own first. absurd (false≢true first)) (λ l. absurd (false≢true l)) (λ plain. refl) tt tt
     (record { packs = (refl, refl); all = tt }))
 
--- So the answer may be read from either.
+-- The answer may be read from either tree.
 pub same_answer : (d : Detail) (limit : ℕ) (shape : Tree) → IsTree wide (OfKind SYMBOL) shape → noted_answer d limit (unfolded_.unfold_cpp shape) ≡ answer_within d limit (unfolding_.unfold_cpp shape)
 same_answer d limit shape is = ap (noted_answer d limit) (unfold_noted shape is) ∙ answer_noted d limit (unfolding_.unfold_cpp shape)
 
@@ -643,7 +610,7 @@ all_as_many own around (c ∷ cs) (d ∷ ds) all = ap suc (all_as_many own aroun
 all_as_many own around [] (d ∷ ds) all = absurd all
 all_as_many own around (c ∷ cs) [] all = absurd all
 
--- the reading of a symbol with arguments, beside the one without: the same number of trees become candidates
+-- a symbol's reading with arguments, for a reading without them: equally many trees become candidates
 pub record ReadWithArguments (shape : Tree) (read : Found (List Value) State) : Type 0 where
   pub other : Found (List value_.Value) value_.State
   pub is : unfold_tree unfolded_.cpp unfolded_.first_around 0 shape unfolded_.first_state ≡ Ok other

@@ -1,31 +1,16 @@
--- What a symbol is read into is a whole symbol.
-use Rattle.std.proofs.Common.{◌≡◌, refl, ap, sym, subst, ◌∙◌, ℕ, ◌+◌, List, [], ◌∷◌, length, Bool, true, false, cond, Some, None, Result, Ok, lit≤, arith}
-use Rattle.std.proofs.lemmas.Bool.{true≢false}
-use Rattle.sym_core.specs.declared.refusal.Refusal.{Refusal}
-use Rattle.sym_shape.specs.declared.rule.Sym.TheVariants.{Kind as OfKind}
-use Rattle.sym_shape.specs.Tree.{Tree, branch, empty, token, fixed, IsTree}
-use Rattle.sym_link.specs.Reading.{Found, Open, ◌>>=◌}
+-- A symbol is read into the tree of a whole symbol.
+use Rattle.cpp_term.proofs.Basics.{◌≡◌, refl, ap, sym, subst, ◌∙◌, ℕ, ◌+◌, List, [], ◌∷◌, length, Bool, true, false, cond, Some, None, Result, Ok, lit≤, arith, true≢false, Refusal, Kind as OfKind, Tree, branch, empty, token, fixed, IsTree, Found, Open, ◌>>=◌, Production, SYMBOL, number_of_kind, pick, kinds, may_be_empty, wide_alternatives, wide_choose, wide, wide_sheet, sheet_with, production_at, byte_of, differs, ok_same, behind_bind, at_number, known, chosen_rule}
 use Rattle.sym_link.specs.Unfold.{found, alone, standing, unfold_tree, unfold_forest}
 use Rattle.cpp_grammar.specs.declared.kind.Kind.{Kind}
-use Rattle.cpp_grammar.specs.declared.production.Production.{Production}
-use Rattle.cpp_grammar.specs.KindNumbers.{SYMBOL}
-use Rattle.cpp_grammar.specs.Grammar.{number_of_kind, pick, kinds, may_be_empty}
-use Rattle.cpp_grammar.specs.Wide.{wide_alternatives, wide_choose}
-use Rattle.cpp_grammar.specs.Table.{wide, wide_sheet, sheet_with}
-use Rattle.cpp_grammar.specs.Unfolding.{production_at, byte_of}
 use Rattle.cpp_grammar.specs.Term as plain_
 use Rattle.cpp_grammar.specs.Unfolding as plain_unfolding
 use Rattle.cpp_grammar.specs.Rescoping as plain_wide
-use Rattle.cpp_grammar.proofs.Ways.{differs}
-use Rattle.cpp_grammar.proofs.ClosedStates.{ok_same, behind_bind}
-use Rattle.cpp_grammar.proofs.ClosedTrees.{at_number, known}
 use Rattle.cpp_term.specs.Term.{Term, symbol}
 use Rattle.cpp_term.specs.Values.{State, Around, Value, tree, tree_of, text_of, part}
 use Rattle.cpp_term.specs.Meaning.{meaning}
 use Rattle.cpp_term.specs.Unfolding.{behind, close, cpp, first_around, first_state, first_tree, unfold_cpp}
 use Rattle.cpp_term.specs.Rescoping.{cpp_wide}
 use Rattle.cpp_term.specs.ReadAs.{IsReadAs}
-use Rattle.cpp_grammar.proofs.Choosing.{chosen_rule}
 use Rattle.cpp_term.proofs.NotedWays.{NotedWay, reading_noted_by, abi_noted, wide_noted, IsPlainNoted, abi_is_noted, wide_is_noted}
 use Rattle.cpp_term.proofs.Erasing.{IsSymbolTree, reading_stands, wide_reading_stands}
 

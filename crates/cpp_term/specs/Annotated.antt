@@ -1,4 +1,4 @@
--- The tree in which each free parameter carries its argument, from the tree without them and the arguments that are named.
+-- The tree in which each free parameter carries its argument, from the tree without arguments and what its parameters name.
 use Rattle.std.specs.Prelude.{ℕ, List, [], ◌∷◌, Bool, true, false, ◌&&◌, Option, Some, None, Result, Ok, Err}
 use Rattle.sym_core.specs.declared.refusal.Refusal.{Refusal}
 use Rattle.sym_print.specs.Unfold.{PartOf, text, sub}
@@ -19,7 +19,7 @@ pub data Place : Type 0 where
   in_own : Place
   in_declared : (signature : term_.Term) → Place
 
--- where arguments are named, if there are some
+-- the place where these arguments are named, or none are
 unfoldable pub place_of : Option term_.Term → Place
 place_of None = nowhere
 place_of (Some arguments) = in_arguments arguments
@@ -116,7 +116,7 @@ place_within None undeclared = in_own
 place_within None (declared_in heads parameters) = in_declared (annotate in_own (declaring heads parameters))
 place_within (Some arguments) signature = in_arguments (annotate nowhere arguments)
 
--- and in what is printed
+-- what parameters name in the context of an item
 abbrev pub context_place : Context → Place
 context_place context = place_within context.scope context.in_signature
 
@@ -151,7 +151,7 @@ unfoldable pub noted_tree : Result Term Refusal → Result term_.Term Refusal
 noted_tree (Ok t) = Ok (annotate nowhere t)
 noted_tree (Err refusal) = Err refusal
 
--- what is printed: what parameters name is in the tree
+-- the context of an annotated item: only the index, since the tree says what its parameters name
 unfoldable pub noted_context : Context → item_.Context
 noted_context context = record { index = context.index }
 

@@ -15,7 +15,7 @@ use Rattle.cpp_term.specs.Ranks as rank_
 abbrev pub noted_root : term_.Term → item_.Item
 noted_root t = record { tree = t; form = root; context = item_.closed }
 
--- what it prints, with nothing shared
+-- what that item prints, with nothing shared
 abbrev pub noted_shown : Detail → term_.Term → Unshared
 noted_shown detail t = printed (part_.parts detail) rank_.rank (noted_root t)
 

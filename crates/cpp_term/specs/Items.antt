@@ -10,7 +10,7 @@ use Rattle.cpp_term.specs.Scope.{element, pack_length}
 pub record Context : Type 0 where
   pub index : Option ℕ
 
--- a tree in a form; of a list the elements from here on
+-- a tree in a form; for a list, its elements from this one on
 pub record Item : Type 0 where
   pub tree : Term
   pub form : Form
@@ -21,7 +21,7 @@ pub record Item : Type 0 where
 abbrev pub closed : Context
 closed = record { index = None }
 
--- for a pack, its element at the index
+-- a pack's element at the index, or any other tree itself
 unfoldable pub indexed : Option ℕ → Term → Term
 indexed (Some i) (pack elements) = element elements i
 indexed index t = t
@@ -34,8 +34,8 @@ auto = builtin (68 ∷ 97 ∷ [])
 unfoldable pub argument : Context → Term → Term
 argument context a = indexed context.index a
 
--- The head of a type as far as it doesn't depend on an index: it is known, or that of an element of these, or what an
--- rvalue reference to such an element collapses to.
+-- The head of a type as far as it doesn't depend on an index: it is known, or it is that of an element of a list, or what an
+-- rvalue reference to that element collapses to.
 pub data HeadClass : Type 0 where
   known : Head → HeadClass
   of_element : (elements : Term) → HeadClass

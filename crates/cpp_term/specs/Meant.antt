@@ -92,7 +92,7 @@ around_part around place vs nameless = inside around
 around_part around place vs (after_part k listing) = after (tree_of (part vs k)) (is_listing vs listing) around
 around_part around place vs after_the_name = after (prefix_tree around.prefix) true around
 
--- an expansion names its packs anew
+-- under an expansion no packs have been named yet
 unfoldable pub packs_within : Where → State → State
 packs_within under_it state = record state { packs = None }
 packs_within w state = state
@@ -104,12 +104,12 @@ gained (type_of k) around vs v state = with_type around (part vs k) state
 gained (unqualified_of k) around vs v state = with_unqualified around (part vs k) state
 gained itself around vs v state = appended around (tree_of v) state
 
--- the first of the values is now this one
+-- the values, with this one in place of the first
 unfoldable pub replaced : Value → List Value → List Value
 replaced t [] = []
 replaced t (v ∷ vs) = t ∷ vs
 
--- a parameter is written in the place of its number
+-- a parameter takes the place of its number
 unfoldable pub tested : (is_name : Bool) → Around → Term → List Value → (now before : State) → Continuation
 tested is_name around t vs now before =
     next (replaced (tree t true) vs) (cond is_name (after t true around) around) (cond is_name now (record now { candidates = before.candidates }))
@@ -125,7 +125,7 @@ done (tests after_t is_name) around place vs state =
     parameter_named around (cond after_t (place - 1) place) k state >>= λ s. tested is_name around (parameter k (argument_at around k)) vs s state
 -- the ABI's grammar has no M in a name
 done holds around place vs state = Err (BadReference place)
--- nor an inherited constructor
+-- the ABI's grammar has no inherited constructor
 done unread around place vs state = Err (BadReference place)
 
 -- ## Once its parts are read

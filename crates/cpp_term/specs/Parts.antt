@@ -26,7 +26,7 @@ unfoldable pub text_part : List ℕ → List (PartOf Item)
 text_part [] = []
 text_part (b ∷ bs) = text (b ∷ bs) ∷ []
 
--- nor is an empty list
+-- an empty list isn't a part
 unfoldable pub list_part : Form → Context → Term → List (PartOf Item)
 list_part form context nil = []
 list_part form context t = as_item form context t ∷ []
@@ -37,7 +37,7 @@ begins_parameters explicit_object nil = codes "("
 begins_parameters explicit_object parameters = codes "(this "
 begins_parameters _ parameters = codes "("
 
--- the parts of a lambda that has parameters of its own: what it declares of them comes first
+-- the parts of a lambda that has parameters of its own: the declarations of these come first
 unfoldable pub generic_parts : Context → (signature : Term) → (number : ℕ) → List (PartOf Item)
 generic_parts context (declaring heads parameters) number =
     (says "{lambda<" ∷ as_item (declared 0) context (reargued (Some (declaring heads parameters)) heads) ∷ says ">(" ∷ list_part first context (reargued (Some (declaring heads parameters)) parameters)) ++ (says ")#" ∷ text (decimal number) ∷ says "}" ∷ [])
@@ -59,7 +59,7 @@ piece_parts context (enumeration t name) = says "{enum:" ∷ as_item left contex
 piece_parts context (bindings names) = says "[" ∷ list_part first context names ++ (says "]" ∷ [])
 piece_parts context _ = []
 
--- a prefix is a name, or the enclosing encoding, which names no parameters of what is in it
+-- a prefix is a name, or the enclosing encoding, which is printed in the closed context
 unfoldable pub prefix_item : Context → Term → PartOf Item
 prefix_item context (function name q r returned parameters) = as_item bare closed (function name q r returned parameters)
 prefix_item context (object name q r) = as_item bare closed (object name q r)
@@ -80,7 +80,7 @@ before_piece context prefix = prefix_item context prefix ∷ says "::" ∷ []
 unfoldable pub attached_parts : Context → (prefix piece : Term) → (module_name : Term) → List (PartOf Item)
 attached_parts context prefix p module_name = before_piece context prefix ++ (as_item piece context p ∷ says "@" ∷ as_item left context module_name ∷ [])
 
--- a prefix that is an operation by W is a module, by which what is attached to it is named, or what it is in besides
+-- a prefix that is an operation by W is the module that the piece is attached to; by W@ it is a further prefix and the module
 unfoldable pub component_parts : Context → (prefix piece : Term) → List (PartOf Item)
 component_parts context (operation a b x y) p = elim (nat_eq a 87) [
   | true ↦ elim (nat_eq b 64) [ true ↦ attached_parts context x p y | false ↦ attached_parts context absent p (operation a b x y) ]
@@ -177,17 +177,17 @@ unfoldable pub declared_letter : Term → ℕ
 declared_letter (operation a b x y) = b
 declared_letter _ = 0
 
--- and by the declaration, which may be that of a pack
+-- likewise by the declaration, which may be that of a pack
 unfoldable pub front_of_name : Term → List ℕ
 front_of_name (operation a b x y) = cond (nat_eq b 112) (letter_name (declared_letter x)) (letter_name b)
 front_of_name _ = letter_name 0
 
--- the name of the parameter of this number, of which this is declared; one past those that are declared is auto
+-- the name of the parameter with this number and this declaration; a parameter past the declared ones is auto
 unfoldable pub name_of_own : (number : ℕ) → Term → List (PartOf Item)
 name_of_own k absent = text (look_up (68 ∷ 97 ∷ []) builtin_texts) ∷ []
 name_of_own k head = text (front_of_name head) ∷ text (decimal k) ∷ []
 
--- in a form: there is nothing to the right of a name
+-- the name of a parameter in a form: there is nothing to the right of a name
 unfoldable pub own_name : Form → (number : ℕ) → Term → List (PartOf Item)
 own_name right k head = []
 own_name form k head = name_of_own k head
@@ -201,11 +201,11 @@ unfoldable pub comma_before : ℕ → List (PartOf Item)
 comma_before zero = []
 comma_before (suc i) = says ", " ∷ []
 
--- those after one of this number, if the next number has 32 bits
+-- the declarations after the one of this number, if the next number has 32 bits
 unfoldable pub declared_rest : Context → Term → (number : ℕ) → List (PartOf Item)
 declared_rest context rest k = elim (nat_lt (k + 1) (2 ^ 32)) [ true ↦ list_part (declared (k + 1)) context rest | false ↦ [] ]
 
--- what is declared of a lambda's parameters from this number on, each with its name
+-- the declarations of a lambda's parameters from this number on, each with the parameter's name
 unfoldable pub declared_parts : Context → Term → (number : ℕ) → List (PartOf Item)
 declared_parts context (list e rest) k =
     comma_before k ++ (as_item left context e ∷ says " " ∷ text (front_of_name e) ∷ text (decimal k) ∷ []) ++ declared_rest context rest k
@@ -431,7 +431,7 @@ parts_in d context more t = more_parts context t
 parts_in d context (expand i) t = expand_parts context t i
 parts_in d context (declared i) t = declared_parts context t i
 
--- an empty text isn't a part, so no tree has one, whether a symbol's or not
+-- the parts without empty texts: no tree has such a part, whether it is a symbol's or not
 unfoldable pub not_empty : List (PartOf Item) → List (PartOf Item)
 not_empty [] = []
 not_empty (text [] ∷ ps) = not_empty ps

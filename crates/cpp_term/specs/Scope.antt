@@ -47,7 +47,7 @@ without_tags name = name
 unfoldable pub has_return_type : Term → Bool
 has_return_type name = elim (arguments_of name) [ None ↦ false | Some arguments ↦ not (is_structor (before_arguments name)) ]
 
--- The tree has free parameters: ones that are under no encoding of the tree. Each encoding gives its parameters a
+-- The tree has free parameters, that is, parameters that are under no encoding of the tree. Each encoding gives its parameters a
 -- scope of its own, or is refused.
 unfoldable pub is_open : Term → Bool
 is_open (parameter number argument) = true
@@ -130,7 +130,7 @@ is_alone (pack elements) = false
 is_alone (list first rest) = false
 is_alone t = not (is_open t)
 
--- among the elements of a list is a pack, or something else that isn't an argument proper
+-- whether an element of a list is a pack, or another tree that isn't an argument proper
 unfoldable pub has_pack : Term → Bool
 has_pack (list first rest) = not (is_alone first) || has_pack rest
 has_pack _ = false

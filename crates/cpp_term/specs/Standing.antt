@@ -7,7 +7,7 @@ use Rattle.cpp_term.specs.Values.{Value, nothing_there, letter, text, tree, piec
 use Rattle.cpp_grammar.specs.Values.{normal}
 use Rattle.cpp_grammar.specs.Standing.{is_code}
 
--- a lone void is no parameters
+-- a lone void means no parameters
 unfoldable pub is_void : Term → Bool
 is_void (builtin (b ∷ [])) = nat_eq b 118
 is_void _ = false
@@ -20,13 +20,13 @@ unfoldable pub parameters : Term → Term
 parameters (list first rest) = elim (is_void first && is_nil rest) [ true ↦ nil | false ↦ list first rest ]
 parameters t = t
 
--- What is declared of one more of a lambda's parameters, before its first type: of the first value it is the tree, and the second is that type, or
--- that type and a list of what is declared of the others.
+-- The declaration of one more of a lambda's parameters, before its first type: it is the first value's tree, and the second value
+-- is that type, or a pair of that type and the list of the other declarations.
 unfoldable pub declared_first : Value → Value → Value
 declared_first head (pair key first heads) = pair key first (list (tree_of head) heads)
 declared_first head first = pair 84 (tree_of first) (list (tree_of head) nil)
 
--- The signature of a lambda with these parameters. What is declared of its own parameters is with the first of its types.
+-- The signature of a lambda with these parameters. The declarations of its own parameters are with the first of its types.
 unfoldable pub signature_with : (first : Value) → (parameters : Term) → Term
 signature_with (pair key first heads) parameters = declaring heads parameters
 signature_with first parameters = parameters
@@ -105,6 +105,6 @@ in_parentheses t = operation 40 41 t absent
 unfoldable pub enclosed_argument : Value → Value
 enclosed_argument v = elim (ends_arguments (tree_of v)) [ true ↦ tree (in_parentheses (tree_of v)) true | false ↦ v ]
 
--- and an expression that is an element of a list
+-- an expression as an element of a list
 unfoldable pub enclosed_element : Term → Term
 enclosed_element t = elim (is_comma t) [ true ↦ in_parentheses t | false ↦ t ]

@@ -25,7 +25,7 @@ pub data Term : Type 0 where
   holder : (name : Term) → Term
   -- a name with one more tag, and whether it is that of a constructor or a destructor
   tagged : (of_structor : Bool) → (name : Term) → (tag : List ℕ) → Term
-  -- the entity of a local name that is in a default argument, and the digits that say in which
+  -- the entity of a local name in a default argument, and the digits that say in which argument
   of_default : (digits : List ℕ) → (entity : Term) → Term
   abbreviation : (letter : ℕ) → Term
   -- a parameter by its number, and the argument that it names
@@ -49,11 +49,11 @@ pub data Term : Type 0 where
   enumeration : (type : Term) → (name : List ℕ) → Term
   -- the names of a structured binding, a list of them
   bindings : (names : Term) → Term
-  -- the signature of a lambda that declares parameters: a list of what is declared of them, and the types
+  -- the signature of a lambda that declares parameters: the list of their declarations, and the types
   declaring : (heads parameters : Term) → Term
   -- types
   builtin : (code : List ℕ) → Term
-  -- a floating type of this many bits, and the byte after their digits
+  -- a floating type of n bits: the digits of n, and the byte after them
   sized_float : (digits : List ℕ) → (end : ℕ) → Term
   -- auto or decltype(auto), by the last letter of its code, constrained by a concept
   constrained : (letter : ℕ) → (concept : Term) → Term
@@ -84,7 +84,7 @@ pub data Term : Type 0 where
   -- a parameter of the function whose types it occurs in, as an expression, by its digits
   function_parameter : (digits : List ℕ) → Term
   pack : (elements : Term) → Term
-  -- lists, and the return type of a function that has none
+  -- lists, and the absent tree: the return type of a function that has none
   nil : Term
   list : (first rest : Term) → Term
   absent : Term

@@ -22,7 +22,7 @@ use Rattle.cpp_grammar.specs.Unfolding.{last_token, production_at, byte_of}
 
 -- ## Before the parts of a production
 
--- The number of a lambda or an unnamed type has 64 bits. It is tested at its U, before what is between: its row says so.
+-- The number of a lambda or an unnamed type has 64 bits. It is tested at the U, before the parts in between: the row says so.
 unfoldable pub number_tested : ℕ → List ℕ → State → Result State Refusal
 number_tested place digits state = elim (nat_lt (local_number digits) (2 ^ 64)) [ true ↦ Ok state | false ↦ Err (BadValue place) ]
 

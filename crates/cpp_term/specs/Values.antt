@@ -4,8 +4,8 @@ use Rattle.cpp_term.specs.Term.{Term, destructor, absent}
 use Rattle.cpp_grammar.specs.Term.{Qualifiers, RefQualifier, any_value, lvalue_only, rvalue_only, explicit_object, Signed, Adjustment, non_virtual}
 use Rattle.cpp_grammar.specs.Values.{Counted, Counting, Showing, unqualified}
 
--- a tree that a substitution may name, the place where the encoding begins in which it was made, whether it was made in a
--- lambda's signature of that encoding, or in what is declared of an argument, and by which compilers it's counted
+-- a tree that a substitution may name, where the encoding that it was made in begins, whether it was made in a lambda's signature
+-- of that encoding, or in the declaration of an argument, and by which compilers it's counted
 pub record Candidate : Type 0 where
   pub tree : Term
   pub encoding : ℕ
@@ -19,7 +19,7 @@ pub record State : Type 0 where
   pub packs : Option ℕ
   pub counting : Counting
 
--- the name so far, and whether it is a candidate already or never is one
+-- the name so far, and whether it is a candidate already or never becomes one
 pub data Prefix : Type 0 where
   outermost : Prefix
   behind : Term → (listed : Bool) → Prefix
@@ -32,9 +32,9 @@ unfoldable pub prefix_listed : Prefix → Bool
 prefix_listed outermost = true
 prefix_listed (behind t listed) = listed
 
--- What surrounds a part: the arguments that parameters name there, the place where the innermost encoding begins,
--- whether the part is in a lambda's signature of that encoding, in what is declared of an argument or in a constraint, whether
--- it is under an expansion, the name so far, and whether the part is shown.
+-- What surrounds a part: the arguments that parameters name there, the place where the innermost encoding begins, whether the
+-- part is in a lambda's signature of that encoding, in the declaration of an argument or in a constraint, whether it is under an
+-- expansion, the name so far, and whether the part is shown.
 pub record Around : Type 0 where
   pub scope : Option Term
   pub encoding : ℕ
@@ -50,7 +50,7 @@ pub data Value : Type 0 where
   text : List ℕ → Value
   signed : Signed → Value
   adjusted : Adjustment → Value
-  -- a tree, and whether it is a candidate already or never is one
+  -- a tree, and whether it is a candidate already or never becomes one
   tree : Term → (listed : Bool) → Value
   -- a piece of a name, before a name is made of it
   piece : Term → Value
@@ -71,7 +71,7 @@ tree_of (signature t ref) = t
 tree_of (pair second left right) = left
 tree_of _ = absent
 
--- the piece of a name; a digit is that of a destructor
+-- the piece of a name; a lone digit is that of a destructor
 unfoldable pub piece_of : Value → Term
 piece_of (piece p) = p
 piece_of (letter digit) = destructor digit

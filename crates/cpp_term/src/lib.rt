@@ -42,8 +42,8 @@ pub fn trees_are_annotated()
     ensures wide { (shape : Tree) → IsTree wide (Kind 0) shape → wide_.unfold_wide shape ≡ noted_tree (unfold_wide shape) }
 {}
 
-/// Without its arguments the tree that a symbol is read into is the tree of the symbol, and that tree determines them: no two
-/// symbols with one tree differ in them. It is an encoding with what follows it.
+/// The tree that a symbol is read into is, without its arguments, the tree of the symbol. This one determines the arguments: two
+/// symbols with the same tree have the same arguments. The tree that is read is an encoding with what follows it.
 pub fn arguments_are_erased()
     ensures tree { (shape : Tree) (t : Term) → IsTree wide (Kind 0) shape → unfolded_.unfold_cpp shape ≡ Ok t → unfolding_.unfold_cpp shape ≡ Ok (erase t) }
     ensures carries { (shape : Tree) (t : Term) → IsTree wide (Kind 0) shape → unfolded_.unfold_cpp shape ≡ Ok t → CarriesArguments t }
@@ -69,9 +69,11 @@ pub fn answers_are_the_same()
     ensures abi { (detail : Detail) (limit : ℕ) (shape : Tree) → IsTree wide (Kind 0) shape → noted_answer detail limit (unfolded_.unfold_cpp shape) ≡ answer_within detail limit (unfolding_.unfold_cpp shape) }
 {}
 
-/// A tree with another argument in each of its free parameters, or with the elements of a list: without one it is the tree; the
-/// outer of two counts; and it changes nothing where no parameter is free, nor what is left without arguments. The length of
-/// its packs, the head of a type and whether it prints nothing are those of the tree, or follow from the argument.
+/// A tree with another argument in each of its free parameters, or with the elements of a list. If
+/// no other argument is given, it is the tree itself; if two are, the outer one counts. Nothing
+/// changes where no parameter is free, nor in the tree without arguments. The length of its packs,
+/// the head of a type and whether it prints nothing are those of the tree, or follow from the
+/// argument.
 pub fn arguments_are_replaced()
     ensures none { (t : Term) → reargued None t ≡ t }
     ensures twice { (c : Option Term) (a t : Term) → reargued (Some a) (reargued c t) ≡ reargued (Some a) t }

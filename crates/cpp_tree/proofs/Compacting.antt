@@ -1,26 +1,10 @@
 -- What is kept of a node in few bytes.
-use Rattle.std.proofs.Common.{◌≡◌, refl, sym, ap, ◌∙◌, arith, ℕ, zero, suc, ◌+◌, List, [], ◌∷◌, ◌++◌, map, Bool, true, false, ◌||◌, Option, None, Some}
+use Rattle.cpp_tree.proofs.Basics.{◌≡◌, refl, sym, ap, ◌∙◌, arith, ℕ, zero, suc, ◌+◌, List, [], ◌∷◌, ◌++◌, map, Bool, true, false, ◌||◌, Option, None, Some, first_of, Piece, Span, Qualifiers, Mark, Node, HeadClass, HeadFrom, Free, ByArgument, Entry, TypeHead, Compact, entry_at, by_none, under_kept, passed, joined, of_expansion, of_pack, piece_by_argument, node_by_argument, placed_under, if_own, packs_by, empty_by, pack_class, class_by, collapses, both_free, piece_frees, piece_packs, argument_packs, frees, empties, ends_in, untagging, classes, packing, returning, counting, running, having_pack, noting, bare_entry, packs_kept, class_kept, arguments_kept, untagged_kept, returns_kept, count_kept, run_kept, has_pack_kept, free_kept, kept, with_head, restated_entry, entry_of}
 use Rattle.std.proofs.lemmas.List.{map-append}
 use Rattle.cpp_grammar.specs.Items as heads
-use Rattle.cpp_grammar.specs.Scope.{first_of}
-use Rattle.cpp_tree.specs.declared.node.Piece.{Piece}
-use Rattle.sym_core.specs.declared.Span.{Span}
-use Rattle.cpp_tree.specs.declared.node.Qualifiers.{Qualifiers}
-use Rattle.cpp_tree.specs.declared.node.Mark.{Mark}
 use Rattle.cpp_tree.specs.declared.node.Signed.{Signed}
-use Rattle.cpp_tree.specs.declared.node.Node.{Node}
-use Rattle.cpp_tree.specs.declared.node.HeadClass.{HeadClass}
-use Rattle.cpp_tree.specs.declared.node.HeadFrom.{HeadFrom}
-use Rattle.cpp_tree.specs.declared.node.Free.{Free}
-use Rattle.cpp_tree.specs.declared.node.ByArgument.{ByArgument}
-use Rattle.cpp_tree.specs.declared.node.Entry.{Entry}
-use Rattle.cpp_tree.specs.declared.compact.TypeHead.{TypeHead}
-use Rattle.cpp_tree.specs.declared.compact.Compact.{Compact}
-use Rattle.cpp_tree.specs.Nodes.{entry_at, by_none, under_kept}
-use Rattle.cpp_tree.specs.Notes.{passed, joined, of_expansion, of_pack, piece_by_argument, node_by_argument, placed_under, if_own, packs_by, empty_by, pack_class, class_by, collapses, both_free, piece_frees, piece_packs, argument_packs, frees, empties, ends_in, untagging, classes, packing, returning, counting, running, having_pack, noting, bare_entry}
-use Rattle.cpp_tree.specs.Compact.{packs_kept, class_kept, arguments_kept, untagged_kept, returns_kept, count_kept, run_kept, has_pack_kept, free_kept, kept, with_head, restated_entry, entry_of}
 
--- a length that is kept, and one that isn't
+-- of two lengths, the first that is kept counts
 pub some-packs : (m n : ℕ) → (m ≡ 0 → ⊥) → packs_kept m ≡ first_of (packs_kept m) (packs_kept n)
 unfolding packs_kept first_of
 some-packs zero n some = absurd (some refl)
@@ -101,14 +85,14 @@ pub pack-is : (n : Node) (held : Compact) (e : Entry) → entry_of held ≡ e
     → kept n (packs_kept held.packs) (free_kept held.free held.number) held.is_empty (of_pack held.by_argument) TypeHead.Plain 0 0 ≡ kept n e.packs e.free e.is_empty (of_pack e.by_argument) TypeHead.Plain 0 0
 pack-is n held e at = ap (λ x. kept n x.packs x.free x.is_empty (of_pack x.by_argument) TypeHead.Plain 0 0) at
 
--- one more is kept
+-- one more entry is kept
 pub held-one-more : (olds news : List Compact) (c : Compact) (ns : List Entry) (e : Entry) → news ≡ olds ++ c ∷ [] → map entry_of olds ≡ ns → entry_of c ≡ e
     → map entry_of news ≡ ns ++ e ∷ []
 held-one-more olds news c ns e is was made =
     ap (λ cs. map entry_of cs) is ∙ map-append entry_of olds (c ∷ [])
     ∙ ap (λ es. es ++ entry_of c ∷ []) was ∙ ap (λ x. ns ++ x ∷ []) made
 
--- what is kept of a node, with that node once more in its place
+-- writing a node once more into its entry leaves the entry as it is
 pub with-node : (c : Compact) (es : List Entry) (n : Node) → entry_of c ≡ noting es n → entry_of (record c { node = n }) ≡ noting es n
 with-node c es n is = ap write is
   where

@@ -1,8 +1,6 @@
 -- The fields of some trees, computed.
-use Rattle.std.proofs.Common.{◌≡◌, [], ◌∷◌, true, false, Some, refl}
-use Rattle.std.specs.Prelude.{codes}
+use Rattle.cpp_tree.proofs.Basics.{◌≡◌, [], ◌∷◌, true, false, Some, refl, codes, fields_of, offsets_of, bit, mark_number, name_fields, local_fields, thunk_fields}
 use Rattle.cpp_grammar.specs.Term.{any_value, rvalue_only, non_virtual, by_table, adjusting, covariant, Term, Thunk, Signed, function, thunk, alone, within, local, source, operator, lambda, generic_lambda, builtin, function_type, nil, absent}
-use Rattle.cpp_tree.specs.Fields.{fields_of, offsets_of, bit, mark_number, name_fields, local_fields, thunk_fields}
 
 abbrev foo : Term
 foo = alone (source false (codes "foo"))

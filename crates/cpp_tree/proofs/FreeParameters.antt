@@ -1,10 +1,7 @@
 -- Whether a tree has free parameters, from which ones it has.
-use Rattle.std.proofs.Common.{◌≡◌, refl, ap, ◌∙◌, sym, nat_eq, max, ℕ, length, ◌<◌, Bool, true, false, ◌||◌}
+use Rattle.cpp_tree.proofs.Basics.{◌≡◌, refl, ap, ◌∙◌, sym, nat_eq, max, ℕ, length, ◌<◌, Bool, true, false, ◌||◌, is_open, free_in, both, Table, tree_at, trees, entry_at, free_is, has_free, IsTable}
 use Rattle.cpp_grammar.specs.Scope.{Free, none_free, one_free, several_free, both_free}
 use Rattle.cpp_term.specs.Term.{Term, alone, in_std, within, instance, local, holder, tagged, of_default, inheriting, lambda, conversion, pointer, lvalue, rvalue, array, constrained, bounded, member_pointer, function_type, qualified, vector, complex, decltype, expansion, integer, operation, pack, list, enumeration, bindings, declaring}
-use Rattle.cpp_term.specs.Scope.{is_open, free_in}
-use Rattle.cpp_term.proofs.Notes.{both}
-use Rattle.cpp_tree.specs.Nodes.{Table, tree_at, trees, entry_at, free_is, has_free, IsTable}
 
 has-either : (f g : Free) → has_free f || has_free g ≡ has_free (both_free f g)
 unfolding has_free both_free
@@ -59,6 +56,6 @@ open-free (pack elements) = open-free elements
 open-free (list e rest) = either-open (free_in e) (free_in rest) (open-free e) (open-free rest)
 open-free _ = refl
 
--- and so is that of a node
+-- likewise for the tree of a node
 pub node-open : (y : Table) (i : ℕ) → IsTable y → i < length y.nodes → has_free (free_is (entry_at y.nodes i).free) ≡ is_open (tree_at (trees y) i)
 node-open y i table less = ap has_free (table.each i less).free ∙ sym (open-free (tree_at (trees y) i))

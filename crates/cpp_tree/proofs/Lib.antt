@@ -1,3 +1,4 @@
+pub mod Basics
 pub mod Trees
 mod Viewing
 pub mod Pushed

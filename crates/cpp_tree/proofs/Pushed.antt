@@ -1,20 +1,7 @@
 -- A table that gets one more node.
-use Rattle.std.proofs.Common.{◌≡◌, refl, sym, ◌∙◌, ap, subst, arith, ℕ, zero, suc, ◌+◌, ◌-◌, ◌<◌, ◌≤◌, List, [], ◌∷◌, ◌++◌, length, get_or, slice_get, Option, Some, None, inl, inr, ◌⊎◌, true, false}
-use Rattle.std.proofs.lemmas.List.Elements.{All-push}
-use Rattle.cpp_term.specs.Term.{Term, absent}
+use Rattle.cpp_tree.proofs.Basics.{◌≡◌, refl, sym, ◌∙◌, ap, subst, arith, ℕ, zero, suc, ◌+◌, ◌-◌, ◌<◌, ◌≤◌, List, [], ◌∷◌, ◌++◌, length, get_or, slice_get, Option, Some, None, inl, inr, ◌⊎◌, true, false, All-push, Term, absent, pack_length, free_in, arguments_of, without_tags, has_return_type, count, element, has_pack, Node, Piece, HeadClass, Head, Free, Entry, bare_entry, Stored, over, head_of, Table, tree_at, piece_of, tree_of, trees_onto, trees, entry_at, IsPieceBelow, IsBelow, IsAliasBelow, under_kept, IsPlacedBelow, IsClassBelow, tree_if_there, tree_under, class_is, placed_if_there, IsPlacedThere, untagged_is, free_is, head_noted, by_argument_of, by_none, is_again, IsFlat, IsEntry, IsTable, IsNoted, with_entry, with_thunk, IsThunkWithin, Placed, bare, head_from, is_empty_with}
 use Rattle.cpp_term.specs.Items as items
-use Rattle.cpp_term.specs.Scope.{pack_length, free_in, arguments_of, without_tags, has_return_type, count, element, has_pack}
-use Rattle.cpp_tree.specs.declared.node.Node.{Node}
-use Rattle.cpp_tree.specs.declared.node.Piece.{Piece}
 use Rattle.cpp_tree.specs.declared.node.Thunk.{Thunk}
-use Rattle.cpp_tree.specs.declared.node.HeadClass.{HeadClass}
-use Rattle.cpp_tree.specs.declared.node.Head.{Head}
-use Rattle.cpp_tree.specs.declared.node.Free.{Free}
-use Rattle.cpp_tree.specs.declared.node.Entry.{Entry}
-use Rattle.cpp_tree.specs.Notes.{bare_entry}
-use Rattle.cpp_tree.specs.Nodes.{Stored, over, head_of, Table, tree_at, piece_of, tree_of, trees_onto, trees, entry_at, IsPieceBelow, IsBelow, IsAliasBelow, under_kept, IsPlacedBelow, IsClassBelow, tree_if_there, tree_under, class_is, placed_if_there, IsPlacedThere, untagged_is, free_is, head_noted, by_argument_of, by_none, is_again, IsFlat, IsEntry, IsTable, IsNoted, with_entry, with_thunk, IsThunkWithin}
-use Rattle.cpp_tree.specs.declared.node.Placed.{Placed}
-use Rattle.cpp_term.specs.Reargued.{bare, head_from, is_empty_with}
 
 get-early : {A : Type 0} (xs : List A) (x d : A) (k : ℕ) → k < length xs → get_or (xs ++ x ∷ []) k d ≡ get_or xs k d
 get-early [] x d k less = absurd (omega (arith, less))

@@ -1,13 +1,8 @@
--- The tree of a tree's fields.
-use Rattle.std.proofs.Common.{◌≡◌, ℕ, suc, ◌+◌, ◌*◌, ◌<◌, List, [], ◌∷◌, length, slice_get, arith, Bool, true, false, Option, Some, None, refl, sym, ap, ◌∙◌}
-use Rattle.std.specs.Prelude.{◌==◌, if◌then◌else◌}
-use Rattle.std.proofs.lemmas.Bool.{eqb-true}
+-- A tree's fields determine the tree.
+use Rattle.cpp_tree.proofs.Basics.{◌≡◌, ℕ, suc, ◌+◌, ◌*◌, ◌<◌, List, [], ◌∷◌, length, slice_get, arith, Bool, true, false, Option, Some, None, refl, sym, ap, ◌∙◌, ◌==◌, if◌then◌else◌, eqb-true, GUARD, OF_NAME, WIDE_THUNK, BUILTIN_WITH_D, Fields, fields, bit, mark_number, mark_in, qualifiers_number, qualifiers_in, qualifiers_of_both, mark_of_both, linkage_number, c_linkage_in, noexcept_in, no_node, GUARD_LETTER, name_fields, named_fields, local_fields, thunk_fields, fields_of, offsets_of, tree_from, IsView, AreAlike}
 use Rattle.cpp_grammar.specs.Term.{Qualifiers, RefQualifier, any_value, lvalue_only, rvalue_only, explicit_object, non_virtual, by_table, Thunk, adjusting, covariant, Term, function, object, thunk, of_name, alone, in_std, within, local, tagged, source, builtin, function_type, qualified, integer, boolean}
 use Rattle.cpp_tree.specs.declared.view.Node.{Node}
 use Rattle.cpp_tree.specs.declared.view.TheConstants.{ALONE, IN_STD, NESTED}
-use Rattle.cpp_tree.specs.declared.tree_production.TheConstants.{GUARD, OF_NAME, WIDE_THUNK, BUILTIN_WITH_D}
-use Rattle.cpp_tree.specs.Fields.{Fields, fields, bit, mark_number, mark_in, qualifiers_number, qualifiers_in, qualifiers_of_both, mark_of_both, linkage_number, c_linkage_in, noexcept_in, no_node, GUARD_LETTER, name_fields, named_fields, local_fields, thunk_fields, fields_of, offsets_of, tree_from}
-use Rattle.cpp_tree.specs.Views.{IsView, AreAlike}
 
 -- ## What numbers say
 
@@ -189,7 +184,7 @@ same-fields : (p q : ℕ) (ns ms : List ℕ) (ts us : List (List ℕ)) (xs ys : 
     → ◌≡◌ {A = Fields} (record { production = p; numbers = ns; texts = ts; parts = xs }) (record { production = q; numbers = ms; texts = us; parts = ys })
 same-fields p q ns ms ts us xs ys e f g h = cc
 
--- only a production of more than two offsets asks for these
+-- the offsets matter only to the production of thunks with more than two
 same-offsets : (given : Fields) (one other : Option Thunk) → (given.production ≡ WIDE_THUNK → one ≡ other) → tree_from given one ≡ tree_from given other
 same-offsets given one other same = by-production (given.production == WIDE_THUNK) refl
   where

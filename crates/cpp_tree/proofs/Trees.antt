@@ -1,32 +1,10 @@
 -- What nodes say of their trees.
-use Rattle.std.proofs.Common.{◌≡◌, refl, sym, ◌∙◌, ap, subst, arith, ℕ, zero, suc, ◌-◌, ◌+◌, ◌<◌, ◌≤◌, List, [], ◌∷◌, length, Bool, true, not, ◌&&◌, Option, Some, None}
+use Rattle.cpp_tree.proofs.Basics.{◌≡◌, refl, sym, ◌∙◌, ap, subst, arith, ℕ, zero, suc, ◌-◌, ◌+◌, ◌<◌, ◌≤◌, List, [], ◌∷◌, length, Bool, true, not, ◌&&◌, Option, Some, None, without_tags, element, is_list, is_alone, is_open, length_if_pack, pack_length, indexed, plain_class, element_head, head_of_class, Node, Head, HeadClass, Placed, Entry, reargued, if_alone, given_for, given_alone, Free, true≢false, false, length_reargued, reargued_none, reargued_twice, reargued_closed, list_reargued, alone_reargued, element_reargued, untagged_reargued, erase_reargued, class_by, empty_by, packs_by, argument_packs, place_of, resolved_at, shape_at, is_argument_node, erase, NodeView, Qualifiers, Mark, FUNCTION, fields, fields_of, qualifiers_number, mark_number, AreBelow, plain_tree, seen_of, seen_fields, no_text, both, Table, tree_at, tree_of, trees, entry_at, IsBelow, IsAliasBelow, IsFlat, IsSettled, free_is, tree_if_there, under_kept, qualifiers_of, mark_of, tree_under, is_again, IsClassBelow, IsPlacedThere, head_of, class_is, untagged_is, IsTable}
 use Rattle.cpp_term.specs.Term.{Term, absent, nil, list, pack}
-use Rattle.cpp_term.specs.Scope.{without_tags, element, is_list, is_alone, is_open, length_if_pack, pack_length}
 use Rattle.cpp_grammar.specs.Items as heads
 use Rattle.cpp_term.specs.Items as items
-use Rattle.cpp_term.specs.Items.{indexed, plain_class, element_head, head_of_class}
-use Rattle.cpp_tree.specs.declared.node.Node.{Node}
 use Rattle.cpp_tree.specs.declared.node.Thunk.{Thunk}
-use Rattle.cpp_tree.specs.declared.node.Head.{Head}
-use Rattle.cpp_tree.specs.declared.node.HeadClass.{HeadClass}
-use Rattle.cpp_tree.specs.declared.node.Placed.{Placed}
-use Rattle.cpp_tree.specs.declared.node.Entry.{Entry}
-use Rattle.cpp_term.specs.Reargued.{reargued, if_alone, given_for, given_alone}
-use Rattle.cpp_tree.specs.declared.node.Free.{Free}
-use Rattle.std.proofs.lemmas.Bool.{true≢false}
-use Rattle.std.specs.Prelude.{false}
-use Rattle.cpp_term.proofs.Reargued.{length_reargued, reargued_none, reargued_twice, reargued_closed, list_reargued, alone_reargued, element_reargued, untagged_reargued, erase_reargued}
-use Rattle.cpp_tree.specs.Notes.{class_by, empty_by, packs_by, argument_packs, place_of, resolved_at, shape_at, is_argument_node}
-use Rattle.cpp_term.specs.Erased.{erase}
-use Rattle.cpp_tree.specs.declared.view.NodeView.{NodeView}
-use Rattle.cpp_tree.specs.declared.node.Qualifiers.{Qualifiers}
-use Rattle.cpp_tree.specs.declared.node.Mark.{Mark}
-use Rattle.cpp_tree.specs.declared.tree_production.TheConstants.{FUNCTION}
-use Rattle.cpp_tree.specs.Fields.{fields, fields_of, qualifiers_number, mark_number}
-use Rattle.cpp_tree.specs.Views.{AreBelow, plain_tree, seen_of, seen_fields, no_text}
-use Rattle.cpp_term.proofs.Notes.{both}
 use Rattle.cpp_tree.proofs.Noting.{class-later, again-pack, again-empty, alone-shape}
-use Rattle.cpp_tree.specs.Nodes.{Table, tree_at, tree_of, trees, entry_at, IsBelow, IsAliasBelow, IsFlat, IsSettled, free_is, tree_if_there, under_kept, qualifiers_of, mark_of, tree_under, is_again, IsClassBelow, IsPlacedThere, head_of, class_is, untagged_is, IsTable}
 
 -- a node's tree is its production over those of its parts, which are earlier
 pub node_is : (y : Table) (i : ℕ) (n : Node) → IsTable y → i < length y.nodes → (entry_at y.nodes i).node ≡ n
@@ -59,7 +37,7 @@ pub element_next : (t first rest : Term) (k : ℕ) → t ≡ list first rest →
 unfolding element
 element_next t first rest k is = rw is refl
 
--- the elements from the end of a run on
+-- within a run, a list's elements from place k on are those of the cell k nodes before it
 pub run_is : (y : Table) (i k n : ℕ) → IsTable y → i < length y.nodes → k ≤ (entry_at y.nodes i).run → element (tree_at (trees y) i) (k + n) ≡ element (tree_at (trees y) (i - k)) n
 run_is y i zero n table less most = ap (λ m. element (tree_at (trees y) i) m) (let e : 0 + n ≡ n = omega arith in e) ∙ ap (λ m. element (tree_at (trees y) m) n) (let e : i ≡ i - 0 = omega arith in e)
 run_is y i (suc k) n table less most = (table.each i less).runs k n (omega (arith, most))
@@ -77,7 +55,7 @@ pub placed_element : (y : Table) (p : Placed) (k : ℕ) → element (tree_under 
 unfolding tree_under
 placed_element y p k = element_reargued (tree_if_there (trees y) p.under) (tree_at (trees y) p.node) k
 
--- the first element, and those after it
+-- the first element of a list under an argument, and those after it
 pub cell_first : (y : Table) (p : Placed) (first rest : ℕ) → IsTable y → p.node < length y.nodes → (entry_at y.nodes p.node).node ≡ Node.Cell first rest
     → tree_under (trees y) (record { node = first; under = p.under }) ≡ element (tree_under (trees y) p) 0
 unfolding tree_under
@@ -102,7 +80,7 @@ pub placed_run : (y : Table) (i k run : ℕ) (u : Option ℕ) → IsTable y → 
 placed_run y i k run u table less is most =
     placed_element y (record { node = i - k; under = u }) 0 ∙ ap (under_tree y u) (sym (run_at y i k run table less is most)) ∙ sym (placed_element y (record { node = i; under = u }) k)
 
--- after the end of a run
+-- an element after the end of a run is an element of the run's last cell
 placed_behind : (y : Table) (i k run : ℕ) (u : Option ℕ) → IsTable y → i < length y.nodes → (entry_at y.nodes i).run ≡ run → run < k
     → element (tree_under (trees y) (record { node = i - run; under = u })) (suc (k - (run + 1))) ≡ element (tree_under (trees y) (record { node = i; under = u })) k
 placed_behind y i k run u table less is more =
@@ -138,7 +116,7 @@ pub placed-some : (ts : List Term) (p : Placed) (a : ℕ) → p.under ≡ Some a
 unfolding tree_under tree_if_there
 placed-some ts p a is = ap (λ u. reargued (tree_if_there ts u) (tree_at ts p.node)) is
 
--- the outer argument counts
+-- of two arguments the outer one counts
 pub over-some : (ts : List Term) (a : ℕ) (inner : Placed) (t : Term) → tree_under ts inner ≡ t → tree_under ts (record { node = inner.node; under = Some a }) ≡ reargued (Some (tree_at ts a)) t
 unfolding tree_under tree_if_there
 over-some ts a inner t is = sym (reargued_twice (tree_if_there ts inner.under) (tree_at ts a) (tree_at ts inner.node)) ∙ ap (reargued (Some (tree_at ts a))) is
@@ -175,7 +153,7 @@ pub erased_again : (y : Table) (t a : ℕ) (n : Node) → n ≡ Node.Reargued t 
 unfolding tree_of
 erased_again y t a n is = ap (λ x. erase (tree_of y.bytes y.thunks (trees y) x)) is ∙ erase_reargued (Some (tree_at (trees y) a)) (tree_at (trees y) t)
 
--- the fields of a function: the argument under which its types are doesn't show
+-- a function's fields don't depend on the argument that its types are under
 pub function_fields : (y : Table) (name returned parameters under : ℕ) (q : Qualifiers) (m : Mark)
     → seen_fields y (seen_of FUNCTION (qualifiers_number (qualifiers_of q) ∷ mark_number (mark_of m) ∷ []) (no_text ∷ no_text ∷ []) 3 (name ∷ returned ∷ parameters ∷ []))
     ≡ fields_of (erase (tree_of y.bytes y.thunks (trees y) (Node.Function name q m returned parameters under)))
@@ -251,13 +229,13 @@ unfolding tree_under
 given_alone_node y p table less argued opened =
     sym (chosen-by (tree_under (trees y) p) true (alone-by y p true false table less argued opened) ∙ reargued_closed (tree_if_there (trees y) p.under) (tree_at (trees y) p.node) opened)
 
--- of a list its element is given
+-- a parameter is given its element of an argument that is a list
 pub given_listed : (a : Term) (k : ℕ) → is_list a ≡ true → given_for a k ≡ if_alone (element a k)
 unfolding given_for is_list
 given_listed (list first rest) k is = refl
 given_listed _ k is = absurd (true≢false (sym is))
 
--- and where not exactly one parameter is free
+-- the argument itself is given, unless exactly one parameter is free
 pub given_other : (a : Term) (f : Free) → ((k : ℕ) → f ≡ Free.One k → ⊥) → a ≡ given_alone a (free_is f)
 unfolding given_alone free_is
 given_other a Free.None other = refl

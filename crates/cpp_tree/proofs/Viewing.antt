@@ -1,14 +1,6 @@
 -- What is seen of a node.
-use Rattle.std.proofs.Common.{◌≡◌, subst, arith, lit≤, ℕ, ◌<◌, ◌≤◌, List, [], ◌∷◌, length}
+use Rattle.cpp_tree.proofs.Basics.{◌≡◌, subst, arith, lit≤, ℕ, ◌<◌, ◌≤◌, List, [], ◌∷◌, length, All-nil, All-cons, Span, erase, Node, NodeView, fields_of, Table, tree_of, trees, IsWithin, IsBelow, AreBelow, AreWithin, IsSeen, seen_of, seen_fields, no_text}
 use Rattle.std.specs.List.{All}
-use Rattle.std.proofs.lemmas.List.Elements.{All-nil, All-cons}
-use Rattle.sym_core.specs.declared.Span.{Span}
-use Rattle.cpp_term.specs.Erased.{erase}
-use Rattle.cpp_tree.specs.declared.node.Node.{Node}
-use Rattle.cpp_tree.specs.declared.view.NodeView.{NodeView}
-use Rattle.cpp_tree.specs.Fields.{fields_of}
-use Rattle.cpp_tree.specs.Nodes.{Table, tree_of, trees, IsWithin, IsBelow}
-use Rattle.cpp_tree.specs.Views.{AreBelow, AreWithin, IsSeen, seen_of, seen_fields, no_text}
 
 pub none-within : (s : List ℕ) → IsWithin no_text s
 none-within s = (omega arith, omega arith)
@@ -22,7 +14,7 @@ one-below n part h = All-cons (λ p. p < n) part [] h (All-nil (λ p. p < n))
 two-below : (n part next : ℕ) → part < n → next < n → All (λ p. p < n) (part ∷ next ∷ [])
 two-below n part next h i = All-cons (λ p. p < n) part (next ∷ []) h (one-below n next i)
 
--- what is said of a node that is this one
+-- a bound on a node's parts also bounds those of an equal node
 pub below-as : (y : Table) (m : ℕ) {n shown : Node} → n ≡ shown → IsBelow y.bytes (length y.thunks) m n → IsBelow y.bytes (length y.thunks) m shown
 below-as y m is below = subst (IsBelow y.bytes (length y.thunks) m) is below
 
@@ -40,7 +32,7 @@ pub told-two : (y : Table) {n shown : Node} {seen : NodeView} {part next : ℕ} 
 told-two y {part = part} {next = next} is fields texts parts count held =
     told-name y is fields texts (λ k b. rw (count, parts) (two-below k part next (held k b).0 (held k b).1)) (omega (arith, count))
 
--- Its view has these numbers and texts, and this many parts.
+-- The node's view has these numbers and texts, and this many parts.
 seen-by : (y : Table) (m : ℕ) {n shown : Node} {seen : NodeView} {production first second a b count : ℕ} {text : Span} {parts : List ℕ}
     → n ≡ shown → IsBelow y.bytes (length y.thunks) m n → seen ≡ seen_of production (first ∷ second ∷ []) (text ∷ no_text ∷ []) count parts
     → first ≡ a → second ≡ b → seen_fields y (seen_of production (a ∷ b ∷ []) (text ∷ no_text ∷ []) count parts) ≡ fields_of (erase (tree_of y.bytes y.thunks (trees y) shown))

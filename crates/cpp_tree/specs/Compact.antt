@@ -13,12 +13,12 @@ use Rattle.cpp_tree.specs.declared.compact.Compact.{Compact}
 use Rattle.cpp_tree.specs.Nodes.{under_kept}
 use Rattle.cpp_tree.specs.Notes.{placed_under, if_own, class_by}
 
--- the length of packs, by what is kept: the number after it, and 0 where there are none
+-- the length of packs, by the word that is kept: the length plus one, or 0 for no packs
 unfoldable pub packs_kept : ℕ → Option ℕ
 packs_kept zero = None
 packs_kept (suc n) = Some n
 
--- the first word is a node, and the second the argument under which it is and one more, 0 where there is none
+-- the first word is a node, and the second the argument under which it is, plus one, or 0 for no argument
 abbrev pub placed_kept : (first second : ℕ) → Placed
 placed_kept first second = record { node = first; under = under_kept second }
 
@@ -63,7 +63,7 @@ free_kept FreeCount.None k = Free.None
 free_kept FreeCount.One k = Free.One k
 free_kept FreeCount.Several k = Free.Several k
 
--- an entry, by what is shared in two words
+-- an entry, from what its two shared words record
 abbrev pub kept : (n : Node) (packs : Option ℕ) (free : Free) (is_empty : Bool) (by_argument : ByArgument) (words : TypeHead) (first second : ℕ) → Entry
 kept n packs free is_empty by_argument words first second = record {
   node = n;
@@ -131,7 +131,7 @@ with_arguments n packs free by_argument arguments returns = record {
   has_pack = false;
 }
 
--- the entry of a name with tags, under which this one is
+-- the entry of a name with tags: this name is under them
 abbrev pub with_tags : (n : Node) (packs : Option ℕ) (free : Free) (by_argument : ByArgument) (untagged : Placed) → Entry
 with_tags n packs free by_argument untagged = record {
   node = n;
@@ -148,7 +148,7 @@ with_tags n packs free by_argument untagged = record {
   has_pack = false;
 }
 
--- the entry of an alias with an argument, where its head is its own, by the words of the tree
+-- the entry of an alias whose head is its tree's own, from the words of the tree and the argument
 abbrev pub own_entry : (n : Node) (packs : Option ℕ) (free : Free) (is_empty : Bool) (by_argument : ByArgument) (words : TypeHead) (first second argument : ℕ) → Entry
 own_entry n packs free is_empty by_argument words first second argument = record {
   node = n;

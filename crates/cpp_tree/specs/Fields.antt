@@ -1,4 +1,4 @@
--- What a tree has beside its production: numbers, texts and the trees of its parts. The productions are constants of the code.
+-- What a tree has apart from its production: numbers, texts and its parts' trees. The productions are constants of the code.
 use Rattle.std.specs.Prelude.{ℕ, ◌+◌, ◌*◌, List, [], ◌∷◌, ◌-◌, ◌++◌, Bool, true, false, ◌==◌, ◌||◌, nat_lt, if◌then◌else◌, cond, get_or, Option, Some, None}
 use Rattle.cpp_grammar.specs.Term.{Qualifiers, RefQualifier, any_value, lvalue_only, rvalue_only, explicit_object, Signed, non_virtual, by_table, Thunk, adjusting, covariant, Term, symbol, function, object, special, thunk, of_name, construction, clone, alone, in_std, within, instance, local, holder, tagged, of_default, abbreviation, parameter, source, operator, literal_operator, constructor, destructor, inheriting, lambda, generic_lambda, unnamed, string_literal, conversion, enumeration, bindings, builtin, sized_float, constrained, vendor, pointer, lvalue, rvalue, array, bounded, member_pointer, function_type, qualified, vector, complex, decltype, expansion, integer, boolean, null_pointer, encoding_literal, address_of, operation, function_parameter, pack, nil, list, absent, declaring}
 use Rattle.cpp_tree.specs.declared.view.Names.{Names}
@@ -32,11 +32,11 @@ qualifiers_number q = bit q.restrict + 2 * bit q.volatile + 4 * bit q.const
 abbrev pub linkage_number : (c_linkage noexcept : Bool) → ℕ
 linkage_number c_linkage noexcept = bit c_linkage + 2 * bit noexcept
 
--- what no node denotes has itself for its part
+-- a tree that no node denotes is its own part
 abbrev pub no_node : Term → Fields
 no_node t = fields NO_NODE 0 0 [] (t ∷ [])
 
--- of a name, by its piece, after a prefix if there is one
+-- the fields of a name, by its piece, after a prefix if there is one
 unfoldable pub name_fields : Names → (prefix : List Term) → (whole : Term) → Term → Fields
 name_fields names prefix whole (source internal bytes) = fields names.source (bit internal) 0 bytes prefix
 name_fields names prefix whole (operator first second) = fields names.operator first second [] prefix
@@ -58,13 +58,13 @@ name_fields names prefix whole _ = no_node whole
 abbrev pub GUARD_LETTER : ℕ
 GUARD_LETTER = 86
 
--- of a special name of a name: qualifiers and mark are one number beside another letter
+-- the fields of a special name of a name: its numbers are the letter, and one number for qualifiers and mark
 unfoldable pub named_fields : (letter : ℕ) → (name : Term) → Qualifiers → RefQualifier → Fields
 named_fields letter name q mark =
     if letter == GUARD_LETTER then fields GUARD (qualifiers_number q) (mark_number mark) [] (name ∷ [])
     else fields OF_NAME letter (qualifiers_number q + 8 * mark_number mark) [] (name ∷ [])
 
--- of a name in a function, with a discriminator or without
+-- the fields of a name in a function, with a discriminator or without
 unfoldable pub local_fields : (around entity : Term) → Option (List ℕ) → Fields
 local_fields around entity None = fields LOCAL 0 0 [] (around ∷ entity ∷ [])
 local_fields around entity (Some digits) = fields NUMBERED_LOCAL 0 0 digits (around ∷ entity ∷ [])

@@ -36,7 +36,7 @@ pub record Stored : Type 0 where
   pub most : ℕ
   pub most_thunks : ℕ
 
--- a table: what is stored, and the bytes of the symbol that it is of
+-- a table: what is stored, and the bytes of its symbol
 pub record Table : Type 0 where
   pub bytes : List ℕ
   pub nodes : List Entry
@@ -88,7 +88,7 @@ unfoldable pub tree_if_there : List Term → Option ℕ → Option Term
 tree_if_there ts None = None
 tree_if_there ts (Some i) = Some (tree_at ts i)
 
--- what a word says: a node, which is one less, or none, for 0
+-- what a word says: a node, by its number plus one, or no node, for 0
 unfoldable pub under_kept : ℕ → Option ℕ
 under_kept zero = None
 under_kept (suc n) = Some n
@@ -261,7 +261,7 @@ free_is Free.None = scope.none_free
 free_is (Free.One k) = scope.one_free k
 free_is (Free.Several m) = scope.several_free m
 
--- some are free
+-- whether some parameters are free
 unfoldable pub has_free : scope.Free → Bool
 has_free scope.none_free = false
 has_free _ = true
@@ -310,7 +310,7 @@ head_noted again.collapsed_of_argument = HeadFrom.Collapsed
 unfoldable pub by_argument_of : Term → ByArgument
 by_argument_of t = record { is_bare = bare t; head = head_noted (head_from t); empty_with = is_empty_with true t; empty_without = is_empty_with false t }
 
--- nothing does
+-- nothing of a tree depends on another argument
 abbrev pub by_none : Bool → ByArgument
 by_none empty = record { is_bare = false; head = HeadFrom.Own; empty_with = empty; empty_without = empty }
 
@@ -318,7 +318,7 @@ unfoldable pub is_again : Node → Bool
 is_again (Node.Reargued t a) = true
 is_again _ = false
 
--- the entry of a node; after the last one that of the absent tree
+-- the entry of a node; past the last node, that of the absent tree
 abbrev pub entry_at : List Entry → ℕ → Entry
 entry_at es i = get_or es i (record { node = Node.Absent; packs = None; free = Free.None; is_empty = false; by_argument = by_none false; class = HeadClass.Known Head.Plain; arguments = None; untagged = None; returns = false; count = 0; run = 0; has_pack = false })
 
@@ -327,7 +327,7 @@ abbrev pub IsFlat : List Entry → Node → Type 0
 IsFlat es (Node.Reargued t a) = is_again (entry_at es t).node ≡ false
 IsFlat es _ = Unit {0}
 
--- the argument of a tree's one parameter isn't a list where the tree's head is that argument's
+-- if a tree's head is that of its one parameter, the given argument is that parameter's own, not a list
 abbrev pub IsLone : (given t : Term) → Type 0
 IsLone a t = (head_from t ≡ again.of_its_own → ⊥) → given_alone a (free_in t) ≡ a
 
@@ -371,7 +371,7 @@ pub record IsTable (y : Table) : Type 0 where
 
 -- ## One more node
 
--- The node is made of existing ones, and what is noted of it is what its tree would have.
+-- The node is made of existing ones, and what is noted of it is what its tree has.
 pub record IsNoted (y : Table) (e : Entry) : Type 0 where
   pub below : IsBelow y.bytes (length y.thunks) (length y.nodes) e.node
   pub packs : e.packs ≡ pack_length (tree_of y.bytes y.thunks (trees y) e.node)

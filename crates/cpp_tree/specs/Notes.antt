@@ -28,7 +28,7 @@ both_free (Free.Several m) Free.None = Free.Several m
 both_free (Free.Several m) (Free.One k) = Free.Several (max m k)
 both_free (Free.Several m) (Free.Several n) = Free.Several (max m n)
 
--- those of a lambda's own signature aren't free outside
+-- the free parameters of a piece: those of a lambda's own signature aren't free outside
 unfoldable pub piece_frees : List Entry → Piece → Free
 piece_frees es (Piece.Lambda parameters number) = free_at es parameters
 piece_frees es (Piece.Inheriting digit base) = free_at es base
@@ -74,7 +74,7 @@ frees es _ = Free.None
 abbrev pub by_argument_at : List Entry → ℕ → ByArgument
 by_argument_at es i = (entry_at es i).by_argument
 
--- of a tree over one, and over two: only the packs
+-- what another argument changes of a tree with one part, and of a tree with two: only the packs
 unfoldable pub passed : ByArgument → ByArgument
 passed l = record { is_bare = l.is_bare; head = HeadFrom.Own; empty_with = false; empty_without = false }
 
@@ -141,7 +141,7 @@ node_by_argument es (Node.Cell first rest) = of_cell (by_argument_at es first) (
 node_by_argument es (Node.Reargued t a) = by_argument_at es t
 node_by_argument es _ = by_none false
 
--- of an alias, whether it prints nothing, by its argument
+-- whether an alias prints nothing, by its argument
 unfoldable pub empty_by : (none : Bool) → ByArgument → Bool
 empty_by none l = cond none l.empty_with l.empty_without
 
@@ -163,7 +163,7 @@ unfoldable pub placed_under : ℕ → Option Placed → Option Placed
 placed_under a None = None
 placed_under a (Some p) = Some (record { node = p.node; under = Some a })
 
--- what is noted of a tree itself, where its head is its own, and what is noted of one whose head is the argument's
+-- one value for a tree with a head of its own, and another for one with the head of its argument
 unfoldable pub if_own : {A : Type 0} → HeadFrom → (own other : A) → A
 if_own HeadFrom.Own own other = own
 if_own _ own other = other
@@ -223,7 +223,7 @@ unfoldable pub pack_class : (under : Option ℕ) → Node → HeadClass → Head
 pack_class under (Node.Pack elements) c = HeadClass.OfElement (record { node = elements; under = under })
 pack_class under _ c = c
 
--- that of a parameter with this argument
+-- the head class of a parameter with this argument
 abbrev pub argument_class : List Entry → ℕ → HeadClass
 argument_class es a = pack_class (resolved_at es a).under (shape_at es a) (entry_at es a).class
 
@@ -309,7 +309,7 @@ returning es _ = false
 
 -- ## The elements of a list
 
--- no pack and no list
+-- whether the node is neither a pack nor a list
 unfoldable pub is_argument_node : Node → Bool
 is_argument_node (Node.Pack elements) = false
 is_argument_node (Node.Cell first rest) = false

@@ -75,7 +75,7 @@ IsSlotBelow n (Some part) = part < n
 abbrev pub AreWithin : List ℕ → List Span → Type 0
 AreWithin s texts = All (λ text. IsWithin text s) texts
 
--- What the view of a node shows: its fields, by texts within the symbol, and parts that are below what the node's are.
+-- What the view of a node shows: its fields, with texts within the symbol, and with parts below whatever bounds the node's parts.
 pub record IsSeen (y : Table) (node : table.Node) (seen : NodeView) : Type 0 where
   pub fields : seen_fields y seen ≡ fields_of (erase (tree_of y.bytes y.thunks (trees y) node))
   pub texts : AreWithin y.bytes seen.node.texts

@@ -8,8 +8,9 @@ ghost use Rattle.cpp_tree.specs.Notes.{bare_entry};
 
 use crate::node::{ByArgument, Entry, Free, Head, HeadClass, HeadFrom, Node, Placed, under_of};
 
-/// What two words beside a node record: of a type a list of elements, of a name its arguments or itself without tags, each with
-/// the argument under which it is, and of a list its count and its run, and whether it has a pack among its elements.
+/// What the two words next to a node record: for a type a list of elements; for a name its
+/// arguments, or the name without its tags, each with the argument under which it is; for a list
+/// its count, its run, and whether it has a pack among its elements.
 #[derive(Clone, Copy)]
 pub enum TypeHead {
     Plain,
@@ -25,7 +26,7 @@ pub enum TypeHead {
     ElementsWithPack,
 }
 
-/// How many parameters are free. The number of the only one is beside it, and of several the greatest: an enum that holds the
+/// How many parameters are free. The number of the only one, or the greatest of several, is kept apart: an enum that holds the
 /// number would make an entry 56 bytes.
 #[derive(Clone, Copy)]
 pub enum FreeCount {
@@ -39,11 +40,11 @@ pub enum FreeCount {
 #[derive(Clone, Copy)]
 pub struct Compact {
     pub node: Node,
-    /// The length of the packs and one more, 0 where there are none.
+    /// The length of the packs plus one, or 0 for no packs.
     pub packs: u32,
     pub first: u32,
     pub second: u32,
-    /// The number of the free parameter, where only one is free, and the greatest, where several are.
+    /// The number of the free parameter if there is one, and the greatest if there are several.
     pub number: u32,
     pub free: FreeCount,
     pub is_empty: bool,
@@ -139,7 +140,7 @@ fn count(words: TypeHead, first: u32) -> u32
     }
 }
 
-/// How many cells precede a cell.
+/// How many of the nodes right before a cell are the cells after it.
 #[inline(always)]
 #[tactic(auto, unfolding(crate::specs::Compact::run_kept))]
 fn run(words: TypeHead, second: u32) -> u32

@@ -74,7 +74,7 @@ impl Nodes {
         }
     }
 
-    /// For a pack, its element at the index.
+    /// A pack's element at the index, or any other argument itself.
     pub fn indexed(&self, symbol: &[u8], index: Option<u32>, argument: Placed) -> Placed
         requires table { IsTable (over symbol.now self.now) }
         requires argument { IsPlacedBelow (length self.now.nodes) argument }

@@ -166,7 +166,7 @@ fn chosen(from: HeadFrom, own: HeadClass, given: HeadClass) -> HeadClass
     }
 }
 
-/// What an rvalue reference to a type with such a head is.
+/// The head of an rvalue reference to a type with this head.
 #[tactic(auto, unfolding(crate::specs::Nodes::head_of, cpp_grammar::specs::Items::collapsed))]
 fn collapsed(head: Head) -> Head
     ensures { head_of result ≡ collapsed (head_of head) }

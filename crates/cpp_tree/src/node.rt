@@ -7,7 +7,7 @@ ghost use Rattle.cpp_tree.specs.Notes.{is_structor_node, is_argument_node};
 
 use sym_core::Span;
 
-/// 1 for what holds.
+/// 1 for true, and 0 for false.
 #[tactic(auto, unfolding(crate::specs::Fields::bit))]
 pub fn bit(test: bool) -> u8
     ensures is { result ≡ bit test }
@@ -16,8 +16,8 @@ pub fn bit(test: bool) -> u8
     if test { 1 } else { 0 }
 }
 
-/// The word for an argument under which a tree is: its node and one more, and 0 where there is none. An `Option` would make each node
-/// 32 bytes in place of 24.
+/// The word for an argument under which a tree is: its node plus one, or 0 for none. An `Option`
+/// would make each node 32 bytes in place of 24.
 #[inline(always)]
 #[tactic(auto, unfolding(crate::specs::Nodes::under_kept))]
 pub fn under_word(under: Option<u32>) -> u32
@@ -30,7 +30,7 @@ pub fn under_word(under: Option<u32>) -> u32
     }
 }
 
-/// The argument of such a word.
+/// The argument of a word that `under_word` made.
 #[inline(always)]
 #[tactic(auto, unfolding(crate::specs::Nodes::under_kept))]
 pub fn under_of(word: u32) -> Option<u32>
@@ -48,7 +48,7 @@ pub struct Qualifiers {
 }
 
 impl Qualifiers {
-    /// Their number: the sum of 1 for restrict, 2 for volatile and 4 for const.
+    /// The number of the qualifiers: the sum of 1 for restrict, 2 for volatile and 4 for const.
     pub fn number(self) -> u8
         ensures is { result ≡ qualifiers_number (qualifiers_of self) }
         ensures few { result ≤ 7 }
@@ -57,7 +57,7 @@ impl Qualifiers {
     }
 }
 
-/// The mark on a function for & or &&, or that its object is its first parameter.
+/// The mark on a function: `&`, `&&`, or that its object is its first parameter.
 #[derive(Clone, Copy)]
 pub enum Mark {
     Any,
@@ -67,7 +67,7 @@ pub enum Mark {
 }
 
 impl Mark {
-    /// Its number: 0 for none, 1 for &, 2 for && and 3 for an explicit object.
+    /// The number of the mark: 0 for none, 1 for &, 2 for && and 3 for an explicit object.
     #[tactic(auto, unfolding(crate::specs::Fields::mark_number))]
     pub fn number(self) -> u8
         ensures is { result ≡ mark_number (mark_of self) }
@@ -128,7 +128,7 @@ pub enum Piece {
     Absent,
 }
 
-/// A node, by the numbers of earlier nodes. A parameter is with its argument. Builtin types, abbreviations, special names and
+/// A node, by the numbers of earlier nodes. A parameter carries its argument. Builtin types, abbreviations, special names and
 /// clones have the last letter of their codes, a thunk has the number of what it adjusts.
 #[derive(Clone, Copy)]
 pub enum Node {
@@ -215,7 +215,7 @@ pub enum Node {
         digits: Span,
         end: u8,
     },
-    /// `auto` or `decltype(auto)`, by the last letter of its code, of which a concept is asked.
+    /// `auto` or `decltype(auto)`, by the last letter of its code: a placeholder that has to satisfy a concept.
     Constrained {
         letter: u8,
         concept: u32,
@@ -264,7 +264,7 @@ pub enum Node {
     NullPointer,
     EncodingLiteral(u32),
     AddressOf(u32),
-    /// An operation of an expression, by the two letters of its operator. An operand that it hasn't is absent.
+    /// An operation of an expression, by the two letters of its operator. An operand that the operation doesn't have is absent.
     Operation {
         first: u8,
         second: u8,
@@ -282,7 +282,7 @@ pub enum Node {
         encoding: u32,
         suffix: Span,
     },
-    /// A tree again, with this argument in each of its free parameters, or with the elements of it if it is a list.
+    /// An alias: a tree re-read with this argument in each of its free parameters, or with the argument's elements if it is a list.
     Reargued {
         tree: u32,
         argument: u32,
@@ -290,7 +290,7 @@ pub enum Node {
 }
 
 impl Node {
-    /// Whether it is an encoding.
+    /// Whether the node is an encoding.
     #[tactic(auto, unfolding(crate::specs::Nodes::is_encoding))]
     pub fn is_encoding(self) -> bool
         ensures { result ≡ is_encoding self }
@@ -308,7 +308,7 @@ impl Node {
         }
     }
 
-    /// Whether it is neither a pack nor a list, as arguments by themselves are.
+    /// Whether the node is neither a pack nor a list, as arguments by themselves are.
     #[tactic(auto, unfolding(crate::specs::Notes::is_argument_node))]
     #[inline(always)]
     pub(crate) fn is_argument(self) -> bool
@@ -321,7 +321,7 @@ impl Node {
         }
     }
 
-    /// Whether it is the name of a constructor or a destructor.
+    /// Whether the node is the name of a constructor or a destructor.
     #[tactic(auto, unfolding(crate::specs::Notes::is_structor_node, crate::specs::Notes::is_structor_piece))]
     #[inline(always)]
     pub fn is_structor(self) -> bool
@@ -355,8 +355,8 @@ pub enum Head {
     Rvalue,
 }
 
-/// The tree of a node, with the tree of another as the argument in each of its free parameters if one is given, or with the elements
-/// of that if it is a list.
+/// The tree of a node. If another node is given, its tree is the argument in each free parameter,
+/// or its elements are, if it is a list.
 #[derive(Clone, Copy)]
 pub struct Placed {
     pub node: u32,
@@ -392,12 +392,13 @@ pub enum Free {
 /// What depends on the argument of a tree's free parameters, if they get another one.
 #[derive(Clone, Copy)]
 pub struct ByArgument {
-    /// Whether one is under no expansion of the tree, so that its packs are the argument's.
+    /// Whether a free parameter is under no expansion of the tree, so that its packs are the
+    /// argument's.
     pub is_bare: bool,
     pub head: HeadFrom,
-    /// Whether it prints nothing where the argument is an empty pack.
+    /// Whether the tree prints nothing if the argument is an empty pack.
     pub empty_with: bool,
-    /// And where it is none.
+    /// Whether the tree prints nothing if the argument is no empty pack.
     pub empty_without: bool,
 }
 
@@ -424,7 +425,8 @@ pub struct Entry {
     pub count: u32,
     /// How many of the nodes before a cell are the cells after it, each before the next.
     pub run: u32,
-    /// Whether a list has a pack among its elements, or another that is no argument by itself.
+    /// Whether a list has a pack among its elements, or another element that is no argument by
+    /// itself.
     pub has_pack: bool,
 }
 

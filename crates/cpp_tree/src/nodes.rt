@@ -22,8 +22,8 @@ use sym_room::make_room;
 pub struct Nodes {
     pub(crate) entries: Vec<Compact>,
     pub(crate) thunks: Vec<Thunk>,
-    // The most nodes that there were when it was begun again, and the most thunks. With those that there are now they bound
-    // the memory of both lists.
+    // The most nodes, and the most thunks, that there were when the table was begun again. With the
+    // present ones they bound the memory of both lists.
     most: usize,
     most_thunks: usize,
 }
@@ -41,7 +41,7 @@ impl Model for Nodes {
     ghost invariant = { λ t. (vec_capacity t.entries ≤ most_for (max t.most (vec_len t.entries))) × (vec_capacity t.thunks ≤ most_for (max t.most_thunks (vec_len t.thunks))) };
 }
 
-/// The node where no tree is.
+/// The node of the absent tree.
 pub const ABSENT: u32 = 0;
 
 /// The empty list.
@@ -276,7 +276,8 @@ impl Nodes {
         }
     }
 
-    /// The argument of an alias: that of the tree's one parameter where its head is that one's.
+    /// The argument of an alias: if the tree has the head of its one parameter, that parameter's
+    /// argument.
     #[inline(always)]
     fn lone(&self, symbol: &[u8], tree: u32, argument: u32) -> u32
         requires table { IsTable (over symbol.now self.now) }
@@ -345,8 +346,8 @@ impl Nodes {
         let number = self.len() as u32;
         let node = self.flat(symbol, node);
         let noted = self.noted(symbol, node);
-        // It holds this node already. Written again here, the node isn't copied in the code for each sort of node: this takes 9 %
-        // fewer instructions.
+        // `noted` holds this node already. Since it is written again here, the node isn't copied in
+        // the code for each sort of node: this takes 9 % fewer instructions.
         let compact = Compact { node, ..noted };
         if make_room_for_one(&mut self.entries).is_err() {
             return Err(Refusal::Memory);

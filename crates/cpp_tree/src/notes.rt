@@ -22,7 +22,8 @@ use crate::words::{
     of_type, passed,
 };
 
-/// Two words: the first is a node, and the second the argument under which it is and one more.
+/// Two words: the first is a node, and the second the node of the argument under which it is, plus
+/// one.
 #[derive(Clone, Copy)]
 struct Pair {
     first: u32,
@@ -47,7 +48,7 @@ fn under_tags(held: Compact, name: u32) -> Pair
     }
 }
 
-/// A node whose parameters are those of a part.
+/// What is noted of a node whose free parameters are those of one part.
 #[inline(always)]
 fn noted_over(
     node: Node,
@@ -91,7 +92,7 @@ struct Freed {
     number: u32,
 }
 
-/// More than one is free, and the greater of these numbers is the greatest.
+/// Several parameters are free: the greatest number is the greater of these two.
 #[inline(always)]
 #[tactic(auto, unfolding(crate::specs::Compact::free_kept))]
 fn several(one: u32, other: u32) -> Freed
@@ -103,7 +104,7 @@ fn several(one: u32, other: u32) -> Freed
     }
 }
 
-/// The free parameters of this one and of a part.
+/// The free parameters: the one with this number, and those of a part.
 #[inline(always)]
 #[tactic(auto, unfolding(crate::specs::Compact::free_kept, crate::specs::Notes::both_free))]
 fn free_beside(number: u32, part: Compact) -> Freed
@@ -127,7 +128,7 @@ fn free_beside(number: u32, part: Compact) -> Freed
     }
 }
 
-/// The free parameters of several, this being the greatest number, and of a part.
+/// The free parameters: several with this greatest number, and those of a part.
 #[inline(always)]
 #[tactic(auto, unfolding(crate::specs::Compact::free_kept, crate::specs::Notes::both_free))]
 fn several_beside(greatest: u32, part: Compact) -> Freed
@@ -168,7 +169,7 @@ fn has_no_elements(packs: u32) -> bool
     packs == 1
 }
 
-/// A node whose parameters are those of two parts.
+/// What is noted of a node whose free parameters are those of two parts.
 #[inline(always)]
 fn noted_over_two(
     node: Node,
@@ -196,8 +197,8 @@ fn noted_over_two(
     }
 }
 
-/// What a parameter has of its argument: the length of its packs and one more, 0 where it has none, and the head where the
-/// words record it.
+/// What a parameter takes from its argument: the length of its packs plus one, or 0 for no packs,
+/// and the head, if the words record it.
 #[derive(Clone, Copy)]
 struct Given {
     packs: u32,
@@ -283,7 +284,7 @@ fn restated(
 }
 
 impl Nodes {
-    /// What a parameter has of its argument.
+    /// What a parameter takes from its argument.
     #[inline(always)]
     fn given(&self, symbol: &[u8], argument: u32) -> Given
         requires table { IsTable (over symbol.now self.now) }
@@ -335,7 +336,7 @@ impl Nodes {
         packs(self.given(symbol, argument).packs)
     }
 
-    /// A name of a piece after no other.
+    /// A name that is a piece without a prefix.
     #[inline(always)]
     #[tactic(auto, unfolding(crate::specs::Notes::piece_packs, crate::specs::Notes::piece_frees, crate::specs::Notes::piece_by_argument))]
     fn noted_piece(&self, symbol: &[u8], node: Node, piece: Piece) -> Compact
@@ -352,7 +353,7 @@ impl Nodes {
         }
     }
 
-    /// A name of a piece after a prefix.
+    /// A name that is a piece after a prefix.
     #[inline(always)]
     #[tactic(auto, unfolding(crate::specs::Notes::piece_packs, crate::specs::Notes::piece_frees, crate::specs::Notes::piece_by_argument, crate::specs::Notes::joined, crate::specs::Notes::passed))]
     fn noted_within(&self, symbol: &[u8], node: Node, prefix: u32, piece: Piece) -> Compact
@@ -467,7 +468,8 @@ impl Nodes {
         }
     }
 
-    /// How many of the nodes before the cell to come are the cells after it.
+    /// The run of the next cell, before this rest: how many nodes right before it are the cells
+    /// after it.
     #[inline(always)]
     fn run_to(&self, rest: u32) -> u32
         requires rest { rest < length self.now.nodes }

@@ -22,7 +22,7 @@ pub const FUNCTION: u16 = 4;
 /// A variable or another thing without parameters. Numbers: the qualifiers and the mark of its name. Parts: its name.
 pub const OBJECT: u16 = 5;
 
-/// What belongs to a type. Numbers: the last letter of its code. Parts: the type.
+/// A special object that belongs to a type. Numbers: the last letter of its code. Parts: the type.
 pub const SPECIAL: u16 = 6;
 
 /// The guard of a variable. Numbers: the qualifiers and the mark of the name. Parts: the name.
@@ -48,7 +48,8 @@ pub const INSTANCE: u16 = 12;
 /// A name in a function or an initializer. Parts: the encoding that contains it, and the name, whose prefix is that encoding.
 pub const LOCAL: u16 = 13;
 
-/// A name in a function or an initializer that has several of it. Texts: the digits of its discriminator. Otherwise as `LOCAL`.
+/// A name in a function or an initializer that has several of this name. Texts: the digits of its
+/// discriminator. Otherwise as `LOCAL`.
 pub const NUMBERED_LOCAL: u16 = 14;
 
 /// An abbreviation of a name in std. Numbers: its letter.
@@ -142,7 +143,7 @@ pub const STRING_LITERAL: u16 = 43;
 /// A name without a piece, which denotes nothing that is spelled.
 pub const NO_PIECE: u16 = 44;
 
-/// A name in std, otherwise as `SOURCE`. The next eight are in std likewise, each as the one of its name.
+/// A name in std, otherwise as `SOURCE`. The next eight are also in std, each otherwise as the one that it is named after.
 pub const STD_SOURCE: u16 = 45;
 
 /// As `OPERATOR`, in std.
@@ -169,8 +170,8 @@ pub const STD_STRING_LITERAL: u16 = 52;
 /// As `NO_PIECE`, in std.
 pub const STD_NO_PIECE: u16 = 53;
 
-/// A name in a prefix: a name, a parameter, or the encoding around a local entity. Parts: the prefix. Otherwise as `SOURCE`.
-/// The next eight are in a prefix likewise, each as the one of its name, with the prefix as first part.
+/// A name in a prefix, which is a name, a parameter, or the encoding around a local entity. Parts: the prefix. Otherwise as
+/// `SOURCE`. The next eight are also in a prefix, which is their first part, each otherwise as the one that it is named after.
 pub const NESTED_SOURCE: u16 = 54;
 
 /// As `OPERATOR`, in a prefix.
@@ -213,7 +214,7 @@ pub const CONSTRUCTION: u16 = 65;
 /// have it.
 pub const HOLDER: u16 = 66;
 
-/// A floating type of n bits. Numbers: the byte after their digits, `_`, `x` or `b`. Texts: the digits. Only symbols of the
+/// A floating type of n bits. Numbers: the byte after the digits of n, `_`, `x` or `b`. Texts: the digits. Only symbols of the
 /// wide grammar have it.
 pub const SIZED_FLOAT: u16 = 67;
 
@@ -294,6 +295,6 @@ pub const STD_BINDINGS: u16 = 89;
 /// As `BINDINGS`, in a prefix: its names are the second part.
 pub const NESTED_BINDINGS: u16 = 90;
 
-/// The signature of a lambda that declares parameters. Parts: the list of what is declared of them, and the list of its types. Only
-/// symbols of the wide grammar have it.
+/// The signature of a lambda that declares parameters. Parts: the list of their declarations, and
+/// the list of its types. Only symbols of the wide grammar have it.
 pub const DECLARING: u16 = 91;

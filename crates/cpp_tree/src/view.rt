@@ -27,7 +27,8 @@ use crate::tree_production::{
 use crate::{Nodes, node};
 use sym_core::Span;
 
-/// The view of a node. What its numbers, texts and parts are is at its production in `tree_production`.
+/// The view of a node. Its production in `tree_production` says what its numbers, texts and parts
+/// are.
 #[derive(Clone, Copy)]
 pub struct Node {
     pub production: u16,
@@ -62,7 +63,7 @@ struct Names {
     no_piece: u16,
 }
 
-/// Those of names in no scope.
+/// The productions of names in no scope.
 const ALONE: Names = Names {
     source: SOURCE,
     operator: OPERATOR,
@@ -80,7 +81,7 @@ const ALONE: Names = Names {
     no_piece: NO_PIECE,
 };
 
-/// Those of names in std.
+/// The productions of names in std.
 const IN_STD: Names = Names {
     source: STD_SOURCE,
     operator: STD_OPERATOR,
@@ -98,7 +99,7 @@ const IN_STD: Names = Names {
     no_piece: STD_NO_PIECE,
 };
 
-/// Those of names in a prefix.
+/// The productions of names in a prefix.
 const NESTED: Names = Names {
     source: NESTED_SOURCE,
     operator: NESTED_OPERATOR,
@@ -170,14 +171,14 @@ fn named(production: u16, numbers: [u64; 2], text: Span, prefix: Option<u32>) ->
     }
 }
 
-/// The number of what a function's type says besides its mark.
+/// The number of the properties of a function's type, except its mark.
 fn linkage_number(c_linkage: bool, noexcept: bool) -> u64
     ensures { result ≡ linkage_number c_linkage noexcept }
 {
     (bit(c_linkage) + 2 * bit(noexcept)) as u64
 }
 
-/// The view of a name of a piece, after a prefix if there is one.
+/// The view of a name that is a piece, after a prefix if there is one.
 #[tactic(auto, unfolding(crate::specs::Fields::name_fields, cpp_term::specs::Erased::erase, crate::specs::Nodes::piece_of))]
 fn view_of_name(
     symbol: &[u8],
@@ -292,7 +293,7 @@ fn view_of_local(
     }
 }
 
-/// A thunk by an offset in each of two places.
+/// A thunk with two offsets.
 fn offsets(production: u16, first: node::Signed, second: node::Signed, encoding: u32) -> NodeView
     ensures { result ≡ seen_of production (bit first.negative ∷ bit second.negative ∷ []) (first.digits ∷ second.digits ∷ []) 1 (encoding ∷ 0 ∷ 0 ∷ []) }
 {

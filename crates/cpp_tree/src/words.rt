@@ -11,7 +11,7 @@ ghost use Rattle.cpp_tree.specs.Notes.{itself, passed, joined, of_cell, of_head,
 use crate::compact::TypeHead;
 use crate::node::{ByArgument, HeadFrom, Node};
 
-/// What another argument changes of a tree over one: its packs.
+/// What another argument changes of a tree with one part: its packs.
 #[inline(always)]
 #[tactic(auto, unfolding(crate::specs::Notes::passed))]
 pub(crate) fn passed(part: ByArgument) -> ByArgument
@@ -25,7 +25,7 @@ pub(crate) fn passed(part: ByArgument) -> ByArgument
     }
 }
 
-/// And of a tree over two.
+/// What another argument changes of a tree with two parts.
 #[inline(always)]
 #[tactic(auto, unfolding(crate::specs::Notes::joined))]
 pub(crate) fn joined(one: ByArgument, other: ByArgument) -> ByArgument
@@ -39,7 +39,7 @@ pub(crate) fn joined(one: ByArgument, other: ByArgument) -> ByArgument
     }
 }
 
-/// And of a cell of a list.
+/// What another argument changes of a cell of a list.
 #[inline(always)]
 pub(crate) fn of_cell(one: ByArgument, other: ByArgument) -> ByArgument
     ensures { result ≡ of_cell one other }
@@ -52,7 +52,7 @@ pub(crate) fn of_cell(one: ByArgument, other: ByArgument) -> ByArgument
     }
 }
 
-/// And of a type with the head of another.
+/// What another argument changes of a type that has its head from a part.
 #[inline(always)]
 pub(crate) fn of_head(head: HeadFrom, part: ByArgument) -> ByArgument
     ensures { result ≡ of_head head part }

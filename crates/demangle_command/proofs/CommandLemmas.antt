@@ -1,32 +1,15 @@
 -- What a command line did, by what its parts did.
-use Rattle.std.proofs.Common.{◌≡◌, ◌≢◌, ◌⊎◌, ℕ, Bool, true, false, not, ◌&&◌, List, [], ◌∷◌, ◌++◌, Option, Result, Ok, Err, codes, refl, sym, ap, ap₂, subst, inl, inr, ◌∙◌}
-use Rattle.std.specs.Prelude.{IfOk, OnErr, None, if◌then◌else◌}
+use Rattle.demangle_command.proofs.Basics.{◌≡◌, ◌≢◌, ◌⊎◌, ℕ, Bool, true, false, not, ◌&&◌, List, [], ◌∷◌, ◌++◌, Option, Result, Ok, Err, codes, refl, sym, ap, ap₂, subst, inl, inr, ◌∙◌, IfOk, OnErr, None, if◌then◌else◌, Appends, Row, Text, IsAmong, DisplayHelp, DisplayVersion, OutOfMemory, Detail, BeginsWith, PutsFront, Appends-none, faulty, Took-as, Took-said, OnErr-anyway, answers_of, are_whole, ByObjects, ByObjectsFront, details_as, details_of, EndsOf, FiltersInput, FiltersInputFront, IsEndedOf, IsStoppedOf, IsTold, StopsOf, Stops, is_request, shown_of, shows_colors, summary_if, unescaped_of, unspelled_details, unspelled_of, AreGiven, AreOptions, faults_in, names_of, AnswersNames, NamesFront, status_of, reads_paths, Style, styled_answer, styled_details, is_gnu, Spelling}
 use Rattle.std.specs.Fmt.{decimal}
-use Rattle.std.specs.Io.KnownBytes.{Appends}
-use Rattle.clap.specs.Words.{Row, Text, IsAmong}
 use Rattle.clap.specs.declared.error.kind.ErrorKind.{ErrorKind}
-use Rattle.clap.specs.declared.error.kind.ErrorKind.TheVariants.{DisplayHelp, DisplayVersion, OutOfMemory}
-use Rattle.sym_print.specs.declared.detail.Detail.{Detail}
 use Rattle.sym_filter.specs.Runs.{Answering}
-use Rattle.sym_filter.specs.Streams.{BeginsWith, PutsFront}
 use Rattle.sym_filter.specs.declared.words.Tally.{Tally}
 use Rattle.sym_filter.specs.declared.streams.FilterFault.{FilterFault}
-use Rattle.sym_filter.proofs.StreamLemmas.{Appends-none}
 use Rattle.sym_command.specs.Command.{Took, Says}
-use Rattle.sym_command.proofs.CommandLemmas.{faulty}
-use Rattle.sym_command.proofs.PageLemmas.{Took-as, Took-said, OnErr-anyway}
-use Rattle.demangle_command.specs.Command.{answers_of, are_whole, ByObjects, ByObjectsFront, details_as, details_of, EndsOf, FiltersInput, FiltersInputFront, IsEndedOf, IsStoppedOf, IsTold, StopsOf, Stops, is_request, shown_of, shows_colors, summary_if, unescaped_of, unspelled_details, unspelled_of}
-use Rattle.demangle_command.specs.CommandLine.{AreGiven, AreOptions, faults_in, names_of}
-use Rattle.demangle_names.specs.Names.{AnswersNames, NamesFront, status_of}
 use Rattle.demangle_names.specs.declared.options.Options.{Options}
-use Rattle.demangle_names.specs.Style.{reads_paths}
-use Rattle.demangle_names.specs.declared.style.Style.{Style}
-use Rattle.demangle_command.specs.Styled.{styled_answer, styled_details}
 use Rattle.text_details.specs.Details.{Detailing, no_details}
 use Rattle.text_colours.specs.Answers.{colored_answers}
 use Rattle.gnu_texts.specs.Spelling.{gnu_text}
-use Rattle.demangle_names.specs.Spelling.{is_gnu}
-use Rattle.demangle_names.specs.declared.spelling.Spelling.{Spelling}
 use Rattle.demangle_names.specs.declared.spelling.Spelling.TheVariants as spelling
 use Rattle.sym_short.specs.Rewriting.{answers_as, rewritten_answers, short_answers, spelled_answers}
 use Rattle.sym_short.specs.declared.texts.Texts.{Texts}
@@ -51,7 +34,7 @@ told-wrong false out err err' (Ok status) wrong is says = Took-said out err err'
 told-wrong false out err err' (Err fault) wrong is says = tt
 told-wrong true out err err' result wrong is says = cc
 
--- what was written up to a fault, by the kind of the parser's error
+-- if the parser ran out of memory, no line was written and nothing was said
 abbrev pub Untold : ErrorKind → List ℕ → List ℕ → Type 0
 Untold kind lines said = (kind ≢ OutOfMemory) ⊎ ((lines ≡ []) × (said ≡ []))
 
@@ -191,7 +174,7 @@ stops-unbegun rows terminal coming out err = inl (refl, record { lines = []; sai
 pub stops-unparsed : (words : List Text) (terminal : Bool) (coming out err : Option (List ℕ)) → Stops words terminal coming coming out out err err
 stops-unparsed words terminal coming out err = inr (refl, record { lines = []; said = []; to_out = Appends-none out; to_err = Appends-none err; held = inr (refl, refl) })
 
--- names
+-- a command line with names
 pub names-end : (rows : List Row) (terminal : Bool) (options : Options) (answers : Answering) (names : List (List ℕ)) (one_stays : Bool) (status : ℕ) (coming out out' err err' : Option (List ℕ)) → AreGiven rows terminal options → options.json ≡ false → answers ≡ answers_of options
     → names ≡ names_of rows → names ≢ [] → Took out out' err err' (AnswersNames answers options.types options.why names one_stays) → status ≡ status_of options.strict one_stays → EndsOf rows terminal coming coming out out' err err' status
 names-end rows terminal options answers names one_stays status coming out out' err err' given plain same are some took ends =
@@ -221,7 +204,7 @@ names-stop rows terminal options answers names coming out out' err err' given pl
       })),
     )
 
--- an input
+-- a command line without names: the input was filtered
 pub input-ends : (rows : List Row) (terminal : Bool) (options : Options) (answers : Answering) (names : List (List ℕ)) (status : ℕ) (coming coming' out out' err err' : Option (List ℕ)) → AreGiven rows terminal options → options.json ≡ false → answers ≡ answers_of options
     → names ≡ names_of rows → names ≡ [] → FiltersInput answers options.why options.strict coming coming' out out' err err' status → EndsOf rows terminal coming coming' out out' err err' status
 input-ends rows terminal options answers names status coming coming' out out' err err' given plain same are none filtered = inr (inl (record {

@@ -1,4 +1,5 @@
 pub mod ArgumentFileLemmas
+pub mod Basics
 pub mod CommandLemmas
 pub mod OptionLemmas
 pub mod StyleLemmas

@@ -1,17 +1,9 @@
 -- What the parser of the command line finds, by the options and arguments that it is given.
-use Rattle.std.proofs.Common.{◌≡◌, ◌∙◌, ap, refl, subst, map, Bor, [], ◌∷◌, ◌++◌, ℕ, Bool, List, Option, Some, None, false, true}
-use Rattle.std.proofs.lemmas.List.{map-append}
-use Rattle.clap.specs.Words.{AddsAliases, AddsShortAliases, Rule, Text, is_simple, is_simple_and_free, rule_of}
-use Rattle.clap.specs.declared.builder.arg.Arg.{Arg}
-use Rattle.demangle_command.specs.CommandLine.{IsAsked, IsColored, IsSpelled, command_line}
+use Rattle.demangle_command.proofs.Basics.{◌≡◌, ◌∙◌, ap, refl, subst, map, Bor, [], ◌∷◌, ◌++◌, ℕ, Bool, List, Option, Some, None, false, true, map-append, AddsAliases, AddsShortAliases, Rule, Text, is_simple, is_simple_and_free, rule_of, Arg, IsAsked, IsColored, IsSpelled, command_line, IsSpelling, IsStyle, Spelling, Style}
 use Rattle.demangle_names.specs.Coloring.{IsColoring}
-use Rattle.demangle_names.specs.Spelling.{IsSpelling}
 use Rattle.demangle_names.specs.declared.coloring.Coloring.{Coloring}
 use Rattle.demangle_names.specs.declared.coloring.Coloring.TheVariants.{Never}
-use Rattle.demangle_names.specs.Style.{IsStyle}
-use Rattle.demangle_names.specs.declared.spelling.Spelling.{Spelling}
 use Rattle.demangle_names.specs.declared.spelling.Spelling.TheVariants.{Plain}
-use Rattle.demangle_names.specs.declared.style.Style.{Style}
 use Rattle.demangle_names.specs.declared.style.Style.TheVariants.{Auto}
 
 pub simple : is_simple command_line ≡ true
@@ -22,7 +14,7 @@ pub simple_and_free : is_simple_and_free command_line ≡ true
 unfolding command_line
 simple_and_free = refl
 
--- an argument with one letter more
+-- an argument with one more letter
 pub short-more : (old new : Arg) (letter : ℕ) (rule : Rule) → AddsShortAliases old new ((letter, false) ∷ []) → rule_of old ≡ rule → rule_of new ≡ record rule { short_aliases = rule.short_aliases ++ letter ∷ [] }
 short-more old new letter rule adds is =
     let shorts : List (ℕ × Bool) → List ℕ = map (λ alias. alias.0) in
@@ -32,7 +24,7 @@ short-more old new letter rule adds is =
 pub short-local : (old new : Arg) (letter : ℕ) → AddsShortAliases old new ((letter, false) ∷ []) → old.global ≡ false → new.global ≡ false
 short-local old new letter adds local = ap (λ (a : Arg). a.global) adds.0 ∙ local
 
--- an argument with one long name more
+-- an argument with one more long name
 pub alias-more : (old new : Arg) (name : Bor (List ℕ)) (rule : Rule) → AddsAliases old new ((name, false) ∷ []) → rule_of old ≡ rule → rule_of new ≡ record rule { aliases = rule.aliases ++ name.now ∷ [] }
 alias-more old new name rule adds is =
     let names : List (Bor (List ℕ) × Bool) → List Text = map (λ alias. alias.0.now) in

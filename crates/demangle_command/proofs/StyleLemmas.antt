@@ -1,15 +1,8 @@
--- What is answered by a style, and which details are known of it.
-use Rattle.std.proofs.Common.{◌≡◌, ◌∙◌, ap, ℕ, Bool, List, true, false}
-use Rattle.std.specs.Prelude.{Err, None}
-use Rattle.std.proofs.lemmas.Bool.{cond-true, cond-false}
+-- What is answered in a style, and which details of the answer are known.
+use Rattle.demangle_command.proofs.Basics.{◌≡◌, ◌∙◌, ap, ℕ, Bool, List, true, false, Err, None, cond-true, cond-false, Detail, answers_by, cpp_by, details_found, styled_answer, styled_details, leaves_out, reads_paths, Style}
 use Rattle.sym_core.specs.declared.refusal.Refusal.TheVariants.{Malformed}
-use Rattle.sym_print.specs.declared.detail.Detail.{Detail}
-use Rattle.sym_languages.specs.Languages.{answers_by, cpp_by}
 use Rattle.sym_filter.specs.declared.kinds.Kind.{Kind}
 use Rattle.symbol_parts.specs.Parsed.{cpp_marking, parsed_by}
-use Rattle.demangle_command.specs.Styled.{details_found, styled_answer, styled_details}
-use Rattle.demangle_names.specs.Style.{leaves_out, reads_paths}
-use Rattle.demangle_names.specs.declared.style.Style.{Style}
 
 module _ (style : Style) (limit : ℕ) (detail : Detail) (kind : Kind) (symbol : List ℕ) where
   pub left-out : leaves_out style kind.lang symbol ≡ true → styled_answer style limit detail kind symbol ≡ Err (Malformed 0)

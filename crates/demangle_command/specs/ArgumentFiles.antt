@@ -13,8 +13,8 @@ is_blank byte = nat_le 9 byte && nat_le byte 13 || byte == 32
 abbrev pub is_quote : ℕ → Bool
 is_quote byte = byte == 39 || byte == 34
 
--- The state of reading: the words so far, what was read of the next word, whether that word has begun, the quote that is open, and whether
--- a backslash takes the next byte as it is.
+-- The state of reading: the words so far, what was read of the next word, whether that word has begun, the open quote if there is one, and
+-- whether the byte before is a backslash, so that the next byte is taken as it is.
 pub record Reading : Type 0 where
   pub words : List (List ℕ)
   pub word : List ℕ
@@ -34,7 +34,7 @@ ended reading = if reading.is_begun then record reading { words = reading.words 
 abbrev pub quoted : ℕ → Reading → ℕ → Reading
 quoted quote reading byte = if byte == quote then record reading { quote = None } else pushed reading byte
 
--- a byte outside of quotes, which opens one, separates words or belongs to one
+-- a byte outside of quotes, which opens a quote, separates words or belongs to a word
 abbrev pub plain : Reading → ℕ → Reading
 plain reading byte =
     if is_quote byte then record reading { is_begun = true; quote = Some byte }
@@ -44,7 +44,7 @@ abbrev pub after_unescaped : Option ℕ → Reading → ℕ → Reading
 after_unescaped None reading byte = plain reading byte
 after_unescaped (Some quote) reading byte = quoted quote reading byte
 
--- the state after one byte more
+-- the state after one more byte
 abbrev pub after_byte : Reading → ℕ → Reading
 after_byte reading byte =
     if reading.escapes then pushed reading byte

@@ -30,11 +30,11 @@ use Rattle.demangle_names.specs.declared.spelling.Spelling.TheVariants as spelli
 use Rattle.json_lines.specs.Objects.{name_lines, names_stay}
 use Rattle.json_lines.specs.Texts.{TellsObjects, TellsObjectsFront}
 
--- what is answered for symbols by these options, before any spelling: their texts, whole or short
+-- what is answered for symbols by these options, before any spelling: the symbols' texts, whole or short
 abbrev pub unspelled_of : Options → Answering
 unspelled_of options = answers_as options.texts (reads_paths options.style) (styled_answer options.style options.limit options.detail)
 
--- the same, in the spelling of these options
+-- what is answered by these options, in the spelling that they name, without colours and escapes
 abbrev pub unescaped_of : Options → Answering
 unescaped_of options = spelled_answers (is_gnu options.spelling) (reads_paths options.style) (unspelled_of options)
 
@@ -61,11 +61,11 @@ are_whole (texts.Short keeps_inline) = false
 abbrev pub shows_colors : Options → Bool
 shows_colors options = options.colors && (are_whole options.texts && (not (is_gnu options.spelling) && (not options.escape && not options.json)))
 
--- the same texts, with their parts in colours if that is requested
+-- what is answered by these options, with the parts of texts in colours if the options say so
 abbrev pub shown_of : Options → Answering
 shown_of options = if shows_colors options then colored_answers (details_of options) (unescaped_of options) else unescaped_of options
 
--- the same, escaped if that is requested
+-- these answers, with texts escaped if that is requested
 abbrev pub escaped_by : (escapes : Bool) → Answering → Answering
 escaped_by escapes answers kind symbol = answer_by escapes (answers kind symbol)
 
@@ -79,12 +79,12 @@ abbrev pub summary_if : Bool → Tally → List ℕ
 summary_if true tally = codes "demangle: " ++ (decimal tally.refused ++ (codes " of " ++ (decimal tally.words ++ (codes " symbols stay" ++ 10 ∷ []))))
 summary_if false tally = []
 
--- what is said of the words of an input that have no text, if that is requested
+-- what is said of an input's words without a text, if that is requested
 abbrev pub reasons_if : Bool → Answering → List ℕ → List ℕ
 reasons_if true answers text = said_of_words (reasons_of answers) (entries_of Within answers text)
 reasons_if false answers text = []
 
--- An input was filtered to its end. If that is requested, the line and the reason were said for each word that is left.
+-- An input was filtered to its end. If reasons are requested, a line was written for each word that stays, with its place and the reason.
 pub record TellsInput (answers : Answering) (why : Bool) (coming coming' out out' err err' : Option (List ℕ)) (tally : Tally) : Type 0 where
   pub text : List ℕ
   pub reads : Consumes coming coming' text
@@ -93,14 +93,14 @@ pub record TellsInput (answers : Answering) (why : Bool) (coming coming' out out
   pub counts : tally ≡ tally_at Within answers text
   pub says : Appends err err' (reasons_if why answers text)
 
--- What was written, and what was said, are beginnings of what belongs to the bytes that were read of an input.
+-- What was written, and what was said, are beginnings of the filtered text and of the reasons for the bytes that were read.
 pub record TellsInputFront (answers : Answering) (why : Bool) (coming coming' out out' err err' : Option (List ℕ)) : Type 0 where
   pub text : List ℕ
   pub reads : Consumes coming coming' text
   pub writes : PutsFront out out' [] (filtered_at Within answers text)
   pub says : PutsFront err err' [] (reasons_if why answers text)
 
--- An input was filtered to its end, and then it was said how many symbols stay.
+-- An input was filtered to its end, and then it was said how many symbols stay, if that is requested.
 pub record FiltersInput (answers : Answering) (why strict : Bool) (coming coming' out out' err err' : Option (List ℕ)) (status : ℕ) : Type 0 where
   pub tally : Tally
   pub before : Option (List ℕ)
@@ -108,8 +108,8 @@ pub record FiltersInput (answers : Answering) (why strict : Bool) (coming coming
   pub says : Appends before err' (summary_if why tally)
   pub ends : status ≡ status_of strict (not (tally.refused == 0))
 
--- Before a fault, a part of an input was filtered, and reasons were said for some of the words that are left; or the whole input was
--- filtered, and a beginning was said of how many symbols stay.
+-- Before a fault, a part of an input was filtered, and reasons were said for some of the words that stay; or the whole input
+-- was filtered, and a beginning of the summary was written, which says how many symbols stay.
 abbrev pub FiltersInputFront : Answering → (why : Bool) → (coming coming' out out' err err' : Option (List ℕ)) → Type 0
 FiltersInputFront answers why coming coming' out out' err err' =
     TellsInputFront answers why coming coming' out out' err err'
@@ -150,14 +150,14 @@ pub record FilteredFront (rows : List Row) (terminal : Bool) (coming coming' out
 
 -- ## Objects
 
--- Names have objects, and the input wasn't read.
+-- The objects of names were written, and the input wasn't read.
 pub record NamesByObjects (answers : Answering) (details : Detailing) (options : Options) (names : List (List ℕ)) (coming coming' out out' : Option (List ℕ)) (status : ℕ) : Type 0 where
   pub some : names ≢ []
   pub unread : coming' ≡ coming
   pub writes : Appends out out' (name_lines options.types (reads_paths options.style) answers details names)
   pub ends : status ≡ status_of options.strict (names_stay options.types (reads_paths options.style) answers details names)
 
--- There is no name, and the words of the input have objects.
+-- There is no name, and the objects of the input's words were written.
 pub record InputByObjects (answers : Answering) (details : Detailing) (options : Options) (names : List (List ℕ)) (coming coming' out out' : Option (List ℕ)) (status : ℕ) : Type 0 where
   pub none : names ≡ []
   pub one_stays : Bool
@@ -168,13 +168,13 @@ abbrev pub ByObjects : Answering → Detailing → Options → List (List ℕ) �
 ByObjects answers details options names coming coming' out out' status =
     NamesByObjects answers details options names coming coming' out out' status ⊎ InputByObjects answers details options names coming coming' out out' status
 
--- a beginning of what is written by objects
+-- a beginning of the objects' lines was written
 abbrev pub ByObjectsFront : Answering → Detailing → Options → List (List ℕ) → (coming coming' out out' : Option (List ℕ)) → Type 0
 ByObjectsFront answers details options names coming coming' out out' =
     ((coming' ≡ coming) × PutsFront out out' [] (name_lines options.types (reads_paths options.style) answers details names))
     ⊎ ((names ≡ []) × TellsObjectsFront (reads_paths options.style) answers details coming coming' out out')
 
--- The command line's names, or the words of the input, have objects of JSON by its options. Texts in objects aren't escaped twice. Nothing
+-- As the options request, the objects of the command line's names, or of the input's words, were written. Texts aren't escaped twice. Nothing
 -- is said on standard error.
 pub record Objects (rows : List Row) (terminal : Bool) (coming coming' out out' err err' : Option (List ℕ)) (status : ℕ) : Type 0 where
   pub options : Options
@@ -190,7 +190,7 @@ pub record ObjectsFront (rows : List Row) (terminal : Bool) (coming coming' out 
   pub told : ByObjectsFront (unescaped_of options) (details_of options) options (names_of rows) coming coming' out out'
   pub silent : Appends err err' []
 
--- ## What such a command line did
+-- ## What an accepted command line did
 
 -- the command line's names are answered; or no style, spelling or colouring has the given name, and no line was written
 abbrev pub IsEndedOf : List Row → (terminal : Bool) → ℕ → List ℕ → List ℕ → Type 0
@@ -200,7 +200,7 @@ IsEndedOf rows terminal status lines said = Answered rows terminal status lines 
 abbrev pub IsStoppedOf : List Row → (terminal : Bool) → List ℕ → List ℕ → Type 0
 IsStoppedOf rows terminal lines said = AnsweredFront rows terminal lines said ⊎ (lines ≡ [])
 
--- the same for a command line that may also filter the input, or write objects
+-- what a command line did that may also filter the input, or write objects
 abbrev pub EndsOf : List Row → (terminal : Bool) → (coming coming' out out' err err' : Option (List ℕ)) → ℕ → Type 0
 EndsOf rows terminal coming coming' out out' err err' status =
     ((coming' ≡ coming) × Took out out' err err' (IsEndedOf rows terminal status)) ⊎ Filtered rows terminal coming coming' out out' err err' status
@@ -229,7 +229,7 @@ IsUntaken words status lines said = (kind : ErrorKind) × IsAmong kind (faults_i
 
 -- ## The words of a command line
 
--- The parser accepts the words of the command line, and they did what it found; or it refuses them.
+-- The parser accepts the command line's words, and what it found was done; or it refuses the words.
 abbrev pub Ends : List Text → (terminal : Bool) → (coming coming' out out' err err' : Option (List ℕ)) → ℕ → Type 0
 Ends words terminal coming coming' out out' err err' status =
     ((faults_in words ≡ []) × EndsOf (found_in words) terminal coming coming' out out' err err' status)

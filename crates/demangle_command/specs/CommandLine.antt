@@ -69,12 +69,12 @@ name_arguments = record (new_rule (codes "NAME")) {
   range = Some (record { start_inclusive = 0; end_inclusive = usize_max });
 }
 
--- a command line with the options on which names have a text, and on what is shown of the text
+-- a command line with the options that decide which names have a text, and what is shown of the text
 abbrev pub with_texts : App → App
 with_texts app =
     with_rule (with_rule (with_rule (with_rule (with_short (with_rule (with_rule app no_params) (flag (codes "brief")))) types) limit) spelling_option) style_option
 
--- a command line with the options on how texts are written, and on what is said of names that have no text
+-- a command line with the options that decide how texts are written, and what is said of names without a text
 abbrev pub with_reports : App → App
 with_reports app =
     with_rule (with_rule (with_rule (with_rule (with_rule app color_option) (flag (codes "escape"))) (flag (codes "json"))) (flag (codes "why"))) (flag (codes "strict"))
@@ -118,7 +118,7 @@ IsColored (Some name) asked = IsColoring name asked
 abbrev pub IsAskedColoring : List Row → Option Coloring → Type 0
 IsAskedColoring rows asked = IsColored (first_of (codes "color") rows) asked
 
--- options as the parser found them, where texts are written to a terminal or to something else
+-- options as the parser found them; `terminal` says whether texts are written to a terminal
 pub record AreGiven (rows : List Row) (terminal : Bool) (options : Options) : Type 0 where
   pub brief : Bool
   pub no_params : Bool

@@ -6,7 +6,7 @@ use Rattle.demangle_command.specs.Texts.{bytes_of}
 abbrev pub complaint_of : List ℕ → List ℕ
 complaint_of reason = codes "demangle: " ++ reason ++ codes "; see demangle --help" ++ 10 ∷ []
 
--- a line says some reason
+-- a line is the complaint for some reason
 abbrev pub IsComplaint : List ℕ → Type 0
 IsComplaint line = (reason : List ℕ) × (line ≡ complaint_of reason)
 

@@ -10,13 +10,13 @@ use Rattle.text_details.specs.Details.{Details, Detailing}
 use Rattle.demangle_names.specs.Style.{leaves_out, reads_paths}
 use Rattle.demangle_names.specs.declared.style.Style.{Style}
 
--- What is answered, with C++ by the wide grammar. A symbol that is left out is refused at its first byte.
+-- The answer in a style, with C++ by the wide grammar. A symbol that the style leaves out is refused at its first byte.
 abbrev pub styled_answer : Style → ℕ → Detail → Answering
 styled_answer by limit detail kind symbol =
     if leaves_out by kind.lang symbol then Err (Malformed 0)
     else answers_by (cpp_by true) (reads_paths by) limit detail kind symbol
 
--- the details of what is answered with the parts of its text
+-- the details of an answer that has the parts of its text
 abbrev pub details_found : Result Parsed Refusal → Option Details
 details_found (Ok parsed) = Some (record { kind = parsed.kind; parts = parsed.parts })
 details_found (Err refusal) = None

@@ -22,11 +22,11 @@ pub record Decoding : Type 0 where
 abbrev pub first_taken : Decoding → ℕ → Decoding
 first_taken decoding byte = if nat_lt byte 128 then record decoding { bytes = decoding.bytes ++ byte ∷ [] } else record decoding { lead = Some byte }
 
--- of the two bytes of a character from 128 to 255, the first has its two highest bits, and the second has the others
+-- of a character's number, from 128 to 255, the first byte has the two highest bits, and the second byte has the others
 abbrev pub second_taken : ℕ → Decoding → ℕ → Decoding
 second_taken lead decoding byte = record { bytes = decoding.bytes ++ (lead % 4 * 64 + byte % 64) ∷ []; lead = None }
 
--- the state after one byte more
+-- the state after one more byte
 abbrev pub after_lead : Option ℕ → Decoding → ℕ → Decoding
 after_lead None decoding byte = first_taken decoding byte
 after_lead (Some lead) decoding byte = second_taken lead decoding byte
@@ -42,7 +42,7 @@ after_text decoding (byte ∷ bytes) = after_text (after_byte decoding byte) byt
 abbrev pub start : Decoding
 start = record { bytes = []; lead = None }
 
--- the bytes whose numbers a text's characters have; for the text of a word these are the word
+-- for each character of a text, the byte with the character's number; of the text of a word these bytes are the word
 abbrev pub bytes_of : Text → List ℕ
 bytes_of text = (after_text start text).bytes
 

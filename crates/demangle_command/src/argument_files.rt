@@ -10,11 +10,11 @@ use std::mem;
 pub struct Reading {
     words: Vec<Vec<u8>>,
     word: Vec<u8>,
-    // a word has begun, which may have no bytes
+    // whether a word has begun, even if it has no bytes so far
     is_begun: bool,
-    // the quote that is open
+    // the open quote, if there is one
     quote: Option<u8>,
-    // the byte before is a backslash, by which the next byte is taken as it is
+    // whether the byte before is a backslash, so that the next byte is taken as it is
     escapes: bool,
 }
 

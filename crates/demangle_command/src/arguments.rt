@@ -33,7 +33,7 @@ pub(crate) fn arguments_of<R: Env + AllocGlobal>(rt: &R) -> Result<Vec<Vec<u8>>,
     Ok(arguments)
 }
 
-/// The word at a place, if there is one. The room for it grows until it fits.
+/// The word at a place, if there is one. The room for the word grows until the word fits.
 fn argument<R: Env + AllocGlobal>(
     rt: &R,
     at: usize,
@@ -59,7 +59,7 @@ pub enum Words {
     TooLong(Vec<u8>),
 }
 
-/// What is read of a file of arguments: nothing, since it can't be read or is too long, or its words.
+/// What is read of a file of arguments: nothing, if it can't be read; that it is too long; or its words.
 #[derive(Drop)]
 enum FileWords {
     None,
@@ -92,7 +92,7 @@ fn push_words(words: &mut Vec<Vec<u8>>, more: Vec<Vec<u8>>) -> Result<(), AllocE
     words.append(&mut more)
 }
 
-/// The words of the file that an argument names, if it names a file that can be read.
+/// What is read of the file that an argument names, if it names one.
 fn words_of_file<R: Files + AllocGlobal>(rt: &R, argument: &[u8]) -> Result<FileWords, AllocError> {
     let Some(path) = path_of(argument) else {
         return Ok(FileWords::None);
@@ -115,7 +115,7 @@ fn path_of(argument: &[u8]) -> Option<&str> {
     str::from_utf8(path).ok()
 }
 
-/// The bytes of a file, and at most one more than the longest file has.
+/// The bytes of a file, but at most one byte more than the longest file may have.
 fn text_of<R: Files + AllocGlobal>(rt: &R, path: &str) -> io::Result<Vec<u8>> {
     let mut text = Vec::new(rt.alloc());
     fs::open(rt, path)?

@@ -37,7 +37,7 @@ use text_details::Detailed;
 ///
 /// # Errors
 ///
-/// `Read` and `Write` where a stream failed, `Memory`. What was written is a beginning of what would have been written.
+/// `Read` and `Write` where a stream failed, `Memory`. The bytes written are a beginning of those that a run without faults writes.
 pub fn run_over<S: Source, W: Sink, E: Sink>(
     alloc: Global,
     words: &[&[u8]],
@@ -453,7 +453,7 @@ fn filter_input<D: Demangler, S: Source, W: Sink, E: Sink>(
     }
 }
 
-/// Filters an input, and says of each word that stays its line and the reason, if that is requested.
+/// Filters an input, and says the line and the reason of each word that stays, if requested.
 fn filter_by<D: Demangler, S: Source, W: Sink, E: Sink>(
     alloc: Global,
     demangler: &D,
@@ -480,7 +480,7 @@ fn filter_by<D: Demangler, S: Source, W: Sink, E: Sink>(
     filter_words(alloc, input, out, demangler, Letters::Within)
 }
 
-/// Filters an input, and says of each word that stays its line and the reason.
+/// Filters an input, and says the line and the reason of each word that stays.
 fn filter_saying<D: Demangler, S: Source, W: Sink, E: Sink>(
     alloc: Global,
     demangler: &D,

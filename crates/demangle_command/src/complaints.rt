@@ -108,7 +108,7 @@ fn quoted(alloc: Global, words: &[u8], text: &str) -> Result<Vec<u8>, AllocError
     Ok(all)
 }
 
-/// The first word that the parser refuses by itself with the error that it has for all words.
+/// The first word that the parser, given this word alone, refuses with the kind of error that it has for all words.
 fn first_refused<'a>(alloc: Global, kind: ErrorKind, words: &[&'a str]) -> Refused<'a> {
     let mut before = "";
     for word in words {
@@ -120,7 +120,7 @@ fn first_refused<'a>(alloc: Global, kind: ErrorKind, words: &[&'a str]) -> Refus
     Refused { before, word: "" }
 }
 
-/// Whether the parser refuses a word by itself with an error of this kind.
+/// Whether the parser, given a word alone, refuses the word with an error of this kind.
 fn refuses(alloc: Global, kind: ErrorKind, word: &str) -> bool {
     if !word.starts_with('-') {
         return false;

@@ -72,7 +72,7 @@ fn command_line<'a>(alloc: Global) -> Result<Command<'a>, AllocError>
     command.arg(name_arguments(alloc))
 }
 
-/// A command line with the options on which names have a text, and on what is shown of the text.
+/// A command line with the options that decide which names have a text, and what is shown of the text.
 fn with_texts<'a>(alloc: Global, command: Command<'a>) -> Result<Command<'a>, AllocError>
     ensures { IfOk result (λ with_them. app_of with_them ≡ with_texts (app_of command.entry)) }
 {
@@ -86,7 +86,7 @@ fn with_texts<'a>(alloc: Global, command: Command<'a>) -> Result<Command<'a>, Al
         .arg(style_option(alloc))
 }
 
-/// A command line with the options on how texts are written, and on what is said of names that have no text.
+/// A command line with the options that decide how texts are written, and what is said of names without a text.
 fn with_reports<'a>(alloc: Global, command: Command<'a>) -> Result<Command<'a>, AllocError>
     ensures { IfOk result (λ with_them. app_of with_them ≡ with_reports (app_of command.entry)) }
 {
@@ -215,7 +215,7 @@ fn taken_option<'a>(alloc: Global) -> Arg<'a>
     flag(alloc, "no-strip-underscore").short('n').hide(true)
 }
 
-/// The names.
+/// The argument for names, of which there may be any number.
 fn name_arguments<'a>(alloc: Global) -> Arg<'a>
     ensures rule { rule_of result ≡ name_arguments }
     ensures local { result.global ≡ false }
@@ -256,7 +256,7 @@ fn asked_coloring(matches: &ArgMatches<'_>) -> Option<Coloring>
     }
 }
 
-/// The options of a command line, whose texts may be written to a terminal; none where no style, no spelling or no colouring has the name that is given.
+/// The options of a command line; `terminal` says whether its texts are written to a terminal. None where no style, spelling or colouring has the given name.
 pub(crate) fn options_of(matches: &ArgMatches<'_>, terminal: bool) -> Option<Options>
     ensures { AreOptions (rows_of (found_of matches.now)) terminal result }
 {

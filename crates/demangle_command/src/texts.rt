@@ -27,7 +27,7 @@ fn text_of(alloc: Global, word: &[u8]) -> Result<String, AllocError>
     Ok(text)
 }
 
-/// Texts, lent.
+/// References to texts.
 pub(crate) fn lent_texts(alloc: Global, texts: &[String]) -> Result<Vec<&str>, AllocError>
     ensures { IfOk result (λ lent. map (λ text. text.now) lent.items ≡ map string_bytes texts.now) }
 {
@@ -46,7 +46,7 @@ pub(crate) fn words_of(alloc: Global, texts: &[&str]) -> Result<Vec<Vec<u8>>, Al
     Ok(words)
 }
 
-/// Words, lent.
+/// References to words.
 pub(crate) fn lent_words(alloc: Global, words: &[Vec<u8>]) -> Result<Vec<&[u8]>, AllocError>
     ensures { IfOk result (λ lent. map (λ word. word.now) lent.items ≡ map (λ word. word.items) words.now) }
 {
@@ -60,7 +60,7 @@ pub(crate) fn bytes_of(alloc: Global, text: &str) -> Result<Vec<u8>, AllocError>
     bytes_in(alloc, text.as_bytes())
 }
 
-/// The same, from the bytes of the parser's text.
+/// The word whose text, as the parser has it, has these bytes.
 fn bytes_in(alloc: Global, text: &[u8]) -> Result<Vec<u8>, AllocError>
     ensures { IfOk result (λ bytes. bytes.items ≡ bytes_of text.now) }
 {

@@ -17,13 +17,13 @@ use Rattle.sym_core.specs.declared.refusal.Refusal.TheVariants.{Memory}
 use Rattle.sym_command.specs.Lines.{reason_of}
 use Rattle.demangle_names.specs.Names.{FiltersSome, filtered, LineFront, NameFront, NameFrontBy, NamesFront, line_of, name_stays, reason_by, said_for, said_if, said_of, stays_by, stays_for, written_for}
 
--- what a function gives for some names and one name more, joined in order
+-- what a function gives for some names and one more name, joined in order
 pub flat-more : (f : List ℕ → List ℕ) (names all : List (List ℕ)) (name : List ℕ) → all ≡ names ++ name ∷ [] → flat_map f all ≡ flat_map f names ++ f name
 flat-more f names all name e = ap (flat_map f) e ∙ flat_map-append f names (name ∷ []) ∙ ap (λ (t : List ℕ). flat_map f names ++ t) (append-nil (f name))
 
 -- ## A name
 
--- what is known of a filtered line is known of the name on that line
+-- whether a name stays, by the tally of its line
 pub stays-line : (answers : Answering) (name line : List ℕ) (tally : Tally) (left : Bool) → line ≡ line_of name → tally ≡ tally_at Within answers line → left ≡ stays_by tally → left ≡ name_stays answers name
 stays-line answers name line tally left e counted is = is ∙ ap stays_by (counted ∙ ap (tally_at Within answers) e)
 
@@ -108,7 +108,7 @@ module _ (answers : Answering) (types why : Bool) where
   pub SoFar-begin : (out err : Option (List ℕ)) → SoFar answers types why [] false out out err err
   SoFar-begin out err = record { to_out = Appends-none out; to_err = Appends-none err; stay = refl }
 
-  -- one name more
+  -- one more name
   pub SoFar-more : (names all : List (List ℕ)) (name : List ℕ) (old new left : Bool) (out mid out' err mid' err' : Option (List ℕ)) → SoFar answers types why names old out mid err mid' → all ≡ names ++ name ∷ []
       → Appends mid out' (written_for types answers name) → Appends mid' err' (said_for types why answers name) → left ≡ stays_for types answers name → new ≡ (old || left) → SoFar answers types why all new out out' err err'
   SoFar-more names all name old new left out mid out' err mid' err' so_far e wrote says is chosen =
@@ -120,7 +120,7 @@ module _ (answers : Answering) (types why : Bool) where
         stay = chosen ∙ ap₂ (λ (a b : Bool). a || b) so_far.stay is ∙ one-more (list_any stays names) (stays name) ∙ sym (ap (list_any stays) e ∙ list_any-append stays names (name ∷ []));
       }
 
-  -- a part of one name more
+  -- a part of one more name
   pub SoFar-stopped : (names rest all : List (List ℕ)) (name : List ℕ) (one_stays : Bool) (out mid out' err mid' err' : Option (List ℕ)) → SoFar answers types why names one_stays out mid err mid' → all ≡ names ++ name ∷ rest
       → Took mid out' mid' err' (NameFront answers types why name) → Took out out' err err' (NamesFront answers types why all)
   SoFar-stopped names rest all name one_stays out mid out' err mid' err' so_far e front =

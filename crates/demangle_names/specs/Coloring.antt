@@ -3,7 +3,7 @@ use Rattle.std.specs.Prelude.{◌≡◌, ◌≢◌, ℕ, List, Bool, true, false
 use Rattle.demangle_names.specs.declared.coloring.Coloring.{Coloring}
 use Rattle.demangle_names.specs.declared.coloring.Coloring.TheVariants as coloring
 
--- the colouring of a name, or none
+-- the colouring with this name, or none
 abbrev pub IsColoring : List ℕ → Option Coloring → Type 0
 IsColoring name (Some coloring.Auto) = name ≡ codes "auto"
 IsColoring name (Some coloring.Always) = name ≡ codes "always"

@@ -17,7 +17,7 @@ filtered answers text = filtered_at Within answers text
 abbrev pub line_of : List ℕ → List ℕ
 line_of name = name ++ 10 ∷ []
 
--- a text stays if one of its words has no text, or if it has no word
+-- a text stays if one of its words has no text, or if the text has no word
 abbrev pub stays_by : Tally → Bool
 stays_by tally = not (tally.refused == 0) || (tally.replaced == 0)
 

@@ -10,13 +10,13 @@ pub record Saying : Type 0 where
   pub says : (line : ℕ) → (word : List ℕ) → List ℕ
   pub stays : (word : List ℕ) → Bool
 
--- The number of the line after these entries. It stays at the greatest u64 after it has reached that.
+-- The number of the line in which entries end, if they begin in `line`. It never passes the greatest u64.
 abbrev pub line_after : (line : ℕ) → List Entry → ℕ
 line_after line [] = line
 line_after line (newline ∷ entries) = line_after (capped (line + 1)) entries
 line_after line (left_word word ∷ entries) = line_after line entries
 
--- what is said of the words among entries that begin in a line
+-- what is said of the words among entries, which begin in this line
 abbrev pub said_from : Saying → (line : ℕ) → List Entry → List ℕ
 said_from saying line [] = []
 said_from saying line (newline ∷ entries) = said_from saying (capped (line + 1)) entries
@@ -26,7 +26,7 @@ said_from saying line (left_word word ∷ entries) = saying.says line word ++ sa
 abbrev pub said_of_words : Saying → List Entry → List ℕ
 said_of_words saying entries = said_from saying 1 entries
 
--- whether one of these words stays
+-- whether one of the words among entries stays
 abbrev pub one_stays : Saying → List Entry → Bool
 one_stays saying [] = false
 one_stays saying (newline ∷ entries) = one_stays saying entries

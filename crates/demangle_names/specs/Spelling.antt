@@ -3,7 +3,7 @@ use Rattle.std.specs.Prelude.{◌≡◌, ◌≢◌, ℕ, List, Bool, true, false
 use Rattle.demangle_names.specs.declared.spelling.Spelling.{Spelling}
 use Rattle.demangle_names.specs.declared.spelling.Spelling.TheVariants as spelling
 
--- the spelling of a name, or none
+-- the spelling with this name, or none
 abbrev pub IsSpelling : List ℕ → Option Spelling → Type 0
 IsSpelling name (Some spelling.Plain) = name ≡ codes "plain"
 IsSpelling name (Some spelling.Gnu) = name ≡ codes "gnu"

@@ -9,7 +9,7 @@ pub data Place : Type 0 where
   within : Place
   escaping : Place
 
--- where the next byte is
+-- where the byte after this one is
 abbrev pub after_byte : Place → ℕ → Place
 after_byte outside byte = if byte == 34 then within else outside
 after_byte within byte = if byte == 34 then outside else (if byte == 92 then escaping else within)
@@ -35,7 +35,7 @@ ReadsBack = (text : List ℕ) → unescaped within (escaped text) ≡ text
 abbrev pub StaysWithin : Type 0
 StaysWithin = (text : List ℕ) → after_bytes within (escaped text) ≡ within
 
--- a byte that is neither a quote nor a backslash, as each byte of a word is
+-- a byte that is neither a quote nor a backslash, like each byte of a word
 abbrev pub IsPlain : ℕ → Type 0
 IsPlain byte = (byte ≢ 34) × (byte ≢ 92)
 

@@ -6,7 +6,7 @@ use Rattle.sym_filter.specs.declared.kinds.Lang.TheVariants as lang
 use Rattle.demangle_names.specs.declared.style.Style.{Style}
 use Rattle.demangle_names.specs.declared.style.Style.TheVariants as style
 
--- the style of a name, or none
+-- the style with this name, or none
 abbrev pub IsStyle : List ℕ → Option Style → Type 0
 IsStyle name (Some style.Auto) = name ≡ codes "auto"
 IsStyle name (Some style.GnuV3) = name ≡ codes "gnu-v3"

@@ -26,7 +26,7 @@ impl Coloring {
     }
 }
 
-/// The colouring of a name, as options give it.
+/// The colouring with this name, which an option gives.
 pub fn coloring_of(name: &str) -> Option<Coloring>
     ensures { IsColoring name.now result }
 {

@@ -43,7 +43,7 @@ pub fn escaped_stays_within()
     ensures { StaysWithin }
 {}
 
-/// A line of JSON in which an escaped text replaces a word of a string has its other strings where they were.
+/// Where an escaped text replaces a word of a string in a line of JSON, the bytes after it are in strings or outside of them as before.
 pub fn replaced_keeps_strings()
     ensures { KeepsStrings }
 {}

@@ -11,7 +11,7 @@ use std::alloc::{AllocError, Global};
 use sym_command::reason;
 use sym_filter::{Demangler, FilterFault, Sink, kind_of};
 
-/// The reason why a name stays that is no symbol.
+/// The reason why a name stays if it is no symbol.
 const NO_SYMBOL: &str = "not a symbol";
 
 /// Says why a name stays, if that is requested.

@@ -15,11 +15,11 @@ pub struct Said {
     pub stays: bool,
 }
 
-/// What says something of each word of a text that a report takes.
+/// Says something of each word of a text, for a report.
 pub trait Says {
     ghost use Rattle.demangle_names.specs.Saying.{Saying};
 
-    // what it says
+    // what is said of each word, and whether the word stays
     ghost saying: { Self → Saying };
 
     /// What is said of a word in a line of the text; the first line is line 1.

@@ -11,7 +11,7 @@ pub enum Spelling {
     Gnu,
 }
 
-/// The spelling of a name, as options give it.
+/// The spelling with this name, which an option gives.
 pub fn spelling_of(name: &str) -> Option<Spelling>
     ensures { IsSpelling name.now result }
 {

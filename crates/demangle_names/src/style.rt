@@ -53,7 +53,7 @@ impl Style {
     }
 }
 
-/// The style of a name, as options give it.
+/// The style with this name, which an option gives.
 pub fn style_of(name: &str) -> Option<Style>
     ensures { IsStyle name.now result }
 {

@@ -18,7 +18,7 @@ const TYPES: u16 = 3;
 
 const LIFE: u16 = 4;
 
-/// Fills the places of a rule's symbols that it doesn't have.
+/// Fills the places of symbols that a rule doesn't have.
 const NO: Sym = END;
 
 /// Fills the places of ranges that a choice doesn't have.

@@ -33,7 +33,7 @@ fn feed(reader: &mut Reader<Paths>, piece: &[u8]) -> Result<(), Refusal> {
     Err(Refusal::TooLong)
 }
 
-/// What a reader answers that is fed a piece and then others of a size.
+/// What a reader answers, fed a first piece and then the rest in pieces of a size.
 fn fed(alloc: Global, first: &[u8], rest: &[u8], size: usize) -> Result<Shape, Refusal> {
     let mut reader = Reader::new(alloc, &Paths)?;
     if !first.is_empty() {
@@ -77,7 +77,7 @@ fn reads_alike(alloc: Global, s: &[u8]) -> bool
     true
 }
 
-/// Whether what is read of a changed symbol is well shaped, or bad at a place or after it.
+/// Whether a changed symbol is read as well shaped, or is bad at a place or after it.
 fn is_bad_behind(outcome: Result<Shape, Refusal>, place: usize) -> bool {
     match outcome {
         Ok(_shape) => true,

@@ -14,7 +14,7 @@ use Rattle.sym_print.specs.Unfold.{RanksBelow, AreParts, printed}
 use Rattle.sym_print.proofs.Unfolding.{prints_the_same}
 use Rattle.example_layout.specs.Dag.{Tree, leaf, pair, at, tree_of, trees_onto, trees_of, doubled, IsBelow, IsLinked, Seen, seen, parts_of, rank, item_of, bytes_of, mark_of, MayCome}
 
--- the trees of the nodes before stay
+-- the trees of earlier nodes stay the same in a longer table
 onto-front : (before : List Tree) (nodes : List Node) (k : ℕ) → k < length before → at (trees_onto before nodes) k ≡ at before k
 onto-front before [] k h = refl
 onto-front before (node ∷ rest) k h =
@@ -54,7 +54,7 @@ onto-at before (node ∷ rest) (suc k) d linked h =
     ap (at (trees_onto more rest)) here
     ∙ onto-at more rest k d (linked-same (length before + 1) (length more) rest (sym one) linked.1) (omega arith)
 
--- each node's tree is that over its parts' trees
+-- each node denotes the tree over its parts' trees
 pub tree-at : (nodes : List Node) (k : ℕ) (d : Node) → IsLinked 0 nodes → k < length nodes → at (trees_of nodes) k ≡ tree_of (trees_of nodes) (get_or nodes k d)
 tree-at nodes k d linked h = let here : k ≡ 0 + k = omega arith in ap (at (trees_of nodes)) here ∙ onto-at [] nodes k d linked h
 
@@ -94,7 +94,7 @@ module _ (nodes : List Node) (i : Item Bool) (d : Node) (linked : IsLinked 0 nod
       (subst (λ ps. AreParts (item_of nodes) bytes_of ps (parts_of (seen (pair (at (trees_of nodes) left) (at (trees_of nodes) right)) i.ctx))) (sym e)
       (ap₂ (λ n c. seen (at (trees_of nodes) n) c) ln lc, (marked, (ap₂ (λ n c. seen (at (trees_of nodes) n) c) rn rc, tt))))
 
--- pushes in a row
+-- a list after one push, and after three pushes
 pub one-pushed : {X : Type 0} {a : X} (p q : List X) → p ≡ [] → q ≡ p ++ a ∷ [] → q ≡ a ∷ []
 one-pushed {a = a} p q e f = f ∙ ap (λ (ps : List _). ps ++ a ∷ []) e
 
@@ -108,7 +108,7 @@ mark-right n side p q = (ap (λ k. bytes_of (Fixed k)) q ∙ ap mark_of (sym p),
 pub mark-left : (n : ℕ) (side : Bool) → side ≡ false → n ≡ 0 → (bytes_of (Fixed n) ≡ mark_of side) × (n < 2)
 mark-left n side p q = (ap (λ k. bytes_of (Fixed k)) q ∙ ap mark_of (sym p), omega arith)
 
--- a node more
+-- a linked table stays linked with one more node, if the parts of this node are earlier
 linked-push : (i : ℕ) (nodes : List Node) (node : Node) → IsLinked i nodes → IsBelow (i + length nodes) node → IsLinked i (nodes ++ node ∷ [])
 linked-push i [] node linked below = (below-same (i + 0) i node (omega arith) below, tt)
 linked-push i (first ∷ rest) node linked below =

@@ -68,7 +68,7 @@ bytes_of (Own bytes count) = take count bytes
 bytes_of (Fixed number) = if nat_eq number 0 then 44 ∷ [] else 59 ∷ []
 bytes_of _ = []
 
--- the parts of a table's items
+-- the parts that a table's items may have
 abbrev pub MayCome : List Node → Part Bool → Type 0
 MayCome nodes (Sub i) = i.node < length nodes
 MayCome nodes (Own bytes count) = (count ≡ 1) × (length bytes ≡ 24)

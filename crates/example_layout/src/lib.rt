@@ -21,14 +21,15 @@ pub enum Node {
     Pair(u32, u32),
 }
 
-/// A table of nodes; the last one is the whole. It can be printed where the parts of each precede it.
+/// A table of nodes; the last one is the whole. A table can be printed if the parts of each node
+/// precede the node.
 #[derive(Drop)]
 pub struct Dag {
     pub nodes: Vec<Node>,
 }
 
 impl Dag {
-    /// A leaf, and n pairs above it, each holding the node before it twice.
+    /// A leaf, and `levels` pairs above it, each holding the node before it twice.
     ///
     /// Errors: `Memory`.
     pub fn doubling(alloc: Global, levels: u32) -> Result<Dag, Refusal>

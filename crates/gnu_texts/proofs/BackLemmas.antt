@@ -1,14 +1,5 @@
--- A text comes back where the blanks before brackets are left out of its spelled text.
-use Rattle.std.proofs.Common.{◌≡◌, ◌≤◌, ◌<◌, ◌+◌, ◌-◌, ◌==◌, ◌⊎◌, inl, inr, ℕ, zero, suc, Bool, true, false, not, ◌&&◌, ◌||◌, if◌then◌else◌, List, [], ◌∷◌, ◌++◌, length, take, drop, nat_eq, codes, refl, sym, ap, ap₂, ◌∙◌, arith, true≢false}
-use Rattle.std.proofs.lemmas.List.{take-append-drop}
-use Rattle.std.proofs.Math.Seq.{take-append-add, take-append_seam}
-use Rattle.std.specs.Cmp.Lexicographic.{pointwise}
-use Rattle.std.specs.List.{starts_with, list_all}
-use Rattle.short_names.specs.Runs.{is_letter}
-use Rattle.gnu_texts.specs.declared.piece.Piece.{Piece}
-use Rattle.gnu_texts.specs.Laws.{HasNoWords, HasNoBlanks, ComesBack, closed_up}
-use Rattle.gnu_texts.specs.Pieces.{bytes_of, is_spaced, last_of, operator_size, piece_at, sign_size, size_of}
-use Rattle.gnu_texts.specs.Spelling.{spelled}
+-- A spelled text without the blanks before its brackets is the text again.
+use Rattle.gnu_texts.proofs.Basics.{◌≡◌, ◌≤◌, ◌<◌, ◌+◌, ◌-◌, ◌==◌, ◌⊎◌, inl, inr, ℕ, zero, suc, Bool, true, false, not, ◌&&◌, ◌||◌, if◌then◌else◌, List, [], ◌∷◌, ◌++◌, length, take, drop, nat_eq, codes, refl, sym, ap, ap₂, ◌∙◌, arith, true≢false, take-append-drop, take-append-add, take-append_seam, pointwise, starts_with, list_all, is_letter, Piece, HasNoWords, HasNoBlanks, ComesBack, closed_up, bytes_of, is_spaced, last_of, operator_size, piece_at, sign_size, size_of, spelled}
 use Rattle.gnu_texts.proofs.FrontLemmas.{front-is}
 use Rattle.gnu_texts.proofs.KeptLemmas.{at-byte}
 use Rattle.gnu_texts.proofs.PieceLemmas.{and-right, by-few, choose, operator-within, words-tail}
@@ -62,7 +53,7 @@ none-joint last (byte ∷ text) closing array = at-byte byte 32 (is_spaced last 
     (at-byte last 62 (starts_with nat_eq text (codes ">")) (λ e. sym (ap₂ (λ a b. starts_with nat_eq (a ∷ b ∷ text) (codes "> >")) e blank) ∙ closing))
     (at-byte last 41 (starts_with nat_eq text (codes "[")) (λ e. sym (ap₂ (λ a b. starts_with nat_eq (a ∷ b ∷ text) (codes ") [")) e blank) ∙ array)))
 
--- whether a bracket is there goes by the first byte alone
+-- whether a blank is written before a text depends only on the byte before the text and on the text's first byte
 spaced-first : (last : ℕ) (text other : List ℕ) → take 1 text ≡ take 1 other → is_spaced last text ≡ is_spaced last other
 unfolding is_spaced
 spaced-first last text other e = ap (λ t. (last == 62 && pointwise nat_eq (codes ">") t) || (last == 41 && pointwise nat_eq (codes "[") t)) e
@@ -84,7 +75,7 @@ closes-nothing text = (refl, refl)
 
 -- ## What is left of a piece
 
--- the last byte of some bytes after another
+-- the last of some bytes, or the byte before them
 end_of : (last : ℕ) → List ℕ → ℕ
 end_of last [] = last
 end_of last (byte ∷ text) = end_of byte text
@@ -110,7 +101,7 @@ solid-closed last (byte ∷ text) rest solid =
     keep last byte (text ++ rest) (at-byte byte 32 (is_spaced last (text ++ rest)) (λ e. absurd (true≢false (sym solid ∙ ap (λ b. not (b == 32) && list_all (λ b. not (b == 32)) text) e))))
     ∙ ap (λ t. byte ∷ t) (solid-closed byte text rest (and-right (not (byte == 32)) _ solid))
 
--- the first byte of what is written for a text after a byte that closes nothing
+-- what is written for a text begins with the text's first byte, if no blank is written before it
 first-same : (last : ℕ) (text : List ℕ) → HasNoWords text → is_spaced last text ≡ false → take 1 (spelled last 0 text) ≡ take 1 text
 unfolding spelled bytes_of
 first-same last [] none other = refl

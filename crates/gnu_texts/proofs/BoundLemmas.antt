@@ -1,15 +1,5 @@
 -- How long a spelled text is.
-use Rattle.std.proofs.Common.{◌≡◌, ◌≤◌, ◌<◌, ◌+◌, ◌*◌, ◌-◌, ◌⊎◌, inl, inr, ℕ, zero, suc, true, List, [], ◌∷◌, ◌++◌, length, take, drop, replicate, nat_eq, codes, refl, sym, ap, subst, ◌∙◌, arith, length-append, length-take, true≢false}
-use Rattle.std.proofs.Math.Seq.{drop-append_seam, take-append_seam}
-use Rattle.std.proofs.lemmas.List.{drop_all, length-replicate}
-use Rattle.std.specs.Cmp.Lexicographic.{pointwise}
-use Rattle.std.specs.List.{ends_with, list_all}
-use Rattle.short_names.specs.Runs.{is_letter}
-use Rattle.gnu_texts.specs.declared.piece.Piece.{Piece}
-use Rattle.gnu_texts.specs.Clones.{begins_part, clones, is_suffix, letter_bytes, parted, suffix_of}
-use Rattle.gnu_texts.specs.Pieces.{bytes_of, is_spaced, last_of, operator_size, piece_at, size_of}
-use Rattle.gnu_texts.specs.Laws.{HasNoWords, IsBounded, IsLessThanDouble, IsNoShorter, ReachesBound, dots}
-use Rattle.gnu_texts.specs.Spelling.{spelled}
+use Rattle.gnu_texts.proofs.Basics.{◌≡◌, ◌≤◌, ◌<◌, ◌+◌, ◌*◌, ◌-◌, ◌⊎◌, inl, inr, ℕ, zero, suc, true, List, [], ◌∷◌, ◌++◌, length, take, drop, replicate, nat_eq, codes, refl, sym, ap, subst, ◌∙◌, arith, length-append, length-take, true≢false, drop-append_seam, take-append_seam, drop_all, length-replicate, pointwise, ends_with, list_all, is_letter, Piece, begins_part, clones, is_suffix, letter_bytes, parted, suffix_of, bytes_of, is_spaced, last_of, operator_size, piece_at, size_of, HasNoWords, IsBounded, IsLessThanDouble, IsNoShorter, ReachesBound, dots, spelled}
 use Rattle.gnu_texts.proofs.FrontLemmas.{suffix-piece}
 use Rattle.gnu_texts.proofs.PieceLemmas.{by-few, sized, words-tail}
 use Rattle.gnu_texts.proofs.SpelledLemmas.{spelled-piece}
@@ -29,7 +19,7 @@ no-shorter-by last zero (byte ∷ text) =
 pub no-shorter : (text : List ℕ) → IsNoShorter text
 no-shorter text = omega (arith, no-shorter-by 0 0 text)
 
--- the length of what is written: at most twice that of its text, or at most ten times that less thirty
+-- the length of what is written: at most twice the text's length, or at most thirty less than ten times that length
 abbrev AreBounded : (size long : ℕ) → Type 0
 AreBounded size long = (long ≤ 2 * size) ⊎ (long + 30 ≤ 10 * size)
 
@@ -63,7 +53,7 @@ bounded text = by (length text) _ (bounded-as _ _ _ _ (omega arith) refl (bounde
     by size long (inl a) = (omega (arith, a), λ some. omega (arith, a, some))
     by size long (inr a) = (omega (arith, a), λ some. a)
 
--- ## Texts without those names and a suffix
+-- ## Texts without names that are written otherwise, and without a suffix
 
 few-double : (last : ℕ) (text : List ℕ) → HasNoWords text → length (bytes_of (piece_at last text) text) ≤ 2 * size_of (piece_at last text) text
 unfolding bytes_of size_of

@@ -1,20 +1,7 @@
--- The bytes of a text are in its spelled text in their order.
-use Rattle.std.proofs.Common.{◌≡◌, ◌≤◌, ◌+◌, ◌-◌, ◌==◌, ◌&&◌, ◌||◌, ℕ, zero, suc, true, false, not, true≢false, List, [], ◌∷◌, ◌++◌, length, take, drop, get_or, nat_eq, codes, refl, sym, ap, ap₂, subst, ◌∙◌, arith, length-append, take_all}
-use Rattle.std.proofs.Math.Seq.{take-add, take-append_seam}
-use Rattle.std.proofs.lemmas.Bool.Decides.{Decides-eqb}
-use Rattle.std.proofs.lemmas.List.{take-append-drop}
-use Rattle.std.proofs.lemmas.List.Elements.{filter-append}
-use Rattle.std.proofs.lemmas.Slice.Eq.{ends_is}
-use Rattle.std.specs.List.{ends_with, starts_with}
-use Rattle.gnu_texts.specs.declared.names.Name.{Name}
+-- The bytes of a text, in their order, are a subsequence of its spelled text.
+use Rattle.gnu_texts.proofs.Basics.{◌≡◌, ◌≤◌, ◌+◌, ◌-◌, ◌==◌, ◌&&◌, ◌||◌, ℕ, zero, suc, true, false, not, true≢false, List, [], ◌∷◌, ◌++◌, length, take, drop, get_or, nat_eq, codes, refl, sym, ap, ap₂, subst, ◌∙◌, arith, length-append, take_all, take-add, take-append_seam, Decides-eqb, take-append-drop, filter-append, ends_is, ends_with, starts_with, Name, Piece, begins_part, clones, is_suffix, letter_bytes, parted, suffix_of, HasNo, KeepsBytes, are_in, without_parentheses, begins_whole, member_bytes, member_front, member_size, name_of, written_of, bytes_of, last_of, operator_size, piece_at, size_of, spelled}
 use Rattle.gnu_texts.specs.declared.names.Name.TheVariants as names
-use Rattle.gnu_texts.specs.declared.piece.Piece.{Piece}
 use Rattle.gnu_texts.specs.declared.piece.Piece.TheVariants as pieces
-use Rattle.gnu_texts.specs.Clones.{begins_part, clones, is_suffix, letter_bytes, parted, suffix_of}
-use Rattle.gnu_texts.specs.Laws.{HasNo, KeepsBytes, are_in, without_parentheses}
-use Rattle.gnu_texts.specs.Names.{begins_whole, member_bytes, member_front, member_size, name_of, written_of}
-use Rattle.gnu_texts.specs.Pieces.{bytes_of, last_of, operator_size, piece_at, size_of}
-use Rattle.gnu_texts.specs.Spelling.{spelled}
 use Rattle.gnu_texts.proofs.FrontLemmas.{front-is}
 use Rattle.gnu_texts.proofs.OrderLemmas.{AreIn, in-ahead, in-both, in-filter, in-more}
 use Rattle.gnu_texts.proofs.PieceLemmas.{and-left, and-right, by-piece, choose, sized, suffix-some}

@@ -1,7 +1,5 @@
 -- Suffixes that are written byte after byte.
-use Rattle.std.proofs.Common.{◌≡◌, ◌≤◌, ◌<◌, ◌+◌, ℕ, List, ◌∷◌, ◌++◌, length, drop, get_or, sym, ap, ◌∙◌, append_assoc, refl}
-use Rattle.std.proofs.lemmas.List.{drop_more, drop_all, append-nil}
-use Rattle.gnu_texts.specs.Clones.{letter_bytes, parted}
+use Rattle.gnu_texts.proofs.Basics.{◌≡◌, ◌≤◌, ◌<◌, ◌+◌, ℕ, List, ◌∷◌, ◌++◌, length, drop, get_or, sym, ap, ◌∙◌, append_assoc, refl, drop_more, drop_all, append-nil, letter_bytes, parted}
 
 pub letter-more : (text : List ℕ) (at : ℕ) (old so_far new : List ℕ) → at < length text → so_far ++ parted (drop at text) ≡ old
     → new ≡ so_far ++ letter_bytes (drop at text) → new ++ parted (drop (at + 1) text) ≡ old

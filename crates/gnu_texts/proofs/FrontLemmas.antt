@@ -1,20 +1,12 @@
 -- Texts that begin with another text, or with a whole name.
-use Rattle.std.proofs.Common.{◌≡◌, ◌≤◌, ◌<◌, ◌+◌, ◌-◌, ◌==◌, ℕ, Bool, true, false, true≢false, not, ◌&&◌, ◌||◌, if◌then◌else◌, None, List, [], ◌∷◌, ◌++◌, lit≤, length, take, drop, get_or, nat_eq, codes, refl, sym, ap, ap₂, ◌∙◌, arith, length-drop, length-append, append_assoc, take_all}
-use Rattle.std.specs.List.{starts_with}
-use Rattle.std.proofs.lemmas.List.{get_or_append_left, get_or_past}
-use Rattle.std.proofs.lemmas.Slice.Eq.{starts_is}
-use Rattle.std.proofs.lemmas.Bool.Decides.{Decides-eqb}
-use Rattle.short_names.specs.Runs.{is_letter}
-use Rattle.gnu_texts.specs.Clones.{is_suffix}
-use Rattle.gnu_texts.specs.Names.{begins_whole, name_at}
-use Rattle.gnu_texts.specs.Pieces.{is_plain, is_spaced, operator_size, piece_at, sign_size}
+use Rattle.gnu_texts.proofs.Basics.{◌≡◌, ◌≤◌, ◌<◌, ◌+◌, ◌-◌, ◌==◌, ℕ, Bool, true, false, true≢false, not, ◌&&◌, ◌||◌, if◌then◌else◌, None, List, [], ◌∷◌, ◌++◌, lit≤, length, take, drop, get_or, nat_eq, codes, refl, sym, ap, ap₂, ◌∙◌, arith, length-drop, length-append, append_assoc, take_all, starts_with, get_or_append_left, get_or_past, starts_is, Decides-eqb, is_letter, is_suffix, begins_whole, name_at, is_plain, is_spaced, operator_size, piece_at, sign_size}
 use Rattle.gnu_texts.specs.declared.piece.Piece.TheVariants as pieces
 
--- the rest of a text, as a slice of it is written
+-- the rest of a text, written as a slice
 pub rest-all : (text : List ℕ) (n : ℕ) → take (length text - n) (drop n text) ≡ drop n text
 rest-all text n = take_all (length text - n) (drop n text) (omega (arith, length-drop n text))
 
--- a text that begins with another, and what it is then
+-- a text that begins with another is that one and the rest
 pub front-is : (text p : List ℕ) → starts_with nat_eq text p ≡ true → text ≡ p ++ drop (length p) text
 front-is text p h = (starts_is Decides-eqb text p (starts_with nat_eq text p) refl).0 h
 
@@ -24,13 +16,13 @@ begins text p rest e = (starts_is Decides-eqb text p (starts_with nat_eq text p)
 pub front-length : (text p : List ℕ) → starts_with nat_eq text p ≡ true → length p ≤ length text
 front-length text p h = omega (arith, ap length (front-is text p h), length-append p (drop (length p) text))
 
--- one after the other
+-- a text begins with two others, one after the other
 pub front-both : (text p q : List ℕ) → starts_with nat_eq text p ≡ true → starts_with nat_eq (drop (length p) text) q ≡ true → starts_with nat_eq text (p ++ q) ≡ true
 front-both text p q one two =
     let rest : List ℕ = drop (length q) (drop (length p) text) in
     begins text (p ++ q) rest (front-is text p one ∙ ap (λ t. p ++ t) (front-is (drop (length p) text) q two) ∙ sym (append_assoc p q rest))
 
--- a whole name that is all of a text
+-- a name that is all of a text is a whole name
 pub all-whole : (text name : List ℕ) → starts_with nat_eq text name ≡ true → length text ≡ length name → begins_whole text name ≡ true
 unfolding begins_whole is_letter
 all-whole text name starts all =
@@ -40,7 +32,7 @@ false-from : (b : Bool) → (b ≡ true → ⊥) → b ≡ false
 false-from true f = absurd (f refl)
 false-from false f = refl
 
--- a text that begins with another byte than a second one doesn't begin with that
+-- a text whose first byte differs from that of a second text doesn't begin with the second
 other-front : (byte : ℕ) (text p : List ℕ) → 0 < length p → (byte ≡ get_or p 0 0 → ⊥) → starts_with nat_eq (byte ∷ text) p ≡ false
 other-front byte text p some other =
     false-from (starts_with nat_eq (byte ∷ text) p) (λ h.

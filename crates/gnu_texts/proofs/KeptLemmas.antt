@@ -1,13 +1,5 @@
--- What a spelled text keeps without those names and a suffix.
-use Rattle.std.proofs.Common.{◌≡◌, ◌<◌, ◌-◌, ◌==◌, ℕ, zero, suc, Bool, true, false, not, ◌&&◌, ◌||◌, List, [], ◌∷◌, ◌++◌, take, drop, nat_eq, codes, refl, sym, ap, ap₂, ◌∙◌, arith, true≢false}
-use Rattle.std.proofs.lemmas.Bool.{eqb-true}
-use Rattle.std.proofs.lemmas.List.{take-append-drop}
-use Rattle.std.proofs.lemmas.List.Elements.{filter-append}
-use Rattle.std.specs.List.{starts_with}
-use Rattle.gnu_texts.specs.declared.piece.Piece.{Piece}
-use Rattle.gnu_texts.specs.Laws.{AddsBlanks, HasNo, HasNoPlaces, HasNoWords, PartsBrackets, Stays, without_blanks}
-use Rattle.gnu_texts.specs.Pieces.{bytes_of, is_spaced, last_of, operator_size, piece_at, size_of}
-use Rattle.gnu_texts.specs.Spelling.{spelled}
+-- What a spelled text keeps of a text without names that are written otherwise, and without a suffix.
+use Rattle.gnu_texts.proofs.Basics.{◌≡◌, ◌<◌, ◌-◌, ◌==◌, ℕ, zero, suc, Bool, true, false, not, ◌&&◌, ◌||◌, List, [], ◌∷◌, ◌++◌, take, drop, nat_eq, codes, refl, sym, ap, ap₂, ◌∙◌, arith, true≢false, eqb-true, take-append-drop, filter-append, starts_with, Piece, AddsBlanks, HasNo, HasNoPlaces, HasNoWords, PartsBrackets, Stays, without_blanks, bytes_of, is_spaced, last_of, operator_size, piece_at, size_of, spelled}
 use Rattle.gnu_texts.proofs.FrontLemmas.{no-operator}
 use Rattle.gnu_texts.proofs.PieceLemmas.{by-few, words-tail}
 use Rattle.gnu_texts.proofs.SpelledLemmas.{drop-less}
@@ -81,7 +73,7 @@ adds-blanks text none = blanks-by 0 0 text none
 
 -- ## Brackets side by side
 
--- bytes without two of some beside each other, by the byte before them
+-- in a text after the byte `before`, no byte `first` comes right before a byte `second`
 abbrev Apart : (first second before : ℕ) → List ℕ → Type 0
 Apart first second before text = HasNo (first ∷ second ∷ []) (before ∷ text)
 
@@ -103,7 +95,7 @@ apart-none first second before zero = by (first == before)
 apart-none first second before (suc zero) = refl
 apart-none first second before (suc (suc k)) = refl
 
--- both have a blank between them
+-- a blank comes between `>` and `>`, and between `)` and `[`
 spaced-pairs : (text : List ℕ) → (is_spaced 62 (62 ∷ text) ≡ true) × (is_spaced 41 (91 ∷ text) ≡ true)
 unfolding is_spaced
 spaced-pairs text = (refl, refl)

@@ -1,4 +1,5 @@
 pub mod BackLemmas
+pub mod Basics
 pub mod BoundLemmas
 pub mod BytesLemmas
 pub mod ClonesLemmas

@@ -1,13 +1,11 @@
--- Bytes that are in a text in their order.
+-- Subsequences of a text: bytes that occur in it in the same order.
 use Rattle.std.proofs.Common.{◌≡◌, ◌==◌, ℕ, Bool, true, false, if◌then◌else◌, List, [], ◌∷◌, ◌++◌, append-nil, refl, sym, ap, subst, ◌∙◌, true≢false}
-use Rattle.std.proofs.lemmas.Bool.{eq-eqb}
-use Rattle.std.specs.List.{filter}
-use Rattle.gnu_texts.specs.Laws.{are_in}
+use Rattle.gnu_texts.proofs.Basics.{eq-eqb, filter, are_in}
 
 abbrev pub AreIn : (bytes text : List ℕ) → Type 0
 AreIn bytes text = are_in bytes text ≡ true
 
--- a byte more in the text, where bytes without their first are in it, too
+-- a subsequence of a text is one of the text after one more byte, if subsequences of the text stay such without their first byte
 more-by : (text : List ℕ) → ((first : ℕ) (bytes : List ℕ) → AreIn (first ∷ bytes) text → AreIn bytes text) → (bytes : List ℕ) (byte : ℕ) → AreIn bytes text → AreIn bytes (byte ∷ text)
 unfolding are_in
 more-by text less [] byte is = refl
@@ -17,7 +15,7 @@ more-by text less (first ∷ bytes) byte is = by (first == byte)
     by true = less first bytes is
     by false = is
 
--- fewer bytes
+-- a subsequence of a text stays one without its first byte
 in-less : (text : List ℕ) (first : ℕ) (bytes : List ℕ) → AreIn (first ∷ bytes) text → AreIn bytes text
 unfolding are_in
 in-less [] first bytes is = absurd (true≢false (sym is))
@@ -31,12 +29,12 @@ in-less (byte ∷ text) first bytes is = by (first == byte) is (in-less text)
 pub in-more : (bytes : List ℕ) (byte : ℕ) (text : List ℕ) → AreIn bytes text → AreIn bytes (byte ∷ text)
 in-more bytes byte text is = more-by text (in-less text) bytes byte is
 
--- some bytes before it
+-- a subsequence of a text is one of the text after more bytes
 in-behind : (front bytes text : List ℕ) → AreIn bytes text → AreIn bytes (front ++ text)
 in-behind [] bytes text is = is
 in-behind (byte ∷ front) bytes text is = in-more bytes byte (front ++ text) (in-behind front bytes text is)
 
--- two texts, one after the other
+-- subsequences of two texts, one after the other
 pub in-both : (text bytes more rest : List ℕ) → AreIn bytes text → AreIn more rest → AreIn (bytes ++ more) (text ++ rest)
 unfolding are_in
 in-both text [] more rest is also = in-behind text more rest also
@@ -49,12 +47,12 @@ in-both (byte ∷ text) (first ∷ bytes) more rest is also = by (first == byte)
     by true e again = again bytes e
     by false e again = again (first ∷ bytes) e
 
--- some bytes after it
+-- a subsequence of a text is one of the text before more bytes
 pub in-ahead : (bytes text rest : List ℕ) → AreIn bytes text → AreIn bytes (text ++ rest)
 unfolding are_in
 in-ahead bytes text rest is = subst (λ t. AreIn t (text ++ rest)) (append-nil bytes) (in-both text bytes [] rest is refl)
 
--- those of a text that pass a test
+-- the bytes of a text that pass a test are a subsequence of it
 pub in-filter : (test : ℕ → Bool) (text : List ℕ) → AreIn (filter test text) text
 unfolding are_in
 in-filter test [] = refl

@@ -1,15 +1,7 @@
 -- What a text has where it begins with a piece.
-use Rattle.std.proofs.Common.{◌≡◌, ◌≤◌, ◌<◌, ◌+◌, ◌*◌, ◌-◌, ◌==◌, ◌⊎◌, ℕ, zero, suc, Bool, true, false, not, ◌&&◌, ◌||◌, if◌then◌else◌, Option, None, Some, List, [], ◌∷◌, ◌++◌, length, take, drop, get_or, nat_eq, codes, refl, sym, ap, ◌∙◌, arith, length-drop, length-append, length-take, inl, inr, lit≤, true≢false}
-use Rattle.std.specs.List.{starts_with, ends_with}
-use Rattle.short_names.specs.Runs.{is_letter}
-use Rattle.gnu_texts.specs.declared.names.Name.{Name}
+use Rattle.gnu_texts.proofs.Basics.{◌≡◌, ◌≤◌, ◌<◌, ◌+◌, ◌*◌, ◌-◌, ◌==◌, ◌⊎◌, ℕ, zero, suc, Bool, true, false, not, ◌&&◌, ◌||◌, if◌then◌else◌, Option, None, Some, List, [], ◌∷◌, ◌++◌, length, take, drop, get_or, nat_eq, codes, refl, sym, ap, ◌∙◌, arith, length-drop, length-append, length-take, inl, inr, lit≤, true≢false, starts_with, ends_with, is_letter, Name, Piece, begins_part, clones, is_suffix, letter_bytes, parted, suffix_of, HasNoNames, HasNoWords, begins_whole, member_bytes, member_front, member_size, name_at, name_of, named, written_of, bytes_of, is_spaced, name_piece, operator_size, piece_at, plain_piece, sign_size, size_of}
 use Rattle.gnu_texts.specs.declared.names.Name.TheVariants as names
-use Rattle.gnu_texts.specs.declared.piece.Piece.{Piece}
 use Rattle.gnu_texts.specs.declared.piece.Piece.TheVariants as pieces
-use Rattle.gnu_texts.specs.Clones.{begins_part, clones, is_suffix, letter_bytes, parted, suffix_of}
-use Rattle.gnu_texts.specs.Laws.{HasNoNames, HasNoWords}
-use Rattle.gnu_texts.specs.Names.{begins_whole, member_bytes, member_front, member_size, name_at, name_of, named, written_of}
-use Rattle.gnu_texts.specs.Pieces.{bytes_of, is_spaced, name_piece, operator_size, piece_at, plain_piece, sign_size, size_of}
 use Rattle.gnu_texts.proofs.FrontLemmas.{front-both, front-is, front-length}
 
 -- ## Choices
@@ -85,7 +77,7 @@ by-piece P last text operator name suffix spaced byte =
     plain : P (plain_piece last text)
     plain = choose P (is_suffix text) _ _ suffix (λ _. choose P (is_spaced last text) _ _ spaced byte)
 
--- ## Texts without those names and a suffix
+-- ## Texts without names that are written otherwise, and without a suffix
 
 names-tail : (byte : ℕ) (text : List ℕ) → HasNoNames (byte ∷ text) → HasNoNames text
 names-tail byte text none = record {
@@ -111,7 +103,7 @@ suffix-starts : (text : List ℕ) → is_suffix text ≡ true → starts_with na
 unfolding is_suffix
 suffix-starts text h = and-left _ _ (and-left _ _ h)
 
--- in such a text a piece is one of three
+-- in such a text a piece is one of three: an operator's name, a bracket with a blank before it, or a byte
 pub by-few : (P : Piece → Type 0) (last : ℕ) (text : List ℕ) → HasNoWords text → (0 < operator_size last text → P (pieces.Operator (operator_size last text)))
     → (is_spaced last text ≡ true → P pieces.Spaced) → (is_spaced last text ≡ false → P pieces.Byte) → P (piece_at last text)
 by-few P last text none operator spaced byte =
@@ -120,7 +112,8 @@ by-few P last text none operator spaced byte =
 
 -- ## How long what is written is
 
--- a piece is a part of its text, and what is written for it is no shorter than it is; it is at most twice as long, or ten times less thirty bytes
+-- a piece is a part of its text, and what is written for it is no shorter; the written length is at most twice the piece's,
+-- or at most thirty less than ten times the piece's
 pub record IsSized (piece : Piece) (text : List ℕ) : Type 0 where
   pub some : 0 < size_of piece text
   pub within : size_of piece text ≤ length text
@@ -155,7 +148,7 @@ sized-spaced text some = record {
   bounded = inl (omega (arith, take-some text some));
 }
 
--- names are written longer by at most that
+-- what is written for a name is no shorter than the name with `std::`, and at most thirty less than ten times as long
 written-long : (name : Name) → (5 + length (name_of name) ≤ length (written_of name)) × (length (written_of name) + 30 ≤ 10 * (5 + length (name_of name)))
 unfolding name_of written_of
 written-long names.Istream = (lit≤ tt, lit≤ tt)
@@ -164,7 +157,7 @@ written-long names.Ostream = (lit≤ tt, lit≤ tt)
 written-long names.String = (lit≤ tt, lit≤ tt)
 written-long names.NullPointer = (lit≤ tt, lit≤ tt)
 
--- the name of a constructor or destructor is there, and is written at most six bytes longer
+-- the name of a constructor or destructor, and what comes before it, are within the text
 front-within : (name : Name) (text : List ℕ) → (member_size name (member_front name text) ≤ length text) × (member_front name text ≤ length text)
 unfolding member_front begins_whole
 front-within name text =
@@ -214,7 +207,7 @@ sized-name name text starts =
       bounded = inr (omega (arith, written.1, member.1, both));
     }
 
--- each dot of a suffix is written as ten bytes
+-- at least one byte and at most ten are written for a byte of a suffix
 letter-long : (byte : ℕ) (text : List ℕ) → (1 ≤ length (letter_bytes (byte ∷ text))) × (length (letter_bytes (byte ∷ text)) ≤ 10)
 letter-long byte text =
     choose (λ bytes. (1 ≤ length bytes) × (length bytes ≤ 10)) (begins_part (byte ∷ text)) (codes "] [clone .") (take 1 (byte ∷ text)) (λ _. (lit≤ tt, lit≤ tt)) (λ _. (omega arith, omega arith))

@@ -7,11 +7,11 @@ use Rattle.short_names.specs.Runs.{is_letter, is_between}
 abbrev pub suffix_of : List ℕ → List ℕ
 suffix_of text = take (length text - 3) (drop 2 text)
 
--- a text is a suffix between those
+-- a text is a suffix between ` (` and `)`
 unfoldable pub is_suffix : List ℕ → Bool
 is_suffix text = starts_with nat_eq text (codes " (.") && ends_with nat_eq text (codes ")") && list_all is_letter (suffix_of text)
 
--- a text begins with a part of a suffix: with a dot, and with no digit after it
+-- a text begins with a part of a suffix: with a dot that no digit follows
 unfoldable pub begins_part : List ℕ → Bool
 begins_part text = starts_with nat_eq text (codes ".") && not (is_between 48 57 (get_or text 1 0))
 
@@ -19,7 +19,7 @@ begins_part text = starts_with nat_eq text (codes ".") && not (is_between 48 57 
 abbrev pub letter_bytes : List ℕ → List ℕ
 letter_bytes text = if begins_part text then codes "] [clone ." else take 1 text
 
--- what is written for what is after the first byte of a suffix
+-- what is written for the bytes after a suffix's first
 unfoldable pub parted : List ℕ → List ℕ
 parted [] = []
 parted (byte ∷ text) = letter_bytes (byte ∷ text) ++ parted text

@@ -18,7 +18,7 @@ pub record HasNoNames (text : List ℕ) : Type 0 where
   pub string : HasNo (codes "std::string") text
   pub null_pointer : HasNo (codes "std::nullptr_t") text
 
--- A text has none of these names, and nothing that begins as a suffix does.
+-- A text has none of these names, and no ` (.`, with which a suffix begins.
 pub record HasNoWords (text : List ℕ) : Type 0 where
   pub names : HasNoNames text
   pub suffix : HasNo (codes " (.") text
@@ -40,7 +40,7 @@ pub record HasNoBlanks (text : List ℕ) : Type 0 where
 abbrev pub IsNoShorter : List ℕ → Type 0
 IsNoShorter text = length text ≤ length (gnu_text text)
 
--- A spelled text is at most ten times as long as its text; for a text of four bytes or more, less thirty bytes.
+-- A spelled text is at most ten times as long as its text, less thirty bytes if the text has four bytes or more.
 abbrev pub IsBounded : List ℕ → Type 0
 IsBounded text = (length (gnu_text text) ≤ 10 * length text) × (4 ≤ length text → length (gnu_text text) + 30 ≤ 10 * length text)
 
@@ -48,17 +48,17 @@ IsBounded text = (length (gnu_text text) ≤ 10 * length text) × (4 ≤ length 
 abbrev pub dots : (count : ℕ) → List ℕ
 dots count = codes " (" ++ replicate count 46 ++ codes ")"
 
--- A suffix of dots reaches the bound, so there is no smaller one for four bytes or for any greater number.
+-- A suffix of dots reaches the bound, so no smaller bound holds for texts of four bytes or of any greater number.
 abbrev pub ReachesBound : (count : ℕ) → Type 0
 ReachesBound count = 0 < count → length (gnu_text (dots count)) + 30 ≡ 10 * length (dots count)
 
--- Without those names and a suffix it is less than twice as long.
+-- A text without those names and without a suffix, unless it is empty, becomes less than twice as long.
 abbrev pub IsLessThanDouble : List ℕ → Type 0
 IsLessThanDouble text = HasNoWords text → 0 < length text → length (gnu_text text) < 2 * length text
 
 -- ## What a spelled text keeps
 
--- A text without the places that are spelled otherwise stays.
+-- A text in which no place is spelled otherwise stays as it is.
 abbrev pub Stays : List ℕ → Type 0
 Stays text = HasNoPlaces text → gnu_text text ≡ text
 
@@ -66,11 +66,11 @@ Stays text = HasNoPlaces text → gnu_text text ≡ text
 abbrev pub without_blanks : List ℕ → List ℕ
 without_blanks text = filter (λ byte. not (byte == 32)) text
 
--- Without those names and a suffix only blanks are added.
+-- In a text without names that are written otherwise and without a suffix, only blanks are added.
 abbrev pub AddsBlanks : List ℕ → Type 0
 AddsBlanks text = HasNoWords text → without_blanks (gnu_text text) ≡ without_blanks text
 
--- Without operators' names, too, no two brackets that close lists are side by side then, and no `[` follows a `)`.
+-- If the text has no operators' names either, its spelled text has no two `>` side by side and no `[` right after a `)`.
 abbrev pub PartsBrackets : List ℕ → Type 0
 PartsBrackets text = HasNoWords text → HasNo (codes "operator") text → HasNo (codes ">>") (gnu_text text) × HasNo (codes ")[") (gnu_text text)
 
@@ -79,8 +79,8 @@ unfoldable pub closed_up : (last : ℕ) → List ℕ → List ℕ
 closed_up last [] = []
 closed_up last (byte ∷ text) = elim (byte == 32 && is_spaced last text) [ true ↦ closed_up last text | false ↦ byte ∷ closed_up byte text ]
 
--- Without those names and a suffix the text comes back where these blanks are left out, if it has none itself. So no two such texts are spelled
--- alike.
+-- A text without those names, without a suffix and without blanks before brackets comes back once the blanks before brackets
+-- are left out of its spelled text. So no two such texts are spelled alike.
 abbrev pub ComesBack : List ℕ → Type 0
 ComesBack text = HasNoWords text → HasNoBlanks text → closed_up 0 (gnu_text text) ≡ text
 
@@ -88,13 +88,13 @@ ComesBack text = HasNoWords text → HasNoBlanks text → closed_up 0 (gnu_text 
 abbrev pub without_parentheses : List ℕ → List ℕ
 without_parentheses text = filter (λ byte. not (byte == 40 || byte == 41)) text
 
--- some bytes are in a text in their order, with others between them
+-- some bytes are a subsequence of a text
 unfoldable pub are_in : (bytes text : List ℕ) → Bool
 are_in [] text = true
 are_in (first ∷ bytes) [] = false
 are_in (first ∷ bytes) (byte ∷ text) = elim (first == byte) [ true ↦ are_in bytes text | false ↦ are_in (first ∷ bytes) text ]
 
--- Bytes are only added, in every text, except in two places: a suffix loses its parentheses, and the type of `nullptr` is
+-- Bytes are only added, except in two places: a suffix loses its parentheses, and the type of `nullptr` becomes
 -- `decltype(nullptr)`.
 abbrev pub KeepsBytes : List ℕ → Type 0
 KeepsBytes text = HasNo (codes "std::nullptr_t") text → are_in (without_parentheses text) (gnu_text text) ≡ true

@@ -5,7 +5,7 @@ use Rattle.short_names.specs.Runs.{is_letter}
 use Rattle.gnu_texts.specs.declared.names.Name.{Name}
 use Rattle.gnu_texts.specs.declared.names.Name.TheVariants as names
 
--- a text begins with a name, which ends there
+-- a text begins with a name that isn't the front of a longer one
 unfoldable pub begins_whole : (text name : List ℕ) → Bool
 begins_whole text name = starts_with nat_eq text name && not (is_letter (get_or text (length name) 0))
 
@@ -17,7 +17,7 @@ name_of names.Ostream = codes "ostream"
 name_of names.String = codes "string"
 name_of names.NullPointer = codes "nullptr_t"
 
--- what is written for it
+-- what is written for the name
 unfoldable pub written_of : Name → List ℕ
 written_of names.Istream = codes "std::basic_istream<char, std::char_traits<char> >"
 written_of names.Iostream = codes "std::basic_iostream<char, std::char_traits<char> >"
@@ -25,12 +25,12 @@ written_of names.Ostream = codes "std::basic_ostream<char, std::char_traits<char
 written_of names.String = codes "std::basic_string<char, std::char_traits<char>, std::allocator<char> >"
 written_of names.NullPointer = codes "decltype(nullptr)"
 
--- the last byte of that
+-- the last byte of what is written for the name
 unfoldable pub end_of : Name → ℕ
 end_of names.NullPointer = 41
 end_of _ = 62
 
--- the name of that kind with which a text begins, after `std::`
+-- the name that is written otherwise with which a text begins, after `std::`
 unfoldable pub named : List ℕ → Option Name
 named text =
     if begins_whole text (codes "string") then Some names.String
@@ -39,18 +39,18 @@ named text =
     else (if begins_whole text (codes "iostream") then Some names.Iostream
     else (if begins_whole text (codes "nullptr_t") then Some names.NullPointer else None))))
 
--- the name with which a text begins; `last` is the byte before, which is of no name
+-- the name with which a text begins, if the byte before it, `last`, is of no name
 unfoldable pub name_at : (last : ℕ) → List ℕ → Option Name
 name_at last text =
     if starts_with nat_eq text (codes "std::") && not (is_letter last || last == 58) then named (drop 5 text) else None
 
--- how many bytes are before the name of a constructor or destructor of the name's class with which a text begins; none where it begins with none
+-- how many bytes come before the name of a constructor or destructor of the name's class, if a text begins with these; else 0
 unfoldable pub member_front : Name → List ℕ → ℕ
 member_front name text =
     if starts_with nat_eq text (codes "::~") && begins_whole (drop 3 text) (name_of name) then 3
     else (if starts_with nat_eq text (codes "::") && begins_whole (drop 2 text) (name_of name) then 2 else 0)
 
--- what is written for that
+-- what is written for the bytes before the name of a constructor or destructor, and for that name
 abbrev pub member_bytes : Name → (front : ℕ) → List ℕ → List ℕ
 member_bytes name front text = if front == 0 then [] else take front text ++ codes "basic_" ++ name_of name
 

@@ -15,7 +15,7 @@ sign_size text =
     else (if starts_with nat_eq text (codes "->") || starts_with nat_eq text (codes ">>") || starts_with nat_eq text (codes "()") then 2
     else (if starts_with nat_eq text (codes ">") then 1 else 0))
 
--- how many bytes of the word `operator` and of such a sign it begins with; none where the byte before is a letter
+-- how many bytes of the word `operator` and of such a sign a text begins with; 0 where the byte before is a letter
 unfoldable pub operator_size : (last : ℕ) → List ℕ → ℕ
 operator_size last text =
     if is_letter last || not (starts_with nat_eq text (codes "operator")) || sign_size (drop 8 text) == 0 then 0 else 8 + sign_size (drop 8 text)
@@ -49,7 +49,7 @@ IsPiece pieces.Suffix text = 3 ≤ length text
 IsPiece pieces.Spaced text = 0 < length text
 IsPiece pieces.Byte text = 0 < length text
 
--- how many bytes of the text it is
+-- how many bytes of the text a piece is
 unfoldable pub size_of : Piece → List ℕ → ℕ
 size_of (pieces.Operator size) text = size
 size_of (pieces.Named name front) text = 5 + length (name_of name) + member_size name front
@@ -57,7 +57,7 @@ size_of pieces.Suffix text = length text
 size_of pieces.Spaced text = 1
 size_of pieces.Byte text = 1
 
--- what is written for it
+-- what is written for a piece
 unfoldable pub bytes_of : Piece → List ℕ → List ℕ
 bytes_of (pieces.Operator size) text = take size text
 bytes_of (pieces.Named name front) text = written_of name ++ member_bytes name front (drop (5 + length (name_of name)) text)
@@ -65,7 +65,7 @@ bytes_of pieces.Suffix text = clones (suffix_of text)
 bytes_of pieces.Spaced text = 32 ∷ take 1 text
 bytes_of pieces.Byte text = take 1 text
 
--- the byte that is before what comes next; an operator's sign is no bracket
+-- the byte that counts as the last of a piece: 0 after an operator's sign, so that no blank is written
 unfoldable pub last_of : Piece → List ℕ → ℕ
 last_of (pieces.Operator size) text = 0
 last_of (pieces.Named name front) text = if front == 0 then end_of name else 103

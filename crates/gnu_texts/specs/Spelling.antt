@@ -2,7 +2,7 @@
 use Rattle.std.specs.Prelude.{ℕ, zero, suc, List, [], ◌∷◌, ◌++◌, ◌-◌}
 use Rattle.gnu_texts.specs.Pieces.{piece_at, size_of, bytes_of, last_of}
 
--- what is written for a text after a byte, where some of its bytes are passed over first: piece after piece
+-- what is written, piece by piece, for a text after a byte; its first `skipped` bytes are passed over
 unfoldable pub spelled : (last skipped : ℕ) → List ℕ → List ℕ
 spelled last skipped [] = []
 spelled last (suc skipped) (byte ∷ text) = spelled last skipped text

@@ -30,7 +30,7 @@ pub(crate) fn is_suffix(text: &[u8]) -> bool
     text.starts_with(b" (.") && text.ends_with(b")") && are_letters(&text[2..text.len() - 1])
 }
 
-/// Whether a part of a suffix begins at a place of it: a dot that has no digit after it.
+/// Whether a part of a suffix begins at a place of it: at a dot that no digit follows.
 #[tactic(auto, unfolding(crate::specs::Clones::begins_part))]
 fn begins_part(text: &[u8]) -> bool
     ensures { result ≡ begins_part text.now }
@@ -42,7 +42,7 @@ fn begins_part(text: &[u8]) -> bool
     }
 }
 
-/// Appends what is written for a byte of a suffix after its first.
+/// Appends what is written for a byte of a suffix that isn't the suffix's first.
 fn append_letter(text: &[u8], out: &mut Vec<u8>) -> Result<(), AllocError>
     requires { 0 < length text.now }
     ensures { OnOk result (out.new.items ≡ out.old.items ++ letter_bytes text.now) }

@@ -29,7 +29,7 @@ impl Name {
         }
     }
 
-    /// What is written for it.
+    /// What is written for the name.
     #[tactic(auto, unfolding(crate::specs::Names::written_of))]
     pub(crate) fn written(self) -> &'static [u8]
         ensures { result.now ≡ written_of self }
@@ -44,7 +44,7 @@ impl Name {
         }
     }
 
-    /// The last byte of what is written for it.
+    /// The last byte of what is written for the name.
     #[tactic(auto, unfolding(crate::specs::Names::end_of))]
     pub(crate) fn end(self) -> u8
         ensures { result ≡ end_of self }
@@ -56,7 +56,7 @@ impl Name {
     }
 }
 
-/// Whether a text begins with a name, which ends there.
+/// Whether a text begins with a name that isn't the front of a longer one.
 #[tactic(auto, unfolding(crate::specs::Names::begins_whole))]
 fn begins_whole(text: &[u8], name: &[u8]) -> bool
     ensures whole { result ≡ begins_whole text.now name.now }
@@ -71,7 +71,7 @@ fn begins_whole(text: &[u8], name: &[u8]) -> bool
     !is_letter(text[name.len()])
 }
 
-/// The name of that kind with which a text begins, after `std::`.
+/// The name that is written otherwise with which a text begins, after `std::`.
 #[tactic(auto, unfolding(crate::specs::Names::named, crate::specs::Names::name_of))]
 fn named(text: &[u8]) -> Option<Name>
     ensures name { result ≡ named text.now }
@@ -105,7 +105,8 @@ pub(crate) fn name_at(last: u8, text: &[u8]) -> Option<Name>
     }
 }
 
-/// How many bytes are before the name of a constructor or destructor of the name's class with which a text begins, or 0.
+/// How many bytes come before the name of a constructor or destructor of the name's class, if a
+/// text begins with these; else 0.
 #[tactic(auto, unfolding(crate::specs::Names::member_front))]
 pub(crate) fn member_front(name: Name, text: &[u8]) -> usize
     ensures front { result ≡ member_front name text.now }

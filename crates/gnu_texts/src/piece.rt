@@ -13,7 +13,7 @@ use std::alloc::AllocError;
 pub(crate) enum Piece {
     /// An operator's name with a sign that isn't a bracket.
     Operator { size: usize },
-    /// A name that is written otherwise, and how many bytes after it are before the name of its constructor or destructor, or 0.
+    /// A name that is written otherwise, and the number of bytes between it and its constructor's or destructor's name, or 0.
     Named { name: Name, front: usize },
     /// A suffix.
     Suffix,
@@ -155,7 +155,7 @@ impl Piece {
         }
     }
 
-    /// The byte that is before what comes next. An operator's sign is no bracket.
+    /// The byte that counts as the piece's last: 0 after an operator's sign, so no blank is written.
     #[inline(always)]
     #[tactic(auto, unfolding(crate::specs::Pieces::last_of))]
     pub(crate) fn last(self, text: &[u8]) -> u8

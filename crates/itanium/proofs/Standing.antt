@@ -123,7 +123,7 @@ abi_whole g s linked parts rows steps shape is =
     has_whole s is.rows (meaning_of (cpp_view s) shape) (unfold_cpp shape) linked parts done
     (read_as shape (found (done.value ∷ []) done.state) is.is_shape.is_tree (sym (meaning_same s shape is.is_shape.is_tree is.is_shape.spelled) ∙ done.means))
 
--- what the wrapped linker has linked
+-- a symbol that the wide linker has linked is linked by the linker that it wraps
 done_within : (s : List ℕ) (rows : List Row) (shape : Tree) (l : Rescoping) (parts : List Part) → IsDone (wide_counted s) s rows (meaning_of (wide_counted s) shape) l parts
     → IsDone (tallied_view (wide_view s) wide_makes) s rows (meaning_of (tallied_view (wide_view s) wide_makes) shape) l.linked parts
 done_within s rows shape l parts done = record {

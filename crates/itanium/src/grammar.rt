@@ -52,7 +52,7 @@ impl Grammar for Abi {
     ghost lawful = { lawful };
 }
 
-/// The grammar of C++ symbols with the forms that compilers write beside the ABI's, as [`cpp_grammar::Wide`] has it.
+/// The grammar of C++ symbols with the forms that compilers write in addition to the ABI's, as [`cpp_grammar::Wide`] has it.
 #[derive(Clone, Copy, Debug)]
 pub struct Wide;
 

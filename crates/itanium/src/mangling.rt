@@ -4,7 +4,6 @@ ghost use Rattle.std.specs.Prelude.{◌≡◌, ℕ, ◌*◌, ◌+◌, ◌≤◌,
 ghost use Rattle.sym_core.specs.Number.{FitsSymbol};
 ghost use Rattle.sym_core.specs.declared.refusal.Refusal.{Refusal};
 ghost use Rattle.sym_core.specs.declared.refusal.Refusal.TheVariants as refusals;
-ghost use Rattle.sym_print.specs.declared.detail.Detail.TheVariants as details;
 ghost use Rattle.sym_print.specs.declared.layout.Part.TheVariants as parts;
 ghost use Rattle.sym_shape.specs.Tree.{Tree};
 ghost use Rattle.sym_demangle.specs.Standing.{Begins, IsLinked};
@@ -19,7 +18,7 @@ ghost use Rattle.cpp_link.specs.NodeCount.{cpp_counted, nodes_of_shape};
 ghost use Rattle.itanium.specs.Whole.{HasWhole};
 
 use crate::grammar::Abi;
-use crate::short_way::write;
+use crate::short_way::{write, write_less};
 use crate::writer::Writer;
 use cpp_layout::{Context, Detail, Symbol};
 use cpp_link::linked::Linked;
@@ -152,11 +151,14 @@ impl Mangling for Abi {
     }
 
     #[inline(always)]
-    fn write(direct: &mut Writer, symbol: &[u8], limit: u32) -> bool
+    fn write(direct: &mut Writer, symbol: &[u8], limit: u32, detail: Detail) -> bool
         requires { FitsSymbol symbol.now }
-        ensures { result ≡ true → IsAnswer details.Full symbol.now limit (Ok direct.new.lists.text.list.items) }
+        ensures { result ≡ true → IsAnswer detail symbol.now limit (Ok direct.new.lists.text.list.items) }
     {
-        write(direct, symbol, limit, false, Detail::Full)
+        match detail {
+            Detail::Full => write(direct, symbol, limit, false, detail),
+            _ => write_less(direct, symbol, limit, false, detail),
+        }
     }
 
     #[inline(always)]

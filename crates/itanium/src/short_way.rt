@@ -11,8 +11,8 @@ use crate::writer::Writer;
 use cpp_direct::{Grammar, Shown, Step, are_name_bytes};
 use sym_print::Detail;
 
-/// The longest symbol that is written this way, in bytes. Its lists take at most some 95 bytes for each of its bytes, so a thread keeps 6
-/// MB. Words of the filter aren't longer.
+/// The longest symbol that is written this way, in bytes. The lists take at most some 95 bytes for each byte of the symbol, so a
+/// thread keeps 6 MB. Words of the filter aren't longer.
 const LONGEST: usize = 65_536;
 
 /// The most bytes of text that are written for each byte of a symbol, and the bytes that may be written in addition. The text of an
@@ -30,8 +30,8 @@ const ROUNDS_A_BYTE: usize = 8;
 ///
 /// Whatever is answered, at most 32 bytes for each of the symbol's bytes and a kilobyte are written, at most eight steps for each byte are
 /// taken, and no list has more entries than the symbol has bytes, since no list has room for more. Text and candidates only grow until a
-/// function ends. There three things are removed: what was written of an instance of a function template up to its return type; the return
-/// type of a function whose address is an argument, or that contains a type; and what was written after the name of a function that is
+/// function ends. At its end three things are removed: what was written of an instance of a function template up to its return type; the
+/// return type of a function whose address is an argument, or that contains a type; and what was written after the name of a function that is
 /// shown only by its name. Arguments that aren't shown are written, too, and are left out at the end.
 // This is inlined at each call, which knows the detail and mostly the grammar, so that it has no steps for other details and grammars.
 #[inline(always)]

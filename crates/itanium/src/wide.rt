@@ -3,7 +3,6 @@
 ghost use Rattle.std.specs.Prelude.{◌≡◌, length, OnOk, IfErr, Ok, true};
 ghost use Rattle.sym_core.specs.Number.{FitsSymbol};
 ghost use Rattle.sym_core.specs.declared.refusal.Refusal.TheVariants as refusals;
-ghost use Rattle.sym_print.specs.declared.detail.Detail.TheVariants as details;
 ghost use Rattle.sym_print.specs.declared.layout.Part.TheVariants as parts;
 ghost use Rattle.sym_shape.specs.Tree.{Tree};
 ghost use Rattle.sym_demangle.specs.Mangled.{IsAnswer};
@@ -17,7 +16,7 @@ ghost use Rattle.cpp_link.specs.LinkRescoping.{wide_counted, wide_nodes_of_shape
 
 use crate::grammar::Wide;
 use crate::mangling::finished;
-use crate::short_way::write;
+use crate::short_way::{write, write_less};
 use crate::wide_symbol::WideSymbol;
 use crate::writer::Writer;
 use cpp_layout::{Context, Detail};
@@ -118,11 +117,14 @@ impl Mangling for Wide {
     }
 
     #[inline(always)]
-    fn write(direct: &mut Writer, symbol: &[u8], limit: u32) -> bool
+    fn write(direct: &mut Writer, symbol: &[u8], limit: u32, detail: Detail) -> bool
         requires { FitsSymbol symbol.now }
-        ensures { result ≡ true → IsAnswer wide_mangled details.Full symbol.now limit (Ok direct.new.lists.text.list.items) }
+        ensures { result ≡ true → IsAnswer wide_mangled detail symbol.now limit (Ok direct.new.lists.text.list.items) }
     {
-        write(direct, symbol, limit, true, Detail::Full)
+        match detail {
+            Detail::Full => write(direct, symbol, limit, true, detail),
+            _ => write_less(direct, symbol, limit, true, detail),
+        }
     }
 
     #[inline(always)]

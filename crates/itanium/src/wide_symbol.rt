@@ -25,7 +25,7 @@ use sym_print::{Item, Layout, Part, Run};
 /// A symbol that was read by the wide grammar.
 ///
 /// It has the texts, counts and views of any C++ symbol. But it is no `Symbol`, so `press_cpp` doesn't take it: the answer of `press_cpp`
-/// is promised to be read as the same tree by the grammar of the ABI, which doesn't read each tree that this symbol may have. `wide_press`
+/// is promised to be read as the same tree by the grammar of the ABI, which can't read every tree that this symbol may have. `wide_press`
 /// presses it, and checks each answer.
 #[derive(Drop)]
 pub struct WideSymbol {

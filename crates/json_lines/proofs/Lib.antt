@@ -1,3 +1,4 @@
+pub mod Basics
 pub mod LineLemmas
 pub mod MeaningLemmas
 pub mod NameLemmas

@@ -1,26 +1,9 @@
--- The tokens of objects, and their lines.
-use Rattle.std.proofs.Common.{◌≡◌, ◌∙◌, ◌≤◌, refl, ap, sym, ℕ, suc, arith, Bool, true, false, List, [], ◌∷◌, ◌++◌, append_assoc, append-nil, Option, Some, None, is_some, cond}
-use Rattle.std.specs.Fmt.{decimal}
-use Rattle.std.specs.List.{All, flat_map}
-use Rattle.json.specs.Json.{Members, no_members, member, array, number, object, string, max_depth}
-use Rattle.std.specs.Str.Lossy.{utf8_lossy}
-use Rattle.json.specs.Print.{ends, print, print_from, quoted}
-use Rattle.json.specs.Token.{Token}
-use Rattle.json.specs.Tree.{json_tokens, items_tokens, members_tokens, depth, items_depth, HasNumbers, ItemsHaveNumbers, MembersHaveNumbers}
+-- The tokens of objects, and the objects' lines.
+use Rattle.json_lines.proofs.Basics.{◌≡◌, ◌∙◌, ◌≤◌, refl, ap, sym, ℕ, suc, arith, Bool, true, false, List, [], ◌∷◌, ◌++◌, append_assoc, append-nil, Option, Some, None, is_some, cond, decimal, All, flat_map, Members, no_members, member, array, number, object, string, max_depth, utf8_lossy, ends, print, print_from, quoted, Token, json_tokens, items_tokens, members_tokens, depth, items_depth, HasNumbers, ItemsHaveNumbers, MembersHaveNumbers, Refusal, codes, fold, Mangling, Details, language_of, mangling_name, Meaning, has_text, refused, no_symbol, role_name, Part, AreDetails, HasPlace, IsLine, IsMeaning, IsPart, LinesAreObjects, detail_members, line_members, mangling_members, meaning_members, name_members, object_of, part_items, part_object, refusal_members, text_of, two_numbers, front_of, later_part, members_text, parts_text}
 use Rattle.json.proofs.Printed.Decimals.{IsNumber-decimal}
 use Rattle.json.proofs.Printed.Tokens.{print_from-append}
 use Rattle.json.proofs.Printed.Trees.{document-print}
-use Rattle.sym_core.specs.declared.refusal.Refusal.{Refusal}
 use Rattle.sym_core.specs.declared.refusal.Refusal.TheVariants.{Malformed, BadReference, BadValue, TooLong, Memory}
-use Rattle.std.specs.Prelude.{codes, fold}
-use Rattle.text_details.specs.declared.manglings.Mangling.{Mangling}
-use Rattle.text_details.specs.Details.{Details}
-use Rattle.text_details.specs.Manglings.{language_of, mangling_name}
-use Rattle.json_lines.specs.Meanings.{Meaning, has_text, refused, no_symbol}
-use Rattle.sym_parts.specs.Words.{role_name}
-use Rattle.sym_parts.specs.declared.part.Part.{Part}
-use Rattle.json_lines.specs.Objects.{AreDetails, HasPlace, IsLine, IsMeaning, IsPart, LinesAreObjects, detail_members, line_members, mangling_members, meaning_members, name_members, object_of, part_items, part_object, refusal_members, text_of, two_numbers}
-use Rattle.json_lines.specs.Tokens.{front_of, later_part, members_text, parts_text}
 
 pub tokens-front : (members : Members) → members_tokens members ≡ front_of members ++ Token.end_object ∷ []
 tokens-front no_members = refl
@@ -128,7 +111,7 @@ put-part role stretch spelling old begun with_role with_stretch all new d e f g 
     h ∙ ap (λ (t : List ℕ). t ++ 125 ∷ []) (g ∙ ap (λ (t : List ℕ). t ++ spelling) (f ∙ ap (λ (t : List ℕ). t ++ stretch) (e ∙ ap (λ (t : List ℕ). t ++ role) d) ∙ append_assoc first role stretch) ∙ append_assoc first (role ++ stretch) spelling)
     ∙ append_assoc first ((role ++ stretch) ++ spelling) (125 ∷ []) ∙ append_assoc old (123 ∷ []) (((role ++ stretch) ++ spelling) ++ 125 ∷ [])
 
--- two numbers
+-- two members that are numbers
 pub put-numbers : (first : List ℕ) (one : ℕ) (second : List ℕ) (other : ℕ) (given also : ℕ) (old mid new : List ℕ) → given ≡ one → also ≡ other
     → mid ≡ old ++ members_text true (member first (number (decimal given)) no_members) → new ≡ mid ++ members_text true (member second (number (decimal also)) no_members)
     → new ≡ old ++ members_text true (two_numbers first one second other no_members)
@@ -160,7 +143,7 @@ object-text members =
     ap (λ (ts : List Token). 123 ∷ print_from false ts) (tokens-front members)
     ∙ ap (λ (t : List ℕ). 123 ∷ t) (print_from-append false (front_of members) (Token.end_object ∷ []) ∙ ap (λ (t : List ℕ). members_text false members ++ t) (end-text (fold (λ _ u. ends u) false (front_of members))))
 
--- two numbers
+-- two members that are numbers
 pub two-text : (first : List ℕ) (one : ℕ) (second : List ℕ) (other : ℕ) (others : Members)
     → members_text true (two_numbers first one second other others) ≡ members_text true (two_numbers first one second other no_members) ++ members_text true others
 two-text first one second other others =

@@ -1,15 +1,7 @@
 -- What a name means as a symbol, by what was answered for the symbol.
-use Rattle.std.proofs.Common.{◌≡◌, ◌∙◌, ℕ, Bool, List, Option, None, Some, Result, Ok, Err, refl, true, false, is_some, not, sym, ap, ap₂}
-use Rattle.std.specs.Prelude.{option_and_then, if◌then◌else◌}
+use Rattle.json_lines.proofs.Basics.{◌≡◌, ◌∙◌, ℕ, Bool, List, Option, None, Some, Result, Ok, Err, refl, true, false, is_some, not, sym, ap, ap₂, option_and_then, if◌then◌else◌, Refusal, kind_of, symbol_of, Answering, text_for, trimmed, Mangling, Details, Detailing, mangling_of, no_symbol, answered, meaning_by, named_by, stays, symbol_meaning}
 use Rattle.std.specs.Result.{result_ok}
-use Rattle.sym_core.specs.declared.refusal.Refusal.{Refusal}
-use Rattle.sym_filter.specs.Kinds.{kind_of, symbol_of}
-use Rattle.sym_filter.specs.Runs.{Answering, text_for, trimmed}
 use Rattle.sym_filter.specs.declared.kinds.Kind.{Kind}
-use Rattle.text_details.specs.declared.manglings.Mangling.{Mangling}
-use Rattle.text_details.specs.Details.{Details, Detailing}
-use Rattle.text_details.specs.Manglings.{mangling_of}
-use Rattle.json_lines.specs.Meanings.{no_symbol, answered, meaning_by, named_by, stays, symbol_meaning}
 
 pub unnamed : (reads_paths : Bool) (answers : Answering) (details : Detailing) (name : List ℕ) → kind_of name ≡ None → no_symbol ≡ symbol_meaning reads_paths answers details name
 unfolding symbol_meaning

@@ -1,16 +1,12 @@
 -- The lines of names, one by one.
-use Rattle.std.proofs.Common.{◌≡◌, ◌∙◌, ℕ, Bool, ◌||◌, List, [], ◌∷◌, ◌++◌, Option, refl, sym, ap, ap₂, subst, false, append_assoc}
-use Rattle.std.specs.List.{flat_map, list_any}
+use Rattle.json_lines.proofs.Basics.{◌≡◌, ◌∙◌, ℕ, Bool, ◌||◌, List, [], ◌∷◌, ◌++◌, Option, refl, sym, ap, ap₂, subst, false, append_assoc, flat_map, list_any, Answering, Detailing, name_line, name_lines, name_stays, names_stay}
 use Rattle.std.specs.Io.KnownBytes.{Appends}
 use Rattle.std.proofs.Math.Bool.{or-false}
 use Rattle.std.proofs.lemmas.Grind.{flat_map-append}
 use Rattle.std.proofs.lemmas.List.Folds.{list_any-append}
-use Rattle.sym_filter.specs.Runs.{Answering}
 use Rattle.sym_filter.specs.Streams.{PutsFront}
 use Rattle.sym_filter.proofs.StreamLemmas.{Appends-none, Appends-join}
 use Rattle.demangle_names.proofs.NameLemmas.{flat-more}
-use Rattle.text_details.specs.Details.{Detailing}
-use Rattle.json_lines.specs.Objects.{name_line, name_lines, name_stays, names_stay}
 
 -- the lines of the names so far
 pub record SoFar (types reads_paths : Bool) (answers : Answering) (details : Detailing) (names : List (List ℕ)) (one_stays : Bool) (out out' : Option (List ℕ)) : Type 0 where
@@ -21,7 +17,7 @@ module _ (types reads_paths : Bool) (answers : Answering) (details : Detailing) 
   pub SoFar-begin : (out : Option (List ℕ)) → SoFar types reads_paths answers details [] false out out
   SoFar-begin out = record { to_out = Appends-none out; stay = refl }
 
-  -- one name more
+  -- one more name
   pub SoFar-more : (names all : List (List ℕ)) (name : List ℕ) (old new left : Bool) (out mid out' : Option (List ℕ)) → SoFar types reads_paths answers details names old out mid → all ≡ names ++ name ∷ []
       → Appends mid out' (name_line types reads_paths answers details name) → left ≡ name_stays types reads_paths answers details name → new ≡ (old || left) → SoFar types reads_paths answers details all new out out'
   SoFar-more names all name old new left out mid out' so_far e wrote is chosen =
@@ -32,7 +28,7 @@ module _ (types reads_paths : Bool) (answers : Answering) (details : Detailing) 
             chosen ∙ ap₂ (λ (a b : Bool). a || b) so_far.stay (is ∙ sym (or-false (stay name))) ∙ sym (ap (list_any stay) e ∙ list_any-append stay names (name ∷ []));
       }
 
-  -- a part of one name more
+  -- a part of one more name
   pub SoFar-stopped : (names rest all : List (List ℕ)) (name : List ℕ) (one_stays : Bool) (out mid out' : Option (List ℕ)) → SoFar types reads_paths answers details names one_stays out mid → all ≡ names ++ name ∷ rest
       → PutsFront mid out' [] (name_line types reads_paths answers details name) → PutsFront out out' [] (name_lines types reads_paths answers details all)
   SoFar-stopped names rest all name one_stays out mid out' so_far e front =

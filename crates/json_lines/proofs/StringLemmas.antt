@@ -1,12 +1,6 @@
 -- How the bytes of a text without control characters are written in a string.
-use Rattle.std.proofs.Common.{◌≡◌, ◌≢◌, ◌∙◌, ◌<◌, refl, ap, ap₂, ℕ, suc, arith, Bool, List, [], ◌∷◌, ◌++◌, ◌==◌, ◌||◌, false, inl, inr, cond}
-use Rattle.std.specs.Prelude.{codes, nat_lt}
-use Rattle.std.specs.List.{All}
+use Rattle.json_lines.proofs.Basics.{◌≡◌, ◌≢◌, ◌∙◌, ◌<◌, refl, ap, ap₂, ℕ, suc, arith, Bool, List, [], ◌∷◌, ◌++◌, ◌==◌, ◌||◌, false, inl, inr, cond, codes, nat_lt, All, escape, escape_byte, escape_letter, escaped, escaped_byte, IsPrinted, code_escape}
 use Rattle.std.proofs.lemmas.Bool.{cases_Bool, le-ltb, lt-ltb, ne_eqb}
-use Rattle.json.specs.Print.{escape, escape_byte, escape_letter}
-use Rattle.demangle_names.specs.Escaped.{escaped, escaped_byte}
-use Rattle.json_lines.specs.Objects.{IsPrinted}
-use Rattle.json_lines.specs.Tokens.{code_escape}
 
 -- a byte whose escape has no letter
 no-letter : (byte : ℕ) → (byte == 34 || byte == 92) ≡ false → (byte == 8) ≡ false → (byte == 12) ≡ false → (byte == 10) ≡ false → (byte == 13) ≡ false → (byte == 9) ≡ false → escape_letter byte ≡ 0

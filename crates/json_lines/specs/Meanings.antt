@@ -34,7 +34,7 @@ meaning_by reads_paths answers details name (Some kind) =
 unfoldable pub symbol_meaning : (reads_paths : Bool) → Answering → Detailing → List ℕ → Meaning
 symbol_meaning reads_paths answers details name = meaning_by reads_paths answers details name (kind_of name)
 
--- what a name is that may be a type, by the text that it has as a type
+-- what a name is: a type, if it has a text as a type, and otherwise as this meaning says
 abbrev pub meaning_or : Option (List ℕ) → Meaning → Meaning
 meaning_or (Some text) meaning = has_text Itanium text None
 meaning_or None meaning = meaning
@@ -57,7 +57,7 @@ meaning_in meanings.NoSymbol = no_symbol
 
 -- ## Names in a text
 
--- The name that a word of a text is. If the word without the dots and the bytes that aren't ASCII at its end has a text, that is the name;
--- otherwise the whole word is.
+-- The name that a word of a text is: the word without the dots and the bytes that aren't ASCII at its end, if that has a text; otherwise
+-- the whole word.
 unfoldable pub named_by : Answering → List ℕ → List ℕ
 named_by answers word = if is_some (text_for answers (trimmed word)) then trimmed word else word

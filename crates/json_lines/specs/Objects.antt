@@ -38,11 +38,11 @@ refusal_members (BadValue at) = at_place (codes "bad-value") at
 refusal_members TooLong = without_place (codes "too-long")
 refusal_members Memory = no_members
 
--- two numbers before other members
+-- two members that are numbers, before other members
 abbrev pub two_numbers : (first : List ℕ) → (one : ℕ) → (second : List ℕ) → (other : ℕ) → Members → Members
 two_numbers first one second other others = member first (number (decimal one)) (member second (number (decimal other)) others)
 
--- a part of a text: its role, the stretch of the text's bytes that it is, and the bytes of the name that spell it
+-- a part of a text: its role, its stretch of the text's bytes, and the bytes of the name that spell it
 abbrev pub part_object : Part → Json
 part_object part =
     object (member (codes "role") (string (role_name part.role)) (two_numbers (codes "start") part.start (codes "length") part.length
@@ -77,7 +77,7 @@ line_members (Some line) = member (codes "line") (number (decimal line)) no_memb
 abbrev pub name_members : List ℕ → Meaning → Members
 name_members name meaning = member (codes "symbol") (text_of name) (meaning_members meaning)
 
--- the object of a name; that of a word of a text has the number of its line, too
+-- the object of a name; the object of a text's word also has the number of the word's line
 abbrev pub object_of : (line : Option ℕ) → List ℕ → Meaning → Json
 object_of None name meaning = object (name_members name meaning)
 object_of (Some line) name meaning = object (member (codes "line") (number (decimal line)) (name_members name meaning))
@@ -104,7 +104,7 @@ name_lines types reads_paths answers details names = flat_map (name_line types r
 abbrev pub names_stay : (types reads_paths : Bool) → Answering → Detailing → List (List ℕ) → Bool
 names_stay types reads_paths answers details names = list_any (name_stays types reads_paths answers details) names
 
--- What is said of a word of a text: the line of the name that the word is, which also has the number of the text's line.
+-- What is said of a word of a text: a line with the object of the name that the word is, with the number of the word's line in the text.
 abbrev pub objects_of : (reads_paths : Bool) → Answering → Detailing → Saying
 objects_of reads_paths answers details = record {
   says = λ line word. json_line (object_of (Some line) (named_by answers word) (symbol_meaning reads_paths answers details (named_by answers word)));
@@ -113,7 +113,7 @@ objects_of reads_paths answers details = record {
 
 -- ## Laws
 
--- a place, a part's bytes and a line's number take at most 64 bits, as those of the program do
+-- a number of at most 64 bits, like the program's places and numbers of lines
 abbrev pub FitsWord : ℕ → Type 0
 FitsWord n = n < 2 ^ 64
 
@@ -145,7 +145,7 @@ abbrev pub LinesAreObjects : Type 0
 LinesAreObjects = (line : Option ℕ) (name : List ℕ) (meaning : Meaning) → IsLine line → IsMeaning meaning →
     document (print (json_tokens (object_of line name meaning))) ≡ Some (object_of line name meaning)
 
--- a byte that isn't a control character, as no byte of a text is
+-- a byte that isn't a control character, like each byte of a text
 abbrev pub IsPrinted : ℕ → Type 0
 IsPrinted byte = 31 < byte
 

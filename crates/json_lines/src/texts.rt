@@ -37,8 +37,8 @@ impl<'r, D: Detailed> Says for Objects<'r, D> {
     }
 }
 
-/// The name that a word of a text is. If the word without the dots and the bytes that aren't ASCII at its end has a text, that is the name;
-/// otherwise the whole word is.
+/// The name that a word of a text is: the word without the dots and the bytes that aren't ASCII at its end, if that has a text; otherwise
+/// the whole word.
 fn named_by<'w, D: Detailed>(
     alloc: Global,
     demangler: &D,
@@ -61,7 +61,7 @@ fn named_by<'w, D: Detailed>(
 fn has_text<D: Detailed>(alloc: Global, demangler: &D, word: &[u8]) -> Result<bool, AllocError>
     ensures { IfOk result (λ has. has ≡ is_some (text_for (D.answer demangler.now) word.now)) }
 {
-    // the answer doesn't depend on whether legacy Rust names are paths
+    // whether a word has a text doesn't depend on whether legacy Rust names are paths
     let meaning = symbol_meaning(alloc, demangler, false, word)?;
     Ok(!meaning.stays())
 }

@@ -84,7 +84,7 @@ some_digits : (s : List ℕ) (count : ℕ) → 0 < value_of Length (take count s
 some_digits s zero positive = absurd (omega (arith, positive))
 some_digits s (suc count) positive = omega arith
 
--- a name of a legacy name is one of C++
+-- a name in a legacy name is a name of C++
 pub name_here : (s : List ℕ) (at : ℕ) (name : Name) → list_all is_legacy_byte s ≡ true → name_in (drop at s) ≡ Some name → IsNameAt s at name.bytes (at + name.size)
 name_here s at name are is =
     let q = drop at s in
@@ -139,7 +139,7 @@ split (x ∷ front) (y ∷ s) is =
     let same : x ≡ y = grind (arith, nat_tests, h.0) in
     (rest.0, ap (λ l. y ∷ l) rest.1 ∙ ap (λ b. b ∷ (front ++ rest.0)) (sym same))
 
--- the E is where names end
+-- the E that ends the names
 pub end_here : (s : List ℕ) (at : ℕ) → begins_with (codes "E") (drop at s) ≡ true → StandsAt s at (69 ∷ [])
 end_here s at is = split (codes "E") (drop at s) is
 
@@ -158,7 +158,7 @@ suffix_bytes (x ∷ xs) are =
     let h = both (is_legacy_byte x) (list_all is_legacy_byte xs) are in
     (suffix_byte x h.0, suffix_bytes xs h.1)
 
--- a suffix of a legacy name is nothing or one of C++
+-- the suffix of a legacy name is a suffix of C++, unless it is empty
 pub suffix_here : (suffix : List ℕ) → list_all is_legacy_byte suffix ≡ true → is_suffix suffix ≡ true → 0 < length suffix → IsSuffix suffix
 suffix_here [] are is some = absurd (omega (arith, some))
 suffix_here (d ∷ []) are is some = absurd (grind (arith, nat_tests, is))

@@ -25,7 +25,7 @@ use Rattle.legacy_laws.proofs.Bytes.{end_here, front_here, legacy_drop, name_her
 
 -- ## Reading
 
--- one more name of a nested name
+-- a nested name goes on after one more name
 one_name : (s : Symbol) (kind : Kind) (outer : List Opened) (around : Around) (t : Term) (at : ℕ) (st : State) (name : List ℕ) (end : ℕ)
     → IsRest kind → NestGoesOn s kind outer around t false at st → IsNameAt s.bytes at name end
     → NestGoesOn s Kind.NestTail outer around (within t (source false name)) false end (with_candidate around t st)
@@ -38,7 +38,7 @@ one_name s kind outer around t at st name end rest goes is =
     let tail = next.onward u end now (named.bare end now (expects-empty s Kind.MaybeArguments (after u false around) named.inner end now named.awaits refl)) in
     record { inner = tail.inner; awaits = tail.awaits; passes = λ v here then_ comes. goes.passes v here then_ (tail.passes v here then_ comes) }
 
--- the result of names and the E after them
+-- names, the E after them and a suffix are read: the tree they denote, and the place before the suffix
 record Ends (s : Symbol) (outer : List Opened) (suffix : List ℕ) : Type 0 where
   term : Term
   end : ℕ
@@ -47,7 +47,7 @@ record Ends (s : Symbol) (outer : List Opened) (suffix : List ℕ) : Type 0 wher
   suffix_is : drop end s.bytes ≡ suffix
   within : end ≤ length s.bytes
 
--- what follows the first name
+-- the rest of a list of names after its first name
 record Later (depth : ℕ) (q : List ℕ) (name : Name) (path : Path) : Type 0 where
   later : Path
   is : names_in depth (drop name.size q) ≡ Some later
@@ -94,7 +94,7 @@ rest_read (suc depth) s path outer around t at st are is goes =
 
 -- ## From the definition
 
--- a nonempty list of names begins with one
+-- a nonempty list of names begins with a name
 first_of : (depth : ℕ) (q : List ℕ) (path : Path) → names_in depth q ≡ Some path → 0 < length path.names
     → (more : ℕ) × (name : Name) × (name_in q ≡ Some name) × Later more q name path
 first_of zero q path is some = absurd (cc (is))
@@ -110,7 +110,7 @@ names_cond : (b : Bool) (names : List (List ℕ)) → cond {A = Option (List (Li
 names_cond true names is = sym (ap (λ o. unwrap_or o names) is)
 names_cond false names is = absurd (cc (is))
 
--- the hash is one more name
+-- there are more names than names before the hash
 hash_more : (all names : List (List ℕ)) → before_hash all ≡ Some names → length names + 1 ≤ length all
 hash_more [] names is = absurd (cc (is))
 hash_more (name ∷ []) names is = omega (arith, ap length (names_cond (is_hash name) names is))
@@ -183,7 +183,7 @@ finish s opened_ e end st (b ∷ suffix) comes rest long are is =
     let here = suffix_here (b ∷ suffix) (subst (λ r. list_all is_legacy_byte r ≡ true) rest (legacy_drop end s.bytes are)) is (omega arith) in
     (symbol e (b ∷ suffix), opened_.ends_in e end (b ∷ suffix) st comes ([], rest ∙ sym (append-nil (b ∷ suffix))) (omega (arith, long, length-drop end s.bytes, ap length rest)) here)
 
--- _ZN, two names and more, E, and a suffix or nothing
+-- _ZN, at least two names, E, and a suffix or nothing
 names_read : (s : Symbol) (first second : Name) (depth : ℕ) (later : Path) → begins_with (codes "_ZN") s.bytes ≡ true → list_all is_legacy_byte s.bytes ≡ true
     → name_in (drop 3 s.bytes) ≡ Some first → name_in (drop first.size (drop 3 s.bytes)) ≡ Some second
     → names_in depth (drop second.size (drop first.size (drop 3 s.bytes))) ≡ Some later → is_suffix later.suffix ≡ true

@@ -1,4 +1,4 @@
-// What legacy Rust names are to C++.
+// Legacy Rust names, read as C++ symbols.
 #![tactic(auto)]
 
 ghost use Rattle.std.specs.Prelude.{◌≡◌, ℕ, List, Some, Ok};

@@ -1,4 +1,4 @@
-//! Legacy Rust names as symbols of C++: each is one, and is read without a refusal.
+//! Legacy Rust names as symbols of C++: each name is such a symbol, and is read without a refusal.
 #![tactic(auto)]
 
 mod laws;

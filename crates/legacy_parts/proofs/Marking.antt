@@ -1,31 +1,20 @@
--- The parts of a path, by what was measured of its names.
-use Rattle.std.proofs.Common.{◌≡◌, ℕ, ◌+◌, ◌-◌, ◌<◌, ◌≤◌, List, [], ◌∷◌, ◌++◌, length, refl, sym, ap, ◌∙◌, arith, append-nil, length-append, Bool, true, false, cond}
-use Rattle.std.specs.Prelude.{codes, nat_eq}
-use Rattle.std.proofs.lemmas.Bool.Decides.{nat_tests}
-use Rattle.rust_legacy.specs.Path.{Path}
-use Rattle.rust_legacy.specs.Text.{suffix_parts}
+-- The parts of a path, by the measured lengths of its names.
+use Rattle.legacy_parts.proofs.Basics.{◌≡◌, ℕ, ◌+◌, ◌-◌, ◌<◌, ◌≤◌, List, [], ◌∷◌, ◌++◌, length, refl, sym, ap, ◌∙◌, arith, append-nil, length-append, Bool, true, false, cond, codes, nat_eq, nat_tests, Path, suffix_parts, Marked, done, text, marked, ◌before◌, stretches_from, stretches_of, alone, only, suffixed, stretches_from-before, Stretch, Role, AreMeasured, first_of, parts_by, place_of, suffix_part, before_last, last_of, names_marked, path_marked, root_role, shown}
 use Rattle.sym_parts.specs.Found.{Found}
-use Rattle.sym_parts.specs.Marked.{Marked, done, text, marked, ◌before◌, stretches_from, stretches_of}
 use Rattle.sym_parts.specs.Marked as marks
-use Rattle.sym_parts.specs.Plain.{alone, only, suffixed}
-use Rattle.sym_parts.proofs.Marks.{stretches_from-before}
-use Rattle.sym_parts.specs.declared.stretch.Stretch.{Stretch}
-use Rattle.sym_parts.specs.declared.role.Role.{Role}
 use Rattle.sym_parts.specs.declared.role.Role.TheVariants as role
-use Rattle.legacy_parts.specs.Measures.{AreMeasured, first_of, parts_by, place_of, suffix_part}
-use Rattle.legacy_parts.specs.Roles.{before_last, last_of, names_marked, path_marked, root_role, shown}
 use Rattle.legacy_parts.specs.declared.names.Names.{Names}
 use Rattle.legacy_parts.proofs.Texts.{front-length, front_of, names-split, text-alone, text-names}
 
 abbrev part_at : Role → (start length : ℕ) → Stretch
 part_at r start length = record { role = r; ordinal = only; start = start; length = length }
 
--- one part, and then others
+-- the stretches of one part before others: the part's, and then those of the others
 parts-alone : (place : ℕ) (r : Role) (b : List ℕ) (rest : Marked) → stretches_from place (alone r only b rest) ≡ part_at r place (length b) ∷ stretches_from (place + length b) rest
 unfolding stretches_from marks.text_of
 parts-alone place r b rest = ap (λ t. part_at r place (length t) ∷ stretches_from (place + length t) rest) (append-nil b)
 
--- there are no parts before the last name
+-- the text before the last name has no marks
 none-before_last : (place : ℕ) (names : List (List ℕ)) → stretches_from place (before_last names) ≡ []
 unfolding stretches_from before_last
 none-before_last place [] = refl
@@ -78,7 +67,7 @@ parts-names name (next ∷ rest) =
     ∙ ap (λ n. three root (all.place - 2) (length (shown name)) n (length base)) (let to : (0 + inside) + length (codes "::") ≡ all.place = omega (arith, long) in to)
     ∙ sym (later root all (omega arith))
 
--- what the names show ends after the last one
+-- the text of the names ends after the last one
 names-end : (names : List (List ℕ)) (found : Names) → 0 < length names → AreMeasured names found → 0 + length (marks.text_of (names_marked names)) ≡ found.place + found.last
 names-end [] found some are = absurd (omega (arith, some))
 names-end (name ∷ rest) found some are =
@@ -119,7 +108,7 @@ path-parts path found some are =
     ∙ ap (λ ps. parts_by (root_role (shown (first_of path.names))) found ++ ps)
     (parts-suffix to path.suffix ∙ ap (λ n. suffix_part n (length path.suffix)) (names-end path.names found some are))
 
--- ## Few
+-- ## There are at most four parts
 
 few-by : (root : Role) (found : Names) → length (parts_by root found) ≤ 3
 unfolding parts_by
@@ -169,7 +158,7 @@ one-suffix_part place count some =
     let test : nat_eq count 0 ≡ false = grind (arith, nat_tests, some) in
     ap (λ b. cond {A = List Stretch} b [] (part_at role.Suffix (place + 2) count ∷ [])) test
 
--- one name alone
+-- the parts of one name alone
 pub one-name : (root : Role) (found : Names) → found.place ≡ 0 → parts_by root found ≡ part_at role.Base 0 found.last ∷ []
 unfolding parts_by
 one-name root found none =
@@ -177,11 +166,11 @@ one-name root found none =
     ap (λ b. cond {A = List Stretch} b (part_at role.Base found.place found.last ∷ []) (three root (found.place - 2) found.first found.place found.last)) test
     ∙ ap (λ n. part_at role.Base n found.last ∷ []) none
 
--- names after a first one
+-- the parts of several names
 pub more-names : (root : Role) (found : Names) → (found.place ≡ 0 → ⊥) → parts_by root found ≡ three root (found.place - 2) found.first found.place found.last
 more-names root found some = later root found (omega (arith, some))
 
--- the base alone, after nothing
+-- the base alone, added to an empty list
 pub listed-first : (found : Found) (last : ℕ) → found ≡ record { stretches = []; place = 0 } → found.stretches ++ part_at role.Base found.place last ∷ [] ≡ part_at role.Base 0 last ∷ []
 listed-first found last is = ap (λ f. f.stretches ++ part_at role.Base f.place last ∷ []) is
 
@@ -208,7 +197,7 @@ listed-suffix old found count some parts place =
     ∙ ap (λ n. old.stretches ++ part_at role.Suffix n count ∷ []) place
     ∙ ap (λ ps. old.stretches ++ ps) (sym (one-suffix_part old.place count some))
 
--- all that was found are the parts of the path
+-- the stretches that were found are the parts of the path
 pub all-listed : (path : Path) (found : Names) (root : Role) (place count : ℕ) (first all : List Stretch) → 0 < length path.names → AreMeasured path.names found
     → root ≡ root_role (shown (first_of path.names)) → place ≡ found.place + found.last → count ≡ length path.suffix
     → first ≡ parts_by root found → all ≡ first ++ suffix_part place count → all ≡ stretches_of (path_marked path)

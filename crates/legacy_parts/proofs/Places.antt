@@ -1,18 +1,9 @@
 -- Where the names of a path are in a symbol.
-use Rattle.std.proofs.Common.{◌≡◌, ℕ, ◌+◌, ◌-◌, ◌<◌, ◌≤◌, List, [], ◌∷◌, ◌++◌, length, drop, refl, sym, ap, subst, ◌∙◌, arith}
-use Rattle.std.specs.Prelude.{Some, None, unwrap_or}
-use Rattle.std.proofs.lemmas.List.{length-drop}
-use Rattle.rust_legacy.specs.Path.{AreNames, Name, name_in}
-use Rattle.rust_legacy.proofs.Names.{AreNames-low, name_size}
-use Rattle.rust_legacy.specs.Path.{IsPlaced, Path, legacy_of}
-use Rattle.rust_legacy.specs.declared.path.PathPlace.{PathPlace}
+use Rattle.legacy_parts.proofs.Basics.{◌≡◌, ℕ, ◌+◌, ◌-◌, ◌<◌, ◌≤◌, List, [], ◌∷◌, ◌++◌, length, drop, refl, sym, ap, subst, ◌∙◌, arith, Some, None, unwrap_or, length-drop, AreNames, Name, name_in, AreNames-low, name_size, IsPlaced, Path, legacy_of, PathPlace, Item, Spelled, bytes, end_at, last_at, size_at, spelled, spelling_by, spelling_of_path}
 use Rattle.sym_parts.specs.declared.role.Role.TheVariants as role
-use Rattle.sym_parts.specs.declared.spelling.Item.{Item}
 use Rattle.sym_parts.specs.declared.spelling.Span.{Span}
-use Rattle.sym_parts.specs.declared.spelling.Spelled.{Spelled}
-use Rattle.legacy_parts.specs.Spelled.{bytes, end_at, last_at, size_at, spelled, spelling_by, spelling_of_path}
 
--- a name's size is that of the name at its place
+-- `size_at` is the size of the name at a place
 pub size-is : (s : List ℕ) (at : ℕ) (name : Name) → name_in (drop at s) ≡ Some name → size_at s at ≡ name.size
 unfolding size_at
 size-is s at name is = ap (λ found. elim found [ Some one ↦ one.size | None ↦ 0 ]) is
@@ -24,7 +15,7 @@ ends s from to [] are = are
 ends s from to (name ∷ rest) are =
     ap (λ size. end_at s (from + size) rest) (size-is s from (record { bytes = name; size = are.0 }) are.1) ∙ ends s (from + are.0) to rest are.2
 
--- where the last name begins, which is an earlier one if there are no more
+-- where the last name begins: at `earlier`, if no names are left
 unfoldable pub last_after : (s : List ℕ) (earlier at : ℕ) → List (List ℕ) → ℕ
 last_after s earlier at [] = earlier
 last_after s earlier at (name ∷ rest) = last_at s at (name ∷ rest)
@@ -43,7 +34,7 @@ unfolding last_at last_after
 last-next s at name [] = refl
 last-next s at name (next ∷ rest) = refl
 
--- one name on: it takes at least a byte
+-- one name further: it takes at least one byte, and the last name stays the same
 pub one-on : (s : List ℕ) (earlier at to : ℕ) (names : List (List ℕ)) → at < to → AreNames s at to names
     → (rest : List (List ℕ)) × AreNames s (at + size_at s at) to rest × (last_after s at (at + size_at s at) rest ≡ last_after s earlier at names)
     × (0 < size_at s at) × (at + size_at s at ≤ to)
@@ -57,7 +48,7 @@ one-on s earlier at to (name ∷ rest) some are =
 
 -- ## The parts
 
--- parts that were added one after another
+-- parts that are added one after another, to an empty list
 pub six : {X : Type 0} (none one two three four five all : List X) (a b c d e f : X) → none ≡ [] → one ≡ none ++ a ∷ [] → two ≡ one ++ b ∷ [] → three ≡ two ++ c ∷ []
     → four ≡ three ++ d ∷ [] → five ≡ four ++ e ∷ [] → all ≡ five ++ f ∷ [] → all ≡ a ∷ b ∷ c ∷ d ∷ e ∷ f ∷ []
 six none one two three four five all a b c d e f is first second third fourth fifth sixth = rw (sixth, fifth, fourth, third, second, first, is) refl
@@ -70,7 +61,7 @@ unfolding spelling_by
 found-by first last hash suffix end spans specials tags lists elements arguments parameters six no-specials no-tags no-lists no-arguments no-parameters no-elements =
     rw (six, no-specials, no-tags, no-lists, no-arguments, no-parameters, no-elements) refl
 
--- the places of a path are those of the symbol's path
+-- the spelling by the places that were found is the spelling of the symbol's path
 pub places-are : (s : List ℕ) (place : PathPlace) (placed : IsPlaced s place) (path : Path) (first last : ℕ) → legacy_of s ≡ Some path
     → first ≡ 3 + size_at s 3 → last ≡ last_at s 3 placed.0.names → spelling_by first last place.hash place.end (length s) ≡ spelling_of_path s path
 unfolding spelling_of_path

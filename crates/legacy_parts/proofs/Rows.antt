@@ -1,20 +1,11 @@
 -- The definitions, computed on symbols.
-use Rattle.std.specs.Prelude.{◌≡◌, ℕ, List, [], ◌∷◌, codes, length, Some, None}
+use Rattle.legacy_parts.proofs.Basics.{◌≡◌, ℕ, List, [], ◌∷◌, codes, length, Some, None, refl, legacy_of, only, suffixed, NameKind, Stretch, Role, kind_of_path, before_last, names_marked, path_marked, root_role, end_at, last_at, size_at, spelling_by, spelling_of_path}
 use Prim.Native.String.{String}
-use Rattle.std.proofs.Common.{refl}
-use Rattle.rust_legacy.specs.Path.{legacy_of}
 use Rattle.sym_parts.specs.Marked.{◌before◌, stretches_from, stretches_of, text_of}
-use Rattle.sym_parts.specs.Plain.{only, suffixed}
-use Rattle.sym_parts.specs.declared.kind.NameKind.{NameKind}
 use Rattle.sym_parts.specs.declared.kind.NameKind.TheVariants as kind
-use Rattle.sym_parts.specs.declared.stretch.Stretch.{Stretch}
-use Rattle.sym_parts.specs.declared.role.Role.{Role}
 use Rattle.sym_parts.specs.declared.role.Role.TheVariants as role
 use Rattle.sym_parts.specs.Spelling.{once, part_of, parts_spelled, span_of, unprinted}
 use Rattle.sym_parts.specs.declared.part.Part.{Part}
-use Rattle.legacy_parts.specs.Kinds.{kind_of_path}
-use Rattle.legacy_parts.specs.Roles.{before_last, names_marked, path_marked, root_role}
-use Rattle.legacy_parts.specs.Spelled.{end_at, last_at, size_at, spelling_by, spelling_of_path}
 
 abbrev part : Role → (start length : ℕ) → Stretch
 part r start length = record { role = r; ordinal = only; start = start; length = length }

@@ -1,16 +1,8 @@
 -- The names of a path, measured one by one.
-use Rattle.std.proofs.Common.{◌≡◌, ℕ, ◌+◌, ◌<◌, ◌≤◌, ◌^◌, List, [], ◌∷◌, length, drop, sym, ap, ◌∙◌, arith, length-append}
-use Rattle.std.specs.Prelude.{Some, None}
-use Rattle.sym_print.specs.Unshared.{text_of}
-use Rattle.rust_legacy.specs.Path.{AreNames, Name, name_in}
-use Rattle.rust_legacy.proofs.Names.{AreNames-low}
-use Rattle.rust_legacy.proofs.Paths.{first_name}
-use Rattle.rust_legacy.specs.Text.{names_parts}
-use Rattle.legacy_parts.specs.Measures.{AreFitting, place_of}
-use Rattle.legacy_parts.specs.Roles.{last_of, shown}
+use Rattle.legacy_parts.proofs.Basics.{◌≡◌, ℕ, ◌+◌, ◌<◌, ◌≤◌, ◌^◌, List, [], ◌∷◌, length, drop, sym, ap, ◌∙◌, arith, length-append, Some, None, text_of, AreNames, Name, name_in, AreNames-low, first_name, names_parts, AreFitting, place_of, last_of, shown}
 use Rattle.legacy_parts.proofs.Texts.{front-length, front_of, names-split}
 
--- a first name is no longer than what all show
+-- the text of the first name is no longer than the text of all names
 pub shown-within : (name : List ℕ) (rest : List (List ℕ)) → length (shown name) ≤ place_of (name ∷ rest) + length (shown (last_of (name ∷ rest)))
 shown-within name [] = omega arith
 shown-within name (next ∷ rest) = omega arith
@@ -32,7 +24,7 @@ begun names name rest is fit =
       last,
     )
 
--- One more name: where it begins, and that it fits. These are the names from the one that was measured last on.
+-- One more name: where it begins, and that its length fits. `current ∷ rest` are the name measured last and those after it.
 pub next-one : (names : List (List ℕ)) (current : List ℕ) (rest : List (List ℕ)) (name : List ℕ) (later : List (List ℕ)) (last place : ℕ)
     → 0 < length names → AreFitting names
     → rest ≡ name ∷ later → last ≡ length (shown current) → place + place_of (current ∷ rest) ≡ place_of names → last_of (current ∷ rest) ≡ last_of names
@@ -48,7 +40,7 @@ next-one names current rest name later last place some fit is measured goes same
 
 -- ## Names in a symbol
 
--- between two places where there are names there is a first one
+-- if there are names between two places, there is a name at the first place
 pub none_named : (s : List ℕ) (from to : ℕ) (names : List (List ℕ)) → AreNames s from to names → 0 < length names → name_in (drop from s) ≡ None → ⊥
 none_named s from to [] are some none = omega (arith, some)
 none_named s from to (name ∷ rest) are some none = cc (are.1, none)

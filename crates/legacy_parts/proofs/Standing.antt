@@ -1,11 +1,5 @@
 -- Where the path of each legacy name is in its symbol.
-use Rattle.std.proofs.Common.{◌≡◌, ℕ, zero, suc, ◌+◌, ◌<◌, List, [], ◌∷◌, ◌++◌, length, drop, Bool, true, false, cond, refl, sym, ap, subst, ◌∙◌, arith}
-use Rattle.std.specs.Prelude.{Option, Some, None, codes, unwrap_or}
-use Rattle.std.proofs.lemmas.List.{drop-drop}
-use Rattle.rust_legacy.specs.Path.{AreNames, Name, Path, StandsAt, before_hash, begins_with, is_hash, legacy_of, name_in, names_in, path_before_hash, path_in, with_name}
-use Rattle.rust_legacy.specs.declared.path.PathPlace.{PathPlace}
-use Rattle.rust_legacy.proofs.Legacy.{path_is}
-use Rattle.rust_legacy.proofs.Names.{after, at_end, ended_within, name_size}
+use Rattle.legacy_parts.proofs.Basics.{◌≡◌, ℕ, zero, suc, ◌+◌, ◌<◌, List, [], ◌∷◌, ◌++◌, length, drop, Bool, true, false, cond, refl, sym, ap, subst, ◌∙◌, arith, Option, Some, None, codes, unwrap_or, drop-drop, AreNames, Name, Path, StandsAt, before_hash, begins_with, is_hash, legacy_of, name_in, names_in, path_before_hash, path_in, with_name, PathPlace, path_is, after, at_end, ended_within, name_size}
 
 -- ## All names
 
@@ -73,7 +67,7 @@ path-before suffix (Some (name ∷ rest)) path is =
 path-before suffix (Some []) path is = absurd (cc (is))
 path-before suffix None path is = absurd (cc (is))
 
--- names in two parts
+-- the names before the last one end before all names do
 names-apart : (s : List ℕ) (from to : ℕ) (front : List (List ℕ)) (last : List ℕ) → AreNames s from to (front ++ last ∷ []) → (hash : ℕ) × AreNames s from hash front × (hash < to)
 names-apart s from to [] last are =
     (from, refl, omega (arith, (name_size (drop from s) (record { bytes = last; size = are.0 }) are.1).0, are.2))

@@ -1,19 +1,8 @@
 -- The text of a path without its marks is what the path shows; and how long its parts are.
-use Rattle.std.proofs.Common.{◌≡◌, ℕ, List, [], ◌∷◌, ◌++◌, length, refl, sym, ap, ◌∙◌, arith, append_assoc, append-nil, length-append}
-use Rattle.std.specs.Prelude.{codes}
-use Rattle.sym_print.specs.Unshared.{Unshared, text_of}
-use Rattle.rust_legacy.specs.Path.{Path}
-use Rattle.rust_legacy.specs.Text.{names_parts, shown_path, suffix_parts}
-use Rattle.rust_legacy.proofs.Paths.{names_text-next}
-use Rattle.sym_parts.specs.Marked.{Marked, done, text, marked, ◌before◌}
+use Rattle.legacy_parts.proofs.Basics.{◌≡◌, ℕ, List, [], ◌∷◌, ◌++◌, length, refl, sym, ap, ◌∙◌, arith, append_assoc, append-nil, length-append, codes, Unshared, text_of, Path, names_parts, shown_path, suffix_parts, names_text-next, Marked, done, text, marked, ◌before◌, plain, alone, only, suffixed, text_of-before, Role, place_of, before_last, last_of, names_marked, path_marked, root_role, shown}
 use Rattle.sym_parts.specs.Marked as marks
-use Rattle.sym_parts.specs.Plain.{plain, alone, only, suffixed}
-use Rattle.sym_parts.proofs.Marks.{text_of-before}
-use Rattle.sym_parts.specs.declared.role.Role.{Role}
 use Rattle.sym_parts.specs.declared.spelling.Ordinal.{Ordinal}
 use Rattle.sym_parts.specs.declared.role.Role.TheVariants as role
-use Rattle.legacy_parts.specs.Measures.{place_of}
-use Rattle.legacy_parts.specs.Roles.{before_last, last_of, names_marked, path_marked, root_role, shown}
 
 -- ## The text before the last name
 
@@ -28,11 +17,11 @@ front-length [] = refl
 front-length (name ∷ []) = refl
 front-length (name ∷ next ∷ rest) = omega (arith, front-length (next ∷ rest), length-append (shown name) (codes "::" ++ front_of (next ∷ rest)))
 
--- two colons first, where there are names
+-- the two colons before names come first in the text
 colons-first : (name : List ℕ) (rest : List (List ℕ)) → text_of (names_parts (codes "::") (name ∷ rest)) ≡ codes "::" ++ text_of (names_parts [] (name ∷ rest))
 colons-first name rest = names_text-next (codes "::") name rest ∙ ap (λ t. codes "::" ++ t) (sym (names_text-next [] name rest))
 
--- what names show is what precedes the last one, and what that one shows
+-- the text of names: the text before the last name, and then the last name's
 pub names-split : (name : List ℕ) (rest : List (List ℕ)) → text_of (names_parts [] (name ∷ rest)) ≡ front_of (name ∷ rest) ++ shown (last_of (name ∷ rest))
 names-split name [] = names_text-next [] name [] ∙ append-nil (shown name)
 names-split name (next ∷ rest) =
@@ -83,7 +72,7 @@ unfolding marks.text_of suffixed
 text-suffix [] = refl
 text-suffix (byte ∷ rest) = ap (λ t. codes " (" ++ (t ++ codes ")")) (append-nil (byte ∷ rest))
 
--- a whole path
+-- the text of a whole path
 pub text-path : (path : Path) → marks.text_of (path_marked path) ≡ text_of (shown_path path)
 unfolding path_marked
 text-path path =

@@ -1,28 +1,14 @@
 -- The text of a whole path: how it begins, where the last name is in it, and how long its pieces are.
-use Rattle.std.proofs.Common.{◌≡◌, ◌⊎◌, inl, inr, ℕ, ◌+◌, ◌-◌, ◌<◌, ◌≤◌, ◌^◌, List, [], ◌∷◌, ◌++◌, length, take, drop, refl, sym, ap, subst, ◌∙◌, arith, append_assoc, length-append, Bool, false, cond}
-use Rattle.std.specs.Prelude.{Some, codes, unwrap_or}
+use Rattle.legacy_parts.proofs.Basics.{◌≡◌, ◌⊎◌, inl, inr, ℕ, ◌+◌, ◌-◌, ◌<◌, ◌≤◌, ◌^◌, List, [], ◌∷◌, ◌++◌, length, take, drop, refl, sym, ap, subst, ◌∙◌, arith, append_assoc, length-append, Bool, false, cond, Some, codes, unwrap_or, length-drop, text_of, AreNames, IsPlaced, Path, begins_with, legacy_of, names_parts, suffix_parts, PathPlace, some_names_of, AreNames-low, AreNames-none, first_name, names_text-next, NameKind, Role, is_closure, kind_of_path, AreFitting, IsTextOf, first_of, place_of, last_of, root_role, shown}
 use Rattle.std.proofs.Math.Seq.{drop-append_seam, take-append_seam}
-use Rattle.std.proofs.lemmas.List.{length-drop}
-use Rattle.sym_print.specs.Unshared.{text_of}
-use Rattle.rust_legacy.specs.Path.{AreNames, IsPlaced, Path, begins_with, legacy_of}
-use Rattle.rust_legacy.specs.Text.{names_parts, suffix_parts}
-use Rattle.rust_legacy.specs.declared.path.PathPlace.{PathPlace}
-use Rattle.rust_legacy.proofs.Legacy.{some_names_of}
-use Rattle.rust_legacy.proofs.Names.{AreNames-low, AreNames-none}
-use Rattle.rust_legacy.proofs.Paths.{first_name, names_text-next}
-use Rattle.sym_parts.specs.declared.kind.NameKind.{NameKind}
 use Rattle.sym_parts.specs.declared.kind.NameKind.TheVariants as kind
-use Rattle.sym_parts.specs.declared.role.Role.{Role}
 use Rattle.sym_parts.specs.declared.role.Role.TheVariants as role
-use Rattle.legacy_parts.specs.Kinds.{is_closure, kind_of_path}
-use Rattle.legacy_parts.specs.Measures.{AreFitting, IsTextOf, first_of, place_of}
-use Rattle.legacy_parts.specs.Roles.{last_of, root_role, shown}
 use Rattle.legacy_parts.proofs.Sizes.{total}
 use Rattle.legacy_parts.proofs.Texts.{front-length, front_of, names-split}
 
 -- ## The first name
 
--- before a text that doesn't begin with <, a text decides whether the two together do
+-- of two texts, the second not beginning with <: both together begin with < if the first does
 begins-before : (one other : List ℕ) → begins_with (codes "<") other ≡ false → begins_with (codes "<") (one ++ other) ≡ begins_with (codes "<") one
 begins-before [] other none = none
 begins-before (x ∷ one) other none = refl
@@ -35,7 +21,7 @@ no-later : (rest : List (List ℕ)) (suffix : List ℕ) → begins_with (codes "
 no-later [] suffix = no-suffix suffix
 no-later (name ∷ rest) suffix = ap (λ t. begins_with (codes "<") (t ++ text_of (suffix_parts suffix))) (names_text-next (codes "::") name rest)
 
--- the whole text shows what the first name is
+-- the role of the first name may be read from the whole text
 root-of : (names : List (List ℕ)) (suffix : List ℕ) → 0 < length names
     → root_role (text_of (names_parts [] names) ++ text_of (suffix_parts suffix)) ≡ root_role (shown (first_of names))
 unfolding root_role
@@ -84,7 +70,7 @@ same-names s from to (name ∷ names) others are also =
     let first = first_name s from to others (record { bytes = name; size = are.0 }) (omega (arith, AreNames-low s from to (name ∷ names) are)) also are.1 in
     ap (λ r. name ∷ r) (same-names s (from + are.0) to names first.0 are.2 first.2) ∙ sym first.1
 
--- what a path is, by a test of its last name
+-- the kind of a path, by a test of its last name
 pub kind-is : (path : Path) (b : Bool) → b ≡ is_closure (shown (last_of path.names)) → cond {A = NameKind} b kind.Closure kind.Value ≡ kind_of_path path
 unfolding kind_of_path
 kind-is path b is = ap (λ v. cond {A = NameKind} v kind.Closure kind.Value) is
@@ -105,14 +91,14 @@ module _ (s : List ℕ) (place : PathPlace) (placed : IsPlaced s place) (text : 
   pub names-fit : (names : List (List ℕ)) → AreNames s 3 place.hash names → AreFitting names
   names-fit names are = subst AreFitting (same-names s 3 place.hash placed.0.names names placed.2.0 are) (omega (arith, long, fits))
 
-  -- where what the names show ends
+  -- the text of the names ends within the whole text
   pub names-within : place_of placed.0.names + length (shown (last_of placed.0.names)) ≤ length text
   names-within = omega (arith, total placed.0.names some, long)
 
   pub suffix-length : length s - place.end ≡ length placed.0.suffix
   suffix-length = omega (arith, length-drop place.end s, ap length placed.2.1)
 
-  -- a suffix has room after the names
+  -- the suffix, with its brackets, is within the text after the names
   pub suffix-within : (length s - place.end ≡ 0) ⊎ ((place_of placed.0.names + length (shown (last_of placed.0.names))) + 3 + (length s - place.end) ≤ length text)
   suffix-within = by (long-suffix placed.0.suffix)
     where

@@ -1,21 +1,13 @@
 -- What spells the parts of a legacy name's text is within the symbol.
-use Rattle.std.proofs.Common.{◌≡◌, ℕ, ◌+◌, ◌-◌, ◌<◌, ◌≤◌, List, [], ◌∷◌, length, refl, sym, subst, arith}
-use Rattle.std.specs.Prelude.{Some}
+use Rattle.legacy_parts.proofs.Basics.{◌≡◌, ℕ, ◌+◌, ◌-◌, ◌<◌, ◌≤◌, List, [], ◌∷◌, length, refl, sym, subst, arith, Some, AreNames, IsPlaced, Path, legacy_of, some_names_of, AreNames-low, Role, Item, Spelled, last_at, size_at, spelled, spelling_by, spelling_of_path}
 use Rattle.std.specs.List.{All}
 use Rattle.std.proofs.lemmas.List.Elements.{All-cons, All-nil}
-use Rattle.rust_legacy.specs.Path.{AreNames, IsPlaced, Path, legacy_of}
-use Rattle.rust_legacy.proofs.Legacy.{some_names_of}
-use Rattle.rust_legacy.proofs.Names.{AreNames-low}
 use Rattle.sym_parts.specs.Within.{IsSpanWithin, IsWithin}
-use Rattle.sym_parts.specs.declared.role.Role.{Role}
 use Rattle.sym_parts.specs.declared.role.Role.TheVariants as role
-use Rattle.sym_parts.specs.declared.spelling.Item.{Item}
-use Rattle.sym_parts.specs.declared.spelling.Spelled.{Spelled}
-use Rattle.legacy_parts.specs.Spelled.{last_at, size_at, spelled, spelling_by, spelling_of_path}
 use Rattle.legacy_parts.proofs.Places.{one-on, places-are, size-is}
 use Rattle.legacy_parts.proofs.Standing.{stands}
 
--- the last of names begins no earlier than the first, and before they end
+-- the last name begins no earlier than the first, and before the names end
 last-within : (s : List ℕ) (at to : ℕ) (names : List (List ℕ)) → AreNames s at to names → (at ≤ last_at s at names) × (last_at s at names ≤ to)
 unfolding last_at
 last-within s at to [] are = (omega arith, omega (arith, are))

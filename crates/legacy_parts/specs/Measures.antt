@@ -10,17 +10,17 @@ use Rattle.sym_parts.specs.declared.role.Role.TheVariants as role
 use Rattle.legacy_parts.specs.Roles.{last_of, shown}
 use Rattle.legacy_parts.specs.declared.names.Names.{Names}
 
--- this is the text of the symbol, which is a legacy name
+-- `shown` is the text of the symbol, if the symbol is a legacy name
 abbrev pub IsTextOf : (symbol shown : List ℕ) → Type 0
 IsTextOf symbol shown = (path : Path) → legacy_of symbol ≡ Some path → shown ≡ text_of (shown_path path)
 
--- how many bytes precede the last of names: the others, with two colons after each
+-- how many bytes precede the last name: those of the others, with two colons after each
 abbrev pub place_of : List (List ℕ) → ℕ
 place_of [] = 0
 place_of (name ∷ []) = 0
 place_of (name ∷ next ∷ rest) = length (shown name) + 2 + place_of (next ∷ rest)
 
--- the first of names
+-- the first name
 abbrev pub first_of : List (List ℕ) → List ℕ
 first_of [] = []
 first_of (name ∷ rest) = name
@@ -29,13 +29,13 @@ first_of (name ∷ rest) = name
 abbrev pub AreFitting : List (List ℕ) → Type 0
 AreFitting names = length (text_of (names_parts [] names)) < 2 ^ 32
 
--- the names were measured
+-- the lengths and the place that were measured are those of the names
 pub record AreMeasured (names : List (List ℕ)) (found : Names) : Type 0 where
   pub first : found.first ≡ length (shown (first_of names))
   pub last : found.last ≡ length (shown (last_of names))
   pub place : found.place ≡ place_of names
 
--- the parts of names that were measured, by what the first one is
+-- the parts of names that were measured, by the role of the first one
 unfoldable pub parts_by : Role → Names → List Stretch
 parts_by root found =
     let base : Stretch = record { role = role.Base; ordinal = only; start = found.place; length = found.last } in

@@ -10,8 +10,8 @@ use Rattle.legacy_parts.specs.Roles.{path_marked}
 use Rattle.legacy_parts.specs.Spelled.{spelling_of_path}
 use Rattle.legacy_parts.specs.declared.parsing.LegacyName.{LegacyName}
 
--- The name is what the path is. It has the path's text, which costs at most the limit, and the parts of that text, with the
--- bytes of the symbol that spell them.
+-- The name has the path's kind and text, and the text costs at most the limit. The parts are those of the text, with the bytes
+-- of the symbol that spell them.
 pub record IsParsed (limit : ℕ) (symbol : List ℕ) (path : Path) (found : LegacyName) : Type 0 where
   pub text : text_within limit (shown_path path) ≡ Ok found.text.items
   pub kind : found.kind ≡ kind_of_path path

@@ -16,7 +16,7 @@ shown name = text_of (shown_name name)
 unfoldable pub root_role : (shown : List ℕ) → Role
 root_role shown = if begins_with (codes "<") shown then role.Impl else role.Crate
 
--- the last of names
+-- the last name
 abbrev pub last_of : List (List ℕ) → List ℕ
 last_of [] = []
 last_of (name ∷ []) = name

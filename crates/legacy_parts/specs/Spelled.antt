@@ -11,7 +11,7 @@ use Rattle.sym_parts.specs.declared.spelling.Span.{Span}
 unfoldable pub size_at : (symbol : List ℕ) → (at : ℕ) → ℕ
 size_at symbol at = elim (name_in (drop at symbol)) [ Some name ↦ name.size | None ↦ 0 ]
 
--- where the last of names begins, if the first is at a place
+-- where the last name begins, if the first is at a place
 unfoldable pub last_at : (symbol : List ℕ) → (at : ℕ) → List (List ℕ) → ℕ
 last_at symbol at [] = at
 last_at symbol at (name ∷ []) = at

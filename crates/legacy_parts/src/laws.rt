@@ -12,12 +12,13 @@ ghost use Rattle.sym_parts.specs.Within.{IsWithin};
 ghost use Rattle.legacy_parts.specs.Spelled.{spelling_of_path};
 ghost use Rattle.legacy_parts.specs.Roles.{path_marked};
 
-/// Without its marks the text is that of the path.
+/// The marked text of a path without its marks is the path's text.
 pub fn marks_change_no_text()
     ensures { (path : Path) → marks.text_of (path_marked path) ≡ text_of (shown_path path) }
 {}
 
-/// The parts are slices of the text, in the order of their starts; of two, one is within the other, or they are apart.
+/// The parts are slices of the text, in the order of their starts; of two parts one is within the
+/// other, or they are apart.
 pub fn stretches_are_placed()
     ensures { (path : Path) → AreStretchesPlaced (length (text_of (shown_path path))) (stretches_of (path_marked path)) }
 {}

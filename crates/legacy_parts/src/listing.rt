@@ -16,10 +16,10 @@ use std::alloc::Global;
 use sym_core::Refusal;
 use sym_parts::{ONLY, Role, Stretch, Stretches};
 
-/// The bytes of two colons.
+/// How many bytes two colons have.
 const COLONS: u32 = 2;
 
-/// What the first name of a scope is, by the text.
+/// The role of a scope's first name, by the text.
 fn root_of(text: &[u8]) -> Role
     ensures { result ≡ root_role text.now }
 {
@@ -84,7 +84,7 @@ fn push_suffix(found: &mut Stretches, count: u32) -> Result<(), Refusal>
     found.begin(Role::Suffix, ONLY, count)
 }
 
-/// The stretches of the text of a legacy name, whose path is at a place that `path_of` found.
+/// The stretches of the text of a legacy name. The name's path is at a place that `path_of` found.
 ///
 /// # Errors
 ///

@@ -22,11 +22,13 @@ use sym_parts::{NameKind, Part, with_bytes};
 pub struct LegacyName {
     pub text: Vec<u8>,
     pub kind: NameKind,
-    /// In the order of their starts; of two, one is within the other, or they are apart. The hash, which isn't in the text, is last.
+    /// In the order of their starts; of two parts one is within the other, or they are apart. The
+    /// hash, which isn't in the text, is last.
     pub parts: Vec<Part>,
 }
 
-/// The text of a legacy name with its parts, if that costs at most the limit. The name's path is at a place that `path_of` found.
+/// The text of a legacy name with its parts, if the text costs at most the limit. The name's path
+/// is at a place that `path_of` found.
 ///
 /// # Errors
 ///

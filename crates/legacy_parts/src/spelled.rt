@@ -14,7 +14,7 @@ use sym_core::Refusal;
 use sym_parts::{Role, Span, Spelled, Spelling};
 use sym_room::push_within;
 
-/// The bytes of `_ZN`, which come before the first name.
+/// How many bytes `_ZN` has; the first name comes after them.
 const FIRST: usize = 3;
 
 /// How many bytes the name at a place takes, with its length.
@@ -65,7 +65,7 @@ fn push_part(parts: &mut Vec<Spelled>, role: Role, from: usize, to: usize) -> Re
     Ok(())
 }
 
-/// Which bytes spell the parts of the text of a legacy name, whose path is at a place that `path_of` found.
+/// Which bytes spell the parts of a legacy name's text. The name's path is at a place that `path_of` found.
 ///
 /// # Errors
 ///

@@ -1,5 +1,6 @@
-//! Reads numbers and names, one on each line of standard input, and prints for each what the calls of `sym_core` answer. A word
-//! for what the text is and the place where it begins precede it on the line, with blanks after them.
+//! Reads numbers and names, one on each line of standard input, and prints for each what the calls
+//! of `sym_core` answer. A line has a word for what the text is, the place of the number or name,
+//! and the text, with blanks between them.
 #![tactic(auto)]
 
 ghost use Rattle.std.specs.Prelude.{◌≤◌, length};
@@ -63,7 +64,7 @@ fn value_at(s: &[u8], at: usize, kind: NumberKind) -> Option<u128>
     }
 }
 
-/// Prints where the number at a place is, its value, and whether its digits are all that is there.
+/// Prints where the number at a place is, its value, and whether all bytes from there are digits.
 fn show_number(rt: &impl Print, s: &[u8], at: usize, kind: NumberKind) -> io::Result<()>
     requires fits { FitsSymbol s.now }
     requires within { at ≤ length s.now }

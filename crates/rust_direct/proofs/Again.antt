@@ -1,21 +1,7 @@
 -- Paths and types that were written before and are written once more.
-use Rattle.std.proofs.Common.{◌≡◌, ℕ, suc, ◌+◌, List, [], ◌∷◌, length, slice_get, true, false, Option, Some, None, refl, ap, subst, ◌∙◌, Bool}
-use Rattle.std.proofs.lemmas.Bool.{false≢true}
-use Rattle.sym_direct.specs.Holes.{StandsAt}
+use Rattle.rust_direct.proofs.Basics.{◌≡◌, ℕ, suc, ◌+◌, List, [], ◌∷◌, length, slice_get, true, false, Option, Some, None, refl, ap, subst, ◌∙◌, Bool, false≢true, StandsAt, need, Value, State, a_path, ended_at, as_path, Forms, Note, Direct, IsNumberAt, PathHas, Says, is_path, home, IsNote, NotesEnded, NotedAs, IsNumbered, Writes, piece, AreNotesOf, Awaits, IsEnded}
 use Rattle.rust_tree.specs.Symbol as tree
-use Rattle.rust_tree.specs.Need.{need}
-use Rattle.rust_grammar.specs.Value.{Value, State, a_path}
-use Rattle.rust_grammar.specs.Unfold.{ended_at, as_path}
-use Rattle.rust_direct.specs.declared.open.Forms.{Forms}
 use Rattle.rust_direct.specs.declared.open.Forms.TheVariants as forms
-use Rattle.rust_direct.specs.declared.open.Note.{Note}
-use Rattle.rust_direct.specs.declared.direct.Direct.{Direct}
-use Rattle.rust_direct.specs.Holes.{IsNumberAt}
-use Rattle.rust_direct.specs.PrintsInForm.{PathHas, Says, is_path}
-use Rattle.rust_direct.specs.Notes.{home, IsNote, NotesEnded, NotedAs, IsNumbered}
-use Rattle.rust_direct.specs.Written.{Writes, piece}
-use Rattle.rust_direct.specs.WriterInvariant.{AreNotesOf}
-use Rattle.rust_direct.specs.Awaits.{Awaits, IsEnded}
 use Rattle.rust_direct.proofs.Kept.{keeps-written, piece-found}
 use Rattle.rust_direct.proofs.MovesOfTypes.{path-referred}
 use Rattle.rust_direct.proofs.PathsRead.{path-says, stands-written}

@@ -1,27 +1,9 @@
 -- Paths with arguments that were read and written.
-use Rattle.std.proofs.Common.{◌≡◌, ℕ, ◌+◌, ◌≤◌, List, [], ◌∷◌, ◌++◌, length, reverse, Bool, true, false, Option, Some, refl, ap, sym, subst, ◌∙◌, append_assoc, append-nil, codes, ◌≢◌, nat_eq, arith}
-use Rattle.std.specs.Option.{option_to_list}
-use Rattle.std.proofs.lemmas.Bool.{false≢true}
-use Rattle.sym_direct.specs.Holes.{StandsAt}
-use Rattle.sym_direct.proofs.Moves.{stands-join}
+use Rattle.rust_direct.proofs.Basics.{◌≡◌, ℕ, ◌+◌, ◌≤◌, List, [], ◌∷◌, ◌++◌, length, reverse, Bool, true, false, Option, Some, refl, ap, sym, subst, ◌∙◌, append_assoc, append-nil, codes, ◌≢◌, nat_eq, arith, option_to_list, false≢true, StandsAt, stands-join, basic_text, PATH, Production, Value, State, a_path, a_type, as_type, Forms, Open, Direct, Comes, Expects, within, Wanted, path, other_path, type, kind_of, is_for_type, IsType, Ends, PathPrints, TypePrints, opening, closing, PathHas, Holds, has_form, is_type, form_of, is_path, Writes, Pushes, Stands, IsWriting, Keeps, parked_of, separator_of, Awaits, AwaitsPath, AwaitsArgument, Receives, IsEnded}
 use Rattle.rust_tree.specs.Symbol as tree
-use Rattle.rust_tree.specs.Shown.{basic_text}
-use Rattle.rust_grammar.specs.declared.kind.TheConstants.{PATH}
-use Rattle.rust_grammar.specs.declared.production.Production.{Production}
-use Rattle.rust_grammar.specs.Value.{Value, State, a_path, a_type}
-use Rattle.rust_grammar.specs.Unfold.{as_type}
-use Rattle.rust_direct.specs.declared.open.Forms.{Forms}
 use Rattle.rust_direct.specs.declared.open.Forms.TheVariants as forms
-use Rattle.rust_direct.specs.declared.open.Open.{Open}
 use Rattle.rust_direct.specs.declared.open.Open.TheVariants as opens
 use Rattle.rust_direct.specs.declared.open.Step.TheVariants as steps
-use Rattle.rust_direct.specs.declared.direct.Direct.{Direct}
-use Rattle.rust_direct.specs.Holes.{Comes, Expects, within, Wanted, path, other_path, type, kind_of, is_for_type, IsType, Ends}
-use Rattle.rust_direct.specs.Prints.{PathPrints, TypePrints, opening, closing}
-use Rattle.rust_direct.specs.PrintsInForm.{PathHas, Holds, has_form, is_type, form_of, is_path}
-use Rattle.rust_direct.specs.Written.{Writes, Pushes}
-use Rattle.rust_direct.specs.WriterInvariant.{Stands, IsWriting, Keeps, parked_of, separator_of}
-use Rattle.rust_direct.specs.Awaits.{Awaits, AwaitsPath, AwaitsArgument, Receives, IsEnded}
 use Rattle.rust_direct.proofs.Kept.{keeps-same, keeps-written, reverse-last}
 use Rattle.rust_direct.proofs.Moves.{expects-moved}
 use Rattle.rust_direct.proofs.MovesOfArguments.{generic_awaits, generic-opens, generic-goes-on, type_awaits, argument-opens, argument-goes-on, lifetime-goes-on, arguments-close}
@@ -32,7 +14,7 @@ use Rattle.rust_direct.proofs.PathsRead.{form-held, path-says, stands-written, w
 
 -- ## What is opened
 
--- the path that arguments belong to is expected
+-- the path before arguments is expected
 pub generic-begun : (brief : Bool) (s : List ℕ) (old new : Direct) (is_value : Bool) → AwaitsPath brief s old → StandsAt s old.at (73 ∷ [])
     → new.waiting.list.items ≡ old.waiting.list.items ++ opens.Generic is_value old.at ∷ []
     → new.waiting.room ≡ old.waiting.room → new.at ≡ old.at + 1 → new.text ≡ old.text → new.aside ≡ old.aside → new.is_aside ≡ old.is_aside
@@ -69,7 +51,7 @@ parked-written old new bytes p = rw (p.aside, p.is_aside) refl
 pub turned : (old new : Direct) (entry : Open) → Pushes old new entry → reverse new.waiting.list.items ≡ entry ∷ reverse old.waiting.list.items
 turned old new entry p = ap reverse p.waiting ∙ reverse-last old.waiting.list.items entry
 
--- the path that arguments belong to is read
+-- the path before arguments is read
 pub generic-read : (brief : Bool) (s : List ℕ) (old middle new : Direct) (is_value : Bool) (place from : ℕ) (f : Forms)
     → Receives brief s old (opens.Generic is_value place) from f → has_form is_value f ≡ true → Writes old middle (opening brief is_value)
     → Pushes middle new (opens.Argument place from is_value) → IsWriting brief s new (steps.Arguments true)
@@ -120,7 +102,7 @@ pub filled-text : (text own : List ℕ) → text ≡ own → false ≡ nat_eq (l
 filled-text text [] is e = absurd (false≢true (e ∙ ap (λ l. nat_eq (length l) 0) is))
 filled-text text (b ∷ bs) is e = omega arith
 
--- the letter of a basic type is where it was read
+-- the letter of a basic type is at the place where it was read
 pub letter-there : (s : List ℕ) (at letter : ℕ) → 1 ≤ length (basic_text letter) → (letter ≢ 0 → StandsAt s at (letter ∷ [])) → StandsAt s at (letter ∷ [])
 unfolding basic_text
 letter-there s at letter filled stands = stands (λ none. omega (arith, subst (λ b. 1 ≤ length (basic_text b)) none filled))

@@ -1,21 +1,9 @@
 -- The bounds of a `dyn` that were read and written.
-use Rattle.std.proofs.Common.{◌≡◌, ℕ, ◌+◌, List, [], ◌∷◌, ◌++◌, length, true, false, refl, ap, sym, subst, ◌∙◌, append_assoc, codes, Bool}
-use Rattle.sym_direct.specs.Holes.{StandsAt}
-use Rattle.sym_direct.proofs.Moves.{stands-join}
+use Rattle.rust_direct.proofs.Basics.{◌≡◌, ℕ, ◌+◌, List, [], ◌∷◌, ◌++◌, length, true, false, refl, ap, sym, subst, ◌∙◌, append_assoc, codes, Bool, StandsAt, stands-join, Production, PATH, a_type, Forms, Direct, Comes, Ends, within, path, Holds, has_form, Writes, Pushes, Opens, Stands, IsWriting, parked_of, Awaits, Receives, IsEnded}
 use Rattle.rust_tree.specs.Symbol as tree
-use Rattle.rust_grammar.specs.declared.production.Production.{Production}
-use Rattle.rust_grammar.specs.declared.kind.TheConstants.{PATH}
-use Rattle.rust_grammar.specs.Value.{a_type}
-use Rattle.rust_direct.specs.declared.open.Forms.{Forms}
 use Rattle.rust_direct.specs.declared.open.Forms.TheVariants as forms
 use Rattle.rust_direct.specs.declared.open.Open.TheVariants as opens
 use Rattle.rust_direct.specs.declared.open.Step.TheVariants as steps
-use Rattle.rust_direct.specs.declared.direct.Direct.{Direct}
-use Rattle.rust_direct.specs.Holes.{Comes, Ends, within, path}
-use Rattle.rust_direct.specs.PrintsInForm.{Holds, has_form}
-use Rattle.rust_direct.specs.Written.{Writes, Pushes, Opens}
-use Rattle.rust_direct.specs.WriterInvariant.{Stands, IsWriting, parked_of}
-use Rattle.rust_direct.specs.Awaits.{Awaits, Receives, IsEnded}
 use Rattle.rust_direct.proofs.Kept.{keeps-written}
 use Rattle.rust_direct.proofs.Moves.{expects-moved}
 use Rattle.rust_direct.proofs.MovesOfBounds.{bound_awaits, dyn-opens, bound-opens, bound-goes-on, bounds-close}

@@ -1,22 +1,9 @@
 -- Constants and arrays that were read and written.
-use Rattle.std.proofs.Common.{◌≡◌, ℕ, ◌+◌, List, [], ◌∷◌, ◌++◌, length, reverse, Bool, true, false, refl, ap, sym, subst, ◌∙◌, append_assoc, codes}
-use Rattle.std.specs.Prelude.{◌&&◌, decimal, nat_lt}
-use Rattle.sym_direct.specs.Holes.{StandsAt}
+use Rattle.rust_direct.proofs.Basics.{◌≡◌, ℕ, ◌+◌, List, [], ◌∷◌, ◌++◌, length, reverse, Bool, true, false, refl, ap, sym, subst, ◌∙◌, append_assoc, codes, ◌&&◌, decimal, nat_lt, StandsAt, TYPE, a_type, a_constant, Forms, Direct, Opened, type, within, with_ended, Ends, ArgumentsGoOn, opening, Holds, is_type, Writes, Notes, Pushes, sign_text, IsHexAt, IsConstantAt, BeginsInteger, WritesConstant, Stands, IsWriting, parked_of, separator_of, Awaits, AwaitsArgument, Receives, IsEnded}
 use Rattle.rust_tree.specs.Symbol as tree
-use Rattle.rust_grammar.specs.declared.kind.TheConstants.{TYPE}
-use Rattle.rust_grammar.specs.Value.{a_type, a_constant}
-use Rattle.rust_direct.specs.declared.open.Forms.{Forms}
 use Rattle.rust_direct.specs.declared.open.Forms.TheVariants as forms
 use Rattle.rust_direct.specs.declared.open.Open.TheVariants as opens
 use Rattle.rust_direct.specs.declared.open.Step.TheVariants as steps
-use Rattle.rust_direct.specs.declared.direct.Direct.{Direct}
-use Rattle.rust_direct.specs.Holes.{Opened, type, within, with_ended, Ends, ArgumentsGoOn}
-use Rattle.rust_direct.specs.Prints.{opening}
-use Rattle.rust_direct.specs.PrintsInForm.{Holds, is_type}
-use Rattle.rust_direct.specs.Written.{Writes, Notes, Pushes}
-use Rattle.rust_direct.specs.Constants.{sign_text, IsHexAt, IsConstantAt, BeginsInteger, WritesConstant}
-use Rattle.rust_direct.specs.WriterInvariant.{Stands, IsWriting, parked_of, separator_of}
-use Rattle.rust_direct.specs.Awaits.{Awaits, AwaitsArgument, Receives, IsEnded}
 use Rattle.rust_direct.proofs.Kept.{keeps-written, keeps-noted}
 use Rattle.rust_direct.proofs.Moves.{expects-moved}
 use Rattle.rust_direct.proofs.MovesOfConstants.{false-comes, true-comes, placeholder-comes, constant-goes-on, array-opens}

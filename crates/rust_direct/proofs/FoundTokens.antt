@@ -1,15 +1,7 @@
 -- Names and numbers that were found, and the bytes at a place.
-use Rattle.std.proofs.Common.{◌≡◌, ◌≢◌, ℕ, ◌+◌, ◌-◌, ◌<◌, ◌≤◌, List, [], ◌∷◌, ◌++◌, length, take, drop, get_or, Bool, true, Option, Some, None, Result, Ok, Err, ap, sym, subst, ◌∙◌, arith, append_assoc, add-zero}
-use Rattle.std.proofs.lemmas.List.{get_or-drop, length-append, length-drop, length-take, drop-drop}
-use Rattle.std.proofs.Math.Seq.{drop-append_seam, take-append_seam}
+use Rattle.rust_direct.proofs.Basics.{◌≡◌, ◌≢◌, ℕ, ◌+◌, ◌-◌, ◌<◌, ◌≤◌, List, [], ◌∷◌, ◌++◌, length, take, drop, get_or, Bool, true, Option, Some, None, Result, Ok, Err, ap, sym, subst, ◌∙◌, arith, append_assoc, add-zero, get_or-drop, length-append, length-drop, length-take, drop-drop, drop-append_seam, take-append_seam, Rust, Token, IsName, HasToken, FindsToken, StandsAt, stands-join, written, IsErasedAt, IsNamePlace}
 use Rattle.std.specs.Result.{result_ok}
-use Rattle.sym_core.specs.declared.NameClass.TheVariants.{Rust}
 use Rattle.sym_core.specs.declared.tokens.TokenPlace.{TokenPlace}
-use Rattle.sym_core.specs.Token.{Token, IsName, HasToken, FindsToken}
-use Rattle.sym_direct.specs.Holes.{StandsAt}
-use Rattle.sym_direct.proofs.Moves.{stands-join}
-use Rattle.rust_direct.specs.Holes.{written, IsErasedAt}
-use Rattle.rust_direct.specs.Names.{IsNamePlace}
 
 -- the bytes between two places, counted from an earlier place
 piece-at : (s before own behind rest : List ℕ) (at from to : ℕ) → at ≤ length s → drop at s ≡ (before ++ own ++ behind) ++ rest
@@ -76,7 +68,7 @@ name-found s at place h le =
       },
     )
 
--- a byte is where it was read
+-- the byte that was compared with a letter is at its place
 pub there : (s : List ℕ) (at byte letter : ℕ) → byte ≡ letter → 0 < letter → (byte ≢ 0 → StandsAt s at (byte ∷ [])) → StandsAt s at (letter ∷ [])
 there s at byte letter is some stands = subst (λ b. StandsAt s at (b ∷ [])) is (stands (λ none. omega (arith, some, sym is ∙ none)))
 
@@ -88,11 +80,11 @@ read-there s at less = front (drop at s) (get_or-drop at s 0 0 ∙ ap (λ n. get
     front [] e some = absurd (omega (arith, some))
     front (x ∷ rest) e some = (rest, ap (λ y. y ∷ rest) e)
 
--- and so is the letter that it is
+-- a byte that was read as a letter is that letter there
 pub letter-there : (s : List ℕ) (at letter : ℕ) → at < length s → get_or s at 0 ≡ letter → StandsAt s at (letter ∷ [])
 letter-there s at letter less is = subst (λ b. StandsAt s at (b ∷ [])) is (read-there s at less)
 
--- a piece is filled
+-- a piece isn't empty if it begins before its end
 pub piece-filled : (s : List ℕ) (from to : ℕ) → from < to → to ≤ length s → 1 ≤ length (take (to - from) (drop from s))
 piece-filled s from to some inside = omega (arith, some, inside, length-take (to - from) (drop from s), length-drop from s)
 

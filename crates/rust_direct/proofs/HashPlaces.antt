@@ -1,16 +1,7 @@
 -- Where numbers of at most eleven digits are.
-use Rattle.std.proofs.Common.{◌≡◌, ◌≢◌, ℕ, ◌+◌, ◌-◌, ◌*◌, ◌^◌, ◌≤◌, ◌<◌, suc, List, [], ◌∷◌, ◌++◌, length, take, drop, get_or, true, refl, ap, sym, subst, ◌∙◌, arith, add-zero, inl, inr}
-use Rattle.std.proofs.lemmas.List.{length-append, length-drop, length-take-le, take-append-drop}
-use Rattle.std.proofs.lemmas.Bool.Decides.{nat_tests}
+use Rattle.rust_direct.proofs.Basics.{◌≡◌, ◌≢◌, ℕ, ◌+◌, ◌-◌, ◌*◌, ◌^◌, ◌≤◌, ◌<◌, suc, List, [], ◌∷◌, ◌++◌, length, take, drop, get_or, true, refl, ap, sym, subst, ◌∙◌, arith, add-zero, inl, inr, length-append, length-drop, length-take-le, take-append-drop, nat_tests, Base62, is_digit_of, AreDigits, greatest_u64, StandsAt, stands-join, IsNumberAt, IsSmallNumberAt, HasDisambiguator, EachPasses}
 use Rattle.std.proofs.Math.Nat.{pow-zero, pow-suc, mul_assoc, mul_comm, mul-le-mul_right, pow-le-pow_right}
-use Rattle.sym_core.specs.declared.NumberKind.TheVariants.{Base62}
-use Rattle.sym_core.specs.Number.{is_digit_of, AreDigits}
 use Rattle.sym_core.specs.Value.{digit_value, value_onto, counted_value}
-use Rattle.rust_grammar.specs.Unfold.{greatest_u64}
-use Rattle.sym_direct.specs.Holes.{StandsAt}
-use Rattle.sym_direct.proofs.Moves.{stands-join}
-use Rattle.rust_direct.specs.Holes.{IsNumberAt, IsSmallNumberAt, HasDisambiguator}
-use Rattle.rust_direct.specs.Lanes.{EachPasses}
 use Rattle.rust_direct.proofs.LaneLemmas.{lt-or-le, piece-byte, piece-pass}
 
 digit-small : (b : ℕ) → is_digit_of Base62 b ≡ true → digit_value Base62 b < 62
@@ -26,7 +17,7 @@ below v (d ∷ ds) are =
     let same : (v + 1) * 62 * 62 ^ length ds ≡ (v + 1) * 62 ^ suc (length ds) = mul_assoc (v + 1) 62 (62 ^ length ds) ∙ ap (λ p. (v + 1) * p) (mul_comm 62 (62 ^ length ds) ∙ sym (pow-suc 62 (length ds))) in
     omega (arith, later, one, same)
 
--- a digit below the last two
+-- a digit other than Y and Z is at most 59
 digit-lower : (b : ℕ) → is_digit_of Base62 b ≡ true → b ≢ 89 → b ≢ 90 → digit_value Base62 b ≤ 59
 digit-lower b h y z = grind (arith, nat_tests)
 
@@ -34,7 +25,7 @@ all-digits : (ds : List ℕ) → ((k : ℕ) → k < length ds → is_digit_of Ba
 all-digits [] h = tt
 all-digits (d ∷ ds) h = (h 0 (omega arith), all-digits ds (λ k less. h (suc k) (omega (arith, less))))
 
--- what the first two of eleven digits of a small number are at most
+-- the first two of eleven digits of a small number have at most the value 1361
 low-pair : (d e : ℕ) → is_digit_of Base62 e ≡ true → digit_value Base62 d ≤ 21 → (digit_value Base62 d ≡ 21 → (e ≢ 89) × (e ≢ 90))
     → digit_value Base62 d * 62 + digit_value Base62 e ≤ 1361
 low-pair d e is low second =
@@ -45,7 +36,7 @@ low-pair d e is low second =
           omega (arith, same, digit-lower e is (second same).0 (second same).1)
     ]
 
--- up to eleven digits count less than the greatest number of 64 bits, if the first two of eleven are small
+-- up to eleven digits denote less than the greatest number of 64 bits, if the first two of eleven are small
 counted-small : (ds : List ℕ) → length ds ≤ 11 → AreDigits Base62 ds → (length ds ≡ 11 → digit_value Base62 (get_or ds 0 0) ≤ 21)
     → (length ds ≡ 11 → digit_value Base62 (get_or ds 0 0) ≡ 21 → (get_or ds 1 0 ≢ 89) × (get_or ds 1 0 ≢ 90))
     → counted_value Base62 ds + 1 ≤ greatest_u64

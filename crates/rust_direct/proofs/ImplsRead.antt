@@ -1,19 +1,10 @@
--- Impls, and types of one type, that were read and written.
-use Rattle.std.proofs.Common.{◌≡◌, ℕ, ◌+◌, List, [], ◌∷◌, ◌++◌, length, reverse, Bool, true, false, not, refl, ap, sym, subst, ◌∙◌, codes, cond}
-use Rattle.sym_direct.specs.Holes.{StandsAt}
+-- Impls that were read and written.
+use Rattle.rust_direct.proofs.Basics.{◌≡◌, ℕ, ◌+◌, List, [], ◌∷◌, ◌++◌, length, reverse, Bool, true, false, not, refl, ap, sym, subst, ◌∙◌, codes, cond, StandsAt, a_path, Forms, Direct, Comes, within, path, type, Ends, IsDisambiguatorAt, Holds, is_type, is_path, Writes, Pushes, Stands, IsWriting, parked_of, AwaitsPath, AwaitsImplType, Receives, IsEnded}
 use Rattle.rust_tree.specs.Symbol as tree
-use Rattle.rust_grammar.specs.Value.{a_path}
-use Rattle.rust_direct.specs.declared.open.Forms.{Forms}
 use Rattle.rust_direct.specs.declared.open.Forms.TheVariants as forms
 use Rattle.rust_direct.specs.declared.open.Closing.TheVariants as closings
 use Rattle.rust_direct.specs.declared.open.Open.TheVariants as opens
 use Rattle.rust_direct.specs.declared.open.Step.TheVariants as steps
-use Rattle.rust_direct.specs.declared.direct.Direct.{Direct}
-use Rattle.rust_direct.specs.Holes.{Comes, within, path, type, Ends, IsDisambiguatorAt}
-use Rattle.rust_direct.specs.PrintsInForm.{Holds, is_type, is_path}
-use Rattle.rust_direct.specs.Written.{Writes, Pushes}
-use Rattle.rust_direct.specs.WriterInvariant.{Stands, IsWriting, parked_of}
-use Rattle.rust_direct.specs.Awaits.{AwaitsPath, AwaitsImplType, Receives, IsEnded}
 use Rattle.rust_direct.proofs.Kept.{keeps-written, keeps-turned}
 use Rattle.rust_direct.proofs.MovesOfTypes.{impl-opens}
 use Rattle.rust_direct.proofs.PrintedPaths.{impl-prints}
@@ -22,7 +13,7 @@ use Rattle.rust_direct.proofs.Again.{path-needs}
 use Rattle.rust_direct.proofs.ArgumentsRead.{type-held, keeps-pushed, parked-pushed, turned}
 use Rattle.rust_direct.proofs.Opened.{wrapped}
 
--- the path of an impl is expected, which isn't shown
+-- the path of an impl, which isn't shown, is expected
 pub impl-begun : (brief : Bool) (s : List ℕ) (old new : Direct) (count end : ℕ) (plain : Bool) → AwaitsPath brief s old → StandsAt s old.at (77 ∷ [])
     → IsDisambiguatorAt s (old.at + 1) count end → old.is_aside ≡ false → new.waiting.list.items ≡ old.waiting.list.items ++ opens.Impl old.at ∷ []
     → new.waiting.room ≡ old.waiting.room
@@ -77,7 +68,7 @@ impl-path-read brief s old shown place here f arrives is hidden text aside is_as
       stands = rw (waiting, without) (subst (λ l. Stands brief s (reverse old.waiting.list.items) waits.0 l []) parked waits.4);
     }
 
--- the type of an impl is expected
+-- the type of an impl is expected, in angles
 pub impl-typed : (brief : Bool) (s : List ℕ) (old middle new : Direct) (place from : ℕ) → AwaitsImplType brief s old place → from ≡ length old.text.list.items
     → Writes old middle (codes "<") → Pushes middle new (opens.Wrap place from closings.Angle) → IsWriting brief s new steps.Type
 impl-typed brief s old middle new place from a from_is writes pushes =

@@ -1,17 +1,8 @@
 -- Impls within hidden text.
-use Rattle.std.proofs.Common.{◌≡◌, ℕ, ◌+◌, List, [], ◌∷◌, reverse, Bool, true, refl, subst}
-use Rattle.sym_direct.specs.Holes.{StandsAt}
+use Rattle.rust_direct.proofs.Basics.{◌≡◌, ℕ, ◌+◌, List, [], ◌∷◌, reverse, Bool, true, refl, subst, StandsAt, Forms, Open, Direct, Opened, Comes, within, path, IsDisambiguatorAt, is_path, Opens, Stands, IsWriting, IsUnbegun, parked_of, AwaitsPath, AwaitsImplType, AwaitsTraitType, Receives}
 use Rattle.rust_tree.specs.Symbol as tree
-use Rattle.rust_direct.specs.declared.open.Forms.{Forms}
-use Rattle.rust_direct.specs.declared.open.Open.{Open}
 use Rattle.rust_direct.specs.declared.open.Open.TheVariants as opens
 use Rattle.rust_direct.specs.declared.open.Step.TheVariants as steps
-use Rattle.rust_direct.specs.declared.direct.Direct.{Direct}
-use Rattle.rust_direct.specs.Holes.{Opened, Comes, within, path, IsDisambiguatorAt}
-use Rattle.rust_direct.specs.PrintsInForm.{is_path}
-use Rattle.rust_direct.specs.Written.{Opens}
-use Rattle.rust_direct.specs.WriterInvariant.{Stands, IsWriting, IsUnbegun, parked_of}
-use Rattle.rust_direct.specs.Awaits.{AwaitsPath, AwaitsImplType, AwaitsTraitType, Receives}
 use Rattle.rust_direct.proofs.Again.{path-needs}
 use Rattle.rust_direct.proofs.MovesOfTypes.{impl-opens, trait-opens}
 use Rattle.rust_direct.proofs.Opened.{keeps-opened, stands-opened}

@@ -1,19 +1,5 @@
 -- What a writer keeps while its texts and its lists grow.
-use Rattle.std.proofs.Common.{◌≡◌, ◌≢◌, ℕ, zero, suc, ◌+◌, ◌-◌, ◌<◌, ◌≤◌, length, List, [], ◌∷◌, ◌++◌, take, drop, reverse, slice_get, Bool, true, false, not, Option, Some, None, refl, ap, sym, ◌∙◌, subst, arith, append_assoc, append-nil, inl, inr}
-use Rattle.std.specs.Prelude.{slice_set, replicate, if◌then◌else◌}
-use Rattle.std.proofs.lemmas.Bool.{eq-eqb, ne_eqb, cases_eq}
-use Rattle.std.proofs.lemmas.List.{length-append, length-set, reverse-append}
-use Rattle.std.proofs.Math.Seq.{drop-append_seam, take-append_seam}
-use Rattle.rust_grammar.specs.Value.{Value, Ended, State}
-use Rattle.rust_grammar.specs.Unfold.{ended_at}
-use Rattle.rust_direct.specs.declared.open.Note.{Note}
-use Rattle.rust_direct.specs.declared.open.Forms.{Forms}
-use Rattle.rust_direct.specs.declared.direct.Direct.{Direct}
-use Rattle.rust_direct.specs.PrintsInForm.{Says}
-use Rattle.rust_direct.specs.Notes.{home, IsNote, NotedAs, IsNumbered, AreNotes}
-use Rattle.rust_direct.specs.WriterInvariant.{AreNotesOf, AreRooms, HasRooms, Keeps}
-use Rattle.rust_direct.specs.Written.{Writes, Notes}
-use Rattle.rust_direct.specs.Holes.{with_ended}
+use Rattle.rust_direct.proofs.Basics.{◌≡◌, ◌≢◌, ℕ, zero, suc, ◌+◌, ◌-◌, ◌<◌, ◌≤◌, length, List, [], ◌∷◌, ◌++◌, take, drop, reverse, slice_get, Bool, true, false, not, Option, Some, None, refl, ap, sym, ◌∙◌, subst, arith, append_assoc, append-nil, inl, inr, slice_set, replicate, if◌then◌else◌, eq-eqb, ne_eqb, cases_eq, length-append, length-set, reverse-append, drop-append_seam, take-append_seam, Value, Ended, State, ended_at, Note, Forms, Direct, Says, home, IsNote, NotedAs, IsNumbered, AreNotes, AreNotesOf, AreRooms, HasRooms, Keeps, Writes, Notes, with_ended}
 
 -- ## Notes
 
@@ -47,7 +33,7 @@ numbered-stays brief is_aside text aside more notes v None p = tt
 numbered-stays brief is_aside text aside more notes v (Some zero) p = tt
 numbered-stays brief is_aside text aside more notes v (Some (suc k)) p = noted-stays brief is_aside text aside more (slice_get notes k) v p
 
--- notes still hold where more is written
+-- notes still hold when more is written
 pub notes-stay : (brief : Bool) (is_aside : Bool) (text aside more : List ℕ) (notes : List Note) (numbers : List ℕ) (ended : List Ended)
     → AreNotes brief is_aside text aside notes numbers ended → AreNotes brief is_aside (text ++ more) aside notes numbers ended
 notes-stay brief is_aside text aside more notes numbers ended p =

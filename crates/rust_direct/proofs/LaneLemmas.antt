@@ -1,18 +1,13 @@
--- From the mask of sixteen bytes to those at the front that pass a test, and runs of bytes that pass it.
-use Rattle.std.proofs.Common.{◌≡◌, ℕ, ◌+◌, ◌-◌, ◌%◌, ◌^◌, ◌<◌, ◌≤◌, ◌⊎◌, zero, suc, Bool, true, false, not, ◌||◌, List, [], ◌∷◌, map, length, take, drop, get_or, replicate, Fits, w8, refl, sym, ap, ap₂, ◌∙◌, subst, arith, inl, inr}
-use Rattle.std.proofs.lemmas.Bool.{agree_below, agree_below_at, not-true, cases_eq, eq-eqb, ne_eqb, cond-true, cond-false}
-use Rattle.std.proofs.lemmas.Simd.{map-map, mask_l-mod, length-chunk, get_or-chunk, leading_from_mask_l, trailing_mask_l}
-use Rattle.std.proofs.lemmas.List.{length-map, get_or-take, get_or-drop}
+-- From the mask of sixteen bytes to the bytes at their front that pass a test, and runs of bytes that pass it.
+use Rattle.rust_direct.proofs.Basics.{◌≡◌, ℕ, ◌+◌, ◌-◌, ◌%◌, ◌^◌, ◌<◌, ◌≤◌, ◌⊎◌, zero, suc, Bool, true, false, not, ◌||◌, List, [], ◌∷◌, map, length, take, drop, get_or, replicate, Fits, w8, refl, sym, ap, ap₂, ◌∙◌, subst, arith, inl, inr, agree_below, agree_below_at, not-true, cases_eq, eq-eqb, ne_eqb, cond-true, cond-false, map-map, mask_l-mod, length-chunk, get_or-chunk, leading_from_mask_l, trailing_mask_l, length-map, get_or-take, get_or-drop, prefix_len, first_set, EachPasses}
 use Rattle.std.proofs.lemmas.List.Sums.{prefix_len-le-length, prefix_len_passes}
-use Rattle.std.specs.List.{prefix_len}
 use lib.Lanes.{chunk, zip2, mask_l, top}
-use Rattle.rust_direct.specs.Lanes.{first_set, EachPasses}
 
 zip2-map : (h : ℕ → ℕ → ℕ) (f g : ℕ → ℕ) (xs : List ℕ) → zip2 h (map f xs) (map g xs) ≡ map (λ x. h (f x) (g x)) xs
 zip2-map h f g [] = refl
 zip2-map h f g (x ∷ xs) = ap (λ r. h (f x) (g x) ∷ r) (zip2-map h f g xs)
 
--- an operation on two vectors that were computed lane by lane from v
+-- an operation on two vectors, each computed lane by lane from v
 pub joined : (h : ℕ → ℕ → ℕ) (f g : ℕ → ℕ) (v : List ℕ) {a b : List ℕ} → a ≡ map f v → b ≡ map g v → zip2 h a b ≡ map (λ x. h (f x) (g x)) v
 joined h f g v p q = ap₂ (zip2 h) p q ∙ zip2-map h f g v
 
@@ -64,7 +59,7 @@ lt-or-le zero (suc n) = inl (omega arith)
 lt-or-le (suc m) zero = inr (omega arith)
 lt-or-le (suc m) (suc n) = elim (lt-or-le m n) [ inl h ↦ inl (omega (arith, h)) | inr h ↦ inr (omega (arith, h)) ]
 
--- bytes that pass, and more after them
+-- if the bytes up to `at` pass, and those from there to `to` pass, all of them pass
 pub pass-on : (q : ℕ → Bool) (s : List ℕ) (from at to : ℕ) → from ≤ at → at ≤ to → EachPasses q s from (at - from) → EachPasses q s at (to - at)
     → EachPasses q s from (to - from)
 pass-on q s from at to low high front rest k less =
@@ -76,11 +71,11 @@ pass-on q s from at to low high front rest k less =
     moved : (from at k : ℕ) → from ≤ at → at - from ≤ k → at + (k - (at - from)) ≡ from + k
     moved from at k low after = omega (arith, low, after)
 
--- and sixteen more
+-- likewise with sixteen more
 pub lanes-on : (q : ℕ → Bool) (s : List ℕ) (from at : ℕ) → from ≤ at → EachPasses q s from (at - from) → EachPasses q s at 16 → EachPasses q s from (at + 16 - from)
 lanes-on q s from at low front lanes = pass-on q s from at (at + 16) low (omega arith) front (λ k less. lanes k (omega (arith, less)))
 
--- the last of sixteen bytes that pass
+-- if sixteen bytes pass, the last of them pass
 pub last-pass : (q : ℕ → Bool) (s : List ℕ) (at to : ℕ) → at ≤ to → to - at ≤ 16 → 16 ≤ to → EachPasses q s (to - 16) 16 → EachPasses q s at (to - at)
 last-pass q s at to low few enough each k less =
     subst (λ n. q (get_or s n 0) ≡ true) (moved at to k low few enough) (each (k + 16 - (to - at)) (omega (arith, less, few)))
@@ -96,6 +91,6 @@ piece-byte s at size k less = get_or-take size (drop at s) k 0 less ∙ get_or-d
 pub piece-pass : (q : ℕ → Bool) (s : List ℕ) (at size : ℕ) → EachPasses q s at size → (k : ℕ) → k < size → q (get_or (take size (drop at s)) k 0) ≡ true
 piece-pass q s at size each k less = subst (λ b. q b ≡ true) (sym (piece-byte s at size k less)) (each k less)
 
--- and so does each byte of the whole that is in the piece
+-- each byte of the whole that is in a piece passes, if each byte of the piece does
 pub whole-pass : (q : ℕ → Bool) (s : List ℕ) (at size : ℕ) → ((k : ℕ) → k < size → q (get_or (take size (drop at s)) k 0) ≡ true) → EachPasses q s at size
 whole-pass q s at size each k less = subst (λ b. q b ≡ true) (piece-byte s at size k less) (each k less)

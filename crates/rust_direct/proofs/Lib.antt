@@ -1,3 +1,4 @@
+pub mod Basics
 pub mod WrittenTexts
 pub mod PrintedPaths
 pub mod PrintedTypes

@@ -1,24 +1,9 @@
 -- The moves of a writer of Rust symbols, over those of any language: names, numbers and paths.
-use Rattle.std.proofs.Common.{◌≡◌, ℕ, zero, suc, ◌+◌, ◌<◌, ◌≤◌, List, [], ◌∷◌, length, inl, inr, true, false, nat_le, Some, None, Ok, refl, ap, sym, subst, arith}
-use Rattle.std.specs.Prelude.{slice_index, if◌then◌else◌}
-use Rattle.std.proofs.lemmas.Bool.{le-leb, leb-true, and_parts, or_cases, false≢true}
-use Rattle.sym_core.specs.declared.NumberKind.TheVariants.{Base62}
-use Rattle.sym_core.specs.Token.{bytes_of}
-use Rattle.sym_shape.specs.declared.rule.Rule.{Rule}
-use Rattle.sym_shape.specs.declared.rule.Sym.TheVariants.{Kind, Number, Name}
+use Rattle.rust_direct.proofs.Basics.{◌≡◌, ℕ, zero, suc, ◌+◌, ◌<◌, ◌≤◌, List, [], ◌∷◌, length, inl, inr, true, false, nat_le, Some, None, Ok, refl, ap, sym, subst, arith, slice_index, if◌then◌else◌, le-leb, leb-true, and_parts, or_cases, false≢true, Base62, bytes_of, Rule, Kind, Number, Name, TakesRule, standing, opened, StandsAt, Production, PATH, NAMESPACE, IDENTIFIER, NAME, v0_table, taking, chaining, Value, State, number, letter, a_name, an_identifier, a_path, token_of, value62, identifier_part, greatest_u64, rust_language, Opened, Comes, ComesAll, Expects, within, behind, with_ended, Wanted, path, other_path, type, kind_of, IsNumberAt, IsNameAt, IsDisambiguatorAt, identifier, is_namespace, NameGoesOn}
 use Rattle.sym_shape.specs.Sheet.{range, in_range, in_ranges}
-use Rattle.sym_shape.specs.Tree.{TakesRule}
-use Rattle.sym_link.specs.Unfold.{standing}
 use Rattle.sym_direct.specs.Holes as direct
-use Rattle.sym_direct.specs.Holes.{opened, StandsAt}
 use Rattle.sym_direct.proofs.Moves as moves
 use Rattle.rust_tree.specs.Symbol as tree
-use Rattle.rust_grammar.specs.declared.production.Production.{Production}
-use Rattle.rust_grammar.specs.declared.kind.TheConstants.{PATH, NAMESPACE, IDENTIFIER, NAME}
-use Rattle.rust_grammar.specs.Rules.{v0_table, taking, chaining}
-use Rattle.rust_grammar.specs.Value.{Value, State, number, letter, a_name, an_identifier, a_path}
-use Rattle.rust_grammar.specs.Unfold.{token_of, value62, identifier_part, greatest_u64}
-use Rattle.rust_direct.specs.Holes.{rust_language, Opened, Comes, ComesAll, Expects, within, behind, with_ended, Wanted, path, other_path, type, kind_of, IsNumberAt, IsNameAt, IsDisambiguatorAt, identifier, is_namespace, NameGoesOn}
 
 pub comes-moved : (s : List ℕ) (os : List Opened) (vs : List Value) (at to : ℕ) (st : State) → at ≡ to → ComesAll s os vs at st → ComesAll s os vs to st
 comes-moved s os vs at to st same = subst (λ k. ComesAll s os vs k st) same
@@ -37,7 +22,7 @@ a_plain name = a_name (record { punycode = false; bytes = name })
 none-more : (n : ℕ) → n + 0 ≡ n
 none-more n = omega arith
 
--- a name is expected, by one of these kinds
+-- a name is accepted where a kind that takes a name is expected
 plain-comes : (s : List ℕ) (kind : ℕ) (os : List Opened) (at : ℕ) (st : State) (name : List ℕ) (end : ℕ) → TakesRule v0_table kind plain_rule []
     → Expects s kind os at st → IsNameAt s at name end → Comes s os (a_plain name) end (behind st)
 plain-comes s kind os at st name end takes expects is =
@@ -137,7 +122,7 @@ crate-comes s w os at st count middle name end expects stands counted named =
 
 -- ## Paths in a namespace
 
--- a byte that is at a place
+-- the byte that is at a place is found there
 pub byte-there : (s : List ℕ) (at b : ℕ) → StandsAt s at (b ∷ []) → slice_index s at ≡ b
 byte-there [] zero b stands = cc stands.1
 byte-there [] (suc at) b stands = cc stands.1
@@ -177,11 +162,11 @@ takes-nest path = record { byte = 78; is_byte = omega arith; found = refl; takes
 takes-nest other_path = record { byte = 78; is_byte = omega arith; found = refl; takes = refl }
 takes-nest type = record { byte = 78; is_byte = omega arith; found = refl; takes = refl }
 
--- what is open while the parent of such a path is read
+-- what is open while the parent of a path in a namespace is read
 abbrev pub nest_awaits : (letter place : ℕ) → State → List Opened → List Opened
 nest_awaits b place st os = opened (standing nest_rule (78 ∷ []) place 0 st) (letter b ∷ []) (Kind IDENTIFIER ∷ []) ∷ os
 
--- its parent is expected
+-- the parent of a path in a namespace is expected
 pub nest-opens : (s : List ℕ) (w : Wanted) (os : List Opened) (at b : ℕ) (st : State) → Expects s (kind_of w) os at st → StandsAt s at (78 ∷ [])
     → StandsAt s (at + 1) (b ∷ []) → is_namespace b ≡ true → Expects s PATH (nest_awaits b at st os) (at + 1 + 1) (within Production.Nested st)
 nest-opens s w os at b st expects stands there is =
@@ -196,7 +181,7 @@ nest-opens s w os at b st expects stands there is =
     moves.next-of rust_language s rule [] (letter b ∷ []) (Kind PATH) (Kind IDENTIFIER ∷ []) os (at + 1 + 1) (behind st)
     (record { context = 0; values = letter b ∷ []; state = within p st }) refl comes
 
--- its parent is read
+-- the parent of a path in a namespace is read
 pub nest-goes-on : (s : List ℕ) (os : List Opened) (b place : ℕ) (before : State) (p : tree.Path) (at : ℕ) (st : State)
     → Comes s (nest_awaits b place before os) (a_path p) at st → NameGoesOn s os b place p at st
 nest-goes-on s os b place before p at st comes =

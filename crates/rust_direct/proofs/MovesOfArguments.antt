@@ -1,19 +1,7 @@
 -- The moves of arguments and of the types of a tuple.
-use Rattle.std.proofs.Common.{◌≡◌, ℕ, ◌+◌, List, [], ◌∷◌, false, Ok, refl, ap, arith, append-nil}
-use Rattle.sym_core.specs.declared.NumberKind.TheVariants.{Base62}
-use Rattle.sym_shape.specs.declared.rule.Rule.{Rule}
-use Rattle.sym_shape.specs.declared.rule.Sym.TheVariants.{Kind, Byte, Number}
-use Rattle.sym_shape.specs.Tree.{TakesRule}
-use Rattle.sym_link.specs.Unfold.{standing}
-use Rattle.sym_direct.specs.Holes.{opened, StandsAt}
+use Rattle.rust_direct.proofs.Basics.{◌≡◌, ℕ, ◌+◌, List, [], ◌∷◌, false, Ok, refl, ap, arith, append-nil, Base62, Rule, Kind, Byte, Number, TakesRule, standing, opened, StandsAt, Production, PATH, TYPE, TYPES, ARGUMENTS, LIFETIME, v0_table, taking, chaining, Value, State, number, a_path, a_type, a_lifetime, some_arguments, some_types, type_part, is_minus, rust_language, Opened, Comes, Expects, within, behind, with_ended, Wanted, path, other_path, type, kind_of, IsNumberAt, IsType, Ends, ArgumentsGoOn, TypesGoOn}
 use Rattle.sym_direct.proofs.Moves as moves
 use Rattle.rust_tree.specs.Symbol as tree
-use Rattle.rust_grammar.specs.declared.production.Production.{Production}
-use Rattle.rust_grammar.specs.declared.kind.TheConstants.{PATH, TYPE, TYPES, ARGUMENTS, LIFETIME}
-use Rattle.rust_grammar.specs.Rules.{v0_table, taking, chaining}
-use Rattle.rust_grammar.specs.Value.{Value, State, number, a_path, a_type, a_lifetime, some_arguments, some_types}
-use Rattle.rust_grammar.specs.Unfold.{type_part, is_minus}
-use Rattle.rust_direct.specs.Holes.{rust_language, Opened, Comes, Expects, within, behind, with_ended, Wanted, path, other_path, type, kind_of, IsNumberAt, IsType, Ends, ArgumentsGoOn, TypesGoOn}
 use Rattle.rust_direct.proofs.Moves.{TakesAll, expects-moved, number-comes}
 
 -- ## Types as parts
@@ -38,18 +26,18 @@ takes-generic path = record { byte = 73; is_byte = omega arith; found = refl; ta
 takes-generic other_path = record { byte = 73; is_byte = omega arith; found = refl; takes = refl }
 takes-generic type = record { byte = 73; is_byte = omega arith; found = refl; takes = refl }
 
--- the entries that are open while the path is read that arguments belong to
+-- the entries that are open while the path before arguments is read
 abbrev pub generic_awaits : (place : ℕ) → State → List Opened → List Opened
 generic_awaits place st os = opened (standing generic_rule (73 ∷ []) place 0 st) [] (Kind ARGUMENTS ∷ Byte 69 ∷ []) ∷ os
 
--- the path that arguments belong to is expected
+-- the path before arguments is expected
 pub generic-opens : (s : List ℕ) (w : Wanted) (os : List Opened) (at : ℕ) (st : State) → Expects s (kind_of w) os at st → StandsAt s at (73 ∷ [])
     → Expects s PATH (generic_awaits at st os) (at + 1) (within Production.Generic st)
 generic-opens s w os at st expects stands =
     moves.first-of rust_language s (kind_of w) generic_rule (73 ∷ []) 0 os at st st (Kind PATH) (Kind ARGUMENTS ∷ Byte 69 ∷ [])
     (record { context = 0; values = []; state = within Production.Generic st }) (takes-generic w) (λ f. refl) refl refl expects stands
 
--- the path that arguments belong to is read, and arguments are expected
+-- the path before arguments is read, and arguments are expected
 pub generic-goes-on : (s : List ℕ) (os : List Opened) (place : ℕ) (before : State) (p : tree.Path) (at : ℕ) (st : State)
     → Comes s (generic_awaits place before os) (a_path p) at st → ArgumentsGoOn s os place p (λ a. a) at st
 generic-goes-on s os place before p at st comes =

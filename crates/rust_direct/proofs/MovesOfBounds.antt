@@ -1,19 +1,7 @@
 -- The moves of a `dyn` and its bounds.
-use Rattle.std.proofs.Common.{◌≡◌, ℕ, ◌+◌, List, [], ◌∷◌, refl, arith}
-use Rattle.sym_core.specs.declared.NumberKind.TheVariants.{Base62}
-use Rattle.sym_shape.specs.declared.rule.Rule.{Rule}
-use Rattle.sym_shape.specs.declared.rule.Sym.TheVariants.{Kind, Number}
-use Rattle.sym_shape.specs.Tree.{TakesRule}
-use Rattle.sym_link.specs.Unfold.{standing}
-use Rattle.sym_direct.specs.Holes.{opened, StandsAt}
+use Rattle.rust_direct.proofs.Basics.{◌≡◌, ℕ, ◌+◌, List, [], ◌∷◌, refl, arith, Base62, Rule, Kind, Number, TakesRule, standing, opened, StandsAt, Production, PATH, TYPE, BINDER, BOUNDS, BINDINGS, LIFETIME, v0_table, taking, chaining, State, number, a_path, a_type, a_lifetime, some_bounds, rust_language, Opened, Comes, Expects, within, behind, with_ended, Ends, BoundsGoOn}
 use Rattle.sym_direct.proofs.Moves as moves
 use Rattle.rust_tree.specs.Symbol as tree
-use Rattle.rust_grammar.specs.declared.production.Production.{Production}
-use Rattle.rust_grammar.specs.declared.kind.TheConstants.{PATH, TYPE, BINDER, BOUNDS, BINDINGS, LIFETIME}
-use Rattle.rust_grammar.specs.Rules.{v0_table, taking, chaining}
-use Rattle.rust_grammar.specs.Value.{State, number, a_path, a_type, a_lifetime, some_bounds}
-use Rattle.rust_direct.specs.Holes.{rust_language, Opened, Comes, Expects, within, behind, with_ended, Ends}
-use Rattle.rust_direct.specs.Bounds.{BoundsGoOn}
 use Rattle.rust_direct.proofs.Moves.{expects-moved, number-comes}
 use Rattle.rust_direct.proofs.MovesOfArguments.{number_rule, no-digits, takes-number}
 

@@ -1,24 +1,9 @@
 -- The moves of constants, among arguments and as the sizes of arrays.
-use Rattle.std.proofs.Common.{◌≡◌, ◌≢◌, ℕ, ◌+◌, ◌<◌, ◌≤◌, List, [], ◌∷◌, inl, inr, Bool, true, false, Some, Ok, refl, ap, sym, subst, arith}
-use Rattle.std.specs.Prelude.{◌&&◌, nat_lt, if◌then◌else◌}
-use Rattle.std.proofs.lemmas.Bool.{le-leb, cases_eq, ne_eqb, false≢true}
-use Rattle.sym_core.specs.declared.NumberKind.TheVariants.{Hex}
-use Rattle.sym_shape.specs.declared.rule.Rule.{Rule}
-use Rattle.sym_shape.specs.declared.rule.Sym.TheVariants.{Kind, Byte, Number}
-use Rattle.sym_shape.specs.Tree.{TakesRule}
-use Rattle.sym_link.specs.Unfold.{standing}
+use Rattle.rust_direct.proofs.Basics.{◌≡◌, ◌≢◌, ℕ, ◌+◌, ◌<◌, ◌≤◌, List, [], ◌∷◌, inl, inr, Bool, true, false, Some, Ok, refl, ap, sym, subst, arith, ◌&&◌, nat_lt, if◌then◌else◌, le-leb, cases_eq, ne_eqb, false≢true, Hex, Rule, Kind, Byte, Number, TakesRule, standing, opened, StandsAt, Production, TYPE, ARGUMENTS, CONSTANT, MINUS, TRUTH, v0_table, taking, Value, State, a_truth, minus_mark, a_type, a_constant, some_arguments, token_of, value16, an_integer_of, greatest_u64, greatest_u128, rust_language, Opened, Comes, Expects, within, behind, with_ended, ArgumentsGoOn, one_of, is_signed, is_unsigned, IsHexAt, IsConstantAt, BeginsInteger, ArrayGoesOn}
 use Rattle.sym_direct.specs.Holes as direct
-use Rattle.sym_direct.specs.Holes.{opened, StandsAt}
 use Rattle.sym_direct.proofs.Moves as moves
 use Rattle.rust_tree.specs.Symbol as tree
-use Rattle.rust_grammar.specs.declared.production.Production.{Production}
-use Rattle.rust_grammar.specs.declared.kind.TheConstants.{TYPE, ARGUMENTS, CONSTANT, MINUS, TRUTH}
 use Rattle.rust_grammar.specs.BasicLetters.{signed_letters, unsigned_letters}
-use Rattle.rust_grammar.specs.Rules.{v0_table, taking}
-use Rattle.rust_grammar.specs.Value.{Value, State, a_truth, minus_mark, a_type, a_constant, some_arguments}
-use Rattle.rust_grammar.specs.Unfold.{token_of, value16, an_integer_of, greatest_u64, greatest_u128}
-use Rattle.rust_direct.specs.Holes.{rust_language, Opened, Comes, Expects, within, behind, with_ended, ArgumentsGoOn}
-use Rattle.rust_direct.specs.Constants.{one_of, is_signed, is_unsigned, IsHexAt, IsConstantAt, BeginsInteger, ArrayGoesOn}
 use Rattle.rust_direct.proofs.Moves.{byte-there}
 use Rattle.rust_direct.proofs.MovesOfArguments.{type-part, no-minus}
 
@@ -77,7 +62,7 @@ takes-signed b is = found-in signed_rule signed_letters b (
   ),
 ) is
 
--- a byte that is 0 names no integer's type
+-- the letter of an integer type without a sign isn't 0
 pub unsigned-there : (b : ℕ) → is_unsigned b ≡ true → b ≢ 0
 unfolding is_unsigned
 unsigned-there b is none = false≢true (subst (λ k. is_unsigned k ≡ true) none is)

@@ -1,27 +1,9 @@
 -- The moves of whole symbols: their beginning, the instantiating crate, and their suffix.
-use Rattle.std.proofs.Common.{◌≡◌, ℕ, ◌+◌, ◌<◌, ◌≤◌, List, [], ◌∷◌, ◌++◌, length, drop, take, true, Option, Some, None, Ok, refl, ap, sym, subst, ◌∙◌, arith, append-nil}
-use Rattle.std.specs.Prelude.{if◌then◌else◌}
-use Rattle.std.specs.List.{AllByRecursion}
-use Rattle.std.proofs.Math.Seq.{take-append_seam}
-use Rattle.std.proofs.lemmas.List.{take_all, length-append, length-drop}
-use Rattle.std.proofs.lemmas.Bool.Decides.{nat_tests}
-use Rattle.sym_shape.specs.declared.rule.Rule.{Rule}
-use Rattle.sym_shape.specs.declared.rule.Sym.TheVariants.{Kind, Byte}
-use Rattle.sym_shape.specs.Tree.{TakesRule}
+use Rattle.rust_direct.proofs.Basics.{◌≡◌, ℕ, ◌+◌, ◌<◌, ◌≤◌, List, [], ◌∷◌, ◌++◌, length, drop, take, true, Option, Some, None, Ok, refl, ap, sym, subst, ◌∙◌, arith, append-nil, if◌then◌else◌, AllByRecursion, take-append_seam, take_all, length-append, length-drop, nat_tests, Rule, Kind, Byte, TakesRule, standing, StandsFor, opened, StandsAt, Production, SYMBOL, PATH, OTHER_PATH, SUFFIX, SUFFIX_BYTE, SUFFIX_REST, v0_table, taking, v0_mangled, Value, State, a_path, a_suffix, suffix_rest, a_symbol, at_first, rust_language, Opened, Comes, ComesAll, Expects, within, behind, is_suffix_byte, IsSuffix, EndsSymbol, OtherGoesOn}
 use Rattle.sym_link.specs.Reading.{Open}
-use Rattle.sym_link.specs.Unfold.{standing}
-use Rattle.sym_demangle.specs.Mangled.{StandsFor}
 use Rattle.sym_direct.specs.Holes as direct
-use Rattle.sym_direct.specs.Holes.{opened, StandsAt}
 use Rattle.sym_direct.proofs.Moves as moves
 use Rattle.rust_tree.specs.Symbol as tree
-use Rattle.rust_grammar.specs.declared.production.Production.{Production}
-use Rattle.rust_grammar.specs.declared.kind.TheConstants.{SYMBOL, PATH, OTHER_PATH, SUFFIX, SUFFIX_BYTE, SUFFIX_REST}
-use Rattle.rust_grammar.specs.Rules.{v0_table, taking}
-use Rattle.rust_grammar.specs.Mangled.{v0_mangled}
-use Rattle.rust_grammar.specs.Value.{Value, State, a_path, a_suffix, suffix_rest, a_symbol}
-use Rattle.rust_grammar.specs.Unfold.{at_first}
-use Rattle.rust_direct.specs.Holes.{rust_language, Opened, Comes, ComesAll, Expects, within, behind, is_suffix_byte, IsSuffix, EndsSymbol, OtherGoesOn}
 use Rattle.rust_direct.proofs.Moves.{comes-moved}
 
 -- ## Suffixes
@@ -35,7 +17,7 @@ byte_rule = taking Production.SuffixByte []
 abbrev suffix_rule : Rule
 suffix_rule = taking Production.Suffix (Kind SUFFIX_BYTE ∷ Kind SUFFIX_REST ∷ [])
 
--- no byte beyond 255 is one of a suffix
+-- a byte of a suffix is at most 255
 suffix-small : (b : ℕ) → is_suffix_byte b ≡ true → b < 256
 unfolding is_suffix_byte
 suffix-small b is = grind (arith, nat_tests)

@@ -1,26 +1,9 @@
--- The moves of types that are made of one type, of impls, and of back references.
-use Rattle.std.proofs.Common.{◌≡◌, ℕ, ◌+◌, ◌<◌, ◌≤◌, List, [], ◌∷◌, ◌++◌, length, inl, inr, false, Some, Ok, refl, ap, sym, subst, arith, ◌⊎◌}
-use Rattle.std.specs.Prelude.{if◌then◌else◌}
-use Rattle.std.proofs.lemmas.Bool.{le-leb, cases_eq, ne_eqb}
-use Rattle.sym_core.specs.declared.NumberKind.TheVariants.{Base62}
-use Rattle.sym_shape.specs.declared.rule.Rule.{Rule}
+-- The moves of types that are made of one other type, of impls, and of back references.
+use Rattle.rust_direct.proofs.Basics.{◌≡◌, ℕ, ◌+◌, ◌<◌, ◌≤◌, List, [], ◌∷◌, ◌++◌, length, inl, inr, false, Some, Ok, refl, ap, sym, subst, arith, ◌⊎◌, if◌then◌else◌, le-leb, cases_eq, ne_eqb, Base62, Rule, Kind, Number, TakesRule, standing, opened, StandsAt, basic_texts, need, need_of_type, basic_text, text_at, Production, PATH, TYPE, DISAMBIGUATOR, SOME_LIFETIME, v0_table, taking, Value, State, number, a_path, a_type, a_lifetime, a_disambiguator, as_path, as_type, ended_at, greatest_u64, rust_language, Opened, Comes, ComesAll, Expects, within, behind, with_ended, Wanted, path, other_path, type, kind_of, is_for_type, IsNumberAt, IsDisambiguatorAt, IsType, Ends, TypeGoesOn, ImplementingGoesOn, ImplGoesOn, TraitGoesOn, Erased, unwritten, written, erased_bytes}
 use Rattle.sym_shape.specs.declared.rule.Sym.{Sym}
-use Rattle.sym_shape.specs.declared.rule.Sym.TheVariants.{Kind, Number}
-use Rattle.sym_shape.specs.Tree.{TakesRule}
 use Rattle.sym_link.specs.Reading.{Open}
-use Rattle.sym_link.specs.Unfold.{standing}
-use Rattle.sym_direct.specs.Holes.{opened, StandsAt}
 use Rattle.sym_direct.proofs.Moves as moves
 use Rattle.rust_tree.specs.Symbol as tree
-use Rattle.rust_tree.specs.BasicTypes.{basic_texts}
-use Rattle.rust_tree.specs.Need.{need, need_of_type}
-use Rattle.rust_tree.specs.Shown.{basic_text, text_at}
-use Rattle.rust_grammar.specs.declared.production.Production.{Production}
-use Rattle.rust_grammar.specs.declared.kind.TheConstants.{PATH, TYPE, DISAMBIGUATOR, SOME_LIFETIME}
-use Rattle.rust_grammar.specs.Rules.{v0_table, taking}
-use Rattle.rust_grammar.specs.Value.{Value, State, number, a_path, a_type, a_lifetime, a_disambiguator}
-use Rattle.rust_grammar.specs.Unfold.{as_path, as_type, ended_at, greatest_u64}
-use Rattle.rust_direct.specs.Holes.{rust_language, Opened, Comes, ComesAll, Expects, within, behind, with_ended, Wanted, path, other_path, type, kind_of, is_for_type, IsNumberAt, IsDisambiguatorAt, IsType, Ends, TypeGoesOn, ImplementingGoesOn, ImplGoesOn, TraitGoesOn, Erased, unwritten, written, erased_bytes}
 use Rattle.rust_direct.proofs.Moves.{TakesAll, comes-moved, number-comes, byte-there}
 use Rattle.rust_direct.proofs.MovesOfArguments.{type-part, no-minus, number_rule, no-digits}
 
@@ -125,9 +108,9 @@ basic-comes s os at st b filled expects stands =
     (takes-basic b filled) (λ f. refl) refl
     (ap (λ c. Ok (record { value = a_type (tree.basic c); state = with_ended at (a_type (tree.basic c)) st })) (byte-there s at b stands)) expects stands
 
--- ## Types of one type
+-- ## Types that are made of one other type
 
--- a rule of one type
+-- a rule whose only part is a type
 one-type : (s : List ℕ) (os : List Opened) (at : ℕ) (st : State) (p : Production) (byte : ℕ) (made : tree.Ty → tree.Ty)
     → TakesRule v0_table TYPE (taking p (Kind TYPE ∷ [])) (byte ∷ [])
     → (rust_language.reading s).between (standing (taking p (Kind TYPE ∷ [])) (byte ∷ []) at 0 st) [] st ≡ Ok (record { context = 0; values = []; state = within p st })
@@ -183,7 +166,7 @@ lifetime-comes s os at st expects stands =
 abbrev reference_rule : Production → Rule
 reference_rule p = taking p (Kind SOME_LIFETIME ∷ Kind TYPE ∷ [])
 
--- a rule of a lifetime and a type
+-- a rule whose parts are a lifetime and a type continues after the lifetime
 abbrev Goes : (s : List ℕ) → Open State ℕ → Production → List Value → State → Type 0
 Goes s rule p known st = (rust_language.reading s).between rule known st ≡ Ok (record { context = 0; values = known; state = within p st })
 

@@ -1,17 +1,5 @@
 -- Where names are.
-use Rattle.std.proofs.Common.{◌≡◌, ◌≢◌, ℕ, ◌+◌, ◌-◌, ◌*◌, ◌≤◌, ◌<◌, suc, List, [], ◌∷◌, ◌++◌, length, take, drop, get_or, Bool, true, false, refl, ap, sym, subst, ◌∙◌, arith, append_assoc, append-nil, add-zero}
-use Rattle.std.specs.Prelude.{◌||◌, ◌==◌}
-use Rattle.std.proofs.lemmas.List.{length-append, length-drop, length-take-le, take-append-drop, drop-drop}
-use Rattle.std.proofs.lemmas.Bool.{le-leb, eq-eqb, ne_eqb, false≢true}
-use Rattle.std.proofs.Math.Seq.{drop-append_seam}
-use Rattle.sym_core.specs.declared.NameClass.TheVariants.{Rust}
-use Rattle.sym_core.specs.Number.{is_decimal_digit}
-use Rattle.sym_core.specs.Scan.{ReachesNameBytes}
-use Rattle.sym_core.specs.Token.{is_name_byte, AreNameBytes, IsSeparator}
-use Rattle.sym_direct.specs.Holes.{StandsAt}
-use Rattle.sym_direct.proofs.Moves.{stands-join}
-use Rattle.rust_direct.specs.Lanes.{EachPasses}
-use Rattle.rust_direct.specs.Names.{IsLengthRead, IsNamePlace, goes_on}
+use Rattle.rust_direct.proofs.Basics.{◌≡◌, ◌≢◌, ℕ, ◌+◌, ◌-◌, ◌*◌, ◌≤◌, ◌<◌, suc, List, [], ◌∷◌, ◌++◌, length, take, drop, get_or, Bool, true, false, refl, ap, sym, subst, ◌∙◌, arith, append_assoc, append-nil, add-zero, ◌||◌, ◌==◌, length-append, length-drop, length-take-le, take-append-drop, drop-drop, le-leb, eq-eqb, ne_eqb, false≢true, drop-append_seam, Rust, is_decimal_digit, ReachesNameBytes, is_name_byte, AreNameBytes, IsSeparator, StandsAt, stands-join, EachPasses, IsLengthRead, IsNamePlace, goes_on}
 use Rattle.rust_direct.proofs.LaneLemmas.{piece-byte, piece-pass, whole-pass}
 
 digit-is : (b : ℕ) → 48 ≤ b → b ≤ 57 → is_decimal_digit b ≡ true
@@ -99,7 +87,7 @@ own-placed s at from size own r within few own_is apart each = (
     whole = r.stands.1 ∙ ap (λ l. r.digits ++ l) parts ∙ sym (append_assoc r.digits own (drop size (drop from s)))
         ∙ ap (λ l. l ++ drop size (drop from s)) (sym (append-nil (r.digits ++ own)))
 
--- the same, with its own bytes where they are
+-- likewise with the name's own bytes taken from the symbol
 pub own-there : (s : List ℕ) (at from size : ℕ) → IsLengthRead s at from size → from ≤ length s → size ≤ length s - from
     → goes_on (get_or s from 0) ≡ false → EachPasses (is_name_byte Rust) s from (from + size - from)
     → IsNamePlace s at (record { from = from; to = from + size; end = from + size })
@@ -116,7 +104,7 @@ own-there s at from size r within few apart each =
     first : get_or s from 0 ≡ get_or (take size (drop from s)) 0 0
     first = sym (piece-byte s from size 0 r.some ∙ ap (λ n. get_or s n 0) (add-zero from))
 
--- neither a digit nor an '_' belongs to a length, or separates it from the name
+-- a byte other than a digit and '_' neither belongs to a length nor separates it from the name
 pub goes-apart : (b : ℕ) → is_decimal_digit b ≡ false → b ≢ 95 → goes_on b ≡ false
 goes-apart b digit mark = cc (digit, ne_eqb b 95 mark)
 

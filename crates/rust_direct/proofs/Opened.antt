@@ -1,11 +1,5 @@
 -- A text is written, and an entry waits for the part after it.
-use Rattle.std.proofs.Common.{◌≡◌, ℕ, List, ◌∷◌, ◌++◌, length, reverse, ap, ◌∙◌, append_assoc, Bool}
-use Rattle.rust_grammar.specs.Value.{State}
-use Rattle.rust_direct.specs.declared.open.Open.{Open}
-use Rattle.rust_direct.specs.declared.direct.Direct.{Direct}
-use Rattle.rust_direct.specs.Holes.{Opened}
-use Rattle.rust_direct.specs.Written.{Opens}
-use Rattle.rust_direct.specs.WriterInvariant.{Stands, Keeps, parked_of}
+use Rattle.rust_direct.proofs.Basics.{◌≡◌, ℕ, List, ◌∷◌, ◌++◌, length, reverse, ap, ◌∙◌, append_assoc, Bool, State, Open, Direct, Opened, Opens, Stands, Keeps, parked_of}
 use Rattle.rust_direct.proofs.Kept.{notes-stay, rooms-same}
 use Rattle.rust_direct.proofs.PathsRead.{waits-too}
 
@@ -24,6 +18,6 @@ stands-opened brief s old new bytes entry at os o h =
     waits-too brief s old.waiting.list.items new.waiting.list.items entry os new.text.list.items (parked_of new) o.waiting
     (rw (o.text, o.aside, o.is_aside) h)
 
--- the bytes between a mark and the mark that closes it
+-- the brackets don't matter where a text, a mark, bytes and a closing mark are joined
 pub wrapped : (front mark bytes closing : List ℕ) → front ++ mark ++ bytes ++ closing ≡ front ++ (mark ++ bytes ++ closing)
 wrapped front mark bytes closing = ap (λ l. l ++ closing) (append_assoc front mark bytes) ∙ append_assoc front (mark ++ bytes) closing

@@ -1,31 +1,15 @@
 -- Paths that were read and written.
-use Rattle.std.proofs.Common.{◌≡◌, ℕ, ◌+◌, ◌≤◌, List, [], ◌∷◌, ◌++◌, length, reverse, take, drop, ◌-◌, arith, inl, Bool, true, false, Option, Some, refl, ap, sym, subst, ◌∙◌, append_assoc, codes, cond}
-use Rattle.std.specs.Option.{option_to_list}
-use Rattle.std.proofs.lemmas.Bool.{le-leb, false≢true}
-use Rattle.sym_direct.specs.Holes.{StandsAt}
+use Rattle.rust_direct.proofs.Basics.{◌≡◌, ℕ, ◌+◌, ◌≤◌, List, [], ◌∷◌, ◌++◌, length, reverse, take, drop, ◌-◌, arith, inl, Bool, true, false, Option, Some, refl, ap, sym, subst, ◌∙◌, append_assoc, codes, cond, option_to_list, le-leb, false≢true, StandsAt, Production, Value, a_path, Forms, Open, Direct, PATH, Opened, Comes, within, behind, with_ended, path, IsNameAt, IsDisambiguatorAt, identifier, is_namespace, PathPrints, PathHas, HaveRoom, Says, Holds, has_form, is_path, Writes, Notes, Stands, IsWriting, parked_of, Awaits, AwaitsPath, Receives, IsEnded, IsEndedWithRoom, IsUnmarked}
 use Rattle.rust_tree.specs.Symbol as tree
-use Rattle.rust_grammar.specs.declared.production.Production.{Production}
-use Rattle.rust_grammar.specs.Value.{Value, a_path}
-use Rattle.rust_direct.specs.declared.open.Forms.{Forms}
 use Rattle.rust_direct.specs.declared.open.Forms.TheVariants as forms
-use Rattle.rust_direct.specs.declared.open.Open.{Open}
 use Rattle.rust_direct.specs.declared.open.Open.TheVariants as opens
 use Rattle.rust_direct.specs.declared.open.Step.TheVariants as steps
-use Rattle.rust_direct.specs.declared.direct.Direct.{Direct}
-use Rattle.rust_grammar.specs.declared.kind.TheConstants.{PATH}
-use Rattle.rust_direct.specs.Holes.{Opened, Comes, within, behind, with_ended, path, IsNameAt, IsDisambiguatorAt, identifier, is_namespace}
-use Rattle.rust_direct.specs.Prints.{PathPrints}
-use Rattle.rust_direct.specs.PrintsInForm.{PathHas, HaveRoom, Says, Holds, has_form, is_path}
-use Rattle.rust_direct.specs.Written.{Writes, Notes}
-use Rattle.rust_direct.specs.WriterInvariant.{Stands, IsWriting, parked_of}
-use Rattle.rust_direct.specs.Awaits.{Awaits, AwaitsPath, Receives, IsEnded, IsEndedWithRoom}
 use Rattle.rust_direct.proofs.Kept.{keeps-same, keeps-written, keeps-noted, reverse-last}
 use Rattle.rust_direct.proofs.Moves.{expects-moved, identifier-comes, crate-comes, nest_awaits, nest-opens, nest-goes-on}
-use Rattle.sym_direct.specs.Marked.{IsUnmarked}
 use Rattle.rust_direct.proofs.WrittenTexts.{name-unmarked}
 use Rattle.rust_direct.proofs.PrintedPaths.{crate-prints, nested-prints, nested-room, unnamed-prints}
 
--- ## Facts of what was read
+-- ## What is known of a path that was read
 
 -- a path has a text in the forms that are named
 pub path-held : (brief : Bool) (f : Forms) (v : Value) (bytes : List ℕ) → is_path f ≡ true → Holds brief f v bytes → (p : tree.Path) × (v ≡ a_path p) × PathHas brief f p bytes
@@ -49,7 +33,7 @@ form-held brief false forms.Typed v bytes is h = absurd (false≢true is)
 form-held brief true forms.Unnamed v bytes is h = absurd (false≢true is)
 form-held brief false forms.Unnamed v bytes is h = absurd (false≢true is)
 
--- a path with its texts is noted and forwarded
+-- a path that has a text in some forms is noted and forwarded with it
 pub path-says : (brief : Bool) (f : Forms) (p : tree.Path) (bytes : List ℕ) → is_path f ≡ true → PathHas brief f p bytes → Says brief f (a_path p) bytes × Holds brief f (a_path p) bytes
 path-says brief forms.Alike p bytes is h = ((p, refl, h), (p, refl, h))
 path-says brief forms.Valued p bytes is h = ((p, refl, h), (p, refl, h))
@@ -67,7 +51,7 @@ stands-written brief s old new bytes os text writes h =
     (subst (λ b. Stands brief s (reverse old.waiting.list.items) os text (cond b new.aside.list.items [])) (sym writes.is_aside)
     (subst (λ a. Stands brief s (reverse old.waiting.list.items) os text (cond old.is_aside a.list.items [])) (sym writes.aside) h))
 
--- the waiting entry is this
+-- the entry that waited is the known one
 pub waited-for : (brief : Bool) (s : List ℕ) (w : Direct) (entry known : Open) (from : ℕ) (f : Forms) → entry ≡ known → Receives brief s w entry from f → Receives brief s w known from f
 waited-for brief s w entry known from f is = subst (λ e. Receives brief s w e from f) is
 
@@ -168,7 +152,7 @@ nested-rooms brief forms.Plain letter p bytes count name is lower filled h = nes
 nested-rooms brief forms.Typed letter p bytes count name is lower filled h = absurd (false≢true is)
 nested-rooms brief forms.Unnamed letter p bytes count name is lower filled h = absurd (false≢true is)
 
--- its name is read
+-- the name of a path in a namespace is read
 pub nest-named : (brief : Bool) (s : List ℕ) (old last : Direct) (letter place from : ℕ) (f : Forms) (count behind_ : ℕ) (name : List ℕ) (end : ℕ)
     → Receives brief s old (opens.Nest letter place) from f → is_path f ≡ true → 97 ≤ letter → IsDisambiguatorAt s old.at count behind_
     → IsNameAt s behind_ name end → 1 ≤ length name → Writes old last (codes "::" ++ name)
@@ -211,7 +195,7 @@ unnamed-has brief forms.Plain letter p bytes count lower h room = unnamed-prints
 unnamed-has brief forms.Typed letter p bytes count lower h room = absurd h
 unnamed-has brief forms.Unnamed letter p bytes count lower h room = absurd h
 
--- a value that has a form of a path is a path
+-- forms in which a path has a text are those of a path
 is-of-path : (brief : Bool) (f : Forms) (p : tree.Path) (bytes : List ℕ) → PathHas brief f p bytes → is_path f ≡ true
 is-of-path brief forms.Alike p bytes h = refl
 is-of-path brief forms.Valued p bytes h = refl
@@ -225,7 +209,7 @@ piece-empty s from to none =
     let nothing : to - from ≡ 0 = omega (arith, none) in
     ap (λ n. take n (drop from s)) nothing
 
--- The name is read and noted. Then an empty name follows, whose parent it is.
+-- A path is read and noted. An empty name follows, and the path is its parent.
 pub unnamed-read : (brief : Bool) (s : List ℕ) (old noted taken : Direct) (place from : ℕ) (f : Forms) (o : Option Open) (letter outer end : ℕ)
     → IsEndedWithRoom brief s old place from f → Notes old noted place from f
     → noted.waiting.list.items ≡ taken.waiting.list.items ++ option_to_list o → o ≡ Some (opens.Nest letter outer)

@@ -1,12 +1,6 @@
 -- Bounds of a `dyn` whose text is known.
 use Rattle.std.proofs.Common.{◌≡◌, refl, ap, sym, subst, ◌∙◌, ℕ, List, [], ◌++◌, true, false, arith, codes, length-append, append-nil, Some, Bool}
-use Rattle.sym_print.specs.Unshared.{done, text_of}
-use Rattle.sym_print.specs.Building.{◌then◌, ◌also◌, ◌perhaps◌}
-use Rattle.rust_tree.specs.Symbol.{Path, Bounds, crate_root, nested, generic, inherent_impl, trait_impl, trait_definition, more_bounds, no_bindings, no_bounds, dyn}
-use Rattle.rust_tree.specs.Need.{need}
-use Rattle.rust_tree.specs.Shown.{path_parts, bounds_from}
-use Rattle.rust_direct.specs.Prints.{detail_by, IsWrittenAs, PathPrints, TypePrints, text_of_some, cost_of_some}
-use Rattle.rust_direct.specs.Bounds.{BoundsBegin}
+use Rattle.rust_direct.proofs.Basics.{done, text_of, ◌then◌, ◌also◌, ◌perhaps◌, Path, Bounds, crate_root, nested, generic, inherent_impl, trait_impl, trait_definition, more_bounds, no_bindings, no_bounds, dyn, need, path_parts, bounds_from, detail_by, IsWrittenAs, PathPrints, TypePrints, text_of_some, cost_of_some, BoundsBegin}
 use Rattle.rust_direct.proofs.WrittenTexts.{perhaps-text, written-plain, written-after, one-written, after-others}
 use Rattle.rust_direct.proofs.PrintedPaths.{then-cost, perhaps-cost}
 

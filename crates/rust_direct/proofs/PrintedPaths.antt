@@ -1,14 +1,7 @@
 -- Paths whose text is known.
 use Rattle.std.proofs.Common.{◌≡◌, refl, ap, sym, subst, ◌∙◌, ℕ, ◌+◌, ◌*◌, ◌≤◌, List, [], ◌∷◌, ◌++◌, length, Bool, true, false, arith, codes, length-append, append-nil, append_assoc, nat_le, Option, Some, None}
 use Rattle.sym_print.specs.declared.detail.Detail.TheVariants.{Full, Brief}
-use Rattle.sym_print.specs.Unshared.{Unshared, done, text_of, cost_of, cost_of_parts}
-use Rattle.sym_print.specs.Building.{◌then◌, ◌also◌, ◌perhaps◌}
-use Rattle.rust_tree.specs.Symbol.{Identifier, Path, Ty, Arguments, crate_root, nested, generic, inherent_impl, trait_impl, trait_definition, no_arguments, type_argument, lifetime_argument}
-use Rattle.rust_tree.specs.Need.{need}
-use Rattle.rust_tree.specs.Shown.{path_parts, type_parts, arguments_from, lifetime_parts, lifetime_text, nested_name}
-use Rattle.rust_direct.specs.Prints.{detail_by, IsWrittenAs, closing, PathPrints, TypePrints, HasRoom, text_of_some, cost_of_some, opening, ArgumentsPrint, ArgumentsBegin}
-use Rattle.sym_direct.specs.Marked.{IsUnmarked}
-use Rattle.sym_direct.proofs.Seen.{unmarked-append}
+use Rattle.rust_direct.proofs.Basics.{Unshared, done, text_of, cost_of, cost_of_parts, ◌then◌, ◌also◌, ◌perhaps◌, Identifier, Path, Ty, Arguments, crate_root, nested, generic, inherent_impl, trait_impl, trait_definition, no_arguments, type_argument, lifetime_argument, need, path_parts, type_parts, arguments_from, lifetime_parts, lifetime_text, nested_name, detail_by, IsWrittenAs, closing, PathPrints, TypePrints, HasRoom, text_of_some, cost_of_some, opening, ArgumentsPrint, ArgumentsBegin, IsUnmarked, unmarked-append}
 use Rattle.rust_direct.proofs.WrittenTexts.{then-text, written-plain, written-append, written-after, written-before, written-as, written-spelled, one-written, after-others, shown-arguments, hidden-arguments}
 
 -- ## Parts
@@ -110,7 +103,7 @@ opening-length false false = omega arith
 pub none-begin : (brief : Bool) → ArgumentsBegin brief (λ a. a) [] []
 none-begin brief = record { plain = refl; text_is = λ rest more p. p; cost = λ rest. omega arith; needs_none = λ rest h. h }
 
--- one more argument, with these parts
+-- one more argument that is made of these parts costs at most four for each byte of its text
 pub one-cost : (separator before own : List ℕ) (u : Unshared) (o : Option Unshared) → 1 + cost_of u ≤ 4 * length own
     → 4 * length before + cost_of (separator then u also o perhaps done) ≤ 4 * length (before ++ separator ++ own) + cost_of_some o
 one-cost separator before own u o e = omega (
@@ -249,7 +242,7 @@ implemented brief b c l m p q =
     (written-append brief b (codes " as " ++ (c ++ codes ">")) l (codes " as " ++ (m ++ codes ">")) p
     (written-after brief (codes " as ") (c ++ codes ">") (m ++ codes ">") refl (written-before brief c m (codes ">") refl q))))
 
--- An impl of a trait prints the type and the trait, and so does a trait as a type implements it.
+-- An impl of a trait prints the type and the trait, as does a trait that a type implements.
 pub trait-prints : (brief : Bool) (value : Bool) (count : ℕ) (p : Path) (t : Ty) (q : Path) (bytes own : List ℕ) → need p ≡ 0 → TypePrints brief t bytes
     → PathPrints brief false q own → PathPrints brief value (trait_impl count p t q) ((codes "<" ++ bytes ++ codes " as ") ++ own ++ codes ">")
 unfolding path_parts need

@@ -1,19 +1,7 @@
 -- Closures, shims and constants whose text is known.
 use Rattle.std.proofs.Common.{◌≡◌, refl, ap, sym, subst, ◌∙◌, ℕ, ◌+◌, ◌≤◌, List, [], ◌∷◌, ◌++◌, length, Bool, true, false, arith, codes, length-append, append-nil, append_assoc, nat_le}
-use Rattle.std.specs.Prelude.{decimal}
-use Rattle.std.proofs.lemmas.Fmt.{decimal_nonempty}
+use Rattle.rust_direct.proofs.Basics.{decimal, decimal_nonempty, Unshared, done, text_of, cost_of, cost_of_parts, ◌then◌, ◌also◌, Identifier, Path, nested, integer, boolean, placeholder, constant_argument, Arguments, Constant, need, path_parts, constant_parts, arguments_from, namespace_text, name_behind, nested_name, greatest_u64, detail_by, IsWrittenAs, Spells, text_of_some, PathPrints, ArgumentsBegin, behind_colon, special_text, sign_text, IsUnmarked, unmarked-append}
 use Rattle.sym_core.specs.Printed.{signed_text}
-use Rattle.sym_print.specs.Unshared.{Unshared, done, text_of, cost_of, cost_of_parts}
-use Rattle.sym_print.specs.Building.{◌then◌, ◌also◌}
-use Rattle.rust_tree.specs.Symbol.{Identifier, Path, nested, integer, boolean, placeholder, constant_argument, Arguments, Constant}
-use Rattle.rust_tree.specs.Need.{need}
-use Rattle.rust_tree.specs.Shown.{path_parts, constant_parts, arguments_from, namespace_text, name_behind, nested_name}
-use Rattle.rust_grammar.specs.Unfold.{greatest_u64}
-use Rattle.rust_direct.specs.Prints.{detail_by, IsWrittenAs, Spells, text_of_some, PathPrints, ArgumentsBegin}
-use Rattle.rust_direct.specs.Specials.{behind_colon, special_text}
-use Rattle.rust_direct.specs.Constants.{sign_text}
-use Rattle.sym_direct.specs.Marked.{IsUnmarked}
-use Rattle.sym_direct.proofs.Seen.{unmarked-append}
 use Rattle.rust_direct.proofs.WrittenTexts.{then-text, written-before, written-spelled, one-written, after-others, decimal-unmarked}
 use Rattle.rust_direct.proofs.PrintedPaths.{then-cost, one-cost}
 

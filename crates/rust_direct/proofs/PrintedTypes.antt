@@ -1,12 +1,6 @@
 -- Types whose text is known.
 use Rattle.std.proofs.Common.{refl, ap, sym, subst, ◌∙◌, ℕ, ◌≤◌, List, [], ◌++◌, length, false, arith, codes, length-append, append-nil, append_assoc, Option, Bool}
-use Rattle.sym_print.specs.Unshared.{Unshared, done, text_of}
-use Rattle.sym_print.specs.Building.{◌then◌, ◌also◌, ◌perhaps◌}
-use Rattle.rust_tree.specs.Symbol.{Path, Ty, Tys, Constant, basic, path_type, array, slice, tuple, shared_reference, mutable_reference, const_pointer, mut_pointer, no_types, more_types}
-use Rattle.rust_tree.specs.Need.{need}
-use Rattle.rust_tree.specs.Shown.{path_parts, type_parts, types_from, constant_parts, closing_tuple, basic_text}
-use Rattle.rust_direct.specs.Prints.{detail_by, IsWrittenAs, Spells, PathPrints, TypePrints, TypesBegin, text_of_some}
-use Rattle.sym_direct.specs.Marked.{IsUnmarked}
+use Rattle.rust_direct.proofs.Basics.{Unshared, done, text_of, ◌then◌, ◌also◌, ◌perhaps◌, Path, Ty, Tys, Constant, basic, path_type, array, slice, tuple, shared_reference, mutable_reference, const_pointer, mut_pointer, no_types, more_types, need, path_parts, type_parts, types_from, constant_parts, closing_tuple, basic_text, detail_by, IsWrittenAs, Spells, PathPrints, TypePrints, TypesBegin, text_of_some, IsUnmarked}
 use Rattle.rust_direct.proofs.WrittenTexts.{then-text, perhaps-text, written-plain, written-append, written-after, written-before, written-spelled, one-written, after-others, basic-unmarked}
 use Rattle.rust_direct.proofs.PrintedPaths.{then-cost, perhaps-cost}
 

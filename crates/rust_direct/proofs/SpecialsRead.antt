@@ -1,24 +1,11 @@
 -- Closures and shims that were read and written.
-use Rattle.std.proofs.Common.{◌<◌, ◌≤◌, ◌^◌, inl, inr, arith, ◌≡◌, ℕ, List, ◌++◌, true, false, ap, subst, ◌∙◌, append_assoc, codes, nat_le, Bool}
-use Rattle.std.specs.Prelude.{decimal}
-use Rattle.std.proofs.lemmas.Bool.{false≢true}
+use Rattle.rust_direct.proofs.Basics.{◌<◌, ◌≤◌, ◌^◌, inl, inr, arith, ◌≡◌, ℕ, List, ◌++◌, true, false, ap, subst, ◌∙◌, append_assoc, codes, nat_le, Bool, decimal, false≢true, namespace_text, Production, a_path, Forms, Direct, Comes, within, behind, IsNameAt, IsDisambiguatorAt, identifier, PathHas, is_path, Writes, behind_colon, special_text, Receives, IsEnded, IsUnmarked}
 use Rattle.rust_tree.specs.Symbol as tree
-use Rattle.rust_tree.specs.Shown.{namespace_text}
-use Rattle.rust_grammar.specs.declared.production.Production.{Production}
-use Rattle.rust_grammar.specs.Value.{a_path}
-use Rattle.rust_direct.specs.declared.open.Forms.{Forms}
 use Rattle.rust_direct.specs.declared.open.Forms.TheVariants as forms
 use Rattle.rust_direct.specs.declared.open.Open.TheVariants as opens
-use Rattle.rust_direct.specs.declared.direct.Direct.{Direct}
-use Rattle.rust_direct.specs.Holes.{Comes, within, behind, IsNameAt, IsDisambiguatorAt, identifier}
-use Rattle.rust_direct.specs.PrintsInForm.{PathHas, is_path}
-use Rattle.rust_direct.specs.Written.{Writes}
-use Rattle.rust_direct.specs.Specials.{behind_colon, special_text}
-use Rattle.rust_direct.specs.Awaits.{Receives, IsEnded}
 use Rattle.rust_direct.proofs.Kept.{keeps-written}
 use Rattle.rust_direct.proofs.Moves.{identifier-comes}
 use Rattle.rust_direct.proofs.PathsRead.{path-held, path-says, stands-written}
-use Rattle.sym_direct.specs.Marked.{IsUnmarked}
 use Rattle.rust_direct.proofs.WrittenTexts.{name-unmarked, namespace-unmarked, special-unmarked}
 use Rattle.rust_direct.proofs.PrintedSpecials.{special-prints}
 

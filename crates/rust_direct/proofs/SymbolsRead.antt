@@ -1,30 +1,9 @@
 -- Symbols from their beginning to their end, and their answers.
-use Rattle.std.proofs.Common.{◌≡◌, ℕ, ◌+◌, ◌-◌, ◌/◌, ◌≤◌, List, [], ◌∷◌, ◌++◌, length, take, drop, reverse, Bool, true, false, not, Ok, refl, ap, sym, subst, ◌∙◌, arith, append_assoc, append-nil, codes, cond}
-use Rattle.std.specs.Prelude.{replicate}
-use Rattle.std.proofs.lemmas.List.{length-append, length-drop, length-replicate, take_rest}
-use Rattle.sym_print.specs.Unshared.{text_of}
+use Rattle.rust_direct.proofs.Basics.{◌≡◌, ℕ, ◌+◌, ◌-◌, ◌/◌, ◌≤◌, List, [], ◌∷◌, ◌++◌, length, take, drop, reverse, Bool, true, false, not, Ok, refl, ap, sym, subst, ◌∙◌, arith, append_assoc, append-nil, codes, cond, replicate, length-append, length-drop, length-replicate, take_rest, text_of, shaped, answer_of_symbol, StandsAt, symbol_parts, path_parts, Production, v0_mangled, IsAnswer, at_first, Forms, Direct, Comes, within, path, other_path, IsSuffix, EndsSymbol, Option, Some, None, OnSome, visible, IsUnmarked, unmarked-append, detail_by, IsWrittenAs, PathPrints, has_form, is_path, Writes, Stands, IsWriting, IsWhole, IsShown, HasRooms, parked_of, IsFresh, Receives, IsSymbolEnded}
 use Rattle.sym_print.proofs.Answering.{text_within-ok}
-use Rattle.sym_demangle.specs.Mangled.{shaped, answer_of_symbol}
-use Rattle.sym_direct.specs.Holes.{StandsAt}
 use Rattle.rust_tree.specs.Symbol as tree
-use Rattle.rust_tree.specs.Shown.{symbol_parts, path_parts}
-use Rattle.rust_grammar.specs.declared.production.Production.{Production}
-use Rattle.rust_grammar.specs.Mangled.{v0_mangled, IsAnswer}
-use Rattle.rust_grammar.specs.Unfold.{at_first}
-use Rattle.rust_direct.specs.declared.open.Forms.{Forms}
 use Rattle.rust_direct.specs.declared.open.Open.TheVariants as opens
 use Rattle.rust_direct.specs.declared.open.Step.TheVariants as steps
-use Rattle.rust_direct.specs.declared.direct.Direct.{Direct}
-use Rattle.rust_direct.specs.Holes.{Comes, within, path, other_path, IsSuffix, EndsSymbol}
-use Rattle.std.specs.Prelude.{Option, Some, None}
-use Rattle.std.specs.Option.{OnSome}
-use Rattle.sym_direct.specs.Marked.{visible, IsUnmarked}
-use Rattle.sym_direct.proofs.Seen.{unmarked-append}
-use Rattle.rust_direct.specs.Prints.{detail_by, IsWrittenAs, PathPrints}
-use Rattle.rust_direct.specs.PrintsInForm.{has_form, is_path}
-use Rattle.rust_direct.specs.Written.{Writes}
-use Rattle.rust_direct.specs.WriterInvariant.{Stands, IsWriting, IsWhole, IsShown, HasRooms, parked_of}
-use Rattle.rust_direct.specs.Awaits.{IsFresh, Receives, IsSymbolEnded}
 use Rattle.rust_direct.proofs.Kept.{keeps-written, keeps-turned, none-noted}
 use Rattle.rust_direct.proofs.WrittenTexts.{written-before, text-seen, suffix-unmarked}
 use Rattle.rust_direct.proofs.MovesOfSymbols.{symbol-starts}
@@ -40,11 +19,11 @@ shown-answer brief s text limit size shown short =
     (sym (text_within-ok limit parts text (sym shown.text_is) (omega (arith, shown.cost, short)))
     ∙ ap (λ r. answer_of_symbol v0_mangled (detail_by brief) limit r) shown.stands.3)
 
--- All of the written bytes are shown where arguments are,
+-- If arguments are shown, all of the written bytes are shown.
 pub whole-shown : (brief : Bool) (s bytes : List ℕ) → brief ≡ false → IsWhole brief s bytes → IsShown brief s (length bytes) bytes
 whole-shown brief s bytes is p = record { whole = p.whole; stands = p.stands; text_is = p.text_is.whole is; cost = p.cost }
 
--- and only their visible part is shown where arguments aren't.
+-- If arguments aren't shown, only the visible part of the written bytes is shown.
 pub brief-shown : (brief : Bool) (s old new : List ℕ) → brief ≡ true → IsWhole brief s old → new ≡ visible 0 old → IsShown brief s (length old) new
 brief-shown brief s old new is p left =
     record { whole = p.whole; stands = p.stands; text_is = text-seen brief _ old is p.text_is ∙ sym left; cost = p.cost }
@@ -56,7 +35,7 @@ left-shown (Some x) brief s old new is p left = brief-shown brief s old new is p
 
 -- ## The beginning
 
--- the lists have the rooms that they were given, and a number for each byte
+-- the lists have the rooms that they were given, and there is a number for each byte
 rooms-begun : (s : List ℕ) (old new : Direct) (n : ℕ) → new.text ≡ old.text → new.aside ≡ old.aside → new.notes ≡ old.notes
     → new.numbers.items ≡ replicate n 0 → new.waiting.room ≡ old.waiting.room → n ≤ length s → HasRooms s old → HasRooms s new
 rooms-begun s old new n text aside notes numbers waiting few p =

@@ -1,18 +1,9 @@
 -- Impls of traits, and traits as a type implements them, that were read and written.
-use Rattle.std.proofs.Common.{◌≡◌, ℕ, ◌+◌, List, [], ◌∷◌, ◌++◌, length, reverse, Bool, true, false, not, refl, ap, sym, subst, ◌∙◌, codes, cond}
-use Rattle.sym_direct.specs.Holes.{StandsAt}
+use Rattle.rust_direct.proofs.Basics.{◌≡◌, ℕ, ◌+◌, List, [], ◌∷◌, ◌++◌, length, reverse, Bool, true, false, not, refl, ap, sym, subst, ◌∙◌, codes, cond, StandsAt, a_path, Forms, Direct, Comes, within, path, type, IsDisambiguatorAt, PathHas, is_type, is_path, has_form, Writes, Pushes, Opens, Stands, IsWriting, parked_of, AwaitsPath, AwaitsTraitType, Receives, IsEnded}
 use Rattle.rust_tree.specs.Symbol as tree
-use Rattle.rust_grammar.specs.Value.{a_path}
-use Rattle.rust_direct.specs.declared.open.Forms.{Forms}
 use Rattle.rust_direct.specs.declared.open.Forms.TheVariants as forms
 use Rattle.rust_direct.specs.declared.open.Open.TheVariants as opens
 use Rattle.rust_direct.specs.declared.open.Step.TheVariants as steps
-use Rattle.rust_direct.specs.declared.direct.Direct.{Direct}
-use Rattle.rust_direct.specs.Holes.{Comes, within, path, type, IsDisambiguatorAt}
-use Rattle.rust_direct.specs.PrintsInForm.{PathHas, is_type, is_path, has_form}
-use Rattle.rust_direct.specs.Written.{Writes, Pushes, Opens}
-use Rattle.rust_direct.specs.WriterInvariant.{Stands, IsWriting, parked_of}
-use Rattle.rust_direct.specs.Awaits.{AwaitsPath, AwaitsTraitType, Receives, IsEnded}
 use Rattle.rust_direct.proofs.Kept.{keeps-written, keeps-turned}
 use Rattle.rust_direct.proofs.MovesOfTypes.{trait-opens, definition-opens}
 use Rattle.rust_direct.proofs.PrintedPaths.{trait-prints, definition-prints}
@@ -23,7 +14,7 @@ use Rattle.rust_direct.proofs.Opened.{keeps-opened, stands-opened, wrapped}
 
 -- ## Impls
 
--- the path of an impl of a trait is expected, which isn't shown
+-- the path of an impl of a trait, which isn't shown, is expected
 pub trait-begun : (brief : Bool) (s : List ℕ) (old new : Direct) (count end : ℕ) (plain : Bool) → AwaitsPath brief s old → StandsAt s old.at (88 ∷ [])
     → IsDisambiguatorAt s (old.at + 1) count end → old.is_aside ≡ false
     → new.waiting.list.items ≡ old.waiting.list.items ++ opens.TraitImpl old.at ∷ [] → new.waiting.room ≡ old.waiting.room

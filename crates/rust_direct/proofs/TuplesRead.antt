@@ -1,20 +1,9 @@
 -- Tuples that were read and written.
-use Rattle.std.proofs.Common.{◌≡◌, ℕ, ◌+◌, List, [], ◌∷◌, ◌++◌, length, Bool, true, false, refl, ap, sym, subst, ◌∙◌, append_assoc, codes}
-use Rattle.sym_direct.specs.Holes.{StandsAt}
+use Rattle.rust_direct.proofs.Basics.{◌≡◌, ℕ, ◌+◌, List, [], ◌∷◌, ◌++◌, length, Bool, true, false, refl, ap, sym, subst, ◌∙◌, append_assoc, codes, StandsAt, Production, a_type, Forms, Direct, within, type, TypePrints, Holds, is_type, Writes, Pushes, Opens, Stands, IsWriting, TypesCount, tuple_end, parked_of, Awaits, Receives, IsEnded}
 use Rattle.rust_tree.specs.Symbol as tree
-use Rattle.rust_grammar.specs.declared.production.Production.{Production}
-use Rattle.rust_grammar.specs.Value.{a_type}
-use Rattle.rust_direct.specs.declared.open.Forms.{Forms}
 use Rattle.rust_direct.specs.declared.open.Forms.TheVariants as forms
 use Rattle.rust_direct.specs.declared.open.Open.TheVariants as opens
 use Rattle.rust_direct.specs.declared.open.Step.TheVariants as steps
-use Rattle.rust_direct.specs.declared.direct.Direct.{Direct}
-use Rattle.rust_direct.specs.Holes.{within, type}
-use Rattle.rust_direct.specs.Prints.{TypePrints}
-use Rattle.rust_direct.specs.PrintsInForm.{Holds, is_type}
-use Rattle.rust_direct.specs.Written.{Writes, Pushes, Opens}
-use Rattle.rust_direct.specs.WriterInvariant.{Stands, IsWriting, TypesCount, tuple_end, parked_of}
-use Rattle.rust_direct.specs.Awaits.{Awaits, Receives, IsEnded}
 use Rattle.rust_direct.proofs.Kept.{keeps-written}
 use Rattle.rust_direct.proofs.MovesOfArguments.{more_awaits, tuple-opens, element-opens, element-goes-on, types-close}
 use Rattle.rust_direct.proofs.PrintedTypes.{no-types-begin, types-begin, tuple-prints}

@@ -1,21 +1,7 @@
--- Types that were read and written: those of one type, and back references.
-use Rattle.std.proofs.Common.{◌≡◌, ℕ, suc, ◌+◌, List, [], ◌∷◌, length, slice_get, true, Some, refl, ap, subst, ◌∙◌, Bool}
-use Rattle.std.proofs.lemmas.Bool.{false≢true}
-use Rattle.sym_direct.specs.Holes.{StandsAt}
+-- Types that a back reference denotes, and that are written once more.
+use Rattle.rust_direct.proofs.Basics.{◌≡◌, ℕ, suc, ◌+◌, List, [], ◌∷◌, length, slice_get, true, Some, refl, ap, subst, ◌∙◌, Bool, false≢true, StandsAt, TYPE, Value, a_path, a_type, as_path, as_type, Forms, Note, Direct, Expects, Wanted, path, other_path, type, is_for_type, kind_of, IsNumberAt, TypePrints, Says, Holds, is_type, home, Writes, piece, Awaits, IsEnded}
 use Rattle.rust_tree.specs.Symbol as tree
-use Rattle.rust_grammar.specs.declared.kind.TheConstants.{TYPE}
-use Rattle.rust_grammar.specs.Value.{Value, a_path, a_type}
-use Rattle.rust_grammar.specs.Unfold.{as_path, as_type}
-use Rattle.rust_direct.specs.declared.open.Forms.{Forms}
 use Rattle.rust_direct.specs.declared.open.Forms.TheVariants as forms
-use Rattle.rust_direct.specs.declared.open.Note.{Note}
-use Rattle.rust_direct.specs.declared.direct.Direct.{Direct}
-use Rattle.rust_direct.specs.Holes.{Expects, Wanted, path, other_path, type, is_for_type, kind_of, IsNumberAt}
-use Rattle.rust_direct.specs.Prints.{TypePrints}
-use Rattle.rust_direct.specs.PrintsInForm.{Says, Holds, is_type}
-use Rattle.rust_direct.specs.Notes.{home}
-use Rattle.rust_direct.specs.Written.{Writes, piece}
-use Rattle.rust_direct.specs.Awaits.{Awaits, IsEnded}
 use Rattle.rust_direct.proofs.Kept.{keeps-written, piece-found}
 use Rattle.rust_direct.proofs.MovesOfTypes.{type-referred}
 use Rattle.rust_direct.proofs.PrintedTypes.{path-is-type}
@@ -39,7 +25,7 @@ type-said brief forms.Plain v bytes is h = (tree.path_type h.0, path-as-type v h
 type-said brief forms.Typed v bytes is h = (h.0, h.1, h.2, (h.0, refl, h.2))
 type-said brief forms.Unnamed v bytes is h = absurd (false≢true is)
 
--- a plain type is expected
+-- a path that may be a type is expected as a type
 as-wanted : (w : Wanted) → is_for_type w ≡ true → kind_of w ≡ TYPE
 as-wanted path e = absurd (false≢true e)
 as-wanted other_path e = absurd (false≢true e)

@@ -1,22 +1,11 @@
--- Types of one type that were read and written.
-use Rattle.std.proofs.Common.{◌≡◌, ℕ, ◌+◌, List, [], ◌∷◌, ◌++◌, length, reverse, true, refl, ap, sym, subst, ◌∙◌, append-nil, codes, Bool}
-use Rattle.sym_direct.specs.Holes.{StandsAt}
+-- Types made of one other type that were read and written.
+use Rattle.rust_direct.proofs.Basics.{◌≡◌, ℕ, ◌+◌, List, [], ◌∷◌, ◌++◌, length, reverse, true, refl, ap, sym, subst, ◌∙◌, append-nil, codes, Bool, StandsAt, Value, a_type, Forms, Open, Direct, within, type, TypeGoesOn, IsErasedAt, TypePrints, Holds, is_type, Writes, Opens, Stands, IsWriting, WrapHolds, closing_text, closing_forms, parked_of, Awaits, Receives, IsEnded}
 use Rattle.rust_tree.specs.Symbol as tree
-use Rattle.rust_grammar.specs.Value.{Value, a_type}
-use Rattle.rust_direct.specs.declared.open.Forms.{Forms}
 use Rattle.rust_direct.specs.declared.open.Forms.TheVariants as forms
 use Rattle.rust_direct.specs.declared.open.Closing.{Closing}
 use Rattle.rust_direct.specs.declared.open.Closing.TheVariants as closings
-use Rattle.rust_direct.specs.declared.open.Open.{Open}
 use Rattle.rust_direct.specs.declared.open.Open.TheVariants as opens
 use Rattle.rust_direct.specs.declared.open.Step.TheVariants as steps
-use Rattle.rust_direct.specs.declared.direct.Direct.{Direct}
-use Rattle.rust_direct.specs.Holes.{within, type, TypeGoesOn, IsErasedAt}
-use Rattle.rust_direct.specs.Prints.{TypePrints}
-use Rattle.rust_direct.specs.PrintsInForm.{Holds, is_type}
-use Rattle.rust_direct.specs.Written.{Writes, Opens}
-use Rattle.rust_direct.specs.WriterInvariant.{Stands, IsWriting, WrapHolds, closing_text, closing_forms, parked_of}
-use Rattle.rust_direct.specs.Awaits.{Awaits, Receives, IsEnded}
 use Rattle.rust_direct.proofs.Kept.{keeps-written}
 use Rattle.rust_direct.proofs.MovesOfTypes.{shared-opens, mutable-opens, const-opens, mut-opens, slice-opens}
 use Rattle.rust_direct.proofs.PrintedTypes.{shared-prints, mutable-prints, const-prints, mut-prints, slice-prints}
@@ -98,7 +87,7 @@ slice-begun brief s old new behind entry a letter is_next is opened =
     (slice-opens s a.awaited.os old.at a.state (type-expected brief s old a) letter))
     (λ t bytes prints. (tree.slice t, refl, slice-prints brief t bytes prints)) is opened
 
--- ## The ends of such types
+-- ## The ends of types made of one other type
 
 typed-read : (brief : Bool) (s : List ℕ) (old middle : Direct) (place from here : ℕ) (f : Forms) (closing : Closing) → closing_forms closing ≡ forms.Typed
     → Receives brief s old (opens.Wrap place from closing) here f → is_type f ≡ true → Writes old middle (closing_text closing)

@@ -1,19 +1,5 @@
 -- Texts and the bytes that they are written as.
-use Rattle.std.proofs.Common.{◌≡◌, refl, ap, sym, subst, ◌∙◌, ℕ, ◌+◌, ◌≤◌, ◌<◌, ◌^◌, ◌%◌, List, [], ◌∷◌, ◌++◌, Bool, true, false, arith, codes, append-nil, append_assoc, Option, Some, None}
-use Rattle.std.specs.Prelude.{decimal, if◌then◌else◌, ◌==◌}
-use Rattle.std.proofs.lemmas.Bool.{false≢true}
-use Rattle.std.proofs.lemmas.Fmt.{decimal_by_steps}
-use Rattle.sym_core.specs.declared.NameClass.TheVariants.{Rust}
-use Rattle.sym_core.specs.Token.{is_name_byte}
-use Rattle.sym_print.specs.Unshared.{Unshared, done, text_of}
-use Rattle.sym_print.specs.Building.{◌then◌, ◌also◌, ◌perhaps◌}
-use Rattle.sym_direct.specs.Marked.{visible, is_unmarked, IsUnmarked, IsSeenAs}
-use Rattle.sym_direct.proofs.Seen.{more-unmarked, unmarked-append, is-no-mark, each-unmarked, test-unmarked, unmarked-hidden, unmarked-seen, hidden-append, seen-append, stretch-hidden, stretch-seen}
-use Rattle.rust_tree.specs.BasicTypes.{basic_texts}
-use Rattle.rust_tree.specs.Shown.{text_at, basic_text, namespace_text, generic_parts}
-use Rattle.rust_direct.specs.Holes.{IsNameAt, IsSuffix, is_suffix_byte}
-use Rattle.rust_direct.specs.Prints.{IsWrittenAs, opening, closing, text_of_some}
-use Rattle.rust_direct.specs.Specials.{behind_colon, special_text}
+use Rattle.rust_direct.proofs.Basics.{◌≡◌, refl, ap, sym, subst, ◌∙◌, ℕ, ◌+◌, ◌≤◌, ◌<◌, ◌^◌, ◌%◌, List, [], ◌∷◌, ◌++◌, Bool, true, false, arith, codes, append-nil, append_assoc, Option, Some, None, decimal, if◌then◌else◌, ◌==◌, false≢true, decimal_by_steps, Rust, is_name_byte, Unshared, done, text_of, ◌then◌, ◌also◌, ◌perhaps◌, visible, is_unmarked, IsUnmarked, IsSeenAs, more-unmarked, unmarked-append, is-no-mark, each-unmarked, test-unmarked, unmarked-hidden, unmarked-seen, hidden-append, seen-append, stretch-hidden, stretch-seen, basic_texts, text_at, basic_text, namespace_text, generic_parts, IsNameAt, IsSuffix, is_suffix_byte, IsWrittenAs, opening, closing, text_of_some, behind_colon, special_text}
 
 -- ## Parts
 
@@ -48,14 +34,14 @@ written-after brief own y ys plain q = written-append brief own y own ys (writte
 pub written-before : (brief : Bool) (x xs own : List ℕ) → IsUnmarked own → IsWrittenAs brief x xs → IsWrittenAs brief (x ++ own) (xs ++ own)
 written-before brief x xs own plain p = written-append brief x own xs own p (written-plain brief own plain)
 
--- the same text, written as the same bytes
+-- a text that is equal is written as bytes that are equal
 pub written-as : (brief : Bool) (x y xs ys : List ℕ) → x ≡ y → xs ≡ ys → IsWrittenAs brief x xs → IsWrittenAs brief y ys
 written-as brief x y xs ys e f p = subst (λ l. IsWrittenAs brief y l) f (subst (λ l. IsWrittenAs brief l xs) e p)
 
 pub written-spelled : (brief : Bool) (text bytes : List ℕ) → text ≡ bytes → IsUnmarked bytes → IsWrittenAs brief text bytes
 written-spelled brief text bytes e plain = subst (λ l. IsWrittenAs brief l bytes) (sym e) (written-plain brief bytes plain)
 
--- the visible part of the bytes of a whole text is the text
+-- if arguments aren't shown, a text is the visible part of the bytes that it is written as
 pub text-seen : (brief : Bool) (text bytes : List ℕ) → brief ≡ true → IsWrittenAs brief text bytes → text ≡ visible 0 bytes
 unfolding visible
 text-seen brief text bytes is p = sym (ap (visible 0) (sym (append-nil bytes)) ∙ p.seen is [] ∙ append-nil text)
@@ -72,7 +58,7 @@ one-written brief separator own more u o plain p q =
     ∙ ap (λ l. separator ++ (text_of u ++ l)) (perhaps-text o done ∙ append-nil (text_of_some o))))
     (written-after brief separator (text_of u ++ text_of_some o) (own ++ more) plain (written-append brief (text_of u) (text_of_some o) own more p q))
 
--- one more element, with those before it
+-- one more element after those before it, as one text
 pub after-others : (before separator own more : List ℕ) → before ++ (separator ++ (own ++ more)) ≡ (before ++ separator ++ own) ++ more
 after-others before separator own more = sym (append_assoc (before ++ separator) own more ∙ append_assoc before separator (own ++ more))
 

@@ -10,7 +10,7 @@ use Rattle.rust_direct.specs.Prints.{PathPrints, TypePrints}
 use Rattle.rust_direct.specs.PrintsInForm.{Says, Holds, PathHas, HaveRoom}
 use Rattle.rust_direct.specs.WriterInvariant.{Stands, TraitPrints, IsAwaited, IsRead, IsListing, separator_of, HasRooms, Keeps, parked_of}
 
--- nothing is written yet, and no list has too much room
+-- nothing is written yet, and no list has room for more than a symbol may need
 pub record IsFresh (s : List ℕ) (w : Direct) : Type 0 where
   pub text : w.text.list.items ≡ []
   pub aside : w.aside.list.items ≡ []
@@ -50,7 +50,7 @@ pub record IsEnded (brief : Bool) (s : List ℕ) (w : Direct) (place from : ℕ)
   pub comes : Comes s os v w.at (with_ended place v before)
   pub stands : Stands brief s (reverse w.waiting.list.items) os front (parked_of w)
 
--- A path that began at a place is read and not noted yet. The bound has room for one more path that prints like it.
+-- A path that began at a place is read and not noted yet. The bound on its cost has room for one more path that prints the same.
 pub record IsEndedWithRoom (brief : Bool) (s : List ℕ) (w : Direct) (place from : ℕ) (forms : Forms) : Type 0 where
   pub ended : IsEnded brief s w place from forms forms
   pub p : tree.Path
@@ -58,7 +58,7 @@ pub record IsEndedWithRoom (brief : Bool) (s : List ℕ) (w : Direct) (place fro
   pub has : PathHas brief forms p ended.bytes
   pub room : HaveRoom brief forms p ended.bytes
 
--- The path of an impl is read, which isn't shown. The type of the impl is expected, in angles.
+-- The path of an impl, which isn't shown, is read. The impl's type is expected, in angles.
 pub record AwaitsImplType (brief : Bool) (s : List ℕ) (w : Direct) (place : ℕ) : Type 0 where
   pub state : State
   pub keeps : Keeps brief s w state
@@ -68,7 +68,7 @@ pub record AwaitsImplType (brief : Bool) (s : List ℕ) (w : Direct) (place : �
   pub goes : TypeGoesOn s outer place (λ t. a_path (made t)) w.at state
   pub stands : Stands brief s (reverse w.waiting.list.items) outer w.text.list.items (parked_of w)
 
--- The path of an impl of a trait is read, which isn't shown. The type is expected, and after it the trait.
+-- The path of an impl of a trait, which isn't shown, is read. The impl's type is expected, and after it the trait.
 pub record AwaitsTraitType (brief : Bool) (s : List ℕ) (w : Direct) (place : ℕ) : Type 0 where
   pub state : State
   pub keeps : Keeps brief s w state

@@ -16,7 +16,7 @@ use Rattle.rust_direct.specs.Holes.{Opened, Comes, Expects, Ends, IsType, within
 use Rattle.rust_direct.specs.Prints.{Spells}
 use Rattle.rust_direct.specs.Written.{Writes}
 
--- one of these letters
+-- a letter is one of these
 abbrev pub one_of : List ℕ → ℕ → Bool
 one_of [] letter = false
 one_of (l ∷ ls) letter = if l == letter then true else one_of ls letter
@@ -32,7 +32,7 @@ is_unsigned letter = one_of unsigned_letters letter
 abbrev pub sign_text : (minus : Bool) → List ℕ
 sign_text minus = if minus then 45 ∷ [] else []
 
--- a number in base 16 is at the place; it has this value, of at most 64 bits, and this is the place after it
+-- a number in base 16 is at the place, its value is `n`, of at most 64 bits, and `end` is the place after it
 pub record IsHexAt (s : List ℕ) (at : ℕ) (n : ℕ) (end : ℕ) : Type 0 where
   pub token : Token
   pub is_number : IsNumberToken Hex token
@@ -41,7 +41,7 @@ pub record IsHexAt (s : List ℕ) (at : ℕ) (n : ℕ) (end : ℕ) : Type 0 wher
   pub stands : StandsAt s at (bytes_of token)
   pub ends : end ≡ at + length (bytes_of token)
 
--- A constant expected at the place is this one, and this is the place after it.
+-- A constant that is expected at the place is this one, and `end` is the place after it.
 abbrev pub IsConstantAt : (s : List ℕ) → (at : ℕ) → tree.Constant → (end : ℕ) → Type 0
 IsConstantAt s at c end =
     (os : List Opened) (st : State) → Expects s CONSTANT os at st → Comes s os (a_constant c) end (with_ended at (a_constant c) st)

@@ -25,7 +25,7 @@ rust_language = record { table = v0_table; reading = λ s. v0 s; first_context =
 abbrev pub Opened : Type 0
 Opened = direct.Opened Value State ℕ
 
--- the innermost open rule has its next values: one or none
+-- the innermost open rule gets its next values: one or none
 abbrev pub ComesAll : (s : List ℕ) → List Opened → List Value → (at : ℕ) → State → Type 0
 ComesAll s os vs at state = direct.Comes rust_language s os vs at state
 
@@ -52,7 +52,7 @@ with_ended place v state = record { ended = record { place = place; value = v } 
 
 -- ## What is expected
 
--- a path, the path of the instantiating crate, or a type
+-- what may be expected: a path, the path of the instantiating crate, or a type
 pub data Wanted : Type 0 where
   path : Wanted
   other_path : Wanted
@@ -69,7 +69,7 @@ is_for_type _ = false
 
 -- ## What is read
 
--- a number in base 62 is at the place, with this value, and this is the place after it
+-- a number in base 62 is at the place, with this value, and `end` is the place after it
 pub record IsNumberAt (s : List ℕ) (at : ℕ) (n : ℕ) (end : ℕ) : Type 0 where
   pub token : Token
   pub is_number : IsNumberToken Base62 token
@@ -77,7 +77,7 @@ pub record IsNumberAt (s : List ℕ) (at : ℕ) (n : ℕ) (end : ℕ) : Type 0 w
   pub stands : StandsAt s at (bytes_of token)
   pub ends : end ≡ at + length (bytes_of token)
 
--- a name is at the place, and this is the place after it
+-- a name is at the place, and `end` is the place after it
 pub record IsNameAt (s : List ℕ) (at : ℕ) (name : List ℕ) (end : ℕ) : Type 0 where
   pub token : Token
   pub is_name : IsName Rust token
@@ -85,17 +85,17 @@ pub record IsNameAt (s : List ℕ) (at : ℕ) (name : List ℕ) (end : ℕ) : Ty
   pub stands : StandsAt s at (bytes_of token)
   pub ends : end ≡ at + length (bytes_of token)
 
--- a disambiguator is at the place, or none is, which denotes 0; this is the place after it
+-- a disambiguator with this value is at the place, or none is and the value is 0; `end` is the place after it
 abbrev pub IsDisambiguatorAt : (s : List ℕ) → (at count end : ℕ) → Type 0
 IsDisambiguatorAt s at count end =
     ((count ≡ 0) × (end ≡ at))
     ⊎ ((n : ℕ) × StandsAt s at (115 ∷ []) × IsNumberAt s (at + 1) n end × (count ≡ n + 1) × (count ≤ greatest_u64))
 
--- a number in base 62 is at the place, and this is the place after it; the number is less than the greatest of 64 bits
+-- a number in base 62 is at the place, and is less than the greatest of 64 bits; `end` is the place after it
 abbrev pub IsSmallNumberAt : (s : List ℕ) → (at end : ℕ) → Type 0
 IsSmallNumberAt s at end = (n : ℕ) × IsNumberAt s at n end × (n + 1 ≤ greatest_u64)
 
--- a disambiguator is at the place, or none is, and this is the place after it; its number doesn't matter
+-- a disambiguator with any number is at the place, or none is; `end` is the place after it
 abbrev pub HasDisambiguator : (s : List ℕ) → (at end : ℕ) → Type 0
 HasDisambiguator s at end = (count : ℕ) × IsDisambiguatorAt s at count end
 
@@ -116,7 +116,7 @@ abbrev pub erased_bytes : Erased → List ℕ
 erased_bytes unwritten = []
 erased_bytes written = 76 ∷ 95 ∷ []
 
--- an erased lifetime is at the place, or none is, and this is the place after it
+-- an erased lifetime is at the place, or none is; `end` is the place after it
 abbrev pub IsErasedAt : (s : List ℕ) → (at end : ℕ) → Type 0
 IsErasedAt s at end = (e : Erased) × StandsAt s at (erased_bytes e) × (end ≡ at + length (erased_bytes e))
 
@@ -132,7 +132,7 @@ IsSuffix [] = ⊥
 IsSuffix (d ∷ []) = ⊥
 IsSuffix (d ∷ b ∷ bs) = (d ≡ 46) × AllByRecursion (λ c. is_suffix_byte c ≡ true) (b ∷ bs)
 
--- a symbol with this path and this suffix, and any instantiating crate
+-- the symbol has this path and this suffix, and any instantiating crate or none
 abbrev pub IsSymbol : (s : List ℕ) → tree.Path → (suffix : List ℕ) → Type 0
 IsSymbol s p suffix =
     (other : Option tree.Path) × StandsFor v0_mangled s (Ok (record { path = p; instantiating = other; suffix = suffix }))
@@ -166,24 +166,24 @@ Ends s outer place v at st = Comes s outer v at (with_ended place v st)
 abbrev pub IsType : Value → tree.Ty → Type 0
 IsType v t = as_type (Some v) ≡ Some t
 
--- a type that the inner entry gets ends what is made of the type
+-- a type that the inner entry gets is the last part of the outer entry's value, which is made of the type
 abbrev pub TypePasses : (s : List ℕ) → (inner outer : List Opened) → (place : ℕ) → (made : tree.Ty → Value) → Type 0
 TypePasses s inner outer place made =
     (v : Value) (t : tree.Ty) (at : ℕ) (st : State) → IsType v t → Comes s inner v at st → Ends s outer place (made t) at st
 
--- a path that the inner entry gets ends what is made of the path
+-- a path that the inner entry gets is the last part of the outer entry's value, which is made of the path
 abbrev pub PathPasses : (s : List ℕ) → (inner outer : List Opened) → (place : ℕ) → (made : tree.Path → Value) → Type 0
 PathPasses s inner outer place made =
     (p : tree.Path) (at : ℕ) (st : State) → Comes s inner (a_path p) at st → Ends s outer place (made p) at st
 
--- A type is expected, as the last part of what is made of it.
+-- A type is expected, as the last part of a value that is made of it.
 pub record TypeGoesOn (s : List ℕ) (outer : List Opened) (place : ℕ) (made : tree.Ty → Value) (at : ℕ) (st : State) : Type 0 where
   pub inner : List Opened
   pub production : Production
   pub awaits : Expects s TYPE inner at (within production st)
   pub passes : TypePasses s inner outer place made
 
--- A path is expected, as the last part of what is made of it.
+-- A path is expected, as the last part of a value that is made of it.
 pub record PathGoesOn (s : List ℕ) (outer : List Opened) (place : ℕ) (made : tree.Path → Value) (at : ℕ) (st : State) : Type 0 where
   pub inner : List Opened
   pub production : Production

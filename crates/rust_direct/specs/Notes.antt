@@ -5,7 +5,7 @@ use Rattle.rust_grammar.specs.Unfold.{ended_at}
 use Rattle.rust_direct.specs.declared.open.Note.{Note}
 use Rattle.rust_direct.specs.PrintsInForm.{Says}
 
--- The text that holds a note. Hidden text is written aside, and is then the one that is written to.
+-- The text that a note is about: `text` if note and writer are both at the hidden or both at the shown text, otherwise `aside`.
 abbrev pub home : (is_aside : Bool) → (note_is_aside : Bool) → (text aside : List ℕ) → List ℕ
 home true true text aside = text
 home false false text aside = text
@@ -22,7 +22,7 @@ pub record IsNote (brief : Bool) (written : List ℕ) (n : Note) (v : Value) : T
   pub to_is : n.to ≡ length front + length bytes
   pub says : Says brief n.forms v bytes
 
--- what is noted of something that ended and began at a place
+-- something has ended, and the note says where its text is
 abbrev pub NotesEnded : (brief : Bool) (is_aside : Bool) → (text aside : List ℕ) → Note → Option Value → Type 0
 NotesEnded brief is_aside text aside n None = ⊥
 NotesEnded brief is_aside text aside n (Some v) = IsNote brief (home is_aside n.is_aside text aside) n v
@@ -31,7 +31,7 @@ abbrev pub NotedAs : (brief : Bool) (is_aside : Bool) → (text aside : List ℕ
 NotedAs brief is_aside text aside None v = ⊥
 NotedAs brief is_aside text aside (Some n) v = NotesEnded brief is_aside text aside n v
 
--- a place with the number k + 1 has the note k; of a place with 0 nothing is known
+-- a place with the number k + 1 has the note k; nothing is known of a place with the number 0
 abbrev pub IsNumbered : (brief : Bool) (is_aside : Bool) → (text aside : List ℕ) → List Note → Option Value → (number : Option ℕ) → Type 0
 IsNumbered brief is_aside text aside notes v None = Unit {0}
 IsNumbered brief is_aside text aside notes v (Some zero) = Unit {0}

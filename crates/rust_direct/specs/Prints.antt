@@ -13,8 +13,8 @@ abbrev pub detail_by : (brief : Bool) → Detail
 detail_by true = Brief
 detail_by false = Full
 
--- How a text is written as bytes. Where all is shown, they are the text. Otherwise the visible bytes are the text,
--- unless the text is in a stretch that is left out.
+-- How a text is written as bytes. If all is shown, they are the text. Otherwise the visible bytes are the text, unless the text
+-- is in a stretch that is left out.
 pub record IsWrittenAs (brief : Bool) (text bytes : List ℕ) : Type 0 where
   pub whole : brief ≡ false → text ≡ bytes
   pub seen : brief ≡ true → IsSeenAs bytes text
@@ -31,7 +31,7 @@ pub record Spells (parts : Unshared) (bytes : List ℕ) : Type 0 where
   pub plain : IsUnmarked bytes
   pub cost : 1 + cost_of parts ≤ 4 * length bytes
 
--- A path with this text in a form: after a value its arguments follow `::`. The path needs no lifetime that is bound
+-- A path with this text in a form: after a value, the path's arguments follow `::`. The path needs no lifetime that is bound
 -- around it.
 pub record PathPrints (brief : Bool) (value : Bool) (p : Path) (bytes : List ℕ) : Type 0 where
   pub shows : Shows brief (path_parts (detail_by brief) 0 value p) bytes
@@ -48,7 +48,7 @@ pub record TypePrints (brief : Bool) (t : Ty) (bytes : List ℕ) : Type 0 where
 
 -- ## Lists
 
--- what parts that may be missing print and cost
+-- what parts that may be missing print, and what they cost
 abbrev pub text_of_some : Option Unshared → List ℕ
 text_of_some None = []
 text_of_some (Some parts) = text_of parts
@@ -80,7 +80,7 @@ pub record ArgumentsBegin (brief : Bool) (made : Arguments → Arguments) (separ
   pub cost : (rest : Arguments) → cost_of_some (arguments_from (detail_by brief) 0 [] (made rest)) ≤ 4 * length bytes + cost_of_some (arguments_from (detail_by brief) 0 separator rest)
   pub needs_none : (rest : Arguments) → need_of_arguments rest ≡ 0 → need_of_arguments (made rest) ≡ 0
 
--- the same for the types of a tuple
+-- likewise for the types of a tuple
 pub record TypesBegin (brief : Bool) (made : Tys → Tys) (separator bytes : List ℕ) : Type 0 where
   pub plain : IsUnmarked separator
   pub text_is : (rest : Tys) (more : List ℕ) → IsWrittenAs brief (text_of_some (types_from (detail_by brief) 0 separator rest)) more

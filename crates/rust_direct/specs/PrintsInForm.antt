@@ -7,21 +7,21 @@ use Rattle.rust_direct.specs.declared.open.Forms.{Forms}
 use Rattle.rust_direct.specs.declared.open.Forms.TheVariants as forms
 use Rattle.rust_direct.specs.Prints.{PathPrints, TypePrints, HasRoom}
 
--- A path with this text in the forms that are named.
+-- A path with this text in each of these forms.
 abbrev pub PathHas : (brief : Bool) → Forms → Path → (bytes : List ℕ) → Type 0
 PathHas brief forms.Alike p bytes = PathPrints brief true p bytes × PathPrints brief false p bytes
 PathHas brief forms.Valued p bytes = PathPrints brief true p bytes
 PathHas brief forms.Plain p bytes = PathPrints brief false p bytes
 PathHas brief _ p bytes = ⊥
 
--- In the forms that are named, one more part without text fits into the bound.
+-- In each of these forms, the bound on the path's cost has room for one more part without text.
 abbrev pub HaveRoom : (brief : Bool) → Forms → Path → (bytes : List ℕ) → Type 0
 HaveRoom brief forms.Alike p bytes = HasRoom brief true p bytes × HasRoom brief false p bytes
 HaveRoom brief forms.Valued p bytes = HasRoom brief true p bytes
 HaveRoom brief forms.Plain p bytes = HasRoom brief false p bytes
 HaveRoom brief _ p bytes = ⊥
 
--- what a reference may rely on for a value that was written in this way
+-- what is known of a value that was written in these forms, to a reference that names it
 abbrev pub Says : (brief : Bool) → Forms → Value → (bytes : List ℕ) → Type 0
 Says brief forms.Typed v bytes = (t : Ty) × (as_type (Some v) ≡ Some t) × TypePrints brief t bytes
 Says brief forms.Unnamed v bytes = Unit {0}

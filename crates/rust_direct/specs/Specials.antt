@@ -6,6 +6,6 @@ abbrev pub behind_colon : (name : List ℕ) → List ℕ
 behind_colon [] = []
 behind_colon (b ∷ bs) = 58 ∷ b ∷ bs
 
--- the text after the parent: the namespace, the name, and the number among those of one name
+-- the text after the parent: the namespace, the name, and the number among those with the same name
 abbrev pub special_text : (namespace name : List ℕ) → (count : ℕ) → List ℕ
 special_text namespace name count = codes "::{" ++ namespace ++ behind_colon name ++ codes "#" ++ decimal count ++ codes "}"

@@ -1,5 +1,5 @@
--- What a writer's lists say while a symbol is read: the open entries wait for what comes next, and what was written is its
--- text.
+-- What a writer's lists say while a symbol is read: the open entries wait for what comes next, and the written bytes are the text
+-- of what was read.
 use Rattle.std.specs.Prelude.{◌≡◌, ℕ, ◌+◌, ◌*◌, ◌≤◌, List, [], ◌∷◌, ◌++◌, length, reverse, Bool, true, false, Ok, codes, cond}
 use Rattle.sym_print.specs.Unshared.{text_of, cost_of}
 use Rattle.sym_demangle.specs.Mangled.{StandsFor}
@@ -46,7 +46,7 @@ ImplPrints brief made =
     (value : Bool) (q : tree.Path) (t : tree.Ty) (bytes : List ℕ) → need q ≡ 0 → TypePrints brief t bytes
     → PathPrints brief value (made q t) (codes "<" ++ bytes ++ codes ">")
 
--- an implemented trait prints the type and the trait
+-- an implemented trait prints the type that implements it, and itself
 abbrev pub TraitPrints : (brief : Bool) → (tree.Ty → tree.Path → tree.Path) → Type 0
 TraitPrints brief made =
     (value : Bool) (t : tree.Ty) (r : tree.Path) (bytes own : List ℕ) → TypePrints brief t bytes → PathPrints brief false r own
@@ -76,9 +76,8 @@ pub record TypesCount (is_first : Bool) (made : tree.Tys → tree.Tys) : Type 0 
 
 -- ## What is open
 
--- The innermost entry accepts a path or a type, after the written text. Where that path or type isn't shown, the shown
--- text is parked. After the path of an impl that isn't shown itself, the impl's own text begins, whatever was written
--- before.
+-- The innermost entry accepts a path or a type, after the written text. If that path or type isn't shown, the shown text is
+-- parked. After the path of an impl that isn't shown itself, the impl's own text begins, after any other text.
 abbrev pub Stands : (brief : Bool) (s : List ℕ) → List Open → List Opened → (text parked : List ℕ) → Type 0
 Stands brief s [] os text parked = ⊥
 Stands brief s (opens.Symbol ∷ rest) os text parked =
@@ -147,7 +146,8 @@ Stands brief s (opens.Array place from ∷ rest) os text parked =
     × ((v : Value) (t : tree.Ty) (at : ℕ) (st : State) → IsType v t → Comes s os v at st → SizeGoesOn s outer place t at st)
     × Stands brief s rest outer front parked
 
--- Nothing hidden is written yet: only paths wait, and the text of each begins with the text that it waits for.
+-- Nothing hidden is written yet: only entries for paths wait, and the text of each begins with that of the path that it waits
+-- for.
 abbrev pub IsUnbegun : List Open → Type 0
 IsUnbegun [] = ⊥
 IsUnbegun (opens.Nest letter place ∷ rest) = IsUnbegun rest

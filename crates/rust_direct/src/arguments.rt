@@ -17,7 +17,7 @@ use crate::showing::Showing;
 use sym_direct::{CLOSES, OPENS, byte_at};
 
 impl Direct {
-    /// The path is read that arguments belong to.
+    /// The path before arguments is read.
     // <path> = "I" <path> {<generic-arg>} "E"
     pub(crate) fn generic_ended<S: Showing>(
         &mut self,
@@ -42,7 +42,7 @@ impl Direct {
         Some(Step::Arguments { is_first: true })
     }
 
-    /// Writes the text before arguments: a mark where they aren't to be shown.
+    /// Writes the text before arguments, or a mark if they aren't to be shown.
     #[inline(always)]
     fn push_opening<S: Showing>(&mut self, is_value: bool) -> Option<()>
         ensures { OnSome result (Writes self.old self.new (opening S.IS_BRIEF is_value)) }
@@ -141,7 +141,7 @@ impl Direct {
         }
     }
 
-    /// A type is read that is an argument.
+    /// An argument that is a type is read.
     // <generic-arg> = <type>
     pub(crate) fn argument_ended<S: Showing>(
         &mut self,

@@ -52,7 +52,7 @@ impl Direct {
         Some(Step::Path { is_value: false })
     }
 
-    /// The E of bounds, and an erased lifetime: another one is given up.
+    /// The E of bounds, and an erased lifetime after it: any other lifetime is given up.
     // <type> = "D" <dyn-bounds> <lifetime>
     fn bounds_ended<S: Showing>(
         &mut self,

@@ -1,4 +1,4 @@
-// Impls, whose paths are read and not shown.
+// Impls: their paths are read and not shown.
 
 ghost use Rattle.std.specs.Prelude.{◌∷◌, []};
 ghost use Rattle.std.specs.Option.{IfSome};
@@ -35,7 +35,7 @@ impl Direct {
         Some(Step::Path { is_value: false })
     }
 
-    /// The path of an impl is read, and its type follows.
+    /// The path of an impl is read, and the impl's type follows.
     // <path> = "M" <impl-path> <type>
     pub(crate) fn impl_ended<S: Showing>(
         &mut self,
@@ -57,7 +57,7 @@ impl Direct {
         self.begin_impl_type::<S>(_s, place)
     }
 
-    /// The path of an impl that isn't shown itself is read, and its type follows.
+    /// The path of a hidden impl is read, and the impl's type follows.
     // <path> = "M" <impl-path> <type>
     pub(crate) fn inner_impl_ended<S: Showing>(
         &mut self,
@@ -75,7 +75,7 @@ impl Direct {
         self.begin_impl_type::<S>(_s, place)
     }
 
-    /// The type of an impl is in angles.
+    /// The type of an impl follows, in angles.
     // <path> = "M" <impl-path> <type>
     #[inline(always)]
     fn begin_impl_type<S: Showing>(&mut self, _s: &[u8], place: usize) -> Option<Step>

@@ -1,4 +1,4 @@
-// Impls within hidden text: their paths are written before it, while nothing of it is written yet.
+// Impls within hidden text: their paths come before this text, while nothing of it is written yet.
 
 ghost use Rattle.std.specs.Prelude.{◌≡◌, ◌+◌, ◌∷◌, [], reverse, true, false};
 ghost use Rattle.std.specs.Option.{OnSome};
@@ -13,8 +13,8 @@ use crate::open::Open;
 use crate::showing::Showing;
 
 impl Direct {
-    /// Whether nothing hidden is written yet: only paths wait, and the text of each begins with the text that it waits
-    /// for.
+    /// Whether nothing hidden is written yet: only entries for paths wait, and the text of each
+    /// begins with the text of the path that it waits for.
     fn is_unbegun(&self) -> bool
         ensures { result ≡ true → IsUnbegun (reverse self.now.waiting.list.items) }
     {
@@ -34,7 +34,7 @@ impl Direct {
         false
     }
 
-    /// The path of an impl follows that isn't shown itself.
+    /// The path of an impl that isn't shown itself follows.
     // <path> = "M" <impl-path> <type>
     #[inline(never)]
     pub(crate) fn begin_inner_impl<S: Showing>(&mut self, _s: &[u8], behind: usize) -> Option<()>
@@ -51,7 +51,7 @@ impl Direct {
         Some(())
     }
 
-    /// The path of an impl of a trait follows that isn't shown itself.
+    /// The path of an impl of a trait that isn't shown itself follows.
     // <path> = "X" <impl-path> <type> <path>
     #[inline(never)]
     pub(crate) fn begin_inner_trait_impl<S: Showing>(

@@ -12,7 +12,7 @@ use std::simd::prelude::*;
 /// How many bytes are looked at together.
 pub const LANES: usize = 16;
 
-/// The place of the lowest bit that is set, or the number of lanes where no bit is.
+/// The place of the lowest bit that is set, or the number of lanes if no bit is.
 #[inline(always)]
 fn first_set(mask: u64) -> usize
     ensures { result ≡ first_set mask }
@@ -24,7 +24,7 @@ fn first_set(mask: u64) -> usize
     }
 }
 
-/// The lanes whose bytes may not be in a name, as bits: of the sixteen bytes from a place on.
+/// The lanes whose bytes may not be in a name, as bits, among the sixteen bytes from a place on.
 #[inline(always)]
 fn name_stops(s: &[u8], at: usize) -> u64
     requires { at + 16 ≤ length s.now }
@@ -39,7 +39,8 @@ fn name_stops(s: &[u8], at: usize) -> u64
     stops.to_bitmask()
 }
 
-/// The lanes whose bytes are no digits in base 62, as bits: of the sixteen bytes from a place on.
+/// The lanes whose bytes are no digits in base 62, as bits, among the sixteen bytes from a place
+/// on.
 #[inline(always)]
 fn digit_stops(s: &[u8], at: usize) -> u64
     requires { at + 16 ≤ length s.now }

@@ -25,7 +25,7 @@ static BARRED: [u8; 256] = [
     1, 1, 1, 1, 1, 1, 1, 1, 1, 1, 1, 1, 1, 1, 1, 1, 1, 1, 1, 1, 1, 1, 1, 1, 1, 1, 1, 1, 1, 1, 1, 1,
 ];
 
-/// 1 where a byte may not be in a name, else 0.
+/// 1 for a byte that may not be in a name, and 0 for one that may.
 #[inline(always)]
 fn barred(byte: u8) -> u8
     ensures few { result ≤ 1 }
@@ -34,7 +34,7 @@ fn barred(byte: u8) -> u8
     BARRED[byte as usize]
 }
 
-/// How many of the first bytes may be in a name, counted in fours up to the first four that may not.
+/// How many of the first bytes may be in a name, counted in fours: a four counts if all its bytes may.
 #[inline(always)]
 fn named_fours(bytes: &[u8]) -> usize
     ensures within { result ≤ length bytes.now }
@@ -67,8 +67,8 @@ fn are_few_name_bytes(bytes: &[u8]) -> bool
     true
 }
 
-/// Whether at most sixteen bytes between two places may be in a name, seen from those and the bytes before them: most bytes
-/// before a name are those of other names and of lengths.
+/// Whether at most sixteen bytes between two places may be in a name, tested together with the
+/// bytes before them: most bytes before a name are those of other names and of lengths.
 #[inline(always)]
 fn are_last_name_bytes(s: &[u8], from: usize, to: usize) -> bool
     requires from { from ≤ to }
@@ -164,7 +164,7 @@ pub fn any_name_at(s: &[u8], at: usize) -> Option<TokenPlace>
     })
 }
 
-/// The name at a place, once its length is read.
+/// The name whose own bytes begin at a place, once its length is read.
 #[inline(always)]
 fn own_at(s: &[u8], _at: usize, from: usize, size: usize) -> Option<TokenPlace>
     requires fits { FitsSymbol s.now }

@@ -18,7 +18,7 @@ pub enum Forms {
     Unnamed,
 }
 
-/// Whether the text is right for a path after a value, or for one elsewhere.
+/// Whether the text is right for a path in one form: after a value, or elsewhere.
 #[inline(always)]
 pub fn has_form(is_value: bool, forms: Forms) -> bool
     ensures { result ≡ has_form is_value forms }
@@ -32,7 +32,7 @@ pub fn has_form(is_value: bool, forms: Forms) -> bool
     }
 }
 
-/// Whether it is a path.
+/// Whether the text is that of a path.
 #[inline(always)]
 pub fn is_path(forms: Forms) -> bool
     ensures { result ≡ is_path forms }
@@ -46,7 +46,7 @@ pub fn is_path(forms: Forms) -> bool
     }
 }
 
-/// Whether it is a type.
+/// Whether the text is that of a type.
 #[inline(always)]
 pub fn is_type(forms: Forms) -> bool
     ensures { result ≡ is_type forms }
@@ -81,7 +81,7 @@ pub struct Note {
     pub is_aside: bool,
 }
 
-/// What follows a type or a path that an entry waits for.
+/// What follows the type or the path that an entry waits for.
 #[derive(Clone, Copy)]
 pub enum Closing {
     Nothing,
@@ -101,7 +101,7 @@ pub enum Open {
         letter: u8,
         place: usize,
     },
-    /// a path with arguments waits for what they belong to
+    /// a path with arguments waits for the path before them
     Generic {
         is_value: bool,
         place: usize,
@@ -128,7 +128,7 @@ pub enum Open {
     InnerTraitImpl {
         place: usize,
     },
-    /// an entry waits for the type at its end
+    /// a reference, a pointer, a slice or an impl waits for its type
     Wrap {
         place: usize,
         from: usize,

@@ -78,7 +78,7 @@ impl Direct {
     }
 
     /// Reads the name of a crate, whatever its length is.
-    // A call of its own: so a common name is written without another test of whether one was found.
+    // a function of its own: inlined, it would cost a common name one more test
     // <path> = "C" <identifier>
     #[inline(never)]
     fn crate_named_anyhow<S: Showing>(&mut self, s: &[u8], behind: usize) -> Option<()>
@@ -160,7 +160,7 @@ impl Direct {
     }
 
     /// Reads the name after the parent of a path in a namespace, whatever its length is.
-    // A call of its own, for the same reason as the name of a crate.
+    // a function of its own, for the same reason as `crate_named_anyhow`
     // <path> = "N" <namespace> <path> <identifier>
     #[inline(never)]
     fn nest_named_anyhow<S: Showing>(
@@ -240,7 +240,7 @@ impl Direct {
         Some(())
     }
 
-    /// The empty name after a parent path, as that of a constructor or of a type's constant: it prints nothing.
+    /// The empty name after a parent, as of a constructor or a type's constant: it prints nothing.
     // <path> = "N" <namespace> <path> <identifier>
     #[inline(never)]
     fn unnamed_ended<S: Showing>(

@@ -10,7 +10,7 @@ pub trait Showing {
     ghost IS_BRIEF: { Bool };
 }
 
-/// All of it.
+/// All of the symbol is shown.
 pub struct Whole;
 
 impl Showing for Whole {
@@ -19,7 +19,7 @@ impl Showing for Whole {
     ghost IS_BRIEF = { false };
 }
 
-/// Names without their generic arguments.
+/// Names are shown without their generic arguments.
 pub struct Brief;
 
 impl Showing for Brief {

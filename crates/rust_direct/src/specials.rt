@@ -44,7 +44,7 @@ impl Direct {
         }
     }
 
-    /// Its number and its name follow.
+    /// The number and the name of a closure, a shim or the like follow.
     // <path> = "N" <namespace> <path> <identifier>
     fn special_named<S: Showing>(
         &mut self,

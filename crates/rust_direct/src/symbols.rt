@@ -53,8 +53,9 @@ impl Direct {
         self.waiting.begin(size);
     }
 
-    /// Takes a step: an argument, its type, the path in it, and the end of the entry that waited for it, as far as they are there.
-    // A step for each of these took 11 % more instructions.
+    /// Takes a step: begins an argument, its type and the path in it, and ends the entry that
+    /// waited for that path, as far as each is next.
+    // A step for each of these takes 11 % more instructions.
     #[inline(always)]
     pub fn take<S: Showing>(&mut self, s: &[u8], step: Step) -> Option<Step>
         requires fits { FitsSymbol s.now }

@@ -53,7 +53,7 @@ fn are_suffix_bytes(bytes: &[u8]) -> bool
     bytes.iter().all(|byte| is_suffix_byte(*byte))
 }
 
-/// Whether it is a point and at least one byte of a suffix.
+/// Whether the bytes are a dot and at least one byte of a suffix.
 pub fn is_suffix(bytes: &[u8]) -> bool
     ensures { result ≡ true → IsSuffix bytes.now }
 {

@@ -34,7 +34,7 @@ impl Direct {
         Some(Step::Path { is_value: false })
     }
 
-    /// The path of an impl of a trait is read, and its type follows.
+    /// The path of an impl of a trait is read, and the impl's type follows.
     // <path> = "X" <impl-path> <type> <path>
     pub(crate) fn trait_impl_ended<S: Showing>(
         &mut self,
@@ -56,7 +56,7 @@ impl Direct {
         self.begin_trait_type::<S>(_s, place)
     }
 
-    /// The path of an impl of a trait that isn't shown itself is read, and its type follows.
+    /// The path of an impl of a trait that isn't shown itself is read, and the impl's type follows.
     // <path> = "X" <impl-path> <type> <path>
     pub(crate) fn inner_trait_impl_ended<S: Showing>(
         &mut self,
@@ -74,7 +74,7 @@ impl Direct {
         self.begin_trait_type::<S>(_s, place)
     }
 
-    /// The type that implements a trait follows an angle.
+    /// The type that implements a trait follows, after an angle.
     // <path> = "X" <impl-path> <type> <path>
     #[inline(always)]
     fn begin_trait_type<S: Showing>(&mut self, _s: &[u8], place: usize) -> Option<Step>

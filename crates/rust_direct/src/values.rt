@@ -1,4 +1,4 @@
-// What forwards a path or a type that was read to the entry that waits for it.
+// Forwards a path or a type that was read to the entry that waits for it.
 
 ghost use Rattle.std.specs.Option.{IfSome};
 ghost use Rattle.sym_core.specs.Number.{FitsSymbol};
@@ -11,8 +11,9 @@ use crate::open::{Forms, Open, Step};
 use crate::showing::Showing;
 
 impl Direct {
-    /// Removes the entry that waits for a path or a type that is read. Where the entry waits for the parent of a name,
-    /// the name is read first, and the path of both goes to the next entry.
+    /// Removes the entry that waits for a path or a type that is read. If the entry waits for the
+    /// parent of a name, the name is read first, and the path of both is forwarded to the next
+    /// entry.
     #[inline(always)]
     fn take_waiting<S: Showing>(&mut self, s: &[u8], from: usize, forms: Forms) -> Option<Open>
         requires fits { FitsSymbol s.now }

@@ -15,6 +15,6 @@ listed_rule head number = record {
   symbols = take 5 (drop (number * 6 + 6) SYMBOLS);
 }
 
--- the symbols of its rules from a place of the list on
+-- the symbols of a rule from a place of the list on
 abbrev pub v0_listed : ℕ → List Sym
 v0_listed place = listed_in SYMBOLS place

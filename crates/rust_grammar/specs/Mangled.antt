@@ -14,7 +14,7 @@ use Rattle.rust_grammar.specs.Unfold.{unfolded}
 abbrev pub v0_mangled : Mangled tree.Symbol
 v0_mangled = record { table = v0_table; unfolded = unfolded; shown = symbol_parts; lawful = lawful }
 
--- how a symbol is read, and the answer to it
+-- what a symbol reads as, and the answer to it
 abbrev pub IsReading : List ℕ → Result tree.Symbol Refusal → Type 0
 IsReading s result = demangle.IsReading v0_mangled s result
 

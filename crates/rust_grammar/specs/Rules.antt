@@ -15,7 +15,7 @@ use Rattle.rust_grammar.specs.declared.kind.TheConstants.{PATH, OTHER_PATH, SUFF
 use Rattle.rust_grammar.specs.Productions.{number_of}
 use Rattle.rust_grammar.specs.BasicLetters.{basic_letters, signed_letters, unsigned_letters}
 
--- symbols filled up to five
+-- the symbols of a rule, filled up to five
 abbrev pub filled : List Sym → List Sym
 filled symbols = take 5 (symbols ++ Byte 0 ∷ Byte 0 ∷ Byte 0 ∷ Byte 0 ∷ Byte 0 ∷ [])
 
@@ -201,7 +201,7 @@ kind choices after rank height = record { choices = choices; may_be_empty = fals
 abbrev pub optional : List Choice → List ByteRange → ℕ → KindSheet
 optional choices after rank = record { choices = choices; may_be_empty = true; after = after; rank = rank; height = 0 }
 
--- no kind has this
+-- the default, which no kind has
 abbrev pub no_kind : KindSheet
 no_kind = kind [] [] 0 0
 

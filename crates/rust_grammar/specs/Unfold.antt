@@ -16,7 +16,7 @@ use Rattle.rust_tree.specs.Nodes.{most_bound}
 use Rattle.rust_tree.specs.Symbol as tree
 use Rattle.rust_tree.specs.Need.{need, need_of_type}
 
--- the value of a number in base 62: 0 where it has no digits, else one more than they denote
+-- the value of a number in base 62: 0 where there are no digits, otherwise one more than the digits denote
 abbrev pub value62 : List ℕ → ℕ
 value62 = counted_value Base62
 
@@ -27,7 +27,7 @@ value16 = value_of Hex
 abbrev pub is_scalar : ℕ → Bool
 is_scalar c = nat_lt c 55296 || (nat_le 57344 c && nat_lt c 1114112)
 
--- No well shaped symbol has this: the parts aren't those of the rule.
+-- The refusal of parts that aren't those of the rule. No well shaped symbol has it.
 abbrev pub no_such_parts : Refusal
 no_such_parts = Malformed 0
 
@@ -147,7 +147,7 @@ byte_at at = slice_index at.symbol at.place
 abbrev pub Meaning : Type 0
 Meaning = Result (Found Value State) Refusal
 
--- nothing has ended that a reference could lead to
+-- nothing has ended that a reference may name
 abbrev pub plain : At → Value → Meaning
 plain at value = Ok (record { value = value; state = record { ended = at.ended; inside = None; minus = false } })
 
@@ -205,7 +205,7 @@ refers_to_constant at (Some constant) = ends_constant at constant
 abbrev pub lifetime_of : At → ℕ → Meaning
 lifetime_of at lifetime = if nat_le lifetime at.bound then plain at (a_lifetime lifetime) else Err (BadReference at.place)
 
--- a number that has a bound
+-- a number, which is refused where it is greater than the limit
 abbrev pub bounded : At → ℕ → ℕ → Result ℕ Refusal
 bounded at limit n = if nat_le n limit then Ok n else Err (BadValue at.place)
 

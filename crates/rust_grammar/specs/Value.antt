@@ -38,8 +38,8 @@ pub record Ended : Type 0 where
   pub place : ℕ
   pub value : Value
 
--- What has ended so far, the last first; the production that the next part is a part of; and whether a minus is before
--- that part.
+-- What has ended so far, the last first; the production of the rule whose part comes next; and whether a minus precedes that
+-- part.
 pub record State : Type 0 where
   pub ended : List Ended
   pub inside : Option Production

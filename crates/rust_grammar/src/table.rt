@@ -28,7 +28,7 @@ const HEX: Sym = Number(NumberKind::Hex);
 const NONE: Sym = END;
 
 // For each kind a row: for each byte from `$` to `z` the letter of the rule that the kind takes there. A rule has one letter,
-// so that a row is one string to be read below the bytes, and one byte a place in memory.
+// so a row is one string, which is read below the bytes, and takes one byte for each place.
 static LETTERS: [[u8; 87]; 24] = [
     // $%&'()*+,-./0123456789:;<=>?@ABCDEFGHIJKLMNOPQRSTUVWXYZ[\]^_`abcdefghijklmnopqrstuvwxyz
     *b"                                                           Z                           ", // SYMBOL

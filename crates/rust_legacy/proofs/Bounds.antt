@@ -1,21 +1,11 @@
 -- How long texts are, and what they cost, by their bytes.
-use Rattle.std.proofs.Common.{◌≡◌, ◌≤◌, ◌<◌, ℕ, zero, suc, ◌+◌, ◌-◌, ◌*◌, ◌&&◌, List, [], ◌∷◌, length, take, drop, Bool, true, false, cond, refl, ap, subst, arith, length-append}
-use Rattle.std.specs.Prelude.{Option, Some, None, codes, unwrap_or, nat_eq, nat_le, nat_lt, encode_utf8_all}
-use Rattle.std.specs.List.{prefix_len}
+use Rattle.rust_legacy.proofs.Basics.{◌≡◌, ◌≤◌, ◌<◌, ℕ, zero, suc, ◌+◌, ◌-◌, ◌*◌, ◌&&◌, List, [], ◌∷◌, length, take, drop, Bool, true, false, cond, refl, ap, subst, arith, length-append, Option, Some, None, codes, unwrap_or, nat_eq, nat_le, nat_lt, encode_utf8_all, prefix_len, nat_tests, append-nil, length-drop, length-take-le, prefix_len-le-length, is_digit_of, value_of, Hex, begins_with, Token, either, escape_of, is_plain, is_shown, numbered, or_all, texts_in, texts_of, token_as, token_of}
 use Rattle.std.specs.Char.{len_utf8}
 use lib.Utf8.{encode}
-use Rattle.std.proofs.lemmas.Bool.Decides.{nat_tests}
-use Rattle.std.proofs.lemmas.List.{append-nil, length-drop, length-take-le}
-use Rattle.std.proofs.lemmas.List.Sums.{prefix_len-le-length}
 use Rattle.std.proofs.lemmas.Str.{length-encode}
-use Rattle.sym_core.specs.Number.{is_digit_of}
-use Rattle.sym_core.specs.Value.{value_of}
-use Rattle.sym_core.specs.declared.NumberKind.TheVariants.{Hex}
-use Rattle.rust_legacy.specs.Path.{begins_with}
-use Rattle.rust_legacy.specs.Tokens.{Token, either, escape_of, is_plain, is_shown, numbered, or_all, texts_in, texts_of, token_as, token_of}
 use Rattle.rust_legacy.proofs.Texts.{whole_cost, whole_text}
 
--- a token of bytes is nonempty, and its text no longer than it
+-- the first token of some bytes isn't empty, and its text is no longer than the token
 pub record Fits (bytes : List ℕ) (token : Token) : Type 0 where
   pub some : 0 < token.size
   pub within : token.size ≤ length bytes
@@ -91,7 +81,7 @@ all_fits : (bytes : List ℕ) (found : Option Token) → 0 < length bytes → ((
 all_fits bytes None some each = record { some = some; within = omega arith; text = omega arith }
 all_fits bytes (Some token) some each = each token refl
 
--- a plain first byte is a plain front of one byte at least
+-- if the first byte is plain, the plain front has at least one byte
 plain_some : (byte : ℕ) (rest : List ℕ) → begins_with (codes ".") (byte ∷ rest) ≡ false → begins_with (codes "$") (byte ∷ rest) ≡ false
     → 0 < prefix_len is_plain (byte ∷ rest)
 plain_some byte rest dot dollar = by (is_plain byte) (grind (arith, nat_tests, dot, dollar))
@@ -118,7 +108,7 @@ token_fits (byte ∷ rest) some = by (begins_with (codes "..") (byte ∷ rest)) 
         let within = prefix_len-le-length is_plain (byte ∷ rest) in
         record { some = plain_some byte rest b c; within = within; text = omega (arith, length-take-le (prefix_len is_plain (byte ∷ rest)) (byte ∷ rest) within) })
 
--- all tokens of bytes: their text is no longer, and they cost at most twice as much
+-- the texts of all tokens have at most as many bytes as the tokens, and cost at most twice as much
 texts_few : (most : ℕ) (bytes : List ℕ) → (length (whole_text (texts_in most bytes)) ≤ length bytes) × (whole_cost (texts_in most bytes) ≤ 2 * length bytes)
 texts_few zero bytes = (omega arith, omega arith)
 texts_few (suc most) [] = (omega arith, omega arith)

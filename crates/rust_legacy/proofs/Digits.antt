@@ -5,11 +5,11 @@ use Rattle.std.proofs.lemmas.List.{take_rest}
 use Rattle.sym_core.specs.Number.{AreDigits, is_digit_of}
 use Rattle.sym_core.specs.declared.NumberKind.{NumberKind}
 
--- the bytes that are left after the first ones
+-- all bytes after the first n
 pub rest_whole : (bytes : List ℕ) (n : ℕ) → take (length bytes - n) (drop n bytes) ≡ drop n bytes
 rest_whole bytes n = take_rest bytes n
 
--- the longest front of digits
+-- the longest front of digits has only digits
 pub digits-front : (kind : NumberKind) (xs : List ℕ) → AreDigits kind (take (prefix_len (is_digit_of kind) xs) xs)
 digits-front kind [] = tt
 digits-front kind (x ∷ xs) =

@@ -1,8 +1,5 @@
 -- Which symbols are legacy names, by the tests of the code.
-use Rattle.std.proofs.Common.{◌≡◌, ℕ, ◌<◌, List, [], ◌∷◌, length, drop, Bool, true, false, cond, ◌&&◌, refl, ap, sym, ◌∙◌, arith}
-use Rattle.std.specs.Prelude.{Option, Some, None, codes, unwrap_or}
-use Rattle.std.specs.List.{list_all}
-use Rattle.rust_legacy.specs.Path.{Path, begins_with, is_legacy_byte, is_suffix, legacy_of, names_in, path_before_hash, path_in, with_suffix}
+use Rattle.rust_legacy.proofs.Basics.{◌≡◌, ℕ, ◌<◌, List, [], ◌∷◌, length, drop, Bool, true, false, cond, ◌&&◌, refl, ap, sym, ◌∙◌, arith, Option, Some, None, codes, unwrap_or, list_all, Path, begins_with, is_legacy_byte, is_suffix, legacy_of, names_in, path_before_hash, path_in, with_suffix}
 
 abbrev pub asked : (begins are : Bool) → Option Path → Option Path
 asked begins are path = cond {A = Option Path} (begins && are) (with_suffix path) None

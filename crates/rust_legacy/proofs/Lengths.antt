@@ -1,14 +1,5 @@
 -- Names by the digits of their lengths.
-use Rattle.std.proofs.Common.{◌≡◌, ℕ, ◌+◌, ◌-◌, ◌*◌, ◌<◌, ◌≤◌, List, [], ◌∷◌, length, take, drop, Bool, cond, ◌&&◌, not, refl, ap, sym, ◌∙◌, arith, true, false, get_or}
-use Rattle.std.specs.Prelude.{Option, Some, None, codes, nat_le, nat_lt, nat_eq, ◌==◌}
-use Rattle.std.specs.List.{prefix_len}
-use Rattle.std.proofs.lemmas.Bool.Decides.{nat_tests}
-use Rattle.std.proofs.lemmas.List.{length-drop, drop-drop, drop_more}
-use Rattle.std.proofs.lemmas.List.Sums.{prefix_len-drop_yes}
-use Rattle.sym_core.specs.Number.{is_decimal_digit}
-use Rattle.sym_core.specs.Value.{value_of}
-use Rattle.sym_core.specs.declared.NumberKind.TheVariants.{Length}
-use Rattle.rust_legacy.specs.Path.{HasLength, Name, begins_with, name_in}
+use Rattle.rust_legacy.proofs.Basics.{◌≡◌, ℕ, ◌+◌, ◌-◌, ◌*◌, ◌<◌, ◌≤◌, List, [], ◌∷◌, length, take, drop, Bool, cond, ◌&&◌, not, refl, ap, sym, ◌∙◌, arith, true, false, get_or, Option, Some, None, codes, nat_le, nat_lt, nat_eq, ◌==◌, prefix_len, nat_tests, length-drop, drop-drop, drop_more, prefix_len-drop_yes, is_decimal_digit, value_of, Length, HasLength, Name, begins_with, name_in}
 
 -- a name, by whether its length begins with a zero, by how many digits the length has, and by its value
 abbrev by_length : (zero : Bool) (count size : ℕ) → List ℕ → Option Name
@@ -18,7 +9,7 @@ by_length zero count size s =
 abbrev found : (count size : ℕ) → List ℕ → Option Name
 found count size s = Some (record { bytes = take size (drop count s); size = count + size })
 
--- whether a name meets all its requirements
+-- the name is found if it passes all three tests
 asked : (count size : ℕ) (s : List ℕ) (few some whole : Bool) → nat_le count 9 ≡ few → nat_lt 0 size ≡ some → nat_le (count + size) (length s) ≡ whole
     → by_length false count size s ≡ cond (few && some && whole) (found count size s) None
 asked count size s few some whole a b c =
@@ -51,7 +42,7 @@ no_end (x ∷ rest) some = by (is_decimal_digit x) (nat_eq 69 x) refl refl some
     by false true a b more = absurd (omega (arith, more))
     by true true a b more = (let same : 69 ≡ x = grind (arith, nat_tests, b) in absurd (cc (ap is_decimal_digit same, a)))
 
--- a name is determined by what is read of its length
+-- the digits that were read are those of a length
 pub length_is : (s : List ℕ) (at to value : ℕ) → at < to → to ≤ length s → to - at ≤ 9
     → to - at + prefix_len is_decimal_digit (drop to s) ≡ prefix_len is_decimal_digit (drop at s) → prefix_len is_decimal_digit (drop to s) ≡ 0
     → value ≡ value_of Length (take (to - at) (drop at s)) → begins_with (codes "0") (drop at s) ≡ false → 0 < value → HasLength s at to value
@@ -82,7 +73,7 @@ length_is s at to value low high few digits all is first some = (
     whole within = asked count value t true true true (grind (arith, nat_tests, few)) (grind (arith, nat_tests, some)) (
         let fits : count + value ≤ length t = omega (arith, within, low, high, length-drop at s) in grind (arith, nat_tests, fits))
 
--- a first digit
+-- a digit other than 0 begins a length
 pub first_digit : (s : List ℕ) (at : ℕ) → at < length s → (is_decimal_digit (get_or s at 0) && not (get_or s at 0 == 48)) ≡ true
     → (0 < prefix_len is_decimal_digit (drop at s)) × (begins_with (codes "0") (drop at s) ≡ false)
 first_digit s at within is = by (is_decimal_digit (get_or s at 0)) (nat_eq (get_or s at 0) 48) refl refl is

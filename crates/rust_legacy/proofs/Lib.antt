@@ -1,3 +1,4 @@
+pub mod Basics
 pub mod Rows
 pub mod Digits
 pub mod Lengths

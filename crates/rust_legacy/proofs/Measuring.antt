@@ -1,10 +1,8 @@
 -- The lengths of the texts of a name's tokens, one by one.
-use Rattle.std.proofs.Common.{◌≡◌, ◌≤◌, ◌<◌, ℕ, ◌+◌, List, ◌∷◌, length, drop, ap, sym, ◌∙◌, arith, length-append}
-use Rattle.std.proofs.lemmas.List.{length-drop, drop-drop}
-use Rattle.rust_legacy.specs.Tokens.{texts_of, token_of}
+use Rattle.rust_legacy.proofs.Basics.{◌≡◌, ◌≤◌, ◌<◌, ℕ, ◌+◌, List, ◌∷◌, length, drop, ap, sym, ◌∙◌, arith, length-append, length-drop, drop-drop, texts_of, token_of}
 use Rattle.rust_legacy.proofs.Texts.{one_more, whole_text}
 
--- a token's text is counted: with what is left it is the whole, as before
+-- after a token is counted, the count and the text that is left still add up to the whole text
 pub counted : (bytes : List ℕ) (at size text count all : ℕ) → at < length bytes
     → text ≡ length (token_of (drop at bytes)).text → size ≡ (token_of (drop at bytes)).size → 0 < size
     → count + length (whole_text (texts_of (drop at bytes))) ≡ all

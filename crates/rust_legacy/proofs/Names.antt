@@ -1,15 +1,7 @@
 -- Names as they are in a symbol, and the walk over them.
-use Rattle.std.proofs.Common.{◌≡◌, ℕ, zero, suc, ◌+◌, ◌-◌, ◌<◌, ◌≤◌, List, [], ◌∷◌, ◌++◌, length, take, drop, Bool, cond, ◌&&◌, not, refl, ap, sym, ◌∙◌, arith, true, false, subst}
-use Rattle.std.specs.Prelude.{Option, Some, None, codes, nat_le, nat_lt, nat_eq, unwrap_or}
-use Rattle.std.specs.List.{prefix_len}
-use Rattle.std.proofs.lemmas.Bool.Decides.{nat_tests}
-use Rattle.std.proofs.lemmas.List.{length-drop, length-take-le, drop-drop}
-use Rattle.sym_core.specs.Number.{is_decimal_digit}
-use Rattle.sym_core.specs.Value.{value_of}
-use Rattle.sym_core.specs.declared.NumberKind.TheVariants.{Length}
-use Rattle.rust_legacy.specs.Path.{Path, Name, AreNames, before_hash, begins_with, is_hash, name_in, names_in, path_before_hash, path_in, with_name}
+use Rattle.rust_legacy.proofs.Basics.{◌≡◌, ℕ, zero, suc, ◌+◌, ◌-◌, ◌<◌, ◌≤◌, List, [], ◌∷◌, ◌++◌, length, take, drop, Bool, cond, ◌&&◌, not, refl, ap, sym, ◌∙◌, arith, true, false, subst, Option, Some, None, codes, nat_le, nat_lt, nat_eq, unwrap_or, prefix_len, nat_tests, length-drop, length-take-le, drop-drop, is_decimal_digit, value_of, Length, Path, Name, AreNames, before_hash, begins_with, is_hash, name_in, names_in, path_before_hash, path_in, with_name}
 
--- more names before those of a path
+-- a path with more names at its front
 abbrev pub with_names : List (List ℕ) → Option Path → Option Path
 with_names [] path = path
 with_names (name ∷ rest) path = with_name name (with_names rest path)
@@ -33,7 +25,7 @@ after depth s found = elim found [ Some name ↦ with_name name.bytes (names_in 
 abbrev pub at_end : List ℕ → Option Path
 at_end s = Some (record { names = []; suffix = drop 1 s })
 
--- one name of those at a place
+-- the names at a place are the name there and the names from its end on
 pub one_name : (depth : ℕ) (s : List ℕ) (at to : ℕ) (bytes : List ℕ) → length s - at < depth → at ≤ to
     → begins_with (codes "E") (drop at s) ≡ false → name_in (drop at s) ≡ Some (record { bytes = bytes; size = to - at })
     → (more : ℕ) × (depth ≡ suc more) × (names_in depth (drop at s) ≡ with_name bytes (names_in more (drop to s)))
@@ -46,7 +38,7 @@ one_name (suc depth) s at to bytes deep low more is = (
       ∙ ap (λ r. with_name bytes (names_in depth r)) (drop-drop (to - at) at s ∙ ap (λ n. drop n s) (omega (arith, low))),
 )
 
--- where neither a name nor an E is, no names are read
+-- if there is neither a name nor an E, no names are read
 pub no_name : (depth : ℕ) (s : List ℕ) → begins_with (codes "E") s ≡ false → name_in s ≡ None → names_in depth s ≡ None
 no_name zero s more is = refl
 no_name (suc depth) s more is = ap (λ b. cond {A = Option Path} b (at_end s) (after depth s (name_in s))) more ∙ ap (after depth s) is
@@ -59,7 +51,7 @@ ended (suc depth) s at deep is =
     ap (λ b. cond {A = Option Path} b (at_end (drop at s)) (after depth (drop at s) (name_in (drop at s)))) is
     ∙ ap (λ r. Some (record { names = []; suffix = r })) (drop-drop 1 at s)
 
--- names after names
+-- names, followed by other names from their end on, are one list of names
 pub AreNames-joined : (s : List ℕ) (from at to : ℕ) (front names : List (List ℕ)) → AreNames s from at front → AreNames s at to names → AreNames s from to (front ++ names)
 AreNames-joined s from at to [] names are more = subst (λ n. AreNames s n to names) (sym are) more
 AreNames-joined s from at to (n ∷ front) names are more = (are.0, are.1, AreNames-joined s (from + are.0) at to front names are.2 more)
@@ -71,7 +63,7 @@ names_after-cond : (b : Bool) (name : List ℕ) (names : List (List ℕ)) → na
 names_after-cond true name names = refl
 names_after-cond false name names = refl
 
--- the names before the last, where that one is a hash
+-- the names before a last one, if this one is a hash
 pub before_hash-append : (front : List (List ℕ)) (name : List ℕ) → before_hash (front ++ name ∷ []) ≡ cond {A = Option (List (List ℕ))} (is_hash name) (Some front) None
 before_hash-append [] name = refl
 before_hash-append (n ∷ []) name = names_after-cond (is_hash name) n []
@@ -81,7 +73,7 @@ both : (a b : Bool) → (a && b) ≡ true → (a ≡ true) × (b ≡ true)
 both true b h = (refl, h)
 both false b h = (h, absurd (cc (h)))
 
--- what a name at the front has to meet, and which name it is
+-- a name that was found meets all requirements
 given : (b : Bool) (found name : Name) → cond {A = Option Name} b (Some found) None ≡ Some name → (b ≡ true) × (found ≡ name)
 given true found name is = (refl, ap (λ o. unwrap_or o found) is)
 given false found name is = absurd (cc (is))
@@ -90,7 +82,7 @@ some_digits : (s : List ℕ) (count : ℕ) → 0 < value_of Length (take count s
 some_digits s zero positive = absurd (omega (arith, positive))
 some_digits s (suc count) positive = omega arith
 
--- how long a name is
+-- a name isn't empty, and fits in the symbol together with its length
 pub name_size : (s : List ℕ) (name : Name) → name_in s ≡ Some name → (0 < name.size) × (name.size ≤ length s) × (length name.bytes + 1 ≤ name.size) × (0 < length name.bytes)
 name_size s name is =
     let count = prefix_len is_decimal_digit s in
@@ -132,7 +124,7 @@ pub some_names : (s : List ℕ) (from to : ℕ) (names : List (List ℕ)) → Ar
 some_names s from to [] are far = absurd (far are)
 some_names s from to (name ∷ rest) are far = omega arith
 
--- the path of names, with the last one set apart
+-- the path of names, by whether the last name is a hash
 pub path_read : (s : List ℕ) (front : List (List ℕ)) (last suffix : List ℕ) (all : Option Path) → all ≡ Some (record { names = front ++ last ∷ []; suffix = suffix })
     → path_in all ≡ path_before_hash suffix (cond {A = Option (List (List ℕ))} (is_hash last) (Some front) None)
 path_read s front last suffix all whole = ap path_in whole ∙ ap (path_before_hash suffix) (before_hash-append front last)
@@ -144,7 +136,7 @@ pub some_path : (suffix : List ℕ) (b : Bool) (front : List (List ℕ)) → b �
 some_path suffix b [] is some = absurd (omega (arith, some))
 some_path suffix b (name ∷ rest) is some = ap (λ v. before_suffix suffix v (name ∷ rest)) is
 
--- where an E is, there is at least one byte
+-- if there is an E, there is at least one byte
 pub ended_within : (s : List ℕ) (at : ℕ) → begins_with (codes "E") (drop at s) ≡ true → at < length s
 ended_within s at is = by (drop at s) refl is
   where

@@ -1,13 +1,7 @@
 -- The names of a path, one by one.
-use Rattle.std.proofs.Common.{◌≡◌, ◌≤◌, ◌<◌, ℕ, ◌+◌, ◌++◌, List, [], ◌∷◌, length, drop, refl, ap, sym, ◌∙◌, arith, append_assoc, length-append, subst, Bool, true, false, cond}
-use Rattle.std.proofs.lemmas.List.{append-nil}
-use Rattle.std.specs.Prelude.{Some, codes, unwrap_or, nat_le}
-use Rattle.std.proofs.lemmas.Bool.Decides.{nat_tests}
-use Rattle.sym_print.specs.Unshared.{text_of, cost_of}
-use Rattle.rust_legacy.specs.Path.{AreNames, Name, name_in}
-use Rattle.rust_legacy.specs.Text.{front_at, names_parts, shown_name}
+use Rattle.rust_legacy.proofs.Basics.{◌≡◌, ◌≤◌, ◌<◌, ℕ, ◌+◌, ◌++◌, List, [], ◌∷◌, length, drop, refl, ap, sym, ◌∙◌, arith, append_assoc, length-append, subst, Bool, true, false, cond, append-nil, Some, codes, unwrap_or, nat_le, nat_tests, text_of, cost_of, AreNames, Name, name_in, front_at, names_parts, shown_name}
 
--- names cost what they do as an item, and no names cost nothing
+-- what names cost as an item; no names cost nothing
 abbrev pub names_cost : (front : List ℕ) → List (List ℕ) → ℕ
 names_cost front [] = 0
 names_cost front (name ∷ rest) = cost_of (names_parts front (name ∷ rest))
@@ -27,7 +21,7 @@ names_cost-next (b ∷ front) name [] = omega arith
 names_cost-next [] name (next ∷ rest) = omega arith
 names_cost-next (b ∷ front) name (next ∷ rest) = omega arith
 
--- the name at a place is the first of those from there
+-- the name at a place is the first of the names from there on
 pub first_name : (s : List ℕ) (at to : ℕ) (names : List (List ℕ)) (found : Name) → at < to → AreNames s at to names → name_in (drop at s) ≡ Some found
     → (rest : List (List ℕ)) × (names ≡ found.bytes ∷ rest) × AreNames s (at + found.size) to rest
 first_name s at to [] found some are is = absurd (omega (arith, some, are))
@@ -43,7 +37,7 @@ front_later at later = by (nat_le at 3) refl
     by true e = (let early : at ≤ 3 = grind (arith, nat_tests, e) in absurd (omega (arith, early, later)))
     by false e = refl
 
--- names with a known first one: what they show, and what they cost
+-- what names show and what they cost, by the first one and the others
 pub record Parted (front : List ℕ) (names : List (List ℕ)) (name : List ℕ) (rest : List (List ℕ)) : Type 0 where
   pub text : text_of (names_parts front names) ≡ front ++ (text_of (shown_name name) ++ text_of (names_parts (codes "::") rest))
   pub cost : names_cost front names ≡ 1 + length front + cost_of (shown_name name) + names_cost (codes "::") rest
@@ -55,17 +49,17 @@ parted front names name rest is =
       cost = ap (names_cost front) is ∙ names_cost-next front name rest;
     }
 
--- the bytes that are written are part of the whole text
+-- the bytes written so far and the later ones are the whole text
 pub text_goes : (out mid new front text later whole : List ℕ) → mid ≡ out ++ front → new ≡ mid ++ text → out ++ (front ++ (text ++ later)) ≡ whole → new ++ later ≡ whole
 text_goes out mid new front text later whole a b is =
     ap (λ n. n ++ later) (b ∙ ap (λ m. m ++ text) a) ∙ append_assoc (out ++ front) text later ∙ append_assoc out front (text ++ later) ∙ is
 
--- and they are no longer than the whole text
+-- the bytes written so far are no longer than the whole text
 pub text_within : (out front text later whole : List ℕ) → out ++ (front ++ (text ++ later)) ≡ whole → length out + length front + length text ≤ length whole
 text_within out front text later whole is =
     omega (arith, ap length (sym is), length-append out (front ++ (text ++ later)), length-append front (text ++ later), length-append text later)
 
--- names cost what they do as an item
+-- some names cost what their item costs
 pub names_cost_is : (front : List ℕ) (names : List (List ℕ)) → 0 < length names → names_cost front names ≡ cost_of (names_parts front names)
 names_cost_is front [] some = absurd (omega (arith, some))
 names_cost_is front (name ∷ rest) some = refl

@@ -1,18 +1,11 @@
 -- The walk over names by their lengths.
-use Rattle.std.proofs.Common.{◌≡◌, ◌≢◌, ℕ, zero, suc, ◌+◌, ◌-◌, ◌<◌, ◌≤◌, List, [], ◌∷◌, ◌++◌, length, drop, Bool, cond, ◌&&◌, refl, ap, sym, ◌∙◌, arith, true, false, subst, get_or}
-use Rattle.std.specs.Prelude.{Option, Some, None, MatchOption, codes, nat_le, nat_eq, ⊤, unwrap_or, ◌==◌}
-use Rattle.std.specs.List.{list_all, prefix_len}
-use Rattle.std.proofs.lemmas.Bool.Decides.{nat_tests}
-use Rattle.std.proofs.lemmas.List.{append-nil, length-drop, drop-drop}
-use Rattle.sym_core.specs.Number.{is_digit_of}
-use Rattle.sym_core.specs.declared.NumberKind.TheVariants.{Hex}
-use Rattle.rust_legacy.specs.Path.{AreNames, AreRead, IsPlaced, Name, Path, before_hash, begins_with, is_end, is_hash, is_legacy_byte, is_suffix, legacy_of, name_in, names_in, path_before_hash, path_in, with_name}
+use Rattle.rust_legacy.proofs.Basics.{◌≡◌, ◌≢◌, ℕ, zero, suc, ◌+◌, ◌-◌, ◌<◌, ◌≤◌, List, [], ◌∷◌, ◌++◌, length, drop, Bool, cond, ◌&&◌, refl, ap, sym, ◌∙◌, arith, true, false, subst, get_or, Option, Some, None, MatchOption, codes, nat_le, nat_eq, ⊤, unwrap_or, ◌==◌, list_all, prefix_len, nat_tests, append-nil, length-drop, drop-drop, is_digit_of, Hex, AreNames, AreRead, IsPlaced, Name, Path, before_hash, begins_with, is_end, is_hash, is_legacy_byte, is_suffix, legacy_of, name_in, names_in, path_before_hash, path_in, with_name}
 use Rattle.rust_legacy.specs.declared.path.PathPlace.{PathPlace}
 use Rattle.rust_legacy.proofs.Legacy.{is_legacy, not_named, not_suffix}
 use Rattle.rust_legacy.proofs.Names.{AreNames-joined, AreNames-none, after, before_suffix, ended, ended_within, name_size, names_after, no_name, not_ended, one_name, path_read, some_names, some_path, with_names, with_names-None, with_names-Some, with_names-joined}
 
--- The names before a place are read, and the one that begins at another is the last of them: the rest from there on determines
--- the names.
+-- The names up to a place are read, and the last of them begins at `hash`. The symbol's names are these and the names from the
+-- place on.
 pub record Reads (s : List ℕ) (hash at : ℕ) : Type 0 where
   pub before : List (List ℕ)
   pub last : List (List ℕ)
@@ -40,7 +33,7 @@ begun s some =
       whole = refl;
     }
 
--- one name more
+-- one more name is read
 pub next : (s : List ℕ) (hash at to size : ℕ) (bytes : List ℕ) → Reads s hash at → name_in (drop at s) ≡ Some (record { bytes = bytes; size = size })
     → to ≡ at + size → at < to → to ≤ length s → Reads s at to
 next s hash at to size bytes r is end more within =
@@ -65,7 +58,7 @@ none_there s hash at r more none = not_named s (
     ap path_in (r.whole ∙ ap (λ p. with_names r.before (with_names r.last p)) (no_name r.depth (drop at s) more none)
     ∙ ap (with_names r.before) (with_names-None r.last) ∙ with_names-None r.before))
 
--- all names, where they end
+-- at an E, the names that were read are all names
 all_names : (s : List ℕ) (hash at : ℕ) (r : Reads s hash at) → begins_with (codes "E") (drop at s) ≡ true
     → names_in (length s) (drop 3 s) ≡ Some (record { names = r.before ++ r.last; suffix = drop (at + 1) s })
 all_names s hash at r is =
@@ -75,7 +68,7 @@ all_names s hash at r is =
     ∙ with_names-Some r.before (r.last ++ []) suffix
     ∙ ap (λ n. Some (record { names = r.before ++ n; suffix = suffix })) (append-nil r.last)
 
--- the bytes after the E are no suffix
+-- if the bytes after the E are no suffix, the symbol is no legacy name
 suffix_not : (s : List ℕ) (names : List (List ℕ)) (suffix : List ℕ) → names_in (length s) (drop 3 s) ≡ Some (record { names = names; suffix = suffix })
     → is_suffix suffix ≡ false → legacy_of s ≡ None
 suffix_not s names suffix is none = by (before_hash names) refl
@@ -85,7 +78,7 @@ suffix_not s names suffix is none = by (before_hash names) refl
     by (Some []) e = not_named s (ap path_in is ∙ ap (path_before_hash suffix) e)
     by (Some (name ∷ rest)) e = not_suffix s (record { names = name ∷ rest; suffix = suffix }) (ap path_in is ∙ ap (path_before_hash suffix) e) none
 
--- one name isn't enough
+-- if there is at most one name, the symbol is no legacy name
 one_not : (s : List ℕ) (names : List (List ℕ)) (suffix : List ℕ) → names_in (length s) (drop 3 s) ≡ Some (record { names = names; suffix = suffix })
     → length names ≤ 1 → legacy_of s ≡ None
 one_not s [] suffix is few = not_named s (ap path_in is)
@@ -129,11 +122,11 @@ short_name name short = by (begins_with (codes "h") name) (length name == 17) (p
     by true b c e = ap (λ x. x && c) e
     by false b c e = refl
 
--- a name that is the last, and too short
+-- a last name that is too short is no hash
 last_short : (name : List ℕ) → length name < 17 → before_hash (name ∷ []) ≡ None
 last_short name short = ap (λ b. cond {A = Option (List (List ℕ))} b (Some []) None) (short_name name short)
 
--- names with so few bytes have no hash
+-- names in at most 17 bytes end in no hash
 no_hash_in : (depth : ℕ) (s : List ℕ) → length s ≤ 17 → begins_with (codes "E") s ≡ false → NoHash (names_in depth s)
 no_hash_in zero s short more = tt
 no_hash_in (suc depth) s short more =
@@ -156,14 +149,14 @@ no_hash_in (suc depth) s short more =
     by None e later = tt
     by (Some name) e later = rest name e later (begins_with (codes "E") (drop name.size s)) refl
 
--- a hash has no room
+-- if no hash has room from this place on, the symbol is no legacy name
 pub no_room : (s : List ℕ) (hash at : ℕ) → Reads s hash at → begins_with (codes "E") (drop at s) ≡ false → length s ≤ at + 17 → legacy_of s ≡ None
 no_room s hash at r more short =
     let none = no_hash_in r.depth (drop at s) (omega (arith, short, length-drop at s)) more in
     not_named s (ap path_in r.whole
     ∙ no_hash_path (with_names r.before (with_names r.last (names_in r.depth (drop at s)))) (no_hash_before r.before _ (no_hash_before r.last _ none)))
 
--- no name begins at this place, or no hash has room after it
+-- the symbol is no legacy name, if its names don't end at this place, or end there as a single name
 pub not_read : (s : List ℕ) (hash at : ℕ) → Reads s hash at → (begins_with (codes "E") (drop at s) ≡ false → legacy_of s ≡ None)
     → (is_end (drop at s) ≡ true → hash ≡ 3) → legacy_of s ≡ None
 not_read s hash at r none few = by (begins_with (codes "E") (drop at s)) (is_suffix (drop 1 (drop at s))) refl refl
@@ -173,7 +166,7 @@ not_read s hash at r none few = by (begins_with (codes "E") (drop at s)) (is_suf
     by true false e f = suffix_not s (r.before ++ r.last) (drop (at + 1) s) (all_names s hash at r e) (ap is_suffix (sym (drop-drop 1 at s)) ∙ f)
     by true true e f = few_names s hash at r e (few (ap (λ b. b && is_suffix (drop 1 (drop at s))) e ∙ f))
 
--- likewise where the last name may have fewer bytes than its length says
+-- likewise if the last name may have fewer bytes than its length says
 pub not_read_on : (s : List ℕ) (hash at : ℕ) → (at ≤ length s → Reads s hash at) → (length s < at → legacy_of s ≡ None) → length s ≤ at + 17
     → (is_end (drop at s) ≡ true → hash ≡ 3) → legacy_of s ≡ None
 not_read_on s hash at reads past short few = by (nat_le at (length s)) refl
@@ -188,7 +181,7 @@ pub both : (a b : Bool) → (a && b) ≡ true → (a ≡ true) × (b ≡ true)
 both true b h = (refl, h)
 both false b h = absurd (cc (h))
 
--- all that is required of names by their lengths
+-- the names are read, as far as their lengths say
 pub are_read : (s : List ℕ) (hash at : ℕ) → Reads s hash at → is_end (drop at s) ≡ true → hash ≢ 3 → AreRead s (record { hash = hash; end = at + 1 })
 are_read s hash at r is far = by r.last refl
   where
@@ -211,7 +204,7 @@ are_read s hash at r is far = by r.last refl
           omega (arith, ended_within s at parts.0),
         ))
 
--- too few bytes for a name and a hash
+-- a symbol of at most 20 bytes has no room for a name and a hash
 pub short_symbol : (s : List ℕ) → length s ≤ 20 → legacy_of s ≡ None
 short_symbol s short = by (begins_with (codes "E") (drop 3 s)) refl
   where
@@ -219,7 +212,7 @@ short_symbol s short = by (begins_with (codes "E") (drop 3 s)) refl
     by false e = not_named s (no_hash_path (names_in (length s) (drop 3 s)) (no_hash_in (length s) (drop 3 s) (omega (arith, short, length-drop 3 s)) e))
     by true e = few_names s 3 3 (begun s (ended_within s 3 e)) e refl
 
--- no N
+-- a symbol with another third byte than N doesn't begin with _ZN
 pub not_nested : (s : List ℕ) → 2 < length s → get_or s 2 0 ≢ 78 → begins_with (codes "_ZN") s ≡ false
 not_nested [] long other = absurd (omega (arith, long))
 not_nested (a ∷ []) long other = absurd (omega (arith, long))
@@ -231,23 +224,23 @@ not_nested (a ∷ b ∷ c ∷ rest) long other = by (nat_eq 95 a) (nat_eq 90 b) 
     by true false z e = refl
     by false y z e = refl
 
--- the result of a call, in other words
+-- the result of a call, with weaker facts
 pub match_on : {T : Type 0} (o : Option T) (P P' : Type 0) (Q Q' : T → Type 0) → MatchOption o P Q → (P → P') → ((x : T) → Q x → Q' x) → MatchOption o P' Q'
 match_on None P P' Q Q' h f g = f h
 match_on (Some x) P P' Q Q' h f g = g x h
 
--- the last name is one that was read again
+-- the last name is the name that is read at its place
 last_is : (s : List ℕ) (place : PathPlace) (r : AreRead s place) (bytes : List ℕ) (size : ℕ) → name_in (drop place.hash s) ≡ Some (record { bytes = bytes; size = size }) → r.1 ≡ bytes
 last_is s place r bytes size is = ap (λ (o : Option Name). (unwrap_or o (record { bytes = bytes; size = size })).bytes) (sym r.5 ∙ is)
 
--- the last name is no hash
+-- if the last name is no hash, the symbol is no legacy name
 pub no_hash : (s : List ℕ) (place : PathPlace) → AreRead s place → (bytes : List ℕ) (size : ℕ) → name_in (drop place.hash s) ≡ Some (record { bytes = bytes; size = size })
     → is_hash bytes ≡ false → legacy_of s ≡ None
 no_hash s place r bytes size is other =
     let suffix = drop place.end s in
     not_named s (path_read s r.0 r.1 suffix _ r.2 ∙ ap (λ b. before_suffix suffix b r.0) (ap is_hash (last_is s place r bytes size is) ∙ other))
 
--- the last name is a hash, and each byte is as it has to be
+-- if the last name is a hash and each byte may be in a legacy name, the path is at the place
 pub placed : (s : List ℕ) (place : PathPlace) → AreRead s place → (bytes : List ℕ) (size : ℕ) → name_in (drop place.hash s) ≡ Some (record { bytes = bytes; size = size })
     → is_hash bytes ≡ true → begins_with (codes "_ZN") s ≡ true → list_all is_legacy_byte s ≡ true → IsPlaced s place
 placed s place r bytes size is hash begins are =

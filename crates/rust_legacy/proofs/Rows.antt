@@ -1,10 +1,6 @@
 -- The definitions, computed on symbols.
-use Rattle.std.specs.Prelude.{◌≡◌, ℕ, Bool, true, false, ◌&&◌, nat_eq, List, [], ◌∷◌, codes, Option, Some, None}
+use Rattle.rust_legacy.proofs.Basics.{◌≡◌, ℕ, Bool, true, false, ◌&&◌, nat_eq, List, [], ◌∷◌, codes, Option, Some, None, refl, text_of, cost_of, Path, legacy_of, shown_path}
 use Prim.Native.String.{String}
-use Rattle.std.proofs.Common.{refl}
-use Rattle.sym_print.specs.Unshared.{text_of, cost_of}
-use Rattle.rust_legacy.specs.Path.{Path, legacy_of}
-use Rattle.rust_legacy.specs.Text.{shown_path}
 
 abbrev alike : List ℕ → List ℕ → Bool
 alike [] [] = true
@@ -58,7 +54,7 @@ unfoldable are_others : List String → Bool
 are_others [] = true
 are_others (symbol ∷ symbols) = is_none (legacy_of (codes symbol)) && are_others symbols
 
--- no older names
+-- symbols that aren't legacy names
 abbrev others : List String
 others =
     "_ZN17h0123456789abcdefE" ∷

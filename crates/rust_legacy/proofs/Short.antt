@@ -1,11 +1,5 @@
 -- How long the text of a legacy name is, and what it costs, by how many bytes it has.
-use Rattle.std.proofs.Common.{◌≡◌, ◌≤◌, ◌<◌, ℕ, zero, suc, ◌+◌, ◌*◌, ◌++◌, List, [], ◌∷◌, length, drop, Bool, true, false, cond, subst, refl, ap, sym, arith, length-append}
-use Rattle.std.specs.Prelude.{Option, Some, None, codes, unwrap_or}
-use Rattle.std.proofs.lemmas.List.{length-drop}
-use Rattle.sym_print.specs.Unshared.{cost_of, cost_of_parts, text_of}
-use Rattle.rust_legacy.specs.Path.{Name, Path, before_hash, begins_with, is_hash, legacy_of, name_in, names_in, path_before_hash, path_in, with_name}
-use Rattle.rust_legacy.specs.Text.{names_parts, shown_name, shown_path, suffix_parts}
-use Rattle.rust_legacy.specs.Tokens.{bare_name, texts_of}
+use Rattle.rust_legacy.proofs.Basics.{◌≡◌, ◌≤◌, ◌<◌, ℕ, zero, suc, ◌+◌, ◌*◌, ◌++◌, List, [], ◌∷◌, length, drop, Bool, true, false, cond, subst, refl, ap, sym, arith, length-append, Option, Some, None, codes, unwrap_or, length-drop, cost_of, cost_of_parts, text_of, Name, Path, before_hash, begins_with, is_hash, legacy_of, name_in, names_in, path_before_hash, path_in, with_name, names_parts, shown_name, shown_path, suffix_parts, bare_name, texts_of}
 use Rattle.rust_legacy.proofs.Bounds.{front_length, texts_of_few}
 use Rattle.rust_legacy.proofs.Legacy.{path_is}
 use Rattle.rust_legacy.proofs.Names.{after, at_end, name_size, names_after}
@@ -101,7 +95,7 @@ before_few front (name ∷ next ∷ rest) names is = by (before_hash (next ∷ r
           omega (arith, less.1, ap (names_cost front) (sym same), names_cost-next front name n, names_cost-next front name (next ∷ rest)),
         ))
 
--- a text without anything before its first name is shorter than one with ::
+-- names without :: before the first one show no more, and cost no more, than with it
 bare_front : (names : List (List ℕ)) → (length (text_of (names_parts [] names)) ≤ length (text_of (names_parts (codes "::") names))) × (names_cost [] names ≤ names_cost (codes "::") names)
 bare_front [] = (omega arith, omega arith)
 bare_front (name ∷ rest) =

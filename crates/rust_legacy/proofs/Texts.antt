@@ -1,16 +1,12 @@
 -- The texts of a name's tokens, and what they cost.
-use Rattle.std.proofs.Common.{◌≡◌, ◌≤◌, ◌<◌, ℕ, zero, suc, ◌+◌, ◌-◌, ◌++◌, List, [], ◌∷◌, length, drop, refl, ap, sym, ◌∙◌, arith, append_assoc, length-append}
-use Rattle.std.proofs.lemmas.List.{append-nil, length-drop, drop-drop}
-use Rattle.sym_print.specs.Unshared.{text_of, cost_of}
-use Rattle.rust_legacy.specs.Text.{name_parts}
-use Rattle.rust_legacy.specs.Tokens.{texts_in, texts_of, token_of}
+use Rattle.rust_legacy.proofs.Basics.{◌≡◌, ◌≤◌, ◌<◌, ℕ, zero, suc, ◌+◌, ◌-◌, ◌++◌, List, [], ◌∷◌, length, drop, refl, ap, sym, ◌∙◌, arith, append_assoc, length-append, append-nil, length-drop, drop-drop, text_of, cost_of, name_parts, texts_in, texts_of, token_of}
 
--- one after the other
+-- the texts one after another
 abbrev pub whole_text : List (List ℕ) → List ℕ
 whole_text [] = []
 whole_text (text ∷ rest) = text ++ whole_text rest
 
--- each is an item
+-- what the texts cost, each as an item
 abbrev pub whole_cost : List (List ℕ) → ℕ
 whole_cost [] = 0
 whole_cost (text ∷ rest) = 1 + length text + whole_cost rest
@@ -38,7 +34,7 @@ same (suc n) (suc m) (byte ∷ rest) a b =
     let short = length-drop k rest in
     ap (λ texts. (token_of (byte ∷ rest)).text ∷ texts) (same n m (drop k rest) (omega (arith, a, short)) (omega (arith, b, short)))
 
--- a token, and those after it
+-- the texts of all tokens are that of the first token and those of the tokens after it
 pub one_more : (bytes : List ℕ) → 0 < length bytes → 0 < (token_of bytes).size
     → texts_of bytes ≡ (token_of bytes).text ∷ texts_of (drop (token_of bytes).size bytes)
 one_more [] some _ = absurd (omega (arith, some))
@@ -50,12 +46,12 @@ one_more (byte ∷ rest) some size =
     (same (length rest) (length (drop k rest)) (drop k rest) (omega (arith, short)) (omega arith)
     ∙ ap (λ n. texts_of (drop n (byte ∷ rest))) (sym is))
 
--- there are tokens where there are bytes
+-- bytes have at least one token
 pub some_texts : (bytes : List ℕ) → 0 < length bytes → 0 < length (texts_of bytes)
 some_texts [] some = absurd (omega (arith, some))
 some_texts (byte ∷ rest) some = omega arith
 
--- what is left of the text and of the cost after a token
+-- after a token, what is written and what is left are still the whole text; likewise for the cost
 pub goes : (bytes : List ℕ) (at size left paid now limit all : ℕ) (before mid out : List ℕ)
     → at < length bytes
     → now + length (token_of (drop at bytes)).text ≡ paid → out ≡ mid ++ (token_of (drop at bytes)).text
@@ -79,14 +75,14 @@ pub first_text : (bytes : List ℕ) → 0 < length bytes → (rest : List (List 
 first_text [] some = absurd (omega (arith, some))
 first_text (byte ∷ rest) some = (_, refl)
 
--- where the limit doesn't cover a token, or not even its item, it doesn't cover the whole
+-- if the limit doesn't cover a token, or not even its item, it doesn't cover the whole
 pub limit_passed : (bytes : List ℕ) (at left cost all limit : ℕ) → at < length bytes → left < cost → cost ≤ 1 + length (token_of (drop at bytes)).text
     → left + all ≡ limit + whole_cost (texts_of (drop at bytes)) → limit < all
 limit_passed bytes at left cost all limit some none within is =
     let first = first_text (drop at bytes) (omega (arith, some, length-drop at bytes)) in
     omega (arith, none, within, is, ap whole_cost first.1)
 
--- a token's text is no longer than what the rest shows
+-- what is written, together with the token's text, is no longer than the whole text
 pub token_within : (bytes : List ℕ) (at : ℕ) (before mid : List ℕ) → at < length bytes
     → mid ++ whole_text (texts_of (drop at bytes)) ≡ before → length mid + length (token_of (drop at bytes)).text ≤ length before
 token_within bytes at before mid some text =

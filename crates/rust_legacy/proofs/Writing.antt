@@ -1,22 +1,14 @@
 -- What calls that write have done together.
-use Rattle.std.proofs.Common.{◌≡◌, ◌≤◌, ◌<◌, ℕ, ◌+◌, ◌++◌, List, length, take, drop, refl, ap, sym, ◌∙◌, subst, arith, inl, inr, Result, Ok, Err, Vec, vec_len, vec_capacity, Bool, true, false}
+use Rattle.rust_legacy.proofs.Basics.{◌≡◌, ◌≤◌, ◌<◌, ℕ, ◌+◌, ◌++◌, List, length, take, drop, refl, ap, sym, ◌∙◌, subst, arith, inl, inr, Result, Ok, Err, Vec, vec_len, vec_capacity, Bool, true, false, nat_le, IfErr, IfOk, IsErrAnd, nat_tests, length-take, take-append-drop, take-append-le, Refusal, text_within, Unshared, cost_of, text_of, IsRefused, Keeps}
 use Rattle.std.specs.Global.{Global}
-use Rattle.std.specs.Prelude.{nat_le}
-use Rattle.std.specs.Result.{IfErr, IfOk, IsErrAnd}
-use Rattle.std.proofs.lemmas.Bool.Decides.{nat_tests}
-use Rattle.std.proofs.lemmas.List.{length-take, take-append-drop, take-append-le}
 use Rattle.std.proofs.Math.Seq.{take-length}
-use Rattle.sym_core.specs.declared.refusal.Refusal.{Refusal}
-use Rattle.sym_print.specs.Answer.{text_within}
-use Rattle.sym_print.specs.Unshared.{Unshared, cost_of, text_of}
-use Rattle.rust_legacy.specs.Writing.{IsRefused, Keeps}
 
--- the exit of a `?`
+-- what holds at the exit of a `?`
 pub at_exit : {T : Type 0} (r : Result T Refusal) (found : Refusal) (P : Refusal → Type 0) → IsErrAnd r (λ e. e ≡ found) → P found → IfErr r P
 at_exit (Ok x) found P h p = absurd h
 at_exit (Err e) found P h p = subst P (sym h) p
 
--- a part was refused, so the whole is
+-- if a part is refused, so is the whole
 pub wider : (refusal : Refusal) (left : ℕ) (text : List ℕ) (cost : ℕ) (mid : Vec ℕ Global) (limit : ℕ) (whole : List ℕ) (all : ℕ) (old : Vec ℕ Global)
     → IsRefused refusal left text cost mid
     → (vec_capacity mid < vec_len mid + length text → vec_capacity old < vec_len old + length whole)
@@ -43,7 +35,7 @@ keeps_on old mid new a b =
 pub keeps_same : (old : Vec ℕ Global) → Keeps old old
 keeps_same old = record { front = ap (λ n. take n old.items) old.ok.0 ∙ take-length old.items; capacity = omega arith }
 
--- a result, in other words
+-- a result, with weaker facts
 pub ok_on : {T E : Type 0} (r : Result T E) (P Q : T → Type 0) → IfOk r P → ((x : T) → P x → Q x) → IfOk r Q
 ok_on (Ok x) P Q h f = f x h
 ok_on (Err e) P Q h f = tt

@@ -1,4 +1,4 @@
--- Which symbols are legacy Rust names, and what the path of one is.
+-- Which symbols are legacy Rust names, and which path each of them denotes.
 use Rattle.std.specs.Prelude.{◌≡◌, ℕ, zero, suc, ◌+◌, ◌-◌, ◌<◌, ◌≤◌, ◌==◌, ◌&&◌, ◌||◌, not, nat_le, nat_lt, nat_eq, Bool, true, false, List, [], ◌∷◌, ◌++◌, length, take, drop, codes, Option, Some, None, if◌then◌else◌}
 use Rattle.std.specs.List.{list_all, starts_with, prefix_len}
 use Rattle.sym_core.specs.Number.{is_decimal_digit, is_upper_letter, is_lower_letter, is_digit_of}
@@ -9,7 +9,7 @@ use Rattle.rust_legacy.specs.declared.path.PathPlace.{PathPlace}
 abbrev pub begins_with : List ℕ → List ℕ → Bool
 begins_with front bytes = starts_with nat_eq bytes front
 
--- what legacy names are made of: letters, digits, _, . and $
+-- the bytes of legacy names: letters, digits, _, . and $
 abbrev pub is_legacy_byte : ℕ → Bool
 is_legacy_byte byte = is_decimal_digit byte || is_upper_letter byte || is_lower_letter byte || (byte == 95) || (byte == 46) || (byte == 36)
 
@@ -30,7 +30,7 @@ name_in s =
     then Some (record { bytes = take size (drop count s); size = count + size })
     else None
 
--- a path: its names, and what is after it
+-- a path: its names, and the bytes after it
 pub record Path : Type 0 where
   pub names : List (List ℕ)
   pub suffix : List ℕ
@@ -39,8 +39,8 @@ abbrev pub with_name : List ℕ → Option Path → Option Path
 with_name name None = None
 with_name name (Some path) = Some (record { names = name ∷ path.names; suffix = path.suffix })
 
--- the names at the front, and what follows the E that ends them. There are fewer names than bytes, so their count is depth
--- enough
+-- the names at the front, and what follows the E that ends them. `depth` bounds their count; the number of bytes is enough, since
+-- there are fewer names than bytes
 abbrev pub names_in : (depth : ℕ) → List ℕ → Option Path
 names_in zero s = None
 names_in (suc depth) s =
@@ -59,7 +59,7 @@ before_hash [] = None
 before_hash (name ∷ []) = if is_hash name then Some [] else None
 before_hash (name ∷ next ∷ rest) = elim (before_hash (next ∷ rest)) [ Some names ↦ Some (name ∷ names) | None ↦ None ]
 
--- the path whose names end in a hash: there is at least one name before it
+-- the path that has these names before its hash; there has to be at least one name
 abbrev pub path_before_hash : (suffix : List ℕ) → Option (List (List ℕ)) → Option Path
 path_before_hash suffix (Some (name ∷ rest)) = Some (record { names = name ∷ rest; suffix = suffix })
 path_before_hash suffix _ = None
@@ -68,7 +68,7 @@ abbrev pub path_in : (all : Option Path) → Option Path
 path_in (Some all) = path_before_hash all.suffix (before_hash all.names)
 path_in None = None
 
--- a suffix is a dot and more
+-- nothing, or a suffix: a dot and at least one byte more
 abbrev pub is_suffix : List ℕ → Bool
 is_suffix suffix = (length suffix == 0) || (begins_with (codes ".") suffix && nat_lt 1 (length suffix))
 
@@ -93,14 +93,14 @@ abbrev pub StandsAt : (s : List ℕ) → Path → PathPlace → Type 0
 StandsAt s path place =
     AreNames s 3 place.hash path.names × (drop place.end s ≡ path.suffix) × (place.hash < place.end) × (place.end ≤ length s)
 
--- the symbol is a legacy name, and its path is there
+-- the symbol is a legacy name, and its path is at this place
 abbrev pub IsPlaced : (s : List ℕ) → PathPlace → Type 0
 IsPlaced s place = (path : Path) × (legacy_of s ≡ Some path) × StandsAt s path place
 
 -- ## Lengths
 
--- the digits of a length are from one place to another, and denote a value: the name at the first is that many bytes after
--- them, if there are that many; otherwise there is no name, nor the E that ends names
+-- the digits of a length are from one place to another, and denote a value. If that many bytes follow, they are the name at the
+-- first place; otherwise no name is at that place. No E is at that place, either
 abbrev pub HasLength : (s : List ℕ) → (at to value : ℕ) → Type 0
 HasLength s at to value =
     (at < to) × (to ≤ length s) × (0 < value) × (begins_with (codes "E") (drop at s) ≡ false)

@@ -16,17 +16,17 @@ name_parts (text ∷ next ∷ rest) = bytes text (item (name_parts (next ∷ res
 abbrev pub shown_name : List ℕ → Unshared
 shown_name name = name_parts (texts_of (bare_name name))
 
--- the parts of names: what precedes the first name, its item, and an item of the names after it, where there are any, each after ::
+-- the parts of names: what precedes the first name, its item, and an item of the names after it, if there are any, each after ::
 abbrev pub names_parts : (front : List ℕ) → List (List ℕ) → Unshared
 names_parts front [] = done
 names_parts front (name ∷ []) = front then item (shown_name name) done
 names_parts front (name ∷ next ∷ rest) = front then item (shown_name name) (item (names_parts (codes "::") (next ∷ rest)) done)
 
--- what precedes the name at a place in a symbol: ::, except before the first one, whose place is 3
+-- what precedes the name at a place in a symbol: ::, except before the first name, which is at place 3
 abbrev pub front_at : (at : ℕ) → List ℕ
 front_at at = if nat_le at 3 then [] else codes "::"
 
--- the parts of a suffix: its bytes, in brackets
+-- the parts of a suffix: its bytes, in parentheses
 abbrev pub suffix_parts : List ℕ → Unshared
 suffix_parts [] = done
 suffix_parts (byte ∷ rest) = bytes (codes " (") (bytes (byte ∷ rest) (bytes (codes ")") done))
@@ -39,6 +39,6 @@ shown_path path = item (names_parts [] path.names) (suffix_parts path.suffix)
 abbrev pub legacy_text : (limit : ℕ) → List ℕ → Option (Result (List ℕ) Refusal)
 legacy_text limit s = elim (legacy_of s) [ Some path ↦ Some (text_within limit (shown_path path)) | None ↦ None ]
 
--- the answer for a symbol where legacy names are paths: for one that isn't a legacy name, the other answer
+-- the answer for a symbol: that for its path if it is a legacy name, and the other answer if it isn't
 abbrev pub legacy_answer : (limit : ℕ) → List ℕ → (other : Result (List ℕ) Refusal) → Result (List ℕ) Refusal
 legacy_answer limit s other = elim (legacy_text limit s) [ Some answer ↦ answer | None ↦ other ]

@@ -15,7 +15,7 @@ pub record Token : Type 0 where
 abbrev pub is_shown : ℕ → Bool
 is_shown code = (nat_le 32 code && nat_lt code 127) || (nat_le 160 code && nat_lt code 55296) || (nat_le 57344 code && nat_lt code 1114112)
 
--- a character that an escape of n bytes denotes
+-- a token that shows the character of an escape of n bytes
 abbrev pub token_as : (code size : ℕ) → Token
 token_as code size = record { text = encode_utf8_all (code ∷ []); size = size }
 
@@ -48,8 +48,8 @@ abbrev pub or_all : List ℕ → Option Token → Token
 or_all bytes None = record { text = bytes; size = length bytes }
 or_all bytes (Some token) = token
 
--- the first token of bytes: two dots denote ::, one dot denotes itself, and an escape denotes its character; any other token is the
--- bytes up to the next dot or dollar, which denote themselves
+-- the first token of bytes: two dots denote ::, one dot denotes itself, and an escape denotes its character; any other token
+-- is the bytes up to the next dot or dollar, which denote themselves
 abbrev pub token_of : List ℕ → Token
 token_of bytes =
     if begins_with (codes "..") bytes then record { text = codes "::"; size = 2 }
@@ -57,7 +57,7 @@ token_of bytes =
     else (if begins_with (codes "$") bytes then or_all bytes (escape_of bytes)
     else record { text = take (prefix_len is_plain bytes) bytes; size = prefix_len is_plain bytes }))
 
--- the texts of the first n tokens of bytes; each denotes one byte at least
+-- the texts of the first tokens of bytes, at most n; each token has at least one byte
 abbrev pub texts_in : (most : ℕ) → List ℕ → List (List ℕ)
 texts_in zero bytes = []
 texts_in (suc most) [] = []

@@ -1,4 +1,4 @@
--- What a call that writes a text of a cost did.
+-- What a call did that writes a text and pays its cost.
 use Rattle.std.specs.Prelude.{◌≡◌, ℕ, ◌+◌, ◌<◌, ◌≤◌, ◌⊎◌, List, ◌++◌, length, take, Vec, vec_len, vec_capacity}
 use Rattle.std.specs.Global.{Global}
 use Rattle.sym_core.specs.declared.refusal.Refusal.{Refusal}
@@ -8,7 +8,7 @@ use Rattle.sym_core.specs.declared.refusal.Refusal.TheVariants.{Memory, TooLong}
 abbrev pub IsWritten : (left now : ℕ) (text : List ℕ) (cost : ℕ) → (old new : List ℕ) → Type 0
 IsWritten left now text cost old new = (now + cost ≡ left) × (new ≡ old ++ text)
 
--- it was refused: the list had no room for it, or it costs more than is left
+-- the text was refused: the list had no room for it, or it costs more than is left to spend
 abbrev pub IsRefused : Refusal → (left : ℕ) (text : List ℕ) (cost : ℕ) → Vec ℕ Global → Type 0
 IsRefused refusal left text cost old = ((refusal ≡ Memory) × (vec_capacity old < vec_len old + length text)) ⊎ ((refusal ≡ TooLong) × (left < cost))
 

@@ -27,7 +27,7 @@ fn is_hex(byte: u8) -> bool
     b'0' <= byte && byte <= b'9' || b'a' <= byte && byte <= b'f'
 }
 
-/// Whether a number is that of a character, and not of a control.
+/// Whether a number is that of a character which isn't a control.
 fn is_shown(code: u32) -> bool
     ensures { result ≡ is_shown code }
 {
@@ -36,7 +36,7 @@ fn is_shown(code: u32) -> bool
         || 0xe000 <= code && code < 0x110000
 }
 
-/// The character of a number.
+/// The character with this number.
 fn character(code: u32) -> char
     requires { is_shown code ≡ true }
     ensures { result ≡ code }

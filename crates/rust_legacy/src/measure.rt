@@ -9,7 +9,7 @@ ghost use Rattle.rust_legacy.specs.Tokens.{texts_of, token_of};
 use crate::escapes::escape_at;
 use crate::tokens::plain_in;
 
-/// How many bytes the text of the first token of bytes has, and how many bytes denote it.
+/// The length of the text of the first token, and how many bytes denote the token.
 fn token_length(bytes: &[u8]) -> (usize, usize)
     requires { 0 < length bytes.now }
     ensures length { result.0 ≡ length (token_of bytes.now).text }

@@ -18,8 +18,9 @@ pub struct NamePlace {
     pub to: usize,
 }
 
-/// Where the path of a legacy name is in its symbol: its names extend from the fourth byte to `hash`, where the length of its
-/// hash is, and its suffix begins at `end`, after its `E`. Both are counts of bytes.
+/// Where the path of a legacy name is in its symbol. Its names extend from the fourth byte to
+/// `hash`, where the length of its hash begins; its suffix begins at `end`, after its `E`. Both are
+/// counts of bytes.
 #[derive(Clone, Copy)]
 pub struct PathPlace {
     pub hash: usize,
@@ -57,7 +58,7 @@ fn is_legacy_byte(byte: u8) -> bool
     LEGACY_BYTES[byte as usize]
 }
 
-/// Whether each byte may be in a legacy name, and how many turns that took. All are examined, with no branch for each.
+/// Whether each byte may be in a legacy name, and how many turns the test took. All are examined, with no branch for each.
 fn are_legacy_bytes(bytes: &[u8]) -> (bool, usize)
     ensures are { result.0 ≡ list_all is_legacy_byte bytes.now }
     ensures turns { result.1 ≤ length bytes.now }
@@ -98,14 +99,14 @@ fn has_digit(s: &[u8], at: usize) -> bool
 /// The most digits of a length.
 const MOST_DIGITS: usize = 9;
 
-/// Where the digits of a length end (there are at most n), and what they denote.
+/// Where the digits of a length end, and what they denote.
 #[derive(Clone, Copy)]
 struct Length {
     to: usize,
     value: usize,
 }
 
-/// The first digits at a place, at most n: nine, or as many bytes as there are. Each turn of its loop reads one.
+/// The first digits at a place, at most `most` of them: nine, or as many bytes as there are. Each turn of its loop reads one.
 #[inline(always)]
 fn length_at(s: &[u8], at: usize, most: usize) -> Length
     requires within { at + most ≤ length s.now }
@@ -136,7 +137,7 @@ fn begins_length(byte: u8) -> bool
     b'1' <= byte && byte <= b'9'
 }
 
-/// The length of a name that is at a place, with a name after it or not. At most n digits are examined.
+/// The length at a place, whether the whole name follows it or not. At most `most` digits are examined.
 #[inline(always)]
 fn name_length(s: &[u8], at: usize, most: usize) -> Option<Length>
     requires within { at + most ≤ length s.now }
@@ -180,7 +181,7 @@ pub fn name_at(s: &[u8], at: usize) -> Option<NamePlace>
 /// The bytes of a hash.
 const HASH: usize = 17;
 
-/// Whether a name is a hash, an `h` and sixteen hexadecimal digits in lower case, and how many turns that took.
+/// Whether a name is a hash, an `h` and sixteen hexadecimal digits in lower case, and how many turns the test took.
 #[tactic(auto, using(crate::proofs::Digits::rest_whole))]
 #[inline(always)]
 fn is_hash(name: &[u8]) -> (bool, usize)
@@ -197,7 +198,7 @@ fn is_hash(name: &[u8]) -> (bool, usize)
     (digits == 16, digits)
 }
 
-/// Whether bytes are a suffix, or none.
+/// Whether bytes are a suffix, or there are none.
 #[inline(always)]
 fn is_suffix(suffix: &[u8]) -> bool
     ensures { result ≡ is_suffix suffix.now }
@@ -205,7 +206,8 @@ fn is_suffix(suffix: &[u8]) -> bool
     suffix.is_empty() || suffix[0] == b'.' && suffix.len() > 1
 }
 
-/// Where names are, the last of them at a place, if they end at another: there is an `E`, with a suffix or nothing after it.
+/// Where a path is, given where its last name begins and where its names end: an `E` has to be
+/// there, with a suffix or nothing after it.
 #[tactic(auto, using(crate::proofs::Digits::rest_whole))]
 #[inline(always)]
 fn ended(s: &[u8], hash: usize, at: usize) -> Option<PathPlace>
@@ -223,11 +225,12 @@ fn ended(s: &[u8], hash: usize, at: usize) -> Option<PathPlace>
     Some(PathPlace { hash, end: at + 1 })
 }
 
-/// Where the names of a symbol are, by their lengths only, if they can be those of a legacy name, and how many turns that took:
+/// Where the names of a symbol are, by their lengths only, if the symbol may be a legacy name, and how many turns this took:
 /// one for each name, and one for each digit of its length. A symbol that is no legacy name costs no more than this.
-// 53 instructions a C++ symbol, on average over 20,000. Fixed places from the end can't be tested instead: a suffix is of any
-// length and ends in any byte. The turns are counted so that a clause can bound them; where the call is inlined, a count that
-// nobody reads takes no instruction.
+// It takes 53 instructions for a C++ symbol, on average over 20,000. Fixed places from the end
+// can't be tested instead, since a suffix is of any length and ends in any byte. The turns are
+// counted so that a clause can bound them; once the call is inlined, a count that nobody reads
+// takes no instruction.
 #[inline(always)]
 pub fn names_of(symbol: &[u8]) -> (Option<PathPlace>, usize)
     ensures place { MatchOption result.0 (legacy_of symbol.now ≡ None) (AreRead symbol.now) }
@@ -253,7 +256,7 @@ pub fn names_of(symbol: &[u8]) -> (Option<PathPlace>, usize)
     (ended(symbol, hash, at), turns)
 }
 
-/// Whether names that were found by their lengths are those of a legacy name, and how many turns that took.
+/// Whether names that were found by their lengths are those of a legacy name, and how many turns the test took.
 #[inline(always)]
 pub fn is_path(symbol: &[u8], place: PathPlace) -> (bool, usize)
     requires { AreRead symbol.now place }

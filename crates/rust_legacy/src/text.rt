@@ -13,7 +13,7 @@ use crate::path::{PathPlace, name_at};
 use crate::tokens::{pay, write, write_token};
 use sym_core::Refusal;
 
-/// Writes bytes token by token, each an item, and answers what is left.
+/// Writes bytes token by token, each an item, and answers what is left to spend.
 fn write_tokens(limit: u32, bytes: &[u8], out: &mut Vec<u8>) -> Result<u32, Refusal>
     requires { 0 < length bytes.now }
     ensures ok { IfOk result (λ now. IsWritten limit now (text_of (name_parts (texts_of bytes.now))) (cost_of (name_parts (texts_of bytes.now))) out.old.items out.new.items) }
@@ -31,7 +31,7 @@ fn write_tokens(limit: u32, bytes: &[u8], out: &mut Vec<u8>) -> Result<u32, Refu
     Ok(left)
 }
 
-/// Writes a name as an item, and answers what is left.
+/// Writes a name as an item, and answers what is left to spend.
 fn write_name(left: u32, name: &[u8], out: &mut Vec<u8>) -> Result<u32, Refusal>
     requires { 0 < length name.now }
     ensures ok { IfOk result (λ now. IsWritten left now (text_of (shown_name name.now)) (cost_of (shown_name name.now)) out.old.items out.new.items) }
@@ -44,7 +44,7 @@ fn write_name(left: u32, name: &[u8], out: &mut Vec<u8>) -> Result<u32, Refusal>
     write_tokens(left, name, out)
 }
 
-/// Writes what precedes the name at a place, and answers what is left.
+/// Writes what precedes the name at a place, and answers what is left to spend.
 #[inline(always)]
 fn write_front(left: u32, at: usize, out: &mut Vec<u8>) -> Result<u32, Refusal>
     ensures ok { IfOk result (λ now. IsWritten left now (front_at at) (length (front_at at)) out.old.items out.new.items) }
@@ -57,7 +57,7 @@ fn write_front(left: u32, at: usize, out: &mut Vec<u8>) -> Result<u32, Refusal>
     write(left, b"::", out)
 }
 
-/// Writes the names of a path, each an item with those after it, and answers what is left.
+/// Writes the names of a path, each an item with those after it, and answers what is left to spend.
 fn write_names(limit: u32, symbol: &[u8], hash: usize, out: &mut Vec<u8>) -> Result<u32, Refusal>
     requires within { hash ≤ length symbol.now }
     requires names { (names : List (List ℕ)) × AreNames symbol.now 3 hash names × (0 < length names) }
@@ -79,7 +79,7 @@ fn write_names(limit: u32, symbol: &[u8], hash: usize, out: &mut Vec<u8>) -> Res
     Ok(left)
 }
 
-/// Writes a suffix in brackets, if there is one, and answers what is left.
+/// Writes a suffix in parentheses, if there is one, and answers what is left to spend.
 fn write_suffix(left: u32, suffix: &[u8], out: &mut Vec<u8>) -> Result<u32, Refusal>
     ensures ok { IfOk result (λ now. IsWritten left now (text_of (suffix_parts suffix.now)) (cost_of_parts (suffix_parts suffix.now)) out.old.items out.new.items) }
     ensures err { IfErr result (λ e. IsRefused e left (text_of (suffix_parts suffix.now)) (cost_of_parts (suffix_parts suffix.now)) out.old) }
@@ -93,7 +93,7 @@ fn write_suffix(left: u32, suffix: &[u8], out: &mut Vec<u8>) -> Result<u32, Refu
     write(left, b")", out)
 }
 
-/// Writes a path, and answers what is left.
+/// Writes a path, and answers what is left to spend.
 fn write_path(
     limit: u32,
     symbol: &[u8],
@@ -110,7 +110,7 @@ fn write_path(
     write_suffix(left, &symbol[place.end..], out)
 }
 
-/// Appends the text of a legacy name, whose path is at a place that `path_of` found, if it costs at most the limit, else nothing.
+/// Appends the text of a legacy name, if it costs at most the limit. The name's path is at a place that `path_of` found.
 ///
 /// What it spends is the text's cost, and each turn of its loops spends at least 1.
 ///

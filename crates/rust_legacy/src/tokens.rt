@@ -10,7 +10,7 @@ ghost use Rattle.rust_legacy.specs.Writing.{IsRefused, IsWritten, Keeps};
 use crate::escapes::escape_at;
 use sym_core::Refusal;
 
-/// What is left after a cost.
+/// What is left to spend once a cost is paid.
 #[inline(always)]
 pub fn pay(left: u32, cost: usize) -> Result<u32, Refusal>
     ensures ok { IfOk result (λ now. now + cost ≡ left) }
@@ -22,7 +22,7 @@ pub fn pay(left: u32, cost: usize) -> Result<u32, Refusal>
     Ok(left - cost as u32)
 }
 
-/// Pays for bytes and writes them, and answers what is left.
+/// Pays for bytes and writes them, and answers what is left to spend.
 #[inline(always)]
 pub fn write(left: u32, bytes: &[u8], out: &mut Vec<u8>) -> Result<u32, Refusal>
     ensures ok { IfOk result (λ now. IsWritten left now bytes.now (length bytes.now) out.old.items out.new.items) }
@@ -46,7 +46,7 @@ pub fn plain_in(bytes: &[u8]) -> usize
     at
 }
 
-/// Writes the first token of bytes, and answers what is left and how many bytes denote it.
+/// Writes the first token of bytes, and answers what is left to spend and how many bytes denote the token.
 pub fn write_token(left: u32, bytes: &[u8], out: &mut Vec<u8>) -> Result<(u32, usize), Refusal>
     requires { 0 < length bytes.now }
     ensures ok { IfOk result (λ r. IsWritten left r.0 (token_of bytes.now).text (length (token_of bytes.now).text) out.old.items out.new.items) }

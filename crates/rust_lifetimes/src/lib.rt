@@ -3,8 +3,8 @@
 
 ghost use Rattle.std.specs.Prelude.{◌≡◌, ◌-◌};
 
-/// The number of a lifetime as a text counts, the outermost bound one being 0, where n are bound. As the symbol counts, the
-/// innermost one is 1.
+/// The number of a lifetime in a text, where n lifetimes are bound: the outermost one has the
+/// number 0. In the symbol, the innermost one has the number 1.
 #[inline(always)]
 pub fn from_outermost(bound: u64, lifetime: u64) -> u64
     ensures { result ≡ bound - lifetime }
@@ -12,7 +12,8 @@ pub fn from_outermost(bound: u64, lifetime: u64) -> u64
     bound.saturating_sub(lifetime)
 }
 
-/// How many bound lifetimes a construct with a binder of n needs around it, by how many are needed within.
+/// How many lifetimes must be bound around a construct with a binder of n, by how many must be
+/// bound within.
 #[inline(always)]
 pub fn around_binder(within: u64, binder: u64) -> u64
     ensures { result ≡ within - binder }

@@ -1,3 +1,4 @@
+pub mod Basics
 pub mod Texts
 pub mod Counts
 pub mod Growing

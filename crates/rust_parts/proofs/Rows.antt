@@ -1,20 +1,14 @@
 -- The definitions, computed on symbols.
-use Rattle.std.specs.Prelude.{◌≡◌, ℕ, List, [], ◌∷◌, codes, false, None}
+use Rattle.rust_parts.proofs.Basics.{◌≡◌, ℕ, List, [], ◌∷◌, codes, false, None, refl, Path, Identifier, Symbol, crate_root, trait_impl, nested, generic, no_arguments, type_argument, basic, path_type, only, suffixed, Role, kind_of_letter, kind_of_path, kind_of_symbol, argument, elements, arguments, of_trait, of_type, scope, scoped, name, symbol_marked}
 use Rattle.std.specs.Fmt.{digits}
 use Prim.Native.String.{String}
-use Rattle.std.proofs.Common.{refl}
-use Rattle.rust_tree.specs.Symbol.{Path, Identifier, Symbol, crate_root, trait_impl, nested, generic, no_arguments, type_argument, basic, path_type}
 use Rattle.rust_tree.specs.Shown.{basic_text, namespace_text, path_parts, symbol_parts}
 use Rattle.sym_print.specs.declared.detail.Detail.{Detail}
 use Rattle.sym_print.specs.declared.detail.Detail.TheVariants.{Full, Brief}
 use Rattle.sym_parts.specs.Marked.{text_of, stretches_from, stretches_of, ◌before◌}
-use Rattle.sym_parts.specs.Plain.{only, suffixed}
 use Rattle.sym_parts.specs.declared.stretch.Stretch.{Stretch}
-use Rattle.sym_parts.specs.declared.role.Role.{Role}
 use Rattle.sym_parts.specs.declared.role.Role.TheVariants as role
 use Rattle.sym_parts.specs.declared.kind.NameKind.TheVariants as kind
-use Rattle.rust_parts.specs.Kinds.{kind_of_letter, kind_of_path, kind_of_symbol}
-use Rattle.rust_parts.specs.Roles.{argument, elements, arguments, of_trait, of_type, scope, scoped, name, symbol_marked}
 
 -- ## Symbols
 

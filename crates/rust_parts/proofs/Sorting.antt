@@ -1,20 +1,11 @@
 -- The tree of a node by the node's production, and so how its text is marked and what its name is.
-use Rattle.std.proofs.Common.{◌≡◌, ℕ, ◌<◌, length, slice_get, Option, Some, None, Bool, true, false, refl, sym, ap, ◌∙◌, arith, subst}
-use Rattle.std.specs.Prelude.{if◌then◌else◌, nat_le, ◌&&◌}
+use Rattle.rust_parts.proofs.Basics.{◌≡◌, ℕ, ◌<◌, length, slice_get, Option, Some, None, Bool, true, false, refl, sym, ap, ◌∙◌, arith, subst, if◌then◌else◌, nat_le, ◌&&◌, Path, Arguments, Identifier, Symbol, crate_root, inherent_impl, trait_impl, trait_definition, nested, generic, path_in, symbol_in, arguments_in, ReadSymbol, is_empty, Unshared, done, bytes, item, implementation, scope, name, kind_of_letter, kind_of_path, IsBelow, IsImplementation, IsSort, name_by, path_at, scope_by, PathSort}
 use Rattle.std.proofs.lemmas.Bool.{ne_eqb}
-use Rattle.rust_tree.specs.Symbol.{Path, Arguments, Identifier, Symbol, crate_root, inherent_impl, trait_impl, trait_definition, nested, generic}
 use Rattle.rust_tree.specs.Tree.{Tree, of_path, of_symbol}
-use Rattle.rust_tree.specs.Nodes.{path_in, symbol_in, arguments_in}
-use Rattle.rust_tree.specs.Layout.{ReadSymbol, is_empty}
 use Rattle.rust_tree.specs.Fields.{Fields, tree_from, number_in, part_in, text_in, identifier_in}
 use Rattle.rust_tree.specs.Views.{fields_in, fields_at}
 use Rattle.rust_tree.specs.declared.tree_production.TheConstants.{NESTED, PUNYCODE_NESTED, GENERIC, INHERENT_IMPL, TRAIT_IMPL, TRAIT_DEFINITION}
-use Rattle.sym_print.specs.Unshared.{Unshared, done, bytes, item}
 use Rattle.sym_parts.specs.declared.kind.NameKind.TheVariants as kind
-use Rattle.rust_parts.specs.Roles.{implementation, scope, name}
-use Rattle.rust_parts.specs.Kinds.{kind_of_letter, kind_of_path}
-use Rattle.rust_parts.specs.Sorts.{IsBelow, IsImplementation, IsSort, name_by, path_at, scope_by}
-use Rattle.rust_parts.specs.declared.sorts.PathSort.{PathSort}
 use Rattle.rust_parts.specs.declared.sorts.PathSort.TheVariants as sort
 
 -- the tree of fields whose production is known
@@ -44,7 +35,7 @@ module _ (o : Option Tree) (made : o ≡ Some (tree_from (fields_in o))) where
   pub generic-parts : f.production ≡ GENERIC → length f.parts ≡ 2
   generic-parts p = ap (λ x. length (fields_in x).parts) (generic-tree p)
 
-  -- a name after its parent
+  -- a tree with the production `NESTED` is a name after its parent
   pub is-nested : (q : Option Tree) → q ≡ slice_get f.parts 0 → f.production ≡ NESTED
       → (own : Identifier) × (own.name.bytes ≡ text_in f) × (path_in o ≡ nested (number_in f 0) (path_in q) own)
   is-nested q part p =
@@ -76,7 +67,7 @@ neither : (b : Bool) → ((if b then PUNYCODE_NESTED else NESTED) ≡ NESTED →
 neither true plain puny = puny refl
 neither false plain puny = plain refl
 
--- a tree of no other production is a crate, or no path
+-- a tree with none of the other productions of paths has a crate as its path, even where it is no path
 pub is-crate : (o : Option Tree) → ((fields_in o).production ≡ NESTED → ⊥) → ((fields_in o).production ≡ PUNYCODE_NESTED → ⊥) → ((fields_in o).production ≡ GENERIC → ⊥)
     → ((fields_in o).production ≡ INHERENT_IMPL → ⊥) → ((fields_in o).production ≡ TRAIT_IMPL → ⊥) → ((fields_in o).production ≡ TRAIT_DEFINITION → ⊥)
     → (own : Identifier) × (path_in o ≡ crate_root own)
@@ -144,14 +135,14 @@ module _ (y : ReadSymbol) where
   unfolding scope_by name_by
   implementation-by lists u = (refl, refl)
 
-  -- what a name is in
+  -- the marks of the scope of a name, by the sort of the scope's path
   pub scope-by : (lists : ℕ) (node : ℕ) (s : PathSort) → IsSort y node s → (u : Unshared) → scope_by y lists s u ≡ scope lists (path_at y node) u
   scope-by lists node sort.Crate is u = sym (ap (λ p. scope lists p u) is.1 ∙ crate-scope lists is.0 u)
   scope-by lists node sort.Implementation is u = sym (implementation-scope lists (path_at y node) is u ∙ (implementation-by lists u).0)
   scope-by lists node (sort.Nested parent) is u = sym (ap (λ p. scope lists p u) is.1.2 ∙ nested-scope lists parent _ is.1.0 u)
   scope-by lists node (sort.Generic parent) is u = sym (ap (λ p. scope lists p u) is.1.1 ∙ generic-scope lists parent is.1.0 u)
 
-  -- a name
+  -- the marks of a name, by the sort of its path
   pub name-by : (lists : ℕ) (node : ℕ) (s : PathSort) → IsSort y node s → (u : Unshared) → name_by y lists s u ≡ name lists (path_at y node) u
   name-by lists node sort.Crate is u = sym (ap (λ p. name lists p u) is.1 ∙ crate-name lists is.0 u)
   name-by lists node sort.Implementation is u =

@@ -1,15 +1,7 @@
 -- The clauses of the definition, for what an item prints in the shape that the code found.
-use Rattle.std.proofs.Common.{◌≡◌, ℕ, ◌+◌, ◌-◌, ◌<◌, List, take, drop, length, min, sym, ap, ◌∙◌, arith, length-take, length-drop, subst}
-use Rattle.rust_tree.specs.Layout.{ReadSymbol}
-use Rattle.rust_tree.specs.Symbol.{Path, Symbol}
-use Rattle.sym_print.specs.Unshared.{Unshared, done, bytes, item, text_of}
-use Rattle.sym_parts.specs.Marked.{Marked, text, marked, ◌before◌}
+use Rattle.rust_parts.proofs.Basics.{◌≡◌, ℕ, ◌+◌, ◌-◌, ◌<◌, List, take, drop, length, min, sym, ap, ◌∙◌, arith, length-take, length-drop, subst, ReadSymbol, Path, Symbol, Unshared, done, bytes, item, text_of, Marked, text, marked, ◌before◌, plain, whole, alone, numbered, only, suffixed, argument, elements, listed, arguments, of_trait, of_type, implementation, scope, scoped, name, symbol_marked, IsBelow, name_by, path_at, scope_by, PathSort}
 use Rattle.sym_parts.specs.Marked as marks
-use Rattle.sym_parts.specs.Plain.{plain, whole, alone, numbered, only, suffixed}
 use Rattle.sym_parts.specs.declared.role.Role.TheVariants as role
-use Rattle.rust_parts.specs.Roles.{argument, elements, listed, arguments, of_trait, of_type, implementation, scope, scoped, name, symbol_marked}
-use Rattle.rust_parts.specs.Sorts.{IsBelow, name_by, path_at, scope_by}
-use Rattle.rust_parts.specs.declared.sorts.PathSort.{PathSort}
 use Rattle.rust_parts.specs.declared.sorts.PathSort.TheVariants as sort
 
 -- ## Arguments
@@ -60,7 +52,7 @@ pub arguments-text : (list : ℕ) (u : Unshared) (b : List ℕ) (rest : Unshared
 unfolding arguments
 arguments-text list u b rest is = sym (ap (arguments list) is)
 
--- the first two bytes of a text, and the others
+-- the lengths of the first two bytes of a text and of the rest
 pub front-lengths : (b : List ℕ) (count front : ℕ) → count ≡ length b → front ≡ min count 2 → (front ≡ length (take 2 b)) × (count - front ≡ length (drop 2 b))
 front-lengths b count front long is = (omega (arith, long, is, length-take 2 b), omega (arith, long, is, length-drop 2 b))
 

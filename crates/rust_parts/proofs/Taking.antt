@@ -1,28 +1,13 @@
 -- The walk: what one task of a Rust symbol changes of the tasks that are left, and how the walk begins.
-use Rattle.std.proofs.Common.{◌≡◌, ℕ, ◌+◌, ◌*◌, ◌-◌, ◌<◌, ◌≤◌, List, [], ◌++◌, length, sym, ap, ◌∙◌, arith, subst}
-use Rattle.std.specs.List.{All}
-use Rattle.rust_tree.specs.declared.context.Context.{Context}
-use Rattle.rust_tree.specs.Layout.{ReadSymbol, MayCome, unshared_of}
-use Rattle.sym_print.specs.declared.layout.Item.{Item}
+use Rattle.rust_parts.proofs.Basics.{◌≡◌, ℕ, ◌+◌, ◌*◌, ◌-◌, ◌<◌, ◌≤◌, List, [], ◌++◌, length, sym, ap, ◌∙◌, arith, subst, All, Context, ReadSymbol, MayCome, unshared_of, Item, Unshared, cost_of, steps_of_parts, length_of_text, stretches_of, stretches_at, skipped, IsTask, marks_of_task, marks_of_tasks, weight_of_task, weight_of_tasks, Task, begins, grown, elements, name, scope, symbol_marked, whole_of, path_at, ArePayable, Grows, IsApart, IsPayable, marked_of, printed_by, weight_of, Apart}
 use Rattle.sym_print.specs.declared.layout.Part.{Part}
-use Rattle.sym_print.specs.Unshared.{Unshared, cost_of, steps_of_parts}
-use Rattle.sym_print.proofs.Noting.{length_of_text}
 use Rattle.sym_parts.specs.Found.{Found}
-use Rattle.sym_parts.specs.Marked.{stretches_of}
-use Rattle.sym_parts.specs.Marks.{stretches_at, skipped}
-use Rattle.sym_parts.specs.Tasks.{IsTask, marks_of_task, marks_of_tasks, weight_of_task, weight_of_tasks}
-use Rattle.sym_parts.specs.declared.task.Task.{Task}
 use Rattle.sym_parts.specs.declared.task.Task.TheVariants as task
-use Rattle.sym_parts.proofs.Walking.{begins, grown}
-use Rattle.rust_parts.specs.Roles.{elements, name, scope, symbol_marked, whole_of}
-use Rattle.rust_parts.specs.Sorts.{path_at}
-use Rattle.rust_parts.specs.Tasks.{ArePayable, Grows, IsApart, IsPayable, marked_of, printed_by, weight_of}
-use Rattle.rust_parts.specs.declared.apart.Apart.{Apart}
 use Rattle.rust_parts.specs.declared.apart.Apart.TheVariants as apart
 use Rattle.rust_parts.proofs.Growing.{grow-same}
 use Rattle.rust_parts.proofs.Texts.{text-symbol}
 
--- what is taken apart takes a step at least
+-- taking something apart takes at least one step
 positive : (y : ReadSymbol) (next : Apart) → 0 < weight_of y next
 unfolding weight_of
 positive y (apart.Name lists node i) = omega arith
@@ -49,7 +34,7 @@ module _ (y : ReadSymbol) (most : ℕ) where
   unfolding marked_of weight_of
   took-elements old new next list number i e grows = grow-same y most old new _ _ _ _ grows (sym (ap (marked_of y) e)) (omega (arith, ap (weight_of y) e))
 
-  -- the item of arguments that may be taken apart
+  -- the item of arguments that are to be taken apart may be asked for, and their count has room
   pub elements-payable : (next : Apart) (list number : ℕ) (i : Item Context) → next ≡ apart.Elements list number i → IsApart y most next → IsPayable y most i × (number + cost_of (unshared_of y i) ≤ most)
   unfolding IsApart
   elements-payable next list number i e is = subst (IsApart y most) e is

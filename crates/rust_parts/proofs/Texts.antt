@@ -1,16 +1,8 @@
 -- The text of a symbol without its marks is what the symbol prints.
-use Rattle.std.proofs.Common.{◌≡◌, ℕ, ◌+◌, List, ◌++◌, take, drop, sym, ap, ◌∙◌, append_assoc, append-nil}
+use Rattle.rust_parts.proofs.Basics.{◌≡◌, ℕ, ◌+◌, List, ◌++◌, take, drop, sym, ap, ◌∙◌, append_assoc, append-nil, Path, Symbol, crate_root, inherent_impl, trait_impl, trait_definition, nested, generic, Unshared, done, bytes, item, text_of, Marked, text, marked, ◌before◌, plain, whole, alone, numbered, only, suffixed, text_of-before, Role, Ordinal, argument, elements, listed, arguments, of_trait, of_type, implementation, scope, scoped, name, symbol_marked}
 use Rattle.std.proofs.lemmas.List.{take-append-drop}
-use Rattle.rust_tree.specs.Symbol.{Path, Symbol, crate_root, inherent_impl, trait_impl, trait_definition, nested, generic}
-use Rattle.sym_print.specs.Unshared.{Unshared, done, bytes, item, text_of}
-use Rattle.sym_parts.specs.Marked.{Marked, text, marked, ◌before◌}
 use Rattle.sym_parts.specs.Marked as marks
-use Rattle.sym_parts.specs.Plain.{plain, whole, alone, numbered, only, suffixed}
-use Rattle.sym_parts.proofs.Marks.{text_of-before}
-use Rattle.sym_parts.specs.declared.role.Role.{Role}
-use Rattle.sym_parts.specs.declared.spelling.Ordinal.{Ordinal}
 use Rattle.sym_parts.specs.declared.role.Role.TheVariants as role
-use Rattle.rust_parts.specs.Roles.{argument, elements, listed, arguments, of_trait, of_type, implementation, scope, scoped, name, symbol_marked}
 
 -- the text of a marked text
 abbrev shown : Marked → List ℕ
@@ -20,7 +12,7 @@ shown m = marks.text_of m
 cut : (n : ℕ) (b c : List ℕ) → take n b ++ (drop n b ++ c) ≡ b ++ c
 cut n b c = sym (append_assoc (take n b) (drop n b) c) ∙ ap (λ t. t ++ c) (take-append-drop n b)
 
--- texts in turn
+-- the text of one marked text before another
 joins : (m others : Marked) (t v : List ℕ) → shown m ≡ t → shown others ≡ v → shown (m before others) ≡ t ++ v
 joins m others t v first second = text_of-before m others ∙ ap (λ x. x ++ shown others) first ∙ ap (λ x. t ++ x) second
 
@@ -100,7 +92,7 @@ text-scope lists path done = text-implementation done
 text-scope lists path (bytes b rest) = text-implementation (bytes b rest)
 text-scope lists path (item one rest) = text-implementation (item one rest)
 
--- a base, after the colons
+-- a scope, and a base after the colons
 text-scoped : (m : Marked) (b : List ℕ) (u : Unshared) (t : List ℕ) → shown m ≡ t → shown (scoped m b u) ≡ t ++ (b ++ text_of u)
 unfolding marks.text_of scoped
 text-scoped m b u t same =

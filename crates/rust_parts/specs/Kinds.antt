@@ -5,12 +5,12 @@ use Rattle.rust_tree.specs.Layout.{is_empty}
 use Rattle.sym_parts.specs.declared.kind.NameKind.{NameKind}
 use Rattle.sym_parts.specs.declared.kind.NameKind.TheVariants as kind
 
--- A name by the letter of its namespace: C, S, v or t. A value is a function, a constant or a static: the letter is one.
+-- The kind of a name by the letter of its namespace, C, S, v or t. Functions, constants and statics share the letter v.
 unfoldable pub kind_of_letter : ℕ → NameKind
 kind_of_letter letter =
     if letter == 67 then kind.Closure else (if letter == 83 then kind.Shim else (if letter == 118 then kind.Value else (if letter == 116 then kind.Type else kind.Item)))
 
--- A path. One with a lower-case letter and a name without bytes isn't shown, and is what its parent is; so is one with arguments.
+-- The kind of a path. A path with arguments, or with a lower-case letter and an empty name (not shown), has its parent's kind.
 unfoldable pub kind_of_path : Path → NameKind
 kind_of_path (nested namespace parent own) =
     elim (nat_le 97 namespace && is_empty own.name.bytes) [ true ↦ kind_of_path parent | false ↦ kind_of_letter namespace ]
@@ -18,6 +18,6 @@ kind_of_path (generic parent args) = kind_of_path parent
 kind_of_path (crate_root own) = kind.Crate
 kind_of_path path = kind.Impl
 
--- a whole symbol
+-- the kind of a whole symbol
 unfoldable pub kind_of_symbol : Symbol → NameKind
 kind_of_symbol symbol = kind_of_path symbol.path

@@ -17,7 +17,7 @@ abbrev pub argument : (list number : ℕ) → Ordinal
 argument list number = record { item = list; element = number }
 
 unfoldable mutual
-  -- the arguments of a list from one on, by their numbers; a comma is in no argument
+  -- the arguments of a list from this number on; a comma is in no argument
   pub elements : (list number : ℕ) → Unshared → Marked
   elements list number (item one rest) = alone role.GenericArgument (argument list number) (text_of one) (listed list (number + 1) rest)
   elements list number (bytes comma (item one rest)) =
@@ -42,7 +42,7 @@ unfoldable pub of_trait : Unshared → Marked
 of_trait (bytes between (item implemented rest)) = text between (alone role.Trait only (text_of implemented) (plain rest))
 of_trait printed = plain printed
 
--- the type that an implementation is of, and its trait
+-- the self type of an implementation, and its trait
 unfoldable pub of_type : Unshared → Marked
 of_type (bytes opening (item self_type rest)) = text opening (alone role.SelfType only (text_of self_type) (of_trait rest))
 of_type printed = plain printed
@@ -53,7 +53,7 @@ implementation printed = marked role.Impl only (of_type printed) marks.done
 
 -- ## Paths
 
--- What a name is in, before this many lists of arguments: its crate or its implementation is a part, and so are the arguments of
+-- The scope of a name, before this many lists of arguments: its crate or implementation is a part, and so are the arguments of
 -- each path in it.
 unfoldable pub scope : (lists : ℕ) → Path → Unshared → Marked
 scope lists (nested namespace parent own) (item printed rest) = scope lists parent printed before plain rest

@@ -32,7 +32,7 @@ IsSort y node (sort.Nested parent) =
     × ((own : Identifier) × (own.name.bytes ≡ text_in (fields_at y node)) × (path_at y node ≡ nested (number_in (fields_at y node) 0) (path_at y parent) own))
 IsSort y node (sort.Generic parent) = (parent < node) × ((args : Arguments) × (path_at y node ≡ generic (path_at y parent) args))
 
--- what a name is in, before this many lists of arguments, by the sort of its path
+-- the scope of a name, before this many lists of arguments, by the sort of the scope's path
 unfoldable pub scope_by : ReadSymbol → (lists : ℕ) → PathSort → Unshared → Marked
 scope_by y lists (sort.Nested parent) (item one rest) = scope lists (path_at y parent) one before plain rest
 scope_by y lists (sort.Generic parent) (item one rest) = scope (lists + 1) (path_at y parent) one before arguments lists rest

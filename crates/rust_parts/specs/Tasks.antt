@@ -33,7 +33,7 @@ marked_of y (apart.Name lists node i) = name lists (path_at y node) (unshared_of
 marked_of y (apart.Scope lists node i) = scope lists (path_at y node) (unshared_of y i)
 marked_of y (apart.Elements list number i) = elements list number (unshared_of y i)
 
--- A piece of the symbol, whose item costs at most this much. Its count has room for all that the item prints.
+-- A piece of the symbol. Its item costs at most this much, and its count has room for all that the item prints.
 unfoldable pub IsApart : ReadSymbol → (most : ℕ) → Apart → Type 0
 IsApart y most (apart.Name lists node i) = (node < length y.table.nodes) × IsPayable y most i × (lists + cost_of (unshared_of y i) ≤ most)
 IsApart y most (apart.Scope lists node i) = (node < length y.table.nodes) × IsPayable y most i × (lists + cost_of (unshared_of y i) ≤ most)

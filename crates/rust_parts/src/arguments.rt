@@ -18,7 +18,7 @@ use sym_parts::{
 };
 use sym_print::{Item, Part};
 
-/// One part, an item's text, after a text.
+/// A text, and after it one part that has an item's text.
 ///
 /// # Errors
 ///
@@ -73,7 +73,7 @@ fn push_listed(
     }
 }
 
-/// The arguments of a list from one on, by its number.
+/// The arguments of a list from this number on.
 ///
 /// # Errors
 ///

@@ -25,7 +25,7 @@ fn kind_of_letter(letter: u64) -> NameKind
     }
 }
 
-/// Whether a name after its parent isn't shown: it has a lower-case letter and no bytes.
+/// Whether a name after its parent isn't shown: its namespace is a lower-case letter, and it has no bytes.
 fn is_passed(y: &Symbol, node: u32) -> bool
     requires { node < length y.now.table.nodes }
     ensures { result ≡ (nat_le 97 (number_in (fields_at y.now node) 0) && is_empty (text_in (fields_at y.now node))) }

@@ -9,12 +9,13 @@ ghost use Rattle.sym_parts.specs.Marked.{stretches_of};
 ghost use Rattle.sym_parts.specs.Placed.{AreStretchesPlaced};
 ghost use Rattle.rust_parts.specs.Roles.{symbol_marked};
 
-/// Without its marks the text is what is printed.
+/// A marked text without its marks is the printed text.
 pub fn marks_change_no_text()
     ensures { (s : tree.Symbol) (printed : Unshared) → marks.text_of (symbol_marked s printed) ≡ text_of printed }
 {}
 
-/// The stretches are slices of what is printed, in the order of their starts; of two, one is within the other, or they are apart.
+/// The stretches are slices of what is printed, in the order of their starts; of two stretches one
+/// is within the other, or they are apart.
 pub fn stretches_are_placed()
     ensures { (s : tree.Symbol) (printed : Unshared) → AreStretchesPlaced (length (text_of printed)) (stretches_of (symbol_marked s printed)) }
 {}

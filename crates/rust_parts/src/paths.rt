@@ -52,7 +52,7 @@ fn push_of_trait(
     }
 }
 
-/// The type that an implementation is of, and its trait.
+/// The self type of an implementation, and its trait.
 ///
 /// # Errors
 ///

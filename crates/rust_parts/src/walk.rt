@@ -24,7 +24,7 @@ use sym_core::Refusal;
 use sym_parts::{Stretch, Stretches, Task, Tasks, length_of_part};
 use sym_print::{Item, Layout};
 
-/// Takes the path of a name apart.
+/// Takes apart the path of a name.
 ///
 /// # Errors
 ///
@@ -48,7 +48,7 @@ fn take_name(
     push_name(y, tasks, lists, sort, &parts, most)
 }
 
-/// Takes the path that a name is in apart.
+/// Takes apart the path that a name is in.
 ///
 /// # Errors
 ///
@@ -72,7 +72,7 @@ fn take_scope(
     push_scope(y, tasks, lists, sort, &parts, most)
 }
 
-/// Takes the arguments from one on apart.
+/// Takes apart the arguments of a list from this number on.
 ///
 /// # Errors
 ///
@@ -141,7 +141,7 @@ fn take(
     }
 }
 
-/// The stretches of a symbol's text in a detail, if that costs at most the limit.
+/// The stretches of a symbol's text in a detail, if the text costs at most the limit.
 ///
 /// # Errors
 ///
@@ -168,7 +168,7 @@ pub fn stretches_as(
     Ok(found.into_list())
 }
 
-/// The stretches of a symbol's text in full, if that costs at most the limit.
+/// The stretches of a symbol's text in full, if the text costs at most the limit.
 ///
 /// # Errors
 ///

@@ -1,17 +1,6 @@
--- Components that are apart, each the tree of a node, are at most as many as the nodes.
-use Rattle.std.proofs.Common.{◌≡◌, ℕ, zero, suc, ◌+◌, ◌≤◌, length, List, [], ◌∷◌, slice_get, Some, None, true, false, ap, arith, sym, subst, ◌∙◌}
-use Rattle.std.proofs.lemmas.Option.{same_Some}
-use Rattle.rust_tree.specs.Tree.{Tree, of_symbol}
+-- If components are apart and each is the tree of a node, there are at most as many of them as nodes.
+use Rattle.rust_press.proofs.Basics.{◌≡◌, ℕ, zero, suc, ◌+◌, ◌≤◌, length, List, [], ◌∷◌, slice_get, Some, None, true, false, ap, arith, sym, subst, ◌∙◌, same_Some, Tree, of_symbol, ReadSymbol, trees_of, symbol_in, length-trees, whole_of, same_tree, Component, IsNew, AreApart, spelled_components, AreOfNodes, press_root, press_some, press_tree, HasFewComponents}
 use Rattle.rust_tree.specs.Symbol as tree
-use Rattle.rust_tree.specs.Layout.{ReadSymbol, trees_of}
-use Rattle.rust_tree.specs.Nodes.{symbol_in}
-use Rattle.rust_tree.proofs.Trees.{length-trees}
-use Rattle.rust_v0.specs.Whole.{whole_of}
-use Rattle.rust_press.specs.Same.{same_tree}
-use Rattle.rust_press.specs.Pressing.{Component}
-use Rattle.rust_press.specs.Apart.{IsNew, AreApart, spelled_components}
-use Rattle.rust_press.specs.Tasks.{AreOfNodes, press_root, press_some, press_tree}
-use Rattle.rust_press.specs.OfRead.{HasFewComponents}
 use Rattle.rust_press.proofs.PressApart.{components-apart}
 
 -- ## The other nodes
@@ -30,7 +19,7 @@ one-less [] k t is = absurd (none-some is)
 one-less (u ∷ us) zero t is = omega arith
 one-less (u ∷ us) (suc k) t is = omega (arith, one-less us k t is)
 
--- another tree is still there
+-- a tree that differs from the one left out is among the other trees
 still-there : (all : List Tree) (k j : ℕ) (t u : Tree) → slice_get all k ≡ Some t → slice_get all j ≡ Some u → (t ≡ u → ⊥)
     → (m : ℕ) × (slice_get (without k all) m ≡ Some u)
 unfolding without

@@ -1,24 +1,11 @@
--- Keys of nodes, and what a map of them is after one more.
-use Rattle.std.proofs.Common.{◌≡◌, ℕ, zero, suc, ◌<◌, ◌≤◌, length, List, [], ◌∷◌, ◌++◌, slice_get, get_or, Some, Bool, true, false, refl, ap, arith, sym, subst, ◌∙◌, length-append}
-use Rattle.std.proofs.lemmas.Option.{same_Some}
-use Rattle.rust_tree.proofs.Trees.{got-there}
-use Rattle.std.specs.Prelude.{map, nat_lt}
+-- Keys of nodes, and a map of keys after one more key.
+use Rattle.rust_press.proofs.Basics.{◌≡◌, ℕ, zero, suc, ◌<◌, ◌≤◌, length, List, [], ◌∷◌, ◌++◌, slice_get, get_or, Some, Bool, true, false, refl, ap, arith, sym, subst, ◌∙◌, length-append, same_Some, got-there, map, nat_lt, ltb-true, lt-ltb, Span, Tree, Fields, fields_of, tree_from, ReadSymbol, trees_of, fields_at, fields_in, number_at, TellApart, AreKeys, IsLookUp, IsKeyOf, IsPartNumber, key_cmp, mark_of, found_in}
 use Rattle.std.specs.BTreeMap.{get}
 use Rattle.std.specs.Ordering.{is_eq}
-use Rattle.std.proofs.lemmas.Bool.{ltb-true, lt-ltb}
-use Rattle.sym_core.specs.declared.Span.{Span}
-use Rattle.rust_tree.specs.Tree.{Tree}
-use Rattle.rust_tree.specs.Fields.{Fields, fields_of, tree_from}
-use Rattle.rust_tree.specs.Layout.{ReadSymbol, trees_of}
-use Rattle.rust_tree.specs.Views.{fields_at, fields_in}
 use Rattle.rust_tree.proofs.Rebuilding.{tree-made}
-use Rattle.sym_spell.specs.Numbers.{number_at, TellApart}
 use Rattle.sym_spell.proofs.Entering.{old-number}
-use Rattle.sym_spell.proofs.FirstOnes.{AreKeys, IsLookUp}
 use Rattle.sym_spell.proofs.Orders.{equal-is, first-tied, then-tied, number-tied, number-itself, list-tied, list-itself, same-look}
 use Rattle.rust_press.specs.declared.numbering.Key.{Key}
-use Rattle.rust_press.specs.Numbers.{IsKeyOf, IsPartNumber}
-use Rattle.rust_press.specs.Marks.{key_cmp, mark_of, found_in}
 use Rattle.sym_spell.specs.declared.firsts.Firsts.{Firsts}
 use Rattle.sym_spell.proofs.Placed.{same-first}
 
@@ -77,7 +64,7 @@ equal-numbers (x ∷ xs) (y ∷ ys) long each =
 
 -- ## A map of keys
 
--- a test of keys that answers true just where the map takes them for one
+-- two keys agree in each field, so that the map takes them for one key
 pub record AreOne (a b : Key) : Type 0 where
   pub production : a.production ≡ b.production
   pub own_numbers : a.numbers ≡ b.numbers
@@ -88,7 +75,7 @@ pub record AreOne (a b : Key) : Type 0 where
 
 -- ## Keys and trees
 
--- the number of a part stays when another node gets one
+-- the number of a part stays the same when another node gets a number
 part-grown : (all : List Tree) (ns : List ℕ) (n : ℕ) (parts : List Tree) (k m : ℕ) → IsPartNumber all ns parts k m → IsPartNumber all (ns ++ n ∷ []) parts k m
 part-grown all ns n parts k m (p, low, is, at) = (p, omega (arith, low, length-append ns (n ∷ [])), is, at ∙ sym (old-number ns n p low))
 
@@ -155,9 +142,9 @@ fields-one all ns a b given so h k = record {
             p.3 ∙ so.equal p.0 q.0 p.1 q.1 (p.2 ∙ sym q.2) ∙ sym q.3
         go false is = h.rest i (at-least i (length given.parts) is) ∙ sym (k.rest i (at-least i (length given.parts) is))
 
--- ## One node more
+-- ## One more node
 
--- a key that is one with a node's key is a key of the node
+-- a key that agrees in each field with a key of these fields is a key of these fields
 taken-over : (all : List Tree) (ns : List ℕ) (a b : Key) (given : Fields) → IsKeyOf all ns given a → AreOne a b → IsKeyOf all ns given b
 taken-over all ns a b given h same = record {
   production = sym same.production ∙ h.production;
@@ -196,7 +183,7 @@ are-keys y = record {
   itself = one-itself;
 }
 
--- ## The order of keys that is derived
+-- ## The derived order of keys
 
 abbrev pub test : Key → Key → Bool
 test a b = is_eq (key_cmp a b)

@@ -1,12 +1,6 @@
--- What pressing spells out is spelled out once: what a tree adds is smaller than the tree.
-use Rattle.std.proofs.Common.{◌≡◌, ℕ, zero, suc, ◌+◌, ◌<◌, ◌≤◌, length, List, [], ◌∷◌, ◌++◌, Option, Some, None, Bool, true, false, refl, ap, arith, sym, subst, ◌∙◌, append_assoc}
-use Rattle.std.specs.Prelude.{if◌then◌else◌}
+-- What pressing spells out is spelled out once, since the components in a tree are smaller than the tree.
+use Rattle.rust_press.proofs.Basics.{◌≡◌, ℕ, zero, suc, ◌+◌, ◌<◌, ◌≤◌, length, List, [], ◌∷◌, ◌++◌, Option, Some, None, Bool, true, false, refl, ap, arith, sym, subst, ◌∙◌, append_assoc, if◌then◌else◌, Tree, of_path, of_type, of_constant, same_tree, IsNew, AreApart, ComponentsAreApart, ◌and◌, text, letter, Component, Pressed, Pressing, number62, number16, counted, mark_if, press_name, count_of, identifier_of, press_identifier, press_lifetime, some_lifetime, press_abi, first_place, either, spelled_out, component, press_constant, spell_constant, path_or_reference, type_or_reference, spell_path, spell_type, press_arguments, press_types, press_bounds, press_bindings, press_path, press_other}
 use Rattle.rust_tree.specs.Symbol as tree
-use Rattle.rust_tree.specs.Tree.{Tree, of_path, of_type, of_constant}
-use Rattle.rust_press.specs.Same.{same_tree}
-use Rattle.rust_press.specs.Apart.{IsNew, AreApart, ComponentsAreApart}
-use Rattle.sym_spell.specs.Pressing.{◌and◌, text, letter}
-use Rattle.rust_press.specs.Pressing.{Component, Pressed, Pressing, number62, number16, counted, mark_if, press_name, count_of, identifier_of, press_identifier, press_lifetime, some_lifetime, press_abi, first_place, either, spelled_out, component, press_constant, spell_constant, path_or_reference, type_or_reference, spell_path, spell_type, press_arguments, press_types, press_bounds, press_bindings, press_path, press_other}
 use Rattle.rust_press.proofs.Sameness.{equal-tree}
 
 -- ## Sizes
@@ -68,7 +62,7 @@ abbrev AreBelow : ℕ → List Component → Type 0
 AreBelow n [] = Unit {0}
 AreBelow n (c ∷ cs) = (size_of_tree c.own < n) × AreBelow n cs
 
--- pressing adds components below a size, which are apart from each other and from those before
+-- pressing adds components below a size, which are apart from each other and from the components before
 record Adds (n : ℕ) (components : List Component) (pressed : Pressed) : Type 0 where
   added : List Component
   split : pressed.components ≡ added ++ components

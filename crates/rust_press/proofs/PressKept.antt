@@ -1,22 +1,8 @@
 -- Pressing keeps a tree: by induction over all of its parts.
-use Rattle.std.proofs.Common.{◌≡◌, ℕ, zero, suc, ◌+◌, ◌-◌, ◌≤◌, inl, inr, length, List, [], ◌∷◌, ◌++◌, Option, Some, Bool, true, false, refl, arith}
-use Rattle.std.specs.Prelude.{max}
-use Rattle.sym_shape.specs.declared.rule.Sym.TheVariants.{Kind, Byte}
+use Rattle.rust_press.proofs.Basics.{◌≡◌, ℕ, zero, suc, ◌+◌, ◌-◌, ◌≤◌, inl, inr, length, List, [], ◌∷◌, ◌++◌, Option, Some, Bool, true, false, refl, arith, max, Kind, Byte, of_path, of_type, need, need_of_type, need_of_arguments, need_of_types, need_of_bounds, need_of_bindings, Production, production_of, taking, chaining, Value, At, bound_behind, meaning, meaning_of, plain, ends, greatest_u64, Presses, ◌and◌, letter, mark_if, press_name, press_disambiguator, press_binder, press_identifier, press_lifetime, some_lifetime, press_abi, spelled_out, press_constant, path_or_reference, type_or_reference, spell_path, spell_type, press_arguments, press_types, press_bounds, press_bindings, IsSpellable, AreSpellableArguments, IsSpellableType, AreSpellableTypes, AreSpellableBounds, AreSpellableBindings, IsTypeValue}
 use Rattle.rust_tree.specs.Symbol as tree
-use Rattle.rust_tree.specs.Tree.{of_path, of_type}
-use Rattle.rust_tree.specs.Need.{need, need_of_type, need_of_arguments, need_of_types, need_of_bounds, need_of_bindings}
-use Rattle.rust_grammar.specs.declared.production.Production.{Production}
 use Rattle.rust_grammar.specs.declared.production.Production.TheVariants as rules
-use Rattle.rust_grammar.specs.Productions.{production_of}
-use Rattle.rust_grammar.specs.Rules.{taking, chaining}
 use Rattle.rust_grammar.specs.Value as value
-use Rattle.rust_grammar.specs.Value.{Value}
-use Rattle.rust_grammar.specs.Unfold.{At, bound_behind, meaning, meaning_of, plain, ends, greatest_u64}
-use Rattle.rust_press.specs.PressLaws.{Presses}
-use Rattle.sym_spell.specs.Pressing.{◌and◌, letter}
-use Rattle.rust_press.specs.Pressing.{mark_if, press_name, press_disambiguator, press_binder, press_identifier, press_lifetime, some_lifetime, press_abi, spelled_out, press_constant, path_or_reference, type_or_reference, spell_path, spell_type, press_arguments, press_types, press_bounds, press_bindings}
-use Rattle.rust_press.specs.Spellable.{IsSpellable, AreSpellableArguments, IsSpellableType, AreSpellableTypes, AreSpellableBounds, AreSpellableBindings}
-use Rattle.rust_press.specs.Subtrees.{IsTypeValue}
 use Rattle.rust_press.proofs.PressParts.{takes-plain, takes-ends, chains-plain, and-presses, last-presses, empty-presses, byte-presses, letter-presses}
 use Rattle.rust_press.proofs.PressReferences.{HasPaths, paths-1, paths-11, path-presses, path-type-presses, own-type-presses}
 use Rattle.rust_press.proofs.PressTokens.{Makes, Ends, name-at, disambiguator_values, disambiguator-presses, binder_values, binder-presses, identifier_values, identifier-presses, lifetime-presses, lifetime_values, some-lifetime-presses, unsafe_values, unsafe-presses, abi_values, abi-presses, namespace-presses, constant-kept, basic-presses}

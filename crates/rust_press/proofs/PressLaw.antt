@@ -1,14 +1,7 @@
 -- The laws of pressing.
-use Rattle.std.proofs.Common.{◌≡◌, Ok, Result, refl, ap, sym, ◌∙◌, subst}
-use Rattle.sym_core.specs.declared.refusal.Refusal.{Refusal}
-use Rattle.sym_core.specs.declared.NameClass.TheVariants.{Rust}
-use Rattle.sym_shape.specs.SheetLaws.{lawful_sheet}
+use Rattle.rust_press.proofs.Basics.{◌≡◌, Ok, Result, refl, ap, sym, ◌∙◌, subst, Refusal, Rust, lawful_sheet, v0_table, kinds, no_kind, unfolded, pressed, IsSpellableSymbol, PressedIsRead, PressedOnce}
 use Rattle.sym_shape.proofs.Uniqueness.{one_tree}
 use Rattle.rust_tree.specs.Symbol as tree
-use Rattle.rust_grammar.specs.Rules.{v0_table, kinds, no_kind}
-use Rattle.rust_grammar.specs.Unfold.{unfolded}
-use Rattle.rust_press.specs.Pressing.{pressed}
-use Rattle.rust_press.specs.PressLaws.{IsSpellableSymbol, PressedIsRead, PressedOnce}
 use Rattle.rust_press.proofs.PressSymbol.{symbol-kept}
 use Rattle.rust_press.proofs.PressRead.{Holds}
 use Rattle.rust_press.proofs.PressReadTrees.{read-spellable}

@@ -1,21 +1,6 @@
 -- The spellings of numbers are those of the grammar, and have the values of the numbers.
-use Rattle.std.proofs.Common.{◌≡◌, ℕ, zero, suc, ◌+◌, ◌/◌, ◌%◌, ◌<◌, ◌≤◌, length, List, [], ◌∷◌, ◌++◌, Bool, true, false, refl, ap, arith, sym, ◌∙◌}
-use Rattle.std.specs.Prelude.{◌==◌, ◌||◌, if◌then◌else◌}
-use Rattle.std.specs.Fmt.{digit_glyph}
-use Rattle.std.proofs.lemmas.Bool.{eqb-false}
-use Rattle.std.proofs.lemmas.Bool.Decides.{nat_tests}
-use Rattle.sym_core.specs.declared.NumberKind.TheVariants.{Base62, Hex}
-use Rattle.sym_core.specs.declared.NameClass.TheVariants.{Rust}
-use Rattle.sym_core.specs.Number.{AreDigits, AreDigitsOf, is_digit_of, is_decimal_digit}
-use Rattle.sym_core.specs.Value.{digit_value, value_of}
-use Rattle.sym_core.specs.Token.{IsName, IsSeparator, AreNameBytes}
-use Rattle.rust_tree.specs.Hexadecimal.{hexadecimal, hexadecimal_before}
+use Rattle.rust_press.proofs.Basics.{◌≡◌, ℕ, zero, suc, ◌+◌, ◌/◌, ◌%◌, ◌<◌, ◌≤◌, length, List, [], ◌∷◌, ◌++◌, Bool, true, false, refl, ap, arith, sym, ◌∙◌, ◌==◌, ◌||◌, if◌then◌else◌, digit_glyph, eqb-false, nat_tests, Base62, Hex, Rust, AreDigits, AreDigitsOf, is_digit_of, is_decimal_digit, digit_value, value_of, IsName, IsSeparator, AreNameBytes, hexadecimal, hexadecimal_before, value62, value16, most62, digits_in, decimal_digit, digit62, Divides, digits-value, digits-all, digits-count, digits-some, length-form, length-digits, length-value, digits62, digits16, separator}
 use Rattle.rust_tree.proofs.Numerals.{value-hexadecimal}
-use Rattle.rust_grammar.specs.Unfold.{value62, value16}
-use Rattle.rust_press.specs.Spellable.{most62}
-use Rattle.sym_spell.specs.Digits.{digits_in, decimal_digit, digit62}
-use Rattle.sym_spell.proofs.DigitValues.{Divides, digits-value, digits-all, digits-count, digits-some, length-form, length-digits, length-value}
-use Rattle.rust_press.specs.Pressing.{digits62, digits16, separator}
 
 -- ## Base 62
 

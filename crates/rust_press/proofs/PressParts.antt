@@ -1,27 +1,8 @@
 -- How pressing a rule follows from pressing its parts.
-use Rattle.std.proofs.Common.{◌≡◌, ℕ, ◌+◌, ◌<◌, ◌≤◌, length, List, [], ◌∷◌, ◌++◌, Option, Some, None, Bool, true, false, Ok, refl, ap, arith, sym, subst, ◌∙◌, length-append, append_assoc, append-nil}
-use Rattle.std.specs.Prelude.{◌==◌, if◌then◌else◌, slice_index}
-use Rattle.std.proofs.lemmas.Bool.{eqb-true, eq-eqb}
-use Rattle.sym_core.specs.declared.NumberKind.{NumberKind}
-use Rattle.sym_core.specs.Token.{IsName}
-use Rattle.sym_core.specs.declared.NameClass.TheVariants.{Rust}
-use Rattle.sym_core.specs.Number.{AreDigitsOf, ending_of}
-use Rattle.sym_shape.specs.declared.rule.Rule.{Rule}
-use Rattle.sym_shape.specs.declared.rule.Sym.{Sym}
-use Rattle.sym_shape.specs.declared.rule.Sym.TheVariants.{Kind, Name, Number, Byte}
-use Rattle.sym_shape.specs.Table.{symbols_of}
+use Rattle.rust_press.proofs.Basics.{◌≡◌, ℕ, ◌+◌, ◌<◌, ◌≤◌, length, List, [], ◌∷◌, ◌++◌, Option, Some, None, Bool, true, false, Ok, refl, ap, arith, sym, subst, ◌∙◌, length-append, append_assoc, append-nil, ◌==◌, if◌then◌else◌, slice_index, eqb-true, eq-eqb, NumberKind, IsName, Rust, AreDigitsOf, ending_of, Rule, Sym, Kind, Name, Number, Byte, symbols_of, Tree, Production, production_of, v0_table, Value, Ended, v0, ended_at, At, byte_at, bound_behind, is_minus, meaning_of, plain, ends, token_of, ◌and◌, text, letter, nothing, Component, Pressed, Pressing, spelled_out, as_value, AreListed, Agrees, state_of, Reads, Presses, ReadsRow, PressesRow}
 use Rattle.sym_shape.specs.Tree.{Tree as Shape, branch, empty, token, fixed, grown, spell, IsTree, AreTrees}
 use Rattle.sym_link.specs.Unfold as linked
 use Rattle.sym_shape.specs.Tree as shape
-use Rattle.rust_tree.specs.Tree.{Tree}
-use Rattle.rust_grammar.specs.declared.production.Production.{Production}
-use Rattle.rust_grammar.specs.Productions.{production_of}
-use Rattle.rust_grammar.specs.Rules.{v0_table}
-use Rattle.rust_grammar.specs.Value.{Value, Ended}
-use Rattle.rust_grammar.specs.Unfold.{v0, ended_at, At, byte_at, bound_behind, is_minus, meaning_of, plain, ends, token_of}
-use Rattle.sym_spell.specs.Pressing.{◌and◌, text, letter, nothing}
-use Rattle.rust_press.specs.Pressing.{Component, Pressed, Pressing, spelled_out}
-use Rattle.rust_press.specs.PressLaws.{as_value, AreListed, Agrees, state_of, Reads, Presses, ReadsRow, PressesRow}
 
 -- ## Components and places
 
@@ -57,7 +38,7 @@ listed-more e es place (c ∷ cs) free (there, from, low, rest) =
     other : e.place ≡ c.place → ⊥
     other is = none-some (sym free ∙ ap (ended_at es) is ∙ there)
 
--- what has ended still agrees with the components, once something more has ended at a free place before
+-- what has ended still agrees with the components, once something else has ended at an earlier free place
 pub agrees-more : (cs : List Component) (e : Ended) (es : List Ended) (place : ℕ) → e.place < place → ended_at es e.place ≡ None → Agrees cs es place → Agrees cs (e ∷ es) place
 agrees-more cs e es place low free a = record {
   listed = listed-more e es place cs free a.listed;
@@ -66,7 +47,7 @@ agrees-more cs e es place low free a = record {
       found-other e es q other ∙ a.behind q high;
 }
 
--- what has ended still agrees with the components, once a component has ended
+-- what has ended still agrees with the components, once one more component has ended
 pub agrees-component : (cs : List Component) (own : Tree) (at : ℕ) (es : List Ended) (place : ℕ) → 2 ≤ at → at < place → ended_at es at ≡ None → Agrees cs es place
     → Agrees (record { place = at; own = own } ∷ cs) (record { place = at; value = as_value own } ∷ es) place
 agrees-component cs own at es place from low free a =
@@ -131,7 +112,7 @@ last-presses s rule taken bound symbol known first Q R one more at before front 
       keeps = a.keeps;
     }
 
--- a row that begins with no bytes is the rest of the row
+-- a row after a part that writes nothing is the rest of the row
 pub behind-nothing : (s : List ℕ) (rule : Rule) (taken : List ℕ) (bound : ℕ) (symbols : List Sym) (known : List Value) (row : Pressing) (R : List Value → Type 0)
     → PressesRow s rule taken bound symbols known row R → PressesRow s rule taken bound symbols known (nothing and row) R
 behind-nothing s rule taken bound symbols known row R one at before front back place components start is-at from agrees =
@@ -141,7 +122,7 @@ behind-nothing s rule taken bound symbols known row R one at before front back p
     same : place ≡ place + 0
     same = omega arith
 
--- values of one sort that are read are values of another sort, too
+-- what is read as values for which Q holds is read as values for which R holds, if Q implies R
 pub reads-as : {s : List ℕ} {bound : ℕ} {inside : Option Production} {minus : Bool} {symbol : Sym} {Q R : List Value → Type 0} {place : ℕ} {ended : List Ended} {pressed : Pressed}
     → ((values : List Value) → Q values → R values) → Reads s bound inside minus symbol Q place ended pressed → Reads s bound inside minus symbol R place ended pressed
 reads-as more a = record {
@@ -301,7 +282,7 @@ letter-presses s bound inside minus kind byte rule value small found eats none m
     (none-presses s rule (byte ∷ []) bound [] (λ values. values ≡ []) refl))
     (λ at there same values h. rw h (means at there))
 
--- a rule that is a letter, and ends as something that is no component
+-- a rule that is a letter and makes something that ends, but is no component
 pub letter-ends : (s : List ℕ) (bound : ℕ) (inside : Option Production) (minus : Bool) (kind byte : ℕ) (rule : Rule) (v : Value)
     → byte < 256 → v0_table.rule kind byte ≡ Some rule → rule.eats ≡ true → symbols_of rule ≡ []
     → ((at : At) → byte_at at ≡ byte → meaning_of (production_of rule.number) at [] ≡ ends at v)

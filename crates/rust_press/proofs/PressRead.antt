@@ -1,26 +1,9 @@
 -- What is read can be spelled: its numbers, letters and names are in the ranges of the grammar, and what it needs is bound.
-use Rattle.std.proofs.Common.{◌≡◌, ℕ, ◌+◌, ◌<◌, ◌≤◌, inl, inr, List, [], ◌∷◌, Option, Some, None, Bool, true, false, Ok, refl, arith, subst}
-use Rattle.std.proofs.lemmas.Option.{same_Some}
-use Rattle.std.specs.Prelude.{◌==◌, if◌then◌else◌, nat_le, Result, Err}
-use Rattle.std.proofs.lemmas.Bool.{leb-true}
+use Rattle.rust_press.proofs.Basics.{◌≡◌, ℕ, ◌+◌, ◌<◌, ◌≤◌, inl, inr, List, [], ◌∷◌, Option, Some, None, Bool, true, false, Ok, refl, arith, subst, same_Some, ◌==◌, if◌then◌else◌, nat_le, Result, Err, leb-true, need, need_of_type, need_of_arguments, need_of_types, need_of_bounds, need_of_bindings, Production, Value, State, Ended, ended_at, At, byte_at, meaning, plain, as_path, as_type, as_constant, greatest_u64, greatest_u128, is_scalar, Refusal, BadValue, BadReference, nat_tests, ByteRange, in_ranges, Found, ◌>>=◌, basic_letters, signed_letters, unsigned_letters, letters, each, Integer, most62, is_signed, is_unsigned, IsSpellableName, IsSpellableIdentifier, IsSpellableAbi, IsSpellableInteger, IsSpellableConstant, IsSpellable, AreSpellableArguments, IsSpellableType, AreSpellableTypes, AreSpellableBounds, AreSpellableBindings}
 use Rattle.rust_tree.specs.Symbol as tree
-use Rattle.rust_tree.specs.Need.{need, need_of_type, need_of_arguments, need_of_types, need_of_bounds, need_of_bindings}
-use Rattle.rust_grammar.specs.declared.production.Production.{Production}
 use Rattle.rust_grammar.specs.declared.production.Production.TheVariants as rules
 use Rattle.rust_grammar.specs.Value as value
-use Rattle.rust_grammar.specs.Value.{Value, State, Ended}
-use Rattle.rust_grammar.specs.Unfold.{ended_at, At, byte_at, meaning, plain, as_path, as_type, as_constant, greatest_u64, greatest_u128, is_scalar}
-use Rattle.sym_core.specs.declared.refusal.Refusal.{Refusal}
-use Rattle.sym_core.specs.declared.refusal.Refusal.TheVariants.{BadValue, BadReference}
-use Rattle.std.proofs.lemmas.Bool.Decides.{nat_tests}
-use Rattle.sym_shape.specs.declared.sheet.ByteRange.{ByteRange}
-use Rattle.sym_shape.specs.Sheet.{in_ranges}
-use Rattle.sym_link.specs.Reading.{Found, ◌>>=◌}
-use Rattle.rust_grammar.specs.BasicLetters.{basic_letters, signed_letters, unsigned_letters}
-use Rattle.rust_grammar.specs.Rules.{letters, each}
-use Rattle.rust_grammar.specs.Value.{Integer}
 use Rattle.rust_grammar.specs.Unfold.{Meaning, number_part, integer_part, letter_part, name_part, identifier_part, path_part, type_part, constant_part, lifetime_part, truth_part, abi_value_part, types_part, disambiguator_part, binder_part, some_lifetime_part, unsafe_part, minus_part, abi_part, arguments_part, bounds_part, bindings_part, refers_to_path, refers_to_type, refers_to_constant, bounded, referred, ends_path, ends_type, ends_constant}
-use Rattle.rust_press.specs.Spellable.{most62, is_signed, is_unsigned, IsSpellableName, IsSpellableIdentifier, IsSpellableAbi, IsSpellableInteger, IsSpellableConstant, IsSpellable, AreSpellableArguments, IsSpellableType, AreSpellableTypes, AreSpellableBounds, AreSpellableBindings}
 
 -- a fact holds of what is found, or there is a refusal
 abbrev pub Holds : {A : Type 0} → (A → Type 0) → Result A Refusal → Type 0
@@ -34,12 +17,12 @@ holds-then P Q (Err e) f is more = tt
 
 -- ## Good values
 
--- a number in base 62 has at most eleven digits
+-- a number has at most eleven digits in base 62, unless it is the code of a char
 abbrev pub IsGoodNumber : Production → ℕ → Type 0
 IsGoodNumber rules.CharConstant n = Unit {0}
 IsGoodNumber _ n = n ≤ most62
 
--- zero has no minus, and an integer that isn't signed has none
+-- zero has no minus, and neither does an unsigned integer
 abbrev pub IsGoodInteger : Production → Integer → Type 0
 IsGoodInteger rules.UnsignedConstant i = i.minus ≡ false
 IsGoodInteger _ i = i.minus ≡ true → 0 < i.magnitude
@@ -48,7 +31,7 @@ abbrev pub IsGoodOther : (bound : ℕ) → Option tree.Path → Type 0
 IsGoodOther b None = Unit {0}
 IsGoodOther b (Some x) = IsSpellable x × (need x ≤ b)
 
--- what holds of each value as a part of a production, where n lifetimes are bound
+-- what holds of each value as a part of a production, where `bound` lifetimes are bound
 abbrev pub IsGood : Production → (bound : ℕ) → Value → Type 0
 IsGood p b (value.number n) = IsGoodNumber p n
 IsGood p b (value.an_integer i) = IsGoodInteger p i
@@ -88,8 +71,8 @@ abbrev pub AllGood : Production → (bound : ℕ) → List Value → Type 0
 AllGood p b [] = Unit {0}
 AllGood p b (v ∷ vs) = IsGood p b v × AllGood p b vs
 
--- The parts of a rule after a binder, which is the first part. In a function it binds around all parts after it, and in
--- a `dyn` around its bounds.
+-- The parts of a rule whose first part may be a binder. In a function, the binder's lifetimes are bound in all parts after it,
+-- and in a `dyn` in its bounds.
 abbrev pub FunctionGood : (outer : ℕ) → List Value → Type 0
 FunctionGood outer (value.a_binder n ∷ rest) = (n ≤ 1000) × AllGood rules.Function (outer + n) rest
 FunctionGood outer known = AllGood rules.Function outer known
@@ -107,7 +90,7 @@ AreGood rules.Function outer known = FunctionGood outer known
 AreGood rules.Dyn outer known = DynGood outer known
 AreGood p outer known = AllGood p outer known
 
--- what good parts make is good, as a part of any production
+-- what good parts make is good as a part of any production, and so is what has ended
 abbrev pub MadeGood : (bound : ℕ) → Meaning → Type 0
 MadeGood b m = Holds (λ f. ((q : Production) → IsGood q b f.value) × HasGoodEndings f.state.ended) m
 
@@ -318,7 +301,7 @@ constant-referred at None known endings = tt
 constant-referred at (Some (value.a_constant x)) known endings = (λ q. known (value.a_constant x) refl, (known (value.a_constant x) refl, endings))
 constant-referred at (Some _) known endings = tt
 
--- an integer is signed as its letter says
+-- an integer that its letter allows, and that has at most 128 bits, can be spelled
 integer-good : (c : ℕ) (i : Integer) → c < 256 → i.magnitude ≤ greatest_u128 → IsSpellableInteger c i.minus i.magnitude → IsSpellableConstant (tree.integer c i.minus i.magnitude)
 integer-good c i byte few good = (byte, few, good)
 
@@ -371,7 +354,7 @@ is_inner rules.Symbol = false
 is_inner rules.Suffix = false
 is_inner _ = true
 
--- what each production makes of good parts is good
+-- each production makes something good of good parts
 pub made : (p : Production) (at : At) (parts : List Value) → is_inner p ≡ true → FitsByte (expected p) (byte_at at) → AreGood p at.bound parts → HasGoodEndings at.ended → MadeGood at.bound (meaning p at parts)
 unfolding need need_of_arguments need_of_type need_of_types need_of_bounds need_of_bindings
 made rules.DisambiguatedIdentifier at parts inner byte good endings =

@@ -1,44 +1,10 @@
--- What is read of a tree of the grammar can be spelled.
-use Rattle.std.proofs.Common.{◌≡◌, ℕ, zero, suc, ◌+◌, ◌<◌, ◌≤◌, length, List, [], ◌∷◌, ◌++◌, Option, Some, None, Bool, true, false, Ok, refl, ap, arith, sym, subst, ◌∙◌, length-append, append_assoc, append-nil}
-use Rattle.std.proofs.lemmas.Option.{same_Some}
-use Rattle.std.proofs.Math.Seq.{drop-append_seam}
-use Rattle.std.specs.Prelude.{◌==◌, if◌then◌else◌, nat_lt, codes, ◌&&◌, ◌*◌, not, Result, Err, get_or}
-use Rattle.std.proofs.lemmas.Bool.{ltb-true, and_parts}
-use Rattle.sym_core.specs.declared.NumberKind.TheVariants.{Base62, Hex}
-use Rattle.sym_shape.specs.declared.rule.Rule.{Rule}
-use Rattle.sym_shape.specs.declared.rule.Sym.{Sym}
-use Rattle.sym_shape.specs.declared.rule.Sym.TheVariants.{Kind, Name, Number, Byte}
+-- What a shape of the grammar is read as can be spelled.
+use Rattle.rust_press.proofs.Basics.{◌≡◌, ℕ, zero, suc, ◌+◌, ◌<◌, ◌≤◌, length, List, [], ◌∷◌, ◌++◌, Option, Some, None, Bool, true, false, Ok, refl, ap, arith, sym, subst, ◌∙◌, length-append, append_assoc, append-nil, same_Some, drop-append_seam, ◌==◌, if◌then◌else◌, nat_lt, codes, ◌&&◌, ◌*◌, not, Result, Err, get_or, ltb-true, and_parts, Base62, Hex, Rule, Sym, Kind, Name, Number, Byte, need, Production, production_of, v0_table, taking, Value, State, v0, At, bound_behind, is_minus, meaning, meaning_of, token_of, value62, value16, slice_index, drop, list_all, AllByRecursion, nat_tests, Refusal, Length, Rust, AreDigits, AreDigitsOf, IsLengthForm, is_digit_of, digit_value, value_onto, value_of, Token, ByteRange, Choice, KindSheet, classes_of, in_ranges, are_covered, choice_at, are_covered_in, symbols_of, IsToken, Found, Open, ◌>>=◌, unfold_tree, unfold_forest, standing, alone, kinds, no_kind, suffix_bytes, each, Meaning, path_part, other_path_part, suffix_part, at_rule, at_first, symbol_of, unfolded, most62, IsSpellable, IsSpellableName, IsSpellableSuffix, IsSpellableSymbol, IsClosedOther}
 use Rattle.rust_tree.specs.Symbol as tree
-use Rattle.rust_tree.specs.Need.{need}
-use Rattle.rust_grammar.specs.declared.production.Production.{Production}
 use Rattle.rust_grammar.specs.declared.production.Production.TheVariants as rules
-use Rattle.rust_grammar.specs.Productions.{production_of}
-use Rattle.rust_grammar.specs.Rules.{v0_table, taking}
 use Rattle.rust_grammar.specs.Value as value
-use Rattle.rust_grammar.specs.Value.{Value, State}
-use Rattle.rust_grammar.specs.Unfold.{v0, At, bound_behind, is_minus, meaning, meaning_of, token_of, value62, value16}
-use Rattle.std.specs.Prelude.{slice_index, drop}
-use Rattle.std.specs.List.{list_all, AllByRecursion}
-use Rattle.std.proofs.lemmas.Bool.Decides.{nat_tests}
-use Rattle.sym_core.specs.declared.refusal.Refusal.{Refusal}
-use Rattle.sym_core.specs.declared.NumberKind.TheVariants.{Length}
-use Rattle.sym_core.specs.declared.NameClass.TheVariants.{Rust}
-use Rattle.sym_core.specs.Number.{AreDigits, AreDigitsOf, IsLengthForm, is_digit_of}
-use Rattle.sym_core.specs.Value.{digit_value, value_onto, value_of}
-use Rattle.sym_core.specs.Token.{Token}
-use Rattle.sym_shape.specs.declared.sheet.ByteRange.{ByteRange}
-use Rattle.sym_shape.specs.declared.sheet.Choice.{Choice}
-use Rattle.sym_shape.specs.Sheet.{KindSheet, classes_of, in_ranges, are_covered, choice_at}
-use Rattle.sym_shape.specs.SheetLaws.{are_covered_in}
-use Rattle.sym_shape.specs.Table.{symbols_of, IsToken}
 use Rattle.sym_shape.specs.Tree.{Tree as Shape, Forest, branch, empty, token, fixed, grown, spell, spell_all, IsTree, AreTrees}
 use Rattle.sym_shape.specs.Tree as shape
-use Rattle.sym_link.specs.Reading.{Found, Open, ◌>>=◌}
-use Rattle.sym_link.specs.Unfold.{unfold_tree, unfold_forest, standing, alone}
-use Rattle.rust_grammar.specs.Rules.{kinds, no_kind, suffix_bytes, each}
-use Rattle.rust_grammar.specs.Unfold.{Meaning, path_part, other_path_part, suffix_part, at_rule, at_first, symbol_of, unfolded}
-use Rattle.rust_press.specs.Spellable.{most62, IsSpellable, IsSpellableName, IsSpellableSuffix}
-use Rattle.rust_press.specs.PressLaws.{IsSpellableSymbol, IsClosedOther}
 use Rattle.rust_press.proofs.PressParts.{byte-in}
 use Rattle.rust_press.proofs.PressRead.{Holds, holds-then, IsGood, HasGoodEndings, AllGood, FunctionGood, DynGood, AreGood, MadeGood, is_inner, expected, FitsByte, made}
 
@@ -150,7 +116,7 @@ and-second : (a b : Bool) → (a && b) ≡ true → b ≡ true
 and-second true b h = h
 and-second false b h = cc
 
--- the value of a token
+-- the value of a token is good
 token-good : (p : Production) (b : ℕ) (x : Sym) (t : Token) (minus : Bool) → takes_token p x ≡ true → IsToken Rust x t → IsGood p b (token_of (Some p) minus t.own)
 token-good rules.PlainName b x t minus fits is = name-good x t fits is false
 token-good rules.PunycodeName b x t minus fits is = name-good x t fits is true
@@ -181,7 +147,7 @@ kinds-fit : fit_kinds 0 kinds ≡ true
 unfolding fit_kinds fit_choices
 kinds-fit = refl
 
--- what a rule of the table may be
+-- what holds of each rule of the table, at each byte that chooses it
 pub record IsFitting (byte : ℕ) (rule : Rule) : Type 0 where
   pub production : Production
   pub is : production_of rule.number ≡ Some production
@@ -285,7 +251,7 @@ byte-fits (Some ranges) b c small fits =
     let f = fits ranges refl in
     (subst (λ d. d < 256) (sym f.0) small, subst (λ d. in_ranges ranges d ≡ true) (sym f.0) f.1)
 
--- a kind that a production takes as a part is one inside a symbol
+-- if a part is of a kind, the kind is one inside a symbol
 abbrev plain_symbol : Sym → Bool
 plain_symbol (Kind k) = inner_kind k
 plain_symbol _ = true
@@ -302,7 +268,7 @@ none-good rules.Function b = tt
 none-good rules.Dyn b = tt
 none-good _ b = tt
 
--- a rule closes over good parts
+-- what a rule makes of good parts is good
 close-good : (s : List ℕ) (q : Production) (rule : Rule) (taken : List ℕ) (context place byte : ℕ) (before : State) (fit : IsFitting byte rule) → byte < 256
     → (rule.eats ≡ true → slice_index s place ≡ byte) → (m : Result (Found (List Value) State) Refusal) → GoodParts fit.production context m
     → GoodTree q context (m >>= λ inner. meaning_of (production_of rule.number) (at_rule s (standing rule taken place context before) inner.state) inner.value >>= alone)
@@ -366,7 +332,7 @@ none-spelled : (rest : Forest) → AreTrees v0_table [] rest → spell_all rest 
 none-spelled shape.nothing are = refl
 none-spelled (grown first rest) are = absurd are
 
--- the rest of a suffix
+-- the rest of a suffix has only bytes that suffixes may have
 suffix-rest : (tree : Shape) → IsTree v0_table (Kind 5) tree → AreSuffixBytes (spell tree)
 suffix-rest empty is = tt
 suffix-rest (token t) is = absurd is
@@ -386,7 +352,7 @@ suffix-rest (branch rule taken (grown first rest)) (takes, are) = go (in_ranges 
         let eats : rule.eats ≡ true = ap (λ r. r.eats) (sym (same_Some _ _ is)) in
         rw (taken-byte rule.eats taken takes.byte takes.takes eats, none-spelled rest trees.1, append-nil (spell first)) ((takes.is_byte, inside), more trees.0)
 
--- the first byte of a suffix
+-- the first piece of a suffix is one byte that suffixes may have
 suffix-first : (tree : Shape) → IsTree v0_table (Kind 4) tree → (b : ℕ) × (spell tree ≡ b ∷ []) × (b < 256) × (in_ranges suffix_bytes b ≡ true)
 suffix-first empty is = cc
 suffix-first (token t) is = absurd is
@@ -471,7 +437,7 @@ whole-symbol : (values : List Value) (v : Value) → values ≡ v ∷ [] → IsW
 whole-symbol values (value.a_symbol x) is good = rw is good
 whole-symbol values _ is good = absurd good
 
--- what a suffix is read as, at the end of a symbol
+-- what is read as the suffix at the end of a symbol is a suffix that can be spelled, or nothing
 suffix-read : (s : List ℕ) (place : ℕ) (tree : Shape) (state : State) (front : List ℕ) → place ≡ length front → s ≡ front ++ spell tree → IsTree v0_table (Kind 3) tree
     → Holds (λ f. MaybeSuffix f.value) (unfold_tree (v0 s) 0 place tree state)
 suffix-read s place empty state front is-at is tree = tt
@@ -494,7 +460,7 @@ suffix-read s place (branch rule taken parts) state front is-at is (takes, are) 
 abbrev pub symbol_rule : Rule
 symbol_rule = taking rules.Symbol (Byte 82 ∷ Kind 1 ∷ Kind 2 ∷ Kind 3 ∷ [])
 
--- a symbol of the one rule
+-- what the one rule of symbols is read as can be spelled
 rule-read : (byte : ℕ) (a b d : Shape) → IsTree v0_table (Kind 1) a → IsTree v0_table (Kind 2) b → IsTree v0_table (Kind 3) d
     → Holds IsSpellableSymbol (unfolded (branch symbol_rule (byte ∷ []) (grown (fixed 82) (grown a (grown b (grown d shape.nothing))))))
 rule-read byte a b d a-is b-is d-is =
@@ -528,7 +494,7 @@ four-parts (grown (fixed c) (grown a shape.nothing)) are = absurd are.1.1
 four-parts (grown (fixed c) (grown a (grown b shape.nothing))) are = absurd are.1.1.1
 four-parts (grown (fixed c) (grown a (grown b (grown d (grown e rest))))) are = absurd are.1.1.1.1
 
--- a whole symbol is its one rule over a path, maybe another one, and a suffix
+-- a whole symbol is its one rule over a path, perhaps another path, and a suffix or nothing
 pub record IsWholeShape (tree : Shape) : Type 0 where
   pub byte : ℕ
   pub path : Shape

@@ -1,27 +1,10 @@
 -- A reference that pressing writes is read as the tree that it denotes.
-use Rattle.std.proofs.Common.{◌≡◌, ℕ, ◌+◌, ◌-◌, ◌<◌, ◌≤◌, inl, inr, length, List, [], ◌∷◌, ◌++◌, Option, Some, None, Bool, true, false, Ok, refl, ap, arith, sym, subst, ◌∙◌, length-append, append-nil}
-use Rattle.std.proofs.lemmas.Option.{same_Some}
-use Rattle.std.proofs.lemmas.Bool.{le-leb}
-use Rattle.sym_core.specs.declared.NumberKind.TheVariants.{Base62}
-use Rattle.sym_shape.specs.declared.rule.Rule.{Rule}
-use Rattle.sym_shape.specs.declared.rule.Sym.TheVariants.{Kind, Number, Byte}
-use Rattle.sym_shape.specs.Table.{symbols_of}
+use Rattle.rust_press.proofs.Basics.{◌≡◌, ℕ, ◌+◌, ◌-◌, ◌<◌, ◌≤◌, inl, inr, length, List, [], ◌∷◌, ◌++◌, Option, Some, None, Bool, true, false, Ok, refl, ap, arith, sym, subst, ◌∙◌, length-append, append-nil, same_Some, le-leb, Base62, Rule, Kind, Number, Byte, symbols_of, unfold_tree, found, Tree, of_path, of_type, of_constant, need, need_of_type, Production, v0_table, taking, Value, Ended, v0, ended_at, value62, greatest_u64, as_value, AreListed, Agrees, state_of, Reads, Presses, IsTypeValue, same_tree, Component, Pressing, digits62, first_place, reference, either, spelled_out, component, path_or_reference}
 use Rattle.sym_shape.specs.Tree.{Tree as Shape, branch, token, grown, AreTrees}
 use Rattle.sym_shape.specs.Tree as shape
-use Rattle.sym_link.specs.Unfold.{unfold_tree, found}
 use Rattle.rust_tree.specs.Symbol as tree
-use Rattle.rust_tree.specs.Tree.{Tree, of_path, of_type, of_constant}
-use Rattle.rust_tree.specs.Need.{need, need_of_type}
-use Rattle.rust_grammar.specs.declared.production.Production.{Production}
 use Rattle.rust_grammar.specs.declared.production.Production.TheVariants as rules
-use Rattle.rust_grammar.specs.Rules.{v0_table, taking}
 use Rattle.rust_grammar.specs.Value as value
-use Rattle.rust_grammar.specs.Value.{Value, Ended}
-use Rattle.rust_grammar.specs.Unfold.{v0, ended_at, value62, greatest_u64}
-use Rattle.rust_press.specs.PressLaws.{as_value, AreListed, Agrees, state_of, Reads, Presses}
-use Rattle.rust_press.specs.Subtrees.{IsTypeValue}
-use Rattle.rust_press.specs.Same.{same_tree}
-use Rattle.rust_press.specs.Pressing.{Component, Pressing, digits62, first_place, reference, either, spelled_out, component, path_or_reference}
 use Rattle.rust_press.proofs.Sameness.{equal-tree}
 use Rattle.rust_press.proofs.PressParts.{agrees-later, agrees-more, found-other, reads-as}
 use Rattle.rust_press.proofs.PressNumbers.{spells62}
@@ -48,7 +31,7 @@ found-at own ended place p (c ∷ cs) (there, from, to, rest) found = go (first_
 abbrev pub reference_shape : Rule → (p : ℕ) → Shape
 reference_shape rule p = branch rule (66 ∷ []) (grown (token (record { before = []; own = digits62 (p - 2); behind = 95 ∷ [] })) shape.nothing)
 
--- a reference, if its shape is read as something that ends there once more
+-- a reference is read, if its shape is read as something that ends once more at the reference
 reference-reads : (s : List ℕ) (bound : ℕ) (inside : Option Production) (minus : Bool) (kind : ℕ) (rule : Rule) (v : Value) (p place : ℕ) (components : List Component) (ended : List Ended)
     → v0_table.rule kind 66 ≡ Some rule → rule.eats ≡ true → symbols_of rule ≡ Number Base62 ∷ []
     → 2 ≤ place → place ≤ greatest_u64 → p < place → Agrees components ended place
@@ -99,7 +82,7 @@ paths-11 = record { crate_root = refl; inherent_impl = refl; trait_impl = refl; 
 small-place : (s front back bytes : List ℕ) (place : ℕ) → length s ≤ greatest_u64 → place ≡ length front → s ≡ front ++ (bytes ++ back) → place ≤ greatest_u64
 small-place s front back bytes place fits is-at is = omega (arith, is-at, fits, ap length is, length-append front (bytes ++ back))
 
--- a path: a reference, or spelled out
+-- a path is read where it is pressed: as a reference, or spelled out
 pub path-presses : (s : List ℕ) (bound : ℕ) (inside : Option Production) (minus : Bool) (kind : ℕ) (path : tree.Path) (spelling : Pressing)
     → length s ≤ greatest_u64 → v0_table.rule kind 66 ≡ Some (taking rules.PathReference (Number Base62 ∷ [])) → need path ≤ bound
     → Presses s bound inside minus (Kind kind) (spelled_out (of_path path) spelling) (λ values. values ≡ value.a_path path ∷ [])
@@ -116,7 +99,7 @@ path-presses s bound inside minus kind path spelling fits refers closed out fron
         reference-reads s bound inside minus kind (taking rules.PathReference (Number Base62 ∷ [])) (value.a_path path) p place components ended refers refl refl from few f.to agrees
         (rw (referred-place p f.from (omega (arith, few, f.to)), f.there, le-leb (need path) bound closed) refl)
 
--- a type that is a path
+-- a type that is a path is read where it is pressed
 pub path-type-presses : (s : List ℕ) (bound : ℕ) (inside : Option Production) (minus : Bool) (path : tree.Path) (spelling : Pressing)
     → length s ≤ greatest_u64 → need path ≤ bound
     → Presses s bound inside minus (Kind 11) (spelled_out (of_path path) spelling) (λ values. values ≡ value.a_path path ∷ [])
@@ -135,7 +118,7 @@ path-type-presses s bound inside minus path spelling fits closed out front back 
         (reference-reads s bound inside minus 11 (taking rules.TypeReference (Number Base62 ∷ [])) (value.a_type (tree.path_type path)) p place components ended refl refl refl from few f.to agrees
         (rw (referred-place p f.from (omega (arith, few, f.to)), f.there, le-leb (need path) bound closed) refl))
 
--- a type that is no path and no letter
+-- a type that is no path and no letter is read where it is pressed
 pub own-type-presses : (s : List ℕ) (bound : ℕ) (inside : Option Production) (minus : Bool) (type : tree.Ty) (spelling : Pressing)
     → length s ≤ greatest_u64 → need_of_type type ≤ bound
     → Presses s bound inside minus (Kind 11) (spelled_out (of_type type) spelling) (λ values. values ≡ value.a_type type ∷ [])
@@ -153,7 +136,7 @@ own-type-presses s bound inside minus type spelling fits closed out front back p
         (reference-reads s bound inside minus 11 (taking rules.TypeReference (Number Base62 ∷ [])) (value.a_type type) p place components ended refl refl refl from few f.to agrees
         (rw (referred-place p f.from (omega (arith, few, f.to)), f.there, le-leb (need_of_type type) bound closed) refl))
 
--- a constant that is known
+-- a constant that isn't unknown is read where it is pressed
 pub constant-presses : (s : List ℕ) (bound : ℕ) (inside : Option Production) (minus : Bool) (constant : tree.Constant) (spelling : Pressing)
     → length s ≤ greatest_u64
     → Presses s bound inside minus (Kind 21) (spelled_out (of_constant constant) spelling) (λ values. values ≡ value.a_constant constant ∷ [])

@@ -1,27 +1,10 @@
 -- A pressed symbol is a shape of the grammar that is read as that symbol.
-use Rattle.std.proofs.Common.{◌≡◌, ℕ, ◌+◌, ◌<◌, ◌≤◌, length, List, [], ◌∷◌, ◌++◌, Option, Some, None, Bool, true, false, Ok, refl, ap, arith, sym, ◌∙◌, length-append, append_assoc, append-nil}
-use Rattle.std.proofs.Math.Seq.{drop-append_seam}
-use Rattle.sym_shape.specs.declared.rule.Sym.TheVariants.{Kind, Byte}
+use Rattle.rust_press.proofs.Basics.{◌≡◌, ℕ, ◌+◌, ◌<◌, ◌≤◌, length, List, [], ◌∷◌, ◌++◌, Option, Some, None, Bool, true, false, Ok, refl, ap, arith, sym, ◌∙◌, length-append, append_assoc, append-nil, drop-append_seam, Kind, Byte, need, Production, v0_table, taking, Value, State, Ended, v0, ended_at, At, meaning, plain, greatest_u64, Agrees, state_of, Reads, Presses, drop, AllByRecursion, in_ranges, unfold_tree, found, suffix_bytes, text, Component, Pressed, press_path, press_other, pressed, spell_path, IsSpellable, IsSpellableSuffix, IsClosedOther, IsSpellableSymbol, IsReadAs}
 use Rattle.rust_tree.specs.Symbol as tree
-use Rattle.rust_tree.specs.Need.{need}
-use Rattle.rust_grammar.specs.declared.production.Production.{Production}
 use Rattle.rust_grammar.specs.declared.production.Production.TheVariants as rules
-use Rattle.rust_grammar.specs.Rules.{v0_table, taking}
 use Rattle.rust_grammar.specs.Value as value
-use Rattle.rust_grammar.specs.Value.{Value, State, Ended}
-use Rattle.rust_grammar.specs.Unfold.{v0, ended_at, At, meaning, plain, greatest_u64}
-use Rattle.rust_press.specs.PressLaws.{Agrees, state_of, Reads, Presses}
-use Rattle.std.specs.Prelude.{drop}
-use Rattle.std.specs.List.{AllByRecursion}
-use Rattle.sym_shape.specs.Sheet.{in_ranges}
 use Rattle.sym_shape.specs.Tree.{Tree as Shape, branch, empty, fixed, grown, spell, IsTree}
 use Rattle.sym_shape.specs.Tree as shape
-use Rattle.sym_link.specs.Unfold.{unfold_tree, found}
-use Rattle.rust_grammar.specs.Rules.{suffix_bytes}
-use Rattle.sym_spell.specs.Pressing.{text}
-use Rattle.rust_press.specs.Pressing.{Component, Pressed, press_path, press_other, pressed, spell_path}
-use Rattle.rust_press.specs.Spellable.{IsSpellable, IsSpellableSuffix}
-use Rattle.rust_press.specs.PressLaws.{IsClosedOther, IsSpellableSymbol, IsReadAs}
 use Rattle.rust_press.proofs.PressParts.{agrees-later, empty-presses, leaf-reads}
 use Rattle.rust_press.proofs.PressReferences.{paths-1, paths-2, path-presses}
 use Rattle.rust_press.proofs.PressKept.{path-kept}
@@ -43,7 +26,7 @@ rest-shaped : (bs : List ℕ) → AreSuffixBytes bs → IsTree v0_table (Kind 5)
 rest-shaped [] good = refl
 rest-shaped (b ∷ bs) good = (record { byte = b; is_byte = good.0.0; found = rw good.0.1 refl; takes = refl }, (rest-shaped bs good.1, tt))
 
--- reading the rest of a suffix ends nothing
+-- reading the rest of a suffix leaves what has ended as it is
 record PassesBy (s : List ℕ) (place : ℕ) (tree : Shape) (start : State) : Type 0 where
   values : List Value
   state : State
@@ -60,7 +43,7 @@ abbrev suffix_values : List ℕ → List Value
 suffix_values [] = []
 suffix_values bytes = value.a_suffix bytes ∷ []
 
--- a suffix at the end of a symbol
+-- a pressed suffix at the end of a symbol is read as that suffix
 suffix-reads : (s front : List ℕ) (place : ℕ) (components : List Component) (ended : List Ended) (inside : Option Production) (minus : Bool) (bytes : List ℕ)
     → place ≡ length front → s ≡ front ++ bytes → Agrees components ended place → IsSpellableSuffix bytes
     → Reads s 0 inside minus (Kind 3) (λ values. values ≡ suffix_values bytes) place ended (text bytes place components)
@@ -86,7 +69,7 @@ suffix-reads s front place components ended inside minus (dot ∷ b ∷ bs) is-a
 
 -- ## A symbol
 
--- each path is read after any spelled beginning in which all lifetimes are bound
+-- a path that can be spelled, and that has all its lifetimes bound, is read after any spelled beginning
 pub press-path-kept : (s : List ℕ) (bound : ℕ) → length s ≤ greatest_u64 → (inside : Option Production) (minus : Bool) (path : tree.Path) → IsSpellable path → need path ≤ bound
     → Presses s bound inside minus (Kind 1) (press_path path) (λ values. values ≡ value.a_path path ∷ [])
 press-path-kept s bound fits inside minus path good closed =

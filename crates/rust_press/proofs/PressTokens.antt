@@ -1,33 +1,13 @@
--- The small parts of a tree are read as what was pressed.
-use Rattle.std.proofs.Common.{◌≡◌, ℕ, zero, suc, ◌+◌, ◌<◌, ◌≤◌, inl, inr, length, List, [], ◌∷◌, ◌++◌, Option, Some, Bool, true, false, refl, ap, arith, ◌∙◌}
-use Rattle.std.specs.Prelude.{if◌then◌else◌, nat_le, nat_lt, ◌&&◌}
-use Rattle.std.proofs.lemmas.Bool.{le-leb, lt-ltb}
-use Rattle.sym_core.specs.declared.NumberKind.TheVariants.{Base62, Hex}
-use Rattle.sym_shape.specs.declared.rule.Rule.{Rule}
-use Rattle.sym_shape.specs.declared.rule.Sym.TheVariants.{Kind, Name, Number, Byte}
+-- The pressed spelling of each small part of a tree is read as this part.
+use Rattle.rust_press.proofs.Basics.{◌≡◌, ℕ, zero, suc, ◌+◌, ◌<◌, ◌≤◌, inl, inr, length, List, [], ◌∷◌, ◌++◌, Option, Some, Bool, true, false, refl, ap, arith, ◌∙◌, if◌then◌else◌, nat_le, nat_lt, ◌&&◌, le-leb, lt-ltb, Base62, Hex, Rule, Kind, Name, Number, Byte, of_constant, Production, production_of, v0_table, taking, chaining, Value, At, byte_at, is_minus, meaning, meaning_of, plain, ends, token_of, value62, value16, greatest_u64, greatest_u128, Presses, in_ranges, basic_letters, letters, ◌and◌, letter, nothing, digits_in, decimal_digit, number62, digits62, number16, digits16, counted, separator, mark_if, press_name, press_disambiguator, press_binder, identifier_of, press_lifetime, some_lifetime, press_abi, spelled_out, spell_constant, press_constant, most62, IsSpellableName, IsSpellableAbi, IsSpellableInteger, IsSpellableConstant, is_signed, is_unsigned, IsTypeValue}
 use Rattle.rust_tree.specs.Symbol as tree
-use Rattle.rust_tree.specs.Tree.{of_constant}
-use Rattle.rust_grammar.specs.declared.production.Production.{Production}
 use Rattle.rust_grammar.specs.declared.production.Production.TheVariants as rules
-use Rattle.rust_grammar.specs.Productions.{production_of}
-use Rattle.rust_grammar.specs.Rules.{v0_table, taking, chaining}
 use Rattle.rust_grammar.specs.Value as value
-use Rattle.rust_grammar.specs.Value.{Value}
-use Rattle.rust_grammar.specs.Unfold.{At, byte_at, is_minus, meaning, meaning_of, plain, ends, token_of, value62, value16, greatest_u64, greatest_u128}
-use Rattle.rust_press.specs.PressLaws.{Presses}
-use Rattle.sym_shape.specs.Sheet.{in_ranges}
-use Rattle.rust_grammar.specs.BasicLetters.{basic_letters}
-use Rattle.rust_grammar.specs.Rules.{letters}
-use Rattle.sym_spell.specs.Pressing.{◌and◌, letter, nothing}
-use Rattle.sym_spell.specs.Digits.{digits_in, decimal_digit}
-use Rattle.rust_press.specs.Pressing.{number62, digits62, number16, digits16, counted, separator, mark_if, press_name, press_disambiguator, press_binder, identifier_of, press_lifetime, some_lifetime, press_abi, spelled_out, spell_constant, press_constant}
-use Rattle.rust_press.specs.Spellable.{most62, IsSpellableName, IsSpellableAbi, IsSpellableInteger, IsSpellableConstant, is_signed, is_unsigned}
 use Rattle.rust_press.proofs.PressParts.{takes-plain, takes-ends, chains-plain, and-presses, last-presses, behind-nothing, nothing-presses, number-presses, name-presses, empty-presses, byte-presses, letter-presses, letter-ends, reads-as}
 use Rattle.rust_press.proofs.PressNumbers.{spells62, spells16, spells-name}
-use Rattle.rust_press.specs.Subtrees.{IsTypeValue}
 use Rattle.rust_press.proofs.PressReferences.{constant-presses}
 
--- a rule makes no component of its parts, or makes one
+-- for `Makes`, a rule makes of these values something that is no component; for `Ends`, a component
 abbrev pub Makes : Rule → (byte bound : ℕ) → Value → List Value → Type 0
 Makes rule byte bound v values = (at : At) → byte_at at ≡ byte → at.bound ≡ bound → meaning_of (production_of rule.number) at values ≡ plain at v
 
@@ -61,7 +41,7 @@ name-at s bound inside minus kind name puny plainly good = go name.punycode
 
 -- ## Counts
 
--- a number in base 62 in a rule whose tokens are such numbers
+-- a number in base 62, as a part of a rule whose tokens are such numbers
 pub number62-presses : (s : List ℕ) (bound : ℕ) (inside : Option Production) (minus : Bool) (n : ℕ) → n ≤ most62 → token_of inside minus (digits62 n) ≡ value.number (value62 (digits62 n))
     → Presses s bound inside minus (Number Base62) (number62 n) (λ values. values ≡ value.number n ∷ [])
 number62-presses s bound inside minus n small counts front back place components ended is-at from agrees is =

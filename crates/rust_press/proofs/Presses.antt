@@ -1,9 +1,6 @@
 -- Pressed spellings of symbols, computed from their bytes.
-use Rattle.std.specs.Prelude.{◌≡◌, ℕ, refl, codes, List, [], ◌∷◌, Bool, true, ◌&&◌}
+use Rattle.rust_press.proofs.Basics.{◌≡◌, ℕ, refl, codes, List, [], ◌∷◌, Bool, true, ◌&&◌, need, need_of_arguments, need_of_type, need_of_types, need_of_bounds, need_of_bindings, hexadecimal, hexadecimal_before, same_bytes}
 use Prim.Native.String.{String}
-use Rattle.rust_tree.specs.Need.{need, need_of_arguments, need_of_type, need_of_types, need_of_bounds, need_of_bindings}
-use Rattle.rust_tree.specs.Hexadecimal.{hexadecimal, hexadecimal_before}
-use Rattle.rust_press.specs.Same.{same_bytes}
 use Rattle.rust_press.proofs.Reader.{front_digits, number_at, name_from, separated, length_digits, read_sym, read_all, press_read, press}
 
 -- a symbol, and what pressing makes of it

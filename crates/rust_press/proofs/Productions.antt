@@ -1,25 +1,14 @@
 -- Each production is spelled as the writer writes it.
-use Rattle.std.proofs.Common.{◌≡◌, ℕ, ◌+◌, ◌<◌, ◌≤◌, ◌^◌, List, [], ◌∷◌, ◌++◌, Option, Some, None, Bool, true, false, refl, ap, arith, sym, ◌∙◌, append_assoc, append-nil}
-use Rattle.std.specs.Prelude.{◌==◌, if◌then◌else◌}
+use Rattle.rust_press.proofs.Basics.{◌≡◌, ℕ, ◌+◌, ◌<◌, ◌≤◌, ◌^◌, List, [], ◌∷◌, ◌++◌, Option, Some, None, Bool, true, false, refl, ap, arith, sym, ◌∙◌, append_assoc, append-nil, ◌==◌, if◌then◌else◌, Tree, of_path, of_arguments, of_type, of_types, of_bounds, of_bindings, of_constant, of_symbol, fields_of, type_part, other_part, one_if, number_in, hexadecimal, text, letter, nothing, digits_of, Pressing, number16, mark_if, press_name, press_disambiguator, press_binder, press_identifier, press_lifetime, some_lifetime, press_abi, component, spell_constant, press_constant, type_or_reference, spell_path, spell_type, press_path, press_arguments, press_types, press_bounds, press_bindings, eqb-true, false≢true, same_tree, number_bytes, count_bytes, lifetime_bytes, mark_bytes, name_bytes, integer_bytes, letter_bytes, is_component, type_numbers, constant_numbers, numbers_bytes, text_bytes, front_bytes, end_bytes, front, end, press_tree, weight, weight_of_tree, weight_of_trees, weight_of_type, weight_of_other}
 use Rattle.rust_tree.specs.Symbol as tree
-use Rattle.rust_tree.specs.Tree.{Tree, of_path, of_arguments, of_type, of_types, of_bounds, of_bindings, of_constant, of_symbol}
-use Rattle.rust_tree.specs.Fields.{fields_of, type_part, other_part, one_if, number_in}
-use Rattle.rust_tree.specs.Hexadecimal.{hexadecimal}
-use Rattle.sym_spell.specs.Pressing.{text, letter, nothing}
-use Rattle.sym_spell.specs.Digits.{digits_of}
-use Rattle.rust_press.specs.Pressing.{Pressing, number16, mark_if, press_name, press_disambiguator, press_binder, press_identifier, press_lifetime, some_lifetime, press_abi, component, spell_constant, press_constant, type_or_reference, spell_path, spell_type, press_path, press_arguments, press_types, press_bounds, press_bindings}
-use Rattle.std.proofs.lemmas.Bool.{eqb-true, false≢true}
-use Rattle.rust_press.specs.Same.{same_tree}
 use Rattle.rust_press.proofs.Sameness.{path-itself, type-itself, constant-itself}
-use Rattle.rust_press.specs.Spelled.{number_bytes, count_bytes, lifetime_bytes, mark_bytes, name_bytes, integer_bytes, letter_bytes, is_component, type_numbers, constant_numbers, numbers_bytes, text_bytes, front_bytes, end_bytes, front, end}
-use Rattle.rust_press.specs.Tasks.{press_tree, weight, weight_of_tree, weight_of_trees, weight_of_type, weight_of_other}
 use Rattle.rust_press.proofs.TreeSpellings.{IsText, Spells, step, is-text, count-text, lifetime-text, some_bytes, some-lifetime-text, mark-text, name-text, identifier-text, sixteen-text, integer-text}
 
 type-as-part : (t : tree.Ty) → type_or_reference t (spell_type t) ≡ press_tree (type_part t)
 type-as-part (tree.path_type p) = refl
 type-as-part _ = refl
 
--- How a node's tree is spelled, where it is spelled out. A path as a type is spelled as the path.
+-- How a node's tree is spelled out. A type that is a path is spelled as the path.
 abbrev pub spelling_of : Tree → Pressing
 spelling_of (of_path path) = spell_path path
 spelling_of (of_type (tree.path_type path)) = press_path path
@@ -243,7 +232,7 @@ component-is (of_constant tree.placeholder) = refl
 component-is (of_constant _) = refl
 component-is (of_symbol s) = refl
 
--- a tree is compared exactly if it is a component
+-- a tree is spelled as a component if it is compared, and is otherwise spelled out
 abbrev pub looked_at : Bool → Tree → Pressing
 looked_at true t = component t (spelling_of t)
 looked_at false t = spelling_of t
@@ -267,7 +256,7 @@ compared-itself (of_type t) is = type-itself t
 compared-itself (of_constant k) is = constant-itself k
 compared-itself t is = not-compared t refl is
 
--- only components have something after their parts
+-- a production that makes a component differs from each production that makes none
 test-off : (p k : ℕ) → is_component k ≡ true → is_component p ≡ false → (p == k) ≡ false
 test-off p k one not = go (p == k) refl
   where

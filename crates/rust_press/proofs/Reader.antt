@@ -1,23 +1,13 @@
 -- A small reader over a table, to compute the definitions at single symbols.
-use Rattle.std.specs.Prelude.{ℕ, zero, suc, List, [], ◌∷◌, ◌++◌, length, take, drop, true, false, nat_eq, Option, Some, None, Ok, Err}
-use Rattle.sym_core.specs.declared.NumberKind.{NumberKind}
-use Rattle.sym_core.specs.declared.NumberKind.TheVariants.{Length}
-use Rattle.sym_core.specs.Number.{is_digit_of}
-use Rattle.sym_core.specs.Value.{value_of}
-use Rattle.sym_shape.specs.declared.rule.Sym.{Sym}
-use Rattle.sym_shape.specs.declared.rule.Sym.TheVariants.{Kind, Name, Number, Byte}
-use Rattle.sym_shape.specs.Table.{symbols_of}
+use Rattle.rust_press.proofs.Basics.{ℕ, zero, suc, List, [], ◌∷◌, ◌++◌, length, take, drop, true, false, nat_eq, Option, Some, None, Ok, Err, NumberKind, Length, is_digit_of, value_of, Sym, Kind, Name, Number, Byte, symbols_of, v0_table, unfolded, pressed}
 use Rattle.sym_shape.specs.Tree.{Tree, Forest, branch, empty, token, fixed, nothing, grown}
-use Rattle.rust_grammar.specs.Rules.{v0_table}
-use Rattle.rust_grammar.specs.Unfold.{unfolded}
-use Rattle.rust_press.specs.Pressing.{pressed}
 
 infixl 10 ◌and_then◌
 abbrev ◌and_then◌ : {A B : Type 0} → Option A → (A → Option B) → Option B
 (Some x) and_then f = f x
 None and_then f = None
 
--- the digits at the front, and what is after them
+-- the digits at the front, and the bytes after them
 unfoldable pub front_digits : NumberKind → List ℕ → List ℕ
 front_digits kind [] = []
 front_digits kind (b ∷ bytes) = elim (is_digit_of kind b) [ true ↦ b ∷ front_digits kind bytes | false ↦ [] ]
@@ -69,6 +59,6 @@ press_read None = []
 press_read (Some (shape, [])) = elim (unfolded shape) [ Ok symbol ↦ pressed symbol | Err refusal ↦ [] ]
 press_read (Some (shape, more)) = []
 
--- a symbol pressed; no bytes where it isn't read
+-- the pressed bytes of a symbol, or no bytes if it isn't read
 unfoldable pub press : List ℕ → List ℕ
 press bytes = press_read (read_sym 2000 (Kind 0) bytes)

@@ -1,38 +1,17 @@
--- How the result of each rule of the grammar is pressed, by how the rule's parts are pressed.
-use Rattle.std.proofs.Common.{◌≡◌, ℕ, zero, suc, ◌+◌, ◌*◌, ◌≤◌, inl, inr, length, List, [], ◌∷◌, ◌++◌, Option, Some, None, Bool, true, false, Ok, refl, ap, arith, sym, ◌∙◌}
-use Rattle.std.specs.Prelude.{get_or, if◌then◌else◌, nat_le, nat_lt, ◌&&◌, Result, Err}
-use Rattle.sym_core.specs.declared.NumberKind.TheVariants.{Base62, Hex}
-use Rattle.sym_core.specs.declared.refusal.Refusal.{Refusal}
-use Rattle.sym_core.specs.declared.refusal.Refusal.TheVariants.{BadReference, BadValue}
-use Rattle.sym_shape.specs.declared.rule.Rule.{Rule}
-use Rattle.sym_shape.specs.declared.rule.Sym.TheVariants.{Kind, Name, Number, Byte}
-use Rattle.sym_shape.specs.declared.sheet.Choice.{Choice}
-use Rattle.sym_shape.specs.Sheet.{KindSheet}
-use Rattle.sym_link.specs.Reading.{Found, ◌>>=◌}
-use Rattle.sym_spell.specs.Pressing.{◌and◌, text, nothing}
-use Rattle.sym_spell.proofs.Spellings.{nothing-and}
+-- How the result of each rule of the grammar is pressed, if the rule's parts are pressed in given ways.
+use Rattle.rust_press.proofs.Basics.{◌≡◌, ℕ, zero, suc, ◌+◌, ◌*◌, ◌≤◌, inl, inr, length, List, [], ◌∷◌, ◌++◌, Option, Some, None, Bool, true, false, Ok, refl, ap, arith, sym, ◌∙◌, get_or, if◌then◌else◌, nat_le, nat_lt, ◌&&◌, Result, Err, Base62, Hex, Refusal, BadReference, BadValue, Rule, Kind, Name, Number, Byte, Choice, KindSheet, Found, ◌>>=◌, ◌and◌, text, nothing, nothing-and, Tree, of_path, of_constant, path_forms, path_rules, type_rules, type_forms, constant_rules, symbol_rules, namespace_rules, disambiguator_rules, binder_rules, unsafe_rules, abi_rules, minus_rules, truth_rules, identifier_rules, name_rules, abi_name_rules, arguments_rules, types_rules, lifetime_rules, some_lifetime_rules, bounds_rules, bindings_rules, kinds, no_kind, production_of, symbols_of, most_bound, Value, State, At, Meaning, byte_at, plain, ends, value62, value16, meaning_of, referred, as_path, as_type, as_constant, refers_to_path, refers_to_type, refers_to_constant, meaning, token_of, is_scalar, greatest_u64, greatest_u128, bounded, Pressing, number16, number62, press_constant, IsTypeValue, need, need_of_type}
 use Rattle.rust_tree.specs.Symbol as tree
-use Rattle.rust_tree.specs.Tree.{Tree, of_path, of_constant}
 use Rattle.rust_tree.specs.Fields as part_of
 use Rattle.rust_grammar.specs.declared.production.Production.TheVariants as rules
-use Rattle.rust_grammar.specs.Rules.{path_forms, path_rules, type_rules, type_forms, constant_rules, symbol_rules, namespace_rules, disambiguator_rules, binder_rules, unsafe_rules, abi_rules, minus_rules, truth_rules, identifier_rules, name_rules, abi_name_rules, arguments_rules, types_rules, lifetime_rules, some_lifetime_rules, bounds_rules, bindings_rules, kinds, no_kind}
-use Rattle.rust_grammar.specs.Productions.{production_of}
-use Rattle.sym_shape.specs.Table.{symbols_of}
-use Rattle.rust_tree.specs.Nodes.{most_bound}
 use Rattle.rust_grammar.specs.Value as value
-use Rattle.rust_grammar.specs.Value.{Value, State}
 use Rattle.rust_grammar.specs.Unfold as reading
-use Rattle.rust_grammar.specs.Unfold.{At, Meaning, byte_at, plain, ends, value62, value16, meaning_of, referred, as_path, as_type, as_constant, refers_to_path, refers_to_type, refers_to_constant, meaning, token_of, is_scalar, greatest_u64, greatest_u128, bounded}
-use Rattle.rust_press.specs.Pressing.{Pressing, number16, number62, press_constant}
-use Rattle.rust_press.specs.Subtrees.{IsTypeValue}
-use Rattle.rust_tree.specs.Need.{need, need_of_type}
 use Rattle.rust_press.proofs.PressTokens.{minus_values}
 use Rattle.rust_press.proofs.PressRead.{Holds, bounded-then}
 use Rattle.rust_press.proofs.PressKept.{crate-root-means, inherent-impl-means, trait-impl-means, trait-definition-means, nested-means, generic-means, lifetime-argument-means, constant-argument-means, type-argument-means, array-means, slice-means, const-pointer-means, mut-pointer-means, function-means, dyn-means, tuple-means, more-types-means, more-bounds-means, more-bindings-means}
 use Rattle.rust_press.proofs.ShortParts.{ended_tree, spelled, is_compared, pressed_as, type-pressed, found-listed}
 use Rattle.rust_press.proofs.ShortRules.{Sort, Part, unsaid_part, path_part, other_part, namespace_part, disambiguator_part, identifier_part, name_part, arguments_part, type_part, types_part, some_lifetime_part, lifetime_part, binder_part, unsafe_part, abi_part, abi_name_part, bounds_part, bindings_part, constant_part, minus_part, truth_part, parts, sort_of, some_lifetime_values, known_lifetime, Made, makes_plain, makes_text, makes_tree, makes_again, Closes, AllClose, own_of, least_all, closes-0, closes-1, closes-2, closes-3, closes-4, closes-5}
 
--- a fact, and those after it
+-- a fact, and the facts after it
 infixr 4 ◌then◌
 abbrev ◌then◌ : {A B : Type 0} → A → B → A × B
 one then rest = (one, rest)
@@ -43,7 +22,7 @@ pub holds-as : {A : Type 0} (P Q : A → Type 0) (m : Result A Refusal) → ((x 
 holds-as P Q (Ok x) more is = more x is
 holds-as P Q (Err e) more is = tt
 
--- a rule makes something that doesn't end, which is pressed as these bytes and its parts
+-- a rule makes something that doesn't end and is pressed as these bytes and its parts
 plain-made : (S : Sort) (own few_parts : ℕ) (at : At) (h : Pressing) (v : Value) (thing : S.thing) (bytes : List ℕ)
     → v ∷ [] ≡ S.values thing → length bytes ≤ 4 * own → ◌≡◌ {A = Pressing} (S.press thing) (text bytes and h) → (m : Meaning) → m ≡ plain at v → Holds (Made S own few_parts at h) m
 plain-made S own few_parts at h v thing bytes values few press m means =
@@ -54,26 +33,26 @@ chain-made : (S : Sort) (few_parts : ℕ) (at : At) (h : Pressing) (v : Value) (
     → v ∷ [] ≡ S.values thing → ◌≡◌ {A = Pressing} (S.press thing) h → (m : Meaning) → m ≡ plain at v → Holds (Made S 0 few_parts at h) m
 chain-made S few_parts at h v thing values press m means = plain-made S 0 few_parts at h v thing [] values (omega arith) (press ∙ sym (nothing-and h)) m means
 
--- a rule makes something that ends, which is pressed as these bytes and its parts
+-- a rule makes something that ends and is pressed as these bytes and its parts
 tree-made : (S : Sort) (few_parts : ℕ) (at : At) (h : Pressing) (v : Value) (own : Tree) (thing : S.thing) (bytes : List ℕ)
     → v ∷ [] ≡ S.values thing → ended_tree v ≡ Some own → ◌≡◌ {A = Pressing} (S.press thing) (pressed_as own) → length bytes ≤ 4 → ◌≡◌ {A = Pressing} (spelled own) (text bytes and h)
     → (is_compared own ≡ true → 1 ≤ few_parts) → (m : Meaning) → m ≡ ends at v → Holds (Made S 1 few_parts at h) m
 tree-made S few_parts at h v own thing bytes values is press few out big m means =
     rw means (makes_tree (record { thing = thing; values = values; tree = own; is = is; press = press; bytes = bytes; few = few; out = out; big = λ compared. omega (arith, big compared); ended = refl }))
 
--- a rule makes what its reference names, which ends once more
+-- a reference makes what it names, which ends once more
 again-made : (S : Sort) (at : At) (n : ℕ) (old : List ℕ) (v w : Value) (own : Tree) (thing : S.thing)
     → v ∷ [] ≡ S.values thing → ended_tree v ≡ Some own → ◌≡◌ {A = Pressing} (S.press thing) (pressed_as own) → referred at n ≡ Some w → ended_tree w ≡ Some own
     → Holds (Made S 1 1 at (text old)) (ends at v)
 again-made S at n old v w own thing values is press there made =
     makes_again (record { thing = thing; values = values; tree = own; is = is; press = press; old = old; old_is = refl; listed = found-listed at.ended (n + 2) w own there made; big = omega arith; ended = refl })
 
--- a rule makes something only if a test holds
+-- a claim about what a rule makes stays true if a test may refuse the rule
 if-made : (S : Sort) (own few_parts : ℕ) (at : At) (h : Pressing) (b : Bool) (m : Meaning) (e : Refusal) → Holds (Made S own few_parts at h) m → Holds (Made S own few_parts at h) (if b then m else Err e)
 if-made S own few_parts at h true m e is = is
 if-made S own few_parts at h false m e is = tt
 
--- a rule that makes a thing of one sort makes one of another sort, too
+-- a rule that makes a thing of one sort also makes one of a sort that has the same values and spellings
 closes-as : (S T : Sort) (f : S.thing → T.thing) → ((t : S.thing) → T.values (f t) ≡ S.values t) → ((t : S.thing) → ◌≡◌ {A = Pressing} (T.press (f t)) (S.press t))
     → (cs : List Choice) → AllClose S cs → AllClose T cs
 closes-as S T f values press [] are = tt
@@ -238,7 +217,7 @@ identifiers-close =
     closes-2 (sort_of identifier_part) _ (Some rules.DisambiguatedIdentifier) (Number Base62) (Kind 9) refl refl (omega arith) (λ at t m. bounded-then (Made (sort_of identifier_part) 1 2 at _) at greatest_u64 (value62 t.0 + 1) _ (λ few. plain-made (sort_of identifier_part) 1 2 at _ (value.an_identifier (record { disambiguator = value62 t.0 + 1; name = m })) (record { disambiguator = suc (value62 t.0); name = m }) (115 ∷ []) (ap (λ d. value.an_identifier (record { disambiguator = d; name = m }) ∷ []) (plus-one (value62 t.0))) (omega arith) refl _ refl))
     then closes-as (sort_of name_part) (sort_of identifier_part) (λ m. record { disambiguator = 0; name = m }) (λ m. refl) (λ m. refl) name_rules names-close
 
--- a number that is one more, after its letter
+-- a rule of a letter and a number: its value is one more than the number
 count-made : (S : Sort) (at : At) (limit n : ℕ) (v : ℕ → Value) (thing : S.thing) (byte : ℕ) → v (suc n) ∷ [] ≡ S.values thing → ◌≡◌ {A = Pressing} (S.press thing) (text (byte ∷ []) and number62 n)
     → Holds (Made S 1 1 at (number62 n)) (bounded at limit (n + 1) >>= λ m. plain at (v m))
 count-made S at limit n v thing byte values press =
@@ -357,7 +336,7 @@ symbol-same at values =
 symbols-close : AllClose (sort_of unsaid_part) symbol_rules
 symbols-close = unsaid-closes _ (omega arith) symbol-same then tt
 
--- a kind's rules, and what the kind is where it may be empty
+-- what the rules of a kind make, and what the kind denotes if it is empty
 abbrev pub KindCloses : Part → KindSheet → Type 0
 KindCloses part sheet =
     (sheet.may_be_empty ≡ true → (t : (sort_of part).thing) × ((sort_of part).values t ≡ []) × (◌≡◌ {A = Pressing} ((sort_of part).press t) nothing))

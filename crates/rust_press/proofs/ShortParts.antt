@@ -1,20 +1,9 @@
 -- What a part of a symbol adds to a pressed spelling: at most four bytes for each of its own (`ShortTokens` for numbers and names),
 -- and the components that end in it. `ShortRules` has what a rule makes of its parts, `ShortGrammar` each rule of the grammar, and
 -- `ShortSymbol` the induction over a symbol's shape.
-use Rattle.std.proofs.Common.{◌≡◌, ◌⊎◌, ℕ, zero, suc, ◌+◌, ◌-◌, ◌*◌, ◌≤◌, inl, inr, length, List, [], ◌∷◌, Option, Some, None, Bool, true, false, refl, ap, arith, sym, subst, ◌∙◌, length-append}
-use Rattle.std.proofs.lemmas.Option.{same_Some}
+use Rattle.rust_press.proofs.Basics.{◌≡◌, ◌⊎◌, ℕ, zero, suc, ◌+◌, ◌-◌, ◌*◌, ◌≤◌, inl, inr, length, List, [], ◌∷◌, Option, Some, None, Bool, true, false, refl, ap, arith, sym, subst, ◌∙◌, length-append, same_Some, Tree, of_path, of_type, of_constant, type_part, Value, Ended, ended_at, ◌and◌, text, nothing, digits-count, digit62, ◌==◌, if◌then◌else◌, same_tree, Component, Pressed, Pressing, digits62, first_place, reference, either, spelled_out, component, spell_path, spell_type, spell_constant, type_or_reference}
 use Rattle.rust_tree.specs.Symbol as tree
-use Rattle.rust_tree.specs.Tree.{Tree, of_path, of_type, of_constant}
-use Rattle.rust_tree.specs.Fields.{type_part}
 use Rattle.rust_grammar.specs.Value as value
-use Rattle.rust_grammar.specs.Value.{Value, Ended}
-use Rattle.rust_grammar.specs.Unfold.{ended_at}
-use Rattle.sym_spell.specs.Pressing.{◌and◌, text, nothing}
-use Rattle.sym_spell.proofs.DigitValues.{digits-count}
-use Rattle.sym_spell.specs.Digits.{digit62}
-use Rattle.std.specs.Prelude.{◌==◌, if◌then◌else◌}
-use Rattle.rust_press.specs.Same.{same_tree}
-use Rattle.rust_press.specs.Pressing.{Component, Pressed, Pressing, digits62, first_place, reference, either, spelled_out, component, spell_path, spell_type, spell_constant, type_or_reference}
 use Rattle.rust_press.proofs.Sameness.{equal-tree, path-itself, type-itself, constant-itself}
 use Rattle.rust_press.proofs.PressNumbers.{divides62}
 
@@ -41,7 +30,7 @@ spelled (of_type type) = spell_type type
 spelled (of_constant constant) = spell_constant constant
 spelled _ = nothing
 
--- the tree is compared with those before it, since it isn't always a letter
+-- whether a tree is compared with the trees before it: each is, unless it is always a letter
 abbrev pub is_compared : Tree → Bool
 is_compared (of_path path) = true
 is_compared (of_type (tree.basic letter)) = false
@@ -79,7 +68,7 @@ found-listed (e ∷ es) place v own is made = go (e.place == place) is (λ h. fo
 
 -- ## References
 
--- the last place to which a reference has seven bytes
+-- a reference to any place up to this one has at most seven bytes
 abbrev pub reach : ℕ
 reach = 916132834
 
@@ -135,22 +124,22 @@ reference-short p place cs low = omega (arith, number-short (p - 2) (omega (arit
 abbrev pub Stays : Pressing → List Ended → Type 0
 Stays f es = (place : ℕ) (cs : List Component) (own : Tree) → Has own (f place cs).components → Has own cs ⊎ Listed own es
 
--- The same holds for what has ended, where it is spelled out once more.
+-- Spelling out a tree that has ended adds only components that are there already, or that have ended.
 abbrev pub IsClosed : List Ended → Type 0
 IsClosed es = (own : Tree) → Listed own es → Stays (spelled own) es
 
--- The components are those trees that have ended and are compared.
+-- The components are the trees that have ended and are compared.
 pub record Alike (cs : List Component) (es : List Ended) : Type 0 where
   pub ended : (own : Tree) → Has own cs → Listed own es
   pub there : (own : Tree) → Listed own es → is_compared own ≡ true → Has own cs
   pub low : AreLow cs
 
--- at most 4 n bytes are written, and after them the components are what has ended
+-- at most 4 n bytes are written, and the components after them are the trees that have ended by then and are compared
 pub record Writes (pressed : Pressed) (n : ℕ) (after : List Ended) : Type 0 where
   pub bytes : length pressed.bytes ≤ 4 * n
   pub alike : Alike pressed.components after
 
--- A part of n bytes of a symbol is pressed as `f`; these trees have ended before it, and these after it.
+-- A part of n bytes of a symbol is pressed as `f`; `before` has what ended before the part, and `after` what ended by its end.
 pub record Fits (f : Pressing) (n : ℕ) (before after : List Ended) : Type 0 where
   pub more : (own : Tree) → Listed own before → Listed own after
   pub stays : Stays f after
@@ -293,7 +282,7 @@ pressed-fits own e n a b is big closed fits = go (is_compared own) refl
           record { bytes = out.bytes; alike = alike-more own e b (spelled own place cs).components is (λ compared. absurd (false-true same compared)) out.alike };
     }
 
--- what has ended already ends once more, at a reference
+-- a tree that has ended already ends once more, at a reference to it
 pub refers-fits : (own : Tree) (e : Ended) (es : List Ended) → ended_tree e.value ≡ Some own → Listed own es → IsClosed es → Fits (pressed_as own) 2 es (e ∷ es)
 refers-fits own e es is listed closed = go (is_compared own) refl
   where

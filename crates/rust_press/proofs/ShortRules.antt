@@ -1,26 +1,8 @@
 -- What the parts of a rule may be, what the rule makes of them, and how both are pressed.
-use Rattle.std.proofs.Common.{◌≡◌, ℕ, ◌+◌, ◌*◌, ◌≤◌, length, List, [], ◌∷◌, ◌++◌, Option, Some, None, Bool, true, arith}
-use Rattle.std.specs.Prelude.{if◌then◌else◌, get_or}
-use Rattle.sym_core.specs.declared.NumberKind.TheVariants.{Base62, Hex}
-use Rattle.sym_shape.specs.declared.rule.Rule.{Rule}
-use Rattle.sym_shape.specs.declared.rule.Sym.{Sym}
-use Rattle.sym_shape.specs.declared.rule.Sym.TheVariants.{Kind, Name, Number, Byte}
-use Rattle.sym_shape.specs.declared.sheet.Choice.{Choice}
-use Rattle.sym_shape.specs.Table.{symbols_of}
-use Rattle.sym_link.specs.Reading.{Found}
-use Rattle.sym_spell.specs.Pressing.{◌and◌, text, letter, nothing}
-use Rattle.sym_spell.proofs.Spellings.{and-nothing}
+use Rattle.rust_press.proofs.Basics.{◌≡◌, ℕ, ◌+◌, ◌*◌, ◌≤◌, length, List, [], ◌∷◌, ◌++◌, Option, Some, None, Bool, true, arith, if◌then◌else◌, get_or, Base62, Hex, Rule, Sym, Kind, Name, Number, Byte, Choice, symbols_of, Found, ◌and◌, text, letter, nothing, and-nothing, Tree, Production, production_of, v0_table, Value, State, At, meaning_of, token_of, value62, value16, Pressing, number62, number16, counted, mark_if, press_name, press_disambiguator, press_binder, press_identifier, press_lifetime, press_abi, press_constant, press_path, press_other, press_arguments, press_types, press_bounds, press_bindings, type_or_reference, spell_type, IsTypeValue}
 use Rattle.rust_tree.specs.Symbol as tree
-use Rattle.rust_tree.specs.Tree.{Tree}
-use Rattle.rust_grammar.specs.declared.production.Production.{Production}
-use Rattle.rust_grammar.specs.Productions.{production_of}
-use Rattle.rust_grammar.specs.Rules.{v0_table}
 use Rattle.rust_grammar.specs.Value as value
-use Rattle.rust_grammar.specs.Value.{Value, State}
-use Rattle.rust_grammar.specs.Unfold.{At, meaning_of, token_of, value62, value16}
 use Rattle.rust_press.specs.Pressing as pressing
-use Rattle.rust_press.specs.Pressing.{Pressing, number62, number16, counted, mark_if, press_name, press_disambiguator, press_binder, press_identifier, press_lifetime, press_abi, press_constant, press_path, press_other, press_arguments, press_types, press_bounds, press_bindings, type_or_reference, spell_type}
-use Rattle.rust_press.specs.Subtrees.{IsTypeValue}
 use Rattle.rust_press.proofs.PressRead.{Holds}
 use Rattle.rust_press.proofs.PressTokens.{disambiguator_values, binder_values, identifier_values, unsafe_values, minus_values, abi_values}
 use Rattle.rust_press.proofs.PressKept.{arguments_values, bindings_values}
@@ -29,7 +11,7 @@ use Rattle.rust_press.proofs.ShortParts.{ended_tree, Listed, spelled, is_compare
 
 -- ## What a part of a rule may be
 
--- a sort of things: the values that each is read as, and how it is pressed
+-- a sort of things: the values that each thing is read as, and how the thing is pressed
 pub record Sort : Type 1 where
   pub thing : Type 0
   pub values : thing → List Value
@@ -80,7 +62,7 @@ press_abi_name (Some name) = press_name name
 abbrev HasTypeValues : Type 0
 HasTypeValues = (type : tree.Ty) × (values : List Value) × IsTypeValue type values
 
--- A minus is pressed with the letter before it.
+-- The sort of each part. A minus is pressed with the letter before it.
 abbrev pub sort_of : Part → Sort
 sort_of unsaid_part = record { thing = List Value × Pressing; values = λ t. t.0; press = λ t. t.1 }
 sort_of path_part = record { thing = tree.Path; values = λ p. value.a_path p ∷ []; press = press_path }
@@ -152,7 +134,7 @@ pub record MakesPlain (S : Sort) (own : ℕ) (at : At) (h : Pressing) (r : Found
   pub press : ◌≡◌ {A = Pressing} (S.press thing) (text bytes and h)
   pub ended : r.state.ended ≡ at.ended
 
--- a rule makes something whose text replaces that of the parts
+-- a rule makes something with a text of its own, in place of the texts of its parts
 pub record MakesText (S : Sort) (own : ℕ) (at : At) (h : Pressing) (r : Found Value State) : Type 0 where
   pub thing : S.thing
   pub values : r.value ∷ [] ≡ S.values thing
@@ -176,7 +158,7 @@ pub record MakesTree (S : Sort) (own few_parts : ℕ) (at : At) (h : Pressing) (
   pub big : is_compared tree ≡ true → 2 ≤ own + few_parts
   pub ended : r.state.ended ≡ record { place = at.place; value = r.value } ∷ at.ended
 
--- a rule makes one that has ended already
+-- a rule makes a path, a type or a constant that has ended already, and ends once more
 pub record MakesAgain (S : Sort) (own few_parts : ℕ) (at : At) (h : Pressing) (r : Found Value State) : Type 0 where
   pub thing : S.thing
   pub values : r.value ∷ [] ≡ S.values thing
@@ -223,7 +205,7 @@ first-of : (o : Option Production) (x : Sym) (xs : List Sym) (known : List Value
     → (values : List Value) (h : Pressing) → Row o (x ∷ xs) known values h → P values h
 first-of o x xs known P is values h (t, g, joined, row) = rw joined (is t values g row)
 
--- what a rule of this production makes of these values, whose parts are pressed as `h`
+-- a rule of this production makes a thing of the sort from these values, if the values are pressed as `h`
 abbrev Goal : Sort → Rule → Option Production → (few_parts : ℕ) → At → List Value → Pressing → Type 0
 Goal S rule o few_parts at values h = Holds (Made S (own_of rule) few_parts at h) (meaning_of o at values)
 

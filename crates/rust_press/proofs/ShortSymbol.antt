@@ -1,39 +1,15 @@
 -- A symbol is pressed in at most four bytes for each of its own: by induction over its shape.
-use Rattle.std.proofs.Common.{◌≡◌, ℕ, ◌+◌, ◌*◌, ◌≤◌, length, List, [], ◌∷◌, ◌++◌, Option, Some, None, Bool, true, false, Ok, refl, ap, arith, sym, subst, ◌∙◌, length-append}
-use Rattle.std.proofs.lemmas.Option.{same_Some}
+use Rattle.rust_press.proofs.Basics.{◌≡◌, ℕ, ◌+◌, ◌*◌, ◌≤◌, length, List, [], ◌∷◌, ◌++◌, Option, Some, None, Bool, true, false, Ok, refl, ap, arith, sym, subst, ◌∙◌, length-append, same_Some, if◌then◌else◌, get_or, Result, Err, drop, codes, IsLengthForm, ending_of, Token, IsName, IsNumberToken, bytes_of, Rust, NumberKind, Base62, Hex, Refusal, Rule, Sym, Kind, Name, Number, Byte, Choice, classes_of, in_ranges, choice_at, symbols_of, IsToken, Found, Open, ◌>>=◌, unfold_tree, unfold_forest, standing, alone, ◌and◌, text, Production, production_of, v0_table, kinds, no_kind, taking, each, Value, State, Ended, v0, At, bound_behind, is_minus, meaning, meaning_of, at_rule, at_first, symbol_of, unfolded, token_of, value62, value16, Pressing, digits62, digits16, press_path, press_other, pressed, PressedIsShort}
 use Rattle.std.proofs.lemmas.List.{length-drop}
 use Rattle.sym_core.specs.declared.TheConstants.{MOST_BYTES}
-use Rattle.std.specs.Prelude.{if◌then◌else◌, get_or, Result, Err, drop, codes}
-use Rattle.sym_core.specs.Number.{IsLengthForm, ending_of}
-use Rattle.sym_core.specs.Token.{Token, IsName, IsNumberToken, bytes_of}
-use Rattle.sym_core.specs.declared.NameClass.TheVariants.{Rust}
-use Rattle.sym_core.specs.declared.NumberKind.{NumberKind}
-use Rattle.sym_core.specs.declared.NumberKind.TheVariants.{Base62, Hex}
-use Rattle.sym_core.specs.declared.refusal.Refusal.{Refusal}
-use Rattle.sym_shape.specs.declared.rule.Rule.{Rule}
-use Rattle.sym_shape.specs.declared.rule.Sym.{Sym}
-use Rattle.sym_shape.specs.declared.rule.Sym.TheVariants.{Kind, Name, Number, Byte}
-use Rattle.sym_shape.specs.declared.sheet.Choice.{Choice}
-use Rattle.sym_shape.specs.Sheet.{classes_of, in_ranges, choice_at}
-use Rattle.sym_shape.specs.Table.{symbols_of, IsToken}
 use Rattle.sym_shape.specs.Tree.{Tree as Shape, Forest, branch, empty, token, fixed, grown, spell, spell_all, IsTree, AreTrees}
 use Rattle.sym_shape.specs.Tree as shape
-use Rattle.sym_link.specs.Reading.{Found, Open, ◌>>=◌}
-use Rattle.sym_link.specs.Unfold.{unfold_tree, unfold_forest, standing, alone}
-use Rattle.sym_spell.specs.Pressing.{◌and◌, text}
-use Rattle.rust_grammar.specs.declared.production.Production.{Production}
-use Rattle.rust_grammar.specs.Productions.{production_of}
-use Rattle.rust_grammar.specs.Rules.{v0_table, kinds, no_kind, taking, each}
 use Rattle.rust_grammar.specs.declared.production.Production.TheVariants as rules
 use Rattle.rust_grammar.specs.Value as value
 use Rattle.rust_tree.specs.Symbol as tree
-use Rattle.rust_grammar.specs.Value.{Value, State, Ended}
-use Rattle.rust_grammar.specs.Unfold.{v0, At, bound_behind, is_minus, meaning, meaning_of, at_rule, at_first, symbol_of, unfolded, token_of, value62, value16}
-use Rattle.rust_press.specs.Pressing.{Pressing, digits62, digits16, press_path, press_other, pressed}
 use Rattle.rust_press.proofs.PressReadTrees.{symbol_rule, whole-shape}
 use Rattle.rust_press.proofs.PressSymbol.{other_values}
 use Rattle.sym_demangle.specs.Mangled.{misshapen, well_shaped}
-use Rattle.rust_press.specs.Short.{PressedIsShort}
 use Rattle.rust_press.proofs.PressRead.{Holds, holds-then}
 use Rattle.rust_press.proofs.ShortParts.{spelled, pressed_as, IsClosed, Alike, Fits, text-fits, and-fits, fits-without, pressed-fits, refers-fits}
 use Rattle.rust_press.proofs.ShortTokens.{number62-short, number16-short, name-short}
@@ -42,7 +18,7 @@ use Rattle.rust_press.proofs.ShortGrammar.{holds-as, each-kind}
 
 -- ## Parts of a symbol, as they are read
 
--- a thing of a sort was read, which is pressed in few bytes
+-- a thing of a sort was read, and is pressed in few bytes
 pub record IsRead (S : Sort) (few n : ℕ) (before : List Ended) (r : Found (List Value) State) : Type 0 where
   pub thing : S.thing
   pub values : r.value ≡ S.values thing
@@ -95,7 +71,7 @@ token-read o (Byte b) t minus state is closed = absurd is
 
 -- ## Rules
 
--- what a rule makes of its parts was read, where the parts are pressed as `h`
+-- what a rule makes of its parts was read, if the parts are pressed as `h` in few bytes
 made-read : (S : Sort) (own few_parts : ℕ) (at : At) (h : Pressing) (n : ℕ) (before : List Ended) (r : Found Value State) → 1 ≤ own + few_parts → few_parts ≤ n → IsClosed before → Fits h n before at.ended
     → Made S own few_parts at h r → IsRead S 1 (own + n) before (record { value = r.value ∷ []; state = r.state })
 made-read S own few_parts at h n before r solid big closed fits (makes_plain m) = record {
@@ -129,7 +105,7 @@ made-read S own few_parts at h n before r solid big closed fits (makes_again m) 
   big = omega (arith, solid, big);
 }
 
--- a rule of a kind was read
+-- the rule that a byte chooses among the rules of a kind makes a thing of the kind's sort
 closes-at : (S : Sort) (cs : List Choice) (byte : ℕ) (rule : Rule) → AllClose S cs → choice_at cs byte ≡ Some rule → Closes S rule
 closes-at S [] byte rule are is = cc
 closes-at S (c ∷ cs) byte rule (one, rest) is = go (in_ranges (classes_of c) byte) is (λ h. closes-at S cs byte rule rest h)
@@ -142,7 +118,7 @@ own-long : (eats : Bool) (taken : List ℕ) (byte : ℕ) → taken ≡ (if eats 
 own-long true taken byte is = ap (λ l. length l) is
 own-long false taken byte is = ap (λ l. length l) is
 
--- a rule was read over its parts
+-- if the parts of a rule were read, so was the rule
 rule-read : (s : List ℕ) (S : Sort) (rule : Rule) (taken : List ℕ) (context place n byte : ℕ) (before : State) (closes : Closes S rule) (m : Result (Found (List Value) State) Refusal)
     → taken ≡ (if rule.eats then byte ∷ [] else []) → IsClosed before.ended → Holds (AreRead (production_of rule.number) (symbols_of rule) [] n before.ended) m
     → Holds (IsRead S 1 (length taken + n) before.ended) (m >>= λ inner. meaning_of (production_of rule.number) (at_rule s (standing rule taken place context before) inner.state) inner.value >>= alone)
@@ -220,7 +196,7 @@ anything : {A : Type 0} (m : Result A Refusal) → Holds (λ x. Unit {0}) m
 anything (Ok x) = tt
 anything (Err e) = tt
 
--- the suffix at the end of a symbol
+-- the suffix at the end of a symbol is read as at most as many bytes as spell it
 suffix-read : (s : List ℕ) (place : ℕ) (tree : Shape) (state : State) → length s ≡ place + length (spell tree) → IsTree v0_table (Kind 3) tree
     → Holds (λ f. IsSuffix (length (spell tree)) f.value) (unfold_tree (v0 s) 0 place tree state)
 suffix-read s place empty state long tree = tt
@@ -248,7 +224,7 @@ record AreParts (a b d : ℕ) (values : List Value) : Type 0 where
   other_fits : Fits (press_other other) b middle ended
   suffix : IsSuffix d last
 
--- A symbol with such parts.
+-- A symbol of a path, another path and a suffix that have a, b and d bytes.
 record IsOfParts (a b d : ℕ) (symbol : tree.Symbol) : Type 0 where
   middle : List Ended
   ended : List Ended
@@ -274,7 +250,7 @@ none-closed own listed = absurd listed
 none-alike : Alike [] []
 none-alike = record { ended = λ own has. absurd has; there = λ own listed compared. absurd listed; low = tt }
 
--- such a symbol is pressed in at most four bytes for each of its own
+-- a symbol of these parts is pressed in at most four bytes for each of its own bytes
 parts-short : (a b d : ℕ) (symbol : tree.Symbol) → 2 + (a + (b + d)) ≤ MOST_BYTES → IsOfParts a b d symbol → length (pressed symbol) ≤ 4 * (2 + (a + (b + d)))
 parts-short a b d symbol fits is =
     let last = text-fits symbol.suffix d is.ended is.other_fits.closed (omega (arith, is.suffix)) in
@@ -287,7 +263,7 @@ parts-short a b d symbol fits is =
 whole-long : (byte : ℕ) (a b d : List ℕ) → length (byte ∷ 82 ∷ (a ++ (b ++ (d ++ [])))) ≡ 2 + length a + length b + length d
 whole-long byte a b d = omega (arith, length-append a (b ++ (d ++ [])), length-append b (d ++ []), length-append d [])
 
--- a symbol of the one rule
+-- a symbol of the one rule is pressed in at most four bytes for each of its own bytes
 rule-short : (byte : ℕ) (a b d : Shape) → IsTree v0_table (Kind 1) a → IsTree v0_table (Kind 2) b → IsTree v0_table (Kind 3) d
     → 2 + (length (spell a) + (length (spell b) + length (spell d))) ≤ MOST_BYTES
     → Holds (λ y. length (pressed y) ≤ 4 * (2 + (length (spell a) + (length (spell b) + length (spell d))))) (unfolded (branch symbol_rule (byte ∷ []) (grown (fixed 82) (grown a (grown b (grown d shape.nothing))))))

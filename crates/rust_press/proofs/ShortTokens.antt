@@ -1,21 +1,6 @@
 -- Numbers and names are pressed in no more bytes than the tokens that they are read from, except for a zero in base 16.
-use Rattle.std.proofs.Common.{◌≡◌, ℕ, zero, suc, ◌+◌, ◌*◌, ◌/◌, ◌%◌, ◌<◌, ◌≤◌, length, List, [], ◌∷◌, ◌++◌, Bool, true, false, refl, ap, arith, sym, subst, length-append}
-use Rattle.std.specs.Prelude.{◌==◌, ◌||◌, if◌then◌else◌}
-use Rattle.std.specs.Fmt.{digit_glyph}
-use Rattle.std.proofs.lemmas.Bool.{eqb-false, eqb-true}
-use Rattle.std.proofs.lemmas.Bool.Decides.{nat_tests}
+use Rattle.rust_press.proofs.Basics.{◌≡◌, ℕ, zero, suc, ◌+◌, ◌*◌, ◌/◌, ◌%◌, ◌<◌, ◌≤◌, length, List, [], ◌∷◌, ◌++◌, Bool, true, false, refl, ap, arith, sym, subst, length-append, ◌==◌, ◌||◌, if◌then◌else◌, digit_glyph, eqb-false, eqb-true, nat_tests, NumberKind, Base62, Hex, Length, Rust, AreDigits, AreDigitsOf, is_digit_of, is_decimal_digit, radix_of, digit_value, value_onto, value_of, Token, IsName, IsSeparator, bytes_of, hexadecimal, hexadecimal_before, value62, value16, digits_in, decimal_digit, digit62, most_of, Divides, digits-count, divides10, digits62, digits16, separator}
 use Rattle.std.proofs.Math.Nat.{mul_assoc, mul-le-mul_right}
-use Rattle.sym_core.specs.declared.NumberKind.{NumberKind}
-use Rattle.sym_core.specs.declared.NumberKind.TheVariants.{Base62, Hex, Length}
-use Rattle.sym_core.specs.declared.NameClass.TheVariants.{Rust}
-use Rattle.sym_core.specs.Number.{AreDigits, AreDigitsOf, is_digit_of, is_decimal_digit}
-use Rattle.sym_core.specs.Value.{radix_of, digit_value, value_onto, value_of}
-use Rattle.sym_core.specs.Token.{Token, IsName, IsSeparator, bytes_of}
-use Rattle.rust_tree.specs.Hexadecimal.{hexadecimal, hexadecimal_before}
-use Rattle.rust_grammar.specs.Unfold.{value62, value16}
-use Rattle.sym_spell.specs.Digits.{digits_in, decimal_digit, digit62, most_of}
-use Rattle.sym_spell.proofs.DigitValues.{Divides, digits-count, divides10}
-use Rattle.rust_press.specs.Pressing.{digits62, digits16, separator}
 use Rattle.rust_press.proofs.PressNumbers.{divides62}
 use Rattle.rust_press.proofs.PressReadTrees as read
 

@@ -1,18 +1,6 @@
 -- A tree is spelled as the bytes before its parts, its parts, and the bytes after them.
-use Rattle.std.proofs.Common.{◌≡◌, ℕ, zero, suc, ◌+◌, ◌-◌, ◌*◌, ◌/◌, ◌%◌, ◌<◌, ◌≤◌, ◌^◌, length, List, [], ◌∷◌, ◌++◌, Bool, true, false, refl, ap, arith, sym, ◌∙◌, append_assoc, append-nil}
-use Rattle.std.specs.Prelude.{nat_lt, ◌==◌, if◌then◌else◌, get_or}
-use Rattle.std.specs.Fmt.{digit_glyph}
-use Rattle.std.proofs.lemmas.Bool.{lt-ltb, ltb-true, eqb-true}
-use Rattle.rust_tree.specs.Tree.{Tree}
-use Rattle.rust_tree.specs.Fields.{Fields, one_if}
-use Rattle.rust_tree.specs.Hexadecimal.{hexadecimal, hexadecimal_before}
-use Rattle.sym_spell.specs.Pressing.{◌and◌, text, letter, nothing}
-use Rattle.sym_spell.specs.Digits.{digits_in, decimal_digit, digit62, digits_of}
-use Rattle.rust_press.specs.Pressing.{Component, Pressed, Pressing, number62, number16, separator, counted, mark_if, press_name, count_of, press_identifier, press_lifetime, some_lifetime}
-use Rattle.rust_press.specs.Spelled.{number_bytes, count_bytes, lifetime_bytes, mark_bytes, name_bytes, or_zero, integer_bytes, front, end}
-use Rattle.rust_press.specs.Tasks.{press_tree, parts_then}
+use Rattle.rust_press.proofs.Basics.{◌≡◌, ℕ, zero, suc, ◌+◌, ◌-◌, ◌*◌, ◌/◌, ◌%◌, ◌<◌, ◌≤◌, ◌^◌, length, List, [], ◌∷◌, ◌++◌, Bool, true, false, refl, ap, arith, sym, ◌∙◌, append_assoc, append-nil, nat_lt, ◌==◌, if◌then◌else◌, get_or, digit_glyph, lt-ltb, ltb-true, eqb-true, Tree, Fields, one_if, hexadecimal, hexadecimal_before, ◌and◌, text, letter, nothing, digits_in, decimal_digit, digit62, digits_of, Component, Pressed, Pressing, number62, number16, separator, counted, mark_if, press_name, count_of, press_identifier, press_lifetime, some_lifetime, number_bytes, count_bytes, lifetime_bytes, mark_bytes, name_bytes, or_zero, integer_bytes, front, end, press_tree, parts_then, and-assoc-at, nothing-and-at}
 use Rattle.rust_press.proofs.PressSteps.{and-same}
-use Rattle.sym_spell.proofs.Spellings.{and-assoc-at, nothing-and-at}
 
 -- ## Rows of spellings
 
@@ -92,7 +80,7 @@ pub parts-same : (ts : List Tree) (g h : Pressing) → ((p : ℕ) (cs : List Com
 parts-same [] g h same p cs = same p cs
 parts-same (t ∷ ts) g h same p cs = and-same (press_tree t) _ _ (parts-same ts g h same) p cs
 
--- the fields of a spelling are the tree's, whatever follows it
+-- a tree's spelling by its fields, and what follows it: bytes, the parts, bytes, and `rest`
 abbrev pub by_fields : Fields → Pressing → Pressing
 by_fields given rest = text (front given) and parts_then given.parts (text (end given) and rest)
 

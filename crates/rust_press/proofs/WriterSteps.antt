@@ -1,29 +1,9 @@
--- The steps of the writer keep what is written and what is still to be written.
-use Rattle.std.proofs.Common.{◌≡◌, ℕ, zero, suc, ◌+◌, ◌-◌, ◌<◌, ◌≤◌, ◌^◌, inl, inr, length, List, [], ◌∷◌, ◌++◌, drop, slice_get, slice_set, Option, Some, None, Bool, true, false, refl, ap, arith, sym, subst, ◌∙◌, append_assoc, length-append}
-use Rattle.std.proofs.lemmas.Option.{same_Some, slice_get_within}
-use Rattle.std.specs.Prelude.{◌==◌, map, get_or, slice_index_or}
-use Rattle.sym_core.specs.declared.Span.{Span}
+-- No step of the writer changes the whole spelling: what is written, followed by what is still to be written.
+use Rattle.rust_press.proofs.Basics.{◌≡◌, ℕ, zero, suc, ◌+◌, ◌-◌, ◌<◌, ◌≤◌, ◌^◌, inl, inr, length, List, [], ◌∷◌, ◌++◌, drop, slice_get, slice_set, Option, Some, None, Bool, true, false, refl, ap, arith, sym, subst, ◌∙◌, append_assoc, length-append, same_Some, slice_get_within, ◌==◌, map, get_or, slice_index_or, Span, bytes_at, symbol_in, got-there, length-trees, eqb-true, eq-eqb, Tree, of_symbol, Fields, fields_of, number_in, ReadSymbol, trees_of, fields_at, fields_in, IsView, ◌and◌, text, letter, Component, Pressed, Pressing, number62, reference, component, spelled_out, first_place, pressed, press_path, press_other, same_tree, number_at, AreFirst, front, end, front_bytes, is_component, number_bytes, reference_bytes, press_tree, ending, press_root, AreOfNodes, parts_then, press_some, ending_some, press_task, press_tasks, IsTask, AreTasks, weight_of_tree, weight_of_some, task_weight, weight_of_tasks, ArePushed, ArePlaces, Goes, placed, IsSpelled, IsNodeStep, pressed_symbol, Task, and-assoc-at, and-nothing-at, nothing-and-at}
 use Rattle.rust_tree.specs.declared.view.Node.{Node}
-use Rattle.rust_tree.specs.Nodes.{bytes_at, symbol_in}
-use Rattle.rust_tree.proofs.Trees.{got-there, length-trees}
 use Rattle.std.specs.Option.{option_to_list}
-use Rattle.std.proofs.lemmas.Bool.{eqb-true, eq-eqb}
 use Rattle.rust_tree.specs.Symbol as tree
-use Rattle.rust_tree.specs.Tree.{Tree, of_symbol}
-use Rattle.rust_tree.specs.Fields.{Fields, fields_of, number_in}
-use Rattle.rust_tree.specs.Layout.{ReadSymbol, trees_of}
-use Rattle.rust_tree.specs.Views.{fields_at, fields_in, IsView}
-use Rattle.sym_spell.specs.Pressing.{◌and◌, text, letter}
-use Rattle.rust_press.specs.Pressing.{Component, Pressed, Pressing, number62, reference, component, spelled_out, first_place, pressed, press_path, press_other}
-use Rattle.rust_press.specs.Same.{same_tree}
-use Rattle.sym_spell.specs.Numbers.{number_at}
-use Rattle.rust_press.specs.Numbers.{AreFirst}
-use Rattle.rust_press.specs.Spelled.{front, end, front_bytes, is_component, number_bytes, reference_bytes}
-use Rattle.rust_press.specs.Tasks.{press_tree, ending, press_root, AreOfNodes, parts_then, press_some, ending_some, press_task, press_tasks, IsTask, AreTasks, weight_of_tree, weight_of_some, task_weight, weight_of_tasks, ArePushed, ArePlaces, Goes, placed, IsSpelled, IsNodeStep}
-use Rattle.rust_press.specs.OfRead.{pressed_symbol}
-use Rattle.rust_press.specs.declared.pressing.Task.{Task}
 use Rattle.rust_press.proofs.PressSteps.{and-same, spelled-then}
-use Rattle.sym_spell.proofs.Spellings.{and-assoc-at, and-nothing-at, nothing-and-at}
 use Rattle.rust_press.proofs.Sameness.{equal-tree}
 use Rattle.rust_press.proofs.TreeSpellings.{first-same, parts-same, by_fields, is-text, number-text}
 use Rattle.rust_press.proofs.Productions.{spelling_of, tree-spells, looked-as, compared-itself, end-none, parts-weight}
@@ -95,14 +75,14 @@ reference-text : (place p : ℕ) (cs : List Component) → reference place p cs 
 unfolding reference_bytes
 reference-text place p cs = is-text (letter 66) (number62 (place - 2)) (66 ∷ []) (number_bytes (place - 2)) (λ q ds. refl) (number-text (place - 2)) p cs
 
--- a component, by what is known of it
+-- a component is a reference if its place is known, and otherwise it is spelled out
 component-known : (t : Tree) (f : Pressing) (place p : ℕ) (cs : List Component) → first_place t cs ≡ Some place → component t f p cs ≡ reference place p cs
 component-known t f place p cs is = rw is refl
 
 component-new : (t : Tree) (f : Pressing) (p : ℕ) (cs : List Component) → first_place t cs ≡ None → component t f p cs ≡ spelled_out t f p cs
 component-new t f p cs is = rw is refl
 
--- the tree of one node before the rest, for each kind of step
+-- what a node's tree and the rest write, for each kind of step
 known-step : (t : Tree) (old : Pressing) (place p : ℕ) (cs : List Component) → is_component (fields_of t).production ≡ true → first_place t cs ≡ Some place
     → (press_tree t and old) p cs ≡ (text (reference_bytes place) and old) p cs
 known-step t old place p cs is known =
@@ -281,7 +261,7 @@ set-other (p ∷ ps) zero (suc j) x apart = refl
 set-other (p ∷ ps) (suc k) zero x apart = refl
 set-other (p ∷ ps) (suc k) (suc j) x apart = set-other ps k j x (λ e. apart (ap suc e))
 
--- the first place of a tree, with one component more
+-- the first place of a tree, after one more component
 one-later : Option ℕ → Bool → ℕ → Option ℕ
 one-later (Some p) same place = Some p
 one-later None true place = Some place
@@ -434,7 +414,7 @@ symbol-bytes y whole view t out there long h is bytes =
 pub popped : (tasks rest : List Task) (o : Option Task) (task one : Task) → tasks ≡ rest ++ option_to_list o → o ≡ Some task → task ≡ one → tasks ≡ rest ++ one ∷ []
 popped tasks rest o task one is some same = is ∙ ap (λ p. rest ++ option_to_list p) (some ∙ ap Some same)
 
--- a node that is there has a number, and a place belongs to the number
+-- a node of the table has a number, and the number has an entry among the places
 pub record IsThere (y : ReadSymbol) (numbers : List ℕ) (places : List (Option ℕ)) (k : ℕ) : Type 0 where
   pub node : k < length y.table.nodes
   pub number : k < length numbers

@@ -5,7 +5,7 @@ use Rattle.rust_tree.specs.Tree.{Tree}
 use Rattle.rust_press.specs.Same.{same_tree}
 use Rattle.rust_press.specs.Pressing.{Component, press_symbol}
 
--- none of the components is the tree
+-- no component is the tree
 abbrev pub IsNew : Tree → List Component → Type 0
 IsNew own [] = Unit {0}
 IsNew own (c ∷ cs) = (same_tree own c.own ≡ false) × IsNew own cs

@@ -1,4 +1,4 @@
--- The marks of keys, by which they are looked for first.
+-- The marks of keys. A key is looked up by its mark first.
 use Rattle.std.specs.Prelude.{◌≡◌, ℕ, ◌+◌, ◌*◌, ◌%◌, get_or, Option}
 use Rattle.std.specs.BTreeMap.{get}
 use Rattle.std.specs.Cmp.Lexicographic.{slice_cmp}
@@ -11,14 +11,14 @@ use Rattle.sym_spell.specs.declared.firsts.Firsts.{Firsts}
 use Rattle.sym_spell.proofs.Orders.{first-tied, number-tied, list-tied}
 use Rattle.rust_press.specs.declared.numbering.Key.{Key}
 
--- the order of keys that is derived
+-- the derived order of keys
 abbrev pub key_cmp : Key → Key → Ordering
 key_cmp a b =
     ordering_then (nat_cmp a.production b.production) (ordering_then (nat_cmp a.count b.count)
     (ordering_then (slice_cmp nat_cmp a.parts b.parts) (ordering_then (slice_cmp nat_cmp a.numbers b.numbers)
     (ordering_then (slice_cmp nat_cmp a.first_text.now b.first_text.now) (slice_cmp nat_cmp a.second_text.now b.second_text.now)))))
 
--- a number that a key's parts, numbers and first text make
+-- a number made of a key's production, parts, numbers and first text
 abbrev pub mark_of : Key → ℕ
 mark_of key =
     key.production * 59 + (get_or key.parts 0 0 * 101 + get_or key.parts 1 0 * 307 + get_or key.parts 2 0 * 419)
@@ -37,7 +37,7 @@ marked-alike a b same =
     let text = list-tied a.first_text.now b.first_text.now h5.0 in
     rw (production, parts, numbers, text) refl
 
--- the first node with a key, and that a table of them is in order
+-- the first node with a key, as the table of first nodes finds it; then what `found_in` needs of the table
 abbrev pub found_in : Firsts Key → Key → Option ℕ
 found_in keys = first_in key_cmp mark_of keys.places.items keys.seen.items (get key_cmp keys.more)
 

@@ -10,15 +10,15 @@ use Rattle.rust_press.specs.declared.numbering.Key.{Key}
 abbrev pub AreNumbers : List Tree → List ℕ → Type 0
 AreNumbers all numbers = AreNumbered (slice_get all) (length all) numbers
 
--- Nodes with equal trees have one first node, and nodes with different trees have different ones.
+-- Nodes with equal trees have one first node, and nodes with different trees have different first nodes.
 abbrev pub AreFirst : List Tree → List ℕ → Type 0
 AreFirst all firsts = AreTold (slice_get all) (length all) firsts
 
--- the number of a part, by these numbers or by any others that tell trees apart
+-- the number of the part k of a node: the number of a node that equals the part
 abbrev pub IsPartNumber : List Tree → List ℕ → (parts : List Tree) → (k n : ℕ) → Type 0
 IsPartNumber all numbers parts k n = (p : ℕ) × (p < length numbers) × (slice_get all p ≡ slice_get parts k) × (n ≡ number_at numbers p)
 
--- The key has these fields: the parts by their numbers, and 0 after them.
+-- The key has these fields, with the number of each part in place of the part, and 0 after the last part.
 pub record IsKeyOf (all : List Tree) (numbers : List ℕ) (given : Fields) (key : Key) : Type 0 where
   pub production : key.production ≡ given.production
   pub own_numbers : key.numbers ≡ given.numbers

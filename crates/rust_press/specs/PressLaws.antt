@@ -1,5 +1,5 @@
--- What pressing keeps: pressed bytes are spelled by a shape of the grammar, which is read as what was pressed, after any
--- spelled beginning.
+-- What pressing keeps: after any spelled beginning, a shape of the grammar spells the pressed bytes and is read as what was
+-- pressed.
 use Rattle.std.specs.Prelude.{◌≡◌, ℕ, ◌+◌, ◌<◌, ◌≤◌, List, [], ◌∷◌, ◌++◌, length, Bool, Option, Some, None, Ok}
 use Rattle.sym_shape.specs.declared.rule.Rule.{Rule}
 use Rattle.sym_shape.specs.declared.rule.Sym.{Sym}
@@ -17,7 +17,7 @@ use Rattle.sym_shape.specs.declared.rule.Sym.TheVariants.{Kind}
 use Rattle.rust_press.specs.Spellable.{IsSpellable, IsSpellableSuffix}
 use Rattle.rust_press.specs.Pressing.{Component, Pressed, Pressing, pressed}
 
--- a component, as something that has ended where it is read
+-- the value that a component is read as
 abbrev pub as_value : Tree → Value
 as_value (of_path path) = value.a_path path
 as_value (of_type type) = value.a_type type
@@ -29,8 +29,8 @@ abbrev pub AreListed : List Ended → (place : ℕ) → List Component → Type 
 AreListed ended place [] = Unit {0}
 AreListed ended place (c ∷ cs) = (ended_at ended c.place ≡ Some (as_value c.own)) × (2 ≤ c.place) × (c.place < place) × AreListed ended place cs
 
--- What has ended agrees with the components so far: each component has ended, and nothing began at the place or after
--- it.
+-- What has ended agrees with the components so far: each component has ended, and nothing that begins at the place or after it
+-- has ended.
 pub record Agrees (components : List Component) (ended : List Ended) (place : ℕ) : Type 0 where
   pub listed : AreListed ended place components
   pub behind : (q : ℕ) → place ≤ q → ended_at ended q ≡ None
@@ -39,7 +39,7 @@ abbrev pub state_of : List Ended → (inside : Option Production) → (minus : B
 state_of ended inside minus = record { ended = ended; inside = inside; minus = minus }
 
 -- What was pressed at a place is the spelling of a shape for a symbol of the grammar. The shape is read there as values
--- with Q.
+-- for which Q holds.
 pub record Reads (s : List ℕ) (bound : ℕ) (inside : Option Production) (minus : Bool) (symbol : Sym) (Q : List Value → Type 0) (place : ℕ) (ended : List Ended) (pressed : Pressed) : Type 0 where
   pub shape : Shape
   pub spelled : spell shape ≡ pressed.bytes
@@ -51,7 +51,7 @@ pub record Reads (s : List ℕ) (bound : ℕ) (inside : Option Production) (minu
   pub agrees : Agrees pressed.components state.ended (place + length pressed.bytes)
   pub keeps : (p : ℕ) → p < place → ended_at state.ended p ≡ ended_at ended p
 
--- what is pressed is read in this way after any spelled beginning
+-- what is pressed after any spelled beginning is read as `Reads` says
 abbrev pub Presses : (s : List ℕ) → (bound : ℕ) → (inside : Option Production) → (minus : Bool) → Sym → Pressing → (List Value → Type 0) → Type 0
 Presses s bound inside minus symbol pressing Q =
     (front back : List ℕ) (place : ℕ) (components : List Component) (ended : List Ended)
@@ -61,7 +61,7 @@ Presses s bound inside minus symbol pressing Q =
     → s ≡ front ++ ((pressing place components).bytes ++ back)
     → Reads s bound inside minus symbol Q place ended (pressing place components)
 
--- the same for the parts of a rule, after the known ones
+-- the parts of a rule that follow the known ones are read in the same way
 pub record ReadsRow (s : List ℕ) (rule : Rule) (taken : List ℕ) (bound at : ℕ) (before : State) (symbols : List Sym) (known : List Value) (Q : List Value → Type 0) (place : ℕ) (start : State) (pressed : Pressed) : Type 0 where
   pub forest : Forest
   pub spelled : spell_all forest ≡ pressed.bytes
@@ -106,14 +106,14 @@ abbrev pub IsReadFrom : Shape → tree.Symbol → Type 0
 IsReadFrom shape symbol = IsTree v0_table (Kind 0) shape × (unfolded shape ≡ Ok symbol)
 
 -- If some symbol is read as a tree, the pressed spelling of the tree is well shaped, and every shape of the grammar
--- that spells it is read as the same tree. The pressed bytes are at most 2^64 - 1, as those of any list.
+-- that spells it is read as the same tree. There may be at most 2^64 - 1 pressed bytes, as in any list.
 abbrev pub PressedIsRead : Type 0
 PressedIsRead =
     (shape : Shape) (symbol : tree.Symbol) → IsReadFrom shape symbol → length (pressed symbol) ≤ greatest_u64
     → IsReadAs (pressed symbol) symbol
     × ((other : Shape) → IsTree v0_table (Kind 0) other → spell other ≡ pressed symbol → unfolded other ≡ Ok symbol)
 
--- so what is pressed is pressed again unchanged
+-- pressed bytes are read as a symbol that is pressed to the same bytes
 abbrev pub PressedOnce : Type 0
 PressedOnce =
     (shape : Shape) (symbol : tree.Symbol) → IsReadFrom shape symbol → length (pressed symbol) ≤ greatest_u64

@@ -1,5 +1,5 @@
 -- The pressed spelling of what a symbol denotes: the tree in its order. A path, type or constant that equals an earlier
--- one is a reference to the first such one, and everything else is spelled out.
+-- one is a reference to the first one that it equals, and everything else is spelled out.
 use Rattle.std.specs.Prelude.{ℕ, zero, suc, ◌-◌, List, [], ◌∷◌, ◌++◌, length, Bool, true, false, if◌then◌else◌, ◌||◌, ◌==◌, Option, Some, None}
 use Rattle.sym_core.specs.Number.{is_decimal_digit}
 use Rattle.sym_spell.specs.Pressing as spell
@@ -18,7 +18,7 @@ pub record Component : Type 0 where
   pub place : ℕ
   pub own : Tree
 
--- spellings, whose components are the last first
+-- a spelling; its components are in reverse order
 abbrev pub Pressed : Type 0
 Pressed = spell.Pressed Component
 
@@ -35,7 +35,7 @@ digits62 (suc n) = digits_in 62 digit62 40 n
 abbrev pub number62 : ℕ → Pressing
 number62 n = text (digits62 n ++ 95 ∷ [])
 
--- zero has its digit in base 16
+-- in base 16, zero is the digit 0
 abbrev pub digits16 : ℕ → List ℕ
 digits16 zero = 48 ∷ []
 digits16 (suc n) = hexadecimal (suc n)
@@ -58,7 +58,7 @@ mark_if false byte = nothing
 abbrev pub press_name : tree.Name → Pressing
 press_name name = mark_if name.punycode 117 and counted name.bytes
 
--- a letter and a number, or nothing for 0; the number 1 has no digit
+-- a letter and a number that is one less, or nothing for 0; so the number 1 has no digit
 abbrev pub count_of : (byte : ℕ) → ℕ → Pressing
 count_of byte zero = nothing
 count_of byte (suc n) = letter byte and number62 n
@@ -79,7 +79,7 @@ press_identifier identifier = identifier_of identifier.disambiguator identifier.
 abbrev pub press_lifetime : ℕ → Pressing
 press_lifetime lifetime = letter 76 and number62 lifetime
 
--- the lifetime of a reference, which is left out where it is erased
+-- the lifetime of a reference; an erased lifetime is left out
 abbrev pub some_lifetime : ℕ → Pressing
 some_lifetime zero = nothing
 some_lifetime (suc n) = press_lifetime (suc n)
@@ -97,7 +97,7 @@ first_place own [] = None
 first_place own (c ∷ cs) =
     elim (first_place own cs) [ Some place ↦ Some place | None ↦ elim (same_tree own c.own) [ true ↦ Some c.place | false ↦ None ] ]
 
--- the place is counted from after `_R`
+-- a reference to a place, which is counted from the first byte after `_R`
 abbrev pub reference : (place : ℕ) → Pressing
 reference place = letter 66 and number62 (place - 2)
 
@@ -121,7 +121,7 @@ spell_constant (tree.boolean truth) = letter 98 and letter (if truth then 49 els
 spell_constant (tree.character character) = letter 99 and number16 character
 spell_constant tree.placeholder = letter 112
 
--- the constant that isn't known is always its letter
+-- the unknown constant is always its letter
 abbrev pub press_constant : tree.Constant → Pressing
 press_constant tree.placeholder = letter 112
 press_constant constant = component (of_constant constant) (spell_constant constant)

@@ -9,10 +9,10 @@ use Rattle.rust_press.specs.Pressing.{pressed}
 abbrev pub pressed_a_byte : ℕ
 pressed_a_byte = 4
 
--- The bytes are at most `pressed_a_byte` times those of the symbol, for each symbol that fits and is read as the tree.
+-- The bytes are at most `pressed_a_byte` times as many as the bytes of each symbol that fits and is read as the tree.
 abbrev pub IsShort : tree.Symbol → (bytes : List ℕ) → Type 0
 IsShort symbol bytes = (s : List ℕ) → FitsSymbol s → IsReading s (Ok symbol) → length bytes ≤ pressed_a_byte * length s
 
--- the pressed spelling of each tree is as short
+-- the pressed spelling of each tree is short in this sense
 abbrev pub PressedIsShort : Type 0
 PressedIsShort = (symbol : tree.Symbol) → IsShort symbol (pressed symbol)

@@ -1,5 +1,5 @@
--- What is written of a node, by its production, its numbers and its text: the bytes before its parts and those after
--- them.
+-- What is written of a node, by its production, its numbers and its text: the bytes before the node's parts and those
+-- after the parts.
 use Rattle.std.specs.Prelude.{ℕ, ◌-◌, List, [], ◌∷◌, ◌++◌, length, Bool, true, false, ◌==◌, nat_lt, if◌then◌else◌, get_or}
 use Rattle.rust_tree.specs.declared.tree_production.TheConstants.{CRATE_ROOT, PUNYCODE_CRATE_ROOT, TRAIT_DEFINITION, NESTED, PUNYCODE_NESTED, GENERIC, NO_ARGUMENTS, LIFETIME_ARGUMENT, BASIC, ARRAY, SHARED_REFERENCE, MUTABLE_REFERENCE, FUNCTION, C_FUNCTION, ABI_FUNCTION, PUNYCODE_ABI_FUNCTION, DYN, NO_TYPES, MORE_BINDINGS, PUNYCODE_MORE_BINDINGS, INTEGER, BOOLEAN, CHARACTER, PLACEHOLDER, SYMBOL}
 use Rattle.rust_tree.specs.Fields.{Fields, number_in, text_in}
@@ -35,7 +35,7 @@ reference_bytes place = 66 ∷ number_bytes (place - 2)
 
 -- ## Productions
 
--- the letter that each production begins with, and a dot where there is none
+-- the letter that each production begins with, or a dot if it begins with none
 abbrev pub letters : List ℕ
 letters =
     67 ∷ 67 ∷ 77 ∷ 88 ∷ 89 ∷ 78 ∷ 78 ∷ 73 ∷ 46 ∷ 76 ∷ 75 ∷ 46 ∷ 46 ∷ 46 ∷ 65 ∷ 83 ∷ 84 ∷ 82 ∷ 81 ∷ 80 ∷ 79 ∷ 70 ∷ 70 ∷ 70 ∷ 70 ∷ 68 ∷ 69 ∷ 46

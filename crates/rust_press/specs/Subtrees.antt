@@ -1,4 +1,4 @@
--- Pressed parts of a symbol are read as those parts, after whatever was spelled before them.
+-- The pressed spelling of a part of a symbol is read as this part, after whatever was spelled before it.
 use Rattle.std.specs.Prelude.{◌≡◌, ℕ, ◌≤◌, ◌⊎◌, List, [], ◌∷◌, length, Bool, Option}
 use Rattle.sym_shape.specs.declared.rule.Sym.TheVariants.{Kind}
 use Rattle.rust_grammar.specs.declared.production.Production.{Production}
@@ -11,7 +11,7 @@ use Rattle.rust_press.specs.Spellable.{IsSpellable, IsSpellableType, IsSpellable
 use Rattle.rust_press.specs.Pressing.{press_path, press_constant, type_or_reference, spell_type}
 use Rattle.rust_press.specs.PressLaws.{Presses}
 
--- what a type is read as: itself, or the path that it is
+-- what a type is read as: the type itself, or the path that the type is
 abbrev pub IsTypeValue : tree.Ty → List Value → Type 0
 IsTypeValue type values = (values ≡ value.a_type type ∷ []) ⊎ ((path : tree.Path) × (type ≡ tree.path_type path) × (values ≡ value.a_path path ∷ []))
 
@@ -23,14 +23,14 @@ PathsAreRead =
     → length s ≤ greatest_u64 → IsSpellable path → need path ≤ bound
     → Presses s bound inside minus (Kind 1) (press_path path) (λ values. values ≡ value.a_path path ∷ [])
 
--- the same for a type
+-- A type that a symbol may have, and that closes under the bound lifetimes, is read in the same way.
 abbrev pub TypesAreRead : Type 0
 TypesAreRead =
     (s : List ℕ) (bound : ℕ) (inside : Option Production) (minus : Bool) (type : tree.Ty)
     → length s ≤ greatest_u64 → IsSpellableType type → need_of_type type ≤ bound
     → Presses s bound inside minus (Kind 11) (type_or_reference type (spell_type type)) (IsTypeValue type)
 
--- the same for a constant
+-- A constant that a symbol may have is read in the same way.
 abbrev pub ConstantsAreRead : Type 0
 ConstantsAreRead =
     (s : List ℕ) (bound : ℕ) (inside : Option Production) (minus : Bool) (constant : tree.Constant)

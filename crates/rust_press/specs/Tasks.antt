@@ -23,11 +23,11 @@ press_tree (of_bounds bounds) = press_bounds bounds
 press_tree (of_bindings bindings) = press_bindings bindings
 press_tree (of_symbol symbol) = text (95 ∷ 82 ∷ []) and press_path symbol.path and press_other symbol.instantiating
 
--- a component that begins there has ended
+-- a component that began at this place ends here
 abbrev pub ending : (place : ℕ) → Tree → Pressing
 ending at own place components = record { bytes = []; components = record { place = at; own = own } ∷ components }
 
--- trees one after the other, and then something else
+-- the spellings of trees, one after the other, and then another spelling
 abbrev pub parts_then : List Tree → Pressing → Pressing
 parts_then [] rest = rest
 parts_then (t ∷ ts) rest = press_tree t and parts_then ts rest
@@ -44,12 +44,12 @@ abbrev pub press_task : ReadSymbol → Task → Pressing
 press_task y (Task.Node node) = press_some (slice_get (trees_of y) node)
 press_task y (Task.Ended node place) = text (end (fields_at y node)) and ending_some place (slice_get (trees_of y) node)
 
--- the next task is the last in the list
+-- what tasks spell; the next task is the last one in the list
 abbrev pub press_tasks : ReadSymbol → List Task → Pressing
 press_tasks y [] = nothing
 press_tasks y (task ∷ tasks) = press_tasks y tasks and press_task y task
 
--- the node of a task exists, and what ends is a component
+-- the node of a task exists, and the node of a task that ends something is a component
 abbrev pub IsTask : ReadSymbol → Task → Type 0
 IsTask y (Task.Node node) = node < length (trees_of y)
 IsTask y (Task.Ended node place) = (node < length (trees_of y)) × (is_component (fields_at y node).production ≡ true)
@@ -141,7 +141,7 @@ pub record ArePushed (y : ReadSymbol) (parts : List Tree) (old new : List Task) 
   pub weight : weight_of_tasks y new ≡ weight_of_trees parts + weight_of_tasks y old
   pub nodes : AreTasks y old → AreTasks y new
 
--- The places by number: where the first component that equals the number's tree begins.
+-- The place for each number: where the first component that equals the number's tree begins.
 abbrev pub ArePlaces : ReadSymbol → (numbers : List ℕ) → List (Option ℕ) → List Component → Type 0
 ArePlaces y numbers places cs =
     (i : ℕ) (t : Tree) → slice_get (trees_of y) i ≡ Some t → slice_get places (number_at numbers i) ≡ Some (first_place t cs)
@@ -151,7 +151,7 @@ abbrev pub AreOfNodes : List Tree → List Component → Type 0
 AreOfNodes all [] = Unit {0}
 AreOfNodes all (c ∷ cs) = ((node : ℕ) × (slice_get all node ≡ Some c.own) × (same_tree c.own c.own ≡ true)) × AreOfNodes all cs
 
--- What is written, and what the tasks will write, are together the whole spelling, and so are their components.
+-- What is written and what the tasks will write are together the whole spelling, with the same components.
 pub record Goes (y : ReadSymbol) (numbers : List ℕ) (whole : Pressed) (tasks : List Task) (places : List (Option ℕ)) (out : List ℕ) : Type 0 where
   pub components : List Component
   pub places_are : ArePlaces y numbers places components
@@ -167,7 +167,7 @@ press_root y = press_some (slice_get (trees_of y) y.root) 0 []
 abbrev pub pressed_root : ReadSymbol → List ℕ
 pressed_root y = (press_root y).bytes
 
--- a number's place is set at its first component, and stays
+-- a number's place is set at its first component, and isn't changed after that
 abbrev pub placed : List (Option ℕ) → (number place : ℕ) → List (Option ℕ)
 placed places number place = elim (slice_get places number) [ Some known ↦ elim known [ Some p ↦ places | None ↦ slice_set places number (Some place) ] | None ↦ places ]
 
@@ -177,7 +177,7 @@ pub record IsSpelled (y : ReadSymbol) (node : ℕ) (old : List Task) (out : List
   pub small : number_in (fields_at y node) 0 < 2 ^ 64
   pub bytes : after ≡ out ++ front (fields_at y node)
 
--- A step at a node: it writes a reference, spells out a component, or spells something else.
+-- A step at a node: it writes a reference, spells out a component, or spells a tree that is no component.
 abbrev pub IsNodeStep : ReadSymbol → (node number : ℕ) → (places : List (Option ℕ)) → (old : List Task) → (out : List ℕ) → (new : List Task) → (after : List ℕ) → Type 0
 IsNodeStep y node number places old out new after =
     ((is_component (fields_at y node).production ≡ true)

@@ -4,20 +4,21 @@ ghost use Rattle.rust_press.specs.Apart.{ComponentsAreApart};
 ghost use Rattle.rust_press.specs.Short.{PressedIsShort};
 ghost use Rattle.rust_press.specs.Subtrees.{ConstantsAreRead, PathsAreRead, TypesAreRead};
 
-/// If some Rust symbol denotes a tree, the pressed spelling of the tree is well shaped, and every shape that spells it
-/// denotes the same tree: no part, no disambiguator and no suffix is lost. The pressed bytes are at most 2^64 - 1, as
-/// those of any list.
+/// If some Rust symbol denotes a tree, the pressed spelling of the tree is well shaped, and every
+/// shape that spells it denotes the same tree: no part, no disambiguator and no suffix is lost.
+/// There may be at most 2^64 - 1 pressed bytes, as in any list.
 pub fn pressed_is_read()
     ensures { PressedIsRead }
 {}
 
-/// A tree that a pressed spelling is read as is pressed to the same bytes, if these are at most 2^64 - 1.
+/// If a pressed spelling is read as a tree, this tree is pressed to the same bytes, if they are at most 2^64 - 1.
 pub fn pressed_once()
     ensures { PressedOnce }
 {}
 
-/// Each path, type or constant that a symbol may have is read as itself where it is pressed, after any spelled
-/// beginning whose components have ended where it is read. The laws of whole symbols follow from this.
+/// Each path, type or constant that a symbol may have is read as itself where it is pressed, after
+/// any spelled beginning: the components of the beginning have ended by then. The laws of whole
+/// symbols follow from this.
 pub fn subtrees_are_read()
     ensures paths { PathsAreRead }
     ensures types { TypesAreRead }

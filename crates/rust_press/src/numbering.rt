@@ -12,8 +12,8 @@ use std::alloc::Global;
 use sym_core::Refusal;
 use sym_spell::{Firsts, Marked, Numbers, text_mark};
 
-/// The key of a node: what nodes with equal trees have in common. It has the first `count` parts, each by the first node that
-/// equals it.
+/// The key of a node: what nodes with equal trees have in common. It has `count` parts, each as the first node that equals
+/// the part.
 #[derive(Clone, Copy, PartialEq, Eq, PartialOrd, Ord)]
 struct Key<'a> {
     production: u16,
@@ -56,7 +56,7 @@ fn part_number(symbol: &Symbol, firsts: &[u32], node: u32, count: u32, k: u32) -
     }
 }
 
-/// The key of a node, after nodes with these first ones.
+/// The key of a node, by the first node that equals each node before it.
 fn key_of<'a>(symbol: &'a Symbol, firsts: &[u32], node: u32) -> Key<'a>
     requires node { node < length symbol.now.table.nodes }
     requires before { length firsts.now ≡ node }
@@ -78,7 +78,7 @@ fn key_of<'a>(symbol: &'a Symbol, firsts: &[u32], node: u32) -> Key<'a>
     }
 }
 
-/// The first nodes that are equal to each node of a Rust symbol: an earlier one, or the node itself.
+/// For each node of a Rust symbol, the first node that is equal to it: an earlier one, or the node itself.
 ///
 /// # Errors
 ///
@@ -98,8 +98,9 @@ pub(crate) fn first_nodes(alloc: Global, symbol: &Symbol) -> Result<Vec<u32>, Re
     Ok(firsts)
 }
 
-/// Numbers the nodes of a Rust symbol. A tree that no earlier node has gets the next number, counted from 0. Each node takes
-/// two look-ups: one by what equal nodes have in common, and one of the first of them in a table.
+/// Numbers the nodes of a Rust symbol. A tree that no earlier node has gets the next number,
+/// counted from 0. Each node takes two look-ups: one by what equal nodes have in common, and one of
+/// the first of these nodes in a table.
 ///
 /// # Errors
 ///

@@ -51,7 +51,7 @@ fn first_of(firsts: &[u32], node: u32) -> u32
     firsts[node as usize]
 }
 
-/// Spells a node up to its parts, or writes a reference where an equal one is spelled out already.
+/// Spells a node up to its parts, or writes a reference if an equal node is spelled out already.
 fn press_node(
     symbol: &Symbol,
     firsts: &[u32],
@@ -106,7 +106,7 @@ fn end_component(
     Ok(())
 }
 
-/// As many places as there are nodes, none known.
+/// One place for each of `count` nodes, none of them known yet.
 fn no_places(alloc: Global, count: u32) -> Result<Vec<Option<u64>>, Refusal>
     ensures places { IfOk result (λ made. (k : ℕ) → k < count → slice_get made.items k ≡ Some None) }
     ensures long { IfOk result (λ made. length made.items ≡ count) }
@@ -115,12 +115,12 @@ fn no_places(alloc: Global, count: u32) -> Result<Vec<Option<u64>>, Refusal>
     Ok(vec![in alloc; None; count as usize]?)
 }
 
-/// The spellings of most symbols have at most this many bytes, and at most this many tasks wait while they are spelled.
+/// The spellings of most symbols have at most `COMMON_BYTES` bytes, and at most `COMMON_TASKS` tasks wait while they are spelled.
 const COMMON_BYTES: usize = 128;
 
 const COMMON_TASKS: usize = 16;
 
-/// The pressed spelling of a symbol without its suffix, by the first nodes that equal its nodes.
+/// The pressed spelling of a symbol without its suffix. `firsts` has the first node that equals each node.
 fn press_tasks(alloc: Global, symbol: &Symbol, firsts: &[u32]) -> Result<Vec<u8>, Refusal>
     requires { AreFirst (trees_of symbol.now) firsts.now }
     ensures pressed { IfOk result (λ out. out.items ≡ pressed_root symbol.now) }
@@ -145,11 +145,12 @@ fn press_tasks(alloc: Global, symbol: &Symbol, firsts: &[u32]) -> Result<Vec<u8>
     Ok(out)
 }
 
-/// The pressed spelling of a Rust symbol (RFC 2603): its tree in its order, in which each path, type or constant that is
-/// equal to an earlier one is a reference to the first such one, and numbers and names have their shortest form. Symbols of
-/// one tree have one pressed spelling; disambiguators, the instantiating crate and the suffix are part of the tree.
+/// The pressed spelling of a Rust symbol (RFC 2603). It spells the symbol's tree in order: each
+/// path, type or constant that equals an earlier one is a reference to the first one that it
+/// equals, and numbers and names have their shortest form. Symbols of one tree have one pressed
+/// spelling; disambiguators, the instantiating crate and the suffix are part of the tree.
 ///
-/// Each repeated part is compared by its number and spelled out at most once, however large the tree is. So there are at most 4
+/// Parts are compared by their numbers, and each is spelled out at most once, however large the tree is. So there are at most 4
 /// bytes for each byte of the symbol.
 ///
 /// # Errors

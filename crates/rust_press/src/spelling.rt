@@ -1,4 +1,4 @@
-// What is written of one node: the bytes before its parts and those after them.
+// What is written of one node: the bytes before its parts and the bytes after them.
 #![tactic(auto)]
 
 ghost use Rattle.std.specs.Prelude.{◌≡◌, ◌++◌, ◌∷◌, [], ◌<◌, ◌^◌, true, get_or, OnOk, IfErr};
@@ -16,7 +16,7 @@ use rust_v0::tree_production::{
 use sym_core::Refusal;
 use sym_spell::push_digits;
 
-/// The letter that each production begins with, and a dot where there is none.
+/// The letter that each production begins with, or a dot if it begins with none.
 const LETTERS: [u8; 38] = *b"CCMXYNNI.LK...ASTRQPOFFFFDE.E..pp.bcp_";
 
 /// A number in base 62: 0 has no digit, and digits of value v denote v + 1.
@@ -99,7 +99,7 @@ fn push_integer(digits: &[u8], out: &mut Vec<u8>) -> Result<(), Refusal>
     Ok(())
 }
 
-/// A letter as a view has it.
+/// A letter, given as a number, as in views.
 fn push_letter(letter: u64, out: &mut Vec<u8>) -> Result<(), Refusal>
     requires { letter < 256 }
     ensures letter { OnOk result (out.new.items ≡ out.old.items ++ letter ∷ []) }

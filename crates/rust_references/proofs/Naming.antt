@@ -1,4 +1,4 @@
--- A node that has ended is what a reference to it means, where its tree closes under the lifetimes that are bound.
+-- A reference to a node that has ended denotes this node, if the lifetimes in scope close its tree.
 use Rattle.std.proofs.Common.{◌≡◌, refl, sym, ap, subst, ℕ, Bool, true, false, ◌⊎◌, inl, inr, List, Option, Some, None, Result, Ok, Err, if◌then◌else◌}
 use Rattle.std.specs.Prelude.{nat_le, slice_get}
 use Rattle.sym_core.specs.declared.refusal.Refusal.{Refusal}
@@ -13,7 +13,7 @@ use Rattle.rust_grammar.specs.Unfold.{At, as_path, as_type, ends_path, ends_type
 use Rattle.rust_references.specs.Named.{NamesPath, NamesType}
 use Rattle.rust_references.specs.declared.targets.Target.{Target}
 
--- what holds of a node that is allowed there, and of the refusal where it isn't, holds of either
+-- if a property holds of a node when a test passes, and of a refusal when it fails, it holds of the test's result
 by_test : (P : Result ℕ Refusal → Type 0) (test : Bool) (node : ℕ) (e : Refusal) (result : Result ℕ Refusal) → result ≡ (if test then Ok node else Err e)
     → (test ≡ true → P (Ok node)) → (test ≡ false → P (Err e)) → P result
 by_test P true node e result is stands refused = subst P (sym is) (stands refl)

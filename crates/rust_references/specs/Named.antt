@@ -1,4 +1,4 @@
--- The node a back reference resolves to, or why it can't: what a reference names, by its meaning.
+-- What a back reference names: the node that it resolves to, or why there is none.
 use Rattle.std.specs.Prelude.{◌≡◌, ℕ, List, Option, Some, Result, Ok, Err}
 use Rattle.sym_core.specs.declared.refusal.Refusal.{Refusal}
 use Rattle.rust_tree.specs.Symbol as tree

@@ -1,4 +1,4 @@
--- What is noted of the places of a symbol.
+-- What is noted about the places of a symbol.
 use Rattle.std.specs.Prelude.{◌≡◌, ◌⊎◌, List, Option, Some, None, slice_get, get_or, ℕ}
 use Rattle.rust_tree.specs.Symbol as tree
 use Rattle.rust_tree.specs.Tree.{Tree, of_type}
@@ -8,7 +8,7 @@ use Rattle.rust_grammar.specs.Value.{Value, Ended}
 use Rattle.rust_grammar.specs.Unfold.{ended_at, as_path}
 use Rattle.rust_references.specs.declared.targets.Target.{Target}
 
--- what is noted of a place is what began there and has ended; a path may have ended as a type
+-- what is noted about a place: what began there and has ended; a path may have ended as a type
 abbrev pub IsNoted : List Tree → Target → Option Value → Type 0
 IsNoted all Target.Nothing found = found ≡ None
 IsNoted all (Target.Path node) found =

@@ -1,4 +1,4 @@
-// What references of each sort name.
+// What back references to paths, types and constants name.
 
 ghost use Rattle.std.specs.Prelude.{◌≡◌, ◌≢◌, Option, Ok, Err, IfErr, nat_le, slice_get, Some, if◌then◌else◌, ℕ, List};
 ghost use Rattle.sym_core.specs.declared.refusal.Refusal.TheVariants as refusals;
@@ -13,11 +13,12 @@ use crate::targets::Target;
 use rust_tree::Nodes;
 use sym_core::Refusal;
 
-/// The path that a reference at a place names, which has ended as found, where n lifetimes are bound.
+/// The path that a reference names: the path that has ended at the named place. `bound` is the
+/// number of bound lifetimes.
 ///
 /// # Errors
 ///
-/// `BadReference` at the place of the reference, where no path has ended there, or one that needs more lifetimes.
+/// `BadReference` at the reference's place, if no path has ended at the named place or if the path needs more lifetimes.
 pub fn path_named(nodes: &Nodes, found: Target, place: u32, bound: u64) -> Result<u32, Refusal>
     ensures names { (at : At) (known : Option Value) → at.place ≡ place → at.bound ≡ bound → IsTable at.symbol nodes.now
         → IsNoted (trees at.symbol nodes.now.nodes) found known → NamesPath (trees at.symbol nodes.now.nodes) found at known result }
@@ -31,11 +32,11 @@ pub fn path_named(nodes: &Nodes, found: Target, place: u32, bound: u64) -> Resul
     }
 }
 
-/// The type that a reference at a place names, which may have ended as a path, where n lifetimes are bound.
+/// The type that a reference names, which may have ended as a path. `bound` is the number of bound lifetimes.
 ///
 /// # Errors
 ///
-/// `BadReference` at the place of the reference, where no type or path has ended there, or one that needs more lifetimes.
+/// `BadReference` at the reference's place, if no type or path has ended at the named place or if it needs more lifetimes.
 pub fn type_named(nodes: &Nodes, found: Target, place: u32, bound: u64) -> Result<u32, Refusal>
     ensures names { (at : At) (known : Option Value) → at.place ≡ place → at.bound ≡ bound → IsTable at.symbol nodes.now
         → IsNoted (trees at.symbol nodes.now.nodes) found known → NamesType (trees at.symbol nodes.now.nodes) found at known result }
@@ -52,7 +53,7 @@ pub fn type_named(nodes: &Nodes, found: Target, place: u32, bound: u64) -> Resul
 ///
 /// # Errors
 ///
-/// `BadReference` at the place of the reference, where no constant has ended there.
+/// `BadReference` at the reference's place, if no constant has ended at the named place.
 pub fn constant_named(found: Target, place: u32) -> Result<u32, Refusal>
     ensures names { (all : List Tree) (at : At) (known : Option Value) → at.place ≡ place → IsNoted all found known → NamesConstant all found at known result }
     ensures never { IfErr result (λ e. e ≢ refusals.Memory) }

@@ -15,7 +15,7 @@ mod writer;
 use rust_direct::{Brief, Showing, Step, Whole};
 pub use writer::Writer;
 
-/// The most bytes of text that are written for each byte of a symbol, and those that are written in any case.
+/// The most bytes of text that are written for each byte of a symbol, and how many in addition.
 const BYTES_A_BYTE: usize = 8;
 
 const BYTES_ANYWAY: usize = 1_024;
@@ -27,9 +27,10 @@ const ROUNDS_A_BYTE: usize = 8;
 /// Writes the text of a symbol in full, if the short way reads the symbol and the text costs at most a limit, and answers
 /// whether it did. Where it didn't, nothing is known of the symbol, and the lists are empty.
 ///
-/// Whatever is answered, at most eight bytes for each of the symbol's and a kilobyte are written, and as many of hidden text,
-/// at most eight steps for each byte are taken, and no list has more entries than the symbol has bytes: each step begins with
-/// lists that have room for no more. The lists only grow in a call.
+/// In any case at most eight bytes of text for each byte of the symbol and a kilobyte are written,
+/// as many of hidden text, and at most eight steps for each byte are taken. No list has more
+/// entries than the symbol has bytes: each step begins with lists that have room for no more. The
+/// lists only grow in a call.
 pub fn write(writer: &mut Writer, s: &[u8], limit: u32) -> bool
     requires { FitsSymbol s.now }
     ensures answer { result ≡ true → IsAnswer details.Full s.now limit (Ok writer.new.lists.text.list.items) }
@@ -43,7 +44,8 @@ pub fn write(writer: &mut Writer, s: &[u8], limit: u32) -> bool
     write_as::<Whole>(writer, s, limit)
 }
 
-/// Writes the text of a symbol without its generic arguments, as `write` does: they are written, too, and left out at the end.
+/// Writes the text of a symbol without its generic arguments, as `write` does. The arguments are
+/// written, too, and left out at the end.
 pub fn write_brief(writer: &mut Writer, s: &[u8], limit: u32) -> bool
     requires { FitsSymbol s.now }
     ensures answer { result ≡ true → IsAnswer details.Brief s.now limit (Ok writer.new.lists.text.list.items) }
@@ -100,7 +102,7 @@ fn run<S: Showing>(writer: &mut Writer, s: &[u8], limit: u32) -> bool
     false
 }
 
-/// Leaves what is shown of what was written of a symbol, if the limit is enough for all of that.
+/// Leaves what is shown of the written text, if the limit is enough for all of that text.
 #[inline(always)]
 fn end<S: Showing>(writer: &mut Writer, s: &[u8], limit: u32) -> bool
     requires { IsWriting S.IS_BRIEF s.now writer.old.lists steps.Ended }

@@ -13,8 +13,8 @@ use std::alloc::Global;
 #[derive(Drop)]
 pub struct Writer {
     lists: Direct,
-    /// The steps for all symbols, modulo 2^64. The lists are apart from it: so no step can change it, and no proof has to say
-    /// of each move that it doesn't.
+    /// The steps for all symbols, modulo 2^64. They are counted apart from the lists that a step
+    /// changes, so no proof has to say of each move that it leaves the count alone.
     rounds: u64,
 }
 
@@ -57,7 +57,7 @@ impl Writer {
         self.lists.begin::<S>(s)
     }
 
-    /// Takes a step, and counts it whatever comes of it.
+    /// Takes a step, and counts it whether it succeeds or not.
     #[inline(always)]
     pub(crate) fn take<S: Showing>(&mut self, s: &[u8], step: Step) -> Option<Step>
         requires fits { FitsSymbol s.now }
@@ -69,7 +69,7 @@ impl Writer {
         self.lists.take::<S>(s, step)
     }
 
-    /// Removes what isn't to be shown from what was written.
+    /// Removes from the written text what isn't to be shown.
     #[inline(always)]
     pub(crate) fn show<S: Showing>(&mut self, s: &[u8]) -> Option<()>
         requires { IsWhole S.IS_BRIEF s.now self.old.lists.text.list.items }

@@ -53,7 +53,7 @@ row-method : spelling_of (codes "_RINvMC3fooNtC1a1B3bazhE.x") method_rows
 unfolding row_at parent_by paths_from root_of is_shown is_named_by first_named name_spelled impl_path_by impl_of_type impl_of_trait root_spelled suffix_spelled rest_spelled arguments_from arguments_of list_of is_generic generics items_of others_by spans_of spelling_of
 row-method = refl
 
--- <a::B as t>, in the crate z; its name isn't shown
+-- <a::B as t>, in the crate z, with a last name that isn't shown
 abbrev passed_over_rows : List Row
 passed_over_rows =
     row 0 0 0 26 24 ∷ row 6 2 2 23 21 ∷ row 10 2 3 4 3 ∷ row 4 1 4 22 19 ∷ row 11 3 5 7 6 ∷ row 65535 0 6 6 6

@@ -10,11 +10,11 @@ use Rattle.rust_spelled.specs.Arguments.{arguments_from, arguments_of, is_generi
 
 -- ## Lists that are found in turn
 
--- more was found, and what is left to be found is the rest
+-- once more is found, what is left to be found is the rest
 pub found-more : {X : Type 0} (old new more rest whole : List X) → new ≡ old ++ more → old ++ (more ++ rest) ≡ whole → new ++ rest ≡ whole
 found-more old new more rest whole is all = ap (λ found. found ++ rest) is ∙ (append_assoc old more rest ∙ all)
 
--- nothing is left to be found
+-- if nothing is left to be found, all was found
 pub found-all : {X : Type 0} (found rest whole : List X) → rest ≡ [] → found ++ rest ≡ whole → found ≡ whole
 found-all found rest whole none all = sym (append-nil found) ∙ (ap (λ left. found ++ left) (sym none) ∙ all)
 

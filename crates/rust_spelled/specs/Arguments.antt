@@ -10,8 +10,8 @@ use Rattle.rust_spelled.specs.Rows.{row_at, production_at, behind, span_at}
 
 -- ## One list
 
--- Arguments from one on, before the row at which they end; there are at most `most`. The subtree of an argument's row has the arguments
--- after it, too; the row after its own is what the argument is.
+-- The arguments from a row on, before the row `end`, at most `most` of them. The row of an argument also has the later arguments
+-- within it; the row after it is the argument itself.
 unfoldable pub arguments_from : (most : ℕ) → List Row → (argument end : ℕ) → List Span
 arguments_from zero rows argument end = []
 arguments_from (suc most) rows argument end =
@@ -23,7 +23,7 @@ arguments_from (suc most) rows argument end =
 unfoldable pub arguments_of : List Row → (path : ℕ) → List Span
 arguments_of rows path = arguments_from (length rows) rows (behind rows (path + 1)) (behind rows path)
 
--- their list: the first one's row has all of them. A list without arguments is where the path ends.
+-- the list of a generic path's arguments: the first one's row has all of them. An empty list is where the path ends.
 unfoldable pub list_of : List Row → (path : ℕ) → Span
 list_of rows path =
     if nat_lt (behind rows (path + 1)) (behind rows path)
@@ -36,7 +36,7 @@ unfoldable pub is_generic : Option Production → Bool
 is_generic (Some rules.Generic) = true
 is_generic _ = false
 
--- those of paths that have arguments
+-- the paths that have arguments
 unfoldable pub generics : List Row → List ℕ → List ℕ
 generics rows [] = []
 generics rows (path ∷ rest) = if is_generic (production_at rows path) then path ∷ generics rows rest else generics rows rest

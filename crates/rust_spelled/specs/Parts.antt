@@ -23,20 +23,20 @@ name_spelled rows (Some path) =
 
 -- ## What the name begins with
 
--- where an impl's path is, which may follow a disambiguator
+-- the row of an impl's path, after its disambiguator, if there is one
 unfoldable pub impl_path_by : Option Production → List Row → (root : ℕ) → ℕ
 impl_path_by (Some rules.Disambiguator) rows root = behind rows (root + 1)
 impl_path_by _ rows root = root + 1
 
--- where the type is that an impl of a disambiguator, a path and a type is of
+-- the row of an impl's self type, which follows the impl's path
 abbrev pub impl_type : List Row → (root : ℕ) → ℕ
 impl_type rows root = behind rows (impl_path_by (production_at rows (root + 1)) rows root)
 
--- an impl of the type that is there
+-- an impl, and its self type, which is at this row
 unfoldable pub impl_of_type : List Row → (root type : ℕ) → List Spelled
 impl_of_type rows root type = spelled role.Impl (span_at rows root) ∷ spelled role.SelfType (span_at rows type) ∷ []
 
--- an impl of a trait, which follows the type
+-- an impl, its self type, which is at this row, and its trait, which follows the type
 unfoldable pub impl_of_trait : List Row → (root type : ℕ) → List Spelled
 impl_of_trait rows root type = impl_of_type rows root type ++ spelled role.Trait (span_at rows (behind rows type)) ∷ []
 
@@ -50,12 +50,12 @@ root_spelled _ rows root = []
 
 -- ## What follows the symbol's path
 
--- a suffix, if that is there
+-- the suffix, if the row with this number is one
 unfoldable pub suffix_spelled : Option Production → List Row → (number : ℕ) → List Spelled
 suffix_spelled (Some rules.Suffix) rows number = spelled role.Suffix (span_at rows number) ∷ []
 suffix_spelled _ rows number = []
 
--- the path of the instantiating crate, which one symbol of the rule may follow, a suffix, both or none
+-- the path of the instantiating crate, after which its rule has one more symbol, and the suffix; either may be missing
 unfoldable pub rest_spelled : List Row → (number : ℕ) → List Spelled
 rest_spelled rows number =
     if (row_at rows number).after == 1

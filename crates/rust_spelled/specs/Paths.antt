@@ -5,13 +5,13 @@ use Rattle.rust_grammar.specs.declared.production.Production.{Production}
 use Rattle.rust_grammar.specs.declared.production.Production.TheVariants as rules
 use Rattle.rust_spelled.specs.Rows.{row_at, production_at}
 
--- the path that a path of this production is in, or whose arguments it has; a crate, an impl or a reference has none
+-- the parent of a path with this production: the path that it is in or adds arguments to; a crate, impl or reference has none
 unfoldable pub parent_by : Option Production → (path : ℕ) → Option ℕ
 parent_by (Some rules.Nested) path = Some (path + 2)
 parent_by (Some rules.Generic) path = Some (path + 1)
 parent_by _ path = None
 
--- a path that has a row, its parent, and so on; there are at most `most`
+-- a path that has a row, its parent, and so on, at most `most` of them
 unfoldable pub paths_from : (most : ℕ) → List Row → (path : Option ℕ) → List ℕ
 paths_from zero rows path = []
 paths_from (suc most) rows None = []
@@ -23,12 +23,12 @@ paths_from (suc most) rows (Some path) =
 abbrev pub paths_of : List Row → List ℕ
 paths_of rows = paths_from (length rows) rows (Some 1)
 
--- the last of paths
+-- the last path
 unfoldable pub root_of : List ℕ → ℕ
 root_of paths = unwrap_or (slice_get paths (length paths - 1)) 0
 
--- The name of a path is shown unless its namespace is a lower-case letter and it has no bytes. The namespace is the row after the
--- path's, and the name's bytes are the last one of its subtree.
+-- The name of a path is shown unless its namespace is a lower-case letter and it has no bytes. The namespace is at the row after
+-- the path's, and the name's bytes are the last row of the path's subtree.
 unfoldable pub is_shown : (symbol : List ℕ) → List Row → (path : ℕ) → Bool
 is_shown symbol rows path =
     let name = row_at rows ((row_at rows path).end - 1) in
@@ -39,7 +39,7 @@ unfoldable pub is_named_by : Option Production → (symbol : List ℕ) → List 
 is_named_by (Some rules.Nested) symbol rows path = is_shown symbol rows path
 is_named_by _ symbol rows path = false
 
--- the first of paths that does
+-- the first path that adds a name
 unfoldable pub first_named : (symbol : List ℕ) → List Row → List ℕ → Option ℕ
 first_named symbol rows [] = None
 first_named symbol rows (path ∷ rest) =

@@ -12,7 +12,7 @@ use Rattle.rust_spelled.specs.Paths.{paths_of, root_of, first_named}
 use Rattle.rust_spelled.specs.Parts.{name_spelled, root_spelled, rest_spelled}
 use Rattle.rust_spelled.specs.Arguments.{generics, list_of, arguments_of, items_of}
 
--- what else is in the text: what a reference stands for that the name begins with, or the symbol's path
+-- what spells the parts in none of the lists: the reference that the name begins with, or the symbol's path
 unfoldable pub others_by : Option Production → List Row → (root : ℕ) → Span
 others_by (Some rules.PathReference) rows root = span_at rows root
 others_by _ rows root = span_at rows 1
@@ -36,6 +36,6 @@ spelling_by symbol rows paths = record {
   elements = flat_map (arguments_of rows) (generics rows paths);
 }
 
--- a symbol with these rows
+-- the spelling of a symbol with these rows
 unfoldable pub spelling_of : (symbol : List ℕ) → List Row → Spelling
 spelling_of symbol rows = spelling_by symbol rows (paths_of rows)

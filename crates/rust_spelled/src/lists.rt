@@ -16,7 +16,7 @@ use sym_parts::{Item, Span};
 use sym_room::push_within;
 use sym_shape::Row;
 
-/// Lists of arguments, the same as items, and the arguments of all of them.
+/// Lists of arguments: of each list its bytes and its item, and the arguments of all lists.
 #[derive(Drop)]
 pub(crate) struct Lists {
     pub(crate) lists: Vec<Span>,
@@ -35,7 +35,7 @@ fn is_generic(rows: &[Row], path: usize) -> bool
     }
 }
 
-/// The list of a generic path's arguments. One without arguments is where the path ends.
+/// The list of a generic path's arguments. An empty list is where the path ends.
 #[tactic(auto, unfolding(crate::specs::Arguments::list_of))]
 fn list_of(rows: &[Row], path: usize) -> Span
     requires { path < length rows.now }

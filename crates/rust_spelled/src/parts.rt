@@ -50,7 +50,7 @@ pub(crate) fn push_name(
     push_part(parts, Role::Base, base)
 }
 
-/// Adds the suffix, if it is there.
+/// Adds the suffix, if the row with this number is one.
 ///
 /// # Errors
 ///

@@ -14,10 +14,10 @@ use sym_core::Refusal;
 use sym_room::push_within;
 use sym_shape::Row;
 
-/// The least byte of a namespace's letter that is lower-case.
+/// The least byte that is a lower-case letter.
 const LOWER_CASE: u8 = b'a';
 
-/// The path that a path is in, or whose arguments it has (RFC 2603, `<path>`).
+/// The parent of a path: the path that it is in or adds arguments to (RFC 2603, `<path>`).
 #[tactic(auto, unfolding(crate::specs::Paths::parent_by))]
 fn parent_of(rows: &[Row], path: usize) -> Option<usize>
     requires { path < length rows.now }
@@ -57,7 +57,7 @@ pub(crate) fn paths_of(alloc: Global, rows: &[Row]) -> Result<Vec<usize>, Refusa
     Ok(paths)
 }
 
-/// The last of paths.
+/// The last path.
 #[tactic(auto, unfolding(crate::specs::Paths::root_of))]
 pub(crate) fn root_of(paths: &[usize]) -> usize
     ensures path { result ≡ root_of paths.now }
@@ -69,7 +69,7 @@ pub(crate) fn root_of(paths: &[usize]) -> usize
     }
 }
 
-/// Whether a path's name is shown: not a name without bytes whose namespace is a lower-case letter.
+/// Whether a path's name is shown: it has bytes, or its namespace is no lower-case letter.
 #[tactic(auto, unfolding(crate::specs::Paths::is_shown))]
 fn is_shown(symbol: &[u8], rows: &[Row], path: usize) -> bool
     requires { path < length rows.now }
@@ -97,7 +97,7 @@ fn is_named(symbol: &[u8], rows: &[Row], path: usize) -> bool
     }
 }
 
-/// The first of paths that adds a name.
+/// The first path that adds a name.
 pub(crate) fn first_named(symbol: &[u8], rows: &[Row], paths: &[usize]) -> Option<usize>
     requires { All (λ path. path < length rows.now) paths.now }
     ensures named { result ≡ first_named symbol.now rows.now paths.now }

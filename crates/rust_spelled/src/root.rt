@@ -1,4 +1,4 @@
-// What a name begins with.
+// The crate or impl that a name begins with.
 #![tactic(auto)]
 
 ghost use Rattle.std.specs.Prelude.{◌≡◌, ◌+◌, ◌++◌, ◌≤◌, IfErr, OnOk, length};
@@ -26,7 +26,7 @@ fn impl_path(rows: &[Row], root: usize) -> usize
     }
 }
 
-/// The row of the type that an impl is of, which follows the impl's path.
+/// The row of an impl's self type, which follows the impl's path.
 fn impl_type(rows: &[Row], root: usize) -> usize
     requires { root ≤ length rows.now }
     ensures { result ≡ impl_type rows.now root }
@@ -34,7 +34,7 @@ fn impl_type(rows: &[Row], root: usize) -> usize
     behind(rows, impl_path(rows, root))
 }
 
-/// Adds an impl of the type that is there.
+/// Adds an impl, and its self type, which is at this row.
 ///
 /// # Errors
 ///
@@ -53,7 +53,7 @@ fn push_impl_of_type(
     push_part(parts, Role::SelfType, span_at(rows, self_type))
 }
 
-/// Adds an impl of a trait, which follows the type.
+/// Adds an impl, its self type, which is at this row, and its trait, which follows the type.
 ///
 /// # Errors
 ///
@@ -96,7 +96,7 @@ pub(crate) fn push_root(parts: &mut Vec<Spelled>, rows: &[Row], root: usize) -> 
     }
 }
 
-/// What spells all else: the reference that a name begins with, or the symbol's path.
+/// What spells the parts in none of the lists: the reference that a name begins with, or the symbol's path.
 #[tactic(auto, unfolding(crate::specs::Spelling::others_by))]
 pub(crate) fn others(rows: &[Row], root: usize) -> Span
     ensures { result ≡ others_by (production_at rows.now root) rows.now root }

@@ -43,7 +43,7 @@ pub(crate) fn behind(rows: &[Row], number: usize) -> usize
     row_at(rows, number).end as usize
 }
 
-/// The bytes from one place of a symbol up to another; none where that isn't after it.
+/// The bytes from one place of a symbol up to another; none where the second isn't after the first.
 pub(crate) fn span(from: u32, to: u32) -> Span
     ensures { result ≡ bytes.span from to }
 {

@@ -1,10 +1,6 @@
 -- The fields of some trees, computed.
-use Rattle.std.proofs.Common.{◌≡◌, [], ◌∷◌, true, false, None, Some, refl}
-use Rattle.std.specs.Prelude.{codes}
+use Rattle.rust_tree.proofs.Basics.{◌≡◌, [], ◌∷◌, true, false, None, Some, refl, codes, of_path, of_type, of_types, of_constant, of_symbol, hexadecimal, hexadecimal_before, fields_of}
 use Rattle.rust_tree.specs.Symbol as tree
-use Rattle.rust_tree.specs.Tree.{of_path, of_type, of_types, of_constant, of_symbol}
-use Rattle.rust_tree.specs.Hexadecimal.{hexadecimal, hexadecimal_before}
-use Rattle.rust_tree.specs.Fields.{fields_of}
 
 abbrev foo : tree.Path
 foo = tree.crate_root (record { disambiguator = 5; name = record { punycode = false; bytes = codes "foo" } })
@@ -13,7 +9,7 @@ nested-row : fields_of (of_path (tree.nested 118 foo (record { disambiguator = 2
     ≡ record { production = 6; numbers = 118 ∷ 2 ∷ []; texts = codes "bar" ∷ [] ∷ []; parts = of_path foo ∷ [] }
 nested-row = refl
 
--- the node of a path denotes it as a type
+-- the type of the implementation is a path: its part is the node of that path
 trait_impl-row : fields_of (of_path (tree.trait_impl 0 foo (tree.path_type foo) foo))
     ≡ record { production = 3; numbers = 0 ∷ 0 ∷ []; texts = [] ∷ [] ∷ []; parts = of_path foo ∷ of_path foo ∷ of_path foo ∷ [] }
 trait_impl-row = refl

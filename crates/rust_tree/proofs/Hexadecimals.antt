@@ -1,8 +1,5 @@
 -- Digits that are written from the last one on.
-use Rattle.std.proofs.Common.{◌≡◌, ℕ, zero, suc, ◌+◌, ◌-◌, ◌*◌, ◌/◌, ◌%◌, ◌<◌, ◌≤◌, List, [], ◌∷◌, length, take, drop, slice_set, false, refl, sym, ap, ◌∙◌, arith}
-use Rattle.std.specs.Fmt.{digits_onto, digit_glyph}
-use Rattle.std.proofs.lemmas.Bool.{ne_eqb}
-use Rattle.rust_tree.specs.Hexadecimal.{reach}
+use Rattle.rust_tree.proofs.Basics.{◌≡◌, ℕ, zero, suc, ◌+◌, ◌-◌, ◌*◌, ◌/◌, ◌%◌, ◌<◌, ◌≤◌, List, [], ◌∷◌, length, take, drop, slice_set, false, refl, sym, ap, ◌∙◌, arith, digits_onto, digit_glyph, ne_eqb, reach}
 
 drop-set : (list : List ℕ) (m g : ℕ) → m < length list → drop m (slice_set list m g) ≡ g ∷ drop (m + 1) list
 drop-set [] m g h = absurd (omega arith)

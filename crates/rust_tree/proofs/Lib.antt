@@ -1,4 +1,5 @@
 pub mod BasicTypes
+pub mod Basics
 pub mod Trees
 pub mod Reading
 pub mod Pushing

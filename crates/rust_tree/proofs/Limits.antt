@@ -1,6 +1,5 @@
--- What clauses name by a constant has this number.
-use Rattle.std.specs.Prelude.{◌≡◌}
-use Rattle.std.proofs.Common.{refl}
+-- The value of a constant (`MOST_BOUND`) that clauses name.
+use Rattle.rust_tree.proofs.Basics.{◌≡◌, refl}
 use Rattle.rust_tree.specs.declared.node.TheConstants.{MOST_BOUND}
 
 pub most_lifetimes : MOST_BOUND ≡ 1000

@@ -1,15 +1,11 @@
 -- A number and its hexadecimal digits.
-use Rattle.std.proofs.Common.{◌≡◌, ℕ, zero, suc, ◌+◌, ◌-◌, ◌*◌, ◌/◌, ◌%◌, ◌<◌, ◌≤◌, List, [], ◌∷◌, ◌++◌, length, true, false, refl, ap, ◌∙◌, arith, append-nil}
-use Rattle.std.specs.Fmt.{digit_glyph}
-use Rattle.std.proofs.lemmas.Bool.{ne_eqb}
+use Rattle.rust_tree.proofs.Basics.{◌≡◌, ℕ, zero, suc, ◌+◌, ◌-◌, ◌*◌, ◌/◌, ◌%◌, ◌<◌, ◌≤◌, List, [], ◌∷◌, ◌++◌, length, true, false, refl, ap, ◌∙◌, arith, append-nil, digit_glyph, ne_eqb, hexadecimal, hexadecimal_before, HasNoZero}
 use Rattle.std.proofs.lemmas.Bool.Decides.{nat_tests}
 use Rattle.sym_core.specs.Number.{is_digit_of, AreDigits}
 use Rattle.sym_core.specs.Value.{digit_value, value_onto, value_of}
 use Rattle.sym_core.specs.declared.NumberKind.TheVariants.{Hex}
-use Rattle.rust_tree.specs.Hexadecimal.{hexadecimal, hexadecimal_before}
-use Rattle.rust_tree.specs.Nodes.{HasNoZero}
 
--- a digit that is read and written, or written and read, is the same
+-- reading and writing digits are inverse to each other
 glyph-value : (b : ℕ) → is_digit_of Hex b ≡ true → digit_glyph false (digit_value Hex b) ≡ b
 glyph-value b h = grind (arith, nat_tests)
 
@@ -31,7 +27,7 @@ unfolding hexadecimal_before
 before-none zero later = refl
 before-none (suc k) later = refl
 
--- digits after a number that isn't zero are its digits before them
+-- the digits of a number are those of its front, if that isn't zero, and then its other digits
 digits-behind : (v : ℕ) (ds later : List ℕ) (k : ℕ) → 0 < v → AreDigits Hex ds
     → hexadecimal_before (k + length ds) (value_onto Hex v ds) later ≡ hexadecimal_before k v (ds ++ later)
 digits-behind v [] later k some are = let none : k + 0 ≡ k = omega arith in ap (λ n. hexadecimal_before n v later) none
@@ -48,12 +44,12 @@ digits-behind v (d ∷ ds) later k some are =
     ∙ ap (λ n. hexadecimal_before k v (digit_glyph false n ∷ ds ++ later)) last
     ∙ ap (λ b. hexadecimal_before k v (b ∷ ds ++ later)) (glyph-value d are.0)
 
--- a number is no smaller than the count of its digits
+-- a number is no smaller than the count of the digits after its first one
 value-long : (v : ℕ) (ds : List ℕ) → 0 < v → v + length ds ≤ value_onto Hex v ds
 value-long v [] some = omega arith
 value-long v (d ∷ ds) some = omega (arith, value-long (v * 16 + digit_value Hex d) ds (omega (arith, some)))
 
--- digits without zeros in front are those of their number
+-- digits without zeros in front are the digits of the number that they denote
 pub digits-are : (ds : List ℕ) → AreDigits Hex ds → HasNoZero ds → hexadecimal (value_of Hex ds) ≡ ds
 unfolding hexadecimal
 digits-are [] are some = before-none 0 []

@@ -1,24 +1,13 @@
 -- Lists of parts that grow.
-use Rattle.std.proofs.Common.{◌≡◌, ℕ, ◌-◌, ◌<◌, ◌≤◌, List, [], length, take, drop, Some, None, slice_get, refl, sym, ap, subst, ◌∙◌, arith}
-use Rattle.std.proofs.lemmas.List.{length-take, length-drop}
-use Rattle.sym_core.specs.declared.Span.{Span}
+use Rattle.rust_tree.proofs.Basics.{◌≡◌, ℕ, ◌-◌, ◌<◌, ◌≤◌, List, [], length, take, drop, Some, None, slice_get, refl, sym, ap, subst, ◌∙◌, arith, length-take, length-drop, Span, Unshared, done, ◌then◌, ◌also◌, Held, with_part, Context, Name, name_text, fixed_text, bytes_at, IsWithin, IsDecoded, HasName, name_of, ReadSymbol, trees_of, shown, unshared_of, bytes_of_part, MayCome, HasForm, HasDepth, Shows, IsOwn}
 use Rattle.sym_print.specs.declared.layout.Part.{Part}
 use Rattle.sym_print.specs.declared.layout.Part.TheVariants as part
 use Rattle.sym_print.specs.declared.layout.Item.{Item}
-use Rattle.sym_print.specs.Unshared.{Unshared, done}
-use Rattle.sym_print.specs.Building.{◌then◌, ◌also◌}
 use Rattle.sym_print.specs.Joined.{IsText}
 use Rattle.sym_print.specs.Stacked.{Stacked}
-use Rattle.sym_print.specs.Held.{Held, with_part}
 use Rattle.sym_print.proofs.Stacking.{stacked-nothing, stacked-text, stacked-item}
-use Rattle.rust_tree.specs.declared.context.Context.{Context}
 use Rattle.rust_tree.specs.declared.form.Form.{Form}
-use Rattle.rust_tree.specs.declared.node.Name.{Name}
 use Rattle.rust_tree.specs.Forms.{form_of}
-use Rattle.rust_tree.specs.Shown.{name_text}
-use Rattle.rust_tree.specs.Texts.{fixed_text}
-use Rattle.rust_tree.specs.Nodes.{bytes_at, IsWithin, IsDecoded, HasName, name_of}
-use Rattle.rust_tree.specs.Layout.{ReadSymbol, trees_of, shown, unshared_of, bytes_of_part, MayCome, HasForm, HasDepth, Shows, IsOwn}
 
 pub starts : (y : ReadSymbol) (held : Held Context) → Shows y held held done
 starts y held = record { stacked = stacked-nothing (unshared_of y) (bytes_of_part y) (MayCome y) held.items; capacity = refl }
@@ -26,7 +15,7 @@ starts y held = record { stacked = stacked-nothing (unshared_of y) (bytes_of_par
 pub fills : {below : Held Context} (y : ReadSymbol) (held : Held Context) (so_far whole : Unshared) → Shows y below held so_far → whole ≡ so_far → Shows y below held whole
 fills {below} y held so_far whole shows e = subst (Shows y below held) (sym e) shows
 
--- one text more
+-- a text that is added is shown before what was shown so far
 pub text-pushed : {below : Held Context} (y : ReadSymbol) (old new : Held Context) (p : Part Context) (b : List ℕ) (so_far : Unshared) → new ≡ with_part old p → Shows y below old so_far
     → IsText p → bytes_of_part y p ≡ b → 0 < length b → MayCome y p → Shows y below new (b then so_far)
 text-pushed {below} y old new p b so_far e shows is says some may = record {
@@ -51,7 +40,7 @@ item-pushed {below} y old new node number at form c so_far e same shows has deep
       capacity = ap (λ (h : Held Context). h.capacity) e ∙ shows.capacity;
     }
 
--- a span that isn't empty has bytes
+-- a span has as many bytes as there are between its places
 pub length-bytes_at : (s : List ℕ) (span : Span) → IsWithin span s → length (bytes_at s span) ≡ span.to - span.from
 length-bytes_at s span h = omega (arith, length-take (span.to - span.from) (drop span.from s), length-drop span.from s, h.0, h.1)
 
@@ -71,12 +60,12 @@ pub list-pushed : {below : Held Context} (y : ReadSymbol) (old new : Held Contex
 list-pushed y old new span so_far e some shows within =
     text-pushed y old new (part.List span) (bytes_at y.table.text span) so_far e shows tt refl (bytes-some y.table.text span within some) (within, some)
 
--- no text more
+-- an empty span adds no text
 pub bytes-skipped : {below : Held Context} (y : ReadSymbol) (held : Held Context) (s : List ℕ) (span : Span) (so_far : Unshared) → span.to ≤ span.from
     → Shows y below held so_far → Shows y below held (bytes_at s span then so_far)
 bytes-skipped {below} y held s span so_far none shows = subst (λ b. Shows y below held (b then so_far)) (sym (bytes-none s span none)) shows
 
--- a text of a part's own
+-- a part's own text may be asked for
 own-may : (y : ReadSymbol) (p : Part Context) (b : List ℕ) → IsOwn p b → 0 < length b → length b ≤ 24 → MayCome y p
 own-may y (part.Own bytes count) b is some few = (omega (arith, is.1, some), omega (arith, is.1, few), is.2)
 own-may y (part.Sub i) b is some few = absurd is
@@ -103,7 +92,7 @@ pub own-pushed : {below : Held Context} (y : ReadSymbol) (old new : Held Context
 own-pushed y old new p b so_far e is some few shows =
     text-pushed y old new p b so_far e shows (own-text p b is) (own-says y p b is) some (own-may y p b is some few)
 
--- a name
+-- a name that isn't in Punycode prints its bytes
 pub name-plain : (s text : List ℕ) (name : Name) → name.decoded ≡ None → name_text (name_of s name) ≡ bytes_at s name.bytes
 name-plain s text name e = rw e refl
 

@@ -1,21 +1,14 @@
--- What is read of a symbol's nodes.
-use Rattle.std.proofs.Common.{◌≡◌, ℕ, ◌<◌, inl, inr, List, length, take, Some, slice_get, get_or, sym, ap, ◌∙◌, arith}
-use Rattle.std.proofs.lemmas.Option.{slice_get-get_or}
+-- What is read from a symbol's nodes.
+use Rattle.rust_tree.proofs.Basics.{◌≡◌, ℕ, ◌<◌, inl, inr, List, length, take, Some, slice_get, get_or, sym, ap, ◌∙◌, arith, slice_get-get_or, Tree, of_path, of_type, tree_of, HasParts, IsType, ReadSymbol, trees_of, IsRead, Node, Entry}
 use Rattle.rust_tree.specs.Symbol as tree
-use Rattle.rust_tree.specs.Tree.{Tree, of_path, of_type}
-use Rattle.rust_tree.specs.Nodes.{tree_of, HasParts, IsType}
-use Rattle.rust_tree.specs.Layout.{ReadSymbol, trees_of}
-use Rattle.rust_tree.specs.Counts.{IsRead}
-use Rattle.rust_tree.specs.declared.node.Node.{Node}
-use Rattle.rust_tree.specs.declared.node.Entry.{Entry}
 use Rattle.rust_tree.proofs.Trees.{got-within, length-trees}
 
--- an item that is read
+-- an entry that is read with a number has the node with this number
 pub read_entry : (entries now : List Entry) (k : ℕ) (e : Entry) → entries ≡ now → k < length now → e ≡ get_or entries k e
     → (need : ℕ) × (slice_get now k ≡ Some (record { node = e.node; need = need }))
 read_entry entries now k e same within read = (e.need, slice_get-get_or now k e within ∙ ap Some (sym (read ∙ ap (λ es. get_or es k e) same)))
 
--- each item of a list of trees is a node
+-- the number of each tree is that of a node
 pub is_within : (y : ReadSymbol) (k : ℕ) (t : Tree) → slice_get (trees_of y) k ≡ Some t → k < length y.table.nodes
 is_within y k t h = omega (arith, got-within (trees_of y) k t h, length-trees y.bytes y.table.nodes)
 

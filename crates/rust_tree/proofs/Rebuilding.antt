@@ -1,10 +1,6 @@
 -- A tree is made again from its fields.
-use Rattle.std.proofs.Common.{◌≡◌, ℕ, suc, ◌<◌, List, [], ◌∷◌, length, slice_get, arith, Bool, true, false, Option, Some, None, refl, sym, ap, ◌∙◌}
+use Rattle.rust_tree.proofs.Basics.{◌≡◌, ℕ, suc, ◌<◌, List, [], ◌∷◌, length, slice_get, arith, Bool, true, false, Option, Some, None, refl, sym, ap, ◌∙◌, Tree, of_path, of_arguments, of_type, of_types, of_bounds, of_bindings, of_constant, of_symbol, type_in, Fields, fields_of, tree_from, type_part, IsView, AreAlike}
 use Rattle.rust_tree.specs.Symbol as tree
-use Rattle.rust_tree.specs.Tree.{Tree, of_path, of_arguments, of_type, of_types, of_bounds, of_bindings, of_constant, of_symbol}
-use Rattle.rust_tree.specs.Nodes.{type_in}
-use Rattle.rust_tree.specs.Fields.{Fields, fields_of, tree_from, type_part}
-use Rattle.rust_tree.specs.Views.{IsView, AreAlike}
 use Rattle.rust_tree.specs.declared.view.Node.{Node}
 use Rattle.rust_tree.proofs.Numerals.{value-hexadecimal}
 
@@ -97,7 +93,7 @@ symbol-made symbol = whole symbol.path symbol.instantiating symbol.suffix
     whole path None suffix = refl
     whole path (Some other) suffix = refl
 
--- a tree is its production over its other fields
+-- a tree is made again from its production and its other fields
 pub tree-made : (one : Tree) → tree_from (fields_of one) ≡ one
 tree-made (of_path path) = path-made path
 tree-made (of_arguments arguments) = arguments-made arguments

@@ -1,22 +1,8 @@
 -- What is shown so far, in the terms of the definitions.
-use Rattle.std.proofs.Common.{append-nil, ◌≡◌, ℕ, ◌+◌, ◌-◌, ◌*◌, ◌^◌, ◌<◌, ◌≤◌, inl, inr, List, [], ◌∷◌, ◌++◌, length, take, codes, decimal, Bool, true, false, ◌==◌, if◌then◌else◌, Option, Some, None, zero, suc, refl, sym, ap, ◌∙◌, arith, subst}
-use Rattle.sym_print.specs.Held.{Held}
+use Rattle.rust_tree.proofs.Basics.{append-nil, ◌≡◌, ℕ, ◌+◌, ◌-◌, ◌*◌, ◌^◌, ◌<◌, ◌≤◌, inl, inr, List, [], ◌∷◌, ◌++◌, length, take, codes, decimal, Bool, true, false, ◌==◌, if◌then◌else◌, Option, Some, None, zero, suc, refl, sym, ap, ◌∙◌, arith, subst, Held, Unshared, done, ◌then◌, ◌also◌, ◌perhaps◌, Context, Tree, of_path, of_arguments, of_type, of_types, of_bounds, of_bindings, of_constant, arguments_from, types_from, bounds_from, bindings_from, generic_parts, generic_bound, plain_bound, bound_parts, suffix_parts, name_behind, names_from, basic_text, closing_tuple, for_binder, returned_parts, dyn_lifetime, reference_opening, path_parts, behind_arguments, character_text, constant_parts, numbered_lifetime, lifetime_text, namespace_text, nat_le, digits, Span, lt-ltb, le-ltb, le-leb, lt-leb, ne_eqb, IsPath, IsArguments, IsType, IsTypes, IsBounds, IsBindings, IsConstant, IsWithin, bytes_at, most_bound, ReadSymbol, Shows, parts_in, any_arguments, any_types, any_bounds, any_bindings, item_if, is_empty, names_in, fixed_text, texts, slice_get_past}
 use Rattle.sym_print.specs.declared.detail.Detail.{Detail}
 use Rattle.sym_print.specs.Details.{has_arguments}
-use Rattle.sym_print.specs.Unshared.{Unshared, done}
-use Rattle.sym_print.specs.Building.{◌then◌, ◌also◌, ◌perhaps◌}
-use Rattle.rust_tree.specs.declared.context.Context.{Context}
 use Rattle.rust_tree.specs.Symbol as tree
-use Rattle.rust_tree.specs.Tree.{Tree, of_path, of_arguments, of_type, of_types, of_bounds, of_bindings, of_constant}
-use Rattle.rust_tree.specs.Shown.{arguments_from, types_from, bounds_from, bindings_from, generic_parts, generic_bound, plain_bound, bound_parts, suffix_parts, name_behind, names_from, basic_text, closing_tuple, for_binder, returned_parts, dyn_lifetime, reference_opening, path_parts, behind_arguments, character_text, constant_parts, numbered_lifetime, lifetime_text, namespace_text}
-use Rattle.std.specs.Prelude.{nat_le}
-use Rattle.std.specs.Fmt.{digits}
-use Rattle.sym_core.specs.declared.Span.{Span}
-use Rattle.std.proofs.lemmas.Bool.{lt-ltb, le-ltb, le-leb, lt-leb, ne_eqb}
-use Rattle.rust_tree.specs.Nodes.{IsPath, IsArguments, IsType, IsTypes, IsBounds, IsBindings, IsConstant, IsWithin, bytes_at, most_bound}
-use Rattle.rust_tree.specs.Layout.{ReadSymbol, Shows, parts_in, any_arguments, any_types, any_bounds, any_bindings, item_if, is_empty, names_in}
-use Rattle.rust_tree.specs.Texts.{fixed_text, texts}
-use Rattle.std.proofs.lemmas.Option.{slice_get_past}
 use Rattle.rust_tree.proofs.Pushing.{length-bytes_at}
 use Rattle.rust_tree.proofs.Trees.{got-early}
 
@@ -82,7 +68,7 @@ pub unnamed : (before name : List ℕ) (rest : Unshared) → is_empty name ≡ t
 unnamed before [] rest h = refl
 unnamed before (b ∷ bs) rest h = absurd (let e : false ≡ true = h in cc)
 
--- an earlier part of a node
+-- a part that is among the first n nodes is before the n-th, and denotes the same among all nodes
 module _ (all : List Tree) (n : ℕ) where
   pub early-path : (k : ℕ) → ((p : tree.Path) × IsPath (take n all) k p) → (k < n) × ((p : tree.Path) × IsPath all k p)
   early-path k h = let g = got-early n all k (of_path h.0) h.1 in (g.0, (h.0, g.1))
@@ -159,7 +145,7 @@ empty-bytes s span h = go (bytes_at s span) (length-bytes_at s span h)
 pub deeper : (b k n : ℕ) → k < n → b + most_bound * (n + 1) ≤ most_bound * 2 ^ 32 → b + most_bound * (k + 1) ≤ most_bound * 2 ^ 32
 deeper b k n h d = omega (arith, h, d)
 
--- an earlier node, where a binder is passed
+-- likewise around an earlier node that is under a binder
 pub deeper-bound : (b k n m : ℕ) → k < n → m ≤ most_bound → b + most_bound * (n + 1) ≤ most_bound * 2 ^ 32 → (b + m) + most_bound * (k + 1) ≤ most_bound * 2 ^ 32
 deeper-bound b k n m h few d = omega (arith, h, few, d)
 

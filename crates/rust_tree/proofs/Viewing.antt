@@ -1,29 +1,9 @@
 -- The views of nodes.
-use Rattle.std.proofs.Common.{◌≡◌, ℕ, zero, suc, ◌<◌, ◌≤◌, inl, inr, List, [], ◌∷◌, length, take, drop, map, Bool, Option, Some, None, slice_get, get_or, refl, sym, ap, subst, ◌∙◌, arith}
-use Rattle.std.specs.Prelude.{if◌then◌else◌}
-use Rattle.std.proofs.lemmas.List.{take-append-drop}
+use Rattle.rust_tree.proofs.Basics.{◌≡◌, ℕ, zero, suc, ◌<◌, ◌≤◌, inl, inr, List, [], ◌∷◌, length, take, drop, map, Bool, Option, Some, None, slice_get, get_or, refl, sym, ap, subst, ◌∙◌, arith, if◌then◌else◌, take-append-drop, Span, Name, Abi, Node, Path, Arguments, Ty, Types, Bounds, Bindings, Constant, Whole, Tree, of_path, of_arguments, of_type, of_types, of_bounds, of_bindings, of_constant, of_symbol, Table, IsTable, trees, bytes_at, is_some, tree_of, path_of, arguments_of, type_of, types_of, bounds_of, bindings_of, constant_of, symbol_of, path_in, arguments_in, type_in, types_in, bounds_in, bindings_in, constant_in, IsPath, IsArguments, IsType, IsTypes, IsBounds, IsBindings, IsConstant, IsWithin, HasParts, HasPathParts, HasArgumentsParts, HasTypeParts, HasTypesParts, HasBoundsParts, HasBindingsParts, HasConstantParts, HasSymbolParts, Fields, fields, fields_of, tree_from, one_if, type_part, IsSeen, HasNoPathType, seen_of, no_text, fields_in, fields_at, ReadSymbol, trees_of, IsRead}
 use Rattle.std.proofs.lemmas.List.Elements.{All-nil, All-cons}
-use Rattle.sym_core.specs.declared.Span.{Span}
 use Rattle.rust_tree.specs.declared.tree_production.TheConstants as production
-use Rattle.rust_tree.specs.declared.node.Name.{Name}
-use Rattle.rust_tree.specs.declared.node.Abi.{Abi}
-use Rattle.rust_tree.specs.declared.node.Node.{Node}
-use Rattle.rust_tree.specs.declared.node.Path.{Path}
-use Rattle.rust_tree.specs.declared.node.Arguments.{Arguments}
-use Rattle.rust_tree.specs.declared.node.Ty.{Ty}
-use Rattle.rust_tree.specs.declared.node.Types.{Types}
-use Rattle.rust_tree.specs.declared.node.Bounds.{Bounds}
-use Rattle.rust_tree.specs.declared.node.Bindings.{Bindings}
-use Rattle.rust_tree.specs.declared.node.Constant.{Constant}
-use Rattle.rust_tree.specs.declared.node.Whole.{Whole}
 use Rattle.rust_tree.specs.declared.view.NodeView.{NodeView}
 use Rattle.rust_tree.specs.Symbol as tree
-use Rattle.rust_tree.specs.Tree.{Tree, of_path, of_arguments, of_type, of_types, of_bounds, of_bindings, of_constant, of_symbol}
-use Rattle.rust_tree.specs.Nodes.{Table, IsTable, trees, bytes_at, is_some, tree_of, path_of, arguments_of, type_of, types_of, bounds_of, bindings_of, constant_of, symbol_of, path_in, arguments_in, type_in, types_in, bounds_in, bindings_in, constant_in, IsPath, IsArguments, IsType, IsTypes, IsBounds, IsBindings, IsConstant, IsWithin, HasParts, HasPathParts, HasArgumentsParts, HasTypeParts, HasTypesParts, HasBoundsParts, HasBindingsParts, HasConstantParts, HasSymbolParts}
-use Rattle.rust_tree.specs.Fields.{Fields, fields, fields_of, tree_from, one_if, type_part}
-use Rattle.rust_tree.specs.Views.{IsSeen, HasNoPathType, seen_of, no_text, fields_in, fields_at}
-use Rattle.rust_tree.specs.Layout.{ReadSymbol, trees_of}
-use Rattle.rust_tree.specs.Counts.{IsRead}
 use Rattle.rust_tree.proofs.Trees.{got-there, got-within, got-early, length-trees, tree_of-grown}
 use Rattle.rust_tree.proofs.Numerals.{digits-are}
 use Rattle.rust_tree.proofs.Rebuilding.{tree-made}
@@ -66,7 +46,7 @@ module _ (all : List Tree) where
   type_part-is : HasNoPathType all → (k : ℕ) → ((t : tree.Ty) × IsType all k t) → slice_get all k ≡ Some (type_part (type_in (slice_get all k)))
   type_part-is bare k h = is_type-part bare k h.0 h.1
 
--- ## One node over such parts
+-- ## One node over the trees of its parts
 
 none-within : (s : List ℕ) → IsWithin no_text s
 none-within s = (omega arith, omega arith)
@@ -193,7 +173,7 @@ abbrev pub see_whole : (path : ℕ) → Option ℕ → Span → NodeView
 see_whole path None suffix = seen_of production.SYMBOL (0 ∷ 0 ∷ []) suffix 1 (path ∷ 0 ∷ 0 ∷ [])
 see_whole path (Some other) suffix = seen_of production.SYMBOL (0 ∷ 0 ∷ []) suffix 2 (path ∷ other ∷ 0 ∷ [])
 
--- ## Each shows the fields of its tree
+-- ## Each view shows the fields of its node's tree
 
 module _ (s text : List ℕ) (all : List Tree) (bare : HasNoPathType all) where
   path-seen : (path : Path) → HasPathParts s text all path → IsSeen s all (view_of_path path) (fields_of (of_path (path_of s all path)))
@@ -283,7 +263,7 @@ module _ (s text : List ℕ) (all : List Tree) (bare : HasNoPathType all) where
   symbol-seen whole (Some other) is h =
       rw is (two-parts s all _ _ _ whole.suffix whole.path other _ _ h.2 (path-part all whole.path h.0) (path-part all other (rw is at h.1)))
 
-  -- the same where the code distinguishes cases
+  -- likewise for a node that equals one of the cases that the code distinguishes
   module _ (seen : NodeView) where
     pub path-by : (path other : Path) → path ≡ other → seen ≡ view_of_path other → HasPathParts s text all path → IsSeen s all seen (fields_of (of_path (path_of s all path)))
     path-by path other e is h = subst (λ v. IsSeen s all v (fields_of (of_path (path_of s all path)))) (ap view_of_path e ∙ sym is) (path-seen path h)
@@ -317,12 +297,12 @@ module _ (s text : List ℕ) (all : List Tree) (bare : HasNoPathType all) where
         → IsSeen s all seen (fields_of (of_symbol (symbol_of s all whole)))
     symbol-by whole other e is h = subst (λ v. IsSeen s all v (fields_of (of_symbol (symbol_of s all whole)))) (sym is) (symbol-seen whole other e h)
 
--- the production that a name decided
+-- in the view of a node, an equal number may replace the production
 pub production-by : {seen : NodeView} {by other first second count : ℕ} {text : Span} {parts : List ℕ} → seen ≡ seen_of by (first ∷ second ∷ []) text count parts → by ≡ other
     → seen ≡ seen_of other (first ∷ second ∷ []) text count parts
 production-by {first = first} {second = second} {count = count} {text = text} {parts = parts} is e = is ∙ ap (λ p. seen_of p (first ∷ second ∷ []) text count parts) e
 
--- one sort of nodes after another
+-- a view that shows the fields of one node shows those of an equal node
 module _ (s text : List ℕ) (all : List Tree) (seen : NodeView) where
   pub type-is : (type other : Ty) → type ≡ other → (HasTypeParts s text all other → IsSeen s all seen (fields_of (of_type (type_of s all other))))
       → HasTypeParts s text all type → IsSeen s all seen (fields_of (of_type (type_of s all type)))
@@ -358,7 +338,7 @@ front-bare n all bare k path h = bare k path (got-early n all k (of_type (tree.p
 pub read-bare : (inside now : ReadSymbol) → inside ≡ now → IsRead inside → HasNoPathType (trees_of now)
 read-bare inside now same is = rw (← same) (table-bare inside.bytes inside.table is.table)
 
--- the view of a node, over the nodes before it
+-- the view of a node shows the fields of the node's tree, over the nodes before it
 pub seen-at : (now : ReadSymbol) (k : ℕ) (node : Node) (seen : NodeView) → HasNoPathType (trees_of now)
     → slice_get (trees_of now) k ≡ Some (tree_of now.bytes (trees_of now) node) → HasParts now.bytes now.table.text (take k (trees_of now)) node
     → ((s text : List ℕ) (all : List Tree) → HasNoPathType all → HasParts s text all node → IsSeen s all seen (fields_of (tree_of s all node)))

@@ -1,4 +1,4 @@
--- What a tree has beside its production: numbers, texts and the trees of its parts. The productions are constants of the code.
+-- What a tree has in addition to its production: numbers, texts and its parts' trees. The productions are the code's constants.
 use Rattle.std.specs.Prelude.{ℕ, List, [], ◌∷◌, Bool, true, false, ◌==◌, if◌then◌else◌, Option, Some, None, slice_get, slice_index, slice_index_or}
 use Rattle.sym_core.specs.Value.{value_of}
 use Rattle.sym_core.specs.declared.NumberKind.{NumberKind}
@@ -134,12 +134,12 @@ function_in abi given = tree.function (number_in given 0) (number_in given 1 == 
 abbrev pub binding_in : tree.Name → Fields → tree.Bindings
 binding_in name given = tree.more_bindings name (type_in (part_in given 0)) (bindings_in (part_in given 1))
 
--- the tree at a production in a list
+-- the tree that a list has for a production; a placeholder where it has none
 abbrev pub tree_at : (production : ℕ) → List (ℕ × Tree) → Tree
 tree_at production [] = of_constant tree.placeholder
 tree_at production (first ∷ rest) = if production == first.0 then first.1 else tree_at production rest
 
--- the production over these numbers, texts and trees of parts
+-- the tree that has this production, these numbers and texts, and these trees as parts
 abbrev pub tree_from : Fields → Tree
 tree_from given = tree_at given.production (
     (CRATE_ROOT, of_path (tree.crate_root (identifier_in false (number_in given 0) given)))

@@ -7,6 +7,6 @@ forms =
     Form.Root ∷ Form.ValuePath ∷ Form.PlainPath ∷ Form.Ty ∷ Form.Constant ∷ Form.FirstArgument ∷ Form.MoreArguments ∷ Form.Lifetime
     ∷ Form.FirstType ∷ Form.MoreTypes ∷ Form.Signature ∷ Form.Names ∷ Form.FirstBound ∷ Form.MoreBounds ∷ Form.Bound ∷ Form.FirstBinding ∷ []
 
--- the form of a number
+-- the form with a number
 abbrev pub form_of : ℕ → Form
 form_of number = slice_index_or forms number Form.MoreBindings

@@ -25,7 +25,7 @@ pub record ReadSymbol : Type 0 where
   pub rows : ℕ
   pub steps : ℕ
 
--- the trees of its nodes
+-- the trees of a symbol's nodes
 abbrev pub trees_of : ReadSymbol → List Tree
 trees_of y = trees y.bytes y.table.nodes
 
@@ -45,7 +45,7 @@ binder_in (tree.function binder is_unsafe abi parameters returned) = binder
 binder_in (tree.dyn binder _ lifetime) = binder
 binder_in _ = 0
 
--- a function's type without its binder, where n lifetimes are bound, its own among them
+-- a function's type without its binder; the bound lifetimes include its own
 abbrev pub signature_in : Context → tree.Ty → Unshared
 signature_in c (tree.function binder is_unsafe abi parameters returned) =
     signature_parts is_unsafe abi (types_from c.detail c.bound [] parameters) (is_unit returned) (type_parts c.detail c.bound returned)
@@ -92,7 +92,7 @@ bytes_of_part y (part.List span) = bytes_at y.table.text span
 bytes_of_part y (part.Fixed number) = fixed_text number
 bytes_of_part y (part.Own bytes count) = take count bytes
 
--- the node is one that has the form
+-- the node is of a sort that can be shown in the form
 abbrev pub HasForm : List Tree → (node : ℕ) → Form → Type 0
 HasForm all node Form.Root = (symbol : tree.Symbol) × IsSymbol all node symbol
 HasForm all node Form.ValuePath = (path : tree.Path) × IsPath all node path
@@ -112,8 +112,8 @@ HasForm all node Form.Bound = (bounds : tree.Bounds) × IsBounds all node bounds
 HasForm all node Form.FirstBinding = (bindings : tree.Bindings) × IsBindings all node bindings
 HasForm all node Form.MoreBindings = (bindings : tree.Bindings) × IsBindings all node bindings
 
--- Each node from this one on may bind 1000 lifetimes, and a signature's own are bound already. So no number of bound
--- lifetimes comes near 64 bits.
+-- Each node up to this one may bind 1000 lifetimes, and those of a signature are bound already. So the number of bound
+-- lifetimes stays far below 64 bits.
 abbrev pub levels : Form → (node : ℕ) → ℕ
 levels Form.Signature node = node
 levels _ node = node + 1
@@ -131,12 +131,12 @@ MayCome y (part.Own bytes count) = (0 < count) × (count ≤ 24) × (length byte
 
 -- ## Lists of parts
 
--- The parts of a list may be asked for, and are what is shown. The first part is the last of the list.
+-- The parts above `below` in a list may be asked for, and print what is shown. The first part comes last in the list.
 pub record Shows (y : ReadSymbol) (below held : Held Context) (shown : Unshared) : Type 0 where
   pub stacked : Stacked (unshared_of y) (bytes_of_part y) (MayCome y) below.items held.items shown
   pub capacity : held.capacity ≡ below.capacity
 
--- whether a list has a part
+-- whether a list isn't empty
 abbrev pub any_arguments : tree.Arguments → Bool
 any_arguments tree.no_arguments = false
 any_arguments _ = true
@@ -157,7 +157,7 @@ abbrev pub is_empty : List ℕ → Bool
 is_empty [] = true
 is_empty (_ ∷ _) = false
 
--- an item before the parts after it, if it is to be added
+-- an item before the parts after it, if the item is to be added
 abbrev pub item_if : Bool → Unshared → Unshared → Unshared
 item_if true parts rest = parts also rest
 item_if false parts rest = rest

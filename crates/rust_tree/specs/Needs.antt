@@ -1,4 +1,4 @@
--- How many lifetimes a node needs, by how many its parts need.
+-- How many lifetimes a node needs, from what its parts need.
 use Rattle.std.specs.Prelude.{ℕ, ◌-◌, max, List, Option, Some, None, slice_get}
 use Rattle.rust_tree.specs.declared.node.Node.{Node}
 use Rattle.rust_tree.specs.declared.node.Path.{Path}
@@ -14,7 +14,7 @@ abbrev pub need_in : Option Entry → ℕ
 need_in None = 0
 need_in (Some entry) = entry.need
 
--- how many lifetimes the node of a number needs, 0 where there is no such node
+-- how many lifetimes the node with a number needs, 0 where there is no such node
 abbrev pub need_at : List Entry → ℕ → ℕ
 need_at nodes number = need_in (slice_get nodes number)
 

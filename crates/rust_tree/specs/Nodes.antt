@@ -179,7 +179,7 @@ trees_onto s before (entry ∷ rest) = trees_onto s (before ++ tree_of s before 
 abbrev pub trees : List ℕ → List Entry → List Tree
 trees s nodes = trees_onto s [] nodes
 
--- ## A node of a number, and what it denotes
+-- ## The node with a number, and what it denotes
 
 abbrev pub IsPath : List Tree → (node : ℕ) → tree.Path → Type 0
 IsPath all node path = slice_get all node ≡ Some (of_path path)
@@ -202,7 +202,7 @@ IsConstant all node constant = slice_get all node ≡ Some (of_constant constant
 abbrev pub IsSymbol : List Tree → (node : ℕ) → tree.Symbol → Type 0
 IsSymbol all node symbol = slice_get all node ≡ Some (of_symbol symbol)
 
--- a type, or a path that is used as one
+-- a type, or a path that is used as a type
 abbrev pub IsType : List Tree → (node : ℕ) → tree.Ty → Type 0
 IsType all node type = (slice_get all node ≡ Some (of_type type)) ⊎ ((path : tree.Path) × IsPath all node path × (type ≡ tree.path_type path))
 
@@ -235,7 +235,7 @@ IsAbi s text abi spelled = HasAbi s text abi × (abi_of s abi ≡ spelled)
 abbrev pub most_bound : ℕ
 most_bound = MOST_BOUND
 
--- no zero is in front
+-- the first digit isn't a zero
 abbrev pub HasNoZero : List ℕ → Type 0
 HasNoZero [] = Unit {0}
 HasNoZero (digit ∷ rest) = (digit ≡ 48) → ⊥
@@ -321,12 +321,12 @@ HasParts s text all (Node.Bindings bindings) = HasBindingsParts s text all bindi
 HasParts s text all (Node.Constant constant) = HasConstantParts s text constant
 HasParts s text all (Node.Symbol whole) = HasSymbolParts s all whole
 
--- With the table as it is, the node has its parts and denotes the tree.
+-- The node's parts are in the table, and the node denotes the tree.
 pub record Makes (s : List ℕ) (table : Table) (node : Node) (made : Tree) : Type 0 where
   pub parts : HasParts s table.text (trees s table.nodes) node
   pub tree : tree_of s (trees s table.nodes) node ≡ made
 
--- What holds of the node of a number: its parts are earlier nodes.
+-- What holds of the node with a number: its parts are earlier nodes, and its tree and its need are those of the table.
 pub record IsNode (s : List ℕ) (table : Table) (number : ℕ) (entry : Entry) : Type 0 where
   pub parts : HasParts s table.text (take number (trees s table.nodes)) entry.node
   pub tree : slice_get (trees s table.nodes) number ≡ Some (tree_of s (trees s table.nodes) entry.node)

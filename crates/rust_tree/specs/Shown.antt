@@ -26,7 +26,7 @@ basic_text = text_at basic_texts
 unfoldable pub numbered_lifetime : ℕ → List ℕ
 numbered_lifetime number = if nat_lt number 26 then 39 ∷ (97 + number) ∷ [] else 39 ∷ 95 ∷ decimal number
 
--- a lifetime where n are bound around it
+-- a lifetime, with n lifetimes bound around it
 unfoldable pub lifetime_text : ℕ → ℕ → List ℕ
 lifetime_text bound zero = codes "'_"
 lifetime_text bound (suc k) = numbered_lifetime (bound - suc k)
@@ -136,7 +136,7 @@ plain_bound true path (Some bindings) = path also codes "<" then bindings also c
 plain_bound all path _ = path also done
 
 unfoldable mutual
-  -- a path, where n lifetimes are bound
+  -- a path with `bound` lifetimes bound around it
   pub path_parts : Detail → (bound : ℕ) → (value : Bool) → Path → Unshared
   path_parts detail bound value (crate_root name) = name_text name.name then done
   path_parts detail bound value (inherent_impl disambiguator path type) =
@@ -199,7 +199,7 @@ bound_parts detail bound (generic parent arguments) bindings =
     generic_bound (has_arguments detail) (path_parts detail bound false parent) (arguments_from detail bound [] arguments) (bindings_from detail bound [] bindings)
 bound_parts detail bound path bindings = plain_bound (has_arguments detail) (path_parts detail bound false path) (bindings_from detail bound [] bindings)
 
--- a whole symbol; the path of the instantiating crate isn't shown
+-- the suffix of a symbol in parentheses, before other parts
 abbrev pub suffix_parts : List ℕ → Unshared → Unshared
 suffix_parts [] rest = rest
 suffix_parts (b ∷ bs) rest = codes " (" then (b ∷ bs) then codes ")" then rest

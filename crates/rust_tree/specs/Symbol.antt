@@ -11,13 +11,13 @@ pub record Identifier : Type 0 where
   pub disambiguator : ℕ
   pub name : Name
 
--- how a function is called; `KC` and an ABI of the name `C` are two
+-- the ABI of a function; `KC` differs from an ABI with the name `C`
 pub data Abi : Type 0 where
   rust_abi : Abi
   c_abi : Abi
   named_abi : Name → Abi
 
--- A lifetime is the number of bound lifetimes from the inside up to it, from 1, and 0 where it is erased. A binder is the
+-- A lifetime is counted among the bound lifetimes around it, the innermost being 1; it is 0 where it is erased. A binder is the
 -- number of lifetimes that it binds, 0 where there is none. A basic type and the type of an integer are their letters.
 mutual
   pub data Path : Type 0 where

@@ -10,6 +10,6 @@ texts =
     ∷ codes "extern \"" ∷ codes "unsafe extern \"" ∷ codes "C" ∷ codes "\" fn(" ∷ codes " -> " ∷ codes "dyn " ∷ codes " + "
     ∷ codes " = " ∷ codes "true" ∷ codes "false" ∷ codes "_" ∷ codes " (" ∷ []
 
--- the text of a number; that of a basic type has its letter as its number
+-- the fixed text with a number; the number of a basic type's text is the type's letter
 abbrev pub fixed_text : ℕ → List ℕ
 fixed_text number = elim (slice_get texts number) [ Some text ↦ text | None ↦ basic_text number ]

@@ -26,7 +26,7 @@ pub record IsView (s : List ℕ) (view : Node) (given : Fields) : Type 0 where
   pub texts : map (bytes_at s) view.texts ≡ given.texts
   pub parts : view.parts ≡ length given.parts
 
--- the first number of these productions is a letter: a namespace, or that of a type
+-- the first number of these productions is a letter: that of a namespace or of a type
 abbrev pub has_letter : (production : ℕ) → Bool
 has_letter production = (production == NESTED) || ((production == PUNYCODE_NESTED) || ((production == BASIC) || (production == INTEGER)))
 
@@ -42,11 +42,11 @@ pub record AreAlike (s t : List ℕ) (first second : Node) (one other : Tree) : 
   pub parts : first.parts ≡ second.parts
   pub equal : (k : ℕ) → k < first.parts → slice_get (fields_of one).parts k ≡ slice_get (fields_of other).parts k
 
--- the node of a path is used as a type, and no other node denotes the path as one
+-- no node denotes a path as a type: a path that is used as a type is the node of the path
 abbrev pub HasNoPathType : List Tree → Type 0
 HasNoPathType all = (k : ℕ) (path : tree.Path) → slice_get all k ≡ Some (of_type (tree.path_type path)) → ⊥
 
--- no bytes of any symbol
+-- an empty span, which is in every symbol
 abbrev pub no_text : Span
 no_text = record { from = 0; to = 0 }
 

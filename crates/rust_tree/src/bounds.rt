@@ -38,7 +38,7 @@ impl Symbol {
         }
     }
 
-    /// Adds a path that is no generic one, and bindings after it.
+    /// Adds a path that isn't generic, and bindings after it.
     fn push_plain_bound<S: PartList<Context>>(
         &self,
         parts: &mut S,

@@ -83,7 +83,7 @@ fn write_hexadecimal(list: &mut [u8; 8], number: u32) -> usize
     from
 }
 
-/// A digit below 16.
+/// The hexadecimal digit of a number below 16.
 fn hexadecimal_digit(digit: u32) -> u8
     requires { digit < 16 }
     ensures { result ≡ digit_glyph false digit }

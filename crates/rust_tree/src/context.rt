@@ -1,4 +1,4 @@
-// The context that an item carries besides its node.
+// The context that an item carries in addition to its node.
 
 use sym_print::Detail;
 

@@ -4,7 +4,7 @@
 ghost use Rattle.std.specs.Prelude.{◌≡◌};
 ghost use Rattle.rust_tree.specs.Forms.{form_of};
 
-/// What of a node is shown.
+/// Which part of a node is shown, and how.
 #[derive(Clone, Copy, Debug, PartialEq, Eq)]
 pub enum Form {
     /// The symbol with its suffix.
@@ -13,12 +13,12 @@ pub enum Form {
     ValuePath,
     /// A path whose arguments follow it directly.
     PlainPath,
-    /// A type, or a path as one.
+    /// A type, or a path that is used as a type.
     Ty,
     Constant,
-    /// The arguments from one on, the first of all.
+    /// Arguments from the first one on.
     FirstArgument,
-    /// The arguments from one on, after others.
+    /// Arguments from a later one on.
     MoreArguments,
     /// The lifetime at the front of arguments.
     Lifetime,
@@ -62,7 +62,7 @@ impl Form {
         }
     }
 
-    /// The form of a number; numbers that no form has are those of bindings.
+    /// The form with a number; `MoreBindings` where no form has that number.
     pub fn of(number: u32) -> Form
         ensures { result ≡ form_of number }
     {

@@ -5,7 +5,7 @@ ghost use Rattle.rust_tree.specs.Fields.{fields_of, tree_from};
 ghost use Rattle.rust_tree.specs.Views.{IsView, AreAlike};
 ghost use Rattle.rust_tree.specs.declared.view.Node.{Node};
 
-/// A tree is its production over its numbers, its texts and the trees of its parts.
+/// A tree can be made from its production, its numbers, its texts and the trees of its parts.
 pub fn fields_make_the_tree()
     ensures { (one : Tree) → tree_from (fields_of one) ≡ one }
 {}

@@ -53,7 +53,8 @@ impl Layout for Symbol {
         self.add_parts(stack, item);
     }
 
-    /// No item is noted before the text is dear: a part of a Rust symbol that comes again is mostly short.
+    /// No item is noted before the text is dear, since parts of a Rust symbol that come again are
+    /// mostly short.
     #[inline(always)]
     fn is_noted(&self, _item: Item<Context>) -> bool
         requires may_come { MayCome self.now (Part.Sub _item) }
@@ -79,7 +80,7 @@ impl Layout for Symbol {
         false
     }
 
-    /// No items are taken at once: in a Rust symbol few items that lie within one another have one part each.
+    /// No items are taken at once: in a Rust symbol, few nested items have just one part each.
     fn run(&self, _item: Item<Context>) -> Option<Run<Context>>
         requires may_come { MayCome self.now (Part.Sub _item) }
         ensures run { IfSome result (λ run. IsRun (unshared_of self.now) (bytes_of_part self.now) (MayCome self.now) _item run) }

@@ -168,7 +168,7 @@ impl Symbol {
         }
     }
 
-    /// The parts of arguments from one on.
+    /// The parts of the arguments from the given one on.
     #[inline(always)]
     pub(crate) fn fill_arguments<S: PartList<Context>>(
         &self,
@@ -203,7 +203,7 @@ impl Symbol {
         }
     }
 
-    /// The parts of types from one on.
+    /// The parts of the types from the given one on.
     pub(crate) fn fill_types<S: PartList<Context>>(
         &self,
         parts: &mut S,
@@ -227,7 +227,7 @@ impl Symbol {
         }
     }
 
-    /// The parts of bounds from one on.
+    /// The parts of the bounds from the given one on.
     pub(crate) fn fill_bounds<S: PartList<Context>>(
         &self,
         parts: &mut S,
@@ -251,7 +251,7 @@ impl Symbol {
         }
     }
 
-    /// The parts of bindings from one on.
+    /// The parts of the bindings from the given one on.
     pub(crate) fn fill_bindings<S: PartList<Context>>(
         &self,
         parts: &mut S,

@@ -20,7 +20,7 @@ pub enum Abi {
     Named(Name),
 }
 
-/// A node. A lifetime is 0 where it is erased, a disambiguator and a binder where there is none.
+/// A node. A lifetime is 0 where it is erased; a disambiguator or a binder is 0 where there is none.
 #[derive(Clone, Copy)]
 pub enum Node {
     Path(Path),
@@ -67,7 +67,7 @@ pub enum Path {
     },
 }
 
-/// The arguments of a generic path, or what is left of them.
+/// The arguments of a generic path, from one of them on.
 #[derive(Clone, Copy)]
 pub enum Arguments {
     None,
@@ -110,21 +110,21 @@ pub enum Ty {
     },
 }
 
-/// A list of types, or what is left of it.
+/// The types of a list, from one of them on.
 #[derive(Clone, Copy)]
 pub enum Types {
     None,
     More { first: u32, rest: u32 },
 }
 
-/// The bounds of a `dyn`, or what is left of them.
+/// The bounds of a `dyn`, from one of them on.
 #[derive(Clone, Copy)]
 pub enum Bounds {
     None,
     More { path: u32, bindings: u32, rest: u32 },
 }
 
-/// The bindings of a bound, or what is left of them.
+/// The bindings of a bound, from one of them on.
 #[derive(Clone, Copy)]
 pub enum Bindings {
     None,
@@ -157,7 +157,7 @@ pub struct Whole {
     pub suffix: Span,
 }
 
-/// A node in a table, and how many enclosing bound lifetimes close its tree, in 56 bytes.
+/// A node in a table, and the number of enclosing bound lifetimes that close its tree. It takes 56 bytes.
 #[derive(Clone, Copy)]
 pub struct Entry {
     pub node: Node,

@@ -23,7 +23,8 @@ use sym_room::make_room;
 pub struct Nodes {
     entries: Vec<Entry>,
     text: Vec<u8>,
-    // The most nodes that there were when it was cleared. With those that there are now it bounds the memory of the nodes.
+    // The most nodes that there were when the table was cleared. This number and that of the present
+    // nodes bound the memory of the nodes.
     most: usize,
 }
 
@@ -43,8 +44,8 @@ impl Model for Nodes {
 ///
 /// # Errors
 ///
-/// `AllocError` where there is none; the list is unchanged then.
-// Apart from its caller, so that adding a node where there is room for it takes few registers.
+/// `AllocError` where there is no memory; the list is unchanged then.
+// It isn't inlined, so that adding a node for which there is room takes few registers.
 #[inline(never)]
 fn grow(entries: &mut Vec<Entry>) -> Result<(), AllocError>
     ensures items { entries.new.items ≡ entries.old.items }
@@ -61,7 +62,7 @@ fn grow(entries: &mut Vec<Entry>) -> Result<(), AllocError>
 ///
 /// # Errors
 ///
-/// `AllocError` where it got none; the list is unchanged then.
+/// `AllocError` where there is no memory; the list is unchanged then.
 #[inline(always)]
 fn make_room_for_one(entries: &mut Vec<Entry>) -> Result<(), AllocError>
     ensures items { entries.new.items ≡ entries.old.items }
@@ -98,8 +99,8 @@ impl Nodes {
         self.entries.len()
     }
 
-    /// For how many nodes there is memory, of 56 bytes each: at most for twice the most that there were at once since the table
-    /// was made, and for 8 more.
+    /// How many nodes of 56 bytes the table has memory for: at most twice the most nodes that it had at
+    /// once since it was made, and 8 more.
     pub fn room(&self) -> usize
         ensures is { result ≡ self.now.node_room }
         ensures bounded { result ≤ most_for (max self.now.most (length self.now.nodes)) }
@@ -115,7 +116,7 @@ impl Nodes {
         &self.text[span.from as usize..span.to as usize]
     }
 
-    /// The node of a number.
+    /// The node with this number.
     pub fn node(&self, number: u32) -> Node
         requires { number < length self.now.nodes }
         ensures { (need : ℕ) × (slice_get self.now.nodes number ≡ Some (record { node = result; need = need })) }
@@ -123,7 +124,7 @@ impl Nodes {
         *self.node_at(number)
     }
 
-    /// The node of a number, where it is stored.
+    /// A reference to the node with this number.
     pub(crate) fn node_at(&self, number: u32) -> &Node
         requires { number < length self.now.nodes }
         ensures { (need : ℕ) × (slice_get self.now.nodes number ≡ Some (record { node = result.now; need = need })) }

@@ -97,7 +97,7 @@ impl Symbol {
         }
     }
 
-    /// Adds arguments, unless it is in brief.
+    /// Adds arguments, unless the detail is brief.
     #[inline(always)]
     pub(crate) fn push_argument_list<S: PartList<Context>>(
         &self,

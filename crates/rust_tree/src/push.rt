@@ -121,7 +121,7 @@ impl Symbol {
         }
     }
 
-    /// Adds bytes of the part's own.
+    /// Adds a part with bytes of its own: three texts, one after another.
     pub(crate) fn push_own<S: PartList<Context>>(
         &self,
         parts: &mut S,
@@ -139,7 +139,7 @@ impl Symbol {
         parts.push_part(own(front, text, back));
     }
 
-    /// Adds an item, if it is to be added.
+    /// Adds an item, if `any` is true.
     #[inline(always)]
     pub(crate) fn push_item_if<S: PartList<Context>>(
         &self,
@@ -159,7 +159,7 @@ impl Symbol {
         }
     }
 
-    /// Adds a separator, unless it is the first of its list.
+    /// Adds a separator, unless the next element is the first of its list.
     #[inline(always)]
     pub(crate) fn push_separator<S: PartList<Context>>(
         &self,
@@ -206,7 +206,7 @@ impl Symbol {
         }
     }
 
-    /// Adds a lifetime where n are bound.
+    /// Adds a lifetime that has `bound` lifetimes bound around it.
     pub(crate) fn push_lifetime<S: PartList<Context>>(
         &self,
         parts: &mut S,
@@ -224,7 +224,7 @@ impl Symbol {
         }
     }
 
-    /// Adds a text and bytes of the symbol after it, unless there are none of these.
+    /// Adds a text and bytes of the symbol after it, unless there are no such bytes.
     #[inline(always)]
     pub(crate) fn push_bytes_behind<S: PartList<Context>>(
         &self,
@@ -244,7 +244,7 @@ impl Symbol {
         }
     }
 
-    /// Adds a text and bytes of the text list after it, unless there are none of these.
+    /// Adds a text and bytes of the text list after it, unless there are no such bytes.
     #[inline(always)]
     pub(crate) fn push_printed_behind<S: PartList<Context>>(
         &self,
@@ -284,7 +284,7 @@ impl Symbol {
         }
     }
 
-    /// Adds how a namespace is named.
+    /// Adds the name of a namespace.
     pub(crate) fn push_namespace<S: PartList<Context>>(&self, parts: &mut S, namespace: u8)
         requires { 1 ≤ S.room parts.old }
         ensures shows { (below : Held Context) (so_far : Unshared) → Shows self.now below (S.held parts.old) so_far

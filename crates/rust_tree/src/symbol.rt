@@ -36,7 +36,7 @@ impl Model for Symbol {
 }
 
 impl Symbol {
-    /// The symbol with these nodes, the last being the whole.
+    /// The symbol with these nodes; the root is the node of the whole.
     pub fn new(bytes: Vec<u8>, nodes: Nodes, root: u32, rows: u32, steps: u32) -> Symbol
         requires { IsRead (record { bytes = bytes.items; table = nodes; root = root; rows = rows; steps = steps }) }
         ensures { result ≡ record { bytes = bytes.items; table = nodes; root = root; rows = rows; steps = steps } }
@@ -93,7 +93,8 @@ impl Symbol {
         *self.bytes.allocator()
     }
 
-    /// The bytes of a span within the symbol, as each text of a node's view is. It takes no memory.
+    /// The bytes of a span within the symbol. Each text of a node's view is a span within it. It takes
+    /// no memory.
     pub fn bytes_of(&self, span: Span) -> &[u8]
         requires { IsWithin span self.now.bytes }
         ensures { result.now ≡ bytes_at self.now.bytes span }
@@ -119,7 +120,7 @@ impl Symbol {
         self.nodes.node(node)
     }
 
-    /// A node where it is stored.
+    /// A reference to a node as it is stored.
     fn stored_at(&self, node: u32) -> &Node
         requires { node < length self.now.table.nodes }
         ensures tree { slice_get (trees_of self.now) node ≡ Some (tree_of self.now.bytes (trees_of self.now) result.now) }

@@ -1,4 +1,4 @@
-// The productions of trees: what the view of a node has for each.
+// The productions of trees, and which numbers, texts and parts the view of a node has for each.
 //
 // What a production doesn't mention is 0 or no bytes; no production has a second text. A type that is a part is the node of a
 // type or of a path. The text of a name is what the symbol spells and not what it prints.
@@ -73,7 +73,7 @@ pub const MUT_POINTER: u16 = 20;
 /// of its parameters, and the type of its result.
 pub const FUNCTION: u16 = 21;
 
-/// A function's type of the ABI that is spelled as a letter, C's, otherwise as `FUNCTION`.
+/// A function's type of the C ABI, spelled as a letter; otherwise as `FUNCTION`.
 pub const C_FUNCTION: u16 = 22;
 
 /// A function's type of an ABI that is spelled as a name. Texts: that name, which isn't in Punycode. Otherwise as

@@ -21,7 +21,7 @@ use crate::texts;
 use sym_print::PartList;
 
 impl Symbol {
-    /// Adds the text of a basic type, if the letter is that of one.
+    /// Adds the text of a basic type, if the letter denotes one.
     #[inline(always)]
     fn push_basic<S: PartList<Context>>(&self, parts: &mut S, letter: u8)
         requires { 1 ≤ S.room parts.old }
@@ -100,7 +100,7 @@ impl Symbol {
         }
     }
 
-    /// Adds a node's binder, if it binds something.
+    /// Adds a node's binder, if it binds lifetimes.
     fn push_binder<S: PartList<Context>>(&self, parts: &mut S, node: u32, binder: u16, ctx: Context)
         requires { 3 ≤ S.room parts.old }
         ensures shows { (below : Held Context) (so_far : Unshared) → Shows self.now below (S.held parts.old) so_far → ((t : tree.Ty) × IsType (trees_of self.now) node t) → HasDepth Form.PlainPath node ctx.bound → binder_in (type_in (slice_get (trees_of self.now) node)) ≡ binder
@@ -274,7 +274,7 @@ impl Symbol {
         }
     }
 
-    /// The parts of a type, or of a path as one.
+    /// The parts of a type, or of a path that is used as a type.
     #[inline(always)]
     pub(crate) fn fill_type<S: PartList<Context>>(&self, parts: &mut S, node: u32, ctx: Context)
         requires ty { (t : tree.Ty) × IsType (trees_of self.now) node t }
@@ -312,7 +312,7 @@ impl Symbol {
         }
     }
 
-    /// Whether a type is the unit type, by its letter.
+    /// Whether a type is the unit type, spelled as a letter.
     fn is_unit(&self, node: u32) -> bool
         requires { (t : tree.Ty) × IsType (trees_of self.now) node t }
         ensures { result ≡ is_unit (type_in (slice_get (trees_of self.now) node)) }
@@ -455,7 +455,7 @@ fn ty_binder(ty: Ty) -> u16
     }
 }
 
-/// Whether a type is the unit type, by its letter.
+/// Whether a type is the unit type, spelled as a letter.
 #[tactic(auto, unfolding(crate::specs::Nodes::type_of))]
 fn is_unit(ty: Ty) -> bool
     ensures { (s : List ℕ) (all : List Tree) → result ≡ is_unit (type_of s all ty) }

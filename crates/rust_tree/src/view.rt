@@ -22,7 +22,8 @@ use crate::tree_production::{
 };
 use sym_core::Span;
 
-/// The view of a node. What its numbers, texts and parts are is at its production in `tree_production`.
+/// The view of a node. Its production in `tree_production` says what its numbers, texts and parts
+/// are.
 #[derive(Clone, Copy)]
 pub struct Node {
     pub production: u16,
@@ -40,7 +41,7 @@ struct NodeView {
 
 const NO_TEXT: Span = Span { from: 0, to: 0 };
 
-/// A node of these numbers and this text, with the first n of these parts.
+/// A node with these numbers and this text, and with the first `count` of these parts.
 fn view_of(production: u16, numbers: [u64; 2], text: Span, count: u32, parts: [u32; 3]) -> NodeView
     ensures { result ≡ seen_of production numbers text count parts }
 {
@@ -94,7 +95,7 @@ fn by_name(name: Name, plain: u16, punycode: u16) -> u16
     }
 }
 
-/// A mark as a number.
+/// 1 for a mark, and 0 for none.
 fn one_if(mark: bool) -> u64
     ensures { result ≡ one_if mark }
 {
@@ -308,8 +309,8 @@ impl Symbol {
 
     /// The view of a node, which is below `counts().nodes`. It takes no memory.
     ///
-    /// The node's tree is its production over these numbers, the bytes of these texts and the trees of its parts, and
-    /// two nodes have equal trees exactly where these are equal.
+    /// A node's tree is made of its production, the numbers, the bytes of the texts and the trees of the parts. Two nodes
+    /// have equal trees exactly where all of these are equal.
     pub fn node(&self, node: u32) -> Node
         requires { node < length self.now.table.nodes }
         ensures fields { IsView self.now.bytes result (fields_at self.now node) }

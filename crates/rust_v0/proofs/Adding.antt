@@ -1,30 +1,16 @@
 -- A node that is added denotes what its production means.
-use Rattle.std.proofs.Common.{◌≡◌, refl, ap, arith, ℕ, ◌<◌, inl, List, ◌∷◌, length, Option, Some, None, Ok}
-use Rattle.std.specs.Prelude.{slice_get, slice_set}
-use Rattle.std.proofs.lemmas.List.{length-set}
-use Rattle.rust_tree.specs.Tree.{Tree}
-use Rattle.rust_tree.specs.Nodes.{Grows, IsTable, trees, tree_of, type_of}
-use Rattle.rust_tree.specs.declared.node.Node.{Node}
-use Rattle.rust_tree.specs.declared.node.Ty.{Ty}
-use Rattle.rust_references.specs.declared.targets.Target.{Target}
-use Rattle.rust_v0.specs.declared.nodes.RustNodes.{RustNodes}
+use Rattle.rust_v0.proofs.Basics.{◌≡◌, refl, ap, arith, ℕ, ◌<◌, inl, List, ◌∷◌, length, Option, Some, None, Ok, slice_get, slice_set, length-set, Tree, Grows, IsTable, trees, tree_of, type_of, Node, Ty, Target, RustNodes, Value, At, Meaning, as_path, ends_tree, IsNoted, AreNoted, Keeps, v0_view, Gives}
 use Rattle.rust_grammar.specs.Value as value
-use Rattle.rust_grammar.specs.Value.{Value}
-use Rattle.rust_grammar.specs.Unfold.{At, Meaning, as_path}
-use Rattle.rust_v0.specs.Made.{ends_tree}
 use Rattle.rust_v0.specs.CodeSemantics as semantics
-use Rattle.rust_references.specs.Targets.{IsNoted, AreNoted}
-use Rattle.rust_v0.specs.RustNodes.{Keeps, v0_view}
-use Rattle.sym_link.specs.Linking.{Gives}
 use Rattle.rust_v0.proofs.Noted.{stays_noted, lists_stay, noted_added}
 
--- a type that isn't a path's
+-- what a `Ty` node denotes is no path
 not_a_path : (s : List ℕ) (all : List Tree) (type : Ty) → as_path (Some (value.a_type (type_of s all type))) ≡ None
 unfolding type_of
 not_a_path s all (Ty.Basic letter) = refl
 not_a_path s all type = refl
 
--- the endings, after one more that may be noted at a place
+-- the endings, with one more noted at a place if there is one
 abbrev pub ended_with : Option Target → List Target → (place : ℕ) → List Target
 ended_with None endings place = endings
 ended_with (Some ending) endings place = slice_set endings place ending

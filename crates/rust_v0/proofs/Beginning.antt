@@ -1,18 +1,10 @@
 -- The table that a symbol begins with.
-use Rattle.std.proofs.Common.{◌≡◌, refl, sym, ap, subst, ◌∙◌, ℕ, ◌+◌, ◌≤◌, List, [], ◌∷◌, length, false, Some, arith}
-use Rattle.std.specs.Prelude.{slice_get}
-use Rattle.std.specs.Fmt.{digits}
-use Rattle.sym_core.specs.Printed.{signed_text}
+use Rattle.rust_v0.proofs.Basics.{◌≡◌, refl, sym, ap, subst, ◌∙◌, ℕ, ◌+◌, ◌≤◌, List, [], ◌∷◌, length, false, Some, arith, slice_get, digits, signed_text, Tree, of_arguments, of_bounds, of_bindings, Table, IsTable, Makes, trees, arguments_of, bounds_of, bindings_of, Node, got-within, length-trees, HasZero}
 use Rattle.rust_tree.specs.Symbol as tree
-use Rattle.rust_tree.specs.Tree.{Tree, of_arguments, of_bounds, of_bindings}
-use Rattle.rust_tree.specs.Nodes.{Table, IsTable, Makes, trees, arguments_of, bounds_of, bindings_of}
 use Rattle.rust_tree.specs.declared.node.Entry.{Entry}
-use Rattle.rust_tree.specs.declared.node.Node.{Node}
 use Rattle.rust_tree.specs.declared.node.Arguments.{Arguments}
 use Rattle.rust_tree.specs.declared.node.Bounds.{Bounds}
 use Rattle.rust_tree.specs.declared.node.Bindings.{Bindings}
-use Rattle.rust_tree.proofs.Trees.{got-within, length-trees}
-use Rattle.rust_v0.specs.Tokens.{HasZero}
 
 zero_text : signed_text false 0 ≡ 48 ∷ []
 unfolding digits
@@ -40,7 +32,7 @@ pub no_bindings_made : (s : List ℕ) (table : Table) → Makes s table (Node.Bi
 unfolding bindings_of
 no_bindings_made s table = record { parts = tt; tree = refl }
 
--- a node was added
+-- if a new number denotes a tree, and at most one node was added, then one node was added
 pub one_added : (s : List ℕ) (old new : Table) (number : ℕ) (t : Tree) → number ≡ length old.nodes → slice_get (trees s new.nodes) number ≡ Some t
     → length new.nodes ≤ length old.nodes + 1 → length new.nodes ≡ length old.nodes + 1
 one_added s old new number t is there one =

@@ -1,14 +1,9 @@
 -- Which rules may begin with a binder.
-use Rattle.std.proofs.Common.{◌≡◌, ℕ, ◌+◌, ◌<◌, List, map, get_or, refl, sym, ap, ◌∙◌, arith, Option, Some}
-use Rattle.std.proofs.lemmas.List.{get_or-map}
+use Rattle.rust_v0.proofs.Basics.{◌≡◌, ℕ, ◌+◌, ◌<◌, List, map, get_or, refl, sym, ap, ◌∙◌, arith, Option, Some, get_or-map, range_with_len, Part, Production, productions, production_of, number_of}
 use Rattle.std.proofs.lemmas.List.FromFn.{get_or-range_with_len}
 use Rattle.std.proofs.lemmas.Option.{slice_get_within, get_or_from_slice_get}
-use Rattle.std.specs.List.{range_with_len}
-use Rattle.rust_v0.specs.declared.part.Part.{Part}
-use Rattle.rust_grammar.specs.declared.production.Production.{Production}
 use Rattle.rust_grammar.specs.declared.production.Production.TheVariants as rules
 use Rattle.rust_v0.specs.CodeOperands as operands
-use Rattle.rust_grammar.specs.Productions.{productions, production_of, number_of}
 
 in_order : map number_of productions ≡ range_with_len 0 48
 in_order = refl

@@ -1,23 +1,8 @@
 -- A rule that begins: how many lifetimes are bound around it, and its place.
-use Rattle.std.proofs.Common.{◌≡◌, refl, ap, sym, ◌∙◌, ℕ, ◌+◌, ◌*◌, ◌<◌, ◌≤◌, zero, suc, inl, inr, List, [], ◌∷◌, length, get_or, Bool, true, false, not, ◌&&◌, ◌||◌, Option, Some, Ok, Err, arith, cond}
-use Rattle.std.specs.Prelude.{min, ◌^◌}
-use Rattle.std.proofs.lemmas.Bool.{false≢true, and_parts, cases_Bool}
-use Rattle.sym_link.specs.Driving.{AreAll}
-use Rattle.sym_link.specs.Parts.{skipped_from, Stands}
-use Rattle.sym_link.specs.Reading.{Open}
-use Rattle.sym_shape.specs.declared.rule.Rule.{Rule}
-use Rattle.sym_shape.specs.declared.sheet.Choice.{Choice}
-use Rattle.sym_shape.specs.Sheet.{KindSheet, choice_at, classes_of, in_ranges}
-use Rattle.sym_shape.specs.Tree.{Forest, nothing, grown, empty, fixed, token, branch}
-use Rattle.rust_grammar.specs.declared.production.Production.{Production}
+use Rattle.rust_v0.proofs.Basics.{◌≡◌, refl, ap, sym, ◌∙◌, ℕ, ◌+◌, ◌*◌, ◌<◌, ◌≤◌, zero, suc, inl, inr, List, [], ◌∷◌, length, get_or, Bool, true, false, not, ◌&&◌, ◌||◌, Option, Some, Ok, Err, arith, cond, min, ◌^◌, false≢true, and_parts, cases_Bool, AreAll, skipped_from, Stands, Open, Rule, Choice, KindSheet, choice_at, classes_of, in_ranges, Forest, nothing, grown, empty, fixed, token, branch, Production, Part, production_of, v0_table, kinds, no_kind, Value, State, Ground, IsPart, Agree}
 use Rattle.rust_grammar.specs.declared.production.Production.TheVariants as rules
-use Rattle.rust_v0.specs.declared.part.Part.{Part}
-use Rattle.rust_grammar.specs.Productions.{production_of}
-use Rattle.rust_grammar.specs.Rules.{v0_table, kinds, no_kind}
 use Rattle.rust_grammar.specs.Value as value
-use Rattle.rust_grammar.specs.Value.{Value, State}
 use Rattle.rust_grammar.specs.Unfold.{bound_behind, binder_part, Part as Next}
-use Rattle.rust_v0.specs.PartValues.{Ground, IsPart, Agree}
 use Rattle.rust_v0.specs.CodeOperands as operands
 use Rattle.rust_v0.proofs.OperandLemmas.{binder_agrees}
 
@@ -51,7 +36,7 @@ rule_passes test [] kind byte rule pass found = cc
 rule_passes test (k ∷ ks) zero byte rule pass found = chosen_passes test k.choices byte rule (and_parts _ _ pass).0 found
 rule_passes test (k ∷ ks) (suc kind) byte rule pass found = rule_passes test ks kind byte rule (and_parts _ _ pass).1 found
 
--- a production whose binder holds for its next parts
+-- whether a binder of the production holds for parts after it
 abbrev pub binds : Option Production → Bool
 binds (Some rules.Function) = true
 binds (Some rules.Dyn) = true
@@ -75,7 +60,7 @@ skipped_further from (grown (fixed byte) rest) = omega (arith, skipped_further (
 skipped_further from (grown (token t) rest) = omega arith
 skipped_further from (grown (branch rule taken parts) rest) = omega arith
 
--- a part of a rule that binds follows the rule's own byte
+-- the parts of a rule that may begin with a binder come after the rule's own byte
 pub behind_own : (s : List ℕ) (around : Open State ℕ) (held from : ℕ) (left : Forest) → Stands v0_table s 0 around held from left
     → binds (production_of around.rule.number) ≡ true → around.place + 1 ≤ skipped_from from left
 behind_own s around held from left stands is =
@@ -85,7 +70,7 @@ behind_own s around held from left stands is =
 
 -- ## Lifetimes
 
--- the lifetimes bound after what a binder may have been read as, in code and in the reading
+-- how many lifetimes are bound once a binder may have been read: in code, and in the reading
 in_code : Option Production → (b : ℕ) → operands.Operand ℕ → ℕ
 in_code (Some rules.Function) b (Ok (n, rest)) = min (b + n) 18446744073709551615
 in_code (Some rules.Dyn) b (Ok (n, [])) = min (b + n) 18446744073709551615
@@ -140,7 +125,7 @@ dyn_agrees g b fits (Ok (m, [])) read (n, v ∷ vs, is, same, are) = absurd are
 dyn_agrees g b fits (Ok (m, p ∷ ps)) read (n, v ∷ vs, is, same, are) = rw is (refl, omega arith)
 dyn_agrees g b fits (Err e) read is = rw is (refl, omega arith)
 
--- what the code counts is what the reading says
+-- the code counts as many bound lifetimes as the reading says
 pub bound_agrees : (g : Ground) (o : Option Production) (b : ℕ) (ps : List Part) (vs : List Value) → AreAll (IsPart g) ps vs → b + 1000 < 2 ^ 64
     → (operands.bound_behind o b ps ≡ bound_behind o b vs) × (bound_behind o b vs ≤ b + 1000)
 unfolding IsBinder

@@ -1,11 +1,6 @@
 -- An integer's digits, and how long its decimal is.
-use Rattle.std.proofs.Common.{◌≡◌, refl, ap, sym, ◌∙◌, ℕ, zero, suc, ◌+◌, ◌-◌, ◌*◌, ◌<◌, ◌≤◌, List, [], ◌∷◌, length, length-append, take, drop, Bool, true, false, arith}
-use Rattle.std.specs.Prelude.{◌^◌, decimal}
-use Rattle.std.proofs.lemmas.List.{drop-take, drop-drop}
-use Rattle.sym_core.specs.Number.{AreDigits}
-use Rattle.sym_core.specs.Printed.{signed_text}
+use Rattle.rust_v0.proofs.Basics.{◌≡◌, refl, ap, sym, ◌∙◌, ℕ, zero, suc, ◌+◌, ◌-◌, ◌*◌, ◌<◌, ◌≤◌, List, [], ◌∷◌, length, length-append, take, drop, Bool, true, false, arith, ◌^◌, decimal, drop-take, drop-drop, AreDigits, signed_text, Hex}
 use Rattle.sym_core.specs.Value.{value_of}
-use Rattle.sym_core.specs.declared.NumberKind.TheVariants.{Hex}
 use Rattle.sym_core.proofs.Horner.{hex-decimal-few}
 
 pub digits_behind : (from to zeros : ℕ) (s : List ℕ) → zeros ≤ to - from
@@ -18,7 +13,7 @@ digits_behind from to zeros s within =
     ∙ ap (λ l. take (to - (from + zeros)) l) (drop-drop zeros from s)
     )
 
--- the digits that are left after some of them
+-- the digits after the first ones are digits, too
 pub digits_left : (n : ℕ) (ds : List ℕ) → AreDigits Hex ds → AreDigits Hex (drop n ds)
 digits_left zero ds are = are
 digits_left (suc n) [] are = are

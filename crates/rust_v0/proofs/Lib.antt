@@ -1,4 +1,5 @@
 pub mod Adding
+pub mod Basics
 pub mod Beginning
 pub mod Binding
 pub mod Closing

@@ -1,38 +1,11 @@
 -- What a production makes of its parts is its meaning.
-use Rattle.std.proofs.Common.{◌≡◌, ◌≤◌, ◌<◌, ◌+◌, refl, sym, arith, ℕ, List, length, drop, get_or, true, false, Option, Ok, Err}
-use Rattle.std.specs.Prelude.{◌^◌}
-use Rattle.std.proofs.lemmas.List.{length-drop}
-use Rattle.std.proofs.lemmas.Bool.{false≢true}
+use Rattle.rust_v0.proofs.Basics.{◌≡◌, ◌≤◌, ◌<◌, ◌+◌, refl, sym, arith, ℕ, List, length, drop, get_or, true, false, Option, Ok, Err, ◌^◌, length-drop, false≢true, Result, Refusal, Malformed, BadReference, BadValue, TooLong, Memory, AreAll, Fails, Gives, ◌>>=◌, grows-same, RustNodes, Made, IsNoted, v0_view, Keeps, GoesOn, refers_by, of_type, of_types, of_constant, Table, tree_of, type_of, types_of, constant_of, IsWithin, bytes_at, trees, Node, Ty, Constant, Production, Part, Value, a_suffix, some_bounds, suffix_rest, letter, unsafe_mark, an_abi, minus_mark, a_truth, At, Meaning, meaning, byte_at, number_part, referred, Target, IsPart, IsNumber, Agree, ground, HasLists, MadeGives, is_reference, makes_part}
 use Rattle.std.proofs.Math.Seq.{take-length}
-use Rattle.std.specs.Prelude.{Result}
-use Rattle.sym_core.specs.declared.refusal.Refusal.{Refusal}
-use Rattle.sym_core.specs.declared.refusal.Refusal.TheVariants.{Malformed, BadReference, BadValue, TooLong, Memory}
-use Rattle.sym_link.specs.Driving.{AreAll, Fails}
-use Rattle.sym_link.specs.Linking.{Gives}
-use Rattle.sym_link.specs.Reading.{◌>>=◌}
-use Rattle.rust_tree.proofs.Trees.{grows-same}
-use Rattle.rust_v0.specs.declared.nodes.RustNodes.{RustNodes}
-use Rattle.rust_v0.specs.Made.{Made}
-use Rattle.rust_references.specs.Targets.{IsNoted}
-use Rattle.rust_v0.specs.RustNodes.{v0_view, Keeps, GoesOn, refers_by}
 use Rattle.rust_tree.specs.Symbol as tree
-use Rattle.rust_tree.specs.Tree.{of_type, of_types, of_constant}
-use Rattle.rust_tree.specs.Nodes.{Table, tree_of, type_of, types_of, constant_of, IsWithin, bytes_at, trees}
-use Rattle.rust_tree.specs.declared.node.Node.{Node}
-use Rattle.rust_tree.specs.declared.node.Ty.{Ty}
 use Rattle.rust_tree.specs.declared.node.Types.{Types}
-use Rattle.rust_tree.specs.declared.node.Constant.{Constant}
-use Rattle.rust_grammar.specs.declared.production.Production.{Production}
 use Rattle.rust_grammar.specs.declared.production.Production.TheVariants as rules
-use Rattle.rust_v0.specs.declared.part.Part.{Part}
-use Rattle.rust_grammar.specs.Value.{Value, a_suffix, some_bounds, suffix_rest, letter, unsafe_mark, an_abi, minus_mark, a_truth}
-use Rattle.rust_grammar.specs.Unfold.{At, Meaning, meaning, byte_at, number_part, referred}
-use Rattle.rust_references.specs.declared.targets.Target.{Target}
 use Rattle.rust_v0.specs.CodeOperands as operands
-use Rattle.rust_v0.specs.PartValues.{IsPart, IsNumber, Agree}
 use Rattle.rust_v0.proofs.OperandLemmas.{number_agrees}
-use Rattle.rust_v0.specs.Made.{ground, HasLists, MadeGives}
-use Rattle.rust_grammar.specs.Productions.{is_reference, makes_part}
 use Rattle.rust_v0.specs.CodeSemantics as semantics
 use Rattle.rust_v0.proofs.SemanticsLemmas.{abi_gives, array_gives, binder_gives, binding_gives, bool_constant_gives, char_constant_gives, const_pointer_gives, constant_argument_gives, crate_root_gives, disambiguated_gives, disambiguator_gives, dyn_type_gives, function_gives, generic_gives, inherent_impl_gives, lifetime_argument_gives, lifetime_gives, more_bounds_gives, more_types_gives, mut_pointer_gives, mutable_reference_gives, nested_gives, plain_name_gives, punycode_name_gives, shared_reference_gives, signed_constant_gives, slice_gives, symbol_gives, trait_definition_gives, trait_impl_gives, tuple_gives, type_argument_gives, unsigned_constant_gives}
 

@@ -1,11 +1,5 @@
 -- The nodes that are made where a rule closes are those of its production.
-use Rattle.std.proofs.Common.{◌≡◌, refl, ap, arith, true, false, ℕ, ◌+◌, ◌-◌, ◌≤◌, length, Some, Ok, Err}
-use Rattle.std.specs.Prelude.{Result, OnOk}
-use Rattle.sym_core.specs.declared.refusal.Refusal.{Refusal}
-use Rattle.rust_v0.specs.declared.nodes.RustNodes.{RustNodes}
-use Rattle.rust_grammar.specs.declared.production.Production.{Production}
-use Rattle.rust_grammar.specs.Productions.{production_of, is_reference, makes_part}
-use Rattle.rust_v0.specs.NodeCount.{nodes_of_production, made_by}
+use Rattle.rust_v0.proofs.Basics.{◌≡◌, refl, ap, arith, true, false, ℕ, ◌+◌, ◌-◌, ◌≤◌, length, Some, Ok, Err, Result, OnOk, Refusal, RustNodes, Production, production_of, is_reference, makes_part, nodes_of_production, made_by}
 use Rattle.rust_v0.proofs.Meanings.{makes_no_reference}
 
 -- a reference makes no node
@@ -23,13 +17,13 @@ pub one_by_node : (number : ℕ) (production : Production) → production_of num
 unfolding nodes_of_production
 one_by_node number production is reference part = rw (is, reference, part) refl
 
--- this many nodes were added, whatever the part became
+-- as many nodes were added as the production makes, whatever the call answers
 pub made_so_many : (old new : RustNodes) (result : Result (Unit {0}) Refusal) (made more : ℕ) → length new.nodes.nodes ≡ length old.nodes.nodes + more → made ≡ more
     → OnOk result (length new.nodes.nodes ≡ length old.nodes.nodes + made)
 made_so_many old new (Ok done) made more is same = omega (arith, is, same)
 made_so_many old new (Err e) made more is same = tt
 
--- the same for the nodes after those at the front of each table
+-- likewise if the first three nodes of each table aren't counted
 pub size_added : {A : Type 0} (old new : RustNodes) (result : Result A Refusal) (more : ℕ) → 3 ≤ length old.nodes.nodes → OnOk result (length new.nodes.nodes ≡ length old.nodes.nodes + more)
     → OnOk result (length new.nodes.nodes - 3 ≡ length old.nodes.nodes - 3 + more)
 size_added old new (Ok done) more begun is = omega (arith, begun, is)

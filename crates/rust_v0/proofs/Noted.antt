@@ -1,15 +1,5 @@
 -- What is noted of places stays, and each ending is noted.
-use Rattle.std.proofs.Common.{◌≡◌, ◌≢◌, sym, ◌∙◌, ℕ, ◌<◌, inl, inr, List, ◌∷◌, ◌++◌, length, replicate, false, Option, Some}
-use Rattle.std.specs.Prelude.{slice_set, ◌==◌}
-use Rattle.std.proofs.lemmas.List.{get_or-set_same, get_or-set_other}
-use Rattle.std.proofs.lemmas.Bool.{eqb-true, eq-eqb, cases_Bool, false≢true}
-use Rattle.rust_tree.specs.Tree.{Tree}
-use Rattle.rust_tree.specs.Nodes.{Grows, Table, trees}
-use Rattle.rust_tree.proofs.Trees.{tree-stays}
-use Rattle.rust_references.specs.declared.targets.Target.{Target}
-use Rattle.rust_grammar.specs.Value.{Value, Ended}
-use Rattle.rust_v0.specs.Made.{ground, HasLists}
-use Rattle.rust_references.specs.Targets.{IsNoted, AreNoted}
+use Rattle.rust_v0.proofs.Basics.{◌≡◌, ◌≢◌, sym, ◌∙◌, ℕ, ◌<◌, inl, inr, List, ◌∷◌, ◌++◌, length, replicate, false, Option, Some, slice_set, ◌==◌, get_or-set_same, get_or-set_other, eqb-true, eq-eqb, cases_Bool, false≢true, Tree, Grows, Table, trees, tree-stays, Target, Value, Ended, ground, HasLists, IsNoted, AreNoted}
 use Rattle.rust_v0.proofs.Places.{same_there}
 
 module _ (s : List ℕ) (old new : Table) (grows : Grows old new) where
@@ -26,7 +16,7 @@ module _ (s : List ℕ) (old new : Table) (grows : Grows old new) where
     bindings = tree-stays s old new 2 _ grows lists.bindings;
   }
 
--- more places at the end change nothing for those before
+-- more places at the end change nothing for the earlier places
 pub noted_further : (all : List Tree) (endings more : List Target) (k : ℕ) (ended : List Ended) → more ≡ endings ++ replicate k Target.Nothing
     → AreNoted all endings ended → AreNoted all more ended
 noted_further all endings more k ended same noted place = rw (same, same_there endings k place Target.Nothing) (noted place)

@@ -1,6 +1,5 @@
 -- What has ended, by the places where it began.
-use Rattle.std.proofs.Common.{◌≡◌, refl, ap, ◌∙◌, ℕ, zero, suc, ◌+◌, List, [], ◌∷◌, ◌++◌, replicate, get_or, append_assoc}
-use Rattle.std.proofs.lemmas.List.{replicate-append-replicate}
+use Rattle.rust_v0.proofs.Basics.{◌≡◌, refl, ap, ◌∙◌, ℕ, zero, suc, ◌+◌, List, [], ◌∷◌, ◌++◌, replicate, get_or, append_assoc, replicate-append-replicate}
 
 pub more : {A : Type 0} (xs ys zs : List A) (k n : ℕ) (x : A) → ys ≡ xs ++ replicate k x → zs ≡ ys ++ replicate n x → zs ≡ xs ++ replicate (k + n) x
 more xs ys zs k n x old new =

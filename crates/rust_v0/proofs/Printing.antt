@@ -1,13 +1,8 @@
 -- What is printed to the text list, and what is added to the nodes.
-use Rattle.std.proofs.Common.{◌≢◌, Result, Ok, Err, IfErr, refl, arith}
-use Rattle.sym_core.specs.declared.refusal.Refusal.{Refusal}
-use Rattle.sym_core.specs.declared.refusal.Refusal.TheVariants.{Memory}
-use Rattle.rust_tree.proofs.Trees.{grows-same}
-use Rattle.rust_v0.specs.declared.nodes.RustNodes.{RustNodes}
-use Rattle.rust_v0.specs.RustNodes.{Prints, AddsOne}
+use Rattle.rust_v0.proofs.Basics.{◌≢◌, Result, Ok, Err, IfErr, refl, arith, Refusal, Memory, grows-same, RustNodes, Prints, AddsOne}
 use Rattle.rust_v0.proofs.Meanings.{goes_on_same}
 
--- nothing is printed
+-- printing nothing leaves the nodes and the text list as they are
 pub prints-none : (w : RustNodes) → Prints w w
 prints-none w = record {
   nodes = refl;
@@ -18,7 +13,7 @@ prints-none w = record {
   text_room = omega arith;
 }
 
--- nothing is added, for another reason than memory
+-- a call that adds no node, and isn't refused for want of memory, adds at most one node
 pub adds-none : {X : Type 0} (w : RustNodes) (r : Result X Refusal) → IfErr r (λ e. e ≢ Memory) → AddsOne w w r
 adds-none w (Ok x) never = record {
   grows = goes_on_same w w refl refl;

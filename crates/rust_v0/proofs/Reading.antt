@@ -1,12 +1,6 @@
 -- The parts of a rule that have no row change nothing in the reading of Rust symbols.
-use Rattle.std.proofs.Common.{◌≡◌, refl, arith, append-nil, ℕ, ◌+◌, List, Ok}
-use Rattle.sym_shape.specs.Tree.{Forest, branch, empty, token, fixed, nothing, grown, row_count_all}
-use Rattle.sym_link.specs.Reading.{Open}
+use Rattle.rust_v0.proofs.Basics.{◌≡◌, refl, arith, append-nil, ℕ, ◌+◌, List, Ok, Forest, branch, empty, token, fixed, nothing, grown, row_count_all, Open, next_of, Value, State, production_of, v0, meaning_of, at_rule, bound_behind, is_minus}
 use Rattle.sym_link.specs.Machine.{ended}
-use Rattle.sym_link.specs.Linking.{next_of}
-use Rattle.rust_grammar.specs.Value.{Value, State}
-use Rattle.rust_grammar.specs.Productions.{production_of}
-use Rattle.rust_grammar.specs.Unfold.{v0, meaning_of, at_rule, bound_behind, is_minus}
 
 pub v0_ended : (s : List ℕ) (rule : Open State ℕ) (known : List Value) (from : ℕ) (left : Forest) (state : State) → row_count_all left ≡ 0
     → ended (v0 s) rule known from left state ≡ meaning_of (production_of rule.rule.number) (at_rule s rule state) known

@@ -1,13 +1,5 @@
--- A reference denotes what it names, which ends once more where the reference begins.
-use Rattle.std.proofs.Common.{◌≡◌, ap, ℕ, ◌<◌, List, ◌∷◌, length, Some, arith}
-use Rattle.std.specs.Prelude.{slice_set}
-use Rattle.std.proofs.lemmas.List.{length-set}
-use Rattle.rust_tree.specs.Nodes.{trees}
-use Rattle.rust_references.specs.declared.targets.Target.{Target}
-use Rattle.rust_references.specs.Targets.{IsNoted}
-use Rattle.rust_v0.specs.declared.nodes.RustNodes.{RustNodes}
-use Rattle.rust_grammar.specs.Value.{Value, Ended}
-use Rattle.rust_v0.specs.RustNodes.{Keeps}
+-- A reference denotes what it names, and counts as ended at its own place.
+use Rattle.rust_v0.proofs.Basics.{◌≡◌, ap, ℕ, ◌<◌, List, ◌∷◌, length, Some, arith, slice_set, length-set, trees, Target, IsNoted, RustNodes, Value, Ended, Keeps}
 use Rattle.rust_v0.proofs.Noted.{noted_added}
 
 pub referred_keeps : (s : List ℕ) (old new : RustNodes) (ended : List Ended) (place : ℕ) (ending : Target) (v : Value) → place < length old.targets.items → Keeps s old ended

@@ -1,21 +1,14 @@
 -- The definitions, computed on symbols.
-use Rattle.std.specs.Prelude.{◌≡◌, ℕ, ◌-◌, Option, Some, None, Bool, true, false, ◌&&◌, nat_eq, [], ◌∷◌, codes, Result, Ok, Err, List}
+use Rattle.rust_v0.proofs.Basics.{◌≡◌, ℕ, ◌-◌, Option, Some, None, Bool, true, false, ◌&&◌, nat_eq, [], ◌∷◌, codes, Result, Ok, Err, List, refl, digits, Refusal, BadReference, BadValue, TooLong, hyphenated, need, no_such_parts}
 use Prim.Native.String.{String}
-use Rattle.std.proofs.Common.{refl}
-use Rattle.std.specs.Fmt.{digits}
-use Rattle.sym_core.specs.declared.refusal.Refusal.{Refusal}
-use Rattle.sym_core.specs.declared.refusal.Refusal.TheVariants.{BadReference, BadValue, TooLong}
 use Rattle.sym_shape.specs.Tree.{Tree}
 use Rattle.sym_print.specs.declared.detail.Detail.{Detail}
 use Rattle.rust_tree.specs.Shown.{basic_text, numbered_lifetime, lifetime_text, character_text, constant_parts, lifetime_parts, namespace_text, names_from, path_parts, bound_parts, symbol_parts}
-use Rattle.sym_core.specs.Printed.{hyphenated}
 use Rattle.idna.specs.Punycode.{decode, insert_all, read_integer, digit_value, adapt, scale}
 use Rattle.unicode_ident.specs.Ident.{is_xid_continue}
 use Rattle.ucd_table.specs.Rows.{in_ranges}
 use Rattle.ucd_derived.specs.XidContinueRanges.{xid_continue_ranges}
 use lib.Utf8.{encode}
-use Rattle.rust_tree.specs.Need.{need}
-use Rattle.rust_grammar.specs.Unfold.{no_such_parts}
 use Rattle.rust_grammar.specs.Mangled.{answer_of_shape}
 use Rattle.rust_v0.proofs.Shapes.{shape_of}
 
@@ -33,10 +26,10 @@ record Row : Type 0 where
   pub detail : Detail
   pub symbol : List ℕ
   pub wanted : Result (List ℕ) Refusal
-  -- of a text
+  -- the cost of the text
   pub cost : ℕ
 
--- the symbol has this text, at this cost and not below it
+-- the symbol has this text at a limit of this cost, and at no lower limit
 abbrev prints : String → List ℕ → ℕ → Row
 prints symbol text cost = record { detail = Detail.Full; symbol = codes symbol; wanted = Ok text; cost = cost }
 
@@ -68,7 +61,7 @@ same_answer (Ok text) (Ok other) = same_bytes text other
 same_answer (Err refusal) (Err other) = same_refusal refusal other
 same_answer _ _ = false
 
--- a text is the answer at its cost and not below it, a refusal whatever may be spent
+-- a text is the answer at a limit of its cost and at no lower limit; a refusal is the answer at a large limit
 unfoldable is_right : (detail : Detail) → (symbol : List ℕ) → (cost : ℕ) → Result (List ℕ) Refusal → Bool
 is_right detail symbol cost (Ok text) = same_answer (answer detail cost symbol) (Ok text) && same_answer (answer detail (cost - 1) symbol) (Err TooLong)
 is_right detail symbol cost (Err refusal) = same_answer (answer detail 1000000 symbol) (Err refusal)

@@ -1,31 +1,16 @@
--- What a rule makes of its parts is what the rule means.
-use Rattle.std.proofs.Common.{◌≡◌, ◌≤◌, ◌<◌, inl, inr, refl, arith, sym, ℕ, ◌+◌, List, Bool, true, false, Option, Some, None, Ok, Err}
-use Rattle.std.specs.Prelude.{Result, slice_get, nat_le, nat_lt, if◌then◌else◌, ◌^◌}
-use Rattle.std.proofs.lemmas.Bool.{lt-leb, le-leb, ltb-true, ltb-false, le-ltb}
+-- What a rule makes of its parts denotes the meaning of the rule's production.
+use Rattle.rust_v0.proofs.Basics.{◌≡◌, ◌≤◌, ◌<◌, inl, inr, refl, arith, sym, ℕ, ◌+◌, List, Bool, true, false, Option, Some, None, Ok, Err, Result, slice_get, nat_le, nat_lt, if◌then◌else◌, ◌^◌, lt-leb, le-leb, ltb-true, ltb-false, le-ltb, Span, BadReference, BadValue, Refusal, ◌>>=◌, AreAll, Tree, of_path, of_arguments, of_type, of_types, of_bounds, of_bindings, of_constant, of_symbol, Part, Made, Node, Constant, Value, a_disambiguator, an_identifier, a_name, an_abi, a_binder, a_lifetime, Ground, IsPart, Agree, IsNumber, IsSomeInteger, IsSuffix, IsOther, ground, HasLists, MadeGives}
 use Rattle.std.proofs.Math.Bool.{and-false}
-use Rattle.sym_core.specs.declared.Span.{Span}
-use Rattle.sym_core.specs.declared.refusal.Refusal.TheVariants.{BadReference, BadValue}
-use Rattle.sym_core.specs.declared.refusal.Refusal.{Refusal}
-use Rattle.sym_link.specs.Reading.{◌>>=◌}
-use Rattle.sym_link.specs.Driving.{AreAll}
 use Rattle.rust_tree.specs.Symbol as tree
-use Rattle.rust_tree.specs.Tree.{Tree, of_path, of_arguments, of_type, of_types, of_bounds, of_bindings, of_constant, of_symbol}
 use Rattle.rust_tree.specs.Nodes.{Table, IsType, type_in, tree_of, path_of, arguments_of, type_of, types_of, bounds_of, bindings_of, constant_of, symbol_of, IsWithin, bytes_at, HasOther, other_of}
 use Rattle.rust_grammar.specs.declared.production.Production.TheVariants as rules
-use Rattle.rust_v0.specs.declared.part.Part.{Part}
-use Rattle.rust_v0.specs.Made.{Made}
-use Rattle.rust_tree.specs.declared.node.Node.{Node}
-use Rattle.rust_tree.specs.declared.node.Constant.{Constant}
 use Rattle.rust_v0.specs.declared.part.Integer.{Integer}
 use Rattle.rust_grammar.specs.Value as value
-use Rattle.rust_grammar.specs.Value.{Value, a_disambiguator, an_identifier, a_name, an_abi, a_binder, a_lifetime}
 use Rattle.rust_grammar.specs.Unfold.{At, Meaning, meaning, Part as Next, greatest_u64, greatest_u128, disambiguator_of, bounded, plain, lifetime_of, integer_of, byte_at, is_scalar, character_of, ends_constant}
-use Rattle.rust_v0.specs.PartValues.{Ground, IsPart, Agree, IsNumber, IsSomeInteger, IsSuffix, IsOther}
-use Rattle.rust_v0.specs.Made.{ground, HasLists, MadeGives}
 use Rattle.rust_v0.specs.CodeSemantics as semantics
 use Rattle.rust_v0.proofs.OperandLemmas.{letter_agrees, name_agrees, identifier_agrees, path_agrees, type_node_agrees, constant_agrees, lifetime_agrees, truth_agrees, abi_value_agrees, types_agrees, number_agrees, integer_agrees, disambiguator_agrees, binder_agrees, some_lifetime_agrees, unsafe_mark_agrees, minus_agrees, abi_agrees, arguments_agrees, bounds_agrees, bindings_agrees, suffix_agrees, other_path_agrees}
 
--- readings that agree, and continue in the same way, agree
+-- readings that agree still agree with what follows them, if that agrees
 lift : {X A : Type 0} (g : Ground) (s : List ℕ) (table : Table) (at : At) (R : X → A → Type 0) (r : Result (X × List Part) Refusal) (read : Next A) → Agree g R r read
     → (k : X × List Part → Result Made Refusal) (m : A × List Value → Meaning)
     → ((found : X × List Part) (a : A) (values : List Value) → R found.0 a → AreAll (IsPart g) found.1 values → MadeGives s table at (k found) (m (a, values)))
@@ -302,7 +287,7 @@ counted_agrees at (Some m) n (same, below) = rw same (at_most (nat_lt n greatest
     at_most true less = rw (le-leb (n + 1) greatest_u64 (omega (arith, ltb-true n greatest_u64 less))) refl
     at_most false more = rw (lt-leb (n + 1) greatest_u64 (omega (arith, ltb-false n greatest_u64 more))) refl
 
--- a count that agrees, and what is made of it
+-- the count that a number gives, and what follows the count, agree with the reading, if the number and what follows do
 lift_count : (s : List ℕ) (table : Table) (at : At) (found : Option ℕ) (n : ℕ) → IsNumber found n
     → (k : ℕ → Result Made Refusal) (m : ℕ → Meaning) → ((count : ℕ) → MadeGives s table at (k count) (m count))
     → MadeGives s table at (semantics.counted at.place found >>= k) (disambiguator_of at n >>= m)

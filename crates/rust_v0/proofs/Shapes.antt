@@ -1,15 +1,7 @@
 -- A reader of shapes for computing examples: its depth is bounded by its fuel.
-use Rattle.std.specs.Prelude.{ℕ, zero, suc, ◌+◌, ◌-◌, ◌*◌, List, [], ◌∷◌, ◌++◌, length, take, drop, Bool, true, false, ◌&&◌, ◌||◌, ◌==◌, nat_le, Option, Some, None}
-use Rattle.sym_core.specs.declared.NumberKind.{NumberKind}
-use Rattle.sym_core.specs.declared.NumberKind.TheVariants.{Base62, Hex}
-use Rattle.sym_core.specs.Number.{is_decimal_digit, is_upper_letter, is_lower_letter}
-use Rattle.sym_shape.specs.declared.rule.Rule.{Rule}
-use Rattle.sym_shape.specs.declared.rule.Sym.{Sym}
-use Rattle.sym_shape.specs.declared.rule.Sym.TheVariants.{Kind, Name, Number, Byte}
-use Rattle.sym_shape.specs.Table.{symbols_of}
+use Rattle.rust_v0.proofs.Basics.{ℕ, zero, suc, ◌+◌, ◌-◌, ◌*◌, List, [], ◌∷◌, ◌++◌, length, take, drop, Bool, true, false, ◌&&◌, ◌||◌, ◌==◌, nat_le, Option, Some, None, NumberKind, Base62, Hex, is_decimal_digit, is_upper_letter, is_lower_letter, Rule, Sym, Kind, Name, Number, Byte, symbols_of, v0_table}
 use Rattle.sym_shape.specs.Tree.{Tree, Forest}
 use Rattle.sym_shape.specs.Tree as shape
-use Rattle.rust_grammar.specs.Rules.{v0_table}
 
 abbrev pub Read : Type 0 → Type 0
 Read A = Option (A × List ℕ)
@@ -45,7 +37,7 @@ abbrev pub decimal_value : ℕ → List ℕ → ℕ
 decimal_value high [] = high
 decimal_value high (d ∷ ds) = decimal_value (10 * high + (d - 48)) ds
 
--- a length of its own, or a single `0`
+-- the digits of a length, or a single `0`, and the rest
 abbrev pub length_at : List ℕ → List ℕ × List ℕ
 length_at [] = ([], [])
 length_at (b ∷ bs) = elim (b == 48) [ true ↦ (b ∷ [], bs) | false ↦ longest is_decimal_digit (b ∷ bs) ]
@@ -54,7 +46,7 @@ abbrev pub name_of : Bool → List ℕ → ℕ → List ℕ → Read Tree
 name_of true before count rest = Some (shape.token (record { before = before; own = take count rest; behind = [] }), drop count rest)
 name_of false before count rest = None
 
--- a separator before the name's own bytes
+-- a name after its length: a separator, if there is one, and its own bytes
 abbrev pub separated : List ℕ → ℕ → List ℕ → Read Tree
 separated before count [] = name_of (nat_le count 0) before count []
 separated before count (b ∷ bs) =

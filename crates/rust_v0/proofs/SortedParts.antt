@@ -1,17 +1,7 @@
 -- What a production makes of parts of the sorts that it requires: a value of its own sort, or a refusal for a bad token.
-use Rattle.std.proofs.Common.{◌≡◌, refl, ℕ, ◌+◌, List, [], ◌∷◌, Bool, true, false, Option, Some, None, Ok, Err}
-use Rattle.std.specs.Prelude.{Result, ⊤, nat_le, if◌then◌else◌}
-use Rattle.std.proofs.lemmas.Bool.{false≢true}
-use Rattle.sym_core.specs.declared.refusal.Refusal.{Refusal}
-use Rattle.sym_core.specs.declared.refusal.Refusal.TheVariants.{BadReference, BadValue}
-use Rattle.sym_link.specs.Reading.{◌>>=◌}
-use Rattle.sym_demangle.specs.Mangled.{IsBadToken}
+use Rattle.rust_v0.proofs.Basics.{◌≡◌, refl, ℕ, ◌+◌, List, [], ◌∷◌, Bool, true, false, Option, Some, None, Ok, Err, Result, ⊤, nat_le, if◌then◌else◌, false≢true, Refusal, BadReference, BadValue, ◌>>=◌, IsBadToken, need, need_of_type, Production, Value, Integer, number, an_integer, letter, a_name, an_identifier, a_disambiguator, a_binder, a_lifetime, unsafe_mark, an_abi, a_truth, minus_mark, a_path, a_type, a_constant, some_arguments, some_types, some_bounds, some_bindings, a_suffix, At, Meaning, meaning, number_part, integer_part, letter_part, name_part, identifier_part, path_part, type_part, constant_part, lifetime_part, truth_part, abi_value_part, types_part, disambiguator_part, binder_part, some_lifetime_part, unsafe_part, minus_part, abi_part, arguments_part, bounds_part, bindings_part, suffix_part, other_path_part, refers_to_path, refers_to_type, refers_to_constant, lifetime_of, bounded, greatest_u64, greatest_u128, integer_of, character_of, is_scalar, plain, ends_path, ends_type, ends_constant, as_path, as_type, as_constant, referred}
 use Rattle.rust_tree.specs.Symbol as tree
-use Rattle.rust_tree.specs.Need.{need, need_of_type}
-use Rattle.rust_grammar.specs.declared.production.Production.{Production}
 use Rattle.rust_grammar.specs.declared.production.Production.TheVariants as rules
-use Rattle.rust_grammar.specs.Value.{Value, Integer, number, an_integer, letter, a_name, an_identifier, a_disambiguator, a_binder, a_lifetime, unsafe_mark, an_abi, a_truth, minus_mark, a_path, a_type, a_constant, some_arguments, some_types, some_bounds, some_bindings, a_suffix}
-use Rattle.rust_grammar.specs.Unfold.{At, Meaning, meaning, number_part, integer_part, letter_part, name_part, identifier_part, path_part, type_part, constant_part, lifetime_part, truth_part, abi_value_part, types_part, disambiguator_part, binder_part, some_lifetime_part, unsafe_part, minus_part, abi_part, arguments_part, bounds_part, bindings_part, suffix_part, other_path_part, refers_to_path, refers_to_type, refers_to_constant, lifetime_of, bounded, greatest_u64, greatest_u128, integer_of, character_of, is_scalar, plain, ends_path, ends_type, ends_constant, as_path, as_type, as_constant, referred}
 use Rattle.rust_v0.proofs.Sorts as sorts
 use Rattle.rust_v0.proofs.Sorts.{Sort, Slot, sort_of, sorts_of, fills, slots_of, made_by}
 
@@ -29,7 +19,7 @@ gives_then P Q (Err e) f is each = is
 pub record Fill (slots : List Slot) (parts : List Value) : Type 0 where
   pub is : fills slots (sorts_of parts) ≡ true
 
--- a value of the sort
+-- a meaning that is a value of the sort, or a refusal for a bad token
 abbrev pub Makes : Sort → Meaning → Type 0
 Makes made m = Gives (λ f. sort_of f.value ≡ made) m
 

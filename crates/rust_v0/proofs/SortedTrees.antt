@@ -1,26 +1,9 @@
 -- The values of the trees of each kind have the sorts of the kind, and so a well shaped symbol is refused only for a bad token.
-use Rattle.std.proofs.Common.{◌≡◌, refl, sym, ap, ◌∙◌, subst, ℕ, ◌+◌, List, [], ◌∷◌, ◌++◌, length, Bool, true, false, Option, Some, Ok, Err}
-use Rattle.std.specs.Prelude.{Result, IfErr}
-use Rattle.std.specs.List.{list_all}
-use Rattle.std.proofs.lemmas.List.{map-append}
-use Rattle.std.proofs.lemmas.Bool.{false≢true}
-use Rattle.sym_core.specs.declared.refusal.Refusal.{Refusal}
-use Rattle.sym_shape.specs.declared.rule.Rule.{Rule}
-use Rattle.sym_shape.specs.declared.rule.Sym.{Sym}
-use Rattle.sym_shape.specs.declared.rule.Sym.TheVariants.{Kind, Name, Number, Byte}
-use Rattle.sym_shape.specs.Table.{symbols_of}
+use Rattle.rust_v0.proofs.Basics.{◌≡◌, refl, sym, ap, ◌∙◌, subst, ℕ, ◌+◌, List, [], ◌∷◌, ◌++◌, length, Bool, true, false, Option, Some, Ok, Err, Result, IfErr, list_all, map-append, false≢true, Refusal, Rule, Sym, Kind, Name, Number, Byte, symbols_of, Found, Open, ◌>>=◌, alone, standing, unfold_tree, unfold_forest, Production, production_of, v0_table, Value, State, a_symbol, meaning_of, token_of, at_rule, at_first, v0, symbol_of, unfolded, is_minus, bound_behind, IsBadToken}
 use Rattle.sym_shape.specs.Tree.{Tree, Forest, branch, empty, token, fixed, nothing, grown, spell, TakesRule, IsTree, AreTrees}
-use Rattle.sym_link.specs.Reading.{Found, Open, ◌>>=◌}
-use Rattle.sym_link.specs.Unfold.{alone, standing, unfold_tree, unfold_forest}
-use Rattle.rust_grammar.specs.declared.production.Production.{Production}
 use Rattle.rust_grammar.specs.declared.production.Production.TheVariants as rules
-use Rattle.rust_grammar.specs.Productions.{production_of}
-use Rattle.rust_grammar.specs.Rules.{v0_table}
-use Rattle.rust_grammar.specs.Value.{Value, State, a_symbol}
-use Rattle.rust_grammar.specs.Unfold.{meaning_of, token_of, at_rule, at_first, v0, symbol_of, unfolded, is_minus, bound_behind}
 use Rattle.rust_v0.proofs.Sorts as sorts
 use Rattle.rust_v0.proofs.Sorts.{Sort, is_same, sort_of, sorts_of, slots_of, made_by, token_sort, always_fills, IsSorted, is_sorted, IsOption, lone_option, empty_option, full_option}
-use Rattle.sym_demangle.specs.Mangled.{IsBadToken}
 use Rattle.rust_v0.proofs.SortedParts.{Gives, gives_then, Fill, Makes, made}
 
 -- ## The parts of a tree
@@ -29,11 +12,11 @@ token_sorted : (production : Production) (minus : Bool) (own : List ℕ) → sor
 token_sorted rules.PlainName minus own = refl
 token_sorted _ minus own = refl
 
--- the values of the tree are an option
+-- the sorts of a tree's values are among the options of its symbol
 abbrev HasOption : Production → Sym → Result (Found (List Value) State) Refusal → Type 0
 HasOption production x m = Gives (λ f. IsOption (sorts_of f.value) production x) m
 
--- a rule of the kind closes over parts that fill its slots
+-- a rule whose parts fill its slots makes a value of its production's sort, or is refused for a bad token
 closed : (s : List ℕ) (kind : ℕ) (rule : Open State ℕ) (is : IsSorted kind rule.rule) (inner : Found (List Value) State) → Fill (slots_of is.production) inner.value
     → Gives (λ f. sorts_of f.value ≡ made_by is.production ∷ []) (meaning_of (production_of rule.rule.number) (at_rule s rule inner.state) inner.value >>= alone)
 closed s kind rule is inner fill =
@@ -42,7 +25,7 @@ closed s kind rule is inner fill =
     (subst (λ (o : Option Production). Makes (made_by is.production) (meaning_of o (at_rule s rule inner.state) inner.value)) (sym is.is) (made is.production (at_rule s rule inner.state) inner.value fill))
     (λ f one. ap (λ v. v ∷ []) one)
 
--- the same, by how its parts are read
+-- likewise for a rule whose parts are read first
 rule_closed : (s : List ℕ) (kind : ℕ) (rule : Open State ℕ) (is : IsSorted kind rule.rule) (parts : Result (Found (List Value) State) Refusal)
     → Gives (λ f. Fill (slots_of is.production) f.value) parts
     → Gives (λ f. sorts_of f.value ≡ made_by is.production ∷ []) (parts >>= λ inner. meaning_of (production_of rule.rule.number) (at_rule s rule inner.state) inner.value >>= alone)
@@ -66,7 +49,7 @@ token_has_option : (production : Production) (state : State) (own : List ℕ) �
 token_has_option production state own inside test pass =
     subst (λ s. test (s ∷ []) ≡ true) (sym (ap (λ o. sort_of (token_of o state.minus own)) inside ∙ token_sorted production state.minus own)) (lone_option (token_sort production ∷ []) test pass)
 
--- the parts with one more of them known
+-- with one more part known, the parts still always fill the slots
 grown_fill : (production : Production) (x : Sym) (xs : List Sym) (known values : List Value) → always_fills production (sorts_of known) (x ∷ xs) ≡ true → IsOption (sorts_of values) production x
     → always_fills production (sorts_of (known ++ values)) xs ≡ true
 grown_fill production x xs known values fits option =
@@ -104,7 +87,7 @@ module _ (s : List ℕ) where
 
 -- ## A whole symbol
 
--- one value, which is a symbol
+-- there is one sort, and it is that of a symbol
 abbrev is_whole : List Sort → Bool
 is_whole (s ∷ []) = is_same s sorts.symbol
 is_whole _ = false
@@ -115,7 +98,7 @@ whole_symbol [] is = absurd (false≢true is)
 whole_symbol (v ∷ w ∷ more) is = absurd (false≢true is)
 whole_symbol (v ∷ []) is = absurd (false≢true is)
 
--- the rule of a whole symbol
+-- the rule of a whole symbol is refused only for a bad token
 whole_rule : (s : List ℕ) (rule : Rule) (taken : List ℕ) (parts : Forest) → TakesRule v0_table 0 rule taken → AreTrees v0_table (symbols_of rule) parts
     → IfErr (unfold_tree (v0 s) 0 0 (branch rule taken parts) at_first >>= λ whole. symbol_of whole.value) IsBadToken
 whole_rule s rule taken parts takes are =

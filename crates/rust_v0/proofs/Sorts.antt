@@ -1,19 +1,7 @@
 -- The sorts of each rule's parts, which are those that its production requires.
-use Rattle.std.proofs.Common.{◌≡◌, refl, sym, ap, ◌∙◌, subst, ℕ, zero, suc, List, [], ◌∷◌, ◌++◌, map, get_or, Bool, true, false, ◌&&◌, ◌||◌, eqb, inl, inr, Option, Some, None}
-use Rattle.std.specs.Prelude.{if◌then◌else◌}
-use Rattle.std.specs.List.{list_all}
-use Rattle.std.proofs.lemmas.Bool.{false≢true, and_parts, or_cases, eqb-true}
-use Rattle.sym_shape.specs.declared.rule.Rule.{Rule}
-use Rattle.sym_shape.specs.declared.rule.Sym.{Sym}
-use Rattle.sym_shape.specs.declared.rule.Sym.TheVariants.{Kind, Name, Number, Byte}
-use Rattle.sym_shape.specs.Sheet.{KindSheet, choice_at}
-use Rattle.sym_shape.specs.Table.{symbols_of}
-use Rattle.rust_grammar.specs.declared.production.Production.{Production}
+use Rattle.rust_v0.proofs.Basics.{◌≡◌, refl, sym, ap, ◌∙◌, subst, ℕ, zero, suc, List, [], ◌∷◌, ◌++◌, map, get_or, Bool, true, false, ◌&&◌, ◌||◌, eqb, inl, inr, Option, Some, None, if◌then◌else◌, list_all, false≢true, and_parts, or_cases, eqb-true, Rule, Sym, Kind, Name, Number, Byte, KindSheet, choice_at, symbols_of, Production, production_of, v0_table, kinds, no_kind, Value}
 use Rattle.rust_grammar.specs.declared.production.Production.TheVariants as rules
-use Rattle.rust_grammar.specs.Productions.{production_of}
-use Rattle.rust_grammar.specs.Rules.{v0_table, kinds, no_kind}
 use Rattle.rust_grammar.specs.Value as value
-use Rattle.rust_grammar.specs.Value.{Value}
 use Rattle.rust_v0.proofs.Entering.{all_pass, chosen_passes}
 
 -- ## Sorts
@@ -134,7 +122,7 @@ fills (one_of wanted ∷ slots) (s ∷ sorts) = is_among s wanted && fills slots
 fills (maybe wanted ∷ slots) [] = fills slots []
 fills (maybe wanted ∷ slots) (s ∷ sorts) = if is_same s wanted then fills slots sorts else fills slots (s ∷ sorts)
 
--- a type or a path, a name with a disambiguator or without one, and an ABI or its name
+-- slots: for a type or a path; for a name with or without a disambiguator; for an ABI or its name
 abbrev pub a_type : Slot
 a_type = one_of (path ∷ type ∷ [])
 
@@ -235,7 +223,7 @@ made_by rules.TraitDefinition = path
 made_by rules.Symbol = symbol
 made_by rules.BoundsEnd = bounds
 
--- the sort of a token among its parts
+-- the sort of a token that is a part of the production
 abbrev pub token_sort : Production → Sort
 token_sort rules.PlainName = name
 token_sort rules.PunycodeName = name
@@ -256,12 +244,12 @@ kind_sorts =
 abbrev pub sorts_of_kind : ℕ → List Sort
 sorts_of_kind kind = get_or kind_sorts kind []
 
--- each of these sorts, as the one sort of a part
+-- each of these sorts alone, as the sorts of a part's values
 abbrev singles : List Sort → List (List Sort)
 singles [] = []
 singles (s ∷ ss) = (s ∷ []) ∷ singles ss
 
--- the same, where the part may be missing
+-- likewise for a part that may be missing
 abbrev or_nothing : Bool → List (List Sort) → List (List Sort)
 or_nothing true all = [] ∷ all
 or_nothing false all = all
@@ -273,7 +261,7 @@ options production Name = (token_sort production ∷ []) ∷ []
 options production (Number kind) = (token_sort production ∷ []) ∷ []
 options production (Byte byte) = [] ∷ []
 
--- whatever the parts after these are, all together fill the slots
+-- these parts fill the slots, together with whatever parts follow
 abbrev pub always_fills : Production → List Sort → List Sym → Bool
 always_fills production known [] = fills (slots_of production) known
 always_fills production known (x ∷ xs) = list_all (λ more. always_fills production (known ++ more) xs) (options production x)
@@ -324,7 +312,7 @@ is_sorted kind byte rule found = sorted_by kind rule (production_of rule.number)
 
 -- ## Facts of all options
 
--- a fact of all options holds of this one
+-- the sorts are one of the options: they pass each test that all options pass
 abbrev pub IsOption : List Sort → Production → Sym → Type 0
 IsOption sorts production x = (test : List Sort → Bool) → list_all test (options production x) ≡ true → test sorts ≡ true
 
@@ -342,7 +330,7 @@ single_passes s (t ∷ ts) test among pass = elim (or_cases (is_same s t) (is_am
   | inr later ↦ single_passes s ts test later (and_parts _ _ pass).1
 ]
 
--- the options without the empty one
+-- a test that all options pass is passed by the options without the empty one
 full_passes : (b : Bool) (all : List (List Sort)) (test : List Sort → Bool) → list_all test (or_nothing b all) ≡ true → list_all test all ≡ true
 full_passes true all test pass = (and_parts _ _ pass).1
 full_passes false all test pass = pass

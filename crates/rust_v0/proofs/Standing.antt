@@ -1,41 +1,18 @@
--- What a linker has done is what the symbol's shape denotes.
-use Rattle.std.proofs.Common.{◌≡◌, refl, sym, ap, ◌∙◌, subst, inl, inr, ℕ, ◌+◌, ◌*◌, ◌≤◌, List, [], ◌∷◌, length, Option, Some, None, Ok, Err, arith, cond}
-use Rattle.std.specs.Prelude.{Result, codes}
+-- The nodes of a finished linker denote what the symbol's shape denotes.
+use Rattle.rust_v0.proofs.Basics.{◌≡◌, refl, sym, ap, ◌∙◌, subst, inl, inr, ℕ, ◌+◌, ◌*◌, ◌≤◌, List, [], ◌∷◌, length, Option, Some, None, Ok, Err, arith, cond, Result, codes, cases_Bool, FitsSymbol, Refusal, Rule, Kind, Byte, Choice, choice_at, classes_of, in_ranges, Found, ◌>>=◌, found, alone, standing, unfold_tree, unfold_forest, closing_makes, done_untallied, done_counts, IsSymbol, IsTable, trees, symbol_in, RustNodes, Part, Production, production_of, v0_table, takes, each, Value, State, At, Meaning, v0, at_first, at_rule, meaning, symbol_of, unfolded, path_part, other_path_part, suffix_part, Ground, IsPart, v0_view, made_by, nodes_of_shape, v0_counted}
 use Rattle.std.specs.Result.{IfOk}
-use Rattle.std.proofs.lemmas.Bool.{cases_Bool}
-use Rattle.sym_core.specs.Number.{FitsSymbol}
-use Rattle.sym_core.specs.declared.refusal.Refusal.{Refusal}
 use Rattle.sym_shape.specs.declared.rule.Row.{Row}
-use Rattle.sym_shape.specs.declared.rule.Rule.{Rule}
-use Rattle.sym_shape.specs.declared.rule.Sym.TheVariants.{Kind, Byte}
-use Rattle.sym_shape.specs.declared.sheet.Choice.{Choice}
-use Rattle.sym_shape.specs.Sheet.{choice_at, classes_of, in_ranges}
 use Rattle.sym_shape.specs.Tree.{Tree, Forest, branch, spell, IsTree}
-use Rattle.sym_link.specs.Reading.{Found, ◌>>=◌}
-use Rattle.sym_link.specs.Unfold.{found, alone, standing, unfold_tree, unfold_forest}
 use Rattle.sym_link.specs.Following.{IsShape, IsDone, meaning_of}
-use Rattle.sym_link.specs.Tally.{closing_makes}
 use Rattle.sym_link.proofs.Starting.{root_of}
-use Rattle.sym_link.proofs.Tally.{done_untallied, done_counts}
 use Rattle.rust_tree.specs.Symbol as tree
 use Rattle.rust_tree.specs.Counts.{IsRead}
 use Rattle.rust_tree.specs.Layout.{ReadSymbol}
-use Rattle.rust_tree.specs.Nodes.{IsSymbol, IsTable, trees, symbol_in}
-use Rattle.rust_v0.specs.declared.nodes.RustNodes.{RustNodes}
-use Rattle.rust_v0.specs.declared.part.Part.{Part}
-use Rattle.rust_grammar.specs.declared.production.Production.{Production}
 use Rattle.rust_grammar.specs.declared.production.Production.TheVariants as rules
 use Rattle.rust_grammar.specs.declared.kind.TheConstants.{PATH, OTHER_PATH, SUFFIX}
-use Rattle.rust_grammar.specs.Productions.{production_of}
-use Rattle.rust_grammar.specs.Rules.{v0_table, takes, each}
 use Rattle.rust_grammar.specs.Value as value
-use Rattle.rust_grammar.specs.Value.{Value, State}
 use Rattle.rust_grammar.specs.Unfold as defined
-use Rattle.rust_grammar.specs.Unfold.{At, Meaning, v0, at_first, at_rule, meaning, symbol_of, unfolded, path_part, other_path_part, suffix_part}
-use Rattle.rust_v0.specs.PartValues.{Ground, IsPart}
 use Rattle.rust_v0.specs.Whole.{whole_of}
-use Rattle.rust_v0.specs.RustNodes.{v0_view}
-use Rattle.rust_v0.specs.NodeCount.{made_by, nodes_of_shape, v0_counted}
 
 -- ## The root's rule makes a symbol
 
@@ -80,7 +57,7 @@ opened_whole : (r : Result (Found (List Value) State) Refusal) (at : Found (List
 opened_whole (Ok f) at v state same = closed_whole (meaning rules.Symbol (at f) f.value) v state (symbol_whole (at f) f.value) same
 opened_whole (Err e) at v state same = absurd (let no_ok : Err e ≡ Ok (found (v ∷ []) state) = same in cc)
 
--- what a symbol's tree means is a symbol
+-- a symbol's tree means a symbol
 whole_is : (s : List ℕ) (shape : Tree) (v : Value) (state : State) → IsTree v0_table (Kind 0) shape → meaning_of (v0_view s) shape ≡ Ok (found (v ∷ []) state) → IsWhole v
 whole_is s shape v state is means =
     let root = root_of v0_table shape is refl in
@@ -101,7 +78,7 @@ symbol_part : (g : Ground) (part : Part) (y : tree.Symbol) → IsPart g part (va
 symbol_part g (Part.Symbol node) y is = (node, refl, is)
 symbol_part g part y is = absurd is
 
--- the meaning of the whole, as that of its symbol
+-- the meaning of the whole is the meaning of its symbol
 unfolded_is : (s : List ℕ) (shape : Tree) → spell shape ≡ s → unfolded shape ≡ (meaning_of (v0_view s) shape >>= λ whole. symbol_of whole.value)
 unfolded_is s shape spelled = ap (λ u. unfold_tree (v0 u) 0 0 shape at_first >>= λ whole. symbol_of whole.value) spelled
 
@@ -136,7 +113,7 @@ pub has_whole : (s : List ℕ) (rows : List Row) (shape : Tree) (linked : RustNo
     → IsDone (v0_counted s) s rows (meaning_of (v0_counted s) shape) linked parts → HasWhole s shape linked parts
 has_whole s rows shape linked parts is done = has_plain s rows shape linked parts is (done_untallied (v0_view s) (closing_makes made_by) s rows shape linked parts done)
 
--- its nodes are those of its shape
+-- a finished linker has as many nodes as its shape makes
 pub counted_nodes : (s : List ℕ) (rows : List Row) (shape : Tree) (linked : RustNodes) (parts : List Part)
     → IsDone (v0_counted s) s rows (meaning_of (v0_counted s) shape) linked parts → length linked.nodes.nodes ≡ nodes_of_shape shape
 counted_nodes s rows shape linked parts done = omega (arith, done_counts (v0_view s) made_by s rows shape linked parts done, done.paid.begun)

@@ -1,33 +1,11 @@
 -- Which tokens the rules of the table take, and what these are as parts.
-use Rattle.std.proofs.Common.{◌≡◌, refl, ap, sym, ◌∙◌, ℕ, ◌+◌, ◌≤◌, suc, List, [], ◌∷◌, length, length-append, Bool, true, false, ◌&&◌, Option, Some, None, Result, arith, subst}
-use Rattle.std.proofs.lemmas.Bool.{false≢true, and_parts}
-use Rattle.sym_core.specs.Number.{AreDigitsOf}
+use Rattle.rust_v0.proofs.Basics.{◌≡◌, refl, ap, sym, ◌∙◌, ℕ, ◌+◌, ◌≤◌, suc, List, [], ◌∷◌, length, length-append, Bool, true, false, ◌&&◌, Option, Some, None, Result, arith, subst, false≢true, and_parts, AreDigitsOf, NumberKind, Span, Refusal, Grows, Table as TableOf, within-grown, bytes-grown, AreAll, Fails, skipped, skipped_from, Stands, joined, values_in, Open, Rule, Sym, Token, symbols_of, Forest, nothing, grown, empty, fixed, token, branch, spell_all, AreTrees, IsTree, Part, Production, production_of, v0_table, kinds, sort_of, value_as, IsOwn, HasZero, minus_before, token_of, is_minus, Value, State, Ground, IsPart}
 use Rattle.sym_core.specs.Token.{AreNameBytes}
 use Rattle.sym_core.specs.declared.NameClass.TheVariants as names
-use Rattle.sym_core.specs.declared.NumberKind.{NumberKind}
-use Rattle.sym_core.specs.declared.Span.{Span}
-use Rattle.sym_core.specs.declared.refusal.Refusal.{Refusal}
 use Rattle.sym_core.specs.declared.refusal.Refusal.TheVariants as refusals
-use Rattle.rust_tree.specs.Nodes.{Grows, Table as TableOf}
-use Rattle.rust_tree.proofs.Trees.{within-grown, bytes-grown}
-use Rattle.sym_link.specs.Driving.{AreAll, Fails}
-use Rattle.sym_link.specs.Parts.{skipped, skipped_from, Stands, joined, values_in}
-use Rattle.sym_link.specs.Reading.{Open}
-use Rattle.sym_shape.specs.declared.rule.Rule.{Rule}
-use Rattle.sym_shape.specs.declared.rule.Sym.{Sym}
-use Rattle.sym_shape.specs.Table.{Token, symbols_of}
-use Rattle.sym_shape.specs.Tree.{Forest, nothing, grown, empty, fixed, token, branch, spell_all, AreTrees, IsTree}
-use Rattle.rust_v0.specs.declared.part.Part.{Part}
-use Rattle.rust_grammar.specs.declared.production.Production.{Production}
 use Rattle.rust_grammar.specs.declared.production.Production.TheVariants as rules
 use Rattle.rust_v0.specs.declared.tokens.TokenSort.{TokenSort}
-use Rattle.rust_grammar.specs.Productions.{production_of}
-use Rattle.rust_grammar.specs.Rules.{v0_table, kinds}
-use Rattle.rust_v0.specs.Tokens.{sort_of, value_as, IsOwn, HasZero, minus_before}
-use Rattle.rust_grammar.specs.Unfold.{token_of, is_minus}
 use Rattle.rust_grammar.specs.Value as value
-use Rattle.rust_grammar.specs.Value.{Value, State}
-use Rattle.rust_v0.specs.PartValues.{Ground, IsPart}
 use Rattle.rust_v0.proofs.Entering.{rule_passes, all_pass, all_kinds_pass}
 
 -- ## Tests of a rule's symbols
@@ -208,7 +186,7 @@ minus_is g (p ∷ []) (value.minus_mark ∷ []) are = absurd are.0
 minus_is g (p ∷ []) (v ∷ []) are = refl
 minus_is g (p ∷ q ∷ ps) (v ∷ w ∷ vs) are = two_parts p q ps ∙ sym (two_values v w vs)
 
--- what the code takes a token for is what the reading does
+-- the code takes a token for what the reading takes it for
 pub own_in_code : (g : Ground) (o : Option Production) (sort : TokenSort) (slice ps : List Part) (known : List Value) (bytes own : List ℕ) (code_place place at : ℕ)
     → slice ≡ ps → sort ≡ sort_of o → bytes ≡ own → code_place ≡ place → AreAll (IsPart g) ps known → IsOwn (sort_of o) own (length known) place at
     → IsOwn sort bytes (length slice) code_place at

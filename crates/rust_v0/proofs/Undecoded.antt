@@ -1,10 +1,7 @@
--- How long the text is of a name in Punycode that isn't decoded.
-use Rattle.std.proofs.Common.{◌≡◌, refl, ℕ, ◌+◌, ◌<◌, ◌⊎◌, inl, inr, List, [], ◌∷◌, ◌++◌, length, length-append, Bool, true, false, arith}
-use Rattle.std.specs.Prelude.{nat_le, codes}
-use Rattle.std.proofs.lemmas.Bool.{leb-true}
-use Rattle.sym_core.specs.Printed.{printed_name, IsDecoded}
+-- The length of the text of a Punycode name that isn't decoded.
+use Rattle.rust_v0.proofs.Basics.{◌≡◌, refl, ℕ, ◌+◌, ◌<◌, ◌⊎◌, inl, inr, List, [], ◌∷◌, ◌++◌, length, length-append, Bool, true, false, arith, nat_le, codes, leb-true, printed_name, IsDecoded}
 
--- a name with one more byte is decoded, or longer than those that are
+-- a name that isn't empty is to be decoded, or its text is ten bytes longer than the name
 undecoded_by : (b : ℕ) (rest : List ℕ) (room held : ℕ) (short : Bool) → nat_le (length (b ∷ rest)) 2000 ≡ short → room < held + length (printed_name true (b ∷ rest))
     → IsDecoded true (b ∷ rest) ⊎ (room < held + length (b ∷ rest) + 10)
 undecoded_by b rest room held true is lacks = inl (refl, omega arith, leb-true (length (b ∷ rest)) 2000 is)

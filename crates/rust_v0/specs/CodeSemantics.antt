@@ -1,5 +1,5 @@
--- Not a definition: what `semantics.rt` computes of the parts of a rule, said again so that contracts can name it. What a
--- production means is `Unfold.meaning`; `proofs/SemanticsLemmas` has that the two agree.
+-- Not a definition: what `semantics.rt` computes from the parts of a rule, repeated so that contracts can name it. What a
+-- production means is `Unfold.meaning`; `proofs/SemanticsLemmas` proves that the two agree.
 use Rattle.std.specs.Prelude.{◌≡◌, ℕ, ◌+◌, length, slice_index, List, true, false, nat_le, nat_lt, if◌then◌else◌, Option, Some, None, Result, Ok, Err}
 use Rattle.sym_core.specs.declared.refusal.Refusal.{Refusal}
 use Rattle.sym_core.specs.declared.refusal.Refusal.TheVariants.{BadReference, BadValue}
@@ -207,7 +207,7 @@ symbol parts = do
   behind ← operands.suffix other.1
   Ok (Made.Node (Node.Symbol (record { path = shown.0; instantiating = other.0; suffix = span_of behind.0 })))
 
--- one more, in 64 bits
+-- one more than a number, if 64 bits hold it
 abbrev pub counted : (place : ℕ) → Option ℕ → Result ℕ Refusal
 counted place None = Err (BadValue place)
 counted place (Some n) = if nat_lt n greatest_u64 then Ok (n + 1) else Err (BadValue place)
@@ -356,7 +356,7 @@ abbrev pub as_part : Result Added Refusal → Result Part Refusal
 as_part (Ok added) = Ok (part_of added)
 as_part (Err e) = Err e
 
--- the rule of this number has made this node of its parts, or is refused, wherever it is
+-- the rule with this number, wherever the rule is, has made this node of its parts, or is refused
 pub record IsMadeBy (result : Result Node Refusal) (number : ℕ) (own : List Part) : Type 0 where
   pub production : Production
   pub is : production_of number ≡ Some production

@@ -16,7 +16,7 @@ pub data Made : Type 0 where
   Part : part.Part → Made
   Node : node.Node → Made
 
--- what parts refer to, by a table
+-- what parts refer to: the symbol, and the text list and the trees of a table
 abbrev pub ground : List ℕ → Table → Ground
 ground s table = record { symbol = s; text = table.text; all = trees s table.nodes }
 
@@ -26,7 +26,7 @@ pub record HasLists (ground : Ground) : Type 0 where
   pub bounds : IsBounds ground.all EMPTY_BOUNDS tree.no_bounds
   pub bindings : IsBindings ground.all EMPTY_BINDINGS tree.no_bindings
 
--- A tree has been made: a path, a type or a constant has ended.
+-- A tree has been made. If it is a path, a type or a constant, it has ended.
 abbrev pub ends_tree : At → Tree → Meaning
 ends_tree at (of_path path) = ends_path at path
 ends_tree at (of_type type) = ends_type at type
@@ -37,7 +37,7 @@ ends_tree at (of_bounds bounds) = plain at (value.some_bounds bounds)
 ends_tree at (of_bindings bindings) = plain at (value.some_bindings bindings)
 ends_tree at (of_symbol symbol) = plain at (value.a_symbol symbol)
 
--- what was made is the meaning
+-- what was made denotes what the rule means
 abbrev pub MadeGives : List ℕ → Table → At → Result Made Refusal → Meaning → Type 0
 MadeGives s table at (Ok (Made.Part part)) read = (value : Value) × (read ≡ plain at value) × IsPart (ground s table) part value
 MadeGives s table at (Ok (Made.Node node)) read = (t : Tree) × (read ≡ ends_tree at t) × Makes s table node t

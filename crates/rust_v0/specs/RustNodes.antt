@@ -51,7 +51,7 @@ pub record Prints (old new : RustNodes) : Type 0 where
   pub node_room : new.nodes.node_room ≡ old.nodes.node_room
   pub text_room : old.nodes.text_room ≤ new.nodes.text_room
 
--- A node may have been added, and nothing else. Where memory was refused for it, the list of nodes had no room for one
+-- At most one node was added, and nothing else. If memory was refused for the node, the list of nodes had no room for one
 -- more.
 pub record AddsOne {X : Type 0} (old new : RustNodes) (result : Result X Refusal) : Type 0 where
   pub grows : GoesOn old new
@@ -61,7 +61,7 @@ pub record AddsOne {X : Type 0} (old new : RustNodes) (result : Result X Refusal
   pub node_room : old.nodes.node_room ≤ new.nodes.node_room
   pub text_room : new.nodes.text_room ≡ old.nodes.text_room
 
--- the text list is paid for by this many bytes, and begins with the decimal of zero
+-- this many bytes pay for the text list, which begins with the decimal of zero
 pub record IsPaid (linked : RustNodes) (bytes : ℕ) : Type 0 where
   pub begun : first_nodes ≤ length linked.nodes.nodes
   pub text : length linked.nodes.text ≤ 4 * bytes + 20
@@ -93,7 +93,7 @@ v0_view s = record {
   TakesMemory = λ number own. (production_of number ≡ Some rules.PunycodeName) × IsDecoded true own;
 }
 
--- a reference of a production to what has ended
+-- what a reference's production means, from what the reference names
 abbrev pub refers_by : Production → At → Option Value → Meaning
 refers_by rules.PathReference at known = refers_to_path at (as_path known)
 refers_by rules.TypeReference at known = refers_to_type at (as_type known)

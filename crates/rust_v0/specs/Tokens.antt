@@ -31,7 +31,7 @@ value_as TokenSort.UnsignedInteger minus own = an_integer_of false (value16 own)
 value_as TokenSort.CharacterCode minus own = number (value16 own)
 value_as TokenSort.CountedNumber minus own = number (value62 own)
 
--- These are the own bytes of a token of the sort. A name in Punycode is the only part of a rule at a place, after its `u`
+-- These are the own bytes of a token of the sort. A name in Punycode is the only part of its rule, and follows the rule's `u`
 -- and at least one digit.
 abbrev pub IsOwn : TokenSort → List ℕ → (parts place from : ℕ) → Type 0
 IsOwn TokenSort.PlainName own parts place from = Unit {0}

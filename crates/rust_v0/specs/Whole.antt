@@ -26,7 +26,7 @@ pub v0_fails : (shape : Tree) (e : Refusal) → IsTree v0_table (Kind 0) shape �
 v0_fails shape e is fails =
     fails_behind e (meaning_of (v0_view (spell shape)) shape) (λ whole. symbol_of whole.value) (fails_untallied (v0_view (spell shape)) (closing_makes made_by) shape e fails)
 
--- the nodes of a table, and those that it has before the first row
+-- how many nodes a table has, with those that it has before the first row
 abbrev pub node_count : RustNodes → ℕ
 node_count linked = length linked.nodes.nodes
 

@@ -32,16 +32,18 @@ const FUNCTION: u16 = Production::Function as u16;
 /// The number of the rule of a `dyn` type.
 const DYN: u16 = Production::Dyn as u16;
 
-/// Whether a rule may begin with a binder. This is tested at each rule that opens, and by the rule's number takes two
-/// comparisons, where a match on the production takes twice as many instructions.
+/// Whether a rule may begin with a binder. This is tested at each rule that opens. By the rule's
+/// number it takes two comparisons; a match on the production would take twice as many
+/// instructions.
 fn may_bind(rule: u16) -> bool
     ensures { OnFalse result ((bound : ℕ) (parts : List Part) → operands.bound_behind (production_of rule) bound parts ≡ bound) }
 {
     rule == FUNCTION || rule == DYN
 }
 
-/// How many lifetimes are bound around the next part of a frame's rule, given the rule's parts, those from the frame's base on:
-/// a binder of a function's type holds for all after it, one of a `dyn` type only for its bounds.
+/// How many lifetimes are bound around the next part of a frame's rule, given the parts from the
+/// frame's base on: a binder of a function's type holds for all parts after it, a binder of a `dyn`
+/// type only for its bounds.
 #[inline(always)]
 fn bound_behind(frame: Frame<BoundLifetimes>, parts: &[Part]) -> u64
     requires { frame.base ≤ length parts.now }
@@ -166,8 +168,9 @@ impl RustNodes {
         self.take_as(symbol, sort_of(frame.rule), frame, parts, row)
     }
 
-    /// Takes a token in the rule of a frame by a call. A frame and a row of their own for it let the others stay in registers.
-    /// The copies are made in this function, since one in `token` would be cleared at each token, called or not.
+    /// Takes a token in the rule of a frame by a call. The call gets its own copies of the frame
+    /// and the row, so that the originals stay in registers. The copies are made in this function,
+    /// since in `token` they would be cleared at each token, called or not.
     #[inline(always)]
     fn take_rare(
         &mut self,
@@ -192,7 +195,7 @@ impl RustNodes {
         self.take_any(symbol, Frame { ..frame }, parts, Row { ..row })
     }
 
-    /// Closes the rule of a frame, whose production makes a part of its parts and no node.
+    /// Closes the rule of a frame. Its production makes a part of the rule's parts, and no node.
     #[inline(always)]
     fn close_part(
         &mut self,
@@ -219,7 +222,7 @@ impl RustNodes {
         put(parts, frame.base, part)
     }
 
-    /// Closes the rule of a frame, which has made a node of its parts.
+    /// Closes the rule of a frame, with the node that was made of the rule's parts.
     #[inline(always)]
     fn close_node(
         &mut self,
@@ -281,8 +284,8 @@ impl RustNodes {
         put(parts, frame.base, part_of(added))
     }
 
-    /// Closes the rule of a frame by a call. A frame of its own for it lets the others stay in registers. The copy is made in
-    /// this function, as in `take_rare`.
+    /// Closes the rule of a frame by a call. The call gets its own copy of the frame, so that the
+    /// original stays in registers. The copy is made in this function, as in `take_rare`.
     #[inline(always)]
     fn close_rare(
         &mut self,
@@ -337,9 +340,10 @@ impl RustNodes {
         }
     }
 
-    /// Closes the rule of a frame. The five commonest productions close in the driver's loop, others by a call. Both look the
-    /// production up by the rule's number: one comparison, where passing the production takes a register of the loop, and 2.4 %
-    /// more instructions over real symbols.
+    /// Closes the rule of a frame. The five commonest productions close in the driver's loop,
+    /// others by a call. Both look the production up by the rule's number, which takes one
+    /// comparison. Passing the production would take a register of the loop, and 2.4 % more
+    /// instructions over real symbols.
     #[inline(always)]
     fn close_rule(
         &mut self,
@@ -359,7 +363,7 @@ impl RustNodes {
         ensures full { NeedsRoom (v0_view symbol.now) self.old self.new parts.old parts.new result }
     {
         match numbered(frame.rule) {
-            // the name is what the rule means: it stays
+            // the rule means this name, which stays as its part
             Some(Production::PlainName) if is_name(&parts[frame.base..]) => Ok(()),
             Some(Production::Namespace) => {
                 self.close_part(symbol, Production::Namespace, frame, parts)

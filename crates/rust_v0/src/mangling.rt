@@ -3,7 +3,6 @@
 ghost use Rattle.std.specs.Prelude.{◌≡◌, ℕ, ◌∷◌, [], length, OnOk, IfErr, Ok, true};
 ghost use Rattle.sym_core.specs.Number.{FitsSymbol};
 ghost use Rattle.sym_core.specs.declared.refusal.Refusal.TheVariants as refusals;
-ghost use Rattle.sym_print.specs.declared.detail.Detail.TheVariants as details;
 ghost use Rattle.sym_print.specs.declared.layout.Part.TheVariants as parts;
 ghost use Rattle.sym_shape.specs.Tree.{Tree};
 ghost use Rattle.sym_demangle.specs.Standing.{Begins, IsLinked};
@@ -19,7 +18,7 @@ ghost use Rattle.rust_grammar.specs.Unfold.{unfolded};
 use crate::grammar::V0;
 use crate::nodes::RustNodes;
 use crate::part::Part;
-use rust_short_way::{Writer, write};
+use rust_short_way::{Writer, write, write_brief};
 use rust_tree::{Context, Detail, Nodes, Symbol};
 use std::alloc::Global;
 use std::mem;
@@ -127,11 +126,16 @@ impl Mangling for V0 {
     }
 
     #[inline(always)]
-    fn write(direct: &mut Writer, symbol: &[u8], limit: u32) -> bool
+    fn write(direct: &mut Writer, symbol: &[u8], limit: u32, detail: Detail) -> bool
         requires { FitsSymbol symbol.now }
-        ensures { result ≡ true → IsAnswer details.Full symbol.now limit (Ok direct.new.lists.text.list.items) }
+        ensures { result ≡ true → IsAnswer detail symbol.now limit (Ok direct.new.lists.text.list.items) }
     {
-        write(direct, symbol, limit)
+        match detail {
+            Detail::Full => write(direct, symbol, limit),
+            Detail::Brief => write_brief(direct, symbol, limit),
+            // a symbol has no parameters, and is the same without them
+            _ => false,
+        }
     }
 
     #[inline(always)]

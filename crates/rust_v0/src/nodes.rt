@@ -52,7 +52,7 @@ pub struct RustNodes {
 /// The targets of places at which nothing has ended, added at once.
 const NO_TARGETS: [Target; 64] = [Target::Nothing; 64];
 
-/// Makes places for targets up to this one.
+/// Adds places for targets, up to this place.
 pub fn reach(targets: &mut Vec<Target>, place: usize) -> Result<(), Refusal>
     requires { place < 2 ^ 32 }
     ensures more { (k : ℕ) × (targets.new.items ≡ targets.old.items ++ replicate k target.Nothing) }
@@ -91,7 +91,7 @@ fn note(targets: &mut Vec<Target>, place: u32, target: Target)
     }
 }
 
-/// A node as a part, and how it has ended if references may name it.
+/// A node as a part, and as a target where references may name it.
 fn placed(node: Node, number: u32) -> (Added, Option<Target>)
     ensures { result ≡ semantics.placed node number }
 {
@@ -158,8 +158,9 @@ impl RustNodes {
     }
 
     /// Adds a node that began at a place.
-    // It is stored as it is made, in 56 bytes with its need. In 32, with large numbers and decoded names in a list beside the
-    // nodes, it is taken apart here, and real symbols take a tenth to a quarter more instructions.
+    // The node is stored as it is made, in 56 bytes with its need. In 32 bytes, with large numbers
+    // and decoded names in a list of their own, it would be taken apart here, and real symbols
+    // would take a tenth to a quarter more instructions.
     #[inline(always)]
     fn add(&mut self, place: u32, node: Node) -> Result<Added, Refusal>
         requires room { length self.old.nodes.nodes + 1 < 2 ^ 32 }
@@ -176,7 +177,7 @@ impl RustNodes {
         Ok(added)
     }
 
-    /// A path's reference.
+    /// What a path's reference denotes.
     fn refer_to_path(&mut self, place: u32, bound: u64, found: Target) -> Result<Part, Refusal>
         ensures gives { (at : At) (known : Option Value) → at.place ≡ place → at.bound ≡ bound → place < length self.old.targets.items → Keeps at.symbol self.old at.ended
             → IsNoted (trees at.symbol self.old.nodes.nodes) found known → Gives (v0_view at.symbol) self.new result (refers_to_path at (as_path known)) }
@@ -189,7 +190,7 @@ impl RustNodes {
         Ok(Part::Path(node))
     }
 
-    /// A type's reference, which may name a path.
+    /// What a type's reference denotes, which may be a path.
     fn refer_to_type(&mut self, place: u32, bound: u64, found: Target) -> Result<Part, Refusal>
         ensures gives { (at : At) (known : Option Value) → at.place ≡ place → at.bound ≡ bound → place < length self.old.targets.items → Keeps at.symbol self.old at.ended
             → IsNoted (trees at.symbol self.old.nodes.nodes) found known → Gives (v0_view at.symbol) self.new result (refers_to_type at (as_type known)) }
@@ -202,7 +203,7 @@ impl RustNodes {
         Ok(Part::Type(node))
     }
 
-    /// A constant's reference.
+    /// What a constant's reference denotes.
     fn refer_to_constant(&mut self, place: u32, found: Target) -> Result<Part, Refusal>
         ensures gives { (at : At) (known : Option Value) → at.place ≡ place → place < length self.old.targets.items → Keeps at.symbol self.old at.ended
             → IsNoted (trees at.symbol self.old.nodes.nodes) found known → Gives (v0_view at.symbol) self.new result (refers_to_constant at (as_constant known)) }
@@ -215,7 +216,7 @@ impl RustNodes {
         Ok(Part::Constant(node))
     }
 
-    /// A reference at a place to what has ended.
+    /// What a reference at a place means, from what it names.
     fn refer_as(
         &mut self,
         production: Production,

@@ -171,7 +171,7 @@ pub fn integer(parts: &[Part]) -> Result<(Option<Integer>, &[Part]), Refusal>
     }
 }
 
-/// The disambiguator at the front, if there is one, and the parts after it.
+/// The disambiguator at the front, if the parts begin with any, and the parts after it.
 pub fn disambiguator(parts: &[Part]) -> Result<(u64, &[Part]), Refusal>
     ensures is { MatchResult result (λ r. operands.disambiguator parts.now ≡ Ok (r.0, r.1.now)) (λ e. operands.disambiguator parts.now ≡ Err e) }
     ensures never { IfErr result (λ e. e ≢ refusals.Memory) }
@@ -182,7 +182,7 @@ pub fn disambiguator(parts: &[Part]) -> Result<(u64, &[Part]), Refusal>
     }
 }
 
-/// The binder at the front, if there is one, and the parts after it.
+/// The binder at the front, if the parts begin with any, and the parts after it.
 pub fn binder(parts: &[Part]) -> Result<(u16, &[Part]), Refusal>
     ensures is { MatchResult result (λ r. operands.binder parts.now ≡ Ok (r.0, r.1.now)) (λ e. operands.binder parts.now ≡ Err e) }
     ensures never { IfErr result (λ e. e ≢ refusals.Memory) }
@@ -193,7 +193,7 @@ pub fn binder(parts: &[Part]) -> Result<(u16, &[Part]), Refusal>
     }
 }
 
-/// The lifetime at the front, if there is one, and the parts after it.
+/// The lifetime at the front, if the parts begin with any, and the parts after it.
 pub fn some_lifetime(parts: &[Part]) -> Result<(u64, &[Part]), Refusal>
     ensures is { MatchResult result (λ r. operands.some_lifetime parts.now ≡ Ok (r.0, r.1.now)) (λ e. operands.some_lifetime parts.now ≡ Err e) }
     ensures never { IfErr result (λ e. e ≢ refusals.Memory) }
@@ -204,7 +204,7 @@ pub fn some_lifetime(parts: &[Part]) -> Result<(u64, &[Part]), Refusal>
     }
 }
 
-/// Whether the mark of an unsafe function is at the front, if there is one, and the parts after it.
+/// Whether the mark of an unsafe function is at the front, and the parts after it.
 pub fn unsafe_mark(parts: &[Part]) -> Result<(bool, &[Part]), Refusal>
     ensures is { MatchResult result (λ r. operands.unsafe parts.now ≡ Ok (r.0, r.1.now)) (λ e. operands.unsafe parts.now ≡ Err e) }
     ensures never { IfErr result (λ e. e ≢ refusals.Memory) }
@@ -215,7 +215,7 @@ pub fn unsafe_mark(parts: &[Part]) -> Result<(bool, &[Part]), Refusal>
     }
 }
 
-/// Whether a minus is at the front, if there is one, and the parts after it.
+/// Whether a minus is at the front, and the parts after it.
 pub fn minus(parts: &[Part]) -> Result<(bool, &[Part]), Refusal>
     ensures is { MatchResult result (λ r. operands.minus parts.now ≡ Ok (r.0, r.1.now)) (λ e. operands.minus parts.now ≡ Err e) }
     ensures never { IfErr result (λ e. e ≢ refusals.Memory) }
@@ -226,7 +226,7 @@ pub fn minus(parts: &[Part]) -> Result<(bool, &[Part]), Refusal>
     }
 }
 
-/// The ABI at the front, if there is one, and the parts after it.
+/// The ABI at the front, if the parts begin with any, and the parts after it.
 pub fn abi(parts: &[Part]) -> Result<(Abi, &[Part]), Refusal>
     ensures is { MatchResult result (λ r. operands.abi parts.now ≡ Ok (r.0, r.1.now)) (λ e. operands.abi parts.now ≡ Err e) }
     ensures never { IfErr result (λ e. e ≢ refusals.Memory) }
@@ -237,7 +237,7 @@ pub fn abi(parts: &[Part]) -> Result<(Abi, &[Part]), Refusal>
     }
 }
 
-/// The arguments at the front, if there is one, and the parts after it.
+/// The arguments at the front, if the parts begin with any, and the parts after it.
 pub fn arguments(parts: &[Part]) -> Result<(u32, &[Part]), Refusal>
     ensures is { MatchResult result (λ r. operands.arguments parts.now ≡ Ok (r.0, r.1.now)) (λ e. operands.arguments parts.now ≡ Err e) }
     ensures never { IfErr result (λ e. e ≢ refusals.Memory) }
@@ -248,7 +248,7 @@ pub fn arguments(parts: &[Part]) -> Result<(u32, &[Part]), Refusal>
     }
 }
 
-/// The bindings at the front, if there is one, and the parts after it.
+/// The bindings at the front, if the parts begin with any, and the parts after it.
 pub fn bindings(parts: &[Part]) -> Result<(u32, &[Part]), Refusal>
     ensures is { MatchResult result (λ r. operands.bindings parts.now ≡ Ok (r.0, r.1.now)) (λ e. operands.bindings parts.now ≡ Err e) }
     ensures never { IfErr result (λ e. e ≢ refusals.Memory) }
@@ -259,7 +259,7 @@ pub fn bindings(parts: &[Part]) -> Result<(u32, &[Part]), Refusal>
     }
 }
 
-/// The suffix at the front, if there is one, and the parts after it.
+/// The suffix at the front, if the parts begin with any, and the parts after it.
 pub fn suffix(parts: &[Part]) -> Result<(Option<Span>, &[Part]), Refusal>
     ensures is { MatchResult result (λ r. operands.suffix parts.now ≡ Ok (r.0, r.1.now)) (λ e. operands.suffix parts.now ≡ Err e) }
     ensures never { IfErr result (λ e. e ≢ refusals.Memory) }
@@ -270,7 +270,7 @@ pub fn suffix(parts: &[Part]) -> Result<(Option<Span>, &[Part]), Refusal>
     }
 }
 
-/// The path at the front, if there is one, and the parts after it.
+/// The path at the front, if the parts begin with any, and the parts after it.
 pub fn other_path(parts: &[Part]) -> Result<(Option<u32>, &[Part]), Refusal>
     ensures is { MatchResult result (λ r. operands.other_path parts.now ≡ Ok (r.0, r.1.now)) (λ e. operands.other_path parts.now ≡ Err e) }
     ensures never { IfErr result (λ e. e ≢ refusals.Memory) }

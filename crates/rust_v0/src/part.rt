@@ -14,7 +14,7 @@ pub struct Integer {
     pub printed: Span,
 }
 
-/// What a part of a symbol denotes. Paths, types, constants and lists are their nodes.
+/// What a part of a symbol denotes. Paths, types, constants and lists are given by their nodes.
 #[derive(Clone, Copy)]
 pub enum Part {
     /// A number, or none where it is beyond 64 bits.
@@ -43,7 +43,7 @@ pub enum Part {
     Symbol(u32),
 }
 
-/// A part that denotes a node which was just added: small enough to be passed in registers, as `Part` isn't.
+/// A part that denotes a node which was just added. Unlike `Part`, it is small enough to be passed in registers.
 #[derive(Clone, Copy)]
 pub enum Added {
     Path(u32),
@@ -72,5 +72,5 @@ pub fn part_of(added: Added) -> Part
     }
 }
 
-/// No well shaped symbol has such parts.
+/// The refusal of parts that no well shaped symbol has.
 pub const NO_SUCH_PARTS: Refusal = Refusal::Malformed { at: 0 };

@@ -325,7 +325,7 @@ pub fn symbol(parts: &[Part]) -> Result<Node, Refusal>
     }))
 }
 
-/// One more than a number, where 64 bits hold that.
+/// One more than a number, if 64 bits hold the sum.
 fn counted(place: u32, number: Option<u64>) -> Result<u64, Refusal>
     ensures is { result ≡ semantics.counted place number }
     ensures never { IfErr result (λ e. e ≢ refusals.Memory) }
@@ -393,7 +393,7 @@ pub fn binder(place: u32, parts: &[Part]) -> Result<Part, Refusal>
     }
 }
 
-/// `<lifetime> = "L" <base-62-number>`: erased, or one of those that are bound.
+/// `<lifetime> = "L" <base-62-number>`: erased, or one of the bound lifetimes.
 pub fn lifetime(place: u32, bound: u64, parts: &[Part]) -> Result<Part, Refusal>
     ensures is { of_part result ≡ semantics.lifetime place bound parts.now }
     ensures never { IfErr result (λ e. e ≢ refusals.Memory) }
@@ -505,7 +505,7 @@ pub fn makes_part(production: Production) -> bool
     )
 }
 
-/// What a rule makes of its parts where it makes no node.
+/// The part that a rule makes of its parts, for a production that makes no node.
 #[inline(always)]
 pub fn part_by(production: Production, at: Site, parts: &[Part]) -> Result<Part, Refusal>
     ensures is { (s : List ℕ) → makes_part production ≡ true → at.byte ≡ slice_index s at.place → at.end ≡ length s

@@ -54,7 +54,8 @@ pub fn sort_of(rule: u16) -> TokenSort
 /// The most digits of a number in base 62.
 const MOST_DIGITS: usize = 11;
 
-/// A number in base 62, none past 64 bits. It stays a call: where it is in `Workspace::link`, that loop takes more instructions.
+/// A number in base 62, none past 64 bits. It stays a call: inlined, it makes the loop of
+/// `Workspace::link` take more instructions.
 #[inline(never)]
 fn counted_number(digits: &[u8]) -> Option<u64>
     ensures { AreDigitsOf Base62 digits.now → IsNumber result (value_of_base62 digits.now) }
@@ -101,7 +102,7 @@ fn is_negative(minus: bool, magnitude: u128) -> bool
     minus && magnitude > 0
 }
 
-/// The digits after the zeros in front.
+/// How many zeros are in front of the other digits.
 fn without_zeros(digits: &[u8]) -> usize
     ensures within { result ≤ length digits.now }
     ensures value { value_of_hex (drop result digits.now) ≡ value_of_hex digits.now }

@@ -1,15 +1,12 @@
 -- The places where `std::` may begin, as bits.
-use Rattle.std.proofs.Common.{◌≡◌, ◌<◌, ◌≤◌, ◌+◌, ◌-◌, ◌/◌, ◌%◌, ◌^◌, ℕ, true, false, cond, List, length, drop, get_or, map, sym, ap, ap₂, ◌∙◌, subst, arith, codes, shr-shr, lt_of_not-le, get_or-drop, w64}
+use Rattle.short_names.proofs.Basics.{◌≡◌, ◌<◌, ◌≤◌, ◌+◌, ◌-◌, ◌/◌, ◌%◌, ◌^◌, ℕ, true, false, cond, List, length, drop, get_or, map, sym, ap, ap₂, ◌∙◌, subst, arith, codes, shr-shr, lt_of_not-le, get_or-drop, w64, get_or-zip2, get_or-chunk, length-chunk, length-zip2, bit_mask_l, mask_l-mod, mask_l-lt, get_or-map, length-map, begins_std}
 use Rattle.std.specs.Int.{bit_at, trailing_zeros}
 use Rattle.std.proofs.lemmas.Nat.Bits.{bit_at-trailing_zeros, bit_at-zero, bit_at_above}
 use Rattle.std.proofs.lemmas.Nat.{shr_le}
-use Rattle.std.proofs.lemmas.Simd.{get_or-zip2, get_or-chunk, length-chunk, length-zip2, bit_mask_l, mask_l-mod, mask_l-lt}
-use Rattle.std.proofs.lemmas.List.{get_or-map, length-map}
 use lib.Lanes.{chunk, zip2, mask_l, top}
-use Rattle.short_names.specs.Runs.{begins_std}
 use Rattle.short_names.proofs.FrontLemmas.{front-byte, false-from}
 
--- a bit of a number, and of what is left after some bits
+-- a bit of a number is a bit of the number shifted right
 pub bit_at-shr : (n s k : ℕ) → s ≤ k → bit_at n k ≡ bit_at (n / 2 ^ s) (k - s)
 bit_at-shr n s k le =
     let on : k ≡ s + (k - s) = omega arith in
@@ -36,7 +33,7 @@ module _ (n s : ℕ) (some : 0 < n / 2 ^ s) (fits : n < 2 ^ 64) where
 
 -- ## Lanes
 
--- the bits of lanes that were computed from the third bytes and the fourth
+-- the bits of lanes, each computed from the third and the fourth byte after a place
 module _ (n : ℕ) (text : List ℕ) (at : ℕ) (room : at + 3 + n ≤ length text) (few : n ≤ 64)
     (h : ℕ → ℕ → ℕ) (f g : ℕ → ℕ) (a b : List ℕ) (thirds : a ≡ map f (chunk (at + 2) n text)) (fourths : b ≡ map g (chunk (at + 3) n text)) where
   long-a : length a ≡ n

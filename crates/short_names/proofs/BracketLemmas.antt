@@ -1,16 +1,7 @@
 -- Steps within brackets: what a sign does there.
-use Rattle.std.proofs.Common.{◌≡◌, ◌≢◌, ◌<◌, ◌≤◌, ◌+◌, ◌-◌, ◌==◌, refl, sym, ap, ◌∙◌, ℕ, arith, Bool, true, false, ◌&&◌, List, [], ◌∷◌, ◌++◌, length, take, drop, get_or, None, append_assoc, append-nil, length-drop, length-append, nat_eq, codes, if◌then◌else◌, ◌⊎◌, inl, inr}
+use Rattle.short_names.proofs.Basics.{◌≡◌, ◌≢◌, ◌<◌, ◌≤◌, ◌+◌, ◌-◌, ◌==◌, refl, sym, ap, ◌∙◌, ℕ, arith, Bool, true, false, ◌&&◌, List, [], ◌∷◌, ◌++◌, length, take, drop, get_or, None, append_assoc, append-nil, length-drop, length-append, nat_eq, codes, if◌then◌else◌, ◌⊎◌, inl, inr, starts_with, Bracket, Writing, named_in, std_name, row_in, text_of, is_name_byte, is_letter, short_rules, Opened, Written, stepped, written_for, at_sign, at_byte, ends_element, keeps, opens, is_list, is_opening, is_closing, IsAt, Goes, IsListed, before_last, all_of, ended}
 use Rattle.std.proofs.lemmas.Bool.{ne_eqb, true≢false}
 use Rattle.std.proofs.lemmas.List.{drop_more, length-take}
-use Rattle.std.specs.List.{starts_with}
-use Rattle.short_names.specs.declared.writing.Bracket.{Bracket}
-use Rattle.short_names.specs.declared.writing.Writing.{Writing}
-use Rattle.short_names.specs.Names.{named_in, std_name, row_in}
-use Rattle.short_names.specs.Texts.{text_of}
-use Rattle.short_names.specs.Runs.{is_name_byte, is_letter}
-use Rattle.short_names.specs.Short.{short_rules}
-use Rattle.short_names.specs.Walk.{Opened, Written, stepped, written_for, at_sign, at_byte, ends_element, keeps, opens, is_list, is_opening, is_closing}
-use Rattle.short_names.specs.Writing.{IsAt, Goes, IsListed, before_last, all_of, ended}
 use Rattle.short_names.proofs.ListLemmas.{ended-push, starts-push}
 use Rattle.short_names.proofs.WalkLemmas.{goes, length-pending}
 use Rattle.short_names.proofs.SignLemmas.{kept, opened, more-bytes, begun, top_of}

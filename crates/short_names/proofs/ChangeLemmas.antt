@@ -1,18 +1,6 @@
 -- What becomes shorter at a run that is a name of std.
 use Rattle.std.proofs.Common.{◌≡◌, ◌<◌, ◌≤◌, ◌+◌, ◌-◌, ℕ, Bool, true, false, List, ◌++◌, ◌&&◌, length, take, drop, get_or, nat_eq, codes, slice_get, is_some, refl, sym, ap, ◌∙◌, subst, arith, Option, None, Some, MatchOption, drop-drop, length-append}
-use Rattle.std.specs.List.{starts_with}
-use Rattle.std.proofs.lemmas.Bool.{and_right}
-use Rattle.std.proofs.lemmas.List.{drop-append-le}
-use Rattle.std.proofs.lemmas.Option.{slice_get-get_or}
-use Rattle.short_names.specs.declared.table.Place.{Place}
-use Rattle.short_names.specs.declared.table.Alias.{Alias}
-use Rattle.short_names.specs.declared.table.Template.{Template}
-use Rattle.short_names.specs.declared.table.TheConstants.{ALIASES, TEMPLATES}
-use Rattle.short_names.specs.Changes.{has_list, IsMemberOf}
-use Rattle.short_names.specs.Names.{std_name, named_in, table_name, with_template, template_in, member_in, is_constructor, last_part}
-use Rattle.short_names.specs.Runs.{run_of}
-use Rattle.short_names.specs.Short.{constructor, for_name, member}
-use Rattle.short_names.specs.Texts.{text_of}
+use Rattle.short_names.proofs.Basics.{starts_with, and_right, drop-append-le, slice_get-get_or, Place, Alias, Template, ALIASES, TEMPLATES, has_list, IsMemberOf, std_name, named_in, table_name, with_template, template_in, member_in, is_constructor, last_part, run_of, constructor, for_name, member, text_of}
 use Rattle.short_names.proofs.FrontLemmas.{front-length}
 use Rattle.short_names.proofs.NameLemmas.{std-end, member-is}
 use Rattle.short_names.proofs.RunLemmas.{run-prefix, run-drop}
@@ -35,7 +23,7 @@ pub row-or-none : (name : List ℕ) (b : Bool) → b ≡ true → (o : Option �
 row-or-none name b is None m = and_right b (is_some (template_in TEMPLATES name)) (ap is_some m)
 row-or-none name b is (Some row) m = (is, m.0, m.1)
 
--- ## The names of the table that one is
+-- ## The name of the table that a run is
 
 module _ (run : List ℕ) (whole : Place) (name : List ℕ) (std : std_name run ≡ Some (record { whole = whole; name = name })) where
   pub named-is : named_in run ≡ with_template whole (template_in TEMPLATES name)
@@ -49,7 +37,7 @@ module _ (run : List ℕ) (whole : Place) (name : List ℕ) (std : std_name run 
   pub list-is : (rest : List ℕ) → (starts_with nat_eq rest (codes "<") && is_some (template_in TEMPLATES name)) ≡ has_list run rest
   list-is rest = ap (λ b. starts_with nat_eq rest (codes "<") && b) (sym (some-template (template_in TEMPLATES name)) ∙ ap is_some (sym named-is))
 
-  -- ## Usual names that it begins with
+  -- ## Usual names with which the run begins
 
   module _ (text : List ℕ) (is_run : run ≡ run_of text) where
     abbrev from : ℕ

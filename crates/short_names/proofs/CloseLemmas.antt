@@ -1,27 +1,12 @@
--- A list of a name of the table that is closed.
-use Rattle.std.proofs.Common.{◌≡◌, ◌≤◌, ◌+◌, ◌-◌, ◌==◌, inl, inr, refl, sym, ap, ◌∙◌, ℕ, arith, Bool, true, false, List, [], ◌∷◌, ◌++◌, length, take, drop, Option, None, Some, is_some, append_assoc, append-nil, length-drop, length-append, length-take-le, nat_eq, codes, if◌then◌else◌}
+-- A closed list after a name of the table.
+use Rattle.short_names.proofs.Basics.{◌≡◌, ◌≤◌, ◌+◌, ◌-◌, ◌==◌, inl, inr, refl, sym, ap, ◌∙◌, ℕ, arith, Bool, true, false, List, [], ◌∷◌, ◌++◌, length, take, drop, Option, None, Some, is_some, append_assoc, append-nil, length-drop, length-append, length-take-le, nat_eq, codes, if◌then◌else◌, drop-drop, drop_all, take_at, drop_at, take-append-le, drop-append-le, take-add, starts_with, Named, Alias, Place, Template, TEMPLATES, WHOLES, PARTS, IsList, IsAnswered, joined, listed, left, left_of, is_polymorphic, alias_in, aliases_of, class_of, front_size, is_constructor, last_part, named_in, std_name, row_in, size_of, behind_part, behind_whole, table_name, template_in, with_template, before_name, behind, constructor, if_read_back, short_list, starts_of, AreElements, text_of, Answer}
 use Rattle.std.proofs.lemmas.Bool.{true≢false, cases_order, eqb-true}
-use Rattle.std.proofs.lemmas.List.{drop-drop, drop_all, take_at, drop_at, take-append-le, drop-append-le}
-use Rattle.std.proofs.Math.Seq.{take-add}
-use Rattle.std.specs.List.{starts_with}
 use lib.Pointwise.{pointwise, bytes_decides}
-use Rattle.short_names.specs.declared.names.Named.{Named}
-use Rattle.short_names.specs.declared.table.Alias.{Alias}
-use Rattle.short_names.specs.declared.table.Place.{Place}
-use Rattle.short_names.specs.declared.table.Template.{Template}
-use Rattle.short_names.specs.declared.table.TheConstants.{TEMPLATES, WHOLES, PARTS}
-use Rattle.short_names.specs.Closing.{IsList, IsAnswered}
-use Rattle.short_names.specs.Elements.{joined, listed, left, left_of, is_polymorphic, alias_in, aliases_of}
-use Rattle.short_names.specs.Names.{class_of, front_size, is_constructor, last_part, named_in, std_name, row_in, size_of, behind_part, behind_whole, table_name, template_in, with_template}
-use Rattle.short_names.specs.Short.{before_name, behind, constructor, if_read_back, short_list}
-use Rattle.short_names.specs.Starts.{starts_of, AreElements}
-use Rattle.short_names.specs.Texts.{text_of}
-use Rattle.short_names.specs.Walk.{Answer}
 use Rattle.short_names.proofs.ElementLemmas.{front-of-joined}
 use Rattle.short_names.proofs.NameLemmas.{colons-from, no-class}
 use Rattle.short_names.proofs.NameSteps.{starts-within}
 
--- ## A name ends with its template's
+-- ## A name of the table ends with its template's name
 
 template-is : (rows : List Template) (name : List ℕ) (template : Template) → template_in rows name ≡ Some template → text_of template.name ≡ name
 unfolding template_in
@@ -199,7 +184,7 @@ module _ {text : List ℕ} {named : Named} {bracket : ℕ} {starts before name :
       let behind_name : List ℕ = 60 ∷ joined (take count elements) in
       omega (arith, place-is, ap length (cut-is count end e), length-append before (name ++ behind_name), length-append name behind_name)
 
-  -- what is written, by the usual name if there is one, or by whether it is in `std::pmr`
+  -- what is written: the usual name if there is one, and otherwise the list, in `std::pmr` or in `std`
   abbrev in_pmr : ℕ → Answer
   in_pmr count = record { bytes = before_name named name ++ codes "pmr::" ++ t ++ listed (take count elements); size = 0 }
 

@@ -1,16 +1,6 @@
 -- Steps within brackets: brackets that are closed.
-use Rattle.std.proofs.Common.{◌≡◌, ◌<◌, ◌≤◌, ◌+◌, ◌-◌, ◌==◌, refl, sym, ap, ◌∙◌, subst, ℕ, arith, Bool, true, false, List, [], ◌∷◌, ◌++◌, length, take, drop, get_or, None, Some, append_assoc, append-nil, length-append, if◌then◌else◌}
+use Rattle.short_names.proofs.Basics.{◌≡◌, ◌<◌, ◌≤◌, ◌+◌, ◌-◌, ◌==◌, refl, sym, ap, ◌∙◌, subst, ℕ, arith, Bool, true, false, List, [], ◌∷◌, ◌++◌, length, take, drop, get_or, None, Some, append_assoc, append-nil, length-append, if◌then◌else◌, same_from_push, take_at, drop_at, Bracket, Listed, Writing, named_in, is_name_byte, is_letter, joined, short_rules, for_list, Answer, Opened, Written, stepped, written_for, at_sign, at_byte, closes_list, closes_group, is_list, is_opening, is_closing, start, IsAt, Goes, Steps, IsListed, IsOpen, IsClosed, AreOpen, IsPending, IsShortened, before_last, all_of, ended}
 use Rattle.std.proofs.lemmas.Bool.{eqb-true}
-use Rattle.std.proofs.lemmas.List.{same_from_push, take_at, drop_at}
-use Rattle.short_names.specs.declared.writing.Bracket.{Bracket}
-use Rattle.short_names.specs.declared.writing.Listed.{Listed}
-use Rattle.short_names.specs.declared.writing.Writing.{Writing}
-use Rattle.short_names.specs.Names.{named_in}
-use Rattle.short_names.specs.Runs.{is_name_byte, is_letter}
-use Rattle.short_names.specs.Elements.{joined}
-use Rattle.short_names.specs.Short.{short_rules, for_list}
-use Rattle.short_names.specs.Walk.{Answer, Opened, Written, stepped, written_for, at_sign, at_byte, closes_list, closes_group, is_list, is_opening, is_closing, start}
-use Rattle.short_names.specs.Writing.{IsAt, Goes, Steps, IsListed, IsOpen, IsClosed, AreOpen, IsPending, IsShortened, before_last, all_of, ended}
 use Rattle.short_names.proofs.WalkLemmas.{goes, stops}
 use Rattle.short_names.proofs.ListLemmas.{joined-push, starts-same}
 use Rattle.short_names.proofs.SignLemmas.{more-bytes, top_of}
@@ -147,7 +137,7 @@ list_stops text now written others bracket is less at_byte brackets_are group =
     (sign_greater written rest p.top p.around p.opened_is
     ∙ ap (λ b. if b then closes_list short_rules p.top p.around written.last rest else None) (sym p.is.kind ∙ group))
 
--- what was written of a list
+-- the text that was written of a list
 list_text : (before name last : List ℕ) (mark : ℕ) (elements : List (List ℕ)) → mark ≡ 60
     → (before ++ name) ++ mark ∷ ended elements ++ last ≡ before ++ name ++ 60 ∷ joined (elements ++ last ∷ [])
 list_text before name last mark elements is_less =
@@ -213,7 +203,7 @@ list_closes text now written after others bracket is less at_byte brackets_are l
     ∙ ap (λ (a : Answer). before ++ a.bytes) (sym none))
     closed.brackets_are closed.starts_are
 
--- a list of a name of the table that ends
+-- the end of a list after a name of the table
 pub list_pending : (text : List ℕ) (now : Writing) (written : Written) (left : Writing) (others : List Bracket) (bracket : Bracket) (listed : Listed)
     → (p : Popped written others bracket now.starts.items) → IsAt text now written → now.at < length text → bracket.is_list ≡ true → bracket.named ≡ Some listed
     → left.at ≡ now.at → left.copied ≡ now.copied → left.out.items ≡ now.out.items → left.starts.items ≡ now.starts.items

@@ -1,21 +1,7 @@
 -- Usual names, or their lists, before a constructor or destructor.
-use Rattle.std.proofs.Common.{◌≡◌, ◌==◌, ◌≤◌, ◌<◌, ◌+◌, ◌-◌, ◌&&◌, ◌||◌, not, refl, sym, ap, ap₂, ◌∙◌, leb-true, ℕ, arith, Bool, true, false, List, [], ◌∷◌, ◌++◌, length, take, drop, get_or, nat_eq, nat_le, codes, get_or-drop, Option, None, Some, is_some, if◌then◌else◌, append_assoc, length-append, length-drop}
-use Rattle.std.proofs.lemmas.Bool.{and_parts, true≢false}
-use Rattle.std.proofs.lemmas.List.{drop-append-le}
-use Rattle.std.specs.List.{list_all, starts_with}
-use Rattle.short_names.specs.declared.table.Alias.{Alias}
-use Rattle.short_names.specs.declared.table.TheConstants.{ALIASES}
-use Rattle.short_names.specs.Elements.{joined, listed, left, left_of, is_polymorphic}
-use Rattle.short_names.specs.Full.{full_to, full_rules, usual, usual_in, instance, pmr_in}
+use Rattle.short_names.proofs.Basics.{◌≡◌, ◌==◌, ◌≤◌, ◌<◌, ◌+◌, ◌-◌, ◌&&◌, ◌||◌, not, refl, sym, ap, ap₂, ◌∙◌, leb-true, ℕ, arith, Bool, true, false, List, [], ◌∷◌, ◌++◌, length, take, drop, get_or, nat_eq, nat_le, codes, get_or-drop, Option, None, Some, is_some, if◌then◌else◌, append_assoc, length-append, length-drop, and_parts, true≢false, drop-append-le, list_all, starts_with, Alias, ALIASES, joined, listed, left, left_of, is_polymorphic, full_to, full_rules, usual, usual_in, instance, pmr_in, named_in, last_part, class_of, front_size, is_constructor, ends_name, member_in, each_written, as_it_is, has_some, each_apart, is_simple_list, short_bytes, is_letter, is_name_byte, short_rules, short_list, if_read_back, is_read_back, member, text_of, IsUsual, IsConstructed, is_listed, front_of, run_with, beyond, are_clear, Answer, written_for}
 use Rattle.short_names.specs.Full as of_full
-use Rattle.short_names.specs.Names.{named_in, last_part, class_of, front_size, is_constructor, ends_name, member_in}
-use Rattle.short_names.specs.Parts.{each_written, as_it_is, has_some, each_apart, is_simple_list, short_bytes}
-use Rattle.short_names.specs.Runs.{is_letter, is_name_byte}
-use Rattle.short_names.specs.Short.{short_rules, short_list, if_read_back, is_read_back, member}
 use Rattle.short_names.specs.Short as of_short
-use Rattle.short_names.specs.Texts.{text_of}
-use Rattle.short_names.specs.Usual.{IsUsual, IsConstructed, is_listed, front_of, run_with, beyond, are_clear}
-use Rattle.short_names.specs.Walk.{Answer, written_for}
 use Rattle.short_names.proofs.FrontLemmas.{begins, false-from, front-is}
 use Rattle.short_names.proofs.PartForms.{and-both}
 use Rattle.short_names.proofs.PartRules.{short-leaves, full-leaves, letter-name, short-obeys}
@@ -26,7 +12,7 @@ use Rattle.short_names.proofs.UsualSteps.{listed-calls, name-parts, list-text, r
 
 -- ## Three bytes and what comes after them
 
--- a text that is long enough begins as it does with more after it
+-- whether a text that is long enough begins with a front doesn't depend on what comes after it
 starts-more : (x rest p : List ℕ) → length p ≤ length x → starts_with nat_eq (x ++ rest) p ≡ starts_with nat_eq x p
 starts-more x rest p long = by (starts_with nat_eq x p) refl
   where
@@ -68,7 +54,7 @@ module _ (rest class : List ℕ) (behind : IsBehind rest) (all : list_all is_nam
   no-letter : is_letter (get_or rest 0 0) ≡ false
   no-letter = false-from (is_letter (get_or rest 0 0)) (λ h. true≢false (sym (letter-name (get_or rest 0 0) h) ∙ behind))
 
-  -- the byte after a name with which a text begins
+  -- whether a letter follows the class's name at the front of a text doesn't depend on the bytes after the text
   same-next : (y : List ℕ) → starts_with nat_eq y class ≡ true → is_letter (get_or (y ++ rest) (length class) 0) ≡ is_letter (get_or y (length class) 0)
   unfolding is_letter
   same-next y is =
@@ -112,7 +98,7 @@ module _ (rest class : List ℕ) (behind : IsBehind rest) (all : list_all is_nam
 
 -- ## Names with a constructor
 
--- what the table has for a name is so whatever comes after three more bytes
+-- the usual names with which a name begins don't depend on what comes after three more bytes
 pub same-clear : (rows : List Alias) (name more rest : List ℕ) → IsBehind rest → are_clear rows name more ≡ true
     → (usual_in rows name ((name ++ more) ++ rest) ≡ usual_in rows name (name ++ more)) × (member_in rows name ((name ++ more) ++ rest) ≡ member_in rows name (name ++ more))
 unfolding are_clear usual_in member_in
@@ -301,7 +287,7 @@ module _ (destructor : Bool) (name list class own : List ℕ) (is : IsUsual name
       (of_full.constructor is.alias (drop size (run ++ (more ++ rest)))) answer on.list_is on.size_is
       ∙ ap (some_answer (list ++ (front_of destructor ++ own))) (sym (run-whole destructor name class)))
 
-  -- short texts have the name with its constructor for the list with the template's
+  -- for the list with the template's constructor, short texts have the usual name with the class's constructor
   pub short-by-list : written_for short_rules 0 (list ++ (front_of destructor ++ (own ++ rest))) (at [] last) ≡ written_for short_rules 0 rest (at [] (last ++ (name ++ (front_of destructor ++ class))))
   unfolding short_list
   short-by-list =
@@ -339,7 +325,7 @@ module _ (destructor : Bool) (name list class own : List ℕ) (is : IsUsual name
       ∙ name-opens short_rules is.run (joined (each_written as_it_is is.elements) ++ 62 ∷ tail) [] last run_is.0 run_is.1 (ap is_some is.named_is)
       ∙ each-goes short_rules short_bytes is_simple_list short-obeys is_listed (listed-calls short_rules short_bytes) is.elements a.1 is.plain a.0 is.run last [] [] x rest (name ++ (front_of destructor ++ class)) (ap (λ o. of_short.for_list o is.run xs tail) is.named_is ∙ answer)
 
-  -- full texts leave the list with its constructor
+  -- full texts leave the list with the template's constructor
   pub full-by-list : written_for (full_rules (full_to 3)) 0 (list ++ (front_of destructor ++ (own ++ rest))) (at [] last) ≡ written_for (full_rules (full_to 3)) 0 rest (at [] (last ++ (list ++ (front_of destructor ++ own))))
   unfolding is_name_byte is_letter
   full-by-list = full-list (front_of destructor ++ (own ++ rest)) name list is last ∙ by destructor

@@ -1,16 +1,14 @@
 -- The elements of a list in a text that ends with them.
 use Rattle.std.proofs.Common.{◌≡◌, ◌≢◌, ◌<◌, ◌≤◌, ◌+◌, ◌-◌, zero, suc, ℕ, List, [], ◌∷◌, ◌++◌, length, take, drop, get_or, codes, refl, sym, ap, ◌∙◌, arith, length-append, append_assoc, append-nil, take_all, length-take}
-use Rattle.std.proofs.lemmas.List.{drop_more, take_at, drop_at}
-use Rattle.short_names.specs.Elements.{joined, element}
-use Rattle.short_names.specs.Starts.{starts_of, AreElements}
+use Rattle.short_names.proofs.Basics.{drop_more, take_at, drop_at, joined, element, starts_of, AreElements}
 
--- what comes before an element among others
+-- what comes before the element in a place
 lead : ℕ → List (List ℕ) → List ℕ
 lead zero elements = []
 lead (suc k) [] = []
 lead (suc k) (element ∷ elements) = element ++ codes ", " ++ lead k elements
 
--- what comes after the first
+-- what comes after the first element, by the elements that follow it
 tail : List (List ℕ) → List ℕ
 tail [] = []
 tail (next ∷ elements) = codes ", " ++ joined (next ∷ elements)
@@ -69,7 +67,7 @@ lead-next (suc k) (first ∷ elements) within =
       length-append (lead (suc k) (first ∷ elements)) (get_or elements k []),
     )
 
--- the elements from one on
+-- the text of all elements: what comes before one of them, that one, and the rest
 from-one : (k : ℕ) (elements : List (List ℕ)) → k < length elements → joined elements ≡ lead k elements ++ (get_or elements k [] ++ tail (drop (k + 1) elements))
 from-one k elements within =
     lead-splits k elements within
@@ -80,7 +78,7 @@ unfolding joined lead
 first-within zero elements within = omega arith
 first-within (suc k) elements within = omega (arith, lead-next k elements (omega (arith, within)))
 
--- without an element and those after it the text is shorter, by that element at least
+-- the text before an element is shorter than the whole text, by that element at least
 pub joined-before : (k : ℕ) (elements : List (List ℕ)) → k < length elements → length (joined (take k elements)) + length (get_or elements k []) ≤ length (joined elements)
 joined-before k elements within =
     omega (
@@ -106,7 +104,7 @@ front-of-joined (suc (suc count)) (first ∷ next ∷ elements) =
     take-front (first ++ codes ", ") (joined (next ∷ take count elements)) (joined (next ∷ elements))
     ∙ ap (λ t. first ++ codes ", " ++ t) (front-of-joined (suc count) (next ∷ elements))
 
--- no text of the first elements is longer
+-- the text of the first elements isn't longer than that of all
 pub joined-front : (count : ℕ) (elements : List (List ℕ)) → length (joined (take count elements)) ≤ length (joined elements)
 joined-front count elements = omega (arith, ap length (front-of-joined count elements), length-take (length (joined (take count elements))) (joined elements))
 
@@ -163,7 +161,7 @@ module _ (text starts : List ℕ) (elements : List (List ℕ)) (e : AreElements 
         ap (λ t. drop (get_or starts k 0) t) (e.text_is ∙ ap (λ t. e.before ++ t) (from-one k elements inside) ∙ sym (append_assoc e.before (lead k elements) rest))
         ∙ drop_at (e.before ++ lead k elements) rest (get_or starts k 0) (length-append e.before (lead k elements) ∙ sym start-at)
 
-    -- an element lies between where it begins and where the elements with it end
+    -- an element lies between its start and the end of the elements up to it
     pub element-bounds : (get_or starts k 0 ≤ length e.before + length (joined (take (k + 1) elements))) × (length e.before + length (joined (take (k + 1) elements)) ≤ length text)
     element-bounds = (omega (arith, start-at, next-end), omega (arith, text-length, first-end (k + 1)))
 

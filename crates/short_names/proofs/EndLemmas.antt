@@ -1,12 +1,6 @@
 -- The first and the last step of what is written.
-use Rattle.std.proofs.Common.{◌≡◌, ◌<◌, ◌≤◌, ◌-◌, ◌==◌, refl, sym, ap, ◌∙◌, ℕ, zero, suc, arith, Bool, true, false, List, [], ◌∷◌, ◌++◌, length, take, drop, None, Some, length-append, if◌then◌else◌}
+use Rattle.short_names.proofs.Basics.{◌≡◌, ◌<◌, ◌≤◌, ◌-◌, ◌==◌, refl, sym, ap, ◌∙◌, ℕ, zero, suc, arith, Bool, true, false, List, [], ◌∷◌, ◌++◌, length, take, drop, None, Some, length-append, if◌then◌else◌, drop_all, nil_from_length, Bracket, Writing, short, short_rules, Opened, Written, by_rules, text_or, written_for, start, IsAt, AreOpen, before_last}
 use Rattle.std.proofs.lemmas.Bool.{eq-eqb, eqb-true, ne_eqb, true≢false}
-use Rattle.std.proofs.lemmas.List.{drop_all, nil_from_length}
-use Rattle.short_names.specs.declared.writing.Bracket.{Bracket}
-use Rattle.short_names.specs.declared.writing.Writing.{Writing}
-use Rattle.short_names.specs.Short.{short, short_rules}
-use Rattle.short_names.specs.Walk.{Opened, Written, by_rules, text_or, written_for, start}
-use Rattle.short_names.specs.Writing.{IsAt, AreOpen, before_last}
 
 pub begins : (text : List ℕ) (now : Writing) → now.at ≡ 0 → now.copied ≡ 0 → now.out.items ≡ [] → now.brackets.items ≡ [] → now.starts.items ≡ [] → IsAt text now start
 unfolding before_last
@@ -20,7 +14,7 @@ begins text now at_is copied_is out_is brackets_are starts_are =
       opened = (brackets_are, starts_are);
     }
 
--- a text in which brackets don't pair
+-- a text in which brackets don't pair stays as it is
 pub not_paired : (text : List ℕ) → written_for short_rules 0 text start ≡ None → short text ≡ text
 unfolding short by_rules
 not_paired text none = ap (text_or text) none
@@ -35,7 +29,7 @@ by_opened text now (top ∷ around) last out empty are out_is empty_is =
     let not_empty : empty ≡ false = empty_is ∙ ne_eqb _ _ (λ e. absurd (omega (arith, e, ap length are.brackets_are, length-append are.around (are.bracket ∷ [])))) in
     rw not_empty refl
 
--- a text that was gone through
+-- a text that was walked through to its end
 pub ends : (text : List ℕ) (now : Writing) (written : Written) (out : List ℕ) (empty : Bool) → IsAt text now written → length text ≤ now.at
     → out ≡ now.out.items ++ take (now.at - now.copied) (drop now.copied text) → empty ≡ (length now.brackets.items == 0)
     → short text ≡ if empty then out else text

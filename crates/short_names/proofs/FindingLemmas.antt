@@ -1,16 +1,11 @@
--- Names of `std` in which nothing becomes shorter, as far as a text was looked through.
-use Rattle.std.proofs.Common.{◌≡◌, ◌<◌, ◌≤◌, ◌+◌, inl, inr, refl, sym, ap, ◌∙◌, subst, ℕ, arith, true, false, List, ◌++◌, length, drop, length-drop, codes}
-use Rattle.std.proofs.lemmas.Bool.{true≢false, cases_order}
+-- In the part of a text searched so far, no name of `std` becomes shorter.
+use Rattle.short_names.proofs.Basics.{◌≡◌, ◌<◌, ◌≤◌, ◌+◌, inl, inr, refl, sym, ap, ◌∙◌, subst, ℕ, arith, true, false, List, ◌++◌, length, drop, length-drop, codes, true≢false, cases_order, Change, IsChange, is_nothing, IsPlain, behind_run, is_name_byte, is_letter, run_of, begins_std, is_std_at}
 use Rattle.std.proofs.lemmas.List.{length-take, take-append-drop}
-use Rattle.short_names.specs.declared.names.Change.{Change}
 use Rattle.short_names.specs.declared.names.Change.TheVariants as changes
-use Rattle.short_names.specs.Changes.{IsChange, is_nothing}
-use Rattle.short_names.specs.Plain.{IsPlain, behind_run}
-use Rattle.short_names.specs.Runs.{is_name_byte, is_letter, run_of, begins_std, is_std_at}
 use Rattle.short_names.proofs.SignLemmas.{begun}
 use Rattle.short_names.proofs.OutsideLemmas.{begins-at}
 
--- a run that begins with `std::` has it
+-- if a text begins with `std::`, so does its first run
 pub begins-run : (text : List ℕ) → begins_std text ≡ true → begins_std (run_of text) ≡ true
 unfolding run_of is_name_byte is_letter
 begins-run text h =

@@ -1,9 +1,6 @@
 -- The bytes of a text that begins with another text.
 use Rattle.std.proofs.Common.{◌≡◌, ◌<◌, ◌≤◌, ◌-◌, ℕ, Bool, true, false, List, ◌++◌, length, take, drop, get_or, nat_eq, refl, ap, ◌∙◌, arith, length-append, length-drop, append_assoc, take_all, get_or-drop, add-zero}
-use Rattle.std.specs.List.{starts_with}
-use Rattle.std.proofs.lemmas.Slice.Eq.{starts_is}
-use Rattle.std.proofs.lemmas.Bool.Decides.{Decides-eqb}
-use Rattle.std.proofs.lemmas.List.{get_or_append_left}
+use Rattle.short_names.proofs.Basics.{starts_with, starts_is, Decides-eqb, get_or_append_left}
 
 pub false-from : (b : Bool) → (b ≡ true → ⊥) → b ≡ false
 false-from true f = absurd (f refl)
@@ -31,7 +28,7 @@ front-front s p q one two =
     begins s q (drop (length q) p ++ drop (length p) s)
     (front-is s p one ∙ ap (λ t. t ++ drop (length p) s) (front-is p q two) ∙ append_assoc q (drop (length q) p) (drop (length p) s))
 
--- the rest of a text, as a slice of it is written
+-- the rest of a text, written as a slice
 pub rest-all : (text : List ℕ) (n : ℕ) → take (length text - n) (drop n text) ≡ drop n text
 rest-all text n = take_all (length text - n) (drop n text) (omega (arith, length-drop n text))
 

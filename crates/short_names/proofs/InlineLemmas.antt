@@ -1,15 +1,7 @@
 -- Inline namespaces of `std`, left out one name after the other.
 use Rattle.std.proofs.Common.{◌≡◌, ◌<◌, ◌≤◌, ◌+◌, ◌-◌, ◌==◌, zero, suc, ℕ, Bool, true, false, true≢false, not, ◌&&◌, ◌||◌, List, [], ◌∷◌, ◌++◌, length, take, drop, get_or, nat_eq, nat_lt, bit_and, if◌then◌else◌, ltb-true, refl, sym, ap, ap₂, ◌∙◌, arith, ne_eqb, None, codes, add-zero, append_assoc, length-drop, drop-drop, eqb-true}
-use Rattle.std.specs.List.{starts_with, list_all}
-use Rattle.std.proofs.lemmas.Bool.{and_parts}
+use Rattle.short_names.proofs.Basics.{starts_with, list_all, and_parts, take-add, Place, INLINES, INNERS, INNER_INLINES, INLINE_FIRSTS, INLINE_THIRDS, row_in, size_of, is_letter, is_name_byte, begins_std, is_std_at, begins_low, inlines_size, std_front, std_size, without_inlines, front as front_of, inner as inner_of, nested as nested_of, text_of}
 use Rattle.std.proofs.lemmas.List.{drop_more, drop_all, take_all, take_at, append-nil}
-use Rattle.std.proofs.Math.Seq.{take-add}
-use Rattle.short_names.specs.declared.table.Place.{Place}
-use Rattle.short_names.specs.declared.table.TheConstants.{INLINES, INNERS, INNER_INLINES, INLINE_FIRSTS, INLINE_THIRDS}
-use Rattle.short_names.specs.Names.{row_in, size_of}
-use Rattle.short_names.specs.Runs.{is_letter, is_name_byte, begins_std, is_std_at}
-use Rattle.short_names.specs.Inlines.{begins_low, inlines_size, std_front, std_size, without_inlines, front as front_of, inner as inner_of, nested as nested_of}
-use Rattle.short_names.specs.Texts.{text_of}
 use Rattle.short_names.proofs.FrontLemmas.{false-from, differs, front-is as front-text, front-byte, front-length, rest-all}
 use Rattle.short_names.proofs.RowLemmas.{none-in, row-length}
 
@@ -26,7 +18,7 @@ one-more : (rows : List Place) (byte : ℕ) (name : List ℕ) (next : ℕ) → s
 unfolding inlines_size
 one-more rows byte name next is = rw (is, inlines_size) refl
 
--- the size after one inline namespace
+-- the size of inline namespaces is that of the first and that of the others
 pub size-behind : (rows : List Place) (name : List ℕ) (next : ℕ) → size_of (row_in rows name) ≡ next → inlines_size rows 0 name ≡ next + inlines_size rows 0 (drop next name)
 size-behind rows name zero is = omega arith
 size-behind rows [] (suc next) is = absurd (omega (arith, is, row-length rows []))
@@ -97,7 +89,7 @@ after-one text at =
     other : (at : ℕ) → (at + 1 == 0) ≡ false
     other at = ne_eqb (at + 1) 0 (λ none. absurd (omega (arith, none)))
 
--- bytes at which no name of std begins
+-- bytes at which no name of std begins are written as they are
 pub keeps : (text : List ℕ) (n at : ℕ) → at + n ≤ length text → ((k : ℕ) → at ≤ k → k < at + n → is_std_at text k ≡ false) → from_on text at ≡ take n (drop at text) ++ from_on text (at + n)
 keeps text zero at room none = ap (from_on text) (sym (add-zero at))
 keeps text (suc n) at room none =
@@ -136,7 +128,7 @@ opened : (byte : ℕ) (text : List ℕ) → begins_std (byte ∷ text) ≡ true 
 unfolding without_inlines
 opened byte text is = rw (is, without_inlines) refl
 
--- a name of std
+-- what is written from a name of std on
 behind-std : (text : List ℕ) (at size : ℕ) → is_std_at text at ≡ true → size ≡ std_size (drop at text) → 0 < size → at + size ≤ length text → from_on text at ≡ std_front (drop at text) ++ from_on text (at + size)
 behind-std text at size is size-is some room =
     let p = parts-of-std (begins_std (drop at text)) (in_run text at) (sym (std-at text at) ∙ is) in
@@ -210,7 +202,7 @@ module _ (text : List ℕ) (run front inner nested : ℕ) (is : is_std_at text r
         ∙ sym (append_assoc (piece text copied run) (piece text run (run + 5)) (rest ++ last))
         ∙ ap (λ t. t ++ (rest ++ last)) (piece-join text copied run (run + 5) (omega (arith, low, high)) (omega arith))
 
-    -- what is written where there are some, and nothing is copied after them
+    -- what is written for a name with inline namespaces, after which nothing is copied yet
     pub some-left-out : (out first : List ℕ) → out ++ (piece text copied at ++ from_on text at) ≡ first
         → out ++ piece text copied (run + 5) ++ piece text (run + 5 + front) (run + 5 + front + inner)
         ++ (piece text (run + 5 + front + inner + nested) (run + 5 + front + inner + nested) ++ from_on text (run + 5 + front + inner + nested)) ≡ first
@@ -223,7 +215,7 @@ module _ (text : List ℕ) (run front inner nested : ℕ) (is : is_std_at text r
         ∙ append_assoc (out ++ a) b (from_on text next) ∙ append_assoc out a (b ++ from_on text next)
         ∙ ap (λ t. out ++ t) (sym to-name) ∙ so_far
 
-    -- what is written where there are no inline namespaces
+    -- what is written for a name without inline namespaces
     pub none-left-out : front + nested ≡ 0 → (out first : List ℕ) → out ++ (piece text copied at ++ from_on text at) ≡ first
         → out ++ (piece text copied (run + 5 + front + inner + nested) ++ from_on text (run + 5 + front + inner + nested)) ≡ first
     none-left-out nothing out first so_far =
@@ -237,7 +229,7 @@ module _ (text : List ℕ) (run front inner nested : ℕ) (is : is_std_at text r
         ∙ ap (λ t. out ++ (a ++ (t ++ from_on text next))) (sym middle)
         ∙ ap (λ t. out ++ t) (sym to-name) ∙ so_far
 
--- what is written where no name of std is left
+-- what is written once no name of std is left
 pub all-copied : (text : List ℕ) (copied at : ℕ) → copied ≤ at → at ≤ length text → ((k : ℕ) → at ≤ k → is_std_at text k ≡ false)
     → (out first : List ℕ) → out ++ (piece text copied at ++ from_on text at) ≡ first → out ++ drop copied text ≡ first
 unfolding without_inlines
@@ -268,7 +260,7 @@ inners-marked : list_all (λ row. marked_row (text_of row)) INNERS ≡ true
 unfolding text_of marked_row
 inners-marked = refl
 
--- a text that begins with a row begins as that does
+-- a name that may not begin with a row, by its first byte and its third, begins with none
 unmarked : (name t : List ℕ) → may_begin name ≡ false → marked_row t ≡ true → starts_with nat_eq name t ≡ false
 unfolding marked_row
 unmarked name t other is =

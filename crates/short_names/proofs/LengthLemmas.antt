@@ -1,20 +1,12 @@
 -- A short text isn't longer than its text.
-use Rattle.std.proofs.Common.{◌≡◌, ◌≤◌, ◌+◌, ◌-◌, ◌==◌, ◌&&◌, refl, ap, ℕ, zero, suc, arith, Bool, true, false, List, [], ◌∷◌, ◌++◌, length, take, drop, Option, None, Some, is_some, nat_eq, codes, length-append, length-drop, length-take, if◌then◌else◌}
-use Rattle.std.specs.List.{starts_with}
-use Rattle.short_names.specs.Inlines.{front, inner, std_front, std_size, without_inlines}
-use Rattle.short_names.specs.Laws.{IsNoLonger}
-use Rattle.short_names.specs.Names.{named_in, std_name}
-use Rattle.short_names.specs.Runs.{is_name_byte, begins_std, run_of, operator_size}
-use Rattle.short_names.specs.Short.{short, short_rules, shortened, taken, for_list, for_name}
-use Rattle.short_names.specs.Walk.{Answer, Opened, Written, Stepped, by_rules, text_or, closed_text, written_for, stepped, start, at_name, at_plain, at_byte, at_sign, sign_of, keeps, opens, closes_list, closes_group, ends_element, is_list, is_opening, is_closing}
-use Rattle.short_names.specs.Writing.{before_last, all_of, ended}
+use Rattle.short_names.proofs.Basics.{◌≡◌, ◌≤◌, ◌+◌, ◌-◌, ◌==◌, ◌&&◌, refl, ap, ℕ, zero, suc, arith, Bool, true, false, List, [], ◌∷◌, ◌++◌, length, take, drop, Option, None, Some, is_some, nat_eq, codes, length-append, length-drop, length-take, if◌then◌else◌, starts_with, front, inner, std_front, std_size, without_inlines, IsNoLonger, named_in, std_name, is_name_byte, begins_std, run_of, operator_size, short, short_rules, shortened, taken, for_list, for_name, Answer, Opened, Written, Stepped, by_rules, text_or, closed_text, written_for, stepped, start, at_name, at_plain, at_byte, at_sign, sign_of, keeps, opens, closes_list, closes_group, ends_element, is_list, is_opening, is_closing, before_last, all_of, ended}
 use Rattle.short_names.proofs.ListLemmas.{ended-push, joined-push}
 use Rattle.short_names.proofs.NameSteps.{run-within, starts-within}
 use Rattle.short_names.proofs.ShorterLemmas.{IsShort, list-shorter, name-short}
 
 -- ## A step
 
--- a step writes no more bytes than it takes, which are there
+-- a step takes bytes that are there, and writes no more than it takes
 abbrev Steps : (room : ℕ) → Written → Option Stepped → Type 0
 Steps room written None = Unit {0}
 Steps room written (Some next) = (length (all_of next.written) ≤ length (all_of written) + next.size) × (next.size ≤ room)

@@ -1,3 +1,4 @@
+pub mod Basics
 pub mod BitLemmas
 pub mod BracketLemmas
 pub mod ChangeLemmas

@@ -1,8 +1,5 @@
 -- Elements of lists: their text, and where they begin.
-use Rattle.std.proofs.Common.{◌≡◌, ◌+◌, refl, sym, ap, ◌∙◌, ℕ, arith, List, [], ◌∷◌, ◌++◌, length, append_assoc, append-nil, length-append, codes}
-use Rattle.short_names.specs.Elements.{joined}
-use Rattle.short_names.specs.Starts.{starts_of}
-use Rattle.short_names.specs.Writing.{ended}
+use Rattle.short_names.proofs.Basics.{◌≡◌, ◌+◌, refl, sym, ap, ◌∙◌, ℕ, arith, List, [], ◌∷◌, ◌++◌, length, append_assoc, append-nil, length-append, codes, joined, starts_of, ended}
 
 pub ended-push : (elements : List (List ℕ)) (last : List ℕ) → ended (elements ++ last ∷ []) ≡ ended elements ++ last ++ codes ", "
 unfolding ended
@@ -29,7 +26,7 @@ starts-push base [] last next e = ap (λ n. base ∷ n ∷ []) (omega (arith, e)
 starts-push base (element ∷ elements) last next e =
     ap (λ t. base ∷ t) (starts-push (base + length element + 2) elements last next (omega (arith, e, length-ended element elements)))
 
--- the start of the current element doesn't depend on what it is
+-- the start of the current element doesn't depend on the element's text
 pub starts-same : (base : ℕ) (elements : List (List ℕ)) (last : List ℕ) → starts_of base (elements ++ [] ∷ []) ≡ starts_of base (elements ++ last ∷ [])
 unfolding starts_of
 starts-same base [] last = refl

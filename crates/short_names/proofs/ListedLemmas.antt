@@ -1,17 +1,6 @@
 -- Defaults and usual names of a list of elements.
-use Rattle.std.proofs.Common.{◌≡◌, ◌<◌, ◌≤◌, ◌+◌, ◌-◌, ◌==◌, ◌&&◌, not, inl, inr, zero, suc, ℕ, Bool, true, false, List, [], ◌∷◌, length, take, drop, get_or, nat_eq, refl, sym, ap, ◌∙◌, arith, None, Some, slice_get, eq-eqb, ne_eqb, le-leb, if◌then◌else◌}
-use Rattle.std.specs.Cmp.Lexicographic.{pointwise}
-use Rattle.std.proofs.lemmas.Bool.{lt-leb}
-use Rattle.std.proofs.lemmas.Option.{slice_get-get_or}
-use Rattle.std.proofs.lemmas.List.{drop_more, drop_all}
-use Rattle.short_names.specs.declared.table.Place.{Place}
-use Rattle.short_names.specs.declared.table.Alias.{Alias}
-use Rattle.short_names.specs.declared.table.TheConstants.{ALIASES, DEFAULTS}
-use Rattle.short_names.specs.declared.names.Named.{Named}
+use Rattle.short_names.proofs.Basics.{◌≡◌, ◌<◌, ◌≤◌, ◌+◌, ◌-◌, ◌==◌, ◌&&◌, not, inl, inr, zero, suc, ℕ, Bool, true, false, List, [], ◌∷◌, length, take, drop, get_or, nat_eq, refl, sym, ap, ◌∙◌, arith, None, Some, slice_get, eq-eqb, ne_eqb, le-leb, if◌then◌else◌, pointwise, lt-leb, slice_get-get_or, drop_more, drop_all, Place, Alias, ALIASES, DEFAULTS, Named, AreHoles, element, joined, filled_for, pattern_at, defaults_of, is_given, is_default, left_of, left, is_polymorphic, alias_in, filled, text_of}
 use Rattle.short_names.specs.declared.patterns.Holes.{Holes}
-use Rattle.short_names.specs.Elements.{AreHoles, element, joined, filled_for, pattern_at, defaults_of, is_given, is_default, left_of, left, is_polymorphic, alias_in}
-use Rattle.short_names.specs.Patterns.{filled}
-use Rattle.short_names.specs.Texts.{text_of}
 use Rattle.short_names.proofs.RunLemmas.{lt-or-le}
 
 -- ## A part of a list

@@ -1,19 +1,7 @@
 -- Usual names before the name of a member that is no constructor.
-use Rattle.std.proofs.Common.{◌≡◌, ◌==◌, ◌≤◌, ◌<◌, ◌+◌, ◌-◌, ◌&&◌, ◌||◌, inl, inr, not, refl, sym, ap, ap₂, subst, ◌∙◌, eqb-true, leb-true, ℕ, zero, suc, arith, Bool, true, false, List, [], ◌∷◌, ◌++◌, length, take, drop, get_or, nat_eq, codes, None, Some, is_some, if◌then◌else◌, append-nil, append_assoc, length-append}
-use Rattle.std.proofs.lemmas.Bool.{and_parts, true≢false}
-use Rattle.std.proofs.lemmas.List.{drop-append-le, drop-drop, get_or_append_left, take-append-drop, take_all}
-use Rattle.std.specs.List.{list_all, starts_with}
-use Rattle.short_names.specs.declared.table.Alias.{Alias}
-use Rattle.short_names.specs.declared.table.TheConstants.{ALIASES}
-use Rattle.short_names.specs.Full.{full_to, full_rules, usual, usual_in, instance, pmr_in}
+use Rattle.short_names.proofs.Basics.{◌≡◌, ◌==◌, ◌≤◌, ◌<◌, ◌+◌, ◌-◌, ◌&&◌, ◌||◌, inl, inr, not, refl, sym, ap, ap₂, subst, ◌∙◌, eqb-true, leb-true, ℕ, zero, suc, arith, Bool, true, false, List, [], ◌∷◌, ◌++◌, length, take, drop, get_or, nat_eq, codes, None, Some, is_some, if◌then◌else◌, append-nil, append_assoc, length-append, and_parts, true≢false, drop-append-le, drop-drop, get_or_append_left, take-append-drop, take_all, list_all, starts_with, Alias, ALIASES, full_to, full_rules, usual, usual_in, instance, pmr_in, named_in, last_part, class_of, front_size, is_constructor, ends_name, member_in, is_letter, is_name_byte, short_rules, member, text_of, GoesOn, is_no_front, is_only_before, Answer, written_for}
 use Rattle.short_names.specs.Full as of_full
-use Rattle.short_names.specs.Names.{named_in, last_part, class_of, front_size, is_constructor, ends_name, member_in}
-use Rattle.short_names.specs.Runs.{is_letter, is_name_byte}
-use Rattle.short_names.specs.Short.{short_rules, member}
 use Rattle.short_names.specs.Short as of_short
-use Rattle.short_names.specs.Texts.{text_of}
-use Rattle.short_names.specs.Usual.{GoesOn, is_no_front, is_only_before}
-use Rattle.short_names.specs.Walk.{Answer, written_for}
 use Rattle.short_names.proofs.FrontLemmas.{begins, differs, false-from, front-is}
 use Rattle.short_names.proofs.PartRules.{no-constructor, no-end, full-leaves, short-leaves}
 use Rattle.short_names.proofs.PartForms.{and-both}
@@ -36,7 +24,7 @@ take-before zero x r h = refl
 take-before (suc k) [] r h = absurd (omega (arith, h))
 take-before (suc k) (b ∷ x) r h = ap (λ t. b ∷ t) (take-before k x r (omega (arith, h)))
 
--- a name that a text doesn't begin with isn't one that it begins with before what is no name
+-- a text that doesn't begin with a name doesn't either with more bytes after it, if the first of these is of no name
 pub front-behind : (x name r : List ℕ) → IsBehind r → list_all is_name_byte name ≡ true → starts_with nat_eq x name ≡ false → starts_with nat_eq (x ++ r) name ≡ false
 front-behind x name r behind all other =
     false-from (starts_with nat_eq (x ++ r) name) (λ h.

@@ -1,15 +1,6 @@
 -- Names of std, and the usual names that they begin with.
 use Rattle.std.proofs.Common.{◌≡◌, ◌<◌, ◌≤◌, ◌+◌, ◌-◌, ◌==◌, zero, suc, ℕ, Bool, true, false, true≢false, not, ◌&&◌, ◌||◌, List, [], ◌∷◌, ◌++◌, length, take, drop, get_or, nat_eq, nat_lt, refl, sym, ap, ◌∙◌, arith, add-zero, Option, None, Some, codes, inl, inr, eqb-true, eq-eqb, get_or-drop, drop-drop, length-drop, length-append, ltb-true, subst, slice_get, if◌then◌else◌}
-use Rattle.std.specs.List.{starts_with, list_all, list_any}
-use Rattle.std.proofs.lemmas.Bool.{and_parts, and_left, and_right, and_from}
-use Rattle.std.proofs.lemmas.List.{at_drop_more, drop_all, drop_more, get_or_past, get_or_append_left}
-use Rattle.std.proofs.lemmas.Option.{slice_get-get_or}
-use Rattle.short_names.specs.declared.table.Place.{Place}
-use Rattle.short_names.specs.declared.table.Alias.{Alias}
-use Rattle.short_names.specs.declared.table.TheConstants.{ALIASES, WHOLES, PARTS, STD, USUAL_FIRSTS}
-use Rattle.short_names.specs.Names.{StdName, std_name, behind_whole, behind_part, row_in, size_of, member_in, front_size, is_constructor, last_part, end_by, ends_name}
-use Rattle.short_names.specs.Runs.{is_letter, is_name_byte, begins_std, run_of}
-use Rattle.short_names.specs.Texts.{text_of}
+use Rattle.short_names.proofs.Basics.{starts_with, list_all, list_any, and_parts, and_left, and_right, and_from, at_drop_more, drop_all, drop_more, get_or_past, get_or_append_left, slice_get-get_or, Place, Alias, ALIASES, WHOLES, PARTS, STD, USUAL_FIRSTS, StdName, std_name, behind_whole, behind_part, row_in, size_of, member_in, front_size, is_constructor, last_part, end_by, ends_name, is_letter, is_name_byte, begins_std, run_of, text_of}
 use Rattle.short_names.proofs.FrontLemmas.{false-from, front-length, front-byte, differs}
 use Rattle.short_names.proofs.RowLemmas.{none-in, row_in-append, row_in-here}
 use Rattle.short_names.proofs.RunLemmas.{lt-or-le, run-prefix, run-stops}
@@ -121,7 +112,7 @@ members-none (row ∷ rows) name text all other =
     both _ _ (other (text_of row.name) (last_part (text_of row.template)) parts.0) in
     rw no (members-none rows name text parts.1 other)
 
--- a name that begins as no usual name does
+-- a name whose first byte begins no usual name
 pub no-usual : (name text : List ℕ) → (get_or USUAL_FIRSTS (get_or name 0 0) 0 ≡ 49 → ⊥) → member_in ALIASES name text ≡ None
 unfolding usual_first
 no-usual name text other =

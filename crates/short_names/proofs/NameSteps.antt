@@ -1,26 +1,7 @@
 -- Steps of what is written: runs of bytes of names.
-use Rattle.std.proofs.Common.{◌≡◌, ◌<◌, ◌≤◌, ◌+◌, ◌-◌, ◌||◌, ◌&&◌, refl, sym, ap, ◌∙◌, subst, ℕ, arith, Bool, true, false, List, [], ◌∷◌, ◌++◌, length, take, drop, get_or, None, Some, is_some, append_assoc, append-nil, length-drop, length-append, nat_eq, codes, slice_get, if◌then◌else◌}
-use Rattle.std.proofs.lemmas.Bool.{true≢false}
+use Rattle.short_names.proofs.Basics.{◌≡◌, ◌<◌, ◌≤◌, ◌+◌, ◌-◌, ◌||◌, ◌&&◌, refl, sym, ap, ◌∙◌, subst, ℕ, arith, Bool, true, false, List, [], ◌∷◌, ◌++◌, length, take, drop, get_or, None, Some, is_some, append_assoc, append-nil, length-drop, length-append, nat_eq, codes, slice_get, if◌then◌else◌, true≢false, slice_get-get_or, take-add, starts_with, Listed, Writing, Alias, Place, Template, WHOLES, ALIASES, TEMPLATES, Change, has_list, IsChange, IsMember, IsMemberOf, class_of, named_in, std_name, row_in, table_name, with_template, behind_whole, front_size, is_constructor, last_part, behind_run, is_name_byte, is_letter, run_of, begins_std, ends_operator, sign_size, operator_size, short_rules, for_name, constructor, text_of, Answer, Written, stepped, written_for, at_name, at_plain, sign_of, keeps, opens, IsAt, Goes, IsListed, AreOpen, before_last, all_of}
 use Rattle.std.proofs.lemmas.List.{drop-drop, length-take, take-append-drop, take-take}
-use Rattle.std.proofs.lemmas.Option.{slice_get-get_or}
-use Rattle.std.proofs.Math.Seq.{take-add}
-use Rattle.std.specs.List.{starts_with}
 use lib.Pointwise.{bytes_decides}
-use Rattle.short_names.specs.declared.writing.Listed.{Listed}
-use Rattle.short_names.specs.declared.writing.Writing.{Writing}
-use Rattle.short_names.specs.declared.table.Alias.{Alias}
-use Rattle.short_names.specs.declared.table.Place.{Place}
-use Rattle.short_names.specs.declared.table.Template.{Template}
-use Rattle.short_names.specs.declared.table.TheConstants.{WHOLES, ALIASES, TEMPLATES}
-use Rattle.short_names.specs.declared.names.Change.{Change}
-use Rattle.short_names.specs.Changes.{has_list, IsChange, IsMember, IsMemberOf}
-use Rattle.short_names.specs.Names.{class_of, named_in, std_name, row_in, table_name, with_template, behind_whole, front_size, is_constructor, last_part}
-use Rattle.short_names.specs.Plain.{behind_run}
-use Rattle.short_names.specs.Runs.{is_name_byte, is_letter, run_of, begins_std, ends_operator, sign_size, operator_size}
-use Rattle.short_names.specs.Short.{short_rules, for_name, constructor}
-use Rattle.short_names.specs.Texts.{text_of}
-use Rattle.short_names.specs.Walk.{Answer, Written, stepped, written_for, at_name, at_plain, sign_of, keeps, opens}
-use Rattle.short_names.specs.Writing.{IsAt, Goes, IsListed, AreOpen, before_last, all_of}
 use Rattle.short_names.proofs.WalkLemmas.{goes}
 use Rattle.short_names.proofs.SignLemmas.{kept, opened, begun, more-bytes, top_of}
 use Rattle.short_names.proofs.BracketLemmas.{here_is, and_false}
@@ -138,7 +119,7 @@ list_opens text now written listed size after size_is is less letter less_sign n
     (brackets_are ∙ ap (λ n. now.brackets.items ++ record { is_list = true; named = Some listed; place = length now.out.items + (now.at + n - now.copied); first = length now.starts.items } ∷ []) size_is)
     (starts_are ∙ ap (λ n. now.starts.items ++ (length now.out.items + (now.at + n - now.copied) + 1) ∷ []) size_is)
 
--- a constructor or destructor that follows a usual name
+-- a constructor or destructor that follows a usual name has bytes
 constructor-some : (alias : Alias) (rest : List ℕ) → is_constructor rest (last_part (text_of alias.template)) ≡ true → 0 < (constructor alias rest).size
 constructor-some alias rest h =
     let made : Bool → Answer = λ b. if b then record {
@@ -244,7 +225,7 @@ other_run text now written to is less letter no_std some to_is =
     (ap (λ o. starts_with nat_eq rest (codes "<") && is_some o) (no_named run no_std) ∙ and_false (starts_with nat_eq rest (codes "<")))
     (ap (for_name run rest) (no_std_name run no_std)) some to_is
 
--- a run of a text that doesn't begin with `std::` becomes no shorter
+-- a run at the front of a text that doesn't begin with `std::` becomes no shorter
 pub nothing_shorter : (text : List ℕ) → begins_std text ≡ false
     → (has_list (run_of text) (behind_run text) ≡ false) × (for_name (run_of text) (behind_run text) (std_name (run_of text)) ≡ None)
 nothing_shorter text no_std =
@@ -259,7 +240,7 @@ nothing_shorter text no_std =
 
 -- ## At a place of a text
 
--- what becomes shorter at a slice of a text that is equal to another
+-- what becomes shorter at a text is the same at an equal text
 pub change_here : (u v run : List ℕ) (change : Change) → u ≡ v → run ≡ run_of u → IsChange run (drop (length run) u) change → IsChange (run_of v) (behind_run v) change
 change_here u v run change same run_is h = subst (λ t. IsChange (run_of t) (behind_run t) change) same (subst (λ r. IsChange r (drop (length r) u) change) run_is h)
 

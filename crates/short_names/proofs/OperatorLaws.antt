@@ -1,14 +1,5 @@
--- Texts whose brackets pair, but of which a law doesn't hold.
-use Rattle.std.proofs.Common.{◌≡◌, refl, sym, ap, ◌∙◌, ℕ, arith, List, length, codes}
-use Rattle.short_names.specs.Elements.{alias_in, joined, left_of}
-use Rattle.short_names.specs.Full.{full, full_to, full_rules, usual_in, with_defaults}
-use Rattle.short_names.specs.Laws.{KeepsFull, KeepsShort}
-use Rattle.short_names.specs.Names.{std_name, named_in, template_in, row_in, member_in, is_constructor, class_of, ends_name}
-use Rattle.short_names.specs.Patterns.{filled}
-use Rattle.short_names.specs.Runs.{is_name_byte, is_letter, run_of, ends_operator, sign_size}
-use Rattle.short_names.specs.Short.{short, short_list}
-use Rattle.short_names.specs.Texts.{text_of}
-use Rattle.short_names.specs.Walk.{Pairs, by_rules, written_for, stepped, at_sign}
+-- Texts whose brackets pair, and for which a law doesn't hold.
+use Rattle.short_names.proofs.Basics.{◌≡◌, refl, sym, ap, ◌∙◌, ℕ, arith, List, length, codes, alias_in, joined, left_of, full, full_to, full_rules, usual_in, with_defaults, KeepsFull, KeepsShort, std_name, named_in, template_in, row_in, member_in, is_constructor, class_of, ends_name, filled, is_name_byte, is_letter, run_of, ends_operator, sign_size, short, short_list, text_of, Pairs, by_rules, written_for, stepped, at_sign}
 
 -- ## `std::ratio<operator, 1l>`: after the default is left out, `operator>` is an operator's name
 
@@ -31,7 +22,7 @@ ratio-pairs = refl
 pub ratio-breaks : KeepsFull (codes "std::ratio<operator, 1l>") → ⊥
 ratio-breaks keeps = omega (arith, ap length (sym other-full ∙ sym (ap full ratio-short) ∙ keeps ratio-pairs ∙ ratio-full))
 
--- ## `std::map<operator, int>`: so it is in the default `std::less<operator>`
+-- ## `std::map<operator, int>`: likewise in the default `std::less<operator>`
 
 abbrev map_full : List ℕ
 map_full = codes "std::map<operator, int, std::less<operator>, std::allocator<std::pair<operator const, int>>>"

@@ -1,16 +1,7 @@
 -- Texts without names of the table. Rules that change only such names leave these texts as they are.
-use Rattle.std.proofs.Common.{◌≡◌, ◌≤◌, ◌<◌, ◌+◌, ◌-◌, ◌&&◌, ◌||◌, refl, sym, ap, ap₂, subst, ◌∙◌, ℕ, zero, suc, arith, Bool, true, false, List, [], ◌∷◌, ◌++◌, length, take, drop, get_or, Option, None, Some, is_some, nat_eq, codes, append_assoc, append-nil, length-drop, if◌then◌else◌}
-use Rattle.std.proofs.lemmas.Bool.{true≢false}
-use Rattle.std.proofs.lemmas.List.{drop-drop, take-append-drop}
-use Rattle.std.specs.List.{starts_with}
+use Rattle.short_names.proofs.Basics.{◌≡◌, ◌≤◌, ◌<◌, ◌+◌, ◌-◌, ◌&&◌, ◌||◌, refl, sym, ap, ap₂, subst, ◌∙◌, ℕ, zero, suc, arith, Bool, true, false, List, [], ◌∷◌, ◌++◌, length, take, drop, get_or, Option, None, Some, is_some, nat_eq, codes, append_assoc, append-nil, length-drop, if◌then◌else◌, true≢false, drop-drop, take-append-drop, starts_with, HasNoRow, HasNoStd, HasNoUsual, IsOther, StdName, named_in, std_name, table_name, behind_run, is_name_byte, begins_std, is_std_at, run_of, short, short_rules, for_name, member, Rules, Written, by_rules, text_or, written_for, stepped, at_name, at_plain, keeps, opens}
 use lib.Pointwise.{bytes_decides}
 use Rattle.short_names.specs.Full.{full, full_to, full_rules, without_pmr, if_polymorphic, for_name as full_name, usual}
-use Rattle.short_names.specs.Laws.{HasNoRow, HasNoStd, HasNoUsual, IsOther}
-use Rattle.short_names.specs.Names.{StdName, named_in, std_name, table_name}
-use Rattle.short_names.specs.Plain.{behind_run}
-use Rattle.short_names.specs.Runs.{is_name_byte, begins_std, is_std_at, run_of}
-use Rattle.short_names.specs.Short.{short, short_rules, for_name, member}
-use Rattle.short_names.specs.Walk.{Rules, Written, by_rules, text_or, written_for, stepped, at_name, at_plain, keeps, opens}
 use Rattle.short_names.proofs.BracketLemmas.{and_false}
 use Rattle.short_names.proofs.NameSteps.{begins-by, no_named, no_std_name, run-some, run-take, run-within}
 use Rattle.short_names.proofs.OutsideLemmas.{at-drop, outside, run-stops, std-letter}

@@ -1,18 +1,9 @@
 -- Outside of brackets a text is written as it is up to the first name that becomes shorter.
-use Rattle.std.proofs.Common.{◌≡◌, ◌<◌, ◌≤◌, ◌+◌, ◌-◌, ◌==◌, ◌||◌, ◌&&◌, not, ◌⊎◌, inl, inr, refl, sym, ap, ◌∙◌, subst, ℕ, zero, suc, arith, Bool, true, false, List, [], ◌∷◌, ◌++◌, length, take, drop, get_or, Some, append_assoc, append-nil, length-drop, length-append, codes, if◌then◌else◌}
+use Rattle.short_names.proofs.Basics.{◌≡◌, ◌<◌, ◌≤◌, ◌+◌, ◌-◌, ◌==◌, ◌||◌, ◌&&◌, not, ◌⊎◌, inl, inr, refl, sym, ap, ◌∙◌, subst, ℕ, zero, suc, arith, Bool, true, false, List, [], ◌∷◌, ◌++◌, length, take, drop, get_or, Some, append_assoc, append-nil, length-drop, length-append, codes, if◌then◌else◌, take-add, Writing, IsChange, std_name, IsPlain, IsFirst, behind_run, is_name_byte, is_letter, run_of, begins_std, is_std_at, short_rules, for_name, Opened, Written, stepped, written_for, at_plain, opens, IsAt, Goes, CanChange, before_last}
 use Rattle.std.proofs.lemmas.Bool.{true≢false, ne_eqb, cases_order}
 use Rattle.std.proofs.lemmas.List.{drop-drop, get_or-drop, get_or-take}
-use Rattle.std.proofs.Math.Seq.{take-add}
 use Rattle.short_names.specs.declared.names.Change.TheVariants as changes
-use Rattle.short_names.specs.declared.writing.Writing.{Writing}
-use Rattle.short_names.specs.Changes.{IsChange}
-use Rattle.short_names.specs.Names.{std_name}
 use Rattle.short_names.specs.declared.finding.Found.{Found}
-use Rattle.short_names.specs.Plain.{IsPlain, IsFirst, behind_run}
-use Rattle.short_names.specs.Runs.{is_name_byte, is_letter, run_of, begins_std, is_std_at}
-use Rattle.short_names.specs.Short.{short_rules, for_name}
-use Rattle.short_names.specs.Walk.{Opened, Written, stepped, written_for, at_plain, opens}
-use Rattle.short_names.specs.Writing.{IsAt, Goes, CanChange, before_last}
 use Rattle.short_names.proofs.WalkLemmas.{goes}
 use Rattle.short_names.proofs.SignLemmas.{begun, more-bytes}
 use Rattle.short_names.proofs.BracketLemmas.{and_false}
@@ -54,7 +45,7 @@ std-letter text k h =
     let first : get_or text k 0 ≡ 115 = sym (ap (λ n. get_or text n 0) (omega arith)) ∙ sym (get_or-drop k text 0 0) ∙ sym (get_or-take 5 (drop k text) 0 0 (omega arith)) ∙ ap (λ t. get_or t 0 0) (begun (drop k text) (codes "std::") h) in
     ap is_name_byte first
 
--- a place after a piece of a text is looked at as the first one of what follows
+-- whether `std::` begins a run at a place after a piece depends only on the text after the piece
 pub at-drop : (text : List ℕ) (size k : ℕ) → 0 < size → (begins_std (drop size text) ≡ true → is_name_byte (get_or text (size - 1) 0) ≡ false)
     → is_std_at (drop size text) k ≡ is_std_at text (size + k)
 at-drop text size zero some boundary =
@@ -84,7 +75,7 @@ pub record Piece (text : List ℕ) (to : ℕ) : Type 0 where
   pub step : (last : List ℕ) → stepped short_rules byte rest (outside last) ≡ Some (record { size = size; written = outside (last ++ take size text) })
   pub boundary : begins_std (drop size text) ≡ true → is_name_byte (get_or text (size - 1) 0) ≡ false
 
--- the place after which something becomes shorter is after the pieces before it
+-- a place within a text at which `std::` begins a run doesn't come after a byte of a name
 ends-behind : (text : List ℕ) (to k : ℕ) → (is_std_at text to ≡ true) ⊎ (to ≡ length text) → to < k → k ≤ length text → 0 < to → is_name_byte (get_or text (to - 1) 0) ≡ true → ⊥
 ends-behind text to k end less within some letter = elim end [
   | inl begins ↦ absurd (true≢false (sym begins ∙ ap (λ b. begins_std (drop to text) && (b || not (is_name_byte (get_or text (to - 1) 0)))) (ne_eqb to 0 (λ z. absurd (omega (arith, z, some)))) ∙ ap (λ b. begins_std (drop to text) && not b) letter ∙ and_false (begins_std (drop to text))))
@@ -144,7 +135,7 @@ piece (byte ∷ rest) to some within plain end = by (is_name_byte byte) refl
     by true e = run-piece byte rest to some within e plain end
     by false e = sign-piece byte rest to some e
 
--- a text up to the place
+-- outside of brackets a text is written as it is up to a place, if no name before the place becomes shorter
 pub goes_outside : (fuel to : ℕ) (text last : List ℕ) → to ≤ fuel → to ≤ length text → IsPlain text to → (is_std_at text to ≡ true) ⊎ (to ≡ length text)
     → written_for short_rules 0 text (outside last) ≡ written_for short_rules 0 (drop to text) (outside (last ++ take to text))
 goes_outside fuel zero text last less within plain end = ap (λ l. written_for short_rules 0 text (outside l)) (sym (append-nil last))

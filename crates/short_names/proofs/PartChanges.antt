@@ -1,9 +1,5 @@
--- Parts in which the elements of each list are others.
-use Rattle.std.proofs.Common.{◌≡◌, ◌==◌, ◌&&◌, ◌||◌, not, refl, sym, ap, ap₂, ◌∙◌, ℕ, suc, Bool, true, false, List, [], ◌∷◌, ◌++◌}
-use Rattle.std.proofs.lemmas.Bool.{and_parts, true≢false}
-use Rattle.short_names.specs.Parts.{Parts, ends, name_then, byte_then, group_then, list_then, Elements, no_more, element_then, written, each_written, is_bare, is_other, is_end, begins_name, has_some, opens_group, is_between_names, are_apart, each_apart, are_outside, ends_apart, all_lists, all_lists_in, begins_free, has_aliases, has_usual, is_placed, stands}
-use Rattle.short_names.specs.Runs.{is_name_byte, ends_operator}
-use Rattle.short_names.specs.Walk.{is_opening, is_closing}
+-- Parts in which the elements of each list are replaced.
+use Rattle.short_names.proofs.Basics.{◌≡◌, ◌==◌, ◌&&◌, ◌||◌, not, refl, sym, ap, ap₂, ◌∙◌, ℕ, suc, Bool, true, false, List, [], ◌∷◌, ◌++◌, and_parts, true≢false, Parts, ends, name_then, byte_then, group_then, list_then, Elements, no_more, element_then, written, each_written, is_bare, is_other, is_end, begins_name, has_some, opens_group, is_between_names, are_apart, each_apart, are_outside, ends_apart, all_lists, all_lists_in, begins_free, has_aliases, has_usual, is_placed, stands, is_name_byte, ends_operator, is_opening, is_closing}
 use Rattle.short_names.proofs.NameSteps.{no_named}
 use Rattle.short_names.proofs.PartForms.{and-both, placed-other, stands-other}
 use Rattle.short_names.proofs.PartLists.{count}

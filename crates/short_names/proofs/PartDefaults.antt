@@ -1,19 +1,6 @@
 -- Defaults that are left out at the end of a list, and put there again.
-use Rattle.std.proofs.Common.{◌≡◌, ◌==◌, ◌≤◌, ◌<◌, ◌+◌, ◌-◌, ◌&&◌, ◌||◌, ◌⊎◌, inl, inr, not, refl, sym, ap, ap₂, subst, ◌∙◌, eq-eqb, eqb-true, le-leb, ℕ, zero, suc, arith, Bool, true, false, List, [], ◌∷◌, ◌++◌, length, take, drop, get_or, slice_get, nat_eq, nat_le, Option, None, Some, if◌then◌else◌, length-append, length-drop, length-take}
-use Rattle.std.proofs.lemmas.Bool.{and_parts, true≢false}
-use Rattle.std.proofs.lemmas.List.{append_cancel_left, take_all, get_or_append_left}
-use Rattle.std.specs.Cmp.Lexicographic.{pointwise}
-use Rattle.std.specs.List.{list_all, flat_map}
+use Rattle.short_names.proofs.Basics.{◌≡◌, ◌==◌, ◌≤◌, ◌<◌, ◌+◌, ◌-◌, ◌&&◌, ◌||◌, ◌⊎◌, inl, inr, not, refl, sym, ap, ap₂, subst, ◌∙◌, eq-eqb, eqb-true, le-leb, ℕ, zero, suc, arith, Bool, true, false, List, [], ◌∷◌, ◌++◌, length, take, drop, get_or, slice_get, nat_eq, nat_le, Option, None, Some, if◌then◌else◌, length-append, length-drop, length-take, and_parts, true≢false, append_cancel_left, take_all, get_or_append_left, pointwise, list_all, flat_map, Named, Alias, Place, DEFAULTS, element, filled_for, defaults_of, default_pattern, pattern_at, is_default, is_given, left, left_of, is_polymorphic, aliases_of, with_defaults, Parts, differ_early, form_in, forms, has_default, has_form, inner_forms, inner_in, is_empty, is_no_hole, is_plain, is_simple, is_some_default, is_some_form, is_template, bit, filled, ticks, text_of}
 use lib.Pointwise.{bytes_decides}
-use Rattle.short_names.specs.declared.names.Named.{Named}
-use Rattle.short_names.specs.declared.table.Alias.{Alias}
-use Rattle.short_names.specs.declared.table.Place.{Place}
-use Rattle.short_names.specs.declared.table.TheConstants.{DEFAULTS}
-use Rattle.short_names.specs.Elements.{element, filled_for, defaults_of, default_pattern, pattern_at, is_default, is_given, left, left_of, is_polymorphic, aliases_of}
-use Rattle.short_names.specs.Full.{with_defaults}
-use Rattle.short_names.specs.Parts.{Parts, differ_early, form_in, forms, has_default, has_form, inner_forms, inner_in, is_empty, is_no_hole, is_plain, is_simple, is_some_default, is_some_form, is_template}
-use Rattle.short_names.specs.Patterns.{bit, filled, ticks}
-use Rattle.short_names.specs.Texts.{text_of}
 use Rattle.short_names.proofs.FrontLemmas.{false-from}
 use Rattle.short_names.proofs.PartForms.{and-both, literal}
 use Rattle.short_names.proofs.PartLists.{HasAny, HaveEach, HaveForms, any-of}
@@ -41,7 +28,7 @@ simple-parts named h =
     let d = and_parts (list_all (λ byte. not (byte == 1)) (default_pattern named 1)) _ c.1 in
     record { no_holes = a.0; have_forms = b.0; none_first = c.0; not_itself = d.0; apart = d.1 }
 
--- a pattern of a form has one of all forms
+-- a pattern that has a form has one of all the forms of defaults
 form-default : (whole pattern : List ℕ) → has_form whole pattern ≡ true → has_default whole pattern ≡ true
 unfolding has_form has_default
 form-default whole pattern h = by (length pattern == 0) (form_in forms pattern) h
@@ -156,9 +143,7 @@ zero-or : (k : ℕ) → (k ≡ 0) ⊎ (0 < k)
 zero-or zero = inl refl
 zero-or (suc k) = inr (omega arith)
 
--- ## One default more
-
--- ## One default more
+-- ## One more default
 
 last-is : (zs : List (List ℕ)) (d : List ℕ) → element (zs ++ d ∷ []) (length zs) ≡ d
 last-is [] d = refl

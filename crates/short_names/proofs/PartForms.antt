@@ -1,12 +1,5 @@
 -- Defaults as parts: a form with arguments in its holes.
-use Rattle.std.proofs.Common.{◌≡◌, ◌==◌, ◌&&◌, not, refl, sym, ap, ap₂, ◌∙◌, eqb-true, leb-true, ℕ, arith, Bool, true, false, List, [], ◌∷◌, ◌++◌, nat_le, codes, if◌then◌else◌, append_assoc}
-use Rattle.std.proofs.lemmas.Bool.{and_parts, true≢false}
-use Rattle.std.specs.List.{list_all}
-use Rattle.short_names.specs.Elements.{joined, listed, element}
-use Rattle.short_names.specs.Parts.{Parts, ends, name_then, byte_then, group_then, list_then, Elements, no_more, element_then, written, each_written, as_it_is, text_from, is_bare, is_other, is_end, begins_name, begins_hole, is_no_hole, has_some, opens_group, is_between_names, are_apart, each_apart, all_lists, all_lists_in, is_form, are_forms, begins_free, has_usual, is_placed, stands}
-use Rattle.short_names.specs.Patterns.{bit, filled, ticks}
-use Rattle.short_names.specs.Runs.{is_name_byte, ends_operator}
-use Rattle.short_names.specs.Walk.{is_opening, is_closing}
+use Rattle.short_names.proofs.Basics.{◌≡◌, ◌==◌, ◌&&◌, not, refl, sym, ap, ap₂, ◌∙◌, eqb-true, leb-true, ℕ, arith, Bool, true, false, List, [], ◌∷◌, ◌++◌, nat_le, codes, if◌then◌else◌, append_assoc, and_parts, true≢false, list_all, joined, listed, element, Parts, ends, name_then, byte_then, group_then, list_then, Elements, no_more, element_then, written, each_written, as_it_is, text_from, is_bare, is_other, is_end, begins_name, begins_hole, is_no_hole, has_some, opens_group, is_between_names, are_apart, each_apart, all_lists, all_lists_in, is_form, are_forms, begins_free, has_usual, is_placed, stands, bit, filled, ticks, is_name_byte, ends_operator, is_opening, is_closing}
 use Rattle.short_names.proofs.PartWalks.{not-true}
 
 -- ## Parts after parts
@@ -74,7 +67,7 @@ still-between in_list byte rest more h =
     by true true is h = absurd (true≢false (sym h))
     by true false is h = not-false (is_end (then_parts rest more)) (then-end rest more is)
 
--- a list is before other parts, and by another usual name
+-- a list may have another usual name, and other parts after it
 pub stands-other : (usual other name : List ℕ) (rest more : Parts) → stands usual name rest ≡ true → (has_usual name ≡ false → is_bare other ≡ true) → (begins_free rest true ≡ true → begins_free more true ≡ true)
     → stands other name more ≡ true
 stands-other usual other name rest more is bare free = by (has_usual name) refl is

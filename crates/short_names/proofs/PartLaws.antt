@@ -1,24 +1,9 @@
 -- Short texts keep full texts and full texts keep short ones, where a text is made of parts.
-use Rattle.std.proofs.Common.{if◌then◌else◌, ◌≡◌, ◌==◌, ◌≤◌, ◌<◌, ◌&&◌, ◌||◌, not, nat_eq, nat_le, eq-eqb, ne_eqb, refl, sym, ap, ap₂, subst, ◌∙◌, ℕ, arith, Bool, true, false, List, [], ◌∷◌, ◌++◌, length, take, Option, None, Some, append-nil}
-use Rattle.std.proofs.lemmas.Bool.{and_parts, true≢false}
+use Rattle.short_names.proofs.Basics.{if◌then◌else◌, ◌≡◌, ◌==◌, ◌≤◌, ◌<◌, ◌&&◌, ◌||◌, not, nat_eq, nat_le, eq-eqb, ne_eqb, refl, sym, ap, ap₂, subst, ◌∙◌, ℕ, arith, Bool, true, false, List, [], ◌∷◌, ◌++◌, length, take, Option, None, Some, append-nil, and_parts, true≢false, pointwise, list_all, Named, Alias, Place, joined, listed, element, left, left_of, is_polymorphic, alias_in, aliases_of, filled_for, default_pattern, is_given, full, full_to, full_rules, with_defaults, named_in, Inner, form_in, forms, has_default, inner_forms, inner_in, is_form, is_plain_list, is_some_default, Parts, ends, list_then, Elements, no_more, element_then, written, each_written, as_it_is, text_from, begins_free, is_bare, is_no_hole, has_some, has_usual, are_apart, are_outside, each_apart, all_lists, all_lists_in, is_called, is_known, is_simple, is_simple_list, is_usual, left_list, short_bytes, full_bytes, is_none_of_pmr, usual_by, usual_for, usual_instance, IsMade, filled, is_name_byte, short, short_rules, text_of, Opened, by_rules, written_for}
 use Rattle.std.proofs.lemmas.List.{length-take-le, take_all}
-use Rattle.std.specs.Cmp.Lexicographic.{pointwise}
-use Rattle.std.specs.List.{list_all}
 use lib.Pointwise.{bytes_decides}
-use Rattle.short_names.specs.declared.names.Named.{Named}
-use Rattle.short_names.specs.declared.table.Alias.{Alias}
-use Rattle.short_names.specs.declared.table.Place.{Place}
-use Rattle.short_names.specs.Elements.{joined, listed, element, left, left_of, is_polymorphic, alias_in, aliases_of, filled_for, default_pattern, is_given}
-use Rattle.short_names.specs.Full.{full, full_to, full_rules, with_defaults}
 use Rattle.short_names.specs.Full as of_full
-use Rattle.short_names.specs.Names.{named_in}
-use Rattle.short_names.specs.Parts.{Inner, form_in, forms, has_default, inner_forms, inner_in, is_form, is_plain_list, is_some_default, Parts, ends, list_then, Elements, no_more, element_then, written, each_written, as_it_is, text_from, begins_free, is_bare, is_no_hole, has_some, has_usual, are_apart, are_outside, each_apart, all_lists, all_lists_in, is_called, is_known, is_simple, is_simple_list, is_usual, left_list, short_bytes, full_bytes, is_none_of_pmr, usual_by, usual_for, usual_instance, IsMade}
-use Rattle.short_names.specs.Patterns.{filled}
-use Rattle.short_names.specs.Runs.{is_name_byte}
-use Rattle.short_names.specs.Short.{short, short_rules}
 use Rattle.short_names.specs.Short as of_short
-use Rattle.short_names.specs.Texts.{text_of}
-use Rattle.short_names.specs.Walk.{Opened, by_rules, written_for}
 use Rattle.short_names.proofs.PartChanges.{changed, each_changed, changed-some, each-changed-apart, changed-outside, each-changed-written, outside-written, outside-all, outside-both, each-both, outside-follow}
 use Rattle.short_names.proofs.PartDefaults.{IsPlain, IsSimple, lacks, lacks-plain, lacks-forms, left-within, defaults-taken, defaults-polymorphic, refilled}
 use Rattle.short_names.proofs.PartForms.{and-both, filled-name, form-all, form-apart, in_holes}
@@ -44,7 +29,7 @@ same-alias named more xs k n same (row ∷ rows) holes =
     (filled-name (element more 0) (element more 1) whole (text_of row.arguments) a.0 ∙ sym (filled-name (element xs 0) (element xs 1) whole (text_of row.arguments) a.0)))
     (same-alias named more xs k n same rows a.1)
 
--- a list of a template without usual names and with one element stays
+-- a list of one element and its defaults has the short text of the list of that element, if its template has no usual names
 one-short : (usual name x : List ℕ) (more : List (List ℕ)) → is_plain_list name ≡ true → (named : Named) → named_in name ≡ Some named → IsPlain named → more ≡ with_defaults (λ t. t) named (x ∷ []) (lacks named 1)
     → short_bytes usual name more ≡ name ++ listed (x ∷ [])
 unfolding alias_in
@@ -135,7 +120,7 @@ simple-test : (name : List ℕ) → is_simple_list name ≡ true → (not (is_ba
 unfolding is_simple_list
 simple-test name is = is
 
--- what full texts have for a usual name is what they have for the list
+-- full texts have the same for a usual name as for the list that it is for
 pub reads : List ℕ → List ℕ → Elements → Bool
 reads usual name elements = is_bare usual || (is_usual usual && pointwise nat_eq (full_to 3 (usual_instance usual)) (full_bytes (full_to 3) [] name (each_written (full_bytes (full_to 3)) elements)))
 
@@ -218,7 +203,7 @@ as-all : (named : Named) (elements : Elements) (pattern : List ℕ) → HasAny n
 unfolding as_default reads
 as-all named elements pattern has all = any-all (λ name es. es) named elements pattern has reads (λ es. refl) (λ name es plain passes. (refl, passes)) all
 
--- the full text of a default of other elements with the same full texts
+-- a default has the same full text for other elements that have the same full texts
 same-default : (named : Named) (one other : Elements) (pattern : List ℕ) → HasAny named pattern → each_apart is_simple_list other ≡ true → all_lists_in is_full other ≡ true
     → each_written bytes one ≡ each_written as_it_is other → written bytes (as_default named one pattern) ≡ text_from (full_default named other pattern)
 unfolding bytes inner as_default full_default any_by any_part written plain_elements plain_list_of all_lists are_apart count
@@ -321,7 +306,7 @@ full-of-short usual name elements is some good all read same =
         ∙ refilled named simple inner xs ys (λ j less form is. default-again named simple elements good all read same j (default_pattern named j) form is) (length xs) some_positive (omega (arith, sizes))
         ∙ ap₂ (λ zs m. with_defaults inner named zs (lacks named m)) all_taken sizes
 
--- the elements that are left pass a test that all pass
+-- the elements that a short list keeps pass a test that all its elements pass
 short-passes : (test : List ℕ → List ℕ → Elements → Bool) (name : List ℕ) (elements : Elements) → all_lists_in test elements ≡ true → all_lists_in test (short_elements name elements) ≡ true
 unfolding short_elements short_list_of
 short-passes test name elements all = by (named_in name)
@@ -340,7 +325,7 @@ alone name elements list some good =
     by true = refl
     by false = refl
 
--- The full text of the usual name that a short text has for a list is that of the list.
+-- The usual name that a short text has for a list has the full text of the list.
 short-reads : (usual name : List ℕ) (elements : Elements) → (is_bare name || is_simple_list name) ≡ true → has_some elements ≡ true → each_apart is_simple_list elements ≡ true
     → is_known usual name elements ≡ true → all_lists_in is_known elements ≡ true → all_lists_in reads (short_of elements) ≡ true
     → reads (short_usual name (short_of elements)) name (short_elements name (short_of elements)) ≡ true
@@ -402,7 +387,7 @@ at-list usual name elements is some good known all read same = (
   full-of-short usual name elements is some good all read same,
 )
 
--- full texts have for each usual name of a list what they have for the list
+-- full texts have the same for each usual name of a list as for the list
 known-reads : (usual name : List ℕ) (elements : Elements) → (is_bare name || is_simple_list name) ≡ true → has_some elements ≡ true → each_apart is_simple_list elements ≡ true → is_known usual name elements ≡ true
     → all_lists_in is_known elements ≡ true → reads usual name elements ≡ true
 unfolding reads is_known short_usual full_bytes or_bare

@@ -1,16 +1,6 @@
 -- Lists of parts: the first of their elements, one more, and the defaults that they lack.
-use Rattle.std.proofs.Common.{◌≡◌, ◌==◌, ◌<◌, ◌+◌, refl, sym, ap, ap₂, ◌∙◌, ℕ, zero, suc, arith, Bool, true, false, List, [], ◌∷◌, ◌++◌, length, take, nat_eq, Option, None, Some, if◌then◌else◌}
-use Rattle.std.proofs.lemmas.Bool.{and_parts, true≢false}
-use Rattle.std.specs.Cmp.Lexicographic.{pointwise}
-use Rattle.std.specs.List.{list_all}
+use Rattle.short_names.proofs.Basics.{◌≡◌, ◌==◌, ◌<◌, ◌+◌, refl, sym, ap, ap₂, ◌∙◌, ℕ, zero, suc, arith, Bool, true, false, List, [], ◌∷◌, ◌++◌, length, take, nat_eq, Option, None, Some, if◌then◌else◌, and_parts, true≢false, pointwise, list_all, Named, Place, listed, element, filled_for, with_defaults, Parts, ends, Elements, no_more, element_then, written, each_written, text_from, has_some, are_apart, each_apart, all_lists, all_lists_in, Inner, inner_forms, inner_in, inner_part, is_no_hole, is_plain_list, is_some_default, has_default, list_then, forms, form_in, is_form, is_some_form, has_form, filled, text_of}
 use lib.Pointwise.{bytes_decides}
-use Rattle.short_names.specs.declared.names.Named.{Named}
-use Rattle.short_names.specs.declared.table.Place.{Place}
-use Rattle.short_names.specs.Elements.{listed, element, filled_for}
-use Rattle.short_names.specs.Full.{with_defaults}
-use Rattle.short_names.specs.Parts.{Parts, ends, Elements, no_more, element_then, written, each_written, text_from, has_some, are_apart, each_apart, all_lists, all_lists_in, Inner, inner_forms, inner_in, inner_part, is_no_hole, is_plain_list, is_some_default, has_default, list_then, forms, form_in, is_form, is_some_form, has_form}
-use Rattle.short_names.specs.Patterns.{filled}
-use Rattle.short_names.specs.Texts.{text_of}
 use Rattle.short_names.proofs.PartForms.{and-both, in_holes, form-written, form-apart, form-all}
 
 -- ## The element in a place
@@ -139,7 +129,7 @@ unfolding form_or
 some-form whole None h = absurd (true≢false (sym h))
 some-form whole (Some form) h = h
 
--- a pattern that isn't empty has a form
+-- a pattern has one of the forms
 abbrev pub HasForm : Named → (pattern : List ℕ) → Type 0
 HasForm named pattern = is_some_form (text_of named.whole) (form_in forms pattern) ≡ true
 
@@ -259,7 +249,7 @@ inner-text (row ∷ rows) pattern inner e = by (pointwise nat_eq (text_from (inn
     by true h same again = let is : row ≡ inner = cc in ap (λ (i : Inner). text_from (inner_part i)) (sym is) ∙ (bytes_decides (text_from (inner_part row)) pattern).0 h
     by false h same again = again same
 
--- the pattern's part, and that in full, where the elements of its list are others
+-- the parts of a pattern that has a form, or that is a list, whose elements a function may replace
 unfoldable pub any_by : (List ℕ → Elements → Elements) → Named → Elements → Option Parts → Option Inner → Parts
 any_by elements_of named elements (Some form) inner = in_holes (part_at elements 0) (part_at elements 1) (text_of named.whole) form
 any_by elements_of named elements None None = ends
@@ -270,7 +260,7 @@ any_by elements_of named elements None (Some inner) =
 unfoldable pub any_part : (List ℕ → Elements → Elements) → Named → Elements → (pattern : List ℕ) → Parts
 any_part elements_of named elements pattern = any_by elements_of named elements (form_in forms pattern) (inner_in inner_forms pattern)
 
--- a pattern that isn't empty has one of the forms
+-- a pattern has one of the forms, or is a list of the table that defaults may be
 abbrev pub HasAny : Named → (pattern : List ℕ) → Type 0
 HasAny named pattern = is_some_default (text_of named.whole) (form_in forms pattern) (inner_in inner_forms pattern) ≡ true
 

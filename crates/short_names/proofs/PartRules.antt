@@ -1,21 +1,7 @@
 -- What the rules of short and full texts do with parts whose lists are those of templates without usual names.
-use Rattle.std.proofs.Common.{◌≡◌, ◌==◌, ◌<◌, ◌+◌, ◌-◌, ◌&&◌, ◌||◌, ◌⊎◌, inl, inr, not, refl, sym, ap, ap₂, ◌∙◌, ne_eqb, append-nil, ℕ, zero, suc, arith, Bool, true, false, List, [], ◌∷◌, ◌++◌, length, take, drop, get_or, nat_eq, codes, Option, None, Some, is_some, if◌then◌else◌}
-use Rattle.std.proofs.lemmas.Bool.{and_parts, true≢false}
-use Rattle.std.proofs.lemmas.List.{get_or_append_left}
-use Rattle.std.specs.List.{list_all, starts_with}
-use Rattle.short_names.specs.declared.names.Named.{Named}
-use Rattle.short_names.specs.declared.table.Alias.{Alias}
-use Rattle.short_names.specs.declared.table.TheConstants.{ALIASES}
-use Rattle.short_names.specs.Elements.{listed, alias_in, aliases_of, left, left_of, is_polymorphic}
-use Rattle.short_names.specs.Full.{full_rules, usual, usual_in, for_pmr, pmr_in}
+use Rattle.short_names.proofs.Basics.{◌≡◌, ◌==◌, ◌<◌, ◌+◌, ◌-◌, ◌&&◌, ◌||◌, ◌⊎◌, inl, inr, not, refl, sym, ap, ap₂, ◌∙◌, ne_eqb, append-nil, ℕ, zero, suc, arith, Bool, true, false, List, [], ◌∷◌, ◌++◌, length, take, drop, get_or, nat_eq, codes, Option, None, Some, is_some, if◌then◌else◌, and_parts, true≢false, get_or_append_left, list_all, starts_with, Named, Alias, ALIASES, listed, alias_in, aliases_of, left, left_of, is_polymorphic, full_rules, usual, usual_in, for_pmr, pmr_in, StdName, std_name, named_in, table_name, last_part, class_of, front_size, is_constructor, ends_name, member_in, has_aliases, has_usual, is_bare, is_empty, is_other, is_no_usual, has_no_usual, has_form, is_plain, is_plain_list, is_simple, is_simple_list, is_template, short_bytes, full_bytes, is_letter, is_name_byte, short_rules, short_list, if_read_back, is_read_back, member, text_of, Answer}
 use Rattle.short_names.specs.Full as of_full
-use Rattle.short_names.specs.Names.{StdName, std_name, named_in, table_name, last_part, class_of, front_size, is_constructor, ends_name, member_in}
-use Rattle.short_names.specs.Parts.{has_aliases, has_usual, is_bare, is_empty, is_other, is_no_usual, has_no_usual, has_form, is_plain, is_plain_list, is_simple, is_simple_list, is_template, short_bytes, full_bytes}
-use Rattle.short_names.specs.Runs.{is_letter, is_name_byte}
-use Rattle.short_names.specs.Short.{short_rules, short_list, if_read_back, is_read_back, member}
 use Rattle.short_names.specs.Short as of_short
-use Rattle.short_names.specs.Texts.{text_of}
-use Rattle.short_names.specs.Walk.{Answer}
 use Rattle.short_names.proofs.FrontLemmas.{differs, first-dropped}
 use Rattle.short_names.proofs.NameSteps.{no_named, no_std_name}
 use Rattle.short_names.proofs.PartDefaults.{IsPlain, IsSimple, plain-parts, simple-parts, template-default}
@@ -158,7 +144,7 @@ plain-named name is =
     let b = and_parts (list_all is_name_byte name) _ a.1 in
     plain-or (named_in name) b.1
 
--- a name of such a list is one of a list
+-- the name of such a list (`is_plain_list`) is also one for `is_simple_list`
 pub plain-list : (name : List ℕ) → is_plain_list name ≡ true → is_simple_list name ≡ true
 unfolding is_plain_list is_simple_list is_plain is_simple
 plain-list name is =

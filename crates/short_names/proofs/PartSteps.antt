@@ -1,10 +1,5 @@
 -- Steps of the walk over parts of a text.
-use Rattle.std.proofs.Common.{◌≡◌, ◌==◌, ◌<◌, ◌+◌, ◌&&◌, refl, sym, ap, ◌∙◌, ℕ, arith, true, false, List, [], ◌∷◌, ◌++◌, length, drop, get_or, nat_eq, codes, None, Some, if◌then◌else◌, append-nil, append_assoc, length-append}
-use Rattle.std.proofs.lemmas.Bool.{and_parts}
-use Rattle.std.specs.List.{list_all, starts_with}
-use Rattle.short_names.specs.Runs.{is_letter, is_name_byte, run_of}
-use Rattle.short_names.specs.Walk.{Rules, Written, Opened, Answer, stepped, written_for, at_name, at_plain, at_byte, at_sign, sign_of, keeps, opens, is_list, is_opening, is_closing}
-use Rattle.short_names.specs.Runs.{ends_operator}
+use Rattle.short_names.proofs.Basics.{◌≡◌, ◌==◌, ◌<◌, ◌+◌, ◌&&◌, refl, sym, ap, ◌∙◌, ℕ, arith, true, false, List, [], ◌∷◌, ◌++◌, length, drop, get_or, nat_eq, codes, None, Some, if◌then◌else◌, append-nil, append_assoc, length-append, and_parts, list_all, starts_with, is_letter, is_name_byte, run_of, Rules, Written, Opened, Answer, stepped, written_for, at_name, at_plain, at_byte, at_sign, sign_of, keeps, opens, is_list, is_opening, is_closing, ends_operator}
 use Rattle.short_names.proofs.BracketLemmas.{and_false}
 use Rattle.short_names.proofs.WalkLemmas.{goes}
 

@@ -1,22 +1,8 @@
 -- Short and full texts of texts that are made of parts: what they are, list by list.
-use Rattle.std.proofs.Common.{if◌then◌else◌, ◌≡◌, ◌==◌, ◌<◌, ◌&&◌, ◌||◌, not, nat_eq, nat_le, refl, sym, ap, ap₂, subst, ◌∙◌, ℕ, zero, suc, arith, Bool, true, false, List, [], ◌∷◌, ◌++◌, length, take, Option, None, Some, append-nil}
-use Rattle.std.proofs.lemmas.Bool.{and_parts, true≢false}
-use Rattle.std.specs.Cmp.Lexicographic.{pointwise}
-use Rattle.std.specs.List.{list_all}
+use Rattle.short_names.proofs.Basics.{if◌then◌else◌, ◌≡◌, ◌==◌, ◌<◌, ◌&&◌, ◌||◌, not, nat_eq, nat_le, refl, sym, ap, ap₂, subst, ◌∙◌, ℕ, zero, suc, arith, Bool, true, false, List, [], ◌∷◌, ◌++◌, length, take, Option, None, Some, append-nil, and_parts, true≢false, pointwise, list_all, Named, Alias, Place, joined, listed, element, left, left_of, is_polymorphic, alias_in, aliases_of, filled_for, full, full_to, full_rules, with_defaults, named_in, Inner, has_default, inner_part, is_form, is_placed, is_plain_list, Parts, ends, list_then, Elements, no_more, element_then, written, each_written, as_it_is, text_from, begins_free, is_bare, is_empty, is_no_hole, has_aliases, has_some, has_usual, are_apart, each_apart, all_lists, all_lists_in, is_called, is_known, is_simple_list, is_usual, left_list, name_of, short_bytes, full_bytes, is_none_of_pmr, has_form, usual_by, usual_for, usual_instance, filled, short, text_of, Rules}
 use lib.Pointwise.{bytes_decides}
-use Rattle.short_names.specs.declared.names.Named.{Named}
-use Rattle.short_names.specs.declared.table.Alias.{Alias}
-use Rattle.short_names.specs.declared.table.Place.{Place}
-use Rattle.short_names.specs.Elements.{joined, listed, element, left, left_of, is_polymorphic, alias_in, aliases_of, filled_for}
-use Rattle.short_names.specs.Full.{full, full_to, full_rules, with_defaults}
 use Rattle.short_names.specs.Full as of_full
-use Rattle.short_names.specs.Names.{named_in}
-use Rattle.short_names.specs.Parts.{Inner, has_default, inner_part, is_form, is_placed, is_plain_list, Parts, ends, list_then, Elements, no_more, element_then, written, each_written, as_it_is, text_from, begins_free, is_bare, is_empty, is_no_hole, has_aliases, has_some, has_usual, are_apart, each_apart, all_lists, all_lists_in, is_called, is_known, is_simple_list, is_usual, left_list, name_of, short_bytes, full_bytes, is_none_of_pmr, has_form, usual_by, usual_for, usual_instance}
-use Rattle.short_names.specs.Patterns.{filled}
-use Rattle.short_names.specs.Short.{short}
 use Rattle.short_names.specs.Short as of_short
-use Rattle.short_names.specs.Texts.{text_of}
-use Rattle.short_names.specs.Walk.{Rules}
 use Rattle.short_names.proofs.NameSteps.{no_named}
 use Rattle.short_names.proofs.PartChanges.{changed, each_changed, each-changed-apart, changed-all, each-changed-all, inner-follow, same-written}
 use Rattle.short_names.proofs.PartDefaults.{IsSimple, lacks, lacks-plain, lacks-is, lacks-first, lacks-forms, left-some}
@@ -35,7 +21,7 @@ short_list_of (Some named) elements = taken (left named (each_written as_it_is e
 unfoldable pub short_elements : List ℕ → Elements → Elements
 short_elements name elements = short_list_of (named_in name) elements
 
--- the usual name that a short text has for a list; nothing where it has the list
+-- the usual name that a short text has for a list; empty if it has the list itself
 unfoldable pub or_bare : Option (List ℕ) → List ℕ
 or_bare None = []
 or_bare (Some called) = called
@@ -97,7 +83,7 @@ left-positive named simple xs some = by (nat_le (length xs) named.template.count
     by true = left-some named simple xs (length xs) some
     by false = some
 
--- a list without usual names has none
+-- a list whose template has no usual names isn't written by one
 none-called : (name : List ℕ) (o : Option Named) (xs : List (List ℕ)) → has_aliases o ≡ false → is_bare (or_bare (usual_by o name xs)) ≡ true
 unfolding or_bare alias_in
 none-called name None xs none = refl
@@ -126,7 +112,7 @@ placed-alone (byte ∷ name) list = and-both _ _ list (by (has_usual (byte ∷ n
     by true = refl
     by false = refl
 
--- what comes of a pattern that is a list
+-- a pattern that is a list, with its holes filled
 pub inner-filled : (named : Named) (xs : List (List ℕ)) (inner : Inner) → list_all is_no_hole inner.name ≡ true
     → filled_for named xs (text_from (inner_part inner)) ≡ filled [] [] (text_of named.whole) inner.name ++ listed (filled_for named xs (text_from inner.argument) ∷ [])
 unfolding written joined filled
@@ -191,7 +177,7 @@ as-written f bare stays named elements pattern has =
     ∙ sym (inner-filled named (each_written f elements) inner none)
     ∙ ap (filled_for named (each_written f elements)) text)
 
--- both stay apart
+-- the elements of a short list stay apart
 pub short-stay : (name : List ℕ) (elements : Elements) → (is_bare name || is_simple_list name) ≡ true → has_some elements ≡ true → each_apart is_simple_list elements ≡ true
     → (has_some (short_elements name elements) ≡ true) × (each_apart is_simple_list (short_elements name elements) ≡ true)
 unfolding short_elements short_list_of
@@ -205,7 +191,7 @@ short-stay name elements is some good =
     ))
     name is
 
--- so do those of a list that is a default
+-- likewise the elements of a list that is a default
 plain-stay : (name : List ℕ) (elements : Elements) → is_plain_list name ≡ true → has_some elements ≡ true → each_apart is_simple_list elements ≡ true
     → (has_some (plain_elements name elements) ≡ true) × (each_apart is_simple_list (plain_elements name elements) ≡ true)
 unfolding plain_elements plain_list_of
@@ -243,7 +229,7 @@ called-is called usual name xs is =
     by true e h = absurd (true≢false e)
     by false e h = h
 
--- what a short text has for it
+-- the usual name that a short text has for the list
 short-name-of : (usual name : List ℕ) (named : Named) (xs : List (List ℕ)) → named_in name ≡ Some named → (o : Option Alias) → alias_in (aliases_of named) named xs (left named xs) ≡ o
     → is_polymorphic named xs ≡ false → (called : Option (List ℕ)) → name_of named name o ≡ called → short_bytes usual name xs ≡ elim called [ None ↦ name ++ listed (take (left named xs) xs) | Some it ↦ it ]
 short-name-of usual name named xs found None is none called e = short-simple usual name named xs found is none ∙ ap (λ (c : Option (List ℕ)). elim c [ None ↦ name ++ listed (take (left named xs) xs) | Some it ↦ it ]) e
@@ -351,7 +337,7 @@ filled-up named (place ∷ places) elements is = by (length (text_of place) == 0
         let next : count one ≡ suc (count elements) = omega (arith, one-count elements (default_part named elements (text_of place))) in
         again one (ap (lacks named) next ∙ (lacks-first named (count elements) place places is).1)
 
--- a list that is a default has all of its own
+-- a default that is a list lacks none of its own defaults
 plain-full : (name : List ℕ) (elements : Elements) → is_plain_list name ≡ true → all_lists_in is_full elements ≡ true
     → (is_full [] name (plain_elements name elements) ≡ true) × (all_lists_in is_full (plain_elements name elements) ≡ true)
 unfolding plain_elements plain_list_of is_full full_of
@@ -441,7 +427,7 @@ defaults-full depth named (place ∷ places) elements have good all =
         ∙ ap (λ es. with_defaults (full_to depth) named es places) (sym (one-written as_it_is elements part))
         ∙ again (and_one elements part) (one-apart is_simple_list elements part good apart) (one-all is_full elements part all whole)
 
--- no list is written by its usual name
+-- a list isn't written by its usual name
 plainly : List ℕ → List ℕ → Elements → Bool
 plainly usual name elements = is_bare usual
 

@@ -1,11 +1,5 @@
 -- The walk over the text of parts writes what is written for them part by part.
-use Rattle.std.proofs.Common.{◌≡◌, ◌==◌, ◌<◌, ◌&&◌, ◌||◌, ◌⊎◌, inl, inr, not, refl, sym, ap, ap₂, subst, ◌∙◌, eq-eqb, eqb-true, ℕ, arith, Bool, true, false, List, [], ◌∷◌, ◌++◌, length, get_or, nat_eq, codes, None, if◌then◌else◌, append-nil, append_assoc}
-use Rattle.std.proofs.lemmas.Bool.{and_parts, true≢false}
-use Rattle.std.specs.List.{list_all, starts_with}
-use Rattle.short_names.specs.Elements.{joined, listed}
-use Rattle.short_names.specs.Parts.{Parts, ends, name_then, byte_then, group_then, list_then, Elements, no_more, element_then, written, each_written, as_it_is, text_from, is_bare, is_other, is_end, begins_name, has_some, opens_group, is_between_names, are_apart, each_apart, are_outside, ends_apart, all_lists, all_lists_in, begins_free, has_usual, is_placed, stands}
-use Rattle.short_names.specs.Runs.{is_letter, is_name_byte, ends_operator}
-use Rattle.short_names.specs.Walk.{Rules, Opened, written_for, by_rules, text_or, is_list, is_opening, is_closing}
+use Rattle.short_names.proofs.Basics.{◌≡◌, ◌==◌, ◌<◌, ◌&&◌, ◌||◌, ◌⊎◌, inl, inr, not, refl, sym, ap, ap₂, subst, ◌∙◌, eq-eqb, eqb-true, ℕ, arith, Bool, true, false, List, [], ◌∷◌, ◌++◌, length, get_or, nat_eq, codes, None, if◌then◌else◌, append-nil, append_assoc, and_parts, true≢false, list_all, starts_with, joined, listed, Parts, ends, name_then, byte_then, group_then, list_then, Elements, no_more, element_then, written, each_written, as_it_is, text_from, is_bare, is_other, is_end, begins_name, has_some, opens_group, is_between_names, are_apart, each_apart, are_outside, ends_apart, all_lists, all_lists_in, begins_free, has_usual, is_placed, stands, is_letter, is_name_byte, ends_operator, Rules, Opened, written_for, by_rules, text_or, is_list, is_opening, is_closing}
 use Rattle.short_names.proofs.FrontLemmas.{differs}
 use Rattle.short_names.proofs.PartSteps.{IsBehind, IsFree, at, free-nothing, within, inner-name, name-stays, name-opens, byte-outside, byte-within, group-opens, group-closes, list-closes-over, element-ends}
 
@@ -40,7 +34,7 @@ bare-calls rules for_list test bare = record {
     none [] is = refl
     none (byte ∷ usual) is = absurd (true≢false (sym is))
 
--- brackets around are those of a list, or others
+-- the innermost bracket around is that of a list, or another one
 abbrev Around : (in_list : Bool) → List Opened → Type 0
 Around in_list [] = Unit {0}
 Around in_list (top ∷ around) = is_list top ≡ in_list
@@ -192,7 +186,7 @@ unfolding ends_apart
 behind-more lists name rest text good first (inr h) = behind-outside lists rest text good first h.0
 behind-more lists name rest text good first (inl h) = some-behind lists rest text good first (not-true (is_end rest) (and_parts (not (is_end rest)) _ h).0)
 
--- what comes after a list
+-- likewise for parts after a list
 rest-of : (usual name : List ℕ) (elements : Elements) (rest : Parts) (text : List ℕ) → ends_apart (list_then usual name elements rest) ≡ true ⊎ IsFree text → ends_apart rest ≡ true ⊎ IsFree text
 unfolding ends_apart
 rest-of usual name elements rest text (inl h) = inl (and_parts (not (has_usual name) || not (is_end rest)) _ h).1
@@ -244,7 +238,7 @@ module _ (rules : Rules) (for_list : List ℕ → List ℕ → List (List ℕ) �
 
   -- ## Other brackets
 
-  -- these bytes are written for the text in each place
+  -- wherever the text is, these bytes are written for it
   abbrev Goes : (in_list : Bool) → (text bytes : List ℕ) → Type 0
   Goes in_list text bytes = (opened : List Opened) (last rest : List ℕ) → Around in_list opened → IsFree rest
       → written_for rules 0 (text ++ rest) (at opened last) ≡ written_for rules 0 rest (at opened (last ++ bytes))

@@ -1,10 +1,7 @@
 -- A text that is compared with a pattern, byte by byte of the pattern.
 use Rattle.std.proofs.Common.{◌≡◌, ◌≢◌, ◌<◌, ◌≤◌, ◌+◌, ◌==◌, inl, inr, ℕ, true, false, List, [], ◌∷◌, ◌++◌, length, take, drop, get_or, nat_eq, refl, sym, ap, ◌∙◌, arith, length-append, append_assoc, take-append-drop, eq-eqb, ne_eqb}
-use Rattle.std.specs.Cmp.Lexicographic.{pointwise}
-use Rattle.std.proofs.lemmas.Bool.{cases_eq}
+use Rattle.short_names.proofs.Basics.{pointwise, cases_eq, bytes_eq-Decides, bit, filled}
 use Rattle.std.proofs.lemmas.List.{append_cancel_left, append-nil, take_more, drop_more, take_all, nil_from_length}
-use Rattle.std.proofs.lemmas.Slice.Eq.{bytes_eq-Decides}
-use Rattle.short_names.specs.Patterns.{bit, filled}
 use Rattle.short_names.proofs.FrontLemmas.{false-from}
 
 module _ (first second whole : List ℕ) where
@@ -20,7 +17,7 @@ module _ (first second whole : List ℕ) where
   filled-one x = append-nil (bit first second whole x)
 
   module _ (text pattern : List ℕ) (at : ℕ) (rest : List ℕ) (so_far : text ≡ filled first second whole (take at pattern) ++ rest) where
-    -- a byte of the pattern more
+    -- one more byte of the pattern
     pub filled-more : at < length pattern → (others : List ℕ) → rest ≡ bit first second whole (get_or pattern at 0) ++ others → text ≡ filled first second whole (take (at + 1) pattern) ++ others
     filled-more within others here =
         let front = filled first second whole (take at pattern) in

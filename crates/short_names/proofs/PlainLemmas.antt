@@ -1,12 +1,6 @@
 -- A text in which no run begins with `std::` is as short as it can be.
-use Rattle.std.proofs.Common.{◌≡◌, ◌≤◌, ◌-◌, ◌==◌, ◌||◌, ◌&&◌, not, inr, refl, sym, ap, ◌∙◌, ℕ, zero, suc, arith, Bool, true, false, List, [], ◌∷◌, ◌++◌, length, take, drop, get_or, Option, None, Some, is_some, MatchOption}
+use Rattle.short_names.proofs.Basics.{◌≡◌, ◌≤◌, ◌-◌, ◌==◌, ◌||◌, ◌&&◌, not, inr, refl, sym, ap, ◌∙◌, ℕ, zero, suc, arith, Bool, true, false, List, [], ◌∷◌, ◌++◌, length, take, drop, get_or, Option, None, Some, is_some, MatchOption, drop_all, take_all, without_inlines, std_front, std_size, IsPlain, is_name_byte, begins_std, is_std_at, short, shortened, taken, short_rules, by_rules, text_or, written_for}
 use Rattle.std.proofs.lemmas.Bool.{true≢false, ne_eqb}
-use Rattle.std.proofs.lemmas.List.{drop_all, take_all}
-use Rattle.short_names.specs.Inlines.{without_inlines, std_front, std_size}
-use Rattle.short_names.specs.Plain.{IsPlain}
-use Rattle.short_names.specs.Runs.{is_name_byte, begins_std, is_std_at}
-use Rattle.short_names.specs.Short.{short, shortened, taken, short_rules}
-use Rattle.short_names.specs.Walk.{by_rules, text_or, written_for}
 use Rattle.short_names.proofs.OutsideLemmas.{outside, goes_outside}
 
 pub short_plain : (text : List ℕ) → IsPlain text (length text) → short text ≡ text
@@ -42,7 +36,7 @@ kept (byte ∷ text) false none =
     by true e ih = absurd (true≢false (sym (none zero e)))
     by false e ih = ih
 
--- without such a run nothing changes
+-- if no run of a text begins with `std::`, nothing changes
 pub no_std_short : (text : List ℕ) → ((k : ℕ) → is_std_at text k ≡ false) → (keeps_inline : Bool) → shortened keeps_inline text ≡ text
 unfolding shortened taken
 no_std_short text none true = short_plain text (λ k less e. absurd (true≢false (sym e ∙ none k)))

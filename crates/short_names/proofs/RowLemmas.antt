@@ -1,14 +1,8 @@
 -- Rows of the table that a text begins with, found one after the other.
-use Rattle.std.proofs.Common.{◌≡◌, ◌<◌, ◌≤◌, ◌+◌, ℕ, Bool, true, false, List, [], ◌∷◌, ◌++◌, length, drop, get_or, nat_eq, refl, ap, ◌∙◌, arith, None, Some, if◌then◌else◌}
-use Rattle.std.specs.List.{starts_with, list_all}
-use Rattle.std.proofs.lemmas.Bool.{and_parts}
-use Rattle.std.proofs.lemmas.List.{at_drop_more, drop_all}
-use Rattle.short_names.specs.declared.table.Place.{Place}
-use Rattle.short_names.specs.Names.{row_in, size_of}
-use Rattle.short_names.specs.Texts.{text_of}
+use Rattle.short_names.proofs.Basics.{◌≡◌, ◌<◌, ◌≤◌, ◌+◌, ℕ, Bool, true, false, List, [], ◌∷◌, ◌++◌, length, drop, get_or, nat_eq, refl, ap, ◌∙◌, arith, None, Some, if◌then◌else◌, starts_with, list_all, and_parts, at_drop_more, drop_all, Place, row_in, size_of, text_of}
 use Rattle.short_names.proofs.FrontLemmas.{front-length}
 
--- none of some rows with a property is one that a text begins with
+-- a text begins with no row that has a property, if it begins with no text that has the property
 pub none-in : (p : List ℕ → Bool) (text : List ℕ) → ((t : List ℕ) → p t ≡ true → starts_with nat_eq text t ≡ false)
     → (rows : List Place) → list_all (λ row. p (text_of row)) rows ≡ true → row_in rows text ≡ None
 unfolding row_in
@@ -28,7 +22,7 @@ row_in-append (row ∷ xs) ys text none = by (starts_with nat_eq text (text_of r
     by true none rest = absurd (cc)
     by false none rest = rest none
 
--- a text is as long as the row that it begins with
+-- a text is at least as long as the row with which it begins
 pub row-length : (rows : List Place) (text : List ℕ) → size_of (row_in rows text) ≤ length text
 unfolding row_in
 row-length [] text = omega arith

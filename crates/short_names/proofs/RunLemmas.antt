@@ -1,11 +1,9 @@
 -- The longest run of bytes of names with which a text begins, and where `std::` begins.
 use Rattle.std.proofs.Common.{◌≡◌, ◌<◌, ◌≤◌, ◌+◌, ◌⊎◌, inl, inr, refl, sym, ap, ◌∙◌, ℕ, zero, suc, arith, Bool, true, false, true≢false, List, [], ◌∷◌, ◌++◌, length, take, drop, get_or, codes, length-drop, if◌then◌else◌}
-use Rattle.std.proofs.lemmas.Bool.{and_parts, and_left}
-use Rattle.std.specs.List.{list_all}
-use Rattle.short_names.specs.Runs.{is_letter, is_name_byte, run_of, begins_std, is_std_at}
+use Rattle.short_names.proofs.Basics.{and_parts, and_left, list_all, is_letter, is_name_byte, run_of, begins_std, is_std_at}
 use Rattle.short_names.proofs.FrontLemmas.{false-from, front-length}
 
--- bytes of names after which none comes are that run
+-- the bytes of names at the front of a text, up to a byte that is of no name, are its run
 pub run-is : (text : List ℕ) (n : ℕ) → n ≤ length text → list_all is_name_byte (take n text) ≡ true
     → (n < length text → is_name_byte (get_or text n 0) ≡ false) → take n text ≡ run_of text
 unfolding run_of
@@ -36,7 +34,7 @@ std-room text at is =
       | inr room ↦ room
     ]
 
--- at none of some places, of those after them, and of the next
+-- if no run begins with `std::` at some places, at the places after them and at the next place, none does at all of these
 pub no-std-more : (text : List ℕ) (from at next : ℕ) → ((k : ℕ) → from ≤ k → k < at → is_std_at text k ≡ false)
     → ((k : ℕ) → at ≤ k → k < next → begins_std (drop k text) ≡ false) → is_std_at text next ≡ false
     → (k : ℕ) → from ≤ k → k < next + 1 → is_std_at text k ≡ false
@@ -78,7 +76,7 @@ run-stops (byte ∷ text) = by (is_name_byte byte) refl (run-stops text)
     by true is rest = rest
     by false is rest = is
 
--- the end of a run
+-- after some bytes of a run, the rest of the text begins with the rest of the run
 pub run-drop : (text : List ℕ) (k : ℕ) → k ≤ length (run_of text) → run_of (drop k text) ≡ drop k (run_of text)
 unfolding run_of
 run-drop [] zero within = refl

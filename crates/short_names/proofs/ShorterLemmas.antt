@@ -1,21 +1,6 @@
--- What is written for a name, or for a name and its list, isn't longer than that.
-use Rattle.std.proofs.Common.{◌≡◌, ◌≤◌, ◌<◌, ◌+◌, ◌-◌, ◌==◌, ◌&&◌, ◌||◌, not, refl, sym, ap, subst, ℕ, zero, suc, arith, Bool, true, false, List, [], ◌∷◌, ◌++◌, length, take, drop, Option, None, Some, nat_eq, nat_le, codes, length-append, length-drop, length-take, if◌then◌else◌, leb-true, eqb-true}
-use Rattle.std.proofs.lemmas.Bool.{and_parts, true≢false}
-use Rattle.std.proofs.lemmas.List.{take-take}
-use Rattle.std.specs.Cmp.Lexicographic.{pointwise}
-use Rattle.std.specs.List.{list_all, flat_map}
+-- What is written for a name, or for a name and its list, isn't longer than what it replaces.
+use Rattle.short_names.proofs.Basics.{◌≡◌, ◌≤◌, ◌<◌, ◌+◌, ◌-◌, ◌==◌, ◌&&◌, ◌||◌, not, refl, sym, ap, subst, ℕ, zero, suc, arith, Bool, true, false, List, [], ◌∷◌, ◌++◌, length, take, drop, Option, None, Some, nat_eq, nat_le, codes, length-append, length-drop, length-take, if◌then◌else◌, leb-true, eqb-true, and_parts, true≢false, take-take, pointwise, list_all, flat_map, Named, Alias, Place, Template, ALIASES, TEMPLATES, WHOLES, joined, listed, element, filled_for, is_given, is_default, left, left_of, is_polymorphic, alias_in, aliases_of, StdName, std_name, named_in, row_in, behind_whole, table_name, template_in, with_template, class_of, front_size, is_constructor, last_part, member_in, bit, filled, ticks, before_name, behind, constructor, if_read_back, is_read_back, short_list, for_list, for_name, member, text_of, Answer}
 use lib.Pointwise.{bytes_decides}
-use Rattle.short_names.specs.declared.names.Named.{Named}
-use Rattle.short_names.specs.declared.table.Alias.{Alias}
-use Rattle.short_names.specs.declared.table.Place.{Place}
-use Rattle.short_names.specs.declared.table.Template.{Template}
-use Rattle.short_names.specs.declared.table.TheConstants.{ALIASES, TEMPLATES, WHOLES}
-use Rattle.short_names.specs.Elements.{joined, listed, element, filled_for, is_given, is_default, left, left_of, is_polymorphic, alias_in, aliases_of}
-use Rattle.short_names.specs.Names.{StdName, std_name, named_in, row_in, behind_whole, table_name, template_in, with_template, class_of, front_size, is_constructor, last_part, member_in}
-use Rattle.short_names.specs.Patterns.{bit, filled, ticks}
-use Rattle.short_names.specs.Short.{before_name, behind, constructor, if_read_back, is_read_back, short_list, for_list, for_name, member}
-use Rattle.short_names.specs.Texts.{text_of}
-use Rattle.short_names.specs.Walk.{Answer}
 use Rattle.short_names.proofs.CloseLemmas.{name-ends, constructor-room}
 use Rattle.short_names.proofs.ElementLemmas.{joined-before, joined-front}
 use Rattle.short_names.proofs.NameLemmas.{std-end, member-is}
@@ -57,7 +42,7 @@ filled-long first second whole (byte ∷ pattern) =
 fits : Template → Alias → Bool
 fits template row = nat_le (length (text_of row.name)) (length (text_of template.name) + 2 + literals (text_of row.arguments))
 
--- the same for each usual name of a template; and `pmr::` isn't longer than the allocator of `std::pmr`
+-- no usual name is longer than its template with the arguments; and `pmr::` isn't longer than the allocator of `std::pmr`
 is_fit : Template → Bool
 is_fit template =
     list_all (fits template) (take (template.end_alias - template.first_alias) (drop template.first_alias ALIASES))

@@ -1,17 +1,9 @@
 -- Steps of what is written: what is kept, and brackets that are opened.
-use Rattle.std.proofs.Common.{◌≡◌, ◌<◌, ◌≤◌, ◌+◌, ◌-◌, ◌==◌, refl, sym, ap, ◌∙◌, ℕ, arith, true, false, List, [], ◌∷◌, ◌++◌, length, take, drop, Option, append_assoc, append-nil, length-append, nat_eq}
+use Rattle.short_names.proofs.Basics.{◌≡◌, ◌<◌, ◌≤◌, ◌+◌, ◌-◌, ◌==◌, refl, sym, ap, ◌∙◌, ℕ, arith, true, false, List, [], ◌∷◌, ◌++◌, length, take, drop, Option, append_assoc, append-nil, length-append, nat_eq, starts_with, Bracket, Listed, Writing, short_rules, starts_of, Opened, Written, stepped, written_for, keeps, opens, IsAt, Goes, IsListed, IsInnermost, AreOpen, before_last, all_of, ended}
 use lib.Pointwise.{bytes_decides}
-use Rattle.std.specs.List.{starts_with}
-use Rattle.short_names.specs.declared.writing.Bracket.{Bracket}
-use Rattle.short_names.specs.declared.writing.Listed.{Listed}
-use Rattle.short_names.specs.declared.writing.Writing.{Writing}
-use Rattle.short_names.specs.Short.{short_rules}
-use Rattle.short_names.specs.Starts.{starts_of}
-use Rattle.short_names.specs.Walk.{Opened, Written, stepped, written_for, keeps, opens}
-use Rattle.short_names.specs.Writing.{IsAt, Goes, IsListed, IsInnermost, AreOpen, before_last, all_of, ended}
 use Rattle.short_names.proofs.WalkLemmas.{goes, pending-more, length-pending}
 
--- the bytes that were written, some further
+-- the bytes that were written, after some more bytes of the text
 pub more-bytes : (text : List ℕ) (out : List ℕ) (copied at size : ℕ) (bytes all : List ℕ) → copied ≤ at
     → out ++ take (at - copied) (drop copied text) ≡ all → take size (drop at text) ≡ bytes
     → out ++ take (at + size - copied) (drop copied text) ≡ all ++ bytes

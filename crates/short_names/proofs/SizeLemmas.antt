@@ -1,7 +1,5 @@
 -- An operator's sign is within its text.
-use Rattle.std.proofs.Common.{◌≡◌, ◌≤◌, ◌||◌, refl, ap, ℕ, arith, Bool, true, false, List, length, nat_eq, codes, length-take, if◌then◌else◌}
-use Rattle.std.specs.List.{starts_with}
-use Rattle.short_names.specs.Runs.{sign_size}
+use Rattle.short_names.proofs.Basics.{◌≡◌, ◌≤◌, ◌||◌, refl, ap, ℕ, arith, Bool, true, false, List, length, nat_eq, codes, length-take, if◌then◌else◌, starts_with, sign_size}
 use Rattle.short_names.proofs.SignLemmas.{begun}
 
 within : (text front : List ℕ) → starts_with nat_eq text front ≡ true → length front ≤ length text

@@ -1,23 +1,5 @@
 -- The list of `std::string`, which becomes that name without a walk through the list.
-use Rattle.std.proofs.Common.{◌≡◌, ◌≤◌, ◌<◌, ◌+◌, ◌-◌, ◌&&◌, refl, sym, ap, ◌∙◌, subst, ℕ, arith, true, false, List, [], ◌∷◌, ◌++◌, length, take, drop, get_or, slice_get, Option, None, Some, is_some, append_assoc, append-nil, length-drop, length-take, nat_eq, codes, if◌then◌else◌}
-use Rattle.std.proofs.lemmas.List.{drop-drop, drop_at, take-append-drop, take-take}
-use Rattle.std.specs.List.{starts_with}
-use Rattle.short_names.specs.declared.names.Named.{Named}
-use Rattle.short_names.specs.declared.table.Alias.{Alias}
-use Rattle.short_names.specs.declared.table.Place.{Place}
-use Rattle.short_names.specs.declared.table.TheConstants.{ALIASES, STD, STRING, STRING_TEMPLATE, TEMPLATES}
-use Rattle.short_names.specs.declared.writing.Writing.{Writing}
-use Rattle.short_names.specs.Changes.{has_list}
-use Rattle.short_names.specs.Closing.{IsString}
-use Rattle.short_names.specs.Elements.{left, left_of, alias_in, aliases_of, joined, is_polymorphic, listed}
-use Rattle.short_names.specs.Names.{named_in, std_name, table_name, template_in, with_template, member_in}
-use Rattle.short_names.specs.Patterns.{filled}
-use Rattle.short_names.specs.Plain.{behind_run}
-use Rattle.short_names.specs.Runs.{is_name_byte, is_letter, run_of, begins_std, ends_operator, sign_size}
-use Rattle.short_names.specs.Short.{short_rules, for_list, for_name, short_list, before_name, behind, constructor, if_read_back, is_read_back, member}
-use Rattle.short_names.specs.Texts.{text_of}
-use Rattle.short_names.specs.Walk.{Answer, Opened, Written, stepped, written_for, at_sign, at_plain, answers, keeps, opens}
-use Rattle.short_names.specs.Writing.{IsAt, Goes, AreOpen, before_last, all_of}
+use Rattle.short_names.proofs.Basics.{◌≡◌, ◌≤◌, ◌<◌, ◌+◌, ◌-◌, ◌&&◌, refl, sym, ap, ◌∙◌, subst, ℕ, arith, true, false, List, [], ◌∷◌, ◌++◌, length, take, drop, get_or, slice_get, Option, None, Some, is_some, append_assoc, append-nil, length-drop, length-take, nat_eq, codes, if◌then◌else◌, drop-drop, drop_at, take-append-drop, take-take, starts_with, Named, Alias, Place, ALIASES, STD, STRING, STRING_TEMPLATE, TEMPLATES, Writing, has_list, IsString, left, left_of, alias_in, aliases_of, joined, is_polymorphic, listed, named_in, std_name, table_name, template_in, with_template, member_in, filled, behind_run, is_name_byte, is_letter, run_of, begins_std, ends_operator, sign_size, short_rules, for_list, for_name, short_list, before_name, behind, constructor, if_read_back, is_read_back, member, text_of, Answer, Opened, Written, stepped, written_for, at_sign, at_plain, answers, keeps, opens, IsAt, Goes, AreOpen, before_last, all_of}
 use Rattle.short_names.proofs.BracketLemmas.{no_name, here_is}
 use Rattle.short_names.proofs.CloseLemmas.{name-ends}
 use Rattle.short_names.proofs.NameLemmas.{no-colon, std-plain}
@@ -25,7 +7,7 @@ use Rattle.short_names.proofs.NameSteps.{at_run, nothing_shorter, run-take, run-
 use Rattle.short_names.proofs.SignLemmas.{more-bytes}
 use Rattle.short_names.proofs.WalkLemmas.{goes}
 
--- a place of the table is known by where it begins and ends
+-- two places of the table are equal if they begin and end alike
 pub place_is : (place other : Place) → place.from ≡ other.from → place.to ≡ other.to → place ≡ other
 place_is place other from to = rw (from, to) refl
 

@@ -1,14 +1,5 @@
 -- The rows of templates, which are looked up by the sizes of their names and by marks.
-use Rattle.std.proofs.Common.{◌≡◌, ◌≢◌, ◌<◌, ◌≤◌, ◌+◌, ◌==◌, zero, suc, ℕ, Bool, true, false, List, [], ◌∷◌, ◌&&◌, length, drop, get_or, slice_get, nat_eq, nat_le, nat_lt, refl, sym, ap, ◌∙◌, subst, arith, add-zero, None, Some, inl, inr, min, eqb-true, leb-true, ltb-true}
-use Rattle.std.specs.Cmp.Lexicographic.{pointwise}
-use Rattle.std.proofs.lemmas.Bool.{and_parts}
-use Rattle.std.proofs.lemmas.List.{at_drop_more, drop_all, get_or_past}
-use Rattle.std.proofs.lemmas.Option.{slice_get-get_or, get_or_from_slice_get}
-use Rattle.std.proofs.lemmas.Slice.Eq.{bytes_eq-Decides}
-use Rattle.short_names.specs.declared.table.Template.{Template}
-use Rattle.short_names.specs.declared.table.TheConstants.{FIRST, MARKS, TEMPLATES}
-use Rattle.short_names.specs.Names.{template_in, mark_of}
-use Rattle.short_names.specs.Texts.{text_of}
+use Rattle.short_names.proofs.Basics.{◌≡◌, ◌≢◌, ◌<◌, ◌≤◌, ◌+◌, ◌==◌, zero, suc, ℕ, Bool, true, false, List, [], ◌∷◌, ◌&&◌, length, drop, get_or, slice_get, nat_eq, nat_le, nat_lt, refl, sym, ap, ◌∙◌, subst, arith, add-zero, None, Some, inl, inr, min, eqb-true, leb-true, ltb-true, pointwise, and_parts, at_drop_more, drop_all, get_or_past, slice_get-get_or, get_or_from_slice_get, bytes_eq-Decides, Template, FIRST, MARKS, TEMPLATES, template_in, mark_of, text_of}
 use Rattle.short_names.proofs.FrontLemmas.{false-from}
 use Rattle.short_names.proofs.RunLemmas.{lt-or-le}
 
@@ -20,7 +11,7 @@ name-is row name h = (bytes_eq-Decides (text_of row.name) name).0 h
 
 -- ## By sizes
 
--- a row is where rows of its name's size are
+-- a row is among the rows whose names have its name's size
 fits : ℕ → Template → Bool
 fits k row = nat_le (get_or FIRST (length (text_of row.name)) 0) k && nat_lt k (get_or FIRST (length (text_of row.name) + 1) 0)
 
@@ -125,7 +116,7 @@ module _ (name : List ℕ) (row : ℕ) (d : Template) (within : row < length TEM
   slice-is : slice_get TEMPLATES row ≡ Some (get_or TEMPLATES row d)
   slice-is = slice_get-get_or TEMPLATES row d within
 
-  -- a test that says of each template in a row whether it has the name says so of the one in this row
+  -- a test that says whether the template in a row has the name
   pub named-here : (r : Bool) → ((template : Template) → slice_get TEMPLATES row ≡ Some template → r ≡ pointwise nat_eq (text_of template.name) name) → has_name (get_or TEMPLATES row d) name ≡ r
   named-here r told = sym (told (get_or TEMPLATES row d) slice-is)
 

@@ -1,12 +1,5 @@
 -- Short texts keep full texts and full texts keep short ones, where a text has usual names or their lists outside of other lists.
-use Rattle.std.proofs.Common.{◌≡◌, ◌&&◌, ◌∷◌, ◌==◌, inl, inr, not, refl, sym, ap, ap₂, subst, ◌∙◌, ℕ, arith, Bool, true, false, List, [], ◌++◌, Some, append-nil, append_assoc, eq-eqb}
-use Rattle.std.proofs.lemmas.Bool.{and_parts, true≢false}
-use Rattle.short_names.specs.Full.{full, full_to, full_rules}
-use Rattle.short_names.specs.Parts.{begins_free, begins_name, is_end, Parts, ends, name_then, byte_then, group_then, list_then, Elements, written, as_it_is, text_from, are_outside, all_lists, is_simple_list, short_bytes, full_bytes, is_known}
-use Rattle.short_names.specs.Runs.{is_name_byte, is_letter}
-use Rattle.short_names.specs.Short.{short, short_rules}
-use Rattle.short_names.specs.Usual.{GoesOn, IsConstructed, IsUsual, Whole, last_parts, usual_then, member_then, constructor_then, front_of, comes_apart, whole_written, one_of, is_free, AreApart, all_within, IsWhole}
-use Rattle.short_names.specs.Walk.{Rules, by_rules, text_or, written_for}
+use Rattle.short_names.proofs.Basics.{◌≡◌, ◌&&◌, ◌∷◌, ◌==◌, inl, inr, not, refl, sym, ap, ap₂, subst, ◌∙◌, ℕ, arith, Bool, true, false, List, [], ◌++◌, Some, append-nil, append_assoc, eq-eqb, and_parts, true≢false, full, full_to, full_rules, begins_free, begins_name, is_end, Parts, ends, name_then, byte_then, group_then, list_then, Elements, written, as_it_is, text_from, are_outside, all_lists, is_simple_list, short_bytes, full_bytes, is_known, is_name_byte, is_letter, short, short_rules, GoesOn, IsConstructed, IsUsual, Whole, last_parts, usual_then, member_then, constructor_then, front_of, comes_apart, whole_written, one_of, is_free, AreApart, all_within, IsWhole, Rules, by_rules, text_or, written_for}
 use Rattle.short_names.proofs.ConstructorSteps.{short-by-name, short-by-list, full-by-name, full-by-list}
 use Rattle.short_names.proofs.MemberSteps.{member-after, short-member, full-member, short-alone, full-alone}
 use Rattle.short_names.proofs.PartChanges.{changed-first, changed-end, changed, changed-ends, changed-free, changed-outside, outside-written}

@@ -1,17 +1,5 @@
 -- Names and texts for which the laws are proved.
-use Rattle.std.proofs.Common.{◌≡◌, ◌++◌, ◌&&◌, refl, Bool, true, false, [], codes}
-use Rattle.std.specs.List.{list_all}
-use Rattle.short_names.specs.declared.table.TheConstants.{STD}
-use Rattle.short_names.specs.Elements.{alias_in, joined, left_of}
-use Rattle.short_names.specs.Full.{full, full_to, usual_in, with_defaults}
-use Rattle.short_names.specs.Names.{end_by, std_name, named_in, template_in, row_in, member_in, is_constructor, class_of, ends_name}
-use Rattle.short_names.specs.Parts.{has_default, inner_forms, inner_in, is_plain, is_plain_list, IsMade, simple_names, are_outside, is_known, ends, name_then, byte_then, list_then, no_more, element_then, all_lists, are_apart, written, short_bytes, full_bytes, is_simple_list, is_simple, forms, form_in, has_form, is_form, is_other, has_no_usual, has_usual, is_only, is_usual, usual_for, usual_instance}
-use Rattle.short_names.specs.Patterns.{filled}
-use Rattle.short_names.specs.Runs.{is_name_byte, is_letter, run_of, ends_operator, sign_size}
-use Rattle.short_names.specs.Short.{short, short_list}
-use Rattle.short_names.specs.Texts.{text_of}
-use Rattle.short_names.specs.Usual.{GoesOn, IsConstructed, IsUsual, are_clear, is_listed, is_only_before}
-use Rattle.short_names.specs.Walk.{by_rules, written_for, stepped, at_sign}
+use Rattle.short_names.proofs.Basics.{◌≡◌, ◌++◌, ◌&&◌, refl, Bool, true, false, [], codes, list_all, STD, alias_in, joined, left_of, full, full_to, usual_in, with_defaults, end_by, std_name, named_in, template_in, row_in, member_in, is_constructor, class_of, ends_name, has_default, inner_forms, inner_in, is_plain, is_plain_list, IsMade, simple_names, are_outside, is_known, ends, name_then, byte_then, list_then, no_more, element_then, all_lists, are_apart, written, short_bytes, full_bytes, is_simple_list, is_simple, forms, form_in, has_form, is_form, is_other, has_no_usual, has_usual, is_only, is_usual, usual_for, usual_instance, filled, is_name_byte, is_letter, run_of, ends_operator, sign_size, short, short_list, text_of, GoesOn, IsConstructed, IsUsual, are_clear, is_listed, is_only_before, by_rules, written_for, stepped, at_sign}
 
 pub std-string : IsUsual (codes "std::string") (codes "std::basic_string<char, std::char_traits<char>, std::allocator<char>>")
 unfolding all_lists are_apart written short_bytes full_bytes is_simple_list is_simple is_plain is_plain_list inner_forms inner_in has_default forms form_in has_form is_form is_other has_no_usual has_usual is_listed is_only short full full_to by_rules written_for stepped at_sign run_of is_name_byte is_letter ends_operator sign_size std_name named_in template_in row_in text_of joined left_of alias_in filled short_list usual_in member_in with_defaults is_constructor class_of ends_name

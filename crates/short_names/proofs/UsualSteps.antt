@@ -1,22 +1,8 @@
 -- Usual names and the lists that they are for, outside of lists.
-use Rattle.std.proofs.Common.{◌≡◌, ◌==◌, ◌<◌, ◌+◌, ◌-◌, ◌&&◌, ◌||◌, not, refl, sym, ap, ap₂, subst, ◌∙◌, eqb-true, ℕ, arith, Bool, true, false, List, [], ◌∷◌, ◌++◌, length, take, drop, get_or, nat_eq, codes, Option, None, Some, is_some, if◌then◌else◌, append-nil, append_assoc}
-use Rattle.std.proofs.lemmas.Bool.{and_parts, true≢false}
-use Rattle.std.specs.List.{list_all, starts_with}
+use Rattle.short_names.proofs.Basics.{◌≡◌, ◌==◌, ◌<◌, ◌+◌, ◌-◌, ◌&&◌, ◌||◌, not, refl, sym, ap, ap₂, subst, ◌∙◌, eqb-true, ℕ, arith, Bool, true, false, List, [], ◌∷◌, ◌++◌, length, take, drop, get_or, nat_eq, codes, Option, None, Some, is_some, if◌then◌else◌, append-nil, append_assoc, and_parts, true≢false, list_all, starts_with, Named, Alias, ALIASES, joined, listed, left, left_of, is_polymorphic, full_to, full_rules, usual, usual_in, instance, pmr_in, StdName, std_name, named_in, last_part, class_of, front_size, is_constructor, ends_name, member_in, alias_of, each_written, as_it_is, instance_by, instance_of, is_bare, is_only, is_row, is_std, is_usual, usual_instance, has_some, each_apart, is_simple_list, short_bytes, full_bytes, ends_operator, is_letter, is_name_byte, short_rules, short_list, if_read_back, is_read_back, member, text_of, IsUsual, is_listed, Answer, Opened, Rules, sign_of, written_for}
 use lib.Pointwise.{bytes_decides}
-use Rattle.short_names.specs.declared.names.Named.{Named}
-use Rattle.short_names.specs.declared.table.Alias.{Alias}
-use Rattle.short_names.specs.declared.table.TheConstants.{ALIASES}
-use Rattle.short_names.specs.Elements.{joined, listed, left, left_of, is_polymorphic}
-use Rattle.short_names.specs.Full.{full_to, full_rules, usual, usual_in, instance, pmr_in}
 use Rattle.short_names.specs.Full as of_full
-use Rattle.short_names.specs.Names.{StdName, std_name, named_in, last_part, class_of, front_size, is_constructor, ends_name, member_in}
-use Rattle.short_names.specs.Parts.{alias_of, each_written, as_it_is, instance_by, instance_of, is_bare, is_only, is_row, is_std, is_usual, usual_instance, has_some, each_apart, is_simple_list, short_bytes, full_bytes}
-use Rattle.short_names.specs.Runs.{ends_operator, is_letter, is_name_byte}
-use Rattle.short_names.specs.Short.{short_rules, short_list, if_read_back, is_read_back, member}
 use Rattle.short_names.specs.Short as of_short
-use Rattle.short_names.specs.Texts.{text_of}
-use Rattle.short_names.specs.Usual.{IsUsual, is_listed}
-use Rattle.short_names.specs.Walk.{Answer, Opened, Rules, sign_of, written_for}
 use Rattle.short_names.proofs.PartRules.{free-constructor, free-end, no-constructor, no-end, short-obeys, full-obeys}
 use Rattle.short_names.proofs.PartSteps.{IsFree, at, behind-all, name-answers, name-opens, name-stays}
 use Rattle.short_names.proofs.PartWalks.{Calls, bare-calls, each-goes, not-true}
@@ -50,7 +36,7 @@ for-list name list is = record {
   list_is = is.list_is;
 }
 
--- what a test of a name says
+-- what is known of a name that passes the test `is_usual`
 pub record IsTested (name : List ℕ) : Type 0 where
   pub is : IsFor name (full_to 3 (usual_instance name))
   pub some : is_bare name ≡ false
@@ -165,7 +151,7 @@ pub listed-calls : (rules : Rules) (for_list : List ℕ → List ℕ → List (L
 unfolding is_listed
 listed-calls rules for_list = bare-calls rules for_list is_listed (λ usual name elements is. is)
 
--- no name goes on, and no constructor follows
+-- neither more of a name nor a constructor follows
 pub record IsAfter (alias : Alias) (rest : List ℕ) : Type 0 where
   pub ends : ends_name rest ≡ true
   pub not_own : is_constructor rest (last_part (text_of alias.template)) ≡ false

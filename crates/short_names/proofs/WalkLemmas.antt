@@ -1,8 +1,6 @@
 -- One step of the walk through a text, by the place of the text.
-use Rattle.std.proofs.Common.{◌≡◌, ◌<◌, ◌≤◌, ◌+◌, ◌-◌, refl, sym, ap, ◌∙◌, ℕ, zero, suc, arith, List, [], ◌∷◌, ◌++◌, length, take, drop, Option, None, Some, length-drop}
+use Rattle.short_names.proofs.Basics.{◌≡◌, ◌<◌, ◌≤◌, ◌+◌, ◌-◌, refl, sym, ap, ◌∙◌, ℕ, zero, suc, arith, List, [], ◌∷◌, ◌++◌, length, take, drop, Option, None, Some, length-drop, take-add, Rules, Written, Stepped, stepped, written_for}
 use Rattle.std.proofs.lemmas.List.{drop-drop, length-take-le}
-use Rattle.std.proofs.Math.Seq.{take-add}
-use Rattle.short_names.specs.Walk.{Rules, Written, Stepped, stepped, written_for}
 
 skip : (rules : Rules) (n : ℕ) (text : List ℕ) (written : Written) → written_for rules n text written ≡ written_for rules 0 (drop n text) written
 unfolding written_for
@@ -32,7 +30,7 @@ stops rules text at byte rest written here step =
     let after : Option Stepped → Option Written = λ o. elim o [ None ↦ None | Some it ↦ written_for rules (it.size - 1) rest it.written ] in
     ap (λ t. written_for rules 0 t written) here ∙ ap after step
 
--- what isn't copied, some bytes further
+-- the bytes not yet copied, after some more bytes of the text
 pub pending-more : (text : List ℕ) (copied at size : ℕ) → copied ≤ at
     → take (at + size - copied) (drop copied text) ≡ take (at - copied) (drop copied text) ++ take size (drop at text)
 pending-more text copied at size h =

@@ -26,7 +26,7 @@ abbrev pub IsMemberOf : (run rest : List ℕ) → (size : ℕ) → Option Alias 
 IsMemberOf run rest size None = ⊥
 IsMemberOf run rest size (Some alias) = IsMember run rest size alias
 
--- at a run that begins with `std::`, before the rest of the text
+-- what becomes shorter at a run that begins with `std::`, before the rest of the text
 abbrev pub IsChange : (run rest : List ℕ) → Change → Type 0
 IsChange run rest changes.Nothing = (has_list run rest ≡ false) × (for_name run rest (std_name run) ≡ None)
 IsChange run rest (changes.List whole row) = (starts_with nat_eq rest (codes "<") ≡ true) × (row < length TEMPLATES) × (named_in run ≡ with_template whole (slice_get TEMPLATES row))

@@ -30,24 +30,24 @@ element elements place = get_or elements place []
 abbrev pub filled_for : Named → List (List ℕ) → (pattern : List ℕ) → List ℕ
 filled_for named elements pattern = filled (element elements 0) (element elements 1) (text_of named.whole) pattern
 
--- the pattern of the default in a place; none where there is no default
+-- the pattern of the default in a place; empty if there is no default
 abbrev pub pattern_at : Option Place → List ℕ
 pattern_at None = []
 pattern_at (Some place) = text_of place
 
--- what the table has for each place of a template
+-- the defaults that the table has for the places of a template
 abbrev pub defaults_of : Template → List Place
 defaults_of template = take template.count (drop template.first_default DEFAULTS)
 
 abbrev pub default_pattern : Named → ℕ → List ℕ
 default_pattern named place = pattern_at (slice_get (defaults_of named.template) place)
 
--- the holes of a name's patterns have what fills them
+-- what fills the holes of a name's patterns: the first two elements, and the name's `std::`
 abbrev pub AreHoles : Named → List (List ℕ) → Holes → Type 0
 AreHoles named elements holes =
     (holes.first.now ≡ element elements 0) × (holes.second.now ≡ element elements 1) × (holes.whole.now ≡ text_of named.whole)
 
--- there is a pattern, and a text is that with its holes filled
+-- a pattern isn't empty, and a text is this pattern with its holes filled
 abbrev pub is_given : Named → List (List ℕ) → (text pattern : List ℕ) → Bool
 is_given named elements text pattern = not (length pattern == 0) && pointwise nat_eq text (filled_for named elements pattern)
 
@@ -55,12 +55,12 @@ is_given named elements text pattern = not (length pattern == 0) && pointwise na
 abbrev pub is_default : Named → List (List ℕ) → ℕ → Bool
 is_default named elements place = is_given named elements (element elements place) (default_pattern named place)
 
--- how many of the first elements are left without the defaults at their end
+-- how many of the first elements are left once the defaults at their end are left out
 unfoldable pub left_of : Named → List (List ℕ) → ℕ → ℕ
 left_of named elements zero = zero
 left_of named elements (suc count) = if is_default named elements count then left_of named elements count else suc count
 
--- how many of all elements are left: none is left out where there are more than the template has
+-- how many of all elements are left; none is left out if there are more than the template has
 abbrev pub left : Named → List (List ℕ) → ℕ
 left named elements = if nat_le (length elements) named.template.count then left_of named elements (length elements) else length elements
 

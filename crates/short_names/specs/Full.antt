@@ -13,7 +13,7 @@ use Rattle.short_names.specs.Walk.{Answer, Rules, by_rules}
 
 -- ## Defaults
 
--- elements, and the defaults in the places after them that have some, each as a full text
+-- elements, and after them the defaults of the next places, each as a full text, up to a place without a default
 unfoldable pub with_defaults : (full : List ℕ → List ℕ) → Named → List (List ℕ) → (places : List Place) → List (List ℕ)
 with_defaults full named elements [] = elements
 with_defaults full named elements (place ∷ places) =
@@ -97,11 +97,11 @@ full_rules full = record {
   for_list = λ run elements rest. for_list full run elements (named_in run);
 }
 
--- full texts, in which what a rule writes is full to a depth
+-- the full text of a text to a depth: what a rule writes in it is full to a depth of one less
 unfoldable pub full_to : ℕ → List ℕ → List ℕ
 full_to zero text = text
 full_to (suc depth) text = by_rules (full_rules (full_to depth)) text
 
--- The full text of a text. No usual name and no default of the table has others within it to a greater depth.
+-- The full text of a text. No usual names and defaults of the table are nested to a greater depth.
 unfoldable pub full : List ℕ → List ℕ
 full text = full_to 4 text

@@ -10,7 +10,7 @@ use Rattle.short_names.specs.Texts.{text_of}
 abbrev pub begins_low : Place → Bool
 begins_low row = not (length (text_of row) == 0) && get_or (text_of row) 0 0 == 95
 
--- the size of the inline namespaces with which a name begins, after some bytes of one
+-- the size of the inline namespaces with which a name begins, where its first `skipped` bytes are of one
 unfoldable pub inlines_size : List Place → (skipped : ℕ) → List ℕ → ℕ
 inlines_size rows skipped [] = 0
 inlines_size rows (suc skipped) (byte ∷ name) = suc (inlines_size rows skipped name)
@@ -19,8 +19,8 @@ inlines_size rows zero (byte ∷ name) = elim (size_of (row_in rows (byte ∷ na
   | suc size ↦ suc (inlines_size rows size name)
 ]
 
--- of a name after `std::`: the size of the inline namespaces at its front, the namespace after them that has some of its own,
--- and the size of those
+-- for a name after `std::`: the size of the inline namespaces at its front, that of the namespace after them if it has inline
+-- namespaces of its own, and the size of these
 abbrev pub front : List ℕ → ℕ
 front name = inlines_size INLINES 0 name
 
@@ -34,14 +34,14 @@ nested name = if inner name == 0 then 0 else inlines_size INNER_INLINES 0 (drop 
 abbrev pub has_inlines : List ℕ → Bool
 has_inlines name = not (front name + nested name == 0)
 
--- what is written for these, and how many bytes of the text they are, with `std::`
+-- what is written for `std::` and the namespaces at a name's front, and how many bytes of the text it replaces
 abbrev pub std_front : List ℕ → List ℕ
 std_front text = codes "std::" ++ take (inner (drop 5 text)) (drop (front (drop 5 text)) (drop 5 text))
 
 abbrev pub std_size : List ℕ → ℕ
 std_size text = 5 + (front (drop 5 text) + inner (drop 5 text) + nested (drop 5 text))
 
--- A text without the inline namespaces of `std`, where some bytes are passed over first, and where the byte before is of a name or not.
+-- A text without the inline namespaces of `std`, after `skipped` bytes; `in_run`: the byte before the text is of a name.
 unfoldable pub without_inlines : (in_run : Bool) → (skipped : ℕ) → List ℕ → List ℕ
 without_inlines in_run skipped [] = []
 without_inlines in_run (suc skipped) (byte ∷ text) = without_inlines (is_name_byte byte) skipped text

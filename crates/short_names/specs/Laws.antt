@@ -1,6 +1,6 @@
--- What holds of short and full texts. `short_texts_are_no_longer` proves the first, and `alike_texts_are_alike` that the last
--- follows from the two before it. `texts_without_rows_stay`, `texts_of_lists_keep` and `texts_of_usual_names_keep` say for
--- which texts these two are proved.
+-- What holds of short and full texts. `short_texts_are_no_longer` proves `IsNoLonger`, and `alike_texts_are_alike` proves that
+-- `AreAlike` follows from `KeepsFull` and `KeepsShort`. `texts_without_rows_stay`, `texts_of_lists_keep` and
+-- `texts_of_usual_names_keep` say for which texts `KeepsFull` and `KeepsShort` are proved.
 use Rattle.std.specs.Prelude.{◌≡◌, ◌≤◌, ◌++◌, ℕ, Bool, true, false, List, length, drop, Option, None, Some}
 use Rattle.short_names.specs.declared.table.TheConstants.{ALIASES}
 use Rattle.short_names.specs.Full.{full, full_to, full_rules, pmr_in, usual_in}
@@ -14,15 +14,15 @@ use Rattle.short_names.specs.Walk.{Pairs}
 abbrev pub IsNoLonger : (keeps_inline : Bool) → List ℕ → Type 0
 IsNoLonger keeps_inline text = length (shortened keeps_inline text) ≤ length text
 
--- A short text has the full text of its text.
+-- The short text of a text whose brackets pair has the same full text as the text.
 abbrev pub KeepsFull : List ℕ → Type 0
 KeepsFull text = Pairs (full_rules (full_to 3)) text → full (short text) ≡ full text
 
--- A full text has the short text of its text.
+-- The full text of a text whose brackets pair has the same short text as the text.
 abbrev pub KeepsShort : List ℕ → Type 0
 KeepsShort text = Pairs (full_rules (full_to 3)) text → short (full text) ≡ short text
 
--- Two texts have one short text exactly where they have one full text.
+-- Two texts have equal short texts exactly if their full texts are equal.
 abbrev pub AreAlike : List ℕ → List ℕ → Type 0
 AreAlike text other = (short text ≡ short other → full text ≡ full other) × (full text ≡ full other → short text ≡ short other)
 
@@ -30,7 +30,7 @@ AreAlike text other = (short text ≡ short other → full text ≡ full other) 
 abbrev pub HasNoStd : List ℕ → Type 0
 HasNoStd text = (k : ℕ) → is_std_at text k ≡ false
 
--- No usual name begins a name of `std`, and none that was written already does.
+-- A name of `std` begins with no usual name, nor with one that was written already before a constructor or destructor.
 abbrev pub HasNoUsual : (rest : List ℕ) → Option StdName → Type 0
 HasNoUsual rest None = Unit {0}
 HasNoUsual rest (Some std) = (usual_in ALIASES std.name (std.name ++ rest) ≡ None) × (member_in ALIASES std.name (std.name ++ rest) ≡ None)

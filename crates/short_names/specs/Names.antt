@@ -27,7 +27,7 @@ pub record StdName : Type 0 where
   pub whole : Place
   pub name : List ℕ
 
--- the name after an inline namespace that holds a part of `std`
+-- a name without the inline namespace at its front that holds a part of `std`, if there is one
 abbrev pub behind_part : List ℕ → List ℕ
 behind_part name = drop (size_of (row_in PARTS name)) name
 
@@ -69,7 +69,7 @@ unfoldable pub end_by : (ℕ → Bool) → List ℕ → List ℕ
 end_by test [] = []
 end_by test (byte ∷ text) = if list_all test (byte ∷ text) then byte ∷ text else end_by test text
 
--- the last part of a name
+-- a byte is no colon, and the last part of a name has only such bytes
 abbrev pub is_no_colon : ℕ → Bool
 is_no_colon byte = not (byte == 58)
 
@@ -93,7 +93,7 @@ class_of alias =
     if nat_le (length (last_part (text_of alias.name))) (length (last_part (text_of alias.template))) then last_part (text_of alias.name)
     else last_part (text_of alias.template)
 
--- a name ends where a text goes on: with no byte of a longer name, and with no list
+-- a name ends before the rest of a text: neither a byte of a longer name nor a list comes next
 unfoldable pub ends_name : (rest : List ℕ) → Bool
 ends_name [] = true
 ends_name (byte ∷ rest) = starts_with nat_eq (byte ∷ rest) (codes "::") || not (is_name_byte byte || byte == 60)

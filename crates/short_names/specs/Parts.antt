@@ -22,7 +22,7 @@ mutual
     name_then : (name : List ℕ) → (rest : Parts) → Parts
     byte_then : (byte : ℕ) → (rest : Parts) → Parts
     group_then : (opening : ℕ) → (inner : Parts) → (closing : ℕ) → (rest : Parts) → Parts
-    -- a list, with the name of the table before it, or with no bytes before it; and the usual name that is written for both, if
+    -- a list, with the name of the table before it or without a name; and the usual name that is written for both, if
     -- one is
     list_then : (usual name : List ℕ) → (elements : Elements) → (rest : Parts) → Parts
 
@@ -30,7 +30,7 @@ mutual
     no_more : Elements
     element_then : (element : Parts) → (others : Elements) → Elements
 
--- What is written for parts, by what is written for a name and its elements, and the usual name before those.
+-- What is written for parts, by what is written for a list with its usual name, its name and its elements.
 unfoldable mutual
   pub written : (for_list : List ℕ → List ℕ → List (List ℕ) → List ℕ) → Parts → List ℕ
   written for_list ends = []
@@ -117,7 +117,7 @@ begins_free (byte_then byte rest) at_end = not (byte == 60)
 begins_free (group_then opening inner closing rest) at_end = true
 begins_free (list_then usual name elements rest) at_end = false
 
--- neither a name nor a list comes after a list that may have a usual name, and no other list has one
+-- neither a name nor a list comes after a list that may have a usual name, and any other list has no usual name
 abbrev pub stands : (usual name : List ℕ) → (rest : Parts) → Bool
 stands usual name rest = if has_usual name then begins_free rest true else is_bare usual
 
@@ -130,7 +130,7 @@ is_placed is_list usual (byte ∷ name) rest = is_list (byte ∷ name) && stands
 abbrev pub opens_group : ℕ → Bool
 opens_group byte = byte == 40 || (byte == 91 || byte == 123)
 
--- A byte of no name that is no bracket, and no comma directly within a list. What comes after `-` is in the same brackets.
+-- A byte of no name that is no bracket, and no comma directly within a list. A `-` isn't the last part.
 abbrev pub is_between_names : (in_list : Bool) → ℕ → Parts → Bool
 is_between_names in_list byte rest =
     not (is_name_byte byte) && (not (is_opening byte) && (not (byte == 62) && (not (is_closing byte) && (not (in_list && byte == 44) && not (byte == 45 && is_end rest)))))
@@ -151,7 +151,7 @@ unfoldable mutual
 
 -- ## Parts of a whole text
 
--- Parts that stay apart outside of brackets: there only lists that rules may change are lists.
+-- Parts that stay apart outside of brackets. Each list there is one that rules may change.
 unfoldable pub are_outside : (is_list : List ℕ → Bool) → Parts → Bool
 are_outside is_list ends = true
 are_outside is_list (name_then name rest) = is_other name && (not (begins_name rest) && are_outside is_list rest)
@@ -220,7 +220,7 @@ begins_hole (byte_then byte rest) = not (is_no_hole byte)
 begins_hole (group_then opening inner closing rest) = false
 begins_hole (list_then usual name elements rest) = false
 
--- The parts of a form stay apart, whatever is in its holes, where a `std::` is in the hole for it.
+-- The parts of a form stay apart whatever fills its holes for arguments, if `whole` fills its hole for `std::`.
 unfoldable mutual
   pub is_form : (whole : List ℕ) → Parts → Bool
   is_form whole ends = true
@@ -239,7 +239,7 @@ abbrev pub is_some_form : (whole : List ℕ) → Option Parts → Bool
 is_some_form whole None = false
 is_some_form whole (Some form) = is_form whole form
 
--- a pattern is of one of the forms
+-- a pattern is empty, or is of one of the forms
 unfoldable pub has_form : (whole pattern : List ℕ) → Bool
 has_form whole pattern = length pattern == 0 || is_some_form whole (form_in forms pattern)
 
@@ -294,7 +294,7 @@ is_some_default whole (Some form) inner = is_form whole form
 is_some_default whole None None = false
 is_some_default whole None (Some inner) = list_all is_no_hole inner.name && (is_plain_list (filled [] [] whole inner.name) && is_form whole inner.argument)
 
--- a pattern is of one of all these forms
+-- a pattern is empty, or is of one of all these forms
 unfoldable pub has_default : (whole pattern : List ℕ) → Bool
 has_default whole pattern = length pattern == 0 || is_some_default whole (form_in forms pattern) (inner_in inner_forms pattern)
 
@@ -303,7 +303,7 @@ unfoldable pub is_simple : Option Named → Bool
 is_simple None = false
 is_simple (Some named) = is_template has_default named
 
--- The name of a list of such a template.
+-- The name of a list whose template has only defaults of these forms.
 unfoldable pub is_simple_list : List ℕ → Bool
 is_simple_list name = not (is_bare name) && (list_all is_name_byte name && is_simple (named_in name))
 
@@ -389,7 +389,8 @@ abbrev pub left_list : Option Named → (name : List ℕ) → List (List ℕ) �
 left_list None name elements = name ++ listed elements
 left_list (Some named) name elements = name ++ listed (take (left named elements) elements)
 
--- A list by its usual name, or as it is: the instance that the name is for is the list that is left.
+-- A list is as it is, or has its usual name (`usual`). If a short text has a usual name for the list (`called`), the instance of
+-- that name is the list without the defaults at its end.
 abbrev pub is_called : (called : Option (List ℕ)) → (usual name : List ℕ) → List (List ℕ) → Bool
 is_called None usual name elements = is_bare usual
 is_called (Some called) usual name elements =

@@ -9,11 +9,11 @@ use Rattle.short_names.specs.Runs.{run_of, is_std_at}
 abbrev pub behind_run : List ℕ → List ℕ
 behind_run text = drop (length (run_of text)) text
 
--- no name of `std` becomes shorter that begins before a place
+-- no name of `std` that begins before a place becomes shorter
 abbrev pub IsPlain : (text : List ℕ) → (to : ℕ) → Type 0
 IsPlain text to = (k : ℕ) → k < to → is_std_at text k ≡ true → IsChange (run_of (drop k text)) (behind_run (drop k text)) changes.Nothing
 
--- the first name that becomes shorter; none where none does
+-- the found name is the first of a text that becomes shorter or may do so
 pub record IsFirst (text : List ℕ) (found : Found) : Type 0 where
   pub begins : is_std_at text found.at ≡ true
   pub within : found.at < length text

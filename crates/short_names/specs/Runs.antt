@@ -24,7 +24,7 @@ unfoldable pub ends_operator : List ℕ → Bool
 ends_operator run =
     ends_with nat_eq run (codes "operator") && (length run == 8 || not (is_letter (get_or run (length run - 9) 0)))
 
--- how many bytes of an operator's sign or of an arrow a text begins with that look like brackets of lists
+-- the size of an operator's sign with `<` or `>`, or of an arrow, with which a text begins, or 0
 unfoldable pub sign_size : List ℕ → ℕ
 sign_size text =
     if starts_with nat_eq text (codes "<=>") then 3

@@ -21,7 +21,7 @@ constructor alias rest =
       size = front_size rest + length (last_part (text_of alias.template));
     } else record { bytes = []; size = 0 }
 
--- some bytes and what follows them
+-- an answer with some bytes before it
 abbrev pub behind : List ℕ → Answer → Answer
 behind bytes answer = record { bytes = bytes ++ answer.bytes; size = answer.size }
 
@@ -29,7 +29,7 @@ behind bytes answer = record { bytes = bytes ++ answer.bytes; size = answer.size
 abbrev pub is_own : (rest : List ℕ) → Alias → Bool
 is_own rest alias = is_constructor rest (last_part (text_of alias.template)) || not (is_constructor rest (class_of alias))
 
--- A usual name is one where the text goes on, and is read back as the same.
+-- A usual name ends before the rest of the text, and is read back as the same name.
 abbrev pub is_read_back : (rest : List ℕ) → Alias → Bool
 is_read_back rest alias = ends_name rest && is_own rest alias
 

@@ -2,7 +2,7 @@
 use Rattle.std.specs.Prelude.{◌≡◌, ◌<◌, ℕ, List, [], ◌∷◌, ◌++◌, ◌+◌, length}
 use Rattle.short_names.specs.Elements.{joined}
 
--- where elements begin that are written one after the other from a place on, with `, ` between them
+-- where each element begins, if the elements are written one after the other from a place on, with `, ` between them
 unfoldable pub starts_of : (from : ℕ) → List (List ℕ) → List ℕ
 starts_of from [] = []
 starts_of from (element ∷ elements) = from ∷ starts_of (from + length element + 2) elements

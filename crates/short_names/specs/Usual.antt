@@ -12,7 +12,7 @@ use Rattle.short_names.specs.Runs.{is_letter, is_name_byte}
 use Rattle.short_names.specs.Short.{before_name}
 use Rattle.short_names.specs.Texts.{text_of}
 
--- no list is written by its usual name
+-- a list isn't written by its usual name
 unfoldable pub is_listed : (usual name : List ℕ) → Elements → Bool
 is_listed usual name elements = is_bare usual
 
@@ -74,14 +74,14 @@ pub record GoesOn (name list member : List ℕ) (alias : Alias) : Type 0 where
 abbrev pub front_of : (destructor : Bool) → List ℕ
 front_of destructor = if destructor then codes "::~" else codes "::"
 
--- The run of a usual name and a constructor or destructor after it, and what of that comes after the run.
+-- The run of a usual name with a constructor or destructor after it. A `~` ends the run; it and the bytes after it are `beyond`.
 abbrev pub run_with : (destructor : Bool) → (name class : List ℕ) → List ℕ
 run_with destructor name class = name ++ (if destructor then codes "::" else codes "::" ++ class)
 
 abbrev pub beyond : (destructor : Bool) → (class : List ℕ) → List ℕ
 beyond destructor class = if destructor then codes "~" ++ class else []
 
--- at least three bytes come after each usual name with which a name begins, in the name and some bytes that follow it
+-- each usual name with which a name begins has at least three bytes after it, in the name and in `more`
 unfoldable pub are_clear : List Alias → (name more : List ℕ) → Bool
 are_clear rows name more =
     list_all (λ row. not (starts_with nat_eq name (text_of row.name))
@@ -114,9 +114,9 @@ pub record IsConstructed (destructor : Bool) (name list class own : List ℕ) (a
 pub data Whole : Type 0 where
   last_parts : (parts : Parts) → Whole
   usual_then : (parts : Parts) → (is_list : Bool) → (name list : List ℕ) → (rest : Whole) → Whole
-  -- and the name of a member after it
+  -- a usual name or its list, and the name of a member after it
   member_then : (parts : Parts) → (is_list : Bool) → (name list member : List ℕ) → (rest : Whole) → Whole
-  -- and a constructor or destructor after it, by the name of the class or of the template
+  -- a usual name or its list, and a constructor or destructor after it, by the name of the class or of the template
   constructor_then : (parts : Parts) → (is_list destructor : Bool) → (name list class own : List ℕ) → (rest : Whole) → Whole
 
 -- what is written for parts and usual names
@@ -128,7 +128,7 @@ whole_written for_list usual (member_then parts is_list name list member rest) =
 whole_written for_list usual (constructor_then parts is_list destructor name list class own rest) =
     written for_list parts ++ (usual is_list name list ++ (front_of destructor ++ (usual is_list class own ++ whole_written for_list usual rest)))
 
--- a usual name or its list, as it is, and the constructor's name after it
+-- a usual name or its list, as it is; likewise the constructor's name by the class or by the template
 abbrev pub one_of : Bool → (name list : List ℕ) → List ℕ
 one_of is_list name list = if is_list then list else name
 

@@ -8,15 +8,15 @@ pub record Answer : Type 0 where
   pub bytes : List ℕ
   pub size : ℕ
 
--- Rules: which names have lists that are changed; what is written for any other name, by the text after it, if the name is
--- changed, and how many bytes from the name's first on that replaces; and what is written for a name and its list, by the
--- list's elements and the text after it. A list that is after no such name has no name.
+-- Rules: which names have lists that are changed; what is written for another name that is changed, by the text after it, and
+-- how many bytes from the name's first on it replaces; and what is written for a name and its list, by the list's elements and
+-- the text after it. A list after any other name counts as a list without a name.
 pub record Rules : Type 0 where
   pub opens : (run : List ℕ) → Bool
   pub for_name : (run rest : List ℕ) → Option Answer
   pub for_list : (run : List ℕ) → (elements : List (List ℕ)) → (rest : List ℕ) → Answer
 
--- An open bracket: its byte, the name before it if it is a list's, what was written before that name in the element around it,
+-- An open bracket: its byte, the name before it if it is a list's, what was written before this name in the element around it,
 -- and its own elements that have ended.
 pub record Opened : Type 0 where
   pub bracket : ℕ
@@ -24,7 +24,7 @@ pub record Opened : Type 0 where
   pub before : List ℕ
   pub elements : List (List ℕ)
 
--- What was written: the brackets that are open, the innermost first, and what there is of the element that is written.
+-- What was written: the brackets that are open, the innermost first, and what was written so far of the current element.
 pub record Written : Type 0 where
   pub opened : List Opened
   pub last : List ℕ
@@ -55,12 +55,12 @@ opens bracket name written = Some (record {
   written = record { opened = record { bracket = bracket; name = name; before = written.last; elements = [] } ∷ written.opened; last = [] };
 })
 
--- the operator's sign after a run, which is no bracket; outside of brackets it makes no difference
+-- the operator's sign after a run, which is no bracket; outside of brackets none is needed
 abbrev pub sign_of : List Opened → (run rest : List ℕ) → List ℕ
 sign_of [] run rest = []
 sign_of (top ∷ around) run rest = take (operator_size run rest) rest
 
--- a name without a list that is changed, with an operator's sign
+-- a name without a changed list, and an operator's sign after it
 abbrev pub at_plain : (run rest : List ℕ) → Written → Option Answer → Option Stepped
 at_plain run rest written None = keeps (run ++ sign_of written.opened run rest) written
 at_plain run rest written (Some answer) = answers 0 answer written

@@ -34,7 +34,7 @@ abbrev pub IsListed : (name : List ℕ) → Option Listed → Type 0
 IsListed name None = named_in name ≡ None
 IsListed name (Some listed) = (listed.row < length TEMPLATES) × (named_in name ≡ with_template listed.whole (slice_get TEMPLATES listed.row))
 
--- an open bracket, after the text before its element, and after the elements around it that have begun
+-- an open bracket; before it come the text before its element, and the elements around it that have begun
 pub record IsOpen (top : Opened) (before : List ℕ) (bracket : Bracket) (earlier : ℕ) (starts : List ℕ) : Type 0 where
   pub kind : bracket.is_list ≡ is_list top
   pub named : IsListed top.name bracket.named
@@ -58,7 +58,7 @@ abbrev pub AreOpen : List Opened → List Bracket → List ℕ → Type 0
 AreOpen [] brackets starts = (brackets ≡ []) × (starts ≡ [])
 AreOpen (top ∷ around) brackets starts = IsInnermost (AreOpen around) top (before_last around) brackets starts
 
--- The lists have what was written at a place of the text. Bytes before that place that weren't copied yet belong to it.
+-- The lists hold what was written up to a place of the text. Bytes before that place that weren't copied yet belong to it.
 pub record IsAt (text : List ℕ) (now : Writing) (written : Written) : Type 0 where
   pub goes_on : written_for short_rules 0 (drop now.at text) written ≡ written_for short_rules 0 text start
   pub copied : now.copied ≤ now.at
@@ -66,7 +66,7 @@ pub record IsAt (text : List ℕ) (now : Writing) (written : Written) : Type 0 w
   pub bytes : now.out.items ++ take (now.at - now.copied) (drop now.copied text) ≡ all_of written
   pub opened : AreOpen written.opened now.brackets.items now.starts.items
 
--- after a step from a place: more was written; or brackets don't pair
+-- after a step from a place, more of the text was written; `Steps` also allows brackets that don't pair
 pub record Goes (text : List ℕ) (from : ℕ) (now : Writing) : Type 0 where
   pub written : Written
   pub is : IsAt text now written
@@ -92,7 +92,7 @@ IsAtMember text now row size =
     CanStep text now × (is_name_byte (get_or text now.at 0) ≡ true)
     × IsChange (run_of (drop now.at text)) (behind_run (drop now.at text)) (changes.Member row size) × (now.at + size ≤ length text)
 
--- the template of `std::string` and its list, which become that, are at the place
+-- the template of `std::string` and its list, which become `std::string`, are at the place
 abbrev pub IsAtString : (text : List ℕ) → Writing → (size : ℕ) → Type 0
 IsAtString text now size =
     CanStep text now × (is_name_byte (get_or text now.at 0) ≡ true) × (size ≡ length (run_of (drop now.at text)))

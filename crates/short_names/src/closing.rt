@@ -1,4 +1,4 @@
-// What is written where a list of a name of the table is closed.
+// What is written where a list after a name of the table is closed.
 ghost use Rattle.std.specs.Prelude.{◌≡◌, ◌≤◌, ◌++◌, ℕ, List, length, take, drop, codes, true, IfOk, OnOk};
 ghost use Rattle.short_names.specs.Closing.{EndsWithList, IsAnswered, IsList, IsString};
 ghost use Rattle.short_names.specs.Short.{constructor, if_read_back, is_own, is_read_back, short_list};
@@ -45,7 +45,7 @@ pub(crate) fn close(
     Ok(0)
 }
 
-/// A usual name, if it is one where the text goes on and is read back as the same; else none.
+/// A usual name, if it ends before the rest of the text and is read back as the same; else none.
 fn read_back(alias: Option<Alias>, rest: &[u8]) -> Option<Alias>
     ensures { result ≡ if_read_back rest.now alias }
 {
@@ -57,7 +57,7 @@ fn read_back(alias: Option<Alias>, rest: &[u8]) -> Option<Alias>
     }
 }
 
-/// Whether a usual name is one where the text goes on, and is read back as the same.
+/// Whether a usual name ends before the rest of the text, and is read back as the same.
 fn is_read_back(alias: Alias, rest: &[u8]) -> bool
     ensures { result ≡ is_read_back rest.now alias }
 {
@@ -92,8 +92,8 @@ fn is_own(alias: Alias, rest: &[u8]) -> bool
     !is_constructor(rest, class_of(alias))
 }
 
-/// If a constructor or destructor by the template's name follows a usual name, appends its name by the class's name. Answers
-/// how many bytes of the text it replaces.
+/// If the template's name for a constructor or destructor follows a usual name, appends the class's name for it. Answers
+/// how many bytes of the text this replaces.
 pub(crate) fn append_constructor(
     alias: Alias,
     rest: &[u8],

@@ -33,7 +33,7 @@ impl<'a> Elements<'a> {
         }
     }
 
-    /// An element; nothing where there is none.
+    /// The element in a place; empty if there is none.
     fn at(self, place: usize) -> &'a [u8]
         requires { (elements : List (List ℕ)) × AreElements self.text.now self.starts.now elements }
         ensures { (elements : List (List ℕ)) → AreElements self.entry.text.now self.entry.starts.now elements → result.now ≡ element elements place }
@@ -64,7 +64,7 @@ impl<'a> Elements<'a> {
         }
     }
 
-    /// Whether an element is what a name has by default.
+    /// Whether the element in a place is the default that a name of the table has there.
     fn is_default(self, named: Named, holes: Holes<'a>, place: usize) -> bool
         requires { (elements : List (List ℕ)) × (AreElements self.text.now self.starts.now elements) × (AreHoles named elements holes) }
         ensures { (elements : List (List ℕ)) → AreElements self.entry.text.now self.entry.starts.now elements → AreHoles named elements holes.entry →
@@ -80,7 +80,7 @@ impl<'a> Elements<'a> {
         is_given(self.at(place), text_at(DEFAULTS[row]), holes)
     }
 
-    /// How many of the first `count` elements are left, without the defaults of a name at their end.
+    /// How many of the first `count` elements are left once the defaults at their end are left out.
     pub(crate) fn without_defaults(self, named: Named, holes: Holes<'a>, count: usize) -> usize
         requires { (elements : List (List ℕ)) × (AreElements self.text.now self.starts.now elements) × (AreHoles named elements holes) }
         ensures { (elements : List (List ℕ)) → AreElements self.entry.text.now self.entry.starts.now elements → AreHoles named elements holes.entry →
@@ -96,7 +96,7 @@ impl<'a> Elements<'a> {
         left
     }
 
-    /// How many elements are left, without the defaults of a name at their end. None is left out where there are more elements
+    /// How many elements are left once the defaults at their end are left out. None is left out if there are more elements
     /// than the name has.
     pub(crate) fn left(self, named: Named, holes: Holes<'a>) -> usize
         requires { (elements : List (List ℕ)) × (AreElements self.text.now self.starts.now elements) × (AreHoles named elements holes) }
@@ -143,7 +143,7 @@ impl<'a> Elements<'a> {
     }
 }
 
-/// Whether there is a pattern, and a text is that with its holes filled.
+/// Whether a pattern isn't empty, and a text is the pattern with its holes filled.
 fn is_given(text: &[u8], pattern: &[u8], holes: Holes<'_>) -> bool
     ensures { result ≡ not (length pattern.now == 0) && pointwise nat_eq text.now (filled holes.entry.first.now holes.entry.second.now holes.entry.whole.now pattern.now) }
 {

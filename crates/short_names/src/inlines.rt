@@ -29,7 +29,8 @@ fn inlines_size(rows: &[Place], name: &[u8]) -> usize
     size
 }
 
-/// Whether a name may begin with an inline namespace, or with one that has some of its own, by its first byte and its third.
+/// Whether a name may begin with an inline namespace, or with a namespace that has some, by its
+/// first byte and its third.
 #[inline(always)]
 fn may_have_inlines(name: &[u8]) -> bool
     ensures { result ≡ false → (row_in INLINES name.now ≡ None) × (row_in INNERS name.now ≡ None) }

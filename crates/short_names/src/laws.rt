@@ -15,8 +15,8 @@ pub fn short_texts_are_no_longer()
     ensures { (keeps_inline : Bool) (text : List ℕ) → IsNoLonger keeps_inline text }
 {}
 
-/// Where short texts keep full texts and full texts keep short ones, two texts whose brackets pair have one short text exactly where they have
-/// one full text.
+/// If short texts keep full texts and full texts keep short ones for two texts whose brackets pair, then the two have
+/// equal short texts exactly if their full texts are equal.
 pub fn alike_texts_are_alike()
     ensures { (text other : List ℕ) → KeepsFull text → KeepsShort text → KeepsFull other → KeepsShort other
         → Pairs (full_rules (full_to 3)) text → Pairs (full_rules (full_to 3)) other → AreAlike text other }
@@ -38,7 +38,7 @@ pub fn texts_without_rows_stay()
 
 /// Short texts keep full ones and full texts keep short ones in a text that is made of these parts: each list is one of a
 /// template of the table, without the allocator of `std::pmr`, or is written as its usual name. Where a list may have a usual
-/// name, neither a name nor a list comes after it. So two such texts have one short text exactly where they have one full text.
+/// name, neither a name nor a list comes after it. So two such texts have equal short texts exactly if their full texts are equal.
 pub fn texts_of_lists_keep()
     ensures laws { (text : List ℕ) → IsMade text → KeepsFull text × KeepsShort text }
     ensures alike { (text other : List ℕ) → IsMade text → IsMade other → AreAlike text other }
@@ -50,9 +50,9 @@ pub fn texts_of_lists_keep()
     ensures full { IsMade (codes "std::vector<std::__cxx11::basic_string<char, std::char_traits<char>, std::allocator<char>>>") }
 {}
 
-/// Likewise in a text that has usual names, or the full lists that these are for, outside of its other lists. No list comes
-/// after them, and no name but that of a member, or of a constructor or destructor: by the class's name after a usual name, and
-/// by the template's name after its list. So two such texts have one short text exactly where they have one full text.
+/// Likewise in a text that has usual names, or the full lists that these are for, outside of its other lists. Such a name or
+/// list is followed by no list, and by no name but a member's, or a constructor's or destructor's: the class's after a name,
+/// the template's after a list. So two such texts have equal short texts exactly if their full texts are equal.
 pub fn texts_of_usual_names_keep()
     ensures laws { (text : List ℕ) → IsWhole text → KeepsFull text × KeepsShort text }
     ensures alike { (text other : List ℕ) → IsWhole text → IsWhole other → AreAlike text other }
@@ -66,8 +66,8 @@ pub fn texts_of_usual_names_keep()
     ensures stream { IsUsual (codes "std::ostream") (codes "std::basic_ostream<char, std::char_traits<char>>") }
 {}
 
-/// Neither law holds of every text whose brackets pair: an operator's name at the end of an element becomes another before the
-/// list's end.
+/// Neither law holds of every text whose brackets pair: an operator's name at the end of an element becomes another operator's
+/// if the list's `>` comes right after it.
 pub fn operators_keep_neither()
     ensures full { KeepsFull (codes "std::ratio<operator, 1l>") → ⊥ }
     ensures short { KeepsShort (codes "std::map<operator, int>") → ⊥ }

@@ -64,7 +64,7 @@ fn row_in(rows: &[Place], text: &[u8]) -> Option<Place>
     None
 }
 
-/// The size of that text; 0 where there is none.
+/// The size of the first of some texts of the table with which a text begins; 0 if there is none.
 pub(crate) fn row_size(rows: &[Place], text: &[u8]) -> usize
     ensures within { result ≤ length text.now }
     ensures size { result ≡ size_of (row_in rows.now text.now) }
@@ -87,7 +87,7 @@ fn mark_of(name: &[u8]) -> u16
     name[0] as u16 + name[name.len() - 3] as u16 * 256
 }
 
-/// Whether the name of the template in a row has a mark.
+/// Whether a name with a mark is that of the template in a row.
 #[inline(always)]
 fn has_name(row: usize, mark: u16, name: &[u8]) -> bool
     requires within { row < length TEMPLATES }
@@ -117,7 +117,7 @@ fn row_of(name: &[u8]) -> Option<usize>
     None
 }
 
-/// What is left of a name after an inline namespace that holds a part of `std`.
+/// A name without the inline namespace at its front that holds a part of `std`, if there is one.
 fn behind_part(name: &[u8]) -> &[u8]
     ensures { result.now ≡ behind_part name.now }
 {
@@ -236,7 +236,7 @@ pub(crate) fn before_constructor<'a>(text: &'a [u8], class: &[u8]) -> &'a [u8]
     &[]
 }
 
-/// Whether a name ends where a text goes on: with no byte of a longer name, and with no list.
+/// Whether a name ends before the rest of a text: no byte of a longer name is next, and no list.
 pub(crate) fn ends_name(rest: &[u8]) -> bool
     ensures { result ≡ ends_name rest.now }
 {
@@ -284,7 +284,7 @@ fn is_member(alias: Alias, name: &[u8], text: &[u8]) -> bool
         && is_constructor(&text[usual.len()..], last_part(text_at(alias.template)))
 }
 
-/// The row of that usual name.
+/// The row of the usual name that comes first in a name before a constructor's or destructor's name.
 fn member_row(name: &[u8], text: &[u8]) -> Option<usize>
     requires { name.now ≡ run_of text.now }
     ensures { MatchOption result (member_in ALIASES name.now text.now ≡ None)

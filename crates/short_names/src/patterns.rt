@@ -6,10 +6,10 @@ ghost use Rattle.short_names.specs.Texts.{text_of};
 
 use crate::table::{Place, TEXTS};
 
-/// What the holes of a pattern are filled with.
+/// The texts that fill the holes of a pattern.
 #[derive(Clone, Copy)]
 pub(crate) struct Holes<'a> {
-    /// The arguments in the first two places, each nothing where there is none.
+    /// The first two arguments; a missing one is empty.
     pub first: &'a [u8],
     pub second: &'a [u8],
     /// The `std::` of the name.
@@ -41,7 +41,7 @@ fn ticks(whole: &[u8]) -> &'static [u8]
     }
 }
 
-/// What fills the hole that a byte of a pattern is.
+/// The text that fills a hole, which is a byte below 4 of a pattern.
 #[inline(always)]
 fn filling<'a>(holes: Holes<'a>, hole: u8) -> &'a [u8]
     requires { hole < 4 }

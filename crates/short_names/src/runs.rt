@@ -37,7 +37,7 @@ pub(crate) fn is_name_byte(byte: u8) -> bool
 /// How many bytes are looked at together.
 const LANES: usize = 16;
 
-/// The place of the lowest bit that is set, or the number of lanes where none is.
+/// The place of the lowest bit that is set, or the number of lanes if no bit is set.
 #[inline(always)]
 fn first_set(mask: u64) -> usize
     ensures { result ≡ first_set mask }
@@ -49,7 +49,7 @@ fn first_set(mask: u64) -> usize
     }
 }
 
-/// How many bytes from a place on are of names, among those that are looked at together.
+/// How many of the sixteen bytes from a place on come before the first that is of no name.
 #[inline(always)]
 fn name_lanes(text: &[u8], at: usize) -> usize
     requires { at + 16 ≤ length text.now }
@@ -68,7 +68,7 @@ fn name_lanes(text: &[u8], at: usize) -> usize
     first_set(stops.to_bitmask())
 }
 
-/// How many bytes at the front of a text are of names, among those that are looked at together.
+/// A number of bytes at the front of a text that are all of names, found sixteen at a time.
 #[inline(always)]
 fn lanes_run(text: &[u8]) -> usize
     ensures within { result ≤ length text.now }
@@ -118,7 +118,7 @@ fn ends_operator(run: &[u8]) -> bool
     run.ends_with(b"operator") && (run.len() == 8 || !is_letter(run[run.len() - 9]))
 }
 
-/// How many bytes at the front of a text are of an operator's sign or of an arrow, and look like brackets of lists.
+/// The size of an operator's sign with `<` or `>`, or of an arrow, with which a text begins, or 0.
 #[tactic(auto, unfolding(crate::specs::Runs::sign_size))]
 fn sign_size(text: &[u8]) -> usize
     ensures { result ≡ sign_size text.now }
@@ -149,10 +149,10 @@ pub(crate) fn operator_size(run: &[u8], rest: &[u8]) -> usize
 /// How many places are looked at together for `std::`.
 const BLOCK: usize = 64;
 
-/// For a place, this many bytes come before the last one that is looked at.
+/// The last byte that is looked at for a place is this many bytes after it.
 const REACH: usize = 3;
 
-/// The places from one on where `std::` may begin, as bits: `d:` comes after two bytes.
+/// The 64 places from one on, a bit for each: set if `d:` comes two bytes later, so that `std::` may begin.
 #[inline(always)]
 fn block_bits(text: &[u8], at: usize) -> u64
     requires { at + 67 ≤ length text.now }
@@ -163,7 +163,7 @@ fn block_bits(text: &[u8], at: usize) -> u64
     (third & fourth).to_bitmask()
 }
 
-/// The same for fewer places.
+/// Likewise for 16 places.
 #[inline(always)]
 fn lane_bits(text: &[u8], at: usize) -> u64
     requires { at + 19 ≤ length text.now }
@@ -175,8 +175,7 @@ fn lane_bits(text: &[u8], at: usize) -> u64
     (third & fourth).to_bitmask()
 }
 
-/// The first of some places that were looked at together, from one on, where `std::` may begin; the place after them where
-/// there is none.
+/// The first place of a block, at or after this one, where `std::` may begin; the end of the block if there is none.
 #[inline(always)]
 fn first_place(bits: u64, from: usize, at: usize, count: usize) -> usize
     requires { (from ≤ at) × (at < from + count) × (count ≤ 64) × (from + count < 2 ^ 63) × (bits < 2 ^ count) }
@@ -191,14 +190,14 @@ fn first_place(bits: u64, from: usize, at: usize, count: usize) -> usize
     }
 }
 
-/// A place from one on: `std::` begins at none of the places before it.
+/// A place at or after this one. `std::` begins at none of the places between the two.
 #[inline(always)]
 fn next_place(text: &[u8], at: usize) -> usize
     requires { at + 5 ≤ length text.now }
     ensures within { (at ≤ result) × (result < length text.now) }
     ensures none { (k : ℕ) → at ≤ k → k < result → begins_std (drop k text.now) ≡ false }
 {
-    // the last places are those at the end of the text, also where some of them were looked at before
+    // the last block ends with the text, even if some of its places were looked at before
     if text.len() >= BLOCK + REACH {
         let from = at.min(text.len() - (BLOCK + REACH));
         return first_place(block_bits(text, from), from, at, BLOCK);
@@ -222,7 +221,7 @@ fn is_std_run(text: &[u8], at: usize) -> bool
     }
 }
 
-/// Where the first run begins with `std::`, from a place of a text on; none where no run does.
+/// The place of the first run, at or after a place, that begins with `std::`; none if there is no such run.
 pub(crate) fn std_run(text: &[u8], from: usize) -> Option<usize>
     requires { from ≤ length text.now }
     ensures { MatchOption result ((k : ℕ) → from ≤ k → is_std_at text.now k ≡ false)

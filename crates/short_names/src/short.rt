@@ -36,7 +36,7 @@ impl Short {
         }
     }
 
-    /// Makes a text short, which is the bytes of a list from a place on.
+    /// Makes a text short: the bytes of a list from a place on.
     pub fn shorten(
         &mut self,
         keeps_inline: bool,

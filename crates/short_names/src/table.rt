@@ -8,8 +8,8 @@ pub struct Place {
     pub to: u16,
 }
 
-/// A template: its name, how many arguments it has, from which row of `DEFAULTS` on what is the default in each place, the default by
-/// `std::pmr` in the last place, and which rows of `ALIASES` are its.
+/// A template: its name, the number of its arguments, the first of its rows of `DEFAULTS` (one for each place), the default by
+/// `std::pmr` in the last place, and its rows of `ALIASES`.
 #[derive(Clone, Copy)]
 pub struct Template {
     pub name: Place,
@@ -803,7 +803,7 @@ pub static INNERS: [Place; 4] = [
     T177, // pmr::
 ];
 
-/// The inline namespaces in these.
+/// The inline namespaces, which are members of those.
 pub static INNER_INLINES: [Place; 4] = [
     T163, // __cxx11::
     T172, // _V2::
@@ -822,7 +822,7 @@ pub static USUAL_FIRSTS: [u8; 256] = *b"\
     00000000000000000000000000000000\
     00000000000000000000000000000000";
 
-/// For each byte a bit for `INLINES`, and one for each row of `INNERS`: whether a text of these begins with it.
+/// For each byte, a bit for `INLINES` and one for each row of `INNERS`: whether one of its texts begins with the byte.
 pub static INLINE_FIRSTS: [u8; 256] = [
     0, 0, 0, 0, 0, 0, 0, 0, 0, 0, 0, 0, 0, 0, 0, 0, 0, 0, 0, 0, 0, 0, 0, 0, 0, 0, 0, 0, 0, 0, 0, 0,
     0, 0, 0, 0, 0, 0, 0, 0, 0, 0, 0, 0, 0, 0, 0, 0, 0, 0, 0, 0, 0, 0, 0, 0, 0, 0, 0, 0, 0, 0, 0, 0,
@@ -835,7 +835,7 @@ pub static INLINE_FIRSTS: [u8; 256] = [
     0,
 ];
 
-/// The same for the third byte.
+/// The same bits by the texts' third bytes.
 pub static INLINE_THIRDS: [u8; 256] = [
     0, 0, 0, 0, 0, 0, 0, 0, 0, 0, 0, 0, 0, 0, 0, 0, 0, 0, 0, 0, 0, 0, 0, 0, 0, 0, 0, 0, 0, 0, 0, 0,
     0, 0, 0, 0, 0, 0, 0, 0, 0, 0, 0, 0, 0, 0, 0, 0, 0, 1, 1, 0, 0, 0, 0, 0, 1, 0, 0, 0, 0, 0, 0, 0,

@@ -50,7 +50,7 @@ pub(crate) struct Listed {
 pub(crate) struct Writing {
     /// The place in the text that is looked at.
     pub at: usize,
-    /// How much of it was written, or left out.
+    /// How much of the text was written or left out.
     pub copied: usize,
     /// What was written.
     pub out: Vec<u8>,
@@ -305,7 +305,7 @@ impl Writing {
         Ok(())
     }
 
-    /// Closes another bracket; answers whether it was open.
+    /// Closes the innermost bracket, if it isn't a list's; answers whether it did.
     fn close_group(&mut self) -> bool
         requires { self.old.at < 2 ^ 63 }
         ensures list { (around : List Innermost) (bracket : Innermost) → self.old.brackets.items ≡ around ++ bracket ∷ [] → bracket.is_list ≡ true → result ≡ false }
@@ -322,7 +322,7 @@ impl Writing {
         true
     }
 
-    /// Goes over a comma, with which an element ends where a blank follows it.
+    /// Goes over a comma, which ends an element if a blank follows it.
     fn step_comma(&mut self, text: &[u8]) -> Result<(), AllocError>
         requires { CanStep text.now self.old × (get_or text.now self.old.at 0 ≡ 44) × (0 < length self.old.brackets.items) }
         ensures { GoesFrom text.now self.old self.new result }

@@ -1,26 +1,11 @@
 -- How a call ends, by what was answered.
-use Rattle.std.proofs.Common.{◌≡◌, ◌≢◌, ◌≤◌, inl, inr, ℕ, ◌-◌, Bool, true, false, cond, List, [], ◌++◌, length, take, drop, Option, Some, Result, Ok, Err, refl, sym, ap, subst, ◌∙◌, arith}
-use Rattle.std.specs.Prelude.{nat_le, IfSome, ◌==◌}
-use Rattle.std.proofs.lemmas.List.{length-drop, take_all}
-use Rattle.sym_core.specs.declared.refusal.Refusal.{Refusal}
-use Rattle.sym_core.specs.declared.refusal.Refusal.TheVariants.{Malformed, BadReference, BadValue, TooLong, Memory}
+use Rattle.sym_calls.proofs.Basics.{◌≡◌, ◌≢◌, ◌≤◌, inl, inr, ℕ, ◌-◌, Bool, true, false, cond, List, [], ◌++◌, length, take, drop, Option, Some, Result, Ok, Err, refl, sym, ap, subst, ◌∙◌, arith, nat_le, IfSome, ◌==◌, length-drop, take_all, Refusal, Malformed, BadReference, BadValue, TooLong, Memory, Detail, AreBytes, Mangled, IsAnswer, answer, Kind, symbol_of, answer_of, answers_by, cpp_by, wide_answer_of, pressed_of, AreCountsOf, AreWideCountsOf, Answering, filtered_at, tally_at, Asked, Outcome, answers_as, CountingEndsAs, CountingEndsBy, Ending, EndsAs, IsCounted, IsTallied, IsTextWritten, NameCounted, PressEndsAs, Tallied, answered, answers_at, filter_told, ending_of, named, name_or_type_told, name_told, numbers_of, press_told, refused, status_alone, text_told, told_of, unspelled, written}
 use Rattle.sym_core.specs.declared.counts.Counts.{Counts}
-use Rattle.sym_print.specs.declared.detail.Detail.{Detail}
-use Rattle.sym_shape.specs.Decided.{AreBytes}
-use Rattle.sym_demangle.specs.Mangled.{Mangled, IsAnswer, answer}
 use Rattle.sym_demangle.proofs.Answering.{is_answer}
 use Rattle.sym_filter.specs.Demangled.{IsAppended}
-use Rattle.sym_filter.specs.declared.kinds.Kind.{Kind}
-use Rattle.sym_filter.specs.Kinds.{symbol_of}
-use Rattle.sym_languages.specs.Languages.{answer_of, answers_by, cpp_by, wide_answer_of, pressed_of, AreCountsOf, AreWideCountsOf}
 use Rattle.sym_languages.specs.WidePressed.{wide_pressed_of}
-use Rattle.sym_filter.specs.Runs.{Answering, filtered_at, tally_at}
 use Rattle.sym_calls.specs.declared.counting.SymbolCounts.{SymbolCounts}
-use Rattle.sym_calls.specs.declared.flags.Asked.{Asked}
 use Rattle.sym_calls.specs.declared.filtering.TextTally.{TextTally}
-use Rattle.sym_calls.specs.declared.outcome.Outcome.{Outcome}
-use Rattle.sym_short.specs.Rewriting.{answers_as}
-use Rattle.sym_calls.specs.Calls.{CountingEndsAs, CountingEndsBy, Ending, EndsAs, IsCounted, IsTallied, IsTextWritten, NameCounted, PressEndsAs, Tallied, answered, answers_at, filter_told, ending_of, named, name_or_type_told, name_told, numbers_of, press_told, refused, status_alone, text_told, told_of, unspelled, written}
 
 -- what follows the first n bytes, as a slice
 pub rest-of : (at : ℕ) (bytes : List ℕ) → take (length bytes - at) (drop at bytes) ≡ drop at bytes
@@ -34,7 +19,7 @@ written-low : (bytes buffer : List ℕ) → (written bytes buffer).status ≤ 6
 unfolding written
 written-low bytes buffer = low-cond (nat_le (length bytes) (length buffer)) _ _ (omega arith) (omega arith)
 
--- an answer for a symbol may be replaced by a lack of memory
+-- the status of an answer is one that a lack of memory may replace
 pub answered-low : (answer : Result (List ℕ) Refusal) (skip : ℕ) (buffer : List ℕ) → (answered answer skip buffer).status ≤ 6
 unfolding answered refused
 answered-low (Ok bytes) skip buffer = written-low bytes buffer
@@ -78,7 +63,7 @@ short-written m detail limit symbol text shown buffer found bytes is same told =
 abbrev Told : Result (List ℕ) Refusal → (old new : List ℕ) → Option Outcome → Type 0
 Told answer old new result = IfSome result (λ outcome. IsTextWritten answer old (ending_of outcome new))
 
--- such an outcome is right for an equal answer, too
+-- the outcome is right for an equal answer, too
 pub same-told : (answer wanted : Result (List ℕ) Refusal) (old new : List ℕ) (result : Option Outcome) → answer ≡ wanted → Told answer old new result → Told wanted old new result
 same-told answer wanted old new result same given = subst (λ a. Told a old new result) same given
 
@@ -132,7 +117,7 @@ press-ends option asked name buffer found is narrow ends =
     inl (subst (λ o. EndsAs (press_told o name buffer) buffer found) (sym is)
     (subst (λ b. EndsAs (cond b wide (name_told pressed_of asked name buffer)) buffer found) (sym narrow) ends))
 
--- a lack of memory stays one, and may replace any outcome of a call that may run out of memory
+-- a lack of memory may replace the outcome of a call that presses, also where the symbol has no spelling
 lacks-memory : (told : Ending) (buffer : List ℕ) (test : Bool) → test ≡ (told.status == 4) → told.status ≤ 6
     → PressEndsAs (cond test (status_alone 12 told.buffer) told) buffer (status_alone 5 buffer)
 lacks-memory told buffer true is low = inr (refl, refl)

@@ -1,12 +1,7 @@
--- What is kept of a text to which more bytes are added.
-use Rattle.std.proofs.Common.{◌≡◌, ◌+◌, ◌∙◌, ◌++◌, ◌∷◌, [], List, ℕ, true, false, sym, ap, subst, replicate, append_assoc}
-use Rattle.std.specs.Prelude.{not}
-use Rattle.std.proofs.lemmas.List.{append-nil, replicate_more}
-use Rattle.std.proofs.lemmas.Bool.{not-true, not-false, cond-true, cond-false}
+-- The bytes that are kept of a text while bytes are added to it.
+use Rattle.sym_calls.proofs.Basics.{◌≡◌, ◌+◌, ◌∙◌, ◌++◌, ◌∷◌, [], List, ℕ, true, false, sym, ap, subst, replicate, append_assoc, not, append-nil, replicate_more, not-true, not-false, cond-true, cond-false, following, Adds, Holds}
 use Rattle.sym_filter.specs.declared.words.Taken.{Taken}
-use Rattle.sym_filter.specs.Words.{following}
 use Rattle.sym_calls.specs.declared.counted.Counted.{Counted}
-use Rattle.sym_calls.specs.Counted.{Adds, Holds}
 
 pub Holds-as : (kept : Counted) (most : ℕ) (a b : List ℕ) → a ≡ b → Holds kept most a → Holds kept most b
 Holds-as kept most a b same h = subst (λ (t : List ℕ). Holds kept most t) same h
@@ -29,6 +24,6 @@ Adds-as old new a b same h = subst (λ (t : List ℕ). Adds old new t) same h
 pub Adds-join : (old mid new : Counted) (a b : List ℕ) → Adds old mid a → Adds mid new b → Adds old new (a ++ b)
 Adds-join old mid new a b h i = λ most text so_far. Holds-as new most ((text ++ a) ++ b) (text ++ (a ++ b)) (append_assoc text a b) (i most (text ++ a) (h most text so_far))
 
--- dots that are counted, and one dot more
+-- dots that are counted, and one more dot
 pub Adds-dot : (old mid new : Counted) (n : ℕ) → Adds old mid (replicate n 46) → Adds mid new (46 ∷ []) → Adds old new (replicate (n + 1) 46)
 Adds-dot old mid new n h i = Adds-as old new (replicate n 46 ++ 46 ∷ []) (replicate (n + 1) 46) (replicate_more n 46) (Adds-join old mid new (replicate n 46) (46 ∷ []) h i)

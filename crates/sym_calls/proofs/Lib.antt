@@ -1,3 +1,4 @@
+pub mod Basics
 pub mod Ending
 pub mod Kept
 pub mod Telling

@@ -1,24 +1,10 @@
--- What a call for a text with parts writes, by whether both have room.
-use Rattle.std.proofs.Common.{◌≡◌, ◌≤◌, ◌⊎◌, inl, inr, ℕ, List, length, drop, map, ◌++◌, Bool, true, false, Option, Some, None, Result, Ok, Err, ap, sym, subst, ◌∙◌, arith}
-use Rattle.std.specs.Prelude.{◌&&◌, nat_le, not, if◌then◌else◌}
-use Rattle.std.proofs.lemmas.List.{length-map}
-use Rattle.sym_core.specs.declared.refusal.Refusal.{Refusal}
-use Rattle.sym_core.specs.declared.refusal.Refusal.TheVariants.{Malformed, BadReference, BadValue, TooLong, Memory}
-use Rattle.sym_print.specs.declared.detail.Detail.{Detail}
-use Rattle.sym_demangle.specs.Mangled.{Mangled}
-use Rattle.sym_filter.specs.declared.kinds.Kind.{Kind}
-use Rattle.sym_filter.specs.Kinds.{symbol_of}
-use Rattle.sym_languages.specs.Languages.{cpp_by}
+-- What a call for a text with parts writes, by whether the text and the parts have room.
+use Rattle.sym_calls.proofs.Basics.{◌≡◌, ◌≤◌, ◌⊎◌, inl, inr, ℕ, List, length, drop, map, ◌++◌, Bool, true, false, Option, Some, None, Result, Ok, Err, ap, sym, subst, ◌∙◌, arith, ◌&&◌, nat_le, not, if◌then◌else◌, length-map, Refusal, Malformed, BadReference, BadValue, TooLong, Memory, Detail, Mangled, Kind, symbol_of, cpp_by, Marking, Parsed, Parsing, cpp_marking, parsed_by, mangling_number, mangling_of, Ending, named, refused, status_alone, PartsEndAs, PartsEnding, both_written, is_whole, name_parts_told, none_found, numbered, parsed_told, parts_of_kind, parts_told, reported, without_text, Asked}
 use Rattle.sym_parts.specs.declared.part.Part.{Part}
-use Rattle.symbol_parts.specs.Parsed.{Marking, Parsed, Parsing, cpp_marking, parsed_by}
-use Rattle.text_details.specs.Manglings.{mangling_number, mangling_of}
-use Rattle.sym_calls.specs.Calls.{Ending, named, refused, status_alone}
-use Rattle.sym_calls.specs.Parts.{PartsEndAs, PartsEnding, both_written, is_whole, name_parts_told, none_found, numbered, parsed_told, parts_of_kind, parts_told, reported, without_text}
-use Rattle.sym_calls.specs.declared.flags.Asked.{Asked}
 use Rattle.sym_calls.specs.declared.parts.NameFound.{NameFound}
 use Rattle.sym_calls.specs.declared.parts.NamePart.{NamePart}
 
--- both are written
+-- the text and its parts are written
 abbrev pub full : Parsed → (mangling : ℕ) → (buffer : List ℕ) → (parts : List NamePart) → PartsEnding
 full parsed mangling buffer parts = record {
   ending = record { status = 0; buffer = parsed.text ++ drop (length parsed.text) buffer; length = length parsed.text; offset = 0 };
@@ -26,7 +12,7 @@ full parsed mangling buffer parts = record {
   found = reported parsed mangling;
 }
 
--- neither is written
+-- neither the text nor its parts are written
 abbrev pub small : Parsed → (mangling : ℕ) → (buffer : List ℕ) → (parts : List NamePart) → PartsEnding
 small parsed mangling buffer parts = record { ending = record { status = 6; buffer = buffer; length = length parsed.text; offset = 0 }; parts = parts; found = reported parsed mangling }
 
@@ -42,7 +28,7 @@ both-small parsed mangling buffer parts fits = ap (λ b. if b then full parsed m
 
 -- ## What is written
 
--- one of them has no room
+-- the text or its parts have no room
 pub both-small-ends : (parsed : Parsed) (mangling : ℕ) (buffer : List ℕ) (parts : List NamePart) (found : NameFound) (size : ℕ) → (nat_le (length parsed.text) (length buffer) && nat_le (length parsed.parts) (length parts)) ≡ false
     → size ≡ length parsed.text → found ≡ reported parsed mangling
     → PartsEndAs (both_written parsed mangling buffer parts) buffer parts (record { ending = record { status = 6; buffer = buffer; length = size; offset = 0 }; parts = parts; found = found })
@@ -51,7 +37,7 @@ both-small-ends parsed mangling buffer parts found size fits sizes is =
     ∙ ap (λ f. record { ending = record { status = 6; buffer = buffer; length = length parsed.text; offset = 0 }; parts = parts; found = f }) is
     ∙ sym (both-small parsed mangling buffer parts fits))
 
--- both have room
+-- the text and its parts have room
 pub both-full-end : (parsed : Parsed) (mangling : ℕ) (buffer buffer' : List ℕ) (parts parts' : List NamePart) (found : NameFound) (size : ℕ) → (nat_le (length parsed.text) (length buffer) && nat_le (length parsed.parts) (length parts)) ≡ true
     → size ≡ length parsed.text → buffer' ≡ parsed.text ++ drop (length parsed.text) buffer → parts' ≡ map numbered parsed.parts ++ drop (length parsed.parts) parts → found ≡ reported parsed mangling
     → PartsEndAs (both_written parsed mangling buffer parts) buffer parts (record { ending = record { status = 0; buffer = buffer'; length = size; offset = 0 }; parts = parts'; found = found })
@@ -62,7 +48,7 @@ both-full-end parsed mangling buffer buffer' parts parts' found size fits sizes 
     ∙ ap (λ f. record { ending = record { status = 0; buffer = parsed.text ++ drop (length parsed.text) buffer; length = length parsed.text; offset = 0 }; parts = map numbered parsed.parts ++ drop (length parsed.parts) parts; found = f }) is
     ∙ sym (both-full parsed mangling buffer parts fits))
 
--- putting as many parts as the text has puts the text's parts
+-- if the parts that are put are the text's, numbered, these are at the front
 pub put-numbered : (given list put parts : List NamePart) (found : List Part) → given ≡ list → list ≡ map numbered found → put ≡ given ++ drop (length given) parts → put ≡ map numbered found ++ drop (length found) parts
 put-numbered given list put parts found is lists puts =
     puts ∙ ap (λ l. l ++ drop (length l) parts) (is ∙ lists) ∙ ap (λ n. map numbered found ++ drop n parts) (length-map found numbered)
@@ -72,7 +58,7 @@ put-text given text put buffer is puts = puts ∙ ap (λ t. t ++ drop (length t)
 
 -- ## How calls end
 
--- a call without a text may run out of memory
+-- a refusal's status is one that a lack of memory may replace
 refused-small : (e : Refusal) (skip : ℕ) (buffer : List ℕ) → (refused e skip buffer).status ≤ 6
 unfolding refused
 refused-small (Malformed at) skip buffer = omega arith
@@ -139,7 +125,7 @@ no-name-parts-end parses asked name buffer parts status found ending is none tol
     subst (λ (n : Result Kind ℕ). PartsEndAs (parts_of_kind parses asked.legacy n name buffer parts) buffer parts (record { ending = ending; parts = parts; found = found })) (sym is)
     (inl (none-ends ending parts found none ∙ ap (λ e. without_text e parts) told))
 
--- what holds of both ways to read legacy names holds of the requested one
+-- a fact of the answers with parts, where it is known whether legacy Rust names are paths
 pub parses-as-legacy : {W : Type 0} (P : Parsing → Type 0) (cpp : Mangled W) (marking : Marking W) (asked : Asked) (legacy : Bool) (limit limit' : ℕ) (detail : Detail) → asked.legacy ≡ legacy → limit' ≡ limit → detail ≡ asked.detail
     → P (parsed_by cpp marking legacy limit' detail) → P (parsed_by cpp marking asked.legacy limit asked.detail)
 parses-as-legacy P cpp marking asked legacy limit limit' detail is limits details h =
@@ -165,7 +151,7 @@ no-parts-end asked one limit name buffer parts found ending is other none told =
     (inl (none-ends ending parts found none ∙ ap (λ e. without_text e parts) told
     ∙ sym (ap (λ b. if b then name_parts_told (parsed_by (cpp_by one.wide) cpp_marking one.legacy limit one.detail) one name buffer parts else without_text (status_alone 8 buffer) parts) other)))
 
--- by the grammar that is requested
+-- with the grammar that is requested
 pub asked-parts-end : (asked : Option Asked) (one : Asked) (wide : Bool) (limit : ℕ) (name buffer : List ℕ) (parts : List NamePart) (ended : PartsEnding) → asked ≡ Some one → (is_whole one.texts && not one.types) ≡ true → one.wide ≡ wide
     → PartsEndAs (name_parts_told (parsed_by (cpp_by wide) cpp_marking one.legacy limit one.detail) one name buffer parts) buffer parts ended → PartsEndAs (parts_told asked limit name buffer parts) buffer parts ended
 unfolding parts_told

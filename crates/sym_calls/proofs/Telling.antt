@@ -1,26 +1,14 @@
 -- How each of many names gets its outcome, one after the other.
-use Rattle.std.proofs.Common.{◌≡◌, ◌≤◌, ◌<◌, inl, inr, ℕ, ◌+◌, ◌-◌, Bool, true, false, cond, List, [], ◌∷◌, ◌++◌, length, take, drop, get_or, set, Option, Some, Result, Ok, Err, refl, sym, ap, ap₂, subst, ◌∙◌, arith}
-use Rattle.std.specs.Prelude.{nat_eq, nat_le, ◌==◌, ◌&&◌, if◌then◌else◌}
-use Rattle.std.proofs.lemmas.Bool.{le-leb, leb-true}
+use Rattle.sym_calls.proofs.Basics.{◌≡◌, ◌≤◌, ◌<◌, inl, inr, ℕ, ◌+◌, ◌-◌, Bool, true, false, cond, List, [], ◌∷◌, ◌++◌, length, take, drop, get_or, set, Option, Some, Result, Ok, Err, refl, sym, ap, ap₂, subst, ◌∙◌, arith, nat_eq, nat_le, ◌==◌, ◌&&◌, if◌then◌else◌, le-leb, leb-true, Refusal, Malformed, BadReference, BadValue, TooLong, Memory, Answering, Kind, symbol_of, is_type_word, type_answer, Ending, EndsAs, answered, answers_at, name_or_type_told, named, refused, status_alone, told_of, type_or_told, written, AreTold, IsTold, TextsEndAs, TextsEndBy, are_ends, placed, Outcome, Asked}
 use Rattle.std.proofs.lemmas.List.{append_assoc, append-nil, drop_all, drop_more, length-append, length-drop, length-take-le, take-append-drop, take_all, take_more_set}
 use borrow.Rule.Slice.PartMut.{put_mid}
 use Rattle.std.proofs.Math.Seq.{take-append-add, drop-append-add}
-use Rattle.sym_core.specs.declared.refusal.Refusal.{Refusal}
-use Rattle.sym_core.specs.declared.refusal.Refusal.TheVariants.{Malformed, BadReference, BadValue, TooLong, Memory}
-use Rattle.sym_filter.specs.Runs.{Answering}
-use Rattle.sym_filter.specs.declared.kinds.Kind.{Kind}
-use Rattle.sym_filter.specs.Kinds.{symbol_of}
-use Rattle.type_names.specs.Types.{is_type_word, type_answer}
-use Rattle.sym_calls.specs.Calls.{Ending, EndsAs, answered, answers_at, name_or_type_told, named, refused, status_alone, told_of, type_or_told, written}
-use Rattle.sym_calls.specs.Texts.{AreTold, IsTold, TextsEndAs, TextsEndBy, are_ends, placed}
-use Rattle.sym_calls.specs.declared.outcome.Outcome.{Outcome}
-use Rattle.sym_calls.specs.declared.flags.Asked.{Asked}
 
 both : (a b : Bool) → a && b ≡ true → (a ≡ true) × (b ≡ true)
 both true b holds = (refl, holds)
 both false b holds = cc
 
--- after an end that increases, the other ends are left
+-- after an end that doesn't decrease, the ends behind it decide
 pub ends-on : (from most : ℕ) (ends : List ℕ) (i : ℕ) → i < length ends → from ≤ get_or ends i 0 → are_ends from most (drop i ends) ≡ are_ends (get_or ends i 0) most (drop (i + 1) ends)
 unfolding are_ends
 ends-on from most ends i within up = ap (λ l. are_ends from most l) (drop_more ends i 0 within) ∙ ap (λ b. b && are_ends (get_or ends i 0) most (drop (i + 1) ends)) (le-leb from (get_or ends i 0) up)
@@ -36,7 +24,7 @@ ends-within from most [] is = leb-true from most is
 ends-within from most (end ∷ ends) is =
     let first : from ≤ end = leb-true from end (both _ _ is).0 in let rest : end ≤ most = ends-within end most ends (both (nat_le from end) (are_ends end most ends) is).1 in omega (arith, first, rest)
 
--- the place of a name
+-- a name ends where it begins or later and within all names, and the ends behind it are right
 pub ends-at : (from most : ℕ) (ends : List ℕ) (i : ℕ) → i < length ends → are_ends from most (drop i ends) ≡ true
     → (from ≤ get_or ends i 0) × (get_or ends i 0 ≤ most) × (are_ends (get_or ends i 0) most (drop (i + 1) ends) ≡ true)
 unfolding are_ends
@@ -93,7 +81,7 @@ take-after xs ys at n is = subst (λ m. take (m + n) (xs ++ ys) ≡ xs ++ take n
 drop-after : (xs ys : List ℕ) (at n : ℕ) → length xs ≡ at → drop (at + n) (xs ++ ys) ≡ drop n ys
 drop-after xs ys at n is = subst (λ m. drop (m + n) (xs ++ ys) ≡ drop n ys) is (drop-append-add xs ys n)
 
--- the buffer after a write to what was left of it
+-- the buffer after a write to its rest from a place on
 pub buffer-after : (at : ℕ) (buffer after : List ℕ) → at ≤ length buffer → put_mid at (length buffer - at) buffer after ≡ take at buffer ++ after
 buffer-after at buffer after within = ap (λ l. take at buffer ++ (after ++ l)) (drop_all (length buffer - at) (drop at buffer) (omega (arith, length-drop at buffer))) ∙ ap (λ l. take at buffer ++ l) (append-nil after)
 
@@ -135,7 +123,7 @@ told-all answers asked names ends first buffer from at i others ended as_many so
     (subst (λ l. AreTold answers asked names 0 ends first (take at buffer ++ drop at buffer) l) all
     (sofar (drop at buffer) [] (subst (λ l. AreTold answers asked names from l (drop at buffer) (drop at buffer) []) (sym none) refl)))
 
--- how the call over many names ends
+-- the call over many names answers 10 if the ends are wrong, or are fewer or more than the outcomes
 pub texts-refused : (named : Option Asked) (asked : Asked) (limit : ℕ) (names ends buffer : List ℕ) (untold : List Outcome) → named ≡ Some asked
     → nat_eq (length untold) (length ends) && are_ends 0 (length names) ends ≡ false → TextsEndAs named limit names ends buffer buffer untold untold 10
 unfolding TextsEndAs TextsEndBy

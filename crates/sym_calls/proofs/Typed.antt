@@ -1,13 +1,5 @@
--- How a call over a name ends that may be a type.
-use Rattle.std.proofs.Common.{◌≡◌, ◌≤◌, inl, inr, ℕ, Bool, true, false, List, Result, Ok, Err, refl, sym, ap, subst, arith}
-use Rattle.std.specs.Prelude.{◌==◌, ◌&&◌}
-use Rattle.std.proofs.lemmas.Bool.{cond-true, cond-false, eqb-true, ne_eqb}
-use Rattle.sym_filter.specs.Kinds.{symbol_of}
-use Rattle.sym_filter.specs.Runs.{Answering}
-use Rattle.sym_filter.specs.declared.kinds.Kind.{Kind}
-use Rattle.type_names.specs.Types.{is_type_word, type_answer}
-use Rattle.sym_calls.specs.Calls.{Ending, EndsAs, answered, ending_of, status_alone, told_of, type_or_told}
-use Rattle.sym_calls.specs.declared.outcome.Outcome.{Outcome}
+-- How a call ends over a name that may be a type.
+use Rattle.sym_calls.proofs.Basics.{◌≡◌, ◌≤◌, inl, inr, ℕ, Bool, true, false, List, Result, Ok, Err, refl, sym, ap, subst, arith, ◌==◌, ◌&&◌, cond-true, cond-false, eqb-true, ne_eqb, symbol_of, Answering, Kind, is_type_word, type_answer, Ending, EndsAs, answered, ending_of, status_alone, told_of, type_or_told, Outcome}
 use Rattle.sym_calls.proofs.Ending.{answered-low}
 
 -- whether a name is read as a type after a status
@@ -28,7 +20,7 @@ none-second false b c is = refl
 is-nameless : (types : Bool) (status : ℕ) (name : List ℕ) → ReadsType types status name true → status ≡ 11
 is-nameless types status name is = eqb-true status 11 (second types (status == 11) (is_type_word name) is)
 
--- each other outcome of a call is one for a symbol, or is a lack of memory
+-- after an outcome for a symbol, or a lack of memory (at most 6), no name is read as a type
 low-reads : (types : Bool) (status : ℕ) (name : List ℕ) → status ≤ 6 → ReadsType types status name false
 low-reads types status name low = none-second types (status == 11) (is_type_word name) (ne_eqb status 11 (λ is. omega (arith, low, is)))
 
@@ -38,7 +30,7 @@ status-is outcome after ending is = ap (λ (e : Ending). e.status) is
 buffer-is : (outcome : Outcome) (after : List ℕ) (ending : Ending) → ending_of outcome after ≡ ending → after ≡ ending.buffer
 buffer-is outcome after ending is = ap (λ (e : Ending). e.buffer) is
 
--- no name is read as a type after an outcome of its symbol
+-- an outcome for a symbol isn't that of a name without a symbol (11)
 not-nameless : (outcome : Outcome) → outcome.status ≤ 6 → outcome.status ≡ 11 → ⊥
 not-nameless outcome low is = omega (arith, low, is)
 

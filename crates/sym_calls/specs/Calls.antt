@@ -29,7 +29,7 @@ detail_of flags =
     if has flags 1 then (if has flags 2 then Detail.BriefNoParameters else Detail.Brief)
     else (if has flags 2 then Detail.NoParameters else Detail.Full)
 
--- which letters words of a text have: with 64 words begin within runs, too, and with 32 they have only those of ASCII
+-- which letters words of a text have: by flag 64 words begin within runs, too, and by flag 32 words have only ASCII letters
 unfoldable pub letters_of : ℕ → Letters
 letters_of flags = if has flags 64 then Letters.Within else (if has flags 32 then Letters.Ascii else Letters.Any)
 
@@ -151,7 +151,7 @@ tally_of tally = record { words = tally.words; replaced = tally.replaced; refuse
 abbrev pub Tallied : Tally → (old new : TextTally) → (status : ℕ) → Type 0
 Tallied counted old new status = ((status ≡ 0) × (tally_of new ≡ counted)) ⊎ ((status ≢ 0) × (new ≡ old))
 
--- nothing where one of the flags doesn't exist, and otherwise the tally of the text
+-- what is reported of a text's words: nothing if one of the flags doesn't exist, and otherwise the tally of the text
 unfoldable pub IsTallied : Option Asked → (limit : ℕ) → (text : List ℕ) → (old new : TextTally) → (status : ℕ) → Type 0
 IsTallied None limit text old new status = new ≡ old
 IsTallied (Some asked) limit text old new status = Tallied (tally_at asked.letters (answers_at asked limit) text) old new status

@@ -2,7 +2,8 @@
 use Rattle.std.specs.Prelude.{◌≡◌, ◌≤◌, ℕ, List, ◌++◌, length}
 use Rattle.sym_calls.specs.declared.counted.Counted.{Counted}
 
--- The count is that of the text's bytes. The list has the text where the text has at most this many bytes, and never has more bytes than these.
+-- The count is that of the text's bytes. The list has the text if the text has at most `most` bytes, and the list never has more
+-- bytes than `most`.
 abbrev pub Holds : Counted → (most : ℕ) → List ℕ → Type 0
 Holds counted most text = (counted.most ≡ most) × (counted.count ≡ length text) × (length text ≤ most → counted.list.items ≡ text) × (length counted.list.items ≤ most)
 

@@ -42,7 +42,7 @@ numbered part = record { role = role_number part.role; start = part.start; lengt
 abbrev pub reported : Parsed → (mangling : ℕ) → NameFound
 reported parsed mangling = record { count = length parsed.parts; kind = kind_number parsed.kind; mangling = mangling }
 
--- the text is written to the front of the buffer, and the parts to the front of the caller's parts; where one of both has no room, neither is written
+-- the text is written to the front of the buffer, and the parts to the front of the caller's parts; where either has no room, neither is written
 unfoldable pub both_written : Parsed → (mangling : ℕ) → (buffer : List ℕ) → (parts : List NamePart) → PartsEnding
 both_written parsed mangling buffer parts =
     if nat_le (length parsed.text) (length buffer) && nat_le (length parsed.parts) (length parts)

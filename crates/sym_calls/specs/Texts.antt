@@ -14,12 +14,12 @@ are_ends from most (end ∷ ends) = nat_le from end && are_ends end most ends
 abbrev pub placed : Outcome → ℕ
 placed outcome = if outcome.status == 0 then outcome.length else 0
 
--- A name gets the answer of the call for one name, whose buffer is what is left of the buffer. After that call it is `after`.
+-- A name gets the answer of the call for one name over `left`, the rest of the buffer. After that call the rest is `after`.
 abbrev pub IsTold : Answering → Asked → (name left : List ℕ) → Outcome → (after : List ℕ) → Type 0
 IsTold answers asked name left outcome after = EndsAs (name_or_type_told answers asked name left) left (ending_of outcome after)
 
--- Names get their outcomes in order; each name begins where the one before it ends. What a text took of the buffer stays, and the rest is
--- left to the names after it.
+-- Names get their outcomes in order; each name begins where the one before it ends. A text's bytes stay in the buffer, and the rest of the
+-- buffer is for the names after it.
 unfoldable pub AreTold : Answering → Asked → (names : List ℕ) → (from : ℕ) → (ends left new : List ℕ) → List Outcome → Type 0
 AreTold answers asked names from [] left new [] = new ≡ left
 AreTold answers asked names from (end ∷ ends) left new (outcome ∷ others) =

@@ -107,7 +107,7 @@ pub(crate) fn filter_counted<D: Demangler>(
     Ok((kept, words.tally()))
 }
 
-/// Takes bytes from the front of a text, up to the end of its first escape or else all of them. Keeps what these bytes make of the filtered
+/// Takes bytes from the front of a text: up to the end of its first escape, or all if it has none. Keeps what these bytes make of the filtered
 /// text, and answers how many bytes were taken.
 fn take_segment<D: Demangler>(
     demangler: &D,

@@ -53,7 +53,7 @@ fn told(kept: &Counted, counted: Tally, buffer: &mut [u8], tally: &mut TextTally
     outcome
 }
 
-/// Writes a filtered text to the front of the buffer. Before that no more bytes of the text are kept than the buffer has.
+/// Writes a filtered text to the front of the buffer. Until then at most as many bytes of the text are kept as the buffer has.
 fn filter_by<D: Demangler>(
     alloc: Global,
     demangler: &D,

@@ -74,7 +74,7 @@ impl Asked {
     ///
     /// # Errors
     ///
-    /// `NO_SYMBOL` for a name that begins otherwise, `SIZE` for a symbol of too many bytes.
+    /// `NO_SYMBOL` for a name that doesn't begin like a symbol, `SIZE` for a symbol of too many bytes.
     #[tactic(auto, unfolding(crate::specs::Calls::named))]
     pub(crate) fn named(self, name: &[u8]) -> Result<Kind, u32>
         ensures is { result ≡ named self.underscore name.now }

@@ -1,4 +1,4 @@
-//! The calls of the static library as plain functions: a name's text, the same with its parts, the texts of many names, a filtered text, a
+//! The calls of the static library as plain functions: a name's text, this text with its parts, the texts of many names, a filtered text, a
 //! pressed spelling, and the work of reading a symbol. Each call answers an outcome, and writes into a buffer of the caller.
 //!
 //! `symdemangle` exports each of them to C.

@@ -39,7 +39,7 @@ pub const NO_SYMBOL: u32 = 11;
 /// The symbol is read by the wide grammar, and its pressed spelling isn't read as the same tree.
 pub const NO_SPELLING: u32 = 12;
 
-/// A status with nothing else.
+/// A status alone.
 pub(crate) fn alone(status: u32) -> Outcome
     ensures { result ≡ record { length = 0; offset = 0; status = status } }
 {
@@ -93,7 +93,7 @@ pub(crate) fn unspelled(outcome: Outcome, buffer: &[u8]) -> Outcome
     outcome
 }
 
-/// Writes bytes to the front of the buffer, or says how large it has to be.
+/// Writes bytes to the front of the buffer, or says how large the buffer has to be.
 #[tactic(auto, unfolding(crate::specs::Calls::written))]
 pub(crate) fn write(bytes: &[u8], buffer: &mut [u8]) -> Outcome
     ensures { ending_of result buffer.new ≡ written bytes.now buffer.old }

@@ -17,7 +17,7 @@ use sym_short::Texts;
 use symbol_parts::{Marked, Parsed, Parser};
 use text_details::mangling_of;
 
-/// A part of a text: the number of its role, the stretch of the text's bytes that it is, and the bytes of the name that spell it, from
+/// A part of a text: the number of its role, its stretch of the text's bytes, and the bytes of the name that spell it, from
 /// one place up to another.
 #[repr(C)]
 #[derive(Clone, Copy)]

@@ -2,9 +2,7 @@
 ghost use Rattle.std.specs.Prelude.{◌≡◌, ◌≤◌, List, ℕ, None, length, true};
 ghost use Rattle.std.specs.Option.{IfSome};
 ghost use Rattle.sym_core.specs.Number.{FitsSymbol};
-ghost use Rattle.sym_print.specs.declared.detail.Detail.TheVariants.{Full, Brief};
 ghost use Rattle.sym_demangle.specs.Mangled.{answer};
-ghost use Rattle.rust_grammar.specs.Mangled.{v0_mangled};
 ghost use Rattle.sym_filter.specs.declared.kinds.TheConstants.{LONGEST_WORD};
 ghost use Rattle.sym_languages.specs.Languages.{answers_by, language_answer_by};
 ghost use Rattle.sym_short.specs.Rewriting.{answers_as, short_answers};
@@ -13,13 +11,12 @@ ghost use Rattle.sym_calls.specs.Calls.{EndsAs, IsTextWritten, PressEndsAs, answ
 
 use crate::flags::{Asked, asked_of};
 use crate::outcome::{FLAGS, Outcome, alone, no_memory, of_refusal, unspelled, write};
-use rust_short_way::write_brief;
 use rust_v0::V0;
 use std::alloc::Global;
 use sym_core::Refusal;
 use sym_demangle::Mangling;
 use sym_filter::{Demangled, Demangler, Kind, Lang};
-use sym_languages::languages::Cpp;
+use sym_languages::languages::{Cpp, with_parameters};
 use sym_languages::{Abi, Languages, Legacy, Pressing, Wide, WidePressing, may_be_legacy};
 use sym_print::Detail;
 use sym_short::{Rewriting, Shortening, Texts};
@@ -93,49 +90,18 @@ fn write_short<M: Mangling>(
     alloc: Global,
     symbol: &[u8],
     limit: u32,
-    buffer: &mut [u8],
-) -> Option<Outcome>
-    requires { FitsSymbol symbol.now }
-    ensures told { IfSome result (λ outcome. IsTextWritten (answer M.mangled Full symbol.now limit) buffer.old (ending_of outcome buffer.new)) }
-    ensures same { result ≡ None → buffer.new ≡ buffer.old }
-{
-    let mut direct = M::direct(alloc);
-    if !M::write(&mut direct, symbol, limit) {
-        return None;
-    }
-    Some(write(M::text(&direct), buffer))
-}
-
-/// Writes the text of a C++ symbol that is shown only in part, in the same way.
-fn write_less<C: Cpp>(
-    alloc: Global,
-    symbol: &[u8],
-    limit: u32,
     detail: Detail,
     buffer: &mut [u8],
 ) -> Option<Outcome>
     requires { FitsSymbol symbol.now }
-    ensures told { IfSome result (λ outcome. IsTextWritten (answer C.mangled detail symbol.now limit) buffer.old (ending_of outcome buffer.new)) }
+    ensures told { IfSome result (λ outcome. IsTextWritten (answer M.mangled detail symbol.now limit) buffer.old (ending_of outcome buffer.new)) }
     ensures same { result ≡ None → buffer.new ≡ buffer.old }
 {
-    let mut direct = C::direct(alloc);
-    if !C::write_less(&mut direct, symbol, limit, detail) {
+    let mut direct = M::direct(alloc);
+    if !M::write(&mut direct, symbol, limit, detail) {
         return None;
     }
-    Some(write(C::text(&direct), buffer))
-}
-
-/// Writes the text of a Rust symbol without its generic arguments, in the same way.
-fn brief_once(alloc: Global, symbol: &[u8], limit: u32, buffer: &mut [u8]) -> Option<Outcome>
-    requires { FitsSymbol symbol.now }
-    ensures told { IfSome result (λ outcome. IsTextWritten (answer v0_mangled Brief symbol.now limit) buffer.old (ending_of outcome buffer.new)) }
-    ensures same { result ≡ None → buffer.new ≡ buffer.old }
-{
-    let mut direct = V0::direct(alloc);
-    if !write_brief(&mut direct, symbol, limit) {
-        return None;
-    }
-    Some(write(V0::text(&direct), buffer))
+    Some(write(M::text(&direct), buffer))
 }
 
 /// Writes the text of a symbol of either language in this way. A Rust symbol has no parameters.
@@ -151,15 +117,10 @@ fn short_once<C: Cpp>(
     ensures same { result ≡ None → buffer.new ≡ buffer.old }
 {
     match kind.lang {
-        Lang::Cpp => match languages.detail {
-            Detail::Full => write_short::<C>(alloc, symbol, languages.limit, buffer),
-            _ => write_less::<C>(alloc, symbol, languages.limit, languages.detail, buffer),
-        },
+        Lang::Cpp => { write_short::<C>(alloc, symbol, languages.limit, languages.detail, buffer) }
         Lang::Rust => {
-            if !languages.detail.has_arguments() {
-                return brief_once(alloc, symbol, languages.limit, buffer);
-            }
-            write_short::<V0>(alloc, symbol, languages.limit, buffer)
+            let detail = with_parameters(languages.detail);
+            write_short::<V0>(alloc, symbol, languages.limit, detail, buffer)
         }
     }
 }

@@ -1,12 +1,9 @@
 -- What is to be done, by what the parser of a command line found.
-use Rattle.std.proofs.Common.{◌≡◌, ◌≢◌, ◌⊎◌, ℕ, List, [], ◌∷◌, Bor, map, length, refl, sym, inl, inr, ◌∙◌, arith, eqb}
-use Rattle.std.specs.Prelude.{true}
-use Rattle.std.proofs.lemmas.Bool.{false≢true, ne_eqb}
-use Rattle.clap.specs.Words.{Kinds, IsAmong}
+use Rattle.sym_command.proofs.Basics.{◌≡◌, ◌≢◌, ◌⊎◌, ℕ, List, [], ◌∷◌, Bor, map, length, refl, sym, inl, inr, ◌∙◌, arith, eqb, true, false≢true, ne_eqb, Kinds, IsAmong}
 use Rattle.clap.specs.declared.error.kind.ErrorKind.{ErrorKind}
 use Rattle.clap.specs.declared.error.kind.ErrorKind.TheVariants.{OutOfMemory}
 
--- an error other than a lack of memory is one of the faults
+-- if the error is no lack of memory, there is a fault
 pub faulty : (kinds : Kinds) (kind : ErrorKind) → kind ≢ OutOfMemory → (kind ≡ OutOfMemory) ⊎ IsAmong kind kinds → kinds ≢ []
 faulty [] kind known (inl memory) = absurd (known memory)
 faulty [] kind known (inr among) = absurd among

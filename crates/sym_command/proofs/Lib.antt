@@ -1,3 +1,4 @@
+pub mod Basics
 pub mod CommandLemmas
 pub mod LineLemmas
 pub mod OptionLemmas

@@ -1,20 +1,11 @@
 -- The lines of words.
-use Rattle.std.proofs.Common.{◌≡◌, ℕ, ◌+◌, ◌<◌, Bool, true, false, cond, ◌&&◌, List, [], ◌∷◌, ◌++◌, length, take, get_or, map, sym, ap, ◌∙◌, append_assoc, refl, subst, Bor, Option, Some, None, Err, Result}
-use Rattle.std.specs.Prelude.{is_some, unwrap_or}
-use Rattle.std.specs.List.{list_all}
-use Rattle.std.proofs.lemmas.Bool.{false≢true}
-use Rattle.std.proofs.lemmas.List.{append-nil, map-append, take_more}
+use Rattle.sym_command.proofs.Basics.{◌≡◌, ℕ, ◌+◌, ◌<◌, Bool, true, false, cond, ◌&&◌, List, [], ◌∷◌, ◌++◌, length, take, get_or, map, sym, ap, ◌∙◌, append_assoc, refl, subst, Bor, Option, Some, None, Err, Result, is_some, unwrap_or, list_all, false≢true, append-nil, map-append, take_more, kind_of, symbol_of, Answering, is_read, text_for, BeginsWith, Asked, answer_for, is_read_word, line_of, counts_text, complaint_about, complaint_of, status_of, Counting, AreCountsFor, IsCountsLine, IsBehindLine, AreLines}
 use Rattle.std.proofs.lemmas.List.Folds.{list_all-append}
 use Rattle.std.proofs.Math.Bool.{and-true}
 use Rattle.sym_core.specs.declared.refusal.Refusal.{Refusal}
 use Rattle.sym_filter.specs.declared.kinds.Kind.{Kind}
-use Rattle.sym_filter.specs.Kinds.{kind_of, symbol_of}
-use Rattle.sym_filter.specs.Runs.{Answering, is_read, text_for}
-use Rattle.sym_filter.specs.Streams.{BeginsWith}
 use Rattle.sym_core.specs.declared.refusal.Refusal.TheVariants.{Malformed, BadReference, BadValue, TooLong, Memory}
 use Rattle.sym_core.specs.declared.counts.Counts.{Counts}
-use Rattle.sym_command.specs.declared.options.Asked.{Asked}
-use Rattle.sym_command.specs.Lines.{answer_for, is_read_word, line_of, counts_text, complaint_about, complaint_of, status_of, Counting, AreCountsFor, IsCountsLine, IsBehindLine, AreLines}
 
 pub answer_for-named : (answers : Answering) (word : List ℕ) (kind : Kind) (answer : Result (List ℕ) Refusal) → kind_of word ≡ Some kind → answers kind (symbol_of kind word) ≡ answer → answer_for answers word ≡ Some answer
 unfolding answer_for
@@ -33,7 +24,7 @@ pub text-line : (answers : Answering) (word out mid new text : List ℕ) → tex
 text-line answers word out mid new text has given pushed =
     pushed ∙ ap (λ (t : List ℕ). t ++ 10 ∷ []) given ∙ append_assoc out text (10 ∷ []) ∙ ap (λ o. out ++ (unwrap_or o word ++ 10 ∷ [])) (sym has)
 
--- the line of a word that has none
+-- the line of a word that has no text
 pub word-line : (answers : Answering) (word bytes out mid new : List ℕ) → text_for answers word ≡ None → bytes ≡ word → mid ≡ out → new ≡ mid ++ bytes ++ 10 ∷ [] → new ≡ out ++ line_of answers word
 word-line answers word bytes out mid new none same given pushed =
     pushed ∙ ap (λ (t : List ℕ). t ++ bytes ++ 10 ∷ []) given ∙ ap (λ (t : List ℕ). out ++ t ++ 10 ∷ []) same ∙ append_assoc out word (10 ∷ []) ∙ ap (λ o. out ++ (unwrap_or o word ++ 10 ∷ [])) (sym none)
@@ -46,7 +37,7 @@ complaint-line asked answers word err new answer is said = said ∙ ap (λ a. er
 pub words-more : (words : List (Bor (List ℕ))) (i : ℕ) (d : Bor (List ℕ)) → i < length words → map (λ word. word.now) (take (i + 1) words) ≡ map (λ word. word.now) (take i words) ++ (get_or words i d).now ∷ []
 words-more words i d h = ap (map (λ (word : Bor (List ℕ)). word.now)) (take_more words i d h) ∙ map-append (λ (word : Bor (List ℕ)). word.now) (take i words) (get_or words i d ∷ [])
 
--- the lines so far, with those of one word more
+-- the lines so far, with those of one more word
 pub AreLines-more : (answers : Answering) (counting : Counting) (stats : Bool) (words : List (List ℕ)) (word lines behind : List ℕ) → AreLines answers counting stats words lines → IsBehindLine (AreCountsFor counting word) (stats && is_read_word (answer_for answers word)) behind → AreLines answers counting stats (words ++ word ∷ []) (lines ++ (line_of answers word ++ behind))
 AreLines-more answers counting stats [] word lines behind none here = (behind, [], here, refl, ap (λ (t : List ℕ). t ++ (line_of answers word ++ behind)) none ∙ sym (append-nil (line_of answers word ++ behind)))
 AreLines-more answers counting stats (first ∷ words) word lines behind h here =

@@ -1,14 +1,8 @@
 -- What the parser of the command line finds, by its settings.
-use Rattle.std.proofs.Common.{◌≡◌, ◌∙◌, ap, ap₂, refl, subst, map, Bor, [], ℕ, List, Option, Some, None, Result, Ok, Err}
+use Rattle.sym_command.proofs.Basics.{◌≡◌, ◌∙◌, ap, ap₂, refl, subst, map, Bor, [], ℕ, List, Option, Some, None, Result, Ok, Err, option_map, unwrap_or, IsSomeAnd, IfOk, false, true, ParsesUnsigned, Text, FailsBy, HasMatchesOf, fault_of, is_simple_and_free, found_of, is_simple, matches_of, rows_of, ReadsOne, AddsArg, App, Rule, app_of, rule_of, with_rule, Arg, Command, IsLimitOf, command_line}
 use Rattle.std.specs.Option.{UnwrapsOrElse}
-use Rattle.std.specs.Prelude.{option_map, unwrap_or, IsSomeAnd, IfOk, false, true}
-use Rattle.std.specs.Str.Parse.{ParsesUnsigned}
 use Rattle.clap.specs.declared.error.Error.{Error}
 use Rattle.clap.specs.declared.parser.matches.ArgMatches.{ArgMatches}
-use Rattle.clap.specs.Words.{Text, FailsBy, HasMatchesOf, fault_of, is_simple_and_free, found_of, is_simple, matches_of, rows_of, ReadsOne, AddsArg, App, Rule, app_of, rule_of, with_rule}
-use Rattle.clap.specs.declared.builder.arg.Arg.{Arg}
-use Rattle.clap.specs.declared.builder.command.Command.{Command}
-use Rattle.sym_command.specs.CommandLine.{IsLimitOf, command_line}
 
 -- the limit, if its text is read as a u32
 pub limit_given : {E : Type 0} (gives : List ℕ → Result ℕ E → Type 0) (text : Option (List ℕ)) (read : Option ℕ) (limit : ℕ)

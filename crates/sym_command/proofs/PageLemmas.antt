@@ -1,15 +1,8 @@
 -- The lines of the words so far: those that are written and those that wait to be.
-use Rattle.std.proofs.Common.{◌≡◌, ℕ, Bool, ◌&&◌, List, [], ◌∷◌, ◌++◌, Option, Result, Ok, Err, Bor, map, take, drop, refl, sym, ap, subst, ◌∙◌, append_assoc}
-use Rattle.std.specs.Prelude.{◌≢◌, OnErr, IfOk}
-use Rattle.std.specs.List.{flat_map}
+use Rattle.sym_command.proofs.Basics.{◌≡◌, ℕ, Bool, ◌&&◌, List, [], ◌∷◌, ◌++◌, Option, Result, Ok, Err, Bor, map, take, drop, refl, sym, ap, subst, ◌∙◌, append_assoc, ◌≢◌, OnErr, IfOk, flat_map, append-nil, map-append, take-append-drop, Answering, BeginsWith, Puts, PutsFront, Asked, Counting, AreLines, AreCountsFor, IsBehindLine, answer_for, is_read_word, line_of, complaint_of, status_of}
 use Rattle.std.proofs.lemmas.Grind.{flat_map-append}
-use Rattle.std.proofs.lemmas.List.{append-nil, map-append, take-append-drop}
 use Rattle.sym_filter.specs.declared.streams.FilterFault.{FilterFault}
-use Rattle.sym_filter.specs.Runs.{Answering}
-use Rattle.sym_filter.specs.Streams.{BeginsWith, Puts, PutsFront}
 use Rattle.sym_filter.proofs.StreamLemmas.{Appends-none, Puts-push, Puts-join, Puts-same, Puts-all, PutsFront-of, PutsFront-join}
-use Rattle.sym_command.specs.declared.options.Asked.{Asked}
-use Rattle.sym_command.specs.Lines.{Counting, AreLines, AreCountsFor, IsBehindLine, answer_for, is_read_word, line_of, complaint_of, status_of}
 use Rattle.sym_command.specs.Command.{Took, Says, AnswersWords, AnswersFront}
 use Rattle.sym_command.proofs.LineLemmas.{AreLines-more}
 
@@ -28,7 +21,7 @@ module _ (asked : Asked) (answers : Answering) (counting : Counting) (stats : Bo
     says = Puts-push err [] said_wait [] nothing;
   }
 
-  -- one word more
+  -- one more word
   pub SoFar-word : (words all : List (List ℕ)) (word : List ℕ) (out out' err err' : Option (List ℕ)) (lines_wait lines_wait' said_wait said_wait' behind : List ℕ) → SoFar asked answers counting stats words out out' err err' lines_wait said_wait
       → all ≡ words ++ word ∷ [] → lines_wait' ≡ lines_wait ++ line_of answers word ++ behind → IsBehindLine (AreCountsFor counting word) (stats && is_read_word (answer_for answers word)) behind
       → said_wait' ≡ said_wait ++ complaint_of asked answers word → SoFar asked answers counting stats all out out' err err' lines_wait' said_wait'
@@ -97,23 +90,23 @@ PutsFront-none known wait = record { gone = []; writes = Appends-none known; beg
 pub PutsFront-all : (a b : Option (List ℕ)) (wait wait' : List ℕ) → Puts a b wait wait' [] → PutsFront a b wait []
 PutsFront-all a b wait wait' p = PutsFront-of a b wait wait' [] [] p
 
--- a fact of the bytes that two streams took implies another one
+-- what a fact about the bytes that two streams took implies
 pub Took-as : (out out' err err' : Option (List ℕ)) (P Q : List ℕ → List ℕ → Type 0) → Took out out' err err' P → ((lines said : List ℕ) → P lines said → Q lines said) → Took out out' err err' Q
 Took-as out out' err err' P Q took turns = record { lines = took.lines; said = took.said; to_out = took.to_out; to_err = took.to_err; held = turns took.lines took.said took.held }
 
--- the second stream took bytes, or neither did
+-- only the second stream took bytes, if any did
 pub Took-said : (out err err' : Option (List ℕ)) (Q : List ℕ → List ℕ → Type 0) → Says err err' → ((said : List ℕ) → Q [] said) → Took out out err err' Q
 Took-said out err err' Q says turns = record { lines = []; said = says.0; to_out = Appends-none out; to_err = says.1; held = turns says.0 }
 
 pub PutsFront-from : (a b : Option (List ℕ)) (wait wait' : List ℕ) → wait' ≡ wait → PutsFront a b wait' [] → PutsFront a b wait []
 PutsFront-from a b wait wait' same p = subst (λ (t : List ℕ). PutsFront a b t []) same p
 
--- a fact that holds of any result
+-- what holds anyway holds on failure
 pub OnErr-anyway : {A E : Type 0} (r : Result A E) (P : Type 0) → P → OnErr r P
 OnErr-anyway (Ok x) P p = tt
 OnErr-anyway (Err e) P p = p
 
--- a fact that holds only of success
+-- on failure, anything holds of success
 pub IfOk-not : {A E : Type 0} (r : Result A E) (P : A → Type 0) (y : E) → r ≡ Err y → IfOk r P
 IfOk-not (Ok x) P y is = absurd cc
 IfOk-not (Err e) P y is = tt

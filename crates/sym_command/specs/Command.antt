@@ -11,7 +11,7 @@ use Rattle.sym_command.specs.Lines.{Counting, AreLines, complaint_of, status_of}
 abbrev pub Says : Option (List ℕ) → Option (List ℕ) → Type 0
 Says old new = (said : List ℕ) × Appends old new said
 
--- two streams took bytes that satisfy this
+-- two streams took bytes that satisfy `holds`
 pub record Took (out out' err err' : Option (List ℕ)) (holds : List ℕ → List ℕ → Type 0) : Type 0 where
   pub lines : List ℕ
   pub said : List ℕ
@@ -25,7 +25,7 @@ pub record AnswersWords (asked : Asked) (answers : Answering) (counting : Counti
   pub complaints : said ≡ flat_map (complaint_of asked answers) words
   pub ends : status ≡ status_of answers words
 
--- a beginning of the lines of the first words was written, and a beginning of what is said of them
+-- a beginning of the lines of the first words was written, and a beginning of what is said of these words
 pub record AnswersFront (asked : Asked) (answers : Answering) (counting : Counting) (stats : Bool) (words : List (List ℕ)) (lines said : List ℕ) : Type 0 where
   pub first : List (List ℕ)
   pub rest : List (List ℕ)

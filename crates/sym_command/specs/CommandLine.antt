@@ -29,7 +29,7 @@ limit = record (new_rule (codes "limit")) {
   parser = Some (parser.Signed (pos 0) (pos 4294967295));
 }
 
--- a command line with the options on short texts
+-- a command line with the options for short texts
 abbrev pub with_short : App → App
 with_short app = with_rule (with_rule app (flag (codes "short"))) (flag (codes "keep-inline"))
 
@@ -123,7 +123,7 @@ filtering_by options =
     if options.stats then None
     else Some (record { limit = options.limit; detail = options.detail; texts = options.texts; letters = options.letters; asked = options.asked; legacy = options.legacy })
 
--- no symbol is given, and standard input has to be filtered this way
+-- no symbol is given, and the options request that standard input is filtered this way
 pub record AsksFilter (rows : List Row) (filtering : Filtering) : Type 0 where
   pub options : Options
   pub given : AreGiven rows options

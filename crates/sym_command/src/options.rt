@@ -112,7 +112,7 @@ fn with_answers<'a>(alloc: Global, command: Command<'a>) -> Result<Command<'a>, 
     with_flag(alloc, counted, "press", PRESS)
 }
 
-/// A command line with the options on how symbols are read.
+/// A command line with the options that decide how symbols are read.
 fn with_grammars<'a>(alloc: Global, command: Command<'a>) -> Result<Command<'a>, AllocError>
     ensures { IfOk result (λ with_them. app_of with_them
         ≡ with_rule (with_rule (app_of command.entry) (flag (codes "wide"))) (flag (codes "legacy"))) }
@@ -121,7 +121,7 @@ fn with_grammars<'a>(alloc: Global, command: Command<'a>) -> Result<Command<'a>,
     with_flag(alloc, wide, "legacy", LEGACY)
 }
 
-/// A command line with the options on short texts.
+/// A command line with the options for short texts.
 ///
 /// # Errors
 ///
@@ -133,7 +133,7 @@ pub fn with_short<'a>(alloc: Global, command: Command<'a>) -> Result<Command<'a>
     with_flag(alloc, short, "keep-inline", KEEP_INLINE)
 }
 
-/// A command line with the options on how much of a text is shown, and on the letters of words.
+/// A command line with the options that decide how much of a text is shown, and which letters words have.
 fn with_details<'a>(alloc: Global, command: Command<'a>) -> Result<Command<'a>, AllocError>
     ensures { IfOk result (λ with_them. app_of with_them
         ≡ with_rule (with_rule (with_rule (app_of command.entry) (flag (codes "brief"))) (flag (codes "no-params"))) (flag (codes "ascii-words"))) }
@@ -181,7 +181,7 @@ pub fn limit<'a>(alloc: Global) -> Arg<'a>
         )
 }
 
-/// The symbols.
+/// The argument for symbols, of which there may be any number.
 fn symbols<'a>(alloc: Global) -> Arg<'a>
     ensures rule { rule_of result ≡ symbols }
     ensures local { result.global ≡ false }

@@ -5,7 +5,7 @@ ghost use Rattle.sym_filter.specs.Streams.{Puts, PutsFront, writer_faults};
 use std::alloc::Global;
 use sym_filter::{FilterFault, Sink, write_out};
 
-/// The number of waiting bytes from which on lines are written.
+/// Lines are written once the answers, or what is said of words, have this many bytes.
 const PAGE_SIZE: usize = 4_096;
 
 /// Lines that wait to be written: answers, and what is said of words that have no text.
@@ -46,7 +46,7 @@ impl Page {
         Ok(())
     }
 
-    /// Writes the lines that wait, if they are many.
+    /// Writes the lines that wait, if they have at least `PAGE_SIZE` bytes on either stream.
     pub fn write_when_full<W: Sink, E: Sink>(
         &mut self,
         out: &mut W,

@@ -1,12 +1,5 @@
--- What idna answers, as what the name denotes.
-use Rattle.std.proofs.Common.{◌≡◌, ℕ, ◌≤◌, Bool, true, false, cond, nat_le, List, length, Option, Some, None, option_and_then, option_map, refl, sym, ap, ◌∙◌, le-leb}
-use Rattle.std.specs.Prelude.{encode_utf8_all, chars}
-use Rattle.std.specs.Str.{IsUtf8}
-use Rattle.std.specs.List.{list_all}
-use Rattle.std.proofs.lemmas.Str.{chars_from_encodes}
-use Rattle.unicode_ident.specs.Ident.{is_xid_continue}
-use Rattle.idna.specs.Punycode.{decode}
-use Rattle.sym_core.specs.Printed.{hyphenated, identifier_text, decoded_name}
+-- The answers of idna are what names denote.
+use Rattle.sym_core.proofs.Basics.{◌≡◌, ℕ, ◌≤◌, Bool, true, false, cond, nat_le, List, length, Option, Some, None, option_and_then, option_map, refl, sym, ap, ◌∙◌, le-leb, encode_utf8_all, chars, IsUtf8, list_all, chars_from_encodes, is_xid_continue, decode, hyphenated, identifier_text, decoded_name}
 
 nothing : (o : Option (List ℕ)) → option_map encode_utf8_all o ≡ None → option_and_then identifier_text o ≡ None
 nothing None e = refl

@@ -1,21 +1,17 @@
 -- How long a decoded name is.
 use Rattle.std.proofs.Common.{◌≡◌, ℕ, zero, suc, ◌+◌, ◌-◌, ◌*◌, ◌/◌, ◌%◌, ◌<◌, ◌≤◌, Bool, true, false, cond, ◌==◌, nat_lt, nat_le, not, List, [], ◌∷◌, length, drop, insert, Option, Some, None, IfSome, option_and_then, refl, ap, arith, length-append, length-take, length-drop}
 use Rattle.std.specs.Char.{is_ascii}
-use Rattle.std.specs.List.{list_all, suffix_len}
+use Rattle.sym_core.proofs.Basics.{list_all, suffix_len, length-encode, len_utf8_bounds, nat_tests, is_xid_continue, has_underscore, hyphenated, identifier_text, decoded_name}
 use Rattle.std.proofs.lemmas.List.Edits.{length-insert}
-use Rattle.std.proofs.lemmas.Str.{length-encode, len_utf8_bounds}
 use Rattle.std.proofs.Math.Utf8.{encode, encodes}
-use Rattle.std.proofs.lemmas.Bool.Decides.{nat_tests}
-use Rattle.unicode_ident.specs.Ident.{is_xid_continue}
-use Rattle.sym_core.specs.Printed.{has_underscore, hyphenated, identifier_text, decoded_name}
 use Rattle.idna.specs.Punycode.{digit_value, threshold, adapt, read_integer, is_scalar, insert_all, basic_part, extended_part, decode, delimiter}
 
--- what holds of both branches holds of the one that is taken
+-- what holds of both branches holds of the branch that is taken
 choose : {A : Type 0} (P : A → Type 0) (b : Bool) (x y : Option A) → IfSome x P → IfSome y P → IfSome (cond b x y) P
 choose P true x y p q = p
 choose P false x y p q = q
 
--- what holds of a step, where it is taken, holds of the whole
+-- what holds of the second step, if the first one succeeds, holds of both together
 bound : {A B : Type 0} (Q : A → Type 0) (P : B → Type 0) (o : Option A) (f : A → Option B) → IfSome o Q → ((x : A) → Q x → IfSome (f x) P) → IfSome (option_and_then f o) P
 bound Q P None f q h = tt
 bound Q P (Some x) f q h = h x q
@@ -64,7 +60,7 @@ insert_all-few (suc turns) n i bias output (c ∷ input) =
     (insert_all-few turns point (place + 1) (adapt (read.0 - i) count (i == 0)) (insert output place point) read.1))
     tt)
 
--- what is copied and what is read are no more than the input
+-- the bytes that are copied and the bytes that are read are no more than the input
 parts-few : (input : List ℕ) (b : Bool) → (length (basic_part input) == 0) ≡ b
     → length (basic_part input) + length (cond b input (drop (length input - suffix_len (λ c. not (c == delimiter)) input) input)) ≤ length input
 parts-few input true e = let none : length (basic_part input) ≡ 0 = grind (arith, nat_tests) in omega arith
@@ -98,7 +94,7 @@ unfolding hyphenated
 hyphenated-length [] = refl
 hyphenated-length (byte ∷ rest) = hyphen-length byte rest (hyphenated rest) (has_underscore rest) (byte == 95) (hyphenated-length rest)
 
--- the text of a coded name is short
+-- the text of n characters has at most 4 n bytes
 short : (o : Option (List ℕ)) (n : ℕ) (t : List ℕ) → IfSome o (λ cs. length cs ≤ n) → option_and_then identifier_text o ≡ Some t → length t ≤ 4 * n
 short None n t h e = cc
 short (Some cs) n t h e = pick (list_all is_xid_continue cs) e

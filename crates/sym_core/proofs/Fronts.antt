@@ -1,9 +1,5 @@
--- The longest number at the front of some bytes, and the case that there is none, each by its parts.
-use Rattle.std.proofs.Common.{◌≡◌, ℕ, suc, ◌+◌, ◌-◌, ◌<◌, ◌≤◌, List, [], ◌∷◌, ◌++◌, length, take, drop, refl, ap, sym, ◌∙◌, subst, arith, append_assoc, length-append}
-use Rattle.std.proofs.lemmas.List.{take-append-drop, length-take-le, take_at}
-use Rattle.std.proofs.Math.Seq.{take-append-add}
-use Rattle.sym_core.specs.Number.{AreDigitsOf, ending_of, IsNumber, BeginsNumber, HasNumber, HasNoNumber}
-use Rattle.sym_core.specs.declared.NumberKind.{NumberKind}
+-- The longest number at the front of some bytes, and the case without a number, each by its parts.
+use Rattle.sym_core.proofs.Basics.{◌≡◌, ℕ, suc, ◌+◌, ◌-◌, ◌<◌, ◌≤◌, List, [], ◌∷◌, ◌++◌, length, take, drop, refl, ap, sym, ◌∙◌, subst, arith, append_assoc, length-append, take-append-drop, length-take-le, take_at, take-append-add, AreDigitsOf, ending_of, IsNumber, BeginsNumber, HasNumber, HasNoNumber, NumberKind}
 
 -- the longest number at the front of q: this many digits
 pub record ReadsNumber (kind : NumberKind) (q : List ℕ) (size : ℕ) : Type 0 where

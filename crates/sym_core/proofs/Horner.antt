@@ -1,16 +1,8 @@
 -- Numbers read digit by digit.
-use Rattle.std.proofs.Common.{◌≡◌, ℕ, zero, suc, ◌+◌, ◌*◌, ◌^◌, ◌<◌, ◌≤◌, List, [], ◌∷◌, ◌++◌, ◌-◌, length, take, drop, refl, sym, ap, ◌∙◌, arith, get_or, true}
-use Rattle.std.proofs.Math.Nat.{pow-zero, pow-suc, mul_assoc, mul_comm, mul-le-mul_right}
-use Rattle.std.proofs.Math.Seq.{drop-cons}
-use Rattle.std.proofs.lemmas.List.{take_more, length-drop, get_or-drop}
-use Rattle.std.proofs.lemmas.Bool.Decides.{nat_tests}
+use Rattle.sym_core.proofs.Basics.{◌≡◌, ℕ, zero, suc, ◌+◌, ◌*◌, ◌^◌, ◌<◌, ◌≤◌, List, [], ◌∷◌, ◌++◌, ◌-◌, length, take, drop, refl, sym, ap, ◌∙◌, arith, get_or, true, pow-zero, pow-suc, mul_assoc, mul_comm, mul-le-mul_right, drop-cons, take_more, length-drop, get_or-drop, nat_tests, is_digit_of, is_decimal_digit, AreDigits, radix_of, digit_value, value_onto, value_of, NumberKind, Length, Decimal, Seq36, Base62, Hex, Digits}
 use Rattle.std.proofs.lemmas.Fmt.{length-decimal-le, length-decimal-le_wide}
 use Rattle.std.specs.Fmt.{decimal}
 use Rattle.std.proofs.lemmas.List.Elements.{All-from_recursion}
-use Rattle.sym_core.specs.Number.{is_digit_of, is_decimal_digit, AreDigits}
-use Rattle.sym_core.specs.Value.{radix_of, digit_value, value_onto, value_of}
-use Rattle.sym_core.specs.declared.NumberKind.{NumberKind}
-use Rattle.sym_core.specs.declared.NumberKind.TheVariants.{Length, Decimal, Seq36, Base62, Hex, Digits}
 
 grows : (kind : NumberKind) (v x : ℕ) → v ≤ v * radix_of kind + x
 grows Length v x = omega arith
@@ -89,7 +81,7 @@ hundreds (suc n) =
     let wide : 10 ^ (2 * suc n) ≡ 10 ^ (2 * n) * 10 * 10 = ap (λ k. 10 ^ k) (omega arith) ∙ pow-suc 10 (suc (2 * n)) ∙ ap (λ p. p * 10) (pow-suc 10 (2 * n)) in
     omega (arith, before, wide, pow-suc 16 n)
 
--- the decimal of such a number has at most two bytes for each digit, or the one byte of 0
+-- the decimal of a Hex number has at most two bytes for each digit, or the one byte of 0
 pub hex-decimal-few : (ds : List ℕ) → AreDigits Hex ds → value_of Hex ds < 2 ^ 128 → length (decimal (value_of Hex ds)) ≤ 2 * length ds + 1
 hex-decimal-few [] are wide = length-decimal-le 1 0 (omega arith) (omega arith) (omega arith)
 hex-decimal-few (d ∷ ds) are wide =

@@ -1,10 +1,5 @@
 -- A name with its last underscore as a hyphen.
-use Rattle.std.proofs.Common.{◌≡◌, ℕ, zero, suc, ◌<◌, ◌≢◌, Bool, true, false, cond, ◌==◌, ◌||◌, List, [], ◌∷◌, length, get_or, slice_set, refl, ap, arith, eq-eqb, ne_eqb}
-use Rattle.std.proofs.lemmas.Bool.Decides.{nat_tests}
-use Rattle.std.specs.Str.{IsAscii}
-use Rattle.sym_core.specs.Printed.{has_underscore, hyphenated}
-use Rattle.sym_core.specs.Token.{is_name_byte, AreNameBytes}
-use Rattle.sym_core.specs.declared.NameClass.TheVariants.{Rust}
+use Rattle.sym_core.proofs.Basics.{◌≡◌, ℕ, zero, suc, ◌<◌, ◌≢◌, Bool, true, false, cond, ◌==◌, ◌||◌, List, [], ◌∷◌, length, get_or, slice_set, refl, ap, arith, eq-eqb, ne_eqb, nat_tests, IsAscii, has_underscore, hyphenated, is_name_byte, AreNameBytes, Rust}
 
 or_true : (x y : Bool) → y ≡ true → (x || y) ≡ true
 or_true true y e = refl
@@ -22,7 +17,7 @@ has-none : (bytes : List ℕ) → ((k : ℕ) → k < length bytes → get_or byt
 has-none [] h = refl
 has-none (byte ∷ rest) h = or_false (byte == 95) (has_underscore rest) (ne_eqb byte 95 (h 0 (omega arith))) (has-none rest (λ k below. h (suc k) (omega arith)))
 
--- without an underscore it stays
+-- a name without an underscore stays as it is
 pub hyphenated-none : (bytes : List ℕ) → ((k : ℕ) → k < length bytes → get_or bytes k 0 ≢ 95) → hyphenated bytes ≡ bytes
 unfolding hyphenated
 hyphenated-none [] h = refl
@@ -61,7 +56,7 @@ hyphen-ascii byte rest more false true b r m (suc k) = r k
 hyphen-ascii byte rest more false false b r m zero = b
 hyphen-ascii byte rest more false false b r m (suc k) = r k
 
--- it is ASCII
+-- the name stays ASCII
 pub hyphenated-ascii : (bytes : List ℕ) → AreNameBytes Rust bytes → IsAscii (hyphenated bytes)
 unfolding hyphenated
 hyphenated-ascii [] all = λ k. omega arith

@@ -1,3 +1,4 @@
+pub mod Basics
 pub mod Fronts
 pub mod Runs
 pub mod NameTokens

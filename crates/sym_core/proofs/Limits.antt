@@ -1,6 +1,5 @@
--- What clauses name by a constant has this number.
-use Rattle.std.specs.Prelude.{◌≡◌}
-use Rattle.std.proofs.Common.{refl}
+-- The number of a constant that clauses name.
+use Rattle.sym_core.proofs.Basics.{◌≡◌, refl}
 use Rattle.sym_core.specs.declared.TheConstants.{MOST_BYTES}
 
 pub most_bytes : MOST_BYTES ≡ 16777216

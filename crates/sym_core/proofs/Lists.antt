@@ -1,14 +1,11 @@
 -- Lists that begin with one another, and runs of bytes that pass a test.
-use Rattle.std.proofs.Common.{◌≡◌, ℕ, suc, ◌<◌, Bool, true, ◌⊎◌, inl, inr, List, [], ◌∷◌, ◌++◌, length, get_or, refl, ap, sym, ◌∙◌, arith}
-use Rattle.std.specs.List.{AllByRecursion}
-use Rattle.std.proofs.lemmas.Bool.{false≢true}
-use Rattle.sym_core.specs.Scan.{StopsAt}
+use Rattle.sym_core.proofs.Basics.{◌≡◌, ℕ, suc, ◌<◌, Bool, true, ◌⊎◌, inl, inr, List, [], ◌∷◌, ◌++◌, length, get_or, refl, ap, sym, ◌∙◌, arith, AllByRecursion, false≢true, StopsAt}
 
 pub split_nil : {X : Type 0} (xs ys : List X) → xs ++ ys ≡ [] → (xs ≡ []) × (ys ≡ [])
 split_nil [] ys e = (refl, e)
 split_nil (x ∷ xs) ys e = cc
 
--- of two lists that extend to the same one, one extends to the other
+-- of two fronts of one list, one begins with the other
 pub compared : {X : Type 0} (xs ys v w : List X) → xs ++ v ≡ ys ++ w → ((m : List X) × (xs ≡ ys ++ m) × (w ≡ m ++ v)) ⊎ ((b : X) × (m : List X) × (ys ≡ xs ++ b ∷ m) × (v ≡ b ∷ (m ++ w)))
 compared xs [] v w e = inl (xs, refl, sym e)
 compared [] (y ∷ ys) v w e = inr (y, ys, refl, e)
@@ -23,7 +20,7 @@ compared (x ∷ xs) (y ∷ ys) v w e =
 abbrev pub Each : (ℕ → Bool) → List ℕ → Type 0
 Each p xs = AllByRecursion (λ b. p b ≡ true) xs
 
--- runs that end where the test fails are equal
+-- two runs at the front of one list are equal, if both end where the test fails
 pub same_run : (p : ℕ → Bool) (xs ys v w : List ℕ) → Each p xs → Each p ys → StopsAt p v → StopsAt p w → xs ++ v ≡ ys ++ w → (xs ≡ ys) × (v ≡ w)
 same_run p [] [] v w xs_pass ys_pass v_stops w_stops e = (refl, e)
 same_run p (x ∷ xs) (y ∷ ys) v w xs_pass ys_pass v_stops w_stops e =

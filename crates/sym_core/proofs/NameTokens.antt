@@ -1,18 +1,8 @@
--- What is found of a name.
-use Rattle.std.proofs.Common.{◌≡◌, ℕ, zero, suc, ◌+◌, ◌-◌, ◌<◌, ◌≤◌, Bool, true, false, ◌⊎◌, inl, inr, List, [], ◌∷◌, ◌++◌, length, take, drop, get_or, eqb, ltb, ◌&&◌, refl, ap, sym, ◌∙◌, subst, arith, append_assoc, length-append}
+-- Names that are found, and where names break off.
+use Rattle.sym_core.proofs.Basics.{◌≡◌, ℕ, zero, suc, ◌+◌, ◌-◌, ◌<◌, ◌≤◌, Bool, true, false, ◌⊎◌, inl, inr, List, [], ◌∷◌, ◌++◌, length, take, drop, get_or, eqb, ltb, ◌&&◌, refl, ap, sym, ◌∙◌, subst, arith, append_assoc, length-append, append-nil, take-append-drop, length-take-le, get_or-take, length-drop, drop_more, take_at, drop_at, drop-drop, take_rest, Length, Span, NameClass, Cpp, Rust, TokenPlace, is_decimal_digit, AreDigitsOf, IsLengthForm, HasNoNumber, IsNumberSpan, IsNumber, StopsAt, IsSeparated, IsOwn, is_bare_digit, IsNameless, Token, bytes_of, is_name_byte, IsName, IsSeparator, ends_name, HasToken, HasNoToken, value_of}
 use Rattle.std.proofs.lemmas.Bool.{false≢true, and_parts, lt-ltb, eq-eqb, and_from, ltb-true, eqb-true}
-use Rattle.std.proofs.lemmas.List.{append-nil, take-append-drop, length-take-le, get_or-take, length-drop, drop_more, take_at, drop_at, drop-drop, take_rest}
-use Rattle.sym_core.specs.declared.NumberKind.TheVariants.{Length}
-use Rattle.sym_core.specs.declared.Span.{Span}
-use Rattle.sym_core.specs.declared.NameClass.{NameClass}
-use Rattle.sym_core.specs.declared.NameClass.TheVariants.{Cpp, Rust}
-use Rattle.sym_core.specs.declared.tokens.TokenPlace.{TokenPlace}
 use Rattle.sym_core.proofs.Lists.{Each, compared, split_nil, each_front, each_from_points}
-use Rattle.sym_core.specs.Number.{is_decimal_digit, AreDigitsOf, IsLengthForm, HasNoNumber, IsNumberSpan, IsNumber}
-use Rattle.sym_core.specs.Scan.{StopsAt, IsSeparated, IsOwn, is_bare_digit, IsNameless}
-use Rattle.sym_core.specs.Token.{Token, bytes_of, is_name_byte, IsName, IsSeparator, ends_name, HasToken, HasNoToken}
 use Rattle.sym_core.proofs.TokenFacts.{extended_name, name_bytes, tail_stops, longer_length, name_filled, zero_length, name_there, name_first}
-use Rattle.sym_core.specs.Value.{value_of}
 use Rattle.sym_core.proofs.Fronts.{ReadsNumber, BreaksNumber, reads_number, breaks_number}
 
 pub own_found : (names : NameClass) (bytes : List ℕ) (most end : ℕ) → end ≤ length bytes → end ≤ most → ((k : ℕ) → k < end → is_name_byte names (get_or bytes k 0) ≡ true) → (end < most → end < length bytes → is_name_byte names (get_or bytes end 0) ≡ false) → IsOwn names bytes most end
@@ -39,7 +29,7 @@ pub record IsFront (names : NameClass) (digits sep part rest : List ℕ) (most :
   pub few : length part ≤ most
   pub bare : sep ≡ [] → 0 < most → StopsAt is_decimal_digit part
 
--- a separator fits what follows it
+-- a separator fits the bytes after it
 separated : (names : NameClass) (digits sep part rest : List ℕ) (most : ℕ) → IsFront names digits sep part rest most → (IsNameless names most → ⊥) → length part ≡ most → IsSeparator names sep part
 separated Cpp digits [] [] rest most f named full = named (sym full)
 separated Cpp digits [] (b ∷ part) rest most f named full = f.bare refl (omega (arith, full))
@@ -55,7 +45,7 @@ separated Rust digits (c ∷ d ∷ sep) part rest most f named full =
 abbrev token_of : List ℕ → List ℕ → List ℕ → Token
 token_of digits sep part = record { before = digits ++ sep; own = part; behind = [] }
 
--- a mark doesn't follow an unmarked length
+-- after a length without a separator, the next byte isn't an underscore
 no_mark : (names : NameClass) (sep part rest : List ℕ) (b : ℕ) → ends_name names b ≡ false → IsSeparated names (sep ++ (part ++ rest)) (length sep) → sep ≡ [] → part ≡ [] → (r : List ℕ) → rest ≡ b ∷ r → b ≡ 95 → ⊥
 no_mark Cpp sep part rest b clash mark p q r e is = cc
 no_mark Rust sep part rest b clash mark p q r e is = elim mark [
@@ -63,11 +53,11 @@ no_mark Rust sep part rest b clash mark p q r e is = elim mark [
   | inr none ↦ none.1 r (ap (λ v. v ++ (part ++ rest)) p ∙ ap (λ v. v ++ rest) q ∙ e ∙ ap (λ c. c ∷ r) is)
 ]
 
--- these bytes don't continue a name, since the first of them may not be in it here
+-- these bytes don't continue a name, since the first of them may not come next in it
 abbrev pub IsForeign : NameClass → List ℕ → List ℕ → List ℕ → Type 0
 IsForeign names sep part w = (b : ℕ) (r : List ℕ) → w ≡ b ∷ r → (is_name_byte names b ≡ false) ⊎ ((sep ≡ []) × (part ≡ []) × (is_decimal_digit b ≡ true))
 
--- the digits of the length are all the digits that there are
+-- the length has all the digits that are there
 abbrev pub IsLongest : List ℕ → List ℕ → List ℕ → List ℕ → Type 0
 IsLongest digits sep part w = (c : ℕ) (r : List ℕ) → sep ≡ [] → part ≡ [] → w ≡ c ∷ r → AreDigitsOf Length (digits ++ c ∷ []) → ⊥
 
@@ -93,7 +83,7 @@ own_same Rust (d ∷ []) part w (c ∷ []) own v mark is some e = (cc, λ nil. c
 own_same Rust (d ∷ x ∷ sep) part w t_sep own v mark is some e = elim mark [ inl one ↦ absurd (omega (arith, one.0)) | inr none ↦ absurd (omega (arith, none.0)) ]
 own_same Rust sep part w (c ∷ d ∷ t_sep) own v mark is some e = absurd is
 
--- where a name breaks off, there is none
+-- if a name breaks off, no name is there
 pub not_name : (names : NameClass) (digits sep part rest w : List ℕ) (most : ℕ) → IsFront names digits sep part rest most → IsSeparated names (sep ++ (part ++ w)) (length sep) → length part < most → IsForeign names sep part w → IsLongest digits sep part w → (t : Token) (v : List ℕ) → IsName names t → bytes_of t ++ v ≡ digits ++ (sep ++ (part ++ w)) → ⊥
 not_name names digits sep part rest w most f mark short foreign longest t v h e =
     elim (compared h.digits digits ((h.separator ++ t.own) ++ v) (sep ++ (part ++ w)) whole) [
@@ -213,7 +203,7 @@ name_whole names digits sep part rest q most at place f named full split from to
         let on = extended_name names (token_of digits sep part) other b m (front_name names digits sep part rest most f named full) is_other e in
         absurd (no_mark names sep part rest b on.clash f.mark on.unmarked on.nothing_own (m ++ behind) g on.mark)
 
--- the mark depends only on the next byte
+-- the separator depends only on the next byte
 mark_same : (names : NameClass) (sep part : List ℕ) (b : ℕ) (r s : List ℕ) (n : ℕ) → IsSeparated names (sep ++ (part ++ b ∷ r)) n → IsSeparated names (sep ++ (part ++ b ∷ s)) n
 mark_same Cpp sep part b r s n h = h
 mark_same Rust [] [] b r s n h = elim h [
@@ -347,7 +337,7 @@ name_zero Cpp q size most r none is =
         let same : c ≡ 48 = cc in
         zero_name token u is_name (e ∙ ap (λ d. d ∷ u) same)
 
--- no name begins where no length does
+-- where no length begins, no name begins
 unbegun : (names : NameClass) (q : List ℕ) (size : ℕ) → BreaksNumber Length q size → HasNoToken (IsName names) q size
 unbegun names q size k =
     let made = name_there names in

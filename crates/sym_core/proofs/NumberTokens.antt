@@ -1,13 +1,9 @@
--- What is found of a number is found of a token.
-use Rattle.std.proofs.Common.{◌≡◌, ℕ, ◌+◌, ◌-◌, List, [], length, drop, refl, sym, ◌∙◌, arith, length-append}
-use Rattle.sym_core.specs.declared.NumberKind.{NumberKind}
-use Rattle.sym_core.specs.declared.Span.{Span}
-use Rattle.sym_core.specs.Number.{ending_of, IsNumber, IsNumberSpan, IsNumberBreak}
-use Rattle.sym_core.specs.Token.{Token, bytes_of, IsNumberToken, HasToken, HasNoToken}
+-- Numbers that are found, and where numbers break off, as tokens.
+use Rattle.sym_core.proofs.Basics.{◌≡◌, ℕ, ◌+◌, ◌-◌, List, [], length, drop, refl, sym, ◌∙◌, arith, length-append, NumberKind, Span, ending_of, IsNumber, IsNumberSpan, IsNumberBreak, Token, bytes_of, IsNumberToken, HasToken, HasNoToken}
 use Rattle.sym_core.proofs.TokenFacts.{number_bytes}
 use Rattle.sym_core.proofs.Fronts.{reads_number, breaks_number}
 
--- the bytes of a number's token spell a number
+-- the bytes of a number token spell a number
 spells : (kind : NumberKind) (t : Token) → IsNumberToken kind t → (bytes : List ℕ) → bytes_of t ≡ bytes → IsNumber kind bytes
 spells kind t h bytes e = (t.own, h.digits, sym e ∙ number_bytes kind t h)
 

@@ -1,16 +1,10 @@
 -- Runs of digits, and what they say of numbers.
-use Rattle.std.proofs.Common.{◌≡◌, ℕ, ◌+◌, ◌-◌, ◌<◌, ◌≤◌, Bool, true, false, ◌⊎◌, inl, inr, List, [], ◌∷◌, ◌++◌, length, take, drop, get_or, refl, ap, sym, ◌∙◌, subst, arith, append_assoc, length-append}
-use Rattle.std.proofs.lemmas.Bool.{false≢true, cases_lt}
-use Rattle.std.proofs.lemmas.List.{append-nil, take-append-drop, length-take-le, length-drop, drop-drop, get_or-take, get_or-drop, drop_more, drop_at}
-use Rattle.sym_core.specs.declared.NumberKind.{NumberKind}
-use Rattle.sym_core.specs.declared.NumberKind.TheVariants.{Length, Decimal, Seq36, Base62, Hex, Digits}
-use Rattle.sym_core.specs.Number.{is_digit_of, IsLengthForm, IsFormOf, AreDigitsOf, ending_of, IsNumber, HasNumber, HasNoNumber}
+use Rattle.sym_core.proofs.Basics.{◌≡◌, ℕ, ◌+◌, ◌-◌, ◌<◌, ◌≤◌, Bool, true, false, ◌⊎◌, inl, inr, List, [], ◌∷◌, ◌++◌, length, take, drop, get_or, refl, ap, sym, ◌∙◌, subst, arith, append_assoc, length-append, false≢true, cases_lt, append-nil, take-append-drop, length-take-le, length-drop, drop-drop, get_or-take, get_or-drop, drop_more, drop_at, NumberKind, Length, Decimal, Seq36, Base62, Hex, Digits, is_digit_of, IsLengthForm, IsFormOf, AreDigitsOf, ending_of, IsNumber, HasNumber, HasNoNumber, IsLimit, StopsAt, IsRun, is_marked}
 use Rattle.sym_core.proofs.Lists.{Each, compared, same_run, each_front, each_from_points}
-use Rattle.sym_core.specs.Scan.{IsLimit, StopsAt, IsRun, is_marked}
 use Rattle.sym_core.proofs.TokenFacts.{marked}
 use Rattle.sym_core.proofs.Fronts.{ReadsNumber, BreaksNumber, has_number, has_no_number}
 
--- what the loop over the digits leaves
+-- the digits that the loop has passed are a run
 pub run_found : (kind : NumberKind) (s : List ℕ) (at end most : ℕ) → at ≤ end → end ≤ length s → ((k : ℕ) → at ≤ k → k < end → is_digit_of kind (get_or s k 0) ≡ true) → end - at ≤ most → ((end - at ≡ most) ⊎ StopsAt (is_digit_of kind) (drop end s)) → IsRun kind (drop at s) most (end - at)
 run_found kind s at end most low high digits few stops =
     let front = take (end - at) (drop at s) in
@@ -46,7 +40,7 @@ run_more p s at end digits last k low high = elim (cases_lt k end) [
   | inr behind ↦ (let same : end ≡ k = omega (arith, behind) in ap (λ n. p (get_or s n 0)) (sym same) ∙ last)
 ]
 
--- what the loop leaves where it has gone as far as it may
+-- the digits that the loop has passed are a run, once it has gone as far as it may
 pub run_reached : (kind : NumberKind) (s : List ℕ) (at end stop most : ℕ) → at ≤ end → end ≤ stop → stop ≤ length s → ((k : ℕ) → at ≤ k → k < end → is_digit_of kind (get_or s k 0) ≡ true) → stop - at ≤ most → (stop - at ≡ most) ⊎ (length s ≤ stop) → stop ≤ end → IsRun kind (drop at s) most (end - at)
 run_reached kind s at end stop most low high within digits few full come =
     run_found kind s at end most low (omega arith) digits (omega arith) (elim full [
@@ -93,7 +87,7 @@ no_longer kind q most size run limit ds b m r are is next =
     too_many Hex front bound form full split f = omega (arith, bound, full, ap length split, length-append front run.rest)
     too_many Digits front bound form full split f = omega (arith, bound, full, ap length split, length-append front run.rest)
 
--- a run has a form, unless it is empty and may not be
+-- the digits of a run are as many as their kind allows, unless the run is empty and may not be
 run_form : (kind : NumberKind) (q : List ℕ) (most size : ℕ) (run : IsRun kind q most size) → IsLimit kind q most → (ending_of kind ≡ [] → 0 < size) → IsFormOf kind run.front
 run_form kind q most size run limit some = form kind limit some run.front run.split (run.size_is) run.few
   where
@@ -110,7 +104,7 @@ run_form kind q most size run limit some = form kind limit some run.front run.sp
     form Seq36 bound filled front e is few = tt
     form Hex bound filled front e is few = tt
 
--- a kind whose numbers end in nothing
+-- a number of a kind that ends in nothing
 pub reads_bare : (kind : NumberKind) (q : List ℕ) (most size : ℕ) → ending_of kind ≡ [] → IsRun kind q most size → IsLimit kind q most → 0 < size → ReadsNumber kind q size
 reads_bare kind q most size none run limit some = record {
   digits = run.front;
@@ -132,7 +126,7 @@ reads_bare kind q most size none run limit some = record {
     absurd_or ds are behind [] e f bytes own size_end = omega (arith, size_end, ap length own, ap length e, ap length (append-nil run.front))
     absurd_or ds are behind (b ∷ m) e f bytes own size_end = absurd (no_longer kind q most size run limit ds b m (m ++ behind) are e f)
 
--- a kind whose numbers end in an '_', where an '_' is found
+-- a number of a kind that ends in an '_', with the '_' after its digits
 pub reads_marked : (kind : NumberKind) (q : List ℕ) (most size : ℕ) (r : List ℕ) → ending_of kind ≡ 95 ∷ [] → is_digit_of kind 95 ≡ false → (run : IsRun kind q most size) → IsLimit kind q most → run.rest ≡ 95 ∷ r → ReadsNumber kind q size
 reads_marked kind q most size r mark other run limit next = record {
   digits = run.front;
@@ -165,7 +159,7 @@ form_filled Base62 none [] form e = cc
 form_filled Hex none [] form e = cc
 form_filled kind none (d ∷ ds) form e = cc
 
--- no digit is here
+-- a number of a kind that ends in nothing breaks off: there is no digit
 pub breaks_bare : (kind : NumberKind) (q : List ℕ) (most : ℕ) → ending_of kind ≡ [] → IsRun kind q most 0 → IsLimit kind q most → BreaksNumber kind q 0
 breaks_bare kind q most none run limit = record {
   front = [];
@@ -198,7 +192,7 @@ breaks_bare kind q most none run limit = record {
     at_front (d ∷ ds) are bytes behind e f =
         no_longer kind q most 0 run limit (d ∷ ds) d ds (ds ++ behind) are (ap (λ v. v ++ d ∷ ds) (sym bare)) (rest_is ∙ f ∙ ap (λ v. v ++ behind) e)
 
--- the '_' is missing
+-- a number of a kind that ends in an '_' breaks off: the '_' is missing
 pub breaks_marked : (kind : NumberKind) (q : List ℕ) (most size : ℕ) → ending_of kind ≡ 95 ∷ [] → is_digit_of kind 95 ≡ false → (run : IsRun kind q most size) → IsLimit kind q most → ((r : List ℕ) → run.rest ≡ 95 ∷ r → ⊥) → BreaksNumber kind q size
 breaks_marked kind q most size mark other run limit missing = record {
   front = run.front;

@@ -1,16 +1,5 @@
 -- At each place of a list a longest number or name begins, or breaks off.
-use Rattle.std.proofs.Common.{◌≡◌, ℕ, zero, suc, ◌+◌, ◌-◌, ◌≤◌, true, false, ◌⊎◌, inl, inr, List, [], ◌∷◌, length, take, drop, refl, ap, sym, ◌∙◌, subst, arith, Result, Ok, Err}
-use Rattle.std.proofs.lemmas.Bool.{cases_Bool, cases_lt, cases_eq}
-use Rattle.sym_core.specs.declared.NumberKind.{NumberKind}
-use Rattle.sym_core.specs.declared.NumberKind.TheVariants.{Length, Decimal, Seq36, Base62, Hex, Digits}
-use Rattle.sym_core.specs.declared.NameClass.{NameClass}
-use Rattle.sym_core.specs.declared.NameClass.TheVariants.{Cpp, Rust}
-use Rattle.sym_core.specs.declared.Span.{Span}
-use Rattle.sym_core.specs.declared.tokens.TokenPlace.{TokenPlace}
-use Rattle.sym_core.specs.Number.{is_digit_of, ending_of, IsNumberSpan, IsNumberBreak}
-use Rattle.sym_core.specs.Scan.{IsLimit, IsRun, is_marked, IsSeparated, IsOwn, IsNameless, is_bare_digit}
-use Rattle.sym_core.specs.Token.{is_name_byte, IsName, IsNumberToken, FindsToken}
-use Rattle.sym_core.specs.Value.{value_of}
+use Rattle.sym_core.proofs.Basics.{◌≡◌, ℕ, zero, suc, ◌+◌, ◌-◌, ◌≤◌, true, false, ◌⊎◌, inl, inr, List, [], ◌∷◌, length, take, drop, refl, ap, sym, ◌∙◌, subst, arith, Result, Ok, Err, cases_Bool, cases_lt, cases_eq, NumberKind, Length, Decimal, Seq36, Base62, Hex, Digits, NameClass, Cpp, Rust, Span, TokenPlace, is_digit_of, ending_of, IsNumberSpan, IsNumberBreak, IsLimit, IsRun, is_marked, IsSeparated, IsOwn, IsNameless, is_bare_digit, is_name_byte, IsName, IsNumberToken, FindsToken, value_of}
 use Rattle.sym_core.proofs.Fronts.{ReadsNumber, BreaksNumber, has_number, has_no_number}
 use Rattle.sym_core.proofs.Runs.{reads_marked, breaks_marked, reads_bare, breaks_bare}
 use Rattle.sym_core.proofs.TokenFacts.{marked}
@@ -94,7 +83,7 @@ scan_number kind q =
       | inr unmarked ↦ scan_bare kind q bound.0 digits.0 unmarked digits.1 bound.1
     ]
 
--- the digits of the longest number at a place, or where it breaks off
+-- the digits of the longest number at a place, or the place where the number breaks off
 abbrev NumberFound : NumberKind → List ℕ → ℕ → Type 0
 NumberFound kind s at = ((to : ℕ) × IsNumberSpan kind s at (record { from = at; to = to })) ⊎ ((bad : ℕ) × IsNumberBreak kind s at bad)
 

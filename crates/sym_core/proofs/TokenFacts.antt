@@ -1,17 +1,6 @@
 -- What holds of the bytes of tokens: where they begin, where they end, and that no two tokens have the same bytes.
-use Rattle.std.proofs.Common.{◌≡◌, ℕ, ◌+◌, ◌-◌, ◌*◌, ◌<◌, ◌≤◌, Bool, true, false, not, eqb, leb, List, [], ◌∷◌, ◌++◌, length, refl, ap, sym, ◌∙◌, subst, arith, append_assoc, length-append}
-use Rattle.std.proofs.lemmas.Bool.{and_parts, leb-true, or_left}
-use Rattle.std.proofs.lemmas.Bool.Decides.{nat_tests}
-use Rattle.std.proofs.lemmas.List.{append-nil, append_cancel_right}
-use Rattle.sym_core.specs.declared.NumberKind.{NumberKind}
-use Rattle.sym_core.specs.declared.NumberKind.TheVariants.{Length, Decimal, Seq36, Base62, Hex, Digits}
-use Rattle.sym_core.specs.declared.NameClass.{NameClass}
-use Rattle.sym_core.specs.declared.NameClass.TheVariants.{Cpp, Rust}
+use Rattle.sym_core.proofs.Basics.{◌≡◌, ℕ, ◌+◌, ◌-◌, ◌*◌, ◌<◌, ◌≤◌, Bool, true, false, not, eqb, leb, List, [], ◌∷◌, ◌++◌, length, refl, ap, sym, ◌∙◌, subst, arith, append_assoc, length-append, and_parts, leb-true, or_left, nat_tests, append-nil, append_cancel_right, NumberKind, Length, Decimal, Seq36, Base62, Hex, Digits, NameClass, Cpp, Rust, is_decimal_digit, is_digit_of, IsLengthForm, IsFormOf, AreDigitsOf, ending_of, StopsAt, is_marked, Token, bytes_of, IsName, IsNumberToken, IsSeparator, begins_number, ends_number, ends_name, value_of, value_onto}
 use Rattle.sym_core.proofs.Lists.{Each, split_nil, same_run, each_front}
-use Rattle.sym_core.specs.Number.{is_decimal_digit, is_digit_of, IsLengthForm, IsFormOf, AreDigitsOf, ending_of}
-use Rattle.sym_core.specs.Scan.{StopsAt, is_marked}
-use Rattle.sym_core.specs.Token.{Token, bytes_of, IsName, IsNumberToken, IsSeparator, begins_number, ends_number, ends_name}
-use Rattle.sym_core.specs.Value.{value_of, value_onto}
 
 pub token_path : (s t : Token) → s.before ≡ t.before → s.own ≡ t.own → s.behind ≡ t.behind → s ≡ t
 token_path s t p q r = λ i. record { before = p i; own = q i; behind = r i }
@@ -32,7 +21,7 @@ same_number kind s t p q e =
     let digits = append_cancel_right s.own t.own (ending_of kind) (sym (number_bytes kind s p) ∙ e ∙ number_bytes kind t q) in
     token_path s t (p.bare ∙ sym q.bare) digits (p.ends ∙ sym q.ends)
 
--- a Length or Digits that begins another continues by a digit
+-- a Length or Digits that begins another number continues with one more digit
 abbrev pub GoesOn : NumberKind → Token → ℕ → Type 0
 GoesOn kind s b = (ends_number kind b ≡ false) × ((u : Token) × IsNumberToken kind u × (bytes_of u ≡ bytes_of s ++ b ∷ []))
 
@@ -41,7 +30,7 @@ longer_length (d ∷ []) b m p q = (q.0, omega arith)
 longer_length (d ∷ e ∷ ds) b m p q = (q.0, omega (arith, q.1, length-append ds (b ∷ m), length-append ds (b ∷ [])))
 longer_length [] b m p q = absurd p
 
--- a number that ends in an '_' begins no other
+-- a number that ends in an '_' begins no other number
 no_more : (kind : NumberKind) → is_marked kind ≡ true → (s t : Token) (b : ℕ) (m : List ℕ) → IsNumberToken kind s → IsNumberToken kind t → bytes_of t ≡ bytes_of s ++ b ∷ m → ⊥
 no_more kind h s t b m p q e =
     let mark = marked kind h in
@@ -231,7 +220,7 @@ only_mark t b m q e = by_digits q.digits q.length_is.1 q.counted e
         by_tail q.separator t.own q.separated (omega (arith, count, zero_first)) tail
     by_digits (d ∷ e ∷ ds) form count h = (let zero_first : d ≡ 48 = cc in absurd (form.0 zero_first))
 
--- a name extends to another only from the empty name, by an '_'
+-- a name begins another name only if it is empty, and the next byte is an '_'
 pub record NameGoesOn (names : NameClass) (s : Token) (p : IsName names s) (b : ℕ) (m : List ℕ) : Type 0 where
   pub clash : ends_name names b ≡ false
   pub alone : m ≡ []

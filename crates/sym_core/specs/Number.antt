@@ -31,7 +31,7 @@ IsLengthForm [] = ⊥
 IsLengthForm (d ∷ []) = ⊤
 IsLengthForm (d ∷ e ∷ ds) = (d ≢ 48) × (length ds ≤ 7)
 
--- how many digits a kind allows
+-- the digits have the count and the form that the kind requires
 abbrev pub IsFormOf : NumberKind → List ℕ → Type 0
 IsFormOf Length ds = IsLengthForm ds
 IsFormOf Base62 ds = length ds ≤ 11

@@ -4,7 +4,7 @@ use Rattle.std.specs.List.{list_all}
 use Rattle.idna.specs.Punycode.{decode}
 use Rattle.unicode_ident.specs.Ident.{is_xid_continue}
 
--- a minus where it is requested, and the decimal
+-- a minus, if one is requested, and the decimal
 abbrev pub signed_text : Bool → ℕ → List ℕ
 signed_text minus value = (if minus then 45 ∷ [] else []) ++ decimal value
 
@@ -20,7 +20,7 @@ hyphenated (byte ∷ rest) =
     if has_underscore rest then byte ∷ hyphenated rest
     else (if byte == 95 then 45 ∷ rest else byte ∷ rest)
 
--- the characters, where each may be in an identifier
+-- the text of the characters, if each of them may be in an identifier
 abbrev pub identifier_text : List ℕ → Option (List ℕ)
 identifier_text chars = if list_all is_xid_continue chars then Some (encode_utf8_all chars) else None
 
@@ -28,7 +28,7 @@ identifier_text chars = if list_all is_xid_continue chars then Some (encode_utf8
 abbrev pub decoded_name : List ℕ → Option (List ℕ)
 decoded_name bytes = if nat_le (length bytes) 2000 then option_and_then identifier_text (decode (hyphenated bytes)) else None
 
--- the name is decoded, where that succeeds: it has the mark, and some bytes but not too many
+-- the name is to be decoded: it has the mark, and some bytes but not too many
 abbrev pub IsDecoded : Bool → List ℕ → Type 0
 IsDecoded puny bytes = (puny ≡ true) × (0 < length bytes) × (length bytes ≤ 2000)
 

@@ -21,7 +21,7 @@ abbrev pub StopsAt : (ℕ → Bool) → List ℕ → Type 0
 StopsAt p [] = ⊤
 StopsAt p (b ∷ w) = p b ≡ false
 
--- the digits at the front of q, up to a limit
+-- the run of digits at the front of q, up to a limit
 pub record IsRun (kind : NumberKind) (q : List ℕ) (most size : ℕ) : Type 0 where
   pub front : List ℕ
   pub rest : List ℕ
@@ -31,7 +31,7 @@ pub record IsRun (kind : NumberKind) (q : List ℕ) (most size : ℕ) : Type 0 w
   pub few : size ≤ most
   pub ends : (size ≡ most) ⊎ StopsAt (is_digit_of kind) rest
 
--- kinds whose numbers end in an '_'
+-- the numbers of the kind end in an '_'
 abbrev pub is_marked : NumberKind → Bool
 is_marked Length = false
 is_marked Digits = false
@@ -40,7 +40,7 @@ is_marked Seq36 = true
 is_marked Base62 = true
 is_marked Hex = true
 
--- this many bytes of a separator precede these
+-- these bytes begin with a separator of n bytes, or with none if n is 0
 abbrev pub IsSeparated : NameClass → List ℕ → ℕ → Type 0
 IsSeparated Cpp tail n = n ≡ 0
 IsSeparated Rust tail n = ((n ≡ 1) × ((r : List ℕ) × (tail ≡ 95 ∷ r))) ⊎ ((n ≡ 0) × ((r : List ℕ) → tail ≡ 95 ∷ r → ⊥))

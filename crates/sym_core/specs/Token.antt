@@ -30,7 +30,7 @@ IsSeparator Rust [] (b ∷ bs) = (is_decimal_digit b ≡ false) × (b ≢ 95)
 IsSeparator Rust (c ∷ []) bs = c ≡ 95
 IsSeparator Rust (c ∷ d ∷ cs) bs = ⊥
 
--- A token: what precedes its own bytes (a name's length and separator), these, and what ends a number.
+-- A token: the bytes before its own (a name's length and separator), its own bytes, and what ends a number.
 pub record Token : Type 0 where
   pub before : List ℕ
   pub own : List ℕ
@@ -101,7 +101,7 @@ pub record HasNoToken (Is : Token → Type 0) (q : List ℕ) (size : ℕ) : Type
   pub next : (b : ℕ) (r : List ℕ) (token : Token) (behind : List ℕ) → rest ≡ b ∷ r → Is token → bytes_of token ≡ front ++ b ∷ behind → ⊥
   pub none : (token : Token) (behind : List ℕ) → Is token → q ≡ bytes_of token ++ behind → ⊥
 
--- what was found of a token
+-- the result of finding a token: its place, or the place where it breaks off
 abbrev pub FindsToken : (Token → Type 0) → List ℕ → ℕ → Result TokenPlace ℕ → Type 0
 FindsToken Is bytes at (Ok place) = HasToken Is (drop at bytes) at place
 FindsToken Is bytes at (Err bad) = (at ≤ bad) × HasNoToken Is (drop at bytes) (bad - at)

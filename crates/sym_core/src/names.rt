@@ -138,7 +138,7 @@ pub fn push_name(
     ensures same { OnErr result (out.new.items ≡ out.old.items) }
     ensures few { IfOk result (λ span. span.to ≤ span.from + 4 * length bytes.now + 8) }
     ensures memory { IfErr result (λ r. r ≡ Refusal.Memory) }
-    // The list had no room for the text, unless the name is decoded, which takes memory of its own.
+    // No room for the text, unless the name is to be decoded, which takes memory of its own.
     ensures full { OnErr result (IsDecoded puny bytes.now ⊎ (vec_capacity out.old < vec_len out.old + length (printed_name puny bytes.now))) }
     ensures capacity { vec_capacity out.old ≤ vec_capacity out.new }
     ensures stays { OnErr result (vec_capacity out.new ≡ vec_capacity out.old) }

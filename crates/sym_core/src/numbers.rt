@@ -64,7 +64,7 @@ pub fn has_mark(kind: NumberKind) -> bool
     !matches!(kind, NumberKind::Length | NumberKind::Digits)
 }
 
-/// How many digits there may be at most; for kinds without a limit, more than there are bytes.
+/// The most digits that there may be; for kinds without a limit, more than there are bytes.
 fn most_digits(s: &[u8], at: usize, kind: NumberKind) -> usize
     requires fits { FitsSymbol s.now }
     requires within { at ≤ length s.now }
@@ -78,7 +78,7 @@ fn most_digits(s: &[u8], at: usize, kind: NumberKind) -> usize
     }
 }
 
-/// The place n bytes after another, or the end of the bytes where there are fewer.
+/// The place n bytes after another, or the end of the bytes if fewer follow.
 pub fn reach(s: &[u8], at: usize, most: usize) -> usize
     requires { at ≤ length s.now }
     ensures low { at ≤ result }

@@ -103,7 +103,7 @@ fn separator_len(tail: &[u8], names: NameClass) -> usize
     }
 }
 
-/// How many of the first n bytes may be in a name, counted in fours up to the first four that may not.
+/// How many of the first n bytes may be in a name, counted four at a time as long as all four may.
 fn own_fours(bytes: &[u8], most: usize, names: NameClass) -> usize
     ensures within { result ≤ length bytes.now }
     ensures few { result ≤ most }

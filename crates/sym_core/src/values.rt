@@ -53,7 +53,7 @@ fn long_value(kind: NumberKind, digits: &[u8]) -> Option<u64>
     Some(value)
 }
 
-/// That many digits of any kind denote a number that 64 bits hold.
+/// Ten digits of any kind denote a number that 64 bits hold.
 const SHORT: usize = 10;
 
 /// The number that a few digits denote, or None where a byte is no digit.

@@ -1,23 +1,13 @@
 -- Each symbol has one answer.
-use Rattle.std.proofs.Common.{◌≡◌, ℕ, inl, inr, ◌++◌, List, Result, Ok, Err, ap, refl, subst, sym, ◌∙◌}
-use Rattle.std.specs.Prelude.{IfErr, IfOk, OnOk, nat_le, Bool, true, false, ◌⊎◌, ◌<◌, ◌≤◌}
-use Rattle.sym_core.specs.declared.refusal.Refusal.{Refusal}
-use Rattle.sym_core.specs.declared.refusal.Refusal.TheVariants.{Malformed, TooLong}
+use Rattle.sym_demangle.proofs.Basics.{◌≡◌, ℕ, inl, inr, ◌++◌, List, Result, Ok, Err, ap, refl, subst, sym, ◌∙◌, IfErr, IfOk, OnOk, nat_le, Bool, true, false, ◌⊎◌, ◌<◌, ◌≤◌, Refusal, Malformed, TooLong, IsMalformedOrMemory, Tree, IsTree, IsMalformed, spell, Kind, one_tree, Detail, Unshared, text_of, cost_of, Mangled, IsReading, misshapen, well_shaped, IsAnswer, malformed, shaped, answer, answer_of_shape, answer_of_symbol}
 use Rattle.sym_core.specs.declared.refusal.Refusal.TheVariants as refusals
 use Rattle.sym_shape.specs.Decided.{AreBytes}
-use Rattle.sym_shape.specs.Reader.{IsMalformedOrMemory}
-use Rattle.sym_shape.specs.Tree.{Tree, IsTree, IsMalformed, spell}
-use Rattle.sym_shape.specs.declared.rule.Sym.TheVariants.{Kind}
 use Rattle.sym_shape.proofs.Deciding.{decided, one_bad, outcome_shaped, outcome_malformed}
-use Rattle.sym_shape.proofs.Uniqueness.{one_tree}
-use Rattle.sym_print.specs.declared.detail.Detail.{Detail}
 use Rattle.sym_print.specs.Answer.{text_within}
-use Rattle.sym_print.specs.Unshared.{Unshared, text_of, cost_of}
 use Rattle.sym_print.proofs.Answering.{text_within-ok, text_within-too_long}
-use Rattle.sym_demangle.specs.Mangled.{Mangled, IsReading, misshapen, well_shaped, IsAnswer, malformed, shaped, answer, answer_of_shape, answer_of_symbol}
 
 module _ {W : Type 0} (m : Mangled W) where
-  -- why a symbol isn't read
+  -- a refusal of the reader of shapes is for want of memory, or is what the symbol reads as
   pub shape_refused : (s : List ℕ) (e : Refusal) → IsMalformedOrMemory m.table s e → (e ≡ refusals.Memory) ⊎ IsReading m s (Err e)
   shape_refused s (refusals.Malformed at) is = inr (misshapen at is refl)
   shape_refused s refusals.Memory is = inl refl
@@ -29,7 +19,7 @@ module _ {W : Type 0} (m : Mangled W) where
   answer_refused detail s limit e (inr (misshapen at is same)) = inr (malformed at is (ap (λ (o : Result W Refusal). answer_of_symbol m detail limit o) same))
   answer_refused detail s limit e (inr (well_shaped (shape, is, spelled, same))) = inr (shaped shape is spelled (ap (λ (o : Result W Refusal). answer_of_symbol m detail limit o) same))
 
-  -- the answer of a symbol that is read
+  -- the text of a symbol that was read, within the limit, is the symbol's answer
   pub answer_read : (detail : Detail) (s : List ℕ) (limit : ℕ) (w : W) (result : Result (List ℕ) Refusal) → IsReading m s (Ok w)
       → result ≡ text_within limit (m.shown detail w) → IsAnswer m detail s limit result
   answer_read detail s limit w result (misshapen at is same) given = absurd (let no : Ok w ≡ Err (refusals.Malformed at) = same in cc)
@@ -52,7 +42,7 @@ module _ {W : Type 0} (m : Mangled W) where
       let refused : Refusal → Result (List ℕ) Refusal = λ r. Err r in
       inr (answer_read detail s limit w (Err e) reading (ap refused same ∙ sym (text_within-too_long limit (m.shown detail w) (long (ap errs same)))))
 
-  -- an item that shows the symbol prints its answer
+  -- a text printed from an item that shows the symbol is the symbol's answer
   pub answer_printed : {A : Type 0} (bytes_of : A → List ℕ) (detail : Detail) (s : List ℕ) (limit : ℕ) (w : W) (found : Unshared) → found ≡ m.shown detail w → (result : Result A Refusal) → IsReading m s (Ok w)
       → IfOk result (λ text. bytes_of text ≡ text_of found) → OnOk result (cost_of found ≤ limit) → IfOk result (λ text. IsAnswer m detail s limit (Ok (bytes_of text)))
   answer_printed {A = A} bytes_of detail s limit w found same result reading is within =
@@ -78,7 +68,7 @@ module _ {W : Type 0} (m : Mangled W) where
   shape_answered detail s limit shape bytes is text =
       outcome_shaped m.table m.lawful (answer_of_shape m detail limit) (λ at. Err (Malformed at)) (Err (Malformed 0)) s shape bytes is text
 
-  -- the answer to a symbol that isn't well shaped is its first bad byte
+  -- the answer to a symbol that isn't well shaped is `Malformed` at its first bad byte
   bad_answered : (detail : Detail) (s : List ℕ) (limit at : ℕ) → AreBytes s → IsMalformed m.table s at → answer m detail s limit ≡ Err (Malformed at)
   unfolding answer
   bad_answered detail s limit at bytes bad =
@@ -94,7 +84,7 @@ module _ {W : Type 0} (m : Mangled W) where
   is_answer detail s limit r bytes (malformed at bad e) = e ∙ sym (bad_answered detail s limit at bytes bad)
   is_answer detail s limit r bytes (shaped shape is text e) = e ∙ sym (shape_answered detail s limit shape bytes is text)
 
-  -- what holds of two answers to the same bytes, whatever the bytes are
+  -- two answers to the same bytes are the same, whatever the bytes are
   pub one_answer : (detail : Detail) (s : List ℕ) (limit : ℕ) (a b : Result (List ℕ) Refusal) → IsAnswer m detail s limit a → IsAnswer m detail s limit b → a ≡ b
   one_answer detail s limit a b (malformed at bad e) (malformed also worse f) =
       e ∙ ap (λ n. Err (Malformed n)) (one_bad m.table s at also bad.first worse.first) ∙ sym f
@@ -103,7 +93,7 @@ module _ {W : Type 0} (m : Mangled W) where
   one_answer detail s limit a b (shaped shape is text e) (shaped other are same f) =
       e ∙ ap (λ t. answer_of_shape m detail limit t) (one_tree m.table m.lawful shape other is are (text ∙ sym same)) ∙ sym f
 
-  -- the answer is the one for what the symbol reads as
+  -- the answer to a symbol follows from what the symbol reads as
   pub reading_answered : (detail : Detail) (s : List ℕ) (limit : ℕ) (result : Result W Refusal) → AreBytes s → IsReading m s result
       → answer m detail s limit ≡ answer_of_symbol m detail limit result
   reading_answered detail s limit result bytes (misshapen at bad e) =

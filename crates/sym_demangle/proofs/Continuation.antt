@@ -1,30 +1,15 @@
 -- How a linker continues by a driver's steps.
-use Rattle.std.proofs.Common.{◌≡◌, ◌∙◌, ap, subst, ℕ, ◌+◌, ◌*◌, ◌≤◌, List, [], length, Bool, true, false, Option, Some, Result, Ok, Err, arith}
-use Rattle.std.specs.Prelude.{None}
-use Rattle.sym_core.specs.declared.refusal.Refusal.{Refusal}
-use Rattle.sym_shape.specs.declared.rule.Row.{Row}
-use Rattle.sym_core.specs.Number.{FitsSymbol}
-use Rattle.sym_shape.specs.Grown.{GrowsInto}
-use Rattle.sym_shape.specs.Reader.{AreFew}
-use Rattle.sym_shape.specs.Table.{Table}
-use Rattle.sym_shape.specs.Tree.{Tree, AreRowsOf}
-use Rattle.sym_link.specs.declared.language.Frame.{Frame}
-use Rattle.sym_link.specs.Linking.{View}
-use Rattle.sym_link.specs.Stepping.{link_steps}
-use Rattle.sym_link.specs.Following.{IsDriving, IsStepTo, IsDone, meaning_of}
-use Rattle.sym_link.proofs.Starting.{driving_few}
-use Rattle.sym_demangle.specs.Standing.{Begins, IsLinker}
+use Rattle.sym_demangle.proofs.Basics.{◌≡◌, ◌∙◌, ap, subst, ℕ, ◌+◌, ◌*◌, ◌≤◌, List, [], length, Bool, true, false, Option, Some, Result, Ok, Err, arith, None, Refusal, Row, FitsSymbol, GrowsInto, AreFew, Table, Tree, AreRowsOf, Frame, View, link_steps, IsDriving, IsStepTo, IsDone, meaning_of, driving_few, Begins, IsLinker, never_done}
 use Rattle.sym_demangle.proofs.Standing.{begun}
-use Rattle.sym_shape.proofs.Keeping.{never_done}
 
--- the steps and rows of a linker are few
+-- the bounds on the steps and rows of a linker
 pub few_of : {N P K V S C : Type 0} (g : Table) (view : View N P K V S C) (s : List ℕ) (rows : List Row) (read : ℕ) (nodes : N) (steps : ℕ) (refused : Option Refusal) (next : ℕ)
     (frames : List (Frame K)) (parts : List P) (done : Bool) → IsLinker g view s rows read nodes steps refused next frames parts done
     → (read + steps ≤ 32 * length s + 48) × (length rows ≤ 4 * length s + 4)
 few_of g view s rows read nodes steps refused next frames parts done is =
     (omega (arith, driving_few view s rows is.shape nodes steps refused next frames parts is.driving, is.few.steps_few, is.few.rows_few), is.few.rows_few)
 
--- a driver that was given bytes and rows that are the linker's
+-- what holds of a driver over some bytes and rows holds of it over the linker's, which are equal
 pub driving_same : {N P K V S C : Type 0} (view : List ℕ → View N P K V S C) (d s : List ℕ) (rs rows : List Row) (shape : Tree) (nodes : N) (steps : ℕ) (refused : Option Refusal) (next : ℕ)
     (frames : List (Frame K)) (parts : List P) → d ≡ s → rs ≡ rows → IsDriving (view d) d rs shape nodes steps refused next frames parts
     → IsDriving (view s) s rows shape nodes steps refused next frames parts
@@ -32,7 +17,7 @@ driving_same view d s rs rows shape nodes steps refused next frames parts same s
     subst (λ b. IsDriving (view b) b rows shape nodes steps refused next frames parts) same
     (subst (λ r. IsDriving (view d) d r shape nodes steps refused next frames parts) same_rows driving)
 
--- the symbol's meaning is linked
+-- a driver that is done over some bytes and rows is done over the linker's, which are equal
 done_same : {N P K V S C : Type 0} (view : List ℕ → View N P K V S C) (d s : List ℕ) (rs rows : List Row) (shape : Tree) (nodes : N) (parts : List P) → d ≡ s → rs ≡ rows
     → IsDone (view d) d rs (meaning_of (view d) shape) nodes parts → IsDone (view s) s rows (meaning_of (view s) shape) nodes parts
 done_same view d s rs rows shape nodes parts same same_rows done =
@@ -74,7 +59,7 @@ has_run g view d s rs rows read nodes new steps new_steps refused new_refused ne
   all_steps = λ over. counted;
 }
 
--- a step answers true or false
+-- the answer of a step that succeeds may be replaced by an equal one
 answered : {N P K V S C : Type 0} (view : View N P K V S C) (s : List ℕ) (rows : List Row) (shape : Tree) (nodes : N) (steps new_steps : ℕ) (refused new_refused : Option Refusal) (parts : List P)
     (result : Result Bool Refusal) (done over : Bool) → result ≡ Ok done → done ≡ over → IsStepTo view s rows shape nodes steps new_steps refused new_refused parts result
     → IsStepTo view s rows shape nodes steps new_steps refused new_refused parts (Ok over)
@@ -114,7 +99,7 @@ pub counts_none : {N P K V S C : Type 0} (view : View N P K V S C) (s : List ℕ
 counts_none view s rows shape nodes steps new_steps refused new_refused parts result done is over to =
     (answered view s rows shape nodes steps new_steps refused new_refused parts result done true is over to).1
 
--- a step that answers leaves no refusal
+-- a step that answers true or false leaves no refusal
 pub stays_open : {N P K V S C : Type 0} (view : View N P K V S C) (s : List ℕ) (rows : List Row) (shape : Tree) (nodes : N) (steps new_steps : ℕ) (refused new_refused : Option Refusal)
     (parts : List P) (result : Result Bool Refusal) (done : Bool) → result ≡ Ok done
     → IsStepTo view s rows shape nodes steps new_steps refused new_refused parts result → new_refused ≡ None

@@ -1,30 +1,24 @@
 -- Why a reader that is fed refuses.
-use Rattle.std.proofs.Common.{◌≡◌, ◌≢◌, ◌++◌, ◌+◌, ◌∙◌, ap, append-nil, subst, ℕ, List, [], Bool, true, false, length, take, drop, eqb, Bor, Option, Some}
-use Rattle.std.specs.Prelude.{MatchOption}
+use Rattle.sym_demangle.proofs.Basics.{◌≡◌, ◌≢◌, ◌++◌, ◌+◌, ◌∙◌, ap, append-nil, subst, ℕ, List, [], Bool, true, false, length, take, drop, eqb, Bor, Option, Some, MatchOption, Refusal, Malformed, IsReason, IsMalformedOrMemory, Table}
 use Rattle.std.specs.Cmp.Lexicographic.{pointwise}
 use Rattle.std.proofs.lemmas.Bool.Decides.{Decides-eqb}
 use Rattle.std.proofs.lemmas.Slice.Eq.{strip_prefix_is}
-use Rattle.sym_core.specs.declared.refusal.Refusal.{Refusal}
-use Rattle.sym_core.specs.declared.refusal.Refusal.TheVariants.{Malformed}
-use Rattle.sym_shape.specs.Fed.{IsReason}
-use Rattle.sym_shape.specs.Reader.{IsMalformedOrMemory}
-use Rattle.sym_shape.specs.Table.{Table}
 
--- a reader that has the end refuses for the reason of the whole symbol
+-- a reader that was given the end refuses for a reason of the whole symbol
 pub reason_told : (g : Table) (s : List ℕ) (ended : Bool) (e : Refusal) → ended ≡ true → IsReason g ended s e → IsMalformedOrMemory g s e
 reason_told g s ended (Malformed at) told reason = subst (λ b. IsReason g b s (Malformed at)) told reason
 reason_told g s ended e told reason = reason
 
--- a reader that hasn't the end refuses for a reason that holds whatever follows
+-- a reader that wasn't given the end refuses for a reason that holds whatever bytes follow
 pub reason_whatever : (g : Table) (s rest : List ℕ) (ended : Bool) (e : Refusal) → ended ≡ false → IsReason g ended s e → IsMalformedOrMemory g (s ++ rest) e
 reason_whatever g s rest ended (Malformed at) untold reason = subst (λ b. IsReason g b s (Malformed at)) untold reason rest
 reason_whatever g s rest ended e untold reason = reason
 
--- the bytes of a reader that read what it had, was fed the rest, and was given the end
+-- a reader that read what it had, was fed the rest and was given the end has read the first bytes and the rest
 pub fed_all : (told more ran first rest : List ℕ) → told ≡ more ++ [] → more ≡ ran ++ rest → ran ≡ first → told ≡ first ++ rest
 fed_all told more ran first rest end fed same = end ∙ append-nil more ∙ fed ∙ ap (λ bs. bs ++ rest) same
 
--- the bytes that follow a prefix
+-- bytes that begin with a prefix are the prefix and the bytes after it
 pub behind_prefix : (s prefix front : List ℕ) (found : Option (Bor (List ℕ))) (rest : Bor (List ℕ))
     → MatchOption found (pointwise eqb (take (length prefix) s) prefix ≡ false) (λ x. (pointwise eqb (take (length prefix) s) prefix ≡ true) × (x.now ≡ drop (length prefix) s) × (length x.now + length prefix ≡ length s))
     → found ≡ Some rest → prefix ≡ front → s ≡ front ++ rest.now

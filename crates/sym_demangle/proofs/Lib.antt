@@ -1,3 +1,4 @@
+pub mod Basics
 pub mod Standing
 pub mod Answering
 pub mod Reasons

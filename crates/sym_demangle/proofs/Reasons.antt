@@ -1,12 +1,5 @@
 -- Each refusal has its reason in the symbol.
-use Rattle.std.proofs.Common.{◌≡◌, sym, subst, inl, inr, ◌∙◌, ℕ, List, Bool, true, false, Ok, Err}
-use Rattle.std.specs.Prelude.{Result, ◌≢◌, IfOk, IfErr, nat_le}
-use Rattle.sym_core.specs.declared.refusal.Refusal.{Refusal}
-use Rattle.sym_core.specs.declared.refusal.Refusal.TheVariants.{Malformed, BadReference, BadValue, TooLong, Memory}
-use Rattle.sym_shape.specs.Tree.{IsWellShaped}
-use Rattle.sym_print.specs.Unshared.{text_of, cost_of}
-use Rattle.sym_print.specs.declared.detail.Detail.{Detail}
-use Rattle.sym_demangle.specs.Mangled.{Mangled, RefusesBadTokens, IsBadToken, StandsFor, IsRefused, IsReading, misshapen, well_shaped, IsAnswer, malformed, shaped, answer_of_symbol, HasReason}
+use Rattle.sym_demangle.proofs.Basics.{◌≡◌, sym, subst, inl, inr, ◌∙◌, ℕ, List, Bool, true, false, Ok, Err, Result, ◌≢◌, IfOk, IfErr, nat_le, Refusal, Malformed, BadReference, BadValue, TooLong, Memory, IsWellShaped, text_of, cost_of, Detail, Mangled, RefusesBadTokens, IsBadToken, StandsFor, IsRefused, IsReading, misshapen, well_shaped, IsAnswer, malformed, shaped, answer_of_symbol, HasReason}
 
 module _ {W : Type 0} (m : Mangled W) (refuses : RefusesBadTokens m) where
   token_reason : (s : List ℕ) (refusal : Refusal) → IsWellShaped m.table s → IsBadToken refusal → HasReason m.table s refusal
@@ -33,7 +26,7 @@ module _ {W : Type 0} (m : Mangled W) (refuses : RefusesBadTokens m) where
   reading_not_too_long s refusal (misshapen at bad same) = subst (λ (r : Result W Refusal). IfErr r (λ e. e ≢ TooLong)) (sym same) (malformed_not_too_long at)
   reading_not_too_long s refusal (well_shaped stands) = bad_not_too_long refusal (stands_for_bad s refusal stands)
 
-  -- what a linker refuses
+  -- a linker doesn't refuse with `TooLong`
   pub link_not_too_long : (s : List ℕ) (refusal : Refusal) → IsRefused m s refusal → refusal ≢ TooLong
   link_not_too_long s refusal (inl memory) = λ long. absurd (let no : Memory ≡ TooLong = sym memory ∙ long in cc)
   link_not_too_long s refusal (inr stands) = bad_not_too_long refusal (stands_for_bad s refusal stands)
@@ -54,12 +47,12 @@ module _ {W : Type 0} (m : Mangled W) (refuses : RefusesBadTokens m) where
   answer_reason detail s limit refusal (shaped shape is spelled same) =
       subst (λ (r : Result (List ℕ) Refusal). IfErr r (HasReason m.table s)) (sym same) (symbol_reason detail s limit (m.unfolded shape) (shape, is, spelled) (refuses shape is))
 
-  -- what is linked is what is read
+  -- a symbol that is linked reads as what it is linked to
   pub links_read : {T : Type 0} (whole : T → W) (s bytes : List ℕ) (result : Result T Refusal) → s ≡ bytes → IfOk result (λ x. StandsFor m s (Ok (whole x))) → IfOk result (λ x. IsReading m bytes (Ok (whole x)))
   links_read whole s bytes (Ok x) same stands = well_shaped (subst (λ b. StandsFor m b (Ok (whole x))) same stands)
   links_read whole s bytes (Err e) same stands = tt
 
-  -- a link never refuses for a text that is too long
+  -- linking never refuses with `TooLong`
   pub links_not_too_long : {T : Type 0} (s : List ℕ) (result : Result T Refusal) → IfErr result (IsRefused m s) → IfErr result (λ e. e ≢ TooLong)
   links_not_too_long s (Ok found) is = is
   links_not_too_long s (Err refusal) is = link_not_too_long s refusal is

@@ -1,28 +1,9 @@
--- What a linker has done is what the symbol's shape denotes.
-use Rattle.std.proofs.Common.{◌≡◌, refl, sym, ◌∙◌, ap, subst, inl, inr, ℕ, ◌+◌, ◌*◌, ◌≤◌, List, [], length, Bool, true, false, Option, Some, Result, Ok, Err, arith}
-use Rattle.std.specs.Prelude.{None}
-use Rattle.sym_core.specs.Number.{FitsSymbol}
-use Rattle.sym_core.specs.declared.refusal.Refusal.{Refusal}
+-- The nodes that a linker has made denote what the symbol's shape denotes.
+use Rattle.sym_demangle.proofs.Basics.{◌≡◌, refl, sym, ◌∙◌, ap, subst, inl, inr, ℕ, ◌+◌, ◌*◌, ◌≤◌, List, [], length, Bool, true, false, Option, Some, Result, Ok, Err, arith, None, FitsSymbol, Refusal, Row, Kind, GrowsInto, AreFew, Table, Tree, IsTree, spell, AreRowsOf, one_tree, Frame, View, Fails, link_steps, IsDriving, IsStepTo, meaning_of, driving_few, driving_on, Mangled, IsRefused, Begins, IsLinker, IsLinked, CountsNodes, AreLinkSteps, AreNodesOf}
 use Rattle.sym_core.specs.declared.refusal.Refusal.TheVariants as refusals
-use Rattle.sym_shape.specs.declared.rule.Row.{Row}
-use Rattle.sym_shape.specs.declared.rule.Sym.TheVariants.{Kind}
-use Rattle.sym_shape.specs.Grown.{GrowsInto}
 use Rattle.sym_shape.specs.Law.{IsLawful}
-use Rattle.sym_shape.specs.Reader.{AreFew}
-use Rattle.sym_shape.specs.Table.{Table}
-use Rattle.sym_shape.specs.Tree.{Tree, IsTree, spell, AreRowsOf}
-use Rattle.sym_shape.proofs.Uniqueness.{one_tree}
-use Rattle.sym_link.specs.declared.language.Frame.{Frame}
-use Rattle.sym_link.specs.Linking.{View}
-use Rattle.sym_link.specs.Driving.{Fails}
-use Rattle.sym_link.specs.Stepping.{link_steps}
-use Rattle.sym_link.specs.Following.{IsDriving, IsStepTo, meaning_of}
-use Rattle.sym_link.proofs.Starting.{driving_few}
-use Rattle.sym_link.proofs.Driving.{driving_on}
-use Rattle.sym_demangle.specs.Mangled.{Mangled, IsRefused}
-use Rattle.sym_demangle.specs.Standing.{Begins, IsLinker, IsLinked, CountsNodes, AreLinkSteps, AreNodesOf}
 
--- a linker before the first row
+-- a linker before the first row is on its way
 pub begun : {N P K V S C : Type 0} (view : View N P K V S C) (g : Table) (s : List ℕ) (rows : List Row) (read : ℕ) (nodes : N) → GrowsInto g view.table
     → FitsSymbol s → AreRowsOf g s rows → AreFew read (length rows) (length s) → Begins view nodes → IsLinker g view s rows read nodes 0 None 0 [] [] false
 begun view g s rows read nodes grows fits are few begins = record {
@@ -57,7 +38,7 @@ linked_of g view s rows read_steps nodes steps refused next frames parts done is
   steps_few = omega (arith, total, driving_few view s rows is.shape nodes steps refused next frames parts is.driving, is.few.steps_few, is.few.rows_few);
 }
 
--- the steps of a symbol's tree are those of its one tree
+-- the steps for a tree that spells the symbol are those for its one tree
 pub shape_steps : (g : Table) (lawful : IsLawful g) (s bytes : List ℕ) (shape : Tree) (steps : ℕ) → IsTree g (Kind 0) shape → spell shape ≡ s → s ≡ bytes → steps ≡ link_steps shape → AreLinkSteps g bytes steps
 shape_steps g lawful s bytes shape steps is own there counted = λ tree is_tree spelled.
     counted ∙ ap link_steps (one_tree g lawful shape tree is is_tree (own ∙ there ∙ sym spelled))
@@ -70,13 +51,13 @@ done_steps view s rows shape nodes steps new_steps refused new_refused parts res
     let answer = subst (λ r. IsStepTo view s rows shape nodes steps new_steps refused new_refused parts r) (is ∙ over) to in
     omega (arith, answer.1, answer.3)
 
--- what a driver that keeps a refusal shows
+-- a refusal that a driver keeps is the meaning of the symbol's shape
 pub driving_fails : {N P K V S C : Type 0} (view : View N P K V S C) (s : List ℕ) (rows : List Row) (shape : Tree) (nodes : N) (steps : ℕ) (refused : Option Refusal) (next : ℕ)
     (frames : List (Frame K)) (parts : List P) (e : Refusal) → IsDriving view s rows shape nodes steps refused next frames parts → refused ≡ Some e → Fails e (meaning_of view shape)
 driving_fails view s rows shape nodes steps refused next frames parts e driving kept =
     (subst (λ r. IsDriving view s rows shape nodes steps r next frames parts) kept driving).0
 
--- the refusal of a step is what the symbol means
+-- the refusal of a step is the meaning of the symbol's shape
 pub step_fails : {N P K V S C : Type 0} (view : View N P K V S C) (s : List ℕ) (rows : List Row) (shape : Tree) (nodes : N) (steps new_steps : ℕ) (refused new_refused : Option Refusal) (parts : List P)
     (e : Refusal) → IsStepTo view s rows shape nodes steps new_steps refused new_refused parts (Err e) → Fails e (meaning_of view shape)
 step_fails view s rows shape nodes steps new_steps None new_refused parts e to = to.0
@@ -91,7 +72,7 @@ refused_of m shape s refusals.TooLong is spelled fails = inr (shape, is, spelled
 
 -- ## Nodes
 
--- what a driver that has refused nothing has written is paid for
+-- what a driver has written is paid for by some number of bytes, if the driver has refused nothing
 pub driving_paid : {N P K V S C : Type 0} (view : View N P K V S C) (s : List ℕ) (rows : List Row) (shape : Tree) (nodes : N) (steps : ℕ) (refused : Option Refusal) (next : ℕ)
     (frames : List (Frame K)) (parts : List P) → ((e : Refusal) → refused ≡ Some e → ⊥) → IsDriving view s rows shape nodes steps refused next frames parts
     → (bytes : ℕ) × view.IsPaid nodes bytes
@@ -101,7 +82,7 @@ driving_paid view s rows shape nodes steps refused next frames parts open_still 
       | inr on ↦ (on.2.reached, on.2.paid)
     ]
 
--- nodes that the language counts are those of the table
+-- the bound on the nodes that the language counts holds of the table's nodes, too
 pub counted_two : {N P K V S C : Type 0} (view : View N P K V S C) (s : List ℕ) (rows : List Row) (shape : Tree) (old new : N) (steps new_steps : ℕ) (refused : Option Refusal) (next : ℕ)
     (frames : List (Frame K)) (parts : List P) (count : N → ℕ) (first : ℕ) → CountsNodes view count first → ((e : Refusal) → refused ≡ Some e → ⊥)
     → IsDriving view s rows shape old steps refused next frames parts → view.size new + 2 * steps ≤ view.size old + 2 * new_steps
@@ -110,7 +91,7 @@ counted_two view s rows shape old new steps new_steps refused next frames parts 
     let paid = driving_paid view s rows shape old steps refused next frames parts open_still driving in
     omega (arith, counts.most new, counts.least old paid.0 paid.1, added)
 
--- nodes of a shape that spells the symbol are those of its one tree
+-- the nodes of a shape that spells the symbol are those of the symbol's one tree
 pub shape_nodes : (g : Table) (lawful : IsLawful g) (Are : Tree → ℕ → Type 0) (s : List ℕ) (shape : Tree) (nodes : ℕ) → IsTree g (Kind 0) shape → spell shape ≡ s → Are shape nodes
     → AreNodesOf g Are s nodes
 shape_nodes g lawful Are s shape nodes is spelled are = λ tree is_tree there.

@@ -25,7 +25,7 @@ pub record Mangled (W : Type 0) : Type 0 where
   pub shown : Detail → W → Unshared
   pub lawful : IsLawful table
 
--- what is well shaped is refused only for a bad token
+-- a well shaped symbol is refused only for a bad token
 abbrev pub RefusesBadTokens : {W : Type 0} → Mangled W → Type 0
 RefusesBadTokens m = (shape : Tree) → IsTree m.table (Kind 0) shape → IfErr (m.unfolded shape) IsBadToken
 
@@ -37,12 +37,12 @@ StandsFor m s result = (shape : Tree) × IsTree m.table (Kind 0) shape × (spell
 abbrev pub IsRefused : {W : Type 0} → Mangled W → List ℕ → Refusal → Type 0
 IsRefused m s refusal = (refusal ≡ Memory) ⊎ StandsFor m s (Err refusal)
 
--- what a symbol reads as: it isn't well shaped, or else what its shape denotes
+-- what a symbol reads as: a refusal at its first bad byte or, where it has none, what its shape denotes
 pub data IsReading {W : Type 0} (m : Mangled W) (s : List ℕ) (result : Result W Refusal) : Type 0 where
   misshapen : (at : ℕ) → IsMalformed m.table s at → result ≡ Err (Malformed at) → IsReading m s result
   well_shaped : StandsFor m s result → IsReading m s result
 
--- the answer for what is read
+-- the answer to a symbol that has this reading
 abbrev pub answer_of_symbol : {W : Type 0} → Mangled W → Detail → ℕ → Result W Refusal → Result (List ℕ) Refusal
 answer_of_symbol m detail limit (Ok symbol) = text_within limit (m.shown detail symbol)
 answer_of_symbol m detail limit (Err refusal) = Err refusal
@@ -51,7 +51,7 @@ answer_of_symbol m detail limit (Err refusal) = Err refusal
 abbrev pub answer_of_shape : {W : Type 0} → Mangled W → Detail → ℕ → Tree → Result (List ℕ) Refusal
 answer_of_shape m detail limit shape = answer_of_symbol m detail limit (m.unfolded shape)
 
--- this is the answer to a symbol
+-- the result is the answer to the symbol at a limit, in a detail
 pub data IsAnswer {W : Type 0} (m : Mangled W) (detail : Detail) (s : List ℕ) (limit : ℕ) (result : Result (List ℕ) Refusal) : Type 0 where
   malformed : (at : ℕ) → IsMalformed m.table s at → result ≡ Err (Malformed at) → IsAnswer m detail s limit result
   shaped : (shape : Tree) → IsTree m.table (Kind 0) shape → spell shape ≡ s → result ≡ answer_of_shape m detail limit shape → IsAnswer m detail s limit result

@@ -13,9 +13,9 @@ use Rattle.sym_link.specs.Linking.{View}
 use Rattle.sym_link.specs.Stepping.{link_steps}
 use Rattle.sym_link.specs.Following.{Fits, IsShape, IsDone, IsDriving, meaning_of}
 
--- How far a symbol is linked: its bytes, how many rows its shape has and how many steps the reader took, the linker's own steps, how
--- many nodes there are, whether it has answered that all is done, the refusal if there was one, and the linker's lists: of open rules,
--- of parts, and those of the table.
+-- How far a symbol is linked: its bytes, the rows of its shape and the steps of the reader, the linker's own steps, the nodes,
+-- whether the linker has answered that all is done, its refusal if there was one, and its lists: of open rules, of parts, and
+-- those of the table.
 pub record Progress : Type 0 where
   pub bytes : List ℕ
   pub rows : ℕ
@@ -44,21 +44,21 @@ pub record AreFewInAll (progress : Progress) : Type 0 where
 abbrev pub AreLinkSteps : Table → List ℕ → ℕ → Type 0
 AreLinkSteps g s steps = (tree : Tree) → IsTree g (Kind 0) tree → spell tree ≡ s → steps ≡ link_steps tree
 
--- the steps that reading the symbol takes, those of the reader and of the linker
+-- the steps that reading the symbol takes: those of the reader and those of the linker
 abbrev pub AreStepsInAll : Table → List ℕ → ℕ → Type 0
 AreStepsInAll g s steps = (tree : Tree) → IsTree g (Kind 0) tree → spell tree ≡ s → steps ≡ read_steps tree + link_steps tree
 
--- The count is that of the nodes of the one tree that spells the symbol, where a language says which nodes a tree has.
+-- The count is that of the nodes of the one tree that spells the symbol; `Are` says which counts of nodes a tree has.
 abbrev pub AreNodesOf : Table → (Are : Tree → ℕ → Type 0) → List ℕ → ℕ → Type 0
 AreNodesOf g Are s nodes = (tree : Tree) → IsTree g (Kind 0) tree → spell tree ≡ s → Are tree nodes
 
--- A table has its first nodes, which are few, and those that the language counts.
+-- The language counts a table's size and its first nodes, at most eight: never more, and no fewer once the table is paid for.
 pub record CountsNodes {N P K V S C : Type 0} (view : View N P K V S C) (count : N → ℕ) (first : ℕ) : Type 0 where
   pub few : first ≤ 8
   pub most : (nodes : N) → count nodes ≤ view.size nodes + first
   pub least : (nodes : N) (bytes : ℕ) → view.IsPaid nodes bytes → view.size nodes + first ≤ count nodes
 
--- a table of nodes that a symbol begins with
+-- the table of nodes with which linking a symbol begins
 pub record Begins {N P K V S C : Type 0} (view : View N P K V S C) (nodes : N) : Type 0 where
   pub size : view.size nodes ≡ 0
   pub holds : view.Holds nodes view.first
@@ -77,7 +77,7 @@ pub record IsLinker {N P K V S C : Type 0} (g : Table) (view : View N P K V S C)
   pub ended : done ≡ true → IsDone view s rows (meaning_of view shape) nodes parts
   pub all_steps : done ≡ true → steps ≡ link_steps shape
 
--- A symbol is linked: its nodes and its one part are what its shape means, and rows and steps are few.
+-- A symbol is linked: its nodes and its one part denote what its shape means, and rows and steps are few.
 pub record IsLinked {N P K V S C : Type 0} (g : Table) (view : View N P K V S C) (s : List ℕ) (nodes : N) (parts : List P) (count steps : ℕ) (shape : Tree) : Type 0 where
   pub rows : List Row
   pub is_tree : IsTree g (Kind 0) shape

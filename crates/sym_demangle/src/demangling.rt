@@ -17,7 +17,7 @@ use sym_core::Refusal;
 use sym_print::{Detail, print};
 use sym_shape::{Reader, Shape};
 
-/// The symbol of these bytes, whose shape was read.
+/// The symbol of these bytes, given the shape that was read from them.
 fn link<M: Mangling>(alloc: Global, bytes: Vec<u8>, shape: Shape) -> Result<M::Symbol, Refusal>
     requires fits { FitsSymbol bytes.items }
     requires rows { AreRowsOf M.mangled.table bytes.items shape.rows }

@@ -19,8 +19,9 @@ pub fn one_answer<M: Mangling>()
     ensures given { (detail : Detail) (s : List ℕ) (limit : ℕ) (result : Result (List ℕ) Refusal) → AreBytes s → IsAnswer M.mangled detail s limit result → result ≡ answer M.mangled detail s limit }
 {}
 
-/// What a symbol reads as decides its answer at every limit and in each detail: the text of its tree, or `TooLong`. A symbol that
-/// is refused when it is read has that refusal for its answer, and it is never `TooLong`.
+/// What a symbol reads as decides its answer at every limit and in each detail: the text of its
+/// tree, or `TooLong`. A symbol that is refused when it is read has that refusal for its answer,
+/// which is never `TooLong`.
 pub fn read_answers<M: Mangling>()
     ensures answered { (detail : Detail) (s : List ℕ) (limit : ℕ) (result : Result M.Whole Refusal) → AreBytes s → IsReading M.mangled s result → answer M.mangled detail s limit ≡ answer_of_symbol M.mangled detail limit result }
     ensures read { (detail : Detail) (s : List ℕ) (limit : ℕ) (symbol : M.Whole) → AreBytes s → IsReading M.mangled s (Ok symbol) → IfErr (answer M.mangled detail s limit) (λ refusal. refusal ≡ TooLong) }
@@ -29,7 +30,7 @@ pub fn read_answers<M: Mangling>()
     M::refuses_bad_tokens();
 }
 
-/// A refusal has its reason in the symbol, where it is read and where it is answered: what isn't well shaped is `Malformed` at its
+/// The refusal of a reading or of an answer has its reason in the symbol: what isn't well shaped is `Malformed` at its
 /// first bad byte, and what is well shaped has a bad token or a text that costs too much.
 pub fn each_refusal_has_a_reason<M: Mangling>()
     ensures read { (s : List ℕ) (refusal : Refusal) → IsReading M.mangled s (Err refusal) → HasReason M.mangled.table s refusal }

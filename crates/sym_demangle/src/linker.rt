@@ -104,10 +104,11 @@ impl<M: Mangling> Linker<M> {
         ensures bytes { self.new.bytes ≡ self.old.bytes }
         ensures rows { self.new.rows ≡ self.old.rows }
         ensures read_steps { self.new.read_steps ≡ self.old.read_steps }
-        // A step is counted, also the first that refuses, and the linker continues.
+        // A step that answers false is counted, and the linker continues. The first refused step is
+        // counted, too.
         ensures moved { result ≡ Ok false → (self.new.steps ≡ self.old.steps + 1) × (self.new.done ≡ false) }
         ensures counted { self.old.refused ≡ None → OnErr result (self.new.steps ≡ self.old.steps + 1) }
-        // Nothing is left to do, and nothing was done.
+        // After true nothing is left to do, and the step itself did nothing.
         ensures done { result ≡ Ok true → self.new.done ≡ true }
         ensures same { result ≡ Ok true → self.new.steps ≡ self.old.steps }
         // The steps so far are then those of the symbol's one tree.
@@ -122,7 +123,7 @@ impl<M: Mangling> Linker<M> {
         // A step that is counted adds at most two nodes, refused or not, and no other adds any.
         ensures nodes { AddsTwoEach self.old self.new }
         ensures room { KeepRoom self.old.lists self.new.lists }
-        // Memory is answered first only where a list had no room, or the symbol has a token that takes memory of its own.
+        // `Memory` is the first refusal only where a list had no room, or the symbol has a token that takes memory of its own.
         ensures full { self.old.refused ≡ None
             → OnlyForRoom (TokenTakesMemory (M.Linked.view self.old.bytes) self.old.bytes) self.old.lists self.new.lists result }
         ensures few { AreFewInAll self.new }
@@ -168,7 +169,7 @@ impl<M: Mangling> Linker<M> {
         // Each of them adds at most two nodes, refused or not.
         ensures nodes { AddsTwoEach self.old self.new }
         ensures room { KeepRoom self.old.lists self.new.lists }
-        // Memory is answered first only where a list had no room, or the symbol has a token that takes memory of its own.
+        // `Memory` is the first refusal only where a list had no room, or the symbol has a token that takes memory of its own.
         ensures full { self.old.refused ≡ None
             → OnlyForRoom (TokenTakesMemory (M.Linked.view self.old.bytes) self.old.bytes) self.old.lists self.new.lists result }
         ensures few { AreFewInAll self.new }

@@ -4,7 +4,6 @@ ghost use Rattle.std.specs.Prelude.{◌≡◌, ℕ, List, OnOk, IfErr, Ok, true}
 ghost use Rattle.sym_core.specs.Number.{FitsSymbol};
 ghost use Rattle.sym_core.specs.declared.refusal.Refusal.{Refusal};
 ghost use Rattle.sym_core.specs.declared.refusal.Refusal.TheVariants as refusals;
-ghost use Rattle.sym_print.specs.declared.detail.Detail.TheVariants as details;
 ghost use Rattle.sym_print.specs.declared.layout.Part.TheVariants as part;
 ghost use Rattle.sym_shape.specs.Grown.{GrowsInto};
 ghost use Rattle.sym_shape.specs.Tree.{Tree, IsTree, spell};
@@ -36,7 +35,8 @@ pub trait Mangling: Grammar + Copy {
 
     ghost mangled: { Mangled Whole };
 
-    // the tree of a symbol that was read, its bytes, the numbers of its rows and of the steps that reading took, and of its nodes
+    // the tree of a symbol that was read, its bytes, and the numbers of its rows, of the steps that
+    // reading took, and of its nodes
     ghost whole_of: { Self.Symbol → Whole };
 
     ghost bytes_of: { Self.Symbol → List ℕ };
@@ -96,17 +96,17 @@ pub trait Mangling: Grammar + Copy {
     /// The lists of the short way. They take no memory.
     fn direct(alloc: Global) -> Self::Direct;
 
-    /// Writes the text of a symbol in full, if the symbol goes the short way and its text costs at most the limit, and answers
-    /// whether it did. Where it didn't, nothing is known of the symbol.
-    fn write(direct: &mut Self::Direct, symbol: &[u8], limit: u32) -> bool
+    /// Writes the text of a symbol in a detail, if the symbol goes the short way and its text costs at most the limit. Answers
+    /// whether the text was written. Where it wasn't, nothing is known of the symbol.
+    fn write(direct: &mut Self::Direct, symbol: &[u8], limit: u32, detail: Detail) -> bool
         requires { FitsSymbol symbol.now }
-        ensures { result ≡ true → IsAnswer mangled details.Full symbol.now limit (Ok (written direct.new)) };
+        ensures { result ≡ true → IsAnswer mangled detail symbol.now limit (Ok (written direct.new)) };
 
     /// The text that was written last.
     fn text(direct: &Self::Direct) -> &[u8]
         ensures { result.now ≡ written direct.now };
 
-    /// What is well shaped is refused only for a bad token.
+    /// A well shaped symbol is refused only for a bad token.
     fn refuses_bad_tokens()
         ensures { RefusesBadTokens mangled };
 
@@ -114,9 +114,9 @@ pub trait Mangling: Grammar + Copy {
 
     ghost counts_nodes: { (s : List ℕ) → CountsNodes (Self.Linked.view s) count_of first_nodes };
 
-    // The nodes are made of each tree of the mangling's table. The table that they are made for may have more.
+    // Nodes can be made of each tree of the mangling's table. Their own table may have more trees.
     ghost view_table: { (s : List ℕ) → GrowsInto mangled.table (Self.Linked.view s).table };
 
-    // a symbol's shape whose meaning is a refusal denotes that refusal
+    // if the meaning of a symbol's shape is a refusal, the shape denotes that refusal
     ghost fails: { (shape : Tree) (refusal : Refusal) → IsTree mangled.table (Kind 0) shape → Fails refusal (meaning_of (Self.Linked.view (spell shape)) shape) → Fails refusal (mangled.unfolded shape) };
 }

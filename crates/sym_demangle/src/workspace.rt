@@ -38,7 +38,7 @@ pub struct Workspace<M: Mangling> {
     // what was read ahead of a symbol whose end isn't known yet
     ahead: Reader<M>,
     ghost ahead_is_open: { ahead.ended ≡ false },
-    // and for which there was memory
+    // the memory sufficed for what was read ahead
     ghost ahead_has_memory: { ahead.refused ≢ Some refusals.Memory },
 }
 
@@ -119,9 +119,9 @@ impl<M: Mangling> Workspace<M> {
         }
     }
 
-    /// Reads what has arrived of a symbol that may continue, once that is half as much again as was read ahead before: a token
-    /// that arrives in small pieces isn't read again for each. Reading a symbol that begins with these bytes continues from
-    /// there.
+    /// Reads what has arrived of a symbol that may continue, once that is half as much again as was
+    /// read ahead before. So a token that arrives in small pieces isn't read again for each piece.
+    /// Reading a symbol that begins with these bytes continues after them.
     pub fn read_ahead(&mut self, front: &[u8])
         requires { FitsSymbol front.now }
     {
@@ -224,7 +224,7 @@ impl<M: Mangling> Workspace<M> {
     ///
     /// `Malformed` at the first bad byte of a symbol that isn't well shaped, `BadReference` and `BadValue` at the first bad
     /// token of one that is, `Memory` where a list couldn't grow.
-    // As a call of its own in printing and pressing it took 0.3 % more instructions over real Rust symbols.
+    // Not inlined in printing and pressing, it took 0.3 % more instructions over real Rust symbols.
     #[inline(always)]
     pub fn read(&mut self, s: &[u8]) -> Result<M::Symbol, Refusal>
         requires { FitsSymbol s.now }
@@ -296,9 +296,7 @@ impl<M: Mangling> Workspace<M> {
         ensures refused { IfErr result (λ e. (e ≡ refusals.Memory) ⊎ IsAnswer M.mangled detail s.now limit (Err e)) }
         ensures same { OnErr result (out.new.items ≡ out.old.items) }
     {
-        if let Detail::Full = detail
-            && M::write(&mut self.direct, s, limit)
-        {
+        if M::write(&mut self.direct, s, limit, detail) {
             out.extend_from_slice(M::text(&self.direct))?;
             return Ok(());
         }

@@ -3,7 +3,7 @@ use Rattle.std.proofs.Common.{◌≡◌, ℕ, ◌+◌, ◌-◌, ◌≤◌, List,
 use Rattle.std.proofs.lemmas.List.{take-take}
 use Rattle.std.proofs.Math.Seq.{take-append-add}
 
--- what is left of them
+-- the bytes after the cut: the old ones, and those that were to be copied
 pub cut-back : (old bytes : List ℕ) (from size most : ℕ) → size ≤ most
     → take (length old + size) (old ++ take (from + most - from) (drop from bytes)) ≡ old ++ take size (drop from bytes)
 cut-back old bytes from size most few =

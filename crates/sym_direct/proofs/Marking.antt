@@ -106,7 +106,7 @@ front-plain (byte ∷ bytes) zero each k d less = absurd (omega (arith, less))
 front-plain (byte ∷ bytes) (suc size) each zero d less = λ e. omega (arith, each 0 (omega arith), e)
 front-plain (byte ∷ bytes) (suc size) each (suc k) d less = front-plain bytes size (λ j small. each (suc j) (omega (arith, small))) k d (omega (arith, less))
 
--- what is visible of bytes that begin with some that are neither marks nor 0: outside of stretches
+-- first bytes that are neither marks nor 0 are visible outside of stretches
 front-visible : (all : List ℕ) (size : ℕ) → size ≤ length all → ((k : ℕ) → k < size → 2 < get_or all k 0)
     → take size all ++ visible 0 (drop size all) ≡ visible 0 all
 front-visible all zero within each = refl
@@ -116,7 +116,7 @@ front-visible (byte ∷ bytes) (suc size) within each =
     ap (λ l. byte ∷ l) (front-visible bytes size (omega (arith, within)) (λ k less. each (suc k) (omega (arith, less))))
     ∙ sym (visible-kept byte bytes (unequal byte opens (λ e. omega (arith, above, e))) (unequal byte closes (λ e. omega (arith, above, e))))
 
--- and within them
+-- first bytes that are neither marks nor 0 are left out within a stretch
 front-hidden : (depth : ℕ) (all : List ℕ) (size : ℕ) → size ≤ length all → ((k : ℕ) → k < size → 2 < get_or all k 0)
     → visible (suc depth) (drop size all) ≡ visible (suc depth) all
 unfolding unless_within
@@ -252,7 +252,7 @@ same-closed : (all b c : List ℕ) (k l depth at : ℕ) → c ≡ b → l ≡ k 
 same-closed all b c k l depth at same_bytes same_kept p =
     subst (λ x. AreClosedUp all x l depth at) (sym same_bytes) (subst (λ x. AreClosedUp all b x depth at) (sym same_kept) p)
 
--- after a run outside of stretches, which is moved
+-- a run outside of stretches was moved
 pub moved-run : (all bytes moved after : List ℕ) (kept more now depth at to : ℕ) → after ≡ moved → now ≡ more → AreClosedUp all bytes kept depth at → IsRun bytes at to
     → depth ≡ 0 → more ≡ kept + (to - at) → take more moved ≡ take kept bytes ++ take (to - at) (drop at bytes) → drop to moved ≡ drop to bytes
     → length moved ≡ length bytes → AreClosedUp all after now depth to
@@ -261,7 +261,7 @@ moved-run all bytes moved after kept more now depth at to same_bytes same_kept p
     (same-closed all moved moved (kept + (to - at)) more depth to refl size
     (kept-run all bytes moved kept depth at to p run none (ap (λ n. take n moved) (sym size) ∙ front) rest long))
 
--- after one within a stretch
+-- a run within a stretch was left out
 pub left-run : (all bytes after : List ℕ) (kept now depth at to : ℕ) → after ≡ bytes → now ≡ kept → AreClosedUp all bytes kept depth at → IsRun bytes at to → depth ≢ 0
     → AreClosedUp all after now depth to
 left-run all bytes after kept now depth at to same_bytes same_kept p run within =

@@ -16,12 +16,12 @@ use Rattle.sym_direct.specs.Holes.{Language, Opened, opened, Reads, ReadsRest, S
 drop-more : (at : ℕ) (s a rest : List ℕ) → drop at s ≡ a ++ rest → drop (at + length a) s ≡ rest
 drop-more at s a rest e = sym (drop-drop (length a) at s) ∙ ap (λ l. drop (length a) l) e ∙ drop-append_seam a rest
 
--- two pieces in a row are there as one piece
+-- two pieces at a place, one after the other, are one piece there
 pub stands-join : (s : List ℕ) (at : ℕ) (a b : List ℕ) → StandsAt s at a → StandsAt s (at + length a) b → StandsAt s at (a ++ b)
 stands-join s at a b first second =
     (second.0, first.1 ∙ ap (λ l. a ++ l) (sym (drop-more at s a first.0 first.1) ∙ second.1) ∙ sym (append_assoc a b second.0))
 
--- one piece is there as two pieces in a row
+-- one piece at a place is two pieces there, one after the other
 pub stands-split : (s : List ℕ) (at : ℕ) (a b : List ℕ) → StandsAt s at (a ++ b) → StandsAt s at a × StandsAt s (at + length a) b
 stands-split s at a b whole =
     let e = whole.1 ∙ append_assoc a b whole.0 in
@@ -52,7 +52,7 @@ reads-rule l s kind rule taken context at st begun inner after bytes vs w takes 
   unfolds = rw (begins, rest.unfolds, closes) refl;
 }
 
--- a kind takes a rule, which is open then: the rule may begin with any parts
+-- a kind takes a rule, which is open then, if the rule may begin with any parts that are there
 pub opens-where : {V S C : Type 0} (l : Language V S C) (s : List ℕ) (kind : ℕ) (rule : Rule) (taken : List ℕ) (context : C)
     (os : List (Opened V S C)) (at : ℕ) (st begun : S)
     → TakesRule l.table kind rule taken

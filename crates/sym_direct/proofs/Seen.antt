@@ -70,7 +70,7 @@ unmarked-seen (byte ∷ bytes) plain rest =
     let parts = first-unmarked byte bytes plain in
     visible-byte 0 byte (bytes ++ rest) parts.0 ∙ ap (λ l. byte ∷ l) (unmarked-seen bytes parts.1 rest)
 
--- bytes without marks are kept after others, too
+-- in a stretch, two texts one after the other are left out if each is
 pub hidden-append : (xs ys : List ℕ) → IsHidden xs → IsHidden ys → IsHidden (xs ++ ys)
 hidden-append xs ys one two depth rest = ap (visible (suc depth)) (append_assoc xs ys rest) ∙ one depth (ys ++ rest) ∙ two depth rest
 
@@ -90,7 +90,7 @@ stretch-left bytes hidden depth rest =
     ∙ visible-closed (suc depth) closes rest refl refl
     ∙ ap (λ n. visible n rest) back
 
--- what is visible of bytes before a stretch is visible of them with the stretch
+-- what is visible of bytes is also visible with a stretch after them
 around : (bytes inner rest : List ℕ) → (bytes ++ (opens ∷ []) ++ inner ++ (closes ∷ [])) ++ rest ≡ bytes ++ (opens ∷ (inner ++ closes ∷ rest))
 around bytes inner rest =
     append_assoc (bytes ++ (opens ∷ []) ++ inner) (closes ∷ []) rest

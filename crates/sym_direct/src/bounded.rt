@@ -14,19 +14,19 @@ const ENTRIES_AT_ONCE: usize = 16;
 
 const BYTES_AT_ONCE: usize = 128;
 
-/// So many bytes are copied at once where no more are added: most names are no longer.
+/// How many bytes are copied at once, if at most as many are added: most names are no longer.
 const FEW_BYTES: usize = 16;
 
-/// Two bytes more.
+/// The same, and two bytes more.
 const BEHIND_PAIR: usize = 18;
 
-/// So many bytes of the list itself are copied at once where no more are repeated.
+/// How many bytes of the list itself are copied at once, if at most as many are repeated.
 const SOME_BYTES: usize = 32;
 
 /// The mark before what is to be left out of a text.
 pub const OPENS: u8 = 1;
 
-/// The mark after it.
+/// The mark after what is to be left out of a text.
 pub const CLOSES: u8 = 2;
 
 /// A list that has at most this many entries at any time.
@@ -149,8 +149,8 @@ impl Bounded<u8> {
         self.list.extend_from_slice(bytes).ok()
     }
 
-    /// Adds the bytes from a place to another one, if there is room for them. Where they are few, bytes after them are copied
-    /// too, and removed again: so no call is made for a name of common length.
+    /// Adds the bytes from a place to another one, if there is room for them. If they are few,
+    /// bytes after them are copied, too, and removed again: no call is made for most names.
     #[inline(always)]
     pub fn push_part(&mut self, bytes: &[u8], from: usize, to: usize) -> Option<()>
         requires from { from ≤ to }
@@ -183,8 +183,9 @@ impl Bounded<u8> {
         Some(())
     }
 
-    /// Adds two bytes, and after them the bytes from a place to another one, if there is room for all. Where they are few, bytes
-    /// after them are copied too, and removed again: so one write serves all.
+    /// Adds two bytes, and after them the bytes from a place to another one, if there is room for
+    /// all. If they are few, bytes after them are copied, too, and removed again: one write is
+    /// enough for all.
     #[inline(always)]
     pub fn push_behind_pair(
         &mut self,
@@ -231,8 +232,8 @@ impl Bounded<u8> {
         self.repeat_any(from, to)
     }
 
-    /// Likewise for any number of bytes.
-    // by itself, so that few bytes cost no saving of registers
+    /// Likewise for any number of bytes of the list.
+    // a function of its own, so that few bytes cost no saving of registers
     #[inline(never)]
     fn repeat_any(&mut self, from: usize, to: usize) -> Option<()>
         requires from { from ≤ to }
@@ -376,7 +377,7 @@ fn run_end(bytes: &[u8], from: usize) -> usize
     few_end(bytes, at)
 }
 
-/// Moves the bytes from a place to another one to the end of those that are kept, and answers how much is kept then.
+/// Moves the bytes between two places to the end of the kept ones, and answers how many are kept.
 #[inline(always)]
 fn keep_run(bytes: &mut [u8], kept: usize, at: usize, end: usize) -> usize
     requires kept { kept ≤ at }
@@ -393,8 +394,9 @@ fn keep_run(bytes: &mut [u8], kept: usize, at: usize, end: usize) -> usize
     kept + (end - at)
 }
 
-/// Moves what isn't between marks to the front, and answers how much that is, unless a 0 is among the bytes.
-// It goes from mark to mark: byte by byte it took a tenth of what `demangle --brief` takes for a symbol.
+/// Moves what isn't between marks to the front, and answers its length. A 0 among the bytes gives
+/// them up.
+// The loop goes from mark to mark: byte by byte it took a tenth of what `demangle --brief` takes.
 fn close_up(bytes: &mut [u8]) -> Option<usize>
     ensures size { IfSome result (λ kept. kept ≤ length bytes.old) }
     ensures front { IfSome result (λ kept. take kept bytes.new ≡ visible 0 bytes.old) }

@@ -1,16 +1,5 @@
 -- Where the word of a run begins.
-use Rattle.std.proofs.Common.{◌≡◌, ℕ, ◌<◌, Bool, true, false, cond, eqb, leb, not, ◌&&◌, List, [], ◌∷◌, ◌++◌, length, map, refl, sym, ap, ap₂, ◌∙◌, arith, None, filter}
-use Rattle.std.specs.List.{list_all}
-use Rattle.std.specs.Prelude.{is_some}
-use Rattle.std.proofs.lemmas.Bool.{and_parts, and_from, and_left, cond-true, cond-false, not-true, true≢false}
-use Rattle.sym_filter.specs.declared.kinds.Letters.{Letters}
-use Rattle.sym_filter.specs.declared.kinds.Letters.TheVariants.{Any, Ascii, Within}
-use Rattle.sym_filter.specs.declared.places.Place.{Place}
-use Rattle.sym_filter.specs.Bytes.{is_byte_of}
-use Rattle.sym_filter.specs.Kinds.{kind_of}
-use Rattle.sym_filter.specs.Places.{START, begins_within, from_word, in_stretch, is_divider, may_begin, place_after, with_word}
-use Rattle.sym_filter.specs.Runs.{Answering, answers_at, changed, filtered_segment, first_run, fits, is_begun, is_named, later_runs, named_in, named_in_segment, replaced, replaced_at, with_later_runs, within, word_in, word_of, word_or_text, dots_after}
-use Rattle.sym_filter.specs.Words.{named_of, rest_of}
+use Rattle.sym_filter.proofs.Basics.{◌≡◌, ℕ, ◌<◌, Bool, true, false, cond, eqb, leb, not, ◌&&◌, List, [], ◌∷◌, ◌++◌, length, map, refl, sym, ap, ap₂, ◌∙◌, arith, None, filter, list_all, is_some, and_parts, and_from, and_left, cond-true, cond-false, not-true, true≢false, Letters, Any, Ascii, Within, Place, is_byte_of, kind_of, START, begins_within, from_word, in_stretch, is_divider, may_begin, place_after, with_word, Answering, answers_at, changed, filtered_segment, first_run, fits, is_begun, is_named, later_runs, named_in, named_in_segment, replaced, replaced_at, with_later_runs, within, word_in, word_of, word_or_text, dots_after, named_of, rest_of}
 use Rattle.sym_filter.proofs.PlainLemmas.{may_begin-after}
 use Rattle.sym_filter.proofs.RunLemmas.{kind_of-other, replaced-unnamed, word_of-word}
 

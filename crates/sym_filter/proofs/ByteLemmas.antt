@@ -1,12 +1,6 @@
 -- The table of bytes agrees with the definitions at each of the 256 bytes, by computing.
-use Rattle.std.proofs.Common.{◌≡◌, ℕ, ◌<◌, Bool, true, false, ◌&&◌, not, map, cond, get_or, leb, refl, sym, ap, ◌∙◌, arith}
+use Rattle.sym_filter.proofs.Basics.{◌≡◌, ℕ, ◌<◌, Bool, true, false, ◌&&◌, not, map, cond, get_or, leb, refl, sym, ap, ◌∙◌, arith, and-true, range_with_len, Any, Ascii, Within, is_run_byte, is_byte_of, closes, is_divider, RUN_BYTES}
 use Rattle.std.proofs.lemmas.List.FromFn.{get_or-map-range_with_len}
-use Rattle.std.proofs.Math.Bool.{and-true}
-use Rattle.std.specs.List.{range_with_len}
-use Rattle.sym_filter.specs.declared.kinds.Letters.TheVariants.{Any, Ascii, Within}
-use Rattle.sym_filter.specs.Bytes.{is_run_byte, is_byte_of}
-use Rattle.sym_filter.specs.Places.{closes, is_divider}
-use Rattle.sym_filter.specs.declared.words.TheConstants.{RUN_BYTES}
 
 abbrev pub mark : ℕ → ℕ
 mark byte = cond (closes Within byte) 51 (cond (is_byte_of Ascii byte) 50 (cond (is_byte_of Any byte) 49 48))

@@ -1,20 +1,5 @@
 -- The steps of a filter over a text that is cut after escapes.
-use Rattle.std.proofs.Common.{◌≡◌, ℕ, ◌+◌, ◌-◌, ◌<◌, Bool, true, false, eqb, not, ◌&&◌, ◌||◌, List, [], ◌∷◌, ◌++◌, length, length-append, take, drop, get_or, refl, sym, ap, ap₂, ◌∙◌, subst, append_assoc, arith}
-use Rattle.std.specs.List.{flat_map, list_all}
-use Rattle.std.proofs.lemmas.Bool.{and_parts, cond-true, cond-false}
-use Rattle.std.proofs.lemmas.List.{append-nil, take_all, take_more, take-append-drop}
-use Rattle.std.proofs.lemmas.List.Concat.{flat_map-cons}
-use Rattle.sym_filter.specs.declared.kinds.Letters.{Letters}
-use Rattle.sym_filter.specs.declared.kinds.Letters.TheVariants.{Any, Ascii, Within}
-use Rattle.sym_filter.specs.declared.escapes.Escape.{Escape}
-use Rattle.sym_filter.specs.declared.escapes.Escape.TheVariants.{Outside, Backslash, Esc}
-use Rattle.sym_filter.specs.declared.words.Tally.{Tally}
-use Rattle.sym_filter.specs.declared.words.Words.{Words}
-use Rattle.sym_filter.specs.Carried.{IsRead, TakesText, cuts_after, ends_with, escape_after, rest_of_text, segment_from, segments_after, tally_of_text}
-use Rattle.sym_filter.specs.Lanes.{is_no_lead}
-use Rattle.sym_filter.specs.Places.{START, begins_within}
-use Rattle.sym_filter.specs.Runs.{Answering, answers_at, filtered_at, filtered_segment, named_in_segment, named_words, tally_at, tally_with}
-use Rattle.sym_filter.specs.Words.{Takes, held_of, named_of, rest_after, tally_after}
+use Rattle.sym_filter.proofs.Basics.{◌≡◌, ℕ, ◌+◌, ◌-◌, ◌<◌, Bool, true, false, eqb, not, ◌&&◌, ◌||◌, List, [], ◌∷◌, ◌++◌, length, length-append, take, drop, get_or, refl, sym, ap, ap₂, ◌∙◌, subst, append_assoc, arith, flat_map, list_all, and_parts, cond-true, cond-false, append-nil, take_all, take_more, take-append-drop, flat_map-cons, Letters, Any, Ascii, Within, Escape, Outside, Backslash, Esc, Tally, Words, IsRead, TakesText, cuts_after, ends_with, escape_after, rest_of_text, segment_from, segments_after, tally_of_text, is_no_lead, START, begins_within, Answering, answers_at, filtered_at, filtered_segment, named_in_segment, named_words, tally_at, tally_with, Takes, held_of, named_of, rest_after, tally_after}
 use Rattle.sym_filter.proofs.EscapeLemmas.{segments-are}
 use Rattle.sym_filter.proofs.StreamLemmas.{take-part}
 use Rattle.sym_filter.proofs.TallyLemmas.{tally_with-append}
@@ -25,7 +10,7 @@ use Rattle.sym_filter.proofs.WordLemmas.{named_of-nothing, rest_after-nothing}
 pub IsRead-none : (letters : Letters) (escape : Escape) → IsRead false letters escape escape []
 IsRead-none letters escape = λ more. (refl, refl)
 
--- the same bytes, for equal letters, escapes and answers to whether they end a segment
+-- bytes are read in the same way for equal letters, and for equal answers to whether they end a segment
 pub IsRead-as : (b c : Bool) (l m : Letters) (x y : Escape) (bytes : List ℕ) → b ≡ c → l ≡ m → IsRead b l x y bytes → IsRead c m x y bytes
 IsRead-as b c l m x y bytes e f h = subst (λ (a : Bool). IsRead a m x y bytes) e (subst (λ (k : Letters). IsRead b k x y bytes) f h)
 
@@ -47,7 +32,7 @@ pub IsRead-byte : (b : Bool) (letters : Letters) (escape : Escape) (byte : ℕ) 
 IsRead-byte true letters escape byte h = λ more. (ap (λ (t : List ℕ). byte ∷ t) (cond-true (cuts_after letters escape byte) [] _ h), cond-true (cuts_after letters escape byte) _ _ h)
 IsRead-byte false letters escape byte h = λ more. (ap (λ (t : List ℕ). byte ∷ t) (cond-false (cuts_after letters escape byte) [] _ h), cond-false (cuts_after letters escape byte) _ _ h)
 
--- a front of a text was read, and one more byte is
+-- a front of a text was read, and one more byte is read
 pub IsRead-next : (b : Bool) (letters : Letters) (x y : Escape) (text : List ℕ) (i : ℕ) → i < length text → begins_within letters ≡ true → IsRead false letters x y (take i text) → ends_with y (get_or text i 0) ≡ b → IsRead b letters x (escape_after y (get_or text i 0)) (take (i + 1) text)
 IsRead-next b letters x y text i h begins read ends =
     let byte = get_or text i 0 in
@@ -77,7 +62,7 @@ IsRead-whole letters escape text runs = λ more. (
   no-segment letters escape (text ++ more) runs ∙ sym (no-segment letters escape more runs),
 )
 
--- a byte with which no escape begins leaves none open
+-- outside of escapes, a byte with which no escape begins opens none
 outside-after : (byte : ℕ) (a b : Bool) → eqb byte 92 ≡ a → eqb byte 27 ≡ b → not (a || b) ≡ true → escape_after Outside byte ≡ Outside
 outside-after byte true b e f h = cc
 outside-after byte false true e f h = cc
@@ -181,7 +166,7 @@ TakesText-part answers old new x y piece bytes takes read =
       letters = takes.letters;
     }
 
--- what is left of a segment at its end
+-- what is still to be written of a segment at its end
 pub segment-end : (answers : Answering) (old mid : Words) (piece bytes : List ℕ) → Takes answers old mid piece bytes → rest_after answers old piece ≡ bytes ++ rest_after answers mid []
 segment-end answers old mid piece bytes takes = ap (rest_after answers old) (sym (append-nil piece)) ∙ takes.text []
 

@@ -1,29 +1,6 @@
 -- The newlines and the words left of a part of a segment, step by step.
-use Rattle.std.proofs.Common.{◌≡◌, ℕ, suc, ◌-◌, ◌<◌, ◌≤◌, Bool, true, false, cond, eqb, ◌&&◌, not, List, [], ◌∷◌, ◌++◌, length, length-append, take, drop, refl, sym, ap, ap₂, ◌∙◌, subst, append_assoc, arith, Option, None, Some, replicate, filter, get_or}
-use Rattle.std.specs.List.{list_all}
-use Rattle.std.specs.Prelude.{is_some, unwrap_or}
-use Rattle.std.proofs.lemmas.Bool.{and_parts, and_from, cond-true, cond-false, true≢false, eqb-true, ne_eqb, not-true}
+use Rattle.sym_filter.proofs.Basics.{◌≡◌, ℕ, suc, ◌-◌, ◌<◌, ◌≤◌, Bool, true, false, cond, eqb, ◌&&◌, not, List, [], ◌∷◌, ◌++◌, length, length-append, take, drop, refl, sym, ap, ap₂, ◌∙◌, subst, append_assoc, arith, Option, None, Some, replicate, filter, get_or, list_all, is_some, unwrap_or, and_parts, and_from, cond-true, cond-false, true≢false, eqb-true, ne_eqb, not-true, append-nil, take_more, length-take, take-append-drop, flat_map-cons, list_all-append, drop-append_seam, Kind, Letters, Any, Ascii, Within, LONGEST_WORD, Place, Taken, Words, is_byte_of, is_run_byte, TakesEntries, entries_after, entries_from, Entry, newline, left_word, entries_in_segment, later_entries, left_at_end, left_of, newline_of, newlines_in, IsHeld, kind_of, START, from_word, may_begin, place_after, place_of, is_plain, Answering, answers_at, first_run, has_text, is_begun, is_named, name_in, named_in, text_for, word_in, word_of, word_or_text, held_of}
 use Rattle.std.proofs.lemmas.Grind.{flat_map-append}
-use Rattle.std.proofs.lemmas.List.{append-nil, take_more, length-take, take-append-drop}
-use Rattle.std.proofs.lemmas.List.Concat.{flat_map-cons}
-use Rattle.std.proofs.lemmas.List.Folds.{list_all-append}
-use Rattle.std.proofs.Math.Seq.{drop-append_seam}
-use Rattle.sym_filter.specs.declared.kinds.Kind.{Kind}
-use Rattle.sym_filter.specs.declared.kinds.Letters.{Letters}
-use Rattle.sym_filter.specs.declared.kinds.Letters.TheVariants.{Any, Ascii, Within}
-use Rattle.sym_filter.specs.declared.kinds.TheConstants.{LONGEST_WORD}
-use Rattle.sym_filter.specs.declared.places.Place.{Place}
-use Rattle.sym_filter.specs.declared.words.Taken.{Taken}
-use Rattle.sym_filter.specs.declared.words.Words.{Words}
-use Rattle.sym_filter.specs.Bytes.{is_byte_of, is_run_byte}
-use Rattle.sym_filter.specs.CarriedEntries.{TakesEntries, entries_after, entries_from}
-use Rattle.sym_filter.specs.Entries.{Entry, newline, left_word, entries_in_segment, later_entries, left_at_end, left_of, newline_of, newlines_in}
-use Rattle.sym_filter.specs.Held.{IsHeld}
-use Rattle.sym_filter.specs.Kinds.{kind_of}
-use Rattle.sym_filter.specs.Places.{START, from_word, may_begin, place_after, place_of}
-use Rattle.sym_filter.specs.Plain.{is_plain}
-use Rattle.sym_filter.specs.Runs.{Answering, answers_at, first_run, has_text, is_begun, is_named, name_in, named_in, text_for, word_in, word_of, word_or_text}
-use Rattle.sym_filter.specs.Words.{held_of}
 use Rattle.sym_filter.proofs.BeginLemmas.{begun-more, first_run-all, named-from, named-first, place-other}
 use Rattle.sym_filter.proofs.RunLemmas.{first_run-append, list_all-held}
 use Rattle.sym_filter.proofs.WordLemmas.{all_held, begun-named, held-names, names-nothing, runs-end, some_bytes, too_far}
@@ -85,7 +62,7 @@ left-empty answers = left-none answers [] refl
 
 -- ## Entries that are still to come
 
--- the entries after a run don't depend on a front of it
+-- the entries after a run don't depend on the run's first bytes
 pub later-append : (letters : Letters) (answers : Answering) (run more : List ℕ) → list_all (is_byte_of letters) run ≡ true → later_entries letters answers (run ++ more) ≡ later_entries letters answers more
 later-append letters answers [] more h = refl
 later-append letters answers (byte ∷ run) more h =
@@ -198,7 +175,7 @@ TakesEntries-held answers old new part same past past' place held = record {
       ∙ entries-same letters answers new more same;
 }
 
--- a run is passed on from a part of it on
+-- a run is passed on from one of its parts on
 pub TakesEntries-passes : (answers : Answering) (old new : Words) (part : List ℕ) → new.letters ≡ old.letters → old.past ≡ false → may_begin old.letters old.place ≡ true → new.past ≡ true → list_all (is_byte_of old.letters) part ≡ true → is_begun (held_of old ++ part) ≡ true → LONGEST_WORD < length (word_of (held_of old ++ part)) → TakesEntries answers old new part []
 TakesEntries-passes answers old new part same past may past' in_run begun long = record {
   all = λ more.

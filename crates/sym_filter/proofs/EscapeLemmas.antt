@@ -1,14 +1,7 @@
--- What is read of an escape says which bytes may follow.
-use Rattle.std.proofs.Common.{◌≡◌, ℕ, ◌≤◌, Bool, true, false, cond, eqb, leb, ◌&&◌, ◌||◌, List, [], ◌∷◌, ◌++◌, refl, sym, ap, ap₂, ◌∙◌, append_assoc, arith, codes}
-use Rattle.std.proofs.Math.Bool.{and-true}
-use Rattle.std.proofs.lemmas.Bool.{and_parts, cond-true, cond-false, eqb-true, leb-true, lt-leb}
-use Rattle.sym_filter.specs.declared.kinds.Letters.TheVariants.{Within}
-use Rattle.sym_filter.specs.declared.escapes.Escape.{Escape}
-use Rattle.sym_filter.specs.declared.escapes.Escape.TheVariants.{Outside, Backslash, Octal, Octal3, Hex, Hex0, Hex00, Hex001, Three, Two, One, Esc, Sequence}
-use Rattle.sym_filter.specs.Escapes.{are_digits, ends_sequence, first_segment, follows_backslash, follows_esc, follows_hex, follows_octal, is_blank_name, is_esc_digit, is_escape, is_hex_digit, is_lead, is_letter, is_parameter, later_segments, segments_of, since_lead}
-use Rattle.sym_filter.specs.Carried.{cuts_after, ends_with, escape_after, goes_on_after, only, segment_from, segments_after}
+-- The bytes that were read of an escape decide which bytes may follow.
+use Rattle.sym_filter.proofs.Basics.{◌≡◌, ℕ, ◌≤◌, Bool, true, false, cond, eqb, leb, ◌&&◌, ◌||◌, List, [], ◌∷◌, ◌++◌, refl, sym, ap, ap₂, ◌∙◌, append_assoc, arith, codes, and-true, and_parts, cond-true, cond-false, eqb-true, leb-true, lt-leb, Within, Escape, Outside, Backslash, Octal, Octal3, Hex, Hex0, Hex00, Hex001, Three, Two, One, Esc, Sequence, are_digits, ends_sequence, first_segment, follows_backslash, follows_esc, follows_hex, follows_octal, is_blank_name, is_esc_digit, is_escape, is_hex_digit, is_lead, is_letter, is_parameter, later_segments, segments_of, since_lead, cuts_after, ends_with, escape_after, goes_on_after, only, segment_from, segments_after}
 
--- what may follow
+-- the bytes that may follow what was read of an escape
 abbrev remains : Escape → List ℕ → Bool
 remains Outside bytes = false
 remains Backslash bytes = follows_backslash bytes
@@ -24,7 +17,7 @@ remains One bytes = are_digits (codes "b") bytes
 remains Esc bytes = follows_esc bytes
 remains Sequence bytes = ends_sequence bytes
 
--- ## A byte that ends one
+-- ## A byte that ends an escape
 
 and-false : (b : Bool) → (b && false) ≡ false
 and-false true = refl
@@ -74,7 +67,7 @@ ends-is One byte = and-true (is_hex_digit byte)
 ends-is Esc byte = and-false (eqb byte 91)
 ends-is Sequence byte = letter-ends (is_parameter byte) (is_letter byte) (parameter-other byte)
 
--- ## A byte, and more
+-- ## A byte, and the bytes after it
 
 only-goes : (b : Bool) (escape : Escape) (bytes : List ℕ) → (b && remains escape bytes) ≡ remains (only b escape) bytes
 only-goes true escape bytes = refl

@@ -1,6 +1,5 @@
 -- Bytes that are escapes, bytes that aren't, and texts cut after theirs, by computing.
-use Rattle.std.proofs.Common.{◌≡◌, List, [], ◌∷◌, ◌++◌, ℕ, true, false, codes, refl}
-use Rattle.sym_filter.specs.Escapes.{is_escape, segments_of}
+use Rattle.sym_filter.proofs.Basics.{◌≡◌, List, [], ◌∷◌, ◌++◌, ℕ, true, false, codes, refl, is_escape, segments_of}
 
 abbrev string : List ℕ → List ℕ
 string bytes = 92 ∷ bytes

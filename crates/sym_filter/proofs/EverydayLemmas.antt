@@ -1,16 +1,6 @@
 -- A run in ASCII whose word has a text is replaced alike, wherever words begin.
-use Rattle.std.proofs.Common.{◌≡◌, ℕ, zero, suc, ◌-◌, ◌<◌, Bool, true, false, cond, eqb, ◌&&◌, ◌||◌, List, [], ◌∷◌, ◌++◌, length, take, drop, get_or, refl, sym, ap, ap₂, ◌∙◌, arith, Option, Some, None}
-use Rattle.std.specs.List.{list_all, list_any, starts_with}
-use Rattle.std.specs.Prelude.{codes, is_some, nat_eq, unwrap_or}
-use Rattle.std.proofs.lemmas.Bool.{and_parts, and_left, and_right, and_from, cond-true, cond-false, eqb-true, eqb-false, ne_eqb, true≢false}
-use Rattle.sym_filter.specs.declared.kinds.Kind.{Kind}
-use Rattle.sym_filter.specs.declared.kinds.Letters.TheVariants.{Within}
-use Rattle.sym_filter.specs.Bytes.{is_wide}
+use Rattle.sym_filter.proofs.Basics.{◌≡◌, ℕ, zero, suc, ◌-◌, ◌<◌, Bool, true, false, cond, eqb, ◌&&◌, ◌||◌, List, [], ◌∷◌, ◌++◌, length, take, drop, get_or, refl, sym, ap, ap₂, ◌∙◌, arith, Option, Some, None, list_all, list_any, starts_with, codes, is_some, nat_eq, unwrap_or, and_parts, and_left, and_right, and_from, cond-true, cond-false, eqb-true, eqb-false, ne_eqb, true≢false, Kind, Within, is_wide, kind_by_beginning, kind_of, after_front, before_mark, from_mark, front_length, is_kind_taken, is_mark, START, place_after, with_word, Answering, changed, dots_after, fits, replaced, replaced_at, text_for, trimmed, within, word_of, word_or_text, written}
 use Rattle.sym_filter.specs.Everyday.{ReplacedAlike}
-use Rattle.sym_filter.specs.Kinds.{kind_by_beginning, kind_of}
-use Rattle.sym_filter.specs.Marks.{after_front, before_mark, from_mark, front_length, is_kind_taken, is_mark}
-use Rattle.sym_filter.specs.Places.{START, place_after, with_word}
-use Rattle.sym_filter.specs.Runs.{Answering, changed, dots_after, fits, replaced, replaced_at, text_for, trimmed, within, word_of, word_or_text, written}
 use Rattle.sym_filter.proofs.BeginLemmas.{replaced-is}
 use Rattle.sym_filter.proofs.RunLemmas.{is_dot, kind_of-other, text_for-unnamed}
 use Rattle.sym_filter.proofs.TryLemmas.{is_left_out, tries-read, whole-first, whole-read}
@@ -111,7 +101,7 @@ front-chosen word kind false false false false a b c d e = absurd (no_kind (sym 
 no-front : (word : List ℕ) (kind : Kind) → kind_by_beginning word ≡ Some kind → front_length word ≡ 0
 no-front word kind e = front-chosen word kind _ _ _ _ refl refl refl refl e
 
--- the length and the first bytes of a word, by the word's kind
+-- if a choice between a kind and none has a kind, the test is true and this is the kind
 chosen : (b : Bool) (o : Option Kind) (kind : Kind) → cond b o None ≡ Some kind → (b ≡ true) × (o ≡ Some kind)
 chosen true o kind e = (refl, e)
 chosen false o kind e = cc

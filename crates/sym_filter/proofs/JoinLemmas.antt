@@ -1,18 +1,5 @@
--- Changing the runs of a text that is cut at a byte that belongs to none.
-use Rattle.std.proofs.Common.{◌≡◌, ℕ, ◌≤◌, Bool, true, false, cond, eqb, leb, ◌&&◌, ◌||◌, List, [], ◌∷◌, ◌++◌, refl, ap, ap₂, sym, ◌∙◌, append_assoc, arith}
-use Rattle.std.specs.List.{flat_map}
-use Rattle.std.proofs.lemmas.Bool.{cond-false, eqb-true, leb-false, lt-leb, true≢false}
-use Rattle.std.proofs.lemmas.List.{append-nil}
-use Rattle.std.proofs.lemmas.List.Concat.{flat_map-cons}
-use Rattle.sym_filter.specs.declared.kinds.Letters.{Letters}
-use Rattle.sym_filter.specs.declared.kinds.Letters.TheVariants.{Any, Ascii, Within}
-use Rattle.sym_filter.specs.declared.escapes.Escape.{Escape}
-use Rattle.sym_filter.specs.declared.escapes.Escape.TheVariants.{Outside, Backslash, Octal, Octal3, Hex, Hex0, Hex00, Hex001, Three, Two, One, Esc, Sequence}
-use Rattle.sym_filter.specs.Bytes.{is_between, is_byte_of}
-use Rattle.sym_filter.specs.Carried.{after_digit, cuts_after, escape_after, goes_on_after, only, segment_from, segments_after}
-use Rattle.sym_filter.specs.Escapes.{is_blank_name, is_esc_digit, is_hex_digit, is_lead, is_letter, is_parameter}
-use Rattle.sym_filter.specs.Runs.{Answering, filtered_segment, first_run, with_later_runs, with_runs, replaced_at}
-use Rattle.sym_filter.specs.Splits.{FilteredByJoinsAt, is_in_escapes}
+-- Changing the runs of a text that is cut at a byte that belongs to no run.
+use Rattle.sym_filter.proofs.Basics.{◌≡◌, ℕ, ◌≤◌, Bool, true, false, cond, eqb, leb, ◌&&◌, ◌||◌, List, [], ◌∷◌, ◌++◌, refl, ap, ap₂, sym, ◌∙◌, append_assoc, arith, flat_map, cond-false, eqb-true, leb-false, lt-leb, true≢false, append-nil, flat_map-cons, Letters, Any, Ascii, Within, Escape, Outside, Backslash, Octal, Octal3, Hex, Hex0, Hex00, Hex001, Three, Two, One, Esc, Sequence, is_between, is_byte_of, after_digit, cuts_after, escape_after, goes_on_after, only, segment_from, segments_after, is_blank_name, is_esc_digit, is_hex_digit, is_lead, is_letter, is_parameter, Answering, filtered_segment, first_run, with_later_runs, with_runs, replaced_at, FilteredByJoinsAt, is_in_escapes}
 use Rattle.sym_filter.proofs.CarryLemmas.{filtered-is}
 
 first_run-cut : (letters : Letters) (text : List ℕ) (byte : ℕ) (more : List ℕ) → is_byte_of letters byte ≡ false → first_run letters (text ++ (byte ∷ more)) ≡ first_run letters text

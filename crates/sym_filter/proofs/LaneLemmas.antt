@@ -1,18 +1,8 @@
 -- From the mask of sixteen bytes to the bytes at the front that are of a class.
-use Rattle.std.proofs.Common.{◌≡◌, ℕ, ◌+◌, ◌%◌, ◌^◌, ◌<◌, ◌≤◌, Bool, true, false, not, ◌||◌, List, [], ◌∷◌, map, length, take, drop, get_or, replicate, Fits, w8, refl, sym, ap, ap₂, ◌∙◌, subst, arith, inl, inr}
-use Rattle.std.proofs.lemmas.Bool.{agree_below, agree_below_at, and_parts, and_from, not-true, cases_eq, eq-eqb, ne_eqb, cond-true, cond-false}
-use Rattle.std.proofs.lemmas.Simd.{map-map, mask_l-mod, length-chunk, get_or-chunk, leading_from_mask_l, trailing_mask_l}
+use Rattle.sym_filter.proofs.Basics.{◌≡◌, ℕ, ◌+◌, ◌%◌, ◌^◌, ◌<◌, ◌≤◌, Bool, true, false, not, ◌||◌, List, [], ◌∷◌, map, length, take, drop, get_or, replicate, Fits, w8, refl, sym, ap, ap₂, ◌∙◌, subst, arith, inl, inr, agree_below, agree_below_at, and_parts, and_from, not-true, cases_eq, eq-eqb, ne_eqb, cond-true, cond-false, map-map, mask_l-mod, length-chunk, get_or-chunk, leading_from_mask_l, trailing_mask_l, list_all-from_AllPass, prefix_len-le-length, prefix_len_passes, list_all-append, take-add, prefix_len, list_all, Letters, Any, Ascii, Within, first_set, is_byte_of, is_run_byte}
 use Rattle.std.proofs.lemmas.List.{drop-drop, length-map, length-take, get_or-take, get_or-drop}
-use Rattle.std.proofs.lemmas.List.Sums.{list_all-from_AllPass, prefix_len-le-length, prefix_len_passes}
 use Rattle.std.proofs.lemmas.List.Elements.{All-from_get_or}
-use Rattle.std.proofs.lemmas.List.Folds.{list_all-append}
-use Rattle.std.proofs.Math.Seq.{take-add}
-use Rattle.std.specs.List.{prefix_len, list_all}
 use lib.Lanes.{chunk, zip2, mask_l, top}
-use Rattle.sym_filter.specs.declared.kinds.Letters.{Letters}
-use Rattle.sym_filter.specs.declared.kinds.Letters.TheVariants.{Any, Ascii, Within}
-use Rattle.sym_filter.specs.Lanes.{first_set}
-use Rattle.sym_filter.specs.Bytes.{is_byte_of, is_run_byte}
 
 zip2-map : (h : ℕ → ℕ → ℕ) (f g : ℕ → ℕ) (xs : List ℕ) → zip2 h (map f xs) (map g xs) ≡ map (λ x. h (f x) (g x)) xs
 zip2-map h f g [] = refl
@@ -68,7 +58,7 @@ module _ (q : ℕ → Bool) (d : List ℕ) (i r : ℕ) (z : List ℕ) (room : i 
   pub front_is_of : agree_below (λ x. stops x || q x) (λ _. true) 256 ≡ true → (r ≤ 16) × (list_all q (take r (drop i d)) ≡ true)
   front_is_of all = (front-within, front-passes all)
 
--- a front, and what passes after it
+-- a front passes, and so do some bytes after it
 pub all-longer : (q : ℕ → Bool) (text : List ℕ) (i r : ℕ) → list_all q (take i text) ≡ true → list_all q (take r (drop i text)) ≡ true → list_all q (take (i + r) text) ≡ true
 all-longer q text i r front more = ap (list_all q) (take-add i r text) ∙ list_all-append q (take i text) (take r (drop i text)) ∙ and_from _ _ front more
 

@@ -1,3 +1,4 @@
+pub mod Basics
 pub mod BeginLemmas
 pub mod ByteLemmas
 pub mod CarryLemmas

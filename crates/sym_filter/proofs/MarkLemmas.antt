@@ -1,14 +1,8 @@
 -- What is written for a word by where the name of a symbol begins in it.
-use Rattle.std.proofs.Common.{◌≡◌, true, false, List, [], ◌++◌, ℕ, refl, ap}
-use Rattle.sym_filter.specs.declared.kinds.Letters.{Letters}
-use Rattle.sym_filter.specs.declared.kinds.Letters.TheVariants.{Any, Ascii, Within}
-use Rattle.sym_filter.specs.declared.places.Place.{Place}
-use Rattle.sym_filter.specs.Marks.{before_mark, from_mark}
-use Rattle.sym_filter.specs.Places.{begins_within}
-use Rattle.sym_filter.specs.Runs.{Answering, changed, name_in, named_in, within, word_or_text, written}
+use Rattle.sym_filter.proofs.Basics.{◌≡◌, true, false, List, [], ◌++◌, ℕ, refl, ap, Letters, Any, Ascii, Within, Place, before_mark, from_mark, begins_within, Answering, changed, name_in, named_in, within, word_or_text, written}
 use Rattle.sym_filter.proofs.RunLemmas.{word_or_text-unnamed}
 
--- ## Nothing is nothing
+-- ## A word without bytes
 
 pub written-nothing : (letters : Letters) (answers : Answering) (place : Place) → written letters answers place [] ≡ []
 written-nothing Any answers place = word_or_text-unnamed answers [] refl
@@ -26,7 +20,7 @@ name-nothing Within place = refl
 pub named-nothing : (letters : Letters) (place : Place) → named_in letters place [] ≡ []
 named-nothing letters place = name-nothing letters place
 
--- ## By where words begin
+-- ## A word, by whether words begin within runs
 
 pub written-within : (letters : Letters) (answers : Answering) (place : Place) (word : List ℕ) → begins_within letters ≡ true → written letters answers place word ≡ before_mark place word ++ word_or_text (within answers) (from_mark place word)
 written-within Any answers place word h = cc

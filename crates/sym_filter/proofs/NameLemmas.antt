@@ -1,14 +1,5 @@
 -- Where in a word the name of a symbol begins.
-use Rattle.std.proofs.Common.{◌≡◌, ℕ, zero, suc, ◌+◌, ◌-◌, ◌<◌, ◌≤◌, Bool, true, false, cond, List, [], ◌∷◌, length, take, drop, get_or, refl, sym, ap, ◌∙◌, arith}
-use Rattle.std.specs.List.{list_all}
-use Rattle.std.proofs.lemmas.Bool.{cond-true, cond-false}
-use Rattle.std.proofs.lemmas.List.{drop_more, length-drop}
-use Rattle.std.proofs.Math.Seq.{drop-drop}
-use Rattle.sym_filter.specs.declared.kinds.Letters.TheVariants.{Within}
-use Rattle.sym_filter.specs.declared.places.Place.{Place}
-use Rattle.sym_filter.specs.Marks.{before_mark, after_front, from_mark, front_length, is_mark}
-use Rattle.sym_filter.specs.Places.{place_after}
-use Rattle.sym_filter.specs.Runs.{word_of}
+use Rattle.sym_filter.proofs.Basics.{◌≡◌, ℕ, zero, suc, ◌+◌, ◌-◌, ◌<◌, ◌≤◌, Bool, true, false, cond, List, [], ◌∷◌, length, take, drop, get_or, refl, sym, ap, ◌∙◌, arith, list_all, cond-true, cond-false, drop_more, length-drop, drop-drop, Within, Place, before_mark, after_front, from_mark, front_length, is_mark, place_after, word_of}
 use Rattle.sym_filter.proofs.RunLemmas.{is_dot}
 use Rattle.sym_filter.proofs.WordLemmas.{slice_from}
 
@@ -19,14 +10,14 @@ after_front-at word at front is = sym (drop-drop front at word) ∙ ap (λ n. dr
 mark-at : (place : Place) (word : List ℕ) (at front : ℕ) (b : Bool) → front ≡ front_length (take (length word - at) (drop at word)) → b ≡ is_mark place (take (length word - (at + front)) (drop (at + front) word)) → is_mark place (after_front (drop at word)) ≡ b
 mark-at place word at front b is marks = ap (is_mark place) (sym (slice_from word (at + front) ∙ after_front-at word at front is)) ∙ sym marks
 
--- a byte that comes before the name
+-- if no symbol's name begins at a place, even after a front, the first name is looked for from the next byte on
 pub byte_before : (place : Place) (word : List ℕ) (at front : ℕ) (b : Bool) → at < length word → front ≡ front_length (take (length word - at) (drop at word)) → b ≡ is_mark place (take (length word - (at + front)) (drop (at + front) word)) → b ≡ false
     → from_mark place (drop at word) ≡ from_mark (place_after Within place (get_or word at 0)) (drop (at + 1) word)
 byte_before place word at front b inside is marks no_name =
     let next = drop_more word at 0 inside in
     ap (from_mark place) next ∙ cond-false (is_mark place (after_front (get_or word at 0 ∷ drop (at + 1) word))) _ _ (ap (λ (t : List ℕ). is_mark place (after_front t)) (sym next) ∙ mark-at place word at front b is marks ∙ no_name)
 
--- the name begins
+-- if a symbol's name begins at a place, perhaps after a front, it is the first name
 pub name_there : (place : Place) (word : List ℕ) (at front : ℕ) (b : Bool) → at < length word → front ≡ front_length (take (length word - at) (drop at word)) → b ≡ is_mark place (take (length word - (at + front)) (drop (at + front) word)) → b ≡ true
     → from_mark place (drop at word) ≡ drop (at + front) word
 name_there place word at front b inside is marks a_name =
@@ -38,7 +29,7 @@ nothing_left : (place : Place) (rest : List ℕ) → length rest ≡ 0 → from_
 nothing_left place [] h = refl
 nothing_left place (byte ∷ rest) h = absurd (omega arith)
 
--- there is no name
+-- at the end of a word no name begins
 pub no_name : (place : Place) (word : List ℕ) (at : ℕ) → length word ≤ at → from_mark place (drop at word) ≡ drop at word
 no_name place word at past = nothing_left place (drop at word) (omega (arith, length-drop at word))
 

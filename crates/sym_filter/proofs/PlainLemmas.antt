@@ -1,17 +1,7 @@
 -- Facts on places, on plain fronts and on the words of runs' parts.
-use Rattle.std.proofs.Common.{◌≡◌, ℕ, zero, suc, ◌+◌, ◌-◌, ◌<◌, ◌≤◌, Bool, true, false, cond, eqb, not, ◌&&◌, List, [], ◌∷◌, ◌++◌, length, take, drop, get_or, refl, sym, ap, ◌∙◌, arith}
-use Rattle.std.specs.List.{list_all}
-use Rattle.std.proofs.lemmas.Bool.{and_parts, and_from, and_left, cond-false, ne_eqb, not-true}
-use Rattle.std.proofs.lemmas.List.{take_more, take-append-drop}
-use Rattle.sym_filter.specs.declared.kinds.Letters.{Letters}
-use Rattle.sym_filter.specs.declared.places.Place.{Place}
+use Rattle.sym_filter.proofs.Basics.{◌≡◌, ℕ, zero, suc, ◌+◌, ◌-◌, ◌<◌, ◌≤◌, Bool, true, false, cond, eqb, not, ◌&&◌, List, [], ◌∷◌, ◌++◌, length, take, drop, get_or, refl, sym, ap, ◌∙◌, arith, list_all, and_parts, and_from, and_left, cond-false, ne_eqb, not-true, take_more, take-append-drop, Letters, Place, START, begins_within, closes, in_stretch, is_divider, may_begin, opens, place_after, place_of, stretch_after, word_of, take-add, is_no_mark, is_plain}
 use Rattle.sym_filter.specs.declared.places.Stretch.{Stretch}
 use Rattle.sym_filter.specs.declared.places.Stretch.TheVariants.{Empty, Section, Other}
-use Rattle.sym_filter.specs.Places.{START, begins_within, closes, in_stretch, is_divider, may_begin, opens, place_after, place_of, stretch_after}
-use Rattle.sym_filter.specs.Runs.{word_of}
-use Rattle.std.proofs.Math.Seq.{take-add}
-use Rattle.sym_filter.specs.Lanes.{is_no_mark}
-use Rattle.sym_filter.specs.Plain.{is_plain}
 use Rattle.sym_filter.proofs.RunLemmas.{is_dot, word_of-part, word_of-append_dots}
 
 -- ## Places

@@ -1,20 +1,6 @@
 -- Facts on runs and on what a filter holds back of one.
-use Rattle.std.proofs.Common.{zero, ◌≡◌, ℕ, suc, ◌-◌, ◌≤◌, Bool, true, false, cond, eqb, leb, ◌&&◌, List, [], ◌∷◌, ◌++◌, length, drop, refl, sym, ap, ap₂, ◌∙◌, arith, Option, Some, None, Result, replicate, filter}
-use Rattle.std.specs.List.{list_all}
-use Rattle.std.specs.Result.{result_ok}
+use Rattle.sym_filter.proofs.Basics.{zero, ◌≡◌, ℕ, suc, ◌-◌, ◌≤◌, Bool, true, false, cond, eqb, leb, ◌&&◌, List, [], ◌∷◌, ◌++◌, length, drop, refl, sym, ap, ap₂, ◌∙◌, arith, Option, Some, None, Result, replicate, filter, list_all, result_ok, and_parts, and_from, and_left, and_right, cond-true, cond-false, ne_eqb, eqb-true, true≢false, list_all-append, append-nil, length-drop, drop-append_seam, and-true, is_run_byte, is_byte_of, Answering, first_run, later_runs, with_later_runs, with_runs, replaced, is_named, text_for, word_or_text, word_of, dots_after, Kind, Letters, Any, Ascii, Within, kind_of, kind_by_beginning, symbol_of, LONGEST_WORD}
 use Rattle.sym_core.specs.declared.refusal.Refusal.{Refusal}
-use Rattle.std.proofs.lemmas.Bool.{and_parts, and_from, and_left, and_right, cond-true, cond-false, ne_eqb, eqb-true, true≢false}
-use Rattle.std.proofs.lemmas.List.Folds.{list_all-append}
-use Rattle.std.proofs.lemmas.List.{append-nil, length-drop}
-use Rattle.std.proofs.Math.Seq.{drop-append_seam}
-use Rattle.std.proofs.Math.Bool.{and-true}
-use Rattle.sym_filter.specs.Bytes.{is_run_byte, is_byte_of}
-use Rattle.sym_filter.specs.Runs.{Answering, first_run, later_runs, with_later_runs, with_runs, replaced, is_named, text_for, word_or_text, word_of, dots_after}
-use Rattle.sym_filter.specs.declared.kinds.Kind.{Kind}
-use Rattle.sym_filter.specs.declared.kinds.Letters.{Letters}
-use Rattle.sym_filter.specs.declared.kinds.Letters.TheVariants.{Any, Ascii, Within}
-use Rattle.sym_filter.specs.Kinds.{kind_of, kind_by_beginning, symbol_of}
-use Rattle.sym_filter.specs.declared.kinds.TheConstants.{LONGEST_WORD}
 
 abbrev pub is_dot : ℕ → Bool
 is_dot byte = eqb byte 46
@@ -26,7 +12,7 @@ first_run-append letters (byte ∷ run) more h =
     let parts = and_parts (is_byte_of letters byte) (list_all (is_byte_of letters) run) h in
     cond-true (is_byte_of letters byte) _ _ parts.0 ∙ ap (λ (t : List ℕ). byte ∷ t) (first_run-append letters run more parts.1)
 
--- a run at the front of a text changes nothing after the first run
+-- the changed bytes after the first run of a text stay the same if a run is put before the text
 pub with_later_runs-append : (letters : Letters) (change : List ℕ → List ℕ) (run more : List ℕ) → list_all (is_byte_of letters) run ≡ true → with_later_runs letters change (run ++ more) ≡ with_later_runs letters change more
 with_later_runs-append letters change [] more h = refl
 with_later_runs-append letters change (byte ∷ run) more h =
@@ -60,7 +46,7 @@ filter-step run rest false = refl
 pub filter-front : (run : List ℕ) (rest : List (List ℕ)) → cond (is_named run) (run ∷ rest) rest ≡ filter is_named (run ∷ []) ++ rest
 filter-front run rest = filter-step run rest (is_named run)
 
--- a word is what its run has before the trailing dots
+-- the word of a run that has only dots is empty
 pub word_of-dots : (dots : List ℕ) → list_all is_dot dots ≡ true → word_of dots ≡ []
 word_of-dots [] h = refl
 word_of-dots (dot ∷ dots) h = cond-true (list_all is_dot (dot ∷ dots)) _ _ h
@@ -88,7 +74,7 @@ pub replaced-unnamed : (answers : Answering) (run : List ℕ) → kind_of (word_
 unfolding replaced
 replaced-unnamed answers run h = ap (λ t. t ++ dots_after run) (word_or_text-unnamed answers (word_of run) h) ∙ word_of-splits run
 
--- what is held of a run, and the dots after it
+-- repeated dots are all dots
 pub list_all-dots : (n : ℕ) → list_all is_dot (replicate n 46) ≡ true
 list_all-dots zero = refl
 list_all-dots (suc n) = list_all-dots n
@@ -170,7 +156,7 @@ word_of-longer [] rest = omega arith
 word_of-longer (byte ∷ run) rest =
     longer-step byte run rest _ _ refl refl (λ h. list_all-append is_dot (byte ∷ run) rest ∙ and_left (list_all is_dot (byte ∷ run)) (list_all is_dot rest) h) (word_of-longer run rest)
 
--- a run that doesn't begin with an underscore names no symbol
+-- without a kind there is none to choose
 cond_none : (b : Bool) (kind : Option Kind) → kind ≡ None → cond b kind None ≡ None
 cond_none true kind h = h
 cond_none false kind h = refl
@@ -187,7 +173,7 @@ kind_of-step byte word false other = cond_none (leb (length (byte ∷ word)) LON
 pub kind_of-other : (byte : ℕ) (more : List ℕ) → (byte ≡ 95 → ⊥) → kind_of (word_of (byte ∷ more)) ≡ None
 kind_of-other byte more other = kind_of-step byte (word_of more) (list_all is_dot (byte ∷ more)) other
 
--- a run that is passed on
+-- ## The text that replaces a word
 
 -- the text of a word is that of its symbol
 pub text_for-named : (answers : Answering) (word : List ℕ) (kind : Kind) (answer : Result (List ℕ) Refusal) → kind_of word ≡ Some kind → answers kind (symbol_of kind word) ≡ answer → text_for answers word ≡ result_ok answer

@@ -1,15 +1,5 @@
 -- Changing the runs of a text that is split into them.
-use Rattle.std.proofs.Common.{◌≡◌, ℕ, Bool, true, false, cond, List, [], ◌∷◌, ◌++◌, map, not, ◌&&◌, refl, ap, ap₂, ◌∙◌}
-use Rattle.std.specs.List.{flat_map, list_all}
-use Rattle.std.proofs.lemmas.List.{append-nil}
-use Rattle.std.proofs.lemmas.List.Concat.{flat_map-cons}
-use Rattle.std.proofs.lemmas.Bool.{and_parts, not-true}
-use Rattle.sym_filter.specs.declared.kinds.Letters.{Letters}
-use Rattle.sym_filter.specs.declared.kinds.Letters.TheVariants.{Any, Ascii, Within}
-use Rattle.sym_filter.specs.Bytes.{is_byte_of}
-use Rattle.sym_filter.specs.Escapes.{first_segment, is_escape, later_segments, since_lead}
-use Rattle.sym_filter.specs.Runs.{Answering, filtered_at, filtered_segment, with_runs, replaced_at}
-use Rattle.sym_filter.specs.Splits.{IsSplitAt, cut_off, joined, FilteredBySplitsAt}
+use Rattle.sym_filter.proofs.Basics.{◌≡◌, ℕ, Bool, true, false, cond, List, [], ◌∷◌, ◌++◌, map, not, ◌&&◌, refl, ap, ap₂, ◌∙◌, flat_map, list_all, append-nil, flat_map-cons, and_parts, not-true, Letters, Any, Ascii, Within, is_byte_of, first_segment, is_escape, later_segments, since_lead, Answering, filtered_at, filtered_segment, with_runs, replaced_at, IsSplitAt, cut_off, joined, FilteredBySplitsAt}
 use Rattle.sym_filter.proofs.RunLemmas.{with_runs-ends, with_runs-run}
 
 with_runs-joined : (letters : Letters) (change : List ℕ → List ℕ) (rest : List (ℕ × List ℕ)) (first : List ℕ) → list_all (is_byte_of letters) first ≡ true → list_all (λ next. not (is_byte_of letters next.0) && list_all (is_byte_of letters) next.1) rest ≡ true → with_runs letters change (joined first rest) ≡ joined (change first) (map (λ next. (next.0, change next.1)) rest)

@@ -1,17 +1,7 @@
 -- Bytes that were read and written in several pieces.
-use Rattle.std.proofs.Common.{◌≡◌, ℕ, zero, suc, ◌+◌, ◌*◌, ◌^◌, min, ◌-◌, subst, ◌<◌, ◌≤◌, List, [], ◌∷◌, ◌++◌, length, take, drop, refl, sym, ap, ◌∙◌, append_assoc, arith, Option, Some, None, replicate, Bool, true, cond}
-use Rattle.std.specs.Io.KnownBytes.{Appends, Consumes, Keeps}
-use Rattle.std.proofs.lemmas.List.{append-nil, length-drop, take-append-drop, length-take, replicate-append-replicate, replicate_more}
-use Rattle.std.proofs.Math.Seq.{take-add, take-length, take-append_seam}
-use Rattle.std.specs.Prelude.{Result, Ok, Err, IfErr, IsErrAnd}
-use Rattle.std.proofs.lemmas.Bool.{cond-true}
-use Rattle.sym_filter.specs.declared.words.Words.{Words}
-use Rattle.sym_filter.specs.Runs.{Answering}
-use Rattle.sym_filter.specs.Words.{rest_after, Takes}
-use Rattle.sym_filter.specs.Streams.{BeginsWith, Puts, PutsFront, write_failures, reader_faults}
+use Rattle.sym_filter.proofs.Basics.{◌≡◌, ℕ, zero, suc, ◌+◌, ◌*◌, ◌^◌, min, ◌-◌, subst, ◌<◌, ◌≤◌, List, [], ◌∷◌, ◌++◌, length, take, drop, refl, sym, ap, ◌∙◌, append_assoc, arith, Option, Some, None, replicate, Bool, true, cond, Appends, Consumes, Keeps, append-nil, length-drop, take-append-drop, length-take, replicate-append-replicate, replicate_more, take-add, take-length, take-append_seam, Result, Ok, Err, IfErr, IsErrAnd, cond-true, Words, Answering, rest_after, Takes, BeginsWith, Puts, PutsFront, write_failures, reader_faults, READ_SIZE}
 use Rattle.sym_filter.specs.declared.streams.FilterFault.{FilterFault}
 use Rattle.sym_filter.specs.declared.streams.FilterFault.TheVariants.{Read, Write, Memory}
-use Rattle.sym_filter.specs.declared.filtering.TheConstants.{READ_SIZE}
 
 pub Appends-none : (known : Option (List ℕ)) → Appends known known []
 Appends-none None = tt
@@ -85,15 +75,15 @@ take-none zero [] h = refl
 take-none zero (x ∷ xs) h = refl
 take-none (suc n) xs h = absurd (omega arith)
 
--- a list whose items were written through a slice of it
+-- a list after its first items were overwritten through a slice of it
 pub room-back : (new items : List ℕ) (len : ℕ) → length new ≡ len → take len (new ++ drop (length new) items) ≡ new
 room-back new items len h = ap (λ n. take n (new ++ drop (length new) items)) (sym h) ∙ take-append_seam new (drop (length new) items)
 
--- no dot waits before the first
+-- no dot waits before the first read
 pub dots-first : (dots left count : ℕ) → dots ≡ 0 → count ≡ left → count < 2 ^ 64 → dots + READ_SIZE * left < 2 ^ 64 * READ_SIZE
 dots-first dots left count none same fits = omega arith
 
--- each read brings at most 65,536 dots, so their count has room
+-- each read brings at most `READ_SIZE` dots, so their count has room
 pub dots-step : (dots dots' left left' count : ℕ) (bytes piece : List ℕ) → dots + READ_SIZE * left < 2 ^ 64 * READ_SIZE → left' < left → dots' ≤ dots + length piece → take count bytes ≡ piece → length bytes ≡ READ_SIZE → dots' + READ_SIZE * left' < 2 ^ 64 * READ_SIZE
 dots-step dots dots' left left' count bytes piece room fewer more same whole =
     let short : length piece ≡ min count (length bytes) = ap length (sym same) ∙ length-take count bytes in omega arith
@@ -119,11 +109,11 @@ Puts-join a b c out mid out' bytes more h i = record {
 pub Puts-same : (a b : Option (List ℕ)) (out out' bytes same : List ℕ) → bytes ≡ same → Puts a b out out' bytes → Puts a b out out' same
 Puts-same a b out out' bytes same e h = subst (λ (t : List ℕ). Puts a b out out' t) e h
 
--- where no byte waits before and after, all bytes went out
+-- if no byte waits before or after, all bytes went out
 pub Puts-all : (a b : Option (List ℕ)) (bytes : List ℕ) → Puts a b [] [] bytes → Appends a b bytes
 Puts-all a b bytes h = subst (λ (t : List ℕ). Appends a b t) (sym (h.keeps ∙ append-nil h.gone)) h.writes
 
--- the bytes that went out are a beginning
+-- the bytes that went out are a beginning of all bytes to be written
 pub PutsFront-of : (a b : Option (List ℕ)) (out out' bytes more : List ℕ) → Puts a b out out' bytes → PutsFront a b out (bytes ++ more)
 PutsFront-of a b out out' bytes more h = record {
   gone = h.gone;

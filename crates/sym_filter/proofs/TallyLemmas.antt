@@ -1,9 +1,5 @@
 -- Counting words one at a time.
-use Rattle.std.proofs.Common.{◌≡◌, ℕ, ◌+◌, Bool, true, false, cond, not, List, [], ◌∷◌, ◌++◌, length, length-append, refl, sym, ap, ◌∙◌, arith}
-use Rattle.std.proofs.lemmas.List.Sums.{sum_by-append}
-use Rattle.std.proofs.lemmas.Bool.{cond-true, cond-false}
-use Rattle.sym_filter.specs.declared.words.Tally.{Tally}
-use Rattle.sym_filter.specs.Runs.{Answering, IsTally, capped, has_text, tally_with, tally_with_word, tally_counted, is_named}
+use Rattle.sym_filter.proofs.Basics.{◌≡◌, ℕ, ◌+◌, Bool, true, false, cond, not, List, [], ◌∷◌, ◌++◌, length, length-append, refl, sym, ap, ◌∙◌, arith, sum_by-append, cond-true, cond-false, Tally, Answering, IsTally, capped, has_text, tally_with, tally_with_word, tally_counted, is_named}
 
 same_fields : (a a' b b' c c' : ℕ) → a ≡ a' → b ≡ b' → c ≡ c' → (let s : Tally = record { words = a; replaced = b; refused = c } in let t : Tally = record { words = a'; replaced = b'; refused = c' } in s ≡ t)
 same_fields a a' b b' c c' h i j = rw (h, i, j) refl

@@ -1,19 +1,5 @@
 -- The newlines and the words left of a text that is cut after escapes, step by step.
-use Rattle.std.proofs.Common.{◌≡◌, ℕ, Bool, true, false, List, [], ◌∷◌, ◌++◌, length, take, drop, refl, sym, ap, ap₂, ◌∙◌, append_assoc, arith}
-use Rattle.std.specs.List.{flat_map}
-use Rattle.std.proofs.lemmas.List.{append-nil, take_all, take-append-drop}
-use Rattle.std.proofs.lemmas.List.Concat.{flat_map-cons}
-use Rattle.sym_filter.specs.declared.kinds.Letters.{Letters}
-use Rattle.sym_filter.specs.declared.kinds.Letters.TheVariants.{Any, Ascii, Within}
-use Rattle.sym_filter.specs.declared.escapes.Escape.{Escape}
-use Rattle.sym_filter.specs.declared.escapes.Escape.TheVariants.{Outside}
-use Rattle.sym_filter.specs.declared.words.Words.{Words}
-use Rattle.sym_filter.specs.Carried.{IsRead, segment_from, segments_after}
-use Rattle.sym_filter.specs.CarriedEntries.{TakesEntries, TakesTextEntries, entries_after, entries_in_rest}
-use Rattle.sym_filter.specs.Entries.{Entry, entries_in_segment, entries_of}
-use Rattle.sym_filter.specs.Places.{START}
-use Rattle.sym_filter.specs.Runs.{Answering}
-use Rattle.sym_filter.specs.Words.{held_of}
+use Rattle.sym_filter.proofs.Basics.{◌≡◌, ℕ, Bool, true, false, List, [], ◌∷◌, ◌++◌, length, take, drop, refl, sym, ap, ap₂, ◌∙◌, append_assoc, arith, flat_map, append-nil, take_all, take-append-drop, flat_map-cons, Letters, Any, Ascii, Within, Escape, Outside, Words, IsRead, segment_from, segments_after, TakesEntries, TakesTextEntries, entries_after, entries_in_rest, Entry, entries_in_segment, entries_of, START, Answering, held_of}
 use Rattle.sym_filter.proofs.CarryLemmas.{no-segment, whole-segment}
 use Rattle.sym_filter.proofs.EntryLemmas.{entries-nothing}
 use Rattle.sym_filter.proofs.EscapeLemmas.{segments-are}

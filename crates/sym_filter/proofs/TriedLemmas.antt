@@ -1,14 +1,8 @@
--- The text by tries depends only on the texts for the words that are tried, and these have few bytes together.
-use Rattle.std.proofs.Common.{◌≡◌, ℕ, ◌+◌, ◌≤◌, Bool, true, false, cond, eqb, ◌&&◌, ◌||◌, List, [], ◌∷◌, ◌++◌, length, map, refl, ap, ap₂, arith, Option, Some, None}
-use Rattle.std.specs.List.{list_all, list_any}
-use Rattle.std.specs.Prelude.{is_some, sum_by, unwrap_or}
-use Rattle.std.proofs.lemmas.List.Sums.{sum_by-append}
-use Rattle.sym_filter.specs.declared.kinds.Letters.TheVariants.{Ascii}
-use Rattle.sym_filter.specs.Bytes.{is_byte_of, is_wide}
-use Rattle.sym_filter.specs.Runs.{Agree, Answering, TriesAreFew, TriesDecide, dots_after, either, first_run, followed_by, has_text, later_runs, replaced, runs_of, text_for, text_of_parts, text_of_tries, tried, trimmed, with_later_runs, with_runs, word_of}
+-- The text by tries depends only on the texts for the words that are tried, and these words have few bytes together.
+use Rattle.sym_filter.proofs.Basics.{◌≡◌, ℕ, ◌+◌, ◌≤◌, Bool, true, false, cond, eqb, ◌&&◌, ◌||◌, List, [], ◌∷◌, ◌++◌, length, map, refl, ap, ap₂, arith, Option, Some, None, list_all, list_any, is_some, sum_by, unwrap_or, sum_by-append, Ascii, is_byte_of, is_wide, Agree, Answering, TriesAreFew, TriesDecide, dots_after, either, first_run, followed_by, has_text, later_runs, replaced, runs_of, text_for, text_of_parts, text_of_tries, tried, trimmed, with_later_runs, with_runs, word_of}
 use Rattle.sym_filter.proofs.TryLemmas.{is_left_out}
 
--- ## What they depend on
+-- ## What the tries depend on
 
 replaced-same : (answers other : Answering) (run : List ℕ) → text_for answers (word_of run) ≡ text_for other (word_of run) → replaced answers run ≡ replaced other run
 unfolding replaced
@@ -39,7 +33,7 @@ unfolding text_of_tries
 decide answers other word h =
     ap₂ (λ (a b : Option (List ℕ)). either a b) (ap (followed_by _) h.0) (ap₂ (λ (a b : Option (List ℕ)). either a b) h.1.0 (parts-same answers other word h.1.1))
 
--- ## How many bytes they have
+-- ## How many bytes the tried words have
 
 word-short : (run : List ℕ) → length (word_of run) ≤ length run
 word-short [] = omega arith

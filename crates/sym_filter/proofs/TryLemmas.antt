@@ -1,21 +1,9 @@
 -- The tries for a word that begins within a run, and the text that they give it.
-use Rattle.std.proofs.Common.{◌≡◌, ℕ, ◌+◌, ◌-◌, ◌<◌, ◌≤◌, Bool, true, false, cond, eqb, leb, ◌&&◌, ◌||◌, List, [], ◌∷◌, ◌++◌, length, take, drop, get_or, refl, sym, ap, ap₂, ◌∙◌, arith, Option, Some, None, append_assoc}
-use Rattle.std.specs.List.{list_all, list_any, starts_with}
-use Rattle.std.specs.Prelude.{codes, is_some, nat_eq, unwrap_or}
-use Rattle.std.specs.Result.{result_ok}
-use Rattle.std.proofs.lemmas.Bool.{and_parts, and_left, cond-true, cond-false, eqb-true, ne_eqb, lt-leb}
-use Rattle.std.proofs.lemmas.List.{drop_all, append-nil, drop_more, take-append-drop, length-take, take_more}
-use Rattle.std.proofs.Math.Seq.{drop-drop}
-use Rattle.sym_filter.specs.declared.kinds.Kind.{Kind}
+use Rattle.sym_filter.proofs.Basics.{◌≡◌, ℕ, ◌+◌, ◌-◌, ◌<◌, ◌≤◌, Bool, true, false, cond, eqb, leb, ◌&&◌, ◌||◌, List, [], ◌∷◌, ◌++◌, length, take, drop, get_or, refl, sym, ap, ap₂, ◌∙◌, arith, Option, Some, None, append_assoc, list_all, list_any, starts_with, codes, is_some, nat_eq, unwrap_or, result_ok, and_parts, and_left, cond-true, cond-false, eqb-true, ne_eqb, lt-leb, drop_all, append-nil, drop_more, take-append-drop, length-take, take_more, drop-drop, Kind, Ascii, LONGEST_WORD, kind_of, symbol_of, underscore_of, is_byte_of, is_wide, Answering, either, first_run, followed_by, has_text, later_runs, or_answer, replaced, runs_of, text_for, text_of_front, text_of_parts, text_of_tries, trimmed, with_runs, within, word_of, word_or_text, dots_after}
 use Rattle.sym_filter.specs.declared.kinds.Lang.TheVariants.{Cpp, Rust}
-use Rattle.sym_filter.specs.declared.kinds.Letters.TheVariants.{Ascii}
-use Rattle.sym_filter.specs.declared.kinds.TheConstants.{LONGEST_WORD}
-use Rattle.sym_filter.specs.Kinds.{kind_of, symbol_of, underscore_of}
-use Rattle.sym_filter.specs.Bytes.{is_byte_of, is_wide}
-use Rattle.sym_filter.specs.Runs.{Answering, either, first_run, followed_by, has_text, later_runs, or_answer, replaced, runs_of, text_for, text_of_front, text_of_parts, text_of_tries, trimmed, with_runs, within, word_of, word_or_text, dots_after}
 use Rattle.sym_filter.proofs.RunLemmas.{first_run-append, later_runs-append, replaced-unnamed, text_for-named, text_for-unnamed, with_runs-ends, with_runs-run, word_of-splits}
 
--- ## A word is its symbol, and an underscore before it or none
+-- ## A word is its symbol, perhaps after an underscore
 
 begins_so : (word mark : List ℕ) → starts_with nat_eq word (95 ∷ mark) ≡ true → 95 ∷ drop 1 word ≡ word
 begins_so [] mark h = cc

@@ -1,29 +1,9 @@
 -- The steps of a filter over a part of a segment.
-use Rattle.std.proofs.Common.{◌≡◌, ℕ, zero, suc, ◌+◌, ◌-◌, ◌<◌, ◌≤◌, Bool, true, false, cond, eqb, ◌&&◌, not, List, [], ◌∷◌, ◌++◌, length, length-append, map, take, drop, refl, sym, ap, ap₂, ◌∙◌, subst, append_assoc, arith, Some, None, replicate, filter, get_or}
-use Rattle.std.specs.List.{list_all}
-use Rattle.std.specs.Prelude.{is_some}
-use Rattle.std.proofs.lemmas.Bool.{and_parts, and_from, cond-true, cond-false, true≢false, eqb-true, lt-leb, le-leb}
-use Rattle.std.proofs.lemmas.List.{append-nil, take_more, length-drop, length-take, length-replicate, replicate-append-replicate}
-use Rattle.std.proofs.lemmas.List.Folds.{list_all-append}
-use Rattle.std.proofs.Math.Seq.{take-length}
-use Rattle.sym_filter.specs.declared.kinds.Letters.{Letters}
-use Rattle.sym_filter.specs.declared.places.Place.{Place}
-use Rattle.sym_filter.specs.declared.words.Words.{Words}
-use Rattle.sym_filter.specs.declared.words.Tally.{Tally}
-use Rattle.sym_filter.specs.declared.words.Taken.{Taken}
-use Rattle.sym_filter.specs.declared.kinds.Kind.{Kind}
-use Rattle.sym_filter.specs.Bytes.{is_byte_of}
-use Rattle.sym_filter.specs.Kinds.{kind_of}
-use Rattle.sym_filter.specs.Held.{IsHeld}
-use Rattle.sym_filter.specs.Places.{START, from_word, may_begin, place_after, place_of, with_word}
-use Rattle.sym_filter.specs.Runs.{Answering, IsTally, answers_at, changed, filtered_segment, first_run, fits, is_begun, is_named, later_runs, name_in, named_in, named_in_segment, replaced_at, tally_counted, tally_with, tally_with_word, text_for, with_later_runs, word_in, word_of, written}
-use Rattle.sym_filter.specs.Words.{held_of, rest_of, named_of, rest_after, tally_after, following, Takes}
-use Rattle.sym_filter.specs.Plain.{is_plain}
+use Rattle.sym_filter.proofs.Basics.{◌≡◌, ℕ, zero, suc, ◌+◌, ◌-◌, ◌<◌, ◌≤◌, Bool, true, false, cond, eqb, ◌&&◌, not, List, [], ◌∷◌, ◌++◌, length, length-append, map, take, drop, refl, sym, ap, ap₂, ◌∙◌, subst, append_assoc, arith, Some, None, replicate, filter, get_or, list_all, is_some, and_parts, and_from, cond-true, cond-false, true≢false, eqb-true, lt-leb, le-leb, append-nil, take_more, length-drop, length-take, length-replicate, replicate-append-replicate, list_all-append, take-length, Letters, Place, Words, Tally, Taken, Kind, is_byte_of, kind_of, IsHeld, START, from_word, may_begin, place_after, place_of, with_word, Answering, IsTally, answers_at, changed, filtered_segment, first_run, fits, is_begun, is_named, later_runs, name_in, named_in, named_in_segment, replaced_at, tally_counted, tally_with, tally_with_word, text_for, with_later_runs, word_in, word_of, written, held_of, rest_of, named_of, rest_after, tally_after, following, Takes, is_plain, LONGEST_WORD}
 use Rattle.sym_filter.proofs.TallyLemmas.{tally_with-append, tally_with_word-named, tally_with_word-unnamed}
 use Rattle.sym_filter.proofs.RunLemmas.{is_dot, after-held, filter-front, first_run-append, later_runs-append, with_later_runs-append, list_all-held, word_of-held, word_of-longer, word_of-part, word_of-word, list_all-word_of, word_and_dots}
 use Rattle.sym_filter.proofs.BeginLemmas.{begun-more, from_word-begun, named-byte, named-first, named_of-start, plain-byte, rest_of-start, with_word-begun}
 use Rattle.sym_filter.proofs.MarkLemmas.{changed-nothing, name-nothing, named-nothing, written-nothing}
-use Rattle.sym_filter.specs.declared.kinds.TheConstants.{LONGEST_WORD}
 
 -- `&xs[k..]`
 pub slice_from : (xs : List ℕ) (k : ℕ) → take (length xs - k) (drop k xs) ≡ drop k xs
@@ -38,7 +18,7 @@ begun-changed letters answers place run begins begun = with_word-begun letters (
 pub begun-named : (letters : Letters) (place : Place) (run : List ℕ) → may_begin letters place ≡ true → is_begun run ≡ true → from_word letters (named_in letters) place run ≡ named_in letters place run
 begun-named letters place run begins begun = from_word-begun letters (named_in letters) place run begins begun (named-nothing letters place)
 
--- a run whose word is too long already has too long a word, however it continues
+-- a run whose word is already too long has too long a word however the run continues
 pub too_far : (run rest : List ℕ) → LONGEST_WORD < length (word_of run) → fits (word_of (run ++ rest)) ≡ false
 too_far run rest long = lt-leb (length (word_of (run ++ rest))) LONGEST_WORD (omega (arith, word_of-longer run rest))
 
@@ -219,7 +199,7 @@ pub some_bytes : (run : List ℕ) → LONGEST_WORD < length (word_of run) → 0 
 some_bytes [] long = absurd (omega arith)
 some_bytes (byte ∷ run) long = omega arith
 
--- a run is passed on from a part of it on
+-- a run is passed on from one of its parts on
 pub Takes-passes : (answers : Answering) (old new : Words) (part : List ℕ) → new.letters ≡ old.letters → old.past ≡ false → may_begin old.letters old.place ≡ true → new.past ≡ true → list_all (is_byte_of old.letters) part ≡ true → is_begun (held_of old ++ part) ≡ true → LONGEST_WORD < length (word_of (held_of old ++ part)) → new.tally ≡ old.tally → new.dots ≤ old.dots + length part → Takes answers old new part (old.held.items ++ (replicate old.dots 46 ++ part))
 Takes-passes answers old new part same past may past' in_run begun long counted dots =
     let letters = old.letters in
@@ -328,7 +308,7 @@ no_items (x ∷ xs) n h e = let zero : n ≡ 0 = eqb-true n 0 e in absurd (omega
 pub has_items : (xs : List ℕ) (n : ℕ) → n ≡ length xs → eqb n 0 ≡ false → xs ≡ [] → ⊥
 has_items xs n h e nothing = let none : eqb n 0 ≡ true = ap (λ k. eqb k 0) (h ∙ ap length nothing) in true≢false (sym none ∙ e)
 
--- what is held of a run and one more part of it: the word, and the dots after that
+-- what is held of a run with one more part of the run: the word, and the dots after the word
 front_in_run : (letters : Letters) (part : List ℕ) (end : ℕ) → list_all (is_byte_of letters) part ≡ true → take end part ≡ word_of part → list_all (is_byte_of letters) (take end part) ≡ true
 front_in_run letters part end h word =
     let whole : list_all (is_byte_of letters) (word_of part ++ replicate (length part - length (word_of part)) 46) ≡ true = ap (list_all (is_byte_of letters)) (sym (word_and_dots part)) ∙ h in
@@ -423,7 +403,7 @@ pub past-none : (letters : Letters) (held : List ℕ) (dots : ℕ) (past : Bool)
 past-none letters held dots true place h some = let nothing = h.past_holds_nothing refl in absurd (some nothing.0 nothing.1)
 past-none letters held dots false place h some = refl
 
--- a word may begin where a text begins with one
+-- a word may begin at the place of a text that begins with a word
 pub front-open : (letters : Letters) (place here : Place) (text : List ℕ) (n : ℕ) → n ≤ 0 → 0 < length text → (n < length text → may_begin letters here ≡ true) → here ≡ place_of letters place (take n text) → may_begin letters place ≡ true
 front-open letters place here text n none some stops same =
     let zero : n ≡ 0 = omega arith in

@@ -24,7 +24,7 @@ after_backslash byte =
     else (if byte == 48 then Octal
     else only (byte == 101) Esc)))
 
--- the escape after a digit: `esc` if that is the next digit of ESC, or else `other`
+-- the escape after a byte: `esc` if it is this digit of ESC, or else `other` if it is a hexadecimal digit
 abbrev pub after_digit : (byte digit : ℕ) → (esc other : Escape) → Escape
 after_digit byte digit esc other = if is_esc_digit digit byte then esc else only (is_hex_digit byte) other
 
@@ -73,8 +73,8 @@ segments_after letters escape (byte ∷ text) =
     then segment_from letters (escape_after escape byte) text ∷ segments_after letters (escape_after escape byte) text
     else segments_after letters (escape_after escape byte) text
 
--- Bytes of a text were read, and with them one escape became another. Either they end the segment that they are in, or
--- they don't; the bytes that follow decide nothing of this.
+-- Bytes of a text were read, and with them one escape became another. Whether these bytes end their segment doesn't
+-- depend on the bytes that follow.
 abbrev pub IsRead : (ends : Bool) → Letters → (old new : Escape) → List ℕ → Type 0
 IsRead false letters old new bytes = (more : List ℕ) →
     (segment_from letters old (bytes ++ more) ≡ bytes ++ segment_from letters new more)

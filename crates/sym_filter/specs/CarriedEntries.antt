@@ -27,8 +27,8 @@ entries_in_rest answers words escape more =
     entries_after answers words (segment_from words.letters escape more)
     ++ flat_map (entries_in_segment words.letters answers) (segments_after words.letters escape more)
 
--- A filter takes a piece of a segment with these entries: whatever follows, they and the entries that are still to come
--- are all.
+-- A filter takes a piece of a segment with these entries: whatever follows, these entries and those that are still to come
+-- are all entries of the segment.
 pub record TakesEntries (answers : Answering) (old new : Words) (piece : List ℕ) (entries : List Entry) : Type 0 where
   pub all : (more : List ℕ) → entries_after answers old (piece ++ more) ≡ entries ++ entries_after answers new more
 

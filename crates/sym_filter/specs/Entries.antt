@@ -11,7 +11,7 @@ pub data Entry : Type 0 where
   newline : Entry
   left_word : List ℕ → Entry
 
--- the newline that a byte is, or nothing
+-- the entry of a newline, if the byte is one
 abbrev pub newline_of : ℕ → List Entry
 newline_of byte = if byte == 10 then newline ∷ [] else []
 

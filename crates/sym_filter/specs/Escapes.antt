@@ -41,7 +41,7 @@ follows_octal (digit ∷ esc) (byte ∷ bytes) = byte == digit && follows_octal 
 abbrev pub is_esc_digit : (digit : ℕ) → ℕ → Bool
 is_esc_digit digit byte = byte == digit || (digit == 98 && byte == 66)
 
--- exactly as many hexadecimal digits as these
+-- exactly as many hexadecimal digits as `esc` has
 abbrev pub are_digits : (esc : List ℕ) → List ℕ → Bool
 are_digits [] bytes = is_empty bytes
 are_digits (digit ∷ esc) [] = false
@@ -69,12 +69,12 @@ follows_backslash (byte ∷ bytes) =
     else (if byte == 48 then follows_octal (codes "33") bytes
     else byte == 101 && follows_esc bytes)))
 
--- whether bytes are an escape: a backslash, or ESC, and what may follow it
+-- whether bytes are an escape: a backslash or ESC, and then what may follow it
 abbrev pub is_escape : List ℕ → Bool
 is_escape [] = false
 is_escape (byte ∷ bytes) = if byte == 92 then follows_backslash bytes else byte == 27 && follows_esc bytes
 
--- the bytes from the last backslash or ESC on, with a byte more
+-- the bytes from the last backslash or ESC on, with one more byte
 abbrev pub since_lead : List ℕ → ℕ → List ℕ
 since_lead since byte = if is_lead byte then byte ∷ [] else since ++ byte ∷ []
 

@@ -5,7 +5,7 @@ use Rattle.sym_filter.specs.declared.kinds.Letters.TheVariants.{Any, Within}
 use Rattle.sym_filter.specs.Bytes.{is_wide}
 use Rattle.sym_filter.specs.Runs.{Answering, has_text, replaced_at}
 
--- Where words are runs, a run in ASCII has its word replaced by a text. Where words begin within runs, the same text replaces the same word.
+-- If a text replaces the word of a run in ASCII where words are runs, it also replaces this word where words begin within runs.
 abbrev pub ReplacedAlike : Type 0
 ReplacedAlike = (answers : Answering) (run : List ℕ) → list_any is_wide run ≡ false → has_text answers run ≡ true →
     replaced_at Within answers run ≡ replaced_at Any answers run

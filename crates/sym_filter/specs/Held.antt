@@ -8,8 +8,8 @@ use Rattle.sym_filter.specs.declared.kinds.Letters.{Letters}
 use Rattle.sym_filter.specs.declared.kinds.TheConstants.{LONGEST_WORD}
 use Rattle.sym_filter.specs.declared.places.Place.{Place}
 
--- the front of a run without its trailing dots, of at most the length of a word that names a symbol; the place is that
--- of its first byte
+-- what is held of a run: its front without trailing dots, which is no longer than a word that names a symbol; the place is
+-- that of the front's first byte
 pub record IsHeld (letters : Letters) (held : List ℕ) (dots : ℕ) (past : Bool) (place : Place) : Type 0 where
   pub of_run : list_all (is_byte_of letters) held ≡ true
   pub is_word : word_of held ≡ held

@@ -3,7 +3,7 @@ use Rattle.std.specs.Prelude.{ℕ, Bool, not, ◌==◌, if◌then◌else◌}
 use Rattle.std.specs.Int.{w64, trailing_zeros}
 use Rattle.sym_filter.specs.Escapes.{is_lead}
 
--- the place of the lowest bit that is set, or the number of lanes
+-- the place of the lowest bit that is set, or the number of lanes if no bit is set
 abbrev pub first_set : (mask : ℕ) → ℕ
 first_set mask = if mask == 0 then 16 else trailing_zeros w64 mask
 

@@ -31,8 +31,8 @@ abbrev pub begins_name : Lang → ℕ → Bool
 begins_name Cpp byte = is_between 65 90 byte || is_between 48 57 byte
 begins_name Rust byte = byte == 73 || byte == 77 || byte == 78 || byte == 88 || byte == 89
 
--- Whether a symbol of this kind may begin in a stretch after a byte. Within a name that is no section's, its third byte
--- has to be one with which names of symbols begin.
+-- Whether a symbol of this kind may begin in a stretch after a byte. Within a name that is no section's, the symbol's third
+-- byte has to be one with which names of symbols begin.
 abbrev pub is_taken : Stretch → (last : ℕ) → Kind → List ℕ → Bool
 is_taken Empty last kind rest = true
 is_taken Section last kind rest = is_divider last

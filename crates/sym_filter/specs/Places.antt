@@ -24,7 +24,7 @@ in_stretch Within byte = is_byte_of Ascii byte
 abbrev pub START : Place
 START = record { stretch = Empty; last = 0 }
 
--- a stretch with a byte more
+-- a stretch with one more byte
 abbrev pub stretch_after : Stretch → ℕ → Stretch
 stretch_after Empty byte = if byte == 46 then Section else Other
 stretch_after Section byte = Section
@@ -57,8 +57,8 @@ may_begin letters place = opens letters place.stretch place.last
 abbrev pub closes : Letters → ℕ → Bool
 closes letters byte = in_stretch letters byte && not (begins_within letters && is_divider byte)
 
--- A run that a function changes from the first underscore on at which a word may begin. The function gets the place,
--- too.
+-- A run, changed by a function from the first underscore on at which a word may begin. The function also gets the place
+-- of this underscore.
 abbrev pub with_word : Letters → (Place → List ℕ → List ℕ) → Place → List ℕ → List ℕ
 with_word letters change place [] = []
 with_word letters change place (byte ∷ run) =

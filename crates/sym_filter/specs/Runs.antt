@@ -69,7 +69,7 @@ text_for answers word = option_and_then (λ kind. result_ok (answers kind (symbo
 abbrev pub word_or_text : Answering → List ℕ → List ℕ
 word_or_text answers word = unwrap_or (text_for answers word) word
 
--- a run in which that text replaces the word, if there is one
+-- a run with its word replaced by the text for the word, if there is one
 unfoldable pub replaced : Answering → List ℕ → List ℕ
 replaced answers run = word_or_text answers (word_of run) ++ dots_after run
 
@@ -98,7 +98,7 @@ abbrev pub followed_by : List ℕ → Option (List ℕ) → Option (List ℕ)
 followed_by rest None = None
 followed_by rest (Some text) = Some (text ++ rest)
 
--- The first try: the word without the dots and the bytes that aren't ASCII at its end, replaced by its text, and then those
+-- The first try: the word without the dots and the bytes that aren't ASCII at its end, replaced by its text, followed by those
 -- bytes.
 abbrev pub text_of_front : Answering → List ℕ → Option (List ℕ)
 text_of_front answers word = followed_by (drop (length (trimmed word)) word) (text_for answers (trimmed word))
@@ -184,12 +184,12 @@ word_in Within run = from_word Within (named_in Within) START run
 
 -- ## The filtered text
 
--- a segment with each word of these letters that has a text replaced by it
+-- a segment with each word of these letters replaced by the text for it, if there is one
 abbrev pub filtered_segment : Letters → Answering → List ℕ → List ℕ
 filtered_segment letters answers text = with_runs letters (replaced_at letters answers) text
 
--- A text with each word of these letters that has a text replaced by it. Where words begin within runs, the text is cut
--- after each escape and its segments are filtered apart, so no byte of an escape belongs to a word.
+-- A text with each word of these letters replaced by the text for it, if there is one. Where words begin within runs, the text
+-- is cut after each escape and its segments are filtered apart, so no byte of an escape belongs to a word.
 abbrev pub filtered_at : Letters → Answering → List ℕ → List ℕ
 filtered_at Any answers text = filtered_segment Any answers text
 filtered_at Ascii answers text = filtered_segment Ascii answers text
@@ -231,7 +231,7 @@ tally_with answers tally words = record {
   refused = capped (tally.refused + count_by (λ word. not (has_text answers word)) words);
 }
 
--- a tally that counts one word more, which has a text or none
+-- a tally that counts one more word, which has a text or none
 abbrev pub tally_counted : Bool → Tally → Tally
 tally_counted true tally = record { words = capped (tally.words + 1); replaced = capped (tally.replaced + 1); refused = tally.refused }
 tally_counted false tally = record { words = capped (tally.words + 1); replaced = tally.replaced; refused = capped (tally.refused + 1) }

@@ -24,7 +24,7 @@ is_in_escapes Any byte = false
 is_in_escapes Ascii byte = false
 is_in_escapes Within byte = is_letter byte || is_parameter byte || is_lead byte || byte == 91
 
--- The text is split into longest stretches: the runs have only bytes of runs, and the bytes between them are others.
+-- The text is split into longest stretches: the runs have only bytes of runs, and the bytes between them are of no run.
 -- Where words begin within runs, the text has no escape.
 pub record IsSplitAt (letters : Letters) (text first : List ℕ) (rest : List (ℕ × List ℕ)) : Type 0 where
   pub whole : text ≡ joined first rest

@@ -39,7 +39,7 @@ abbrev pub following : Taken → List ℕ → List ℕ
 following taken bytes = replicate taken.dots 46 ++ (if taken.stay then bytes else [])
 
 -- A filter takes a piece of a segment and gives bytes for it. Whatever follows, these bytes and what is still to come
--- are the whole filtered segment, and the final tally is the same.
+-- are the whole filtered segment, and the final tally stays the same.
 pub record Takes (answers : Answering) (old new : Words) (piece bytes : List ℕ) : Type 0 where
   pub text : (more : List ℕ) → rest_after answers old (piece ++ more) ≡ bytes ++ rest_after answers new more
   pub counts : (more : List ℕ) → tally_after answers old (piece ++ more) ≡ tally_after answers new more

@@ -11,7 +11,7 @@ use crate::kinds::{Kind, Lang};
 use std::alloc::{AllocError, Global};
 use sym_core::{Counts, Refusal};
 
-/// What became of a symbol. One that is read has counts, whether its text keeps to the limit or not.
+/// The outcome for a symbol. A symbol that is read has counts, even if its text is over the limit.
 #[derive(Clone, Copy, Debug, PartialEq, Eq)]
 pub enum Demangled {
     /// The symbol's text was appended.
@@ -27,9 +27,9 @@ pub trait Demangler {
     /// The lists that it works on, kept from one symbol to the next.
     type Lists: Drop;
 
-    // what it answers for the symbol of a word of a kind: its text, or why it has none
+    // the answer for the symbol of a word of this kind: its text, or why it has none
     ghost answer: { Self → Kind-type → List ℕ → Result (List ℕ) Refusal-type };
-    // which counts are those of a symbol of a language that is read
+    // whether counts are those of a symbol that is read, by its language and its bytes
     ghost are_counts: { Self → Lang-type → List ℕ → Counts-type → Type 0 };
 
     /// Lists to work on.
@@ -40,7 +40,7 @@ pub trait Demangler {
     fn read_ahead(&self, lists: &mut Self::Lists, lang: Lang, front: &[u8])
         requires { FitsSymbol front.now };
 
-    /// Appends the text of a word's symbol, where it has one, else nothing. Want of memory may refuse any symbol.
+    /// Appends the text of a word's symbol, or nothing. Want of memory may refuse any symbol.
     fn demangle(
         &self,
         lists: &mut Self::Lists,
@@ -51,11 +51,12 @@ pub trait Demangler {
         requires { FitsSymbol symbol.now }
         ensures { IsDemangled (answer self.now kind symbol.now) (are_counts self.now kind.lang symbol.now) out.old.items out.new.items result };
 
-    /// Appends the same text, or nothing, and counts nothing.
+    /// Appends the text that `demangle` appends, or nothing, and counts nothing.
     ///
     /// # Errors
     ///
-    /// Why the symbol has no text: that of a symbol which is read is then `TooLong`. Want of memory may refuse any symbol.
+    /// Why the symbol has no text; for a symbol that is read this is `TooLong`. Want of memory may
+    /// refuse any symbol.
     fn append(
         &self,
         lists: &mut Self::Lists,

@@ -9,7 +9,7 @@ use crate::kinds::Letters;
 use crate::lanes::{BLOCK, LANES, block_has_no_lead, lanes_before_lead};
 use crate::places::begins_within;
 
-/// What is read of an escape. ESC is the byte 0x1B, or one of its spellings `\e`, `\033`, `\x1b` and `\u001b`.
+/// How much of an escape was read. ESC is 0x1B, or one of its spellings `\e`, `\033`, `\x1b`, `\u001b`.
 #[derive(Clone, Copy, Debug, PartialEq, Eq)]
 pub enum Escape {
     /// Nothing.
@@ -127,7 +127,7 @@ fn after_backslash(byte: u8) -> Escape
     }
 }
 
-/// The escape after a digit: one if that is the next digit of ESC, and another if it is any other digit.
+/// The escape after a byte: `esc` if it is this digit of ESC, `other` if it is another digit.
 fn after_digit(byte: u8, digit: u8, esc: Escape, other: Escape) -> Escape
     ensures { result ≡ after_digit byte digit esc other }
 {
@@ -166,7 +166,7 @@ fn is_parameter(byte: u8) -> bool
     b'0' <= byte && byte <= b';'
 }
 
-/// How many bytes at the front of a text are no backslash and not ESC, or fewer: bytes are tested sixteen at a time.
+/// How many bytes at the front of a text are no backslash and no ESC, or fewer: sixteen are tested at once.
 fn before_lead(text: &[u8]) -> usize
     ensures within { result ≤ length text.now }
     ensures no_lead { list_all is_no_lead (take result text.now) ≡ true }
@@ -208,7 +208,7 @@ pub struct Segment {
     pub escape: Escape,
 }
 
-/// The front of a text up to the end of its first escape, or all of the text, where this escape is open before it.
+/// The front of a text up to the end of its first escape, or all of the text; `escape` is open before the text.
 pub fn first_segment(letters: Letters, text: &[u8], escape: Escape) -> Segment
     ensures within { result.length ≤ length text.now }
     ensures some { 0 < length text.now → 0 < result.length }

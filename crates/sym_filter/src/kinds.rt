@@ -9,12 +9,12 @@ pub const LONGEST_WORD: usize = 65_536;
 /// Which bytes words are made of, besides ASCII letters, digits, `_`, `.` and `$`, and where in a run of such bytes a word may begin.
 #[derive(Clone, Copy, Debug, PartialEq, Eq)]
 pub enum Letters {
-    /// All from 0x80, which names of C++ may have. A word is a run.
+    /// All bytes from 0x80, which names of C++ may have. A word is a run.
     Any,
-    /// None, so that a word ends at a quote that isn't ASCII. A word is a run.
+    /// No others, so that a word ends at a quote that isn't ASCII. A word is a run.
     Ascii,
-    /// All from 0x80. A word begins within a run, where one that names a symbol may begin, and continues to the run's end;
-    /// bytes from 0x80 in it may belong to no symbol.
+    /// All bytes from 0x80. A word begins within a run, where the name of a symbol may begin, and ends with the run;
+    /// the bytes from 0x80 in a word may belong to no symbol.
     Within,
 }
 

@@ -14,7 +14,7 @@ pub(crate) const LANES: usize = 16;
 /// The number of bytes in a block, which is tested at once for any byte of a class.
 pub(crate) const BLOCK: usize = 64;
 
-/// The place of the lowest bit that is set, or the number of lanes where no bit is.
+/// The place of the lowest bit that is set, or the number of lanes if no bit is set.
 #[inline(always)]
 fn first_set(mask: u64) -> usize
     ensures { result ≡ first_set mask }

@@ -107,7 +107,7 @@ fn is_mark(place: Place, rest: &[u8]) -> bool
 }
 
 /// Whether a symbol of a kind may begin at a place. Within a name that is no section's, such as a member's in source
-/// code, its third byte has to be one with which the names of symbols begin.
+/// code, the symbol's third byte has to be one with which the names of symbols begin.
 fn is_taken(place: Place, kind: Kind, rest: &[u8]) -> bool
     ensures { result ≡ is_taken place.stretch place.last kind rest.now }
 {

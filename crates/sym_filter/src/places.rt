@@ -21,7 +21,7 @@ pub enum Stretch {
     Other,
 }
 
-/// A place in a stretch: what it begins with before the place, and the last byte there, 0 where there is none.
+/// A place in a stretch: how the stretch begins, and the last byte before the place, or 0.
 #[derive(Clone, Copy, Debug, PartialEq, Eq)]
 pub struct Place {
     pub stretch: Stretch,
@@ -64,7 +64,7 @@ impl Place {
 }
 
 impl Stretch {
-    /// The stretch with a byte more.
+    /// The stretch with one more byte.
     fn after(self, byte: u8) -> Stretch
         ensures { result ≡ stretch_after self byte }
     {
@@ -94,7 +94,7 @@ pub(crate) fn begins_within(letters: Letters) -> bool
     }
 }
 
-/// Whether a byte separates parts of names, and a word may begin after it.
+/// Whether a byte separates parts of names, so that a word may begin after it.
 pub(crate) fn is_divider(byte: u8) -> bool
     ensures { result ≡ is_divider byte }
 {
@@ -183,7 +183,7 @@ fn blocks_before_mark(text: &[u8]) -> usize
     length
 }
 
-/// Whether a word may begin in a text, by the byte before it.
+/// Whether a word may begin at a place of a text, by the byte before the place.
 fn is_open(letters: Letters, text: &[u8], at: usize, place: Place) -> bool
     requires { at ≤ length text.now }
     ensures { result ≡ may_begin letters (place_of letters place (take at text.now)) }

@@ -6,7 +6,7 @@ ghost use Rattle.sym_filter.specs.declared.filtering.TheConstants.{READ_SIZE};
 
 use crate::streams::{Sink, Source};
 
-/// A source of bytes, which is read while others are written. A read may require that some of those were written before
+/// A source of bytes, read while other bytes are written. A read may require that some of these were written before
 /// it.
 pub trait PromptSource<W: Sink> {
     // the bytes still to come, where they are known

@@ -46,7 +46,7 @@ pub trait Source {
     // the reads that it can still answer
     ghost reads_left: { Self → ℕ };
 
-    /// Reads bytes into the front of a room, and says how many. None is a failure, and no byte in a room is the end.
+    /// Reads bytes into a room's front, and says how many; `None` is a failure. In a nonempty room 0 is the end.
     fn read(&mut self, room: &mut [u8]) -> Option<usize>
         requires { failure_count self.old < 2 ^ 64 - 1 }
         ensures within { IfSome result (λ count. count ≤ length room.new) }
@@ -73,7 +73,7 @@ pub trait Sink {
     // how often it has failed
     ghost failure_count: { Self → ℕ };
 
-    /// Takes bytes from the front of a piece, and says how many. None is a failure, and takes none.
+    /// Takes bytes from the front of a piece, and says how many. `None` is a failure, with none taken.
     fn write(&mut self, bytes: &[u8]) -> Option<usize>
         requires { failure_count self.old < 2 ^ 64 - 1 }
         ensures within { IfSome result (λ count. count ≤ length bytes.now) }

@@ -44,9 +44,9 @@ impl Tally {
     }
 }
 
-// For each byte the runs to which it belongs. 3, runs of all letters: ASCII letters, digits and `_`. 2, runs of all
-// letters, too: `.` and `$`, after which a word may begin within a run. 1, only runs of any letters: all bytes from
-// 0x80. 0: any other byte.
+// For each byte, the runs to which it belongs. 3, runs of all letters: ASCII letters, digits, `_`. 2, likewise,
+// but a word may begin after it within a run: `.` and `$`. 1, only runs of any letters: all bytes from
+// 0x80. 0, no runs: any other byte.
 static RUN_BYTES: [u8; 256] = *b"\
     00000000000000000000000000000000\
     00002000000000203333333333000000\
@@ -488,7 +488,7 @@ fn push_text<D: Demangler>(
     Ok(false)
 }
 
-/// The place after the last byte of a run's part that is no dot, 0 where there is none.
+/// The place after the last byte of a run's part that is no dot, 0 if all bytes are dots.
 pub(crate) fn word_end(part: &[u8]) -> usize
     ensures within { result ≤ length part.now }
     ensures word { take result part.now ≡ word_of part.now }

@@ -1,27 +1,15 @@
 -- What is answered for a symbol, by the laws of its answers.
-use Rattle.std.proofs.Common.{◌≡◌, ◌≢◌, ◌⊎◌, inl, inr, ℕ, List, ◌++◌, length, Result, Ok, Err, sym, ap, ◌∙◌, subst}
-use Rattle.std.specs.Prelude.{OnOk, OnErr, IfErr, ◌+◌, ◌*◌, ◌≤◌}
+use Rattle.sym_languages.proofs.Basics.{◌≡◌, ◌≢◌, ◌⊎◌, inl, inr, ℕ, List, ◌++◌, length, Result, Ok, Err, sym, ap, ◌∙◌, subst, OnOk, OnErr, IfErr, ◌+◌, ◌*◌, ◌≤◌, Refusal, Memory, TooLong, Detail, has_arguments, AreBytes, Mangled, IsAnswer, IsReading, answer, is_answer, reading_answered, v0_mangled, IsAppended, IsDemangled, with_front, Readings, AreCounts, language_answer_by, Rust}
 use Rattle.sym_core.specs.declared.counts.Counts.{Counts}
-use Rattle.sym_core.specs.declared.refusal.Refusal.{Refusal}
-use Rattle.sym_core.specs.declared.refusal.Refusal.TheVariants.{Memory, TooLong}
-use Rattle.sym_print.specs.declared.detail.Detail.{Detail}
-use Rattle.sym_print.specs.Details.{has_arguments}
-use Rattle.sym_shape.specs.Decided.{AreBytes}
 use Rattle.sym_shape.specs.declared.rule.Row.{Row}
 use Rattle.sym_shape.specs.Tree.{AreRowsOf}
-use Rattle.sym_demangle.specs.Mangled.{Mangled, IsAnswer, IsReading, answer}
 use Rattle.sym_demangle.specs.Standing.{AreStepsInAll, AreNodesOf}
-use Rattle.sym_demangle.proofs.Answering.{is_answer, reading_answered}
-use Rattle.rust_grammar.specs.Mangled.{v0_mangled}
-use Rattle.sym_filter.specs.Demangled.{IsAppended, IsDemangled}
-use Rattle.sym_languages.specs.Languages.{with_front, Readings, AreCounts, language_answer_by}
 use Rattle.sym_filter.specs.declared.demangler.Demangled.{Demangled}
 use Rattle.sym_filter.specs.declared.kinds.Lang.{Lang}
-use Rattle.sym_filter.specs.declared.kinds.Lang.TheVariants.{Rust}
 use Rattle.sym_languages.proofs.RustDetails.{rust_answers_alike}
 
 module _ {W : Type 0} (m : Mangled W) (limit : ℕ) (detail : Detail) (symbol : List ℕ) (bytes : AreBytes symbol) where
-  -- the text that was appended is the answer's
+  -- the text that was appended is the text of the answer
   text_given : (old new : List ℕ) → (text : List ℕ) × (new ≡ old ++ text) × IsAnswer m detail symbol limit (Ok text)
       → (text : List ℕ) × (answer m detail symbol limit ≡ Ok text) × (new ≡ old ++ text)
   text_given old new (text, appended, is) = (text, sym (is_answer m detail symbol limit (Ok text) bytes is), appended)
@@ -93,7 +81,7 @@ pub demangled_in : (answers : Lang → Result (List ℕ) Refusal) (counting : La
 demangled_in answers counting lang known symbol old new demangled same is =
     subst (λ l. IsDemangled (answers l) (counting l symbol) old new demangled) (sym same) is
 
--- the answer for a Rust symbol in a detail that shows arguments where the requested one does
+-- the answer for a Rust symbol in any detail that shows arguments exactly if the requested detail does
 pub rust_answered : {W : Type 0} (cpp : Mangled W) (limit : ℕ) (detail shown : Detail) (lang : Lang) (symbol : List ℕ) → AreBytes symbol → lang ≡ Rust → has_arguments shown ≡ has_arguments detail
     → answer v0_mangled shown symbol limit ≡ language_answer_by cpp limit detail lang symbol
 rust_answered cpp limit detail shown lang symbol bytes is same =

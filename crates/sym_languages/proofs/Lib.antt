@@ -1,3 +1,4 @@
+pub mod Basics
 pub mod LanguageLemmas
 pub mod RustDetails
 mod ShortAnswers

@@ -1,16 +1,7 @@
 -- For a Rust symbol a detail decides only whether arguments are shown.
-use Rattle.std.proofs.Common.{◌≡◌, ℕ, ◌+◌, List, [], Bool, true, false, Some, Result, Ok, Err, refl, ap, ap₂, ◌∙◌}
-use Rattle.std.specs.Prelude.{codes, nat_le}
-use Rattle.sym_core.specs.declared.refusal.Refusal.{Refusal}
-use Rattle.sym_shape.specs.Decided.{AreBytes}
-use Rattle.sym_print.specs.Answer.{text_within}
-use Rattle.sym_print.specs.declared.detail.Detail.{Detail}
-use Rattle.sym_print.specs.Details.{has_arguments}
+use Rattle.sym_languages.proofs.Basics.{◌≡◌, ℕ, ◌+◌, List, [], Bool, true, false, Some, Result, Ok, Err, refl, ap, ap₂, ◌∙◌, codes, nat_le, Refusal, AreBytes, text_within, Detail, has_arguments, Mangled, IsAnswer, malformed, shaped, answer, answer_of_symbol, has_answer, is_answer, v0_mangled}
 use Rattle.sym_print.specs.Unshared.{done}
 use Rattle.sym_print.specs.Building.{◌then◌, ◌also◌, ◌perhaps◌}
-use Rattle.sym_demangle.specs.Mangled.{Mangled, IsAnswer, malformed, shaped, answer, answer_of_symbol}
-use Rattle.sym_demangle.proofs.Answering.{has_answer, is_answer}
-use Rattle.rust_grammar.specs.Mangled.{v0_mangled}
 use Rattle.rust_tree.specs.Symbol.{Path, Ty, Arguments, Tys, Bounds, Bindings, Symbol, crate_root, inherent_impl, trait_impl, trait_definition, nested, generic, no_arguments, lifetime_argument, constant_argument, type_argument, basic, path_type, array, slice, tuple, shared_reference, mutable_reference, const_pointer, mut_pointer, function, dyn, no_types, more_types, no_bounds, more_bounds, no_bindings, more_bindings}
 use Rattle.rust_tree.specs.Shown.{path_parts, arguments_from, type_parts, types_from, bounds_from, bindings_from, symbol_parts, name_text, generic_parts, generic_bound, plain_bound, nested_name, lifetime_parts, constant_parts, closing_tuple, reference_opening, for_binder, signature_parts, is_unit, dyn_lifetime, suffix_parts}
 
@@ -98,6 +89,6 @@ module _ {W : Type 0} (m : Mangled W) (d e : Detail) (limit : ℕ) (alike : (w :
   answers_alike : (s : List ℕ) → AreBytes s → answer m d s limit ≡ answer m e s limit
   answers_alike s bytes = is_answer m e s limit (answer m d s limit) bytes (answer_alike s (answer m d s limit) (has_answer m d s limit bytes))
 
--- the answer to a Rust symbol is the same with parameters and without
+-- the answer to a Rust symbol is the same in two details that both show arguments, or that both don't
 pub rust_answers_alike : (d e : Detail) (limit : ℕ) (s : List ℕ) → has_arguments d ≡ has_arguments e → AreBytes s → answer v0_mangled d s limit ≡ answer v0_mangled e s limit
 rust_answers_alike d e limit s same bytes = answers_alike v0_mangled d e limit (symbol_same d e same) s bytes

@@ -1,13 +1,6 @@
 -- The answers of pressing are short if each tree's pressed spelling is short.
-use Rattle.std.proofs.Common.{◌≡◌, ℕ, ◌*◌, ◌≤◌, inl, inr, length, List, Result, Ok, refl, sym, subst, ◌∙◌}
-use Rattle.std.specs.Prelude.{Err}
+use Rattle.sym_languages.proofs.Basics.{◌≡◌, ℕ, ◌*◌, ◌≤◌, inl, inr, length, List, Result, Ok, refl, sym, subst, ◌∙◌, Err, Refusal, Malformed, Decided, decided, Mangled, IsReading, misshapen, well_shaped, AnswersAreShort, reading_pressed}
 use Rattle.sym_core.specs.Number.{FitsSymbol}
-use Rattle.sym_core.specs.declared.refusal.Refusal.{Refusal}
-use Rattle.sym_core.specs.declared.refusal.Refusal.TheVariants.{Malformed}
-use Rattle.sym_shape.specs.Decided.{Decided}
-use Rattle.sym_shape.proofs.Deciding.{decided}
-use Rattle.sym_demangle.specs.Mangled.{Mangled, IsReading, misshapen, well_shaped}
-use Rattle.sym_languages.specs.Pressed.{AnswersAreShort, reading_pressed}
 
 pub answers-short : {W : Type 0} (m : Mangled W) (pressed : W → List ℕ) (a_byte : ℕ)
     → ((whole : W) (s : List ℕ) → FitsSymbol s → IsReading m s (Ok whole) → length (pressed whole) ≤ a_byte * length s) → AnswersAreShort m pressed a_byte

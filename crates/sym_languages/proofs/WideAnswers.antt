@@ -1,16 +1,7 @@
 -- What is answered for symbols of the wide grammar that are pressed.
-use Rattle.std.proofs.Common.{◌≡◌, ◌∙◌, ℕ, List, ◌++◌, length, Option, Some, None, Ok, Err, sym, ap, subst}
-use Rattle.std.specs.Prelude.{Vec}
+use Rattle.sym_languages.proofs.Basics.{◌≡◌, ◌∙◌, ℕ, List, ◌++◌, length, Option, Some, None, Ok, Err, sym, ap, subst, Vec, Malformed, TooLong, AreBytes, outcome_shaped, outcome_malformed, IsReading, misshapen, well_shaped, wide_mangled, IsKept, kept, with_front, most_pressed, kept_or_refused, kept_if_read, wide_pressed_answer, ReadingIsKept}
 use Rattle.std.specs.Global.{Global}
-use Rattle.sym_core.specs.declared.refusal.Refusal.TheVariants.{Malformed, TooLong}
-use Rattle.sym_shape.specs.Decided.{AreBytes}
-use Rattle.sym_shape.proofs.Deciding.{outcome_shaped, outcome_malformed}
-use Rattle.sym_demangle.specs.Mangled.{IsReading, misshapen, well_shaped}
-use Rattle.cpp_grammar.specs.Mangled.{wide_mangled}
 use Rattle.cpp_grammar.specs.Term.{Term}
-use Rattle.wide_press.specs.Kept.{IsKept, kept}
-use Rattle.sym_languages.specs.Languages.{with_front}
-use Rattle.sym_languages.specs.WidePressed.{most_pressed, kept_or_refused, kept_if_read, wide_pressed_answer, ReadingIsKept}
 use Rattle.sym_languages.proofs.LanguageLemmas.{pressed_given}
 
 -- ## By what a symbol reads as
@@ -36,7 +27,7 @@ pub spelled_answer : (front old new s spelling out : List ℕ) (t : Term) (most 
 spelled_answer front old new s spelling out t most bytes is same some put pushed =
     pressed_given front old new out spelling (wide_pressed_answer s) (reading_kept s (Ok t) bytes is ∙ ap kept_or_refused (ap (λ m. kept m t) (sym same) ∙ some)) put pushed
 
--- which spelling is kept, by what is answered
+-- the spelling that is kept, by the one that was found
 pub kept_none : (given : Option (List ℕ)) (found : Option (Vec ℕ Global)) → IsKept given found → found ≡ None → given ≡ None
 kept_none given found is none = subst (λ (o : Option (Vec ℕ Global)). IsKept given o) none is
 

@@ -71,7 +71,7 @@ pressed_of kind symbol = with_front (underscore_of kind.skip) (pressed_language 
 -- The symbols of a mangling that are read: W are the trees that they denote, R what is kept of them.
 pub record Readings (W R : Type 0) : Type 1 where
   pub mangled : Mangled W
-  -- what holds of each of them
+  -- what holds of each symbol that was read
   pub IsRead : R → Type 0
   pub bytes_of : R → List ℕ
   pub whole_of : R → W

@@ -13,8 +13,8 @@ abbrev pub pressed_if_read : {W : Type 0} → (pressed : W → List ℕ) → Res
 pressed_if_read pressed (Ok whole) = Ok (pressed whole)
 pressed_if_read pressed (Err refusal) = Err refusal
 
--- The answer to a symbol of a mangling whose trees have these pressed spellings: the answer by what its shape denotes, or its first bad
--- byte. There is no limit. A list of numbers that aren't all bytes is refused at once.
+-- The answer to a symbol of a mangling whose trees have these pressed spellings: the answer by what its shape denotes, or the refusal at its
+-- first bad byte. There is no limit. A list of numbers that aren't all bytes is refused at once.
 unfoldable pub pressed_answer : {W : Type 0} → Mangled W → (pressed : W → List ℕ) → List ℕ → Result (List ℕ) Refusal
 pressed_answer m pressed s =
     outcome m.table m.lawful (λ shape. pressed_if_read pressed (m.unfolded shape)) (λ at. Err (Malformed at)) (Err (Malformed 0)) s

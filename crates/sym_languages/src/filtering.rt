@@ -30,7 +30,7 @@ pub fn filter<R: Source, W: Sink>(
     filter_as(alloc, reader, writer, limit, Detail::Full)
 }
 
-/// The same filter, with texts in a detail.
+/// Filters like `filter`, with texts in a detail.
 pub fn filter_as<R: Source, W: Sink>(
     alloc: Global,
     reader: &mut R,

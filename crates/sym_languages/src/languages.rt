@@ -1,16 +1,13 @@
 // The demangler over both manglings.
-ghost use Rattle.std.specs.Prelude.{◌≡◌, Ok, true};
+ghost use Rattle.std.specs.Prelude.{◌≡◌};
 ghost use Rattle.sym_core.specs.Number.{FitsSymbol};
 ghost use Rattle.sym_print.specs.Details.{has_arguments};
-ghost use Rattle.sym_print.specs.declared.detail.Detail.TheVariants.{Brief};
-ghost use Rattle.sym_demangle.specs.Mangled.{IsAnswer, answer};
-ghost use Rattle.rust_grammar.specs.Mangled.{v0_mangled};
+ghost use Rattle.sym_demangle.specs.Mangled.{answer};
 ghost use Rattle.sym_filter.specs.Demangled.{IsAppended, IsDemangled};
 ghost use Rattle.sym_languages.specs.Languages.{AreCounts, AreCountsBy, language_answer_by};
 
 use crate::counted::Counted;
-use itanium::{Abi, Wide, write_less};
-use rust_short_way::write_brief;
+use itanium::{Abi, Wide};
 use rust_v0::V0;
 use std::alloc::{AllocError, Global};
 use sym_core::Refusal;
@@ -19,25 +16,11 @@ use sym_filter::{Demangled, Demangler, Kind, Lang};
 use sym_print::Detail;
 
 /// A grammar of C++ symbols.
-pub trait Cpp: Counted {
-    /// Writes the text of a symbol that is shown only in part, if the symbol goes the short way and its text costs at most the limit.
-    /// Answers whether the text was written. Where it wasn't, nothing is known of the symbol.
-    fn write_less(direct: &mut Self::Direct, symbol: &[u8], limit: u32, detail: Detail) -> bool
-        requires { FitsSymbol symbol.now }
-        ensures { result ≡ true → IsAnswer Self.mangled detail symbol.now limit (Ok (Self.written direct.new)) };
-}
+pub trait Cpp: Counted {}
 
-impl Cpp for Abi {
-    fn write_less(direct: &mut itanium::Writer, symbol: &[u8], limit: u32, detail: Detail) -> bool {
-        write_less(direct, symbol, limit, false, detail)
-    }
-}
+impl Cpp for Abi {}
 
-impl Cpp for Wide {
-    fn write_less(direct: &mut itanium::Writer, symbol: &[u8], limit: u32, detail: Detail) -> bool {
-        write_less(direct, symbol, limit, true, detail)
-    }
-}
+impl Cpp for Wide {}
 
 /// Both manglings, at a limit on the cost of a text and a detail, with the grammar that C++ symbols are read by: `Abi` or
 /// `Wide`.
@@ -53,9 +36,6 @@ pub struct Languages<C: Cpp> {
 pub struct Lists<C: Cpp> {
     pub cpp: Workspace<C>,
     pub rust: Workspace<V0>,
-    // the lists of the short way for symbols that are shown only in part
-    less: C::Direct,
-    brief: rust_short_way::Writer,
 }
 
 impl<C: Cpp> Lists<C> {
@@ -63,8 +43,6 @@ impl<C: Cpp> Lists<C> {
         Lists {
             cpp: Workspace::new(alloc),
             rust: Workspace::new(alloc),
-            less: C::direct(alloc),
-            brief: V0::direct(alloc),
         }
     }
 
@@ -115,17 +93,17 @@ impl<C: Cpp> Demangler for Languages<C> {
         out: &mut Vec<u8>,
     ) -> Result<(), Refusal> {
         match kind.lang {
-            Lang::Cpp => append_cpp(lists, symbol, self.limit, self.detail, out),
+            Lang::Cpp => append_in(&mut lists.cpp, symbol, self.limit, self.detail, out),
             Lang::Rust => {
                 let detail = with_parameters(self.detail);
-                append_rust(lists, symbol, self.limit, detail, out)
+                append_in(&mut lists.rust, symbol, self.limit, detail, out)
             }
         }
     }
 }
 
 /// A detail that shows parameters, and otherwise as much as this one. A Rust symbol has no parameters, so its text is the same in both.
-fn with_parameters(detail: Detail) -> Detail
+pub fn with_parameters(detail: Detail) -> Detail
     ensures { has_arguments result ≡ has_arguments detail }
 {
     if detail.has_arguments() {
@@ -133,58 +111,6 @@ fn with_parameters(detail: Detail) -> Detail
     } else {
         Detail::Brief
     }
-}
-
-/// Appends the text of a C++ symbol, if it has one. Where only a part of the text is shown, the symbol goes a short way, too, if it can.
-fn append_cpp<C: Cpp>(
-    lists: &mut Lists<C>,
-    symbol: &[u8],
-    limit: u32,
-    detail: Detail,
-    out: &mut Vec<u8>,
-) -> Result<(), Refusal>
-    requires { FitsSymbol symbol.now }
-    ensures { IsAppended (answer C.mangled detail symbol.now limit) out.old.items out.new.items result }
-{
-    if detail != Detail::Full && C::write_less(&mut lists.less, symbol, limit, detail) {
-        out.extend_from_slice(C::text(&lists.less))?;
-        return Ok(());
-    }
-    append_in(&mut lists.cpp, symbol, limit, detail, out)
-}
-
-/// Appends the text of a Rust symbol, where it has one.
-fn append_rust<C: Cpp>(
-    lists: &mut Lists<C>,
-    symbol: &[u8],
-    limit: u32,
-    detail: Detail,
-    out: &mut Vec<u8>,
-) -> Result<(), Refusal>
-    requires { FitsSymbol symbol.now }
-    ensures { IsAppended (answer v0_mangled detail symbol.now limit) out.old.items out.new.items result }
-{
-    match detail {
-        Detail::Brief => append_brief(lists, symbol, limit, out),
-        _ => append_in(&mut lists.rust, symbol, limit, detail, out),
-    }
-}
-
-/// Appends the text of a Rust symbol without its generic arguments, if it has one. The symbol goes a short way, if it can.
-fn append_brief<C: Cpp>(
-    lists: &mut Lists<C>,
-    symbol: &[u8],
-    limit: u32,
-    out: &mut Vec<u8>,
-) -> Result<(), Refusal>
-    requires { FitsSymbol symbol.now }
-    ensures { IsAppended (answer v0_mangled Brief symbol.now limit) out.old.items out.new.items result }
-{
-    if write_brief(&mut lists.brief, symbol, limit) {
-        out.extend_from_slice(lists.brief.text())?;
-        return Ok(());
-    }
-    append_in(&mut lists.rust, symbol, limit, Detail::Brief, out)
 }
 
 /// Appends the text of a symbol of a mangling, where it has one.

@@ -1,13 +1,8 @@
--- What holds where a language is one by meaning, and what part a rule is at.
-use Rattle.std.proofs.Common.{◌≡◌, refl, arith, append-nil, ℕ, ◌+◌, List, [], ◌∷◌, length, Ok}
-use Rattle.sym_shape.specs.Tree.{Forest, branch, empty, token, fixed, nothing, grown, row_count_all}
-use Rattle.sym_link.specs.Machine.{ended}
-use Rattle.sym_link.specs.Linking.{next_of}
-use Rattle.sym_link.specs.Driving.{AreAll}
-use Rattle.sym_link.specs.Reading.{Open}
+-- Languages by meaning: what a rule without further rows means, and the inputs of the next part.
+use Rattle.sym_link.proofs.Basics.{◌≡◌, refl, arith, append-nil, ℕ, ◌+◌, List, [], ◌∷◌, length, Ok, Forest, branch, empty, token, fixed, nothing, grown, row_count_all, ended, next_of, AreAll, Open}
 use Rattle.sym_link.specs.Cases.{Language, meant, by_meaning}
 
--- In a language by meaning a rule that has no rows left means what its known parts mean.
+-- In a language by meaning, a rule with no rows left has the meaning of its known parts.
 pub plain_ended : {V S C : Type 0} (language : Language V S C) (rule : Open S C) (known : List V) (from : ℕ) (left : Forest) (state : S)
     → row_count_all left ≡ 0
     → ended (by_meaning language) rule known from left state ≡ meant language rule.rule.number rule.context rule.place known state
@@ -19,7 +14,7 @@ plain_ended language rule known from (grown (fixed byte) rest) state none =
 plain_ended language rule known from (grown (token t) rest) state none = absurd (omega (arith, none))
 plain_ended language rule known from (grown (branch r taken parts) rest) state none = absurd (omega (arith, none))
 
--- In a language by meaning the parts without a row before the next part change nothing.
+-- In a language by meaning, the parts without a row that precede the next part change nothing.
 pub plain_next : {V S C : Type 0} (language : Language V S C) (rule : Open S C) (known : List V) (from : ℕ) (left : Forest) (state : S)
     → next_of (by_meaning language) rule known from left state
     ≡ Ok (record { context = language.context_behind rule.rule.number rule.context known; values = known; state = state })

@@ -1,12 +1,10 @@
 -- The result of a step of the machine where the innermost rule has no row left.
-use Rattle.std.proofs.Common.{◌≡◌, refl, sym, ◌∙◌, ap, arith, ℕ, List, [], ◌∷◌, ◌++◌, Ok}
-use Rattle.sym_shape.specs.Tree.{Forest, branch, empty, token, fixed, nothing, grown, row_count_all}
-use Rattle.sym_link.specs.Reading.{Reading, ◌>>=◌}
+use Rattle.sym_link.proofs.Basics.{◌≡◌, refl, sym, ◌∙◌, ap, arith, ℕ, List, [], ◌∷◌, ◌++◌, Ok, Forest, branch, empty, token, fixed, nothing, grown, row_count_all, Reading, ◌>>=◌}
 use Rattle.sym_link.specs.Machine.{Frame, machine, outcome_of, outcome, passed, ended, advanced, step_of, HasRowNext}
 use Rattle.sym_link.proofs.Steps.{bind_assoc, step_outcome}
 use Rattle.sym_link.proofs.Results.{IsPassed, bind_where, passed_rows}
 
--- a rule without a row, and without a next part that has none, is nothing
+-- if no row is left and no part without a row comes next, the rule closes
 advanced_none : {V S C : Type 0} (reading : Reading V S C) (top : Frame V S C) (frames : List (Frame V S C)) (known : List V) (from : ℕ) (left : Forest) (state : S)
     → HasRowNext left → row_count_all left ≡ 0
     → advanced reading top frames known from left state ≡ (reading.close top.rule known state >>= λ whole. Ok (machine frames (top.outer ++ whole.value ∷ []) whole.state))
@@ -29,7 +27,7 @@ ended_step reading top frames known state none =
     ∙ sym (bind_assoc (passed reading top.rule known top.from top.left state) (λ p. reading.close top.rule p.known p.state)
     (λ whole. Ok (machine frames (top.outer ++ whole.value ∷ []) whole.state)))
 
--- the result for the open rules where the innermost closes
+-- the result for the open rules when the innermost one closes
 pub ended_outcome : {V S C : Type 0} (reading : Reading V S C) (top : Frame V S C) (frames : List (Frame V S C)) (known : List V) (state : S)
     → row_count_all top.left ≡ 0
     → (ended reading top.rule known top.from top.left state >>= λ whole. outcome_of reading frames (top.outer ++ whole.value ∷ []) whole.state)

@@ -1,23 +1,7 @@
 -- What the driver's functions have to show, over plain variables.
-use Rattle.std.proofs.lemmas.List.{length-take-le}
-use Rattle.std.proofs.Common.{if◌then◌else◌, add-zero, take, true, false, ◌≡◌, ◌≢◌, ◌⊎◌, inl, inr, refl, sym, ◌∙◌, ap, subst, arith, ℕ, ◌+◌, ◌-◌, ◌*◌, ◌<◌, ◌≤◌, List, [], ◌∷◌, ◌++◌, length, drop, Ok, Err, length-append, length-drop}
-use Rattle.std.specs.Prelude.{Result, slice_index_or, OnOk, Option, Some, None}
-use Rattle.sym_core.specs.declared.refusal.Refusal.{Refusal}
-use Rattle.sym_shape.specs.declared.rule.Row.{Row}
-use Rattle.sym_shape.specs.declared.rule.Rule.{Rule}
-use Rattle.sym_shape.specs.Table.{Token, bytes_of}
-use Rattle.sym_shape.specs.Tree.{Tree, Forest, branch, token, grown, spell_all, row_count_all, rows_of_all, tree_count}
-use Rattle.sym_link.specs.declared.language.Frame.{Frame}
-use Rattle.sym_link.specs.Reading.{Found, ◌>>=◌}
+use Rattle.sym_link.proofs.Basics.{length-take-le, if◌then◌else◌, add-zero, take, true, false, ◌≡◌, ◌≢◌, ◌⊎◌, inl, inr, refl, sym, ◌∙◌, ap, subst, arith, ℕ, ◌+◌, ◌-◌, ◌*◌, ◌<◌, ◌≤◌, List, [], ◌∷◌, ◌++◌, length, drop, Ok, Err, length-append, length-drop, Result, slice_index_or, OnOk, Option, Some, None, Refusal, Row, Rule, Token, bytes_of, Tree, Forest, branch, token, grown, spell_all, row_count_all, rows_of_all, tree_count, Frame, Found, ◌>>=◌, found, standing, skipped, passed_by, skipped_from, values_in, Stands, AreAll, Fails, View, IsLinking, HasRoom, TokenTakesMemory, IsOpen, IsRuleRow, IsTokenRow, values_at_once, owed_behind, owed_next, next_of, taken_in, Adds, AddsFew, ClosesRule, TakesToken, Opens, OpensRoot, link_steps, link_steps_all, Due, waiting, starting, no_part_has_row, closes_at_once, CountsClose, CountsToken, Follows, FollowsAfter, StaysWithin, CanClose, CanTake, CanBegin, EndsWith, IsShape, IsFresh, IsOnWay, IsDone, HoldsAll, Moves, CountsMove, IsDriving, IsStepTo, meaning_of, length-rows_of_all}
 use Rattle.sym_link.specs.Machine as machine
-use Rattle.sym_link.specs.Unfold.{found, standing}
-use Rattle.sym_link.specs.Parts.{skipped, passed_by, skipped_from, values_in, Stands}
-use Rattle.sym_link.specs.Driving.{AreAll, Fails}
-use Rattle.sym_link.specs.Linking.{View, IsLinking, HasRoom, TokenTakesMemory, IsOpen, IsRuleRow, IsTokenRow, values_at_once, owed_behind, owed_next, next_of, taken_in, Adds, AddsFew, ClosesRule, TakesToken, Opens, OpensRoot}
-use Rattle.sym_link.specs.Stepping.{link_steps, link_steps_all, Due, waiting, starting, no_part_has_row, closes_at_once, CountsClose, CountsToken}
-use Rattle.sym_link.specs.Following.{Follows, FollowsAfter, StaysWithin, CanClose, CanTake, CanBegin, EndsWith, IsShape, IsFresh, IsOnWay, IsDone, HoldsAll, Moves, CountsMove, IsDriving, IsStepTo, meaning_of}
 use Rattle.sym_link.proofs.Standing.{NextPart, a_rule, a_token, next_part, skip_from, skip_count, stands_within, stands_end, stands_inner, stands_skip}
-use Rattle.sym_shape.proofs.Forests.{length-rows_of_all}
 use Rattle.sym_link.proofs.Stepping.{some_row, none_at_once, token_at_once, rule_not_at_once, token_not_at_once, push_due, some_due, chosen}
 use Rattle.sym_link.proofs.Cases.{as_many}
 use Rattle.sym_link.proofs.Following.{Innermost, innermost, close_follows, close_fails}
@@ -112,7 +96,7 @@ pub record TokenNext {N P K V S C : Type 0} (view : View N P K V S C) (s : List 
   pub is_token : row.rule ≡ 65535
   pub more : next < length shape
 
--- a rule that is the next part is in the symbol
+-- if the next part is a rule, that rule is in the symbol
 rule_stands : {N P K V S C : Type 0} (view : View N P K V S C) (s : List ℕ) (shape : List Row) (whole : Result (Found (List V) S) Refusal) (due : Due)
     (nodes : N) (next : ℕ) (lower : List (Frame K)) (code : Frame K) (parts : List P) (i : Innermost view s shape whole due nodes next lower code parts)
     (rule : Rule) (taken : List ℕ) (inner rest : Forest) → IsLinking view → skipped i.top.left ≡ grown (branch rule taken inner) rest
@@ -236,7 +220,7 @@ token_asks view s shape due nodes next codes code parts row d laws can row_is is
       );
     }
 
--- the token of the next row is one of a rule that is in the symbol
+-- if the token of the next row takes memory of its own, the symbol has a token that does
 pub token_there : {N P K V S C : Type 0} (view : View N P K V S C) (s : List ℕ) (shape : List Row) (due : Due)
     (nodes : N) (next : ℕ) (codes : List (Frame K)) (code : Frame K) (parts : List P) (row d : Row) → IsLinking view
     → CanTake view s shape due nodes next codes code parts → row ≡ slice_index_or shape next d → row.rule ≡ 65535
@@ -290,14 +274,14 @@ rule_asks view s shape due nodes next codes code parts row d laws can row_is no_
       end = row_ends shape place row r.rule r.taken r.inner r.row_is;
     }
 
--- where nothing is known of the innermost rule, its place is before all rows
+-- while the innermost rule has no parts, only bytes up to its place have paid
 early_base : {N P K V S C : Type 0} (view : View N P K V S C) (s : List ℕ) (shape : List Row) (whole : Result (Found (List V) S) Refusal) (due : Due)
     (nodes : N) (next : ℕ) (lower : List (Frame K)) (code : Frame K) (parts : List P) (i : Innermost view s shape whole due nodes next lower code parts)
     → length parts ≡ code.base → i.reached ≤ code.place
 early_base view s shape whole due nodes next lower code parts i none =
     omega (arith, i.inside.place, i.early (sym (as_many (view.IsPart nodes) (drop code.base parts) i.known i.inside.parts) ∙ length-drop code.base parts ∙ omega (arith, none)))
 
--- where a token is taken in a rule that ends there, n steps are left
+-- n steps are left after a token is taken; in the step in which its rule begins, the token is the last row of the rule
 abbrev pub CountsTaken : Due → (end next : ℕ) → ℕ → Type 0
 CountsTaken (waiting m) end next n = m ≡ n + 1
 CountsTaken (starting m most) end next n = (n ≡ m + 1) × (end ≡ next + 1)
@@ -402,7 +386,7 @@ begun_waits {V = V} {S = S} {C = C} view s shape whole left most nodes next lowe
         let is_token : row.rule ≡ 65535 = ap (λ r. r.rule) (row_is ∙ (dropped_one shape _ next _ d rows).2) in
         token_not_at_once i.top.left t rest left_is (λ none. several is_token (omega (arith, i.end, none, sym (skip_count i.top.left) ∙ ap row_count_all left_is)))
 
--- an open rule takes a step at least
+-- an open rule takes at least one step
 pub step_left : {N P K V S C : Type 0} (view : View N P K V S C) (s : List ℕ) (shape : List Row) (whole : Result (Found (List V) S) Refusal) (left : ℕ)
     (nodes : N) (next : ℕ) (codes : List (Frame K)) (code : Frame K) (parts : List P) → EndsWith codes code → Follows view s shape whole (waiting left) nodes next codes parts → (n : ℕ) × (left ≡ n + 1)
 step_left view s shape whole left nodes next codes code parts last follows =
@@ -411,7 +395,7 @@ step_left view s shape whole left nodes next codes code parts last follows =
 
 -- ## Nodes
 
--- a call that is refused, or closes a rule, adds at most two
+-- a call that is refused, or closes a rule, adds at most two nodes
 pub few_two : {N P K V S C : Type 0} (view : View N P K V S C) (old new : N) (frame : Frame K) (parts : List P) → IsLinking view → AddsFew view old new frame parts → view.size new ≤ view.size old + 2
 few_two view old new frame parts laws few = omega (arith, few, laws.closing frame.rule (drop frame.base parts), laws.two frame.rule (length (drop frame.base parts)))
 
@@ -424,7 +408,7 @@ none_own Is [] known are none = refl
 none_own Is (p ∷ own) [] are none = absurd are
 none_own Is (p ∷ own) (v ∷ known) are none = cc
 
--- what may be added in the step in which a rule begins, where it closes or is refused before its token
+-- if a rule that closes at once is refused before its token, the nodes stay within what its step may add
 refused_within : {N P K V S C : Type 0} (view : View N P K V S C) (s : List ℕ) (shape : List Row) (whole : Result (Found (List V) S) Refusal) (left most : ℕ)
     (nodes : N) (next : ℕ) (lower : List (Frame K)) (code : Frame K) (parts : List P) (i : Innermost view s shape whole (starting left most) nodes next lower code parts)
     → closes_at_once i.top.left ≡ true → view.size nodes + view.closes code.rule (drop code.base parts) ≤ most
@@ -449,7 +433,7 @@ one_token : {N P K V S C : Type 0} (view : View N P K V S C) (s : List ℕ) (sha
 one_token view s shape whole due nodes next lower code parts row t ends =
     token_at_once t.i.top.left t.t t.rest t.left_is (omega (arith, t.i.end, ends, sym (skip_count t.i.top.left) ∙ ap row_count_all t.left_is))
 
--- where the token is all that the rule has
+-- a rule that has only a token stays within what its step may add
 pub token_within : {N P K V S C : Type 0} (view : View N P K V S C) (s : List ℕ) (shape : List Row) (whole : Result (Found (List V) S) Refusal) (left most : ℕ)
     (old new : N) (next : ℕ) (lower : List (Frame K)) (code : Frame K) (parts new_parts : List P) (row d : Row) → IsLinking view
     → Follows view s shape whole (starting left most) old next (lower ++ code ∷ []) parts → code.end ≡ next + 1 → row ≡ slice_index_or shape next d → row.rule ≡ 65535
@@ -514,7 +498,7 @@ root_asks view s shape nodes codes parts row d laws can row_is =
       more = r.3;
     }
 
--- a symbol takes a step at least
+-- a symbol takes at least one step
 pub root_left : {N P K V S C : Type 0} (view : View N P K V S C) (s : List ℕ) (shape : List Row) (tree : Tree) → IsLinking view → IsShape view.table s shape tree → (n : ℕ) × (link_steps tree ≡ n + 1)
 root_left view s shape tree laws is =
     let r = root_of view.table tree is.is_tree laws.starts in
@@ -533,7 +517,7 @@ root_begun view s shape tree old new codes opened parts row d laws is fits fresh
 
 -- ## A move
 
--- a driver with an open rule has begun, and a step is left to it
+-- a driver with an open rule has begun, and has at least one step left
 pub begun_way : {N P K V S C : Type 0} (view : View N P K V S C) (s : List ℕ) (shape : List Row) (tree : Tree) (taken : ℕ) (nodes : N) (next : ℕ) (codes : List (Frame K)) (code : Frame K) (parts : List P)
     → IsOnWay view s shape tree taken nodes next codes parts → EndsWith codes code
     → (left : ℕ) × (taken + 1 + left ≡ link_steps tree) × Follows view s shape (meaning_of view tree) (waiting (left + 1)) nodes next codes parts
@@ -627,7 +611,7 @@ step_refused view s shape tree new steps next codes new_codes new_parts result e
     let count : 2 * next + 1 ≤ 2 * length shape + length codes = subst (λ r. CountsMove (length shape) next (length codes) (length new_codes) r) is counts in
     (subst (λ r. Moves view s shape tree steps new new_codes new_parts r) is moves, omega (arith, few, count))
 
--- the one answer of a step that was refused
+-- the first refusal of a step
 pub refused_answer : {N P K V S C : Type 0} (view : View N P K V S C) (s : List ℕ) (shape : List Row) (tree : Tree) (new : N) (steps new_steps : ℕ) (refused new_refused : Option Refusal)
     (new_parts : List P) (e : Refusal) → ((e : Refusal) → refused ≡ Some e → ⊥) → new_steps ≡ steps + 1 → new_refused ≡ Some e → Fails e (meaning_of view tree)
     → IsStepTo view s shape tree new steps new_steps refused new_refused new_parts (Err e)

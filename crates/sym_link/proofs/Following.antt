@@ -1,19 +1,7 @@
 -- A driver that takes a row or closes a rule stays on its way.
-use Rattle.std.proofs.Common.{◌≡◌, sym, ◌∙◌, ap, subst, arith, ℕ, ◌+◌, ◌≤◌, List, [], ◌∷◌, ◌++◌, length, take, drop, Ok, add-zero, append_assoc, length-append, length-drop}
-use Rattle.std.specs.Prelude.{Result}
-use Rattle.sym_core.specs.declared.refusal.Refusal.{Refusal}
+use Rattle.sym_link.proofs.Basics.{◌≡◌, sym, ◌∙◌, ap, subst, arith, ℕ, ◌+◌, ◌≤◌, List, [], ◌∷◌, ◌++◌, length, take, drop, Ok, add-zero, append_assoc, length-append, length-drop, Result, Refusal, Row, row_count_all, Frame, Found, ◌>>=◌, Stands, AreAll, Fails, View, IsLinking, IsInside, owed_behind, Gives, owed, Due, waiting, IsDue, CountsClose, HoldsAll, left_from, Nests, IsEarly, IsLight, Follows}
 use Rattle.sym_core.specs.declared.refusal.Refusal.TheVariants as refusals
-use Rattle.sym_shape.specs.declared.rule.Row.{Row}
-use Rattle.sym_shape.specs.Tree.{row_count_all}
-use Rattle.sym_link.specs.declared.language.Frame.{Frame}
-use Rattle.sym_link.specs.Reading.{Found, ◌>>=◌}
 use Rattle.sym_link.specs.Machine as machine
-use Rattle.sym_link.specs.Parts.{Stands}
-use Rattle.sym_link.specs.Driving.{AreAll, Fails}
-use Rattle.sym_link.specs.Linking.{View, IsLinking, IsInside, owed_behind, Gives}
-use Rattle.sym_link.specs.Owing.{owed}
-use Rattle.sym_link.specs.Stepping.{Due, waiting, IsDue, CountsClose}
-use Rattle.sym_link.specs.Following.{HoldsAll, left_from, Nests, IsEarly, IsLight, Follows}
 use Rattle.sym_link.proofs.Cases.{as_many}
 use Rattle.sym_link.proofs.Closing.{ended_outcome}
 use Rattle.sym_link.proofs.Lists.{all_push, all_stay, snoc_last, snoc_front, no_last, dropped_front, taken_front}
@@ -46,7 +34,7 @@ holds_stays view s old new laws grows (top ∷ frames) known awaited row codes p
   holds_stays view s old new laws grows frames top.outer 1 (row + row_count_all top.left) one.lower one.below holds,
 )
 
--- the value that was awaited
+-- the awaited value is known: it comes after the other values, and its part after the other parts
 pub holds_push : {N P K V S C : Type 0} (view : View N P K V S C) (s : List ℕ) (nodes : N)
     (frames : List (machine.Frame V S C)) (known : List V) (row : ℕ) (codes : List (Frame K)) (parts : List P) (part : P) (value : V)
     → HoldsAll view s nodes frames known 1 row codes parts → view.IsPart nodes part value
@@ -155,7 +143,7 @@ innermost view s shape whole due nodes next codes lower code parts f ends =
 
 -- ## A rule closes
 
--- where the innermost rule has no rows left
+-- the result of the whole when the innermost rule has no rows left
 pub close_outcome : {N P K V S C : Type 0} (view : View N P K V S C) (s : List ℕ) (shape : List Row) (whole : Result (Found (List V) S) Refusal) (due : Due)
     (nodes : N) (next : ℕ) (lower : List (Frame K)) (code : Frame K) (parts : List P) (i : Innermost view s shape whole due nodes next lower code parts)
     → row_count_all i.top.left ≡ 0
@@ -204,7 +192,7 @@ close_follows view s shape whole due old new next lower code parts part laws gro
       paid = paid;
     }
 
--- a refusal of a part is that of the whole
+-- the refusal of a part is the refusal of the whole
 pub fails_carried : {A B : Type 0} (e : Refusal) (read : Result A Refusal) (k : A → Result B Refusal) (whole : Result B Refusal)
     → Fails e read → (read >>= k) ≡ whole → Fails e whole
 fails_carried (refusals.Malformed at) read k whole fails coming = sym (rw fails at coming)

@@ -1,3 +1,4 @@
+pub mod Basics
 pub mod Steps
 pub mod Results
 pub mod Cases

@@ -1,8 +1,5 @@
 -- Lists that are taken apart and joined.
-use Rattle.std.proofs.Common.{◌≡◌, refl, sym, ◌∙◌, ap, arith, ℕ, zero, suc, ◌-◌, ◌<◌, ◌≤◌, List, [], ◌∷◌, ◌++◌, length, take, drop, append_assoc, length-drop, length-append, get_or}
-use Rattle.sym_link.specs.Driving.{AreAll}
-use Rattle.std.proofs.Math.Seq.{get_or-append_seam}
-use Rattle.std.proofs.lemmas.List.{take-append-drop, length-take-le, take_all}
+use Rattle.sym_link.proofs.Basics.{◌≡◌, refl, sym, ◌∙◌, ap, arith, ℕ, zero, suc, ◌-◌, ◌<◌, ◌≤◌, List, [], ◌∷◌, ◌++◌, length, take, drop, append_assoc, length-drop, length-append, get_or, AreAll, get_or-append_seam, take-append-drop, length-take-le, take_all}
 
 pub taken_dropped : {A : Type 0} (n : ℕ) (xs : List A) → take n xs ++ drop n xs ≡ xs
 taken_dropped n xs = take-append-drop n xs

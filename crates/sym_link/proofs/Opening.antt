@@ -1,18 +1,10 @@
--- The result of a step of the machine where the next row begins a rule, or is that of a token.
-use Rattle.std.proofs.Common.{◌≡◌, refl, sym, ◌∙◌, ap, arith, ℕ, ◌+◌, List, [], ◌∷◌, ◌++◌, length, length-append, Ok}
-use Rattle.std.specs.Result.{IfOk}
-use Rattle.sym_shape.specs.declared.rule.Rule.{Rule}
-use Rattle.sym_shape.specs.Table.{Token}
-use Rattle.sym_shape.specs.Tree.{Forest, branch, empty, token, fixed, nothing, grown, spell}
-use Rattle.sym_link.specs.Reading.{Found, Open, Reading, ◌>>=◌}
-use Rattle.sym_link.specs.Unfold.{found, standing, unfold_tree}
+-- A step of the machine that begins a rule or takes a token, and its result.
+use Rattle.sym_link.proofs.Basics.{◌≡◌, refl, sym, ◌∙◌, ap, arith, ℕ, ◌+◌, List, [], ◌∷◌, ◌++◌, length, length-append, Ok, IfOk, Rule, Token, Forest, branch, empty, token, fixed, nothing, grown, spell, Found, Open, Reading, ◌>>=◌, found, standing, unfold_tree, skipped, passed_by, skipped_from, values_in, next_of, Begun, begun, taken_in}
 use Rattle.sym_link.specs.Machine.{Frame, Machine, frame, machine, outcome_of, outcome, entered, Passed, passed, advanced, step_of}
-use Rattle.sym_link.specs.Parts.{skipped, passed_by, skipped_from, values_in}
-use Rattle.sym_link.specs.Linking.{next_of, Begun, begun, taken_in}
 use Rattle.sym_link.proofs.Steps.{bind_assoc, bind_same, entered_outcome, step_outcome}
 use Rattle.sym_link.proofs.Results.{bind_where, bind_ok, ok_any, ok_bind, ok_weaker}
 
--- the place of the remaining parts, past those that have no row
+-- the parts after those that have no row, and their place
 record IsSkipped {V S : Type 0} (from : ℕ) (left : Forest) (p : Passed V S) : Type 0 where
   left_is : p.left ≡ skipped left
   from_is : p.from ≡ skipped_from from left
@@ -70,7 +62,7 @@ entering_step reading top frames known state rule taken inner rest left_is =
     ∙ sym (bind_assoc start (λ p. reading.between top.rule p.known p.state >>= begun reading rule taken place inner) (λ b. Ok (after b)))
     ∙ ap (λ r. r >>= λ b. Ok (after b)) (sym (bind_assoc start (λ p. reading.between top.rule p.known p.state) (begun reading rule taken place inner)))
 
--- the result for the open rules where one begins
+-- the result for the open rules when another rule begins
 pub entering_outcome : {V S C : Type 0} (reading : Reading V S C) (top : Frame V S C) (frames : List (Frame V S C)) (known : List V) (state : S)
     (rule : Rule) (taken : List ℕ) (inner rest : Forest) → skipped top.left ≡ grown (branch rule taken inner) rest
     → ((next_of reading top.rule known top.from top.left state >>= begun reading rule taken (skipped_from top.from top.left) inner)
@@ -83,7 +75,7 @@ entering_outcome reading top frames known state rule taken inner rest left_is =
     ∙ ap (λ r. r >>= outcome reading) (sym (entering_step reading top frames known state rule taken inner rest left_is))
     ∙ step_outcome reading (top ∷ frames) known state
 
--- the result for a whole whose rule begins
+-- the result for the whole when its rule begins
 pub root_outcome : {V S C : Type 0} (reading : Reading V S C) (context : C) (state : S) (rule : Rule) (taken : List ℕ) (inner : Forest)
     → (begun reading rule taken 0 inner (record { context = context; values = []; state = state })
     >>= λ b. outcome_of reading (frame b.rule (0 + length taken) inner b.values ∷ []) [] b.state)
@@ -132,7 +124,7 @@ token_step reading top frames known state t rest left_is =
     ∙ sym (bind_assoc start (λ p. reading.between top.rule p.known p.state >>= taken_in reading t place) (λ f. Ok (after f)))
     ∙ ap (λ r. r >>= λ f. Ok (after f)) (sym (bind_assoc start (λ p. reading.between top.rule p.known p.state) (taken_in reading t place)))
 
--- the result for the open rules where a token is taken
+-- the result for the open rules when a token is taken
 pub token_outcome : {V S C : Type 0} (reading : Reading V S C) (top : Frame V S C) (frames : List (Frame V S C)) (known : List V) (state : S)
     (t : Token) (rest : Forest) → skipped top.left ≡ grown (token t) rest
     → ((next_of reading top.rule known top.from top.left state >>= taken_in reading t (skipped_from top.from top.left))

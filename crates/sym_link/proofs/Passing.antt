@@ -1,26 +1,9 @@
 -- Parts without a row are passed one after the other.
-use Rattle.std.proofs.Common.{◌≡◌, refl, sym, ◌∙◌, ap, subst, arith, ℕ, ◌+◌, ◌-◌, ◌<◌, ◌≤◌, List, [], ◌∷◌, ◌++◌, length, take, drop, Ok, Err, append_assoc, length-append, length-drop}
-use Rattle.std.specs.Prelude.{Result}
-use Rattle.std.proofs.lemmas.List.{length-take-le}
-use Rattle.sym_core.specs.declared.refusal.Refusal.{Refusal}
-use Rattle.sym_shape.specs.declared.rule.Row.{Row}
-use Rattle.sym_shape.specs.declared.rule.Rule.{Rule}
-use Rattle.sym_shape.specs.declared.rule.Sym.TheVariants.{Kind}
-use Rattle.sym_shape.specs.Tree.{Tree, Forest, branch, empty, token, fixed, nothing, grown, spell_all, IsTree, row_count_all, tree_count}
-use Rattle.sym_link.specs.declared.language.Frame.{Frame}
-use Rattle.sym_shape.specs.Table.{Token, symbols_of}
-use Rattle.sym_link.specs.Reading.{Found, Open, Reading, ◌>>=◌}
-use Rattle.sym_link.specs.Unfold.{found, standing}
-use Rattle.sym_link.specs.Parts.{skipped, skipped_from, joined, Stands}
-use Rattle.sym_link.specs.Machine.{Passed, passed, ended}
-use Rattle.sym_link.specs.Driving.{AreAll, Fails}
-use Rattle.sym_link.specs.Linking.{View, IsInside, IsRuleRow, IsTokenRow, taken_in, Takes, next_of, Begun, begun, Begins, Puts, Adds, owed_behind, owed_next}
-use Rattle.sym_link.specs.Threads.{skips, IsThere, IsAt, IsOpenAt, GoesOn, BeginsIn, ClosesAll, IsTaken, IsCount, IsAhead, IsThreading, Passing, Passes}
+use Rattle.sym_link.proofs.Basics.{◌≡◌, refl, sym, ◌∙◌, ap, subst, arith, ℕ, ◌+◌, ◌-◌, ◌<◌, ◌≤◌, List, [], ◌∷◌, ◌++◌, length, take, drop, Ok, Err, append_assoc, length-append, length-drop, Result, length-take-le, Refusal, Row, Rule, Kind, Tree, Forest, branch, empty, token, fixed, nothing, grown, spell_all, IsTree, row_count_all, tree_count, Frame, Token, symbols_of, Found, Open, Reading, ◌>>=◌, found, standing, skipped, skipped_from, joined, Stands, Passed, passed, ended, AreAll, Fails, View, IsInside, IsRuleRow, IsTokenRow, taken_in, Takes, next_of, Begun, begun, Begins, Puts, Adds, owed_behind, owed_next, skips, IsThere, IsAt, IsOpenAt, GoesOn, BeginsIn, ClosesAll, IsTaken, IsCount, IsAhead, IsThreading, Passing, Passes, count_trees}
 use Rattle.sym_link.proofs.Cases.{as_many}
 use Rattle.sym_link.proofs.Lists.{all_push, all_stay, dropped_front, taken_front}
 use Rattle.sym_link.proofs.Following.{fails_carried}
 use Rattle.sym_link.proofs.Standing.{stands_next, tree_next, all_passed, count_joined}
-use Rattle.sym_shape.proofs.Forests.{count_trees}
 use Rattle.sym_link.proofs.Taking.{of_ok}
 
 -- the parts after the one that is passed, and where they are
@@ -45,12 +28,12 @@ passed_none reading rule known from (grown (token t) rest) state none = refl
 passed_none reading rule known from (grown (branch r taken parts) rest) state none = refl
 passed_none reading rule known from nothing state none = refl
 
--- as many values are known as there are parts
+-- as many values are known as the frame has parts
 own_length : {N P K V S C : Type 0} (view : View N P K V S C) (s : List ℕ) (nodes : N) (frame : Frame K) (parts : List P) (rule : Open S C) (known : List V) (state : S)
     → IsAt view s nodes frame (drop frame.base parts) rule known state → length parts - frame.base ≡ length known
 own_length view s nodes frame parts rule known state at = sym (length-drop frame.base parts) ∙ as_many (view.IsPart nodes) (drop frame.base parts) known at.parts
 
--- one value is that of one part
+-- if one part denotes a list of one value, it denotes that value
 single : {P V : Type 0} (Is : P → V → Type 0) (p : P) (vs : List V) → length vs ≡ 1 → AreAll Is (p ∷ []) vs → (v : V) × (vs ≡ v ∷ []) × Is p v
 single Is p [] one are = absurd are
 single Is p (v ∷ []) one are = (v, refl, are.0)
@@ -65,7 +48,7 @@ module _ {N P K V S C : Type 0} (view : View N P K V S C) (s : List ℕ) (Surrou
   after : Later view.reading p.rule p.known p.from p.state p.left
   after = later view.reading p.rule p.known p.from p.state p.left more
 
-  -- one is passed, and what it denotes is put after the other parts
+  -- one part is passed, and what it denotes comes after the other parts
   pub passing_next : (context : K) (part : P) → GoesOn view s Surrounds old new frame parts middle (Ok context) → view.Grows old new
       → AreAll (view.IsPart new) (part ∷ []) view.reading.rowless
       → Passing view s new frame lower (middle ++ part ∷ []) to whole
@@ -106,7 +89,7 @@ module _ {N P K V S C : Type 0} (view : View N P K V S C) (s : List ℕ) (Surrou
       fails_carried e (view.reading.between p.rule p.known p.state) (λ next. passed view.reading p.rule (next.values ++ view.reading.rowless) after.from after.rest next.state) whole
       (goes p.rule p.known p.state p.at) (sym after.passes ∙ p.coming)
 
--- the rule is open still
+-- the rule is still open
 pub open_next : {N P K V S C : Type 0} (view : View N P K V S C) (s : List ℕ) (Surrounds : N → K → C → Type 0) → IsThreading view → (old new : N) (frame : Frame K)
     (parts middle : List P) → frame.base ≤ length parts → IsOpenAt view s old frame parts
     → (context : K) (part : P) → GoesOn view s Surrounds old new frame parts middle (Ok context) → view.Grows old new
@@ -121,7 +104,7 @@ open_next view s Surrounds laws old new frame parts middle base o context part g
     let next = passing_next view s Surrounds laws old new frame (take frame.base parts) parts middle (length o.known + 1) whole first less context part goes grows is in
     record { rule = next.rule; known = next.known; state = next.state; at = next.at }
 
--- all are passed
+-- all parts are passed
 pub passing_done : {N P K V S C : Type 0} (view : View N P K V S C) (s : List ℕ) (nodes : N) (frame : Frame K) (lower parts : List P) (to : ℕ) (whole : Result (Passed V S) Refusal)
     → Passing view s nodes frame lower parts to whole → to ≤ length parts - frame.base → Passes view nodes frame lower parts (Ok tt) whole
 passing_done view s nodes frame lower parts to whole p enough =
@@ -136,7 +119,7 @@ passing_done view s nodes frame lower parts to whole p enough =
 
 -- ## One after the other
 
--- a rule whose frame has one part less
+-- how many nodes a rule may still add, once its next part is there
 pub owed_pushed : {N P K V S C : Type 0} (view : View N P K V S C) (old new : N) (frame : Frame K) (parts middle : List P) (part : P) (x : ℕ) → frame.base ≤ length middle
     → Adds view old new x (owed_next view frame middle) → Adds view old new x (owed_behind view frame (middle ++ part ∷ []))
 owed_pushed view old new frame parts middle part x within adds =
@@ -163,7 +146,7 @@ module _ {N P K V S C : Type 0} (view : View N P K V S C) (s : List ℕ) (laws :
   pub open_first : IsOpenAt view s old frame parts
   open_first = record { rule = rule; known = known; state = state; at = first_at }
 
-  -- nothing is passed yet
+  -- no part is passed yet
   passing_first : (to : ℕ) → to ≡ length known + skips left → Passing view s old frame (take frame.base parts) parts to (passed view.reading rule known from left state)
   passing_first to to_is = record {
     rule = rule;
@@ -182,7 +165,7 @@ module _ {N P K V S C : Type 0} (view : View N P K V S C) (s : List ℕ) (laws :
   one_each : Stands view.table s 1 rule (length known) from left
   one_each = subst (λ n. Stands view.table s n rule (length known) from left) laws.one is.stands
 
-  -- before the next part that has a row, n parts being after it
+  -- before the next part that has a row, with n parts after it
   pub row_first : (held after to : ℕ) → IsAhead view.table frame.rule held after to → held ≡ length parts - frame.base → (next : Tree) (rest : Forest) → skipped left ≡ grown next rest
       → after ≡ tree_count rest → Passing view s old frame (take frame.base parts) parts to (passed view.reading rule known from left state)
   row_first held after to ahead held_is next rest left_is told =
@@ -207,7 +190,7 @@ module _ {N P K V S C : Type 0} (view : View N P K V S C) (s : List ℕ) (laws :
         all_passed left none,
       ))
 
-  -- where parts were passed the frame is that of the rule still
+  -- after parts are passed, the frame is still that of the rule
   pub passed_at : (middle : N) (passed_parts : List P) (p : Passed V S) → view.Grows old middle → AreAll (view.IsPart middle) (drop frame.base passed_parts) p.known → view.Holds middle p.state
       → IsAt view s middle frame (drop frame.base passed_parts) rule p.known p.state
   passed_at middle passed_parts p grows are holds = record {

@@ -1,11 +1,5 @@
--- What passes the parts that have no row, and results of one call after another.
-use Rattle.std.proofs.Common.{◌≡◌, refl, arith, ℕ, ◌+◌, List, ◌++◌, Ok, Err}
-use Rattle.std.specs.Prelude.{Result}
-use Rattle.std.specs.Result.{IfOk}
-use Rattle.sym_core.specs.declared.refusal.Refusal.{Refusal}
-use Rattle.sym_shape.specs.Tree.{Forest, branch, empty, token, fixed, nothing, grown, row_count_all}
-use Rattle.sym_link.specs.Reading.{Open, Reading, ◌>>=◌}
-use Rattle.sym_link.specs.Machine.{Passed, passed, HasRowNext}
+-- Passing the parts that have no row, and the results of one call after another.
+use Rattle.sym_link.proofs.Basics.{◌≡◌, refl, arith, ℕ, ◌+◌, List, ◌++◌, Ok, Err, Result, IfOk, Refusal, Forest, branch, empty, token, fixed, nothing, grown, row_count_all, Open, Reading, ◌>>=◌, Passed, passed, HasRowNext}
 
 pub ok_bind : {A B : Type 0} (m : Result A Refusal) (f : A → Result B Refusal) (P : A → Type 0) (Q : B → Type 0)
     → IfOk m P → ((x : A) → P x → IfOk (f x) Q) → IfOk (m >>= f) Q

@@ -1,8 +1,5 @@
--- Calls one after another keep what room there is, and where the last one lacks room, so did the first.
-use Rattle.std.proofs.Common.{inl, inr, List, [], ◌∷◌, arith}
-use Rattle.std.specs.Prelude.{Result, Err}
-use Rattle.sym_core.specs.declared.refusal.Refusal.{Refusal}
-use Rattle.sym_link.specs.Room.{Listed, KeepRoom, LackRoom, OnlyForRoom}
+-- Calls one after another keep the room that there is; if the last one lacks room, so did the first.
+use Rattle.sym_link.proofs.Basics.{inl, inr, List, [], ◌∷◌, arith, Result, Err, Refusal, Listed, KeepRoom, LackRoom, OnlyForRoom}
 
 pub room_same : (lists : List Listed) → KeepRoom lists lists
 room_same [] = tt
@@ -29,7 +26,7 @@ pub only_then : {A : Type 0} (apart : Type 0) (a b c : List Listed) (result : Re
     → OnlyForRoom apart b c result → OnlyForRoom apart a c result
 only_then apart a b c result ab only is = elim (only is) [ inl lacks ↦ inl (lacked_before a b c ab lacks) | inr more ↦ inr more ]
 
--- a call whose refusal is answered, after another one
+-- a call after another one, when its refusal becomes the answer
 pub only_refused : {A B : Type 0} (few apart : Type 0) (a b c : List Listed) (e : Refusal) → (few → apart) → KeepRoom a b
     → OnlyForRoom {A = A} few b c (Err e) → OnlyForRoom {A = B} apart a c (Err e)
 only_refused few apart a b c e so ab only is = elim (only cc) [ inl lacks ↦ inl (lacked_before a b c ab lacks) | inr more ↦ inr (so more) ]

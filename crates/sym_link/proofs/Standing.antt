@@ -1,22 +1,8 @@
 -- A rule is in a symbol, and so are its parts.
-use Rattle.std.proofs.Common.{◌≡◌, refl, sym, ◌∙◌, ap, subst, arith, ℕ, ◌+◌, ◌-◌, ◌<◌, Bool, true, false, not, ◌&&◌, ◌||◌, ◌≤◌, List, [], ◌∷◌, ◌++◌, length, take, drop, append_assoc, append-nil, length-append, length-drop, add-zero}
-use Rattle.std.proofs.Math.Seq.{drop-append_seam, take-append_seam}
-use Rattle.std.proofs.lemmas.List.{drop-drop}
-use Rattle.sym_shape.specs.declared.rule.Rule.{Rule}
+use Rattle.sym_link.proofs.Basics.{◌≡◌, refl, sym, ◌∙◌, ap, subst, arith, ℕ, ◌+◌, ◌-◌, ◌<◌, Bool, true, false, not, ◌&&◌, ◌||◌, ◌≤◌, List, [], ◌∷◌, ◌++◌, length, take, drop, append_assoc, append-nil, length-append, length-drop, add-zero, drop-append_seam, take-append_seam, drop-drop, Rule, Kind, Name, Number, Byte, Table, Token, symbols_of, bytes_of, Tree, Forest, branch, empty, token, fixed, nothing, grown, spell, spell_all, TakesRule, IsTree, AreTrees, row_count_all, rows_of_all, tree_count, Open, standing, HasRowNext, Owes, cost_all, skipped, passed_by, skipped_from, joined, values_in, Stands, skips, IsCount, IsAhead, false≢true, and_parts, count_trees}
 use Rattle.sym_shape.specs.declared.rule.Sym.{Sym}
-use Rattle.sym_shape.specs.declared.rule.Sym.TheVariants.{Kind, Name, Number, Byte}
-use Rattle.sym_shape.specs.Table.{Table, Token, symbols_of, bytes_of}
 use Rattle.sym_shape.specs.Law.{IsSymbol, AreSymbols}
-use Rattle.sym_shape.specs.Tree.{Tree, Forest, branch, empty, token, fixed, nothing, grown, spell, spell_all, TakesRule, IsTree, AreTrees, row_count_all, rows_of_all, tree_count}
-use Rattle.sym_link.specs.Reading.{Open}
-use Rattle.sym_link.specs.Unfold.{standing}
-use Rattle.sym_link.specs.Machine.{HasRowNext}
-use Rattle.sym_link.specs.Owing.{Owes, cost_all}
 use Rattle.sym_link.specs.Sound.{IsSound}
-use Rattle.sym_link.specs.Parts.{skipped, passed_by, skipped_from, joined, values_in, Stands}
-use Rattle.sym_link.specs.Threads.{skips, IsCount, IsAhead}
-use Rattle.std.proofs.lemmas.Bool.{false≢true, and_parts}
-use Rattle.sym_shape.proofs.Forests.{count_trees}
 
 -- ## Parts without a row that are skipped
 
@@ -122,7 +108,7 @@ stands_skip g s n rule held from left st =
       spelled = subst (λ f. drop rule.place s ≡ rule.taken ++ (spell_all f ++ st.behind)) same st.spelled;
     }
 
--- one more part is passed, which has a value
+-- one more part, which has a value, is passed
 pub stands_take : {S C : Type 0} (g : Table) (s : List ℕ) (n : ℕ) (rule : Open S C) (held from : ℕ) (first : Tree) (rest : Forest)
     → Stands g s n rule held from (grown first rest) → values_in n (grown first nothing) ≡ 1
     → Stands g s n rule (held + 1) (from + length (spell first)) rest
@@ -141,7 +127,7 @@ stands_take g s n rule held from first rest st one =
       spelled = subst (λ f. drop rule.place s ≡ rule.taken ++ (spell_all f ++ st.behind)) same st.spelled;
     }
 
--- what is at the place of the remaining parts
+-- the bytes at the place of the remaining parts
 pub stands_left : {S C : Type 0} (g : Table) (s : List ℕ) (n : ℕ) (rule : Open S C) (held from : ℕ) (left : Forest) (st : Stands g s n rule held from left)
     → drop from s ≡ spell_all left ++ st.behind
 stands_left g s n rule held from left st =
@@ -154,7 +140,7 @@ stands_left g s n rule held from left st =
     ap (λ k. drop k s) (omega (arith, st.starts, size)) ∙ sym (drop-drop (length front) rule.place s) ∙ ap (λ x. drop (length front) x) whole
     ∙ drop-append_seam front (spell_all left ++ st.behind)
 
--- a rule that begins is at the place where it is the next part
+-- a rule that begins is in the symbol, at the place of the next part
 pub stands_inner : {S C : Type 0} (g : Table) (s : List ℕ) (n : ℕ) (rule : Open S C) (held from : ℕ) (inner_rule : Rule) (taken : List ℕ) (inner rest : Forest) (context : C) (state : S)
     → IsSound g → Stands g s n rule held from (grown (branch inner_rule taken inner) rest)
     → Stands g s n (standing inner_rule taken from context state) 0 (from + length taken) inner
@@ -175,7 +161,7 @@ stands_inner g s n rule held from inner_rule taken inner rest context state soun
           ∙ append_assoc (taken ++ spell_all inner) (spell_all rest) st.behind ∙ append_assoc taken (spell_all inner) (spell_all rest ++ st.behind);
     }
 
--- what is at the place of the next part with a row, which is a rule's
+-- the bytes at the place of the next part with a row, if that part is a rule
 pub stands_next : {S C : Type 0} (g : Table) (s : List ℕ) (n : ℕ) (rule : Open S C) (held from : ℕ) (left : Forest) (inner_rule : Rule) (taken : List ℕ) (inner rest : Forest)
     → Stands g s n rule held from left → skipped left ≡ grown (branch inner_rule taken inner) rest
     → (behind : List ℕ) × (drop (skipped_from from left) s ≡ taken ++ (spell_all inner ++ behind))
@@ -187,7 +173,7 @@ stands_next g s n rule held from left inner_rule taken inner rest st is =
           ∙ append_assoc (taken ++ spell_all inner) (spell_all rest) at.behind ∙ append_assoc taken (spell_all inner) (spell_all rest ++ at.behind),
     )
 
--- the next part with a row, which is a rule's, is a tree of a kind
+-- the next part with a row is a tree of a kind, if that part is a rule
 pub tree_next : {S C : Type 0} (g : Table) (s : List ℕ) (n : ℕ) (rule : Open S C) (held from : ℕ) (left : Forest) (inner_rule : Rule) (taken : List ℕ) (inner rest : Forest)
     → IsSound g → Stands g s n rule held from left → skipped left ≡ grown (branch inner_rule taken inner) rest
     → (kind : ℕ) × (kind < g.kinds) × IsTree g (Kind kind) (branch inner_rule taken inner)
@@ -211,7 +197,7 @@ stands_within g s n rule held from left sound st =
           (sound.filled st.kind rule.rule rule.taken (joined st.passed left) st.is_kind (st.takes, st.trees)),
     )
 
--- what a rule has left ends within the symbol
+-- the remaining parts of a rule end within the symbol
 pub stands_end : {S C : Type 0} (g : Table) (s : List ℕ) (n : ℕ) (rule : Open S C) (held from : ℕ) (left : Forest) → IsSound g → Stands g s n rule held from left
     → from + length (spell_all left) ≤ length s
 stands_end g s n rule held from left sound st =
@@ -244,7 +230,7 @@ no_rows (grown (fixed byte) rest) from number none = no_rows rest (from + 1) (nu
 no_rows (grown (token t) rest) from number none = absurd (omega (arith, none))
 no_rows (grown (branch rule taken parts) rest) from number none = absurd (omega (arith, none))
 
--- where no row is left, each part that is left is passed
+-- if no row is left, all remaining parts are passed
 pub all_passed : (left : Forest) → row_count_all left ≡ 0 → skips left ≡ tree_count left
 all_passed nothing none = refl
 all_passed (grown empty rest) none = omega (arith, all_passed rest (omega (arith, none)))
@@ -252,7 +238,7 @@ all_passed (grown (fixed byte) rest) none = omega (arith, all_passed rest (omega
 all_passed (grown (token t) rest) none = absurd (omega (arith, none))
 all_passed (grown (branch rule taken parts) rest) none = absurd (omega (arith, none))
 
--- and otherwise those before the next one that has a row
+-- if a row is left, the parts before the next one that has a row are passed
 some_passed : (left rest : Forest) (next : Tree) → skipped left ≡ grown next rest → skips left + 1 + tree_count rest ≡ tree_count left
 some_passed nothing rest next is = cc
 some_passed (grown empty others) rest next is = omega (arith, some_passed others rest next is)
@@ -267,7 +253,7 @@ count_joined (grown (fixed byte) passed) left = omega (arith, count_joined passe
 count_joined (grown (token t) passed) left = omega (arith, count_joined passed left)
 count_joined (grown (branch rule taken parts) passed) left = omega (arith, count_joined passed left)
 
--- where a rule's parts are counted, so are those before the next one that has a row
+-- if the parts of a rule are counted, so are the parts before its next one that has a row
 pub ahead_by_count : (g : Table) (number held after count : ℕ) → IsCount g number count → IsAhead g number held after (count - (after + 1))
 ahead_by_count g number held after count is_count kind rule taken is_kind takes number_is parts left rest next trees held_is left_is told =
     omega (
@@ -290,12 +276,12 @@ abbrev are_none : List Sym → Bool
 are_none [] = true
 are_none (x ∷ xs) = false
 
--- each of these symbols except the last has one
+-- each of these symbols except the last always has a row
 abbrev pub are_rows : Table → List Sym → Bool
 are_rows g [] = true
 are_rows g (x ∷ xs) = (are_none xs || has_row g x) && are_rows g xs
 
--- where each part of a rule except the last has a row, the next one has
+-- if each part of a rule except the last has a row, no part is skipped before the next one that has a row
 pub ahead_by_rows : (g : Table) (number held after : ℕ)
     → ((kind : ℕ) (rule : Rule) (taken : List ℕ) → kind < g.kinds → TakesRule g kind rule taken → rule.number ≡ number → are_rows g (symbols_of rule) ≡ true)
     → IsAhead g number held after held
@@ -332,7 +318,7 @@ ahead_by_rows g number held after rows kind rule taken is_kind takes number_is p
         none_skipped xs parts left trees.1 (and_parts (are_none xs || has_row g x) (are_rows g xs) all).1 is
     none_skipped [] (grown t parts) left trees all is = absurd trees
 
--- What comes next where some row is left: a rule or a token.
+-- What comes next if a row is left: a rule or a token.
 pub data NextPart : Forest → Type 0 where
   a_rule : {left : Forest} → (rule : Rule) (taken : List ℕ) (inner rest : Forest) → skipped left ≡ grown (branch rule taken inner) rest → NextPart left
   a_token : {left : Forest} → (t : Token) (rest : Forest) → skipped left ≡ grown (token t) rest → NextPart left

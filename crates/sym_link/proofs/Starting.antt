@@ -1,29 +1,10 @@
 -- A driver at the beginning of a symbol, and at its end.
-use Rattle.std.proofs.Common.{◌≡◌, refl, sym, ◌∙◌, ap, subst, arith, ℕ, ◌+◌, ◌*◌, ◌≤◌, List, [], ◌∷◌, ◌++◌, length, drop, Ok, Err, false, append-nil, length-append}
-use Rattle.std.specs.Prelude.{Result, Option, Some, None}
-use Rattle.std.specs.Result.{IfOk}
-use Rattle.std.proofs.lemmas.Bool.{false≢true}
+use Rattle.sym_link.proofs.Basics.{◌≡◌, refl, sym, ◌∙◌, ap, subst, arith, ℕ, ◌+◌, ◌*◌, ◌≤◌, List, [], ◌∷◌, ◌++◌, length, drop, Ok, Err, false, append-nil, length-append, Result, Option, Some, None, IfOk, false≢true, Refusal, Row, Rule, Kind, Table, symbols_of, Tree, Forest, branch, empty, token, fixed, nothing, spell, spell_all, TakesRule, IsTree, AreTrees, row_count_all, rows_of, rows_of_all, Frame, Found, Reading, ◌>>=◌, found, alone, standing, unfold_tree, unfold_forest, Stands, AreAll, View, IsLinking, HasRoom, owed_behind, Begun, begun, Begins, cost, owed, link_steps, Due, waiting, starting, IsDue, IsShape, meaning_of, HoldsAll, left_from, Follows, IsDone, IsDriving, length-rows_of}
 use Rattle.sym_core.specs.Number.{FitsSymbol}
-use Rattle.sym_core.specs.declared.refusal.Refusal.{Refusal}
-use Rattle.sym_shape.specs.declared.rule.Row.{Row}
-use Rattle.sym_shape.specs.declared.rule.Rule.{Rule}
-use Rattle.sym_shape.specs.declared.rule.Sym.TheVariants.{Kind}
-use Rattle.sym_shape.specs.Table.{Table, symbols_of}
-use Rattle.sym_shape.specs.Tree.{Tree, Forest, branch, empty, token, fixed, nothing, spell, spell_all, TakesRule, IsTree, AreTrees, row_count_all, rows_of, rows_of_all}
-use Rattle.sym_link.specs.declared.language.Frame.{Frame}
-use Rattle.sym_link.specs.Reading.{Found, Reading, ◌>>=◌}
-use Rattle.sym_link.specs.Unfold.{found, alone, standing, unfold_tree, unfold_forest}
 use Rattle.sym_link.specs.Machine as machine
-use Rattle.sym_link.specs.Parts.{Stands}
-use Rattle.sym_link.specs.Driving.{AreAll}
-use Rattle.sym_link.specs.Linking.{View, IsLinking, HasRoom, owed_behind, Begun, begun, Begins}
-use Rattle.sym_link.specs.Owing.{cost, owed}
-use Rattle.sym_link.specs.Stepping.{link_steps, Due, waiting, starting, IsDue}
-use Rattle.sym_link.specs.Following.{IsShape, meaning_of, HoldsAll, left_from, Follows, IsDone, IsDriving}
 use Rattle.sym_link.proofs.Lists.{no_last}
 use Rattle.sym_link.proofs.Results.{ok_any}
 use Rattle.sym_link.proofs.Opening.{root_outcome}
-use Rattle.sym_shape.proofs.Forests.{length-rows_of}
 use Rattle.sym_link.proofs.Standing.{stands_end}
 use Rattle.sym_link.proofs.Stepping.{root_due}
 use Rattle.sym_link.proofs.Following.{Innermost}
@@ -140,7 +121,7 @@ root_follows view s shape tree old new opened laws is fits r no_node number plac
 
 -- ## Rooms
 
--- the language may take the next row, or close the innermost rule
+-- the language has room to take the next row, or to close the innermost rule
 pub room_inside : {N P K V S C : Type 0} (view : View N P K V S C) (s : List ℕ) (shape : List Row) (whole : Result (Found (List V) S) Refusal) (due : Due)
     (nodes : N) (next : ℕ) (lower : List (Frame K)) (code : Frame K) (parts : List P) → IsLinking view → FitsSymbol s
     → Innermost view s shape whole due nodes next lower code parts → HasRoom view s nodes (owed_behind view code parts)
@@ -151,7 +132,7 @@ room_inside view s shape whole due nodes next lower code parts laws fits i = rec
       (omega (arith, i.before, stands_end view.table s (length view.reading.rowless) i.top.rule (length i.known) i.top.from i.top.left laws.sound i.inside.stands)) i.paid;
 }
 
--- the language may begin
+-- the language has room to begin
 pub room_root : {N P K V S C : Type 0} (view : View N P K V S C) (s : List ℕ) (nodes : N) → IsLinking view → FitsSymbol s
     → view.size nodes ≡ 0 → view.IsPaid nodes 0 → HasRoom view s nodes 0
 room_root view s nodes laws fits none paid = record {
@@ -180,7 +161,7 @@ one_of (Ok x) u c known state h = second (u x) c known state h
     second (Err e) c known state h = cc
     second (Ok y) c known state h = third (c y) known state h
 
--- what a rule means is one value
+-- a rule means one value
 pub one_value : {V S C : Type 0} (reading : Reading V S C) (context : C) (first : S) (rule : Rule) (taken : List ℕ) (inner : Forest) (known : List V) (state : S)
     → unfold_tree reading context 0 (branch rule taken inner) first ≡ Ok (found known state) → (v : V) × (known ≡ v ∷ [])
 one_value reading context first rule taken inner known state h =
@@ -188,7 +169,7 @@ one_value reading context first rule taken inner known state h =
     (λ begun. unfold_forest reading (standing rule taken 0 context first) [] (0 + length taken) inner begun)
     (λ inner. reading.close (standing rule taken 0 context first) inner.value inner.state) known state h
 
--- one value is that of one part
+-- if parts denote a list of one value, they are one part
 one_part : {P V : Type 0} (Is : P → V → Type 0) (parts : List P) (v : V) → AreAll Is parts (v ∷ []) → (p : P) × (parts ≡ p ∷ []) × Is p v
 one_part Is (p ∷ []) v are = (p, refl, are.0)
 one_part Is [] v are = absurd are
@@ -228,7 +209,7 @@ done view s shape tree steps nodes next codes parts laws r f no_frame =
 
 -- ## For a language's own linker
 
--- at most two steps a row at every moment, refused or not
+-- at every moment, refused or not, at most two steps were taken for each row
 pub driving_few : {N P K V S C : Type 0} (view : View N P K V S C) (s : List ℕ) (shape : List Row) (tree : Tree) (nodes : N) (steps : ℕ) (refused : Option Refusal) (next : ℕ)
     (codes : List (Frame K)) (parts : List P) → IsDriving view s shape tree nodes steps refused next codes parts → steps ≤ 2 * length shape
 driving_few view s shape tree nodes steps None next codes parts driving = omega (arith, driving.1, driving.2)

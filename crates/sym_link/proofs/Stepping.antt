@@ -1,11 +1,6 @@
 -- The steps that are left after each move.
-use Rattle.std.proofs.Common.{◌≡◌, refl, sym, ◌∙◌, ap, arith, ℕ, ◌+◌, List, ◌∷◌, Bool, true, false, if◌then◌else◌}
-use Rattle.sym_shape.specs.declared.rule.Rule.{Rule}
-use Rattle.sym_shape.specs.Table.{Token}
-use Rattle.sym_shape.specs.Tree.{Forest, branch, empty, token, fixed, nothing, grown, row_count_all}
+use Rattle.sym_link.proofs.Basics.{◌≡◌, refl, sym, ◌∙◌, ap, arith, ℕ, ◌+◌, List, ◌∷◌, Bool, true, false, if◌then◌else◌, Rule, Token, Forest, branch, empty, token, fixed, nothing, grown, row_count_all, skipped, no_part_has_row, closes_at_once, link_steps, link_steps_all, Due, waiting, starting, steps_ahead, IsDue, CountsClose, CountsToken}
 use Rattle.sym_link.specs.Machine.{Frame}
-use Rattle.sym_link.specs.Parts.{skipped}
-use Rattle.sym_link.specs.Stepping.{no_part_has_row, closes_at_once, link_steps, link_steps_all, Due, waiting, starting, steps_ahead, IsDue, CountsClose, CountsToken}
 
 -- ## Parts
 
@@ -59,7 +54,7 @@ token_at_once left t rest left_is none = sym (skip_at_once left) ∙ ap closes_a
 pub rule_not_at_once : (left : Forest) (rule : Rule) (taken : List ℕ) (inner rest : Forest) → skipped left ≡ grown (branch rule taken inner) rest → closes_at_once left ≡ false
 rule_not_at_once left rule taken inner rest left_is = sym (skip_at_once left) ∙ ap closes_at_once left_is
 
--- nor one in which a token comes next, and others after it
+-- a rule in which a token comes next and other rows follow doesn't close at once, either
 pub token_not_at_once : (left : Forest) (t : Token) (rest : Forest) → skipped left ≡ grown (token t) rest → (row_count_all rest ≡ 0 → ⊥) → closes_at_once left ≡ false
 token_not_at_once left t rest left_is some = sym (skip_at_once left) ∙ ap closes_at_once left_is ∙ some_row rest some
 
@@ -81,7 +76,7 @@ close_due (waiting m) top frames n is none counts = omega (arith, is, counts, no
 close_due (starting m most) top frames n is none counts =
     omega (arith, is, counts, at_once_is (closes_at_once top.left) (link_steps_all top.left + 1) (none_at_once top.left none))
 
--- a token is taken in it
+-- a token is taken in the innermost rule
 pub token_due : {V S C : Type 0} (due : Due) (top : Frame V S C) (frames : List (Frame V S C)) (n : ℕ) (t : Token) (rest : Forest) → IsDue due (top ∷ frames)
     → skipped top.left ≡ grown (token t) rest → CountsToken due (row_count_all rest) n → link_steps_all rest + 1 + steps_ahead frames ≡ n
 token_due (waiting m) top frames n t rest is left_is counts = omega (arith, is, counts, skip_steps top.left, ap link_steps_all left_is)
@@ -94,7 +89,7 @@ token_due (starting m most) top frames n t rest is left_is counts =
       at_once_is (closes_at_once top.left) (link_steps_all top.left + 1) (token_at_once top.left t rest left_is counts.1),
     )
 
--- a rule begins in it
+-- a rule begins in the innermost rule
 pub enter_due : {V S C : Type 0} (top : Frame V S C) (frames : List (Frame V S C)) (n : ℕ) (rule : Rule) (taken : List ℕ) (inner rest : Forest) → IsDue (waiting (n + 1)) (top ∷ frames)
     → skipped top.left ≡ grown (branch rule taken inner) rest
     → (if closes_at_once inner then 0 else (link_steps_all inner + 1)) + (link_steps_all rest + 1 + steps_ahead frames) ≡ n
@@ -106,10 +101,10 @@ pub root_due : (n : ℕ) (rule : Rule) (taken : List ℕ) (inner : Forest) → l
     → (if closes_at_once inner then 0 else (link_steps_all inner + 1)) + 0 ≡ n
 root_due n rule taken inner is = omega (arith, is, chosen (closes_at_once inner) (link_steps_all inner))
 
--- the step in which it begins ends
+-- the step in which a rule begins ends
 pub push_due : {V S C : Type 0} (top : Frame V S C) (frames : List (Frame V S C)) (n most : ℕ) → IsDue (starting n most) (top ∷ frames) → closes_at_once top.left ≡ false → IsDue (waiting n) (top ∷ frames)
 push_due top frames n most is later = omega (arith, is, later_is (closes_at_once top.left) (link_steps_all top.left + 1) later)
 
--- an open rule takes a step at least
+-- an open rule takes at least one step
 pub some_due : {V S C : Type 0} (top : Frame V S C) (frames : List (Frame V S C)) (steps : ℕ) → IsDue (waiting steps) (top ∷ frames) → (n : ℕ) × (steps ≡ n + 1)
 some_due top frames steps is = (link_steps_all top.left + steps_ahead frames, omega (arith, is))

@@ -1,23 +1,6 @@
 -- A driver that takes the next row stays on its way.
-use Rattle.std.proofs.Common.{◌≡◌, refl, sym, ◌∙◌, ap, subst, arith, true, ℕ, zero, suc, ◌+◌, ◌-◌, ◌<◌, ◌≤◌, List, [], ◌∷◌, ◌++◌, length, take, drop, Ok, add-one, append_assoc, append-nil, length-append}
-use Rattle.std.specs.Prelude.{Result, slice_index_or}
-use Rattle.std.specs.Result.{IfOk}
-use Rattle.std.proofs.lemmas.List.{length-take-le}
-use Rattle.sym_core.specs.declared.refusal.Refusal.{Refusal}
-use Rattle.sym_shape.specs.declared.rule.Row.{Row}
-use Rattle.sym_shape.specs.declared.rule.Rule.{Rule}
-use Rattle.sym_shape.specs.Table.{Table, Token, bytes_of}
-use Rattle.sym_shape.specs.Tree.{Forest, branch, token, grown, spell, spell_all, row_count_all, rows_of_all, tree_count}
-use Rattle.sym_link.specs.declared.language.Frame.{Frame}
-use Rattle.sym_link.specs.Reading.{Found, Open, ◌>>=◌}
-use Rattle.sym_link.specs.Unfold.{found}
+use Rattle.sym_link.proofs.Basics.{◌≡◌, refl, sym, ◌∙◌, ap, subst, arith, true, ℕ, zero, suc, ◌+◌, ◌-◌, ◌<◌, ◌≤◌, List, [], ◌∷◌, ◌++◌, length, take, drop, Ok, add-one, append_assoc, append-nil, length-append, Result, slice_index_or, IfOk, length-take-le, Refusal, Row, Rule, Table, Token, bytes_of, Forest, branch, token, grown, spell, spell_all, row_count_all, rows_of_all, tree_count, Frame, Found, Open, ◌>>=◌, found, skipped, passed_by, skipped_from, values_in, Stands, AreAll, Fails, View, IsLinking, IsRuleRow, IsTokenRow, AddTwo, owed_behind, owed_next, next_of, begun, taken_in, Begins, Takes, cost_all, closes_at_once, Due, waiting, starting, CountsToken, HoldsAll, Follows}
 use Rattle.sym_link.specs.Machine as machine
-use Rattle.sym_link.specs.Parts.{skipped, passed_by, skipped_from, values_in, Stands}
-use Rattle.sym_link.specs.Driving.{AreAll, Fails}
-use Rattle.sym_link.specs.Linking.{View, IsLinking, IsRuleRow, IsTokenRow, AddTwo, owed_behind, owed_next, next_of, begun, taken_in, Begins, Takes}
-use Rattle.sym_link.specs.Owing.{cost_all}
-use Rattle.sym_link.specs.Stepping.{closes_at_once, Due, waiting, starting, CountsToken}
-use Rattle.sym_link.specs.Following.{HoldsAll, Follows}
 use Rattle.sym_link.proofs.Opening.{machine_in, entering_outcome, machine_at, token_outcome, BeginsBehind, begun_count, taken_count}
 use Rattle.sym_link.proofs.Standing.{skip_split, skip_from, skip_rows, skip_count, skip_cost, joined_spell, stands_skip, stands_take, stands_left, stands_inner, token_own}
 use Rattle.sym_link.proofs.Cases.{as_many}
@@ -36,11 +19,11 @@ dropped_one xs more n x d h = rw add-one (dropped xs more n x d h)
 pub dropped_next : {A : Type 0} (xs more : List A) (n : ℕ) (x : A) → drop n xs ≡ x ∷ more → (drop (n + 1) xs ≡ more) × (n < length xs)
 dropped_next xs more n x h = let is = dropped_one xs more n x x h in (is.0, is.1)
 
--- what is right of each value is right of the present one
+-- what holds of the value, if there is one, holds of this value
 pub of_ok : {A : Type 0} (m : Result A Refusal) (x : A) (P : A → Type 0) → m ≡ Ok x → IfOk m P → P x
 of_ok m x P is p = subst (λ r. IfOk r P) is p
 
--- the rows that are left, past the parts that have none
+-- skipping the parts without a row leaves the remaining rows as they are
 skipped_rows : {V S C : Type 0} (top : machine.Frame V S C) (frames : List (machine.Frame V S C)) (next : ℕ) (left : Forest) → skipped top.left ≡ left
     → machine.pending (top ∷ frames) next ≡ machine.pending (machine.frame top.rule (skipped_from top.from top.left) left top.outer ∷ frames) next
 skipped_rows top frames next left left_is =

@@ -1,22 +1,6 @@
--- A language with counted nodes keeps to what it keeps to without the count, and says the same of a symbol.
-use Rattle.std.proofs.Common.{◌≡◌, refl, sym, ◌∙◌, ap, subst, arith, add-zero, ℕ, ◌+◌, List, [], ◌∷◌, ◌++◌, length, take, drop, Ok, Err}
-use Rattle.std.specs.Prelude.{Result, OnOk}
-use Rattle.std.specs.Result.{IfOk}
-use Rattle.sym_core.specs.declared.refusal.Refusal.{Refusal}
+-- A language with its nodes counted keeps the same laws, and a symbol means the same in it.
+use Rattle.sym_link.proofs.Basics.{◌≡◌, refl, sym, ◌∙◌, ap, subst, arith, add-zero, ℕ, ◌+◌, List, [], ◌∷◌, ◌++◌, length, take, drop, Ok, Err, Result, OnOk, IfOk, Refusal, Row, Rule, Table, Token, Tree, Forest, branch, empty, token, fixed, nothing, grown, spell, Frame, Found, Open, Next, Reading, ◌>>=◌, found, alone, standing, unfold_tree, unfold_forest, Passed, passed, ended, Stands, Fails, View, IsLinking, HasRoom, IsInside, Begun, begun, next_of, taken_in, Begins, Takes, Gives, Puts, OpensRoot, Opens, TakesToken, ClosesRule, IsAt, IsOpenAt, Goes, GoesOn, BeginsAs, BeginsIn, ClosesAll, IsTaken, IsThreading, IsDone, meaning_of}
 use Rattle.sym_core.specs.declared.refusal.Refusal.TheVariants as refusals
-use Rattle.sym_shape.specs.declared.rule.Row.{Row}
-use Rattle.sym_shape.specs.declared.rule.Rule.{Rule}
-use Rattle.sym_shape.specs.Table.{Table, Token}
-use Rattle.sym_shape.specs.Tree.{Tree, Forest, branch, empty, token, fixed, nothing, grown, spell}
-use Rattle.sym_link.specs.declared.language.Frame.{Frame}
-use Rattle.sym_link.specs.Reading.{Found, Open, Next, Reading, ◌>>=◌}
-use Rattle.sym_link.specs.Unfold.{found, alone, standing, unfold_tree, unfold_forest}
-use Rattle.sym_link.specs.Machine.{Passed, passed, ended}
-use Rattle.sym_link.specs.Parts.{Stands}
-use Rattle.sym_link.specs.Driving.{Fails}
-use Rattle.sym_link.specs.Linking.{View, IsLinking, HasRoom, IsInside, Begun, begun, next_of, taken_in, Begins, Takes, Gives, Puts, OpensRoot, Opens, TakesToken, ClosesRule}
-use Rattle.sym_link.specs.Threads.{IsAt, IsOpenAt, Goes, GoesOn, BeginsAs, BeginsIn, ClosesAll, IsTaken, IsThreading}
-use Rattle.sym_link.specs.Following.{IsDone, meaning_of}
 use Rattle.sym_link.specs.Tally.{Tally, tally, Makes, untallied, tallied, tallied_view, closing_makes, nodes_in, nodes_in_all}
 use Rattle.sym_link.proofs.Steps.{bind_assoc, bind_same}
 use Rattle.sym_link.proofs.Results.{ok_bind, ok_any, ok_weaker}
@@ -163,7 +147,7 @@ pub meaning_untallied : {N P K V S C : Type 0} (view : View N P K V S C) (makes 
     → (meaning_of (tallied_view view makes) shape >>= plain) ≡ meaning_of view shape
 meaning_untallied view makes shape = tree_untallied view.reading makes view.around 0 shape (tally view.first 0)
 
--- a refusal stays one
+-- a refusal stays the same, whatever follows it
 pub fails_behind : {A B : Type 0} (e : Refusal) (m : Result A Refusal) (k : A → Result B Refusal) → Fails e m → Fails e (m >>= k)
 fails_behind refusals.Memory m k fails = tt
 fails_behind e m k fails = ap (λ r. r >>= k) fails
@@ -206,7 +190,7 @@ begun_with n b = record {
   state = tally b.state n;
 }
 
--- beginning a rule and taking a token make nothing
+-- beginning a rule and taking a token make no nodes
 module _ {V S C : Type 0} (reading : Reading V S C) (makes : Makes V S C) where
   begun_tallied : (rule : Rule) (taken : List ℕ) (place : ℕ) (parts : Forest) (n : ℕ) (next : Next V S C)
       → begun (tallied reading makes) rule taken place parts (next_with n next) ≡ (begun reading rule taken place parts next >>= λ b. Ok (begun_with n b))
@@ -287,7 +271,7 @@ module _ {V S C : Type 0} (reading : Reading V S C) (number : ℕ → ℕ) where
       ∙ bind_same next (λ x. taken_in counting t place (next_with n x)) (λ x. taken_in reading t place x >>= with_nodes n) (taken_tallied reading (closing_makes number) t place n)
       ∙ sym (bind_assoc next (taken_in reading t place) (with_nodes n))
 
-  -- what is counted is what the rules make
+  -- the count is that of the nodes that the rules make
   mutual
     pub tree_counts : (context : C) (place : ℕ) (tree : Tree) (now : Tally S)
         → IfOk (unfold_tree counting context place tree now) (λ whole. whole.state.nodes ≡ now.nodes + nodes_in number tree)

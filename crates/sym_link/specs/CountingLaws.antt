@@ -1,4 +1,4 @@
--- The small language keeps to what every language does.
+-- The small language keeps the laws of every language.
 use Rattle.std.proofs.Common.{◌≡◌, refl, ◌∙◌, ap, arith, ℕ, List, ◌++◌, length, length-append}
 use Rattle.std.proofs.lemmas.List.{get_or_append_left}
 use Rattle.sym_core.specs.declared.NameClass.{NameClass}

@@ -9,7 +9,7 @@ AreAll Is [] [] = Unit {0}
 AreAll Is (p ∷ ps) (v ∷ vs) = Is p v × AreAll Is ps vs
 AreAll Is _ _ = ⊥
 
--- a refusal is that of the reading; a want of memory says nothing
+-- a refusal is that of the reading, unless it is for want of memory
 abbrev pub Fails : {A : Type 0} → Refusal → Result A Refusal → Type 0
 Fails refusals.Memory read = Unit {0}
 Fails e read = read ≡ Err e

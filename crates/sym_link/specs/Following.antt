@@ -57,18 +57,18 @@ abbrev pub left_from : {V S C : Type 0} → (end : ℕ) → List (machine.Frame 
 left_from end [] = end
 left_from end (top ∷ frames) = top.from
 
--- each rule ends where the parts begin that the rule around it has left
+-- each rule ends where the remaining parts of the rule around it begin
 abbrev pub Nests : {V S C : Type 0} → (end : ℕ) → List (machine.Frame V S C) → Type 0
 Nests end [] = Unit {0}
 Nests end (top ∷ frames) = (top.from + length (spell_all top.left) ≡ left_from end frames) × Nests end frames
 
--- a rule that is still unknown has the place before its own bytes
+-- while no value of the innermost rule is known, only bytes up to the rule's place have paid
 abbrev pub IsEarly : {V S C : Type 0} → (reached : ℕ) → List (machine.Frame V S C) → (known : List V) → Type 0
 IsEarly reached [] known = Unit {0}
 IsEarly reached (top ∷ frames) known = length known ≡ 0 → reached ≤ top.rule.place
 
--- A rule has begun in a step that ends with at most n nodes. If it closes in that step, it adds no more than that, where it
--- closes with these parts or is refused before.
+-- A rule has begun in a step that ends with at most n nodes. If the rule can close in that step, there are at most n nodes
+-- after it, whether it closes over its parts or is refused before.
 pub record BeginsWithin {N P K V S C : Type 0} (view : View N P K V S C) (nodes : N) (top : machine.Frame V S C) (known : List V) (most : ℕ) : Type 0 where
   pub none_known : known ≡ []
   pub size : view.size nodes ≤ most
@@ -76,7 +76,7 @@ pub record BeginsWithin {N P K V S C : Type 0} (view : View N P K V S C) (nodes 
       → view.size nodes + view.owes top.rule.rule.number 0 + view.closes top.rule.rule.number own ≤ most + view.owes top.rule.rule.number (length own)
   pub refused : closes_at_once top.left ≡ true → view.size nodes + view.closes top.rule.rule.number [] ≤ most
 
--- this holds of the innermost open rule in the step in which it begins
+-- the innermost open rule stays within the bound of the step in which it begins
 abbrev pub IsLight : {N P K V S C : Type 0} → View N P K V S C → (nodes : N) → Due → List (machine.Frame V S C) → (known : List V) → Type 0
 IsLight view nodes (waiting n) frames known = Unit {0}
 IsLight view nodes (starting n most) [] known = ⊥
@@ -115,7 +115,7 @@ abbrev pub FollowsOn : {N P K V S C : Type 0} → View N P K V S C → (s : List
 FollowsOn view s shape whole steps nodes codes parts (Ok next) = Follows view s shape whole (waiting steps) nodes next codes parts
 FollowsOn view s shape whole steps nodes codes parts (Err e) = Fails e whole
 
--- After the only token of a rule, and where the rule has none, the rule may close with n steps left after it; or it has other
+-- After the only token of a rule, or in a rule without a token, the rule may close with n steps left after it; or it has other
 -- rows, and waits for them with n steps left.
 abbrev pub FollowsAlone : {N P K V S C : Type 0} → View N P K V S C → (s : List ℕ) → (shape : List Row) → (whole : Result (Found (List V) S) Refusal) → (left : ℕ)
     → (nodes : N) → (lower : List (Frame K)) → (frame : Frame K) → List P → Result ℕ Refusal → Type 0
@@ -133,7 +133,7 @@ pub record Fits (s : List ℕ) (shape : List Row) : Type 0 where
   pub symbol : FitsSymbol s
   pub rows : length shape ≤ 4 * length s + 4
 
--- The frame's rule is the innermost one of a driver that is on its way, and the next row is after it.
+-- The frame's rule is the innermost one of a driver that is on its way, and the next row is after the rule's rows.
 pub record CanClose {N P K V S C : Type 0} (view : View N P K V S C) (s : List ℕ) (nodes : N) (frame : Frame K) (parts : List P) : Type 0 where
   pub whole : Result (Found (List V) S) Refusal
   pub shape : List Row
@@ -144,7 +144,7 @@ pub record CanClose {N P K V S C : Type 0} (view : View N P K V S C) (s : List �
   pub ends : frame.end ≡ next
   pub fits : Fits s shape
 
--- The frame's rule is the innermost one of a driver that is on its way, and may end before the next row or after it.
+-- The frame's rule is the innermost one of a driver that is on its way, and begins in this step.
 pub record CanSettle {N P K V S C : Type 0} (view : View N P K V S C) (s : List ℕ) (shape : List Row) (nodes : N) (next : ℕ) (lower : List (Frame K)) (frame : Frame K) (parts : List P) : Type 0 where
   pub whole : Result (Found (List V) S) Refusal
   pub steps : ℕ
@@ -152,7 +152,7 @@ pub record CanSettle {N P K V S C : Type 0} (view : View N P K V S C) (s : List 
   pub follows : Follows view s shape whole (starting steps most) nodes next (lower ++ frame ∷ []) parts
   pub fits : Fits s shape
 
--- The frame's rule is the innermost one of a driver that is on its way, and the next row isn't after it.
+-- The frame's rule is the innermost one of a driver that is on its way, and the next row is one of the rule's rows.
 pub record CanTake {N P K V S C : Type 0} (view : View N P K V S C) (s : List ℕ) (shape : List Row) (due : Due) (nodes : N) (next : ℕ) (codes : List (Frame K)) (frame : Frame K) (parts : List P) : Type 0 where
   pub whole : Result (Found (List V) S) Refusal
   pub follows : Follows view s shape whole due nodes next codes parts
@@ -160,7 +160,7 @@ pub record CanTake {N P K V S C : Type 0} (view : View N P K V S C) (s : List �
   pub open_still : frame.end ≢ next
   pub fits : Fits s shape
 
--- after its token there are at most n nodes, also where the rule closes there
+-- after the token of a rule there are at most n nodes, also if the rule closes there
 abbrev pub StaysWithin : {N P K V S C : Type 0} → View N P K V S C → (nodes : N) → Frame K → List P → (most : ℕ) → Result ℕ Refusal → Type 0
 StaysWithin view nodes frame parts most (Ok behind) =
     (view.size nodes ≤ most) × (frame.end ≡ behind → view.size nodes + view.closes frame.rule (drop frame.base parts) ≤ most)
@@ -175,20 +175,20 @@ pub record IsFresh {N P K V S C : Type 0} (view : View N P K V S C) (nodes : N) 
   pub holds : view.Holds nodes view.first
   pub paid : view.IsPaid nodes 0
 
--- A driver of such a symbol hasn't begun yet.
+-- A driver of a symbol with this shape hasn't begun yet.
 pub record CanBegin {N P K V S C : Type 0} (view : View N P K V S C) (s : List ℕ) (shape : List Row) (nodes : N) (next : ℕ) (codes : List (Frame K)) (parts : List P) : Type 0 where
   pub tree : Tree
   pub is_shape : IsShape view.table s shape tree
   pub fresh : IsFresh view nodes next codes parts
   pub fits : Fits s shape
 
--- a driver that took n steps is on the way to what a tree means, from its beginning on, with the rest of the tree's steps left
+-- a driver that took n steps hasn't begun, or is on the way to what a tree means, with the rest of the tree's steps left
 abbrev pub IsOnWay : {N P K V S C : Type 0} → View N P K V S C → (s : List ℕ) → (shape : List Row) → Tree → (taken : ℕ) → (nodes : N) → (next : ℕ) → List (Frame K) → List P → Type 0
 IsOnWay view s shape tree taken nodes next codes parts =
     (IsFresh view nodes next codes parts × (taken ≡ 0))
     ⊎ ((left : ℕ) × (taken + left ≡ link_steps tree) × Follows view s shape (meaning_of view tree) (waiting left) nodes next codes parts)
 
--- A driver of such a symbol is on its way.
+-- A driver of a symbol with this shape is on its way.
 pub record CanMove {N P K V S C : Type 0} (view : View N P K V S C) (s : List ℕ) (shape : List Row) (nodes : N) (next : ℕ) (codes : List (Frame K)) (parts : List P) : Type 0 where
   pub tree : Tree
   pub is_shape : IsShape view.table s shape tree
@@ -209,7 +209,7 @@ pub record IsDone {N P K V S C : Type 0} (view : View N P K V S C) (s : List ℕ
   pub size : view.size nodes ≤ view.most (length s)
   pub paid : view.IsPaid nodes (length s)
 
--- A move continues to the next row or to another one, and is one step; or nothing is left to do, and all steps are taken.
+-- A move is one step and continues to a row; or nothing is left to do, and all steps are taken.
 abbrev pub Moves : {N P K V S C : Type 0} → View N P K V S C → (s : List ℕ) → (shape : List Row) → Tree → (taken : ℕ) → (nodes : N) → List (Frame K) → List P → Result (Option ℕ) Refusal → Type 0
 Moves view s shape tree taken nodes codes parts (Ok (Some next)) = (left : ℕ) × (taken + 1 + left ≡ link_steps tree) × Follows view s shape (meaning_of view tree) (waiting left) nodes next codes parts
 Moves view s shape tree taken nodes codes parts (Ok None) = IsDone view s shape (meaning_of view tree) nodes parts × (taken ≡ link_steps tree)
@@ -223,16 +223,16 @@ CountsMove rows next before after (Ok (Some behind)) = (2 * next + after + 1 ≤
 CountsMove rows next before after (Ok None) = Unit {0}
 CountsMove rows next before after (Err e) = 2 * next + 1 ≤ 2 * rows + before
 
--- A driver that took n steps is on its way, and the steps left add up with these to the tree's; or what the symbol means is the
--- refusal that it keeps.
+-- A driver that took n steps is on its way, and n and the steps left add up to those of the tree; or it keeps a refusal, which is
+-- what the symbol means.
 abbrev pub IsDriving : {N P K V S C : Type 0} → View N P K V S C → (s : List ℕ) → (shape : List Row) → Tree → (nodes : N) → (steps : ℕ) → Option Refusal
     → (next : ℕ) → List (Frame K) → List P → Type 0
 IsDriving view s shape tree nodes steps None next codes parts =
     IsOnWay view s shape tree steps nodes next codes parts × (steps + length codes ≤ 2 * next) × (next ≤ length shape) × (next ≤ 2 * steps)
 IsDriving view s shape tree nodes steps (Some e) next codes parts = Fails e (meaning_of view tree) × (steps ≤ 2 * length shape)
 
--- The result of a step: all is done, in as many steps as the tree takes, and nothing was to do; or it moved on, and is counted;
--- or a refusal, which is kept.
+-- The result of a step: true, if nothing was left to do after as many steps as the tree takes; false, if the driver moved, which
+-- is counted; or a refusal, which is kept.
 abbrev pub IsStepTo : {N P K V S C : Type 0} → View N P K V S C → (s : List ℕ) → (shape : List Row) → Tree → (nodes : N) → (steps new_steps : ℕ) → (refused new_refused : Option Refusal)
     → List P → Result Bool Refusal → Type 0
 IsStepTo view s shape tree nodes steps new_steps refused new_refused parts (Ok true) =

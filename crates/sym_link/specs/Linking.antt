@@ -38,12 +38,12 @@ pub record View (N P K V S C : Type 0) : Type 1 where
   -- may have
   pub size : N → ℕ
   pub owes : Owes
-  -- how many it may add after these parts, where no other part with a row comes or it is refused
+  -- how many a rule may add after these parts, if no other part with a row follows or the rule is refused
   pub closes : (number : ℕ) → List P → ℕ
   pub most : (bytes : ℕ) → ℕ
-  -- what the language has written beside the nodes is paid for by this many bytes of the symbol
+  -- this many bytes of the symbol pay for what the language has written beside the nodes
   pub IsPaid : N → (bytes : ℕ) → Type 0
-  -- its lists, and which bytes of a token take memory besides them in a rule of this number
+  -- its lists, and which own bytes of a token, in the rule with a number, take memory besides
   pub lists : N → List Listed
   pub TakesMemory : (number : ℕ) → (own : List ℕ) → Type 0
 
@@ -51,40 +51,40 @@ pub record View (N P K V S C : Type 0) : Type 1 where
 abbrev pub owed_behind : {N P K V S C : Type 0} → View N P K V S C → Frame K → List P → ℕ
 owed_behind view frame parts = view.owes frame.rule (length parts - frame.base)
 
--- how many it may still add after the part that begins there
+-- how many nodes the rule of a frame may still add, after its next part
 abbrev pub owed_next : {N P K V S C : Type 0} → View N P K V S C → Frame K → List P → ℕ
 owed_next view frame parts = view.owes frame.rule (length parts - frame.base + 1)
 
--- how many values the parts have of a rule that closes in the step that begins it: those up to its token, if it has one
+-- how many values the parts up to the token have, in a rule that closes in the step that begins it; 0 without a token
 abbrev pub values_at_once : (rowless : ℕ) → Forest → ℕ
 values_at_once rowless parts = if no_part_has_row parts then 0 else (values_in rowless (passed_by parts) + 1)
 
--- A rule that has these parts and closes in the step that begins it adds at most two nodes, together with what is added to the
--- rule around it, by how much that may add before and after: where the rule closes, and where it is refused before.
+-- A rule with these parts, which closes in the step that begins it, and the rule around it add at most two nodes in that step,
+-- whether the rule closes or is refused before. `before` and `behind` are what the rule around it may add before and after.
 pub record AddTwo {N P K V S C : Type 0} (view : View N P K V S C) (before behind number : ℕ) (parts : Forest) : Type 0 where
   pub closed : (own : List P) → length own ≡ values_at_once (length view.reading.rowless) parts
       → before + view.owes number 0 + view.closes number own ≤ behind + view.owes number (length own) + 2
   pub refused : before + view.closes number [] ≤ behind + 2
 
--- what every language keeps to
+-- the laws that every language keeps
 pub record IsLinking {N P K V S C : Type 0} (view : View N P K V S C) : Type 0 where
   pub sound : IsSound view.table
   -- a symbol has a row
   pub starts : view.table.may_be_empty 0 ≡ false
-  -- what denoted something denotes it still
+  -- parts and kept states denote what they denoted
   pub part_stays : (old new : N) (part : P) (value : V) → view.Grows old new → view.IsPart old part value → view.IsPart new part value
   pub kept_stays : (old new : N) (kept : K) (rule : Open S C) → view.Grows old new → view.IsKept old kept rule → view.IsKept new kept rule
-  -- what some bytes pay for, more bytes pay for
+  -- more bytes pay for what fewer bytes pay for
   pub paid_more : (nodes : N) (few more : ℕ) → few ≤ more → view.IsPaid nodes few → view.IsPaid nodes more
-  -- as many values go into a part as were known
+  -- before a part, the number of known values stays the same
   pub keeps_count : (rule : Open S C) (known : List V) (state : S)
       → IfOk (view.reading.between rule known state) (λ next. length next.values ≡ length known)
-  -- what the rules of a symbol's tree may add isn't more than the symbol may have
+  -- the rules of a symbol's tree may add no more nodes than the symbol may have
   pub few : (tree : Tree) → IsTree view.table (Kind 0) tree → row_count tree ≤ 4 * length (spell tree) + 4 → cost view.owes tree ≤ view.most (length (spell tree))
-  -- a rule adds at most two nodes, and where it closes no more than it may still add
+  -- a rule adds at most two nodes, and when it closes, no more than it may still add
   pub two : (number held : ℕ) → view.owes number held ≤ 2
   pub closing : (number : ℕ) (own : List P) → view.closes number own ≤ view.owes number (length own)
-  -- and so does one that closes in the step that begins it, together with the rule around it
+  -- a rule that closes in the step that begins it and the rule around it together add at most two nodes
   pub two_at_once : (s : List ℕ) (around : Open S C) (held from : ℕ) (left : Forest) (rule : Rule) (taken : List ℕ) (parts rest : Forest)
       → Stands view.table s (length view.reading.rowless) around held from left → skipped left ≡ grown (branch rule taken parts) rest → closes_at_once parts ≡ true
       → AddTwo view (view.owes around.rule.number held) (view.owes around.rule.number (held + values_in (length view.reading.rowless) (passed_by left) + 1)) rule.number parts
@@ -215,7 +215,7 @@ Adds view old new before after = view.Grows old new × (view.size new + after �
 abbrev pub AddsFew : {N P K V S C : Type 0} → View N P K V S C → (old new : N) → Frame K → List P → Type 0
 AddsFew view old new frame parts = view.size new ≤ view.size old + view.closes frame.rule (drop frame.base parts)
 
--- Where bytes up to a place have paid so far, bytes up to the new place pay now.
+-- If the bytes up to one place have paid so far, the bytes up to the other place pay now.
 abbrev pub Pays : {N P K V S C : Type 0} → View N P K V S C → (old new : N) → (at to : ℕ) → Type 0
 Pays view old new at to = view.IsPaid old at → view.IsPaid new to
 
@@ -232,7 +232,7 @@ abbrev pub NeedsRoom : {N P K V S C A : Type 0} → View N P K V S C → (old ne
     → Type 0
 NeedsRoom view old new parts new_parts result = OnlyForRoom ⊥ (lists_with view old parts) (lists_with view new new_parts) result
 
--- Where a token is taken in the frame's rule, `Memory` is answered only where a list had no room, or its bytes take memory.
+-- `Memory` is answered for a token of the frame's rule only if a list had no room, or the token's bytes take memory.
 abbrev pub TokenNeedsRoom : {N P K V S C : Type 0} → View N P K V S C → (s : List ℕ) → (old new : N) → Frame K
     → (parts new_parts : Vec P Global) → Row → Result (Unit {0}) Refusal → Type 0
 TokenNeedsRoom view s old new frame parts new_parts row result =

@@ -6,8 +6,7 @@ use Rattle.sym_shape.specs.Tree.{Tree, Forest, branch, empty, token, fixed, noth
 use Rattle.sym_link.specs.Reading.{Found, Open, Reading, ◌>>=◌}
 use Rattle.sym_link.specs.Unfold.{found, standing, unfold_forest}
 
--- An open rule: the parts that are left, the place that they begin at, and the values of the parts so far of the rule around
--- it.
+-- An open rule: its remaining parts, the place at which they begin, and the values so far of the rule around it.
 pub record Frame (V S C : Type 0) : Type 0 where
   pub rule : Open S C
   pub from : ℕ
@@ -54,7 +53,7 @@ pub record Passed (V S : Type 0) : Type 0 where
   pub left : Forest
   pub state : S
 
--- past the next parts of a rule that have no row
+-- the rule past its next parts that have no row
 abbrev pub passed : {V S C : Type 0} → Reading V S C → Open S C → (known : List V) → (from : ℕ) → Forest → S → Result (Passed V S) Refusal
 passed reading rule known from (grown empty rest) state =
     reading.between rule known state >>= λ next. passed reading rule (next.values ++ reading.rowless) from rest next.state
@@ -62,7 +61,7 @@ passed reading rule known from (grown (fixed byte) rest) state =
     reading.between rule known state >>= λ next. passed reading rule (next.values ++ reading.rowless) (from + 1) rest next.state
 passed reading rule known from left state = Ok (record { known = known; from = from; left = left; state = state })
 
--- what a rule means whose remaining parts have no row
+-- the meaning of a rule whose remaining parts have no row
 abbrev pub ended : {V S C : Type 0} → Reading V S C → Open S C → (known : List V) → (from : ℕ) → (left : Forest) → S → Result (Found V S) Refusal
 ended reading rule known from left state = passed reading rule known from left state >>= λ p. reading.close rule p.known p.state
 

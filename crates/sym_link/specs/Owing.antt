@@ -19,7 +19,7 @@ abbrev mutual
   cost_all owes nothing = 0
   cost_all owes (grown tree rest) = cost owes tree + cost_all owes rest
 
--- What open rules may still add, with n values of the innermost known: they and the parts that they have left.
+-- How many nodes the open rules and their remaining parts may still add, with n values of the innermost rule known.
 abbrev pub owed : {V S C : Type 0} → Owes → List (Frame V S C) → (held : ℕ) → ℕ
 owed owes [] held = 0
 owed owes (top ∷ frames) held = owes top.rule.rule.number held + cost_all owes top.left + owed owes frames (length top.outer + 1)

@@ -1,4 +1,4 @@
--- Where a rule adds at most one node, a tree adds at most as many as it has rows.
+-- If each rule adds at most one node, a tree adds at most as many nodes as it has rows.
 use Rattle.std.proofs.Common.{ℕ, ◌≤◌, arith}
 use Rattle.sym_shape.specs.Tree.{Tree, Forest, branch, empty, token, fixed, nothing, grown, row_count, row_count_all}
 use Rattle.sym_link.specs.Owing.{Owes, cost, cost_all}

@@ -4,7 +4,7 @@ use Rattle.sym_shape.specs.Table.{Table, symbols_of}
 use Rattle.sym_shape.specs.Tree.{Forest, branch, empty, token, fixed, nothing, grown, spell_all, TakesRule, AreTrees}
 use Rattle.sym_link.specs.Reading.{Open}
 
--- without the first parts that have no row
+-- the parts after the first ones, which have no row
 abbrev pub skipped : Forest → Forest
 skipped (grown empty rest) = skipped rest
 skipped (grown (fixed byte) rest) = skipped rest
@@ -16,7 +16,7 @@ passed_by (grown empty rest) = grown empty (passed_by rest)
 passed_by (grown (fixed byte) rest) = grown (fixed byte) (passed_by rest)
 passed_by left = nothing
 
--- the place of these parts, if all begin at one
+-- the place after the first parts that have no row, if all parts begin at a place
 abbrev pub skipped_from : (from : ℕ) → Forest → ℕ
 skipped_from from (grown empty rest) = skipped_from from rest
 skipped_from from (grown (fixed byte) rest) = skipped_from (from + 1) rest
@@ -27,7 +27,7 @@ abbrev pub joined : Forest → Forest → Forest
 joined nothing others = others
 joined (grown first rest) others = grown first (joined rest others)
 
--- how many values parts have, where a part without a row has this many, and each other part one
+-- how many values parts have, if a part without a row has n values and each other part one
 abbrev pub values_in : (rowless : ℕ) → Forest → ℕ
 values_in rowless nothing = 0
 values_in rowless (grown empty rest) = rowless + values_in rowless rest
@@ -35,8 +35,8 @@ values_in rowless (grown (fixed byte) rest) = rowless + values_in rowless rest
 values_in rowless (grown (token t) rest) = 1 + values_in rowless rest
 values_in rowless (grown (branch rule taken parts) rest) = 1 + values_in rowless rest
 
--- A rule of the grammar is in a symbol. These values are known of the parts that it has passed, and `left` are the other ones,
--- from a place on.
+-- A rule of the grammar is in a symbol. Of the parts that it has passed, this many values are known; `left` are its other parts,
+-- which begin at a place.
 pub record Stands {S C : Type 0} (g : Table) (s : List ℕ) (rowless : ℕ) (rule : Open S C) (held from : ℕ) (left : Forest) : Type 0 where
   pub kind : ℕ
   pub is_kind : kind < g.kinds

@@ -20,7 +20,7 @@ module _ (owes : Owes) (names : NameClass) (base : ℕ) (slack : List ℕ) where
   abbrev pub slack_of : ℕ → ℕ
   slack_of k = get_or slack k 0
 
-  -- what these symbols pay for, where each kind has the base, and what their kinds need of it
+  -- what these symbols pay for, if each kind among them pays for the base; and the slack that their kinds need
   abbrev pub paid : List Sym → ℕ
   paid [] = 0
   paid (Kind k ∷ ss) = base + paid ss
@@ -35,7 +35,7 @@ module _ (owes : Owes) (names : NameClass) (base : ℕ) (slack : List ℕ) where
   needed (Number kind ∷ ss) = needed ss
   needed (Byte b ∷ ss) = needed ss
 
-  -- the rule keeps to the slack of the kind, if its parts keep to theirs
+  -- the rule keeps within the slack of its kind, if its parts keep within theirs
   abbrev pub is_paid_rule : ℕ → Rule → Bool
   is_paid_rule k rule = nat_le (owes rule.number 0 + needed (symbols_of rule) + base) (slack_of k + paid (symbols_of rule) + cond rule.eats 2 0)
 

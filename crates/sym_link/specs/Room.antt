@@ -20,7 +20,7 @@ KeepRoom [] [] = Unit {0}
 KeepRoom (x ∷ xs) (y ∷ ys) = (x.room ≤ y.room) × KeepRoom xs ys
 KeepRoom _ _ = ⊥
 
--- one of the lists had no room, after what it holds now, for what may be put on it at once
+-- one of the lists had no room for what it holds now and for what may be put on it at once
 abbrev pub LackRoom : (old new : List Listed) → Type 0
 LackRoom (x ∷ xs) (y ∷ ys) = (x.room < y.held + y.most) ⊎ LackRoom xs ys
 LackRoom _ _ = ⊥

@@ -1,5 +1,5 @@
--- What linking requires of a table. A table that symbols are read by keeps to more (`IsLawful`), and may be within the one that
--- is linked by.
+-- What linking requires of a table. The table that symbols are read by keeps more laws (`IsLawful`), and may have fewer trees
+-- than the table that they are linked by.
 use Rattle.sym_shape.specs.declared.rule.TheConstants.{TOKEN}
 use Rattle.std.specs.Prelude.{◌≡◌, ℕ, ◌<◌, List, [], ◌++◌, Some}
 use Rattle.sym_shape.specs.declared.rule.Rule.{Rule}

@@ -37,7 +37,7 @@ pub data Due : Type 0 where
   waiting : ℕ → Due
   starting : (steps most : ℕ) → Due
 
--- for the parts that open rules have left, and to close these
+-- the steps for the remaining parts of the open rules, and for closing these rules
 abbrev pub steps_ahead : {V S C : Type 0} → List (Frame V S C) → ℕ
 steps_ahead [] = 0
 steps_ahead (top ∷ frames) = link_steps_all top.left + 1 + steps_ahead frames
@@ -53,8 +53,8 @@ abbrev pub CountsClose : Due → ℕ → Type 0
 CountsClose (waiting m) n = m ≡ n + 1
 CountsClose (starting m most) n = m ≡ n
 
--- Where a token is taken, with n rows of its rule after it, these steps are left. The only token of a rule that begins takes
--- none, and the rule is then still to close.
+-- When a token is taken, with n rows of its rule after it, these steps are left. The only token of a rule that begins takes no
+-- step of its own, and the rule still has to close.
 abbrev pub CountsToken : Due → (behind : ℕ) → ℕ → Type 0
 CountsToken (waiting m) behind n = m ≡ n + 1
 CountsToken (starting m most) behind n = (n ≡ m + 1) × (behind ≡ 0)

@@ -18,7 +18,7 @@ pub record Makes (V S C : Type 0) : Type 0 where
   pub before : Open S C → (known : List V) → S → ℕ
   pub at_end : Open S C → (known : List V) → S → ℕ
 
--- without what was counted before it
+-- the rule without the count in its state
 abbrev pub untallied : {S C : Type 0} → Open (Tally S) C → Open S C
 untallied rule = record { rule = rule.rule; taken = rule.taken; place = rule.place; context = rule.context; before = rule.before.state }
 

@@ -14,7 +14,7 @@ use Rattle.sym_link.specs.Machine.{Passed, passed}
 use Rattle.sym_link.specs.Driving.{AreAll, Fails}
 use Rattle.sym_link.specs.Linking.{View, IsLinking, IsRuleRow, IsTokenRow, Gives, Puts, AddsFew}
 
--- how many parts without a row are first
+-- how many parts without a row come first
 abbrev pub skips : Forest → ℕ
 skips (grown empty rest) = 1 + skips rest
 skips (grown (fixed byte) rest) = 1 + skips rest
@@ -59,15 +59,15 @@ abbrev pub AddsBefore : {N P K V S C A : Type 0} → View N P K V S C → (old n
 AddsBefore view old new frame parts own (Ok done) = view.size new + view.closes frame.rule own ≤ view.size old + view.closes frame.rule (drop frame.base parts)
 AddsBefore view old new frame parts own (Err e) = AddsFew view old new frame parts
 
--- What is done before the next part of the frame's rule is what the reading says.
+-- Before the next part of the frame's rule, the code does what the reading says.
 abbrev pub GoesOn : {N P K V S C : Type 0} → View N P K V S C → (s : List ℕ) → (IsContext : N → K → C → Type 0) → (old new : N) → Frame K → (parts new_parts : List P)
     → Result K Refusal → Type 0
 GoesOn {V = V} {S = S} {C = C} view s IsContext old new frame parts new_parts result =
     (rule : Open S C) (known : List V) (state : S) → IsAt view s old frame (drop frame.base parts) rule known state
     → Goes view IsContext new (take frame.base parts) new_parts result (view.reading.between rule known state)
 
--- Some parts without a row of the frame's rule are passed, of those before the part with this number. The result of them all is
--- known.
+-- Some of the parts without a row that precede the part with this number in the frame's rule are passed. The result of passing
+-- them all is known.
 pub record Passing {N P K V S C : Type 0} (view : View N P K V S C) (s : List ℕ) (nodes : N) (frame : Frame K) (lower parts : List P) (to : ℕ)
     (whole : Result (Passed V S) Refusal) : Type 0 where
   pub rule : Open S C
@@ -81,19 +81,19 @@ pub record Passing {N P K V S C : Type 0} (view : View N P K V S C) (s : List �
   pub coming : passed view.reading rule known from left state ≡ whole
   pub count : length known + skips left ≡ to
 
--- One more is passed.
+-- One more part is passed.
 abbrev pub PassesOne : {N P K V S C : Type 0} → View N P K V S C → (s : List ℕ) → (nodes : N) → Frame K → (lower parts : List P) → (to : ℕ) → (whole : Result (Passed V S) Refusal) → Result (Unit {0}) Refusal → Type 0
 PassesOne view s nodes frame lower parts to whole (Ok done) = Passing view s nodes frame lower parts to whole
 PassesOne view s nodes frame lower parts to whole (Err e) = Fails e whole
 
--- All are passed, and the parts denote the values there.
+-- All these parts are passed, and the parts denote the values so far.
 abbrev pub Passes : {N P K V S C : Type 0} → View N P K V S C → (nodes : N) → Frame K → (lower parts : List P) → Result (Unit {0}) Refusal → Result (Passed V S) Refusal → Type 0
 Passes {P = P} {V = V} {S = S} view nodes frame lower parts (Ok done) whole =
     (p : Passed V S) × (whole ≡ Ok p) × view.Holds nodes p.state × (take frame.base parts ≡ lower) × (frame.base ≤ length parts)
     × AreAll (view.IsPart nodes) (drop frame.base parts) p.known
 Passes view nodes frame lower parts (Err e) whole = Fails e whole
 
--- what such a language keeps to
+-- the laws that such a language keeps
 pub record IsThreading {N P K V S C : Type 0} (view : View N P K V S C) : Type 0 where
   pub linking : IsLinking view
   pub grows_same : (nodes : N) → view.Grows nodes nodes
@@ -129,7 +129,7 @@ IsTaken {S = S} view s old new row result =
 abbrev pub IsCount : Table → (number count : ℕ) → Type 0
 IsCount g number count = (kind : ℕ) (rule : Rule) (taken : List ℕ) → kind < g.kinds → TakesRule g kind rule taken → rule.number ≡ number → length (symbols_of rule) ≡ count
 
--- once this many parts of that rule are passed, this many more precede the next one that has a row, and this many follow that
+-- once `held` parts of that rule are passed and `after` parts follow its next one with a row, `ahead` parts precede that one
 abbrev pub IsAhead : Table → (number held after ahead : ℕ) → Type 0
 IsAhead g number held after ahead =
     (kind : ℕ) (rule : Rule) (taken : List ℕ) → kind < g.kinds → TakesRule g kind rule taken → rule.number ≡ number

@@ -42,7 +42,7 @@ fn take_off<K: Copy>(frames: &mut Vec<Frame<K>>)
     let _frame = frames.pop();
 }
 
-/// Closes the innermost rule. Its frame is then to be removed.
+/// Closes the innermost rule, and leaves its frame to be removed.
 #[inline(always)]
 fn leave<L: Linking>(
     language: &mut L,
@@ -90,10 +90,11 @@ fn take_alone<L: Linking>(
     Ok(next)
 }
 
-/// Pushes the new rule's frame. A rule that has no row of its own closes at once, and one whose only row is a token takes it
-/// and closes. It answers the number of the next row.
-// Closes in one place: `#[inline(always)]` holds only up to a size that counts what is inlined in turn. With two places this
-// stayed a call with four more productions in Rust's loop, and the filter took 19 % more instructions.
+/// Pushes the new rule's frame. If no part of the rule has a row, the rule closes at once; if only
+/// a token has one, the rule takes the token and closes. It answers the number of the next row.
+// It closes the rule in one place: `#[inline(always)]` holds only up to a size that counts what is
+// inlined in turn. With two places, and four more productions in Rust's loop, this function stayed
+// a call, and the filter took 19 % more instructions.
 #[inline(always)]
 fn close_lone_token<L: Linking>(
     language: &mut L,
@@ -191,8 +192,8 @@ fn begin<L: Linking>(
     close_lone_token(language, symbol, rows, 1, frames, parts, opened)
 }
 
-/// Takes the next row, with what `close_lone_token` adds to it, or closes the innermost rule after its last row. It answers the number
-/// of the next row, or none where nothing is left to do.
+/// Takes the next row, with the token that is all its rule has, or closes the innermost rule after
+/// its last row. It answers the number of the next row, or none where nothing is left to do.
 fn advance<L: Linking>(
     language: &mut L,
     symbol: &[u8],

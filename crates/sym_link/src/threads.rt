@@ -35,7 +35,7 @@ pub trait Threading {
 
     ghost surrounds: { List ℕ → Self → Self.Kept → Context → Type 0 };
 
-    // what a part without a row is
+    // what each part without a row is in code
     ghost absent: { Self.Part };
 
     /// What a part without a row denotes.
@@ -111,8 +111,8 @@ pub trait Threading {
     fn count(&self, rule: u16) -> usize
         ensures { (s : List ℕ) → IsCount (view s).table rule result };
 
-    /// How many parts of the rule with a number are before the next one that has a row, once this many have begun, and how many
-    /// are after it.
+    /// How many parts of the rule with a number come before its next part that has a row, once
+    /// `held` parts have begun; `after` parts follow that one.
     fn ahead(&self, rule: u16, held: usize, after: u8) -> usize
         ensures { (s : List ℕ) → IsAhead (view s).table rule held after result };
 

@@ -1,28 +1,19 @@
 -- Tasks that are added before others, and the marks that they lead to.
-use Rattle.std.proofs.Common.{◌≡◌, ℕ, ◌+◌, ◌≤◌, List, ◌∷◌, ◌++◌, length, refl, sym, ap, ◌∙◌, arith, append_assoc, append-nil, subst}
-use Rattle.std.specs.List.{All}
-use Rattle.std.proofs.lemmas.List.Elements.{All-cons}
-use Rattle.sym_print.specs.Unshared.{Unshared}
+use Rattle.sym_parts.proofs.Basics.{◌≡◌, ℕ, ◌+◌, ◌≤◌, List, ◌∷◌, ◌++◌, length, refl, sym, ap, ◌∙◌, arith, append_assoc, append-nil, subst, All, All-cons, Unshared, Role, Ordinal, Marked, text, marked, text_of, ◌before◌, skip, begin, marks_of, marks_of_task, marks_of_tasks, IsTask, weight_of_task, weight_of_tasks, Grows, Task}
 use Rattle.sym_print.specs.Unshared as printed
-use Rattle.sym_parts.specs.declared.role.Role.{Role}
-use Rattle.sym_parts.specs.declared.spelling.Ordinal.{Ordinal}
-use Rattle.sym_parts.specs.Marked.{Marked, text, marked, text_of, ◌before◌}
 use Rattle.sym_parts.specs.Marked as marks
-use Rattle.sym_parts.specs.Marks.{skip, begin, marks_of}
 use Rattle.sym_parts.specs.Plain.{plain, whole, alone}
 use Rattle.sym_parts.proofs.Turns.{marks_of-before}
-use Rattle.sym_parts.specs.Tasks.{marks_of_task, marks_of_tasks, IsTask, weight_of_task, weight_of_tasks, Grows}
-use Rattle.sym_parts.specs.declared.task.Task.{Task}
 use Rattle.sym_parts.specs.declared.task.Task.TheVariants as task
 
--- one marked text before another, before a third
+-- of three marked texts in a row, the first two may be put together first
 pub before-assoc : (m n others : Marked) → (m before n) before others ≡ m before (n before others)
 unfolding ◌before◌
 before-assoc marks.done n others = refl
 before-assoc (text b rest) n others = ap (text b) (before-assoc rest n others)
 before-assoc (marked r o inside rest) n others = ap (marked r o inside) (before-assoc rest n others)
 
--- before nothing
+-- a marked text before nothing is the same marked text
 pub before-done : (m : Marked) → m before marks.done ≡ m
 unfolding ◌before◌
 before-done marks.done = refl
@@ -30,7 +21,7 @@ before-done (text b rest) = ap (text b) (before-done rest)
 before-done (marked r o inside rest) = ap (marked r o inside) (before-done rest)
 
 module _ {T : Type 0} (marked_of : T → Marked) (IsLater : T → Type 0) (weight_of : T → ℕ) where
-  -- the same marks, in no more steps
+  -- tasks that have grown by marks within some steps have grown by equal marks within as many steps or more
   pub grow-same : (old new : List (Task T)) (m n : Marked) (s t : ℕ) → Grows marked_of IsLater weight_of old new m s → m ≡ n → s ≤ t → Grows marked_of IsLater weight_of old new n t
   grow-same old new m n s t grows same few = record {
     adds = λ others behind taken adds.
@@ -42,7 +33,7 @@ module _ {T : Type 0} (marked_of : T → Marked) (IsLater : T → Type 0) (weigh
         };
   }
 
-  -- one after the other: what is added later comes first
+  -- the marks of tasks that are added later come first
   pub grow-then : (old between new : List (Task T)) (m n : Marked) (s t : ℕ) → Grows marked_of IsLater weight_of old between m s → Grows marked_of IsLater weight_of between new n t → Grows marked_of IsLater weight_of old new (n before m) (s + t)
   grow-then old between new m n s t first second = record {
     adds = λ others behind taken adds.
@@ -54,7 +45,7 @@ module _ {T : Type 0} (marked_of : T → Marked) (IsLater : T → Type 0) (weigh
         };
   }
 
-  -- this many bytes
+  -- a task that skips bytes adds them without a mark
   pub grow-skip : (old new : List (Task T)) (n : ℕ) (b : List ℕ) → new ≡ task.Skip n ∷ old → n ≡ length b → Grows marked_of IsLater weight_of old new (text b marks.done) 1
   unfolding marks_of ◌before◌ marks_of_tasks marks_of_task IsTask weight_of_tasks weight_of_task
   grow-skip old new n b is long = record {
@@ -65,7 +56,7 @@ module _ {T : Type 0} (marked_of : T → Marked) (IsLater : T → Type 0) (weigh
     };
   }
 
-  -- the beginning of a stretch, before what is in it
+  -- a task that begins a stretch, and the tasks for what is in the stretch, add the stretch's mark and what is within it
   pub grow-begin : (old between new : List (Task T)) (role : Role) (ordinal : Ordinal) (n : ℕ) (inside : Marked) (s : ℕ) → new ≡ task.Begin role ordinal n ∷ between → n ≡ length (text_of inside)
       → Grows marked_of IsLater weight_of old between inside s → Grows marked_of IsLater weight_of old new (marked role ordinal inside marks.done) (s + 1)
   unfolding marks_of ◌before◌ marks_of_tasks marks_of_task IsTask weight_of_tasks weight_of_task
@@ -82,7 +73,7 @@ module _ {T : Type 0} (marked_of : T → Marked) (IsLater : T → Type 0) (weigh
         };
   }
 
-  -- what is taken apart later
+  -- a task for what is taken apart later adds its marks
   pub grow-later : (old new : List (Task T)) (next : T) → new ≡ task.Later next ∷ old → IsLater next → Grows marked_of IsLater weight_of old new (marked_of next) (weight_of next)
   unfolding marks_of_tasks marks_of_task IsTask weight_of_tasks weight_of_task
   grow-later old new next is may = record {
@@ -97,18 +88,18 @@ module _ {T : Type 0} (marked_of : T → Marked) (IsLater : T → Type 0) (weigh
     };
   }
 
-  -- what is printed, without a mark
+  -- a task that skips what is printed adds it without a mark
   pub grow-plain : (old new : List (Task T)) (u : Unshared) → new ≡ task.Skip (length (printed.text_of u)) ∷ old → Grows marked_of IsLater weight_of old new (plain u) 1
   grow-plain old new u is = grow-skip old new (length (printed.text_of u)) (printed.text_of u) is refl
 
-  -- one part of this many bytes
+  -- the tasks for one part of this many bytes add the part
   pub grow-alone : (old new : List (Task T)) (role : Role) (ordinal : Ordinal) (n : ℕ) (b : List ℕ) → new ≡ task.Begin role ordinal n ∷ task.Skip n ∷ old → n ≡ length b
       → Grows marked_of IsLater weight_of old new (alone role ordinal b marks.done) 2
   unfolding text_of
   grow-alone old new role ordinal n b is long =
       grow-begin old (task.Skip n ∷ old) new role ordinal n (text b marks.done) 1 is (long ∙ ap length (sym (append-nil b))) (grow-skip old (task.Skip n ∷ old) n b refl long)
 
-  -- one part of all that is printed
+  -- the tasks for one part of all that is printed add the part
   pub grow-whole : (old new : List (Task T)) (role : Role) (ordinal : Ordinal) (u : Unshared) → new ≡ task.Begin role ordinal (length (printed.text_of u)) ∷ task.Skip (length (printed.text_of u)) ∷ old
       → Grows marked_of IsLater weight_of old new (whole role ordinal u) 2
   grow-whole old new role ordinal u is = grow-alone old new role ordinal (length (printed.text_of u)) (printed.text_of u) is refl

@@ -1,3 +1,4 @@
+pub mod Basics
 pub mod Marks
 pub mod Placing
 pub mod Turns

@@ -1,9 +1,7 @@
--- Marked texts in turn: their texts and their stretches are in turn, too.
-use Rattle.std.proofs.Common.{◌≡◌, ℕ, ◌+◌, List, ◌∷◌, ◌++◌, length, refl, sym, ap, ◌∙◌, arith, append_assoc, length-append, add-zero}
-use Rattle.sym_parts.specs.declared.stretch.Stretch.{Stretch}
-use Rattle.sym_parts.specs.Marked.{Marked, done, text, marked, text_of, marks_in, ◌before◌, stretches_from}
+-- One marked text before another: their texts and their stretches follow one another, too.
+use Rattle.sym_parts.proofs.Basics.{◌≡◌, ℕ, ◌+◌, List, ◌∷◌, ◌++◌, length, refl, sym, ap, ◌∙◌, arith, append_assoc, length-append, add-zero, Stretch, Marked, done, text, marked, text_of, marks_in, ◌before◌, stretches_from}
 
--- the text of one before another is the one's before the other's
+-- the text of one marked text before another: the first one's text, then the other's
 pub text_of-before : (m others : Marked) → text_of (m before others) ≡ text_of m ++ text_of others
 unfolding text_of ◌before◌
 text_of-before done others = refl
@@ -15,7 +13,7 @@ text_of-before (marked role ordinal inside rest) others =
 place-after : (place : ℕ) (one other : List ℕ) → (place + length one) + length other ≡ place + length (one ++ other)
 place-after place one other = omega (arith, length-append one other)
 
--- and so are its stretches
+-- the stretches of one marked text before another: the first one's stretches, then the other's
 pub stretches_from-before : (place : ℕ) (m others : Marked) → stretches_from place (m before others) ≡ stretches_from place m ++ stretches_from (place + length (text_of m)) others
 unfolding text_of ◌before◌ stretches_from
 stretches_from-before place done others = ap (λ p. stretches_from p others) (sym (add-zero place))

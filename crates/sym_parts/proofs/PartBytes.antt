@@ -1,29 +1,13 @@
 -- The parts of a text with the bytes that spell them: where they are in the text, and in the symbol.
-use Rattle.std.proofs.Common.{◌≡◌, inr, ℕ, zero, suc, ◌+◌, ◌≤◌, List, [], ◌∷◌, length, Bool, true, false, cond, refl, subst, arith}
-use Rattle.std.specs.Prelude.{Option, Some, None, map, nat_le, nat_lt, slice_get}
-use Rattle.std.specs.List.{All, AllPairs}
-use Rattle.std.proofs.lemmas.Bool.Decides.{nat_tests}
-use Rattle.std.proofs.lemmas.List.Elements.{All-append, All-cons, All-head, All-map, All-nil, All-tail, All-weaker}
-use Rattle.std.proofs.lemmas.List.Kept.{AllPairs-cons}
-use Rattle.sym_parts.specs.Marked.{Marked, text_of, stretches_of}
-use Rattle.sym_parts.specs.Placed.{IsSlice, AreInOrder, ArePlaced, AreStretchesPlaced, start_of, end_of}
-use Rattle.sym_parts.specs.Spelling.{Spelling, element_of, item_of, once, or_others, part_of, parts_spelled, span_of, unprinted}
+use Rattle.sym_parts.proofs.Basics.{◌≡◌, inr, ℕ, zero, suc, ◌+◌, ◌≤◌, List, [], ◌∷◌, length, Bool, true, false, cond, refl, subst, arith, Option, Some, None, map, nat_le, nat_lt, slice_get, All, AllPairs, nat_tests, All-append, All-cons, All-head, All-map, All-nil, All-tail, All-weaker, AllPairs-cons, Marked, text_of, stretches_of, IsSlice, AreInOrder, ArePlaced, AreStretchesPlaced, start_of, end_of, Spelling, element_of, item_of, once, or_others, part_of, parts_spelled, span_of, unprinted, role_number, Part, Role, Item, Ordinal, Span, Spelled, Stretch}
 use Rattle.sym_parts.specs.Within.{IsSpanWithin, IsSpelledWithin, IsUnprinted, IsWithin}
-use Rattle.sym_parts.specs.Words.{role_number}
-use Rattle.sym_parts.specs.declared.part.Part.{Part}
-use Rattle.sym_parts.specs.declared.role.Role.{Role}
 use Rattle.sym_parts.specs.declared.role.Role.TheVariants as role
-use Rattle.sym_parts.specs.declared.spelling.Item.{Item}
-use Rattle.sym_parts.specs.declared.spelling.Ordinal.{Ordinal}
-use Rattle.sym_parts.specs.declared.spelling.Span.{Span}
-use Rattle.sym_parts.specs.declared.spelling.Spelled.{Spelled}
-use Rattle.sym_parts.specs.declared.stretch.Stretch.{Stretch}
 use Rattle.sym_parts.proofs.Placing.{AllPairs-append, AllPairs-first, AllPairs-nil, AllPairs-tail, placed}
 use Rattle.sym_parts.proofs.Spans.{unprinted_part}
 
 -- ## Parts that aren't in the text
 
--- one that isn't in the text, or none, before others with a property
+-- if others have a property, so do they with one more part that has it, which a test may add
 either : (P : Part → Type 0) → (b : Bool) (part : Part) (rest : List Part) → (b ≡ true → P part) → All P rest → All P (cond {A = List Part} b (part ∷ rest) rest)
 either P true part rest is others = All-cons P part rest (is refl) others
 either P false part rest is others = others
@@ -45,7 +29,7 @@ module _ {X Y : Type 0} (R : Y → Y → Type 0) (f : X → Y) where
       (AllPairs-map xs (AllPairs-tail (λ x y. R (f x) (f y)) x xs pairs))
 
 module _ {X : Type 0} (P : X → Type 0) (R : X → X → Type 0) (related : (x y : X) → P x → P y → R x y) where
-  -- those with a property are related
+  -- a list of elements with a property is related pairwise, if each two such elements are related
   AllPairs-all : (xs : List X) → All P xs → AllPairs R xs
   AllPairs-all [] all = AllPairs-nil R
   AllPairs-all (x ∷ xs) all =
@@ -88,7 +72,7 @@ parts-placed s m = placed-with s (length (text_of m)) (stretches_of m) (placed m
 -- ## Where their bytes are in the symbol
 
 module _ {X : Type 0} (P : X → Type 0) where
-  -- what is found in a list has the property of all
+  -- an element that is found in a list has the property that all have
   found-all : (xs : List X) (n : ℕ) (x : X) → All P xs → slice_get xs n ≡ Some x → P x
   found-all [] n x all is = absurd (none is)
     where

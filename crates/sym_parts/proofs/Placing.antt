@@ -1,11 +1,5 @@
 -- Where the stretches of a marked text are: each is a slice of it, and each two are in order.
-use Rattle.std.proofs.Common.{ℕ, zero, suc, ◌+◌, ◌≤◌, List, [], ◌∷◌, ◌++◌, length, arith, length-append, inl, inr}
-use Rattle.std.specs.List.{All, AllPairs}
-use Rattle.std.proofs.lemmas.List.Elements.{All-nil, All-cons, All-head, All-tail, All-append, All-weaker}
-use Rattle.std.proofs.lemmas.List.Kept.{AllPairs-cons}
-use Rattle.sym_parts.specs.declared.stretch.Stretch.{Stretch}
-use Rattle.sym_parts.specs.Marked.{Marked, done, text, marked, text_of, stretches_from, stretches_of}
-use Rattle.sym_parts.specs.Placed.{IsBetween, AreInOrder, start_of_stretch, end_of_stretch, AreStretchesPlaced}
+use Rattle.sym_parts.proofs.Basics.{ℕ, zero, suc, ◌+◌, ◌≤◌, List, [], ◌∷◌, ◌++◌, length, arith, length-append, inl, inr, All, AllPairs, All-nil, All-cons, All-head, All-tail, All-append, All-weaker, AllPairs-cons, Stretch, Marked, done, text, marked, text_of, stretches_from, stretches_of, IsBetween, AreInOrder, start_of_stretch, end_of_stretch, AreStretchesPlaced}
 
 module _ {X : Type 0} (R : X → X → Type 0) where
   pub AllPairs-nil : AllPairs R []
@@ -17,14 +11,14 @@ module _ {X : Type 0} (R : X → X → Type 0) where
   pub AllPairs-first : (x : X) (xs : List X) → AllPairs R (x ∷ xs) → All (R x) xs
   AllPairs-first x xs h k d within = h zero (suc k) d (omega arith) (omega arith)
 
-  -- elements in order before others in order, to which they are related
+  -- two lists in order make one list in order, if each element of the first is related to each of the second
   pub AllPairs-append : (xs ys : List X) → AllPairs R xs → AllPairs R ys → All (λ x. All (R x) ys) xs → AllPairs R (xs ++ ys)
   AllPairs-append [] ys first second across = second
   AllPairs-append (x ∷ xs) ys first second across =
       AllPairs-cons R x (xs ++ ys) (All-append (R x) xs ys (AllPairs-first x xs first) (All-head (λ x. All (R x) ys) x xs across))
       (AllPairs-append xs ys (AllPairs-tail x xs first) second (All-tail (λ x. All (R x) ys) x xs across))
 
--- the stretch is a slice of what is from one place to another
+-- the stretch is a slice of the bytes from one place to another
 abbrev IsSlice : (from to : ℕ) → Stretch → Type 0
 IsSlice from to stretch = IsBetween start_of_stretch end_of_stretch from to stretch
 
@@ -66,12 +60,12 @@ apart from between to first second before behind =
 around : (whole : Stretch) (parts : List Stretch) → All (IsSlice whole.start (end_of_stretch whole)) parts → All (IsInOrder whole) parts
 around whole parts within = All-weaker (IsSlice whole.start (end_of_stretch whole)) (IsInOrder whole) (λ y slice. (slice.0, inl slice.1)) parts within
 
--- and with those after it
+-- a stretch is in order with those after it
 behind : (whole : Stretch) (to : ℕ) (parts : List Stretch) → All (IsSlice (end_of_stretch whole) to) parts → All (IsInOrder whole) parts
 behind whole to parts after =
     All-weaker (IsSlice (end_of_stretch whole) to) (IsInOrder whole) (λ y slice. (omega (arith, slice.0), inr slice.0)) parts after
 
--- each two are in order
+-- each two stretches are in order
 pub order : (place : ℕ) (m : Marked) → AllPairs IsInOrder (stretches_from place m)
 unfolding text_of stretches_from
 order place done = AllPairs-nil IsInOrder

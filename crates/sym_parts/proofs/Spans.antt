@@ -1,15 +1,6 @@
--- Which bytes spell a part: one step after the other, as they are looked up.
-use Rattle.std.proofs.Common.{◌≡◌, ℕ, suc, ◌+◌, ◌-◌, ◌<◌, ◌≤◌, List, [], ◌∷◌, ◌++◌, length, true, false, cond, refl, sym, ap, ◌∙◌, arith, append_assoc, append-nil}
-use Rattle.std.specs.Prelude.{nat_eq, nat_le, nat_lt, slice_get}
-use Rattle.std.proofs.lemmas.Bool.Decides.{nat_tests}
-use Rattle.sym_parts.specs.Words.{role_number}
-use Rattle.sym_parts.specs.Spelling.{or_others, once, element_of, unprinted}
-use Rattle.sym_parts.specs.declared.part.Part.{Part}
-use Rattle.sym_parts.specs.declared.role.Role.{Role}
+-- Which bytes spell a part: the steps of looking them up.
+use Rattle.sym_parts.proofs.Basics.{◌≡◌, ℕ, suc, ◌+◌, ◌-◌, ◌<◌, ◌≤◌, List, [], ◌∷◌, ◌++◌, length, true, false, cond, refl, sym, ap, ◌∙◌, arith, append_assoc, append-nil, nat_eq, nat_le, nat_lt, slice_get, nat_tests, role_number, or_others, once, element_of, unprinted, Part, Role, Item, Span, Spelled}
 use Rattle.sym_parts.specs.declared.role.Role.TheVariants as role
-use Rattle.sym_parts.specs.declared.spelling.Item.{Item}
-use Rattle.sym_parts.specs.declared.spelling.Span.{Span}
-use Rattle.sym_parts.specs.declared.spelling.Spelled.{Spelled}
 
 -- ## Parts that come once
 
@@ -55,7 +46,7 @@ element-beyond elements item n some beyond =
 
 -- ## Parts that aren't in the text
 
--- the part at the end that something unprinted is
+-- the part at the text's end for what isn't printed
 abbrev pub unprinted_part : (end : ℕ) → Spelled → Part
 unprinted_part end spelled = record { role = spelled.role; start = end; length = 0; from = spelled.span.from; to = spelled.span.to }
 
@@ -78,11 +69,11 @@ unprinted-none end (first ∷ rest) empty = absurd (omega (arith, empty))
 
 -- ## Lists that grow
 
--- one more element, before those that are left
+-- once one more element is added, the list and the rest are still the whole
 pub grown : {X : Type 0} (before after these rest whole : List X) (one : X) → after ≡ before ++ one ∷ [] → these ≡ one ∷ rest → before ++ these ≡ whole → after ++ rest ≡ whole
 grown before after these rest whole one is first all =
     ap (λ xs. xs ++ rest) is ∙ append_assoc before (one ∷ []) rest ∙ ap (λ xs. before ++ xs) (sym first) ∙ all
 
--- no more
+-- if nothing is left to be added, the list is the whole
 pub all-grown : {X : Type 0} (before these whole : List X) → these ≡ [] → before ++ these ≡ whole → before ≡ whole
 all-grown before these whole none all = sym (append-nil before) ∙ ap (λ xs. before ++ xs) (sym none) ∙ all

@@ -1,15 +1,12 @@
--- The first of some parts, and the others.
-use Rattle.std.proofs.Common.{◌≡◌, ℕ, ◌+◌, ◌≤◌, List, ◌∷◌, length, refl, sym, ap, ◌∙◌, arith, length-append}
-use Rattle.std.proofs.lemmas.List.Elements.{All-head, All-tail, All-same}
+-- Parts that are split into the first one and the others.
+use Rattle.sym_parts.proofs.Basics.{◌≡◌, ℕ, ◌+◌, ◌≤◌, List, ◌∷◌, length, refl, sym, ap, ◌∙◌, arith, length-append, All-head, All-tail, All-same, joined, IsText, text_of_part, cost_of_part, ArePayable, IsPayable}
 use Rattle.sym_print.specs.declared.layout.Item.{Item}
 use Rattle.sym_print.specs.declared.layout.Part.{Part}
 use Rattle.sym_print.specs.declared.layout.Part.TheVariants.{Sub}
-use Rattle.sym_print.specs.Joined.{joined, IsText, text_of_part, cost_of_part}
 use Rattle.sym_print.specs.Unshared.{Unshared, item, bytes, text_of, cost_of, cost_of_parts}
 use Rattle.sym_print.proofs.Noting.{length_of_text}
-use Rattle.sym_parts.specs.Split.{ArePayable, IsPayable}
 
--- what costs at most this much without what is before it
+-- where parts cost at most this much, so do their first item and the rest after it
 costs-item : (u : Unshared) (most : ℕ) (one rest : Unshared) → u ≡ item one rest → cost_of_parts u ≤ most → (1 + cost_of_parts one ≤ most) × ((1 + cost_of_parts one) + cost_of_parts rest ≤ most) × (cost_of_parts rest ≤ most)
 costs-item u most one rest is within =
     let costs : cost_of_parts u ≡ (1 + cost_of_parts one) + cost_of_parts rest = ap cost_of_parts is in
@@ -20,7 +17,7 @@ costs-text u most b rest is within =
     let costs : cost_of_parts u ≡ length b + cost_of_parts rest = ap cost_of_parts is in
     (omega (arith, costs, within), omega (arith, costs, within))
 
--- lengths in turn: what was added up with the item's text, and what is left
+-- once an item is added to a sum of lengths: the sum includes the item's text, and the rest may cost what is left
 pub adds-item : (u one rest : Unshared) (total n all most : ℕ) → u ≡ item one rest → total + length (text_of u) ≡ all → total + cost_of_parts u ≤ most → n ≡ length (text_of one)
     → ((total + n) + length (text_of rest) ≡ all) × ((total + n) + cost_of_parts rest ≤ most)
 adds-item u one rest total n all most is sum paid long =
@@ -28,7 +25,7 @@ adds-item u one rest total n all most is sum paid long =
     let costs : cost_of_parts u ≡ (1 + cost_of_parts one) + cost_of_parts rest = ap cost_of_parts is in
     (omega (arith, texts, sum, long), omega (arith, costs, paid, long, length_of_text one))
 
--- the same for a text
+-- likewise for a text
 pub adds-text : (u : Unshared) (b : List ℕ) (rest : Unshared) (total n all most : ℕ) → u ≡ bytes b rest → total + length (text_of u) ≡ all → total + cost_of_parts u ≤ most → n ≡ length b
     → ((total + n) + length (text_of rest) ≡ all) × ((total + n) + cost_of_parts rest ≤ most)
 adds-text u b rest total n all most is sum paid long =
@@ -60,7 +57,7 @@ module _ {C : Type 0} (unshared : Item C → Unshared) (bytes_of : Part C → Li
   cost-of-text _ most is_text paid = paid
 
 module _ {C : Type 0} (unshared : Item C → Unshared) (bytes_of : Part C → List ℕ) (MayCome : Part C → Type 0) (most : ℕ) where
-  -- an item comes first
+  -- parts that begin with an item are split into this item and the rest
   pub split-item : (parts rest : List (Part C)) (first : Part C) (i : Item C) → parts ≡ first ∷ rest → first ≡ Sub i → ArePayable unshared bytes_of MayCome most parts
       → (joined unshared bytes_of parts ≡ item (unshared i) (joined unshared bytes_of rest)) × IsPayable unshared bytes_of MayCome most i
       × (cost_of (unshared i) + cost_of_parts (joined unshared bytes_of rest) ≤ most) × ArePayable unshared bytes_of MayCome most rest
@@ -71,7 +68,7 @@ module _ {C : Type 0} (unshared : Item C → Unshared) (bytes_of : Part C → Li
       let costs = costs-item (joined unshared bytes_of parts) most (unshared i) (joined unshared bytes_of rest) prints payable.1 in
       (prints, (All-head MayCome (Sub i) rest may, costs.0), costs.1, (All-tail MayCome (Sub i) rest may, costs.2))
 
-  -- a text comes first
+  -- parts that begin with a text are split into this text and the rest
   pub split-text : (parts rest : List (Part C)) (first : Part C) → parts ≡ first ∷ rest → ((x : Item C) → first ≡ Sub x → ⊥) → ArePayable unshared bytes_of MayCome most parts
       → (joined unshared bytes_of parts ≡ bytes (bytes_of first) (joined unshared bytes_of rest)) × IsText first × MayCome first
       × (length (bytes_of first) + cost_of_parts (joined unshared bytes_of rest) ≤ most) × ArePayable unshared bytes_of MayCome most rest

@@ -1,11 +1,8 @@
--- The stretches that marks in turn list are those of the marked text.
-use Rattle.std.proofs.Common.{◌≡◌, ℕ, ◌+◌, List, [], ◌∷◌, ◌++◌, length, refl, sym, ap, ◌∙◌, arith, append_assoc, length-append}
+-- The stretches that the marks of a text list are those of the marked text.
+use Rattle.sym_parts.proofs.Basics.{◌≡◌, ℕ, ◌+◌, List, [], ◌∷◌, ◌++◌, length, refl, sym, ap, ◌∙◌, arith, append_assoc, length-append, Stretch, Marked, done, text, marked, text_of, ◌before◌, stretches_from, Mark, skip, begin, marks_of, stretches_at, skipped}
 use Rattle.std.proofs.Math.Nat.{add-zero}
-use Rattle.sym_parts.specs.declared.stretch.Stretch.{Stretch}
-use Rattle.sym_parts.specs.Marked.{Marked, done, text, marked, text_of, ◌before◌, stretches_from}
-use Rattle.sym_parts.specs.Marks.{Mark, skip, begin, marks_of, stretches_at, skipped}
 
--- the marks of one text before another are the one's before the other's
+-- the marks of one text before another: the first one's marks, then the other's
 pub marks_of-before : (m others : Marked) → marks_of (m before others) ≡ marks_of m ++ marks_of others
 unfolding marks_of ◌before◌
 marks_of-before done others = refl
@@ -14,14 +11,14 @@ marks_of-before (marked role ordinal inside rest) others =
     ap (λ ms. begin role ordinal (length (text_of inside)) ∷ (marks_of inside ++ ms)) (marks_of-before rest others)
     ∙ ap (λ ms. begin role ordinal (length (text_of inside)) ∷ ms) (sym (append_assoc (marks_of inside) (marks_of rest) (marks_of others)))
 
--- likewise what they go on by
+-- the bytes that two lists of marks advance by: the first list's, and then the second's
 pub skipped-append : (first second : List Mark) → skipped (first ++ second) ≡ skipped first + skipped second
 unfolding skipped
 skipped-append [] second = omega arith
 skipped-append (skip n ∷ rest) second = omega (arith, skipped-append rest second)
 skipped-append (begin role ordinal n ∷ rest) second = skipped-append rest second
 
--- and the stretches that they list
+-- the stretches that two lists of marks list: the first list's, and then the second's
 pub stretches_at-append : (place : ℕ) (first second : List Mark) → stretches_at place (first ++ second) ≡ stretches_at place first ++ stretches_at (place + skipped first) second
 unfolding stretches_at skipped
 stretches_at-append place [] second = ap (λ p. stretches_at p second) (sym (add-zero place))
@@ -32,7 +29,7 @@ stretches_at-append place (begin role ordinal n ∷ rest) second =
     let here : Stretch = record { role = role; ordinal = ordinal; start = place; length = n } in
     ap (λ ps. here ∷ ps) (stretches_at-append place rest second)
 
--- the marks of a text go on by all of it
+-- the marks of a text advance by all its bytes
 pub skipped-marks_of : (m : Marked) → skipped (marks_of m) ≡ length (text_of m)
 unfolding skipped marks_of text_of
 skipped-marks_of done = refl
@@ -46,7 +43,7 @@ skipped-marks_of (marked role ordinal inside rest) =
       length-append (text_of inside) (text_of rest),
     )
 
--- and list its stretches
+-- the marks of a text list its stretches
 pub stretches_at-marks_of : (place : ℕ) (m : Marked) → stretches_at place (marks_of m) ≡ stretches_from place m
 unfolding stretches_at marks_of stretches_from
 stretches_at-marks_of place done = refl

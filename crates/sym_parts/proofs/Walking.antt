@@ -1,16 +1,7 @@
 -- The walk over tasks: what was found, and what the tasks that are left lead to.
-use Rattle.std.proofs.Common.{◌≡◌, ℕ, ◌+◌, ◌<◌, ◌≤◌, List, [], ◌∷◌, ◌++◌, length, refl, sym, ap, ◌∙◌, arith, append_assoc, append-nil}
-use Rattle.std.specs.List.{All}
-use Rattle.std.proofs.lemmas.List.Elements.{All-same, All-nil, All-head, All-tail}
+use Rattle.sym_parts.proofs.Basics.{◌≡◌, ℕ, ◌+◌, ◌<◌, ◌≤◌, List, [], ◌∷◌, ◌++◌, length, refl, sym, ap, ◌∙◌, arith, append_assoc, append-nil, All, All-same, All-nil, All-head, All-tail, Marked, ◌before◌, text_of, stretches_of, Mark, marks_of, stretches_at, skipped, Role, Ordinal, Stretch, marks_of_task, marks_of_tasks, IsTask, weight_of_task, weight_of_tasks, Adds, Grows, Lists, Task}
 use Rattle.sym_parts.specs.Found.{Found}
-use Rattle.sym_parts.specs.Marked.{Marked, ◌before◌, text_of, stretches_of}
 use Rattle.sym_parts.specs.Marked as marks
-use Rattle.sym_parts.specs.Marks.{Mark, marks_of, stretches_at, skipped}
-use Rattle.sym_parts.specs.declared.role.Role.{Role}
-use Rattle.sym_parts.specs.declared.spelling.Ordinal.{Ordinal}
-use Rattle.sym_parts.specs.declared.stretch.Stretch.{Stretch}
-use Rattle.sym_parts.specs.Tasks.{marks_of_task, marks_of_tasks, IsTask, weight_of_task, weight_of_tasks, Adds, Grows, Lists}
-use Rattle.sym_parts.specs.declared.task.Task.{Task}
 use Rattle.sym_parts.specs.declared.task.Task.TheVariants as task
 use Rattle.sym_parts.proofs.Growing.{before-done}
 use Rattle.sym_parts.proofs.Turns.{stretches_at-marks_of, skipped-marks_of, skipped-append}
@@ -22,7 +13,7 @@ lists-same old new these those same marks = record {
 }
 
 module _ {T : Type 0} (marked_of : T → Marked) (IsLater : T → Type 0) (weight_of : T → ℕ) where
-  -- what was added to the tasks themselves
+  -- tasks that have grown lead to the new marks first, and then to those of the old tasks
   pub grown : (old new : List (Task T)) (m : Marked) (s : ℕ) → Grows marked_of IsLater weight_of old new m s
       → (marks_of_tasks marked_of new ≡ marks_of m ++ marks_of_tasks marked_of old) × (All (IsTask IsLater) old → All (IsTask IsLater) new)
       × (weight_of_tasks weight_of new ≤ weight_of_tasks weight_of old + s)
@@ -52,7 +43,7 @@ module _ {T : Type 0} (marked_of : T → Marked) (IsLater : T → Type 0) (weigh
 
   -- ## The loop
 
-  -- it begins with the tasks of a marked text, at the text's beginning
+  -- the loop begins with the tasks of a marked text, at the text's beginning
   pub begins : (old new : List (Task T)) (found : Found) (m : Marked) (s most : ℕ) → old ≡ [] → found ≡ record { stretches = []; place = 0 }
       → Grows marked_of IsLater weight_of old new m s → length (text_of m) ≤ most
       → All (IsTask IsLater) new × (found.stretches ++ stretches_at found.place (marks_of_tasks marked_of new) ≡ stretches_of m) × (found.place + skipped (marks_of_tasks marked_of new) ≤ most)

@@ -1,4 +1,4 @@
--- The stretches that were found in a text, in order, and the place up to which it was gone through.
+-- The stretches that were found in a text, in order, and the place that was reached in it.
 use Rattle.std.specs.Prelude.{ℕ, List}
 use Rattle.sym_parts.specs.declared.stretch.Stretch.{Stretch}
 

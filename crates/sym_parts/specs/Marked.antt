@@ -1,4 +1,4 @@
--- A text some of whose stretches are marked, each as the part of a role with an ordinal, and the stretches that the marks make of it.
+-- A text with marked stretches, each the part of a role with an ordinal, and the list of stretches that the marks give.
 use Rattle.std.specs.Prelude.{ℕ, ◌+◌, length, List, [], ◌∷◌, ◌++◌}
 use Rattle.sym_parts.specs.declared.role.Role.{Role}
 use Rattle.sym_parts.specs.declared.spelling.Ordinal.{Ordinal}
@@ -16,7 +16,7 @@ text_of done = []
 text_of (text bytes rest) = bytes ++ text_of rest
 text_of (marked role ordinal inside rest) = text_of inside ++ text_of rest
 
--- how many marks it has
+-- how many marks the text has
 unfoldable pub marks_in : Marked → ℕ
 marks_in done = 0
 marks_in (text bytes rest) = marks_in rest
@@ -29,7 +29,7 @@ done before others = others
 (text bytes rest) before others = text bytes (rest before others)
 (marked role ordinal inside rest) before others = marked role ordinal inside (rest before others)
 
--- the stretches of a marked text that begins at a place: one for each mark, before those of what is in it
+-- the stretches of a marked text that begins at a place: one for each mark, followed by the stretches within the mark
 unfoldable pub stretches_from : (place : ℕ) → Marked → List Stretch
 stretches_from place done = []
 stretches_from place (text bytes rest) = stretches_from (place + length bytes) rest

@@ -1,4 +1,4 @@
--- The marks of a text in turn: what is gone on by, and what begins. So its stretches are listed from its beginning on.
+-- The marks of a text one by one: bytes to advance by, and stretches that begin. They list the text's stretches in order.
 use Rattle.std.specs.Prelude.{ℕ, ◌+◌, length, List, [], ◌∷◌, ◌++◌}
 use Rattle.sym_parts.specs.declared.role.Role.{Role}
 use Rattle.sym_parts.specs.declared.spelling.Ordinal.{Ordinal}
@@ -6,9 +6,9 @@ use Rattle.sym_parts.specs.declared.stretch.Stretch.{Stretch}
 use Rattle.sym_parts.specs.Marked.{Marked, done, text, marked, text_of}
 
 pub data Mark : Type 0 where
-  -- this many bytes
+  -- to advance by this many bytes
   skip : ℕ → Mark
-  -- a stretch of this role, ordinal and length, before what is in it
+  -- to begin a stretch of this role, ordinal and length, before what is in it
   begin : Role → Ordinal → ℕ → Mark
 
 -- the marks of a marked text
@@ -23,7 +23,7 @@ stretches_at place [] = []
 stretches_at place (skip n ∷ rest) = stretches_at (place + n) rest
 stretches_at place (begin role ordinal n ∷ rest) = record { role = role; ordinal = ordinal; start = place; length = n } ∷ stretches_at place rest
 
--- how many bytes are gone on by
+-- how many bytes marks advance by
 unfoldable pub skipped : List Mark → ℕ
 skipped [] = 0
 skipped (skip n ∷ rest) = n + skipped rest

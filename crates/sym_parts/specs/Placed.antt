@@ -5,15 +5,15 @@ use Rattle.sym_parts.specs.declared.part.Part.{Part}
 use Rattle.sym_parts.specs.declared.stretch.Stretch.{Stretch}
 
 module _ {X : Type 0} (start_of end_of : X → ℕ) where
-  -- it is a slice of what is from one place to another
+  -- the element is a slice of the bytes from one place to another
   abbrev pub IsBetween : (from to : ℕ) → X → Type 0
   IsBetween from to x = (from ≤ start_of x) × (end_of x ≤ to)
 
-  -- the later of two starts no earlier, and is within the other or after it
+  -- the later of two elements starts no earlier, and is within the other or after it
   abbrev pub AreInOrder : (earlier later : X) → Type 0
   AreInOrder earlier later = (start_of earlier ≤ start_of later) × ((end_of later ≤ end_of earlier) ⊎ (end_of earlier ≤ start_of later))
 
--- each is a slice of a text of this length, and each two are in order
+-- each element is a slice of a text of this length, and each two elements are in order
 pub record ArePlacedBy {X : Type 0} (start_of end_of : X → ℕ) (length : ℕ) (xs : List X) : Type 0 where
   pub slices : All (IsBetween start_of end_of 0 length) xs
   pub order : AllPairs (AreInOrder start_of end_of) xs
@@ -27,7 +27,7 @@ start_of_stretch stretch = stretch.start
 abbrev pub end_of_stretch : Stretch → ℕ
 end_of_stretch stretch = stretch.start + stretch.length
 
--- each stretch is a slice of a text of this length, and each two are in order
+-- each stretch is a slice of a text of this length, and each two stretches are in order
 abbrev pub AreStretchesPlaced : (length : ℕ) → List Stretch → Type 0
 AreStretchesPlaced length stretches = ArePlacedBy start_of_stretch end_of_stretch length stretches
 
@@ -40,10 +40,10 @@ start_of part = part.start
 abbrev pub end_of : Part → ℕ
 end_of part = part.start + part.length
 
--- the part is a slice of what is from one place to another
+-- the part is a slice of the bytes from one place to another
 abbrev pub IsSlice : (from to : ℕ) → Part → Type 0
 IsSlice from to part = IsBetween start_of end_of from to part
 
--- each part is a slice of a text of this length, and each two are in order
+-- each part is a slice of a text of this length, and each two parts are in order
 abbrev pub ArePlaced : (length : ℕ) → List Part → Type 0
 ArePlaced length parts = ArePlacedBy start_of end_of length parts

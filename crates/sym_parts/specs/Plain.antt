@@ -11,7 +11,7 @@ use Rattle.sym_parts.specs.declared.role.Role.TheVariants as role
 abbrev pub numbered : ℕ → Ordinal
 numbered n = record { item = n; element = 0 }
 
--- which part it is that comes once
+-- the ordinal of a part that comes once
 abbrev pub only : Ordinal
 only = numbered 0
 
@@ -19,11 +19,11 @@ only = numbered 0
 abbrev pub plain : Unshared → Marked
 plain u = text (printed.text_of u) done
 
--- all of it is one part
+-- what is printed, as one part
 abbrev pub whole : Role → Ordinal → Unshared → Marked
 whole r o u = marked r o (plain u) done
 
--- a text before others
+-- a text as one part, before the rest
 abbrev pub alone : Role → Ordinal → List ℕ → (rest : Marked) → Marked
 alone r o b rest = marked r o (text b done) rest
 

@@ -10,8 +10,9 @@ use Rattle.sym_parts.specs.declared.spelling.Span.{Span}
 use Rattle.sym_parts.specs.declared.spelling.Spelled.{Spelled}
 use Rattle.sym_parts.specs.declared.stretch.Stretch.{Stretch}
 
--- What spells the parts of a symbol's text: what is found in none of the lists; parts that come once; words of special names, the
--- outermost first; tags, the last one first; lists of generic arguments, the last one first; and items of lists with their elements.
+-- What spells the parts of a symbol's text: bytes for parts in none of the lists; parts that come once; words of special names,
+-- the outermost first; tags, the last one first; lists of generic arguments, the last one first; items of lists; and elements of
+-- items.
 pub record Spelling : Type 0 where
   pub others : Span
   pub spans : List Spelled
@@ -22,11 +23,11 @@ pub record Spelling : Type 0 where
   pub parameters : List Item
   pub elements : List Span
 
--- the bytes from one place up to another; none where that isn't after it
+-- the bytes from one place up to another; none where the second isn't after the first
 abbrev pub span : (from to : ℕ) → Span
 span from to = record { from = from; to = if nat_le from to then to else from }
 
--- the one of a list, or what spells the others
+-- the span that was found in a list; if none was, `others`
 unfoldable pub or_others : Span → Option Span → Span
 or_others others None = others
 or_others others (Some found) = found
@@ -36,12 +37,12 @@ unfoldable pub once : Span → Role → List Spelled → Span
 once others role [] = others
 once others role (spelled ∷ rest) = if nat_eq (role_number spelled.role) (role_number role) then spelled.span else once others role rest
 
--- what spells an element of an item: the item itself where it has no such element
+-- what spells an element of an item: what spells the item, where it has no element with this number
 unfoldable pub element_of : List Span → Item → ℕ → Span
 element_of elements item zero = item.span
 element_of elements item (suc n) = if nat_lt n item.count then or_others item.span (slice_get elements (item.first + n)) else item.span
 
--- what spells an item of a list, or an element of it
+-- what spells an item of a list, or one of the item's elements
 unfoldable pub item_of : Span → List Span → Option Item → ℕ → Span
 item_of others elements None n = others
 item_of others elements (Some item) n = element_of elements item n
@@ -65,7 +66,7 @@ part_of s stretch = record {
   to = (span_of s stretch.role stretch.ordinal).to;
 }
 
--- parts that aren't in the text: they come last, with no bytes of it
+-- parts that aren't in the text: they come last, with no bytes of the text
 unfoldable pub unprinted : (end : ℕ) → List Spelled → List Part
 unprinted end [] = []
 unprinted end (spelled ∷ rest) =

@@ -1,4 +1,4 @@
--- What is still to be done: bytes to go on by, stretches to begin, and what is to be taken apart later.
+-- What is still to be done: bytes to advance by, stretches to begin, and what is to be taken apart later.
 use Rattle.std.specs.Prelude.{◌≡◌, ℕ, ◌+◌, ◌≤◌, List, [], ◌∷◌, ◌++◌}
 use Rattle.std.specs.List.{All}
 use Rattle.sym_parts.specs.Found.{Found}
@@ -14,13 +14,13 @@ module _ {T : Type 0} (marked_of : T → Marked) where
   marks_of_task (task.Begin role ordinal n) = begin role ordinal n ∷ []
   marks_of_task (task.Later t) = marks_of (marked_of t)
 
-  -- those of tasks in turn
+  -- the marks that tasks lead to in turn
   unfoldable pub marks_of_tasks : List (Task T) → List Mark
   marks_of_tasks [] = []
   marks_of_tasks (first ∷ rest) = marks_of_task first ++ marks_of_tasks rest
 
 module _ {T : Type 0} (IsLater : T → Type 0) where
-  -- what is to be taken apart later may be
+  -- a task may be done if what it takes apart may be
   unfoldable pub IsTask : Task T → Type 0
   IsTask (task.Later t) = IsLater t
   IsTask _ = Unit {0}
@@ -41,11 +41,11 @@ pub record Adds {T : Type 0} (marked_of : T → Marked) (IsLater : T → Type 0)
   pub all : All (IsTask IsLater) others → All (IsTask IsLater) tasks
   pub weight : weight_of_tasks weight_of tasks ≤ weight_of_tasks weight_of others + steps
 
--- What was added before others has grown: these marks come first in it, and it takes at most this many steps more.
+-- The tasks that were added before others have grown: they lead to these marks first, and take at most this many steps more.
 pub record Grows {T : Type 0} (marked_of : T → Marked) (IsLater : T → Type 0) (weight_of : T → ℕ) (old new : List (Task T)) (m : Marked) (steps : ℕ) : Type 0 where
   pub adds : (others : List (Task T)) (behind : Marked) (taken : ℕ) → Adds marked_of IsLater weight_of others old behind taken → Adds marked_of IsLater weight_of others new (m before behind) (taken + steps)
 
--- What was found together with these marks is what is found together with those, and they go on by as many bytes.
+-- Together with the marks `these`, what was found before gives the same stretches and place as what is found now with `those`.
 pub record Lists (old new : Found) (these those : List Mark) : Type 0 where
   pub stretches : old.stretches ++ stretches_at old.place these ≡ new.stretches ++ stretches_at new.place those
   pub place : old.place + skipped these ≡ new.place + skipped those

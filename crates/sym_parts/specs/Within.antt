@@ -1,4 +1,4 @@
--- What parts have of their stretches, and spellings whose bytes are within a symbol.
+-- What parts take from their stretches, and spellings whose bytes are within a symbol.
 use Rattle.std.specs.Prelude.{◌≡◌, ℕ, ◌≤◌}
 use Rattle.std.specs.List.{All}
 use Rattle.sym_parts.specs.declared.part.Part.{Part}
@@ -20,11 +20,11 @@ pub record IsUnprinted (end : ℕ) (part : Part) : Type 0 where
   pub length : part.length ≡ 0
   pub role : role_number role.Hash ≤ role_number part.role
 
--- bytes of a symbol of this length
+-- the span is within a symbol of this length
 abbrev pub IsSpanWithin : (length : ℕ) → Span → Type 0
 IsSpanWithin length span = (span.from ≤ span.to) × (span.to ≤ length)
 
--- all that spells parts is within a symbol of this length
+-- all spans of the spelling are within a symbol of this length
 pub record IsWithin (length : ℕ) (s : Spelling) : Type 0 where
   pub others : IsSpanWithin length s.others
   pub spans : All (λ spelled. IsSpanWithin length spelled.span) s.spans

@@ -13,7 +13,7 @@ use std::alloc::Global;
 use sym_core::Refusal;
 use sym_room::push_within;
 
-/// The one of a list at a place, or what spells the others.
+/// The span at a place of a list; where there is none, `others`.
 #[tactic(auto, unfolding(crate::specs::Spelling::or_others))]
 fn or_others(others: Span, spans: &[Span], place: usize) -> Span
     ensures { result ≡ or_others others (slice_get spans.now place) }
@@ -52,7 +52,7 @@ fn element_of(elements: &[Span], item: Item, number: u32) -> Span
     item.span
 }
 
-/// What spells an item of a list, or an element of it.
+/// What spells an item of a list, or one of the item's elements.
 #[tactic(auto, unfolding(crate::specs::Spelling::item_of))]
 fn item_of(others: Span, elements: &[Span], items: &[Item], ordinal: Ordinal) -> Span
     ensures { result ≡ item_of others elements.now (slice_get items.now ordinal.item) ordinal.element }

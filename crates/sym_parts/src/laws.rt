@@ -12,7 +12,7 @@ ghost use Rattle.std.specs.List.{All};
 ghost use Rattle.sym_parts.specs.Marks.{marks_of, stretches_at};
 ghost use Rattle.sym_parts.specs.declared.role.Role.{Role};
 
-/// Each stretch of a marked text is a slice of it; they are in the order of their starts; and of two stretches one is within the
+/// The stretches of a marked text are slices of it, in the order of their starts; and of two stretches one is within the
 /// other, or they are apart.
 pub fn stretches_are_placed()
     ensures { (m : Marked) → AreStretchesPlaced (length (text_of m)) (stretches_of m) }
@@ -28,7 +28,7 @@ pub fn marks_list_the_stretches()
     ensures { (m : Marked) → stretches_at 0 (marks_of m) ≡ stretches_of m }
 {}
 
-/// The part of a stretch is what the stretch is: its role, its place and its length are the same.
+/// The part of a stretch has the stretch's role, place and length.
 pub fn parts_are_stretches()
     ensures { (s : Spelling) (stretch : Stretch) → IsAsStretch stretch (part_of s stretch) }
 {}
@@ -38,13 +38,13 @@ pub fn unprinted_parts_are_last()
     ensures { (end : ℕ) (spans : List Spelled) → All (IsUnprinted end) (unprinted end spans) }
 {}
 
-/// Each part of a marked text is a slice of it, whatever spells the parts; they are in the order of their starts; and of two parts
-/// one is within the other, or they are apart.
+/// The parts of a marked text are slices of it, whatever spells them, in the order of their starts; and of two parts one is
+/// within the other, or they are apart.
 pub fn parts_are_placed()
     ensures { (s : Spelling) (m : Marked) → ArePlaced (length (text_of m)) (parts_spelled s (length (text_of m)) (stretches_of m)) }
 {}
 
-/// Where all that spells parts is within a symbol, the bytes of each part are.
+/// Where all spans of a spelling are within a symbol, the bytes of each part are, too.
 pub fn bytes_are_within()
     ensures { (symbol : ℕ) (s : Spelling) (length : ℕ) (stretches : List Stretch) → IsWithin symbol s → All (IsSpelledWithin symbol) (parts_spelled s length stretches) }
 {}

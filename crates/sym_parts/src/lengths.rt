@@ -1,4 +1,4 @@
-// How long the texts of parts of a layout's item are.
+// The lengths of the texts that the parts of a layout's items print.
 #![tactic(auto)]
 
 ghost use Rattle.std.specs.Prelude.{◌≡◌, ◌<◌, ◌≤◌, ◌⊎◌, length, Err, IfErr, IfOk, OnOk};
@@ -12,7 +12,7 @@ use std::alloc::Global;
 use sym_core::Refusal;
 use sym_print::{Layout, Part, Printer};
 
-/// How many bytes the text of a part has, where it costs at most the limit.
+/// How many bytes a part prints, where it costs at most the limit.
 ///
 /// # Errors
 ///
@@ -46,7 +46,7 @@ pub fn length_of_part<Y: Layout>(
     }
 }
 
-/// How many bytes a part has that costs at most this much.
+/// How many bytes a part prints that costs at most `most`.
 ///
 /// # Errors
 ///
@@ -65,7 +65,7 @@ pub fn length_of<Y: Layout>(
     length_of_part(alloc, y, part, most)
 }
 
-/// How many bytes parts have that cost at most this much.
+/// How many bytes parts print that cost at most `most` together.
 ///
 /// # Errors
 ///

@@ -1,4 +1,4 @@
-//! The parts of a text: what the stretches of a name are, such as its scope, its arguments and its parameters.
+//! The parts of a text: the stretches of a name's text that are its scope, its arguments, its parameters and so on.
 #![tactic(auto)]
 
 mod bytes;

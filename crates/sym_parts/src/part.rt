@@ -11,6 +11,6 @@ pub struct Part {
     pub length: u32,
     /// How many bytes of the symbol are before what spells it.
     pub from: u32,
-    /// How many bytes of the symbol are before its end.
+    /// How many bytes of the symbol are before the end of what spells it.
     pub to: u32,
 }

@@ -1,4 +1,4 @@
-// Tasks for what is printed as it is, and for parts in which there are no others.
+// Tasks for what is printed without a mark, and for parts that contain no other parts.
 #![tactic(auto)]
 
 ghost use Rattle.std.specs.Prelude.{◌≡◌, ◌∷◌, length, OnOk, IfErr};
@@ -15,7 +15,7 @@ use crate::task::{Task, Tasks};
 use sym_core::Refusal;
 use sym_print::{Layout, Part};
 
-/// Goes on by what parts print.
+/// Advances by the bytes that parts print.
 ///
 /// # Errors
 ///
@@ -34,7 +34,7 @@ pub fn push_plain<Y: Layout, T: Copy>(
     tasks.push(Task::Skip(length))
 }
 
-/// One part, of this many bytes.
+/// Adds tasks for one part of this many bytes.
 ///
 /// # Errors
 ///
@@ -52,7 +52,7 @@ pub fn push_alone<T: Copy>(
     tasks.push(Task::Begin(role, ordinal, count))
 }
 
-/// One part of all that parts print.
+/// Adds tasks for one part, to which all bytes that these parts print belong.
 ///
 /// # Errors
 ///

@@ -20,7 +20,7 @@ pub struct Ordinal {
     pub element: u32,
 }
 
-/// Which part of its role one is that comes once.
+/// The ordinal of a part that comes once.
 pub const ONLY: Ordinal = Ordinal {
     item: 0,
     element: 0,
@@ -44,7 +44,8 @@ pub struct Item {
 /// What spells the parts of a symbol's text.
 #[derive(Drop)]
 pub struct Spelling {
-    /// What is found nowhere below: the bytes of the name, or of the reference that stands for it.
+    /// What spells the parts in none of the lists below: the bytes of the name, or of the reference
+    /// that denotes it.
     pub others: Span,
     /// Parts that come once.
     pub spans: Vec<Spelled>,

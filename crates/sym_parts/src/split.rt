@@ -13,7 +13,7 @@ pub enum Split<'a, C> {
     Item(&'a Item<C>, &'a [Part<C>]),
 }
 
-/// Splits the parts of an item, or some that are last among them.
+/// Splits the parts of an item, or the last few of them, into the first one and the others.
 pub fn first_of<'a, Y: Layout>(_y: &Y, parts: &'a [Part<Y::Ctx>], _most: u32) -> Split<'a, Y::Ctx>
     requires { ArePayable (Y.unshared _y.now) (Y.bytes_of _y.now) (Y.may_come _y.now) _most parts.now }
     ensures { IsSplit (Y.unshared _y.now) (Y.bytes_of _y.now) (Y.may_come _y.now) _most parts.now result }

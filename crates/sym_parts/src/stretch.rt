@@ -3,7 +3,7 @@
 use crate::role::Role;
 use crate::spelling::Ordinal;
 
-/// A stretch of a text that is a part of it: which one, and where it is.
+/// A stretch of a text: which part of the text it is, and where it is.
 #[derive(Clone, Copy, Debug, PartialEq, Eq)]
 pub struct Stretch {
     pub role: Role,

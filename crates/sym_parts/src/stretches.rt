@@ -13,7 +13,7 @@ use std::marker::Model;
 use sym_core::Refusal;
 use sym_room::push_within;
 
-/// The stretches that were found in a text, in order, and the place up to which it was gone through.
+/// The stretches that were found in a text, in order, and the place that was reached in it.
 #[derive(Drop)]
 pub struct Stretches {
     list: Vec<Stretch>,
@@ -39,7 +39,7 @@ impl Stretches {
         }
     }
 
-    /// The place up to which the text was gone through.
+    /// The place that was reached in the text.
     pub fn place(&self) -> u32
         ensures { result ≡ self.now.place }
     {
@@ -53,7 +53,7 @@ impl Stretches {
         &self.list
     }
 
-    /// Goes on by this many bytes of the text.
+    /// Advances by this many bytes of the text.
     pub fn skip(&mut self, length: u32)
         requires { self.old.place + length < 2 ^ 32 }
         ensures stretches { self.new.stretches ≡ self.old.stretches }
@@ -62,7 +62,7 @@ impl Stretches {
         self.place += length;
     }
 
-    /// Adds the stretch of this length that begins at the place. What is in it comes next.
+    /// Adds the stretch of this length that begins at the place. The stretches within it are added next.
     ///
     /// # Errors
     ///

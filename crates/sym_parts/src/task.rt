@@ -1,4 +1,4 @@
-// What is still to be done.
+// The tasks that are left while the stretches of a text are listed.
 #![tactic(auto)]
 
 ghost use Rattle.std.specs.Prelude.{◌≡◌, ◌∷◌, [], OnOk, IfErr, MatchOption};
@@ -15,7 +15,7 @@ use sym_room::push_within;
 /// Something to be done.
 #[derive(Clone, Copy)]
 pub enum Task<T> {
-    /// To go on by this many bytes.
+    /// To advance by this many bytes.
     Skip(u32),
     /// To begin a stretch of this role, ordinal and length.
     Begin(Role, Ordinal, u32),

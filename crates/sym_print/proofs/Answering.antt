@@ -1,21 +1,18 @@
 -- What a printer answers is the text within the limit.
-use Rattle.std.proofs.Common.{◌≡◌, ℕ, ◌<◌, ◌≤◌, Bool, true, false, List, Result, Ok, Err, ap, ◌∙◌, sym}
-use Rattle.std.proofs.lemmas.Bool.{le-leb, lt-leb}
-use Rattle.sym_core.specs.declared.Refusal.{Refusal}
-use Rattle.sym_print.specs.Unshared.{Unshared, text_of, cost_of}
+use Rattle.sym_print.proofs.Basics.{◌≡◌, ℕ, ◌<◌, ◌≤◌, Bool, true, false, List, Result, Ok, Err, ap, ◌∙◌, sym, le-leb, lt-leb, Refusal, Unshared, text_of, cost_of}
 use Rattle.sym_print.specs.Answer.{text_within}
 
 chosen : Bool → Unshared → Result (List ℕ) Refusal
 chosen b parts = elim b [ true ↦ Ok (text_of parts) | false ↦ Err Refusal.TooLong ]
 
--- the text that `print` answers
+-- `print` answers the text, if it costs at most the limit
 pub text_within-ok : (limit : ℕ) (parts : Unshared) (text : List ℕ) → text ≡ text_of parts → cost_of parts ≤ limit → text_within limit parts ≡ Ok text
 unfolding chosen
 text_within-ok limit parts text e h =
     let answered : List ℕ → Result (List ℕ) Refusal = λ t. Ok t in
     ap (λ b. chosen b parts) (le-leb (cost_of parts) limit h) ∙ ap answered (sym e)
 
--- and where it answers that it is too long
+-- `print` answers that the text is too long, if it costs more
 pub text_within-too_long : (limit : ℕ) (parts : Unshared) → limit < cost_of parts → text_within limit parts ≡ Err Refusal.TooLong
 unfolding chosen
 text_within-too_long limit parts h = ap (λ b. chosen b parts) (lt-leb (cost_of parts) limit h)

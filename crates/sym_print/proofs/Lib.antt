@@ -1,4 +1,5 @@
 pub mod Answering
+pub mod Basics
 pub mod Building
 pub mod Leading
 pub mod Noting

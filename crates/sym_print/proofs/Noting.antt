@@ -1,21 +1,9 @@
 -- What is noted still holds while entries are taken.
-use Rattle.std.proofs.Common.{◌≡◌, ℕ, ◌+◌, ◌-◌, ◌<◌, ◌≤◌, Some, List, [], ◌∷◌, ◌++◌, length, take, drop, reverse, refl, sym, ap, ◌∙◌, subst, append_assoc, append-nil, arith, inl, inr, ◌⊎◌, ⊎_elim}
-use Rattle.std.proofs.lemmas.List.{drop-append-le, length-append, length-drop, take-append-le, take_all}
+use Rattle.sym_print.proofs.Basics.{◌≡◌, ℕ, ◌+◌, ◌-◌, ◌<◌, ◌≤◌, Some, List, [], ◌∷◌, ◌++◌, length, take, drop, reverse, refl, sym, ap, ◌∙◌, subst, append_assoc, append-nil, arith, inl, inr, ◌⊎◌, ⊎_elim, drop-append-le, length-append, length-drop, take-append-le, take_all, drop-length, drop-append_seam, All, Contains, All-nil, All-cons, All-head, All-tail, All-push, All-pop, All-weaker, All-same, All-contains, Item, Part, Sub, Unshared, bytes, item, done, text_of, cost_of_parts, cost_of, steps_of_parts, steps_of, Stacked, IsNext, IsText, text_of_part, cost_of_part, steps_of_part, text_of_stack, cost_of_stack, steps_of_stack, spare_of_part, spare_of_stack, IsNote, IsBegun, AreNested, AreBelow, EndsAt, AreNoted}
 use Rattle.std.proofs.Math.Numerals.{lt_of_le_of_ne}
-use Rattle.std.proofs.Math.Seq.{drop-length, drop-append_seam}
-use Rattle.std.specs.List.{All, Contains}
-use Rattle.std.proofs.lemmas.List.Elements.{All-nil, All-cons, All-head, All-tail, All-push, All-pop, All-weaker, All-same, All-contains}
-use Rattle.sym_print.specs.declared.layout.Item.{Item}
-use Rattle.sym_print.specs.declared.layout.Part.{Part}
-use Rattle.sym_print.specs.declared.layout.Part.TheVariants.{Sub}
 use Rattle.sym_print.specs.declared.notes.Note.{Note}
 use Rattle.sym_print.specs.declared.notes.Begun.{Begun}
 use Rattle.sym_print.specs.declared.notes.Notes.{Notes}
-use Rattle.sym_print.specs.Unshared.{Unshared, bytes, item, done, text_of, cost_of_parts, cost_of, steps_of_parts, steps_of}
-use Rattle.sym_print.specs.Stacked.{Stacked}
-use Rattle.sym_print.specs.Joined.{IsNext, IsText, text_of_part, cost_of_part, steps_of_part, text_of_stack, cost_of_stack, steps_of_stack}
-use Rattle.sym_print.specs.Spare.{spare_of_part, spare_of_stack}
-use Rattle.sym_print.specs.Noted.{IsNote, IsBegun, AreNested, AreBelow, EndsAt, AreNoted}
 use Rattle.sym_print.proofs.Stack.{next_is_last, text_of_stack-append, cost_of_stack-append, steps_of_stack-append, text_of_stack-reverse, cost_of_stack-reverse, steps_of_stack-reverse, text_of_text, cost_of_text, steps_of_text, cost_of_next}
 use Rattle.sym_print.proofs.Sparing.{spare_of_stack-append, spare_of_text}
 
@@ -46,7 +34,7 @@ module _ {C : Type 0} where
   nested-all low [] b nested = All-nil (λ a. a.below ≤ b.below)
   nested-all low (a ∷ rest) b nested = All-cons (λ x. x.below ≤ b.below) a rest (nested-low a.below rest b nested.1) (nested-all a.below rest b nested.1)
 
-  -- where the innermost item isn't whole, no item is
+  -- if the innermost item isn't whole, no item is whole
   pub below-unmet : (low height : ℕ) (begun : List (Begun C)) → AreNested low begun → All (λ b. b.below ≤ height) begun → (EndsAt height begun → ⊥) → AreBelow height begun
   below-unmet low height [] nested all unmet = All-nil (λ b. b.below < height)
   below-unmet low height (b ∷ []) nested all unmet =
@@ -56,12 +44,12 @@ module _ {C : Type 0} where
       (λ h. unmet (h.0, a ∷ h.1, ap (λ l. a ∷ l) h.2, h.3)) in
       All-cons (λ x. x.below < height) a (b ∷ rest) (omega (arith, nested.1.0, All-head (λ x. x.below < height) b rest inner)) inner
 
--- the bytes after a place, once more bytes are written
+-- the bytes after a place, when more bytes are written
 joined-on : (d own up rest one whole : List ℕ) → own ++ up ≡ one → d ++ (one ++ rest) ≡ whole → (d ++ own) ++ (up ++ rest) ≡ whole
 joined-on d own up rest one whole e w =
     append_assoc d own (up ++ rest) ∙ ap (λ t. d ++ t) (sym (append_assoc own up rest)) ∙ ap (λ t. d ++ (t ++ rest)) e ∙ w
 
--- steps that are paid stay so
+-- steps that are paid stay paid
 spare-on : (since begun spent paid taken counted old new : ℕ) → taken + begun ≤ since + spent + old → counted + spent + old ≤ taken + paid + new → counted + begun ≤ since + paid + new
 spare-on since begun spent paid taken counted old new before now = omega (arith, before, now)
 
@@ -78,7 +66,7 @@ module _ {C : Type 0} (unshared : Item C → Unshared) (bytes_of : Part C → Li
   spare : List (Part C) → ℕ
   spare = spare_of_stack bytes_of
 
-  -- One entry was taken: other entries are in its place, and what they don't print any more is written.
+  -- An entry was taken: others take its place, and the bytes that it prints ahead of theirs are written.
   pub record Moves (stack new : List (Part C)) (text written : List ℕ) (spent paid taken counted : ℕ) : Type 0 where
     pub left : List (Part C)
     pub next : Part C
@@ -129,7 +117,7 @@ module _ {C : Type 0} (unshared : Item C → Unshared) (bytes_of : Part C → Li
         m.takes,
       )
 
-  -- the steps are paid as before, or will be with the texts of the stack
+  -- the steps are paid as before, or will be paid by the texts of the stack
   pub spare-moved : (stack new : List (Part C)) (text written : List ℕ) (spent paid taken counted : ℕ) → Moves stack new text written spent paid taken counted
       → counted + spent + spare_of_stack bytes_of stack ≤ taken + paid + spare_of_stack bytes_of new
   unfolding spare
@@ -173,7 +161,7 @@ module _ {C : Type 0} (unshared : Item C → Unshared) (bytes_of : Part C → Li
         few = spare-on b.steps b.spent spent paid taken counted (spare_of_stack bytes_of (drop b.below stack)) (spare_of_stack bytes_of (drop b.below new)) h.few (spare-moved (drop b.below stack) (drop b.below new) (drop b.from text) (drop b.from written) spent paid taken counted up);
       }
 
-  -- a note still holds once more is written
+  -- a note still holds when more is written
   note-moved : (text written own : List ℕ) (n : Note C) → written ≡ text ++ own → IsNote unshared text n → IsNote unshared written n
   note-moved text written own n puts h = record {
     after = h.after ++ own;
@@ -194,7 +182,7 @@ module _ {C : Type 0} (unshared : Item C → Unshared) (bytes_of : Part C → Li
     nested = h.nested;
   }
 
-  -- the notes hold where the same notes are made
+  -- equal notes hold, too
   pub noted-same : (old new : Notes C) (stack : List (Part C)) (text : List ℕ) (spent taken : ℕ) → new.known ≡ old.known → new.begun ≡ old.begun
       → AreNoted unshared bytes_of old stack text spent taken → AreNoted unshared bytes_of new stack text spent taken
   noted-same old new stack text spent taken known begun h = record {
@@ -203,7 +191,7 @@ module _ {C : Type 0} (unshared : Item C → Unshared) (bytes_of : Part C → Li
     nested = subst (λ b. AreNested 0 b.items) (sym begun) h.nested;
   }
 
-  -- where the innermost item that is being written isn't whole, no item is
+  -- if the innermost item that is being written isn't whole, no item is whole
   pub noted-unmet : (notes : Notes C) (stack : List (Part C)) (text : List ℕ) (spent taken height : ℕ) → AreNoted unshared bytes_of notes stack text spent taken
       → height ≡ length stack → (EndsAt height notes.begun.items → ⊥) → AreBelow (length stack) notes.begun.items
   noted-unmet notes stack text spent taken height h is unmet =
@@ -211,7 +199,7 @@ module _ {C : Type 0} (unshared : Item C → Unshared) (bytes_of : Part C → Li
       (All-weaker (IsBegun unshared bytes_of stack text spent taken) (λ b. b.below ≤ length stack) (λ b i. i.place) notes.begun.items h.begun)
       (subst (λ k. EndsAt k notes.begun.items → ⊥) is unmet)
 
-  -- a text was written and removed
+  -- a text was written and removed from the stack
   pub moves-text : (stack new : List (Part C)) (next : Part C) (text written : List ℕ) (spent paid taken counted : ℕ) → IsNext stack next → IsText next
       → new ≡ take (length stack - 1) stack → written ≡ text ++ bytes_of next → paid ≡ spent + length (bytes_of next) → counted ≡ taken + 1 → 0 < length (bytes_of next)
       → Moves stack new text written spent paid taken counted
@@ -229,7 +217,7 @@ module _ {C : Type 0} (unshared : Item C → Unshared) (bytes_of : Part C → Li
     few = omega (arith, pays, counts, spare_of_text bytes_of next is_text, some);
   }
 
-  -- the text of an item was written again and the item was removed
+  -- the text of an item was written again and the item was removed from the stack
   pub moves-again : (stack new : List (Part C)) (note : Note C) (i : Item C) (text written : List ℕ) (spent paid taken counted : ℕ) → IsNext stack (Sub i) → note.item ≡ i → IsNote unshared text note
       → new ≡ take (length stack - 1) stack → written ≡ text ++ text_of (unshared note.item) → paid ≡ spent + note.cost → counted ≡ taken + note.steps
       → Moves stack new text written spent paid taken counted
@@ -247,7 +235,7 @@ module _ {C : Type 0} (unshared : Item C → Unshared) (bytes_of : Part C → Li
     few = omega (arith, pays, counts, noted.few);
   }
 
-  -- an item's parts are in its place
+  -- an item was replaced by its parts
   pub moves-parts : (may_come : Part C → Type 0) (stack new : List (Part C)) (i : Item C) (text : List ℕ) (spent paid taken counted : ℕ) → IsNext stack (Sub i)
       → Stacked unshared bytes_of may_come (take (length stack - 1) stack) new (unshared i) → paid ≡ spent + 1 → counted ≡ taken + 1
       → Moves stack new text text spent paid taken counted
@@ -311,7 +299,7 @@ module _ {C : Type 0} (unshared : Item C → Unshared) (bytes_of : Part C → Li
             (All-push (λ a. a.below < length stack) old.begun.items b below (omega (arith, place, some))),
       )
 
-  -- an item that is whole is noted
+  -- the notes still hold once a whole item is noted
   pub noted-whole : (old new : Notes C) (stack : List (Part C)) (text : List ℕ) (spent taken : ℕ) (b : Begun C) (n : Note C) → b.below ≡ length stack → old.begun.items ≡ new.begun.items ++ b ∷ []
       → n.item ≡ b.item → n.from ≡ b.from → n.to ≡ length text → n.cost ≡ spent - b.spent → n.steps ≡ taken - b.steps
       → All (λ x. (x ≡ n) ⊎ Contains old.known.items x) new.known.items
@@ -337,18 +325,18 @@ module _ {C : Type 0} (unshared : Item C → Unshared) (bytes_of : Part C → Li
         nested = nested-pop 0 new.begun.items b (subst (AreNested 0) was noted.nested);
       }
 
-  -- the limit covers a text that is written again
+  -- once an item's text is written again and paid for, the text is still no longer than what was paid
   pub again-paid : (text written : List ℕ) (n : Note C) (spent paid : ℕ) → IsNote unshared text n → written ≡ text ++ text_of (unshared n.item) → paid ≡ spent + n.cost → length text ≤ spent → length written ≤ paid
   again-paid text written n spent paid h puts pays within =
       omega (arith, ap length puts, length-append text (text_of (unshared n.item)), length_of_text (unshared n.item), h.costs, pays, within)
 
-  -- where the limit doesn't cover a noted item, it doesn't cover the stack either
+  -- if the limit doesn't cover a noted item, it doesn't cover the stack, either
   pub again-too-dear : (stack : List (Part C)) (i : Item C) (text : List ℕ) (n : Note C) (limit spent : ℕ) → IsNext stack (Sub i) → n.item ≡ i → IsNote unshared text n → limit < spent + n.cost
       → limit < spent + cost_of_stack unshared bytes_of stack
   again-too-dear stack i text n limit spent next same h dear =
       omega (arith, cost_of_next unshared bytes_of stack (Sub i) next, h.costs, ap (λ x. cost_of (unshared x)) same, dear)
 
-  -- nothing is noted
+  -- with no notes, nothing has to hold
   pub noted-nothing : (notes : Notes C) (stack : List (Part C)) (text : List ℕ) (spent taken : ℕ) → notes.known.items ≡ [] → notes.begun.items ≡ [] → AreNoted unshared bytes_of notes stack text spent taken
   noted-nothing notes stack text spent taken known begun = record {
     known = All-same (IsNote unshared text) notes.known.items [] known (All-nil (IsNote unshared text));
@@ -365,7 +353,7 @@ module _ {C : Type 0} (unshared : Item C → Unshared) (bytes_of : Part C → Li
       ∙ take-append-le (length (text_of (unshared n.item))) (text_of (unshared n.item)) h.after (omega arith)
       ∙ take_all (length (text_of (unshared n.item))) (text_of (unshared n.item)) (omega arith)
 
-  -- a note's bytes are within the text, and the item costs at least as much as they are
+  -- a note's bytes are within the text, and the item costs at least as much as their number
   pub noted-within : (text : List ℕ) (n : Note C) → IsNote unshared text n → (n.from ≤ n.to) × (n.to ≤ length text) × (n.to - n.from ≤ n.cost) × (0 < n.cost)
   noted-within text n h = (
     omega (arith, h.ends),

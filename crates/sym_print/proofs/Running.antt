@@ -1,17 +1,7 @@
--- A run of items: what it prints and costs is what its end and the text after that do, and what its items do by themselves.
-use Rattle.std.proofs.Common.{◌≡◌, ℕ, ◌+◌, ◌-◌, ◌*◌, ◌<◌, ◌≤◌, Option, Some, None, List, [], ◌∷◌, ◌++◌, length, take, refl, sym, ap, ◌∙◌, append_assoc, append-nil, arith}
-use Rattle.std.proofs.lemmas.List.{length-append}
-use Rattle.std.specs.List.{All}
-use Rattle.std.proofs.lemmas.List.Elements.{All-nil, All-cons, All-head, All-tail, All-append, All-take, All-same}
-use Rattle.sym_print.specs.declared.layout.Item.{Item}
-use Rattle.sym_print.specs.declared.layout.Part.{Part}
-use Rattle.sym_print.specs.declared.layout.Part.TheVariants.{Sub}
+-- A run of items prints what its end and the text after that print. It costs what these cost, and 1 for each of its items.
+use Rattle.sym_print.proofs.Basics.{◌≡◌, ℕ, ◌+◌, ◌-◌, ◌*◌, ◌<◌, ◌≤◌, Option, Some, None, List, [], ◌∷◌, ◌++◌, length, take, refl, sym, ap, ◌∙◌, append_assoc, append-nil, arith, length-append, All, All-nil, All-cons, All-head, All-tail, All-append, All-take, All-same, Item, Part, Sub, Unshared, text_of, cost_of, cost_of_parts, steps_of, steps_of_parts, IsNext, IsText, text_of_stack, cost_of_stack, steps_of_stack, height_of, height_of_part, peak_above, peak_of_stack, spare_of_stack}
 use Rattle.sym_print.specs.declared.layout.Run.{Run}
-use Rattle.sym_print.specs.Unshared.{Unshared, text_of, cost_of, cost_of_parts, steps_of, steps_of_parts}
-use Rattle.sym_print.specs.Joined.{IsNext, IsText, text_of_stack, cost_of_stack, steps_of_stack}
-use Rattle.sym_print.specs.Peak.{height_of, height_of_part, peak_above, peak_of_stack}
 use Rattle.sym_print.specs.Runs.{nested, texts_of, IsTextOfRun, entries_of_run, steps_of_run, IsRun}
-use Rattle.sym_print.specs.Spare.{spare_of_stack}
 use Rattle.sym_print.proofs.Stack.{next_is_last, text_of_text, cost_of_text, steps_of_text}
 use Rattle.sym_print.proofs.Sparing.{spare_of_text}
 use Rattle.sym_print.proofs.Noting.{Moves}
@@ -84,7 +74,7 @@ module _ {C : Type 0} (unshared : Item C → Unshared) (bytes_of : Part C → Li
   run-paid end levels texts (Some part) count text =
       omega (arith, count, texts_are_long texts text.2, ap length text.3, spare_of_text bytes_of part text.0)
 
-  -- a run's end and its text are in the place of the item that begins it
+  -- the end of a run and its text take the place of the item that begins the run
   pub moves-run : (stack new : List (Part C)) (i : Item C) (run : Run C) (text : List ℕ) (spent paid taken counted : ℕ) → IsNext stack (Sub i) → IsRun unshared bytes_of may_come i run
       → new ≡ take (length stack - 1) stack ++ entries_of_run run.item run.text → paid ≡ spent + run.levels → counted ≡ taken + steps_of_run run.levels run.text
       → Moves unshared bytes_of stack new text text spent paid taken counted
@@ -131,6 +121,6 @@ module _ {C : Type 0} (unshared : Item C → Unshared) (bytes_of : Part C → Li
       peak_of_turn unshared bytes_of stack new (entries_of_run run.item run.text) (Sub i) h is
       (entries_are_low (length (take (length stack - 1) stack)) i run.item run.levels is_run.texts run.text is_run.is_nested is_run.levels is_run.some is_run.text)
 
-  -- where the limit doesn't cover a run's items, it doesn't cover the stack either
+  -- the item that begins a run costs at least as much as the run has levels
   pub run-too-dear : (i : Item C) (run : Run C) → IsRun unshared bytes_of may_come i run → run.levels ≤ cost_of (unshared i)
   run-too-dear i run is_run = omega (arith, run-costs i run.item run.levels is_run.texts run.text is_run.is_nested is_run.levels is_run.text)

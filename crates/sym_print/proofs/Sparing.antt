@@ -1,9 +1,5 @@
--- How far the texts of a stack are dearer than their steps.
-use Rattle.std.proofs.Common.{◌≡◌, ℕ, ◌+◌, ◌-◌, List, [], ◌∷◌, ◌++◌, length, refl, arith}
-use Rattle.sym_print.specs.declared.layout.Part.{Part}
-use Rattle.sym_print.specs.declared.layout.Part.TheVariants.{Sub}
-use Rattle.sym_print.specs.Joined.{IsText}
-use Rattle.sym_print.specs.Spare.{spare_of_part, spare_of_stack}
+-- By how much the texts of a stack cost more than their steps.
+use Rattle.sym_print.proofs.Basics.{◌≡◌, ℕ, ◌+◌, ◌-◌, List, [], ◌∷◌, ◌++◌, length, refl, arith, Part, Sub, IsText, spare_of_part, spare_of_stack}
 
 module _ {C : Type 0} (bytes_of : Part C → List ℕ) where
   pub spare_of_stack-append : (below above : List (Part C)) → spare_of_stack bytes_of (below ++ above) ≡ spare_of_stack bytes_of above + spare_of_stack bytes_of below

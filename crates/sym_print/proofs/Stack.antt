@@ -1,18 +1,9 @@
 -- What the work stack prints and costs, before and after one step.
-use Rattle.std.proofs.Common.{◌≡◌, ℕ, suc, ◌+◌, ◌-◌, ◌<◌, ◌≤◌, Some, List, [], ◌∷◌, ◌++◌, length, take, drop, reverse, slice_get, refl, sym, ap, ◌∙◌, subst, append_assoc, append-nil, arith, get_or}
-use Rattle.std.proofs.lemmas.List.{reverse-append, take_all, length-append, length-reverse, drop-take, take-append-le}
+use Rattle.sym_print.proofs.Basics.{◌≡◌, ℕ, suc, ◌+◌, ◌-◌, ◌<◌, ◌≤◌, Some, List, [], ◌∷◌, ◌++◌, length, take, drop, reverse, slice_get, refl, sym, ap, ◌∙◌, subst, append_assoc, append-nil, arith, get_or, reverse-append, take_all, length-append, length-reverse, drop-take, take-append-le, take-suc, All, All-append, All-take, All-nil, All-head, All-tail, All-push, All-pop, All-same, Item, Part, Sub, Unshared, text_of, cost_of, cost_of_parts, steps_of_parts, joined, with_parts, IsNext, IsText, text_of_part, cost_of_part, steps_of_part, text_of_stack, cost_of_stack, steps_of_stack, spends}
 use Rattle.std.proofs.lemmas.Option.{slice_get_within, get_or_from_slice_get, slice_get_read}
-use Rattle.std.proofs.Math.Seq.{take-suc}
-use Rattle.std.specs.List.{All}
-use Rattle.std.proofs.lemmas.List.Elements.{All-append, All-take, All-nil, All-head, All-tail, All-push, All-pop, All-same}
 use Rattle.sym_print.proofs.Leading.{reverse-next, drop-next}
-use Rattle.sym_print.specs.declared.layout.Item.{Item}
-use Rattle.sym_print.specs.declared.layout.Part.{Part}
-use Rattle.sym_print.specs.declared.layout.Part.TheVariants.{Sub}
 use Rattle.sym_print.specs.declared.printer.Printer.{Printer}
 use Rattle.sym_print.specs.Printing.{entries, spent, may_spend, Begins}
-use Rattle.sym_print.specs.Unshared.{Unshared, text_of, cost_of, cost_of_parts, steps_of_parts}
-use Rattle.sym_print.specs.Joined.{joined, with_parts, IsNext, IsText, text_of_part, cost_of_part, steps_of_part, text_of_stack, cost_of_stack, steps_of_stack, spends}
 
 module _ {C : Type 0} where
   -- the next entry comes last
@@ -69,7 +60,7 @@ module _ {C : Type 0} where
       → with_parts stack (drop k parts) ≡ now ++ part ∷ []
   above_moved stack moved now parts k part h put same = above_is stack parts k part h ∙ ap (λ s. s ++ part ∷ []) (sym (same ∙ put))
 
-  -- a part and those after it are above the stack, once those after it were moved there
+  -- once the parts after a part are moved to the stack, that part and they are above the stack
   pub moved_is : (stack moved parts left : List (Part C)) (k : ℕ) (part : Part C) → slice_get parts k ≡ Some part → moved ≡ with_parts stack (drop (k + 1) parts) → left ≡ take (k + 1) parts
       → with_parts moved (drop k left) ≡ with_parts stack (drop k parts)
   moved_is stack moved parts left k part h put kept =
@@ -85,7 +76,7 @@ module _ {C : Type 0} where
     omega (arith, ap length is, length-append below (reverse left), length-reverse left),
   )
 
--- a list without its last element
+-- the items before the last one are the list without its last item
 pub without_last : {X : Type 0} (xs ys : List X) (x : X) → xs ≡ ys ++ x ∷ [] → ys ≡ take (length xs - 1) xs
 without_last xs ys x e =
     let long : length xs - 1 ≡ length ys = omega (arith, ap length e, length-append ys (x ∷ [])) in
@@ -95,7 +86,7 @@ without_last xs ys x e =
     ∙ take-append-le (length ys) ys (x ∷ []) (omega arith)
     ∙ take_all (length ys) ys (omega arith))
 
--- a stack without its top, and then parts
+-- a stack with parts in place of its top
 pub replaced : {X : Type 0} (old popped new parts : List X) → popped ≡ take (length old - 1) old → new ≡ popped ++ reverse parts → new ≡ take (length old - 1) old ++ reverse parts
 replaced old popped new parts top put = put ∙ ap (λ xs. xs ++ reverse parts) top
 
@@ -128,7 +119,7 @@ module _ {C : Type 0} (unshared : Item C → Unshared) (bytes_of : Part C → Li
   steps_of_stack-append [] above = omega arith
   steps_of_stack-append (part ∷ below) above = omega (arith, steps_of_stack-append below above)
 
-  -- parts in order, one at a time
+  -- the text of parts is that of the first one, and then that of the others
   text_of_joined : (next : Part C) (rest : List (Part C)) → text_of (joined unshared bytes_of (next ∷ rest)) ≡ text_of_part unshared bytes_of next ++ text_of (joined unshared bytes_of rest)
   text_of_joined (Sub i) rest = refl
   text_of_joined _ rest = refl

@@ -1,14 +1,5 @@
 -- A stack that grows part by part, the last part first.
-use Rattle.std.proofs.Common.{◌≡◌, ℕ, ◌<◌, List, [], ◌∷◌, ◌++◌, length, reverse, refl, sym, ap, ◌∙◌, append_assoc, append-nil}
-use Rattle.std.proofs.lemmas.List.{reverse-append}
-use Rattle.std.proofs.lemmas.List.Elements.{All-nil, All-cons}
-use Rattle.sym_print.specs.declared.layout.Item.{Item}
-use Rattle.sym_print.specs.declared.layout.Part.{Part}
-use Rattle.sym_print.specs.declared.layout.Part.TheVariants.{Sub}
-use Rattle.sym_print.specs.Unshared.{Unshared, done, bytes, item}
-use Rattle.sym_print.specs.Building.{◌then◌}
-use Rattle.sym_print.specs.Joined.{joined, IsText}
-use Rattle.sym_print.specs.Stacked.{Stacked}
+use Rattle.sym_print.proofs.Basics.{◌≡◌, ℕ, ◌<◌, List, [], ◌∷◌, ◌++◌, length, reverse, refl, sym, ap, ◌∙◌, append_assoc, append-nil, reverse-append, All-nil, All-cons, Item, Part, Sub, Unshared, done, bytes, item, ◌then◌, joined, IsText, Stacked}
 use Rattle.sym_print.proofs.Building.{then-bytes}
 
 -- one more part is above the others
@@ -17,7 +8,7 @@ above below added old new x e is =
     e ∙ ap (λ l. l ++ x ∷ []) is ∙ append_assoc below (reverse added) (x ∷ []) ∙ ap (λ l. below ++ l) (sym (reverse-append (x ∷ []) added))
 
 module _ {C : Type 0} (unshared : Item C → Unshared) (bytes_of : Part C → List ℕ) (may_come : Part C → Type 0) where
-  -- nothing was added
+  -- a stack to which nothing was added shows nothing
   pub stacked-nothing : (below : List (Part C)) → Stacked unshared bytes_of may_come below below done
   stacked-nothing below = record { added = []; is = sym (append-nil below); all = All-nil may_come; joined = refl }
 
@@ -25,7 +16,7 @@ module _ {C : Type 0} (unshared : Item C → Unshared) (bytes_of : Part C → Li
   first-text (Sub i) rest h = elim h [ ]
   first-text _ rest h = refl
 
-  -- a text was added before what is shown
+  -- a text that is added comes before what was shown
   pub stacked-text : (below old new : List (Part C)) (part : Part C) (b : List ℕ) (shown : Unshared) → new ≡ old ++ part ∷ [] → Stacked unshared bytes_of may_come below old shown
       → IsText part → bytes_of part ≡ b → 0 < length b → may_come part → Stacked unshared bytes_of may_come below new (b then shown)
   stacked-text below old new part b shown e stacked is_text says some may = record {
@@ -36,7 +27,7 @@ module _ {C : Type 0} (unshared : Item C → Unshared) (bytes_of : Part C → Li
         ∙ sym (first-text part stacked.added is_text);
   }
 
-  -- an item was added before what is shown
+  -- an item that is added comes before what was shown
   pub stacked-item : (below old new : List (Part C)) (i : Item C) (shown : Unshared) → new ≡ old ++ Sub i ∷ [] → Stacked unshared bytes_of may_come below old shown
       → may_come (Sub i) → Stacked unshared bytes_of may_come below new (item (unshared i) shown)
   stacked-item below old new i shown e stacked may = record {

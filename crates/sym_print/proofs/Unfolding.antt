@@ -1,10 +1,5 @@
 -- An item prints its parts, and so do the code's parts of it.
-use Rattle.std.proofs.Common.{◌≡◌, ℕ, zero, suc, ◌<◌, List, [], ◌∷◌, refl, sym, ap, ◌∙◌, arith}
-use Rattle.sym_print.specs.declared.layout.Item.{Item}
-use Rattle.sym_print.specs.declared.layout.Part.{Part}
-use Rattle.sym_print.specs.declared.layout.Part.TheVariants.{Sub}
-use Rattle.sym_print.specs.Unshared.{Unshared, bytes, item}
-use Rattle.sym_print.specs.Joined.{joined}
+use Rattle.sym_print.proofs.Basics.{◌≡◌, ℕ, zero, suc, ◌<◌, List, [], ◌∷◌, refl, sym, ap, ◌∙◌, arith, Item, Part, Sub, Unshared, bytes, item, joined}
 use Rattle.sym_print.specs.Unfold.{PartOf, text, sub, printed_parts, RanksBelow, printed_to, printed, AreParts, AreAlike}
 
 -- parts print the same by any two functions that agree on items of a smaller rank

@@ -11,7 +11,7 @@ module _ {C : Type 0} where
   IsText (Sub _) = ⊥
   IsText _ = Unit {0}
 
-  -- the part is the next entry of a stack, which is its last
+  -- the part is the next entry of a stack, which is the stack's last
   abbrev pub IsNext : List (Part C) → Part C → Type 0
   IsNext stack part = slice_get stack (length stack - 1) ≡ Some part
 
@@ -52,7 +52,7 @@ module _ {C : Type 0} (unshared : Item C → Unshared) (bytes_of : Part C → Li
   spends (Sub i) = 1
   spends part = length (bytes_of part)
 
-  -- the bytes that a stack prints, whose next entry is its last
+  -- the bytes that a stack prints; the stack's next entry is its last
   abbrev pub text_of_stack : List (Part C) → List ℕ
   text_of_stack [] = []
   text_of_stack (part ∷ above) = text_of_stack above ++ text_of_part part

@@ -1,4 +1,4 @@
--- What a printer notes of items: the texts of those that are written, and where those began that are being written.
+-- What a printer notes of items: where the texts of written items are, and where the items that are being written began.
 use Rattle.std.specs.Prelude.{◌≡◌, ℕ, ◌+◌, ◌<◌, ◌≤◌, length, drop, List, [], ◌∷◌, ◌++◌}
 use Rattle.std.specs.List.{All}
 use Rattle.sym_print.specs.declared.layout.Item.{Item}
@@ -20,8 +20,8 @@ pub record IsNote {C : Type 0} (unshared : Item C → Unshared) (text : List ℕ
   pub takes : note.steps ≡ steps_of (unshared note.item)
   pub few : note.steps ≤ note.cost
 
--- An item was begun: its text, its cost and its steps are those since then, and those of the entries above its place. The steps are
--- paid, or will be with the texts above its place.
+-- An item was begun. Its text is what was written since then and what the entries above its place print; likewise for its cost
+-- and its steps. The steps are paid, or will be paid by the texts above its place.
 pub record IsBegun {C : Type 0} (unshared : Item C → Unshared) (bytes_of : Part C → List ℕ) (stack : List (Part C)) (text : List ℕ) (spent taken : ℕ) (begun : Begun C) : Type 0 where
   pub place : begun.below ≤ length stack
   pub within : begun.from ≤ length text
@@ -31,7 +31,7 @@ pub record IsBegun {C : Type 0} (unshared : Item C → Unshared) (bytes_of : Par
   pub few : taken + begun.spent ≤ begun.steps + spent + spare_of_stack bytes_of (drop begun.below stack)
 
 module _ {C : Type 0} where
-  -- items that were begun one within the other: each has its place no lower than the item before
+  -- items that were begun one within the other: each has a place no lower than that of the item before it
   abbrev pub AreNested : ℕ → List (Begun C) → Type 0
   AreNested low [] = Unit {0}
   AreNested low (begun ∷ inner) = (low ≤ begun.below) × AreNested begun.below inner
@@ -48,7 +48,7 @@ module _ {C : Type 0} where
   abbrev pub EndsAt : ℕ → List (Begun C) → Type 0
   EndsAt height begun = (b : Begun C) × (outer : List (Begun C)) × (begun ≡ outer ++ b ∷ []) × (b.below ≡ height)
 
--- What is noted holds.
+-- All notes hold.
 pub record AreNoted {C : Type 0} (unshared : Item C → Unshared) (bytes_of : Part C → List ℕ) (notes : Notes C) (stack : List (Part C)) (text : List ℕ) (spent taken : ℕ) : Type 0 where
   pub known : All (IsNote unshared text) notes.known.items
   pub begun : All (IsBegun unshared bytes_of stack text spent taken) notes.begun.items

@@ -40,7 +40,7 @@ module _ {C : Type 0} where
   abbrev pub text_room : Printer C → ℕ
   text_room printer = vec_capacity printer.text
 
-  -- the list that taking the part adds to has no room for it: that of entries for eight parts, or that of text for its bytes
+  -- the list that grows when the part is taken lacks room: that of entries for eight parts, or the text for the part's bytes
   abbrev pub LacksRoom : Printer C → (bytes_of : Part C → List ℕ) → Part C → Type 0
   LacksRoom printer bytes_of (Sub _) = entry_room printer < length (entries printer) + 8
   LacksRoom printer bytes_of part = text_room printer < length (written printer) + length (bytes_of part)

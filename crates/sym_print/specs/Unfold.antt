@@ -1,4 +1,4 @@
--- What an item of an unshared tree prints, from its parts. A language gives the items, their parts and a rank that falls.
+-- What items of an unshared tree print. A language gives items, their parts, and a rank that falls from an item to its parts.
 use Rattle.std.specs.Prelude.{ℕ, zero, suc, ◌<◌, ◌≡◌, List, [], ◌∷◌}
 use Rattle.sym_print.specs.Unshared.{Unshared, done, bytes, item}
 use Rattle.sym_print.specs.declared.layout.Item.{Item}
@@ -28,7 +28,7 @@ module _ {I : Type 0} (parts_of : I → List (PartOf I)) where
   printed_to zero i = done
   printed_to (suc depth) i = printed_parts (printed_to depth) (parts_of i)
 
-  -- what an item prints: its rank is depth enough
+  -- what an item prints: a depth of its rank plus one is enough
   unfoldable pub printed : (I → ℕ) → I → Unshared
   printed rank i = printed_to (suc (rank i)) i
 

@@ -13,7 +13,7 @@ text_of done = []
 text_of (bytes b rest) = b ++ text_of rest
 text_of (item parts rest) = text_of parts ++ text_of rest
 
--- what parts cost: a byte text its length, an item 1 and its parts
+-- what parts cost: a byte text costs its length, and an item 1 and the cost of its parts
 abbrev pub cost_of_parts : Unshared → ℕ
 cost_of_parts done = 0
 cost_of_parts (bytes b rest) = length b + cost_of_parts rest
@@ -23,7 +23,7 @@ cost_of_parts (item parts rest) = (1 + cost_of_parts parts) + cost_of_parts rest
 abbrev pub cost_of : Unshared → ℕ
 cost_of parts = 1 + cost_of_parts parts
 
--- how many steps parts take: a byte text one, an item one and those of its parts
+-- how many steps parts take: a byte text takes one, and an item one and those of its parts
 abbrev pub steps_of_parts : Unshared → ℕ
 steps_of_parts done = 0
 steps_of_parts (bytes b rest) = 1 + steps_of_parts rest

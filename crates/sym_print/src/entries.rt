@@ -397,12 +397,12 @@ fn print_run<Y: Layout>(
 {
     let below = stack.len() - 1;
     open_run(run, stack, meter)?;
-    notes.look(&item, meter.spent, stack, below, is_dear);
+    notes.look(&item, stack, below, is_dear);
     Ok(())
 }
 
-/// Takes the next entry, an item of a dear text, or one that is noted or begins a run. Where its text is noted that is written again. A
-/// run of items that begins with it is taken at once. Otherwise its parts take its place.
+/// Takes the next entry, an item that is noted or begins a run, or in a dear text one that wasn't looked at. Where its text is noted that
+/// is written again. A run of items that begins with it is taken at once. Otherwise its parts take its place.
 // out of line, since most items are none of these
 #[inline(never)]
 fn print_special_item<Y: Layout>(
@@ -454,7 +454,7 @@ fn print_special_item<Y: Layout>(
     begin_item(y, item, stack, text, notes, meter, is_noted);
     let below = stack.len() - 1;
     open_item(y, item, stack, meter)?;
-    notes.look(&item, meter.spent, stack, below, is_dear);
+    notes.look(&item, stack, below, is_dear);
     Ok(())
 }
 
@@ -495,7 +495,7 @@ fn print_item<Y: Layout>(
     ensures too_long { result ≡ Err Refusal.TooLong → meter.old.limit < meter.old.spent + cost_of_stack (Y.unshared y.now) (Y.bytes_of y.now) stack.old.items }
     ensures memory { result ≡ Err Refusal.Memory → (vec_capacity stack.old < 8 * (meter.old.limit + 1)) ⊎ (vec_capacity text.old < meter.old.limit) }
 {
-    if is_dear || y.is_noted(item) || y.begins_run(item) {
+    if !notes.are_done_with(y, item, is_dear) || y.begins_run(item) {
         return print_special_item(y, item, stack, text, notes, meter, is_dear);
     }
     open_item(y, item, stack, meter)?;

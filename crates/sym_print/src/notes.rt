@@ -155,6 +155,23 @@ impl<C: Copy> Notes<C> {
         }
     }
 
+    /// Whether an item is neither to be noted, nor known, nor to be looked at.
+    #[inline(always)]
+    pub(crate) fn are_done_with<Y: Layout<Ctx = C>>(
+        &self,
+        y: &Y,
+        item: Item<C>,
+        is_dear: bool,
+    ) -> bool
+        requires may_come { Y.may_come y.now (Part.Sub item) }
+    {
+        if is_dear {
+            self.sharing.is_plain(&item)
+        } else {
+            !y.is_noted(item)
+        }
+    }
+
     /// What is noted of an item.
     #[inline(always)]
     pub(crate) fn get<Y: Layout<Ctx = C>>(
@@ -278,20 +295,13 @@ impl<C: Copy> Notes<C> {
     /// Looks at the parts of an item that was opened in a dear text, if no item of this node and form was looked at
     /// before.
     #[inline(always)]
-    pub(crate) fn look(
-        &mut self,
-        item: &Item<C>,
-        when: u32,
-        stack: &[Part<C>],
-        below: usize,
-        is_dear: bool,
-    )
+    pub(crate) fn look(&mut self, item: &Item<C>, stack: &[Part<C>], below: usize, is_dear: bool)
         ensures known { self.new.known ≡ self.old.known }
         ensures begun { self.new.begun ≡ self.old.begun }
     {
         if is_dear && !self.sharing.knows(item.node, item.form) {
             if let Some(parts) = stack.get(below..) {
-                self.sharing.look(item, when, parts);
+                self.sharing.look(item, parts);
             }
         }
     }

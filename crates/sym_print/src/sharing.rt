@@ -1,22 +1,20 @@
-// Which nodes are parts of more than one node, as far as the items of a dear text were opened.
+// Which nodes are parts of items more than once in one form, as far as the items of a dear text were opened.
 #![tactic(auto)]
 
 use crate::layout::{Item, Part};
 use std::alloc::Global;
 
-/// What is known of a node: of which node it is a part, and in which forms its own parts were looked at.
+/// What is known of a node: in which forms it was found as a part, and in which forms its own parts were looked at.
 #[derive(Clone, Copy)]
 struct Sight {
-    /// The node of which it was found to be a part.
-    parent: u32,
-    /// When it was found last, 0 if it wasn't.
+    /// A bit for each form in which it was found.
     found: u32,
-    /// Whether it is a part of another node too, or twice a part of the same one.
+    /// A bit for each form in which its parts were looked at.
+    opened: u32,
+    /// Whether it was found twice in one form. A node that comes in too many contexts isn't taken for shared.
     is_shared: bool,
     /// Whether it comes in more contexts than are noted.
     is_crowded: bool,
-    /// A bit for each form.
-    forms: u32,
 }
 
 /// The nodes that were found, each at its number.
@@ -31,16 +29,14 @@ fn bit_of(form: u32) -> u32 {
     1 << (form % 32)
 }
 
-/// Counts a node that is found as a part of this one, at this time.
-fn found_again(sight: Sight, parent: u32, when: u32) -> Sight {
-    let is_first = sight.found == 0;
-    let is_other = sight.parent != parent || sight.found == when;
+/// Counts a node that is found as a part in this form. In a form in which it is found once it comes as often as the item of which it is a
+/// part.
+fn found_again(sight: Sight, form: u32) -> Sight {
+    let is_again = sight.found & bit_of(form) != 0;
     Sight {
-        parent,
-        found: when,
-        is_shared: sight.is_shared || (!is_first && is_other),
-        is_crowded: sight.is_crowded,
-        forms: sight.forms,
+        found: sight.found | bit_of(form),
+        is_shared: (sight.is_shared || is_again) && !sight.is_crowded,
+        ..sight
     }
 }
 
@@ -57,11 +53,11 @@ impl Sharing {
         self.sights.clear();
     }
 
-    /// Whether a node is known to be a part of more than one node, and not to come in too many contexts.
+    /// Whether a node is known to be a part more than once in one form, and not to come in too many contexts.
     #[inline(always)]
     pub(crate) fn is_shared(&self, node: u32) -> bool {
         match self.sights.get(node as usize) {
-            Some(sight) => sight.is_shared && !sight.is_crowded,
+            Some(sight) => sight.is_shared,
             None => false,
         }
     }
@@ -70,6 +66,7 @@ impl Sharing {
     pub(crate) fn give_up(&mut self, node: u32) {
         if let Some(sight) = self.sights.get_mut(node as usize) {
             sight.is_crowded = true;
+            sight.is_shared = false;
         }
     }
 
@@ -78,23 +75,34 @@ impl Sharing {
     #[inline(always)]
     pub(crate) fn knows(&self, node: u32, form: u32) -> bool {
         match self.sights.get(node as usize) {
-            Some(sight) => sight.forms & bit_of(form) != 0,
+            Some(sight) => sight.opened & bit_of(form) != 0,
             None => false,
         }
     }
 
-    /// Looks at the parts of an item. The time is greater than at each look before.
-    pub(crate) fn look<C: Copy>(&mut self, item: &Item<C>, when: u32, parts: &[Part<C>]) {
+    /// Whether an item is neither to be noted nor to be looked at.
+    #[inline(always)]
+    pub(crate) fn is_plain<C: Copy>(&self, item: &Item<C>) -> bool {
+        match self.sights.get(item.node as usize) {
+            Some(sight) => {
+                (!sight.is_shared || item.at != 0) && sight.opened & bit_of(item.form) != 0
+            }
+            None => false,
+        }
+    }
+
+    /// Looks at the parts of an item. Parts of one node in two forms, such as left and right of a name, are found once each.
+    pub(crate) fn look<C: Copy>(&mut self, item: &Item<C>, parts: &[Part<C>]) {
         self.reach(item.node);
         if let Some(sight) = self.sights.get_mut(item.node as usize) {
-            sight.forms |= bit_of(item.form);
+            sight.opened |= bit_of(item.form);
         }
         for part in parts {
             if let Part::Sub(below) = part {
                 self.reach(below.node);
                 match self.sights.get_mut(below.node as usize) {
-                    Some(sight) if below.node != item.node => {
-                        *sight = found_again(*sight, item.node, when);
+                    Some(sight) if below.node != item.node || below.form != item.form => {
+                        *sight = found_again(*sight, below.form);
                     }
                     _ => {}
                 }
@@ -105,11 +113,10 @@ impl Sharing {
     /// Makes the list reach to a node. Where there is no memory nothing is known of the node.
     fn reach(&mut self, node: u32) {
         let unseen = Sight {
-            parent: 0,
             found: 0,
+            opened: 0,
             is_shared: false,
             is_crowded: false,
-            forms: 0,
         };
         if self.sights.len() <= node as usize {
             let _ = self.sights.resize(node as usize + 1, unseen);

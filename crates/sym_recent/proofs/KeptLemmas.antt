@@ -15,7 +15,7 @@ stretch-longer bytes more at size within =
     ap (take size) (drop-append-le at bytes more (omega (arith, within)))
     ∙ take-append-le size (drop at bytes) more (omega (arith, within, length-drop at bytes))
 
--- an entry is kept among more bytes, too
+-- a kept entry is still kept once there are more bytes
 pub IsKept-longer : (answer : Kind → List ℕ → Result (List ℕ) Refusal) (bytes more : List ℕ) (entry : Entry) → IsKept answer bytes entry → IsKept answer (bytes ++ more) entry
 IsKept-longer answer bytes more entry (within, is) = (
   omega (arith, within, length-append bytes more),
@@ -24,12 +24,12 @@ IsKept-longer answer bytes more entry (within, is) = (
       ∙ ap Ok (sym (stretch-longer bytes more (entry.at + entry.symbol) entry.text (omega (arith, within)))),
 )
 
--- and so is each
+-- each of some kept entries is still kept once there are more bytes
 pub all-longer : (answer : Kind → List ℕ → Result (List ℕ) Refusal) (bytes more : List ℕ) (entries : List Entry)
     → All (IsKept answer bytes) entries → All (IsKept answer (bytes ++ more)) entries
 all-longer answer bytes more entries kept = All-weaker (IsKept answer bytes) (IsKept answer (bytes ++ more)) (λ entry. IsKept-longer answer bytes more entry) entries kept
 
--- a symbol and its text after the bytes so far
+-- an entry is kept if its symbol and its text come right after the bytes so far
 pub IsKept-new : (answer : Kind → List ℕ → Result (List ℕ) Refusal) (bytes symbol text : List ℕ) (kind : Kind)
     → answer kind symbol ≡ Ok text
     → IsKept answer ((bytes ++ symbol) ++ text) (record { kind = kind; at = length bytes; symbol = length symbol; text = length text })
@@ -46,13 +46,13 @@ IsKept-new answer bytes symbol text kind is =
       ap (answer kind) symbol_is ∙ is ∙ ap Ok (sym text_is),
     )
 
--- bytes that are added, or not, for want of memory
+-- entries are still kept, whether bytes were added or memory ran out
 pub all-longer-if : (answer : Kind → List ℕ → Result (List ℕ) Refusal) (done : Bool) (bytes more now : List ℕ) (entries : List Entry)
     → now ≡ cond done (bytes ++ more) bytes → All (IsKept answer bytes) entries → All (IsKept answer now) entries
 all-longer-if answer true bytes more now entries is kept = subst (λ l. All (IsKept answer l) entries) (sym is) (all-longer answer bytes more entries kept)
 all-longer-if answer false bytes more now entries is kept = subst (λ l. All (IsKept answer l) entries) (sym is) kept
 
--- what was added where it wasn't for want of memory
+-- if memory didn't run out, the bytes or the entry were added
 pub done : {X : Type 0} (some err : Bool) (now long short : X) → some ≡ not err → err ≡ false → now ≡ cond some long short → now ≡ long
 done some err now long short some_is err_is is = is ∙ ap (λ b. cond b long short) (some_is ∙ ap not err_is)
 
@@ -65,7 +65,7 @@ all-one_more answer bytes symbol text kind entries is kept =
     (all-longer answer (bytes ++ symbol) text entries (all-longer answer bytes symbol entries kept))
     (IsKept-new answer bytes symbol text kind is)
 
--- the same of lists and an entry that are equal to these, where the entry may be left out for want of memory
+-- likewise for equal lists and an equal entry, which may be left out for want of memory
 pub all-added : (answer : Kind → List ℕ → Result (List ℕ) Refusal) (bytes symbol text added : List ℕ) (kind : Kind) (entries now : List Entry) (entry : Entry) (some : Bool)
     → answer kind symbol ≡ Ok text → All (IsKept answer bytes) entries
     → added ≡ (bytes ++ symbol) ++ text → entry ≡ record { kind = kind; at = length bytes; symbol = length symbol; text = length text }
@@ -75,7 +75,7 @@ all-added answer bytes symbol text added kind entries now entry true is kept add
 all-added answer bytes symbol text added kind entries now entry false is kept added_is entry_is now_is =
     rw (added_is, now_is) (all-longer answer (bytes ++ symbol) text entries (all-longer answer bytes symbol entries kept))
 
--- two lists that were added one after the other
+-- a symbol and its text were added, one after the other
 pub both : (some other err err_other : Bool) (bytes symbol text first second : List ℕ)
     → some ≡ not err → err ≡ false → first ≡ cond some (bytes ++ symbol) bytes
     → other ≡ not err_other → err_other ≡ false → second ≡ cond other (first ++ text) first
@@ -84,7 +84,7 @@ both some other err err_other bytes symbol text first second some_is err_is firs
     done other err_other second (first ++ text) first other_is err_other_is second_is
     ∙ ap (λ l. l ++ text) (done some err first (bytes ++ symbol) bytes some_is err_is first_is)
 
--- what is after a list's front
+-- the bytes after a list's front
 pub behind : (old new now text : List ℕ) (at : ℕ) → at ≡ length old → now ≡ new → new ≡ old ++ text → take (length now - at) (drop at now) ≡ text
 behind old new now text at at_is now_is is =
     rw (at_is, now_is, is)

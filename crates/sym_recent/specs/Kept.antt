@@ -15,6 +15,6 @@ IsKept answer bytes entry = (entry.at + entry.symbol + entry.text ≤ length byt
 abbrev pub Keeps : (Kind → List ℕ → Result (List ℕ) Refusal) → Table → Type 0
 Keeps answer table = All (IsKept answer table.bytes.items) table.entries.items
 
--- A table has few bytes and few entries, whatever came.
+-- A table has few bytes and few entries, whatever symbols came.
 abbrev pub IsFew : Table → Type 0
 IsFew table = (length table.bytes.items ≤ 1_179_648) × (length table.entries.items ≤ 8_193)

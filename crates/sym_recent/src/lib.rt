@@ -1,4 +1,4 @@
-//! A demangler that keeps the texts of the symbols that came last, so that one which comes again isn't demangled again.
+//! A demangler that keeps texts of recent symbols, and answers these again without demangling.
 #![tactic(auto)]
 
 mod marks;

@@ -1,4 +1,4 @@
-// Marks of symbols: symbols that differ mostly have different ones.
+// Marks of symbols: different symbols mostly have different marks.
 ghost use Rattle.std.specs.Prelude.{◌+◌, ◌≤◌, length};
 
 /// How many bytes are read as one number. A shorter symbol has no mark.
@@ -7,10 +7,11 @@ const BYTES: usize = 8;
 /// How many bytes are mixed into a mark at a time.
 const STEP: usize = 32;
 
-/// An odd number of 64 bits, the fraction of the golden ratio.
+/// The golden ratio's fraction as an odd number of 64 bits.
 const FACTOR: u64 = 0x9E37_79B9_7F4A_7C15;
 
-/// The mark of a symbol, by all of its bytes. One of fewer than eight bytes, whose text costs little, has none.
+/// The mark of a symbol, by its bytes. A symbol of fewer than eight bytes, whose text costs little,
+/// has no mark.
 #[inline(never)]
 pub(crate) fn mark_of(symbol: &[u8]) -> Option<u32> {
     if symbol.len() < BYTES {
@@ -25,7 +26,7 @@ pub(crate) fn mark_of(symbol: &[u8]) -> Option<u32> {
     Some((mixed(number, 0) >> 32) as u32)
 }
 
-/// A number with the bytes of a symbol that has fewer bytes than a step mixed into it: some twice.
+/// A number into which the bytes of a symbol shorter than a step are mixed, some of them twice.
 #[inline(always)]
 fn mixed_short(symbol: &[u8], number: u64) -> u64
     requires { 8 ≤ length symbol.now }
@@ -36,7 +37,7 @@ fn mixed_short(symbol: &[u8], number: u64) -> u64
     mixed(mixed(number, front), back)
 }
 
-/// A number with the bytes of a symbol of a step or more mixed into it: some of the last ones twice.
+/// A number into which all bytes of a symbol of a step or more are mixed, some of the last twice.
 #[inline(always)]
 fn mixed_long(symbol: &[u8], number: u64) -> u64
     requires { 32 ≤ length symbol.now }
@@ -51,7 +52,7 @@ fn mixed_long(symbol: &[u8], number: u64) -> u64
     mixed_step(symbol, last, number)
 }
 
-/// A number with the bytes of a step from a place on mixed into it.
+/// A number into which the bytes of a step from a place on are mixed.
 #[inline(always)]
 fn mixed_step(symbol: &[u8], at: usize, number: u64) -> u64
     requires { at + 32 ≤ length symbol.now }
@@ -62,7 +63,7 @@ fn mixed_step(symbol: &[u8], at: usize, number: u64) -> u64
     mixed(number ^ front, back)
 }
 
-/// A number with another one mixed into it.
+/// A number into which another number is mixed.
 #[inline(always)]
 fn mixed(number: u64, other: u64) -> u64 {
     let product = number.wrapping_mul(FACTOR);

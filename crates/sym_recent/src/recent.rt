@@ -11,15 +11,16 @@ use std::alloc::{AllocError, Global};
 use sym_core::Refusal;
 use sym_filter::{Demangled, Demangler, Kind, Lang};
 
-/// A demangler that can be told from others of its type which answer something else.
+/// A demangler that can tell whether another one of its type answers the same.
 pub trait Alike: Demangler {
-    /// Whether another one answers the same, as far as this is known by its settings.
+    /// Whether another demangler answers the same, as far as its settings show this.
     fn is_alike(&self, other: &Self) -> bool
         ensures { result ≡ true → (kind : Kind-type) (symbol : List ℕ) → Self.answer self.now kind symbol ≡ Self.answer other.now kind symbol };
 }
 
-/// A demangler that answers what another one does, and keeps texts that it appended: at most 1,179,648 bytes of symbols and texts.
-/// A symbol, whoever chose it, costs at most a few passes over its bytes and its text more than by the other demangler.
+/// A demangler that answers what another one does, and keeps texts that it appended: at most
+/// 1,179,648 bytes of symbols and texts. Any symbol, even a hostile one, costs at most a few passes
+/// over its bytes and its text more than with the other demangler.
 #[derive(Clone, Copy, Drop)]
 pub struct Recent<D> {
     pub demangler: D,
@@ -64,7 +65,8 @@ impl<D: Alike + Copy + Drop> Demangler for Recent<D> {
         self.demangler.demangle(&mut lists.lists, kind, symbol, out)
     }
 
-    // By itself, since the filter's loop holds more in registers where it calls this than where this is within it.
+    // Out of line, since the filter's loop holds more in registers if it calls this function than
+    // if this function is inlined.
     #[inline(never)]
     fn append(
         &self,
@@ -80,7 +82,8 @@ impl<D: Alike + Copy + Drop> Demangler for Recent<D> {
     }
 }
 
-/// Appends the text of a symbol, which is looked for where the lists are of such a demangler.
+/// Appends the text of a symbol, which is looked up in the table if the demangler of the lists is
+/// known to answer the same.
 #[inline(never)]
 fn append_looked<D: Alike + Copy + Drop>(
     demangler: &D,
@@ -100,7 +103,7 @@ fn append_looked<D: Alike + Copy + Drop>(
     demangler.append(&mut lists.lists, kind, symbol, out)
 }
 
-/// Appends the text of a symbol with a mark, by the demangler that the lists are of.
+/// Appends the text of a symbol with a mark, from the table or by the demangler of the lists.
 fn append_marked<D: Alike + Copy + Drop>(
     lists: &mut RecentLists<D>,
     mark: u32,

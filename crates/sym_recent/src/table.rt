@@ -13,27 +13,29 @@ const PLACES: usize = 16_384;
 /// The most symbols that are kept.
 const MOST_ENTRIES: usize = 8_192;
 
-/// How many bytes of symbols and texts there are at most before another one is kept: with more, all are forgotten.
+/// The most bytes of symbols and texts to which another text is added: with more, all are forgotten
+/// first.
 const MOST_KEPT: usize = 1_048_576;
 
 /// The most bytes of a symbol and of a text that is kept.
 const LONGEST: usize = 65_536;
 
-/// How many new symbols come one after the other before few are looked at, and one is kept only when it comes again.
+/// After this many new symbols in a row, only few symbols are looked at, and a symbol is kept only
+/// once it comes again.
 const PATIENCE: u32 = 64;
 
-/// Then one of this many symbols is looked at.
+/// After so many new symbols in a row, one in this many symbols is looked at.
 const FEW: u32 = 8;
 
-/// How many symbols come before the places are made, which costs as much as some twenty texts.
+/// The places are made after this many symbols, since making them costs as much as twenty texts.
 const ENOUGH: u32 = 512;
 
 /// What is noted of the symbols of a place.
 #[derive(Clone, Copy, Debug, PartialEq, Eq)]
 pub(crate) struct Place {
-    /// The mark of the symbol that came last, without what its place says.
+    /// The mark of the symbol that came last, without the bits that the place gives.
     mark: u16,
-    /// The entry of the one that was kept last.
+    /// The entry of the symbol that was kept last.
     entry: u16,
 }
 
@@ -53,7 +55,8 @@ pub(crate) struct Table {
     places: Vec<Place>,
     pub(crate) entries: Vec<Entry>,
     pub(crate) bytes: Vec<u8>,
-    /// How many new symbols have come since one came again, or more.
+    /// How many new symbols have come since one came again. A symbol that isn't looked at counts as
+    /// new.
     news: u32,
 }
 
@@ -72,7 +75,7 @@ impl Table {
         }
     }
 
-    /// Whether the next symbol is looked at. It is counted as a new one, if it isn't.
+    /// Whether the next symbol is looked at. If it isn't, it is counted as a new one.
     #[inline(always)]
     pub(crate) fn looks(&mut self) -> bool
         ensures keeps { (answer : Kind-type → List ℕ → Result (List ℕ) Refusal-type) → Keeps answer self.old → Keeps answer self.new }
@@ -186,7 +189,7 @@ impl Table {
         }
     }
 
-    /// Forgets all texts, if they are many.
+    /// Forgets all texts, if their bytes or their entries are too many.
     fn make_room(&mut self)
         ensures few { length self.new.bytes.items ≤ 1_048_576 }
         ensures few_entries { length self.new.entries.items ≤ 8_192 }

@@ -5,6 +5,6 @@ use Rattle.std.specs.Prelude.{ℕ, ◌+◌, ◌*◌, ◌≤◌, max}
 abbrev pub most_for : ℕ → ℕ
 most_for needed = 2 * needed + 8
 
--- the room is no less than before, and it is what it was, or at most that for what is needed
+-- the room is at least the old one, and at most the larger of the old one and the most for what is needed
 abbrev pub IsGrown : (old new needed : ℕ) → Type 0
 IsGrown old new needed = (old ≤ new) × (new ≤ max old (most_for needed))

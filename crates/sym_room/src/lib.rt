@@ -1,5 +1,6 @@
-//! Lists whose room is bounded by what they hold. std says of `push` and `reserve` only that the room doesn't shrink; of its exact
-//! reserve it says what the room is, and each list here grows by that.
+//! Lists whose room is bounded by what they hold. Of `push` and `reserve`, std says only that the
+//! room doesn't shrink; of `reserve_exact` it says what the room becomes. So each list here grows
+//! by `reserve_exact`.
 #![tactic(auto)]
 
 ghost use Rattle.std.specs.Prelude.{◌≡◌, ◌+◌, ◌≤◌, ◌<◌, ◌∷◌, ◌++◌, [], length, is_ok, OnOk, OnErr, if◌then◌else◌, vec_len, vec_capacity};
@@ -53,8 +54,8 @@ pub fn push_within<T: Drop>(list: &mut Vec<T>, value: T) -> Result<(), AllocErro
 /// # Errors
 ///
 /// `AllocError` where the list had no room for them and got none; it is unchanged then.
-// std's `extend_from_slice` doesn't say that it keeps a room that suffices, so the room is compared after it: a test that never
-// fails.
+// std's `extend_from_slice` doesn't say that it leaves sufficient room as it is. So the room is
+// compared afterwards: a test that never fails.
 pub fn append_within(list: &mut Vec<u8>, bytes: &[u8]) -> Result<(), AllocError>
     ensures ok { OnOk result (list.new.items ≡ list.old.items ++ bytes.now) }
     ensures grown { OnOk result (IsGrown (vec_capacity list.old) (vec_capacity list.new) (vec_len list.old + length bytes.now)) }

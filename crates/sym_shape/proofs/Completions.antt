@@ -1,10 +1,5 @@
 -- Symbols have trees.
-use Rattle.std.proofs.Common.{ℕ, zero, suc, ◌+◌, ◌<◌, ◌≤◌, inl, inr, List, [], ◌∷◌, refl, arith, if◌then◌else◌}
-use Rattle.sym_shape.specs.declared.rule.Sym.{Sym}
-use Rattle.sym_shape.specs.declared.rule.Sym.TheVariants.{Kind, Name, Number, Byte}
-use Rattle.sym_shape.specs.Table.{Table, symbols_of}
-use Rattle.sym_shape.specs.Tree.{Tree, branch, empty, token, fixed, Forest, nothing, grown, IsTree, AreTrees, TakesRule}
-use Rattle.sym_shape.specs.Law.{IsSymbol, AreSymbols, AreBelow, IsBelow, IsLawful}
+use Rattle.sym_shape.proofs.Basics.{ℕ, zero, suc, ◌+◌, ◌<◌, ◌≤◌, inl, inr, List, [], ◌∷◌, refl, arith, if◌then◌else◌, Sym, Kind, Name, Number, Byte, Table, symbols_of, Tree, branch, empty, token, fixed, Forest, nothing, grown, IsTree, AreTrees, TakesRule, IsSymbol, AreSymbols, AreBelow, IsBelow, IsLawful}
 use Rattle.sym_shape.proofs.Tokens.{number_made, name_made}
 
 abbrev HasTree : Table → Sym → Type 0

@@ -1,18 +1,6 @@
 -- The reader, run on a list: it ends in a tree or in a first bad byte.
-use Rattle.std.proofs.Common.{◌≡◌, ℕ, zero, suc, ◌+◌, ◌*◌, ◌<◌, ◌≤◌, true, ◌⊎◌, inl, inr, List, [], ◌∷◌, ◌++◌, length, take, drop, get_or, refl, ap, sym, ◌∙◌, subst, arith, append_assoc, Option, Some, None, Result, Ok, Err}
-use Rattle.std.proofs.lemmas.Bool.{cases_lt, cases_eq, cases_order}
-use Rattle.std.proofs.lemmas.List.{take-append-drop, take-take}
-use Rattle.sym_core.specs.declared.TokenPlace.{TokenPlace}
+use Rattle.sym_shape.proofs.Basics.{◌≡◌, ℕ, zero, suc, ◌+◌, ◌*◌, ◌<◌, ◌≤◌, true, ◌⊎◌, inl, inr, List, [], ◌∷◌, ◌++◌, length, take, drop, get_or, refl, ap, sym, ◌∙◌, subst, arith, append_assoc, Option, Some, None, Result, Ok, Err, cases_lt, cases_eq, cases_order, take-append-drop, take-take, TokenPlace, Rule, Row, Sym, Kind, Name, Number, Byte, Table, symbols_of, Tree, IsTree, spell, IsWellShaped, BeginsWellShaped, IsFirstBad, IsMalformed, IsLawful, Entry, Symbol, Close, closed, TakesNone, open_row, place_behind, place_row, rule_stack, symbols_left, IsParse, FindsToken}
 use Rattle.sym_core.proofs.Scanning.{number_found, name_found}
-use Rattle.sym_shape.specs.declared.rule.Rule.{Rule}
-use Rattle.sym_shape.specs.declared.rule.Row.{Row}
-use Rattle.sym_shape.specs.declared.rule.Sym.{Sym}
-use Rattle.sym_shape.specs.declared.rule.Sym.TheVariants.{Kind, Name, Number, Byte}
-use Rattle.sym_shape.specs.Table.{Table, symbols_of}
-use Rattle.sym_shape.specs.Tree.{Tree, IsTree, spell, IsWellShaped, BeginsWellShaped, IsFirstBad, IsMalformed}
-use Rattle.sym_shape.specs.Law.{IsLawful}
-use Rattle.sym_shape.specs.Reading.{Entry, Symbol, Close, closed, TakesNone, open_row, place_behind, place_row, rule_stack, symbols_left}
-use Rattle.sym_shape.specs.Reader.{IsParse, FindsToken}
 use Rattle.sym_shape.specs.Decided.{AreBytes, Decided}
 use Rattle.sym_shape.proofs.Lists.{true_or}
 use Rattle.sym_shape.proofs.Moves.{beginning}
@@ -130,7 +118,7 @@ are_bytes (b ∷ s) = elim (cases_lt b 256) [
     both small rest zero = small
     both small rest (suc i) = rest i
 
--- a value of the symbol's tree, or of its first bad byte; another where an item is no byte
+-- a value by the symbol's tree, or by its first bad byte
 of_decided : {X : Type 0} (g : Table) → (Tree → X) → (ℕ → X) → (s : List ℕ) → Decided g s → X
 of_decided g shaped malformed s (inl whole) = shaped whole.0
 of_decided g shaped malformed s (inr bad) = malformed bad.0
@@ -163,7 +151,7 @@ unfolding outcome
 outcome_shaped g lawful shaped malformed other s tree bytes is text =
     bytes_decided g lawful shaped malformed other (shaped tree) s bytes (are_bytes s) (decided_shaped g lawful shaped malformed s tree is text)
 
--- the outcome of another is that of its first bad byte
+-- the outcome of a symbol that isn't well shaped is that of its first bad byte
 pub outcome_malformed : {X : Type 0} (g : Table) (lawful : IsLawful g) (shaped : Tree → X) (malformed : ℕ → X) (other : X) (s : List ℕ) (at : ℕ) → AreBytes s → IsMalformed g s at → outcome g lawful shaped malformed other s ≡ malformed at
 unfolding outcome
 outcome_malformed g lawful shaped malformed other s at bytes is =

@@ -1,27 +1,11 @@
 -- A reader that is fed: more bytes, or the end, keep what holds between two steps.
-use Rattle.std.proofs.Common.{◌≡◌, ℕ, ◌+◌, ◌≤◌, Bool, true, false, inl, inr, Option, Some, None, Result, Ok, Err, List, [], ◌∷◌, ◌++◌, length, take, drop, refl, ap, sym, ◌∙◌, subst, arith, length-append}
-use Rattle.std.proofs.lemmas.List.{take-append-le, drop-append-le, append-nil}
-use Rattle.sym_shape.specs.declared.rule.Row.{Row}
-use Rattle.sym_shape.specs.Table.{Table}
-use Rattle.sym_shape.specs.Reading.{Agrees, IsReading, IsKnown}
-use Rattle.sym_core.specs.declared.refusal.Refusal.{Refusal}
-use Rattle.sym_shape.specs.declared.parse.Parse.{Parse}
-use Rattle.std.proofs.lemmas.Bool.{true≢false}
-use Rattle.sym_core.specs.declared.refusal.Refusal.TheVariants.{Malformed, BadReference, BadValue, TooLong, Memory}
+use Rattle.sym_shape.proofs.Basics.{◌≡◌, ℕ, ◌+◌, ◌≤◌, Bool, true, false, inl, inr, Option, Some, None, Result, Ok, Err, List, [], ◌∷◌, ◌++◌, length, take, drop, refl, ap, sym, ◌∙◌, subst, arith, length-append, take-append-le, drop-append-le, append-nil, Row, Table, Agrees, IsReading, IsKnown, Refusal, Parse, true≢false, Malformed, BadReference, BadValue, TooLong, Memory, Sym, Kind, Entry, Symbol, IsLawful, IsMalformed, BeginsWellShaped, AreRowsOf, AreStepsOf, Fed, IsFed, IsOver, IsReason, IsMalformedSoFar, Room, to_do, IsParse, IsParsing, IsAdvance, IsRun, AreSpent}
 use Rattle.sym_core.specs.Number.{FitsSymbol}
-use Rattle.sym_shape.specs.declared.rule.Sym.{Sym}
-use Rattle.sym_shape.specs.declared.rule.Sym.TheVariants.{Kind}
-use Rattle.sym_shape.specs.Reading.{Entry, Symbol}
-use Rattle.sym_shape.specs.Law.{IsLawful}
-use Rattle.sym_shape.specs.Tree.{IsMalformed, BeginsWellShaped, AreRowsOf, AreStepsOf}
-use Rattle.sym_shape.specs.Fed.{Fed, IsFed, IsOver, IsReason, IsMalformedSoFar}
-use Rattle.sym_shape.specs.Room.{Room}
-use Rattle.sym_shape.specs.Reader.{to_do, IsParse, IsParsing, IsAdvance, IsRun, AreSpent}
 use Rattle.sym_shape.proofs.Fronts.{front_begins}
 use Rattle.sym_shape.proofs.Runs.{few_stepped}
 use Rattle.sym_shape.proofs.Steps.{both_not, same_start, whole_read, whole_steps}
 
--- what continues with the next byte of more continues with that of less
+-- bytes that agree with more known bytes agree with fewer of them
 agrees_less : (q piece w : List ℕ) → Agrees false (q ++ piece) w → Agrees false q w
 agrees_less [] piece w h = λ told. cc
 agrees_less (b ∷ q) piece w h = h
@@ -57,7 +41,7 @@ fed g bytes piece steps at stack rows h = record {
   counted = h.counted;
 }
 
--- the reader gets the end
+-- the reader is told the end
 pub told : (g : Table) (bytes : List ℕ) (steps at : ℕ) (stack : List Entry) (rows : List Row) → IsParse g false bytes steps at stack rows → IsParse g true bytes steps at stack rows
 told g bytes steps at stack rows h = record {
   within = h.within;
@@ -99,7 +83,7 @@ pub unrefused : (refused : Option Refusal) → ((r : Refusal) → refused ≡ So
 unrefused None h = refl
 unrefused (Some r) h = absurd (h r refl)
 
--- what is known of a reader that hasn't refused
+-- what holds of a reader that hasn't refused
 pub open_parsing : (listed : ℕ → List Sym) (g : Table) (bytes : List ℕ) (ended ready : Bool) (refused : Option Refusal) (parse : Parse) → refused ≡ None → IsFed listed g bytes ended ready refused parse → IsOver listed g bytes ended ready None parse
 open_parsing listed g bytes ended ready refused parse going h = subst (λ r. IsOver listed g bytes ended ready r parse) going h.over
 

@@ -1,17 +1,9 @@
 -- The first byte of a tree.
-use Rattle.std.proofs.Common.{◌≡◌, ℕ, ◌<◌, true, false, inl, inr, List, [], ◌∷◌, ◌++◌, ap, ◌∙◌, subst, Some, is_some, cond, eq-eqb}
-use Rattle.std.proofs.lemmas.Bool.{or_left, or_right, and_from}
-use Rattle.sym_shape.specs.declared.rule.Rule.{Rule}
-use Rattle.sym_shape.specs.declared.rule.Sym.{Sym}
-use Rattle.sym_shape.specs.declared.rule.Sym.TheVariants.{Kind, Name, Number, Byte}
-use Rattle.sym_shape.specs.Table.{Table, symbols_of}
-use Rattle.sym_shape.specs.Tree.{Tree, branch, empty, token, fixed, Forest, nothing, grown, spell, spell_all, IsTree, AreTrees, TakesRule}
-use Rattle.sym_shape.specs.Law.{begins, can_be_empty, IsSymbol, AreSymbols, IsChain, IsLawful}
-use Rattle.sym_shape.specs.Reading.{first_of}
+use Rattle.sym_shape.proofs.Basics.{◌≡◌, ℕ, ◌<◌, true, false, inl, inr, List, [], ◌∷◌, ◌++◌, ap, ◌∙◌, subst, Some, is_some, cond, eq-eqb, or_left, or_right, and_from, Rule, Sym, Kind, Name, Number, Byte, Table, symbols_of, Tree, branch, empty, token, fixed, Forest, nothing, grown, spell, spell_all, IsTree, AreTrees, TakesRule, begins, can_be_empty, IsSymbol, AreSymbols, IsChain, IsLawful, first_of}
 use Rattle.sym_shape.proofs.Lists.{split_nil, split_cons, true_or, one_taken, none_taken}
 use Rattle.sym_shape.proofs.Tokens.{token_filled, token_first}
 
--- what a rule takes itself
+-- the byte that a rule takes itself
 pub taken_eats : (g : Table) (k : ℕ) (rule : Rule) (taken : List ℕ) (h : TakesRule g k rule taken) → rule.eats ≡ true → taken ≡ h.byte ∷ []
 taken_eats g k rule taken h e = h.takes ∙ ap (λ b. cond b (h.byte ∷ []) []) e
 
@@ -42,7 +34,7 @@ mutual
   chain_filled g lawful k rule (x ∷ xs) nothing chain known h e = h
 
 mutual
-  -- what a tree begins with begins its symbol
+  -- the first byte of a tree begins the tree's symbol
   pub tree_first : (g : Table) (lawful : IsLawful g) (x : Sym) (t : Tree) (b : ℕ) (w : List ℕ) → IsSymbol g x → IsTree g x t → spell t ≡ b ∷ w → (b < 256) × (begins g x b ≡ true)
   tree_first g lawful (Kind k) (branch rule taken parts) b w known h e =
       let law = lawful.rule k h.0.byte rule known h.0.is_byte h.0.found in

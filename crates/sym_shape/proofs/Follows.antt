@@ -1,12 +1,5 @@
 -- What follows the symbols on the reader's stack.
-use Rattle.std.proofs.Common.{◌≡◌, ℕ, true, ◌&&◌, inl, inr, List, [], ◌∷◌, ◌++◌, refl}
-use Rattle.std.proofs.lemmas.Bool.{or_left, or_right, and_from, or_cases, and_parts}
-use Rattle.sym_shape.specs.declared.rule.Sym.{Sym}
-use Rattle.sym_shape.specs.declared.rule.Sym.TheVariants.{Kind}
-use Rattle.sym_shape.specs.Table.{Table}
-use Rattle.sym_shape.specs.Tree.{Forest, spell_all, AreTrees}
-use Rattle.sym_shape.specs.Law.{begins, can_be_empty, comes_next, KeepsAfter, AreSymbols, IsLawful}
-use Rattle.sym_shape.specs.Reading.{first_of, IsFollowed}
+use Rattle.sym_shape.proofs.Basics.{◌≡◌, ℕ, true, ◌&&◌, inl, inr, List, [], ◌∷◌, ◌++◌, refl, or_left, or_right, and_from, or_cases, and_parts, Sym, Kind, Table, Forest, spell_all, AreTrees, begins, can_be_empty, comes_next, KeepsAfter, AreSymbols, IsLawful, first_of, IsFollowed}
 use Rattle.sym_shape.proofs.Tokens.{MayFollow}
 use Rattle.sym_shape.proofs.Firsts.{forest_first}
 
@@ -24,7 +17,7 @@ next_from_first g k (x ∷ xs) ys b after h =
           or_right _ _ (and_from _ _ both.0 (next_from_first g k xs ys b after both.1)))
     ]
 
--- the symbols of a rule are in their kind's place
+-- the symbols of a rule may take the place of their kind
 pub followed_pushed : (g : Table) (k : ℕ) (xs ys : List Sym) → KeepsAfter g k xs → IsFollowed g (Kind k ∷ ys) → IsFollowed g (xs ++ ys)
 followed_pushed g k [] ys keeps h = h.1
 followed_pushed g k (x ∷ xs) ys keeps h =
@@ -36,6 +29,6 @@ follow_at g lawful x xs f (b ∷ w) known followed h e =
     let first = forest_first g lawful xs f b w known h e in
     followed.0 b first.0 first.1
 
--- what the symbols after it spell may follow a symbol
+-- what the symbols after a symbol spell may follow it
 pub forest_follows : (g : Table) (lawful : IsLawful g) (x : Sym) (xs : List Sym) (f : Forest) → AreSymbols g xs → IsFollowed g (x ∷ xs) → AreTrees g xs f → MayFollow g x (spell_all f)
 forest_follows g lawful x xs f known followed h = follow_at g lawful x xs f (spell_all f) known followed h refl

@@ -1,8 +1,5 @@
 -- Forests: joined, taken apart, and their rows.
-use Rattle.std.proofs.Common.{◌≡◌, ℕ, ◌+◌, List, [], ◌∷◌, ◌++◌, length, refl, ap, sym, ◌∙◌, arith, append_assoc, length-append}
-use Rattle.sym_shape.specs.declared.rule.Sym.{Sym}
-use Rattle.sym_shape.specs.Table.{Table}
-use Rattle.sym_shape.specs.Tree.{Tree, branch, empty, token, fixed, Forest, nothing, grown, spell, spell_all, AreTrees, row_count, row_count_all, tree_count, rows_of, rows_of_all}
+use Rattle.sym_shape.proofs.Basics.{◌≡◌, ℕ, ◌+◌, List, [], ◌∷◌, ◌++◌, length, refl, ap, sym, ◌∙◌, arith, append_assoc, length-append, Sym, Table, Tree, branch, empty, token, fixed, Forest, nothing, grown, spell, spell_all, AreTrees, row_count, row_count_all, tree_count, rows_of, rows_of_all}
 
 -- one forest after another
 abbrev pub joined : Forest → Forest → Forest

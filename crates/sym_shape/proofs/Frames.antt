@@ -1,21 +1,7 @@
 -- The reader's steps over its frames.
-use Rattle.std.proofs.Common.{◌≡◌, ℕ, ◌+◌, ◌-◌, ◌*◌, ◌<◌, ◌≤◌, Bool, true, false, inl, inr, List, [], ◌∷◌, ◌++◌, length, take, drop, get_or, reverse, refl, ap, ap₂, sym, ◌∙◌, subst, arith, length-append, append_assoc, cond, Some}
-use Rattle.std.proofs.lemmas.List.{take_at, reverse-append, length-reverse}
-use Rattle.sym_core.specs.declared.NameClass.{NameClass}
-use Rattle.sym_core.specs.declared.TokenPlace.{TokenPlace}
-use Rattle.sym_shape.specs.declared.rule.Rule.{Rule}
-use Rattle.sym_shape.specs.declared.rule.Row.{Row}
-use Rattle.sym_shape.specs.declared.rule.Sym.{Sym}
-use Rattle.sym_shape.specs.declared.rule.Sym.TheVariants.{Kind, Byte}
+use Rattle.sym_shape.proofs.Basics.{◌≡◌, ℕ, ◌+◌, ◌-◌, ◌*◌, ◌<◌, ◌≤◌, Bool, true, false, inl, inr, List, [], ◌∷◌, ◌++◌, length, take, drop, get_or, reverse, refl, ap, ap₂, sym, ◌∙◌, subst, arith, length-append, append_assoc, cond, Some, take_at, reverse-append, length-reverse, NameClass, TokenPlace, Rule, Row, Sym, Kind, Byte, Table, symbols_of, IsMalformed, BeginsWellShaped, IsLawful, Symbol, Close, entries_of, closed, IsKnown, TakesNone, place_behind, rule_stack, symbols_left, open_row, place_row, lone_rows, rules_in, passed, HasNext, HasLast, rule_frame, unfolded, IsTaken, Room, StaysWithin, IsParse, ReadsToken, BreaksToken, IsWholeToken}
 use Rattle.sym_shape.specs.declared.frame.Frame.{Frame}
-use Rattle.sym_shape.specs.Table.{Table, symbols_of}
-use Rattle.sym_shape.specs.Tree.{IsMalformed, BeginsWellShaped}
-use Rattle.sym_shape.specs.Law.{IsLawful}
-use Rattle.sym_shape.specs.Reading.{Symbol, Close, entries_of, closed, IsKnown, TakesNone, place_behind, rule_stack, symbols_left, open_row, place_row, lone_rows, rules_in}
-use Rattle.sym_shape.specs.Frame.{passed, HasNext, HasLast, rule_frame, unfolded, IsTaken}
 use Rattle.sym_room.specs.Room.{IsGrown}
-use Rattle.sym_shape.specs.Room.{Room, StaysWithin}
-use Rattle.sym_shape.specs.Reader.{IsParse, ReadsToken, BreaksToken, IsWholeToken}
 use Rattle.sym_shape.proofs.Moves.{closed_at, beginning, left-pushed}
 use Rattle.sym_shape.proofs.Steps.{step_close, step_byte, step_empty, step_rule, step_leaf, step_token, refuse_behind, refuse_byte, refuse_kind, refuse_token, found_waits, broken_waits, token_within}
 
@@ -41,14 +27,14 @@ left_in listed f (q ∷ fs) = left-pushed (listed f.place) f.row (unfolded liste
 reverse_last : {X : Type 0} (xs : List X) (x : X) → reverse (xs ++ x ∷ []) ≡ x ∷ reverse xs
 reverse_last xs x = reverse-append xs (x ∷ [])
 
--- a list without its last
+-- a list without its last item
 without_last : {X : Type 0} (xs ys front : List X) (x : X) → xs ≡ front ++ x ∷ [] → ys ≡ take (length xs - 1) xs → ys ≡ front
 without_last xs ys front x e is = is ∙ ap₂ (λ n zs. take n zs) less e ∙ take_at front (x ∷ []) (length front) refl
   where
     less : length xs - 1 ≡ length front
     less = omega (arith, ap length e, length-append front (x ∷ []))
 
--- the rules that are being read are the frames below the uppermost
+-- as many rules are being read as there are frames below the uppermost
 rules_unfolded : (listed : ℕ → List Sym) (f : Frame) (fs : List Frame) → rules_in (unfolded listed f fs) ≡ length fs
 rules_unfolded listed f [] = none (listed f.place)
   where
@@ -61,12 +47,12 @@ rules_unfolded listed f (q ∷ fs) = omega (arith, pushed (listed f.place), rule
     pushed [] = refl
     pushed (x ∷ xs) = pushed xs
 
--- frames are as few as rows
+-- below the uppermost frame there are at most 4 n + 3 frames for n bytes
 pub few_frames : (listed : ℕ → List Sym) (g : Table) (ended : Bool) (bytes : List ℕ) (steps at : ℕ) (top : Frame) (below : List Frame) (rows : List Row) → IsFramed listed g ended bytes steps at top below rows → length below ≤ 4 * length bytes + 3
 few_frames listed g ended bytes steps at top below rows h =
     omega (arith, rules_unfolded listed top (reverse below), length-reverse below, h.counted.nested, h.counted.made, h.counted.few, h.within)
 
--- where a rule is taken the lists get room for no more than the symbol may need
+-- when a rule is taken, the lists get room for no more than the symbol may need
 pub rule_within : (listed : ℕ → List Sym) (g : Table) (ended : Bool) (bytes : List ℕ) (steps at : ℕ) (top : Frame) (below : List Frame) (rows : List Row) (old new : Room) → IsFramed listed g ended bytes steps at top below rows → IsGrown old.rows new.rows (length rows + 1) → IsGrown old.rules new.rules (length below + 1) → StaysWithin (length bytes) old new
 rule_within listed g ended bytes steps at top below rows old new h made nested =
     (omega (arith, made.1, h.counted.made, h.counted.few, h.within), omega (arith, nested.1, few_frames listed g ended bytes steps at top below rows h))
@@ -89,7 +75,7 @@ frame_ends listed g ended bytes steps at top q below less rows made h bare last 
     let closes = step_close g ended bytes steps at top.row (unfolded listed q (reverse last.0)) rows (asks_end listed g ended bytes steps at top q below rows last h bare) in
     subst (λ fs. IsFramed listed g ended bytes (steps + 1) at q fs made) (sym (without_last below less last.0 q last.1 is)) (subst (λ rs. IsParse g ended bytes (steps + 1) at (unfolded listed q (reverse last.0)) rs) (sym ends) closes)
 
--- the lowest frame is read
+-- nothing is left to do once the lowest frame is read
 pub all_done : (listed : ℕ → List Sym) (top : Frame) (below : List Frame) → listed top.place ≡ [] → below ≡ [] → unfolded listed top (reverse below) ≡ []
 all_done listed top below bare none = ap (λ fs. unfolded listed top (reverse fs)) none ∙ ap entries_of bare
 
@@ -136,12 +122,12 @@ one_more false at = omega arith
 behind_within : (rule : Rule) (at size : ℕ) → at < size → place_behind rule at ≤ size
 behind_within rule at size lt = omega (arith, one_more rule.eats at)
 
--- a rule's only token is within the bytes
+-- the only token of a rule is within the bytes
 pub lone_within : (names : NameClass) (x : Sym) (rule : Rule) (ended : Bool) (bytes : List ℕ) (at : ℕ) (place : TokenPlace) → at < length bytes → IsWholeToken names x ended bytes (place_behind rule at) place → (place.from ≤ place.to) × (place.to ≤ place.end) × (place.end ≤ length bytes)
 lone_within names x rule ended bytes at place lt whole =
     token_within names x bytes (place_behind rule at) place (behind_within rule at (length bytes) lt) whole.0
 
--- a rule is taken whose only symbol is a token, the token is read, and the rule's row ends
+-- a rule whose only symbol is a token is taken, the token is read, and the row of the rule ends
 pub frame_lone : (listed : ℕ → List Sym) (g : Table) (lawful : IsLawful g) (ended : Bool) (bytes : List ℕ) (steps at k b after : ℕ) (rule : Rule) (x : Sym) (place : TokenPlace) (top : Frame) (below : List Frame) (rows made : List Row) → IsFramed listed g ended bytes steps at top below rows → HasNext listed top (Kind k) → at < length bytes → get_or bytes at 0 ≡ b → b < 256 → g.rule k b ≡ Some rule → symbols_of rule ≡ x ∷ [] → IsWholeToken g.names x ended bytes (place_behind rule at) place → after ≡ length (listed (top.place + 1)) → made ≡ rows ++ lone_rows rule after at place (length rows) → IsFramed listed g ended bytes (steps + 3) place.end (passed top) below made
 frame_lone listed g lawful ended bytes steps at k b after rule x place top below rows made h next lt found byte chosen lone whole told is =
     let under = unfolded listed (passed top) (reverse below) in

@@ -1,9 +1,5 @@
 -- Symbols that are cut off or changed.
-use Rattle.std.proofs.Common.{◌≡◌, ℕ, ◌+◌, ◌<◌, ◌≤◌, inl, inr, List, length, take, drop, set, sym, subst, arith}
-use Rattle.std.proofs.lemmas.Bool.{cases_lt}
-use Rattle.std.proofs.lemmas.List.{take-append-drop, take-take, take_all, length-take, take-set-le, length-set}
-use Rattle.sym_shape.specs.Table.{Table}
-use Rattle.sym_shape.specs.Tree.{IsWellShaped, BeginsWellShaped, IsFirstBad, IsMalformed}
+use Rattle.sym_shape.proofs.Basics.{◌≡◌, ℕ, ◌+◌, ◌<◌, ◌≤◌, inl, inr, List, length, take, drop, set, sym, subst, arith, cases_lt, take-append-drop, take-take, take_all, length-take, take-set-le, length-set, Table, IsWellShaped, BeginsWellShaped, IsFirstBad, IsMalformed}
 
 -- each front of a well shaped symbol begins one
 pub front_begins : (g : Table) (s : List ℕ) (n : ℕ) → IsWellShaped g s → BeginsWellShaped g (take n s)

@@ -1,11 +1,5 @@
 -- Tables, one growing into the other.
-use Rattle.std.proofs.Common.{◌≡◌, ℕ, ◌+◌, ◌<◌, ◌≤◌, inl, inr, List, ◌++◌, take, ap, sym, ◌∙◌, subst, arith}
-use Rattle.std.proofs.lemmas.Bool.{cases_lt}
-use Rattle.std.proofs.lemmas.List.{take-take, take-append-le, length-take}
-use Rattle.sym_shape.specs.declared.rule.Row.{Row}
-use Rattle.sym_shape.specs.Table.{Table}
-use Rattle.sym_shape.specs.Tree.{rows_of, BeginsWellShaped, IsFirstBad, AreRowsOf}
-use Rattle.sym_shape.specs.Law.{IsLawful}
+use Rattle.sym_shape.proofs.Basics.{◌≡◌, ℕ, ◌+◌, ◌<◌, ◌≤◌, inl, inr, List, ◌++◌, take, ap, sym, ◌∙◌, subst, arith, cases_lt, take-take, take-append-le, length-take, Row, Table, rows_of, BeginsWellShaped, IsFirstBad, AreRowsOf, IsLawful}
 use Rattle.sym_shape.specs.Grown.{GrowsInto}
 use Rattle.sym_shape.proofs.Uniqueness.{one_tree}
 use Rattle.sym_shape.proofs.Fronts.{front_begins}

@@ -1,9 +1,7 @@
 -- A refusal that is kept or isn't, and impossible answers.
-use Rattle.std.proofs.Common.{◌≡◌, sym, ◌∙◌, Bool, true, false, Option, Some, Result, Ok, Err}
-use Rattle.std.specs.Prelude.{None}
-use Rattle.sym_core.specs.declared.refusal.Refusal.{Refusal}
+use Rattle.sym_shape.proofs.Basics.{◌≡◌, sym, ◌∙◌, Bool, true, false, Option, Some, Result, Ok, Err, None, Refusal}
 
--- a refusal isn't kept and not kept
+-- a refusal can't be kept and not kept
 pub never_both : (kept : Option Refusal) (e : Refusal) → kept ≡ Some e → kept ≡ None → ⊥
 never_both kept e some none =
     let same : ◌≡◌ {A = Option Refusal} None (Some e) = sym none ∙ some in
@@ -23,17 +21,17 @@ never_false is =
     let same : true ≡ false = cc in
     cc
 
--- what is done and isn't
+-- nothing is both done and not done
 pub never_done : (done : Bool) → done ≡ true → done ≡ false → ⊥
 never_done done is isnt =
     let same : true ≡ false = sym is ∙ isnt in
     cc
 
--- what answers alike is alike
+-- equal answers have equal values
 pub same_answer : (done over : Bool) → ◌≡◌ {A = Result Bool Refusal} (Ok done) (Ok over) → done ≡ over
 same_answer done over is = cc
 
--- nor false true
+-- false isn't true
 pub never_true : ◌≡◌ {A = Result Bool Refusal} (Ok false) (Ok true) → ⊥
 never_true is =
     let same : false ≡ true = cc in

@@ -1,3 +1,4 @@
+pub mod Basics
 pub mod Forests
 pub mod Lists
 pub mod Listed

@@ -1,6 +1,5 @@
--- What clauses name by a constant has this number.
-use Rattle.std.specs.Prelude.{◌≡◌}
-use Rattle.std.proofs.Common.{refl}
+-- The number of a constant that clauses name.
+use Rattle.sym_shape.proofs.Basics.{◌≡◌, refl}
 use Rattle.sym_shape.specs.declared.rule.TheConstants.{TOKEN}
 
 pub token_rule : TOKEN ≡ 65535

@@ -1,14 +1,11 @@
 -- Rows of letters, and lists that are compared at each place by computing.
-use Rattle.std.proofs.Common.{◌≡◌, ℕ, zero, suc, ◌+◌, ◌-◌, ◌<◌, ◌≤◌, get_or, slice_get, List, [], ◌∷◌, map, length, cond, Some, None, inl, inr, ap, sym, refl, ◌∙◌, subst, drop, arith}
-use Rattle.std.proofs.lemmas.Bool.{lt-ltb, le-ltb, ne_eqb, cases_lt}
-use Rattle.std.proofs.lemmas.List.{drop_all}
+use Rattle.sym_shape.proofs.Basics.{◌≡◌, ℕ, zero, suc, ◌+◌, ◌-◌, ◌<◌, ◌≤◌, get_or, slice_get, List, [], ◌∷◌, map, length, cond, Some, None, inl, inr, ap, sym, refl, ◌∙◌, subst, drop, arith, lt-ltb, le-ltb, ne_eqb, cases_lt, drop_all, Sym}
 use Rattle.std.proofs.lemmas.List.FromFn.{get_or-map-range_with_len}
 use Rattle.std.proofs.lemmas.Option.{slice_get_past, slice_get-get_or}
 use Rattle.std.specs.List.{range_with_len}
 use Rattle.sym_shape.specs.Listing.{letter_below, unless_blank, up_to_end, listed_in, counts_after, StandsAt}
-use Rattle.sym_shape.specs.declared.rule.Sym.{Sym}
 
--- no letter precedes a row or follows it
+-- a row has no letter for a byte before its first one or after its last one
 pub no_letter_before : (row : List ℕ) (byte : ℕ) → byte < 36 → letter_below row byte ≡ None
 unfolding letter_below
 no_letter_before row byte lt = ap (λ b. cond b None (unless_blank (slice_get row (byte - 36)))) (lt-ltb byte 36 lt)
@@ -22,7 +19,7 @@ unfolding unless_blank
 no_letter_behind row byte long gt =
     letter_inside row byte (omega (arith, gt)) ∙ ap unless_blank (slice_get_past row (byte - 36) (omega (arith, long, gt)))
 
--- what is below a byte, by whether it is a blank
+-- the letter that a row has for a byte, or none if a blank is there
 letter_there : (row : List ℕ) (byte d : ℕ) → length row ≡ 87 → 36 ≤ byte → byte ≤ 122 → letter_below row byte ≡ unless_blank (Some (get_or row (byte - 36) d))
 letter_there row byte d long low high =
     letter_inside row byte low ∙ ap unless_blank (slice_get-get_or row (byte - 36) d (omega (arith, long, low, high)))
@@ -51,7 +48,7 @@ after_at (x ∷ xs) (suc n) =
     let later : suc (n + 1) ≡ suc n + 1 = omega arith in
     subst (λ k. get_or (counts_after xs) n 0 ≡ length (up_to_end (drop k (x ∷ xs)))) later (after_at xs n)
 
--- two functions that agree on all numbers below n, by lists
+-- functions that agree on all numbers below n, as their lists of values show
 pub alike_at : {X : Type 0} (f g : ℕ → X) (n k : ℕ) → map f (range_with_len 0 n) ≡ map g (range_with_len 0 n) → k < n → f k ≡ g k
 alike_at f g n k all lt =
     sym (get_or-map-range_with_len f 0 n k k (f k) lt (omega arith))

@@ -1,16 +1,5 @@
 -- The reader's moves: what holds before one holds after it.
-use Rattle.std.proofs.Common.{◌≡◌, ℕ, zero, suc, ◌+◌, ◌<◌, ◌≤◌, Bool, true, inl, inr, List, [], ◌∷◌, ◌++◌, length, refl, ap, sym, ◌∙◌, subst, ap₂, arith, append_assoc, length-append, Some, is_some, cond, if◌then◌else◌}
-use Rattle.std.proofs.lemmas.List.{append_cancel_left, append-nil}
-use Rattle.std.proofs.lemmas.Bool.{false≢true}
-use Rattle.sym_shape.specs.declared.rule.Rule.{Rule}
-use Rattle.sym_shape.specs.declared.rule.Row.{Row}
-use Rattle.sym_shape.specs.declared.rule.Sym.{Sym}
-use Rattle.sym_shape.specs.declared.rule.Sym.TheVariants.{Kind, Name, Number, Byte}
-use Rattle.sym_shape.specs.Reading.{Entry, Symbol, Close}
-use Rattle.sym_shape.specs.Table.{Table, Token, symbols_of, bytes_of, IsToken}
-use Rattle.sym_shape.specs.Tree.{branch, empty, token, fixed, Forest, nothing, grown, spell, spell_all, IsTree, AreTrees, TakesRule, rows_of, rows_of_all, row_count, row_count_all, tree_count, read_steps_all, IsWellShaped}
-use Rattle.sym_shape.specs.Law.{AreSymbols, IsLawful}
-use Rattle.sym_shape.specs.Reading.{symbols_in, entries_of, closed, symbols_left, finished, steps_left, AreOpen, IsFollowed, Agrees, IsReading, IsCompleted, Spell, open_row, TakesNone}
+use Rattle.sym_shape.proofs.Basics.{◌≡◌, ℕ, zero, suc, ◌+◌, ◌<◌, ◌≤◌, Bool, true, inl, inr, List, [], ◌∷◌, ◌++◌, length, refl, ap, sym, ◌∙◌, subst, ap₂, arith, append_assoc, length-append, Some, is_some, cond, if◌then◌else◌, append_cancel_left, append-nil, false≢true, Rule, Row, Sym, Kind, Name, Number, Byte, Entry, Symbol, Close, Table, Token, symbols_of, bytes_of, IsToken, branch, empty, token, fixed, Forest, nothing, grown, spell, spell_all, IsTree, AreTrees, TakesRule, rows_of, rows_of_all, row_count, row_count_all, tree_count, read_steps_all, IsWellShaped, AreSymbols, IsLawful, symbols_in, entries_of, closed, symbols_left, finished, steps_left, AreOpen, IsFollowed, Agrees, IsReading, IsCompleted, Spell, open_row, TakesNone}
 use Rattle.sym_shape.proofs.Lists.{true_or, filled}
 use Rattle.sym_shape.proofs.Forests.{joined, spell_all-joined, AreTrees-joined, halves, count_trees, length-rows_of, length-rows_of_all}
 use Rattle.sym_shape.proofs.Tokens.{MayFollow}
@@ -73,7 +62,7 @@ steps_left-pushed g (x ∷ xs) es (grown t parts) f p = omega (arith, steps_left
 steps_left-pushed g [] es (grown t parts) f p = absurd p
 steps_left-pushed g (x ∷ xs) es nothing f p = absurd p
 
--- a step begins a rule that has symbols, and none one that has none
+-- how many steps it takes to begin a rule, apart from ending its row: one if the rule has symbols, else none
 abbrev pub beginning : List Sym → ℕ
 beginning [] = 0
 beginning (x ∷ xs) = 1
@@ -117,7 +106,7 @@ pub agrees_behind : (ended : Bool) (c q w : List ℕ) → Agrees ended q w → A
 agrees_behind ended [] q w h = h
 agrees_behind ended (b ∷ c) q w h = (c ++ w, refl)
 
--- a tree is read whose bytes were c and whose rows are made
+-- a tree with the bytes c is read, and its rows are made
 completed : (g : Table) (p c w : List ℕ) (es : List Entry) (f : Forest) (rows made : List Row) (m n : ℕ) → n ≡ m → IsCompleted g p (c ++ w) (finished es f (length p + length c) (rows ++ made)) m → IsCompleted g (p ++ c) w (finished es f (length (p ++ c)) (rows ++ made)) n
 completed g p c w es f rows made m n same old =
     (old.0, old.1, old.2 ∙ sym (append_assoc p c w), same_finished es f _ _ _ _ (length-append p c) refl ∙ old.3, same ∙ old.4)
@@ -143,7 +132,7 @@ takes_byte g n ended p q c es rows r = record {
       byte_continues g c (symbols_in es) old.0 w old.1 old.2);
 }
 
--- only this token may be read here, whatever follows what is known
+-- only this token may be read here, whatever comes after the known bytes
 abbrev pub IsSettled : Table → Bool → Sym → Token → List ℕ → Type 0
 IsSettled g ended x t q = (w v : List ℕ) (other : Token) → Agrees ended q w → IsToken g.names x other → MayFollow g x v → bytes_of other ++ v ≡ bytes_of t ++ w → other ≡ t
 
@@ -184,7 +173,7 @@ takes_token g n lawful ended p q x t es rows is settled r = record {
     tree_of (Kind k) h = absurd h
     tree_of (Byte c) h = absurd h
 
--- such a kind is empty here
+-- a kind with no rule to take is empty here
 pub only_empty : (g : Table) (lawful : IsLawful g) (ended : Bool) (k : ℕ) (xs : List Sym) (f : Forest) (q w : List ℕ) → AreSymbols g (Kind k ∷ xs) → TakesNone g k ended q → Agrees ended q w → AreTrees g (Kind k ∷ xs) f → spell_all f ≡ w → (g.may_be_empty k ≡ true) × Spell g xs w
 only_empty g lawful ended k xs (grown empty f) q w known none agrees p e = (p.0, (f, p.1, e))
 only_empty g lawful ended k xs (grown (branch rule taken parts) f) q w known none agrees p e =

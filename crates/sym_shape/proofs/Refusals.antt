@@ -1,14 +1,5 @@
 -- Where the reader refuses.
-use Rattle.std.proofs.Common.{◌≡◌, ℕ, ◌+◌, ◌<◌, Bool, true, false, List, [], ◌∷◌, ◌++◌, length, take, refl, ap, sym, ◌∙◌, subst, arith, append_assoc, length-append}
-use Rattle.std.proofs.lemmas.List.{take_at}
-use Rattle.sym_shape.specs.declared.rule.Row.{Row}
-use Rattle.sym_shape.specs.declared.rule.Sym.{Sym}
-use Rattle.sym_shape.specs.declared.rule.Sym.TheVariants.{Kind, Name, Number, Byte}
-use Rattle.sym_shape.specs.Reading.{Entry, Symbol}
-use Rattle.sym_shape.specs.Table.{Table, Token, bytes_of, IsToken}
-use Rattle.sym_shape.specs.Tree.{branch, empty, token, fixed, Forest, nothing, grown, spell, spell_all, IsTree, AreTrees, IsWellShaped, BeginsWellShaped, IsMalformed}
-use Rattle.sym_shape.specs.Law.{IsLawful}
-use Rattle.sym_shape.specs.Reading.{TakesNone, symbols_in, Agrees, IsReading, Spell}
+use Rattle.sym_shape.proofs.Basics.{◌≡◌, ℕ, ◌+◌, ◌<◌, Bool, true, false, List, [], ◌∷◌, ◌++◌, length, take, refl, ap, sym, ◌∙◌, subst, arith, append_assoc, length-append, take_at, Row, Sym, Kind, Name, Number, Byte, Entry, Symbol, Table, Token, bytes_of, IsToken, branch, empty, token, fixed, Forest, nothing, grown, spell, spell_all, IsTree, AreTrees, IsWellShaped, BeginsWellShaped, IsMalformed, IsLawful, TakesNone, symbols_in, Agrees, IsReading, Spell}
 use Rattle.sym_shape.proofs.Completions.{some_forest}
 use Rattle.sym_shape.proofs.Moves.{agrees_behind, only_empty}
 
@@ -16,7 +7,7 @@ agrees_self : (ended : Bool) (q : List ℕ) → (q ≡ [] → ended ≡ true) �
 agrees_self ended [] told = λ e. refl
 agrees_self ended (b ∷ q) told = (q, refl)
 
--- Nothing that continues with the next byte completes c: c ends before the first bad byte.
+-- If nothing that continues with the next byte completes c, the first bad byte comes after c.
 pub malformed : (g : Table) (ended : Bool) (c q : List ℕ) → BeginsWellShaped g c → ((w : List ℕ) → Agrees ended q w → IsWellShaped g (c ++ w) → ⊥) → (q ≡ [] → ended ≡ true) → IsMalformed g (c ++ q) (length c)
 malformed g ended c q front none told = record {
   refused = λ whole. none q (agrees_self ended q told) whole;
@@ -33,7 +24,7 @@ malformed g ended c q front none told = record {
         let cut : take (length c + 1) (c ++ b ∷ r) ≡ c ++ b ∷ [] = ap (λ u. take (length c + 1) u) (sym (append_assoc c (b ∷ []) r)) ∙ take_at (c ++ b ∷ []) r (length c + 1) (length-append c (b ∷ [])) in
         never (b ∷ whole.0) (whole.0, refl) (subst (λ u. IsWellShaped g u) (ap (λ u. u ++ whole.0) cut ∙ append_assoc c (b ∷ []) whole.0) whole.1)
 
--- what was read begins a well shaped symbol
+-- the bytes that were read begin a well shaped symbol
 pub begins_here : {n : ℕ} (g : Table) (lawful : IsLawful g) (ended : Bool) (p q : List ℕ) (es : List Entry) (rows : List Row) → IsReading g n ended p q es rows → BeginsWellShaped g p
 begins_here g lawful ended p q es rows r =
     let some = some_forest g lawful (symbols_in es) r.known in
@@ -45,7 +36,7 @@ pub refused_here : {n : ℕ} (g : Table) (lawful : IsLawful g) (ended : Bool) (p
 refused_here g lawful ended p q es rows r none told =
     malformed g ended p q (begins_here g lawful ended p q es rows r) (λ w agrees whole. none w agrees (r.complete w agrees whole)) told
 
--- no token begins c and then the next byte, or ends within c
+-- no token begins with c and the next byte, or ends within c
 abbrev pub IsNoToken : Table → Bool → Sym → List ℕ → List ℕ → Type 0
 IsNoToken g ended x c q = (w v : List ℕ) (t : Token) → Agrees ended q w → IsToken g.names x t → bytes_of t ++ v ≡ c ++ w → ⊥
 
@@ -62,7 +53,7 @@ no_spelling g ended Name xs nothing c q w s is none agrees p e = p
 no_spelling g ended (Number kind) xs nothing c q w s is none agrees p e = p
 no_spelling g ended x xs (grown s f) c q w t is none agrees p e = p.0
 
--- what is read and the front of a token begin a well shaped symbol
+-- the bytes that were read and the front of a token begin a well shaped symbol
 pub token_front : {n : ℕ} (g : Table) (lawful : IsLawful g) (ended : Bool) (p q c : List ℕ) (x : Sym) (es : List Entry) (rows : List Row) → IsReading g n ended p q (Symbol x ∷ es) rows → BeginsToken g x c → BeginsWellShaped g (p ++ c)
 token_front g lawful ended p q c x es rows r begun =
     let some = some_forest g lawful (symbols_in es) r.known.1 in
@@ -86,7 +77,7 @@ refused_token g lawful ended p c q x es rows r begun none told = malformed g end
         let old = r.complete (c ++ w) (agrees_behind ended c q w agrees) (subst (λ u. IsWellShaped g u) (append_assoc p c w) whole) in
         no_spelling g ended x (symbols_in es) old.0 c q w begun.0 begun.2 none agrees old.1 old.2
 
--- the end of the stack, and bytes after it
+-- there are bytes after the end of the stack
 pub refused_behind : {n : ℕ} (g : Table) (lawful : IsLawful g) (ended : Bool) (p : List ℕ) (b : ℕ) (q : List ℕ) (rows : List Row) → IsReading g n ended p (b ∷ q) [] rows → IsMalformed g (p ++ b ∷ q) (length p)
 refused_behind g lawful ended p b q rows r = refused_here g lawful ended p (b ∷ q) [] rows r none (λ e. cc)
   where
@@ -97,7 +88,7 @@ refused_behind g lawful ended p b q rows r = refused_here g lawful ended p (b �
     none : (w : List ℕ) → Agrees ended (b ∷ q) w → Spell g [] w → ⊥
     none w agrees spelled = none_of agrees.0 spelled.0 spelled.1 (spelled.2 ∙ agrees.1)
 
--- another byte than the expected one, or the end
+-- there is another byte than the expected one, or the end
 pub refused_byte : {n : ℕ} (g : Table) (lawful : IsLawful g) (ended : Bool) (p : List ℕ) (c : ℕ) (q : List ℕ) (es : List Entry) (rows : List Row) → IsReading g n ended p q (Symbol (Byte c) ∷ es) rows → (q ≡ [] → ended ≡ true) → ((r : List ℕ) → q ≡ c ∷ r → ⊥) → IsMalformed g (p ++ q) (length p)
 refused_byte g lawful ended p c q es rows r told other = refused_here g lawful ended p q (Symbol (Byte c) ∷ es) rows r (λ w agrees spelled. none q other told w agrees spelled.0 spelled.1 spelled.2) told
   where

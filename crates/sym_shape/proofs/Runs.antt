@@ -1,12 +1,5 @@
 -- Runs of the reader: steps one after another.
-use Rattle.std.proofs.Common.{◌≡◌, ℕ, ◌+◌, ◌≤◌, Bool, true, List, length, refl, arith, Result, Ok, Err, OnOk}
-use Rattle.sym_core.specs.declared.refusal.Refusal.{Refusal}
-use Rattle.sym_shape.specs.declared.parse.Parse.{Parse}
-use Rattle.sym_shape.specs.declared.rule.Sym.{Sym}
-use Rattle.sym_shape.specs.Table.{Table}
-use Rattle.sym_shape.specs.Tree.{AreRowsOf, AreStepsOf}
-use Rattle.sym_shape.specs.Law.{IsLawful}
-use Rattle.sym_shape.specs.Reader.{to_do, IsParsing, IsRun, AreFew}
+use Rattle.sym_shape.proofs.Basics.{◌≡◌, ℕ, ◌+◌, ◌≤◌, Bool, true, List, length, refl, arith, Result, Ok, Err, OnOk, Refusal, Parse, Sym, Table, AreRowsOf, AreStepsOf, IsLawful, to_do, IsParsing, IsRun, AreFew}
 use Rattle.sym_shape.proofs.Steps.{at_most_steps, at_most_rows, whole_read, whole_steps}
 
 -- the counts of a parse, with one more step and one more row
@@ -27,7 +20,7 @@ run_rows listed g bytes old new (Ok done) run =
     whole_read g true bytes new.steps new.at (to_do listed new) new.rows.items new.rows.items run.parsing end.0 end.1 refl
 run_rows listed g bytes old new (Err refusal) run = tt
 
--- and counts its steps
+-- a run over all bytes of a symbol takes the steps of its tree
 pub run_steps : (listed : ℕ → List Sym) (g : Table) (lawful : IsLawful g) (bytes : List ℕ) (old new : Parse) (r : Result (Unit {0}) Refusal) → IsRun listed g true bytes old new r → OnOk r (AreStepsOf g bytes new.steps)
 run_steps listed g lawful bytes old new (Ok done) run =
     let end = run.read refl in

@@ -1,7 +1,5 @@
--- Rows that are ended.
-use Rattle.std.proofs.Common.{◌≡◌, ℕ, zero, suc, ◌<◌, List, [], ◌∷◌, length, set, get_or, refl, ap, ◌∙◌, arith}
-use Rattle.sym_shape.specs.declared.rule.Row.{Row}
-use Rattle.sym_shape.specs.Reading.{closed}
+-- Rows whose ends are set.
+use Rattle.sym_shape.proofs.Basics.{◌≡◌, ℕ, zero, suc, ◌<◌, List, [], ◌∷◌, length, set, get_or, refl, ap, ◌∙◌, arith, Row, closed}
 
 pub closed_is_set : (rows : List Row) (i at end : ℕ) (d : Row) → i < length rows → set rows i (record (get_or rows i d) { to = at; end = end }) ≡ closed rows i at end
 closed_is_set [] i at end d lt = absurd (omega arith)

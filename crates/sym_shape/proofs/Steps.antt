@@ -1,29 +1,12 @@
 -- The reader's steps over the bytes, with their counts.
-use Rattle.std.proofs.Common.{◌≡◌, ℕ, zero, suc, ◌+◌, ◌-◌, ◌*◌, ◌<◌, ◌≤◌, Bool, true, false, inl, inr, List, [], ◌∷◌, ◌++◌, length, take, drop, get_or, refl, ap, ap₂, sym, ◌∙◌, subst, arith, append_assoc, length-append, Some, None, Result, Ok, Err, cond}
-use Rattle.std.proofs.lemmas.List.{append-nil, take-append-drop, length-take, length-take-le, length-drop, take_at, drop_at, drop_more, take_all}
-use Rattle.sym_shape.specs.declared.rule.Rule.{Rule}
-use Rattle.sym_core.specs.declared.NameClass.{NameClass}
-use Rattle.sym_shape.specs.declared.rule.Row.{Row}
-use Rattle.sym_shape.specs.declared.rule.Sym.{Sym}
-use Rattle.sym_shape.specs.declared.rule.Sym.TheVariants.{Kind, Byte}
-use Rattle.sym_shape.specs.Reading.{Entry, Symbol, Close}
-use Rattle.sym_core.specs.declared.TokenPlace.{TokenPlace}
-use Rattle.sym_shape.specs.Table.{Table, symbols_of, bytes_of}
-use Rattle.sym_shape.specs.Tree.{IsMalformed, AreRowsOf, AreStepsOf, BeginsWellShaped, read_steps}
-use Rattle.sym_shape.specs.Law.{IsChain, IsLawfulRule, IsLawful}
-use Rattle.sym_shape.specs.Reading.{entries_of, closed, IsReading, IsCounted, StandsOn, IsKnown, TakesNone, place_behind, rule_stack, symbols_left, open_row, place_row, rules_in}
-use Rattle.sym_shape.specs.Reader.{IsParse, ReadsToken, BreaksToken, IsStep, MakesRow}
-use Rattle.sym_core.specs.declared.refusal.Refusal.{Refusal}
-use Rattle.sym_core.specs.declared.refusal.Refusal.TheVariants.{Memory}
-use Rattle.sym_shape.specs.declared.parse.Parse.{Parse}
-use Rattle.sym_shape.specs.Reading.{Agrees}
+use Rattle.sym_shape.proofs.Basics.{◌≡◌, ℕ, zero, suc, ◌+◌, ◌-◌, ◌*◌, ◌<◌, ◌≤◌, Bool, true, false, inl, inr, List, [], ◌∷◌, ◌++◌, length, take, drop, get_or, refl, ap, ap₂, sym, ◌∙◌, subst, arith, append_assoc, length-append, Some, None, Result, Ok, Err, cond, append-nil, take-append-drop, length-take, length-take-le, length-drop, take_at, drop_at, drop_more, take_all, Rule, NameClass, Row, Sym, Kind, Byte, Entry, Symbol, Close, TokenPlace, Table, symbols_of, bytes_of, IsMalformed, AreRowsOf, AreStepsOf, BeginsWellShaped, read_steps, IsChain, IsLawfulRule, IsLawful, entries_of, closed, IsReading, IsCounted, StandsOn, IsKnown, TakesNone, place_behind, rule_stack, symbols_left, open_row, place_row, rules_in, IsParse, ReadsToken, BreaksToken, IsStep, MakesRow, Refusal, Memory, Parse, Agrees}
 use Rattle.sym_shape.proofs.Lists.{true_or, compared}
 use Rattle.sym_shape.proofs.Uniqueness.{one_tree}
 use Rattle.sym_shape.proofs.Tokens.{settled, token_filled}
 use Rattle.sym_shape.proofs.Moves.{closes, takes_byte, takes_token, takes_nothing, takes_rule, started, read_whole, taken_by, token_row, IsSettled, length-closed, closed_at, beginning}
 use Rattle.sym_shape.proofs.Refusals.{begins_here, token_front, BeginsToken, refused_behind, refused_byte, refused_kind, refused_token, IsNoToken}
 
--- where the next bytes of a list end
+-- the next bytes of a list, c, and the rest
 pub record Cut (bytes : List ℕ) (at : ℕ) (c rest : List ℕ) : Type 0 where
   pub within : at + length c ≤ length bytes
   pub front : take (at + length c) bytes ≡ take at bytes ++ c
@@ -168,7 +151,7 @@ count_chain g lawful k rule steps at close xs es rows known chain c =
       nested = omega (arith, c.nested, rules_pushed xs close es);
     }
 
--- A rule is begun: the row of one that has symbols ends at a step of its own.
+-- A rule has begun. If it has symbols, its row ends in a later step.
 record IsBegun (g : Table) (ended : Bool) (bytes : List ℕ) (begun steps at : ℕ) (stack : List Entry) (rows : List Row) : Type 0 where
   pub within : at ≤ length bytes
   pub reading : IsReading g begun ended (take at bytes) (drop at bytes) stack rows
@@ -288,7 +271,7 @@ step_token g lawful ended bytes steps at x place stack rows r known h =
       counted = subst (λ n. IsCounted g (steps + 1) n stack (length (rows ++ place_row (symbols_left stack) place (length rows) ∷ []))) (sym r.end) (subst (λ n. IsCounted g (steps + 1) (at + length (bytes_of r.token)) stack n) (sym made) counted);
     }
 
--- refusals at the place that is reached
+-- a refusal at the place that was reached
 refused_at : (g : Table) (bytes : List ℕ) (at : ℕ) → at ≤ length bytes → IsMalformed g (take at bytes ++ drop at bytes) (length (take at bytes)) → IsMalformed g bytes at
 refused_at g bytes at le h =
     subst (λ n. IsMalformed g bytes n) (length-take-le at bytes le) (subst (λ u. IsMalformed g u (length (take at bytes))) (take-append-drop at bytes) h)
@@ -343,7 +326,7 @@ same_parse : (g : Table) (ended : Bool) (bytes : List ℕ) (steps at place : ℕ
 same_parse g ended bytes steps at place stack new rows made p q r h =
     subst (λ n. IsParse g ended bytes steps n new made) (sym p) (subst (λ es. IsParse g ended bytes steps at es made) (sym q) (subst (λ rs. IsParse g ended bytes steps at stack rs) (sym r) h))
 
--- no rule at the next byte, or no next byte
+-- no rule is taken at the next byte, or there is no next byte
 pub takes_none : (g : Table) (k : ℕ) (ended : Bool) (bytes : List ℕ) (at : ℕ) → IsKnown ended bytes at → (at < length bytes → g.rule k (get_or bytes at 0) ≡ None) → TakesNone g k ended (drop at bytes)
 takes_none g k ended bytes at known none = at_rest (drop at bytes) refl
   where
@@ -407,12 +390,12 @@ whole_steps g lawful ended bytes steps at stack rows h bare end =
     let text : take at bytes ++ [] ≡ bytes = append-nil (take at bytes) ∙ take_all at bytes (omega (arith, end)) in
     λ tree is spelled. read.4 ∙ ap read_steps (one_tree g lawful read.0 tree read.1 is (read.2 ∙ text ∙ sym spelled))
 
--- all bytes that are known are read: they begin a well shaped symbol
+-- if all known bytes are read, they begin a well shaped symbol
 pub all_begins : (g : Table) (lawful : IsLawful g) (ended : Bool) (bytes : List ℕ) (steps at : ℕ) (stack : List Entry) (rows : List Row) → IsParse g ended bytes steps at stack rows → length bytes ≤ at → BeginsWellShaped g bytes
 all_begins g lawful ended bytes steps at stack rows h le =
     subst (λ u. BeginsWellShaped g u) (take_all at bytes le) (begins_here g lawful ended (take at bytes) (drop at bytes) stack rows h.reading)
 
--- all bytes after those that are read begin a token
+-- if all bytes after those that were read begin a token, the bytes begin a well shaped symbol
 pub token_waits : (g : Table) (lawful : IsLawful g) (ended : Bool) (bytes : List ℕ) (steps at : ℕ) (x : Sym) (stack : List Entry) (rows : List Row) (c rest : List ℕ) → IsParse g ended bytes steps at (Symbol x ∷ stack) rows → BeginsToken g x c → drop at bytes ≡ c ++ rest → length bytes ≤ at + length c → BeginsWellShaped g bytes
 token_waits g lawful ended bytes steps at x stack rows c rest h begun split le =
     let piece = cut bytes at c rest h.within split in
@@ -427,7 +410,7 @@ pub broken_waits : (g : Table) (lawful : IsLawful g) (ended : Bool) (bytes : Lis
 broken_waits g lawful ended bytes steps at bad x stack rows h from k le =
     token_waits g lawful ended bytes steps at x stack rows k.front k.rest h (k.begun, k.more, k.begins, k.begins_so) k.split (omega (arith, k.size_is))
 
--- what is known of a place where no rule can be taken
+-- where no rule can be taken, the next byte or the end is known
 pub none_known : (g : Table) (k : ℕ) (ended : Bool) (bytes : List ℕ) (at : ℕ) → TakesNone g k ended (drop at bytes) → IsKnown ended bytes at
 none_known g k ended bytes at none = go (drop at bytes) refl none
   where
@@ -438,7 +421,7 @@ none_known g k ended bytes at none = go (drop at bytes) refl none
 pub both_not : (b : Bool) → b ≡ true → b ≡ false → ⊥
 both_not b p q = cc
 
--- a step that meets the end of memory
+-- a step that runs out of memory
 pub out_of_memory : (listed : ℕ → List Sym) (g : Table) (ended : Bool) (bytes : List ℕ) (old new : Parse) (r : Result Bool Refusal) (y : Refusal) → r ≡ Err y → y ≡ Memory → new.steps ≡ old.steps → MakesRow old new → IsStep listed g ended bytes old new r
 out_of_memory listed g ended bytes old new r y p q same few = subst (λ u. IsStep listed g ended bytes old new u) (sym (p ∙ fault q)) (same, few)
   where

@@ -1,15 +1,9 @@
 -- What the reader needs to know of tokens.
-use Rattle.std.proofs.Common.{◌≡◌, ℕ, ◌<◌, ◌≤◌, Bool, true, false, inl, inr, List, [], ◌∷◌, ◌++◌, length, refl, ap, sym, ◌∙◌, arith, append_assoc, length-append}
+use Rattle.sym_shape.proofs.Basics.{◌≡◌, ℕ, ◌<◌, ◌≤◌, Bool, true, false, inl, inr, List, [], ◌∷◌, ◌++◌, length, refl, ap, sym, ◌∙◌, arith, append_assoc, length-append, Sym, Kind, Name, Number, Byte, Table, Token, bytes_of, IsToken, append-nil, Agrees, begins, may_follow}
 use Rattle.std.specs.Bool.{⊤}
 use Rattle.sym_core.specs.declared.NumberKind.{NumberKind}
-use Rattle.sym_shape.specs.declared.rule.Sym.{Sym}
-use Rattle.sym_shape.specs.declared.rule.Sym.TheVariants.{Kind, Name, Number, Byte}
-use Rattle.sym_shape.specs.Table.{Table, Token, bytes_of, IsToken}
-use Rattle.std.proofs.lemmas.List.{append-nil}
-use Rattle.sym_shape.specs.Reading.{Agrees}
 use Rattle.sym_shape.proofs.Lists.{compared}
 use Rattle.sym_core.proofs.TokenFacts.{number_filled, number_first, number_there, extended_number, same_number, name_filled, name_first, name_there, extended_name, same_name}
-use Rattle.sym_shape.specs.Law.{begins, may_follow}
 
 -- the bytes may follow the symbol
 abbrev pub MayFollow : Table → Sym → List ℕ → Type 0
@@ -28,7 +22,7 @@ token_first g Name t b w h e = name_first g.names t b w h e
 token_first g (Number kind) t b w h e = number_first kind t b w h e
 token_first g (Byte c) t b w h e = absurd h
 
--- Where a token begins another, the byte between may not follow it; and it extends only by that byte.
+-- If one token begins another, the byte after it may not follow it, and a token exists that has just that byte more.
 pub extended : (g : Table) (x : Sym) (s t : Token) (b : ℕ) (m : List ℕ) → IsToken g.names x s → IsToken g.names x t → bytes_of t ≡ bytes_of s ++ b ∷ m → (may_follow g x b ≡ false) × ((u : Token) × IsToken g.names x u × (bytes_of u ≡ bytes_of s ++ b ∷ []))
 extended g (Kind k) s t b m p q e = absurd p
 extended g Name s t b m p q e =
@@ -47,7 +41,7 @@ follows_not : (g : Table) (x : Sym) (v : List ℕ) {b : ℕ} {w : List ℕ} → 
 follows_not g x [] h e = cc
 follows_not g x (c ∷ v) h e = ap (λ d. may_follow g x d) (sym cc) ∙ h
 
--- no token begins another, unless what is between may not follow
+-- no token begins another, unless the next byte of the longer one may not follow the shorter one
 pub one_token : (g : Table) (x : Sym) (s t : Token) (v w : List ℕ) → IsToken g.names x s → IsToken g.names x t → MayFollow g x v → MayFollow g x w → bytes_of s ++ v ≡ bytes_of t ++ w → s ≡ t
 one_token g x s t v w p q after_s after_t e =
     elim (compared (bytes_of s) (bytes_of t) v w e) [
@@ -65,7 +59,7 @@ one_token g x s t v w p q after_s after_t e =
         let follows = follows_not g x w after_t h in
         cc (clash, follows))
 
--- the longest token that is here is the only one, whatever follows what is known
+-- the longest token here is the only one, whatever comes after the known bytes
 pub settled : (g : Table) (ended : Bool) (x : Sym) (t : Token) (q : List ℕ) → IsToken g.names x t → (q ≡ [] → ended ≡ true) → ((other : Token) (behind : List ℕ) → IsToken g.names x other → bytes_of t ++ q ≡ bytes_of other ++ behind → length (bytes_of other) ≤ length (bytes_of t)) → (w v : List ℕ) (other : Token) → Agrees ended q w → IsToken g.names x other → MayFollow g x v → bytes_of other ++ v ≡ bytes_of t ++ w → other ≡ t
 settled g ended x t q is told longest w v other agrees is_other after e =
     elim (compared (bytes_of other) (bytes_of t) v w e) [

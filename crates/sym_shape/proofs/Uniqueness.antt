@@ -1,14 +1,5 @@
 -- A symbol has at most one tree.
-use Rattle.std.proofs.Common.{◌≡◌, ℕ, zero, suc, ◌+◌, ◌<◌, ◌≤◌, true, false, inl, inr, List, [], ◌∷◌, ◌++◌, refl, ap, sym, ◌∙◌, subst, arith, append_assoc, Some, is_some, cond, if◌then◌else◌}
-use Rattle.std.proofs.lemmas.Bool.{false≢true}
-use Rattle.std.proofs.lemmas.List.{append_cancel_left}
-use Rattle.sym_shape.specs.declared.rule.Rule.{Rule}
-use Rattle.sym_shape.specs.declared.rule.Sym.{Sym}
-use Rattle.sym_shape.specs.declared.rule.Sym.TheVariants.{Kind, Name, Number, Byte}
-use Rattle.sym_shape.specs.Table.{Table, Token, symbols_of, bytes_of, IsToken}
-use Rattle.sym_shape.specs.Tree.{Tree, branch, empty, token, fixed, Forest, nothing, grown, spell, spell_all, IsTree, AreTrees}
-use Rattle.sym_shape.specs.Law.{AreSymbols, IsLawful}
-use Rattle.sym_shape.specs.Reading.{IsFollowed}
+use Rattle.sym_shape.proofs.Basics.{◌≡◌, ℕ, zero, suc, ◌+◌, ◌<◌, ◌≤◌, true, false, inl, inr, List, [], ◌∷◌, ◌++◌, refl, ap, sym, ◌∙◌, subst, arith, append_assoc, Some, is_some, cond, if◌then◌else◌, false≢true, append_cancel_left, Rule, Sym, Kind, Name, Number, Byte, Table, Token, symbols_of, bytes_of, IsToken, Tree, branch, empty, token, fixed, Forest, nothing, grown, spell, spell_all, IsTree, AreTrees, AreSymbols, IsLawful, IsFollowed}
 use Rattle.sym_shape.proofs.Lists.{true_or, one_taken, filled, some_same}
 use Rattle.sym_shape.proofs.Forests.{joined, spell_all-joined, AreTrees-joined, same_halves}
 use Rattle.sym_shape.proofs.Tokens.{one_token}
@@ -30,12 +21,12 @@ forest_size-joined : (a b : Forest) → forest_size (joined a b) ≡ forest_size
 forest_size-joined nothing b = omega arith
 forest_size-joined (grown t a) b = omega (arith, forest_size-joined a b)
 
--- the rule that a kind takes at a byte, with what it takes itself
+-- two rules are equal, and so are the bytes that they take themselves
 pub record SameRule (rule other : Rule) (taken also : List ℕ) : Type 0 where
   pub rules : rule ≡ other
   pub takes : taken ≡ also
 
--- a tree of a kind is of the rule that its first byte chooses
+-- the rule of a kind's tree is the one that the tree's first byte chooses
 pub chosen_rule : (g : Table) (lawful : IsLawful g) (k : ℕ) (rule other : Rule) (also : List ℕ) (others : Forest) (b : ℕ) (w : List ℕ) → k < g.kinds → g.rule k b ≡ Some rule → IsTree g (Kind k) (branch other also others) → also ++ spell_all others ≡ b ∷ w → SameRule rule other (if rule.eats then b ∷ [] else []) also
 chosen_rule g lawful k rule other also others b w known found q f =
     let two = branch_first g lawful k other also others b w known q f in
@@ -50,7 +41,7 @@ chosen_rule g lawful k rule other also others b w known found q f =
           record { rules = rules; takes = ap (λ c. cond c (b ∷ []) []) chains ∙ sym (taken_chain g k other also q.0 also_chains) })
     ]
 
--- two trees of a kind that begin with the same byte are of one rule
+-- two trees of a kind that begin with the same byte have the same rule
 pub same_rule : (g : Table) (lawful : IsLawful g) (k : ℕ) (rule other : Rule) (taken also : List ℕ) (parts others : Forest) (b : ℕ) (v w : List ℕ) → k < g.kinds → IsTree g (Kind k) (branch rule taken parts) → IsTree g (Kind k) (branch other also others) → taken ++ spell_all parts ≡ b ∷ v → also ++ spell_all others ≡ b ∷ w → SameRule rule other taken also
 same_rule g lawful k rule other taken also parts others b v w known p q e f =
     let found = (branch_first g lawful k rule taken parts b v known p e).1 in
@@ -58,7 +49,7 @@ same_rule g lawful k rule other taken also parts others b v w known p q e f =
     let two = chosen_rule g lawful k rule other also others b w known found q f in
     record { rules = two.rules; takes = sym one.takes ∙ two.takes }
 
--- a kind isn't empty where a byte comes next that begins it
+-- a kind isn't empty if the next byte begins it
 pub not_empty : (g : Table) (lawful : IsLawful g) (k : ℕ) (xs : List Sym) (rest : Forest) (rule : Rule) (taken : List ℕ) (parts : Forest) (tail : List ℕ) → AreSymbols g (Kind k ∷ xs) → IsFollowed g (Kind k ∷ xs) → g.may_be_empty k ≡ true → AreTrees g xs rest → IsTree g (Kind k) (branch rule taken parts) → spell_all rest ≡ (taken ++ spell_all parts) ++ tail → ⊥
 not_empty g lawful k xs rest rule taken parts tail known followed bare p q e =
     let some = filled (taken ++ spell_all parts) (branch_filled g lawful k rule taken parts known.0 q) in

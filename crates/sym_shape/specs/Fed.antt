@@ -45,12 +45,12 @@ tells_end (b ∷ piece) = false
 abbrev pub with_piece : Fed → List ℕ → Fed
 with_piece fed piece = record fed { bytes = fed.bytes ++ piece; ended = tells_end piece }
 
--- the step needn't be followed by another one: it answered true or a refusal
+-- the step is the last one, since it answered true or a refusal
 abbrev pub is_answer : Result Bool Refusal → Bool
 is_answer (Ok more) = more
 is_answer (Err refusal) = true
 
--- the first bad byte is known: of these bytes once the end is given, before that whatever follows them
+-- this is the first bad byte: of these bytes, once the end is given; before that, whatever bytes follow
 abbrev pub IsMalformedSoFar : Table → Bool → List ℕ → ℕ → Type 0
 IsMalformedSoFar g true bytes at = IsMalformed g bytes at
 IsMalformedSoFar g false bytes at = (more : List ℕ) → IsMalformed g (bytes ++ more) at
@@ -67,7 +67,7 @@ IsReason g ended bytes TooLong = ⊥
 abbrev pub IsWithinBounds : Fed → Type 0
 IsWithinBounds fed = AreFew fed.steps fed.rows (length fed.bytes)
 
--- a reader that has refused is right to; one that hasn't may continue, and has read all where it is ready
+-- a refusal has its reason; a reader without one may continue, and has read all once it is ready
 abbrev pub IsOver : (ℕ → List Sym) → Table → List ℕ → Bool → Bool → Option Refusal → Parse → Type 0
 IsOver listed g bytes ended ready None parse =
     IsParsing listed g ended bytes parse × (ready ≡ true → (ended ≡ true) × (to_do listed parse ≡ []) × (parse.at ≡ length bytes))

@@ -20,17 +20,17 @@ HasNext listed frame x = StandsAt listed frame.place x
 abbrev pub rule_frame : ℕ → ℕ → Frame
 rule_frame place number = record { place = place; row = number }
 
--- what a frame and those below it, the uppermost first, still expect; the lowest ends no row
+-- what a frame and the frames below it, the uppermost first, still expect; the lowest frame ends no row
 abbrev pub unfolded : (ℕ → List Sym) → Frame → List Frame → List Entry
 unfolded listed frame [] = entries_of (listed frame.place)
 unfolded listed frame (f ∷ fs) = entries_of (listed frame.place) ++ Close frame.row ∷ unfolded listed f fs
 
--- the last of a list
+-- the last item of a list
 abbrev pub HasLast : List Frame → Frame → Type 0
 HasLast frames frame = (front : List Frame) × (frames ≡ front ++ frame ∷ [])
 
--- A rule is taken, and after its kind the top frame continues with n symbols: its frame is then on top, or it is a leaf, whose
--- row has ended.
+-- A rule is taken, with n symbols of the top frame after its kind: the rule's frame is then on top, unless the rule is a leaf,
+-- whose row has ended.
 abbrev pub IsTaken : Rule → (place after : ℕ) → Frame → ℕ → List Frame → List Row → Frame → List Frame → List Row → Type 0
 IsTaken rule place after top at below rows frame deeper made =
     ((deeper ≡ below ++ top ∷ []) × (frame ≡ rule_frame place (length rows)) × (made ≡ rows ++ open_row rule after at at 0 ∷ []) × (0 < length (symbols_of rule)))

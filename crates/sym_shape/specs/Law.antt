@@ -8,7 +8,7 @@ use Rattle.sym_shape.specs.declared.rule.Sym.{Sym}
 use Rattle.sym_shape.specs.declared.rule.Sym.TheVariants.{Kind, Name, Number, Byte}
 use Rattle.sym_shape.specs.Table.{Table, symbols_of}
 
--- the symbol takes the byte as its first
+-- the symbol may begin with the byte
 abbrev pub begins : Table → Sym → ℕ → Bool
 begins g (Kind k) b = is_some (g.rule k b)
 begins g Name b = is_decimal_digit b
@@ -28,12 +28,12 @@ may_follow g Name b = ends_name g.names b
 may_follow g (Number kind) b = ends_number kind b
 may_follow g (Byte c) b = true
 
--- the byte begins what these symbols spell, or they may all be empty and it follows their kind
+-- these symbols may begin with the byte, or they may all be empty and it may follow their kind
 abbrev pub comes_next : Table → ℕ → List Sym → ℕ → Bool
 comes_next g k [] b = g.after k b
 comes_next g k (x ∷ xs) b = begins g x b || (can_be_empty g x && comes_next g k xs b)
 
--- each symbol of a rule of kind k is followed only by what may follow it
+-- what comes next in a rule of kind k may follow each of its symbols
 abbrev pub KeepsAfter : Table → ℕ → List Sym → Type 0
 KeepsAfter g k [] = ⊤
 KeepsAfter g k (x ∷ xs) = ((b : ℕ) → b < 256 → comes_next g k xs b ≡ true → may_follow g x b ≡ true) × KeepsAfter g k xs
@@ -69,7 +69,7 @@ IsBelow g h Name = ⊤
 IsBelow g h (Number kind) = ⊤
 IsBelow g h (Byte c) = ⊤
 
--- each kind among the symbols has a lower tree
+-- each kind among the symbols has a tree of less than this height
 abbrev pub AreBelow : Table → ℕ → List Sym → Type 0
 AreBelow g h [] = ⊤
 AreBelow g h (x ∷ xs) = IsBelow g h x × AreBelow g h xs
@@ -82,7 +82,7 @@ pub record HasLowRule (g : Table) (k : ℕ) : Type 0 where
   pub found : g.rule k byte ≡ Some rule
   pub below : AreBelow g (g.height k) (symbols_of rule)
 
--- what holds of the rule that a kind takes at a byte
+-- the laws of the rule that a kind takes at a byte
 pub record IsLawfulRule (g : Table) (k : ℕ) (rule : Rule) : Type 0 where
   pub count : rule.count ≤ 5
   pub number : rule.number < TOKEN
@@ -93,7 +93,7 @@ pub record IsLawfulRule (g : Table) (k : ℕ) (rule : Rule) : Type 0 where
 pub record IsLawful (g : Table) : Type 0 where
   pub start : 0 < g.kinds
   pub rule : (k b : ℕ) (rule : Rule) → k < g.kinds → b < 256 → g.rule k b ≡ Some rule → IsLawfulRule g k rule
-  -- what begins a kind that may be empty doesn't follow it
+  -- a byte that begins a kind that may be empty doesn't follow that kind
   pub apart : (k b : ℕ) → k < g.kinds → b < 256 → g.may_be_empty k ≡ true → is_some (g.rule k b) ≡ true → g.after k b ≡ false
   -- at most three chains rest on one another
   pub rank : (k : ℕ) → k < g.kinds → g.rank k ≤ 3

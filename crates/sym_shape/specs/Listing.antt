@@ -5,8 +5,7 @@ use Rattle.sym_shape.specs.declared.listing.TheConstants.{FIRST, BLANK}
 use Rattle.sym_shape.specs.declared.rule.Sym.{Sym}
 use Rattle.sym_shape.specs.declared.rule.Sym.TheVariants.{Kind, Name, Number, Byte}
 
--- Where `listed` are those symbols that are from a place on, to the end of their rule: the symbol is there, and after it the
--- others.
+-- `listed` gives the symbols from each place on, to the end of their rule: this symbol is at the place, and the others after it.
 pub record StandsAt (listed : ℕ → List Sym) (place : ℕ) (x : Sym) : Type 0 where
   pub left : listed place ≡ x ∷ listed (place + 1)
   pub room : place < 65535
@@ -20,7 +19,7 @@ up_to_end (Kind k ∷ xs) = Kind k ∷ up_to_end xs
 up_to_end (Name ∷ xs) = Name ∷ up_to_end xs
 up_to_end (Number kind ∷ xs) = Number kind ∷ up_to_end xs
 
--- those of a list from a place on
+-- the symbols of a rule from a place of the list on
 abbrev pub listed_in : List Sym → ℕ → List Sym
 listed_in symbols place = up_to_end (drop place symbols)
 
@@ -29,11 +28,11 @@ abbrev pub counts_after : List Sym → List ℕ
 counts_after [] = []
 counts_after (x ∷ xs) = length (up_to_end xs) ∷ counts_after xs
 
--- the letter that is at a place of a row, if one is
+-- the letter at a place of a row, unless it is a blank
 unfoldable pub unless_blank : Option ℕ → Option ℕ
 unless_blank None = None
 unless_blank (Some letter) = cond (nat_eq letter BLANK) None (Some letter)
 
--- the letter of a row that is below a byte: a row begins at `$`
+-- the letter that a row has for a byte: a row begins at `$`
 unfoldable pub letter_below : List ℕ → ℕ → Option ℕ
 letter_below row byte = cond (nat_lt byte FIRST) None (unless_blank (slice_get row (byte - FIRST)))

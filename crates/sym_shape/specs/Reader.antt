@@ -23,7 +23,7 @@ ReadsToken names x q at place = HasToken (IsToken names x) q at place
 abbrev pub BreaksToken : NameClass → Sym → List ℕ → ℕ → Type 0
 BreaksToken names x q size = HasNoToken (IsToken names x) q size
 
--- what was found of a token of the symbol
+-- the result of finding a token of the symbol: its place, or the place where it breaks off
 abbrev pub FindsToken : NameClass → Sym → List ℕ → ℕ → Result TokenPlace ℕ → Type 0
 FindsToken names x bytes at found = Finds (IsToken names x) bytes at found
 
@@ -37,11 +37,11 @@ pub record HasRule (g : Table) (k : ℕ) (bytes : List ℕ) (at : ℕ) (rule : R
   pub stands : IsByteAt bytes at byte
   pub chosen : g.rule k byte ≡ Some rule
 
--- the kind takes no rule at the byte that is at the place, if one is
+-- the kind takes no rule at the byte at the place, or there is no byte
 abbrev pub HasNoRule : Table → ℕ → List ℕ → ℕ → Type 0
 HasNoRule g k bytes at = at < length bytes → g.rule k (get_or bytes at 0) ≡ None
 
--- `at` of the bytes are read, and this is still to be done
+-- the first `at` bytes are read, and the stack is still to be done
 pub record IsParse (g : Table) (ended : Bool) (bytes : List ℕ) (steps at : ℕ) (stack : List Entry) (rows : List Row) : Type 0 where
   pub within : at ≤ length bytes
   pub reading : IsReading g steps ended (take at bytes) (drop at bytes) stack rows
@@ -102,12 +102,12 @@ pub record AreFew (steps rows bytes : ℕ) : Type 0 where
   pub rows_few : rows ≤ 4 * bytes + 4
   pub each : rows ≤ steps
 
--- what steps that end in a refusal leave
+-- what holds after steps that end in a refusal
 pub record AreSpent (bytes : List ℕ) (old new : Parse) : Type 0 where
   pub made : MakeRows old new
   pub few : AreFew new.steps (length new.rows.items) (length bytes)
 
--- one move or more, none, or no memory for one; how far they went is kept apart from the parse
+-- at least one move, no move, or no memory for one; the moves' count and place are kept apart from the parse
 abbrev pub HasAdvanced : (ℕ → List Sym) → Table → Bool → List ℕ → Progress → Parse → Parse → Result (Option Progress) Refusal → Type 0
 HasAdvanced listed g ended bytes progress old new (Ok (Some further)) = IsParse g ended bytes further.steps further.at (to_do listed new) new.rows.items × (progress.steps < further.steps) × (length new.rows.items + progress.steps ≤ length old.rows.items + further.steps)
 HasAdvanced listed g ended bytes progress old new (Ok None) = new ≡ old

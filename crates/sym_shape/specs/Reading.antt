@@ -52,20 +52,20 @@ place_row after place number = record { rule = TOKEN; after = after; from = plac
 abbrev pub lone_rows : Rule → (after at : ℕ) → TokenPlace → (number : ℕ) → List Row
 lone_rows rule after at place number = open_row rule after at place.end (number + 2) ∷ place_row 0 place (number + 1) ∷ []
 
--- how many symbols of the same rule are to be read
+-- how many symbols of the innermost rule are still to be read
 abbrev pub symbols_left : List Entry → ℕ
 symbols_left [] = 0
 symbols_left (Close i ∷ es) = 0
 symbols_left (Symbol x ∷ es) = 1 + symbols_left es
 
--- the rows once these trees are read for the symbols on the stack
+-- the rows once these trees are read as the symbols on the stack
 abbrev pub finished : List Entry → Forest → ℕ → List Row → List Row
 finished [] f at rows = rows
 finished (Close i ∷ es) f at rows = finished es f at (closed rows i at (length rows))
 finished (Symbol x ∷ es) nothing at rows = rows
 finished (Symbol x ∷ es) (grown t f) at rows = finished es f (at + length (spell t)) (rows ++ rows_of t (symbols_left es) at (length rows))
 
--- the steps to take where these trees are read for the symbols on the stack
+-- the steps still to take to read these trees as the symbols on the stack
 abbrev pub steps_left : List Entry → Forest → ℕ
 steps_left [] f = 0
 steps_left (Close i ∷ es) f = 1 + steps_left es f
@@ -84,17 +84,17 @@ AreOpen [] n = ⊤
 AreOpen (Symbol x ∷ es) n = AreOpen es n
 AreOpen (Close i ∷ es) n = (i < n) × AreOpen es n
 
--- the first of these symbols
+-- these symbols may begin with the byte
 abbrev pub first_of : Table → List Sym → ℕ → Bool
 first_of g [] b = false
 first_of g (x ∷ xs) b = begins g x b || (can_be_empty g x && first_of g xs b)
 
--- each symbol is followed only by what may follow it
+-- what comes next may follow each symbol
 abbrev pub IsFollowed : Table → List Sym → Type 0
 IsFollowed g [] = ⊤
 IsFollowed g (x ∷ xs) = ((b : ℕ) → b < 256 → first_of g xs b ≡ true → may_follow g x b ≡ true) × IsFollowed g xs
 
--- w continues with the next byte, if that is known
+-- w begins with the next byte, if that is known
 abbrev pub Agrees : Bool → List ℕ → List ℕ → Type 0
 Agrees ended [] w = ended ≡ true → w ≡ []
 Agrees ended (b ∷ q) w = (rest : List ℕ) × (w ≡ b ∷ rest)
@@ -113,7 +113,7 @@ pub record IsByteAt (bytes : List ℕ) (at byte : ℕ) : Type 0 where
   pub is : get_or bytes at 0 ≡ byte
   pub fits : byte < 256
 
--- the bytes are all known, or there are more than these
+-- the byte at the place is known, or the end is
 abbrev pub IsKnown : Bool → List ℕ → ℕ → Type 0
 IsKnown ended bytes at = (at < length bytes) ⊎ (ended ≡ true)
 
@@ -122,9 +122,9 @@ abbrev pub TakesNone : Table → ℕ → Bool → List ℕ → Type 0
 TakesNone g k ended [] = ended ≡ true
 TakesNone g k ended (b ∷ q) = g.rule k b ≡ None
 
--- p is read in n steps, q is known of what follows (all of it, if the end is given), and the stack and the rows fit: whatever
--- the symbols on the stack spell completes p, with these rows and steps; and this completes each well shaped symbol that
--- continues with the next byte.
+-- p is read in n steps, and q is what is known after p (all of it, if the end is given). The stack and the rows fit: whatever
+-- the symbols on the stack spell completes p, with these rows and steps, and each well shaped symbol that begins with p and
+-- the next byte is completed in this way.
 pub record IsReading (g : Table) (steps : ℕ) (ended : Bool) (p q : List ℕ) (es : List Entry) (rows : List Row) : Type 0 where
   pub known : AreSymbols g (symbols_in es)
   pub followed : IsFollowed g (symbols_in es)
@@ -132,14 +132,14 @@ pub record IsReading (g : Table) (steps : ℕ) (ended : Bool) (p q : List ℕ) (
   pub sound : (f : Forest) → AreTrees g (symbols_in es) f → IsCompleted g p (spell_all f) (finished es f (length p) rows) (steps + steps_left es f)
   pub complete : (w : List ℕ) → Agrees ended q w → IsWellShaped g (p ++ w) → Spell g (symbols_in es) w
 
--- this many chains rest on one another here
+-- this many chains rest on one another at the top of the stack
 abbrev pub StandsOn : Table → ℕ → List Entry → Type 0
 StandsOn g zero es = ⊤
 StandsOn g (suc n) [] = ⊥
 StandsOn g (suc n) (Close i ∷ es) = ⊥
 StandsOn g (suc n) (Symbol x ∷ es) = (can_be_empty g x ≡ false) × (rank_of g x + suc n ≤ 3)
 
--- steps taken and to be taken, and rows, by the bytes that were read; each rule that is being read has made a row
+-- bounds by the bytes read: on the steps taken, the entries left and the rows; each rule that is being read has made a row
 pub record IsCounted (g : Table) (steps at : ℕ) (es : List Entry) (rows : ℕ) : Type 0 where
   pub chains : ℕ
   pub few : chains ≤ 3

@@ -48,7 +48,7 @@ table_of blank sheet names = record {
   names = names;
 }
 
--- one range in some other, each range in some other, ranges with no byte in common
+-- a range within some other one; ranges each within some other one; ranges without a common byte
 abbrev pub is_covered : ByteRange → List ByteRange → Bool
 is_covered r [] = false
 is_covered r (s ∷ ss) = (nat_le s.from r.from && nat_le r.to s.to) || is_covered r ss

@@ -143,7 +143,7 @@ number_follow Seq36 b h = refl
 number_follow Base62 b h = refl
 number_follow Hex b h = refl
 
--- what the choices of a kind say of the rule at a byte
+-- the choice that gives a kind its rule at a byte
 record IsChosen (blank : KindSheet) (sheet : List KindSheet) (names : NameClass) (kind : KindSheet) (cs : List Choice) (b : ℕ) (rule : Rule) : Type 0 where
   choice : Choice
   is : choice.rule ≡ rule
@@ -233,7 +233,7 @@ module _ (blank : KindSheet) (sheet : List KindSheet) (names : NameClass) where
   here_at : (c : Choice) (cs : List Choice) (d : ℕ) → in_ranges (classes_of c) d ≡ true → choice_at (c ∷ cs) d ≡ Some c.rule
   here_at c cs d inside = ap (λ v. cond v (Some c.rule) (choice_at cs d)) inside
 
-  -- what a later choice takes no earlier one does
+  -- no earlier choice takes a byte that a later choice takes
   beyond : (c : Choice) (cs : List Choice) (d : ℕ) (r : Rule) → are_apart (classes_of c) (begin_ranges cs) ≡ true → choice_at cs d ≡ Some r → choice_at (c ∷ cs) d ≡ Some r
   beyond c cs d r apart at = elim (cases_Bool (in_ranges (classes_of c) d)) [
     | inl both ↦ absurd (are_apart_in _ _ d apart both (chosen cs d (ap is_some at)))

@@ -7,8 +7,8 @@ use Rattle.sym_shape.specs.declared.rule.Rule.{Rule}
 use Rattle.sym_shape.specs.declared.rule.Sym.{Sym}
 use Rattle.sym_shape.specs.declared.rule.Sym.TheVariants.{Kind, Name, Number, Byte}
 
--- A grammar: the rule that a kind takes at a byte, whether the kind may be empty, the bytes that may follow it, how many chains
--- may rest on one another from it, how high its lowest tree is, and the names of the grammar.
+-- A grammar: its number of kinds, the rule that a kind takes at a byte, whether the kind may be empty, the bytes that may follow
+-- it, how many chains may rest on one another from it, how high its lowest tree is, and how the grammar's names are spelled.
 pub record Table : Type 0 where
   pub kinds : ℕ
   pub rule : ℕ → ℕ → Option Rule
@@ -22,7 +22,7 @@ pub record Table : Type 0 where
 abbrev pub symbols_of : Rule → List Sym
 symbols_of rule = take rule.count rule.symbols
 
--- the token is one of the symbol, in a grammar with such names
+-- the token is spelled as the symbol requires, in a grammar with such names
 abbrev pub IsToken : NameClass → Sym → Token → Type 0
 IsToken names (Kind k) token = ⊥
 IsToken names Name token = IsName names token

@@ -58,11 +58,11 @@ abbrev mutual
 abbrev pub IsWellShaped : Table → List ℕ → Type 0
 IsWellShaped g s = (tree : Tree) × IsTree g (Kind 0) tree × (spell tree ≡ s)
 
--- some well shaped symbol begins this way
+-- some well shaped symbol begins with these bytes
 abbrev pub BeginsWellShaped : Table → List ℕ → Type 0
 BeginsWellShaped g front = (rest : List ℕ) × IsWellShaped g (front ++ rest)
 
--- the length of the longest front of s that begins some well shaped symbol
+-- the first bad byte: the length of the longest front of s that begins some well shaped symbol
 pub record IsFirstBad (g : Table) (s : List ℕ) (at : ℕ) : Type 0 where
   pub within : at ≤ length s
   pub front : BeginsWellShaped g (take at s)
@@ -103,7 +103,7 @@ abbrev pub tree_count : Forest → ℕ
 tree_count nothing = 0
 tree_count (grown tree rest) = 1 + tree_count rest
 
--- the rows of a tree that n others follow in its rule, and that begins at a place, the first row with this number
+-- the rows of a tree that begins at a place and has n symbols after it in its rule; `number` is that of the first row
 abbrev mutual
   pub rows_of : Tree → (after at number : ℕ) → List Row
   rows_of (branch rule taken parts) after at number =

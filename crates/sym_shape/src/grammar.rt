@@ -18,7 +18,7 @@ pub trait Grammar {
     /// The grammar, which depends only on the type.
     ghost table: { Table };
 
-    /// For each place of the list the symbols that are from there on, to the end of their rule.
+    /// For each place of the list, the symbols from there on to the end of their rule.
     ghost listed: { ℕ → List Sym };
 
     /// The first place holds only the start kind.

@@ -31,7 +31,7 @@ pub fn front_is_cut_off<G: Grammar>()
     ensures only { (s : List ℕ) (n at : ℕ) → IsWellShaped G.table s → IsFirstBad G.table (take n s) at → at ≡ length (take n s) }
 {}
 
-/// Where one byte of a well shaped symbol is changed, the first bad byte isn't before it.
+/// If one byte of a well shaped symbol is changed, the first bad byte isn't before it.
 pub fn change_is_found_behind<G: Grammar>()
     ensures { (s : List ℕ) (p byte at : ℕ) → p < length s → IsWellShaped G.table s → IsMalformed G.table (slice_set s p byte) at → p ≤ at }
 {}

@@ -7,16 +7,17 @@ use crate::rule::Sym;
 /// The byte at which a row of letters begins.
 const FIRST: u8 = b'$';
 
-/// The byte at which it ends.
+/// The byte at which a row of letters ends.
 const LAST: u8 = b'z';
 
-/// What is in a row where no rule is taken.
+/// The letter in a row where no rule is taken.
 const BLANK: u8 = b' ';
 
-/// What follows the symbols of a rule in a list. So no rule of a list has a byte 0 among its symbols.
+/// The end of a rule in a list, after its symbols. So no rule of a list has a byte 0 as a symbol.
 pub const END: Sym = Sym::Byte(0);
 
-/// The symbols of rules in one list: each rule's in six places, the last of which are ends, and before them the start kind.
+/// The symbols of rules in one list, after those of the start kind. Each rule has six places: its
+/// symbols, and then ends.
 #[macro_export]
 macro_rules! symbols_listed {
     ($([$first:expr, $second:expr, $third:expr, $fourth:expr, $fifth:expr],)*) => {
@@ -27,7 +28,8 @@ macro_rules! symbols_listed {
     };
 }
 
-/// The letter of a row that is below a byte: rows extend from `$` to `z`, and no rule is taken at another byte.
+/// The letter that a row has for a byte. Rows extend from `$` to `z`; no rule is taken at another
+/// byte.
 #[inline(always)]
 pub fn letter_in(row: &[u8; 87], byte: u8) -> Option<u8>
     ensures { result ≡ letter_below row.now byte }
@@ -51,7 +53,7 @@ pub fn place_of(number: usize) -> usize
     number * 6 + 6
 }
 
-/// The five symbols that are in a list from a place on.
+/// The five symbols of a list from a place on.
 #[inline(always)]
 pub fn symbols_from(symbols: &[Sym], place: usize) -> [Sym; 5]
     requires { place + 5 ≤ length symbols.now }

@@ -18,8 +18,8 @@ use sym_core::{Refusal, TokenPlace, find_name, find_number};
 use sym_room::make_room;
 
 /// How far the reader has come: the rules that are being read, the uppermost apart from those below it, and the rows so far.
-// The uppermost one stays in here: among the values of the loop it takes 1.5 % more instructions over real symbols, packed into one
-// register and taken apart at each move.
+// The uppermost one stays in here. As one of the loop's values, packed into one register and taken
+// apart at each move, it takes 1.5 % more instructions over real symbols.
 #[derive(Drop)]
 pub struct Parse {
     pub top: Frame,
@@ -47,7 +47,7 @@ fn further(progress: Progress, at: usize, steps: u32) -> Option<Progress>
     })
 }
 
-/// The lowest frame, which awaits only the start kind.
+/// The lowest frame, which expects only the start kind.
 const LOWEST: Frame = Frame { place: 0, row: 0 };
 
 /// Ends the row of a rule.
@@ -88,8 +88,8 @@ fn behind(rule: &Rule, at: usize) -> usize
     if rule.eats { at + 1 } else { at }
 }
 
-/// Takes a rule whose symbols are at a place of the list; after its kind the top frame continues with n symbols. The rule's
-/// frame is then on top, unless it is a leaf, whose row has ended.
+/// Takes a rule whose symbols are at a place of the list, with n symbols of the top frame after the
+/// rule's kind. The rule's frame is then on top, unless the rule is a leaf, whose row has ended.
 #[inline(always)]
 fn take_rule(
     below: &mut Vec<Frame>,
@@ -329,7 +329,8 @@ impl Parse {
         }
     }
 
-    /// Moves that need no more bytes and that nothing refuses but memory, one after another, with the state at hand.
+    /// Moves one after another, with the state at hand, up to one that needs more bytes or may be
+    /// refused. It refuses only for want of memory.
     fn run_batch<G: Grammar>(
         &mut self,
         grammar: &G,
@@ -519,7 +520,7 @@ impl Parse {
         }
     }
 
-    /// The move that the top frame requires.
+    /// The move that the top frame expects.
     fn step<G: Grammar>(&mut self, grammar: &G, bytes: &[u8], ended: bool) -> Result<bool, Refusal>
         requires fits { FitsSymbol bytes.now }
         requires parsing { IsParsing G.listed G.table ended bytes.now self.old }
@@ -543,7 +544,8 @@ impl Parse {
         }
     }
 
-    /// All symbols of the top frame are read: its row ends; or all is read, or there are bytes after it.
+    /// All symbols of the top frame are read: its row ends; or it is the lowest frame, and all is
+    /// read unless more bytes follow.
     fn end_frame<G: Grammar>(&mut self, bytes: &[u8], ended: bool) -> Result<bool, Refusal>
         requires fits { FitsSymbol bytes.now }
         requires parsing { IsParsing G.listed G.table ended bytes.now self.old }

@@ -154,7 +154,8 @@ impl<G: Grammar> Reader<G> {
 
     /// One step; true where it wants more bytes, or the end was given and all is read.
     ///
-    /// A step that answers true isn't counted. One that waits for a token reads again what has arrived of it.
+    /// A step that answers true isn't counted. A step that waits for a token reads again what has
+    /// arrived of the token.
     ///
     /// # Errors
     ///
@@ -178,7 +179,7 @@ impl<G: Grammar> Reader<G> {
         ensures refused { IfErr result (λ refusal. self.new.refused ≡ Some refusal) }
         ensures reason { IfErr result (IsReason G.table self.old.ended self.old.bytes) }
         ensures counted { self.old.refused ≡ None → OnErr result (self.new.steps ≡ self.old.steps + 1) }
-        // It is `Memory` where a list had no room.
+        // The first refusal is `Memory` only where a list had no room.
         ensures full { self.old.refused ≡ None → result ≡ Err Refusal.Memory → LacksRoom 1 self.old.room self.new.rows self.new.rules }
         ensures room { KeepsRoom self.old.room self.new.room }
         // Refused or not, the lists get room for no more than a symbol of these bytes may need.
@@ -225,7 +226,8 @@ impl<G: Grammar> Reader<G> {
         ensures open { OnOk result (self.new.refused ≡ None) }
         ensures refused { IfErr result (λ refusal. self.new.refused ≡ Some refusal) }
         ensures reason { IfErr result (IsReason G.table self.old.ended self.old.bytes) }
-        // It is `Memory` where a list had no room: a token and its rule are two rows.
+        // The first refusal is `Memory` only where a list had no room: a token and its rule are two
+        // rows.
         ensures full { self.old.refused ≡ None → result ≡ Err Refusal.Memory → LacksRoom 2 self.old.room self.new.rows self.new.rules }
         ensures room { KeepsRoom self.old.room self.new.room }
         // Refused or not, the lists get room for no more than a symbol of these bytes may need.

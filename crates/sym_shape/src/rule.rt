@@ -13,11 +13,11 @@ pub enum Sym {
 /// A rule of a grammar: a byte of a class and at most five symbols, or a chain of at most three symbols that takes no byte.
 #[derive(Clone, Copy, Debug, PartialEq, Eq)]
 pub struct Rule {
-    /// Its number in rows, below 65,535.
+    /// The rule's number in rows, below 65,535.
     pub number: u16,
-    /// Whether it takes the byte that chose it.
+    /// Whether the rule takes the byte that chose it.
     pub eats: bool,
-    /// How many symbols it has: the first of `symbols`.
+    /// How many symbols the rule has, which are the first of `symbols`.
     pub count: u8,
     pub symbols: [Sym; 5],
 }
@@ -29,9 +29,9 @@ pub struct Row {
     pub rule: u16,
     /// How many symbols of the rule around it follow the one that it was read for.
     pub after: u8,
-    /// Where the bytes of its subtree begin; of a name its own bytes, of a number its digits.
+    /// Where the bytes of its subtree begin: in a name its own bytes, in a number its digits.
     pub from: u32,
-    /// Where they end.
+    /// Where these bytes end.
     pub to: u32,
     /// The number of the row after the subtree.
     pub end: u32,

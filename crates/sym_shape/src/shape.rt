@@ -78,10 +78,11 @@ impl Shape {
 /// `Malformed` at the first bad byte: the length of the longest front that begins some well shaped symbol. `Memory`.
 pub fn read<G: Grammar>(alloc: Global, grammar: &G, s: &[u8]) -> Result<Shape, Refusal>
     requires { FitsSymbol s.now }
-    // What is read is spelled by a tree, and these are its rows and its steps.
+    // If the symbol is read, a tree spells it, and the rows and the steps are those of that tree.
     ensures rows { IfOk result (λ shape. AreRowsOf G.table s.now shape.rows) }
     ensures steps { IfOk result (λ shape. AreStepsOf G.table s.now shape.steps) }
-    // What isn't read isn't well shaped, and the place is that of its first bad byte, unless memory runs out.
+    // If it isn't read, it isn't well shaped, and the place is that of its first bad byte, unless
+    // memory runs out.
     ensures refused { IfErr result (IsMalformedOrMemory G.table s.now) }
     ensures row_count { IfOk result (λ shape. length shape.rows ≤ 4 * length s.now + 4) }
     ensures step_count { IfOk result (λ shape. shape.steps ≤ 18 * length s.now + 14) }

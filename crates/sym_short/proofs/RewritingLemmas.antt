@@ -1,4 +1,4 @@
--- What becomes of a text that was appended and then rewritten.
+-- A text that was appended and then rewritten is the text of the rewritten answer.
 use Rattle.std.proofs.Common.{◌≡◌, ◌∙◌, ap, ap₂, ℕ, Bool, true, false, refl, List, ◌++◌, length, take, drop, Result, Ok, Err}
 use Rattle.std.proofs.Math.Seq.{drop-append_seam, take-append_seam}
 use Rattle.sym_core.specs.declared.refusal.Refusal.{Refusal}
@@ -10,7 +10,7 @@ take-front old text mid from is at = ap₂ (λ (n : ℕ) (l : List ℕ). take n 
 drop-front : (old text mid : List ℕ) (from : ℕ) → mid ≡ old ++ text → from ≡ length old → drop from mid ≡ text
 drop-front old text mid from is at = ap₂ (λ (n : ℕ) (l : List ℕ). drop n l) at is ∙ drop-append_seam old text
 
--- the text is there
+-- a text that was appended and then rewritten is the answer's rewritten text
 pub is-rewritten : (answer : Result (List ℕ) Refusal) (rewrites : Bool) (rewritten : List ℕ → List ℕ) (old text mid new : List ℕ) (from : ℕ) → answer ≡ Ok text → mid ≡ old ++ text → from ≡ length old
     → new ≡ take from mid ++ rewritten_text rewrites rewritten (drop from mid)
     → (made : List ℕ) × (rewritten_answer rewrites rewritten answer ≡ Ok made) × (new ≡ old ++ made)

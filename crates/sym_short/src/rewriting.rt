@@ -11,13 +11,13 @@ use sym_recent::Alike;
 
 /// Rewrites texts.
 pub trait Rewrites {
-    /// The lists that it works on, kept from one text to the next.
+    /// The lists on which texts are rewritten, kept from one text to the next.
     type Lists: Drop;
 
     // what a text becomes
     ghost rewritten: { Self → List ℕ → List ℕ };
 
-    /// Lists to work on, which have no memory so far.
+    /// Lists on which texts are rewritten, without memory so far.
     fn lists(alloc: Global) -> Self::Lists;
 
     /// Whether a text may become another one.
@@ -39,7 +39,7 @@ pub trait Rewrites {
         ensures text { OnOk result (out.new.items ≡ take from out.old.items ++ rewritten self.now (drop from out.old.items)) }
         ensures front { take from out.new.items ≡ take from out.old.items };
 
-    /// Whether another one gives the same texts, as far as this is known by its settings.
+    /// Whether another value of the type gives the same texts, as far as the settings of both show this.
     fn is_alike(&self, other: &Self) -> bool
         ensures { result ≡ true → (text : List ℕ) → rewritten self.now text ≡ rewritten other.now text };
 }
@@ -60,7 +60,7 @@ pub struct Rewriting<D, R> {
     pub demangler: D,
     /// What rewrites texts.
     pub rewrite: R,
-    /// Whether the other reads legacy Rust names as paths, whose texts stay as they are.
+    /// Whether the other demangler reads legacy Rust names as paths, whose texts stay as they are.
     pub reads_paths: bool,
 }
 
@@ -104,7 +104,7 @@ impl<D, R: Rewrites> Rewriting<D, R> {
         self.rewrites(kind.lang, symbol)
     }
 
-    /// Rewrites the text of a symbol, which is the bytes of a list from a place on. Where memory runs out, the text is gone.
+    /// Rewrites the text of a symbol, which is the bytes of a list from a place on. Where memory runs out, the text is removed.
     fn rewrite(
         &self,
         lists: &mut R::Lists,

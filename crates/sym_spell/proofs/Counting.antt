@@ -1,4 +1,4 @@
--- Numbers that are assigned in order, each the place of an entry in a map.
+-- Numbers that are assigned in order: each is the place of an entry in a map.
 use Rattle.std.proofs.Common.{◌≡◌, ℕ, zero, suc, ◌+◌, ◌<◌, ◌≤◌, ◌⊎◌, inl, inr, length, List, [], ◌∷◌, ◌++◌, take, slice_get, Some, refl, ap, arith, sym, subst, ◌∙◌, length-append}
 use Rattle.std.specs.Prelude.{max, fold}
 use Rattle.std.proofs.Math.Dec.{eqb}
@@ -27,7 +27,7 @@ grows [] j low = absurd (omega (arith, low))
 grows (m ∷ ms) zero low = refl
 grows (m ∷ ms) (suc j) low = ap (λ l. m ∷ l) (grows ms j (omega (arith, low)))
 
--- the entries of n numbers are at most as many
+-- the first `i` numbers have at most `i` entries
 pub entries-front : (ns : List ℕ) → ((i : ℕ) → i < length ns → number_at ns i ≤ entries_of (take i ns)) → (i : ℕ) → i ≤ length ns → entries_of (take i ns) ≤ i
 entries-front ns next zero low = omega arith
 entries-front ns next (suc i) low =
@@ -133,7 +133,7 @@ counted-more firsts ns es new key n f own e = record {
             ap (slice_get new) (ap (number_at (ns ++ n ∷ [])) a ∙ new-number ns n) ∙ e.stored.1
             ∙ ap Some (sym e.stored.2 ∙ own ∙ ap (number_at firsts) (sym a))
 
--- what the numbers of first things say of all things
+-- numbers of the first things are also numbers of the things themselves
 pub through : {A : Type 0} (thing : ℕ → A) (count : ℕ) (firsts numbers : List ℕ) → length firsts ≡ count → TellApart thing firsts
     → AreNumbered (number_at firsts) (length firsts) numbers → AreNumbered thing count numbers
 through thing count firsts numbers many apart are = record {

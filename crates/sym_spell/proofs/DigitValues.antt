@@ -10,7 +10,7 @@ use Rattle.sym_core.specs.Number.{AreDigits, IsLengthForm, is_digit_of}
 use Rattle.sym_core.specs.Value.{radix_of, digit_value, value_onto, counted_value}
 use Rattle.sym_spell.specs.Digits.{digits_in, decimal_digit, most_of}
 
--- what division by a base must do
+-- the laws of division by a base that the proofs use
 pub record Divides (base : ℕ) : Type 0 where
   pub joined : (n : ℕ) → n / base * base + n % base ≡ n
   pub rest : (n : ℕ) → n % base < base
@@ -94,7 +94,7 @@ digits-some base write fuel n = go (nat_lt n base)
     go true = omega arith
     go false = omega (arith, length-append (digits_in base write fuel (n / base)) (write (n % base) ∷ []))
 
--- the value of a number whose lone ending is 0
+-- in a kind of number where no digits denote 0, the digits of n denote n + 1
 pub counted-digits : (kind : NumberKind) (base : ℕ) → radix_of kind ≡ base → Divides base → (write : ℕ → ℕ)
     → ((d : ℕ) → d < base → digit_value kind (write d) ≡ d) → (fuel n : ℕ) → n < most_of base (suc fuel)
     → counted_value kind (digits_in base write (suc fuel) n) ≡ n + 1
@@ -145,7 +145,7 @@ leads-form [] h few = absurd h
 leads-form (d ∷ []) h few = tt
 leads-form (d ∷ e ∷ ds) h few = (h, omega (arith, few))
 
--- the length of a name
+-- the digits of a name's length have the form of a length
 pub length-form : (n : ℕ) → n ≤ 999999999 → IsLengthForm (digits_in 10 decimal_digit 40 n)
 length-form zero small = tt
 length-form (suc n) small =

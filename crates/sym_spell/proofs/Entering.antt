@@ -1,11 +1,11 @@
--- Maps whose keys are compared by a test: where a key is, and what the map has after one key more. And lists of the
--- numbers that keys have, before and after one number more.
+-- Lists of keys that a test compares: where a key is, and what the list has after one more key. Also lists of the numbers
+-- that keys have, before and after one more number.
 use Rattle.std.proofs.Common.{◌≡◌, ℕ, zero, suc, ◌+◌, ◌<◌, ◌≤◌, ◌⊎◌, inl, inr, length, List, [], ◌∷◌, ◌++◌, slice_get, get_or, Some, None, Bool, true, false, refl, ap, arith, sym, subst, ◌∙◌, length-append}
 use Rattle.std.specs.Prelude.{max, if◌then◌else◌, ◌||◌, ◌==◌, not}
 use Rattle.std.proofs.lemmas.Bool.{eqb-true, eq-eqb}
 use Rattle.std.specs.List.{IsDistinct, list_any, position_or_len, AllByRecursion}
 
--- ## Lists after one more element
+-- ## Lists with one more element
 
 pub last-or : (i n : ℕ) → i < n + 1 → (i < n) ⊎ (i ≡ n)
 last-or i n low = go (i == n) refl
@@ -30,7 +30,7 @@ new-number (m ∷ ns) n = new-number ns n
 
 -- ## Keys
 
--- a test that answers true for two keys just where they are alike
+-- a test of two keys that answers true exactly if they are alike
 pub record IsTest {K : Type 0} (Alike : K → K → Type 0) (eq : K → K → Bool) : Type 0 where
   pub one : (a b : K) → eq a b ≡ true → Alike a b
   pub passed : (a b : K) → Alike a b → eq a b ≡ true
@@ -47,7 +47,7 @@ apart-at eq a b [] m apart is = none-some is
 apart-at eq a b (x ∷ ks) zero apart is = subst (λ k. eq a k ≡ false) (some-one is) apart.0
 apart-at eq a b (x ∷ ks) (suc m) apart is = apart-at eq a b ks m apart.1 is
 
--- keys that are alike have one place
+-- keys that are alike have the same place
 pub one-place : {K : Type 0} (Alike : K → K → Type 0) (eq : K → K → Bool) → IsTest Alike eq → (ks : List K) (n m : ℕ) (a b : K) → IsDistinct eq ks
     → slice_get ks n ≡ Some a → slice_get ks m ≡ Some b → Alike a b → n ≡ m
 unfolding IsDistinct
@@ -85,7 +85,7 @@ old-key [] more m k is = none-some is
 old-key (x ∷ ks) more zero k is = is
 old-key (x ∷ ks) more (suc m) k is = old-key ks more m k is
 
--- a map after one more key, whose place is this
+-- the list of keys `new` is `ks` after `key` was entered, which has the place `n`
 pub record Enters {K : Type 0} (Alike : K → K → Type 0) (eq : K → K → Bool) (ks new : List K) (key : K) (n : ℕ) : Type 0 where
   pub old : (m : ℕ) (k : K) → slice_get ks m ≡ Some k → slice_get new m ≡ Some k
   pub stored : (k : K) × (slice_get new n ≡ Some k) × Alike key k

@@ -4,7 +4,7 @@ use Rattle.std.specs.Prelude.{cond}
 use Rattle.sym_spell.specs.Numbers.{number_at, TellApart}
 use Rattle.sym_spell.proofs.Entering.{last-or, old-number, new-number}
 
--- Keys of things that name other things by the first things equal to them: equal things have keys that are alike, and
+-- Keys of things. A key names other things by the first things equal to them. Equal things have keys that are alike, and
 -- different things have different keys.
 pub record AreKeys {K A : Type 0} (Alike : K → K → Type 0) (thing : ℕ → A) (count : ℕ) (IsKey : List ℕ → ℕ → K → Type 0) : Type 0 where
   pub grown : (firsts : List ℕ) (n i : ℕ) (a : K) → IsKey firsts i a → IsKey (firsts ++ n ∷ []) i a
@@ -13,14 +13,14 @@ pub record AreKeys {K A : Type 0} (Alike : K → K → Type 0) (thing : ℕ → 
   pub taken : (firsts : List ℕ) (i : ℕ) (a b : K) → IsKey firsts i a → Alike a b → IsKey firsts i b
   pub itself : (a : K) → Alike a a
 
--- A test of keys, and what a map has at them.
+-- A test that tells whether keys are alike, and a map that has the same at keys that are alike.
 pub record IsLookUp {K : Type 0} (Alike : K → K → Type 0) (test : K → K → Bool) (first : K → Option ℕ) : Type 0 where
   pub told : (a b : K) → test a b ≡ true → Alike a b
   pub passed : (a b : K) → Alike a b → test a b ≡ true
   pub respects : (a b : K) → Alike a b → first a ≡ first b
 
 -- The first things so far: each thing has a key in the map, and each key of the map belongs to the thing that the map
--- has there.
+-- gives for it.
 pub record AreFirsts {K A : Type 0} (thing : ℕ → A) (IsKey : List ℕ → ℕ → K → Type 0) (firsts : List ℕ) (first : K → Option ℕ) : Type 0 where
   pub apart : TellApart thing firsts
   pub each : (i : ℕ) → i < length firsts → (key : K) × (first key ≡ Some (number_at firsts i)) × IsKey firsts i key
@@ -104,7 +104,7 @@ firsts-more {K} {A} Alike test thing count IsKey ns old new key node n keys look
     inside : k < count
     inside = omega (arith, last, room)
 
-    -- a key leads to an earlier thing exactly if that thing is equal
+    -- whether the map had the key or not, the map and the first things still agree after this node
     go : (o : Option ℕ) → old key ≡ o → AreFirsts thing IsKey (ns ++ n ∷ []) new
     go (Some m) was = record {
       apart = apart-more thing ns n f.apart thing-same first-same;

@@ -42,7 +42,7 @@ slice_get-new : {A : Type 0} (xs : List A) (a : A) → slice_get (xs ++ a ∷ []
 slice_get-new [] a = refl
 slice_get-new (x ∷ xs) a = slice_get-new xs a
 
--- a thing keeps its number after one thing more, which has the next number
+-- a thing keeps its number when one more thing is added, which gets the next number
 numbered-more : {A : Type 0} (xs : List A) (a : A) (n : ℕ) → n ≤ length xs → numbered (xs ++ a ∷ []) n ≡ numbered xs n
 numbered-more xs a zero low = refl
 numbered-more xs a (suc k) low = slice_get-more xs a k (omega (arith, low))
@@ -67,7 +67,7 @@ zeros (suc n) (suc i) = zeros n i
 
 -- ## Marks
 
--- an order of keys, and marks that equal keys have alike
+-- an order of keys, and marks that are the same for equal keys
 pub record AreMarked {K : Type 0} (cmp : K → K → Ordering) (mark : K → ℕ) : Type 0 where
   pub total : IsTotalOrder cmp
   pub alike : (a b : K) → cmp a b ≡ Equal → mark a ≡ mark b
@@ -76,7 +76,7 @@ module _ {K : Type 0} (cmp : K → K → Ordering) (mark : K → ℕ) (laws : Ar
   one-place : (a b : K) → is_eq (cmp a b) ≡ true → place_of mark a ≡ place_of mark b
   one-place a b is = ap (λ m. m % 509) (laws.alike a b (equal-is _ is))
 
-  -- two keys that are equal to one are equal
+  -- two keys that are equal to a third one are equal
   chained : (a b q : K) → is_eq (cmp a q) ≡ true → is_eq (cmp b q) ≡ true → is_eq (cmp a b) ≡ true
   chained a b q one other =
       ap is_eq (laws.total.congr a q b (equal-is _ one) ∙ tied_back laws.total b q (equal-is _ other))
@@ -205,7 +205,7 @@ module _ {K : Type 0} (cmp : K → K → Ordering) (mark : K → ℕ) (laws : Ar
 
     -- ## One more key in the map
 
-    -- another key is at the place of the key, or no place has room
+    -- the key's place has another key, or there is no room for one more key
     abbrev pub IsElsewhere : K → Type 0
     IsElsewhere key =
         ((one : Seen K) × (seen_at places seen (place_of mark key) ≡ Some one) × (is_eq (cmp one.key key) ≡ false))
@@ -234,7 +234,7 @@ module _ {K : Type 0} (cmp : K → K → Ordering) (mark : K → ℕ) (laws : Ar
               ap (λ o. first_or cmp o more key) at ∙ ap (λ b. cond b (Some one.node) (more key)) apart
           go (inr (none, full)) = ap (λ o. first_or cmp o more key) none
 
-      -- a thing with an equal key is where the key has its place
+      -- a key that equals the added key is at none of the places
       not-here : (q : K) (one : Seen K) → seen_at places seen (place_of mark q) ≡ Some one → is_eq (cmp one.key q) ≡ true → is_eq (cmp key q) ≡ true → ⊥
       not-here q one at is same = go there
         where
@@ -288,7 +288,7 @@ module _ {K : Type 0} (cmp : K → K → Ordering) (mark : K → ℕ) (laws : Ar
                       absurd (none-some (sym none ∙ sym (ap (seen_at places seen) (one-place key q same)) ∙ at))
                   by false same = rw same (index.empty room q none)
 
--- keys that compare as equal and have one mark have one first thing
+-- keys that compare as equal and have the same mark have the same first thing
 pub same-first : {K : Type 0} (cmp : K → K → Ordering) (mark : K → ℕ) (places : List ℕ) (seen : List (Seen K)) (more : K → Option ℕ) (a b : K)
     → ((q : K) → cmp q a ≡ cmp q b) → mark a ≡ mark b → more a ≡ more b → first_in cmp mark places seen more a ≡ first_in cmp mark places seen more b
 same-first {K} cmp mark places seen more a b order marks rest =

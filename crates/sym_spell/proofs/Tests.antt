@@ -1,4 +1,4 @@
--- Tests of more than one part.
+-- Tests that join two tests with `&&`.
 use Rattle.std.proofs.Common.{◌≡◌, Bool, true, false, refl}
 use Rattle.std.specs.Prelude.{◌&&◌}
 

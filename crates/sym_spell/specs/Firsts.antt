@@ -13,7 +13,7 @@ text_mark text =
 abbrev pub place_of : {K : Type 0} → (mark : K → ℕ) → K → ℕ
 place_of mark key = mark key % 509
 
--- the thing that has this number, counted from 1
+-- the thing with this number, counted from 1; none has the number 0
 abbrev pub numbered : {A : Type 0} → List A → ℕ → Option A
 numbered things zero = None
 numbered things (suc k) = slice_get things k
@@ -22,7 +22,7 @@ numbered things (suc k) = slice_get things k
 abbrev pub seen_at : {K : Type 0} → (places : List ℕ) → List (Seen K) → (place : ℕ) → Option (Seen K)
 seen_at places seen place = numbered seen (get_or places place 0)
 
--- the thing with a key: the one at the key's place, if that has the key, or else the one in the map
+-- the first thing with a key: that of the entry at the key's place, if the entry has the key, or else the one in the map
 abbrev pub first_or : {K : Type 0} → (cmp : K → K → Ordering) → Option (Seen K) → (more : K → Option ℕ) → K → Option ℕ
 first_or cmp None more key = more key
 first_or cmp (Some seen) more key = cond (is_eq (cmp seen.key key)) (Some seen.node) (more key)
@@ -30,8 +30,8 @@ first_or cmp (Some seen) more key = cond (is_eq (cmp seen.key key)) (Some seen.n
 abbrev pub first_in : {K : Type 0} → (cmp : K → K → Ordering) → (mark : K → ℕ) → (places : List ℕ) → List (Seen K) → (more : K → Option ℕ) → K → Option ℕ
 first_in cmp mark places seen more key = first_or cmp (seen_at places seen (place_of mark key)) more key
 
--- Each key of the map has a place at which another key is, as long as there is room for more. A key that is at a place
--- has that place.
+-- As long as there is room, the map has only keys whose place has another key. The key of an entry at a place has that
+-- place by its mark.
 pub record IsIndex {K : Type 0} (mark : K → ℕ) (places : List ℕ) (seen : List (Seen K)) (more : K → Option ℕ) : Type 0 where
   pub long : length places ≡ 509
   pub within : (place : ℕ) → get_or places place 0 ≤ length seen

@@ -6,7 +6,7 @@ pub record Pressed (C : Type 0) : Type 0 where
   pub bytes : List ℕ
   pub components : List C
 
--- a spelling from a place on, after these components
+-- a spelling, by the place at which it begins and the components before it
 abbrev pub Pressing : Type 0 → Type 0
 Pressing C = (place : ℕ) → List C → Pressed C
 
@@ -17,7 +17,7 @@ abbrev pub ◌and◌ : {C : Type 0} → Pressing C → Pressing C → Pressing C
     let others = rest (place + length one.bytes) one.components in
     record { bytes = one.bytes ++ others.bytes; components = others.components }
 
--- fixed bytes, a letter, nothing
+-- spellings of fixed bytes, of a letter and of nothing; they add no component
 abbrev pub text : {C : Type 0} → List ℕ → Pressing C
 text bytes place components = record { bytes = bytes; components = components }
 

@@ -51,19 +51,19 @@ pub struct Seen<K> {
 
 /// The first nodes with each of some keys.
 ///
-/// A key is at the place that its mark says, unless an earlier key is there, and then it is in a map. The map orders
+/// A key is at the place that its mark gives, or in a map if an earlier key has this place. The map orders
 /// its keys and hashes none, so no choice of keys makes a look-up long.
 #[derive(Drop)]
 pub struct Firsts<K: Ord + Drop> {
-    /// At each place one more than the number of the key that is there, or 0.
+    /// For each place, one more than the number of the key that is there, or 0 if no key is there.
     pub places: Vec<u16>,
     /// The keys at places, in the order of their numbers.
     pub seen: Vec<Seen<K>>,
     pub more: BTreeMap<K, u32>,
 }
 
-/// The first node with this key in a map: an earlier one that the map has, or else this node, which the map has from
-/// now on.
+/// The first node with this key: the one that a map has for the key, or else this node, which the map has
+/// from now on.
 fn first_with<K: Ord + Drop>(
     nodes: &mut BTreeMap<K, u32>,
     key: K,

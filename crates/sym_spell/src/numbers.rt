@@ -10,7 +10,7 @@ use std::alloc::Global;
 use std::marker::Model;
 use sym_core::Refusal;
 
-/// A number for each node of a symbol: nodes with equal trees have one number, and others have different ones.
+/// A number for each node of a symbol: nodes with equal trees have the same number, others don't.
 #[derive(Drop)]
 pub struct Numbers {
     numbers: Vec<u32>,
@@ -29,8 +29,8 @@ impl Model for Numbers {
 }
 
 impl Numbers {
-    /// Numbers nodes by the first nodes that equal them, with one look-up in a map for each. A first node that no earlier node
-    /// had gets the next number, counted from 0.
+    /// Numbers nodes, given the first node that equals each, with one look-up in a map for each node. A first node that comes
+    /// for the first time gets the next number, counted from 0.
     ///
     /// The map has room for each node from the start, so that no choice of first nodes makes its look-ups long.
     ///
@@ -54,7 +54,7 @@ impl Numbers {
         Ok(Numbers { numbers, looks })
     }
 
-    /// The number of a node, which is below the symbol's node count. It takes no memory.
+    /// The number of a node, which is given by its place in the symbol. It takes no memory.
     pub fn number_of(&self, node: u32) -> u32
         requires { node < length self.now }
         ensures number { result ≡ number_at self.now node }

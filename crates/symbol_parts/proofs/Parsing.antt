@@ -37,7 +37,7 @@ parts_of_refusal : (what : NameKind) (spelled : Spelled) (marks : Marked) (refus
 unfolding with_parts
 parts_of_refusal what spelled marks refusal r is = ap (with_parts what spelled marks) is
 
--- a text whose cost has at most 32 bits is that short, too
+-- a text whose cost keeps to a limit of 32 bits has fewer than 2 ^ 32 bytes
 pub short-text : (shown : Unshared) (text : List ℕ) (limit : ℕ) → text ≡ text_of shown → cost_of shown ≤ limit → limit < 2 ^ 32 → length text < 2 ^ 32
 short-text shown text limit printed within fits = omega (arith, ap (λ (t : List ℕ). length t) printed, length_of_text shown, within, fits)
 
@@ -115,7 +115,7 @@ path-refused limit symbol path e (inl memory) = inl memory
 path-refused limit symbol path e (inr refused) =
     inr (parts_of_refusal (kind_of_path path) (λ stretches. spelling_of_path symbol path) (path_marked path) e (text_within limit (shown_path path)) refused)
 
--- the answer for a path, if there is one
+-- the answer for a path, if there is one, and otherwise `other`
 abbrev pub parsed_to : (limit : ℕ) → (symbol : List ℕ) → (other : Result Parsed Refusal) → Option Path → Result Parsed Refusal
 parsed_to limit symbol other path = elim path [ Some path ↦ path_parsed limit symbol path | None ↦ other ]
 

@@ -61,7 +61,7 @@ unfoldable pub without_parts : Result Parsed Refusal → Result (List ℕ) Refus
 without_parts (Ok parsed) = Ok parsed.text
 without_parts (Err refusal) = Err refusal
 
--- How the texts of a mangling's symbols are marked, what the symbols are, and which of their bytes spell which parts. W has the
+-- How the texts of a mangling's symbols are marked, what the symbols are, and which of their bytes spell which parts. W are the
 -- trees that symbols denote. The bytes of parts are known from a symbol's bytes, the rows of its shape and the stretches of its
 -- text.
 pub record Marking (W : Type 0) : Type 0 where
@@ -81,7 +81,7 @@ parsed_of_symbol m marking detail limit spelled (Err refusal) = Err refusal
 abbrev pub parsed_of_shape : {W : Type 0} → Mangled W → Marking W → Detail → ℕ → Tree → Result Parsed Refusal
 parsed_of_shape m marking detail limit shape = parsed_of_symbol m marking detail limit (marking.spelled (spell shape) (rows_of shape 0 0 0)) (m.unfolded shape)
 
--- The answer for a symbol at a limit: the answer for its shape, or its first bad byte. A list of numbers that aren't all bytes is refused at once.
+-- The answer for a symbol at a limit, by its shape, or the refusal at its first bad byte. A list of numbers that aren't all bytes is refused at once.
 unfoldable pub parsed : {W : Type 0} → Mangled W → Marking W → Detail → List ℕ → ℕ → Result Parsed Refusal
 parsed m marking detail s limit = outcome m.table m.lawful (parsed_of_shape m marking detail limit) (λ at. Err (Malformed at)) (Err (Malformed 0)) s
 

@@ -39,7 +39,7 @@ pub trait Marked: Mangling {
     fn kind_of(symbol: &Self::Symbol) -> NameKind
         ensures { result ≡ marking.kind (tree_of symbol.now) };
 
-    /// The stretches of a symbol's text in a detail that are its parts, if the text costs at most the limit.
+    /// The stretches of a symbol's text, in a detail, that are the text's parts, if the text costs at most the limit.
     ///
     /// # Errors
     ///

@@ -41,7 +41,7 @@ counting_at WidePressed = AreWideCountsOf
 abbrev pub counting_of : Options → Counting
 counting_of options = counting_at options.asked
 
--- what the filter does with the words of standard input
+-- what the filter answers for the words of standard input
 abbrev pub filter_answers : Filtering → Answering
 filter_answers filtering = answers_at filtering.asked filtering.texts filtering.legacy filtering.limit filtering.detail
 
@@ -68,7 +68,7 @@ pub record AreBegun (rows : List Row) (lines said : List ℕ) : Type 0 where
 
 -- ## What the words of a command line did
 
--- The parser accepts the words, and they did what it found; or it refuses them, or they request help, and no line was written.
+-- The parser accepts the words, and what it found was done; or it refuses them or they request help, and no line was written.
 abbrev pub IsRun : List Bytes → Run → List ℕ → List ℕ → Type 0
 IsRun words run lines said =
     ((faults_in words ≡ []) × IsRunOf (found_in words) run lines said) ⊎ ((faults_in words ≢ []) × (run ≡ Done 2) × (lines ≡ []))

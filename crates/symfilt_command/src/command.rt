@@ -28,7 +28,7 @@ use sym_short::{Rewriting, Shortening, Texts};
 ///
 /// # Errors
 ///
-/// `Read` and `Write` where a stream failed, `Memory`. What was written is a beginning of what would have been written.
+/// `Read` and `Write` where a stream failed, `Memory`. The bytes written are a beginning of those that a run without faults writes.
 pub fn run_over<S: Source, W: Sink, E: Sink>(
     alloc: Global,
     words: &[&str],

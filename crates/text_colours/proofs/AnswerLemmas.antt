@@ -1,4 +1,4 @@
--- What becomes of a text that was appended and then coloured.
+-- A text that was appended and then coloured is the text of the coloured answer.
 use Rattle.std.proofs.Common.{◌≡◌, ◌∙◌, ap, ap₂, ℕ, List, ◌++◌, Option, length, take, drop, Result, Ok}
 use Rattle.std.proofs.Math.Seq.{drop-append_seam, take-append_seam}
 use Rattle.sym_core.specs.declared.refusal.Refusal.{Refusal}

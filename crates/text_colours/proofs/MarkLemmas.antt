@@ -40,7 +40,7 @@ are-parts s place (marked role ordinal inside rest) =
     ap (λ ps. part_at s place role ordinal inside ∷ ps)
     (map-append (part_of s) (stretches_from place inside) (stretches_from next rest) ∙ ap₂ (λ ps qs. ps ++ qs) (are-parts s place inside) (are-parts s next rest))
 
--- parts from a place on begin there or later, and end before the end of their text
+-- parts from a place on begin there or later, and end at the latest with their text
 begin-from : (s : Spelling) (place low : ℕ) (m : Marked) → low ≤ place → All (λ part. low ≤ part.start) (parts_from s place m)
 unfolding part_of
 begin-from s place low done h = All-nil (λ part. low ≤ part.start)
@@ -80,7 +80,7 @@ with-style part first style length-1 has some =
 
 -- ## A mark
 
--- what is written for the parts of a mark comes before what is written for the parts after it
+-- the parts of a marked text are written as its marks say, before the parts after it
 abbrev pub Writes : Spelling → List ℕ → ℕ → Marked → List Part → Type 0
 Writes s all place m more = colored_from all place (parts_from s place m ++ more) ≡ colored_marked m ++ colored_from all (place + length (text_of m)) more
 
@@ -160,7 +160,7 @@ writes s (marked role ordinal inside rest) all front back place more is begins a
 abbrev none_of : (end : ℕ) → Spelled → Part
 none_of end spelled = record { role = spelled.role; start = end; length = 0; from = spelled.span.from; to = spelled.span.to }
 
--- nothing is left after a text, and these parts aren't shown
+-- parts that aren't in the text add nothing after its end
 hidden-left : (all : List ℕ) (place : ℕ) (part : Part) (parts : List Part) (b : Bool) → part.length ≡ 0 → colored_from all place parts ≡ [] → colored_from all place (if b then part ∷ parts else parts) ≡ []
 hidden-left all place part parts true none rest = passed all place part parts (no-bytes place part none) ∙ rest
 hidden-left all place part parts false none rest = rest
@@ -171,7 +171,7 @@ nothing-left all place end [] h = drop_all place all h
 nothing-left all place end (spelled ∷ spans) h =
     hidden-left all place (none_of end spelled) (unprinted end spans) (nat_le (role_number role.Hash) (role_number spelled.role)) refl (nothing-left all place end spans h)
 
--- these parts begin where the text ends
+-- parts that aren't in the text begin where it ends
 hidden-begins : (end : ℕ) (part : Part) (parts : List Part) (b : Bool) → end ≤ part.start → All (λ part. end ≤ part.start) parts → All (λ part. end ≤ part.start) (if b then part ∷ parts else parts)
 hidden-begins end part parts true begins all = All-cons (λ part. end ≤ part.start) part parts begins all
 hidden-begins end part parts false begins all = all

@@ -19,7 +19,7 @@ slice-rest text from to h =
     ap (λ (t : List ℕ). slice text from to ++ t) (ap (λ (n : ℕ). drop n text) (omega (arith, h)) ∙ sym (drop-drop (to - from) from text))
     ∙ take-append-drop (to - from) rest
 
--- the slice that is known bytes within a text
+-- between the places where known bytes of a text begin and end, the slice is these bytes
 pub slice-within : (text front bytes back : List ℕ) (from to : ℕ) → text ≡ front ++ (bytes ++ back) → from ≡ length front → to ≡ from + length bytes → slice text from to ≡ bytes
 slice-within text front bytes back from to is begins ends =
     ap₂ (λ (n : ℕ) (bs : List ℕ). take n bs) (omega (arith, ends)) (ap₂ drop begins is ∙ drop-append_seam front (bytes ++ back)) ∙ take-append_seam bytes back
@@ -67,7 +67,7 @@ pub shown : (text : List ℕ) (place : ℕ) (part : Part) (parts : List Part) �
 unfolding colored_from
 shown text place part parts is = shown-by text place part parts (shows place part) is
 
--- where no part begins, the text is written as it is
+-- a slice up to a place between its ends, and the rest of the slice; where no part begins, the text is written as it is
 slice-more : (text more : List ℕ) (from to start : ℕ) → from ≤ to → to ≤ start → slice text from start ++ more ≡ slice text from to ++ (slice text to start ++ more)
 slice-more text more from to start h after =
     let first = slice text from to in
@@ -94,7 +94,7 @@ advanced text from to (part ∷ parts) h after =
 
 -- ## The loop over the parts
 
--- one part more
+-- one more part
 pub part-more : (text : List ℕ) (parts : List Part) (i : ℕ) (d : Part) (place next : ℕ) (old new all : List ℕ) → i < length parts → old ++ colored_from text place (drop i parts) ≡ all
     → new ≡ old ++ written text place (get_or parts i d) → next ≡ place_after place (get_or parts i d) → new ++ colored_from text next (drop (i + 1) parts) ≡ all
 unfolding colored_from

@@ -9,8 +9,8 @@ use Rattle.text_colours.specs.Styles.{plain, style_of}
 abbrev pub has_style : Role → Bool
 has_style role = not (length (style_of role) == 0)
 
--- A part is shown in its style if the part has a style, isn't empty, and none of it was written yet. So a part within a part that has a
--- style is shown in the outer part's style.
+-- A part is shown in its style if the part has a style, isn't empty, and none of it was written yet. So a part within a styled part is
+-- shown in the outer part's style.
 abbrev pub shows : (place : ℕ) → Part → Bool
 shows place part = has_style part.role && (nat_lt 0 part.length && nat_le place part.start)
 

@@ -1,4 +1,4 @@
--- A marked text as it is shown, and a text for a terminal without its sequences.
+-- A marked text as it is shown, and a text for a terminal without its escape sequences.
 use Rattle.std.specs.Prelude.{◌≢◌, ℕ, ◌==◌, List, [], ◌∷◌, ◌++◌, Bool, true, false, not, if◌then◌else◌}
 use Rattle.sym_parts.specs.Marked.{Marked, done, text, marked, text_of}
 use Rattle.text_colours.specs.Styles.{plain, style_of}

@@ -12,7 +12,7 @@ use sym_parts::Part;
 use sym_recent::Alike;
 use text_details::Detailed;
 
-/// A demangler whose texts are those of another, with their parts in colours where these are known. Refusals and counts are those of
+/// A demangler whose texts are those of another, with their parts in colours where the parts are known. Refusals and counts are those of
 /// the other.
 #[derive(Clone, Copy, Drop)]
 pub struct Colored<D> {

@@ -6,8 +6,8 @@ ghost use Rattle.sym_parts.specs.Spelling.{Spelling, parts_spelled};
 ghost use Rattle.text_colours.specs.Colored.{colored};
 ghost use Rattle.text_colours.specs.Shown.{IsPrinted, colored_marked, without_sequences};
 
-/// A text whose parts are made by marks is coloured by these marks: each outermost mark with a style puts its text in that style, and all
-/// else stays. The bytes that spell the parts don't matter.
+/// A text whose parts are made by marks is coloured by these marks: each outermost mark with a style puts its text in that style, and the
+/// rest of the text stays. The bytes that spell the parts don't matter.
 pub fn colors_are_those_of_marks()
     ensures { (s : Spelling) (m : Marked) → colored (text_of m) (parts_spelled s (length (text_of m)) (stretches_of m)) ≡ colored_marked m }
 {}

@@ -13,12 +13,12 @@ pub enum Mangling {
     Itanium,
     /// Rust by RFC 2603.
     RustV0,
-    /// Rust's older names, which are C++'s with a hash.
+    /// Rust's older names, which are C++ names with a hash.
     RustLegacy,
 }
 
 impl Mangling {
-    /// The language that a name is of.
+    /// The language of a name with this mangling.
     pub fn language(self) -> &'static str
         ensures { result.now ≡ language_of self }
     {
@@ -40,7 +40,7 @@ impl Mangling {
         }
     }
 
-    /// Its number, from 1 on. It stays from one version to the next.
+    /// The mangling's number, from 1 on. It stays from one version to the next.
     pub fn number(self) -> u32
         ensures { result ≡ mangling_number self }
     {

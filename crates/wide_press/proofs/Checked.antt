@@ -1,4 +1,4 @@
--- A spelling is answered, or not, by what it is read as.
+-- A pressed spelling is answered exactly if the wide grammar reads it as the tree that was pressed.
 use Rattle.std.proofs.Common.{◌≡◌, ◌≢◌, ◌<◌, ◌≤◌, ◌⊎◌, inl, inr, ℕ, List, length, Bool, true, false, Some, None, Result, Ok, Err, refl, ap, sym, subst, ◌∙◌}
 use Rattle.std.specs.Prelude.{if◌then◌else◌, ◌&&◌, nat_le}
 use Rattle.std.proofs.lemmas.Bool.{le-leb, lt-leb}
@@ -24,7 +24,7 @@ reads-told bytes t result are (misshapen at bad e) =
 reads-told bytes t result are (well_shaped (shape, is, text, e)) =
     outcome_shaped wide wide_lawful (λ shape. is_tree t (unfold_wide shape)) (λ at. false) false bytes shape are is text ∙ ap (is_tree t) (sym e)
 
--- bytes that are refused for another reason than lack of memory are read as no tree
+-- bytes that are refused for a reason other than lack of memory aren't read as the tree
 pub refused-told : (bytes : List ℕ) (t : Term) (refusal : Refusal) → AreBytes bytes → refusal ≢ Memory → (refusal ≡ Memory) ⊎ IsReading wide_mangled bytes (Err refusal)
     → false ≡ reads_as bytes t
 refused-told bytes t refusal are not (inl memory) = absurd (not memory)
@@ -48,11 +48,11 @@ kept-unread most t reads = ap (λ b. if nat_le (length (pressed t)) most && b th
     go true = refl
     go false = refl
 
--- bytes that are read as an equal tree are read as the tree
+-- bytes that are read as a tree that `same_tree` finds equal to `t` are read as `t`
 pub same-reading : (bytes : List ℕ) (t read : Term) → IsReading wide_mangled bytes (Ok read) → same_tree t read ≡ true → IsReading wide_mangled bytes (Ok t)
 same-reading bytes t read reading same = subst (λ u. IsReading wide_mangled bytes (Ok u)) (sym (equal-tree t read same)) reading
 
--- ## What is answered of bytes that are the pressed spelling
+-- ## What is answered for the bytes of a pressed spelling
 
 pub answered : (most : ℕ) (t : Term) (out bytes : List ℕ) (is : Bool) → out ≡ pressed t → bytes ≡ out → length out ≤ most → is ≡ true → is ≡ reads_as bytes t
     → kept most t ≡ Some out

@@ -10,7 +10,7 @@ use Rattle.cpp_grammar.specs.Rescoping.{unfold_wide}
 use Rattle.cpp_press_laws.specs.Pressing.{pressed}
 use Rattle.cpp_press_laws.specs.Same.{same_tree}
 
--- whether what is read is this tree
+-- whether the result of a reading is this tree
 abbrev pub is_tree : Term → Result Term Refusal → Bool
 is_tree t (Ok read) = same_tree t read
 is_tree t (Err refusal) = false

@@ -46,7 +46,7 @@ unfoldable mutual
 unfoldable pub shape_of : List ℕ → Option Tree
 shape_of s = elim (read_kind (10 * length s + 10) Kind.Symbol s) [ None ↦ None | Some r ↦ elim r.1 [ [] ↦ Some r.0 | b ∷ bs ↦ None ] ]
 
--- what a symbol comes to
+-- the text and the cost of a symbol by the wide grammar
 unfoldable pub see_wide : Detail → List ℕ → Seen
 see_wide d s = elim (shape_of s) [ None ↦ no_shape | Some tree ↦ seen_tree d (unfold_wide tree) ]
 

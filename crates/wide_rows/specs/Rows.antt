@@ -1,4 +1,4 @@
--- Symbols that the wide grammar alone reads, each with its text and its cost. They take each production that it alone has.
+-- Symbols that only the wide grammar reads, each with its text and its cost. Together they take each production that only it has.
 use Rattle.std.specs.Prelude.{List, [], ◌∷◌}
 use Rattle.cpp_grammar.proofs.Row.{Row, prints, refers_badly}
 

@@ -1,4 +1,4 @@
-//! Symbols that the wide grammar alone reads, which the checker computes by its definitions: only laws.
+//! Symbols that only the wide grammar reads, which the checker computes by its definitions: only laws.
 #![tactic(auto)]
 
 mod laws;

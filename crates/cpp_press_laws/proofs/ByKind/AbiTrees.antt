@@ -1,21 +1,8 @@
--- A fact of the trees of both grammars, for the trees of the ABI's grammar.
-use Rattle.std.proofs.Common.{◌≡◌, ℕ, suc, ◌+◌, ◌<◌, ◌≤◌, List, refl, arith, length, true, false, Ok}
-use Rattle.sym_shape.specs.Law.{IsSymbol}
-use Rattle.sym_shape.specs.declared.rule.Sym.{Sym}
+-- A fact about the trees of both grammars holds of the trees of the ABI's grammar.
+use Rattle.cpp_press_laws.proofs.Basics.{◌≡◌, ℕ, suc, ◌+◌, ◌<◌, ◌≤◌, List, refl, arith, length, true, false, Ok, IsSymbol, Sym, Tree, IsTree, spell, Found, unfold_tree, KIND_COUNT, kinds, abi, sheet, wide, cpp, State, Around, Value, Bare, AllOld, GoodPrefix, abi_wide}
 use Rattle.sym_shape.specs.declared.rule.Sym.TheVariants.{Kind as OfKind, Name, Number, Byte}
-use Rattle.sym_shape.specs.Tree.{Tree, IsTree, spell}
-use Rattle.sym_link.specs.Reading.{Found}
-use Rattle.sym_link.specs.Unfold.{unfold_tree}
-use Rattle.cpp_grammar.specs.KindNumbers.{KIND_COUNT}
-use Rattle.cpp_grammar.specs.Grammar.{kinds}
-use Rattle.cpp_grammar.specs.Table.{abi, sheet, wide}
-use Rattle.cpp_grammar.specs.Unfolding.{cpp}
-use Rattle.cpp_grammar.specs.Values.{State, Around, Value}
-use Rattle.cpp_grammar.proofs.ClosedStates.{Bare, AllOld}
 use Rattle.cpp_grammar.proofs.ClosedTrees as both_
 use Rattle.cpp_grammar.proofs.ClosedTrees.{is_encoding, TreeComes}
-use Rattle.cpp_grammar.proofs.ClosedValues.{GoodPrefix}
-use Rattle.cpp_grammar.proofs.Growing.{abi_wide}
 
 kind_count : abi.kinds ≡ KIND_COUNT
 unfolding abi sheet kinds

@@ -1,17 +1,6 @@
 -- Arguments of templates that were read, of each kind: lists of them, packs, literals and addresses.
-use Rattle.std.proofs.Common.{◌≡◌, ℕ, [], ◌∷◌, true, false, refl, ap, sym, subst, ◌∙◌}
-use Rattle.std.specs.Prelude.{nat_eq}
-use Rattle.cpp_grammar.specs.declared.kind.Kind.{Kind}
-use Rattle.cpp_grammar.specs.declared.production.Production.{Production}
-use Rattle.cpp_grammar.specs.declared.production.Operation.{Operation}
-use Rattle.cpp_grammar.specs.Grammar.{alternatives, is_chain, number_of_kind, parts_of, number_of}
-use Rattle.cpp_grammar.specs.Term.{absent}
-use Rattle.cpp_grammar.specs.Values.{State, outermost, Around, Value, pair, tree_of, letter_of, part}
-use Rattle.cpp_grammar.specs.Between.{between, no_items}
-use Rattle.cpp_grammar.specs.Meaning.{operation_by, operation_or_address, is_code, meaning}
+use Rattle.cpp_press_laws.proofs.Basics.{◌≡◌, ℕ, [], ◌∷◌, true, false, refl, ap, sym, subst, ◌∙◌, nat_eq, Kind, Production, Operation, alternatives, is_chain, number_of_kind, parts_of, number_of, absent, State, outermost, Around, Value, pair, tree_of, letter_of, part, between, no_items, operation_by, operation_or_address, is_code, meaning, byte_of, literal_type, IsBuiltin}
 use Rattle.cpp_grammar.specs.Unfolding as unfolding_
-use Rattle.cpp_grammar.specs.Unfolding.{byte_of}
-use Rattle.cpp_press_laws.specs.Fits.{literal_type, IsBuiltin}
 use Rattle.cpp_press_laws.proofs.Fits.Symbols.{WholeFits}
 use Rattle.cpp_press_laws.proofs.Fits.Sorts.{KindFits, Meant}
 use Rattle.cpp_press_laws.proofs.Fits.Arguments.{arguments-fit, null-fits, boolean-fits, encoding-literal-fits, address-fits}

@@ -1,17 +1,5 @@
--- The value of a kind that may be empty, where it is empty.
-use Rattle.std.proofs.Common.{◌≡◌, [], ◌∷◌, inl, true, false, refl, subst, sym, ◌∙◌}
-use Rattle.std.proofs.lemmas.Bool.{false≢true}
-use Rattle.sym_shape.specs.Tree.{empty}
-use Rattle.sym_link.specs.Unfold.{found}
-use Rattle.cpp_grammar.specs.declared.kind.Kind.{Kind}
-use Rattle.cpp_grammar.specs.Grammar.{number_of_kind, may_be_empty}
-use Rattle.cpp_grammar.specs.Values.{State, Around, nothing_there, text_of, mark_of}
-use Rattle.cpp_grammar.specs.Between.{no_items}
-use Rattle.cpp_grammar.specs.Meaning.{discriminator_of}
-use Rattle.cpp_grammar.specs.Unfolding.{cpp}
-use Rattle.cpp_grammar.proofs.Choosing.{empty_at_kind}
-use Rattle.cpp_grammar.proofs.ClosedStates.{ok_same}
-use Rattle.cpp_press_laws.specs.Fits.{item_type}
+-- The value of a kind that may be empty, if it is empty.
+use Rattle.cpp_press_laws.proofs.Basics.{◌≡◌, [], ◌∷◌, inl, true, false, refl, subst, sym, ◌∙◌, false≢true, empty, found, Kind, number_of_kind, may_be_empty, State, Around, nothing_there, text_of, mark_of, no_items, discriminator_of, cpp, empty_at_kind, ok_same, item_type}
 use Rattle.cpp_press_laws.proofs.ByKind.Rules.{kind-at}
 use Rattle.cpp_press_laws.proofs.ByKind.Leaves.{leaf-same}
 use Rattle.cpp_press_laws.proofs.Fits.Lists.{nil-fits}

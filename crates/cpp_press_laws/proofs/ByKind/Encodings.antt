@@ -1,32 +1,11 @@
--- Encodings that were read fit: their names and types are read in surroundings of their own.
-use Rattle.std.proofs.Common.{◌≡◌, ℕ, ◌+◌, ◌<◌, ◌≤◌, inl, inr, length, List, [], ◌∷◌, ◌++◌, Bool, true, false, Ok, refl, ap, sym, subst, ◌∙◌, arith, lit≤}
-use Rattle.std.proofs.lemmas.Bool.{false≢true}
+-- An encoding that was read fits: its name and its types are read in surroundings of their own.
+use Rattle.cpp_press_laws.proofs.Basics.{◌≡◌, ℕ, ◌+◌, ◌<◌, ◌≤◌, inl, inr, length, List, [], ◌∷◌, ◌++◌, Bool, true, false, Ok, refl, ap, sym, subst, ◌∙◌, arith, lit≤, false≢true, Sym, IsSymbol, Tree as Shape, spell, IsTree, found, unfold_tree, Kind, Production, Operation, ENCODING, SPECIAL, SPECIAL_MARK, SPECIAL_AFTER_G, COMPLETE_NAME, ITEMS, alternatives, choose, is_chain, number_of_kind, parts_of, number_of, abi, Thunk, Term, adjusting, covariant, non_virtual, by_table, symbol, function, of_name, thunk, nil, list, absent, has_return_type, Candidate, State, Around, Value, tree, tree_of, qualifiers_of, ref_of, signed_of, adjustment_of, part, in_name, in_types, no_items, between, encoding_of, meaning, parameters, close, byte_of, cpp, Good, held, Bare, AllOld, AllNew, Grows, old_later, old_grows, ok_same, is_encoding, item_type, IsSpellableThunk}
 use Rattle.std.proofs.lemmas.List.{append_assoc}
-use Rattle.sym_shape.specs.declared.rule.Sym.{Sym}
 use Rattle.sym_shape.specs.declared.rule.Sym.TheVariants.{Kind as OfKind}
-use Rattle.sym_shape.specs.Law.{IsSymbol}
-use Rattle.sym_shape.specs.Tree.{Tree as Shape, spell, IsTree}
-use Rattle.sym_link.specs.Unfold.{found, unfold_tree}
-use Rattle.cpp_grammar.specs.declared.kind.Kind.{Kind}
-use Rattle.cpp_grammar.specs.declared.production.Production.{Production}
-use Rattle.cpp_grammar.specs.declared.production.Operation.{Operation}
-use Rattle.cpp_grammar.specs.KindNumbers.{ENCODING, SPECIAL, SPECIAL_MARK, SPECIAL_AFTER_G, COMPLETE_NAME, ITEMS}
-use Rattle.cpp_grammar.specs.Grammar.{alternatives, choose, is_chain, number_of_kind, parts_of, number_of}
-use Rattle.cpp_grammar.specs.Table.{abi}
-use Rattle.cpp_grammar.specs.Term.{Thunk, Term, adjusting, covariant, non_virtual, by_table, symbol, function, of_name, thunk, nil, list, absent}
-use Rattle.cpp_grammar.specs.Scope.{has_return_type}
-use Rattle.cpp_grammar.specs.Values.{Candidate, State, Around, Value, tree, tree_of, qualifiers_of, ref_of, signed_of, adjustment_of, part}
-use Rattle.cpp_grammar.specs.Between.{in_name, in_types, no_items, between}
-use Rattle.cpp_grammar.specs.Meaning.{encoding_of, meaning, parameters}
 use Rattle.cpp_grammar.specs.Unfolding as unfolding_
-use Rattle.cpp_grammar.specs.Unfolding.{close, byte_of, cpp}
-use Rattle.cpp_grammar.proofs.ClosedValues.{Good, held}
-use Rattle.cpp_grammar.proofs.ClosedStates.{Bare, AllOld, AllNew, Grows, old_later, old_grows, ok_same}
 use Rattle.cpp_grammar.proofs.ClosedTrees.{is_encoding as holds_encoding, old_inner, old_types}
 use Rattle.cpp_press_laws.proofs.ByKind.AbiTrees.{known, tree_good}
-use Rattle.cpp_press_laws.specs.Pressing.{is_encoding}
 use Rattle.cpp_press_laws.proofs.Components.Complete.{AllBefore}
-use Rattle.cpp_press_laws.specs.Fits.{item_type, IsSpellableThunk}
 use Rattle.cpp_press_laws.proofs.ByKind.Rules.{Opened, opened, by-name, IsAmong}
 use Rattle.cpp_press_laws.proofs.Fits.Lists.{IsList, ListFits}
 use Rattle.cpp_press_laws.proofs.Fits.Nests.{OwnNameFits}
@@ -63,7 +42,7 @@ after-append : (encoding : ℕ) (cs ds : List Candidate) → AllAfter encoding c
 after-append encoding [] ds one other = other
 after-append encoding (c ∷ cs) ds one other = (one.0, after-append encoding cs ds one.1 other)
 
--- candidates that were made inside an encoding stay after the place where it begins
+-- the candidates that were made inside an encoding were made after the place where the encoding begins
 stays-behind : (around inner : Around) (at end : ℕ) (old new : State) → around.encoding < at → inner.encoding ≡ at
     → AllOld false around at old.candidates → Grows false inner end old new → StaysBehind around at old new
 stays-behind around inner at end old new less is before grows = record {
@@ -124,7 +103,7 @@ part-came x around from state shape v new small front is e =
       old = old_grows false around from later state new (omega arith) front.placed.old came.grows;
     }
 
--- a fact of the meaning of a production and of the state after it is a fact of what the production was read as
+-- a property of the production's meaning and the state after it holds of the value and the state that were read
 ended-read : (P : Value → State → Type 0) (p : Production) (byte : ℕ) (around : Around) (old : State) (vs : List Value) (mid : State)
     (v : Value) (new : State) → Ended p byte around old vs mid v new → P (Meant p byte around vs) (Later p byte around old vs mid) → P v new
 ended-read P p byte around old vs mid v new e one = subst (λ w. P w new) (sym e.comes) (subst (P (Meant p byte around vs)) (sym e.ends) one)
@@ -222,7 +201,7 @@ guard-read around at old v new front o =
     o.comes)
     (subst (λ w. EncodingRead around w old h.after) (sym guard.1) (record { is = refl; value = refl; fits = whole }))
 
--- what follows a T is an encoding
+-- an encoding that begins with a T fits, by what is known of what follows the T
 special-encoding : (around : Around) (at : ℕ) (v : Value) (old new : State) → StaysBehind around at old new
     → SpecialRead (in_name at) v old new → EncodingRead around v old new
 unfolding is_encoding tree_of
@@ -249,7 +228,7 @@ special-read around at old v new front o =
     (ended-as Production.Special byte around old o.inner o.one (g.value ∷ []) g.after v new (ok_same _ o.one o.closes) g.onward o.comes)
     (special-encoding around at g.value old g.after stays one)
 
--- an encoding, where its parts were read so
+-- an encoding, by what is known of its parts
 pub encoding-branch : BranchRead Kind.Encoding
 unfolding alternatives number_of_kind number_of
 encoding-branch rule taken parts all around at old v new front is e =
@@ -284,7 +263,7 @@ thunk-read : (around : Around) (kind : Thunk) (v : Value) (old mid new : State) 
 thunk-read around kind v old mid new good same one =
     inr (kind, tree_of v, refl, good, subst (λ s. WholeFits around (tree_of v) s new) same one.fits)
 
--- a type's table and the like, and thunks, where their parts were read so
+-- special encodings of a type, and thunks, by what is known of their parts
 pub special-branch : BranchRead Kind.Special
 unfolding alternatives parts_of between number_of_kind meaning part unfolding_.behind is_chain number_of
 special-branch rule taken parts all around at old v new front is e =

@@ -1,19 +1,7 @@
--- Entities in the scope of an encoding that were read fit, and the names and types that they are.
-use Rattle.std.proofs.Common.{◌≡◌, inl, inr, ℕ, [], Bool, true, false, refl, ap, sym, subst, ◌∙◌}
+-- An entity in the scope of an encoding that was read fits, and so does a name or a type that consists of such an entity.
+use Rattle.cpp_press_laws.proofs.Basics.{◌≡◌, inl, inr, ℕ, [], Bool, true, false, refl, ap, sym, subst, ◌∙◌, Kind, Production, Operation, alternatives, number_of_kind, parts_of, number_of, any_value, Term, local, within, string_literal, State, outermost, behind, Around, Value, unqualified, tree, tree_of, qualifiers_of, ref_of, mark_of, is_there, is_listed, part, is_function_type, with_type, with_unqualified, after, extended, applied, between, discriminator_of, meaning, qualifier_letters, mark_letter, name_letters, no_ways, type_ways, is_encoding, ways_of, Slot, bare_type, Role, in_type, in_name_with, letters_of, IsAbiMark, begins_name, names_type, names_entity, names_in, IsSpellableDiscriminator}
 use Rattle.sym_shape.specs.declared.rule.Sym.TheVariants.{Kind as OfKind}
-use Rattle.cpp_grammar.specs.declared.kind.Kind.{Kind}
-use Rattle.cpp_grammar.specs.declared.production.Production.{Production}
-use Rattle.cpp_grammar.specs.declared.production.Operation.{Operation}
-use Rattle.cpp_grammar.specs.Grammar.{alternatives, number_of_kind, parts_of, number_of}
-use Rattle.cpp_grammar.specs.Term.{any_value, Term, local, within, string_literal}
-use Rattle.cpp_grammar.specs.Values.{State, outermost, behind, Around, Value, unqualified, tree, tree_of, qualifiers_of, ref_of, mark_of, is_there, is_listed, part}
-use Rattle.cpp_grammar.specs.References.{is_function_type, with_type, with_unqualified}
-use Rattle.cpp_grammar.specs.Between.{after, extended, applied, between}
-use Rattle.cpp_grammar.specs.Meaning.{discriminator_of, meaning}
 use Rattle.cpp_grammar.specs.Unfolding as unfolding_
-use Rattle.cpp_press_laws.specs.Texts.{qualifier_letters, mark_letter, name_letters}
-use Rattle.cpp_press_laws.specs.Pressing.{no_ways, type_ways, is_encoding, ways_of}
-use Rattle.cpp_press_laws.specs.Fits.{Slot, bare_type, Role, in_type, in_name_with, letters_of, IsAbiMark, begins_name, names_type, names_entity, names_in, IsSpellableDiscriminator}
 use Rattle.cpp_press_laws.proofs.Fits.Types.{SolidFits}
 use Rattle.cpp_press_laws.proofs.Fits.Names.{PieceFits}
 use Rattle.cpp_press_laws.proofs.Fits.Nests.{OwnNameFits, EntityFits}
@@ -112,7 +100,7 @@ nested-type-read around at old v new o e is scoped =
 
 -- ## String literals
 
--- the role of an encoding's own name, without letters
+-- the role of an entity in an encoding's own name, without letters
 abbrev plain_name : Role
 plain_name = in_name_with unqualified any_value
 
@@ -179,7 +167,7 @@ type-reads : Reads Kind.TypeEntity in_type
 unfolding tree_of
 type-reads around t old new one = one
 
--- an entity that a name ends in, where its parts were read so
+-- an entity that a name ends in, by what is known of its parts
 pub entity-branch : BranchRead Kind.Entity
 unfolding alternatives number_of
 entity-branch rule taken parts all around at old v new front is e =
@@ -202,7 +190,7 @@ entity-branch rule taken parts all around at old v new front is e =
     arm (Production.Operation Operation.ExpressionC) here o = absurd here
     arm p here o = absurd here
 
--- a type in the scope of an encoding, where its parts were read so
+-- a type in the scope of an encoding, by what is known of its parts
 pub type-entity-branch : BranchRead Kind.TypeEntity
 unfolding alternatives number_of
 type-entity-branch rule taken parts all around at old v new front is e =

@@ -1,37 +1,9 @@
--- What is known of the value of each kind, and how the parts of a production give what is known of the whole.
-use Rattle.std.proofs.Common.{◌≡◌, ℕ, ◌+◌, ◌<◌, ◌≤◌, ◌⊎◌, inl, inr, length, List, [], ◌∷◌, ◌++◌, Bool, true, false, cond, Some, Ok, Err, refl, ap, sym, subst, ◌∙◌, arith}
-use Rattle.std.specs.Prelude.{◌&&◌, ◌||◌, nat_lt}
-use Rattle.std.proofs.lemmas.Bool.{true≢false, and_parts}
-use Rattle.std.proofs.lemmas.Bool.Decides.{nat_tests}
-use Rattle.sym_core.specs.Number.{AreDigitsOf}
-use Rattle.sym_shape.specs.declared.rule.Rule.{Rule}
-use Rattle.sym_shape.specs.declared.rule.Sym.{Sym}
+-- What is known of the value of each kind, and how this follows for a production from what is known of its parts.
+use Rattle.cpp_press_laws.proofs.Basics.{◌≡◌, ℕ, ◌+◌, ◌<◌, ◌≤◌, ◌⊎◌, inl, inr, length, List, [], ◌∷◌, ◌++◌, Bool, true, false, cond, Some, Ok, Err, refl, ap, sym, subst, ◌∙◌, arith, ◌&&◌, ◌||◌, nat_lt, true≢false, and_parts, nat_tests, AreDigitsOf, Rule, Sym, IsSymbol, AreSymbols, Tree as Shape, Forest, branch, grown, spell, IsTree, AreTrees, Found, Next, found, unfold_tree, Kind, Production, Operation, KIND_COUNT, Alternative, alternatives, choose, number_of_kind, parts_of, is_chain, abi, Term, Thunk, special, thunk, of_name, literal_operator, with_prefix, after, Continuation, between, discriminator_of, cpp, opening, close, byte_of, AllGood, all_append, GoodPrefix, held, good_where, Bare, Within, AllOld, old_later, old_grows, ok_same, StaysInside, Goes, goes_within, same_choice, each_below, below as below_, kept, is_encoding, in_type, in_name_with, any_type, names_type, begins_name, names_function, IsSpellableOffset, IsSpellableThunk, IsSpellableDiscriminator, IsSpellableSuffix, IsAbiMark, IsSpellableName, IsSpellableNumber, AreSuffixBytes}
 use Rattle.sym_shape.specs.declared.rule.Sym.TheVariants.{Kind as OfKind, Name, Number, Byte}
-use Rattle.sym_shape.specs.Law.{IsSymbol, AreSymbols}
-use Rattle.sym_shape.specs.Tree.{Tree as Shape, Forest, branch, grown, spell, IsTree, AreTrees}
-use Rattle.sym_link.specs.Reading.{Found, Next}
-use Rattle.sym_link.specs.Unfold.{found, unfold_tree}
-use Rattle.cpp_grammar.specs.declared.kind.Kind.{Kind}
-use Rattle.cpp_grammar.specs.declared.production.Production.{Production}
-use Rattle.cpp_grammar.specs.declared.production.Operation.{Operation}
-use Rattle.cpp_grammar.specs.KindNumbers.{KIND_COUNT}
-use Rattle.cpp_grammar.specs.Grammar.{Alternative, alternatives, choose, number_of_kind, parts_of, is_chain}
-use Rattle.cpp_grammar.specs.Table.{abi}
-use Rattle.cpp_grammar.specs.Term.{Term, Thunk, special, thunk, of_name, literal_operator}
 use Rattle.cpp_grammar.specs.Values.{State, outermost, behind, Around, Value, nothing_there, letter, text, tree, piece, tree_of, piece_of, qualifiers_of, ref_of, letter_of, text_of, signed_of, adjustment_of, mark_of}
-use Rattle.cpp_grammar.specs.References.{with_prefix}
-use Rattle.cpp_grammar.specs.Between.{after, Continuation, between}
-use Rattle.cpp_grammar.specs.Meaning.{discriminator_of}
-use Rattle.cpp_grammar.specs.Unfolding.{cpp, opening, close, byte_of}
-use Rattle.cpp_grammar.proofs.ClosedValues.{AllGood, all_append, GoodPrefix, held, good_where}
-use Rattle.cpp_grammar.proofs.ClosedStates.{Bare, Within, AllOld, old_later, old_grows, ok_same}
-use Rattle.cpp_grammar.proofs.ClosedParts.{StaysInside, Goes, goes_within}
 use Rattle.cpp_grammar.proofs.ClosedTrees.{is_encoding as holds_encoding, has_encoding, old_fits, grows_fits, one_good, or_true}
-use Rattle.cpp_grammar.proofs.Growing.{same_choice, each_below, below as below_, kept}
 use Rattle.cpp_press_laws.proofs.ByKind.AbiTrees.{known, tree_good}
-use Rattle.cpp_press_laws.specs.Pressing.{is_encoding}
-use Rattle.cpp_press_laws.specs.Fits.{in_type, in_name_with, any_type, names_type, begins_name, names_function, IsSpellableOffset, IsSpellableThunk, IsSpellableDiscriminator, IsSpellableSuffix, IsAbiMark}
-use Rattle.cpp_press_laws.specs.Spellable.{IsSpellableName, IsSpellableNumber, AreSuffixBytes}
 use Rattle.cpp_press_laws.proofs.ByKind.Leaves.{name-read}
 use Rattle.cpp_press_laws.proofs.ByKind.LeafKinds.{byte-read, number-read}
 use Rattle.cpp_press_laws.proofs.ByKind.Steps.{lambdas-go}
@@ -207,8 +179,8 @@ pub record PartRead (x : Sym) (f : Forest) (from : ℕ) (next : Next Value State
   pub read : SymbolRead x next.context value next.state after
   pub onward : rest others (next.values ++ value ∷ []) (from + length (spell shape)) after
 
--- the parts of a production that begins at a place were read after parts with these values; the production's value is
--- this
+-- the other parts of a production that begins at `place` were read after parts with the values `vs`, and the production's
+-- value and the state after it are the given ones
 abbrev pub PartsRead : Production → (byte : ℕ) → Around → (place : ℕ) → (old : State) → Value → (new : State) → List Sym → Forest
     → List Value → (from : ℕ) → State → Type 0
 PartsRead p byte around place old v new [] f vs from state = close p byte around place old vs state ≡ Ok (found v new)
@@ -261,7 +233,7 @@ unfolding are_small
 small-symbols [] h = tt
 small-symbols (x ∷ xs) h = let both = and_parts (is_small x) (are_small xs) h in (small-symbol x both.0, small-symbols xs both.1)
 
--- an encoding comes after a byte
+-- a production without a byte of its own has no part that is an encoding
 behind-a-byte : (p : Production) → is_chain p && has_encoding (parts_of p) ≡ false
 unfolding is_chain parts_of has_encoding holds_encoding number_of_kind
 behind-a-byte Production.Mark = refl
@@ -270,7 +242,7 @@ behind-a-byte _ = refl
 
 -- ## Parts
 
--- a part of any symbol
+-- what is known of a part, whatever its symbol
 symbol-read : (x : Sym) (t : Shape) → ShapeRead t → (around : Around) (at : ℕ) (state : State) (v : Value) (new : State)
     → InFront x around at state → IsTree abi x t → unfold_tree cpp around at t state ≡ Ok (found (v ∷ []) new)
     → SymbolRead x around v state new
@@ -282,7 +254,7 @@ symbol-read (Number kind) t holds around at state v new front is e =
     let r = number-read kind t around at state new v is e in (r.0, r.1.0, r.1.1)
 symbol-read (Byte b) t holds around at state v new front is e = byte-read b t around at state new v is e
 
--- what is known before each part and of each part
+-- what is known before each part, and what is known of each part
 parts-read : (p : Production) (byte : ℕ) (around : Around) (place : ℕ) (old : State) (v : Value) (new : State) → StaysInside p
     → LambdasAreBare around → GoodPrefix (Bare false around) around.prefix → (inner : Found (List Value) State)
     → close p byte around place old inner.value inner.state ≡ Ok (found v new)
@@ -402,7 +374,7 @@ opened-as kind around at old v new x front p o = record {
       (old_later false around at from old.candidates (omega arith) placed.old) o.goes);
 }
 
--- A branch of a kind is one of the kind's productions, where its parts were read.
+-- A branch of a kind was read as one of the kind's productions, part by part.
 pub opened-read : (kind : Kind) (rule : Rule) (taken : List ℕ) (parts : Forest) → AllOf ShapeRead parts
     → (around : Around) (at : ℕ) (old : State)
     (v : Value) (new : State) → InFront (OfKind (number_of_kind kind)) around at old
@@ -431,7 +403,7 @@ pub one-read : (kind : Kind) (rule : Rule) (taken : List ℕ) (parts : Forest) �
 one-read kind rule taken parts all around at old v new front is e =
     by-name (alternatives kind) (OpenedRead kind around at old v new) (opened-read kind rule taken parts all around at old v new front is e)
 
--- two kinds that take the same production at each byte
+-- what was read as a kind was read as each kind that takes the same production at each byte
 pub taken-as : (j k : Kind) → each_below 256 (λ b. same_choice (choose j b) (choose k b)) ≡ true
     → (around : Around) (at : ℕ) (old : State) (v : Value) (new : State) (p : Production)
     → OpenedRead j around at old v new p → OpenedRead k around at old v new p
@@ -447,7 +419,7 @@ taken-as j k all around at old v new p o = record {
   goes = o.goes;
 }
 
--- each production of one kind is a production of the other
+-- what was read as a production of one kind was read as a production of each kind that takes the same at each byte
 pub taken-among : (j k : Kind) → each_below 256 (λ b. same_choice (choose j b) (choose k b)) ≡ true
     → (around : Around) (at : ℕ) (old : State) (v : Value) (new : State) (some : List Alternative)
     → OneOf some (OpenedRead j around at old v new) → OneOf (alternatives k) (OpenedRead k around at old v new)
@@ -479,7 +451,7 @@ closes-plain Production.Substitution plain byte around at old vs mid = absurd pl
 closes-plain Production.Inheriting plain byte around at old vs mid = absurd plain
 closes-plain _ plain byte around at old vs mid = refl
 
--- a fact of the meaning of a production and of the state after it is a fact of what the production was read as
+-- a property of the production's meaning and the state after it holds of the value and the state that were read
 pub comes-as : (P : Value → State → Type 0) (p : Production) → IsPlain p
     → (byte : ℕ) (around : Around) (at : ℕ) (old : State) (vs : List Value)
     (mid : State) (v : Value) (new : State) → close p byte around at old vs mid ≡ Ok (found v new)
@@ -489,7 +461,7 @@ comes-as P p plain byte around at old vs mid v new e one =
     (ok_same (found (Meant p byte around vs) (Later p byte around old vs mid)) (found v new)
     (sym (closes-plain p plain byte around at old vs mid) ∙ e)) one
 
--- the claim about a production, where these parts are still to come
+-- the claim about a production, for any values of the parts that are still to come
 abbrev pub Parts : Production → Around → (place : ℕ) → (P : List Value → State → Type 0) → List Sym → List Value → State → Type 0
 Parts p around place P [] vs s = P vs s
 Parts p around place P (x ∷ xs) vs s =
@@ -514,21 +486,21 @@ each-part p byte around place old v new R plain (x ∷ xs) f vs from s goes hold
     go (Ok next) one holds more =
         more one.others (next.values ++ one.value ∷ []) (from + length (spell one.shape)) one.after one.onward (holds one.value one.after one.read)
 
--- a fact of the meaning of a production, for any values of its parts, is a fact of what the production was read as
+-- a property of a production's meaning, for any values of its parts, holds of the value and the state that were read
 pub by-parts : (R : Value → State → Type 0) (p : Production) → IsPlain p → StaysInside p → {kind : Kind} {around : Around} {at : ℕ} {old : State}
     {v : Value} {new : State} → (o : OpenedRead kind around at old v new p)
     → Parts p around at (λ ws t. R (Meant p (byte_of o.taken) around ws) (Later p (byte_of o.taken) around old ws t)) (parts_of p) [] old → R v new
 by-parts R p plain stays {kind} {around} {at} {old} {v} {new} o holds =
     each-part p (byte_of o.taken) around at old v new R plain (parts_of p) o.parts [] (at + length o.taken) old (o.goes stays) holds
 
--- the same for types, lists and arguments
+-- what fits for any values of a production's parts fits for the value and the state that were read
 pub fits-by-parts : (k : Kind) (p : Production) → IsPlain p → StaysInside p → {kind : Kind} {around : Around} {at : ℕ} {old : State} {v : Value}
     {new : State} → (o : OpenedRead kind around at old v new p)
     → Parts p around at (λ ws t. KindFits k around (Meant p (byte_of o.taken) around ws) old (Later p (byte_of o.taken) around old ws t)) (parts_of p) [] old
     → KindFits k around v old new
 fits-by-parts k p plain stays {kind} {around} {at} {old} {v} {new} o holds = by-parts (λ w s. KindFits k around w old s) p plain stays o holds
 
--- what is known of each branch of a kind, where its parts were read
+-- what holds of each branch of a kind, by what is known of the branch's parts
 abbrev pub BranchTo : Kind → (Around → Value → (old new : State) → Type 0) → Type 0
 BranchTo kind R =
     (rule : Rule) (taken : List ℕ) (parts : Forest) → AllOf ShapeRead parts → (around : Around) (at : ℕ) (old : State) (v : Value)

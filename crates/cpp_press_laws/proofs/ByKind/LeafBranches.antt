@@ -1,23 +1,10 @@
 -- Marks, letters, numbers, offsets, discriminators and suffixes that were read: what is known of their kinds, and that
 -- nothing else changes.
-use Rattle.std.proofs.Common.{◌≡◌, ℕ, inl, inr, List, [], ◌∷◌, true, false, refl, ap, arith, sym, subst, ◌∙◌, Option, None, Some}
-use Rattle.cpp_grammar.specs.declared.kind.Kind.{Kind}
-use Rattle.cpp_grammar.specs.declared.production.Production.{Production}
-use Rattle.cpp_grammar.specs.declared.production.Operation.{Operation}
-use Rattle.cpp_grammar.specs.Grammar.{Alternative, alternatives, choose, is_chain, parts_of, pick, is_in, in_ranges, among, number_of}
-use Rattle.cpp_grammar.specs.Values.{State, Around, Value, letter_of, text_of, signed_of, adjustment_of, normal, part, mark_of, letter}
-use Rattle.cpp_grammar.specs.Between.{between}
-use Rattle.cpp_grammar.specs.Meaning.{meaning, discriminator_of}
+use Rattle.cpp_press_laws.proofs.Basics.{◌≡◌, ℕ, inl, inr, List, [], ◌∷◌, true, false, refl, ap, arith, sym, subst, ◌∙◌, Option, None, Some, Kind, Production, Operation, Alternative, alternatives, choose, is_chain, parts_of, pick, is_in, in_ranges, among, number_of, State, Around, Value, letter_of, text_of, signed_of, adjustment_of, normal, part, mark_of, letter, between, meaning, discriminator_of, byte_of, IsSpellableSuffix, IsAbiMark, nat_eq, cond, eqb-true, lvalue_only, rvalue_only, explicit_object, either_cond}
 use Rattle.cpp_grammar.specs.Unfolding as unfolding_
-use Rattle.cpp_grammar.specs.Unfolding.{byte_of}
-use Rattle.cpp_press_laws.specs.Fits.{IsSpellableSuffix, IsAbiMark}
 use Rattle.cpp_press_laws.proofs.ByKind.Rules.{OneOf, IsAmong}
 use Rattle.cpp_press_laws.proofs.ByKind.LeafKinds.{own-byte, only-at, signed-spellable, normal-digits, spellable-discriminator}
 use Rattle.cpp_press_laws.proofs.ByKind.Known.{KindRead, MarkRead, OpenedRead, opened-read, by-parts, BranchTo, BranchRead, one-read}
-use Rattle.std.specs.Prelude.{nat_eq, cond}
-use Rattle.std.proofs.lemmas.Bool.{eqb-true}
-use Rattle.cpp_grammar.specs.Term.{lvalue_only, rvalue_only, explicit_object}
-use Rattle.cpp_grammar.proofs.Chosen.{either_cond}
 
 -- ## Marks
 
@@ -39,18 +26,18 @@ mark-taken kind {around} {at} {old} {v} {new} o =
     let eaten : byte_of o.taken ≡ o.byte = own-byte Production.Mark o.taken o.byte o.takes refl in
     by-parts (λ w s. MarkRead kind w old s) Production.Mark tt tt o (refl, refl, omega (arith, eaten, o.small), ap (choose kind) eaten ∙ o.chosen)
 
--- a kind of letters
+-- a branch of a kind of letters is read as a letter that the kind allows
 pub letter-branch : (kind : Kind) → OnlyMarks (alternatives kind) → BranchTo kind (λ around v old new. MarkRead kind v old new)
 letter-branch kind only rule taken parts all around at old v new front is e =
     mark-taken kind (one-mark (alternatives kind) (OpenedRead kind around at old v new) only
     (opened-read kind rule taken parts all around at old v new front is e))
 
--- a kind of marks about which nothing is claimed
+-- a branch of a kind of marks leaves the state as it is; nothing is claimed about the mark
 pub mark-branch : (kind : Kind) → OnlyMarks (alternatives kind) → BranchTo kind (λ around v old new. new ≡ old)
 mark-branch kind only rule taken parts all around at old v new front is e =
     (letter-branch kind only rule taken parts all around at old v new front is e).0
 
--- a letter of the kind isn't the mark of an explicit object
+-- a reference mark that the grammar reads isn't the mark of an explicit object
 abi-mark : (byte : ℕ) → choose Kind.MaybeRef byte ≡ Some Production.Mark → IsAbiMark (mark_of (letter byte))
 unfolding mark_of alternatives choose pick is_in in_ranges among
 abi-mark byte chosen =

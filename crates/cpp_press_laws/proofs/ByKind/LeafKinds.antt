@@ -1,32 +1,17 @@
 -- Leaves that were read: the bytes that productions take, tokens, and numbers, which can be spelled.
-use Rattle.std.proofs.Common.{◌≡◌, ℕ, ◌<◌, length, List, [], ◌∷◌, Bool, true, false, cond, not, ◌&&◌, ◌||◌, nat_eq, None, Some, refl, ap, arith, sym, ◌∙◌}
-use Rattle.std.proofs.lemmas.Bool.{false≢true, eqb-true}
-use Rattle.std.proofs.lemmas.Bool.Decides.{nat_tests}
-use Rattle.sym_core.specs.declared.NumberKind.{NumberKind}
-use Rattle.sym_core.specs.declared.NumberKind.TheVariants.{Decimal, Digits}
-use Rattle.sym_core.specs.Number.{AreDigits, AreDigitsOf}
-use Rattle.sym_shape.specs.declared.rule.Sym.TheVariants.{Number, Byte}
-use Rattle.sym_shape.specs.Tree.{Tree as Shape, branch, empty, token, fixed, Forest, grown}
-use Rattle.sym_link.specs.Unfold.{found}
-use Rattle.cpp_grammar.specs.declared.kind.Kind.{Kind}
-use Rattle.cpp_grammar.specs.declared.production.Production.{Production}
-use Rattle.cpp_grammar.specs.Grammar.{alternatives, choose, pick, is_in, in_ranges, among, is_chain}
+use Rattle.cpp_press_laws.proofs.Basics.{◌≡◌, ℕ, ◌<◌, length, List, [], ◌∷◌, Bool, true, false, cond, not, ◌&&◌, ◌||◌, nat_eq, None, Some, refl, ap, arith, sym, ◌∙◌, false≢true, eqb-true, nat_tests, NumberKind, Decimal, Digits, AreDigits, AreDigitsOf, Number, Byte, Tree as Shape, branch, empty, token, fixed, Forest, grown, found, Kind, Production, alternatives, choose, pick, is_in, in_ranges, among, is_chain, byte_of, cpp, last_token, ok_same, IsSpellableDiscriminator, AreSpellableDigits, IsSpellableNumber}
 use Rattle.cpp_grammar.specs.Values.{nothing_there, text, text_of, normal, is_zero, signed_digits}
-use Rattle.cpp_grammar.specs.Unfolding.{byte_of, cpp, last_token}
-use Rattle.cpp_grammar.proofs.ClosedStates.{ok_same}
-use Rattle.cpp_press_laws.specs.Fits.{IsSpellableDiscriminator}
-use Rattle.cpp_press_laws.specs.Spellable.{AreSpellableDigits, IsSpellableNumber}
 use Rattle.cpp_press_laws.proofs.ByKind.Leaves.{LeafAs, leaf-same}
 
 -- ## The bytes of productions
 
--- the byte that a production takes, where it takes one
+-- the byte that a production takes, if it takes one
 pub own-byte : (p : Production) (taken : List ℕ) (byte : ℕ) → taken ≡ cond (is_chain p) [] (byte ∷ []) → is_chain p ≡ false
     → byte_of taken ≡ byte
 unfolding byte_of
 own-byte p taken byte takes is = ap byte_of (takes ∙ ap (λ b. cond b [] (byte ∷ [])) is)
 
--- the one byte at which a kind is
+-- a kind with one production, at one byte, is read only at that byte
 pub only-at : (kind : Kind) (p : Production) (c : ℕ) → alternatives kind ≡ record { ranges = []; singles = c ∷ []; production = p } ∷ []
     → (byte : ℕ) → choose kind byte ≡ Some p → byte ≡ c
 unfolding choose pick is_in in_ranges among
@@ -38,7 +23,7 @@ only-at kind p c are byte chosen = go (nat_eq byte c) refl (ap (λ all. pick all
 
 -- ## Tokens and fixed bytes
 
--- a byte that is always there
+-- a fixed byte is read as nothing
 pub byte-read : (byte : ℕ) (t : Shape) → LeafAs (Byte byte) (λ v. v ≡ nothing_there) t
 unfolding cpp
 byte-read byte (fixed b) around at state after v is e =
@@ -48,7 +33,7 @@ byte-read byte (token t) around at state after v is e = absurd is
 byte-read byte (branch rule taken parts) around at state after v is e = absurd is
 byte-read byte empty around at state after v is e = absurd is
 
--- digits, with what ends them
+-- a number is read as its digits, without what ends them
 pub number-read : (kind : NumberKind) (t : Shape) → LeafAs (Number kind) (λ v. (v ≡ text (text_of v)) × AreDigitsOf kind (text_of v)) t
 unfolding cpp text_of
 number-read kind (token t) around at state after v is e =
@@ -105,7 +90,7 @@ signed-spellable negative digits are = record {
 
 -- ## Discriminators
 
--- a lone digit needs no marks around it
+-- a lone digit chooses the discriminator of one digit
 digit-chosen : (d : ℕ) → AreDigits Digits (d ∷ []) → (d < 256) × (choose Kind.DiscriminatorRest d ≡ Some Production.OneDigit)
 unfolding choose alternatives pick is_in in_ranges among
 digit-chosen d are = (grind (arith, nat_tests), grind (arith, nat_tests))
@@ -117,7 +102,7 @@ spellable-discriminator (d ∷ e ∷ ds) good = good
 
 -- ## Digits
 
--- the digits of the last token are what they are, whatever parts come before it
+-- the digits of the last token don't depend on the parts before it
 pub digits-behind : (t : Shape) (f : Forest) (own : List ℕ) → ((digits : List ℕ) → last_token f digits ≡ own) → (digits : List ℕ)
     → last_token (grown t f) digits ≡ own
 unfolding last_token

@@ -1,21 +1,6 @@
 -- Parts without components that were read: names, numbers and letters can be spelled, and nothing else changes.
-use Rattle.std.proofs.Common.{◌≡◌, ℕ, ◌+◌, ◌-◌, ◌*◌, ◌<◌, ◌≤◌, length, List, [], ◌∷◌, true, Ok, refl, ap, sym, subst, arith}
-use Rattle.std.proofs.lemmas.Bool.Decides.{nat_tests}
-use Rattle.sym_core.specs.declared.NumberKind.TheVariants.{Length}
-use Rattle.sym_core.specs.declared.NameClass.TheVariants.{Cpp}
-use Rattle.sym_core.specs.Number.{is_digit_of, AreDigits, IsLengthForm}
-use Rattle.sym_core.specs.Token.{Token, IsName, IsSeparator}
-use Rattle.sym_core.specs.Value.{value_onto}
-use Rattle.sym_shape.specs.declared.rule.Sym.{Sym}
-use Rattle.sym_shape.specs.declared.rule.Sym.TheVariants.{Name}
-use Rattle.sym_shape.specs.Tree.{Tree as Shape, branch, empty, token, fixed, IsTree}
-use Rattle.sym_link.specs.Reading.{Found}
-use Rattle.sym_link.specs.Unfold.{found, unfold_tree}
-use Rattle.cpp_grammar.specs.Table.{abi}
+use Rattle.cpp_press_laws.proofs.Basics.{◌≡◌, ℕ, ◌+◌, ◌-◌, ◌*◌, ◌<◌, ◌≤◌, length, List, [], ◌∷◌, true, Ok, refl, ap, sym, subst, arith, nat_tests, Length, Cpp, is_digit_of, AreDigits, IsLengthForm, Token, IsName, IsSeparator, value_onto, Sym, Name, Tree as Shape, branch, empty, token, fixed, IsTree, Found, found, unfold_tree, abi, cpp, ok_same, IsSpellableName}
 use Rattle.cpp_grammar.specs.Values.{State, Around, Value, text, text_of}
-use Rattle.cpp_grammar.specs.Unfolding.{cpp}
-use Rattle.cpp_grammar.proofs.ClosedStates.{ok_same}
-use Rattle.cpp_press_laws.specs.Spellable.{IsSpellableName}
 
 -- a part that leaves the state as it is, and its value
 abbrev pub LeafAs : Sym → (Value → Type 0) → Shape → Type 0
@@ -39,7 +24,7 @@ leaf-same Q v w state s e q = (ap (λ r. r.state) e, subst Q (sym (ap (first-or 
 digit-small : (b : ℕ) → is_digit_of Length b ≡ true → b ≤ 57
 digit-small b h = grind (arith, nat_tests)
 
--- one more than the greatest number that n digits denote after a number below k
+-- k times ten for each digit: more than the value of these digits after a number below k
 unfoldable grown_by : ℕ → List ℕ → ℕ
 grown_by k [] = k
 grown_by k (d ∷ ds) = grown_by (k * 10) ds

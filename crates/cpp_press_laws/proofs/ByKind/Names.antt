@@ -1,18 +1,7 @@
 -- Names that were read, with or without arguments: as types, and as an encoding's own name.
-use Rattle.std.proofs.Common.{◌≡◌, ℕ, ◌-◌, inl, inr, Bool, true, false, refl, ap, sym, subst}
+use Rattle.cpp_press_laws.proofs.Basics.{◌≡◌, ℕ, ◌-◌, inl, inr, Bool, true, false, refl, ap, sym, subst, Kind, Production, Operation, alternatives, number_of_kind, parts_of, number_of, Term, in_std, parameter, State, outermost, Around, prefix_tree, prefix_listed, Value, tree, tree_of, piece_of, is_listed, is_there, qualifiers_of, ref_of, part, appended, with_prefix, parameter_named, after, inside, extended, applied, no_items, named_so_far, listed_so_far, index_of, between, parameter_so_far, meaning, byte_of, Slot, takes_all, begins_name, names_type, names_function}
 use Rattle.sym_shape.specs.declared.rule.Sym.TheVariants.{Kind as OfKind}
-use Rattle.cpp_grammar.specs.declared.kind.Kind.{Kind}
-use Rattle.cpp_grammar.specs.declared.production.Production.{Production}
-use Rattle.cpp_grammar.specs.declared.production.Operation.{Operation}
-use Rattle.cpp_grammar.specs.Grammar.{alternatives, number_of_kind, parts_of, number_of}
-use Rattle.cpp_grammar.specs.Term.{Term, in_std, parameter}
-use Rattle.cpp_grammar.specs.Values.{State, outermost, Around, prefix_tree, prefix_listed, Value, tree, tree_of, piece_of, is_listed, is_there, qualifiers_of, ref_of, part}
-use Rattle.cpp_grammar.specs.References.{appended, with_prefix, parameter_named}
-use Rattle.cpp_grammar.specs.Between.{after, inside, extended, applied, no_items, named_so_far, listed_so_far, index_of, between, parameter_so_far}
-use Rattle.cpp_grammar.specs.Meaning.{meaning}
 use Rattle.cpp_grammar.specs.Unfolding as unfolding_
-use Rattle.cpp_grammar.specs.Unfolding.{byte_of}
-use Rattle.cpp_press_laws.specs.Fits.{Slot, takes_all, begins_name, names_type, names_function}
 use Rattle.cpp_press_laws.proofs.Fits.Types.{SolidFits}
 use Rattle.cpp_press_laws.proofs.Fits.Names.{PieceFits, std-between}
 use Rattle.cpp_press_laws.proofs.Fits.Templates.{std-template}
@@ -70,7 +59,7 @@ std-name around p old new names one =
       before = λ a now other. (std-template around p old new between_).before true a now other;
     }
 
--- no tag comes after it
+-- a piece after St in a type, which no tag follows
 pub type-in-std-branch : BranchRead Kind.TypeInStd
 unfolding alternatives parts_of number_of_kind between named_so_far applied is_there tree_of meaning part unfolding_.behind
 type-in-std-branch rule taken parts all around at old v new front is e outer =

@@ -1,19 +1,6 @@
 -- Names between N and E that were read, part by part: what is read after the name so far makes a name that fits in each of its ways.
-use Rattle.std.proofs.Common.{◌≡◌, ℕ, [], ◌∷◌, Bool, true, false, Result, Ok, Err, refl, sym, subst}
-use Rattle.sym_core.specs.declared.refusal.Refusal.{Refusal}
-use Rattle.sym_link.specs.Reading.{Next, ◌>>=◌}
-use Rattle.cpp_grammar.specs.declared.kind.Kind.{Kind}
-use Rattle.cpp_grammar.specs.declared.production.Production.{Production}
-use Rattle.cpp_grammar.specs.declared.production.Operation.{Operation}
-use Rattle.cpp_grammar.specs.Grammar.{alternatives, number_of_kind, parts_of, number_of}
-use Rattle.cpp_grammar.specs.Term.{Term, in_std, instance, parameter, source}
-use Rattle.cpp_grammar.specs.Values.{State, Around, prefix_tree, prefix_listed, Value, tree, tree_of, piece_of, text_of, part}
-use Rattle.cpp_grammar.specs.References.{appended, with_prefix, parameter_named}
-use Rattle.cpp_grammar.specs.Between.{after, inside, extended, applied, no_items, named_so_far, listed_so_far, parameter_so_far, index_of, between}
-use Rattle.cpp_grammar.specs.Meaning.{meaning}
+use Rattle.cpp_press_laws.proofs.Basics.{◌≡◌, ℕ, [], ◌∷◌, Bool, true, false, Result, Ok, Err, refl, sym, subst, Refusal, Next, ◌>>=◌, Kind, Production, Operation, alternatives, number_of_kind, parts_of, number_of, Term, in_std, instance, parameter, source, State, Around, prefix_tree, prefix_listed, Value, tree, tree_of, piece_of, text_of, part, appended, with_prefix, parameter_named, after, inside, extended, applied, no_items, named_so_far, listed_so_far, parameter_so_far, index_of, between, meaning, is_encoding, begins_name, names_type, names_function, names_member}
 use Rattle.cpp_grammar.specs.Unfolding as unfolding_
-use Rattle.cpp_press_laws.specs.Pressing.{is_encoding}
-use Rattle.cpp_press_laws.specs.Fits.{begins_name, names_type, names_function, names_member}
 use Rattle.cpp_press_laws.proofs.Fits.Read.{Wherever}
 use Rattle.cpp_press_laws.proofs.Fits.Names.{PrefixFits, PieceFits}
 use Rattle.cpp_press_laws.proofs.Fits.Nests.{NestFits}
@@ -27,7 +14,7 @@ use Rattle.cpp_press_laws.proofs.ByKind.Pieced.{PieceRead, renamed, name-piece, 
 
 -- ## After a name so far
 
--- nothing more follows
+-- the name so far ends here
 nest-end : (outer : Around) (t : Term) (start : State) (at : ℕ) (old : State) (v : Value) (new : State) → NestFits outer t start old
     → OpenedRead Kind.NestTail (after t false outer) at old v new Production.NestEnd → NestRead outer v start new
 unfolding parts_of after prefix_tree prefix_listed tree_of meaning unfolding_.behind
@@ -202,7 +189,7 @@ nest-piece : (around : Around) (p : Term) (old mid : State) (w : Value) (new : S
 nest-piece around p old mid w new begins names one rest =
     rest around (extended around.prefix p) false old refl (piece-so-far around p old mid begins names one)
 
--- what follows after a parameter, which was named
+-- what follows a parameter, once the parameter is named
 pub parameter-goes : (around : Around) (at k : ℕ) (state : State) (rest : Next Value State Around → Type 0)
     → ((s : State) → ParameterNamed around k state s
     → rest (record { values = tree (parameter k) true ∷ []; context = after (parameter k) true around; state = s }))

@@ -1,31 +1,9 @@
--- Outside of expansions nothing that was read has named packs.
-use Rattle.std.proofs.Common.{◌≡◌, ℕ, ◌+◌, ◌-◌, length, List, [], ◌∷◌, ◌++◌, Bool, true, false, cond, not, ◌||◌, ◌&&◌, nat_eq, nat_lt, slice_get, Option, Some, None, Result, Ok, Err, refl, ap, sym, subst, ◌∙◌}
-use Rattle.std.proofs.lemmas.Bool.{false≢true}
-use Rattle.sym_core.specs.declared.refusal.Refusal.{Refusal}
-use Rattle.sym_core.specs.declared.refusal.Refusal.TheVariants.{BadReference}
-use Rattle.sym_core.specs.declared.NumberKind.TheVariants.{Seq36}
-use Rattle.sym_core.specs.Value.{counted_value}
-use Rattle.sym_shape.specs.declared.rule.Rule.{Rule}
+-- Outside of expansions, nothing that is read names packs.
+use Rattle.cpp_press_laws.proofs.Basics.{◌≡◌, ℕ, ◌+◌, ◌-◌, length, List, [], ◌∷◌, ◌++◌, Bool, true, false, cond, not, ◌||◌, ◌&&◌, nat_eq, nat_lt, slice_get, Option, Some, None, Result, Ok, Err, refl, ap, sym, subst, ◌∙◌, false≢true, Refusal, BadReference, Seq36, counted_value, Rule, Found, Open, Next, ◌>>=◌, Production, Term, parameter, count, element, length_if_pack, is_open, Candidate, State, Around, Value, nothing_there, tree, prefix_tree, prefix_listed, is_listed, text_of, tree_of, part, appended, is_function_type, with_type, with_unqualified, with_prefix, with_packs, packs_in, is_module, substituted, parameter_named, in_name, in_types, in_signature, after, inside, Continuation, index_of, between, meaning, Where, in_its_name, in_its_types, under_it, Gain, the_prefix, type_of, unqualified_of, itself, Action, quiet, goes, becomes, tests, holds, unread, Row, before_part, around_part, packs_within, gained, made, tested, done, state_after, row_of, opening, close, production_at, byte_of, cpp, ok_same, behind_bind, opening_keeps, all_pass, step_passes, either, either_cond}
 use Rattle.sym_shape.specs.Tree.{Tree as Shape, Forest, branch, nothing, grown, spell}
-use Rattle.sym_link.specs.Reading.{Found, Open, Next, ◌>>=◌}
 use Rattle.sym_link.specs.Unfold.{found, alone, standing, unfold_tree, unfold_forest}
-use Rattle.cpp_grammar.specs.declared.production.Production.{Production}
-use Rattle.cpp_grammar.specs.Term.{Term, parameter}
-use Rattle.cpp_grammar.specs.Scope.{count, element, length_if_pack, is_open}
-use Rattle.cpp_grammar.specs.Values.{Candidate, State, Around, Value, nothing_there, tree, prefix_tree, prefix_listed, is_listed, text_of, tree_of, part}
-use Rattle.cpp_grammar.specs.References.{appended, is_function_type, with_type, with_unqualified, with_prefix, with_packs, packs_in, is_module, substituted, parameter_named}
-use Rattle.cpp_grammar.specs.Between.{in_name, in_types, in_signature, after, inside, Continuation, index_of, between}
-use Rattle.cpp_grammar.specs.Meaning.{meaning}
 use Rattle.cpp_grammar.specs.Row as row
-use Rattle.cpp_grammar.specs.Row.{Where, in_its_name, in_its_types, under_it, Gain, the_prefix, type_of, unqualified_of, itself, Action, quiet, goes, becomes, tests, holds, unread, Row, before_part}
-use Rattle.cpp_grammar.specs.Meant.{around_part, packs_within, gained, made, tested, done, state_after}
-use Rattle.cpp_grammar.specs.Rows.{row_of}
 use Rattle.cpp_grammar.specs.Unfolding as unfolding_
-use Rattle.cpp_grammar.specs.Unfolding.{opening, close, production_at, byte_of, cpp}
-use Rattle.cpp_grammar.proofs.ClosedStates.{ok_same, behind_bind}
-use Rattle.cpp_grammar.proofs.ClosedTrees.{opening_keeps}
-use Rattle.cpp_grammar.proofs.Steps.{all_pass, step_passes}
-use Rattle.cpp_grammar.proofs.Chosen.{either, either_cond}
 use Rattle.cpp_press_laws.proofs.ByKind.Rules.{AllOf, every-shape}
 
 -- ## States
@@ -98,12 +76,12 @@ parameter-kept around place k state new outside e = go around.scope e
 
 -- ## Parts
 
--- what goes into the next part is outside of expansions as well
+-- the next part is outside of expansions as well, and the packs before it are the same
 record Outside (state : State) (next : Next Value State Around) : Type 0 where
   expands : next.context.in_expansion ≡ false
   packs : next.state.packs ≡ state.packs
 
--- a production that names no packs anew
+-- a production that is no expansion, so it doesn't restore the packs
 abbrev NoExpansion : Production → Type 0
 NoExpansion p = (row_of p).restores_packs ≡ false
 
@@ -117,7 +95,7 @@ unfoldable stays_outside : Action → Bool
 stays_outside (goes gain under_it) = false
 stays_outside _ = true
 
--- an expansion's packs are those around it again
+-- only a production that restores the packs reads a part inside an expansion
 expansions-restore : (p : Production) → (row_of p).restores_packs || all_pass stays_outside (row_of p).before (row_of p).onward ≡ true
 unfolding row_of all_pass stays_outside
 expansions-restore Production.Mark = refl

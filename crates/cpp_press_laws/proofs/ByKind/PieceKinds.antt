@@ -1,44 +1,19 @@
 -- The pieces of names that were read, and what is known of their kinds.
-use Rattle.std.proofs.Common.{◌≡◌, ℕ, ◌+◌, ◌-◌, ◌<◌, inl, inr, length, List, [], ◌∷◌, Bool, true, false, slice_get, Some, Ok, Err, refl, ap, arith, lit≤, sym, subst, ◌∙◌}
-use Rattle.std.specs.Prelude.{nat_lt, ◌^◌}
-use Rattle.std.proofs.lemmas.Bool.{false≢true}
-use Rattle.sym_core.specs.declared.refusal.Refusal.TheVariants.{BadValue}
-use Rattle.sym_core.specs.declared.NumberKind.TheVariants.{Decimal}
-use Rattle.sym_shape.specs.declared.rule.Sym.{Sym}
+use Rattle.cpp_press_laws.proofs.Basics.{◌≡◌, ℕ, ◌+◌, ◌-◌, ◌<◌, inl, inr, length, List, [], ◌∷◌, Bool, true, false, slice_get, Some, Ok, Err, refl, ap, arith, lit≤, sym, subst, ◌∙◌, nat_lt, ◌^◌, false≢true, BadValue, Decimal, Sym, found, unfold_tree, Kind, Production, Operation, ITEMS, FIRST_OF_LAMBDA, alternatives, choose, pick, is_in, in_ranges, among, kinds, is_chain, number_of_kind, number_of, parts_of, abi, Term, operator, literal_operator, source, lambda, unnamed, list, Continuation, between, in_signature, no_items, meaning, parameters, operator_or_literal, signature_with, last_token, number_tested, opening, close, byte_of, cpp, abi_wide, is_first, read_first, undeclared_signature, AllNew, grows_then, ok_same, either, item_type, begins_name, names_type, names_function, IsLocalNumber, IsOperator, same_choice, each_below, StaysInside}
 use Rattle.sym_shape.specs.declared.rule.Sym.TheVariants.{Kind as OfKind, Number}
 use Rattle.sym_shape.specs.Tree.{Tree as Shape, Forest, branch, empty, token, fixed, nothing, grown, IsTree, AreTrees}
-use Rattle.sym_link.specs.Unfold.{found, unfold_tree}
-use Rattle.cpp_grammar.specs.declared.kind.Kind.{Kind}
-use Rattle.cpp_grammar.specs.declared.production.Production.{Production}
-use Rattle.cpp_grammar.specs.declared.production.Operation.{Operation}
-use Rattle.cpp_grammar.specs.KindNumbers.{ITEMS, FIRST_OF_LAMBDA}
-use Rattle.cpp_grammar.specs.Grammar.{alternatives, choose, pick, is_in, in_ranges, among, kinds, is_chain, number_of_kind, number_of, parts_of}
-use Rattle.cpp_grammar.specs.Table.{abi}
-use Rattle.cpp_grammar.specs.Term.{Term, operator, literal_operator, source, lambda, unnamed, list}
 use Rattle.cpp_grammar.specs.Values.{Candidate, State, Around, Value, letter, text, piece, tree_of, piece_of, letter_of, text_of, local_number, part}
-use Rattle.cpp_grammar.specs.Between.{Continuation, between, in_signature, no_items}
-use Rattle.cpp_grammar.specs.Meaning.{meaning, parameters, operator_or_literal, signature_with}
 use Rattle.cpp_grammar.specs.Unfolding as unfolding_
-use Rattle.cpp_grammar.specs.Unfolding.{last_token, number_tested, opening, close, byte_of, cpp}
-use Rattle.cpp_grammar.proofs.Growing.{abi_wide}
-use Rattle.cpp_grammar.proofs.Declared.{is_first}
-use Rattle.cpp_grammar.proofs.Undeclared.{read_first, undeclared_signature}
-use Rattle.cpp_grammar.proofs.ClosedStates.{AllNew, grows_then, ok_same}
-use Rattle.cpp_grammar.proofs.Chosen.{either}
 use Rattle.cpp_press_laws.proofs.ByKind.AbiTrees.{known, tree_good}
-use Rattle.cpp_press_laws.specs.Fits.{item_type, begins_name, names_type, names_function, IsLocalNumber}
-use Rattle.cpp_press_laws.specs.Spellable.{IsOperator}
 use Rattle.cpp_press_laws.proofs.Fits.Lists.{list-fits, parameters-fit}
 use Rattle.cpp_press_laws.proofs.Fits.Names.{PieceFits}
 use Rattle.cpp_press_laws.proofs.ByKind.Rules.{OnGoing, by-name, IsAmong}
 use Rattle.cpp_press_laws.proofs.ByKind.Leaves.{leaf-same}
 use Rattle.cpp_press_laws.proofs.ByKind.Pieces.{source-fits, operator-fits, literal-operator-fits, unnamed-fits, ShutOrInside, lambda-fits, begins-function}
 use Rattle.cpp_press_laws.proofs.ByKind.LeafKinds.{own-byte, digits-behind}
-use Rattle.cpp_grammar.proofs.Growing.{same_choice, each_below}
-use Rattle.cpp_grammar.proofs.ClosedParts.{StaysInside}
 use Rattle.cpp_press_laws.proofs.ByKind.Known.{KindRead, MarkRead, PartRead, PartsRead, OpenedRead, opened-read, taken-among, comes-as, by-parts, BranchRead, one-read}
 
--- a piece of a name, of the sort that is there
+-- a piece of a name, of the sort that `names` tests
 abbrev PieceAs : (names : Term → Bool) → Around → Value → (old new : State) → Type 0
 PieceAs names around v old new = (names (piece_of v) ≡ true) × PieceFits around (piece_of v) old new
 
@@ -100,7 +75,7 @@ unqualified-branch rule taken parts all around at old v new front is e =
 
 -- ## Operators
 
--- a production of operators of two letters, and the kind of the second
+-- a production of operators of two letters, and the kind of the second letter
 record TwoLetters (p : Production) (kind : Kind) : Type 0 where
   pub at : slice_get kinds (number_of_kind kind) ≡ Some kind
   pub parts : parts_of p ≡ OfKind (number_of_kind kind) ∷ []
@@ -153,7 +128,7 @@ letters-read p kind stays two {around} {at} {old} {v} {new} marks o =
     subst (λ m. OnGoing m (λ n. PartRead (OfKind (number_of_kind kind)) o.parts (at + length o.taken) n rest)) (two.goes around at old) whole in
     letters-come p kind two around at old v new o g.value g.after (marks g.value g.after (g.read kind refl)) g.onward
 
--- after an l a literal operator may be
+-- an operator that begins with an l, which may be a literal operator
 operator-l : (around : Around) (at : ℕ) (old : State) (v : Value) (new : State)
     → OpenedRead Kind.Operator around at old v new Production.OperatorL
     → PieceAs names_function around v old new
@@ -243,7 +218,7 @@ c-operator-fits around second old small marked =
 
 -- ## Lambdas and unnamed types
 
--- the number was tested at the U
+-- a number that passed the test after the U may be the number of a lambda or an unnamed type
 tested-number : (place : ℕ) (digits : List ℕ) (state : State) → number_tested place digits state ≡ Ok state
     → IsLocalNumber (local_number digits)
 unfolding number_tested local_number
@@ -253,7 +228,7 @@ tested-number place digits state e = (
       (Ok state) (Err (BadValue place)) (λ is h. is) (λ is h. absurd cc) e,
 )
 
--- the number is that of the last token
+-- the digits of the last token are those of the value
 last-digits : (t : Shape) (f : Forest) (around : Around) (at : ℕ) (state : State) (v : Value) (new : State) → IsTree abi (Number Decimal) t
     → AreTrees abi [] f → unfold_tree cpp around at t state ≡ Ok (found (v ∷ []) new) → (digits : List ℕ)
     → last_token (grown t f) digits ≡ text_of v
@@ -266,7 +241,7 @@ last-digits (branch rule taken parts) f around at state v new is trees e digits 
 last-digits empty f around at state v new is trees e digits = absurd is
 last-digits (fixed b) f around at state v new is trees e digits = absurd is
 
--- the same for the parts that come before the rest
+-- a forest has the same last digits as its first part, followed by its other parts
 digits-split : (f : Forest) (t : Shape) (others : Forest) (own : List ℕ) → f ≡ grown t others
     → ((digits : List ℕ) → last_token (grown t others) digits ≡ own) → (digits : List ℕ) → last_token f digits ≡ own
 digits-split f t others own same last digits = ap (λ g. last_token g digits) same ∙ last digits

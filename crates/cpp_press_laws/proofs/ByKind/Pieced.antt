@@ -1,22 +1,13 @@
 -- What was read as a further piece of a name, with or without arguments after it.
-use Rattle.std.proofs.Common.{◌≡◌, ℕ, Bool, true, false, refl, sym, subst}
-use Rattle.sym_shape.specs.declared.rule.Sym.TheVariants.{Name}
-use Rattle.cpp_grammar.specs.declared.kind.Kind.{Kind}
-use Rattle.cpp_grammar.specs.declared.production.Production.{Production}
-use Rattle.cpp_grammar.specs.Grammar.{number_of_kind, parts_of}
-use Rattle.cpp_grammar.specs.Term.{Term, source, operator, constructor, destructor}
-use Rattle.cpp_grammar.specs.Values.{State, Around, Value, tree, tree_of, piece_of, letter_of, text_of, part}
-use Rattle.cpp_grammar.specs.Between.{after, extended, applied, named_so_far, between}
-use Rattle.cpp_grammar.specs.Meaning.{meaning}
+use Rattle.cpp_press_laws.proofs.Basics.{◌≡◌, ℕ, Bool, true, false, refl, sym, subst, Name, Kind, Production, number_of_kind, parts_of, Term, source, operator, constructor, destructor, State, Around, Value, tree, tree_of, piece_of, letter_of, text_of, part, after, extended, applied, named_so_far, between, meaning, begins_name, names_type, names_function, names_member}
 use Rattle.cpp_grammar.specs.Unfolding as unfolding_
-use Rattle.cpp_press_laws.specs.Fits.{begins_name, names_type, names_function, names_member}
 use Rattle.cpp_press_laws.proofs.Fits.Names.{PieceFits}
 use Rattle.cpp_press_laws.proofs.Fits.Sorts.{KindFits}
 use Rattle.cpp_press_laws.proofs.ByKind.Pieces.{source-fits, constructor-fits, destructor-fits}
 use Rattle.cpp_press_laws.proofs.ByKind.PieceKinds.{c-operator-fits}
 use Rattle.cpp_press_laws.proofs.ByKind.Known.{SymbolRead, OpenedRead, by-parts}
 
--- a piece of this sort after the name so far, and what follows it
+-- a piece after the name so far, of the sort that `names` tests, and what follows the piece
 pub record PieceRead (names : Term → Bool) (around : Around) (v : Value) (old new : State) : Type 0 where
   pub piece : Term
   pub named : names piece ≡ true
@@ -26,7 +17,7 @@ pub record PieceRead (names : Term → Bool) (around : Around) (v : Value) (old 
   pub fits : PieceFits around piece old mid
   pub later : KindFits Kind.MaybeArguments (after (extended around.prefix piece) false around) arguments mid new
 
--- a piece of one sort is of another sort, where that has all of its pieces
+-- a piece of one sort is a piece of each sort that includes the first
 pub renamed : (names others : Term → Bool) (around : Around) (v : Value) (old new : State)
     → ((p : Term) → names p ≡ true → others p ≡ true) → PieceRead names around v old new → PieceRead others around v old new
 renamed names others around v old new more read = record {

@@ -1,25 +1,11 @@
--- Pieces of names that were read fit: names, operators, constructors and destructors, unnamed types, and lambdas, whose signature has
--- surroundings of its own.
-use Rattle.std.proofs.Common.{◌≡◌, ℕ, ◌-◌, ◌<◌, ◌⊎◌, inl, inr, List, [], ◌∷◌, ◌++◌, Option, Some, None, Bool, true, false, refl, sym, subst, ◌∙◌, arith}
-use Rattle.std.specs.Prelude.{cond, codes}
-use Rattle.cpp_grammar.specs.declared.kind.Kind.{Kind}
-use Rattle.cpp_grammar.specs.declared.production.Production.{Production}
-use Rattle.cpp_grammar.specs.Grammar.{choose}
-use Rattle.cpp_grammar.specs.Term.{Term, source, operator, literal_operator, constructor, destructor, lambda, unnamed, string_literal}
-use Rattle.cpp_grammar.specs.Scope.{is_open}
-use Rattle.cpp_grammar.specs.Values.{Candidate, State, Around}
-use Rattle.cpp_grammar.specs.Between.{in_signature}
-use Rattle.cpp_press_laws.specs.Texts.{counted, ordinal}
-use Rattle.cpp_press_laws.specs.Components.{Spelling}
-use Rattle.cpp_press_laws.specs.Pressing.{no_ways, piece_ways, ways_of}
-use Rattle.cpp_press_laws.specs.Fits.{Fitting, item_type, begins_name, names_type, names_function, names_member, names_entity, IsLocalNumber, piece_fits, fits_nowhere, fits_of}
-use Rattle.cpp_press_laws.specs.Spellable.{IsSpellableName, IsOperator}
+-- A piece of a name that was read fits: a name, an operator, a constructor, a destructor, an unnamed type, or a lambda, whose
+-- signature has surroundings of its own.
+use Rattle.cpp_press_laws.proofs.Basics.{◌≡◌, ℕ, ◌-◌, ◌<◌, ◌⊎◌, inl, inr, List, [], ◌∷◌, ◌++◌, Option, Some, None, Bool, true, false, refl, sym, subst, ◌∙◌, arith, cond, codes, Kind, Production, choose, Term, source, operator, literal_operator, constructor, destructor, lambda, unnamed, string_literal, is_open, Candidate, State, Around, in_signature, counted, ordinal, Spelling, no_ways, piece_ways, ways_of, Fitting, item_type, begins_name, names_type, names_function, names_member, names_entity, IsLocalNumber, piece_fits, fits_nowhere, fits_of, IsSpellableName, IsOperator, and-true}
 use Rattle.cpp_press_laws.proofs.Fits.Read.{pressed_at, FunctionsStand, Fitted, refitted, text-fitted, bytes-fitted, fitted-bytes}
 use Rattle.cpp_press_laws.proofs.Fits.Types.{may-closed}
 use Rattle.cpp_press_laws.proofs.Fits.Lists.{ParametersFit}
 use Rattle.cpp_press_laws.proofs.Fits.Names.{PieceFits}
 use Rattle.cpp_press_laws.proofs.Fits.Encodings.{stands-moved, functions-bare}
-use Rattle.std.proofs.Math.Bool.{and-true}
 
 -- ## Pieces without parts
 
@@ -74,7 +60,7 @@ unnamed-fits around k state good =
 
 -- ## Lambdas
 
--- each candidate has no free parameters, or was made in an encoding inside
+-- each candidate has no free parameters, or was made in an encoding that begins later
 abbrev pub ShutOrInside : ℕ → List Candidate → Type 0
 ShutOrInside encoding [] = Unit {0}
 ShutOrInside encoding (c ∷ cs) = ((is_open c.tree ≡ false) ⊎ (encoding < c.encoding)) × ShutOrInside encoding cs
@@ -95,7 +81,7 @@ functions-shut scope read [] (c ∷ cs) shut before inner = (
     go (inr here) (inr later) = absurd (omega (arith, here, later))
 functions-shut scope read (c ∷ cs) more shut before inner = (before.0, functions-shut scope read cs more shut before.1 inner.1)
 
--- what is in the signature of a lambda has no free parameters, and no tree with free parameters is made there
+-- what fits in a lambda's signature fits in the lambda; no candidate of the lambda's encoding with free parameters is added
 pub signature-fitted : (around : Around) (F : Fitting) (s : ℕ → Spelling) (t whole : Term) (old new : State) (more : List Candidate)
     → is_open whole ≡ is_open t → new.candidates ≡ old.candidates ++ more → ShutOrInside around.encoding more
     → Fitted (in_signature around) F s t old new → Fitted around (λ inner. F (in_signature inner)) s whole old new

@@ -1,15 +1,5 @@
 -- What is read after an S: an abbreviation, or a substitution's candidate.
-use Rattle.std.proofs.Common.{ℕ, ◌-◌, [], refl, sym, subst}
-use Rattle.sym_core.specs.declared.NumberKind.TheVariants.{Seq36}
-use Rattle.sym_core.specs.Value.{counted_value}
-use Rattle.sym_link.specs.Unfold.{found}
-use Rattle.cpp_grammar.specs.declared.kind.Kind.{Kind}
-use Rattle.cpp_grammar.specs.declared.production.Production.{Production}
-use Rattle.cpp_grammar.specs.declared.production.Operation.{Operation}
-use Rattle.cpp_grammar.specs.Grammar.{alternatives, parts_of, is_chain, number_of}
-use Rattle.cpp_grammar.specs.Values.{State, Around, Value, text_of, part}
-use Rattle.cpp_grammar.specs.Between.{between}
-use Rattle.cpp_grammar.specs.Unfolding.{close, byte_of}
+use Rattle.cpp_press_laws.proofs.Basics.{ℕ, ◌-◌, [], refl, sym, subst, Seq36, counted_value, found, Kind, Production, Operation, alternatives, parts_of, is_chain, number_of, State, Around, Value, text_of, part, between, close, byte_of}
 use Rattle.cpp_press_laws.proofs.Fits.References.{substitution-refers}
 use Rattle.cpp_press_laws.proofs.Fits.Sorts.{KindFits, Meant, Later}
 use Rattle.cpp_press_laws.proofs.Fits.Typed.{abbreviation-read, substitution-read}

@@ -1,24 +1,8 @@
--- A symbol that was read fits from its first byte on, where its parts were read.
-use Rattle.std.proofs.Common.{◌≡◌, ℕ, List, [], ◌∷◌, None, Ok, refl, ap, sym, subst, ◌∙◌, arith}
-use Rattle.std.proofs.lemmas.Bool.{false≢true}
+-- A symbol that was read fits from its first byte on, if its parts fit.
+use Rattle.cpp_press_laws.proofs.Basics.{◌≡◌, ℕ, List, [], ◌∷◌, None, Ok, refl, ap, sym, subst, ◌∙◌, arith, false≢true, Tree as Shape, branch, empty, token, fixed, IsTree, Found, ◌>>=◌, found, unfold_tree, Kind, Production, number_of_kind, alternatives, parts_of, may_be_empty, abi, Term, symbol, State, Value, tree_of, text_of, part, between, meaning, empty_at_kind, ok_same, behind_bind, IsReadFrom, SymbolFits, IsSpellableSuffix}
 use Rattle.sym_shape.specs.declared.rule.Sym.TheVariants.{Kind as OfKind}
-use Rattle.sym_shape.specs.Tree.{Tree as Shape, branch, empty, token, fixed, IsTree}
-use Rattle.sym_link.specs.Reading.{Found, ◌>>=◌}
-use Rattle.sym_link.specs.Unfold.{found, unfold_tree}
-use Rattle.cpp_grammar.specs.declared.kind.Kind.{Kind}
-use Rattle.cpp_grammar.specs.declared.production.Production.{Production}
-use Rattle.cpp_grammar.specs.Grammar.{number_of_kind, alternatives, parts_of, may_be_empty}
-use Rattle.cpp_grammar.specs.Table.{abi}
-use Rattle.cpp_grammar.specs.Term.{Term, symbol}
-use Rattle.cpp_grammar.specs.Values.{State, Value, tree_of, text_of, part}
-use Rattle.cpp_grammar.specs.Between.{between}
-use Rattle.cpp_grammar.specs.Meaning.{meaning}
 use Rattle.cpp_grammar.specs.Unfolding.{cpp, byte_of, behind, first_around, first_state, first_tree, unfold_cpp}
-use Rattle.cpp_grammar.proofs.Choosing.{empty_at_kind}
-use Rattle.cpp_grammar.proofs.ClosedStates.{ok_same, behind_bind}
 use Rattle.cpp_grammar.proofs.ClosedTrees.{is_encoding as holds_encoding}
-use Rattle.cpp_press_laws.specs.PressLaws.{IsReadFrom}
-use Rattle.cpp_press_laws.specs.Fits.{SymbolFits, IsSpellableSuffix}
 use Rattle.cpp_press_laws.proofs.ByKind.Rules.{all-of, kind-at, one-value}
 use Rattle.cpp_press_laws.proofs.ByKind.Packs.{shape-kept}
 use Rattle.cpp_press_laws.proofs.Fits.Rests.{symbol-fits}
@@ -34,7 +18,7 @@ first-front = record {
   prefix = tt;
 }
 
--- a fact of each encoding that fits, of its suffix, and of the state after it
+-- a property of each tree of a symbol, and of the state after its encoding, if the encoding fits
 abbrev pub OfSymbols : (Q : Term → State → Type 0) → Type 0
 OfSymbols Q =
     (e : Term) (suffix : List ℕ) (new : State) → WholeFits first_around e first_state new → new.packs ≡ None → IsSpellableSuffix suffix
@@ -58,7 +42,7 @@ symbol-arm Q each v new o =
     (each (tree_of b.value) (text_of c.value) b.after
     (subst (λ s. WholeFits first_around (tree_of b.value) s b.after) before e.fits) (packs ∙ ap (λ s. s.packs) before) last.1))
 
--- such a fact holds of each tree that a symbol of the grammar is read as
+-- such a property holds of each tree that a symbol of the grammar is read as, from the value of its shape
 symbol-read : (Q : Term → State → Type 0) → OfSymbols Q → ((t : Shape) → ShapeRead t) → (shape : Shape) (v : Value) (new : State)
     → IsTree abi (OfKind (number_of_kind Kind.Symbol)) shape
     → unfold_tree cpp first_around 0 shape first_state ≡ Ok (found (v ∷ []) new) → Q (tree_of v) new
@@ -71,7 +55,7 @@ symbol-read Q each read empty v new is e =
 symbol-read Q each read (token t) v new is e = absurd is
 symbol-read Q each read (fixed b) v new is e = absurd is
 
--- such a fact holds of each tree that a symbol is read as, since every shape was read
+-- such a property holds of each tree that a symbol is read as, since every shape was read
 pub read-as : (Q : Term → State → Type 0) → OfSymbols Q → ((t : Shape) → ShapeRead t) → (shape : Shape) (t : Term) → IsReadFrom shape t
     → (r : Found (List Value) State) → unfold_tree cpp first_around 0 shape first_state ≡ Ok r → Q t r.state
 unfolding unfold_cpp first_tree number_of_kind

@@ -1,25 +1,9 @@
 -- The shape of what was read, step by step: the production that a byte chooses, and its parts one by one.
-use Rattle.std.proofs.Common.{◌≡◌, ℕ, ◌+◌, ◌<◌, ◌⊎◌, inl, inr, length, List, [], ◌∷◌, ◌++◌, Bool, true, false, not, cond, slice_get, Option, Some, None, Result, Ok, Err, refl, ap, sym, subst, ◌∙◌}
-use Rattle.std.specs.Prelude.{nat_eq}
-use Rattle.std.proofs.lemmas.Bool.{eq-eqb}
-use Rattle.sym_core.specs.declared.refusal.Refusal.{Refusal}
-use Rattle.sym_shape.specs.declared.rule.Rule.{Rule}
-use Rattle.sym_shape.specs.declared.rule.Sym.{Sym}
+use Rattle.cpp_press_laws.proofs.Basics.{◌≡◌, ℕ, ◌+◌, ◌<◌, ◌⊎◌, inl, inr, length, List, [], ◌∷◌, ◌++◌, Bool, true, false, not, cond, slice_get, Option, Some, None, Result, Ok, Err, refl, ap, sym, subst, ◌∙◌, nat_eq, eq-eqb, Refusal, Rule, Sym, Found, Next, ◌>>=◌, Kind, Production, Alternative, is_in, pick, alternatives, choose, kinds, number_of_kind, number_of, parts_of, is_chain, abi, rule_of, rule_taken, State, Around, Value, Continuation, between, opening, close, production_at, byte_of, cpp, rule_at_kind, ok_same, behind_bind, at_number, its_symbols, same_rule, opening_keeps}
 use Rattle.sym_shape.specs.declared.rule.Sym.TheVariants.{Kind as OfKind}
 use Rattle.sym_shape.specs.Table.{Token, symbols_of}
 use Rattle.sym_shape.specs.Tree.{Tree as Shape, Forest, branch, empty, token, fixed, nothing, grown, spell, IsTree, AreTrees}
-use Rattle.sym_link.specs.Reading.{Found, Next, ◌>>=◌}
 use Rattle.sym_link.specs.Unfold.{found, alone, standing, unfold_tree, unfold_forest}
-use Rattle.cpp_grammar.specs.declared.kind.Kind.{Kind}
-use Rattle.cpp_grammar.specs.declared.production.Production.{Production}
-use Rattle.cpp_grammar.specs.Grammar.{Alternative, is_in, pick, alternatives, choose, kinds, number_of_kind, number_of, parts_of, is_chain}
-use Rattle.cpp_grammar.specs.Table.{abi, rule_of, rule_taken}
-use Rattle.cpp_grammar.specs.Values.{State, Around, Value}
-use Rattle.cpp_grammar.specs.Between.{Continuation, between}
-use Rattle.cpp_grammar.specs.Unfolding.{opening, close, production_at, byte_of, cpp}
-use Rattle.cpp_grammar.proofs.Choosing.{rule_at_kind}
-use Rattle.cpp_grammar.proofs.ClosedStates.{ok_same, behind_bind}
-use Rattle.cpp_grammar.proofs.ClosedTrees.{at_number, its_symbols, same_rule, opening_keeps}
 
 -- ## Kinds
 
@@ -30,7 +14,7 @@ kind-at _ = refl
 
 -- ## Parts
 
--- what holds of each shape of a forest
+-- P holds of each shape of a forest
 abbrev pub AllOf : (P : Shape → Type 0) → Forest → Type 0
 AllOf P nothing = Unit {0}
 AllOf P (grown t f) = P t × AllOf P f
@@ -129,7 +113,7 @@ parts-go P p rule taken around place before number inner (grown t f) (x ∷ xs) 
 
 -- ## Productions
 
--- a branch of a kind that was unfolded as a production: what its parts come to, and what the whole is
+-- a branch of a kind that was unfolded as a production, with the values of its parts and the value of the whole
 pub record Opened (P : Shape → Type 0) (kind : Kind) (around : Around) (at : ℕ) (state : State) (r : Found (List Value) State)
     (production : Production) :
     Type 0 where
@@ -147,7 +131,7 @@ pub record Opened (P : Shape → Type 0) (kind : Kind) (around : Around) (at : �
   pub closes : close production (byte_of taken) around at state inner.value inner.state ≡ Ok one
   pub comes : r ≡ found (one.value ∷ []) one.state
 
--- one of these productions
+-- F holds of the production of one of these alternatives
 abbrev pub OneOf : List Alternative → (F : Production → Type 0) → Type 0
 OneOf [] F = ⊥
 OneOf (a ∷ []) F = F a.production
@@ -174,12 +158,12 @@ abbrev pub IsOr : Bool → (Later : Type 0) → Type 0
 IsOr true Later = Unit {0}
 IsOr false Later = Later
 
--- a production is one of these
+-- a production is the production of one of these alternatives
 abbrev pub IsAmong : List Alternative → Production → Type 0
 IsAmong [] p = ⊥
 IsAmong (a ∷ rest) p = IsOr (nat_eq (number_of a.production) (number_of p)) (IsAmong rest p)
 
--- one of these productions, by its name: clauses go by that, and not by its place among them
+-- F holds of one of these productions, which is given by name, so that clauses don't depend on its place among them
 abbrev pub OneAmong : List Alternative → (F : Production → Type 0) → Type 0
 OneAmong all F = (p : Production) × IsAmong all p × F p
 

@@ -1,24 +1,8 @@
 -- What a shape of the grammar is read as fits, whatever its kind.
-use Rattle.std.proofs.Common.{◌≡◌, ℕ, List, false, refl, sym, subst}
-use Rattle.std.proofs.lemmas.Bool.{false≢true}
-use Rattle.sym_shape.specs.declared.rule.Rule.{Rule}
+use Rattle.cpp_press_laws.proofs.Basics.{◌≡◌, ℕ, List, false, refl, sym, subst, false≢true, Rule, Tree as Shape, Forest, branch, Kind, Production, Operation, alternatives, choose, pick, is_in, in_ranges, among, number_of_kind, number_of, kinds, parts_of, may_be_empty, Term, vendor, State, outermost, Around, Value, tree, tree_of, ref_of, text_of, is_there, part, after, applied, between, meaning, parameters, byte_of, same_choice, each_below, abi, sheet, sheet_with, IsReadFrom, parameter_type, takes_all, SymbolFits}
 use Rattle.sym_shape.specs.declared.rule.Sym.TheVariants.{Kind as OfKind}
-use Rattle.sym_shape.specs.Tree.{Tree as Shape, Forest, branch}
-use Rattle.cpp_grammar.specs.declared.kind.Kind.{Kind}
-use Rattle.cpp_grammar.specs.declared.production.Production.{Production}
-use Rattle.cpp_grammar.specs.declared.production.Operation.{Operation}
-use Rattle.cpp_grammar.specs.Grammar.{alternatives, choose, pick, is_in, in_ranges, among, number_of_kind, number_of, kinds, parts_of, may_be_empty}
-use Rattle.cpp_grammar.specs.Term.{Term, vendor}
-use Rattle.cpp_grammar.specs.Values.{State, outermost, Around, Value, tree, tree_of, ref_of, text_of, is_there, part}
-use Rattle.cpp_grammar.specs.Between.{after, applied, between}
-use Rattle.cpp_grammar.specs.Meaning.{meaning, parameters}
 use Rattle.cpp_grammar.specs.Unfolding as unfolding_
-use Rattle.cpp_grammar.specs.Unfolding.{byte_of}
 use Rattle.cpp_grammar.proofs.ClosedTrees.{is_encoding as holds_encoding}
-use Rattle.cpp_grammar.proofs.Growing.{same_choice, each_below}
-use Rattle.cpp_grammar.specs.Table.{abi, sheet, sheet_with}
-use Rattle.cpp_press_laws.specs.PressLaws.{IsReadFrom}
-use Rattle.cpp_press_laws.specs.Fits.{parameter_type, takes_all, SymbolFits}
 use Rattle.cpp_press_laws.proofs.Fits.Sorts.{KindFits, takes_literals}
 use Rattle.cpp_press_laws.proofs.Fits.Types.{complex-fits}
 use Rattle.cpp_press_laws.proofs.Fits.Lists.{parameters-fit, function-fits}
@@ -80,7 +64,7 @@ solid-branch rule taken parts all around at old v new front is e outer =
     let one = one-read Kind.Solid rule taken parts all around at old v new front is e in
     solid-read around at old v new front outer one.0 one.1 one.2
 
--- what is known before a type by its own letter that begins with no T
+-- what is known before a type that begins with its own letter, but not with T, is known before any type with its own letter
 solid-front : (around : Around) (at : ℕ) (old : State) → InFront (OfKind (number_of_kind Kind.SolidButT)) around at old
     → InFront (OfKind (number_of_kind Kind.Solid)) around at old
 unfolding number_of_kind holds_encoding
@@ -230,7 +214,7 @@ kind-branch Kind.ExpressionAfterA = expression-after-a-branch
 kind-branch Kind.AnyArray = any-array-branch
 kind-branch Kind.ArrayRest = array-rest-branch
 kind-branch Kind.NestMoreOrEnd = nest-more-or-end-branch
--- no tree of a symbol has a part of another kind
+-- the other kinds are never parts of a symbol's tree
 kind-branch _ = λ rule taken parts all around at old v new front is e outer. tt
 
 branch-read : (rule : Rule) (taken : List ℕ) (parts : Forest) → AllOf ShapeRead parts → ShapeRead (branch rule taken parts)

@@ -1,16 +1,6 @@
 -- Types by their own letters and lists of types that were read: each production keeps to what is known of its kind.
-use Rattle.std.proofs.Common.{◌≡◌, ℕ, [], ◌∷◌, Bool, true, refl, sym, subst}
-use Rattle.cpp_grammar.specs.declared.kind.Kind.{Kind}
-use Rattle.cpp_grammar.specs.declared.production.Production.{Production}
-use Rattle.cpp_grammar.specs.declared.production.Operation.{Operation}
-use Rattle.cpp_grammar.specs.Grammar.{alternatives, parts_of, is_chain, number_of}
-use Rattle.cpp_grammar.specs.Term.{builtin}
-use Rattle.cpp_grammar.specs.Values.{State, outermost, Around, Value, tree, tree_of, text_of, normal, part, ref_of}
-use Rattle.cpp_grammar.specs.Between.{between, no_items}
-use Rattle.cpp_grammar.specs.Meaning.{signature_or, meaning, with_item}
+use Rattle.cpp_press_laws.proofs.Basics.{◌≡◌, ℕ, [], ◌∷◌, Bool, true, refl, sym, subst, Kind, Production, Operation, alternatives, parts_of, is_chain, number_of, builtin, State, outermost, Around, Value, tree, tree_of, text_of, normal, part, ref_of, between, no_items, signature_or, meaning, with_item, byte_of, Slot, item_type, parameter_type, takes_all}
 use Rattle.cpp_grammar.specs.Unfolding as unfolding_
-use Rattle.cpp_grammar.specs.Unfolding.{byte_of}
-use Rattle.cpp_press_laws.specs.Fits.{Slot, item_type, parameter_type, takes_all}
 use Rattle.cpp_press_laws.proofs.Fits.Types.{SolidFits, pointer-fits, array-fits, member-pointer-fits}
 use Rattle.cpp_press_laws.proofs.Fits.Lists.{nil-fits, list-fits}
 use Rattle.cpp_press_laws.proofs.Fits.Solids.{builtin-solid}

@@ -1,18 +1,6 @@
--- What is done before a part, for any production: if no scope is in a lambda's signature, none is in the signature of
--- the next part.
-use Rattle.std.proofs.Common.{◌≡◌, ℕ, ◌-◌, length, List, Bool, true, false, cond, Ok, Err, refl, subst}
-use Rattle.std.proofs.lemmas.Bool.{false≢true}
-use Rattle.sym_core.specs.declared.refusal.Refusal.TheVariants.{BadReference}
-use Rattle.sym_link.specs.Reading.{Next}
-use Rattle.cpp_grammar.specs.declared.production.Production.{Production}
-use Rattle.cpp_grammar.specs.Term.{Term, parameter}
-use Rattle.cpp_grammar.specs.Values.{State, Around, Value, nothing_there, part}
-use Rattle.cpp_grammar.specs.References.{parameter_named}
-use Rattle.cpp_grammar.specs.Between.{in_name, in_types, in_signature, under_expansion, after, inside, Continuation, index_of, between}
-use Rattle.cpp_grammar.specs.Row.{Where, in_its_name, in_its_types, in_a_signature, Action, quiet, goes, becomes, tests, holds, unread, before_part}
-use Rattle.cpp_grammar.specs.Meant.{around_part, packs_within, gained, made, tested, done}
-use Rattle.cpp_grammar.specs.Rows.{row_of}
-use Rattle.cpp_grammar.proofs.ClosedStates.{ok_same, behind_bind}
+-- What is done before a part, for any production: if a production in a lambda's signature has no scope, its parts have none
+-- there.
+use Rattle.cpp_press_laws.proofs.Basics.{◌≡◌, ℕ, ◌-◌, length, List, Bool, true, false, cond, Ok, Err, refl, subst, false≢true, BadReference, Next, Production, Term, parameter, State, Around, Value, nothing_there, part, parameter_named, in_name, in_types, in_signature, under_expansion, after, inside, Continuation, index_of, between, Where, in_its_name, in_its_types, in_a_signature, Action, quiet, goes, becomes, tests, holds, unread, before_part, around_part, packs_within, gained, made, tested, done, row_of, ok_same, behind_bind}
 use Rattle.cpp_press_laws.proofs.Fits.Solids.{LambdasAreBare}
 
 bare-next : (inner : Around) (vs : List Value) (s : State) (n : Next Value State Around) → LambdasAreBare inner
@@ -53,7 +41,7 @@ bare-done (tests after_t is_name) around place vs state n bare e =
 bare-done holds around place vs state n bare e = let clash : ◌≡◌ {A = Continuation} (Err (BadReference place)) (Ok n) = e in absurd cc
 bare-done unread around place vs state n bare e = let clash : ◌≡◌ {A = Continuation} (Err (BadReference place)) (Ok n) = e in absurd cc
 
--- a lambda's signature has no scope, nor has what is in one
+-- if a production in a lambda's signature has no scope, none of its parts has one there
 pub lambdas-go : (p : Production) (around : Around) (place : ℕ) (vs : List Value) (state : State) (n : Next Value State Around)
     → LambdasAreBare around → between p around place vs state ≡ Ok n → LambdasAreBare n.context
 unfolding between

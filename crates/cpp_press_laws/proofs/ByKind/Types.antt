@@ -1,17 +1,6 @@
 -- Types that were read: each production keeps to what is known of its kind.
-use Rattle.std.proofs.Common.{◌≡◌, ℕ, [], ◌∷◌, true, false, refl, sym, subst, ◌∙◌}
-use Rattle.cpp_grammar.specs.declared.kind.Kind.{Kind}
-use Rattle.cpp_grammar.specs.declared.production.Production.{Production}
-use Rattle.cpp_grammar.specs.declared.production.Operation.{Operation}
-use Rattle.cpp_grammar.specs.Grammar.{alternatives, number_of_kind, parts_of, is_chain, number_of}
-use Rattle.cpp_grammar.specs.Term.{builtin}
-use Rattle.cpp_grammar.specs.Values.{State, outermost, Around, Value, tree, tree_of, is_there, is_listed, ref_of, text_of, normal, part}
-use Rattle.cpp_grammar.specs.Between.{under_expansion, between}
-use Rattle.cpp_grammar.specs.Meaning.{listed_value, reference_to, parameters, enclosed_argument, ends_arguments, meaning}
+use Rattle.cpp_press_laws.proofs.Basics.{◌≡◌, ℕ, [], ◌∷◌, true, false, refl, sym, subst, ◌∙◌, Kind, Production, Operation, alternatives, number_of_kind, parts_of, is_chain, number_of, builtin, State, outermost, Around, Value, tree, tree_of, is_there, is_listed, ref_of, text_of, normal, part, under_expansion, between, listed_value, reference_to, parameters, enclosed_argument, ends_arguments, meaning, byte_of, with_type, Slot, any_type, item_type, parameter_type, takes_all, takes_qualified, takes_expansions, has_letters}
 use Rattle.cpp_grammar.specs.Unfolding as unfolding_
-use Rattle.cpp_grammar.specs.Unfolding.{byte_of}
-use Rattle.cpp_grammar.specs.References.{with_type}
-use Rattle.cpp_press_laws.specs.Fits.{Slot, any_type, item_type, parameter_type, takes_all, takes_qualified, takes_expansions, has_letters}
 use Rattle.cpp_press_laws.proofs.Components.AddedWays.{IsNotBare}
 use Rattle.cpp_press_laws.proofs.Fits.Types.{TypeFits, SolidFits, vector-fits, qualified-fits}
 use Rattle.cpp_press_laws.proofs.Fits.Solids.{builtin-with-d}

@@ -1,20 +1,8 @@
 -- The components that names add or find, in each of their ways.
-use Rattle.std.proofs.Common.{refl, ◌≡◌, ℕ, ◌+◌, ◌⊎◌, ◌≤◌, inl, inr, length, List, [], ◌∷◌, ◌++◌, Option, Bool, true, false, arith, sym, subst}
-use Rattle.std.specs.Prelude.{◌&&◌, codes}
-use Rattle.std.proofs.lemmas.Bool.{true≢false, false≢true, true_from_ne_false}
-use Rattle.sym_spell.specs.Pressing.{◌and◌, text, nothing}
-use Rattle.cpp_grammar.specs.Term.{Term, symbol, alone, in_std, within, instance, local, tagged}
-use Rattle.cpp_grammar.specs.Scope.{count, arguments_of, without_tags}
-use Rattle.cpp_grammar.specs.Values.{outermost, behind, Around}
-use Rattle.cpp_grammar.specs.Between.{after, inside}
+use Rattle.cpp_press_laws.proofs.Basics.{refl, ◌≡◌, ℕ, ◌+◌, ◌⊎◌, ◌≤◌, inl, inr, length, List, [], ◌∷◌, ◌++◌, Option, Bool, true, false, arith, sym, subst, ◌&&◌, codes, true≢false, false≢true, true_from_ne_false, ◌and◌, text, nothing, Term, symbol, alone, in_std, within, instance, local, tagged, count, arguments_of, without_tags, outermost, behind, Around, after, inside, counted, name_letters, discriminator_text, Component, Spelling, ended, component, no_ways, type_ways, in_N_and_E, with_letters, name_ways, template_before, is_operator, is_encoding, is_nested, is_one_piece, entity_text, local_text, ways_of, Written, Standing, Fitting, Behind, as_component, as_template, behind_bytes, one_piece, Slot, names_type, names_function, begins_name, Role, in_type, in_name_with, letters_of, names_in, fits_nowhere, type_fits, fits_of, names_member, IsSpellableDiscriminator}
 use Rattle.cpp_press_laws.proofs.Components.Encodings.{encoding-prefix, no-encoding}
 use Rattle.cpp_press_laws.proofs.EveryWay.Instances.{not-one-piece, one-piece-is}
-use Rattle.cpp_press_laws.specs.Texts.{counted, name_letters, discriminator_text}
-use Rattle.cpp_press_laws.specs.Components.{Component, Spelling, ended, component}
-use Rattle.cpp_press_laws.specs.Pressing.{no_ways, type_ways, in_N_and_E, with_letters, name_ways, template_before, is_operator, is_encoding, is_nested, is_one_piece, entity_text, local_text, ways_of}
-use Rattle.cpp_press_laws.specs.Subtrees.{Written}
 use Rattle.cpp_press_laws.proofs.Components.Parts.{PrefixOr, Inside, Whole, prefix-whole}
-use Rattle.cpp_press_laws.specs.Fits.{Standing, Fitting, Behind, as_component, as_template, behind_bytes, one_piece, Slot, names_type, names_function, begins_name, Role, in_type, in_name_with, letters_of, names_in, fits_nowhere, type_fits, fits_of, names_member, IsSpellableDiscriminator}
 use Rattle.cpp_press_laws.proofs.Fitting as fit
 use Rattle.cpp_press_laws.proofs.Components.AddedWays.{AddsParts, Adds, Either, both-added, fewer-added, after-bytes, before-bytes, nested-added, fewer-by, behind-and, at-once, and-adds, whole-adds, letters-add, no-letters-add, arguments_count, surplus, surplus-some, surplus-named, way_at, AtSlot, WaysAdd, AddsAt, nowhere-ways-add, in-component, reference-adds, found-and-adds, found-template-adds, in-template, in-nested-template, component-at}
 
@@ -143,7 +131,7 @@ in-std-add p a = record {
     each fit.as_argument = λ in_pack around allowed. whole around allowed
     each w = (nowhere-ways-add (in_std p) (λ n. ways_of n (in_std p))).at w
 
--- one of the two forms of an entity
+-- an entity spelled as one piece, or as a name between N and E
 pub entity-adds : (b : Bool) (k m n : ℕ) → m ≤ k → (P : Term → Type 0) (letters : List ℕ) (between : Spelling) (place : ℕ) (cs : List Component)
     → ((b ≡ true) × AddsParts m n P cs (between place cs))
     ⊎ ((b ≡ false) × AddsParts k n P cs (between (place + length (codes "N" ++ letters)) cs))
@@ -345,7 +333,7 @@ instance-add template arguments a b = record {
     each fit.as_argument = λ in_pack around allowed. whole around allowed
     each w = (nowhere-ways-add (instance template arguments) (λ n. ways_of n (instance template arguments))).at w
 
--- a name with a tag is referred to alone
+-- a name with a tag can only be a reference
 pub tagged-add : (of_structor : Bool) (name : Term) (tag : List ℕ)
     → WaysAdd (tagged of_structor name tag) (fits_of (tagged of_structor name tag)) (λ n. ways_of n (tagged of_structor name tag))
 unfolding ways_of name_ways no_ways fits_of type_fits fits_nowhere

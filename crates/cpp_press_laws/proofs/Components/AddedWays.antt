@@ -1,19 +1,8 @@
--- A spelling that fits adds the components in it or finds them, and adds more bytes than components. This is shown of
--- spellings, and of a tree in each of its ways, by sorts of trees.
-use Rattle.std.proofs.Common.{sym, ◌∙◌, arith, ◌≡◌, ℕ, ◌+◌, ◌≤◌, inl, inr, length, List, [], ◌++◌, Option, Some, None, Bool, true, false, refl, ◌⊎◌, ◌∷◌, subst, length-append}
-use Rattle.std.specs.Prelude.{codes}
-use Rattle.sym_spell.specs.Pressing.{◌and◌, text}
-use Rattle.std.proofs.lemmas.Bool.{false≢true}
-use Rattle.cpp_grammar.specs.Term.{Qualifiers, RefQualifier, Term, string_literal}
-use Rattle.cpp_grammar.specs.Scope.{count, arguments_of}
-use Rattle.cpp_grammar.specs.Values.{Around}
-use Rattle.cpp_press_laws.specs.Texts.{name_letters}
-use Rattle.cpp_press_laws.specs.Components.{Component, Spelling, first_equal, seq_id, reference, spelled_out, component, ended, referred}
-use Rattle.cpp_press_laws.specs.Pressing.{Ways, no_ways, type_ways, template_before, entity_text, begun, encoding_ways, piece_ways, argument_ways, in_N_and_E, with_letters}
-use Rattle.cpp_press_laws.specs.Subtrees.{Written, written}
+-- A spelling that fits adds the components in it or finds them, and adds more bytes than components. This file shows it for
+-- kinds of spellings, and for each way of a tree, by the sort of the tree.
+use Rattle.cpp_press_laws.proofs.Basics.{sym, ◌∙◌, arith, ◌≡◌, ℕ, ◌+◌, ◌≤◌, inl, inr, length, List, [], ◌++◌, Option, Some, None, Bool, true, false, refl, ◌⊎◌, ◌∷◌, subst, length-append, codes, ◌and◌, text, false≢true, Qualifiers, RefQualifier, Term, string_literal, count, arguments_of, Around, name_letters, Component, Spelling, first_equal, seq_id, reference, spelled_out, component, ended, referred, Ways, no_ways, type_ways, template_before, entity_text, begun, encoding_ways, piece_ways, argument_ways, in_N_and_E, with_letters, Written, written, Standing, Fitting, as_component, as_reference, as_template, behind_bytes, Slot, any_type, bare_type, item_type, parameter_type, literal_type, Role, letters_of, Fits, nowhere, fits_nowhere, type_fits, piece_fits, argument_fits, encoding_fits, Behind, IsWithoutLetters, by_letters}
 use Rattle.cpp_press_laws.proofs.Components.Parts.{IsComponent, Shut, Inside, Whole, Unqualified, Has, has-before, has-itself, has-closed, found-stands}
 use Rattle.cpp_press_laws.proofs.Components.KnownTrees.{In}
-use Rattle.cpp_press_laws.specs.Fits.{Standing, Fitting, as_component, as_reference, as_template, behind_bytes, Slot, any_type, bare_type, item_type, parameter_type, literal_type, Role, letters_of, Fits, nowhere, fits_nowhere, type_fits, piece_fits, argument_fits, encoding_fits, Behind, IsWithoutLetters, by_letters}
 use Rattle.cpp_press_laws.proofs.Fitting as fit
 use Rattle.cpp_press_laws.proofs.Fitting.{Fit}
 use Rattle.cpp_press_laws.proofs.Components.Complete.{Complete, complete-ended, complete-has}
@@ -22,15 +11,15 @@ use Rattle.cpp_press_laws.proofs.Components.Complete.{Complete, complete-ended, 
 abbrev pub FewBy : ℕ → List Component → Written → Type 0
 FewBy k cs w = length w.components + k ≤ length cs + length w.bytes
 
--- A spelling leads from these components to those after what it writes. These trees are among the latter, if the
--- components in each component come before it.
+-- What is written after the components `cs` keeps them, and adds at least k more bytes than components. If `cs` is complete, so
+-- are the components after what is written, and they include the trees of `P`.
 pub record AddsParts (k n : ℕ) (P : Term → Type 0) (cs : List Component) (w : Written) : Type 0 where
   pub complete : Complete cs → Complete w.components
   pub has : Complete cs → (x : Term) → P x → Has n x w.components
   pub keeps : (m : ℕ) (x : Term) → Has m x cs → Has m x w.components
   pub few : FewBy k cs w
 
--- a spelling that fits adds these trees or finds them
+-- a spelling that fits adds the trees of `P` or finds them
 abbrev pub Adds : (k n : ℕ) → (P : Term → Type 0) → Standing → Spelling → Type 0
 Adds k n P F spelling = (place : ℕ) (cs : List Component) → F place cs → AddsParts k n P cs (spelling place cs)
 
@@ -58,7 +47,7 @@ both-added {n} {P} {Q} {cs} {w} {v} k m l le a b = record {
 pub fewer-added : {k n : ℕ} {P Q : Term → Type 0} {cs : List Component} {w : Written} → AddsParts k n P cs w → In Q P → AddsParts k n Q cs w
 fewer-added a more = record { complete = a.complete; has = λ all x is. a.has all x (more x is); keeps = a.keeps; few = a.few }
 
--- what a spelling adds after fixed bytes, and before them
+-- what a spelling adds when fixed bytes come before it, and when they come after it
 pub after-bytes : {n : ℕ} {P : Term → Type 0} {cs : List Component} {w : Written} (k m : ℕ) (bytes : List ℕ) → m ≤ length bytes + k
     → AddsParts k n P cs w → AddsParts m n P cs (written (bytes ++ w.bytes) w.components)
 after-bytes {n} {P} {cs} {w} k m bytes le a =
@@ -101,7 +90,7 @@ tree-found {n} {own} {cs} number bytes is some = record {
   few = omega (arith, some);
 }
 
--- outside of an encoding, the trees without free parameters are added
+-- of what a spelling adds in an encoding, the trees without free parameters are added outside the encoding, too
 pub outside-added : {k n m : ℕ} {P : Term → Type 0} {cs : List Component} {w : Written} → AddsParts k n P cs w
     → AddsParts k m (λ x. Shut (P x) x) cs w
 outside-added {k} {n} {m} {P} {cs} {w} a =
@@ -156,7 +145,7 @@ TemplateFits n own F front G place cs =
     ((number : ℕ) → first_equal n own 0 cs ≡ Some number → Behind (reference number) G place cs)
     × (first_equal n own 0 cs ≡ None → F place cs × Behind (front and ended n own) G place cs)
 
--- a template name and its arguments: a reference where the name comes before, or else spelled out
+-- a template name and its arguments: the name is a reference if an equal component comes before; otherwise it is spelled out
 referred-adds : (m n : ℕ) (own : Term) (Q : Term → Type 0) (G : Standing) (arguments other : Spelling) → Adds m n Q G arguments
     → (place : ℕ) (cs : List Component)
     → ((number : ℕ) → first_equal n own 0 cs ≡ Some number → Behind (reference number) G place cs)
@@ -181,7 +170,7 @@ template-adds m n own Q F G between arguments one more place cs (found, new) =
     (λ none. whole-adds m n own Q F G between arguments one more place cs (new none).0
     (behind-and between (ended n own) G place cs (new none).1))
 
--- the same, where the name is spelled out between N and E
+-- a template name and its arguments: if the name is spelled out, it is between N and E
 pub nested-template-adds : (m n : ℕ) (own : Term) (Q : Term → Type 0) (F G : Standing) (between arguments : Spelling)
     → Adds 2 n (Inside own) F between → Adds m n Q G arguments
     → Adds m n (Either (Whole own) Q) (TemplateFits n own (λ place cs. F (place + 1) cs) (text (codes "N") and between) G)
@@ -218,7 +207,7 @@ abbrev pub AtSlot : Slot → Term → (x : Term) → Type 0
 AtSlot bare_type t x = Unqualified t x
 AtSlot _ t x = Whole t x
 
--- no item of a list is right under qualifiers
+-- a slot that isn't right under qualifiers
 abbrev pub IsNotBare : Slot → Type 0
 IsNotBare bare_type = ⊥
 IsNotBare _ = Unit {0}
@@ -227,7 +216,7 @@ IsNotBare _ = Unit {0}
 unfoldable pub arguments_count : Term → ℕ
 arguments_count t = elim (arguments_of t) as (λ _. ℕ) [ None ↦ 0 | Some a ↦ count a ]
 
--- the bytes that a piece of a name has at least
+-- the least number of bytes of a piece of a name
 unfoldable pub surplus : Term → ℕ
 surplus string_literal = 1
 surplus _ = 2
@@ -237,13 +226,13 @@ unfolding surplus
 surplus-some string_literal = omega arith
 surplus-some _ = omega arith
 
--- the bytes that a piece has at least, where it may be a name
+-- a piece that isn't a string literal has at least two bytes
 pub surplus-named : (f : Term → Bool) → f string_literal ≡ false → (p : Term) → f p ≡ true → 2 ≤ surplus p
 unfolding surplus
 surplus-named f never string_literal is = absurd (false≢true (sym never ∙ is))
 surplus-named f never _ is = omega arith
 
--- the components that a tree adds or finds in each of its ways, where it fits
+-- what a tree adds or finds in one of its ways, if it fits there
 abbrev pub AddAt : Fit → (t : Term) → Fits → (ℕ → Ways) → Type 0
 AddAt fit.as_type t f w =
     (slot : Slot) (around : Around) (allowed : Option ℕ)
@@ -313,11 +302,11 @@ pub reference-adds : (around : Around) (allowed : Option ℕ) (own : Term) (s : 
 reference-adds around allowed own s =
     in-component around allowed own (λ around allowed place cs. ⊥) s (nowhere-adds 2 around.encoding (Inside own) s)
 
--- a spelling that adds or finds trees adds or finds fewer of them
+-- a spelling that adds or finds trees adds or finds any subset of them
 pub fewer-adds : (k n : ℕ) (P Q : Term → Type 0) (F : Standing) (s : Spelling) → In Q P → Adds k n P F s → Adds k n Q F s
 fewer-adds k n P Q F s more one place cs fits = fewer-added (one place cs fits) more
 
--- a spelling that adds nothing, of a tree without components
+-- the spelling of a tree without components adds nothing
 pub leaf-adds : (k n : ℕ) (P : Term → Type 0) (F : Standing) (bytes : List ℕ) → k ≤ length bytes → In P No → Adds k n P F (text bytes)
 leaf-adds k n P F bytes long none place cs fits = fewer-added (none-added k bytes long) none
 
@@ -325,7 +314,7 @@ pub no-whole : (t : Term) → (IsComponent t → ⊥) → In (Inside t) No → I
 no-whole t never none x (inl same) = never same.0
 no-whole t never none x (inr i) = none x i
 
--- a template name that comes before, and its arguments
+-- a template name that has an equal component before it, and its arguments
 pub found-and-adds : (m : ℕ) (around : Around) (allowed : Option ℕ) (own : Term) (front : ℕ → Spelling) (G : Fitting) (s arguments : Spelling)
     (Q : Term → Type 0) → Adds m around.encoding Q (G around allowed) arguments
     → Adds m around.encoding (Either (Whole own) Q) (as_template own nowhere front G around allowed)
@@ -345,7 +334,7 @@ found-and-adds m around allowed own front G s arguments Q more place cs fits = g
         both-added 1 m m (omega arith) (tree-found number bytes is (omega arith)) (more (place + length bytes) cs (fits.1 number is))
     go None is = absurd (fits.2 is).0
 
--- the same, where the name would be spelled out, between N and E or not
+-- a template name that can only be a reference to a component before it, as `template_before` spells it, and its arguments
 pub found-template-adds : (m : ℕ) (around : Around) (allowed : Option ℕ) (own : Term) (front : ℕ → Spelling) (G : Fitting) (needs_N : Bool)
     (between arguments : Spelling) (Q : Term → Type 0) → Adds m around.encoding Q (G around allowed) arguments
     → Adds m around.encoding (Either (Whole own) Q) (as_template own nowhere front G around allowed)
@@ -385,7 +374,7 @@ component-at item_type w same one other = one
 component-at parameter_type w same one other = one
 component-at literal_type w same one other = one
 
--- a tree that can be nowhere
+-- a tree that fits nowhere
 pub nowhere-ways-add : (t : Term) (w : ℕ → Ways) → WaysAdd t fits_nowhere w
 unfolding fits_nowhere
 nowhere-ways-add t w = record {

@@ -1,26 +1,16 @@
--- A function type right under qualifiers is spelled out even where it is among the components. It fits there, since its parts
+-- A function type right under qualifiers is spelled out even if it is among the components. It fits there, since its parts
 -- are among the components, too.
-use Rattle.std.proofs.Common.{◌≡◌, ℕ, ◌+◌, ◌⊎◌, inl, inr, length, List, [], ◌++◌, Option, None, Bool, true, false, refl, subst, sym}
-use Rattle.std.specs.Prelude.{◌&&◌, ◌||◌, codes, cond}
+use Rattle.cpp_press_laws.proofs.Basics.{◌≡◌, ℕ, ◌+◌, ◌⊎◌, inl, inr, length, List, [], ◌++◌, Option, None, Bool, true, false, refl, subst, sym, ◌&&◌, ◌||◌, codes, cond, ◌and◌, RefQualifier, Term, symbol, abbreviation, builtin, function_type, nil, list, is_open, Around, packs_in, is_void, is_nil, ways_of, Component, first_equal, Slot, any_type, bare_type, parameter_type, IsBuiltin, IsAbbreviation, type_fits, piece_fits, argument_fits, encoding_fits, fits_nowhere, fits_of, PacksFit, MayBeReferred, IsAbiMark}
 use Rattle.sym_spell.specs.Pressing as spell
-use Rattle.sym_spell.specs.Pressing.{◌and◌}
-use Rattle.cpp_grammar.specs.Term.{RefQualifier, Term, symbol, abbreviation, builtin, function_type, nil, list}
-use Rattle.cpp_grammar.specs.Scope.{is_open}
-use Rattle.cpp_grammar.specs.Values.{Around}
-use Rattle.cpp_grammar.specs.References.{packs_in}
-use Rattle.cpp_grammar.specs.Meaning.{is_void, is_nil}
-use Rattle.cpp_press_laws.specs.Pressing.{ways_of}
 use Rattle.cpp_press_laws.proofs.Components.Parts.{IsComponent, Inside, Whole, Has, stands-found}
-use Rattle.cpp_press_laws.specs.Components.{Component, first_equal}
 use Rattle.cpp_press_laws.proofs.Components.KnownTrees.{In}
 use Rattle.cpp_press_laws.proofs.Components.Complete.{Complete, complete-has}
-use Rattle.cpp_press_laws.specs.Fits.{Slot, any_type, bare_type, parameter_type, IsBuiltin, IsAbbreviation, type_fits, piece_fits, argument_fits, encoding_fits, fits_nowhere, fits_of, PacksFit, MayBeReferred, IsAbiMark}
 use Rattle.cpp_press_laws.proofs.Slots.{each-slot}
 use Rattle.cpp_press_laws.proofs.Fitting as fit
 use Rattle.cpp_press_laws.proofs.Components.AddedWays.{AddsParts, IsNotBare, way_at}
 use Rattle.cpp_press_laws.proofs.Components.AddedTrees.{adds}
 
--- a type in a function type: it's no component, or one whose packs are those of the whole
+-- a type within a function type: it is no component, or it names no packs, or it names the same packs as the function type
 abbrev pub ItemStands : Slot → (scope : Option Term) → (packs : Option ℕ) → Term → Type 0
 ItemStands slot scope packs (builtin code) = IsBuiltin slot code
 ItemStands slot scope packs (abbreviation l) = IsAbbreviation l
@@ -35,7 +25,7 @@ abbrev pub IsNoVoid : Term → Type 0
 IsNoVoid (list first rest) = is_void first && is_nil rest ≡ false
 IsNoVoid _ = Unit {0}
 
--- what is known of a candidate that is a function type, where its scope is this
+-- what is known of a function type that is a candidate in this scope; nothing of other trees
 abbrev pub FunctionStands : (scope : Option Term) → Term → Type 0
 FunctionStands scope (function_type c_linkage noexcept ref returned parameters) =
     ItemStands any_type scope (packs_in scope (function_type c_linkage noexcept ref returned parameters)) returned
@@ -44,7 +34,7 @@ FunctionStands scope (function_type c_linkage noexcept ref returned parameters) 
     × IsAbiMark ref
 FunctionStands scope _ = Unit {0}
 
--- ## Types that are there
+-- ## Types that are among the components
 
 same-packs : (around : Around) (allowed packs own : Option ℕ) → PacksFit around allowed packs → (own ≡ None) ⊎ (own ≡ packs)
     → PacksFit around allowed own
@@ -61,7 +51,7 @@ stands-again t around allowed packs fits shut own = record { lambda = shut; pack
 never-first : (t : Term) (around : Around) (cs : List Component) → In (Whole t) (λ x. Has around.encoding x cs) → IsComponent t → first_equal around.encoding t 0 cs ≡ None → ⊥
 never-first t around cs has is first = stands-found around.encoding t 0 cs (has t (inl (is, refl))) first
 
--- a type that is there may be referred to
+-- a type that is among the components fits wherever it may be referred to
 pub item-again : (t : Term) (slot : Slot) → IsNotBare slot → (around : Around) (allowed packs : Option ℕ)
     → ItemStands slot around.scope packs t
     → PacksFit around allowed packs → is_open t && around.in_lambda ≡ false → (place : ℕ) (cs : List Component)
@@ -92,7 +82,7 @@ right-shut true true c h = h
 right-shut true false c h = refl
 right-shut false b c h = h
 
--- parameters that are there
+-- parameters whose components are among the components fit wherever the function type may be referred to
 items-again : (t : Term) (around : Around) (allowed packs : Option ℕ) → ItemsStand around.scope packs t → PacksFit around allowed packs
     → is_open t && around.in_lambda ≡ false → (place : ℕ) (cs : List Component) → Complete cs → In (Inside t) (λ x. Has around.encoding x cs)
     → (fits_of t).as_more_parameters parameter_type around allowed place cs

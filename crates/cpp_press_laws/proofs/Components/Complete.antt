@@ -1,19 +1,10 @@
--- Lists of components that have the components in each of their components; and the candidates of a reader that are in such a
--- list.
-use Rattle.std.proofs.Common.{◌≡◌, ℕ, ◌+◌, ◌<◌, ◌≤◌, ◌⊎◌, inl, inr, length, List, [], ◌∷◌, ◌++◌, Bool, true, false, refl, ap, arith, sym, subst, ◌∙◌, length-append, zero, suc, Option, Some, None}
-use Rattle.std.specs.Prelude.{cond, ◌&&◌, ◌||◌, slice_get}
-use Rattle.std.proofs.lemmas.Bool.{true≢false, or_parts}
-use Rattle.cpp_grammar.specs.Term.{Term, symbol, alone, in_std, within, instance, local, holder, tagged, of_default, inheriting, lambda, conversion, pointer, lvalue, rvalue, array, constrained, bounded, member_pointer, function_type, qualified, vector, complex, decltype, expansion, integer, operation, pack, list, enumeration, bindings, declaring}
-use Rattle.cpp_grammar.specs.Scope.{is_open}
-use Rattle.cpp_grammar.specs.Values.{Candidate, by_all}
-use Rattle.cpp_grammar.specs.References.{is_function_type}
-use Rattle.cpp_press_laws.specs.Fits.{has_letters}
-use Rattle.cpp_press_laws.specs.Components.{Component, Spelling, components_of, is_same, first_equal, reference, ended, spelled_out, component}
+-- Complete lists of components: with each component, they have the components in its tree. A reader's candidates are compared
+-- with such a list.
+use Rattle.cpp_press_laws.proofs.Basics.{◌≡◌, ℕ, ◌+◌, ◌<◌, ◌≤◌, ◌⊎◌, inl, inr, length, List, [], ◌∷◌, ◌++◌, Bool, true, false, refl, ap, arith, sym, subst, ◌∙◌, length-append, zero, suc, Option, Some, None, cond, ◌&&◌, ◌||◌, slice_get, true≢false, or_parts, Term, symbol, alone, in_std, within, instance, local, holder, tagged, of_default, inheriting, lambda, conversion, pointer, lvalue, rvalue, array, constrained, bounded, member_pointer, function_type, qualified, vector, complex, decltype, expansion, integer, operation, pack, list, enumeration, bindings, declaring, is_open, Candidate, by_all, is_function_type, has_letters, Component, Spelling, components_of, is_same, first_equal, reference, ended, spelled_out, component, ◌and◌}
 use Rattle.cpp_press_laws.proofs.Components.Parts.{IsComponent, ItselfOr, PrefixOr, UnqualifiedOr, Inside, Whole, Has, has-before, has-either, has-itself, same-means, has-closed, prefix-whole, found-stands}
 use Rattle.cpp_press_laws.proofs.Components.Known.{KeepsTo, known-has}
 use Rattle.cpp_press_laws.proofs.Short.Worth.{is_among, has-among, is_again, full, worth, worths, full-some, worths-one, worths-append}
 use Rattle.sym_spell.specs.Pressing as spell
-use Rattle.sym_spell.specs.Pressing.{◌and◌}
 
 -- ## What is in a closed tree is closed
 
@@ -94,7 +85,7 @@ inside-shut _ x closed i = first_of (assumption i, search i)
 
 -- ## Complete lists
 
--- the components in each of these are among others
+-- the components in each component of the first list are among the second
 abbrev pub AllStand : (some others : List Component) → Type 0
 AllStand [] others = Unit {0}
 AllStand (c ∷ cs) others = ((x : Term) → Inside c.tree x → Has c.encoding x others) × AllStand cs others
@@ -110,7 +101,7 @@ stand-append : (cs ds others : List Component) → AllStand cs others → AllSta
 stand-append [] ds others one other = other
 stand-append (c ∷ cs) ds others one other = (one.0, stand-append cs ds others one.1 other)
 
--- a tree becomes a component after those in it
+-- complete components stay complete once a tree is added after the components in it
 pub complete-ended : (n : ℕ) (t : Term) (cs : List Component) → Complete cs → ((x : Term) → Inside t x → Has n x cs)
     → Complete (cs ++ record { tree = t; encoding = n } ∷ [])
 complete-ended n t cs complete inside =
@@ -127,12 +118,12 @@ all-has n t (c ∷ cs) others each (inl same) x i = go (same-means n t c same)
         has-closed c.encoding n x others (inside-shut t x closed i) (each.0 x (subst (λ u. Inside u x) equal i))
     go (equal, inr here) = subst (λ m. Has m x others) here (each.0 x (subst (λ u. Inside u x) equal i))
 
--- the components in a tree are there, if the tree is
+-- if a tree is among complete components, the components in the tree are, too
 pub complete-has : (n : ℕ) (t : Term) (cs : List Component) → Complete cs → Has n t cs → (x : Term) → Whole t x → Has n x cs
 complete-has n t cs complete has x (inl same) = subst (λ u. Has n u cs) (sym same.1) has
 complete-has n t cs complete has x (inr i) = all-has n t cs cs complete has x i
 
--- If a tree is there, its spelling adds no component that may be referred to and isn't there.
+-- If the components that a spelling is made from are there, it adds no new component that may be referred to.
 pub nothing-new : (n : ℕ) (R : Term → Type 0) (spelling : Spelling) → KeepsTo Unit n R spelling → (place : ℕ) (cs : List Component)
     → n ≤ place
     → ((x : Term) → R x → Has n x cs) → (x : Term) → IsComponent x → Has n x (spelling place cs).components → Has n x cs
@@ -145,15 +136,15 @@ nothing-new n R spelling keeps place cs le stands x is has =
 
 -- ## A reader's candidates
 
--- Each candidate without free parameters is among the components. So is each other candidate of the reader's encoding.
+-- Each candidate without free parameters is among the components. So is each candidate of the reader's encoding.
 abbrev pub EachStands : (read pressed : ℕ) → (candidates : List Candidate) → (components : List Component) → Type 0
 EachStands read pressed [] components = Unit {0}
 EachStands read pressed (c ∷ cs) components =
     (IsComponent c.tree × ((is_open c.tree ≡ false) ⊎ (c.encoding ≡ read)
     → Has pressed c.tree components)) × EachStands read pressed cs components
 
--- The candidates are among the components in this way, and the components are no more than the candidates and worth no
--- more.
+-- The candidates are among the components, as `EachStands` says. There are at most as many components as candidates, and the
+-- components are worth at most as much as the candidates.
 abbrev pub StandAmong : (read pressed : ℕ) → (candidates : List Candidate) → (components : List Component) → Type 0
 StandAmong read pressed candidates components =
     EachStands read pressed candidates components
@@ -164,7 +155,7 @@ pub each-append : (read pressed : ℕ) (cs ds : List Candidate) (components : Li
 each-append read pressed [] ds components one other = other
 each-append read pressed (c ∷ cs) ds components one other = (one.0, each-append read pressed cs ds components one.1 other)
 
--- the candidates are among other components, if each component that may be referred to is
+-- the candidates are among other components, if these have each component of the first list that may be referred to
 pub each-others : (read pressed : ℕ) (cs : List Candidate) (components others : List Component)
     → ((x : Term) → IsComponent x → Has pressed x components → Has pressed x others) → EachStands read pressed cs components
     → EachStands read pressed cs others
@@ -228,7 +219,7 @@ worth-less read pressed (qualified q f) cs components among =
 worth-less read pressed (symbol e suffix) cs components among = omega arith
 worth-less read pressed t cs components among = omega arith
 
--- one more candidate and one more component
+-- one more candidate, and the same tree as one more component
 pub among-ended : (read pressed : ℕ) (in_lambda : Bool) (t : Term) (cs : List Candidate) (components : List Component) → IsComponent t → StandAmong read pressed cs components
     → StandAmong read pressed (cs ++ record { tree = t; encoding = read; in_lambda = in_lambda; counted = by_all } ∷ []) (components ++ record { tree = t; encoding = pressed } ∷ [])
 among-ended read pressed in_lambda t cs components is among =
@@ -286,8 +277,8 @@ pub among-inner : (read pressed inner own : ℕ) (cs : List Candidate) (componen
     → StandAmong inner own cs components
 among-inner read pressed inner own cs components before among = (each-inner read pressed inner own cs components before among.0, among.1)
 
--- A tree that was read becomes a candidate. The candidates of its parts are among the components after its spelling, so
--- with the tree they are among those after the component that it is.
+-- A tree that was read becomes a candidate. If the candidates before it are among the components after its spelling, then
+-- they and the tree are among the components once the tree is a component.
 pub component-among : (read n : ℕ) (in_lambda : Bool) (t : Term) (spelling : Spelling) → IsComponent t → KeepsTo Unit n (Whole t) spelling → (place : ℕ)
     (cs : List Component) (candidates : List Candidate) → n ≤ place → Complete cs → StandAmong read n candidates (spelling place cs).components
     → StandAmong read n (candidates ++ record { tree = t; encoding = read; in_lambda = in_lambda; counted = by_all } ∷ []) (component n t spelling place cs).components
@@ -321,13 +312,13 @@ each-named read n zero c (d ∷ ds) components among at may =
     (λ m. (among.0.0, among.0.1 m)) may
 each-named read n (suc number) c (d ∷ ds) components among at may = each-named read n number c ds components among.1 at may
 
--- A candidate that a reference may name is among the components: it has no free parameters, or is of the same encoding.
+-- A candidate without free parameters, or of the reader's encoding, is among the components.
 pub named-stands : (read n number : ℕ) (c : Candidate) (candidates : List Candidate) (components : List Component) → StandAmong read n candidates components
     → slice_get candidates number ≡ Some c → (is_open c.tree ≡ false) ⊎ (c.encoding ≡ read) → IsComponent c.tree × Has n c.tree components
 named-stands read n number c candidates components among at may = each-named read n number c candidates components among.0 at may
 
 -- ## Packs
 
--- the length that the expansion has named, if it has named one, is allowed
+-- if the expansion has named packs of some length, that is the allowed length
 abbrev pub Allows : (allowed packs : Option ℕ) → Type 0
 Allows allowed packs = (m : ℕ) → packs ≡ Some m → allowed ≡ Some m

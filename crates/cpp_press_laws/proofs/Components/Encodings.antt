@@ -1,13 +1,5 @@
 -- No encoding is a prefix.
-use Rattle.std.proofs.Common.{◌≡◌, ℕ, List, Option, true, false, ap, ◌∙◌, arith}
-use Rattle.std.proofs.lemmas.Bool.{false≢true, false_from_ne_true}
-use Rattle.sym_spell.specs.Pressing.{◌and◌, nothing}
-use Rattle.cpp_grammar.specs.Term.{Term, symbol}
-use Rattle.cpp_grammar.specs.Values.{Around}
-use Rattle.cpp_press_laws.specs.Components.{Component, Spelling}
-use Rattle.cpp_press_laws.specs.Pressing.{ways_of, no_ways, encoding_ways, is_encoding}
-use Rattle.cpp_press_laws.specs.Fits.{fits_of, fits_nowhere, encoding_fits}
-use Rattle.cpp_grammar.specs.Scope.{is_open}
+use Rattle.cpp_press_laws.proofs.Basics.{◌≡◌, ℕ, List, Option, true, false, ap, ◌∙◌, arith, false≢true, false_from_ne_true, ◌and◌, nothing, Term, symbol, Around, Component, Spelling, ways_of, no_ways, encoding_ways, is_encoding, fits_of, fits_nowhere, encoding_fits, is_open}
 
 pub encoding-prefix : (e : Term) (n : ℕ) → is_encoding e ≡ true → (ways_of n e).as_prefix ≡ nothing
 unfolding is_encoding ways_of encoding_ways no_ways

@@ -1,28 +1,18 @@
 -- At most as many components of a symbol's tree are spelled out as the reader of the symbol has candidates.
-use Rattle.std.proofs.Common.{◌≡◌, ℕ, ◌≤◌, length, List, [], None, Ok, sym, ◌∙◌, arith}
-use Rattle.sym_shape.specs.Tree.{Tree as Shape}
-use Rattle.sym_link.specs.Reading.{Found}
-use Rattle.sym_link.specs.Unfold.{unfold_tree}
-use Rattle.cpp_grammar.specs.Term.{Term, symbol}
-use Rattle.cpp_grammar.specs.Values.{State, Value}
-use Rattle.cpp_grammar.specs.Unfolding.{cpp, first_around, first_state}
-use Rattle.cpp_press_laws.specs.Components.{components_of}
-use Rattle.cpp_press_laws.specs.Pressing.{ways_of, no_ways}
-use Rattle.cpp_press_laws.specs.Apart.{spelled_components}
-use Rattle.cpp_press_laws.specs.PressLaws.{IsReadFrom}
+use Rattle.cpp_press_laws.proofs.Basics.{◌≡◌, ℕ, ◌≤◌, length, List, [], None, Ok, sym, ◌∙◌, arith, Tree as Shape, Found, unfold_tree, Term, symbol, State, Value, cpp, first_around, first_state, components_of, ways_of, no_ways, spelled_components, IsReadFrom}
 use Rattle.cpp_press_laws.proofs.Components.Complete.{worths-none}
 use Rattle.cpp_press_laws.proofs.Short.Worth.{worths}
 use Rattle.cpp_press_laws.proofs.Fits.Symbols.{WholeFits}
 use Rattle.cpp_press_laws.proofs.ByKind.Root.{read-as}
 use Rattle.cpp_press_laws.proofs.ByKind.Shapes.{shape-read}
 
--- as many components as candidates, which are worth as much
+-- at most as many components as candidates, and worth at most as much
 abbrev pub AreFew : Term → State → Type 0
 AreFew t s =
     (length (spelled_components t) ≤ length s.candidates)
     × (worths [] (spelled_components t) ≤ worths [] (components_of s.candidates))
 
--- a symbol has few components, where its encoding fits after the first two bytes
+-- a symbol has few components, if its encoding fits after the first two bytes
 symbol-few : (e : Term) (suffix : List ℕ) (new : State) → WholeFits first_around e first_state new → new.packs ≡ None
     → AreFew (symbol e suffix) new
 unfolding first_around first_state spelled_components ways_of no_ways

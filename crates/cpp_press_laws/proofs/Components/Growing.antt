@@ -1,17 +1,8 @@
--- What pressing adds, with marks and without: the same components, which are apart, each smaller than the tree that is pressed.
-use Rattle.std.proofs.Common.{◌≡◌, ℕ, suc, ◌+◌, ◌<◌, ◌≤◌, inl, inr, length, List, [], ◌∷◌, ◌++◌, Option, Some, None, Bool, true, false, refl, ap, arith, sym, subst, ◌∙◌, append_assoc, append-nil}
-use Rattle.std.specs.Prelude.{not, ◌&&◌, ◌||◌, nat_eq, codes}
+-- What pressing adds, with marks and without: the same components, which are apart, each smaller than the pressed tree.
+use Rattle.cpp_press_laws.proofs.Basics.{◌≡◌, ℕ, suc, ◌+◌, ◌<◌, ◌≤◌, inl, inr, length, List, [], ◌∷◌, ◌++◌, Option, Some, None, Bool, true, false, refl, ap, arith, sym, subst, ◌∙◌, append_assoc, append-nil, not, ◌&&◌, ◌||◌, nat_eq, codes, ◌and◌, text, nothing, Term, symbol, function, object, special, thunk, of_name, construction, clone, alone, in_std, within, instance, local, holder, tagged, of_default, inheriting, lambda, generic_lambda, conversion, pointer, lvalue, rvalue, array, constrained, bounded, member_pointer, function_type, qualified, vector, complex, decltype, expansion, integer, encoding_literal, address_of, operation, pack, list, enumeration, bindings, declaring, is_open, same_tree, Component, Spelling, is_same, first_equal, seq_id, reference, ended, spelled_out, referred, component, in_N_and_E, template_before, Marked, unmarked, IsNeverReferred, IsNew, IsApart, AreApartBehind}
 use Rattle.sym_spell.specs.Pressing as spell
-use Rattle.sym_spell.specs.Pressing.{◌and◌, text, nothing}
-use Rattle.cpp_grammar.specs.Term.{Term, symbol, function, object, special, thunk, of_name, construction, clone, alone, in_std, within, instance, local, holder, tagged, of_default, inheriting, lambda, generic_lambda, conversion, pointer, lvalue, rvalue, array, constrained, bounded, member_pointer, function_type, qualified, vector, complex, decltype, expansion, integer, encoding_literal, address_of, operation, pack, list, enumeration, bindings, declaring}
-use Rattle.cpp_grammar.specs.Scope.{is_open}
-use Rattle.cpp_press_laws.specs.Same.{same_tree}
-use Rattle.cpp_press_laws.specs.Components.{Component, Spelling, is_same, first_equal, seq_id, reference, ended, spelled_out, referred, component}
-use Rattle.cpp_press_laws.specs.Pressing.{in_N_and_E, template_before}
 use Rattle.cpp_press_laws.specs.MarkedComponents as marks
-use Rattle.cpp_press_laws.specs.MarkedComponents.{Marked, unmarked}
 use Rattle.cpp_press_laws.specs.MarkedPressing as marked
-use Rattle.cpp_press_laws.specs.Apart.{IsNeverReferred, IsNew, IsApart, AreApartBehind}
 use Rattle.cpp_press_laws.proofs.Components.Sameness.{equal-tree}
 
 -- ## Sizes
@@ -92,7 +83,7 @@ below-append : (m : ℕ) (cs ds : List Marked) → AreBelow m cs → AreBelow m 
 below-append m [] ds are others = others
 below-append m (c ∷ cs) ds (low, rest) others = (low, below-append m cs ds rest others)
 
--- a component that is smaller than a tree isn't equal to the tree
+-- a tree is new among components that are all smaller
 below-new : (encoding : ℕ) (own : Term) (cs : List Marked) → AreBelow (size own) cs → IsNew encoding own (unmarked cs)
 unfolding is_same
 below-new encoding own [] below = tt
@@ -102,7 +93,7 @@ below-new encoding own (c ∷ cs) (low, rest) = (go (same_tree own c.component.t
     go true same = let equal : size own ≡ size c.component.tree = ap size (equal-tree own c.component.tree same) in absurd (omega (arith, low, equal))
     go false same = refl
 
--- if no first component is equal to a tree, no component is
+-- if `first_equal` finds no component that is equal to a tree, no component is
 none-equal : (encoding : ℕ) (own : Term) (from : ℕ) (cs : List Component) → first_equal encoding own from cs ≡ None → IsNew encoding own cs
 unfolding first_equal
 none-equal encoding own from [] none = tt
@@ -116,8 +107,8 @@ none-equal encoding own from (c ∷ cs) none = go (is_same encoding own c) refl 
 
 -- ## What spellings add
 
--- A spelling adds components below a size. If those before are apart in a tree, all are. Without marks the bytes and
--- the components are the same.
+-- A spelling adds components below a size. If the components before it are apart in a tree, so are all components after it.
+-- Without the marks of the components, the bytes and the components are those of the plain spelling.
 pub record Adds (whole : Term) (m : ℕ) (components : List Marked) (pressed : spell.Pressed Marked) (plain : spell.Pressed Component) : Type 0 where
   pub added : List Marked
   pub split : pressed.components ≡ components ++ added
@@ -129,14 +120,14 @@ pub record Adds (whole : Term) (m : ℕ) (components : List Marked) (pressed : s
 pub record Grows (whole : Term) (m : ℕ) (spelling : marks.Spelling) (plain : Spelling) : Type 0 where
   pub adds : (place : ℕ) (components : List Marked) → Adds whole m components (spelling place components) (plain place (unmarked components))
 
--- the same, where place and components are equal without marks
+-- what is added stays the same for a plain spelling at an equal place, after equal components
 moved : {whole : Term} {m place other : ℕ} {components : List Marked} {others : List Component} {pressed : spell.Pressed Marked} (plain : Spelling)
     → place ≡ other → unmarked components ≡ others → Adds whole m components pressed (plain place (unmarked components))
     → Adds whole m components pressed (plain other others)
 moved {whole} {m} {place} {other} {components} {others} {pressed} plain e f a =
     subst (λ p. Adds whole m components pressed (plain p others)) e (subst (λ l. Adds whole m components pressed (plain place l)) f a)
 
--- one spelling after another
+-- what is written, followed by a spelling
 abbrev behind : {C : Type 0} → spell.Pressed C → spell.Pressing C → (place : ℕ) → spell.Pressed C
 behind first rest place =
     record { bytes = first.bytes ++ (rest place first.components).bytes; components = (rest place first.components).components }
@@ -194,7 +185,7 @@ more-grows {whole} {n} {m} one le = record {
       };
 }
 
--- bytes before, and bytes after
+-- bytes before a spelling, and bytes after it
 pub front : {whole : Term} {m : ℕ} {spelling : marks.Spelling} {plain : Spelling} (bytes : List ℕ) → Grows whole m spelling plain
     → Grows whole m (text bytes and spelling) (text bytes and plain)
 front bytes one = and-grows (text-grows bytes) one

@@ -1,15 +1,6 @@
--- Whatever is spelled keeps the components before it.
-use Rattle.std.proofs.Common.{◌≡◌, ℕ, suc, ◌+◌, ◌≤◌, inl, inr, length, List, [], ◌∷◌, ◌++◌, Option, Some, None, Bool, true, false, refl, ap, sym, subst, ◌∙◌, arith, length-append}
-use Rattle.std.specs.Prelude.{codes}
-use Rattle.sym_spell.specs.Pressing.{◌and◌, text}
-use Rattle.cpp_grammar.specs.Term.{Term, local, list, absent}
-use Rattle.cpp_press_laws.specs.Texts.{discriminator_text}
-use Rattle.cpp_press_laws.specs.Components.{Component, Spelling, reference, first_equal, ended, spelled_out, referred, component}
-use Rattle.cpp_press_laws.specs.Pressing.{Ways, in_N_and_E, is_one_piece, entity_text, local_text, ways_of}
+-- Each spelling keeps the components before it.
+use Rattle.cpp_press_laws.proofs.Basics.{◌≡◌, ℕ, suc, ◌+◌, ◌≤◌, inl, inr, length, List, [], ◌∷◌, ◌++◌, Option, Some, None, Bool, true, false, refl, ap, sym, subst, ◌∙◌, arith, length-append, codes, ◌and◌, text, Term, local, list, absent, discriminator_text, Component, Spelling, reference, first_equal, ended, spelled_out, referred, component, Ways, in_N_and_E, is_one_piece, entity_text, local_text, ways_of, Marked, unmarked, IsTemplateBehindLetters, IsNeverReferred, Written}
 use Rattle.cpp_press_laws.specs.MarkedComponents as marks
-use Rattle.cpp_press_laws.specs.MarkedComponents.{Marked, unmarked}
-use Rattle.cpp_press_laws.specs.Apart.{IsTemplateBehindLetters, IsNeverReferred}
-use Rattle.cpp_press_laws.specs.Subtrees.{Written}
 use Rattle.cpp_press_laws.proofs.Ways as way
 use Rattle.cpp_press_laws.proofs.Components.Growing.{size, unmarked-append, Grows, more-grows, front, back}
 use Rattle.cpp_press_laws.proofs.Components.Apart.{ways-grow}
@@ -64,7 +55,7 @@ unfolding in_N_and_E
 keeps-N-and-E letters name one =
     keeps-and (text (codes "N" ++ letters)) (name and text (codes "E")) (keeps-text _) (keeps-and name (text (codes "E")) one (keeps-text _))
 
--- bytes before, and bytes after
+-- bytes before a spelling, and bytes after it
 pub keeps-front : (bytes : List ℕ) (spelling : Spelling) → Keeps spelling → Keeps (text bytes and spelling)
 keeps-front bytes spelling one = keeps-and (text bytes) spelling (keeps-text bytes) one
 
@@ -101,7 +92,7 @@ without_marks : (cs : List Component) → unmarked (marked_as cs) ≡ cs
 without_marks [] = refl
 without_marks (c ∷ cs) = ap (λ l. c ∷ l) (without_marks cs)
 
--- a spelling that adds components keeps those before
+-- a spelling that adds components keeps those before it
 grown_keeps : {whole : Term} {m : ℕ} {spelling : marks.Spelling} {plain : Spelling} → Grows whole m spelling plain → Keeps plain
 grown_keeps {plain = plain} one = record {
   kept = λ place cs. subst (λ l. length l ≤ length (plain place l).components) (without_marks cs) (still place (marked_as cs));
@@ -114,7 +105,7 @@ grown_keeps {plain = plain} one = record {
         sym (unmarked-append cs a.added) ∙ ap unmarked (sym a.split) ∙ a.same in
         subst (λ l. length (unmarked cs) ≤ length l) all (omega (arith, length-append (unmarked cs) (unmarked a.added)))
 
--- a tree in which template names that end a name are never referred to
+-- a tree in which each template name that ends the name `t` is never referred to
 abbrev around_it : Term → Term
 around_it t = local absent t None
 

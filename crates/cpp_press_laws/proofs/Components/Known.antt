@@ -1,20 +1,14 @@
--- Spellings that add only what is among the components, where the components that they are spelled from are there.
-use Rattle.std.proofs.Common.{◌≡◌, ℕ, ◌+◌, ◌<◌, ◌≤◌, ◌⊎◌, inl, inr, length, List, [], ◌∷◌, ◌++◌, Option, Some, None, Bool, true, false, refl, ap, arith, sym, subst, ◌∙◌, append_assoc, append-nil}
-use Rattle.std.specs.Prelude.{codes}
-use Rattle.std.proofs.lemmas.Bool.{true≢false}
+-- Spellings add only what is among the components, if the components that they are made from are there.
+use Rattle.cpp_press_laws.proofs.Basics.{◌≡◌, ℕ, ◌+◌, ◌<◌, ◌≤◌, ◌⊎◌, inl, inr, length, List, [], ◌∷◌, ◌++◌, Option, Some, None, Bool, true, false, refl, ap, arith, sym, subst, ◌∙◌, append_assoc, append-nil, codes, true≢false, ◌and◌, text, Term, is_open, Component, Spelling, first_equal, reference, ended, spelled_out, referred, component, in_N_and_E, template_before, begun}
 use Rattle.sym_spell.specs.Pressing as spell
-use Rattle.sym_spell.specs.Pressing.{◌and◌, text}
-use Rattle.cpp_grammar.specs.Term.{Term}
-use Rattle.cpp_grammar.specs.Scope.{is_open}
-use Rattle.cpp_press_laws.specs.Components.{Component, Spelling, first_equal, reference, ended, spelled_out, referred, component}
-use Rattle.cpp_press_laws.specs.Pressing.{in_N_and_E, template_before, begun}
 use Rattle.cpp_press_laws.proofs.Components.Parts.{IsComponent, Has, has-before, has-either, has-closed, same-means}
 
--- Each of these trees without free parameters is among the components. So is each other one, if `open_` holds.
+-- Each tree of `R` without free parameters is among the components. So is each other tree of `R`, if `open_` holds.
 abbrev pub Stands : (open_ : Type 0) → (encoding : ℕ) → (R : Term → Type 0) → List Component → Type 0
 Stands open_ n R cs = (x : Term) → R x → (is_open x ≡ false) ⊎ open_ → Has n x cs
 
--- A component that is added in an encoding, or in a later one inside it, is among the components.
+-- An added component is of this encoding, or of one that begins at `start` or later. If it has no free parameters, or if `open_`
+-- holds and it is of this encoding, it is among the components.
 pub record IsKnown (open_ : Type 0) (n start : ℕ) (components : List Component) (c : Component) : Type 0 where
   pub known : IsComponent c.tree → (is_open c.tree ≡ false) ⊎ (open_ × (c.encoding ≡ n)) → Has n c.tree components
   pub place : (c.encoding ≡ n) ⊎ (start ≤ c.encoding)
@@ -28,8 +22,8 @@ pub record AddsKnown (open_ : Type 0) (n start : ℕ) (components : List Compone
   pub split : pressed.components ≡ components ++ added
   pub each : AreKnown open_ n start components added
 
--- a spelling in an encoding keeps to these components, and so does one that begins after at least a byte of the
--- encoding
+-- a spelling adds only known components at each place of an encoding; `KeepsBehind` says it of each place after the encoding's
+-- first byte
 abbrev pub KeepsTo : (open_ : Type 0) → (n : ℕ) → (R : Term → Type 0) → Spelling → Type 0
 KeepsTo open_ n R spelling =
     (place : ℕ) (components : List Component) → n ≤ place → Stands open_ n R components
@@ -45,7 +39,7 @@ KeepsBehind open_ n R spelling =
 stands-more : (open_ : Type 0) (n : ℕ) (R : Term → Type 0) (cs ds : List Component) → Stands open_ n R cs → Stands open_ n R (cs ++ ds)
 stands-more open_ n R cs ds stands x is may = has-before n x cs ds (stands x is may)
 
--- a tree among the added components comes before them
+-- a tree that is among known components, added after others, is among those others
 pub known-has : (open_ : Type 0) (n start : ℕ) (cs ds : List Component) (x : Term) → AreKnown open_ n start cs ds → IsComponent x
     → (is_open x ≡ false) ⊎ open_ → Has n x ds → Has n x cs
 known-has open_ n start cs [] x each is may has = absurd has
@@ -201,7 +195,7 @@ before-keeps open_ n R own needs_N between arguments is one more place cs le sta
 
 -- ## Encodings
 
--- in an encoding of its own, each tree with free parameters is new
+-- a tree of `R`, or a tree with free parameters, which is new in an encoding of its own
 abbrev pub OrOpen : (R : Term → Type 0) → (x : Term) → Type 0
 OrOpen R x = R x ⊎ (is_open x ≡ true)
 

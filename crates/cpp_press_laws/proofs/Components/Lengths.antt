@@ -1,14 +1,5 @@
 -- The least number of bytes that spell a tree without parts.
-use Rattle.std.proofs.Common.{◌≡◌, ℕ, zero, suc, ◌<◌, ◌≤◌, length, List, [], ◌∷◌, ◌++◌, Bool, true, false, arith, length-append}
-use Rattle.std.specs.Prelude.{cond, codes, ◌||◌, nat_lt, ◌/◌, ◌%◌}
-use Rattle.sym_core.specs.declared.NameClass.TheVariants.{Cpp}
-use Rattle.sym_core.specs.Token.{IsSeparator}
-use Rattle.sym_spell.specs.Digits.{digits_in, decimal_digit}
-use Rattle.cpp_grammar.specs.Term.{Qualifiers}
-use Rattle.cpp_grammar.proofs.Chosen.{either}
-use Rattle.cpp_press_laws.specs.Texts.{decimal, counted, ordinal, qualifier_letters}
-use Rattle.cpp_press_laws.specs.Spellable.{IsSpellableName}
-use Rattle.cpp_press_laws.specs.Fits.{Slot, literal_type, IsBuiltin, has_letters}
+use Rattle.cpp_press_laws.proofs.Basics.{◌≡◌, ℕ, zero, suc, ◌<◌, ◌≤◌, length, List, [], ◌∷◌, ◌++◌, Bool, true, false, arith, length-append, cond, codes, ◌||◌, nat_lt, ◌/◌, ◌%◌, Cpp, IsSeparator, digits_in, decimal_digit, Qualifiers, either, decimal, counted, ordinal, qualifier_letters, IsSpellableName, Slot, literal_type, IsBuiltin, has_letters}
 
 digits-long : (most n : ℕ) → 0 < length (digits_in 10 decimal_digit (suc most) n)
 digits-long most n =

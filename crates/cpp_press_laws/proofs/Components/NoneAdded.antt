@@ -1,12 +1,7 @@
--- If a component is there already, its spelling adds none. The spelling of a function type right under qualifiers adds
--- none then, either.
-use Rattle.std.proofs.Common.{◌≡◌, ℕ, ◌+◌, inl, inr, length, List, [], ◌++◌, Option, Some, None, refl, sym, subst}
-use Rattle.std.specs.Prelude.{cond, codes}
+-- If a tree is among the components already, its spelling adds no component. If it is a function type, its spelling right
+-- under qualifiers adds none, either.
+use Rattle.cpp_press_laws.proofs.Basics.{◌≡◌, ℕ, ◌+◌, inl, inr, length, List, [], ◌++◌, Option, Some, None, refl, sym, subst, cond, codes, ◌and◌, Term, alone, function_type, list, Component, Spelling, first_equal, reference, spelled_out, component, ways_of, no_ways, type_ways, name_ways, piece_ways, argument_ways, encoding_ways, function_text}
 use Rattle.sym_spell.specs.Pressing as spell
-use Rattle.sym_spell.specs.Pressing.{◌and◌}
-use Rattle.cpp_grammar.specs.Term.{Term, alone, function_type, list}
-use Rattle.cpp_press_laws.specs.Components.{Component, Spelling, first_equal, reference, spelled_out, component}
-use Rattle.cpp_press_laws.specs.Pressing.{ways_of, no_ways, type_ways, name_ways, piece_ways, argument_ways, encoding_ways, function_text}
 use Rattle.cpp_press_laws.proofs.Components.Parts.{IsComponent, Inside, Has, stands-found}
 use Rattle.cpp_press_laws.proofs.Components.Complete.{Complete, complete-has}
 
@@ -20,21 +15,21 @@ component-none n t s place cs has = go (first_equal n t 0 cs) refl
     go (Some number) is = refl
     go None is = absurd (stands-found n t 0 cs has is)
 
--- the spelling as a type
+-- a type's spelling adds no component, if the type is among the components or is never a component
 pub type-none : (t : Term) (n place : ℕ) (cs : List Component) → (IsComponent t → Has n t cs) →
     ((ways_of n t).as_type place cs).components ≡ cs
 unfolding ways_of no_ways type_ways name_ways piece_ways argument_ways encoding_ways
 type-none (alone p) n place cs has = component-none n (alone p) _ place cs (has tt)
 type-none _ n place cs has = first_of (cc, search (component-none, has))
 
--- the spelling as a prefix
+-- a prefix that is among the components adds none
 pub prefix-none : (t : Term) (n place : ℕ) (cs : List Component) → IsComponent t → Has n t cs →
     ((ways_of n t).as_prefix place cs).components ≡ cs
 unfolding ways_of no_ways type_ways name_ways piece_ways argument_ways encoding_ways
 prefix-none (alone p) n place cs is has = component-none n (alone p) _ place cs has
 prefix-none _ n place cs is has = first_of (search is, search (component-none, has))
 
--- parameters, if each of them that is a component is there
+-- parameters add no component, if each component within them is among the components
 parameters-none : (t : Term) (n place : ℕ) (cs : List Component) → ((x : Term) → Inside t x → Has n x cs)
     → ((ways_of n t).as_more_parameters place cs).components ≡ cs
 unfolding ways_of no_ways type_ways name_ways piece_ways argument_ways encoding_ways
@@ -53,7 +48,7 @@ all-parameters-none (list first rest) n place cs has = parameters-none (list fir
 all-parameters-none (alone p) n place cs has = refl
 all-parameters-none _ n place cs has = refl
 
--- the spelling right under qualifiers
+-- a function type that is among complete components adds none right under qualifiers
 pub bare-none : (t : Term) (n place : ℕ) (cs : List Component) → IsComponent t → Complete cs → Has n t cs
     → ((ways_of n t).under_qualifiers place cs).components ≡ cs
 unfolding ways_of no_ways type_ways name_ways piece_ways argument_ways encoding_ways function_text

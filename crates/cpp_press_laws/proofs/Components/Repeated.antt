@@ -1,17 +1,10 @@
 -- Why the tree of a component is spelled out again.
-use Rattle.std.proofs.Common.{◌≡◌, ℕ, List, [], ◌∷◌, ◌++◌, ◌⊎◌, inl, inr, Bool, true, false, refl, subst}
-use Rattle.std.specs.Prelude.{not, ◌&&◌, ◌||◌, nat_eq}
-use Rattle.cpp_grammar.specs.Term.{Term}
-use Rattle.cpp_grammar.specs.Scope.{is_open}
-use Rattle.cpp_press_laws.specs.Same.{same_tree}
-use Rattle.cpp_press_laws.specs.Components.{Component, is_same}
-use Rattle.cpp_press_laws.specs.MarkedComponents.{Marked, unmarked}
-use Rattle.cpp_press_laws.specs.Apart.{IsNeverReferred, IsNew, IsApart, AreApartBehind, marked_components}
+use Rattle.cpp_press_laws.proofs.Basics.{◌≡◌, ℕ, List, [], ◌∷◌, ◌++◌, ◌⊎◌, inl, inr, Bool, true, false, refl, subst, not, ◌&&◌, ◌||◌, nat_eq, Term, is_open, same_tree, Component, is_same, Marked, unmarked, IsNeverReferred, IsNew, IsApart, AreApartBehind, marked_components}
 use Rattle.cpp_press_laws.specs.Repeated.{is_spelled, repeated, HaveReasons, RepeatedComponentsHaveReasons}
 use Rattle.cpp_press_laws.proofs.Components.Growing.{unmarked-append}
 use Rattle.cpp_press_laws.proofs.Components.Apart.{components-apart, components-marked}
 
--- a tree that doesn't compare as equal with the same tree has free parameters
+-- if a tree is the tree of a component and still isn't equal to this component, the tree has free parameters
 open-by : (same free other : Bool) → same && (not free || other) ≡ false → same ≡ true → free ≡ true
 open-by true true other differ is = refl
 open-by true false other differ is = cc
@@ -27,7 +20,7 @@ new-open n own (c ∷ cs) new is = go (same_tree own c.tree) refl is (new-open n
     go true same is more = open-by (same_tree own c.tree) (is_open own) (nat_eq c.encoding n) new.0 same
     go false same is more = more is
 
--- the reasons of those components, apart from each other, whose tree is spelled already
+-- among components that are apart, each component whose tree is spelled already has a reason
 reasons : (tree : Term) (before cs : List Marked) → AreApartBehind tree before cs → HaveReasons tree (repeated (unmarked before) (unmarked cs))
 unfolding repeated
 reasons tree before [] apart = tt

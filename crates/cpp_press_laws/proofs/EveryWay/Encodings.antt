@@ -1,22 +1,6 @@
 -- Local names and encodings are read in each of their ways.
-use Rattle.std.proofs.Common.{◌≡◌, ℕ, ◌+◌, ◌≤◌, length, List, [], ◌∷◌, ◌++◌, Option, Some, None, Bool, true, false, refl, ap, arith, sym, subst, append-nil, length-append, ◌∙◌}
-use Rattle.std.specs.Prelude.{codes}
+use Rattle.cpp_press_laws.proofs.Basics.{◌≡◌, ℕ, ◌+◌, ◌≤◌, length, List, [], ◌∷◌, ◌++◌, Option, Some, None, Bool, true, false, refl, ap, arith, sym, subst, append-nil, length-append, ◌∙◌, codes, ◌and◌, text, nothing, Kind, ENCODING, COMPLETE_NAME, ITEMS, kinds, may_be_empty, Thunk, function, object, special, thunk, of_name, absent, Qualifiers, RefQualifier, local, Term, nil, list, instance, count, arguments_of, has_return_type, Around, Value, nothing_there, tree, tree_of, is_function_type, in_name, in_types, after, no_items, encoding_of, parameters, special_front, thunk_text, name_letters, special_code, discriminator_text, Component, Spelling, component, begun, encoding_ways, in_N_and_E, is_one_piece, entity_text, local_text, ways_of, no_ways, type_ways, Written, written, ReadsAt, Is, HasRoom, IsSmall, qualifiers_of, ref_of, named}
 use Rattle.sym_shape.specs.declared.rule.Sym.TheVariants.{Kind as OfKind}
-use Rattle.sym_spell.specs.Pressing.{◌and◌, text, nothing}
-use Rattle.cpp_grammar.specs.declared.kind.Kind.{Kind}
-use Rattle.cpp_grammar.specs.KindNumbers.{ENCODING, COMPLETE_NAME, ITEMS}
-use Rattle.cpp_grammar.specs.Grammar.{kinds, may_be_empty}
-use Rattle.cpp_grammar.specs.Term.{Thunk, function, object, special, thunk, of_name, absent, Qualifiers, RefQualifier, local, Term, nil, list, instance}
-use Rattle.cpp_grammar.specs.Scope.{count, arguments_of, has_return_type}
-use Rattle.cpp_grammar.specs.Values.{Around, Value, nothing_there, tree, tree_of}
-use Rattle.cpp_grammar.specs.References.{is_function_type}
-use Rattle.cpp_grammar.specs.Between.{in_name, in_types, after, no_items}
-use Rattle.cpp_grammar.specs.Meaning.{encoding_of, parameters}
-use Rattle.cpp_grammar.specs.Texts.{special_front}
-use Rattle.cpp_press_laws.specs.Texts.{thunk_text, name_letters, special_code, discriminator_text}
-use Rattle.cpp_press_laws.specs.Components.{Component, Spelling, component}
-use Rattle.cpp_press_laws.specs.Pressing.{begun, encoding_ways, in_N_and_E, is_one_piece, entity_text, local_text, ways_of, no_ways, type_ways}
-use Rattle.cpp_press_laws.specs.Subtrees.{Written, written, ReadsAt, Is, HasRoom, IsSmall}
 use Rattle.cpp_press_laws.proofs.ReadBack.Reading.{empty-reads, elsewhere, same-written}
 use Rattle.cpp_press_laws.proofs.ReadBack.Arguments.{items-more}
 use Rattle.cpp_press_laws.proofs.ReadBack.Names.{Extends}
@@ -31,7 +15,6 @@ use Rattle.cpp_press_laws.specs.Fits.{either, Role, in_type, in_name_with, lette
 use Rattle.cpp_press_laws.proofs.Slots.{each-slot}
 use Rattle.cpp_press_laws.proofs.Spots as spot
 use Rattle.cpp_press_laws.proofs.ReadBack.Symbols.{local-type, local-name, encoding-reads, guard-reads, special-reads, special-type, discriminator-reads, thunk-reads}
-use Rattle.cpp_grammar.specs.Values.{qualifiers_of, ref_of, named}
 use Rattle.cpp_press_laws.proofs.Components.Keeping.{keeps-local, keeps-N-and-E, keeps-choice}
 
 -- ## Local names
@@ -55,7 +38,7 @@ keeps-entity n entity letters =
     keeps-choice (is_one_piece entity) (ways_of n entity).between_N_and_E (in_N_and_E letters (ways_of n entity).between_N_and_E)
     (keeps entity n).between_N_and_E (keeps-N-and-E letters (ways_of n entity).between_N_and_E (keeps entity n).between_N_and_E)
 
--- the encoding and the entity
+-- the encoding and the entity of a local name are read
 local-parts : (e entity : Term) (d : Option (List ℕ)) → Reading e → Reading entity → (role : Role) → IsAbiRole role → (around : Around) (allowed : Option ℕ)
     (place : ℕ) (cs : List Component) → IsSmall around → HasRoom (local_spelling around.encoding e entity d (letters_of role) place cs)
     → local_fits e entity d role around allowed place cs
@@ -172,7 +155,7 @@ name-small : (here : ℕ) → IsSmall (in_name here)
 unfolding in_name
 name-small here arguments is = absurd (none-named arguments is)
 
--- a scope has no more arguments than the bytes of the name that they end
+-- a name that ends in arguments has at least as many bytes as arguments
 abbrev pub CountsArguments : Type 0
 CountsArguments =
     (t : Term) (q : Qualifiers) (ref : RefQualifier) (around : Around) (allowed : Option ℕ) (place : ℕ) (cs : List Component)

@@ -1,18 +1,6 @@
--- What each way in which a tree is spelled is read as, where it fits.
-use Rattle.std.proofs.Common.{◌≡◌, ℕ, ◌+◌, ◌≤◌, length, List, [], ◌∷◌, ◌++◌, Option, Some, None, Bool, true, false, refl, ap, arith, subst}
-use Rattle.std.specs.Prelude.{codes, ◌&&◌}
+-- What each spelling of a tree is read as, if the tree fits where it is spelled.
+use Rattle.cpp_press_laws.proofs.Basics.{◌≡◌, ℕ, ◌+◌, ◌≤◌, length, List, [], ◌∷◌, ◌++◌, Option, Some, None, Bool, true, false, refl, ap, arith, subst, codes, ◌&&◌, ◌and◌, text, ENCODING, TYPE_ENTITY, COMPLETE_NAME, ENTITY, ITEMS, Qualifiers, RefQualifier, any_value, Term, instance, list, Around, Value, tree, tree_of, qualifiers_of, ref_of, unqualified, is_function_type, no_items, parameters, name_letters, mark_letter, Component, Spelling, first_equal, seq_id, reference, spelled_out, component, Ways, no_ways, type_ways, is_one_piece, entity_text, greatest, Written, written, ReadsAt, Is, HasRoom, IsSmall, Slot, any_type, bare_type, item_type, parameter_type, literal_type, Standing, Fitting, as_component, as_template, Role, in_type, in_name_with, letters_of, IsAbiMark, IsAbiRole, Fits, nowhere, fits_nowhere, type_fits, piece_fits, argument_fits, encoding_fits}
 use Rattle.sym_shape.specs.declared.rule.Sym.TheVariants.{Kind as OfKind}
-use Rattle.sym_spell.specs.Pressing.{◌and◌, text}
-use Rattle.cpp_grammar.specs.KindNumbers.{ENCODING, TYPE_ENTITY, COMPLETE_NAME, ENTITY, ITEMS}
-use Rattle.cpp_grammar.specs.Term.{Qualifiers, RefQualifier, any_value, Term, instance, list}
-use Rattle.cpp_grammar.specs.Values.{Around, Value, tree, tree_of, qualifiers_of, ref_of, unqualified}
-use Rattle.cpp_grammar.specs.References.{is_function_type}
-use Rattle.cpp_grammar.specs.Between.{no_items}
-use Rattle.cpp_grammar.specs.Meaning.{parameters}
-use Rattle.cpp_press_laws.specs.Texts.{name_letters, mark_letter}
-use Rattle.cpp_press_laws.specs.Components.{Component, Spelling, first_equal, seq_id, reference, spelled_out, component}
-use Rattle.cpp_press_laws.specs.Pressing.{Ways, no_ways, type_ways, is_one_piece, entity_text}
-use Rattle.cpp_press_laws.specs.Subtrees.{greatest, Written, written, ReadsAt, Is, HasRoom, IsSmall}
 use Rattle.cpp_press_laws.proofs.ReadBack.References.{found-first, number-refers}
 use Rattle.cpp_press_laws.proofs.ReadBack.Arguments.{items_value, any-argument, item-as-argument, list_kind}
 use Rattle.cpp_press_laws.proofs.ReadBack.Names.{SoFar, Extends}
@@ -22,7 +10,6 @@ use Rattle.cpp_press_laws.proofs.ReadBack.Slots.{few-before, ReadsAs, is_bare, i
 use Rattle.cpp_press_laws.proofs.ReadBack.Named.{PieceReads, ItemsRead}
 use Rattle.cpp_press_laws.proofs.ReadBack.Between.{Named, SoFarWith, ExtendsWith, extends-with-behind-s, prefix-behind-s}
 use Rattle.cpp_press_laws.proofs.ReadBack.Templates.{TemplateKind, InstancedAt, instanced-behind-s, of_elements, ReadElements, elements-room}
-use Rattle.cpp_press_laws.specs.Fits.{Slot, any_type, bare_type, item_type, parameter_type, literal_type, Standing, Fitting, as_component, as_template, Role, in_type, in_name_with, letters_of, IsAbiMark, IsAbiRole, Fits, nowhere, fits_nowhere, type_fits, piece_fits, argument_fits, encoding_fits}
 use Rattle.cpp_press_laws.proofs.Slots.{each-slot}
 use Rattle.cpp_press_laws.proofs.Spots as spot
 use Rattle.cpp_press_laws.proofs.Spots.{Spot}
@@ -70,7 +57,7 @@ abbrev pub ListReads : ℕ → Around → Option ℕ → Term → (place : ℕ) 
 ListReads k around allowed t place cs w =
     (no_items (items_value t) ≡ t) × ReadsAt around allowed (OfKind k) (Is (items_value t)) place cs w
 
--- the parameters of a function type, with the type's mark and end
+-- the parameters of a function type, and then the type's mark and end
 abbrev pub with_end : RefQualifier → Written → Written
 with_end ref w = written (w.bytes ++ (mark_letter ref ++ codes "E")) w.components
 
@@ -86,13 +73,13 @@ pub record OnePiece (around : Around) (allowed : Option ℕ) (t : Term) (place :
 
 -- ## The ways of a tree
 
--- where it fits, and has room, what is spelled is read
+-- what is spelled is read, if it fits and has room
 abbrev pub Leads : (ℕ → Spelling) → Fitting → (Around → Option ℕ → (place : ℕ) → List Component → Written → Type 0) → Type 0
 Leads spelled fits reads =
     (around : Around) (allowed : Option ℕ) (place : ℕ) (cs : List Component) → IsSmall around → HasRoom (spelled around.encoding place cs)
     → fits around allowed place cs → reads around allowed place cs (spelled around.encoding place cs)
 
--- right under qualifiers a type has a way of its own
+-- a type right under qualifiers has its own way
 abbrev pub slot_way : Slot → Ways → Spelling
 slot_way bare_type w = w.under_qualifiers
 slot_way any_type w = w.as_type

@@ -1,16 +1,5 @@
 -- Template names with their arguments are read in each of their ways.
-use Rattle.std.proofs.Common.{◌≡◌, ℕ, ◌+◌, length, List, [], ◌++◌, Option, Bool, true, false, refl, arith, inl, inr, ◌⊎◌, sym, ◌∙◌, length-append}
-use Rattle.std.specs.Prelude.{codes}
-use Rattle.sym_spell.specs.Pressing.{◌and◌, text, nothing}
-use Rattle.cpp_grammar.specs.KindNumbers.{ENTITY}
-use Rattle.cpp_grammar.specs.Term.{nil, within, Term, instance, tagged}
-use Rattle.cpp_grammar.specs.Values.{Around, tree_of}
-use Rattle.cpp_grammar.specs.References.{is_function_type}
-use Rattle.cpp_grammar.specs.Between.{inside, no_items}
-use Rattle.cpp_press_laws.specs.Texts.{name_letters}
-use Rattle.cpp_press_laws.specs.Components.{Component, Spelling, ended, component}
-use Rattle.cpp_press_laws.specs.Pressing.{ways_of, no_ways, name_ways, in_N_and_E, is_one_piece, entity_text}
-use Rattle.cpp_press_laws.specs.Subtrees.{Written, HasRoom, IsSmall}
+use Rattle.cpp_press_laws.proofs.Basics.{◌≡◌, ℕ, ◌+◌, length, List, [], ◌++◌, Option, Bool, true, false, refl, arith, inl, inr, ◌⊎◌, sym, ◌∙◌, length-append, codes, ◌and◌, text, nothing, ENTITY, nil, within, Term, instance, tagged, Around, tree_of, is_function_type, inside, no_items, name_letters, Component, Spelling, ended, component, ways_of, no_ways, name_ways, in_N_and_E, is_one_piece, entity_text, Written, HasRoom, IsSmall, nowhere, Slot, any_type, bare_type, item_type, parameter_type, literal_type, Fitting, as_component, behind_bytes, Behind, Role, in_type, in_name_with, letters_of, IsWithoutLetters, fits_nowhere, encoding_fits, piece_fits, argument_fits, type_fits, fits_of, IsAbiRole}
 use Rattle.cpp_press_laws.proofs.ReadBack.Names.{SoFar, Extends}
 use Rattle.cpp_press_laws.proofs.Components.Keeping.{Keeps, keeps-text, keeps-and, keeps-front, keeps-behind, keeps-ended, choice, keeps, keeps_before}
 use Rattle.cpp_press_laws.proofs.ReadBack.Slots.{room-first, room-rest, ReadsAs, solid_kind, in-slot, fitting-in}
@@ -21,7 +10,6 @@ use Rattle.cpp_press_laws.proofs.EveryWay.Types.{Reading, ReadingAt}
 use Rattle.cpp_press_laws.proofs.Components.Encodings.{no-encoding}
 use Rattle.cpp_press_laws.proofs.EveryWay.Std.{entity-nested}
 use Rattle.cpp_press_laws.proofs.EveryWay.Names.{plain-name, no-letters, nested-room, name-by-letters, elements-behind}
-use Rattle.cpp_press_laws.specs.Fits.{nowhere, Slot, any_type, bare_type, item_type, parameter_type, literal_type, Fitting, as_component, behind_bytes, Behind, Role, in_type, in_name_with, letters_of, IsWithoutLetters, fits_nowhere, encoding_fits, piece_fits, argument_fits, type_fits, fits_of, IsAbiRole}
 use Rattle.cpp_press_laws.proofs.Slots.{each-slot}
 use Rattle.cpp_press_laws.proofs.Spots as spot
 use Rattle.cpp_press_laws.proofs.ReadBack.Arguments.{items_value}
@@ -95,7 +83,7 @@ instance-nested t a rt ra around allowed place cs small room h =
 
 -- ## As the entity of a local name
 
--- what is between N and E isn't one piece
+-- a name that fits between N and E isn't one piece, even with arguments
 pub not-one-piece : (t a : Term) (around : Around) (allowed : Option ℕ) (place : ℕ) (cs : List Component)
     → (fits_of t).between_template around allowed place cs → is_one_piece (instance t a) ≡ false
 unfolding fits_of is_one_piece encoding_fits piece_fits argument_fits type_fits fits_nowhere

@@ -1,18 +1,7 @@
--- Each tree that fits is read as what was pressed, and so is each symbol.
-use Rattle.std.proofs.Common.{◌≡◌, ℕ, ◌+◌, inl, length, List, [], ◌∷◌, ◌++◌, Option, Some, None, true, false, Ok, refl, ap, sym, subst, ◌∙◌, arith, length-append}
+-- The pressed spelling of each tree that fits is read as the tree, and that of each symbol as the symbol.
+use Rattle.cpp_press_laws.proofs.Basics.{◌≡◌, ℕ, ◌+◌, inl, length, List, [], ◌∷◌, ◌++◌, Option, Some, None, true, false, Ok, refl, ap, sym, subst, ◌∙◌, arith, length-append, ◌>>=◌, ◌and◌, text, SYMBOL, codes, Term, symbol, function, object, special, thunk, of_name, construction, clone, alone, in_std, within, instance, local, holder, tagged, of_default, abbreviation, parameter, source, operator, literal_operator, constructor, destructor, inheriting, lambda, generic_lambda, unnamed, string_literal, conversion, builtin, sized_float, constrained, vendor, pointer, lvalue, rvalue, array, bounded, member_pointer, function_type, qualified, vector, complex, decltype, expansion, integer, boolean, null_pointer, encoding_literal, address_of, operation, function_parameter, pack, nil, list, absent, enumeration, bindings, declaring, Around, nothing_there, tree, tree_of, text_of, first_around, first_state, first_tree, unfold_cpp, Component, components_of, ways_of, no_ways, piece_ways, pressed, AreReadAs, Written, written, ReadsAt, Is, HasRoom, IsSmall, begins_name, SymbolFits, fits_of}
 use Rattle.sym_shape.specs.declared.rule.Sym.TheVariants.{Kind as OfKind}
-use Rattle.sym_link.specs.Reading.{◌>>=◌}
-use Rattle.sym_spell.specs.Pressing.{◌and◌, text}
-use Rattle.cpp_grammar.specs.KindNumbers.{SYMBOL}
-use Rattle.std.specs.Prelude.{codes}
-use Rattle.cpp_grammar.specs.Term.{Term, symbol, function, object, special, thunk, of_name, construction, clone, alone, in_std, within, instance, local, holder, tagged, of_default, abbreviation, parameter, source, operator, literal_operator, constructor, destructor, inheriting, lambda, generic_lambda, unnamed, string_literal, conversion, builtin, sized_float, constrained, vendor, pointer, lvalue, rvalue, array, bounded, member_pointer, function_type, qualified, vector, complex, decltype, expansion, integer, boolean, null_pointer, encoding_literal, address_of, operation, function_parameter, pack, nil, list, absent, enumeration, bindings, declaring}
 use Rattle.cpp_grammar.specs.Values as value
-use Rattle.cpp_grammar.specs.Values.{Around, nothing_there, tree, tree_of, text_of}
-use Rattle.cpp_grammar.specs.Unfolding.{first_around, first_state, first_tree, unfold_cpp}
-use Rattle.cpp_press_laws.specs.Components.{Component, components_of}
-use Rattle.cpp_press_laws.specs.Pressing.{ways_of, no_ways, piece_ways, pressed}
-use Rattle.cpp_press_laws.specs.PressLaws.{AreReadAs}
-use Rattle.cpp_press_laws.specs.Subtrees.{Written, written, ReadsAt, Is, HasRoom, IsSmall}
 use Rattle.cpp_press_laws.proofs.ReadBack.Symbols.{symbol-reads, no-suffix, suffix-reads}
 use Rattle.cpp_press_laws.proofs.ReadBack.Named.{PieceReads}
 use Rattle.cpp_press_laws.proofs.EveryWay.Every.{reads-nowhere, reads-piece}
@@ -25,7 +14,6 @@ use Rattle.cpp_press_laws.proofs.EveryWay.Parts.{reads-source, reads-operator, r
 use Rattle.cpp_press_laws.proofs.EveryWay.Lists.{reads-nil, reads-list, reads-function-type}
 use Rattle.cpp_press_laws.proofs.EveryWay.Encodings.{CountsArguments, reads-local, reads-function, reads-object, reads-of-name, reads-special, reads-thunk}
 use Rattle.cpp_press_laws.proofs.PressLaw.{read-by-one}
-use Rattle.cpp_press_laws.specs.Fits.{begins_name, SymbolFits, fits_of}
 use Rattle.cpp_press_laws.proofs.Spots as spot
 
 string-piece : (around : Around) (allowed : Option ℕ) (place : ℕ) (cs : List Component)
@@ -116,7 +104,7 @@ first-small arguments is = absurd (none-first arguments is)
 first-room : (w : Written) (suffix : List ℕ) → HasRoom (written (95 ∷ 90 ∷ (w.bytes ++ suffix)) w.components) → HasRoom w
 first-room w suffix room = record { short = omega (arith, room.short, length-append w.bytes suffix); few = room.few }
 
--- the whole symbol
+-- a symbol that fits and has room is read as what was pressed
 symbol-fits : CountsArguments → (e : Term) (suffix : List ℕ) → SymbolFits (symbol e suffix)
     → HasRoom ((text (codes "_Z") and (ways_of 0 e).as_encoding and text suffix) 0 [])
     → ReadsAt first_around None (OfKind SYMBOL) (Is (tree (symbol e suffix) true)) 0 []
@@ -136,7 +124,7 @@ symbol-fits counts e (d ∷ b ∷ bs) fits room =
     ((reads counts e).at spot.as_encoding first_around None 2 [] first-small (first-room w (d ∷ b ∷ bs) room) fits.0)
     (suffix-reads first_around None b bs (2 + length w.bytes) w.components fits.1.1 fits.1.2 fits.1.3))
 
--- what is pressed of a symbol that fits is read as the symbol
+-- the pressed bytes of a symbol that fits are read as the symbol
 pub fitting-symbol : CountsArguments → (t : Term) → SymbolFits t → HasRoom ((ways_of 0 t).as_encoding 0 []) → AreReadAs (pressed t) t
 unfolding ways_of no_ways pressed unfold_cpp first_state first_tree tree_of components_of
 fitting-symbol counts (symbol e suffix) fits room =

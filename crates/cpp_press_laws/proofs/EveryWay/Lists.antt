@@ -1,21 +1,6 @@
 -- Lists, function types and local names are read in each of their ways.
-use Rattle.std.proofs.Common.{◌≡◌, ℕ, ◌+◌, length, List, [], ◌∷◌, ◌++◌, Option, Some, Bool, true, false, refl, ap, arith, sym, subst, append_assoc, length-append}
-use Rattle.std.specs.Prelude.{slice_get, cond, codes, ◌&&◌}
+use Rattle.cpp_press_laws.proofs.Basics.{◌≡◌, ℕ, ◌+◌, length, List, [], ◌∷◌, ◌++◌, Option, Some, Bool, true, false, refl, ap, arith, sym, subst, append_assoc, length-append, slice_get, cond, codes, ◌&&◌, ◌and◌, text, Kind, Production, TYPE, PLAIN, ITEM, AFTER_D, SOLID, ITEMS, ARGUMENT_LIST, PACK_LIST, kinds, may_be_empty, RefQualifier, Term, builtin, function_type, nil, list, instance, Around, nothing_there, tree, is_function_type, no_items, is_void, is_nil, parameters, mark_letter, Component, Spelling, component, ways_of, no_ways, type_ways, function_text, Written, written, ReadsAt, Is, HasRoom, IsSmall, takes_all, Slot, any_type, bare_type, item_type, parameter_type, literal_type, Fitting, as_component, nowhere, Behind, IsAbiMark, type_fits, fits_nowhere, fits_of}
 use Rattle.sym_shape.specs.declared.rule.Sym.TheVariants.{Kind as OfKind}
-use Rattle.sym_spell.specs.Pressing.{◌and◌, text}
-use Rattle.cpp_grammar.specs.declared.kind.Kind.{Kind}
-use Rattle.cpp_grammar.specs.declared.production.Production.{Production}
-use Rattle.cpp_grammar.specs.KindNumbers.{TYPE, PLAIN, ITEM, AFTER_D, SOLID, ITEMS, ARGUMENT_LIST, PACK_LIST}
-use Rattle.cpp_grammar.specs.Grammar.{kinds, may_be_empty}
-use Rattle.cpp_grammar.specs.Term.{RefQualifier, Term, builtin, function_type, nil, list, instance}
-use Rattle.cpp_grammar.specs.Values.{Around, nothing_there, tree}
-use Rattle.cpp_grammar.specs.References.{is_function_type}
-use Rattle.cpp_grammar.specs.Between.{no_items}
-use Rattle.cpp_grammar.specs.Meaning.{is_void, is_nil, parameters}
-use Rattle.cpp_press_laws.specs.Texts.{mark_letter}
-use Rattle.cpp_press_laws.specs.Components.{Component, Spelling, component}
-use Rattle.cpp_press_laws.specs.Pressing.{ways_of, no_ways, type_ways, function_text}
-use Rattle.cpp_press_laws.specs.Subtrees.{Written, written, ReadsAt, Is, HasRoom, IsSmall}
 use Rattle.cpp_press_laws.proofs.ReadBack.Reading.{takes-byte, empty-reads, elsewhere, more, grammar}
 use Rattle.cpp_press_laws.proofs.ReadBack.Types.{function-under-qualifiers, noexcept-under-qualifiers, types-parameter}
 use Rattle.cpp_press_laws.proofs.ReadBack.Solids.{builtin-solid}
@@ -28,12 +13,11 @@ use Rattle.cpp_press_laws.proofs.ReadBack.Between.{ExtendsWith, extends-with-beh
 use Rattle.cpp_press_laws.proofs.EveryWay.Every.{template-value, ListReads, with_end, Leads, slot_way, typed-argument, referred-before, reads-nowhere, ParametersRead}
 use Rattle.cpp_press_laws.proofs.EveryWay.Types.{Reading, ReadingAt, solid-in-all, with-d-in}
 use Rattle.cpp_press_laws.proofs.EveryWay.Instances.{items-kept}
-use Rattle.cpp_press_laws.specs.Fits.{takes_all, Slot, any_type, bare_type, item_type, parameter_type, literal_type, takes_all, Fitting, as_component, nowhere, Behind, IsAbiMark, type_fits, fits_nowhere, fits_of}
 use Rattle.cpp_press_laws.proofs.Spots as spot
 
 -- ## Lists
 
--- no parameters are spelled as a void
+-- an empty list of parameters is spelled as a void
 void-item : (around : Around) (allowed : Option ℕ) (place : ℕ) (cs : List Component)
     → ReadsAt around allowed (OfKind ITEM) (Is (tree (builtin (118 ∷ [])) true)) place cs (written (118 ∷ []) cs)
 unfolding grammar is_function_type
@@ -45,7 +29,7 @@ empty-list : (k : ℕ) (kind : Kind) (around : Around) (allowed : Option ℕ) (p
     → may_be_empty kind ≡ true → ListReads k around allowed nil place cs (written [] cs)
 empty-list k kind around allowed place cs at may = (items-kept nil, empty-reads kind at may)
 
--- no parameters of a function type
+-- an empty list of parameters of a function type
 none-read : (around : Around) (allowed : Option ℕ) (ref : RefQualifier) → IsAbiMark ref → (place : ℕ) (cs : List Component)
     → RestReads around allowed (list (builtin (118 ∷ [])) nil) ref place cs (written (118 ∷ (mark_letter ref ++ codes "E")) cs)
 unfolding grammar ways_of type_ways
@@ -88,7 +72,7 @@ reads-nil = record {
     each spot.as_elements = λ in_pack around allowed place cs small room h. none in_pack around allowed place cs
     each w = (reads-nowhere nil (λ n. ways_of n nil)).at w
 
--- parameters that aren't a lone void are those
+-- parameters that aren't a lone void are kept as they are
 kept-parameters : (first rest : Term) → is_void first && is_nil rest ≡ false → parameters (list first rest) ≡ list first rest
 unfolding parameters
 kept-parameters first rest h = go (is_void first && is_nil rest) h
@@ -221,7 +205,7 @@ function-parts c_linkage noexcept ref a ps ra rp around allowed place cs small r
           (subst (λ q. (fits_of ps).as_parameters parameter_type around allowed q one.components) (omega (arith, length-append front one.bytes)) h.1),
     )
 
--- what is read after no byte, or after the D of a noexcept
+-- a function type that is read after the D of a noexcept, or after no byte
 abbrev FunctionReads : (noexcept : Bool) → Around → Option ℕ → Term → ℕ → List Component → Written → Type 0
 FunctionReads false around allowed t place cs w = ReadsAt around allowed (OfKind SOLID) (Is (tree t false)) place cs w
 FunctionReads true around allowed t place cs w =

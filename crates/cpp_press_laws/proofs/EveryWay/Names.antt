@@ -1,21 +1,6 @@
 -- Names of a piece, alone and after St, are read in each of their ways.
-use Rattle.std.proofs.Common.{◌≡◌, ℕ, ◌+◌, length, List, [], ◌∷◌, ◌++◌, Option, Bool, true, false, refl, ap, arith, sym, subst, ◌∙◌, append_assoc, length-append}
-use Rattle.std.specs.Prelude.{cond, codes}
+use Rattle.cpp_press_laws.proofs.Basics.{◌≡◌, ℕ, ◌+◌, length, List, [], ◌∷◌, ◌++◌, Option, Bool, true, false, refl, ap, arith, sym, subst, ◌∙◌, append_assoc, length-append, cond, codes, TakesRule, ◌and◌, text, Kind, Production, COMPLETE_NAME, ARGUMENT_LIST, abi, rule_of, Qualifiers, RefQualifier, any_value, lvalue_only, rvalue_only, explicit_object, Term, alone, instance, outermost, Around, Value, tree, named, tree_of, qualifiers_of, ref_of, unqualified, is_function_type, extended, inside, qualifier_letters, mark_letter, name_letters, Component, Spelling, ended, component, ways_of, no_ways, name_ways, with_letters, in_N_and_E, template_before, Written, written, ReadsAt, Is, HasRoom, Slot, any_type, bare_type, item_type, parameter_type, literal_type, Fitting, as_component, one_piece, names_type, names_function, begins_name, IsAbiMark, IsWithoutLetters, by_letters, fits_nowhere, fits_of}
 use Rattle.sym_shape.specs.declared.rule.Sym.TheVariants.{Kind as OfKind}
-use Rattle.sym_shape.specs.Tree.{TakesRule}
-use Rattle.sym_spell.specs.Pressing.{◌and◌, text}
-use Rattle.cpp_grammar.specs.declared.kind.Kind.{Kind}
-use Rattle.cpp_grammar.specs.declared.production.Production.{Production}
-use Rattle.cpp_grammar.specs.KindNumbers.{COMPLETE_NAME, ARGUMENT_LIST}
-use Rattle.cpp_grammar.specs.Table.{abi, rule_of}
-use Rattle.cpp_grammar.specs.Term.{Qualifiers, RefQualifier, any_value, lvalue_only, rvalue_only, explicit_object, Term, alone, instance}
-use Rattle.cpp_grammar.specs.Values.{outermost, Around, Value, tree, named, tree_of, qualifiers_of, ref_of, unqualified}
-use Rattle.cpp_grammar.specs.References.{is_function_type}
-use Rattle.cpp_grammar.specs.Between.{extended, inside}
-use Rattle.cpp_press_laws.specs.Texts.{qualifier_letters, mark_letter, name_letters}
-use Rattle.cpp_press_laws.specs.Components.{Component, Spelling, ended, component}
-use Rattle.cpp_press_laws.specs.Pressing.{ways_of, no_ways, name_ways, with_letters, in_N_and_E, template_before}
-use Rattle.cpp_press_laws.specs.Subtrees.{Written, written, ReadsAt, Is, HasRoom}
 use Rattle.cpp_press_laws.proofs.ReadBack.Reading.{takes-byte, more, elsewhere, grammar, same-written}
 use Rattle.cpp_press_laws.proofs.ReadBack.Functions.{mark_bytes}
 use Rattle.cpp_press_laws.proofs.ReadBack.Names.{SoFar, Extends, nest-whole}
@@ -27,7 +12,6 @@ use Rattle.cpp_press_laws.proofs.ReadBack.Between.{ElementsRead, named-piece, Ex
 use Rattle.cpp_press_laws.proofs.ReadBack.Templates.{slot-rules, TemplateKind, of_elements, ReadElements, elements-room, template-reads}
 use Rattle.cpp_press_laws.proofs.EveryWay.Every.{NameReads, TemplateReads, template-value, Leads, typed-argument, reads-nowhere}
 use Rattle.cpp_press_laws.proofs.EveryWay.Types.{Reading, ReadingAt}
-use Rattle.cpp_press_laws.specs.Fits.{Slot, any_type, bare_type, item_type, parameter_type, literal_type, Fitting, as_component, one_piece, names_type, names_function, begins_name, IsAbiMark, IsWithoutLetters, by_letters, fits_nowhere, fits_of}
 use Rattle.cpp_press_laws.proofs.Slots.{each-slot}
 use Rattle.cpp_press_laws.proofs.Spots as spot
 
@@ -90,7 +74,7 @@ plain-name k around allowed t q ref place cs w none one =
     let same = without-letters q ref none in
     record { value = tree t false; tree_is = refl; qualifiers_are = same.0; ref_is = same.1; reads = one }
 
--- a name without qualifiers is a name with none
+-- a name that is read without qualifiers and mark is read with any qualifiers and mark that have no letters
 pub no-qualifiers : (k : ℕ) (around : Around) (allowed : Option ℕ) (t : Term) (q : Qualifiers) (ref : RefQualifier) (place : ℕ)
     (cs : List Component)
     (w : Written) → name_letters q ref ≡ [] → NameReads around allowed k t unqualified any_value place cs w
@@ -109,7 +93,7 @@ takes-nested-name : TakesRule abi 8 (rule_of Production.NestedName) (78 ∷ [])
 unfolding grammar
 takes-nested-name = takes-byte COMPLETE_NAME Kind.CompleteName Production.NestedName 78 refl refl (omega arith) refl
 
--- the room of a name after letters
+-- a name has room after letters, if the whole between N and E has room
 pub nested-room : (letters : List ℕ) (name : Spelling) (place : ℕ) (cs : List Component) → HasRoom (in_N_and_E letters name place cs)
     → HasRoom (name (place + length (codes "N" ++ letters)) cs)
 unfolding in_N_and_E

@@ -1,22 +1,6 @@
 -- Letters, parameters, function types, arguments and lists are read in each of their ways.
-use Rattle.std.proofs.Common.{◌≡◌, ℕ, ◌+◌, ◌-◌, ◌<◌, length, List, [], ◌∷◌, ◌++◌, Option, Some, None, Bool, true, false, refl, ap, arith, sym, subst, append_assoc, length-append}
-use Rattle.std.proofs.lemmas.Bool.{ltb-true}
-use Rattle.std.specs.Prelude.{codes}
+use Rattle.cpp_press_laws.proofs.Basics.{◌≡◌, ℕ, ◌+◌, ◌-◌, ◌<◌, length, List, [], ◌∷◌, ◌++◌, Option, Some, None, Bool, true, false, refl, ap, arith, sym, subst, append_assoc, length-append, ltb-true, codes, ◌and◌, text, Kind, Production, SOLID, LITERAL, LITERAL_TYPE, ARGUMENT, choose, kinds, is_chain, Signed, Term, abbreviation, parameter, source, operator, literal_operator, constructor, destructor, lambda, unnamed, builtin, integer, boolean, null_pointer, encoding_literal, address_of, pack, instance, count, Around, tree, is_function_type, in_signature, ordinal, signed_text, Component, Spelling, component, ways_of, no_ways, type_ways, piece_ways, argument_ways, Written, written, ReadsAt, Is, HasRoom, IsSmall, Slot, any_type, bare_type, item_type, parameter_type, literal_type, takes_all, IsBuiltin, IsAbbreviation, NamesArgument, Fitting, as_component, nowhere, type_fits, fits_nowhere, fits_of}
 use Rattle.sym_shape.specs.declared.rule.Sym.TheVariants.{Kind as OfKind}
-use Rattle.sym_spell.specs.Pressing.{◌and◌, text}
-use Rattle.cpp_grammar.specs.declared.kind.Kind.{Kind}
-use Rattle.cpp_grammar.specs.declared.production.Production.{Production}
-use Rattle.cpp_grammar.specs.KindNumbers.{SOLID, LITERAL, LITERAL_TYPE, ARGUMENT}
-use Rattle.cpp_grammar.specs.Grammar.{choose, kinds, is_chain}
-use Rattle.cpp_grammar.specs.Term.{Signed, Term, abbreviation, parameter, source, operator, literal_operator, constructor, destructor, lambda, unnamed, builtin, integer, boolean, null_pointer, encoding_literal, address_of, pack, instance}
-use Rattle.cpp_grammar.specs.Scope.{count}
-use Rattle.cpp_grammar.specs.Values.{Around, tree}
-use Rattle.cpp_grammar.specs.References.{is_function_type}
-use Rattle.cpp_grammar.specs.Between.{in_signature}
-use Rattle.cpp_press_laws.specs.Texts.{ordinal, signed_text}
-use Rattle.cpp_press_laws.specs.Components.{Component, Spelling, component}
-use Rattle.cpp_press_laws.specs.Pressing.{ways_of, no_ways, type_ways, piece_ways, argument_ways}
-use Rattle.cpp_press_laws.specs.Subtrees.{Written, written, ReadsAt, Is, HasRoom, IsSmall}
 use Rattle.cpp_press_laws.proofs.ReadBack.Reading.{takes-byte, elsewhere, same-written, more}
 use Rattle.cpp_press_laws.proofs.ReadBack.Solids.{builtin-solid, builtin-behind-d}
 use Rattle.cpp_press_laws.proofs.ReadBack.Functions.{IsInScope, parameter-solid}
@@ -31,7 +15,6 @@ use Rattle.cpp_press_laws.proofs.ReadBack.Between.{ExtendsWith, extends-with-beh
 use Rattle.cpp_press_laws.proofs.ReadBack.Templates.{slot-rules, TemplateKind, InstancedAt, instanced-behind-s, parameter-instanced, of_elements, elements-room}
 use Rattle.cpp_press_laws.proofs.EveryWay.Every.{template-value, ArgumentReads, Leads, typed-argument, reads-piece, reads-argument, reads-nowhere}
 use Rattle.cpp_press_laws.proofs.EveryWay.Types.{Reading, ReadingAt, with-d-in}
-use Rattle.cpp_press_laws.specs.Fits.{Slot, any_type, bare_type, item_type, parameter_type, literal_type, takes_all, IsBuiltin, IsAbbreviation, NamesArgument, Fitting, as_component, nowhere, type_fits, fits_nowhere, fits_of}
 use Rattle.cpp_press_laws.proofs.Slots.{each-slot}
 use Rattle.cpp_press_laws.proofs.Spots as spot
 
@@ -68,7 +51,7 @@ pub reads-unnamed : (k : ℕ) → Reading (unnamed k)
 unfolding ways_of fits_of piece_ways no_ways
 reads-unnamed k = reads-piece (unnamed k) _ _ (λ around allowed place cs small room h. unnamed-piece-reads around allowed k place cs h)
 
--- in the signature of a lambda nothing is named
+-- the signature of a lambda has no scope
 signature-small : (around : Around) → IsSmall (in_signature around)
 unfolding in_signature
 signature-small around arguments is = absurd (let e : ◌≡◌ {A = Option Term} None (Some arguments) = is in cc)

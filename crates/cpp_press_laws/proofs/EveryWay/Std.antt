@@ -1,19 +1,6 @@
 -- Names of a piece after St are read in each of their ways.
-use Rattle.std.proofs.Common.{◌≡◌, ℕ, ◌+◌, length, List, [], ◌∷◌, ◌++◌, Option, Bool, true, false, refl, arith, sym, subst, length-append}
-use Rattle.std.specs.Prelude.{codes, ◌&&◌}
+use Rattle.cpp_press_laws.proofs.Basics.{◌≡◌, ℕ, ◌+◌, length, List, [], ◌∷◌, ◌++◌, Option, Bool, true, false, refl, arith, sym, subst, length-append, codes, ◌&&◌, ◌and◌, text, Kind, Production, COMPLETE_NAME, ENTITY, TYPE_ENTITY, SOURCE_OR_LOCAL, any_value, Term, in_std, instance, operator, literal_operator, source, lambda, unnamed, Around, Value, tree, unqualified, is_function_type, no_items, qualifier_letters, mark_letter, name_letters, Component, Spelling, ended, component, ways_of, no_ways, name_ways, in_N_and_E, template_before, is_operator, is_one_piece, entity_text, Written, written, ReadsAt, Is, HasRoom, IsSmall, Slot, any_type, bare_type, item_type, parameter_type, literal_type, Fitting, as_component, behind_bytes, Behind, names_function, begins_name, Role, in_type, in_name_with, letters_of, fits_nowhere, fits_of, IsAbiRole}
 use Rattle.sym_shape.specs.declared.rule.Sym.TheVariants.{Kind as OfKind}
-use Rattle.sym_spell.specs.Pressing.{◌and◌, text}
-use Rattle.cpp_grammar.specs.declared.kind.Kind.{Kind}
-use Rattle.cpp_grammar.specs.declared.production.Production.{Production}
-use Rattle.cpp_grammar.specs.KindNumbers.{COMPLETE_NAME, ENTITY, TYPE_ENTITY, SOURCE_OR_LOCAL}
-use Rattle.cpp_grammar.specs.Term.{any_value, Term, in_std, instance, operator, literal_operator, source, lambda, unnamed}
-use Rattle.cpp_grammar.specs.Values.{Around, Value, tree, unqualified}
-use Rattle.cpp_grammar.specs.References.{is_function_type}
-use Rattle.cpp_grammar.specs.Between.{no_items}
-use Rattle.cpp_press_laws.specs.Texts.{qualifier_letters, mark_letter, name_letters}
-use Rattle.cpp_press_laws.specs.Components.{Component, Spelling, ended, component}
-use Rattle.cpp_press_laws.specs.Pressing.{ways_of, no_ways, name_ways, in_N_and_E, template_before, is_operator, is_one_piece, entity_text}
-use Rattle.cpp_press_laws.specs.Subtrees.{Written, written, ReadsAt, Is, HasRoom, IsSmall}
 use Rattle.cpp_press_laws.proofs.ReadBack.Reading.{takes-byte, more, grammar}
 use Rattle.cpp_press_laws.proofs.ReadBack.Names.{SoFar, Extends}
 use Rattle.cpp_press_laws.proofs.Components.Keeping.{Keeps, keeps-and, keeps-front, keeps-ended, keeps-choice, keeps-N-and-E, choice, keeps}
@@ -24,7 +11,6 @@ use Rattle.cpp_press_laws.proofs.ReadBack.Templates.{TypeRules, slot-rules, Temp
 use Rattle.cpp_press_laws.proofs.EveryWay.Every.{NameReads, TemplateReads, template-value, EntityReads, Leads, typed-argument, reads-nowhere}
 use Rattle.cpp_press_laws.proofs.EveryWay.Types.{Reading, ReadingAt}
 use Rattle.cpp_press_laws.proofs.EveryWay.Names.{letters-nested, nested-room, name-by-letters, elements-behind}
-use Rattle.cpp_press_laws.specs.Fits.{Slot, any_type, bare_type, item_type, parameter_type, literal_type, Fitting, as_component, behind_bytes, Behind, names_function, begins_name, Role, in_type, in_name_with, letters_of, fits_nowhere, fits_of, IsAbiRole}
 use Rattle.cpp_press_laws.proofs.Slots.{each-slot}
 use Rattle.cpp_press_laws.proofs.Spots as spot
 
@@ -78,7 +64,7 @@ std_spelling n p = text (codes "St") and (ways_of n p).as_piece
 abbrev pub std_fits : Term → Fitting
 std_fits p around allowed place cs = (names_function p ≡ true) × (fits_of p).as_piece around allowed (place + 2) cs
 
--- a name that a type needs an N for, or not
+-- the N that a type needs for a name, or nothing
 abbrev pub maybe_N : Bool → List ℕ
 maybe_N b = elim b as (λ _. List ℕ) [ true ↦ codes "N" | false ↦ [] ]
 

@@ -1,23 +1,6 @@
 -- Types are read in each of their ways.
-use Rattle.std.proofs.Common.{◌≡◌, ℕ, ◌+◌, length, List, [], ◌∷◌, ◌++◌, Option, Bool, true, false, refl, ap, arith, sym, subst, append_assoc, length-append, None, Some, ◌∙◌}
-use Rattle.std.specs.Prelude.{codes, ◌&&◌, ◌||◌, slice_get}
+use Rattle.cpp_press_laws.proofs.Basics.{◌≡◌, ℕ, ◌+◌, length, List, [], ◌∷◌, ◌++◌, Option, Bool, true, false, refl, ap, arith, sym, subst, append_assoc, length-append, None, Some, ◌∙◌, codes, ◌&&◌, ◌||◌, slice_get, TakesRule, ◌and◌, text, Kind, Production, TYPE, PLAIN, ITEM, ITEM_BUT_REF, ITEM_AFTER_D, AFTER_D, SOLID, choose, kinds, is_chain, abi, rule_of, Qualifiers, Term, instance, tagged, vendor, pointer, lvalue, rvalue, array, member_pointer, qualified, vector, complex, expansion, Around, tree, is_function_type, under_expansion, without_tags, Component, Spelling, first_equal, reference as numbered, ended, referred, spelled_out, component, counted, qualifier_letters, in_N_and_E, is_nested, name_ways, no_ways, template_before, type_ways, ways_of, Written, written, ReadsAt, Is, HasRoom, Slot, any_type, bare_type, item_type, parameter_type, literal_type, takes_all, takes_qualified, takes_expansions, has_letters, fits_nowhere, fits_of, nowhere, type_fits, and-true}
 use Rattle.sym_shape.specs.declared.rule.Sym.TheVariants.{Kind as OfKind}
-use Rattle.sym_shape.specs.Tree.{TakesRule}
-use Rattle.sym_spell.specs.Pressing.{◌and◌, text}
-use Rattle.cpp_grammar.specs.declared.kind.Kind.{Kind}
-use Rattle.cpp_grammar.specs.declared.production.Production.{Production}
-use Rattle.cpp_grammar.specs.KindNumbers.{TYPE, PLAIN, ITEM, ITEM_BUT_REF, ITEM_AFTER_D, AFTER_D, SOLID}
-use Rattle.cpp_grammar.specs.Grammar.{choose, kinds, is_chain}
-use Rattle.cpp_grammar.specs.Table.{abi, rule_of}
-use Rattle.cpp_grammar.specs.Term.{Qualifiers, Term, instance, tagged, vendor, pointer, lvalue, rvalue, array, member_pointer, qualified, vector, complex, expansion}
-use Rattle.cpp_grammar.specs.Values.{Around, tree}
-use Rattle.cpp_grammar.specs.References.{is_function_type}
-use Rattle.cpp_grammar.specs.Between.{under_expansion}
-use Rattle.cpp_grammar.specs.Scope.{without_tags}
-use Rattle.cpp_press_laws.specs.Components.{Component, Spelling, first_equal, reference as numbered, ended, referred, spelled_out, component}
-use Rattle.cpp_press_laws.specs.Texts.{counted, qualifier_letters}
-use Rattle.cpp_press_laws.specs.Pressing.{in_N_and_E, is_nested, name_ways, no_ways, template_before, type_ways, ways_of}
-use Rattle.cpp_press_laws.specs.Subtrees.{Written, written, ReadsAt, Is, HasRoom}
 use Rattle.cpp_press_laws.proofs.ReadBack.Reading.{takes-byte, elsewhere, grammar, more, same-written}
 use Rattle.cpp_press_laws.proofs.ReadBack.Types.{types-any, types-bare, types-item, types-parameter, item-with-d}
 use Rattle.cpp_press_laws.proofs.ReadBack.Solids.{vendor-solid, pointer-solid, complex-solid, member-pointer-solid, array-solid, reference, reference-reads, reference_letter}
@@ -27,17 +10,15 @@ use Rattle.cpp_press_laws.proofs.Components.Keeping.{Keeps, keeps-text, keeps-an
 use Rattle.cpp_press_laws.proofs.ReadBack.Slots.{room-first, room-rest, ReadsAs, solid_kind, is_bare, in-rest, in-slot}
 use Rattle.cpp_press_laws.proofs.ReadBack.Templates.{slot-rules, of_elements}
 use Rattle.cpp_press_laws.proofs.EveryWay.Every.{TemplateReads, template-value, ReadsSpots, ReadsAll, reads-nowhere, referred-before, reads-type}
-use Rattle.cpp_press_laws.specs.Fits.{Slot, any_type, bare_type, item_type, parameter_type, literal_type, takes_all, takes_qualified, takes_expansions, has_letters, fits_nowhere, fits_of, nowhere, type_fits}
 use Rattle.cpp_press_laws.proofs.Slots.{each-slot}
 use Rattle.cpp_press_laws.proofs.Spots as spot
-use Rattle.std.proofs.Math.Bool.{and-true}
 
--- ## What all slots but that of literals take
+-- ## Types in all slots but that of literals
 
 no-slot : false ≡ true → ⊥
 no-slot h = cc
 
--- a solid type
+-- a solid type, which is a type with a letter of its own or a name
 pub solid-in-all : (slot : Slot) (around : Around) (allowed : Option ℕ) (t : Term) (place : ℕ) (cs : List Component) (w : Written)
     → takes_all slot ≡ true → is_function_type t && is_bare slot ≡ false
     → ReadsAt around allowed (OfKind SOLID) (Is (tree t false)) place cs w
@@ -83,7 +64,7 @@ unfolding is_chain
 takes-reference true k kind at lvalues rvalues = takes-byte k kind Production.ReferenceType 82 at lvalues (omega arith) refl
 takes-reference false k kind at lvalues rvalues = takes-byte k kind Production.ReferenceType 79 at rvalues (omega arith) refl
 
--- references; as a parameter of a function type each becomes a component before those after it
+-- a reference type; as a parameter of a function type, it becomes a component before the parameters after it are read
 reference-in : (r : Bool) (slot : Slot) (around : Around) (allowed : Option ℕ) (t : Term) (place : ℕ) (cs : List Component) (w : Written)
     → takes_all slot ≡ true
     → ReadsAt around allowed (OfKind TYPE) (Is (tree t true)) (place + 1) cs w
@@ -119,7 +100,7 @@ qualified-rules k kind at r v c = record {
 abbrev letters_for : (restrict volatile const : Bool) → List ℕ
 letters_for restrict volatile const = qualifier_letters (record { restrict = restrict; volatile = volatile; const = const })
 
--- what is read right under the letters
+-- a type that is read right under the letters of qualifiers
 qualified-at : (k : ℕ) (around : Around) (allowed : Option ℕ) (restrict volatile const : Bool) (t : Term) (place : ℕ) (cs : List Component)
     (w : Written) → QualifiedRules k → restrict || volatile || const ≡ true
     → ReadsAt around allowed (OfKind PLAIN) (Is (tree t true)) (place + length (letters_for restrict volatile const)) cs w
@@ -170,7 +151,7 @@ reads-vendor name =
     solid-in-all slot around allowed (vendor name) place cs (written (117 ∷ counted name) cs) h.0 refl
     (vendor-solid around allowed name place cs h.1))
 
--- before its arguments a name that comes before is a reference
+-- before its arguments, a name with an equal component before it is a reference
 found-before : (n : ℕ) (own : Term) (needs_N : Bool) (between spelling arguments : Spelling) (place : ℕ) (cs : List Component)
     → (first_equal n own 0 cs ≡ None → ⊥)
     → template_before n own needs_N between arguments place cs ≡ (component n own spelling and arguments) place cs
@@ -189,7 +170,7 @@ found-before n own needs_N between spelling arguments place cs never = go (first
     go (Some number) is = refl
     go None is = absurd (never is)
 
--- a name with a tag is referred to alone
+-- a name with a tag can only be a reference
 pub reads-tagged : (of_structor : Bool) (name : Term) (tag : List ℕ) → Reading name → Reading (tagged of_structor name tag)
 unfolding ways_of fits_of type_fits fits_nowhere name_ways type_ways no_ways is_function_type
 reads-tagged of_structor name tag r = record {

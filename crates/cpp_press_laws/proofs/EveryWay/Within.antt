@@ -1,19 +1,6 @@
 -- Names of a prefix and a piece are read in each of their ways.
-use Rattle.std.proofs.Common.{◌≡◌, ℕ, ◌+◌, length, List, [], ◌∷◌, ◌++◌, Option, Bool, true, false, refl, ap, arith, inl, inr, ◌⊎◌, sym, subst, ◌∙◌, length-append}
-use Rattle.std.specs.Prelude.{codes}
-use Rattle.sym_spell.specs.Pressing.{◌and◌, text}
-use Rattle.cpp_grammar.specs.declared.kind.Kind.{Kind}
-use Rattle.cpp_grammar.specs.declared.production.Production.{Production}
-use Rattle.cpp_grammar.specs.KindNumbers.{COMPLETE_NAME, ENTITY, TYPE_ENTITY}
-use Rattle.cpp_grammar.specs.Term.{Qualifiers, within, string_literal, RefQualifier, any_value, Term, instance, lambda}
-use Rattle.cpp_grammar.specs.Values.{behind, Around, tree, tree_of, qualifiers_of, ref_of, unqualified, Prefix, Showing}
-use Rattle.cpp_grammar.specs.References.{is_function_type}
-use Rattle.cpp_grammar.specs.Between.{after, extended, in_signature}
+use Rattle.cpp_press_laws.proofs.Basics.{◌≡◌, ℕ, ◌+◌, length, List, [], ◌∷◌, ◌++◌, Option, Bool, true, false, refl, ap, arith, inl, inr, ◌⊎◌, sym, subst, ◌∙◌, length-append, codes, ◌and◌, text, Kind, Production, COMPLETE_NAME, ENTITY, TYPE_ENTITY, Qualifiers, within, string_literal, RefQualifier, any_value, Term, instance, lambda, behind, Around, tree, tree_of, qualifiers_of, ref_of, unqualified, Prefix, Showing, is_function_type, after, extended, in_signature, name_letters, Component, Spelling, ended, component, ways_of, no_ways, name_ways, with_letters, in_N_and_E, template_before, piece_ways, is_encoding, is_one_piece, entity_text, Written, written, HasRoom, IsSmall, names_member, names_entity, names_in, Slot, any_type, bare_type, item_type, parameter_type, literal_type, Fitting, as_component, behind_bytes, one_piece, Behind, begins_name, Role, in_type, in_name_with, letters_of, IsWithoutLetters, fits_nowhere, fits_of, IsAbiRole, IsAbiMark, type_fits, piece_fits, argument_fits, encoding_fits}
 use Rattle.cpp_press_laws.proofs.Components.Encodings.{scope-first, no-encoding}
-use Rattle.cpp_press_laws.specs.Texts.{name_letters}
-use Rattle.cpp_press_laws.specs.Components.{Component, Spelling, ended, component}
-use Rattle.cpp_press_laws.specs.Pressing.{ways_of, no_ways, name_ways, with_letters, in_N_and_E, template_before, piece_ways, is_encoding, is_one_piece, entity_text}
-use Rattle.cpp_press_laws.specs.Subtrees.{Written, written, HasRoom, IsSmall}
 use Rattle.cpp_press_laws.proofs.ReadBack.Reading.{takes-byte, more, grammar}
 use Rattle.cpp_press_laws.proofs.ReadBack.Names.{SoFar, Extends}
 use Rattle.cpp_press_laws.proofs.Components.Keeping.{Keeps, keeps-and, keeps-ended, keeps-N-and-E, choice, keeps}
@@ -25,7 +12,6 @@ use Rattle.cpp_press_laws.proofs.EveryWay.Every.{NameReads, TemplateReads, templ
 use Rattle.cpp_press_laws.proofs.EveryWay.Types.{Reading, ReadingAt}
 use Rattle.cpp_press_laws.proofs.EveryWay.Std.{entity-nested, template-nested}
 use Rattle.cpp_press_laws.proofs.EveryWay.Names.{letters-nested, no-qualifiers, no-letters, nested-room, elements-behind}
-use Rattle.cpp_press_laws.specs.Fits.{names_member, names_entity, names_in, Slot, any_type, bare_type, item_type, parameter_type, literal_type, Fitting, as_component, behind_bytes, one_piece, Behind, begins_name, Role, in_type, in_name_with, letters_of, IsWithoutLetters, fits_nowhere, fits_of, IsAbiRole, IsAbiMark, type_fits, piece_fits, argument_fits, encoding_fits}
 use Rattle.cpp_press_laws.proofs.Slots.{each-slot}
 use Rattle.cpp_press_laws.proofs.Spots as spot
 use Rattle.cpp_press_laws.proofs.ReadBack.Symbols.{string-literal-reads}
@@ -83,7 +69,7 @@ abbrev pub local_fits : (x p : Term) → (may : Bool) → Fitting
 local_fits x p may around allowed place cs = (is_encoding x ≡ true)
     × one_piece (behind x true) may (fits_of p).as_piece around allowed place cs
 
--- the piece itself
+-- a piece in the scope of an encoding is read as a piece
 local-piece : (x p : Term) (may : Bool) → Reading p → (around : Around) (allowed : Option ℕ) (place : ℕ) (cs : List Component)
     → IsSmall around
     → HasRoom (joined_spelling around.encoding x p place cs) → local_fits x p may around allowed place cs
@@ -92,7 +78,7 @@ local-piece x p may rp around allowed place cs small room h =
     (rp.at spot.as_piece) around allowed place cs small
     (subst HasRoom (scope-first x around.encoding (ways_of around.encoding p).as_piece place cs h.0) room) h.1.2
 
--- the name at a kind of entities
+-- the name of one piece, for a kind that reads entities
 local-named : (x p : Term) (may : Bool) → Reading p → (k : ℕ) → NameRule k p → (around : Around) (allowed : Option ℕ) (place : ℕ)
     (cs : List Component) → IsSmall around
     → HasRoom (joined_spelling around.encoding x p place cs) → local_fits x p may around allowed place cs

@@ -1,20 +1,10 @@
 -- An encoding that was read fits where it is: its parts fit in surroundings of their own, and no tree with free
--- parameters in it is named outside.
-use Rattle.std.proofs.Common.{◌≡◌, ℕ, ◌<◌, ◌⊎◌, inl, inr, List, [], ◌∷◌, ◌++◌, Option, Some, None, Bool, true, false, refl, sym, subst, arith}
-use Rattle.std.specs.Prelude.{◌||◌}
-use Rattle.std.proofs.lemmas.Bool.{true≢false}
-use Rattle.cpp_grammar.specs.Term.{Term, symbol, abbreviation, builtin, function_type, nil, list}
-use Rattle.cpp_grammar.specs.Scope.{is_open, arguments_of}
-use Rattle.cpp_grammar.specs.Values.{Candidate, State, Around}
-use Rattle.cpp_grammar.specs.References.{packs_in}
-use Rattle.cpp_grammar.specs.Between.{in_name, in_types}
-use Rattle.cpp_press_laws.specs.Components.{Component, Spelling}
-use Rattle.cpp_press_laws.specs.Pressing.{ways_of}
+-- parameters that was made in the encoding is named outside it.
+use Rattle.cpp_press_laws.proofs.Basics.{◌≡◌, ℕ, ◌<◌, ◌⊎◌, inl, inr, List, [], ◌∷◌, ◌++◌, Option, Some, None, Bool, true, false, refl, sym, subst, arith, ◌||◌, true≢false, Term, symbol, abbreviation, builtin, function_type, nil, list, is_open, arguments_of, Candidate, State, Around, packs_in, in_name, in_types, Component, Spelling, ways_of, Fitting, Slot, any_type, parameter_type, fits_of}
 use Rattle.cpp_press_laws.proofs.Components.Parts.{Has, has-closed}
 use Rattle.cpp_press_laws.proofs.Components.Complete.{EachStands, StandAmong, AllBefore, each-append, each-others, among-inner}
 use Rattle.cpp_press_laws.proofs.Fits.Packs.{closed-packs}
 use Rattle.cpp_press_laws.proofs.Components.Again.{ItemStands, ItemsStand, FunctionStands}
-use Rattle.cpp_press_laws.specs.Fits.{Fitting, Slot, any_type, parameter_type, fits_of}
 use Rattle.cpp_press_laws.proofs.Fitting as fit
 use Rattle.cpp_press_laws.proofs.Components.AddedTrees.{adds}
 use Rattle.cpp_press_laws.proofs.Fits.Read.{pressed_at, FunctionsStand, Front, Fitted}
@@ -79,7 +69,7 @@ abbrev pub AllAfter : ℕ → List Candidate → Type 0
 AllAfter place [] = Unit {0}
 AllAfter place (c ∷ cs) = (place < c.encoding) × AllAfter place cs
 
--- each candidate that was made in an encoding has no free parameters
+-- each candidate that was made in this encoding has no free parameters
 abbrev pub AllShut : ℕ → List Candidate → Type 0
 AllShut encoding [] = Unit {0}
 AllShut encoding (c ∷ cs) = (c.encoding ≡ encoding → is_open c.tree ≡ false) × AllShut encoding cs
@@ -122,8 +112,8 @@ among-last : (read n : ℕ) (olds more : List Candidate) (ds : List Component) �
 among-last read n [] more ds among = among
 among-last read n (c ∷ cs) more ds among = among-last read n cs more ds among.1
 
--- After an encoding, the candidates from before it are among the components as they were, and so are those from inside it that
--- have no free parameters.
+-- After an encoding, the candidates from before it are still among the components, and so are those from inside it that have no
+-- free parameters.
 among-outer : (read n at place : ℕ) (olds more : List Candidate) (cs ds : List Component) → ((m : ℕ) (x : Term) → Has m x cs → Has m x ds) → AllAfter read more
     → StandAmong read n olds cs → StandAmong at place (olds ++ more) ds → StandAmong read n (olds ++ more) ds
 among-outer read n at place olds more cs ds keeps later before inner = (
@@ -190,7 +180,7 @@ functions-bare scope at (c ∷ cs) stand = (
   functions-bare scope at cs stand.1,
 )
 
--- a tree in the types of an encoding, where no tree with free parameters was made in the encoding before
+-- a tree in the types of an encoding, if no tree with free parameters was made in the encoding before its types
 pub types-fitted : (at : ℕ) (name e t : Term) (F : Fitting) (s : ℕ → Spelling) (mid new : State) → is_open e ≡ false
     → AllShut at mid.candidates → Fitted (in_types at name) F s t mid new
     → Fitted (in_name at) (λ inner. F (in_types inner.encoding name)) s e mid new

@@ -1,16 +1,8 @@
 -- The name so far between N and E fits after its first part: a piece, a parameter, an abbreviation or what a reference names.
-use Rattle.std.proofs.Common.{◌≡◌, ℕ, ◌⊎◌, inl, inr, List, Option, Bool, true, false, refl, sym, subst}
-use Rattle.cpp_grammar.specs.declared.kind.Kind.{Kind}
-use Rattle.cpp_grammar.specs.Term.{Term, symbol, instance, abbreviation, parameter}
-use Rattle.cpp_grammar.specs.Values.{Candidate, State, outermost, behind, Around, prefix_tree, prefix_listed, Value, tree_of, is_listed}
-use Rattle.cpp_grammar.specs.References.{appended, with_type, with_prefix}
-use Rattle.cpp_grammar.specs.Between.{after, inside, extended, no_items}
-use Rattle.cpp_press_laws.specs.Components.{Component}
-use Rattle.cpp_press_laws.specs.Pressing.{no_ways, type_ways, is_encoding, ways_of}
+use Rattle.cpp_press_laws.proofs.Basics.{◌≡◌, ℕ, ◌⊎◌, inl, inr, List, Option, Bool, true, false, refl, sym, subst, Kind, Term, symbol, instance, abbreviation, parameter, Candidate, State, outermost, behind, Around, prefix_tree, prefix_listed, Value, tree_of, is_listed, appended, with_type, with_prefix, after, inside, extended, no_items, Component, no_ways, type_ways, is_encoding, ways_of, any_type, begins_name, IsAbbreviation, type_fits, fits_nowhere, fits_of, MayBeReferred}
 use Rattle.cpp_press_laws.proofs.Components.Parts.{IsComponent, Whole, Has, stands-found}
 use Rattle.cpp_press_laws.proofs.Components.Complete.{named-stands}
 use Rattle.cpp_press_laws.proofs.Components.NoneAdded.{prefix-none}
-use Rattle.cpp_press_laws.specs.Fits.{any_type, begins_name, IsAbbreviation, type_fits, fits_nowhere, fits_of, MayBeReferred}
 use Rattle.cpp_press_laws.proofs.Fitting as fit
 use Rattle.cpp_press_laws.proofs.Components.AddedTrees.{adds}
 use Rattle.cpp_press_laws.proofs.Fits.Read.{pressed_at}
@@ -32,7 +24,7 @@ component-apart _ is = first_of (cc, search is)
 twice : {may stands : Type 0} {one other : Type 0} → may → (stands → ⊥) → (may × (stands → one)) × (may × (stands → other))
 twice may never = ((may, λ stands. absurd (never stands)), (may, λ stands. absurd (never stands)))
 
--- a component that comes before fits as a prefix, and before arguments that end one
+-- a component that comes before fits as a prefix, and as a template name whose arguments end a prefix
 prefix-again : (t : Term) → IsComponent t → (around : Around) (allowed : Option ℕ) → MayBeReferred around allowed t → (place : ℕ)
     (cs : List Component) → Has around.encoding t cs
     → (fits_of t).as_prefix around allowed place cs × (fits_of t).as_prefix_template around allowed place cs
@@ -64,7 +56,7 @@ abbreviation-so-far outer l state is =
     let one = (abbreviation-fits (λ slot. true) outer l state is).types any_type tt refl in
     record { apart = λ n place cs front. refl; prefix = one; template = one }
 
--- the name so far after an S
+-- what an S denotes, as the name so far
 pub named-so-far : (outer : Around) (v : Value) (old new : State) → KindFits Kind.Abbreviation outer v old new
     → SoFarFits outer (tree_of v) true old new
 unfolding tree_of
@@ -86,7 +78,7 @@ parameter-so-far outer k old new named bare =
 abbrev pub BeginsName : Around → Type 0
 BeginsName around = (around.prefix ≡ outermost) ⊎ ((e : Term) × (is_encoding e ≡ true) × (around.prefix ≡ behind e true))
 
--- a piece
+-- a piece as the name so far
 pub piece-so-far : (outer : Around) (p : Term) (old new : State) → BeginsName outer → begins_name p ≡ true → PieceFits outer p old new
     → SoFarFits outer (extended outer.prefix p) false old new
 unfolding extended with_prefix after prefix_listed prefix_tree appended is_encoding
@@ -105,7 +97,7 @@ piece-so-far outer p old new (inr (e, is, scoped)) begins one =
       template = local-prefix-template outer e p old new is scoped begins one;
     })
 
--- arguments after the name so far
+-- the name so far with arguments after it, as a prefix
 pub arguments-so-far : (outer : Around) (t : Term) (listed : Bool) (v : Value) (start old mid : State) → SoFarFits outer t listed start old
     → ArgumentsFit (inside (after t listed outer)) false (no_items v) (with_prefix (after t listed outer) old) mid
     → PrefixFits outer (instance t (no_items v)) start (appended (after t listed outer) (instance t (no_items v)) mid)

@@ -1,18 +1,11 @@
 -- A function type whose parts fit where it was read may be spelled again wherever its parts may be.
-use Rattle.std.proofs.Common.{◌≡◌, ℕ, ◌+◌, ◌⊎◌, inl, inr, length, List, Option, Some, None, Bool, refl, subst, sym, ◌∙◌}
+use Rattle.cpp_press_laws.proofs.Basics.{◌≡◌, ℕ, ◌+◌, ◌⊎◌, inl, inr, length, List, Option, Some, None, Bool, refl, subst, sym, ◌∙◌, RefQualifier, Term, symbol, abbreviation, builtin, function_type, nil, list, first_of, pack_length, Around, packs_in, Component, ways_of, Slot, any_type, parameter_type, type_fits, piece_fits, argument_fits, encoding_fits, fits_nowhere, fits_of, PacksFit, IsAbiMark}
 use Rattle.sym_spell.specs.Pressing as spell
-use Rattle.cpp_grammar.specs.Term.{RefQualifier, Term, symbol, abbreviation, builtin, function_type, nil, list}
-use Rattle.cpp_grammar.specs.Scope.{first_of, pack_length}
-use Rattle.cpp_grammar.specs.Values.{Around}
-use Rattle.cpp_grammar.specs.References.{packs_in}
-use Rattle.cpp_press_laws.specs.Components.{Component}
-use Rattle.cpp_press_laws.specs.Pressing.{ways_of}
-use Rattle.cpp_press_laws.specs.Fits.{Slot, any_type, parameter_type, type_fits, piece_fits, argument_fits, encoding_fits, fits_nowhere, fits_of, PacksFit, IsAbiMark}
 use Rattle.cpp_press_laws.proofs.Slots.{each-slot}
 use Rattle.cpp_press_laws.proofs.Components.AddedWays.{IsNotBare}
 use Rattle.cpp_press_laws.proofs.Components.Again.{ItemStands, ItemsStand, IsNoVoid, FunctionStands}
 
--- a part names no packs, or those of the whole
+-- a part names no packs, or the packs of the whole
 abbrev pub PacksOf : (packs own : Option ℕ) → Type 0
 PacksOf packs own = (own ≡ None) ⊎ (own ≡ packs)
 
@@ -49,7 +42,7 @@ item-packs _ slot other around allowed place cs fits = search fits
 
 -- ## Lists
 
--- each of two parts names no packs, or those of the whole
+-- each of two parts names no packs, or the packs of the whole
 first-is : (around : Around) (allowed a b : Option ℕ) → PacksFit around allowed a → PacksFit around allowed b
     → PacksOf (first_of a b) a × PacksOf (first_of a b) b
 unfolding first_of

@@ -1,23 +1,10 @@
--- Lists of types that were read fit, and function types of them.
-use Rattle.std.proofs.Common.{◌≡◌, ℕ, ◌+◌, length, List, [], ◌∷◌, ◌++◌, Bool, true, false, inl, inr, refl, sym, ◌∙◌, subst}
-use Rattle.std.specs.Prelude.{◌&&◌, codes, cond}
-use Rattle.std.proofs.lemmas.Bool.{and_right, false≢true}
-use Rattle.sym_spell.specs.Pressing.{◌and◌, text}
-use Rattle.cpp_grammar.specs.Term.{RefQualifier, Term, symbol, builtin, function_type, nil, list}
-use Rattle.cpp_grammar.specs.Scope.{is_open, pack_length}
-use Rattle.cpp_grammar.specs.Values.{State, Around, tree, tree_of, is_listed}
-use Rattle.cpp_grammar.specs.References.{appended, is_function_type, with_type, with_unqualified}
-use Rattle.cpp_grammar.specs.Meaning.{is_void, is_nil, parameters}
-use Rattle.cpp_grammar.proofs.Chosen.{either}
-use Rattle.cpp_press_laws.specs.Texts.{mark_letter}
-use Rattle.cpp_press_laws.specs.Components.{Component, Spelling, component}
-use Rattle.cpp_press_laws.specs.Pressing.{type_ways, no_ways, function_text, ways_of}
+-- A list of types that was read fits, and so does a function type that is made of one.
+use Rattle.cpp_press_laws.proofs.Basics.{◌≡◌, ℕ, ◌+◌, length, List, [], ◌∷◌, ◌++◌, Bool, true, false, inl, inr, refl, sym, ◌∙◌, subst, ◌&&◌, codes, cond, and_right, false≢true, ◌and◌, text, RefQualifier, Term, symbol, builtin, function_type, nil, list, is_open, pack_length, State, Around, tree, tree_of, is_listed, appended, is_function_type, with_type, with_unqualified, is_void, is_nil, parameters, either, mark_letter, Component, Spelling, component, type_ways, no_ways, function_text, ways_of, Fitting, Behind, as_component, Slot, any_type, parameter_type, takes_all, type_fits, fits_nowhere, fits_of, IsAbiMark}
 use Rattle.cpp_press_laws.proofs.Components.Parts.{Whole}
 use Rattle.cpp_press_laws.proofs.Components.Known.{KeepsTo, text-keeps, and-keeps}
 use Rattle.cpp_press_laws.proofs.Components.KnownTrees.{keeps}
 use Rattle.cpp_press_laws.proofs.Components.Complete.{StandAmong}
 use Rattle.cpp_press_laws.proofs.Fits.FunctionsStand.{function-stands}
-use Rattle.cpp_press_laws.specs.Fits.{Fitting, Behind, as_component, Slot, any_type, parameter_type, takes_all, type_fits, fits_nowhere, fits_of, IsAbiMark}
 use Rattle.cpp_press_laws.proofs.Slots.{each-slot}
 use Rattle.cpp_press_laws.proofs.Fitting as fit
 use Rattle.cpp_press_laws.proofs.Ways as way
@@ -56,7 +43,7 @@ void-adds-none (builtin (l ∷ m ∷ ls)) b void n place cs = absurd (false≢tr
 void-adds-none (symbol e suffix) b void n place cs = absurd (false≢true void)
 void-adds-none _ b void n place cs = absurd (false≢true void)
 
--- parameters, where a lone void is no parameters
+-- parameters; a lone void means that there are none
 abbrev pub ParametersFit : (around : Around) → Slot → Term → (old new : State) → Type 0
 ParametersFit around slot t old new = Fitted around ((fits_of t).as_parameters slot) (λ n. (ways_of n t).as_parameters) t old new
 

@@ -1,19 +1,7 @@
--- Entities in the scope of an encoding that were read fit, as types and as names of encodings.
-use Rattle.std.proofs.Common.{ℕ, ◌+◌, inr, List, [], Option, true, refl, ap, ◌∙◌}
-use Rattle.std.specs.Prelude.{codes}
-use Rattle.sym_spell.specs.Pressing.{◌and◌, text}
-use Rattle.sym_spell.proofs.Spellings.{and-assoc, and-assoc-at}
-use Rattle.cpp_grammar.specs.Term.{Qualifiers, RefQualifier, Term, local}
-use Rattle.cpp_grammar.specs.Scope.{is_open, pack_length}
-use Rattle.cpp_grammar.specs.Values.{State, behind, Around}
-use Rattle.cpp_grammar.specs.References.{appended}
-use Rattle.cpp_grammar.specs.Between.{after}
-use Rattle.cpp_press_laws.specs.Texts.{discriminator_text}
-use Rattle.cpp_press_laws.specs.Components.{Spelling}
-use Rattle.cpp_press_laws.specs.Pressing.{no_ways, type_ways, entity_text, local_text, ways_of}
+-- An entity in the scope of an encoding that was read fits, as a type and as an encoding's own name.
+use Rattle.cpp_press_laws.proofs.Basics.{ℕ, ◌+◌, inr, List, [], Option, true, refl, ap, ◌∙◌, codes, ◌and◌, text, and-assoc, and-assoc-at, Qualifiers, RefQualifier, Term, local, is_open, pack_length, State, behind, Around, appended, after, discriminator_text, Spelling, no_ways, type_ways, entity_text, local_text, ways_of, Fitting, Behind, Slot, Role, in_type, in_name_with, letters_of, IsSpellableDiscriminator, type_fits, fits_nowhere, fits_of}
 use Rattle.cpp_press_laws.proofs.Components.Parts.{Whole}
 use Rattle.cpp_press_laws.proofs.Components.KnownTrees.{keeps}
-use Rattle.cpp_press_laws.specs.Fits.{Fitting, Behind, Slot, Role, in_type, in_name_with, letters_of, IsSpellableDiscriminator, type_fits, fits_nowhere, fits_of}
 use Rattle.cpp_press_laws.proofs.Ways as way
 use Rattle.cpp_press_laws.proofs.Fits.Read.{pressed_at, Fitted, refitted, and-fitted, bytes-fitted, fitted-bytes, component-fitted}
 use Rattle.cpp_press_laws.proofs.Fits.Types.{TypeFits, typed-complete, may-as}

@@ -1,22 +1,11 @@
--- Names that were read piece by piece fit: a longer name fits where what comes before a piece fits, and the piece after it.
-use Rattle.std.proofs.Common.{◌≡◌, ℕ, ◌+◌, inl, inr, List, [], ◌∷◌, Option, true, false, refl, subst, Bool}
-use Rattle.std.specs.Prelude.{codes}
+-- A name that was read piece by piece fits: a longer name fits if what comes before its last piece fits, and then the piece.
+use Rattle.cpp_press_laws.proofs.Basics.{◌≡◌, ℕ, ◌+◌, inl, inr, List, [], ◌∷◌, Option, true, false, refl, subst, Bool, codes, ◌and◌, text, and-assoc-at, Term, alone, in_std, within, instance, is_open, pack_length, State, Prefix, outermost, behind, Around, by_all, appended, after, inside, Component, Spelling, ended, component, no_ways, name_ways, ways_of, Fitting, as_component, begins_name, names_function, names_member, fits_of, MayBeReferred}
 use Rattle.sym_spell.specs.Pressing as spell
-use Rattle.sym_spell.specs.Pressing.{◌and◌, text}
-use Rattle.sym_spell.proofs.Spellings.{and-assoc-at}
-use Rattle.cpp_grammar.specs.Term.{Term, alone, in_std, within, instance}
-use Rattle.cpp_grammar.specs.Scope.{is_open, pack_length}
-use Rattle.cpp_grammar.specs.Values.{State, Prefix, outermost, behind, Around, by_all}
-use Rattle.cpp_grammar.specs.References.{appended}
-use Rattle.cpp_grammar.specs.Between.{after, inside}
-use Rattle.cpp_press_laws.specs.Components.{Component, Spelling, ended, component}
-use Rattle.cpp_press_laws.specs.Pressing.{no_ways, name_ways, ways_of}
 use Rattle.cpp_press_laws.proofs.Components.Parts.{IsComponent, Inside, Whole, prefix-whole}
 use Rattle.cpp_press_laws.proofs.Components.Known.{KeepsTo, text-keeps, and-keeps}
 use Rattle.cpp_press_laws.proofs.Components.KnownTrees.{In, keeps}
 use Rattle.cpp_press_laws.proofs.Components.Complete.{Complete, complete-ended, StandAmong, among-ended}
 use Rattle.cpp_press_laws.proofs.Components.Again.{FunctionStands}
-use Rattle.cpp_press_laws.specs.Fits.{Fitting, as_component, begins_name, names_function, names_member, fits_of, MayBeReferred}
 use Rattle.cpp_press_laws.proofs.Fitting as fit
 use Rattle.cpp_press_laws.proofs.Ways as way
 use Rattle.cpp_press_laws.proofs.Components.AddedWays.{AddsParts}
@@ -38,7 +27,7 @@ having prefix around = record {
   showing = around.showing;
 }
 
--- what fits after another prefix
+-- what fits in these surroundings with another prefix fits here, in the form that sets this prefix
 pub moved : (around : Around) (prefix : Prefix) {F : Fitting} {s : ℕ → Spelling} {t : Term} {old new : State}
     → Fitted (having prefix around) F s t old new → Fitted around (λ inner. F (having prefix inner)) s t old new
 moved around prefix one = record {
@@ -59,7 +48,7 @@ moved around prefix one = record {
       });
 }
 
--- the same spelling
+-- what fits with one spelling fits with an equal spelling
 pub respelled : {around : Around} {F : Fitting} {s r : ℕ → Spelling} {t : Term} {old new : State} → Fitted around F s t old new
     → ((n place : ℕ) (cs : List Component) → s n place cs ≡ r n place cs) → Fitted around F r t old new
 respelled {around} {F} {s} {r} {t} {old} {new} one same = record {
@@ -118,7 +107,7 @@ PieceFits around p old now = Fitted around (fits_of p).as_piece (λ n. (ways_of 
 abbrev pub ElementsFit : Around → Term → (old now : State) → Type 0
 ElementsFit around a old now = Fitted (inside around) ((fits_of a).as_elements false) (λ n. (ways_of n a).as_elements) a old now
 
--- the arguments with their I and E, where the name so far doesn't count
+-- the arguments with their I and E, whatever name comes before them
 abbrev pub arguments_standing : Term → Fitting
 arguments_standing a around allowed place cs = (fits_of a).as_elements false (inside around) allowed (place + 1) cs
 
@@ -151,7 +140,7 @@ within-joined around t p listed old mid now names one other =
       piece-anywhere p around.scope n around.in_lambda around.in_expansion around.showing (behind t listed) (behind t true) allowed _ _ both.1,
     ))
 
--- A name between N and E that is a component as a prefix.
+-- A name between N and E becomes a component when it is a prefix.
 pub prefix-component : {around : Around} {t : Term} {F G : Fitting} {old now : State}
     → Fitted around F (λ n. (ways_of n t).between_N_and_E) t old now → IsComponent t → FunctionStands around.scope t
     → ((n : ℕ) (allowed : Option ℕ) (place : ℕ) (cs : List Component) → F (pressed_at n around) allowed place cs
@@ -163,7 +152,7 @@ prefix-component {around} {t} {F} {G} {old} {now} one is stands more whole =
     component-fitted (refitted one more) is (λ n. (keeps t Unit n (Whole t) way.between_N_and_E) (λ x i. inr i))
     (λ n allowed place cs fits. stands) whole
 
--- a piece after a prefix is a component as a prefix
+-- a prefix and a piece become a component when both together are a prefix
 pub within-prefix : (around : Around) (t p : Term) (old now : State) → BetweenFits around (within t p) old now
     → PrefixFits around (within t p) old (appended around (within t p) now)
 unfolding fits_of ways_of name_ways no_ways
@@ -214,7 +203,7 @@ instance-between around t a old mid now is stands one other =
     (arguments-fitted around a (appended around t mid) now other) (instance-may around t a))
     (λ n place cs. and-assoc-at (s n) (ended n t) (arguments_text a n) place cs)
 
--- arguments add nothing but what is in them
+-- arguments add only the components in them
 pub arguments-keep : (n : ℕ) (R : Term → Type 0) (a : Term) → In (Inside a) R → KeepsTo Unit n R (arguments_text a n)
 arguments-keep n R a inside =
     and-keeps Unit n R (text (codes "I")) ((ways_of n a).as_elements and text (codes "E")) (text-keeps Unit n R (codes "I"))

@@ -1,16 +1,8 @@
 -- A name between N and E that was read fits in each of its ways: as a type, as an encoding's own name, as an entity and as a prefix.
-use Rattle.std.proofs.Common.{◌≡◌, ℕ, ◌+◌, inl, inr, length, List, [], ◌∷◌, ◌++◌, Option, Bool, true, false, refl, ap, sym, subst, arith}
-use Rattle.std.specs.Prelude.{codes}
-use Rattle.cpp_grammar.specs.Term.{Qualifiers, RefQualifier, Term, in_std, within, instance}
-use Rattle.cpp_grammar.specs.Values.{State, Around}
-use Rattle.cpp_grammar.specs.References.{appended, is_function_type}
-use Rattle.cpp_press_laws.specs.Texts.{name_letters}
-use Rattle.cpp_press_laws.specs.Components.{Component, Spelling}
-use Rattle.cpp_press_laws.specs.Pressing.{no_ways, name_ways, in_N_and_E, with_letters, is_operator, is_encoding, is_one_piece, entity_text, ways_of}
+use Rattle.cpp_press_laws.proofs.Basics.{◌≡◌, ℕ, ◌+◌, inl, inr, length, List, [], ◌∷◌, ◌++◌, Option, Bool, true, false, refl, ap, sym, subst, arith, codes, Qualifiers, RefQualifier, Term, in_std, within, instance, State, Around, appended, is_function_type, name_letters, Component, Spelling, no_ways, name_ways, in_N_and_E, with_letters, is_operator, is_encoding, is_one_piece, entity_text, ways_of, Fitting, Slot, Role, letters_of, by_letters, fits_of}
 use Rattle.cpp_press_laws.proofs.Components.Parts.{IsComponent, Whole}
 use Rattle.cpp_press_laws.proofs.Components.Known.{KeepsTo, in-N-and-E-keeps}
 use Rattle.cpp_press_laws.proofs.Components.KnownTrees.{keeps}
-use Rattle.cpp_press_laws.specs.Fits.{Fitting, Slot, Role, letters_of, by_letters, fits_of}
 use Rattle.cpp_press_laws.proofs.Ways as way
 use Rattle.cpp_press_laws.proofs.Fits.Read.{pressed_at, Fitted, Wherever, fitted-wherever, refitted, bytes-fitted, fitted-bytes, component-fitted}
 use Rattle.cpp_press_laws.proofs.Fits.Types.{TypeFits, typed-complete}

@@ -1,13 +1,5 @@
--- Names that were read fit where they are: as types, as an encoding's own name and as local entities, with arguments or without.
-use Rattle.std.proofs.Common.{◌≡◌, ℕ, inl, inr, [], Bool, true, false, refl, ap, sym, subst}
-use Rattle.cpp_grammar.specs.declared.kind.Kind.{Kind}
-use Rattle.cpp_grammar.specs.Term.{any_value, Term, alone, in_std, within, instance, abbreviation}
-use Rattle.cpp_grammar.specs.Values.{State, outermost, behind, Around, prefix_tree, prefix_listed, Value, unqualified, tree, tree_of, is_listed}
-use Rattle.cpp_grammar.specs.References.{appended, is_function_type, with_type, with_unqualified, with_prefix}
-use Rattle.cpp_grammar.specs.Between.{after, inside, applied}
-use Rattle.cpp_press_laws.specs.Texts.{qualifier_letters, mark_letter, name_letters}
-use Rattle.cpp_press_laws.specs.Pressing.{no_ways, type_ways, name_ways, with_letters, is_encoding, ways_of}
-use Rattle.cpp_press_laws.specs.Fits.{Slot, bare_type, Role, letters_of, names_in, begins_name, names_type, names_function, IsAbbreviation, by_letters, fits_nowhere, fits_of}
+-- A name that was read fits where it is: as a type, as an encoding's own name and as a local entity, with arguments or without.
+use Rattle.cpp_press_laws.proofs.Basics.{◌≡◌, ℕ, inl, inr, [], Bool, true, false, refl, ap, sym, subst, Kind, any_value, Term, alone, in_std, within, instance, abbreviation, State, outermost, behind, Around, prefix_tree, prefix_listed, Value, unqualified, tree, tree_of, is_listed, appended, is_function_type, with_type, with_unqualified, with_prefix, after, inside, applied, qualifier_letters, mark_letter, name_letters, no_ways, type_ways, name_ways, with_letters, is_encoding, ways_of, Slot, bare_type, Role, letters_of, names_in, begins_name, names_type, names_function, IsAbbreviation, by_letters, fits_nowhere, fits_of}
 use Rattle.cpp_press_laws.proofs.Fits.Read.{Fitted}
 use Rattle.cpp_press_laws.proofs.Fits.Types.{BareFits, SolidFits}
 use Rattle.cpp_press_laws.proofs.Fits.Names.{respelled, PieceFits, ElementsFit, arguments_standing, arguments_text}

@@ -1,14 +1,5 @@
 -- The packs that a tree names, and those that an expansion has named so far.
-use Rattle.std.proofs.Common.{◌≡◌, ℕ, ◌⊎◌, inl, inr, Option, Some, None, Bool, true, false, Result, Ok, Err, refl, ap, sym, ◌∙◌}
-use Rattle.std.specs.Prelude.{nat_eq}
-use Rattle.std.proofs.lemmas.Bool.{eqb-true, true≢false, or_parts}
-use Rattle.sym_core.specs.declared.refusal.Refusal.{Refusal}
-use Rattle.sym_core.specs.declared.refusal.Refusal.TheVariants.{BadReference}
-use Rattle.cpp_grammar.specs.Term.{Term, symbol, alone, in_std, within, instance, local, holder, tagged, of_default, parameter, inheriting, lambda, conversion, pointer, lvalue, rvalue, array, constrained, bounded, member_pointer, function_type, qualified, vector, complex, decltype, integer, operation, pack, list, enumeration, bindings, declaring}
-use Rattle.cpp_grammar.specs.Scope.{is_open, first_of, pack_length}
-use Rattle.cpp_grammar.specs.Values.{State}
-use Rattle.cpp_grammar.specs.References.{with_packs}
-use Rattle.cpp_grammar.proofs.ClosedStates.{ok_same}
+use Rattle.cpp_press_laws.proofs.Basics.{◌≡◌, ℕ, ◌⊎◌, inl, inr, Option, Some, None, Bool, true, false, Result, Ok, Err, refl, ap, sym, ◌∙◌, nat_eq, eqb-true, true≢false, or_parts, Refusal, BadReference, Term, symbol, alone, in_std, within, instance, local, holder, tagged, of_default, parameter, inheriting, lambda, conversion, pointer, lvalue, rvalue, array, constrained, bounded, member_pointer, function_type, qualified, vector, complex, decltype, integer, operation, pack, list, enumeration, bindings, declaring, is_open, first_of, pack_length, State, with_packs, ok_same}
 
 -- ## A tree without free parameters names no packs
 
@@ -76,7 +67,7 @@ closed-packs scope _ closed = refl
 abbrev pub StayNamed : (old new : State) → Type 0
 StayNamed old new = (m : ℕ) → old.packs ≡ Some m → new.packs ≡ Some m
 
--- packs that weren't refused: none, or under an expansion those that it has named then
+-- packs that weren't refused: there are none, or their length is the one that the expansion around them has named by now
 pub record PacksNamed (in_expansion : Bool) (packs : Option ℕ) (old new : State) : Type 0 where
   pub stay : StayNamed old new
   pub are : (packs ≡ None) ⊎ ((in_expansion ≡ true) × (packs ≡ new.packs))

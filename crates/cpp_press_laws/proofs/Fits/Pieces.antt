@@ -1,17 +1,8 @@
--- Names of one piece that were read fit: alone, or in the scope of an encoding.
-use Rattle.std.proofs.Common.{◌≤◌, ◌≡◌, ℕ, inl, inr, List, [], ◌∷◌, Bool, true, false, refl, ap, sym, subst, ◌∙◌}
-use Rattle.sym_spell.specs.Pressing.{◌and◌}
-use Rattle.cpp_grammar.specs.Term.{Qualifiers, RefQualifier, Term, alone, within, instance}
-use Rattle.cpp_grammar.specs.Scope.{is_open, pack_length}
-use Rattle.cpp_grammar.specs.Values.{State, outermost, behind, Around}
-use Rattle.cpp_grammar.specs.References.{appended}
+-- A name of one piece that was read fits: alone, or in the scope of an encoding.
+use Rattle.cpp_press_laws.proofs.Basics.{◌≤◌, ◌≡◌, ℕ, inl, inr, List, [], ◌∷◌, Bool, true, false, refl, ap, sym, subst, ◌∙◌, ◌and◌, Qualifiers, RefQualifier, Term, alone, within, instance, is_open, pack_length, State, outermost, behind, Around, appended, name_letters, Spelling, no_ways, name_ways, in_N_and_E, with_letters, is_encoding, is_one_piece, entity_text, ways_of, Fitting, Slot, Role, letters_of, IsWithoutLetters, one_piece, begins_name, names_type, names_function, names_in, by_letters, fits_of}
 use Rattle.cpp_press_laws.proofs.Components.Encodings.{encoding-prefix, encoding-shut}
-use Rattle.cpp_press_laws.specs.Texts.{name_letters}
-use Rattle.cpp_press_laws.specs.Components.{Spelling}
-use Rattle.cpp_press_laws.specs.Pressing.{no_ways, name_ways, in_N_and_E, with_letters, is_encoding, is_one_piece, entity_text, ways_of}
 use Rattle.cpp_press_laws.proofs.Components.Parts.{Whole}
 use Rattle.cpp_press_laws.proofs.Components.KnownTrees.{keeps}
-use Rattle.cpp_press_laws.specs.Fits.{Fitting, Slot, Role, letters_of, IsWithoutLetters, one_piece, begins_name, names_type, names_function, names_in, by_letters, fits_of}
 use Rattle.cpp_press_laws.proofs.Fitting as fit
 use Rattle.cpp_press_laws.proofs.Ways as way
 use Rattle.cpp_press_laws.proofs.Components.AddedWays.{fewer-by, in-component, surplus}
@@ -25,7 +16,7 @@ use Rattle.cpp_press_laws.proofs.Fits.Nests.{OwnNameFits, EntityFits}
 
 -- ## A piece alone
 
--- what begins a name names a function as well
+-- a piece that fits also fits as a name of its own
 alone-piece : (around : Around) (p : Term) (old now : State) → PieceFits around p old now
     → Fitted around (fits_of p).as_piece (λ n. (ways_of n p).as_piece) (alone p) old now
 unfolding is_open pack_length

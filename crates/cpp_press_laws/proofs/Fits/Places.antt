@@ -1,11 +1,5 @@
--- Where a part is read: what is known of the candidates before it; and what a production comes to after its parts.
-use Rattle.std.proofs.Common.{◌≡◌, ℕ, ◌≤◌, List, [], ◌∷◌, false, ap, sym, ◌∙◌}
-use Rattle.sym_link.specs.Reading.{Found}
-use Rattle.sym_link.specs.Unfold.{found}
-use Rattle.cpp_grammar.specs.declared.production.Production.{Production}
-use Rattle.cpp_grammar.specs.Values.{State, Around, Value}
-use Rattle.cpp_grammar.proofs.ClosedStates.{AllOld}
-use Rattle.cpp_grammar.specs.Term.{Term}
+-- Where a part is read: what is known of the candidates before it; and the value of a production after its parts.
+use Rattle.cpp_press_laws.proofs.Basics.{◌≡◌, ℕ, ◌≤◌, List, [], ◌∷◌, false, ap, sym, ◌∙◌, Found, found, Production, State, Around, Value, AllOld, Term}
 use Rattle.cpp_press_laws.proofs.Fits.Symbols.{WholeFits}
 use Rattle.cpp_press_laws.proofs.Fits.Arguments.{EncodingFits}
 use Rattle.cpp_press_laws.proofs.Fits.Read.{bytes-fitted}
@@ -20,7 +14,7 @@ pub record Placed (around : Around) (at : ℕ) (state : State) : Type 0 where
   pub encoding : around.encoding ≤ at
   pub old : AllOld false around at state.candidates
 
--- ## What a production comes to
+-- ## The value of a production
 
 first-value : Found (List Value) State → Value → Value
 first-value r d = go r.value
@@ -29,7 +23,7 @@ first-value r d = go r.value
     go [] = d
     go (v ∷ vs) = v
 
--- what a production comes to, and the state after it
+-- the value of a production, and the state after it
 pub record Ended (p : Production) (byte : ℕ) (around : Around) (old : State) (vs : List Value) (mid : State) (v : Value) (new : State) :
     Type 0 where
   pub comes : v ≡ Meant p byte around vs
@@ -50,7 +44,7 @@ ended-as p byte around old inner one vs mid v new closes goes comes =
 
 -- ## Encodings
 
--- an encoding that fits does so after bytes
+-- an encoding that fits also fits after bytes
 pub behind-bytes : (around : Around) (e : Term) (old new : State) → WholeFits around e old new → EncodingFits around e old new
 behind-bytes around e old new one bytes some =
     bytes-fitted bytes one

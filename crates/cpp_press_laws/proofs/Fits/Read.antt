@@ -1,20 +1,13 @@
 -- What it means for a tree that was read to fit: it can be spelled wherever the reader's candidates are among the components.
-use Rattle.std.proofs.Common.{◌≡◌, ℕ, ◌+◌, ◌≤◌, ◌⊎◌, length, List, [], ◌∷◌, ◌++◌, Option, false, arith, subst, length-append}
+use Rattle.cpp_press_laws.proofs.Basics.{◌≡◌, ℕ, ◌+◌, ◌≤◌, ◌⊎◌, length, List, [], ◌∷◌, ◌++◌, Option, false, arith, subst, length-append, ◌and◌, text, Term, is_open, Candidate, State, Around, by_all, appended, Component, Spelling, component, Standing, Fitting, Behind, as_component, MayBeReferred}
 use Rattle.sym_spell.specs.Pressing as spell
-use Rattle.sym_spell.specs.Pressing.{◌and◌, text}
-use Rattle.cpp_grammar.specs.Term.{Term}
-use Rattle.cpp_grammar.specs.Scope.{is_open}
-use Rattle.cpp_grammar.specs.Values.{Candidate, State, Around, by_all}
-use Rattle.cpp_grammar.specs.References.{appended}
-use Rattle.cpp_press_laws.specs.Components.{Component, Spelling, component}
 use Rattle.cpp_press_laws.proofs.Components.Parts.{IsComponent, Whole}
 use Rattle.cpp_press_laws.proofs.Components.Known.{KeepsTo}
 use Rattle.cpp_press_laws.proofs.Components.Complete.{Complete, StandAmong, Allows, component-among}
 use Rattle.cpp_press_laws.proofs.Fits.Packs.{StayNamed}
 use Rattle.cpp_press_laws.proofs.Components.Again.{FunctionStands}
-use Rattle.cpp_press_laws.specs.Fits.{Standing, Fitting, Behind, as_component, MayBeReferred}
 
--- the same surroundings in pressed bytes
+-- the surroundings of a part in pressed bytes: only the place of the encoding is another one
 abbrev pub pressed_at : (encoding : ℕ) → Around → Around
 pressed_at n around = record {
   scope = around.scope;
@@ -47,7 +40,7 @@ pub record PartFits (around : Around) (F : Fitting) (spelled : ℕ → Spelling)
   pub among : StandAmong around.encoding n new.candidates (spelled n place cs).components
   pub functions : FunctionsStand around.scope around.encoding new.candidates
 
--- What was read from one state to another fits, where its packs are allowed.
+-- What was read from one state to another fits wherever the packs that it has named are allowed.
 pub record Fitted (around : Around) (F : Fitting) (spelled : ℕ → Spelling) (t : Term) (old new : State) : Type 0 where
   pub stay : StayNamed old new
   pub fits : (n place : ℕ) (cs : List Component) (allowed : Option ℕ) → Front around n place cs old → Allows allowed new.packs
@@ -73,7 +66,7 @@ functions-append scope read (c ∷ cs) ds one other = (one.0, functions-append s
 
 -- ## Surroundings of parts
 
--- what holds of the components after a part that fits
+-- if `Front` holds before a part that fits, it holds after the part
 pub front-behind : {around : Around} {F : Fitting} {s : ℕ → Spelling} {t : Term} {n : ℕ} {allowed : Option ℕ} {place : ℕ}
     {cs : List Component} {old new : State} → Front around n place cs old → PartFits around F s t n allowed place cs new
     → Front around n (place + length (s n place cs).bytes) (s n place cs).components new
@@ -90,7 +83,7 @@ allows-before allowed old new stay allows m is = allows m (stay m is)
 
 -- ## Parts one after the other
 
--- a place after two spellings
+-- what holds after one spelling and then another holds after both
 pub behind-both : (first rest : Spelling) (G : Standing) (place : ℕ) (cs : List Component) → Behind first (Behind rest G) place cs
     → Behind (first and rest) G place cs
 behind-both first rest G place cs fits =
@@ -100,7 +93,7 @@ behind-both first rest G place cs fits =
     (arith, length-append f.bytes g.bytes) in
     subst (λ p. G p g.components) same fits
 
--- the same part fits in another way that follows from the first
+-- a part that fits in one way fits in each way that follows from it
 pub refitted : {around : Around} {F G : Fitting} {s : ℕ → Spelling} {t : Term} {old new : State} → Fitted around F s t old new
     → ((n : ℕ) (allowed : Option ℕ) (place : ℕ) (cs : List Component) → F (pressed_at n around) allowed place cs
     → G (pressed_at n around) allowed place cs) → Fitted around G s t old new
@@ -117,7 +110,7 @@ refitted one more = record {
       });
 }
 
--- another tree fits, which may be referred to wherever the first may
+-- what fits with one tree fits with another tree that may be referred to wherever the first tree may
 pub fitted-as : {around : Around} {F : Fitting} {s : ℕ → Spelling} {a t : Term} {old new : State} → Fitted around F s a old new
     → ((n : ℕ) (allowed : Option ℕ) → MayBeReferred (pressed_at n around) allowed a → MayBeReferred (pressed_at n around) allowed t)
     → Fitted around F s t old new
@@ -128,7 +121,7 @@ fitted-as one may = record {
       record { fits = p.fits; may = may n allowed p.may; complete = p.complete; among = p.among; functions = p.functions });
 }
 
--- bytes that name nothing
+-- bytes that name nothing fit
 pub text-fitted : (around : Around) (F : Fitting) (bytes : List ℕ) (t : Term) (state : State)
     → ((n : ℕ) (allowed : Option ℕ) (place : ℕ) (cs : List Component) → F (pressed_at n around) allowed place cs)
     → ((n : ℕ) (allowed : Option ℕ) → MayBeReferred (pressed_at n around) allowed t)

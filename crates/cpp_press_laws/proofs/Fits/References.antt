@@ -1,25 +1,10 @@
--- A tree that a reader names by a reference fits, since it is among the components. A tree without parts fits as it was
--- read.
-use Rattle.std.proofs.Common.{◌≡◌, ℕ, zero, suc, ◌⊎◌, inl, inr, List, [], ◌∷◌, Option, Some, None, Bool, true, false, Result, Ok, Err, refl, ap, sym, subst, ◌∙◌, ◌+◌, length, arith}
-use Rattle.std.specs.Prelude.{◌&&◌, ◌||◌, not, nat_eq, slice_get}
-use Rattle.std.proofs.lemmas.Bool.{eqb-true}
-use Rattle.sym_core.specs.declared.refusal.Refusal.{Refusal}
-use Rattle.sym_core.specs.declared.refusal.Refusal.TheVariants.{BadReference}
-use Rattle.sym_link.specs.Reading.{Found, ◌>>=◌}
-use Rattle.sym_link.specs.Unfold.{found}
-use Rattle.cpp_grammar.specs.Term.{Term, symbol, abbreviation, builtin, function_type, alone, in_std, within, instance, parameter, tagged}
-use Rattle.cpp_grammar.specs.Scope.{is_open}
-use Rattle.cpp_grammar.specs.Values.{Candidate, State, Around, Value, tree, tree_of, is_listed}
-use Rattle.cpp_grammar.specs.References.{is_function_type, with_type, with_unqualified, with_packs, packs_in, is_module, substituted}
-use Rattle.cpp_grammar.proofs.ClosedStates.{ok_same, behind_bind}
-use Rattle.cpp_grammar.proofs.Chosen.{either}
-use Rattle.cpp_press_laws.specs.Components.{Component, Spelling, first_equal, reference, spelled_out, referred, component}
-use Rattle.cpp_press_laws.specs.Pressing.{ways_of, type_ways, name_ways, no_ways, template_before}
+-- A tree that a reader names by a reference fits, since it is among the components. A tree without parts fits in the form in
+-- which it was read.
+use Rattle.cpp_press_laws.proofs.Basics.{◌≡◌, ℕ, zero, suc, ◌⊎◌, inl, inr, List, [], ◌∷◌, Option, Some, None, Bool, true, false, Result, Ok, Err, refl, ap, sym, subst, ◌∙◌, ◌+◌, length, arith, ◌&&◌, ◌||◌, not, nat_eq, slice_get, eqb-true, Refusal, BadReference, Found, ◌>>=◌, found, Term, symbol, abbreviation, builtin, function_type, alone, in_std, within, instance, parameter, tagged, is_open, Candidate, State, Around, Value, tree, tree_of, is_listed, is_function_type, with_type, with_unqualified, with_packs, packs_in, is_module, substituted, ok_same, behind_bind, either, Component, Spelling, first_equal, reference, spelled_out, referred, component, ways_of, type_ways, name_ways, no_ways, template_before, Fitting, Slot, any_type, bare_type, item_type, parameter_type, literal_type, type_fits, piece_fits, argument_fits, encoding_fits, fits_nowhere, fits_of, PacksFit, MayBeReferred, Standing, Behind, ◌and◌}
 use Rattle.cpp_press_laws.proofs.Components.Parts.{IsComponent, Whole, Unqualified, Has, stands-found}
 use Rattle.cpp_press_laws.proofs.Components.Complete.{Complete, StandAmong, complete-has, Allows, named-stands}
 use Rattle.cpp_press_laws.proofs.Fits.Packs.{PacksNamed, packs-named}
 use Rattle.cpp_press_laws.proofs.Components.Again.{ItemStands, FunctionStands, item-again, function-again, once}
-use Rattle.cpp_press_laws.specs.Fits.{Fitting, Slot, any_type, bare_type, item_type, parameter_type, literal_type, type_fits, piece_fits, argument_fits, encoding_fits, fits_nowhere, fits_of, PacksFit, MayBeReferred, Standing, Behind}
 use Rattle.cpp_press_laws.proofs.Slots.{each-slot}
 use Rattle.cpp_press_laws.proofs.Fitting as fit
 use Rattle.cpp_press_laws.proofs.Components.AddedWays.{way_at, IsNotBare, Adds, AddsParts}
@@ -28,7 +13,6 @@ use Rattle.cpp_press_laws.proofs.Fits.Read.{pressed_at, FunctionsStand, Fitted, 
 use Rattle.cpp_press_laws.proofs.Components.NoneAdded.{type-none, bare-none}
 use Rattle.cpp_press_laws.proofs.Fits.Types.{BareFits, SolidFits}
 use Rattle.sym_spell.specs.Pressing as spell
-use Rattle.sym_spell.specs.Pressing.{◌and◌}
 use Rattle.cpp_press_laws.proofs.Fits.Names.{ElementsFit, arguments_standing, arguments_text, arguments-fitted, instance-may}
 
 -- ## What a substitution denotes
@@ -76,7 +60,7 @@ component-stands (abbreviation l) slot scope is = absurd is
 component-stands (symbol e suffix) slot scope is = absurd is
 component-stands t slot scope is = (is, inr refl)
 
--- a component that is among complete ones fits as a type
+-- a component that is among complete components fits as a type
 pub type-again : (t : Term) (slot : Slot) → IsNotBare slot → IsComponent t → (around : Around) (allowed : Option ℕ)
     → MayBeReferred around allowed t → (place : ℕ) (cs : List Component) → Complete cs → Has around.encoding t cs
     → (fits_of t).as_type slot around allowed place cs
@@ -84,7 +68,7 @@ type-again t slot other is around allowed may place cs complete has =
     item-again t slot other around allowed (packs_in around.scope t) (component-stands t slot around.scope is) may.packs may.lambda place cs
     (complete-has around.encoding t cs complete has)
 
--- such a component fits right under qualifiers, too; a function type is spelled out there
+-- a component that is among complete components fits right under qualifiers, too; a function type is spelled out there
 pub bare-again : (t : Term) → IsComponent t → (around : Around) (allowed : Option ℕ) → FunctionStands around.scope t
     → MayBeReferred around allowed t → (place : ℕ) (cs : List Component) → Complete cs → Has around.encoding t cs
     → (fits_of t).as_type bare_type around allowed place cs
@@ -208,7 +192,7 @@ unfolding referred
 referred-found n number own behind other place cs is =
     ap (λ o. elim o as (λ _. spell.Pressed Component) [ Some k ↦ (reference k and behind) place cs | None ↦ other place cs ]) is
 
--- a component that comes before is a reference
+-- a component with an equal one before it is spelled as a reference
 component-is : (n number : ℕ) (own : Term) (s : Spelling) (place : ℕ) (cs : List Component) → first_equal n own 0 cs ≡ Some number
     → component n own s place cs ≡ reference number place cs
 unfolding component
@@ -221,7 +205,7 @@ component-found n number own s behind place cs is =
     let first : spell.Pressed Component → Spelling = λ w later ds. w in
     ap (λ w. (first w and behind) place cs) (component-is n number own s place cs is)
 
--- a place after a reference to a component that comes before is a place after the component
+-- what holds after a reference to an earlier component holds after a component that equals it
 named-behind : (n number : ℕ) (own : Term) (s : Spelling) (G : Standing) (place : ℕ) (cs : List Component) → first_equal n own 0 cs ≡ Some number
     → Behind (reference number) G place cs → Behind (component n own s) G place cs
 named-behind n number own s G place cs is fits =
@@ -234,7 +218,7 @@ same-reference : (number other : ℕ) (G : Standing) (place : ℕ) (cs : List Co
     → Behind (reference number) G place cs → Behind (reference other) G place cs
 same-reference number other G place cs same fits = subst (λ k. Behind (reference k) G place cs) (some-one same) fits
 
--- the number of a component that is there
+-- the number of a tree that is among the components
 record FoundAt (n : ℕ) (own : Term) (cs : List Component) : Type 0 where
   pub number : ℕ
   pub is : first_equal n own 0 cs ≡ Some number
@@ -246,7 +230,7 @@ found-number n own cs has = go (first_equal n own 0 cs) refl
     go (Some number) is = record { number = number; is = is }
     go None is = absurd (stands-found n own 0 cs has is)
 
--- where a template name is, a reference to it is spelled before its arguments
+-- a template name that is among the components is spelled as a reference before its arguments
 before-spelled : (t : Term) → IsComponent t → (n number : ℕ) (typed : Bool) (arguments : Spelling) (place : ℕ) (cs : List Component)
     → first_equal n t 0 cs ≡ Some number → (ways_of n t).before typed arguments place cs ≡ (reference number and arguments) place cs
 unfolding ways_of type_ways name_ways no_ways template_before
@@ -260,7 +244,7 @@ before-spelled _ c n number typed arguments place cs is = first_of (search c, se
 thrice : {may again stands one : Type 0} → may → again → (stands → ⊥) → may × again × (stands → one)
 thrice may again never = (may, again, λ stands. absurd (never stands))
 
--- where a template name is, a reference to it fits
+-- a template name that is among the components fits as a reference before its arguments
 before-found : (t : Term) → IsComponent t → (around : Around) (allowed : Option ℕ) (number : ℕ) (typed : Bool) (G : Fitting) (place : ℕ)
     (cs : List Component) → MayBeReferred around allowed t → Has around.encoding t cs → first_equal around.encoding t 0 cs ≡ Some number
     → Behind (reference number) (G around allowed) place cs → (fits_of t).before typed G around allowed place cs
@@ -275,7 +259,7 @@ before-found t c around allowed number typed G place cs may has is fits =
     λ other same. same-reference number other (G around allowed) place cs (sym is ∙ same) fits in
     first_of (search c, search (thrice, may, again, stands-found around.encoding t 0 cs has))
 
--- a name that was referred to, with arguments in a type or in an encoding's own name
+-- a name that was referred to, before its arguments: in a type, or in an encoding's own name
 pub referred-before : (around : Around) (typed : Bool) (c : Candidate) (a : Term) (old mid new : State) → Referred around old mid c
     → ElementsFit around a mid new
     → Fitted around ((fits_of c.tree).before typed (arguments_standing a)) (λ n. (ways_of n c.tree).before typed (arguments_text a n))

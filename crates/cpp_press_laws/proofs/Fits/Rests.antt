@@ -1,14 +1,6 @@
--- What is read of names between N and E, part by part: each part makes a longer name of the one so far, from where the name begins.
-use Rattle.std.proofs.Common.{◌≡◌, ℕ, inl, inr, List, [], None, Bool, true, false, refl, ap, sym, subst, ◌∙◌, arith}
-use Rattle.cpp_grammar.specs.declared.kind.Kind.{Kind}
-use Rattle.cpp_grammar.specs.Term.{Term, symbol, in_std, within, instance}
-use Rattle.cpp_grammar.specs.Values.{State, Around, Value, prefix_tree, prefix_listed, tree, tree_of, is_there}
-use Rattle.cpp_grammar.specs.References.{appended, with_prefix}
-use Rattle.cpp_grammar.specs.Between.{after, inside, applied}
-use Rattle.cpp_grammar.specs.Unfolding.{first_around, first_state}
+-- Names between N and E as they are read, part by part: each part makes the name so far longer, and the longer name fits.
+use Rattle.cpp_press_laws.proofs.Basics.{◌≡◌, ℕ, inl, inr, List, [], None, Bool, true, false, refl, ap, sym, subst, ◌∙◌, arith, Kind, Term, symbol, in_std, within, instance, State, Around, Value, prefix_tree, prefix_listed, tree, tree_of, is_there, appended, with_prefix, after, inside, applied, first_around, first_state, is_encoding, names_function, names_member, IsSpellableSuffix, SymbolFits}
 use Rattle.cpp_press_laws.proofs.Components.Complete.{worths-none}
-use Rattle.cpp_press_laws.specs.Pressing.{is_encoding}
-use Rattle.cpp_press_laws.specs.Fits.{names_function, names_member, IsSpellableSuffix, SymbolFits}
 use Rattle.cpp_press_laws.proofs.Fits.Read.{Wherever}
 use Rattle.cpp_press_laws.proofs.Fits.Names.{PrefixFits, TemplatePrefixFits, PieceFits, ElementsFit, within-joined, std-between}
 use Rattle.cpp_press_laws.proofs.Fits.Templates.{TemplateFits, within-template, std-template}
@@ -20,7 +12,7 @@ use Rattle.cpp_press_laws.proofs.Fits.Sorts.{KindFits, ArgumentsRead}
 abbrev pub NestRead : Around → Value → (start new : State) → Type 0
 NestRead outer v start new = (v ≡ tree (tree_of v) false) × NestFits outer (tree_of v) start new
 
--- The name so far, before arguments or of a further piece (kind NestRest). `outer` surrounds the name, which began at `start`.
+-- The name so far, before arguments or a further piece (kind NestRest). `outer` surrounds the name, which began in state `start`.
 pub record SoFarFits (outer : Around) (t : Term) (listed : Bool) (start old : State) : Type 0 where
   pub apart : Wherever outer start (is_encoding t ≡ false)
   pub prefix : PrefixFits outer t start (with_prefix (after t listed outer) old)
@@ -28,7 +20,7 @@ pub record SoFarFits (outer : Around) (t : Term) (listed : Bool) (start old : St
 
 -- ## A template name or its instance
 
--- a name without arguments, or with those after it
+-- a name without arguments, or with the arguments after it
 pub applied-as : (P : Term → State → Type 0) (around : Around) (t : Term) (v : Value) (mid new : State) → P t mid
     → (ArgumentsRead (after t false around) v mid new → P (instance t (tree_of v)) new)
     → KindFits Kind.MaybeArguments (after t false around) v mid new → P (applied t v) new
@@ -77,7 +69,7 @@ std-read outer p v start mid new names piece arguments =
 
 -- ## The root
 
--- a symbol whose encoding fits after its first two bytes
+-- a symbol fits if its encoding fits after the symbol's first two bytes
 pub symbol-fits : (e : Term) (suffix : List ℕ) (new : State) → WholeFits first_around e first_state new → new.packs ≡ None
     → IsSpellableSuffix suffix → SymbolFits (symbol e suffix)
 unfolding first_around first_state

@@ -1,28 +1,9 @@
--- Types without parts, parameters, and template names with arguments that were read fit as types.
-use Rattle.std.proofs.Common.{◌≡◌, ℕ, ◌<◌, inl, inr, List, [], ◌∷◌, ◌++◌, Option, Some, None, Bool, true, false, Result, Ok, Err, refl, sym, subst, ◌∙◌}
-use Rattle.std.specs.Prelude.{codes, nat_lt}
-use Rattle.sym_core.specs.declared.refusal.Refusal.{Refusal}
-use Rattle.sym_core.specs.declared.refusal.Refusal.TheVariants.{BadReference}
-use Rattle.sym_link.specs.Reading.{◌>>=◌}
-use Rattle.sym_spell.specs.Pressing.{text}
-use Rattle.std.proofs.lemmas.Bool.{false≢true}
-use Rattle.cpp_grammar.specs.declared.kind.Kind.{Kind}
-use Rattle.cpp_grammar.specs.declared.production.Production.{Production}
-use Rattle.cpp_grammar.specs.Grammar.{choose}
-use Rattle.cpp_grammar.specs.Term.{Term, abbreviation, parameter, builtin, vendor, instance}
-use Rattle.cpp_grammar.specs.Scope.{count, element, length_if_pack, is_open, pack_length}
-use Rattle.cpp_grammar.specs.Values.{State, Around, tree, tree_of, is_listed}
-use Rattle.cpp_grammar.specs.References.{appended, is_function_type, with_type, with_unqualified, with_packs, packs_in, parameter_named}
-use Rattle.cpp_grammar.proofs.ClosedStates.{ok_same, behind_bind}
-use Rattle.cpp_press_laws.specs.Texts.{ordinal, counted}
-use Rattle.cpp_press_laws.specs.Components.{Spelling}
-use Rattle.cpp_press_laws.specs.Pressing.{type_ways, name_ways, no_ways, ways_of}
-use Rattle.cpp_press_laws.specs.Spellable.{IsSpellableName}
+-- A type without parts, a parameter, or a template name with arguments fits as a type, if it was read as one.
+use Rattle.cpp_press_laws.proofs.Basics.{◌≡◌, ℕ, ◌<◌, inl, inr, List, [], ◌∷◌, ◌++◌, Option, Some, None, Bool, true, false, Result, Ok, Err, refl, sym, subst, ◌∙◌, codes, nat_lt, Refusal, BadReference, ◌>>=◌, text, false≢true, Kind, Production, choose, Term, abbreviation, parameter, builtin, vendor, instance, count, element, length_if_pack, is_open, pack_length, State, Around, tree, tree_of, is_listed, appended, is_function_type, with_type, with_unqualified, with_packs, packs_in, parameter_named, ok_same, behind_bind, ordinal, counted, Spelling, type_ways, name_ways, no_ways, ways_of, IsSpellableName, Fitting, Slot, any_type, bare_type, takes_all, IsBuiltin, IsAbbreviation, NamesArgument, type_fits, fits_nowhere, fits_of, PacksFit}
 use Rattle.cpp_press_laws.proofs.Components.Parts.{Whole}
 use Rattle.cpp_press_laws.proofs.Components.Known.{text-keeps}
 use Rattle.cpp_press_laws.proofs.Components.KnownTrees.{keeps}
 use Rattle.cpp_press_laws.proofs.Fits.Packs.{PacksNamed, packs-named}
-use Rattle.cpp_press_laws.specs.Fits.{Fitting, Slot, any_type, bare_type, takes_all, IsBuiltin, IsAbbreviation, NamesArgument, type_fits, fits_nowhere, fits_of, PacksFit}
 use Rattle.cpp_press_laws.proofs.Slots.{each-slot}
 use Rattle.cpp_press_laws.proofs.Ways as way
 use Rattle.cpp_press_laws.proofs.Components.Complete.{StandAmong}
@@ -69,7 +50,7 @@ vendor-fits around name state is =
     }) (λ slot take. text-fitted around (G slot) bytes t state (λ n allowed place cs. (take, is))
     (λ n allowed. may-closed (pressed_at n around) allowed t refl))
 
--- a builtin type by its letter, where any type but one of a literal is
+-- a builtin type by its letter, in all slots except that of a literal's type
 pub builtin-solid : (around : Around) (byte : ℕ) (state : State) → byte < 256 → choose Kind.Solid byte ≡ Some Production.Builtin
     → SolidFits takes_all around (tree (builtin (byte ∷ [])) true) state state
 unfolding takes_all
@@ -78,7 +59,7 @@ builtin-solid around byte state small is = builtin-fits takes_all around (byte �
     slots : (slot : Slot) → takes_all slot ≡ true → IsBuiltin slot (byte ∷ [])
     slots = each-slot _ (λ take. (small, is)) (λ take. (small, is)) (λ take. (small, is)) (λ take. (small, is)) (λ take. absurd (false≢true take))
 
--- the same after a D
+-- a builtin type by its letter after a D, in all slots except that of a literal's type
 pub builtin-with-d : (around : Around) (byte : ℕ) (state : State) → byte < 256 → choose Kind.AfterD byte ≡ Some Production.BuiltinWithD
     → SolidFits takes_all around (tree (builtin (68 ∷ byte ∷ [])) true) state state
 unfolding takes_all
@@ -139,7 +120,7 @@ scoped-shut : (o : Option Term) (arguments : Term) (b : Bool) → o ≡ Some arg
 scoped-shut o arguments false is bare = refl
 scoped-shut o arguments true is bare = let clash : None ≡ Some arguments = sym (bare refl) ∙ is in absurd cc
 
--- what the number of a parameter fits as, before the parameter is a component
+-- the number of a parameter fits, before the parameter becomes a component
 named-fitted : (around : Around) (k : ℕ) (old new : State) (p : ParameterNamed around k old new) → LambdasAreBare around
     → Fitted around (λ inner allowed place cs. NamesArgument inner allowed k) (λ n. text (codes "T" ++ ordinal k)) (parameter k) old p.mid
 unfolding is_open pack_length packs_in

@@ -1,16 +1,6 @@
--- What is known of the values of types by their kinds. Each production of types keeps to that.
-use Rattle.std.proofs.Common.{◌≡◌, ℕ, ◌⊎◌, List, [], ◌∷◌, Bool, true, false, refl}
-use Rattle.std.specs.Prelude.{nat_eq}
-use Rattle.cpp_grammar.specs.declared.kind.Kind.{Kind}
-use Rattle.cpp_grammar.specs.declared.production.Production.{Production}
-use Rattle.cpp_grammar.specs.Term.{lvalue_only, rvalue_only, Term, abbreviation, lvalue, rvalue, encoding_literal, address_of, absent}
-use Rattle.cpp_grammar.specs.Values.{Candidate, State, Around, Value, nothing_there, tree, pair, tree_of, ref_of, is_listed, part}
-use Rattle.cpp_grammar.specs.References.{with_type, with_prefix, appended, is_function_type, with_unqualified}
-use Rattle.cpp_grammar.specs.Between.{after, no_items}
-use Rattle.cpp_grammar.specs.Meaning.{signature_or, meaning, listed_value, reference_to}
+-- What is known of the values of types, by kind: it holds of the value of each production of types.
+use Rattle.cpp_press_laws.proofs.Basics.{◌≡◌, ℕ, ◌⊎◌, List, [], ◌∷◌, Bool, true, false, refl, nat_eq, Kind, Production, lvalue_only, rvalue_only, Term, abbreviation, lvalue, rvalue, encoding_literal, address_of, absent, Candidate, State, Around, Value, nothing_there, tree, pair, tree_of, ref_of, is_listed, part, with_type, with_prefix, appended, is_function_type, with_unqualified, after, no_items, signature_or, meaning, listed_value, reference_to, either_cond, Slot, any_type, item_type, parameter_type, literal_type, takes_all, takes_expansions, IsAbbreviation, IsAbiMark}
 use Rattle.cpp_grammar.specs.Unfolding as unfolding_
-use Rattle.cpp_grammar.proofs.Chosen.{either_cond}
-use Rattle.cpp_press_laws.specs.Fits.{Slot, any_type, item_type, parameter_type, literal_type, takes_all, takes_expansions, IsAbbreviation, IsAbiMark}
 use Rattle.cpp_press_laws.proofs.Slots.{each-slot}
 use Rattle.cpp_press_laws.proofs.Fits.Types.{TypeFits, BareFits, SolidFits, lvalue-fits, rvalue-fits}
 use Rattle.cpp_press_laws.proofs.Fits.Lists.{ListFits, IsList}
@@ -90,7 +80,7 @@ KindFits _ around v old new = Unit {0}
 
 -- ## Types become candidates
 
--- what a production comes to after parts with these values
+-- the meaning of a production after parts with these values, and the state after it
 abbrev pub Meant : Production → (byte : ℕ) → Around → List Value → Value
 Meant p byte around vs = meaning p byte around vs
 
@@ -127,7 +117,3 @@ reference-plain around byte began v old new one =
     either_cond (λ t. BareFits around t old (appended around t new)) (nat_eq byte 82) (lvalue (tree_of v)) (rvalue (tree_of v))
     (λ h. (lvalue-fits around (tree_of v) old new one).bare refl)
     (λ h. (rvalue-fits around (tree_of v) old new one).bare refl)
-
--- ## Types of types
-
--- ## Function types

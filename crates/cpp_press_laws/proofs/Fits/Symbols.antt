@@ -1,21 +1,7 @@
--- Encodings of each sort that were read fit, from their names and their types.
-use Rattle.std.proofs.Common.{◌≡◌, ℕ, ◌+◌, ◌<◌, length, List, [], ◌∷◌, ◌++◌, Option, Some, true, false, refl, ap, sym, subst, ◌∙◌, arith}
-use Rattle.std.specs.Prelude.{◌&&◌, codes}
+-- An encoding of each sort that was read fits, since its name and its types fit.
+use Rattle.cpp_press_laws.proofs.Basics.{◌≡◌, ℕ, ◌+◌, ◌<◌, length, List, [], ◌∷◌, ◌++◌, Option, Some, true, false, refl, ap, sym, subst, ◌∙◌, arith, ◌&&◌, codes, ◌and◌, text, Kind, Production, choose, Qualifiers, RefQualifier, Thunk, Term, symbol, function, object, special, thunk, of_name, nil, list, absent, is_open, has_return_type, Candidate, State, Around, in_name, in_types, is_void, is_nil, parameters, special_front, name_letters, thunk_text, Component, Spelling, no_ways, type_ways, name_ways, encoding_ways, piece_ways, argument_ways, begun, ways_of}
 use Rattle.sym_spell.specs.Pressing as spell
-use Rattle.sym_spell.specs.Pressing.{◌and◌, text}
-use Rattle.cpp_grammar.specs.declared.kind.Kind.{Kind}
-use Rattle.cpp_grammar.specs.declared.production.Production.{Production}
-use Rattle.cpp_grammar.specs.Grammar.{choose}
-use Rattle.cpp_grammar.specs.Term.{Qualifiers, RefQualifier, Thunk, Term, symbol, function, object, special, thunk, of_name, nil, list, absent}
-use Rattle.cpp_grammar.specs.Scope.{is_open, has_return_type}
-use Rattle.cpp_grammar.specs.Values.{Candidate, State, Around}
-use Rattle.cpp_grammar.specs.Between.{in_name, in_types}
-use Rattle.cpp_grammar.specs.Meaning.{is_void, is_nil, parameters}
-use Rattle.cpp_grammar.specs.Texts.{special_front}
 use Rattle.cpp_grammar.proofs.Chosen as chosen
-use Rattle.cpp_press_laws.specs.Texts.{name_letters, thunk_text}
-use Rattle.cpp_press_laws.specs.Components.{Component, Spelling}
-use Rattle.cpp_press_laws.specs.Pressing.{no_ways, type_ways, name_ways, encoding_ways, piece_ways, argument_ways, begun, ways_of}
 use Rattle.cpp_press_laws.proofs.Components.AddedNames.{at-none}
 use Rattle.cpp_press_laws.proofs.Components.Complete.{AllBefore}
 use Rattle.cpp_press_laws.specs.Fits.{Fitting, Slot, any_type, item_type, Behind, either, type_fits, piece_fits, argument_fits, encoding_fits, fits_nowhere, IsSpellableThunk, IsAbiMark, fits_of}
@@ -27,7 +13,7 @@ use Rattle.cpp_press_laws.proofs.Fits.Encodings.{AllAfter, AllShut, encoding-fit
 
 -- ## Where encodings are
 
--- what was read from one state to another is between the places of two encodings
+-- old candidates were made in encodings that begin before `at`, and added candidates in encodings that begin after the one around
 pub record StaysBehind (around : Around) (at : ℕ) (old new : State) : Type 0 where
   pub more : List Candidate
   pub grows : new.candidates ≡ old.candidates ++ more
@@ -50,7 +36,7 @@ guard-fits around at name q ref old new good stays one =
     stays.more refl stays.grows stays.before stays.later (λ allowed place cs fits. (refl, fits, good)) (λ n place cs. refl)
     (fitted-as (bytes-fitted (codes "GV") one) (λ n allowed may. may-closed (pressed_at n (in_name at)) allowed e refl))
 
--- a type's table and the like
+-- a special encoding of a type, such as the type's table
 pub special-fits : (around : Around) (at l : ℕ) (type : Term) (old new : State) → l < 256
     → choose Kind.Special l ≡ Some Production.SpecialType → StaysBehind around at old new
     → TypeFits (in_name at) any_type type old new → WholeFits around (special l type) old new
@@ -82,7 +68,7 @@ thunk-fits around at kind e old new good stays one =
 at-zero : (place : ℕ) → place ≡ place + 0
 at-zero place = omega arith
 
--- parameters, where a lone void is no parameters
+-- parameters; a lone void means that there are none
 parameters-standing : (slot : Slot) (t : Term) (around : Around) (allowed : Option ℕ) (place : ℕ) (cs : List Component)
     → (fits_of t).as_more_parameters slot around allowed place cs → (fits_of (parameters t)).as_parameters slot around allowed place cs
 unfolding fits_of type_fits piece_fits argument_fits encoding_fits fits_nowhere parameters
@@ -136,7 +122,7 @@ returning-fits around at name first rest q ref old mid new good returns stays al
     (λ n place cs. parameters-components rest place _ _)
     (items-behind at e name (list first rest) q ref old mid new refl all one other)
 
--- a function whose return type isn't
+-- a function whose return type isn't spelled
 pub plain-function-fits : (around : Around) (at : ℕ) (name items : Term) (q : Qualifiers) (ref : RefQualifier) (old mid new : State)
     → IsAbiMark ref → has_return_type name ≡ false → StaysBehind around at old new → AllShut at mid.candidates → OwnNameFits (in_name at) name q ref old mid
     → ListFits (in_types at name) item_type items mid new → WholeFits around (function name q ref absent (parameters items)) old new

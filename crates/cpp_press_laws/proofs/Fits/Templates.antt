@@ -1,25 +1,16 @@
 -- A template name that was read with arguments fits before them: as a reference, or spelled out.
-use Rattle.std.proofs.Common.{◌≡◌, ℕ, ◌+◌, length, List, [], Option, Some, None, Bool, true, false, refl, ap, sym, subst, ◌∙◌, arith}
-use Rattle.std.specs.Prelude.{codes, ◌&&◌}
+use Rattle.cpp_press_laws.proofs.Basics.{◌≡◌, ℕ, ◌+◌, length, List, [], Option, Some, None, Bool, true, false, refl, ap, sym, subst, ◌∙◌, arith, codes, ◌&&◌, ◌and◌, text, and-assoc-at, Term, in_std, within, instance, State, Around, appended, Component, Spelling, first_equal, reference, ended, spelled_out, referred, component, no_ways, name_ways, in_N_and_E, template_before, is_operator, is_encoding, is_one_piece, ways_of, Standing, Fitting, Behind, as_component, as_template, fits_of}
 use Rattle.sym_spell.specs.Pressing as spell
-use Rattle.sym_spell.specs.Pressing.{◌and◌, text}
-use Rattle.sym_spell.proofs.Spellings.{and-assoc-at}
-use Rattle.cpp_grammar.specs.Term.{Term, in_std, within, instance}
-use Rattle.cpp_grammar.specs.Values.{State, Around}
-use Rattle.cpp_grammar.specs.References.{appended}
-use Rattle.cpp_press_laws.specs.Components.{Component, Spelling, first_equal, reference, ended, spelled_out, referred, component}
-use Rattle.cpp_press_laws.specs.Pressing.{no_ways, name_ways, in_N_and_E, template_before, is_operator, is_encoding, is_one_piece, ways_of}
 use Rattle.cpp_press_laws.proofs.Components.Parts.{IsComponent, Inside}
 use Rattle.cpp_press_laws.proofs.Components.AddedWays.{AddsParts}
 use Rattle.cpp_press_laws.proofs.Components.AddedTrees.{adds}
 use Rattle.cpp_press_laws.proofs.Components.Again.{FunctionStands}
 use Rattle.cpp_press_laws.proofs.Components.Complete.{Complete, StandAmong}
-use Rattle.cpp_press_laws.specs.Fits.{Standing, Fitting, Behind, as_component, as_template, fits_of}
 use Rattle.cpp_press_laws.proofs.Fitting as fit
 use Rattle.cpp_press_laws.proofs.Fits.Read.{pressed_at, Fitted, Wherever, refitted, behind-both, and-fitted, bytes-fitted, fitted-bytes}
 use Rattle.cpp_press_laws.proofs.Fits.Names.{respelled, ended-fitted, BetweenFits, TemplateBetweenFits, TemplatePrefixFits, within-prefix, within-prefix-template, std-prefix, ElementsFit, arguments_standing, arguments_text, arguments-fitted, instance-may}
 
--- a component and what follows it, where an equal one comes before
+-- what holds after a component holds after a reference, if an equal component comes before
 behind-found : (n number : ℕ) (own : Term) (s : Spelling) (G : Standing) (place : ℕ) (cs : List Component) → first_equal n own 0 cs ≡ Some number
     → Behind (component n own s) G place cs → Behind (reference number) G place cs
 unfolding component
@@ -32,7 +23,7 @@ behind-found n number own s G place cs is fits = go (first_equal n own 0 cs) is 
     go (Some k) same h = let equal : k ≡ number = cc in subst (λ j. Behind (reference j) G place cs) equal h
     go None same h = absurd cc
 
--- where an equal one comes before, the components are those after a reference, or else those after the whole spelling
+-- P holds of the components in both cases, if it holds after a reference with its arguments and after the whole spelling
 components-before : (n : ℕ) (own : Term) (needs_N : Bool) (s between arguments : Spelling) (place : ℕ) (cs : List Component)
     (P : List Component → Type 0) → P ((component n own s and arguments) place cs).components
     → P ((elim needs_N as (λ _. Spelling) [
@@ -56,7 +47,7 @@ components-before n own needs_N s between arguments place cs P found new = go (f
     go (Some k) h = h
     go None h = new
 
--- a template name before its arguments, from where it fits as a component and where it is spelled out before them
+-- a template name fits before its arguments, if it fits as a component and if it fits spelled out before them
 pub template-fitted : (around : Around) (own a : Term) (needs_N : Bool) (F H : Fitting) (s front between : ℕ → Spelling) (old mid now : State)
     → Fitted around (as_component own F) (λ n. component n own (s n)) own old (appended around own mid)
     → Fitted around (λ inner allowed place cs. H inner allowed place cs
@@ -118,7 +109,7 @@ spelled-before {k} {around} {own} {a} {F} {between} {old} {mid} {now} one other 
     respelled (and-fitted (ended-fitted one is stands whole) (arguments-fitted around a (appended around own mid) now other)
     (instance-may around own a)) (λ n. and-assoc-at (between n) (ended n own) (arguments_text a n))
 
--- the same between N and E
+-- a template name that is spelled out between N and E, and its arguments
 pub nested-before : {around : Around} {own a : Term} {F : Fitting} {whole : ℕ → Spelling} {old now : State} (between : ℕ → Spelling)
     → SpelledBefore around own a F between whole old now
     → SpelledBefore around own a (λ inner allowed place cs. F inner allowed (place + 1) cs) (λ n. text (codes "N") and between n)
@@ -166,7 +157,7 @@ within-template around t p old mid apart one = record {
       (λ n. (adds own).at fit.between (pressed_at n around)))) other);
 }
 
--- a piece after St, with an N before it where it is an operator of a type
+-- a piece after St, with an N before it if it is an operator in a type
 pub std-template : (around : Around) (p : Term) (old mid : State) → BetweenFits around (in_std p) old mid
     → TemplateFits around (in_std p) old mid
 unfolding fits_of ways_of name_ways no_ways is_one_piece

@@ -1,20 +1,6 @@
--- The productions of names as types, of arguments and of literals keep to what fits.
-use Rattle.std.proofs.Common.{◌≡◌, ℕ, ◌<◌, Some, inl, inr, [], ◌∷◌, Bool, true, false, refl, sym, subst}
-use Rattle.std.specs.Prelude.{◌&&◌, not}
-use Rattle.std.proofs.Math.Bool.{and-true}
-use Rattle.std.proofs.lemmas.Bool.{and_right, false≢true}
-use Rattle.cpp_grammar.specs.declared.kind.Kind.{Kind}
-use Rattle.cpp_grammar.specs.Grammar.{choose}
-use Rattle.cpp_grammar.specs.declared.production.Production.{Production}
-use Rattle.cpp_grammar.specs.Term.{Term, abbreviation, parameter, instance, lvalue, rvalue, builtin, pack}
-use Rattle.cpp_grammar.specs.Values.{Candidate, State, Around, prefix_listed, Value, nothing_there, tree, tree_of, is_listed, is_there, signed_of, part, ref_of}
-use Rattle.cpp_grammar.specs.References.{appended, with_type, with_unqualified, with_prefix}
-use Rattle.cpp_grammar.specs.Between.{after, applied, inside, no_items}
-use Rattle.cpp_grammar.specs.Meaning.{signature_or, meaning, with_item}
+-- The productions of names as types, of arguments and of literals have values that fit.
+use Rattle.cpp_press_laws.proofs.Basics.{◌≡◌, ℕ, ◌<◌, Some, inl, inr, [], ◌∷◌, Bool, true, false, refl, sym, subst, ◌&&◌, not, and-true, and_right, false≢true, Kind, choose, Production, Term, abbreviation, parameter, instance, lvalue, rvalue, builtin, pack, Candidate, State, Around, prefix_listed, Value, nothing_there, tree, tree_of, is_listed, is_there, signed_of, part, ref_of, appended, with_type, with_unqualified, with_prefix, after, applied, inside, no_items, signature_or, meaning, with_item, Found, Slot, any_type, bare_type, item_type, parameter_type, literal_type, takes_all, IsBuiltin, IsAbbreviation, IsSpellableNumber}
 use Rattle.cpp_grammar.specs.Unfolding as unfolding_
-use Rattle.sym_link.specs.Reading.{Found}
-use Rattle.cpp_press_laws.specs.Fits.{Slot, any_type, bare_type, item_type, parameter_type, literal_type, takes_all, IsBuiltin, IsAbbreviation}
-use Rattle.cpp_press_laws.specs.Spellable.{IsSpellableNumber}
 use Rattle.cpp_press_laws.proofs.Fits.Types.{TypeFits, SolidFits, lvalue-fits, rvalue-fits}
 use Rattle.cpp_press_laws.proofs.Fits.Lists.{list-fits}
 use Rattle.cpp_press_laws.proofs.Fits.References.{Referred, referred-solid, Substituted, referred-before}
@@ -62,7 +48,7 @@ with-slots : (takes : Slot → Bool) (around : Around) (v : Value) (old new : St
     → SolidFits takes around v old new
 with-slots takes around v old new one = record { types = λ slot other take. one.types slot other refl; bare = λ take. one.bare refl }
 
--- the name as a type, with or without arguments
+-- a name as a type, with or without arguments
 pub name-type : (takes : Slot → Bool) (around : Around) (v w : Value) (old mid new : State) → NameRead around v old mid
     → KindFits Kind.MaybeArguments (after (tree_of v) (is_listed v) around) w mid new
     → SolidFits takes around (tree (applied (tree_of v) w) (is_listed v && not (is_there w))) old new
@@ -109,7 +95,7 @@ rvalue-item around byte began t rest old mid new one other = (
 pub type-as-argument : (around : Around) (v : Value) (old new : State) → KindFits Kind.Item around v old new → KindFits Kind.Argument around v old new
 type-as-argument around v old new one in_pack = type-argument (tree_of v) around in_pack old new one
 
--- the pack is made before the arguments after it
+-- a pack is made before the arguments after it are read
 pub pack-argument : (around : Around) (byte : ℕ) (began : State) (t : Term) (mark rest : Value) (old mid new : State)
     → ArgumentsFit around true t old mid → KindFits Kind.ArgumentList around rest mid new
     → KindFits Kind.ArgumentList around (Meant Production.PackArgument byte around (tree (pack t) true ∷ mark ∷ rest ∷ [])) old
@@ -125,7 +111,7 @@ no-arguments around in_pack state = no-arguments-fit around in_pack state
 
 -- ## Literals
 
--- the type is a candidate before the number
+-- a literal's type becomes a candidate before its number is read
 pub integer-literal : (around : Around) (byte : ℕ) (began : State) (v number : Value) (old new : State)
     → KindFits Kind.LiteralType around v old new → IsSpellableNumber (signed_of number)
     → KindFits Kind.Literal around (Meant Production.IntegerLiteral byte around (v ∷ number ∷ [])) old

@@ -1,16 +1,5 @@
--- Types that were read fit, before they are candidates and after that.
-use Rattle.std.proofs.Common.{◌≡◌, ℕ, ◌+◌, inl, inr, length, List, ◌++◌, Option, Some, None, Bool, true, false, refl, ap, sym, subst, ◌∙◌}
-use Rattle.std.specs.Prelude.{◌&&◌, ◌||◌, codes}
-use Rattle.sym_core.specs.declared.NumberKind.TheVariants.{Decimal, Digits}
-use Rattle.sym_spell.specs.Pressing.{◌and◌, text}
-use Rattle.cpp_grammar.specs.Term.{Qualifiers, Term, pointer, lvalue, rvalue, array, member_pointer, qualified, vector, complex}
-use Rattle.cpp_grammar.specs.Scope.{is_open, first_of, pack_length}
-use Rattle.cpp_grammar.specs.Values.{State, Around, Value, tree, tree_of, is_listed}
-use Rattle.cpp_grammar.specs.References.{appended, is_function_type, with_type, with_unqualified, packs_in}
-use Rattle.cpp_press_laws.specs.Texts.{qualifier_letters}
-use Rattle.cpp_press_laws.specs.Components.{Component, Spelling, component}
-use Rattle.cpp_press_laws.specs.Pressing.{type_ways, no_ways, ways_of}
-use Rattle.cpp_press_laws.specs.Spellable.{AreSpellableDigits}
+-- A type that was read fits, before it is a candidate and after that.
+use Rattle.cpp_press_laws.proofs.Basics.{◌≡◌, ℕ, ◌+◌, inl, inr, length, List, ◌++◌, Option, Some, None, Bool, true, false, refl, ap, sym, subst, ◌∙◌, ◌&&◌, ◌||◌, codes, Decimal, Digits, ◌and◌, text, Qualifiers, Term, pointer, lvalue, rvalue, array, member_pointer, qualified, vector, complex, is_open, first_of, pack_length, State, Around, Value, tree, tree_of, is_listed, appended, is_function_type, with_type, with_unqualified, packs_in, qualifier_letters, Component, Spelling, component, type_ways, no_ways, ways_of, AreSpellableDigits, Fitting, Behind, as_component, Slot, any_type, bare_type, item_type, parameter_type, literal_type, takes_all, takes_qualified, has_letters, type_fits, fits_nowhere, fits_of, PacksFit, MayBeReferred}
 use Rattle.cpp_press_laws.proofs.Components.Parts.{IsComponent, Whole}
 use Rattle.cpp_press_laws.proofs.Components.Known.{KeepsTo, text-keeps, and-keeps}
 use Rattle.cpp_press_laws.proofs.Components.KnownTrees.{In, keeps}
@@ -18,7 +7,6 @@ use Rattle.cpp_press_laws.proofs.Components.Complete.{Complete}
 use Rattle.cpp_press_laws.proofs.Fits.Packs.{closed-packs}
 use Rattle.cpp_press_laws.proofs.Components.Again.{FunctionStands}
 use Rattle.cpp_press_laws.proofs.Fits.FunctionsStand.{packs-none, first-fits}
-use Rattle.cpp_press_laws.specs.Fits.{Fitting, Behind, as_component, Slot, any_type, bare_type, item_type, parameter_type, literal_type, takes_all, takes_qualified, has_letters, type_fits, fits_nowhere, fits_of, PacksFit, MayBeReferred}
 use Rattle.cpp_press_laws.proofs.Fitting as fit
 use Rattle.cpp_press_laws.proofs.Ways as way
 use Rattle.cpp_press_laws.proofs.Components.AddedWays.{way_at, IsNotBare}
@@ -40,7 +28,7 @@ unfolding packs_in first_of
 packs-of-two None a b t same = refl
 packs-of-two (Some arguments) a b t same = same arguments
 
--- a tree with the parameters and packs of another
+-- a tree may be referred to where another one with the same free parameters and packs may
 pub may-as : (around : Around) (allowed : Option ℕ) (a t : Term) → is_open t ≡ is_open a
     → ((arguments : Term) → pack_length arguments t ≡ pack_length arguments a)
     → MayBeReferred around allowed a → MayBeReferred around allowed t
@@ -53,7 +41,7 @@ both-shut : (a b c : Bool) → a && c ≡ false → b && c ≡ false → (a || b
 both-shut true b c one other = one
 both-shut false b c one other = other
 
--- a tree with the parameters and packs of two others
+-- a tree may be referred to where two others may that together have its free parameters and packs
 pub may-as-two : (around : Around) (allowed : Option ℕ) (a b t : Term) → is_open t ≡ (is_open a || is_open b)
     → ((arguments : Term) → pack_length arguments t ≡ first_of (pack_length arguments a) (pack_length arguments b))
     → MayBeReferred around allowed a → MayBeReferred around allowed b → MayBeReferred around allowed t
@@ -63,7 +51,7 @@ may-as-two around allowed a b t open_ packs one other = record {
       (first-fits around allowed (packs_in around.scope a) (packs_in around.scope b) one.packs other.packs);
 }
 
--- a tree without free parameters
+-- a tree without free parameters may always be referred to
 pub may-closed : (around : Around) (allowed : Option ℕ) (t : Term) → is_open t ≡ false → MayBeReferred around allowed t
 may-closed around allowed t closed = record {
   lambda = ap (λ b. b && around.in_lambda) closed;
@@ -79,7 +67,7 @@ TypeFits around slot t old new = Fitted around ((fits_of t).as_type slot) (λ n.
 abbrev pub BareFits : (around : Around) → Term → (old new : State) → Type 0
 BareFits around t old new = Fitted around ((fits_of t).as_type bare_type) (λ n. (ways_of n t).under_qualifiers) t old new
 
--- Types in some slots, and right under qualifiers, where they become candidates in different ways.
+-- A type fits in some slots, and right under qualifiers. It becomes a candidate in different ways there, so the states differ.
 pub record SolidAs (takes : Slot → Bool) (around : Around) (t : Term) (as_type : Slot → Fitting) (typed under : ℕ → Spelling)
     (old listed bared : State) : Type 0 where
   pub types : (slot : Slot) → IsNotBare slot → takes slot ≡ true → Fitted around (as_type slot) typed t old listed
@@ -105,7 +93,7 @@ typed-complete t alike bare_type around allowed place cs fits =
     subst (λ w. Complete cs → Complete (w place cs).components) (alike around.encoding)
     ((adds t).at fit.as_type bare_type around allowed place cs fits).complete
 
--- what a component of its own is that is no function type
+-- what is known of a component that isn't a function type
 pub record Spelled (around : Around) (t : Term) (G : Slot → Fitting) (s : ℕ → Spelling) : Type 0 where
   pub is : IsComponent t
   pub keeps : (n : ℕ) → KeepsTo Unit n (Whole t) (s n)
@@ -128,7 +116,7 @@ spelled-solid takes around t G s old new spelled one = record {
   bare = λ take. spelled-fitted around t G s bare_type old new spelled (one bare_type take);
 }
 
--- a type after bytes adds nothing else
+-- a type after bytes adds only the components in it
 pub bytes-keep : (n : ℕ) (t a : Term) (bytes : List ℕ) → In (Whole a) (Whole t) → KeepsTo Unit n (Whole t) (text bytes and (ways_of n a).as_type)
 bytes-keep n t a bytes inside =
     and-keeps Unit n (Whole t) (text bytes) (ways_of n a).as_type (text-keeps Unit n (Whole t) bytes) ((keeps a Unit n (Whole t) way.as_type) inside)
@@ -228,7 +216,7 @@ vector-fits around digits type old new digit one =
       whole = λ slot n. typed-complete (vector digits type) (λ m. refl) slot (pressed_at n around);
     }) refl (λ arguments. refl) (λ slot take n allowed place cs fits. (take, digit, fits)) one
 
--- the two parts of a pointer to a member
+-- a pointer to a member fits if its two parts fit
 pub member-pointer-fits : (takes : Slot → Bool) (around : Around) (a b : Term) (old mid new : State) → TypeFits around any_type a old mid
     → TypeFits around any_type b mid new → SolidFits takes around (tree (member_pointer a b) false) old new
 unfolding fits_of type_fits fits_nowhere ways_of type_ways no_ways is_open pack_length with_type with_unqualified is_function_type tree_of is_listed

@@ -1,32 +1,14 @@
 -- Arguments, literals and expansions are read as what was pressed, from their parts.
-use Rattle.std.proofs.Common.{◌≡◌, ℕ, ◌+◌, inl, length, List, [], ◌∷◌, ◌++◌, Option, None, Bool, true, false, Ok, refl, ap, arith, ◌∙◌, append-nil}
-use Rattle.std.specs.Prelude.{cond, codes}
-use Rattle.sym_core.specs.declared.NumberKind.TheVariants.{Digits}
+use Rattle.cpp_press_laws.proofs.Basics.{◌≡◌, ℕ, ◌+◌, inl, length, List, [], ◌∷◌, ◌++◌, Option, None, Bool, true, false, Ok, refl, ap, arith, ◌∙◌, append-nil, cond, codes, Digits, TakesRule, found, Kind, Production, INTEGER, TYPE, ITEM, ITEM_AFTER_D, ITEMS, ARGUMENT, ARGUMENT_LIST, PACK_LIST, MAYBE_ARGUMENTS, FIRST_OF_LAMBDA, abi, rule_of, Signed, Term, expansion, nil, list, Around, Value, nothing_there, signed, tree, normal, is_zero, signed_digits, prefix_listed, prefix_tree, inside, under_expansion, no_items, after, Component, signed_text, AreSpellableDigits, IsSpellableNumber, Written, written, ReadsAt, Is, cpp, opening, at_number, with_prefix, appended}
 use Rattle.sym_shape.specs.declared.rule.Sym.TheVariants.{Kind as OfKind}
-use Rattle.sym_shape.specs.Tree.{TakesRule}
-use Rattle.sym_link.specs.Unfold.{found}
-use Rattle.cpp_grammar.specs.declared.kind.Kind.{Kind}
-use Rattle.cpp_grammar.specs.declared.production.Production.{Production}
-use Rattle.cpp_grammar.specs.KindNumbers.{INTEGER, TYPE, ITEM, ITEM_AFTER_D, ITEMS, ARGUMENT, ARGUMENT_LIST, PACK_LIST, MAYBE_ARGUMENTS, FIRST_OF_LAMBDA}
-use Rattle.cpp_grammar.specs.Table.{abi, rule_of}
-use Rattle.cpp_grammar.specs.Term.{Signed, Term, expansion, nil, list}
 use Rattle.cpp_grammar.specs.Values as value
-use Rattle.cpp_grammar.specs.Values.{Around, Value, nothing_there, signed, tree, normal, is_zero, signed_digits, prefix_listed, prefix_tree}
-use Rattle.cpp_grammar.specs.Between.{inside, under_expansion, no_items, after}
 use Rattle.cpp_grammar.proofs.Arguments.{abi_argument, abi_first}
-use Rattle.cpp_press_laws.specs.Components.{Component}
-use Rattle.cpp_press_laws.specs.Texts.{signed_text}
-use Rattle.cpp_press_laws.specs.Spellable.{AreSpellableDigits, IsSpellableNumber}
-use Rattle.cpp_press_laws.specs.Subtrees.{Written, written, ReadsAt, Is}
 use Rattle.cpp_press_laws.proofs.ReadBack.Reading.{takes-byte, takes-none, fixed-reads, first-reads, appended-same, digits-read, grammar, more, production-opened, read-by-parts, reshaped, ◌before◌}
 use Rattle.sym_shape.specs.Tree.{grown, nothing, spell}
-use Rattle.cpp_grammar.specs.Unfolding.{cpp, opening}
-use Rattle.cpp_grammar.proofs.ClosedTrees.{at_number}
-use Rattle.cpp_grammar.specs.References.{with_prefix, appended}
 
 -- ## Lists
 
--- what a list of items is read as; an empty list has no row
+-- what a list of items is read as; an empty list is read as an absent value
 abbrev pub items_value : Term → Value
 items_value nil = nothing_there
 items_value t = tree t true
@@ -41,7 +23,7 @@ pub item-as-first : {around : Around} {allowed : Option ℕ} {Q : Value → Type
     → ReadsAt around allowed (OfKind ITEM) Q place cs w → ReadsAt around allowed (OfKind FIRST_OF_LAMBDA) Q place cs w
 item-as-first {around} {place} one = reshaped (λ t is. let a = abi_first t is in (a.tree, a.spells, a.is, a.says around place)) one
 
--- items of an encoding's parameters and of a lambda's, arguments and elements of a pack, and those that are types
+-- one more item before others: a type here, and below an argument or an element of a pack
 pub items-more : (around : Around) (allowed : Option ℕ) (t items : Term) (last : Value) (place : ℕ) (cs : List Component) (first rest : Written)
     → no_items last ≡ items
     → ReadsAt around allowed (OfKind ITEM) (Is (tree t true)) (place + 0) cs first
@@ -75,12 +57,12 @@ any-argument true around allowed t items last place cs first rest are one two =
 
 -- ## Arguments in I and E
 
--- what a name so far becomes before its arguments
+-- the components before a name's arguments: the name is added, if it isn't a component yet
 abbrev pub listed_now : Around → Bool → List Component → Term → List Component
 listed_now around true cs t = cs
 listed_now around false cs t = more around cs t
 
--- arguments after a name, which becomes a component before them if it isn't one
+-- arguments after a name, which becomes a component before them if it isn't a component yet
 pub arguments-read : (listed : Bool) (around : Around) (allowed : Option ℕ) (k : ℕ) (t items : Term) (last : Value) (place : ℕ)
     (cs : List Component) (w : Written) → TakesRule abi k (rule_of Production.Arguments) (73 ∷ []) → no_items last ≡ items
     → ReadsAt (inside around) allowed (OfKind ARGUMENT_LIST) (Is last) (place + 1) (listed_now around listed cs t) w

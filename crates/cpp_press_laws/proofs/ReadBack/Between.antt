@@ -1,16 +1,6 @@
 -- Names are read from their pieces: alone and after St, as prefixes and between N and E, with arguments and without.
-use Rattle.std.proofs.Common.{◌≡◌, ℕ, ◌+◌, length, List, [], ◌∷◌, ◌++◌, Option, true, false, ap, arith, sym, subst, append-nil, append_assoc, length-append, refl, Bool}
+use Rattle.cpp_press_laws.proofs.Basics.{◌≡◌, ℕ, ◌+◌, length, List, [], ◌∷◌, ◌++◌, Option, true, false, ap, arith, sym, subst, append-nil, append_assoc, length-append, refl, Bool, TakesRule, Production, COMPLETE_NAME, UNQUALIFIED, NEST_REST, NEST_TAIL, ABBREVIATION, TYPE_AFTER_S, SOURCE_OR_LOCAL, ARGUMENT_LIST, MAYBE_ARGUMENTS, abi, rule_of, Term, in_std, within, instance, parameter, Around, Value, nothing_there, tree, piece, tree_of, is_there, after, inside, extended, applied, no_items, Component, ordinal, Written, written, ReadsAt, Is, Kind}
 use Rattle.sym_shape.specs.declared.rule.Sym.TheVariants.{Kind as OfKind}
-use Rattle.sym_shape.specs.Tree.{TakesRule}
-use Rattle.cpp_grammar.specs.declared.production.Production.{Production}
-use Rattle.cpp_grammar.specs.KindNumbers.{COMPLETE_NAME, UNQUALIFIED, NEST_REST, NEST_TAIL, ABBREVIATION, TYPE_AFTER_S, SOURCE_OR_LOCAL, ARGUMENT_LIST, MAYBE_ARGUMENTS}
-use Rattle.cpp_grammar.specs.Table.{abi, rule_of}
-use Rattle.cpp_grammar.specs.Term.{Term, in_std, within, instance, parameter}
-use Rattle.cpp_grammar.specs.Values.{Around, Value, nothing_there, tree, piece, tree_of, is_there}
-use Rattle.cpp_grammar.specs.Between.{after, inside, extended, applied, no_items}
-use Rattle.cpp_press_laws.specs.Components.{Component}
-use Rattle.cpp_press_laws.specs.Texts.{ordinal}
-use Rattle.cpp_press_laws.specs.Subtrees.{Written, written, ReadsAt, Is}
 use Rattle.cpp_press_laws.proofs.ReadBack.Types.{solid-with-s}
 use Rattle.cpp_press_laws.proofs.ReadBack.Functions.{IsInScope}
 use Rattle.cpp_press_laws.proofs.ReadBack.Names.{SoFar, Extends, no-arguments, so-far-within, nest-whole, extends}
@@ -19,11 +9,10 @@ use Rattle.cpp_press_laws.proofs.ReadBack.Encodings.{std-name, nested-type, std-
 use Rattle.cpp_press_laws.proofs.ReadBack.Named.{NameRule, PieceReads}
 use Rattle.cpp_press_laws.proofs.ReadBack.Arguments.{arguments-read, takes-maybe-arguments}
 use Rattle.cpp_press_laws.proofs.ReadBack.Reading.{elsewhere, same-written, more, grammar, takes-none}
-use Rattle.cpp_grammar.specs.declared.kind.Kind.{Kind}
 
 -- ## Arguments
 
--- the bytes of arguments that say these
+-- the bytes of arguments: an I, the bytes of the elements, and an E
 abbrev pub in_I_and_E : List ℕ → List ℕ
 in_I_and_E bytes = 73 ∷ (bytes ++ (69 ∷ []))
 
@@ -93,7 +82,7 @@ named-std-type k around allowed p place cs w takes one =
 
 -- ## Between N and E
 
--- a name so far with its arguments, before which it becomes a component
+-- a name so far and its arguments; the name becomes a component before them
 abbrev pub SoFarWith : Around → Option ℕ → (t : Term) → (place : ℕ) → List Component → Written → Type 0
 SoFarWith around allowed t place cs w =
     (items : Term) (last : Value) (args : Written) → no_items last ≡ items
@@ -138,7 +127,7 @@ nested-within around allowed x p place cs w one prefix name = record {
       (elsewhere (omega (arith, length-append w.bytes one.bytes)) two)));
 }
 
--- the whole of a name between N and E
+-- a whole name between N and E
 pub whole-nested : (k : ℕ) (around : Around) (allowed : Option ℕ) (t : Term) (place : ℕ) (cs : List Component) (w : Written)
     → TakesRule abi k (rule_of Production.NestedType) (78 ∷ []) → SoFar around allowed t false 18 (place + 1) cs w
     → ReadsAt around allowed (OfKind k) (Is (tree t false)) place cs (written (78 ∷ (w.bytes ++ (69 ∷ []))) w.components)
@@ -173,7 +162,7 @@ ExtendsWith around allowed t place cs w =
     → Extends around allowed (instance t items) place cs
     (written (w.bytes ++ in_I_and_E args.bytes) (more around args.components (instance t items)))
 
--- what begins with an S
+-- an abbreviation or a reference after an S as a prefix, with arguments
 pub extends-with-behind-s : (around : Around) (allowed : Option ℕ) (t : Term) (place : ℕ) (cs : List Component) (w : Written)
     → ReadsAt around allowed (OfKind ABBREVIATION) (Is (tree t true)) (place + 1) cs w
     → ExtendsWith around allowed t place cs (written (83 ∷ w.bytes) w.components)
@@ -188,7 +177,7 @@ pub prefix-behind-s : (around : Around) (allowed : Option ℕ) (t : Term) (place
 prefix-behind-s around allowed t place cs w one =
     extends-behind-s around allowed t place cs w (elsewhere (omega arith) one)
 
--- a parameter
+-- a parameter as a prefix
 pub prefix-parameter : (around : Around) (allowed : Option ℕ) (k place : ℕ) (cs : List Component) → IsInScope around allowed k
     → Extends around allowed (parameter k) place cs (written (84 ∷ ordinal k) (more around cs (parameter k)))
 prefix-parameter around allowed k place cs scoped =

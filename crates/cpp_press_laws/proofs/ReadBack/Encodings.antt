@@ -1,27 +1,13 @@
 -- Whole names, local names, encodings and symbols are read as what was pressed, from their parts.
-use Rattle.std.proofs.Common.{◌≡◌, ℕ, ◌+◌, length, List, [], ◌∷◌, ◌++◌, Option, Bool, true, false, Ok, refl, ap, arith, append-nil}
+use Rattle.cpp_press_laws.proofs.Basics.{◌≡◌, ℕ, ◌+◌, length, List, [], ◌∷◌, ◌++◌, Option, Bool, true, false, Ok, refl, ap, arith, append-nil, TakesRule, found, Kind, Production, COMPLETE_NAME, MAYBE_REF, NAME_AFTER_S, UNQUALIFIED, NEST, ABBREVIATION, TYPE_AFTER_S, TYPE_IN_STD, SOURCE_OR_LOCAL, MAYBE_ARGUMENTS, ARGUMENTS, abi, rule_of, RefQualifier, any_value, lvalue_only, rvalue_only, explicit_object, Term, in_std, instance, State, Around, Value, nothing_there, letter, tree, piece, named, mark_of, is_listed, is_there, after, applied, named_so_far, listed_so_far, close, Component, Written, written, ReadsAt, Is, mark_letter, IsAbiMark}
 use Rattle.sym_shape.specs.declared.rule.Sym.TheVariants.{Kind as OfKind}
-use Rattle.sym_shape.specs.Tree.{TakesRule}
-use Rattle.sym_link.specs.Unfold.{found}
-use Rattle.cpp_grammar.specs.declared.kind.Kind.{Kind}
-use Rattle.cpp_grammar.specs.declared.production.Production.{Production}
-use Rattle.cpp_grammar.specs.KindNumbers.{COMPLETE_NAME, MAYBE_REF, NAME_AFTER_S, UNQUALIFIED, NEST, ABBREVIATION, TYPE_AFTER_S, TYPE_IN_STD, SOURCE_OR_LOCAL, MAYBE_ARGUMENTS, ARGUMENTS}
-use Rattle.cpp_grammar.specs.Table.{abi, rule_of}
-use Rattle.cpp_grammar.specs.Term.{RefQualifier, any_value, lvalue_only, rvalue_only, explicit_object, Term, in_std, instance}
-use Rattle.cpp_grammar.specs.Values.{State, Around, Value, nothing_there, letter, tree, piece, named, mark_of, is_listed, is_there}
-use Rattle.cpp_grammar.specs.Between.{after, applied, named_so_far, listed_so_far}
-use Rattle.cpp_grammar.specs.Unfolding.{close}
-use Rattle.cpp_press_laws.specs.Components.{Component}
-use Rattle.cpp_press_laws.specs.Subtrees.{Written, written, ReadsAt, Is}
 use Rattle.cpp_press_laws.proofs.ReadBack.Reading.{takes-byte, takes-none, empty-reads, elsewhere, grammar, read-by-parts, ◌before◌}
 use Rattle.cpp_press_laws.proofs.ReadBack.Functions.{mark_value, mark_bytes, mark-reads, maybe-mark-reads}
 use Rattle.cpp_press_laws.proofs.ReadBack.Names.{alone-arguments}
-use Rattle.cpp_press_laws.specs.Texts.{mark_letter}
-use Rattle.cpp_press_laws.specs.Fits.{IsAbiMark}
 
 -- ## Whole names
 
--- what begins with an S
+-- a name that begins with an S
 behind-the-s : (around : Around) (allowed : Option ℕ) (v : Value) (place : ℕ) (cs : List Component) (w : Written)
     → ReadsAt around allowed (OfKind NAME_AFTER_S) (Is v) (place + 1) cs w
     → ReadsAt around allowed (OfKind COMPLETE_NAME) (Is v) place cs (written (83 ∷ w.bytes) w.components)

@@ -1,42 +1,17 @@
 -- Parameters, qualified types, function types and what follows Dv are read as what was pressed, from their parts.
-use Rattle.std.proofs.Common.{◌≡◌, ℕ, ◌+◌, ◌<◌, ◌≤◌, length, List, [], ◌∷◌, ◌++◌, Option, Some, Bool, true, false, Ok, refl, ap, arith, ◌∙◌, append-nil, sym, subst, cond, None}
-use Rattle.std.specs.Prelude.{nat_lt, slice_get, Result, Err, codes}
-use Rattle.sym_core.specs.declared.NumberKind.TheVariants.{Decimal, Digits}
+use Rattle.cpp_press_laws.proofs.Basics.{◌≡◌, ℕ, ◌+◌, ◌<◌, ◌≤◌, length, List, [], ◌∷◌, ◌++◌, Option, Some, Bool, true, false, Ok, refl, ap, arith, ◌∙◌, append-nil, sym, subst, cond, None, nat_lt, slice_get, Result, Err, codes, Decimal, Digits, TakesRule, ◌>>=◌, Next, found, Kind, Production, TYPE, PLAIN, ITEM_BUT_REF, AFTER_D, SOLID, FUNCTION_REST, AFTER_R, AFTER_O, ARGUMENTS_ALONE, choose, kinds, parts_of, is_chain, may_be_empty, abi, rule_of, RefQualifier, any_value, lvalue_only, rvalue_only, Term, parameter, lvalue, rvalue, vector, function_type, qualified, nil, list, explicit_object, count, element, length_if_pack, State, Around, Value, nothing_there, letter, tree, signature, text_of, appended, with_packs, parameter_named, between, after, applied, listed_so_far, parameter_so_far, index_of, Continuation, meaning, listed_value, with_item, signature_or, parameters, close, byte_of, components_of, Component, ordinal, mark_letter, PacksFit, IsAbiMark, AreSpellableDigits, greatest, Written, written, ReadsAt, Is, IsAllowed, Reads, Sym, Refusal, BadReference}
 use Rattle.sym_shape.specs.declared.rule.Sym.TheVariants.{Kind as OfKind, Number}
-use Rattle.sym_shape.specs.Tree.{TakesRule}
-use Rattle.sym_link.specs.Reading.{◌>>=◌, Next}
-use Rattle.sym_link.specs.Unfold.{found}
-use Rattle.cpp_grammar.specs.declared.kind.Kind.{Kind}
-use Rattle.cpp_grammar.specs.declared.production.Production.{Production}
-use Rattle.cpp_grammar.specs.KindNumbers.{TYPE, PLAIN, ITEM_BUT_REF, AFTER_D, SOLID, FUNCTION_REST, AFTER_R, AFTER_O, ARGUMENTS_ALONE}
-use Rattle.cpp_grammar.specs.Grammar.{choose, kinds, parts_of, is_chain, may_be_empty}
-use Rattle.cpp_grammar.specs.Table.{abi, rule_of}
-use Rattle.cpp_grammar.specs.Term.{RefQualifier, any_value, lvalue_only, rvalue_only, Term, parameter, lvalue, rvalue, vector, function_type, qualified, nil, list, explicit_object}
-use Rattle.cpp_grammar.specs.Scope.{count, element, length_if_pack}
 use Rattle.cpp_grammar.specs.Values as value
-use Rattle.cpp_grammar.specs.Values.{State, Around, Value, nothing_there, letter, tree, signature, text_of}
-use Rattle.cpp_grammar.specs.References.{appended, with_packs, parameter_named}
-use Rattle.cpp_grammar.specs.Between.{between, after, applied, listed_so_far, parameter_so_far, index_of, Continuation}
-use Rattle.cpp_grammar.specs.Meaning.{meaning, listed_value, with_item, signature_or, parameters}
 use Rattle.cpp_grammar.specs.Unfolding as unfolding_
-use Rattle.cpp_grammar.specs.Unfolding.{close, byte_of}
-use Rattle.cpp_press_laws.specs.Components.{components_of, Component}
-use Rattle.cpp_press_laws.specs.Texts.{ordinal, mark_letter}
-use Rattle.cpp_press_laws.specs.Fits.{PacksFit, IsAbiMark}
-use Rattle.cpp_press_laws.specs.Spellable.{AreSpellableDigits}
-use Rattle.cpp_press_laws.specs.Subtrees.{greatest, Written, written, ReadsAt, Is, IsAllowed, Reads}
 use Rattle.cpp_press_laws.proofs.ReadBack.Tokens.{ordinal_digits, ordinal_token, ordinal-spelled, ordinal-is-token, ordinal-value}
 use Rattle.cpp_press_laws.proofs.ReadBack.Reading.{appended-same, takes-byte, takes-none, fixed-reads, empty-reads, number-reads, PartsRead, component-by-parts, digits-read, grammar, read-by-parts, same-written, more, Means, ◌before◌}
 use Rattle.cpp_press_laws.proofs.ReadBack.References.{packs-fit}
 use Rattle.cpp_press_laws.proofs.ByKind.Rules.{OnGoing}
-use Rattle.sym_shape.specs.declared.rule.Sym.{Sym}
 use Rattle.cpp_press_laws.proofs.ReadBack.Solids.{reference, reference_letter}
-use Rattle.sym_core.specs.declared.refusal.Refusal.{Refusal}
-use Rattle.sym_core.specs.declared.refusal.Refusal.TheVariants.{BadReference}
 
 -- ## Parameters
 
--- a parameter that may be where it is: it names an argument of the scope, of the packs that are allowed
+-- a parameter that is allowed: it names an argument of the scope, and if that is a pack, its length is allowed
 pub record IsInScope (around : Around) (allowed : Option ℕ) (k : ℕ) : Type 0 where
   pub arguments : Term
   pub scoped : around.scope ≡ Some arguments
@@ -148,7 +123,7 @@ maybe-mark-reads kind byte at chosen small may false = empty-reads kind at may
 abbrev pub qualified_with : (restrict volatile const : Bool) → Term → Term
 qualified_with restrict volatile const t = qualified (record { restrict = restrict; volatile = volatile; const = const }) t
 
--- a type after its letters, the first of which is the one that the production takes
+-- a type after the letters of its qualifiers; the production takes the first letter
 pub const-reads : (around : Around) (allowed : Option ℕ) (k : ℕ) (t : Term) (place : ℕ) (cs : List Component) (w : Written)
     → TakesRule abi k (rule_of Production.ConstType) (75 ∷ [])
     → ReadsAt around allowed (OfKind PLAIN) (Is (tree t true)) (place + 1) cs w
@@ -214,7 +189,7 @@ vector-behind-d around allowed digits t place cs w good one =
 
 -- ## Function types
 
--- what is left of a function type's parameters, with these items and this mark
+-- the rest of a function type's parameters is read as these items and this mark
 abbrev pub RestReads : Around → Option ℕ → (items : Term) → RefQualifier → (place : ℕ) → List Component → Written → Type 0
 RestReads around allowed items ref place cs w = ReadsAt around allowed (OfKind FUNCTION_REST) (Is (signature items ref)) place cs w
 
@@ -248,7 +223,7 @@ rest-item around allowed t items ref place cs first rest one two =
     (takes-none FUNCTION_REST Kind.FunctionRest Production.RestItem 80 refl refl (omega arith) refl) tt refl
     (λ s c q. one s c q before λ s c q. two s c q before λ began s. refl)
 
--- a parameter that is a reference which is spelled out becomes a component before those after it
+-- a parameter that is a spelled-out reference type becomes a component before the parameters after it are read
 pub rest-reference : (r : Bool) (around : Around) (allowed : Option ℕ) (t items : Term) (ref : RefQualifier) (place : ℕ) (cs : List Component)
     (first rest : Written)
     → ReadsAt around allowed (OfKind TYPE) (Is (tree t true)) (place + 1 + 0) cs first

@@ -1,25 +1,8 @@
 -- Literals, addresses and packs are read as what was pressed, from their parts.
-use Rattle.std.proofs.Common.{◌≡◌, ℕ, ◌+◌, ◌<◌, length, List, [], ◌∷◌, ◌++◌, Option, Some, Bool, true, false, Ok, refl, ap, arith, ◌∙◌}
-use Rattle.std.specs.Prelude.{cond}
+use Rattle.cpp_press_laws.proofs.Basics.{◌≡◌, ℕ, ◌+◌, ◌<◌, length, List, [], ◌∷◌, ◌++◌, Option, Some, Bool, true, false, Ok, refl, ap, arith, ◌∙◌, cond, TakesRule, found, Kind, Production, ENCODING, INTEGER, ARGUMENT, ARGUMENT_LIST, PACK_LIST, LITERAL, LITERAL_AFTER_D, LITERAL_TYPE, ADDRESSED_EXPRESSION, ADDRESSED_LITERAL, EXPRESSION, EXPRESSION_AFTER_A, number_of_kind, choose, kinds, parts_of, is_chain, abi, rule_of, Signed, Term, builtin, integer, boolean, null_pointer, encoding_literal, address_of, pack, list, absent, Around, Value, nothing_there, letter, signed, tree, pair, signed_of, is_listed, part, appended, with_type, between, no_items, operation_by, operation_or_address, is_code, enclosed_argument, ends_arguments, meaning, close, byte_of, Component, IsSpellableNumber, Written, written, ReadsAt, Is}
 use Rattle.std.proofs.lemmas.List.{append_assoc}
 use Rattle.sym_shape.specs.declared.rule.Sym.TheVariants.{Kind as OfKind}
-use Rattle.sym_shape.specs.Tree.{TakesRule}
-use Rattle.sym_link.specs.Unfold.{found}
-use Rattle.cpp_grammar.specs.declared.kind.Kind.{Kind}
-use Rattle.cpp_grammar.specs.declared.production.Production.{Production}
-use Rattle.cpp_grammar.specs.KindNumbers.{ENCODING, INTEGER, ARGUMENT, ARGUMENT_LIST, PACK_LIST, LITERAL, LITERAL_AFTER_D, LITERAL_TYPE, ADDRESSED_EXPRESSION, ADDRESSED_LITERAL, EXPRESSION, EXPRESSION_AFTER_A}
-use Rattle.cpp_grammar.specs.Grammar.{number_of_kind, choose, kinds, parts_of, is_chain}
-use Rattle.cpp_grammar.specs.Table.{abi, rule_of}
-use Rattle.cpp_grammar.specs.Term.{Signed, Term, builtin, integer, boolean, null_pointer, encoding_literal, address_of, pack, list, absent}
-use Rattle.cpp_grammar.specs.Values.{Around, Value, nothing_there, letter, signed, tree, pair, signed_of, is_listed, part}
-use Rattle.cpp_grammar.specs.References.{appended, with_type}
-use Rattle.cpp_grammar.specs.Between.{between, no_items}
-use Rattle.cpp_grammar.specs.Meaning.{operation_by, operation_or_address, is_code, enclosed_argument, ends_arguments, meaning}
 use Rattle.cpp_grammar.specs.Unfolding as unfolding_
-use Rattle.cpp_grammar.specs.Unfolding.{close, byte_of}
-use Rattle.cpp_press_laws.specs.Components.{Component}
-use Rattle.cpp_press_laws.specs.Spellable.{IsSpellableNumber}
-use Rattle.cpp_press_laws.specs.Subtrees.{Written, written, ReadsAt, Is}
 use Rattle.cpp_press_laws.proofs.ReadBack.Reading.{appended-same, takes-byte, takes-none, fixed-reads, empty-reads, grammar, read-by-parts, ◌before◌}
 use Rattle.cpp_press_laws.proofs.ReadBack.Functions.{mark-reads}
 use Rattle.cpp_press_laws.proofs.ReadBack.Arguments.{listed_now, list_kind}
@@ -69,7 +52,7 @@ char-literal around allowed byte n place cs small chosen good w one =
     (takes-byte LITERAL_AFTER_D Kind.LiteralAfterD Production.CharLiteral byte refl chosen small refl) tt refl
     (λ s c q. one s c q before λ began s. refl))
 
--- an integer whose type becomes a component before its number, or is one already or never is one
+-- an integer; before its number, its type becomes a component, or is a component already, or never is one
 pub integer-literal : (listed : Bool) (around : Around) (allowed : Option ℕ) (t : Term) (n : Signed) (place : ℕ) (cs : List Component)
     (first rest : Written) → ReadsAt around allowed (OfKind LITERAL_TYPE) (Is (tree t listed)) (place + 0) cs first
     → ReadsAt around allowed (OfKind INTEGER) (Is (signed n)) (place + 0 + length first.bytes) (listed_now around listed first.components t) rest

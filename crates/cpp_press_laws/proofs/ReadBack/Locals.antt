@@ -1,31 +1,14 @@
 -- Lambdas and unnamed types are read as what was pressed. Their numbers are tested before their parts are read.
-use Rattle.std.proofs.Common.{◌≡◌, ℕ, ◌+◌, ◌-◌, ◌<◌, length, List, [], ◌∷◌, ◌++◌, Option, true, false, Ok, refl, ap, arith, ◌∙◌}
-use Rattle.std.specs.Prelude.{nat_lt, ◌^◌, Result, Err}
-use Rattle.sym_core.specs.declared.refusal.Refusal.{Refusal}
-use Rattle.sym_core.specs.declared.refusal.Refusal.TheVariants.{BadValue}
-use Rattle.sym_core.specs.declared.NumberKind.TheVariants.{Decimal}
-use Rattle.sym_core.specs.Token.{bytes_of, Token}
+use Rattle.cpp_press_laws.proofs.Basics.{◌≡◌, ℕ, ◌+◌, ◌-◌, ◌<◌, length, List, [], ◌∷◌, ◌++◌, Option, true, false, Ok, refl, ap, arith, ◌∙◌, nat_lt, ◌^◌, Result, Err, Refusal, BadValue, Decimal, bytes_of, Token, found, Kind, Production, ANONYMOUS, ITEM, ITEMS, FIRST_OF_LAMBDA, Term, lambda, unnamed, list, State, Around, Value, nothing_there, tree, piece, local_number, in_signature, no_items, parameters, signature_with, last_token, number_tested, opening, Component, ordinal, greatest, Written, written, ReadsAt, Is}
 use Rattle.sym_shape.specs.declared.rule.Sym.TheVariants.{Kind as OfKind, Number, Byte}
-use Rattle.sym_link.specs.Unfold.{found}
-use Rattle.cpp_grammar.specs.declared.kind.Kind.{Kind}
-use Rattle.cpp_grammar.specs.declared.production.Production.{Production}
-use Rattle.cpp_grammar.specs.KindNumbers.{ANONYMOUS, ITEM, ITEMS, FIRST_OF_LAMBDA}
-use Rattle.cpp_grammar.specs.Term.{Term, lambda, unnamed, list}
 use Rattle.cpp_grammar.specs.Values as value
-use Rattle.cpp_grammar.specs.Values.{State, Around, Value, nothing_there, tree, piece, local_number}
-use Rattle.cpp_grammar.specs.Between.{in_signature, no_items}
-use Rattle.cpp_grammar.specs.Meaning.{parameters, signature_with}
-use Rattle.cpp_grammar.specs.Unfolding.{last_token, number_tested, opening}
-use Rattle.cpp_press_laws.specs.Components.{Component}
-use Rattle.cpp_press_laws.specs.Texts.{ordinal}
-use Rattle.cpp_press_laws.specs.Subtrees.{greatest, Written, written, ReadsAt, Is}
 use Rattle.cpp_press_laws.proofs.ReadBack.Tokens.{ordinal_digits, ordinal_token, ordinal-spelled, ordinal-is-token, ordinal-value}
 use Rattle.cpp_press_laws.proofs.ReadBack.Arguments.{item-as-first}
 use Rattle.cpp_press_laws.proofs.ReadBack.Reading.{takes-byte, closes-same, production-opened, fixed-reads, number-reads, grammar, row-of, token-reads, same-written, shape-reads, ◌before◌}
 use Rattle.cpp_press_laws.proofs.ByKind.LeafKinds.{digits-behind}
 use Rattle.sym_shape.specs.Tree.{Tree as Shape, Forest, grown, fixed, token, nothing}
 
--- the number of a lambda or an unnamed type is that of its digits, and has 64 bits
+-- the digits of a lambda or an unnamed type have its number as their value, if it has 64 bits
 number-kept : (j : ℕ) → j < greatest → local_number (ordinal_digits j) ≡ j + 1
 unfolding local_number
 number-kept j small = ap (λ n. n + 1) (ordinal-value j (omega (arith, small)))

@@ -1,37 +1,20 @@
 -- Pieces of names are read wherever names are: as a name with arguments or without, after St, and as the first of a name between N and E.
-use Rattle.std.proofs.Common.{◌≡◌, ℕ, ◌+◌, ◌-◌, ◌<◌, length, List, [], ◌∷◌, ◌++◌, Option, Some, Bool, true, false, ◌⊎◌, inl, inr, refl, ap, arith, sym, subst, ◌∙◌, append_assoc}
-use Rattle.std.proofs.lemmas.Bool.{ltb-true}
-use Rattle.std.specs.Prelude.{cond, codes, nat_lt, ◌^◌}
+use Rattle.cpp_press_laws.proofs.Basics.{◌≡◌, ℕ, ◌+◌, ◌-◌, ◌<◌, length, List, [], ◌∷◌, ◌++◌, Option, Some, Bool, true, false, ◌⊎◌, inl, inr, refl, ap, arith, sym, subst, ◌∙◌, append_assoc, ltb-true, cond, codes, nat_lt, ◌^◌, TakesRule, Kind, Production, COMPLETE_NAME, UNQUALIFIED, COMPONENT, ENTITY, TYPE_ENTITY, ANONYMOUS, ITEM, SOLID, SOURCE_OR_LOCAL, ITEMS, LITERAL_TYPE, OPERATOR, OTHER_OPERATOR, choose, kinds, abi, rule_of, Term, source, operator, literal_operator, constructor, destructor, lambda, unnamed, list, Around, Value, tree, piece, in_signature, extended, no_items, parameters, Component, counted, ordinal, IsSpellableName, IsOperator, greatest, Written, written, ReadsAt, Is, begins_name, names_type, names_function, names_member, IsLocalNumber}
 use Rattle.sym_shape.specs.declared.rule.Sym.TheVariants.{Kind as OfKind}
-use Rattle.sym_shape.specs.Tree.{TakesRule}
-use Rattle.cpp_grammar.specs.declared.kind.Kind.{Kind}
-use Rattle.cpp_grammar.specs.declared.production.Production.{Production}
-use Rattle.cpp_grammar.specs.KindNumbers.{COMPLETE_NAME, UNQUALIFIED, COMPONENT, ENTITY, TYPE_ENTITY, ANONYMOUS, ITEM, SOLID, SOURCE_OR_LOCAL, ITEMS, LITERAL_TYPE, OPERATOR, OTHER_OPERATOR}
-use Rattle.cpp_grammar.specs.Grammar.{choose, kinds}
-use Rattle.cpp_grammar.specs.Table.{abi, rule_of}
-use Rattle.cpp_grammar.specs.Term.{Term, source, operator, literal_operator, constructor, destructor, lambda, unnamed, list}
-use Rattle.cpp_grammar.specs.Values.{Around, Value, tree, piece}
-use Rattle.cpp_grammar.specs.Between.{in_signature, extended, no_items}
-use Rattle.cpp_grammar.specs.Meaning.{parameters}
-use Rattle.cpp_press_laws.specs.Components.{Component}
-use Rattle.cpp_press_laws.specs.Texts.{counted, ordinal}
-use Rattle.cpp_press_laws.specs.Spellable.{IsSpellableName, IsOperator}
-use Rattle.cpp_press_laws.specs.Subtrees.{greatest, Written, written, ReadsAt, Is}
 use Rattle.cpp_press_laws.proofs.ReadBack.Reading.{takes-none, takes-byte, elsewhere, grammar, same-written}
 use Rattle.cpp_press_laws.proofs.ReadBack.Functions.{mark-reads}
 use Rattle.cpp_press_laws.proofs.ReadBack.Names.{SoFar, source-name, internal-name, operator-name, other-operator-name, operator-name-with-c, local-type-name, constructor-name, destructor-name, NamesAt}
 use Rattle.cpp_press_laws.proofs.ReadBack.Nests.{nest-source, nest-internal, nest-local-type}
 use Rattle.cpp_press_laws.proofs.ReadBack.Pieces.{source-piece, internal-piece, local-type-piece, operator-piece, operator-reads, literal-operator-reads, operator-stands}
 use Rattle.cpp_press_laws.proofs.ReadBack.Locals.{lambda-reads, unnamed-reads}
-use Rattle.cpp_press_laws.specs.Fits.{begins_name, names_type, names_function, names_member, IsLocalNumber}
 
 -- ## What a kind takes
 
--- a kind of names of operators: components have other productions for them
+-- a kind that reads the names of operators; a component has other productions for them
 abbrev pub OperatorRule : ℕ → Type 0
 OperatorRule k = TakesRule abi k (rule_of Production.OperatorName) [] ⊎ (k ≡ 19)
 
--- a kind whose productions name a piece, with arguments where there are some
+-- a kind whose productions read a piece, with or without arguments
 abbrev pub NameRule : ℕ → Term → Type 0
 NameRule k (source true name) = TakesRule abi k (rule_of Production.InternalName) (76 ∷ [])
 NameRule k (source false name) = TakesRule abi k (rule_of Production.SourceName) []
@@ -43,7 +26,7 @@ NameRule k (lambda parameters j) = TakesRule abi k (rule_of Production.LocalType
 NameRule k (unnamed j) = TakesRule abi k (rule_of Production.LocalTypeName) (85 ∷ [])
 NameRule k _ = ⊥
 
--- a kind of a piece after St
+-- a kind that reads a piece after St
 abbrev pub PieceRule : ℕ → Term → Type 0
 PieceRule k (source true name) = TakesRule abi k (rule_of Production.InternalPiece) (76 ∷ [])
 PieceRule k (source false name) = TakesRule abi k (rule_of Production.SourcePiece) []
@@ -53,7 +36,7 @@ PieceRule k (lambda parameters j) = TakesRule abi k (rule_of Production.LocalTyp
 PieceRule k (unnamed j) = TakesRule abi k (rule_of Production.LocalTypePiece) (85 ∷ [])
 PieceRule k _ = ⊥
 
--- the rule of a piece as a type, solid or a literal's
+-- the rule by which a piece is read as a type: a solid type, or the type of a literal
 pub type-rule : (p : Term) → names_type p ≡ true → NameRule SOLID p
 unfolding names_type begins_name grammar
 type-rule (source false name) h = takes-none SOLID Kind.Solid Production.SourceName 48 refl refl (omega arith) refl
@@ -151,7 +134,7 @@ source-reads around allowed false name place cs good = record {
   begins = λ h. nest-source around allowed name place cs good;
 }
 
--- an operator, from its reading as one
+-- an operator is read by each kind that reads operators, from its reading as an operator
 operators-read : (around : Around) (allowed : Option ℕ) (p : Term) (place : ℕ) (cs : List Component) (w : Written)
     → ((k : ℕ) → NameRule k p → OperatorRule k) → ((k : ℕ) → PieceRule k p → k ≡ 14)
     → begins_name p ≡ false → NamesAt around allowed COMPONENT p place cs w

@@ -1,29 +1,14 @@
 -- Names are read as what was pressed: a piece with its arguments, and names between N and E from piece to piece.
-use Rattle.std.proofs.Common.{ℕ, ◌+◌, length, List, [], ◌∷◌, ◌++◌, Option, Bool, true, false, refl, arith, sym, append_assoc, length-append}
+use Rattle.cpp_press_laws.proofs.Basics.{ℕ, ◌+◌, length, List, [], ◌∷◌, ◌++◌, Option, Bool, true, false, refl, arith, sym, append_assoc, length-append, TakesRule, Kind, Production, NEST, NEST_TAIL, COMPONENT, COMPONENT_AFTER_C, CONSTRUCTOR_DIGIT, COMPONENT_AFTER_D, ANONYMOUS, MAYBE_ARGUMENTS, ARGUMENTS_ALONE, NEST_REST, NEST_REST_ALONE, NEST_REST_OR_END, OPERATOR, OPERATOR_AFTER_C, OTHER_OPERATOR, CONSTRUCTOR_AFTER_C, kinds, may_be_empty, abi, rule_of, Term, source, operator, constructor, destructor, prefix_tree, prefix_listed, Around, Value, nothing_there, letter, tree, piece, appended, with_prefix, after, extended, applied, named_so_far, arguments_alone, rest_alone, Component, counted, IsSpellableName, Written, written, ReadsAt, Is}
 use Rattle.sym_shape.specs.declared.rule.Sym.TheVariants.{Kind as OfKind}
-use Rattle.sym_shape.specs.Tree.{TakesRule}
-use Rattle.cpp_grammar.specs.declared.kind.Kind.{Kind}
-use Rattle.cpp_grammar.specs.declared.production.Production.{Production}
-use Rattle.cpp_grammar.specs.KindNumbers.{NEST, NEST_TAIL, COMPONENT, COMPONENT_AFTER_C, CONSTRUCTOR_DIGIT, COMPONENT_AFTER_D, ANONYMOUS, MAYBE_ARGUMENTS, ARGUMENTS_ALONE, NEST_REST, NEST_REST_ALONE, NEST_REST_OR_END, OPERATOR, OPERATOR_AFTER_C, OTHER_OPERATOR, CONSTRUCTOR_AFTER_C}
-use Rattle.cpp_grammar.specs.Grammar.{kinds, may_be_empty}
-use Rattle.cpp_grammar.specs.Table.{abi, rule_of}
-use Rattle.cpp_grammar.specs.Term.{Term, source, operator, constructor, destructor}
 use Rattle.cpp_grammar.specs.Values as value
-use Rattle.cpp_grammar.specs.Values.{prefix_tree, prefix_listed, Around, Value, nothing_there, letter, tree, piece}
-use Rattle.cpp_grammar.specs.References.{appended, with_prefix}
-use Rattle.cpp_grammar.specs.Between.{after, extended, applied, named_so_far}
-use Rattle.cpp_grammar.proofs.Alone.{arguments_alone, rest_alone}
 use Rattle.cpp_grammar.proofs.Rests.{abi_rest}
-use Rattle.cpp_press_laws.specs.Components.{Component}
-use Rattle.cpp_press_laws.specs.Texts.{counted}
-use Rattle.cpp_press_laws.specs.Spellable.{IsSpellableName}
-use Rattle.cpp_press_laws.specs.Subtrees.{Written, written, ReadsAt, Is}
 use Rattle.cpp_press_laws.proofs.ReadBack.Reading.{appended-same, takes-byte, takes-none, empty-reads, name-reads, elsewhere, grammar, read-by-parts, same-written, reshaped, ◌before◌}
 use Rattle.cpp_press_laws.proofs.ReadBack.Arguments.{listed_now}
 
 -- ## A piece and its arguments
 
--- no arguments
+-- no bytes are read as no arguments
 pub no-arguments : (around : Around) (allowed : Option ℕ) (place : ℕ) (cs : List Component)
     → ReadsAt around allowed (OfKind MAYBE_ARGUMENTS) (Is nothing_there) place cs (written [] cs)
 unfolding kinds may_be_empty

@@ -1,18 +1,7 @@
 -- What begins a name between N and E, and arguments within it, are read as what was pressed.
-use Rattle.std.proofs.Common.{◌≡◌, ℕ, ◌+◌, length, List, [], ◌∷◌, ◌++◌, Option, Bool, true, false, refl, ap, arith, sym, subst, ◌∙◌, append_assoc, length-append}
+use Rattle.cpp_press_laws.proofs.Basics.{◌≡◌, ℕ, ◌+◌, length, List, [], ◌∷◌, ◌++◌, Option, Bool, true, false, refl, ap, arith, sym, subst, ◌∙◌, append_assoc, length-append, Kind, Production, UNQUALIFIED, NEST, NEST_AFTER_S, NEST_REST, NEST_TAIL, COMPONENT, ABBREVIATION, ANONYMOUS, MAYBE_ARGUMENTS, ARGUMENT_LIST, NEST_REST_ALONE, Term, source, in_std, instance, parameter, prefix_tree, prefix_listed, Around, Value, nothing_there, tree, piece, part, appended, with_prefix, parameter_named, after, inside, extended, applied, no_items, named_so_far, listed_so_far, parameter_so_far, Component, counted, ordinal, IsSpellableName, Written, written, ReadsAt, Is}
 use Rattle.sym_shape.specs.declared.rule.Sym.TheVariants.{Kind as OfKind}
-use Rattle.cpp_grammar.specs.declared.kind.Kind.{Kind}
-use Rattle.cpp_grammar.specs.declared.production.Production.{Production}
-use Rattle.cpp_grammar.specs.KindNumbers.{UNQUALIFIED, NEST, NEST_AFTER_S, NEST_REST, NEST_TAIL, COMPONENT, ABBREVIATION, ANONYMOUS, MAYBE_ARGUMENTS, ARGUMENT_LIST, NEST_REST_ALONE}
-use Rattle.cpp_grammar.specs.Term.{Term, source, in_std, instance, parameter}
 use Rattle.cpp_grammar.specs.Values as value
-use Rattle.cpp_grammar.specs.Values.{prefix_tree, prefix_listed, Around, Value, nothing_there, tree, piece, part}
-use Rattle.cpp_grammar.specs.References.{appended, with_prefix, parameter_named}
-use Rattle.cpp_grammar.specs.Between.{after, inside, extended, applied, no_items, named_so_far, listed_so_far, parameter_so_far}
-use Rattle.cpp_press_laws.specs.Components.{Component}
-use Rattle.cpp_press_laws.specs.Texts.{counted, ordinal}
-use Rattle.cpp_press_laws.specs.Spellable.{IsSpellableName}
-use Rattle.cpp_press_laws.specs.Subtrees.{Written, written, ReadsAt, Is}
 use Rattle.cpp_press_laws.proofs.ReadBack.Tokens.{ordinal_digits}
 use Rattle.cpp_press_laws.proofs.ReadBack.Reading.{appended-same, takes-byte, takes-none, fixed-reads, name-reads, first-reads, elsewhere, grammar, read-by-parts, same-written, more, Means, ◌before◌}
 use Rattle.cpp_press_laws.proofs.ReadBack.Functions.{IsInScope, parameter-parts}
@@ -87,7 +76,7 @@ nest-std around allowed p last place cs first args one two v rest third =
 
 -- ## Arguments after a first part
 
--- the arguments of a name, which becomes a component before them if it isn't one, and a piece after them
+-- arguments, and a piece after them; before the arguments, the name becomes a component if it isn't one yet
 arguments-and-more : (listed : Bool) (around : Around) (allowed : Option ℕ) (t : Term) (last : Value) (at : ℕ) (cs : List Component)
     (args : Written) (u : Term) (v : Value) (comp rest : Written)
     → ReadsAt (inside around) allowed (OfKind ARGUMENT_LIST) (Is last) (at + 1) (listed_now around listed cs t) args
@@ -113,8 +102,8 @@ arguments-and-more false around allowed t last at cs args u v comp rest one two 
     before λ s c q. two false (appended around whole s) (appended-same around whole s c) q before λ s c q. three s c q
     before λ began s. refl)
 
--- arguments and a piece after them: before the arguments the name so far becomes a component, and before the piece the instance
--- does
+-- arguments and a piece after them: the name so far becomes a component before the arguments, and the instance becomes one
+-- before the piece
 pub nest-arguments : (around : Around) (allowed : Option ℕ) (t items : Term) (listed : Bool) (last : Value) (place : ℕ) (cs : List Component)
     (w args : Written) → no_items last ≡ items
     → SoFar around allowed t listed 17 place cs w

@@ -1,23 +1,7 @@
 -- Pieces of names are read as what was pressed.
-use Rattle.std.proofs.Common.{◌≡◌, ℕ, ◌+◌, ◌<◌, ◌⊎◌, inl, inr, List, [], ◌∷◌, ◌++◌, Bool, Option, Some, true, false, ◌||◌, nat_eq, slice_get, refl, ap, sym, ◌∙◌, arith, subst}
-use Rattle.std.proofs.lemmas.Bool.{eqb-true}
+use Rattle.cpp_press_laws.proofs.Basics.{◌≡◌, ℕ, ◌+◌, ◌<◌, ◌⊎◌, inl, inr, List, [], ◌∷◌, ◌++◌, Bool, Option, Some, true, false, ◌||◌, nat_eq, slice_get, refl, ap, sym, ◌∙◌, arith, subst, eqb-true, TakesRule, Kind, Production, UNQUALIFIED, ANONYMOUS, OPERATOR, OPERATOR_AFTER_C, OPERATOR_AFTER_L, in_ranges, among, is_in, pick, number_of_kind, alternatives, choose, kinds, number_of, parts_of, abi, rule_of, Term, source, operator, literal_operator, Around, letter, piece, operator_or_literal, byte_of, Component, counted, same_choice, each_below, below, kept, IsSpellableName, IsOperator, Written, written, ReadsAt, Is, Reads}
 use Rattle.sym_shape.specs.declared.rule.Sym.TheVariants.{Kind as OfKind}
-use Rattle.sym_shape.specs.Tree.{TakesRule}
-use Rattle.cpp_grammar.specs.declared.kind.Kind.{Kind}
-use Rattle.cpp_grammar.specs.declared.production.Production.{Production}
-use Rattle.cpp_grammar.specs.KindNumbers.{UNQUALIFIED, ANONYMOUS, OPERATOR, OPERATOR_AFTER_C, OPERATOR_AFTER_L}
-use Rattle.cpp_grammar.specs.Grammar.{in_ranges, among, is_in, pick, number_of_kind, alternatives, choose, kinds, number_of, parts_of}
-use Rattle.cpp_grammar.specs.Table.{abi, rule_of}
-use Rattle.cpp_grammar.specs.Term.{Term, source, operator, literal_operator}
 use Rattle.cpp_grammar.specs.Values as value
-use Rattle.cpp_grammar.specs.Values.{Around, letter, piece}
-use Rattle.cpp_grammar.specs.Meaning.{operator_or_literal}
-use Rattle.cpp_grammar.specs.Unfolding.{byte_of}
-use Rattle.cpp_press_laws.specs.Components.{Component}
-use Rattle.cpp_press_laws.specs.Texts.{counted}
-use Rattle.cpp_grammar.proofs.Growing.{same_choice, each_below, below, kept}
-use Rattle.cpp_press_laws.specs.Spellable.{IsSpellableName, IsOperator}
-use Rattle.cpp_press_laws.specs.Subtrees.{Written, written, ReadsAt, Is, Reads}
 use Rattle.cpp_press_laws.proofs.ReadBack.Reading.{takes-byte, takes-none, name-reads, closes-same, grammar, production-opened, read-by-parts, row-of, ◌before◌}
 use Rattle.cpp_press_laws.proofs.ReadBack.Functions.{mark-reads}
 use Rattle.cpp_press_laws.proofs.ByKind.Rules.{OnGoing}
@@ -59,7 +43,7 @@ operator-piece around allowed p place cs w one =
 
 -- ## Operators
 
--- two letters, of a kind that takes the production of the first
+-- an operator of two letters, for a kind that takes the first letter's production
 pub operator-reads : (k : ℕ) (around : Around) (allowed : Option ℕ) (first second place : ℕ) (cs : List Component) → second < 256
     → (is : IsOperator first second) → TakesRule abi k (rule_of is.production) (first ∷ [])
     → ReadsAt around allowed (OfKind k) (Is (piece (operator first second))) place cs (written (first ∷ second ∷ []) cs)
@@ -75,7 +59,7 @@ operator-reads k around allowed first second place cs small is takes =
     (closes-same is.production first around allowed place _ cs (piece (operator first second))
     (λ values good began s. rw good (is.means around place began s)))
 
--- a literal operator, of a kind that takes its l
+-- a literal operator, for a kind that takes its l
 pub literal-operator-reads : (k : ℕ) (around : Around) (allowed : Option ℕ) (name : List ℕ) (place : ℕ) (cs : List Component) → IsSpellableName name
     → TakesRule abi k (rule_of Production.OperatorL) (108 ∷ [])
     → ReadsAt around allowed (OfKind k) (Is (piece (literal_operator name))) place cs (written (108 ∷ 105 ∷ counted name) cs)
@@ -93,7 +77,7 @@ operators-other : each_below 256 (λ b. nat_eq b 99 || same_choice (choose Kind.
 unfolding choose alternatives pick is_in in_ranges among same_choice each_below number_of
 operators-other = refl
 
--- the kind after a c
+-- the second letter of an operator that begins with a c
 behind-c : (p : Production) (number : ℕ) (kind : Kind) (b : ℕ) → choose Kind.Operator 99 ≡ Some p → parts_of p ≡ OfKind number ∷ [] → slice_get kinds number ≡ Some kind
     → choose kind b ≡ Some Production.Mark → choose Kind.OperatorAfterC b ≡ Some Production.Mark
 unfolding choose alternatives pick is_in in_ranges among kinds parts_of number_of_kind
@@ -105,7 +89,7 @@ behind-c p number kind b chosen parts at marked =
     let is : Kind.OperatorAfterC ≡ kind = cc kinds_are in
     ap (λ k. choose k b) is ∙ marked
 
--- an operator begins with a c, or is chosen where none does
+-- an operator begins with a c, or is read by the kind of the operators that begin with no c
 pub operator-stands : (a b : ℕ) → a < 256 → (is : IsOperator a b)
     → ((a ≡ 99) × (choose Kind.OperatorAfterC b ≡ Some Production.Mark)) ⊎ (choose Kind.OtherOperator a ≡ Some is.production)
 operator-stands a b small is = go (nat_eq a 99) (same_choice (choose Kind.Operator a) (choose Kind.OtherOperator a)) refl refl

@@ -1,39 +1,14 @@
 -- What it means that a spelling is read, and how a production is read from its parts.
-use Rattle.std.proofs.Common.{◌≡◌, ℕ, ◌+◌, ◌<◌, length, List, [], ◌∷◌, ◌++◌, Option, Some, true, false, Ok, refl, ap, sym, subst, ◌∙◌, append-nil, Err}
-use Rattle.std.specs.Prelude.{slice_get, not, if◌then◌else◌}
-use Rattle.sym_shape.specs.declared.rule.Sym.{Sym}
+use Rattle.cpp_press_laws.proofs.Basics.{◌≡◌, ℕ, ◌+◌, ◌<◌, length, List, [], ◌∷◌, ◌++◌, Option, Some, true, false, Ok, refl, ap, sym, subst, ◌∙◌, append-nil, Err, slice_get, not, if◌then◌else◌, Sym, NumberKind, Token, bytes_of, IsNumberToken, Tree as Shape, Forest, branch, empty, token, fixed, grown, spell, spell_all, TakesRule, IsTree, AreTrees, unfold_tree, unfold_forest, found, standing, Kind, Production, ARGUMENT_LIST, ARGUMENTS_FIRST, in_ranges, among, is_in, pick, number_of_kind, alternatives, kinds, choose, parts_of, is_chain, may_be_empty, abi, rule_of, rule_taken, Term, appended, Continuation, between, meaning, cpp, opening, close, byte_of, list_first, rule_at_kind, empty_at_kind, at_number, its_symbols, Component, components_of, Written, written, IsAllowed, Reads, ReadsAt, Is, counted, IsSpellableName, AreDigitsOf, Digits}
 use Rattle.sym_shape.specs.declared.rule.Sym.TheVariants.{Kind as OfKind, Name, Number, Byte}
-use Rattle.sym_core.specs.declared.NumberKind.{NumberKind}
-use Rattle.sym_core.specs.Token.{Token, bytes_of, IsNumberToken}
-use Rattle.sym_shape.specs.Tree.{Tree as Shape, Forest, branch, empty, token, fixed, grown, spell, spell_all, TakesRule, IsTree, AreTrees}
 use Rattle.sym_shape.specs.Tree as shape
-use Rattle.sym_link.specs.Unfold.{unfold_tree, unfold_forest, found, standing}
-use Rattle.cpp_grammar.specs.declared.kind.Kind.{Kind}
-use Rattle.cpp_grammar.specs.declared.production.Production.{Production}
-use Rattle.cpp_grammar.specs.KindNumbers.{ARGUMENT_LIST, ARGUMENTS_FIRST}
-use Rattle.cpp_grammar.specs.Grammar.{in_ranges, among, is_in, pick, number_of_kind, alternatives, kinds, choose, parts_of, is_chain, may_be_empty}
-use Rattle.cpp_grammar.specs.Table.{abi, rule_of, rule_taken}
-use Rattle.cpp_grammar.specs.Term.{Term}
 use Rattle.cpp_grammar.specs.Values.{Candidate, State, Around, Value, nothing_there, text, tree, tree_of, text_of, piece_of, letter_of, ref_of, signed_of, adjustment_of, is_there, part, by_all}
-use Rattle.cpp_grammar.specs.References.{appended}
-use Rattle.cpp_grammar.specs.Between.{Continuation, between}
-use Rattle.cpp_grammar.specs.Meaning.{meaning}
 use Rattle.cpp_grammar.specs.Unfolding as unfolding_
-use Rattle.cpp_grammar.specs.Unfolding.{cpp, opening, close, byte_of}
-use Rattle.cpp_grammar.proofs.Alone.{list_first}
-use Rattle.cpp_grammar.proofs.Choosing.{rule_at_kind, empty_at_kind}
-use Rattle.cpp_grammar.proofs.ClosedTrees.{at_number, its_symbols}
-use Rattle.cpp_press_laws.specs.Components.{Component, components_of}
-use Rattle.cpp_press_laws.specs.Subtrees.{Written, written, IsAllowed, Reads, ReadsAt, Is}
 use Rattle.cpp_press_laws.proofs.ByKind.Rules.{OnGoing}
-use Rattle.cpp_press_laws.specs.Texts.{counted}
-use Rattle.cpp_press_laws.specs.Spellable.{IsSpellableName}
 use Rattle.cpp_press_laws.proofs.ReadBack.Tokens.{name_token, name-spelled, name-is-token, digits_token}
-use Rattle.sym_core.specs.Number.{AreDigitsOf}
-use Rattle.sym_core.specs.declared.NumberKind.TheVariants.{Digits}
 
 infixr 1 ◌before◌
--- the parts that are left of a production that began at a place in a state, after parts that are known
+-- the other parts of a production, after the known ones; `at` and `began` are the place and state in which the production begins
 pub record ReadsRow (p : Production) (taken : List ℕ) (around : Around) (allowed : Option ℕ) (at : ℕ) (began : State) (symbols : List Sym)
     (known : List Value) (Q : List Value → Type 0) (place : ℕ) (start : State) (w : Written) : Type 0 where
   pub forest : Forest
@@ -46,8 +21,8 @@ pub record ReadsRow (p : Production) (taken : List ℕ) (around : Around) (allow
   pub candidates : components_of state.candidates ≡ w.components
   pub packs : IsAllowed allowed state.packs
 
--- What a kind takes at a byte, what is done before the parts of a production, and what they mean. Proofs that compute
--- these, production by production, unfold this.
+-- What a kind takes at a byte, what is done before the parts of a production, and what the parts mean. Proofs that compute
+-- these, production by production, unfold `grammar`.
 unfoldable pub grammar : Unit {0}
 unfolding choose alternatives pick is_in in_ranges among kinds is_chain may_be_empty parts_of number_of_kind between close unfolding_.behind meaning byte_of part tree_of text_of piece_of letter_of ref_of signed_of adjustment_of is_there
 grammar = tt
@@ -72,7 +47,7 @@ appended-same around t s same =
 
 -- ## Rows
 
--- a part, and then what is left
+-- a part, and then the others
 abbrev pub ◌before◌ : {A B : Type 0} → A → B → A × B
 ◌before◌ one rest = (one, rest)
 
@@ -87,8 +62,8 @@ abbrev pub last_components : List Component → List Written → List Component
 last_components cs [] = cs
 last_components cs (w ∷ ws) = last_components w.components ws
 
--- The parts of a production that are left, after the known ones: what is written of each is read with its value, in its
--- surroundings and in the state before it. `End` is to hold of all values.
+-- The other parts of a production, after the known ones: what is written for each is read as the part's value, in the part's
+-- surroundings and in the state before it. `End` must hold of all values.
 abbrev pub PartsRead : Production → Around → Option ℕ → (at : ℕ) → (End : List Value → Type 0) → List Sym → (values : List Value)
     → List Written → (known : List Value) → (place : ℕ) → List Component → Type 0
 PartsRead p around allowed at End [] [] [] known place cs = End known
@@ -102,7 +77,7 @@ pub one-or-more : (w : Written) (ws : List Written) (spelled : List ℕ) → spe
 one-or-more w [] spelled same = ap (λ l. w.bytes ++ l) same ∙ append-nil w.bytes
 one-or-more w (x ∷ ws) spelled same = ap (λ l. w.bytes ++ l) same
 
--- a row is read where its parts are, one after the other
+-- a row is read if its parts are read, one after the other
 unfoldable pub row-of : (p : Production) (taken : List ℕ) (around : Around) (allowed : Option ℕ) (at : ℕ) (End : List Value → Type 0)
     (xs : List Sym) (vs : List Value) (ws : List Written) (known : List Value) (place : ℕ) (cs : List Component)
     → PartsRead p around allowed at End xs vs ws known place cs → (began s : State) → components_of s.candidates ≡ cs
@@ -181,7 +156,7 @@ takes-none k kind p byte at chosen small chain = record {
   takes = sym (ap (λ b. if not b then byte ∷ [] else []) chain);
 }
 
--- What a production means whose parts have these values: its value, and the state after it.
+-- What a production means if its parts have these values: the production's value, and the state after it.
 pub record Closes (p : Production) (byte : ℕ) (around : Around) (allowed inside : Option ℕ) (place : ℕ) (values : List Value)
     (middle components : List Component) (Q : Value → Type 0) (began s : State) : Type 0 where
   pub value : Value
@@ -197,7 +172,7 @@ ClosesAt p byte around allowed inside place R middle components Q =
     (values : List Value) → R values → (began s : State) → IsAllowed allowed began.packs → components_of s.candidates ≡ middle → IsAllowed inside s.packs
     → Closes p byte around allowed inside place values middle components Q began s
 
--- the state stays as it is
+-- a production leaves the state as it is
 pub closes-same : (p : Production) (byte : ℕ) (around : Around) (allowed : Option ℕ) (place : ℕ) (R : List Value → Type 0)
     (components : List Component) (v : Value)
     → ((values : List Value) → R values → (began s : State) → close p byte around place began values s ≡ Ok (found v s))
@@ -205,7 +180,7 @@ pub closes-same : (p : Production) (byte : ℕ) (around : Around) (allowed : Opt
 closes-same p byte around allowed place R components v means values good began s first same packs =
     record { value = v; good = refl; state = s; closes = means values good began s; candidates = same; packs = packs }
 
--- a tree becomes a component
+-- a production makes a tree a component
 pub closes-more : (p : Production) (byte : ℕ) (around : Around) (allowed : Option ℕ) (place : ℕ) (R : List Value → Type 0)
     (components : List Component) (v : Value) (t : Term)
     → ((values : List Value) → R values → (began s : State) → close p byte around place began values s ≡ Ok (found v (appended around t s)))
@@ -257,7 +232,7 @@ opens-plainly Production.Lambda plain f place s = absurd plain
 opens-plainly Production.Unnamed plain f place s = absurd plain
 opens-plainly _ plain f place s = refl
 
--- the meaning of a production over parts with known values, whatever state it began in and is in
+-- the meaning of a production over parts with known values, whatever the states before it and after its parts
 abbrev pub Means : Production → (byte : ℕ) → Around → (place : ℕ) → Value → (known : List Value) → Type 0
 Means p byte around place v known = (began s : State) → close p byte around place began known s ≡ Ok (found v s)
 
@@ -275,7 +250,7 @@ read-by-parts p k taken {around} {allowed} {place} {cs} {v} {bytes} values texts
     (λ s here packs. opens-plainly p plain _ place s)
     (closes-same p (byte_of taken) around allowed place _ after v (λ known means. means)))
 
--- Such a production is read from its parts, and makes a tree a component.
+-- A production that tests nothing before its parts is read from them, and makes a tree a component.
 pub component-by-parts : (p : Production) (k : ℕ) (taken : List ℕ) {around : Around} {allowed : Option ℕ} {place : ℕ} {cs : List Component}
     {bytes : List ℕ} (t : Term) (values : List Value) (texts : List Written)
     → TakesRule abi k (rule_of p) taken → TestsNothing p → taken ++ all_bytes texts ≡ bytes
@@ -332,7 +307,7 @@ pub empty-reads : {around : Around} {allowed : Option ℕ} {k place : ℕ} {cs :
 unfolding cpp
 empty-reads {k} kind at may = shape-reads empty (empty_at_kind k kind at ∙ may) (λ s. refl)
 
--- a token
+-- a token is read as its own bytes
 unfoldable pub token-reads : {around : Around} {allowed : Option ℕ} {place : ℕ} {cs : List Component} (x : Sym) (t : Token) → IsTree abi x (token t)
     → ReadsAt around allowed x (Is (text t.own)) place cs (written (bytes_of t) cs)
 unfolding cpp
@@ -355,7 +330,7 @@ unfolding abi
 name-reads {around} {allowed} {place} {cs} name good =
     same-written (name-spelled name) (token-reads Name (name_token name) (name-is-token name good))
 
--- a shape is read as another one is that is spelled and unfolded alike
+-- a shape is read as any other shape that is spelled and unfolded alike
 pub reshaped : {around : Around} {allowed : Option ℕ} {x y : Sym} {Q : Value → Type 0} {place : ℕ} {cs : List Component} {w : Written}
     → ((t : Shape) → IsTree abi x t → (u : Shape) × (spell u ≡ spell t) × IsTree abi y u
     × ((s : State) → unfold_tree cpp around place u s ≡ unfold_tree cpp around place t s))
@@ -375,7 +350,7 @@ reshaped other one s same packs =
       packs = r.packs;
     }
 
--- what is read as arguments is read so from the first one on
+-- what is read as a list of arguments is also read as a list that begins with an argument
 pub first-reads : {around : Around} {allowed : Option ℕ} {Q : Value → Type 0} {place : ℕ} {cs : List Component} {w : Written}
     → ReadsAt around allowed (OfKind ARGUMENT_LIST) Q place cs w → ReadsAt around allowed (OfKind ARGUMENTS_FIRST) Q place cs w
 first-reads one = reshaped (λ t is. (t, refl, list_first t is, λ s. refl)) one

@@ -1,26 +1,7 @@
 -- A reference that pressing writes is read as the tree that it denotes.
-use Rattle.std.proofs.Common.{◌≡◌, ℕ, zero, suc, ◌+◌, ◌-◌, ◌<◌, ◌≤◌, inl, inr, length, List, [], ◌∷◌, ◌++◌, Option, Some, None, Bool, true, false, Ok, refl, ap, arith, sym, subst, ◌∙◌}
-use Rattle.std.specs.Prelude.{slice_get, not, ◌&&◌, ◌||◌, nat_eq, Result, Err}
-use Rattle.std.proofs.lemmas.Bool.{eq-eqb, and_parts}
-use Rattle.sym_core.specs.declared.refusal.Refusal.{Refusal}
-use Rattle.sym_core.specs.declared.refusal.Refusal.TheVariants.{BadReference}
-use Rattle.sym_core.specs.declared.NumberKind.TheVariants.{Seq36}
-use Rattle.sym_core.specs.Value.{counted_value}
+use Rattle.cpp_press_laws.proofs.Basics.{◌≡◌, ℕ, zero, suc, ◌+◌, ◌-◌, ◌<◌, ◌≤◌, inl, inr, length, List, [], ◌∷◌, ◌++◌, Option, Some, None, Bool, true, false, Ok, refl, ap, arith, sym, subst, ◌∙◌, slice_get, not, ◌&&◌, ◌||◌, nat_eq, Result, Err, eq-eqb, and_parts, Refusal, BadReference, Seq36, counted_value, Found, ◌>>=◌, found, Kind, Production, ABBREVIATION, Term, operation, is_open, with_packs, packs_in, is_module, substituted, opening, same_tree, Component, components_of, is_same, first_equal, seq_id, PacksFit, MayBeReferred, greatest, written, IsAllowed, ReadsAt, Is}
 use Rattle.sym_shape.specs.declared.rule.Sym.TheVariants.{Kind as OfKind, Number}
-use Rattle.sym_link.specs.Reading.{Found, ◌>>=◌}
-use Rattle.sym_link.specs.Unfold.{found}
-use Rattle.cpp_grammar.specs.declared.kind.Kind.{Kind}
-use Rattle.cpp_grammar.specs.declared.production.Production.{Production}
-use Rattle.cpp_grammar.specs.KindNumbers.{ABBREVIATION}
-use Rattle.cpp_grammar.specs.Term.{Term, operation}
-use Rattle.cpp_grammar.specs.Scope.{is_open}
 use Rattle.cpp_grammar.specs.Values.{Candidate, State, Around, Value, text, tree}
-use Rattle.cpp_grammar.specs.References.{with_packs, packs_in, is_module, substituted}
-use Rattle.cpp_grammar.specs.Unfolding.{opening}
-use Rattle.cpp_press_laws.specs.Same.{same_tree}
-use Rattle.cpp_press_laws.specs.Components.{Component, components_of, is_same, first_equal, seq_id}
-use Rattle.cpp_press_laws.specs.Fits.{PacksFit, MayBeReferred}
-use Rattle.cpp_press_laws.specs.Subtrees.{greatest, written, IsAllowed, ReadsAt, Is}
 use Rattle.cpp_press_laws.proofs.Components.Sameness.{equal-tree}
 use Rattle.cpp_press_laws.proofs.Components.Parts.{IsComponent}
 use Rattle.cpp_press_laws.proofs.ReadBack.Tokens.{seq_token, seq-is-token, seq-value}
@@ -28,7 +9,7 @@ use Rattle.cpp_press_laws.proofs.ReadBack.Reading.{takes-none, number-reads, gra
 
 -- ## What may be referred to
 
--- where packs fit nothing is refused, and the state keeps its candidates
+-- naming packs that fit isn't refused, and the state keeps its candidates
 pub record HasPacks (around : Around) (allowed packs : Option ℕ) (place : ℕ) (s : State) : Type 0 where
   pub state : State
   pub goes : with_packs place around.in_expansion packs s ≡ Ok state
@@ -114,7 +95,7 @@ found-first encoding own from number (c ∷ cs) h = go (is_same encoding own c) 
           },
         )
 
--- the reader's candidate at the place of a component
+-- the reader's candidate with this number has the component's tree and encoding
 record IsAt (candidates : List Candidate) (number : ℕ) (component : Component) : Type 0 where
   pub candidate : Candidate
   pub there : slice_get candidates number ≡ Some candidate

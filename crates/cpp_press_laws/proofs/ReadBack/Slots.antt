@@ -1,20 +1,6 @@
 -- Types are read wherever types are, as references and spelled out.
-use Rattle.std.proofs.Common.{◌≡◌, ℕ, ◌+◌, ◌≤◌, length, List, [], ◌∷◌, ◌++◌, Option, Some, None, Bool, true, false, refl, arith, sym, subst, append-nil, length-append, ◌∙◌}
-use Rattle.std.specs.Prelude.{◌&&◌}
+use Rattle.cpp_press_laws.proofs.Basics.{◌≡◌, ℕ, ◌+◌, ◌≤◌, length, List, [], ◌∷◌, ◌++◌, Option, Some, None, Bool, true, false, refl, arith, sym, subst, append-nil, length-append, ◌∙◌, ◌&&◌, TakesRule, ◌and◌, Kind, Production, ABBREVIATION, TYPE, PLAIN, ITEM, ITEM_BUT_REF, SOLID, LITERAL, LITERAL_TYPE, abi, rule_of, RefQualifier, Signed, Term, integer, list, Around, tree, is_function_type, signed_text, Component, Spelling, first_equal, seq_id, reference, ended, spelled_out, component, IsSpellableNumber, greatest, Written, written, ReadsAt, Is, HasRoom, Slot, any_type, bare_type, item_type, parameter_type, literal_type, IsFirst, Fitting, as_component, MayBeReferred, and-true}
 use Rattle.sym_shape.specs.declared.rule.Sym.TheVariants.{Kind as OfKind}
-use Rattle.sym_shape.specs.Tree.{TakesRule}
-use Rattle.sym_spell.specs.Pressing.{◌and◌}
-use Rattle.cpp_grammar.specs.declared.kind.Kind.{Kind}
-use Rattle.cpp_grammar.specs.declared.production.Production.{Production}
-use Rattle.cpp_grammar.specs.KindNumbers.{ABBREVIATION, TYPE, PLAIN, ITEM, ITEM_BUT_REF, SOLID, LITERAL, LITERAL_TYPE}
-use Rattle.cpp_grammar.specs.Table.{abi, rule_of}
-use Rattle.cpp_grammar.specs.Term.{RefQualifier, Signed, Term, integer, list}
-use Rattle.cpp_grammar.specs.Values.{Around, tree}
-use Rattle.cpp_grammar.specs.References.{is_function_type}
-use Rattle.cpp_press_laws.specs.Texts.{signed_text}
-use Rattle.cpp_press_laws.specs.Components.{Component, Spelling, first_equal, seq_id, reference, ended, spelled_out, component}
-use Rattle.cpp_press_laws.specs.Spellable.{IsSpellableNumber}
-use Rattle.cpp_press_laws.specs.Subtrees.{greatest, Written, written, ReadsAt, Is, HasRoom}
 use Rattle.cpp_press_laws.proofs.ReadBack.Reading.{takes-byte, elsewhere, grammar, more}
 use Rattle.cpp_press_laws.proofs.ReadBack.References.{found-first, number-refers}
 use Rattle.cpp_press_laws.proofs.ReadBack.Types.{HasTypes, types-any, types-bare, types-item, types-parameter, solid-with-s, type-behind-s, behind-s}
@@ -23,8 +9,6 @@ use Rattle.cpp_press_laws.proofs.ReadBack.Arguments.{integer-reads}
 use Rattle.cpp_press_laws.proofs.ReadBack.Literals.{integer-literal}
 use Rattle.cpp_press_laws.proofs.Components.Parts.{IsComponent}
 use Rattle.cpp_press_laws.proofs.Components.Keeping.{Keeps, keeps-component}
-use Rattle.cpp_press_laws.specs.Fits.{Slot, any_type, bare_type, item_type, parameter_type, literal_type, IsFirst, Fitting, as_component, MayBeReferred}
-use Rattle.std.proofs.Math.Bool.{and-true}
 
 -- ## Room
 
@@ -71,7 +55,7 @@ room-component n own spelling place cs none room =
 
 -- ## Where types are
 
--- What is written is read as a type: as a parameter of a function type with those after it, and as a literal's with its number.
+-- What is written is read as a type: as a parameter before others in a function type, and before a number in a literal.
 abbrev pub ReadsAs : Slot → Around → Option ℕ → Term → (place : ℕ) → List Component → Written → Type 0
 ReadsAs any_type around allowed t place cs w = ReadsAt around allowed (OfKind TYPE) (Is (tree t true)) place cs w
 ReadsAs bare_type around allowed t place cs w = ReadsAt around allowed (OfKind PLAIN) (Is (tree t true)) place cs w
@@ -83,12 +67,12 @@ ReadsAs literal_type around allowed t place cs w =
     (n : Signed) → IsSpellableNumber n
     → ReadsAt around allowed (OfKind LITERAL) (Is (tree (integer t n) true)) place cs (written (w.bytes ++ signed_text n) w.components)
 
--- the kind of types there that have a letter of their own, or a name
+-- in each slot, the kind of the types that have a letter of their own or a name
 abbrev pub solid_kind : Slot → ℕ
 solid_kind literal_type = LITERAL_TYPE
 solid_kind _ = SOLID
 
--- how types become what is read: a component or an abbreviation after an S, and what is spelled out
+-- how a type is read in a slot: after an S; spelled out, as a new component; or spelled out, but as no new component
 pub record InSlot (around : Around) (allowed : Option ℕ) (t : Term) (solid : ℕ) (reads : ℕ → List Component → Written → Type 0) : Type 0 where
   pub behind_s : (place : ℕ) (cs : List Component) (w : Written) → ReadsAt around allowed (OfKind ABBREVIATION) (Is (tree t true)) (place + 1) cs w
       → reads place cs (written (83 ∷ w.bytes) w.components)
@@ -148,7 +132,7 @@ unfoldable pub is_bare : Slot → Bool
 is_bare bare_type = true
 is_bare _ = false
 
--- under qualifiers a function type has no spelling as a component
+-- any type in any slot, except for a function type right under qualifiers
 pub in-slot : (slot : Slot) (around : Around) (allowed : Option ℕ) (t : Term) → is_function_type t && is_bare slot ≡ false
     → InSlot around allowed t (solid_kind slot) (ReadsAs slot around allowed t)
 unfolding is_bare
@@ -160,13 +144,13 @@ in-slot literal_type around allowed t h = in-literal around allowed t
 
 -- ## Components
 
--- what a reference, or an abbreviation, becomes after an S
+-- an abbreviation or a reference after an S is read as `reads` says
 abbrev pub BehindS : Around → Option ℕ → Term → (ℕ → List Component → Written → Type 0) → Type 0
 BehindS around allowed t reads =
     (place : ℕ) (cs : List Component) (w : Written) → ReadsAt around allowed (OfKind ABBREVIATION) (Is (tree t true)) (place + 1) cs w
     → reads place cs (written (83 ∷ w.bytes) w.components)
 
--- a component: a reference where an equal one comes before, or else its own spelling
+-- a component is a reference if an equal one comes before, and otherwise its own spelling
 pub component-in : (around : Around) (allowed : Option ℕ) (own : Term) → IsComponent own → (reads : ℕ → List Component → Written → Type 0) (place : ℕ)
     (cs : List Component) (spelling : Spelling) → BehindS around allowed own reads → length cs ≤ greatest → MayBeReferred around allowed own
     → (IsFirst around own cs → reads place cs (written (spelling place cs).bytes (more around (spelling place cs).components own)))
@@ -187,7 +171,7 @@ component-in around allowed own is_one reads place cs spelling behind few may ou
         subst (λ l. reads place cs (written l (more around (spelling place cs).components own))) (sym (append-nil
         (spelling place cs).bytes)) (out is)
 
--- a component that fits
+-- a component that fits is read as a reference, or as its own spelling
 pub fitting-in : (around : Around) (allowed : Option ℕ) (own : Term) → IsComponent own → (reads : ℕ → List Component → Written → Type 0) (place : ℕ)
     (cs : List Component) (spelling : Spelling) (spelled : Fitting) → BehindS around allowed own reads
     → Keeps spelling

@@ -1,26 +1,8 @@
 -- Types that have a letter of their own are read as what was pressed, from their parts.
-use Rattle.std.proofs.Common.{◌≡◌, ℕ, ◌+◌, length, List, [], ◌∷◌, ◌++◌, Option, Some, true, false, refl, ap, arith, Bool, append-nil}
-use Rattle.std.specs.Prelude.{◌<◌}
-use Rattle.sym_core.specs.declared.NumberKind.TheVariants.{Decimal}
-use Rattle.sym_core.specs.Token.{Token}
+use Rattle.cpp_press_laws.proofs.Basics.{◌≡◌, ℕ, ◌+◌, length, List, [], ◌∷◌, ◌++◌, Option, Some, true, false, refl, ap, arith, Bool, append-nil, ◌<◌, Decimal, Token, TakesRule, Kind, Production, ABBREVIATION, TYPE, AFTER_D, SOLID, ANY_ARRAY, ARRAY_REST, choose, kinds, parts_of, is_chain, abi, rule_of, Term, abbreviation, builtin, vendor, pointer, lvalue, rvalue, array, member_pointer, complex, Around, Value, nothing_there, is_there, tree, after, applied, meaning, listed_value, reference_to, close, byte_of, Component, counted, IsSpellableName, AreSpellableDigits, Written, written, ReadsAt, Is}
 use Rattle.sym_shape.specs.declared.rule.Sym.TheVariants.{Kind as OfKind}
-use Rattle.sym_shape.specs.Tree.{TakesRule}
-use Rattle.cpp_grammar.specs.declared.kind.Kind.{Kind}
-use Rattle.cpp_grammar.specs.declared.production.Production.{Production}
-use Rattle.cpp_grammar.specs.KindNumbers.{ABBREVIATION, TYPE, AFTER_D, SOLID, ANY_ARRAY, ARRAY_REST}
-use Rattle.cpp_grammar.specs.Grammar.{choose, kinds, parts_of, is_chain}
-use Rattle.cpp_grammar.specs.Table.{abi, rule_of}
-use Rattle.cpp_grammar.specs.Term.{Term, abbreviation, builtin, vendor, pointer, lvalue, rvalue, array, member_pointer, complex}
 use Rattle.cpp_grammar.specs.Values as value
-use Rattle.cpp_grammar.specs.Values.{Around, Value, nothing_there, is_there, tree}
-use Rattle.cpp_grammar.specs.Between.{after, applied}
-use Rattle.cpp_grammar.specs.Meaning.{meaning, listed_value, reference_to}
 use Rattle.cpp_grammar.specs.Unfolding as unfolding_
-use Rattle.cpp_grammar.specs.Unfolding.{close, byte_of}
-use Rattle.cpp_press_laws.specs.Components.{Component}
-use Rattle.cpp_press_laws.specs.Texts.{counted}
-use Rattle.cpp_press_laws.specs.Spellable.{IsSpellableName, AreSpellableDigits}
-use Rattle.cpp_press_laws.specs.Subtrees.{Written, written, ReadsAt, Is}
 use Rattle.cpp_press_laws.proofs.ReadBack.Reading.{takes-byte, takes-none, empty-reads, name-reads, number-reads, component-by-parts, elsewhere, grammar, read-by-parts, more, ◌before◌}
 
 -- ## Letters

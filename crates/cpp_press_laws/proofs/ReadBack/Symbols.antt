@@ -1,28 +1,10 @@
 -- Local names, encodings and symbols are read as what was pressed, from their parts.
-use Rattle.std.proofs.Common.{◌≡◌, ℕ, ◌+◌, ◌<◌, length, List, [], ◌∷◌, ◌++◌, Option, Some, None, Bool, true, false, Ok, refl, ap, arith, append_assoc, sym, ◌∙◌, length-append}
-use Rattle.sym_core.specs.declared.NumberKind.TheVariants.{Digits}
+use Rattle.cpp_press_laws.proofs.Basics.{◌≡◌, ℕ, ◌+◌, ◌<◌, length, List, [], ◌∷◌, ◌++◌, Option, Some, None, Bool, true, false, Ok, refl, ap, arith, append_assoc, sym, ◌∙◌, length-append, Digits, TakesRule, found, Kind, Production, SYMBOL, MAYBE_SUFFIX, SUFFIX_FIRST, SUFFIX_MORE, ENCODING, SPECIAL, SPECIAL_AFTER_G, CALL_OFFSET, COMPLETE_NAME, ENTITY, TYPE_ENTITY, MAYBE_DISCRIMINATOR, DISCRIMINATOR_REST, TYPE, ITEMS, number_of_kind, choose, kinds, parts_of, is_chain, may_be_empty, abi, rule_of, Adjustment, non_virtual, by_table, adjusting, covariant, Term, symbol, special, thunk, of_name, local, string_literal, Thunk, Around, Value, nothing_there, letter, signed, adjusted, tree, named, tree_of, text_of, qualifiers_of, ref_of, part, between, in_name, in_types, after, extended, no_items, meaning, encoding_of, discriminator_of, close, byte_of, Component, AreSpellableDigits, AreSuffixBytes, Written, written, ReadsAt, Is, IsSpellableDiscriminator, IsSpellableOffset, IsSpellableThunk, discriminator_text, offset_text, signed_text, thunk_text}
 use Rattle.sym_shape.specs.declared.rule.Sym.TheVariants.{Kind as OfKind}
-use Rattle.sym_shape.specs.Tree.{TakesRule}
-use Rattle.sym_link.specs.Unfold.{found}
-use Rattle.cpp_grammar.specs.declared.kind.Kind.{Kind}
-use Rattle.cpp_grammar.specs.declared.production.Production.{Production}
-use Rattle.cpp_grammar.specs.KindNumbers.{SYMBOL, MAYBE_SUFFIX, SUFFIX_FIRST, SUFFIX_MORE, ENCODING, SPECIAL, SPECIAL_AFTER_G, CALL_OFFSET, COMPLETE_NAME, ENTITY, TYPE_ENTITY, MAYBE_DISCRIMINATOR, DISCRIMINATOR_REST, TYPE, ITEMS}
-use Rattle.cpp_grammar.specs.Grammar.{number_of_kind, choose, kinds, parts_of, is_chain, may_be_empty}
-use Rattle.cpp_grammar.specs.Table.{abi, rule_of}
-use Rattle.cpp_grammar.specs.Term.{Adjustment, non_virtual, by_table, adjusting, covariant, Term, symbol, special, thunk, of_name, local, string_literal, Thunk}
 use Rattle.cpp_grammar.specs.Values as value
-use Rattle.cpp_grammar.specs.Values.{Around, Value, nothing_there, letter, signed, adjusted, tree, named, tree_of, text_of, qualifiers_of, ref_of, part}
-use Rattle.cpp_grammar.specs.Between.{between, in_name, in_types, after, extended, no_items}
-use Rattle.cpp_grammar.specs.Meaning.{meaning, encoding_of, discriminator_of}
 use Rattle.cpp_grammar.specs.Unfolding as unfolding_
-use Rattle.cpp_grammar.specs.Unfolding.{close, byte_of}
-use Rattle.cpp_press_laws.specs.Components.{Component}
-use Rattle.cpp_press_laws.specs.Spellable.{AreSpellableDigits, AreSuffixBytes}
-use Rattle.cpp_press_laws.specs.Subtrees.{Written, written, ReadsAt, Is}
 use Rattle.cpp_press_laws.proofs.ReadBack.Reading.{takes-byte, takes-none, fixed-reads, empty-reads, digits-read, elsewhere, grammar, more, read-by-parts, same-written, ◌before◌}
 use Rattle.cpp_press_laws.proofs.ReadBack.Functions.{mark-reads}
-use Rattle.cpp_press_laws.specs.Fits.{IsSpellableDiscriminator, IsSpellableOffset, IsSpellableThunk}
-use Rattle.cpp_press_laws.specs.Texts.{discriminator_text, offset_text, signed_text, thunk_text}
 use Rattle.cpp_press_laws.proofs.ReadBack.Arguments.{integer-reads}
 
 -- ## Local names
@@ -34,7 +16,7 @@ string-literal-reads around allowed place cs =
     read-by-parts Production.StringLiteral ENTITY (115 ∷ []) [] []
     (takes-byte ENTITY Kind.Entity Production.StringLiteral 115 refl refl (omega arith) refl) tt refl (λ began s. refl)
 
--- what a discriminator is read as; none has no row
+-- what a discriminator is read as; if there is no discriminator, an absent value
 abbrev pub discriminator_value : Option (List ℕ) → Value
 discriminator_value None = nothing_there
 discriminator_value (Some digits) = value.text digits
@@ -138,7 +120,7 @@ guard-reads around allowed name place cs w one =
     Production.SpecialName 86 refl refl (omega arith) refl) tt refl
     (λ s c q. elsewhere (omega arith) one s c q before λ began s. refl) s c q before λ began s. refl)
 
--- what begins with a T
+-- an encoding that begins with a T
 pub special-reads : (around : Around) (allowed : Option ℕ) (v : Value) (place : ℕ) (cs : List Component) (w : Written)
     → ReadsAt (in_name place) allowed (OfKind SPECIAL) (Is v) (place + 1) cs w
     → ReadsAt around allowed (OfKind ENCODING) (Is v) place cs (written (84 ∷ w.bytes) w.components)

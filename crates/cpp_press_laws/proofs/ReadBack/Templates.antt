@@ -1,20 +1,7 @@
 -- Template names before their arguments are read, in types and in encodings' own names: after an S, and spelled out.
-use Rattle.std.proofs.Common.{◌≡◌, ℕ, ◌+◌, ◌≤◌, length, List, [], ◌∷◌, ◌++◌, Option, Some, None, Bool, true, false, refl, arith, sym, subst, length-append}
+use Rattle.cpp_press_laws.proofs.Basics.{◌≡◌, ℕ, ◌+◌, ◌≤◌, length, List, [], ◌∷◌, ◌++◌, Option, Some, None, Bool, true, false, refl, arith, sym, subst, length-append, TakesRule, ◌and◌, text, codes, Kind, Production, ABBREVIATION, SOLID, MAYBE_ARGUMENTS, ARGUMENTS_ALONE, ARGUMENTS, LITERAL_TYPE, abi, rule_of, Term, instance, parameter, Around, Value, tree, applied, no_items, parameter_so_far, listed_so_far, ordinal, Component, Spelling, first_equal, seq_id, reference, referred, greatest, Written, written, ReadsAt, Is, HasRoom, Slot, any_type, bare_type, item_type, parameter_type, literal_type, names_type, IsFirst, Fitting, as_template, parameter_named}
 use Rattle.sym_shape.specs.declared.rule.Sym.TheVariants.{Kind as OfKind}
-use Rattle.sym_shape.specs.Tree.{TakesRule}
-use Rattle.sym_spell.specs.Pressing.{◌and◌, text}
-use Rattle.std.specs.Prelude.{codes}
-use Rattle.cpp_grammar.specs.declared.kind.Kind.{Kind}
-use Rattle.cpp_grammar.specs.declared.production.Production.{Production}
-use Rattle.cpp_grammar.specs.KindNumbers.{ABBREVIATION, SOLID, MAYBE_ARGUMENTS, ARGUMENTS_ALONE, ARGUMENTS, LITERAL_TYPE}
-use Rattle.cpp_grammar.specs.Table.{abi, rule_of}
-use Rattle.cpp_grammar.specs.Term.{Term, instance, parameter}
 use Rattle.cpp_grammar.specs.Values as value
-use Rattle.cpp_grammar.specs.Values.{Around, Value, tree}
-use Rattle.cpp_grammar.specs.Between.{applied, no_items, parameter_so_far, listed_so_far}
-use Rattle.cpp_press_laws.specs.Texts.{ordinal}
-use Rattle.cpp_press_laws.specs.Components.{Component, Spelling, first_equal, seq_id, reference, referred}
-use Rattle.cpp_press_laws.specs.Subtrees.{greatest, Written, written, ReadsAt, Is, HasRoom}
 use Rattle.cpp_press_laws.proofs.ReadBack.Tokens.{ordinal_digits}
 use Rattle.cpp_press_laws.proofs.ReadBack.Reading.{takes-byte, elsewhere, grammar, read-by-parts, more, Means}
 use Rattle.cpp_press_laws.proofs.ReadBack.References.{found-first, number-refers}
@@ -25,15 +12,13 @@ use Rattle.cpp_press_laws.proofs.Components.Keeping.{Keeps, keeps-referred}
 use Rattle.cpp_press_laws.proofs.ReadBack.Slots.{room-rest, few-before}
 use Rattle.cpp_press_laws.proofs.ReadBack.Named.{NameRule, type-rule, literal-type-rule}
 use Rattle.cpp_press_laws.proofs.ReadBack.Between.{in_I_and_E, ElementsRead}
-use Rattle.cpp_press_laws.specs.Fits.{Slot, any_type, bare_type, item_type, parameter_type, literal_type, names_type, IsFirst, Fitting, as_template}
 use Rattle.cpp_press_laws.proofs.ReadBack.Slots.{solid_kind}
 use Rattle.cpp_press_laws.proofs.ReadBack.Arguments.{arguments-read, takes-maybe-arguments}
 use Rattle.cpp_press_laws.proofs.ReadBack.Types.{behind-s}
-use Rattle.cpp_grammar.specs.References.{parameter_named}
 
 -- ## Kinds of template names
 
--- the productions of the kinds of types that are names
+-- the productions by which a kind of types reads names
 pub record TypeRules (k : ℕ) : Type 0 where
   pub with_s : TakesRule abi k (rule_of Production.TypeWithS) (83 ∷ [])
   pub nested : TakesRule abi k (rule_of Production.NestedType) (78 ∷ [])
@@ -74,14 +59,14 @@ slot-rules bare_type = solid-rules
 slot-rules item_type = solid-rules
 slot-rules parameter_type = solid-rules
 
--- a kind in which a template name comes before its arguments: of a type, or an encoding's own name
+-- a kind that reads a template name before its arguments: a kind of types, or the kind of encodings' own names
 abbrev pub TemplateKind : (typed : Bool) → ℕ → Type 0
 TemplateKind true k = TypeRules k
 TemplateKind false k = k ≡ 8
 
 -- ## After an S
 
--- arguments after what is written are read as an instance with them
+-- what is written, with any arguments after it, is read as an instance
 abbrev pub InstancedAt : Around → Option ℕ → (k : ℕ) → (t : Term) → (place : ℕ) → List Component → Written → Type 0
 InstancedAt around allowed k t place cs w =
     (items : Term) (last : Value) (args : Written) → no_items last ≡ items
@@ -125,11 +110,11 @@ parameter-instanced kind around allowed k place cs is takes items last args are 
 
 -- ## Template names
 
--- arguments of these elements
+-- arguments with these elements
 abbrev pub of_elements : Spelling → Spelling
 of_elements elements = text (codes "I") and elements and text (codes "E")
 
--- where elements fit they are read
+-- elements that fit are read
 abbrev pub ReadElements : Around → Option ℕ → (last : Value) → Fitting → (elements : Spelling) → Type 0
 ReadElements around allowed last arguments elements =
     (place : ℕ) (cs : List Component) → arguments around allowed place cs → HasRoom (elements (place + 1) cs)
@@ -148,7 +133,7 @@ elements-room first elements place cs room =
       few = behind.few;
     }
 
--- A template name that fits before arguments: they come after a reference, or after its spelling.
+-- A template name that fits before arguments is read: the arguments come after a reference to the name, or after its spelling.
 pub template-reads : (typed : Bool) (k : ℕ) (around : Around) (allowed : Option ℕ) (t : Term) → IsComponent t → TemplateKind typed k → (place : ℕ)
     (cs : List Component) (spelled : Fitting) (front : ℕ → Spelling) (arguments : Fitting) (elements other : Spelling) (items : Term)
     (last : Value)

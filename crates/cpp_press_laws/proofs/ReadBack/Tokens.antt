@@ -1,17 +1,5 @@
 -- The spellings of names and numbers are tokens of the grammar, and have the values of the numbers.
-use Rattle.std.proofs.Common.{◌≡◌, ℕ, zero, suc, ◌<◌, ◌≤◌, length, List, [], ◌∷◌, ◌++◌, true, refl, arith, sym, ◌∙◌, append-nil}
-use Rattle.std.proofs.lemmas.Bool.Decides.{nat_tests}
-use Rattle.sym_core.specs.declared.NumberKind.TheVariants.{Decimal, Seq36}
-use Rattle.sym_core.specs.declared.NameClass.TheVariants.{Cpp}
-use Rattle.sym_core.specs.Number.{is_digit_of}
-use Rattle.sym_core.specs.Value.{digit_value, counted_value}
-use Rattle.sym_core.specs.Token.{Token, IsName, IsNumberToken, bytes_of}
-use Rattle.sym_spell.specs.Digits.{decimal_digit, digit36}
-use Rattle.sym_spell.proofs.DigitValues.{Divides, divides10, digits-all, counted-digits, length-form, length-digits, length-value}
-use Rattle.cpp_press_laws.specs.Texts.{decimal, counted, ordinal}
-use Rattle.cpp_press_laws.specs.Components.{seq_id}
-use Rattle.cpp_press_laws.specs.Spellable.{IsSpellableName}
-use Rattle.cpp_press_laws.specs.Subtrees.{greatest}
+use Rattle.cpp_press_laws.proofs.Basics.{◌≡◌, ℕ, zero, suc, ◌<◌, ◌≤◌, length, List, [], ◌∷◌, ◌++◌, true, refl, arith, sym, ◌∙◌, append-nil, nat_tests, Decimal, Seq36, Cpp, is_digit_of, digit_value, counted_value, Token, IsName, IsNumberToken, bytes_of, decimal_digit, digit36, Divides, divides10, digits-all, counted-digits, length-form, length-digits, length-value, decimal, counted, ordinal, seq_id, IsSpellableName, greatest}
 
 -- ## Names
 

@@ -1,41 +1,23 @@
 -- Types are read as what was pressed.
-use Rattle.std.proofs.Common.{◌≡◌, ℕ, ◌+◌, length, List, [], ◌∷◌, ◌++◌, Option, Bool, true, false, Ok, refl, ap, arith, append-nil}
-use Rattle.std.specs.Prelude.{◌&&◌, Result}
+use Rattle.cpp_press_laws.proofs.Basics.{◌≡◌, ℕ, ◌+◌, length, List, [], ◌∷◌, ◌++◌, Option, Bool, true, false, Ok, refl, ap, arith, append-nil, ◌&&◌, Result, TakesRule, Refusal, Found, found, Kind, Production, ABBREVIATION, TYPE, PLAIN, ITEM, ITEM_BUT_REF, ITEM_AFTER_D, AFTER_D, SOLID, TYPE_AFTER_S, parts_of, abi, rule_of, Term, State, Around, Value, nothing_there, tree, is_listed, appended, is_function_type, with_type, with_unqualified, after, applied, listed_value, close, byte_of, Component, Written, written, ReadsAt, Is}
 use Rattle.sym_shape.specs.declared.rule.Sym.TheVariants.{Kind as OfKind}
-use Rattle.sym_shape.specs.Tree.{TakesRule}
-use Rattle.sym_core.specs.declared.refusal.Refusal.{Refusal}
-use Rattle.sym_link.specs.Reading.{Found}
-use Rattle.sym_link.specs.Unfold.{found}
-use Rattle.cpp_grammar.specs.declared.kind.Kind.{Kind}
-use Rattle.cpp_grammar.specs.declared.production.Production.{Production}
-use Rattle.cpp_grammar.specs.KindNumbers.{ABBREVIATION, TYPE, PLAIN, ITEM, ITEM_BUT_REF, ITEM_AFTER_D, AFTER_D, SOLID, TYPE_AFTER_S}
-use Rattle.cpp_grammar.specs.Grammar.{parts_of}
-use Rattle.cpp_grammar.specs.Table.{abi, rule_of}
-use Rattle.cpp_grammar.specs.Term.{Term}
-use Rattle.cpp_grammar.specs.Values.{State, Around, Value, nothing_there, tree, is_listed}
-use Rattle.cpp_grammar.specs.References.{appended, is_function_type, with_type, with_unqualified}
-use Rattle.cpp_grammar.specs.Between.{after, applied}
-use Rattle.cpp_grammar.specs.Meaning.{listed_value}
-use Rattle.cpp_grammar.specs.Unfolding.{close, byte_of}
-use Rattle.cpp_press_laws.specs.Components.{Component}
-use Rattle.cpp_press_laws.specs.Subtrees.{Written, written, ReadsAt, Is}
 use Rattle.cpp_press_laws.proofs.ReadBack.Reading.{takes-byte, takes-none, empty-reads, PartsRead, TestsNothing, component-by-parts, elsewhere, grammar, more, read-by-parts, Means, ◌before◌}
 
 -- ## Types by their kinds
 
--- The value of a type by its kind: a tree becomes a component, unless it is one already or never is one.
+-- A kind reads some bytes and then what kind `inner` reads: the tree becomes a component, unless it is one or never is one.
 pub record Wraps (around : Around) (allowed : Option ℕ) (k inner : ℕ) (taken : List ℕ) (t : Term) : Type 0 where
   pub adds : (place : ℕ) (cs : List Component) (w : Written) → ReadsAt around allowed (OfKind inner) (Is (tree t false)) (place + length taken) cs w
       → ReadsAt around allowed (OfKind k) (Is (tree t true)) place cs (written (taken ++ w.bytes) (more around w.components t))
   pub keeps : (place : ℕ) (cs : List Component) (w : Written) → ReadsAt around allowed (OfKind inner) (Is (tree t true)) (place + length taken) cs w
       → ReadsAt around allowed (OfKind k) (Is (tree t true)) place cs (written (taken ++ w.bytes) w.components)
 
--- The kinds of types: they have a solid type after no byte of its own, and what begins with a D.
+-- A kind of types reads a solid type, which is one with a letter of its own or a name, and a type that begins with a D.
 pub record HasTypes (around : Around) (allowed : Option ℕ) (k : ℕ) (t : Term) : Type 0 where
   pub solid : Wraps around allowed k SOLID [] t
   pub with_d : Wraps around allowed k AFTER_D (68 ∷ []) t
 
--- by a production with one part: in whatever state that is read, its tree is the value, and becomes a component
+-- by a production with one part: whatever state the part is read in, its tree is the value, and becomes a component
 pub wraps : (p : Production) {around : Around} {allowed : Option ℕ} {k inner : ℕ} {taken : List ℕ} {t : Term} → TakesRule abi k (rule_of p) taken
     → TestsNothing p
     → ((place : ℕ) (cs : List Component) (w : Written)

@@ -1,19 +1,6 @@
 -- A symbol that fits: what repeats a type is a reference to it.
-use Rattle.std.proofs.Common.{◌≡◌, ℕ, inl, [], ◌∷◌, Option, Some, None, false, refl, arith}
-use Rattle.cpp_grammar.specs.Grammar.{in_ranges, among, is_in, pick, alternatives, choose}
-use Rattle.cpp_grammar.specs.Term.{any_value, Term, symbol, function, alone, source, builtin, pointer, nil, list, absent}
-use Rattle.cpp_grammar.specs.Scope.{is_open, arguments_of, has_return_type}
-use Rattle.cpp_grammar.specs.Values.{unqualified}
-use Rattle.cpp_grammar.specs.References.{packs_in}
-use Rattle.cpp_grammar.specs.Between.{in_name, in_types}
-use Rattle.cpp_grammar.specs.Meaning.{is_void, is_nil}
-use Rattle.cpp_grammar.specs.Texts.{same_bytes}
-use Rattle.cpp_press_laws.specs.Same.{same_tree}
-use Rattle.cpp_press_laws.specs.Texts.{decimal, counted, name_letters, qualifier_letters, mark_letter}
-use Rattle.cpp_press_laws.specs.Components.{is_same, first_equal, reference, ended, spelled_out, component, seq_id}
-use Rattle.cpp_press_laws.specs.Pressing.{ways_of, no_ways, type_ways, piece_ways, name_ways, with_letters}
+use Rattle.cpp_press_laws.proofs.Basics.{◌≡◌, ℕ, inl, [], ◌∷◌, Option, Some, None, false, refl, arith, in_ranges, among, is_in, pick, alternatives, choose, any_value, Term, symbol, function, alone, source, builtin, pointer, nil, list, absent, is_open, arguments_of, has_return_type, unqualified, packs_in, in_name, in_types, is_void, is_nil, same_bytes, same_tree, decimal, counted, name_letters, qualifier_letters, mark_letter, is_same, first_equal, reference, ended, spelled_out, component, seq_id, ways_of, no_ways, type_ways, piece_ways, name_ways, with_letters, IsSpellableName}
 use Rattle.cpp_press_laws.specs.Fits.{names_function, begins_name, either, fits_nowhere, type_fits, piece_fits, encoding_fits, fits_of, SymbolFits, MayBeReferred}
-use Rattle.cpp_press_laws.specs.Spellable.{IsSpellableName}
 
 abbrev pointer_to_int : Term
 pointer_to_int = pointer (builtin (105 ∷ []))

@@ -1,26 +1,11 @@
 -- What the laws of pressing say, computed of symbols: the pressed bytes are read as the tree that was pressed, and are pressed to
 -- themselves.
-use Rattle.std.specs.Prelude.{◌≡◌, refl, ℕ, Bool, true, false, ◌&&◌, List, [], ◌∷◌, Some, None, Result, Ok}
-use Rattle.sym_core.specs.declared.refusal.Refusal.{Refusal}
-use Rattle.cpp_grammar.specs.Term.{Term}
-use Rattle.cpp_grammar.specs.Grammar.{in_ranges, among, is_in, pick, number_of_kind, alternatives, choose, parts_of, is_chain, may_be_empty, kinds, productions, number_of}
-use Rattle.cpp_grammar.specs.Table.{padded, rule_of}
-use Rattle.cpp_grammar.specs.Values.{prefix_tree, prefix_listed, tree_of, piece_of, is_listed, qualifiers_of, ref_of, letter_of, is_there, mark_of, text_of, signed_of, adjustment_of, normal, is_zero, signed_digits, local_number, part}
-use Rattle.cpp_grammar.specs.Scope.{count, element, arguments_of, before_arguments, is_structor, has_return_type, is_open, first_of, length_if_pack, pack_length}
-use Rattle.cpp_grammar.specs.References.{appended, is_function_type, with_type, with_unqualified, with_prefix, with_packs, packs_in, is_module, substituted, parameter_named}
-use Rattle.cpp_grammar.specs.Between.{in_name, in_types, in_signature, under_expansion, after, inside, extended, applied, no_items, named_so_far, listed_so_far, parameter_so_far, index_of, between}
-use Rattle.cpp_grammar.specs.Meaning.{is_void, is_nil, parameters, encoding_of, listed_value, discriminator_of, with_item, reference_to, signature_or, operator_or_literal, meaning}
+use Rattle.cpp_press_laws.proofs.Basics.{◌≡◌, refl, ℕ, Bool, true, false, ◌&&◌, List, [], ◌∷◌, Some, None, Result, Ok, Refusal, Term, in_ranges, among, is_in, pick, number_of_kind, alternatives, choose, parts_of, is_chain, may_be_empty, kinds, productions, number_of, padded, rule_of, prefix_tree, prefix_listed, tree_of, piece_of, is_listed, qualifiers_of, ref_of, letter_of, is_there, mark_of, text_of, signed_of, adjustment_of, normal, is_zero, signed_digits, local_number, part, count, element, arguments_of, before_arguments, is_structor, has_return_type, is_open, first_of, length_if_pack, pack_length, appended, is_function_type, with_type, with_unqualified, with_prefix, with_packs, packs_in, is_module, substituted, parameter_named, in_name, in_types, in_signature, under_expansion, after, inside, extended, applied, no_items, named_so_far, listed_so_far, parameter_so_far, index_of, between, is_void, is_nil, parameters, encoding_of, listed_value, discriminator_of, with_item, reference_to, signature_or, operator_or_literal, meaning, same_bytes, front_digits, is_length_form, number_at, are_name_bytes, is_own, name_at, shape_of, read_kind, read_symbol, read_all, same_truth, same_qualifiers, same_mark, same_signed, same_adjustment, same_thunk, same_discriminator, same_tree, decimal, counted, ordinal, signed_text, qualifier_letters, mark_letter, name_letters, offset_text, thunk_text, discriminator_text, is_same, first_equal, seq_id, reference, ended, spelled_out, referred, component, no_ways, type_ways, function_text, in_N_and_E, with_letters, name_ways, template_before, is_operator, is_encoding, is_one_piece, entity_text, local_text, begun, encoding_ways, piece_ways, argument_ways, ways_of, pressed}
 use Rattle.cpp_grammar.specs.Standing.{enclosed_argument, ends_arguments, operation_by, operation_or_address, is_code}
 use Rattle.cpp_grammar.specs.Unfolding.{last_token, number_tested, opening, behind, close, production_at, byte_of, cpp, first_around, first_state, first_tree, unfold_cpp}
-use Rattle.cpp_grammar.specs.Texts.{same_bytes}
-use Rattle.cpp_grammar.proofs.Reader.{front_digits, is_length_form, number_at, are_name_bytes, is_own, name_at, shape_of, read_kind, read_symbol, read_all}
-use Rattle.cpp_press_laws.specs.Same.{same_truth, same_qualifiers, same_mark, same_signed, same_adjustment, same_thunk, same_discriminator, same_tree}
-use Rattle.cpp_press_laws.specs.Texts.{decimal, counted, ordinal, signed_text, qualifier_letters, mark_letter, name_letters, offset_text, thunk_text, discriminator_text}
-use Rattle.cpp_press_laws.specs.Components.{is_same, first_equal, seq_id, reference, ended, spelled_out, referred, component}
-use Rattle.cpp_press_laws.specs.Pressing.{no_ways, type_ways, function_text, in_N_and_E, with_letters, name_ways, template_before, is_operator, is_encoding, is_one_piece, entity_text, local_text, begun, encoding_ways, piece_ways, argument_ways, ways_of, pressed}
 use Rattle.cpp_press_laws.proofs.Rows.Row.{Row, presses}
 
--- both are read as one tree, whose pressed bytes are these
+-- both results are one tree, and the pressed bytes of this tree are the given ones
 unfoldable pub are_kept : Result Term Refusal → Result Term Refusal → (bytes : List ℕ) → Bool
 are_kept (Ok t) (Ok again) bytes = same_tree t again && same_bytes (pressed t) bytes && same_bytes (pressed again) bytes
 are_kept _ _ bytes = false

@@ -1,27 +1,10 @@
 -- Which components of a symbol pressing compares with those before them, computed.
-use Rattle.std.specs.Prelude.{◌≡◌, refl, ℕ, Bool, true, cond, ◌&&◌, List, [], ◌∷◌, codes, Some, None, Result, Ok, Err}
+use Rattle.cpp_press_laws.proofs.Basics.{◌≡◌, refl, ℕ, Bool, true, cond, ◌&&◌, List, [], ◌∷◌, codes, Some, None, Result, Ok, Err, Refusal, Term, in_ranges, among, is_in, pick, number_of_kind, alternatives, choose, parts_of, is_chain, may_be_empty, kinds, productions, number_of, padded, rule_of, prefix_tree, prefix_listed, tree_of, piece_of, is_listed, qualifiers_of, ref_of, letter_of, is_there, mark_of, text_of, signed_of, adjustment_of, normal, is_zero, signed_digits, local_number, part, count, element, arguments_of, before_arguments, is_structor, has_return_type, is_open, first_of, length_if_pack, pack_length, appended, is_function_type, with_type, with_unqualified, with_prefix, with_packs, packs_in, is_module, substituted, parameter_named, in_name, in_types, in_signature, under_expansion, after, inside, extended, applied, no_items, named_so_far, listed_so_far, parameter_so_far, index_of, between, is_void, is_nil, parameters, encoding_of, listed_value, discriminator_of, with_item, reference_to, signature_or, operator_or_literal, meaning, same_bytes, front_digits, is_length_form, number_at, are_name_bytes, is_own, name_at, shape_of, read_kind, read_symbol, read_all, same_truth, same_qualifiers, same_mark, same_signed, same_adjustment, same_thunk, same_discriminator, same_tree, decimal, counted, ordinal, signed_text, qualifier_letters, mark_letter, name_letters, offset_text, thunk_text, discriminator_text, is_same, first_equal, seq_id, is_operator, is_encoding, is_one_piece, Marked, marked_components}
 use Prim.Native.String.{String}
-use Rattle.sym_core.specs.declared.refusal.Refusal.{Refusal}
-use Rattle.cpp_grammar.specs.Term.{Term}
-use Rattle.cpp_grammar.specs.Grammar.{in_ranges, among, is_in, pick, number_of_kind, alternatives, choose, parts_of, is_chain, may_be_empty, kinds, productions, number_of}
-use Rattle.cpp_grammar.specs.Table.{padded, rule_of}
-use Rattle.cpp_grammar.specs.Values.{prefix_tree, prefix_listed, tree_of, piece_of, is_listed, qualifiers_of, ref_of, letter_of, is_there, mark_of, text_of, signed_of, adjustment_of, normal, is_zero, signed_digits, local_number, part}
-use Rattle.cpp_grammar.specs.Scope.{count, element, arguments_of, before_arguments, is_structor, has_return_type, is_open, first_of, length_if_pack, pack_length}
-use Rattle.cpp_grammar.specs.References.{appended, is_function_type, with_type, with_unqualified, with_prefix, with_packs, packs_in, is_module, substituted, parameter_named}
-use Rattle.cpp_grammar.specs.Between.{in_name, in_types, in_signature, under_expansion, after, inside, extended, applied, no_items, named_so_far, listed_so_far, parameter_so_far, index_of, between}
-use Rattle.cpp_grammar.specs.Meaning.{is_void, is_nil, parameters, encoding_of, listed_value, discriminator_of, with_item, reference_to, signature_or, operator_or_literal, meaning}
 use Rattle.cpp_grammar.specs.Standing.{enclosed_argument, ends_arguments, operation_by, operation_or_address, is_code}
 use Rattle.cpp_grammar.specs.Unfolding.{last_token, number_tested, opening, behind, close, production_at, byte_of, cpp, first_around, first_state, first_tree, unfold_cpp}
-use Rattle.cpp_grammar.specs.Texts.{same_bytes}
-use Rattle.cpp_grammar.proofs.Reader.{front_digits, is_length_form, number_at, are_name_bytes, is_own, name_at, shape_of, read_kind, read_symbol, read_all}
-use Rattle.cpp_press_laws.specs.Same.{same_truth, same_qualifiers, same_mark, same_signed, same_adjustment, same_thunk, same_discriminator, same_tree}
-use Rattle.cpp_press_laws.specs.Texts.{decimal, counted, ordinal, signed_text, qualifier_letters, mark_letter, name_letters, offset_text, thunk_text, discriminator_text}
-use Rattle.cpp_press_laws.specs.Components.{is_same, first_equal, seq_id}
-use Rattle.cpp_press_laws.specs.Pressing.{is_operator, is_encoding, is_one_piece}
 use Rattle.cpp_press_laws.specs.MarkedComponents as marks
-use Rattle.cpp_press_laws.specs.MarkedComponents.{Marked}
 use Rattle.cpp_press_laws.specs.MarkedPressing as marked
-use Rattle.cpp_press_laws.specs.Apart.{marked_components}
 
 -- a symbol, and a letter for each component that is spelled out: c for one that was compared, n for one that wasn't
 pub record Row : Type 0 where
@@ -35,7 +18,7 @@ unfoldable pub letters : List Marked → List ℕ
 letters [] = []
 letters (c ∷ cs) = cond c.was_compared 99 110 ∷ letters cs
 
--- nothing where a symbol isn't read
+-- no letters if a symbol isn't read
 unfoldable pub letters_if_read : Result Term Refusal → List ℕ
 letters_if_read (Ok t) = letters (marked_components t)
 letters_if_read (Err r) = []
@@ -47,8 +30,8 @@ unfoldable pub are_marked : List Row → Bool
 are_marked [] = true
 are_marked (row ∷ rows) = same_bytes (letters_of row.symbol) row.wanted && are_marked rows
 
--- The template name `std::A` is compared in the first parameter, and isn't as the own name of the function that has the second one.
--- So the first two components of this symbol and its last are equal to none before them.
+-- The template name `std::A` is compared in the first parameter, but not in the own name of the function in the second parameter.
+-- So the first two components of the first symbol and its last one are equal to none before them.
 abbrev pub rows : List Row
 rows =
     compares "_Z1gSt1AIcEZNKSt1AIiEEvvE1x" "ccnc" ∷

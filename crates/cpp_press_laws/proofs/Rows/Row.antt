@@ -1,12 +1,6 @@
 -- Rows of symbols with their pressed spellings, and a test of them that computes.
-use Rattle.std.specs.Prelude.{ℕ, List, [], ◌∷◌, Bool, true, ◌&&◌, codes, Some, None, Result, Ok, Err}
+use Rattle.cpp_press_laws.proofs.Basics.{ℕ, List, [], ◌∷◌, Bool, true, ◌&&◌, codes, Some, None, Result, Ok, Err, Refusal, Term, same_bytes, unfold_cpp, shape_of, pressed}
 use Prim.Native.String.{String}
-use Rattle.sym_core.specs.declared.refusal.Refusal.{Refusal}
-use Rattle.cpp_grammar.specs.Term.{Term}
-use Rattle.cpp_grammar.specs.Texts.{same_bytes}
-use Rattle.cpp_grammar.specs.Unfolding.{unfold_cpp}
-use Rattle.cpp_grammar.proofs.Reader.{shape_of}
-use Rattle.cpp_press_laws.specs.Pressing.{pressed}
 
 -- a symbol, and what pressing makes of it
 pub record Row : Type 0 where
@@ -16,7 +10,7 @@ pub record Row : Type 0 where
 abbrev pub presses : String → String → Row
 presses symbol wanted = record { symbol = codes symbol; wanted = codes wanted }
 
--- nothing where a symbol isn't read
+-- no bytes if a symbol isn't read
 unfoldable pub pressed_if_read : Result Term Refusal → List ℕ
 pressed_if_read (Ok t) = pressed t
 pressed_if_read (Err r) = []

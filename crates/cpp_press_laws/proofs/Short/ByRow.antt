@@ -1,26 +1,9 @@
--- What is paid for a production without an action before its parts. Its row says what it is read as, so it is left to show only
--- that this needs no more than its parts and its byte.
-use Rattle.std.proofs.Common.{◌≡◌, ℕ, ◌+◌, ◌*◌, ◌≤◌, length, List, [], ◌∷◌, ◌++◌, Bool, true, false, cond, Option, Some, None, Ok, refl, ap, sym, subst, ◌∙◌, arith}
-use Rattle.std.specs.Prelude.{suc, zero, not, ◌&&◌, ◌||◌, nat_eq, slice_get}
-use Rattle.std.proofs.lemmas.Bool.{eqb-true, and_parts, false≢true}
-use Rattle.sym_shape.specs.declared.rule.Sym.{Sym}
+-- What is paid for a production that does nothing before its parts. Its row says what its value is, so only one claim has to
+-- be shown: the value needs no more than what its parts and the byte of the production pay.
+use Rattle.cpp_press_laws.proofs.Basics.{◌≡◌, ℕ, ◌+◌, ◌*◌, ◌≤◌, length, List, [], ◌∷◌, ◌++◌, Bool, true, false, cond, Option, Some, None, Ok, refl, ap, sym, subst, ◌∙◌, arith, suc, zero, not, ◌&&◌, ◌||◌, nat_eq, slice_get, eqb-true, and_parts, false≢true, Sym, Found, found, Kind, Production, kinds, number_of_kind, number_of, parts_of, is_chain, Term, State, Prefix, Around, Value, tree, row_of, all_pass, step_passes, made, meant, done, around_part, gained, packs_within, replaced, state_after, between, next, after, meaning, close, same_production}
 use Rattle.sym_shape.specs.declared.rule.Sym.TheVariants.{Kind as OfKind, Name, Number, Byte}
-use Rattle.sym_link.specs.Reading.{Found}
-use Rattle.sym_link.specs.Unfold.{found}
-use Rattle.cpp_grammar.specs.declared.kind.Kind.{Kind}
-use Rattle.cpp_grammar.specs.declared.production.Production.{Production}
-use Rattle.cpp_grammar.specs.Grammar.{kinds, number_of_kind, number_of, parts_of, is_chain}
-use Rattle.cpp_grammar.specs.Term.{Term}
-use Rattle.cpp_grammar.specs.Values.{State, Prefix, Around, Value, tree}
 use Rattle.cpp_grammar.specs.Row.{Made, Form, Action, quiet, goes, becomes, as_before, nothing, Row, before_part}
-use Rattle.cpp_grammar.specs.Rows.{row_of}
-use Rattle.cpp_grammar.proofs.Steps.{all_pass, step_passes}
-use Rattle.cpp_grammar.specs.Meant.{made, meant, done, around_part, gained, packs_within, replaced, state_after}
-use Rattle.cpp_grammar.specs.Between.{between, next, after}
-use Rattle.cpp_grammar.specs.Meaning.{meaning}
 use Rattle.cpp_grammar.specs.Unfolding as unfolding_
-use Rattle.cpp_grammar.specs.Unfolding.{close}
-use Rattle.cpp_grammar.proofs.Growing.{same_production}
 use Rattle.cpp_press_laws.proofs.ByKind.Rules.{OnGoing}
 use Rattle.cpp_press_laws.proofs.Short.Gains.{wealth, AllSmall, Class, class_of, need, loan, returned, grant, SmallPrefix, lent, ready_for, Ready, IsKnown, Gains, Gained, type, bare, whole, items, rest, after_mark, operands, unread}
 use Rattle.cpp_press_laws.proofs.Short.Paid.{NamePaid, NumberPaid, SymGains, PaidPart, Paid, Ended, comes-to}
@@ -50,8 +33,8 @@ unfoldable pub is_read : Class → Bool
 is_read unread = false
 is_read _ = true
 
--- Whether a class of values may be read anywhere, or only where no name that isn't a candidate comes before. The rest of a name
--- may be read in neither way.
+-- Whether values of a class may be read anywhere, or only where no name comes before. Values of the class for the rest of a name
+-- may be read in neither case.
 unfoldable pub may_read : (anywhere : Bool) → Class → Bool
 may_read anywhere unread = false
 may_read anywhere type = not anywhere
@@ -117,7 +100,7 @@ unfolding is_read Gained
 read-gains unread granted around v old new bytes is g = absurd (false≢true is)
 read-gains _ granted around v old new bytes is g = g
 
--- each part passes a test of its kind
+-- a part passes a test of its kind; a part without a kind always passes
 unfoldable pub part_passes : (Kind → Bool) → Sym → Bool
 part_passes test (OfKind k) = elim (slice_get kinds k) [ None ↦ false | Some kind ↦ test kind ]
 part_passes test _ = true
@@ -126,7 +109,7 @@ unfoldable pub parts_pass : (Kind → Bool) → List Sym → Bool
 parts_pass test [] = true
 parts_pass test (x ∷ xs) = part_passes test x && parts_pass test xs
 
--- each part may be read there
+-- a part may be read after this prefix
 abbrev ReadyPart : Sym → Prefix → Type 0
 ReadyPart (OfKind k) prefix =
     elim (slice_get kinds k) as (λ _. Type 0) [ None ↦ ⊥ | Some kind ↦ (is_read (class_of kind) ≡ true) × Ready kind prefix ]
@@ -154,7 +137,7 @@ ready-by test prefix each (x ∷ xs) is =
         go None h = absurd (false≢true h)
         go (Some kind) h = each kind h
 
--- what the value of a part needs, and what the part was lent
+-- what the value of a part needs, and what the part gives back of its loan
 unfoldable pub cost_of : Sym → Around → Value → State → (bytes : ℕ) → ℕ
 cost_of (OfKind k) around v s bytes =
     elim (slice_get kinds k) [ None ↦ 0 | Some kind ↦ need (class_of kind) around v s + returned (class_of kind) around v ]
@@ -211,7 +194,7 @@ part-known (OfKind k) around v old new bytes is small all g = go (slice_get kind
           small = one.small;
         }
 
--- The claim about the parts that follow. Those before them need `cost` and were lent `credit`.
+-- The claim about the parts that follow. The parts before them need `cost` and were lent `credit`.
 abbrev pub Claim : Around → (P : List Value → State → (cost credit : ℕ) → Type 0) → List Sym → List Value → State → (cost credit : ℕ) → Type 0
 Claim around P [] vs s cost credit = P vs s cost credit
 Claim around P (x ∷ xs) vs s cost credit =
@@ -220,7 +203,7 @@ Claim around P (x ∷ xs) vs s cost credit =
 
 -- ## Productions
 
--- nothing is done before a part, which has the surroundings of the production
+-- an action does nothing, so the next part has the surroundings of the production
 unfoldable pub is_idle : Action → Bool
 is_idle quiet = true
 is_idle (goes nothing as_before) = true
@@ -240,7 +223,7 @@ quiet-between : (p : Production) (around : Around) (place : ℕ) (vs : List Valu
 unfolding between all_quiet
 quiet-between p around place vs s still = idle-step (before_part (row_of p) (length vs)) around place vs s (step_passes is_idle (row_of p) still (length vs))
 
--- a reference may be refused, and no constructor that is inherited is read
+-- the productions that may be refused after their parts: a reference may be, and an inherited constructor always is
 unfoldable pub refers : Production → Bool
 refers Production.Substitution = true
 refers Production.Inheriting = true
@@ -286,7 +269,7 @@ each-part p around place inner P limit still small (x ∷ xs) is bytes vs s cost
     (cost_of x around one.value one.after one.own + cost) (credit_of x around + credit) one.onward known.small
     (omega (arith, few, known.few, one.sum)) (claim one.value one.after one.own known.known)
 
--- The claim about a production: the bytes that pay for its parts, and for its own byte, pay for its value.
+-- The claim about a production: what pays for its parts, and its own byte, pay for its value.
 abbrev pub Pays : (ready : Prefix → Type 0) → Production → Class → (granted : ℕ) → Type 0
 Pays ready p c granted =
     (byte : ℕ) (around : Around) (old : State) → ready around.prefix → SmallPrefix around.prefix
@@ -311,7 +294,7 @@ paid-for ready p c granted still closed pays around at old v new b each here sma
     shut true h = absurd (false≢true h)
     shut false h = refl
 
--- such a production pays for its value, anywhere or where no name that isn't a candidate comes before
+-- a production that passes `row_goes` pays for its value: anywhere, or only where no name comes before it
 pub by-row : (anywhere : Bool) (p : Production) (c : Class) (granted : ℕ) → row_goes (may_be_part anywhere) p ≡ true
     → Pays (Standing anywhere) p c granted
     → (around : Around) (at : ℕ) (old : State) (v : Value) (new : State) (b : ℕ) → Standing anywhere around.prefix → SmallPrefix around.prefix
@@ -323,7 +306,7 @@ by-row anywhere p c granted good pays around at old v new b here =
     paid-for (Standing anywhere) p c granted one.0 two.0 pays around at old v new b
     (ready-by (may_be_part anywhere) around.prefix (λ kind one. part-ready anywhere kind around.prefix one here) (parts_of p) two.1) here
 
--- a production is one of these
+-- a production is in the list
 unfoldable pub is_listed_in : List Production → Production → Bool
 is_listed_in [] p = false
 is_listed_in (q ∷ qs) p = nat_eq (number_of p) (number_of q) || is_listed_in qs p
@@ -344,7 +327,7 @@ one-goes test (q ∷ qs) p each is =
     go true same is one more = subst (λ r. row_goes test r ≡ true) (sym (same_production p q same)) one
     go false same is one more = more is
 
--- ## Productions whose first part becomes a tree, which is the name so far
+-- ## Productions whose first part becomes the name so far
 
 abbrev pub naming : Made → Form → Row
 naming m form = record { before = quiet ∷ becomes m false true false ∷ []; onward = quiet; form = form; gain = nothing; restores_packs = false; tests_number = false }
@@ -356,7 +339,7 @@ closes-naming p m form row closed byte around at began vs s =
     closes-as p closed byte around at began vs s
     ∙ ap (λ r. Ok (found (meant r.form byte around vs) (state_after r around began (meant r.form byte around vs) vs s))) row
 
--- the first part, and the second after the tree
+-- a production whose first part becomes the name so far: its first part, and its second part, read after that
 pub record Named (p : Production) (m : Made) (x y : Sym) (around : Around) (place : ℕ) (inner : Found (List Value) State) (old : State) (bytes : ℕ)
     : Type 0 where
   pub value : Value

@@ -1,21 +1,7 @@
 -- The bytes of each kind pay for what is read as that kind, and so a symbol's bytes pay for its pressed spelling.
-use Rattle.std.proofs.Common.{◌≡◌, ℕ, inl, inr, length, List, [], ◌∷◌, true, refl, sym, subst, ◌∙◌, arith}
-use Rattle.std.proofs.lemmas.Bool.{false≢true}
-use Rattle.sym_shape.specs.declared.rule.Rule.{Rule}
-use Rattle.sym_shape.specs.Tree.{Tree as Shape, Forest, branch, empty, spell}
-use Rattle.sym_link.specs.Unfold.{found}
-use Rattle.cpp_grammar.specs.declared.kind.Kind.{Kind}
-use Rattle.cpp_grammar.specs.declared.production.Production.{Production}
-use Rattle.cpp_grammar.specs.Grammar.{Alternative, alternatives, number_of, number_of_kind, may_be_empty}
-use Rattle.cpp_grammar.specs.Values.{State, Around, Value, nothing_there, is_there}
-use Rattle.cpp_grammar.specs.Unfolding.{cpp}
-use Rattle.cpp_grammar.proofs.Choosing.{empty_at_kind}
-use Rattle.cpp_grammar.proofs.ClosedStates.{ok_same}
+use Rattle.cpp_press_laws.proofs.Basics.{◌≡◌, ℕ, inl, inr, length, List, [], ◌∷◌, true, refl, sym, subst, ◌∙◌, arith, false≢true, Rule, Tree as Shape, Forest, branch, empty, spell, found, Kind, Production, Alternative, alternatives, number_of, number_of_kind, may_be_empty, State, Around, Value, nothing_there, is_there, cpp, empty_at_kind, ok_same, no_items, discriminator_of, discriminator_text}
 use Rattle.cpp_press_laws.proofs.ByKind.Rules.{AllOf, OneOf, every-shape, kind-at}
 use Rattle.cpp_press_laws.proofs.ByKind.Leaves.{leaf-same}
-use Rattle.cpp_grammar.specs.Between.{no_items}
-use Rattle.cpp_grammar.specs.Meaning.{discriminator_of}
-use Rattle.cpp_press_laws.specs.Texts.{discriminator_text}
 use Rattle.cpp_press_laws.proofs.Short.Size.{size}
 use Rattle.cpp_press_laws.proofs.Short.Gains.{AllSmall, Class, name, type, unread, Gains, lent, class_of, grant, SmallPrefix, ready_for, Ready, need, loan, returned, held, IsKnown, IsKept, Gained, KindGains, ShapeGains, leaf, mark, second, offset, discriminator, unit, rest, items, whole, bare, operands}
 use Rattle.cpp_press_laws.proofs.Short.Paid.{Ended, ended-of}
@@ -25,13 +11,13 @@ use Rattle.cpp_press_laws.proofs.Short.Lists.{free_rows, idle_rows, free-gains, 
 use Rattle.cpp_press_laws.proofs.Short.Names.{name_rows, name-gains, abbreviated-name, constructor-name, destructor-name, internal-name, local-name, local-type, local-type-name, may-end-behind, nest-arguments, nest-end, nest-instance, nest-internal, nest-local-type, nest-next, nest-parameter, nest-source, nest-std, nest-template, operator-name, operator-name-with-c, other-operator-name, source-name, std-name, string-literal, tagged-std-type, as-name, further_rows, further-gains}
 use Rattle.cpp_press_laws.proofs.Short.Qualified.{qualified_rows, qualified-gains, as-type, bare-reference-gains, granted, integer-gains, parameter-argument-gains, parameter-gains, leveled-parameter-gains, first-parameter-gains, substitution-gains, type-with-s-gains, vendor-gains}
 
--- a production of a kind
+-- the bytes of a production of a kind pay for the kind's value
 abbrev Arm : Kind → Production → Type 0
 Arm kind p =
     (around : Around) (at : ℕ) (old : State) (v : Value) (new : State) (b : ℕ) → Ready kind around.prefix → SmallPrefix around.prefix
     → AllSmall old.candidates → Ended p around at old v new b → KindGains kind around v old new b
 
--- each of its productions
+-- the bytes of each production of a kind pay for the kind's value
 abbrev EachArm : Kind → List Alternative → Type 0
 EachArm kind [] = Unit {0}
 EachArm kind (a ∷ []) = Arm kind a.production
@@ -45,7 +31,7 @@ one-arm kind (a ∷ []) arms around at old v new b ready small cs o = arms aroun
 one-arm kind (a ∷ c ∷ others) arms around at old v new b ready small cs (inl o) = arms.0 around at old v new b ready small cs o
 one-arm kind (a ∷ c ∷ others) arms around at old v new b ready small cs (inr o) = one-arm kind (c ∷ others) arms.1 around at old v new b ready small cs o
 
--- a name that is a type; and after a letter that paid
+-- a production that pays for a name pays for it as a type; a production that pays without a grant pays with any grant
 named : {p : Production} → Free p name 0 → Idle p type
 named one around at old v new b idle small cs o = as-type idle (one around at old v new b tt small cs o)
 
@@ -151,14 +137,14 @@ arms Kind.ArrayRest is = type-gains Production.LengthArray refl
 arms Kind.NestMoreOrEnd is = nest-next
 arms _ is = absurd (false≢true is)
 
--- a kind that nothing is read as
+-- nothing is claimed of a class that is never read
 gained-if : (c : Class) (granted : ℕ) (around : Around) (v : Value) (old new : State) (b : ℕ) → (is_read c ≡ true → Gained c granted around v old new b)
     → Gained c granted around v old new b
 unfolding Gained is_read
 gained-if unread granted around v old new b one = tt
 gained-if _ granted around v old new b one = one refl
 
--- a kind that is empty
+-- a kind that may be empty needs no byte if it is empty
 gains-empty : (kind : Kind) (around : Around) (old : State) → may_be_empty kind ≡ true → AllSmall old.candidates
     → KindGains kind around nothing_there old old 0
 unfolding may_be_empty class_of grant Gained need loan returned IsKnown IsKept held is_there no_items size discriminator_of discriminator_text

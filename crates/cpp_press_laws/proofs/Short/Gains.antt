@@ -1,21 +1,8 @@
--- The bytes of what is read pay for what is pressed of it: eight for each. The candidates are worth what was paid for
--- them, and so is a value that isn't a candidate yet.
-use Rattle.std.proofs.Common.{◌≡◌, ℕ, ◌+◌, ◌*◌, ◌-◌, ◌≤◌, ◌⊎◌, length, List, [], ◌∷◌, ◌++◌, Bool, true, false, cond, Ok, refl, sym, subst, arith}
+-- Each byte that is read pays eight bytes of the pressed spelling. The candidates are worth what was paid for them,
+-- and so is a value that isn't a candidate yet.
+use Rattle.cpp_press_laws.proofs.Basics.{◌≡◌, ℕ, ◌+◌, ◌*◌, ◌-◌, ◌≤◌, ◌⊎◌, length, List, [], ◌∷◌, ◌++◌, Bool, true, false, cond, Ok, refl, sym, subst, arith, Tree as Shape, spell, IsTree, found, unfold_tree, Kind, number_of_kind, abi, Term, lvalue_only, is_function_type, appended, with_type, with_prefix, no_items, discriminator_of, signature_or, cpp, signed_text, offset_text, name_letters, discriminator_text, components_of, is_encoding}
 use Rattle.sym_shape.specs.declared.rule.Sym.TheVariants.{Kind as OfKind}
-use Rattle.sym_shape.specs.Tree.{Tree as Shape, spell, IsTree}
-use Rattle.sym_link.specs.Unfold.{found, unfold_tree}
-use Rattle.cpp_grammar.specs.declared.kind.Kind.{Kind}
-use Rattle.cpp_grammar.specs.Grammar.{number_of_kind}
-use Rattle.cpp_grammar.specs.Table.{abi}
-use Rattle.cpp_grammar.specs.Term.{Term, lvalue_only}
 use Rattle.cpp_grammar.specs.Values.{Candidate, State, Prefix, outermost, behind, Around, prefix_tree, prefix_listed, Value, nothing_there, letter, text, signed, tree, pair, tree_of, piece_of, is_listed, qualifiers_of, ref_of, is_there, adjustment_of, by_all}
-use Rattle.cpp_grammar.specs.References.{is_function_type, appended, with_type, with_prefix}
-use Rattle.cpp_grammar.specs.Between.{no_items}
-use Rattle.cpp_grammar.specs.Meaning.{discriminator_of, signature_or}
-use Rattle.cpp_grammar.specs.Unfolding.{cpp}
-use Rattle.cpp_press_laws.specs.Texts.{signed_text, offset_text, name_letters, discriminator_text}
-use Rattle.cpp_press_laws.specs.Components.{components_of}
-use Rattle.cpp_press_laws.specs.Pressing.{is_encoding}
 use Rattle.cpp_press_laws.proofs.Components.Parts.{has-itself}
 use Rattle.cpp_press_laws.proofs.Components.Complete.{worths-named, candidates-one}
 use Rattle.cpp_press_laws.proofs.Short.Size.{size, part, front_of, lettered}
@@ -25,11 +12,11 @@ use Rattle.cpp_press_laws.proofs.Short.Worth.{is_among, has-among, full, worth, 
 abbrev pub wealth : State → ℕ
 wealth s = worths [] (components_of s.candidates)
 
--- a tree that takes at most the bytes of a reference as a part, and is no encoding
+-- a tree that isn't an encoding and takes at most the bytes of a reference as a part
 abbrev pub IsSmall : Term → Type 0
 IsSmall t = (part t ≤ 8) × (is_encoding t ≡ false)
 
--- each candidate has such a tree
+-- the tree of each candidate is small
 unfoldable pub AllSmall : List Candidate → Type 0
 AllSmall [] = Unit {0}
 AllSmall (c ∷ cs) = IsSmall c.tree × AllSmall cs
@@ -41,7 +28,8 @@ front t = front_of t (size t)
 
 -- The classes of values, by how they are paid for.
 pub data Class : Type 0 where
-  -- a name; a type; a type right under qualifiers; a piece of a name; an encoding; a list; what may be arguments after a name, and what is
+  -- a name; a type; a type right under qualifiers; a piece of a name; an encoding; a list; arguments that may come after a name;
+  -- arguments that must come after it
   name : Class
   type : Class
   bare : Class
@@ -54,8 +42,8 @@ pub data Class : Type 0 where
   further : Class
   -- the second letter of an operator and its operands
   operands : Class
-  -- what may be a mark, or digits; a letter; an offset; a discriminator; the rest of a function type; the same after a mark; the second
-  -- letter of an operator that begins with an l
+  -- an optional mark, or digits; a letter; an offset; a discriminator; the rest of a function type; its rest after a mark; the
+  -- second letter of an operator that begins with an l
   leaf : Class
   mark : Class
   offset : Class
@@ -63,7 +51,7 @@ pub data Class : Type 0 where
   rest : Class
   after_mark : Class
   second : Class
-  -- what the grammar doesn't come to, and a symbol
+  -- what the ABI's grammar never reads, and a symbol
   unread : Class
 
 unfoldable pub class_of : Kind → Class
@@ -165,15 +153,15 @@ typed v = cond (is_listed v) 0 (full (tree_of v)) + part (tree_of v)
 unfoldable pub letters_in : Value → ℕ
 letters_in v = lettered (name_letters (qualifiers_of v) (ref_of v))
 
--- what is held for a mark, digits, or bytes
+-- the bytes that a mark, digits or a text hold
 unfoldable pub held : Value → ℕ
 held (letter b) = 8
 held (text bytes) = 8 * length bytes
 held (signed n) = length (signed_text n)
 held _ = 0
 
--- What is left of what was paid, for the next use of the value: a name is spelled out, or becomes a candidate that is
--- referred to; a type becomes a candidate, unless it is one, and is referred to.
+-- What is kept of what was paid, for the next use of the value: a name is spelled out, or becomes a candidate and is
+-- referred to; a type becomes a candidate, unless it is one already, and is referred to.
 unfoldable pub need : Class → Around → Value → State → ℕ
 need name around v s = size (tree_of v) + letters_in v + 9
 need further around v s = size (tree_of v) + letters_in v + 9
@@ -195,13 +183,13 @@ need after_mark around v s = size (tree_of (signature_or lvalue_only v)) + 7
 need second around v s = size (piece_of v) + 6
 need unread around v s = 0
 
--- what is left for the name so far, where a piece or arguments may follow
+-- what is kept for the name so far, where a piece or arguments may follow
 unfoldable pub lent : Prefix → ℕ
 lent outermost = 0
 lent (behind t true) = front t
 lent (behind t false) = size t + 9
 
--- what is left for the name so far, once it is a candidate
+-- what is kept for the name so far, once it is a candidate
 unfoldable pub fronted : Prefix → ℕ
 fronted outermost = 0
 fronted (behind t listed) = front t
@@ -218,12 +206,12 @@ loan arguments around = owed around.prefix
 loan given around = owed around.prefix
 loan _ around = 0
 
--- what is given back of that, where no arguments came
+-- what is given back of the loan for arguments, if there are no arguments
 unfoldable pub returned : Class → Around → Value → ℕ
 returned arguments around v = cond (is_there v) 0 (owed around.prefix)
 returned _ around v = 0
 
--- what the letter before a kind paid
+-- what is paid by the letter before a kind
 unfoldable pub grant : Kind → ℕ
 grant Kind.ComponentAfterC = 8
 grant Kind.ConstructorAfterC = 8
@@ -237,13 +225,13 @@ grant Kind.LeveledParameter = 8
 grant Kind.FirstAfterT = 8
 grant _ = 0
 
--- the name so far, unless it is a candidate, may become one
+-- the name so far is a candidate, or may become one
 unfoldable pub SmallPrefix : Prefix → Type 0
 SmallPrefix outermost = Unit {0}
 SmallPrefix (behind t true) = Unit {0}
 SmallPrefix (behind t false) = IsSmall t
 
--- a name comes before; and a name comes before that may end here
+-- for `IsBehind`, a name comes before; for `MayEnd`, a name that may end here and is no candidate
 unfoldable pub IsBehind : Prefix → Type 0
 IsBehind outermost = ⊥
 IsBehind (behind t listed) = is_encoding t ≡ false
@@ -253,8 +241,8 @@ MayEnd outermost = ⊥
 MayEnd (behind t true) = ⊥
 MayEnd (behind t false) = is_function_type t ≡ false
 
--- Where a class of values is read. No name comes before types and lists. A name that isn't a candidate comes before the
--- rest of a name that may end.
+-- Where a class of values, or a kind, is read. No name comes before types and lists. A name comes before the rest of a name,
+-- and is no candidate if the rest may end it.
 unfoldable pub ready_for : Class → Prefix → Type 0
 ready_for type prefix = lent prefix ≡ 0
 ready_for bare prefix = lent prefix ≡ 0
@@ -275,7 +263,7 @@ Ready Kind.Abbreviation prefix = Unit {0}
 Ready Kind.Encoding prefix = Unit {0}
 Ready kind prefix = ready_for (class_of kind) prefix
 
--- A name or a type takes at most the bytes of a reference as a part. A function type that is a candidate already is
+-- A name or a type takes at most the bytes of a reference as a part. A function type with a value that is marked as listed is
 -- among the candidates.
 unfoldable pub IsKnown : Class → Around → Value → State → Type 0
 IsKnown name around v s = IsSmall (tree_of v) × (is_function_type (tree_of v) ≡ false)
@@ -294,7 +282,7 @@ unfoldable pub IsKept : Class → Value → (old new : State) → Type 0
 IsKept arguments v old new = v ≡ nothing_there → new ≡ old
 IsKept _ v old new = Unit {0}
 
--- This many bytes pay for a value and for what became candidates.
+-- These bytes, with what was lent and granted, pay for a value and for what became candidates.
 pub record Gains (c : Class) (granted : ℕ) (around : Around) (v : Value) (old new : State) (bytes : ℕ) : Type 0 where
   pub few : wealth new + need c around v new + returned c around v ≤ wealth old + loan c around + 8 * bytes + granted
   pub known : IsKnown c around v new
@@ -326,7 +314,7 @@ unfolding AllSmall
 small-one [] c all one = (one, tt)
 small-one (d ∷ cs) c all one = (all.0, small-one cs c all.1 one)
 
--- a later state, in which the candidates are worth at most this much
+-- a later state: its candidates are worth at most `most`, and each of them is small
 pub record Grown (most : ℕ) (s : State) : Type 0 where
   pub few : wealth s ≤ most
   pub small : AllSmall s.candidates

@@ -1,30 +1,10 @@
--- The tree that a symbol is read as has few pressed bytes for the bytes of the symbol.
-use Rattle.std.proofs.Common.{◌≡◌, ℕ, ◌+◌, ◌*◌, ◌≤◌, length, [], ◌∷◌, true, Result, Ok, Err, refl, ap, sym, subst, ◌∙◌, arith}
-use Rattle.std.proofs.lemmas.Bool.{false≢true}
+-- The tree that a symbol is read as has at most 64 pressed bytes for each byte of the symbol.
+use Rattle.cpp_press_laws.proofs.Basics.{◌≡◌, ℕ, ◌+◌, ◌*◌, ◌≤◌, length, [], ◌∷◌, true, Result, Ok, Err, refl, ap, sym, subst, ◌∙◌, arith, false≢true, Refusal, Malformed, Tree as Shape, branch, empty, token, fixed, spell, IsTree, found, unfold_tree, Kind, Production, alternatives, number_of_kind, parts_of, is_chain, may_be_empty, abi, Term, symbol, State, Value, tree, tree_of, text_of, between, meaning, close, cpp, first_around, first_state, first_tree, unfold_cpp, empty_at_kind, ok_same, behind_bind, components_of, pressed, spelled_components, marked_components, unmarked}
 use Rattle.sym_core.specs.declared.TheConstants.{MOST_BYTES}
-use Rattle.sym_core.specs.declared.refusal.Refusal.{Refusal}
-use Rattle.sym_core.specs.declared.refusal.Refusal.TheVariants.{Malformed}
 use Rattle.sym_shape.specs.declared.rule.Sym.TheVariants.{Kind as OfKind}
-use Rattle.sym_shape.specs.Tree.{Tree as Shape, branch, empty, token, fixed, spell, IsTree}
-use Rattle.sym_link.specs.Unfold.{found, unfold_tree}
 use Rattle.sym_demangle.specs.Mangled.{misshapen, well_shaped}
-use Rattle.cpp_grammar.specs.declared.kind.Kind.{Kind}
-use Rattle.cpp_grammar.specs.declared.production.Production.{Production}
-use Rattle.cpp_grammar.specs.Grammar.{alternatives, number_of_kind, parts_of, is_chain, may_be_empty}
-use Rattle.cpp_grammar.specs.Table.{abi}
-use Rattle.cpp_grammar.specs.Term.{Term, symbol}
 use Rattle.cpp_grammar.specs.Values as values
-use Rattle.cpp_grammar.specs.Values.{State, Value, tree, tree_of, text_of}
-use Rattle.cpp_grammar.specs.Between.{between}
-use Rattle.cpp_grammar.specs.Meaning.{meaning}
 use Rattle.cpp_grammar.specs.Unfolding as unfolding_
-use Rattle.cpp_grammar.specs.Unfolding.{close, cpp, first_around, first_state, first_tree, unfold_cpp}
-use Rattle.cpp_grammar.proofs.Choosing.{empty_at_kind}
-use Rattle.cpp_grammar.proofs.ClosedStates.{ok_same, behind_bind}
-use Rattle.cpp_press_laws.specs.Components.{components_of}
-use Rattle.cpp_press_laws.specs.Pressing.{pressed}
-use Rattle.cpp_press_laws.specs.Apart.{spelled_components, marked_components}
-use Rattle.cpp_press_laws.specs.MarkedComponents.{unmarked}
 use Rattle.cpp_press_laws.specs.Short.{PressedIsShort}
 use Rattle.cpp_press_laws.proofs.Ways as way
 use Rattle.cpp_press_laws.proofs.ByKind.Rules.{all-of, kind-at, one-value}

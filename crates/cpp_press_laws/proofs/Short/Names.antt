@@ -1,29 +1,9 @@
 -- What is paid for names.
-use Rattle.std.proofs.Common.{◌≡◌, ℕ, ◌+◌, ◌*◌, ◌≤◌, ◌⊎◌, inl, inr, length, List, [], ◌∷◌, ◌++◌, true, false, cond, Result, Ok, Err, refl, ap, sym, subst, arith, length-append}
-use Rattle.sym_link.specs.Reading.{Next, ◌>>=◌}
-use Rattle.std.proofs.lemmas.Bool.{false≢true}
-use Rattle.cpp_grammar.specs.declared.kind.Kind.{Kind}
-use Rattle.cpp_grammar.specs.declared.production.Production.{Production}
-use Rattle.cpp_grammar.specs.declared.production.Operation.{Operation}
-use Rattle.cpp_grammar.specs.Grammar.{kinds, number_of, number_of_kind, parts_of, is_chain}
-use Rattle.cpp_grammar.specs.Term.{Qualifiers, RefQualifier, any_value, lvalue_only, rvalue_only, explicit_object, Term, in_std, instance, local, parameter, string_literal}
+use Rattle.cpp_press_laws.proofs.Basics.{◌≡◌, ℕ, ◌+◌, ◌*◌, ◌≤◌, ◌⊎◌, inl, inr, length, List, [], ◌∷◌, ◌++◌, true, false, cond, Result, Ok, Err, refl, ap, sym, subst, arith, length-append, Next, ◌>>=◌, false≢true, Kind, Production, Operation, kinds, number_of, number_of_kind, parts_of, is_chain, Qualifiers, RefQualifier, any_value, lvalue_only, rvalue_only, explicit_object, Term, in_std, instance, local, parameter, string_literal, State, Prefix, outermost, Around, prefix_tree, prefix_listed, Value, nothing_there, tree, named, tree_of, piece_of, qualifiers_of, ref_of, letter_of, is_there, mark_of, is_function_type, parameter_named, after, inside, extended, applied, no_items, named_so_far, listed_so_far, index_of, between, parameter_so_far, discriminator_of, meaning, close, Sym, Made, unlisted, a_name, handed, row_of, made, meant, is_listing, given, all_given, all_pass, qualifier_letters, mark_letter, name_letters, components_of, is_component, is_encoding, Refusal, either_cond}
 use Rattle.cpp_grammar.specs.Values as values
-use Rattle.cpp_grammar.specs.Values.{State, Prefix, outermost, Around, prefix_tree, prefix_listed, Value, nothing_there, tree, named, tree_of, piece_of, qualifiers_of, ref_of, letter_of, is_there, mark_of}
-use Rattle.cpp_grammar.specs.References.{is_function_type, parameter_named}
-use Rattle.cpp_grammar.specs.Between.{after, inside, extended, applied, no_items, named_so_far, listed_so_far, index_of, between, parameter_so_far}
-use Rattle.cpp_grammar.specs.Meaning.{discriminator_of, meaning}
 use Rattle.cpp_grammar.specs.Unfolding as unfolding_
-use Rattle.cpp_grammar.specs.Unfolding.{close}
-use Rattle.sym_shape.specs.declared.rule.Sym.{Sym}
 use Rattle.sym_shape.specs.declared.rule.Sym.TheVariants.{Kind as OfKind}
-use Rattle.cpp_grammar.specs.Row.{Made, unlisted, a_name, handed}
-use Rattle.cpp_grammar.specs.Rows.{row_of}
-use Rattle.cpp_grammar.specs.Meant.{made, meant, is_listing, given, all_given}
 use Rattle.cpp_grammar.specs.Builders.{built, argument, truth_in, bytes_in, number_in, tree_in}
-use Rattle.cpp_grammar.proofs.Steps.{all_pass}
-use Rattle.cpp_press_laws.specs.Texts.{qualifier_letters, mark_letter, name_letters}
-use Rattle.cpp_press_laws.specs.Components.{components_of}
-use Rattle.cpp_press_laws.specs.Pressing.{is_component, is_encoding}
 use Rattle.cpp_press_laws.proofs.Short.Size.{part_of, front_of, lettered, size, over, part, front-part, name-own, size-some}
 use Rattle.cpp_press_laws.proofs.Short.Worth.{full, full-most, worths}
 use Rattle.cpp_press_laws.proofs.Short.Gains.{wealth, IsSmall, AllSmall, front, name, arguments, class_of, typed, letters_in, need, lent, owed, loan, returned, grant, SmallPrefix, IsBehind, MayEnd, ready_for, Ready, IsKnown, IsKept, Gains, Gained, Grown, appended-grown, prefix-grown, KindGains, fronted, further}
@@ -31,10 +11,8 @@ use Rattle.cpp_press_laws.proofs.Short.Paid.{Ended, comes-to}
 use Rattle.cpp_press_laws.proofs.Short.ByRow.{is_read, part_passes, parts_pass, cost_of, credit_of, Knows, is_idle, all_quiet, refers, Pays, row_goes, is_listed_in, each_goes, one-goes, naming, closes-naming, named-first, by-row, may_read, may_be_part, Standing}
 use Rattle.cpp_press_laws.proofs.Short.Slots.{letters-short}
 use Rattle.cpp_press_laws.proofs.Short.Types.{Free, listed}
-use Rattle.sym_core.specs.declared.refusal.Refusal.{Refusal}
 use Rattle.cpp_press_laws.proofs.ByKind.Rules.{OnGoing}
 use Rattle.cpp_press_laws.proofs.Fits.Solids.{parameter-names}
-use Rattle.cpp_grammar.proofs.Chosen.{either_cond}
 
 -- ## Names
 
@@ -86,7 +64,7 @@ part-most : (t : Term) → part t ≤ size t + 8
 unfolding part_of
 part-most t = either_cond (λ n. n ≤ size t + 8) (is_component t) 8 (size t) (λ h. omega arith) (λ h. omega arith)
 
--- more is left for a name that is no candidate yet
+-- at least as much is kept for a name that may still become a candidate as for a name that is a candidate
 fronted-lent : (prefix : Prefix) → fronted prefix ≤ lent prefix
 unfolding fronted lent
 fronted-lent outermost = omega arith
@@ -129,7 +107,7 @@ unfolding extended is_function_type
 extended-other outermost p = refl
 extended-other (values.behind t listed) p = refl
 
--- what a name made of one part needs, and what pays for it
+-- what a name of one part needs, and what pays for it
 pub record NamePaid (p : Production) (granted : ℕ) (x : Sym) (around : Around) (v : Value) (s : State) (bytes : ℕ) (t : Term) : Type 0 where
   pub eight : part t ≡ 8
   pub scope : is_encoding t ≡ false
@@ -141,7 +119,7 @@ NamePays p granted m x =
     (around : Around) (v : Value) (s : State) (bytes : ℕ) → SmallPrefix around.prefix → Knows x around v s bytes
     → NamePaid p granted x around v s bytes (made 0 around (v ∷ []) m)
 
--- a name, and what may be arguments or tags after it
+-- a name, and the arguments or tags that may come after it
 named-by-row : (p : Production) (m : Made) (x : Sym) (second : Kind) (granted : ℕ) → row_of p ≡ naming m (a_name unlisted)
     → parts_of p ≡ x ∷ OfKind (number_of_kind second) ∷ [] → part_passes (may_be_part true) x ≡ true → refers p ≡ false
     → ((prefix : Prefix) → Ready second prefix)
@@ -162,7 +140,7 @@ named-by-row p m x second granted row parts is closed ready given_ pays around a
     paid.other g
     (omega (arith, o.sum, n.sum, n.first.few, paid.few, w.sum, w.onward.1, listed-lent around.prefix))))
 
--- a name that continues
+-- a name that goes on after its first part
 going-by-row : (p : Production) (m : Made) (x : Sym) → row_of p ≡ naming m (handed 1)
     → parts_of p ≡ x ∷ OfKind (number_of_kind Kind.NestRest) ∷ [] → part_passes (may_be_part true) x ≡ true → refers p ≡ false
     → NamePays p 0 m x → Free p name 0
@@ -290,7 +268,7 @@ nest-template around at old v new b ready small all o =
       small = g1.small;
     })
 
--- what is lent before a name continues pays for the candidate that it becomes, and for a reference to it
+-- what is lent before a name goes on pays for the candidate that the name becomes, and for a reference to it
 prefix-lent : (p : Prefix) → IsBehind p → SmallPrefix p → owed p + front (prefix_tree p) ≤ lent p
 unfolding IsBehind SmallPrefix owed lent prefix_tree
 prefix-lent outermost behind small = absurd behind
@@ -424,7 +402,7 @@ nest-end around at old v new b end small all o =
     comes-to (λ w s. Gains name 0 around w old s b) o [] old (tree (prefix_tree around.prefix) (prefix_listed around.prefix)) old o.paid.0 refl
     (end-named around around.prefix old b end small all (omega (arith, o.sum)))
 
--- a parameter that was named
+-- a parameter was named: the state grew by at most what a parameter is worth, and `G` holds from there
 pub record ParameterGoes (around : Around) (place k : ℕ) (vs : List Value) (old : State) (G : Next Value State Around → Type 0) : Type 0 where
   pub mid : State
   pub grown : Grown (wealth old + full (parameter k)) mid

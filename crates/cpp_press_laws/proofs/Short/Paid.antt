@@ -1,38 +1,10 @@
--- The parts of a production that was read, and what the bytes of each pay for.
-use Rattle.std.proofs.Common.{◌≡◌, ℕ, zero, suc, ◌+◌, ◌*◌, ◌-◌, ◌<◌, ◌≤◌, length, List, [], ◌∷◌, ◌++◌, Bool, true, false, cond, Option, Some, None, Ok, Err, refl, ap, sym, subst, ◌∙◌, arith, length-append}
-use Rattle.std.specs.Prelude.{codes, not, nat_lt, ◌/◌, ◌%◌}
+-- The parts of a production that was read, and what the bytes of each part pay for.
+use Rattle.cpp_press_laws.proofs.Basics.{◌≡◌, ℕ, zero, suc, ◌+◌, ◌*◌, ◌-◌, ◌<◌, ◌≤◌, length, List, [], ◌∷◌, ◌++◌, Bool, true, false, cond, Option, Some, None, Ok, Err, refl, ap, sym, subst, ◌∙◌, arith, length-append, codes, not, nat_lt, ◌/◌, ◌%◌, nat_tests, NumberKind, Length, Decimal, Seq36, Base62, Hex, Digits, Cpp, AreDigits, IsFormOf, IsLengthForm, is_digit_of, ending_of, Token, IsName, IsSeparator, IsNumberToken, bytes_of, value_onto, value_of, counted_value, Rule, Sym, symbols_of, Found, Next, ◌>>=◌, digits_in, decimal_digit, most_of, divides10, digits-count, Kind, Production, alternatives, choose, number_of_kind, parts_of, is_chain, abi, rule_of, rule_taken, Continuation, between, opening, production_at, cpp, close, byte_of, abi_wide, is_first, starts, read_first, ok_same, behind_bind, either, decimal, counted, ordinal, rule_at_kind, at_number, its_symbols, same_rule, opening_keeps}
 use Rattle.std.proofs.Math.Nat.{mul_assoc}
-use Rattle.std.proofs.lemmas.Bool.Decides.{nat_tests}
-use Rattle.sym_core.specs.declared.NumberKind.{NumberKind}
-use Rattle.sym_core.specs.declared.NumberKind.TheVariants.{Length, Decimal, Seq36, Base62, Hex, Digits}
-use Rattle.sym_core.specs.declared.NameClass.TheVariants.{Cpp}
-use Rattle.sym_core.specs.Number.{AreDigits, IsFormOf, IsLengthForm, is_digit_of, ending_of}
-use Rattle.sym_core.specs.Token.{Token, IsName, IsSeparator, IsNumberToken, bytes_of}
-use Rattle.sym_core.specs.Value.{value_onto, value_of, counted_value}
-use Rattle.sym_shape.specs.declared.rule.Rule.{Rule}
-use Rattle.sym_shape.specs.declared.rule.Sym.{Sym}
 use Rattle.sym_shape.specs.declared.rule.Sym.TheVariants.{Kind as OfKind, Name, Number, Byte}
-use Rattle.sym_shape.specs.Table.{symbols_of}
 use Rattle.sym_shape.specs.Tree.{Tree as Shape, Forest, branch, empty, token, fixed, nothing, grown, spell, spell_all, IsTree, AreTrees}
-use Rattle.sym_link.specs.Reading.{Found, Next, ◌>>=◌}
 use Rattle.sym_link.specs.Unfold.{found, alone, standing, unfold_tree, unfold_forest}
-use Rattle.sym_spell.specs.Digits.{digits_in, decimal_digit, most_of}
-use Rattle.sym_spell.proofs.DigitValues.{divides10, digits-count}
-use Rattle.cpp_grammar.specs.declared.kind.Kind.{Kind}
-use Rattle.cpp_grammar.specs.declared.production.Production.{Production}
-use Rattle.cpp_grammar.specs.Grammar.{alternatives, choose, number_of_kind, parts_of, is_chain}
-use Rattle.cpp_grammar.specs.Table.{abi, rule_of, rule_taken}
 use Rattle.cpp_grammar.specs.Values.{State, Around, Value, nothing_there, text, text_of}
-use Rattle.cpp_grammar.specs.Between.{Continuation, between}
-use Rattle.cpp_grammar.specs.Unfolding.{opening, production_at, cpp, close, byte_of}
-use Rattle.cpp_grammar.proofs.Growing.{abi_wide}
-use Rattle.cpp_grammar.proofs.Declared.{is_first}
-use Rattle.cpp_grammar.proofs.Undeclared.{starts, read_first}
-use Rattle.cpp_grammar.proofs.ClosedStates.{ok_same, behind_bind}
-use Rattle.cpp_grammar.proofs.Chosen.{either}
-use Rattle.cpp_press_laws.specs.Texts.{decimal, counted, ordinal}
-use Rattle.cpp_grammar.proofs.Choosing.{rule_at_kind}
-use Rattle.cpp_grammar.proofs.ClosedTrees.{at_number, its_symbols, same_rule, opening_keeps}
 use Rattle.cpp_press_laws.proofs.Components.Lengths.{some-bytes}
 use Rattle.cpp_press_laws.proofs.ByKind.Rules.{PartGoes, PartsGo, OnGoing, AllOf, OneOf, parts-go, picked-one, kind-at}
 use Rattle.cpp_press_laws.proofs.ByKind.Leaves.{LeafAs, leaf-same}
@@ -92,7 +64,7 @@ name-paid (branch rule taken parts) around at state after v is e = absurd is
 name-paid empty around at state after v is e = absurd is
 name-paid (fixed b) around at state after v is e = absurd is
 
--- a number
+-- a number of this kind
 abbrev pub NumberPaid : NumberKind → (bytes : ℕ) → Value → Type 0
 NumberPaid kind bytes v =
     (1 ≤ bytes) × (length (text_of v) ≤ bytes) × (kind ≡ Decimal → length (ordinal (counted_value Decimal (text_of v))) ≤ bytes)
@@ -242,7 +214,7 @@ parts-paid p around place inner (x ∷ xs) f vs from s goes are = go (between p 
 
 -- ## Productions
 
--- a production that was read: its parts, what they come to, and its bytes
+-- a production that was read: its parts, what its value is made of, and its bytes
 pub record Ended (p : Production) (around : Around) (at : ℕ) (old : State) (v : Value) (new : State) (bytes : ℕ) : Type 0 where
   pub byte : ℕ
   pub inner : Found (List Value) State
@@ -251,7 +223,7 @@ pub record Ended (p : Production) (around : Around) (at : ℕ) (old : State) (v 
   pub paid : Paid p around at inner (parts_of p) others [] old
   pub closes : close p byte around at old inner.value inner.state ≡ Ok (found v new)
 
--- a fact of the meaning of a production is a fact of what the production was read as
+-- a property of the production's meaning and the state after it holds of the value and the state that were read
 pub comes-to : {p : Production} {around : Around} {at : ℕ} {old : State} {v : Value} {new : State} {bytes : ℕ} (P : Value → State → Type 0)
     (o : Ended p around at old v new bytes) (vs : List Value) (s : State) (m : Value) (t : State) → found vs s ≡ o.inner
     → close p o.byte around at old vs s ≡ Ok (found m t) → P m t → P v new

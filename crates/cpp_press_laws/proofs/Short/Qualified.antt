@@ -1,35 +1,12 @@
 -- What is paid for types under qualifiers, types with arguments, and types that a substitution names.
-use Rattle.std.proofs.Common.{◌≡◌, ℕ, zero, suc, ◌+◌, ◌*◌, ◌-◌, ◌≤◌, ◌⊎◌, inl, inr, length, List, [], ◌∷◌, Bool, true, false, cond, Some, Ok, refl, ap, sym, subst, ◌∙◌, arith}
-use Rattle.std.specs.Prelude.{not, ◌&&◌, nat_eq, slice_get}
-use Rattle.std.proofs.lemmas.Bool.{false≢true, true≢false}
-use Rattle.sym_core.specs.declared.NumberKind.TheVariants.{Seq36}
-use Rattle.sym_core.specs.Value.{counted_value}
-use Rattle.sym_link.specs.Unfold.{found}
-use Rattle.cpp_grammar.specs.declared.kind.Kind.{Kind}
-use Rattle.cpp_grammar.specs.declared.production.Production.{Production}
-use Rattle.cpp_grammar.specs.declared.production.Operation.{Operation}
-use Rattle.cpp_grammar.specs.Grammar.{kinds, number_of, number_of_kind, parts_of, is_chain}
-use Rattle.cpp_grammar.specs.Rows.{row_of}
-use Rattle.cpp_grammar.specs.Term.{Qualifiers, Term, symbol, vendor, instance, parameter, lvalue, rvalue, function_type, qualified, integer}
+use Rattle.cpp_press_laws.proofs.Basics.{◌≡◌, ℕ, zero, suc, ◌+◌, ◌*◌, ◌-◌, ◌≤◌, ◌⊎◌, inl, inr, length, List, [], ◌∷◌, Bool, true, false, cond, Some, Ok, refl, ap, sym, subst, ◌∙◌, arith, not, ◌&&◌, nat_eq, slice_get, false≢true, true≢false, Seq36, counted_value, found, Kind, Production, Operation, kinds, number_of, number_of_kind, parts_of, is_chain, row_of, Qualifiers, Term, symbol, vendor, instance, parameter, lvalue, rvalue, function_type, qualified, integer, State, Around, Value, nothing_there, tree, named, tree_of, is_listed, is_there, text_of, signed_of, Candidate, is_function_type, appended, parameter_named, with_type, with_unqualified, substituted, after, applied, named_so_far, listed_so_far, parameter_so_far, index_of, between, parameters, listed_value, reference_to, meaning, close, either_cond, all_pass, qualifier_letters, components_of, Component, is_component, is_encoding, element, is_open, has_letters}
 use Rattle.cpp_grammar.specs.Values as values
-use Rattle.cpp_grammar.specs.Values.{State, Around, Value, nothing_there, tree, named, tree_of, is_listed, is_there, text_of, signed_of, Candidate}
-use Rattle.cpp_grammar.specs.References.{is_function_type, appended, parameter_named, with_type, with_unqualified, substituted}
-use Rattle.cpp_grammar.specs.Between.{after, applied, named_so_far, listed_so_far, parameter_so_far, index_of, between}
-use Rattle.cpp_grammar.specs.Meaning.{parameters, listed_value, reference_to, meaning}
 use Rattle.cpp_grammar.specs.Unfolding as unfolding_
-use Rattle.cpp_grammar.specs.Unfolding.{close}
-use Rattle.cpp_grammar.proofs.Chosen.{either_cond}
-use Rattle.cpp_grammar.proofs.Steps.{all_pass}
-use Rattle.cpp_press_laws.specs.Texts.{qualifier_letters}
-use Rattle.cpp_press_laws.specs.Components.{components_of, Component}
-use Rattle.cpp_press_laws.specs.Pressing.{is_component, is_encoding}
 use Rattle.cpp_press_laws.proofs.Short.Size.{part_of, bare_of, size, over, part, part-some}
 use Rattle.cpp_press_laws.proofs.Short.Worth.{is_among, is_again, full, worth, full-most, worths, has-among}
 use Rattle.cpp_press_laws.proofs.Short.Gains.{wealth, IsSmall, AllSmall, name, type, bare, arguments, Class, class_of, typed, held, need, lent, owed, loan, returned, grant, SmallPrefix, ready_for, Ready, IsKnown, IsKept, Gains, Gained, appended-wealth, appended-grown, typed-grown}
 use Rattle.cpp_press_laws.proofs.Short.Paid.{Ended, comes-to}
 use Rattle.cpp_press_laws.proofs.Short.ByRow.{is_read, part_passes, parts_pass, cost_of, credit_of, Knows, is_idle, all_quiet, refers, Pays, row_goes, by-row, is_listed_in, each_goes, one-goes, may_read, may_be_part, Standing}
-use Rattle.cpp_grammar.specs.Scope.{element, is_open}
-use Rattle.cpp_press_laws.specs.Fits.{has_letters}
 use Rattle.cpp_press_laws.proofs.Components.Parts.{Has, has-before, has-itself, has-closed}
 use Rattle.cpp_press_laws.proofs.Fits.References.{Substituted, substitution-refers}
 use Rattle.cpp_press_laws.proofs.Short.Slots.{letters-short}
@@ -38,7 +15,7 @@ use Rattle.cpp_press_laws.proofs.Short.Names.{parameter-goes}
 
 -- ## Conversions
 
--- where no name comes before, a name is a type
+-- what is paid for a name pays for it as a type, if no name comes before it
 pub as-type : {around : Around} {v : Value} {old new : State} {b : ℕ} → lent around.prefix ≡ 0 → Gains name 0 around v old new b
     → Gains type 0 around v old new b
 unfolding need typed loan returned IsKnown IsKept
@@ -53,7 +30,7 @@ as-type {around} {v} idle g = record {
     most true = omega arith
     most false = full-most (tree_of v)
 
--- granting more pays as well
+-- what is paid for without a grant is paid for with any grant
 pub granted : {c : Class} {around : Around} {v : Value} {old new : State} {b : ℕ} (g : ℕ) → Gains c 0 around v old new b → Gains c g around v old new b
 granted g one = record { few = omega (arith, one.few); known = one.known; kept = one.kept; small = one.small }
 
@@ -81,7 +58,7 @@ bare-most v f a is among = go (is_listed v) f a is among
     go false true false is h =
         omega (arith, function-part (tree_of v) is, ap (λ g. cond g (1 + size (tree_of v)) (1 + over (size (tree_of v)))) is)
 
--- a type that becomes a candidate unless it's a function type
+-- a type right under qualifiers becomes a candidate, unless it is a function type
 bare-here : (around : Around) (v : Value) (s old : State) (b : ℕ) → AllSmall s.candidates → IsKnown type around v s
     → wealth s + typed v ≤ wealth old + 8 * b → Gains bare 0 around (tree (tree_of v) true) old (with_unqualified around v s) b
 unfolding need typed is_listed tree_of loan returned IsKnown IsKept with_unqualified
@@ -114,7 +91,7 @@ bare-here around v s old b all known few = go (is_function_type (tree_of v)) ref
           small = g.small;
         }
 
--- a type that isn't a function type
+-- a type that isn't a function type is paid for right under qualifiers, too
 pub as-bare : {around : Around} {v : Value} {old new : State} {b : ℕ} → is_function_type (tree_of v) ≡ false → Gains type 0 around v old new b
     → Gains bare 0 around v old new b
 unfolding need typed loan returned IsKnown IsKept
@@ -142,7 +119,7 @@ bare-reference-gains around at old v new b idle small all o =
     (appended around (tree_of (listed_value (reference_to o.byte p0.value))) p0.after) p0.onward.0 refl (reference-other o.byte p0.value))
     (reference-gains around at old v new b idle small all o)
 
--- what is qualified becomes a candidate
+-- a qualified type is worth at most what is kept for the type under its qualifiers
 qualified-worth : (q : Qualifiers) (n : ℕ) (t : Term) (cs : List Component) → has_letters q ≡ true
     → worth cs n (qualified q t) ≤ cond (is_function_type t) (8 + cond (is_among n t cs) 0 (size t)) (part t)
 unfolding worth is_again full over size bare_of is_function_type
@@ -252,7 +229,7 @@ given-type around t l w s mid old c b g some gw few =
     whole_ true all few = instance-made around t (tree_of w) s old b g all few
     whole_ false all few = instance-made around t (tree_of w) s old b g all few
 
--- a type and what may be arguments after it
+-- a type and the arguments that may come after it
 applied-type : (around : Around) (t : Term) (l : Bool) (w : Value) (s mid old : State) (c b g : ℕ) → is_encoding t ≡ false
     → (l ≡ false → part t ≤ 8) → (l ≡ true → is_function_type t ≡ true → is_among around.encoding t (components_of mid.candidates) ≡ true)
     → Gains arguments 0 (after t l around) w mid s c
@@ -265,7 +242,7 @@ applied-type around t l w s mid old c b g scope one among gw few = go gw.known
     go (inl none) = bare-type around t l w s mid old c b g none scope one among gw few
     go (inr some) = given-type around t l w s mid old c b g some gw few
 
--- the same, where the type is no candidate and owes nothing before its arguments
+-- a type that is no candidate and owes nothing before its arguments, and the arguments that may come after it
 unlisted-type : (around : Around) (t : Term) (w : Value) (s mid old : State) (c b g : ℕ) → is_encoding t ≡ false → part t ≤ 8
     → Gains arguments 0 (after t true around) w mid s c → wealth mid + 8 * c + (full t + part t) ≤ wealth old + 8 * b + g
     → Gains type g around (tree (applied t w) false) old s b
@@ -302,7 +279,7 @@ type-with-s-gains around at old v new b idle small all o =
     (applied-type around t (is_listed p0.value) p1.value p1.after p0.after old p1.own b 0 g0.known.0 g0.known.1.0 g0.known.1.1 g1
     (omega (arith, o.sum, g0.few, p0.sum, p1.sum, p1.onward.1)))
 
--- a vendor's type, which is no candidate, with what may be arguments after it
+-- a vendor's type, which is no candidate, and the arguments that may come after it
 pub vendor-gains : Idle Production.Vendor type
 unfolding parts_of between is_chain close unfolding_.behind meaning values.part class_of grant Gained Ready ready_for need typed loan returned IsKnown IsKept tree_of named_so_far listed_so_far after SmallPrefix full over size part_of is_component is_function_type is_encoding is_listed
 vendor-gains around at old v new b idle small all o =
@@ -329,7 +306,7 @@ parameter-gains around at old v new b idle small all o =
     (applied-type around (parameter k) true p1.value p1.after q.mid old p1.own b 0 refl (λ h. absurd (true≢false h)) (λ h is. absurd (false≢true is)) g1
     (omega (arith, o.sum, ap (λ s. wealth s) g0.0, g0.1.0, g0.1.2 refl, p0.sum, q.grown.few, p1.sum, p1.onward.1)))
 
--- the same, where the letter before paid
+-- a production pays for a type, after a letter that granted a byte
 abbrev pub Granted : Production → Type 0
 Granted p =
     (around : Around) (at : ℕ) (old : State) (v : Value) (new : State) (b : ℕ) → lent around.prefix ≡ 0 → SmallPrefix around.prefix
@@ -349,7 +326,7 @@ parameter-argument-gains around at old v new b idle small all o =
     (applied-type around (parameter k) true p1.value p1.after q.mid old p1.own b 8 refl (λ h. absurd (true≢false h)) (λ h is. absurd (false≢true is)) g1
     (omega (arith, o.sum, ap (λ s. wealth s) g0.0, g0.1.0, g0.1.2 refl, p0.sum, q.grown.few, p1.sum, p1.onward.1)))
 
--- a parameter of a level
+-- a parameter with a level
 pub leveled-parameter-gains : Granted Production.LeveledParameter
 unfolding parts_of between is_chain close unfolding_.behind meaning values.part class_of grant Gained Ready ready_for need typed loan returned IsKnown IsKept
 leveled-parameter-gains around at old v new b idle small all o =

@@ -1,25 +1,13 @@
 -- A function type that is a component is spelled out again at most once for each set of qualifiers.
-use Rattle.std.proofs.Common.{◌≡◌, ℕ, ◌+◌, ◌*◌, ◌-◌, ◌≤◌, ◌⊎◌, inl, inr, length, List, [], ◌∷◌, ◌++◌, Bool, true, false, refl, ap, sym, subst, ◌∙◌, arith}
-use Rattle.std.specs.Prelude.{cond, codes, ◌&&◌, ◌||◌}
-use Rattle.std.proofs.lemmas.Bool.{and_parts, false≢true}
-use Rattle.cpp_grammar.specs.Term.{Qualifiers, Term, symbol, function_type, qualified}
-use Rattle.cpp_grammar.specs.References.{is_function_type}
-use Rattle.cpp_grammar.specs.Scope.{is_open}
-use Rattle.cpp_press_laws.specs.Texts.{qualifier_letters}
-use Rattle.cpp_press_laws.specs.Same.{same_truth, same_qualifiers}
-use Rattle.cpp_press_laws.specs.Components.{Component, is_same}
-use Rattle.cpp_press_laws.specs.Fits.{has_letters}
-use Rattle.cpp_press_laws.specs.MarkedComponents.{Marked, unmarked}
-use Rattle.cpp_press_laws.specs.Apart.{IsNew, IsApart, AreApartBehind}
+use Rattle.cpp_press_laws.proofs.Basics.{◌≡◌, ℕ, ◌+◌, ◌*◌, ◌-◌, ◌≤◌, ◌⊎◌, inl, inr, length, List, [], ◌∷◌, ◌++◌, Bool, true, false, refl, ap, sym, subst, ◌∙◌, arith, cond, codes, ◌&&◌, ◌||◌, and_parts, false≢true, Qualifiers, Term, symbol, function_type, qualified, is_function_type, is_open, qualifier_letters, same_truth, same_qualifiers, Component, is_same, has_letters, Marked, unmarked, IsNew, IsApart, AreApartBehind, is_name}
 use Rattle.cpp_press_laws.proofs.Components.Growing.{unmarked-append}
 use Rattle.cpp_press_laws.proofs.Components.Sameness.{equal-qualifiers}
 use Rattle.cpp_press_laws.proofs.Components.Parts.{Has, has-before, has-itself, has-closed, same-means}
-use Rattle.cpp_press_laws.specs.Pressing.{is_name}
 use Rattle.cpp_press_laws.proofs.Short.Size.{size, over, part_of, bare_of, name_of}
 use Rattle.cpp_press_laws.proofs.Short.Worth.{is_among, has-among, among-has, is_again, full, worth, worths}
 use Rattle.cpp_press_laws.proofs.Short.Spelled.{cost, costs}
 
--- the bytes of a function type under these qualifiers that was a component before
+-- the bytes of the function type in a tree, if it is under these qualifiers and was a component before
 unfoldable again : Qualifiers → (compared : Bool) → (before : List Component) → (encoding : ℕ) → Term → ℕ
 again q b before n (qualified p f) = cond (b && (same_qualifiers q p && (is_function_type f && is_among n f before))) (size f) 0
 again q b before n _ = 0
@@ -201,7 +189,7 @@ seven-most false true false true k some is = omega arith
 seven-most false false true true k some is = omega arith
 seven-most false false false true k some is = absurd (false≢true some)
 
--- a component costs what it is worth, or is one of those that are spelled out again
+-- a component costs at most what it is worth, and the bytes of the function type in it if these are spelled out again
 cost-worth : (b : Bool) (before : List Component) (n : ℕ) (t : Term)
     → cost (record { component = record { tree = t; encoding = n }; was_compared = b }) ≤ worth before n t + seven (λ q. again q b before n t)
 unfolding cost worth is_again full again name_of is_name size bare_of is_function_type over

@@ -1,18 +1,6 @@
 -- A pressed spelling has at most the bytes of its tree and those of the components that it spells out.
-use Rattle.std.proofs.Common.{◌≡◌, ℕ, zero, suc, ◌+◌, ◌-◌, ◌<◌, ◌≤◌, length, List, [], ◌∷◌, ◌++◌, Option, Some, None, Bool, true, false, refl, arith, sym, subst, length-append}
-use Rattle.std.specs.Prelude.{cond, codes, ◌&&◌}
+use Rattle.cpp_press_laws.proofs.Basics.{◌≡◌, ℕ, zero, suc, ◌+◌, ◌-◌, ◌<◌, ◌≤◌, length, List, [], ◌∷◌, ◌++◌, Option, Some, None, Bool, true, false, refl, arith, sym, subst, length-append, cond, codes, ◌&&◌, ◌and◌, text, nothing, digit36, Divides, digits-count, RefQualifier, any_value, lvalue_only, rvalue_only, explicit_object, Term, symbol, function, object, special, thunk, of_name, construction, clone, alone, in_std, within, instance, local, holder, tagged, of_default, abbreviation, parameter, source, operator, literal_operator, constructor, destructor, inheriting, lambda, generic_lambda, unnamed, string_literal, conversion, builtin, sized_float, constrained, vendor, pointer, lvalue, rvalue, array, bounded, member_pointer, function_type, qualified, vector, complex, decltype, expansion, integer, boolean, null_pointer, encoding_literal, address_of, operation, function_parameter, pack, nil, list, absent, enumeration, bindings, declaring, is_function_type, is_nil, without_tags, either, counted, ordinal, signed_text, qualifier_letters, mark_letter, name_letters, special_code, thunk_text, discriminator_text, Component, first_equal, is_same, seq_id, is_component, is_name, is_operator, is_nested, is_one_piece, is_encoding}
 use Rattle.sym_spell.specs.Pressing as spell
-use Rattle.sym_spell.specs.Pressing.{◌and◌, text, nothing}
-use Rattle.sym_spell.specs.Digits.{digit36}
-use Rattle.sym_spell.proofs.DigitValues.{Divides, digits-count}
-use Rattle.cpp_grammar.specs.Term.{RefQualifier, any_value, lvalue_only, rvalue_only, explicit_object, Term, symbol, function, object, special, thunk, of_name, construction, clone, alone, in_std, within, instance, local, holder, tagged, of_default, abbreviation, parameter, source, operator, literal_operator, constructor, destructor, inheriting, lambda, generic_lambda, unnamed, string_literal, conversion, builtin, sized_float, constrained, vendor, pointer, lvalue, rvalue, array, bounded, member_pointer, function_type, qualified, vector, complex, decltype, expansion, integer, boolean, null_pointer, encoding_literal, address_of, operation, function_parameter, pack, nil, list, absent, enumeration, bindings, declaring}
-use Rattle.cpp_grammar.specs.References.{is_function_type}
-use Rattle.cpp_grammar.specs.Meaning.{is_nil}
-use Rattle.cpp_grammar.specs.Scope.{without_tags}
-use Rattle.cpp_grammar.proofs.Chosen.{either}
-use Rattle.cpp_press_laws.specs.Texts.{counted, ordinal, signed_text, qualifier_letters, mark_letter, name_letters, special_code, thunk_text, discriminator_text}
-use Rattle.cpp_press_laws.specs.Components.{Component, first_equal, is_same, seq_id}
-use Rattle.cpp_press_laws.specs.Pressing.{is_component, is_name, is_operator, is_nested, is_one_piece, is_encoding}
 use Rattle.cpp_press_laws.specs.MarkedComponents.{Marked, unmarked, Spelling, ended, reference, referred, component}
 use Rattle.cpp_press_laws.specs.MarkedPressing.{Ways, no_ways, type_ways, function_text, in_N_and_E, with_letters, name_ways, template_before, entity_text, local_text, begun, encoding_ways, piece_ways, argument_ways, ways_of}
 use Rattle.cpp_press_laws.proofs.Ways as way
@@ -21,7 +9,7 @@ use Rattle.cpp_press_laws.proofs.Short.Size.{part_of, front_of, bare_of, name_of
 
 -- ## What components take
 
--- the bytes that a component costs: beyond those of a reference to it, if it was compared, or else those of its name
+-- the bytes that a component costs beyond those of a reference: of its spelling, if it was compared, otherwise of its name
 unfoldable pub cost : Marked → ℕ
 cost c = over (cond c.was_compared (size c.component.tree) (name_of c.component.tree (size c.component.tree)))
 
@@ -37,7 +25,7 @@ costs-one (d ∷ cs) c = omega (arith, costs-one cs c)
 abbrev pub Written : Type 0
 Written = spell.Pressed Marked
 
--- at most k bytes, beside the components that are spelled out, as long as each reference has at most eight bytes
+-- A spelling adds at most k bytes, apart from the components that it spells out, if each reference has at most eight bytes.
 pub record ShortAt (k : ℕ) (cs : List Marked) (w : Written) : Type 0 where
   pub grows : length cs ≤ length w.components
   pub short : length w.components ≤ 2176782336 → length w.bytes + costs cs ≤ k + costs w.components
@@ -70,7 +58,7 @@ and-short a b f g one two place cs =
       short = λ few. omega (arith, x.short (omega (arith, few, y.grows)), y.short few, length-append w.bytes v.bytes);
     }
 
--- two spellings together have at most c bytes
+-- a spelling and the spelling after it have at most c bytes
 and-within : (a b c : ℕ) (f g : Spelling) → a + b ≤ c → Short a f → Short b g → Short c (f and g)
 and-within a b c f g le one two = less (a + b) c (f and g) le (and-short a b f g one two)
 
@@ -132,7 +120,7 @@ component-short n t s one place cs = go (first_equal n t 0 (unmarked cs)) refl
           );
         }
 
--- a name that becomes a component, and its arguments
+-- a name that is spelled out and becomes a component, and its arguments
 made-short : (b : Bool) (n m d k : ℕ) (t : Term) (between arguments : Spelling) → Short m between
     → m ≤ d + cost (record { component = record { tree = t; encoding = n }; was_compared = b }) → Short k arguments
     → Short (d + k) (between and ended b n t and arguments)
@@ -490,7 +478,7 @@ all-short (list first rest) n =
     (all-short first n way.as_type) (all-short rest n way.as_more_parameters) in
     list-all (list first rest) more more ((ways_of n first).as_argument and (ways_of n rest).as_elements) one one
     (and-short (part first) (size rest) (ways_of n first).as_argument (ways_of n rest).as_elements (all-short first n way.as_argument) (all-short rest n way.as_elements))
--- Generated by tools/trees.py. The others, by their spelling
+-- Generated by tools/trees.py. The other trees, by how they are spelled
 all-short (special l type) n = encoding-all (special l type) _ (λ here. behind-text (part_of type (size type)) (size (special l type)) (codes "T" ++ l ∷ []) ((ways_of here type).as_type) (omega arith) (all-short type here way.as_type))
 all-short (thunk kind e) n = encoding-all (thunk kind e) _ (λ here. behind-text (size e) (size (thunk kind e)) (thunk_text kind) ((ways_of here e).as_encoding) (omega arith) (all-short e here way.as_encoding))
 all-short (construction derived digits parent) n = encoding-all (construction derived digits parent) _ (λ here. behind-text (1 + part_of derived (size derived) + length digits + part_of parent (size parent)) (size (construction derived digits parent)) (codes "TC") ((ways_of here derived).as_type and text (digits ++ codes "_") and (ways_of here parent).as_type) (omega arith) (and-within (part_of derived (size derived)) (1 + length digits + part_of parent (size parent)) (1 + part_of derived (size derived) + length digits + part_of parent (size parent)) (ways_of here derived).as_type (text (digits ++ codes "_") and (ways_of here parent).as_type) (omega arith) (all-short derived here way.as_type) (behind-text (part_of parent (size parent)) (1 + length digits + part_of parent (size parent)) (digits ++ codes "_") ((ways_of here parent).as_type) (omega (arith, length-append digits (codes "_"))) (all-short parent here way.as_type))))

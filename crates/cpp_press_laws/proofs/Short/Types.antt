@@ -1,44 +1,26 @@
 -- What is paid for types.
-use Rattle.std.proofs.Common.{◌≡◌, ℕ, suc, ◌+◌, ◌*◌, ◌-◌, ◌≤◌, length, List, [], ◌∷◌, Bool, true, false, cond, refl, ap, sym, subst, ◌∙◌, arith}
-use Rattle.std.specs.Prelude.{◌&&◌, nat_eq}
-use Rattle.std.proofs.lemmas.Bool.{false≢true, true≢false}
-use Rattle.cpp_grammar.specs.declared.kind.Kind.{Kind}
-use Rattle.cpp_grammar.specs.declared.production.Production.{Production}
-use Rattle.cpp_grammar.specs.declared.production.Operation.{Operation}
-use Rattle.cpp_grammar.specs.Grammar.{kinds, number_of, number_of_kind, parts_of, is_chain}
-use Rattle.cpp_grammar.specs.Rows.{row_of}
-use Rattle.cpp_grammar.specs.Term.{Term, symbol, lvalue, rvalue, expansion, encoding_literal, nil, list}
+use Rattle.cpp_press_laws.proofs.Basics.{◌≡◌, ℕ, suc, ◌+◌, ◌*◌, ◌-◌, ◌≤◌, length, List, [], ◌∷◌, Bool, true, false, cond, refl, ap, sym, subst, ◌∙◌, arith, ◌&&◌, nat_eq, false≢true, true≢false, Kind, Production, Operation, kinds, number_of, number_of_kind, parts_of, is_chain, row_of, Term, symbol, lvalue, rvalue, expansion, encoding_literal, nil, list, State, Around, Value, nothing_there, signed, tree, tree_of, is_listed, text_of, signed_of, normal, is_function_type, appended, with_type, under_expansion, between, is_void, is_nil, parameters, listed_value, reference_to, is_code, operation_or_address, operation_by, ends_arguments, in_parentheses, enclosed_argument, meaning, close, either, all_pass, signed_text, components_of, is_component, is_encoding}
 use Rattle.cpp_grammar.specs.Values as values
-use Rattle.cpp_grammar.specs.Values.{State, Around, Value, nothing_there, signed, tree, tree_of, is_listed, text_of, signed_of, normal}
-use Rattle.cpp_grammar.specs.References.{is_function_type, appended, with_type}
-use Rattle.cpp_grammar.specs.Between.{under_expansion, between}
-use Rattle.cpp_grammar.specs.Meaning.{is_void, is_nil, parameters, listed_value, reference_to, is_code, operation_or_address, operation_by, ends_arguments, in_parentheses, enclosed_argument, meaning}
 use Rattle.cpp_grammar.specs.Unfolding as unfolding_
-use Rattle.cpp_grammar.specs.Unfolding.{close}
-use Rattle.cpp_grammar.proofs.Chosen.{either}
-use Rattle.cpp_grammar.proofs.Steps.{all_pass}
-use Rattle.cpp_press_laws.specs.Texts.{signed_text}
-use Rattle.cpp_press_laws.specs.Components.{components_of}
-use Rattle.cpp_press_laws.specs.Pressing.{is_component, is_encoding}
 use Rattle.cpp_press_laws.proofs.Short.Size.{part_of, with_void, size, over, part, size-some, part-some}
 use Rattle.cpp_press_laws.proofs.Short.Worth.{is_among, full}
 use Rattle.cpp_press_laws.proofs.Short.Gains.{wealth, AllSmall, type, operands, Class, class_of, typed, held, need, lent, loan, returned, grant, SmallPrefix, ready_for, Ready, IsKnown, IsKept, Gains, Gained, appended-grown, typed-grown, appended-among}
 use Rattle.cpp_press_laws.proofs.Short.Paid.{Ended, comes-to}
 use Rattle.cpp_press_laws.proofs.Short.ByRow.{is_read, part_passes, parts_pass, cost_of, credit_of, Knows, is_idle, all_quiet, refers, Pays, row_goes, by-row, is_listed_in, each_goes, one-goes, may_read, may_be_part, Standing}
 
--- a production of a class that is read where no name comes before
+-- what is paid for a production of this class that is read where no name comes before
 abbrev pub Idle : Production → Class → Type 0
 Idle p c =
     (around : Around) (at : ℕ) (old : State) (v : Value) (new : State) (b : ℕ) → lent around.prefix ≡ 0 → SmallPrefix around.prefix
     → AllSmall old.candidates → Ended p around at old v new b → Gains c 0 around v old new b
 
--- a production of a class that is read anywhere
+-- what is paid for a production of this class that is read anywhere
 abbrev pub Free : Production → Class → ℕ → Type 0
 Free p c granted =
     (around : Around) (at : ℕ) (old : State) (v : Value) (new : State) (b : ℕ) → Unit {0} → SmallPrefix around.prefix
     → AllSmall old.candidates → Ended p around at old v new b → Gains c granted around v old new b
 
--- a type that isn't a candidate yet; and one that never becomes one
+-- a type that isn't a candidate yet; then a type that never becomes one
 pub made : (around : Around) (t : Term) (s old : State) (b : ℕ) → part t ≡ 8 → is_encoding t ≡ false → AllSmall s.candidates → wealth s + (full t + 8) ≤ wealth old + 8 * b
     → Gains type 0 around (tree t false) old s b
 unfolding need typed is_listed tree_of loan returned IsKnown IsKept
@@ -67,7 +49,7 @@ normal-short (d ∷ e ∷ ds) =
     either (λ x. length x ≤ suc (suc (length ds))) (nat_eq d 48) (normal (e ∷ ds)) (d ∷ e ∷ ds) (λ h. omega (arith, normal-short (e ∷ ds)))
     (λ h. omega arith)
 
--- a lone void is no parameters
+-- a lone void counts as no parameters
 pub parameters-most : (t : Term) → with_void (parameters t) (size (parameters t)) ≤ size t
 unfolding parameters with_void is_nil size
 parameters-most (list first others) =
@@ -87,7 +69,7 @@ expansion-gains around at old v new b idle small all o =
 
 -- ## Expressions
 
--- the address of an encoding is four bytes longer than the encoding between L and E, and each other operation takes one
+-- an operation takes at most four bytes more than its left operand
 operation-short : (is_address : Bool) (first second : ℕ) (left right : Term)
     → (part (operation_or_address is_address first second left right) ≤ 4 + part left)
     × (is_encoding (operation_or_address is_address first second left right) ≡ false)
@@ -108,7 +90,7 @@ operation-listed around first v s old b known all few =
     (listed around (operation_or_address is_address first second known.1 known.2) s old b short.2 short.1 all
     (omega (arith, few, short.0, ap (λ w. part (tree_of w)) known.3)))
 
--- an argument in parentheses, or without them
+-- an argument, in parentheses or without them
 enclosed-listed : (around : Around) (v : Value) (s old : State) (b : ℕ) → AllSmall s.candidates → IsKnown type around v s
     → wealth s + typed v ≤ wealth old + 8 * b → Gains type 0 around (enclosed_argument v) old s b
 unfolding enclosed_argument in_parentheses need typed loan returned IsKept size part_of is_component is_function_type is_encoding
@@ -117,7 +99,7 @@ enclosed-listed around v s old b all known few =
     (λ h. listed around (in_parentheses (tree_of v)) s old b refl refl all (omega (arith, few, part-some (tree_of v))))
     (λ h. record { few = omega (arith, few); known = known; kept = tt; small = all })
 
--- what is known of an argument that an E ends is known of the state before the E
+-- an argument that ends with an E: what is known before the E is known after it
 pub addressed-gains : Idle Production.AddressedLiteral type
 unfolding parts_of between is_chain close unfolding_.behind meaning values.part class_of grant Gained Ready ready_for need typed loan returned IsKnown IsKept
 addressed-gains around at old v new b idle small all o =
@@ -203,7 +185,7 @@ held-signed (signed n) = omega arith
 held-signed nothing_there = omega arith
 held-signed _ = omega arith
 
--- the value of a part that is a type
+-- what is paid for a part that is a type pays for it as the value of the whole
 pub handed : (around : Around) (v : Value) (s old : State) (b : ℕ) → IsKnown type around v s → AllSmall s.candidates
     → wealth s + typed v ≤ wealth old + 8 * b → Gains type 0 around v old s b
 unfolding need loan returned IsKept

@@ -1,13 +1,7 @@
 -- What components are worth: the bytes that each takes where it is spelled out, beyond those of a reference. A function
 -- type is worth all of its bytes, since it is spelled out again under each set of qualifiers. Right under qualifiers, a
 -- function type that was a component before is worth nothing.
-use Rattle.std.proofs.Common.{◌≡◌, ℕ, ◌+◌, ◌≤◌, ◌⊎◌, inl, inr, length, List, [], ◌∷◌, ◌++◌, Bool, true, false, refl, ap, sym, ◌∙◌, arith, append_assoc, append-nil}
-use Rattle.std.specs.Prelude.{cond, ◌&&◌, ◌||◌}
-use Rattle.cpp_grammar.specs.Term.{Term, qualified}
-use Rattle.cpp_grammar.specs.References.{is_function_type}
-use Rattle.cpp_grammar.proofs.Chosen.{either_cond}
-use Rattle.cpp_press_laws.specs.Components.{Component, is_same}
-use Rattle.cpp_press_laws.specs.Fits.{has_letters}
+use Rattle.cpp_press_laws.proofs.Basics.{◌≡◌, ℕ, ◌+◌, ◌≤◌, ◌⊎◌, inl, inr, length, List, [], ◌∷◌, ◌++◌, Bool, true, false, refl, ap, sym, ◌∙◌, arith, append_assoc, append-nil, cond, ◌&&◌, ◌||◌, Term, qualified, is_function_type, either_cond, Component, is_same, has_letters}
 use Rattle.cpp_press_laws.proofs.Components.Parts.{Has}
 use Rattle.cpp_press_laws.proofs.Short.Size.{size, over, over-most}
 
@@ -34,7 +28,7 @@ among-has n t (c ∷ cs) is = go (is_same n t c) refl is (among-has n t cs)
     go true same h later = inl same
     go false same h later = inr (later h)
 
--- whether the tree is a function type right under qualifiers that was a component before
+-- whether the tree is a function type with qualifiers, and the function type was a component before
 unfoldable pub is_again : (before : List Component) → (encoding : ℕ) → Term → Bool
 is_again before n (qualified q t) = has_letters q && (is_function_type t && is_among n t before)
 is_again before n _ = false

@@ -1,4 +1,4 @@
--- where none of the bytes so far is out of bounds, they may be in a name
+-- if none of the bytes so far is out of bounds, they may be in a name
 use Rattle.cpp_direct.proofs.ForAnswers.{◌≡◌, ◌≤◌, ◌-◌, length, true, ReachesNameBytes, NameClass}
 use Rattle.cpp_direct.proofs.names.are_few_named.Given as goal
 

@@ -1,4 +1,4 @@
--- If the rest has short numbers, after the digits that are side by side before it, the whole has.
+-- If the rest of the symbol has short numbers, together with the digits right before it, so has the whole.
 use Rattle.cpp_direct.proofs.ForAnswers.{◌≡◌, ◌≤◌, ◌-◌, length, drop, true, short_numbers}
 use Rattle.cpp_direct.proofs.tokens.are_numbers_short.Given as goal
 

@@ -1,16 +1,6 @@
-use Rattle.std.proofs.Common.{◌≡◌, ℕ, List, Result, Ok, Err, refl, ap, sym, ◌∙◌}
-use Rattle.sym_core.specs.declared.refusal.Refusal.{Refusal}
-use Rattle.sym_core.specs.declared.refusal.Refusal.TheVariants.{Malformed}
-use Rattle.sym_print.specs.declared.detail.Detail.{Detail}
-use Rattle.sym_shape.specs.declared.rule.Sym.TheVariants.{Kind}
-use Rattle.sym_shape.specs.Tree.{Tree, IsTree}
-use Rattle.sym_demangle.specs.Mangled.{IsAnswer, malformed, shaped, answer_of_shape, answer_of_symbol}
+use Rattle.cpp_grammar.proofs.Basics.{◌≡◌, ℕ, List, Result, Ok, Err, refl, ap, sym, ◌∙◌, Refusal, Malformed, Detail, Kind, Tree, IsTree, IsAnswer, malformed, shaped, answer_of_shape, answer_of_symbol, unfold_wide, abi, Term, unfold_cpp}
 use Rattle.sym_demangle.proofs.Answering.{is_answer}
 use Rattle.cpp_grammar.specs.Mangled.{cpp_mangled, wide_mangled}
-use Rattle.cpp_grammar.specs.Rescoping.{unfold_wide}
-use Rattle.cpp_grammar.specs.Table.{abi}
-use Rattle.cpp_grammar.specs.Term.{Term}
-use Rattle.cpp_grammar.specs.Unfolding.{unfold_cpp}
 use Rattle.cpp_grammar.proofs.Growing.{abi_wide}
 use Rattle.cpp_grammar.proofs.Staying.{meaning_stays}
 use Rattle.cpp_grammar.proofs.laws.abi_answers_stay.Goals as goal
@@ -22,7 +12,7 @@ stays shape t is e = meaning_stays shape t (abi_wide (Kind 0) shape is) e
 pub returns-clause-reads : goal.returns-clause-reads
 returns-clause-reads c = λ s t h. (h.0, abi_wide (Kind 0) h.0 h.1, h.2, sym (stays h.0 t h.1 (sym h.3)))
 
--- so it has the same answer
+-- the shape has the same answer by the wide reading
 same_answer : (detail : Detail) (limit : ℕ) (shape : Tree) (t : Term) → IsTree abi (Kind 0) shape → unfold_cpp shape ≡ Ok t → answer_of_shape cpp_mangled detail limit shape ≡ answer_of_shape wide_mangled detail limit shape
 same_answer detail limit shape t is e =
     ap (λ read. answer_of_symbol cpp_mangled detail limit read) e ∙ sym (ap (λ read. answer_of_symbol wide_mangled detail limit read) (stays shape t is e))

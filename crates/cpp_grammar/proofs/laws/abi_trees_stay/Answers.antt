@@ -1,5 +1,4 @@
-use Rattle.sym_shape.specs.declared.rule.Sym.TheVariants.{Kind}
-use Rattle.cpp_grammar.specs.Table.{abi}
+use Rattle.cpp_grammar.proofs.Basics.{Kind, abi}
 use Rattle.cpp_grammar.proofs.Growing.{abi_wide}
 use Rattle.cpp_grammar.proofs.laws.abi_trees_stay.Goals as goal
 

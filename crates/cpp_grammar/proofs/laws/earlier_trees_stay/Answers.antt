@@ -1,5 +1,4 @@
-use Rattle.sym_shape.specs.declared.rule.Sym.TheVariants.{Kind}
-use Rattle.cpp_grammar.specs.Table.{abi_before}
+use Rattle.cpp_grammar.proofs.Basics.{Kind, abi_before}
 use Rattle.cpp_grammar.proofs.Growing.{earlier_tree}
 use Rattle.cpp_grammar.proofs.laws.earlier_trees_stay.Goals as goal
 

@@ -1,5 +1,4 @@
-use Rattle.sym_shape.proofs.Listed.{place_within}
-use Rattle.cpp_grammar.specs.declared.table.TheConstants.{SYMBOLS}
+use Rattle.cpp_grammar.proofs.Basics.{place_within, SYMBOLS}
 use Rattle.cpp_grammar.proofs.Letters.{after_place}
 use Rattle.cpp_grammar.proofs.table.after.Goals as goal
 

@@ -1,5 +1,4 @@
-use Rattle.std.proofs.Common.{ap, sym, ◌∙◌, arith}
-use Rattle.cpp_grammar.specs.Table.{rule_taken}
+use Rattle.cpp_grammar.proofs.Basics.{ap, sym, ◌∙◌, arith, rule_taken}
 use Rattle.cpp_grammar.proofs.Letters.{letter, numbered, rule_at, rule_listed, letter_range, below}
 use Rattle.cpp_grammar.proofs.table.number.Goals as goal
 

@@ -1,7 +1,4 @@
-use Rattle.std.proofs.Common.{◌≡◌, ◌∙◌, IfSome, ap, false, subst, sym}
-use Rattle.sym_shape.specs.Table.{symbols_of}
-use Rattle.cpp_grammar.specs.Table.{abi_listed}
-use Rattle.cpp_grammar.specs.declared.table.Head.{Head}
+use Rattle.cpp_grammar.proofs.Basics.{◌≡◌, ◌∙◌, IfSome, ap, false, subst, sym, symbols_of, abi_listed, Head}
 use Rattle.cpp_grammar.proofs.Letters.{place_at}
 use Rattle.cpp_grammar.proofs.table.place.Goals as goal
 

@@ -1,6 +1,4 @@
-use Rattle.std.proofs.Common.{false, sym}
-use Rattle.cpp_grammar.specs.Table.{listed_rule}
-use Rattle.cpp_grammar.specs.declared.table.Head.{Head}
+use Rattle.cpp_grammar.proofs.Basics.{false, sym, listed_rule, Head}
 use Rattle.cpp_grammar.proofs.table.rule.Goals as goal
 
 pub returns-in-Some : goal.returns-in-Some

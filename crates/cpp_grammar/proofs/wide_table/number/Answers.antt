@@ -1,6 +1,4 @@
-use Rattle.std.proofs.Common.{ap, sym, ◌∙◌, ◌+◌, arith, get_or}
-use Rattle.cpp_grammar.specs.declared.wide_table.TheConstants.{WIDE_ROWS}
-use Rattle.cpp_grammar.specs.Table.{rule_taken}
+use Rattle.cpp_grammar.proofs.Basics.{ap, sym, ◌∙◌, ◌+◌, arith, get_or, WIDE_ROWS, rule_taken}
 use Rattle.cpp_grammar.proofs.Letters.{numbered, rule_listed}
 use Rattle.cpp_grammar.proofs.WideLetters.{from_base, wide_number, rule_at, letter_range, below, no_row}
 use Rattle.cpp_grammar.proofs.wide_table.number.Goals as goal

@@ -1,5 +1,4 @@
-use Rattle.std.proofs.Common.{arith}
-use Rattle.std.proofs.lemmas.Bool.{ne_eqb}
+use Rattle.cpp_layout.proofs.Basics.{arith, ne_eqb}
 use Rattle.cpp_layout.proofs.Naming.{angle-other, angle-left, angle-less}
 use Rattle.cpp_layout.proofs.codes.is_angle_code.Goals as goal
 

@@ -1,6 +1,4 @@
-use Rattle.std.proofs.Common.{refl, arith}
-use Rattle.std.proofs.lemmas.Bool.{ne_eqb}
-use Rattle.cpp_term.specs.Parts.{is_plain_integer}
+use Rattle.cpp_layout.proofs.Basics.{refl, arith, ne_eqb, is_plain_integer}
 use Rattle.cpp_layout.proofs.codes.is_plain.Goals as goal
 
 pub returns-in_default : goal.returns-in_default

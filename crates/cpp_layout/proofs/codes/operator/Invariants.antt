@@ -1,7 +1,5 @@
--- None of the codes before the next one is this code.
-use Rattle.std.proofs.Common.{◌≡◌, ℕ, ◌<◌, ◌≤◌, ◌+◌, ◌*◌, ◌-◌}
-use Rattle.cpp_layout.specs.Texts.{operator_code}
-use Rattle.cpp_layout.specs.declared.texts.TheConstants.{OPERATORS}
+-- None of the operators before the next one has this code.
+use Rattle.cpp_layout.proofs.Basics.{◌≡◌, ℕ, ◌<◌, ◌≤◌, ◌+◌, ◌*◌, ◌-◌, operator_code, OPERATORS}
 use Rattle.cpp_layout.proofs.codes.operator.Given as goal
 
 abbrev pub invariant-codes : goal.invariant-codes

@@ -1,5 +1,4 @@
-use Rattle.std.proofs.Common.{arith, length, sym, ◌∙◌}
-use Rattle.std.proofs.lemmas.Bool.{eqb-true}
+use Rattle.cpp_layout.proofs.Basics.{arith, length, sym, ◌∙◌, eqb-true}
 use Rattle.cpp_layout.proofs.Naming.{begins, begins-otherwise}
 use Rattle.cpp_layout.proofs.names.is_anonymous.Goals as goal
 use Rattle.cpp_layout.proofs.names.is_anonymous.Goals.{then-is_empty-via-then-is_empty, then-is_empty-via-else-is_empty+then-name-ne95}

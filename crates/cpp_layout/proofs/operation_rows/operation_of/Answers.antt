@@ -1,5 +1,4 @@
-use Rattle.std.proofs.Common.{arith}
-use Rattle.cpp_grammar.specs.Parts.{printed}
+use Rattle.cpp_layout.proofs.Basics.{arith, printed}
 use Rattle.cpp_layout.proofs.Operating.{operation_placed, row_there, row_coded, row_texts, row_few}
 use Rattle.cpp_layout.proofs.operation_rows.operation_of.Goals as goal
 

@@ -1,7 +1,4 @@
-use Rattle.std.proofs.Common.{sym, ◌∙◌, ap, ◌||◌}
-use Rattle.std.specs.Prelude.{nat_eq}
-use Rattle.std.proofs.lemmas.Bool.{eq-eqb, ne_eqb}
-use Rattle.cpp_link.specs.declared.tables.TheConstants.{LAMBDA, UNNAMED}
+use Rattle.cpp_link.proofs.Basics.{sym, ◌∙◌, ap, ◌||◌, nat_eq, eq-eqb, ne_eqb, LAMBDA, UNNAMED}
 use Rattle.cpp_link.proofs.ByNumber.{numbered_told}
 use Rattle.cpp_link.proofs.begin.is_numbered.Goals as goal
 

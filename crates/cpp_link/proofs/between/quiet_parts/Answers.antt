@@ -1,6 +1,4 @@
-use Rattle.std.proofs.Common.{◌∙◌, arith}
-use Rattle.cpp_grammar.specs.Grammar.{productions}
-use Rattle.cpp_link.specs.Tables.{quiet_parts}
+use Rattle.cpp_link.proofs.Basics.{◌∙◌, arith, productions, quiet_parts}
 use Rattle.cpp_link.proofs.Reading.{count_got}
 use Rattle.cpp_link.proofs.between.quiet_parts.Goals as goal
 

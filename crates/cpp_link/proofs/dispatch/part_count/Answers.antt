@@ -1,7 +1,4 @@
-use Rattle.std.proofs.Common.{◌∙◌, sym, subst, arith, length}
-use Rattle.sym_link.specs.Threads.{IsCount}
-use Rattle.cpp_grammar.specs.Grammar.{productions, parts_of}
-use Rattle.cpp_grammar.specs.Table.{wide}
+use Rattle.cpp_link.proofs.Basics.{◌∙◌, sym, subst, arith, length, IsCount, productions, parts_of, wide}
 use Rattle.cpp_link.proofs.Ahead.{count_right}
 use Rattle.cpp_link.proofs.Reading.{count_got}
 use Rattle.cpp_link.proofs.dispatch.part_count.Goals as goal

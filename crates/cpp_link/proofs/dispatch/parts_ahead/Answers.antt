@@ -1,7 +1,4 @@
-use Rattle.std.proofs.Common.{sym, ◌∙◌, subst}
-use Rattle.sym_link.specs.Threads.{IsAhead}
-use Rattle.sym_link.proofs.Standing.{ahead_by_count}
-use Rattle.cpp_grammar.specs.Table.{wide}
+use Rattle.cpp_link.proofs.Basics.{sym, ◌∙◌, subst, IsAhead, ahead_by_count, wide}
 use Rattle.cpp_link.proofs.Ahead.{ahead_right}
 use Rattle.cpp_link.proofs.dispatch.parts_ahead.Goals as goal
 

@@ -1,7 +1,4 @@
-use Rattle.std.proofs.Common.{◌∙◌, arith}
-use Rattle.cpp_grammar.specs.declared.production.Production.{Production}
-use Rattle.cpp_grammar.specs.Grammar.{productions}
-use Rattle.cpp_grammar.specs.Unfolding.{production_at}
+use Rattle.cpp_link.proofs.Basics.{◌∙◌, arith, Production, productions, production_at}
 use Rattle.cpp_link.proofs.Reading.{production_got}
 use Rattle.cpp_link.proofs.dispatch.production_of.Goals as goal
 

@@ -1,6 +1,4 @@
-use Rattle.std.proofs.Common.{◌∙◌, arith, false}
-use Rattle.cpp_grammar.specs.Grammar.{productions}
-use Rattle.cpp_link.specs.Tables.{skips_parts}
+use Rattle.cpp_link.proofs.Basics.{◌∙◌, arith, false, productions, skips_parts}
 use Rattle.cpp_link.proofs.Reading.{count_got}
 use Rattle.cpp_link.proofs.dispatch.skips_parts.Goals as goal
 

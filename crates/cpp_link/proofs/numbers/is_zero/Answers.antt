@@ -1,5 +1,4 @@
-use Rattle.std.proofs.Common.{sym, ◌∙◌}
-use Rattle.std.proofs.lemmas.Bool.{ne_eqb}
+use Rattle.cpp_link.proofs.Basics.{sym, ◌∙◌, ne_eqb}
 use Rattle.cpp_link.proofs.Digits.{no_zero, lone_zero}
 use Rattle.cpp_link.proofs.numbers.is_zero.Goals as goal
 

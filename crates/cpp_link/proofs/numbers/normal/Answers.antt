@@ -1,6 +1,4 @@
-use Rattle.std.proofs.Common.{◌∙◌, sym, ap, arith}
-use Rattle.std.specs.Prelude.{nat_eq}
-use Rattle.std.proofs.lemmas.Bool.{ne_eqb}
+use Rattle.cpp_link.proofs.Basics.{◌∙◌, sym, ap, arith, nat_eq, ne_eqb}
 use Rattle.cpp_link.proofs.Digits.{passes_zero, stays_digits, stays_short}
 use Rattle.cpp_link.proofs.numbers.normal.Goals as goal
 

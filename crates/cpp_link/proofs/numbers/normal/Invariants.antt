@@ -1,7 +1,5 @@
--- The zeros passed so far don't count.
-use Rattle.std.proofs.Common.{◌≡◌, ◌≤◌, ◌-◌}
-use Rattle.std.specs.Prelude.{slice_range}
-use Rattle.cpp_grammar.specs.Values.{normal}
+-- Skipping the zeros so far doesn't change the digits without leading zeros.
+use Rattle.cpp_link.proofs.Basics.{◌≡◌, ◌≤◌, ◌-◌, slice_range, normal}
 use Rattle.cpp_link.proofs.numbers.normal.Given as goal
 
 abbrev pub invariant-zeros : goal.invariant-zeros

@@ -1,8 +1,4 @@
-use Rattle.std.proofs.Common.{refl, true, false}
-use Rattle.cpp_references.specs.Around.{counted_of}
-use Rattle.cpp_references.specs.declared.around.Naming.{Naming}
-use Rattle.cpp_link.specs.Parts.{prefix_in, prefix_of, around_of}
-use Rattle.cpp_term.specs.Values.{prefix_listed}
+use Rattle.cpp_link.proofs.Basics.{refl, true, false, counted_of, Naming, prefix_in, prefix_of, around_of, prefix_listed}
 use Rattle.cpp_link.proofs.Held.{twice_noted, is_listed_prefix}
 use Rattle.cpp_link.proofs.rescoping.holder_marks.Goals as goal
 

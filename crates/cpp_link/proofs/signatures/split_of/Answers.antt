@@ -1,5 +1,4 @@
-use Rattle.std.proofs.Common.{ap, sym}
-use Rattle.cpp_link.specs.Reads.{split_of, cell_under}
+use Rattle.cpp_link.proofs.Basics.{ap, sym, split_of, cell_under}
 use Rattle.cpp_link.proofs.Reading.{no_cell}
 use Rattle.cpp_link.proofs.signatures.split_of.Goals as goal
 

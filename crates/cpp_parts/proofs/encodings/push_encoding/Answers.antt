@@ -1,7 +1,5 @@
-use Rattle.std.proofs.Common.{◌∙◌, sym, arith}
-use Rattle.std.proofs.lemmas.Result.{on_ok_weaker}
+use Rattle.cpp_parts.proofs.Basics.{◌∙◌, sym, arith, on_ok_weaker, encoding_by}
 use Rattle.cpp_parts.proofs.Growing.{grow-same}
-use Rattle.cpp_parts.specs.Sorts.{encoding_by}
 use Rattle.cpp_parts.proofs.Sorting.{by-no-encoding}
 use Rattle.cpp_parts.proofs.encodings.push_encoding.Goals as goal
 

@@ -1,5 +1,4 @@
-use Rattle.std.proofs.Common.{arith}
-use Rattle.std.proofs.lemmas.Result.{on_ok_weaker}
+use Rattle.cpp_parts.proofs.Basics.{arith, on_ok_weaker}
 use Rattle.cpp_parts.proofs.Growing.{grow-same}
 use Rattle.cpp_parts.proofs.Standing.{returning-nothing, returning-some, returning-done, returning-text}
 use Rattle.cpp_parts.proofs.encodings.push_function.Goals as goal

@@ -1,6 +1,4 @@
-use Rattle.std.proofs.Common.{ap, refl, arith}
-use Rattle.std.proofs.lemmas.Result.{on_ok_weaker}
-use Rattle.sym_print.specs.Unshared.{steps_of_parts}
+use Rattle.cpp_parts.proofs.Basics.{ap, refl, arith, on_ok_weaker, steps_of_parts}
 use Rattle.cpp_parts.proofs.Growing.{grow-same, grow-then, grow-encoding}
 use Rattle.cpp_parts.proofs.Standing.{symbol-nothing, symbol-text, symbol-item}
 use Rattle.cpp_parts.proofs.encodings.push_root.Goals as goal

@@ -1,12 +1,7 @@
-use Rattle.std.proofs.Common.{sym, ap, arith}
-use Rattle.std.proofs.lemmas.Result.{on_ok_weaker}
-use Rattle.sym_print.specs.Unshared.{steps_of_parts}
-use Rattle.cpp_layout.specs.Layout.{bytes_of_part}
-use Rattle.sym_parts.specs.Marked.{◌before◌}
+use Rattle.cpp_parts.proofs.Basics.{sym, ap, arith, on_ok_weaker, steps_of_parts, bytes_of_part, ◌before◌, words}
 use Rattle.cpp_parts.proofs.Growing.{grow-same, grow-then}
 use Rattle.cpp_parts.proofs.Measuring.{length-of-text}
 use Rattle.cpp_parts.proofs.Standing.{special-nothing, special-item, special-text}
-use Rattle.cpp_parts.specs.Roles.{words}
 use Rattle.cpp_parts.proofs.encodings.push_special.Goals as goal
 
 pub returns-in-Nothing-clause-grows : goal.returns-in-Nothing-clause-grows

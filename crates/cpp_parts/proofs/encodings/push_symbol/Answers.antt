@@ -1,11 +1,6 @@
-use Rattle.std.proofs.Common.{◌∙◌, sym, ap, refl, arith}
-use Rattle.std.proofs.lemmas.Result.{on_ok_weaker}
+use Rattle.cpp_parts.proofs.Basics.{◌∙◌, sym, ap, refl, arith, on_ok_weaker, fields_of, plain_tree, table_of, symbol}
 use Rattle.cpp_parts.proofs.Growing.{grow-same}
 use Rattle.cpp_parts.proofs.Standing.{symbol-other}
-use Rattle.cpp_tree.specs.Fields.{fields_of}
-use Rattle.cpp_tree.specs.Views.{plain_tree}
-use Rattle.cpp_layout.specs.Layout.{table_of}
-use Rattle.cpp_grammar.specs.Term.{symbol}
 use Rattle.cpp_parts.proofs.Sorting.{is-symbol, first-is, parts-of}
 use Rattle.cpp_parts.proofs.encodings.push_symbol.Goals as goal
 

@@ -1,12 +1,7 @@
-use Rattle.std.proofs.Common.{sym, ap, arith}
-use Rattle.std.proofs.lemmas.Result.{on_ok_weaker}
-use Rattle.sym_print.specs.Unshared.{cost_of_parts, steps_of_parts}
-use Rattle.cpp_layout.specs.Layout.{bytes_of_part}
-use Rattle.sym_parts.specs.Marked.{◌before◌}
+use Rattle.cpp_parts.proofs.Basics.{sym, ap, arith, on_ok_weaker, cost_of_parts, steps_of_parts, bytes_of_part, ◌before◌, words}
 use Rattle.cpp_parts.proofs.Growing.{grow-same, grow-then, grow-encoding}
 use Rattle.cpp_parts.proofs.Measuring.{length-of-text}
 use Rattle.cpp_parts.proofs.Standing.{target-nothing, target-item, target-text-nothing, target-text-text, target-text-item}
-use Rattle.cpp_parts.specs.Roles.{words}
 use Rattle.cpp_parts.proofs.encodings.push_target.Goals as goal
 
 pub returns-in-Nothing-clause-grows : goal.returns-in-Nothing-clause-grows

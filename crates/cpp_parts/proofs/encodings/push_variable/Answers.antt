@@ -1,6 +1,4 @@
-use Rattle.std.proofs.Common.{ap, arith}
-use Rattle.std.proofs.lemmas.Result.{on_ok_weaker}
-use Rattle.sym_print.specs.Unshared.{steps_of_parts}
+use Rattle.cpp_parts.proofs.Basics.{ap, arith, on_ok_weaker, steps_of_parts}
 use Rattle.cpp_parts.proofs.Growing.{grow-same, grow-then, grow-name}
 use Rattle.cpp_parts.proofs.Standing.{variable-nothing, variable-text, variable-item}
 use Rattle.cpp_parts.proofs.encodings.push_variable.Goals as goal

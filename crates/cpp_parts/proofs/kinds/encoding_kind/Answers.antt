@@ -1,9 +1,4 @@
-use Rattle.std.proofs.Common.{◌∙◌, sym, ap, refl, arith, get_or}
-use Rattle.cpp_tree.specs.Fields.{fields_of}
-use Rattle.cpp_tree.specs.Views.{plain_tree}
-use Rattle.cpp_layout.specs.Layout.{table_of}
-use Rattle.cpp_parts.specs.Kinds.{named_kind}
-use Rattle.cpp_parts.specs.KindNumbers.{other_kind_by}
+use Rattle.cpp_parts.proofs.Basics.{◌∙◌, sym, ap, refl, arith, get_or, fields_of, plain_tree, table_of, named_kind, other_kind_by}
 use Rattle.cpp_parts.proofs.Sorting.{is-function, is-object, first-is, parts-of}
 use Rattle.cpp_parts.proofs.Kinding.{encoding-function, encoding-object, encoding-other}
 use Rattle.cpp_parts.proofs.kinds.encoding_kind.Goals as goal

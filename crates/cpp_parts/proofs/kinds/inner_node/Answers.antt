@@ -1,7 +1,4 @@
-use Rattle.std.proofs.Common.{◌∙◌, sym, subst, ap}
-use Rattle.cpp_tree.specs.Views.{plain_tree}
-use Rattle.cpp_layout.specs.Layout.{table_of}
-use Rattle.cpp_parts.specs.KindNumbers.{inner_part_by}
+use Rattle.cpp_parts.proofs.Basics.{◌∙◌, sym, subst, ap, plain_tree, table_of, inner_part_by}
 use Rattle.cpp_parts.proofs.Kinding.{IsInside, inner-name}
 use Rattle.cpp_parts.proofs.kinds.inner_node.Goals as goal
 

@@ -1,8 +1,4 @@
-use Rattle.std.proofs.Common.{◌∙◌, sym, ap}
-use Rattle.cpp_tree.specs.Views.{plain_tree}
-use Rattle.cpp_layout.specs.Layout.{table_of}
-use Rattle.cpp_parts.specs.Kinds.{is_lambda_piece, piece_of}
-use Rattle.cpp_parts.specs.KindNumbers.{is_lambda_by}
+use Rattle.cpp_parts.proofs.Basics.{◌∙◌, sym, ap, plain_tree, table_of, is_lambda_piece, piece_of, is_lambda_by}
 use Rattle.cpp_parts.proofs.Kinding.{piece-by}
 use Rattle.cpp_parts.proofs.kinds.is_lambda.Goals as goal
 

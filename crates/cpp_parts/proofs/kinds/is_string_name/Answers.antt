@@ -1,8 +1,4 @@
-use Rattle.std.proofs.Common.{◌∙◌, sym, ap}
-use Rattle.cpp_tree.specs.Views.{plain_tree}
-use Rattle.cpp_layout.specs.Layout.{table_of}
-use Rattle.cpp_parts.specs.Kinds.{is_string, piece_of}
-use Rattle.cpp_parts.specs.KindNumbers.{is_string_by}
+use Rattle.cpp_parts.proofs.Basics.{◌∙◌, sym, ap, plain_tree, table_of, is_string, piece_of, is_string_by}
 use Rattle.cpp_parts.proofs.Kinding.{piece-by}
 use Rattle.cpp_parts.proofs.kinds.is_string_name.Goals as goal
 

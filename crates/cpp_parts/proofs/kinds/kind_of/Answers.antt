@@ -1,8 +1,4 @@
-use Rattle.std.proofs.Common.{◌∙◌, sym, ap, refl, arith}
-use Rattle.cpp_tree.specs.Fields.{fields_of}
-use Rattle.cpp_tree.specs.Views.{plain_tree}
-use Rattle.cpp_layout.specs.Layout.{table_of}
-use Rattle.cpp_parts.specs.Kinds.{kind_of_symbol}
+use Rattle.cpp_parts.proofs.Basics.{◌∙◌, sym, ap, refl, arith, fields_of, plain_tree, table_of, kind_of_symbol}
 use Rattle.cpp_parts.proofs.Sorting.{is-symbol, first-is, parts-of}
 use Rattle.cpp_parts.proofs.Kinding.{symbol-kind, symbol-other}
 use Rattle.cpp_parts.proofs.kinds.kind_of.Goals as goal

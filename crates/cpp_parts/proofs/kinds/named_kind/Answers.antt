@@ -1,9 +1,4 @@
-use Rattle.std.proofs.Common.{◌∙◌, sym, ap, refl, arith, get_or}
-use Rattle.cpp_tree.specs.Fields.{fields_of, name_fields}
-use Rattle.cpp_tree.specs.Views.{plain_tree}
-use Rattle.cpp_layout.specs.Layout.{table_of}
-use Rattle.cpp_parts.specs.Kinds.{is_call, is_lambda}
-use Rattle.cpp_parts.specs.KindNumbers.{called_kind, piece_kind_by}
+use Rattle.cpp_parts.proofs.Basics.{◌∙◌, sym, ap, refl, arith, get_or, fields_of, name_fields, plain_tree, table_of, is_call, is_lambda, called_kind, piece_kind_by}
 use Rattle.cpp_parts.proofs.Sorting.{first-is, parts-of}
 use Rattle.cpp_parts.proofs.Kinding.{is-nested-operator, named-operator, named-other}
 use Rattle.cpp_parts.proofs.kinds.named_kind.Goals as goal

@@ -1,8 +1,4 @@
-use Rattle.std.proofs.Common.{◌∙◌, sym, ap, refl, arith, None, Some}
-use Rattle.cpp_tree.specs.Fields.{fields_of, local_fields}
-use Rattle.cpp_tree.specs.Views.{plain_tree}
-use Rattle.cpp_layout.specs.Layout.{table_of}
-use Rattle.cpp_parts.specs.KindNumbers.{local_kind}
+use Rattle.cpp_parts.proofs.Basics.{◌∙◌, sym, ap, refl, arith, None, Some, fields_of, local_fields, plain_tree, table_of, local_kind}
 use Rattle.cpp_parts.proofs.Sorting.{is-local, is-numbered, second-is, parts-of}
 use Rattle.cpp_parts.proofs.Kinding.{object-local, object-other}
 use Rattle.cpp_parts.proofs.kinds.object_kind.Goals as goal

@@ -1,7 +1,4 @@
-use Rattle.std.proofs.Common.{◌≡◌, ◌<◌, length}
-use Rattle.cpp_layout.specs.Layout.{table_of}
-use Rattle.cpp_tree.specs.Views.{plain_tree}
-use Rattle.cpp_parts.specs.Kinds.{own_name}
+use Rattle.cpp_parts.proofs.Basics.{◌≡◌, ◌<◌, length, table_of, plain_tree, own_name}
 use Rattle.cpp_parts.proofs.kinds.own_node.Given as goal
 
 abbrev pub invariant-names : goal.invariant-names

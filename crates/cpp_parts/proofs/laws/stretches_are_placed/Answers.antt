@@ -1,8 +1,6 @@
-use Rattle.std.proofs.Common.{ap, length, subst}
-use Rattle.sym_parts.specs.Marked.{stretches_of}
+use Rattle.cpp_parts.proofs.Basics.{ap, length, subst, stretches_of, symbol_marked}
 use Rattle.sym_parts.specs.Placed.{AreStretchesPlaced}
 use Rattle.sym_parts.proofs.Placing.{placed}
-use Rattle.cpp_parts.specs.Roles.{symbol_marked}
 use Rattle.cpp_parts.proofs.Texts.{text-symbol}
 use Rattle.cpp_parts.proofs.laws.stretches_are_placed.Goals as goal
 

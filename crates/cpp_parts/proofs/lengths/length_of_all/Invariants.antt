@@ -1,6 +1,4 @@
-use Rattle.std.proofs.Common.{◌≡◌, ◌+◌, ◌≤◌, length}
-use Rattle.sym_print.specs.Unshared.{text_of, cost_of_parts, steps_of_parts}
-use Rattle.cpp_parts.specs.Tasks.{ArePayable, printed_by}
+use Rattle.cpp_parts.proofs.Basics.{◌≡◌, ◌+◌, ◌≤◌, length, text_of, cost_of_parts, steps_of_parts, ArePayable, printed_by}
 use Rattle.cpp_parts.proofs.lengths.length_of_all.Given as goal
 
 abbrev pub invariant-parts : goal.invariant-parts

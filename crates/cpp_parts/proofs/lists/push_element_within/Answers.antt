@@ -1,9 +1,6 @@
-use Rattle.std.proofs.Common.{◌∙◌, sym, ap, arith}
-use Rattle.std.proofs.lemmas.Result.{on_ok_weaker}
-use Rattle.sym_print.specs.Unshared.{cost_of, steps_of_parts}
+use Rattle.cpp_parts.proofs.Basics.{◌∙◌, sym, ap, arith, on_ok_weaker, cost_of, steps_of_parts, printed_by}
 use Rattle.cpp_parts.proofs.Growing.{grow-same, grow-elements}
 use Rattle.cpp_parts.proofs.Standing.{within-nothing, within-text, within-item-text, within-item-item, within-text-right, within-item-right, within-elements}
-use Rattle.cpp_parts.specs.Tasks.{printed_by}
 use Rattle.cpp_parts.proofs.lists.push_element_within.Goals as goal
 
 pub returns-in-Nothing-clause-grows : goal.returns-in-Nothing-clause-grows

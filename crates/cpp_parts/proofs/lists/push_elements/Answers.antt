@@ -1,8 +1,4 @@
-use Rattle.std.proofs.Common.{ap, arith}
-use Rattle.std.proofs.lemmas.Result.{on_ok_weaker}
-use Rattle.sym_print.specs.Unshared.{steps_of_parts}
-use Rattle.cpp_layout.specs.Layout.{bytes_of_part}
-use Rattle.sym_parts.specs.Marked.{◌before◌}
+use Rattle.cpp_parts.proofs.Basics.{ap, arith, on_ok_weaker, steps_of_parts, bytes_of_part, ◌before◌}
 use Rattle.cpp_parts.proofs.Growing.{grow-same, grow-then, grow-skip}
 use Rattle.cpp_parts.proofs.Measuring.{length-of-text}
 use Rattle.cpp_parts.proofs.Standing.{elements-nothing, elements-item, elements-text}

@@ -1,6 +1,4 @@
-use Rattle.std.proofs.Common.{ap, arith}
-use Rattle.std.proofs.lemmas.Result.{on_ok_weaker}
-use Rattle.sym_print.specs.Unshared.{cost_of_parts, steps_of_parts}
+use Rattle.cpp_parts.proofs.Basics.{ap, arith, on_ok_weaker, cost_of_parts, steps_of_parts}
 use Rattle.cpp_parts.proofs.Growing.{grow-same, grow-then, grow-elements}
 use Rattle.cpp_parts.proofs.Standing.{from-skipped, from-text, from-item}
 use Rattle.cpp_parts.proofs.lists.push_elements_from.Goals as goal

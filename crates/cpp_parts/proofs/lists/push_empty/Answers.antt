@@ -1,10 +1,6 @@
-use Rattle.std.proofs.Common.{sym, refl, arith}
-use Rattle.std.proofs.lemmas.Result.{on_ok_weaker}
-use Rattle.cpp_layout.specs.Layout.{bytes_of_part}
-use Rattle.sym_parts.specs.Marked.{◌before◌}
+use Rattle.cpp_parts.proofs.Basics.{sym, refl, arith, on_ok_weaker, bytes_of_part, ◌before◌, in_brackets}
 use Rattle.cpp_parts.proofs.Growing.{grow-same, grow-then, grow-skip, grow-begin}
 use Rattle.cpp_parts.proofs.Measuring.{length-of-text, length-two}
-use Rattle.cpp_parts.specs.Roles.{in_brackets}
 use Rattle.cpp_parts.proofs.lists.push_empty.Goals as goal
 
 pub returns-clause-grows : goal.returns-clause-grows

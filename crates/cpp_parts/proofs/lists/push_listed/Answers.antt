@@ -1,12 +1,6 @@
-use Rattle.std.proofs.Common.{sym, refl, arith}
-use Rattle.std.proofs.lemmas.Result.{on_ok_weaker}
-use Rattle.sym_print.proofs.Noting.{length_of_text}
-use Rattle.cpp_layout.specs.Layout.{unshared_of, bytes_of_part}
-use Rattle.sym_parts.specs.Marked.{◌before◌}
+use Rattle.cpp_parts.proofs.Basics.{sym, refl, arith, on_ok_weaker, length_of_text, unshared_of, bytes_of_part, ◌before◌, in_brackets, count_of}
 use Rattle.cpp_parts.proofs.Growing.{grow-same, grow-then, grow-skip, grow-begin, grow-elements}
 use Rattle.cpp_parts.proofs.Measuring.{length-of-text, length-listed}
-use Rattle.cpp_parts.specs.Roles.{in_brackets}
-use Rattle.cpp_parts.specs.Tasks.{count_of}
 use Rattle.cpp_parts.proofs.lists.push_listed.Goals as goal
 
 pub overflow_add-count : goal.overflow_add-count

@@ -1,8 +1,4 @@
-use Rattle.std.proofs.Common.{arith}
-use Rattle.std.proofs.lemmas.Result.{on_ok_weaker}
-use Rattle.sym_print.proofs.Noting.{length_of_text}
-use Rattle.cpp_layout.specs.Layout.{unshared_of}
-use Rattle.sym_parts.specs.Marked.{◌before◌}
+use Rattle.cpp_parts.proofs.Basics.{arith, on_ok_weaker, length_of_text, unshared_of, ◌before◌}
 use Rattle.cpp_parts.proofs.Growing.{grow-then, grow-skip, grow-begin}
 use Rattle.cpp_parts.proofs.Measuring.{length-two}
 use Rattle.cpp_parts.proofs.lists.push_lone.Goals as goal

@@ -1,7 +1,4 @@
-use Rattle.std.proofs.Common.{sym, ap, arith}
-use Rattle.std.proofs.lemmas.Result.{on_ok_weaker}
-use Rattle.sym_print.specs.Unshared.{steps_of_parts}
-use Rattle.cpp_layout.specs.Layout.{bytes_of_part}
+use Rattle.cpp_parts.proofs.Basics.{sym, ap, arith, on_ok_weaker, steps_of_parts, bytes_of_part}
 use Rattle.cpp_parts.proofs.Growing.{grow-same}
 use Rattle.cpp_parts.proofs.Measuring.{length-of-text}
 use Rattle.cpp_parts.proofs.Standing.{params-nothing, params-item, params-text}

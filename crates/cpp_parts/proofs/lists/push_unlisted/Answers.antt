@@ -1,6 +1,4 @@
-use Rattle.std.proofs.Common.{sym}
-use Rattle.std.proofs.lemmas.Result.{on_ok_weaker}
-use Rattle.sym_parts.specs.Marked.{◌before◌}
+use Rattle.cpp_parts.proofs.Basics.{sym, on_ok_weaker, ◌before◌}
 use Rattle.cpp_parts.proofs.Growing.{grow-then, grow-skip}
 use Rattle.cpp_parts.proofs.lists.push_unlisted.Goals as goal
 

@@ -1,5 +1,4 @@
-use Rattle.std.proofs.Common.{◌∙◌, sym, ap}
-use Rattle.cpp_parts.specs.Roles.{are_colons}
+use Rattle.cpp_parts.proofs.Basics.{◌∙◌, sym, ap, are_colons}
 use Rattle.cpp_parts.proofs.names.are_colons.Goals as goal
 
 pub returns-in-Some : goal.returns-in-Some

@@ -1,11 +1,7 @@
-use Rattle.std.proofs.Common.{sym, take, drop}
-use Rattle.std.proofs.lemmas.Result.{on_ok_weaker}
-use Rattle.cpp_layout.specs.Layout.{bytes_of_part}
-use Rattle.sym_parts.specs.Marked.{◌before◌}
+use Rattle.cpp_parts.proofs.Basics.{sym, take, drop, on_ok_weaker, bytes_of_part, ◌before◌, in_std}
 use Rattle.cpp_parts.proofs.Growing.{grow-then, grow-skip}
 use Rattle.cpp_parts.proofs.Measuring.{length-of-text}
 use Rattle.cpp_parts.proofs.Standing.{front-lengths}
-use Rattle.cpp_parts.specs.Roles.{in_std}
 use Rattle.cpp_parts.proofs.names.push_in_std.Goals as goal
 
 pub returns-clause-grows : goal.returns-clause-grows

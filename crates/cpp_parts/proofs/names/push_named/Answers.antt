@@ -1,5 +1,4 @@
-use Rattle.std.proofs.Common.{arith}
-use Rattle.std.proofs.lemmas.Result.{on_ok_weaker}
+use Rattle.cpp_parts.proofs.Basics.{arith, on_ok_weaker}
 use Rattle.cpp_parts.proofs.Growing.{grow-same}
 use Rattle.cpp_parts.proofs.Standing.{named-nothing}
 use Rattle.cpp_parts.proofs.names.push_named.Goals as goal

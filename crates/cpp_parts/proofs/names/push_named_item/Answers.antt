@@ -1,6 +1,4 @@
-use Rattle.std.proofs.Common.{◌∙◌, sym, ap, arith}
-use Rattle.std.proofs.lemmas.Result.{on_ok_weaker}
-use Rattle.sym_print.specs.Unshared.{steps_of_parts}
+use Rattle.cpp_parts.proofs.Basics.{◌∙◌, sym, ap, arith, on_ok_weaker, steps_of_parts}
 use Rattle.cpp_parts.proofs.Growing.{grow-same}
 use Rattle.cpp_parts.proofs.Standing.{named-item-nothing, named-item-item, named-item-plain, named-item-scoped}
 use Rattle.cpp_parts.proofs.names.push_named_item.Goals as goal

@@ -1,14 +1,7 @@
-use Rattle.std.proofs.Common.{sym, arith, take, drop}
-use Rattle.std.proofs.lemmas.Result.{on_ok_weaker}
-use Rattle.sym_print.specs.Unshared.{text_of}
-use Rattle.sym_print.proofs.Noting.{length_of_text}
-use Rattle.cpp_layout.specs.Layout.{unshared_of, bytes_of_part}
-use Rattle.sym_parts.specs.Marked.{◌before◌}
+use Rattle.cpp_parts.proofs.Basics.{sym, arith, take, drop, on_ok_weaker, text_of, length_of_text, unshared_of, bytes_of_part, ◌before◌, scoped, printed_by}
 use Rattle.cpp_parts.proofs.Growing.{grow-then, grow-skip, grow-begin}
 use Rattle.cpp_parts.proofs.Measuring.{length-of-text, length-base}
 use Rattle.cpp_parts.proofs.Standing.{front-lengths}
-use Rattle.cpp_parts.specs.Roles.{scoped}
-use Rattle.cpp_parts.specs.Tasks.{printed_by}
 use Rattle.cpp_parts.proofs.names.push_scoped.Goals as goal
 
 pub overflow_add-between : goal.overflow_add-between

@@ -1,5 +1,4 @@
-use Rattle.std.proofs.Common.{sym}
-use Rattle.std.proofs.lemmas.Result.{on_ok_weaker}
+use Rattle.cpp_parts.proofs.Basics.{sym, on_ok_weaker}
 use Rattle.cpp_parts.proofs.Growing.{grow-alone}
 use Rattle.cpp_parts.proofs.plain.push_alone.Goals as goal
 

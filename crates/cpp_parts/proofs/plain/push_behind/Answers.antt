@@ -1,8 +1,4 @@
-use Rattle.sym_parts.specs.Marked.{◌before◌}
-use Rattle.cpp_layout.specs.Layout.{bytes_of_part}
-use Rattle.std.proofs.Common.{arith, ap, sym}
-use Rattle.std.proofs.lemmas.Result.{on_ok_weaker}
-use Rattle.sym_print.specs.Unshared.{steps_of_parts}
+use Rattle.cpp_parts.proofs.Basics.{◌before◌, bytes_of_part, arith, ap, sym, on_ok_weaker, steps_of_parts}
 use Rattle.cpp_parts.proofs.Growing.{grow-same, grow-then}
 use Rattle.cpp_parts.proofs.Measuring.{length-of-text}
 use Rattle.cpp_parts.proofs.Standing.{behind-nothing, behind-item, behind-text}

@@ -1,8 +1,4 @@
-use Rattle.sym_parts.specs.Marked.{◌before◌}
-use Rattle.sym_print.specs.Unshared.{text_of}
-use Rattle.cpp_layout.specs.Layout.{unshared_of}
-use Rattle.std.proofs.Common.{arith, sym}
-use Rattle.std.proofs.lemmas.Result.{on_ok_weaker}
+use Rattle.cpp_parts.proofs.Basics.{◌before◌, text_of, unshared_of, arith, sym, on_ok_weaker}
 use Rattle.cpp_parts.proofs.Growing.{grow-same, grow-then}
 use Rattle.cpp_parts.proofs.Standing.{returned-none, returned-some, returned-nothing, returned-text}
 use Rattle.cpp_parts.proofs.plain.push_returned.Goals as goal

@@ -1,9 +1,6 @@
-use Rattle.std.proofs.Common.{take, drop, length, ◌-◌}
-use Rattle.std.proofs.lemmas.Result.{on_ok_weaker}
-use Rattle.sym_parts.specs.Marked.{◌before◌}
+use Rattle.cpp_parts.proofs.Basics.{take, drop, length, ◌-◌, on_ok_weaker, ◌before◌, words}
 use Rattle.cpp_parts.proofs.Growing.{grow-then, grow-skip}
 use Rattle.cpp_parts.proofs.Standing.{last-lengths}
-use Rattle.cpp_parts.specs.Roles.{words}
 use Rattle.cpp_parts.proofs.plain.push_words.Goals as goal
 
 pub returns-clause-grows : goal.returns-clause-grows

@@ -1,8 +1,4 @@
-use Rattle.std.proofs.Common.{◌∙◌, sym, ap, refl, arith}
-use Rattle.cpp_tree.specs.Fields.{fields_of, local_fields}
-use Rattle.cpp_tree.specs.Views.{plain_tree}
-use Rattle.cpp_layout.specs.Layout.{table_of}
-use Rattle.cpp_parts.specs.Roles.{is_absent}
+use Rattle.cpp_parts.proofs.Basics.{◌∙◌, sym, ap, refl, arith, fields_of, local_fields, plain_tree, table_of, is_absent}
 use Rattle.cpp_parts.proofs.Sorting.{is-function, is-object, is-thunk, is-table_thunk, is-covariant_thunk, is-wide_thunk, is-clone, first-is, second-is, third-is, parts-of, thunk-parts, encoding-other, by-function, by-object, by-thunk, by-clone, by-no-encoding}
 use Rattle.cpp_parts.proofs.sorts.encoding_sort.Goals as goal
 

@@ -1,8 +1,4 @@
-use Rattle.std.proofs.Common.{◌∙◌, sym, ap, refl, arith}
-use Rattle.cpp_tree.specs.Fields.{fields_of}
-use Rattle.cpp_tree.specs.Views.{plain_tree}
-use Rattle.cpp_layout.specs.Layout.{table_of}
-use Rattle.cpp_grammar.specs.Parts.{entity_of}
+use Rattle.cpp_parts.proofs.Basics.{◌∙◌, sym, ap, refl, arith, fields_of, plain_tree, table_of, entity_of}
 use Rattle.cpp_parts.proofs.Sorting.{is-of_default, first-is, parts-of, entity-other}
 use Rattle.cpp_parts.proofs.sorts.entity_node.Goals as goal
 

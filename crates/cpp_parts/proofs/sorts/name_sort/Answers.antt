@@ -1,7 +1,4 @@
-use Rattle.std.proofs.Common.{◌∙◌, sym, refl, arith, Some, None}
-use Rattle.cpp_tree.specs.Fields.{fields_of, local_fields}
-use Rattle.cpp_tree.specs.Views.{plain_tree}
-use Rattle.cpp_layout.specs.Layout.{table_of}
+use Rattle.cpp_parts.proofs.Basics.{◌∙◌, sym, refl, arith, Some, None, fields_of, local_fields, plain_tree, table_of}
 use Rattle.cpp_parts.proofs.Sorting.{is-instance, is-tagged, is-local, is-numbered, is-holder, is-abbreviation, first-is, second-is, parts-of, name-other, by-instance, by-tagged, by-local, by-holder, by-abbreviation, by-no-name}
 use Rattle.cpp_parts.proofs.sorts.name_sort.Goals as goal
 

@@ -1,8 +1,4 @@
-use Rattle.std.proofs.Common.{◌∙◌, sym, ap, refl, arith, Some}
-use Rattle.cpp_tree.specs.Fields.{fields_of, local_fields}
-use Rattle.cpp_tree.specs.Views.{plain_tree}
-use Rattle.cpp_layout.specs.Layout.{table_of}
-use Rattle.cpp_parts.specs.Roles.{within}
+use Rattle.cpp_parts.proofs.Basics.{◌∙◌, sym, ap, refl, arith, Some, fields_of, local_fields, plain_tree, table_of, within}
 use Rattle.cpp_parts.proofs.Sorting.{is-pack, is-expansion, first-is, parts-of, within-other}
 use Rattle.cpp_parts.proofs.sorts.node_within.Goals as goal
 

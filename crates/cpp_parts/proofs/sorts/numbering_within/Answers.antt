@@ -1,6 +1,4 @@
-use Rattle.std.proofs.Common.{ap, sym, ◌∙◌}
-use Rattle.cpp_tree.specs.Views.{plain_tree}
-use Rattle.cpp_layout.specs.Layout.{table_of}
+use Rattle.cpp_parts.proofs.Basics.{ap, sym, ◌∙◌, plain_tree, table_of}
 use Rattle.cpp_parts.proofs.Sorting.{inside-counted, inside-other, inside-pack, is-pack}
 use Rattle.cpp_parts.specs.declared.numbering.Numbering.TheVariants as numbering
 use Rattle.cpp_parts.proofs.sorts.numbering_within.Goals as goal

@@ -1,7 +1,4 @@
-use Rattle.std.proofs.Common.{◌∙◌, sym, ap}
-use Rattle.cpp_tree.specs.Views.{plain_tree}
-use Rattle.cpp_layout.specs.Layout.{table_of}
-use Rattle.cpp_parts.specs.Roles.{is_absent}
+use Rattle.cpp_parts.proofs.Basics.{◌∙◌, sym, ap, plain_tree, table_of, is_absent}
 use Rattle.cpp_parts.proofs.Sorting.{is-absent, absent-other}
 use Rattle.cpp_parts.proofs.sorts.returns_nothing.Goals as goal
 

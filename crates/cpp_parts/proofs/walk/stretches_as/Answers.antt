@@ -1,6 +1,4 @@
-use Rattle.std.proofs.Common.{◌∙◌, sym, ap, arith}
-use Rattle.sym_print.specs.Unshared.{cost_of}
-use Rattle.cpp_parts.specs.Tasks.{printed_by}
+use Rattle.cpp_parts.proofs.Basics.{◌∙◌, sym, ap, arith, cost_of, printed_by}
 use Rattle.cpp_parts.proofs.Walking.{begins, first-task, other-tasks, fits-next, smaller, goes-on, ended}
 use Rattle.cpp_parts.proofs.walk.stretches_as.Goals as goal
 

@@ -1,10 +1,4 @@
-use Rattle.std.proofs.Common.{◌≡◌, ◌+◌, ◌≤◌, ◌++◌}
-use Rattle.std.specs.List.{All}
-use Rattle.cpp_layout.specs.Layout.{whole_of, shown_symbol}
-use Rattle.sym_parts.specs.Marked.{stretches_of}
-use Rattle.sym_parts.specs.Marks.{stretches_at, skipped}
-use Rattle.cpp_parts.specs.Roles.{symbol_marked}
-use Rattle.cpp_parts.specs.Tasks.{IsTask, marks_of_tasks, weight_of_tasks}
+use Rattle.cpp_parts.proofs.Basics.{◌≡◌, ◌+◌, ◌≤◌, ◌++◌, All, whole_of, shown_symbol, stretches_of, stretches_at, skipped, symbol_marked, IsTask, marks_of_tasks, weight_of_tasks}
 use Rattle.cpp_parts.proofs.walk.stretches_as.Given as goal
 
 abbrev pub invariant-tasks : goal.invariant-tasks

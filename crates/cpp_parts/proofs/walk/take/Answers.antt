@@ -1,7 +1,4 @@
-use Rattle.std.proofs.Common.{◌++◌, sym, ap, subst, arith}
-use Rattle.std.proofs.lemmas.Result.{on_ok_weaker}
-use Rattle.sym_parts.specs.Marks.{skipped}
-use Rattle.cpp_parts.specs.Tasks.{IsTask, Lists, marks_of_task, marks_of_tasks, weight_of_task}
+use Rattle.cpp_parts.proofs.Basics.{◌++◌, sym, ap, subst, arith, on_ok_weaker, skipped, IsTask, Lists, marks_of_task, marks_of_tasks, weight_of_task}
 use Rattle.cpp_parts.proofs.Walking.{lists-skip, lists-begin}
 use Rattle.cpp_parts.proofs.walk.take.Goals as goal
 

@@ -1,10 +1,4 @@
-use Rattle.std.proofs.Common.{arith}
-use Rattle.sym_print.specs.Unshared.{cost_of}
-use Rattle.std.proofs.Common.{◌∙◌, sym, ap}
-use Rattle.std.proofs.lemmas.Result.{on_ok_weaker}
-use Rattle.std.proofs.lemmas.List.Elements.{All-same}
-use Rattle.cpp_layout.specs.Layout.{MayBeAsked}
-use Rattle.cpp_parts.specs.Tasks.{printed_by}
+use Rattle.cpp_parts.proofs.Basics.{arith, cost_of, ◌∙◌, sym, ap, on_ok_weaker, All-same, MayBeAsked, printed_by}
 use Rattle.cpp_parts.proofs.Walking.{took-encoding, parts-payable}
 use Rattle.cpp_parts.proofs.walk.take_encoding.Goals as goal
 

@@ -1,8 +1,4 @@
-use Rattle.std.proofs.Common.{[], arith}
-use Rattle.sym_spell.proofs.FirstOnes.{first-below}
-use Rattle.cpp_spelling.specs.Tasks.{plain_at}
-use Rattle.cpp_press.specs.Marks.{found_in}
-use Rattle.cpp_press.specs.Numbers.{IsKey}
+use Rattle.cpp_press.proofs.Basics.{[], arith, first-below, plain_at, found_in, IsKey}
 use Rattle.cpp_press.proofs.Numbered.{begins-alone}
 use Rattle.cpp_press.proofs.numbering.first_nodes.Goals as goal
 

@@ -1,9 +1,4 @@
-use Rattle.std.proofs.Common.{◌<◌, ◌++◌, length, [], ◌∷◌, ap, arith, sym, subst, ◌∙◌, length-append, append-nil}
-use Rattle.sym_spell.specs.Numbers.{AreBelow}
-use Rattle.sym_spell.proofs.FirstOnes.{AreFirsts}
-use Rattle.cpp_spelling.specs.Tasks.{plain_at}
-use Rattle.cpp_press.specs.Marks.{found_in}
-use Rattle.cpp_press.specs.Numbers.{IsKey, IsKeyOf}
+use Rattle.cpp_press.proofs.Basics.{◌<◌, ◌++◌, length, [], ◌∷◌, ap, arith, sym, subst, ◌∙◌, length-append, append-nil, AreBelow, AreFirsts, plain_at, found_in, IsKey, IsKeyOf}
 use Rattle.cpp_press.proofs.Numbered.{after-below, after-more}
 use Rattle.cpp_press.proofs.numbering.firsts_after.Goals as goal
 

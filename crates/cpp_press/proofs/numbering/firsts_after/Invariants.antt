@@ -1,8 +1,4 @@
-use Rattle.std.proofs.Common.{◌≡◌, ℕ, List, length, ◌++◌}
-use Rattle.sym_spell.proofs.FirstOnes.{AreFirsts}
-use Rattle.cpp_grammar.specs.Term.{Term}
-use Rattle.cpp_press.specs.Marks.{IsFound, found_in}
-use Rattle.cpp_press.specs.Numbers.{ComeNext, IsKey}
+use Rattle.cpp_press.proofs.Basics.{◌≡◌, ℕ, List, length, ◌++◌, AreFirsts, Term, IsFound, found_in, ComeNext, IsKey}
 use Rattle.cpp_press.proofs.numbering.firsts_after.Given as goal
 
 abbrev pub invariant-loop-node : goal.invariant-loop-node

@@ -1,6 +1,4 @@
-use Rattle.std.proofs.Common.{[], sym, subst, arith}
-use Rattle.cpp_press.specs.Marks.{found_in}
-use Rattle.cpp_press.specs.Numbers.{ComeNext, both_at}
+use Rattle.cpp_press.proofs.Basics.{[], sym, subst, arith, found_in, ComeNext, both_at}
 use Rattle.cpp_press.proofs.Numbered.{begins-one, goes-on, item-is, told-one}
 use Rattle.cpp_press.proofs.numbering.have_one_tree.Goals as goal
 

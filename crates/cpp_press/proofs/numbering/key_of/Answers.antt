@@ -1,8 +1,4 @@
-use Rattle.std.proofs.Common.{◌≡◌, length, take, rules, arith, ap}
-use Rattle.cpp_tree.specs.Nodes.{bytes_at}
-use Rattle.cpp_tree.specs.Fields.{Fields, fields_of}
-use Rattle.cpp_press.specs.Details.{Told, tree_told}
-use Rattle.cpp_spelling.specs.Tasks.{plain_at}
+use Rattle.cpp_press.proofs.Basics.{◌≡◌, length, take, rules, arith, ap, bytes_at, Fields, fields_of, Told, tree_told, plain_at}
 use Rattle.cpp_press.proofs.Numbered.{four-texts, slot_is, part_low, part_numbered, few_parts}
 use Rattle.cpp_press.proofs.numbering.key_of.Goals as goal
 

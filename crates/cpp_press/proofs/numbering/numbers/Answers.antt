@@ -1,7 +1,5 @@
-use Rattle.std.proofs.Common.{length, subst}
-use Rattle.sym_spell.specs.Numbers.{AreNumbered, number_at}
+use Rattle.cpp_press.proofs.Basics.{length, subst, AreNumbered, number_at, plain_at}
 use Rattle.sym_spell.proofs.Counting.{through}
-use Rattle.cpp_spelling.specs.Tasks.{plain_at}
 use Rattle.cpp_press.proofs.numbering.numbers.Goals as goal
 
 pub returns-clause-numbers : goal.returns-clause-numbers

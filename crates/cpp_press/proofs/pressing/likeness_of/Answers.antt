@@ -1,12 +1,5 @@
-use Rattle.std.proofs.Common.{◌≡◌, ℕ, List, Bool, true, false, ap, sym, ◌∙◌}
-use Rattle.std.specs.Prelude.{get_or, cond}
-use Rattle.cpp_grammar.specs.Scope.{is_open}
-use Rattle.cpp_layout.specs.Layout.{ReadSymbol, table_of}
-use Rattle.cpp_tree.specs.Nodes.{tree_at, trees, free_is, has_free}
+use Rattle.cpp_press.proofs.Basics.{◌≡◌, ℕ, List, Bool, true, false, ap, sym, ◌∙◌, get_or, cond, is_open, ReadSymbol, table_of, tree_at, trees, free_is, has_free, Likeness, plain_at, likeness_of}
 use Rattle.cpp_tree.proofs.FreeParameters.{node-open}
-use Rattle.cpp_press.specs.declared.components.Likeness.{Likeness}
-use Rattle.cpp_spelling.specs.Tasks.{plain_at}
-use Rattle.cpp_press.specs.Places.{likeness_of}
 use Rattle.cpp_press.proofs.Open.{open-erased}
 use Rattle.cpp_press.proofs.pressing.likeness_of.Goals as goal
 

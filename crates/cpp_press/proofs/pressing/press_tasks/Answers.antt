@@ -1,13 +1,7 @@
-use Rattle.std.proofs.Common.{◌≡◌, refl, rules, length, ap, arith, sym, subst, ◌∙◌}
-use Rattle.cpp_spelling.specs.declared.task.Task.{Task}
-use Rattle.cpp_spelling.specs.declared.task.Way.{Way}
+use Rattle.cpp_press.proofs.Basics.{◌≡◌, refl, rules, length, ap, arith, sym, subst, ◌∙◌, Task, Way, ◌onto◌, in_way, press_task, press_tasks, plain_at, AreTasks, whole_of, known_in, noted, standing_of, template_standing_of}
 use Rattle.cpp_spelling.specs.Bytes.{text_bytes}
-use Rattle.cpp_spelling.specs.Tasks.{◌onto◌, in_way, press_task, press_tasks, plain_at, AreTasks}
-use Rattle.cpp_layout.specs.Layout.{whole_of}
 use Rattle.cpp_press_laws.specs.Short.{IsShort}
 use Rattle.cpp_press_laws.proofs.Short.Law.{pressed-short}
-use Rattle.cpp_press.specs.Places.{known_in, noted}
-use Rattle.cpp_spelling.specs.Standings.{standing_of, template_standing_of}
 use Rattle.cpp_press.proofs.Continuation.{popped, task-there, weight-there, changed-goes, text-goes, ended-goes, first-goes, last-goes, last-few}
 use Rattle.cpp_press.proofs.pressing.press_tasks.Goals as goal
 

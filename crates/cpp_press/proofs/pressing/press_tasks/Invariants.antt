@@ -1,6 +1,4 @@
-use Rattle.cpp_layout.specs.Layout.{whole_of}
-use Rattle.cpp_spelling.specs.Tasks.{tasks_weight}
-use Rattle.cpp_press.specs.Places.{known_in, AreFirst, Goes}
+use Rattle.cpp_press.proofs.Basics.{whole_of, tasks_weight, known_in, AreFirst, Goes}
 use Rattle.cpp_press.proofs.pressing.press_tasks.Given as goal
 
 abbrev pub invariant-tasks : goal.invariant-tasks

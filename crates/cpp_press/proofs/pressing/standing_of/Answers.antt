@@ -1,9 +1,5 @@
-use Rattle.std.proofs.Common.{ap, sym, ◌∙◌}
-use Rattle.cpp_spelling.specs.Tasks.{plain_at}
+use Rattle.cpp_press.proofs.Basics.{ap, sym, ◌∙◌, plain_at, compared, known_in, likeness_of, compared-way, uncompared-way}
 use Rattle.cpp_spelling.specs.Spelled.{is_compared}
-use Rattle.cpp_spelling.specs.Standings.{compared}
-use Rattle.cpp_press.specs.Places.{known_in, likeness_of}
-use Rattle.cpp_spelling.proofs.Standing.{compared-way, uncompared-way}
 use Rattle.cpp_press.proofs.pressing.standing_of.Goals as goal
 
 pub returns-then-is_compared : goal.returns-then-is_compared

@@ -1,9 +1,4 @@
-use Rattle.std.proofs.Common.{ap, sym, ◌∙◌}
-use Rattle.cpp_spelling.specs.Tasks.{plain_at}
-use Rattle.cpp_press_laws.specs.Pressing.{is_name}
-use Rattle.cpp_spelling.specs.Standings.{compared}
-use Rattle.cpp_press.specs.Places.{known_in, likeness_of}
-use Rattle.cpp_spelling.proofs.Standing.{compared-name, uncompared-name}
+use Rattle.cpp_press.proofs.Basics.{ap, sym, ◌∙◌, plain_at, is_name, compared, known_in, likeness_of, compared-name, uncompared-name}
 use Rattle.cpp_press.proofs.pressing.template_standing_of.Goals as goal
 
 pub returns-then-is_name : goal.returns-then-is_name

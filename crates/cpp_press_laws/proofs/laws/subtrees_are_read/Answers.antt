@@ -1,5 +1,4 @@
-use Rattle.cpp_grammar.specs.Grammar.{number_of_kind}
-use Rattle.cpp_press_laws.specs.Fits.{any_type}
+use Rattle.cpp_press_laws.proofs.Basics.{number_of_kind, any_type}
 use Rattle.cpp_press_laws.proofs.Spots as spot
 use Rattle.cpp_press_laws.proofs.EveryWay.Law.{reads}
 use Rattle.cpp_press_laws.proofs.Components.AddedTrees.{arguments-counted}

@@ -1,7 +1,4 @@
-use Rattle.std.proofs.Common.{sym, ◌∙◌, ap, refl}
-use Rattle.cpp_term.specs.Reargued.{reargued}
-use Rattle.cpp_tree.specs.Nodes.{over, trees, tree_if_there, tree_under}
-use Rattle.cpp_tree.proofs.Trees.{placed-none}
+use Rattle.cpp_references.proofs.Basics.{sym, ◌∙◌, ap, refl, reargued, over, trees, tree_if_there, tree_under, placed-none}
 use Rattle.cpp_references.proofs.again.opened.Goals as goal
 
 pub returns-clause-tree : goal.returns-clause-tree

@@ -1,5 +1,4 @@
-use Rattle.std.proofs.Common.{sym, ◌∙◌, ap}
-use Rattle.cpp_term.specs.References.{is_function_type}
+use Rattle.cpp_references.proofs.Basics.{sym, ◌∙◌, ap, is_function_type}
 use Rattle.cpp_references.proofs.Functions.{function_is}
 use Rattle.cpp_references.proofs.candidates.is_function_type.Goals as goal
 

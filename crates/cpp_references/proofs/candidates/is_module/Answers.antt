@@ -1,5 +1,4 @@
-use Rattle.std.proofs.Common.{sym, ◌∙◌, ap}
-use Rattle.cpp_term.specs.References.{is_module}
+use Rattle.cpp_references.proofs.Basics.{sym, ◌∙◌, ap, is_module}
 use Rattle.cpp_references.proofs.Functions.{module_is}
 use Rattle.cpp_references.proofs.candidates.is_module.Goals as goal
 

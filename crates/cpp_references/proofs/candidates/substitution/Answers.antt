@@ -1,12 +1,4 @@
-use Rattle.std.proofs.Common.{sym, ◌∙◌, ap, subst, ℕ, ◌<◌, ◌-◌, length}
-use Rattle.std.specs.Prelude.{IfSome}
-use Rattle.sym_core.specs.Value.{counted_value}
-use Rattle.sym_core.specs.declared.NumberKind.TheVariants.{Seq36}
-use Rattle.cpp_term.specs.Values.{State, Around}
-use Rattle.cpp_term.specs.References.{substituted}
-use Rattle.cpp_tree.specs.Nodes.{bytes_at}
-use Rattle.cpp_references.specs.Around.{trees_in, around_of}
-use Rattle.cpp_references.specs.References.{maybe_candidate}
+use Rattle.cpp_references.proofs.Basics.{sym, ◌∙◌, ap, subst, ℕ, ◌<◌, ◌-◌, length, IfSome, counted_value, Seq36, State, Around, substituted, bytes_at, trees_in, around_of, maybe_candidate}
 use Rattle.cpp_references.proofs.Numbering.{candidate_at, candidate_there}
 use Rattle.cpp_references.proofs.candidates.substitution.Goals as goal
 

@@ -1,15 +1,4 @@
-use Rattle.std.proofs.Common.{◌≡◌, ◌∙◌, sym, ap, arith, Ok, Err, Some, true}
-use Rattle.std.proofs.lemmas.Bool.{le-ltb, lt-ltb}
-use Rattle.cpp_term.specs.Term.{Term}
-use Rattle.cpp_term.specs.Reargued.{reargued}
-use Rattle.cpp_term.specs.Scope.{count, element, is_list, pack_length}
-use Rattle.sym_link.specs.Unfold.{found}
-use Rattle.cpp_term.specs.Values.{Around, State, tree}
-use Rattle.cpp_term.specs.References.{with_packs}
-use Rattle.cpp_tree.specs.Nodes.{tree_at, tree_if_there}
-use Rattle.cpp_references.specs.References.{argument_read}
-use Rattle.cpp_references.specs.Around.{trees_in, around_of}
-use Rattle.cpp_references.specs.References.{packs_read}
+use Rattle.cpp_references.proofs.Basics.{◌≡◌, ◌∙◌, sym, ap, arith, Ok, Err, Some, true, le-ltb, lt-ltb, Term, reargued, count, element, is_list, pack_length, found, Around, State, tree, with_packs, tree_at, tree_if_there, argument_read, trees_in, around_of, packs_read}
 use Rattle.cpp_references.proofs.Named.{scope_closed}
 use Rattle.cpp_references.proofs.MeantHere.{scope_none, scope_past, scope_listed, scope_here}
 use Rattle.cpp_references.proofs.elsewhere.argument_by.Goals as goal

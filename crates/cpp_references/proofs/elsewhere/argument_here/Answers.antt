@@ -1,12 +1,4 @@
-use Rattle.std.proofs.Common.{◌∙◌, sym, ap, Some, Ok, true}
-use Rattle.cpp_grammar.specs.Scope.{none_free, one_free, several_free}
-use Rattle.cpp_term.specs.Reargued.{reargued}
-use Rattle.cpp_term.specs.Rescoping.{with_free}
-use Rattle.sym_link.specs.Unfold.{found}
-use Rattle.cpp_term.specs.Values.{tree}
-use Rattle.cpp_tree.specs.Nodes.{tree_at}
-use Rattle.cpp_references.specs.References.{argument_read}
-use Rattle.cpp_references.specs.Around.{trees_in, around_of}
+use Rattle.cpp_references.proofs.Basics.{◌∙◌, sym, ap, Some, Ok, true, none_free, one_free, several_free, reargued, with_free, found, tree, tree_at, argument_read, trees_in, around_of}
 use Rattle.cpp_references.proofs.MeantHere.{none_is, one_is, several_is, restated_own, restated_by}
 use Rattle.cpp_references.proofs.elsewhere.argument_here.Goals as goal
 

@@ -1,7 +1,4 @@
-use Rattle.std.proofs.Common.{◌∙◌, ap, refl, Some}
-use Rattle.cpp_term.specs.Scope.{pack_length}
-use Rattle.cpp_tree.proofs.Trees.{placed-some}
-use Rattle.cpp_references.specs.Around.{trees_in}
+use Rattle.cpp_references.proofs.Basics.{◌∙◌, ap, refl, Some, pack_length, placed-some, trees_in}
 use Rattle.cpp_references.proofs.elsewhere.packs_with.Goals as goal
 
 pub returns : goal.returns

@@ -1,10 +1,4 @@
-use Rattle.std.proofs.Common.{◌∙◌, sym, ap, arith}
-use Rattle.std.proofs.lemmas.Bool.{le-ltb, lt-ltb}
-use Rattle.cpp_term.specs.Term.{Term}
-use Rattle.cpp_term.specs.Scope.{count}
-use Rattle.cpp_tree.specs.Nodes.{tree_at, tree_if_there}
-use Rattle.cpp_references.specs.References.{argument_read}
-use Rattle.cpp_references.specs.Around.{trees_in, around_of}
+use Rattle.cpp_references.proofs.Basics.{◌∙◌, sym, ap, arith, le-ltb, lt-ltb, Term, count, tree_at, tree_if_there, argument_read, trees_in, around_of}
 use Rattle.cpp_references.proofs.MeantHere.{under_none, under_past, under_packed, under_here}
 use Rattle.cpp_references.proofs.elsewhere.scope_by.Goals as goal
 

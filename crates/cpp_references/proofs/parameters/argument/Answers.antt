@@ -1,8 +1,4 @@
-use Rattle.std.proofs.Common.{◌∙◌, ap, refl}
-use Rattle.cpp_term.specs.Scope.{is_open, element}
-use Rattle.cpp_tree.specs.Nodes.{tree_at}
-use Rattle.cpp_tree.proofs.Trees.{placed-none}
-use Rattle.cpp_references.specs.Around.{trees_in}
+use Rattle.cpp_references.proofs.Basics.{◌∙◌, ap, refl, is_open, element, tree_at, placed-none, trees_in}
 use Rattle.cpp_references.proofs.Arguments.{element_closed}
 use Rattle.cpp_references.proofs.parameters.argument.Goals as goal
 

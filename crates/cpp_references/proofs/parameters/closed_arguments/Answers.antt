@@ -1,6 +1,4 @@
-use Rattle.std.proofs.Common.{sym, ◌∙◌, ap, Some}
-use Rattle.cpp_tree.specs.Nodes.{tree_at, tree_if_there, placed_if_there, tree_under}
-use Rattle.cpp_references.specs.Around.{trees_in}
+use Rattle.cpp_references.proofs.Basics.{sym, ◌∙◌, ap, Some, tree_at, tree_if_there, placed_if_there, tree_under, trees_in}
 use Rattle.cpp_references.proofs.Arguments.{argument_closed, none_closed, some_closed}
 use Rattle.cpp_references.proofs.parameters.closed_arguments.Goals as goal
 

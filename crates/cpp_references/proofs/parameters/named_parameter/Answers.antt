@@ -1,16 +1,5 @@
-use Rattle.std.proofs.Common.{◌≡◌, ◌∙◌, sym, ap, subst, ℕ, ◌<◌, ◌≤◌, [], refl, arith, Ok, Err}
-use Rattle.std.specs.Prelude.{MatchOption}
-use Rattle.std.proofs.lemmas.Bool.{le-ltb, lt-ltb}
-use Rattle.sym_core.specs.Value.{counted_value}
-use Rattle.sym_core.specs.declared.NumberKind.TheVariants.{Decimal}
-use Rattle.cpp_term.specs.Term.{Term, parameter}
-use Rattle.cpp_term.specs.Scope.{count, element, length_if_pack}
+use Rattle.cpp_references.proofs.Basics.{◌≡◌, ◌∙◌, sym, ap, subst, ℕ, ◌<◌, ◌≤◌, [], refl, arith, Ok, Err, MatchOption, le-ltb, lt-ltb, counted_value, Decimal, Term, parameter, count, element, length_if_pack, Around, State, appended, with_packs, tree_at, bytes_at, tree_if_there, tree_of, trees_in, around_of, packs_read, parameter_read}
 use Rattle.cpp_grammar.specs.Values.{nothing_counted}
-use Rattle.cpp_term.specs.Values.{Around, State}
-use Rattle.cpp_term.specs.References.{appended, with_packs}
-use Rattle.cpp_tree.specs.Nodes.{tree_at, bytes_at, tree_if_there, tree_of}
-use Rattle.cpp_references.specs.Around.{trees_in, around_of}
-use Rattle.cpp_references.specs.References.{packs_read, parameter_read}
 use Rattle.cpp_references.proofs.Named.{scope_closed}
 use Rattle.cpp_references.proofs.Named.{no_scope, past_scope, in_scope, argument_in_scope}
 use Rattle.cpp_references.proofs.parameters.named_parameter.Goals as goal

@@ -1,14 +1,7 @@
-use Rattle.std.specs.Prelude.{false}
-use Rattle.std.proofs.lemmas.Bool.{true≢false}
-use Rattle.std.proofs.Common.{◌≡◌, refl, ◌∙◌, ℕ, List}
+use Rattle.cpp_spelling.proofs.Basics.{false, true≢false, ◌≡◌, refl, ◌∙◌, ℕ, List, erase, Node, tree_of, trees, is_again, table_of, is_encoding}
 use Rattle.cpp_term.specs.Term.{Term}
-use Rattle.cpp_term.specs.Erased.{erase}
-use Rattle.cpp_tree.specs.declared.node.Node.{Node}
 use Rattle.cpp_tree.specs.declared.node.Thunk.{Thunk}
 use Rattle.cpp_tree.specs.Nodes as nodes
-use Rattle.cpp_tree.specs.Nodes.{tree_of, trees, is_again}
-use Rattle.cpp_layout.specs.Layout.{table_of}
-use Rattle.cpp_press_laws.specs.Pressing.{is_encoding}
 use Rattle.cpp_spelling.proofs.names.is_encoding.Goals as goal
 
 -- a node is an encoding exactly if its tree is one

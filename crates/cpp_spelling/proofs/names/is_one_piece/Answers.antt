@@ -1,9 +1,4 @@
-use Rattle.std.proofs.Common.{ap, sym, ◌∙◌}
-use Rattle.cpp_term.specs.Erased.{erase}
-use Rattle.cpp_tree.specs.Nodes.{tree_of}
-use Rattle.cpp_press_laws.specs.Pressing.{is_one_piece}
-use Rattle.cpp_spelling.specs.Spelled.{is_piece_behind}
-use Rattle.cpp_spelling.specs.Tasks.{plain_at, node_tree}
+use Rattle.cpp_spelling.proofs.Basics.{ap, sym, ◌∙◌, erase, tree_of, is_one_piece, is_piece_behind, plain_at, node_tree}
 use Rattle.cpp_spelling.proofs.Entities.{instance-piece, other-piece}
 use Rattle.cpp_spelling.proofs.names.is_one_piece.Goals as goal
 

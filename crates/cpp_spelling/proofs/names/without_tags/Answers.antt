@@ -1,5 +1,4 @@
-use Rattle.std.proofs.Common.{ap, sym, ◌∙◌}
-use Rattle.cpp_layout.specs.Layout.{table_of}
+use Rattle.cpp_spelling.proofs.Basics.{ap, sym, ◌∙◌, table_of}
 use Rattle.cpp_spelling.proofs.Tags.{untagged-some, untagged-none}
 use Rattle.cpp_spelling.proofs.names.without_tags.Goals as goal
 

@@ -1,10 +1,4 @@
-use Rattle.std.proofs.Common.{ap, sym, ◌∙◌}
-use Rattle.cpp_press_laws.specs.Components.{Spelling, first_equal, reference}
-use Rattle.cpp_spelling.specs.declared.task.Way.{Way}
-use Rattle.cpp_spelling.specs.Bytes.{text_bytes}
-use Rattle.cpp_spelling.specs.Tasks.{◌onto◌, written, in_way, plain_at, press_tasks}
-use Rattle.cpp_spelling.specs.Spelled.{arguments_onto}
-use Rattle.cpp_spelling.specs.Standings.{template_onto}
+use Rattle.cpp_spelling.proofs.Basics.{ap, sym, ◌∙◌, Spelling, first_equal, reference, Way, text_bytes, ◌onto◌, written, in_way, plain_at, press_tasks, arguments_onto, template_onto}
 use Rattle.cpp_spelling.proofs.Standing.{apart-name, known-name, fresh-name}
 use Rattle.cpp_spelling.proofs.Ways.{apart-template}
 use Rattle.cpp_spelling.proofs.Templates.{known-template, fresh-template}

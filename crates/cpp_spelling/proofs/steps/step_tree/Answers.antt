@@ -1,8 +1,4 @@
-use Rattle.std.proofs.Common.{ap, sym, arith, ◌∙◌}
-use Rattle.cpp_press_laws.specs.Components.{Spelling, first_equal, reference}
-use Rattle.cpp_spelling.specs.Bytes.{text_bytes}
-use Rattle.cpp_spelling.specs.Tasks.{◌onto◌, written, ending, plain_at, press_tasks}
-use Rattle.cpp_spelling.specs.Spelled.{spelled_onto}
+use Rattle.cpp_spelling.proofs.Basics.{ap, sym, arith, ◌∙◌, Spelling, first_equal, reference, text_bytes, ◌onto◌, written, ending, plain_at, press_tasks, spelled_onto}
 use Rattle.cpp_spelling.proofs.Standing.{apart-way, known-way, fresh-way}
 use Rattle.cpp_spelling.proofs.Ways.{apart-tree, known-tree, fresh-tree}
 use Rattle.cpp_spelling.proofs.Weighing.{weight-some}

@@ -1,8 +1,4 @@
-use Rattle.std.proofs.Common.{ap, sym, subst, ◌∙◌}
-use Rattle.cpp_term.specs.Erased.{erase}
-use Rattle.cpp_layout.specs.Layout.{table_of}
-use Rattle.cpp_tree.proofs.Trees.{not_again}
-use Rattle.cpp_spelling.specs.Tasks.{node_tree, IsMade}
+use Rattle.cpp_spelling.proofs.Basics.{ap, sym, subst, ◌∙◌, erase, table_of, not_again, node_tree, IsMade}
 use Rattle.cpp_spelling.proofs.Made.{made, again-tree}
 use Rattle.cpp_spelling.proofs.stored.stored.Goals as goal
 

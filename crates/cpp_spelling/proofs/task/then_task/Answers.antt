@@ -1,5 +1,4 @@
-use Rattle.std.proofs.Common.{ap, sym, subst, ◌∙◌}
-use Rattle.cpp_spelling.specs.Tasks.{press_tasks, tasks_weight, AreTasks}
+use Rattle.cpp_spelling.proofs.Basics.{ap, sym, subst, ◌∙◌, press_tasks, tasks_weight, AreTasks}
 use Rattle.cpp_spelling.proofs.Pushed.{tasks-push, weight-push, tasks-more}
 use Rattle.cpp_spelling.proofs.task.then_task.Goals as goal
 

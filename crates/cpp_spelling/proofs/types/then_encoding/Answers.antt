@@ -1,7 +1,4 @@
-use Rattle.std.proofs.Common.{◌∙◌, ap, arith}
-use Rattle.cpp_press_laws.specs.Components.{Spelling}
-use Rattle.cpp_spelling.specs.declared.task.Way.{Way}
-use Rattle.cpp_spelling.specs.Tasks.{◌onto◌, in_way, plain_at, press_tasks}
+use Rattle.cpp_spelling.proofs.Basics.{◌∙◌, ap, arith, Spelling, Way, ◌onto◌, in_way, plain_at, press_tasks}
 use Rattle.cpp_spelling.proofs.Made.{function-spelled, function-weighs}
 use Rattle.cpp_spelling.proofs.types.then_encoding.Goals as goal
 

@@ -1,5 +1,4 @@
-use Rattle.std.proofs.Common.{◌∙◌}
-use Rattle.cpp_tree.specs.Compact.{free_kept, entry_of, packs_kept, class_kept}
+use Rattle.cpp_tree.proofs.Basics.{◌∙◌, free_kept, entry_of, packs_kept, class_kept}
 use Rattle.cpp_tree.proofs.Compacting.{own-restated, given-restated, collapsed-restated}
 use Rattle.cpp_tree.proofs.notes.restated.Goals as goal
 

@@ -1,7 +1,4 @@
-use Rattle.std.proofs.Common.{ap, sym, ◌∙◌}
-use Rattle.cpp_term.specs.Erased.{erase}
-use Rattle.cpp_tree.specs.Nodes.{over}
-use Rattle.cpp_tree.specs.Fields.{offsets_of}
+use Rattle.cpp_tree.proofs.Basics.{ap, sym, ◌∙◌, erase, over, offsets_of}
 use Rattle.cpp_tree.proofs.Trees.{not_again, erased_place, erased_again}
 use Rattle.cpp_tree.proofs.view.offsets_of.Goals as goal
 

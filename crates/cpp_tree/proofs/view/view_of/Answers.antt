@@ -1,6 +1,4 @@
-use Rattle.std.proofs.Common.{ap, sym, ◌∙◌}
-use Rattle.cpp_tree.specs.Nodes.{over}
-use Rattle.cpp_tree.specs.Fields.{fields_of}
+use Rattle.cpp_tree.proofs.Basics.{ap, sym, ◌∙◌, over, fields_of}
 use Rattle.cpp_tree.proofs.Trees.{not_again, erased_again}
 use Rattle.cpp_tree.proofs.view.view_of.Goals as goal
 

@@ -1,7 +1,4 @@
-use Rattle.std.proofs.Common.{ap, sym, ◌∙◌}
-use Rattle.cpp_term.specs.Erased.{erase}
-use Rattle.cpp_tree.specs.Nodes.{over}
-use Rattle.cpp_tree.specs.Fields.{fields_of}
+use Rattle.cpp_tree.proofs.Basics.{ap, sym, ◌∙◌, erase, over, fields_of}
 use Rattle.cpp_tree.proofs.Trees.{erased_place, place_most, later_parts}
 use Rattle.cpp_tree.proofs.view.view_of_tree.Goals as goal
 

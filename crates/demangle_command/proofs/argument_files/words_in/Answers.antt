@@ -1,6 +1,4 @@
-use Rattle.std.proofs.Common.{◌≡◌, ◌∙◌, ap, sym, get_or, take}
-use Rattle.std.proofs.lemmas.List.{take_more}
-use Rattle.demangle_command.specs.ArgumentFiles.{Reading, after_byte, after_text, reading_of, start}
+use Rattle.demangle_command.proofs.Basics.{◌≡◌, ◌∙◌, ap, sym, get_or, take, take_more, Reading, after_byte, after_text, reading_of, start}
 use Rattle.demangle_command.proofs.ArgumentFileLemmas.{after-more}
 use Rattle.demangle_command.proofs.argument_files.words_in.Goals as goal
 

@@ -1,5 +1,4 @@
-use Rattle.std.proofs.Common.{◌≡◌, take}
-use Rattle.demangle_command.specs.ArgumentFiles.{after_text, reading_of, start}
+use Rattle.demangle_command.proofs.Basics.{◌≡◌, take, after_text, reading_of, start}
 use Rattle.demangle_command.proofs.argument_files.words_in.Given as goal
 
 abbrev pub invariant-bytes : goal.invariant-bytes

@@ -1,5 +1,4 @@
-use Rattle.std.proofs.Common.{rules}
-use Rattle.std.proofs.lemmas.List.{map-append}
+use Rattle.demangle_command.proofs.Basics.{rules, map-append}
 use Rattle.demangle_command.proofs.arguments.push_words.Goals as goal
 
 pub returns : goal.returns

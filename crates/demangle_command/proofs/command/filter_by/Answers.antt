@@ -1,6 +1,4 @@
-use Rattle.std.proofs.Common.{[]}
-use Rattle.std.proofs.lemmas.Result.{IfOk-weaker, on_err_weaker}
-use Rattle.sym_filter.proofs.StreamLemmas.{Appends-none, PutsFront-none}
+use Rattle.demangle_command.proofs.Basics.{[], IfOk-weaker, on_err_weaker, Appends-none, PutsFront-none}
 use Rattle.demangle_command.proofs.command.filter_by.Goals as goal
 
 pub returns-then-why-clause-ok : goal.returns-then-why-clause-ok

@@ -1,5 +1,4 @@
-use Rattle.std.proofs.Common.{◌∙◌, ap, sym}
-use Rattle.std.proofs.lemmas.Result.{IfOk-weaker, on_err_weaker}
+use Rattle.demangle_command.proofs.Basics.{◌∙◌, ap, sym, IfOk-weaker, on_err_weaker}
 use Rattle.sym_filter.specs.Entries.{entries_of}
 use Rattle.sym_filter.specs.declared.kinds.Letters.TheVariants.{Within}
 use Rattle.demangle_names.specs.SayingLaws.{text-begun, text-said}

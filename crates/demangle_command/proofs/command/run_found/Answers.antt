@@ -1,8 +1,4 @@
-use Rattle.std.proofs.Common.{◌∙◌, sym}
-use Rattle.clap.specs.Words.{found_of, rows_of}
-use Rattle.demangle_names.specs.Spelling.{is_gnu}
-use Rattle.demangle_command.specs.Command.{are_whole}
-use Rattle.demangle_command.specs.Styled.{styled_answer, styled_details}
+use Rattle.demangle_command.proofs.Basics.{◌∙◌, sym, found_of, rows_of, is_gnu, are_whole, styled_answer, styled_details}
 use Rattle.demangle_command.proofs.CommandLemmas.{colored-are, no-objects, refused-ends, refused-stops, short-are, short-details, styled-are, styled-details, whole-are, whole-details}
 use Rattle.demangle_command.proofs.command.run_found.Goals as goal
 

@@ -1,9 +1,4 @@
-use Rattle.std.proofs.Common.{◌≡◌, ◌∙◌, ap, sym, map, Bor, List, ℕ, Vec, Global}
-use Rattle.clap.specs.Words.{found_of, rows_of}
-use Rattle.sym_command.proofs.CommandLemmas.{no-words}
-use Rattle.sym_command.proofs.PageLemmas.{OnErr-anyway}
-use Rattle.demangle_command.specs.Command.{escaped_by}
-use Rattle.demangle_command.specs.Texts.{bytes_of}
+use Rattle.demangle_command.proofs.Basics.{◌≡◌, ◌∙◌, ap, sym, map, Bor, List, ℕ, Vec, Global, found_of, rows_of, no-words, OnErr-anyway, escaped_by, bytes_of}
 use Rattle.demangle_command.proofs.CommandLemmas.{input-ends, input-stops, names-end, names-stop, stops-unbegun}
 use Rattle.demangle_command.proofs.TextLemmas.{some-words}
 use Rattle.demangle_command.proofs.command.run_lines.Goals as goal

@@ -1,9 +1,5 @@
-use Rattle.std.proofs.Common.{◌∙◌, List, ℕ, Bor, String, Global, map, subst, ap}
+use Rattle.demangle_command.proofs.Basics.{◌∙◌, List, ℕ, Bor, String, Global, map, subst, ap, Text, OnErr-anyway, Ends, Stops, texts_of}
 use Rattle.std.specs.String.{string_bytes}
-use Rattle.clap.specs.Words.{Text}
-use Rattle.sym_command.proofs.PageLemmas.{OnErr-anyway}
-use Rattle.demangle_command.specs.Command.{Ends, Stops}
-use Rattle.demangle_command.specs.Texts.{texts_of}
 use Rattle.demangle_command.proofs.CommandLemmas.{stops-unparsed}
 use Rattle.demangle_command.proofs.command.run_over.Goals as goal
 

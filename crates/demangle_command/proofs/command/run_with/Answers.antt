@@ -1,6 +1,4 @@
-use Rattle.std.proofs.Common.{ap, map, Bor, List, ℕ}
-use Rattle.clap.specs.Words.{found_of, rows_of}
-use Rattle.demangle_command.specs.Texts.{bytes_of}
+use Rattle.demangle_command.proofs.Basics.{ap, map, Bor, List, ℕ, found_of, rows_of, bytes_of}
 use Rattle.demangle_command.proofs.CommandLemmas.{objects-end, objects-stop, uncolored-are}
 use Rattle.demangle_command.proofs.command.run_with.Goals as goal
 

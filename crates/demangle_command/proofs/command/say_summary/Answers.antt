@@ -1,7 +1,4 @@
-use Rattle.std.proofs.Common.{◌≡◌, ◌∙◌, List, ℕ, subst}
-use Rattle.std.specs.Io.KnownBytes.{Appends}
-use Rattle.sym_command.proofs.PageLemmas.{OnErr-anyway}
-use Rattle.demangle_command.specs.Command.{summary_if}
+use Rattle.demangle_command.proofs.Basics.{◌≡◌, ◌∙◌, List, ℕ, subst, Appends, OnErr-anyway, summary_if}
 use Rattle.demangle_command.proofs.CommandLemmas.{summary-front, summary-line, summary-said}
 use Rattle.demangle_command.proofs.command.say_summary.Goals as goal
 

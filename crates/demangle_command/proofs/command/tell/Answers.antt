@@ -1,8 +1,4 @@
-use Rattle.std.proofs.Common.{◌≡◌, ◌≢◌, ◌∙◌, sym, ap, rules, true, false}
-use Rattle.clap.specs.Words.{kind_of}
-use Rattle.clap.specs.declared.error.kind.ErrorKind.TheVariants.{OutOfMemory}
-use Rattle.sym_command.proofs.PageLemmas.{OnErr-anyway}
-use Rattle.demangle_command.specs.Command.{is_request}
+use Rattle.demangle_command.proofs.Basics.{◌≡◌, ◌≢◌, ◌∙◌, sym, ap, rules, true, false, kind_of, OutOfMemory, OnErr-anyway, is_request}
 use Rattle.demangle_command.proofs.CommandLemmas.{told-asked, told-wrong, untold-out, untold-err, untold-nothing}
 use Rattle.demangle_command.proofs.command.tell.Goals as goal
 

@@ -1,14 +1,6 @@
-use Rattle.std.proofs.Common.{◌≡◌, ◌∙◌, ap, sym, subst, map, Bor, Bool, List, [], ℕ, Vec, Global, inl, inr, refl}
-use Rattle.std.specs.Io.KnownBytes.{Appends}
-use Rattle.sym_command.proofs.CommandLemmas.{no-words}
-use Rattle.sym_command.proofs.PageLemmas.{OnErr-anyway}
-use Rattle.sym_filter.proofs.StreamLemmas.{PutsFront-none}
-use Rattle.sym_filter.specs.Streams.{PutsFront}
-use Rattle.demangle_names.specs.Names.{status_of}
-use Rattle.demangle_names.specs.Style.{reads_paths}
+use Rattle.demangle_command.proofs.Basics.{◌≡◌, ◌∙◌, ap, sym, subst, map, Bor, Bool, List, [], ℕ, Vec, Global, inl, inr, refl, Appends, no-words, OnErr-anyway, PutsFront-none, PutsFront, status_of, reads_paths, bytes_of}
 use Rattle.json_lines.specs.Objects.{name_lines, names_stay}
 use Rattle.json_lines.specs.Texts.{TellsObjects, TellsObjectsFront}
-use Rattle.demangle_command.specs.Texts.{bytes_of}
 use Rattle.demangle_command.proofs.TextLemmas.{some-words}
 use Rattle.demangle_command.proofs.command.write_objects.Goals as goal
 

@@ -1,7 +1,4 @@
-use Rattle.std.proofs.Common.{◌∙◌, codes, ap, sym}
-use Rattle.std.specs.Prelude.{option_map}
-use Rattle.clap.specs.Words.{found_of, first_of, rows_of}
-use Rattle.clap.proofs.WalkLemmas.{first_value-rows}
+use Rattle.demangle_command.proofs.Basics.{◌∙◌, codes, ap, sym, option_map, found_of, first_of, rows_of, first_value-rows}
 use Rattle.demangle_command.proofs.OptionLemmas.{spelled-none, spelled-some}
 use Rattle.demangle_command.proofs.options.asked_spelling.Goals as goal
 

@@ -1,8 +1,4 @@
-use Rattle.std.proofs.Common.{◌≡◌, ◌∙◌, ◌∷◌, [], ap, codes, List, Option, Some}
-use Rattle.clap.specs.Words.{Rule, Text, rule_of}
-use Rattle.clap.specs.declared.builder.arg.Arg.{Arg}
-use Rattle.clap.specs.declared.builder.range.ValueRange.{ValueRange}
-use Rattle.sym_command.proofs.OptionLemmas.{given}
+use Rattle.demangle_command.proofs.Basics.{◌≡◌, ◌∙◌, ◌∷◌, [], ap, codes, List, Option, Some, Rule, Text, rule_of, Arg, ValueRange, given}
 use Rattle.demangle_command.proofs.options.color_option.Goals as goal
 
 pub returns-clause-rule : goal.returns-clause-rule

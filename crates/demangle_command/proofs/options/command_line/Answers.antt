@@ -1,11 +1,7 @@
-use Rattle.std.proofs.Common.{◌≡◌, ◌∙◌, ap, codes, true}
-use Rattle.std.proofs.lemmas.Result.{IfOk-weaker}
-use Rattle.clap.specs.Words.{App, app_of, new_app, with_rule}
+use Rattle.demangle_command.proofs.Basics.{◌≡◌, ◌∙◌, ap, codes, true, IfOk-weaker, App, app_of, new_app, with_rule, with_argument, command_line, with_reports, with_texts, version_option, taken_options, name_arguments}
 use Rattle.clap.specs.Simple.{app_of_fields, on_top}
 use Rattle.clap.specs.declared.builder.command.Command.TheOpen.{Command-F}
 use Rattle.clap.specs.declared.builder.command.Command.{Command}
-use Rattle.sym_command.proofs.OptionLemmas.{with_argument}
-use Rattle.demangle_command.specs.CommandLine.{command_line, with_reports, with_texts, version_option, taken_options, name_arguments}
 use Rattle.demangle_command.proofs.options.command_line.Goals as goal
 
 -- a command without arguments

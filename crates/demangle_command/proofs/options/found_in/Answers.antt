@@ -1,7 +1,4 @@
-use Rattle.std.proofs.Common.{Bor, List, ℕ, map}
-use Rattle.clap.specs.Words.{app_of}
-use Rattle.demangle_command.specs.CommandLine.{command_line}
-use Rattle.sym_command.proofs.OptionLemmas.{found_rows, found_faults}
+use Rattle.demangle_command.proofs.Basics.{Bor, List, ℕ, map, app_of, command_line, found_rows, found_faults}
 use Rattle.demangle_command.proofs.OptionLemmas.{simple, simple_and_free}
 use Rattle.demangle_command.proofs.options.found_in.Goals as goal
 

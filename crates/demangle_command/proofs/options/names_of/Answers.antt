@@ -1,7 +1,4 @@
-use Rattle.std.proofs.Common.{◌∙◌, codes}
-use Rattle.clap.specs.Words.{all_of, found_of, rows_of}
-use Rattle.clap.proofs.WalkLemmas.{raw_values-rows}
-use Rattle.sym_command.proofs.OptionLemmas.{symbols_given}
+use Rattle.demangle_command.proofs.Basics.{◌∙◌, codes, all_of, found_of, rows_of, raw_values-rows, symbols_given}
 use Rattle.demangle_command.proofs.options.names_of.Goals as goal
 
 pub returns : goal.returns

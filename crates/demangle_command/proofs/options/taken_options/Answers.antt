@@ -1,8 +1,4 @@
-use Rattle.std.proofs.Common.{◌++◌, ◌∷◌, []}
-use Rattle.std.specs.Prelude.{codes}
-use Rattle.std.proofs.lemmas.Result.{IfOk-weaker}
-use Rattle.clap.specs.Words.{Rule}
-use Rattle.demangle_command.specs.CommandLine.{taken_option}
+use Rattle.demangle_command.proofs.Basics.{◌++◌, ◌∷◌, [], codes, IfOk-weaker, Rule, taken_option}
 use Rattle.demangle_command.proofs.OptionLemmas.{short-more, short-local, alias-more, alias-local}
 use Rattle.demangle_command.proofs.options.taken_options.Goals as goal
 

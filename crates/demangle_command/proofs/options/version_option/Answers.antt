@@ -1,5 +1,4 @@
-use Rattle.std.proofs.lemmas.Result.{IfOk-weaker}
-use Rattle.demangle_command.specs.CommandLine.{version_flag}
+use Rattle.demangle_command.proofs.Basics.{IfOk-weaker, version_flag}
 use Rattle.demangle_command.proofs.OptionLemmas.{short-more, short-local}
 use Rattle.demangle_command.proofs.options.version_option.Goals as goal
 

@@ -1,9 +1,4 @@
-use Rattle.std.proofs.Common.{◌≡◌, ◌∙◌, ap, codes, refl}
-use Rattle.std.proofs.lemmas.Result.{IfOk-weaker}
-use Rattle.clap.specs.Words.{App, app_of, with_rule}
-use Rattle.sym_command.specs.CommandLine.{flag}
-use Rattle.sym_command.proofs.OptionLemmas.{with_argument}
-use Rattle.demangle_command.specs.CommandLine.{color_option}
+use Rattle.demangle_command.proofs.Basics.{◌≡◌, ◌∙◌, ap, codes, refl, IfOk-weaker, App, app_of, with_rule, flag, with_argument, color_option}
 use Rattle.demangle_command.proofs.options.with_reports.Goals as goal
 
 pub returns : goal.returns

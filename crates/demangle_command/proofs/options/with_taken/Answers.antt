@@ -1,8 +1,4 @@
-use Rattle.std.proofs.Common.{refl}
-use Rattle.std.proofs.lemmas.Result.{IfOk-weaker}
-use Rattle.clap.specs.Words.{app_of}
-use Rattle.sym_command.proofs.OptionLemmas.{with_argument}
-use Rattle.demangle_command.specs.CommandLine.{taken_options}
+use Rattle.demangle_command.proofs.Basics.{refl, IfOk-weaker, app_of, with_argument, taken_options}
 use Rattle.demangle_command.proofs.options.with_taken.Goals as goal
 
 pub returns : goal.returns

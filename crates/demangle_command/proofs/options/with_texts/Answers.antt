@@ -1,10 +1,4 @@
-use Rattle.std.proofs.Common.{◌≡◌, ◌∙◌, ap, codes, refl}
-use Rattle.std.proofs.lemmas.Result.{IfOk-weaker}
-use Rattle.clap.specs.Words.{App, app_of, rule_of, with_rule}
-use Rattle.clap.specs.declared.builder.arg.Arg.{Arg}
-use Rattle.sym_command.specs.CommandLine.{flag, limit, with_short}
-use Rattle.sym_command.proofs.OptionLemmas.{with_argument}
-use Rattle.demangle_command.specs.CommandLine.{no_params, spelling_option, style_option, types}
+use Rattle.demangle_command.proofs.Basics.{◌≡◌, ◌∙◌, ap, codes, refl, IfOk-weaker, App, app_of, rule_of, with_rule, Arg, flag, limit, with_short, with_argument, no_params, spelling_option, style_option, types}
 use Rattle.demangle_command.proofs.options.with_texts.Goals as goal
 
 -- the options before those for types

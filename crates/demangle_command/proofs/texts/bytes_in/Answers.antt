@@ -1,5 +1,4 @@
-use Rattle.std.proofs.Common.{◌≡◌, ◌∙◌, ap, sym, get_or, take}
-use Rattle.std.proofs.lemmas.List.{take_more}
+use Rattle.demangle_command.proofs.Basics.{◌≡◌, ◌∙◌, ap, sym, get_or, take, take_more}
 use Rattle.demangle_command.specs.Texts.{Decoding, after_byte, after_text, decoding_of, start}
 use Rattle.demangle_command.proofs.TextLemmas.{after-more}
 use Rattle.demangle_command.proofs.texts.bytes_in.Goals as goal

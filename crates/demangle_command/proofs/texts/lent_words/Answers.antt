@@ -1,6 +1,4 @@
-use Rattle.std.proofs.Common.{rules, tests}
-use Rattle.std.proofs.lemmas.Iterator.{YieldsList-from_slice, YieldsList-from_map_by}
-use Rattle.std.proofs.lemmas.Iterator.Consumers.{map_from_collect}
+use Rattle.demangle_command.proofs.Basics.{rules, tests, YieldsList-from_slice, YieldsList-from_map_by, map_from_collect}
 use Rattle.demangle_command.proofs.texts.lent_words.Goals as goal
 
 pub returns : goal.returns

@@ -1,5 +1,4 @@
-use Rattle.std.proofs.Common.{◌≡◌, string_bytes, take}
-use Rattle.demangle_command.specs.Texts.{text_of}
+use Rattle.demangle_command.proofs.Basics.{◌≡◌, string_bytes, take, text_of}
 use Rattle.demangle_command.proofs.texts.text_of.Given as goal
 
 abbrev pub invariant-bytes : goal.invariant-bytes

@@ -1,5 +1,4 @@
-use Rattle.std.proofs.Common.{List, [], ℕ, Bor, rules, string_bytes}
-use Rattle.demangle_command.specs.Texts.{text_of}
+use Rattle.demangle_command.proofs.Basics.{List, [], ℕ, Bor, rules, string_bytes, text_of}
 use Rattle.demangle_command.proofs.TextLemmas.{pushed-more}
 use Rattle.demangle_command.proofs.texts.texts_of.Goals as goal
 

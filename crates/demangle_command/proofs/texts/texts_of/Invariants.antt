@@ -1,5 +1,4 @@
-use Rattle.std.proofs.Common.{◌≡◌, map, string_bytes, take}
-use Rattle.demangle_command.specs.Texts.{text_of}
+use Rattle.demangle_command.proofs.Basics.{◌≡◌, map, string_bytes, take, text_of}
 use Rattle.demangle_command.proofs.texts.texts_of.Given as goal
 
 abbrev pub invariant-words : goal.invariant-words

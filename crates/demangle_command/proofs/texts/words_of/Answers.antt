@@ -1,5 +1,4 @@
-use Rattle.std.proofs.Common.{List, [], ℕ, Bor, rules}
-use Rattle.demangle_command.specs.Texts.{bytes_of}
+use Rattle.demangle_command.proofs.Basics.{List, [], ℕ, Bor, rules, bytes_of}
 use Rattle.demangle_command.proofs.TextLemmas.{pushed-more}
 use Rattle.demangle_command.proofs.texts.words_of.Goals as goal
 

@@ -1,5 +1,4 @@
-use Rattle.std.proofs.Common.{◌≡◌, map, take}
-use Rattle.demangle_command.specs.Texts.{bytes_of}
+use Rattle.demangle_command.proofs.Basics.{◌≡◌, map, take, bytes_of}
 use Rattle.demangle_command.proofs.texts.words_of.Given as goal
 
 abbrev pub invariant-texts : goal.invariant-texts

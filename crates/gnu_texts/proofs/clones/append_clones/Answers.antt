@@ -1,5 +1,4 @@
-use Rattle.std.proofs.Common.{◌++◌, ◌∷◌, [], ◌∙◌, ap, codes, drop, append_assoc}
-use Rattle.gnu_texts.specs.Clones.{letter_bytes, parted}
+use Rattle.gnu_texts.proofs.Basics.{◌++◌, ◌∷◌, [], ◌∙◌, ap, codes, drop, append_assoc, letter_bytes, parted}
 use Rattle.gnu_texts.proofs.ClonesLemmas.{letter-more, letters-end}
 use Rattle.gnu_texts.proofs.FrontLemmas.{rest-all}
 use Rattle.gnu_texts.proofs.clones.append_clones.Goals as goal

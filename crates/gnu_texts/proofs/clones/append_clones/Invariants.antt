@@ -1,5 +1,4 @@
-use Rattle.std.proofs.Common.{◌≡◌, ◌++◌, ◌-◌, length, drop}
-use Rattle.gnu_texts.specs.Clones.{parted}
+use Rattle.gnu_texts.proofs.Basics.{◌≡◌, ◌++◌, ◌-◌, length, drop, parted}
 use Rattle.gnu_texts.proofs.clones.append_clones.Given as goal
 
 abbrev pub invariant-bytes : goal.invariant-bytes

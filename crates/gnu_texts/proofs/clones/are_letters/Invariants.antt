@@ -1,6 +1,4 @@
-use Rattle.std.proofs.Common.{◌≡◌, ◌≤◌, ◌-◌, length, drop}
-use Rattle.std.specs.List.{list_all}
-use Rattle.short_names.specs.Runs.{is_letter}
+use Rattle.gnu_texts.proofs.Basics.{◌≡◌, ◌≤◌, ◌-◌, length, drop, list_all, is_letter}
 use Rattle.gnu_texts.proofs.clones.are_letters.Given as goal
 
 abbrev pub invariant-bytes : goal.invariant-bytes

@@ -1,5 +1,4 @@
-use Rattle.std.proofs.Common.{◌++◌, ◌∙◌, ap, ap₂, arith, length, length-drop}
-use Rattle.gnu_texts.specs.Pieces.{bytes_of, last_of, piece_at, size_of}
+use Rattle.gnu_texts.proofs.Basics.{◌++◌, ◌∙◌, ap, ap₂, arith, length, length-drop, bytes_of, last_of, piece_at, size_of}
 use Rattle.gnu_texts.proofs.FrontLemmas.{rest-all}
 use Rattle.gnu_texts.proofs.SpelledLemmas.{piece-more, spelled-end}
 use Rattle.gnu_texts.proofs.spelling.append_spelled.Goals as goal

@@ -1,5 +1,4 @@
-use Rattle.std.proofs.Common.{◌≡◌, ◌≤◌, ◌++◌, ◌-◌, length, drop}
-use Rattle.gnu_texts.specs.Spelling.{spelled, gnu_text}
+use Rattle.gnu_texts.proofs.Basics.{◌≡◌, ◌≤◌, ◌++◌, ◌-◌, length, drop, spelled, gnu_text}
 use Rattle.gnu_texts.proofs.spelling.append_spelled.Given as goal
 
 abbrev pub invariant-pieces : goal.invariant-pieces

@@ -1,8 +1,4 @@
-use Rattle.std.proofs.Common.{◌∙◌, ◌++◌, [], ◌∷◌, List, ℕ, Bool, ap, sym, codes, true, false, is_some}
-use Rattle.json.specs.Json.{member, no_members}
-use Rattle.json_lines.specs.Meanings.{meaning_in}
-use Rattle.json_lines.specs.Objects.{line_members, meaning_members, text_of}
-use Rattle.json_lines.specs.Tokens.{members_text}
+use Rattle.json_lines.proofs.Basics.{◌∙◌, ◌++◌, [], ◌∷◌, List, ℕ, Bool, ap, sym, codes, true, false, is_some, member, no_members, meaning_in, line_members, meaning_members, text_of, members_text}
 use Rattle.json_lines.proofs.LineLemmas.{all-members, put-line}
 use Rattle.json_lines.proofs.lines.line_of.Goals as goal
 

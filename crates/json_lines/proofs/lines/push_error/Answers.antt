@@ -1,8 +1,4 @@
-use Rattle.std.proofs.Common.{◌∙◌, ◌++◌, ℕ, ap, codes, true}
-use Rattle.std.proofs.lemmas.Result.{on_ok_weaker}
-use Rattle.std.specs.Fmt.{decimal}
-use Rattle.json.specs.Json.{Members, member, no_members, number, string}
-use Rattle.json_lines.specs.Tokens.{members_text}
+use Rattle.json_lines.proofs.Basics.{◌∙◌, ◌++◌, ℕ, ap, codes, true, on_ok_weaker, decimal, Members, member, no_members, number, string, members_text}
 use Rattle.json_lines.proofs.LineLemmas.{put-two, text-word}
 use Rattle.json_lines.proofs.lines.push_error.Goals as goal
 

@@ -1,6 +1,4 @@
-use Rattle.std.proofs.Common.{◌∙◌, ◌++◌, Option, ℕ, ap, sym, false, append-nil}
-use Rattle.json_lines.specs.Objects.{line_members}
-use Rattle.json_lines.specs.Tokens.{members_text}
+use Rattle.json_lines.proofs.Basics.{◌∙◌, ◌++◌, Option, ℕ, ap, sym, false, append-nil, line_members, members_text}
 use Rattle.json_lines.proofs.LineLemmas.{no-text}
 use Rattle.json_lines.proofs.lines.push_line.Goals as goal
 

@@ -1,8 +1,4 @@
-use Rattle.std.proofs.Common.{◌∙◌, ◌++◌, List, ℕ, ap, codes, true}
-use Rattle.std.proofs.lemmas.Result.{on_ok_weaker}
-use Rattle.json.specs.Json.{member, no_members, string}
-use Rattle.text_details.specs.Manglings.{language_of, mangling_name}
-use Rattle.json_lines.specs.Tokens.{members_text}
+use Rattle.json_lines.proofs.Basics.{◌∙◌, ◌++◌, List, ℕ, ap, codes, true, on_ok_weaker, member, no_members, string, language_of, mangling_name, members_text}
 use Rattle.json_lines.proofs.LineLemmas.{put-two, text-word}
 use Rattle.json_lines.proofs.lines.push_mangling.Goals as goal
 

@@ -1,12 +1,5 @@
-use Rattle.std.proofs.Common.{◌∙◌, ◌++◌, List, ℕ, ap, sym, codes, true}
-use Rattle.std.proofs.lemmas.Result.{on_ok_weaker}
-use Rattle.std.specs.Str.Lossy.{utf8_lossy}
-use Rattle.json.specs.Json.{member, no_members}
+use Rattle.json_lines.proofs.Basics.{◌∙◌, ◌++◌, List, ℕ, ap, sym, codes, true, on_ok_weaker, utf8_lossy, member, no_members, meaning_in, details_in, detail_members, mangling_members, meaning_members, text_of, members_text}
 use Rattle.json_lines.specs.declared.meanings.Meaning.{Meaning}
-use Rattle.json_lines.specs.Meanings.{meaning_in}
-use Rattle.text_details.specs.Details.{details_in}
-use Rattle.json_lines.specs.Objects.{detail_members, mangling_members, meaning_members, text_of}
-use Rattle.json_lines.specs.Tokens.{members_text}
 use Rattle.json_lines.proofs.LineLemmas.{put-two, text-mangling, text-word}
 use Rattle.json_lines.proofs.lines.push_meaning.Goals as goal
 

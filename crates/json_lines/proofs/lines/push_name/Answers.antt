@@ -1,5 +1,4 @@
-use Rattle.std.proofs.Common.{◌≡◌, ◌∙◌, ◌++◌, [], ◌∷◌, List, ℕ, Bool, Vec, Global, ap, sym, cond, append-nil}
-use Rattle.json.specs.Print.{quoted}
+use Rattle.json_lines.proofs.Basics.{◌≡◌, ◌∙◌, ◌++◌, [], ◌∷◌, List, ℕ, Bool, Vec, Global, ap, sym, cond, append-nil, quoted}
 use Rattle.json_lines.proofs.LineLemmas.{put-name}
 use Rattle.json_lines.proofs.lines.push_name.Goals.{then-has_some+in_ok-push, else-has_some}
 use Rattle.json_lines.proofs.lines.push_name.Goals as goal

@@ -1,7 +1,4 @@
-use Rattle.std.proofs.Common.{◌∙◌, ◌++◌, [], ◌∷◌, List, ℕ, ap}
-use Rattle.std.specs.Fmt.{decimal}
-use Rattle.json.specs.Print.{print_from}
-use Rattle.json.specs.Token.{Token}
+use Rattle.json_lines.proofs.Basics.{◌∙◌, ◌++◌, [], ◌∷◌, List, ℕ, ap, decimal, print_from, Token}
 use Rattle.json_lines.proofs.LineLemmas.{number-text, put-two}
 use Rattle.json_lines.proofs.lines.push_number.Goals as goal
 

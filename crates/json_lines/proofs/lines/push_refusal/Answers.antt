@@ -1,8 +1,4 @@
-use Rattle.std.proofs.Common.{◌∙◌, ◌++◌, ap, sym, true, append-nil}
-use Rattle.std.proofs.lemmas.Result.{on_ok_weaker}
-use Rattle.sym_core.specs.declared.refusal.Refusal.{Refusal}
-use Rattle.json_lines.specs.Objects.{refusal_members}
-use Rattle.json_lines.specs.Tokens.{members_text}
+use Rattle.json_lines.proofs.Basics.{◌∙◌, ◌++◌, ap, sym, true, append-nil, on_ok_weaker, Refusal, refusal_members, members_text}
 use Rattle.json_lines.proofs.LineLemmas.{no-text}
 use Rattle.json_lines.proofs.lines.push_refusal.Goals as goal
 

@@ -1,6 +1,4 @@
-use Rattle.std.proofs.Common.{◌∙◌}
-use Rattle.std.proofs.lemmas.Result.{on_ok_weaker}
-use Rattle.std.specs.Str.Lossy.{utf8_lossy}
+use Rattle.json_lines.proofs.Basics.{◌∙◌, on_ok_weaker, utf8_lossy}
 use Rattle.json_lines.proofs.LineLemmas.{put-word}
 use Rattle.json_lines.proofs.lines.push_text.Goals as goal
 

@@ -1,5 +1,4 @@
-use Rattle.std.proofs.Common.{true}
-use Rattle.std.proofs.lemmas.Result.{on_ok_weaker}
+use Rattle.json_lines.proofs.Basics.{true, on_ok_weaker}
 use Rattle.json_lines.proofs.LineLemmas.{put-word}
 use Rattle.json_lines.proofs.lines.push_word.Goals as goal
 

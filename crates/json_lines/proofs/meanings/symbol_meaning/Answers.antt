@@ -1,8 +1,4 @@
-use Rattle.std.proofs.Common.{◌≡◌, ◌∙◌, ◌++◌, List, ℕ, refl, sym, ap, Some, Ok, Err}
-use Rattle.sym_filter.specs.Kinds.{kind_of}
-use Rattle.text_details.specs.Details.{details_in}
-use Rattle.text_details.specs.Manglings.{mangling_of}
-use Rattle.json_lines.specs.Meanings.{has_text}
+use Rattle.json_lines.proofs.Basics.{◌≡◌, ◌∙◌, ◌++◌, List, ℕ, refl, sym, ap, Some, Ok, Err, kind_of, details_in, mangling_of, has_text}
 use Rattle.json_lines.proofs.MeaningLemmas.{named, unnamed}
 use Rattle.json_lines.proofs.meanings.symbol_meaning.Goals as goal
 

@@ -1,7 +1,6 @@
-use Rattle.std.proofs.Common.{◌+◌, ap, ◌∙◌, List, ◌∷◌, [], ◌++◌, ℕ, get_or, map, take, drop, Bor, refl, arith, append_assoc}
+use Rattle.json_lines.proofs.Basics.{◌+◌, ap, ◌∙◌, List, ◌∷◌, [], ◌++◌, ℕ, get_or, map, take, drop, Bor, refl, arith, append_assoc, reads_paths}
 use Rattle.sym_command.proofs.LineLemmas.{words-more}
 use Rattle.sym_command.proofs.PageLemmas.{words-split}
-use Rattle.demangle_names.specs.Style.{reads_paths}
 use Rattle.json_lines.proofs.NameLemmas.{SoFar-begin, SoFar-more, SoFar-stopped}
 use Rattle.json_lines.proofs.names.answer_objects.Goals as goal
 

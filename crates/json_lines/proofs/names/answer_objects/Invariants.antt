@@ -1,5 +1,4 @@
-use Rattle.std.proofs.Common.{◌≡◌, take, map}
-use Rattle.demangle_names.specs.Style.{reads_paths}
+use Rattle.json_lines.proofs.Basics.{◌≡◌, take, map, reads_paths}
 use Rattle.json_lines.proofs.NameLemmas.{SoFar}
 use Rattle.json_lines.proofs.names.answer_objects.Given as goal
 

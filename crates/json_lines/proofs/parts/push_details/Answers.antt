@@ -1,12 +1,5 @@
-use Rattle.std.proofs.Common.{◌∙◌, ◌++◌, List, ℕ, Option, ap, sym, codes, true, append-nil}
-use Rattle.std.proofs.lemmas.Result.{on_ok_weaker}
-use Rattle.json.specs.Json.{array, member, no_members, string}
-use Rattle.sym_parts.specs.Words.{kind_name}
-use Rattle.sym_parts.specs.declared.part.Part.{Part}
-use Rattle.text_details.specs.Details.{details_in}
+use Rattle.json_lines.proofs.Basics.{◌∙◌, ◌++◌, List, ℕ, Option, ap, sym, codes, true, append-nil, on_ok_weaker, array, member, no_members, string, kind_name, Part, details_in, detail_members, part_items, members_text}
 use Rattle.text_details.specs.declared.details.Details.{Details}
-use Rattle.json_lines.specs.Objects.{detail_members, part_items}
-use Rattle.json_lines.specs.Tokens.{members_text}
 use Rattle.json_lines.proofs.LineLemmas.{no-text, put-two, text-word}
 use Rattle.json_lines.proofs.parts.push_details.Goals as goal
 

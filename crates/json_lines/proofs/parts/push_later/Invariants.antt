@@ -1,6 +1,4 @@
-use Rattle.std.proofs.Common.{◌≡◌, ◌++◌, take}
-use Rattle.std.specs.List.{flat_map}
-use Rattle.json_lines.specs.Tokens.{later_part}
+use Rattle.json_lines.proofs.Basics.{◌≡◌, ◌++◌, take, flat_map, later_part}
 use Rattle.json_lines.proofs.parts.push_later.Given as goal
 
 abbrev pub invariant-parts : goal.invariant-parts

@@ -1,8 +1,4 @@
-use Rattle.std.proofs.Common.{◌∙◌, ◌++◌, [], ◌∷◌, List, ℕ, ap, append_assoc}
-use Rattle.std.proofs.lemmas.Result.{on_ok_weaker}
-use Rattle.json.specs.Print.{print}
-use Rattle.json.specs.Tree.{json_tokens}
-use Rattle.json_lines.specs.Objects.{part_object}
+use Rattle.json_lines.proofs.Basics.{◌∙◌, ◌++◌, [], ◌∷◌, List, ℕ, ap, append_assoc, on_ok_weaker, print, json_tokens, part_object}
 use Rattle.json_lines.proofs.parts.push_next.Goals as goal
 
 pub returns : goal.returns

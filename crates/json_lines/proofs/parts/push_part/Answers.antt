@@ -1,8 +1,4 @@
-use Rattle.std.proofs.Common.{◌∙◌, ◌++◌, List, ℕ, ap, sym, codes, true, false}
-use Rattle.json.specs.Json.{member, no_members, string}
-use Rattle.sym_parts.specs.Words.{role_name}
-use Rattle.json_lines.specs.Objects.{two_numbers}
-use Rattle.json_lines.specs.Tokens.{members_text}
+use Rattle.json_lines.proofs.Basics.{◌∙◌, ◌++◌, List, ℕ, ap, sym, codes, true, false, member, no_members, string, role_name, two_numbers, members_text}
 use Rattle.json_lines.proofs.LineLemmas.{part-text, put-part}
 use Rattle.json_lines.proofs.parts.push_part.Goals as goal
 

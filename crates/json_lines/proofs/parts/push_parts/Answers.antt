@@ -1,6 +1,4 @@
-use Rattle.std.proofs.Common.{◌∙◌, ◌++◌, List, ℕ, ap, codes}
-use Rattle.sym_parts.specs.declared.part.Part.{Part}
-use Rattle.json_lines.specs.Tokens.{parts_text}
+use Rattle.json_lines.proofs.Basics.{◌∙◌, ◌++◌, List, ℕ, ap, codes, Part, parts_text}
 use Rattle.json_lines.proofs.LineLemmas.{put-parts}
 use Rattle.json_lines.proofs.parts.push_parts.Goals as goal
 

@@ -1,6 +1,4 @@
-use Rattle.std.proofs.Common.{◌∙◌, codes, false}
-use Rattle.std.proofs.lemmas.Result.{on_ok_weaker}
-use Rattle.sym_parts.specs.Words.{role_name}
+use Rattle.json_lines.proofs.Basics.{◌∙◌, codes, false, on_ok_weaker, role_name}
 use Rattle.json_lines.proofs.LineLemmas.{put-word}
 use Rattle.json_lines.proofs.parts.push_role.Goals as goal
 

@@ -1,6 +1,4 @@
-use Rattle.std.proofs.Common.{◌∙◌, ◌++◌, List, ℕ, sym, ap, arith, append-nil}
-use Rattle.std.proofs.lemmas.Result.{on_ok_weaker}
-use Rattle.demangle_names.specs.Escaped.{escaped_byte}
+use Rattle.json_lines.proofs.Basics.{◌∙◌, ◌++◌, List, ℕ, sym, ap, arith, append-nil, on_ok_weaker, escaped_byte}
 use Rattle.json_lines.proofs.StringLemmas.{escape-byte}
 use Rattle.json_lines.proofs.strings.push_byte.Goals as goal
 

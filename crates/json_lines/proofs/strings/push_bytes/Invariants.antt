@@ -1,5 +1,4 @@
-use Rattle.std.proofs.Common.{◌≡◌, ◌++◌, take}
-use Rattle.json.specs.Print.{escape}
+use Rattle.json_lines.proofs.Basics.{◌≡◌, ◌++◌, take, escape}
 use Rattle.json_lines.proofs.strings.push_bytes.Given as goal
 
 abbrev pub invariant-bytes : goal.invariant-bytes

@@ -1,5 +1,4 @@
-use Rattle.std.proofs.Common.{◌∙◌, ◌++◌, List, ℕ, ap, sym, rules}
-use Rattle.std.proofs.lemmas.Result.{on_ok_weaker}
+use Rattle.json_lines.proofs.Basics.{◌∙◌, ◌++◌, List, ℕ, ap, sym, rules, on_ok_weaker}
 use Rattle.json_lines.proofs.StringLemmas.{backspace, control-code, feed, newline, return, tab}
 use Rattle.json_lines.proofs.strings.push_control.Goals as goal
 

@@ -1,5 +1,4 @@
-use Rattle.std.proofs.Common.{◌∙◌, ap, false, not}
-use Rattle.json_lines.specs.Meanings.{stays}
+use Rattle.json_lines.proofs.Basics.{◌∙◌, ap, false, not, stays}
 use Rattle.json_lines.proofs.MeaningLemmas.{text-known}
 use Rattle.json_lines.proofs.texts.has_text.Goals as goal
 

@@ -1,6 +1,5 @@
-use Rattle.std.proofs.Common.{◌∙◌, ℕ, List, sym, ap, is_some, take}
+use Rattle.json_lines.proofs.Basics.{◌∙◌, ℕ, List, sym, ap, is_some, take, text_for}
 use Rattle.std.proofs.Math.Seq.{take-length}
-use Rattle.sym_filter.specs.Runs.{text_for}
 use Rattle.json_lines.proofs.MeaningLemmas.{named-front, named-whole, named-word}
 use Rattle.json_lines.proofs.texts.named_by.Goals as goal
 

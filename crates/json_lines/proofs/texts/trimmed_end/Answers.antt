@@ -1,5 +1,4 @@
-use Rattle.std.proofs.Common.{arith}
-use Rattle.sym_filter.proofs.TryLemmas.{trimmed-all, trimmed-last}
+use Rattle.json_lines.proofs.Basics.{arith, trimmed-all, trimmed-last}
 use Rattle.json_lines.proofs.texts.trimmed_end.Goals as goal
 
 pub returns-then-word-end-lt128-clause-trimmed : goal.returns-then-word-end-lt128-clause-trimmed

@@ -1,6 +1,4 @@
-use Rattle.std.proofs.Common.{◌≡◌, ◌≤◌, length, drop, true}
-use Rattle.std.specs.List.{list_all}
-use Rattle.sym_filter.proofs.TryLemmas.{is_left_out}
+use Rattle.json_lines.proofs.Basics.{◌≡◌, ◌≤◌, length, drop, true, list_all, is_left_out}
 use Rattle.json_lines.proofs.texts.trimmed_end.Given as goal
 
 abbrev pub invariant-bytes : goal.invariant-bytes

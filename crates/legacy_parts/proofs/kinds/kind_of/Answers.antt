@@ -1,6 +1,4 @@
-use Rattle.std.proofs.Common.{ap, sym, ◌∙◌, length, take, arith}
-use Rattle.std.proofs.lemmas.List.{length-drop, length-take-le, take_rest}
-use Rattle.legacy_parts.specs.Kinds.{is_closure, kind_of_path}
+use Rattle.legacy_parts.proofs.Basics.{ap, sym, ◌∙◌, length, take, arith, length-drop, length-take-le, take_rest, is_closure, kind_of_path}
 use Rattle.legacy_parts.proofs.Whole.{has-names, kind-is, last-is, names-fit, names-within, same-path}
 use Rattle.legacy_parts.proofs.kinds.kind_of.Goals as goal
 

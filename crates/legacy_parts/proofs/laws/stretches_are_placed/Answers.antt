@@ -1,8 +1,6 @@
-use Rattle.std.proofs.Common.{ap, length, subst}
-use Rattle.sym_parts.specs.Marked.{stretches_of}
+use Rattle.legacy_parts.proofs.Basics.{ap, length, subst, stretches_of, path_marked}
 use Rattle.sym_parts.specs.Placed.{AreStretchesPlaced}
 use Rattle.sym_parts.proofs.Placing.{placed}
-use Rattle.legacy_parts.specs.Roles.{path_marked}
 use Rattle.legacy_parts.proofs.Texts.{text-path}
 use Rattle.legacy_parts.proofs.laws.stretches_are_placed.Goals as goal
 

@@ -1,5 +1,4 @@
-use Rattle.std.proofs.Common.{sym, ◌∙◌}
-use Rattle.std.proofs.lemmas.Result.{on_ok_weaker}
+use Rattle.legacy_parts.proofs.Basics.{sym, ◌∙◌, on_ok_weaker}
 use Rattle.legacy_parts.proofs.Marking.{listed-first, listed-later, more-names, one-name}
 use Rattle.legacy_parts.proofs.listing.push_names.Goals as goal
 

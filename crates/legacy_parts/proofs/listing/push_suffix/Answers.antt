@@ -1,5 +1,4 @@
-use Rattle.std.proofs.Common.{◌++◌, ap, sym, ◌∙◌, append-nil}
-use Rattle.std.proofs.lemmas.Result.{on_ok_weaker}
+use Rattle.legacy_parts.proofs.Basics.{◌++◌, ap, sym, ◌∙◌, append-nil, on_ok_weaker}
 use Rattle.legacy_parts.proofs.Marking.{listed-suffix, no-suffix_part}
 use Rattle.legacy_parts.proofs.listing.push_suffix.Goals as goal
 

@@ -1,5 +1,4 @@
-use Rattle.std.proofs.Common.{rules}
-use Rattle.legacy_parts.specs.Roles.{root_role}
+use Rattle.legacy_parts.proofs.Basics.{rules, root_role}
 use Rattle.legacy_parts.proofs.listing.root_of.Goals as goal
 
 pub returns-then-starts_with : goal.returns-then-starts_with

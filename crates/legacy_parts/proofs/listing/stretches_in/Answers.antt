@@ -1,6 +1,4 @@
-use Rattle.std.proofs.Common.{ap, ◌∙◌, arith, inl, inr}
-use Rattle.sym_parts.specs.Marked.{stretches_of}
-use Rattle.legacy_parts.specs.Roles.{path_marked}
+use Rattle.legacy_parts.proofs.Basics.{ap, ◌∙◌, arith, inl, inr, stretches_of, path_marked}
 use Rattle.legacy_parts.proofs.Marking.{all-listed}
 use Rattle.legacy_parts.proofs.Whole.{has-names, names-fit, names-within, root-is, same-path, some, suffix-length, suffix-within}
 use Rattle.legacy_parts.proofs.listing.stretches_in.Goals as goal

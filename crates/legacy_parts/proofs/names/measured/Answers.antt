@@ -1,9 +1,4 @@
-use Rattle.std.proofs.Common.{◌≡◌, ◌-◌, ◌+◌, ◌∷◌, length, take, drop, subst, arith, ap, sym, ◌∙◌}
-use Rattle.rust_legacy.specs.Path.{AreNames, Name}
-use Rattle.rust_legacy.proofs.Names.{AreNames-low, AreNames-none, some_names}
-use Rattle.rust_legacy.proofs.Paths.{first_name}
-use Rattle.legacy_parts.specs.Measures.{first_of, place_of}
-use Rattle.legacy_parts.specs.Roles.{last_of, shown}
+use Rattle.legacy_parts.proofs.Basics.{◌≡◌, ◌-◌, ◌+◌, ◌∷◌, length, take, drop, subst, arith, ap, sym, ◌∙◌, AreNames, Name, AreNames-low, AreNames-none, some_names, first_name, first_of, place_of, last_of, shown}
 use Rattle.legacy_parts.proofs.Sizes.{begun, named_first, next-one, none_named}
 use Rattle.legacy_parts.proofs.names.measured.Goals as goal
 

@@ -1,8 +1,5 @@
--- For all names that end at the hash: the one that was measured last, and those after it, are left.
-use Rattle.std.proofs.Common.{◌≡◌, ◌≤◌, ◌-◌, ◌+◌, ℕ, List, ◌∷◌, length}
-use Rattle.rust_legacy.specs.Path.{AreNames}
-use Rattle.legacy_parts.specs.Measures.{place_of}
-use Rattle.legacy_parts.specs.Roles.{last_of, shown}
+-- For all names that end at the hash: `rest` are those from the place on, and `current`, measured last, is the one before them.
+use Rattle.legacy_parts.proofs.Basics.{◌≡◌, ◌≤◌, ◌-◌, ◌+◌, ℕ, List, ◌∷◌, length, AreNames, place_of, last_of, shown}
 use Rattle.legacy_parts.proofs.names.measured.Given as goal
 
 abbrev pub invariant-names : goal.invariant-names

@@ -1,6 +1,4 @@
-use Rattle.std.proofs.Common.{◌≡◌, ◌+◌, subst, sym, ap, ◌∙◌, arith}
-use Rattle.rust_legacy.specs.Path.{AreNames}
-use Rattle.rust_legacy.proofs.Names.{AreNames-low, AreNames-none}
+use Rattle.legacy_parts.proofs.Basics.{◌≡◌, ◌+◌, subst, sym, ap, ◌∙◌, arith, AreNames, AreNames-low, AreNames-none}
 use Rattle.legacy_parts.proofs.Places.{last_after, last-begins, last-ends, one-on}
 use Rattle.legacy_parts.proofs.spelled.last_at.Goals as goal
 

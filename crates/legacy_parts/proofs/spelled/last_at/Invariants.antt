@@ -1,8 +1,6 @@
--- For all names that end at the hash: those that are left begin at the place, and the last of all is the last of them, or the
--- earlier one.
-use Rattle.std.proofs.Common.{◌≡◌, ◌≤◌, ◌-◌, ℕ, List}
-use Rattle.rust_legacy.specs.Path.{AreNames}
-use Rattle.legacy_parts.specs.Spelled.{last_at}
+-- For all names that end at the hash: the remaining ones begin at the place; the last of all names is the last remaining one or,
+-- if none remains, the one found earlier.
+use Rattle.legacy_parts.proofs.Basics.{◌≡◌, ◌≤◌, ◌-◌, ℕ, List, AreNames, last_at}
 use Rattle.legacy_parts.proofs.Places.{last_after}
 use Rattle.legacy_parts.proofs.spelled.last_at.Given as goal
 

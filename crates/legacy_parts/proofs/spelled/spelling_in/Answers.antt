@@ -1,5 +1,4 @@
-use Rattle.std.proofs.Common.{◌+◌, ap, ◌∙◌, arith}
-use Rattle.rust_legacy.proofs.Names.{AreNames-low}
+use Rattle.legacy_parts.proofs.Basics.{◌+◌, ap, ◌∙◌, arith, AreNames-low}
 use Rattle.legacy_parts.proofs.Places.{found-by, places-are, six}
 use Rattle.legacy_parts.proofs.spelled.spelling_in.Goals as goal
 

@@ -1,8 +1,4 @@
-use Rattle.std.proofs.Common.{subst, ℕ}
-use Rattle.std.proofs.lemmas.Bool.{eqb-true}
-use Rattle.sym_core.specs.declared.NameClass.TheVariants.{Rust}
-use Rattle.sym_core.specs.Token.{is_name_byte}
-use Rattle.rust_direct.specs.Lanes.{first_set, EachPasses}
+use Rattle.rust_direct.proofs.Basics.{subst, ℕ, eqb-true, Rust, is_name_byte, first_set, EachPasses}
 use Rattle.rust_direct.proofs.lanes.are_name_lanes.Goals as goal
 
 pub returns : goal.returns

@@ -1,7 +1,4 @@
-use Rattle.std.proofs.Common.{◌≤◌, subst, sym, ℕ}
-use Rattle.sym_core.specs.declared.NumberKind.TheVariants.{Base62}
-use Rattle.sym_core.specs.Number.{is_digit_of}
-use Rattle.rust_direct.specs.Lanes.{EachPasses}
+use Rattle.rust_direct.proofs.Basics.{◌≤◌, subst, sym, ℕ, Base62, is_digit_of, EachPasses}
 use Rattle.rust_direct.proofs.lanes.digit_lanes.Goals as goal
 
 pub returns : goal.returns

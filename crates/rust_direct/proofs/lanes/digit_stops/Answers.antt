@@ -1,8 +1,5 @@
-use Rattle.std.proofs.Common.{ℕ, leb, cond, bit_and, refl}
-use Rattle.std.proofs.lemmas.Simd.{zip2_splat, length-chunk}
+use Rattle.rust_direct.proofs.Basics.{ℕ, leb, cond, bit_and, refl, zip2_splat, length-chunk, Base62, is_digit_of}
 use lib.Lanes.{chunk}
-use Rattle.sym_core.specs.declared.NumberKind.TheVariants.{Base62}
-use Rattle.sym_core.specs.Number.{is_digit_of}
 use Rattle.rust_direct.proofs.LaneLemmas.{joined, splat_is, front-passes}
 use Rattle.rust_direct.proofs.lanes.digit_stops.Goals as goal
 

@@ -1,8 +1,5 @@
-use Rattle.std.proofs.Common.{ℕ, leb, cond, bit_and, refl}
-use Rattle.std.proofs.lemmas.Simd.{zip2_splat, length-chunk}
+use Rattle.rust_direct.proofs.Basics.{ℕ, leb, cond, bit_and, refl, zip2_splat, length-chunk, Rust, is_name_byte}
 use lib.Lanes.{chunk}
-use Rattle.sym_core.specs.declared.NameClass.TheVariants.{Rust}
-use Rattle.sym_core.specs.Token.{is_name_byte}
 use Rattle.rust_direct.proofs.LaneLemmas.{joined, splat_is, front-passes}
 use Rattle.rust_direct.proofs.lanes.name_stops.Goals as goal
 

@@ -1,6 +1,4 @@
-use Rattle.std.proofs.Common.{arith, Some, drop, refl}
-use Rattle.sym_core.specs.declared.NameClass.TheVariants.{Rust}
-use Rattle.sym_core.specs.Token.{IsName, HasToken}
+use Rattle.rust_direct.proofs.Basics.{arith, Some, drop, refl, Rust, IsName, HasToken}
 use Rattle.rust_direct.proofs.FoundTokens.{name-found, own-found, place-found}
 use Rattle.rust_direct.proofs.names.any_name_span.Goals as goal
 

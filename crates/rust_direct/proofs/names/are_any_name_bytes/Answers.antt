@@ -1,6 +1,4 @@
-use Rattle.std.proofs.Common.{arith}
-use Rattle.sym_core.specs.declared.NameClass.TheVariants.{Rust}
-use Rattle.sym_core.specs.Token.{is_name_byte}
+use Rattle.rust_direct.proofs.Basics.{arith, Rust, is_name_byte}
 use Rattle.rust_direct.proofs.LaneLemmas.{lanes-on, pass-on}
 use Rattle.rust_direct.proofs.NamePlaces.{few-pass}
 use Rattle.rust_direct.proofs.names.are_any_name_bytes.Goals as goal

@@ -1,8 +1,5 @@
 -- the bytes so far may be in a name
-use Rattle.std.proofs.Common.{◌≤◌, ◌-◌}
-use Rattle.sym_core.specs.declared.NameClass.TheVariants.{Rust}
-use Rattle.sym_core.specs.Token.{is_name_byte}
-use Rattle.rust_direct.specs.Lanes.{EachPasses}
+use Rattle.rust_direct.proofs.Basics.{◌≤◌, ◌-◌, Rust, is_name_byte, EachPasses}
 use Rattle.rust_direct.proofs.names.are_any_name_bytes.Given as goal
 
 abbrev pub invariant-lanes : goal.invariant-lanes

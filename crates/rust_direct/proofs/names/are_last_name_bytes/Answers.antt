@@ -1,5 +1,4 @@
-use Rattle.sym_core.specs.declared.NameClass.TheVariants.{Rust}
-use Rattle.sym_core.specs.Token.{is_name_byte}
+use Rattle.rust_direct.proofs.Basics.{Rust, is_name_byte}
 use Rattle.rust_direct.proofs.LaneLemmas.{last-pass}
 use Rattle.rust_direct.proofs.names.are_last_name_bytes.Goals as goal
 

@@ -1,10 +1,5 @@
--- The table is held against the definition at each of the 256 bytes, by computing.
-use Rattle.std.proofs.Common.{◌≡◌, ◌≤◌, ℕ, ◌<◌, Bool, true, false, map, cond, get_or, refl, sym, ap, ◌∙◌, arith, subst}
-use Rattle.std.proofs.lemmas.List.FromFn.{get_or-map-range_with_len}
-use Rattle.std.specs.List.{range_with_len}
-use Rattle.sym_core.specs.Token.{is_name_byte}
-use Rattle.sym_core.specs.declared.NameClass.TheVariants.{Rust}
-use Rattle.rust_direct.specs.declared.names.TheConstants.{BARRED}
+-- The table is compared with the definition at each of the 256 bytes, by computing.
+use Rattle.rust_direct.proofs.Basics.{◌≡◌, ◌≤◌, ℕ, ◌<◌, Bool, true, false, map, cond, get_or, refl, sym, ap, ◌∙◌, arith, subst, get_or-map-range_with_len, range_with_len, is_name_byte, Rust, BARRED}
 use Rattle.rust_direct.proofs.names.barred.Goals as goal
 
 -- what is in the table for a byte that may, or may not, be in a name

@@ -1,10 +1,5 @@
--- The table is held against the definition at each of the 256 bytes, by computing.
-use Rattle.std.proofs.Common.{◌≡◌, ℕ, ◌<◌, Bool, true, false, map, cond, get_or, refl, ap, ◌∙◌, arith, not}
-use Rattle.std.specs.Prelude.{◌==◌}
-use Rattle.std.proofs.lemmas.List.FromFn.{get_or-map-range_with_len}
-use Rattle.std.specs.List.{range_with_len}
-use Rattle.rust_direct.specs.Names.{goes_on}
-use Rattle.rust_direct.specs.declared.names.TheConstants.{LENGTH_BYTES}
+-- The table is compared with the definition at each of the 256 bytes, by computing.
+use Rattle.rust_direct.proofs.Basics.{◌≡◌, ℕ, ◌<◌, Bool, true, false, map, cond, get_or, refl, ap, ◌∙◌, arith, not, ◌==◌, get_or-map-range_with_len, range_with_len, goes_on, LENGTH_BYTES}
 use Rattle.rust_direct.proofs.names.goes_on.Goals as goal
 
 -- what is in the table for a byte that passes, or doesn't

@@ -1,7 +1,5 @@
 -- the bytes so far may be in a name
-use Rattle.std.proofs.Common.{◌≤◌, ◌-◌, length}
-use Rattle.sym_core.specs.Scan.{ReachesNameBytes}
-use Rattle.sym_core.specs.declared.NameClass.TheVariants.{Rust}
+use Rattle.rust_direct.proofs.Basics.{◌≤◌, ◌-◌, length, ReachesNameBytes, Rust}
 use Rattle.rust_direct.proofs.names.named_fours.Given as goal
 
 abbrev pub invariant-fours : goal.invariant-fours

@@ -1,9 +1,5 @@
--- The table is held against the definition at each of the 256 bytes, by computing.
-use Rattle.std.proofs.Common.{◌≡◌, ℕ, ◌<◌, Bool, true, false, map, cond, get_or, refl, ap, ◌∙◌, arith, not}
-use Rattle.std.specs.Prelude.{◌==◌}
-use Rattle.std.proofs.lemmas.List.FromFn.{get_or-map-range_with_len}
-use Rattle.std.specs.List.{range_with_len}
-use Rattle.rust_direct.specs.Holes.{is_namespace}
+-- The table is compared with the definition at each of the 256 bytes, by computing.
+use Rattle.rust_direct.proofs.Basics.{◌≡◌, ℕ, ◌<◌, Bool, true, false, map, cond, get_or, refl, ap, ◌∙◌, arith, not, ◌==◌, get_or-map-range_with_len, range_with_len, is_namespace}
 use Rattle.rust_direct.specs.declared.tokens.TheConstants.{LETTERS}
 use Rattle.rust_direct.proofs.tokens.is_namespace.Goals as goal
 

@@ -1,5 +1,4 @@
-use Rattle.std.proofs.Common.{arith, subst, ◌∷◌, []}
-use Rattle.sym_direct.specs.Holes.{StandsAt}
+use Rattle.rust_direct.proofs.Basics.{arith, subst, ◌∷◌, [], StandsAt}
 use Rattle.rust_direct.proofs.FoundTokens.{erased-found}
 use Rattle.rust_direct.proofs.wraps.behind_erased.Goals as goal
 

@@ -1,7 +1,4 @@
-use Rattle.std.proofs.Common.{◌≡◌, ◌≤◌, ◌-◌, ◌+◌, length, drop}
-use Rattle.std.specs.List.{prefix_len}
-use Rattle.sym_core.specs.Number.{is_digit_of}
-use Rattle.sym_core.specs.declared.NumberKind.TheVariants.{Hex}
+use Rattle.rust_legacy.proofs.Basics.{◌≡◌, ◌≤◌, ◌-◌, ◌+◌, length, drop, prefix_len, is_digit_of, Hex}
 use Rattle.rust_legacy.proofs.escapes.digits_in.Given as goal
 
 abbrev pub invariant-loop-at : goal.invariant-loop-at

@@ -1,6 +1,4 @@
-use Rattle.std.proofs.Common.{◌-◌, length, take, drop, subst, sym}
-use Rattle.sym_core.specs.Number.{AreDigits}
-use Rattle.sym_core.specs.declared.NumberKind.TheVariants.{Hex}
+use Rattle.rust_legacy.proofs.Basics.{◌-◌, length, take, drop, subst, sym, AreDigits, Hex}
 use Rattle.rust_legacy.proofs.Digits.{digits-front}
 use Rattle.rust_legacy.proofs.escapes.numbered.Goals as goal
 

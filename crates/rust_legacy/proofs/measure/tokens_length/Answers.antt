@@ -1,6 +1,4 @@
-use Rattle.std.proofs.Common.{◌≡◌, ◌≤◌, ◌+◌, length, drop, subst, arith, ap, ◌∙◌, sym}
-use Rattle.std.proofs.lemmas.List.{drop_all, take_rest}
-use Rattle.rust_legacy.specs.Tokens.{texts_of, token_of}
+use Rattle.rust_legacy.proofs.Basics.{◌≡◌, ◌≤◌, ◌+◌, length, drop, subst, arith, ap, ◌∙◌, sym, drop_all, take_rest, texts_of, token_of}
 use Rattle.rust_legacy.proofs.Bounds.{texts_of_few}
 use Rattle.rust_legacy.proofs.Measuring.{counted}
 use Rattle.rust_legacy.proofs.Texts.{name_text, whole_text}

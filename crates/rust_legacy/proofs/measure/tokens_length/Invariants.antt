@@ -1,6 +1,5 @@
--- What was counted, and the text of what is left, are the whole text.
-use Rattle.std.proofs.Common.{◌≡◌, ◌≤◌, ◌-◌, ◌+◌, length, drop}
-use Rattle.rust_legacy.specs.Tokens.{texts_of}
+-- The length counted so far and that of the text that is left add up to the length of the whole text.
+use Rattle.rust_legacy.proofs.Basics.{◌≡◌, ◌≤◌, ◌-◌, ◌+◌, length, drop, texts_of}
 use Rattle.rust_legacy.proofs.Texts.{whole_text}
 use Rattle.rust_legacy.proofs.measure.tokens_length.Given as goal
 

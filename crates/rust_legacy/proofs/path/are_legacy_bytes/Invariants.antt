@@ -1,6 +1,4 @@
-use Rattle.std.proofs.Common.{◌≡◌, ◌≤◌, ◌-◌, ◌&&◌, length, drop}
-use Rattle.std.specs.List.{list_all}
-use Rattle.rust_legacy.specs.Path.{is_legacy_byte}
+use Rattle.rust_legacy.proofs.Basics.{◌≡◌, ◌≤◌, ◌-◌, ◌&&◌, length, drop, list_all, is_legacy_byte}
 use Rattle.rust_legacy.proofs.path.are_legacy_bytes.Given as goal
 
 abbrev pub invariant-loop-at : goal.invariant-loop-at

@@ -1,7 +1,4 @@
-use Rattle.std.proofs.Common.{◌≡◌, ◌+◌, ◌&&◌, false, true, drop, refl, ap, sym, ◌∙◌}
-use Rattle.std.specs.Prelude.{codes}
-use Rattle.std.proofs.lemmas.List.{drop-drop}
-use Rattle.rust_legacy.specs.Path.{begins_with, is_suffix}
+use Rattle.rust_legacy.proofs.Basics.{◌≡◌, ◌+◌, ◌&&◌, false, true, drop, refl, ap, sym, ◌∙◌, codes, drop-drop, begins_with, is_suffix}
 use Rattle.rust_legacy.proofs.Digits.{rest_whole}
 use Rattle.rust_legacy.proofs.Reading.{both}
 use Rattle.rust_legacy.proofs.path.ended.Goals as goal

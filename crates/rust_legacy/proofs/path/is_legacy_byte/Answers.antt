@@ -1,8 +1,6 @@
--- The table is held against the definition at each of the 256 bytes, by computing.
-use Rattle.std.proofs.Common.{◌≡◌, ℕ, ◌<◌, false, map, get_or, refl, ap, ◌∙◌, arith}
+-- The table is compared with the definition at each of the 256 bytes, by computing.
+use Rattle.rust_legacy.proofs.Basics.{◌≡◌, ℕ, ◌<◌, false, map, get_or, refl, ap, ◌∙◌, arith, range_with_len, is_legacy_byte}
 use Rattle.std.proofs.lemmas.List.FromFn.{get_or-map-range_with_len}
-use Rattle.std.specs.List.{range_with_len}
-use Rattle.rust_legacy.specs.Path.{is_legacy_byte}
 use Rattle.rust_legacy.specs.declared.path.TheConstants.{LEGACY_BYTES}
 use Rattle.rust_legacy.proofs.path.is_legacy_byte.Goals as goal
 

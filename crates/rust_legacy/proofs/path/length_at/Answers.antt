@@ -1,7 +1,4 @@
-use Rattle.std.proofs.Common.{◌≡◌, ◌<◌, ◌+◌, ◌-◌, arith, get_or, length, true, sym, ◌∙◌}
-use Rattle.std.proofs.lemmas.List.Sums.{prefix_len-drop_yes}
-use Rattle.sym_core.specs.Number.{is_decimal_digit}
-use Rattle.sym_core.specs.declared.NumberKind.TheVariants.{Length}
+use Rattle.rust_legacy.proofs.Basics.{◌≡◌, ◌<◌, ◌+◌, ◌-◌, arith, get_or, length, true, sym, ◌∙◌, prefix_len-drop_yes, is_decimal_digit, Length}
 use Rattle.sym_core.proofs.Horner.{value_of-next, ten_more, decimal_small}
 use Rattle.rust_legacy.proofs.Lengths.{first_above}
 use Rattle.rust_legacy.proofs.path.length_at.Goals as goal

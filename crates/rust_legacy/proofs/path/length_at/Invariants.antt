@@ -1,11 +1,5 @@
 -- the digits so far, and what they denote
-use Rattle.std.proofs.Common.{◌≡◌, ◌≤◌, ◌<◌, ◌+◌, ◌-◌, ◌^◌, false, take, drop}
-use Rattle.std.specs.Prelude.{codes}
-use Rattle.std.specs.List.{prefix_len}
-use Rattle.sym_core.specs.Number.{is_decimal_digit}
-use Rattle.sym_core.specs.Value.{value_of}
-use Rattle.sym_core.specs.declared.NumberKind.TheVariants.{Length}
-use Rattle.rust_legacy.specs.Path.{begins_with}
+use Rattle.rust_legacy.proofs.Basics.{◌≡◌, ◌≤◌, ◌<◌, ◌+◌, ◌-◌, ◌^◌, false, take, drop, codes, prefix_len, is_decimal_digit, value_of, Length, begins_with}
 use Rattle.rust_legacy.proofs.path.length_at.Given as goal
 
 abbrev pub invariant-loop-to : goal.invariant-loop-to

@@ -1,7 +1,4 @@
-use Rattle.std.proofs.Common.{◌≡◌, ◌<◌, drop, arith, sym, ◌∙◌}
-use Rattle.std.specs.List.{prefix_len}
-use Rattle.std.proofs.lemmas.Bool.Decides.{nat_tests}
-use Rattle.sym_core.specs.Number.{is_decimal_digit}
+use Rattle.rust_legacy.proofs.Basics.{◌≡◌, ◌<◌, drop, arith, sym, ◌∙◌, prefix_len, nat_tests, is_decimal_digit}
 use Rattle.rust_legacy.proofs.Lengths.{first_digit, length_is}
 use Rattle.rust_legacy.proofs.path.name_length.Goals as goal
 use Rattle.rust_legacy.proofs.path.name_length.Goals.{else-length-at-eq-MOST_DIGITS-via-then-length-at-eq-MOST_DIGITS+else-has_digit, else-length-at-eq-MOST_DIGITS-via-else-length-at-eq-MOST_DIGITS}

@@ -1,5 +1,4 @@
-use Rattle.std.proofs.Common.{◌+◌, ◌-◌, take, drop, arith, subst, sym}
-use Rattle.rust_legacy.specs.Path.{AreRead}
+use Rattle.rust_legacy.proofs.Basics.{◌+◌, ◌-◌, take, drop, arith, subst, sym, AreRead}
 use Rattle.rust_legacy.proofs.Legacy.{not_begun}
 use Rattle.rust_legacy.proofs.Names.{ended_within}
 use Rattle.rust_legacy.proofs.Reading.{are_read, begun, both, match_on, next, none_there, not_nested, not_read, not_read_on, short_symbol}

@@ -1,7 +1,5 @@
 -- The names up to the place are read, or the last one has fewer bytes than its length says.
-use Rattle.std.proofs.Common.{◌≡◌, ◌≤◌, ◌<◌, ◌-◌, ◌+◌, ◌^◌, length}
-use Rattle.std.specs.Prelude.{None}
-use Rattle.rust_legacy.specs.Path.{legacy_of}
+use Rattle.rust_legacy.proofs.Basics.{◌≡◌, ◌≤◌, ◌<◌, ◌-◌, ◌+◌, ◌^◌, length, None, legacy_of}
 use Rattle.rust_legacy.proofs.Reading.{Reads}
 use Rattle.rust_legacy.proofs.path.names_of.Given as goal
 

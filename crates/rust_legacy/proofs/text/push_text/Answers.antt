@@ -1,11 +1,5 @@
-use Rattle.std.proofs.Common.{length, arith, ap, ◌∙◌}
-use Rattle.std.specs.Prelude.{Option, Some, None, Result, List, ℕ}
+use Rattle.rust_legacy.proofs.Basics.{length, arith, ap, ◌∙◌, Option, Some, None, Result, List, ℕ, Refusal, text_within, text_of, Path, shown_path}
 use Rattle.std.proofs.lemmas.List.{length-append}
-use Rattle.sym_core.specs.declared.refusal.Refusal.{Refusal}
-use Rattle.sym_print.specs.Answer.{text_within}
-use Rattle.sym_print.specs.Unshared.{text_of}
-use Rattle.rust_legacy.specs.Path.{Path}
-use Rattle.rust_legacy.specs.Text.{shown_path}
 use Rattle.rust_legacy.proofs.Short.{short_path}
 use Rattle.rust_legacy.proofs.Writing.{within_limit}
 use Rattle.rust_legacy.proofs.text.push_text.Goals as goal

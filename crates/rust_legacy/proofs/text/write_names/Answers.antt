@@ -1,9 +1,5 @@
-use Rattle.std.proofs.Common.{◌≡◌, ◌+◌, ◌-◌, ◌++◌, [], length, take, drop, subst, arith, refl, ap, sym, ◌∙◌}
-use Rattle.std.specs.Prelude.{codes}
+use Rattle.rust_legacy.proofs.Basics.{◌≡◌, ◌+◌, ◌-◌, ◌++◌, [], length, take, drop, subst, arith, refl, ap, sym, ◌∙◌, codes, cost_of, text_of, AreNames, front_at, names_parts, shown_name}
 use Rattle.std.proofs.lemmas.List.{append-nil, length-append}
-use Rattle.sym_print.specs.Unshared.{cost_of, text_of}
-use Rattle.rust_legacy.specs.Path.{AreNames}
-use Rattle.rust_legacy.specs.Text.{front_at, names_parts, shown_name}
 use Rattle.rust_legacy.proofs.Paths.{first_name, front_later, names_cost, names_cost_is, parted, text_goes, text_within}
 use Rattle.rust_legacy.proofs.Names.{AreNames-low, AreNames-none}
 use Rattle.rust_legacy.proofs.Writing.{at_exit, keeps_on, keeps_same, wider}

@@ -1,10 +1,6 @@
--- Whichever names they are: what is written, and what the rest of them show, are the whole; likewise what is spent and what is
--- left to spend.
-use Rattle.std.proofs.Common.{◌≡◌, ◌≤◌, ◌-◌, ◌+◌, ◌++◌, ℕ, List, []}
-use Rattle.sym_print.specs.Unshared.{text_of}
-use Rattle.rust_legacy.specs.Path.{AreNames}
-use Rattle.rust_legacy.specs.Text.{front_at, names_parts}
-use Rattle.rust_legacy.specs.Writing.{Keeps}
+-- For all names that may be there: the bytes written and what the remaining names show are the whole text; likewise for what was
+-- spent and what is left to spend.
+use Rattle.rust_legacy.proofs.Basics.{◌≡◌, ◌≤◌, ◌-◌, ◌+◌, ◌++◌, ℕ, List, [], text_of, AreNames, front_at, names_parts, Keeps}
 use Rattle.rust_legacy.proofs.Paths.{names_cost}
 use Rattle.rust_legacy.proofs.text.write_names.Given as goal
 

@@ -1,10 +1,5 @@
-use Rattle.std.proofs.Common.{◌≡◌, ◌-◌, ◌++◌, [], length, take, drop, subst, arith, ap, sym, ◌∙◌, append_assoc}
-use Rattle.std.specs.Prelude.{unwrap_or}
-use Rattle.std.specs.Result.{IfErr, IfOk}
+use Rattle.rust_legacy.proofs.Basics.{◌≡◌, ◌-◌, ◌++◌, [], length, take, drop, subst, arith, ap, sym, ◌∙◌, append_assoc, unwrap_or, IfErr, IfOk, cost_of, cost_of_parts, text_of, names_parts, shown_path, suffix_parts, IsRefused, IsWritten}
 use Rattle.std.proofs.lemmas.List.{length-append}
-use Rattle.sym_print.specs.Unshared.{cost_of, cost_of_parts, text_of}
-use Rattle.rust_legacy.specs.Text.{names_parts, shown_path, suffix_parts}
-use Rattle.rust_legacy.specs.Writing.{IsRefused, IsWritten}
 use Rattle.rust_legacy.proofs.Digits.{rest_whole}
 use Rattle.rust_legacy.proofs.Legacy.{some_names_of}
 use Rattle.rust_legacy.proofs.Writing.{at_exit, err_on, ok_on, wider}

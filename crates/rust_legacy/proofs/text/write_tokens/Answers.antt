@@ -1,9 +1,5 @@
-use Rattle.std.proofs.Common.{◌≡◌, ◌+◌, ◌++◌, length, drop, subst, arith, inr, ap, sym, ◌∙◌}
+use Rattle.rust_legacy.proofs.Basics.{◌≡◌, ◌+◌, ◌++◌, length, drop, subst, arith, inr, ap, sym, ◌∙◌, cost_of, text_of, name_parts, texts_of, token_of, IsRefused}
 use Rattle.std.proofs.lemmas.List.{append-nil, drop_all, length-append, take_rest}
-use Rattle.sym_print.specs.Unshared.{cost_of, text_of}
-use Rattle.rust_legacy.specs.Text.{name_parts}
-use Rattle.rust_legacy.specs.Tokens.{texts_of, token_of}
-use Rattle.rust_legacy.specs.Writing.{IsRefused}
 use Rattle.rust_legacy.proofs.Texts.{goes, limit_passed, name_cost, name_text, some_texts, token_within, whole_cost, whole_text}
 use Rattle.rust_legacy.proofs.Writing.{at_exit, keeps_on, wider}
 use Rattle.rust_legacy.proofs.text.write_tokens.Goals as goal

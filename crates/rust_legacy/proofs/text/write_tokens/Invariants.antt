@@ -1,7 +1,5 @@
--- What is written, and what is left to write, are the whole; likewise what is spent and what is left to spend.
-use Rattle.std.proofs.Common.{◌≡◌, ◌≤◌, ◌-◌, ◌+◌, ◌++◌, length, drop}
-use Rattle.rust_legacy.specs.Tokens.{texts_of}
-use Rattle.rust_legacy.specs.Writing.{Keeps}
+-- The bytes written and the text that is left are the whole text; likewise for what was spent and what is left to spend.
+use Rattle.rust_legacy.proofs.Basics.{◌≡◌, ◌≤◌, ◌-◌, ◌+◌, ◌++◌, length, drop, texts_of, Keeps}
 use Rattle.rust_legacy.proofs.Texts.{whole_cost, whole_text}
 use Rattle.rust_legacy.proofs.text.write_tokens.Given as goal
 

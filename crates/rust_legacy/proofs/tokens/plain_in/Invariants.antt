@@ -1,6 +1,4 @@
-use Rattle.std.proofs.Common.{◌≡◌, ◌≤◌, ◌-◌, ◌+◌, length, drop}
-use Rattle.std.specs.List.{prefix_len}
-use Rattle.rust_legacy.specs.Tokens.{is_plain}
+use Rattle.rust_legacy.proofs.Basics.{◌≡◌, ◌≤◌, ◌-◌, ◌+◌, length, drop, prefix_len, is_plain}
 use Rattle.rust_legacy.proofs.tokens.plain_in.Given as goal
 
 abbrev pub invariant-loop-at : goal.invariant-loop-at

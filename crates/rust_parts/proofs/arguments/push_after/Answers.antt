@@ -1,6 +1,4 @@
-use Rattle.std.proofs.lemmas.Result.{on_ok_weaker}
-use Rattle.rust_tree.specs.Layout.{unshared_of, bytes_of_part}
-use Rattle.sym_parts.proofs.Splitting.{length-of-text, cost-of-text}
+use Rattle.rust_parts.proofs.Basics.{on_ok_weaker, unshared_of, bytes_of_part, length-of-text, cost-of-text}
 use Rattle.rust_parts.proofs.Growing.{after-tasks}
 use Rattle.rust_parts.proofs.arguments.push_after.Goals as goal
 

@@ -1,11 +1,4 @@
-use Rattle.std.proofs.lemmas.Result.{on_ok_weaker}
-use Rattle.std.proofs.Common.{ap, arith, take, drop}
-use Rattle.sym_print.specs.Unshared.{steps_of_parts}
-use Rattle.sym_parts.specs.Marked.{◌before◌}
-use Rattle.rust_tree.specs.Layout.{unshared_of, bytes_of_part}
-use Rattle.rust_parts.specs.Tasks.{printed_by}
-use Rattle.sym_print.proofs.Noting.{length_of_text}
-use Rattle.sym_parts.proofs.Splitting.{length-of-text}
+use Rattle.rust_parts.proofs.Basics.{on_ok_weaker, ap, arith, take, drop, steps_of_parts, ◌before◌, unshared_of, bytes_of_part, printed_by, length_of_text, length-of-text}
 use Rattle.rust_parts.proofs.Growing.{grow-same, grow-then, grow-skip, grow-begin, as-plain}
 use Rattle.rust_parts.proofs.Measuring.{length-listed}
 use Rattle.rust_parts.proofs.Standing.{arguments-nothing, arguments-item, arguments-text, front-lengths}

@@ -1,9 +1,4 @@
-use Rattle.std.proofs.lemmas.Result.{on_ok_weaker}
-use Rattle.std.proofs.Common.{ap, arith}
-use Rattle.sym_print.specs.Unshared.{steps_of_parts, text_of}
-use Rattle.sym_parts.specs.Marked.{◌before◌}
-use Rattle.rust_tree.specs.Layout.{unshared_of, bytes_of_part}
-use Rattle.rust_parts.specs.Tasks.{printed_by}
+use Rattle.rust_parts.proofs.Basics.{on_ok_weaker, ap, arith, steps_of_parts, text_of, ◌before◌, unshared_of, bytes_of_part, printed_by}
 use Rattle.rust_parts.proofs.Growing.{grow-same, grow-then, as-plain, grow-alone, grow-after}
 use Rattle.rust_parts.proofs.Standing.{elements-nothing, elements-item, elements-text-nothing, elements-text-text, elements-text-item}
 use Rattle.rust_parts.proofs.arguments.push_elements.Goals as goal

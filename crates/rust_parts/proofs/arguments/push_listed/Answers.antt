@@ -1,7 +1,4 @@
-use Rattle.std.proofs.lemmas.Result.{on_ok_weaker}
-use Rattle.std.proofs.Common.{ap, arith}
-use Rattle.sym_print.specs.Unshared.{cost_of_parts, steps_of_parts}
-use Rattle.rust_parts.specs.Tasks.{printed_by}
+use Rattle.rust_parts.proofs.Basics.{on_ok_weaker, ap, arith, cost_of_parts, steps_of_parts, printed_by}
 use Rattle.rust_parts.proofs.Growing.{grow-same, grow-then, grow-plain, as-plain, grow-elements}
 use Rattle.rust_parts.proofs.Standing.{listed-nothing, listed-text, listed-item}
 use Rattle.rust_parts.proofs.arguments.push_listed.Goals as goal

@@ -1,7 +1,5 @@
-use Rattle.std.proofs.Common.{sym, ap, arith, ◌∙◌}
+use Rattle.rust_parts.proofs.Basics.{sym, ap, arith, ◌∙◌, slice_index, kind_of_path, kind_of_letter, kind_of_symbol}
 use Rattle.rust_parts.proofs.Sorting.{kind-crate, kind-implementation, kind-generic, kind-passed, kind-own}
-use Rattle.std.specs.Prelude.{slice_index}
-use Rattle.rust_parts.specs.Kinds.{kind_of_path, kind_of_letter, kind_of_symbol}
 use Rattle.rust_parts.proofs.kinds.kind_of.Goals as goal
 
 pub paths-init : goal.paths-init

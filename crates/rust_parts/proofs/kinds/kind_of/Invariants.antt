@@ -1,7 +1,4 @@
-use Rattle.std.proofs.Common.{◌≡◌, ◌<◌, length}
-use Rattle.rust_parts.specs.Kinds.{kind_of_path, kind_of_symbol}
-use Rattle.rust_parts.specs.Roles.{whole_of}
-use Rattle.rust_parts.specs.Sorts.{path_at}
+use Rattle.rust_parts.proofs.Basics.{◌≡◌, ◌<◌, length, kind_of_path, kind_of_symbol, whole_of, path_at}
 use Rattle.rust_parts.proofs.kinds.kind_of.Given as goal
 
 abbrev pub invariant-paths : goal.invariant-paths

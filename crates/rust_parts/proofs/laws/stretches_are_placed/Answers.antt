@@ -1,8 +1,6 @@
-use Rattle.std.proofs.Common.{ap, length, subst}
-use Rattle.sym_parts.specs.Marked.{stretches_of}
+use Rattle.rust_parts.proofs.Basics.{ap, length, subst, stretches_of, symbol_marked}
 use Rattle.sym_parts.specs.Placed.{AreStretchesPlaced}
 use Rattle.sym_parts.proofs.Placing.{placed}
-use Rattle.rust_parts.specs.Roles.{symbol_marked}
 use Rattle.rust_parts.proofs.Texts.{text-symbol}
 use Rattle.rust_parts.proofs.laws.stretches_are_placed.Goals as goal
 

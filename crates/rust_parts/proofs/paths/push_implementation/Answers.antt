@@ -1,5 +1,4 @@
-use Rattle.std.proofs.lemmas.Result.{on_ok_weaker}
-use Rattle.std.proofs.Common.{arith, refl}
+use Rattle.rust_parts.proofs.Basics.{on_ok_weaker, arith, refl}
 use Rattle.rust_parts.proofs.Growing.{grow-same, grow-begin}
 use Rattle.rust_parts.proofs.Measuring.{length-type}
 use Rattle.rust_parts.proofs.paths.push_implementation.Goals as goal

@@ -1,6 +1,4 @@
-use Rattle.std.proofs.lemmas.Result.{on_ok_weaker}
-use Rattle.std.proofs.Common.{ap, arith}
-use Rattle.sym_print.specs.Unshared.{cost_of_parts, steps_of_parts}
+use Rattle.rust_parts.proofs.Basics.{on_ok_weaker, ap, arith, cost_of_parts, steps_of_parts}
 use Rattle.rust_parts.proofs.Growing.{grow-same, grow-then, grow-name}
 use Rattle.rust_parts.proofs.Standing.{name-crate, name-implementation, name-nested-nothing, name-nested-text, name-nested-item, name-generic-nothing, name-generic-text, name-generic-item, below-nested, below-generic}
 use Rattle.rust_parts.proofs.paths.push_name.Goals as goal

@@ -1,7 +1,4 @@
-use Rattle.std.proofs.lemmas.Result.{on_ok_weaker}
-use Rattle.std.proofs.Common.{ap, arith}
-use Rattle.sym_print.specs.Unshared.{steps_of_parts}
-use Rattle.rust_parts.specs.Tasks.{printed_by}
+use Rattle.rust_parts.proofs.Basics.{on_ok_weaker, ap, arith, steps_of_parts, printed_by}
 use Rattle.rust_parts.proofs.Growing.{grow-same, grow-then, grow-plain, grow-name}
 use Rattle.rust_parts.proofs.Standing.{nested-text, nested-nothing, nested-item}
 use Rattle.rust_parts.proofs.paths.push_nested.Goals as goal

@@ -1,9 +1,4 @@
-use Rattle.std.proofs.lemmas.Result.{on_ok_weaker}
-use Rattle.std.proofs.Common.{arith}
-use Rattle.sym_print.specs.Unshared.{text_of}
-use Rattle.sym_parts.specs.Marked.{◌before◌}
-use Rattle.rust_tree.specs.Layout.{unshared_of, bytes_of_part}
-use Rattle.rust_parts.specs.Tasks.{printed_by}
+use Rattle.rust_parts.proofs.Basics.{on_ok_weaker, arith, text_of, ◌before◌, unshared_of, bytes_of_part, printed_by}
 use Rattle.rust_parts.proofs.Growing.{grow-same, grow-then, grow-plain, as-plain, grow-after}
 use Rattle.rust_parts.proofs.Standing.{trait-nothing, trait-item, trait-text-nothing, trait-text-text, trait-text-item}
 use Rattle.rust_parts.proofs.paths.push_of_trait.Goals as goal

@@ -1,7 +1,4 @@
-use Rattle.std.proofs.lemmas.Result.{on_ok_weaker}
-use Rattle.std.proofs.Common.{ap, arith}
-use Rattle.sym_print.specs.Unshared.{cost_of_parts, steps_of_parts}
-use Rattle.rust_parts.specs.Tasks.{printed_by}
+use Rattle.rust_parts.proofs.Basics.{on_ok_weaker, ap, arith, cost_of_parts, steps_of_parts, printed_by}
 use Rattle.rust_parts.proofs.Growing.{grow-same, grow-then, grow-plain, grow-whole, grow-scope}
 use Rattle.rust_parts.proofs.Standing.{scope-crate, scope-implementation, scope-nested-nothing, scope-nested-text, scope-nested-item, scope-generic-nothing, scope-generic-text, scope-generic-item, below-nested, below-generic}
 use Rattle.rust_parts.proofs.paths.push_scope.Goals as goal

@@ -1,12 +1,4 @@
-use Rattle.std.proofs.lemmas.Result.{on_ok_weaker}
-use Rattle.std.proofs.Common.{arith, refl, take, drop}
-use Rattle.sym_print.specs.Unshared.{text_of}
-use Rattle.sym_parts.specs.Marked.{◌before◌}
-use Rattle.rust_tree.specs.Layout.{unshared_of, bytes_of_part}
-use Rattle.rust_parts.specs.Tasks.{printed_by}
-use Rattle.sym_print.proofs.Noting.{length_of_text}
-use Rattle.sym_parts.proofs.Splitting.{length-of-text, cost-of-text}
-use Rattle.rust_parts.specs.Roles.{scoped}
+use Rattle.rust_parts.proofs.Basics.{on_ok_weaker, arith, refl, take, drop, text_of, ◌before◌, unshared_of, bytes_of_part, printed_by, length_of_text, length-of-text, cost-of-text, scoped}
 use Rattle.rust_parts.proofs.Growing.{grow-same, grow-then, grow-skip, grow-begin, grow-scope}
 use Rattle.rust_parts.proofs.Measuring.{length-base, length-scope}
 use Rattle.rust_parts.proofs.Standing.{front-lengths}

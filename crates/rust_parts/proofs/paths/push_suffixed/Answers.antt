@@ -1,9 +1,4 @@
-use Rattle.std.proofs.lemmas.Result.{on_ok_weaker}
-use Rattle.std.proofs.Common.{arith}
-use Rattle.sym_parts.specs.Marked.{◌before◌}
-use Rattle.rust_tree.specs.Layout.{unshared_of, bytes_of_part}
-use Rattle.rust_parts.specs.Tasks.{printed_by}
-use Rattle.sym_parts.proofs.Splitting.{length-of-text}
+use Rattle.rust_parts.proofs.Basics.{on_ok_weaker, arith, ◌before◌, unshared_of, bytes_of_part, printed_by, length-of-text}
 use Rattle.rust_parts.proofs.Growing.{grow-same, grow-then, grow-skip, grow-plain, as-plain, grow-alone}
 use Rattle.rust_parts.proofs.Standing.{suffix-nothing, suffix-item, suffix-text-nothing, suffix-text-item, suffix-text-text}
 use Rattle.rust_parts.proofs.paths.push_suffixed.Goals as goal

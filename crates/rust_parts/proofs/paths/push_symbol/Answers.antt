@@ -1,8 +1,4 @@
-use Rattle.std.proofs.lemmas.Result.{on_ok_weaker}
-use Rattle.std.proofs.Common.{ap, arith}
-use Rattle.sym_print.specs.Unshared.{steps_of_parts}
-use Rattle.rust_parts.specs.Tasks.{printed_by}
-use Rattle.rust_parts.specs.Roles.{whole_of}
+use Rattle.rust_parts.proofs.Basics.{on_ok_weaker, ap, arith, steps_of_parts, printed_by, whole_of}
 use Rattle.rust_parts.proofs.Growing.{grow-same, grow-then, as-plain, grow-name}
 use Rattle.rust_parts.proofs.Standing.{symbol-nothing, symbol-text, symbol-item}
 use Rattle.rust_parts.proofs.paths.push_symbol.Goals as goal

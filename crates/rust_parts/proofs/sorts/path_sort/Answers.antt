@@ -1,6 +1,5 @@
-use Rattle.std.proofs.Common.{sym, ◌∙◌, slice_get}
+use Rattle.rust_parts.proofs.Basics.{sym, ◌∙◌, slice_get, trees_of}
 use Rattle.rust_parts.proofs.Sorting.{is-nested, is-punycode, is-generic, is-crate}
-use Rattle.rust_tree.specs.Layout.{trees_of}
 use Rattle.rust_parts.proofs.sorts.path_sort.Goals as goal
 
 pub returns-then-found-eq-NESTED : goal.returns-then-found-eq-NESTED

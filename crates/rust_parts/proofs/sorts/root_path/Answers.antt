@@ -1,7 +1,5 @@
-use Rattle.std.proofs.Common.{ap, ◌∙◌, slice_get}
+use Rattle.rust_parts.proofs.Basics.{ap, ◌∙◌, slice_get, trees_of, symbol_in}
 use Rattle.rust_parts.proofs.Sorting.{root-parts, root-path}
-use Rattle.rust_tree.specs.Layout.{trees_of}
-use Rattle.rust_tree.specs.Nodes.{symbol_in}
 use Rattle.rust_parts.proofs.sorts.root_path.Goals as goal
 
 pub part-requires-clause-part : goal.part-requires-clause-part

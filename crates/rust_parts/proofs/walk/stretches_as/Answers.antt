@@ -1,8 +1,5 @@
-use Rattle.std.proofs.Common.{sym, ap, arith, ◌∙◌}
-use Rattle.sym_print.specs.Unshared.{cost_of}
-use Rattle.rust_parts.specs.Tasks.{printed_by, marked_of, IsApart, weight_of}
+use Rattle.rust_parts.proofs.Basics.{sym, ap, arith, ◌∙◌, cost_of, printed_by, marked_of, IsApart, weight_of, first-task, other-tasks, fits-next, smaller, goes-on, ended}
 use Rattle.rust_parts.proofs.Taking.{begins-symbol}
-use Rattle.sym_parts.proofs.Walking.{first-task, other-tasks, fits-next, smaller, goes-on, ended}
 use Rattle.rust_parts.proofs.walk.stretches_as.Goals as goal
 
 pub tasks-init : goal.tasks-init

@@ -1,11 +1,4 @@
-use Rattle.std.proofs.Common.{◌≡◌, ◌+◌, ◌≤◌, ◌++◌}
-use Rattle.std.specs.List.{All}
-use Rattle.rust_tree.specs.Layout.{shown_symbol}
-use Rattle.sym_parts.specs.Marked.{stretches_of}
-use Rattle.sym_parts.specs.Marks.{stretches_at, skipped}
-use Rattle.sym_parts.specs.Tasks.{IsTask, marks_of_tasks, weight_of_tasks}
-use Rattle.rust_parts.specs.Roles.{symbol_marked, whole_of}
-use Rattle.rust_parts.specs.Tasks.{IsApart, marked_of, weight_of}
+use Rattle.rust_parts.proofs.Basics.{◌≡◌, ◌+◌, ◌≤◌, ◌++◌, All, shown_symbol, stretches_of, stretches_at, skipped, IsTask, marks_of_tasks, weight_of_tasks, symbol_marked, whole_of, IsApart, marked_of, weight_of}
 use Rattle.rust_parts.proofs.walk.stretches_as.Given as goal
 
 abbrev pub invariant-tasks : goal.invariant-tasks

@@ -1,10 +1,5 @@
-use Rattle.std.proofs.lemmas.Result.{on_ok_weaker}
-use Rattle.std.proofs.Common.{sym, ap, arith, refl, subst, ◌++◌}
-use Rattle.rust_parts.specs.Tasks.{marked_of, IsApart, weight_of}
+use Rattle.rust_parts.proofs.Basics.{on_ok_weaker, sym, ap, arith, refl, subst, ◌++◌, marked_of, IsApart, weight_of, lists-skip, lists-begin, lists-same, Lists, IsTask, marks_of_task, marks_of_tasks, weight_of_task, skipped}
 use Rattle.rust_parts.proofs.Taking.{took-later}
-use Rattle.sym_parts.proofs.Walking.{lists-skip, lists-begin, lists-same}
-use Rattle.sym_parts.specs.Tasks.{Lists, IsTask, marks_of_task, marks_of_tasks, weight_of_task}
-use Rattle.sym_parts.specs.Marks.{skipped}
 use Rattle.rust_parts.proofs.walk.take.Goals as goal
 
 pub skip-requires : goal.skip-requires

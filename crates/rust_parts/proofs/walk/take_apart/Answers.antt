@@ -1,6 +1,4 @@
-use Rattle.std.proofs.lemmas.Result.{on_ok_weaker}
-use Rattle.std.proofs.Common.{subst}
-use Rattle.rust_parts.specs.Tasks.{IsApart}
+use Rattle.rust_parts.proofs.Basics.{on_ok_weaker, subst, IsApart}
 use Rattle.rust_parts.proofs.Taking.{elements-payable, took-name, took-scope, took-elements}
 use Rattle.rust_parts.proofs.walk.take_apart.Goals as goal
 

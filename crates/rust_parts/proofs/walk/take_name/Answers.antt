@@ -1,14 +1,7 @@
-use Rattle.std.proofs.lemmas.Result.{on_ok_weaker}
-use Rattle.std.proofs.Common.{sym, ap, arith, ◌∙◌}
-use Rattle.sym_print.specs.Unshared.{cost_of, steps_of_parts}
-use Rattle.rust_tree.specs.Layout.{MayCome}
-use Rattle.rust_parts.specs.Tasks.{printed_by}
+use Rattle.rust_parts.proofs.Basics.{on_ok_weaker, sym, ap, arith, ◌∙◌, cost_of, steps_of_parts, MayCome, printed_by, path_at, All-same, name}
 use Rattle.rust_parts.proofs.Growing.{grow-same}
 use Rattle.rust_parts.proofs.Sorting.{name-by, sort-below}
 use Rattle.rust_parts.proofs.Taking.{parts-payable}
-use Rattle.rust_parts.specs.Sorts.{path_at}
-use Rattle.std.proofs.lemmas.List.Elements.{All-same}
-use Rattle.rust_parts.specs.Roles.{name}
 use Rattle.rust_parts.proofs.walk.take_name.Goals as goal
 
 pub push_name-requires-clause-below : goal.push_name-requires-clause-below

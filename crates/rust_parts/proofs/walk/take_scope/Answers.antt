@@ -1,14 +1,7 @@
-use Rattle.std.proofs.lemmas.Result.{on_ok_weaker}
-use Rattle.std.proofs.Common.{sym, ap, arith, ◌∙◌}
-use Rattle.sym_print.specs.Unshared.{cost_of, steps_of_parts}
-use Rattle.rust_tree.specs.Layout.{MayCome}
-use Rattle.rust_parts.specs.Tasks.{printed_by}
+use Rattle.rust_parts.proofs.Basics.{on_ok_weaker, sym, ap, arith, ◌∙◌, cost_of, steps_of_parts, MayCome, printed_by, path_at, All-same, scope}
 use Rattle.rust_parts.proofs.Growing.{grow-same}
 use Rattle.rust_parts.proofs.Sorting.{scope-by, sort-below}
 use Rattle.rust_parts.proofs.Taking.{parts-payable}
-use Rattle.rust_parts.specs.Sorts.{path_at}
-use Rattle.std.proofs.lemmas.List.Elements.{All-same}
-use Rattle.rust_parts.specs.Roles.{scope}
 use Rattle.rust_parts.proofs.walk.take_scope.Goals as goal
 
 pub push_scope-requires-clause-below : goal.push_scope-requires-clause-below

@@ -1,8 +1,4 @@
-use Rattle.std.proofs.Common.{◌≡◌, ◌<◌, length, slice_get, [], ◌∷◌, ap, arith, sym, subst, length-append}
-use Rattle.rust_tree.proofs.Trees.{length-trees}
-use Rattle.rust_tree.specs.Layout.{trees_of}
-use Rattle.sym_spell.proofs.FirstOnes.{AreFirsts, first-below, none-first, firsts-more}
-use Rattle.rust_press.specs.Marks.{found_in}
+use Rattle.rust_press.proofs.Basics.{◌≡◌, ◌<◌, length, slice_get, [], ◌∷◌, ap, arith, sym, subst, length-append, length-trees, trees_of, AreFirsts, first-below, none-first, firsts-more, found_in}
 use Rattle.rust_press.proofs.KeyLemmas.{AreOne, IsKey, test, are-keys, looked-up, at-node}
 use Rattle.rust_press.proofs.numbering.first_nodes.Goals as goal
 

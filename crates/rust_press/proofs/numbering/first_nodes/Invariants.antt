@@ -1,7 +1,4 @@
-use Rattle.std.proofs.Common.{◌≡◌, length, slice_get}
-use Rattle.rust_tree.specs.Layout.{trees_of}
-use Rattle.sym_spell.proofs.FirstOnes.{AreFirsts}
-use Rattle.rust_press.specs.Marks.{IsFound, found_in}
+use Rattle.rust_press.proofs.Basics.{◌≡◌, length, slice_get, trees_of, AreFirsts, IsFound, found_in}
 use Rattle.rust_press.proofs.KeyLemmas.{IsKey}
 use Rattle.rust_press.proofs.numbering.first_nodes.Given as goal
 

@@ -1,7 +1,4 @@
-use Rattle.std.proofs.Common.{arith, rules}
-use Rattle.rust_tree.specs.Layout.{trees_of}
-use Rattle.rust_tree.specs.Nodes.{bytes_at}
-use Rattle.rust_tree.specs.Views.{fields_at}
+use Rattle.rust_press.proofs.Basics.{arith, rules, trees_of, bytes_at, fields_at}
 use Rattle.rust_press.proofs.KeyLemmas.{parts-of-three, rest-of-three, both-of-two}
 use Rattle.rust_press.proofs.numbering.key_of.Goals as goal
 

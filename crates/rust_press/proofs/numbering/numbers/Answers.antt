@@ -1,6 +1,4 @@
-use Rattle.std.proofs.Common.{length, slice_get, subst}
-use Rattle.rust_tree.specs.Layout.{trees_of}
-use Rattle.sym_spell.specs.Numbers.{number_at, AreNumbered}
+use Rattle.rust_press.proofs.Basics.{length, slice_get, subst, trees_of, number_at, AreNumbered}
 use Rattle.sym_spell.proofs.Counting.{through}
 use Rattle.rust_press.proofs.numbering.numbers.Goals as goal
 

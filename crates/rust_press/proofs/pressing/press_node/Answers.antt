@@ -1,9 +1,4 @@
-use Rattle.std.proofs.Common.{◌≡◌, length, [], ◌∷◌, ◌++◌, Some, None, slice_get, get_or, inl, inr, rules, refl, sym, ap, subst, ◌∙◌}
-use Rattle.sym_spell.specs.Numbers.{number_at}
-use Rattle.rust_press.specs.declared.pressing.Task.{Task}
-use Rattle.rust_tree.specs.Views.{fields_at}
-use Rattle.rust_press.specs.Spelled.{is_component}
-use Rattle.rust_press.specs.Tasks.{IsSpelled}
+use Rattle.rust_press.proofs.Basics.{◌≡◌, length, [], ◌∷◌, ◌++◌, Some, None, slice_get, get_or, inl, inr, rules, refl, sym, ap, subst, ◌∙◌, number_at, Task, fields_at, is_component, IsSpelled}
 use Rattle.rust_press.proofs.WriterSteps.{spelled-is, none-there}
 use Rattle.rust_press.proofs.pressing.press_node.Goals.{then-is_component+in_default+in_ok-push, else-is_component}
 use Rattle.rust_press.proofs.pressing.press_node.Goals as goal

@@ -1,10 +1,4 @@
-use Rattle.std.proofs.Common.{◌≡◌, ◌++◌, length, Some, slice_get, rules, ap, sym, subst, ◌∙◌}
-use Rattle.rust_tree.specs.Tree.{of_symbol}
-use Rattle.rust_tree.specs.Layout.{trees_of}
-use Rattle.rust_tree.specs.Views.{fields_at, IsView}
-use Rattle.rust_v0.specs.Whole.{whole_of}
-use Rattle.rust_press.specs.OfRead.{pressed_symbol}
-use Rattle.rust_press.specs.Short.{IsShort}
+use Rattle.rust_press.proofs.Basics.{◌≡◌, ◌++◌, length, Some, slice_get, rules, ap, sym, subst, ◌∙◌, of_symbol, trees_of, fields_at, IsView, whole_of, pressed_symbol, IsShort}
 use Rattle.rust_press.proofs.ShortSymbol.{pressed-is-short}
 use Rattle.rust_press.proofs.WriterSteps.{symbol-bytes}
 use Rattle.rust_press.proofs.pressing.press_rust.Goals as goal

@@ -1,12 +1,6 @@
-use Rattle.std.proofs.Common.{◌≡◌, ◌<◌, ◌++◌, ◌∷◌, [], length, slice_get, Some, rules, arith, ap, sym, subst, ◌∙◌}
-use Rattle.rust_tree.proofs.Trees.{length-trees}
-use Rattle.rust_tree.specs.Layout.{trees_of}
-use Rattle.sym_spell.specs.Numbers.{number_at}
-use Rattle.rust_press.specs.Tasks.{press_root, placed, IsNodeStep}
-use Rattle.rust_press.specs.declared.pressing.Task.{Task}
+use Rattle.rust_press.proofs.Basics.{◌≡◌, ◌<◌, ◌++◌, ◌∷◌, [], length, slice_get, Some, rules, arith, ap, sym, subst, ◌∙◌, length-trees, trees_of, number_at, press_root, placed, IsNodeStep, Task, of_symbol}
 use Rattle.rust_press.proofs.WriterSteps.{components-last, goes-first, popped, node-goes, end-goes, node-there, end-there}
 use Rattle.rust_press.proofs.ComponentCount.{few-components}
-use Rattle.rust_tree.specs.Tree.{of_symbol}
 use Rattle.rust_press.proofs.pressing.press_tasks.Goals as goal
 
 pub tasks-init : goal.tasks-init

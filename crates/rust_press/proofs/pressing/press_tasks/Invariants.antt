@@ -1,6 +1,4 @@
-use Rattle.rust_tree.specs.Layout.{trees_of}
-use Rattle.rust_press.specs.Numbers.{AreFirst}
-use Rattle.rust_press.specs.Tasks.{Goes, weight_of_tasks, press_root}
+use Rattle.rust_press.proofs.Basics.{trees_of, AreFirst, Goes, weight_of_tasks, press_root}
 use Rattle.rust_press.proofs.pressing.press_tasks.Given as goal
 
 abbrev pub invariant-tasks : goal.invariant-tasks

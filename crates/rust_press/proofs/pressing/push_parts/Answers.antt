@@ -1,7 +1,4 @@
-use Rattle.std.proofs.Common.{◌<◌, length, arith}
-use Rattle.rust_tree.proofs.Trees.{length-trees}
-use Rattle.rust_tree.specs.Layout.{trees_of}
-use Rattle.rust_tree.specs.Views.{fields_at}
+use Rattle.rust_press.proofs.Basics.{◌<◌, length, arith, length-trees, trees_of, fields_at}
 use Rattle.rust_press.proofs.WriterSteps.{pushed-more}
 use Rattle.rust_press.proofs.pressing.push_parts.Goals as goal
 

@@ -1,6 +1,4 @@
-use Rattle.std.proofs.Common.{◌≤◌, length, drop}
-use Rattle.rust_tree.specs.Views.{fields_at}
-use Rattle.rust_press.specs.Tasks.{ArePushed}
+use Rattle.rust_press.proofs.Basics.{◌≤◌, length, drop, fields_at, ArePushed}
 use Rattle.rust_press.proofs.pressing.push_parts.Given as goal
 
 abbrev pub invariant-loop-left : goal.invariant-loop-left

@@ -1,4 +1,4 @@
--- None of the paths before the one that comes next adds a name.
+-- None of the paths before the next one adds a name.
 use Rattle.std.proofs.Common.{◌≡◌, drop}
 use Rattle.rust_spelled.specs.Paths.{first_named}
 use Rattle.rust_spelled.proofs.paths.first_named.Given as goal

@@ -1,5 +1,4 @@
-use Rattle.std.proofs.Common.{◌-◌, ◌/◌, ◌<◌, ap, arith, rules, false}
-use Rattle.std.specs.Fmt.{digits, digits_onto}
+use Rattle.rust_tree.proofs.Basics.{◌-◌, ◌/◌, ◌<◌, ap, arith, rules, false, digits, digits_onto}
 use Rattle.rust_tree.proofs.Hexadecimals.{drop-all, reach-less, some-left, digit-kept, digit-written}
 use Rattle.rust_tree.proofs.constants.write_hexadecimal.Goals as goal
 

@@ -1,6 +1,4 @@
-use Rattle.std.proofs.Common.{◌+◌, ◌≡◌, ◌<◌, ◌≤◌, drop, length, false}
-use Rattle.std.specs.Fmt.{digits, digits_onto}
-use Rattle.rust_tree.specs.Hexadecimal.{reach}
+use Rattle.rust_tree.proofs.Basics.{◌+◌, ◌≡◌, ◌<◌, ◌≤◌, drop, length, false, digits, digits_onto, reach}
 use Rattle.rust_tree.proofs.constants.write_hexadecimal.Given as goal
 
 abbrev pub invariant-digits : goal.invariant-digits

@@ -1,7 +1,4 @@
-use Rattle.std.proofs.Common.{◌≡◌, ℕ, ◌≤◌, arith, ◌∙◌, refl}
-use Rattle.std.proofs.lemmas.Option.{slice_get_past}
-use Rattle.rust_tree.specs.Texts.{fixed_text, texts}
-use Rattle.rust_tree.specs.Shown.{basic_text}
+use Rattle.rust_tree.proofs.Basics.{◌≡◌, ℕ, ◌≤◌, arith, ◌∙◌, refl, slice_get_past, fixed_text, texts, basic_text}
 use Rattle.rust_tree.proofs.texts.fixed_text.Goals as goal
 
 past : (n : ℕ) → 40 ≤ n → basic_text n ≡ fixed_text n

@@ -1,5 +1,4 @@
-use Rattle.std.proofs.Common.{◌≡◌, ◌-◌, ◌≤◌, length, drop}
-use Rattle.rust_grammar.specs.Unfold.{value16}
+use Rattle.rust_v0.proofs.Basics.{◌≡◌, ◌-◌, ◌≤◌, length, drop, value16}
 use Rattle.rust_v0.proofs.tokens.without_zeros.Given as goal
 
 abbrev pub invariant-loop-zeros : goal.invariant-loop-zeros

@@ -1,5 +1,4 @@
-use Rattle.std.proofs.Common.{◌∙◌, ◌+◌, ◌++◌, [], sym, ap, length, take, if◌then◌else◌}
-use Rattle.short_names.specs.Names.{front_size, is_constructor, last_part}
+use Rattle.short_names.proofs.Basics.{◌∙◌, ◌+◌, ◌++◌, [], sym, ap, length, take, if◌then◌else◌, front_size, is_constructor, last_part}
 use Rattle.short_names.proofs.CloseLemmas.{none-answered, some-answered}
 use Rattle.short_names.proofs.closing.append_constructor.Goals as goal
 

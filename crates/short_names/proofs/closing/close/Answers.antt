@@ -1,7 +1,4 @@
-use Rattle.std.proofs.Common.{◌∙◌, ◌-◌, ◌++◌, ◌∷◌, [], ℕ, List, sym, ap, arith, length, take, drop, codes}
-use Rattle.short_names.specs.Elements.{alias_in, aliases_of, left_of}
-use Rattle.short_names.specs.Short.{constructor, if_read_back}
-use Rattle.short_names.specs.Texts.{text_of}
+use Rattle.short_names.proofs.Basics.{◌∙◌, ◌-◌, ◌++◌, ◌∷◌, [], ℕ, List, sym, ap, arith, length, take, drop, codes, alias_in, aliases_of, left_of, constructor, if_read_back, text_of}
 use Rattle.short_names.proofs.ElementLemmas.{starts-length}
 use Rattle.short_names.proofs.CloseLemmas.{slice-elements, name-place, name-within, usual-answer, polymorphic-answer, plain-answer}
 use Rattle.short_names.proofs.closing.close.Goals as goal

@@ -1,6 +1,4 @@
-use Rattle.std.proofs.Common.{◌∙◌, ◌||◌, not, sym, ap₂}
-use Rattle.short_names.specs.Names.{class_of, last_part}
-use Rattle.short_names.specs.Texts.{text_of}
+use Rattle.short_names.proofs.Basics.{◌∙◌, ◌||◌, not, sym, ap₂, class_of, last_part, text_of}
 use Rattle.short_names.proofs.NameLemmas.{no-colons}
 use Rattle.short_names.proofs.closing.is_own.Goals as goal
 

@@ -1,7 +1,5 @@
-use Rattle.std.proofs.Common.{◌∙◌, sym, ap}
+use Rattle.short_names.proofs.Basics.{◌∙◌, sym, ap, is_read_back, STD, STRING_LIST}
 use lib.Pointwise.{bytes_decides}
-use Rattle.short_names.specs.Short.{is_read_back}
-use Rattle.short_names.specs.declared.table.TheConstants.{STD, STRING_LIST}
 use Rattle.short_names.proofs.StringLemmas.{place_is, string_row}
 use Rattle.short_names.proofs.closing.is_string.Goals as goal
 

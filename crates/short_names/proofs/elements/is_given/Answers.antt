@@ -1,5 +1,4 @@
-use Rattle.std.proofs.Common.{not, sym, ap, ◌∙◌}
-use Rattle.std.proofs.lemmas.Bool.{and_left}
+use Rattle.short_names.proofs.Basics.{not, sym, ap, ◌∙◌, and_left}
 use Rattle.short_names.proofs.NameLemmas.{both-hold}
 use Rattle.short_names.proofs.elements.is_given.Goals as goal
 

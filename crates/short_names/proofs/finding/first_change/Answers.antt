@@ -1,6 +1,4 @@
-use Rattle.std.proofs.Common.{◌∙◌, sym, ap, length, arith}
-use Rattle.std.proofs.lemmas.List.{take_rest}
-use Rattle.short_names.specs.Runs.{run_of, begins_std}
+use Rattle.short_names.proofs.Basics.{◌∙◌, sym, ap, length, arith, take_rest, run_of, begins_std}
 use Rattle.short_names.proofs.OutsideLemmas.{begins-at}
 use Rattle.short_names.proofs.FindingLemmas.{begins-run, plain_more, plain_to}
 use Rattle.short_names.proofs.NameSteps.{change_here}

@@ -1,5 +1,4 @@
-use Rattle.std.proofs.Common.{◌≤◌, ◌-◌, length}
-use Rattle.short_names.specs.Plain.{IsPlain}
+use Rattle.short_names.proofs.Basics.{◌≤◌, ◌-◌, length, IsPlain}
 use Rattle.short_names.proofs.finding.first_change.Given as goal
 
 abbrev pub invariant-names : goal.invariant-names

@@ -1,6 +1,4 @@
-use Rattle.std.proofs.Common.{◌≡◌, ◌≤◌, ◌+◌, ◌++◌, false, length, drop, sym, ap, ◌∙◌, arith, length-drop, eqb-true}
-use Rattle.std.proofs.lemmas.Bool.{not-false}
-use Rattle.short_names.specs.Inlines.{front, inner, nested, without_inlines}
+use Rattle.short_names.proofs.Basics.{◌≡◌, ◌≤◌, ◌+◌, ◌++◌, false, length, drop, sym, ap, ◌∙◌, arith, length-drop, eqb-true, not-false, front, inner, nested, without_inlines}
 use Rattle.short_names.proofs.FrontLemmas.{rest-all}
 use Rattle.short_names.proofs.InlineLemmas.{from_on, piece, some-left-out, none-left-out, all-copied}
 use Rattle.short_names.proofs.inlines.append_without.Goals as goal

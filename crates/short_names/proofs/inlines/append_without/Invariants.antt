@@ -1,5 +1,4 @@
-use Rattle.std.proofs.Common.{◌≡◌, ◌≤◌, ◌++◌, ◌-◌, length, false}
-use Rattle.short_names.specs.Inlines.{without_inlines}
+use Rattle.short_names.proofs.Basics.{◌≡◌, ◌≤◌, ◌++◌, ◌-◌, length, false, without_inlines}
 use Rattle.short_names.proofs.InlineLemmas.{from_on, piece}
 use Rattle.short_names.proofs.inlines.append_without.Given as goal
 

@@ -1,6 +1,5 @@
 use Rattle.std.proofs.Common.{length, drop, sym, ap, ◌∙◌, arith, length-drop, drop-drop}
-use Rattle.short_names.specs.Inlines.{inlines_size}
-use Rattle.short_names.specs.Names.{size_of, row_in}
+use Rattle.short_names.proofs.Basics.{inlines_size, size_of, row_in}
 use Rattle.short_names.proofs.FrontLemmas.{rest-all, first-dropped}
 use Rattle.short_names.proofs.InlineLemmas.{size-behind, size-none, size-other, size-end}
 use Rattle.short_names.proofs.inlines.inlines_size.Goals as goal

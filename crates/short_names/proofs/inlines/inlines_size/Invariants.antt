@@ -1,5 +1,4 @@
-use Rattle.std.proofs.Common.{◌≡◌, ◌≤◌, ◌+◌, ◌-◌, length, drop}
-use Rattle.short_names.specs.Inlines.{inlines_size}
+use Rattle.short_names.proofs.Basics.{◌≡◌, ◌≤◌, ◌+◌, ◌-◌, length, drop, inlines_size}
 use Rattle.short_names.proofs.inlines.inlines_size.Given as goal
 
 abbrev pub invariant-names : goal.invariant-names

@@ -1,6 +1,4 @@
-use Rattle.std.proofs.Common.{◌∙◌, sym, ap}
-use Rattle.short_names.specs.Full.{full}
-use Rattle.short_names.specs.Short.{short}
+use Rattle.short_names.proofs.Basics.{◌∙◌, sym, ap, full, short}
 use Rattle.short_names.proofs.laws.alike_texts_are_alike.Goals as goal
 
 pub returns : goal.returns

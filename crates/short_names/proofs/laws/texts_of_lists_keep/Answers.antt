@@ -1,6 +1,4 @@
-use Rattle.std.proofs.Common.{◌∙◌, sym, ap}
-use Rattle.short_names.specs.Full.{full}
-use Rattle.short_names.specs.Short.{short}
+use Rattle.short_names.proofs.Basics.{◌∙◌, sym, ap, full, short}
 use Rattle.short_names.proofs.PartLaws.{made-keeps-full, made-keeps-short}
 use Rattle.short_names.proofs.UsualNames.{made-adaptor, made-full, made-map, made-usual, simple-names}
 use Rattle.short_names.proofs.UsualRows.{usual-names}

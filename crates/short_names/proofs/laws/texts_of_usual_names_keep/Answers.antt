@@ -1,6 +1,4 @@
-use Rattle.std.proofs.Common.{◌∙◌, sym, ap}
-use Rattle.short_names.specs.Full.{full}
-use Rattle.short_names.specs.Short.{short}
+use Rattle.short_names.proofs.Basics.{◌∙◌, sym, ap, full, short}
 use Rattle.short_names.proofs.UsualLaws.{whole-keeps-full, whole-keeps-short}
 use Rattle.short_names.proofs.UsualNames.{inlined-string, std-stream, std-string, string-constructors, string-member}
 use Rattle.short_names.proofs.laws.texts_of_usual_names_keep.Goals as goal

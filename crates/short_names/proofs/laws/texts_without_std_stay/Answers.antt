@@ -1,6 +1,4 @@
-use Rattle.std.proofs.Common.{ap}
-use Rattle.short_names.specs.Full.{full}
-use Rattle.short_names.specs.Short.{short}
+use Rattle.short_names.proofs.Basics.{ap, full, short}
 use Rattle.short_names.proofs.OtherLemmas.{full-stays, no-rows, short-stays}
 use Rattle.short_names.proofs.laws.texts_without_std_stay.Goals as goal
 

@@ -1,5 +1,4 @@
-use Rattle.std.proofs.Common.{[], take, sym, ap, ◌∙◌, length-take-le, if◌then◌else◌}
-use Rattle.short_names.specs.Names.{front_size}
+use Rattle.short_names.proofs.Basics.{[], take, sym, ap, ◌∙◌, length-take-le, if◌then◌else◌, front_size}
 use Rattle.short_names.proofs.NameLemmas.{colons-from}
 use Rattle.short_names.proofs.names.before_constructor.Goals as goal
 

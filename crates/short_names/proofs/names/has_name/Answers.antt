@@ -1,10 +1,4 @@
-use Rattle.std.proofs.Common.{nat_eq, sym, ap, ◌∙◌, ne_eqb}
-use Rattle.std.specs.Cmp.Lexicographic.{pointwise}
-use Rattle.std.proofs.lemmas.Option.{get_or_from_slice_get}
-use Rattle.short_names.specs.declared.table.Place.{Place}
-use Rattle.short_names.specs.declared.table.Template.{Template}
-use Rattle.short_names.specs.declared.table.TheConstants.{TEMPLATES}
-use Rattle.short_names.specs.Texts.{text_of}
+use Rattle.short_names.proofs.Basics.{nat_eq, sym, ap, ◌∙◌, ne_eqb, pointwise, get_or_from_slice_get, Place, Template, TEMPLATES, text_of}
 use Rattle.short_names.proofs.TemplateLemmas.{other-here}
 use Rattle.short_names.proofs.names.has_name.Goals as goal
 

@@ -1,6 +1,4 @@
-use Rattle.std.proofs.Common.{length, drop, Some, sym, ap, ◌∙◌, arith}
-use Rattle.short_names.specs.declared.table.TheConstants.{WHOLES}
-use Rattle.short_names.specs.Names.{behind_part, size_of}
+use Rattle.short_names.proofs.Basics.{length, drop, Some, sym, ap, ◌∙◌, arith, WHOLES, behind_part, size_of}
 use Rattle.short_names.proofs.FrontLemmas.{rest-all}
 use Rattle.short_names.proofs.NameLemmas.{std-none, std-found}
 use Rattle.short_names.proofs.RowLemmas.{row-length}

@@ -1,6 +1,4 @@
-use Rattle.std.proofs.Common.{◌+◌, not, length, drop, get_or, nat_eq, sym, ap, ◌∙◌}
-use Rattle.std.specs.List.{starts_with}
-use Rattle.short_names.specs.Runs.{is_letter}
+use Rattle.short_names.proofs.Basics.{◌+◌, not, length, drop, get_or, nat_eq, sym, ap, ◌∙◌, starts_with, is_letter}
 use Rattle.short_names.proofs.FrontLemmas.{rest-all}
 use Rattle.short_names.proofs.NameLemmas.{no-colons, no-class, with-class}
 use Rattle.short_names.proofs.names.is_constructor.Goals as goal

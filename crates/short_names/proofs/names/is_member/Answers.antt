@@ -1,7 +1,4 @@
-use Rattle.std.proofs.Common.{length, drop, nat_eq, sym, ap, ap₂, ◌∙◌, arith}
-use Rattle.std.specs.List.{starts_with}
-use Rattle.std.proofs.lemmas.Bool.{and_left}
-use Rattle.short_names.specs.Names.{is_constructor, last_part}
+use Rattle.short_names.proofs.Basics.{length, drop, nat_eq, sym, ap, ap₂, ◌∙◌, arith, starts_with, and_left, is_constructor, last_part}
 use Rattle.short_names.proofs.FrontLemmas.{rest-all, front-length}
 use Rattle.short_names.proofs.NameLemmas.{both-hold, run-room}
 use Rattle.short_names.proofs.names.is_member.Goals as goal

@@ -1,7 +1,4 @@
-use Rattle.std.proofs.Common.{◌≡◌, ◌+◌, ◌-◌, suc, not, length, drop, sym, ap, ◌∙◌, arith, eq-eqb, ne_eqb}
-use Rattle.std.specs.List.{list_all}
-use Rattle.std.proofs.lemmas.List.{drop_all}
-use Rattle.short_names.specs.Names.{is_no_colon}
+use Rattle.short_names.proofs.Basics.{◌≡◌, ◌+◌, ◌-◌, suc, not, length, drop, sym, ap, ◌∙◌, arith, eq-eqb, ne_eqb, list_all, drop_all, is_no_colon}
 use Rattle.short_names.proofs.FrontLemmas.{rest-all}
 use Rattle.short_names.proofs.NameLemmas.{end-whole, end-behind, one-more-passes}
 use Rattle.short_names.proofs.names.last_part.Goals as goal

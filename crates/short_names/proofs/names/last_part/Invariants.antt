@@ -1,6 +1,4 @@
-use Rattle.std.proofs.Common.{◌≡◌, ◌≤◌, length, drop, true}
-use Rattle.std.specs.List.{list_all}
-use Rattle.short_names.specs.Names.{is_no_colon}
+use Rattle.short_names.proofs.Basics.{◌≡◌, ◌≤◌, length, drop, true, list_all, is_no_colon}
 use Rattle.short_names.proofs.names.last_part.Given as goal
 
 abbrev pub invariant-bytes : goal.invariant-bytes

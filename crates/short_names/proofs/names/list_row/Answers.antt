@@ -1,5 +1,4 @@
-use Rattle.std.proofs.Common.{sym, ◌∙◌}
-use Rattle.std.proofs.lemmas.Bool.{and_left}
+use Rattle.short_names.proofs.Basics.{sym, ◌∙◌, and_left}
 use Rattle.short_names.proofs.ChangeLemmas.{row-or-none}
 use Rattle.short_names.proofs.names.list_row.Goals as goal
 

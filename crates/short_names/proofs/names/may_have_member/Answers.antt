@@ -1,7 +1,4 @@
-use Rattle.std.proofs.Common.{sym, ap, ◌∙◌, arith}
-use Rattle.std.proofs.lemmas.List.{nil_from_length}
-use Rattle.short_names.specs.declared.table.TheConstants.{ALIASES}
-use Rattle.short_names.specs.Names.{member_in}
+use Rattle.short_names.proofs.Basics.{sym, ap, ◌∙◌, arith, nil_from_length, ALIASES, member_in}
 use Rattle.short_names.proofs.NameLemmas.{no-usual, no-name, no-colon}
 use Rattle.short_names.proofs.names.may_have_member.Goals as goal
 

@@ -1,8 +1,4 @@
-use Rattle.std.proofs.Common.{◌≤◌, ◌+◌, ◌-◌, length, sym, ap, ◌∙◌, arith, rules}
-use Rattle.short_names.specs.declared.table.Alias.{Alias}
-use Rattle.short_names.specs.declared.table.TheConstants.{ALIASES}
-use Rattle.short_names.specs.Names.{member_in}
-use Rattle.short_names.specs.Runs.{run_of}
+use Rattle.short_names.proofs.Basics.{◌≤◌, ◌+◌, ◌-◌, length, sym, ap, ◌∙◌, arith, rules, Alias, ALIASES, member_in, run_of}
 use Rattle.short_names.proofs.FrontLemmas.{rest-all}
 use Rattle.short_names.proofs.ChangeLemmas.{name-within, run-within, name-run, no-member-change, member-change, member-within}
 use Rattle.short_names.proofs.names.member_change.Goals as goal

@@ -1,6 +1,4 @@
-use Rattle.std.proofs.Common.{sym, ◌∙◌, arith}
-use Rattle.short_names.specs.declared.table.Alias.{Alias}
-use Rattle.short_names.specs.declared.table.TheConstants.{ALIASES}
+use Rattle.short_names.proofs.Basics.{sym, ◌∙◌, arith, Alias, ALIASES}
 use Rattle.short_names.proofs.NameLemmas.{member-past, member-here, member-end}
 use Rattle.short_names.proofs.names.member_row.Goals as goal
 

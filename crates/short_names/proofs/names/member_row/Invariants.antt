@@ -1,6 +1,4 @@
-use Rattle.std.proofs.Common.{◌≡◌, ◌≤◌, ◌-◌, length, drop}
-use Rattle.short_names.specs.declared.table.TheConstants.{ALIASES}
-use Rattle.short_names.specs.Names.{member_in}
+use Rattle.short_names.proofs.Basics.{◌≡◌, ◌≤◌, ◌-◌, length, drop, ALIASES, member_in}
 use Rattle.short_names.proofs.names.member_row.Given as goal
 
 abbrev pub invariant-rows : goal.invariant-rows

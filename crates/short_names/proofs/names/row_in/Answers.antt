@@ -1,6 +1,4 @@
-use Rattle.std.proofs.Common.{nat_eq, sym, ap, ◌∙◌, arith}
-use Rattle.std.specs.List.{starts_with}
-use Rattle.short_names.specs.declared.table.Place.{Place}
+use Rattle.short_names.proofs.Basics.{nat_eq, sym, ap, ◌∙◌, arith, starts_with, Place}
 use Rattle.short_names.proofs.RowLemmas.{rows-past, rows-found, rows-end}
 use Rattle.short_names.proofs.names.row_in.Goals as goal
 

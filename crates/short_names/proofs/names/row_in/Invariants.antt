@@ -1,5 +1,4 @@
-use Rattle.std.proofs.Common.{◌≡◌, ◌≤◌, ◌-◌, length, drop}
-use Rattle.short_names.specs.Names.{row_in}
+use Rattle.short_names.proofs.Basics.{◌≡◌, ◌≤◌, ◌-◌, length, drop, row_in}
 use Rattle.short_names.proofs.names.row_in.Given as goal
 
 abbrev pub invariant-rows : goal.invariant-rows

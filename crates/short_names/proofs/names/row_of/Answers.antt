@@ -1,7 +1,4 @@
-use Rattle.std.proofs.Common.{◌<◌, length, get_or, refl, ◌∙◌, arith}
-use Rattle.short_names.specs.declared.table.Place.{Place}
-use Rattle.short_names.specs.declared.table.Template.{Template}
-use Rattle.short_names.specs.declared.table.TheConstants.{TEMPLATES, FIRST}
+use Rattle.short_names.proofs.Basics.{◌<◌, length, get_or, refl, ◌∙◌, arith, Place, Template, TEMPLATES, FIRST}
 use Rattle.short_names.proofs.TemplateLemmas.{from-first, none-behind, none-longer, row-past, named-here, found-here}
 use Rattle.short_names.proofs.names.row_of.Goals as goal
 

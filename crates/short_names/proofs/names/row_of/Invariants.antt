@@ -1,6 +1,4 @@
-use Rattle.std.proofs.Common.{◌≡◌, ◌-◌, length, drop}
-use Rattle.short_names.specs.declared.table.TheConstants.{TEMPLATES}
-use Rattle.short_names.specs.Names.{template_in}
+use Rattle.short_names.proofs.Basics.{◌≡◌, ◌-◌, length, drop, TEMPLATES, template_in}
 use Rattle.short_names.proofs.names.row_of.Given as goal
 
 abbrev pub invariant-rows : goal.invariant-rows

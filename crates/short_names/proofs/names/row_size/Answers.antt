@@ -1,5 +1,4 @@
-use Rattle.std.proofs.Common.{length, ap, arith}
-use Rattle.short_names.specs.Names.{size_of}
+use Rattle.short_names.proofs.Basics.{length, ap, arith, size_of}
 use Rattle.short_names.proofs.RowLemmas.{row-length}
 use Rattle.short_names.proofs.names.row_size.Goals as goal
 

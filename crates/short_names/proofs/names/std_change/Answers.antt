@@ -1,7 +1,4 @@
-use Rattle.std.proofs.Common.{◌&&◌, length, drop, nat_eq, codes, is_some, sym, ap, ◌∙◌}
-use Rattle.std.specs.List.{starts_with}
-use Rattle.short_names.specs.declared.table.TheConstants.{TEMPLATES}
-use Rattle.short_names.specs.Names.{template_in, with_template}
+use Rattle.short_names.proofs.Basics.{◌&&◌, length, drop, nat_eq, codes, is_some, sym, ap, ◌∙◌, starts_with, TEMPLATES, template_in, with_template}
 use Rattle.short_names.proofs.FrontLemmas.{rest-all}
 use Rattle.short_names.proofs.ChangeLemmas.{named-is, list-is, run-within}
 use Rattle.short_names.proofs.names.std_change.Goals as goal

@@ -1,5 +1,4 @@
-use Rattle.std.proofs.Common.{◌≡◌, ◌-◌, length, take, drop, get_or, Some, sym, ap, ◌∙◌}
-use Rattle.short_names.specs.declared.table.TheConstants.{STD}
+use Rattle.short_names.proofs.Basics.{◌≡◌, ◌-◌, length, take, drop, get_or, Some, sym, ap, ◌∙◌, STD}
 use Rattle.short_names.proofs.FrontLemmas.{rest-all, first-dropped}
 use Rattle.short_names.proofs.NameLemmas.{std-plain, std-room, no-low}
 use Rattle.short_names.proofs.names.std_name.Goals as goal

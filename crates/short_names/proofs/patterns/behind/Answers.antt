@@ -1,6 +1,4 @@
-use Rattle.std.proofs.Common.{◌≡◌, ◌≢◌, ◌++◌, ℕ, List, MatchOption, subst}
-use Rattle.std.proofs.lemmas.Slice.Eq.{strip_prefix_is}
-use Rattle.std.proofs.lemmas.Bool.Decides.{Decides-eqb}
+use Rattle.short_names.proofs.Basics.{◌≡◌, ◌≢◌, ◌++◌, ℕ, List, MatchOption, subst, strip_prefix_is, Decides-eqb}
 use Rattle.short_names.proofs.patterns.behind.Goals as goal
 
 pub returns-then-byte-lt4 : goal.returns-then-byte-lt4

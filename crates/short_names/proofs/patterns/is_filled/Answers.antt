@@ -1,5 +1,4 @@
-use Rattle.std.proofs.Common.{refl, ◌∙◌, arith}
-use Rattle.short_names.specs.Patterns.{filled}
+use Rattle.short_names.proofs.Basics.{refl, ◌∙◌, arith, filled}
 use Rattle.short_names.proofs.PatternLemmas.{filled-more, filled-stops, filled-ends}
 use Rattle.short_names.proofs.patterns.is_filled.Goals as goal
 

@@ -1,5 +1,4 @@
-use Rattle.std.proofs.Common.{◌≡◌, ◌++◌, ◌≤◌, ◌-◌, take, length}
-use Rattle.short_names.specs.Patterns.{filled}
+use Rattle.short_names.proofs.Basics.{◌≡◌, ◌++◌, ◌≤◌, ◌-◌, take, length, filled}
 use Rattle.short_names.proofs.patterns.is_filled.Given as goal
 
 abbrev pub invariant-pattern : goal.invariant-pattern

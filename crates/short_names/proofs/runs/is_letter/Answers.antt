@@ -1,8 +1,6 @@
 -- The table agrees with the definition at each of the 256 bytes, by computing.
-use Rattle.std.proofs.Common.{◌≡◌, ℕ, ◌==◌, ◌<◌, Bool, true, false, map, cond, get_or, refl, ap, ◌∙◌, arith}
+use Rattle.short_names.proofs.Basics.{◌≡◌, ℕ, ◌==◌, ◌<◌, Bool, true, false, map, cond, get_or, refl, ap, ◌∙◌, arith, range_with_len, is_letter}
 use Rattle.std.proofs.lemmas.List.FromFn.{get_or-map-range_with_len}
-use Rattle.std.specs.List.{range_with_len}
-use Rattle.short_names.specs.Runs.{is_letter}
 use Rattle.short_names.specs.declared.runs.TheConstants.{LETTERS}
 use Rattle.short_names.proofs.runs.is_letter.Goals as goal
 

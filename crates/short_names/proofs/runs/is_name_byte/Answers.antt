@@ -1,6 +1,5 @@
-use Rattle.std.proofs.Common.{refl}
+use Rattle.short_names.proofs.Basics.{refl, is_name_byte}
 use Rattle.std.proofs.lemmas.Bool.{ne_eqb}
-use Rattle.short_names.specs.Runs.{is_name_byte}
 use Rattle.short_names.proofs.runs.is_name_byte.Goals as goal
 
 pub returns-then-byte-eq58 : goal.returns-then-byte-eq58

@@ -1,5 +1,4 @@
-use Rattle.std.proofs.Common.{ℕ, ◌+◌, arith, refl}
-use Rattle.std.proofs.lemmas.Simd.{zip2_splat, length-chunk}
+use Rattle.short_names.proofs.Basics.{ℕ, ◌+◌, arith, refl, zip2_splat, length-chunk}
 use lib.Lanes.{chunk}
 use Rattle.short_names.proofs.BitLemmas.{none-set, few-set}
 use Rattle.short_names.proofs.runs.lane_bits.Goals as goal

@@ -1,5 +1,4 @@
-use Rattle.std.proofs.Common.{arith}
-use Rattle.short_names.specs.Runs.{is_name_byte}
+use Rattle.short_names.proofs.Basics.{arith, is_name_byte}
 use Rattle.short_names.proofs.LaneLemmas.{all-longer}
 use Rattle.short_names.proofs.runs.lanes_run.Goals as goal
 

@@ -1,6 +1,4 @@
-use Rattle.std.proofs.Common.{◌≡◌, ◌-◌, ◌≤◌, length, take, true}
-use Rattle.std.specs.List.{list_all}
-use Rattle.short_names.specs.Runs.{is_name_byte}
+use Rattle.short_names.proofs.Basics.{◌≡◌, ◌-◌, ◌≤◌, length, take, true, list_all, is_name_byte}
 use Rattle.short_names.proofs.runs.lanes_run.Given as goal
 
 abbrev pub invariant-lanes : goal.invariant-lanes

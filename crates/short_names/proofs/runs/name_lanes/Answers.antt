@@ -1,7 +1,5 @@
-use Rattle.std.proofs.Common.{ℕ, leb, cond, bit_and, refl}
-use Rattle.std.proofs.lemmas.Simd.{zip2_splat, length-chunk}
+use Rattle.short_names.proofs.Basics.{ℕ, leb, cond, bit_and, refl, zip2_splat, length-chunk, is_letter, is_name_byte}
 use lib.Lanes.{chunk}
-use Rattle.short_names.specs.Runs.{is_letter, is_name_byte}
 use Rattle.short_names.proofs.LaneLemmas.{joined, splat_is, front_is_of}
 use Rattle.short_names.proofs.runs.name_lanes.Goals as goal
 

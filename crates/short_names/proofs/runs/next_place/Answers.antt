@@ -1,5 +1,4 @@
-use Rattle.std.proofs.Common.{◌≡◌, ◌+◌, ◌-◌, false, drop, subst, arith}
-use Rattle.short_names.specs.Runs.{begins_std}
+use Rattle.short_names.proofs.Basics.{◌≡◌, ◌+◌, ◌-◌, false, drop, subst, arith, begins_std}
 use Rattle.short_names.proofs.runs.next_place.Goals as goal
 
 pub returns-then-text-clause-none : goal.returns-then-text-clause-none

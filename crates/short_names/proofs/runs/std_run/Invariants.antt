@@ -1,5 +1,4 @@
-use Rattle.std.proofs.Common.{◌≡◌, ◌≤◌, ◌<◌, ◌-◌, ℕ, false, length}
-use Rattle.short_names.specs.Runs.{is_std_at}
+use Rattle.short_names.proofs.Basics.{◌≡◌, ◌≤◌, ◌<◌, ◌-◌, ℕ, false, length, is_std_at}
 use Rattle.short_names.proofs.runs.std_run.Given as goal
 
 abbrev pub invariant-places : goal.invariant-places

@@ -1,6 +1,4 @@
-use Rattle.std.proofs.Common.{◌∙◌, ◌++◌, sym, ap, false}
-use Rattle.short_names.specs.Inlines.{without_inlines}
-use Rattle.short_names.specs.Short.{taken}
+use Rattle.short_names.proofs.Basics.{◌∙◌, ◌++◌, sym, ap, false, without_inlines, taken}
 use Rattle.short_names.proofs.short.take_text.Goals as goal
 
 pub returns-then-keeps_inline : goal.returns-then-keeps_inline

@@ -1,7 +1,5 @@
-use Rattle.std.proofs.Common.{◌≡◌, ◌++◌, ◌∙◌, List, [], ℕ, sym, ap, replicate}
+use Rattle.sym_calls.proofs.Basics.{◌≡◌, ◌++◌, ◌∙◌, List, [], ℕ, sym, ap, replicate, rest_after, rest_of-end, tally-end}
 use Rattle.sym_filter.specs.Runs.{answers_at, written}
-use Rattle.sym_filter.specs.Words.{rest_after}
-use Rattle.sym_filter.proofs.WordLemmas.{rest_of-end, tally-end}
 use Rattle.sym_calls.proofs.Kept.{Adds-as, Adds-join}
 use Rattle.sym_calls.proofs.counted.end_segment.Goals as goal
 

@@ -1,11 +1,4 @@
-use Rattle.std.proofs.Common.{◌≡◌, ◌+◌, ◌-◌, ◌++◌, ◌∙◌, [], List, ℕ, take, drop, length, sym, ap, subst, arith}
-use Rattle.std.proofs.lemmas.List.{append-nil, take_all, length-drop, length-take}
-use Rattle.sym_filter.specs.Carried.{rest_of_text, tally_of_text}
-use Rattle.sym_filter.specs.Runs.{filtered_at, tally_at}
-use Rattle.sym_filter.specs.Words.{rest_after}
-use Rattle.sym_filter.proofs.CarryLemmas.{rest_of_text-end, rest_of_text-start, tally_of_text-end, tally_of_text-start}
-use Rattle.sym_filter.proofs.WordLemmas.{slice_from}
-use Rattle.sym_filter.proofs.StreamLemmas.{next-text, next-counts, take-part}
+use Rattle.sym_calls.proofs.Basics.{◌≡◌, ◌+◌, ◌-◌, ◌++◌, ◌∙◌, [], List, ℕ, take, drop, length, sym, ap, subst, arith, append-nil, take_all, length-drop, length-take, rest_of_text, tally_of_text, filtered_at, tally_at, rest_after, rest_of_text-end, rest_of_text-start, tally_of_text-end, tally_of_text-start, slice_from, next-text, next-counts, take-part}
 use Rattle.sym_calls.proofs.Kept.{Holds-as}
 use Rattle.sym_calls.proofs.counted.filter_counted.Goals as goal
 

@@ -1,7 +1,4 @@
-use Rattle.std.proofs.Common.{length, ◌-◌, ◌≡◌, ◌≤◌, ℕ, List, [], ◌++◌, take}
-use Rattle.sym_calls.specs.Counted.{Holds}
-use Rattle.sym_filter.specs.Carried.{rest_of_text, tally_of_text}
-use Rattle.sym_filter.specs.Runs.{filtered_at, tally_at}
+use Rattle.sym_calls.proofs.Basics.{length, ◌-◌, ◌≡◌, ◌≤◌, ℕ, List, [], ◌++◌, take, Holds, rest_of_text, tally_of_text, filtered_at, tally_at}
 use Rattle.sym_calls.proofs.counted.filter_counted.Given as goal
 
 abbrev pub invariant-loop-at : goal.invariant-loop-at

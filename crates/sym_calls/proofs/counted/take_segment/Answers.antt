@@ -1,7 +1,4 @@
-use Rattle.std.proofs.Common.{◌≡◌, ◌++◌, [], true, false, take}
-use Rattle.std.proofs.lemmas.Bool.{not-false, not-true}
-use Rattle.sym_filter.specs.Words.{rest_after}
-use Rattle.sym_filter.proofs.CarryLemmas.{TakesText-part, TakesText-end, IsRead-as}
+use Rattle.sym_calls.proofs.Basics.{◌≡◌, ◌++◌, [], true, false, take, not-false, not-true, rest_after, TakesText-part, TakesText-end, IsRead-as}
 use Rattle.sym_calls.proofs.Kept.{Adds-join}
 use Rattle.sym_calls.proofs.counted.take_segment.Goals as goal
 

@@ -1,8 +1,4 @@
-use Rattle.std.proofs.Common.{◌≡◌, ◌-◌, ◌++◌, ◌∙◌, [], List, ℕ, take, drop, length, refl, sym, ap, subst, arith}
-use Rattle.std.proofs.lemmas.List.{take_all, length-drop}
-use Rattle.sym_filter.specs.Words.{following, Takes}
-use Rattle.sym_filter.proofs.WordLemmas.{slice_from, Takes-join}
-use Rattle.sym_filter.proofs.StreamLemmas.{take-part}
+use Rattle.sym_calls.proofs.Basics.{◌≡◌, ◌-◌, ◌++◌, ◌∙◌, [], List, ℕ, take, drop, length, refl, sym, ap, subst, arith, take_all, length-drop, following, Takes, slice_from, Takes-join, take-part}
 use Rattle.sym_calls.proofs.Kept.{Adds-as, Adds-join, Adds-none}
 use Rattle.sym_calls.proofs.counted.take_words.Goals as goal
 

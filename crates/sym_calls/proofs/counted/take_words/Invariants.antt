@@ -1,6 +1,4 @@
-use Rattle.std.proofs.Common.{◌≡◌, ◌≤◌, ◌-◌, List, [], ℕ, length, take}
-use Rattle.sym_filter.specs.Words.{Takes}
-use Rattle.sym_calls.specs.Counted.{Adds}
+use Rattle.sym_calls.proofs.Basics.{◌≡◌, ◌≤◌, ◌-◌, List, [], ℕ, length, take, Takes, Adds}
 use Rattle.sym_calls.proofs.counted.take_words.Given as goal
 
 abbrev pub invariant-loop-at : goal.invariant-loop-at

@@ -1,5 +1,4 @@
-use Rattle.std.proofs.Common.{[], ap}
-use Rattle.sym_calls.specs.Calls.{ending_of}
+use Rattle.sym_calls.proofs.Basics.{[], ap, ending_of}
 use Rattle.sym_calls.proofs.Ending.{no-lists-count, read-counts, refusal-counts}
 use Rattle.sym_calls.proofs.counting.count_by.Goals as goal
 

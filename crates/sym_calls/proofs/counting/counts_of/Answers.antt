@@ -1,5 +1,4 @@
-use Rattle.std.proofs.Common.{sym, ◌∙◌, true, false}
-use Rattle.sym_filter.specs.Kinds.{symbol_of}
+use Rattle.sym_calls.proofs.Basics.{sym, ◌∙◌, true, false, symbol_of}
 use Rattle.sym_calls.proofs.Ending.{abi-counted, counting-ends, rest-of, wide-counted}
 use Rattle.sym_calls.proofs.counting.counts_of.Goals as goal
 

@@ -1,6 +1,4 @@
-use Rattle.std.proofs.Common.{ap}
-use Rattle.sym_filter.specs.Runs.{filtered_at}
-use Rattle.sym_calls.specs.Calls.{ending_of}
+use Rattle.sym_calls.proofs.Basics.{ap, filtered_at, ending_of}
 use Rattle.sym_calls.proofs.Ending.{no-filter-ends}
 use Rattle.sym_calls.proofs.filtering.filter_by.Goals as goal
 

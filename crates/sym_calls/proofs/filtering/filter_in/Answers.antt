@@ -1,7 +1,4 @@
-use Rattle.std.proofs.Common.{true, false}
-use Rattle.sym_filter.specs.Runs.{filtered_at, tally_at}
-use Rattle.sym_short.specs.Rewriting.{answers_as}
-use Rattle.sym_calls.specs.Calls.{EndsAs, Tallied, written}
+use Rattle.sym_calls.proofs.Basics.{true, false, filtered_at, tally_at, answers_as, EndsAs, Tallied, written}
 use Rattle.sym_calls.proofs.Ending.{by-legacy}
 use Rattle.sym_calls.proofs.filtering.filter_in.Goals as goal
 

@@ -1,6 +1,4 @@
-use Rattle.std.proofs.Common.{true, false, sym, ◌∙◌}
-use Rattle.sym_filter.specs.Runs.{filtered_at, tally_at}
-use Rattle.sym_calls.specs.Calls.{EndsAs, Tallied, written}
+use Rattle.sym_calls.proofs.Basics.{true, false, sym, ◌∙◌, filtered_at, tally_at, EndsAs, Tallied, written}
 use Rattle.sym_calls.proofs.Ending.{by-width, filter-asked, tally-asked}
 use Rattle.sym_calls.proofs.filtering.filter_of.Goals as goal
 

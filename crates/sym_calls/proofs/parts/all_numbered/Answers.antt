@@ -1,6 +1,5 @@
-use Rattle.std.proofs.Common.{rules, tests}
+use Rattle.sym_calls.proofs.Basics.{rules, tests, numbered}
 use Rattle.std.proofs.lemmas.Iterator.{YieldsList-from_map, YieldsList-from_slice, items_from_collect}
-use Rattle.sym_calls.specs.Parts.{numbered}
 use Rattle.sym_calls.proofs.parts.all_numbered.Goals as goal
 
 pub returns : goal.returns

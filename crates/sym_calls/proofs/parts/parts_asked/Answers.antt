@@ -1,5 +1,4 @@
-use Rattle.std.proofs.Common.{◌∙◌, Some, true, false, ap, refl, sym}
-use Rattle.sym_calls.specs.Calls.{ending_of}
+use Rattle.sym_calls.proofs.Basics.{◌∙◌, Some, true, false, ap, refl, sym, ending_of}
 use Rattle.sym_calls.proofs.Parting.{asked-parts-end, no-parts-end}
 use Rattle.sym_calls.proofs.parts.parts_asked.Goals as goal
 

@@ -1,7 +1,4 @@
-use Rattle.std.proofs.Common.{◌∙◌, ap, sym, subst}
-use Rattle.sym_calls.specs.Calls.{ending_of}
-use Rattle.text_details.specs.Manglings.{mangling_number, mangling_of}
-use Rattle.sym_calls.specs.Parts.{PartsEndAs, parsed_told, parts_ending}
+use Rattle.sym_calls.proofs.Basics.{◌∙◌, ap, sym, subst, ending_of, mangling_number, mangling_of, PartsEndAs, parsed_told, parts_ending}
 use Rattle.sym_calls.proofs.Ending.{rest-of}
 use Rattle.sym_calls.proofs.Parting.{name-parts-end, no-name-parts-end}
 use Rattle.sym_calls.proofs.parts.parts_by.Goals as goal

@@ -1,5 +1,4 @@
-use Rattle.std.proofs.Common.{true, false}
-use Rattle.sym_calls.specs.Parts.{PartsEndAs, name_parts_told, parts_ending}
+use Rattle.sym_calls.proofs.Basics.{true, false, PartsEndAs, name_parts_told, parts_ending}
 use Rattle.sym_calls.proofs.Parting.{parses-as-legacy}
 use Rattle.sym_calls.proofs.parts.parts_in.Goals as goal
 

@@ -1,6 +1,4 @@
-use Rattle.std.proofs.Common.{◌∙◌, ap, subst, sym}
-use Rattle.sym_calls.specs.Calls.{ending_of}
-use Rattle.sym_calls.specs.Parts.{PartsEndAs, parts_ending, parts_told}
+use Rattle.sym_calls.proofs.Basics.{◌∙◌, ap, subst, sym, ending_of, PartsEndAs, parts_ending, parts_told}
 use Rattle.sym_calls.proofs.Parting.{no-flag-ends}
 use Rattle.sym_calls.proofs.parts.parts_of.Goals as goal
 

@@ -1,7 +1,4 @@
-use Rattle.std.proofs.Common.{◌∙◌, ap, subst}
-use Rattle.symbol_parts.specs.Parsed.{found}
-use Rattle.text_details.specs.Manglings.{mangling_number}
-use Rattle.sym_calls.specs.Parts.{PartsEndAs, both_written, parts_ending}
+use Rattle.sym_calls.proofs.Basics.{◌∙◌, ap, subst, found, mangling_number, PartsEndAs, both_written, parts_ending}
 use Rattle.sym_calls.proofs.Parting.{parsed-ends, parsed-refused}
 use Rattle.sym_calls.proofs.parts.parts_of_symbol.Goals as goal
 

@@ -1,7 +1,4 @@
-use Rattle.std.proofs.Common.{◌∙◌, ap, map, sym}
-use Rattle.symbol_parts.specs.Parsed.{found}
-use Rattle.sym_calls.specs.Calls.{ending_of}
-use Rattle.sym_calls.specs.Parts.{numbered}
+use Rattle.sym_calls.proofs.Basics.{◌∙◌, ap, map, sym, found, ending_of, numbered}
 use Rattle.sym_calls.proofs.Parting.{both-full-end, both-memory, both-small-ends, put-numbered, put-text}
 use Rattle.sym_calls.proofs.parts.write_both.Goals as goal
 

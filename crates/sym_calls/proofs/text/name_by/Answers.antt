@@ -1,5 +1,4 @@
-use Rattle.std.proofs.Common.{◌∙◌, ap, sym, subst}
-use Rattle.sym_calls.specs.Calls.{EndsAs, answered, ending_of}
+use Rattle.sym_calls.proofs.Basics.{◌∙◌, ap, sym, subst, EndsAs, answered, ending_of}
 use Rattle.sym_calls.proofs.Ending.{name-ends, no-lists-end, no-name-ends, rest-of}
 use Rattle.sym_calls.proofs.text.name_by.Goals as goal
 

@@ -1,7 +1,4 @@
-use Rattle.std.proofs.Common.{◌∙◌, ap, sym, subst, ◌-◌, length, take, drop, List, ℕ}
-use Rattle.sym_languages.specs.Languages.{language_answer_by}
-use Rattle.sym_filter.specs.Runs.{Answering}
-use Rattle.sym_calls.specs.Calls.{EndsAs, answered, ending_of}
+use Rattle.sym_calls.proofs.Basics.{◌∙◌, ap, sym, subst, ◌-◌, length, take, drop, List, ℕ, language_answer_by, Answering, EndsAs, answered, ending_of}
 use Rattle.sym_calls.proofs.Ending.{name-ends, no-name-ends, rest-of, told-ends}
 use Rattle.sym_calls.proofs.text.name_once.Goals as goal
 

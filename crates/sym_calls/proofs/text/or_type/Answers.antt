@@ -1,5 +1,4 @@
-use Rattle.std.proofs.Common.{sym, ◌∙◌}
-use Rattle.sym_calls.specs.Calls.{named}
+use Rattle.sym_calls.proofs.Basics.{sym, ◌∙◌, named}
 use Rattle.sym_calls.proofs.Typed.{symbol-told, type-told}
 use Rattle.sym_calls.proofs.text.or_type.Goals as goal
 

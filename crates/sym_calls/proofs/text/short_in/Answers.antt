@@ -1,6 +1,4 @@
-use Rattle.std.proofs.Common.{true, false}
-use Rattle.sym_short.specs.Rewriting.{short_answers}
-use Rattle.sym_calls.specs.Calls.{EndsAs, name_or_type_told}
+use Rattle.sym_calls.proofs.Basics.{true, false, short_answers, EndsAs, name_or_type_told}
 use Rattle.sym_calls.proofs.Ending.{by-legacy}
 use Rattle.sym_calls.proofs.text.short_in.Goals as goal
 

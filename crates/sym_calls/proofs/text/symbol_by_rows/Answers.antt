@@ -1,6 +1,4 @@
-use Rattle.std.proofs.Common.{ap, ◌∙◌}
-use Rattle.sym_core.specs.declared.refusal.Refusal.TheVariants.{TooLong}
-use Rattle.sym_calls.specs.Calls.{ending_of, written}
+use Rattle.sym_calls.proofs.Basics.{ap, ◌∙◌, TooLong, ending_of, written}
 use Rattle.sym_calls.proofs.Ending.{no-symbol-lists, read-ends, refusal-ends}
 use Rattle.sym_calls.proofs.text.symbol_by_rows.Goals as goal
 

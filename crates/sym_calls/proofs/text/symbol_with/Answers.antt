@@ -1,5 +1,4 @@
-use Rattle.std.proofs.Common.{◌∙◌, ap}
-use Rattle.sym_calls.specs.Calls.{written}
+use Rattle.sym_calls.proofs.Basics.{◌∙◌, ap, written}
 use Rattle.sym_calls.proofs.Ending.{appended-ends, not-appended-ends}
 use Rattle.sym_calls.proofs.text.symbol_with.Goals as goal
 

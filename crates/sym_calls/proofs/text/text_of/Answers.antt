@@ -1,5 +1,4 @@
-use Rattle.std.proofs.Common.{true, false, sym, ◌∙◌}
-use Rattle.sym_calls.specs.Calls.{EndsAs, name_or_type_told}
+use Rattle.sym_calls.proofs.Basics.{true, false, sym, ◌∙◌, EndsAs, name_or_type_told}
 use Rattle.sym_calls.proofs.Ending.{by-width, text-ends}
 use Rattle.sym_calls.proofs.text.text_of.Goals as goal
 

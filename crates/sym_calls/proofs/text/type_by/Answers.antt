@@ -1,6 +1,4 @@
-use Rattle.std.proofs.Common.{◌∙◌, ap}
-use Rattle.type_names.specs.Types.{type_answer}
-use Rattle.sym_calls.specs.Calls.{ending_of, written}
+use Rattle.sym_calls.proofs.Basics.{◌∙◌, ap, type_answer, ending_of, written}
 use Rattle.sym_calls.proofs.Ending.{appended-ends, no-symbol-lists, not-appended-ends}
 use Rattle.sym_calls.proofs.text.type_by.Goals as goal
 

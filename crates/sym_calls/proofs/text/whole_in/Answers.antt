@@ -1,5 +1,4 @@
-use Rattle.std.proofs.Common.{true, false}
-use Rattle.sym_calls.specs.Calls.{EndsAs, name_or_type_told}
+use Rattle.sym_calls.proofs.Basics.{true, false, EndsAs, name_or_type_told}
 use Rattle.sym_calls.proofs.Ending.{by-legacy}
 use Rattle.sym_calls.proofs.text.whole_in.Goals as goal
 

@@ -1,7 +1,4 @@
-use Rattle.std.proofs.Common.{sym, ap, ◌∙◌, get_or, arith}
-use Rattle.std.proofs.lemmas.Bool.{lt-leb}
-use Rattle.std.proofs.lemmas.List.{drop_all}
-use Rattle.sym_calls.specs.Texts.{are_ends}
+use Rattle.sym_calls.proofs.Basics.{sym, ap, ◌∙◌, get_or, arith, lt-leb, drop_all, are_ends}
 use Rattle.sym_calls.proofs.Telling.{ends-on, ends-down}
 use Rattle.sym_calls.proofs.texts.are_ends.Goals as goal
 

@@ -1,5 +1,4 @@
-use Rattle.std.proofs.Common.{◌≡◌, drop}
-use Rattle.sym_calls.specs.Texts.{are_ends}
+use Rattle.sym_calls.proofs.Basics.{◌≡◌, drop, are_ends}
 use Rattle.sym_calls.proofs.texts.are_ends.Given as goal
 
 abbrev pub invariant-loop-end : goal.invariant-loop-end

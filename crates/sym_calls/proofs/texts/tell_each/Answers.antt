@@ -1,6 +1,4 @@
-use Rattle.std.proofs.Common.{◌≤◌, sym, subst, arith, ◌∙◌, ◌-◌, length, take, drop, get_or}
-use Rattle.std.proofs.lemmas.List.{length-take-le}
-use Rattle.sym_calls.specs.Texts.{IsTold}
+use Rattle.sym_calls.proofs.Basics.{◌≤◌, sym, subst, arith, ◌∙◌, ◌-◌, length, take, drop, get_or, length-take-le, IsTold}
 use Rattle.sym_calls.proofs.Ending.{rest-of}
 use Rattle.sym_calls.proofs.Telling.{ends-at, buffer-after, buffer-within, told-more, told-all}
 use Rattle.sym_calls.proofs.texts.tell_each.Goals as goal

@@ -1,6 +1,4 @@
-use Rattle.std.proofs.Common.{◌≡◌, ◌≤◌, List, ℕ, length, take, drop, ◌++◌, true}
-use Rattle.sym_calls.specs.declared.outcome.Outcome.{Outcome}
-use Rattle.sym_calls.specs.Texts.{AreTold, are_ends}
+use Rattle.sym_calls.proofs.Basics.{◌≡◌, ◌≤◌, List, ℕ, length, take, drop, ◌++◌, true, Outcome, AreTold, are_ends}
 use Rattle.sym_calls.proofs.texts.tell_each.Given as goal
 
 abbrev pub invariant-each : goal.invariant-each

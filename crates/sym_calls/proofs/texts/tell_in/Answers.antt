@@ -1,6 +1,4 @@
-use Rattle.std.proofs.Common.{true, false}
-use Rattle.sym_short.specs.Rewriting.{answers_as}
-use Rattle.sym_calls.specs.Texts.{AreTold}
+use Rattle.sym_calls.proofs.Basics.{true, false, answers_as, AreTold}
 use Rattle.sym_calls.proofs.Ending.{by-legacy}
 use Rattle.sym_calls.proofs.texts.tell_in.Goals as goal
 

@@ -1,7 +1,4 @@
-use Rattle.std.proofs.Common.{true, false, sym, ◌∙◌, length}
-use Rattle.std.specs.Prelude.{nat_eq}
-use Rattle.std.proofs.lemmas.Bool.{eq-eqb, ne_eqb}
-use Rattle.sym_calls.specs.Texts.{AreTold, are_ends}
+use Rattle.sym_calls.proofs.Basics.{true, false, sym, ◌∙◌, length, nat_eq, eq-eqb, ne_eqb, AreTold, are_ends}
 use Rattle.sym_calls.proofs.Ending.{by-width}
 use Rattle.sym_calls.proofs.Telling.{not-as-many, not-ends, texts-refused, texts-told}
 use Rattle.sym_calls.proofs.texts.texts_of.Goals as goal

@@ -1,7 +1,4 @@
-use Rattle.std.proofs.Common.{◌≡◌, ◌+◌, cond, sym, ◌∙◌, List, [], ℕ, ap, get_or, map, take, drop, Bor, refl, arith}
-use Rattle.std.proofs.lemmas.Bool.{cond-true, cond-false}
-use Rattle.std.proofs.lemmas.List.{take_all}
-use Rattle.std.proofs.lemmas.Result.{err_from_is_err_and}
+use Rattle.sym_command.proofs.Basics.{◌≡◌, ◌+◌, cond, sym, ◌∙◌, List, [], ℕ, ap, get_or, map, take, drop, Bor, refl, arith, cond-true, cond-false, take_all, err_from_is_err_and}
 use Rattle.sym_command.proofs.LineLemmas.{words-more, status-more}
 use Rattle.sym_command.proofs.PageLemmas.{SoFar-begin, SoFar-word, SoFar-written, SoFar-stopped, SoFar-all, IfOk-not, never_read, PutsFront-none, PutsFront-all, PutsFront-from, OnErr-anyway, words-split}
 use Rattle.sym_command.proofs.command.answer_words.Goals as goal

@@ -1,5 +1,4 @@
-use Rattle.std.proofs.Common.{◌≡◌, take, map}
-use Rattle.sym_command.specs.Lines.{status_of}
+use Rattle.sym_command.proofs.Basics.{◌≡◌, take, map, status_of}
 use Rattle.sym_command.proofs.PageLemmas.{SoFar}
 use Rattle.sym_command.proofs.command.answer_words.Given as goal
 

@@ -1,8 +1,4 @@
-use Rattle.std.proofs.Common.{◌≡◌, ◌∙◌, sym, ap, refl, Ok, Err, Some}
-use Rattle.std.specs.Prelude.{is_some}
-use Rattle.std.proofs.lemmas.List.{append-nil}
-use Rattle.sym_filter.specs.Kinds.{symbol_of}
-use Rattle.sym_filter.proofs.RunLemmas.{text_of-symbol}
+use Rattle.sym_command.proofs.Basics.{◌≡◌, ◌∙◌, sym, ap, refl, Ok, Err, Some, is_some, append-nil, symbol_of, text_of-symbol}
 use Rattle.sym_command.proofs.LineLemmas.{answer_of-symbol, complaint-line, text-line, word-line}
 use Rattle.sym_command.proofs.lines.push_answer.Goals as goal
 

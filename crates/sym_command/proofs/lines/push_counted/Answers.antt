@@ -1,11 +1,5 @@
-use Rattle.std.proofs.Common.{◌≡◌, subst, ◌++◌, ◌∷◌, ◌∙◌, [], List, ℕ, sym, ap, refl, Ok, Err, Some, true}
-use Rattle.std.specs.Prelude.{is_some}
-use Rattle.std.proofs.lemmas.List.{append-nil}
+use Rattle.sym_command.proofs.Basics.{◌≡◌, subst, ◌++◌, ◌∷◌, ◌∙◌, [], List, ℕ, sym, ap, refl, Ok, Err, Some, true, is_some, append-nil, symbol_of, BeginsWith, text_of-symbol, line_of, counts_text}
 use Rattle.sym_core.specs.declared.refusal.Refusal.TheVariants as refusals
-use Rattle.sym_filter.specs.Kinds.{symbol_of}
-use Rattle.sym_filter.specs.Streams.{BeginsWith}
-use Rattle.sym_filter.proofs.RunLemmas.{text_of-symbol}
-use Rattle.sym_command.specs.Lines.{line_of, counts_text}
 use Rattle.sym_command.proofs.LineLemmas.{answer_of-symbol, begins-then, complaint-line, text-line, word-line, counts-behind, refused-behind}
 use Rattle.sym_command.proofs.lines.push_counted.Goals as goal
 

@@ -1,9 +1,4 @@
-use Rattle.std.proofs.Common.{◌≡◌, ◌++◌, ◌∙◌, [], sym, ap, refl, None}
-use Rattle.std.specs.Prelude.{is_some}
-use Rattle.std.proofs.lemmas.List.{append-nil}
-use Rattle.sym_filter.specs.Kinds.{kind_of}
-use Rattle.sym_filter.proofs.RunLemmas.{text_for-unnamed}
-use Rattle.sym_command.specs.Lines.{line_of}
+use Rattle.sym_command.proofs.Basics.{◌≡◌, ◌++◌, ◌∙◌, [], sym, ap, refl, None, is_some, append-nil, kind_of, text_for-unnamed, line_of}
 use Rattle.sym_command.proofs.LineLemmas.{answer_for-unnamed, complaint-line, word-line, nothing-behind}
 use Rattle.sym_command.proofs.lines.push_lines.Goals as goal
 

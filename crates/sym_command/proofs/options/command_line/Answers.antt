@@ -1,10 +1,6 @@
-use Rattle.std.proofs.Common.{◌≡◌, ◌∙◌, ap, codes, true}
-use Rattle.std.proofs.lemmas.Result.{IfOk-weaker}
-use Rattle.clap.specs.Words.{App, app_of, new_app, with_rule}
+use Rattle.sym_command.proofs.Basics.{◌≡◌, ◌∙◌, ap, codes, true, IfOk-weaker, App, app_of, new_app, with_rule, Command, command_line, flag, limit, symbols, with_short}
 use Rattle.clap.specs.Simple.{app_of_fields, on_top}
 use Rattle.clap.specs.declared.builder.command.Command.TheOpen.{Command-F}
-use Rattle.clap.specs.declared.builder.command.Command.{Command}
-use Rattle.sym_command.specs.CommandLine.{command_line, flag, limit, symbols, with_short}
 use Rattle.sym_command.proofs.OptionLemmas.{with_argument}
 use Rattle.sym_command.proofs.options.command_line.Goals as goal
 

@@ -1,6 +1,4 @@
-use Rattle.std.proofs.Common.{Bor, List, ℕ, map}
-use Rattle.clap.specs.Words.{app_of}
-use Rattle.sym_command.specs.CommandLine.{command_line}
+use Rattle.sym_command.proofs.Basics.{Bor, List, ℕ, map, app_of, command_line}
 use Rattle.sym_command.proofs.OptionLemmas.{found_rows, found_faults, simple, simple_and_free}
 use Rattle.sym_command.proofs.options.found_in.Goals as goal
 

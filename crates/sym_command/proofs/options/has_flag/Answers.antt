@@ -1,6 +1,4 @@
-use Rattle.std.proofs.Common.{◌∙◌}
-use Rattle.clap.specs.Words.{found_of}
-use Rattle.clap.proofs.WalkLemmas.{one_text-rows}
+use Rattle.sym_command.proofs.Basics.{◌∙◌, found_of, one_text-rows}
 use Rattle.sym_command.proofs.options.has_flag.Goals as goal
 
 pub returns : goal.returns

@@ -1,8 +1,5 @@
-use Rattle.std.proofs.Common.{◌∙◌, ap, Option, Some, codes}
-use Rattle.clap.specs.Words.{Rule, rule_of}
+use Rattle.sym_command.proofs.Basics.{◌∙◌, ap, Option, Some, codes, Rule, rule_of, Arg, limit}
 use Rattle.clap.specs.declared.builder.value_parser.ValueParser.{ValueParser}
-use Rattle.clap.specs.declared.builder.arg.Arg.{Arg}
-use Rattle.sym_command.specs.CommandLine.{limit}
 use Rattle.sym_command.proofs.options.limit.Goals as goal
 
 pub returns-clause-rule : goal.returns-clause-rule

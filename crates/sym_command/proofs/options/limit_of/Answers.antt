@@ -1,7 +1,4 @@
-use Rattle.std.proofs.Common.{◌∙◌, codes}
-use Rattle.std.specs.Str.Parse.{ParsesUnsigned, ExplainsUnsignedError, HasUnsignedDigitsIfOk}
-use Rattle.clap.specs.Words.{found_of, one_of, rows_of}
-use Rattle.clap.proofs.WalkLemmas.{one_text-rows}
+use Rattle.sym_command.proofs.Basics.{◌∙◌, codes, ParsesUnsigned, ExplainsUnsignedError, HasUnsignedDigitsIfOk, found_of, one_of, rows_of, one_text-rows}
 use Rattle.sym_command.proofs.OptionLemmas.{limit_given}
 use Rattle.sym_command.proofs.options.limit_of.Goals as goal
 

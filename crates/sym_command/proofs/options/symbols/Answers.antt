@@ -1,8 +1,6 @@
-use Rattle.std.proofs.Common.{◌∙◌, ap, Option, Some}
+use Rattle.sym_command.proofs.Basics.{◌∙◌, ap, Option, Some, Rule, rule_of, Arg}
 use Rattle.clap.specs.Lexer.{usize_max}
-use Rattle.clap.specs.Words.{Rule, rule_of}
 use Rattle.clap.specs.declared.builder.action.ArgAction.TheVariants.{Append}
-use Rattle.clap.specs.declared.builder.arg.Arg.{Arg}
 use Rattle.clap.specs.declared.builder.range.ValueRange.{ValueRange}
 use Rattle.sym_command.proofs.OptionLemmas.{given}
 use Rattle.sym_command.proofs.options.symbols.Goals as goal

@@ -1,7 +1,4 @@
-use Rattle.std.proofs.Common.{◌∙◌, ap, codes, refl}
-use Rattle.std.proofs.lemmas.Result.{IfOk-weaker}
-use Rattle.clap.specs.Words.{App, app_of, with_rule}
-use Rattle.sym_command.specs.CommandLine.{flag, limit}
+use Rattle.sym_command.proofs.Basics.{◌∙◌, ap, codes, refl, IfOk-weaker, App, app_of, with_rule, flag, limit}
 use Rattle.sym_command.proofs.OptionLemmas.{with_argument}
 use Rattle.sym_command.proofs.options.with_answers.Goals as goal
 

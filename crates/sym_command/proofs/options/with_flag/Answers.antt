@@ -1,8 +1,4 @@
-use Rattle.std.proofs.Common.{◌∙◌, ap, refl}
-use Rattle.std.proofs.lemmas.Result.{IfOk-weaker}
-use Rattle.clap.specs.Words.{Rule, app_of, rule_of}
-use Rattle.clap.specs.declared.builder.arg.Arg.{Arg}
-use Rattle.sym_command.specs.CommandLine.{flag}
+use Rattle.sym_command.proofs.Basics.{◌∙◌, ap, refl, IfOk-weaker, Rule, app_of, rule_of, Arg, flag}
 use Rattle.sym_command.proofs.OptionLemmas.{with_argument}
 use Rattle.sym_command.proofs.options.with_flag.Goals as goal
 

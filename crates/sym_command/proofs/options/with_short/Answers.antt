@@ -1,7 +1,4 @@
-use Rattle.std.proofs.Common.{◌∙◌, ap, codes}
-use Rattle.std.proofs.lemmas.Result.{IfOk-weaker}
-use Rattle.clap.specs.Words.{App, with_rule}
-use Rattle.sym_command.specs.CommandLine.{flag}
+use Rattle.sym_command.proofs.Basics.{◌∙◌, ap, codes, IfOk-weaker, App, with_rule, flag}
 use Rattle.sym_command.proofs.options.with_short.Goals as goal
 
 pub returns : goal.returns

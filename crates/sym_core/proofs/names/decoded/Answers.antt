@@ -1,9 +1,5 @@
-use Rattle.std.proofs.Common.{◌≡◌, ◌<◌, ◌^◌, List, ℕ, true, false, arith, ap, length, sym, ◌∙◌, subst, string_bytes}
+use Rattle.sym_core.proofs.Basics.{◌≡◌, ◌<◌, ◌^◌, List, ℕ, true, false, arith, ap, length, sym, ◌∙◌, subst, string_bytes, list_all, is_xid_continue, IsUtf8-from_ascii, hyphenated}
 use Rattle.std.specs.Str.{IsUtf8, chars}
-use Rattle.std.specs.List.{list_all}
-use Rattle.unicode_ident.specs.Ident.{is_xid_continue}
-use Rattle.std.proofs.lemmas.Str.{IsUtf8-from_ascii}
-use Rattle.sym_core.specs.Printed.{hyphenated}
 use Rattle.sym_core.proofs.Hyphen.{hyphenated-ascii}
 use Rattle.sym_core.proofs.Decoding.{hyphenated-length}
 use Rattle.sym_core.proofs.Decoded.{decoded_name-invalid, decoded_name-text}

@@ -1,6 +1,5 @@
-use Rattle.std.proofs.Common.{◌≡◌, ◌+◌, ◌*◌, ◌≤◌, Some, arith, ap, length, string_bytes}
+use Rattle.sym_core.proofs.Basics.{◌≡◌, ◌+◌, ◌*◌, ◌≤◌, Some, arith, ap, length, string_bytes, decoded_name}
 use Rattle.std.proofs.lemmas.Result.{IfOk-weaker}
-use Rattle.sym_core.specs.Printed.{decoded_name}
 use Rattle.sym_core.proofs.Decoding.{decoded_name-short}
 use Rattle.sym_core.proofs.names.push_name.Goals as goal
 

@@ -1,11 +1,5 @@
 -- The table is held against the definitions at each of the 256 bytes, by computing.
-use Rattle.std.proofs.Common.{◌≡◌, ℕ, ◌<◌, Bool, true, false, map, cond, get_or, nat_lt, refl, sym, ap, ◌∙◌, arith}
-use Rattle.std.proofs.lemmas.Bool.Decides.{nat_tests}
-use Rattle.std.proofs.lemmas.List.FromFn.{get_or-map-range_with_len}
-use Rattle.std.specs.List.{range_with_len}
-use Rattle.sym_core.specs.Number.{is_digit_of}
-use Rattle.sym_core.specs.Value.{digit_value}
-use Rattle.sym_core.specs.declared.NumberKind.TheVariants.{Base62}
+use Rattle.sym_core.proofs.Basics.{◌≡◌, ℕ, ◌<◌, Bool, true, false, map, cond, get_or, nat_lt, refl, sym, ap, ◌∙◌, arith, nat_tests, get_or-map-range_with_len, range_with_len, is_digit_of, digit_value, Base62}
 use Rattle.sym_core.specs.declared.numbers.TheConstants.{BASE62_DIGITS}
 use Rattle.sym_core.proofs.numbers.base62_digit.Goals as goal
 

@@ -1,7 +1,4 @@
-use Rattle.std.proofs.Common.{◌≡◌, ◌≤◌, ◌+◌, ◌-◌, inr, arith, get_or, true, sym, ◌∙◌}
-use Rattle.std.proofs.Math.Nat.{pow-le-pow_right}
-use Rattle.sym_core.specs.Number.{is_digit_of, is_decimal_digit}
-use Rattle.sym_core.specs.declared.NumberKind.TheVariants.{Length}
+use Rattle.sym_core.proofs.Basics.{◌≡◌, ◌≤◌, ◌+◌, ◌-◌, inr, arith, get_or, true, sym, ◌∙◌, pow-le-pow_right, is_digit_of, is_decimal_digit, Length}
 use Rattle.sym_core.proofs.Horner.{value_of-next, ten_more, decimal_small}
 use Rattle.sym_core.proofs.Runs.{run_found, run_reached, run_more, stops_here}
 use Rattle.sym_core.proofs.numbers.count_length.Goals as goal

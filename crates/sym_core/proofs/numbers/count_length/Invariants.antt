@@ -1,8 +1,5 @@
 -- the digits so far, and what they denote
-use Rattle.std.proofs.Common.{◌≡◌, ℕ, ◌<◌, ◌≤◌, ◌-◌, ◌^◌, take, drop, get_or, true}
-use Rattle.sym_core.specs.Number.{is_digit_of}
-use Rattle.sym_core.specs.Value.{value_of}
-use Rattle.sym_core.specs.declared.NumberKind.TheVariants.{Length}
+use Rattle.sym_core.proofs.Basics.{◌≡◌, ℕ, ◌<◌, ◌≤◌, ◌-◌, ◌^◌, take, drop, get_or, true, is_digit_of, value_of, Length}
 use Rattle.sym_core.proofs.numbers.count_length.Given as goal
 
 abbrev pub invariant-loop-to : goal.invariant-loop-to

@@ -1,5 +1,4 @@
-use Rattle.std.proofs.Common.{inr, arith, sym, ◌∙◌}
-use Rattle.sym_core.specs.Number.{is_digit_of}
+use Rattle.sym_core.proofs.Basics.{inr, arith, sym, ◌∙◌, is_digit_of}
 use Rattle.sym_core.proofs.Runs.{run_found, run_reached, stops_here}
 use Rattle.sym_core.proofs.numbers.digits_end.Goals as goal
 

@@ -1,5 +1,4 @@
-use Rattle.std.proofs.Common.{refl}
-use Rattle.sym_core.specs.declared.NumberKind.TheVariants.{Length}
+use Rattle.sym_core.proofs.Basics.{refl, Length}
 use Rattle.sym_core.proofs.Runs.{found_bare, broken_bare}
 use Rattle.sym_core.proofs.numbers.find_length.Goals as goal
 

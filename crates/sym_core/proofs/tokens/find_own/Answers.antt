@@ -1,5 +1,4 @@
-use Rattle.std.proofs.Common.{sym, ◌∙◌, arith}
-use Rattle.std.proofs.lemmas.Bool.{false≢true}
+use Rattle.sym_core.proofs.Basics.{sym, ◌∙◌, arith, false≢true}
 use Rattle.sym_core.proofs.NameTokens.{own_zero, own_bare, own_broken, own_whole}
 use Rattle.sym_core.proofs.tokens.find_own.Goals as goal
 

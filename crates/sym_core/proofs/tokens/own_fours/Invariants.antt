@@ -1,6 +1,5 @@
 -- the bytes so far may be in a name
-use Rattle.std.proofs.Common.{◌≤◌, ◌-◌}
-use Rattle.sym_core.specs.Scan.{ReachesNameBytes}
+use Rattle.sym_core.proofs.Basics.{◌≤◌, ◌-◌, ReachesNameBytes}
 use Rattle.sym_core.proofs.tokens.own_fours.Given as goal
 
 abbrev pub invariant-loop-end : goal.invariant-loop-end

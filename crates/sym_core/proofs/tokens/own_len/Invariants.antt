@@ -1,6 +1,5 @@
 -- the bytes so far may be in a name
-use Rattle.std.proofs.Common.{◌≡◌, ℕ, ◌<◌, ◌≤◌, ◌-◌, length, get_or, true}
-use Rattle.sym_core.specs.Token.{is_name_byte}
+use Rattle.sym_core.proofs.Basics.{◌≡◌, ℕ, ◌<◌, ◌≤◌, ◌-◌, length, get_or, true, is_name_byte}
 use Rattle.sym_core.proofs.tokens.own_len.Given as goal
 
 abbrev pub invariant-loop-end : goal.invariant-loop-end

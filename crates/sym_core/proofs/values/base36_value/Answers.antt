@@ -1,6 +1,5 @@
-use Rattle.std.proofs.Common.{◌^◌, arith}
+use Rattle.sym_core.proofs.Basics.{◌^◌, arith, Seq36}
 use Rattle.sym_core.proofs.Horner.{too_large}
-use Rattle.sym_core.specs.declared.NumberKind.TheVariants.{Seq36}
 use Rattle.sym_core.proofs.values.base36_value.Goals as goal
 
 pub returns-in_err-shifted : goal.returns-in_err-shifted

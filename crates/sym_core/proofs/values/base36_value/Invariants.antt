@@ -1,6 +1,4 @@
-use Rattle.std.proofs.Common.{◌≡◌, drop}
-use Rattle.sym_core.specs.Value.{value_onto, value_of}
-use Rattle.sym_core.specs.declared.NumberKind.TheVariants.{Seq36}
+use Rattle.sym_core.proofs.Basics.{◌≡◌, drop, value_onto, value_of, Seq36}
 use Rattle.sym_core.proofs.values.base36_value.Given as goal
 
 abbrev pub invariant-loop-byte : goal.invariant-loop-byte

@@ -1,6 +1,5 @@
-use Rattle.std.proofs.Common.{◌^◌, arith}
+use Rattle.sym_core.proofs.Basics.{◌^◌, arith, Decimal}
 use Rattle.sym_core.proofs.Horner.{too_large}
-use Rattle.sym_core.specs.declared.NumberKind.TheVariants.{Decimal}
 use Rattle.sym_core.proofs.values.decimal_value.Goals as goal
 
 pub returns-in_err-shifted : goal.returns-in_err-shifted

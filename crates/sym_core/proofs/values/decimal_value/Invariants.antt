@@ -1,6 +1,4 @@
-use Rattle.std.proofs.Common.{◌≡◌, drop}
-use Rattle.sym_core.specs.Value.{value_onto, value_of}
-use Rattle.sym_core.specs.declared.NumberKind.TheVariants.{Decimal}
+use Rattle.sym_core.proofs.Basics.{◌≡◌, drop, value_onto, value_of, Decimal}
 use Rattle.sym_core.proofs.values.decimal_value.Given as goal
 
 abbrev pub invariant-loop-byte : goal.invariant-loop-byte

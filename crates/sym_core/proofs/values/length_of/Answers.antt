@@ -1,6 +1,4 @@
-use Rattle.std.proofs.Common.{◌≤◌, arith}
-use Rattle.std.proofs.Math.Nat.{pow-le-pow_right}
-use Rattle.sym_core.specs.declared.NumberKind.TheVariants.{Length}
+use Rattle.sym_core.proofs.Basics.{◌≤◌, arith, pow-le-pow_right, Length}
 use Rattle.sym_core.proofs.Horner.{digit_at}
 use Rattle.sym_core.proofs.values.length_of.Goals as goal
 

@@ -1,6 +1,4 @@
-use Rattle.std.proofs.Common.{◌≡◌, ◌<◌, ◌^◌, drop}
-use Rattle.sym_core.specs.Value.{value_onto, value_of}
-use Rattle.sym_core.specs.declared.NumberKind.TheVariants.{Length}
+use Rattle.sym_core.proofs.Basics.{◌≡◌, ◌<◌, ◌^◌, drop, value_onto, value_of, Length}
 use Rattle.sym_core.proofs.values.length_of.Given as goal
 
 abbrev pub invariant-loop-byte : goal.invariant-loop-byte

@@ -1,6 +1,4 @@
-use Rattle.std.proofs.Common.{◌≡◌, drop}
-use Rattle.sym_core.specs.Number.{AreDigits}
-use Rattle.sym_core.specs.Value.{value_onto, value_of}
+use Rattle.sym_core.proofs.Basics.{◌≡◌, drop, AreDigits, value_onto, value_of}
 use Rattle.sym_core.proofs.values.long_value.Given as goal
 
 -- the digits so far are digits, and denote the value

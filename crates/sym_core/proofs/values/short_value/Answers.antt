@@ -1,11 +1,7 @@
-use Rattle.std.proofs.Common.{ℕ, ◌+◌, ◌*◌, ◌^◌, ◌<◌, ◌≤◌, ap, arith}
-use Rattle.std.proofs.Math.Nat.{pow-le-pow_right}
-use Rattle.sym_core.specs.Value.{radix_of}
-use Rattle.sym_core.specs.declared.NumberKind.{NumberKind}
-use Rattle.sym_core.specs.declared.NumberKind.TheVariants.{Length, Decimal, Seq36, Base62, Hex, Digits}
+use Rattle.sym_core.proofs.Basics.{ℕ, ◌+◌, ◌*◌, ◌^◌, ◌<◌, ◌≤◌, ap, arith, pow-le-pow_right, radix_of, NumberKind, Length, Decimal, Seq36, Base62, Hex, Digits}
 use Rattle.sym_core.proofs.values.short_value.Goals as goal
 
--- one more digit after at most nine
+-- the value with one more digit, after at most nine
 one_more : (kind : NumberKind) (v : ℕ) → v < 62 ^ 9 → v * radix_of kind + radix_of kind ≤ 62 ^ 10
 one_more Length v small = omega (arith, small)
 one_more Decimal v small = omega (arith, small)

@@ -1,6 +1,5 @@
-use Rattle.std.proofs.Common.{◌^◌, arith}
+use Rattle.sym_core.proofs.Basics.{◌^◌, arith, Hex}
 use Rattle.sym_core.proofs.Horner.{digit_at, too_large}
-use Rattle.sym_core.specs.declared.NumberKind.TheVariants.{Hex}
 use Rattle.sym_core.proofs.values.value16.Goals as goal
 
 pub digit-requires : goal.digit-requires

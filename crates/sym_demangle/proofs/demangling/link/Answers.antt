@@ -1,7 +1,4 @@
-use Rattle.std.proofs.Common.{◌≡◌, ◌∙◌, ap, subst, inl, length, Ok}
-use Rattle.std.proofs.lemmas.Result.{err_from_is_err_and}
-use Rattle.sym_demangle.specs.Mangled.{StandsFor, well_shaped}
-use Rattle.sym_demangle.specs.Standing.{Progress, unlinked, AreNodesOf}
+use Rattle.sym_demangle.proofs.Basics.{◌≡◌, ◌∙◌, ap, subst, inl, length, Ok, err_from_is_err_and, StandsFor, well_shaped, Progress, unlinked, AreNodesOf}
 use Rattle.sym_demangle.proofs.Reasons.{link_not_too_long}
 use Rattle.sym_demangle.proofs.demangling.link.Goals as goal
 

@@ -1,12 +1,5 @@
-use Rattle.std.proofs.Common.{◌≡◌, ◌⊎◌, ◌∙◌, ◌++◌, ap, sym, subst, ℕ, List, length, Ok, Err}
-use Rattle.std.specs.Prelude.{IfOk, IfErr}
-use Rattle.std.proofs.lemmas.Result.{err_from_is_err_and}
-use Rattle.sym_core.specs.Number.{FitsSymbol}
+use Rattle.sym_demangle.proofs.Basics.{◌≡◌, ◌⊎◌, ◌∙◌, ◌++◌, ap, sym, subst, ℕ, List, length, Ok, Err, IfOk, IfErr, err_from_is_err_and, FitsSymbol, AreFew, IsMalformedOrMemory, AreRowsOf, AreStepsOf, IsReading, AreStepsInAll, AreNodesOf}
 use Rattle.sym_core.specs.declared.refusal.Refusal.TheVariants as refusals
-use Rattle.sym_shape.specs.Reader.{AreFew, IsMalformedOrMemory}
-use Rattle.sym_shape.specs.Tree.{AreRowsOf, AreStepsOf}
-use Rattle.sym_demangle.specs.Mangled.{IsReading}
-use Rattle.sym_demangle.specs.Standing.{AreStepsInAll, AreNodesOf}
 use Rattle.sym_demangle.proofs.Answering.{shape_refused}
 use Rattle.sym_demangle.proofs.Rows.{rows_there}
 use Rattle.sym_demangle.proofs.demangling.read.Goals as goal

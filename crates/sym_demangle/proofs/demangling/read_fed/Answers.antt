@@ -1,13 +1,5 @@
-use Rattle.std.proofs.Common.{◌≡◌, ◌⊎◌, ◌∙◌, refl, sym, subst, ℕ, List, Ok, Err}
-use Rattle.std.specs.Prelude.{IfOk, IfErr}
-use Rattle.sym_core.specs.Number.{FitsSymbol}
+use Rattle.sym_demangle.proofs.Basics.{◌≡◌, ◌⊎◌, ◌∙◌, refl, sym, subst, ℕ, List, Ok, Err, IfOk, IfErr, FitsSymbol, AreRowsOf, AreStepsOf, same_steps, err_from_is_err_and, IsMalformedOrMemory, IsReading, AreStepsInAll, AreNodesOf}
 use Rattle.sym_core.specs.declared.refusal.Refusal.TheVariants as refusals
-use Rattle.sym_shape.specs.Tree.{AreRowsOf, AreStepsOf}
-use Rattle.sym_shape.proofs.Feeding.{same_steps}
-use Rattle.std.proofs.lemmas.Result.{err_from_is_err_and}
-use Rattle.sym_shape.specs.Reader.{IsMalformedOrMemory}
-use Rattle.sym_demangle.specs.Mangled.{IsReading}
-use Rattle.sym_demangle.specs.Standing.{AreStepsInAll, AreNodesOf}
 use Rattle.sym_demangle.proofs.Feeding.{reason_told}
 use Rattle.sym_demangle.proofs.Rows.{rows_there}
 use Rattle.sym_demangle.proofs.Answering.{shape_refused}

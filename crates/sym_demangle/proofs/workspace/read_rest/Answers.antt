@@ -1,7 +1,4 @@
-use Rattle.std.proofs.Common.{◌≡◌, ◌++◌, subst, ap, true}
-use Rattle.std.proofs.lemmas.Result.{err_from_is_err_and}
-use Rattle.sym_shape.specs.Fed.{Fed, IsReason}
-use Rattle.sym_shape.specs.Reader.{IsMalformedOrMemory}
+use Rattle.sym_demangle.proofs.Basics.{◌≡◌, ◌++◌, subst, ap, true, err_from_is_err_and, Fed, IsReason, IsMalformedOrMemory}
 use Rattle.sym_demangle.proofs.Feeding.{fed_all, reason_told, reason_whatever}
 use Rattle.sym_demangle.proofs.Answering.{shape_refused}
 use Rattle.sym_demangle.proofs.workspace.read_rest.Goals as goal

@@ -1,6 +1,4 @@
-use Rattle.std.proofs.Common.{◌≡◌, ◌-◌, ◌≤◌, length, take, true}
-use Rattle.std.specs.List.{list_all}
-use Rattle.sym_filter.specs.Lanes.{is_no_lead}
+use Rattle.sym_filter.proofs.Basics.{◌≡◌, ◌-◌, ◌≤◌, length, take, true, list_all, is_no_lead}
 use Rattle.sym_filter.proofs.escapes.before_lead.Given as goal
 
 abbrev pub invariant-lanes : goal.invariant-lanes

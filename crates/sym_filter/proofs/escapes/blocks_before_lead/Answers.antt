@@ -1,5 +1,4 @@
-use Rattle.std.proofs.Common.{arith}
-use Rattle.sym_filter.specs.Lanes.{is_no_lead}
+use Rattle.sym_filter.proofs.Basics.{arith, is_no_lead}
 use Rattle.sym_filter.proofs.LaneLemmas.{all-longer}
 use Rattle.sym_filter.proofs.escapes.blocks_before_lead.Goals as goal
 

@@ -1,6 +1,4 @@
-use Rattle.std.proofs.Common.{◌+◌, ◌∙◌, sym, subst, take, true, false, length, arith}
-use Rattle.sym_filter.specs.declared.escapes.Escape.{Escape}
-use Rattle.sym_filter.specs.Carried.{IsRead}
+use Rattle.sym_filter.proofs.Basics.{◌+◌, ◌∙◌, sym, subst, take, true, false, length, arith, Escape, IsRead}
 use Rattle.sym_filter.proofs.CarryLemmas.{IsRead-whole, IsRead-next, IsRead-longer}
 use Rattle.sym_filter.proofs.escapes.first_segment.Goals as goal
 

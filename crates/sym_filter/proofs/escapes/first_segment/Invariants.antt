@@ -1,5 +1,4 @@
-use Rattle.std.proofs.Common.{◌-◌, ◌≤◌, length, take, false}
-use Rattle.sym_filter.specs.Carried.{IsRead}
+use Rattle.sym_filter.proofs.Basics.{◌-◌, ◌≤◌, length, take, false, IsRead}
 use Rattle.sym_filter.proofs.escapes.first_segment.Given as goal
 
 abbrev pub invariant-bytes : goal.invariant-bytes

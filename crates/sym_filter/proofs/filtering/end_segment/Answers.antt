@@ -1,10 +1,5 @@
-use Rattle.std.proofs.Common.{◌≡◌, ◌++◌, ◌∙◌, List, [], ℕ, sym, ap, subst, replicate}
-use Rattle.std.proofs.lemmas.List.{append-nil}
-use Rattle.sym_filter.specs.CarriedEntries.{entries_after}
-use Rattle.sym_filter.specs.Entries.{Entry, left_at_end}
+use Rattle.sym_filter.proofs.Basics.{◌≡◌, ◌++◌, ◌∙◌, List, [], ℕ, sym, ap, subst, replicate, append-nil, entries_after, Entry, left_at_end, answers_at, written, rest_after}
 use Rattle.sym_filter.proofs.EntryLemmas.{entries-end}
-use Rattle.sym_filter.specs.Runs.{answers_at, written}
-use Rattle.sym_filter.specs.Words.{rest_after}
 use Rattle.sym_filter.proofs.WordLemmas.{rest_of-end, tally-end}
 use Rattle.sym_filter.proofs.StreamLemmas.{Puts-push, Puts-join, Puts-same, PutsFront-join, PutsFront-none, PutsFront-same, IfErr-from_and}
 use Rattle.sym_filter.proofs.filtering.end_segment.Goals as goal

@@ -1,9 +1,4 @@
-use Rattle.std.proofs.Common.{◌++◌, ◌∙◌, [], List, ℕ, sym, subst}
-use Rattle.std.proofs.lemmas.List.{append-nil}
-use Rattle.sym_filter.specs.CarriedEntries.{entries_after}
-use Rattle.sym_filter.specs.Entries.{Entry}
-use Rattle.sym_filter.specs.Words.{rest_after}
-use Rattle.sym_filter.specs.Streams.{Puts, PutsFront}
+use Rattle.sym_filter.proofs.Basics.{◌++◌, ◌∙◌, [], List, ℕ, sym, subst, append-nil, entries_after, Entry, rest_after, Puts, PutsFront}
 use Rattle.sym_filter.proofs.StreamLemmas.{Puts-join, Puts-same, PutsFront-join, PutsFront-same, IfErr-from_and}
 use Rattle.sym_filter.proofs.filtering.end_text.Goals as goal
 

@@ -1,15 +1,6 @@
-use Rattle.std.proofs.Common.{◌≡◌, ◌++◌, [], refl, sym, subst, arith, take, length, ap, ap₂, ◌∙◌, add-zero, ◌+◌, List, ℕ}
-use Rattle.std.specs.Io.KnownBytes.{Appends, Consumes}
-use Rattle.std.proofs.lemmas.List.{append-nil}
-use Rattle.sym_filter.specs.Runs.{filtered_at, tally_at}
-use Rattle.sym_filter.specs.Carried.{rest_of_text, tally_of_text}
-use Rattle.sym_filter.specs.Streams.{Puts}
-use Rattle.sym_filter.specs.Words.{rest_after}
+use Rattle.sym_filter.proofs.Basics.{◌≡◌, ◌++◌, [], refl, sym, subst, arith, take, length, ap, ap₂, ◌∙◌, add-zero, ◌+◌, List, ℕ, Appends, Consumes, append-nil, filtered_at, tally_at, rest_of_text, tally_of_text, Puts, rest_after, READ_SIZE, entries_after, entries_in_rest, Entry, entries_of}
 use Rattle.sym_filter.proofs.CarryLemmas.{rest_of_text-end, rest_of_text-start, tally_of_text-end, tally_of_text-start}
 use Rattle.sym_filter.proofs.StreamLemmas.{Appends-none, Consumes-join, Consumes-keeps, Consumes-none, Puts-none, next-text, next-counts, Puts-join, Puts-all, PutsFront-of, PutsFront-join, PutsFront-same, IfErr-from_and, reader_faults-other, take-none, room-back, dots-first, dots-step}
-use Rattle.sym_filter.specs.declared.filtering.TheConstants.{READ_SIZE}
-use Rattle.sym_filter.specs.CarriedEntries.{entries_after, entries_in_rest}
-use Rattle.sym_filter.specs.Entries.{Entry, entries_of}
 use Rattle.sym_filter.proofs.TextEntryLemmas.{next-entries, rest-end, rest-start}
 use Rattle.sym_filter.proofs.filtering.filter_promptly.Goals as goal
 

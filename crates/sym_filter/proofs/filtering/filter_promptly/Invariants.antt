@@ -1,11 +1,4 @@
-use Rattle.std.proofs.Common.{◌≡◌, ◌<◌, ◌+◌, ◌*◌, ◌^◌, ◌++◌, List, [], ℕ, length}
-use Rattle.std.specs.Io.KnownBytes.{Consumes}
-use Rattle.sym_filter.specs.Carried.{rest_of_text, tally_of_text}
-use Rattle.sym_filter.specs.CarriedEntries.{entries_in_rest}
-use Rattle.sym_filter.specs.Entries.{Entry, entries_of}
-use Rattle.sym_filter.specs.Runs.{filtered_at, tally_at}
-use Rattle.sym_filter.specs.Streams.{Puts}
-use Rattle.sym_filter.specs.declared.filtering.TheConstants.{READ_SIZE}
+use Rattle.sym_filter.proofs.Basics.{◌≡◌, ◌<◌, ◌+◌, ◌*◌, ◌^◌, ◌++◌, List, [], ℕ, length, Consumes, rest_of_text, tally_of_text, entries_in_rest, Entry, entries_of, filtered_at, tally_at, Puts, READ_SIZE}
 use Rattle.sym_filter.proofs.filtering.filter_promptly.Given as goal
 
 abbrev pub invariant-loop-count : goal.invariant-loop-count

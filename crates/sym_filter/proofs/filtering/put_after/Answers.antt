@@ -1,7 +1,6 @@
 use Rattle.sym_filter.proofs.StreamLemmas.{PutsFront-of, PutsFront-more, stays-more, stays-front, IfErr-from_and}
 use Rattle.sym_filter.proofs.filtering.put_after.Goals as goal
-use Rattle.std.proofs.Common.{[], cond, sym, ◌∙◌}
-use Rattle.std.proofs.lemmas.Bool.{not-false, not-true}
+use Rattle.sym_filter.proofs.Basics.{[], cond, sym, ◌∙◌, not-false, not-true}
 
 pub returns-in_err-write_dots-clause-err : goal.returns-in_err-write_dots-clause-err
 returns-in_err-write_dots-clause-err g c =

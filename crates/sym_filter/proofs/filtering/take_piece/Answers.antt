@@ -1,11 +1,7 @@
-use Rattle.std.proofs.Common.{◌≡◌, refl, ◌-◌, ◌++◌, ◌∙◌, [], List, ℕ, take, drop, length, sym, ap, subst, arith}
-use Rattle.std.proofs.lemmas.List.{append-nil, take_all, length-drop}
-use Rattle.sym_filter.specs.Carried.{rest_of_text, TakesText}
+use Rattle.sym_filter.proofs.Basics.{◌≡◌, refl, ◌-◌, ◌++◌, ◌∙◌, [], List, ℕ, take, drop, length, sym, ap, subst, arith, append-nil, take_all, length-drop, rest_of_text, TakesText, TakesTextEntries, entries_in_rest, Entry}
 use Rattle.sym_filter.proofs.CarryLemmas.{TakesText-join, text-bytes}
 use Rattle.sym_filter.proofs.WordLemmas.{slice_from}
 use Rattle.sym_filter.proofs.StreamLemmas.{Appends-none, few-still, Puts-join, Puts-same, PutsFront-more, PutsFront-join, PutsFront-same, take-part, IfErr-from_and}
-use Rattle.sym_filter.specs.CarriedEntries.{TakesTextEntries, entries_in_rest}
-use Rattle.sym_filter.specs.Entries.{Entry}
 use Rattle.sym_filter.proofs.TextEntryLemmas.{TakesTextEntries-join, text-entries}
 use Rattle.sym_filter.proofs.filtering.take_piece.Goals as goal
 

@@ -1,9 +1,4 @@
-use Rattle.std.proofs.Common.{◌≡◌, ◌≤◌, ◌<◌, ◌-◌, List, [], ℕ, length, take}
-use Rattle.sym_filter.specs.Carried.{TakesText}
-use Rattle.sym_filter.specs.CarriedEntries.{TakesTextEntries}
-use Rattle.sym_filter.specs.Entries.{Entry}
-use Rattle.sym_filter.specs.Streams.{Puts}
-use Rattle.sym_filter.specs.declared.filtering.TheConstants.{READ_SIZE}
+use Rattle.sym_filter.proofs.Basics.{◌≡◌, ◌≤◌, ◌<◌, ◌-◌, List, [], ℕ, length, take, TakesText, TakesTextEntries, Entry, Puts, READ_SIZE}
 use Rattle.sym_filter.proofs.filtering.take_piece.Given as goal
 
 abbrev pub invariant-loop-at : goal.invariant-loop-at

@@ -1,10 +1,4 @@
-use Rattle.std.proofs.Common.{◌≡◌, ◌++◌, ◌∙◌, List, [], ℕ, true, false, take, sym, ap, subst}
-use Rattle.std.proofs.lemmas.Bool.{not-false, not-true}
-use Rattle.sym_filter.specs.declared.kinds.Letters.{Letters}
-use Rattle.sym_filter.specs.Carried.{IsRead, rest_of_text}
-use Rattle.sym_filter.specs.CarriedEntries.{entries_after, entries_in_rest}
-use Rattle.sym_filter.specs.Entries.{Entry}
-use Rattle.sym_filter.specs.Words.{rest_after}
+use Rattle.sym_filter.proofs.Basics.{◌≡◌, ◌++◌, ◌∙◌, List, [], ℕ, true, false, take, sym, ap, subst, not-false, not-true, Letters, IsRead, rest_of_text, entries_after, entries_in_rest, Entry, rest_after}
 use Rattle.sym_filter.proofs.TextEntryLemmas.{TakesTextEntries-end, TakesTextEntries-part, entries-begin, entries-segment-end}
 use Rattle.sym_filter.proofs.CarryLemmas.{TakesText-part, TakesText-end, front-begins, segment-end, IsRead-as}
 use Rattle.sym_filter.proofs.StreamLemmas.{Puts-join, PutsFront-join, PutsFront-more, PutsFront-same, IfErr-from_and}

@@ -1,10 +1,6 @@
-use Rattle.std.proofs.Common.{◌≡◌, refl, [], ◌+◌, ◌-◌, ◌++◌, ◌∙◌, List, ℕ, take, drop, length, sym, ap, subst, arith, add-zero, append_assoc}
-use Rattle.std.proofs.lemmas.List.{append-nil, take_all, length-drop}
-use Rattle.sym_filter.specs.Words.{rest_after, following, Takes}
+use Rattle.sym_filter.proofs.Basics.{◌≡◌, refl, [], ◌+◌, ◌-◌, ◌++◌, ◌∙◌, List, ℕ, take, drop, length, sym, ap, subst, arith, add-zero, append_assoc, append-nil, take_all, length-drop, rest_after, following, Takes, TakesEntries, entries_after, Entry, left_at_end, newlines_in}
 use Rattle.sym_filter.proofs.WordLemmas.{slice_from, Takes-join}
 use Rattle.sym_filter.proofs.StreamLemmas.{few-still, Appends-none, Puts-push, Puts-join, PutsFront-of, PutsFront-more, PutsFront-join, PutsFront-same, rest-bytes, take-part, IfErr-from_and}
-use Rattle.sym_filter.specs.CarriedEntries.{TakesEntries, entries_after}
-use Rattle.sym_filter.specs.Entries.{Entry, left_at_end, newlines_in}
 use Rattle.sym_filter.proofs.EntryLemmas.{TakesEntries-join, entries-rest}
 use Rattle.sym_filter.proofs.TextEntryLemmas.{regroup}
 use Rattle.sym_filter.proofs.filtering.take_words.Goals as goal

@@ -1,9 +1,4 @@
-use Rattle.std.proofs.Common.{◌≡◌, ◌≤◌, ◌<◌, ◌-◌, List, ℕ, length, take}
-use Rattle.sym_filter.specs.CarriedEntries.{TakesEntries}
-use Rattle.sym_filter.specs.Entries.{Entry}
-use Rattle.sym_filter.specs.Streams.{Puts}
-use Rattle.sym_filter.specs.Words.{Takes}
-use Rattle.sym_filter.specs.declared.filtering.TheConstants.{READ_SIZE}
+use Rattle.sym_filter.proofs.Basics.{◌≡◌, ◌≤◌, ◌<◌, ◌-◌, List, ℕ, length, take, TakesEntries, Entry, Puts, Takes, READ_SIZE}
 use Rattle.sym_filter.proofs.filtering.take_words.Given as goal
 
 abbrev pub invariant-loop-at : goal.invariant-loop-at

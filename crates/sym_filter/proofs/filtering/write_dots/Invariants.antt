@@ -1,6 +1,4 @@
-use Rattle.std.proofs.Common.{◌≡◌, ◌<◌, length, replicate}
-use Rattle.sym_filter.specs.declared.filtering.TheConstants.{READ_SIZE}
-use Rattle.sym_filter.specs.Streams.{Puts}
+use Rattle.sym_filter.proofs.Basics.{◌≡◌, ◌<◌, length, replicate, READ_SIZE, Puts}
 use Rattle.sym_filter.proofs.filtering.write_dots.Given as goal
 
 abbrev pub invariant-loop : goal.invariant-loop

@@ -1,6 +1,4 @@
-use Rattle.std.proofs.Common.{◌&&◌}
-use Rattle.std.proofs.lemmas.Bool.{and_parts}
-use Rattle.sym_filter.specs.Lanes.{is_no_mark}
+use Rattle.sym_filter.proofs.Basics.{◌&&◌, and_parts, is_no_mark}
 use Rattle.sym_filter.proofs.LaneLemmas.{all-next}
 use Rattle.sym_filter.proofs.lanes.block_has_no_mark.Goals as goal
 

@@ -1,7 +1,4 @@
-use Rattle.std.proofs.Common.{◌≡◌, subst, take, drop, true, ℕ}
-use Rattle.std.proofs.lemmas.Bool.{eqb-true}
-use Rattle.std.specs.List.{list_all}
-use Rattle.sym_filter.specs.Lanes.{first_set, is_no_mark}
+use Rattle.sym_filter.proofs.Basics.{◌≡◌, subst, take, drop, true, ℕ, eqb-true, list_all, first_set, is_no_mark}
 use Rattle.sym_filter.proofs.lanes.has_no_mark.Goals as goal
 
 pub returns : goal.returns

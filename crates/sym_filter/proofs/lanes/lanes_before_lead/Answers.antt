@@ -1,6 +1,4 @@
-use Rattle.std.proofs.Common.{◌≡◌, ◌≤◌, take, drop, subst, sym, true, ℕ}
-use Rattle.std.specs.List.{list_all}
-use Rattle.sym_filter.specs.Lanes.{is_no_lead}
+use Rattle.sym_filter.proofs.Basics.{◌≡◌, ◌≤◌, take, drop, subst, sym, true, ℕ, list_all, is_no_lead}
 use Rattle.sym_filter.proofs.lanes.lanes_before_lead.Goals as goal
 
 pub returns : goal.returns

@@ -1,6 +1,4 @@
-use Rattle.std.proofs.Common.{◌≡◌, ◌≤◌, take, drop, subst, sym, true, ℕ}
-use Rattle.std.specs.List.{list_all}
-use Rattle.sym_filter.specs.Lanes.{is_no_mark}
+use Rattle.sym_filter.proofs.Basics.{◌≡◌, ◌≤◌, take, drop, subst, sym, true, ℕ, list_all, is_no_mark}
 use Rattle.sym_filter.proofs.lanes.lanes_before_mark.Goals as goal
 
 pub returns : goal.returns

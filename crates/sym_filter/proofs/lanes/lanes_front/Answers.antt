@@ -1,8 +1,5 @@
-use Rattle.std.proofs.Common.{ℕ, leb, cond, bit_and, refl}
-use Rattle.std.proofs.lemmas.Simd.{zip2_splat, length-chunk}
+use Rattle.sym_filter.proofs.Basics.{ℕ, leb, cond, bit_and, refl, zip2_splat, length-chunk, is_byte_of, is_run_byte, Ascii}
 use lib.Lanes.{chunk}
-use Rattle.sym_filter.specs.Bytes.{is_byte_of, is_run_byte}
-use Rattle.sym_filter.specs.declared.kinds.Letters.TheVariants.{Ascii}
 use Rattle.sym_filter.proofs.LaneLemmas.{joined, splat_is, front_is_of}
 use Rattle.sym_filter.proofs.lanes.lanes_front.Goals as goal
 

@@ -1,7 +1,5 @@
-use Rattle.std.proofs.Common.{ℕ, bit_or, refl}
-use Rattle.std.proofs.lemmas.Simd.{zip2_splat, length-chunk}
+use Rattle.sym_filter.proofs.Basics.{ℕ, bit_or, refl, zip2_splat, length-chunk, is_no_lead}
 use lib.Lanes.{chunk}
-use Rattle.sym_filter.specs.Lanes.{is_no_lead}
 use Rattle.sym_filter.proofs.LaneLemmas.{front_is_of, joined}
 use Rattle.sym_filter.proofs.lanes.leads.Goals as goal
 

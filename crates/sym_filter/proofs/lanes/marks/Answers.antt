@@ -1,7 +1,5 @@
-use Rattle.std.proofs.Common.{ℕ, refl}
-use Rattle.std.proofs.lemmas.Simd.{zip2_splat, length-chunk}
+use Rattle.sym_filter.proofs.Basics.{ℕ, refl, zip2_splat, length-chunk, is_no_mark}
 use lib.Lanes.{chunk}
-use Rattle.sym_filter.specs.Lanes.{is_no_mark}
 use Rattle.sym_filter.proofs.LaneLemmas.{front_is_of}
 use Rattle.sym_filter.proofs.lanes.marks.Goals as goal
 

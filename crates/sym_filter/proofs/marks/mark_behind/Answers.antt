@@ -1,6 +1,4 @@
-use Rattle.std.proofs.Common.{◌+◌, ◌≤◌, ◌∙◌, ap, sym, arith, drop, length}
-use Rattle.std.proofs.lemmas.List.{length-drop}
-use Rattle.sym_filter.specs.Marks.{from_mark}
+use Rattle.sym_filter.proofs.Basics.{◌+◌, ◌≤◌, ◌∙◌, ap, sym, arith, drop, length, length-drop, from_mark}
 use Rattle.sym_filter.proofs.NameLemmas.{before_name, byte_before, name_there, no_name}
 use Rattle.sym_filter.proofs.WordLemmas.{slice_from}
 use Rattle.sym_filter.proofs.marks.mark_behind.Goals as goal

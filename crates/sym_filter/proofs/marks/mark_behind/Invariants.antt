@@ -1,5 +1,4 @@
-use Rattle.std.proofs.Common.{◌≡◌, ◌-◌, ◌≤◌, length, drop}
-use Rattle.sym_filter.specs.Marks.{from_mark}
+use Rattle.sym_filter.proofs.Basics.{◌≡◌, ◌-◌, ◌≤◌, length, drop, from_mark}
 use Rattle.sym_filter.proofs.marks.mark_behind.Given as goal
 
 abbrev pub invariant-bytes : goal.invariant-bytes

@@ -1,10 +1,8 @@
-use Rattle.std.proofs.Common.{◌≡◌, arith, subst, take, drop, true, List, ℕ}
-use Rattle.std.specs.List.{list_all}
-use Rattle.sym_filter.specs.Lanes.{is_no_mark}
+use Rattle.sym_filter.proofs.Basics.{◌≡◌, arith, subst, take, drop, true, List, ℕ, list_all, is_no_mark}
 use Rattle.sym_filter.proofs.LaneLemmas.{all-longer}
 use Rattle.sym_filter.proofs.places.before_mark.Goals as goal
 
--- sixteen bytes, where the front that was found has them all
+-- none of sixteen bytes is a mark, if the front that was found without a mark has sixteen bytes
 all-of-lanes : (bytes : List ℕ) (front : ℕ) → front ≡ 16 → list_all is_no_mark (take front bytes) ≡ true → list_all is_no_mark (take 16 bytes) ≡ true
 all-of-lanes bytes front is found = subst (λ (n : ℕ). list_all is_no_mark (take n bytes) ≡ true) is found
 

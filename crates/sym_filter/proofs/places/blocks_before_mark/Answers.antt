@@ -1,5 +1,4 @@
-use Rattle.std.proofs.Common.{arith}
-use Rattle.sym_filter.specs.Lanes.{is_no_mark}
+use Rattle.sym_filter.proofs.Basics.{arith, is_no_mark}
 use Rattle.sym_filter.proofs.LaneLemmas.{all-longer}
 use Rattle.sym_filter.proofs.places.blocks_before_mark.Goals as goal
 

@@ -1,5 +1,4 @@
-use Rattle.std.proofs.Common.{◌+◌, ◌-◌, ◌≡◌, ◌∙◌, ap, not, sym, arith, take, get_or}
-use Rattle.sym_filter.specs.Places.{may_begin, place_of}
+use Rattle.sym_filter.proofs.Basics.{◌+◌, ◌-◌, ◌≡◌, ◌∙◌, ap, not, sym, arith, take, get_or, may_begin, place_of}
 use Rattle.sym_filter.proofs.PlainLemmas.{may_begin-after, place_of-take}
 use Rattle.sym_filter.proofs.places.is_open.Goals as goal
 

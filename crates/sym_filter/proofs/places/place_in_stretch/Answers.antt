@@ -1,5 +1,4 @@
-use Rattle.std.proofs.Common.{◌≡◌, ◌∙◌, ap, sym, arith, take, get_or}
-use Rattle.sym_filter.specs.Places.{place_after, place_of}
+use Rattle.sym_filter.proofs.Basics.{◌≡◌, ◌∙◌, ap, sym, arith, take, get_or, place_after, place_of}
 use Rattle.sym_filter.proofs.PlainLemmas.{place_of-none, place_of-start, place_of-take}
 use Rattle.sym_filter.proofs.places.place_in_stretch.Goals as goal
 use Rattle.sym_filter.proofs.places.place_in_stretch.Goals.{then-next-eq0, else-next-eq0}

@@ -1,5 +1,4 @@
-use Rattle.std.proofs.Common.{◌≡◌, ◌-◌, ◌≤◌, take}
-use Rattle.sym_filter.specs.Places.{place_of}
+use Rattle.sym_filter.proofs.Basics.{◌≡◌, ◌-◌, ◌≤◌, take, place_of}
 use Rattle.sym_filter.proofs.places.place_in_stretch.Given as goal
 
 abbrev pub invariant-bytes : goal.invariant-bytes

@@ -1,9 +1,5 @@
-use Rattle.std.proofs.Common.{◌≡◌, ◌+◌, ◌&&◌, ◌∙◌, ap, arith, sym, subst, true, not, eqb, length, take, get_or, List, ℕ}
-use Rattle.std.proofs.lemmas.List.{length-drop}
-use Rattle.std.specs.List.{list_all}
-use Rattle.sym_filter.specs.Lanes.{is_no_mark}
+use Rattle.sym_filter.proofs.Basics.{◌≡◌, ◌+◌, ◌&&◌, ◌∙◌, ap, arith, sym, subst, true, not, eqb, length, take, get_or, List, ℕ, length-drop, list_all, is_no_mark, may_begin, place_of}
 use Rattle.sym_filter.proofs.WordLemmas.{slice_from}
-use Rattle.sym_filter.specs.Places.{may_begin, place_of}
 use Rattle.sym_filter.proofs.PlainLemmas.{is_plain-longer, is_plain-take, goes_on, is_other}
 use Rattle.sym_filter.proofs.places.plain_front.Goals as goal
 use Rattle.sym_filter.proofs.places.plain_front.Goals.{else-text-length-eq95-via-then-text-length-eq95+else-is_open, else-text-length-eq95-via-else-text-length-eq95}

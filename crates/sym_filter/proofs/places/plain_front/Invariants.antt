@@ -1,5 +1,4 @@
-use Rattle.std.proofs.Common.{◌≡◌, ◌-◌, ◌≤◌, length, take, true}
-use Rattle.sym_filter.specs.Plain.{is_plain}
+use Rattle.sym_filter.proofs.Basics.{◌≡◌, ◌-◌, ◌≤◌, length, take, true, is_plain}
 use Rattle.sym_filter.proofs.places.plain_front.Given as goal
 
 abbrev pub invariant-bytes : goal.invariant-bytes

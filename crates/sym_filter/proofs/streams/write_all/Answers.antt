@@ -1,5 +1,4 @@
-use Rattle.std.proofs.Common.{refl, arith, take, length, ap, ap₂, ◌∙◌, add-zero, ◌+◌}
-use Rattle.std.proofs.lemmas.List.{length-drop}
+use Rattle.sym_filter.proofs.Basics.{refl, arith, take, length, ap, ap₂, ◌∙◌, add-zero, ◌+◌, length-drop}
 use Rattle.sym_filter.proofs.WordLemmas.{slice_from}
 use Rattle.sym_filter.proofs.StreamLemmas.{Appends-part, Appends-keeps, BeginsWith-take, write_failures-some}
 use Rattle.sym_filter.proofs.streams.write_all.Goals as goal

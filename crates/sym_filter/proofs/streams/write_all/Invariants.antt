@@ -1,5 +1,4 @@
-use Rattle.std.proofs.Common.{◌≡◌, ◌≤◌, ◌-◌, length, take}
-use Rattle.std.specs.Io.KnownBytes.{Appends}
+use Rattle.sym_filter.proofs.Basics.{◌≡◌, ◌≤◌, ◌-◌, length, take, Appends}
 use Rattle.sym_filter.proofs.streams.write_all.Given as goal
 
 abbrev pub invariant-loop-written : goal.invariant-loop-written

@@ -1,6 +1,4 @@
-use Rattle.std.proofs.Common.{◌≡◌, ◌-◌, ◌++◌, ◌∙◌, List, ℕ, [], length, drop, take, sym, ap, ap₂, arith}
-use Rattle.std.specs.Prelude.{is_some, unwrap_or}
-use Rattle.std.proofs.lemmas.List.{append-nil, length-drop}
+use Rattle.sym_filter.proofs.Basics.{◌≡◌, ◌-◌, ◌++◌, ◌∙◌, List, ℕ, [], length, drop, take, sym, ap, ap₂, arith, is_some, unwrap_or, append-nil, length-drop}
 use Rattle.sym_filter.proofs.TryLemmas.{cut-back, more-pushed, parts-end, parts-more, parts-some, parts-unread, texts-end, texts-more}
 use Rattle.sym_filter.proofs.WordLemmas.{slice_from}
 use Rattle.sym_filter.proofs.tries.append_parts.Goals as goal

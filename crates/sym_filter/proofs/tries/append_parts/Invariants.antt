@@ -1,7 +1,4 @@
-use Rattle.std.proofs.Common.{◌≡◌, ◌≤◌, ◌-◌, ◌++◌, ◌||◌, List, ℕ, length, drop}
-use Rattle.std.specs.List.{list_any}
-use Rattle.sym_filter.specs.declared.kinds.Letters.TheVariants.{Ascii}
-use Rattle.sym_filter.specs.Runs.{has_text, replaced, runs_of, with_runs}
+use Rattle.sym_filter.proofs.Basics.{◌≡◌, ◌≤◌, ◌-◌, ◌++◌, ◌||◌, List, ℕ, length, drop, list_any, Ascii, has_text, replaced, runs_of, with_runs}
 use Rattle.sym_filter.proofs.tries.append_parts.Given as goal
 
 abbrev pub invariant-parts : goal.invariant-parts

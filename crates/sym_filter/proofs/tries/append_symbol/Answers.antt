@@ -1,7 +1,4 @@
-use Rattle.std.proofs.Common.{◌≡◌, ◌++◌, ◌∙◌, [], sym, ap, None, Ok, Err}
-use Rattle.std.specs.Prelude.{is_some, unwrap_or}
-use Rattle.std.proofs.lemmas.List.{append-nil}
-use Rattle.sym_filter.specs.Runs.{text_for}
+use Rattle.sym_filter.proofs.Basics.{◌≡◌, ◌++◌, ◌∙◌, [], sym, ap, None, Ok, Err, is_some, unwrap_or, append-nil, text_for}
 use Rattle.sym_filter.proofs.RunLemmas.{text_of-symbol}
 use Rattle.sym_filter.proofs.tries.append_symbol.Goals as goal
 

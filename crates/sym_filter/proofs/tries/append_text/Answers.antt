@@ -1,7 +1,4 @@
-use Rattle.std.proofs.Common.{◌≡◌, ◌++◌, ◌∙◌, [], sym, ap, None}
-use Rattle.std.specs.Prelude.{is_some, unwrap_or}
-use Rattle.std.proofs.lemmas.List.{append-nil}
-use Rattle.sym_filter.specs.Kinds.{kind_of}
+use Rattle.sym_filter.proofs.Basics.{◌≡◌, ◌++◌, ◌∙◌, [], sym, ap, None, is_some, unwrap_or, append-nil, kind_of}
 use Rattle.sym_filter.proofs.RunLemmas.{text_for-unnamed}
 use Rattle.sym_filter.proofs.tries.append_text.Goals as goal
 

@@ -1,7 +1,4 @@
-use Rattle.std.proofs.Common.{◌-◌, ◌++◌, ◌∙◌, [], length, drop, take, sym, ap, arith}
-use Rattle.std.specs.Prelude.{is_some, unwrap_or}
-use Rattle.std.proofs.lemmas.List.{take_all}
-use Rattle.sym_filter.specs.Runs.{text_for, text_of_parts, text_of_tries}
+use Rattle.sym_filter.proofs.Basics.{◌-◌, ◌++◌, ◌∙◌, [], length, drop, take, sym, ap, arith, is_some, unwrap_or, take_all, text_for, text_of_parts, text_of_tries}
 use Rattle.sym_filter.proofs.TryLemmas.{front-read, front-unread, then-pushed, two-parts, whole-read, whole-unread}
 use Rattle.sym_filter.proofs.WordLemmas.{slice_from}
 use Rattle.sym_filter.proofs.tries.append_tries.Goals as goal

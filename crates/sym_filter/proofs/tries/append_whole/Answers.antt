@@ -1,6 +1,4 @@
-use Rattle.std.proofs.Common.{◌++◌, ◌∙◌, [], sym, ap}
-use Rattle.std.specs.Prelude.{is_some, unwrap_or}
-use Rattle.sym_filter.specs.Runs.{text_for, text_of_parts}
+use Rattle.sym_filter.proofs.Basics.{◌++◌, ◌∙◌, [], sym, ap, is_some, unwrap_or, text_for, text_of_parts}
 use Rattle.sym_filter.proofs.TryLemmas.{then-pushed, whole-first, whole-read, whole-unread}
 use Rattle.sym_filter.proofs.tries.append_whole.Goals as goal
 

@@ -1,7 +1,4 @@
-use Rattle.std.proofs.Common.{◌<◌, ◌+◌, ◌++◌, ◌||◌, ◌∙◌, [], ◌∷◌, Bool, length, drop, take, get_or, sym, ap, arith}
-use Rattle.std.specs.List.{list_any}
-use Rattle.sym_filter.specs.declared.kinds.Letters.TheVariants.{Ascii}
-use Rattle.sym_filter.specs.Runs.{has_text, replaced, runs_of}
+use Rattle.sym_filter.proofs.Basics.{◌<◌, ◌+◌, ◌++◌, ◌||◌, ◌∙◌, [], ◌∷◌, Bool, length, drop, take, get_or, sym, ap, arith, list_any, Ascii, has_text, replaced, runs_of}
 use Rattle.sym_filter.proofs.TryLemmas.{last-part, last-part_text, more-pushed, next-part, next-part_text}
 use Rattle.sym_filter.proofs.tries.push_part.Goals as goal
 

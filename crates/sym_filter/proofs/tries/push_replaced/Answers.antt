@@ -1,6 +1,4 @@
-use Rattle.std.proofs.Common.{◌++◌, ◌∙◌, ◌-◌, List, ℕ, [], length, drop, take, sym, ap}
-use Rattle.std.specs.Prelude.{is_some, unwrap_or}
-use Rattle.sym_filter.specs.Runs.{replaced, text_for}
+use Rattle.sym_filter.proofs.Basics.{◌++◌, ◌∙◌, ◌-◌, List, ℕ, [], length, drop, take, sym, ap, is_some, unwrap_or, replaced, text_for}
 use Rattle.sym_filter.proofs.TryLemmas.{nothing-appended, run-read, run-unread, two-parts}
 use Rattle.sym_filter.proofs.WordLemmas.{slice_from}
 use Rattle.sym_filter.proofs.tries.push_replaced.Goals as goal

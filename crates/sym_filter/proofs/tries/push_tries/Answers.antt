@@ -1,6 +1,4 @@
-use Rattle.std.proofs.Common.{◌++◌, ◌∙◌, List, ℕ, sym, ap}
-use Rattle.std.specs.Prelude.{is_some}
-use Rattle.sym_filter.specs.Runs.{text_of_tries}
+use Rattle.sym_filter.proofs.Basics.{◌++◌, ◌∙◌, List, ℕ, sym, ap, is_some, text_of_tries}
 use Rattle.sym_filter.proofs.TryLemmas.{nothing-appended, text_for-within, tries-read, tries-unread}
 use Rattle.sym_filter.proofs.tries.push_tries.Goals as goal
 

@@ -1,6 +1,4 @@
-use Rattle.std.proofs.Common.{ℕ, leb, get_or, ap, sym, ◌∙◌, arith}
-use Rattle.sym_filter.specs.Places.{closes}
-use Rattle.sym_filter.specs.declared.words.TheConstants.{RUN_BYTES}
+use Rattle.sym_filter.proofs.Basics.{ℕ, leb, get_or, ap, sym, ◌∙◌, arith, closes, RUN_BYTES}
 use Rattle.sym_filter.proofs.ByteLemmas.{any_closes, ascii_closes, is_closing}
 use Rattle.sym_filter.proofs.words.closes.Goals as goal
 use Rattle.sym_filter.proofs.words.closes.Goals.{in-Any, in-Ascii, in-Within}

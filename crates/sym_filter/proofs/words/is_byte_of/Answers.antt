@@ -1,6 +1,4 @@
-use Rattle.std.proofs.Common.{ℕ, leb, get_or, ap, sym, ◌∙◌, arith}
-use Rattle.sym_filter.specs.Bytes.{is_byte_of}
-use Rattle.sym_filter.specs.declared.words.TheConstants.{RUN_BYTES}
+use Rattle.sym_filter.proofs.Basics.{ℕ, leb, get_or, ap, sym, ◌∙◌, arith, is_byte_of, RUN_BYTES}
 use Rattle.sym_filter.proofs.ByteLemmas.{is_any, is_ascii}
 use Rattle.sym_filter.proofs.words.is_byte_of.Goals as goal
 use Rattle.sym_filter.proofs.words.is_byte_of.Goals.{in-Any, in-Ascii, in-Within}

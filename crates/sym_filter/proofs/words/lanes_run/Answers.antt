@@ -1,6 +1,4 @@
-use Rattle.std.proofs.Common.{arith}
-use Rattle.sym_filter.specs.Bytes.{is_byte_of}
-use Rattle.sym_filter.specs.declared.kinds.Letters.TheVariants.{Ascii}
+use Rattle.sym_filter.proofs.Basics.{arith, is_byte_of, Ascii}
 use Rattle.sym_filter.proofs.LaneLemmas.{all-longer}
 use Rattle.sym_filter.proofs.words.lanes_run.Goals as goal
 

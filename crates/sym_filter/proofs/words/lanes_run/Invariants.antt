@@ -1,7 +1,4 @@
-use Rattle.std.proofs.Common.{◌≡◌, ◌-◌, ◌≤◌, length, take, true}
-use Rattle.std.specs.List.{list_all}
-use Rattle.sym_filter.specs.Bytes.{is_byte_of}
-use Rattle.sym_filter.specs.declared.kinds.Letters.TheVariants.{Ascii}
+use Rattle.sym_filter.proofs.Basics.{◌≡◌, ◌-◌, ◌≤◌, length, take, true, list_all, is_byte_of, Ascii}
 use Rattle.sym_filter.proofs.words.lanes_run.Given as goal
 
 abbrev pub invariant-lanes : goal.invariant-lanes

@@ -1,6 +1,4 @@
-use Rattle.std.proofs.Common.{◌≡◌, ◌∙◌, ◌++◌, sym, ap, List, ℕ, Ok, Err, None}
-use Rattle.std.specs.Prelude.{is_some, unwrap_or}
-use Rattle.sym_filter.specs.Runs.{text_for}
+use Rattle.sym_filter.proofs.Basics.{◌≡◌, ◌∙◌, ◌++◌, sym, ap, List, ℕ, Ok, Err, None, is_some, unwrap_or, text_for}
 use Rattle.sym_filter.proofs.RunLemmas.{text_of-symbol}
 use Rattle.sym_filter.proofs.words.push_text.Goals as goal
 

@@ -1,6 +1,4 @@
-use Rattle.std.proofs.Common.{◌≡◌, ◌-◌, ◌≤◌, length, take, true}
-use Rattle.std.specs.List.{list_all}
-use Rattle.sym_filter.specs.Bytes.{is_byte_of}
+use Rattle.sym_filter.proofs.Basics.{◌≡◌, ◌-◌, ◌≤◌, length, take, true, list_all, is_byte_of}
 use Rattle.sym_filter.proofs.words.run_front.Given as goal
 
 abbrev pub invariant-bytes : goal.invariant-bytes

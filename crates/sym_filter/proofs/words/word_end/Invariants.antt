@@ -1,5 +1,4 @@
-use Rattle.std.proofs.Common.{◌≡◌, ◌≤◌, length, drop, true}
-use Rattle.std.specs.List.{list_all}
+use Rattle.sym_filter.proofs.Basics.{◌≡◌, ◌≤◌, length, drop, true, list_all}
 use Rattle.sym_filter.proofs.RunLemmas.{is_dot}
 use Rattle.sym_filter.proofs.words.word_end.Given as goal
 

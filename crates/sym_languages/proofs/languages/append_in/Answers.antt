@@ -1,5 +1,4 @@
-use Rattle.std.proofs.Common.{rules}
-use Rattle.sym_shape.specs.Decided.{AreBytes}
+use Rattle.sym_languages.proofs.Basics.{rules, AreBytes}
 use Rattle.sym_languages.proofs.LanguageLemmas.{append_answered}
 use Rattle.sym_languages.proofs.languages.append_in.Goals as goal
 

@@ -1,6 +1,4 @@
-use Rattle.std.proofs.Common.{refl, rules}
-use Rattle.sym_shape.specs.Decided.{AreBytes}
-use Rattle.sym_demangle.proofs.Answering.{answer_appended, answer_too_long}
+use Rattle.sym_languages.proofs.Basics.{refl, rules, AreBytes, answer_appended, answer_too_long}
 use Rattle.sym_languages.proofs.LanguageLemmas.{text_answered, too_long_answered, unread_answered, read_counts}
 use Rattle.sym_languages.proofs.languages.demangle_in.Goals as goal
 

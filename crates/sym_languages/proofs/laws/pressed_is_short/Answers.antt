@@ -1,8 +1,7 @@
-use Rattle.cpp_grammar.specs.Mangled.{cpp_mangled}
+use Rattle.sym_languages.proofs.Basics.{cpp_mangled, v0_mangled}
 use Rattle.cpp_press_laws.proofs.Short.Law.{pressed-short}
 use Rattle.cpp_press_laws.specs.Pressing as cpp_spelling
 use Rattle.cpp_press_laws.specs.Short as cpp_short
-use Rattle.rust_grammar.specs.Mangled.{v0_mangled}
 use Rattle.rust_press.proofs.ShortSymbol.{pressed-is-short}
 use Rattle.rust_press.specs.Pressing as rust_spelling
 use Rattle.rust_press.specs.Short as rust_short

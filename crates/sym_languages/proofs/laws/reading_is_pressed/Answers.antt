@@ -1,8 +1,6 @@
-use Rattle.cpp_grammar.specs.Mangled.{cpp_mangled}
+use Rattle.sym_languages.proofs.Basics.{cpp_mangled, v0_mangled, reading_pressed}
 use Rattle.cpp_press_laws.specs.Pressing as cpp_spelling
-use Rattle.rust_grammar.specs.Mangled.{v0_mangled}
 use Rattle.rust_press.specs.Pressing as rust_spelling
-use Rattle.sym_languages.specs.Pressed.{reading_pressed}
 use Rattle.sym_languages.proofs.laws.reading_is_pressed.Goals as goal
 
 pub returns-clause-cpp : goal.returns-clause-cpp

@@ -1,9 +1,7 @@
-use Rattle.std.proofs.Common.{◌≡◌, ℕ, List, ap, subst, Option, Some, None, Result}
+use Rattle.sym_languages.proofs.Basics.{◌≡◌, ℕ, List, ap, subst, Option, Some, None, Result, Refusal, text_within}
 use Rattle.std.specs.Option.{MatchOption}
 use Rattle.rust_legacy.specs.Path.{AreRead, Path, legacy_of}
 use Rattle.rust_legacy.specs.Text.{shown_path}
-use Rattle.sym_core.specs.declared.refusal.Refusal.{Refusal}
-use Rattle.sym_print.specs.Answer.{text_within}
 use Rattle.sym_languages.proofs.legacy.may_be_legacy.Goals as goal
 
 pub returns-in-None : goal.returns-in-None

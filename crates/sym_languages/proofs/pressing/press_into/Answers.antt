@@ -1,6 +1,4 @@
-use Rattle.std.proofs.Common.{refl, rules, ◌∙◌}
-use Rattle.sym_shape.specs.Decided.{AreBytes}
-use Rattle.sym_filter.specs.Kinds.{underscore_of}
+use Rattle.sym_languages.proofs.Basics.{refl, rules, ◌∙◌, AreBytes, underscore_of}
 use Rattle.sym_languages.proofs.LanguageLemmas.{unread_pressed, pressed_given, read_counts}
 use Rattle.sym_languages.proofs.pressing.press_into.Goals as goal
 

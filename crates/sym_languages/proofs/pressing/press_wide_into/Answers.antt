@@ -1,11 +1,5 @@
-use Rattle.std.proofs.Common.{Err, refl, rules}
-use Rattle.sym_shape.specs.Decided.{AreBytes}
-use Rattle.sym_filter.specs.Kinds.{underscore_of}
-use Rattle.cpp_grammar.specs.Mangled.{wide_mangled}
+use Rattle.sym_languages.proofs.Basics.{Err, refl, rules, AreBytes, underscore_of, wide_mangled, kept, wide_readings, wide_pressed_answer}
 use Rattle.cpp_layout.specs.Layout.{whole_of}
-use Rattle.wide_press.specs.Kept.{kept}
-use Rattle.sym_languages.specs.Languages.{wide_readings}
-use Rattle.sym_languages.specs.WidePressed.{wide_pressed_answer}
 use Rattle.sym_languages.proofs.LanguageLemmas.{unread_pressed, read_counts}
 use Rattle.sym_languages.proofs.WideAnswers.{kept_none, kept_some, reading_kept, unspelled_answer, spelled_answer}
 use Rattle.sym_languages.proofs.pressing.press_wide_into.Goals as goal

@@ -1,15 +1,7 @@
-use Rattle.std.proofs.Common.{ℕ, Option, Err, Some, sym, ap, subst, ◌∙◌, ◌+◌, ◌∷◌, [], length, length-append, arith, refl}
-use Rattle.std.specs.Prelude.{◌≢◌, None}
-use Rattle.sym_core.specs.declared.refusal.Refusal.TheVariants.{Memory as memory}
-use Rattle.std.proofs.lemmas.Result.{err_from_is_err_and}
-use Rattle.sym_link.specs.Following.{meaning_of}
-use Rattle.sym_link.specs.Stepping.{waiting}
+use Rattle.sym_link.proofs.Basics.{ℕ, Option, Err, Some, sym, ap, subst, ◌∙◌, ◌+◌, ◌∷◌, [], length, length-append, arith, refl, ◌≢◌, None, Memory as memory, err_from_is_err_and, meaning_of, waiting, all_lists, lists_with, TokenTakesMemory, one_by_one, never_err}
 use Rattle.sym_link.proofs.Lists.{popped, last_same}
 use Rattle.sym_link.proofs.Driving.{begun_way, closing_way, done_way, fresh_way, root_left}
-use Rattle.sym_link.specs.Linking.{all_lists, lists_with, TokenTakesMemory}
-use Rattle.sym_link.specs.Room.{one_by_one}
 use Rattle.sym_link.proofs.Never.{never_some, refused_still, some_open}
-use Rattle.sym_shape.proofs.Keeping.{never_err}
 use Rattle.sym_link.proofs.Room.{room_same, only_refused, list_more}
 use Rattle.sym_link.proofs.driver.advance.Goals as goal
 

@@ -1,8 +1,5 @@
-use Rattle.std.proofs.Common.{refl, arith}
-use Rattle.std.specs.Prelude.{slice_index_or}
-use Rattle.sym_link.specs.Following.{meaning_of}
+use Rattle.sym_link.proofs.Basics.{refl, arith, slice_index_or, meaning_of, TokenTakesMemory, all_lists}
 use Rattle.sym_link.proofs.Driving.{root_asks, root_left, root_begun}
-use Rattle.sym_link.specs.Linking.{TokenTakesMemory, all_lists}
 use Rattle.sym_link.proofs.Room.{room_then, only_then}
 use Rattle.sym_link.proofs.driver.begin.Goals as goal
 

@@ -1,8 +1,5 @@
-use Rattle.std.proofs.Common.{Ok, Err, arith}
-use Rattle.std.proofs.lemmas.Result.{err_from_is_err_and}
+use Rattle.sym_link.proofs.Basics.{Ok, Err, arith, err_from_is_err_and, one_by_one, TokenTakesMemory, lists_with, all_lists}
 use Rattle.sym_link.proofs.Driving.{closing_room, closing_open, closing_place, closing_base, closed}
-use Rattle.sym_link.specs.Room.{one_by_one}
-use Rattle.sym_link.specs.Linking.{TokenTakesMemory, lists_with, all_lists}
 use Rattle.sym_link.proofs.Room.{room_then, only_refused, list_more}
 use Rattle.sym_link.proofs.driver.close_lone_token.Goals as goal
 

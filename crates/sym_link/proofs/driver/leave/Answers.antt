@@ -1,5 +1,4 @@
-use Rattle.std.proofs.Common.{refl, ◌+◌}
-use Rattle.sym_link.specs.Stepping.{waiting}
+use Rattle.sym_link.proofs.Basics.{refl, ◌+◌, waiting}
 use Rattle.sym_link.proofs.Driving.{closing_room, closing_open, closing_place, closing_base, closed, few_two}
 use Rattle.sym_link.proofs.driver.leave.Goals as goal
 

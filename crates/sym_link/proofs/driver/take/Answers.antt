@@ -1,10 +1,5 @@
-use Rattle.std.proofs.Common.{refl, sym, ◌∙◌, arith, Ok, Err, ◌+◌}
-use Rattle.std.specs.Prelude.{slice_index_or}
-use Rattle.std.proofs.lemmas.Result.{err_from_is_err_and}
-use Rattle.sym_link.specs.Stepping.{waiting}
+use Rattle.sym_link.proofs.Basics.{refl, sym, ◌∙◌, arith, Ok, Err, ◌+◌, slice_index_or, err_from_is_err_and, waiting, one_by_one, TokenTakesMemory, lists_with, all_lists}
 use Rattle.sym_link.proofs.Driving.{more_rows, token_there, token_asks, rule_asks, token_taken, rule_begun, rule_refused, few_two, added_two}
-use Rattle.sym_link.specs.Room.{one_by_one}
-use Rattle.sym_link.specs.Linking.{TokenTakesMemory, lists_with, all_lists}
 use Rattle.sym_link.proofs.Room.{room_same, room_then, only_then, only_refused, list_more}
 use Rattle.sym_link.proofs.driver.take.Goals as goal
 

@@ -1,10 +1,6 @@
-use Rattle.std.proofs.Common.{◌≡◌, ◌≢◌, refl, arith, ℕ, Ok, Err, ◌+◌, ◌++◌, ◌∷◌, []}
-use Rattle.std.specs.Prelude.{slice_index_or}
-use Rattle.std.proofs.lemmas.Result.{err_from_is_err_and}
-use Rattle.sym_link.specs.Stepping.{waiting, starting}
+use Rattle.sym_link.proofs.Basics.{◌≡◌, ◌≢◌, refl, arith, ℕ, Ok, Err, ◌+◌, ◌++◌, ◌∷◌, [], slice_index_or, err_from_is_err_and, waiting, starting, TokenTakesMemory, lists_with}
 use Rattle.sym_link.proofs.Driving.{token_there, more_rows, token_asks, token_taken, begun_waits, alone_within, token_within, token_refused_within}
 use Rattle.sym_link.proofs.driver.take_alone.Goals as goal
-use Rattle.sym_link.specs.Linking.{TokenTakesMemory, lists_with}
 use Rattle.sym_link.proofs.Room.{room_same, only_refused}
 use Rattle.sym_link.proofs.driver.take_alone.Goals.{else-frame-next-via-then-frame-next+else-rows-next, else-frame-next-via-else-frame-next}
 

@@ -1,9 +1,5 @@
-use Rattle.std.proofs.Common.{arith, Ok, Err}
-use Rattle.std.specs.Prelude.{take}
-use Rattle.std.proofs.lemmas.Result.{err_from_is_err_and}
-use Rattle.sym_link.specs.Machine.{passed}
+use Rattle.sym_link.proofs.Basics.{arith, Ok, Err, take, err_from_is_err_and, passed, lists_with}
 use Rattle.sym_link.proofs.Passing.{close_first, open_first, closed_all, closed_none}
-use Rattle.sym_link.specs.Linking.{lists_with}
 use Rattle.sym_link.proofs.Room.{room_then, only_refused}
 use Rattle.sym_link.proofs.threads.close_by.Goals as goal
 

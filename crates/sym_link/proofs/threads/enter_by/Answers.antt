@@ -1,11 +1,5 @@
-use Rattle.std.proofs.Common.{arith, Err}
-use Rattle.std.specs.Prelude.{take}
-use Rattle.std.proofs.lemmas.Result.{err_from_is_err_and}
-use Rattle.sym_shape.specs.Tree.{branch}
-use Rattle.sym_link.specs.Machine.{passed}
+use Rattle.sym_link.proofs.Basics.{arith, Err, take, err_from_is_err_and, branch, passed, one_by_one, lists_with}
 use Rattle.sym_link.proofs.Passing.{row_first, open_first, begins_passed, begins_gone, begins_refused, begins_right}
-use Rattle.sym_link.specs.Room.{one_by_one}
-use Rattle.sym_link.specs.Linking.{lists_with}
 use Rattle.sym_link.proofs.Room.{room_then, only_refused, list_more}
 use Rattle.sym_link.proofs.threads.enter_by.Goals as goal
 

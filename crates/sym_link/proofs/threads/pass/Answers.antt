@@ -1,7 +1,5 @@
-use Rattle.std.proofs.Common.{arith, length}
-use Rattle.std.proofs.lemmas.Result.{err_from_is_err_and}
+use Rattle.sym_link.proofs.Basics.{arith, length, err_from_is_err_and, lists_with}
 use Rattle.sym_link.proofs.Passing.{passing_done}
-use Rattle.sym_link.specs.Linking.{lists_with}
 use Rattle.sym_link.proofs.Room.{room_same, room_then, only_refused}
 use Rattle.sym_link.proofs.threads.pass.Goals as goal
 

@@ -1,10 +1,5 @@
 -- Some parts are passed: the result of them all is still known, and the bounds persist.
-use Rattle.std.proofs.Common.{◌-◌, ◌+◌, ◌≤◌, ℕ, List, drop, length}
-use Rattle.std.specs.Prelude.{Result}
-use Rattle.sym_core.specs.declared.refusal.Refusal.{Refusal}
-use Rattle.sym_link.specs.Machine.{Passed}
-use Rattle.sym_link.specs.Linking.{HasRoom, Adds, Pays, KeepsRoom, owed_behind}
-use Rattle.sym_link.specs.Threads.{IsOpenAt, Passing}
+use Rattle.sym_link.proofs.Basics.{◌-◌, ◌+◌, ◌≤◌, ℕ, List, drop, length, Result, Refusal, Passed, HasRoom, Adds, Pays, KeepsRoom, owed_behind, IsOpenAt, Passing}
 use Rattle.sym_link.proofs.threads.pass.Given as goal
 
 abbrev pub invariant-parts : goal.invariant-parts

@@ -1,7 +1,4 @@
-use Rattle.std.proofs.Common.{arith, sym, subst, ap, ◌∙◌, ◌∷◌, ◌++◌, [], drop, length, length-append}
-use Rattle.std.proofs.lemmas.Result.{err_from_is_err_and}
-use Rattle.sym_link.specs.Threads.{IsOpenAt, Passing}
-use Rattle.sym_link.specs.Linking.{owed_behind}
+use Rattle.sym_link.proofs.Basics.{arith, sym, subst, ap, ◌∙◌, ◌∷◌, ◌++◌, [], drop, length, length-append, err_from_is_err_and, IsOpenAt, Passing, owed_behind}
 use Rattle.sym_link.proofs.Lists.{dropped_push}
 use Rattle.sym_link.proofs.Passing.{passing_next, open_next, passing_fails, owed_pushed}
 use Rattle.sym_link.proofs.threads.pass_one.Goals as goal

@@ -1,14 +1,5 @@
-use Rattle.std.proofs.Common.{rules, ◌-◌, arith, Ok, Err, drop, sym, subst}
-use Rattle.std.specs.Prelude.{take}
-use Rattle.std.proofs.lemmas.Result.{err_from_is_err_and}
-use Rattle.sym_shape.specs.Tree.{token}
-use Rattle.sym_link.specs.Machine.{passed}
-use Rattle.sym_link.specs.Linking.{Takes, next_of, taken_in}
-use Rattle.sym_link.specs.Parts.{skipped_from}
-use Rattle.sym_link.specs.Reading.{◌>>=◌}
+use Rattle.sym_link.proofs.Basics.{rules, ◌-◌, arith, Ok, Err, drop, sym, subst, take, err_from_is_err_and, token, passed, Takes, next_of, taken_in, skipped_from, ◌>>=◌, one_by_one, lists_with}
 use Rattle.sym_link.proofs.Passing.{row_first, open_first, token_passed, token_gone, token_refused, token_right}
-use Rattle.sym_link.specs.Room.{one_by_one}
-use Rattle.sym_link.specs.Linking.{lists_with}
 use Rattle.sym_link.proofs.Room.{room_then, only_refused, list_more}
 use Rattle.sym_link.proofs.threads.token_by.Goals as goal
 

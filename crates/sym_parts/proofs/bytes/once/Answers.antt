@@ -1,5 +1,4 @@
-use Rattle.std.proofs.Common.{◌∙◌, sym, ap}
-use Rattle.sym_parts.specs.Spelling.{once}
+use Rattle.sym_parts.proofs.Basics.{◌∙◌, sym, ap, once}
 use Rattle.sym_parts.proofs.Spans.{once-here, once-later, once-none}
 use Rattle.sym_parts.proofs.bytes.once.Goals as goal
 

@@ -1,5 +1,4 @@
-use Rattle.std.proofs.Common.{◌≡◌, length}
-use Rattle.sym_parts.specs.Spelling.{once}
+use Rattle.sym_parts.proofs.Basics.{◌≡◌, length, once}
 use Rattle.sym_parts.proofs.bytes.once.Given as goal
 
 abbrev pub invariant-spans : goal.invariant-spans

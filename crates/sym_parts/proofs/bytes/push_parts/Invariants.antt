@@ -1,6 +1,4 @@
-use Rattle.std.proofs.Common.{◌≡◌, ◌++◌, length}
-use Rattle.std.specs.Prelude.{map}
-use Rattle.sym_parts.specs.Spelling.{part_of}
+use Rattle.sym_parts.proofs.Basics.{◌≡◌, ◌++◌, length, map, part_of}
 use Rattle.sym_parts.proofs.bytes.push_parts.Given as goal
 
 abbrev pub invariant-stretches : goal.invariant-stretches

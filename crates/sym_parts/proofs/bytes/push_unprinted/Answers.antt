@@ -1,5 +1,4 @@
-use Rattle.std.proofs.Common.{◌≡◌, ◌++◌, ◌∷◌, ◌∙◌, sym, ap, arith}
-use Rattle.sym_parts.specs.Spelling.{unprinted}
+use Rattle.sym_parts.proofs.Basics.{◌≡◌, ◌++◌, ◌∷◌, ◌∙◌, sym, ap, arith, unprinted}
 use Rattle.sym_parts.proofs.Spans.{all-grown, grown, unprinted-here, unprinted_part, unprinted-later, unprinted-none}
 use Rattle.sym_parts.proofs.bytes.push_unprinted.Goals as goal
 

@@ -1,5 +1,4 @@
-use Rattle.std.proofs.Common.{◌≡◌, ◌++◌, length}
-use Rattle.sym_parts.specs.Spelling.{unprinted}
+use Rattle.sym_parts.proofs.Basics.{◌≡◌, ◌++◌, length, unprinted}
 use Rattle.sym_parts.proofs.bytes.push_unprinted.Given as goal
 
 abbrev pub invariant-spans : goal.invariant-spans

@@ -1,5 +1,4 @@
-use Rattle.std.proofs.Common.{refl}
-use Rattle.sym_parts.specs.Spelling.{part_of}
+use Rattle.sym_parts.proofs.Basics.{refl, part_of}
 use Rattle.sym_parts.proofs.laws.parts_are_stretches.Goals as goal
 
 pub returns : goal.returns

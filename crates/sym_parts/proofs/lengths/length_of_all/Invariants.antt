@@ -1,7 +1,5 @@
-use Rattle.std.proofs.Common.{◌≡◌, ◌+◌, ◌≤◌, length}
-use Rattle.sym_print.specs.Joined.{joined}
+use Rattle.sym_parts.proofs.Basics.{◌≡◌, ◌+◌, ◌≤◌, length, joined, ArePayable}
 use Rattle.sym_print.specs.Unshared.{text_of, cost_of_parts, steps_of_parts}
-use Rattle.sym_parts.specs.Split.{ArePayable}
 use Rattle.sym_parts.proofs.lengths.length_of_all.Given as goal
 
 abbrev pub invariant-parts : goal.invariant-parts

@@ -1,5 +1,4 @@
-use Rattle.std.proofs.Common.{◌≡◌, ◌∷◌, [], ◌++◌, refl, sym, ◌∙◌, ap, arith, rules}
-use Rattle.std.proofs.lemmas.List.{same_from_push}
+use Rattle.sym_print.proofs.Basics.{◌≡◌, ◌∷◌, [], ◌++◌, refl, sym, ◌∙◌, ap, arith, rules, same_from_push}
 use Rattle.sym_print.proofs.Noting.{noted-whole}
 use Rattle.sym_print.proofs.entries.note_whole.Goals as goal
 

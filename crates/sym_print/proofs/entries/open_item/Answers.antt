@@ -1,9 +1,5 @@
-use Rattle.std.proofs.Common.{◌≡◌, ◌-◌, ◌++◌, length, take, reverse, [], arith, ap, ◌∙◌, refl}
-use Rattle.std.proofs.lemmas.List.Elements.{All-same}
-use Rattle.sym_print.specs.declared.layout.Part.TheVariants.{Sub}
-use Rattle.sym_print.specs.Joined.{text_of_stack, cost_of_stack, steps_of_stack}
+use Rattle.sym_print.proofs.Basics.{◌≡◌, ◌-◌, ◌++◌, length, take, reverse, [], arith, ap, ◌∙◌, refl, All-same, Sub, text_of_stack, cost_of_stack, steps_of_stack, peak_of_stack}
 use Rattle.sym_print.proofs.Stack.{next_may_come, All-visit, replaced, text_of_visit, cost_of_visit, steps_of_visit}
-use Rattle.sym_print.specs.Peak.{peak_of_stack}
 use Rattle.sym_print.proofs.Peak.{peak_of_visit}
 use Rattle.sym_print.proofs.entries.open_item.Given as given
 use Rattle.sym_print.proofs.entries.open_item.Goals as goal

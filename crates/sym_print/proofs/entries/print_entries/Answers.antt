@@ -1,12 +1,5 @@
-use Rattle.std.proofs.Common.{◌≡◌, ◌-◌, ◌++◌, Err, Result, inl, inr, length, take, refl, arith, ap, ◌∙◌, rules, subst}
-use Rattle.std.proofs.lemmas.List.Elements.{All-same, All-take}
-use Rattle.std.proofs.lemmas.Result.{err_from_is_err_and}
-use Rattle.sym_core.specs.declared.Refusal.{Refusal}
-use Rattle.sym_core.specs.declared.Refusal.TheVariants.{TooLong, Memory}
-use Rattle.sym_print.specs.declared.meter.Meter.{Meter}
-use Rattle.sym_print.specs.Joined.{IsNext, IsText, text_of_stack, cost_of_stack, steps_of_stack}
+use Rattle.sym_print.proofs.Basics.{◌≡◌, ◌-◌, ◌++◌, Err, Result, inl, inr, length, take, refl, arith, ap, ◌∙◌, rules, subst, All-same, All-take, err_from_is_err_and, Refusal, TooLong, Memory, Meter, IsNext, IsText, text_of_stack, cost_of_stack, steps_of_stack, EndsAt}
 use Rattle.sym_print.proofs.Stack.{without_last, text_of_write, cost_of_next, cost_of_text, steps_of_next, steps_of_text}
-use Rattle.sym_print.specs.Noted.{EndsAt}
 use Rattle.sym_print.proofs.Noting.{spare-moved, noted-unmet, noted-moved, moves-text}
 use Rattle.sym_print.proofs.Peak.{peak_of_left}
 use Rattle.sym_print.proofs.entries.print_entries.Given as given

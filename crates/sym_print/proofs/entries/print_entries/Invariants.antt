@@ -1,10 +1,5 @@
-use Rattle.std.proofs.Common.{◌≡◌, ◌+◌, ◌-◌, ◌*◌, ◌≤◌, ◌++◌, max, vec_len, vec_capacity}
-use Rattle.std.specs.List.{All}
+use Rattle.sym_print.proofs.Basics.{◌≡◌, ◌+◌, ◌-◌, ◌*◌, ◌≤◌, ◌++◌, max, vec_len, vec_capacity, All, AreNoted, peak_of_stack, spare_of_stack, text_of_stack, cost_of_stack, steps_of_stack}
 use Rattle.sym_room.specs.Room.{most_for}
-use Rattle.sym_print.specs.Noted.{AreNoted}
-use Rattle.sym_print.specs.Peak.{peak_of_stack}
-use Rattle.sym_print.specs.Spare.{spare_of_stack}
-use Rattle.sym_print.specs.Joined.{text_of_stack, cost_of_stack, steps_of_stack}
 use Rattle.sym_print.proofs.entries.print_entries.Given as goal
 
 abbrev pub invariant-loop-next : goal.invariant-loop-next

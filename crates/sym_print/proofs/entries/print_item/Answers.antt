@@ -1,8 +1,4 @@
-use Rattle.std.proofs.Common.{◌≡◌, Err, Result, arith, ap}
-use Rattle.std.proofs.lemmas.Result.{err_from_is_err_and}
-use Rattle.sym_core.specs.declared.Refusal.{Refusal}
-use Rattle.sym_core.specs.declared.Refusal.TheVariants.{TooLong}
-use Rattle.sym_print.specs.declared.layout.Part.TheVariants.{Sub}
+use Rattle.sym_print.proofs.Basics.{◌≡◌, Err, Result, arith, ap, err_from_is_err_and, Refusal, TooLong, Sub}
 use Rattle.sym_print.proofs.Stack.{cost_of_next}
 use Rattle.sym_print.proofs.Noting.{moves-parts, spare-moved, noted-moved}
 use Rattle.sym_print.proofs.Peak.{stack_within}

@@ -1,8 +1,4 @@
-use Rattle.std.proofs.Common.{◌≡◌, Err, Result, arith, ap}
-use Rattle.std.proofs.lemmas.Result.{err_from_is_err_and}
-use Rattle.sym_core.specs.declared.Refusal.{Refusal}
-use Rattle.sym_core.specs.declared.Refusal.TheVariants.{TooLong}
-use Rattle.sym_print.specs.declared.layout.Part.TheVariants.{Sub}
+use Rattle.sym_print.proofs.Basics.{◌≡◌, Err, Result, arith, ap, err_from_is_err_and, Refusal, TooLong, Sub}
 use Rattle.sym_print.proofs.Stack.{cost_of_next}
 use Rattle.sym_print.proofs.Noting.{Moves, text-moved, cost-moved, steps-moved, spare-moved, noted-moved, noted-same}
 use Rattle.sym_print.proofs.Peak.{stack_within}
@@ -10,7 +6,7 @@ use Rattle.sym_print.proofs.Running.{moves-run, All-run, peak_of_run, run-too-de
 use Rattle.sym_print.proofs.entries.print_run.Given as given
 use Rattle.sym_print.proofs.entries.print_run.Goals as goal
 
--- how the run's end takes its place
+-- the run's end takes the place of the item that begins the run
 moved : (g : given.Over) → (c : goal.After-look g) → Moves (g.Y.Layout.unshared c.args.y.now) (g.Y.Layout.bytes_of c.args.y.now) c.args.stack.now.items c.open_run.new.stack.items c.args._text.now.items c.args._text.now.items
     c.args.meter.now.spent c.open_run.new.meter.spent c.args.meter.now.steps c.open_run.new.meter.steps
 moved g c =

@@ -1,13 +1,6 @@
-use Rattle.std.proofs.Common.{◌≡◌, Err, Result, arith, ap}
-use Rattle.std.proofs.lemmas.List.Elements.{All-contains}
-use Rattle.std.proofs.lemmas.Result.{err_from_is_err_and}
-use Rattle.sym_core.specs.declared.Refusal.{Refusal}
-use Rattle.sym_core.specs.declared.Refusal.TheVariants.{TooLong}
-use Rattle.sym_print.specs.declared.layout.Part.TheVariants.{Sub}
-use Rattle.sym_print.specs.Noted.{IsNote}
+use Rattle.sym_print.proofs.Basics.{◌≡◌, Err, Result, arith, ap, All-contains, err_from_is_err_and, Refusal, TooLong, Sub, IsNote, peak_of_stack}
 use Rattle.sym_print.proofs.Stack.{cost_of_next}
 use Rattle.sym_print.proofs.Noting.{moves-again, moves-parts, spare-moved, text-moved, cost-moved, steps-moved, noted-moved, noted-same, again-paid, again-too-dear}
-use Rattle.sym_print.specs.Peak.{peak_of_stack}
 use Rattle.sym_print.proofs.Peak.{stack_within, peak_of_left}
 use Rattle.sym_print.proofs.entries.print_special_item.Goals as goal
 

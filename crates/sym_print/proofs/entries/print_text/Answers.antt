@@ -1,9 +1,4 @@
-use Rattle.std.proofs.Common.{◌≡◌, ◌-◌, Err, Result, length, take, refl, arith, ap}
-use Rattle.std.proofs.lemmas.Result.{err_from_is_err_and}
-use Rattle.sym_core.specs.declared.Refusal.{Refusal}
-use Rattle.sym_core.specs.declared.Refusal.TheVariants.{TooLong}
-use Rattle.sym_print.specs.declared.meter.Meter.{Meter}
-use Rattle.sym_print.specs.Joined.{cost_of_stack, steps_of_stack}
+use Rattle.sym_print.proofs.Basics.{◌≡◌, ◌-◌, Err, Result, length, take, refl, arith, ap, err_from_is_err_and, Refusal, TooLong, Meter, cost_of_stack, steps_of_stack}
 use Rattle.sym_print.proofs.Stack.{text_of_write, cost_of_next, cost_of_text, steps_of_next, steps_of_text}
 use Rattle.sym_print.proofs.Peak.{peak_of_left}
 use Rattle.sym_print.proofs.entries.print_text.Given as given

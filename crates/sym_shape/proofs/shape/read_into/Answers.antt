@@ -1,5 +1,4 @@
-use Rattle.std.proofs.Common.{true, Ok, ap, ◌∙◌}
-use Rattle.sym_shape.specs.Reading.{entries_of}
+use Rattle.sym_shape.proofs.Basics.{true, Ok, ap, ◌∙◌, entries_of}
 use Rattle.sym_shape.proofs.Steps.{same_start}
 use Rattle.sym_shape.proofs.Runs.{run_rows, run_steps}
 use Rattle.sym_shape.proofs.shape.read_into.Goals as goal

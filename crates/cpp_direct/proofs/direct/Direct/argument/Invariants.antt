@@ -1,4 +1,4 @@
--- The open entries have the arguments that their remainder has.
+-- Types may name the same arguments in all open entries as in the entries that are yet to be visited.
 use Rattle.cpp_direct.proofs.ForAnswers.{◌≡◌, reverse, argument_of}
 use Rattle.cpp_direct.proofs.direct.Direct.argument.Given as goal
 

@@ -1,5 +1,4 @@
-use Rattle.std.proofs.Common.{refl}
-use Rattle.cpp_grammar.specs.Table.{abi}
+use Rattle.cpp_grammar.proofs.Basics.{refl, abi}
 use Rattle.cpp_grammar.proofs.abi.AbiGrammar.name_class.Goals as goal
 
 pub returns : goal.returns

@@ -1,5 +1,4 @@
-use Rattle.std.proofs.Common.{refl}
-use Rattle.cpp_grammar.specs.Table.{wide}
+use Rattle.cpp_grammar.proofs.Basics.{refl, wide}
 use Rattle.cpp_grammar.proofs.wide.WideGrammar.name_class.Goals as goal
 
 pub returns : goal.returns

@@ -1,8 +1,4 @@
-use Rattle.std.proofs.Common.{ap, arith, length, subst, ◌≡◌, ◌∙◌}
-use Rattle.cpp_tree.specs.Nodes.{over, tree_under, tree_at, trees}
-use Rattle.cpp_tree.proofs.Trees.{placed-alone}
-use Rattle.cpp_term.specs.Items.{argument, indexed}
-use Rattle.cpp_layout.specs.Layout.{table_of}
+use Rattle.cpp_layout.proofs.Basics.{ap, arith, length, subst, ◌≡◌, ◌∙◌, over, tree_under, tree_at, trees, placed-alone, argument, indexed, table_of}
 use Rattle.cpp_layout.proofs.symbol.Symbol.argument_of.Goals as goal
 
 pub indexed-placed-requires-clause-argument : goal.indexed-placed-requires-clause-argument

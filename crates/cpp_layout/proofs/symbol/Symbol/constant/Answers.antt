@@ -1,9 +1,4 @@
-use Rattle.std.proofs.Common.{ap, subst, ◌≡◌, ◌∙◌}
-use Rattle.cpp_term.specs.Term.{qualified}
-use Rattle.cpp_term.specs.Reargued.{reargued}
-use Rattle.cpp_tree.specs.Nodes.{over, tree_at, tree_if_there, tree_of, tree_under, trees}
-use Rattle.cpp_layout.specs.Layout.{table_of}
-use Rattle.cpp_layout.specs.Pointers.{just_const}
+use Rattle.cpp_layout.proofs.Basics.{ap, subst, ◌≡◌, ◌∙◌, qualified, reargued, over, tree_at, tree_if_there, tree_of, tree_under, trees, table_of, just_const}
 use Rattle.cpp_layout.proofs.symbol.Symbol.constant.Goals as goal
 
 pub returns-else-not-is_just_const-clause-tree : goal.returns-else-not-is_just_const-clause-tree

@@ -1,6 +1,4 @@
-use Rattle.std.proofs.Common.{refl, ap, ◌∙◌, arith}
-use Rattle.cpp_term.specs.Term.{pointer}
-use Rattle.cpp_layout.specs.Pointers.{constant_pointers}
+use Rattle.cpp_layout.proofs.Basics.{refl, ap, ◌∙◌, arith, pointer, constant_pointers}
 use Rattle.cpp_layout.proofs.Pointing.{one-more-constant}
 use Rattle.cpp_layout.proofs.symbol.Symbol.constant_pointers.Goals as goal
 

@@ -1,9 +1,5 @@
--- The pointers so far are around the last of them, which points to the next type.
-use Rattle.std.proofs.Common.{◌≡◌, ◌≤◌, ◌-◌, length}
-use Rattle.cpp_term.specs.Term.{pointer}
-use Rattle.cpp_tree.specs.Nodes.{IsPlacedBelow, tree_under, trees}
-use Rattle.cpp_layout.specs.Layout.{table_of}
-use Rattle.cpp_layout.specs.Pointers.{constant_pointers}
+-- The type is `levels` pointers to constant types around `inner`, which is a pointer to the next type.
+use Rattle.cpp_layout.proofs.Basics.{◌≡◌, ◌≤◌, ◌-◌, length, pointer, IsPlacedBelow, tree_under, trees, table_of, constant_pointers}
 use Rattle.cpp_layout.proofs.symbol.Symbol.constant_pointers.Given as goal
 
 abbrev pub invariant-levels : goal.invariant-levels

@@ -1,8 +1,5 @@
-use Rattle.std.proofs.Common.{ap, sym, ◌∙◌}
+use Rattle.cpp_layout.proofs.Basics.{ap, sym, ◌∙◌, declared_letter, reargued, tree_of}
 use Rattle.cpp_layout.proofs.Declaring.{letter-none}
-use Rattle.cpp_term.specs.Parts.{declared_letter}
-use Rattle.cpp_term.specs.Reargued.{reargued}
-use Rattle.cpp_tree.specs.Nodes.{tree_of}
 use Rattle.cpp_layout.proofs.symbol.Symbol.declared_letter.Goals as goal
 
 pub returns-in-Operation : goal.returns-in-Operation

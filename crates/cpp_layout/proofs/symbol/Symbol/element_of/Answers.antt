@@ -1,8 +1,4 @@
-use Rattle.std.proofs.Common.{ap, subst, ◌≡◌, ◌∙◌}
-use Rattle.cpp_tree.specs.Nodes.{over, tree_under, tree_at, trees}
-use Rattle.cpp_tree.proofs.Trees.{placed-alone}
-use Rattle.cpp_term.specs.Scope.{element}
-use Rattle.cpp_layout.specs.Layout.{table_of}
+use Rattle.cpp_layout.proofs.Basics.{ap, subst, ◌≡◌, ◌∙◌, over, tree_under, tree_at, trees, placed-alone, element, table_of}
 use Rattle.cpp_layout.proofs.symbol.Symbol.element_of.Goals as goal
 
 pub returns-clause-tree : goal.returns-clause-tree

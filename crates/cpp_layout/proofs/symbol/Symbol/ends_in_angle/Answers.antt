@@ -1,8 +1,4 @@
-use Rattle.std.proofs.Common.{sym, ◌∙◌, ap, arith}
-use Rattle.cpp_term.specs.Parts.{opening_text, last_piece}
-use Rattle.cpp_term.specs.Reargued.{reargued}
-use Rattle.cpp_tree.specs.Nodes.{piece_of, tree_if_there, tree_of, trees}
-use Rattle.cpp_layout.specs.Layout.{table_of}
+use Rattle.cpp_layout.proofs.Basics.{sym, ◌∙◌, ap, arith, opening_text, last_piece, reargued, piece_of, tree_if_there, tree_of, trees, table_of}
 use Rattle.cpp_layout.proofs.Naming.{layers, opening-shown}
 use Rattle.cpp_layout.proofs.Others.{last-none}
 use Rattle.cpp_layout.proofs.symbol.Symbol.ends_in_angle.Goals as goal

@@ -1,8 +1,5 @@
--- The last piece is that of the remaining name, and the node isn't an alias.
-use Rattle.std.proofs.Common.{◌≡◌, ◌<◌, length, false}
-use Rattle.cpp_term.specs.Parts.{last_piece}
-use Rattle.cpp_tree.specs.Nodes.{entry_at, is_again, IsAliasBelow}
-use Rattle.cpp_layout.specs.Layout.{printed_tree}
+-- The name that was reached has the template's last piece, and its node isn't an alias.
+use Rattle.cpp_layout.proofs.Basics.{◌≡◌, ◌<◌, length, false, last_piece, entry_at, is_again, IsAliasBelow, printed_tree}
 use Rattle.cpp_layout.proofs.Naming.{layers}
 use Rattle.cpp_layout.proofs.symbol.Symbol.ends_in_angle.Given as goal
 

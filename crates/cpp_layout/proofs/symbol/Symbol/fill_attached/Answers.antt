@@ -1,7 +1,6 @@
-use Rattle.std.proofs.Common.{sym}
+use Rattle.cpp_layout.proofs.Basics.{sym, context_of}
 use Rattle.cpp_layout.proofs.Growing.{fills, starts, told-so}
 use Rattle.cpp_layout.proofs.Naming.{attached-whole}
-use Rattle.cpp_layout.specs.Layout.{context_of}
 use Rattle.cpp_layout.proofs.symbol.Symbol.fill_attached.Goals as goal
 
 pub returns-clause-shows : goal.returns-clause-shows

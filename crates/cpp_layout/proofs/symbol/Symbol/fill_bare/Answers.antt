@@ -1,8 +1,5 @@
-use Rattle.std.proofs.Common.{ap, append-nil, sym, ◌∙◌}
+use Rattle.cpp_layout.proofs.Basics.{ap, append-nil, sym, ◌∙◌, table_of, type_shown, function_bare, tree_at, trees, qualifiers_of, mark_of}
 use Rattle.cpp_layout.proofs.Growing.{fills, starts}
-use Rattle.cpp_layout.specs.Layout.{table_of, type_shown}
-use Rattle.cpp_term.specs.Parts.{function_bare}
-use Rattle.cpp_tree.specs.Nodes.{tree_at, trees, qualifiers_of, mark_of}
 use Rattle.cpp_layout.proofs.symbol.Symbol.fill_bare.Goals as goal
 
 pub returns-then-has_parameters-clause-shows : goal.returns-then-has_parameters-clause-shows

@@ -1,11 +1,6 @@
-use Rattle.std.proofs.Common.{[], ap, sym, ◌∙◌, ◌∷◌}
+use Rattle.cpp_layout.proofs.Basics.{[], ap, sym, ◌∙◌, ◌∷◌, context_of, printed_tree, as_item, base_parts, tree_of, text, reargued}
 use Rattle.cpp_layout.proofs.Growing.{fills, starts, told-so}
-use Rattle.cpp_layout.specs.Layout.{context_of, printed_tree}
-use Rattle.cpp_term.specs.Parts.{as_item, base_parts}
-use Rattle.cpp_tree.specs.Nodes.{tree_of}
-use Rattle.sym_print.specs.Unfold.{text}
 use Rattle.cpp_grammar.specs.Items as heads
-use Rattle.cpp_term.specs.Reargued.{reargued}
 use Rattle.cpp_layout.proofs.Others.{base-other}
 use Rattle.cpp_layout.proofs.symbol.Symbol.fill_base.Goals as goal
 

@@ -1,7 +1,5 @@
-use Rattle.std.proofs.Common.{ap, sym, ◌∙◌}
+use Rattle.cpp_layout.proofs.Basics.{ap, sym, ◌∙◌, context_of, printed_tree, base_tagged, own_piece, piece_parts}
 use Rattle.cpp_layout.proofs.Growing.{fills, starts, told-so}
-use Rattle.cpp_layout.specs.Layout.{context_of, printed_tree}
-use Rattle.cpp_term.specs.Parts.{base_tagged, own_piece, piece_parts}
 use Rattle.cpp_layout.proofs.symbol.Symbol.fill_base_tagged.Goals as goal
 
 pub returns-then-of_structor-clause-shows : goal.returns-then-of_structor-clause-shows

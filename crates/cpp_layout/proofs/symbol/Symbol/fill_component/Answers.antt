@@ -1,9 +1,6 @@
-use Rattle.std.proofs.Common.{ap, sym, ◌∙◌, arith}
+use Rattle.cpp_layout.proofs.Basics.{ap, sym, ◌∙◌, arith, context_of, table_of, reargued, tree_of, trees, tree_if_there}
 use Rattle.cpp_layout.proofs.Growing.{fills}
 use Rattle.cpp_layout.proofs.Naming.{component-nested, component-plain, component-attached, component-alone}
-use Rattle.cpp_layout.specs.Layout.{context_of, table_of}
-use Rattle.cpp_term.specs.Reargued.{reargued}
-use Rattle.cpp_tree.specs.Nodes.{tree_of, trees, tree_if_there}
 use Rattle.cpp_layout.proofs.symbol.Symbol.fill_component.Goals as goal
 
 pub returns-then-first-ne87-clause-shows : goal.returns-then-first-ne87-clause-shows

@@ -1,11 +1,6 @@
-use Rattle.std.proofs.Common.{ap, arith, sym, ◌∙◌}
-use Rattle.std.proofs.lemmas.Bool.{le-ltb, lt-ltb}
+use Rattle.cpp_layout.proofs.Basics.{ap, arith, sym, ◌∙◌, le-ltb, lt-ltb, context_of, printed_tree, declared_parts, reargued, tree_of}
 use Rattle.cpp_layout.proofs.Declaring.{declared-none, declared-whole}
 use Rattle.cpp_layout.proofs.Growing.{fills, starts}
-use Rattle.cpp_layout.specs.Layout.{context_of, printed_tree}
-use Rattle.cpp_term.specs.Parts.{declared_parts}
-use Rattle.cpp_term.specs.Reargued.{reargued}
-use Rattle.cpp_tree.specs.Nodes.{tree_of}
 use Rattle.cpp_layout.proofs.symbol.Symbol.fill_declared.Goals as goal
 
 pub returns-in-Cell-clause-shows : goal.returns-in-Cell-clause-shows

@@ -1,7 +1,6 @@
-use Rattle.std.proofs.lemmas.Bool.{le-ltb, lt-ltb}
+use Rattle.cpp_layout.proofs.Basics.{le-ltb, lt-ltb, context_of, printed_tree}
 use Rattle.cpp_layout.proofs.Functions.{expand-whole}
 use Rattle.cpp_layout.proofs.Growing.{fills, starts}
-use Rattle.cpp_layout.specs.Layout.{context_of, printed_tree}
 use Rattle.cpp_layout.proofs.symbol.Symbol.fill_expand.Goals as goal
 
 pub returns-clause-shows : goal.returns-clause-shows

@@ -1,7 +1,6 @@
-use Rattle.std.proofs.Common.{arith, sym, ◌∙◌}
+use Rattle.cpp_layout.proofs.Basics.{arith, sym, ◌∙◌, context_of, printed_tree}
 use Rattle.cpp_layout.proofs.Functions.{expansion-more, expansion-none, expansion-zero}
 use Rattle.cpp_layout.proofs.Growing.{fills, starts}
-use Rattle.cpp_layout.specs.Layout.{context_of, printed_tree}
 use Rattle.cpp_term.specs.Items as items
 use Rattle.cpp_layout.proofs.symbol.Symbol.fill_expansion.Goals as goal
 

@@ -1,6 +1,4 @@
-use Rattle.std.proofs.Common.{ap, ◌∙◌}
-use Rattle.cpp_term.specs.Parts.{parts_in}
-use Rattle.cpp_layout.specs.Layout.{context_of, form_of, tree_in, printed_tree}
+use Rattle.cpp_layout.proofs.Basics.{ap, ◌∙◌, parts_in, context_of, form_of, tree_in, printed_tree}
 use Rattle.cpp_layout.proofs.Growing.{fills, told-so}
 use Rattle.cpp_layout.proofs.symbol.Symbol.fill_form.Goals as goal
 

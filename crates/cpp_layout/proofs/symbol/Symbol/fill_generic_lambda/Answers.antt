@@ -1,12 +1,7 @@
-use Rattle.std.proofs.Common.{None, Some}
+use Rattle.cpp_layout.proofs.Basics.{None, Some, context_of, printed_tree, table_of, Context, piece_parts, reargued, tree_at, tree_if_there, tree_of, trees}
 use Rattle.cpp_layout.proofs.Declaring.{declaring_parts, generic-declaring, generic-plain, own-tree}
 use Rattle.cpp_layout.proofs.Growing.{fills, told-parts}
-use Rattle.cpp_layout.specs.Layout.{context_of, printed_tree, table_of}
-use Rattle.cpp_layout.specs.declared.context.Context.{Context}
-use Rattle.cpp_term.specs.Parts.{piece_parts}
-use Rattle.cpp_term.specs.Reargued.{reargued}
 use Rattle.cpp_term.specs.Term as term
-use Rattle.cpp_tree.specs.Nodes.{tree_at, tree_if_there, tree_of, trees}
 use Rattle.cpp_layout.proofs.symbol.Symbol.fill_generic_lambda.Goals as goal
 
 pub returns-in-Declaring-clause-shows : goal.returns-in-Declaring-clause-shows

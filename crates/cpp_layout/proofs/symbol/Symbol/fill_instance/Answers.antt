@@ -1,9 +1,6 @@
-use Rattle.std.proofs.Common.{ap, if◌then◌else◌, sym, ◌∙◌}
+use Rattle.cpp_layout.proofs.Basics.{ap, if◌then◌else◌, sym, ◌∙◌, context_of, printed_tree, instance_parts, BLANK_LESS, LESS}
 use Rattle.cpp_layout.proofs.Growing.{fills, starts}
 use Rattle.cpp_layout.proofs.Naming.{brief-whole, instance-whole}
-use Rattle.cpp_layout.specs.Layout.{context_of, printed_tree}
-use Rattle.cpp_term.specs.Parts.{instance_parts}
-use Rattle.cpp_layout.specs.declared.texts.TheConstants.{BLANK_LESS, LESS}
 use Rattle.cpp_layout.proofs.symbol.Symbol.fill_instance.Goals as goal
 
 pub returns-then-has_arguments-clause-shows : goal.returns-then-has_arguments-clause-shows

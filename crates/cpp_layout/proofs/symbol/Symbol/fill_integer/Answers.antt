@@ -1,10 +1,6 @@
-use Rattle.std.proofs.Common.{ap, sym, ◌∙◌}
+use Rattle.cpp_layout.proofs.Basics.{ap, sym, ◌∙◌, context_of, is_plain_integer, tree_of, reargued}
 use Rattle.cpp_layout.proofs.Growing.{fills}
 use Rattle.cpp_layout.proofs.Typing.{integer-cast, integer-plain, other-plain}
-use Rattle.cpp_layout.specs.Layout.{context_of}
-use Rattle.cpp_term.specs.Parts.{is_plain_integer}
-use Rattle.cpp_tree.specs.Nodes.{tree_of}
-use Rattle.cpp_term.specs.Reargued.{reargued}
 use Rattle.cpp_layout.proofs.symbol.Symbol.fill_integer.Goals as goal
 
 pub returns-then-is_plain-clause-shows : goal.returns-then-is_plain-clause-shows

@@ -1,13 +1,6 @@
-use Rattle.std.proofs.Common.{[], ap, sym, ◌∙◌, ◌∷◌}
+use Rattle.cpp_layout.proofs.Basics.{[], ap, sym, ◌∙◌, ◌∷◌, context_of, node_shown, printed_tree, fixed_text, STD, own_piece, as_item, left_parts, tree_of, text, reargued}
 use Rattle.cpp_layout.proofs.Growing.{fills, starts, tagged-whole, told-so}
-use Rattle.cpp_layout.specs.Layout.{context_of, node_shown, printed_tree}
-use Rattle.cpp_layout.specs.Texts.{fixed_text}
-use Rattle.cpp_layout.specs.declared.texts.TheConstants.{STD}
-use Rattle.cpp_term.specs.Parts.{own_piece, as_item, left_parts}
-use Rattle.cpp_tree.specs.Nodes.{tree_of}
-use Rattle.sym_print.specs.Unfold.{text}
 use Rattle.cpp_grammar.specs.Items as heads
-use Rattle.cpp_term.specs.Reargued.{reargued}
 use Rattle.cpp_layout.proofs.Others.{no-name}
 use Rattle.cpp_layout.proofs.symbol.Symbol.fill_left.Goals as goal
 

@@ -1,6 +1,5 @@
-use Rattle.std.proofs.Common.{sym, ◌∙◌}
+use Rattle.cpp_layout.proofs.Basics.{sym, ◌∙◌, context_of, printed_tree}
 use Rattle.cpp_layout.proofs.Growing.{fills, more-empty, more-some, starts}
-use Rattle.cpp_layout.specs.Layout.{context_of, printed_tree}
 use Rattle.cpp_layout.proofs.symbol.Symbol.fill_more.Goals as goal
 
 pub returns-then-prints_nothing-clause-shows : goal.returns-then-prints_nothing-clause-shows

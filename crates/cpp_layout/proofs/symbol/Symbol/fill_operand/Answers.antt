@@ -1,8 +1,6 @@
-use Rattle.std.proofs.Common.{ap, ◌∙◌}
-use Rattle.cpp_term.specs.Parts.{operand_parts, precedence_of}
+use Rattle.cpp_layout.proofs.Basics.{ap, ◌∙◌, operand_parts, precedence_of, context_of, printed_tree}
 use Rattle.cpp_layout.proofs.Growing.{fills}
 use Rattle.cpp_layout.proofs.Operating.{enclosed-by}
-use Rattle.cpp_layout.specs.Layout.{context_of, printed_tree}
 use Rattle.cpp_layout.proofs.symbol.Symbol.fill_operand.Goals as goal
 
 pub returns-in-AsItIs-clause-shows : goal.returns-in-AsItIs-clause-shows

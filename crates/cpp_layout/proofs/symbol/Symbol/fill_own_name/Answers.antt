@@ -1,10 +1,6 @@
-use Rattle.std.proofs.Common.{List, ap, arith, decimal, sym, ℕ, ◌∙◌, ◌∷◌, []}
-use Rattle.sym_print.specs.Unfold.{text}
+use Rattle.cpp_layout.proofs.Basics.{List, ap, arith, decimal, sym, ℕ, ◌∙◌, ◌∷◌, [], text, name_of_own, reargued, tree_of}
 use Rattle.cpp_layout.proofs.Declaring.{name-some, own-other, own-right}
 use Rattle.cpp_layout.proofs.Growing.{fills, starts}
-use Rattle.cpp_term.specs.Parts.{name_of_own}
-use Rattle.cpp_term.specs.Reargued.{reargued}
-use Rattle.cpp_tree.specs.Nodes.{tree_of}
 use Rattle.cpp_layout.proofs.symbol.Symbol.fill_own_name.Goals as goal
 
 pub returns-then-form-eq-RIGHT-clause-shows : goal.returns-then-form-eq-RIGHT-clause-shows

@@ -1,8 +1,6 @@
 use Rattle.cpp_layout.proofs.Declaring.{argument-named, argument-shown}
 use Rattle.cpp_layout.proofs.Growing.{fills, starts, told-so}
-use Rattle.cpp_layout.specs.Layout.{form_of, printed_tree, table_of}
-use Rattle.cpp_term.specs.Reargued.{reargued}
-use Rattle.cpp_tree.specs.Nodes.{tree_at, tree_if_there, tree_of, trees}
+use Rattle.cpp_layout.proofs.Basics.{form_of, printed_tree, table_of, reargued, tree_at, tree_if_there, tree_of, trees}
 use Rattle.cpp_layout.proofs.symbol.Symbol.fill_parameter.Goals as goal
 
 pub returns-in-Declaring-clause-shows : goal.returns-in-Declaring-clause-shows

@@ -1,9 +1,6 @@
-use Rattle.std.proofs.Common.{sym, ◌∙◌}
+use Rattle.cpp_layout.proofs.Basics.{sym, ◌∙◌, context_of, table_of, qualifiers_of, tree_of, trees, reargued}
 use Rattle.cpp_layout.proofs.Growing.{fills, starts}
 use Rattle.cpp_layout.proofs.Typing.{qualified-function-left, qualified-other-left}
-use Rattle.cpp_layout.specs.Layout.{context_of, table_of}
-use Rattle.cpp_tree.specs.Nodes.{qualifiers_of, tree_of, trees}
-use Rattle.cpp_term.specs.Reargued.{reargued}
 use Rattle.cpp_layout.proofs.symbol.Symbol.fill_qualified_left.Goals as goal
 
 pub returns-in-FunctionType-clause-shows : goal.returns-in-FunctionType-clause-shows

@@ -1,11 +1,6 @@
-use Rattle.std.proofs.Common.{ap, sym, ◌∙◌}
-use Rattle.cpp_grammar.specs.Parts.{qualifier_text}
-use Rattle.cpp_term.specs.Parts.{function_right}
+use Rattle.cpp_layout.proofs.Basics.{ap, sym, ◌∙◌, qualifier_text, function_right, context_of, table_of, printed_tree, mark_of, qualifiers_of, tree_of, trees, reargued}
 use Rattle.cpp_layout.proofs.Functions.{qualified-function, qualified-other}
 use Rattle.cpp_layout.proofs.Growing.{fills, starts, told-so}
-use Rattle.cpp_layout.specs.Layout.{context_of, table_of, printed_tree}
-use Rattle.cpp_tree.specs.Nodes.{mark_of, qualifiers_of, tree_of, trees}
-use Rattle.cpp_term.specs.Reargued.{reargued}
 use Rattle.cpp_layout.proofs.symbol.Symbol.fill_qualified_right.Goals as goal
 
 pub returns-in-FunctionType-clause-shows : goal.returns-in-FunctionType-clause-shows

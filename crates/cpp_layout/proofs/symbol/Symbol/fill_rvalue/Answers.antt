@@ -1,7 +1,6 @@
-use Rattle.std.proofs.Common.{refl}
+use Rattle.cpp_layout.proofs.Basics.{refl, context_of, printed_tree}
 use Rattle.cpp_layout.proofs.Growing.{fills}
 use Rattle.cpp_layout.proofs.Typing.{reference-whole}
-use Rattle.cpp_layout.specs.Layout.{context_of, printed_tree}
 use Rattle.cpp_grammar.specs.Items as heads
 use Rattle.cpp_layout.proofs.symbol.Symbol.fill_rvalue.Goals as goal
 

@@ -1,10 +1,6 @@
-use Rattle.std.proofs.Common.{ap, sym, ◌∙◌}
+use Rattle.cpp_layout.proofs.Basics.{ap, sym, ◌∙◌, Context, printed_tree, reargued, tree_of}
 use Rattle.cpp_layout.proofs.Functions.{function-absent, not-absent}
 use Rattle.cpp_layout.proofs.Growing.{fills, starts}
-use Rattle.cpp_layout.specs.declared.context.Context.{Context}
-use Rattle.cpp_layout.specs.Layout.{printed_tree}
-use Rattle.cpp_term.specs.Reargued.{reargued}
-use Rattle.cpp_tree.specs.Nodes.{tree_of}
 use Rattle.cpp_layout.proofs.symbol.Symbol.fill_signature.Goals as goal
 
 pub returns-in-Absent-clause-shows : goal.returns-in-Absent-clause-shows

@@ -1,10 +1,5 @@
-use Rattle.std.proofs.Common.{[], ap, ◌∙◌, ◌∷◌}
-use Rattle.cpp_grammar.specs.Parts.{thunk_text}
+use Rattle.cpp_layout.proofs.Basics.{[], ap, ◌∙◌, ◌∷◌, thunk_text, table_of, as_item, thunk_of, tree_at, trees, text}
 use Rattle.cpp_layout.proofs.Growing.{fills, starts}
-use Rattle.cpp_layout.specs.Layout.{table_of}
-use Rattle.cpp_term.specs.Parts.{as_item}
-use Rattle.cpp_tree.specs.Nodes.{thunk_of, tree_at, trees}
-use Rattle.sym_print.specs.Unfold.{text}
 use Rattle.cpp_grammar.specs.Items as heads
 use Rattle.cpp_term.specs.Items as items
 use Rattle.cpp_layout.proofs.symbol.Symbol.fill_thunk.Goals as goal

@@ -1,9 +1,5 @@
-use Rattle.std.proofs.Common.{ap, sym, ◌∙◌}
-use Rattle.cpp_grammar.specs.Parts.{letter_name}
+use Rattle.cpp_layout.proofs.Basics.{ap, sym, ◌∙◌, letter_name, front_of_name, reargued, tree_of}
 use Rattle.cpp_layout.proofs.Declaring.{front-letter, front-none, front-pack}
-use Rattle.cpp_term.specs.Parts.{front_of_name}
-use Rattle.cpp_term.specs.Reargued.{reargued}
-use Rattle.cpp_tree.specs.Nodes.{tree_of}
 use Rattle.cpp_layout.proofs.symbol.Symbol.front_of_name.Goals as goal
 
 pub returns-then-second-eq112-clause-text : goal.returns-then-second-eq112-clause-text

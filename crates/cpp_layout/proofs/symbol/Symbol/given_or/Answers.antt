@@ -1,8 +1,4 @@
-use Rattle.std.proofs.Common.{ap, arith, length, subst, sym, ◌≡◌, ◌∙◌}
-use Rattle.cpp_term.specs.Reargued.{argument_or}
-use Rattle.cpp_tree.specs.Nodes.{over, tree_at, tree_if_there, trees}
-use Rattle.cpp_tree.proofs.Trees.{there-below}
-use Rattle.cpp_layout.specs.Layout.{table_of}
+use Rattle.cpp_layout.proofs.Basics.{ap, arith, length, subst, sym, ◌≡◌, ◌∙◌, argument_or, over, tree_at, tree_if_there, trees, there-below, table_of}
 use Rattle.cpp_layout.proofs.symbol.Symbol.given_or.Goals as goal
 
 pub given_for-requires-clause-given : goal.given_for-requires-clause-given

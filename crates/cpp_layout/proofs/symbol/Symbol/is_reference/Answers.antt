@@ -1,8 +1,6 @@
-use Rattle.std.proofs.Common.{ap, subst, ◌≡◌, ◌∙◌}
-use Rattle.cpp_tree.specs.Nodes.{over, tree_under, trees}
+use Rattle.cpp_layout.proofs.Basics.{ap, subst, ◌≡◌, ◌∙◌, over, tree_under, trees, context_of, table_of}
 use Rattle.cpp_grammar.specs.Items as heads
 use Rattle.cpp_term.specs.Items as items
-use Rattle.cpp_layout.specs.Layout.{context_of, table_of}
 use Rattle.cpp_layout.proofs.symbol.Symbol.is_reference.Goals as goal
 
 pub returns-in-None : goal.returns-in-None

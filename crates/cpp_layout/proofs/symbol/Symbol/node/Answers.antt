@@ -1,5 +1,4 @@
-use Rattle.std.proofs.Common.{sym}
-use Rattle.cpp_layout.specs.Layout.{table_of}
+use Rattle.cpp_layout.proofs.Basics.{sym, table_of}
 use Rattle.cpp_tree.specs.Views.{plain_tree}
 use Rattle.cpp_tree.proofs.Rebuilding.{tree-made}
 use Rattle.cpp_layout.proofs.symbol.Symbol.node.Goals as goal

@@ -1,5 +1,4 @@
-use Rattle.std.proofs.Common.{ap, sym, ◌∙◌}
-use Rattle.cpp_layout.specs.Layout.{table_of}
+use Rattle.cpp_layout.proofs.Basics.{ap, sym, ◌∙◌, table_of}
 use Rattle.cpp_layout.proofs.Heads.{noted-head}
 use Rattle.cpp_layout.proofs.symbol.Symbol.noted_head.Goals as goal
 

@@ -1,9 +1,5 @@
-use Rattle.std.proofs.Common.{◌∙◌, ap, sym}
-use Rattle.cpp_term.specs.Reargued.{reargued}
+use Rattle.cpp_layout.proofs.Basics.{◌∙◌, ap, sym, reargued, printed_tree, type_shown, Context, mark_of, tree_of}
 use Rattle.cpp_layout.proofs.Functions.{not-nil, opens-none, opens-object}
-use Rattle.cpp_layout.specs.Layout.{printed_tree, type_shown}
-use Rattle.cpp_layout.specs.declared.context.Context.{Context}
-use Rattle.cpp_tree.specs.Nodes.{mark_of, tree_of}
 use Rattle.cpp_layout.proofs.symbol.Symbol.opening_number.Goals as goal
 
 pub returns-in-Nil-clause-text : goal.returns-in-Nil-clause-text

@@ -1,8 +1,5 @@
-use Rattle.std.proofs.Common.{ap, sym, ◌∙◌}
+use Rattle.cpp_layout.proofs.Basics.{ap, sym, ◌∙◌, entity_of, tree_of, reargued}
 use Rattle.cpp_layout.proofs.Naming.{entity-other}
-use Rattle.cpp_term.specs.Parts.{entity_of}
-use Rattle.cpp_tree.specs.Nodes.{tree_of}
-use Rattle.cpp_term.specs.Reargued.{reargued}
 use Rattle.cpp_layout.proofs.symbol.Symbol.own_entity.Goals as goal
 
 pub returns-in-OfDefault-clause-tree : goal.returns-in-OfDefault-clause-tree

@@ -1,8 +1,4 @@
-use Rattle.std.proofs.Common.{ap, subst, ◌≡◌, ◌∙◌}
-use Rattle.cpp_tree.specs.Nodes.{over, tree_under, trees}
-use Rattle.cpp_term.specs.Items.{packs_of}
-use Rattle.cpp_term.specs.Scope.{pack_length}
-use Rattle.cpp_layout.specs.Layout.{table_of}
+use Rattle.cpp_layout.proofs.Basics.{ap, subst, ◌≡◌, ◌∙◌, over, tree_under, trees, packs_of, pack_length, table_of}
 use Rattle.cpp_layout.proofs.symbol.Symbol.packs.Goals as goal
 
 pub returns : goal.returns

@@ -1,6 +1,4 @@
-use Rattle.std.proofs.Common.{ap, subst, ◌≡◌, ◌∙◌}
-use Rattle.cpp_tree.specs.Nodes.{over, tree_under, trees}
-use Rattle.cpp_layout.specs.Layout.{table_of}
+use Rattle.cpp_layout.proofs.Basics.{ap, subst, ◌≡◌, ◌∙◌, over, tree_under, trees, table_of}
 use Rattle.cpp_layout.proofs.symbol.Symbol.place.Goals as goal
 
 pub returns-clause-tree : goal.returns-clause-tree

@@ -1,8 +1,4 @@
-use Rattle.std.proofs.Common.{ap, subst, ◌≡◌, ◌∙◌}
-use Rattle.cpp_term.specs.Term.{pointer}
-use Rattle.cpp_term.specs.Reargued.{reargued}
-use Rattle.cpp_tree.specs.Nodes.{over, tree_if_there, tree_of, tree_under, trees}
-use Rattle.cpp_layout.specs.Layout.{table_of}
+use Rattle.cpp_layout.proofs.Basics.{ap, subst, ◌≡◌, ◌∙◌, pointer, reargued, over, tree_if_there, tree_of, tree_under, trees, table_of}
 use Rattle.cpp_layout.proofs.symbol.Symbol.pointed.Goals as goal
 
 pub returns-in-Pointer-clause-tree : goal.returns-in-Pointer-clause-tree

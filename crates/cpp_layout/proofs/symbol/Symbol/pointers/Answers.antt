@@ -1,5 +1,4 @@
-use Rattle.std.proofs.Common.{refl, ap, ◌∙◌, arith}
-use Rattle.cpp_layout.specs.Pointers.{pointers}
+use Rattle.cpp_layout.proofs.Basics.{refl, ap, ◌∙◌, arith, pointers}
 use Rattle.cpp_layout.proofs.Pointing.{one-more}
 use Rattle.cpp_layout.proofs.symbol.Symbol.pointers.Goals as goal
 

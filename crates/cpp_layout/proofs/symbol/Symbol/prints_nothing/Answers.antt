@@ -1,7 +1,5 @@
-use Rattle.std.proofs.Common.{ap, subst, ◌≡◌, ◌∙◌}
-use Rattle.cpp_tree.specs.Nodes.{over, tree_under, trees}
+use Rattle.cpp_layout.proofs.Basics.{ap, subst, ◌≡◌, ◌∙◌, over, tree_under, trees, context_of, table_of}
 use Rattle.cpp_term.specs.Items as items
-use Rattle.cpp_layout.specs.Layout.{context_of, table_of}
 use Rattle.cpp_layout.proofs.symbol.Symbol.prints_nothing.Goals as goal
 
 pub returns : goal.returns

@@ -1,7 +1,6 @@
 use Rattle.cpp_layout.proofs.Functions.{bare-whole}
 use Rattle.cpp_layout.proofs.Growing.{fills}
-use Rattle.cpp_layout.specs.Layout.{table_of, type_shown}
-use Rattle.cpp_tree.specs.Nodes.{mark_of, qualifiers_of, tree_at, trees}
+use Rattle.cpp_layout.proofs.Basics.{table_of, type_shown, mark_of, qualifiers_of, tree_at, trees}
 use Rattle.cpp_layout.proofs.symbol.Symbol.push_bare.Goals as goal
 
 pub returns-clause-shows : goal.returns-clause-shows

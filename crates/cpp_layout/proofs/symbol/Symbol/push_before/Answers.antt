@@ -1,10 +1,7 @@
-use Rattle.std.proofs.Common.{sym, ◌∙◌}
+use Rattle.cpp_layout.proofs.Basics.{sym, ◌∙◌, context_of, printed_tree, tree_of, reargued}
 use Rattle.cpp_layout.proofs.Functions.{not-absent}
 use Rattle.cpp_layout.proofs.Growing.{fills}
 use Rattle.cpp_layout.proofs.Naming.{before-none, before-some}
-use Rattle.cpp_layout.specs.Layout.{context_of, printed_tree}
-use Rattle.cpp_tree.specs.Nodes.{tree_of}
-use Rattle.cpp_term.specs.Reargued.{reargued}
 use Rattle.cpp_layout.proofs.symbol.Symbol.push_before.Goals as goal
 
 pub returns-in-Absent-clause-shows : goal.returns-in-Absent-clause-shows

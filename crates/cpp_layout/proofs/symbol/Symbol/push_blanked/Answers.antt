@@ -1,7 +1,6 @@
-use Rattle.std.proofs.Common.{ap, arith, ◌++◌}
+use Rattle.cpp_layout.proofs.Basics.{ap, arith, ◌++◌, text_part}
 use Rattle.cpp_layout.proofs.Functions.{part-none}
 use Rattle.cpp_layout.proofs.Growing.{fills, part-text}
-use Rattle.cpp_term.specs.Parts.{text_part}
 use Rattle.cpp_layout.proofs.symbol.Symbol.push_blanked.Goals as goal
 
 pub returns-then-number-gt-BLANKED-clause-shows : goal.returns-then-number-gt-BLANKED-clause-shows

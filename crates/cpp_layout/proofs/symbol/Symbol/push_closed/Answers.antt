@@ -1,5 +1,4 @@
-use Rattle.std.proofs.Common.{ap, None, ◌∷◌}
-use Rattle.sym_print.specs.Unfold.{sub}
+use Rattle.cpp_layout.proofs.Basics.{ap, None, ◌∷◌, sub}
 use Rattle.cpp_layout.proofs.Growing.{closed-item, fills, told-item}
 use Rattle.cpp_layout.proofs.symbol.Symbol.push_closed.Goals as goal
 

@@ -1,7 +1,6 @@
-use Rattle.std.proofs.Common.{List, ap, arith, length, rules, ℕ, ◌∙◌, ◌∷◌}
+use Rattle.cpp_layout.proofs.Basics.{List, ap, arith, length, rules, ℕ, ◌∙◌, ◌∷◌, text}
 use Rattle.std.proofs.lemmas.Fmt.{decimal_nonempty}
 use Rattle.cpp_layout.proofs.Growing.{fills, own-pushed}
-use Rattle.sym_print.specs.Unfold.{text}
 use Rattle.cpp_layout.proofs.symbol.Symbol.push_decimal.Goals as goal
 
 pub returns-clause-shows : goal.returns-clause-shows

@@ -1,12 +1,8 @@
-use Rattle.std.proofs.Common.{ap, arith, sym, ◌∙◌, ◌∷◌}
+use Rattle.cpp_layout.proofs.Basics.{ap, arith, sym, ◌∙◌, ◌∷◌, context_of, printed_tree, as_item, reargued, tree_of}
 use Rattle.cpp_grammar.specs.Items as heads
 use Rattle.cpp_layout.proofs.Declaring.{rest-nil, rest-none, rest-some}
 use Rattle.cpp_layout.proofs.Functions.{not-nil}
 use Rattle.cpp_layout.proofs.Growing.{fills}
-use Rattle.cpp_layout.specs.Layout.{context_of, printed_tree}
-use Rattle.cpp_term.specs.Parts.{as_item}
-use Rattle.cpp_term.specs.Reargued.{reargued}
-use Rattle.cpp_tree.specs.Nodes.{tree_of}
 use Rattle.cpp_layout.proofs.symbol.Symbol.push_declared.Goals as goal
 
 pub returns-in_default-clause-shows : goal.returns-in_default-clause-shows

@@ -1,9 +1,6 @@
-use Rattle.std.proofs.Common.{sym, ◌∙◌}
-use Rattle.cpp_term.specs.Reargued.{reargued}
+use Rattle.cpp_layout.proofs.Basics.{sym, ◌∙◌, reargued, context_of, form_of, table_of, printed_tree, tree_of, trees}
 use Rattle.cpp_layout.proofs.Functions.{not-nil}
 use Rattle.cpp_layout.proofs.Growing.{fills, list-here, list-none}
-use Rattle.cpp_layout.specs.Layout.{context_of, form_of, table_of, printed_tree}
-use Rattle.cpp_tree.specs.Nodes.{tree_of, trees}
 use Rattle.cpp_layout.proofs.symbol.Symbol.push_list.Goals as goal
 
 pub returns-in-Nil-clause-shows : goal.returns-in-Nil-clause-shows

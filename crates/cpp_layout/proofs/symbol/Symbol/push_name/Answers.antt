@@ -1,9 +1,6 @@
-use Rattle.std.proofs.Common.{ap, codes, sym, ◌∙◌, ◌∷◌}
-use Rattle.cpp_grammar.specs.Parts.{begins_with}
+use Rattle.cpp_layout.proofs.Basics.{ap, codes, sym, ◌∙◌, ◌∷◌, begins_with, bytes_at, text}
 use Rattle.cpp_layout.proofs.Growing.{fills}
 use Rattle.cpp_layout.proofs.Naming.{source-anonymous, source-plain}
-use Rattle.cpp_tree.specs.Nodes.{bytes_at}
-use Rattle.sym_print.specs.Unfold.{text}
 use Rattle.cpp_layout.proofs.symbol.Symbol.push_name.Goals as goal
 
 pub returns-then-is_anonymous-clause-shows : goal.returns-then-is_anonymous-clause-shows

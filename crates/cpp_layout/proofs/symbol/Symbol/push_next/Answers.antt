@@ -1,8 +1,6 @@
-use Rattle.std.proofs.Common.{ap, sym, ◌+◌, ◌∙◌}
-use Rattle.cpp_grammar.specs.Parts.{is_below}
+use Rattle.cpp_layout.proofs.Basics.{ap, sym, ◌+◌, ◌∙◌, is_below, context_of, printed_tree}
 use Rattle.cpp_layout.proofs.Functions.{next-none, next-some}
 use Rattle.cpp_layout.proofs.Growing.{fills}
-use Rattle.cpp_layout.specs.Layout.{context_of, printed_tree}
 use Rattle.cpp_layout.proofs.symbol.Symbol.push_next.Goals as goal
 
 pub returns-then-has_next-clause-shows : goal.returns-then-has_next-clause-shows

@@ -1,11 +1,8 @@
-use Rattle.std.proofs.Common.{ap, arith, ◌≡◌}
-use Rattle.std.proofs.lemmas.Bool.{ne_eqb}
+use Rattle.cpp_layout.proofs.Basics.{ap, arith, ◌≡◌, ne_eqb, fixed_text, NONE}
 use Rattle.cpp_layout.proofs.Coding.{some_text}
 use Rattle.cpp_layout.proofs.Functions.{part-none}
 use Rattle.cpp_layout.proofs.Growing.{fills, part-text}
 use Rattle.cpp_layout.proofs.Operating.{one-part}
-use Rattle.cpp_layout.specs.Texts.{fixed_text}
-use Rattle.cpp_layout.specs.declared.texts.TheConstants.{NONE}
 use Rattle.cpp_layout.proofs.symbol.Symbol.push_own_text.Goals as goal
 
 pub push_text-requires-clause-room : goal.push_text-requires-clause-room

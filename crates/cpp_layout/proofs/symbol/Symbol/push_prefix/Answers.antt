@@ -1,10 +1,7 @@
-use Rattle.std.proofs.Common.{ap, sym, ◌∙◌, ◌∷◌}
+use Rattle.cpp_layout.proofs.Basics.{ap, sym, ◌∙◌, ◌∷◌, as_item, context_of, table_of, printed_tree, trees}
 use Rattle.cpp_grammar.specs.Items as heads
-use Rattle.cpp_term.specs.Parts.{as_item}
 use Rattle.cpp_layout.proofs.Growing.{fills, told-so}
 use Rattle.cpp_layout.proofs.Naming.{prefix-held}
-use Rattle.cpp_layout.specs.Layout.{context_of, table_of, printed_tree}
-use Rattle.cpp_tree.specs.Nodes.{trees}
 use Rattle.cpp_layout.proofs.Others.{prefix-encoding, prefix-other}
 use Rattle.cpp_layout.proofs.symbol.Symbol.push_prefix.Goals as goal
 

@@ -1,7 +1,6 @@
-use Rattle.std.proofs.Common.{sym, ◌∙◌}
+use Rattle.cpp_layout.proofs.Basics.{sym, ◌∙◌, qualifiers_of}
 use Rattle.cpp_layout.proofs.Growing.{fills}
 use Rattle.cpp_layout.proofs.Typing.{qualifiers-bracket, qualifiers-none, qualifiers-plain}
-use Rattle.cpp_tree.specs.Nodes.{qualifiers_of}
 use Rattle.cpp_layout.proofs.symbol.Symbol.push_qualifiers.Goals as goal
 
 pub returns-then-is_reference-clause-shows : goal.returns-then-is_reference-clause-shows

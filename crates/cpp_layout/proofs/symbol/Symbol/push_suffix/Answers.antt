@@ -1,9 +1,6 @@
-use Rattle.std.proofs.Common.{ap, arith, sym, ◌++◌, ◌∙◌, ◌≡◌}
+use Rattle.cpp_layout.proofs.Basics.{ap, arith, sym, ◌++◌, ◌∙◌, ◌≡◌, fixed_text, SUFFIX, text_part}
 use Rattle.cpp_layout.proofs.Functions.{part-none}
 use Rattle.cpp_layout.proofs.Growing.{fills, part-text}
-use Rattle.cpp_layout.specs.Texts.{fixed_text}
-use Rattle.cpp_layout.specs.declared.texts.TheConstants.{SUFFIX}
-use Rattle.cpp_term.specs.Parts.{text_part}
 use Rattle.cpp_layout.proofs.symbol.Symbol.push_suffix.Goals as goal
 
 pub returns-then-number-gt-SUFFIX-clause-shows : goal.returns-then-number-gt-SUFFIX-clause-shows

@@ -1,5 +1,4 @@
-use Rattle.std.proofs.Common.{None}
-use Rattle.cpp_tree.specs.Nodes.{under_kept}
+use Rattle.cpp_layout.proofs.Basics.{None, under_kept}
 use Rattle.cpp_layout.proofs.Growing.{told-list}
 use Rattle.cpp_layout.proofs.symbol.Symbol.push_typed_list.Goals as goal
 

@@ -1,7 +1,4 @@
-use Rattle.std.proofs.Common.{ap, ◌∙◌}
-use Rattle.cpp_term.specs.Answer.{noted_shown}
-use Rattle.cpp_tree.specs.Nodes.{tree_at, trees}
-use Rattle.cpp_layout.specs.Layout.{table_of}
+use Rattle.cpp_layout.proofs.Basics.{ap, ◌∙◌, noted_shown, tree_at, trees, table_of}
 use Rattle.cpp_layout.proofs.Printing.{closed-root}
 use Rattle.cpp_layout.proofs.symbol.Symbol.root_as.Goals as goal
 

@@ -1,6 +1,4 @@
-use Rattle.std.proofs.Common.{◌<◌, refl, sym, ap, ◌∙◌, arith}
-use Rattle.cpp_tree.specs.Nodes.{tree_under, trees}
-use Rattle.cpp_layout.specs.Layout.{table_of}
+use Rattle.cpp_layout.proofs.Basics.{◌<◌, refl, sym, ap, ◌∙◌, arith, tree_under, trees, table_of}
 use Rattle.cpp_layout.proofs.Pointing.{run-constant}
 use Rattle.cpp_layout.proofs.symbol.Symbol.run_constant.Goals as goal
 

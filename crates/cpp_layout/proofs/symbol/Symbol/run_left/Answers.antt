@@ -1,6 +1,4 @@
-use Rattle.std.proofs.Common.{◌<◌, sym, ap, ◌∙◌, arith}
-use Rattle.cpp_tree.specs.Nodes.{tree_under, trees}
-use Rattle.cpp_layout.specs.Layout.{table_of}
+use Rattle.cpp_layout.proofs.Basics.{◌<◌, sym, ap, ◌∙◌, arith, tree_under, trees, table_of}
 use Rattle.cpp_layout.proofs.Pointing.{run-left}
 use Rattle.cpp_layout.proofs.symbol.Symbol.run_left.Goals as goal
 

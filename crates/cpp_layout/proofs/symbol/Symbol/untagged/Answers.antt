@@ -1,7 +1,4 @@
-use Rattle.std.proofs.Common.{ap, subst, ◌≡◌, ◌∙◌}
-use Rattle.cpp_tree.specs.Nodes.{over, tree_under, trees}
-use Rattle.cpp_term.specs.Scope.{without_tags}
-use Rattle.cpp_layout.specs.Layout.{table_of}
+use Rattle.cpp_layout.proofs.Basics.{ap, subst, ◌≡◌, ◌∙◌, over, tree_under, trees, without_tags, table_of}
 use Rattle.cpp_layout.proofs.symbol.Symbol.untagged.Goals as goal
 
 pub returns-clause-tree : goal.returns-clause-tree

@@ -1,6 +1,5 @@
-use Rattle.std.proofs.Common.{sym, subst}
+use Rattle.cpp_link.proofs.Basics.{sym, subst, AreListed}
 use Rattle.cpp_references.specs.declared.candidates.Counted.TheVariants as noted
-use Rattle.cpp_link.specs.Counting.{AreListed}
 use Rattle.cpp_link.proofs.Pushed.{none_listed}
 use Rattle.cpp_link.proofs.candidates.Candidates.clear.Goals as goal
 

@@ -1,5 +1,4 @@
-use Rattle.std.proofs.Common.{refl, sym, ◌∙◌, subst}
-use Rattle.cpp_link.specs.Counting.{AreListed}
+use Rattle.cpp_link.proofs.Basics.{refl, sym, ◌∙◌, subst, AreListed}
 use Rattle.cpp_link.proofs.Pushed.{one_listed, noted_all, numbered_as_it_is}
 use Rattle.cpp_link.proofs.candidates.Candidates.number.Goals as goal
 

@@ -1,6 +1,4 @@
-use Rattle.std.proofs.Common.{refl}
-use Rattle.cpp_grammar.specs.Rescoping.{is_by_all, is_by_newer}
-use Rattle.cpp_references.specs.Around.{counted_of}
+use Rattle.cpp_link.proofs.Basics.{refl, is_by_all, is_by_newer, counted_of}
 use Rattle.cpp_link.proofs.candidates.Candidates.number_apart.Goals as goal
 
 pub number_in_longer-requires-clause-some : goal.number_in_longer-requires-clause-some

@@ -1,8 +1,4 @@
-use Rattle.std.proofs.Common.{◌≡◌, refl, sym, ◌∙◌, ap, subst, arith, ℕ, ◌+◌, ◌-◌, ◌<◌, ◌∷◌, [], length, get_or, true, false}
-use Rattle.std.proofs.lemmas.List.{get_or_append_left}
-use Rattle.cpp_grammar.specs.Rescoping.{is_by_all}
-use Rattle.cpp_references.specs.Around.{counted_of}
-use Rattle.cpp_link.specs.Counting.{with_place, AreListed}
+use Rattle.cpp_link.proofs.Basics.{◌≡◌, refl, sym, ◌∙◌, ap, subst, arith, ℕ, ◌+◌, ◌-◌, ◌<◌, ◌∷◌, [], length, get_or, true, false, get_or_append_left, is_by_all, counted_of, with_place, AreListed}
 use Rattle.cpp_link.proofs.Pushed.{holder_first, holder_listed, holder_few, numbered_once, numbered_as_it_is}
 use Rattle.cpp_link.proofs.candidates.Candidates.number_holder.Goals as goal
 

@@ -1,5 +1,4 @@
-use Rattle.std.proofs.Common.{refl, sym, ◌∙◌, ap, subst, arith, ◌-◌, ◌∷◌, [], length, length-append, true, false}
-use Rattle.cpp_link.specs.Counting.{with_place, AreListed}
+use Rattle.cpp_link.proofs.Basics.{refl, sym, ◌∙◌, ap, subst, arith, ◌-◌, ◌∷◌, [], length, length-append, true, false, with_place, AreListed}
 use Rattle.cpp_link.proofs.Listed.{with_length}
 use Rattle.cpp_link.proofs.Pushed.{both_listed, numbered_twice}
 use Rattle.cpp_link.proofs.candidates.Candidates.number_in_both.Goals as goal

@@ -1,7 +1,4 @@
-use Rattle.std.proofs.Common.{refl, sym, ◌∙◌, ap, subst, ◌+◌, ◌-◌, false}
-use Rattle.cpp_grammar.specs.Rescoping.{is_by_all, is_by_newer, joined}
-use Rattle.cpp_references.specs.Around.{counted_of}
-use Rattle.cpp_link.specs.Counting.{with_place, AreListed}
+use Rattle.cpp_link.proofs.Basics.{refl, sym, ◌∙◌, ap, subst, ◌+◌, ◌-◌, false, is_by_all, is_by_newer, joined, counted_of, with_place, AreListed}
 use Rattle.cpp_link.proofs.Pushed.{longer_listed, numbered_once}
 use Rattle.cpp_link.proofs.candidates.Candidates.number_in_longer.Goals as goal
 

@@ -1,6 +1,5 @@
-use Rattle.cpp_link.specs.Counting.{place_of}
+use Rattle.cpp_link.proofs.Basics.{place_of, true, arith}
 use Rattle.cpp_link.proofs.Listed.{number_there, number_past}
-use Rattle.std.proofs.Common.{true, arith}
 use Rattle.cpp_link.proofs.candidates.Candidates.shorter_place.Goals as goal
 
 pub returns-then-number-count : goal.returns-then-number-count

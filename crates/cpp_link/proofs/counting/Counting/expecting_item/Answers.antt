@@ -1,9 +1,6 @@
-use Rattle.std.proofs.Common.{sym, ◌∙◌, ap, true, false}
-use Rattle.cpp_grammar.specs.Values.{Counting, item_at}
+use Rattle.cpp_link.proofs.Basics.{sym, ◌∙◌, ap, true, false, Counting, item_at, expecting_item, expected_of, counting_of}
 use Rattle.cpp_grammar.specs.Rescoping.{behind_first}
-use Rattle.cpp_term.specs.Rescoping.{expecting_item}
 use Rattle.cpp_references.specs.Around.{around_of}
-use Rattle.cpp_link.specs.Counting.{expected_of, counting_of}
 use Rattle.cpp_link.proofs.counting.Counting.expecting_item.Goals as goal
 
 pub returns-then-is_none_of : goal.returns-then-is_none_of

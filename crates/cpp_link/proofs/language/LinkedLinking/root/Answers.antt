@@ -1,15 +1,4 @@
-use Rattle.std.proofs.Common.{refl, ap, [], Ok}
-use Rattle.sym_link.proofs.Room.{room_same}
-use Rattle.sym_link.specs.Reading.{◌>>=◌}
-use Rattle.sym_link.specs.Unfold.{standing}
-use Rattle.cpp_term.specs.Unfolding.{first_around, first_state}
-use Rattle.cpp_tree.specs.Nodes.{tree_if_there}
-use Rattle.cpp_link.specs.Parts.{arguments_in, is_lambda, showing_in, prefix_in, packs_in, around_of, prefix_of}
-use Rattle.cpp_link.specs.Room.{lists_of}
-use Rattle.cpp_link.specs.View.{cpp_view}
-use Rattle.cpp_link.specs.NodeCount.{cpp_makes}
-use Rattle.cpp_link.specs.declared.language.TheConstants.{OUTSIDE}
-use Rattle.sym_link.proofs.Tally.{root_tallied}
+use Rattle.cpp_link.proofs.Basics.{refl, ap, [], Ok, room_same, ◌>>=◌, standing, first_around, first_state, tree_if_there, arguments_in, is_lambda, showing_in, prefix_in, packs_in, around_of, prefix_of, lists_of, cpp_view, cpp_makes, OUTSIDE, root_tallied}
 use Rattle.cpp_link.proofs.Endings.{first_begins}
 use Rattle.cpp_link.proofs.language.LinkedLinking.root.Goals as goal
 

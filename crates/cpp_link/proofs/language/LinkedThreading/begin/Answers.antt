@@ -1,8 +1,4 @@
-use Rattle.sym_link.proofs.Room.{room_same}
-use Rattle.cpp_link.specs.Room.{lists_of}
-use Rattle.cpp_link.specs.View.{Surrounds, cpp_view}
-use Rattle.cpp_link.specs.NodeCount.{cpp_makes}
-use Rattle.sym_link.proofs.Tally.{begin_tallied}
+use Rattle.cpp_link.proofs.Basics.{room_same, lists_of, Surrounds, cpp_view, cpp_makes, begin_tallied}
 use Rattle.cpp_link.proofs.NodeCount.{none_begun}
 use Rattle.cpp_link.proofs.language.LinkedThreading.begin.Goals as goal
 

@@ -1,6 +1,4 @@
-use Rattle.cpp_link.specs.View.{Surrounds, cpp_view}
-use Rattle.cpp_link.specs.NodeCount.{cpp_makes}
-use Rattle.sym_link.proofs.Tally.{room_untallied, open_at_untallied, between_tallied}
+use Rattle.cpp_link.proofs.Basics.{Surrounds, cpp_view, cpp_makes, room_untallied, open_at_untallied, between_tallied}
 use Rattle.cpp_link.proofs.Rooms.{roomy_keeps, roomy_full}
 use Rattle.cpp_link.proofs.NodeCount.{before_read}
 use Rattle.cpp_link.proofs.language.LinkedThreading.between.Goals as goal

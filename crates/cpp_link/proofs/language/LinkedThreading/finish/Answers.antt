@@ -1,6 +1,4 @@
-use Rattle.cpp_link.specs.View.{cpp_view}
-use Rattle.cpp_link.specs.NodeCount.{cpp_makes}
-use Rattle.sym_link.proofs.Tally.{room_untallied, open_at_untallied, finish_tallied}
+use Rattle.cpp_link.proofs.Basics.{cpp_view, cpp_makes, room_untallied, open_at_untallied, finish_tallied}
 use Rattle.cpp_link.proofs.Rooms.{roomy_keeps, roomy_full}
 use Rattle.cpp_link.proofs.NodeCount.{end_read}
 use Rattle.cpp_link.proofs.language.LinkedThreading.finish.Goals as goal

@@ -1,6 +1,4 @@
-use Rattle.std.proofs.Common.{refl}
-use Rattle.cpp_term.specs.Unfolding.{cpp}
-use Rattle.cpp_link.specs.Parts.{value_of}
+use Rattle.cpp_link.proofs.Basics.{refl, cpp, value_of}
 use Rattle.cpp_link.proofs.language.LinkedThreading.nothing.Goals as goal
 
 pub returns-clause-stands : goal.returns-clause-stands

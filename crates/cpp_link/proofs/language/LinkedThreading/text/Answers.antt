@@ -1,9 +1,4 @@
-use Rattle.std.proofs.Common.{refl, Ok}
-use Rattle.cpp_link.specs.Room.{lists_of}
-use Rattle.cpp_link.specs.View.{cpp_view}
-use Rattle.cpp_link.specs.NodeCount.{cpp_makes}
-use Rattle.sym_link.proofs.Room.{room_same}
-use Rattle.sym_link.proofs.Tally.{text_tallied}
+use Rattle.cpp_link.proofs.Basics.{refl, Ok, lists_of, cpp_view, cpp_makes, room_same, text_tallied}
 use Rattle.cpp_link.proofs.language.LinkedThreading.text.Goals as goal
 
 pub returns-clause-taken : goal.returns-clause-taken

@@ -1,11 +1,4 @@
-use Rattle.std.proofs.Common.{sym, ◌∙◌, ap, subst, length}
-use Rattle.std.specs.Prelude.{slice_index}
-use Rattle.cpp_references.specs.Around.{counted_of}
-use Rattle.cpp_link.specs.declared.linked.Linked.{Linked}
-use Rattle.cpp_link.specs.Making.{state_of}
-use Rattle.cpp_link.specs.LinkReading.{link_meaning}
-use Rattle.cpp_link.specs.Parts.{trees_in, values_in, around_of, AreCandidatesThere}
-use Rattle.cpp_link.specs.Staying.{around_stays, values_stay, candidates_more}
+use Rattle.cpp_link.proofs.Basics.{sym, ◌∙◌, ap, subst, length, slice_index, counted_of, Linked, state_of, link_meaning, trees_in, values_in, around_of, AreCandidatesThere, around_stays, values_stay, candidates_more}
 use Rattle.cpp_link.proofs.Making.{parts_more, state_behind}
 use Rattle.cpp_link.proofs.linked.Linked.add_node_and_candidate.Goals as goal
 

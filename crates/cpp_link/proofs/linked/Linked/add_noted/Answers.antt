@@ -1,11 +1,4 @@
-use Rattle.std.proofs.Common.{sym, ◌∙◌}
-use Rattle.cpp_grammar.specs.Values.{by_all}
-use Rattle.cpp_term.proofs.Notes.{both}
-use Rattle.cpp_link.specs.Counting.{counting_of}
-use Rattle.cpp_link.specs.Making.{state_of}
-use Rattle.cpp_link.specs.Parts.{trees_in, around_of, candidates_of}
-use Rattle.cpp_link.specs.Reads.{with_candidate}
-use Rattle.cpp_link.specs.Staying.{candidates_more}
+use Rattle.cpp_link.proofs.Basics.{sym, ◌∙◌, by_all, both, counting_of, state_of, trees_in, around_of, candidates_of, with_candidate, candidates_more}
 use Rattle.cpp_link.proofs.Stepping.{noted_is}
 use Rattle.cpp_link.proofs.linked.Linked.add_noted.Goals as goal
 

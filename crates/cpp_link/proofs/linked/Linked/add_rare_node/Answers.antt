@@ -1,12 +1,7 @@
-use Rattle.std.proofs.Common.{sym, ◌∙◌, ap, subst, arith, length}
+use Rattle.cpp_link.proofs.Basics.{sym, ◌∙◌, ap, subst, arith, length, Piece, Part, Outcome, trees_in, value_of, outcome_value, IsOutcomeThere, nodes_of_outcome}
 use Rattle.cpp_term.specs.Term as term
 use Rattle.cpp_term.specs.Values as values
 use Rattle.cpp_tree.specs.Nodes.{tree_at, piece_of, tree_of}
-use Rattle.cpp_tree.specs.declared.node.Piece.{Piece}
-use Rattle.cpp_link.specs.declared.part.Part.{Part}
-use Rattle.cpp_link.specs.declared.part.Outcome.{Outcome}
-use Rattle.cpp_link.specs.Parts.{trees_in, value_of, outcome_value, IsOutcomeThere}
-use Rattle.cpp_link.specs.Making.{nodes_of_outcome}
 use Rattle.cpp_link.proofs.Adding.{lacking, added, unadjusted, tree_added, plain_tree_added, pair_added}
 use Rattle.cpp_link.proofs.linked.Linked.add_rare_node.Goals as goal
 

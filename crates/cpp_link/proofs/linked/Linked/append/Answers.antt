@@ -1,9 +1,4 @@
-use Rattle.std.proofs.Common.{sym, ◌∙◌, ap, subst, length}
-use Rattle.cpp_term.specs.Values.{State}
-use Rattle.cpp_tree.specs.Nodes.{IsAliasBelow}
-use Rattle.cpp_references.specs.Around.{counted_of}
-use Rattle.cpp_link.specs.Parts.{trees_in, around_of, candidates_of}
-use Rattle.cpp_link.specs.Reads.{with_candidate}
+use Rattle.cpp_link.proofs.Basics.{sym, ◌∙◌, ap, subst, length, State, IsAliasBelow, counted_of, trees_in, around_of, candidates_of, with_candidate}
 use Rattle.cpp_link.proofs.Appending.{one_noted, none_noted}
 use Rattle.cpp_link.proofs.linked.Linked.append.Goals as goal
 

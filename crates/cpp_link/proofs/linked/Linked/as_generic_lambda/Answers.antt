@@ -1,6 +1,4 @@
-use Rattle.std.proofs.Common.{sym, ◌∙◌, ap}
-use Rattle.cpp_term.specs.Rescoping.{as_generic_lambda}
-use Rattle.cpp_link.specs.Parts.{trees_in, value_of}
+use Rattle.cpp_link.proofs.Basics.{sym, ◌∙◌, ap, as_generic_lambda, trees_in, value_of}
 use Rattle.cpp_link.proofs.Rescoped.{no_piece}
 use Rattle.cpp_link.proofs.linked.Linked.as_generic_lambda.Goals as goal
 

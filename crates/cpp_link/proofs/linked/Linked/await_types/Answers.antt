@@ -1,6 +1,4 @@
-use Rattle.std.proofs.Common.{sym, ◌∙◌, ap, true, false}
-use Rattle.cpp_grammar.specs.Values.{Counting}
-use Rattle.cpp_link.specs.Counting.{awaited_of, counting_of}
+use Rattle.cpp_link.proofs.Basics.{sym, ◌∙◌, ap, true, false, Counting, awaited_of, counting_of}
 use Rattle.cpp_link.proofs.linked.Linked.await_types.Goals as goal
 
 pub returns-then-is_one_list-clause-counting : goal.returns-then-is_one_list-clause-counting

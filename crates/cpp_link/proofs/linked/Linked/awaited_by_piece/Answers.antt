@@ -1,8 +1,4 @@
-use Rattle.std.proofs.Common.{◌∙◌, sym, ap, refl}
-use Rattle.cpp_grammar.specs.Rescoping.{behind_another}
-use Rattle.cpp_term.specs.Rescoping.{awaited_by_piece}
-use Rattle.cpp_tree.specs.Nodes.{piece_of}
-use Rattle.cpp_link.specs.Parts.{trees_in}
+use Rattle.cpp_link.proofs.Basics.{◌∙◌, sym, ap, refl, behind_another, awaited_by_piece, piece_of, trees_in}
 use Rattle.cpp_link.proofs.Awaited.{heads_alike}
 use Rattle.cpp_link.proofs.linked.Linked.awaited_by_piece.Goals as goal
 

@@ -1,9 +1,4 @@
-use Rattle.std.proofs.Common.{sym, ◌∙◌, ap, true, false}
-use Rattle.cpp_grammar.specs.Values.{by_gcc}
-use Rattle.cpp_term.specs.References.{appended_by}
-use Rattle.cpp_term.specs.Values.{State, tree_of}
-use Rattle.cpp_link.specs.Parts.{trees_in, value_in}
-use Rattle.cpp_link.specs.Reads.{with_candidate}
+use Rattle.cpp_link.proofs.Basics.{sym, ◌∙◌, ap, true, false, by_gcc, appended_by, State, tree_of, trees_in, value_in, with_candidate}
 use Rattle.cpp_link.proofs.Inherited.{counted_alone}
 use Rattle.cpp_link.proofs.linked.Linked.base_to_count.Goals as goal
 

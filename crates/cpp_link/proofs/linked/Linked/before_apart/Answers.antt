@@ -1,18 +1,4 @@
-use Rattle.std.proofs.Common.{◌≡◌, refl, sym, ◌∙◌, ap, subst, arith, ◌-◌, List, length, take, drop, Ok}
-use Rattle.std.proofs.lemmas.List.{length-drop}
-use Rattle.sym_link.proofs.Lists.{rest_all}
-use Rattle.cpp_grammar.specs.Unfolding.{production_at}
-use Rattle.cpp_link.specs.declared.part.Part.{Part}
-use Rattle.cpp_link.specs.Stepping.{nodes_of_step}
-use Rattle.cpp_link.specs.LinkRescoping.{linked_wide, steps_apart, with_mark, going_marked, wide_view}
-use Rattle.cpp_link.specs.Making.{state_of}
-use Rattle.cpp_link.specs.Parts.{trees_in, values_in, is_lambda, around_of}
-use Rattle.cpp_link.specs.Progress.{Advances}
-use Rattle.cpp_link.specs.Room.{KeepsRoom}
-use Rattle.cpp_link.specs.Staying.{around_stays, kept_more}
-use Rattle.cpp_term.specs.Values.{Around}
-use Rattle.cpp_term.specs.Rescoping.{between_wide}
-use Rattle.cpp_term.proofs.Notes.{both}
+use Rattle.cpp_link.proofs.Basics.{◌≡◌, refl, sym, ◌∙◌, ap, subst, arith, ◌-◌, List, length, take, drop, Ok, length-drop, rest_all, production_at, Part, nodes_of_step, linked_wide, steps_apart, with_mark, going_marked, wide_view, state_of, trees_in, values_in, is_lambda, around_of, Advances, KeepsRoom, around_stays, kept_more, Around, between_wide, both}
 use Rattle.cpp_link.proofs.NodeCount.{made_before_part}
 use Rattle.cpp_link.proofs.GoingOn.{goes_right, refused_right, refused_few, step_of_rule, refused_advances, lacking_advances, taken_advances}
 use Rattle.cpp_link.proofs.Rescoped.{wide_reads, marking_is, no_pack}

@@ -1,12 +1,4 @@
-use Rattle.std.proofs.Common.{◌≡◌, refl, ◌∙◌, ap, arith, ◌-◌, List, length, take, drop}
-use Rattle.sym_link.proofs.Lists.{rest_all}
-use Rattle.cpp_grammar.specs.Unfolding.{production_at}
-use Rattle.cpp_link.specs.declared.part.Part.{Part}
-use Rattle.cpp_term.specs.Between.{between}
-use Rattle.cpp_link.specs.LinkReading.{linked}
-use Rattle.cpp_link.specs.Making.{state_of}
-use Rattle.cpp_link.specs.Stepping.{nodes_of_step}
-use Rattle.cpp_link.specs.View.{cpp_view}
+use Rattle.cpp_link.proofs.Basics.{◌≡◌, refl, ◌∙◌, ap, arith, ◌-◌, List, length, take, drop, rest_all, production_at, Part, between, linked, state_of, nodes_of_step, cpp_view}
 use Rattle.cpp_link.proofs.NodeCount.{made_before_part}
 use Rattle.cpp_link.proofs.GoingOn.{plain_reads, goes_right, refused_right, refused_few, step_of_rule, refused_advances, lacking_advances, taken_advances}
 use Rattle.cpp_link.proofs.Rooms.{same_room}

@@ -1,11 +1,4 @@
-use Rattle.std.proofs.Common.{refl, sym, ◌∙◌, ap, ◌-◌}
-use Rattle.cpp_grammar.specs.declared.production.Production.{Production}
-use Rattle.cpp_grammar.specs.Values.{prefix_at, qualified_at}
-use Rattle.cpp_grammar.specs.Rescoping.{expecting, calling, ending}
-use Rattle.cpp_term.specs.Rescoping.{expecting_item}
-use Rattle.cpp_link.specs.Counting.{expected_of, counting_of}
-use Rattle.cpp_link.specs.LinkRescoping.{link_opening}
-use Rattle.cpp_link.specs.Parts.{trees_in}
+use Rattle.cpp_link.proofs.Basics.{refl, sym, ◌∙◌, ap, ◌-◌, Production, prefix_at, qualified_at, expecting, calling, ending, expecting_item, expected_of, counting_of, link_opening, trees_in}
 use Rattle.cpp_link.specs.declared.counting.Expected.{Expected as Noted}
 use Rattle.cpp_link.proofs.Beginning.{noted_begins, other_begins}
 use Rattle.cpp_link.proofs.linked.Linked.begin_apart.Goals as goal

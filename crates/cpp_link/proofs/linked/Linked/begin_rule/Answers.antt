@@ -1,11 +1,4 @@
-use Rattle.std.proofs.Common.{◌≡◌, ℕ, sym, ◌∙◌, ap, ◌-◌, Err, arith}
-use Rattle.sym_core.specs.declared.refusal.Refusal.{Refusal}
-use Rattle.sym_core.specs.declared.refusal.Refusal.TheVariants.{BadValue}
-use Rattle.std.specs.Prelude.{Result}
-use Rattle.sym_link.specs.Unfold.{standing}
-use Rattle.cpp_grammar.specs.Unfolding.{production_at}
-use Rattle.cpp_term.specs.Values.{State}
-use Rattle.cpp_link.specs.Numbered.{is_numbered}
+use Rattle.cpp_link.proofs.Basics.{◌≡◌, ℕ, sym, ◌∙◌, ap, ◌-◌, Err, arith, Refusal, BadValue, Result, standing, production_at, State, is_numbered}
 use Rattle.cpp_link.proofs.Endings.{plain_opens, first_begins, none_before, number_opens, if_fits, begins_kept}
 use Rattle.cpp_link.proofs.linked.Linked.begin_rule.Goals as goal
 

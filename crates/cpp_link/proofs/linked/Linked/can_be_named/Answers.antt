@@ -1,9 +1,4 @@
-use Rattle.std.proofs.Common.{refl, sym, ◌∙◌, ap}
-use Rattle.cpp_grammar.specs.Rescoping.{is_prefix_at, is_qualified_at}
-use Rattle.cpp_term.specs.Rescoping.{fits, can_be_named}
-use Rattle.cpp_term.proofs.Notes.{both}
-use Rattle.cpp_link.specs.Counting.{expected_of}
-use Rattle.cpp_link.specs.Reads.{node_fits, maybe_candidate}
+use Rattle.cpp_link.proofs.Basics.{refl, sym, ◌∙◌, ap, is_prefix_at, is_qualified_at, fits, can_be_named, both, expected_of, node_fits, maybe_candidate}
 use Rattle.cpp_link.proofs.Reading.{fits_is}
 use Rattle.cpp_link.proofs.linked.Linked.can_be_named.Goals as goal
 

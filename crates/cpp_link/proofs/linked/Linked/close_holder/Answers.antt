@@ -1,11 +1,4 @@
-use Rattle.std.proofs.Common.{◌≡◌, refl, sym, ◌∙◌, ap, [], true, false}
-use Rattle.std.specs.Prelude.{slice_index}
-use Rattle.cpp_grammar.specs.Values.{nothing_counted}
-use Rattle.cpp_term.specs.Rescoping.{awaited_by}
-use Rattle.cpp_term.specs.Values.{State, part, tree_of}
-use Rattle.cpp_link.specs.Counting.{awaited_of}
-use Rattle.cpp_link.specs.Making.{state_of}
-use Rattle.cpp_link.specs.Parts.{trees_in, values_in, packs_of, around_of}
+use Rattle.cpp_link.proofs.Basics.{◌≡◌, refl, sym, ◌∙◌, ap, [], true, false, slice_index, nothing_counted, awaited_by, State, part, tree_of, awaited_of, state_of, trees_in, values_in, packs_of, around_of}
 use Rattle.cpp_link.proofs.Awaited.{nothing_after, made_counted, awaits}
 use Rattle.cpp_link.proofs.linked.Linked.close_holder.Goals as goal
 

@@ -1,11 +1,4 @@
-use Rattle.std.proofs.Common.{refl, sym, ◌∙◌, ap, []}
-use Rattle.std.specs.Prelude.{slice_index}
-use Rattle.cpp_term.specs.Rescoping.{counted_base}
-use Rattle.cpp_grammar.specs.Values.{nothing_counted}
-use Rattle.cpp_term.specs.Values.{State}
-use Rattle.cpp_references.specs.Around.{counted_of}
-use Rattle.cpp_link.specs.Making.{state_of}
-use Rattle.cpp_link.specs.Parts.{trees_in, values_in, packs_of, around_of}
+use Rattle.cpp_link.proofs.Basics.{refl, sym, ◌∙◌, ap, [], slice_index, counted_base, nothing_counted, State, counted_of, state_of, trees_in, values_in, packs_of, around_of}
 use Rattle.cpp_link.proofs.Inherited.{counted_after, nothing_behind}
 use Rattle.cpp_link.proofs.linked.Linked.close_inheriting.Goals as goal
 

@@ -1,7 +1,4 @@
-use Rattle.std.proofs.Common.{◌∙◌, subst, rules}
-use Rattle.std.specs.Prelude.{slice_index}
-use Rattle.cpp_link.specs.Making.{IsCommon, state_of}
-use Rattle.cpp_link.specs.Parts.{trees_in, value_in, values_in, packs_of, around_of}
+use Rattle.cpp_link.proofs.Basics.{◌∙◌, subst, rules, slice_index, IsCommon, state_of, trees_in, value_in, values_in, packs_of, around_of}
 use Rattle.cpp_link.proofs.NodeCount.{none_substituted}
 use Rattle.cpp_link.proofs.Rooms.{same_room}
 use Rattle.cpp_link.proofs.Making.{common_meaning, substitution_closes, substitution_refused, other_closes}

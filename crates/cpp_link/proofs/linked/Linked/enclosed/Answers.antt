@@ -1,6 +1,5 @@
-use Rattle.std.proofs.Common.{◌∙◌, arith}
+use Rattle.cpp_link.proofs.Basics.{◌∙◌, arith, both}
 use Rattle.cpp_term.specs.Term as term
-use Rattle.cpp_term.proofs.Notes.{both}
 use Rattle.cpp_tree.specs.Nodes.{tree_of}
 use Rattle.cpp_link.proofs.linked.Linked.enclosed.Goals as goal
 

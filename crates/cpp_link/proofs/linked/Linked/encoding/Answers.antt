@@ -1,10 +1,6 @@
-use Rattle.std.proofs.Common.{sym, ◌∙◌, ap, true}
+use Rattle.cpp_link.proofs.Basics.{sym, ◌∙◌, ap, true, Value, part, has_return_type, encoding_of, trees_in, values_in, outcome_value}
 use Rattle.cpp_term.specs.Values as values
-use Rattle.cpp_term.specs.Values.{Value, part}
-use Rattle.cpp_term.specs.Scope.{has_return_type}
-use Rattle.cpp_term.specs.Meaning.{encoding_of}
 use Rattle.cpp_tree.specs.Nodes.{tree_of}
-use Rattle.cpp_link.specs.Parts.{trees_in, values_in, outcome_value}
 use Rattle.cpp_link.proofs.Reading.{made_object, made_function, made_procedure}
 use Rattle.cpp_link.proofs.linked.Linked.encoding.Goals as goal
 

@@ -1,5 +1,4 @@
-use Rattle.std.proofs.Common.{sym, ◌∙◌, ap}
-use Rattle.cpp_term.specs.Meaning.{ends_arguments}
+use Rattle.cpp_link.proofs.Basics.{sym, ◌∙◌, ap, ends_arguments}
 use Rattle.cpp_link.proofs.Operations.{ending_is}
 use Rattle.cpp_link.proofs.linked.Linked.ends_arguments.Goals as goal
 

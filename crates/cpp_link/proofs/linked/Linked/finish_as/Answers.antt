@@ -1,6 +1,4 @@
-use Rattle.std.proofs.Common.{arith}
-use Rattle.cpp_link.specs.LinkReading.{linked}
-use Rattle.cpp_link.specs.NodeCount.{makes_at_end}
+use Rattle.cpp_link.proofs.Basics.{arith, linked, makes_at_end}
 use Rattle.cpp_link.proofs.Bytes.{byte_serves}
 use Rattle.cpp_link.proofs.Finishing.{plain_closing, refused_finishes, put_finishes}
 use Rattle.cpp_link.proofs.linked.Linked.finish_as.Goals as goal

@@ -1,10 +1,4 @@
-use Rattle.std.proofs.Common.{sym, arith, Ok}
-use Rattle.sym_link.specs.Unfold.{found}
-use Rattle.cpp_grammar.specs.declared.production.Production.{Production}
-use Rattle.cpp_term.specs.Meaning.{meaning}
-use Rattle.cpp_term.proofs.Notes.{both}
-use Rattle.cpp_link.specs.LinkReading.{link_meaning}
-use Rattle.cpp_link.specs.LinkRescoping.{link_close_wide, linked_wide, wide_at_end, wide_ends}
+use Rattle.cpp_link.proofs.Basics.{sym, arith, Ok, found, Production, meaning, both, link_meaning, link_close_wide, linked_wide, wide_at_end, wide_ends}
 use Rattle.cpp_link.proofs.Finishing.{lacking_finishes, put_finishes}
 use Rattle.cpp_link.proofs.Rescoped.{wide_closing, wide_byte_serves}
 use Rattle.cpp_link.proofs.linked.Linked.finish_holder.Goals as goal

@@ -1,9 +1,4 @@
-use Rattle.std.proofs.Common.{◌≡◌, sym, ◌∙◌, subst, ◌+◌, drop, length}
-use Rattle.std.specs.Prelude.{OnOk}
-use Rattle.cpp_grammar.specs.declared.production.Production.{Production}
-use Rattle.cpp_grammar.specs.Unfolding.{production_at}
-use Rattle.cpp_link.specs.Making.{state_of}
-use Rattle.cpp_link.specs.Parts.{trees_in, values_in, around_of}
+use Rattle.cpp_link.proofs.Basics.{◌≡◌, sym, ◌∙◌, subst, ◌+◌, drop, length, OnOk, Production, production_at, state_of, trees_in, values_in, around_of}
 use Rattle.cpp_link.proofs.PassedOver.{unseen_is, literal_same}
 use Rattle.cpp_link.proofs.Rescoped.{same_closes, apart_end}
 use Rattle.cpp_link.proofs.linked.Linked.finish_literal.Goals as goal

@@ -1,11 +1,4 @@
-use Rattle.std.proofs.Common.{sym, ◌∙◌, arith, length}
-use Rattle.cpp_grammar.specs.declared.production.Production.{Production}
-use Rattle.cpp_term.specs.Rescoping.{is_passed_over}
-use Rattle.cpp_term.specs.Unfolding.{behind}
-use Rattle.cpp_link.specs.LinkReading.{link_close}
-use Rattle.cpp_link.specs.LinkRescoping.{link_close_wide, linked_wide, wide_at_end, wide_ends}
-use Rattle.cpp_link.specs.Making.{state_of}
-use Rattle.cpp_link.specs.Parts.{trees_in, around_of}
+use Rattle.cpp_link.proofs.Basics.{sym, ◌∙◌, arith, length, Production, is_passed_over, behind, link_close, link_close_wide, linked_wide, wide_at_end, wide_ends, state_of, trees_in, around_of}
 use Rattle.cpp_link.proofs.Finishing.{lacking_finishes, put_finishes}
 use Rattle.cpp_link.proofs.PassedOver.{passed_is, named_closes, found_same, ok_refused, alias_more}
 use Rattle.cpp_link.proofs.Rescoped.{wide_closing, wide_byte_serves}

@@ -1,9 +1,4 @@
-use Rattle.std.proofs.Common.{subst, arith}
-use Rattle.std.specs.Prelude.{slice_index}
-use Rattle.cpp_link.specs.LinkReading.{linked}
-use Rattle.cpp_link.specs.Making.{IsRare, state_of}
-use Rattle.cpp_link.specs.NodeCount.{makes_at_end}
-use Rattle.cpp_link.specs.Parts.{trees_in, value_in, packs_of, around_of}
+use Rattle.cpp_link.proofs.Basics.{subst, arith, slice_index, linked, IsRare, state_of, makes_at_end, trees_in, value_in, packs_of, around_of}
 use Rattle.cpp_link.proofs.Making.{stands_closes}
 use Rattle.cpp_link.proofs.Bytes.{byte_serves}
 use Rattle.cpp_link.proofs.Finishing.{plain_closing, lacking_finishes, put_finishes}

@@ -1,9 +1,4 @@
-use Rattle.std.proofs.Common.{sym, arith}
-use Rattle.cpp_grammar.specs.declared.production.Production.{Production}
-use Rattle.cpp_term.specs.Rescoping.{close_wide}
-use Rattle.cpp_link.specs.Closes.{ends_of}
-use Rattle.cpp_link.specs.LinkRescoping.{link_close_wide, linked_wide, wide_at_end, wide_ends}
-use Rattle.cpp_link.specs.Owed.{made_at_end}
+use Rattle.cpp_link.proofs.Basics.{sym, arith, Production, close_wide, ends_of, link_close_wide, linked_wide, wide_at_end, wide_ends, made_at_end}
 use Rattle.cpp_link.proofs.Finishing.{refused_finishes, put_finishes}
 use Rattle.cpp_link.proofs.Rescoped.{wide_closing, wide_byte_serves}
 use Rattle.cpp_link.proofs.Viewing.{kept_closed}

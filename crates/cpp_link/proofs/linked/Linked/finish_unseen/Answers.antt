@@ -1,9 +1,4 @@
-use Rattle.std.proofs.Common.{sym, ◌∙◌, arith, length}
-use Rattle.cpp_grammar.specs.declared.production.Production.{Production}
-use Rattle.cpp_term.specs.Rescoping.{is_unseen}
-use Rattle.cpp_term.specs.Unfolding.{behind}
-use Rattle.cpp_link.specs.LinkRescoping.{link_close_wide, linked_wide, wide_at_end, wide_ends}
-use Rattle.cpp_link.specs.Parts.{trees_in, around_of}
+use Rattle.cpp_link.proofs.Basics.{sym, ◌∙◌, arith, length, Production, is_unseen, behind, link_close_wide, linked_wide, wide_at_end, wide_ends, trees_in, around_of}
 use Rattle.cpp_link.proofs.Finishing.{lacking_finishes, put_finishes}
 use Rattle.cpp_link.proofs.PassedOver.{unseen_is, named_closes, alias_more}
 use Rattle.cpp_link.proofs.Rescoped.{wide_closing, wide_byte_serves}

@@ -1,14 +1,4 @@
-use Rattle.std.proofs.Common.{◌≡◌, refl, arith, ℕ, List, [], ◌∷◌, length, true, false}
-use Rattle.std.proofs.lemmas.Bool.{false≢true}
-use Rattle.cpp_grammar.specs.declared.production.Production.{Production}
-use Rattle.cpp_term.specs.Values.{Value}
-use Rattle.cpp_link.specs.LinkRescoping.{is_parameter}
-use Rattle.cpp_link.specs.NodeCount.{makes_before}
-use Rattle.cpp_link.specs.Owed.{made_before}
-use Rattle.cpp_link.specs.Stepping.{IsStepOf}
-use Rattle.cpp_link.specs.declared.part.Step.{Step}
-use Rattle.cpp_tree.specs.declared.node.Node.{Node}
-use Rattle.std.specs.Prelude.{Option, Bool}
+use Rattle.cpp_link.proofs.Basics.{◌≡◌, refl, arith, ℕ, List, [], ◌∷◌, length, true, false, false≢true, Production, Value, is_parameter, makes_before, made_before, IsStepOf, Step, Node, Option, Bool}
 use Rattle.cpp_link.proofs.linked.Linked.generic.Goals as goal
 
 made : (p : Production) (node : Node) (listed is_name is_candidate : Bool) (packs : Option ℕ) → is_parameter p ≡ true → IsStepOf p 1 (Step.Made node listed is_name is_candidate packs)

@@ -1,8 +1,4 @@
-use Rattle.std.proofs.Common.{refl, ◌∙◌}
-use Rattle.cpp_grammar.specs.Rescoping.{may_be}
-use Rattle.cpp_term.specs.Rescoping.{has_head}
-use Rattle.cpp_term.proofs.Notes.{both}
-use Rattle.cpp_link.specs.Reads.{maybe_candidate}
+use Rattle.cpp_link.proofs.Basics.{refl, ◌∙◌, may_be, has_head, both, maybe_candidate}
 use Rattle.cpp_link.proofs.linked.Linked.has_head.Goals as goal
 
 pub returns-in_default : goal.returns-in_default

@@ -1,8 +1,4 @@
-use Rattle.std.proofs.Common.{sym, ◌∙◌, ap, ◌||◌}
-use Rattle.cpp_term.specs.Scope.{is_open}
-use Rattle.cpp_term.specs.Rescoping.{is_declaring}
-use Rattle.cpp_tree.specs.Nodes.{tree_at}
-use Rattle.cpp_link.specs.Parts.{trees_in}
+use Rattle.cpp_link.proofs.Basics.{sym, ◌∙◌, ap, ◌||◌, is_open, is_declaring, tree_at, trees_in}
 use Rattle.cpp_link.proofs.Declared.{signature_declares, signature_declares_none}
 use Rattle.cpp_link.proofs.linked.Linked.has_own.Goals as goal
 

@@ -1,5 +1,4 @@
-use Rattle.std.proofs.Common.{sym, ◌∙◌, ap}
-use Rattle.cpp_term.specs.Rescoping.{head_of}
+use Rattle.cpp_link.proofs.Basics.{sym, ◌∙◌, ap, head_of}
 use Rattle.cpp_link.proofs.Awaited.{head_is}
 use Rattle.cpp_link.proofs.linked.Linked.head_at.Goals as goal
 

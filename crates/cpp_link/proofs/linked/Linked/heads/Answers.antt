@@ -1,5 +1,4 @@
-use Rattle.std.proofs.Common.{◌∙◌}
-use Rattle.cpp_link.specs.Reads.{nth_head}
+use Rattle.cpp_link.proofs.Basics.{◌∙◌, nth_head}
 use Rattle.cpp_link.proofs.Awaited.{heads_are}
 use Rattle.cpp_link.proofs.linked.Linked.heads.Goals as goal
 

@@ -1,5 +1,4 @@
-use Rattle.std.proofs.Common.{sym, ◌∙◌, ap}
-use Rattle.cpp_term.specs.Rescoping.{counted_held}
+use Rattle.cpp_link.proofs.Basics.{sym, ◌∙◌, ap, counted_held}
 use Rattle.cpp_link.proofs.Reading.{held_node_is}
 use Rattle.cpp_link.proofs.linked.Linked.held_by.Goals as goal
 

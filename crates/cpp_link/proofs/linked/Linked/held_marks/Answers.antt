@@ -1,7 +1,4 @@
-use Rattle.std.proofs.Common.{refl, sym, ◌∙◌, ap, length}
-use Rattle.cpp_references.specs.Around.{counted_of}
-use Rattle.cpp_link.specs.Parts.{trees_in, around_of}
-use Rattle.cpp_link.specs.Reads.{constructor_by}
+use Rattle.cpp_link.proofs.Basics.{refl, sym, ◌∙◌, ap, length, counted_of, trees_in, around_of, constructor_by}
 use Rattle.cpp_link.proofs.Held.{no_marks, constructor_below, marks_held, unlisted_prefix, unlisted_below, outermost_prefix, listed_prefix}
 use Rattle.cpp_link.proofs.linked.Linked.held_marks.Goals as goal
 

@@ -1,12 +1,4 @@
-use Rattle.std.proofs.Common.{sym, ◌∙◌, ap, false, ◌&&◌, Option}
-use Rattle.cpp_term.proofs.Notes.{both}
-use Rattle.cpp_term.specs.Between.{in_name, in_types}
-use Rattle.cpp_term.specs.Term.{Term}
-use Rattle.cpp_term.specs.Scope.{is_open}
-use Rattle.cpp_term.specs.Values.{Around, tree_of, outermost}
-use Rattle.cpp_grammar.specs.Values.{shown}
-use Rattle.cpp_tree.specs.Nodes.{tree_if_there}
-use Rattle.cpp_link.specs.Parts.{trees_in, around_of}
+use Rattle.cpp_link.proofs.Basics.{sym, ◌∙◌, ap, false, ◌&&◌, Option, both, in_name, in_types, Term, is_open, Around, tree_of, outermost, shown, tree_if_there, trees_in, around_of}
 use Rattle.cpp_link.proofs.PassedOver.{passed_is, name_passed, name_apart, types_passed, types_apart}
 use Rattle.cpp_link.proofs.linked.Linked.in_encoding_apart.Goals as goal
 

@@ -1,5 +1,4 @@
-use Rattle.std.proofs.Common.{sym, ◌∙◌}
-use Rattle.cpp_link.specs.Parts.{arguments_in}
+use Rattle.cpp_link.proofs.Basics.{sym, ◌∙◌, arguments_in}
 use Rattle.cpp_link.proofs.PassedOver.{literal_as_before, literal_in_constraint}
 use Rattle.cpp_link.proofs.linked.Linked.in_literal.Goals as goal
 

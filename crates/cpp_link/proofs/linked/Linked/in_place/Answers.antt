@@ -1,9 +1,5 @@
-use Rattle.std.proofs.Common.{sym, ◌∙◌, ap, refl}
-use Rattle.cpp_term.specs.Values.{part, tree_of, is_there}
+use Rattle.cpp_link.proofs.Basics.{sym, ◌∙◌, ap, refl, part, tree_of, is_there, nodes_of_outcome, name_at_end, one_if_arguments, trees_in, values_in, outcome_value}
 use Rattle.cpp_tree.specs.Nodes as nodes
-use Rattle.cpp_link.specs.Making.{nodes_of_outcome}
-use Rattle.cpp_link.specs.NodeCount.{name_at_end, one_if_arguments}
-use Rattle.cpp_link.specs.Parts.{trees_in, values_in, outcome_value}
 use Rattle.cpp_link.proofs.Places.{are_arguments, there_closes}
 use Rattle.cpp_link.proofs.linked.Linked.in_place.Goals as goal
 

@@ -1,12 +1,6 @@
-use Rattle.std.proofs.Common.{sym, ◌∙◌, ap, arith, false}
+use Rattle.cpp_link.proofs.Basics.{sym, ◌∙◌, ap, arith, false, extended, inherited, both, piece_of, nodes_of_outcome, inheriting_at_end, trees_in, value_of, prefix_of, outcome_value}
 use Rattle.cpp_term.specs.Term as term
 use Rattle.cpp_term.specs.Values as values
-use Rattle.cpp_term.specs.Between.{extended, inherited}
-use Rattle.cpp_term.proofs.Notes.{both}
-use Rattle.cpp_tree.specs.Nodes.{piece_of}
-use Rattle.cpp_link.specs.Making.{nodes_of_outcome}
-use Rattle.cpp_link.specs.NodeCount.{inheriting_at_end}
-use Rattle.cpp_link.specs.Parts.{trees_in, value_of, prefix_of, outcome_value}
 use Rattle.cpp_link.proofs.Inherited.{base_alone, one_made}
 use Rattle.cpp_link.proofs.linked.Linked.inherited.Goals as goal
 

@@ -1,6 +1,5 @@
-use Rattle.std.proofs.Common.{◌∙◌}
+use Rattle.cpp_link.proofs.Basics.{◌∙◌, both}
 use Rattle.cpp_term.specs.Term as term
-use Rattle.cpp_term.proofs.Notes.{both}
 use Rattle.cpp_tree.specs.Nodes.{tree_of}
 use Rattle.cpp_link.proofs.linked.Linked.instance.Goals as goal
 

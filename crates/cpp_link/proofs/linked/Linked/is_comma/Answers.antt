@@ -1,5 +1,4 @@
-use Rattle.std.proofs.Common.{sym, ◌∙◌, ap}
-use Rattle.cpp_term.specs.Meaning.{is_comma}
+use Rattle.cpp_link.proofs.Basics.{sym, ◌∙◌, ap, is_comma}
 use Rattle.cpp_link.proofs.Operations.{comma_is}
 use Rattle.cpp_link.proofs.linked.Linked.is_comma.Goals as goal
 

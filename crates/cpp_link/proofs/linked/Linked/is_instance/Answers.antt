@@ -1,5 +1,4 @@
-use Rattle.std.proofs.Common.{sym, ◌∙◌, ap}
-use Rattle.cpp_term.specs.Rescoping.{is_instance}
+use Rattle.cpp_link.proofs.Basics.{sym, ◌∙◌, ap, is_instance}
 use Rattle.cpp_link.proofs.Reading.{instance_is}
 use Rattle.cpp_link.proofs.linked.Linked.is_instance.Goals as goal
 

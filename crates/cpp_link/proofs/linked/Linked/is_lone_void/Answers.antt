@@ -1,8 +1,4 @@
-use Rattle.std.proofs.Common.{ap, ◌∙◌, ◌≡◌}
-use Rattle.cpp_term.specs.Meaning.{is_void, is_nil}
-use Rattle.cpp_tree.specs.Nodes.{tree_at}
-use Rattle.cpp_link.specs.Parts.{trees_in}
-use Rattle.cpp_link.specs.Reads.{void_node, nil_node}
+use Rattle.cpp_link.proofs.Basics.{ap, ◌∙◌, ◌≡◌, is_void, is_nil, tree_at, trees_in, void_node, nil_node}
 use Rattle.cpp_link.proofs.Reading.{void_is, nil_is}
 use Rattle.cpp_link.proofs.linked.Linked.is_lone_void.Goals as goal
 

@@ -1,5 +1,4 @@
-use Rattle.std.proofs.Common.{sym, ◌∙◌, ap}
-use Rattle.cpp_term.specs.Scope.{is_structor}
+use Rattle.cpp_link.proofs.Basics.{sym, ◌∙◌, ap, is_structor}
 use Rattle.cpp_link.proofs.Reading.{structor_is}
 use Rattle.cpp_link.proofs.linked.Linked.is_structor.Goals as goal
 

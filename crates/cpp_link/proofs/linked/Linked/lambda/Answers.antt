@@ -1,8 +1,4 @@
-use Rattle.std.proofs.Common.{sym, ◌∙◌, ap, arith}
-use Rattle.cpp_grammar.specs.Values.{local_number}
-use Rattle.cpp_link.specs.LinkReading.{in_64_bits}
-use Rattle.cpp_link.specs.NodeCount.{lambda_at_end}
-use Rattle.cpp_link.specs.Parts.{trees_in, value_of}
+use Rattle.cpp_link.proofs.Basics.{sym, ◌∙◌, ap, arith, local_number, in_64_bits, lambda_at_end, trees_in, value_of}
 use Rattle.cpp_link.proofs.Declared.{declaring_means, declaring_makes, undeclared_means, undeclared_makes}
 use Rattle.cpp_link.proofs.linked.Linked.lambda.Goals as goal
 

@@ -1,8 +1,4 @@
-use Rattle.std.proofs.Common.{refl, sym, ◌∙◌, ap}
-use Rattle.cpp_term.specs.Rescoping.{with_holder}
-use Rattle.cpp_term.specs.Values.{tree_of}
-use Rattle.cpp_link.specs.LinkRescoping.{with_mark}
-use Rattle.cpp_link.specs.Parts.{trees_in, values_in, around_of}
+use Rattle.cpp_link.proofs.Basics.{refl, sym, ◌∙◌, ap, with_holder, tree_of, with_mark, trees_in, values_in, around_of}
 use Rattle.cpp_link.proofs.Held.{no_marks}
 use Rattle.cpp_link.proofs.Rescoped.{unmarked}
 use Rattle.cpp_link.proofs.linked.Linked.marked.Goals as goal

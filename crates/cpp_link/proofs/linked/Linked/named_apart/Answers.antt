@@ -1,8 +1,4 @@
-use Rattle.std.proofs.Common.{sym, ◌∙◌, ap, subst, ◌<◌, length}
-use Rattle.std.specs.Prelude.{IfSome}
-use Rattle.cpp_grammar.specs.Rescoping.{is_by_some}
-use Rattle.cpp_references.proofs.Numbering.{candidate_there}
-use Rattle.cpp_link.specs.declared.counting.Lists.{Lists}
+use Rattle.cpp_link.proofs.Basics.{sym, ◌∙◌, ap, subst, ◌<◌, length, IfSome, is_by_some, candidate_there, Lists}
 use Rattle.cpp_link.specs.Counting.{lists_of}
 use Rattle.cpp_link.proofs.Named.{named_one, named_none, named_by_one}
 use Rattle.cpp_link.proofs.linked.Linked.named_apart.Goals as goal

@@ -1,11 +1,4 @@
-use Rattle.std.proofs.Common.{◌≡◌, sym, ◌∙◌, ap, subst, ℕ, ◌≤◌, ◌^◌}
-use Rattle.std.specs.Prelude.{slice_get, MatchOption}
-use Rattle.sym_core.specs.Value.{counted_value}
-use Rattle.sym_core.specs.declared.NumberKind.TheVariants.{Seq36}
-use Rattle.cpp_grammar.specs.Rescoping.{is_by_all}
-use Rattle.cpp_term.specs.Rescoping.{named_by_both}
-use Rattle.cpp_tree.specs.Nodes.{bytes_at}
-use Rattle.cpp_link.specs.Parts.{trees_in, candidates_of}
+use Rattle.cpp_link.proofs.Basics.{◌≡◌, sym, ◌∙◌, ap, subst, ℕ, ◌≤◌, ◌^◌, slice_get, MatchOption, counted_value, Seq36, is_by_all, named_by_both, bytes_at, trees_in, candidates_of}
 use Rattle.cpp_link.proofs.Named.{both_first, both_one, both_two, both_nowhere, IsBoth}
 use Rattle.cpp_link.proofs.linked.Linked.named_by_both.Goals as goal
 

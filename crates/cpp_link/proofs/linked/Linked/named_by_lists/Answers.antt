@@ -1,9 +1,4 @@
-use Rattle.std.proofs.Common.{◌≡◌, sym, ◌∙◌, ap, subst, ℕ, ◌≤◌, ◌^◌}
-use Rattle.std.specs.Prelude.{slice_get, MatchOption}
-use Rattle.sym_core.specs.Value.{counted_value}
-use Rattle.sym_core.specs.declared.NumberKind.TheVariants.{Seq36}
-use Rattle.cpp_grammar.specs.Rescoping.{is_by_all}
-use Rattle.cpp_tree.specs.Nodes.{bytes_at}
+use Rattle.cpp_link.proofs.Basics.{◌≡◌, sym, ◌∙◌, ap, subst, ℕ, ◌≤◌, ◌^◌, slice_get, MatchOption, counted_value, Seq36, is_by_all, bytes_at}
 use Rattle.cpp_link.proofs.Named.{named_first, named_nowhere}
 use Rattle.cpp_link.proofs.linked.Linked.named_by_lists.Goals as goal
 

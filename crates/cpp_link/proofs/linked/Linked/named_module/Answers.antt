@@ -1,10 +1,4 @@
-use Rattle.std.proofs.Common.{◌∙◌, ap}
-use Rattle.sym_core.specs.Value.{counted_value}
-use Rattle.sym_core.specs.declared.NumberKind.TheVariants.{Seq36}
-use Rattle.cpp_tree.specs.Nodes.{bytes_at}
-use Rattle.cpp_link.specs.Parts.{trees_in}
-use Rattle.cpp_term.specs.Rescoping.{module_of}
-use Rattle.cpp_link.specs.Reads.{maybe_candidate}
+use Rattle.cpp_link.proofs.Basics.{◌∙◌, ap, counted_value, Seq36, bytes_at, trees_in, module_of, maybe_candidate}
 use Rattle.cpp_link.proofs.Modules.{module_is, module_there, no_module, nothing_named}
 use Rattle.cpp_link.proofs.linked.Linked.named_module.Goals as goal
 

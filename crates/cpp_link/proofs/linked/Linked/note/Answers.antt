@@ -1,5 +1,4 @@
-use Rattle.cpp_references.specs.Around.{counted_of}
-use Rattle.cpp_link.specs.Making.{state_of}
+use Rattle.cpp_link.proofs.Basics.{counted_of, state_of}
 use Rattle.cpp_link.proofs.linked.Linked.note.Goals as goal
 
 pub returns-clause-is : goal.returns-clause-is

@@ -1,8 +1,5 @@
-use Rattle.std.proofs.Common.{refl, sym, ◌∙◌, ap, subst, length}
-use Rattle.cpp_term.specs.Meaning.{operation_or_address}
+use Rattle.cpp_link.proofs.Basics.{refl, sym, ◌∙◌, ap, subst, length, operation_or_address, reargued, trees_in, tree_of_node}
 use Rattle.cpp_tree.specs.Nodes.{tree_at, tree_of, tree_if_there, IsBelow}
-use Rattle.cpp_term.specs.Reargued.{reargued}
-use Rattle.cpp_link.specs.Parts.{trees_in, tree_of_node}
 use Rattle.cpp_link.proofs.Operations.{address_is, no_address}
 use Rattle.cpp_link.proofs.linked.Linked.operation.Goals as goal
 

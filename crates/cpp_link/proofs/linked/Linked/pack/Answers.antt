@@ -1,9 +1,5 @@
-use Rattle.std.proofs.Common.{refl, sym, ap, arith}
+use Rattle.cpp_link.proofs.Basics.{refl, sym, ap, arith, pack_makes, made_before, goes_on, behind_first, named_if, appended_if, trees_in}
 use Rattle.cpp_tree.specs.Nodes as nodes
-use Rattle.cpp_link.specs.Closes.{pack_makes}
-use Rattle.cpp_link.specs.Owed.{made_before}
-use Rattle.cpp_link.specs.Reads.{goes_on, behind_first, named_if, appended_if}
-use Rattle.cpp_link.specs.Parts.{trees_in}
 use Rattle.cpp_link.proofs.NodeCount.{pack_made}
 use Rattle.cpp_link.proofs.Stepping.{pack_there}
 use Rattle.cpp_link.proofs.linked.Linked.pack.Goals as goal

@@ -1,16 +1,5 @@
-use Rattle.std.proofs.Common.{◌∙◌, sym, ap, ℕ, [], ◌∷◌, Ok, true}
-use Rattle.sym_core.specs.Value.{counted_value}
-use Rattle.sym_core.specs.declared.NumberKind.TheVariants.{Decimal}
-use Rattle.sym_link.specs.Reading.{◌>>=◌}
-use Rattle.cpp_term.specs.Term.{Term, parameter}
+use Rattle.cpp_link.proofs.Basics.{◌∙◌, sym, ap, ℕ, [], ◌∷◌, Ok, true, counted_value, Decimal, ◌>>=◌, Term, parameter, Around, State, appended, argument_at, after, listed_so_far, parameter_so_far, bytes_at, trees_in, tree_of_node, around_of, parameter_read, goes_on, behind_first, named_if, appended_if, fails_is}
 use Rattle.cpp_term.specs.Values as values
-use Rattle.cpp_term.specs.Values.{Around, State}
-use Rattle.cpp_term.specs.References.{appended}
-use Rattle.cpp_term.specs.Between.{argument_at, after, listed_so_far, parameter_so_far}
-use Rattle.cpp_tree.specs.Nodes.{bytes_at}
-use Rattle.cpp_link.specs.Parts.{trees_in, tree_of_node, around_of}
-use Rattle.cpp_link.specs.Reads.{parameter_read, goes_on, behind_first, named_if, appended_if}
-use Rattle.cpp_references.proofs.Named.{fails_is}
 use Rattle.cpp_link.proofs.linked.Linked.parameter.Goals as goal
 
 pub returns-in-Ok-clause-is : goal.returns-in-Ok-clause-is

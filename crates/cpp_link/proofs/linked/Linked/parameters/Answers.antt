@@ -1,8 +1,4 @@
-use Rattle.std.proofs.Common.{sym, ◌∙◌, ap, true, false}
-use Rattle.cpp_term.specs.Term.{nil}
-use Rattle.cpp_tree.specs.Nodes.{tree_at}
-use Rattle.cpp_link.specs.Parts.{trees_in}
-use Rattle.cpp_link.specs.Reads.{parameters_by}
+use Rattle.cpp_link.proofs.Basics.{sym, ◌∙◌, ap, true, false, nil, tree_at, trees_in, parameters_by}
 use Rattle.cpp_link.proofs.linked.Linked.parameters.Goals as goal
 
 pub returns-in_default-clause-is : goal.returns-in_default-clause-is

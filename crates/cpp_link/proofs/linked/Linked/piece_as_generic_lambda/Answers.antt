@@ -1,9 +1,5 @@
-use Rattle.std.proofs.Common.{◌≡◌, sym, ◌∙◌, ap}
-use Rattle.cpp_term.specs.Term.{lambda}
+use Rattle.cpp_link.proofs.Basics.{◌≡◌, sym, ◌∙◌, ap, lambda, as_generic_lambda, tree_at, piece_of, trees_in}
 use Rattle.cpp_term.specs.Values as values
-use Rattle.cpp_term.specs.Rescoping.{as_generic_lambda}
-use Rattle.cpp_tree.specs.Nodes.{tree_at, piece_of}
-use Rattle.cpp_link.specs.Parts.{trees_in}
 use Rattle.cpp_link.proofs.Rescoped.{own_lambda, plain_lambda, no_own}
 use Rattle.cpp_link.proofs.linked.Linked.piece_as_generic_lambda.Goals as goal
 

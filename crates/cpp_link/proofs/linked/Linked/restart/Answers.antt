@@ -1,7 +1,5 @@
-use Rattle.std.proofs.Common.{refl, sym, ap, subst, length}
-use Rattle.cpp_term.specs.Unfolding.{first_state}
+use Rattle.cpp_link.proofs.Basics.{refl, sym, ap, subst, length, first_state, trees_in, candidates_of, AreNodesThere}
 use Rattle.cpp_link.specs.Counting.{lists_of, expected_of}
-use Rattle.cpp_link.specs.Parts.{trees_in, candidates_of, AreNodesThere}
 use Rattle.cpp_link.proofs.linked.Linked.restart.Goals as goal
 
 pub returns-clause-holds : goal.returns-clause-holds

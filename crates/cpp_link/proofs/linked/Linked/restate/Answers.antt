@@ -1,13 +1,6 @@
-use Rattle.std.proofs.Common.{sym, ◌∙◌, ap, subst, length, true, Ok, rules}
-use Rattle.sym_link.specs.Unfold.{found}
-use Rattle.cpp_term.specs.Values.{State, Around, tree}
-use Rattle.cpp_term.specs.Rescoping.{restated}
+use Rattle.cpp_link.proofs.Basics.{sym, ◌∙◌, ap, subst, length, true, Ok, rules, found, State, Around, tree, restated, state_of, trees_in, value_of, around_of, AreCandidatesThere, candidates_more, fails_is}
 use Rattle.cpp_tree.specs.Nodes.{tree_at, tree_of}
 use Rattle.cpp_references.specs.References.{argument_read}
-use Rattle.cpp_link.specs.Making.{state_of}
-use Rattle.cpp_link.specs.Parts.{trees_in, value_of, around_of, AreCandidatesThere}
-use Rattle.cpp_link.specs.Staying.{candidates_more}
-use Rattle.cpp_references.proofs.Named.{fails_is}
 use Rattle.cpp_link.proofs.Rescoped.{kept_state}
 use Rattle.cpp_link.proofs.linked.Linked.restate.Goals as goal
 

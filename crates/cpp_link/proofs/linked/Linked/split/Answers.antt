@@ -1,8 +1,4 @@
-use Rattle.std.proofs.Common.{sym, ◌∙◌, ap, subst, length}
-use Rattle.std.specs.Prelude.{IfSome}
-use Rattle.cpp_tree.specs.Nodes.{tree_at}
-use Rattle.cpp_link.specs.Parts.{trees_in}
-use Rattle.cpp_link.specs.Reads.{split_of, parameters_by, encoding_by, IsSplitThere}
+use Rattle.cpp_link.proofs.Basics.{sym, ◌∙◌, ap, subst, length, IfSome, tree_at, trees_in, split_of, parameters_by, encoding_by, IsSplitThere}
 use Rattle.cpp_link.proofs.Reading.{parameters_are, encoding_is, split_there}
 use Rattle.cpp_link.proofs.linked.Linked.split.Goals as goal
 

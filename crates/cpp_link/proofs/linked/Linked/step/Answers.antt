@@ -1,19 +1,5 @@
-use Rattle.std.proofs.Common.{◌≡◌, sym, ◌∙◌, ap, subst, arith, ℕ, ◌<◌, List, [], ◌∷◌, length, get_or}
-use Rattle.std.specs.Prelude.{IfOk, IfErr}
-use Rattle.sym_core.specs.declared.refusal.Refusal.{Refusal}
-use Rattle.sym_link.specs.Driving.{Fails}
-use Rattle.cpp_grammar.specs.declared.production.Production.{Production}
+use Rattle.cpp_link.proofs.Basics.{◌≡◌, sym, ◌∙◌, ap, subst, arith, ℕ, ◌<◌, List, [], ◌∷◌, length, get_or, IfOk, IfErr, Refusal, Fails, Production, Value, part, between, Linked, Surroundings, Step, trees_in, value_in, values_in, around_of, goes_on, Part, makes_before, IsStepOf, nodes_of_step}
 use Rattle.cpp_term.specs.Values as values
-use Rattle.cpp_term.specs.Values.{Value, part}
-use Rattle.cpp_term.specs.Between.{between}
-use Rattle.cpp_link.specs.declared.linked.Linked.{Linked}
-use Rattle.cpp_references.specs.declared.around.Surroundings.{Surroundings}
-use Rattle.cpp_link.specs.declared.part.Step.{Step}
-use Rattle.cpp_link.specs.Parts.{trees_in, value_in, values_in, around_of}
-use Rattle.cpp_link.specs.Reads.{goes_on}
-use Rattle.cpp_link.specs.declared.part.Part.{Part}
-use Rattle.cpp_link.specs.NodeCount.{makes_before}
-use Rattle.cpp_link.specs.Stepping.{IsStepOf, nodes_of_step}
 use Rattle.cpp_link.proofs.Stepping.{none_made}
 use Rattle.cpp_link.proofs.Places.{values_length, none_are, one_is, two_are, three_are, later_are, empty_length, many_more}
 use Rattle.cpp_link.proofs.linked.Linked.step.Goals as goal

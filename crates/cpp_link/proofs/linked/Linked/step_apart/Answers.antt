@@ -1,17 +1,4 @@
-use Rattle.std.proofs.Common.{◌≡◌, sym, ◌∙◌, ap, subst, arith, ℕ, Bool, [], ◌∷◌, length, Some, None, Err}
-use Rattle.std.specs.Prelude.{MatchOption}
-use Rattle.sym_core.specs.Value.{counted_value}
-use Rattle.sym_core.specs.declared.NumberKind.TheVariants.{Decimal, Seq36}
-use Rattle.sym_core.specs.declared.refusal.Refusal.TheVariants.{BadReference}
-use Rattle.cpp_term.specs.Between.{Continuation}
-use Rattle.cpp_term.specs.Rescoping.{is_instance, module_named, between_wide}
-use Rattle.cpp_term.specs.Values.{Value}
-use Rattle.cpp_tree.specs.Nodes.{bytes_at, tree_at}
-use Rattle.cpp_tree.specs.declared.node.Node.{Node}
-use Rattle.cpp_link.specs.LinkRescoping.{generic_read}
-use Rattle.cpp_link.specs.Parts.{trees_in, values_in, is_lambda, around_of}
-use Rattle.cpp_link.specs.Reads.{goes_on}
-use Rattle.cpp_link.specs.Stepping.{IsStepOf}
+use Rattle.cpp_link.proofs.Basics.{◌≡◌, sym, ◌∙◌, ap, subst, arith, ℕ, Bool, [], ◌∷◌, length, Some, None, Err, MatchOption, counted_value, Decimal, Seq36, BadReference, Continuation, is_instance, module_named, between_wide, Value, bytes_at, tree_at, Node, generic_read, trees_in, values_in, is_lambda, around_of, goes_on, IsStepOf}
 use Rattle.cpp_link.proofs.Held.{held_second, base_first, declared_first, held_read, held_refused, base_read, declared_read, held_makes, base_makes, declared_makes, held_step}
 use Rattle.cpp_link.proofs.Modules.{module_second, module_read, module_refused, module_makes}
 use Rattle.cpp_link.proofs.PassedOver.{constraint_first, literal_second, encoding_early, constraint_read, literal_read, encoding_read, constraint_makes, literal_makes, encoding_makes}

@@ -1,11 +1,4 @@
-use Rattle.std.proofs.Common.{◌≡◌, sym, ◌∙◌, ap, subst, [], ◌∷◌, get_or}
-use Rattle.std.specs.Prelude.{IfOk}
-use Rattle.cpp_grammar.specs.declared.production.Production.{Production}
-use Rattle.cpp_term.specs.Between.{between}
-use Rattle.cpp_link.specs.Parts.{value_in}
-use Rattle.cpp_link.specs.Owed.{made_before}
-use Rattle.cpp_link.specs.NodeCount.{makes_before}
-use Rattle.cpp_link.specs.Stepping.{IsStepOf, nodes_of_step}
+use Rattle.cpp_link.proofs.Basics.{◌≡◌, sym, ◌∙◌, ap, subst, [], ◌∷◌, get_or, IfOk, Production, between, value_in, made_before, makes_before, IsStepOf, nodes_of_step}
 use Rattle.cpp_link.proofs.Stepping.{first_steps}
 use Rattle.cpp_link.proofs.linked.Linked.step_behind_first.Goals as goal
 

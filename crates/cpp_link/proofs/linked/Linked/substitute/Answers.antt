@@ -1,14 +1,4 @@
-use Rattle.std.proofs.Common.{sym, ◌∙◌, ap, subst, ◌-◌, length}
-use Rattle.std.specs.Prelude.{slice_get}
-use Rattle.std.proofs.lemmas.Result.{err_from_is_err_and}
-use Rattle.sym_core.specs.Value.{counted_value}
-use Rattle.sym_core.specs.declared.NumberKind.TheVariants.{Seq36}
-use Rattle.cpp_term.specs.References.{substituted}
-use Rattle.cpp_tree.specs.Nodes.{bytes_at}
-use Rattle.cpp_link.specs.Making.{state_of}
-use Rattle.cpp_link.specs.Parts.{trees_in, around_of, candidates_of, value_of, AreNodesThere}
-use Rattle.cpp_link.specs.Reads.{node_read}
-use Rattle.cpp_references.proofs.Named.{fails_is}
+use Rattle.cpp_link.proofs.Basics.{sym, ◌∙◌, ap, subst, ◌-◌, length, slice_get, err_from_is_err_and, counted_value, Seq36, substituted, bytes_at, state_of, trees_in, around_of, candidates_of, value_of, AreNodesThere, node_read, fails_is}
 use Rattle.cpp_link.proofs.linked.Linked.substitute.Goals as goal
 
 pub substitution-requires-clause-there : goal.substitution-requires-clause-there

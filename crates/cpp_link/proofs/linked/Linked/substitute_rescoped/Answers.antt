@@ -1,20 +1,5 @@
-use Rattle.std.proofs.Common.{◌≡◌, sym, ◌∙◌, ap, subst, arith, rules, ℕ, ◌-◌, Ok}
-use Rattle.std.specs.Prelude.{IfOk, IfErr}
-use Rattle.sym_core.specs.Value.{counted_value}
-use Rattle.sym_core.specs.declared.NumberKind.TheVariants.{Seq36}
-use Rattle.sym_link.specs.Driving.{Fails}
-use Rattle.sym_link.specs.Unfold.{found}
-use Rattle.cpp_term.specs.Values.{Around}
-use Rattle.cpp_term.specs.Rescoping.{numbered}
-use Rattle.cpp_term.proofs.Notes.{both}
-use Rattle.cpp_tree.specs.Nodes.{bytes_at}
-use Rattle.cpp_link.specs.declared.linked.Linked.{Linked}
+use Rattle.cpp_link.proofs.Basics.{◌≡◌, sym, ◌∙◌, ap, subst, arith, rules, ℕ, ◌-◌, Ok, IfOk, IfErr, counted_value, Seq36, Fails, found, Around, numbered, both, bytes_at, Linked, state_of, MakesPart, trees_in, value_in, value_of, values_in, around_of, candidate_of, maybe_candidate, node_read, fails_is}
 use Rattle.cpp_link.specs.LinkRescoping.{number_in, named_after, substituted_nodes}
-use Rattle.cpp_link.specs.Making.{state_of}
-use Rattle.cpp_link.specs.Progress.{MakesPart}
-use Rattle.cpp_link.specs.Parts.{trees_in, value_in, value_of, values_in, around_of, candidate_of}
-use Rattle.cpp_link.specs.Reads.{maybe_candidate, node_read}
-use Rattle.cpp_references.proofs.Named.{fails_is}
 use Rattle.cpp_link.proofs.Outcome.{named_by_some, named_by_none, made_relisted, named_foreign, named_here, foreign_nodes, no_nodes}
 use Rattle.cpp_link.proofs.linked.Linked.substitute_rescoped.Goals as goal
 

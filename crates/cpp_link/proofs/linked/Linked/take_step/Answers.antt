@@ -1,9 +1,4 @@
-use Rattle.std.proofs.Common.{refl, subst, ap, arith, length, drop}
-use Rattle.std.proofs.lemmas.Result.{err_from_is_err_and}
-use Rattle.cpp_link.specs.Parts.{IsStepThere}
-use Rattle.cpp_link.specs.declared.part.Step.{Step}
-use Rattle.cpp_link.specs.declared.part.Part.{Part}
-use Rattle.cpp_link.specs.Stepping.{IsStepOf, nodes_of_step}
+use Rattle.cpp_link.proofs.Basics.{refl, subst, ap, arith, length, drop, err_from_is_err_and, IsStepThere, Step, Part, IsStepOf, nodes_of_step}
 use Rattle.cpp_link.proofs.Stepping.{takes_go, takes_named, takes_made, taken_as, go_counts, named_counts, made_counts, made_refused}
 use Rattle.cpp_link.proofs.linked.Linked.take_step.Goals as goal
 

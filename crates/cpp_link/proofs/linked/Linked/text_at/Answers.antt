@@ -1,7 +1,5 @@
-use Rattle.std.proofs.Common.{refl, ap}
+use Rattle.cpp_link.proofs.Basics.{refl, ap, cpp, value_of}
 use Rattle.cpp_term.specs.Values as values
-use Rattle.cpp_term.specs.Unfolding.{cpp}
-use Rattle.cpp_link.specs.Parts.{value_of}
 use Rattle.cpp_link.proofs.linked.Linked.text_at.Goals as goal
 
 pub returns : goal.returns

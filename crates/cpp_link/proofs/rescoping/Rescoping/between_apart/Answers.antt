@@ -1,8 +1,4 @@
-use Rattle.std.proofs.Common.{sym, ◌∙◌, ◌≡◌, ◌-◌, false, length, Ok, Err}
-use Rattle.cpp_grammar.specs.Unfolding.{production_at}
-use Rattle.cpp_link.specs.LinkRescoping.{steps_apart}
-use Rattle.cpp_link.specs.Parts.{is_lambda}
-use Rattle.cpp_term.proofs.Notes.{both}
+use Rattle.cpp_link.proofs.Basics.{sym, ◌∙◌, ◌≡◌, ◌-◌, false, length, Ok, Err, production_at, steps_apart, is_lambda, both}
 use Rattle.cpp_link.proofs.Rescoped.{goes_counted, plain_goes}
 use Rattle.cpp_link.proofs.rescoping.Rescoping.between_apart.Goals as goal
 

@@ -1,8 +1,4 @@
-use Rattle.std.proofs.Common.{sym, ◌∙◌, ◌≡◌, ap, ℕ, ◌-◌, false, length}
-use Rattle.cpp_grammar.specs.declared.production.Production.{Production}
-use Rattle.cpp_grammar.specs.Unfolding.{production_at}
-use Rattle.cpp_link.specs.LinkRescoping.{steps_apart}
-use Rattle.cpp_link.specs.Parts.{is_lambda}
+use Rattle.cpp_link.proofs.Basics.{sym, ◌∙◌, ◌≡◌, ap, ℕ, ◌-◌, false, length, Production, production_at, steps_apart, is_lambda}
 use Rattle.cpp_link.proofs.Rescoped.{plain_goes}
 use Rattle.cpp_link.proofs.rescoping.Rescoping.between_by_step.Goals as goal
 

@@ -1,17 +1,4 @@
-use Rattle.std.proofs.Common.{refl, ap, [], Ok}
-use Rattle.sym_link.proofs.Room.{room_same}
-use Rattle.sym_link.specs.Reading.{◌>>=◌}
-use Rattle.sym_link.specs.Unfold.{standing}
-use Rattle.cpp_grammar.specs.Rescoping.{is_by_all}
-use Rattle.cpp_term.specs.Rescoping.{counted_so_far}
-use Rattle.cpp_term.specs.Unfolding.{first_around, first_state}
-use Rattle.cpp_tree.specs.Nodes.{tree_if_there}
-use Rattle.cpp_link.specs.Parts.{arguments_in, is_lambda, showing_in, prefix_in, packs_in, around_of, prefix_of}
-use Rattle.cpp_link.specs.Room.{lists_of}
-use Rattle.cpp_link.specs.LinkRescoping.{wide_view, wide_makes}
-use Rattle.cpp_link.specs.declared.language.TheConstants.{OUTSIDE}
-use Rattle.sym_link.proofs.Tally.{root_tallied}
-use Rattle.cpp_grammar.specs.Unfolding.{production_at}
+use Rattle.cpp_link.proofs.Basics.{refl, ap, [], Ok, room_same, ◌>>=◌, standing, is_by_all, counted_so_far, first_around, first_state, tree_if_there, arguments_in, is_lambda, showing_in, prefix_in, packs_in, around_of, prefix_of, lists_of, wide_view, wide_makes, OUTSIDE, root_tallied, production_at}
 use Rattle.cpp_link.proofs.Beginning.{first_opens}
 use Rattle.cpp_link.proofs.wide_language.RescopingLinking.root.Goals as goal
 

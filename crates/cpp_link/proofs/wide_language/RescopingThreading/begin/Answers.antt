@@ -1,6 +1,4 @@
-use Rattle.sym_link.proofs.Tally.{begin_tallied}
-use Rattle.cpp_link.specs.View.{Surrounds}
-use Rattle.cpp_link.specs.LinkRescoping.{wide_view, wide_makes}
+use Rattle.cpp_link.proofs.Basics.{begin_tallied, Surrounds, wide_view, wide_makes}
 use Rattle.cpp_link.proofs.Beginning.{none_more, begun_adds, begun_few, begun_pays, begun_keeps}
 use Rattle.cpp_link.proofs.wide_language.RescopingThreading.begin.Goals as goal
 

@@ -1,7 +1,4 @@
-use Rattle.std.proofs.Common.{◌∙◌, ap, subst, ℕ, ◌≡◌, ◌-◌, ◌<◌, length, Ok}
-use Rattle.cpp_link.specs.Tables.{quiet_parts}
-use Rattle.cpp_link.specs.Parts.{is_lambda}
-use Rattle.cpp_grammar.specs.Unfolding.{production_at}
+use Rattle.cpp_link.proofs.Basics.{◌∙◌, ap, subst, ℕ, ◌≡◌, ◌-◌, ◌<◌, length, Ok, quiet_parts, is_lambda, production_at}
 use Rattle.cpp_link.proofs.GoingOn.{quiet_right, quiet_adds, quiet_few}
 use Rattle.cpp_link.proofs.NodeCount.{quiet_made}
 use Rattle.cpp_link.proofs.Quiet.{quiet_apart}

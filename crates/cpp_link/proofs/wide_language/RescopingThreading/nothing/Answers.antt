@@ -1,6 +1,4 @@
-use Rattle.std.proofs.Common.{refl}
-use Rattle.cpp_term.specs.Rescoping.{cpp_wide}
-use Rattle.cpp_link.specs.Parts.{value_of}
+use Rattle.cpp_link.proofs.Basics.{refl, cpp_wide, value_of}
 use Rattle.cpp_link.proofs.wide_language.RescopingThreading.nothing.Goals as goal
 
 pub returns-clause-stands : goal.returns-clause-stands

@@ -1,10 +1,4 @@
-use Rattle.std.proofs.Common.{refl, Ok}
-use Rattle.cpp_term.specs.Rescoping.{cpp_wide}
-use Rattle.cpp_term.specs.Unfolding.{cpp}
-use Rattle.cpp_link.specs.Room.{lists_of}
-use Rattle.cpp_link.specs.LinkRescoping.{wide_view, wide_makes}
-use Rattle.sym_link.proofs.Room.{room_same}
-use Rattle.sym_link.proofs.Tally.{text_tallied}
+use Rattle.cpp_link.proofs.Basics.{refl, Ok, cpp_wide, cpp, lists_of, wide_view, wide_makes, room_same, text_tallied}
 use Rattle.cpp_link.proofs.wide_language.RescopingThreading.text.Goals as goal
 
 pub returns-clause-taken : goal.returns-clause-taken

@@ -1,6 +1,4 @@
-use Rattle.std.proofs.Common.{ap, sym, ◌∙◌}
-use Rattle.std.specs.Prelude.{not}
-use Rattle.cpp_press.specs.Places.{known_in}
+use Rattle.cpp_press.proofs.Basics.{ap, sym, ◌∙◌, not, known_in}
 use Rattle.cpp_press.proofs.Placing.{noted-fresh, noted-known}
 use Rattle.cpp_press.proofs.components.Components.push.Goals.{then-is_none+in_ok-note, else-is_none}
 use Rattle.cpp_press.proofs.components.Components.push.Goals as goal

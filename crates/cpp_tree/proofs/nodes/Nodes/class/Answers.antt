@@ -1,9 +1,5 @@
-use Rattle.std.proofs.Common.{◌≡◌, sym, ap, ◌∙◌, length}
+use Rattle.cpp_tree.proofs.Basics.{◌≡◌, sym, ap, ◌∙◌, length, given_alone, free_in, over, trees, tree_at, class_is, entry_at, free_is, argument_class}
 use Rattle.cpp_term.specs.Items as items
-use Rattle.cpp_term.specs.Reargued.{given_alone}
-use Rattle.cpp_term.specs.Scope.{free_in}
-use Rattle.cpp_tree.specs.Nodes.{over, trees, tree_at, class_is, entry_at, free_is}
-use Rattle.cpp_tree.specs.Notes.{argument_class}
 use Rattle.cpp_tree.proofs.Noting.{class-by-given, class-later, argument-below, chosen-below}
 use Rattle.cpp_tree.proofs.Trees.{class_at, placed-none, placed-some, same-class, same-below}
 use Rattle.cpp_tree.proofs.nodes.Nodes.class.Goals as goal

@@ -1,6 +1,4 @@
-use Rattle.std.proofs.Common.{sym, ◌∙◌}
-use Rattle.cpp_term.proofs.Reargued.{reargued_closed, open_reargued}
-use Rattle.cpp_tree.specs.Nodes.{over, trees, tree_at, tree_if_there, tree_under}
+use Rattle.cpp_tree.proofs.Basics.{sym, ◌∙◌, reargued_closed, open_reargued, over, trees, tree_at, tree_if_there, tree_under}
 use Rattle.cpp_tree.proofs.nodes.Nodes.closed_node.Goals as goal
 
 pub returns-clause-tree : goal.returns-clause-tree

@@ -1,5 +1,4 @@
-use Rattle.std.proofs.Common.{arith, sym, ◌∙◌, ap}
-use Rattle.cpp_tree.specs.Nodes.{over, trees}
+use Rattle.cpp_tree.proofs.Basics.{arith, sym, ◌∙◌, ap, over, trees}
 use Rattle.cpp_tree.proofs.Trees.{cell_is, placed_run, run_next, run_ends, placed-alone}
 use Rattle.cpp_tree.proofs.nodes.Nodes.element.Goals as goal
 

@@ -1,7 +1,5 @@
 -- The requested element is the one at the remaining place of the remaining list.
-use Rattle.std.proofs.Common.{◌≡◌, ◌<◌, length}
-use Rattle.cpp_term.specs.Scope.{element}
-use Rattle.cpp_tree.specs.Nodes.{over, trees, tree_under, IsAliasBelow}
+use Rattle.cpp_tree.proofs.Basics.{◌≡◌, ◌<◌, length, element, over, trees, tree_under, IsAliasBelow}
 use Rattle.cpp_tree.proofs.nodes.Nodes.element.Given as goal
 
 abbrev pub invariant-runs : goal.invariant-runs

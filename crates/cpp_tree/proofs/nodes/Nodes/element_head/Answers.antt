@@ -1,6 +1,4 @@
-use Rattle.std.proofs.Common.{sym, ◌∙◌, ap}
-use Rattle.cpp_tree.specs.Nodes.{over, tree_under, trees}
-use Rattle.cpp_term.specs.Items.{element_head}
+use Rattle.cpp_tree.proofs.Basics.{sym, ◌∙◌, ap, over, tree_under, trees, element_head}
 use Rattle.cpp_tree.proofs.Trees.{some_element, none_element}
 use Rattle.cpp_tree.proofs.nodes.Nodes.element_head.Goals as goal
 

@@ -1,6 +1,4 @@
-use Rattle.std.proofs.Common.{arith, sym, ap, ◌∙◌}
-use Rattle.cpp_term.specs.Scope.{element}
-use Rattle.cpp_tree.specs.Nodes.{over, trees}
+use Rattle.cpp_tree.proofs.Basics.{arith, sym, ap, ◌∙◌, element, over, trees}
 use Rattle.cpp_tree.proofs.Trees.{cell_is, cell_first, cell_none, placed-alone}
 use Rattle.cpp_tree.proofs.nodes.Nodes.first.Goals as goal
 

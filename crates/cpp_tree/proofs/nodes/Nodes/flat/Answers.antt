@@ -1,5 +1,4 @@
-use Rattle.std.proofs.Common.{refl, length, ◌∙◌}
-use Rattle.cpp_tree.specs.Nodes.{over, trees, tree_of}
+use Rattle.cpp_tree.proofs.Basics.{refl, length, ◌∙◌, over, trees, tree_of}
 use Rattle.cpp_tree.proofs.Trees.{flat-tree, flat-other, settled-other, again-below}
 use Rattle.cpp_tree.proofs.nodes.Nodes.flat.Goals as goal
 

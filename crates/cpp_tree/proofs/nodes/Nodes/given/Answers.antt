@@ -1,6 +1,4 @@
-use Rattle.std.proofs.Common.{ap, sym, ◌∙◌}
-use Rattle.cpp_tree.specs.Nodes.{entry_at}
-use Rattle.cpp_tree.specs.Notes.{resolved_at, shape_at}
+use Rattle.cpp_tree.proofs.Basics.{ap, sym, ◌∙◌, entry_at, resolved_at, shape_at}
 use Rattle.cpp_tree.proofs.Compacting.{pack-packs, pack-head, other-packs-none, other-head}
 use Rattle.cpp_tree.proofs.nodes.Nodes.given.Goals as goal
 

@@ -1,5 +1,4 @@
-use Rattle.std.proofs.Common.{◌∙◌}
-use Rattle.cpp_tree.specs.Nodes.{over, trees, tree_at}
+use Rattle.cpp_tree.proofs.Basics.{◌∙◌, over, trees, tree_at}
 use Rattle.cpp_tree.proofs.Trees.{given_other, given_one}
 use Rattle.cpp_tree.proofs.nodes.Nodes.given_alone.Goals as goal
 

@@ -1,8 +1,4 @@
-use Rattle.std.proofs.Common.{ap, sym, ◌∙◌}
-use Rattle.cpp_term.specs.Reargued.{if_alone}
-use Rattle.cpp_term.specs.Scope.{element}
-use Rattle.cpp_term.proofs.Reargued.{given_same}
-use Rattle.cpp_tree.specs.Nodes.{over, trees, tree_at}
+use Rattle.cpp_tree.proofs.Basics.{ap, sym, ◌∙◌, if_alone, element, given_same, over, trees, tree_at}
 use Rattle.cpp_tree.proofs.Trees.{placed-alone, given_listed}
 use Rattle.cpp_tree.proofs.nodes.Nodes.given_for.Goals as goal
 

@@ -1,8 +1,6 @@
-use Rattle.std.proofs.Common.{◌∙◌, ap}
-use Rattle.cpp_tree.specs.Nodes.{over, trees}
+use Rattle.cpp_tree.proofs.Basics.{◌∙◌, ap, over, trees, head_of_class}
 use Rattle.cpp_grammar.specs.Items as heads
 use Rattle.cpp_term.specs.Items as items
-use Rattle.cpp_term.specs.Items.{head_of_class}
 use Rattle.cpp_tree.proofs.Trees.{known_head, of_element_head, collapsed_head, of-class}
 use Rattle.cpp_tree.proofs.nodes.Nodes.head.Goals as goal
 

@@ -1,6 +1,4 @@
-use Rattle.std.proofs.Common.{arith, sym, ap, ◌∙◌}
-use Rattle.cpp_tree.specs.Nodes.{over, entry_at}
-use Rattle.cpp_tree.specs.Notes.{is_argument_node}
+use Rattle.cpp_tree.proofs.Basics.{arith, sym, ap, ◌∙◌, over, entry_at, is_argument_node}
 use Rattle.cpp_tree.proofs.Trees.{given_open, given_pack, given_alone_node}
 use Rattle.cpp_tree.proofs.nodes.Nodes.if_alone.Goals as goal
 

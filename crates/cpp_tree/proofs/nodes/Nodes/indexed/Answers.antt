@@ -1,6 +1,4 @@
-use Rattle.std.proofs.Common.{arith, sym, ◌∙◌, ap, Some}
-use Rattle.cpp_tree.specs.Nodes.{over, trees, tree_under}
-use Rattle.cpp_term.specs.Items.{indexed}
+use Rattle.cpp_tree.proofs.Basics.{arith, sym, ◌∙◌, ap, Some, over, trees, tree_under, indexed}
 use Rattle.cpp_tree.proofs.Trees.{indexed_pack, pack_below, indexed_none, indexed_other}
 use Rattle.cpp_tree.proofs.nodes.Nodes.indexed.Goals as goal
 

@@ -1,7 +1,4 @@
-use Rattle.std.proofs.Common.{ap, ◌∙◌, ◌&&◌, not}
-use Rattle.cpp_term.proofs.Notes.{both}
-use Rattle.cpp_tree.specs.Nodes.{entry_at, free_is, has_free}
-use Rattle.cpp_tree.specs.Notes.{is_argument_node}
+use Rattle.cpp_tree.proofs.Basics.{ap, ◌∙◌, ◌&&◌, not, both, entry_at, free_is, has_free, is_argument_node}
 use Rattle.cpp_tree.proofs.nodes.Nodes.is_alone.Goals as goal
 
 pub returns : goal.returns

@@ -1,5 +1,4 @@
-use Rattle.std.proofs.Common.{sym, ◌∙◌}
-use Rattle.cpp_tree.specs.Nodes.{over}
+use Rattle.cpp_tree.proofs.Basics.{sym, ◌∙◌, over}
 use Rattle.cpp_tree.proofs.Trees.{is_cell_list, is_no_list}
 use Rattle.cpp_tree.proofs.nodes.Nodes.is_list.Goals as goal
 

@@ -1,5 +1,4 @@
-use Rattle.std.proofs.Common.{◌∙◌, ap}
-use Rattle.cpp_tree.specs.Nodes.{over, free_is, has_free}
+use Rattle.cpp_tree.proofs.Basics.{◌∙◌, ap, over, free_is, has_free}
 use Rattle.cpp_tree.proofs.FreeParameters.{node-open}
 use Rattle.cpp_tree.proofs.nodes.Nodes.is_open.Goals as goal
 

@@ -1,6 +1,4 @@
-use Rattle.std.proofs.Common.{sym, ◌∙◌, ap, refl}
-use Rattle.cpp_term.specs.Scope.{length_if_pack}
-use Rattle.cpp_tree.specs.Nodes.{over, trees}
+use Rattle.cpp_tree.proofs.Basics.{sym, ◌∙◌, ap, refl, length_if_pack, over, trees}
 use Rattle.cpp_tree.proofs.Trees.{pack_length_is, no_pack_length, placed-none}
 use Rattle.cpp_tree.proofs.nodes.Nodes.length_if_pack.Goals as goal
 

@@ -1,7 +1,4 @@
-use Rattle.std.proofs.Common.{◌≡◌, refl, ap, ◌∙◌}
-use Rattle.cpp_term.specs.Reargued.{given_alone}
-use Rattle.cpp_term.specs.Scope.{free_in}
-use Rattle.cpp_tree.specs.Nodes.{over, trees, tree_at, free_is}
+use Rattle.cpp_tree.proofs.Basics.{◌≡◌, refl, ap, ◌∙◌, given_alone, free_in, over, trees, tree_at, free_is}
 use Rattle.cpp_tree.proofs.Noting.{own-at, other-at, lone-given, same-given}
 use Rattle.cpp_tree.proofs.nodes.Nodes.lone.Goals as goal
 

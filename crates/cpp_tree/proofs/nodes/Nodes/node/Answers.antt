@@ -1,5 +1,4 @@
-use Rattle.std.proofs.Common.{ap, sym}
-use Rattle.cpp_tree.specs.Nodes.{over}
+use Rattle.cpp_tree.proofs.Basics.{ap, sym, over}
 use Rattle.cpp_tree.proofs.Trees.{node_is}
 use Rattle.cpp_tree.proofs.nodes.Nodes.node.Goals as goal
 

@@ -1,6 +1,4 @@
-use Rattle.cpp_tree.specs.Nodes.{entry_at}
-use Rattle.cpp_tree.specs.Compact.{packs_kept, class_kept, entry_of}
-use Rattle.cpp_tree.specs.Notes.{argument_packs, argument_class, shape_at}
+use Rattle.cpp_tree.proofs.Basics.{entry_at, packs_kept, class_kept, entry_of, argument_packs, argument_class, shape_at}
 use Rattle.cpp_tree.proofs.Compacting.{again-is}
 use Rattle.cpp_tree.proofs.nodes.Nodes.noted_again.Goals as goal
 

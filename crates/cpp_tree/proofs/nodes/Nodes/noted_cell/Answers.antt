@@ -1,9 +1,4 @@
-use Rattle.std.proofs.Common.{ap, ◌+◌, ◌∙◌, ◌&&◌, ◌||◌, not, cond, nat_eq, length}
-use Rattle.cpp_grammar.specs.Scope.{first_of}
-use Rattle.cpp_tree.specs.Nodes.{entry_at}
-use Rattle.cpp_tree.specs.Compact.{kept, with_elements}
-use Rattle.cpp_tree.specs.Notes.{both_free, of_cell}
-use Rattle.cpp_term.proofs.Notes.{both}
+use Rattle.cpp_tree.proofs.Basics.{ap, ◌+◌, ◌∙◌, ◌&&◌, ◌||◌, not, cond, nat_eq, length, first_of, entry_at, kept, with_elements, both_free, of_cell, both}
 use Rattle.cpp_tree.proofs.Compacting.{over-two-is}
 use Rattle.cpp_tree.proofs.nodes.Nodes.noted_cell.Goals as goal
 

@@ -1,5 +1,4 @@
-use Rattle.cpp_tree.specs.Nodes.{entry_at}
-use Rattle.cpp_tree.specs.Compact.{packs_kept}
+use Rattle.cpp_tree.proofs.Basics.{entry_at, packs_kept}
 use Rattle.cpp_tree.proofs.Compacting.{expansion-is}
 use Rattle.cpp_tree.proofs.nodes.Nodes.noted_expansion.Goals as goal
 

@@ -1,8 +1,4 @@
-use Rattle.std.proofs.Common.{ap, ◌∙◌, false, Some, not}
-use Rattle.cpp_grammar.specs.Scope.{first_of}
-use Rattle.cpp_tree.specs.Nodes.{entry_at}
-use Rattle.cpp_tree.specs.Notes.{both_free, is_structor_node, joined, itself}
-use Rattle.cpp_tree.specs.Compact.{with_arguments}
+use Rattle.cpp_tree.proofs.Basics.{ap, ◌∙◌, false, Some, not, first_of, entry_at, both_free, is_structor_node, joined, itself, with_arguments}
 use Rattle.cpp_tree.proofs.Compacting.{over-two-is}
 use Rattle.cpp_tree.proofs.nodes.Nodes.noted_instance.Goals as goal
 

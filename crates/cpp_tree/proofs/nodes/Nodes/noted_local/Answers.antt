@@ -1,7 +1,4 @@
-use Rattle.std.proofs.Common.{ap, ◌∙◌}
-use Rattle.cpp_tree.specs.Nodes.{entry_at}
-use Rattle.cpp_tree.specs.Compact.{with_arguments}
-use Rattle.cpp_tree.specs.Notes.{passed}
+use Rattle.cpp_tree.proofs.Basics.{ap, ◌∙◌, entry_at, with_arguments, passed}
 use Rattle.cpp_tree.proofs.Compacting.{over-is}
 use Rattle.cpp_tree.proofs.nodes.Nodes.noted_local.Goals as goal
 

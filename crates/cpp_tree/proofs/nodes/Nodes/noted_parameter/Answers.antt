@@ -1,7 +1,4 @@
-use Rattle.std.proofs.Common.{ap, ◌∙◌, false}
-use Rattle.cpp_tree.specs.declared.node.Free.{Free}
-use Rattle.cpp_tree.specs.Compact.{free_kept, with_head, packs_kept, class_kept}
-use Rattle.cpp_tree.specs.Notes.{of_parameter, argument_packs, shape_at}
+use Rattle.cpp_tree.proofs.Basics.{ap, ◌∙◌, false, Free, free_kept, with_head, packs_kept, class_kept, of_parameter, argument_packs, shape_at}
 use Rattle.cpp_tree.proofs.nodes.Nodes.noted_parameter.Goals as goal
 
 pub returns : goal.returns

@@ -1,7 +1,4 @@
-use Rattle.std.proofs.Common.{ap, ◌∙◌, false}
-use Rattle.cpp_tree.specs.Nodes.{entry_at}
-use Rattle.cpp_tree.specs.Compact.{with_head}
-use Rattle.cpp_tree.specs.Notes.{of_head}
+use Rattle.cpp_tree.proofs.Basics.{ap, ◌∙◌, false, entry_at, with_head, of_head}
 use Rattle.cpp_tree.proofs.Compacting.{over-is}
 use Rattle.cpp_tree.proofs.nodes.Nodes.noted_qualified.Goals as goal
 

@@ -1,8 +1,4 @@
-use Rattle.std.proofs.Common.{ap, ◌∙◌}
-use Rattle.cpp_tree.specs.Nodes.{entry_at}
-use Rattle.cpp_tree.specs.declared.compact.TypeHead.{TypeHead}
-use Rattle.cpp_tree.specs.Notes.{passed, or_itself}
-use Rattle.cpp_tree.specs.Compact.{with_tags, class_kept, arguments_kept, untagged_kept, returns_kept, count_kept, run_kept, has_pack_kept}
+use Rattle.cpp_tree.proofs.Basics.{ap, ◌∙◌, entry_at, TypeHead, passed, or_itself, with_tags, class_kept, arguments_kept, untagged_kept, returns_kept, count_kept, run_kept, has_pack_kept}
 use Rattle.cpp_tree.proofs.Compacting.{over-is}
 use Rattle.cpp_tree.proofs.nodes.Nodes.noted_tagged.Goals as goal
 

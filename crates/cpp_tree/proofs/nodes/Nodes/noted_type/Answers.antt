@@ -1,5 +1,4 @@
-use Rattle.cpp_tree.specs.Nodes.{entry_at}
-use Rattle.cpp_tree.specs.Notes.{passed}
+use Rattle.cpp_tree.proofs.Basics.{entry_at, passed}
 use Rattle.cpp_tree.proofs.Compacting.{over-is}
 use Rattle.cpp_tree.proofs.nodes.Nodes.noted_type.Goals as goal
 

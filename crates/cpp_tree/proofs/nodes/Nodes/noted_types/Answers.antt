@@ -1,6 +1,4 @@
-use Rattle.std.proofs.Common.{false}
-use Rattle.cpp_tree.specs.Nodes.{entry_at}
-use Rattle.cpp_tree.specs.Notes.{joined}
+use Rattle.cpp_tree.proofs.Basics.{false, entry_at, joined}
 use Rattle.cpp_tree.proofs.Compacting.{over-two-is}
 use Rattle.cpp_tree.proofs.nodes.Nodes.noted_types.Goals as goal
 

@@ -1,5 +1,4 @@
-use Rattle.std.proofs.Common.{◌∙◌}
-use Rattle.cpp_tree.specs.Nodes.{entry_at}
+use Rattle.cpp_tree.proofs.Basics.{◌∙◌, entry_at}
 use Rattle.cpp_tree.proofs.Compacting.{other-within}
 use Rattle.cpp_tree.proofs.nodes.Nodes.noted_within.Goals as goal
 

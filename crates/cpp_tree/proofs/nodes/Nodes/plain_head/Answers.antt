@@ -1,6 +1,4 @@
-use Rattle.std.proofs.Common.{◌∙◌, ap}
-use Rattle.cpp_tree.specs.Nodes.{over, trees}
-use Rattle.cpp_term.specs.Items.{plain_class}
+use Rattle.cpp_tree.proofs.Basics.{◌∙◌, ap, over, trees, plain_class}
 use Rattle.cpp_tree.proofs.Trees.{known_plain, element_plain, collapsed_plain, of-class}
 use Rattle.cpp_tree.proofs.nodes.Nodes.plain_head.Goals as goal
 

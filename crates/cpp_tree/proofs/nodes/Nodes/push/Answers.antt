@@ -1,7 +1,4 @@
-use Rattle.std.proofs.Common.{rules, arith, ap, ◌∙◌, ◌++◌, ◌∷◌, [], length, length-append}
-use Rattle.cpp_tree.specs.Nodes.{over, trees}
-use Rattle.cpp_tree.specs.declared.compact.Compact.{Compact}
-use Rattle.cpp_tree.specs.Notes.{noting}
+use Rattle.cpp_tree.proofs.Basics.{rules, arith, ap, ◌∙◌, ◌++◌, ◌∷◌, [], length, length-append, over, trees, Compact, noting}
 use Rattle.cpp_tree.proofs.Noting.{noted}
 use Rattle.cpp_tree.proofs.Compacting.{held-one-more, with-node}
 use Rattle.cpp_tree.proofs.Pushed.{with-one-more, grown-is, pushed, pushed-there, pushed-stays}

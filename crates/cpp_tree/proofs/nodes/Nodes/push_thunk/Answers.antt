@@ -1,5 +1,4 @@
-use Rattle.std.proofs.Common.{rules}
-use Rattle.cpp_tree.specs.Nodes.{over}
+use Rattle.cpp_tree.proofs.Basics.{rules, over}
 use Rattle.cpp_tree.proofs.Pushed.{with-thunk-more, adjusted, adjusted-trees}
 use Rattle.cpp_tree.proofs.nodes.Nodes.push_thunk.Goals as goal
 

@@ -1,5 +1,4 @@
-use Rattle.std.proofs.Common.{sym, ◌∙◌}
-use Rattle.cpp_tree.specs.Nodes.{over, entry_at}
+use Rattle.cpp_tree.proofs.Basics.{sym, ◌∙◌, over, entry_at}
 use Rattle.cpp_tree.proofs.Noting.{other-place, again-place, resolved-is}
 use Rattle.cpp_tree.proofs.nodes.Nodes.resolved.Goals as goal
 

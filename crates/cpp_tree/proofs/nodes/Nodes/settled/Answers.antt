@@ -1,5 +1,4 @@
-use Rattle.std.proofs.Common.{sym, ◌∙◌}
-use Rattle.cpp_tree.specs.Nodes.{over, trees}
+use Rattle.cpp_tree.proofs.Basics.{sym, ◌∙◌, over, trees}
 use Rattle.cpp_tree.proofs.Trees.{placed-none, placed-some, over-some, there-below}
 use Rattle.cpp_tree.proofs.nodes.Nodes.settled.Goals as goal
 

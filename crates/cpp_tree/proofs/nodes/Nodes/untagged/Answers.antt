@@ -1,6 +1,4 @@
-use Rattle.std.proofs.Common.{sym, ap, ◌∙◌}
-use Rattle.cpp_term.specs.Scope.{without_tags}
-use Rattle.cpp_tree.specs.Nodes.{over, trees, tree_at}
+use Rattle.cpp_tree.proofs.Basics.{sym, ap, ◌∙◌, without_tags, over, trees, tree_at}
 use Rattle.cpp_tree.proofs.Trees.{placed-none, placed-some, over-some, there-below, untagged-over}
 use Rattle.cpp_tree.proofs.nodes.Nodes.untagged.Goals as goal
 

@@ -1,5 +1,4 @@
-use Rattle.std.proofs.Common.{ap, sym, ◌∙◌, Some, None}
-use Rattle.cpp_tree.specs.Nodes.{over, trees, untagged_is}
+use Rattle.cpp_tree.proofs.Basics.{ap, sym, ◌∙◌, Some, None, over, trees, untagged_is}
 use Rattle.cpp_tree.proofs.Noting.{placed-below}
 use Rattle.cpp_tree.proofs.Trees.{untagged_at, placed-alone}
 use Rattle.cpp_tree.proofs.nodes.Nodes.untagged_node.Goals as goal

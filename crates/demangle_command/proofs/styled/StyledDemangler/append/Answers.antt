@@ -1,5 +1,4 @@
-use Rattle.std.proofs.Common.{◌∙◌, sym, subst, refl}
-use Rattle.sym_filter.specs.Demangled.{IsAppended}
+use Rattle.demangle_command.proofs.Basics.{◌∙◌, sym, subst, refl, IsAppended}
 use Rattle.demangle_command.proofs.StyleLemmas.{left-out, as-path, as-symbol}
 use Rattle.demangle_command.proofs.styled.StyledDemangler.append.Goals as goal
 

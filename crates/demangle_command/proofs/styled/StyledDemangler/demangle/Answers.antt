@@ -1,6 +1,4 @@
-use Rattle.std.proofs.Common.{◌∙◌, sym, subst, refl}
-use Rattle.sym_filter.specs.Demangled.{IsDemangled}
-use Rattle.sym_languages.specs.Languages.{AreWideCountsOf}
+use Rattle.demangle_command.proofs.Basics.{◌∙◌, sym, subst, refl, IsDemangled, AreWideCountsOf}
 use Rattle.demangle_command.proofs.StyleLemmas.{left-out, as-path, as-symbol}
 use Rattle.demangle_command.proofs.styled.StyledDemangler.demangle.Goals as goal
 

@@ -1,5 +1,4 @@
-use Rattle.std.proofs.Common.{◌∙◌, sym}
-use Rattle.std.proofs.lemmas.Result.{IfOk-weaker}
+use Rattle.demangle_command.proofs.Basics.{◌∙◌, sym, IfOk-weaker}
 use Rattle.demangle_command.proofs.StyleLemmas.{details-as-path, details-as-symbol, details-left-out}
 use Rattle.demangle_command.proofs.styled.StyledDetailed.find_details.Goals as goal
 

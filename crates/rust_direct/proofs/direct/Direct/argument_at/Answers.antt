@@ -1,7 +1,5 @@
-use Rattle.std.proofs.Common.{sym, subst, ◌∷◌, []}
-use Rattle.sym_direct.specs.Holes.{StandsAt}
+use Rattle.rust_direct.proofs.Basics.{sym, subst, ◌∷◌, [], StandsAt, IsWriting}
 use Rattle.rust_direct.specs.declared.open.Step.TheVariants as steps
-use Rattle.rust_direct.specs.WriterInvariant.{IsWriting}
 use Rattle.rust_direct.proofs.ArgumentsRead.{argument-first, argument-separated}
 use Rattle.rust_direct.proofs.direct.Direct.argument_at.Goals as goal
 

@@ -1,5 +1,4 @@
-use Rattle.std.proofs.Common.{refl, ap, sym, subst, ◌∙◌, Some}
-use Rattle.rust_direct.specs.Awaits.{IsEnded}
+use Rattle.rust_direct.proofs.Basics.{refl, ap, sym, subst, ◌∙◌, Some, IsEnded}
 use Rattle.rust_direct.proofs.ArgumentsRead.{arguments-read}
 use Rattle.rust_direct.proofs.direct.Direct.arguments_ended.Goals as goal
 

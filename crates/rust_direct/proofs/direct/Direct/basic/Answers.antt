@@ -1,5 +1,4 @@
-use Rattle.std.proofs.Common.{subst}
-use Rattle.rust_direct.specs.Written.{Writes}
+use Rattle.rust_direct.proofs.Basics.{subst, Writes}
 use Rattle.rust_direct.proofs.ArgumentsRead.{basic-read, filled-text, letter-there}
 use Rattle.rust_direct.proofs.direct.Direct.basic.Goals as goal
 

@@ -1,6 +1,4 @@
-use Rattle.std.proofs.Common.{◌∷◌, ◌++◌, [], arith, refl, subst, ap, ◌∙◌}
-use Rattle.sym_direct.specs.Holes.{StandsAt}
-use Rattle.sym_direct.proofs.Moves.{stands-join}
+use Rattle.rust_direct.proofs.Basics.{◌∷◌, ◌++◌, [], arith, refl, subst, ap, ◌∙◌, StandsAt, stands-join}
 use Rattle.rust_direct.specs.declared.open.Open.TheVariants as opens
 use Rattle.rust_direct.proofs.SymbolsRead.{symbol-begun}
 use Rattle.rust_direct.proofs.direct.Direct.begin.Goals as goal

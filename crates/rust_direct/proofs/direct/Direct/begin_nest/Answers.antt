@@ -1,5 +1,4 @@
-use Rattle.std.proofs.Common.{subst, ap, ◌+◌, ◌∷◌, [], refl, get_or, arith}
-use Rattle.sym_direct.specs.Holes.{StandsAt}
+use Rattle.rust_direct.proofs.Basics.{subst, ap, ◌+◌, ◌∷◌, [], refl, get_or, arith, StandsAt}
 use Rattle.rust_direct.proofs.FoundTokens.{tested, read-there}
 use Rattle.rust_direct.proofs.PathsRead.{nest-begun}
 use Rattle.rust_direct.proofs.direct.Direct.begin_nest.Goals as goal

@@ -1,6 +1,5 @@
 -- A path is expected, after the paths around it.
-use Rattle.std.specs.Prelude.{◌-◌, length, false}
-use Rattle.rust_direct.specs.Awaits.{Awaits}
+use Rattle.rust_direct.proofs.Basics.{◌-◌, length, false, Awaits}
 use Rattle.rust_direct.proofs.direct.Direct.begin_outer.Given as goal
 
 abbrev pub invariant-paths : goal.invariant-paths

@@ -1,5 +1,4 @@
-use Rattle.std.proofs.Common.{subst}
-use Rattle.rust_direct.specs.Holes.{IsErasedAt}
+use Rattle.rust_direct.proofs.Basics.{subst, IsErasedAt}
 use Rattle.rust_direct.proofs.WrapsRead.{shared-begun}
 use Rattle.rust_direct.proofs.direct.Direct.begin_shared.Goals as goal
 

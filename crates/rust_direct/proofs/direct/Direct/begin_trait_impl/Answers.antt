@@ -1,5 +1,4 @@
-use Rattle.std.proofs.Common.{ap, subst, ◌∙◌}
-use Rattle.rust_direct.specs.Holes.{IsDisambiguatorAt}
+use Rattle.rust_direct.proofs.Basics.{ap, subst, ◌∙◌, IsDisambiguatorAt}
 use Rattle.rust_direct.proofs.TraitsRead.{trait-begun}
 use Rattle.rust_direct.proofs.direct.Direct.begin_trait_impl.Goals as goal
 

@@ -1,5 +1,4 @@
-use Rattle.std.proofs.Common.{arith, ◌+◌, ◌∷◌, [], ap, subst, ◌∙◌}
-use Rattle.sym_direct.specs.Holes.{StandsAt}
+use Rattle.rust_direct.proofs.Basics.{arith, ◌+◌, ◌∷◌, [], ap, subst, ◌∙◌, StandsAt}
 use Rattle.rust_direct.proofs.BoundsRead.{dyn-read}
 use Rattle.rust_direct.proofs.direct.Direct.bounds_ended.Goals as goal
 

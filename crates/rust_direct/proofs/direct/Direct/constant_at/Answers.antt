@@ -1,5 +1,4 @@
-use Rattle.std.proofs.Common.{sym, subst, false}
-use Rattle.rust_direct.specs.Constants.{BeginsInteger}
+use Rattle.rust_direct.proofs.Basics.{sym, subst, false, BeginsInteger}
 use Rattle.rust_direct.proofs.FoundTokens.{tested}
 use Rattle.rust_direct.proofs.MovesOfConstants.{unsigned-there, signed-there, unsigned-begins}
 use Rattle.rust_direct.proofs.direct.Direct.constant_at.Goals as goal

@@ -1,5 +1,4 @@
-use Rattle.std.proofs.Common.{subst}
-use Rattle.rust_direct.specs.Holes.{HasDisambiguator}
+use Rattle.rust_direct.proofs.Basics.{subst, HasDisambiguator}
 use Rattle.rust_direct.proofs.direct.Direct.crate_root.Goals as goal
 
 pub crate_named-requires-clause-counted : goal.crate_named-requires-clause-counted

@@ -1,6 +1,5 @@
--- If the entries that are left to test have written nothing yet, all have written nothing.
-use Rattle.std.specs.Prelude.{length, reverse}
-use Rattle.rust_direct.specs.WriterInvariant.{IsUnbegun}
+-- If the entries that are yet to be tested have written nothing, none has written anything.
+use Rattle.rust_direct.proofs.Basics.{length, reverse, IsUnbegun}
 use Rattle.rust_direct.proofs.direct.Direct.is_unbegun.Given as goal
 
 abbrev pub invariant-paths : goal.invariant-paths

@@ -1,5 +1,4 @@
-use Rattle.std.proofs.Common.{subst, arith, ap, ◌∙◌, ◌+◌, ◌∷◌, []}
-use Rattle.sym_direct.specs.Holes.{StandsAt}
+use Rattle.rust_direct.proofs.Basics.{subst, arith, ap, ◌∙◌, ◌+◌, ◌∷◌, [], StandsAt}
 use Rattle.rust_direct.proofs.ArgumentsRead.{lifetime-read}
 use Rattle.rust_direct.proofs.direct.Direct.lifetime_argument.Goals as goal
 

@@ -1,5 +1,4 @@
-use Rattle.std.proofs.Common.{◌≡◌, subst, slice_get, suc, Some}
-use Rattle.rust_direct.specs.Holes.{IsNumberAt}
+use Rattle.rust_direct.proofs.Basics.{◌≡◌, subst, slice_get, suc, Some, IsNumberAt}
 use Rattle.rust_direct.proofs.FoundTokens.{tested}
 use Rattle.rust_direct.proofs.Again.{path-repeated}
 use Rattle.rust_direct.proofs.direct.Direct.path_again.Goals as goal

@@ -1,7 +1,4 @@
-use Rattle.std.proofs.Common.{sym, subst}
-use Rattle.std.specs.Option.{OnSome}
-use Rattle.std.proofs.lemmas.Fmt.{decimal_digit}
-use Rattle.rust_direct.specs.Written.{Writes}
+use Rattle.rust_direct.proofs.Basics.{sym, subst, OnSome, decimal_digit, Writes}
 use Rattle.rust_direct.proofs.direct.Direct.push_decimal.Goals as goal
 
 pub returns-then-value-lt10 : goal.returns-then-value-lt10

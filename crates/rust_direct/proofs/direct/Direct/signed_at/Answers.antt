@@ -1,6 +1,4 @@
-use Rattle.std.proofs.Common.{arith, ◌+◌, ◌∷◌, [], ap, sym, subst, ◌∙◌, true, false}
-use Rattle.sym_direct.specs.Holes.{StandsAt}
-use Rattle.rust_direct.specs.Constants.{BeginsInteger}
+use Rattle.rust_direct.proofs.Basics.{arith, ◌+◌, ◌∷◌, [], ap, sym, subst, ◌∙◌, true, false, StandsAt, BeginsInteger}
 use Rattle.rust_direct.proofs.FoundTokens.{there}
 use Rattle.rust_direct.proofs.MovesOfConstants.{signed-begins, negative-begins}
 use Rattle.rust_direct.proofs.direct.Direct.signed_at.Goals as goal

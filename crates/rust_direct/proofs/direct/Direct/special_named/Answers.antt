@@ -1,5 +1,4 @@
-use Rattle.std.proofs.Common.{◌-◌, take, drop}
-use Rattle.std.proofs.lemmas.Bool.{lt-leb}
+use Rattle.rust_direct.proofs.Basics.{◌-◌, take, drop, lt-leb}
 use Rattle.rust_direct.proofs.SpecialsRead.{special-read}
 use Rattle.rust_direct.proofs.direct.Direct.special_named.Goals as goal
 

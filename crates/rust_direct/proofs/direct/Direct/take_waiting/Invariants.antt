@@ -1,7 +1,6 @@
 -- A path or a type was read.
-use Rattle.std.specs.Prelude.{length}
+use Rattle.rust_direct.proofs.Basics.{length, IsWriting}
 use Rattle.rust_direct.specs.declared.open.Step.TheVariants as steps
-use Rattle.rust_direct.specs.WriterInvariant.{IsWriting}
 use Rattle.rust_direct.proofs.direct.Direct.take_waiting.Given as goal
 
 abbrev pub invariant-names : goal.invariant-names

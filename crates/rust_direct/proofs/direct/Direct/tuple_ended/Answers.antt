@@ -1,5 +1,4 @@
-use Rattle.std.proofs.Common.{subst}
-use Rattle.rust_direct.specs.Written.{Writes}
+use Rattle.rust_direct.proofs.Basics.{subst, Writes}
 use Rattle.rust_direct.proofs.FoundTokens.{tested}
 use Rattle.rust_direct.proofs.TuplesRead.{tuple-read}
 use Rattle.rust_direct.proofs.direct.Direct.tuple_ended.Goals as goal

@@ -1,6 +1,4 @@
-use Rattle.std.proofs.Common.{arith, [], refl, ap, subst, ◌∙◌, Some}
-use Rattle.rust_direct.specs.declared.direct.Direct.{Direct}
-use Rattle.rust_direct.specs.Holes.{IsNameAt}
+use Rattle.rust_direct.proofs.Basics.{arith, [], refl, ap, subst, ◌∙◌, Some, Direct, IsNameAt}
 use Rattle.rust_direct.proofs.PathsRead.{unnamed-read, piece-empty, ended-writing}
 use Rattle.rust_direct.proofs.direct.Direct.unnamed_ended.Goals as goal
 

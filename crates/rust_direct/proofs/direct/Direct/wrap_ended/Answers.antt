@@ -1,6 +1,5 @@
-use Rattle.std.proofs.Common.{subst}
+use Rattle.rust_direct.proofs.Basics.{subst, Receives}
 use Rattle.rust_direct.specs.declared.open.Open.TheVariants as opens
-use Rattle.rust_direct.specs.Awaits.{Receives}
 use Rattle.rust_direct.proofs.direct.Direct.wrap_ended.Goals as goal
 
 pub bare_ended-requires : goal.bare_ended-requires

@@ -1,5 +1,4 @@
-use Rattle.std.proofs.Common.{subst}
-use Rattle.rust_tree.specs.Layout.{MayCome}
+use Rattle.rust_tree.proofs.Basics.{subst, MayCome}
 use Rattle.rust_tree.proofs.layout.SymbolLayout.bytes.Goals as goal
 
 pub shared_ref_as_front-result : goal.shared_ref_as_front-result

@@ -1,5 +1,4 @@
-use Rattle.std.proofs.Common.{ap, ◌∙◌, sym, [], ◌++◌, append-nil}
-use Rattle.sym_core.specs.Printed.{signed_text}
+use Rattle.rust_tree.proofs.Basics.{ap, ◌∙◌, sym, [], ◌++◌, append-nil, signed_text}
 use Rattle.rust_tree.proofs.Trees.{grows-text, text-stands}
 use Rattle.rust_tree.proofs.nodes.Nodes.push_decimal.Goals as goal
 

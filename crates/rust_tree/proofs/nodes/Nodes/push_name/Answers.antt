@@ -1,5 +1,4 @@
-use Rattle.std.proofs.Common.{ap, ◌∙◌, sym, true, [], ◌++◌, append-nil}
-use Rattle.sym_core.specs.Printed.{printed_name}
+use Rattle.rust_tree.proofs.Basics.{ap, ◌∙◌, sym, true, [], ◌++◌, append-nil, printed_name}
 use Rattle.rust_tree.proofs.Trees.{grows-text, text-stands}
 use Rattle.rust_tree.proofs.nodes.Nodes.push_name.Goals as goal
 

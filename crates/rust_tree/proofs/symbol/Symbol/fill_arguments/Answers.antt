@@ -1,9 +1,6 @@
-use Rattle.std.proofs.Common.{ap, refl, if◌then◌else◌, [], codes}
+use Rattle.rust_tree.proofs.Basics.{ap, refl, if◌then◌else◌, [], codes, arguments_in, arguments_of, arguments_from, trees_of, parts_in}
 use Rattle.rust_tree.proofs.Pushing.{starts, fills}
 use Rattle.rust_tree.proofs.Showing.{deeper, early-type, early-arguments, early-constant}
-use Rattle.rust_tree.specs.Nodes.{arguments_in, arguments_of}
-use Rattle.rust_tree.specs.Shown.{arguments_from}
-use Rattle.rust_tree.specs.Layout.{trees_of, parts_in}
 use Rattle.rust_tree.proofs.symbol.Symbol.fill_arguments.Goals as goal
 
 pub returns-in-None-clause-shows : goal.returns-in-None-clause-shows

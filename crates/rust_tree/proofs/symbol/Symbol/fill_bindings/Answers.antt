@@ -1,9 +1,6 @@
-use Rattle.std.proofs.Common.{ap, if◌then◌else◌, [], codes}
+use Rattle.rust_tree.proofs.Basics.{ap, if◌then◌else◌, [], codes, bindings_in, bindings_of, bindings_from, trees_of, parts_in}
 use Rattle.rust_tree.proofs.Pushing.{starts, fills}
 use Rattle.rust_tree.proofs.Showing.{deeper, early-type, early-bindings}
-use Rattle.rust_tree.specs.Nodes.{bindings_in, bindings_of}
-use Rattle.rust_tree.specs.Shown.{bindings_from}
-use Rattle.rust_tree.specs.Layout.{trees_of, parts_in}
 use Rattle.rust_tree.proofs.symbol.Symbol.fill_bindings.Goals as goal
 
 pub returns-in-None-clause-shows : goal.returns-in-None-clause-shows

@@ -1,8 +1,6 @@
-use Rattle.std.proofs.Common.{ap, ◌∙◌, slice_get, rules, subst, sym}
+use Rattle.rust_tree.proofs.Basics.{ap, ◌∙◌, slice_get, rules, subst, sym, bounds_in, bounds_of, path_in, bindings_in, trees_of, bound_in, Shows}
 use Rattle.rust_tree.proofs.Pushing.{starts, fills}
 use Rattle.rust_tree.proofs.Showing.{deeper, early-path, brief-bound, bare-bound}
-use Rattle.rust_tree.specs.Nodes.{bounds_in, bounds_of, path_in, bindings_in}
-use Rattle.rust_tree.specs.Layout.{trees_of, bound_in, Shows}
 use Rattle.rust_tree.proofs.symbol.Symbol.fill_bound.Goals as goal
 
 pub returns-in-None-clause-shows : goal.returns-in-None-clause-shows

@@ -1,9 +1,6 @@
-use Rattle.std.proofs.Common.{ap, if◌then◌else◌, [], codes}
+use Rattle.rust_tree.proofs.Basics.{ap, if◌then◌else◌, [], codes, bounds_in, bounds_of, bounds_from, trees_of, parts_in}
 use Rattle.rust_tree.proofs.Pushing.{starts, fills}
 use Rattle.rust_tree.proofs.Showing.{deeper, early-bounds, bounds-more}
-use Rattle.rust_tree.specs.Nodes.{bounds_in, bounds_of}
-use Rattle.rust_tree.specs.Shown.{bounds_from}
-use Rattle.rust_tree.specs.Layout.{trees_of, parts_in}
 use Rattle.rust_tree.proofs.symbol.Symbol.fill_bounds.Goals as goal
 
 pub returns-in-None-clause-shows : goal.returns-in-None-clause-shows

@@ -1,8 +1,6 @@
-use Rattle.std.proofs.Common.{ap, ◌∙◌, sym}
+use Rattle.rust_tree.proofs.Basics.{ap, ◌∙◌, sym, constant_parts, constant_in, constant_of}
 use Rattle.rust_tree.proofs.Pushing.{starts, fills}
 use Rattle.rust_tree.proofs.Showing.{boolean-shown, integer-shown}
-use Rattle.rust_tree.specs.Shown.{constant_parts}
-use Rattle.rust_tree.specs.Nodes.{constant_in, constant_of}
 use Rattle.rust_tree.proofs.symbol.Symbol.fill_constant.Goals as goal
 
 pub returns-in-Placeholder-clause-shows : goal.returns-in-Placeholder-clause-shows

@@ -1,8 +1,6 @@
-use Rattle.std.proofs.Common.{slice_get}
+use Rattle.rust_tree.proofs.Basics.{slice_get, bindings_in, path_of, trees_of}
 use Rattle.rust_tree.proofs.Pushing.{starts, fills}
 use Rattle.rust_tree.proofs.Showing.{deeper, early-path, early-arguments, generic-bound, plain-bound}
-use Rattle.rust_tree.specs.Nodes.{bindings_in, path_of}
-use Rattle.rust_tree.specs.Layout.{trees_of}
 use Rattle.rust_tree.proofs.symbol.Symbol.fill_full_bound.Goals as goal
 
 pub returns-in-Generic-clause-shows : goal.returns-in-Generic-clause-shows

@@ -1,8 +1,6 @@
-use Rattle.std.proofs.Common.{slice_get}
+use Rattle.rust_tree.proofs.Basics.{slice_get, type_in, trees_of, binder_in}
 use Rattle.rust_tree.proofs.Pushing.{starts, fills}
 use Rattle.rust_tree.proofs.Showing.{names-none, names-last, names-more}
-use Rattle.rust_tree.specs.Nodes.{type_in}
-use Rattle.rust_tree.specs.Layout.{trees_of, binder_in}
 use Rattle.rust_tree.proofs.symbol.Symbol.fill_names.Goals as goal
 
 pub returns-then-at-binder-2-clause-shows : goal.returns-then-at-binder-2-clause-shows

@@ -1,9 +1,6 @@
-use Rattle.std.proofs.Common.{ap}
+use Rattle.rust_tree.proofs.Basics.{ap, path_in, path_of, path_parts, trees_of}
 use Rattle.rust_tree.proofs.Pushing.{starts, fills}
 use Rattle.rust_tree.proofs.Showing.{deeper, early-path, early-type, early-arguments}
-use Rattle.rust_tree.specs.Nodes.{path_in, path_of}
-use Rattle.rust_tree.specs.Shown.{path_parts}
-use Rattle.rust_tree.specs.Layout.{trees_of}
 use Rattle.rust_tree.proofs.symbol.Symbol.fill_path.Goals as goal
 
 pub returns-in-Crate-clause-shows : goal.returns-in-Crate-clause-shows

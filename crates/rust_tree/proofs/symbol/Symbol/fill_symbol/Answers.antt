@@ -1,9 +1,6 @@
-use Rattle.std.proofs.Common.{refl}
+use Rattle.rust_tree.proofs.Basics.{refl, symbol_of, symbol_parts, trees_of}
 use Rattle.rust_tree.proofs.Pushing.{starts, fills}
 use Rattle.rust_tree.proofs.Showing.{deeper-top, early-path}
-use Rattle.rust_tree.specs.Nodes.{symbol_of}
-use Rattle.rust_tree.specs.Shown.{symbol_parts}
-use Rattle.rust_tree.specs.Layout.{trees_of}
 use Rattle.rust_tree.proofs.symbol.Symbol.fill_symbol.Goals as goal
 
 pub returns-clause-shows : goal.returns-clause-shows

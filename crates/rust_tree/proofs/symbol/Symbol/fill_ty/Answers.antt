@@ -1,9 +1,6 @@
-use Rattle.std.proofs.Common.{ap, subst, refl, take, inl}
+use Rattle.rust_tree.proofs.Basics.{ap, subst, refl, take, inl, HasTypeParts, type_of, type_parts, trees_of}
 use Rattle.rust_tree.proofs.Pushing.{starts, fills}
 use Rattle.rust_tree.proofs.Showing.{deeper, early-type, early-types, early-constant, early-bounds}
-use Rattle.rust_tree.specs.Nodes.{HasTypeParts, type_of}
-use Rattle.rust_tree.specs.Shown.{type_parts}
-use Rattle.rust_tree.specs.Layout.{trees_of}
 use Rattle.rust_tree.proofs.symbol.Symbol.fill_ty.Goals as goal
 
 pub returns-in-Basic-clause-shows : goal.returns-in-Basic-clause-shows

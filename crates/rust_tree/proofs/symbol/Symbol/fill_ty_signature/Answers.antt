@@ -1,8 +1,6 @@
-use Rattle.std.proofs.Common.{ap, subst, take}
+use Rattle.rust_tree.proofs.Basics.{ap, subst, take, HasTypeParts, type_of, trees_of, signature_in}
 use Rattle.rust_tree.proofs.Pushing.{starts, fills}
 use Rattle.rust_tree.proofs.Showing.{in-signature, early-type, early-types}
-use Rattle.rust_tree.specs.Nodes.{HasTypeParts, type_of}
-use Rattle.rust_tree.specs.Layout.{trees_of, signature_in}
 use Rattle.rust_tree.proofs.symbol.Symbol.fill_ty_signature.Goals as goal
 
 pub returns-in-Function-clause-shows : goal.returns-in-Function-clause-shows

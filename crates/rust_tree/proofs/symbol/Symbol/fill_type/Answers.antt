@@ -1,7 +1,5 @@
-use Rattle.std.proofs.Common.{subst, refl}
+use Rattle.rust_tree.proofs.Basics.{subst, refl, type_parts, Shows}
 use Rattle.rust_tree.proofs.Reading.{type_within}
-use Rattle.rust_tree.specs.Shown.{type_parts}
-use Rattle.rust_tree.specs.Layout.{Shows}
 use Rattle.rust_tree.proofs.symbol.Symbol.fill_type.Goals as goal
 
 pub stored-requires : goal.stored-requires

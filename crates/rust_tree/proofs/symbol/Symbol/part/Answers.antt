@@ -1,5 +1,4 @@
-use Rattle.rust_tree.specs.Layout.{trees_of}
-use Rattle.rust_tree.specs.Views.{fields_at}
+use Rattle.rust_tree.proofs.Basics.{trees_of, fields_at}
 use Rattle.rust_tree.proofs.Viewing.{part-got, part-early}
 use Rattle.rust_tree.proofs.symbol.Symbol.part.Goals as goal
 

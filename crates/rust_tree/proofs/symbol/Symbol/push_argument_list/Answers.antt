@@ -1,9 +1,5 @@
-use Rattle.std.proofs.Common.{ap, sym, ◌∙◌, slice_get, [], Bool}
-use Rattle.sym_print.specs.Unshared.{Unshared}
+use Rattle.rust_tree.proofs.Basics.{ap, sym, ◌∙◌, slice_get, [], Bool, Unshared, argument_list, arguments_from, arguments_in, trees_of}
 use Rattle.rust_tree.proofs.Showing.{changed}
-use Rattle.rust_tree.specs.Shown.{argument_list, arguments_from}
-use Rattle.rust_tree.specs.Nodes.{arguments_in}
-use Rattle.rust_tree.specs.Layout.{trees_of}
 use Rattle.rust_tree.proofs.symbol.Symbol.push_argument_list.Goals as goal
 
 pub returns-then-has_arguments-clause-shows : goal.returns-then-has_arguments-clause-shows

@@ -1,8 +1,5 @@
-use Rattle.std.proofs.Common.{arith, ap, ◌∙◌}
-use Rattle.sym_print.specs.Building.{◌then◌, ◌also◌}
-use Rattle.std.specs.Prelude.{codes}
+use Rattle.rust_tree.proofs.Basics.{arith, ap, ◌∙◌, ◌then◌, ◌also◌, codes, names_in}
 use Rattle.rust_tree.proofs.Showing.{changed, some-binder}
-use Rattle.rust_tree.specs.Layout.{names_in}
 use Rattle.rust_tree.proofs.symbol.Symbol.push_binder.Goals as goal
 
 pub returns-in_default-clause-shows : goal.returns-in_default-clause-shows

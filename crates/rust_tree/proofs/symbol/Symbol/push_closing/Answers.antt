@@ -1,8 +1,5 @@
-use Rattle.std.proofs.Common.{ap, sym, ◌∙◌, slice_get}
+use Rattle.rust_tree.proofs.Basics.{ap, sym, ◌∙◌, slice_get, closing_tuple, types_in, type_in, types_of, trees_of}
 use Rattle.rust_tree.proofs.Showing.{text-changed, closing-more}
-use Rattle.rust_tree.specs.Shown.{closing_tuple}
-use Rattle.rust_tree.specs.Nodes.{types_in, type_in, types_of}
-use Rattle.rust_tree.specs.Layout.{trees_of}
 use Rattle.rust_tree.proofs.symbol.Symbol.push_closing.Goals as goal
 
 pub returns-in-None-clause-shows : goal.returns-in-None-clause-shows

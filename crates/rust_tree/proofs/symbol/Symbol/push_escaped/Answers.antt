@@ -1,8 +1,6 @@
-use Rattle.std.proofs.Common.{arith, ap, ◌∙◌, ◌++◌, drop}
-use Rattle.std.proofs.lemmas.List.{length-drop}
+use Rattle.rust_tree.proofs.Basics.{arith, ap, ◌∙◌, ◌++◌, drop, length-drop, codes}
 use Rattle.rust_tree.proofs.Showing.{text-changed}
 use Rattle.rust_tree.proofs.Hexadecimals.{take-all}
-use Rattle.std.specs.Prelude.{codes}
 use Rattle.rust_tree.proofs.symbol.Symbol.push_escaped.Goals as goal
 
 pub returns-clause-shows : goal.returns-clause-shows

@@ -1,6 +1,5 @@
-use Rattle.std.proofs.Common.{sym, ap, slice_get}
+use Rattle.rust_tree.proofs.Basics.{sym, ap, slice_get, item_if, shown, trees_of}
 use Rattle.rust_tree.proofs.Showing.{changed}
-use Rattle.rust_tree.specs.Layout.{item_if, shown, trees_of}
 use Rattle.rust_tree.proofs.symbol.Symbol.push_item_if.Goals as goal
 
 pub returns-then-any-clause-shows : goal.returns-then-any-clause-shows

@@ -1,6 +1,4 @@
-use Rattle.std.proofs.Common.{sym, ap}
-use Rattle.rust_tree.specs.Shown.{name_behind}
-use Rattle.rust_tree.specs.Texts.{fixed_text}
+use Rattle.rust_tree.proofs.Basics.{sym, ap, name_behind, fixed_text}
 use Rattle.rust_tree.proofs.Pushing.{name-plain, name-decoded}
 use Rattle.rust_tree.proofs.Showing.{changed}
 use Rattle.rust_tree.proofs.symbol.Symbol.push_name_behind.Goals as goal

@@ -1,8 +1,5 @@
-use Rattle.std.proofs.Common.{ap, sym}
-use Rattle.std.proofs.lemmas.Bool.{le-leb, lt-leb}
+use Rattle.rust_tree.proofs.Basics.{ap, sym, le-leb, lt-leb, nested_name, identifier_of}
 use Rattle.rust_tree.proofs.Showing.{changed}
-use Rattle.rust_tree.specs.Shown.{nested_name}
-use Rattle.rust_tree.specs.Nodes.{identifier_of}
 use Rattle.rust_tree.proofs.symbol.Symbol.push_nested.Goals as goal
 
 pub returns-then-namespace-ge97-clause-shows : goal.returns-then-namespace-ge97-clause-shows

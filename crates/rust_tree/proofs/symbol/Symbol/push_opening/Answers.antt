@@ -1,7 +1,5 @@
-use Rattle.std.proofs.Common.{ap, sym, subst}
+use Rattle.rust_tree.proofs.Basics.{ap, sym, subst, signature_opening, abi_of, HasAbi}
 use Rattle.rust_tree.proofs.Showing.{changed}
-use Rattle.rust_tree.specs.Shown.{signature_opening}
-use Rattle.rust_tree.specs.Nodes.{abi_of, HasAbi}
 use Rattle.rust_tree.proofs.symbol.Symbol.push_opening.Goals as goal
 
 pub returns-in-Rust-clause-shows : goal.returns-in-Rust-clause-shows

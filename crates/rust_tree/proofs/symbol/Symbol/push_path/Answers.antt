@@ -1,10 +1,5 @@
-use Rattle.std.proofs.Common.{sym, ap, slice_get, Bool}
-use Rattle.sym_print.specs.Unshared.{Unshared}
-use Rattle.sym_print.specs.Building.{◌also◌}
+use Rattle.rust_tree.proofs.Basics.{sym, ap, slice_get, Bool, Unshared, ◌also◌, path_parts, path_in, trees_of}
 use Rattle.rust_tree.proofs.Showing.{changed}
-use Rattle.rust_tree.specs.Shown.{path_parts}
-use Rattle.rust_tree.specs.Nodes.{path_in}
-use Rattle.rust_tree.specs.Layout.{trees_of}
 use Rattle.rust_tree.proofs.symbol.Symbol.push_path.Goals as goal
 
 pub returns-then-value-clause-shows : goal.returns-then-value-clause-shows

@@ -1,5 +1,4 @@
-use Rattle.std.proofs.Common.{sym, ◌∙◌}
-use Rattle.std.proofs.lemmas.Bool.{le-leb, lt-leb}
+use Rattle.rust_tree.proofs.Basics.{sym, ◌∙◌, le-leb, lt-leb}
 use Rattle.rust_tree.proofs.Showing.{changed, some-suffix, no-suffix, empty-bytes}
 use Rattle.rust_tree.proofs.symbol.Symbol.push_suffix.Goals as goal
 

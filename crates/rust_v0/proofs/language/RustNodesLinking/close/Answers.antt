@@ -1,7 +1,4 @@
-use Rattle.rust_v0.specs.RustNodes.{v0_view}
-use Rattle.rust_v0.specs.NodeCount.{made_by}
-use Rattle.sym_link.specs.Tally.{closing_makes}
-use Rattle.sym_link.proofs.Tally.{room_untallied, close_tallied}
+use Rattle.rust_v0.proofs.Basics.{v0_view, made_by, closing_makes, room_untallied, close_tallied}
 use Rattle.rust_v0.proofs.NodeCount.{size_added}
 use Rattle.rust_v0.proofs.language.RustNodesLinking.close.Goals as goal
 

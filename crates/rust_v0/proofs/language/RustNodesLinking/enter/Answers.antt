@@ -1,13 +1,4 @@
-use Rattle.std.proofs.Common.{◌≡◌, ◌≤◌, ◌+◌, ◌<◌, refl, sym, arith, length, drop, ◌∙◌, Ok}
-use Rattle.sym_link.specs.Parts.{skipped_from}
-use Rattle.sym_link.proofs.Tally.{opens_tallied}
-use Rattle.rust_v0.specs.RustNodes.{v0_view}
-use Rattle.rust_v0.specs.NodeCount.{made_by}
-use Rattle.rust_grammar.specs.Productions.{production_of}
-use Rattle.rust_grammar.specs.Unfold.{bound_behind}
-use Rattle.rust_v0.specs.Made.{ground}
-use Rattle.std.specs.Prelude.{◌^◌}
-use Rattle.sym_link.proofs.Lists.{taken_dropped}
+use Rattle.rust_v0.proofs.Basics.{◌≡◌, ◌≤◌, ◌+◌, ◌<◌, refl, sym, arith, length, drop, ◌∙◌, Ok, skipped_from, opens_tallied, v0_view, made_by, production_of, bound_behind, ground, ◌^◌, taken_dropped}
 use Rattle.rust_v0.proofs.Reading.{v0_next}
 use Rattle.rust_v0.proofs.Meanings.{goes_on_same}
 use Rattle.rust_v0.proofs.Entering.{bound_agrees, bound_few, skipped_further}

@@ -1,8 +1,4 @@
-use Rattle.std.proofs.Common.{arith, refl, [], Ok}
-use Rattle.sym_link.specs.Tally.{closing_makes}
-use Rattle.sym_link.proofs.Tally.{root_tallied}
-use Rattle.rust_v0.specs.RustNodes.{v0_view}
-use Rattle.rust_v0.specs.NodeCount.{made_by}
+use Rattle.rust_v0.proofs.Basics.{arith, refl, [], Ok, closing_makes, root_tallied, v0_view, made_by}
 use Rattle.rust_v0.proofs.Meanings.{goes_on_same}
 use Rattle.rust_v0.proofs.language.RustNodesLinking.root.Goals as goal
 

@@ -1,5 +1,4 @@
-use Rattle.std.proofs.Common.{◌≡◌, sym, ap, ◌∙◌, Some, None, refl}
-use Rattle.rust_v0.specs.Made.{ends_tree}
+use Rattle.rust_v0.proofs.Basics.{◌≡◌, sym, ap, ◌∙◌, Some, None, refl, ends_tree}
 use Rattle.rust_v0.specs.CodeSemantics as semantics
 use Rattle.rust_v0.proofs.Adding.{added_gives}
 use Rattle.rust_v0.proofs.nodes.RustNodes.add.Goals as goal

@@ -1,12 +1,5 @@
-use Rattle.std.proofs.Common.{◌≡◌, ◌<◌, refl, sym, ◌∙◌, arith, Some, None, Ok, Err, Option, drop, take, ap, length}
-use Rattle.std.specs.Prelude.{◌^◌}
-use Rattle.std.proofs.lemmas.Result.{err_from_is_err_and}
-use Rattle.sym_link.proofs.Lists.{rest_all}
-use Rattle.rust_grammar.specs.declared.production.Production.{Production}
+use Rattle.rust_v0.proofs.Basics.{◌≡◌, ◌<◌, refl, sym, ◌∙◌, arith, Some, None, Ok, Err, Option, drop, take, ap, length, ◌^◌, err_from_is_err_and, rest_all, Production, of_part, production_of, at_rule}
 use Rattle.rust_v0.specs.CodeSemantics as semantics
-use Rattle.rust_v0.specs.CodeSemantics.{of_part}
-use Rattle.rust_grammar.specs.Productions.{production_of}
-use Rattle.rust_grammar.specs.Unfold.{at_rule}
 use Rattle.rust_v0.proofs.Closing.{put_gives, same_adds}
 use Rattle.rust_v0.proofs.Meanings.{made_gives, gives_part}
 use Rattle.rust_v0.proofs.NodeCount.{made_so_many, none_by_reference, none_by_part, one_by_node}

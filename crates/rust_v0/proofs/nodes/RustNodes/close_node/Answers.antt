@@ -1,8 +1,4 @@
-use Rattle.std.proofs.Common.{◌≡◌, ◌<◌, sym, arith, Some, drop, take}
-use Rattle.std.specs.Prelude.{◌^◌}
-use Rattle.std.proofs.lemmas.Result.{err_from_is_err_and}
-use Rattle.rust_grammar.specs.Productions.{production_of}
-use Rattle.rust_grammar.specs.Unfold.{at_rule}
+use Rattle.rust_v0.proofs.Basics.{◌≡◌, ◌<◌, sym, arith, Some, drop, take, ◌^◌, err_from_is_err_and, production_of, at_rule}
 use Rattle.rust_v0.proofs.Closing.{put_gives}
 use Rattle.rust_v0.proofs.Meanings.{made_gives}
 use Rattle.rust_v0.proofs.NodeCount.{made_so_many, one_by_node}

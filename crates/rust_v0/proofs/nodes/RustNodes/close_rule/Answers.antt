@@ -1,12 +1,6 @@
-use Rattle.std.proofs.Common.{◌≡◌, ◌<◌, ◌++◌, ◌∷◌, [], refl, sym, ap, ◌∙◌, arith, Some, Ok, drop, take}
-use Rattle.std.specs.Prelude.{◌^◌}
-use Rattle.sym_link.proofs.Lists.{rest_all, taken_dropped}
-use Rattle.rust_v0.specs.declared.part.Part.{Part}
+use Rattle.rust_v0.proofs.Basics.{◌≡◌, ◌<◌, ◌++◌, ◌∷◌, [], refl, sym, ap, ◌∙◌, arith, Some, Ok, drop, take, ◌^◌, rest_all, taken_dropped, Part, of_part, production_of, at_rule}
 use Rattle.rust_grammar.specs.declared.production.Production.TheVariants as rules
 use Rattle.rust_v0.specs.CodeSemantics as semantics
-use Rattle.rust_v0.specs.CodeSemantics.{of_part}
-use Rattle.rust_grammar.specs.Productions.{production_of}
-use Rattle.rust_grammar.specs.Unfold.{at_rule}
 use Rattle.rust_v0.proofs.Closing.{same_adds}
 use Rattle.rust_v0.proofs.Meanings.{made_gives, gives_part}
 use Rattle.rust_v0.proofs.NodeCount.{made_so_many, none_by_part}

@@ -1,13 +1,5 @@
-use Rattle.std.proofs.Common.{◌≡◌, ◌∙◌, ◌-◌, ◌&&◌, sym, subst, ap, arith, length, take, drop}
-use Rattle.std.specs.Prelude.{nat_lt}
-use Rattle.std.proofs.lemmas.Result.{err_from_is_err_and}
-use Rattle.sym_core.specs.Number.{AreDigits}
-use Rattle.sym_core.specs.declared.NumberKind.TheVariants.{Hex}
-use Rattle.sym_core.specs.Printed.{signed_text}
-use Rattle.sym_link.proofs.Lists.{span_length}
-use Rattle.rust_tree.specs.Nodes.{HasNoZero}
+use Rattle.rust_v0.proofs.Basics.{◌≡◌, ◌∙◌, ◌-◌, ◌&&◌, sym, subst, ap, arith, length, take, drop, nat_lt, err_from_is_err_and, AreDigits, Hex, signed_text, span_length, HasNoZero, value16}
 use Rattle.rust_v0.proofs.Printing.{prints-none}
-use Rattle.rust_grammar.specs.Unfold.{value16}
 use Rattle.rust_v0.proofs.Integers.{digits_behind, digits_left, digits_pay, text_few}
 use Rattle.rust_v0.proofs.nodes.RustNodes.integer.Goals as goal
 

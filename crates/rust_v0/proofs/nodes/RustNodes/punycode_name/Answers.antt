@@ -1,6 +1,4 @@
-use Rattle.std.proofs.Common.{◌-◌, length, take, drop}
-use Rattle.std.proofs.lemmas.Result.{err_from_is_err_and}
-use Rattle.sym_link.proofs.Lists.{span_length}
+use Rattle.rust_v0.proofs.Basics.{◌-◌, length, take, drop, err_from_is_err_and, span_length}
 use Rattle.rust_v0.proofs.Undecoded.{undecoded_few}
 use Rattle.rust_v0.proofs.Printing.{prints-none}
 use Rattle.rust_v0.proofs.nodes.RustNodes.punycode_name.Goals as goal

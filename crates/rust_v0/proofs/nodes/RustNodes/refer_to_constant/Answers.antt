@@ -1,6 +1,4 @@
-use Rattle.std.proofs.Common.{refl}
-use Rattle.rust_tree.specs.Nodes.{trees}
-use Rattle.rust_grammar.specs.Value.{a_constant}
+use Rattle.rust_v0.proofs.Basics.{refl, trees, a_constant}
 use Rattle.rust_v0.proofs.Referring.{referred_keeps}
 use Rattle.rust_v0.proofs.nodes.RustNodes.refer_to_constant.Goals as goal
 

@@ -1,5 +1,4 @@
-use Rattle.std.proofs.Common.{refl}
-use Rattle.rust_grammar.specs.Value.{a_path}
+use Rattle.rust_v0.proofs.Basics.{refl, a_path}
 use Rattle.rust_v0.proofs.Referring.{referred_keeps}
 use Rattle.rust_v0.proofs.nodes.RustNodes.refer_to_path.Goals as goal
 

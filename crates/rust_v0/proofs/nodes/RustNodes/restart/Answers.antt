@@ -1,10 +1,5 @@
-use Rattle.std.proofs.Common.{◌≡◌, refl, ap, subst, ◌∙◌, ℕ, ◌+◌, ◌++◌, List, [], length, false, Some, arith}
-use Rattle.std.specs.Prelude.{slice_get}
-use Rattle.sym_core.specs.Printed.{signed_text}
+use Rattle.rust_v0.proofs.Basics.{◌≡◌, refl, ap, subst, ◌∙◌, ℕ, ◌+◌, ◌++◌, List, [], length, false, Some, arith, slice_get, signed_text, of_arguments, of_bounds, of_bindings, trees, tree-stays}
 use Rattle.rust_tree.specs.Symbol as tree
-use Rattle.rust_tree.specs.Tree.{of_arguments, of_bounds, of_bindings}
-use Rattle.rust_tree.specs.Nodes.{trees}
-use Rattle.rust_tree.proofs.Trees.{tree-stays}
 use Rattle.rust_v0.proofs.Beginning.{zero_alone, no_nodes, no_arguments_made, no_bounds_made, no_bindings_made, one_added}
 use Rattle.rust_v0.proofs.Noted.{noted_further}
 use Rattle.rust_v0.proofs.nodes.RustNodes.restart.Goals as goal

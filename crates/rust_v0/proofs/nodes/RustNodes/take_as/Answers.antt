@@ -1,12 +1,6 @@
 use Rattle.std.proofs.Common.{◌∙◌, subst, refl, ap, arith, take, drop, ◌-◌, length, length-drop}
-use Rattle.std.proofs.lemmas.Result.{err_from_is_err_and}
-use Rattle.sym_link.proofs.Lists.{all_push, all_stay, pushed_behind, rest_all}
+use Rattle.rust_v0.proofs.Basics.{err_from_is_err_and, all_push, all_stay, pushed_behind, rest_all, GoesOn, ground, production_of, sort_of, IsPart}
 use Rattle.rust_v0.specs.LanguageLaws.{v0_laws}
-use Rattle.rust_v0.specs.RustNodes.{GoesOn}
-use Rattle.rust_v0.specs.Made.{ground}
-use Rattle.rust_grammar.specs.Productions.{production_of}
-use Rattle.rust_v0.specs.Tokens.{sort_of}
-use Rattle.rust_v0.specs.PartValues.{IsPart}
 use Rattle.rust_v0.proofs.Noted.{lists_stay}
 use Rattle.rust_v0.proofs.Reading.{v0_next}
 use Rattle.rust_v0.proofs.Taking.{own_fits, own_in_code, value_in_code, zero_stays, fails_memory}

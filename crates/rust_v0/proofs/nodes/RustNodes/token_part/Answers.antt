@@ -1,5 +1,4 @@
-use Rattle.std.proofs.Common.{refl}
-use Rattle.rust_tree.proofs.Trees.{grows-same}
+use Rattle.rust_v0.proofs.Basics.{refl, grows-same}
 use Rattle.rust_v0.proofs.nodes.RustNodes.token_part.Goals as goal
 
 pub returns-then-not-is_empty-clause-grows : goal.returns-then-not-is_empty-clause-grows

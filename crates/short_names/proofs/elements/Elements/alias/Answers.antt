@@ -1,7 +1,4 @@
-use Rattle.std.proofs.Common.{◌<◌, nat_eq, refl, sym, ap, ap₂, ◌∙◌, arith, inl, inr}
-use Rattle.std.specs.Cmp.Lexicographic.{pointwise}
-use Rattle.short_names.specs.declared.table.Alias.{Alias}
-use Rattle.short_names.specs.Patterns.{filled}
+use Rattle.short_names.proofs.Basics.{◌<◌, nat_eq, refl, sym, ap, ap₂, ◌∙◌, arith, inl, inr, pointwise, Alias, filled}
 use Rattle.short_names.proofs.ListedLemmas.{filled-same, usual-past, usual-found, usual-none, usual-end}
 use Rattle.short_names.proofs.RunLemmas.{lt-or-le}
 use Rattle.short_names.proofs.elements.Elements.alias.Goals as goal

@@ -1,7 +1,4 @@
-use Rattle.std.proofs.Common.{◌≡◌, ◌-◌, ℕ, List, length, take, drop}
-use Rattle.short_names.specs.declared.table.TheConstants.{ALIASES}
-use Rattle.short_names.specs.Elements.{AreHoles, alias_in, aliases_of}
-use Rattle.short_names.specs.Starts.{AreElements}
+use Rattle.short_names.proofs.Basics.{◌≡◌, ◌-◌, ℕ, List, length, take, drop, ALIASES, AreHoles, alias_in, aliases_of, AreElements}
 use Rattle.short_names.proofs.elements.Elements.alias.Given as goal
 
 abbrev pub invariant-rows : goal.invariant-rows

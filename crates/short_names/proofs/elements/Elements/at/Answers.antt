@@ -1,5 +1,4 @@
-use Rattle.std.proofs.Common.{[], sym, arith}
-use Rattle.std.proofs.lemmas.List.{get_or_past}
+use Rattle.short_names.proofs.Basics.{[], sym, arith, get_or_past}
 use Rattle.short_names.proofs.ElementLemmas.{starts-length, element-bounds, element-is}
 use Rattle.short_names.proofs.elements.Elements.at.Goals as goal
 

@@ -1,6 +1,4 @@
-use Rattle.std.proofs.Common.{sym, ap₂, ◌∙◌, refl}
-use Rattle.short_names.specs.declared.table.Place.{Place}
-use Rattle.short_names.specs.Elements.{is_given}
+use Rattle.short_names.proofs.Basics.{sym, ap₂, ◌∙◌, refl, Place, is_given}
 use Rattle.short_names.proofs.ListedLemmas.{given-same, no-place, no-row, default-at}
 use Rattle.short_names.proofs.elements.Elements.is_default.Goals as goal
 

@@ -1,5 +1,4 @@
-use Rattle.std.proofs.Common.{◌-◌, sym, ap, ap₂, ◌∙◌, arith}
-use Rattle.short_names.specs.Elements.{is_given, element}
+use Rattle.short_names.proofs.Basics.{◌-◌, sym, ap, ap₂, ◌∙◌, arith, is_given, element}
 use Rattle.short_names.proofs.ElementLemmas.{starts-length}
 use Rattle.short_names.proofs.ListedLemmas.{given-same, other-count, same-count}
 use Rattle.short_names.proofs.elements.Elements.is_polymorphic.Goals as goal

@@ -1,5 +1,4 @@
-use Rattle.std.proofs.Common.{sym, ap, ◌∙◌, arith}
-use Rattle.short_names.specs.Elements.{left_of}
+use Rattle.short_names.proofs.Basics.{sym, ap, ◌∙◌, arith, left_of}
 use Rattle.short_names.proofs.ElementLemmas.{starts-length}
 use Rattle.short_names.proofs.ListedLemmas.{left-more, left-few}
 use Rattle.short_names.proofs.elements.Elements.left.Goals as goal

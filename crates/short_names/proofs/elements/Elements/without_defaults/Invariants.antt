@@ -1,6 +1,4 @@
-use Rattle.std.proofs.Common.{◌≡◌, ℕ, List}
-use Rattle.short_names.specs.Elements.{AreHoles, left_of}
-use Rattle.short_names.specs.Starts.{AreElements}
+use Rattle.short_names.proofs.Basics.{◌≡◌, ℕ, List, AreHoles, left_of, AreElements}
 use Rattle.short_names.proofs.elements.Elements.without_defaults.Given as goal
 
 abbrev pub invariant-elements : goal.invariant-elements

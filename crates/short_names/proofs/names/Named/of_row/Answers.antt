@@ -1,9 +1,4 @@
-use Rattle.std.proofs.Common.{ap}
-use Rattle.std.proofs.lemmas.Option.{slice_get-get_or}
-use Rattle.short_names.specs.declared.table.Place.{Place}
-use Rattle.short_names.specs.declared.table.Template.{Template}
-use Rattle.short_names.specs.declared.table.TheConstants.{TEMPLATES}
-use Rattle.short_names.specs.Names.{with_template}
+use Rattle.short_names.proofs.Basics.{ap, slice_get-get_or, Place, Template, TEMPLATES, with_template}
 use Rattle.short_names.proofs.names.Named.of_row.Goals as goal
 
 abbrev nowhere : Place

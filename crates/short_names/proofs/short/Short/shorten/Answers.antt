@@ -1,6 +1,4 @@
-use Rattle.std.proofs.Common.{◌∙◌, ◌++◌, ◌-◌, sym, ap, length, take, drop, if◌then◌else◌}
-use Rattle.std.proofs.lemmas.List.{take_rest}
-use Rattle.short_names.specs.Short.{short, shortened, taken}
+use Rattle.short_names.proofs.Basics.{◌∙◌, ◌++◌, ◌-◌, sym, ap, length, take, drop, if◌then◌else◌, take_rest, short, shortened, taken}
 use Rattle.short_names.proofs.short.Short.shorten.Goals as goal
 
 pub returns-then-pairs-clause-short : goal.returns-then-pairs-clause-short

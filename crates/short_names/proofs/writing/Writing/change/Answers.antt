@@ -1,13 +1,5 @@
-use Rattle.std.proofs.Common.{◌∙◌, ◌+◌, ◌-◌, sym, ap, refl, length, subst, take, drop, slice_get, arith, length-drop}
-use Rattle.std.proofs.lemmas.List.{drop-drop, take_rest}
-use Rattle.short_names.specs.declared.table.TheConstants.{STD, STRING_TEMPLATE, TEMPLATES}
-use Rattle.short_names.specs.Closing.{IsString}
-use Rattle.short_names.specs.Names.{with_template}
+use Rattle.short_names.proofs.Basics.{◌∙◌, ◌+◌, ◌-◌, sym, ap, refl, length, subst, take, drop, slice_get, arith, length-drop, drop-drop, take_rest, STD, STRING_TEMPLATE, TEMPLATES, IsString, with_template, IsChange, is_nothing, behind_run, run_of, Alias}
 use Rattle.short_names.proofs.StringLemmas.{string-room}
-use Rattle.short_names.specs.Changes.{IsChange, is_nothing}
-use Rattle.short_names.specs.Plain.{behind_run}
-use Rattle.short_names.specs.Runs.{run_of}
-use Rattle.short_names.specs.declared.table.Alias.{Alias}
 use Rattle.short_names.proofs.NameSteps.{operator_here, plain_run, list_opens, row_member, row_named, run-take, run-within}
 use Rattle.short_names.proofs.writing.Writing.change.Goals as goal
 

@@ -1,5 +1,4 @@
-use Rattle.std.proofs.Common.{refl}
-use Rattle.std.proofs.lemmas.Bool.{not-true, not-false}
+use Rattle.short_names.proofs.Basics.{refl, not-true, not-false}
 use Rattle.short_names.proofs.ClosingLemmas.{popped, list_stops, list_closes, list_pending, list_shortens}
 use Rattle.short_names.proofs.writing.Writing.close_list.Goals as goal
 

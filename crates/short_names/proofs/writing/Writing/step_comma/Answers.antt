@@ -1,6 +1,4 @@
-use Rattle.std.proofs.Common.{◌∙◌, ◌∷◌, [], ◌++◌, ◌+◌, ◌-◌, sym, ap, nat_eq, codes, refl, inl, inr}
-use Rattle.std.proofs.lemmas.List.{take_rest}
-use Rattle.std.specs.List.{starts_with}
+use Rattle.short_names.proofs.Basics.{◌∙◌, ◌∷◌, [], ◌++◌, ◌+◌, ◌-◌, sym, ap, nat_eq, codes, refl, inl, inr, take_rest, starts_with}
 use Rattle.short_names.proofs.BracketLemmas.{element_ends, comma_goes_on}
 use Rattle.short_names.proofs.writing.Writing.step_comma.Goals as goal
 use Rattle.short_names.proofs.writing.Writing.step_comma.Goals.{else-is_in_list-via-then-is_in_list+else-starts_with, else-is_in_list-via-else-is_in_list}

@@ -1,6 +1,4 @@
-use Rattle.std.proofs.Common.{◌∙◌, sym, ap, nat_eq, codes, refl}
-use Rattle.std.proofs.lemmas.List.{take_rest}
-use Rattle.std.specs.List.{starts_with}
+use Rattle.short_names.proofs.Basics.{◌∙◌, sym, ap, nat_eq, codes, refl, take_rest, starts_with}
 use Rattle.short_names.proofs.BracketLemmas.{arrow, minus}
 use Rattle.short_names.proofs.writing.Writing.step_minus.Goals as goal
 

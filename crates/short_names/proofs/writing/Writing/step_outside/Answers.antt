@@ -1,6 +1,4 @@
-use Rattle.std.proofs.Common.{subst, None}
-use Rattle.std.proofs.lemmas.List.{take_rest}
-use Rattle.short_names.specs.Plain.{IsFirst, IsFound}
+use Rattle.short_names.proofs.Basics.{subst, None, take_rest, IsFirst, IsFound}
 use Rattle.short_names.proofs.OutsideLemmas.{skips_to, skips_all, found_changes, farther}
 use Rattle.short_names.proofs.writing.Writing.step_outside.Goals as goal
 

@@ -1,6 +1,4 @@
-use Rattle.std.proofs.Common.{◌∙◌, sym, ap, refl, length, take, drop, ◌+◌, ◌-◌, arith, length-drop}
-use Rattle.std.proofs.lemmas.List.{take_rest}
-use Rattle.short_names.specs.Runs.{run_of, begins_std}
+use Rattle.short_names.proofs.Basics.{◌∙◌, sym, ap, refl, length, take, drop, ◌+◌, ◌-◌, arith, length-drop, take_rest, run_of, begins_std}
 use Rattle.short_names.proofs.NameSteps.{change_here, operator_here, other_run}
 use Rattle.short_names.proofs.writing.Writing.step_run.Goals as goal
 

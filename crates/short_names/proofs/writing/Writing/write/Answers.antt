@@ -1,6 +1,4 @@
-use Rattle.std.proofs.Common.{◌∙◌, ◌==◌, ℕ, ap, arith, length, subst}
-use Rattle.short_names.specs.Walk.{start}
-use Rattle.short_names.specs.Writing.{Steps}
+use Rattle.short_names.proofs.Basics.{◌∙◌, ◌==◌, ℕ, ap, arith, length, subst, start, Steps}
 use Rattle.short_names.proofs.EndLemmas.{begins, not_paired, ends}
 use Rattle.short_names.proofs.writing.Writing.write.Goals as goal
 

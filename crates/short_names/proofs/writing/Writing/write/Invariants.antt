@@ -1,6 +1,4 @@
-use Rattle.std.proofs.Common.{◌-◌, length}
-use Rattle.short_names.specs.Walk.{Written}
-use Rattle.short_names.specs.Writing.{IsAt}
+use Rattle.short_names.proofs.Basics.{◌-◌, length, Written, IsAt}
 use Rattle.short_names.proofs.writing.Writing.write.Given as goal
 
 abbrev pub invariant-pieces : goal.invariant-pieces

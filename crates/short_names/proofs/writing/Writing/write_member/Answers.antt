@@ -1,10 +1,4 @@
-use Rattle.std.proofs.Common.{◌∙◌, ◌+◌, ◌++◌, ◌≤◌, ap, refl, length, drop, arith, length-drop, get_or}
-use Rattle.std.proofs.lemmas.List.{take_rest}
-use Rattle.short_names.specs.Plain.{behind_run}
-use Rattle.short_names.specs.Runs.{run_of}
-use Rattle.short_names.specs.Short.{constructor}
-use Rattle.short_names.specs.declared.table.Alias.{Alias}
-use Rattle.short_names.specs.declared.table.TheConstants.{ALIASES}
+use Rattle.short_names.proofs.Basics.{◌∙◌, ◌+◌, ◌++◌, ◌≤◌, ap, refl, length, drop, arith, length-drop, get_or, take_rest, behind_run, run_of, constructor, Alias, ALIASES}
 use Rattle.short_names.proofs.NameSteps.{member_goes, row_member, run-within}
 use Rattle.short_names.proofs.writing.Writing.write_member.Goals as goal
 

@@ -1,7 +1,4 @@
-use Rattle.std.proofs.Common.{◌∙◌, ◌+◌, ◌-◌, ◌++◌, ℕ, List, ap, refl, length, take, drop, arith, length-drop}
-use Rattle.std.proofs.lemmas.List.{take_rest}
-use Rattle.short_names.specs.Short.{constructor}
-use Rattle.short_names.specs.Texts.{text_of}
+use Rattle.short_names.proofs.Basics.{◌∙◌, ◌+◌, ◌-◌, ◌++◌, ℕ, List, ap, refl, length, take, drop, arith, length-drop, take_rest, constructor, text_of}
 use Rattle.short_names.proofs.StringLemmas.{string_goes, string-name, string_row}
 use Rattle.short_names.proofs.writing.Writing.write_string.Goals as goal
 

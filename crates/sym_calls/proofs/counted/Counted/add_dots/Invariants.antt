@@ -1,5 +1,4 @@
-use Rattle.std.proofs.Common.{replicate}
-use Rattle.sym_calls.specs.Counted.{Adds}
+use Rattle.sym_calls.proofs.Basics.{replicate, Adds}
 use Rattle.sym_calls.proofs.counted.Counted.add_dots.Given as goal
 
 abbrev pub invariant-loop : goal.invariant-loop

@@ -1,5 +1,4 @@
-use Rattle.std.proofs.Common.{◌++◌, replicate}
-use Rattle.sym_filter.specs.Words.{following}
+use Rattle.sym_calls.proofs.Basics.{◌++◌, replicate, following}
 use Rattle.sym_calls.proofs.Kept.{Adds-as, Adds-join, following-dots, following-bytes}
 use Rattle.sym_calls.proofs.counted.Counted.add_following.Goals as goal
 

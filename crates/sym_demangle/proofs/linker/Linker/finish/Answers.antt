@@ -1,6 +1,4 @@
-use Rattle.std.proofs.Common.{ap, ◌∙◌, subst, ◌+◌, Ok}
-use Rattle.sym_demangle.specs.Mangled.{StandsFor}
-use Rattle.sym_demangle.specs.Standing.{Progress, AreLinkSteps, AreNodesOf}
+use Rattle.sym_demangle.proofs.Basics.{ap, ◌∙◌, subst, ◌+◌, Ok, StandsFor, Progress, AreLinkSteps, AreNodesOf}
 use Rattle.sym_demangle.proofs.linker.Linker.finish.Goals as goal
 
 pub returns-clause-bytes : goal.returns-clause-bytes

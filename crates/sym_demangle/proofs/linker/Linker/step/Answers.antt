@@ -1,18 +1,6 @@
-use Rattle.std.proofs.Common.{refl, ℕ, List, Err, Bool, true, false, sym, ◌∙◌, subst, ap, arith, length, ◌+◌}
-use Rattle.sym_link.proofs.Starting.{driving_few}
-use Rattle.sym_shape.specs.Tree.{spell}
-use Rattle.sym_link.specs.Driving.{Fails}
-use Rattle.sym_link.specs.Following.{IsStepTo, meaning_of}
-use Rattle.sym_demangle.specs.Mangled.{IsRefused}
-use Rattle.sym_demangle.specs.Standing.{Progress, AreLinkSteps, AreFewInAll}
+use Rattle.sym_demangle.proofs.Basics.{refl, ℕ, List, Err, Bool, true, false, sym, ◌∙◌, subst, ap, arith, length, ◌+◌, driving_few, spell, Fails, IsStepTo, meaning_of, IsRefused, Progress, AreLinkSteps, AreFewInAll, TokenTakesMemory, all_lists, KeepRoom, OnlyForRoom, room_same, none_kept, Memory as memory, never_both, never_ok, never_err, never_false, never_done, same_answer}
 use Rattle.sym_demangle.proofs.Standing.{driving_fails, shape_steps, done_steps, step_fails, refused_of, counted_two}
-use Rattle.sym_link.specs.Linking.{TokenTakesMemory, all_lists}
-use Rattle.sym_link.specs.Room.{KeepRoom, OnlyForRoom}
-use Rattle.sym_link.proofs.Room.{room_same}
-use Rattle.sym_link.proofs.Driving.{none_kept}
-use Rattle.sym_core.specs.declared.refusal.Refusal.TheVariants.{Memory as memory}
 use Rattle.sym_demangle.proofs.Continuation.{few_of, goes_on, has_stepped, counts_step, counts_none, stays_open, counts_refusal}
-use Rattle.sym_shape.proofs.Keeping.{never_both, never_ok, never_err, never_false, never_done, same_answer}
 use Rattle.sym_demangle.proofs.linker.Linker.step.Goals as goal
 
 pub returns-then-self : goal.returns-then-self

@@ -1,6 +1,4 @@
-use Rattle.std.proofs.Common.{◌≡◌, ◌∙◌, refl, subst, Ok}
-use Rattle.sym_demangle.specs.Mangled.{StandsFor}
-use Rattle.sym_demangle.specs.Standing.{AreLinkSteps, AreNodesOf}
+use Rattle.sym_demangle.proofs.Basics.{◌≡◌, ◌∙◌, refl, subst, Ok, StandsFor, AreLinkSteps, AreNodesOf}
 use Rattle.sym_demangle.proofs.workspace.Workspace.finish.Goals as goal
 
 pub finished-requires : goal.finished-requires

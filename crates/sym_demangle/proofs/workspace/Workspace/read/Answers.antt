@@ -1,10 +1,4 @@
-use Rattle.std.proofs.Common.{◌≡◌, subst, sym, ap, ◌∙◌, ◌++◌, ℕ, List, length}
-use Rattle.std.specs.Prelude.{IfOk}
-use Rattle.sym_core.specs.Number.{FitsSymbol}
-use Rattle.sym_shape.specs.Tree.{AreRowsOf, AreStepsOf}
-use Rattle.std.proofs.lemmas.Result.{err_from_is_err_and}
-use Rattle.sym_shape.specs.Reader.{AreFew, IsMalformedOrMemory}
-use Rattle.sym_demangle.specs.Standing.{AreStepsInAll, AreNodesOf}
+use Rattle.sym_demangle.proofs.Basics.{◌≡◌, subst, sym, ap, ◌∙◌, ◌++◌, ℕ, List, length, IfOk, FitsSymbol, AreRowsOf, AreStepsOf, err_from_is_err_and, AreFew, IsMalformedOrMemory, AreStepsInAll, AreNodesOf}
 use Rattle.sym_demangle.proofs.Rows.{rows_there}
 use Rattle.sym_demangle.proofs.Feeding.{behind_prefix}
 use Rattle.sym_demangle.proofs.Answering.{shape_refused}

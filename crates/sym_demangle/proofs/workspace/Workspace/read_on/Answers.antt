@@ -1,14 +1,5 @@
-use Rattle.std.proofs.Common.{◌≡◌, ◌⊎◌, ◌∙◌, ◌++◌, ap, refl, sym, subst, ℕ, List, length, Err}
-use Rattle.std.specs.Prelude.{IfOk}
-use Rattle.std.proofs.lemmas.Result.{err_from_is_err_and}
-use Rattle.sym_core.specs.Number.{FitsSymbol}
+use Rattle.sym_demangle.proofs.Basics.{◌≡◌, ◌⊎◌, ◌∙◌, ◌++◌, ap, refl, sym, subst, ℕ, List, length, Err, IfOk, err_from_is_err_and, FitsSymbol, Fed, AreFew, AreRowsOf, AreStepsOf, same_steps, IsReading, AreStepsInAll, AreNodesOf}
 use Rattle.sym_core.specs.declared.refusal.Refusal.TheVariants as refusals
-use Rattle.sym_shape.specs.Fed.{Fed}
-use Rattle.sym_shape.specs.Reader.{AreFew}
-use Rattle.sym_shape.specs.Tree.{AreRowsOf, AreStepsOf}
-use Rattle.sym_shape.proofs.Feeding.{same_steps}
-use Rattle.sym_demangle.specs.Mangled.{IsReading}
-use Rattle.sym_demangle.specs.Standing.{AreStepsInAll, AreNodesOf}
 use Rattle.sym_demangle.proofs.Rows.{rows_there}
 use Rattle.sym_demangle.proofs.Reasons.{links_not_too_long, links_read}
 use Rattle.sym_demangle.proofs.workspace.Workspace.read_on.Goals as goal

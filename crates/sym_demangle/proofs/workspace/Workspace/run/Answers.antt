@@ -1,9 +1,4 @@
-use Rattle.std.proofs.Common.{◌∙◌, false, sym, subst, inl, ℕ, List}
-use Rattle.std.proofs.lemmas.Result.{err_from_is_err_and}
-use Rattle.sym_shape.specs.Tree.{spell}
-use Rattle.sym_link.specs.Driving.{Fails}
-use Rattle.sym_link.specs.Following.{meaning_of}
-use Rattle.sym_demangle.specs.Standing.{Begins}
+use Rattle.sym_demangle.proofs.Basics.{◌∙◌, false, sym, subst, inl, ℕ, List, err_from_is_err_and, spell, Fails, meaning_of, Begins}
 use Rattle.sym_demangle.proofs.Continuation.{has_run, reset_of}
 use Rattle.sym_demangle.proofs.Standing.{driving_fails, refused_of}
 use Rattle.sym_demangle.proofs.workspace.Workspace.run.Goals as goal

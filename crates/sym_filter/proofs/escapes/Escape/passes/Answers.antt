@@ -1,6 +1,4 @@
-use Rattle.std.proofs.Common.{sym, subst, take, false}
-use Rattle.sym_filter.specs.Carried.{IsRead}
-use Rattle.sym_filter.specs.declared.escapes.Escape.{Escape}
+use Rattle.sym_filter.proofs.Basics.{sym, subst, take, false, IsRead, Escape}
 use Rattle.sym_filter.proofs.CarryLemmas.{IsRead-passed}
 use Rattle.sym_filter.proofs.escapes.Escape.passes.Goals as goal
 

@@ -1,8 +1,4 @@
-use Rattle.std.proofs.Common.{◌≡◌, ◌∙◌, ◌++◌, cond, length, sym, ap, ap₂, List, ℕ, None, Some}
-use Rattle.std.specs.Prelude.{is_some}
-use Rattle.sym_filter.specs.Kinds.{kind_of}
-use Rattle.sym_filter.specs.Marks.{from_mark}
-use Rattle.sym_filter.specs.Runs.{within, text_for, word_or_text}
+use Rattle.sym_filter.proofs.Basics.{◌≡◌, ◌∙◌, ◌++◌, cond, length, sym, ap, ap₂, List, ℕ, None, Some, is_some, kind_of, from_mark, within, text_for, word_or_text}
 use Rattle.sym_filter.proofs.EntryLemmas.{left-absent, left-present}
 use Rattle.sym_filter.proofs.NameLemmas.{front_of, name_is_word, name_of}
 use Rattle.sym_filter.proofs.RunLemmas.{word_or_text-unnamed}

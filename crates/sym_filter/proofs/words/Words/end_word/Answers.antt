@@ -1,10 +1,5 @@
-use Rattle.std.proofs.Common.{◌≡◌, ◌∙◌, ◌++◌, append_assoc, cond, length, sym, ap, ap₂, List, ℕ, None, Some}
-use Rattle.std.specs.Prelude.{is_some}
-use Rattle.sym_filter.specs.Kinds.{kind_of}
-use Rattle.sym_filter.specs.Marks.{before_mark, from_mark}
-use Rattle.sym_filter.specs.Runs.{Answering, answers_at, name_in, tally_with_word, text_for, within, word_or_text}
+use Rattle.sym_filter.proofs.Basics.{◌≡◌, ◌∙◌, ◌++◌, append_assoc, cond, length, sym, ap, ap₂, List, ℕ, None, Some, is_some, kind_of, before_mark, from_mark, Answering, answers_at, name_in, tally_with_word, text_for, within, word_or_text, left_of}
 use Rattle.sym_filter.proofs.BeginLemmas.{answers-runs, answers-within}
-use Rattle.sym_filter.specs.Entries.{left_of}
 use Rattle.sym_filter.proofs.EntryLemmas.{left-absent, left-present}
 use Rattle.sym_filter.proofs.MarkLemmas.{name_in-runs, name_in-within, written-runs, written-within}
 use Rattle.sym_filter.proofs.RunLemmas.{word_or_text-unnamed}

@@ -1,5 +1,4 @@
-use Rattle.std.proofs.Common.{◌++◌, ◌-◌, ◌∙◌, List, ℕ, length, replicate, sym, ap, subst, refl, arith}
-use Rattle.sym_filter.specs.Held.{IsHeld}
+use Rattle.sym_filter.proofs.Basics.{◌++◌, ◌-◌, ◌∙◌, List, ℕ, length, replicate, sym, ap, subst, refl, arith, IsHeld}
 use Rattle.sym_filter.proofs.WordLemmas.{IsHeld-dots, IsHeld-part, held_of-part, held_of-dots, long-part}
 use Rattle.sym_filter.proofs.words.Words.hold.Goals as goal
 

@@ -1,9 +1,4 @@
-use Rattle.std.proofs.Common.{◌≡◌, ◌∙◌, ◌++◌, [], true, false, refl, sym, take, arith}
-use Rattle.std.proofs.lemmas.List.{append-nil}
-use Rattle.sym_filter.specs.Places.{may_begin}
-use Rattle.sym_filter.specs.Runs.{is_begun, written}
-use Rattle.sym_filter.specs.Words.{held_of}
-use Rattle.sym_filter.specs.Entries.{left_at_end}
+use Rattle.sym_filter.proofs.Basics.{◌≡◌, ◌∙◌, ◌++◌, [], true, false, refl, sym, take, arith, append-nil, may_begin, is_begun, written, held_of, left_at_end}
 use Rattle.sym_filter.proofs.EntryLemmas.{TakesEntries-first, TakesEntries-hold, TakesEntries-plain, none-left}
 use Rattle.sym_filter.proofs.WordLemmas.{Takes-plain, Takes-first, Takes-hold, held_of-empty, no_items, has_items, past-none, held-open, front-open, front-begun, held-begun, held-none}
 use Rattle.sym_filter.proofs.words.Words.take.Goals as goal

@@ -1,5 +1,4 @@
-use Rattle.sym_filter.specs.declared.kinds.Lang.TheVariants.{Cpp, Rust}
-use Rattle.sym_languages.specs.Languages.{AreCountsBy, language_answer_by}
+use Rattle.sym_languages.proofs.Basics.{Cpp, Rust, AreCountsBy, language_answer_by}
 use Rattle.sym_languages.proofs.LanguageLemmas.{demangled_in}
 use Rattle.sym_languages.proofs.languages.LanguagesDemangler.demangle.Goals as goal
 

@@ -1,6 +1,4 @@
-use Rattle.sym_filter.specs.Kinds.{underscore_of}
-use Rattle.sym_languages.specs.Languages.{AreCountsOf, with_front, pressed_language}
-use Rattle.sym_filter.specs.declared.kinds.Lang.TheVariants.{Cpp, Rust}
+use Rattle.sym_languages.proofs.Basics.{underscore_of, AreCountsOf, with_front, pressed_language, Cpp, Rust}
 use Rattle.sym_languages.proofs.LanguageLemmas.{demangled_in}
 use Rattle.sym_languages.proofs.pressing.PressingDemangler.demangle.Goals as goal
 

@@ -1,7 +1,4 @@
-use Rattle.sym_filter.specs.Kinds.{underscore_of}
-use Rattle.sym_filter.specs.declared.kinds.Lang.TheVariants.{Cpp, Rust}
-use Rattle.sym_languages.specs.Languages.{AreWideCountsOf, with_front}
-use Rattle.sym_languages.specs.WidePressed.{wide_pressed_language}
+use Rattle.sym_languages.proofs.Basics.{underscore_of, Cpp, Rust, AreWideCountsOf, with_front, wide_pressed_language}
 use Rattle.sym_languages.proofs.LanguageLemmas.{demangled_in}
 use Rattle.sym_languages.proofs.pressing.WidePressingDemangler.demangle.Goals as goal
 

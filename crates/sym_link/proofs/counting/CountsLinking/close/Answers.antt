@@ -1,7 +1,5 @@
-use Rattle.std.proofs.Common.{refl, ◌≡◌, ◌<◌, ◌≤◌, ◌∙◌, ap, arith, [], ◌∷◌, ◌++◌, ◌-◌, drop, length, length-append, length-drop}
-use Rattle.std.proofs.lemmas.Bool.{lt-ltb, le-ltb}
+use Rattle.sym_link.proofs.Basics.{refl, ◌≡◌, ◌<◌, ◌≤◌, ◌∙◌, ap, arith, [], ◌∷◌, ◌++◌, ◌-◌, drop, length, length-append, length-drop, lt-ltb, le-ltb, counted_language, IsNumber}
 use Rattle.sym_link.specs.declared.counting.Part.TheVariants as parts
-use Rattle.sym_link.specs.Counting.{counted_language, IsNumber}
 use Rattle.sym_link.proofs.Cases.{plain_ended, as_many}
 use Rattle.sym_link.proofs.Lists.{pushed_at}
 use Rattle.sym_link.proofs.counting.CountsLinking.close.Goals as goal

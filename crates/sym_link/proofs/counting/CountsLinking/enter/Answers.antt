@@ -1,5 +1,4 @@
-use Rattle.std.proofs.Common.{sym, refl}
-use Rattle.sym_link.specs.Counting.{counted_language}
+use Rattle.sym_link.proofs.Basics.{sym, refl, counted_language}
 use Rattle.sym_link.proofs.Cases.{plain_next}
 use Rattle.sym_link.proofs.Lists.{taken_dropped}
 use Rattle.sym_link.proofs.counting.CountsLinking.enter.Goals as goal

@@ -1,5 +1,4 @@
-use Rattle.std.proofs.Common.{refl, ◌∙◌, ◌-◌, ap, arith, length, length-append, take, drop}
-use Rattle.sym_link.specs.Counting.{counted_language, IsNumber}
+use Rattle.sym_link.proofs.Basics.{refl, ◌∙◌, ◌-◌, ap, arith, length, length-append, take, drop, counted_language, IsNumber}
 use Rattle.sym_link.proofs.Cases.{plain_next}
 use Rattle.sym_link.proofs.Lists.{all_push}
 use Rattle.sym_link.proofs.Lists.{pushed_behind, span_length}

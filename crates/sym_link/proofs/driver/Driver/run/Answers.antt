@@ -1,6 +1,5 @@
-use Rattle.std.proofs.Common.{◌∙◌, ap, Ok, None, arith}
+use Rattle.sym_link.proofs.Basics.{◌∙◌, ap, Ok, None, arith, TokenTakesMemory, all_lists}
 use Rattle.sym_link.proofs.Driving.{driving_none, driving_same, step_moved, step_smaller, step_done, step_refused, none_open, none_kept, driving_on}
-use Rattle.sym_link.specs.Linking.{TokenTakesMemory, all_lists}
 use Rattle.sym_link.proofs.Room.{room_same, room_then, only_refused}
 use Rattle.sym_link.proofs.driver.Driver.run.Goals as goal
 

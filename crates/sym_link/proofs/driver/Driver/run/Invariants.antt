@@ -1,8 +1,5 @@
 -- The driver is on its way, its rows and steps are those of the local variables, and it has kept no refusal.
-use Rattle.std.proofs.Common.{◌≡◌, ◌+◌, ◌-◌, ◌*◌, ◌≤◌, length, None}
-use Rattle.sym_shape.specs.Tree.{Tree}
-use Rattle.sym_link.specs.Following.{IsShape, IsDriving}
-use Rattle.sym_link.specs.Linking.{KeepsAllRoom}
+use Rattle.sym_link.proofs.Basics.{◌≡◌, ◌+◌, ◌-◌, ◌*◌, ◌≤◌, length, None, Tree, IsShape, IsDriving, KeepsAllRoom}
 use Rattle.sym_link.proofs.driver.Driver.run.Given as goal
 
 abbrev pub invariant-moves : goal.invariant-moves

@@ -1,8 +1,5 @@
-use Rattle.std.proofs.Common.{refl, ◌∙◌, ap, Ok, arith, Bool, true, false}
-use Rattle.sym_core.specs.declared.refusal.Refusal.TheVariants.{Memory as memory}
-use Rattle.sym_shape.proofs.Keeping.{never_both, never_ok, never_err, never_true}
+use Rattle.sym_link.proofs.Basics.{refl, ◌∙◌, ap, Ok, arith, Bool, true, false, Memory as memory, never_both, never_ok, never_err, never_true, TokenTakesMemory, all_lists}
 use Rattle.sym_link.proofs.Driving.{driving_on, step_moved, step_done, step_refused, refused_answer, none_kept}
-use Rattle.sym_link.specs.Linking.{TokenTakesMemory, all_lists}
 use Rattle.sym_link.proofs.Room.{room_same, only_refused}
 use Rattle.sym_link.proofs.driver.Driver.step.Goals as goal
 

@@ -1,5 +1,4 @@
-use Rattle.std.proofs.Common.{sym, ◌∙◌}
-use Rattle.std.proofs.lemmas.Bool.{eqb-true}
+use Rattle.sym_print.proofs.Basics.{sym, ◌∙◌, eqb-true}
 use Rattle.sym_print.proofs.notes.Notes.is_whole.Goals as goal
 
 pub returns-in-Some-clause-whole : goal.returns-in-Some-clause-whole

@@ -1,6 +1,4 @@
-use Rattle.std.proofs.Common.{◌≡◌, ◌<◌, refl, arith, inl, length, subst, sym, ◌∙◌, []}
-use Rattle.sym_shape.specs.Frame.{HasLast}
-use Rattle.sym_shape.specs.Reader.{to_do}
+use Rattle.sym_shape.proofs.Basics.{◌≡◌, ◌<◌, refl, arith, inl, length, subst, sym, ◌∙◌, [], HasLast, to_do}
 use Rattle.sym_shape.proofs.Frames.{end_open, frame_ends, frame_behind, all_done}
 use Rattle.sym_shape.proofs.Moves.{same_length}
 use Rattle.sym_shape.proofs.Steps.{all_begins}

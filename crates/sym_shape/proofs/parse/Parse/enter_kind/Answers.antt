@@ -1,8 +1,4 @@
-use Rattle.std.proofs.Common.{◌≡◌, ◌+◌, IfSome, ap, arith, length, length-append, subst, sym, ◌∙◌}
-use Rattle.sym_shape.specs.Table.{symbols_of}
-use Rattle.sym_shape.specs.Reading.{lone_rows}
-use Rattle.sym_shape.specs.Reader.{IsWholeToken}
-use Rattle.sym_shape.specs.Room.{room_of}
+use Rattle.sym_shape.proofs.Basics.{◌≡◌, ◌+◌, IfSome, ap, arith, length, length-append, subst, sym, ◌∙◌, symbols_of, lone_rows, IsWholeToken, room_of}
 use Rattle.sym_shape.proofs.Frames.{IsFramed, frame_rule, frame_lone, frame_empty, next_kind, lone_within, rule_within}
 use Rattle.sym_shape.proofs.Steps.{takes_none}
 use Rattle.sym_shape.proofs.parse.Parse.enter_kind.Goals as goal

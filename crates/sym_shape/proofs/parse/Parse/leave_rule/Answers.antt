@@ -1,5 +1,4 @@
-use Rattle.std.proofs.Common.{arith, length, subst}
-use Rattle.sym_shape.specs.Frame.{HasLast}
+use Rattle.sym_shape.proofs.Basics.{arith, length, subst, HasLast}
 use Rattle.sym_shape.proofs.Frames.{frame_ends}
 use Rattle.sym_shape.proofs.Moves.{same_length}
 use Rattle.sym_shape.proofs.parse.Parse.leave_rule.Goals as goal

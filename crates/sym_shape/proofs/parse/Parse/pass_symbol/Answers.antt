@@ -1,6 +1,4 @@
-use Rattle.std.proofs.Common.{arith, length, subst, ◌∙◌}
-use Rattle.sym_shape.specs.Frame.{HasNext}
-use Rattle.sym_shape.specs.Reader.{to_do}
+use Rattle.sym_shape.proofs.Basics.{arith, length, subst, ◌∙◌, HasNext, to_do}
 use Rattle.sym_shape.proofs.Frames.{frame_byte, frame_token}
 use Rattle.sym_shape.proofs.Steps.{token_within, at_most_rows}
 use Rattle.sym_shape.proofs.parse.Parse.pass_symbol.Goals as goal

@@ -1,5 +1,4 @@
-use Rattle.std.proofs.Common.{refl, inl, inr, arith, ◌∙◌, sym}
-use Rattle.sym_shape.specs.Reader.{to_do}
+use Rattle.sym_shape.proofs.Basics.{refl, inl, inr, arith, ◌∙◌, sym, to_do}
 use Rattle.sym_shape.proofs.Steps.{all_begins, both_not}
 use Rattle.sym_shape.proofs.Frames.{frame_byte, frame_byte_refused}
 use Rattle.sym_shape.proofs.parse.Parse.read_byte.Goals as goal

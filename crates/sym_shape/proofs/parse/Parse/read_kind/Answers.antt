@@ -1,9 +1,5 @@
-use Rattle.std.proofs.lemmas.Result.{err_from_is_err_and}
-use Rattle.std.proofs.Common.{◌≡◌, IfSome, refl, sym, subst, ◌+◌}
-use Rattle.sym_shape.specs.Table.{symbols_of}
-use Rattle.sym_shape.specs.Reader.{to_do}
+use Rattle.sym_shape.proofs.Basics.{err_from_is_err_and, ◌≡◌, IfSome, refl, sym, subst, ◌+◌, symbols_of, to_do, room_of}
 use Rattle.sym_shape.proofs.Steps.{all_begins, both_not, out_of_memory, memory_passed}
-use Rattle.sym_shape.specs.Room.{room_of}
 use Rattle.sym_shape.proofs.Frames.{IsFramed, frame_rule, next_kind, rule_within}
 use Rattle.sym_shape.proofs.parse.Parse.read_kind.Goals as goal
 

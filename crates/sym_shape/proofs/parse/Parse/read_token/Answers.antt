@@ -1,7 +1,4 @@
-use Rattle.std.proofs.lemmas.Result.{err_from_is_err_and}
-use Rattle.std.proofs.Common.{refl, subst, arith}
-use Rattle.sym_shape.specs.Reading.{IsKnown}
-use Rattle.sym_shape.specs.Reader.{FindsToken}
+use Rattle.sym_shape.proofs.Basics.{err_from_is_err_and, refl, subst, arith, IsKnown, FindsToken}
 use Rattle.sym_shape.proofs.Frames.{frame_token, frame_token_refused, frame_found, frame_broken}
 use Rattle.sym_shape.proofs.Steps.{token_within, bad_within, same_ok, same_err, both_not, out_of_memory, memory_passed}
 use Rattle.sym_shape.proofs.parse.Parse.read_token.Goals as goal

@@ -1,7 +1,5 @@
 -- The parse fits the bytes, each step has made at most one row, and the lists hold no less.
-use Rattle.std.proofs.Common.{◌+◌, ◌-◌, ◌*◌, length}
-use Rattle.sym_shape.specs.Reader.{IsParsing, MakeRows}
-use Rattle.sym_shape.specs.Room.{KeepsRoom, StaysWithin, room_of}
+use Rattle.sym_shape.proofs.Basics.{◌+◌, ◌-◌, ◌*◌, length, IsParsing, MakeRows, KeepsRoom, StaysWithin, room_of}
 use Rattle.sym_shape.proofs.parse.Parse.run.Given as goal
 
 abbrev pub invariant-steps : goal.invariant-steps

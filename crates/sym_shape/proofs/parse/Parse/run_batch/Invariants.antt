@@ -1,7 +1,5 @@
 -- The parse fits the bytes up to its place, each step has made at most one row, and the lists hold no less.
-use Rattle.std.proofs.Common.{◌+◌, ◌-◌, ◌*◌, ◌≤◌, length}
-use Rattle.sym_shape.specs.Reader.{IsParse, to_do}
-use Rattle.sym_shape.specs.Room.{KeepsRoom, StaysWithin, room_of}
+use Rattle.sym_shape.proofs.Basics.{◌+◌, ◌-◌, ◌*◌, ◌≤◌, length, IsParse, to_do, KeepsRoom, StaysWithin, room_of}
 use Rattle.sym_shape.proofs.parse.Parse.run_batch.Given as goal
 
 abbrev pub invariant-moves : goal.invariant-moves

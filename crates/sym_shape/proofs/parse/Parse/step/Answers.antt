@@ -1,6 +1,4 @@
-use Rattle.std.proofs.Common.{subst}
-use Rattle.sym_shape.specs.Reader.{FindsToken}
-use Rattle.sym_shape.specs.declared.rule.Sym.TheVariants.{Name}
+use Rattle.sym_shape.proofs.Basics.{subst, FindsToken, Name}
 use Rattle.sym_shape.proofs.parse.Parse.step.Goals as goal
 
 pub read_token-requires-in-Some-Number-clause-found : goal.read_token-requires-in-Some-Number-clause-found

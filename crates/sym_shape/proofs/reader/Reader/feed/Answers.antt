@@ -1,5 +1,4 @@
-use Rattle.std.proofs.Common.{ap, ◌∙◌, arith, length}
-use Rattle.sym_shape.specs.Fed.{Fed}
+use Rattle.sym_shape.proofs.Basics.{ap, ◌∙◌, arith, length, Fed}
 use Rattle.sym_shape.proofs.Feeding.{unrefused, fed_more}
 use Rattle.sym_shape.proofs.reader.Reader.feed.Goals as goal
 

@@ -1,5 +1,4 @@
-use Rattle.std.proofs.Common.{ap, sym, ◌∙◌}
-use Rattle.sym_shape.specs.Fed.{Fed}
+use Rattle.sym_shape.proofs.Basics.{ap, sym, ◌∙◌, Fed}
 use Rattle.sym_shape.proofs.Feeding.{fed_rows, same_rows, fed_steps, same_steps}
 use Rattle.sym_shape.proofs.reader.Reader.finish.Goals as goal
 

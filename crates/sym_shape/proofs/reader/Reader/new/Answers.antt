@@ -1,5 +1,4 @@
-use Rattle.std.proofs.Common.{refl, ap, length, ◌∙◌}
-use Rattle.sym_shape.specs.Reading.{entries_of}
+use Rattle.sym_shape.proofs.Basics.{refl, ap, length, ◌∙◌, entries_of}
 use Rattle.sym_shape.proofs.Feeding.{fed_start, same_fed, same_room, made_fed}
 use Rattle.sym_shape.proofs.reader.Reader.new.Goals as goal
 

@@ -1,6 +1,4 @@
-use Rattle.std.proofs.Common.{refl, ap, length, ◌∙◌}
-use Rattle.sym_shape.specs.Fed.{Fed}
-use Rattle.sym_shape.specs.Reading.{entries_of}
+use Rattle.sym_shape.proofs.Basics.{refl, ap, length, ◌∙◌, Fed, entries_of}
 use Rattle.sym_shape.proofs.Feeding.{fed_start, same_fed, same_room}
 use Rattle.sym_shape.proofs.reader.Reader.reset.Goals as goal
 

@@ -1,8 +1,4 @@
-use Rattle.std.proofs.Common.{◌∙◌, refl, sym, ap, subst, arith, Err}
-use Rattle.sym_core.specs.declared.refusal.Refusal.TheVariants.{Memory as memory}
-use Rattle.sym_shape.specs.Tree.{BeginsWellShaped}
-use Rattle.sym_shape.specs.Reader.{IsRun}
-use Rattle.sym_shape.specs.Fed.{Fed, IsReason}
+use Rattle.sym_shape.proofs.Basics.{◌∙◌, refl, sym, ap, subst, arith, Err, Memory as memory, BeginsWellShaped, IsRun, Fed, IsReason}
 use Rattle.sym_shape.proofs.Feeding.{unrefused, fed_begins, run_reason, fed_run_stops}
 use Rattle.sym_shape.proofs.Keeping.{never_both, never_err, never_done}
 use Rattle.sym_shape.proofs.reader.Reader.run.Goals as goal

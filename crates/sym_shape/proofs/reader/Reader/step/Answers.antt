@@ -1,8 +1,4 @@
-use Rattle.std.proofs.Common.{◌≡◌, ◌&&◌, ◌∙◌, refl, sym, ap, subst, arith, Bool, true, false, Err}
-use Rattle.sym_core.specs.declared.refusal.Refusal.TheVariants.{Memory as memory}
-use Rattle.sym_shape.specs.Tree.{BeginsWellShaped}
-use Rattle.sym_shape.specs.Reader.{IsAdvance}
-use Rattle.sym_shape.specs.Fed.{Fed, IsReason}
+use Rattle.sym_shape.proofs.Basics.{◌≡◌, ◌&&◌, ◌∙◌, refl, sym, ap, subst, arith, Bool, true, false, Err, Memory as memory, BeginsWellShaped, IsAdvance, Fed, IsReason}
 use Rattle.sym_shape.proofs.Feeding.{unrefused, fed_begins, step_reason, fed_stops}
 use Rattle.sym_shape.proofs.Keeping.{never_both, never_ok, never_err, never_false, never_true, never_done}
 use Rattle.sym_shape.proofs.reader.Reader.step.Goals as goal
