@@ -21,7 +21,7 @@ CLAUSE, TYPE = re.compile(PUBLIC + r"(requires|ensures|ghost(?! use\b))\b"), re.
 LITERAL = re.compile(r"b?'(\\.|[^'\\])'|b?\"(\\.|[^\"\\])*\"")
 
 def braces(text):
-    """How many braces are open behind a text."""
+    """How many braces are open at the end of a text."""
     return text.count("{") - text.count("}")
 
 def owner_of(text):
