@@ -1,4 +1,4 @@
--- What proofs use of the libraries and of this crate's definitions, in one place to import it from.
+-- The library lemmas that proofs use, and this crate's definitions, exported from one place.
 pub use Rattle.std.proofs.Common.{Bool, Err, Fits, List, None, Ok, Option, Result, Some, [], ap, append-nil, append_assoc, arith, bit_or, codes, cond, drop, eqb-true, false, get_or, if◌then◌else◌, inl, inr, is_some, length, length-append, ltb, map, nat_eq, nat_le, nat_lt, not, refl, replicate, reverse, slice_get, subst, suc, sym, take, true, w8, zero, ℕ, ◌%◌, ◌&&◌, ◌*◌, ◌++◌, ◌+◌, ◌-◌, ◌<◌, ◌==◌, ◌^◌, ◌||◌, ◌∙◌, ◌∷◌, ◌≡◌, ◌≢◌, ◌≤◌, ◌⊎◌}
 pub use Rattle.std.proofs.Math.Nat.{pow-le-pow_right, zero-add}
 pub use Rattle.std.proofs.Math.Seq.{drop-append_seam, drop-cons, get_or-append_seam, take-append-add, take-append_seam}

@@ -1,4 +1,5 @@
--- What is computed for each letter of a list holds for one of them: letters with texts, codes of two letters, operators' codes.
+-- A test that is computed for each item of a list holds of any one item: letters with texts, codes of two letters,
+-- operators' codes.
 use Rattle.cpp_direct.proofs.Basics.{◌≡◌, ℕ, ◌<◌, List, [], ◌∷◌, Bool, true, false, ◌||◌, ◌&&◌, nat_eq, slice_get, Option, Some, None, refl, ap, sym, subst, ◌∙◌, ltb, ◌≢◌, ◌⊎◌, inl, inr, Ok, arith, false≢true, eqb-true, ltb-true, and_parts, alternatives, among, between, builtin_texts, choose, close, Continuation, Forest, found, in_ranges, is_chain, is_in, Kind, look_up, meaning, Naming, number_of, number_of_kind, opening, Operation, operator, operator_or_literal, operator_texts, parts_of, pick, Production, productions, same_bytes, integer_letters, State, Around, letter, piece, letter_of, part, same_choice, kept, Sym, unfolding_behind}
 
 -- each of the bytes passes a test
@@ -6,7 +7,7 @@ unfoldable pub each_passes : (ℕ → Bool) → List ℕ → Bool
 each_passes test [] = true
 each_passes test (c ∷ cs) = test c && each_passes test cs
 
--- each byte among them passes the test
+-- each byte of the list passes the test
 pub tested : (cs : List ℕ) (test : ℕ → Bool) → each_passes test cs ≡ true → (byte : ℕ) → among cs byte ≡ true → test byte ≡ true
 unfolding among each_passes
 tested [] test all byte is = absurd (false≢true is)
@@ -110,7 +111,8 @@ second_kind Production.OperatorI = Some Kind.OperatorAfterI
 second_kind Production.OperatorG = Some Kind.OperatorAfterG
 second_kind _ = None
 
--- A production takes the first letter of an operator, and its one part is of the kind of the second.
+-- A production takes the first letter of an operator, and the production's one part is of the kind of the second
+-- letter.
 pub record TakesFirst (p : Production) (kind : Kind) : Type 0 where
   pub parts : parts_of p ≡ Sym.Kind (number_of_kind kind) ∷ []
   pub chain : is_chain p ≡ false
@@ -184,7 +186,7 @@ is_component first second = (nat_eq first 99 && is_mark (choose Kind.OperatorAft
 is_code : ℕ → ℕ → Bool
 is_code first second = ((is_byte first && is_byte second) && is_code_by (choose Kind.Operator first) second) && is_component first second
 
--- The two letters are read as that operator.
+-- The two letters are read as the code of an operator.
 pub record IsOperator (first second : ℕ) : Type 0 where
   pub production : Production
   pub kind : Kind

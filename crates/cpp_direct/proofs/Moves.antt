@@ -192,7 +192,7 @@ pub hole-of : {s : Symbol} {kind : Kind} {around : Around} {at : ℕ} {st : Stat
     → Hole s (OfKind (number_of_kind kind)) around a.inner at st
 hole-of a = record { expects = a.awaits }
 
--- a hole expects its part, if the reader's continuation after that is known
+-- a hole expects its part, if the reader's continuation after this part is known
 pub awaited : {s : Symbol} {kind : Kind} {around : Around} {os : List Opened} {at : ℕ} {st : State} {Onward : List Opened → Type 0}
     → Hole s (OfKind (number_of_kind kind)) around os at st → Onward os → Awaits s kind around at st Onward
 awaited {os = os} h onward = record { inner = os; awaits = h.expects; onward = onward }
@@ -241,7 +241,7 @@ is_eater choice p byte = takes p choice && (is_small byte && (not (is_chain p) &
 unfoldable pub is_leaver : Option Production → Production → ℕ → Bool
 is_leaver choice p byte = takes p choice && (is_small byte && (is_chain p && is_untested p))
 
--- likewise by the ABI's grammar
+-- by the ABI's grammar, a production is taken at a byte, which it consumes
 unfoldable pub is_eaten : Kind → Production → ℕ → Bool
 unfolding is_eater takes is_small is_untested choose alternatives pick is_in in_ranges among is_chain number_of
 is_eaten kind p byte = is_eater (choose kind byte) p byte
@@ -276,7 +276,7 @@ leaves s kind p byte is =
       begins = begins-untested p third.1;
     }
 
--- likewise by the wide grammar
+-- by the wide grammar, a production is taken at a byte, which it consumes
 unfoldable pub is_eaten_widely : Kind → Production → ℕ → Bool
 unfolding is_eater takes is_small is_untested wide_choose wide_alternatives pick is_in in_ranges among is_chain number_of
 is_eaten_widely kind p byte = is_eater (wide_choose kind byte) p byte
@@ -402,7 +402,7 @@ first-named around piece st first = ap (λ x. named_so_far around (extended x pi
 
 -- ## Kinds with more alternatives
 
--- where a kind with more trees is expected, so is a kind with fewer
+-- where a kind with more trees is expected, a kind with fewer trees is expected, too
 pub fewer : {s : Symbol} {x y : Sym} {around : Around} {os : List Opened} {at : ℕ} {st : State}
     → ((t : Tree) → IsTree (table_by s.is_wide) y t → IsTree (table_by s.is_wide) x t) → Hole s x around os at st → Hole s y around os at st
 fewer same h = record {

@@ -100,7 +100,7 @@ guard-opens s os around at st expects stands =
     let name = byte-opens (eats s Kind.SpecialAfterG q 86 refl) (other-expected s os around at st expects places.0) places.1 refl refl in
     awaited (hole-at (at + 2) name (omega arith)) (λ v here now comes. (closes Production.OtherSpecial (closes q (fill name v here now comes) refl) refl).comes)
 
--- in the wide grammar a clone begins with GT and its letter, and expects the encoding that it is a clone of
+-- in the wide grammar a clone begins with GT and its letter, and expects the encoding that was cloned
 pub clone-opens : (s : Symbol) (os : List Opened) (around : Around) (b at : ℕ) (st : State) → s.is_wide ≡ true → is_eaten Kind.CloneLetter Production.Mark b ≡ true
     → Expects s Kind.Encoding around os at st → StandsAt s.bytes at (71 ∷ 84 ∷ b ∷ []) → BaseOpened s os at (clone b) (at + 3) st
 unfolding is_eaten is_eaten_widely number_of_kind parts_of between close unfolding_behind meaning part byte_of tree_of text_of piece_of letter_of is_there
@@ -115,7 +115,8 @@ clone-opens s os around b at st wide is expects stands =
 
 -- ## Names
 
--- the parts of a nested name: it is const if its third part is present, and called on what its fourth says
+-- the parts of a nested name: the function is const if the third part is present, and the fourth part says what the
+-- function is called on
 nest-goes : (s : Symbol) (os : List Opened) (around : Around) (q r : Value) (at : ℕ) (st : State) (here : ℕ) (now : State)
     → Filled s (opened (standing (rule_of Production.NestedName) (78 ∷ []) at around st) (nothing_there ∷ nothing_there ∷ q ∷ [])
     (Sym.Kind (number_of_kind Kind.Nest) ∷ []) ∷ os) r here now
@@ -136,7 +137,7 @@ unfolding is_there
 quality-is true = refl
 quality-is false = refl
 
--- a nested name begins with an N, and its qualifiers after it; the H of a function with an explicit object is none of them
+-- a nested name begins with an N and its qualifiers, which exclude the H of a function with an explicit object
 nested-opens : (s : Symbol) (kind : Kind) (os : List Opened) (around : Around) (const : Bool) (on : RefQualifier) (at : ℕ) (st : State)
     → is_eaten kind Production.NestedName 78 ≡ true → on ≢ explicit_object → Expects s kind around os at st → StandsAt s.bytes at (nest_marks const on)
     → NestOpened s os around const on (at + length (nest_marks const on)) st
@@ -164,7 +165,7 @@ nested-opens s kind os around const on at st taken other expects stands = go on 
         next-part Production.NestedName (filled-at (at + 2) const_ (omega arith)) refl
     ref-awaited false there = next-part Production.NestedName (none-fills Kind.MaybeConst (const-awaited there) refl) refl
 
-    -- with the letter of a ref-qualifier, which is this byte
+    -- likewise with a ref-qualifier that has this letter
     referred : (byte : ℕ) → is_eaten Kind.MaybeRef Production.Mark byte ≡ true → StandsAt s.bytes at (78 ∷ (const_letter const ++ byte ∷ []))
         → NestOpened s os around const (mark_of (letter byte)) (at + length (78 ∷ (const_letter const ++ byte ∷ []))) st
     referred byte taken there =
@@ -314,7 +315,7 @@ symbol-expected s bytes vs end reads stands =
     ap (λ n. take n s.bytes) (zero-add (length bytes)) ∙ ap (take (length bytes)) stands.1 ∙ take-append_seam bytes stands.0 in
     subst (λ l. direct.Reads (cpp_language s) s.bytes (Sym.Kind SYMBOL) first_around 0 l first_state vs end) (sym front) reads
 
--- what was read is the symbol
+-- the tree that was read is what the symbol denotes
 symbol-read : (s : Symbol) (t : Term) (end : State) → Comes s [] (tree t true) (length s.bytes) end → StandsFor (mangled_of s) s.bytes (Ok t)
 unfolding unfold_cpp first_tree tree_of number_of_kind
 symbol-read s t end reads =

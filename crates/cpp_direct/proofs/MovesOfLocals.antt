@@ -249,7 +249,7 @@ pub record LambdaOpened (s : Symbol) (becomes : Term → (at : ℕ) → State �
   pub awaits : Expects s Kind.Item around inner at st
   pub onward : (t : Term) (at : ℕ) (st : State) → Comes s inner (tree t true) at st → ItemsGoOn s nowhere (LambdaEnds s becomes) (λ l. l) (t ∷ []) at st
 
--- where no argument is known, parameters name none
+-- where no argument is known, parameters name no arguments
 pub nowhere-scoped : (around : Around) → HasScope nowhere around
 nowhere-scoped around = (λ placed. absurd (placed refl), λ k single. absurd (none-known k single.0), λ e. cc e)
 

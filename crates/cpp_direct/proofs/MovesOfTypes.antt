@@ -22,7 +22,7 @@ unfolding close unfolding_behind meaning listed_value with_type with_unqualified
 qualified-closes around at before t true st other = rw other refl
 qualified-closes around at before t false st other = rw other refl
 
--- where a type that may have a qualifier is expected, a plain type is chosen, and at a K a const type
+-- a type that may have a qualifier is read as a plain type or, at a K, as a const type
 whole-taken : (kind : Kind) → IsQualifiable kind → (is_left kind Production.PlainType 80 ≡ true) × (is_eaten kind Production.ConstType 75 ≡ true)
 unfolding is_eaten is_left
 whole-taken Kind.Type whole = (refl, refl)
@@ -37,7 +37,7 @@ typed Kind.Item is = tt
 typed Kind.ItemButRef is = tt
 typed _ is = absurd is
 
--- A solid type is expected where a whole one is, function type or not.
+-- A solid type is expected where a whole type is; it may be a function type or not.
 abbrev pub WholeOpens : (s : Symbol) (outer : List Opened) (around : Around) (at : ℕ) (st : State) → Type 0
 WholeOpens s outer around at st = Awaits s Kind.Solid around at st (λ inner.
     (t : Term) (listed : Bool) (end : ℕ) (now : State) → Comes s inner (tree t listed) end now
@@ -171,7 +171,7 @@ const-opens s kind around os at st typed expects stands =
 
 -- ## Names of types
 
--- a name of a type was read, by a production whose last part is its arguments
+-- a name of a type was read, by a production whose last part is the name's arguments
 named-so : (s : Symbol) (around : Around) (os inner : List Opened) (t : Term) (listed : Bool) (at : ℕ) (st : State) (solid : List Opened)
     → TreePasses s solid os around → Expects s Kind.ArgumentsAlone (after t listed around) inner at st
     → ((end : ℕ) (now : State) → Comes s inner nothing_there end now → Comes s solid (tree t listed) end now)
@@ -185,7 +185,7 @@ named-so s around os inner t listed at st solid passes awaits bare argued = reco
   argued = λ a end now comes. passes (instance t a) false end now refl (argued a end now comes);
 }
 
--- the names of types are chosen where one is expected: after an N, an S or a Z, or with their length
+-- a name of a type is chosen where one is expected: after an N, an S or a Z, or with its length
 pub named-taken : (kind : Kind) → IsNamedKind kind → (is_left kind Production.SourceName 48 ≡ true) × (is_eaten kind Production.TypeWithS 83 ≡ true)
     × (is_eaten kind Production.NestedType 78 ≡ true) × (is_eaten kind Production.LocalType 90 ≡ true)
 unfolding is_eaten is_left
@@ -265,7 +265,7 @@ abbreviation-opens s kind around os at st letter is_named is solid stands =
     behind-s-named s kind around os at st (abbreviation letter) (at + 2) is_named
     (λ inner h. filled-at (at + 2) (abbreviation-fills letter is h both.1) (omega arith)) solid both.0
 
--- a type that names no pack in a scope names none where that is the scope
+-- a type that names no pack among the arguments of a scope names no pack in the scope
 pub no-pack-named : (scope : Option Term) (t : Term) → ((arguments : Term) → scope ≡ Some arguments → pack_length arguments t ≡ None) → packs_in scope t ≡ None
 unfolding packs_in
 no-pack-named None t none = refl
@@ -283,7 +283,7 @@ substituted-so around place c st no_module closed none = ap (λ m. whole m (is_o
       | false ↦ with_packs place around.in_expansion packs st >>= λ s. Ok (found (tree c.tree true) s)
     ]
 
--- a substitution for a type that names parameters is found, in the encoding that the type was made in
+-- a substitution for a type that names parameters is found within the encoding that the type was made in
 pub substituted-open : (around : Around) (place : ℕ) (c : Candidate) (st : State) → is_module c.tree ≡ false → c.encoding ≡ around.encoding → around.in_lambda ≡ false
     → packs_in around.scope c.tree ≡ None → substituted around place (Some c) st ≡ Ok (found (tree c.tree true) st)
 unfolding substituted with_packs
@@ -354,7 +354,7 @@ plain-array-opens s kind os around at st digits end whole expects stands is =
     awaited type (λ u here now comes. w.onward (array (values.normal digits) u) false here now
     (closes Production.ArrayType (closes Production.AnyArray (closes p (fill type (tree u true) here now comes) refl) refl) refl).comes)
 
--- likewise where the array is behind a pointer or a reference
+-- likewise for a pointer or a reference to an array
 pub array-opens : (s : Symbol) (access : Access) (kind : Kind) (os : List Opened) (around : Around) (at : ℕ) (st : State) (digits : List ℕ) (end : ℕ)
     → IsQualifiable kind → (access ≡ Access.Lvalue → IsReferable kind) → Expects s kind around os at st → StandsAt s.bytes at (access_letters access)
     → IsSizeAt s.bytes (at + length (access_letters access)) digits end → ArrayOpened s os around access digits end st
@@ -397,7 +397,7 @@ function-opens s kind os around at st whole outside expects stands =
       passes = λ l there then_ last. w.onward (plain_function r l) false there then_ (closes p (fill rest (signature l any_value) there then_ last) refl).comes;
     })
 
--- after PF the return type of the function type pointed to is expected
+-- the return type of a function type that is pointed to is expected after its PF
 pub pointed-function-opens : (s : Symbol) (kind : Kind) (os : List Opened) (around : Around) (at : ℕ) (st : State) → IsQualifiable kind
     → around.prefix ≡ outermost → Expects s kind around os at st → StandsAt s.bytes at (80 ∷ 70 ∷ []) → FunctionOpened s os around true (at + 2) st
 pointed-function-opens s kind os around at st whole outside expects stands =
@@ -417,7 +417,7 @@ pointed-function-opens s kind os around at st whole outside expects stands =
       };
     }
 
--- parameters continue after one of them
+-- parameters continue after one of them is read
 parameters-go-on : {s : Symbol} {outer : List Opened} {made_in : Around} {is_pointer : Bool} {made : Term → Term} {at : ℕ} {st : State} {t : Term}
     (g : SignatureGoesOn s outer made_in is_pointer made at st) {inner : List Opened} {here : ℕ} {now : State}
     → Hole s (Sym.Kind (number_of_kind Kind.FunctionRest)) g.around inner here now
@@ -456,7 +456,7 @@ signature-ends s outer made_in is_pointer made at st g stands =
 
 -- ## References as parameters
 
--- After the letter of a reference expects the referenced type; parameters continue after it.
+-- Expects the referenced type after the letter of a reference; the parameters continue after that type.
 referred : {s : Symbol} {outer : List Opened} {made_in : Around} {is_pointer : Bool} {made : Term → Term} {at : ℕ} {st : State}
     (g : SignatureGoesOn s outer made_in is_pointer made at st) (is_lvalue : Bool) (item : Production) {os : List Opened}
     → Hole s (Sym.Kind (number_of_kind Kind.Type)) g.around
@@ -486,7 +486,7 @@ referred {s = s} {at = at} {st = st} g is_lvalue item {os = os} type goes same e
           (λ l there then_ last. ended (list u l) there then_ (closes p last refl));
     }
 
--- expects a parameter that is a reference, after its letter
+-- a parameter that is a reference begins with its letter, and expects the referenced type
 pub reference-opens : (s : Symbol) (outer : List Opened) (made_in : Around) (is_pointer is_lvalue : Bool) (made : Term → Term) (at : ℕ) (st : State)
     → SignatureGoesOn s outer made_in is_pointer made at st → StandsAt s.bytes at (reference_letter is_lvalue ∷ [])
     → ReferenceOpened s outer made_in is_pointer is_lvalue made at st

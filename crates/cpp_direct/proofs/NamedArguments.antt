@@ -9,7 +9,7 @@ abbrev single_text : (is_single : Bool) → Named → Option Named
 single_text true own = Some own
 single_text false own = None
 
--- the argument with this number is known, and no element of the pack
+-- the argument with this number is known, and is no element of the pack
 abbrev is_single : Arguments → (number : ℕ) → Bool
 is_single a number = nat_lt number a.count && (not a.has_pack || nat_lt number a.before)
 
@@ -17,7 +17,7 @@ is_single a number = nat_lt number a.count && (not a.has_pack || nat_lt number a
 abbrev own_at : (text : List ℕ) → Argument → Named
 own_at text p = record { bytes = take (p.to - p.from) (drop p.from text); reference = p.is_reference }
 
--- likewise by number, if the argument is known and no element of the pack
+-- the text at the place of the argument with this number, if the argument is known and is no element of the pack
 abbrev names_at : (text : List ℕ) → Arguments → Names
 names_at text a number = single_text (is_single a number) (own_at text (place_of a number))
 
@@ -34,7 +34,7 @@ by-single k count before has e =
     let h = and_parts (nat_lt k count) (not has || nat_lt k before) e in
     (ltb-true k count h.0, λ is. ltb-true k before (subst (λ b. not b || nat_lt k before ≡ true) is h.1))
 
--- a text that is at its place is found there
+-- an argument's text that is at the argument's place is found by the argument's number
 text-there : (text : List ℕ) (a : Arguments) (number : ℕ) (bytes : List ℕ) → IsSingle a number → IsPlaced text (place_of a number) bytes
     → names_at text a number ≡ Some (record { bytes = bytes; reference = (place_of a number).is_reference })
 text-there text a number bytes single placed =
@@ -43,7 +43,7 @@ text-there text a number bytes single placed =
     let named : List ℕ → Option Named = λ l. Some (record { bytes = l; reference = p.is_reference }) in
     ap (λ b. single_text b (own_at text p)) (single-by number a.count a.before a.has_pack single.0 single.1) ∙ ap named found.2
 
--- an argument that has a text is known, and no element of the pack
+-- an argument that has a text is known, and is no element of the pack
 text-single : (text : List ℕ) (a : Arguments) (number : ℕ) (n : Named) → names_at text a number ≡ Some n
     → IsSingle a number × (own_at text (place_of a number) ≡ n)
 text-single text a number n e =
@@ -72,7 +72,7 @@ arguments-given {detail} text a own has number n is =
 
 -- ## Where they may be named from
 
--- a candidate that was made where no argument may be named names none
+-- a candidate names no argument if it was made where no argument may be named
 candidate-given : (s : Symbol) (scope : Scope) (text : List ℕ) (k : Candidate) (c : values.Candidate) → IsCandidate s no_scope text k c → IsCandidate s scope text k c
 candidate-given s scope text k c p = record {
   bytes = p.bytes;

@@ -8,7 +8,7 @@ use Rattle.cpp_grammar.specs.Values as values
 
 -- ## What types may name
 
--- types in a nested name that continues may name the same as before
+-- types in a nested name that continues may name the same arguments as before
 pub nest-scoped : (s : Symbol) {scope : Scope} (old new : Direct) (around : Around) → new.waiting.list.items ≡ old.waiting.list.items
     → new.nest.purpose ≡ old.nest.purpose → new.nest.is_dependent ≡ old.nest.is_dependent → IsNestScoped s scope old around → IsNestScoped s scope new around
 nest-scoped s {scope} old new around waiting_is purpose_same dependent_same n = record {
@@ -16,7 +16,7 @@ nest-scoped s {scope} old new around waiting_is purpose_same dependent_same n = 
   naming = λ e. subst (λ (o : List Open). IsNaming scope (reverse o)) (sym waiting_is) (n.naming (sym dependent_same ∙ e));
 }
 
--- types in a nested name that begins may name what types may name at its beginning
+-- types in a nested name may name what types may name where the nested name begins
 nest-placed : (s : Symbol) {scope : Scope} (old new : Direct) (around : Around) (purpose : Purpose)
     → (is_type purpose ≡ true → IsScoped scope around (reverse old.waiting.list.items)) → new.waiting ≡ old.waiting → new.nest.purpose ≡ purpose
     → (new.nest.is_dependent ≡ true → IsNaming scope (reverse old.waiting.list.items)) → IsNestScoped s scope new around

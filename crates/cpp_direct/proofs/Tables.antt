@@ -52,7 +52,7 @@ unfolding rule_taken
 rule-same None big rule same is = let clash : None ≡ Some rule = is in absurd cc
 rule-same (Some p) big rule same is = ap rule_taken (kept (Some p) big p same refl) ∙ is
 
--- a kind with more alternatives, in whichever order, has all trees of a kind that has fewer
+-- a kind that has all alternatives of another kind, in whichever order, has all trees of that kind
 grows : (j k : ℕ) (small big : Kind) → slice_get kinds j ≡ Some small → slice_get kinds k ≡ Some big
     → each_below 256 (λ b. same_choice (wide_choose small b) (wide_choose big b)) ≡ true → may_be_empty small ≡ may_be_empty big → (t : Tree)
     → IsTree wide (Sym.Kind j) t → IsTree wide (Sym.Kind k) t

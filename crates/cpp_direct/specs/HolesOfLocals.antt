@@ -28,7 +28,7 @@ IsDiscriminatorAt s at (by_digit digit) end = (48 ≤ digit) × (digit ≤ 57) �
 IsDiscriminatorAt s at (by_digits digits) end =
     (middle : ℕ) × StandsAt s at (95 ∷ 95 ∷ []) × IsDigitsAt s (at + 2) digits middle × StandsAt s middle (95 ∷ []) × (end ≡ middle + 1)
 
--- at the place are an E and an entity with this name and this discriminator, and `end` is the place after them
+-- an E and an entity with this name and this discriminator are at the place, and `end` is the place after them
 pub record IsEntityAt (s : List ℕ) (at : ℕ) (internal : Bool) (name : List ℕ) (digit : Discriminator) (end : ℕ) : Type 0 where
   pub first : StandsAt s at (69 ∷ [])
   pub letter : internal ≡ true → StandsAt s (at + 1) (76 ∷ [])
@@ -92,7 +92,7 @@ pub record EntityOpened (s : Symbol) (becomes : Term → (at : ℕ) → State �
   pub onward : (p : Term) (at : ℕ) (st : State) → Comes s inner (tree (within e p) false) at st → (digit : Discriminator) (end : ℕ)
       → IsDiscriminatorAt s.bytes at digit end → becomes (local_in e p digit) end st
 
--- Expects the encoding that contains a type, and after it the type.
+-- Expects the encoding that contains a type, and then the type.
 abbrev pub LocalTypeOpened : (s : Symbol) (outer : List Opened) (around : Around) (at : ℕ) (st : State) → Type 0
 LocalTypeOpened s outer around at st = Awaits s Kind.Encoding around at st (λ inner.
     (e : Term) (at : ℕ) (st : State) → Comes s inner (tree e true) at st → StandsAt s.bytes at (69 ∷ [])

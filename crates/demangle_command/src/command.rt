@@ -37,7 +37,7 @@ use text_details::Detailed;
 ///
 /// # Errors
 ///
-/// `Read` and `Write` where a stream failed, `Memory`. The bytes written are a beginning of those that a run without faults writes.
+/// `Read` and `Write` where a stream failed, and `Memory`. The bytes written are a beginning of those that a run without faults writes.
 pub fn run_over<S: Source, W: Sink, E: Sink>(
     alloc: Global,
     words: &[&[u8]],
@@ -222,7 +222,7 @@ fn is_gnu(spelling: Spelling) -> bool
     }
 }
 
-/// Does what the command line's parser found, with a demangler that follows all its options but those for spellings and escapes.
+/// Does what the command line's parser found, with a demangler that follows all options except those for spellings and escapes.
 fn run_spelled<D: Alike + Detailed + Copy + Drop, S: Source, W: Sink, E: Sink>(
     alloc: Global,
     demangler: D,
@@ -283,7 +283,7 @@ fn styled_of(options: Options) -> Styled
     Styled { style, languages }
 }
 
-/// Does what the command line's parser found, with a demangler that follows all its options but the one for escapes.
+/// Does what the command line's parser found, with a demangler that follows all options except the one for escapes.
 fn run_with<D: Alike + Detailed + Copy + Drop, S: Source, W: Sink, E: Sink>(
     alloc: Global,
     demangler: D,
@@ -317,7 +317,8 @@ fn run_with<D: Alike + Detailed + Copy + Drop, S: Source, W: Sink, E: Sink>(
     )
 }
 
-/// Does what the command line's parser found, if objects aren't requested, with a demangler that follows all its options but the one for escapes.
+/// Does what the command line's parser found, if objects aren't requested, with a demangler that follows all options except the one for
+/// escapes.
 fn run_lines<D: Alike + Copy + Drop, S: Source, W: Sink, E: Sink>(
     alloc: Global,
     demangler: D,

@@ -19,7 +19,8 @@ abbrev pub is_cpp : Lang → Bool
 is_cpp lang.Cpp = true
 is_cpp lang.Rust = false
 
--- The text of a C++ symbol is rewritten, but not that of a legacy Rust name where it is the path that the name denotes.
+-- The text of a C++ symbol is rewritten. That of a legacy Rust name isn't, where it is the text of the path that the
+-- name denotes.
 abbrev pub rewrites : (reads_paths : Bool) → Lang → List ℕ → Bool
 rewrites reads_paths mangling symbol = is_cpp mangling && not (reads_paths && is_some (legacy_of symbol))
 
@@ -31,7 +32,8 @@ abbrev pub rewritten_answer : (rewrites : Bool) → (rewritten : List ℕ → Li
 rewritten_answer rewrites rewritten (Ok text) = Ok (rewritten_text rewrites rewritten text)
 rewritten_answer rewrites rewritten (Err refusal) = Err refusal
 
--- the answers with rewritten texts, by the answers before; a symbol that is refused is refused for the same reason
+-- the answers with rewritten texts, given the answers without rewriting; a symbol that is refused is refused for the
+-- same reason
 abbrev pub rewritten_answers : (rewritten : List ℕ → List ℕ) → (reads_paths : Bool) → Answering → Answering
 rewritten_answers rewritten reads_paths answers kind symbol = rewritten_answer (rewrites reads_paths kind.lang symbol) rewritten (answers kind symbol)
 

@@ -1,4 +1,5 @@
-//! A demangler in front of another, which rewrites the texts of C++ symbols: makes them short, or spells them as GNU's demangler does.
+//! A demangler in front of another one. The one in front rewrites the texts of C++ symbols: it makes them short, or spells them as GNU's
+//! demangler does.
 #![tactic(auto)]
 
 mod gnu;

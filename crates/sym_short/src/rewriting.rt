@@ -20,7 +20,7 @@ pub trait Rewrites {
     /// Lists on which texts are rewritten, without memory so far.
     fn lists(alloc: Global) -> Self::Lists;
 
-    /// Whether a text may become another one.
+    /// Whether rewriting may change a text.
     fn may_rewrite(&self, text: &[u8]) -> bool
         ensures { result ≡ false → rewritten self.now text.now ≡ text.now };
 
@@ -28,7 +28,7 @@ pub trait Rewrites {
     ///
     /// # Errors
     ///
-    /// Where the lists can't grow. The text has no meaning then.
+    /// Refuses where the lists can't grow. The text has no meaning then.
     fn rewrite(
         &self,
         lists: &mut Self::Lists,
@@ -72,7 +72,7 @@ pub struct RewritingLists<D: Demangler, R: Rewrites> {
 }
 
 impl<D: Demangler, R: Rewrites> RewritingLists<D, R> {
-    /// The lists over those of a demangler.
+    /// The lists of a demangler, with new lists for rewriting.
     pub fn new(alloc: Global, lists: D::Lists) -> RewritingLists<D, R> {
         RewritingLists {
             lists,
@@ -92,12 +92,12 @@ impl<D, R: Rewrites> Rewriting<D, R> {
         }
     }
 
-    /// Whether a text of a symbol may become another one.
+    /// Whether rewriting may change the text of a symbol.
     fn may_rewrite(&self, kind: Kind, symbol: &[u8], text: &[u8]) -> bool
         ensures stays { result ≡ false → rewritten_text (rewrites self.now.reads_paths kind.lang symbol.now) (R.rewritten self.now.rewrite) text.now ≡ text.now }
         ensures asked { result ≡ true → rewrites self.now.reads_paths kind.lang symbol.now ≡ true }
     {
-        // most texts have nothing that becomes short, and whether a symbol is a legacy name takes longer to see
+        // most texts have nothing to shorten, and it takes longer to see whether a symbol is a legacy name
         if !self.rewrite.may_rewrite(text) {
             return false;
         }

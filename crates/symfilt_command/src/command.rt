@@ -28,7 +28,7 @@ use sym_short::{Rewriting, Shortening, Texts};
 ///
 /// # Errors
 ///
-/// `Read` and `Write` where a stream failed, `Memory`. The bytes written are a beginning of those that a run without faults writes.
+/// `Read` and `Write` where a stream failed, and `Memory`. The bytes written are a beginning of those that a run without faults writes.
 pub fn run_over<S: Source, W: Sink, E: Sink>(
     alloc: Global,
     words: &[&str],
@@ -59,7 +59,7 @@ pub fn run_over<S: Source, W: Sink, E: Sink>(
 ///
 /// # Errors
 ///
-/// Those of `filter_words`.
+/// The errors of `filter_words`.
 pub fn filter_asked<S: Source, W: Sink>(
     alloc: Global,
     filtering: Filtering,
