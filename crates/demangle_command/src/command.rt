@@ -28,7 +28,7 @@ use sym_filter::{
 use sym_languages::{Languages, Wide};
 use sym_recent::{Alike, Recent};
 use sym_short::{Gnu, Rewriting, Shortening, Texts};
-use text_colours::Colored;
+use text_colours::Coloring;
 use text_details::Detailed;
 
 /// Runs the program over an input and two outputs: writes the line of each name with its symbols replaced, or filters the input, if there
@@ -171,7 +171,10 @@ fn run_found<S: Source, W: Sink, E: Sink>(
     };
     let styled = styled_of(options);
     if shows_colors(options) {
-        let colored = Colored { demangler: styled };
+        let colored = Rewriting {
+            demangler: styled,
+            rewrite: Coloring { known: styled },
+        };
         return run_lines(alloc, colored, options, matches, terminal, input, out, err);
     }
     match options.texts {
@@ -179,8 +182,10 @@ fn run_found<S: Source, W: Sink, E: Sink>(
         Texts::Short { keeps_inline } => {
             let short = Rewriting {
                 demangler: styled,
-                rewrite: Shortening { keeps_inline },
-                reads_paths: options.style.reads_paths(),
+                rewrite: Shortening {
+                    keeps_inline,
+                    reads_paths: options.style.reads_paths(),
+                },
             };
             run_spelled(alloc, short, options, matches, terminal, input, out, err)
         }
@@ -255,8 +260,9 @@ fn run_spelled<D: Alike + Detailed + Copy + Drop, S: Source, W: Sink, E: Sink>(
         Spelling::Gnu => {
             let spelled = Rewriting {
                 demangler,
-                rewrite: Gnu,
-                reads_paths: options.style.reads_paths(),
+                rewrite: Gnu {
+                    reads_paths: options.style.reads_paths(),
+                },
             };
             run_with(alloc, spelled, options, matches, terminal, input, out, err)
         }
@@ -344,9 +350,11 @@ fn run_lines<D: Alike + Copy + Drop, S: Source, W: Sink, E: Sink>(
         ≡ W.failure_count out.old + E.failure_count err.old + writer_faults result }
 {
     let texts = names_of(matches);
-    let escaping = Escaping {
+    let escaping = Rewriting {
         demangler,
-        escapes: options.escape,
+        rewrite: Escaping {
+            escapes: options.escape,
+        },
     };
     if texts.is_empty() {
         let recent = Recent {

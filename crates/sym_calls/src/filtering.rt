@@ -111,8 +111,10 @@ fn filter_as<D: Demangler + Copy + Drop>(
         Texts::Short { keeps_inline } => {
             let short = Rewriting {
                 demangler,
-                rewrite: Shortening { keeps_inline },
-                reads_paths: asked.legacy,
+                rewrite: Shortening {
+                    keeps_inline,
+                    reads_paths: asked.legacy,
+                },
             };
             filter_by(alloc, &short, asked.letters, text, buffer, tally)
         }

@@ -259,15 +259,19 @@ fn short_in<C: Cpp>(
     if asked.legacy {
         let short = Rewriting {
             demangler: asked.with_legacy(limit, cpp),
-            rewrite: Shortening { keeps_inline },
-            reads_paths: asked.legacy,
+            rewrite: Shortening {
+                keeps_inline,
+                reads_paths: asked.legacy,
+            },
         };
         return text_by(alloc, &short, asked, name, buffer);
     }
     let short = Rewriting {
         demangler: asked.languages(limit, cpp),
-        rewrite: Shortening { keeps_inline },
-        reads_paths: asked.legacy,
+        rewrite: Shortening {
+            keeps_inline,
+            reads_paths: asked.legacy,
+        },
     };
     text_by(alloc, &short, asked, name, buffer)
 }

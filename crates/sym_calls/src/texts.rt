@@ -116,8 +116,10 @@ fn tell_as<D: Demangler + Copy + Drop>(
         Texts::Short { keeps_inline } => {
             let short = Rewriting {
                 demangler,
-                rewrite: Shortening { keeps_inline },
-                reads_paths: asked.legacy,
+                rewrite: Shortening {
+                    keeps_inline,
+                    reads_paths: asked.legacy,
+                },
             };
             let lists = RewritingLists::new(alloc, lists);
             tell_each(alloc, &short, lists, asked, names, ends, buffer, outcomes)

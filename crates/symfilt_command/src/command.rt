@@ -135,8 +135,10 @@ fn filter_as<D: Alike + Copy + Drop, S: Source, W: Sink>(
         Texts::Short { keeps_inline } => {
             let short = Rewriting {
                 demangler,
-                rewrite: Shortening { keeps_inline },
-                reads_paths: filtering.legacy,
+                rewrite: Shortening {
+                    keeps_inline,
+                    reads_paths: filtering.legacy,
+                },
             };
             filter_by(alloc, short, filtering.letters, input, out)
         }
@@ -345,8 +347,10 @@ fn answer_as<D: Demangler + Copy + Drop, W: Sink, E: Sink>(
         Texts::Short { keeps_inline } => {
             let short = Rewriting {
                 demangler,
-                rewrite: Shortening { keeps_inline },
-                reads_paths: options.legacy,
+                rewrite: Shortening {
+                    keeps_inline,
+                    reads_paths: options.legacy,
+                },
             };
             answer_words(alloc, &short, options, words, out, err)
         }
