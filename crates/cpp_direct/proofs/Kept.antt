@@ -73,7 +73,7 @@ candidates-more text (x ∷ ks) [] k c p is = absurd p
 -- what is written from a place on becomes a candidate
 pub candidates-added : (s : Symbol) (scope : Scope) (text : List ℕ) (ks : List Candidate) (cs : List values.Candidate) (front bytes : List ℕ) (from : ℕ) (t : Term) (around : Around) (r d : Bool)
     → AreCandidates s scope text ks cs → text ≡ front ++ bytes → from ≡ length front → PrintsAs (detail_of s) scope.names d t bytes r
-    → (d ≡ true → IsMadeIn scope around.encoding)
+    → (d ≡ true → IsMadeIn scope around.encoding around.in_lambda)
     → AreCandidates s scope text (ks ++ record { from = from; to = length text; is_reference = r; is_dependent = d } ∷ []) (cs ++ candidate around t ∷ [])
 candidates-added s scope text ks cs front bytes from t around r d p written from_is prints made_in =
     candidates-more text ks cs (record { from = from; to = length text; is_reference = r; is_dependent = d }) (candidate around t) p (λ ordered. record {
@@ -159,7 +159,7 @@ kept-read s old new bytes reads kept = kept-grown s old new bytes reads.text rea
 -- what is written from a place on became a candidate
 abbrev pub kept-with : (s : Symbol) (old new : Direct) (kept : Kept s old) (front bytes : List ℕ) (from : ℕ) (t : Term) (around : Around) (r d : Bool)
     → old.text.list.items ≡ front ++ bytes → from ≡ length front → PrintsAs (detail_of s) kept.scope.names d t bytes r
-    → (d ≡ true → IsMadeIn kept.scope around.encoding)
+    → (d ≡ true → IsMadeIn kept.scope around.encoding around.in_lambda)
     → new.text ≡ old.text → new.candidates.list.items ≡ added old from r d → new.has_scope ≡ old.has_scope → Kept s new
 kept-with s old new kept front bytes from t around r d written from_is prints made_in text added_is scope_same =
     kept-as s old new (with_candidate around t kept.state) kept text added_is scope_same
@@ -168,7 +168,7 @@ kept-with s old new kept front bytes from t around r d written from_is prints ma
 
 pub keeps-unless : (s : Symbol) (old new : Direct) (kept : Kept s old) (listed : Bool) (front bytes : List ℕ) (from : ℕ) (t : Term) (around : Around) (d : Bool)
     → old.text.list.items ≡ front ++ bytes → from ≡ length front → (listed ≡ false → PrintsAs (detail_of s) kept.scope.names d t bytes false)
-    → (d ≡ true → IsMadeIn kept.scope around.encoding)
+    → (d ≡ true → IsMadeIn kept.scope around.encoding around.in_lambda)
     → new.text ≡ old.text → new.candidates.list.items ≡ added_unless old listed from d → new.has_scope ≡ old.has_scope
     → Keeps s kept.scope new (unless_listed listed around t kept.state).candidates
 keeps-unless s old new kept true front bytes from t around d written from_is prints made_in text added_is scope_same =
@@ -179,7 +179,7 @@ keeps-unless s old new kept false front bytes from t around d written from_is pr
 -- what is written from a place on became a candidate, unless it was one already
 abbrev pub kept-unless : (s : Symbol) (old new : Direct) (kept : Kept s old) (listed : Bool) (front bytes : List ℕ) (from : ℕ) (t : Term) (around : Around) (d : Bool)
     → old.text.list.items ≡ front ++ bytes → from ≡ length front → (listed ≡ false → PrintsAs (detail_of s) kept.scope.names d t bytes false)
-    → (d ≡ true → IsMadeIn kept.scope around.encoding)
+    → (d ≡ true → IsMadeIn kept.scope around.encoding around.in_lambda)
     → new.text ≡ old.text → new.candidates.list.items ≡ added_unless old listed from d → new.has_scope ≡ old.has_scope → Kept s new
 kept-unless s old new kept listed front bytes from t around d written from_is prints made_in text added_is scope_same = record {
   state = unless_listed listed around t kept.state;
@@ -189,7 +189,7 @@ kept-unless s old new kept listed front bytes from t around d written from_is pr
 
 -- the text of an argument that may be named became a candidate, which names the argument
 abbrev pub kept-argument : (s : Symbol) (old new : Direct) (kept : Kept s old) (p : Argument) (bytes : List ℕ) (t : Term) (around : Around)
-    → IsPlaced old.text.list.items p bytes → PrintsGiven (detail_of s) kept.scope.names t bytes p.is_reference → IsMadeIn kept.scope around.encoding
+    → IsPlaced old.text.list.items p bytes → PrintsGiven (detail_of s) kept.scope.names t bytes p.is_reference → IsMadeIn kept.scope around.encoding around.in_lambda
     → new.text ≡ old.text → new.candidates.list.items ≡ with_argument old p → new.has_scope ≡ old.has_scope → Kept s new
 kept-argument s old new kept p bytes t around placed prints made_in text added_is scope_same =
     kept-as s old new (with_candidate around t kept.state) kept text added_is scope_same
@@ -243,7 +243,7 @@ value-comes s w kept os t front bytes r d written prints waits naming comes stan
 -- a type that was read became a candidate
 pub value-added : (s : Symbol) (old new : Direct) (kept : Kept s old) (os : List Opened) (around : Around) (t : Term) (front bytes : List ℕ) (from : ℕ) (r d : Bool)
     {ws : List Open} → old.text.list.items ≡ front ++ bytes → from ≡ length front → PrintsAs (detail_of s) kept.scope.names d t bytes r
-    → (d ≡ true → IsMadeIn kept.scope around.encoding) → new.text ≡ old.text → new.candidates.list.items ≡ added old from r d → new.has_scope ≡ old.has_scope
+    → (d ≡ true → IsMadeIn kept.scope around.encoding around.in_lambda) → new.text ≡ old.text → new.candidates.list.items ≡ added old from r d → new.has_scope ≡ old.has_scope
     → reverse new.waiting.list.items ≡ ws → (d ≡ true → IsNaming kept.scope ws) → Comes s os (tree t true) new.at (with_candidate around t kept.state)
     → Stands s kept.scope ws os front → IsWriting s new (Step.Value r d)
 value-added s old new kept os around t front bytes from r d written from_is prints made_in text added_is scope_same waits naming comes stands =
@@ -264,8 +264,8 @@ pub encoded-here : (scope : Scope) (around : Around) (open_ : List Open) → IsS
     → (around.encoding ≡ scope.arguments.encoding) × (around.in_lambda ≡ false)
 encoded-here scope around open_ scoped naming = (scoped scope.arguments naming.0).1.0 naming.1
 
-pub made-here : (scope : Scope) (around : Around) (open_ : List Open) → IsScoped scope around open_ → IsNaming scope open_ → IsMadeIn scope around.encoding
-made-here scope around open_ scoped naming = ((encoded-here scope around open_ scoped naming).0, naming.1)
+pub made-here : (scope : Scope) (around : Around) (open_ : List Open) → IsScoped scope around open_ → IsNaming scope open_ → IsMadeIn scope around.encoding around.in_lambda
+made-here scope around open_ scoped naming = let here = encoded-here scope around open_ scoped naming in (here.0, naming.1, here.1)
 
 -- the candidate that a substitution names prints its text, if it has one
 pub candidate-found : {s : Symbol} {scope : Scope} (text : List ℕ) (ks : List Candidate) (cs : List values.Candidate) (n : ℕ) (k : Candidate)

@@ -1,6 +1,6 @@
 -- A test that is computed for each item of a list holds of any one item: letters with texts, codes of two letters,
 -- operators' codes.
-use Rattle.cpp_direct.proofs.Basics.{◌≡◌, ℕ, ◌<◌, List, [], ◌∷◌, Bool, true, false, ◌||◌, ◌&&◌, nat_eq, slice_get, Option, Some, None, refl, ap, sym, subst, ◌∙◌, ltb, ◌≢◌, ◌⊎◌, inl, inr, Ok, arith, false≢true, eqb-true, ltb-true, and_parts, alternatives, among, between, builtin_texts, choose, close, Continuation, Forest, found, in_ranges, is_chain, is_in, Kind, look_up, meaning, Naming, number_of, number_of_kind, opening, Operation, operator, operator_or_literal, operator_texts, parts_of, pick, Production, productions, same_bytes, integer_letters, State, Around, letter, piece, letter_of, part, same_choice, kept, Sym, unfolding_behind}
+use Rattle.cpp_direct.proofs.Basics.{close_by, ◌≡◌, ℕ, ◌<◌, List, [], ◌∷◌, Bool, true, false, ◌||◌, ◌&&◌, nat_eq, slice_get, Option, Some, None, refl, ap, sym, subst, ◌∙◌, ltb, ◌≢◌, ◌⊎◌, inl, inr, Ok, arith, false≢true, eqb-true, ltb-true, and_parts, alternatives, among, between, builtin_texts, choose, close, Continuation, Forest, found, in_ranges, is_chain, is_in, Kind, look_up, meaning, Naming, number_of, number_of_kind, opening, Operation, operator, operator_or_literal, operator_texts, parts_of, pick, Production, productions, same_bytes, integer_letters, State, Around, letter, piece, letter_of, part, same_choice, kept, Sym, unfolding_behind}
 
 -- each of the bytes passes a test
 unfoldable pub each_passes : (ℕ → Bool) → List ℕ → Bool
@@ -119,32 +119,32 @@ pub record TakesFirst (p : Production) (kind : Kind) : Type 0 where
   pub begins : (f : Forest) (at : ℕ) (st : State) → opening p f at st ≡ Ok st
   pub passes : (around : Around) (at : ℕ) (st : State)
       → ◌≡◌ {A = Continuation} (between p around at [] st) (Ok (record { context = around; values = []; state = st }))
-  pub closes : (first second : ℕ) (around : Around) (at : ℕ) (before st : State)
-      → close p first around at before (letter second ∷ []) st ≡ Ok (found (piece (operator first second)) st)
+  pub closes : (is_wide : Bool) (first second : ℕ) (around : Around) (at : ℕ) (before st : State)
+      → close_by p is_wide first around at before (letter second ∷ []) st ≡ Ok (found (piece (operator first second)) st)
 
 first-so : (p : Production) {kind other : Kind} → Some kind ≡ Some other → parts_of p ≡ Sym.Kind (number_of_kind kind) ∷ [] → is_chain p ≡ false
     → ((f : Forest) (at : ℕ) (st : State) → opening p f at st ≡ Ok st) → ((around : Around) (at : ℕ) (st : State)
     → ◌≡◌ {A = Continuation} (between p around at [] st) (Ok (record { context = around; values = []; state = st })))
-    → ((first second : ℕ) (around : Around) (at : ℕ) (before st : State)
-    → close p first around at before (letter second ∷ []) st ≡ Ok (found (piece (operator first second)) st)) → TakesFirst p other
+    → ((is_wide : Bool) (first second : ℕ) (around : Around) (at : ℕ) (before st : State)
+    → close_by p is_wide first around at before (letter second ∷ []) st ≡ Ok (found (piece (operator first second)) st)) → TakesFirst p other
 first-so p {kind = kind} {other = other} same parts chain begins passes closes =
     subst (λ k. TakesFirst p k) (cc same) (record { parts = parts; chain = chain; begins = begins; passes = passes; closes = closes })
 
 takes-first : (p : Production) (kind : Kind) → second_kind p ≡ Some kind → TakesFirst p kind
 unfolding second_kind number_of_kind parts_of is_chain opening between close unfolding_behind meaning operator_or_literal letter_of part
-takes-first Production.OperatorN kind is = first-so Production.OperatorN is refl refl (λ f at st. refl) (λ a at st. refl) (λ b c a at d st. refl)
-takes-first Production.OperatorD kind is = first-so Production.OperatorD is refl refl (λ f at st. refl) (λ a at st. refl) (λ b c a at d st. refl)
-takes-first Production.OperatorA kind is = first-so Production.OperatorA is refl refl (λ f at st. refl) (λ a at st. refl) (λ b c a at d st. refl)
-takes-first Production.OperatorP kind is = first-so Production.OperatorP is refl refl (λ f at st. refl) (λ a at st. refl) (λ b c a at d st. refl)
-takes-first Production.OperatorC kind is = first-so Production.OperatorC is refl refl (λ f at st. refl) (λ a at st. refl) (λ b c a at d st. refl)
-takes-first Production.OperatorM kind is = first-so Production.OperatorM is refl refl (λ f at st. refl) (λ a at st. refl) (λ b c a at d st. refl)
-takes-first Production.OperatorR kind is = first-so Production.OperatorR is refl refl (λ f at st. refl) (λ a at st. refl) (λ b c a at d st. refl)
-takes-first Production.OperatorO kind is = first-so Production.OperatorO is refl refl (λ f at st. refl) (λ a at st. refl) (λ b c a at d st. refl)
-takes-first Production.OperatorE kind is = first-so Production.OperatorE is refl refl (λ f at st. refl) (λ a at st. refl) (λ b c a at d st. refl)
-takes-first Production.OperatorL kind is = first-so Production.OperatorL is refl refl (λ f at st. refl) (λ a at st. refl) (λ b c a at d st. refl)
-takes-first Production.OperatorS kind is = first-so Production.OperatorS is refl refl (λ f at st. refl) (λ a at st. refl) (λ b c a at d st. refl)
-takes-first Production.OperatorI kind is = first-so Production.OperatorI is refl refl (λ f at st. refl) (λ a at st. refl) (λ b c a at d st. refl)
-takes-first Production.OperatorG kind is = first-so Production.OperatorG is refl refl (λ f at st. refl) (λ a at st. refl) (λ b c a at d st. refl)
+takes-first Production.OperatorN kind is = first-so Production.OperatorN is refl refl (λ f at st. refl) (λ a at st. refl) (λ w b c a at d st. refl)
+takes-first Production.OperatorD kind is = first-so Production.OperatorD is refl refl (λ f at st. refl) (λ a at st. refl) (λ w b c a at d st. refl)
+takes-first Production.OperatorA kind is = first-so Production.OperatorA is refl refl (λ f at st. refl) (λ a at st. refl) (λ w b c a at d st. refl)
+takes-first Production.OperatorP kind is = first-so Production.OperatorP is refl refl (λ f at st. refl) (λ a at st. refl) (λ w b c a at d st. refl)
+takes-first Production.OperatorC kind is = first-so Production.OperatorC is refl refl (λ f at st. refl) (λ a at st. refl) (λ w b c a at d st. refl)
+takes-first Production.OperatorM kind is = first-so Production.OperatorM is refl refl (λ f at st. refl) (λ a at st. refl) (λ w b c a at d st. refl)
+takes-first Production.OperatorR kind is = first-so Production.OperatorR is refl refl (λ f at st. refl) (λ a at st. refl) (λ w b c a at d st. refl)
+takes-first Production.OperatorO kind is = first-so Production.OperatorO is refl refl (λ f at st. refl) (λ a at st. refl) (λ w b c a at d st. refl)
+takes-first Production.OperatorE kind is = first-so Production.OperatorE is refl refl (λ f at st. refl) (λ a at st. refl) (λ w b c a at d st. refl)
+takes-first Production.OperatorL kind is = first-so Production.OperatorL is refl refl (λ f at st. refl) (λ a at st. refl) (λ w b c a at d st. refl)
+takes-first Production.OperatorS kind is = first-so Production.OperatorS is refl refl (λ f at st. refl) (λ a at st. refl) (λ w b c a at d st. refl)
+takes-first Production.OperatorI kind is = first-so Production.OperatorI is refl refl (λ f at st. refl) (λ a at st. refl) (λ w b c a at d st. refl)
+takes-first Production.OperatorG kind is = first-so Production.OperatorG is refl refl (λ f at st. refl) (λ a at st. refl) (λ w b c a at d st. refl)
 takes-first (Production.Operation Operation.ExpressionC) kind is = cc is
 takes-first _ kind is = cc is
 

@@ -1,6 +1,6 @@
 -- The moves in encodings and in whole symbols: a symbol begins and ends, with a suffix or without, an encoding has a name and
 -- items, and names are nested or not.
-use Rattle.cpp_direct.proofs.AllGround.{◌≡◌, ◌≢◌, ℕ, ◌+◌, ◌<◌, length, List, [], ◌∷◌, take, ◌++◌, Bool, true, false, nat_le, ◌||◌, ◌&&◌, cond, None, Some, Ok, refl, ap, sym, subst, ◌∙◌, arith, codes, length-append, AllByRecursion, zero-add, take-append_seam, nat_tests, take_all, adjusting, alone, alternatives, among, any_value, applied, between, by_table, byte_of, choose, clone, close, explicit_object, extended, first_around, first_state, first_tree, in_name, in_ranges, in_std, is_chain, is_in, Kind, lvalue_only, may_be_empty, meaning, named_so_far, non_virtual, number_of_kind, opening, operator, parts_of, pick, Production, RefQualifier, rule_of, rvalue_only, source, standing, StandsFor, Sym, SYMBOL, symbol, Term, thunk, unfold_cpp, State, outermost, Around, Value, nothing_there, letter, piece, tree, tree_of, qualifiers_of, ref_of, signed_of, signed_digits, is_there, mark_of, letter_of, part, piece_of, is_special_letter, is_suffix_byte, mangled_of, special_letters, Symbol, BaseOpened, Comes, EncodingOpened, Expects, GuardOpened, IsNameAt, IsOffsetAt, IsSuffix, Named, NestOpened, Opened, SpecialOpened, StandsAt, SymbolOpened, TableOpened, const_letter, cpp_language, nest_marks, opened, named-by, named-outside, operator-fills, integer-fills, stands-by, unfolding_behind}
+use Rattle.cpp_direct.proofs.AllGround.{unfold_by, ◌≡◌, ◌≢◌, ℕ, ◌+◌, ◌<◌, length, List, [], ◌∷◌, take, ◌++◌, Bool, true, false, nat_le, ◌||◌, ◌&&◌, cond, None, Some, Ok, refl, ap, sym, subst, ◌∙◌, arith, codes, length-append, AllByRecursion, zero-add, take-append_seam, nat_tests, take_all, adjusting, alone, alternatives, among, any_value, applied, between, by_table, byte_of, choose, clone, close, explicit_object, extended, first_around, first_state, first_tree, in_name, in_ranges, in_std, is_chain, is_in, Kind, lvalue_only, may_be_empty, meaning, named_so_far, non_virtual, number_of_kind, opening, operator, parts_of, pick, Production, RefQualifier, rule_of, rvalue_only, source, standing, StandsFor, Sym, SYMBOL, symbol, Term, thunk, State, outermost, Around, Value, nothing_there, letter, piece, tree, tree_of, qualifiers_of, ref_of, signed_of, signed_digits, is_there, mark_of, letter_of, part, piece_of, is_special_letter, is_suffix_byte, mangled_of, special_letters, Symbol, BaseOpened, Comes, EncodingOpened, Expects, GuardOpened, IsNameAt, IsOffsetAt, IsSuffix, Named, NestOpened, Opened, SpecialOpened, StandsAt, SymbolOpened, TableOpened, const_letter, cpp_language, nest_marks, opened, named-by, named-outside, operator-fills, integer-fills, stands-by, unfolding_behind}
 use Rattle.cpp_grammar.specs.Values.{text, text_of}
 use Rattle.cpp_direct.proofs.Moves.{awaited, digits-fill, Hole, Filled, hole, open_at, fill, filled-at, hole-at, chosen-byte, eats, eats-widely, leaves, is_eaten, is_eaten_widely, byte-opens, chain-opens, byte-fills, next-part, closes, none-fills, fixed-fills, name-fills, first-named, is_left, stands-split}
 use Rattle.cpp_direct.proofs.LettersTested.{each_passes, tested, IsOperator}
@@ -317,7 +317,7 @@ symbol-expected s bytes vs end reads stands =
 
 -- the tree that was read is what the symbol denotes
 symbol-read : (s : Symbol) (t : Term) (end : State) → Comes s [] (tree t true) (length s.bytes) end → StandsFor (mangled_of s) s.bytes (Ok t)
-unfolding unfold_cpp first_tree tree_of number_of_kind
+unfolding unfold_by first_tree tree_of number_of_kind
 symbol-read s t end reads =
     stands-by s.is_wide s.bytes reads.shape t reads.shaped (reads.spelled ∙ take_all (length s.bytes) s.bytes (omega arith)) (rw reads.unfolds refl)
 

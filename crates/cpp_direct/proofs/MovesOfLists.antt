@@ -3,7 +3,7 @@
 use Rattle.cpp_direct.proofs.Basics.{◌≡◌, ℕ, ◌+◌, ◌⊎◌, inl, inr, length, List, [], ◌∷◌, Bool, true, false, nat_eq, Ok, refl, ap, subst, arith, after, appended, applied, between, boolean, builtin, byte_of, close, Continuation, enclosed_argument, ends_arguments, extended, inside, integer, is_code, Kind, list, may_be_empty, meaning, no_items, number_of_kind, Operation, operation_by, operation_or_address, pack, parts_of, Production, rule_of, standing, Term, with_prefix, with_type, State, Around, signed, tree, tree_of, is_listed, signed_of, signed_digits, prefix_tree, prefix_listed, part, Value, is_there, letter_of, piece_of, outermost, integer_letters, is_integer_letter, Symbol, Awaits, AddressOpened, ArgumentsOpened, AwaitsElement, AwaitsElementAs, Comes, EnumeratorOpened, Expects, IsArgumentKind, IsDigitsAt, IsListKind, ListGoesOn, LiteralOpened, Opened, PackOpened, StandsAt, minus_sign, opened, unless_listed, with_candidate, IsNameAt, LevelOpened, template_named, Sym, unfolding_behind}
 use Rattle.cpp_grammar.specs.Values.{text_of, text}
 use Rattle.cpp_direct.proofs.LettersTested.{each_passes, tested}
-use Rattle.cpp_direct.proofs.Tables.{lists-by}
+use Rattle.cpp_short_reading.proofs.Tables.{lists-by}
 use Rattle.cpp_direct.proofs.Moves.{any-argument, awaited, comes-alike, fewer, hole-of, Hole, Filled, hole, open_at, fill, eats, leaves, is_eaten, byte-opens, chain-opens, byte-fills, next-part, closes, fixed-fills, is_left, stands-split, digits-fill, filled-at, hole-at, came, eats-widely, is_eaten_widely, name-fills, none-fills}
 
 -- ## Arguments

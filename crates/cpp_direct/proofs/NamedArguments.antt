@@ -1,5 +1,5 @@
 -- The arguments of the symbol's own name and their texts: types after the name may name them.
-use Rattle.cpp_direct.proofs.AllGround.{arguments_of, Around, Detail, element, found, length_if_pack, State, substituted, Term, tree, types_of, ◌≡◌, ◌≢◌, ℕ, ◌-◌, List, take, drop, reverse, Bool, Ok, true, false, Option, Some, None, is_some, nat_lt, not, ◌&&◌, ◌||◌, ◌<◌, refl, ap, sym, ◌∙◌, subst, false≢true, and_parts, lt-ltb, ltb-true, AreCandidates, AreNamed, AreSingle, Argument, argument_of, Arguments, Candidate, detail_of, Direct, encoding_place, HasArguments, HasSingles, IsCandidate, IsGiven, IsMadeIn, IsNameEnded, IsNameScoped, IsNaming, IsPlaced, IsScoped, IsSingle, Keeps, Kept, Mark, Names, no_scope, Open, place_of, Prints, PrintsAs, PrintsGiven, Scope, Symbol, candidates-as, encoded-here, piece-found, no-pack-named, substituted-open, types-given, no-module, arguments-named}
+use Rattle.cpp_direct.proofs.AllGround.{named_by, arguments_of, Around, Detail, element, found, length_if_pack, State, Term, tree, types_of, ◌≡◌, ◌≢◌, ℕ, ◌-◌, List, take, drop, reverse, Bool, Ok, true, false, Option, Some, None, is_some, nat_lt, not, ◌&&◌, ◌||◌, ◌<◌, refl, ap, sym, ◌∙◌, subst, false≢true, and_parts, lt-ltb, ltb-true, AreCandidates, AreNamed, AreSingle, Argument, argument_of, Arguments, Candidate, detail_of, Direct, encoding_place, HasArguments, HasSingles, IsCandidate, IsGiven, IsMadeIn, IsNameEnded, IsNameScoped, IsNaming, IsPlaced, IsScoped, IsSingle, Keeps, Kept, Mark, Names, no_scope, Open, place_of, Prints, PrintsAs, PrintsGiven, Scope, Symbol, candidates-as, encoded-here, piece-found, no-pack-named, substituted-open, types-given, no-module, arguments-named}
 use Rattle.cpp_direct.specs.AllStates.{Named}
 use Rattle.cpp_grammar.specs.Values as values
 
@@ -162,9 +162,9 @@ named-single s scope around open_ arguments own scoped found is k n e =
 
 -- a candidate that names arguments may be named again among the same types
 pub again-substituted : (s : Symbol) {scope : Scope} (around : Around) (open_ : List Open) (c : values.Candidate) (st : State) (bytes : List ℕ) (r : Bool)
-    → HasSingles scope → IsScoped scope around open_ → IsNaming scope open_ → IsMadeIn scope c.encoding
-    → PrintsGiven (detail_of s) scope.names c.tree bytes r → (place : ℕ) → substituted around place (Some c) st ≡ Ok (found (tree c.tree true) st)
+    → HasSingles scope → IsScoped scope around open_ → IsNaming scope open_ → IsMadeIn scope c.encoding c.in_lambda
+    → PrintsGiven (detail_of s) scope.names c.tree bytes r → (place : ℕ) → named_by s.is_wide around place (Some c) st ≡ Ok (found (tree c.tree true) st)
 again-substituted s {scope = scope} around open_ c st bytes r own scoped naming made prints place =
     let here = encoded-here scope around open_ scoped naming in
-    substituted-open around place c st (no-module c.tree prints.as_prefix) (made.0 ∙ sym here.0) here.1 (no-pack-named around.scope c.tree
+    substituted-open s.is_wide around place c st (no-module c.tree prints.as_prefix) (made.0 ∙ sym here.0) made.2 here.1 (no-pack-named around.scope c.tree
     (λ arguments is. prints.packless arguments (named-single s scope around open_ arguments own scoped naming.0 is)))

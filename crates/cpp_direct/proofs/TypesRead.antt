@@ -266,7 +266,7 @@ substitution-named s old mid new n from digits k a stands is ordered found reads
     let prints = subst (λ b. PrintsAs (detail_of s) a.scope.names b c.0.tree c.2.bytes k.is_reference) plain c.2.prints in
     named-from s old new from true k.is_reference a c.0.tree c.2.bytes
     (substitution-opens s a.kind a.around a.os old.at a.state digits new.at c.0 a.is_named c.1
-    (λ place. substituted-so a.around place c.0 a.state (no-module c.0.tree prints.as_prefix) prints.is_closed prints.packless) a.begins stands
+    (λ place. substituted-so s.is_wide a.around place c.0 a.state (no-module c.0.tree prints.as_prefix) prints.is_closed prints.packless) a.begins stands
     (subst (λ n. IsSeqAt s.bytes (old.at + 1) digits n) (sym writes.at) is))
     (writes.candidates ∙ reads.candidates) (writes.scope ∙ reads.scope) written begins prints (λ e. cc e) (writes.waiting ∙ reads.waiting)
 

@@ -16,12 +16,13 @@ use Rattle.cpp_grammar.specs.Term.{Term, any_value, instance, list}
 use Rattle.cpp_grammar.specs.Values.{by_all, Candidate, State, Around, Value, nothing_there, tree, named, unqualified}
 use Rattle.cpp_grammar.specs.References.{is_function_type}
 use Rattle.cpp_grammar.specs.Between.{after, no_items}
-use Rattle.cpp_grammar.specs.Unfolding.{cpp, first_around, first_state}
+use Rattle.cpp_grammar.specs.Unfolding.{first_around, first_state}
+use Rattle.cpp_short_reading.specs.Reading.{cpp_by}
 use Rattle.cpp_direct.specs.Symbol.{Symbol, table_by}
 
 -- C++ as a language for this reader
 abbrev pub cpp_language : Symbol → Language Value State Around
-cpp_language s = record { table = table_by s.is_wide; reading = λ bytes. cpp; first_context = first_around; first_state = first_state }
+cpp_language s = record { table = table_by s.is_wide; reading = λ bytes. cpp_by s.is_wide; first_context = first_around; first_state = first_state }
 
 abbrev pub Opened : Type 0
 Opened = direct.Opened Value State Around

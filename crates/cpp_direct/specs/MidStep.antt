@@ -175,7 +175,7 @@ pub record AwaitsMark (s : Symbol) (w : Direct) (mark : List ℕ) (from : ℕ) (
   pub from_is : from ≡ length front
   pub prints : PrintsAs (detail_of s) scope.names is_dependent made (bytes ++ mark) is_reference
   pub naming : is_dependent ≡ true → IsNaming scope rest
-  pub made_here : is_dependent ≡ true → IsMadeIn scope made_in.encoding
+  pub made_here : is_dependent ≡ true → IsMadeIn scope made_in.encoding made_in.in_lambda
   pub stands : Stands s scope rest outer front
 
 -- the entry that waits for an argument of a name, or for an element of a pack among the arguments

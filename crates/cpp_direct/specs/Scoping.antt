@@ -180,9 +180,9 @@ HasSingles scope = (number : ℕ) (own : Named) → scope.names number ≡ Some 
 
 -- ## Candidates
 
--- the encoding is the one whose arguments may be named, and its beginning is known
-abbrev pub IsMadeIn : Scope → (encoding : ℕ) → Type 0
-IsMadeIn scope encoding = (encoding ≡ scope.arguments.encoding) × (scope.arguments.encoding ≢ 0)
+-- the encoding is the one whose arguments may be named, its beginning is known, and this is in none of its lambdas
+abbrev pub IsMadeIn : Scope → (encoding : ℕ) → (in_lambda : Bool) → Type 0
+IsMadeIn scope encoding in_lambda = (encoding ≡ scope.arguments.encoding) × (scope.arguments.encoding ≢ 0) × (in_lambda ≡ false)
 
 -- A candidate prints the text at its place. If it names arguments of the function's template, types may name these arguments.
 pub record IsCandidate (s : Symbol) (scope : Scope) (text : List ℕ) (k : Candidate) (c : values.Candidate) : Type 0 where
@@ -190,7 +190,7 @@ pub record IsCandidate (s : Symbol) (scope : Scope) (text : List ℕ) (k : Candi
   pub placed : IsBetween text k.from k.to bytes
   pub open placed use *
   pub prints : PrintsAs (detail_of s) scope.names k.is_dependent c.tree bytes k.is_reference
-  pub made_in : k.is_dependent ≡ true → IsMadeIn scope c.encoding
+  pub made_in : k.is_dependent ≡ true → IsMadeIn scope c.encoding c.in_lambda
 
 -- each candidate prints the text at its place, except for those that end before they begin: their texts are unknown
 abbrev pub AreCandidates : (s : Symbol) → Scope → (text : List ℕ) → List Candidate → List values.Candidate → Type 0
